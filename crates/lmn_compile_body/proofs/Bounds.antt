@@ -72,7 +72,7 @@ at_atoms_below : (n a : ℕ) (xs : List HeadItem) → HeadFits n xs → PlacesBe
 at_atoms_below n a [] h = h
 at_atoms_below n a (head.Atom functor links inside ∷ xs) h = places_append n (at_ports a 0 links) (at_atoms (a + 1) (atoms_of xs)) (at_ports_below n a 0 links h.1) (at_atoms_below n (a + 1) xs h.2)
 at_atoms_below n a (head.Typed name kind link inside ∷ xs) h = at_atoms_below n a xs h.1
-at_atoms_below n a (head.Membrane inside has_context has_rule_context ∷ xs) h = at_atoms_below n a xs h
+at_atoms_below n a (head.Membrane inside has_context has_closed_context has_rule_context ∷ xs) h = at_atoms_below n a xs h
 
 once_below : (n : ℕ) (xs : List ℕ) (os : List Occurrence) → PlacesBelow n os → LinksBelow n (once_in xs os)
 once_below n xs [] h = h

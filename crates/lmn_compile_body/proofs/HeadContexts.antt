@@ -1,7 +1,7 @@
 -- The contexts of a rule, by the tree of its head and that of its body: in which membranes they stand, and how often.
 use Rattle.std.proofs.Common.{ℕ, zero, suc, ◌≡◌, ◌≢◌, ◌≤◌, ◌<◌, ◌+◌, ◌⊎◌, Bool, true, false, List, [], ◌∷◌, ◌++◌, Some, length, map, sum, refl, ap, sym, subst, ◌∙◌, inl, inr, arith}
 use Rattle.std.specs.Prelude.{◌==◌, ◌&&◌, if◌then◌else◌, Contains, slice_get}
-use Rattle.std.specs.List.{flat_map}
+use Rattle.std.specs.List.{flat_map, list_any}
 use Rattle.std.proofs.lemmas.Bool.{cases_eq}
 use Rattle.std.proofs.lemmas.Bool.Decides.{Decides-eqb}
 use Rattle.std.proofs.lemmas.List.{append_assoc, length-append, map-append}
@@ -16,8 +16,8 @@ use Rattle.lmn_base.specs.declared.level.Leaf.TheVariants as leaf
 use Rattle.lmn_base.specs.declared.level.Level.{Level, out-Level}
 use Rattle.lmn_base.specs.declared.level.Level.TheFolds.{fold-Level, fold-roll-Level, ind-Level, fold_out-Level}
 use Rattle.lmn_base.specs.declared.refusal.Pos.{Pos}
-use Rattle.lmn_base.specs.Items.{used, leaf_item}
-use Rattle.lmn_base.specs.RuleCodes.{bare_use, seconds, behind_the_first, seconds_by_membrane}
+use Rattle.lmn_base.specs.Items.{untyped as untyped_use, untyped_form, leaf_item}
+use Rattle.lmn_base.specs.RuleCodes.{is_bare, bare_use, seconds, behind_the_first, seconds_by_membrane}
 use Rattle.lmn_base.specs.Uses.{use_of}
 use Rattle.lmn_guards.specs.declared.plan.TypeKind.{TypeKind}
 use Rattle.lmn_solid.specs.Heads.{HeadMembrane, membrane_of, membranes_of}
@@ -34,6 +34,7 @@ use Rattle.lmn_congruence.proofs.TranslatedLinks.{places_append as often_append}
 use Rattle.lmn_splice.proofs.Common.{in_append, in_back, in_front}
 use Rattle.lmn_body.proofs.Numbered.{leaves_none}
 use Rattle.lmn_compile_head.proofs.HeadLeaves.{all_membranes}
+use Rattle.lmn_compile_head.proofs.OpenHeads.{AllOpen, OpenHead, OpenHeads}
 use Rattle.lmn_base.specs.Names.{context_names}
 
 -- ---- lists
@@ -209,7 +210,7 @@ abbrev pub firsts : List (ℕ × ℕ) → List ℕ
 firsts es = map (λ e. e.0) es
 
 abbrev own_uses : List Leaf → List CtxUse → List CtxUse → List ℕ → List Item
-own_uses leaves cs rcs rs = map leaf_item leaves ++ (map (used Bare) cs ++ (map item.RuleContext rcs ++ map item.Rule rs))
+own_uses leaves cs rcs rs = map leaf_item leaves ++ (map untyped_use cs ++ (map item.RuleContext rcs ++ map item.Rule rs))
 
 leaf_typed : (l : Leaf) (u : FormedUse) → leaf_item l ≡ item.Context u → u.form ≡ Typed
 leaf_typed (leaf.Atom f os p) u e = absurd (cc)
@@ -224,10 +225,10 @@ pub not_both : Typed ≡ Bare → ⊥
 not_both e = absurd (cc)
 
 own_bare : (leaves : List Leaf) (cs rcs : List CtxUse) (rs : List ℕ) (u : FormedUse) → IsOneOf (item.Context u) (own_uses leaves cs rcs rs) → u.form ≡ Bare → IsOneOf u.name (context_names cs)
-own_bare leaves cs rcs rs u i bare = elim (in_append (item.Context u) (map leaf_item leaves) (map (used Bare) cs ++ (map item.RuleContext rcs ++ map item.Rule rs)) i) [
+own_bare leaves cs rcs rs u i bare = elim (in_append (item.Context u) (map leaf_item leaves) (map untyped_use cs ++ (map item.RuleContext rcs ++ map item.Rule rs)) i) [
   | inl j ↦ (let r = from_map leaf_item (item.Context u) leaves j in absurd (not_both (sym (leaf_typed r.0 u r.2) ∙ bare)))
-  | inr j ↦ elim (in_append (item.Context u) (map (used Bare) cs) (map item.RuleContext rcs ++ map item.Rule rs) j) [
-    | inl k ↦ (let r = from_map (used Bare) (item.Context u) cs k in subst (λ x. IsOneOf x (context_names cs)) (named r.0 r.2) (in_map (λ (c : CtxUse). c.name) r.0 cs r.1))
+  | inr j ↦ elim (in_append (item.Context u) (map untyped_use cs) (map item.RuleContext rcs ++ map item.Rule rs) j) [
+    | inl k ↦ (let r = from_map untyped_use (item.Context u) cs k in subst (λ x. IsOneOf x (context_names cs)) (named r.0 r.2) (in_map (λ (c : CtxUse). c.name) r.0 cs r.1))
     | inr k ↦ elim (in_append (item.Context u) (map item.RuleContext rcs) (map item.Rule rs) k) [
       | inl l ↦ (let r = from_map item.RuleContext (item.Context u) rcs l in absurd (rule_context r.0 r.2))
       | inr l ↦ (let r = from_map item.Rule (item.Context u) rs l in absurd (rule r.0 r.2))
@@ -235,8 +236,8 @@ own_bare leaves cs rcs rs u i bare = elim (in_append (item.Context u) (map leaf_
   ]
 ]
   where
-    named : (c : CtxUse) → used Bare c ≡ item.Context u → c.name ≡ u.name
-    named c e = let same : (record { name = c.name; form = Bare; pos = c.pos }) ≡ u = cc in ap (λ (v : FormedUse). v.name) same
+    named : (c : CtxUse) → untyped_use c ≡ item.Context u → c.name ≡ u.name
+    named c e = let same : (record { name = c.name; form = untyped_form c.closed; pos = c.pos }) ≡ u = cc in ap (λ (v : FormedUse). v.name) same
 
     rule_context : (c : CtxUse) → item.RuleContext c ≡ item.Context u → ⊥
     rule_context c e = absurd (cc)
@@ -245,10 +246,10 @@ own_bare leaves cs rcs rs u i bare = elim (in_append (item.Context u) (map leaf_
     rule k e = absurd (cc)
 
 own_of_rules : (leaves : List Leaf) (cs rcs : List CtxUse) (rs : List ℕ) (u : CtxUse) → IsOneOf (item.RuleContext u) (own_uses leaves cs rcs rs) → IsOneOf u.name (context_names rcs)
-own_of_rules leaves cs rcs rs u i = elim (in_append (item.RuleContext u) (map leaf_item leaves) (map (used Bare) cs ++ (map item.RuleContext rcs ++ map item.Rule rs)) i) [
+own_of_rules leaves cs rcs rs u i = elim (in_append (item.RuleContext u) (map leaf_item leaves) (map untyped_use cs ++ (map item.RuleContext rcs ++ map item.Rule rs)) i) [
   | inl j ↦ (let r = from_map leaf_item (item.RuleContext u) leaves j in absurd (leaf_rule r.0 u r.2))
-  | inr j ↦ elim (in_append (item.RuleContext u) (map (used Bare) cs) (map item.RuleContext rcs ++ map item.Rule rs) j) [
-    | inl k ↦ (let r = from_map (used Bare) (item.RuleContext u) cs k in absurd (context r.0 r.2))
+  | inr j ↦ elim (in_append (item.RuleContext u) (map untyped_use cs) (map item.RuleContext rcs ++ map item.Rule rs) j) [
+    | inl k ↦ (let r = from_map untyped_use (item.RuleContext u) cs k in absurd (context r.0 r.2))
     | inr k ↦ elim (in_append (item.RuleContext u) (map item.RuleContext rcs) (map item.Rule rs) k) [
       | inl l ↦ (let r = from_map item.RuleContext (item.RuleContext u) rcs l in subst (λ x. IsOneOf x (context_names rcs)) (named r.0 r.2) (in_map (λ (c : CtxUse). c.name) r.0 rcs r.1))
       | inr l ↦ (let r = from_map item.Rule (item.RuleContext u) rs l in absurd (rule r.0 r.2))
@@ -256,7 +257,7 @@ own_of_rules leaves cs rcs rs u i = elim (in_append (item.RuleContext u) (map le
   ]
 ]
   where
-    context : (c : CtxUse) → used Bare c ≡ item.RuleContext u → ⊥
+    context : (c : CtxUse) → untyped_use c ≡ item.RuleContext u → ⊥
     context c e = absurd (cc)
 
     named : (c : CtxUse) → item.RuleContext c ≡ item.RuleContext u → c.name ≡ u.name
@@ -344,17 +345,17 @@ module _ (pick : List CtxUse → List CtxUse → List CtxUse) where
         | inr j ↦ in_back (as_item u) (head_uses h) (heads_uses hs) (are_used hs u j)
       ]
 
--- a context of a head is used there, bare
-pub context_used : (h : Head) (u : CtxUse) → IsOneOf u (head_contexts untyped h) → IsOneOf (used Bare u) (head_uses h)
-context_used = is_used untyped (used Bare) (λ leaves cs rcs rs u i.
-    in_back (used Bare u) (map leaf_item leaves) (map (used Bare) cs ++ (map item.RuleContext rcs ++ map item.Rule rs))
-    (in_front (used Bare u) (map (used Bare) cs) (map item.RuleContext rcs ++ map item.Rule rs) (in_map (used Bare) u cs i)))
+-- an untyped context of a head is used there
+pub context_used : (h : Head) (u : CtxUse) → IsOneOf u (head_contexts untyped h) → IsOneOf (untyped_use u) (head_uses h)
+context_used = is_used untyped untyped_use (λ leaves cs rcs rs u i.
+    in_back (untyped_use u) (map leaf_item leaves) (map untyped_use cs ++ (map item.RuleContext rcs ++ map item.Rule rs))
+    (in_front (untyped_use u) (map untyped_use cs) (map item.RuleContext rcs ++ map item.Rule rs) (in_map untyped_use u cs i)))
 
 -- and a rule context as such
 pub rule_context_used : (h : Head) (u : CtxUse) → IsOneOf u (head_contexts of_rules h) → IsOneOf (item.RuleContext u) (head_uses h)
 rule_context_used = is_used of_rules item.RuleContext (λ leaves cs rcs rs u i.
-    in_back (item.RuleContext u) (map leaf_item leaves) (map (used Bare) cs ++ (map item.RuleContext rcs ++ map item.Rule rs))
-    (in_back (item.RuleContext u) (map (used Bare) cs) (map item.RuleContext rcs ++ map item.Rule rs)
+    in_back (item.RuleContext u) (map leaf_item leaves) (map untyped_use cs ++ (map item.RuleContext rcs ++ map item.Rule rs))
+    (in_back (item.RuleContext u) (map untyped_use cs) (map item.RuleContext rcs ++ map item.Rule rs)
     (in_front (item.RuleContext u) (map item.RuleContext rcs) (map item.Rule rs) (in_map item.RuleContext u rcs i))))
 
 -- ---- how often names are used
@@ -394,18 +395,18 @@ one_place x y p = by (x == y) (y == x) refl refl
         off e = absurd (cc)
 
 module _ (x : ℕ) where
-  names_used : (cs : List CtxUse) → length (flat_map (use_of x) (map (used Bare) cs)) ≡ places x (context_names cs)
+  names_used : (cs : List CtxUse) → length (flat_map (use_of x) (map untyped_use cs)) ≡ places x (context_names cs)
   names_used [] = refl
   names_used (c ∷ cs) =
-      let a = length-append (use_of x (used Bare c)) (flat_map (use_of x) (map (used Bare) cs)) in
+      let a = length-append (use_of x (untyped_use c)) (flat_map (use_of x) (map untyped_use cs)) in
       let b = one_place x c.name c.pos in
       let d = names_used cs in
       omega (arith, a, b, d)
 
   own_used : (leaves : List Leaf) (cs rcs : List CtxUse) (rs : List ℕ) → places x (context_names cs) ≤ length (flat_map (use_of x) (own_uses leaves cs rcs rs))
   own_used leaves cs rcs rs =
-      let a = many_append (use_of x) (map leaf_item leaves) (map (used Bare) cs ++ (map item.RuleContext rcs ++ map item.Rule rs)) in
-      let b = many_append (use_of x) (map (used Bare) cs) (map item.RuleContext rcs ++ map item.Rule rs) in
+      let a = many_append (use_of x) (map leaf_item leaves) (map untyped_use cs ++ (map item.RuleContext rcs ++ map item.Rule rs)) in
+      let b = many_append (use_of x) (map untyped_use cs) (map item.RuleContext rcs ++ map item.Rule rs) in
       let c = names_used cs in
       omega (arith, a, b, c)
 
@@ -439,48 +440,50 @@ module _ (x : ℕ) where
       by true = refl
       by false = refl
 
-  bare_names : (cs : List CtxUse) → length (flat_map (bare_use x) (map (used Bare) cs)) ≡ places x (context_names cs)
-  bare_names [] = refl
-  bare_names (c ∷ cs) =
-      let a = length-append (bare_use x (used Bare c)) (flat_map (bare_use x) (map (used Bare) cs)) in
-      let b = same (c.name == x) ∙ one_place x c.name c.pos in
-      let d = bare_names cs in
+  bare_names : (cs : List CtxUse) → AllOpen cs → length (flat_map (bare_use x) (map untyped_use cs)) ≡ places x (context_names cs)
+  bare_names [] none = refl
+  bare_names (c ∷ cs) none =
+      let a = length-append (bare_use x (untyped_use c)) (flat_map (bare_use x) (map untyped_use cs)) in
+      let bare = ap (λ closed. is_bare (untyped_form closed)) none.0 in
+      let b = same (c.name == x) (is_bare (untyped_form c.closed)) bare ∙ one_place x c.name c.pos in
+      let d = bare_names cs none.1 in
       omega (arith, a, b, d)
     where
-      same : (b : Bool) → length (if b && true then c.pos ∷ [] else []) ≡ length (if b then c.pos ∷ [] else [])
-      same true = refl
-      same false = refl
+      same : (b o : Bool) → o ≡ true → length (if b && o then c.pos ∷ [] else []) ≡ length (if b then c.pos ∷ [] else [])
+      same true true e = refl
+      same true false e = absurd (cc)
+      same false o e = refl
 
-  own_bares : (leaves : List Leaf) (cs rcs : List CtxUse) (rs : List ℕ) → length (flat_map (bare_use x) (own_uses leaves cs rcs rs)) ≡ places x (context_names cs)
-  own_bares leaves cs rcs rs =
-      let a = many_append (bare_use x) (map leaf_item leaves) (map (used Bare) cs ++ (map item.RuleContext rcs ++ map item.Rule rs)) in
-      let b = many_append (bare_use x) (map (used Bare) cs) (map item.RuleContext rcs ++ map item.Rule rs) in
+  own_bares : (leaves : List Leaf) (cs rcs : List CtxUse) (rs : List ℕ) → AllOpen cs → length (flat_map (bare_use x) (own_uses leaves cs rcs rs)) ≡ places x (context_names cs)
+  own_bares leaves cs rcs rs none =
+      let a = many_append (bare_use x) (map leaf_item leaves) (map untyped_use cs ++ (map item.RuleContext rcs ++ map item.Rule rs)) in
+      let b = many_append (bare_use x) (map untyped_use cs) (map item.RuleContext rcs ++ map item.Rule rs) in
       let c = many_append (bare_use x) (map item.RuleContext rcs) (map item.Rule rs) in
       let d = ap length (mapped leaf_item (bare_use x) leaves) ∙ none_of (λ l. bare_use x (leaf_item l)) leaves bare_leaf in
       let e = ap length (mapped item.RuleContext (bare_use x) rcs) ∙ none_of (λ u. bare_use x (item.RuleContext u)) rcs (λ u. refl) in
       let f = ap length (mapped item.Rule (bare_use x) rs) ∙ none_of (λ k. bare_use x (item.Rule k)) rs (λ k. refl) in
-      let g = bare_names cs in
+      let g = bare_names cs none in
       omega (arith, a, b, c, d, e, f, g)
 
   mutual
-    -- a name stands as often among the untyped contexts of a level as it is used bare
-    pub bare_often : (h : Head) → places x (context_names (head_contexts untyped h)) ≡ length (flat_map (bare_use x) (head_uses h))
-    bare_often (head leaves hs cs rcs rs) =
+    -- where all are open, a name stands as often among the untyped contexts of a level as it is used bare
+    pub bare_often : (h : Head) → OpenHead h → places x (context_names (head_contexts untyped h)) ≡ length (flat_map (bare_use x) (head_uses h))
+    bare_often (head leaves hs cs rcs rs) none =
         let a = ap (places x) (map-append (λ (u : CtxUse). u.name) cs (heads_contexts untyped hs)) in
         let b = often_append x (context_names cs) (context_names (heads_contexts untyped hs)) in
-        let c = own_bares leaves cs rcs rs in
+        let c = own_bares leaves cs rcs rs none.0 in
         let d = many_append (bare_use x) (own_uses leaves cs rcs rs) (heads_uses hs) in
-        let e = all_bare_often hs in
+        let e = all_bare_often hs none.1 in
         omega (arith, a, b, c, d, e)
 
-    all_bare_often : (hs : Heads) → places x (context_names (heads_contexts untyped hs)) ≡ length (flat_map (bare_use x) (heads_uses hs))
-    all_bare_often no_head = refl
-    all_bare_often (head_and h hs) =
+    all_bare_often : (hs : Heads) → OpenHeads hs → places x (context_names (heads_contexts untyped hs)) ≡ length (flat_map (bare_use x) (heads_uses hs))
+    all_bare_often no_head none = refl
+    all_bare_often (head_and h hs) none =
         let a = ap (places x) (map-append (λ (u : CtxUse). u.name) (head_contexts untyped h) (heads_contexts untyped hs)) in
         let b = often_append x (context_names (head_contexts untyped h)) (context_names (heads_contexts untyped hs)) in
-        let c = bare_often h in
+        let c = bare_often h none.0 in
         let d = many_append (bare_use x) (head_uses h) (heads_uses hs) in
-        let e = all_bare_often hs in
+        let e = all_bare_often hs none.1 in
         omega (arith, a, b, c, d, e)
 
 -- ---- one context in each membrane of a head
@@ -564,7 +567,7 @@ module _ (kind : ℕ → TypeKind) where
       → (x : ℕ) × IsOneOf (x, next + j) (heads_names untyped next hs)
   held_at inside next no_head j b e c = absurd (cc)
   held_at inside next (head_and (head leaves hs cs rcs rs) more) zero b e c =
-      let same : (record { inside = inside; has_context = has_some cs; has_rule_context = has_some rcs }) ≡ b = cc in
+      let same : (record { inside = inside; has_context = has_some cs; has_closed_context = list_any (λ u. u.closed) cs; has_rule_context = has_some rcs }) ≡ b = cc in
       let r = own_context next cs (ap (λ (m : HeadMembrane). m.has_context) same ∙ c) in
       let plus : next ≡ next + 0 = omega arith in (
         r.0,

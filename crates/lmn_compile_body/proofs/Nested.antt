@@ -14,7 +14,7 @@ use Rattle.lmn_base.specs.declared.level.CtxUse.{CtxUse}
 use Rattle.lmn_base.specs.declared.level.Leaf.{Leaf}
 use Rattle.lmn_base.specs.declared.level.Level.{out-Level}
 use Rattle.lmn_base.specs.declared.rule.RuleTree.{RuleTree}
-use Rattle.lmn_base.specs.Items.{used, leaf_item, own_items, items_of, guard_items, condition_items, rule_items}
+use Rattle.lmn_base.specs.Items.{used, untyped as untyped_use, untyped_form, leaf_item, own_items, items_of, guard_items, condition_items, rule_items}
 use Rattle.lmn_base.specs.Levels.{leaves_of, links_of, contexts_of, rule_contexts_of}
 use Rattle.lmn_base.specs.RuleCodes.{bare_use, rule_use, is_left_of}
 use Rattle.lmn_base.specs.Uses.{use_of, has_use, is_some_place}
@@ -39,9 +39,11 @@ use Rattle.lmn_body.proofs.Numbered.{contexts_of_heads, leaves_none}
 use Rattle.lmn_compile_body.specs.Naming.{numbered_contexts, numbered_rule_contexts}
 use Rattle.lmn_compile_body.specs.Accepted.{rule_body_names, rule_body_items, IsCompilable, AcceptedNested}
 use Rattle.lmn_compile_body.proofs.BodyTrees.{numbers_below}
-use Rattle.lmn_compile_body.proofs.HeadContexts.{contained, distinct_map, names_are, head_names, heads_names, in_range, one_each, named_there, one_entry, untyped, of_rules, firsts, not_both, has_name, has_rule_name, same_contexts, context_used, rule_context_used, names_few, bare_often, inner_of, head_out, one_context, names_inner, held_at, name_used}
+use Rattle.lmn_compile_body.proofs.HeadContexts.{contained, distinct_map, names_are, head_names, heads_names, in_range, one_each, named_there, one_entry, untyped, of_rules, firsts, not_both, has_name, has_rule_name, head_contexts, same_contexts, context_used, rule_context_used, names_few, bare_often, inner_of, head_out, one_context, names_inner, held_at, name_used}
 use Rattle.lmn_congruence.specs.Links.{places}
 use Rattle.lmn_compile_head.proofs.HeadLeaves.{below_back, below_front}
+use Rattle.lmn_compile_head.proofs.HeadUses.{never_typed}
+use Rattle.lmn_compile_head.proofs.OpenHeads.{accepted_open, open_form, used_bare}
 use Rattle.lmn_congruence.proofs.Counts.{one_if_equal as one_same}
 use Rattle.lmn_splice.proofs.Common.{in_append, in_back, in_front}
 use Rattle.lmn_base.specs.Names.{context_names}
@@ -146,13 +148,13 @@ module _ (heads : AcceptedHeads) (table : List RuleTree) (r : RuleTree) (plan : 
   top : (out-Level r.head).contexts ≡ []
   top = no_contexts (out-Level r.head).contexts (λ u i.
       let l = out-Level r.head in
-      let c = contained (used Bare u) (own_items l) (in_back (used Bare u) (map leaf_item l.leaves) _ (in_front (used Bare u) (map (used Bare) l.contexts) _ (in_map (used Bare) u l.contexts i))) in
-      not_both (sym (order.no_context_at_top (record { name = u.name; form = Bare; pos = u.pos }) c)))
+      let c = contained (untyped_use u) (own_items l) (in_back (untyped_use u) (map leaf_item l.leaves) _ (in_front (untyped_use u) (map untyped_use l.contexts) _ (in_map untyped_use u l.contexts i))) in
+      never_typed u.closed (order.no_context_at_top (record { name = u.name; form = untyped_form u.closed; pos = u.pos }) c))
 
   rule_top : (out-Level r.head).rule_contexts ≡ []
   rule_top = no_contexts (out-Level r.head).rule_contexts (λ u i.
       let l = out-Level r.head in
-      order.no_rule_context_at_top u (contained (RuleContext u) (own_items l) (in_back (RuleContext u) (map leaf_item l.leaves) _ (in_back (RuleContext u) (map (used Bare) l.contexts) _
+      order.no_rule_context_at_top u (contained (RuleContext u) (own_items l) (in_back (RuleContext u) (map leaf_item l.leaves) _ (in_back (RuleContext u) (map untyped_use l.contexts) _
       (in_front (RuleContext u) (map RuleContext l.rule_contexts) _ (in_map RuleContext u l.rule_contexts i))))))
 
   entries_are : entries ≡ heads_names untyped 1 (inner_of r.head)
@@ -161,12 +163,26 @@ module _ (heads : AcceptedHeads) (table : List RuleTree) (r : RuleTree) (plan : 
   rule_entries_are : rule_entries ≡ heads_names of_rules 1 (inner_of r.head)
   rule_entries_are = names_are of_rules r.head ∙ names_inner of_rules r.head rule_top
 
+  -- an untyped context of the rule is used bare, since none is closed
+  bare : (u : CtxUse) → IsOneOf (untyped_use u) (rule_items r) → untyped_use u ≡ used Bare u
+  bare u i = used_bare u (open_form u.closed (order.none_closed (record { name = u.name; form = untyped_form u.closed; pos = u.pos }) (contained (untyped_use u) (rule_items r) i)))
+
+  used_in_head : (u : CtxUse) → IsOneOf u (head_contexts untyped (head_at r.head)) → IsOneOf (used Bare u) (items_of r.head)
+  used_in_head u i =
+      let there = subst (IsOneOf (untyped_use u)) (sym (same_uses r.head)) (context_used (head_at r.head) u i) in
+      subst (λ x. IsOneOf x (items_of r.head)) (bare u (in_front (untyped_use u) (items_of r.head) (guard_items r.guard ++ items_of r.body) there)) there
+
+  used_in_body : (u : CtxUse) → IsOneOf u (contexts_of r.body) → IsOneOf (used Bare u) (items_of r.body)
+  used_in_body u i =
+      let there = subst (IsOneOf (untyped_use u)) (sym (same_uses r.body)) (context_used (head_at r.body) u (subst (IsOneOf u) (same_contexts untyped r.body) i)) in
+      subst (λ x. IsOneOf x (items_of r.body)) (bare u (in_back (untyped_use u) (items_of r.head) (guard_items r.guard ++ items_of r.body) (in_back (untyped_use u) (guard_items r.guard) (items_of r.body) there))) there
+
   -- an untyped context of the body is one of the head
   of_head : (u : CtxUse) → IsOneOf u (contexts_of r.body) → (v : FormedUse) × IsOneOf (Context v) (items_of r.head) × (v.name ≡ u.name) × (v.form ≡ Bare)
   of_head u i = by (has_use u.name (items_of r.head)) refl
     where
       in_body : IsOneOf (used Bare u) (items_of r.body)
-      in_body = subst (IsOneOf (used Bare u)) (sym (same_uses r.body)) (context_used (head_at r.body) u (subst (IsOneOf u) (same_contexts untyped r.body) i))
+      in_body = used_in_body u i
 
       asked : (has_use u.name (items_of r.head) || list_any (is_left_of u.name) r.guard) ≡ true
       asked = order.of_the_head (record { name = u.name; form = Bare; pos = u.pos }) (contained (used Bare u) (items_of r.body) in_body)
@@ -200,7 +216,7 @@ module _ (heads : AcceptedHeads) (table : List RuleTree) (r : RuleTree) (plan : 
 
   -- each stands once in the body
   body_often : (x : ℕ) → places x (context_names (contexts_of r.body)) ≡ length (flat_map (bare_use x) (items_of r.body))
-  body_often x = ap (λ us. places x (context_names us)) (same_contexts untyped r.body) ∙ (bare_often x (head_at r.body) ∙ ap (λ is. length (flat_map (bare_use x) is)) (sym (same_uses r.body)))
+  body_often x = ap (λ us. places x (context_names us)) (same_contexts untyped r.body) ∙ (bare_often x (head_at r.body) (accepted_open table r order).1 ∙ ap (λ is. length (flat_map (bare_use x) is)) (sym (same_uses r.body)))
 
   once : NoneTwice (context_names (contexts_of r.body))
   once = each_once (context_names (contexts_of r.body)) (λ x i.
@@ -225,7 +241,7 @@ module _ (heads : AcceptedHeads) (table : List RuleTree) (r : RuleTree) (plan : 
       let there = subst (IsOneOf (n.0, 1 + h.0)) (sym entries_are) n.1 in
       let first = in_map (λ (e : ℕ × ℕ). e.0) (n.0, 1 + h.0) entries there in
       let u = name_used 0 1 (head_at r.head) n.0 (subst (λ es. IsOneOf n.0 (firsts es)) (names_are untyped r.head) first) in
-      let in_head = subst (IsOneOf (used Bare u.0)) (sym (same_uses r.head)) (context_used (head_at r.head) u.0 u.1) in
+      let in_head = used_in_head u.0 u.1 in
       let one = order.once_in_body (record { name = u.0.name; form = Bare; pos = u.0.pos }) (contained (used Bare u.0) (items_of r.head) in_head) refl in
       let many = body_often u.0.name in
       let in_body = subst (λ x. IsOneOf x (context_names (contexts_of r.body))) u.2 (often_in u.0.name (context_names (contexts_of r.body)) (omega (arith, one, many))) in

@@ -36,7 +36,7 @@ loop-item-preserved c =
                 (subst (λ xs. c.loop-item.ports ++ once_in L (at_atoms c.loop-item.atom (atoms_of xs)) ≡ c.args.ports.now ++ old_ports items) e (c.loop-item.invariant.made counts)));
           })
       | in-Membrane w ↦
-          (let e = dropped items c.loop-item.item-index c.item-item.result (Membrane w.in-Membrane.inside w.in-Membrane.has_context w.in-Membrane.has_rule_context) c.loop-item-test.true c.item-item.is w.in-Membrane.is in let k = w.atom-is in
+          (let e = dropped items c.loop-item.item-index c.item-item.result (Membrane w.in-Membrane.inside w.in-Membrane.has_context w.in-Membrane.has_closed_context w.in-Membrane.has_rule_context) c.loop-item-test.true c.item-item.is w.in-Membrane.is in let k = w.atom-is in
           record {
             few = omega (arith, n, k);
             fits = subst (λ xs. HeadFits (length c.args.times.now) xs) e c.loop-item.invariant.fits;
