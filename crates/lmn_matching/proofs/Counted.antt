@@ -127,8 +127,8 @@ module _ (items : List HeadItem) (head : IsHead items) where
       let v = items_counted (n + 1) i xs zs in
       rw (append_assoc (atom_code items n a) (items_code items (n + 1) i xs) zs) (u.0 ∙ v.0, u.1 ∙ v.1)
   items_counted n i (Typed p k l m ∷ xs) zs = items_counted n i xs zs
-  items_counted n i (Membrane m c1 c2 ∷ xs) zs =
-      let b : HeadMembrane = record { inside = m; has_context = c1; has_rule_context = c2 } in
+  items_counted n i (Membrane m c1 cl c2 ∷ xs) zs =
+      let b : HeadMembrane = record { inside = m; has_context = c1; has_closed_context = cl; has_rule_context = c2 } in
       let ds = differ_membrane_code (i + 1) b 1 (take i (membranes_of items)) in
       let u = (quiet_differs (i + 1) b 1 (take i (membranes_of items))).none (items_code items n (i + 1) xs ++ zs) in
       let v = items_counted n (i + 1) xs zs in

@@ -116,7 +116,7 @@ typed_nested i (Typed p k l m ∷ xs) n zero t e =
     let at : m ≡ t.inside = ap (λ o. typed_inside_or o) same in
     omega (arith, here, at)
 typed_nested i (Typed p k l m ∷ xs) n (suc j) t e = typed_nested i xs n.1 j t e
-typed_nested i (Membrane m c1 c2 ∷ xs) n j t e = let k = typed_nested (i + 1) xs n.1 j t e in omega (arith, k)
+typed_nested i (Membrane m c1 cl c2 ∷ xs) n j t e = let k = typed_nested (i + 1) xs n.1 j t e in omega (arith, k)
 
 -- the typed contexts that are written in a membrane have numbers below that of all
 inside_if : (b : Bool) (n g : ℕ) (gs : List ℕ) → n < g → AllByRecursion (λ j. j < g) gs → AllByRecursion (λ j. j < g) ((if b then n ∷ [] else []) ++ gs)
@@ -195,8 +195,8 @@ module _ (items : List HeadItem) (head : IsHead items) where
       rw append_assoc (atom_order n (i + 1) a (items_code items (n + 1) i xs ++ ys) (omega arith) (omega arith)
       (items_order (n + 1) i xs ys w.1 (omega arith) k (subst (λ u. PlainOrder u ((i + 1) + length (membranes_of xs)) ys) z o)))
   items_order n i (Typed p k' t m ∷ xs) ys w l k o = items_order n i xs ys w.1 l k o
-  items_order n i (Membrane m c1 c2 ∷ xs) ys w l k o =
-      let b : HeadMembrane = record { inside = m; has_context = c1; has_rule_context = c2 } in
+  items_order n i (Membrane m c1 cl c2 ∷ xs) ys w l k o =
+      let b : HeadMembrane = record { inside = m; has_context = c1; has_closed_context = cl; has_rule_context = c2 } in
       let inside : m ≤ i = w.0 in
       let short = take_short i (membranes_of items) in
       let z : (i + 1) + suc (length (membranes_of xs)) ≡ ((i + 1) + 1) + length (membranes_of xs) = omega arith in
@@ -267,4 +267,4 @@ pub few_of_each : (items : List HeadItem) → length (atoms_of items) + (length 
 few_of_each [] = omega arith
 few_of_each (Atom f ls m ∷ xs) = let k = few_of_each xs in omega (arith, k)
 few_of_each (Typed p k' t m ∷ xs) = let k = few_of_each xs in omega (arith, k)
-few_of_each (Membrane m c1 c2 ∷ xs) = let k = few_of_each xs in omega (arith, k)
+few_of_each (Membrane m c1 cl c2 ∷ xs) = let k = few_of_each xs in omega (arith, k)
