@@ -182,7 +182,7 @@ module _ (names : List (List ℕ)) where
   abbrev pub HasItem : HeadItem → Type 0
   HasItem (Atom functor links inside) = HasLabel names functor.label
   HasItem (Typed name kind link inside) = Unit {0}
-  HasItem (Membrane inside has_context has_rule_context) = Unit {0}
+  HasItem (Membrane inside has_context has_closed_context has_rule_context) = Unit {0}
 
   items_have : (items : List HeadItem) (n i : ℕ) (xs : List HeadItem) → AllByRecursion HasItem xs → HasInstrs (items_code items n i xs)
   items_have items n i [] h = tt
@@ -190,8 +190,8 @@ module _ (names : List (List ℕ)) where
       let a : HeadAtom = record { functor = f; links = ls; inside = m } in
       both (atom_code items n a) (items_code items (n + 1) i xs) (atom_has items n a h.0) (items_have items (n + 1) i xs h.1)
   items_have items n i (Typed p k l m ∷ xs) h = items_have items n i xs h.1
-  items_have items n i (Membrane m c1 c2 ∷ xs) h =
-      let b : HeadMembrane = record { inside = m; has_context = c1; has_rule_context = c2 } in
+  items_have items n i (Membrane m c1 cl c2 ∷ xs) h =
+      let b : HeadMembrane = record { inside = m; has_context = c1; has_closed_context = cl; has_rule_context = c2 } in
       both (membrane_code items i b) (items_code items n (i + 1) xs) ((tt, (tt, tt)), differ_membranes_has (i + 1) b 1 (take i (membranes_of items))) (items_have items n (i + 1) xs h.1)
 
   -- a list that has the names of the atoms has those of the code
