@@ -1,6 +1,6 @@
 -- A typed context of the body of an accepted rule is one of the head, or the guard binds its name.
 use Rattle.std.proofs.Common.{ℕ, ◌≡◌, ◌⊎◌, inl, inr, List, [], ◌∷◌, ◌++◌, map, Option, Some, None, refl, sym, subst}
-use Rattle.std.specs.Prelude.{Bool, true, false, ◌==◌, if◌then◌else◌, Contains, IsSome}
+use Rattle.std.specs.Prelude.{Bool, true, false, ◌≢◌, ◌==◌, if◌then◌else◌, Contains, IsSome}
 use Rattle.std.specs.List.{flat_map, list_any}
 use Rattle.std.proofs.lemmas.Bool.Decides.{Decides-eqb}
 use Rattle.std.proofs.lemmas.List.Elements.{Contains-append_left, Contains-append_right}
@@ -15,7 +15,7 @@ use Rattle.lmn_base.specs.declared.level.Level.{Level}
 use Rattle.lmn_base.specs.declared.level.Occ.{Occ}
 use Rattle.lmn_base.specs.declared.refusal.Pos.{Pos}
 use Rattle.lmn_base.specs.declared.rule.RuleTree.{RuleTree}
-use Rattle.lmn_base.specs.Items.{used, leaf_item, items_of, guard_items}
+use Rattle.lmn_base.specs.Items.{untyped, untyped_form, leaf_item, items_of, guard_items}
 use Rattle.lmn_base.specs.Levels.{leaves_of}
 use Rattle.lmn_base.specs.RuleCodes.{is_left_of}
 use Rattle.lmn_base.specs.Uses.{is_some_place, use_of, has_use}
@@ -27,7 +27,7 @@ use Rattle.lmn_solid.proofs.HeadTrees.{Head, Heads, head, no_head, head_and, hea
 use Rattle.lmn_compile_head.specs.Accepted.{head_items}
 use Rattle.lmn_compile_head.specs.Heads.{kind_in}
 use Rattle.lmn_compile_head.proofs.HeadLeaves.{number_of_leaf}
-use Rattle.lmn_compile_head.proofs.HeadUses.{typed_use, leaf_use}
+use Rattle.lmn_compile_head.proofs.HeadUses.{typed_use, leaf_use, never_typed}
 use Rattle.lmn_base.proofs.Lists.{contains_behind as later, contains_first as first}
 use Rattle.lmn_base.proofs.Truth.{either_true as or_cases}
 
@@ -39,9 +39,9 @@ leaf_is_use l n o p c =
 
 -- ---- a use in no other form is a typed leaf
 
--- the name is that of a typed leaf, or it is used bare
-abbrev LeafOrBare : ℕ → List Leaf → List Item → Type 0
-LeafOrBare n ls is = ((o : Occ) × (p : Pos) × Contains ls (leaf.Typed n o p)) ⊎ ((u : FormedUse) × Contains is (item.Context u) × (u.name ≡ n) × (u.form ≡ form.Bare))
+-- the name is that of a typed leaf, or it is that of an untyped context
+abbrev LeafOrUntyped : ℕ → List Leaf → List Item → Type 0
+LeafOrUntyped n ls is = ((o : Occ) × (p : Pos) × Contains ls (leaf.Typed n o p)) ⊎ ((u : FormedUse) × Contains is (item.Context u) × (u.name ≡ n) × (u.form ≢ form.Typed))
 
 abbrev IsUsed : ℕ → List Item → Type 0
 IsUsed n is = is_some_place (flat_map (use_of n) is) ≡ true
@@ -73,14 +73,14 @@ leaves_used n (leaf.Typed m o p ∷ ls) e = elim (place_cases (use_of n (item.Co
   | inr b ↦ (let r = leaves_used n ls b in (r.0, r.1, later (leaf.Typed m o p) ls (leaf.Typed n r.0 r.1) r.2))
 ]
 
-abbrev bare_use : CtxUse → FormedUse
-bare_use u = record { name = u.name; form = form.Bare; pos = u.pos }
+abbrev untyped_use : CtxUse → FormedUse
+untyped_use u = record { name = u.name; form = untyped_form u.closed; pos = u.pos }
 
-contexts_used : (n : ℕ) (us : List CtxUse) → IsUsed n (map (used form.Bare) us) → (u : FormedUse) × Contains (map (used form.Bare) us) (item.Context u) × (u.name ≡ n) × (u.form ≡ form.Bare)
+contexts_used : (n : ℕ) (us : List CtxUse) → IsUsed n (map untyped us) → (u : FormedUse) × Contains (map untyped us) (item.Context u) × (u.name ≡ n) × (u.form ≢ form.Typed)
 contexts_used n [] e = absurd (cc)
-contexts_used n (u ∷ us) e = elim (place_cases (use_of n (item.Context (bare_use u))) (flat_map (use_of n) (map (used form.Bare) us)) e) [
-  | inl a ↦ (bare_use u, first (used form.Bare u) (map (used form.Bare) us), place_of_if n (bare_use u) a, refl)
-  | inr b ↦ (let r = contexts_used n us b in (r.0, later (used form.Bare u) (map (used form.Bare) us) (item.Context r.0) r.1, r.2, r.3))
+contexts_used n (u ∷ us) e = elim (place_cases (use_of n (item.Context (untyped_use u))) (flat_map (use_of n) (map untyped us)) e) [
+  | inl a ↦ (untyped_use u, first (untyped u) (map untyped us), place_of_if n (untyped_use u) a, never_typed u.closed)
+  | inr b ↦ (let r = contexts_used n us b in (r.0, later (untyped u) (map untyped us) (item.Context r.0) r.1, r.2, r.3))
 ]
 
 no_rule_context : (n : ℕ) (us : List CtxUse) → IsUsed n (map item.RuleContext us) → ⊥
@@ -91,19 +91,19 @@ no_rule : (n : ℕ) (ks : List ℕ) → IsUsed n (map item.Rule ks) → ⊥
 no_rule n [] e = cc
 no_rule n (k ∷ ks) e = no_rule n ks e
 
-in_front : (n : ℕ) (ls ms : List Leaf) (is js : List Item) → LeafOrBare n ls is → LeafOrBare n (ls ++ ms) (is ++ js)
+in_front : (n : ℕ) (ls ms : List Leaf) (is js : List Item) → LeafOrUntyped n ls is → LeafOrUntyped n (ls ++ ms) (is ++ js)
 in_front n ls ms is js (inl r) = inl (r.0, r.1, Contains-append_left ls ms (leaf.Typed n r.0 r.1) r.2)
 in_front n ls ms is js (inr r) = inr (r.0, Contains-append_left is js (item.Context r.0) r.1, r.2, r.3)
 
-at_back : (n : ℕ) (ls ms : List Leaf) (is js : List Item) → LeafOrBare n ms js → LeafOrBare n (ls ++ ms) (is ++ js)
+at_back : (n : ℕ) (ls ms : List Leaf) (is js : List Item) → LeafOrUntyped n ms js → LeafOrUntyped n (ls ++ ms) (is ++ js)
 at_back n ls ms is js (inl r) = inl (r.0, r.1, Contains-append_right ls ms (leaf.Typed n r.0 r.1) r.2)
 at_back n ls ms is js (inr r) = inr (r.0, Contains-append_right is js (item.Context r.0) r.1, r.2, r.3)
 
-own_used : (n : ℕ) (leaves : List Leaf) (cs rcs : List CtxUse) (rs : List ℕ) → IsUsed n (map leaf_item leaves ++ (map (used form.Bare) cs ++ (map item.RuleContext rcs ++ map item.Rule rs))) →
-    LeafOrBare n leaves (map leaf_item leaves ++ (map (used form.Bare) cs ++ (map item.RuleContext rcs ++ map item.Rule rs)))
+own_used : (n : ℕ) (leaves : List Leaf) (cs rcs : List CtxUse) (rs : List ℕ) → IsUsed n (map leaf_item leaves ++ (map untyped cs ++ (map item.RuleContext rcs ++ map item.Rule rs))) →
+    LeafOrUntyped n leaves (map leaf_item leaves ++ (map untyped cs ++ (map item.RuleContext rcs ++ map item.Rule rs)))
 own_used n leaves cs rcs rs e =
     let is = map leaf_item leaves in
-    let bs = map (used form.Bare) cs in
+    let bs = map untyped cs in
     let rest = map item.RuleContext rcs ++ map item.Rule rs in
     elim (used_either n is (bs ++ rest) e) [
       | inl a ↦ inl (leaves_used n leaves a)
@@ -117,15 +117,15 @@ own_used n leaves cs rcs rs e =
     ]
 
 mutual
-  head_used : (n : ℕ) (h : Head) → IsUsed n (head_uses h) → LeafOrBare n (head_leaves h) (head_uses h)
+  head_used : (n : ℕ) (h : Head) → IsUsed n (head_uses h) → LeafOrUntyped n (head_leaves h) (head_uses h)
   head_used n (head leaves hs cs rcs rs) e =
-      let own = map leaf_item leaves ++ (map (used form.Bare) cs ++ (map item.RuleContext rcs ++ map item.Rule rs)) in
+      let own = map leaf_item leaves ++ (map untyped cs ++ (map item.RuleContext rcs ++ map item.Rule rs)) in
       elim (used_either n own (heads_uses hs) e) [
         | inl a ↦ in_front n leaves (heads_leaves hs) own (heads_uses hs) (own_used n leaves cs rcs rs a)
         | inr b ↦ at_back n leaves (heads_leaves hs) own (heads_uses hs) (heads_used n hs b)
       ]
 
-  heads_used : (n : ℕ) (hs : Heads) → IsUsed n (heads_uses hs) → LeafOrBare n (heads_leaves hs) (heads_uses hs)
+  heads_used : (n : ℕ) (hs : Heads) → IsUsed n (heads_uses hs) → LeafOrUntyped n (heads_leaves hs) (heads_uses hs)
   heads_used n no_head e = absurd (cc)
   heads_used n (head_and h hs) e = elim (used_either n (head_uses h) (heads_uses hs) e) [
     | inl a ↦ in_front n (head_leaves h) (heads_leaves hs) (head_uses h) (heads_uses hs) (head_used n h a)
@@ -151,7 +151,7 @@ bound_or_head table r plan order n o p c none =
         | inr w ↦ (let head_use = subst (λ is. Contains is (item.Context w.0)) (sym (same_uses r.head)) w.1 in
             let same = order.one_form w.0 u (Contains-append_left (items_of r.head) (guard_items r.guard ++ items_of r.body) (item.Context w.0) head_use)
             (Contains-append_right (items_of r.head) (guard_items r.guard ++ items_of r.body) (item.Context u) (Contains-append_right (guard_items r.guard) (items_of r.body) (item.Context u) there)) w.2 in
-            let bare = w.3 in absurd (cc))
+            absurd (w.3 same))
       ]
       | inr b ↦ b
     ]
