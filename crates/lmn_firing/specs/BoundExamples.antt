@@ -1,5 +1,5 @@
 -- What small guards bind.
-use Rattle.std.specs.Prelude.{ℕ, ◌≡◌, pos, [], ◌∷◌, Some, None}
+use Rattle.std.specs.Prelude.{ℕ, ◌≡◌, false, pos, [], ◌∷◌, Some, None}
 use Rattle.lmn_base.specs.declared.guard.Cond.TheVariants.{Equal}
 use Rattle.lmn_base.specs.declared.guard.Expr.TheVariants as expr
 use Rattle.lmn_base.specs.declared.level.CtxUse.{CtxUse}
@@ -11,7 +11,7 @@ use Rattle.lmn_base.specs.Graphs.{Port}
 
 -- the context with a number
 abbrev pub context : ℕ → Pos → CtxUse
-context x p = record { name = x; pos = p }
+context x p = record { name = x; closed = false; pos = p }
 
 -- no name stands in the head, and each does, at one port
 abbrev pub free : Meaning
