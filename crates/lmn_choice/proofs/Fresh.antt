@@ -1,6 +1,6 @@
 -- Registers that hold an embedding, with new numbers beyond those of the head.
 use Rattle.std.proofs.Common.{ℕ, zero, suc, ◌≡◌, ◌+◌, ◌<◌, ◌≤◌, List, [], ◌∷◌, length, Some, refl, sym, ap, subst, ◌∙◌, inl, inr, arith}
-use Rattle.std.specs.Prelude.{slice_get}
+use Rattle.std.specs.Prelude.{slice_get, true, false}
 use Rattle.lmn_base.specs.declared.guard.Cond.{Cond}
 use Rattle.lmn_base.specs.Graphs.{StandsWhole}
 use Rattle.lmn_heap.specs.Graphs.{atom_map}
@@ -79,6 +79,7 @@ module _ (h : Heap) (items : List HeadItem) (head : IsHead items) (f : Images) (
           let z = e.lies.no_other_membrane k b x w c (subst (λ y. In x (mems_in h y)) (at_mem k b w) i) in
           let l = z.1 in (z.0, z.1, same_mem (suc z.0) (omega (arith, l)) ∙ z.2);
       no_rule = λ k b w c. subst (λ z. rules_in h z ≡ []) (sym (at_mem k b w)) (e.lies.no_rule k b w c);
+      closed = λ k b x i p w c u q. (let clash : true ≡ false = sym c ∙ head.none_closed k b w in absurd (cc));
       parts = λ n t w.
           let p = e.lies.parts n t w in
           record {
@@ -105,7 +106,7 @@ module _ (h : Heap) (items : List HeadItem) (head : IsHead items) (f : Images) (
       let on = positions_so (n + 1) i xs w.1 (omega (arith, l)) o in
       λ t. index_of (a t) (atoms_in h (b t)) ∷ on t
   positions_so n i (Typed p k x m ∷ xs) w l o = positions_so n i xs w.1 l o
-  positions_so n i (Membrane m c rc ∷ xs) w l o =
+  positions_so n i (Membrane m c cl rc ∷ xs) w l o =
       let here : m ≤ i = w.0 in
       let a = same_mem (i + 1) (omega (arith, o)) in
       let b = in_mem m (omega (arith, here, o)) in
