@@ -19,7 +19,7 @@ use Rattle.lmn_congruence.specs.Same.{renamed_atom}
 use Rattle.lmn_congruence.specs.Translation.{name_of, names_of, atom_or_connector, label_of, leaf_of, levels, solid_atom_of}
 use Rattle.lmn_reduction.specs.Parts.{Rooted, IsInteger, an_integer}
 use Rattle.lmn_adequacy.specs.Embedding.{IsPart, Contents}
-use Rattle.lmn_adequacy.specs.Next.{DepthFirst, reaches_listed, reaches_new, reaches_none, part_leaves, kept_atoms, kept_membranes, context_atoms, context_membranes, context_rules, links_at}
+use Rattle.lmn_adequacy.specs.Next.{DepthFirst, reaches_listed, reaches_new, reaches_none, part_leaves, kept_atoms, kept_membranes, context_rules, links_at}
 use Rattle.lmn_congruence.specs.Links.{places}
 use Rattle.lmn_congruence.proofs.Counts.{none_if_apart, one_if_equal}
 use Rattle.lmn_solid.proofs.HeadTrees.{Head, Heads, head, no_head, head_and}
@@ -35,7 +35,7 @@ use Rattle.lmn_turn.specs.Standing.{StandAs, none_stands}
 use Rattle.lmn_turn.proofs.Standings.{stand_both}
 use Rattle.lmn_turn.proofs.Adders.{at, here_is}
 use Rattle.lmn_turn.proofs.CopyLinks.{Block}
-use Rattle.lmn_turn.proofs.OwnLinks.{OwnLeaves, own_none, own_atom, own_connector, own_integer, own_copy}
+use Rattle.lmn_turn.proofs.OwnLinks.{open_atoms, open_membranes, OwnLeaves, own_none, own_atom, own_connector, own_integer, own_copy}
 use Rattle.lmn_turn.proofs.Locals.{next_copy, after_leaves, after_level}
 use Rattle.lmn_splice.specs.Splice.{of_rule, of_solid}
 use Rattle.lmn_base.proofs.Lists.{map_twice}
@@ -152,8 +152,8 @@ module _ (h h' : Heap) (r r' : HeapReading) (s : Registers) (bn : BodyNames) (c 
 
   -- an untyped context stands for what is left of its membrane
   pub record ContextAgrees (u : CtxUse) : Type 0 where
-    pub atoms : map (renamed_atom (λ z. to (of_solid z))) (c.atoms_of (name_of r.names u.name)) ≡ map (solid_atom_of r.names) (left (at s (bn.context u.name)))
-    pub membranes : StandAs h' r' (left_mems (at s (bn.context u.name))) (fused_levels to (levels (kept_membranes (c.membranes_of (name_of r.names u.name)))))
+    pub atoms : map (renamed_atom (λ z. to (of_solid z))) (c.atoms_of (tree.open_context (name_of r.names u.name))) ≡ map (solid_atom_of r.names) (left (at s (bn.context u.name)))
+    pub membranes : StandAs h' r' (left_mems (at s (bn.context u.name))) (fused_levels to (levels (kept_membranes (c.membranes_of (tree.open_context (name_of r.names u.name))))))
 
   abbrev pub ContextsAgree : List CtxUse → Type 0
   ContextsAgree [] = Unit {0}
@@ -259,26 +259,26 @@ module _ (h h' : Heap) (r r' : HeapReading) (s : Registers) (bn : BodyNames) (c 
   -- ---- contexts and rules
 
   pub context_atoms_are : (inside k : ℕ) (us : List CtxUse) → ContextsAgree us →
-      fused_leaves to (kept_atoms (context_atoms c (names_of r.names us))) ≡ map (solid_atom_of r.names) (added_with_copies s left copy (λ z. to (of_rule z)) k (context_items bn inside us) (at s inside))
-  context_atoms_are inside k us a = fused_kept to (context_atoms c (names_of r.names us)) ∙ by us a
+      fused_leaves to (kept_atoms (open_atoms c (names_of r.names us))) ≡ map (solid_atom_of r.names) (added_with_copies s left copy (λ z. to (of_rule z)) k (context_items bn inside us) (at s inside))
+  context_atoms_are inside k us a = fused_kept to (open_atoms c (names_of r.names us)) ∙ by us a
     where
-      by : (us : List CtxUse) → ContextsAgree us → map (renamed_atom (λ z. to (of_solid z))) (context_atoms c (names_of r.names us)) ≡ map (solid_atom_of r.names) (added_with_copies s left copy (λ z. to (of_rule z)) k (context_items bn inside us) (at s inside))
+      by : (us : List CtxUse) → ContextsAgree us → map (renamed_atom (λ z. to (of_solid z))) (open_atoms c (names_of r.names us)) ≡ map (solid_atom_of r.names) (added_with_copies s left copy (λ z. to (of_rule z)) k (context_items bn inside us) (at s inside))
       by [] a = refl
       by (u ∷ us) a =
           let mine = left (at s (bn.context u.name)) in
           let rest = added_with_copies s left copy (λ z. to (of_rule z)) k (context_items bn inside us) (at s inside) in
-          map-append (renamed_atom (λ z. to (of_solid z))) (c.atoms_of (name_of r.names u.name)) (context_atoms c (names_of r.names us))
+          map-append (renamed_atom (λ z. to (of_solid z))) (c.atoms_of (tree.open_context (name_of r.names u.name))) (open_atoms c (names_of r.names us))
           ∙ (λ i. a.0.atoms i ++ by us a.1 i) ∙ sym (map-append (solid_atom_of r.names) mine rest)
           ∙ ap (map (solid_atom_of r.names)) (sym (here_is (at s inside) mine rest))
 
-  pub context_membranes_stand : (inside n : ℕ) (us : List CtxUse) → ContextsAgree us → StandAs h' r' (added_mems s left_mems n (context_items bn inside us) (at s inside)) (fused_levels to (levels (context_membranes c (names_of r.names us))))
+  pub context_membranes_stand : (inside n : ℕ) (us : List CtxUse) → ContextsAgree us → StandAs h' r' (added_mems s left_mems n (context_items bn inside us) (at s inside)) (fused_levels to (levels (open_membranes c (names_of r.names us))))
   context_membranes_stand inside n [] a = none_stands
   context_membranes_stand inside n (u ∷ us) a =
       let mine = left_mems (at s (bn.context u.name)) in
       let rest = added_mems s left_mems n (context_items bn inside us) (at s inside) in
       let p = name_of r.names u.name in
-      subst (λ xs. StandAs h' r' xs (fused_levels to (levels (kept_membranes (c.membranes_of p) ++ context_membranes c (names_of r.names us))))) (sym (here_is (at s inside) mine rest))
-      (stand_both h' r' to mine rest (kept_membranes (c.membranes_of p)) (context_membranes c (names_of r.names us)) a.0.membranes (context_membranes_stand inside n us a.1))
+      subst (λ xs. StandAs h' r' xs (fused_levels to (levels (kept_membranes (c.membranes_of (tree.open_context p)) ++ open_membranes c (names_of r.names us))))) (sym (here_is (at s inside) mine rest))
+      (stand_both h' r' to mine rest (kept_membranes (c.membranes_of (tree.open_context p))) (open_membranes c (names_of r.names us)) a.0.membranes (context_membranes_stand inside n us a.1))
 
   pub contexts_no_rules : (inside x : ℕ) (us : List CtxUse) → added_rules s (rules_in h) (context_items bn inside us) x ≡ []
   contexts_no_rules inside x [] = refl

@@ -13,7 +13,7 @@ use Rattle.lmn_congruence.specs.Process.{together}
 use Rattle.lmn_congruence.specs.Rules as tree
 use Rattle.lmn_congruence.specs.Translation.{leaf_of, levels, rules as listed_rules}
 use Rattle.lmn_adequacy.specs.Embedding.{Contents}
-use Rattle.lmn_adequacy.specs.Next.{MadeLeaves, no_made_leaf, made_atom, made_connector, made_copy, MadeLevel, made_level, MadeMembranes, no_made_membrane, made_membrane, part_leaves, kept_atoms, kept_membranes, context_atoms, context_membranes, wire_leaves}
+use Rattle.lmn_adequacy.specs.Next.{MadeLeaves, no_made_leaf, made_atom, made_connector, made_copy, MadeLevel, made_level, MadeMembranes, no_made_membrane, made_membrane, part_leaves, kept_atoms, kept_membranes, MadeContexts, made_context, no_made_context, wire_leaves}
 use Rattle.lmn_congruence.specs.Regions.{SolidAtom}
 use Rattle.lmn_solid.proofs.HeadTrees.{Head, Heads, head, no_head, head_and, size}
 use Rattle.lmn_splice.specs.Splice.{IsOneOf, of_rule, of_solid}
@@ -119,19 +119,19 @@ module _ (names : List tree.Name) (tree_at : ℕ → tree.Rule) (bn : BodyNames)
   leaves_join inside (leaf.Typed n o p ∷ ls) a f (made_copy {part = part} {outs = outs} i order d) =
       leaves_join_both to (part_leaves part) outs (made_atoms_join to part) (leaves_join inside ls a (fused_back to (typed_item (bn.part n) (bn.integer n) o.link inside ∷ []) (body_leaf_items bn inside ls) f) d)
 
-  contexts_join : (ps : List tree.Name) → Joins to (together (levels_processes (levels (context_membranes c ps))))
-  contexts_join [] = tt
-  contexts_join (p ∷ ps) = levels_join_both to (kept_membranes (c.membranes_of p)) (context_membranes c ps) (kept_membranes_join to (c.membranes_of p)) (contexts_join ps)
+  contexts_join : {ps : List tree.Context} {xs : List SolidAtom} {ks : List tree.Level} → MadeContexts c ps xs ks → Joins to (together (levels_processes (levels ks)))
+  contexts_join no_made_context = tt
+  contexts_join (made_context {ms = ms} {ks = ks} i j) = levels_join_both to (kept_membranes ms) ks (kept_membranes_join to ms) (contexts_join j)
 
   mutual
     pub level_joins : (inside next : ℕ) (hd : Head) {outs : List tree.Leaf} {inner : List tree.Level} {rs : List tree.Rule} → AllFit hd → AreFused to (flat_body bn inside next hd) → MadeLevel c (tree_of names tree_at hd) outs inner rs →
         Joins to (together (map leaf_process outs)) × Joins to (together (levels_processes (levels inner)))
-    level_joins inside next (head leaves hs cs rcs rs) a f (made_level {outs = outs} {made = made} {contexts = ps} dl dm) =
+    level_joins inside next (head leaves hs cs rcs rs) a f (made_level {outs = outs} {made = made} {ks = ks} {xs = xs} dl dm dc) =
         let L = body_leaf_items bn inside leaves in
         let D = flat_bodies bn inside next hs in
         let T = context_items bn inside cs ++ (body_rule_items inside rs ++ rule_context_items bn inside rcs) in (
-          leaves_join_both to outs (kept_atoms (context_atoms c ps)) (leaves_join inside leaves a.0 (fused_front to L (D ++ T) f) dl) (kept_atoms_join to (context_atoms c ps)),
-          levels_join_both to made (context_membranes c ps) (bodies_join inside next hs a.1 (fused_front to D T (fused_back to L (D ++ T) f)) dm) (contexts_join ps),
+          leaves_join_both to outs (kept_atoms xs) (leaves_join inside leaves a.0 (fused_front to L (D ++ T) f) dl) (kept_atoms_join to xs),
+          levels_join_both to made ks (bodies_join inside next hs a.1 (fused_front to D T (fused_back to L (D ++ T) f)) dm) (contexts_join dc),
         )
 
     bodies_join : (inside next : ℕ) (hs : Heads) {made : List tree.Level} → AllFitIn hs → AreFused to (flat_bodies bn inside next hs) → MadeMembranes c (trees_of names tree_at hs) made → Joins to (together (levels_processes (levels made)))

@@ -12,9 +12,9 @@ use Rattle.lmn_base.specs.declared.level.Level.{Level}
 use Rattle.lmn_base.specs.Names.{IsNames, HasNames, leaf_names, context_names, condition_names, level_names}
 use Rattle.lmn_congruence.specs.Orders.{Among, at_head, further, Shuffle, none, more}
 use Rattle.lmn_congruence.specs.Rules as tree
-use Rattle.lmn_congruence.specs.Translation.{name_of, names_of}
-use Rattle.lmn_adequacy.specs.Accepted.{all_contexts, contexts_in, all_rule_contexts, rule_contexts_in}
-use Rattle.lmn_solid.proofs.HeadTrees.{Head, Heads, head, no_head, head_and, head_at}
+use Rattle.lmn_congruence.specs.Translation.{context_tree, name_of, names_of}
+use Rattle.lmn_adequacy.specs.Accepted.{all_contexts, open_names, contexts_in, all_rule_contexts, rule_contexts_in}
+use Rattle.lmn_solid.proofs.HeadTrees.{Head, Heads, head, no_head, head_and, head_at, head_uses}
 use Rattle.lmn_splice.specs.Splice.{IsOneOf}
 use Rattle.lmn_body.specs.Flattening.{context_membrane, rule_context_membrane}
 use Rattle.lmn_bridge.specs.HeapRegions.{HeapReading}
@@ -22,18 +22,20 @@ use Rattle.lmn_bridge.specs.Premises.{IsRule}
 use Rattle.lmn_bridge.proofs.HeadTrees.{tree_of, trees_of, level_tree}
 use Rattle.lmn_bridge.proofs.KindConditions.{same_number}
 use Rattle.lmn_compile_body.proofs.HeadContexts.{is_in, head_names, untyped, of_rules, firsts, names_are, named_there, head_contexts, heads_contexts, same_contexts, context_used, rule_context_used, has_name, has_rule_name}
+use Rattle.lmn_compile_head.proofs.OpenHeads.{OpenHead, used_bare}
+use Rattle.lmn_turn.proofs.OpenTrees.{all_open, one_open, open_named}
 use Rattle.lmn_bridge.proofs.SameParts.{put_among}
 use Rattle.lmn_base.proofs.Lists.{all_of_left, all_of_right}
 
 -- ---- contexts of a level as names of the calculus
 
 mutual
-  tree_contexts : (names : List tree.Name) (rule : ℕ → tree.Rule) (hd : Head) → all_contexts (tree_of names rule hd) ≡ names_of names (head_contexts untyped hd)
-  tree_contexts names rule (head leaves hs cs rcs rs) = ap (λ z. names_of names cs ++ z) (trees_contexts names rule hs) ∙ sym (map-append (λ (u : CtxUse). name_of names u.name) cs (heads_contexts untyped hs))
+  tree_contexts : (names : List tree.Name) (rule : ℕ → tree.Rule) (hd : Head) → all_contexts (tree_of names rule hd) ≡ map (context_tree names) (head_contexts untyped hd)
+  tree_contexts names rule (head leaves hs cs rcs rs) = ap (λ z. map (context_tree names) cs ++ z) (trees_contexts names rule hs) ∙ sym (map-append (context_tree names) cs (heads_contexts untyped hs))
 
-  trees_contexts : (names : List tree.Name) (rule : ℕ → tree.Rule) (hs : Heads) → contexts_in (trees_of names rule hs) ≡ names_of names (heads_contexts untyped hs)
+  trees_contexts : (names : List tree.Name) (rule : ℕ → tree.Rule) (hs : Heads) → contexts_in (trees_of names rule hs) ≡ map (context_tree names) (heads_contexts untyped hs)
   trees_contexts names rule no_head = refl
-  trees_contexts names rule (head_and hd hs) = (λ i. tree_contexts names rule hd i ++ trees_contexts names rule hs i) ∙ sym (map-append (λ (u : CtxUse). name_of names u.name) (head_contexts untyped hd) (heads_contexts untyped hs))
+  trees_contexts names rule (head_and hd hs) = (λ i. tree_contexts names rule hd i ++ trees_contexts names rule hs i) ∙ sym (map-append (context_tree names) (head_contexts untyped hd) (heads_contexts untyped hs))
 
 mutual
   tree_rule_contexts : (names : List tree.Name) (rule : ℕ → tree.Rule) (hd : Head) → all_rule_contexts (tree_of names rule hd) ≡ names_of names (head_contexts of_rules hd)
@@ -42,6 +44,10 @@ mutual
   trees_rule_contexts : (names : List tree.Name) (rule : ℕ → tree.Rule) (hs : Heads) → rule_contexts_in (trees_of names rule hs) ≡ names_of names (heads_contexts of_rules hs)
   trees_rule_contexts names rule no_head = refl
   trees_rule_contexts names rule (head_and hd hs) = (λ i. tree_rule_contexts names rule hd i ++ trees_rule_contexts names rule hs i) ∙ sym (map-append (λ (u : CtxUse). name_of names u.name) (head_contexts of_rules hd) (heads_contexts of_rules hs))
+
+-- the names of the open contexts of a level without closed ones
+open_contexts : (names : List tree.Name) (rule : ℕ → tree.Rule) (hd : Head) → OpenHead hd → open_names (all_contexts (tree_of names rule hd)) ≡ names_of names (head_contexts untyped hd)
+open_contexts names rule hd o = ap open_names (tree_contexts names rule hd) ∙ open_named names (head_contexts untyped hd) (all_open hd o)
 
 shuffled_back : {A : Type 0} {xs ys : List A} → Shuffle (λ p q. p ≡ q) xs ys → {y : A} → Among y ys → Among y xs
 shuffled_back none k = elim k [ ]
@@ -65,7 +71,7 @@ all_named P [] a u i = absurd i
 all_named P (v ∷ us) a u (inl e) = subst (λ (z : CtxUse). P z.name) e (All-head P v.name (context_names us) a)
 all_named P (v ∷ us) a u (inr i) = all_named P us (All-tail P v.name (context_names us) a) u i
 
-module _ (r : HeapReading) (rule : RuleTree) (read_names : IsNames r.names) (is : IsRule r rule) where
+module _ (r : HeapReading) (rule : RuleTree) (read_names : IsNames r.names) (is : IsRule r rule) (open_head : OpenHead (head_at rule.head)) (open_body : OpenHead (head_at rule.body)) where
   abbrev P : ℕ → Type 0
   P n = n < length r.names
 
@@ -88,14 +94,15 @@ module _ (r : HeapReading) (rule : RuleTree) (read_names : IsNames r.names) (is 
   pub context_there : (u : CtxUse) → Contains (contexts_of rule.body) u → IsOneOf {A = ℕ × ℕ} (u.name, context_membrane rule.head u.name) (head_names untyped 0 1 (head_at rule.head))
   context_there u w =
       let i = is_in u (contexts_of rule.body) w in
-      let in_body = subst (λ l. Among (name_of r.names u.name) (all_contexts l)) (sym (level_tree r.names r.rule rule.body))
-      (subst (Among (name_of r.names u.name)) (sym (tree_contexts r.names r.rule (head_at rule.body))) (among_use r.names (head_contexts untyped (head_at rule.body)) u (subst (IsOneOf u) (same_contexts untyped rule.body) i))) in
-      let in_head = subst (Among (name_of r.names u.name)) (tree_contexts r.names r.rule (head_at rule.head))
-      (subst (λ l. Among (name_of r.names u.name) (all_contexts l)) (level_tree r.names r.rule rule.head) (shuffled_back is.accepted.kept in_body)) in
+      let in_body = subst (λ l. Among (name_of r.names u.name) (open_names (all_contexts l))) (sym (level_tree r.names r.rule rule.body))
+      (subst (Among (name_of r.names u.name)) (sym (open_contexts r.names r.rule (head_at rule.body) open_body)) (among_use r.names (head_contexts untyped (head_at rule.body)) u (subst (IsOneOf u) (same_contexts untyped rule.body) i))) in
+      let in_head = subst (Among (name_of r.names u.name)) (open_contexts r.names r.rule (head_at rule.head) open_head)
+      (subst (λ l. Among (name_of r.names u.name) (open_names (all_contexts l))) (level_tree r.names r.rule rule.head) (shuffled_back is.accepted.kept in_body)) in
       let v = use_among r.names (head_contexts untyped (head_at rule.head)) in_head in
       let in_list = subst (IsOneOf v.0) (sym (same_contexts untyped rule.head)) v.1 in
       let same = same_number r.names v.0.name u.name read_names (one_named v.0.name (all_named P (contexts_of rule.head) (contexts_known rule.head head_known) v.0 in_list)) (one_named u.name (all_named P (contexts_of rule.body) (contexts_known rule.body body_known) u i)) v.2 in
-      let first = subst (λ y. IsOneOf y (firsts (head_names untyped 0 1 (head_at rule.head)))) same (has_name 0 1 (head_at rule.head) (record { name = v.0.name; form = Bare; pos = v.0.pos }) (context_used (head_at rule.head) v.0 v.1) refl) in
+      let first = subst (λ y. IsOneOf y (firsts (head_names untyped 0 1 (head_at rule.head)))) same (has_name 0 1 (head_at rule.head) (record { name = v.0.name; form = Bare; pos = v.0.pos })
+      (subst (λ x. IsOneOf x (head_uses (head_at rule.head))) (used_bare v.0 (one_open (head_contexts untyped (head_at rule.head)) (all_open (head_at rule.head) open_head) v.0 v.1)) (context_used (head_at rule.head) v.0 v.1)) refl) in
       let e = sym (names_are untyped rule.head) in
       subst (λ es. IsOneOf {A = ℕ × ℕ} (u.name, context_membrane rule.head u.name) es) (names_are untyped rule.head) (named_there _ u.name (subst (λ es. IsOneOf u.name (firsts es)) e first))
 

@@ -16,7 +16,7 @@ use Rattle.lmn_congruence.specs.Links.{one_if_same}
 use Rattle.lmn_congruence.specs.Orders.{Among}
 use Rattle.lmn_congruence.specs.Regions.{region}
 use Rattle.lmn_congruence.specs.Rules as tree
-use Rattle.lmn_congruence.specs.Translation.{name_of, rule_tree}
+use Rattle.lmn_congruence.specs.Translation.{context_tree, name_of, rule_tree}
 use Rattle.lmn_adequacy.specs.Accepted.{NoConnectorLeaf, EachLevel, own_leaves as tree_leaves, own_contexts, own_rule_contexts, left_sides}
 use Rattle.lmn_adequacy.specs.Embedding.{Contents, EmbedsAt, assignment_of}
 use Rattle.lmn_adequacy.specs.Loose.{Plain, LevelImages, EachLeft}
@@ -31,6 +31,8 @@ use Rattle.lmn_base.specs.Names.{HasNames, leaf_names, level_names, context_name
 use Rattle.lmn_compile_body.specs.Accepted.{rule_body_names}
 use Rattle.lmn_base.specs.declared.level.Leaf.{Leaf}
 use Rattle.lmn_compile_head.specs.Accepted.{AcceptedHeads, AcceptedLeast, IsReady, head_items, rule_head_code}
+use Rattle.lmn_compile_head.proofs.OpenHeads.{OpenHead, accepted_open}
+use Rattle.lmn_guards.proofs.AcceptedLemmas.{in_order}
 use Rattle.lmn_compile_head.specs.Heads.{IsHead, EachInside, kind_in}
 use Rattle.lmn_compile_body.proofs.HeadContexts.{head_names, heads_names, untyped, of_rules}
 use Rattle.lmn_instr.specs.Running.{IsFirstSuccess}
@@ -56,7 +58,7 @@ use Rattle.lmn_bridge.proofs.Forests.{Grown, forms_tops, forms_grown, once_of}
 use Rattle.lmn_bridge.proofs.HeadTrees.{tree_of, level_tree}
 use Rattle.lmn_bridge.proofs.Lying.{Lies, lies}
 use Rattle.lmn_bridge.proofs.PartsOut.{flattened, parts_both}
-use Rattle.lmn_bridge.proofs.Results.{is_tree, no_rules}
+use Rattle.lmn_bridge.proofs.Results.{is_tree, no_rules, few_all}
 use Rattle.lmn_bridge.proofs.Runs.{parts_in, in_parts}
 use Rattle.lmn_bridge.proofs.Walking.{run}
 use Rattle.lmn_turn.specs.Turning.{IsLeft, IsRegisters}
@@ -65,7 +67,8 @@ use Rattle.lmn_turn.proofs.BoundIntegers.{typed_among, guard_binds}
 use Rattle.lmn_turn.proofs.Contexts.{context_there, rule_context_there}
 use Rattle.lmn_turn.proofs.Found.{found, part_at, whole_once, atoms_are, membranes_are, parts_are, membranes_read, link_is, part_is, part_ground}
 use Rattle.lmn_turn.proofs.Held.{Held, HeldLevel}
-use Rattle.lmn_turn.proofs.LeftOver.{Room, LeftThere, left_there, each_read, contexts_there, name_among}
+use Rattle.lmn_turn.proofs.LeftOver.{Room, LeftThere, left_there, each_read, contexts_there, context_among, name_among}
+use Rattle.lmn_turn.proofs.OpenTrees.{contexts_open, tree_open}
 use Rattle.lmn_turn.proofs.PartNames.{part_named}
 use Rattle.lmn_turn.proofs.PlanTypes.{plan_types}
 use Rattle.lmn_base.specs.Graphs.{Port}
@@ -86,24 +89,24 @@ module _ (h : Heap) (r : HeapReading) (read : IsRead h r) (c : Contents) (all_as
   -- what the contexts of a head stand for
   pub record HeadThere (hd : Head) : Type 0 where
     pub contexts : (e : ℕ × ℕ) → splice.IsOneOf e (head_names untyped 0 1 hd) →
-        IsLeft h r taken ks (at e.1) (region (c.atoms_of (name_of r.names e.0)) (c.membranes_of (name_of r.names e.0)) (map r.rule (rules_in h (at e.1))))
+        IsLeft h r taken ks (at e.1) (region (c.atoms_of (tree.open_context (name_of r.names e.0))) (c.membranes_of (tree.open_context (name_of r.names e.0))) (map r.rule (rules_in h (at e.1))))
     pub rules : (e : ℕ × ℕ) → splice.IsOneOf e (head_names of_rules 0 1 hd) → c.rules_of (name_of r.names e.0) ≡ map r.rule (rules_in h (at e.1))
 
-  pub head_there : (hd : Head) (m : ℕ) {ns xs : List ℕ} {ps : List (List ℕ)} {bs ms : List ℕ} {i i' : Forest} → EachLevel (λ l. NoConnectorLeaf (tree_leaves l)) (tree_of r.names r.rule hd) →
+  pub head_there : (hd : Head) (m : ℕ) {ns xs : List ℕ} {ps : List (List ℕ)} {bs ms : List ℕ} {i i' : Forest} → OpenHead hd → EachLevel (λ l. NoConnectorLeaf (tree_leaves l)) (tree_of r.names r.rule hd) →
       own_contexts (tree_of r.names r.rule hd) ≡ [] → own_rule_contexts (tree_of r.names r.rule hd) ≡ [] →
       Lies h r c.link_of c.typed_of (Held h read.valid r c) (tree_of r.names r.rule hd) bs ps ms ns (atoms_in h m) xs i i' →
       Room h read.valid r c all_as all_ps all_ms taken ks takes_as takes_ps takes_only ms_are ks_are (λ b. 0) (λ b. 0) (atoms_in h m) i bs ps ms → Reads at 1 ms → Grown h i → HeadThere hd
-  head_there (head leaves hs cs rcs rs) m {i = i} o no_c no_r (lies {bs = bs} {as' = as'} {ms = ms} {parts = parts} {ps = ps} fit dist among out inner) room reads grown =
+  head_there (head leaves hs cs rcs rs) m {i = i} op o no_c no_r (lies {bs = bs} {as' = as'} {ms = ms} {parts = parts} {ps = ps} fit dist among out inner) room reads grown =
       let deeper : Room h read.valid r c all_as all_ps all_ms taken ks takes_as takes_ps takes_only ms_are ks_are (λ b. 0 + (weigh (one_if_same b) bs + weigh (one_if_same b) (flattened parts))) (λ b. 0) [] i as' ps ms = record {
         atom_room = λ b. let u = room.atom_room b in omega (arith, u, weigh_out (one_if_same b) bs (atoms_in h m) dist among out);
         membrane_room = room.membrane_room;
         all_atoms_are = λ b. let u = room.all_atoms_are b in omega (arith, u, weigh_append (one_if_same b) bs as', parts_both (one_if_same b) parts ps);
         all_membranes_are = room.all_membranes_are;
       } in
-      let below = contexts_there h read.valid r c all_as all_ps all_ms taken ks takes_as takes_ps takes_only ms_are ks_are kind at hs 1 (λ b. 0 + (weigh (one_if_same b) bs + weigh (one_if_same b) (flattened parts))) (λ b. 0) o.1 inner deeper reads grown in
+      let below = contexts_there h read.valid r c all_as all_ps all_ms taken ks takes_as takes_ps takes_only ms_are ks_are kind at hs 1 (λ b. 0 + (weigh (one_if_same b) bs + weigh (one_if_same b) (flattened parts))) (λ b. 0) op.1 o.1 inner deeper reads grown in
       record {
         contexts = λ e w. elim (in_append e (names_inside 0 cs) (heads_names untyped 1 hs) w) [
-          | inl a ↦ absurd (nothing_among (subst (Among (name_of r.names e.0)) no_c (name_among r.names 0 cs e a).0))
+          | inl a ↦ absurd (no_context_among (subst (Among (tree.open_context (name_of r.names e.0))) no_c (context_among r.names 0 cs op.0 e a).0))
           | inr b ↦ below.contexts e b
         ];
         rules = λ e w. elim (in_append e (names_inside 0 rcs) (heads_names of_rules 1 hs) w) [
@@ -112,6 +115,9 @@ module _ (h : Heap) (r : HeapReading) (read : IsRead h r) (c : Contents) (all_as
         ];
       }
     where
+      no_context_among : {p : tree.Context} → Among p [] → ⊥
+      no_context_among k = elim k [ ]
+
       nothing_among : {p : tree.Name} → Among p [] → ⊥
       nothing_among k = elim k [ ]
 
@@ -148,6 +154,10 @@ module _ (head_law : AcceptedHeads) (least_law : AcceptedLeast) (alike : EmbedsA
   as_flat : items ≡ J
   as_flat = items_flat kind rule.head
 
+  -- none of its contexts is closed
+  opened : OpenHead (head_at rule.head) × OpenHead (head_at rule.body)
+  opened = accepted_open table rule (in_order table rule ready.accepted)
+
   is_head : IsHead items
   is_head = head_law.head table rule plan ready
 
@@ -173,7 +183,7 @@ module _ (head_law : AcceptedHeads) (least_law : AcceptedLeast) (alike : EmbedsA
   only = subst (EachLevel (λ l. NoConnectorLeaf (tree_leaves l))) tree_is is_rule.accepted.no_connectors
 
   plain : Plain (assignment_of c)
-  plain = contents_plain c ordered.root_is_free
+  plain = contents_plain c ordered.closed ordered.root_is_free
 
   holds : (n : ℕ) (u : HeadTyped) → HasTyped J n u → (p : Port) × HasLink J u.link p
   holds = subst (λ xs. (n : ℕ) (u : HeadTyped) → HasTyped xs n u → (p : Port) × HasLink xs u.link p) as_flat is_head.held
@@ -188,10 +198,10 @@ module _ (head_law : AcceptedHeads) (least_law : AcceptedLeast) (alike : EmbedsA
   numbers_are = ap (numbers_left h s.head.images 0 1 [] []) (sym as_flat)
 
   abbrev F : HeldLevel h read.valid r c (tree_of r.names r.rule (head_at rule.head)) numbers_at (atoms_in h m) mi (map r.rule (rules_in h m)) ordered.rest
-  F = found h r read kind (head_at rule.head) m mi forest.forms forest.once c plain numbers_at ordered.rest both.0 both.1 only (no_rules r rule kind is_rule) holds inside rule.guard s.head.images lies_at numbers_are
+  F = found h r read kind (head_at rule.head) m mi forest.forms forest.once c plain numbers_at ordered.rest both.0 both.1 only (no_rules r rule kind is_rule) (few_all r rule kind is_rule) holds inside rule.guard s.head.images lies_at numbers_are
 
   abbrev parts_of : ℕ → List ℕ
-  parts_of = part_at h r read kind (head_at rule.head) m mi forest.forms forest.once c plain numbers_at ordered.rest both.0 both.1 only (no_rules r rule kind is_rule) holds inside rule.guard s.head.images lies_at numbers_are
+  parts_of = part_at h r read kind (head_at rule.head) m mi forest.forms forest.once c plain numbers_at ordered.rest both.0 both.1 only (no_rules r rule kind is_rule) (few_all r rule kind is_rule) holds inside rule.guard s.head.images lies_at numbers_are
 
   abbrev N : ℕ
   N = length (atoms_of J)
@@ -201,16 +211,16 @@ module _ (head_law : AcceptedHeads) (least_law : AcceptedLeast) (alike : EmbedsA
     taken = images_of s J ++ parts
 
     images_are : images_of s J ≡ F.atoms
-    images_are = rising_run s.head.images.atom 0 N ∙ atoms_are h r read kind (head_at rule.head) m mi forest.forms forest.once c plain numbers_at ordered.rest both.0 both.1 only (no_rules r rule kind is_rule) holds inside rule.guard s.head.images lies_at numbers_are
+    images_are = rising_run s.head.images.atom 0 N ∙ atoms_are h r read kind (head_at rule.head) m mi forest.forms forest.once c plain numbers_at ordered.rest both.0 both.1 only (no_rules r rule kind is_rule) (few_all r rule kind is_rule) holds inside rule.guard s.head.images lies_at numbers_are
 
     membranes_same : membrane_images s J ≡ F.membranes
-    membranes_same = rising_run s.head.images.membrane 1 (length (membranes_of J)) ∙ membranes_are h r read kind (head_at rule.head) m mi forest.forms forest.once c plain numbers_at ordered.rest both.0 both.1 only (no_rules r rule kind is_rule) holds inside rule.guard s.head.images lies_at numbers_are
+    membranes_same = rising_run s.head.images.membrane 1 (length (membranes_of J)) ∙ membranes_are h r read kind (head_at rule.head) m mi forest.forms forest.once c plain numbers_at ordered.rest both.0 both.1 only (no_rules r rule kind is_rule) (few_all r rule kind is_rule) holds inside rule.guard s.head.images lies_at numbers_are
 
     parts_same : flattened (run parts_of 0 (length (typed_contexts_of J))) ≡ flattened F.parts
-    parts_same = parts_are h r read kind (head_at rule.head) m mi forest.forms forest.once c plain numbers_at ordered.rest both.0 both.1 only (no_rules r rule kind is_rule) holds inside rule.guard s.head.images lies_at numbers_are
+    parts_same = parts_are h r read kind (head_at rule.head) m mi forest.forms forest.once c plain numbers_at ordered.rest both.0 both.1 only (no_rules r rule kind is_rule) (few_all r rule kind is_rule) holds inside rule.guard s.head.images lies_at numbers_are
 
     has_part : (n : ℕ) (u : HeadTyped) → HasTyped J n u → HasPart h (s.head.images.part n) (parts_of n)
-    has_part = part_is h r read kind (head_at rule.head) m mi forest.forms forest.once c plain numbers_at ordered.rest both.0 both.1 only (no_rules r rule kind is_rule) holds inside rule.guard s.head.images lies_at numbers_are
+    has_part = part_is h r read kind (head_at rule.head) m mi forest.forms forest.once c plain numbers_at ordered.rest both.0 both.1 only (no_rules r rule kind is_rule) (few_all r rule kind is_rule) holds inside rule.guard s.head.images lies_at numbers_are
 
     takes_as : (b : ℕ) → In b F.atoms → In b (images_of s J ++ parts)
     takes_as b i = in_left b (images_of s J) parts (subst (In b) (sym images_are) i)
@@ -238,7 +248,7 @@ module _ (head_law : AcceptedHeads) (least_law : AcceptedLeast) (alike : EmbedsA
 
     room : Room h read.valid r c F.atoms (flattened F.parts) F.membranes taken (membrane_images s J) takes_as takes_ps takes_only ms_are ks_are (λ b. 0) (λ b. 0) (atoms_in h m) mi F.atoms F.parts F.membranes
     room = record {
-      atom_room = λ b. omega (arith, whole_once h r read kind (head_at rule.head) m mi forest.forms forest.once c plain numbers_at ordered.rest both.0 both.1 only (no_rules r rule kind is_rule) holds inside rule.guard s.head.images lies_at numbers_are b);
+      atom_room = λ b. omega (arith, whole_once h r read kind (head_at rule.head) m mi forest.forms forest.once c plain numbers_at ordered.rest both.0 both.1 only (no_rules r rule kind is_rule) (few_all r rule kind is_rule) holds inside rule.guard s.head.images lies_at numbers_are b);
       membrane_room = λ b. omega (arith, once_of b (flat mi) forest.once.1, weigh_same b (flat mi));
       all_atoms_are = λ b. omega arith;
       all_membranes_are = λ b. omega arith;
@@ -256,9 +266,9 @@ module _ (head_law : AcceptedHeads) (least_law : AcceptedLeast) (alike : EmbedsA
     }
 
     in_head : HeadThere h r read c F.atoms (flattened F.parts) F.membranes taken (membrane_images s J) takes_as takes_ps takes_only ms_are ks_are kind (at s) (head_at rule.head)
-    in_head = head_there h r read c F.atoms (flattened F.parts) F.membranes taken (membrane_images s J) takes_as takes_ps takes_only ms_are ks_are kind (at s) (head_at rule.head) m only
+    in_head = head_there h r read c F.atoms (flattened F.parts) F.membranes taken (membrane_images s J) takes_as takes_ps takes_only ms_are ks_are kind (at s) (head_at rule.head) m opened.0 only
         (ap own_contexts (sym tree_is) ∙ is_rule.accepted.top_contexts) (ap own_rule_contexts (sym tree_is) ∙ is_rule.accepted.top_rule_contexts) F.lying room
-        (membranes_read h r read kind (head_at rule.head) m mi forest.forms forest.once c plain numbers_at ordered.rest both.0 both.1 only (no_rules r rule kind is_rule) holds inside rule.guard s.head.images lies_at numbers_are)
+        (membranes_read h r read kind (head_at rule.head) m mi forest.forms forest.once c plain numbers_at ordered.rest both.0 both.1 only (no_rules r rule kind is_rule) (few_all r rule kind is_rule) holds inside rule.guard s.head.images lies_at numbers_are)
         (forms_grown h mi (mems_in h m) forest.forms)
 
   -- ---- the names that the guard binds
@@ -266,7 +276,7 @@ module _ (head_law : AcceptedHeads) (least_law : AcceptedLeast) (alike : EmbedsA
   takes : TakesParts h r kind rule s.head.images c.typed_of
   takes n u k = (
     parts_of n,
-    part_ground h r read kind (head_at rule.head) m mi forest.forms forest.once c plain numbers_at ordered.rest both.0 both.1 only (no_rules r rule kind is_rule) holds inside rule.guard s.head.images lies_at numbers_are n u
+    part_ground h r read kind (head_at rule.head) m mi forest.forms forest.once c plain numbers_at ordered.rest both.0 both.1 only (no_rules r rule kind is_rule) (few_all r rule kind is_rule) holds inside rule.guard s.head.images lies_at numbers_are n u
         (subst (λ xs. HasTyped xs n u) as_flat k),
   )
 
@@ -290,11 +300,13 @@ module _ (head_law : AcceptedHeads) (least_law : AcceptedLeast) (alike : EmbedsA
       let are' = subst (λ xs. PartAtoms h xs s.head.images parts) as_flat are in
       let back = sym as_flat in (
         record {
-          links = λ x p k. sym (link_is h r read kind (head_at rule.head) m mi forest.forms forest.once c plain numbers_at ordered.rest both.0 both.1 only (no_rules r rule kind is_rule) holds inside rule.guard s.head.images lies_at numbers_are x p
+          links = λ x p k. sym (link_is h r read kind (head_at rule.head) m mi forest.forms forest.once c plain numbers_at ordered.rest both.0 both.1 only (no_rules r rule kind is_rule) (few_all r rule kind is_rule) holds inside rule.guard s.head.images lies_at numbers_are x p
               (subst (λ xs. HasLink xs x p) as_flat k));
-          contexts = λ u w. subst (λ xs. IsLeft h r (images_of s xs ++ parts) (membrane_images s xs) (at s (context_membrane rule.head u.name)) (region (c.atoms_of (name_of r.names u.name)) (c.membranes_of (name_of r.names u.name)) (map r.rule (rules_in h (at s (context_membrane rule.head u.name)))))) back
-              ((in_head parts are').contexts (u.name, context_membrane rule.head u.name) (context_there r rule read.names is_rule u w));
-          rule_contexts = λ u w. (in_head parts are').rules (u.name, rule_context_membrane rule.head u.name) (rule_context_there r rule read.names is_rule u w);
+          contexts = λ u w. subst (λ xs. IsLeft h r (images_of s xs ++ parts) (membrane_images s xs) (at s (context_membrane rule.head u.name)) (region (c.atoms_of (context_tree r.names u)) (c.membranes_of (context_tree r.names u)) (map r.rule (rules_in h (at s (context_membrane rule.head u.name)))))) back
+              (subst (λ p. IsLeft h r (images_of s J ++ parts) (membrane_images s J) (at s (context_membrane rule.head u.name)) (region (c.atoms_of p) (c.membranes_of p) (map r.rule (rules_in h (at s (context_membrane rule.head u.name))))))
+              (sym (tree_open r.names u (contexts_open rule.body opened.1 u w)))
+              ((in_head parts are').contexts (u.name, context_membrane rule.head u.name) (context_there r rule read.names is_rule opened.0 opened.1 u w)));
+          rule_contexts = λ u w. (in_head parts are').rules (u.name, rule_context_membrane rule.head u.name) (rule_context_there r rule read.names is_rule opened.0 opened.1 u w);
           parts = λ n o p g w e. part_named h r kind rule s.head.images c.typed_of takes n g e;
           bound = bound_is;
         },

@@ -5,7 +5,7 @@ use Rattle.lmn_base.specs.declared.guard.Cond.{Cond}
 use Rattle.lmn_guards.specs.declared.plan.TypeKind.{TypeKind}
 use Rattle.lmn_heap.specs.Heap.{Heap, atoms_in, mems_in, rules_in}
 use Rattle.lmn_heap.specs.Lists.{Distinct}
-use Rattle.lmn_heap.specs.Sound.{Forest, flat, Forms, Valid}
+use Rattle.lmn_heap.specs.Sound.{Forest, bare, mem, flat, Forms, Valid}
 use Rattle.lmn_solid.specs.declared.items.HeadItem.{HeadItem}
 use Rattle.lmn_solid.specs.Heads.{HeadAtom, HeadTyped, atoms_of, typed_contexts_of, membranes_of, inside_of}
 use Rattle.lmn_solid.specs.Embeddings.{Images, Embeds, HasLink, HasAtom, HasTyped}
@@ -22,12 +22,15 @@ use Rattle.lmn_bridge.specs.HeapRegions.{HeapReading, regions_at, region_at}
 use Rattle.lmn_bridge.specs.Numbers.{numbers_left}
 use Rattle.lmn_bridge.specs.Premises.{IsRead}
 use Rattle.lmn_bridge.specs.Parts.{HasPart, IsGroundPart}
-use Rattle.lmn_bridge.proofs.Back.{Reads, walk_level, Stood}
-use Rattle.lmn_bridge.proofs.Contexts.{NoRules}
-use Rattle.lmn_bridge.proofs.Counting.{weigh_same, list_atoms, tree_atoms, forest_atoms}
-use Rattle.lmn_bridge.proofs.Forests.{forms_tops, forms_grown, once_of, some_of, tree_once, distinct_of}
+use Rattle.lmn_bridge.proofs.Back.{Placed, Reads, walk_level, Stood}
+use Rattle.lmn_bridge.proofs.Contexts.{Few, NoRules}
+use Rattle.lmn_bridge.proofs.Counting.{weigh_same, list_atoms, times_at, tree_atoms, forest_atoms}
+use Rattle.lmn_bridge.proofs.Forests.{each_tree, forms_tops, forms_grown, once_of, some_of, tree_once, distinct_of}
 use Rattle.lmn_bridge.proofs.HeadTrees.{tree_of}
 use Rattle.lmn_bridge.proofs.Laying.{AtomLies, MembraneLies, TypedLies, all_atoms, all_parts, all_membranes, total}
+use Rattle.lmn_bridge.proofs.Into.{two_ends}
+use Rattle.lmn_bridge.proofs.Keeping.{carry_level, left_apart}
+use Rattle.lmn_bridge.proofs.Lying.{Kept, Lies}
 use Rattle.lmn_bridge.proofs.Lengths.{level_length}
 use Rattle.lmn_bridge.proofs.Numbering.{level_numbers}
 use Rattle.lmn_bridge.proofs.Occurrences.{times_are, times_parts, port_counts, typed_counts}
@@ -55,7 +58,7 @@ reads_run g n (b ∷ bs) h = λ j. h.0 j ∷ reads_run g (n + 1) bs h.1 j
 
 module _ (h : Heap) (r : HeapReading) (read : IsRead h r) (kind : ℕ → TypeKind) (hd : Head) (m : ℕ) (inner : Forest) (forms : Forms h inner (mems_in h m)) (once : Distinct (m ∷ flat inner))
     (c : Contents) (plain : Plain (assignment_of c)) (ns : List ℕ) (rest : Region) (images : LevelImages (assignment_of c) (tree_of r.names r.rule hd) ns (region_at h r m inner) rest) (left : EachLeft c images)
-    (o : EachLevel (λ l. NoConnectorLeaf (own_leaves l)) (tree_of r.names r.rule hd)) (none : EachLevel NoRules (tree_of r.names r.rule hd))
+    (o : EachLevel (λ l. NoConnectorLeaf (own_leaves l)) (tree_of r.names r.rule hd)) (none : EachLevel NoRules (tree_of r.names r.rule hd)) (few : EachLevel Few (tree_of r.names r.rule hd))
     (holds_typed : (n : ℕ) (u : HeadTyped) → HasTyped (flat_items kind 0 1 hd) n u → (p : Port) × HasLink (flat_items kind 0 1 hd) u.link p) (inside : EachInside 0 (flat_items kind 0 1 hd))
     (guard : List Cond) (f : Images) (em : Embeds h (flat_items kind 0 1 hd) guard m f) (numbers : numbers_left h f 0 1 [] [] (flat_items kind 0 1 hd) ≡ ns) where
   abbrev items : List HeadItem
@@ -131,8 +134,27 @@ module _ (h : Heap) (r : HeapReading) (read : IsRead h r) (kind : ℕ → TypeKi
   facts = walk_from (λ n a. Unit {0}) (λ n a. total h r f part_at c.link_of c.typed_of items a.link ≢ 1) (λ k n. (inside_of (membranes_of items) k ≡ n.inside) × (k ≤ length (membranes_of items))) items 0 0 1
       (λ i a e. tt) (λ i a e. typed_twice i a e) (λ i n e. let z : 1 + i ≡ suc i = omega arith in (rw z (get_inside (membranes_of items) i n e), omega (arith, get_below (membranes_of items) i n e)))
 
+  -- in each membrane what is left is apart
+  placed : Lies h r c.link_of c.typed_of (Placed h v r read.naming f part_at t plain items kind) (tree_of r.names r.rule hd) found.atoms found.parts found.membranes ns (atoms_in h m) found.left_atoms inner found.left_forest
+  placed = carry_level h r f part_at c.link_of c.typed_of items (Kept h r t) (Placed h v r read.naming f part_at t plain items kind)
+      (λ el ea em' l m bs ps ms ns xs i i' d k x s. (k, left_apart h r f part_at c.link_of c.typed_of items el ea em' d x))
+      (λ x. 0) (λ b. 0) (λ b. 0) (lies_kept h v r c found.lying)
+      (record {
+        link_room = λ x.
+            let u = two_ends h v r read.naming (c.link_of x) (tree_atoms h m inner) (each_tree h v m inner) (tree_once h v m inner whole) in
+            omega (arith, u, weigh_append (times_at h r (c.link_of x)) (atoms_in h m) (forest_atoms h inner));
+        atom_room = λ b. omega (arith, whole_once b);
+        membrane_room = λ b. omega (arith, once_of b (flat inner) once.1, weigh_same b (flat inner));
+        all_atoms_are = λ b. omega (arith, ap (weigh (one_if_same b)) atoms_are, ap (weigh (one_if_same b)) parts_are);
+        all_membranes_are = λ b. omega (arith, ap (weigh (one_if_same b)) membranes_are);
+      })
+      (λ x. omega (arith, times_are r.names r.rule kind x 0 1 hd))
+    where
+      whole : Distinct (flat (mem m inner bare))
+      whole = subst (λ z. Distinct (m ∷ z)) (sym (plus_nothing (flat inner))) once
+
   stood : Stood h v r read.naming f part_at t plain items kind 0 0 1 items found.atoms found.parts found.membranes
-  stood = walk_level h v r read.naming f part_at t plain items kind 0 1 0 0 hd m em.lies.here (omega arith) o none facts (lies_kept h v r c found.lying)
+  stood = walk_level h v r read.naming f part_at t plain items kind 0 1 0 0 hd m em.lies.here (omega arith) o none few facts placed
       atoms_read parts_read membranes_read
       (forms_tops h inner (mems_in h m) forms) (forms_grown h inner (mems_in h m) forms) (inl refl)
       (λ x. omega (arith, times_are r.names r.rule kind x 0 1 hd))

@@ -6,7 +6,7 @@ use Rattle.lmn_heap.specs.Sound.{Forest, bare, mem, Forms, Valid}
 use Rattle.lmn_heap.proofs.ListLemmas.{in_left, in_right}
 use Rattle.lmn_congruence.specs.Orders.{Among, at_head, further}
 use Rattle.lmn_congruence.specs.Regions.{SolidAtom, Region, Regions, region, region_process}
-use Rattle.lmn_congruence.specs.Rules.{Leaf, Level, Levels, Name, Rule, level}
+use Rattle.lmn_congruence.specs.Rules.{Context, Leaf, Level, Levels, Name, Rule, level}
 use Rattle.lmn_congruence.specs.UpToOrder.{Reordered}
 use Rattle.lmn_reduction.specs.Assignments.{Assignment}
 use Rattle.lmn_reduction.specs.Parts.{Rooted}
@@ -112,7 +112,7 @@ module _ (h : Heap) (v : Valid h) (r : HeapReading) (c : Contents) where
 -- ---- what contexts stand for
 
 -- what is left to a context is what it stands for
-pub context_is : (c : Contents) {ps : List Name} {xs : List SolidAtom} {ms : Regions} → LeftToContext c ps xs ms → {p : Name} → Among p ps → (c.atoms_of p ≡ xs) × (c.membranes_of p ≡ ms)
+pub context_is : (c : Contents) {ps : List Context} {xs : List SolidAtom} {ms : Regions} → LeftToContext c ps xs ms → {p : Context} → Among p ps → (c.atoms_of p ≡ xs) × (c.membranes_of p ≡ ms)
 context_is c no_context k = elim k [ ]
 context_is c one_context at_head = (refl, refl)
 context_is c one_context (further k) = elim k [ ]

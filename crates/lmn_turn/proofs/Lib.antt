@@ -6,6 +6,7 @@ mod Locals
 mod CopyLinks
 mod EachCopy
 mod CopyMaps
+mod OpenTrees
 mod OwnLinks
 mod Bodies
 mod MadeLevels

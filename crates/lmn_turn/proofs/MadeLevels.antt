@@ -8,9 +8,9 @@ use Rattle.lmn_heap.specs.Heap.{Heap, atoms_in, rules_in, mems_in}
 use Rattle.lmn_congruence.specs.Plains.{fused_leaves, fused_levels}
 use Rattle.lmn_congruence.specs.Regions as region
 use Rattle.lmn_congruence.specs.Rules as tree
-use Rattle.lmn_congruence.specs.Translation.{names_of, levels, rules as listed_rules, solid_atom_of}
+use Rattle.lmn_congruence.specs.Translation.{leaf_of, names_of, levels, rules as listed_rules, solid_atom_of}
 use Rattle.lmn_adequacy.specs.Embedding.{Contents}
-use Rattle.lmn_adequacy.specs.Next.{kept_atoms, context_atoms, context_membranes, context_rules}
+use Rattle.lmn_adequacy.specs.Next.{kept_atoms, context_rules}
 use Rattle.lmn_solid.proofs.HeadTrees.{Head, Heads, head, no_head, head_and, size, sizes}
 use Rattle.lmn_bridge.specs.HeapRegions.{HeapReading, atoms_at}
 use Rattle.lmn_bridge.proofs.HeadTrees.{tree_of, trees_of}
@@ -19,10 +19,12 @@ use Rattle.lmn_body.specs.Running.{Registers}
 use Rattle.lmn_body.specs.Added.{added_mems, added_rules}
 use Rattle.lmn_body.specs.Within.{added_with_copies}
 use Rattle.lmn_compile_body.proofs.BodyTrees.{flat_body, flat_bodies}
+use Rattle.lmn_compile_head.proofs.OpenHeads.{OpenHead, OpenHeads}
+use Rattle.lmn_turn.proofs.OpenTrees.{open_trees}
 use Rattle.lmn_turn.specs.Standing.{StandAs, none_stands, one_stands}
 use Rattle.lmn_turn.proofs.Standings.{stand_both}
 use Rattle.lmn_turn.proofs.CopyLinks.{Block}
-use Rattle.lmn_turn.proofs.OwnLinks.{OwnLevel, OwnMembranes, own_level, own_membrane, own_no_membrane}
+use Rattle.lmn_turn.proofs.OwnLinks.{open_atoms, open_membranes, OwnLevel, OwnMembranes, own_level, own_membrane, own_no_membrane}
 use Rattle.lmn_turn.proofs.Adders.{at, many, past, Adder, atoms_adder, mems_adder, rules_adder, here_is}
 use Rattle.lmn_turn.proofs.Locals.{Local, LocalIn, after_leaves, after_level, after_levels, local_inside, local_first, local_rest, body_misses, many_flat, no_leaf_membrane}
 use Rattle.lmn_turn.proofs.Bodies.{BodyAgrees, BodiesAgree, fused_both, leaves_made, leaves_make, leaf_atoms, leaf_adds, context_atoms_are, context_membranes_stand, contexts_no_rules, rules_alone, rule_contexts_alone, rules_are, rule_contexts_are}
@@ -61,14 +63,14 @@ module _ (h h' : Heap) (r : HeapReading) (name : ℕ → ℕ → ℕ) (s : Regis
   -- ---- what a level makes
 
   abbrev pub level_leaves : ℕ → Head → List tree.Leaf
-  level_leaves k (head leaves hs cs rcs rs) = leaves_made h h' r r' s bn c left left_mems to limit copy part k leaves ++ kept_atoms (context_atoms c (names_of r.names cs))
+  level_leaves k (head leaves hs cs rcs rs) = leaves_made h h' r r' s bn c left left_mems to limit copy part k leaves ++ kept_atoms (open_atoms c (names_of r.names cs))
 
   abbrev pub level_rules : Head → List tree.Rule
   level_rules (head leaves hs cs rcs rs) = tree.rules_list (listed_rules (map r.rule rs)) ++ context_rules c (names_of r.names rcs)
 
   abbrev mutual
     pub level_membranes : ℕ → Head → List tree.Level
-    level_membranes k (head leaves hs cs rcs rs) = membranes_made (after_leaves bn k leaves) hs ++ context_membranes c (names_of r.names cs)
+    level_membranes k (head leaves hs cs rcs rs) = membranes_made (after_leaves bn k leaves) hs ++ open_membranes c (names_of r.names cs)
 
     pub membranes_made : ℕ → Heads → List tree.Level
     membranes_made k no_head = []
@@ -76,13 +78,17 @@ module _ (h h' : Heap) (r : HeapReading) (name : ℕ → ℕ → ℕ) (s : Regis
 
   mutual
     -- it is what the calculus says
-    pub level_makes : (k : ℕ) (hd : Head) → BodyAgrees h h' r r' s bn c left left_mems to limit copy part k hd →
+    pub level_makes : (k : ℕ) (hd : Head) → OpenHead hd → BodyAgrees h h' r r' s bn c left left_mems to limit copy part k hd →
         OwnLevel c (Block limit) k (after_level bn k hd) (tree_of r.names r.rule hd) (level_leaves k hd) (level_membranes k hd) (level_rules hd)
-    level_makes k (head leaves hs cs rcs rs) a = own_level (leaves_make h h' r r' s bn c left left_mems to limit copy part 0 k leaves a.0) (membranes_make (after_leaves bn k leaves) hs a.3)
+    level_makes k (head leaves hs cs rcs rs) o a =
+        let L = head leaves hs cs rcs rs in
+        subst (λ ps. OwnLevel c (Block limit) k (after_level bn k L) (tree.level (map (leaf_of r.names) leaves) (trees_of r.names r.rule hs) ps (names_of r.names rcs) (listed_rules (map r.rule rs))) (level_leaves k L) (level_membranes k L) (level_rules L))
+        (sym (open_trees r.names cs o.0))
+        (own_level (names_of r.names cs) (leaves_make h h' r r' s bn c left left_mems to limit copy part 0 k leaves a.0) (membranes_make (after_leaves bn k leaves) hs o.1 a.3))
 
-    pub membranes_make : (k : ℕ) (hs : Heads) → BodiesAgree h h' r r' s bn c left left_mems to limit copy part k hs → OwnMembranes c (Block limit) k (after_levels bn k hs) (trees_of r.names r.rule hs) (membranes_made k hs)
-    membranes_make k no_head a = own_no_membrane
-    membranes_make k (head_and hd hs) a = own_membrane (level_makes k hd a.0) (membranes_make (after_level bn k hd) hs a.1)
+    pub membranes_make : (k : ℕ) (hs : Heads) → OpenHeads hs → BodiesAgree h h' r r' s bn c left left_mems to limit copy part k hs → OwnMembranes c (Block limit) k (after_levels bn k hs) (trees_of r.names r.rule hs) (membranes_made k hs)
+    membranes_make k no_head o a = own_no_membrane
+    membranes_make k (head_and hd hs) o a = own_membrane (level_makes k hd o.0 a.0) (membranes_make (after_level bn k hd) hs o.1 a.1)
 
   -- what the membranes of a level add to the one round them: themselves
   bodies_add : (inside next k : ℕ) (hs : Heads) → Apart inside next (sizes hs) →
@@ -185,12 +191,12 @@ module _ (h h' : Heap) (r : HeapReading) (name : ℕ → ℕ → ℕ) (s : Regis
           let inner = bodies_stand hs inside next after u l i t agrees.3 (local_inside bn s A low B low high apart inside next k leaves hs cs rcs rs u l i t LA) (local_inside bn s M low B low high apart inside next k leaves hs cs rcs rs u l i t LM)
           (local_inside bn s R low B low high apart inside next k leaves hs cs rcs rs u l i t LR) in
           record {
-            atoms = fused_both to outs (kept_atoms (context_atoms c (names_of r.names cs)))
+            atoms = fused_both to outs (kept_atoms (open_atoms c (names_of r.names cs)))
                 ∙ (λ j. leaf_atoms h h' r r' s bn c left left_mems to limit copy part inside k leaves agrees.0 j ++ context_atoms_are h h' r r' s bn c left left_mems to limit copy part inside adds.0.0 cs agrees.1 j)
                 ∙ sym (map-append (solid_atom_of r.names) (added_with_copies s left copy (λ z. to (of_rule z)) k (body_leaf_items bn inside leaves) x) (added_with_copies s left copy (λ z. to (of_rule z)) adds.0.0 (context_items bn inside cs) x))
                 ∙ ap (map (solid_atom_of r.names)) (sym adds.0.1) ∙ ap (map (solid_atom_of r.names)) (sym (LA inside (inl refl)));
-            membranes = subst (λ xs. StandAs h' r' xs (fused_levels to (levels (membranes_made after hs ++ context_membranes c (names_of r.names cs))))) (sym (LM inside (inl refl) ∙ adds.1.1))
-                (stand_both h' r' to (children next hs) (added_mems s left_mems adds.1.0 (context_items bn inside cs) x) (membranes_made after hs) (context_membranes c (names_of r.names cs)) inner
+            membranes = subst (λ xs. StandAs h' r' xs (fused_levels to (levels (membranes_made after hs ++ open_membranes c (names_of r.names cs))))) (sym (LM inside (inl refl) ∙ adds.1.1))
+                (stand_both h' r' to (children next hs) (added_mems s left_mems adds.1.0 (context_items bn inside cs) x) (membranes_made after hs) (open_membranes c (names_of r.names cs)) inner
                 (context_membranes_stand h h' r r' s bn c left left_mems to limit copy part inside adds.1.0 cs agrees.1));
             rules = (λ j. (rules_listed (map r.rule rs) ∙ rules_are h h' r r' s bn c left left_mems to limit copy part inside rs) j ++ rule_contexts_are h h' r r' s bn c left left_mems to limit copy part inside rcs agrees.2 j)
                 ∙ sym (map-append r.rule (added_rules s (rules_in h) (body_rule_items inside rs) x) (added_rules s (rules_in h) (rule_context_items bn inside rcs) x))

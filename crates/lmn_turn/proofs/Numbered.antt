@@ -64,7 +64,7 @@ fresh_atom h f n k as' ms {fu} {ls} {i} {xs} p = record {
   mems_differ = p.mems_differ;
 }
 
-fresh_membrane : (h : Heap) (f : Images) (n k : ℕ) (as' ms : List ℕ) {i : ℕ} {c rc : Bool} {xs : List HeadItem} → Fresh h f n k as' ms (Membrane i c rc ∷ xs) → Fresh h f n (k + 1) as' (ms ++ f.membrane k ∷ []) xs
+fresh_membrane : (h : Heap) (f : Images) (n k : ℕ) (as' ms : List ℕ) {i : ℕ} {c cl rc : Bool} {xs : List HeadItem} → Fresh h f n k as' ms (Membrane i c cl rc ∷ xs) → Fresh h f n (k + 1) as' (ms ++ f.membrane k ∷ []) xs
 fresh_membrane h f n k as' ms p = record {
   atoms = p.atoms;
   atoms_new = p.atoms_new;
@@ -113,12 +113,12 @@ same_images h f g i n k as' ms (Atom fu ls inside ∷ xs) q e m p s =
 same_images h f g i n k as' ms (Typed x kd l inside ∷ xs) q e m p s =
     let rest = same_images h f g i n k as' ms xs q e.1 m (record { atoms = p.atoms; atoms_new = p.atoms_new; atoms_differ = p.atoms_differ; mems = p.mems; mems_new = p.mems_new; mems_differ = p.mems_differ }) s in
     record { atoms = rest.atoms; mems = rest.mems }
-same_images h f g i n k as' ms (Membrane inside c rc ∷ xs) q e m p s =
+same_images h f g i n k as' ms (Membrane inside c cl rc ∷ xs) q e m p s =
     let home = m inside e.0 in
     let first = heads_same _ _ _ _ s in
     let y : k + 0 ≡ k = omega arith in
     let here : In (f.membrane k) (without_all ms (mems_in h (f.membrane inside))) = in_without_all ms (mems_in h (f.membrane inside)) (f.membrane k)
-    (subst (λ w. In (f.membrane w) (mems_in h (f.membrane inside))) y (p.mems 0 (record { inside = inside; has_context = c; has_rule_context = rc }) refl)) (λ b j w. p.mems_new b 0 j (omega arith) (w ∙ ap f.membrane (sym y))) in
+    (subst (λ w. In (f.membrane w) (mems_in h (f.membrane inside))) y (p.mems 0 (record { inside = inside; has_context = c; has_closed_context = cl; has_rule_context = rc }) refl)) (λ b j w. p.mems_new b 0 j (omega arith) (w ∙ ap f.membrane (sym y))) in
     let same = index_same (f.membrane k) (g.membrane k) (without_all ms (mems_in h (f.membrane inside))) here (first.0 ∙ ap (λ z. index_of (g.membrane k) (without_all ms (mems_in h z))) (sym home)) in
     let more : (j : ℕ) → j ≤ i + 1 → f.membrane j ≡ g.membrane j = λ j l. elim (cases_eq j k) [ inl w ↦ subst (λ z. f.membrane z ≡ g.membrane z) (sym w) same | inr w ↦ m j (omega (arith, l, w, q)) ] in
     let rest = same_images h f g (i + 1) n (k + 1) as' (ms ++ f.membrane k ∷ []) xs (omega (arith, q)) e.1 more (fresh_membrane h f n k as' ms p)

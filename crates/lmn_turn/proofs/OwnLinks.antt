@@ -7,26 +7,27 @@ use Rattle.lmn_congruence.specs.Orders.{Among, at_head, further}
 use Rattle.lmn_congruence.specs.Plains.{leaf_process, level_process}
 use Rattle.lmn_congruence.specs.Process.{Closed, Process, occurrences, pair, renamed, together, Free}
 use Rattle.lmn_congruence.specs.Regions.{Region, SolidAtom, region_process}
-use Rattle.lmn_congruence.specs.Rules.{Label, Leaf, Level, Levels, Name, Rule, Rules, atom_leaf, body_of, connector_leaf, head_of, level, level_and, no_level, no_rule, rules_list, typed_leaf}
+use Rattle.lmn_congruence.specs.Rules.{Label, Leaf, Level, Levels, Name, Rule, Rules, atom_leaf, body_of, connector_leaf, head_of, level, level_and, no_level, no_rule, open_context, rules_list, typed_leaf}
 use Rattle.lmn_congruence.specs.Translation.{levels, rules as listed_rules}
 use Rattle.lmn_congruence.proofs.Counts.{none_if_apart, one_if_equal}
 use Rattle.lmn_congruence.proofs.Crossings.{occurs_below}
+use Rattle.lmn_congruence.proofs.Renaming.{occurrences_image, occurrences_none}
 use Rattle.lmn_congruence.proofs.Reordered.{reordered_count}
 use Rattle.lmn_reduction.specs.Assignments.{Assignment}
 use Rattle.lmn_reduction.specs.Firing.{typed_contexts, typed_contexts_in, typed_leaves}
-use Rattle.lmn_adequacy.specs.Accepted.{Accepted, all_contexts, contexts_in}
-use Rattle.lmn_adequacy.specs.Embedding.{IsPart, Contents, EmbedsAt, assignment_of}
+use Rattle.lmn_adequacy.specs.Accepted.{Accepted, all_contexts, contexts_in, open_names}
+use Rattle.lmn_adequacy.specs.Embedding.{IsPart, Contents, EmbedsAt, assignment_of, region_of}
 use Rattle.lmn_adequacy.specs.Loose.{LevelImages, Plain}
-use Rattle.lmn_adequacy.specs.Next.{DepthFirst, MadeLeaves, MadeLevel, MadeMembranes, context_atoms, context_membranes, context_rules, kept_atoms, links_at, made_atom, part_leaves, made_connector, made_copy, made_level, made_membrane, no_made_leaf, no_made_membrane, raw_level, wire_leaves}
+use Rattle.lmn_adequacy.specs.Next.{DepthFirst, MadeContexts, MadeLeaves, MadeLevel, MadeMembranes, context_rules, kept_atoms, kept_membranes, links_at, made_context, made_open, no_made_context, made_atom, part_leaves, made_connector, made_copy, made_level, made_membrane, no_made_leaf, no_made_membrane, raw_level, wire_leaves}
 use Rattle.lmn_adequacy.proofs.Accepting.{accepted_bare}
-use Rattle.lmn_adequacy.proofs.Bodies.{Copied, LevelMade, Whole, context_places, context_places_append, odd_contexts, odd_not_even}
+use Rattle.lmn_adequacy.proofs.Bodies.{Copied, LevelMade, Whole, context_places, odd_not_even, open_places_append}
 use Rattle.lmn_adequacy.proofs.Closing.{body_whole, head_whole, raw_closes}
 use Rattle.lmn_adequacy.proofs.Commits.{closed_as}
 use Rattle.lmn_adequacy.proofs.Copies.{made_places}
 use Rattle.lmn_adequacy.proofs.Existence.{level_bound}
-use Rattle.lmn_adequacy.proofs.InOrder.{contents_plain, contexts_listed, held, level_images_of, level_listed, listed, listed_both, made_process, raw_joined, together_both}
-use Rattle.lmn_adequacy.proofs.RawProcesses.{head_wires, made}
-use Rattle.lmn_adequacy.proofs.Skeleton.{level_skeleton, no_even_contexts, places_even}
+use Rattle.lmn_adequacy.proofs.InOrder.{contents_plain, contexts_both, held, level_images_of, level_listed, listed, listed_both, made_process, raw_joined, together_both}
+use Rattle.lmn_adequacy.proofs.RawProcesses.{head_wires}
+use Rattle.lmn_adequacy.proofs.Skeleton.{level_skeleton, places_even}
 use Rattle.lmn_turn.proofs.PartLinks.{part_links_twice, part_root_once}
 use Rattle.lmn_splice.specs.Splice.{of_rule, of_solid}
 use Rattle.lmn_base.proofs.Numbers.{same_or_not}
@@ -34,6 +35,27 @@ use Rattle.lmn_congruence.proofs.TranslatedLinks.{no_link_in_rules as no_link_ru
 use Rattle.lmn_splice.proofs.Fusions.{apart_rule as even_not_odd, rule_once as even_differs, solid_once as odd_differs}
 use Rattle.lmn_congruence.proofs.Common.{among_left, among_right, places_among}
 use Rattle.lmn_reduction.specs.Parts.{Rooted}
+
+-- ---- what open contexts make
+
+-- the atoms for which some open contexts stand
+abbrev pub open_atoms : Contents → List Name → List SolidAtom
+open_atoms c [] = []
+open_atoms c (p ∷ ps) = c.atoms_of (open_context p) ++ open_atoms c ps
+
+-- and the membranes
+abbrev pub open_membranes : Contents → List Name → List Level
+open_membranes c [] = []
+open_membranes c (p ∷ ps) = kept_membranes (c.membranes_of (open_context p)) ++ open_membranes c ps
+
+open_made : (c : Contents) (ps : List Name) → MadeContexts c (map open_context ps) (open_atoms c ps) (open_membranes c ps)
+open_made c [] = no_made_context
+open_made c (p ∷ ps) = made_context {ms = c.membranes_of (open_context p)} made_open (open_made c ps)
+
+-- their names are those that they have
+open_again : (ps : List Name) → open_names (map open_context ps) ≡ ps
+open_again [] = refl
+open_again (p ∷ ps) = ap (λ qs. p ∷ qs) (open_again ps)
 
 -- ---- what is made, with the numbers of the copies
 
@@ -52,9 +74,9 @@ module _ (c : Contents) (Block : ℕ → ℕ → Type 0) where
 
   mutual
     pub data OwnLevel : ℕ → ℕ → Level → List Leaf → List Level → List Rule → Type 0 where
-      own_level : {k i j : ℕ} {leaves outs : List Leaf} {membranes : Levels} {inner : List Level} {contexts rule_contexts : List Name} {rules : Rules} →
+      own_level : {k i j : ℕ} {leaves outs : List Leaf} {membranes : Levels} {inner : List Level} (contexts : List Name) {rule_contexts : List Name} {rules : Rules} →
           OwnLeaves k i leaves outs → OwnMembranes i j membranes inner →
-          OwnLevel k j (level leaves membranes contexts rule_contexts rules) (outs ++ kept_atoms (context_atoms c contexts)) (inner ++ context_membranes c contexts) (rules_list rules ++ context_rules c rule_contexts)
+          OwnLevel k j (level leaves membranes (map open_context contexts) rule_contexts rules) (outs ++ kept_atoms (open_atoms c contexts)) (inner ++ open_membranes c contexts) (rules_list rules ++ context_rules c rule_contexts)
 
     pub data OwnMembranes : ℕ → ℕ → Levels → List Level → Type 0 where
       own_no_membrane : {k : ℕ} → OwnMembranes k k no_level []
@@ -71,7 +93,7 @@ module _ (c : Contents) (Block : ℕ → ℕ → Type 0) where
   mutual
     -- it is what a body makes
     pub own_made : {k j : ℕ} {l : Level} {outs : List Leaf} {inner : List Level} {rs : List Rule} → OwnLevel k j l outs inner rs → MadeLevel c l outs inner rs
-    own_made (own_level d e) = made_level (leaves_made d) (membranes_made e)
+    own_made (own_level ps d e) = made_level (leaves_made d) (membranes_made e) (open_made c ps)
 
     membranes_made : {k j : ℕ} {ls : Levels} {inner : List Level} → OwnMembranes k j ls inner → MadeMembranes c ls inner
     membranes_made own_no_membrane = no_made_membrane
@@ -151,12 +173,12 @@ module _ (c : Contents) (Block : ℕ → ℕ → Type 0) where
       pub record LevelOwn (k j : ℕ) (l : Level) (outs : List Leaf) (inner : List Level) (rs : List Rule) : Type 0 where
         pub later : k ≤ j
         pub count : (x : ℕ) → occurrences (of_rule x) (listed outs inner rs) ≡ level_occurrences x l
-        pub odd : (L : ℕ) → Blocks k j L (context_places t p L (all_contexts l)) (occurrences (of_solid L) (listed outs inner rs))
+        pub odd : (L : ℕ) → Blocks k j L (context_places t p L (open_names (all_contexts l))) (occurrences (of_solid L) (listed outs inner rs))
 
       pub record LevelsOwn (k j : ℕ) (ls : Levels) (inner : List Level) : Type 0 where
         pub later : k ≤ j
         pub count : (x : ℕ) → occurrences (of_rule x) (together (map held inner)) ≡ levels_occurrences x ls
-        pub odd : (L : ℕ) → Blocks k j L (context_places t p L (contexts_in ls)) (occurrences (of_solid L) (together (map held inner)))
+        pub odd : (L : ℕ) → Blocks k j L (context_places t p L (open_names (contexts_in ls))) (occurrences (of_solid L) (together (map held inner)))
 
       abbrev Ready : List Name → Type 0
       Ready ps = (q : Name) → Among q ps → Whole (c.typed_of q)
@@ -203,23 +225,41 @@ module _ (c : Contents) (Block : ℕ → ℕ → Type 0) where
           alone L (inl e) = record { copies = places (of_solid L) (links_at part); is = omega arith; whole = inl e }
           alone L (inr e) = record { copies = places (of_solid L) (links_at part); is = omega arith; whole = inr (e.0, k, omega arith, omega arith, e.1) }
 
-      level_count : (z : ℕ) (outs : List Leaf) (ms : List Level) (ps qs : List Name) (rs : List Rule)
-          → occurrences z (listed (outs ++ kept_atoms (context_atoms c ps)) (ms ++ context_membranes c ps) (rs ++ context_rules c qs)) ≡ (occurrences z (together (map leaf_process outs)) + occurrences z (together (map held ms))) + occurrences z (together (map (made t).context_of ps))
-      level_count z outs ms ps qs rs =
-          omega (arith, reordered_count (listed_both outs (kept_atoms (context_atoms c ps)) ms (context_membranes c ps) rs (context_rules c qs)) z, no_link_rules z rs, no_link_rules z (context_rules c qs), reordered_count (contexts_listed c ps) z)
+      level_count : (z : ℕ) (outs : List Leaf) (ms ks : List Level) (xs : List SolidAtom) (qs : List Name) (rs : List Rule)
+          → occurrences z (listed (outs ++ kept_atoms xs) (ms ++ ks) (rs ++ context_rules c qs)) ≡ (occurrences z (together (map leaf_process outs)) + occurrences z (together (map held ms))) + occurrences z (listed (kept_atoms xs) ks [])
+      level_count z outs ms ks xs qs rs =
+          omega (arith, reordered_count (listed_both outs (kept_atoms xs) ms ks rs (context_rules c qs)) z, no_link_rules z rs, no_link_rules z (context_rules c qs))
+
+      -- what the items of open contexts have of a link
+      open_count : (z : ℕ) (q : Name) (ps : List Name) → occurrences z (listed (kept_atoms (open_atoms c (q ∷ ps))) (open_membranes c (q ∷ ps)) [])
+          ≡ occurrences z (renamed of_solid (region_process (region_of c (open_context q)))) + occurrences z (listed (kept_atoms (open_atoms c ps)) (open_membranes c ps) [])
+      open_count z q ps = reordered_count (contexts_both c (c.atoms_of (open_context q)) (open_atoms c ps) (c.membranes_of (open_context q)) (open_membranes c ps)) z
+
+      no_even_open : (x : ℕ) (ps : List Name) → occurrences (of_rule x) (listed (kept_atoms (open_atoms c ps)) (open_membranes c ps) []) ≡ 0
+      no_even_open x [] = refl
+      no_even_open x (q ∷ ps) =
+          let none = occurrences_none of_solid (of_rule x) (region_process (region_of c (open_context q))) (λ y o e. even_not_odd x y (sym e)) in
+          omega (arith, open_count (of_rule x) q ps, none, no_even_open x ps)
+
+      odd_open : (L : ℕ) (ps : List Name) → occurrences (of_solid L) (listed (kept_atoms (open_atoms c ps)) (open_membranes c ps) []) ≡ context_places t p L ps
+      odd_open L [] = refl
+      odd_open L (q ∷ ps) =
+          let image = occurrences_image of_solid L (region_process (region_of c (open_context q))) (λ z o e. odd_differs z L e) in
+          omega (arith, open_count (of_solid L) q ps, image, odd_open L ps)
 
       mutual
         -- a link of the rule has as many places as in the body, those of the contexts are kept, and a copy's are its own
         pub level_own : {k j : ℕ} {l : Level} {outs : List Leaf} {inner : List Level} {rs : List Rule} → OwnLevel k j l outs inner rs → Ready (typed_contexts l) → LevelOwn k j l outs inner rs
-        level_own (own_level {k = k} {i = i} {j = j} {leaves = leaves} {outs = outs} {membranes = membranes} {inner = inner} {contexts = ps} {rule_contexts = qs} {rules = rules} d e) w =
+        level_own (own_level {k = k} {i = i} {j = j} {leaves = leaves} {outs = outs} {membranes = membranes} {inner = inner} ps {rule_contexts = qs} {rules = rules} d e) w =
             let u = leaves_own d (λ q a. w q (among_left (typed_contexts_in membranes) a)) in
             let v = levels_own e (λ q a. w q (among_right (typed_leaves leaves) a)) in
             record {
               later = omega (arith, u.later, v.later);
-              count = λ x. omega (arith, level_count (of_rule x) outs inner ps qs (rules_list rules), u.count x, v.count x, no_even_contexts t p x ps);
+              count = λ x. omega (arith, level_count (of_rule x) outs inner (open_membranes c ps) (open_atoms c ps) qs (rules_list rules), u.count x, v.count x, no_even_open x ps);
               odd = λ L.
-                  let b = blocks_more k i j L 0 (context_places t p L (contexts_in membranes)) (occurrences (of_solid L) (together (map leaf_process outs))) (occurrences (of_solid L) (together (map held inner))) u.later v.later (u.odd L) (v.odd L) in
-                  record { copies = b.copies; is = omega (arith, b.is, level_count (of_solid L) outs inner ps qs (rules_list rules), odd_contexts t p L ps, context_places_append t p L ps (contexts_in membranes)); whole = b.whole };
+                  let same = ap (context_places t p L) (open_again ps) in
+                  let b = blocks_more k i j L 0 (context_places t p L (open_names (contexts_in membranes))) (occurrences (of_solid L) (together (map leaf_process outs))) (occurrences (of_solid L) (together (map held inner))) u.later v.later (u.odd L) (v.odd L) in
+                  record { copies = b.copies; is = omega (arith, b.is, level_count (of_solid L) outs inner (open_membranes c ps) (open_atoms c ps) qs (rules_list rules), odd_open L ps, same, open_places_append t p L (map open_context ps) (contexts_in membranes)); whole = b.whole };
             }
 
         levels_own : {k j : ℕ} {ls : Levels} {inner : List Level} → OwnMembranes k j ls inner → Ready (typed_contexts_in ls) → LevelsOwn k j ls inner
@@ -232,8 +272,8 @@ module _ (c : Contents) (Block : ℕ → ℕ → Type 0) where
               later = omega (arith, u.later, v.later);
               count = λ x. omega (arith, ap (occurrences (of_rule x)) same, u.count x, v.count x);
               odd = λ L.
-                  let b = blocks_more k i j L (context_places t p L (all_contexts l)) (context_places t p L (contexts_in ls)) (occurrences (of_solid L) (listed outs inner rs)) (occurrences (of_solid L) (together (map held others))) u.later v.later (u.odd L) (v.odd L) in
-                  record { copies = b.copies; is = omega (arith, ap (occurrences (of_solid L)) same, b.is, context_places_append t p L (all_contexts l) (contexts_in ls)); whole = b.whole };
+                  let b = blocks_more k i j L (context_places t p L (open_names (all_contexts l))) (context_places t p L (open_names (contexts_in ls))) (occurrences (of_solid L) (listed outs inner rs)) (occurrences (of_solid L) (together (map held others))) u.later v.later (u.odd L) (v.odd L) in
+                  record { copies = b.copies; is = omega (arith, ap (occurrences (of_solid L)) same, b.is, open_places_append t p L (all_contexts l) (contexts_in ls)); whole = b.whole };
             }
 
 -- ---- the raw level
@@ -251,7 +291,7 @@ pub raw_own : (Block : ℕ → ℕ → Type 0) (r : Rule) (f : List ℕ) (m : Re
 raw_own Block r f m a e O closed k j outs membranes rules own one above =
     let c = e.contents in
     let t = assignment_of c in
-    let p = contents_plain c e.root_is_free in
+    let p = contents_plain c e.closed e.root_is_free in
     let b = accepted_bare r a in
     let i : LevelImages t (level b.leaves b.membranes [] [] no_rule) f m e.rest = subst (λ k. LevelImages t k f m e.rest) b.is (level_images_of e.lies) in
     let u = level_skeleton t p i in
@@ -266,7 +306,7 @@ raw_own Block r f m a e O closed k j outs membranes rules own one above =
       count = λ x. sym (reordered_count B.order (of_rule x)) ∙ v.count x;
       next = N + link_bound B.process;
       later = omega arith;
-      odd = λ L. copied N L (context_places t p L (all_contexts (body_of r))) (occurrences (of_solid L) (listed outs membranes rules)) B.process (sym (reordered_count B.order (of_solid L))) above (v.odd L);
+      odd = λ L. copied N L (context_places t p L (open_names (all_contexts (body_of r)))) (occurrences (of_solid L) (listed outs membranes rules)) B.process (sym (reordered_count B.order (of_solid L))) above (v.odd L);
     } in
     let W = wire_leaves c.link_of (head_of r) n.0 in
     let closes = raw_closes r a t p e.guard b.leaves b.membranes b.is m e.rest u O closed made_body n.0 n.1 in

@@ -31,14 +31,14 @@ atom_inside i [] e n a h = absurd (cc)
 atom_inside i (Atom f ls k ∷ xs) e zero a h = let same : (record { functor = f; links = ls; inside = k }) ≡ a = cc in let z : k ≡ a.inside = ap (λ (b : HeadAtom). b.inside) same in omega (arith, e.0, z)
 atom_inside i (Atom f ls k ∷ xs) e (suc n) a h = atom_inside i xs e.1 n a h
 atom_inside i (Typed x kd l k ∷ xs) e n a h = atom_inside i xs e.1 n a h
-atom_inside i (Membrane k c rc ∷ xs) e n a h = let u = atom_inside (i + 1) xs e.1 n a h in omega (arith, u)
+atom_inside i (Membrane k c cl rc ∷ xs) e n a h = let u = atom_inside (i + 1) xs e.1 n a h in omega (arith, u)
 
 typed_inside : (i : ℕ) (items : List HeadItem) → EachInside i items → (n : ℕ) (a : HeadTyped) → HasTyped items n a → a.inside ≤ i + length (membranes_of items)
 typed_inside i [] e n a h = absurd (cc)
 typed_inside i (Atom f ls k ∷ xs) e n a h = typed_inside i xs e.1 n a h
 typed_inside i (Typed x kd l k ∷ xs) e zero a h = let same : (record { name = x; kind = kd; link = l; inside = k }) ≡ a = cc in let z : k ≡ a.inside = ap (λ (b : HeadTyped). b.inside) same in omega (arith, e.0, z)
 typed_inside i (Typed x kd l k ∷ xs) e (suc n) a h = typed_inside i xs e.1 n a h
-typed_inside i (Membrane k c rc ∷ xs) e n a h = let u = typed_inside (i + 1) xs e.1 n a h in omega (arith, u)
+typed_inside i (Membrane k c cl rc ∷ xs) e n a h = let u = typed_inside (i + 1) xs e.1 n a h in omega (arith, u)
 
 module _ (h : Heap) (v : Valid h) (items : List HeadItem) (guard : List Cond) (m : ℕ) (mi : Forest) (s : Registers) (em : Embeds h items guard m s.head.images) (nests : HeadNests items) (inside : EachInside 0 items)
     (there : IsMem h m) (formed : Forms h mi (mems_in h m)) (apart : Distinct (m ∷ flat mi)) where

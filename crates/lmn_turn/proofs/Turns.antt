@@ -34,6 +34,7 @@ use Rattle.lmn_body.specs.Running.{Registers}
 use Rattle.lmn_body.specs.Within.{membrane_images, FiresWithin, added_with_copies, left_solid}
 use Rattle.lmn_bridge.specs.HeapRegions.{HeapReading, atoms_at, region_at}
 use Rattle.lmn_compile_body.proofs.BodyTrees.{flat_body}
+use Rattle.lmn_compile_head.proofs.OpenHeads.{OpenHead}
 use Rattle.lmn_turn.specs.Turning.{stays}
 use Rattle.lmn_turn.specs.Standing.{StandAs, none_stands, one_stands}
 use Rattle.lmn_turn.proofs.Standings.{stand_both}
@@ -189,7 +190,7 @@ module _ (h h' : Heap) (r : HeapReading) (s : Registers) (head : List HeadItem) 
 
   module _ (rule : tree.Rule) (accepted : Accepted rule) (ns : List ℕ) (number : ℕ) (others : List tree.Rule) (stands : Taken number rule (map r.rule (rules_in h m)) others)
       (body_is : tree.body_of rule ≡ tree_of r.names r.rule hd) (e : EmbedsAt rule ns (region_at h r m mi)) (rest : LeavesRest e.rest)
-      (agrees : BodyAgrees h h' r (record { name = λ a i. f.number (a, i); names = r.names; rule = r.rule }) s bn e.contents left left_mems to limit copy part 0 hd)
+      (op : OpenHead hd) (agrees : BodyAgrees h h' r (record { name = λ a i. f.number (a, i); names = r.names; rule = r.rule }) s bn e.contents left left_mems to limit copy part 0 hd)
       (fit : AllFit r.names r.rule bn e.contents to hd)
       (wires : (x : ℕ) → level_occurrences x (tree.head_of rule) ≡ 1 → to (of_rule x) ≡ to (of_solid (e.contents.link_of x))) where
     home_not_image : In m ks → ⊥
@@ -245,7 +246,7 @@ module _ (h h' : Heap) (r : HeapReading) (s : Registers) (head : List HeadItem) 
     -- the rule fires in its membrane
     pub fires_at_home : Firing h h' r name_after to number ns m limit m mi
     fires_at_home O closed below =
-        let own = level_makes h h' r name_after s bn e.contents left left_mems to limit copy part 0 hd agrees in
+        let own = level_makes h h' r name_after s bn e.contents left left_mems to limit copy part 0 hd op agrees in
         let makes = own_made e.contents (Block limit) own in
         let w = raw_own (Block limit) rule ns (region_at h r m mi) accepted e O closed 0 (after_level bn 0 hd) outs inner rs
         (subst (λ l. OwnLevel e.contents (Block limit) 0 (after_level bn 0 hd) l outs inner rs) (sym body_is) own) (λ i n L u v. block_one limit i n L u v)

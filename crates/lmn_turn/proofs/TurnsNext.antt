@@ -51,6 +51,9 @@ use Rattle.lmn_bridge.specs.Premises.{IsRead, HasForest, IsRule}
 use Rattle.lmn_bridge.proofs.HeadTrees.{level_tree}
 use Rattle.lmn_bridge.proofs.Occurrences.{times_are}
 use Rattle.lmn_bridge.proofs.Wholes.{closed_heap}
+use Rattle.lmn_compile_head.proofs.OpenHeads.{OpenHead, accepted_open}
+use Rattle.lmn_guards.proofs.AcceptedLemmas.{in_order}
+use Rattle.lmn_turn.proofs.OpenTrees.{contexts_open, tree_open}
 use Rattle.lmn_turn.specs.Standing.{StandAs}
 use Rattle.lmn_turn.proofs.ReadAgain as again
 use Rattle.lmn_turn.proofs.ReadAgain.{body_fits, root_mem}
@@ -178,16 +181,21 @@ module _ (firing : AcceptedFires) (head_law : AcceptedHeads) (nested : AcceptedN
         let free = left_free h read.valid s (membrane_images s items) (made_mems s low B) taken m mi place x i t (mems_at x) F (λ z j. in_withouts_of (membrane_images s items) (mems_in h x) z (read.valid.sound.listed.mems_once x) j) in
         kept_stand h h' r (λ a i. both.0.number (a, i)) to t (mems_at x) F (λ y j. let w = free y j in untouched h h' r s items bn hd low taken both.0 to limit copy part joined fired_to refl m mi place y w.0 w.1)
 
+    -- no context of the body is closed
+    opened : OpenHead (head_at rule.body)
+    opened = (accepted_open table rule (in_order table rule whole.ready.accepted)).1
+
     -- an untyped context stands for what is left of its membrane
     context_agrees : (u : CtxUse) → Contains (head_contexts hd) u → ContextAgrees h h' r r' s bn e.contents left_at mems_at to limit copy part u
     context_agrees u w =
         let x = at s (bn.context u.name) in
-        let p = name_of r.names u.name in
-        let L = has.contexts u (subst (λ us. Contains us u) (sym (same_contexts rule.body)) w) in
+        let there = subst (λ us. Contains us u) (sym (same_contexts rule.body)) w in
+        let is_open = sym (tree_open r.names u (contexts_open rule.body opened u there)) in
+        let L = has.contexts u there in
         let same = same_region L.is in
         record {
-          atoms = ap (map (renamed_atom (λ z. to (of_solid z)))) same.0 ∙ sym (left_read h h' r s items bn hd low taken both.0 to limit copy part joined fired_to refl m mi place x);
-          membranes = subst (λ R. StandAs h' r' (mems_at x) (fused_levels to (levels (kept_membranes R)))) (sym same.1)
+          atoms = ap (map (renamed_atom (λ z. to (of_solid z)))) (ap e.contents.atoms_of is_open ∙ same.0) ∙ sym (left_read h h' r s items bn hd low taken both.0 to limit copy part joined fired_to refl m mi place x);
+          membranes = subst (λ R. StandAs h' r' (mems_at x) (fused_levels to (levels (kept_membranes R)))) (sym (ap e.contents.membranes_of is_open ∙ same.1))
               (left_stands x (register_inside (bn.context u.name) (contexts_of_heads (kind_in plan.kinds) rule.head u.name).0) L.forest L.forms);
         }
 
@@ -254,7 +262,7 @@ module _ (firing : AcceptedFires) (head_law : AcceptedHeads) (nested : AcceptedN
       raw =
           let w = taken_at r.rule (rules_in h m) index k stands in
           fires_in_tree h h' r s items bn hd low taken both.0 to limit copy part joined fired_to refl m mi place (rule_tree r.names r.rule rule) is_rule.accepted ns index w.0 (subst (λ z. Taken index z (map r.rule (rules_in h m)) w.0) rule_is w.1)
-          (level_tree r.names r.rule rule.body) e leaves_rest agrees (all_fit h h' r r' s bn e.contents left_at mems_at to limit copy part 0 hd agrees) wires
+          (level_tree r.names r.rule rule.body) e leaves_rest opened agrees (all_fit h h' r r' s bn e.contents left_at mems_at to limit copy part 0 hd agrees) wires
           inner tr.forms.2 (subst (λ z. Distinct (h.root ∷ z)) (plus_nothing (flat inner)) tr.once) in_tree
           (λ y j. elim j [ inl q ↦ subst (IsMem h) q (root_mem h read.valid) | inr q ↦ forest_there h read.valid inner (mems_in h h.root) tr.forms.2 (λ z u. listed_there h read.valid z h.root u) y q ])
           nothing (beside_nothing (region_process (region_at h r h.root inner)) (closed_heap h r inner read tr)) (omega arith)

@@ -19,7 +19,7 @@ use Rattle.lmn_body.specs.Rules.{PartAtoms}
 use Rattle.lmn_body.specs.Running.{Registers, RunsBody}
 use Rattle.lmn_body.specs.Within.{membrane_images}
 use Rattle.lmn_congruence.specs.Regions.{Region, region}
-use Rattle.lmn_congruence.specs.Translation.{name_of, rule_tree}
+use Rattle.lmn_congruence.specs.Translation.{context_tree, name_of, rule_tree}
 use Rattle.lmn_reduction.specs.Parts.{IsInteger}
 use Rattle.lmn_adequacy.specs.Embedding.{Contents, EmbedsAt}
 use Rattle.lmn_adequacy.specs.Next.{NextAt}
@@ -45,7 +45,7 @@ pub record IsLeft (h : Heap) (r : HeapReading) (atoms membranes : List ℕ) (x :
 pub record HasContents (h : Heap) (r : HeapReading) (rule : RuleTree) (plan : GuardPlan) (s : Registers) (taken : List ℕ) (c : Contents) : Type 0 where
   pub links : (x : ℕ) (p : Port) → HasLink (head_items rule plan) x p → c.link_of x ≡ r.name (s.head.images.atom p.0) p.1
   pub contexts : (u : CtxUse) → Contains (contexts_of rule.body) u →
-      let x = s.head.images.membrane ((rule_body_names rule plan).context u.name) in let p = name_of r.names u.name in
+      let x = s.head.images.membrane ((rule_body_names rule plan).context u.name) in let p = context_tree r.names u in
       IsLeft h r taken (membrane_images s (head_items rule plan)) x (region (c.atoms_of p) (c.membranes_of p) (map r.rule (rules_in h x)))
   pub rule_contexts : (u : CtxUse) → Contains (rule_contexts_of rule.body) u →
       c.rules_of (name_of r.names u.name) ≡ map r.rule (rules_in h (s.head.images.membrane ((rule_body_names rule plan).rule_context u.name)))
