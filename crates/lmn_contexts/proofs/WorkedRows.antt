@@ -18,6 +18,7 @@ use Rattle.lmn_base.specs.declared.refusal.Pos.{Pos}
 use Rattle.lmn_base.specs.declared.rule.RuleTree.{RuleTree}
 use Rattle.lmn_base.specs.Items.{items_of, own_items, leaf_item, untyped, guard_items, number_of_items, number_step}
 use Rattle.lmn_base.specs.RuleCodes.{rule_rows, untyped_place, rule_context_place, connector_place, inner_rule, seconds, seconds_by_membrane, first_with_some, used_again, in_other_form, missing, bare_again, from_nowhere, closed_place}
+use Rattle.lmn_base.specs.Limits.{most_head_items, most_body_items, most_conditions, most_guard_tokens}
 use Rattle.lmn_base.proofs.ItemLemmas.{listed_items as listed}
 use Rattle.lmn_contexts.specs.Examples.{name_r, context_x, alone, holding, empty, membrane_with_contexts, without_guard, EmptyHead, RuleInHead, ConnectorInHead, ContextAtTop, RuleContextAtTop, TwoInMembrane, OuterPairFirst, TwiceInHead, TwiceInTwoForms, NotInBody, TwiceInBody, NotInHead, RuleContextNotInHead, InTwoForms, closed_at, ClosedAtTop, ClosedCopied, OpenAndClosed, ClosedInRule, LargestHead, LargestBody, NothingOffends, many}
 use Rattle.lmn_base.specs.SmallTexts.{at_column, name_a, name_b, name_p, use_at}
@@ -176,7 +177,7 @@ size_of_empty : number_of_items empty ≡ 0
 size_of_empty = counted _
 
 abbrev too_many : ℕ → ℕ → List Pos
-too_many head body = if nat_lt 128 head || (nat_lt 1024 body || (nat_lt 64 0 || nat_lt 256 0)) then at_column 1 ∷ [] else []
+too_many head body = if nat_lt most_head_items head || (nat_lt most_body_items body || (nat_lt most_conditions 0 || nat_lt most_guard_tokens 0)) then at_column 1 ∷ [] else []
 
 -- the size of leaves and one membrane
 sized : (leaves : List Leaf) (inner : Level) (n : ℕ) → number_of_items inner ≡ n →
