@@ -1,5 +1,5 @@
 -- Tokens within the limits are a tree whose atoms have no more arguments than an arity holds, and whose sides have no more than
--- 255 operators.
+-- operators than it may have.
 use Rattle.std.proofs.Common.{◌≡◌, ℕ, suc, ◌+◌, ◌≤◌, ◌<◌, true, false, List, [], ◌∷◌, ◌++◌, length, take, drop, slice_get, Some, refl, sym, ◌∙◌, ap, arith, subst, ◌⊎◌, inl, inr, append_assoc}
 use Rattle.std.proofs.lemmas.Bool.{cases_lt}
 use Rattle.std.proofs.lemmas.List.{take-append-drop}
@@ -7,7 +7,7 @@ use Rattle.lmn_base.specs.declared.guard.Arith.{Arith}
 use Rattle.lmn_base.specs.declared.guard.Arith.TheVariants as op
 use Rattle.std.specs.List.{AllByRecursion}
 use Rattle.lmn_grammar.specs.Grammar.{Ref, TermPart, Derives, by}
-use Rattle.lmn_grammar.specs.Limits.{ends_operand, may_be_operator, may_be_atom_name, continues_side, EndsWith, IsOperator, Side, begins, operand, operator, IsAtomName, Balanced, empty, comma, other, InArguments, begun, TermNext, behind_equal, in_arguments, in_list, of_any, of_term, left_of_equal}
+use Rattle.lmn_grammar.specs.Limits.{ends_operand, may_be_operator, may_be_atom_name, continues_side, EndsWith, IsOperator, Side, begins, operand, operator, IsAtomName, Balanced, empty, comma, other, InArguments, begun, TermNext, behind_equal, in_arguments, in_list, of_any, of_term, left_of_equal, most_operators, most_arguments, most_term_arguments}
 use Rattle.lmn_grammar.specs.Refusing.{IsWithin}
 use Rattle.lmn_grammar.proofs.Arguments.{balanced_word}
 use Rattle.lmn_grammar.proofs.Counts.{balanced_both, last_is, side_less}
@@ -141,18 +141,18 @@ module _ (front : List Kind) (word : Kind) where
         subst P (append_assoc front (word ∷ []) (LParen ∷ []) ∙ sym (plus_nothing arguments)) (token_ends (front ++ word ∷ []) LParen refl);
   }
 
-  any_fit : (ks : List Kind) (n : ℕ) → IsWithin ks → IsAtomName front word → LastPart arguments n ks → suc n ≤ 255
-  any_fit ks n w h l = at_most_by_not (suc n) 255 (λ lt. (w (arguments ++ l.inside) l.token l.rest l.split).1 (of_any (begun_in h l.balanced) lt))
+  any_fit : (ks : List Kind) (n : ℕ) → IsWithin ks → IsAtomName front word → LastPart arguments n ks → suc n ≤ most_arguments
+  any_fit ks n w h l = at_most_by_not (suc n) most_arguments (λ lt. (w (arguments ++ l.inside) l.token l.rest l.split).1 (of_any (begun_in h l.balanced) lt))
 
-  term_fit : (ks : List Kind) (n : ℕ) → IsWithin ks → IsAtomName front word → LastPart arguments n ks → TermNext front → suc n ≤ 254
-  term_fit ks n w h l t = at_most_by_not (suc n) 254 (λ lt. (w (arguments ++ l.inside) l.token l.rest l.split).1 (of_term (begun_in h l.balanced) t lt))
+  term_fit : (ks : List Kind) (n : ℕ) → IsWithin ks → IsAtomName front word → LastPart arguments n ks → TermNext front → suc n ≤ most_term_arguments
+  term_fit ks n w h l t = at_most_by_not (suc n) most_term_arguments (λ lt. (w (arguments ++ l.inside) l.token l.rest l.split).1 (of_term (begun_in h l.balanced) t lt))
 
-  equal_fit : (ks : List Kind) (n q : ℕ) → IsWithin ks → IsAtomName front word → Ending arguments n ks q → slice_get ks q ≡ Some RParen → slice_get ks (q + 1) ≡ Some Equal → suc n ≤ 254
+  equal_fit : (ks : List Kind) (n q : ℕ) → IsWithin ks → IsAtomName front word → Ending arguments n ks q → slice_get ks q ≡ Some RParen → slice_get ks (q + 1) ≡ Some Equal → suc n ≤ most_term_arguments
   equal_fit ks n q w h l c e =
       let split : ks ≡ ((arguments ++ l.inside) ++ RParen ∷ []) ++ Equal ∷ drop (q + 1 + 1) ks =
       l.split ∙ ap (λ z. (arguments ++ l.inside) ++ z) (drop_token ks q RParen c ∙ ap (λ z. RParen ∷ z) (drop_token ks (q + 1) Equal e))
       ∙ sym (append_assoc (arguments ++ l.inside) (RParen ∷ []) (Equal ∷ drop (q + 1 + 1) ks)) in
-      at_most_by_not (suc n) 254 (λ lt. (w ((arguments ++ l.inside) ++ RParen ∷ []) Equal _ split).1 (left_of_equal (begun_in h l.balanced) lt))
+      at_most_by_not (suc n) most_term_arguments (λ lt. (w ((arguments ++ l.inside) ++ RParen ∷ []) Equal _ split).1 (left_of_equal (begun_in h l.balanced) lt))
 
 -- Sides.
 -- Behind a part of a side that has n operators up to there.
@@ -161,13 +161,13 @@ record Sided (ks : List Kind) (q n : ℕ) : Type 0 where
   pub split : ks ≡ before ++ drop q ks
   pub side : Side n before
   pub ends : EndsWith ends_operand before
-  pub few : n ≤ 255
+  pub few : n ≤ most_operators
 
 record SideStart (ks : List Kind) (p n : ℕ) : Type 0 where
   pub before : List Kind
   pub split : ks ≡ before ++ drop p ks
   pub side : Side n before
-  pub few : n ≤ 255
+  pub few : n ≤ most_operators
 
 side_as : {n m : ℕ} {u : List Kind} → n ≡ m → Side n u → Side m u
 side_as {u = u} e h = let P : ℕ → Type 0 = λ z. Side z u in subst P e h
@@ -202,7 +202,7 @@ one_operator : (ks : List Kind) → IsWithin ks → (q n : ℕ) (k : Kind) → s
 one_operator ks w q n k h m s =
     let is : IsOperator s.before k = (m, s.ends) in
     let split : ks ≡ s.before ++ k ∷ drop (q + 1) ks = s.split ∙ ap (λ z. s.before ++ z) (drop_token ks q k h) in
-    let lt : n < 255 = elim (cases_lt n 255) [ inl l ↦ l | inr le ↦ absurd ((w s.before k (drop (q + 1) ks) split).0 (inr (is, side_less s.side 255 le))) ] in
+    let lt : n < most_operators = elim (cases_lt n most_operators) [ inl l ↦ l | inr le ↦ absurd ((w s.before k (drop (q + 1) ks) split).0 (inr (is, side_less s.side most_operators le))) ] in
     record { before = s.before ++ k ∷ []; split = behind_token ks q s.before k s.split h; side = side_as (omega arith) (operator k s.side is); few = omega (arith, lt) }
 
 -- the sign of a product may be an operator
@@ -245,7 +245,7 @@ mutual
   factor_sided ts w (is_value {p = p} h) n s = sided_as (kinds_of ts) (omega arith) (one_operand (kinds_of ts) p n Context h refl refl s)
   factor_sided ts w (in_parentheses {e = e} {p = p} {q = q} o d c) n s = closes_round (kinds_of ts) q (n + operators_of e) c (sum_sided ts w d n (opens_round (kinds_of ts) p n o s))
 
-side_fits : (ts : List Token) → IsWithin (kinds_of ts) → {e : tree.Expr} {p q : ℕ} → IsSum ts e p q → operators_of e ≤ 255
+side_fits : (ts : List Token) → IsWithin (kinds_of ts) → {e : tree.Expr} {p q : ℕ} → IsSum ts e p q → operators_of e ≤ most_operators
 side_fits ts w {p = p} d = let s = sum_sided ts w d 0 (side_begins (kinds_of ts) p) in let few = s.few in omega (arith, few)
 
 -- Conditions.
@@ -272,10 +272,10 @@ behind_word ks p k r h = r.split ∙ ap (λ z. r.before ++ z) (drop_token ks p k
 is_word : (ks : List Kind) (p : ℕ) (k : Kind) (r : Ready ks p) → may_be_atom_name k ≡ true → IsAtomName r.before k
 is_word ks p k r h = (h, λ o. r.free o.1)
 
-called_fit : (ts : List Token) → IsWithin (kinds_of ts) → {xs : List ℕ} {p q : ℕ} → IsContextArguments ts xs (p + 1) q → (k : Kind) → may_be_atom_name k ≡ true → At ts p k → Ready (kinds_of ts) p → length xs ≤ 255
+called_fit : (ts : List Token) → IsWithin (kinds_of ts) → {xs : List ℕ} {p q : ℕ} → IsContextArguments ts xs (p + 1) q → (k : Kind) → may_be_atom_name k ≡ true → At ts p k → Ready (kinds_of ts) p → length xs ≤ most_arguments
 called_fit ts w d k m h r = by_contexts ts w d refl k m h r
   where
-    by_contexts : (ts : List Token) → IsWithin (kinds_of ts) → {xs : List ℕ} {s p q : ℕ} → IsContextArguments ts xs s q → s ≡ p + 1 → (k : Kind) → may_be_atom_name k ≡ true → At ts p k → Ready (kinds_of ts) p → length xs ≤ 255
+    by_contexts : (ts : List Token) → IsWithin (kinds_of ts) → {xs : List ℕ} {s p q : ℕ} → IsContextArguments ts xs s q → s ≡ p + 1 → (k : Kind) → may_be_atom_name k ≡ true → At ts p k → Ready (kinds_of ts) p → length xs ≤ most_arguments
     by_contexts ts w no_contexts e k m h r = omega arith
     by_contexts ts w {p = p} (some_contexts {p = s} o d c) e k m h r =
         let ks = kinds_of ts in
@@ -310,8 +310,8 @@ record TermsFit (xs : tree.Terms) (start : List Kind) (n : ℕ) (ks : List Kind)
 
 -- an atom's arguments, where it is an item, and where it is a term by its place or by the '=' behind it
 record AtomFits (xs : tree.Terms) (is_term : Type 0) : Type 0 where
-  pub any : number_of_terms xs ≤ 255
-  pub term : is_term → number_of_terms xs ≤ 254
+  pub any : number_of_terms xs ≤ most_arguments
+  pub term : is_term → number_of_terms xs ≤ most_term_arguments
   pub fits : FitsTerms xs
 
 abbrev IsTermAt : List Token → (before : List Kind) → ℕ → Type 0
@@ -395,14 +395,14 @@ mutual
 
   arguments_fit : (ts : List Token) → IsWithin (kinds_of ts) → {x : tree.Terms} {p q : ℕ} → IsArguments ts x p q →
       (front : List Kind) (k : Kind) → IsAtomName front k → kinds_of ts ≡ (front ++ k ∷ []) ++ drop p (kinds_of ts) → AtomFits x (IsTermAt ts front q)
-  arguments_fit ts w no_parentheses front k h e = record { any = none_fits 0 255 refl; term = λ t. none_fits 0 254 refl; fits = tt }
-  arguments_fit ts w (no_arguments o c) front k h e = record { any = none_fits 0 255 refl; term = λ t. none_fits 0 254 refl; fits = tt }
+  arguments_fit ts w no_parentheses front k h e = record { any = none_fits 0 most_arguments refl; term = λ t. none_fits 0 most_term_arguments refl; fits = tt }
+  arguments_fit ts w (no_arguments o c) front k h e = record { any = none_fits 0 most_arguments refl; term = λ t. none_fits 0 most_term_arguments refl; fits = tt }
   arguments_fit ts w (some_arguments {xs = xs} {p = p} {q = q} o d c) front k h e =
       let ks = kinds_of ts in
       let f = terms_fit ts w d (arguments front k) 0 (first_spot front k ks p e o) (λ m u b. in_arguments (begun_in front k h b)) in
       record {
-        any = fewer (number_of_terms xs) f.commas 255 f.count (any_fit front k ks f.commas w h f.last);
-        term = λ t. fewer (number_of_terms xs) f.commas 254 f.count (elim t [ inl n ↦ term_fit front k ks f.commas w h f.last n | inr g ↦ equal_fit front k ks f.commas q w h f.ending c g ]);
+        any = fewer (number_of_terms xs) f.commas most_arguments f.count (any_fit front k ks f.commas w h f.last);
+        term = λ t. fewer (number_of_terms xs) f.commas most_term_arguments f.count (elim t [ inl n ↦ term_fit front k ks f.commas w h f.last n | inr g ↦ equal_fit front k ks f.commas q w h f.ending c g ]);
         fits = f.fits;
       }
 

@@ -4,7 +4,7 @@ use Rattle.std.proofs.lemmas.List.{length-map}
 use Rattle.std.specs.List.{AllByRecursion}
 use Rattle.lmn_base.specs.declared.guard.Cmp.{Cmp}
 use Rattle.lmn_base.specs.declared.guard.Cmp.TheVariants as cmp
-use Rattle.lmn_grammar.specs.Limits.{may_be_operator, empty, one_more, TooDeep, TooManyArguments}
+use Rattle.lmn_grammar.specs.Limits.{may_be_operator, empty, one_more, TooDeep, TooManyArguments, most_operators, most_arguments, most_term_arguments}
 use Rattle.lmn_grammar.specs.Refusing.{IsWithin}
 use Rattle.lmn_grammar.specs.Scan.{Opened, Arguments, Terms, Group, Last, Equals, Word, Digits, Closed, Operand, Other, Scan, was_operand, is_operator, limit_in, limit_behind, round_behind, one_more_begun, scan_after, scan, has_too_many, is_full, is_equal}
 use Rattle.lmn_grammar.proofs.Counts.{scan_more, added, added_none, added_one, added_twice, operator_scan, side_scan, many_scan}
@@ -36,7 +36,7 @@ record Walk (ks : List Kind) (p : ℕ) (s : Scan) : Type 0 where
 
 -- The token passes no limit but that of brackets.
 abbrev Allowed : Scan → Kind → Type 0
-Allowed s k = ((is_operator s k && nat_le 255 s.operators) ≡ false) × (has_too_many s.opened ≡ false) × ((is_equal k && is_full s.last) ≡ false)
+Allowed s k = ((is_operator s k && nat_le most_operators s.operators) ≡ false) × (has_too_many s.opened ≡ false) × ((is_equal k && is_full s.last) ≡ false)
 
 both_false : (a b : Bool) → a ≡ true → b ≡ true → (a && b) ≡ false → ⊥
 both_false true b g h e = clash (sym e ∙ h)
@@ -62,8 +62,8 @@ step ks shallow {p} {s} k w h (a, b, c) = record { before = w.before ++ k ∷ []
     deep : ¬ (TooDeep w.before k)
     deep (inl (f, d)) = shallow (w.before ++ k ∷ []) (drop (p + 1) ks) split (one_more k d f empty)
     deep (inr (f, d)) =
-        both_false (is_operator (scan w.before) k) (nat_le 255 (scan w.before).operators) (operator_scan w.before k f) (at_most 255 (scan w.before).operators (side_scan d))
-        (ap (λ z. is_operator z k && nat_le 255 z.operators) w.is ∙ a)
+        both_false (is_operator (scan w.before) k) (nat_le most_operators (scan w.before).operators) (operator_scan w.before k f) (at_most most_operators (scan w.before).operators (side_scan d))
+        (ap (λ z. is_operator z k && nat_le most_operators z.operators) w.is ∙ a)
 
     many : ¬ (TooManyArguments w.before k)
     many d = none_of_two (has_too_many (scan w.before).opened) (is_equal k && is_full (scan w.before).last) (ap (λ z. has_too_many z.opened) w.is ∙ b) (ap (λ z. is_equal k && is_full z.last) w.is ∙ c) (many_scan d)
@@ -111,17 +111,17 @@ not_equal : (k : Kind) → may_be_operator k ≡ true → is_equal k ≡ false
 not_equal Equal m = absurd (clash m)
 not_equal _ m = refl
 
-operator_step : (ks : List Kind) → Shallow ks → {q : ℕ} (k : Kind) (o : List Opened) (n : ℕ) → slice_get ks q ≡ Some k → may_be_operator k ≡ true → has_too_many o ≡ false → n ≤ 254 → SumWalked ks q o n → Walk ks (q + 1) (state o (n + 1) Other)
+operator_step : (ks : List Kind) → Shallow ks → {q : ℕ} (k : Kind) (o : List Opened) (n : ℕ) → slice_get ks q ≡ Some k → may_be_operator k ≡ true → has_too_many o ≡ false → n < most_operators → SumWalked ks q o n → Walk ks (q + 1) (state o (n + 1) Other)
 operator_step ks shallow k o n h m t le w =
     walk_as ks (after_operator k m o n w.last w.ends)
-    (step ks shallow k w.walk h (and_right (is_operator (state o n w.last) k) (nat_le 255 n) (below 255 n (omega (arith, le))), t, and_left (is_equal k) (is_full w.last) (not_equal k m)))
+    (step ks shallow k w.walk h (and_right (is_operator (state o n w.last) k) (nat_le most_operators n) (below most_operators n (omega (arith, le))), t, and_left (is_equal k) (is_full w.last) (not_equal k m)))
 
 opened_round : (o : List Opened) (n : ℕ) (l : Last) → round_behind l ≡ Group → scan_after (state o n l) LParen ≡ state (Group ∷ o) n Other
 opened_round o n l h = ap (λ x. state (x ∷ o) n Other) h
 
 mutual
   walk_sum : (ts : List Token) → Shallow (kinds_of ts) → {e : tree.Expr} {p q : ℕ} → IsSum ts e p q → (o : List Opened) → has_too_many o ≡ false → (n : ℕ) (l : Last) → round_behind l ≡ Group →
-      n + operators_of e ≤ 255 → Walk (kinds_of ts) p (state o n l) → SumWalked (kinds_of ts) q o (n + operators_of e)
+      n + operators_of e ≤ most_operators → Walk (kinds_of ts) p (state o n l) → SumWalked (kinds_of ts) q o (n + operators_of e)
   walk_sum ts s (one_product d) o t n l r f w = walk_product ts s d o t n l r f w
   walk_sum ts s (plus {l = x} {r = y} {m = m} a d h e) o t n l r f w =
       let k = plus_is ts m a h in
@@ -130,7 +130,7 @@ mutual
       sum_as (kinds_of ts) (joined n (operators_of x) (operators_of y)) (walk_product ts s e o t (n + operators_of x + 1) Other refl (omega (arith, f)) next)
 
   walk_product : (ts : List Token) → Shallow (kinds_of ts) → {e : tree.Expr} {p q : ℕ} → IsProduct ts e p q → (o : List Opened) → has_too_many o ≡ false → (n : ℕ) (l : Last) → round_behind l ≡ Group →
-      n + operators_of e ≤ 255 → Walk (kinds_of ts) p (state o n l) → SumWalked (kinds_of ts) q o (n + operators_of e)
+      n + operators_of e ≤ most_operators → Walk (kinds_of ts) p (state o n l) → SumWalked (kinds_of ts) q o (n + operators_of e)
   walk_product ts s (one_factor d) o t n l r f w = walk_factor ts s d o t n l r f w
   walk_product ts s (times {l = x} {r = y} {m = m} a d h e) o t n l r f w =
       let k = times_is ts m a h in
@@ -139,16 +139,16 @@ mutual
       sum_as (kinds_of ts) (joined n (operators_of x) (operators_of y)) (walk_factor ts s e o t (n + operators_of x + 1) Other refl (omega (arith, f)) next)
 
   walk_factor : (ts : List Token) → Shallow (kinds_of ts) → {e : tree.Expr} {p q : ℕ} → IsFactor ts e p q → (o : List Opened) → has_too_many o ≡ false → (n : ℕ) (l : Last) → round_behind l ≡ Group →
-      n + operators_of e ≤ 255 → Walk (kinds_of ts) p (state o n l) → SumWalked (kinds_of ts) q o (n + operators_of e)
+      n + operators_of e ≤ most_operators → Walk (kinds_of ts) p (state o n l) → SumWalked (kinds_of ts) q o (n + operators_of e)
   walk_factor ts s (is_integer h) o t n l r f w = sum_as (kinds_of ts) (omega arith) (record { last = Digits (limit_behind l o); walk = step (kinds_of ts) s Int w h (refl, t, refl); ends = refl })
   walk_factor ts s (is_value h) o t n l r f w = sum_as (kinds_of ts) (omega arith) (record { last = Operand; walk = step (kinds_of ts) s Context w h (refl, t, refl); ends = refl })
   walk_factor ts s (in_parentheses b d c) o t n l r f w =
       let inner = walk_sum ts s d (Group ∷ o) refl n Other refl f (walk_as (kinds_of ts) (opened_round o n l r) (step (kinds_of ts) s LParen w b (refl, t, refl))) in
       record { last = Operand; walk = step (kinds_of ts) s RParen inner.walk c (refl, refl, refl); ends = refl }
 
--- Where items may stand: more than 255 arguments would be too many.
+-- Where items may stand: an atom there has no own link among its arguments.
 abbrev Outer : List Opened → Type 0
-Outer o = (has_too_many o ≡ false) × (limit_in o ≡ 255)
+Outer o = (has_too_many o ≡ false) × (limit_in o ≡ most_arguments)
 
 -- so many parts more may begin in a list
 abbrev Room : List Opened → ℕ → Type 0
@@ -175,13 +175,13 @@ next_added m o = ap (added m) (added_one o) ∙ added_twice 1 m o ∙ ap (λ z. 
 walked_as : (ks : List Kind) {q : ℕ} {o p : List Opened} {P : Last → Type 0} → o ≡ p → Walked ks q o P → Walked ks q p P
 walked_as ks {q} {P = P} e w = let Q : List Opened → Type 0 = λ z. Walked ks q z P in subst Q e w
 
-inner_least : (o : List Opened) → 254 ≤ limit_in o
+inner_least : (o : List Opened) → most_term_arguments ≤ limit_in o
 inner_least [] = omega arith
 inner_least (Arguments a b ∷ o) = omega arith
 inner_least (Terms ∷ o) = omega arith
 inner_least (Group ∷ o) = omega arith
 
-limit_least : (l : Last) (o : List Opened) → 254 ≤ limit_behind l o
+limit_least : (l : Last) (o : List Opened) → most_term_arguments ≤ limit_behind l o
 limit_least Equals o = omega arith
 limit_least (Word m) o = inner_least o
 limit_least (Digits m) o = inner_least o
@@ -190,7 +190,7 @@ limit_least Operand o = inner_least o
 limit_least Other o = inner_least o
 
 -- a comma outside argument lists begins no argument
-same_begun : (o : List Opened) → limit_in o ≡ 255 → one_more_begun o ≡ o
+same_begun : (o : List Opened) → limit_in o ≡ most_arguments → one_more_begun o ≡ o
 same_begun [] h = refl
 same_begun (Arguments a b ∷ o) h = absurd (omega (arith, h))
 same_begun (Terms ∷ o) h = refl
@@ -225,7 +225,7 @@ walk_name ts s o n l (inl h) t e w = step (kinds_of ts) s Name w h (refl, t, ref
 walk_name ts s o n l (inr (inl h)) t e w = step (kinds_of ts) s Quoted w h (refl, t, refl)
 walk_name ts s o n l (inr (inr h)) t e w =
     walk_as (kinds_of ts) (ap (λ b. state o (if b then n + 1 else 0) (if b then Other else Word (limit_behind l o))) e)
-    (step (kinds_of ts) s Mod w h (and_left (was_operand l) (nat_le 255 n) e, t, refl))
+    (step (kinds_of ts) s Mod w h (and_left (was_operand l) (nat_le most_operators n) e, t, refl))
 
 walk_context_arguments : (ts : List Token) → Shallow (kinds_of ts) → {xs : List ℕ} {p q : ℕ} → IsContextArguments ts xs p q → (o : List Opened) (m : ℕ) → has_too_many o ≡ false → length xs ≤ m →
     Walk (kinds_of ts) p (state o 0 (Word m)) → Walked (kinds_of ts) q o Any
@@ -275,7 +275,7 @@ record TermsWalked (xs : tree.Terms) (ks : List Kind) (q : ℕ) (o : List Opened
   pub walked : Walked ks q (added commas o) Any
 
 abbrev FullOnly : ℕ → Last → Type 0
-FullOnly n l = n ≤ 254 → NotFull l
+FullOnly n l = n ≤ most_term_arguments → NotFull l
 
 mutual
   walk_clauses : (ts : List Token) → Shallow (kinds_of ts) → {x : tree.Clauses} {p q : ℕ} → IsClauses ts x p q → FitsClauses x → (o : List Opened) → Outer o → (n : ℕ) → Walk (kinds_of ts) p (state o n Other) → Walked (kinds_of ts) q o Any
@@ -349,7 +349,7 @@ mutual
       walk_arguments ts s d f o (limit_behind l o) n (Digits (limit_behind l o)) t refl refl g (limit_least l o) (step (kinds_of ts) s Int w h (refl, t, refl))
 
   walk_arguments : (ts : List Token) → Shallow (kinds_of ts) → {x : tree.Terms} {p q : ℕ} → IsArguments ts x p q → FitsTerms x → (o : List Opened) (m n : ℕ) (l : Last) → has_too_many o ≡ false →
-      round_behind l ≡ Arguments m 1 → is_full l ≡ false → number_of_terms x ≤ m → 254 ≤ m → Walk (kinds_of ts) p (state o n l) → Walked (kinds_of ts) q o (FullOnly (number_of_terms x))
+      round_behind l ≡ Arguments m 1 → is_full l ≡ false → number_of_terms x ≤ m → most_term_arguments ≤ m → Walk (kinds_of ts) p (state o n l) → Walked (kinds_of ts) q o (FullOnly (number_of_terms x))
   walk_arguments ts s no_parentheses f o m n l t r e g b w = record { operators = n; last = l; walk = w; holds = λ h. e }
   walk_arguments ts s (no_arguments {p = p} a c) f o m n l t r e g b w =
       let inner : Walk (kinds_of ts) (p + 1) (state (Arguments m 1 ∷ o) n Other) = walk_as (kinds_of ts) (ap (λ x. state (x ∷ o) n Other) r) (step (kinds_of ts) s LParen w a (refl, t, refl)) in
@@ -367,7 +367,7 @@ mutual
         operators = inner.walked.operators;
         last = Closed (1 + inner.commas);
         walk = step (kinds_of ts) s RParen inner.walked.walk c (refl, not_lower m (1 + inner.commas) (omega (arith, count, g)), refl);
-        holds = λ h. below 255 (1 + inner.commas) (omega (arith, count, h));
+        holds = λ h. below most_arguments (1 + inner.commas) (omega (arith, count, h));
       }
 
   walk_terms : (ts : List Token) → Shallow (kinds_of ts) → {x : tree.Terms} {p q : ℕ} → IsTerms ts x p q → FitsTerms x → (o : List Opened) (n : ℕ) → Room o (number_of_terms x) → Walk (kinds_of ts) p (state o n Other) → TermsWalked x (kinds_of ts) q o
@@ -401,7 +401,7 @@ mutual
       let rest = walk_term ts s e f.1 (Terms ∷ o) 0 Other refl refl (step (kinds_of ts) s Bar inner.walked.walk h (refl, refl, refl)) in
       record { operators = 0; last = Other; walk = step (kinds_of ts) s RBracket rest.walk c (refl, refl, refl); holds = refl }
 
--- tokens of a tree that fits are within the limits, where no more than 200 brackets are open
+-- tokens of a tree that fits are within the limits, where no more brackets are open than may be
 pub fitting_within : FittingIsWithin
 fitting_within ts tree (q, d, e, l) f s =
     let all = walk_clauses ts s d f [] (refl, refl) 0 (record { before = []; split = refl; within = within_none; is = refl }) in

@@ -1,7 +1,8 @@
--- Trees of which no atom has more links than an arity holds, which is 255, the own link of a term included, and no side of a
--- condition more than 255 operators.
+-- Trees of which no atom has more links than an arity holds, the own link of a term included, and no side of a condition more
+-- operators than it may have.
 use Rattle.std.specs.Prelude.{ℕ, suc, ◌+◌, ◌≤◌, length}
 use Rattle.std.specs.List.{AllByRecursion}
+use Rattle.lmn_grammar.specs.Limits.{most_operators, most_arguments, most_term_arguments}
 use Rattle.lmn_parser.specs.Syntax.{Expr, integer, value, operation, WrittenCondition, called, compared, equal, different, Term, link, atom, list, list_onto, context, membrane, Terms, no_term, term_and, Item, atom_item, membrane_item, context_item, closed_item, bracketed, rule_context, plus_link, group, equation, Items, no_item, item_and, Clause, process, rule, Clauses, no_clause, clause_and}
 
 abbrev pub number_of_terms : Terms → ℕ
@@ -14,18 +15,18 @@ operators_of (integer p) = 0
 operators_of (value p) = 0
 operators_of (operation op l r) = operators_of l + operators_of r + 1
 
--- a condition that is called by a name has at most 255 contexts, and each side of another at most 255 operators
+-- a condition that is called by a name has no more contexts than an atom may have arguments, and no side of another has too many operators
 abbrev pub FitsCondition : WrittenCondition → Type 0
-FitsCondition (called name contexts) = length contexts ≤ 255
-FitsCondition (compared op l r sign) = (operators_of l ≤ 255) × (operators_of r ≤ 255)
-FitsCondition (equal p e sign) = operators_of e ≤ 255
+FitsCondition (called name contexts) = length contexts ≤ most_arguments
+FitsCondition (compared op l r sign) = (operators_of l ≤ most_operators) × (operators_of r ≤ most_operators)
+FitsCondition (equal p e sign) = operators_of e ≤ most_operators
 FitsCondition (different p q sign) = Unit {0}
 
--- an atom that is a term has at most 254 arguments, and an atom that is an item at most 255
+-- an atom that is a term has at most one argument fewer than an atom that is an item may have
 abbrev mutual
   pub FitsTerm : Term → Type 0
   FitsTerm (link p) = Unit {0}
-  FitsTerm (atom name ts) = (number_of_terms ts ≤ 254) × FitsTerms ts
+  FitsTerm (atom name ts) = (number_of_terms ts ≤ most_term_arguments) × FitsTerms ts
   FitsTerm (list ts) = FitsTerms ts
   FitsTerm (list_onto ts t) = FitsTerms ts × FitsTerm t
   FitsTerm (context p) = Unit {0}
@@ -36,7 +37,7 @@ abbrev mutual
   FitsTerms (term_and t ts) = FitsTerm t × FitsTerms ts
 
   pub FitsItem : Item → Type 0
-  FitsItem (atom_item name ts) = (number_of_terms ts ≤ 255) × FitsTerms ts
+  FitsItem (atom_item name ts) = (number_of_terms ts ≤ most_arguments) × FitsTerms ts
   FitsItem (membrane_item cs) = FitsClauses cs
   FitsItem (context_item p) = Unit {0}
   FitsItem (closed_item p) = Unit {0}

@@ -1,7 +1,7 @@
 -- The laws of trees.
-use Rattle.std.specs.Prelude.{◌≡◌, List, ◌++◌}
+use Rattle.std.specs.Prelude.{◌≡◌, ◌+◌, List, ◌++◌}
 use Rattle.lmn_grammar.specs.Grammar.{Derives, program}
-use Rattle.lmn_grammar.specs.Limits.{Open}
+use Rattle.lmn_grammar.specs.Limits.{Open, most_brackets}
 use Rattle.lmn_grammar.specs.Refusing.{IsWithin}
 use Rattle.lmn_lexer.specs.declared.token.Kind.{Kind}
 use Rattle.lmn_lexer.specs.declared.token.Token.{Token}
@@ -22,14 +22,14 @@ OneProgram = (tokens : List Token) (tree other : Clauses) → IsProgram tokens t
 abbrev pub DerivedIsTree : Type 0
 DerivedIsTree = (tokens : List Token) → Derives program (kinds_of tokens) → (tree : Clauses) × IsProgram tokens tree
 
--- tokens within the limits are a tree of which no atom has more links than an arity holds, and no side more than 255 operators
+-- tokens within the limits are a tree of which no atom has more links than an arity holds, and no side more operators than it may have
 abbrev pub TreesFit : Type 0
 TreesFit = (tokens : List Token) (tree : Clauses) → IsProgram tokens tree → IsWithin (kinds_of tokens) → FitsClauses tree
 
--- nowhere more than 200 brackets are open
+-- nowhere more brackets are open than may be
 abbrev pub Shallow : List Kind → Type 0
-Shallow kinds = (front rest : List Kind) → kinds ≡ front ++ rest → ¬ (Open 201 front)
+Shallow kinds = (front rest : List Kind) → kinds ≡ front ++ rest → ¬ (Open (most_brackets + 1) front)
 
--- and tokens that are such a tree are within the limits, where nowhere more than 200 brackets are open
+-- and tokens that are such a tree are within the limits, where nowhere more brackets are open than may be
 abbrev pub FittingIsWithin : Type 0
 FittingIsWithin = (tokens : List Token) (tree : Clauses) → IsProgram tokens tree → FitsClauses tree → Shallow (kinds_of tokens) → IsWithin (kinds_of tokens)

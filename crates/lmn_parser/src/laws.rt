@@ -16,7 +16,7 @@ pub fn trees_are_one()
 {}
 
 /// Tokens that are a tree are within the limits exactly where no atom of it has more links than an arity holds, no
-/// side more than 255 operators, and nowhere more than 200 brackets are open.
+/// side more operators than it may have, and nowhere more brackets are open than may be.
 pub fn trees_fit()
     ensures fit { TreesFit }
     ensures within { FittingIsWithin }

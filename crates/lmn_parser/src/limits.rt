@@ -9,11 +9,11 @@ use lmn_base::{NoMemory, Rows};
 use lmn_lexer::{Kind, PackedToken};
 use std::alloc::Global;
 
-/// How many brackets may be open round another one.
+/// How many brackets may be open round another one: `most_brackets`.
 const BRACKETS: usize = 200;
-/// How many operators one side of a comparison or of `=` may have.
+/// How many operators one side of a comparison or of `=` may have: `most_operators`.
 const OPERATORS: u16 = 255;
-/// How many arguments an atom may have, its own link included.
+/// How many arguments an atom may have, its own link included: `most_arguments`.
 const ARGUMENTS: u8 = 255;
 
 const TOO_DEEP: u8 = 11;
