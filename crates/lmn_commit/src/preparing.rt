@@ -9,7 +9,7 @@ ghost use Rattle.lmn_commit.specs.Preparing.{AllUse, AtomIsMade, CanBeCopied, Ca
 ghost use Rattle.lmn_registers.specs.declared.stack.TheConstants.{ROOM};
 
 use lmn_base::{Functor, Label, NoMemory};
-use lmn_ground::{copy, size_of};
+use lmn_ground::copy_counted;
 use lmn_instr::Instr;
 use lmn_registers::{PartCopy, SetRegisters};
 use lmn_store::LinkStore;
@@ -59,9 +59,11 @@ fn make_copy<S: LinkStore>(
     ensures ok { OnOk result (CopyIsMade S.atom_id (S.heap store.old) (S.heap store.new) set.old set.new (S.atom_id part.0, part.1)) }
     ensures makes { OnlyMakes (S.heap store.old) (S.heap store.new) }
 {
-    let atoms = size_of(store, part);
-    let root = copy(alloc, store, part)?;
-    set.copies.push(PartCopy { root, atoms });
+    let copied = copy_counted(alloc, store, part)?;
+    set.copies.push(PartCopy {
+        root: copied.root,
+        atoms: copied.atoms,
+    });
     Ok(())
 }
 
