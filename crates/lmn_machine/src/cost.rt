@@ -1,5 +1,5 @@
 //! How many items a commit leaves.
-ghost use Rattle.std.specs.Prelude.{◌≡◌, ◌<◌, ◌≤◌, ◌+◌, ◌-◌, ◌^◌, ℕ, length, min};
+ghost use Rattle.std.specs.Prelude.{◌≡◌, ◌<◌, ◌≤◌, ◌+◌, ◌-◌, ◌^◌, ℕ, length, min, IfSome, IsSomeAnd};
 ghost use Rattle.std.specs.List.{AllByRecursion};
 ghost use Rattle.lmn_heap.specs.Heap.{rules_in, Unmarked};
 ghost use Rattle.lmn_heap.specs.Sound.{Valid};
@@ -14,17 +14,55 @@ use lmn_instr::{Code, Instr};
 use lmn_registers::SetRegisters;
 use lmn_store::LinkStore;
 
-/// The number of atoms of a typed context that was found.
-fn part_size<S: LinkStore>(store: &mut S, set: &SetRegisters<S::Atom, S::Mem>, part: u16) -> u64
+/// How many atoms a typed context has.
+#[derive(Clone, Copy, Drop)]
+struct Counted {
+    part: u16,
+    atoms: u64,
+}
+
+/// The number of atoms that is kept, where it is that of this typed context.
+fn kept_size(kept: &Option<Counted>, part: u16) -> Option<u64>
+    ensures { IfSome result (λ n. IsSomeAnd kept.now (λ k. (k.part ≡ part) × (k.atoms ≡ n))) }
+{
+    match kept {
+        Some(counted) => {
+            if counted.part == part {
+                Some(counted.atoms)
+            } else {
+                None
+            }
+        }
+        None => None,
+    }
+}
+
+/// The number of atoms of a typed context that was found. Of the last one that has more than one atom it is kept.
+fn part_size<S: LinkStore>(
+    store: &mut S,
+    set: &SetRegisters<S::Atom, S::Mem>,
+    part: u16,
+    kept: &mut Option<Counted>,
+) -> u64
     requires unmarked { Unmarked (S.heap store.old) }
     requires held { AreHeldWhole S.atom_id S.mem_id (S.heap store.old) set.now }
     requires part { part < length set.now.parts }
+    requires kept { IfSome kept.old (λ k. (s : HeadRegisters) → Agrees S.atom_id S.mem_id set.now s → IsSize (S.heap store.old) (s.images.part k.part) k.atoms) }
     ensures same { S.heap store.new ≡ S.heap store.old }
     ensures size { (s : HeadRegisters) → Agrees S.atom_id S.mem_id set.now s → IsSize (S.heap store.old) (s.images.part part) result }
+    ensures kept { IfSome kept.new (λ k. (s : HeadRegisters) → Agrees S.atom_id S.mem_id set.now s → IsSize (S.heap store.old) (s.images.part k.part) k.atoms) }
 {
+    if let Some(atoms) = kept_size(kept, part) {
+        return atoms;
+    }
     let _root = store.root();
     let root = set.parts.at(part as usize);
-    size_of(store, root)
+    let atoms = size_of(store, root);
+    if atoms == 1 {
+        return atoms;
+    }
+    *kept = Some(Counted { part, atoms });
+    atoms
 }
 
 /// The number of rules of a membrane that was found.
@@ -38,18 +76,25 @@ fn rules_of<S: LinkStore>(store: &S, set: &SetRegisters<S::Atom, S::Mem>, membra
 }
 
 /// How many items an instruction of a body adds.
-fn added<S: LinkStore>(store: &mut S, set: &SetRegisters<S::Atom, S::Mem>, instr: &Instr) -> u64
+fn added<S: LinkStore>(
+    store: &mut S,
+    set: &SetRegisters<S::Atom, S::Mem>,
+    instr: &Instr,
+    kept: &mut Option<Counted>,
+) -> u64
     requires unmarked { Unmarked (S.heap store.old) }
     requires held { AreHeldWhole S.atom_id S.mem_id (S.heap store.old) set.now }
     requires told { IsTold (length set.now.membranes) (length set.now.parts) instr.now }
+    requires kept { IfSome kept.old (λ k. (s : HeadRegisters) → Agrees S.atom_id S.mem_id set.now s → IsSize (S.heap store.old) (s.images.part k.part) k.atoms) }
     ensures same { S.heap store.new ≡ S.heap store.old }
     ensures adds { (s : HeadRegisters) → Agrees S.atom_id S.mem_id set.now s → AddsItems (S.heap store.old) s instr.now result }
+    ensures kept { IfSome kept.new (λ k. (s : HeadRegisters) → Agrees S.atom_id S.mem_id set.now s → IsSize (S.heap store.old) (s.images.part k.part) k.atoms) }
 {
     match instr {
         Instr::NewAtom { .. } => 1,
         Instr::NewInt { .. } => 1,
         Instr::NewMem { .. } => 1,
-        Instr::CopyGround { part, .. } => part_size(store, set, *part),
+        Instr::CopyGround { part, .. } => part_size(store, set, *part, kept),
         Instr::LoadRule { .. } => 1,
         Instr::CopyRules { from, .. } => rules_of(store, set, *from),
         _ => 0,
@@ -57,17 +102,24 @@ fn added<S: LinkStore>(store: &mut S, set: &SetRegisters<S::Atom, S::Mem>, instr
 }
 
 /// How many items an instruction of a body takes.
-fn taken<S: LinkStore>(store: &mut S, set: &SetRegisters<S::Atom, S::Mem>, instr: &Instr) -> u128
+fn taken<S: LinkStore>(
+    store: &mut S,
+    set: &SetRegisters<S::Atom, S::Mem>,
+    instr: &Instr,
+    kept: &mut Option<Counted>,
+) -> u128
     requires unmarked { Unmarked (S.heap store.old) }
     requires held { AreHeldWhole S.atom_id S.mem_id (S.heap store.old) set.now }
     requires told { IsTold (length set.now.membranes) (length set.now.parts) instr.now }
+    requires kept { IfSome kept.old (λ k. (s : HeadRegisters) → Agrees S.atom_id S.mem_id set.now s → IsSize (S.heap store.old) (s.images.part k.part) k.atoms) }
     ensures same { S.heap store.new ≡ S.heap store.old }
     ensures few { result ≤ 2 ^ 64 }
     ensures takes { (s : HeadRegisters) → Agrees S.atom_id S.mem_id set.now s → TakesItems (S.heap store.old) s instr.now result }
+    ensures kept { IfSome kept.new (λ k. (s : HeadRegisters) → Agrees S.atom_id S.mem_id set.now s → IsSize (S.heap store.old) (s.images.part k.part) k.atoms) }
 {
     match instr {
         Instr::RemoveAtom { .. } => 1,
-        Instr::RemovePart { part } => u128::from(part_size(store, set, *part)),
+        Instr::RemovePart { part } => u128::from(part_size(store, set, *part, kept)),
         Instr::RemoveMem { membrane } => 1 + u128::from(rules_of(store, set, *membrane)),
         _ => 0,
     }
@@ -88,9 +140,10 @@ fn items_left<S: LinkStore>(
 {
     let mut all_added: u128 = 0;
     let mut all_taken: u128 = 0;
+    let mut kept: Option<Counted> = None;
     for i in 0..body.len() {
-        all_added += u128::from(added(store, set, &body[i]));
-        all_taken += taken(store, set, &body[i]);
+        all_added += u128::from(added(store, set, &body[i], &mut kept));
+        all_taken += taken(store, set, &body[i], &mut kept);
     }
     capped(store.items(), all_added, all_taken)
 }

@@ -1,6 +1,10 @@
-use Rattle.std.proofs.Common.{drop, refl, subst, arith, ◌∙◌, ◌≡◌, ◌+◌}
+use Rattle.std.proofs.Common.{drop, refl, sym, subst, arith, ◌∙◌, ◌≡◌, ◌+◌}
+use Rattle.std.specs.Prelude.{IfSome}
+use Rattle.lmn_heap.specs.Heap.{Heap}
+use Rattle.lmn_instr.specs.Running.{HeadRegisters}
+use Rattle.lmn_registers.specs.Agreeing.{Agrees}
 use Rattle.lmn_heap.specs.Sound.{Forest, IsTree, flat, item_count_in}
-use Rattle.lmn_machine.specs.Costs.{AddsItems, TakesItems}
+use Rattle.lmn_machine.specs.Costs.{AddsItems, IsSize, TakesItems}
 use Rattle.lmn_machine.proofs.Calling.{drop_at, drop_none}
 use Rattle.lmn_machine.proofs.Costing.{sum_first, sum_next, sum_last, left_over}
 use Rattle.lmn_machine.proofs.cost.items_left.Goals as goal
@@ -10,6 +14,7 @@ loop-i-init g c = record {
   same = refl;
   added_few = omega arith;
   taken_few = omega arith;
+  kept = tt;
   adds = λ s a. sum_first (AddsItems (g.S.LinkStore.heap c.args.store.now) s) c.args.body.now (drop 0 c.args.body.now) 0 refl refl;
   takes = λ s a. sum_first (TakesItems (g.S.LinkStore.heap c.args.store.now) s) c.args.body.now (drop 0 c.args.body.now) 0 refl refl;
 }
@@ -26,6 +31,7 @@ loop-i-preserved g c =
       same = c.taken-all_taken.ensures.same ∙ (c.added.ensures.same ∙ c.loop-i.invariant.same);
       added_few = omega (arith, a);
       taken_few = omega (arith, t, few);
+      kept = subst (λ (h : Heap). IfSome c.taken-all_taken.new.kept (λ k. (s : HeadRegisters) → Agrees g.S.LinkStore.atom_id g.S.LinkStore.mem_id c.args.set.now s → IsSize h (s.images.part k.part) k.atoms)) (c.added.ensures.same ∙ c.loop-i.invariant.same) c.taken-all_taken.ensures.kept;
       adds = λ s g'. sum_next (AddsItems (g.S.LinkStore.heap c.args.store.now) s) c.args.body.now (drop c.loop-i.i c.args.body.now) (drop (c.loop-i.i + 1) c.args.body.now) c.index-body-i.result c.loop-i.all_added c.added.result _ ahead
           (subst (λ h. AddsItems h s c.index-body-i.result c.added.result) c.loop-i.invariant.same (c.added.ensures.adds s g')) (omega (arith, from)) (c.loop-i.invariant.adds s g');
       takes = λ s g'. sum_next (TakesItems (g.S.LinkStore.heap c.args.store.now) s) c.args.body.now (drop c.loop-i.i c.args.body.now) (drop (c.loop-i.i + 1) c.args.body.now) c.index-body-i-in-loop-i.result c.loop-i.all_taken c.taken-all_taken.result _ again
@@ -42,3 +48,9 @@ returns-clause-left g c = λ s n a l.
     let takes = sum_last (TakesItems h s) c.args.body.now (drop c.loop-i.i c.args.body.now) c.loop-i.all_taken none (c.loop-i.invariant.takes s a) in
     let count = subst (λ k. (e : Forest) → IsTree k e → c.items.result + 1 ≡ item_count_in k (flat e)) c.loop-i.invariant.same c.items.ensures f tree in
     c.capped.ensures n (left_over h s c.args.body.now n c.items.result c.loop-i.all_added c.loop-i.all_taken f tree count adds takes l))
+
+pub added-requires-clause-kept : goal.added-requires-clause-kept
+added-requires-clause-kept g c = subst (λ (h : Heap). IfSome c.loop-i.kept (λ k. (s : HeadRegisters) → Agrees g.S.LinkStore.atom_id g.S.LinkStore.mem_id c.args.set.now s → IsSize h (s.images.part k.part) k.atoms)) (sym c.loop-i.invariant.same) c.loop-i.invariant.kept
+
+pub taken-all_taken-requires-clause-kept : goal.taken-all_taken-requires-clause-kept
+taken-all_taken-requires-clause-kept g c = subst (λ (h : Heap). IfSome c.added.new.kept (λ k. (s : HeadRegisters) → Agrees g.S.LinkStore.atom_id g.S.LinkStore.mem_id c.args.set.now s → IsSize h (s.images.part k.part) k.atoms)) (sym c.added.ensures.same) c.added.ensures.kept

@@ -1,7 +1,8 @@
 use Rattle.std.proofs.Common.{◌≡◌, ◌≤◌, ◌*◌, ◌^◌, drop}
+use Rattle.std.specs.Prelude.{IfSome}
 use Rattle.lmn_instr.specs.Running.{HeadRegisters}
 use Rattle.lmn_registers.specs.Agreeing.{Agrees}
-use Rattle.lmn_machine.specs.Costs.{AddsItems, TakesItems}
+use Rattle.lmn_machine.specs.Costs.{AddsItems, IsSize, TakesItems}
 use Rattle.lmn_machine.proofs.Costing.{SoFar}
 use Rattle.lmn_machine.proofs.cost.items_left.Given as goal
 
@@ -10,6 +11,7 @@ invariant-loop-i g l = record {
   same : g.S.LinkStore.heap l.store ≡ g.S.LinkStore.heap l.fn.store;
   added_few : l.all_added ≤ l.i * (2 ^ 64);
   taken_few : l.all_taken ≤ l.i * (2 ^ 64);
+  kept : IfSome l.kept (λ k. (s : HeadRegisters) → Agrees g.S.LinkStore.atom_id g.S.LinkStore.mem_id l.set s → IsSize (g.S.LinkStore.heap l.fn.store) (s.images.part k.part) k.atoms);
   adds : (s : HeadRegisters) → Agrees g.S.LinkStore.atom_id g.S.LinkStore.mem_id l.set s → SoFar (AddsItems (g.S.LinkStore.heap l.fn.store) s) l.body (drop l.i l.body) l.all_added;
   takes : (s : HeadRegisters) → Agrees g.S.LinkStore.atom_id g.S.LinkStore.mem_id l.set s → SoFar (TakesItems (g.S.LinkStore.heap l.fn.store) s) l.body (drop l.i l.body) l.all_taken;
 }
