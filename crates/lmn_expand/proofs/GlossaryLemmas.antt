@@ -12,6 +12,7 @@ use Rattle.lmn_base.specs.declared.functor.Label.{Label}
 use Rattle.lmn_base.specs.declared.functor.Label.TheVariants as base
 use Rattle.lmn_base.specs.declared.refusal.Refusal.{Refusal}
 use Rattle.lmn_base.specs.Firsts.{AnswersBy, NoneApplies, RefusedBy, Row}
+use Rattle.lmn_base.specs.Limits.{longest_name}
 use Rattle.lmn_base.specs.Names.{first_names, IsNames}
 use Rattle.lmn_congruence.specs.Rules as tree
 use Rattle.lmn_lexer.specs.declared.token.Kind.{Kind}
@@ -140,12 +141,12 @@ some_byte minus (b ∷ bs) h = omega arith
 
 right_word : (minus : Bool) (kind : Kind) (bytes after : List ℕ) → Spells minus kind bytes → ((code : ℕ) → TokenFault kind bytes after code → ⊥)
     → IsRightWord kind bytes
-right_word minus Name bytes after s right = at_most (length bytes) 255 (λ l. right 5 (long_name l))
+right_word minus Name bytes after s right = at_most (length bytes) longest_name (λ l. right 5 (long_name l))
 right_word minus Mod bytes after s right = let e = ap length s in omega arith
-right_word minus Link bytes after s right = at_most (length bytes) 255 (λ l. right 5 (long_name l))
-right_word minus Quoted bytes after s right = (s.0, s.1, at_most (length s.0) 255 (λ l. right 5 (long_name (s.0, s.1, l))))
-right_word minus Context bytes after s right = (some_byte minus bytes (inl s), at_most (length bytes) 256 (λ l. right 5 (long_name (omega (arith, l)))))
-right_word minus RuleCtx bytes after s right = (some_byte minus bytes (inr s), at_most (length bytes) 256 (λ l. right 5 (long_name (omega (arith, l)))))
+right_word minus Link bytes after s right = at_most (length bytes) longest_name (λ l. right 5 (long_name l))
+right_word minus Quoted bytes after s right = (s.0, s.1, at_most (length s.0) longest_name (λ l. right 5 (long_name (s.0, s.1, l))))
+right_word minus Context bytes after s right = (some_byte minus bytes (inl s), at_most (length bytes) (1 + longest_name) (λ l. right 5 (long_name (omega (arith, l)))))
+right_word minus RuleCtx bytes after s right = (some_byte minus bytes (inr s), at_most (length bytes) (1 + longest_name) (λ l. right 5 (long_name (omega (arith, l)))))
 right_word minus Int bytes after s right = in_range bytes
     (λ out. right 4 (integer_out_of_range refl (λ fraction. right 6 (floating_point refl fraction)) out))
 right_word minus _ bytes after s right = tt
@@ -177,9 +178,9 @@ entry_label r g p e l is at m =
     let P : Meaning → Type 0 = IsMeaning r.names r.links (word_at r.words r.places p) in
     label_is r.names is.names (label_at r.words r.places p) l (subst P m (is.entries p e at).1)
 
--- a quoted name has at most 255 bytes
+-- a quoted name isn't too long
 pub quoted_short : (kind : Kind) (bytes seen name all : List ℕ) → kind ≡ Quoted → IsRightWord kind bytes → seen ≡ bytes → IsQuoted seen name → all ≡ name
-    → length all ≤ 255
+    → length all ≤ longest_name
 quoted_short kind bytes seen name all e right s q a =
     let P : Kind → Type 0 = λ k. IsRightWord k bytes in
     let Q : List ℕ → Type 0 = λ b. IsQuoted b name in

@@ -1,5 +1,6 @@
 -- What the tokens of a text mean, by the numbers of names.
-use Rattle.std.specs.Prelude.{ℕ, ◌≡◌, ◌≤◌, List, ◌++◌, map, length, codes, slice_get, Some}
+use Rattle.std.specs.Prelude.{ℕ, ◌≡◌, ◌+◌, ◌≤◌, List, ◌++◌, map, length, codes, slice_get, Some}
+use Rattle.lmn_base.specs.Limits.{longest_name}
 use Rattle.lmn_base.specs.declared.functor.Label.{Label}
 use Rattle.lmn_base.specs.declared.functor.Label.TheVariants.{Name, Int}
 use Rattle.lmn_base.specs.declared.refusal.Pos.{Pos}
@@ -60,14 +61,14 @@ pub record GrowsBy (n : ℕ) (old new : List tree.Name) : Type 0 where
   pub grown : new ≡ old ++ more
   pub few : length more ≤ n
 
--- a word whose name has at most 255 bytes, or whose integer has 64 bits
+-- a word whose name isn't too long, or whose integer has 64 bits
 abbrev pub IsRightWord : Kind → List ℕ → Type 0
-IsRightWord kind.Name bytes = length bytes ≤ 255
-IsRightWord kind.Mod bytes = length bytes ≤ 255
-IsRightWord kind.Link bytes = length bytes ≤ 255
-IsRightWord kind.Quoted bytes = (name : List ℕ) × IsQuoted bytes name × (length name ≤ 255)
-IsRightWord kind.Context bytes = (1 ≤ length bytes) × (length bytes ≤ 256)
-IsRightWord kind.RuleCtx bytes = (1 ≤ length bytes) × (length bytes ≤ 256)
+IsRightWord kind.Name bytes = length bytes ≤ longest_name
+IsRightWord kind.Mod bytes = length bytes ≤ longest_name
+IsRightWord kind.Link bytes = length bytes ≤ longest_name
+IsRightWord kind.Quoted bytes = (name : List ℕ) × IsQuoted bytes name × (length name ≤ longest_name)
+IsRightWord kind.Context bytes = (1 ≤ length bytes) × (length bytes ≤ 1 + longest_name)
+IsRightWord kind.RuleCtx bytes = (1 ≤ length bytes) × (length bytes ≤ 1 + longest_name)
 IsRightWord kind.Int bytes = SpelledInRange bytes
 IsRightWord _ bytes = Unit {0}
 

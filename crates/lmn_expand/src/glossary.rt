@@ -1,5 +1,6 @@
 ghost use Rattle.std.specs.Prelude.{◌≡◌, ◌+◌, ◌≤◌, ◌<◌, ◌^◌, List, length, slice_get, Some, IfOk, OnOk};
 ghost use Rattle.std.specs.List.{AllByRecursion};
+ghost use Rattle.lmn_base.specs.Limits.{longest_name};
 ghost use Rattle.lmn_base.specs.Names.{IsNames};
 ghost use Rattle.lmn_congruence.specs.Rules.{Name, named};
 ghost use Rattle.lmn_lexer.specs.Cutting.{Cuts};
@@ -160,7 +161,7 @@ impl Glossary {
 
 /// The number of a name in a list that has room.
 fn put(names: &mut Names, name: &[u8]) -> Result<u32, NoMemory>
-    requires short { length name.now ≤ 255 }
+    requires short { length name.now ≤ longest_name }
     requires room { length names.old < 2 ^ 32 }
     ensures grows { GrowsBy 1 names.old names.new }
     ensures names { OnOk result (names.new ≡ with_name names.old name.now) }
@@ -242,7 +243,7 @@ fn spelled(
 
 /// The meaning of a token with a name.
 fn named_by(names: &mut Names, name: &[u8]) -> Result<Meaning, NoMemory>
-    requires short { length name.now ≤ 255 }
+    requires short { length name.now ≤ longest_name }
     requires room { length names.old < 2 ^ 32 }
     ensures grows { GrowsBy 1 names.old names.new }
     ensures names { OnOk result (names.new ≡ with_name names.old name.now) }
