@@ -42,6 +42,7 @@ is_out a xs d = by (is_in xs a) refl
     by true e = absurd (d (in_is a xs e))
     by false e = refl
 
+-- and the other way
 pub out_is : (a : ℕ) (xs : List ℕ) → is_in xs a ≡ false → In a xs → ⊥
 out_is a xs e i = let f = is_in_true a xs i in (cc)
 
@@ -140,12 +141,13 @@ same_dropped s D D' N N' f g h k =
       | inr d ↦ is_out a xs d ∙ sym (is_out a ys (λ i. d (g i)))
     ]
 
--- An atom is taken.
+-- One more is taken.
 module _ (s : Heap) (listed : Listed s) (D N : List ℕ) where
   -- what the heap says of an atom and a membrane that aren't taken
   pub home_left : (a : ℕ) → (In a D → ⊥) → home_of (dropped s D N) a ≡ home_of s a
   home_left a d = ap (λ t. option_and_then (λ (x : HeapAtom). home_by x.place) (if t then option_map (with_place gone) (s.atoms a) else s.atoms a)) (is_out a D d)
 
+  -- the same of a membrane
   pub parent_left : (n : ℕ) → (In n N → ⊥) → parent_of (dropped s D N) n ≡ parent_of s n
   parent_left n d = ap (λ t. option_and_then (λ (x : HeapMem). home_by x.place) (option_map (mem_dropped D N t) (s.mems n))) (is_out n N d) ∙ by (s.mems n)
     where
@@ -153,6 +155,7 @@ module _ (s : Heap) (listed : Listed s) (D N : List ℕ) where
       by None = refl
       by (Some x) = refl
 
+  -- one that is taken has none round it
   pub parent_gone : (n : ℕ) → In n N → parent_of (dropped s D N) n ≡ None
   parent_gone n i = ap (λ t. option_and_then (λ (x : HeapMem). home_by x.place) (option_map (mem_dropped D N t) (s.mems n))) (is_in_true n N i) ∙ by (s.mems n)
     where
@@ -160,6 +163,7 @@ module _ (s : Heap) (listed : Listed s) (D N : List ℕ) where
       by None = refl
       by (Some x) = refl
 
+  -- the lists of a membrane
   pub atoms_left : (m : ℕ) → atoms_in (dropped s D N) m ≡ but D (atoms_in s m)
   atoms_left m = by (is_in N m) (s.mems m)
     where
@@ -174,6 +178,7 @@ module _ (s : Heap) (listed : Listed s) (D N : List ℕ) where
       by t None = refl
       by t (Some x) = refl
 
+  -- no membrane is freed
   pub still_mem : (m : ℕ) → IsMem s m → IsMem (dropped s D N) m
   still_mem m h = by (is_in N m) (s.mems m) h
     where
@@ -181,6 +186,7 @@ module _ (s : Heap) (listed : Listed s) (D N : List ℕ) where
       by t None h = h
       by t (Some x) h = refl
 
+  -- an atom is taken
   pub taken_dropped : (a k : ℕ) → (In a D → ⊥) → home_of s a ≡ Some k → taken (dropped s D N) a ≡ dropped s (a ∷ D) N
   taken_dropped a k d e =
       ap (λ (h : Option ℕ). record (dropped s D N) { atoms = alter (dropped s D N).atoms a (option_map (with_place gone)); mems = atom_out (dropped s D N).mems h a }) (home_left a d ∙ e)
@@ -260,6 +266,7 @@ abbrev pub onto : List ℕ → List ℕ → List ℕ
 onto [] D = D
 onto (x ∷ xs) D = onto xs (x ∷ D)
 
+-- what is in one of the two is in both, and the other way
 pub onto_second : (xs D : List ℕ) (a : ℕ) → In a D → In a (onto xs D)
 onto_second [] D a i = i
 onto_second (x ∷ xs) D a i = onto_second xs (x ∷ D) a (inr i)

@@ -68,6 +68,7 @@ module _ (s : Heap) (sound : Sound s) (m : ℕ) (atoms ms : List ℕ) (r : IsCon
     },
   )
 
+  -- the membranes in it, as a function of the heap
   pub found_is : AtMost (2 ^ 48) s → rest_found s m [] ≡ ms
   found_is few = let w = as_left in rest_is s sound few m [] w.0 ms w.1
 
@@ -77,9 +78,11 @@ module _ (s : Heap) (sound : Sound s) (m : ℕ) (atoms ms : List ℕ) (r : IsCon
   flat_once : Distinct (flat r.forest)
   flat_once = subst Distinct r.preorder r.once
 
+  -- none of them stands twice
   pub all_once : Distinct (m ∷ ms)
   all_once = (each_of (λ z. m ≢ z) ms (λ z i e. r.outside (subst (λ x. In x ms) (sym e) i)), r.once)
 
+  -- what is behind the membrane itself, and behind one in it
   pub after_top : after m (m ∷ ms) ≡ ms
   after_top = rw (eq-eqb m m refl) refl
 
@@ -96,6 +99,7 @@ module _ (s : Heap) (sound : Sound s) (m : ℕ) (atoms ms : List ℕ) (r : IsCon
       let e : after n ms ≡ flat w.0 ++ (flat w.1 ++ w.2) = ap (after n) r.preorder ∙ after_at r.forest n w.0 w.1 w.2 flat_once w.3 in
       subst (In k) (sym (after_inner n p ∙ e)) (in_left k (flat w.0) (flat w.1 ++ w.2) (top_in s w.0 (mems_in s n) k q.inner i))
 
+  -- and it is one of these
   pub child_in : (n k : ℕ) → Here n → In k (mems_in s n) → In k ms
   child_in n k h i = by h (child_behind n k h i)
     where
@@ -116,6 +120,7 @@ module _ (s : Heap) (sound : Sound s) (m : ℕ) (atoms ms : List ℕ) (r : IsCon
       inside : (x : ℕ) (i b : Forest) (o : List ℕ) → At r.forest x i b o → In x ms
       inside x i b o a = let w = split_at r.forest x i b o a in subst (In x) (sym r.preorder) (subst (In x) (sym w.1) (in_here x w.0 (flat i ++ (flat b ++ o))))
 
+  -- each of them is a membrane
   pub is_mem : IsMem s m → (n : ℕ) → Here n → IsMem s n
   is_mem h n (inl e) = subst (IsMem s) (sym e) h
   is_mem h n (inr p) = let w = round_of n p in mem_by s n (within w.0) (parent_place s n w.0 w.1)
@@ -126,6 +131,7 @@ module _ (s : Heap) (sound : Sound s) (m : ℕ) (atoms ms : List ℕ) (r : IsCon
       subst (In a) (sym r.in_order) (in_left a (keep (λ _. true) (atoms_in s m)) (atoms_of_all s ms) (subst (In a) (sym (keep_all (atoms_in s m))) (subst (λ z. In a (atoms_in s z)) e i)))
   atom_in n a (inr p) i = subst (In a) (sym r.in_order) (in_right a (keep (λ _. true) (atoms_in s m)) (atoms_of_all s ms) (in_all s ms n a p i))
 
+  -- and each of these stands in one of them
   pub home_in : (a : ℕ) → In a atoms → (k : ℕ) × Here k × In a (atoms_in s k)
   home_in a i = elim (in_either a (keep (λ _. true) (atoms_in s m)) (atoms_of_all s ms) (subst (In a) r.in_order i)) [
     | inl j ↦ (m, inl refl, keep_in (λ _. true) (atoms_in s m) a j)
@@ -194,6 +200,7 @@ weight_less w h k n p (x ∷ xs) d (inr j) e f g =
 
 -- On the way.
 module _ (s : Heap) (sound : Sound s) (few : AtMost (2 ^ 48) s) (m : ℕ) (there : IsMem s m) (atoms ms : List ℕ) (r : IsContent s m atoms ms) where
+  -- nothing is taken at first
   pub starts : Dropping s s m atoms ms m
   starts = record {
     gone_atoms = [];
@@ -207,6 +214,7 @@ module _ (s : Heap) (sound : Sound s) (few : AtMost (2 ^ 48) s) (m : ℕ) (there
     stays = λ i. i;
   }
 
+  -- the stand is there, and so is the membrane itself
   pub stands : (h : Heap) (at : ℕ) → Dropping s h m atoms ms at → IsMem h at
   stands h at d = subst (λ z. IsMem z at) (sym d.is) (still_mem s sound.listed d.gone_atoms d.gone_mems at (is_mem s sound m atoms ms r there at d.here))
 

@@ -27,3 +27,4 @@ pub mod DroppingLaws
 pub mod PlaceLaws
 pub mod TwinLaws
 pub mod PlacingLaws
+pub mod MeasureLaws

@@ -12,6 +12,10 @@ use Rattle.lmn_base.specs.Lists.{In}
 use Rattle.lmn_base.proofs.Lists.{drop_get, get_there, head_is}
 use Rattle.lmn_parts.specs.Rests.{atoms_placed}
 
+-- what follows the first of a list
+pub behind_here : (y : ℕ) (ys : List ℕ) → after y (y ∷ ys) ≡ ys
+behind_here y ys = rw (eq-eqb y y refl) refl
+
 -- What placing atoms leaves as it is.
 module _ {X : Type 0} (view : Option HeapMem → X) (same : (f : List ℕ → List ℕ) (o : Option HeapMem) → view (option_map (mem_with_atoms f) o) ≡ view o) where
   pub atoms_keep : (f : ℕ → ℕ) (s : Heap) (n : ℕ) (xs : List ℕ) (z : ℕ) → view ((atoms_placed f s n xs).mems z) ≡ view (s.mems z)
@@ -31,26 +35,25 @@ atoms_line f s n (x ∷ xs) = atoms_line f (placed s n (f x)) n xs
 -- the atoms that are placed leave the line
 pub atoms_behind : (f : ℕ → ℕ) (s : Heap) (n : ℕ) (xs rest : List ℕ) → s.new_atoms ≡ map f xs ++ rest → (atoms_placed f s n xs).new_atoms ≡ rest
 atoms_behind f s n [] rest e = e
-atoms_behind f s n (x ∷ xs) rest e = atoms_behind f (placed s n (f x)) n xs rest (ap (after (f x)) e ∙ here (f x) (map f xs ++ rest))
-  where
-    here : (y : ℕ) (ys : List ℕ) → after y (y ∷ ys) ≡ ys
-    here y ys = rw (eq-eqb y y refl) refl
+atoms_behind f s n (x ∷ xs) rest e = atoms_behind f (placed s n (f x)) n xs rest (ap (after (f x)) e ∙ behind_here (f x) (map f xs ++ rest))
 
 -- copies of atoms are placed in the order of these
 pub atoms_mapped : (f : ℕ → ℕ) (s : Heap) (n : ℕ) (xs : List ℕ) → atoms_placed (λ a. a) s n (map f xs) ≡ atoms_placed f s n xs
 atoms_mapped f s n [] = refl
 atoms_mapped f s n (x ∷ xs) = atoms_mapped f (placed s n (f x)) n xs
 
--- The loop that places atoms.
+-- The loop that places atoms: what is left to be placed gives the same.
 abbrev pub LeftToPlace : Heap → Heap → ℕ → ℕ → List ℕ → List ℕ → Type 0
 LeftToPlace s t n i ys behind = (t.new_atoms ≡ drop i ys ++ behind) × (atoms_placed (λ a. a) t n (drop i ys) ≡ atoms_placed (λ a. a) s n ys)
 
+-- an atom waits where some are to be placed
 pub place_first : (t : Heap) (n i : ℕ) (ys behind : List ℕ) (s : Heap) → i < length ys → LeftToPlace s t n i ys behind → t.new_atoms ≡ [] → ⊥
 place_first t n i ys behind s l h e =
     let w = get_there ys i l in
     let f : [] ≡ w.0 ∷ (drop (i + 1) ys ++ behind) = sym e ∙ h.0 ∙ ap (λ zs. zs ++ behind) (drop_get i ys w.0 w.1) in
     cc
 
+-- one more is placed
 pub place_next : (s t u : Heap) (n i a : ℕ) (ys behind : List ℕ) → i < length ys → LeftToPlace s t n i ys behind → from (Some a) t.new_atoms ≡ t.new_atoms → u ≡ placed t n a → LeftToPlace s u n (i + 1) ys behind
 place_next s t u n i a ys behind l h e p =
     let w = get_there ys i l in
@@ -59,13 +62,11 @@ place_next s t u n i a ys behind l h e p =
     let line : t.new_atoms ≡ y ∷ (drop (i + 1) ys ++ behind) = h.0 ∙ ap (λ zs. zs ++ behind) d in
     let same : a ≡ y = head_is (e ∙ line) in
     let is : u ≡ placed t n y = p ∙ ap (placed t n) same in (
-      ap (λ z. z.new_atoms) is ∙ ap (after y) line ∙ here y (drop (i + 1) ys ++ behind),
+      ap (λ z. z.new_atoms) is ∙ ap (after y) line ∙ behind_here y (drop (i + 1) ys ++ behind),
       ap (λ z. atoms_placed (λ a. a) z n (drop (i + 1) ys)) is ∙ ap (atoms_placed (λ a. a) t n) (sym d) ∙ h.1,
     )
-  where
-    here : (y : ℕ) (ys : List ℕ) → after y (y ∷ ys) ≡ ys
-    here y ys = rw (eq-eqb y y refl) refl
 
+-- at the end all are
 pub place_last : (s t : Heap) (n i : ℕ) (ys behind : List ℕ) → length ys ≤ i → LeftToPlace s t n i ys behind → t ≡ atoms_placed (λ a. a) s n ys
 place_last s t n i ys behind l h = ap (atoms_placed (λ a. a) t n) (sym (none i ys l)) ∙ h.1
   where
@@ -80,10 +81,12 @@ pub place_stays : (f : List ℕ → List ℕ) (o : Option HeapMem) → option_ma
 place_stays f None = refl
 place_stays f (Some x) = refl
 
+-- and so does the membrane round one
 pub parent_stays : (f : List ℕ → List ℕ) (o : Option HeapMem) → option_and_then (λ (x : HeapMem). home_by x.place) (option_map (mem_with_atoms f) o) ≡ option_and_then (λ (x : HeapMem). home_by x.place) o
 parent_stays f None = refl
 parent_stays f (Some x) = refl
 
+-- what is in place stays there
 pub still_in_place : (t u : Heap) (n a m : ℕ) → u ≡ placed t n a → IsMemInPlace t m → IsMemInPlace u m
 still_in_place t u n a m e h =
     subst (λ z. IsMemInPlace z m) (sym e)
@@ -97,29 +100,6 @@ module _ (h : Heap) (p k : ℕ) where
     mem_keeps z =
         alter_keeps (alter h.mems k (option_map (mem_with_place (within p)))) p (option_map (mem_with_mems (λ xs. xs ++ k ∷ []))) view (list (λ xs. xs ++ k ∷ [])) z
         ∙ alter_keeps h.mems k (option_map (mem_with_place (within p))) view (here (within p)) z
-
-  pub kept_there : (z : ℕ) → IsMem h z → IsMem (placed_mem h p k) z
-  kept_there z i = back ((placed_mem h p k).mems z) (mem_keeps is_some a b z ∙ yes (h.mems z) i)
-    where
-      is_some : Option HeapMem → Bool
-      is_some None = false
-      is_some (Some x) = true
-
-      back : (o : Option HeapMem) → is_some o ≡ true → IsSome o
-      back None e = absurd (cc)
-      back (Some x) e = refl
-
-      a : (q : Place) (o : Option HeapMem) → is_some (option_map (mem_with_place q) o) ≡ is_some o
-      a q None = refl
-      a q (Some x) = refl
-
-      b : (f : List ℕ → List ℕ) (o : Option HeapMem) → is_some (option_map (mem_with_mems f) o) ≡ is_some o
-      b f None = refl
-      b f (Some x) = refl
-
-      yes : (o : Option HeapMem) → IsSome o → is_some o ≡ true
-      yes None i = absurd (cc)
-      yes (Some x) i = refl
 
 -- the atoms of a membrane stay when a copy is placed with its rules
 pub atoms_same : (h : Heap) (c y k z : ℕ) → atoms_in (rules_copied (placed_mem h c k) y k) z ≡ atoms_in h z

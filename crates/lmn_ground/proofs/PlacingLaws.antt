@@ -21,7 +21,7 @@ use Rattle.lmn_ground.specs.Rests.{AreTwins}
 use Rattle.lmn_ground.proofs.RestLaws.{atoms_once, bare_of}
 use Rattle.lmn_ground.proofs.DroppingLaws.{after_inner, after_top, all_once, is_mem, keep_all, less_behind, round_of}
 use Rattle.lmn_ground.proofs.TwinLaws.{either_here}
-use Rattle.lmn_ground.proofs.PlaceLaws.{atoms_away, atoms_behind, atoms_keep, atoms_line, atoms_mapped, parent_stays, place_stays}
+use Rattle.lmn_ground.proofs.PlaceLaws.{atoms_away, atoms_behind, atoms_keep, atoms_line, atoms_mapped, behind_here, parent_stays, place_stays}
 
 -- A membrane k of the line is placed in c, with the rules of y and copies of atoms.
 abbrev pub copy_placed : Heap → ℕ → ℕ → ℕ → List ℕ → Heap
@@ -49,9 +49,6 @@ module _ (h : Heap) (c y k : ℕ) (ys : List ℕ) where
 
     pub place_there : view ((copy_placed h c y k ys).mems k) ≡ view (option_map (mem_with_place (within c)) (h.mems k))
     place_there = to_place k ∙ ap view (alter_at h.mems k (option_map (mem_with_place (within c))))
-
-  parent_by : Option HeapMem → Option ℕ
-  parent_by o = option_and_then (λ (x : HeapMem). home_by x.place) o
 
   parent_rules : (f : List ℕ) (o : Option HeapMem) → option_and_then (λ (x : HeapMem). home_by x.place) (option_map (mem_with_rules f) o) ≡ option_and_then (λ (x : HeapMem). home_by x.place) o
   parent_rules f None = refl
@@ -83,10 +80,6 @@ module _ (h : Heap) (c y k : ℕ) (ys : List ℕ) where
       by : (o : Option HeapMem) → IsSome o → option_and_then (λ (x : HeapMem). home_by x.place) (option_map (mem_with_place (within c)) o) ≡ Some c
       by None i = absurd (cc)
       by (Some x) i = refl
-
--- what follows the first of two that differ
-pub behind_here : (y : ℕ) (ys : List ℕ) → after y (y ∷ ys) ≡ ys
-behind_here y ys = rw (eq-eqb y y refl) refl
 
 -- The copies of some of the membranes are placed: those up to `at` in preorder.
 pub record Placing (s h : Heap) (m n : ℕ) (atoms ms copies news : List ℕ) (at copy : ℕ) : Type 0 where
@@ -164,11 +157,13 @@ module _ (s : Heap) (sound : Sound s) (m n : ℕ) (there : IsMem s m) (outer : I
   split_atoms : atoms ≡ atoms_in s m ++ atoms_of_all s ms
   split_atoms = r.in_order ∙ ap (λ zs. zs ++ atoms_of_all s ms) (keep_all (atoms_in s m))
 
+  -- the copies of the atoms wait in the order of these
   pub atoms_wait : s.new_atoms ≡ map atom_copy (atoms_in s m) ++ (map atom_copy (atoms_of_all s ms) ++ w.line.0)
   atoms_wait =
       w.line.1 ∙ ap (λ zs. zs ++ w.line.0) (sym copies_are ∙ ap (map atom_copy) split_atoms ∙ map_append atom_copy (atoms_in s m) (atoms_of_all s ms))
       ∙ append_assoc (map atom_copy (atoms_in s m)) (map atom_copy (atoms_of_all s ms)) w.line.0
 
+  -- those of the membrane itself are the first
   pub first_line : (ys behind : List ℕ) × (length ys ≡ length (atoms_in s m)) × (s.new_atoms ≡ ys ++ behind)
   first_line = (map atom_copy (atoms_in s m), map atom_copy (atoms_of_all s ms) ++ w.line.0, length_mapped atom_copy (atoms_in s m), atoms_wait)
 
@@ -200,6 +195,7 @@ module _ (s : Heap) (sound : Sound s) (m n : ℕ) (there : IsMem s m) (outer : I
         );
       }
 
+  -- the same, of the first in the line, whatever they are called
   pub starts_from : (h : Heap) → ((ys behind : List ℕ) → length ys ≡ length (atoms_in s m) → s.new_atoms ≡ ys ++ behind → h ≡ atoms_placed (λ a. a) s n ys) → Placing s h m n atoms ms copies news m n
   starts_from h e = starts_placing h (e (map atom_copy (atoms_in s m)) (map atom_copy (atoms_of_all s ms) ++ w.line.0) (length_mapped atom_copy (atoms_in s m)) atoms_wait)
 
@@ -221,6 +217,7 @@ module _ (s : Heap) (sound : Sound s) (m n : ℕ) (there : IsMem s m) (outer : I
         same_atoms [] f = refl
         same_atoms (x ∷ xs) f = λ i. atoms_by (sym (f x (inl refl)) i) ++ same_atoms xs (λ z p. f z (inr p)) i
 
+    -- and so do the membranes in it
     pub still_there : (x : ℕ) → In x (m ∷ ms) → IsMem h x
     still_there x i = subst IsSome (sym (d.same x i)) (is_mem s sound m atoms ms r there x (either_here m x ms i))
 
@@ -231,6 +228,7 @@ module _ (s : Heap) (sound : Sound s) (m n : ℕ) (there : IsMem s m) (outer : I
         let v = d.twins p i in
         subst (IsMemInPlace h) f (subst IsTopOrWithin (sym (parent_place h (mem_copy p) (mem_copy v.0) v.3)) tt)
 
+    -- the copy of the stand is one
     pub copy_there : IsMem h copy
     copy_there = stands_some (h.mems copy) (copy_in_place at copy d.stand d.twin)
 
@@ -252,6 +250,7 @@ module _ (s : Heap) (sound : Sound s) (m n : ℕ) (there : IsMem s m) (outer : I
       y_in : In y ms
       y_in = behind_in_all y is_ahead
 
+      -- what the call that places a copy asks
       pub next_there : IsMem h y
       next_there = still_there y (inr y_in)
 

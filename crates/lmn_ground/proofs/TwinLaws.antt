@@ -21,10 +21,6 @@ pub either_here : (m x : ℕ) (ms : List ℕ) → In x (m ∷ ms) → (x ≡ m) 
 either_here m x ms (inl e) = inl (sym e)
 either_here m x ms (inr i) = inr i
 
-pub here_either : (m x : ℕ) (ms : List ℕ) → (x ≡ m) ⊎ In x ms → In x (m ∷ ms)
-here_either m x ms (inl e) = inl (sym e)
-here_either m x ms (inr i) = inr i
-
 module _ (s : Heap) (sound : Sound s) (m : ℕ) (atoms ms : List ℕ) (r : IsContent s m atoms ms) where
   all_kept : (o : Option ℕ) (xs : List ℕ) → from o xs ≡ xs → from o (keep (λ _. true) xs) ≡ keep (λ _. true) xs
   all_kept o xs e = subst (λ zs. from o zs ≡ zs) (sym (keep_all xs)) e
@@ -49,6 +45,7 @@ module _ (s : Heap) (sound : Sound s) (m : ℕ) (atoms ms : List ℕ) (r : IsCon
   abbrev pub Ahead : ℕ → ℕ → Type 0
   Ahead start at = ((at ≡ m) × (after start (m ∷ ms) ≡ [])) ⊎ (In start ms × In at ms × Left r.forest start at)
 
+  -- nothing is in the start
   pub ahead_starts : (at : ℕ) → In at (m ∷ ms) → mems_in s at ≡ [] → Ahead at at
   ahead_starts at i e = by (either_here m at ms i)
     where
@@ -61,6 +58,7 @@ module _ (s : Heap) (sound : Sound s) (m : ℕ) (atoms ms : List ℕ) (r : IsCon
           )
       by (inr j) = inr (j, j, begins s sound m (λ _. true) (λ _. true) atoms ms r at j e)
 
+  -- the stand is the membrane itself or one in it
   pub ahead_in : (start at : ℕ) → Ahead start at → In at (m ∷ ms)
   ahead_in start at (inl q) = inl (sym q.0)
   ahead_in start at (inr q) = inr q.1
@@ -141,6 +139,7 @@ twin_up s m twin placed at p copy c t (inr i) d f g h =
     let one : twin w.0 ≡ c = (cc) in
     (subst (λ z. In z (m ∷ placed)) same w.2, subst (λ z. twin z ≡ c) same one)
 
+-- and there is one
 pub twin_round : (s : Heap) (m : ℕ) (twin : ℕ → ℕ) (placed : List ℕ) (at copy : ℕ) → AreTwins s m twin placed → In at (m ∷ placed) → at ≢ m → twin at ≡ copy → parent_of s copy ≡ None → ⊥
 twin_round s m twin placed at copy t (inl e) d f h = d (sym e)
 twin_round s m twin placed at copy t (inr i) d f h = let w = t at i in let y : Some (twin w.0) ≡ None = sym w.3 ∙ ap (parent_of s) f ∙ h in cc

@@ -1,4 +1,4 @@
-use Rattle.std.proofs.Common.{◌≡◌, ◌<◌, ◌∷◌, None, length, refl, subst, sym, inl}
+use Rattle.std.proofs.Common.{◌≡◌, ◌<◌, ◌∷◌, length, refl, subst, sym, inl}
 use Rattle.std.specs.Option.{option_map}
 use Rattle.lmn_heap.specs.Heap.{after, from}
 use Rattle.lmn_parts.specs.Copies.{answer}
