@@ -1,16 +1,15 @@
 -- All that is in a membrane is taken, in any order.
-use Rattle.std.proofs.Common.{◌≡◌, ◌≢◌, ◌⊎◌, ℕ, zero, suc, ◌+◌, ◌*◌, ◌<◌, ◌≤◌, ◌-◌, ◌==◌, not, List, [], ◌∷◌, ◌++◌, length, true, false, Bool, Option, Some, None, IsSome, refl, sym, ap, subst, ◌∙◌, inl, inr, arith, if◌then◌else◌}
-use Rattle.std.proofs.lemmas.Bool.{cases_eq, eq-eqb, eqb-true}
+use Rattle.std.proofs.Common.{◌≡◌, ◌≢◌, ◌⊎◌, ℕ, ◌<◌, ◌==◌, not, List, [], ◌∷◌, length, true, false, Bool, Option, Some, None, IsSome, refl, sym, ap, subst, ◌∙◌, inl, inr, arith, if◌then◌else◌}
+use Rattle.std.proofs.lemmas.Bool.{cases_eq, eq-eqb}
 use Rattle.std.specs.Option.{option_map, option_and_then}
 use Rattle.std.specs.Prelude.{IfSome}
-use Rattle.lmn_heap.specs.Heap.{Heap, HeapAtom, HeapMem, Place, gone, within, home_by, alter, with_place, mem_with_place, mem_with_atoms, mem_with_mems, without, after, from, Distinct, IsAtom, IsMem, IsInPlace, IsPlacedMem, home_of, parent_of, mem_place_of, atoms_in, mems_in, atoms_by, mems_by, taken, taken_all, taken_mem, atom_out, mem_out}
-use Rattle.lmn_heap.specs.Sound.{Forest, bare, mem, flat, Forms, Listed, Sound}
+use Rattle.lmn_heap.specs.Heap.{Heap, HeapAtom, HeapMem, gone, home_by, alter, with_place, mem_with_place, mem_with_atoms, mem_with_mems, without, after, from, Distinct, IsMem, home_of, parent_of, atoms_in, mems_in, atoms_by, mems_by, taken, taken_all, taken_mem, atom_out, mem_out}
+use Rattle.lmn_heap.specs.Sound.{Listed}
 use Rattle.lmn_heap.proofs.Common.{decide_in}
 use Rattle.lmn_heap.proofs.Listing.{alter_at, home_is, without_first}
 use Rattle.lmn_heap.proofs.Heights.{parent_place}
-use Rattle.lmn_heap.proofs.ListLemmas.{each_in, in_left, in_right}
+use Rattle.lmn_heap.proofs.ListLemmas.{each_in}
 use Rattle.lmn_base.specs.Lists.{In}
-use Rattle.lmn_base.proofs.Lists.{in_either}
 use Rattle.lmn_base.proofs.Numbers.{not_equal as apart_test}
 use Rattle.lmn_parts.specs.Walks.{is_in}
 use Rattle.lmn_parts.specs.Rests.{keep, all_mems_taken, rest_taken}

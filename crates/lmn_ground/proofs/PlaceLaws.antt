@@ -1,14 +1,9 @@
 -- Copies that wait are placed.
-use Rattle.std.proofs.Common.{◌≡◌, ◌≢◌, ◌⊎◌, ℕ, zero, suc, ◌+◌, ◌<◌, ◌≤◌, ◌-◌, ◌^◌, ◌==◌, List, [], ◌∷◌, ◌++◌, length, map, drop, true, false, Bool, Option, Some, None, IsSome, refl, sym, ap, subst, ◌∙◌, inl, inr, arith, if◌then◌else◌, slice_get}
-use Rattle.std.proofs.lemmas.Bool.{cases_eq, eq-eqb}
-use Rattle.std.proofs.lemmas.List.{append_assoc, length-append}
+use Rattle.std.proofs.Common.{◌≡◌, ◌≢◌, ℕ, zero, suc, ◌+◌, ◌<◌, ◌≤◌, List, [], ◌∷◌, ◌++◌, length, map, drop, Option, Some, None, refl, sym, ap, subst, ◌∙◌, arith}
+use Rattle.std.proofs.lemmas.Bool.{eq-eqb}
 use Rattle.std.specs.Option.{option_map, option_and_then}
-use Rattle.std.specs.Prelude.{IfSome}
-use Rattle.lmn_heap.specs.Heap.{Heap, HeapMem, Place, waiting, within, alter, after, from, home_by, Distinct, IsMem, IsMemInPlace, IsTopOrWithin, mem_place_of, parent_of, atoms_by, atoms_in, mems_in, rules_by, rules_in, spare_by, spare_of, mem_with_place, mem_with_atoms, mem_with_mems, mem_with_rules, placed, placed_mem, rules_copied}
-use Rattle.lmn_heap.specs.Sound.{Listed, Sound}
-use Rattle.lmn_heap.proofs.Heights.{mem_of_place}
-use Rattle.lmn_heap.proofs.Listing.{alter_at, alter_away, alter_keeps}
-use Rattle.lmn_base.specs.Lists.{In}
+use Rattle.lmn_heap.specs.Heap.{Heap, HeapMem, Place, within, alter, after, from, home_by, IsMemInPlace, IsTopOrWithin, atoms_by, atoms_in, rules_in, mem_with_place, mem_with_atoms, mem_with_mems, mem_with_rules, placed, placed_mem, rules_copied}
+use Rattle.lmn_heap.proofs.Listing.{alter_away, alter_keeps}
 use Rattle.lmn_base.proofs.Lists.{drop_get, get_there, head_is}
 use Rattle.lmn_parts.specs.Rests.{atoms_placed}
 

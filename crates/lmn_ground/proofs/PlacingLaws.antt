@@ -1,9 +1,8 @@
 -- The copy of what stands in a membrane is placed, membrane after membrane.
-use Rattle.std.proofs.Common.{◌≡◌, ◌≢◌, ◌⊎◌, ℕ, ◌<◌, ◌≤◌, ◌^◌, List, [], ◌∷◌, ◌++◌, length, map, true, Option, Some, None, IsSome, refl, sym, ap, subst, ◌∙◌, inl, inr, arith, slice_get}
-use Rattle.std.proofs.lemmas.Bool.{cases_eq, eq-eqb}
+use Rattle.std.proofs.Common.{◌≡◌, ◌≢◌, ◌⊎◌, ℕ, ◌<◌, ◌≤◌, List, [], ◌∷◌, ◌++◌, length, map, true, Option, Some, None, IsSome, refl, sym, ap, subst, ◌∙◌, inl, inr, arith, slice_get}
 use Rattle.std.proofs.lemmas.List.{append_assoc}
 use Rattle.std.specs.Option.{option_map, option_and_then}
-use Rattle.lmn_heap.specs.Heap.{Heap, HeapMem, Place, top, within, waiting, alter, after, from, home_by, Distinct, IsMem, IsMemInPlace, IsTopOrWithin, mem_place_of, parent_of, atoms_by, atoms_in, mems_by, mems_in, rules_by, rules_in, spare_by, spare_of, mem_with_place, mem_with_atoms, mem_with_mems, mem_with_rules, placed, placed_mem, rules_copied}
+use Rattle.lmn_heap.specs.Heap.{Heap, HeapMem, within, waiting, alter, after, from, home_by, Distinct, IsMem, IsMemInPlace, IsTopOrWithin, mem_place_of, parent_of, atoms_by, atoms_in, mems_by, mems_in, rules_by, rules_in, spare_by, spare_of, mem_with_place, mem_with_atoms, mem_with_mems, mem_with_rules, placed_mem, rules_copied}
 use Rattle.lmn_heap.specs.Sound.{Forms, Sound}
 use Rattle.lmn_heap.proofs.Calls.{stands_some}
 use Rattle.lmn_heap.proofs.Common.{position}

@@ -1,8 +1,8 @@
 -- A walk through what stands in a membrane, with copies beside it.
-use Rattle.std.proofs.Common.{◌≡◌, ◌≢◌, ◌⊎◌, ℕ, ◌<◌, ◌≤◌, ◌-◌, ◌^◌, List, [], ◌∷◌, ◌++◌, length, true, Option, Some, None, refl, sym, ap, subst, ◌∙◌, inl, inr, arith}
+use Rattle.std.proofs.Common.{◌≡◌, ◌≢◌, ◌⊎◌, ℕ, ◌<◌, ◌-◌, ◌^◌, List, [], ◌∷◌, length, true, Option, Some, None, refl, sym, ap, subst, ◌∙◌, inl, inr, arith}
 use Rattle.std.proofs.lemmas.Bool.{cases_eq}
 use Rattle.lmn_heap.specs.Heap.{Heap, after, from, parent_of, mems_in}
-use Rattle.lmn_heap.specs.Sound.{AtMost, Sound, flat}
+use Rattle.lmn_heap.specs.Sound.{AtMost, Sound}
 use Rattle.lmn_heap.proofs.Heights.{parent_place}
 use Rattle.lmn_heap.proofs.ListLemmas.{in_right}
 use Rattle.lmn_heap.proofs.Trees.{Left, tail_of}
