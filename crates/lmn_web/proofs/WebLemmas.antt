@@ -1,0 +1,410 @@
+-- How a change of cells is a change of the web.
+use Rattle.std.proofs.Common.{◌≡◌, ◌≢◌, ◌↔◌, ◌⊎◌, ℕ, zero, suc, ◌+◌, ◌<◌, ◌==◌, Bool, true, false, List, [], ◌∷◌, ◌++◌, length, map, get_or, set, slice_get, replicate, Option, Some, None, IsSome, is_some, refl, sym, ap, subst, ◌∙◌, inl, inr, arith, length-set, get_or-set_same, get_or-set_other}
+use Rattle.std.proofs.lemmas.Bool.{cases_eq, eq-eqb}
+use Rattle.std.proofs.lemmas.List.{map-set, length-map, length-replicate}
+use Rattle.std.proofs.lemmas.Option.{slice_get_within}
+use Rattle.std.proofs.Math.Seq.{map-set_same}
+use Rattle.std.specs.Option.{option_map}
+use Rattle.lmn_base.proofs.Numbers.{not_equal}
+use Rattle.lmn_heap.specs.Heap.{alter}
+use Rattle.lmn_heap.proofs.Listing.{alter_at, alter_away, alter_keeps}
+use Rattle.lmn_cells.specs.Cells.{HeldPort, HeldCell, blank_cell, numbers_of, ports_of, port_of, no_port, with_to, with_port, with_number, with_mark as with_port_mark}
+use Rattle.lmn_cells.specs.Ports as cell
+use Rattle.lmn_cells.specs.Ports.{IsPort, Reaches, Paired, partner_by, partner_in}
+use Rattle.lmn_cells.proofs.PortLemmas.{cleared_ports, linked_ports}
+use Rattle.lmn_web.specs.Webs.{WebCell, partners_of, web_cell, web_of, partner_at, arity_at, new_cell, described, with_partner, with_mark, linked, cleared, joined, parted, IsPaired, IsWeb, INDEX, ARITY, KIND, HIGH, LOW, OWN, number_in, label_by}
+use Rattle.lmn_web.specs.Kinds.{kind_by}
+use Rattle.lmn_web.specs.declared.kind.CellKind.{CellKind}
+
+-- Lists
+
+set_twice : {X : Type 0} (xs : List X) (i : ℕ) (u v : X) → set (set xs i u) i v ≡ set xs i v
+set_twice [] i u v = refl
+set_twice (x ∷ xs) zero u v = refl
+set_twice (x ∷ xs) (suc i) u v = ap (λ ys. x ∷ ys) (set_twice xs i u v)
+
+set_front : (xs : List ℕ) (y v i : ℕ) → i < length xs → set (xs ++ y ∷ []) i v ≡ set xs i v ++ y ∷ []
+set_front [] y v i l = absurd (omega (arith, l))
+set_front (x ∷ xs) y v zero l = refl
+set_front (x ∷ xs) y v (suc i) l = ap (λ zs. x ∷ zs) (set_front xs y v i (omega (arith, l)))
+
+set_back : (xs : List ℕ) (y v i : ℕ) → i ≡ length xs → set (xs ++ y ∷ []) i v ≡ xs ++ v ∷ []
+set_back [] y v i e = subst (λ k. set (y ∷ []) k v ≡ v ∷ []) (sym e) refl
+set_back (x ∷ xs) y v i e = subst (λ k. set (x ∷ (xs ++ y ∷ [])) k v ≡ x ∷ (xs ++ v ∷ [])) (sym e) (ap (λ zs. x ∷ zs) (set_back xs y v (length xs) refl))
+
+-- the other end of a port of a list
+get_mapped : (ps : List HeldPort) (i : ℕ) → get_or (map partner_by ps) i None ≡ partner_by (get_or ps i no_port)
+get_mapped [] i = refl
+get_mapped (p ∷ ps) zero = refl
+get_mapped (p ∷ ps) (suc i) = get_mapped ps i
+
+-- Reading
+
+-- a cell that the web has is there
+pub some_back : (o : Option HeldCell) → IsSome (option_map web_cell o) → IsSome o
+some_back None t = t
+some_back (Some c) t = refl
+
+-- the other end of a port, in the cells and in the web
+pub partner_same : (f : ℕ → Option HeldCell) (a i : ℕ) → partner_at (web_of f) a i ≡ partner_in f a i
+partner_same f a i = by (f a)
+  where
+    by : (o : Option HeldCell) → get_or (partners_of (option_map web_cell o)) i None ≡ partner_by (port_of o i)
+    by None = refl
+    by (Some c) = get_mapped c.ports i
+
+-- how many ports a cell has, in the cells and in the web
+pub arity_same : (f : ℕ → Option HeldCell) (a : ℕ) → arity_at (web_of f) a ≡ length (ports_of (f a))
+arity_same f a = by (f a)
+  where
+    by : (o : Option HeldCell) → length (partners_of (option_map web_cell o)) ≡ length (ports_of o)
+    by None = refl
+    by (Some c) = length-map c.ports partner_by
+
+-- a port of the web is one of the cells
+pub port_back : (f : ℕ → Option HeldCell) (a i : ℕ) → i < arity_at (web_of f) a → IsPort f a i
+port_back f a i l = subst (λ n. i < n) (arity_same f a) l
+
+-- Changes
+
+-- a change of a cell is a change of what it stands for
+pub commutes : (f : ℕ → Option HeldCell) (a : ℕ) (g : HeldCell → HeldCell) (h : WebCell → WebCell) → ((c : HeldCell) → f a ≡ Some c → web_cell (g c) ≡ h (web_cell c))
+    → web_of (alter f a (option_map g)) ≡ alter (web_of f) a (option_map h)
+commutes f a g h e = λ t b. at b t
+  where
+    by : (o : Option HeldCell) → ((c : HeldCell) → o ≡ Some c → web_cell (g c) ≡ h (web_cell c)) → option_map web_cell (option_map g o) ≡ option_map h (option_map web_cell o)
+    by None k = refl
+    by (Some c) k = ap Some (k c refl)
+
+    at : (b : ℕ) → web_of (alter f a (option_map g)) b ≡ alter (web_of f) a (option_map h) b
+    at b = elim (cases_eq b a) [
+      | inl s ↦ ap (web_of (alter f a (option_map g))) s ∙ ap (option_map web_cell) (alter_at f a (option_map g)) ∙ by (f a) e
+          ∙ sym (ap (alter (web_of f) a (option_map h)) s ∙ alter_at (web_of f) a (option_map h))
+      | inr d ↦ ap (option_map web_cell) (alter_away f a (option_map g) b d) ∙ sym (alter_away (web_of f) a (option_map h) b d)
+    ]
+
+-- a cell of which two parts are others
+parts : (c : WebCell) (ps qs : List (Option (ℕ × ℕ))) (ms ns : List ℕ) → ps ≡ qs → ms ≡ ns → record c { partners = ps; marks = ms } ≡ record c { partners = qs; marks = ns }
+parts c ps qs ms ns p m = λ t. record c { partners = p t; marks = m t }
+
+none_cell : (i : ℕ) (c : HeldCell) → web_cell (cell.with_partner i None c) ≡ with_partner i None (web_cell c)
+none_cell i c = let q : HeldPort = record (get_or c.ports i no_port) { to = None } in
+    parts (web_cell c) _ _ _ _ (map-set partner_by c.ports i q) (ap (λ ms. ms ++ get_or c.numbers OWN 0 ∷ []) (map-set_same (λ (p : HeldPort). p.mark) c.ports i q no_port refl))
+
+some_cell : (i : ℕ) (p : ℕ × ℕ) (c : HeldCell) → i < length c.ports → web_cell (cell.with_partner i (Some p) c) ≡ with_partner i (Some p) (web_cell c)
+some_cell i p c l =
+    let q : HeldPort = record (get_or c.ports i no_port) { to = Some p.0 } in let one = set c.ports i q in let r : HeldPort = record (get_or one i no_port) { port = p.1 } in
+    let there : get_or one i no_port ≡ q = get_or-set_same c.ports i q no_port l in
+    parts (web_cell c) _ _ _ _
+    (map-set partner_by one i r ∙ ap (λ (z : HeldPort). set (map partner_by one) i (partner_by (record z { port = p.1 }))) there ∙ ap (λ ps. set ps i (Some p)) (map-set partner_by c.ports i q) ∙ set_twice (map partner_by c.ports) i (partner_by q) (Some p))
+    (ap (λ ms. ms ++ get_or c.numbers OWN 0 ∷ []) (map-set_same (λ (z : HeldPort). z.mark) one i r no_port refl ∙ map-set_same (λ (z : HeldPort). z.mark) c.ports i q no_port refl))
+
+linked_none : (f : ℕ → Option HeldCell) (a i : ℕ) → web_of (cell.linked f a i None) ≡ linked (web_of f) a i None
+linked_none f a i = commutes f a (cell.with_partner i None) (with_partner i None) (λ c e. none_cell i c)
+
+linked_some : (f : ℕ → Option HeldCell) (a i : ℕ) (p : ℕ × ℕ) → IsPort f a i → web_of (cell.linked f a i (Some p)) ≡ linked (web_of f) a i (Some p)
+linked_some f a i p l = commutes f a (cell.with_partner i (Some p)) (with_partner i (Some p)) (λ c e. some_cell i p c (subst (λ (o : Option HeldCell). i < length (ports_of o)) e l))
+
+cleared_web : (f : ℕ → Option HeldCell) (p : Option (ℕ × ℕ)) → web_of (cell.cleared f p) ≡ cleared (web_of f) p
+cleared_web f None = refl
+cleared_web f (Some p) = linked_none f p.0 p.1
+
+-- two ports that are joined
+pub joined_web : (f : ℕ → Option HeldCell) (a i b j : ℕ) → IsPort f a i → IsPort f b j → web_of (cell.joined f a i b j) ≡ joined (web_of f) a i b j
+joined_web f a i b j pa pb =
+    let p = partner_in f a i in let q = partner_in f b j in let one = cell.cleared f p in let two = cell.cleared one q in let three = cell.linked two a i (Some (b, j)) in
+    linked_some three b j (a, i) (linked_ports two a i (Some (b, j)) b j (cleared_ports one q b j (cleared_ports f p b j pb)))
+    ∙ ap (λ (w : ℕ → Option WebCell). linked w b j (Some (a, i))) (linked_some two a i (b, j) (cleared_ports one q a i (cleared_ports f p a i pa))
+    ∙ ap (λ (w : ℕ → Option WebCell). linked w a i (Some (b, j))) (cleared_web one q ∙ ap (λ (w : ℕ → Option WebCell). cleared w q) (cleared_web f p)
+    ∙ sym (λ t. cleared (cleared (web_of f) (partner_same f a i t)) (partner_same f b j t))))
+
+-- a port that is split
+pub parted_web : (f : ℕ → Option HeldCell) (a i : ℕ) → web_of (cell.parted f a i) ≡ parted (web_of f) a i
+parted_web f a i =
+    linked_none (cell.cleared f (partner_in f a i)) a i
+    ∙ ap (λ (w : ℕ → Option WebCell). linked w a i None) (cleared_web f (partner_in f a i) ∙ sym (ap (cleared (web_of f)) (partner_same f a i)))
+
+-- the mark of a port
+pub port_mark_web : (f : ℕ → Option HeldCell) (a i v : ℕ) → IsPort f a i → web_of (alter f a (option_map (with_port_mark i v))) ≡ alter (web_of f) a (option_map (with_mark i v))
+port_mark_web f a i v l = commutes f a (with_port_mark i v) (with_mark i v) (λ c e.
+    let q : HeldPort = record (get_or c.ports i no_port) { mark = v } in
+    parts (web_cell c) _ _ _ _ (map-set_same partner_by c.ports i q no_port refl)
+    (ap (λ ms. ms ++ get_or c.numbers OWN 0 ∷ []) (map-set (λ (p : HeldPort). p.mark) c.ports i q)
+    ∙ sym (set_front (map (λ (p : HeldPort). p.mark) c.ports) (get_or c.numbers OWN 0) v i (subst (λ n. i < n) (sym (length-map c.ports (λ (p : HeldPort). p.mark))) (subst (λ (o : Option HeldCell). i < length (ports_of o)) e l)))))
+
+-- a cell's own mark
+pub own_mark_web : (f : ℕ → Option HeldCell) (a i v : ℕ) → length (numbers_of (f a)) ≡ 7 → i ≡ length (ports_of (f a)) → web_of (alter f a (option_map (with_number OWN v))) ≡ alter (web_of f) a (option_map (with_mark i v))
+own_mark_web f a i v n last = commutes f a (with_number OWN v) (with_mark i v) (λ c e.
+    let ns = c.numbers in let seven : length ns ≡ 7 = subst (λ (o : Option HeldCell). length (numbers_of o) ≡ 7) e n in
+    let other : (k : ℕ) → k ≢ OWN → get_or (set ns OWN v) k 0 ≡ get_or ns k 0 = λ k d. get_or-set_other ns OWN k v 0 d in
+    let at : i ≡ length c.ports = subst (λ (o : Option HeldCell). i ≡ length (ports_of o)) e last in
+    let ms = map (λ (p : HeldPort). p.mark) c.ports in
+    let new : ms ++ get_or (set ns OWN v) OWN 0 ∷ [] ≡ set (ms ++ get_or ns OWN 0 ∷ []) i v =
+    ap (λ k. ms ++ k ∷ []) (get_or-set_same ns OWN v 0 (omega (arith, seven))) ∙ sym (set_back ms (get_or ns OWN 0) v i (at ∙ sym (length-map c.ports (λ (p : HeldPort). p.mark)))) in
+    λ t. record {
+      label = label_by (other HIGH (λ z. absurd (omega (arith, z))) t) (other LOW (λ z. absurd (omega (arith, z))) t);
+      kind = kind_by (other KIND (λ z. absurd (omega (arith, z))) t);
+      partners = map partner_by c.ports;
+      marks = new t;
+    })
+
+-- What holds of every web
+
+-- what of a cell the web keeps account of
+pub record Told : Type 0 where
+  pub there : Bool
+  pub index : ℕ
+  pub arity : ℕ
+  pub numbers : ℕ
+  pub ports : ℕ
+
+abbrev pub told : Option HeldCell → Told
+told o = record { there = is_some o; index = get_or (numbers_of o) INDEX 0; arity = get_or (numbers_of o) ARITY 0; numbers = length (numbers_of o); ports = length (ports_of o) }
+
+Tells : List ℕ → (ℕ → Told) → Type 0
+Tells all k = ((b i : ℕ) → (slice_get all i ≡ Some b) ↔ (((k b).there ≡ true) × ((k b).index ≡ i)))
+    × ((b : ℕ) → (k b).there ≡ true → (k b).arity ≡ (k b).ports) × ((b : ℕ) → (k b).ports < 256) × ((b : ℕ) → (k b).there ≡ true → (k b).numbers ≡ 7)
+
+-- a change that leaves what is told of each cell, and all ports paired, leaves a web
+pub same_web : (f g : ℕ → Option HeldCell) (all : List ℕ) → IsWeb f all → ((b : ℕ) → told (g b) ≡ told (f b)) → Reaches g → Paired g → IsWeb g all
+unfolding Tells
+same_web f g all w same reaches paired =
+    let e : ◌≡◌ {A = ℕ → Told} (λ b. told (f b)) (λ b. told (g b)) = λ t b. sym (same b) t in
+    let k : Tells all (λ b. told (g b)) = subst (Tells all) e (w.indexed, w.arity, w.few, w.numbers) in
+    record { indexed = k.0; arity = k.1; few = k.2; numbers = k.3; reaches = reaches; paired = paired }
+
+told_partner : (i : ℕ) (p : Option (ℕ × ℕ)) (o : Option HeldCell) → told (option_map (cell.with_partner i p) o) ≡ told o
+told_partner i p None = refl
+told_partner i None (Some c) = λ t. record (told (Some c)) { ports = length-set c.ports i (record (get_or c.ports i no_port) { to = None }) t }
+told_partner i (Some p) (Some c) = let one = set c.ports i (record (get_or c.ports i no_port) { to = Some p.0 }) in
+    λ t. record (told (Some c)) { ports = (length-set one i (record (get_or one i no_port) { port = p.1 }) ∙ length-set c.ports i (record (get_or c.ports i no_port) { to = Some p.0 })) t }
+
+told_linked : (f : ℕ → Option HeldCell) (a i : ℕ) (p : Option (ℕ × ℕ)) (b : ℕ) → told (cell.linked f a i p b) ≡ told (f b)
+told_linked f a i p b = alter_keeps f a (option_map (cell.with_partner i p)) told (told_partner i p) b
+
+told_cleared : (f : ℕ → Option HeldCell) (p : Option (ℕ × ℕ)) (b : ℕ) → told (cell.cleared f p b) ≡ told (f b)
+told_cleared f None b = refl
+told_cleared f (Some p) b = told_linked f p.0 p.1 None b
+
+-- joining leaves what is told of each cell
+pub told_joined : (f : ℕ → Option HeldCell) (a i b j c : ℕ) → told (cell.joined f a i b j c) ≡ told (f c)
+told_joined f a i b j c =
+    let one = cell.cleared f (partner_in f a i) in let two = cell.cleared one (partner_in f b j) in let three = cell.linked two a i (Some (b, j)) in
+    told_linked three b j (Some (a, i)) c ∙ told_linked two a i (Some (b, j)) c ∙ told_cleared one (partner_in f b j) c ∙ told_cleared f (partner_in f a i) c
+
+-- splitting too
+pub told_parted : (f : ℕ → Option HeldCell) (a i c : ℕ) → told (cell.parted f a i c) ≡ told (f c)
+told_parted f a i c = told_linked (cell.cleared f (partner_in f a i)) a i None c ∙ told_cleared f (partner_in f a i) c
+
+-- ports with the partners that they had are paired
+pub reaches_same : (f g : ℕ → Option HeldCell) → ((b i : ℕ) → partner_in g b i ≡ partner_in f b i) → ((b : ℕ) → told (g b) ≡ told (f b)) → Reaches f → Reaches g
+reaches_same f g same t r a i b j e = subst (λ (k : Told). j < k.ports) (sym (t b)) (r a i b j (sym (same a i) ∙ e))
+
+-- and nothing else
+pub paired_same : (f g : ℕ → Option HeldCell) → ((b i : ℕ) → partner_in g b i ≡ partner_in f b i) → Paired f → Paired g
+paired_same f g same p = record {
+  back = λ a i b j e. same b j ∙ p.back a i b j (sym (same a i) ∙ e);
+  apart = λ a i e. p.apart a i (sym (same a i) ∙ e);
+}
+
+-- a mark of a port leaves a web
+pub port_mark_keeps : (f : ℕ → Option HeldCell) (all : List ℕ) (a i v : ℕ) → IsWeb f all → IsWeb (alter f a (option_map (with_port_mark i v))) all
+port_mark_keeps f all a i v w =
+    let g = alter f a (option_map (with_port_mark i v)) in
+    let t : (b : ℕ) → told (g b) ≡ told (f b) = alter_keeps f a (option_map (with_port_mark i v)) told counts in
+    let s : (b k : ℕ) → partner_in g b k ≡ partner_in f b k = λ b k. alter_keeps f a (option_map (with_port_mark i v)) (λ o. partner_by (port_of o k)) (partners k) b in
+    same_web f g all w t (reaches_same f g s t w.reaches) (paired_same f g s w.paired)
+  where
+    counts : (o : Option HeldCell) → told (option_map (with_port_mark i v) o) ≡ told o
+    counts None = refl
+    counts (Some c) = λ t. record (told (Some c)) { ports = length-set c.ports i (record (get_or c.ports i no_port) { mark = v }) t }
+
+    partners : (k : ℕ) (o : Option HeldCell) → partner_by (port_of (option_map (with_port_mark i v) o) k) ≡ partner_by (port_of o k)
+    partners k None = refl
+    partners k (Some c) = let q : HeldPort = record (get_or c.ports i no_port) { mark = v } in
+        sym (get_mapped (set c.ports i q) k) ∙ ap (λ ps. get_or ps k None) (map-set_same partner_by c.ports i q no_port refl) ∙ get_mapped c.ports k
+
+-- and so does its own mark
+pub own_mark_keeps : (f : ℕ → Option HeldCell) (all : List ℕ) (a v : ℕ) → IsWeb f all → IsWeb (alter f a (option_map (with_number OWN v))) all
+own_mark_keeps f all a v w =
+    let g = alter f a (option_map (with_number OWN v)) in
+    let t : (b : ℕ) → told (g b) ≡ told (f b) = alter_keeps f a (option_map (with_number OWN v)) told counts in
+    let s : (b k : ℕ) → partner_in g b k ≡ partner_in f b k = λ b k. alter_keeps f a (option_map (with_number OWN v)) (λ o. partner_by (port_of o k)) (partners k) b in
+    same_web f g all w t (reaches_same f g s t w.reaches) (paired_same f g s w.paired)
+  where
+    counts : (o : Option HeldCell) → told (option_map (with_number OWN v) o) ≡ told o
+    counts None = refl
+    counts (Some c) = λ t. record (told (Some c)) {
+      index = get_or-set_other c.numbers OWN INDEX v 0 (λ z. absurd (omega (arith, z))) t;
+      arity = get_or-set_other c.numbers OWN ARITY v 0 (λ z. absurd (omega (arith, z))) t;
+      numbers = length-set c.numbers OWN v t;
+    }
+
+    partners : (k : ℕ) (o : Option HeldCell) → partner_by (port_of (option_map (with_number OWN v) o) k) ≡ partner_by (port_of o k)
+    partners k None = refl
+    partners k (Some c) = refl
+
+-- no cell, no index
+pub empty_web : (f : ℕ → Option HeldCell) (all : List ℕ) → f ≡ (λ _. None) → all ≡ [] → IsWeb f all
+empty_web f all none bare = subst (λ (g : ℕ → Option HeldCell). IsWeb g all) (sym none) (subst (λ xs. IsWeb (λ _. None) xs) (sym bare) record {
+  indexed = λ b i. (λ e. absurd cc, λ e. let t = e.0 in absurd cc);
+  arity = λ b t. absurd cc;
+  few = λ b. omega arith;
+  numbers = λ b t. absurd cc;
+  reaches = λ a i b j e. absurd cc;
+  paired = record { back = λ a i b j e. absurd cc; apart = λ a i e. absurd cc };
+})
+
+-- two cells are one where their indices are
+pub same_test : (f : ℕ → Option HeldCell) (all : List ℕ) → IsWeb f all → (a b : ℕ) → IsSome (f a) → IsSome (f b) → (number_in f a INDEX == number_in f b INDEX) ≡ (a == b)
+same_test f all w a b ta tb = elim (cases_eq a b) [
+  | inl e ↦ eq-eqb _ _ (ap (λ k. number_in f k INDEX) e) ∙ sym (eq-eqb a b e)
+  | inr d ↦ not_equal _ _ (λ e. d (let x : slice_get all (number_in f a INDEX) ≡ Some a = (w.indexed a (number_in f a INDEX)).1 (ta, refl) in let y : slice_get all (number_in f a INDEX) ≡ Some b = (w.indexed b (number_in f a INDEX)).1 (tb, sym e) in
+      let z : Some a ≡ Some b = sym x ∙ y in cc)) ∙ sym (not_equal a b d)
+]
+
+-- all ports of a web are paired
+pub web_paired : (f : ℕ → Option HeldCell) → Reaches f → Paired f → IsPaired (web_of f)
+web_paired f r p = record {
+  reaches = λ a i b j e. subst (λ n. j < n) (sym (arity_same f b)) (r a i b j (sym (partner_same f a i) ∙ e));
+  back = λ a i b j e. partner_same f b j ∙ p.back a i b j (sym (partner_same f a i) ∙ e);
+  apart = λ a i e. p.apart a i (sym (partner_same f a i) ∙ e);
+}
+
+-- A new cell
+
+-- two changes of one place are one
+alter_twice : (f : ℕ → Option HeldCell) (a : ℕ) (g h : HeldCell → HeldCell) → alter (alter f a (option_map g)) a (option_map h) ≡ alter f a (option_map (λ c. h (g c)))
+alter_twice f a g h = λ t b. at b t
+  where
+    both : (o : Option HeldCell) → option_map h (option_map g o) ≡ option_map (λ c. h (g c)) o
+    both None = refl
+    both (Some c) = refl
+
+    at : (b : ℕ) → alter (alter f a (option_map g)) a (option_map h) b ≡ alter f a (option_map (λ c. h (g c))) b
+    at b = elim (cases_eq b a) [
+      | inl s ↦ ap (alter (alter f a (option_map g)) a (option_map h)) s ∙ alter_at (alter f a (option_map g)) a (option_map h) ∙ ap (option_map h) (alter_at f a (option_map g)) ∙ both (f a)
+          ∙ sym (ap (alter f a (option_map (λ c. h (g c)))) s ∙ alter_at f a (option_map (λ c. h (g c))))
+      | inr d ↦ alter_away (alter f a (option_map g)) a (option_map h) b d ∙ alter_away f a (option_map g) b d ∙ sym (alter_away f a (option_map (λ c. h (g c))) b d)
+    ]
+
+-- five changes of one place are one
+pub five_steps : (f one two three four five : ℕ → Option HeldCell) (a : ℕ) (p q r s t : HeldCell → HeldCell)
+    → one ≡ alter f a (option_map p) → two ≡ alter one a (option_map q) → three ≡ alter two a (option_map r) → four ≡ alter three a (option_map s) → five ≡ alter four a (option_map t)
+    → five ≡ alter f a (option_map (λ c. t (s (r (q (p c))))))
+five_steps f one two three four five a p q r s t e1 e2 e3 e4 e5 =
+    e5 ∙ ap (λ (g : ℕ → Option HeldCell). alter g a (option_map t)) (e4 ∙ ap (λ (g : ℕ → Option HeldCell). alter g a (option_map s)) (e3 ∙ ap (λ (g : ℕ → Option HeldCell). alter g a (option_map r))
+    (e2 ∙ ap (λ (g : ℕ → Option HeldCell). alter g a (option_map q)) e1 ∙ alter_twice f a p q) ∙ alter_twice f a (λ c. q (p c)) r) ∙ alter_twice f a (λ c. r (q (p c))) s) ∙ alter_twice f a (λ c. s (r (q (p c)))) t
+
+-- a cell that is there stays there
+pub still_some : (f g : ℕ → Option HeldCell) (a k n : ℕ) → g ≡ alter f a (option_map (with_number k n)) → IsSome (f a) → IsSome (g a)
+still_some f g a k n e there = subst (λ (h : ℕ → Option HeldCell). IsSome (h a)) (sym e) (subst (λ (o : Option HeldCell). IsSome o) (sym (alter_at f a (option_map (with_number k n)))) (by (f a) there))
+  where
+    by : (o : Option HeldCell) → IsSome o → IsSome (option_map (with_number k n) o)
+    by None t = absurd cc
+    by (Some c) t = refl
+
+get_front : (xs : List ℕ) (y i : ℕ) → i < length xs → slice_get (xs ++ y ∷ []) i ≡ slice_get xs i
+get_front [] y i l = absurd (omega (arith, l))
+get_front (x ∷ xs) y zero l = refl
+get_front (x ∷ xs) y (suc i) l = get_front xs y i (omega (arith, l))
+
+get_end : (xs : List ℕ) (y : ℕ) → slice_get (xs ++ y ∷ []) (length xs) ≡ Some y
+get_end [] y = refl
+get_end (x ∷ xs) y = get_end xs y
+
+-- what stands at an index stands before the end, or at it
+get_split : (xs : List ℕ) (y i b : ℕ) → slice_get (xs ++ y ∷ []) i ≡ Some b → (slice_get xs i ≡ Some b) ⊎ ((i ≡ length xs) × (b ≡ y))
+get_split [] y zero b e = inr (refl, let h : Some b ≡ Some y = sym e in cc)
+get_split [] y (suc i) b e = absurd cc
+get_split (x ∷ xs) y zero b e = inl e
+get_split (x ∷ xs) y (suc i) b e = next (get_split xs y i b e)
+  where
+    next : (slice_get xs i ≡ Some b) ⊎ ((i ≡ length xs) × (b ≡ y)) → (slice_get xs i ≡ Some b) ⊎ ((suc i ≡ suc (length xs)) × (b ≡ y))
+    next (inl h) = inl h
+    next (inr h) = inr (ap suc h.0, h.1)
+
+none_there : (n k : ℕ) → partner_by (get_or (replicate n no_port) k no_port) ≡ None
+none_there zero k = refl
+none_there (suc n) zero = refl
+none_there (suc n) (suc k) = none_there n k
+
+mapped_none : (n : ℕ) → map partner_by (replicate n no_port) ≡ replicate n None
+mapped_none zero = refl
+mapped_none (suc n) = ap (λ ps. None ∷ ps) (mapped_none n)
+
+mapped_marks : (n : ℕ) → map (λ (p : HeldPort). p.mark) (replicate n no_port) ≡ replicate n 0
+mapped_marks zero = refl
+mapped_marks (suc n) = ap (λ ms. 0 ∷ ms) (mapped_marks n)
+
+-- a new cell stands for a new cell of the web
+pub new_web : (l n i k h low : ℕ) (kind : CellKind) → label_by h low ≡ l → kind_by k ≡ kind → web_cell (described i n k h low (blank_cell n)) ≡ new_cell l n kind
+new_web l n i k h low kind el ek = λ t. record { label = el t; kind = ek t; partners = mapped_none n t; marks = ap (λ ms. ms ++ 0 ∷ []) (mapped_marks n) t }
+
+-- a cell that was made and described is one change
+pub made_once : (f one g : ℕ → Option HeldCell) (a : ℕ) (c : HeldCell) (h : HeldCell → HeldCell) → one ≡ alter f a (λ _. Some c) → g ≡ alter one a (option_map h) → g ≡ alter f a (λ _. Some (h c))
+made_once f one g a c h e1 e2 = e2 ∙ ap (λ (u : ℕ → Option HeldCell). alter u a (option_map h)) e1 ∙ (λ t b. at b t)
+  where
+    at : (b : ℕ) → alter (alter f a (λ _. Some c)) a (option_map h) b ≡ alter f a (λ _. Some (h c)) b
+    at b = elim (cases_eq b a) [
+      | inl s ↦ ap (alter (alter f a (λ _. Some c)) a (option_map h)) s ∙ alter_at (alter f a (λ _. Some c)) a (option_map h) ∙ ap (option_map h) (alter_at f a (λ _. Some c))
+          ∙ sym (ap (alter f a (λ _. Some (h c))) s ∙ alter_at f a (λ _. Some (h c)))
+      | inr d ↦ alter_away (alter f a (λ _. Some c)) a (option_map h) b d ∙ alter_away f a (λ _. Some c) b d ∙ sym (alter_away f a (λ _. Some (h c)) b d)
+    ]
+
+-- the web of a new cell and the others
+pub made_is : (f : ℕ → Option HeldCell) (a : ℕ) (c : HeldCell) → web_of (alter f a (λ _. Some c)) ≡ alter (web_of f) a (λ _. Some (web_cell c))
+made_is f a c = λ t b. at b t
+  where
+    at : (b : ℕ) → web_of (alter f a (λ _. Some c)) b ≡ alter (web_of f) a (λ _. Some (web_cell c)) b
+    at b = elim (cases_eq b a) [
+      | inl s ↦ ap (web_of (alter f a (λ _. Some c))) s ∙ ap (option_map web_cell) (alter_at f a (λ _. Some c)) ∙ sym (ap (alter (web_of f) a (λ _. Some (web_cell c))) s ∙ alter_at (web_of f) a (λ _. Some (web_cell c)))
+      | inr d ↦ ap (option_map web_cell) (alter_away f a (λ _. Some c) b d) ∙ sym (alter_away (web_of f) a (λ _. Some (web_cell c)) b d)
+    ]
+
+module _ (f : ℕ → Option HeldCell) (all : List ℕ) (w : IsWeb f all) (a n k h low : ℕ) (fresh : f a ≡ None) (small : n < 256) where
+  abbrev cell_made : HeldCell
+  cell_made = described (length all) n k h low (blank_cell n)
+
+  abbrev g : ℕ → Option HeldCell
+  g = alter f a (λ _. Some cell_made)
+
+  here : g a ≡ Some cell_made
+  here = alter_at f a (λ _. Some cell_made)
+
+  away : (b : ℕ) → b ≢ a → g b ≡ f b
+  away b d = alter_away f a (λ _. Some cell_made) b d
+
+  -- P of what is at a and of what is elsewhere
+  each : (P : ℕ → Option HeldCell → Type 0) → P a (Some cell_made) → ((b : ℕ) → b ≢ a → P b (f b)) → (b : ℕ) → P b (g b)
+  each P at else_ b = elim (cases_eq b a) [
+    | inl s ↦ subst (λ m. P m (g m)) (sym s) (subst (P a) (sym here) at)
+    | inr d ↦ subst (P b) (sym (away b d)) (else_ b d)
+  ]
+
+  no_a : IsSome (f a) → ⊥
+  no_a t = let h = subst (λ (o : Option HeldCell). IsSome o) fresh t in absurd cc
+
+  partners_stay : (b i : ℕ) → partner_in g b i ≡ partner_in f b i
+  partners_stay b i = each (λ m o. partner_by (port_of o i) ≡ partner_in f m i) (none_there n i ∙ sym (ap (λ (o : Option HeldCell). partner_by (port_of o i)) fresh)) (λ m d. refl) b
+
+  -- a new cell makes a web again
+  pub made_web : IsWeb g (all ++ a ∷ [])
+  made_web = record {
+    indexed = λ b i. each (λ m o. (slice_get (all ++ a ∷ []) i ≡ Some m) ↔ (IsSome o × (get_or (numbers_of o) INDEX 0 ≡ i))) (
+      λ e. elim (get_split all a i a e) [ inl l ↦ absurd (no_a ((w.indexed a i).0 l).0) | inr r ↦ (refl, sym r.0) ],
+      λ e. subst (λ j. slice_get (all ++ a ∷ []) j ≡ Some a) e.1 (get_end all a),
+    )
+        (λ m d. (
+          λ e. elim (get_split all a i m e) [ inl l ↦ (w.indexed m i).0 l | inr r ↦ absurd (d r.1) ],
+          λ e. let s = (w.indexed m i).1 e in get_front all a i (slice_get_within all i m s) ∙ s,
+        )) b;
+    arity = each (λ m o. IsSome o → get_or (numbers_of o) ARITY 0 ≡ length (ports_of o)) (λ t. sym (length-replicate n no_port)) (λ m d. w.arity m);
+    few = each (λ m o. length (ports_of o) < 256) (subst (λ c. c < 256) (sym (length-replicate n no_port)) small) (λ m d. w.few m);
+    numbers = each (λ m o. IsSome o → length (numbers_of o) ≡ 7) (λ t. refl) (λ m d. w.numbers m);
+    reaches = λ c i b j e. let l : IsPort f b j = w.reaches c i b j (sym (partners_stay c i) ∙ e) in
+        each (λ m o. (b ≡ m → j < length (ports_of o))) (λ s. absurd (let z : j < length (ports_of (f a)) = subst (λ m. j < length (ports_of (f m))) s l in
+        let y : j < 0 = subst (λ (o : Option HeldCell). j < length (ports_of o)) fresh z in omega (arith, y)))
+        (λ m d s. subst (λ q. j < length (ports_of (f q))) s l) b refl;
+    paired = paired_same f g partners_stay w.paired;
+  }

@@ -1,0 +1,10 @@
+use Rattle.std.proofs.Common.{◌≡◌, ℕ, ◌<◌, List, IsSome, refl, sym, ap, subst, ◌∙◌, length, map}
+use Rattle.lmn_cells.specs.Rows.{Row}
+use Rattle.lmn_cells.specs.Cells.{cells_by, ports_of, numbers_of}
+use Rattle.lmn_cells.specs.CellIds.{cell_id}
+use Rattle.lmn_web.specs.Webs.{web_by, IsPaired}
+use Rattle.lmn_web.proofs.WebLemmas.{web_paired}
+use Rattle.lmn_web.proofs.web.Web.paired.Goals as goal
+
+pub returns : goal.returns
+returns c = subst (λ (z : List Row). IsPaired (web_by z)) c.self.view_is (web_paired (cells_by c.self.inside.cells) c.self.invariant.reaches c.self.invariant.paired)

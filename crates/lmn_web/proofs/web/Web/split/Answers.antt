@@ -1,0 +1,17 @@
+use Rattle.std.proofs.Common.{◌≡◌, ℕ, ◌<◌, List, Option, IsSome, refl, sym, ap, subst, ◌∙◌, length, map}
+use Rattle.lmn_cells.specs.Rows.{Row}
+use Rattle.lmn_cells.specs.Cells.{HeldCell, cells_by, ports_of, numbers_of}
+use Rattle.lmn_cells.specs.CellIds.{cell_id}
+use Rattle.lmn_web.specs.Webs.{web_by, web_of, parted}
+use Rattle.lmn_web.proofs.WebLemmas.{same_web, told_parted, told, parted_web}
+use Rattle.lmn_web.proofs.web.Web.split.Goals as goal
+
+pub invariant_of-self : goal.invariant_of-self
+invariant_of-self c =
+    let w = c.self.invariant in let f = cells_by c.self.inside.cells in
+    same_web f (cells_by c.split.new.cells) _ w (λ b. ap (λ (g : ℕ → Option HeldCell). told (g b)) c.split.ensures.parted ∙ told_parted f (cell_id c.args.c) c.args.port b)
+    c.split.ensures.reaches (c.split.ensures.paired w.paired)
+
+pub returns : goal.returns
+returns c =
+    ap web_of c.split.ensures.parted ∙ parted_web (cells_by c.self.inside.cells) (cell_id c.args.c) c.args.port ∙ ap (λ (z : List Row). parted (web_by z) (cell_id c.args.c) c.args.port) c.self.view_is

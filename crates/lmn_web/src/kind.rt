@@ -1,0 +1,33 @@
+//! What a cell stands for.
+ghost use Rattle.std.specs.Prelude.{◌≡◌};
+ghost use Rattle.lmn_web.specs.Kinds.{kind_by};
+
+/// What a cell stands for.
+#[derive(Clone, Copy)]
+pub enum CellKind {
+    /// An atom.
+    Atom,
+    /// A membrane.
+    Membrane,
+}
+
+/// The number by which a cell tells its kind.
+pub fn number_of(kind: CellKind) -> u64
+    ensures { kind_by result ≡ kind }
+{
+    match kind {
+        CellKind::Atom => 0,
+        CellKind::Membrane => 1,
+    }
+}
+
+/// The kind of a number.
+pub fn kind_of(n: u64) -> CellKind
+    ensures { result ≡ kind_by n }
+{
+    if n == 0 {
+        CellKind::Atom
+    } else {
+        CellKind::Membrane
+    }
+}

@@ -1,0 +1,9 @@
+//! A web of cells: ports that are joined two by two, each cell with a label and marks.
+#![tactic(auto)]
+
+mod kind;
+mod web;
+
+pub use kind::CellKind;
+pub use lmn_cells::handle::Cell;
+pub use web::Web;
