@@ -1,5 +1,5 @@
 -- How a change of cells is a change of the web.
-use Rattle.std.proofs.Common.{◌≡◌, ◌≢◌, ◌↔◌, ◌⊎◌, ℕ, zero, suc, ◌+◌, ◌<◌, ◌==◌, Bool, true, false, List, [], ◌∷◌, ◌++◌, length, map, get_or, set, slice_get, replicate, Option, Some, None, IsSome, is_some, refl, sym, ap, subst, ◌∙◌, inl, inr, arith, length-set, get_or-set_same, get_or-set_other}
+use Rattle.std.proofs.Common.{◌≡◌, ◌≢◌, ◌↔◌, ◌⊎◌, ℕ, zero, suc, ◌<◌, ◌==◌, Bool, true, List, [], ◌∷◌, ◌++◌, length, map, get_or, set, slice_get, replicate, Option, Some, None, IsSome, is_some, refl, sym, ap, subst, ◌∙◌, inl, inr, arith, length-set, get_or-set_same, get_or-set_other}
 use Rattle.std.proofs.lemmas.Bool.{cases_eq, eq-eqb}
 use Rattle.std.proofs.lemmas.List.{map-set, length-map, length-replicate}
 use Rattle.std.proofs.lemmas.Option.{slice_get_within}
@@ -8,7 +8,7 @@ use Rattle.std.specs.Option.{option_map}
 use Rattle.lmn_base.proofs.Numbers.{not_equal}
 use Rattle.lmn_heap.specs.Heap.{alter}
 use Rattle.lmn_heap.proofs.Listing.{alter_at, alter_away, alter_keeps}
-use Rattle.lmn_cells.specs.Cells.{HeldPort, HeldCell, blank_cell, numbers_of, ports_of, port_of, no_port, with_to, with_port, with_number, with_mark as with_port_mark}
+use Rattle.lmn_cells.specs.Cells.{HeldPort, HeldCell, blank_cell, numbers_of, ports_of, port_of, no_port, with_number, with_mark as with_port_mark}
 use Rattle.lmn_cells.specs.Ports as cell
 use Rattle.lmn_cells.specs.Ports.{IsPort, Reaches, Paired, partner_by, partner_in}
 use Rattle.lmn_cells.proofs.PortLemmas.{cleared_ports, linked_ports}
@@ -158,6 +158,7 @@ pub record Told : Type 0 where
   pub numbers : ℕ
   pub ports : ℕ
 
+-- what is told of the cell at a number, or of none
 abbrev pub told : Option HeldCell → Told
 told o = record { there = is_some o; index = get_or (numbers_of o) INDEX 0; arity = get_or (numbers_of o) ARITY 0; numbers = length (numbers_of o); ports = length (ports_of o) }
 

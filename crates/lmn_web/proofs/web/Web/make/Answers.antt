@@ -1,4 +1,4 @@
-use Rattle.std.proofs.Common.{◌≡◌, ℕ, ◌+◌, ◌*◌, ◌/◌, ◌%◌, ◌^◌, ◌<◌, ◌++◌, ◌∷◌, [], List, Option, Some, None, IsSome, refl, sym, ap, subst, ◌∙◌, length, map, arith}
+use Rattle.std.proofs.Common.{◌≡◌, ℕ, ◌/◌, ◌%◌, ◌^◌, ◌<◌, ◌++◌, ◌∷◌, [], List, Option, Some, None, IsSome, refl, sym, ap, subst, ◌∙◌, length, map, arith}
 use Rattle.std.proofs.lemmas.List.{length-map, map-append}
 use Rattle.lmn_heap.specs.Heap.{alter}
 use Rattle.lmn_heap.proofs.Listing.{alter_at}

@@ -1,7 +1,6 @@
-use Rattle.std.proofs.Common.{◌≡◌, ℕ, ◌<◌, List, IsSome, refl, sym, ap, subst, ◌∙◌, length, map}
+use Rattle.std.proofs.Common.{List, subst}
 use Rattle.lmn_cells.specs.Rows.{Row}
-use Rattle.lmn_cells.specs.Cells.{cells_by, ports_of, numbers_of}
-use Rattle.lmn_cells.specs.CellIds.{cell_id}
+use Rattle.lmn_cells.specs.Cells.{cells_by}
 use Rattle.lmn_web.specs.Webs.{web_by, IsPaired}
 use Rattle.lmn_web.proofs.WebLemmas.{web_paired}
 use Rattle.lmn_web.proofs.web.Web.paired.Goals as goal

@@ -1,6 +1,6 @@
-use Rattle.std.proofs.Common.{◌≡◌, ◌==◌, ℕ, ◌<◌, List, IsSome, refl, sym, ap, subst, ◌∙◌, length, map}
+use Rattle.std.proofs.Common.{◌==◌, ℕ, List, IsSome, sym, subst, ◌∙◌}
 use Rattle.lmn_cells.specs.Rows.{Row}
-use Rattle.lmn_cells.specs.Cells.{cells_by, ports_of, numbers_of}
+use Rattle.lmn_cells.specs.Cells.{cells_by}
 use Rattle.lmn_cells.specs.CellIds.{cell_id}
 use Rattle.lmn_web.specs.Webs.{web_by}
 use Rattle.lmn_web.proofs.WebLemmas.{same_test, some_back}

@@ -1,6 +1,6 @@
-use Rattle.std.proofs.Common.{◌≡◌, ℕ, ◌<◌, ◌≤◌, List, IsSome, refl, sym, ap, subst, ◌∙◌, length, map}
+use Rattle.std.proofs.Common.{◌≡◌, ◌<◌, ◌≤◌, List, IsSome, sym, ap, subst, ◌∙◌, length, map}
 use Rattle.lmn_cells.specs.Rows.{Row}
-use Rattle.lmn_cells.specs.Cells.{cells_by, ports_of, numbers_of}
+use Rattle.lmn_cells.specs.Cells.{cells_by, ports_of}
 use Rattle.lmn_cells.specs.CellIds.{cell_id}
 use Rattle.std.proofs.Common.{arith}
 use Rattle.std.specs.Option.{option_map}

@@ -1,6 +1,6 @@
-use Rattle.std.proofs.Common.{◌≡◌, ℕ, ◌<◌, List, Option, IsSome, refl, sym, ap, subst, ◌∙◌, length, map}
+use Rattle.std.proofs.Common.{ℕ, List, Option, ap, ◌∙◌}
 use Rattle.lmn_cells.specs.Rows.{Row}
-use Rattle.lmn_cells.specs.Cells.{HeldCell, cells_by, ports_of, numbers_of}
+use Rattle.lmn_cells.specs.Cells.{HeldCell, cells_by}
 use Rattle.lmn_cells.specs.CellIds.{cell_id}
 use Rattle.lmn_web.specs.Webs.{web_by, web_of, parted}
 use Rattle.lmn_web.proofs.WebLemmas.{same_web, told_parted, told, parted_web}
