@@ -1,6 +1,6 @@
 -- One word of the rows is taken out and put back. Assumes `Logic`.
-use Rattle.std.proofs.Common.{◌≡◌, ℕ, zero, suc, ◌+◌, ◌*◌, ◌<◌, ◌==◌, Bool, true, false, List, [], ◌∷◌, length, get_or, set, Option, Some, if◌then◌else◌, refl, sym, subst, inl, inr, arith, length-set}
-use Rattle.std.proofs.lemmas.Bool.{cases_eq, eq-eqb, eqb-true}
+use Rattle.std.proofs.Common.{◌≡◌, ℕ, zero, suc, ◌+◌, ◌*◌, ◌<◌, Bool, true, false, List, [], ◌∷◌, length, get_or, set, Option, Some, if◌then◌else◌, refl, sym, subst, inl, inr, arith, length-set}
+use Rattle.std.proofs.lemmas.Bool.{cases_eq, eq-eqb}
 use seplogic.Ra.Ura.{Ura}
 use base.Logic.{SProp, ent, sep, wand, all, all_e, apply∗, fst∗, snd∗, via}
 use base.Fml.{Lft}

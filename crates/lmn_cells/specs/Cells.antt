@@ -1,5 +1,5 @@
 -- Cells: what the words of a row stand for.
-use Rattle.std.specs.Prelude.{◌≡◌, ◌⊎◌, ◌==◌, if◌then◌else◌, ℕ, zero, suc, ◌<◌, ◌^◌, List, [], ◌∷◌, ◌++◌, length, drop, Option, Some, None, IsSome, slice_index_or, slice_set, replicate}
+use Rattle.std.specs.Prelude.{◌≡◌, ◌⊎◌, ℕ, zero, suc, ◌<◌, ◌^◌, List, [], ◌∷◌, ◌++◌, length, drop, Option, Some, None, IsSome, slice_index_or, slice_set, replicate}
 use denote.RawPtr.{Ptr, block_ptr, null_ptr}
 use Rattle.lmn_cells.specs.Rows.{Item, link, number, Row, items_in}
 
