@@ -1,5 +1,5 @@
 -- How a change of cells is a change of the web.
-use Rattle.std.proofs.Common.{◌≡◌, ◌≢◌, ◌↔◌, ◌⊎◌, ℕ, zero, suc, ◌<◌, ◌==◌, Bool, true, List, [], ◌∷◌, ◌++◌, length, map, get_or, set, slice_get, replicate, Option, Some, None, IsSome, is_some, refl, sym, ap, subst, ◌∙◌, inl, inr, arith, length-set, get_or-set_same, get_or-set_other}
+use Rattle.std.proofs.Common.{◌≡◌, ◌≢◌, ◌↔◌, ◌⊎◌, ℕ, zero, suc, ◌<◌, ◌==◌, Bool, true, List, [], ◌∷◌, ◌++◌, length, map, get_or, set, slice_get, replicate, Option, Some, None, IsSome, is_some, false, refl, sym, ap, subst, ◌∙◌, inl, inr, arith, length-set, get_or-set_same, get_or-set_other}
 use Rattle.std.proofs.lemmas.Bool.{cases_eq, eq-eqb}
 use Rattle.std.proofs.lemmas.List.{map-set, length-map, length-replicate}
 use Rattle.std.proofs.lemmas.Option.{slice_get_within}
@@ -12,7 +12,7 @@ use Rattle.lmn_cells.specs.Cells.{HeldPort, HeldCell, blank_cell, numbers_of, po
 use Rattle.lmn_cells.specs.Ports as cell
 use Rattle.lmn_cells.specs.Ports.{IsPort, Reaches, Paired, partner_by, partner_in}
 use Rattle.lmn_cells.proofs.PortLemmas.{cleared_ports, linked_ports}
-use Rattle.lmn_web.specs.Webs.{WebCell, partners_of, web_cell, web_of, partner_at, arity_at, new_cell, described, with_partner, with_mark, linked, cleared, joined, parted, IsPaired, IsWeb, INDEX, ARITY, KIND, HIGH, LOW, OWN, number_in, label_by}
+use Rattle.lmn_web.specs.Webs.{WebCell, partners_of, web_cell, web_of, partner_at, arity_at, new_cell, described, with_partner, with_mark, linked, cleared, joined, parted, IsPaired, IsWeb, IsIndexed, INDEX, ARITY, KIND, HIGH, LOW, OWN, number_in, label_by}
 use Rattle.lmn_web.specs.Kinds.{kind_by}
 use Rattle.lmn_web.specs.declared.kind.CellKind.{CellKind}
 
@@ -362,6 +362,37 @@ made_is f a c = λ t b. at b t
       | inl s ↦ ap (web_of (alter f a (λ _. Some c))) s ∙ ap (option_map web_cell) (alter_at f a (λ _. Some c)) ∙ sym (ap (alter (web_of f) a (λ _. Some (web_cell c))) s ∙ alter_at (web_of f) a (λ _. Some (web_cell c)))
       | inr d ↦ ap (option_map web_cell) (alter_away f a (λ _. Some c) b d) ∙ sym (alter_away (web_of f) a (λ _. Some (web_cell c)) b d)
     ]
+
+-- All cells are freed
+
+-- the last cell of the list is there
+pub last_there : (f : ℕ → Option HeldCell) (init : List ℕ) (a : ℕ) → IsIndexed f (init ++ a ∷ []) → IsSome (f a)
+last_there f init a x = ((x.indexed a (length init)).0 (get_end init a)).0
+
+-- the other cells, once it is freed
+pub rest_is : (f g : ℕ → Option HeldCell) (init : List ℕ) (a : ℕ) → IsIndexed f (init ++ a ∷ []) → g ≡ alter f a (λ _. None) → IsIndexed g init
+rest_is f g init a x e = subst (λ (u : ℕ → Option HeldCell). IsIndexed u init) (sym e) record {
+  indexed = λ b i. elim (cases_eq b a) [
+    | inl s ↦ subst (λ m. (slice_get init i ≡ Some m) ↔ (IsSome (alter f a (λ _. None) m) × (number_in (alter f a (λ _. None)) m INDEX ≡ i))) (sym s) (subst (λ (o : Option HeldCell). (slice_get init i ≡ Some a) ↔ (IsSome o × (get_or (numbers_of o) INDEX 0 ≡ i))) (sym (alter_at f a (λ _. None))) (here i, λ t. absurd (let z = t.0 in cc)))
+    | inr d ↦ subst (λ (o : Option HeldCell). (slice_get init i ≡ Some b) ↔ (IsSome o × (get_or (numbers_of o) INDEX 0 ≡ i))) (sym (alter_away f a (λ _. None) b d))
+        (λ h. (x.indexed b i).0 (get_front init a i (slice_get_within init i b h) ∙ h), λ t. elim (get_split init a i b ((x.indexed b i).1 t)) [ inl h ↦ h | inr r ↦ absurd (d r.1) ])
+  ];
+  arity = λ b. elim (cases_eq b a) [
+    | inl s ↦ subst (λ m. IsSome (alter f a (λ _. None) m) → number_in (alter f a (λ _. None)) m ARITY ≡ length (ports_of (alter f a (λ _. None) m))) (sym s) (subst (λ (o : Option HeldCell). IsSome o → get_or (numbers_of o) ARITY 0 ≡ length (ports_of o)) (sym (alter_at f a (λ _. None))) (λ t. absurd cc))
+    | inr d ↦ subst (λ (o : Option HeldCell). IsSome o → get_or (numbers_of o) ARITY 0 ≡ length (ports_of o)) (sym (alter_away f a (λ _. None) b d)) (x.arity b)
+  ];
+}
+  where
+    here : (i : ℕ) → slice_get init i ≡ Some a → (false ≡ true) × (0 ≡ i)
+    here i h = let l = slice_get_within init i a h in let p = ((x.indexed a i).0 (get_front init a i l ∙ h)).1 in let q = ((x.indexed a (length init)).0 (get_end init a)).1 in absurd (omega (arith, l, p, q))
+
+-- none is left
+pub none_left : (f : ℕ → Option HeldCell) → IsIndexed f [] → (b : ℕ) → f b ≡ None
+none_left f x b = by (f b) refl
+  where
+    by : (o : Option HeldCell) → f b ≡ o → f b ≡ None
+    by None e = e
+    by (Some c) e = absurd (let h = (x.indexed b (number_in f b INDEX)).1 (subst (λ (o : Option HeldCell). IsSome o) (sym e) refl, refl) in cc)
 
 module _ (f : ℕ → Option HeldCell) (all : List ℕ) (w : IsWeb f all) (a n k h low : ℕ) (fresh : f a ≡ None) (small : n < 256) where
   abbrev cell_made : HeldCell

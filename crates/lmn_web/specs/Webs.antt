@@ -123,3 +123,8 @@ pub record IsWeb (f : ℕ → Option HeldCell) (all : List ℕ) : Type 0 where
   pub numbers : (b : ℕ) → IsSome (f b) → length (numbers_of (f b)) ≡ 7
   pub reaches : Reaches f
   pub paired : Paired f
+
+-- as many cells as a list has, each at its index, that tell how many ports they have
+pub record IsIndexed (f : ℕ → Option HeldCell) (all : List ℕ) : Type 0 where
+  pub indexed : (b i : ℕ) → (slice_get all i ≡ Some b) ↔ (IsSome (f b) × (number_in f b INDEX ≡ i))
+  pub arity : (b : ℕ) → IsSome (f b) → number_in f b ARITY ≡ length (ports_of (f b))

@@ -1,11 +1,11 @@
 //! The calls of a web.
-ghost use Rattle.std.specs.Prelude.{◌≡◌, ◌==◌, ℕ, ◌+◌, ◌^◌, ◌<◌, ◌≤◌, IsSome, None, Some, MatchResult, length, slice_index_or};
+ghost use Rattle.std.specs.Prelude.{◌≡◌, ◌==◌, ℕ, ◌+◌, ◌^◌, ◌<◌, ◌≤◌, IsSome, None, Some, MatchResult, length, map, slice_index_or};
 ghost use Rattle.std.specs.Option.{option_map};
 ghost use Rattle.lmn_heap.specs.Heap.{alter};
 ghost use Rattle.lmn_cells.specs.Cells.{cells_by};
 ghost use Rattle.lmn_cells.specs.CellIds.{cell_id, port_id};
 ghost use Rattle.lmn_cells.specs.Ports.{IsSamePort};
-ghost use Rattle.lmn_web.specs.Webs.{web_by, partner_at, arity_at, partners_of, marks_of, new_cell, with_mark, joined, parted, described, IsPaired};
+ghost use Rattle.lmn_web.specs.Webs.{web_by, partner_at, arity_at, partners_of, marks_of, new_cell, with_mark, joined, parted, described, IsPaired, IsIndexed};
 
 use crate::kind::{CellKind, kind_of, number_of};
 use lmn_cells::cell::Cells;
@@ -49,6 +49,13 @@ impl Model for Web {
     ghost view = { λ s. s.cells };
 
     ghost invariant = { λ s. IsWeb (cells_by s.cells) (map cell_id s.all.items) };
+}
+
+impl Drop for Web {
+    fn drop(self) {
+        let Web { cells, all } = self;
+        free_all(cells, all);
+    }
 }
 
 impl Web {
@@ -192,4 +199,15 @@ fn describe(cells: &mut Cells, c: Cell, index: u64, arity: u64, kind: u64, high:
     cells.set_number(c, KIND, kind);
     cells.set_number(c, HIGH, high);
     cells.set_number(c, LOW, low);
+}
+
+// Every cell is freed.
+fn free_all(mut cells: Cells, mut all: Vec<Cell>)
+    requires { IsIndexed (cells_by cells) (map cell_id all.items) }
+{
+    while let Some(c) = all.pop() {
+        let ports = cells.number(c, ARITY);
+        cells.free(c, ports as usize);
+    }
+    cells.end();
 }
