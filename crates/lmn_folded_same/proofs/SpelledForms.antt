@@ -181,9 +181,9 @@ numbers_small given numbered n small x i = omega (arith, below x i, few)
     below : (x : ℕ) → Among x (folded_links given) → n.to x < n.count
     below x i = let P : List ℕ → Type 0 = Among (n.to x) in numbers_below n.by_first_occurrence (n.to x) (subst P (sym same) (among_map n.to i))
 
-    few : n.count ≤ 2 ^ 64
+    few : n.count ≤ 10 ^ 64
     few =
-        few_images (2 ^ 64) n.count n.to (λ y l.
+        few_images (10 ^ 64) n.count n.to (λ y l.
         let P : List ℕ → Type 0 = Among y in
         let from = among_image n.to (folded_links given) (subst P same (numbers_stand n.by_first_occurrence y (omega arith) l)) in
         (from.0, small from.0 from.1, from.2))

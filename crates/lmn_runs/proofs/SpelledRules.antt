@@ -93,7 +93,7 @@ module _ (names : List Name) (is : IsNames names) where
   module _ (number : Link → ℕ) (ρ : ℕ → tree.Rule) where
     -- the links have numbers that can be spelled
     abbrev Small : List Link → Type 0
-    Small xs = (x : Link) → Among x xs → number x < 2 ^ 64
+    Small xs = (x : Link) → Among x xs → IsLinkNumber (number x)
 
     small_uses : (us : List Use) → Small (use_links us) → AllByRecursion IsLinkNumber (map (λ (o : Occ). o.link) (map (numbered_use names number) us))
     small_uses [] h = tt
@@ -273,7 +273,7 @@ module _ (names : List Name) (is : IsNames names) where
           ∙ ap (λ xs. map i.number (expanded_links r.head) ++ xs) (ap base_links i.body ∙ links_numbered names i.number r.body) in
           let numbers = subst Q same table.numbered in
           let most = few k t found.1 in
-          let small : (x : ℕ) → Among x (map i.number (expanded_links r.head) ++ map i.number (expanded_links r.body)) → x < 2 ^ 64 =
+          let small : (x : ℕ) → Among x (map i.number (expanded_links r.head) ++ map i.number (expanded_links r.body)) → IsLinkNumber x =
           (λ x a. let b = numbers_below numbers x a in omega (arith, b, most)) in
           let R : tree.Rule → Type 0 = RuleSpelled in
           subst R (sym (rule_has_number names p k t well found.1)) (
