@@ -22,18 +22,19 @@ use Rattle.lmn_compile_head.proofs.OpenHeads.{accepted_open, none_closed}
 use Rattle.lmn_compile_head.proofs.GuardUses.{accepted_guard}
 use Rattle.lmn_compile_head.proofs.Laws.{code_of_least}
 use Rattle.lmn_base.specs.Graphs.{Port}
+use Rattle.lmn_base.specs.Limits.{most_head_items, most_body_items, most_conditions, most_guard_tokens}
 use Rattle.lmn_base.proofs.Numbers.{at_most_by_test as not_less}
 use Rattle.std.proofs.lemmas.Bool.{or_parts}
 
 module _ (table : List RuleTree) (r : RuleTree) (plan : GuardPlan) (ready : IsReady table r plan) where
   -- the limits of a rule
-  small : (number_of_items r.head ≤ 128) × (sum_by condition_tokens r.guard ≤ 256)
+  small : (number_of_items r.head ≤ most_head_items) × (sum_by condition_tokens r.guard ≤ most_guard_tokens)
   small =
       let large = not_then (is_too_large r) r.pos (ready.accepted.contexts 0 (too_large r) (omega arith)) in
-      let a = or_parts (nat_lt 128 (number_of_items r.head)) _ large in
-      let b = or_parts (nat_lt 1024 (number_of_items r.body)) _ a.1 in
-      let c = or_parts (nat_lt 64 (length r.guard)) _ b.1 in
-      (not_less 128 (number_of_items r.head) a.0, not_less 256 (sum_by condition_tokens r.guard) c.1)
+      let a = or_parts (nat_lt most_head_items (number_of_items r.head)) _ large in
+      let b = or_parts (nat_lt most_body_items (number_of_items r.body)) _ a.1 in
+      let c = or_parts (nat_lt most_conditions (length r.guard)) _ b.1 in
+      (not_less most_head_items (number_of_items r.head) a.0, not_less most_guard_tokens (sum_by condition_tokens r.guard) c.1)
 
   is_head : IsHead (head_items r plan)
   is_head =

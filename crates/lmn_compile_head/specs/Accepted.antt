@@ -3,6 +3,7 @@ use Rattle.std.specs.Prelude.{ℕ, ◌≡◌, ◌<◌, ◌≤◌, ◌+◌, ◌^�
 use Rattle.std.specs.List.{AllByRecursion}
 use Rattle.lmn_base.specs.declared.rule.RuleTree.{RuleTree}
 use Rattle.lmn_base.specs.Levels.{leaves_of}
+use Rattle.lmn_base.specs.Limits.{most_guard_tokens}
 use Rattle.lmn_base.specs.RuleCodes.{condition_tokens}
 use Rattle.lmn_base.specs.WellMade.{IsWellMadeRule}
 use Rattle.lmn_heap.specs.Heap.{Heap}
@@ -34,10 +35,10 @@ pub record HasRoom (r : RuleTree) (plan : GuardPlan) : Type 0 where
   pub membranes : 1 + (unnumbered (kind_in plan.kinds) r.head).size < 2 ^ 16
   pub links : HeadFits (length r.links) (head_items r plan)
   pub items : length (head_items r plan) < 2 ^ 15
-  pub integers : sum_by condition_tokens r.guard ≤ 256
+  pub integers : sum_by condition_tokens r.guard ≤ most_guard_tokens
 
--- A rule is accepted and well made, and the plan is its plan. An arity is a number of 8 bits, so each atom has at most
--- 255 links.
+-- A rule is accepted and well made, and the plan is its plan. An arity is a number of 8 bits, so no atom has more
+-- links than it can count.
 pub record IsReady (table : List RuleTree) (r : RuleTree) (plan : GuardPlan) : Type 0 where
   pub accepted : IsAcceptedRule table r
   pub made : IsWellMadeRule r

@@ -1,6 +1,7 @@
 -- Tables that the making of code keeps, by numbers of links.
-use Rattle.std.specs.Prelude.{ℕ, ◌≡◌, ◌<◌, min, List, [], ◌∷◌, Option, None, length, slice_index_or}
+use Rattle.std.specs.Prelude.{ℕ, ◌≡◌, ◌<◌, ◌≤◌, min, List, [], ◌∷◌, Option, None, length, slice_index_or}
 use Rattle.std.specs.Option.{option_map}
+use Rattle.lmn_base.specs.Limits.{most_links}
 use Rattle.lmn_solid.specs.declared.items.HeadItem.{HeadItem}
 use Rattle.lmn_solid.specs.declared.items.HeadItem.TheVariants.{Atom, Typed, Membrane}
 use Rattle.lmn_base.specs.declared.functor.Functor.{Functor}
@@ -15,10 +16,10 @@ abbrev pub AllBelow : ℕ → List ℕ → Type 0
 AllBelow n [] = Unit {0}
 AllBelow n (x ∷ xs) = (x < n) × AllBelow n xs
 
--- items whose links are below a number, and whose atoms have at most 255
+-- items whose links are below a number, and whose atoms haven't too many
 abbrev pub HeadFits : ℕ → List HeadItem → Type 0
 HeadFits n [] = Unit {0}
-HeadFits n (Atom functor links inside ∷ xs) = (length links < 256) × AllBelow n links × HeadFits n xs
+HeadFits n (Atom functor links inside ∷ xs) = (length links ≤ most_links) × AllBelow n links × HeadFits n xs
 HeadFits n (Typed name kind link inside ∷ xs) = (link < n) × HeadFits n xs
 HeadFits n (Membrane inside has_context has_closed_context has_rule_context ∷ xs) = HeadFits n xs
 
@@ -34,7 +35,7 @@ pub record FirstPorts (table : List (Option AtomPort)) (os : List Occurrence) : 
 abbrev pub head_atom : Functor → List ℕ → ℕ → HeadAtom
 head_atom functor links inside = record { functor = functor; links = links; inside = inside }
 
--- a leaf has at most 255 links
+-- an atom has no more links than its arity can count
 abbrev pub HasFewLinks : Leaf → Type 0
-HasFewLinks (leaf.Atom functor links pos) = length links < 256
+HasFewLinks (leaf.Atom functor links pos) = length links ≤ most_links
 HasFewLinks (leaf.Typed name link pos) = Unit {0}

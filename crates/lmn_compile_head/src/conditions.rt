@@ -1,4 +1,5 @@
 ghost use Rattle.std.specs.Prelude.{◌≡◌, ◌+◌, ◌*◌, ◌<◌, ◌≤◌, sum_by, ◌++◌, ◌^◌, ◌∷◌, List, length, IfOk, OnOk};
+ghost use Rattle.lmn_base.specs.Limits.{most_guard_tokens};
 ghost use Rattle.lmn_instr.specs.HeadCode as code_of;
 ghost use Rattle.lmn_instr.specs.HeadCode.{value_code, guard_code};
 ghost use Rattle.lmn_base.specs.declared.guard.Cond.{Cond};
@@ -257,7 +258,7 @@ pub fn add_guard(
     guard: &[Cond],
 ) -> Result<(), NoMemory>
     requires few { length items.now < 2 ^ 15 }
-    requires room { sum_by condition_tokens guard.now ≤ 256 }
+    requires room { sum_by condition_tokens guard.now ≤ most_guard_tokens }
     ensures { OnOk result (code.new ≡ code.old ++ guard_code (part_numbers items.now) (λ x. 0) 0 guard.now) }
 {
     let mut bound = Rows::new(alloc);

@@ -1,4 +1,5 @@
 ghost use Rattle.std.specs.Prelude.{◌≡◌, ◌<◌, ◌≤◌, ◌^◌, length, sum_by, IfOk};
+ghost use Rattle.lmn_base.specs.Limits.{most_guard_tokens};
 ghost use Rattle.lmn_instr.specs.HeadCode.{head_code};
 ghost use Rattle.lmn_base.specs.RuleCodes.{condition_tokens};
 ghost use Rattle.lmn_compile_head.specs.Accepted.{HasRoom, rule_head_code};
@@ -24,7 +25,7 @@ pub fn code_of_items(
 ) -> Result<Rows<Instr>, NoMemory>
     requires fits { HeadFits links items.now }
     requires few { length items.now < 2 ^ 15 }
-    requires integers { sum_by condition_tokens guard.now ≤ 256 }
+    requires integers { sum_by condition_tokens guard.now ≤ most_guard_tokens }
     ensures { IfOk result (λ code. code ≡ head_code items.now guard.now) }
 {
     let times = times_of(alloc, items, links)?;
