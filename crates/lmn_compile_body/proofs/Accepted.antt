@@ -3,6 +3,7 @@ use Rattle.std.proofs.Common.{◌≤◌, List, length, arith}
 use Rattle.std.specs.Prelude.{nat_lt}
 use Rattle.lmn_base.specs.declared.rule.RuleTree.{RuleTree}
 use Rattle.lmn_base.specs.Items.{number_of_items}
+use Rattle.lmn_base.specs.Limits.{most_head_items, most_body_items}
 use Rattle.lmn_base.specs.RuleCodes.{too_large, is_too_large}
 use Rattle.lmn_guards.specs.declared.plan.GuardPlan.{GuardPlan}
 use Rattle.lmn_guards.proofs.OrderLemmas.{not_then}
@@ -17,12 +18,12 @@ use Rattle.lmn_base.proofs.Numbers.{at_most_by_test as not_less}
 use Rattle.std.proofs.lemmas.Bool.{or_parts}
 
 -- the limits of head and body
-pub limits : (table : List RuleTree) (r : RuleTree) (plan : GuardPlan) → IsCompilable table r plan → (number_of_items r.head ≤ 128) × (number_of_items r.body ≤ 1024)
+pub limits : (table : List RuleTree) (r : RuleTree) (plan : GuardPlan) → IsCompilable table r plan → (number_of_items r.head ≤ most_head_items) × (number_of_items r.body ≤ most_body_items)
 limits table r plan whole =
     let large = not_then (is_too_large r) r.pos (whole.ready.accepted.contexts 0 (too_large r) (omega arith)) in
-    let a = or_parts (nat_lt 128 (number_of_items r.head)) _ large in
-    let b = or_parts (nat_lt 1024 (number_of_items r.body)) _ a.1 in
-    (not_less 128 (number_of_items r.head) a.0, not_less 1024 (number_of_items r.body) b.0)
+    let a = or_parts (nat_lt most_head_items (number_of_items r.head)) _ large in
+    let b = or_parts (nat_lt most_body_items (number_of_items r.body)) _ a.1 in
+    (not_less most_head_items (number_of_items r.head) a.0, not_less most_body_items (number_of_items r.body) b.0)
 
 -- the bodies of accepted rules have their items
 pub accepted_bodies : AcceptedHeads → AcceptedBodies

@@ -12,6 +12,7 @@ use Rattle.lmn_base.specs.declared.level.Level.TheFolds.{fold-roll-Level, ind-Le
 use Rattle.lmn_base.specs.declared.level.Occ.{Occ}
 use Rattle.lmn_base.specs.Items.{number_of_items}
 use Rattle.lmn_base.specs.Levels.{leaves_of, occurrences_of_leaf, links_of}
+use Rattle.lmn_base.specs.Limits.{most_links}
 use Rattle.lmn_base.specs.Links.{Numbers, no_more, known, new, NumbersLinks}
 use Rattle.lmn_base.specs.Solids.{connector}
 use Rattle.lmn_heap.specs.Functors.{same_functor}
@@ -121,7 +122,7 @@ module _ (s : BodyNames) where
 
   -- ---- atoms have few links
 
-  atom_few : (inside : ℕ) (b : Bool) (f : Functor) (xs : List ℕ) (rest : List BodyItem) → length xs < 256 → AllFew rest → AllFew (atom_item b f xs inside ∷ rest)
+  atom_few : (inside : ℕ) (b : Bool) (f : Functor) (xs : List ℕ) (rest : List BodyItem) → length xs ≤ most_links → AllFew rest → AllFew (atom_item b f xs inside ∷ rest)
   atom_few inside true f [] rest few r = (few, r)
   atom_few inside true f (x ∷ []) rest few r = (few, r)
   atom_few inside true f (x ∷ y ∷ []) rest few r = r
@@ -209,7 +210,7 @@ links_fit s k top body n few numbers =
     body_fits n (body_items s k body) (all_few s k body few)
     (subst (AllBelow n) (sym (links_kept s k body)) (below_front n (links_of body) [] (below_back n (links_of top) (links_of body ++ []) (numbers_below 0 n _ numbers).2)))
 
-occurrences_few : (ls : List Leaf) → AllByRecursion HasFewLinks ls → length (map (λ o. o.link) (flat_map occurrences_of_leaf ls)) ≤ 256 * length ls
+occurrences_few : (ls : List Leaf) → AllByRecursion HasFewLinks ls → length (map (λ o. o.link) (flat_map occurrences_of_leaf ls)) ≤ most_links * length ls
 occurrences_few [] few = omega arith
 occurrences_few (leaf.Atom f os p ∷ ls) few =
     let a = ap length (map-append (λ (o : Occ). o.link) os (flat_map occurrences_of_leaf ls)) in
@@ -232,8 +233,8 @@ mutual
   all_leaves_many no_head = omega arith
   all_leaves_many (head_and h hs) = let a = length-append (head_leaves h) (heads_leaves hs) in let b = leaves_many h in let c = all_leaves_many hs in omega (arith, a, b, c)
 
--- a level has no more than 256 times as many occurrences of links as it has items
-pub links_many : (l : Level) → AllByRecursion HasFewLinks (leaves_of l) → length (links_of l) ≤ 256 * number_of_items l
+-- a level has no more occurrences of links than its items may have
+pub links_many : (l : Level) → AllByRecursion HasFewLinks (leaves_of l) → length (links_of l) ≤ most_links * number_of_items l
 links_many l few =
     let a = occurrences_few (leaves_of l) few in
     let b = ap length (same_leaves l) in

@@ -37,7 +37,7 @@ pub record HasBodyRoom (r : RuleTree) (plan : GuardPlan) : Type 0 where
   pub items : BodyFits (length r.links) (rule_body_items r plan)
   pub few : 1 + length (head_items r plan) + length (rule_body_items r plan) < 2 ^ 15
 
--- A rule is accepted and well made, with its plan, and each atom of its body has at most 255 links, as each atom of its head.
+-- A rule is accepted and well made, with its plan, and no atom of its body has too many links, as no atom of its head has.
 pub record IsCompilable (table : List RuleTree) (r : RuleTree) (plan : GuardPlan) : Type 0 where
   pub ready : IsReady table r plan
   pub few_links : AllByRecursion HasFewLinks (leaves_of r.body)

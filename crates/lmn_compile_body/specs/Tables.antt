@@ -1,13 +1,14 @@
 -- Items of a body whose links have their places in a table.
-use Rattle.std.specs.Prelude.{ℕ, ◌<◌, List, [], ◌∷◌, length}
+use Rattle.std.specs.Prelude.{ℕ, ◌<◌, ◌≤◌, List, [], ◌∷◌, length}
+use Rattle.lmn_base.specs.Limits.{most_links}
 use Rattle.lmn_compile_head.specs.Tables.{AllBelow}
 use Rattle.lmn_body.specs.declared.items.BodyItem.{BodyItem}
 use Rattle.lmn_body.specs.declared.items.BodyItem.TheVariants.{Atom, Connector, Copy, Bound, Membrane, Rest, Rule, Rules}
 
--- items of a body whose links are below a number, and whose atoms have at most 255
+-- items of a body whose links are below a number, and whose atoms haven't too many
 abbrev pub BodyFits : ℕ → List BodyItem → Type 0
 BodyFits n [] = Unit {0}
-BodyFits n (Atom functor links inside ∷ xs) = (length links < 256) × AllBelow n links × BodyFits n xs
+BodyFits n (Atom functor links inside ∷ xs) = (length links ≤ most_links) × AllBelow n links × BodyFits n xs
 BodyFits n (Connector left right ∷ xs) = (left < n) × (right < n) × BodyFits n xs
 BodyFits n (Copy part link inside ∷ xs) = (link < n) × BodyFits n xs
 BodyFits n (Bound integer link inside ∷ xs) = (link < n) × BodyFits n xs
@@ -16,10 +17,10 @@ BodyFits n (Rest of inside ∷ xs) = BodyFits n xs
 BodyFits n (Rule rule inside ∷ xs) = BodyFits n xs
 BodyFits n (Rules of inside ∷ xs) = BodyFits n xs
 
--- body items whose atoms have at most 255 links
+-- body items whose atoms haven't too many links
 abbrev pub AllFew : List BodyItem → Type 0
 AllFew [] = Unit {0}
-AllFew (Atom functor links inside ∷ xs) = (length links < 256) × AllFew xs
+AllFew (Atom functor links inside ∷ xs) = (length links ≤ most_links) × AllFew xs
 AllFew (Connector left right ∷ xs) = AllFew xs
 AllFew (Copy part link inside ∷ xs) = AllFew xs
 AllFew (Bound integer link inside ∷ xs) = AllFew xs

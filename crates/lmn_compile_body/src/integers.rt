@@ -1,4 +1,5 @@
 ghost use Rattle.std.specs.Prelude.{◌≡◌, ◌+◌, ◌*◌, ◌<◌, ◌≤◌, ◌∷◌, ◌^◌, List, sum_by, length, IfOk};
+ghost use Rattle.lmn_base.specs.Limits.{most_guard_tokens};
 ghost use Rattle.lmn_base.specs.declared.guard.Cond.{Cond};
 ghost use Rattle.lmn_base.specs.RuleCodes.{condition_tokens, expression_tokens};
 ghost use Rattle.lmn_instr.specs.HeadCode.{value_code};
@@ -106,7 +107,7 @@ pub fn integers_of(
     guard: &[Cond],
 ) -> Result<Rows<(u32, u16)>, NoMemory>
     requires few { length items.now < 2 ^ 15 }
-    requires room { sum_by condition_tokens guard.now ≤ 256 }
+    requires room { sum_by condition_tokens guard.now ≤ most_guard_tokens }
     ensures { IfOk result (λ integers. registers_by integers ≡ guard_registers (part_numbers items.now) (λ x. 0) 0 guard.now) }
 {
     let mut integers = Rows::new(alloc);

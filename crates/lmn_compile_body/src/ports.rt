@@ -1,4 +1,5 @@
-ghost use Rattle.std.specs.Prelude.{◌≡◌, ◌+◌, ◌<◌, ◌++◌, ◌^◌, List, [], ◌∷◌, length, IfOk, OnOk};
+ghost use Rattle.std.specs.Prelude.{◌≡◌, ◌+◌, ◌<◌, ◌≤◌, ◌++◌, ◌^◌, List, [], ◌∷◌, length, IfOk, OnOk};
+ghost use Rattle.lmn_base.specs.Limits.{most_links};
 ghost use Rattle.lmn_solid.specs.Heads.{at_ports, links_of_head};
 ghost use Rattle.lmn_body.specs.Items.{new_ports_from, new_ports, old_ports, once_in, connectors};
 ghost use Rattle.lmn_compile_head.specs.Tables.{AllBelow, Counts, HeadFits};
@@ -33,7 +34,7 @@ pub fn connectors_of(alloc: Global, items: &[BodyItem]) -> Result<Rows<(u32, u32
 
 /// Adds the ports of a made atom, with their links.
 fn add_new(ports: &mut Rows<(NewPort, u32)>, atom: u16, links: &[u32]) -> Result<(), NoMemory>
-    requires { length links.now < 256 }
+    requires { length links.now ≤ most_links }
     ensures { OnOk result (ports.new ≡ ports.old ++ new_ports_from atom 0 links.now) }
 {
     for (i, link) in links.iter().enumerate() {
@@ -109,7 +110,7 @@ fn add_old(
     links: &[u32],
 ) -> Result<(), NoMemory>
     requires below { AllBelow (length times.now) links.now }
-    requires few { length links.now < 256 }
+    requires few { length links.now ≤ most_links }
     ensures { (items : List HeadItem) → Counts times.now items → OnOk result (ports.new ≡ ports.old ++ once_in (links_of_head items) (at_ports atom 0 links.now)) }
 {
     for (i, link) in links.iter().enumerate() {
