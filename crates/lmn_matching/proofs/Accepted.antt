@@ -3,6 +3,7 @@ use Rattle.std.proofs.Common.{◌≡◌, ◌≤◌, List, length, refl, sym, sub
 use Rattle.std.specs.Prelude.{Bool, true, false, ◌||◌, nat_lt}
 use Rattle.lmn_base.specs.declared.rule.RuleTree.{RuleTree}
 use Rattle.lmn_base.specs.Items.{number_of_items}
+use Rattle.lmn_base.specs.Limits.{most_head_items}
 use Rattle.lmn_base.specs.RuleCodes.{too_large, is_too_large}
 use Rattle.lmn_guards.specs.declared.plan.GuardPlan.{GuardPlan}
 use Rattle.lmn_guards.proofs.OrderLemmas.{not_then}
@@ -21,11 +22,11 @@ first_false : (a b : Bool) → (a || b) ≡ false → a ≡ false
 first_false true b e = absurd (cc)
 first_false false b e = refl
 
--- the head of an accepted rule has at most 128 items
-few : (table : List RuleTree) (r : RuleTree) (plan : GuardPlan) → IsReady table r plan → length (head_items r plan) ≤ 128
+-- the head of an accepted rule hasn't too many items
+few : (table : List RuleTree) (r : RuleTree) (plan : GuardPlan) → IsReady table r plan → length (head_items r plan) ≤ most_head_items
 few table r plan ready =
     let large = not_then (is_too_large r) r.pos (ready.accepted.contexts 0 (too_large r) (omega arith)) in
-    let n = not_less 128 (number_of_items r.head) (first_false (nat_lt 128 (number_of_items r.head)) _ large) in
+    let n = not_less most_head_items (number_of_items r.head) (first_false (nat_lt most_head_items (number_of_items r.head)) _ large) in
     let k = items_few (kind_in plan.kinds) r.head in
     omega (arith, n, k)
 
