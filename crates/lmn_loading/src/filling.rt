@@ -1,7 +1,8 @@
 //! Puts what stands in a level into a membrane. No port is joined yet.
-ghost use Rattle.std.specs.Prelude.{◌≡◌, ◌<◌, ◌++◌, [], ◌∷◌, length, All, None, IfOk, OnOk};
+ghost use Rattle.std.specs.Prelude.{◌≡◌, ◌≤◌, ◌++◌, [], ◌∷◌, length, All, None, IfOk, OnOk};
 ghost use Rattle.lmn_base.specs.declared.level.Level.{out-Level};
 ghost use Rattle.lmn_base.specs.Levels.{leaves_of};
+ghost use Rattle.lmn_base.specs.Limits.{most_links};
 ghost use Rattle.lmn_base.specs.WellMade.{FitsArity};
 ghost use Rattle.lmn_loading.specs.Adding.{CanBeFilled, AddsToMembrane, Fills, AtomIsAdded, with_atom, with_mem, ports_with_links};
 
@@ -43,7 +44,7 @@ fn add_ports<A: Copy>(
     atom: A,
     links: &[Occ],
 ) -> Result<(), NoMemory>
-    requires { length links.now < 256 }
+    requires { length links.now ≤ most_links }
     ensures { OnOk result (ports.new ≡ ports.old ++ ports_with_links atom 0 links.now) }
 {
     for (i, occurrence) in links.iter().enumerate() {
