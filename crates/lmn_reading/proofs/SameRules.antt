@@ -18,6 +18,7 @@ use Rattle.lmn_base.specs.declared.rule.Plain.{Plain}
 use Rattle.lmn_base.specs.declared.rule.RuleTree.{RuleTree}
 use Rattle.lmn_base.specs.Items.{used, items_of, expression_items, expression_items_step, condition_items, rule_items, number_of_items}
 use Rattle.lmn_base.specs.Levels.{leaves_of}
+use Rattle.lmn_base.specs.Limits.{most_head_items, most_body_items, most_conditions, most_guard_tokens}
 use Rattle.lmn_base.specs.Names as names
 use Rattle.lmn_base.specs.Names.{expression_names, condition_names, level_names, rule_names, plain_names}
 use Rattle.lmn_base.specs.RuleCodes.{expression_tokens, condition_tokens, inner_rule, is_left_of, from_nowhere, in_other_form, closed_place, empty_head, connector_in_head, context_at_top, rule_context_at_top, two_in_membrane, twice_in_head, not_once_in_body, rule_rows}
@@ -268,7 +269,7 @@ module _ (s : RuleTree) (cs ds : List Cond) (h : EachPair SameCond cs ds) where
     same_rule_rows = λ i.
         record {
           code = 44;
-          places = if nat_lt 128 (number_of_items s.head) || (nat_lt 1024 (number_of_items s.body) || (nat_lt 64 (length_same cs ds h i) || nat_lt 256 (sum_same condition_tokens (λ c d s. same_condition_tokens s) cs ds h i)))
+          places = if nat_lt most_head_items (number_of_items s.head) || (nat_lt most_body_items (number_of_items s.body) || (nat_lt most_conditions (length_same cs ds h i) || nat_lt most_guard_tokens (sum_same condition_tokens (λ c d s. same_condition_tokens s) cs ds h i)))
               then s.pos ∷ [] else [];
         }
         ∷ empty_head s
