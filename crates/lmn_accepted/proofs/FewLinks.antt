@@ -1,14 +1,16 @@
--- Each atom of the plain of a tree within the limits has at most 255 links.
+-- No atom of the plain of a tree within the limits has too many links.
 use Rattle.std.proofs.Common.{◌≡◌, ℕ, suc, ◌+◌, ◌<◌, ◌≤◌, List, [], ◌∷◌, ◌++◌, map, length, refl, sym, ap, ◌∙◌, subst, arith}
 use Rattle.std.specs.Prelude.{codes}
 use Rattle.std.specs.List.{AllByRecursion}
 use Rattle.std.proofs.lemmas.List.{length-append, length-map}
+use Rattle.lmn_grammar.specs.Limits.{most_arguments, most_term_arguments}
 use Rattle.lmn_base.specs.declared.level.Leaf as base
 use Rattle.lmn_base.specs.declared.level.Level as base_level
 use Rattle.lmn_base.specs.declared.refusal.Pos.{Pos}
 use Rattle.lmn_base.specs.declared.rule.Plain.{Plain}
 use Rattle.lmn_base.specs.declared.rule.RuleTree.{RuleTree}
 use Rattle.lmn_base.specs.Levels.{leaves_of}
+use Rattle.lmn_base.specs.Limits.{most_links}
 use Rattle.lmn_congruence.specs.Rules as tree
 use Rattle.lmn_compile_head.specs.Tables.{HasFewLinks}
 use Rattle.lmn_lexer.specs.Laying.{Word}
@@ -23,7 +25,7 @@ use Rattle.lmn_plain.proofs.NumberedLevels.{all_leaves, leaves_below, leaves_num
 use Rattle.lmn_base.proofs.Lists.{all_append, all_left as all_front, all_right as all_back}
 
 abbrev FewUses : ExpandedLeaf → Type 0
-FewUses (atom_leaf l us pos) = length us < 256
+FewUses (atom_leaf l us pos) = length us ≤ most_links
 FewUses (typed_leaf n u pos) = Unit {0}
 
 abbrev AllFew : List ExpandedLeaf → Type 0
@@ -60,7 +62,7 @@ membrane_few p f = record { leaves = tt; membranes = all_append FewUses (all_lea
 -- other links leave their numbers
 
 few_renamed : (f : Link → Link) (l : ExpandedLeaf) → FewUses l → FewUses (renamed_leaf f l)
-few_renamed f (atom_leaf l us pos) h = subst (λ n. n < 256) (sym (length-map us (renamed_use f))) h
+few_renamed f (atom_leaf l us pos) h = subst (λ n. n ≤ most_links) (sym (length-map us (renamed_use f))) h
 few_renamed f (typed_leaf n u pos) h = tt
 
 all_few_renamed : (f : Link → Link) (ls : List ExpandedLeaf) → AllFew ls → AllFew (map (renamed_leaf f) ls)
@@ -117,10 +119,10 @@ module _ (words : List Word) (places : List Pos) where
   as_many pos way no_term = refl
   as_many pos way (term_and t ts) = ap suc (as_many pos (1 ∷ way) ts)
 
-  few_arguments : (pos : Pos) (way : List ℕ) (ts : Terms) → number_of_terms ts ≤ 255 → length (expanded_arguments words places pos way ts) < 256
+  few_arguments : (pos : Pos) (way : List ℕ) (ts : Terms) → number_of_terms ts ≤ most_arguments → length (expanded_arguments words places pos way ts) ≤ most_links
   few_arguments pos way ts l = let e = as_many pos way ts in omega (arith, e, l)
 
-  few_and_own : (pos : Pos) (way : List ℕ) (ts : Terms) (u : Use) → number_of_terms ts ≤ 254 → length (expanded_arguments words places pos way ts ++ u ∷ []) < 256
+  few_and_own : (pos : Pos) (way : List ℕ) (ts : Terms) (u : Use) → number_of_terms ts ≤ most_term_arguments → length (expanded_arguments words places pos way ts ++ u ∷ []) ≤ most_links
   few_and_own pos way ts u l = let e = as_many pos way ts in let f = length-append (expanded_arguments words places pos way ts) (u ∷ []) in omega (arith, e, f, l)
 
   mutual
@@ -177,7 +179,7 @@ module _ (words : List Word) (places : List Pos) where
   module _ (names : List tree.Name) where
     few_numbered : (number : Link → ℕ) (ls : List ExpandedLeaf) → AllFew ls → AllByRecursion HasFewLinks (map (numbered_leaf names number) ls)
     few_numbered number [] h = tt
-    few_numbered number (atom_leaf l us pos ∷ ls) h = (subst (λ n. n < 256) (sym (length-map us (numbered_use names number))) h.0, few_numbered number ls h.1)
+    few_numbered number (atom_leaf l us pos ∷ ls) h = (subst (λ n. n ≤ most_links) (sym (length-map us (numbered_use names number))) h.0, few_numbered number ls h.1)
     few_numbered number (typed_leaf n u pos ∷ ls) h = (tt, few_numbered number ls h.1)
 
     few_in_level : (number : Link → ℕ) (l : ExpandedLevel) (b : base_level.Level) → b ≡ numbered names number l → AllFew (all_leaves l) → AllByRecursion HasFewLinks (leaves_of b)

@@ -22,8 +22,8 @@ pub record HasRule (plain : Plain) (plans : List GuardPlan) (k : ℕ) (r : RuleT
 
 -- Of an accepted text:
 --   made   its plain is well made
---   few    each atom of its top has at most 255 links
---   whole  each rule is accepted and well made, with its plan, and each atom of it has at most 255 links
+--   few    no atom of its top has too many links
+--   whole  each rule is accepted and well made, with its plan, and no atom of it has too many links
 --   types  each typed context of a head has the kind that its plan gives it
 --   named  its plain has only names of the list that reading leaves
 --   tree   each rule, as a tree of the calculus by that list, is one that a text may have

@@ -5,8 +5,8 @@ ghost use Rattle.lmn_accepted.specs.Loading.{AcceptedAreNamed, AcceptedCanBeLoad
 ghost use Rattle.lmn_accepted.specs.Rules.{AcceptedTexts};
 ghost use Rattle.lmn_accepted.specs.OneProcess.{OneProcess, OneProcessOfReadings};
 
-/// The plain of an accepted text is well made, has only names of the list that reading leaves, and no atom of its top has more
-/// than 255 links. Each of its rules is whole,
+/// The plain of an accepted text is well made, has only names of the list that reading leaves, and no atom of its top has too
+/// many links. Each of its rules is whole,
 /// with its plan; the kinds of the plan are those that its guard gives; and the tree of the rule is accepted, where names and
 /// links have their numbers.
 pub fn accepted_texts()
