@@ -12,6 +12,7 @@ use Rattle.lmn_base.specs.declared.level.Level as base_level
 use Rattle.lmn_base.specs.declared.level.Level.TheFolds.{fold-roll-Level, ind-Level}
 use Rattle.lmn_base.specs.declared.level.Occ.{Occ}
 use Rattle.lmn_base.specs.Levels.{leaves_of}
+use Rattle.lmn_base.specs.Limits.{most_links}
 use Rattle.lmn_congruence.specs.Orders.{at_head, further}
 use Rattle.lmn_congruence.specs.Rules as tree
 use Rattle.lmn_congruence.specs.Rules.{Condition, Expression, Label, Leaf, Level, Levels, Rule, atom_leaf, body_of, compares, connector_leaf, differs, equates, integer, is_kind, level, level_and, named, no_level, number, operation, rule_of, typed_leaf, unknown, value_of}
@@ -62,7 +63,7 @@ module _ (names : List tree.Name) where
   pub record Good (l : Label) (k : ℕ) : Type 0 where
     pub spelled : LabelSpelled l
     pub held : LabelHeld l
-    pub few : k ≤ 255
+    pub few : k ≤ most_links
     pub no_connector : IsNoConnector l k
 
   pub good_integer : (z : ℤ) → InRange z → Good (integer z) 1
@@ -92,7 +93,7 @@ module _ (names : List tree.Name) where
   -- ---- atoms with few links
 
   abbrev LeafFew : Leaf → Type 0
-  LeafFew (atom_leaf l xs) = length xs ≤ 255
+  LeafFew (atom_leaf l xs) = length xs ≤ most_links
   LeafFew (connector_leaf x y) = ⊤
   LeafFew (typed_leaf p x) = ⊤
 
@@ -104,7 +105,7 @@ module _ (names : List tree.Name) where
     LevelsFew no_level = ⊤
     LevelsFew (level_and l ls) = LevelFew l × LevelsFew ls
 
-  atom_few : (l : base.Label) (xs : List ℕ) → length xs ≤ 255 → LeafFew (atom_or_connector names l xs)
+  atom_few : (l : base.Label) (xs : List ℕ) → length xs ≤ most_links → LeafFew (atom_or_connector names l xs)
   atom_few (Name zero) [] h = h
   atom_few (Name zero) (x ∷ []) h = h
   atom_few (Name zero) (x ∷ (y ∷ [])) h = tt
@@ -113,7 +114,7 @@ module _ (names : List tree.Name) where
   atom_few (Int z) xs h = h
 
   leaf_few : (l : base_leaf.Leaf) → LinksAreFew l → LeafFew (leaf_of names l)
-  leaf_few (Atom f os place) h = atom_few f.label (map (λ (o : Occ). o.link) os) (subst (λ n. n ≤ 255) (sym (length-map os (λ (o : Occ). o.link))) h)
+  leaf_few (Atom f os place) h = atom_few f.label (map (λ (o : Occ). o.link) os) (subst (λ n. n ≤ most_links) (sym (length-map os (λ (o : Occ). o.link))) h)
   leaf_few (Typed n o place) h = tt
 
   leaves_few : (ls : List base_leaf.Leaf) → AllByRecursion LinksAreFew ls → AllByRecursion LeafFew (map (leaf_of names) ls)

@@ -10,6 +10,7 @@ use Rattle.lmn_base.specs.declared.level.Level.{Level}
 use Rattle.lmn_base.specs.declared.level.Level.TheFolds.{fold-roll-Level, ind-Level}
 use Rattle.lmn_base.specs.declared.level.Occ.{Occ}
 use Rattle.lmn_base.specs.Levels.{occurrences_of_leaf, leaves_of, links_of, rules_of}
+use Rattle.lmn_base.specs.Limits.{most_links}
 use Rattle.lmn_base.specs.Links.{NumbersLinks}
 use Rattle.lmn_congruence.specs.Rules as tree
 use Rattle.lmn_congruence.specs.Rules.{Name}
@@ -38,11 +39,11 @@ use Rattle.lmn_congruence.proofs.Common.{among_map}
 
 -- ---- how many links a level has
 
-few_leaf : (l : Leaf) → LinksAreFew l → length (occurrences_of_leaf l) ≤ 255
+few_leaf : (l : Leaf) → LinksAreFew l → length (occurrences_of_leaf l) ≤ most_links
 few_leaf (Atom f os pos) h = omega (arith, h)
 few_leaf (Typed n o pos) h = omega arith
 
-few_occurrences : (ls : List Leaf) → AllByRecursion LinksAreFew ls → length (flat_map occurrences_of_leaf ls) ≤ 255 * length ls
+few_occurrences : (ls : List Leaf) → AllByRecursion LinksAreFew ls → length (flat_map occurrences_of_leaf ls) ≤ most_links * length ls
 few_occurrences [] h = omega arith
 few_occurrences (l ∷ ls) h = omega (arith, length-append (occurrences_of_leaf l) (flat_map occurrences_of_leaf ls), few_leaf l h.0, few_occurrences ls h.1)
 
@@ -61,7 +62,7 @@ few_leaves = ind-Level FewLeaves (λ y z is.
     rw (fold-roll-Level (List Leaf) (λ l. l.leaves ++ flat_map (λ inner. inner) l.membranes) y, fold-roll-Level ℕ size_step y)
     (omega (arith, inside, length-append y.leaves (flat_map (λ inner. inner) (map leaves_of y.membranes)))))
 
-few_links_in : (l : Level) → AllByRecursion LinksAreFew (leaves_of l) → length (links_of l) ≤ 255 * item_count_of_level l
+few_links_in : (l : Level) → AllByRecursion LinksAreFew (leaves_of l) → length (links_of l) ≤ most_links * item_count_of_level l
 few_links_in l h = omega (arith, few_occurrences (leaves_of l) h, few_leaves l, length-map (flat_map occurrences_of_leaf (leaves_of l)) (λ (o : Occ). o.link))
 
 -- the guard of an accepted rule has no unknown condition

@@ -13,6 +13,7 @@ use Rattle.lmn_base.specs.declared.solid.Region as base_region
 use Rattle.lmn_base.specs.declared.solid.Region.TheFolds.{fold-Region, fold-roll-Region, ind-Region}
 use Rattle.lmn_base.specs.declared.solid.Region.TheViews.{roll-Region}
 use Rattle.lmn_base.specs.Levels.{contexts_of, leaves_of, rule_contexts_of, rules_of}
+use Rattle.lmn_base.specs.Limits.{most_links}
 use Rattle.lmn_base.specs.Links.{NumbersLinks}
 use Rattle.lmn_base.specs.Names.{HasNames, NamesSolid, context_names, label_names, leaf_names, level_names, rule_names, IsNames}
 use Rattle.lmn_base.specs.Solids.{HasEachRule, atoms_step, item_count, items_step, rules_step}
@@ -85,18 +86,18 @@ module _ (names : List Name) where
   abbrev RegionsGood : Regions → Type 0
   RegionsGood = AllAtomsIn (Good names) (good_integer names) (integer_good names)
 
-  -- as many ports as 255 for each item
-  few_ports : (xs : List SolidAtom) → AtomsGood xs → length (links_at xs) ≤ 255 * length xs
+  -- as many ports as an atom may have links, for each item
+  few_ports : (xs : List SolidAtom) → AtomsGood xs → length (links_at xs) ≤ most_links * length xs
   few_ports [] h = omega arith
   few_ports (a ∷ xs) h =
       let first = h a at_head in
       omega (arith, length-append a.links (links_at xs), first.few, few_ports xs (λ b i. h b (further i)))
 
   mutual
-    region_ports : (r : Region) → RegionGood r → length (printed_links r) ≤ 255 * item_count_of_region r
+    region_ports : (r : Region) → RegionGood r → length (printed_links r) ≤ most_links * item_count_of_region r
     region_ports (region xs ms rs) h = omega (arith, length-append (links_at xs) (printed_links_in ms), few_ports xs h.0, regions_ports ms h.1)
 
-    regions_ports : (ms : Regions) → RegionsGood ms → length (printed_links_in ms) ≤ 255 * item_count_of_regions ms
+    regions_ports : (ms : Regions) → RegionsGood ms → length (printed_links_in ms) ≤ most_links * item_count_of_regions ms
     regions_ports no_region h = omega arith
     regions_ports (region_and m ms) h = omega (arith, length-append (printed_links m) (printed_links_in ms), region_ports m h.0, regions_ports ms h.1)
 

@@ -8,6 +8,7 @@ use Rattle.lmn_base.specs.declared.rule.Plain.{Plain}
 use Rattle.lmn_base.specs.declared.rule.RuleTree.{RuleTree}
 use Rattle.lmn_base.specs.declared.solid.Solid.{Solid}
 use Rattle.lmn_base.specs.Levels.{leaves_of}
+use Rattle.lmn_base.specs.Limits.{most_links}
 use Rattle.lmn_base.specs.Names.{NamesPlain}
 use Rattle.lmn_base.specs.Solids.{item_count}
 use Rattle.lmn_base.specs.WellMade.{IsWellMade}
@@ -21,13 +22,13 @@ use Rattle.lmn_adequacy.specs.Accepted.{Accepted}
 use Rattle.lmn_adequacy.specs.Runs.{Trace}
 use Rattle.lmn_runs.specs.Runs.{Given, PrintedLines, Prints, Stop, StopsBy, StopsSo}
 
--- an atom has at most 255 links
+-- an atom has no more links than its arity can count
 abbrev pub LinksAreFew : Leaf → Type 0
-LinksAreFew (Atom functor links pos) = length links ≤ 255
+LinksAreFew (Atom functor links pos) = length links ≤ most_links
 LinksAreFew (Typed name link pos) = ⊤
 
 -- A plain of which runs can be printed, by a list of names: it is well made and has names of the list alone; a text can spell its top
--- and its rules; no atom has more than 255 links; and each rule is accepted.
+-- and its rules; no atom has too many links; and each rule is accepted.
 pub record IsPrintable (names : List Name) (plain : Plain) : Type 0 where
   pub made : IsWellMade plain
   pub named : NamesPlain names plain
