@@ -16,6 +16,7 @@ use Rattle.lmn_base.specs.declared.rule.RuleTree.{RuleTree}
 use Rattle.lmn_base.specs.Names.{first_names}
 use Rattle.lmn_base.specs.Items.{items_of, leaf_item, number_of_items, number_step, own_items}
 use Rattle.lmn_base.specs.Levels.{leaves_of, links_of, occurrences_of_leaf}
+use Rattle.lmn_base.specs.Limits.{most_head_items, most_body_items, most_conditions, most_guard_tokens}
 use Rattle.lmn_base.specs.Links.{EachTwice, NumbersLinks, no_more}
 use Rattle.lmn_base.specs.RuleCodes.{bare_again, closed_place, untyped_place, connector_place, first_with_some, from_nowhere, in_other_form, inner_rule, missing, rule_context_place, head_rows, seconds_by_membrane, size_rows, use_rows, used_again}
 use Rattle.lmn_base.specs.SmallTexts.{at_column}
@@ -170,7 +171,7 @@ small_table = small_rule ∷ []
 
 -- where too many items and a missing head are found, by their numbers
 abbrev too_many : ℕ → ℕ → List Pos
-too_many head body = if nat_lt 128 head || (nat_lt 1024 body || (nat_lt 64 0 || nat_lt 256 0)) then at_column 4 ∷ [] else []
+too_many head body = if nat_lt most_head_items head || (nat_lt most_body_items body || (nat_lt most_conditions 0 || nat_lt most_guard_tokens 0)) then at_column 4 ∷ [] else []
 
 abbrev none_held : ℕ → List Pos
 none_held head = if head == 0 then at_column 4 ∷ [] else []
