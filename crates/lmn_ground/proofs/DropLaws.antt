@@ -352,14 +352,3 @@ pub next_once : (h t : Heap) (m a : ℕ) → Distinct (atoms_in h m) → t ≡ t
 next_once h t m a d u e f =
     let once : Distinct (a ∷ after a (atoms_in h m)) = subst Distinct (sym f) d in
     subst Distinct (sym (ap (λ z. atoms_in z m) u ∙ behind_first h m a e f)) once.1
-
--- and less is left
-pub fewer_taken : (h t : Heap) (m a : ℕ) → t ≡ taken h a → home_of h a ≡ Some m → from (Some a) (atoms_in h m) ≡ atoms_in h m → length (atoms_in t m) < length (atoms_in h m)
-fewer_taken h t m a u e f =
-    let x = ap length (ap (λ z. atoms_in z m) u ∙ behind_first h m a e f) in
-    let y = ap length f in
-    omega (arith, x, y)
-
--- at the end nothing is
-pub all_from : (h s : Heap) (m : ℕ) (o : Option ℕ) → o ≡ None → from o (atoms_in h m) ≡ atoms_in h m → taken_all h (atoms_in h m) ≡ s → h ≡ s
-all_from h s m o e f t = ap (taken_all h) (ap (λ z. from z (atoms_in h m)) (sym e) ∙ f) ∙ t
