@@ -6,6 +6,7 @@ mod Codes
 mod Ends
 mod Renumbering
 mod Choices
+mod Asked
 mod Items
 mod Spares
 mod ExampleHeaps

@@ -18,8 +18,10 @@ use Rattle.lmn_bridge.specs.HeapRegions.{HeapReading}
 use Rattle.lmn_bridge.specs.Laws.{heap_process}
 use Rattle.lmn_bridge.specs.Premises.{IsRead}
 use Rattle.lmn_strategy.specs.Choosing.{CodeSucceeds, NoneIn, asked as asked_on_heap}
+use Rattle.lmn_strategy.specs.Counting.{AsksRules}
 use Rattle.lmn_turn.specs.Commits.{IsTable}
 use Rattle.lmn_turn.specs.Turning.{Leads, renumbered_reading}
+use Rattle.lmn_choice.specs.Counting.{AsksRulesOf}
 use Rattle.lmn_choice.specs.Turns.{tree_over, membranes_in_preorder, heap_region, HaveCodes, IsReadWith, IsChosen, IsChoice, IsNextHeap, IsNumberedAnew}
 use Rattle.lmn_base.specs.Lists.{In}
 
@@ -86,6 +88,12 @@ CostsAreTold = (table : List RuleTree) (plans : List GuardPlan) (codes : List Co
 -- The links of a heap can have the numbers of printed order.
 abbrev pub HeapsAreNumbered : Type 0
 HeapsAreNumbered = (h : Heap) (r : HeapReading) (inner : Forest) (table : List RuleTree) → IsReadWith h r inner table → IsNumberedAnew h r inner table
+
+-- As many rules are asked by code, until one succeeds, as are asked in the region, until one embeds.
+abbrev pub RulesAreAskedAlike : Type 0
+RulesAreAskedAlike = (table : List RuleTree) (plans : List GuardPlan) (codes : List Code) → HaveCodes table plans codes →
+    (h : Heap) (r : HeapReading) (inner : Forest) → IsReadWith h r inner table →
+    (from n : ℕ) → AsksRules h codes (asked_on_heap from (tree_over h inner)) n → AsksRulesOf (heap_region h r inner) (asked_paths from (heap_region h r inner)) n
 
 -- Room for more rules is no part of what is read: a heap that differs in it alone is read alike, and has the same region.
 abbrev pub SparesAreNotRead : Type 0

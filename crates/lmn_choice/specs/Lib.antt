@@ -1,3 +1,4 @@
 pub mod Turns
+pub mod Counting
 pub mod Laws
 pub mod Examples

@@ -5,7 +5,7 @@
 #![tactic(auto)]
 
 ghost use Rattle.lmn_choice.specs.Examples.{AcrossHasTwoPaths, AcrossIsReadWith};
-ghost use Rattle.lmn_choice.specs.Laws.{ChoicesAgree, ChoicesAlike, CostsAreItems, CostsAreTold, HeapsAreNumbered, MembranesAreNumberedAlike, NothingEmbeds, SparesAreNotRead, TurnsAreAlike, TurnsAreOfChooser};
+ghost use Rattle.lmn_choice.specs.Laws.{ChoicesAgree, ChoicesAlike, CostsAreItems, CostsAreTold, HeapsAreNumbered, MembranesAreNumberedAlike, NothingEmbeds, RulesAreAskedAlike, SparesAreNotRead, TurnsAreAlike, TurnsAreOfChooser};
 
 use lmn_adequacy::{
     embeddings_fire, firings_commit, matching_is_exact, next_is_one, numbering_is_one,
@@ -88,6 +88,15 @@ pub fn heaps_are_numbered()
     ensures { HeapsAreNumbered }
 {
     numbering_is_one();
+}
+
+/// As many rules are asked by code, until one succeeds, as are asked in the region, until one embeds.
+pub fn rules_are_asked_alike()
+    ensures { RulesAreAskedAlike }
+{
+    accepted_heads();
+    code_means_embedding();
+    rules_embed_alike();
 }
 
 /// A heap that differs from another in its room for more rules alone, as one does where memory was wanting, is read alike.

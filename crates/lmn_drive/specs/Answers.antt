@@ -2,10 +2,10 @@
 use Rattle.std.specs.Prelude.{ℕ, ◌≡◌, ◌≤◌, ◌+◌, List, [], ◌∷◌, ◌++◌, Option, None, Some, length, slice_get, slice_index_or}
 use Rattle.lmn_heap.specs.Heap.{Heap}
 use Rattle.lmn_congruence.specs.Regions.{Region}
-use Rattle.lmn_adequacy.specs.Choice.{paths}
+use Rattle.lmn_adequacy.specs.Choice.{asked_paths, paths}
 use Rattle.lmn_adequacy.specs.Runs.{Chooser}
 use Rattle.lmn_strategy.specs.Counting.{RisesWithin}
-use Rattle.lmn_schedule.specs.Counting.{rule_count_of_region}
+use Rattle.lmn_choice.specs.Counting.{AsksRulesOf}
 use Rattle.lmn_drive.specs.declared.driving.RunEnd.{RunEnd}
 use Rattle.lmn_drive.specs.declared.driving.Stop.{Stop}
 use Rattle.lmn_drive.specs.Driving.{RunInput, Ran, Drove, Going, Stopped, Broke}
@@ -23,19 +23,29 @@ solids r = r.before ++ r.last ∷ []
 abbrev pub AreAllowed : (ℕ → ℕ → ℕ → Type 0) → List Region → List ℕ → Type 0
 AreAllowed Answers Ss answers = (n from : ℕ) → slice_get answers n ≡ Some from → (S : Region) × (slice_get Ss n ≡ Some S) × Answers n (length (paths S)) from
 
--- how many rules stand in the membranes of some solids
-abbrev pub rule_count_of_solids : List Region → ℕ
-rule_count_of_solids [] = 0
-rule_count_of_solids (S ∷ Ss) = rule_count_of_region S + rule_count_of_solids Ss
+-- So many rules are asked of some solids one after the other: of each those of its membranes from the number on that a chooser gives for
+-- its place, until one embeds.
+pub data AsksSolids (c : Chooser) : List Region → ℕ → Type 0 where
+  asks_no_solid : AsksSolids c [] 0
+  asks_next : {Ss : List Region} {S : Region} {n k : ℕ} → AsksSolids c Ss n → AsksRulesOf S (asked_paths (c (length Ss) (length (paths S))) S) k → AsksSolids c (Ss ++ S ∷ []) (n + k)
+
+-- A count of steps rises by the rules that are asked of some solids at most.
+pub record CountsSolids (c : Chooser) (Ss : List Region) (begun counted : ℕ) : Type 0 where
+  pub rules : ℕ
+  pub asks : AsksSolids c Ss rules
+  pub rises : RisesWithin rules begun counted
 
 -- So it is with some answers of a closure, each of which it may give, one at least for each commit: what is said of choosers holds of the
--- one that gives them in turn. A count of steps rises by the rules of the solids at most.
+-- one that gives them in turn. A count of steps rises by the rules that are asked of the first solids at most, those that were asked.
 pub record ByAnswers (Answers : ℕ → ℕ → ℕ → Type 0) (g : Chooser → RunInput) (commits : ℕ) (h : Heap) (begun counted : ℕ) (Is : Chooser → Type 0) (ran : (c : Chooser) → Is c → Ran (g c) commits h) : Type 0 where
   pub answers : List ℕ
   pub is : Is (in_turn answers)
   pub allowed : AreAllowed Answers (solids (ran (in_turn answers) is)) answers
   pub enough : commits ≤ length answers
-  pub steps : RisesWithin (rule_count_of_solids (solids (ran (in_turn answers) is))) begun counted
+  pub asked : List Region
+  pub others : List Region
+  pub first : solids (ran (in_turn answers) is) ≡ asked ++ others
+  pub steps : CountsSolids (in_turn answers) asked begun counted
 
 -- a run that ended so, by some answers of a closure
 abbrev pub DroveByAnswers : (ℕ → ℕ → ℕ → Type 0) → (Chooser → RunInput) → ℕ → Heap → RunEnd → Option (List ℕ) → Option (List ℕ) → ℕ → ℕ → Type 0
@@ -54,7 +64,7 @@ pub record GoingByAnswers (Answers : ℕ → ℕ → ℕ → Type 0) (g : Choose
   pub going : Going (g (in_turn answers)) commits h old new
   pub allowed : AreAllowed Answers going.ran.before answers
   pub many : length answers ≡ commits
-  pub steps : RisesWithin (rule_count_of_solids going.ran.before) begun counted
+  pub steps : CountsSolids (in_turn answers) going.ran.before begun counted
 
 -- a step that didn't fail
 abbrev pub StepsOnByAnswers : (ℕ → ℕ → ℕ → Type 0) → (Chooser → RunInput) → ℕ → Heap → Option (List ℕ) → Option (List ℕ) → ℕ → ℕ → Option Stop → Type 0

@@ -16,7 +16,7 @@ use lmn_base::{Names, Plain};
 use lmn_folded_printer::print;
 use lmn_io::{Failed, Sink, put_all};
 use lmn_machine::Steps;
-use lmn_schedule::{Engine, Turn};
+use lmn_schedule::{Engine, Turn, counts_are_alike};
 use lmn_store::LinkStore;
 use std::alloc::Global;
 use std::sync::ledger::Ledger;
@@ -118,6 +118,7 @@ fn run<S: LinkStore, F: Fn(u64, u64) -> u64, O: Sink, L: Ledger>(
     ensures same { OnOk result (NoneFailed (O.faults out.old) (O.faults out.new)) }
     ensures rose { OnErr result (FailedLast (O.faults out.old) (O.faults out.new)) }
 {
+    counts_are_alike();
     write_traced(engine, plain, names, options.trace, options.folded, out)?;
     for _ in 0..options.budget {
         if let Some(stop) = step(alloc, engine, plain, names, options, out, steps)? {
@@ -160,6 +161,7 @@ fn step<S: LinkStore, F: Fn(u64, u64) -> u64, O: Sink, L: Ledger>(
     ensures same { OnOk result (NoneFailed (O.faults out.old) (O.faults out.new)) }
     ensures rose { OnErr result (FailedLast (O.faults out.old) (O.faults out.new)) }
 {
+    counts_are_alike();
     match engine.turn(alloc, steps) {
         Turn::Committed => {
             write_traced(engine, plain, names, options.trace, options.folded, out)?;

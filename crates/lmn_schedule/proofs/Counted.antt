@@ -7,10 +7,13 @@ use Rattle.lmn_congruence.specs.Rules.{Name}
 use Rattle.lmn_heap.specs.Heap.{Heap, rules_in}
 use Rattle.lmn_heap.specs.Sound.{Forest, bare, mem, flat}
 use Rattle.lmn_bridge.specs.HeapRegions.{HeapReading, region_at, regions_at}
+use Rattle.lmn_adequacy.specs.Choice.{asked_paths}
+use Rattle.lmn_choice.specs.Counting.{AsksRulesOf}
+use Rattle.lmn_choice.specs.Laws.{RulesAreAskedAlike}
 use Rattle.lmn_choice.specs.Turns.{tree_over}
-use Rattle.lmn_strategy.specs.Counting.{CountsRules, RisesWithin, rule_count}
+use Rattle.lmn_strategy.specs.Counting.{rule_count}
 use Rattle.lmn_strategy.proofs.Counts.{count_both}
-use Rattle.lmn_schedule.specs.Counting.{RulesAreCounted, rule_count_of_region, rule_count_of_regions}
+use Rattle.lmn_schedule.specs.Counting.{CountsAreAlike, RulesAreCounted, rule_count_of_region, rule_count_of_regions}
 use Rattle.lmn_schedule.specs.Held.{HoldsRegion, reading_by}
 
 -- those of a forest are those of its regions
@@ -30,9 +33,14 @@ rules_are_counted names table h S o =
     let is : rule_count_of_region (region_at h r h.root o.inner) ≡ rule_count_of_region S = ap rule_count_of_region (sym o.is) in
     (tree_over h o.inner, o.tree, omega (arith, all, is))
 
--- a count that rises by the rules of a heap at most rises by those of its solid
-pub counted_on : (names : List Name) (table : List RuleTree) (h : Heap) (S : Region) → HoldsRegion names table h S → (old new : ℕ) → CountsRules h old new → RisesWithin (rule_count_of_region S) old new
-counted_on names table h S o old new counts =
-    let c = rules_are_counted names table h S o in
-    let up = counts c.0 c.1 in
-    subst (λ n. RisesWithin n old new) c.2 (record { rises = up.rises; within = up.within })
+-- what is counted on a heap is counted of its solid
+pub counts_are_alike : RulesAreAskedAlike → CountsAreAlike
+counts_are_alike alike names table h S codes size o run from old new counts =
+    let r = reading_by names table o.number in
+    let c = counts (tree_over h o.inner) o.tree in
+    record {
+      rules = c.rules;
+      asks = subst (λ T. AsksRulesOf T (asked_paths from T) c.rules) (sym o.is)
+          (alike table run.plans codes (record { whole = run.whole; compiled = run.compiled }) h r o.inner (record { read = o.read; tree = o.tree; rules = o.rules }) from c.rules c.asks);
+      counts = c.counts;
+    }

@@ -1,12 +1,15 @@
--- How many rules a turn may ask, by the solid.
+-- How many rules a turn asks, by the solid.
 use Rattle.std.specs.Prelude.{ℕ, ◌≡◌, ◌+◌, List, length}
 use Rattle.lmn_base.specs.declared.rule.RuleTree.{RuleTree}
 use Rattle.lmn_congruence.specs.Regions.{Region, Regions, region, no_region, region_and}
 use Rattle.lmn_congruence.specs.Rules.{Name}
 use Rattle.lmn_heap.specs.Heap.{Heap}
 use Rattle.lmn_heap.specs.Sound.{Forest, IsTree, flat}
-use Rattle.lmn_strategy.specs.Counting.{rule_count}
-use Rattle.lmn_schedule.specs.Held.{HoldsRegion}
+use Rattle.lmn_instr.specs.declared.instr.Code.{Code}
+use Rattle.lmn_strategy.specs.Counting.{CountsAsked, CountsUpTo, rule_count}
+use Rattle.lmn_adequacy.specs.Choice.{asked_paths}
+use Rattle.lmn_choice.specs.Counting.{AsksRulesOf}
+use Rattle.lmn_schedule.specs.Held.{EngineCanTurn, HoldsRegion}
 
 abbrev mutual
   -- How many rules stand in a region and in its membranes, at every depth.
@@ -21,3 +24,15 @@ abbrev mutual
 abbrev pub RulesAreCounted : Type 0
 RulesAreCounted = (names : List Name) (table : List RuleTree) (h : Heap) (S : Region) → HoldsRegion names table h S →
     (f : Forest) × IsTree h f × (rule_count h (flat f) ≡ rule_count_of_region S)
+
+-- A count of attempts rises by the rules that are asked of a solid at most, where its membranes are asked from a number on; and where one is
+-- asked, by one at least.
+pub record CountsAskedOf (S : Region) (from old new : ℕ) : Type 0 where
+  pub rules : ℕ
+  pub asks : AsksRulesOf S (asked_paths from S) rules
+  pub counts : CountsUpTo rules old new
+
+-- What is counted on a heap that an engine can turn is counted of the solid that it holds.
+abbrev pub CountsAreAlike : Type 0
+CountsAreAlike = (names : List Name) (table : List RuleTree) (h : Heap) (S : Region) (codes : List Code) (size : ℕ) → HoldsRegion names table h S → EngineCanTurn h table codes size →
+    (from old new : ℕ) → CountsAsked h codes from old new → CountsAskedOf S from old new

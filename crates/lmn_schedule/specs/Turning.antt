@@ -8,6 +8,8 @@ use Rattle.lmn_reduction.specs.Commits.{Commit, Irreducible as NothingLeft}
 use Rattle.lmn_adequacy.specs.Choice.{paths}
 use Rattle.lmn_adequacy.specs.Embedding.{HasEmbedding}
 use Rattle.lmn_adequacy.specs.Runs.{Chooser, Turn as Chooses}
+use Rattle.lmn_instr.specs.declared.instr.Code.{Code}
+use Rattle.lmn_strategy.specs.Counting.{CountsAsked}
 use Rattle.lmn_strategy.specs.declared.turning.Turn.{Turn}
 use Rattle.lmn_strategy.specs.declared.turning.Turn.TheVariants.{Committed, Irreducible, Full, NoMemory}
 use Rattle.lmn_body.specs.Stopping.{SameButSpares}
@@ -34,11 +36,15 @@ IsTurned names table c size n S Irreducible h = IsDone S × HoldsRegion names ta
 IsTurned names table c size n S Full h = ((S' : Region) × Chooses c n S S' × (size < item_count_of_region S')) × HoldsRegion names table h S
 IsTurned names table c size n S NoMemory h = ((S' : Region) × Chooses c n S S' × (item_count_of_region S' ≤ size)) × HoldsRegion names table h S
 
--- What a turn answers where a closure says which membrane is asked first, whatever its answer is: some number that it may answer for the
--- commits done and the number of membranes, and by this number the turn.
-abbrev pub IsTurnedByAnswer : (ℕ → ℕ → ℕ → Type 0) → List Name → List RuleTree → ℕ → ℕ → Region → Turn → Heap → Type 0
-IsTurnedByAnswer Answers names table size n S answer h =
-    (from : ℕ) × Answers n (length (paths S)) from × IsTurned names table (λ commits membranes. from) size n S answer h
+-- What a turn answers where a closure says which membrane is asked first, whatever its answer is.
+--   from     some number
+--   counts   steps are counted as far as rules are asked from the membrane with this number on
+--   turned   of each solid that the heap holds: the closure may answer this number for the commits done and the number of membranes, and
+--            by it the turn is made
+pub record IsTurnedByAnswer (Answers : ℕ → ℕ → ℕ → Type 0) (table : List RuleTree) (codes : List Code) (size n : ℕ) (h : Heap) (answer : Turn) (h' : Heap) (old new : ℕ) : Type 0 where
+  pub from : ℕ
+  pub counts : CountsAsked h codes from old new
+  pub turned : (names : List Name) (S : Region) → HoldsRegion names table h S → Answers n (length (paths S)) from × IsTurned names table (λ commits membranes. from) size n S answer h'
 
 -- What an answer leaves of the heap where nothing is committed: all of it, marks too, but at `NoMemory` for room for more rules.
 abbrev pub KeepsHeap : Turn → Heap → Heap → Type 0

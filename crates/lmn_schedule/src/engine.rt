@@ -9,7 +9,7 @@ ghost use Rattle.lmn_heap.specs.Sound.{Forest, IsTree, AllInPlace, flat, item_co
 ghost use Rattle.lmn_loading.specs.Loaded.{IsEmpty, IsLoaded, LoadCauses};
 ghost use Rattle.lmn_schedule.specs.Held.{AreNames, CanBeLoaded, EngineCanTurn, HoldsRegion, HoldsSolid};
 ghost use Rattle.lmn_schedule.specs.Turning.{Gives, IsDone, IsTurned, IsTurnedByAnswer, KeepsHeap, counted};
-ghost use Rattle.lmn_strategy.specs.Counting.{CountsRules};
+ghost use Rattle.lmn_strategy.specs.Counting.{CountsAsked};
 ghost use Rattle.lmn_adequacy.specs.Embedding.{HasEmbedding};
 ghost use Rattle.lmn_adequacy.specs.Runs.{Chooser as Choosing};
 ghost use Rattle.lmn_order.specs.Answers.{AnswersBelow};
@@ -111,19 +111,17 @@ impl<'p, S: LinkStore + Drop, F: Fn(u64, u64) -> u64 + Drop> Engine<'p, S, F> {
 
 impl<'p, S: LinkStore, F: Fn(u64, u64) -> u64> Engine<'p, S, F> {
     /// One turn: the rule that the strategy chooses fires, at its least match, unless more items would be left than are allowed.
-    /// With another answer than `Committed` the solid is as it was. Each rule of each membrane is tried once at most.
+    /// With another answer than `Committed` the solid is as it was. The steps rise by the rules of the membranes asked at most.
     pub fn turn<L: Ledger>(&mut self, alloc: Global, steps: &mut Steps<L>) -> Turn
         requires run { EngineCanTurn (S.heap self.old.machine.store) self.old.plain.now.rules self.old.codes self.old.size }
         requires chooser { AnswersBelow F.pre F.post self.old.chooser.f }
         requires commits { self.old.commits < 2 ^ 63 }
         ensures turned { (c : Choosing) → Gives F.post self.old.chooser.f c → (names : List Name) (solid : Region) → HoldsRegion names self.old.plain.now.rules (S.heap self.old.machine.store) solid →
             IsTurned names self.old.plain.now.rules c self.old.size self.old.commits solid result (S.heap self.new.machine.store) }
-        ensures chosen { (names : List Name) (solid : Region) → HoldsRegion names self.old.plain.now.rules (S.heap self.old.machine.store) solid →
-            IsTurnedByAnswer (F.post self.old.chooser.f) names self.old.plain.now.rules self.old.size self.old.commits solid result (S.heap self.new.machine.store) }
+        ensures chosen { IsTurnedByAnswer (F.post self.old.chooser.f) self.old.plain.now.rules self.old.codes self.old.size self.old.commits (S.heap self.old.machine.store) result (S.heap self.new.machine.store) steps.old steps.new }
         ensures kept { KeepsHeap result (S.heap self.old.machine.store) (S.heap self.new.machine.store) }
         ensures again { EngineCanTurn (S.heap self.new.machine.store) self.old.plain.now.rules self.old.codes self.old.size }
         ensures keeps { self.new ≡ record self.old { machine = self.new.machine; commits = self.old.commits + counted result } }
-        ensures steps { CountsRules (S.heap self.old.machine.store) steps.old steps.new }
     {
         tables_are_runnable();
         membranes_are_numbered_alike();
@@ -147,15 +145,15 @@ impl<'p, S: LinkStore, F: Fn(u64, u64) -> u64> Engine<'p, S, F> {
         answer
     }
 
-    /// Whether some rule of some membrane has a match. It takes no memory and changes nothing. Each rule of each membrane is tried
-    /// once at most.
+    /// Whether some rule of some membrane has a match. It takes no memory and changes nothing. The steps rise by the rules of the
+    /// membranes asked at most, the root first.
     pub fn reducible<L: Ledger>(&mut self, steps: &mut Steps<L>) -> bool
         requires run { EngineCanTurn (S.heap self.old.machine.store) self.old.plain.now.rules self.old.codes self.old.size }
         ensures yes { IsTrue result → (names : List Name) (solid : Region) → HoldsRegion names self.old.plain.now.rules (S.heap self.old.machine.store) solid → HasEmbedding solid }
         ensures no { IsFalse result → (names : List Name) (solid : Region) → HoldsRegion names self.old.plain.now.rules (S.heap self.old.machine.store) solid → IsDone solid }
         ensures same { S.heap self.new.machine.store ≡ S.heap self.old.machine.store }
         ensures keeps { self.new ≡ record self.old { machine = self.new.machine } }
-        ensures steps { CountsRules (S.heap self.old.machine.store) steps.old steps.new }
+        ensures steps { CountsAsked (S.heap self.old.machine.store) self.old.codes 0 steps.old steps.new }
     {
         tables_are_runnable();
         nothing_embeds();

@@ -1,9 +1,9 @@
 //! Laws of heaps that an engine can turn.
-ghost use Rattle.lmn_schedule.specs.Counting.{RulesAreCounted};
+ghost use Rattle.lmn_schedule.specs.Counting.{CountsAreAlike, RulesAreCounted};
 ghost use Rattle.lmn_schedule.specs.Held.{HeapsHoldSolids};
 
 use lmn_bridge::heaps_are_named;
-use lmn_choice::heaps_are_numbered;
+use lmn_choice::{heaps_are_numbered, rules_are_asked_alike};
 use lmn_turn::plains_are_tables;
 
 /// A heap that an engine can turn holds a solid, where the names of its atoms are known, whoever made it: also after the store
@@ -16,7 +16,15 @@ pub fn heaps_hold_solids()
     plains_are_tables();
 }
 
-/// The number by which `turn` and `reducible` may raise the steps is that of the rules in the solid.
+/// The membranes of a heap have as many rules as the solid that it holds.
 pub fn rules_are_counted()
     ensures { RulesAreCounted }
 {}
+
+/// What `turn` and `reducible` count is counted of the solid that the heap holds: the steps rise by the rules of its membranes that are
+/// asked at most.
+pub fn counts_are_alike()
+    ensures { CountsAreAlike }
+{
+    rules_are_asked_alike();
+}

@@ -5,6 +5,6 @@ mod engine;
 mod laws;
 
 pub use engine::Engine;
-pub use laws::{heaps_hold_solids, rules_are_counted};
+pub use laws::{counts_are_alike, heaps_hold_solids, rules_are_counted};
 pub use lmn_loading::LoadFault;
 pub use lmn_strategy::Turn;

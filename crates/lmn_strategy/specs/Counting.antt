@@ -1,12 +1,21 @@
 -- How far a search counts its attempts.
 use Rattle.std.specs.Prelude.{ℕ, ◌<◌, ◌≤◌, ◌+◌, List, [], ◌∷◌, length}
 use Rattle.lmn_heap.specs.Heap.{Heap, rules_in}
-use Rattle.lmn_heap.specs.Sound.{Forest, IsTree, flat}
+use Rattle.lmn_heap.specs.Sound.{Forest, IsTree}
+use Rattle.lmn_instr.specs.declared.instr.Code.{Code}
+use Rattle.lmn_strategy.specs.Choosing.{IsFirstRule, NoneOf, asked}
 
 -- how many rules stand in these membranes
 abbrev pub rule_count : Heap → List ℕ → ℕ
 rule_count h [] = 0
 rule_count h (m ∷ ms) = length (rules_in h m) + rule_count h ms
+
+-- Where membranes are asked in this order, and of each its rules in the order of their list, until the code of one succeeds, so many
+-- rules are asked: all of the membranes before the one chosen, and of that those up to the one chosen.
+pub data AsksRules (h : Heap) (codes : List Code) : List ℕ → ℕ → Type 0 where
+  asks_none : AsksRules h codes [] 0
+  asks_all : {m : ℕ} {ms : List ℕ} {n : ℕ} → NoneOf h codes m (rules_in h m) → AsksRules h codes ms n → AsksRules h codes (m ∷ ms) (length (rules_in h m) + n)
+  asks_until : {m : ℕ} {ms : List ℕ} {place k : ℕ} → IsFirstRule h codes m place k → AsksRules h codes (m ∷ ms) (place + 1)
 
 -- A count rises, by so much at most.
 pub record RisesWithin (most old new : ℕ) : Type 0 where
@@ -19,7 +28,12 @@ pub record CountsUpTo (most old new : ℕ) : Type 0 where
   pub within : new ≤ old + most
   pub some : 0 < most → old < new
 
--- A count of attempts rises by the rules of all membranes of a heap at most, where each membrane is asked once; and where there is a rule,
--- one attempt is counted at least.
-abbrev pub CountsRules : Heap → ℕ → ℕ → Type 0
-CountsRules h old new = (f : Forest) → IsTree h f → CountsUpTo (rule_count h (flat f)) old new
+-- A count of attempts rises by the rules that are asked of these membranes at most, and where one is asked, by one at least.
+pub record CountsAmong (h : Heap) (codes : List Code) (ms : List ℕ) (old new : ℕ) : Type 0 where
+  pub rules : ℕ
+  pub asks : AsksRules h codes ms rules
+  pub counts : CountsUpTo rules old new
+
+-- So it does where all membranes of a heap are asked, from the one with a number in preorder on.
+abbrev pub CountsAsked : Heap → List Code → ℕ → ℕ → ℕ → Type 0
+CountsAsked h codes from old new = (f : Forest) → IsTree h f → CountsAmong h codes (asked from f) old new

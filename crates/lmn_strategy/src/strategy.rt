@@ -3,7 +3,7 @@ ghost use Rattle.std.specs.Prelude.{◌≡◌, ◌<◌, ◌+◌, IsTrue, IsFalse
 ghost use Rattle.lmn_heap.specs.Heap.{IsMem, rules_in};
 ghost use Rattle.lmn_heap.specs.Sound.{Forest, IsTree, flat};
 ghost use Rattle.lmn_strategy.specs.Choosing.{AllInOrder, CanTurn, CodeSucceeds, NoneOf, NoneIn, IsFirstRule, IsFirstIn, HasFound, asked};
-ghost use Rattle.lmn_strategy.specs.Counting.{CountsRules, CountsUpTo, rule_count};
+ghost use Rattle.lmn_strategy.specs.Counting.{CountsAmong, CountsAsked, CountsUpTo};
 
 use crate::preorder::{membrane_at, next_membrane};
 use lmn_instr::Code;
@@ -58,7 +58,7 @@ fn first_rule<S: LinkStore, L: Ledger>(
         (λ c. IsFirstRule (S.heap machine.old.store) codes.now (S.mem_id c.membrane) c.place c.rule) }
     ensures membrane { IfSome result (λ c. c.membrane ≡ membrane) }
     ensures found { IfSome result (λ c. HasFound S.atom_id S.mem_id (S.heap machine.old.store) codes.now (S.mem_id c.membrane) c.rule machine.new.set) }
-    ensures steps { CountsUpTo (length (rules_in (S.heap machine.old.store) (S.mem_id membrane))) steps.old steps.new }
+    ensures steps { MatchOption result (CountsUpTo (length (rules_in (S.heap machine.old.store) (S.mem_id membrane))) steps.old steps.new) (λ c. CountsUpTo (c.place + 1) steps.old steps.new) }
 {
     let rules = machine.store().rules(membrane);
     for place in 0..rules {
@@ -90,7 +90,7 @@ fn first_of_some<S: LinkStore, L: Ledger>(
         (NoneIn (S.heap machine.old.store) codes.now (take count (drop from (flat f))))
         (λ c. IsFirstIn (S.heap machine.old.store) codes.now (take count (drop from (flat f))) (S.mem_id c.membrane) c.place c.rule) }
     ensures found { IfSome result (λ c. HasFound S.atom_id S.mem_id (S.heap machine.old.store) codes.now (S.mem_id c.membrane) c.rule machine.new.set) }
-    ensures steps { (f : Forest) → IsTree (S.heap machine.old.store) f → CountsUpTo (rule_count (S.heap machine.old.store) (take count (drop from (flat f)))) steps.old steps.new }
+    ensures steps { (f : Forest) → IsTree (S.heap machine.old.store) f → CountsAmong (S.heap machine.old.store) codes.now (take count (drop from (flat f))) steps.old steps.new }
 {
     let start = membrane_at(machine.store(), from);
     let mut at = Some(start);
@@ -107,8 +107,8 @@ fn first_of_some<S: LinkStore, L: Ledger>(
 }
 
 /// What the strategy chooses, where the membrane with the number `from` in preorder is asked first and there are `many`
-/// membranes. It takes no memory, and the store is left as it was. The registers then hold the first success of the code. Each
-/// rule of each membrane is tried once at most.
+/// membranes. It takes no memory, and the store is left as it was. The registers then hold the first success of the code. The
+/// steps rise by the rules of the membranes asked at most: those up to the rule that is chosen, or all where none is.
 pub fn search<S: LinkStore, L: Ledger>(
     machine: &mut Machine<S>,
     codes: &[Code],
@@ -125,7 +125,7 @@ pub fn search<S: LinkStore, L: Ledger>(
         (NoneIn (S.heap machine.old.store) codes.now (flat f))
         (λ c. IsFirstIn (S.heap machine.old.store) codes.now (asked from f) (S.mem_id c.membrane) c.place c.rule) }
     ensures found { IfSome result (λ c. HasFound S.atom_id S.mem_id (S.heap machine.old.store) codes.now (S.mem_id c.membrane) c.rule machine.new.set) }
-    ensures steps { CountsRules (S.heap machine.old.store) steps.old steps.new }
+    ensures steps { CountsAsked (S.heap machine.old.store) codes.now from steps.old steps.new }
 {
     match first_of_some(machine, codes, from, many - from, steps) {
         Some(choice) => Some(choice),

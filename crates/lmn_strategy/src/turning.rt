@@ -2,7 +2,7 @@
 ghost use Rattle.std.specs.Prelude.{◌≡◌, ◌<◌, ◌-◌, ◌^◌, length};
 ghost use Rattle.lmn_heap.specs.Sound.{Forest, IsTree, Valid, flat};
 ghost use Rattle.lmn_strategy.specs.Choosing.{CanTurn};
-ghost use Rattle.lmn_strategy.specs.Counting.{CountsRules};
+ghost use Rattle.lmn_strategy.specs.Counting.{CountsAsked};
 ghost use Rattle.lmn_strategy.specs.Turns.{CanFire, AnswersMatch, AreRunnable, IsTurn};
 ghost use Rattle.lmn_heap.specs.Heap.{Unmarked};
 
@@ -49,7 +49,7 @@ fn fire<S: LinkStore>(alloc: Global, machine: &mut Machine<S>, code: &Code, size
 /// One turn. `codes` has the code of each rule of the table, by its number, and it can be run. There are `many` membranes, and the one with
 /// the number `from` in preorder is asked first. The first rule that has a match fires at its first match, unless more than
 /// `size` items would be left, the root not counted. With another answer than `Committed` the store is as it was, but for
-/// room for rules at `NoMemory`.
+/// room for rules at `NoMemory`. The steps rise by the rules of the membranes asked at most.
 pub fn take_turn<S: LinkStore, L: Ledger>(
     alloc: Global,
     machine: &mut Machine<S>,
@@ -66,7 +66,7 @@ pub fn take_turn<S: LinkStore, L: Ledger>(
     requires size { size < 2 ^ 64 - 1 }
     ensures turned { (f : Forest) → IsTree (S.heap machine.old.store) f → IsTurn (S.heap machine.old.store) codes.now f from size result (S.heap machine.new.store) }
     ensures again { CanTurn (S.heap machine.new.store) (length codes.now) }
-    ensures steps { CountsRules (S.heap machine.old.store) steps.old steps.new }
+    ensures steps { CountsAsked (S.heap machine.old.store) codes.now from steps.old steps.new }
 {
     match search(machine, codes, from, many, steps) {
         Some(choice) => fire(alloc, machine, &codes[choice.rule as usize], size),

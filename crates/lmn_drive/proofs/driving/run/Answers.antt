@@ -286,11 +286,14 @@ returns-then-reducible-clause-answered g c solid held =
     let new = g.O.Sink.told c.loop.out in
     let b = c.loop.invariant.answered solid held in
     let S = b.going.ran.last in
+    let run : EngineCanTurn h table c.loop.engine.codes c.loop.engine.size =
+    subst (λ codes. EngineCanTurn h table codes c.loop.engine.size) (sym (λ i. (keeps i).codes)) (subst (λ size. EngineCanTurn h table c.args.engine.now.codes size) (sym (λ i. (keeps i).size)) c.loop.invariant.run) in
+    let counts = c.counts_are_alike.ensures names table h S c.loop.engine.codes c.loop.engine.size b.going.ran.holds run 0 c.loop.steps c.reducible.new.steps c.reducible.ensures.steps in
     let e : c.loop.engine.commits ≡ options.budget = (let f = c.loop-test.false in let l = c.loop.auto in let n = c.loop.invariant.count in omega (arith, n)) in
     let rules : c.loop.engine.plain.now.rules ≡ table = (λ i. (keeps i).plain.now.rules) ∙ (λ i. (c.requires.plain i).rules) in
     let holds = subst (λ T. HoldsRegion names T h S) (sym rules) b.going.ran.holds in
     moved (λ n h. StoppedByAnswers may input n h stop.Budget told new c.args.steps.now c.reducible.new.steps) {h' = h'} (λ i. (c.reducible.ensures.keeps i).commits) refl
-    (reducible_stops may names table c.args.engine.now.size options solid c.loop.engine.commits h h' told new c.args.steps.now c.loop.steps c.reducible.new.steps b c.reducible.ensures.steps c.reducible.ensures.same e (c.reducible.ensures.yes c.if-reducible.true names S holds))
+    (reducible_stops may names table c.args.engine.now.size options solid c.loop.engine.commits h h' told new c.args.steps.now c.loop.steps c.reducible.new.steps b counts c.reducible.ensures.same e (c.reducible.ensures.yes c.if-reducible.true names S holds))
 
 pub returns-else-reducible-clause-answered : goal.returns-else-reducible-clause-answered
 returns-else-reducible-clause-answered g c solid held =
@@ -306,7 +309,10 @@ returns-else-reducible-clause-answered g c solid held =
     let new = g.O.Sink.told c.loop.out in
     let b = c.loop.invariant.answered solid held in
     let S = b.going.ran.last in
+    let run : EngineCanTurn h table c.loop.engine.codes c.loop.engine.size =
+    subst (λ codes. EngineCanTurn h table codes c.loop.engine.size) (sym (λ i. (keeps i).codes)) (subst (λ size. EngineCanTurn h table c.args.engine.now.codes size) (sym (λ i. (keeps i).size)) c.loop.invariant.run) in
+    let counts = c.counts_are_alike.ensures names table h S c.loop.engine.codes c.loop.engine.size b.going.ran.holds run 0 c.loop.steps c.reducible.new.steps c.reducible.ensures.steps in
     let rules : c.loop.engine.plain.now.rules ≡ table = (λ i. (keeps i).plain.now.rules) ∙ (λ i. (c.requires.plain i).rules) in
     let holds = subst (λ T. HoldsRegion names T h S) (sym rules) b.going.ran.holds in
     moved (λ n h. StoppedByAnswers may input n h stop.Irreducible told new c.args.steps.now c.reducible.new.steps) {h' = h'} (λ i. (c.reducible.ensures.keeps i).commits) refl
-    (irreducible_stops may names table c.args.engine.now.size options solid c.loop.engine.commits h h' told new c.args.steps.now c.loop.steps c.reducible.new.steps b c.reducible.ensures.steps c.reducible.ensures.same (c.reducible.ensures.no c.if-reducible.false names S holds))
+    (irreducible_stops may names table c.args.engine.now.size options solid c.loop.engine.commits h h' told new c.args.steps.now c.loop.steps c.reducible.new.steps b counts c.reducible.ensures.same (c.reducible.ensures.no c.if-reducible.false names S holds))

@@ -7,7 +7,7 @@ use Rattle.lmn_adequacy.specs.Runs.{Chooser}
 use Rattle.lmn_drive.specs.Driving.{Broke, RunInput, Going, Stopped, given_by_engine}
 use Rattle.lmn_drive.specs.Answers.{BrokeByAnswers, GoingByAnswers, StoppedByAnswers}
 use Rattle.lmn_drive.specs.declared.driving.Stop.TheVariants as stop
-use Rattle.lmn_drive.proofs.Answered.{commits_and_breaks, commits_on, full_by, irreducible_by, no_memory_by}
+use Rattle.lmn_drive.proofs.Answered.{by_answer, commits_and_breaks, commits_on, full_by, irreducible_by, no_memory_by}
 use Rattle.lmn_drive.proofs.Goings.{broke_more, going_more, moved, none_more, stops_full, stops_irreducible, stops_no_memory}
 use Rattle.lmn_drive.proofs.Writings.{at_err}
 use Rattle.lmn_drive.proofs.driving.step.Goals as goal
@@ -165,15 +165,15 @@ returns-in_err-write_traced-in-Committed-clause-answered g c solid told begun be
     let input : Chooser → RunInput = λ k. given_by_engine names table size options k solid in
     let h = g.S.LinkStore.heap c.args.engine.now.machine.store in
     let h' = g.S.LinkStore.heap c.turn.new.self.machine.store in
-    let S = b.going.ran.last in
-    let t = subst (λ T. HoldsRegion names T h S → IsTurnedByAnswer may names T size commits S answer.Committed h') (λ i. (c.requires.plain i).rules) (c.in-Committed.ensures.chosen names S) b.going.ran.holds in
+    let chosen = subst (λ T. IsTurnedByAnswer may T c.args.engine.now.codes size commits h answer.Committed h' c.args.steps.now c.turn.new.steps) (λ i. (c.requires.plain i).rules) c.in-Committed.ensures.chosen in
+    let t = by_answer may names table size options solid commits h h' told (g.O.Sink.told c.args.out.now) begun c.args.steps.now c.turn.new.steps b c.counts_are_alike.ensures c.args.engine.now.codes c.requires.run answer.Committed chosen in
     let old = g.O.Sink.told c.args.out.now in
     let counted = c.turn.new.steps in
     let new = g.O.Sink.told c.write_traced.new.out in
     at_err _ c.from_residual.result _ _ c.from_residual.ensures.1
     (moved (λ n h. BrokeByAnswers may input n h told new begun counted) (λ i. (c.write_traced.ensures.keeps i).commits) c.write_traced.ensures.kept
     (moved (λ n h. BrokeByAnswers may input n h told new begun counted) {h' = h'} (λ i. (c.in-Committed.ensures.keeps i).commits) refl
-    (commits_and_breaks may names table size options solid commits h h' told old begun c.args.steps.now counted b c.turn.ensures.steps below t new (λ bytes is. c.in_err-write_traced-in-Committed.ensures.writes.prefix bytes is))))
+    (commits_and_breaks may names table size options solid commits h h' told old begun c.args.steps.now counted b below t new (λ bytes is. c.in_err-write_traced-in-Committed.ensures.writes.prefix bytes is))))
 
 pub returns-in_ok-write_traced-in-Committed-clause-answered : goal.returns-in_ok-write_traced-in-Committed-clause-answered
 returns-in_ok-write_traced-in-Committed-clause-answered g c solid told begun below b =
@@ -186,14 +186,14 @@ returns-in_ok-write_traced-in-Committed-clause-answered g c solid told begun bel
     let input : Chooser → RunInput = λ k. given_by_engine names table size options k solid in
     let h = g.S.LinkStore.heap c.args.engine.now.machine.store in
     let h' = g.S.LinkStore.heap c.turn.new.self.machine.store in
-    let S = b.going.ran.last in
-    let t = subst (λ T. HoldsRegion names T h S → IsTurnedByAnswer may names T size commits S answer.Committed h') (λ i. (c.requires.plain i).rules) (c.in-Committed.ensures.chosen names S) b.going.ran.holds in
+    let chosen = subst (λ T. IsTurnedByAnswer may T c.args.engine.now.codes size commits h answer.Committed h' c.args.steps.now c.turn.new.steps) (λ i. (c.requires.plain i).rules) c.in-Committed.ensures.chosen in
+    let t = by_answer may names table size options solid commits h h' told (g.O.Sink.told c.args.out.now) begun c.args.steps.now c.turn.new.steps b c.counts_are_alike.ensures c.args.engine.now.codes c.requires.run answer.Committed chosen in
     let old = g.O.Sink.told c.args.out.now in
     let counted = c.turn.new.steps in
     let new = g.O.Sink.told c.write_traced.new.out in
     moved (λ n h. GoingByAnswers may input n h told new begun counted) (λ i. (c.write_traced.ensures.keeps i).commits) c.write_traced.ensures.kept
     (moved (λ n h. GoingByAnswers may input n h told new begun counted) {h' = h'} (λ i. (c.in-Committed.ensures.keeps i).commits) refl
-    (commits_on may names table size options solid commits h h' told old begun c.args.steps.now counted b c.turn.ensures.steps below t new (λ bytes is. c.in_ok-write_traced-in-Committed.ensures.writes.took bytes is)))
+    (commits_on may names table size options solid commits h h' told old begun c.args.steps.now counted b below t new (λ bytes is. c.in_ok-write_traced-in-Committed.ensures.writes.took bytes is)))
 
 pub returns-in-Irreducible-clause-answered : goal.returns-in-Irreducible-clause-answered
 returns-in-Irreducible-clause-answered g c solid told begun below b =
@@ -206,12 +206,12 @@ returns-in-Irreducible-clause-answered g c solid told begun below b =
     let input : Chooser → RunInput = λ k. given_by_engine names table size options k solid in
     let h = g.S.LinkStore.heap c.args.engine.now.machine.store in
     let h' = g.S.LinkStore.heap c.turn.new.self.machine.store in
-    let S = b.going.ran.last in
-    let t = subst (λ T. HoldsRegion names T h S → IsTurnedByAnswer may names T size commits S answer.Irreducible h') (λ i. (c.requires.plain i).rules) (c.in-Irreducible.ensures.chosen names S) b.going.ran.holds in
+    let chosen = subst (λ T. IsTurnedByAnswer may T c.args.engine.now.codes size commits h answer.Irreducible h' c.args.steps.now c.turn.new.steps) (λ i. (c.requires.plain i).rules) c.in-Irreducible.ensures.chosen in
+    let t = by_answer may names table size options solid commits h h' told (g.O.Sink.told c.args.out.now) begun c.args.steps.now c.turn.new.steps b c.counts_are_alike.ensures c.args.engine.now.codes c.requires.run answer.Irreducible chosen in
     let old = g.O.Sink.told c.args.out.now in
     let counted = c.turn.new.steps in
     moved (λ n h. StoppedByAnswers may input n h stop.Irreducible told old begun counted) {h' = h'} ((λ i. (c.in-Irreducible.ensures.keeps i).commits) ∙ none_more commits) refl
-    (irreducible_by may names table size options solid commits h h' told old begun c.args.steps.now counted b c.turn.ensures.steps t)
+    (irreducible_by may names table size options solid commits h h' told old begun c.args.steps.now counted b t)
 
 pub returns-in-Full-clause-answered : goal.returns-in-Full-clause-answered
 returns-in-Full-clause-answered g c solid told begun below b =
@@ -224,12 +224,12 @@ returns-in-Full-clause-answered g c solid told begun below b =
     let input : Chooser → RunInput = λ k. given_by_engine names table size options k solid in
     let h = g.S.LinkStore.heap c.args.engine.now.machine.store in
     let h' = g.S.LinkStore.heap c.turn.new.self.machine.store in
-    let S = b.going.ran.last in
-    let t = subst (λ T. HoldsRegion names T h S → IsTurnedByAnswer may names T size commits S answer.Full h') (λ i. (c.requires.plain i).rules) (c.in-Full.ensures.chosen names S) b.going.ran.holds in
+    let chosen = subst (λ T. IsTurnedByAnswer may T c.args.engine.now.codes size commits h answer.Full h' c.args.steps.now c.turn.new.steps) (λ i. (c.requires.plain i).rules) c.in-Full.ensures.chosen in
+    let t = by_answer may names table size options solid commits h h' told (g.O.Sink.told c.args.out.now) begun c.args.steps.now c.turn.new.steps b c.counts_are_alike.ensures c.args.engine.now.codes c.requires.run answer.Full chosen in
     let old = g.O.Sink.told c.args.out.now in
     let counted = c.turn.new.steps in
     moved (λ n h. StoppedByAnswers may input n h stop.Full told old begun counted) {h' = h'} ((λ i. (c.in-Full.ensures.keeps i).commits) ∙ none_more commits) refl
-    (full_by may names table size options solid commits h h' told old begun c.args.steps.now counted b c.turn.ensures.steps below t)
+    (full_by may names table size options solid commits h h' told old begun c.args.steps.now counted b below t)
 
 pub returns-in-NoMemory-clause-answered : goal.returns-in-NoMemory-clause-answered
 returns-in-NoMemory-clause-answered g c solid told begun below b =
@@ -242,9 +242,9 @@ returns-in-NoMemory-clause-answered g c solid told begun below b =
     let input : Chooser → RunInput = λ k. given_by_engine names table size options k solid in
     let h = g.S.LinkStore.heap c.args.engine.now.machine.store in
     let h' = g.S.LinkStore.heap c.turn.new.self.machine.store in
-    let S = b.going.ran.last in
-    let t = subst (λ T. HoldsRegion names T h S → IsTurnedByAnswer may names T size commits S answer.NoMemory h') (λ i. (c.requires.plain i).rules) (c.in-NoMemory.ensures.chosen names S) b.going.ran.holds in
+    let chosen = subst (λ T. IsTurnedByAnswer may T c.args.engine.now.codes size commits h answer.NoMemory h' c.args.steps.now c.turn.new.steps) (λ i. (c.requires.plain i).rules) c.in-NoMemory.ensures.chosen in
+    let t = by_answer may names table size options solid commits h h' told (g.O.Sink.told c.args.out.now) begun c.args.steps.now c.turn.new.steps b c.counts_are_alike.ensures c.args.engine.now.codes c.requires.run answer.NoMemory chosen in
     let old = g.O.Sink.told c.args.out.now in
     let counted = c.turn.new.steps in
     moved (λ n h. StoppedByAnswers may input n h stop.NoMemory told old begun counted) {h' = h'} ((λ i. (c.in-NoMemory.ensures.keeps i).commits) ∙ none_more commits) refl
-    (no_memory_by may names table size options solid commits h h' told old begun c.args.steps.now counted b c.turn.ensures.steps below t)
+    (no_memory_by may names table size options solid commits h h' told old begun c.args.steps.now counted b below t)

@@ -1,13 +1,12 @@
 use Rattle.std.proofs.Common.{◌≡◌, ◌<◌, ◌+◌, refl, sym, subst, ap, ◌∙◌, arith}
 use Rattle.std.specs.Prelude.{slice_get, take, drop, Some, length}
 use Rattle.std.specs.Option.{option_map}
-use Rattle.std.proofs.lemmas.Option.{slice_get_within}
 use Rattle.lmn_heap.specs.Heap.{IsMem, rules_in, from, after}
 use Rattle.lmn_heap.specs.Sound.{Forest, Valid, IsTree, flat}
 use Rattle.lmn_strategy.specs.Choosing.{CanTurn, NoneOf, NoneIn, IsFirstRule, HasFound}
 use Rattle.lmn_strategy.proofs.Chosen.{none_in_more, none_in_end, first_in}
-use Rattle.lmn_strategy.specs.Counting.{CountsUpTo, rule_count}
-use Rattle.lmn_strategy.proofs.Counts.{count_one_more, count_within, counts_both, counts_less, counts_none}
+use Rattle.lmn_strategy.specs.Counting.{CountsAmong, CountsUpTo, rule_count}
+use Rattle.lmn_strategy.proofs.Counts.{count_one_more, counts_both, counts_first, counts_none, counts_whole}
 use Rattle.lmn_strategy.proofs.Numbers.{get_drop, number_mem, number_next, take_no_more}
 use Rattle.lmn_strategy.proofs.strategy.first_of_some.Goals as goal
 
@@ -73,7 +72,7 @@ loop-asked-preserved g c =
           (subst (λ k. NoneOf k c.args.codes.now m (rules_in k m)) c.loop-asked.invariant.same c.in-None-first_rule.ensures.first);
       counts = λ f t. subst (λ k. CountsUpTo k c.args.steps.now c.first_rule.new.steps) (sym (count_one_more h (flat f) c.args.from c.loop-asked.asked m (here f t)))
           (counts_both (rule_count h (take c.loop-asked.asked (drop c.args.from (flat f)))) (length (rules_in h m)) c.args.steps.now c.loop-asked.steps c.first_rule.new.steps (c.loop-asked.invariant.counts f t)
-          (subst (λ k. CountsUpTo (length (rules_in k m)) c.loop-asked.steps c.first_rule.new.steps) c.loop-asked.invariant.same c.first_rule.ensures.steps));
+          (subst (λ k. CountsUpTo (length (rules_in k m)) c.loop-asked.steps c.first_rule.new.steps) c.loop-asked.invariant.same c.in-None-first_rule.ensures.steps));
     }
 
 pub returns-in-None-clause-same : goal.returns-in-None-clause-same
@@ -95,24 +94,26 @@ returns-clause-first g c = λ f t.
 pub returns-in-Some-first_rule-clause-steps : goal.returns-in-Some-first_rule-clause-steps
 returns-in-Some-first_rule-clause-steps g c = λ f t.
     let h = g.S.LinkStore.heap c.args.machine.now.store in
-    let m = g.S.LinkStore.mem_id c.in-Some.membrane in
     let choice = c.in-Some-first_rule.choice in
-    let before = rule_count h (take c.loop-asked.asked (drop c.args.from (flat f))) in
-    counts_less (before + length (rules_in h m)) (rule_count h (take c.args.count (drop c.args.from (flat f)))) c.args.steps.now c.first_rule.new.steps
-    (counts_both before (length (rules_in h m)) c.args.steps.now c.loop-asked.steps c.first_rule.new.steps (c.loop-asked.invariant.counts f t)
-    (subst (λ k. CountsUpTo (length (rules_in k m)) c.loop-asked.steps c.first_rule.new.steps) c.loop-asked.invariant.same c.first_rule.ensures.steps))
-    (let placed = slice_get_within (rules_in h m) choice.place choice.rule (subst (λ k. slice_get (rules_in k m) choice.place ≡ Some choice.rule) c.loop-asked.invariant.same
-    (subst (λ x. slice_get (rules_in (g.S.LinkStore.heap c.loop-asked.machine.store) (g.S.LinkStore.mem_id x)) choice.place ≡ Some choice.rule) c.in-Some-first_rule.ensures.membrane c.in-Some-first_rule.ensures.first.stands)) in omega (arith, placed))
-    (count_within h (flat f) c.args.from c.loop-asked.asked c.args.count m c.loop-asked-test.true (c.loop-asked.invariant.number f t ∙ ap (option_map g.S.LinkStore.mem_id) c.in-Some.is))
+    counts_first h c.args.codes.now (flat f) c.args.from c.loop-asked.asked c.args.count (g.S.LinkStore.mem_id choice.membrane) choice.place choice.rule c.args.steps.now c.first_rule.new.steps c.loop-asked-test.true
+    (c.loop-asked.invariant.number f t ∙ ap (option_map g.S.LinkStore.mem_id) c.in-Some.is ∙ ap (λ m. Some (g.S.LinkStore.mem_id m)) (sym c.in-Some-first_rule.ensures.membrane))
+    (c.loop-asked.invariant.none f t)
+    (subst (λ h. IsFirstRule h c.args.codes.now (g.S.LinkStore.mem_id choice.membrane) choice.place choice.rule) c.loop-asked.invariant.same c.in-Some-first_rule.ensures.first)
+    (counts_both (rule_count h (take c.loop-asked.asked (drop c.args.from (flat f)))) (choice.place + 1) c.args.steps.now c.loop-asked.steps c.first_rule.new.steps (c.loop-asked.invariant.counts f t) c.in-Some-first_rule.ensures.steps)
 
 pub returns-in-None-clause-steps : goal.returns-in-None-clause-steps
 returns-in-None-clause-steps g c = λ f t.
     let h = g.S.LinkStore.heap c.args.machine.now.store in
-    subst (λ ms. CountsUpTo (rule_count h ms) c.args.steps.now c.loop-asked.steps)
+    counts_whole h c.args.codes.now (take c.args.count (drop c.args.from (flat f))) c.args.steps.now c.loop-asked.steps
+    (none_in_end h c.args.codes.now (flat f) c.args.from c.loop-asked.asked c.args.count (let l = c.loop-asked-test.true in omega (arith, l))
+    (c.loop-asked.invariant.number f t ∙ ap (option_map g.S.LinkStore.mem_id) c.in-None.is) (c.loop-asked.invariant.none f t))
+    (subst (λ ms. CountsUpTo (rule_count h ms) c.args.steps.now c.loop-asked.steps)
     (sym (take_no_more (drop c.args.from (flat f)) c.loop-asked.asked c.args.count (let l = c.loop-asked-test.true in omega (arith, l)) (get_drop (flat f) c.args.from c.loop-asked.asked ∙ c.loop-asked.invariant.number f t ∙ ap (option_map g.S.LinkStore.mem_id) c.in-None.is)))
-    (c.loop-asked.invariant.counts f t)
+    (c.loop-asked.invariant.counts f t))
 
 pub returns-clause-steps : goal.returns-clause-steps
 returns-clause-steps g c = λ f t.
-    subst (λ k. CountsUpTo (rule_count (g.S.LinkStore.heap c.args.machine.now.store) (take k (drop c.args.from (flat f)))) c.args.steps.now c.loop-asked.steps)
-    (let e : c.loop-asked.asked ≡ c.args.count = (let l = c.loop-asked-test.false in let k = c.loop-asked.auto in omega arith) in e) (c.loop-asked.invariant.counts f t)
+    let h = g.S.LinkStore.heap c.args.machine.now.store in
+    subst (λ k. CountsAmong h c.args.codes.now (take k (drop c.args.from (flat f))) c.args.steps.now c.loop-asked.steps)
+    (let e : c.loop-asked.asked ≡ c.args.count = (let l = c.loop-asked-test.false in let k = c.loop-asked.auto in omega arith) in e)
+    (counts_whole h c.args.codes.now (take c.loop-asked.asked (drop c.args.from (flat f))) c.args.steps.now c.loop-asked.steps (c.loop-asked.invariant.none f t) (c.loop-asked.invariant.counts f t))

@@ -1,9 +1,9 @@
-use Rattle.std.proofs.Common.{◌≡◌, ◌+◌, length, refl, sym, subst, ap, ◌∙◌, arith}
+use Rattle.std.proofs.Common.{◌≡◌, length, refl, sym, subst, ap, ◌∙◌, arith}
 use Rattle.lmn_heap.specs.Heap.{IsMem, rules_in}
 use Rattle.lmn_strategy.specs.Choosing.{CanTurn, CodeSucceeds, HasFound}
 use Rattle.lmn_strategy.proofs.Chosen.{found_succeeds, none_of_more, none_of_all, rule_below, rule_read}
 use Rattle.lmn_strategy.specs.Counting.{CountsUpTo}
-use Rattle.lmn_strategy.proofs.Counts.{counts_less, counts_more, counts_none}
+use Rattle.lmn_strategy.proofs.Counts.{counts_more, counts_none}
 use Rattle.lmn_strategy.proofs.strategy.first_rule.Goals as goal
 use Rattle.lmn_heap.proofs.Common.{in_at as get_in}
 
@@ -60,11 +60,7 @@ returns-then-succeeds-clause-found g c =
     subst (λ k. HasFound g.S.LinkStore.atom_id g.S.LinkStore.mem_id k c.args.codes.now (g.S.LinkStore.mem_id c.args.membrane) c.rule-rule.result c.succeeds.new.machine.set) c.loop-place.invariant.same (c.succeeds.ensures.found c.if-succeeds.true)
 
 pub returns-then-succeeds-clause-steps : goal.returns-then-succeeds-clause-steps
-returns-then-succeeds-clause-steps g c =
-    let many : c.rules-rules.result ≡ length (rules_in (g.S.LinkStore.heap c.args.machine.now.store) (g.S.LinkStore.mem_id c.args.membrane)) = c.rules-rules.ensures ∙ ap (λ s. length (rules_in (g.S.LinkStore.heap s) (g.S.LinkStore.mem_id c.args.membrane))) c.store.ensures in
-    counts_less (c.loop-place.place + 1) (length (rules_in (g.S.LinkStore.heap c.args.machine.now.store) (g.S.LinkStore.mem_id c.args.membrane))) c.args.steps.now c.succeeds.new.steps
-    (counts_more c.loop-place.place c.args.steps.now c.loop-place.steps c.succeeds.new.steps c.loop-place.invariant.counts c.succeeds.ensures.steps)
-    (omega arith) (let l = c.loop-place-test.true in omega (arith, l, many))
+returns-then-succeeds-clause-steps g c = counts_more c.loop-place.place c.args.steps.now c.loop-place.steps c.succeeds.new.steps c.loop-place.invariant.counts c.succeeds.ensures.steps
 
 pub returns-clause-steps : goal.returns-clause-steps
 returns-clause-steps g c =

@@ -3,8 +3,8 @@ use Rattle.std.specs.Prelude.{take, drop, IfSome, MatchOption}
 use Rattle.lmn_heap.specs.Sound.{Forest, IsTree, flat}
 use Rattle.lmn_strategy.specs.Choosing.{CanTurn, NoneIn, IsFirstIn, HasFound}
 use Rattle.lmn_strategy.proofs.Chosen.{asked_behind, first_before, some_membrane, take_rest}
-use Rattle.lmn_strategy.specs.Counting.{CountsUpTo, rule_count}
-use Rattle.lmn_strategy.proofs.Counts.{count_parts, count_some, counts_both, counts_less}
+use Rattle.lmn_strategy.specs.Counting.{CountsAmong}
+use Rattle.lmn_strategy.proofs.Counts.{counts_before, counts_behind}
 use Rattle.lmn_strategy.proofs.strategy.search.Goals as goal
 
 pub overflow_sub-many : goal.overflow_sub-many
@@ -59,20 +59,21 @@ returns-in-None-clause-found g c = subst (λ h. IfSome c.first_of_some-in-None.r
 pub returns-in-Some-clause-steps : goal.returns-in-Some-clause-steps
 returns-in-Some-clause-steps g c = λ f t.
     let h = g.S.LinkStore.heap c.args.machine.now.store in
-    let parts = count_parts h (flat f) c.args.from in
+    let codes = c.args.codes.now in
     let choice = c.in-Some.choice in
-    let first = subst (λ ms. IsFirstIn h c.args.codes.now ms (g.S.LinkStore.mem_id choice.membrane) choice.place choice.rule) (take_rest (flat f) c.args.from c.args.many (c.requires.many f t)) (c.in-Some.ensures.first f t) in
-    counts_less (rule_count h (drop c.args.from (flat f))) (rule_count h (flat f)) c.args.steps.now c.first_of_some.new.steps
-    (subst (λ ms. CountsUpTo (rule_count h ms) c.args.steps.now c.first_of_some.new.steps) (take_rest (flat f) c.args.from c.args.many (c.requires.many f t)) (c.first_of_some.ensures.steps f t))
-    (count_some h c.args.codes.now (drop c.args.from (flat f)) (g.S.LinkStore.mem_id choice.membrane) choice.place choice.rule first) (omega (arith, parts))
+    let m = g.S.LinkStore.mem_id choice.membrane in
+    let rest = take_rest (flat f) c.args.from c.args.many (c.requires.many f t) in
+    counts_before h codes (drop c.args.from (flat f)) (take c.args.from (flat f)) m choice.place choice.rule c.args.steps.now c.first_of_some.new.steps
+    (subst (λ ms. IsFirstIn h codes ms m choice.place choice.rule) rest (c.in-Some.ensures.first f t))
+    (subst (λ ms. CountsAmong h codes ms c.args.steps.now c.first_of_some.new.steps) rest (c.first_of_some.ensures.steps f t))
 
 pub returns-in-None-clause-steps : goal.returns-in-None-clause-steps
 returns-in-None-clause-steps g c = λ f t.
     let h = g.S.LinkStore.heap c.args.machine.now.store in
-    let behind = rule_count h (drop c.args.from (flat f)) in
-    let before = rule_count h (take c.args.from (flat f)) in
-    let again = subst (λ k. (f : Forest) → IsTree k f → CountsUpTo (rule_count k (take c.args.from (flat f))) c.first_of_some.new.steps c.first_of_some-in-None.new.steps) c.in-None.ensures.same c.first_of_some-in-None.ensures.steps in
-    subst (λ n. CountsUpTo n c.args.steps.now c.first_of_some-in-None.new.steps) (count_parts h (flat f) c.args.from)
-    (counts_both behind before c.args.steps.now c.first_of_some.new.steps c.first_of_some-in-None.new.steps
-    (subst (λ ms. CountsUpTo (rule_count h ms) c.args.steps.now c.first_of_some.new.steps) (take_rest (flat f) c.args.from c.args.many (c.requires.many f t)) (c.first_of_some.ensures.steps f t))
-    (again f t))
+    let codes = c.args.codes.now in
+    let rest = take_rest (flat f) c.args.from c.args.many (c.requires.many f t) in
+    let again = subst (λ k. (f : Forest) → IsTree k f → CountsAmong k codes (take c.args.from (flat f)) c.first_of_some.new.steps c.first_of_some-in-None.new.steps) c.in-None.ensures.same c.first_of_some-in-None.ensures.steps in
+    counts_behind h codes (drop c.args.from (flat f)) (take c.args.from (flat f)) c.args.steps.now c.first_of_some.new.steps c.first_of_some-in-None.new.steps
+    (subst (NoneIn h codes) rest (c.in-None.ensures.first f t))
+    (subst (λ ms. CountsAmong h codes ms c.args.steps.now c.first_of_some.new.steps) rest (c.first_of_some.ensures.steps f t))
+    (again f t)

@@ -2,6 +2,7 @@ use Rattle.std.proofs.Common.{◌≡◌, length, subst, sym}
 use Rattle.lmn_choice.specs.Turns.{HaveCodes, tree_over}
 use Rattle.lmn_heap.specs.Sound.{Forest, IsTree, flat}
 use Rattle.lmn_strategy.specs.Choosing.{AllInOrder, IsFirstIn, NoneIn, asked}
+use Rattle.lmn_strategy.specs.Counting.{CountsAsked}
 use Rattle.lmn_schedule.proofs.Turned.{done, embeds, some_membrane}
 use Rattle.lmn_schedule.proofs.engine.Engine.reducible.Goals as goal
 
@@ -33,3 +34,9 @@ returns-in-None-clause-no g c _ names solid o =
     let have : HaveCodes c.args.self.now.plain.now.rules c.requires.run.plans c.args.self.now.codes = record { whole = c.requires.run.whole; compiled = c.requires.run.compiled } in
     done names c.args.self.now.plain.now.rules (λ t m. 0) 0 0 c.requires.run.plans c.args.self.now.codes c.turns_are_alike.ensures have h solid o
     (subst (λ xs. NoneIn h xs (flat (tree_over h o.inner))) c.as_slice.ensures (c.in-None.ensures.first (tree_over h o.inner) o.tree))
+
+pub returns-in-Some-clause-steps : goal.returns-in-Some-clause-steps
+returns-in-Some-clause-steps g c = subst (λ xs. CountsAsked (g.S.LinkStore.heap c.args.self.now.machine.store) xs 0 c.args.steps.now c.search.new.steps) c.as_slice.ensures c.search.ensures.steps
+
+pub returns-in-None-clause-steps : goal.returns-in-None-clause-steps
+returns-in-None-clause-steps g c = subst (λ xs. CountsAsked (g.S.LinkStore.heap c.args.self.now.machine.store) xs 0 c.args.steps.now c.search.new.steps) c.as_slice.ensures c.search.ensures.steps

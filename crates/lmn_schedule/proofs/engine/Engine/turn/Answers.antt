@@ -1,6 +1,7 @@
 use Rattle.std.proofs.Common.{◌≡◌, length, refl, sym, subst, arith, ◌∙◌}
 use Rattle.lmn_choice.specs.Turns.{HaveCodes, tree_over}
 use Rattle.lmn_heap.specs.Sound.{Forest, IsTree, flat}
+use Rattle.lmn_strategy.specs.Counting.{CountsAsked}
 use Rattle.lmn_strategy.specs.Turns.{AreRunnable, IsTurn}
 use Rattle.lmn_schedule.proofs.Turned.{as_many_paths, kept_heap, some_membrane, turned}
 use Rattle.lmn_schedule.proofs.engine.Engine.turn.Goals as goal
@@ -49,34 +50,50 @@ returns-else-eq-clause-turned g c k gives names solid o =
     (subst (λ xs. IsTurn h xs f c.pick-from.result c.args.self.now.size c.take_turn-answer.result (g.S.LinkStore.heap c.take_turn-answer.new.machine.store)) c.as_slice.ensures (c.take_turn-answer.ensures.turned f o.tree))
 
 pub returns-then-eq-clause-chosen : goal.returns-then-eq-clause-chosen
-returns-then-eq-clause-chosen g c names solid o =
+returns-then-eq-clause-chosen g c =
     let h = g.S.LinkStore.heap c.args.self.now.machine.store in
-    let f = tree_over h o.inner in
-    let counts = subst (λ s. (f : Forest) → IsTree (g.S.LinkStore.heap s) f → c.membranes-many.result ≡ length (flat f)) c.store.ensures c.membranes-many.ensures in
+    let h' = g.S.LinkStore.heap c.take_turn-answer.new.machine.store in
+    let table = c.args.self.now.plain.now.rules in
+    let codes = c.args.self.now.codes in
+    let commits = c.args.self.now.commits in
+    let size = c.args.self.now.size in
+    let many = subst (λ s. (f : Forest) → IsTree (g.S.LinkStore.heap s) f → c.membranes-many.result ≡ length (flat f)) c.store.ensures c.membranes-many.ensures in
     let from = c.pick-from.result in
-    let have : HaveCodes c.args.self.now.plain.now.rules c.requires.run.plans c.args.self.now.codes = record { whole = c.requires.run.whole; compiled = c.requires.run.compiled } in (
-      from,
-      subst (λ n. g.F.Fn.post c.args.self.now.chooser.f (c.args.self.now.commits, (n, tt)) from) (counts f o.tree ∙ sym (as_many_paths c.membranes_are_numbered_alike.ensures names c.args.self.now.plain.now.rules h solid o)) c.pick-from.ensures.answer,
-      turned names c.args.self.now.plain.now.rules (λ commits membranes. from) c.args.self.now.commits c.args.self.now.size c.requires.run.plans c.args.self.now.codes
-          c.turns_are_alike.ensures c.turns_are_of_chooser.ensures c.spares_are_not_read.ensures have h solid o from refl
-          c.take_turn-answer.result (g.S.LinkStore.heap c.take_turn-answer.new.machine.store) c.take_turn-answer.ensures.again.valid
-          (subst (λ xs. IsTurn h xs f from c.args.self.now.size c.take_turn-answer.result (g.S.LinkStore.heap c.take_turn-answer.new.machine.store)) c.as_slice.ensures (c.take_turn-answer.ensures.turned f o.tree)),
-    )
+    let answer = c.take_turn-answer.result in
+    let have : HaveCodes table c.requires.run.plans codes = record { whole = c.requires.run.whole; compiled = c.requires.run.compiled } in
+    record {
+      from = from;
+      counts = subst (λ xs. CountsAsked h xs from c.args.steps.now c.take_turn-answer.new.steps) c.as_slice.ensures c.take_turn-answer.ensures.steps;
+      turned = λ names solid o. (
+        subst (λ n. g.F.Fn.post c.args.self.now.chooser.f (commits, (n, tt)) from) (many (tree_over h o.inner) o.tree ∙ sym (as_many_paths c.membranes_are_numbered_alike.ensures names table h solid o)) c.pick-from.ensures.answer,
+        turned names table (λ commits membranes. from) commits size c.requires.run.plans codes
+            c.turns_are_alike.ensures c.turns_are_of_chooser.ensures c.spares_are_not_read.ensures have h solid o from refl answer h' c.take_turn-answer.ensures.again.valid
+            (subst (λ xs. IsTurn h xs (tree_over h o.inner) from size answer h') c.as_slice.ensures (c.take_turn-answer.ensures.turned (tree_over h o.inner) o.tree)),
+      );
+    }
 
 pub returns-else-eq-clause-chosen : goal.returns-else-eq-clause-chosen
-returns-else-eq-clause-chosen g c names solid o =
+returns-else-eq-clause-chosen g c =
     let h = g.S.LinkStore.heap c.args.self.now.machine.store in
-    let f = tree_over h o.inner in
-    let counts = subst (λ s. (f : Forest) → IsTree (g.S.LinkStore.heap s) f → c.membranes-many.result ≡ length (flat f)) c.store.ensures c.membranes-many.ensures in
+    let h' = g.S.LinkStore.heap c.take_turn-answer.new.machine.store in
+    let table = c.args.self.now.plain.now.rules in
+    let codes = c.args.self.now.codes in
+    let commits = c.args.self.now.commits in
+    let size = c.args.self.now.size in
+    let many = subst (λ s. (f : Forest) → IsTree (g.S.LinkStore.heap s) f → c.membranes-many.result ≡ length (flat f)) c.store.ensures c.membranes-many.ensures in
     let from = c.pick-from.result in
-    let have : HaveCodes c.args.self.now.plain.now.rules c.requires.run.plans c.args.self.now.codes = record { whole = c.requires.run.whole; compiled = c.requires.run.compiled } in (
-      from,
-      subst (λ n. g.F.Fn.post c.args.self.now.chooser.f (c.args.self.now.commits, (n, tt)) from) (counts f o.tree ∙ sym (as_many_paths c.membranes_are_numbered_alike.ensures names c.args.self.now.plain.now.rules h solid o)) c.pick-from.ensures.answer,
-      turned names c.args.self.now.plain.now.rules (λ commits membranes. from) c.args.self.now.commits c.args.self.now.size c.requires.run.plans c.args.self.now.codes
-          c.turns_are_alike.ensures c.turns_are_of_chooser.ensures c.spares_are_not_read.ensures have h solid o from refl
-          c.take_turn-answer.result (g.S.LinkStore.heap c.take_turn-answer.new.machine.store) c.take_turn-answer.ensures.again.valid
-          (subst (λ xs. IsTurn h xs f from c.args.self.now.size c.take_turn-answer.result (g.S.LinkStore.heap c.take_turn-answer.new.machine.store)) c.as_slice.ensures (c.take_turn-answer.ensures.turned f o.tree)),
-    )
+    let answer = c.take_turn-answer.result in
+    let have : HaveCodes table c.requires.run.plans codes = record { whole = c.requires.run.whole; compiled = c.requires.run.compiled } in
+    record {
+      from = from;
+      counts = subst (λ xs. CountsAsked h xs from c.args.steps.now c.take_turn-answer.new.steps) c.as_slice.ensures c.take_turn-answer.ensures.steps;
+      turned = λ names solid o. (
+        subst (λ n. g.F.Fn.post c.args.self.now.chooser.f (commits, (n, tt)) from) (many (tree_over h o.inner) o.tree ∙ sym (as_many_paths c.membranes_are_numbered_alike.ensures names table h solid o)) c.pick-from.ensures.answer,
+        turned names table (λ commits membranes. from) commits size c.requires.run.plans codes
+            c.turns_are_alike.ensures c.turns_are_of_chooser.ensures c.spares_are_not_read.ensures have h solid o from refl answer h' c.take_turn-answer.ensures.again.valid
+            (subst (λ xs. IsTurn h xs (tree_over h o.inner) from size answer h') c.as_slice.ensures (c.take_turn-answer.ensures.turned (tree_over h o.inner) o.tree)),
+      );
+    }
 
 pub returns-then-eq-clause-kept : goal.returns-then-eq-clause-kept
 returns-then-eq-clause-kept g c =
