@@ -93,17 +93,7 @@ from_front o b xs ys e h = subst (λ z. from z (xs ++ ys) ≡ xs ++ ys) (sym e)
     (let w : b ∷ after b xs ≡ xs = subst (λ z. from z xs ≡ xs) e h in
     subst (λ zs. from (Some b) (zs ++ ys) ≡ zs ++ ys) w (from_here b (after b xs ++ ys)))
 
--- the first that is kept
-pub first_kept : (p : ℕ → Bool) (o : Option ℕ) (n : ℕ) (xs all : List ℕ) → o ≡ Some n → keep p (from o xs) ≡ all → p n ≡ true → n ∷ after n all ≡ all
-first_kept p o n xs all s e h =
-    let w : n ∷ keep p (after n xs) ≡ all = sym (keep_here p n (after n xs) h) ∙ ap (λ z. keep p (from z xs)) (sym s) ∙ e in
-    subst (λ zs. from (Some n) zs ≡ zs) w (from_here n (keep p (after n xs)))
-
--- one that isn't kept is passed
-pub passes_kept : (p : ℕ → Bool) (o o' : Option ℕ) (n : ℕ) (xs all : List ℕ) → o ≡ Some n → keep p (from o xs) ≡ all → p n ≡ false → from o' xs ≡ after n xs → keep p (from o' xs) ≡ all
-passes_kept p o o' n xs all s e h f = ap (keep p) f ∙ sym (keep_past p n (after n xs) h) ∙ ap (λ z. keep p (from z xs)) (sym s) ∙ e
-
--- and then less is left
+-- less is left behind the next one
 pub less_left : (o o' : Option ℕ) (n : ℕ) (xs : List ℕ) → o ≡ Some n → from o' xs ≡ after n xs → length (from o' xs) < length (from o xs)
 less_left o o' n xs s f = let a = ap length f in let b = ap (λ z. length (from z xs)) s in omega (arith, a, b)
 
