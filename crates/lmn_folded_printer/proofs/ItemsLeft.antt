@@ -2,6 +2,7 @@
 use Rattle.std.proofs.Common.{◌≡◌, ℕ, ◌+◌, ◌*◌, ◌<◌, ◌≤◌, ◌^◌, List, [], ◌∷◌, ◌++◌, Option, Some, None, IfSome, refl, sym, ap, ◌∙◌, subst, arith}
 use Rattle.std.specs.Option.{option_map}
 use Rattle.std.proofs.lemmas.List.{append-nil, append_assoc}
+use Rattle.lmn_base.specs.Limits.{most_links}
 use Rattle.lmn_base.specs.Links.{Numbers}
 use Rattle.lmn_base.specs.declared.rule.RuleTree.{RuleTree}
 use Rattle.lmn_congruence.specs.Rules.{Name}
@@ -86,14 +87,14 @@ one_item s a (b ∷ xs) _ e (more {fs = fs} es w h) =
 module _ (s : Heap) (count : ℕ) (all : List ℕ) where
   abbrev pub ItemsLeft : Heap → List ℕ → ℕ → Type 0
   ItemsLeft t left n = (es : List Event) → ItemsWalked s all es → (fs : List Event) × ItemsWalked s left fs × (done : (ℕ → ℕ → ℕ) → List ℕ)
-      × ((name : ℕ → ℕ → ℕ) → done name ++ links_met fs name ≡ links_met es name) × GoOn s t count n done × (n + 255 * turns fs ≤ count + 255 * turns es)
+      × ((name : ℕ → ℕ → ℕ) → done name ++ links_met fs name ≡ links_met es name) × GoOn s t count n done × (n + most_links * turns fs ≤ count + most_links * turns es)
 
   pub left_first : (left : List ℕ) → left ≡ all → ItemsLeft s left count
   left_first left e es w = (es, subst (λ xs. ItemsWalked s xs es) (sym e) w, (λ name. []), (λ name. refl), go_none s count, omega arith)
 
   -- the first part of them is done
   pub left_more : (t u : Heap) (xs ys left : List ℕ) (n m : ℕ) → Remarks s t → ItemsLeft t left n → left ≡ xs ++ ys
-      → ((ws : List Event) → ItemsWalked s xs ws → GoOn t u n m (links_met ws) × (m ≤ n + 255 * turns ws)) → ItemsLeft u ys m
+      → ((ws : List Event) → ItemsWalked s xs ws → GoOn t u n m (links_met ws) × (m ≤ n + most_links * turns ws)) → ItemsLeft u ys m
   left_more t u xs ys left n m r h e go es w =
       let l = h es w in
       let p = parts s xs ys left l.0 e l.1 in
@@ -111,8 +112,8 @@ module _ (s : Heap) (count : ℕ) (all : List ℕ) where
       )
 
   -- there is room for the numbers of the first part
-  pub left_room : (t : Heap) (xs ys left : List ℕ) (n : ℕ) (es : List Event) → ItemsLeft t left n → left ≡ xs ++ ys → ItemsWalked s all es → count + 255 * turns es < 2 ^ 64
-      → (ws : List Event) × ItemsWalked s xs ws × (n + 255 * turns ws < 2 ^ 64)
+  pub left_room : (t : Heap) (xs ys left : List ℕ) (n : ℕ) (es : List Event) → ItemsLeft t left n → left ≡ xs ++ ys → ItemsWalked s all es → count + most_links * turns es < 2 ^ 64
+      → (ws : List Event) × ItemsWalked s xs ws × (n + most_links * turns ws < 2 ^ 64)
   left_room t xs ys left n es h e w low =
       let l = h es w in
       let p = parts s xs ys left l.0 e l.1 in
@@ -121,7 +122,7 @@ module _ (s : Heap) (count : ℕ) (all : List ℕ) where
       (p.first, p.first_walked, omega (arith, few, low, turned))
 
   -- none is left
-  pub left_last : (t : Heap) (left : List ℕ) (n : ℕ) → left ≡ [] → ItemsLeft t left n → (es : List Event) → ItemsWalked s all es → GoOn s t count n (links_met es) × (n ≤ count + 255 * turns es)
+  pub left_last : (t : Heap) (left : List ℕ) (n : ℕ) → left ≡ [] → ItemsLeft t left n → (es : List Event) → ItemsWalked s all es → GoOn s t count n (links_met es) × (n ≤ count + most_links * turns es)
   left_last t left n e h es w =
       let l = h es w in
       let nothing : l.0 ≡ [] = walked_none s l.0 (subst (λ xs. ItemsWalked s xs l.0) e l.1) in
@@ -131,8 +132,8 @@ module _ (s : Heap) (count : ℕ) (all : List ℕ) where
 -- Items by `first` and `next`.
 
 -- the walk over the next item
-pub next_walk : (s t : Heap) (count : ℕ) (all left rest : List ℕ) (a n : ℕ) (es : List Event) → Remarks s t → ItemsLeft s count all t left n → left ≡ a ∷ rest → ItemsWalked s all es → count + 255 * turns es < 2 ^ 64
-    → (ws : List Event) × WalkMeets t a 0 ws × (n + 255 * turns ws < 2 ^ 64)
+pub next_walk : (s t : Heap) (count : ℕ) (all left rest : List ℕ) (a n : ℕ) (es : List Event) → Remarks s t → ItemsLeft s count all t left n → left ≡ a ∷ rest → ItemsWalked s all es → count + most_links * turns es < 2 ^ 64
+    → (ws : List Event) × WalkMeets t a 0 ws × (n + most_links * turns ws < 2 ^ 64)
 next_walk s t count all left rest a n es r h e w low =
     let room = left_room s count all t (a ∷ []) rest left n es h e w low in
     let one = one_item s a (a ∷ []) room.0 refl room.1 in
@@ -142,13 +143,13 @@ next_walk s t count all left rest a n es r h e w low =
 
 -- the links of one item more have their numbers
 pub next_done : (s t u : Heap) (count : ℕ) (all left rest : List ℕ) (a n m : ℕ) → Remarks s t → ItemsLeft s count all t left n → left ≡ a ∷ rest
-    → ((ws : List Event) → WalkMeets t a 0 ws → GoOn t u n m (links_met ws)) → ((ws : List Event) → WalkMeets t a 0 ws → m ≤ n + 255 * turns ws) → ItemsLeft s count all u rest m
+    → ((ws : List Event) → WalkMeets t a 0 ws → GoOn t u n m (links_met ws)) → ((ws : List Event) → WalkMeets t a 0 ws → m ≤ n + most_links * turns ws) → ItemsLeft s count all u rest m
 next_done s t u count all left rest a n m r h e go few =
     left_more s count all t u (a ∷ []) rest left n m r h e (λ ws w.
     let one = one_item s a (a ∷ []) ws refl w in
     let same : one.0 ≡ ws = sym (one.2 ∙ append-nil one.0) in
     let walk = walk_same s t r a 0 one.0 one.1 in
-    subst (λ es. GoOn t u n m (links_met es) × (m ≤ n + 255 * turns es)) same (go one.0 walk, few one.0 walk))
+    subst (λ es. GoOn t u n m (links_met es) × (m ≤ n + most_links * turns es)) same (go one.0 walk, few one.0 walk))
 
 -- Membranes.
 
@@ -156,9 +157,9 @@ next_done s t u count all left rest a n m r h e go few =
 pub record Room (s : Heap) (f : Forest) : Type 0 where
   pub events : List Event
   pub walked : ItemsWalked s (printed_items s (flat f)) events
-  pub few : 0 + 255 * turns events < 2 ^ 64
+  pub few : 0 + most_links * turns events < 2 ^ 64
 
-few_numbers : (k : ℕ) → k ≤ 2 ^ 49 → 0 + 255 * k < 2 ^ 64
+few_numbers : (k : ℕ) → k ≤ 2 ^ 49 → 0 + most_links * k < 2 ^ 64
 few_numbers k l = omega (arith, l)
 
 -- as many turns are left as a heap may need

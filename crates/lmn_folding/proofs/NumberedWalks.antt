@@ -1,6 +1,7 @@
 -- The links of an item get their numbers while it is walked.
 use Rattle.std.proofs.Common.{◌≡◌, ℕ, suc, ◌+◌, ◌-◌, ◌*◌, ◌<◌, ◌≤◌, ◌==◌, ◌&&◌, ◌||◌, not, true, false, if◌then◌else◌, List, [], ◌∷◌, ◌++◌, Option, Some, None, refl, sym, ap, ◌∙◌, subst, arith}
 use Rattle.std.proofs.lemmas.List.{append-nil, append_assoc}
+use Rattle.lmn_base.specs.Limits.{most_links}
 use Rattle.lmn_heap.specs.Heap.{Heap, arity_of, link_of, mark_of, own_mark}
 use Rattle.lmn_printer.specs.Numbers.{GoOn, Remarks}
 use Rattle.lmn_printer.proofs.MarkLemmas.{arity_same, link_same}
@@ -35,7 +36,7 @@ module _ (s : Heap) (item count : ℕ) where
   -- where the walk over an item stands at port i of the atom a, the links that were met have their numbers, and there are n
   abbrev pub NumbersLeft : Heap → ℕ → ℕ → ℕ → ℕ → Type 0
   NumbersLeft t a i n k = (es : List Event) → WalkMeets s item 0 es → (left : List Event) × WalkMeets s a i left × (done : (ℕ → ℕ → ℕ) → List ℕ)
-      × ((name : ℕ → ℕ → ℕ) → done name ++ links_met left name ≡ links_met es name) × GoOn s t count n done × (n ≤ count + 255 * k + i) × (k + turns left ≤ turns es)
+      × ((name : ℕ → ℕ → ℕ) → done name ++ links_met left name ≡ links_met es name) × GoOn s t count n done × (n ≤ count + most_links * k + i) × (k + turns left ≤ turns es)
 
   pub numbers_first : NumbersLeft s item 0 count 0
   numbers_first es w = (es, w, (λ name. []), (λ name. refl), go_none s count, omega arith, omega arith)
@@ -88,7 +89,7 @@ module _ (s : Heap) (item count : ℕ) where
       )
 
   pub numbers_all : (t : Heap) (a i n k : ℕ) → NumbersLeft t a i n k → i < 256 → argument_count s a ≤ i → is_item s a ≡ true
-      → (es : List Event) → WalkMeets s item 0 es → GoOn s t count n (links_met es) × (n ≤ count + 255 * turns es)
+      → (es : List Event) → WalkMeets s item 0 es → GoOn s t count n (links_met es) × (n ≤ count + most_links * turns es)
   numbers_all t a i n k h small high is es w =
       let l = h es w in
       let e = at_end_of_item s a i l.0 l.1 high is in
@@ -98,7 +99,7 @@ module _ (s : Heap) (item count : ℕ) where
       (go_as s t count n l.2 (links_met es) (λ name. sym (append-nil (l.2 name)) ∙ ap (λ x. l.2 name ++ links_met x name) (sym e) ∙ l.3 name) l.4, omega (arith, few, small, turned, some))
 
   -- there is room for one number more where a port is met, and at most so many turns were taken as there are
-  pub numbers_room : (t : Heap) (a i n k : ℕ) → NumbersLeft t a i n k → i < 255 → (es : List Event) → WalkMeets s item 0 es → n + 1 ≤ count + 255 * turns es
+  pub numbers_room : (t : Heap) (a i n k : ℕ) → NumbersLeft t a i n k → i < 255 → (es : List Event) → WalkMeets s item 0 es → n + 1 ≤ count + most_links * turns es
   numbers_room t a i n k h small es w =
       let l = h es w in
       let few = l.5 in

@@ -1,5 +1,6 @@
 //! The numbers of printed links, in the marks of their ports: each mark is greater by one.
 ghost use Rattle.std.specs.Prelude.{◌<◌, ◌≤◌, ◌+◌, ◌*◌, ◌^◌, List};
+ghost use Rattle.lmn_base.specs.Limits.{most_links};
 ghost use Rattle.lmn_heap.specs.Heap.{IsAtom};
 ghost use Rattle.lmn_heap.specs.Sound.{Valid};
 ghost use Rattle.lmn_printer.specs.Numbers.{GoOn, Remarks};
@@ -15,10 +16,10 @@ use lmn_store::LinkStore;
 pub fn number_item<S: LinkStore>(store: &mut S, item: S::Atom, count: u64) -> u64
     requires valid { Valid (S.heap store.old) }
     requires atom { IsAtom (S.heap store.old) (S.atom_id item) }
-    requires walk { (es : List Event) × WalkMeets (S.heap store.old) (S.atom_id item) 0 es × (count + 255 * turns es < 2 ^ 64) }
+    requires walk { (es : List Event) × WalkMeets (S.heap store.old) (S.atom_id item) 0 es × (count + most_links * turns es < 2 ^ 64) }
     ensures marks { Remarks (S.heap store.old) (S.heap store.new) }
     ensures numbers { (es : List Event) → WalkMeets (S.heap store.old) (S.atom_id item) 0 es → GoOn (S.heap store.old) (S.heap store.new) count result (links_met es) }
-    ensures few { (es : List Event) → WalkMeets (S.heap store.old) (S.atom_id item) 0 es → result ≤ count + 255 * turns es }
+    ensures few { (es : List Event) → WalkMeets (S.heap store.old) (S.atom_id item) 0 es → result ≤ count + most_links * turns es }
 {
     let _root = store.root();
     let mut numbered = count;

@@ -2,6 +2,7 @@
 use Rattle.std.proofs.Common.{◌≡◌, ℕ, suc, ◌+◌, ◌*◌, ◌<◌, ◌≤◌, ◌^◌, List, [], ◌∷◌, ◌++◌, length, Option, Some, None, IsSome, IfSome, refl, sym, ap, ◌∙◌, subst, arith}
 use Rattle.std.specs.Option.{option_map}
 use Rattle.std.proofs.lemmas.List.{append_assoc, append-nil}
+use Rattle.lmn_base.specs.Limits.{most_links}
 use Rattle.lmn_base.specs.Links.{Numbers}
 use Rattle.lmn_base.specs.Solids as solids
 use Rattle.lmn_base.specs.declared.solid.Solid.{Solid}
@@ -29,7 +30,7 @@ pub record Numbering (s t : Heap) (n : ℕ) (next : Option ℕ) (f : Forest) : T
   pub done : List ℕ
   pub split : printed_atoms s (flat f) ≡ done ++ from next (printed_atoms s (flat f))
   pub numbers : GoOn s t 0 n (links_on s done)
-  pub few : n + 255 * length (from next (printed_atoms s (flat f))) ≤ 255 * 2 ^ 48
+  pub few : n + most_links * length (from next (printed_atoms s (flat f))) ≤ most_links * 2 ^ 48
 
 -- at first no link has its number
 pub numbering_first : (s : Heap) → Sound s → AtMost (2 ^ 48) s → (f : Forest) → IsTree s f → (next : Option ℕ) → from next (printed_atoms s (flat f)) ≡ printed_atoms s (flat f) → Numbering s s 0 next f
@@ -37,17 +38,17 @@ numbering_first s sound most f tree next e = record {
   done = [];
   split = sym e;
   numbers = go_none s 0;
-  few = subst (λ xs. 0 + 255 * length xs ≤ 255 * 2 ^ 48) (sym e) (let l = printed_few s sound f tree most in few_first (length (printed_atoms s (flat f))) l);
+  few = subst (λ xs. 0 + most_links * length xs ≤ most_links * 2 ^ 48) (sym e) (let l = printed_few s sound f tree most in few_first (length (printed_atoms s (flat f))) l);
 }
   where
-    few_first : (k : ℕ) → k ≤ 2 ^ 48 → 0 + 255 * k ≤ 255 * 2 ^ 48
+    few_first : (k : ℕ) → k ≤ 2 ^ 48 → 0 + most_links * k ≤ most_links * 2 ^ 48
     few_first k l = omega (arith, l)
 
-few_more : (n m k j : ℕ) → n + 255 * k ≤ 255 * 2 ^ 48 → k ≡ suc j → m ≤ n + 255 → m + 255 * j ≤ 255 * 2 ^ 48
+few_more : (n m k j : ℕ) → n + most_links * k ≤ most_links * 2 ^ 48 → k ≡ suc j → m ≤ n + most_links → m + most_links * j ≤ most_links * 2 ^ 48
 few_more n m k j h e l = omega (arith, h, e, l)
 
 -- one atom more
-pub numbering_more : (s t u : Heap) (n m a : ℕ) (next : Option ℕ) (f : Forest) → Remarks s t → Remarks t u → Numbering s t n (Some a) f → GoOn t u n m (links_at_ports t a) → m ≤ n + 255
+pub numbering_more : (s t u : Heap) (n m a : ℕ) (next : Option ℕ) (f : Forest) → Remarks s t → Remarks t u → Numbering s t n (Some a) f → GoOn t u n m (links_at_ports t a) → m ≤ n + most_links
     → from next (printed_atoms u (flat f)) ≡ after a (printed_atoms u (flat f)) → Numbering s u m next f
 numbering_more s t u n m a next f r q b g l e = record {
   done = b.done ++ (a ∷ []);
@@ -66,10 +67,10 @@ numbering_more s t u n m a next f r q b g l e = record {
     same name = ap (λ xs. links_on s b.done name ++ xs) (here name) ∙ sym (links_append s name b.done (a ∷ []))
 
 -- there is room for the numbers of one atom more
-pub numbering_room : (s t : Heap) (n a : ℕ) (f : Forest) → Numbering s t n (Some a) f → n + 255 < 2 ^ 64
+pub numbering_room : (s t : Heap) (n a : ℕ) (f : Forest) → Numbering s t n (Some a) f → n + most_links < 2 ^ 64
 numbering_room s t n a f b = room n (length (after a (printed_atoms s (flat f)))) b.few
   where
-    room : (n k : ℕ) → n + 255 * suc k ≤ 255 * 2 ^ 48 → n + 255 < 2 ^ 64
+    room : (n k : ℕ) → n + most_links * suc k ≤ most_links * 2 ^ 48 → n + most_links < 2 ^ 64
     room n k h = omega (arith, h)
 
 -- all atoms are done: the marks tell the numbers of the solid's links

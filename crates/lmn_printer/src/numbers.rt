@@ -1,5 +1,6 @@
 //! The numbers of links, in the marks of their ports: each mark is greater by one.
 ghost use Rattle.std.specs.Prelude.{◌≡◌, ◌<◌, ◌≤◌, ◌+◌, ◌^◌, ℕ, [], ◌∷◌};
+ghost use Rattle.lmn_base.specs.Limits.{most_links};
 ghost use Rattle.lmn_base.specs.declared.solid.Solid.{Solid};
 ghost use Rattle.lmn_heap.specs.Heap.{IsAtom, arity_of, mark_of, PortsUnmarked};
 ghost use Rattle.lmn_heap.specs.Solid.{HasSolid};
@@ -28,10 +29,10 @@ pub(crate) fn number_links<S: LinkStore>(store: &mut S)
 /// Gives the links of an atom that have none their numbers, where so many have one. Answers how many have one then.
 fn number_ports<S: LinkStore>(store: &mut S, atom: S::Atom, count: u64) -> u64
     requires atom { IsAtom (S.heap store.old) (S.atom_id atom) }
-    requires count { count + 255 < 2 ^ 64 }
+    requires count { count + most_links < 2 ^ 64 }
     ensures marks { Remarks (S.heap store.old) (S.heap store.new) }
     ensures numbers { GoOn (S.heap store.old) (S.heap store.new) count result (links_at_ports (S.heap store.old) (S.atom_id atom)) }
-    ensures few { result ≤ count + 255 }
+    ensures few { result ≤ count + most_links }
 {
     let _root = store.root();
     let arity = store.functor(atom).arity;
