@@ -12,8 +12,10 @@ use Rattle.lmn_body.specs.Items.{port_at, new_ports_from, new_ports, connectors,
 use Rattle.lmn_body.specs.Running.{Registers, old_port, new_port, integer_functor}
 use Rattle.lmn_body.proofs.Coding.{at_heap}
 use Rattle.lmn_body.specs.Made.{made_of, new_atoms, copies_of}
+use Rattle.lmn_body.specs.RestCopies.{RestCopies, later}
 use Rattle.lmn_body.specs.Tied.{partners}
 use Rattle.lmn_body.proofs.Brought.{HasCopy}
+use Rattle.lmn_body.proofs.RestsMade.{HaveRestCopies}
 use Rattle.lmn_heap.specs.Heap.{Heap, HeapAtom, new_atom, partners_of, arity_of}
 use Rattle.std.proofs.lemmas.List.{length-replicate}
 use Rattle.std.specs.Prelude.{slice_index_or}
@@ -114,43 +116,45 @@ abbrev pub AreCopied : Heap → Heap → Registers → ℕ → List BodyItem →
 AreCopied h s r c body = (e : ℕ × ℕ) → IsOneOf e (copies_of c body) → HasCopy h s (r.head.images.part e.1) (r.copy e.0) (r.copied e.0)
 
 -- each new port of a body is a port of a new atom
-pub new_is : (r : Registers) (a c : ℕ) (body : List BodyItem) → AllMade body → (h s : Heap) → Written s r a body → AreCopied h s r c body → (e : Port × ℕ) → IsOneOf e (at_heap (new_port r) (new_ports a c body)) → IsNewPort s (new_atoms r a c body) e.0
-new_is r a c [] w h s wr cp e i = absurd i
-new_is r a c (Atom functor ls inside ∷ xs) w h s wr cp e i =
+pub new_is : (r : Registers) (qs : RestCopies) (a c : ℕ) (body : List BodyItem) → AllMade body → (h s : Heap) → Written s r a body → AreCopied h s r c body → (e : Port × ℕ) → IsOneOf e (at_heap (new_port r) (new_ports a c body)) → IsNewPort s (new_atoms r qs a c body) e.0
+new_is r qs a c [] w h s wr cp e i = absurd i
+new_is r qs a c (Atom functor ls inside ∷ xs) w h s wr cp e i =
     elim (in_append e (at_heap (new_port r) (new_ports_from a 0 ls)) (at_heap (new_port r) (new_ports (a + 1) c xs)) (subst (IsOneOf e) (heap_append (new_port r) (new_ports_from a 0 ls) (new_ports (a + 1) c xs)) i)) [
       | inl j ↦ (let v = one_atom r a 0 ls e j in
           let u = made_port s (r.head.images.atom a) functor (wr (r.head.images.atom a, functor) (inl refl)) e.0 v.0 (subst (λ n. e.0.1 < n) w.0.0 (plain v.1)) in
           (inl (sym v.0), u.0, u.1))
-      | inr j ↦ (let v = new_is r (a + 1) c xs w.1 h s (λ x k. wr x (inr k)) cp e j in (inr v.0, v.1, v.2))
+      | inr j ↦ (let v = new_is r qs (a + 1) c xs w.1 h s (λ x k. wr x (inr k)) cp e j in (inr v.0, v.1, v.2))
     ]
   where
     plain : e.0.1 < 0 + length ls → e.0.1 < length ls
     plain h = omega arith
-new_is r a c (Bound integer link inside ∷ xs) w h s wr cp e (inl q) =
+new_is r qs a c (Bound integer link inside ∷ xs) w h s wr cp e (inl q) =
     let u = made_port s (r.head.images.atom a) (integer_functor (r.head.integer integer)) (wr (r.head.images.atom a, integer_functor (r.head.integer integer)) (inl refl)) e.0 (sym (ap (λ (z : Port × ℕ). z.0.0) q))
     (subst (λ z. z < 1) (ap (λ (z : Port × ℕ). z.0.1) q) (omega arith)) in
     (inl (ap (λ (z : Port × ℕ). z.0.0) q), u.0, u.1)
-new_is r a c (Bound integer link inside ∷ xs) w h s wr cp e (inr i) = let v = new_is r (a + 1) c xs w.1 h s (λ x k. wr x (inr k)) cp e i in (inr v.0, v.1, v.2)
-new_is r a c (Connector left right ∷ xs) w h s wr cp e i = new_is r a c xs w.1 h s wr cp e i
-new_is r a c (Copy part link inside ∷ xs) w h s wr cp e (inl q) =
+new_is r qs a c (Bound integer link inside ∷ xs) w h s wr cp e (inr i) = let v = new_is r qs (a + 1) c xs w.1 h s (λ x k. wr x (inr k)) cp e i in (inr v.0, v.1, v.2)
+new_is r qs a c (Connector left right ∷ xs) w h s wr cp e i = new_is r qs a c xs w.1 h s wr cp e i
+new_is r qs a c (Copy part link inside ∷ xs) w h s wr cp e (inl q) =
     let k = cp (c, part) (inl refl) in
     let same : r.copy c ≡ e.0 = ap (λ (z : Port × ℕ). z.0) q in
-    subst (IsNewPort s (r.copied c ++ new_atoms r a (c + 1) xs)) same (in_left (r.copy c).0 (r.copied c) (new_atoms r a (c + 1) xs) k.ours, k.port, k.free)
-new_is r a c (Copy part link inside ∷ xs) w h s wr cp e (inr i) =
-    let v = new_is r a (c + 1) xs w.1 h s wr (λ x k. cp x (inr k)) e i in (in_right e.0.0 (r.copied c) (new_atoms r a (c + 1) xs) v.0, v.1, v.2)
-new_is r a c (Membrane inside ∷ xs) w h s wr cp e i = new_is r a c xs w.1 h s wr cp e i
-new_is r a c (Rest of inside ∷ xs) w h s wr cp e i = new_is r a c xs w.1 h s wr cp e i
-new_is r a c (Rule rule inside ∷ xs) w h s wr cp e i = new_is r a c xs w.1 h s wr cp e i
-new_is r a c (Rules of inside ∷ xs) w h s wr cp e i = new_is r a c xs w.1 h s wr cp e i
+    subst (IsNewPort s (r.copied c ++ new_atoms r qs a (c + 1) xs)) same (in_left (r.copy c).0 (r.copied c) (new_atoms r qs a (c + 1) xs) k.ours, k.port, k.free)
+new_is r qs a c (Copy part link inside ∷ xs) w h s wr cp e (inr i) =
+    let v = new_is r qs a (c + 1) xs w.1 h s wr (λ x k. cp x (inr k)) e i in (in_right e.0.0 (r.copied c) (new_atoms r qs a (c + 1) xs) v.0, v.1, v.2)
+new_is r qs a c (Membrane inside ∷ xs) w h s wr cp e i = new_is r qs a c xs w.1 h s wr cp e i
+new_is r qs a c (Rest of false inside ∷ xs) w h s wr cp e i = new_is r qs a c xs w.1 h s wr cp e i
+new_is r qs a c (Rest of true inside ∷ xs) w h s wr cp e i =
+    let v = new_is r (later qs) a c xs w.1 h s wr cp e i in (in_right e.0.0 (qs 0).atoms (new_atoms r (later qs) a c xs) v.0, v.1, v.2)
+new_is r qs a c (Rule rule inside ∷ xs) w h s wr cp e i = new_is r qs a c xs w.1 h s wr cp e i
+new_is r qs a c (Rules of inside ∷ xs) w h s wr cp e i = new_is r qs a c xs w.1 h s wr cp e i
 
 -- a port of a new atom is a new port, or has a partner at a new atom
-abbrev pub NewOrInside : Heap → Registers → ℕ → ℕ → List BodyItem → Port → Type 0
-NewOrInside s r a c body p = IsOneOf p (ports (at_heap (new_port r) (new_ports a c body))) ⊎ ((q : Port) × In q.0 (new_atoms r a c body) × (partners s p ≡ Some q))
+abbrev pub NewOrInside : Heap → Registers → RestCopies → ℕ → ℕ → List BodyItem → Port → Type 0
+NewOrInside s r qs a c body p = IsOneOf p (ports (at_heap (new_port r) (new_ports a c body))) ⊎ ((q : Port) × In q.0 (new_atoms r qs a c body) × (partners s p ≡ Some q))
 
 -- each port of a new atom is a new port, or stands inside a copy
-pub new_all : (r : Registers) (a c : ℕ) (body : List BodyItem) → AllMade body → (h s : Heap) → Written s r a body → AreCopied h s r c body → (p : Port) → In p.0 (new_atoms r a c body) → p.1 < arity_of s p.0 → NewOrInside s r a c body p
-new_all r a c [] w h s wr cp p i l = absurd i
-new_all r a c (Atom functor ls inside ∷ xs) w h s wr cp p (inl q) l =
+pub new_all : (r : Registers) (qs : RestCopies) (a c : ℕ) (body : List BodyItem) → AllMade body → (h s : Heap) → Written s r a body → AreCopied h s r c body → HaveRestCopies h s r qs body → (p : Port) → In p.0 (new_atoms r qs a c body) → p.1 < arity_of s p.0 → NewOrInside s r qs a c body p
+new_all r qs a c [] w h s wr cp rc p i l = absurd i
+new_all r qs a c (Atom functor ls inside ∷ xs) w h s wr cp rc p (inl q) l =
     inl (subst (IsOneOf p) (sym (ap ports (heap_append (new_port r) (new_ports_from a 0 ls) (new_ports (a + 1) c xs)) ∙ ports_append (at_heap (new_port r) (new_ports_from a 0 ls)) (at_heap (new_port r) (new_ports (a + 1) c xs))))
     (in_front p (ports (at_heap (new_port r) (new_ports_from a 0 ls))) (ports (at_heap (new_port r) (new_ports (a + 1) c xs)))
     (subst (λ (z : Port). IsOneOf z (ports (at_heap (new_port r) (new_ports_from a 0 ls)))) (λ t. (q t, p.1))
@@ -158,108 +162,119 @@ new_all r a c (Atom functor ls inside ∷ xs) w h s wr cp p (inl q) l =
   where
     plain : (k : ℕ) → k < length ls → k < 0 + length ls
     plain k h = omega arith
-new_all r a c (Atom functor ls inside ∷ xs) w h s wr cp p (inr i) l = elim (new_all r (a + 1) c xs w.1 h s (λ x k. wr x (inr k)) cp p i l) [
+new_all r qs a c (Atom functor ls inside ∷ xs) w h s wr cp rc p (inr i) l = elim (new_all r qs (a + 1) c xs w.1 h s (λ x k. wr x (inr k)) cp rc p i l) [
   | inl j ↦ inl (subst (IsOneOf p) (sym (ap ports (heap_append (new_port r) (new_ports_from a 0 ls) (new_ports (a + 1) c xs)) ∙ ports_append (at_heap (new_port r) (new_ports_from a 0 ls)) (at_heap (new_port r) (new_ports (a + 1) c xs))))
       (in_back p (ports (at_heap (new_port r) (new_ports_from a 0 ls))) (ports (at_heap (new_port r) (new_ports (a + 1) c xs))) j))
   | inr u ↦ inr (u.0, inr u.1, u.2)
 ]
-new_all r a c (Bound integer link inside ∷ xs) w h s wr cp p (inl q) l =
+new_all r qs a c (Bound integer link inside ∷ xs) w h s wr cp rc p (inl q) l =
     inl (inl (λ t. (q t, zero_port p.1 (subst (λ n. p.1 < n) (ap (arity_of s) (sym q) ∙ made_arity s (r.head.images.atom a) (integer_functor (r.head.integer integer)) (wr (r.head.images.atom a, integer_functor (r.head.integer integer)) (inl refl))) l) t)))
   where
     zero_port : (k : ℕ) → k < 1 → 0 ≡ k
     zero_port k h = omega arith
-new_all r a c (Bound integer link inside ∷ xs) w h s wr cp p (inr i) l = elim (new_all r (a + 1) c xs w.1 h s (λ x k. wr x (inr k)) cp p i l) [
+new_all r qs a c (Bound integer link inside ∷ xs) w h s wr cp rc p (inr i) l = elim (new_all r qs (a + 1) c xs w.1 h s (λ x k. wr x (inr k)) cp rc p i l) [
   | inl j ↦ inl (inr j)
   | inr u ↦ inr (u.0, inr u.1, u.2)
 ]
-new_all r a c (Connector left right ∷ xs) w h s wr cp p i l = new_all r a c xs w.1 h s wr cp p i l
-new_all r a c (Copy part link inside ∷ xs) w h s wr cp p i l = elim (in_either p.0 (r.copied c) (new_atoms r a (c + 1) xs) i) [
+new_all r qs a c (Connector left right ∷ xs) w h s wr cp rc p i l = new_all r qs a c xs w.1 h s wr cp rc p i l
+new_all r qs a c (Copy part link inside ∷ xs) w h s wr cp rc p i l = elim (in_either p.0 (r.copied c) (new_atoms r qs a (c + 1) xs) i) [
   | inl j ↦ elim (port_cases p (r.copy c)) [
     | inl e ↦ inl (inl (sym e))
-    | inr d ↦ (let u = (cp (c, part) (inl refl)).inside p j l d in inr (u.0, in_left u.0.0 (r.copied c) (new_atoms r a (c + 1) xs) u.1, u.2))
+    | inr d ↦ (let u = (cp (c, part) (inl refl)).inside p j l d in inr (u.0, in_left u.0.0 (r.copied c) (new_atoms r qs a (c + 1) xs) u.1, u.2))
   ]
-  | inr j ↦ elim (new_all r a (c + 1) xs w.1 h s wr (λ x k. cp x (inr k)) p j l) [
+  | inr j ↦ elim (new_all r qs a (c + 1) xs w.1 h s wr (λ x k. cp x (inr k)) rc p j l) [
     | inl v ↦ inl (inr v)
-    | inr u ↦ inr (u.0, in_right u.0.0 (r.copied c) (new_atoms r a (c + 1) xs) u.1, u.2)
+    | inr u ↦ inr (u.0, in_right u.0.0 (r.copied c) (new_atoms r qs a (c + 1) xs) u.1, u.2)
   ]
 ]
-new_all r a c (Membrane inside ∷ xs) w h s wr cp p i l = new_all r a c xs w.1 h s wr cp p i l
-new_all r a c (Rest of inside ∷ xs) w h s wr cp p i l = new_all r a c xs w.1 h s wr cp p i l
-new_all r a c (Rule rule inside ∷ xs) w h s wr cp p i l = new_all r a c xs w.1 h s wr cp p i l
-new_all r a c (Rules of inside ∷ xs) w h s wr cp p i l = new_all r a c xs w.1 h s wr cp p i l
+new_all r qs a c (Membrane inside ∷ xs) w h s wr cp rc p i l = new_all r qs a c xs w.1 h s wr cp rc p i l
+new_all r qs a c (Rest of false inside ∷ xs) w h s wr cp rc p i l = new_all r qs a c xs w.1 h s wr cp rc p i l
+new_all r qs a c (Rest of true inside ∷ xs) w h s wr cp rc p i l = elim (in_either p.0 (qs 0).atoms (new_atoms r (later qs) a c xs) i) [
+  | inl j ↦ (let u = rc.0.inside p j l in inr (u.0, in_left u.0.0 (qs 0).atoms (new_atoms r (later qs) a c xs) u.1, u.2))
+  | inr j ↦ elim (new_all r (later qs) a c xs w.1 h s wr cp rc.1 p j l) [
+    | inl v ↦ inl v
+    | inr u ↦ inr (u.0, in_right u.0.0 (qs 0).atoms (new_atoms r (later qs) a c xs) u.1, u.2)
+  ]
+]
+new_all r qs a c (Rule rule inside ∷ xs) w h s wr cp rc p i l = new_all r qs a c xs w.1 h s wr cp rc p i l
+new_all r qs a c (Rules of inside ∷ xs) w h s wr cp rc p i l = new_all r qs a c xs w.1 h s wr cp rc p i l
 
 -- the numbers of atoms that are listed with their functors
 abbrev pub numbers : List (ℕ × Functor) → List ℕ
 numbers es = map (λ (e : ℕ × Functor). e.0) es
 
 -- a written atom is a new one
-pub written_new : (r : Registers) (a c : ℕ) (body : List BodyItem) (x : ℕ) (f : Functor) → IsOneOf {A = ℕ × Functor} (x, f) (made_of r a body) → In x (new_atoms r a c body)
-written_new r a c [] x f i = absurd i
-written_new r a c (Atom functor ls inside ∷ xs) x f (inl e) = inl (ap (λ (q : ℕ × Functor). q.0) e)
-written_new r a c (Atom functor ls inside ∷ xs) x f (inr i) = inr (written_new r (a + 1) c xs x f i)
-written_new r a c (Bound integer link inside ∷ xs) x f (inl e) = inl (ap (λ (q : ℕ × Functor). q.0) e)
-written_new r a c (Bound integer link inside ∷ xs) x f (inr i) = inr (written_new r (a + 1) c xs x f i)
-written_new r a c (Connector left right ∷ xs) x f i = written_new r a c xs x f i
-written_new r a c (Copy part link inside ∷ xs) x f i = in_right x (r.copied c) (new_atoms r a (c + 1) xs) (written_new r a (c + 1) xs x f i)
-written_new r a c (Membrane inside ∷ xs) x f i = written_new r a c xs x f i
-written_new r a c (Rest of inside ∷ xs) x f i = written_new r a c xs x f i
-written_new r a c (Rule rule inside ∷ xs) x f i = written_new r a c xs x f i
-written_new r a c (Rules of inside ∷ xs) x f i = written_new r a c xs x f i
+pub written_new : (r : Registers) (qs : RestCopies) (a c : ℕ) (body : List BodyItem) (x : ℕ) (f : Functor) → IsOneOf {A = ℕ × Functor} (x, f) (made_of r a body) → In x (new_atoms r qs a c body)
+written_new r qs a c [] x f i = absurd i
+written_new r qs a c (Atom functor ls inside ∷ xs) x f (inl e) = inl (ap (λ (q : ℕ × Functor). q.0) e)
+written_new r qs a c (Atom functor ls inside ∷ xs) x f (inr i) = inr (written_new r qs (a + 1) c xs x f i)
+written_new r qs a c (Bound integer link inside ∷ xs) x f (inl e) = inl (ap (λ (q : ℕ × Functor). q.0) e)
+written_new r qs a c (Bound integer link inside ∷ xs) x f (inr i) = inr (written_new r qs (a + 1) c xs x f i)
+written_new r qs a c (Connector left right ∷ xs) x f i = written_new r qs a c xs x f i
+written_new r qs a c (Copy part link inside ∷ xs) x f i = in_right x (r.copied c) (new_atoms r qs a (c + 1) xs) (written_new r qs a (c + 1) xs x f i)
+written_new r qs a c (Membrane inside ∷ xs) x f i = written_new r qs a c xs x f i
+written_new r qs a c (Rest of false inside ∷ xs) x f i = written_new r qs a c xs x f i
+written_new r qs a c (Rest of true inside ∷ xs) x f i = in_right x (qs 0).atoms (new_atoms r (later qs) a c xs) (written_new r (later qs) a c xs x f i)
+written_new r qs a c (Rule rule inside ∷ xs) x f i = written_new r qs a c xs x f i
+written_new r qs a c (Rules of inside ∷ xs) x f i = written_new r qs a c xs x f i
 
 -- in a body without copies only what is written is new
-pub plain_new : (r : Registers) (a c : ℕ) (body : List BodyItem) → NoCopies body → new_atoms r a c body ≡ numbers (made_of r a body)
-plain_new r a c [] s = refl
-plain_new r a c (Atom functor links inside ∷ xs) s = ap (λ ys. r.head.images.atom a ∷ ys) (plain_new r (a + 1) c xs s)
-plain_new r a c (Bound integer link inside ∷ xs) s = ap (λ ys. r.head.images.atom a ∷ ys) (plain_new r (a + 1) c xs s)
-plain_new r a c (Connector left right ∷ xs) s = plain_new r a c xs s
-plain_new r a c (Copy part link inside ∷ xs) s = absurd s
-plain_new r a c (Membrane inside ∷ xs) s = plain_new r a c xs s
-plain_new r a c (Rest of inside ∷ xs) s = plain_new r a c xs s
-plain_new r a c (Rule rule inside ∷ xs) s = plain_new r a c xs s
-plain_new r a c (Rules of inside ∷ xs) s = plain_new r a c xs s
+pub plain_new : (r : Registers) (qs : RestCopies) (a c : ℕ) (body : List BodyItem) → NoCopies body → new_atoms r qs a c body ≡ numbers (made_of r a body)
+plain_new r qs a c [] s = refl
+plain_new r qs a c (Atom functor links inside ∷ xs) s = ap (λ ys. r.head.images.atom a ∷ ys) (plain_new r qs (a + 1) c xs s)
+plain_new r qs a c (Bound integer link inside ∷ xs) s = ap (λ ys. r.head.images.atom a ∷ ys) (plain_new r qs (a + 1) c xs s)
+plain_new r qs a c (Connector left right ∷ xs) s = plain_new r qs a c xs s
+plain_new r qs a c (Copy part link inside ∷ xs) s = absurd s
+plain_new r qs a c (Membrane inside ∷ xs) s = plain_new r qs a c xs s
+plain_new r qs a c (Rest of false inside ∷ xs) s = plain_new r qs a c xs s
+plain_new r qs a c (Rest of true inside ∷ xs) s = absurd s
+plain_new r qs a c (Rule rule inside ∷ xs) s = plain_new r qs a c xs s
+plain_new r qs a c (Rules of inside ∷ xs) s = plain_new r qs a c xs s
 
 -- an atom of a copy is a new one
-pub copied_new : (r : Registers) (a c : ℕ) (body : List BodyItem) (e : ℕ × ℕ) (y : ℕ) → IsOneOf e (copies_of c body) → In y (r.copied e.0) → In y (new_atoms r a c body)
-copied_new r a c [] e y i j = absurd i
-copied_new r a c (Atom functor ls inside ∷ xs) e y i j = inr (copied_new r (a + 1) c xs e y i j)
-copied_new r a c (Bound integer link inside ∷ xs) e y i j = inr (copied_new r (a + 1) c xs e y i j)
-copied_new r a c (Connector left right ∷ xs) e y i j = copied_new r a c xs e y i j
-copied_new r a c (Copy part link inside ∷ xs) e y (inl q) j = in_left y (r.copied c) (new_atoms r a (c + 1) xs) (subst (λ (z : ℕ × ℕ). In y (r.copied z.0)) (sym q) j)
-copied_new r a c (Copy part link inside ∷ xs) e y (inr i) j = in_right y (r.copied c) (new_atoms r a (c + 1) xs) (copied_new r a (c + 1) xs e y i j)
-copied_new r a c (Membrane inside ∷ xs) e y i j = copied_new r a c xs e y i j
-copied_new r a c (Rest of inside ∷ xs) e y i j = copied_new r a c xs e y i j
-copied_new r a c (Rule rule inside ∷ xs) e y i j = copied_new r a c xs e y i j
-copied_new r a c (Rules of inside ∷ xs) e y i j = copied_new r a c xs e y i j
+pub copied_new : (r : Registers) (qs : RestCopies) (a c : ℕ) (body : List BodyItem) (e : ℕ × ℕ) (y : ℕ) → IsOneOf e (copies_of c body) → In y (r.copied e.0) → In y (new_atoms r qs a c body)
+copied_new r qs a c [] e y i j = absurd i
+copied_new r qs a c (Atom functor ls inside ∷ xs) e y i j = inr (copied_new r qs (a + 1) c xs e y i j)
+copied_new r qs a c (Bound integer link inside ∷ xs) e y i j = inr (copied_new r qs (a + 1) c xs e y i j)
+copied_new r qs a c (Connector left right ∷ xs) e y i j = copied_new r qs a c xs e y i j
+copied_new r qs a c (Copy part link inside ∷ xs) e y (inl q) j = in_left y (r.copied c) (new_atoms r qs a (c + 1) xs) (subst (λ (z : ℕ × ℕ). In y (r.copied z.0)) (sym q) j)
+copied_new r qs a c (Copy part link inside ∷ xs) e y (inr i) j = in_right y (r.copied c) (new_atoms r qs a (c + 1) xs) (copied_new r qs a (c + 1) xs e y i j)
+copied_new r qs a c (Membrane inside ∷ xs) e y i j = copied_new r qs a c xs e y i j
+copied_new r qs a c (Rest of false inside ∷ xs) e y i j = copied_new r qs a c xs e y i j
+copied_new r qs a c (Rest of true inside ∷ xs) e y i j = in_right y (qs 0).atoms (new_atoms r (later qs) a c xs) (copied_new r (later qs) a c xs e y i j)
+copied_new r qs a c (Rule rule inside ∷ xs) e y i j = copied_new r qs a c xs e y i j
+copied_new r qs a c (Rules of inside ∷ xs) e y i j = copied_new r qs a c xs e y i j
 
 -- no new port is named twice
-pub new_ports_once : (r : Registers) (a c : ℕ) (body : List BodyItem) → AllMade body → (h s : Heap) → Written s r a body → AreCopied h s r c body → heap.Distinct (new_atoms r a c body) → NoneTwice (ports (at_heap (new_port r) (new_ports a c body)))
-new_ports_once r a c [] w h s wr cp d = tt
-new_ports_once r a c (Atom functor ls inside ∷ xs) w h s wr cp d =
+pub new_ports_once : (r : Registers) (qs : RestCopies) (a c : ℕ) (body : List BodyItem) → AllMade body → (h s : Heap) → Written s r a body → AreCopied h s r c body → heap.Distinct (new_atoms r qs a c body) → NoneTwice (ports (at_heap (new_port r) (new_ports a c body)))
+new_ports_once r qs a c [] w h s wr cp d = tt
+new_ports_once r qs a c (Atom functor ls inside ∷ xs) w h s wr cp d =
     subst NoneTwice (sym (ap ports (heap_append (new_port r) (new_ports_from a 0 ls) (new_ports (a + 1) c xs)) ∙ ports_append (at_heap (new_port r) (new_ports_from a 0 ls)) (at_heap (new_port r) (new_ports (a + 1) c xs))))
-    (distinct_append (ports (at_heap (new_port r) (new_ports_from a 0 ls))) (ports (at_heap (new_port r) (new_ports (a + 1) c xs))) (one_atom_once r a 0 ls) (new_ports_once r (a + 1) c xs w.1 h s (λ x k. wr x (inr k)) cp d.1)
+    (distinct_append (ports (at_heap (new_port r) (new_ports_from a 0 ls))) (ports (at_heap (new_port r) (new_ports (a + 1) c xs))) (one_atom_once r a 0 ls) (new_ports_once r qs (a + 1) c xs w.1 h s (λ x k. wr x (inr k)) cp d.1)
     (λ p i j.
     let v = of_map (λ (q : Port × ℕ). q.0) p (at_heap (new_port r) (new_ports_from a 0 ls)) i in
     let u = of_map (λ (q : Port × ℕ). q.0) p (at_heap (new_port r) (new_ports (a + 1) c xs)) j in
-    let x = new_is r (a + 1) c xs w.1 h s (λ x k. wr x (inr k)) cp u.0 u.1 in
-    each_in (λ y. r.head.images.atom a ≢ y) (new_atoms r (a + 1) c xs) u.0.0.0 d.0 x.0
+    let x = new_is r qs (a + 1) c xs w.1 h s (λ x k. wr x (inr k)) cp u.0 u.1 in
+    each_in (λ y. r.head.images.atom a ≢ y) (new_atoms r qs (a + 1) c xs) u.0.0.0 d.0 x.0
     (sym (one_atom r a 0 ls v.0 v.1).0 ∙ ap (λ (q : Port). q.0) (v.2 ∙ sym u.2))))
-new_ports_once r a c (Bound integer link inside ∷ xs) w h s wr cp d = (
+new_ports_once r qs a c (Bound integer link inside ∷ xs) w h s wr cp d = (
   (λ j. let u = of_map (λ (q : Port × ℕ). q.0) (r.head.images.atom a, 0) (at_heap (new_port r) (new_ports (a + 1) c xs)) j in
-      let x = new_is r (a + 1) c xs w.1 h s (λ x k. wr x (inr k)) cp u.0 u.1 in
-      each_in (λ y. r.head.images.atom a ≢ y) (new_atoms r (a + 1) c xs) u.0.0.0 d.0 x.0 (sym (ap (λ (q : Port). q.0) u.2))),
-  new_ports_once r (a + 1) c xs w.1 h s (λ x k. wr x (inr k)) cp d.1,
+      let x = new_is r qs (a + 1) c xs w.1 h s (λ x k. wr x (inr k)) cp u.0 u.1 in
+      each_in (λ y. r.head.images.atom a ≢ y) (new_atoms r qs (a + 1) c xs) u.0.0.0 d.0 x.0 (sym (ap (λ (q : Port). q.0) u.2))),
+  new_ports_once r qs (a + 1) c xs w.1 h s (λ x k. wr x (inr k)) cp d.1,
 )
-new_ports_once r a c (Connector left right ∷ xs) w h s wr cp d = new_ports_once r a c xs w.1 h s wr cp d
-new_ports_once r a c (Copy part link inside ∷ xs) w h s wr cp d = (
+new_ports_once r qs a c (Connector left right ∷ xs) w h s wr cp d = new_ports_once r qs a c xs w.1 h s wr cp d
+new_ports_once r qs a c (Copy part link inside ∷ xs) w h s wr cp d = (
   (λ j. let u = of_map (λ (q : Port × ℕ). q.0) (r.copy c) (at_heap (new_port r) (new_ports a (c + 1) xs)) j in
-      let x = new_is r a (c + 1) xs w.1 h s wr (λ x k. cp x (inr k)) u.0 u.1 in
-      apart (r.copied c) (new_atoms r a (c + 1) xs) (r.copy c).0 u.0.0.0 d (cp (c, part) (inl refl)).ours x.0 (sym (ap (λ (q : Port). q.0) u.2))),
-  new_ports_once r a (c + 1) xs w.1 h s wr (λ x k. cp x (inr k)) (distinct_right (r.copied c) (new_atoms r a (c + 1) xs) d),
+      let x = new_is r qs a (c + 1) xs w.1 h s wr (λ x k. cp x (inr k)) u.0 u.1 in
+      apart (r.copied c) (new_atoms r qs a (c + 1) xs) (r.copy c).0 u.0.0.0 d (cp (c, part) (inl refl)).ours x.0 (sym (ap (λ (q : Port). q.0) u.2))),
+  new_ports_once r qs a (c + 1) xs w.1 h s wr (λ x k. cp x (inr k)) (distinct_right (r.copied c) (new_atoms r qs a (c + 1) xs) d),
 )
-new_ports_once r a c (Membrane inside ∷ xs) w h s wr cp d = new_ports_once r a c xs w.1 h s wr cp d
-new_ports_once r a c (Rest of inside ∷ xs) w h s wr cp d = new_ports_once r a c xs w.1 h s wr cp d
-new_ports_once r a c (Rule rule inside ∷ xs) w h s wr cp d = new_ports_once r a c xs w.1 h s wr cp d
-new_ports_once r a c (Rules of inside ∷ xs) w h s wr cp d = new_ports_once r a c xs w.1 h s wr cp d
+new_ports_once r qs a c (Membrane inside ∷ xs) w h s wr cp d = new_ports_once r qs a c xs w.1 h s wr cp d
+new_ports_once r qs a c (Rest of false inside ∷ xs) w h s wr cp d = new_ports_once r qs a c xs w.1 h s wr cp d
+new_ports_once r qs a c (Rest of true inside ∷ xs) w h s wr cp d = new_ports_once r (later qs) a c xs w.1 h s wr cp (distinct_right (qs 0).atoms (new_atoms r (later qs) a c xs) d)
+new_ports_once r qs a c (Rule rule inside ∷ xs) w h s wr cp d = new_ports_once r qs a c xs w.1 h s wr cp d
+new_ports_once r qs a c (Rules of inside ∷ xs) w h s wr cp d = new_ports_once r qs a c xs w.1 h s wr cp d
 
 -- Counts of links
 
@@ -280,7 +295,7 @@ body_count r a c x (Bound integer link inside ∷ xs) = omega (arith, body_count
 body_count r a c x (Connector left right ∷ xs) = omega (arith, body_count r a c x xs)
 body_count r a c x (Copy part link inside ∷ xs) = omega (arith, body_count r a (c + 1) x xs)
 body_count r a c x (Membrane inside ∷ xs) = body_count r a c x xs
-body_count r a c x (Rest of inside ∷ xs) = body_count r a c x xs
+body_count r a c x (Rest of closed inside ∷ xs) = body_count r a c x xs
 body_count r a c x (Rule rule inside ∷ xs) = body_count r a c x xs
 body_count r a c x (Rules of inside ∷ xs) = body_count r a c x xs
 

@@ -166,7 +166,8 @@ joined_shapes f root (p ∷ ps) s w = joined_shapes f root ps (joined_like f roo
     one false None = w
     one false (Some q) = joined_shape s (f p.0) p.1 q.0 q.1 w
 
-made_shapes : (xs ys : List ℕ) (s : Heap) → ((c : ℕ) → WellShaped (s.atoms c)) → (c : ℕ) → WellShaped ((made_like s xs ys).atoms c)
+-- so it does when copies are made
+pub made_shapes : (xs ys : List ℕ) (s : Heap) → ((c : ℕ) → WellShaped (s.atoms c)) → (c : ℕ) → WellShaped ((made_like s xs ys).atoms c)
 made_shapes [] ys s w = w
 made_shapes (x ∷ xs) [] s w = w
 made_shapes (x ∷ xs) (y ∷ ys) s w = made_shapes xs ys (made_as s y (functor_of s x)) (one (functor_of s x))
@@ -241,7 +242,7 @@ pub record HasCopy (h s : Heap) (root copy : Port) (ys : List ℕ) : Type 0 wher
   pub free : partners s copy ≡ None
   pub inside : (p : Port) → In p.0 ys → p.1 < arity_of s p.0 → p ≢ copy → (q : Port) × In q.0 ys × (partners s p ≡ Some q)
 
-abbrev link_at : Option HeapAtom → ℕ → Option Port
+abbrev pub link_at : Option HeapAtom → ℕ → Option Port
 link_at o i = slice_index_or (partners_of o) i None
 
 -- what was there before stays as it was

@@ -52,7 +52,7 @@ commits_placed r a m c (Bound integer link inside ∷ xs) p s t w = commits_plac
 commits_placed r a m c (Connector left right ∷ xs) p s t w = commits_placed r a m c xs p.1 s t w
 commits_placed r a m c (Copy part link inside ∷ xs) p s t w = absurd p.0
 commits_placed r a m c (Membrane inside ∷ xs) p s t w = absurd p.0
-commits_placed r a m c (Rest of inside ∷ xs) p s t w = absurd p.0
+commits_placed r a m c (Rest of closed inside ∷ xs) p s t w = absurd p.0
 commits_placed r a m c (Rule rule inside ∷ xs) p s t w = absurd p.0
 commits_placed r a m c (Rules of inside ∷ xs) p s t w = absurd p.0
 
@@ -72,7 +72,7 @@ prepares_made r a m c (Bound integer link inside ∷ xs) p s t w =
 prepares_made r a m c (Connector left right ∷ xs) p s t w = prepares_made r a m c xs p.1 s t w
 prepares_made r a m c (Copy part link inside ∷ xs) p s t w = absurd p.0
 prepares_made r a m c (Membrane inside ∷ xs) p s t w = absurd p.0
-prepares_made r a m c (Rest of inside ∷ xs) p s t w = absurd p.0
+prepares_made r a m c (Rest of closed inside ∷ xs) p s t w = absurd p.0
 prepares_made r a m c (Rule rule inside ∷ xs) p s t w = absurd p.0
 prepares_made r a m c (Rules of inside ∷ xs) p s t w = absurd p.0
 

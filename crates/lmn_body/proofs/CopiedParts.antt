@@ -24,7 +24,7 @@ Parts P (Connector left right ∷ xs) = Parts P xs
 Parts P (Copy part link inside ∷ xs) = P part × Parts P xs
 Parts P (Bound integer link inside ∷ xs) = Parts P xs
 Parts P (Membrane inside ∷ xs) = Parts P xs
-Parts P (Rest of inside ∷ xs) = Parts P xs
+Parts P (Rest of closed inside ∷ xs) = Parts P xs
 Parts P (Rule rule inside ∷ xs) = Parts P xs
 Parts P (Rules of inside ∷ xs) = Parts P xs
 
@@ -36,7 +36,7 @@ each_part P c (Copy part link inside ∷ xs) w e (inl q) = subst (λ (z : ℕ ×
 each_part P c (Copy part link inside ∷ xs) w e (inr i) = each_part P (c + 1) xs w.1 e i
 each_part P c (Bound integer link inside ∷ xs) w e i = each_part P c xs w e i
 each_part P c (Membrane inside ∷ xs) w e i = each_part P c xs w e i
-each_part P c (Rest of inside ∷ xs) w e i = each_part P c xs w e i
+each_part P c (Rest of closed inside ∷ xs) w e i = each_part P c xs w e i
 each_part P c (Rule rule inside ∷ xs) w e i = each_part P c xs w e i
 each_part P c (Rules of inside ∷ xs) w e i = each_part P c xs w e i
 

@@ -31,7 +31,7 @@ use Rattle.lmn_body.specs.declared.items.BodyItem.TheVariants as item
 use Rattle.lmn_body.specs.Tied.{partners}
 use Rattle.lmn_body.specs.Items.{port_at, new_ports, old_ports, once_in, connectors, body_links, AllMade, Simple}
 use Rattle.lmn_body.specs.Running.{Registers, old_port, new_port, integer_functor}
-use Rattle.lmn_body.specs.Rules.{AtomRule, PartAtoms}
+use Rattle.lmn_body.specs.Rules.{AtomRule, PartAtoms, closed_rests}
 use Rattle.lmn_heap.proofs.Depths.{both_distinct}
 use Rattle.lmn_body.specs.Names.{StandsPort, Names}
 use Rattle.lmn_body.proofs.Phases.{AllHome, AllStand, atoms_of_pairs}
@@ -43,7 +43,11 @@ use Rattle.lmn_body.proofs.Coding.{at_heap}
 use Rattle.lmn_body.specs.Made.{made_of, places_of, new_atoms, copies_of}
 use Rattle.lmn_body.proofs.HeadPorts.{times_one, in_map, of_map, at_atoms_in, in_at_atoms, at_atoms_once, other_port, once_in_of, of_once_in}
 use Rattle.lmn_body.proofs.BodyPorts.{heap_in, of_heap, IsNewPort, Written, NewOrInside, new_is, new_all, new_ports_once, body_count, once_count}
-use Rattle.lmn_body.proofs.Committing.{Poised, EndsLive}
+use Rattle.lmn_body.proofs.Committing.{Poised, LiveIn}
+use Rattle.lmn_body.proofs.RestsMade.{HaveRestCopies}
+use Rattle.lmn_body.specs.RestCopies.{RestCopies, later}
+use Rattle.lmn_body.specs.Fired.{images_of}
+use Rattle.lmn_parts.specs.Rests.{NoneLeaves}
 use Rattle.lmn_congruence.specs.Links.{places, one_if_same}
 use Rattle.lmn_base.proofs.Common.{port_cases}
 use Rattle.lmn_base.proofs.Lists.{get_below, get_there as get_some, in_either}
@@ -98,20 +102,34 @@ distinct_images f (suc n) a once = (
     top : (x : ℕ) → x < suc a + n → x < a + suc n
     top x h = omega arith
 
-places_numbers : (r : Registers) (a c : ℕ) (body : List BodyItem) → atoms_of_pairs (places_of r a c body) ≡ new_atoms r a c body
-places_numbers r a c [] = refl
-places_numbers r a c (item.Atom functor ls inside ∷ xs) = ap (λ ys. r.head.images.atom a ∷ ys) (places_numbers r (a + 1) c xs)
-places_numbers r a c (item.Bound integer link inside ∷ xs) = ap (λ ys. r.head.images.atom a ∷ ys) (places_numbers r (a + 1) c xs)
-places_numbers r a c (item.Connector left right ∷ xs) = places_numbers r a c xs
-places_numbers r a c (item.Copy part link inside ∷ xs) = copy_places (r.head.images.membrane inside) (r.copied c) (places_of r a (c + 1) xs) ∙ ap (λ ys. r.copied c ++ ys) (places_numbers r a (c + 1) xs)
+-- in a body without copies of rests the new atoms are those that have a membrane to which they go
+pub places_numbers : (r : Registers) (qs : RestCopies) (a c : ℕ) (body : List BodyItem) → closed_rests body ≡ [] → atoms_of_pairs (places_of r a c body) ≡ new_atoms r qs a c body
+places_numbers r qs a c [] none = refl
+places_numbers r qs a c (item.Atom functor ls inside ∷ xs) none = ap (λ ys. r.head.images.atom a ∷ ys) (places_numbers r qs (a + 1) c xs none)
+places_numbers r qs a c (item.Bound integer link inside ∷ xs) none = ap (λ ys. r.head.images.atom a ∷ ys) (places_numbers r qs (a + 1) c xs none)
+places_numbers r qs a c (item.Connector left right ∷ xs) none = places_numbers r qs a c xs none
+places_numbers r qs a c (item.Copy part link inside ∷ xs) none = copy_places (r.head.images.membrane inside) (r.copied c) (places_of r a (c + 1) xs) ∙ ap (λ ys. r.copied c ++ ys) (places_numbers r qs a (c + 1) xs none)
   where
     copy_places : (m : ℕ) (ys : List ℕ) (es : List (ℕ × ℕ)) → atoms_of_pairs (map (λ y. (m, y)) ys ++ es) ≡ ys ++ atoms_of_pairs es
     copy_places m [] es = refl
     copy_places m (y ∷ ys) es = ap (λ zs. y ∷ zs) (copy_places m ys es)
-places_numbers r a c (item.Membrane inside ∷ xs) = places_numbers r a c xs
-places_numbers r a c (item.Rest of inside ∷ xs) = places_numbers r a c xs
-places_numbers r a c (item.Rule rule inside ∷ xs) = places_numbers r a c xs
-places_numbers r a c (item.Rules of inside ∷ xs) = places_numbers r a c xs
+places_numbers r qs a c (item.Membrane inside ∷ xs) none = places_numbers r qs a c xs none
+places_numbers r qs a c (item.Rest of false inside ∷ xs) none = places_numbers r qs a c xs none
+places_numbers r qs a c (item.Rest of true inside ∷ xs) none = absurd (cc)
+places_numbers r qs a c (item.Rule rule inside ∷ xs) none = places_numbers r qs a c xs none
+places_numbers r qs a c (item.Rules of inside ∷ xs) none = places_numbers r qs a c xs none
+
+-- a simple body has no closed context
+pub simple_none : (body : List BodyItem) → Simple body → closed_rests body ≡ []
+simple_none [] s = refl
+simple_none (item.Atom functor ls inside ∷ xs) s = simple_none xs s.1
+simple_none (item.Bound integer link inside ∷ xs) s = simple_none xs s.1
+simple_none (item.Connector left right ∷ xs) s = simple_none xs s.1
+simple_none (item.Copy part link inside ∷ xs) s = absurd s.0
+simple_none (item.Membrane inside ∷ xs) s = absurd s.0
+simple_none (item.Rest of closed inside ∷ xs) s = absurd s.0
+simple_none (item.Rule rule inside ∷ xs) s = absurd s.0
+simple_none (item.Rules of inside ∷ xs) s = absurd s.0
 
 stand_at : (s : Heap) (r : Registers) (a c : ℕ) (body : List BodyItem) → Simple body → IsSome (s.mems (r.head.images.membrane 0)) → (mem_place_of s (r.head.images.membrane 0) ≡ Some waiting → ⊥) → AllStand s (places_of r a c body)
 stand_at s r a c [] p i w = tt
@@ -120,27 +138,32 @@ stand_at s r a c (item.Bound integer link inside ∷ xs) p i w = (subst (λ k. I
 stand_at s r a c (item.Connector left right ∷ xs) p i w = stand_at s r a c xs p.1 i w
 stand_at s r a c (item.Copy part link inside ∷ xs) p i w = absurd p.0
 stand_at s r a c (item.Membrane inside ∷ xs) p i w = absurd p.0
-stand_at s r a c (item.Rest of inside ∷ xs) p i w = absurd p.0
+stand_at s r a c (item.Rest of closed inside ∷ xs) p i w = absurd p.0
 stand_at s r a c (item.Rule rule inside ∷ xs) p i w = absurd p.0
 stand_at s r a c (item.Rules of inside ∷ xs) p i w = absurd p.0
 
--- a new atom is written, or one of a copy
-new_or_copied : (s : Heap) (r : Registers) (a c : ℕ) (body : List BodyItem) → Written s r a body → (b : ℕ) → In b (new_atoms r a c body)
+-- a new atom is written, or one of the copy of a part or of a rest
+new_or_copied : (h s : Heap) (r : Registers) (qs : RestCopies) (a c : ℕ) (body : List BodyItem) → Written s r a body → HaveRestCopies h s r qs body → (b : ℕ) → In b (new_atoms r qs a c body)
     → ((f : Functor) × IsOneOf {A = ℕ × Functor} (b, f) (made_of r a body)) ⊎ ((e : ℕ × ℕ) × IsOneOf e (copies_of c body) × In b (r.copied e.0))
-new_or_copied s r a c [] w b i = absurd i
-new_or_copied s r a c (item.Atom functor ls inside ∷ xs) w b (inl e) = inl (functor, inl (λ t. (e t, functor)))
-new_or_copied s r a c (item.Atom functor ls inside ∷ xs) w b (inr i) = elim (new_or_copied s r (a + 1) c xs (λ x k. w x (inr k)) b i) [ inl v ↦ inl (v.0, inr v.1) | inr v ↦ inr v ]
-new_or_copied s r a c (item.Bound integer link inside ∷ xs) w b (inl e) = inl (integer_functor (r.head.integer integer), inl (λ t. (e t, integer_functor (r.head.integer integer))))
-new_or_copied s r a c (item.Bound integer link inside ∷ xs) w b (inr i) = elim (new_or_copied s r (a + 1) c xs (λ x k. w x (inr k)) b i) [ inl v ↦ inl (v.0, inr v.1) | inr v ↦ inr v ]
-new_or_copied s r a c (item.Connector left right ∷ xs) w b i = new_or_copied s r a c xs w b i
-new_or_copied s r a c (item.Copy part link inside ∷ xs) w b i = elim (in_either b (r.copied c) (new_atoms r a (c + 1) xs) i) [
-  | inl j ↦ inr ((c, part), inl refl, j)
-  | inr j ↦ elim (new_or_copied s r a (c + 1) xs w b j) [ inl v ↦ inl v | inr v ↦ inr (v.0, inr v.1, v.2) ]
+    ⊎ ((of : ℕ) × IsOneOf of (closed_rests body) × (x : ℕ) × In x (r.left_atoms of) × (functor_of s b ≡ functor_of h x))
+new_or_copied h s r qs a c [] w rc b i = absurd i
+new_or_copied h s r qs a c (item.Atom functor ls inside ∷ xs) w rc b (inl e) = inl (functor, inl (λ t. (e t, functor)))
+new_or_copied h s r qs a c (item.Atom functor ls inside ∷ xs) w rc b (inr i) = elim (new_or_copied h s r qs (a + 1) c xs (λ x k. w x (inr k)) rc b i) [ inl v ↦ inl (v.0, inr v.1) | inr v ↦ inr v ]
+new_or_copied h s r qs a c (item.Bound integer link inside ∷ xs) w rc b (inl e) = inl (integer_functor (r.head.integer integer), inl (λ t. (e t, integer_functor (r.head.integer integer))))
+new_or_copied h s r qs a c (item.Bound integer link inside ∷ xs) w rc b (inr i) = elim (new_or_copied h s r qs (a + 1) c xs (λ x k. w x (inr k)) rc b i) [ inl v ↦ inl (v.0, inr v.1) | inr v ↦ inr v ]
+new_or_copied h s r qs a c (item.Connector left right ∷ xs) w rc b i = new_or_copied h s r qs a c xs w rc b i
+new_or_copied h s r qs a c (item.Copy part link inside ∷ xs) w rc b i = elim (in_either b (r.copied c) (new_atoms r qs a (c + 1) xs) i) [
+  | inl j ↦ inr (inl ((c, part), inl refl, j))
+  | inr j ↦ elim (new_or_copied h s r qs a (c + 1) xs w rc b j) [ inl v ↦ inl v | inr u ↦ elim u [ inl v ↦ inr (inl (v.0, inr v.1, v.2)) | inr v ↦ inr (inr v) ] ]
 ]
-new_or_copied s r a c (item.Membrane inside ∷ xs) w b i = new_or_copied s r a c xs w b i
-new_or_copied s r a c (item.Rest of inside ∷ xs) w b i = new_or_copied s r a c xs w b i
-new_or_copied s r a c (item.Rule rule inside ∷ xs) w b i = new_or_copied s r a c xs w b i
-new_or_copied s r a c (item.Rules of inside ∷ xs) w b i = new_or_copied s r a c xs w b i
+new_or_copied h s r qs a c (item.Membrane inside ∷ xs) w rc b i = new_or_copied h s r qs a c xs w rc b i
+new_or_copied h s r qs a c (item.Rest of false inside ∷ xs) w rc b i = new_or_copied h s r qs a c xs w rc b i
+new_or_copied h s r qs a c (item.Rest of true inside ∷ xs) w rc b i = elim (in_either b (qs 0).atoms (new_atoms r (later qs) a c xs) i) [
+  | inl j ↦ (let v = rc.0.from b j in inr (inr (of, inl refl, v.0, v.1, v.2)))
+  | inr j ↦ elim (new_or_copied h s r (later qs) a c xs w rc.1 b j) [ inl v ↦ inl v | inr u ↦ elim u [ inl v ↦ inr (inl v) | inr v ↦ inr (inr (v.0, inr v.1, v.2, v.3, v.4)) ] ]
+]
+new_or_copied h s r qs a c (item.Rule rule inside ∷ xs) w rc b i = new_or_copied h s r qs a c xs w rc b i
+new_or_copied h s r qs a c (item.Rules of inside ∷ xs) w rc b i = new_or_copied h s r qs a c xs w rc b i
 
 -- no new atom is a connector
 plain_made : (r : Registers) (a : ℕ) (body : List BodyItem) → AllMade body → (e : ℕ × Functor) → IsOneOf e (made_of r a body) → e.1 ≢ connector
@@ -155,7 +178,7 @@ plain_made r a (item.Bound integer link inside ∷ xs) w e (inr i) g = plain_mad
 plain_made r a (item.Connector left right ∷ xs) w e i g = plain_made r a xs w.1 e i g
 plain_made r a (item.Copy part link inside ∷ xs) w e i g = plain_made r a xs w.1 e i g
 plain_made r a (item.Membrane inside ∷ xs) w e i g = plain_made r a xs w.1 e i g
-plain_made r a (item.Rest of inside ∷ xs) w e i g = plain_made r a xs w.1 e i g
+plain_made r a (item.Rest of closed inside ∷ xs) w e i g = plain_made r a xs w.1 e i g
 plain_made r a (item.Rule rule inside ∷ xs) w e i g = plain_made r a xs w.1 e i g
 plain_made r a (item.Rules of inside ∷ xs) w e i g = plain_made r a xs w.1 e i g
 
@@ -258,9 +281,19 @@ olds_once r N once xs (o ∷ os) d below = by (times o.link xs == 1) (olds_once 
     )
     by false w = w
 
-module _ (h : Heap) (valid : Valid h) (head : List HeadItem) (body : List BodyItem) (n m : ℕ) (r : Registers) (rule : AtomRule head body n)
-    (em : Lies h head m r.head.images) (stand : IsMemInPlace h m) (c : Port → ℕ) (names : Names h c) (free : Brought c h r (length (atoms_of head)) body)
-    (ps : List ℕ) (parts : PartAtoms h head r.head.images ps) where
+-- What is asked of rests in a heap.
+--   placed        the atoms of a rest that is copied stand in membranes
+--   drop_*        the atoms ds of dropped rests, too; none of them is taken, and no link leaves them
+pub record RestsHold (h : Heap) (r : Registers) (body : List BodyItem) (ns ds : List ℕ) : Type 0 where
+  pub placed : (of : ℕ) → IsOneOf of (closed_rests body) → (a : ℕ) → In a (r.left_atoms of) → IsInPlace h a
+  pub drop_placed : (a : ℕ) → In a ds → IsInPlace h a
+  pub drop_apart : (a : ℕ) → In a ds → In a ns → ⊥
+  pub drop_stays : NoneLeaves h ds
+  pub drop_once : heap.Distinct ds
+
+module _ (h : Heap) (valid : Valid h) (head : List HeadItem) (body : List BodyItem) (n m : ℕ) (r : Registers) (qs : RestCopies) (rule : AtomRule head body n)
+    (em : Lies h head m r.head.images) (stand : IsMemInPlace h m) (c : Port → ℕ) (names : Names h c) (free : Brought c h r qs (length (atoms_of head)) body)
+    (ps : List ℕ) (parts : PartAtoms h head r.head.images ps) (ds : List ℕ) (dr : RestsHold h r body (images_of r head ++ ps) ds) where
   abbrev pub N : ℕ
   N = length (atoms_of head)
 
@@ -271,7 +304,7 @@ module _ (h : Heap) (valid : Valid h) (head : List HeadItem) (body : List BodyIt
   es = places_of r N 0 body
 
   abbrev pub new : List ℕ
-  new = new_atoms r N 0 body
+  new = new_atoms r qs N 0 body
 
   abbrev pub s : Heap
   s = free.heap
@@ -282,6 +315,10 @@ module _ (h : Heap) (valid : Valid h) (head : List HeadItem) (body : List BodyIt
 
   abbrev pub ns : List ℕ
   ns = map r.head.images.atom (rising 0 N) ++ ps
+
+  -- what is taken and what is dropped
+  abbrev pub outs : List ℕ
+  outs = ns ++ ds
 
   abbrev pub news : List (Port × ℕ)
   news = at_heap (new_port r) (new_ports N 0 body)
@@ -371,22 +408,19 @@ module _ (h : Heap) (valid : Valid h) (head : List HeadItem) (body : List BodyIt
   -- Splice
 
   abbrev pub F : Port → Type 0
-  F = EndsLive s ns es
-
-  pub es_numbers : atoms_of_pairs es ≡ new
-  es_numbers = places_numbers r N 0 body
+  F = LiveIn s outs new
 
   new_entry : (p : Port) → IsOneOf p (ports news) → IsNewPort s new p
-  new_entry p i = let w = of_map (λ (e : Port × ℕ). e.0) p news i in subst (IsNewPort s new) w.2 (new_is r N 0 body rule.made h s free.written free.copies w.0 w.1)
+  new_entry p i = let w = of_map (λ (e : Port × ℕ). e.0) p news i in subst (IsNewPort s new) w.2 (new_is r qs N 0 body rule.made h s free.written free.copies w.0 w.1)
 
   new_atom_in : (p : Port) → IsOneOf p (ports news) → In p.0 new
   new_atom_in p i = (new_entry p i).0
 
   new_live : (p : Port) → IsOneOf p (ports news) → F p × (partners s p ≡ None)
-  new_live p i = let w = new_entry p i in ((w.1, inr (subst (In p.0) (sym es_numbers) w.0)), w.2)
+  new_live p i = let w = new_entry p i in ((w.1, inr w.0), w.2)
 
-  all_new : (p : Port) → p.1 < arity_of s p.0 → In p.0 new → NewOrInside s r N 0 body p
-  all_new p b i = new_all r N 0 body rule.made h s free.written free.copies p i b
+  all_new : (p : Port) → p.1 < arity_of s p.0 → In p.0 new → NewOrInside s r qs N 0 body p
+  all_new p b i = new_all r qs N 0 body rule.made h s free.written free.copies free.rests p i b
 
   -- an old port: a head port whose link stands once in the head
   pub record OldPort (p : Port) : Type 0 where
@@ -430,8 +464,8 @@ module _ (h : Heap) (valid : Valid h) (head : List HeadItem) (body : List BodyIt
 
   old_gone : (p : Port) → IsOneOf p (ports olds) → F p → ⊥
   old_gone p i f = let o = old_entry p i in let same : r.head.images.atom o.k ≡ p.0 = ap (λ (q : Port). q.0) o.is in elim f.1 [
-    | inl w ↦ w.1 (subst (λ z. In z ns) same (is_taken o.k o.number))
-    | inr j ↦ not_new p.0 (subst (IsAtom h) same (is_atom (r.head.images.atom o.k) (head_in_place o.k o.number))) (subst (In p.0) es_numbers j)
+    | inl w ↦ w.1 (in_left p.0 ns ds (subst (λ z. In z ns) same (is_taken o.k o.number)))
+    | inr j ↦ not_new p.0 (subst (IsAtom h) same (is_atom (r.head.images.atom o.k) (head_in_place o.k o.number))) j
   ]
 
   head_below : (o : Occurrence) → IsOneOf o (at_atoms 0 (atoms_of head)) → o.port.0 < N
@@ -512,7 +546,7 @@ module _ (h : Heap) (valid : Valid h) (head : List HeadItem) (body : List BodyIt
   stands_before : (p : Port) → LiveBefore F news olds p → StandsPort h p ⊎ Inside p
   stands_before p (inl w) = elim w.0.1 [
     | inl v ↦ (let i = in_place_old p.0 v.0 in inl (i, subst (λ z. p.1 < z) (arity_old p.0 i) w.0.0))
-    | inr j ↦ (let i = subst (In p.0) es_numbers j in elim (all_new p w.0.0 i) [
+    | inr j ↦ (let i = j in elim (all_new p w.0.0 i) [
       | inl k ↦ absurd (w.1 k)
       | inr u ↦ inr (u.0, i, u.1, u.2)
     ])
@@ -523,16 +557,16 @@ module _ (h : Heap) (valid : Valid h) (head : List HeadItem) (body : List BodyIt
   inside_lives : (p q : Port) → In q.0 new → partners s p ≡ Some q → LiveBefore F news olds q × (q ≢ p)
   inside_lives p q j e =
       let back : partners s q ≡ Some p = free.sound.paired.back p.0 p.1 q.0 q.1 e in (
-        inl ((port_within s q.0 q.1 p back, inr (subst (In q.0) (sym es_numbers) j)), λ i. let z : ◌≡◌ {A = Option Port} None (Some p) = sym (new_live q i).1 ∙ back in absurd (cc)),
+        inl ((port_within s q.0 q.1 p back, inr j), λ i. let z : ◌≡◌ {A = Option Port} None (Some p) = sym (new_live q i).1 ∙ back in absurd (cc)),
         λ f. free.sound.paired.apart p.0 p.1 (e ∙ ap Some f),
       )
 
   -- the port at the other end of a live port is live too
   other_lives : (p q : Port) → LiveBefore F news olds p → StandsPort h q → partners h q ≡ Some p → LiveBefore F news olds q
-  other_lives p q l st e = elim (decide_in q.0 ns) [
+  other_lives p q l st e = elim (decide_in q.0 outs) [
     | inr o ↦ inl ((subst (λ z. q.1 < z) (sym (arity_old q.0 st.0)) st.1, inl (in_place_new q.0 st.0, o)), λ i. not_new q.0 (is_atom q.0 st.0) (new_atom_in q i))
-    | inl i ↦ elim (in_either q.0 images ps i) [
-      | inr j ↦ absurd (part_never q j p l e)
+    | inl i ↦ elim (taken_how q.0 i) [
+      | inr j ↦ elim j [ inl u ↦ absurd (part_never q u p l e) | inr u ↦ absurd (drop_never q u p l e) ]
       | inl j ↦ (let k = image_is q.0 j in
           let a = arity_in k.0 q.1 k.1 (subst (λ z. q.1 < arity_of h z) (sym k.2) st.1) in
           let x = get_some a.0.links q.1 a.2 in
@@ -545,12 +579,27 @@ module _ (h : Heap) (valid : Valid h) (head : List HeadItem) (body : List BodyIt
     ]
   ]
     where
+      taken_how : (a : ℕ) → In a outs → In a images ⊎ In a ps ⊎ In a ds
+      taken_how a i = elim (in_either a ns ds i) [ inl j ↦ elim (in_either a images ps j) [ inl k ↦ inl k | inr k ↦ inr (inl k) ] | inr j ↦ inr (inr j) ]
+
+      -- no live port is one of a dropped atom
+      drop_never : (q : Port) → In q.0 ds → (p : Port) → LiveBefore F news olds p → partners h q ≡ Some p → ⊥
+      drop_never q i p l e =
+          let j = dr.drop_stays q.0 q.1 p.0 p.1 i e in
+          elim l [
+            | inl v ↦ elim v.0.1 [
+              | inl u ↦ u.1 (in_right p.0 ns ds j)
+              | inr k ↦ not_new p.0 (is_atom p.0 (dr.drop_placed p.0 j)) k
+            ]
+            | inr k ↦ (let o = old_entry p k in dr.drop_apart p.0 j (subst (λ z. In z ns) (ap (λ (x : Port). x.0) o.is) (is_taken o.k o.number)))
+          ]
+
       -- no live port is one of a part
       not_in_part : (g : ℕ) (t : heads.HeadTyped) → HasTyped head g t → (p : Port) → LiveBefore F news olds p → Reached (atom_map h) (r.head.images.part g) p.0 → ⊥
       not_in_part g t w p l i = elim l [
         | inl v ↦ elim v.0.1 [
-          | inl u ↦ u.1 (part_taken g t p.0 w i)
-          | inr j ↦ not_new p.0 (is_atom p.0 (part_in_place p.0 (parts.all g t p.0 w i))) (subst (In p.0) es_numbers j)
+          | inl u ↦ u.1 (in_left p.0 ns ds (part_taken g t p.0 w i))
+          | inr j ↦ not_new p.0 (is_atom p.0 (part_in_place p.0 (parts.all g t p.0 w i))) j
         ]
         | inr j ↦ (let o = old_entry p j in part_apart p.0 o.k (parts.all g t p.0 w i) o.number (ap (λ (q : Port). q.0) o.is))
       ]
@@ -561,8 +610,8 @@ module _ (h : Heap) (valid : Valid h) (head : List HeadItem) (body : List BodyIt
           let below = get_below (atoms_of head) k has.0 has.1 in
           elim l [
             | inl v ↦ absurd (elim v.0.1 [
-              | inl u ↦ u.1 (subst (λ z. In z ns) (sym (ap (λ (q : Port). q.0) is_p)) (is_taken k below))
-              | inr j ↦ not_new p.0 (subst (IsAtom h) (sym (ap (λ (q : Port). q.0) is_p)) (is_atom (r.head.images.atom k) (head_in_place k below))) (subst (In p.0) es_numbers j)
+              | inl u ↦ u.1 (in_left p.0 ns ds (subst (λ z. In z ns) (sym (ap (λ (q : Port). q.0) is_p)) (is_taken k below)))
+              | inr j ↦ not_new p.0 (subst (IsAtom h) (sym (ap (λ (q : Port). q.0) is_p)) (is_atom (r.head.images.atom k) (head_in_place k below))) j
             ])
             | inr j ↦ (let o = old_entry p j in
                 let image : ◌≡◌ {A = Port} (r.head.images.atom o.k, o.i) (r.head.images.atom k, i) = o.is ∙ is_p in
@@ -638,7 +687,7 @@ module _ (h : Heap) (valid : Valid h) (head : List HeadItem) (body : List BodyIt
 
   pub splice_at : Splice F c (partners s) news olds wires
   splice_at = record {
-    new_once = new_ports_once r N 0 body rule.made h s free.written free.copies free.brings.once;
+    new_once = new_ports_once r qs N 0 body rule.made h s free.written free.copies free.brings.once;
     old_once = olds_once r N em.atoms_differ (heads.links_of_head head) (at_atoms 0 (atoms_of head)) (at_atoms_once 0 (atoms_of head)) head_below;
     made = new_live;
     gone = old_gone;
@@ -660,23 +709,30 @@ module _ (h : Heap) (valid : Valid h) (head : List HeadItem) (body : List BodyIt
       by (Some x) i = place x x.place refl i
 
   -- no new atom is a connector
-  pub new_plain : (a : ℕ) → In a (atoms_of_pairs es) → functor_of s a ≢ Some connector
-  new_plain a i e = elim (new_or_copied s r N 0 body free.written a (subst (In a) es_numbers i)) [
+  pub new_plain : (a : ℕ) → In a new → functor_of s a ≢ Some connector
+  new_plain a i e = elim (new_or_copied h s r qs N 0 body free.written free.rests a i) [
     | inl w ↦ plain_made r N body rule.made (a, w.0) w.1 (one_functor w.0 connector (sym (ap (λ (o : Option HeapAtom). option_map (λ x. x.functor) o) (free.written (a, w.0) w.1)) ∙ e))
-    | inr w ↦ (let t = rule.copied w.0 w.1 in
-        let u = (free.copies w.0 w.1).from a w.2 in
-        valid.no_connector u.0 (subst (λ (o : Option ℕ). IsSome o) (sym ((em.parts w.0.1 t.0 t.1).whole.at_home u.0 u.1)) refl) (sym u.2 ∙ e))
+    | inr z ↦ elim z [
+      | inl w ↦ (let t = rule.copied w.0 w.1 in
+          let u = (free.copies w.0 w.1).from a w.2 in
+          valid.no_connector u.0 (subst (λ (o : Option ℕ). IsSome o) (sym ((em.parts w.0.1 t.0 t.1).whole.at_home u.0 u.1)) refl) (sym u.2 ∙ e))
+      | inr w ↦ valid.no_connector w.2 (dr.placed w.0 w.1 w.2 w.3) (sym w.4 ∙ e)
+    ]
   ]
     where
       one_functor : (f g : Functor) → ◌≡◌ {A = Option Functor} (Some f) (Some g) → f ≡ g
       one_functor f g e = (cc)
+
+  -- the new atoms of a simple body have membranes to which they go
+  pub es_numbers : Simple body → atoms_of_pairs es ≡ new
+  es_numbers simple = places_numbers r qs N 0 body (simple_none body simple)
 
   pub poised : Simple body → Poised s ns es valid.tree.0
   poised simple = record {
     sound = free.sound;
     once = ns_once;
     home = home_s;
-    line = free.brings.line ∙ ap (λ xs. xs ++ new) (no_waiting h valid.sound.listed valid.settled) ∙ sym es_numbers;
+    line = free.brings.line ∙ ap (λ xs. xs ++ new) (no_waiting h valid.sound.listed valid.settled) ∙ sym (es_numbers simple);
     stand = let w = stands_mem m stand in stand_at s r N 0 body simple
         (subst (λ (f : ℕ → Option HeapMem). IsSome (f (r.head.images.membrane 0))) (sym free.mems) (subst (λ z. IsSome (h.mems z)) (sym em.here) w.0))
         (subst (λ (f : ℕ → Option HeapMem). option_map (λ x. x.place) (f (r.head.images.membrane 0)) ≡ Some waiting → ⊥) (sym free.mems) (subst (λ z. mem_place_of h z ≡ Some waiting → ⊥) (sym em.here) w.1));
@@ -686,7 +742,7 @@ module _ (h : Heap) (valid : Valid h) (head : List HeadItem) (body : List BodyIt
     flat_once = valid.tree.1.once;
     all = λ q is. valid.tree.1.all q (subst (λ (f : ℕ → Option HeapMem). IsSome (f q)) free.mems is);
     plain = λ a i e. let j = in_place_old a i in valid.no_connector a j (sym (ap (λ (o : Option HeapAtom). option_map (λ x. x.functor) o) (old_atom a (is_atom a j))) ∙ e);
-    new_plain = new_plain;
+    new_plain = λ a i. new_plain a (subst (In a) (es_numbers simple) i);
   }
     where
       never : (q : ℕ) → mem_place_of h q ≡ Some gone → ⊥
@@ -725,7 +781,7 @@ module _ (h : Heap) (valid : Valid h) (head : List HeadItem) (body : List BodyIt
 
   -- the port of a new atom is named by its link
   pub new_link : (e : Port × ℕ) → IsOneOf e news → raw_link news c e.0 ≡ of_rule e.1
-  new_link e i = ap (raw_by (c e.0)) (link_found news (new_ports_once r N 0 body rule.made h s free.written free.copies free.brings.once) e.0 e.1 i)
+  new_link e i = ap (raw_by (c e.0)) (link_found news (new_ports_once r qs N 0 body rule.made h s free.written free.copies free.brings.once) e.0 e.1 i)
 
   -- the port of an atom that is left is named by its link in the solid
   pub kept_link : (p : Port) → IsInPlace h p.0 → raw_link news c p ≡ of_solid (c p)

@@ -4,6 +4,12 @@ pub mod Finishing
 pub mod Committing
 pub mod Making
 pub mod Brought
+pub mod RestJoins
+pub mod RestsMade
+pub mod RestGrowing
+pub mod MemsMade
+pub mod RestMems
+pub mod RestListing
 pub mod Coding
 pub mod HeadPorts
 pub mod BodyPorts
@@ -21,7 +27,13 @@ pub mod TreeAfter
 pub mod Parts
 pub mod Below
 pub mod Places
+pub mod Contents
+pub mod Rooms
+pub mod Dropping
 pub mod MemListing
+pub mod MakingListed
+pub mod Held
+pub mod Drops
 pub mod Soundness
 pub mod RemovalsCan
 pub mod LinksCan
@@ -29,6 +41,7 @@ pub mod MakingCan
 pub mod BodyCan
 pub mod SolidWithin
 pub mod SolidCopies
+pub mod SolidRests
 pub mod Flattened
 pub mod Stops
 pub mod Numbering

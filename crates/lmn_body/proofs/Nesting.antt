@@ -2,9 +2,9 @@
 use Rattle.std.proofs.Common.{ℕ, zero, suc, ◌+◌, ◌<◌, ◌≤◌, ◌≡◌, ◌⊎◌, Bool, true, false, List, [], ◌∷◌, ◌++◌, length, Option, Some, None, IsSome, refl, sym, ap, subst, ◌∙◌, inl, inr, arith}
 use Rattle.std.specs.Option.{option_map, option_and_then}
 use Rattle.std.specs.Prelude as prelude
-use Rattle.lmn_heap.specs.Heap.{Heap, HeapAtom, HeapMem, top, within, waiting, gone, home_by, partners_of, functor_of, arity_of, link_of, place_of, mem_place_of, home_of, atoms_in, mems_in, rules_in, atoms_by, mems_by, rules_by, IsMem, IsInPlace, IsMemInPlace, Distinct, finished, taken_all}
+use Rattle.lmn_heap.specs.Heap.{Heap, HeapAtom, HeapMem, Place, top, within, waiting, gone, home_by, partners_of, functor_of, arity_of, link_of, place_of, mem_place_of, home_of, atoms_in, mems_in, rules_in, atoms_by, mems_by, rules_by, IsMem, IsInPlace, IsMemInPlace, Distinct, finished, taken_all}
 use Rattle.lmn_heap.specs.Heap as heap
-use Rattle.lmn_heap.specs.Sound.{Paired, Valid, Sound}
+use Rattle.lmn_heap.specs.Sound.{Paired, Listed, Valid, Sound}
 use Rattle.lmn_heap.specs.Conditions.{Ready}
 use Rattle.lmn_heap.proofs.ListLemmas.{in_left, in_right, in_withouts}
 use Rattle.lmn_heap.proofs.Listing.{same_paired, listed_mem as listed_some}
@@ -25,46 +25,83 @@ use Rattle.lmn_body.specs.Running.{Registers, old_port, new_port, DoesAll}
 use Rattle.lmn_body.specs.Names.{StandsPort, Names}
 use Rattle.lmn_body.specs.Added.{added_atoms, added_mems, added_rules, moved_mems, made_mems}
 use Rattle.lmn_body.specs.Fired.{images_of}
-use Rattle.lmn_body.specs.Within.{membrane_images, IsCopyIn, FiresWithin}
+use Rattle.lmn_body.specs.Within.{membrane_images, dropped_atoms, dropped_mems, removed_mems, IsCopyIn, FiresWithin}
 use Rattle.lmn_body.proofs.HeapTies.{SameItems, heap_fusion}
-use Rattle.lmn_body.proofs.Phases.{atoms_of_pairs}
+use Rattle.lmn_body.proofs.Phases.{all_taken_after}
 use Rattle.lmn_body.proofs.Coding.{at_heap}
-use Rattle.lmn_body.specs.Made.{places_of, new_atoms, copies_of}
+use Rattle.lmn_body.specs.Made.{new_atoms, copies_of}
+use Rattle.lmn_body.specs.RestCopies.{RestCopies, later, AreRestsCopied}
+use Rattle.lmn_body.specs.declared.items.BodyItem.TheVariants.{Atom, Connector, Copy, Bound, Membrane, Rest, Rule, Rules}
+use Rattle.lmn_body.proofs.RestsMade.{HaveRestCopies}
+use Rattle.lmn_body.proofs.MakingListed.{taken_mems_listed, making_listed}
+use Rattle.lmn_body.proofs.MakingListed.{Ready as MakingReady}
 use Rattle.lmn_body.proofs.BodyPorts.{heap_in, written_new, copied_new}
 use Rattle.lmn_body.proofs.Finishing.{within_of, in_place_within, in_place_listed, ready, names_left, stands_on}
-use Rattle.lmn_body.proofs.Committing.{in_withouts_of, EndsLive}
-use Rattle.lmn_body.specs.Rules.{AtomRule, Goes, Exists, PartAtoms}
-use Rattle.lmn_body.proofs.Firing.{distinct_images, in_place_old, is_taken, part_taken, ns_once, home_s, old_atom, is_atom, taken_in_place, splice_at, links_below, new_link, kept_link, inner_link, kept_functor, new_functor, in_place_new, es_numbers}
+use Rattle.lmn_body.proofs.Committing.{in_withouts_of, LiveIn}
+use Rattle.lmn_body.specs.Rules.{AtomRule, Goes, Exists, Nests, PartAtoms}
+use Rattle.lmn_body.proofs.Firing.{distinct_images, in_place_old, is_taken, part_taken, ns_once, home_s, old_atom, is_atom, taken_in_place, splice_at, links_below, new_link, kept_link, inner_link, kept_functor, new_functor, in_place_new}
 use Rattle.lmn_body.proofs.Below.{removed_is as image_of_head, is_removed as head_is_image}
 use Rattle.lmn_body.proofs.Growing.{some_there}
-use Rattle.lmn_body.proofs.MakingParts.{GrownBy, making_grows, same_atoms_added, same_mems_added, same_rules_added}
-use Rattle.lmn_body.proofs.Removing.{Shrunk, InOneList, MemInOneList, all_taken_mems, shrunk_atoms, shrunk_mems, shrunk_after, taken_places, place_parent}
+use Rattle.lmn_body.proofs.MakingParts.{GrownBy, Made, making_grows, same_atoms_added, same_mems_added, same_rules_added}
+use Rattle.lmn_body.proofs.Removing.{Shrunk, InOneList, MemInOneList, all_taken_mems, shrunk_atoms, shrunk_mems, shrunk_after, taken_places, place_parent, taken_mems_wait}
+use Rattle.lmn_body.proofs.Held.{Held, HoldsRest}
+use Rattle.lmn_body.proofs.Drops.{drops_shrink}
+use Rattle.lmn_body.proofs.Contents.{without_none}
 use Rattle.lmn_body.proofs.Preparing.{Brought, AllPrepared}
 use Rattle.lmn_body.proofs.AddedLemmas.{comes_from, new_arrives, moved_arrives}
 use Rattle.lmn_base.specs.Graphs.{Port}
 use Rattle.lmn_heap.specs.Lists.{without_all}
 use Rattle.lmn_heap.proofs.Common.{decide_in, place_home}
-use Rattle.lmn_body.specs.Code.{making}
+use Rattle.lmn_body.specs.Code.{making, drops}
 use Rattle.lmn_base.specs.Lists.{In}
 use Rattle.lmn_base.proofs.Lists.{in_either, plus_nothing}
 
-module _ (h : Heap) (valid : Valid h) (head : List HeadItem) (body : List BodyItem) (n m : ℕ) (r : Registers) (rule : AtomRule head body n)
+without_nil : (ns : List ℕ) → without_all ns [] ≡ []
+without_nil [] = refl
+without_nil (n ∷ ns) = without_nil ns
+
+-- copies of rests stay when functors and links of new atoms stay
+rests_then : (r : Registers) (q : RestCopies) (a c : ℕ) (xs : List BodyItem) (h h' s0 : Heap) (new : List ℕ) → ((y : ℕ) → In y (new_atoms r q a c xs) → In y new) → HaveRestCopies h s0 r q xs
+    → ((y : ℕ) → In y new → functor_of h' y ≡ functor_of s0 y) → ((x y : Port) → In x.0 new → In y.0 new → partners s0 x ≡ Some y → partners h' x ≡ Some y) → AreRestsCopied h h' r q xs
+rests_then r q a c [] h h' s0 new sub w f j = tt
+rests_then r q a c (Atom functor links inside ∷ xs) h h' s0 new sub w f j = rests_then r q (a + 1) c xs h h' s0 new (λ y i. sub y (inr i)) w f j
+rests_then r q a c (Connector left right ∷ xs) h h' s0 new sub w f j = rests_then r q a c xs h h' s0 new sub w f j
+rests_then r q a c (Copy part link inside ∷ xs) h h' s0 new sub w f j = rests_then r q a (c + 1) xs h h' s0 new (λ y i. sub y (in_right y (r.copied c) (new_atoms r q a (c + 1) xs) i)) w f j
+rests_then r q a c (Bound integer link inside ∷ xs) h h' s0 new sub w f j = rests_then r q (a + 1) c xs h h' s0 new (λ y i. sub y (inr i)) w f j
+rests_then r q a c (Membrane inside ∷ xs) h h' s0 new sub w f j = rests_then r q a c xs h h' s0 new sub w f j
+rests_then r q a c (Rest of false inside ∷ xs) h h' s0 new sub w f j = rests_then r q a c xs h h' s0 new sub w f j
+rests_then r q a c (Rest of true inside ∷ xs) h h' s0 new sub w f j =
+    let k = w.0 in
+    let at : (x : ℕ) → In x (r.left_atoms of) → In (answer (r.left_atoms of) (q 0).atoms x) new = λ x i.
+    sub (answer (r.left_atoms of) (q 0).atoms x) (in_left (answer (r.left_atoms of) (q 0).atoms x) (q 0).atoms (new_atoms r (later q) a c xs) (answer_in (r.left_atoms of) (q 0).atoms x (long_enough k.is.long) i)) in (
+      record {
+        long = k.is.long;
+        functors = λ x i. f (answer (r.left_atoms of) (q 0).atoms x) (at x i) ∙ k.is.functors x i;
+        inner = λ x i b l ia e. let v = k.is.inner x i b l ia e in (v.0, j (answer (r.left_atoms of) (q 0).atoms x, i) (answer (r.left_atoms of) (q 0).atoms b, l) (at x ia) (at b v.0) v.1);
+      },
+      rests_then r (later q) a c xs h h' s0 new (λ y i. sub y (in_right y (q 0).atoms (new_atoms r (later q) a c xs) i)) w.1 f j,
+    )
+  where
+    long_enough : {x y : ℕ} → x ≡ y → y ≤ x
+    long_enough {x = x} {y = y} e = omega (arith, e)
+rests_then r q a c (Rule rule inside ∷ xs) h h' s0 new sub w f j = rests_then r q a c xs h h' s0 new sub w f j
+rests_then r q a c (Rules of inside ∷ xs) h h' s0 new sub w f j = rests_then r q a c xs h h' s0 new sub w f j
+
+module _ (h : Heap) (valid : Valid h) (head : List HeadItem) (body : List BodyItem) (n m : ℕ) (r : Registers) (qs : RestCopies) (rule : AtomRule head body n)
     (em : Lies h head m r.head.images) (stand : IsMemInPlace h m) (c : Port → ℕ) (names : Names h c)
-    (goes : Goes r (membrane_images r head) (Exists h r head body) body)
-    (contexts : (k : ℕ) (b : HeadMembrane) → HasMembrane head k b → b.has_context ≡ true → In (r.head.images.membrane k) (moved_mems r body))
-    (ps : List ℕ) (parts : PartAtoms h head r.head.images ps)
-    (s : Heap) (pr : AllPrepared c h s r (length (atoms_of head)) (1 + length (membranes_of head)) body) where
+    (goes : Goes r (removed_mems r head) (Exists h r qs head body) body)
+    (contexts : (k : ℕ) (b : HeadMembrane) → HasMembrane head k b → b.has_context ≡ true → b.has_closed_context ≡ false → In (r.head.images.membrane k) (moved_mems r body))
+    (ps : List ℕ) (parts : PartAtoms h head r.head.images ps) (hs : Held h valid head body m r ps)
+    (s : Heap) (pr : AllPrepared c h s r qs (length (atoms_of head)) (1 + length (membranes_of head)) body)
+    (nests : Nests r m [] (1 + length (membranes_of head)) body) (listed_s : Listed s) where
   abbrev pub N : ℕ
   N = length (atoms_of head)
 
   abbrev pub K : ℕ
   K = length (membranes_of head)
 
-  abbrev pub es : List (ℕ × ℕ)
-  es = places_of r N 0 body
-
   abbrev pub new : List ℕ
-  new = new_atoms r N 0 body
+  new = new_atoms r qs N 0 body
 
   abbrev pub s0 : Heap
   s0 = pr.free.heap
@@ -75,6 +112,25 @@ module _ (h : Heap) (valid : Valid h) (head : List HeadItem) (body : List BodyIt
   abbrev pub ks : List ℕ
   ks = membrane_images r head
 
+  -- the atoms and membranes that are dropped, all atoms that go, and all membranes that are removed
+  abbrev pub ds : List ℕ
+  ds = dropped_atoms r head
+
+  abbrev pub dms : List ℕ
+  dms = dropped_mems r head
+
+  abbrev pub outs : List ℕ
+  outs = ns ++ ds
+
+  abbrev pub gs : List ℕ
+  gs = removed_mems r head
+
+  abbrev pub nm : List ℕ
+  nm = made_mems r qs (1 + K) body
+
+  abbrev pub E : ℕ → Type 0
+  E = Exists h r qs head body
+
   abbrev pub news : List (Port × ℕ)
   news = at_heap (new_port r) (new_ports N 0 body)
 
@@ -84,7 +140,7 @@ module _ (h : Heap) (valid : Valid h) (head : List HeadItem) (body : List BodyIt
   abbrev pub wires : List (ℕ × ℕ)
   wires = connectors body
 
-  abbrev free : Brought c h r N body
+  abbrev free : Brought c h r qs N body
   free = pr.free
 
   abbrev pub same_atom : s.atoms ≡ s0.atoms
@@ -125,8 +181,8 @@ module _ (h : Heap) (valid : Valid h) (head : List HeadItem) (body : List BodyIt
 
   pub once_s : InOneList s ns
   once_s a i =
-      let w = home_s h valid head body n m r rule em stand c names free ps parts a i in
-      let p = taken_in_place h valid head body n m r rule em stand c names free ps parts a i in
+      let w = home_s h valid head body n m r qs rule em stand c names free ps parts ds hs.rests a i in
+      let p = taken_in_place h valid head body n m r qs rule em stand c names free ps parts ds hs.rests a i in
       let v = within_of h a p in
       let at = within_one v.0 w.0 a v.1 (home_as a ∙ w.1) in (
         w.0,
@@ -146,18 +202,18 @@ module _ (h : Heap) (valid : Valid h) (head : List HeadItem) (body : List BodyIt
 
       within_one : (v w a : ℕ) → place_of h a ≡ Some (within v) → home_of s a ≡ Some w → v ≡ w
       within_one v w a e f =
-          let old = in_place_new h valid head body n m r rule em stand c names free ps parts a (in_place_within h a v e) in
+          let old = in_place_new h valid head body n m r qs rule em stand c names free ps parts ds hs.rests a (in_place_within h a v e) in
           one_some v w (sym (place_home h a v e) ∙ sym (same_home_h a (in_place_within h a v e)) ∙ f)
         where
           same_home_h : (a : ℕ) → IsInPlace h a → home_of s a ≡ home_of h a
           same_home_h a i = home_as a ∙ ap (λ (o : Option HeapAtom). option_and_then (λ x. home_by x.place) o)
-              (old_atom h valid head body n m r rule em stand c names free ps parts a (is_atom h valid head body n m r rule em stand c names free ps parts a i))
+              (old_atom h valid head body n m r qs rule em stand c names free ps parts ds hs.rests a (is_atom h valid head body n m r qs rule em stand c names free ps parts ds hs.rests a i))
 
   abbrev pub t1 : Heap
   t1 = taken_all s ns
 
   sh1 : Shrunk s t1 ns []
-  sh1 = shrunk_atoms ns s (ns_once h valid head body n m r rule em stand c names free ps parts) once_s
+  sh1 = shrunk_atoms ns s (ns_once h valid head body n m r qs rule em stand c names free ps parts ds hs.rests) once_s
 
   pub once_t1 : MemInOneList t1 ks
   once_t1 x i =
@@ -196,7 +252,7 @@ module _ (h : Heap) (valid : Valid h) (head : List HeadItem) (body : List BodyIt
   abbrev pub left_mems : ℕ → List ℕ
   left_mems x = without_all ks (mems_in h x)
 
-  atoms_t2 : (x : ℕ) → atoms_in t2 x ≡ left_atoms x
+  pub atoms_t2 : (x : ℕ) → atoms_in t2 x ≡ left_atoms x
   atoms_t2 x = sh.atoms x ∙ ap (without_all ns) (lists_s x).0
 
   pub mems_t2 : (x : ℕ) → mems_in t2 x ≡ left_mems x
@@ -205,7 +261,7 @@ module _ (h : Heap) (valid : Valid h) (head : List HeadItem) (body : List BodyIt
   pub rules_t2 : (x : ℕ) → rules_in t2 x ≡ rules_in h x
   rules_t2 x = sh.rules x ∙ (lists_s x).2
 
-  pub there_t2 : (x : ℕ) → Exists h r head body x → IsSome (t2.mems x)
+  pub there_t2 : (x : ℕ) → E x → IsSome (t2.mems x)
   there_t2 x w = some_there (s.mems x) (t2.mems x) (sh.there x) (elim w [ inl i ↦ pr.mems.there x i | inr i ↦ pr.mems.made x i ])
 
   -- nothing is left of a removed membrane without a context
@@ -213,15 +269,16 @@ module _ (h : Heap) (valid : Valid h) (head : List HeadItem) (body : List BodyIt
   nothing [] d = refl
   nothing (x ∷ xs) d = absurd (d x (inl refl))
 
-  left_empty : (x : ℕ) → In x ks → (In x (moved_mems r body) → ⊥) → (left_atoms x ≡ []) × (left_mems x ≡ [])
-  left_empty x i o =
+  left_empty : (x : ℕ) → In x ks → (In x (moved_mems r body) → ⊥) → (HoldsRest r head x → ⊥) → (left_atoms x ≡ []) × (left_mems x ≡ [])
+  left_empty x i o q =
       let w = removed_is x i in
-      let none = no_context w.1.has_context (λ e. o (subst (λ z. In z (moved_mems r body)) w.3 (contexts w.0 w.1 w.2 e))) in (
+      let none = no_context w.1.has_context (λ e. by_form w.1.has_closed_context refl
+      (λ f. q (subst (HoldsRest r head) w.3 (hs.closed_image w.0 (w.1, w.2, f)))) (λ f. o (subst (λ z. In z (moved_mems r body)) w.3 (contexts w.0 w.1 w.2 e f)))) in (
         nothing (left_atoms x) (λ a j.
             let v = in_withouts_of ns (atoms_in h x) a (valid.sound.listed.atoms_once x) j in
             elim (em.no_other_atom w.0 w.1 a w.2 none (subst (λ z. In a (atoms_in h z)) (sym w.3) v.0)) [
-              | inl u ↦ v.1 (subst (λ z. In z ns) u.2 (is_taken h valid head body n m r rule em stand c names free ps parts u.0 u.1))
-              | inr u ↦ v.1 (part_taken h valid head body n m r rule em stand c names free ps parts u.0 u.1 a u.2 u.4)
+              | inl u ↦ v.1 (subst (λ z. In z ns) u.2 (is_taken h valid head body n m r qs rule em stand c names free ps parts ds hs.rests u.0 u.1))
+              | inr u ↦ v.1 (part_taken h valid head body n m r qs rule em stand c names free ps parts ds hs.rests u.0 u.1 a u.2 u.4)
             ]),
         nothing (left_mems x) (λ a j.
             let v = in_withouts_of ks (mems_in h x) a (valid.sound.listed.mems_once x) j in
@@ -233,239 +290,407 @@ module _ (h : Heap) (valid : Valid h) (head : List HeadItem) (body : List BodyIt
       no_context true d = absurd (d refl)
       no_context false d = refl
 
+      by_form : (t : Bool) → t ≡ t → (t ≡ true → ⊥) → (t ≡ false → ⊥) → ⊥
+      by_form true e f g = f refl
+      by_form false e f g = g refl
+
+  -- lists and places before anything is made
+
+  pub paired_s : Paired s
+  paired_s = same_paired s0 s (λ x i. ap (λ (f : ℕ → Option HeapAtom). prelude.slice_index_or (partners_of (f x)) i None) same_atom) free.sound.paired
+
+  listed_t1 : Listed t1
+  listed_t1 = (all_taken_after ns s listed_s paired_s (ns_once h valid head body n m r qs rule em stand c names free ps parts ds hs.rests) (λ a i. let w = once_s a i in (w.0, w.1))).listed
+
+  pub listed_t2 : Listed t2
+  listed_t2 = taken_mems_listed ks t1 listed_t1 ks_once (λ k i. let w = once_t1 k i in (w.0, w.1))
+
+  fresh_apart : (x : ℕ) → In x nm → IsMem h x → ⊥
+  fresh_apart x i is = let z : IsSome {T = HeapMem} None = subst (λ (o : Option HeapMem). IsSome o) (pr.mems.fresh x i) is in absurd (cc)
+
+  pub new_apart : (x : ℕ) → In x nm → In x gs → ⊥
+  new_apart x i j = fresh_apart x i (hs.removed_mem x j)
+
+  -- what stands in a rest stands where its list says
+  pub rest_inside : (q x : ℕ) → HoldsRest r head q → In x (mems_in t2 q) → In x gs × (mem_place_of t2 x ≡ Some (within q))
+  rest_inside q x w i =
+      let v = in_withouts_of ks (mems_in h q) x (valid.sound.listed.mems_once q) (subst (In x) (mems_t2 q) i) in
+      let d = hs.holds_mems q x w v.0 v.1 in
+      let g = in_right x ks dms d in
+      (g, sh.places x v.1 ∙ pr.mems.places x (hs.removed_mem x g) ∙ (valid.sound.listed.mems q x).0 v.0)
+
+  -- the heap before the making part
+  pub made_t2 : Made r qs gs E m [] N (1 + K) 0 body t2
+  made_t2 = record {
+    there = there_t2;
+    goes = goes;
+    nests = nests;
+    long = free.long;
+    line = ([], sh.line ∙ pr.atoms.line ∙ free.brings.line ∙ ap (λ xs. xs ++ new) (no_waiting h valid.sound.listed valid.settled) ∙ sym (plus_nothing new));
+    mem_line = ([], sh.mem_line ∙ pr.mems.line ∙ ap (λ xs. xs ++ nm) (no_waiting_mems h valid.sound.listed valid.settled) ∙ sym (plus_nothing nm));
+    made = λ y i. (new_apart y i, inr i);
+    once = pr.mems.once;
+    home_apart = λ i. fresh_apart m i hs.home_mem;
+    inside = λ of i p k j l. rest_inside p k (hs.closed_holds of p i j) l;
+    atoms_once = λ of i. (hs.closed of i).once;
+  }
+
+  never_waits : (x : ℕ) → mem_place_of h x ≡ Some waiting → ⊥
+  never_waits x e = by (h.mems x) e (valid.settled.mems x)
+    where
+      place : (y : HeapMem) → y.place ≡ waiting → (Some y.place ≡ Some top) ⊎ IsSome (home_by y.place) → ⊥
+      place y e (inl f) = absurd (let g : Some waiting ≡ Some top = sym (ap (λ z. Some z) e) ∙ f in cc)
+      place y e (inr f) = absurd (let g : IsSome (home_by waiting) = subst (λ z. IsSome (home_by z)) e f in cc)
+
+      by : (o : Option HeapMem) → option_map (λ y. y.place) o ≡ Some waiting
+          → (IsSome o → (option_map (λ y. y.place) o ≡ Some top) ⊎ IsSome (option_and_then (λ y. home_by y.place) o)) → ⊥
+      by None e f = absurd (cc)
+      by (Some y) e f = place y (cc) (f refl)
+
+  old_ready : (x : ℕ) → IsMem h x → IsSome (t2.mems x) × (mem_place_of t2 x ≡ Some waiting → ⊥)
+  old_ready x i = (there_t2 x (inl i), λ e. never_waits x (sym (pr.mems.places x i) ∙ sym (taken_places ns s x) ∙ taken_mems_wait ks t1 x e))
+
+  ready_t2 : MakingReady m [] gs t2
+  ready_t2 x (inl e) = old_ready x (subst (IsMem h) (sym e) hs.home_mem)
+  ready_t2 x (inr (inl i)) = absurd i
+  ready_t2 x (inr (inr i)) = old_ready x (hs.removed_mem x i)
+
   module _ (t3 : Heap) (run : DoesAll r (making N (1 + K) 0 body) t2 t3) where
-    pub gr : GrownBy r ks N (1 + K) 0 body t2 t3
-    gr = making_grows r ks (Exists h r head body) N (1 + K) 0 body goes t2 t3 there_t2 run
+    pub gr : GrownBy r qs gs N (1 + K) 0 body t2 t3
+    gr = making_grows r qs gs E m [] N (1 + K) 0 body t2 t3 made_t2 run
 
-    abbrev pub v : Heap
-    v = all_tied t3 (body_ties news olds wires n)
+    pub listed_t3 : Listed t3
+    listed_t3 = making_listed r qs m gs E [] N (1 + K) 0 body t2 t3 made_t2 ready_t2 listed_t2 run
 
-    abbrev pub F : Port → Type 0
-    F = EndsLive s ns es
+    -- rests are as they were
+    pub held_atoms : (q : ℕ) → HoldsRest r head q → atoms_in t3 q ≡ left_atoms q
+    held_atoms q w = gr.head_atoms q (hs.holds_removed q w) (λ i. hs.moved_out q i w) ∙ atoms_t2 q
 
-    pub links_t3 : (a i : ℕ) → link_of t3 a i ≡ link_of s a i
-    links_t3 a i = gr.same.links a i ∙ sh.same.links a i
+    pub held_mems : (q : ℕ) → HoldsRest r head q → mems_in t3 q ≡ left_mems q
+    held_mems q w = gr.head_mems q (hs.holds_removed q w) (λ i. hs.moved_out q i w) ∙ mems_t2 q
 
-    pub arities_t3 : (a : ℕ) → arity_of t3 a ≡ arity_of s a
-    arities_t3 a = gr.same.arities a ∙ sh.same.arities a
+    one_within : (x y : ℕ) → ◌≡◌ {A = Option Place} (Some (within x)) (Some (within y)) → x ≡ y
+    one_within x y e = (cc)
 
-    pub functors_t3 : (a : ℕ) → functor_of t3 a ≡ functor_of s a
-    functors_t3 a = gr.same.functors a ∙ sh.same.functors a
+    there_t3 : (q : ℕ) → HoldsRest r head q → IsSome (t3.mems q)
+    there_t3 q w = some_there (t2.mems q) (t3.mems q) (gr.there q) (there_t2 q (inl (hs.removed_mem q (hs.holds_removed q w))))
 
-    pub sp_s : Splice F c (partners s) news olds wires
-    sp_s = subst (λ (f : ℕ → Option HeapAtom). Splice (λ p. (p.1 < length (partners_of (f p.0))) × ((IsSome (option_and_then (λ x. home_by x.place) (f p.0)) × (In p.0 ns → ⊥)) ⊎ In p.0 (atoms_of_pairs es)))
-        c (λ p. prelude.slice_index_or (partners_of (f p.0)) p.1 None) news olds wires) (sym same_atom) (splice_at h valid head body n m r rule em stand c names free ps parts)
+    -- a dropped atom stands in a membrane that holds a rest
+    drop_home : (a : ℕ) → In a ds → (q : ℕ) × HoldsRest r head q × In a (atoms_in t3 q)
+    drop_home a i =
+        let p = within_of h a (hs.rests.drop_placed a i) in
+        let in_h : In a (atoms_in h p.0) = (valid.sound.listed.atoms p.0 a).1 p.1 in
+        let w = hs.atom_holds a p.0 i in_h in
+        (p.0, w, subst (In a) (sym (held_atoms p.0 w)) (in_withouts ns (atoms_in h p.0) a in_h (hs.rests.drop_apart a i)))
 
-    pub same_partners : partners t3 ≡ partners s
-    same_partners = λ i p. links_t3 p.0 p.1 i
+    drop_parent : (x : ℕ) → In x dms → (q : ℕ) × HoldsRest r head q × In x (mems_in t3 q)
+    drop_parent x i =
+        let p = hs.dm_parent x i in
+        let w = hs.mem_holds x p.0 i p.1 in
+        (p.0, w, subst (In x) (sym (held_mems p.0 w)) (in_withouts ks (mems_in h p.0) x p.1 (hs.dms_apart x i)))
 
-    pub paired_s : Paired s
-    paired_s = same_paired s0 s (λ x i. ap (λ (f : ℕ → Option HeapAtom). prelude.slice_index_or (partners_of (f x)) i None) same_atom) free.sound.paired
+    pub one_list : InOneList t3 ds
+    one_list a i =
+        let w = drop_home a i in
+        let at = (listed_t3.atoms w.0 a).0 w.2 in
+        (w.0, place_home t3 a w.0 at, (λ y j. one_within y w.0 (sym ((listed_t3.atoms y a).0 j) ∙ at)), there_t3 w.0 w.1)
 
-    fu : Fusion F c (partners v) news olds wires × Paired v × SameItems t3 v
-    fu = heap_fusion F c news olds wires n t3 (same_paired s t3 links_t3 paired_s) (λ p f. subst (λ k. p.1 < k) (sym (arities_t3 p.0)) f.0)
-        (subst (λ k. Splice F c k news olds wires) (sym same_partners) sp_s) (links_below h valid head body n m r rule em stand c names free ps parts)
+    pub one_mem_list : MemInOneList t3 dms
+    one_mem_list x i =
+        let w = drop_parent x i in
+        let at = (listed_t3.mems w.0 x).0 w.2 in
+        (w.0, place_parent t3 x w.0 at, (λ y j. one_within y w.0 (sym ((listed_t3.mems y x).0 j) ∙ at)), there_t3 w.0 w.1)
 
-    pub fusion_v : Fusion F c (partners v) news olds wires
-    fusion_v = fu.0
+    module _ (t4 : Heap) (drop_run : DoesAll r (drops 1 (membranes_of head)) t3 t4) where
+      -- what is dropped leaves its lists
+      pub dsh : Shrunk t3 t4 ds dms
+      dsh = drops_shrink r 1 (membranes_of head) t3 t4 hs.rests.drop_once hs.dms_once one_list one_mem_list drop_run
 
-    pub paired_v : Paired v
-    paired_v = fu.1
+      atoms_t4 : (x : ℕ) → (In x gs → ⊥) → atoms_in t4 x ≡ atoms_in t3 x
+      atoms_t4 x o = dsh.atoms x ∙ without_none ds (atoms_in t3 x) (λ a i j.
+          let w = drop_home a i in
+          o (subst (λ z. In z gs) (one_within w.0 x (sym ((listed_t3.atoms w.0 a).0 w.2) ∙ (listed_t3.atoms x a).0 j)) (hs.holds_removed w.0 w.1)))
 
-    pub same : SameItems t3 v
-    same = fu.2
+      mems_t4 : (x : ℕ) → (In x gs → ⊥) → mems_in t4 x ≡ mems_in t3 x
+      mems_t4 x o = dsh.mems x ∙ without_none dms (mems_in t3 x) (λ a i j.
+          let w = drop_parent a i in
+          o (subst (λ z. In z gs) (one_within w.0 x (sym ((listed_t3.mems w.0 a).0 w.2) ∙ (listed_t3.mems x a).0 j)) (hs.holds_removed w.0 w.1)))
 
-    -- lists
+      abbrev pub v : Heap
+      v = all_tied t4 (body_ties news olds wires n)
 
-    atoms_v : (x : ℕ) → (In x ks → ⊥) → atoms_in v x ≡ left_atoms x ++ added_atoms r left_atoms N 0 body x
-    atoms_v x o = ap (λ f. atoms_by (f x)) same.mems ∙ gr.atoms x o
-        ∙ (λ t. atoms_t2 x t ++ same_atoms_added r left_atoms (atoms_in t2) N 0 body x (λ k i. atoms_t2 k) t)
+      abbrev pub F : Port → Type 0
+      F = LiveIn s outs new
 
-    pub mems_v : (x : ℕ) → (In x ks → ⊥) → mems_in v x ≡ left_mems x ++ added_mems r left_mems (1 + K) body x
-    mems_v x o = ap (λ f. mems_by (f x)) same.mems ∙ gr.mems x o
-        ∙ (λ t. mems_t2 x t ++ same_mems_added r left_mems (mems_in t2) (1 + K) body x (λ k i. mems_t2 k) t)
+      pub links_t4 : (a i : ℕ) → link_of t4 a i ≡ link_of s a i
+      links_t4 a i = dsh.same.links a i ∙ gr.same.links a i ∙ sh.same.links a i
 
-    rules_v : (x : ℕ) → (In x ks → ⊥) → rules_in v x ≡ rules_in h x ++ added_rules r (rules_in h) body x
-    rules_v x o = ap (λ f. rules_by (f x)) same.mems ∙ gr.rules x o
-        ∙ (λ t. rules_t2 x t ++ same_rules_added r ks (Exists h r head body) (rules_in h) (rules_in t2) body x goes (λ k i. rules_t2 k) t)
+      pub arities_t4 : (a : ℕ) → arity_of t4 a ≡ arity_of s a
+      arities_t4 a = dsh.same.arities a ∙ gr.same.arities a ∙ sh.same.arities a
 
-    pub removed_empty : (x : ℕ) → In x ks → (atoms_in v x ≡ []) × (mems_in v x ≡ [])
-    removed_empty x i = elim (decide_in x (moved_mems r body)) [
-      | inl j ↦ (ap (λ f. atoms_by (f x)) same.mems ∙ (gr.empty x j).0, ap (λ f. mems_by (f x)) same.mems ∙ (gr.empty x j).1)
-      | inr o ↦ (let w = left_empty x i o in
-          (ap (λ f. atoms_by (f x)) same.mems ∙ gr.head_atoms x i o ∙ atoms_t2 x ∙ w.0, ap (λ f. mems_by (f x)) same.mems ∙ gr.head_mems x i o ∙ mems_t2 x ∙ w.1))
-    ]
+      pub functors_t4 : (a : ℕ) → functor_of t4 a ≡ functor_of s a
+      functors_t4 a = dsh.same.functors a ∙ gr.same.functors a ∙ sh.same.functors a
 
-    module _ (sound : Sound v) where
-      old_s : (a : ℕ) → IsInPlace h a → IsInPlace s a
-      old_s a i = subst (λ (f : ℕ → Option HeapAtom). IsSome (option_and_then (λ x. home_by x.place) (f a))) (sym same_atom) (in_place_new h valid head body n m r rule em stand c names free ps parts a i)
+      pub sp_s : Splice F c (partners s) news olds wires
+      sp_s = subst (λ (f : ℕ → Option HeapAtom). Splice (λ p. (p.1 < length (partners_of (f p.0))) × ((IsSome (option_and_then (λ x. home_by x.place) (f p.0)) × (In p.0 outs → ⊥)) ⊎ In p.0 new))
+          c (λ p. prelude.slice_index_or (partners_of (f p.0)) p.1 None) news olds wires) (sym same_atom) (splice_at h valid head body n m r qs rule em stand c names free ps parts ds hs.rests)
 
-      pub s_old : (a : ℕ) → IsInPlace s a → IsInPlace h a
-      s_old a i = in_place_old h valid head body n m r rule em stand c names free ps parts a (subst (λ (f : ℕ → Option HeapAtom). IsSome (option_and_then (λ x. home_by x.place) (f a))) same_atom i)
+      pub same_partners : partners t4 ≡ partners s
+      same_partners = λ i p. links_t4 p.0 p.1 i
 
-      left_stands : (x a : ℕ) → In a (left_atoms x) → IsInPlace s a × (In a ns → ⊥)
-      left_stands x a i = let w = in_withouts_of ns (atoms_in h x) a (valid.sound.listed.atoms_once x) i in (old_s a (in_place_listed h x a valid.sound.listed w.0), w.1)
+      fu : Fusion F c (partners v) news olds wires × Paired v × SameItems t4 v
+      fu = heap_fusion F c news olds wires n t4 (same_paired s t4 links_t4 paired_s) (λ p f. subst (λ k. p.1 < k) (sym (arities_t4 p.0)) f.0)
+          (subst (λ k. Splice F c k news olds wires) (sym same_partners) sp_s) (links_below h valid head body n m r qs rule em stand c names free ps parts ds hs.rests)
 
-      numbers_pairs : (a : ℕ) → In a new → In a (atoms_of_pairs es)
-      numbers_pairs a i = subst (In a) (sym (es_numbers h valid head body n m r rule em stand c names free ps parts)) i
+      pub fusion_v : Fusion F c (partners v) news olds wires
+      fusion_v = fu.0
 
-      pub stands_v : (a : ℕ) → IsInPlace v a → (IsInPlace s a × (In a ns → ⊥)) ⊎ In a (atoms_of_pairs es)
-      stands_v a i =
-          let w = within_of v a i in
-          let j = (sound.listed.atoms w.0 a).1 w.1 in
-          elim (decide_in w.0 ks) [
-            | inl k ↦ absurd (subst (In a) (removed_empty w.0 k).0 j)
-            | inr o ↦ elim (in_either a (left_atoms w.0) (added_atoms r left_atoms N 0 body w.0) (subst (In a) (atoms_v w.0 o) j)) [
-              | inl l ↦ inl (left_stands w.0 a l)
-              | inr l ↦ elim (comes_from r left_atoms N 0 body w.0 a l) [ inl q ↦ inr (numbers_pairs a q) | inr q ↦ inl (left_stands q.0 a q.2) ]
-            ]
-          ]
+      pub paired_v : Paired v
+      paired_v = fu.1
 
-      arrives : (y a : ℕ) → (In y ks → ⊥) → In a (added_atoms r left_atoms N 0 body y) → IsInPlace v a
-      arrives y a o i = in_place_listed v y a sound.listed (subst (In a) (sym (atoms_v y o)) (in_right a (left_atoms y) (added_atoms r left_atoms N 0 body y) i))
+      pub same : SameItems t4 v
+      same = fu.2
 
-      stands_then : (a : ℕ) → (IsInPlace s a × (In a ns → ⊥)) ⊎ In a (atoms_of_pairs es) → IsInPlace v a
-      stands_then a (inl w) =
-          let x = within_of h a (s_old a w.0) in
-          let left : In a (left_atoms x.0) = in_withouts ns (atoms_in h x.0) a ((valid.sound.listed.atoms x.0 a).1 x.1) w.1 in
-          elim (decide_in x.0 ks) [
-            | inr o ↦ in_place_listed v x.0 a sound.listed (subst (In a) (sym (atoms_v x.0 o)) (in_left a (left_atoms x.0) (added_atoms r left_atoms N 0 body x.0) left))
-            | inl k ↦ elim (decide_in x.0 (moved_mems r body)) [
-              | inl j ↦ (let y = moved_arrives r left_atoms ks (Exists h r head body) N 0 body goes x.0 a j left in arrives y.0 a y.1 y.2)
-              | inr o ↦ absurd (subst (In a) (left_empty x.0 k o).0 left)
-            ]
-          ]
-      stands_then a (inr i) =
-          let y = new_arrives r left_atoms ks (Exists h r head body) N 0 body goes a (subst (In a) (es_numbers h valid head body n m r rule em stand c names free ps parts) i) in arrives y.0 a y.1 y.2
+      -- lists
 
-      arities_v : (a : ℕ) → arity_of v a ≡ arity_of s a
-      arities_v a = same.arities a ∙ arities_t3 a
+      atoms_v : (x : ℕ) → (In x gs → ⊥) → atoms_in v x ≡ left_atoms x ++ added_atoms r qs left_atoms N 0 body x
+      atoms_v x o = ap (λ f. atoms_by (f x)) same.mems ∙ atoms_t4 x o ∙ gr.atoms x o
+          ∙ (λ t. atoms_t2 x t ++ same_atoms_added r qs left_atoms (atoms_in t2) N 0 body x (λ k i. atoms_t2 k) t)
 
-      pub functors_v : (a : ℕ) → functor_of v a ≡ functor_of s a
-      functors_v a = same.functors a ∙ functors_t3 a
+      pub mems_v : (x : ℕ) → (In x gs → ⊥) → mems_in v x ≡ left_mems x ++ added_mems r qs left_mems (1 + K) body x
+      mems_v x o = ap (λ f. mems_by (f x)) same.mems ∙ mems_t4 x o ∙ gr.mems x o
+          ∙ (λ t. mems_t2 x t ++ same_mems_added r qs left_mems (mems_in t2) (1 + K) body x (λ k i. mems_t2 k) t)
 
-      into : (p : Port) → StandsPort v p → F p
-      into p l = (subst (λ k. p.1 < k) (arities_v p.0) l.1, stands_v p.0 l.0)
+      rules_v : (x : ℕ) → (In x gs → ⊥) → rules_in v x ≡ rules_in h x ++ added_rules r qs (rules_in h) body x
+      rules_v x o = ap (λ f. rules_by (f x)) same.mems ∙ dsh.rules x ∙ gr.rules x o
+          ∙ (λ t. rules_t2 x t ++ same_rules_added r qs gs E (rules_in h) (rules_in t2) body x goes (λ k i. rules_t2 k) t)
 
-      back : (p : Port) → F p → StandsPort v p
-      back p f = (stands_then p.0 f.1, subst (λ k. p.1 < k) (sym (arities_v p.0)) f.0)
-
-      abbrev number : Port → ℕ
-      number p = fusion_v.to (raw_link news c p)
-
-      never_gone : (x : ℕ) → mem_place_of h x ≡ Some gone → ⊥
-      never_gone x e = by (h.mems x) e (valid.settled.mems x)
-        where
-          place : (y : HeapMem) → y.place ≡ gone → (Some y.place ≡ Some top) ⊎ IsSome (home_by y.place) → ⊥
-          place y e (inl f) = absurd (let g : Some gone ≡ Some top = sym (ap (λ z. Some z) e) ∙ f in cc)
-          place y e (inr f) = absurd (let g : IsSome (home_by gone) = subst (λ z. IsSome (home_by z)) e f in cc)
-
-          by : (o : Option HeapMem) → option_map (λ y. y.place) o ≡ Some gone
-              → (IsSome o → (option_map (λ y. y.place) o ≡ Some top) ⊎ IsSome (option_and_then (λ y. home_by y.place) o)) → ⊥
-          by None e f = absurd (cc)
-          by (Some y) e f = place y (cc) (f refl)
-
-      -- what is gone was removed
-      pub gone_removed : (x : ℕ) → mem_place_of v x ≡ Some gone → In x ks
-      gone_removed x e = elim (sh.gone_before x (gr.gone_before x (sym (ap (λ f. option_map (λ y. y.place) (f x)) same.mems) ∙ e))) [
-        | inl i ↦ i
-        | inr f ↦ absurd (never_gone x (pr.mems.gone_before x f))
+      -- a removed membrane holds a rest, or what is left of it moves, or nothing is left
+      removed_how : (x : ℕ) → In x gs → In x (moved_mems r body) ⊎ HoldsRest r head x ⊎ ((In x (moved_mems r body) → ⊥) × (left_atoms x ≡ []) × (left_mems x ≡ []))
+      removed_how x i = elim (decide_in x (moved_mems r body)) [
+        | inl j ↦ inl j
+        | inr o ↦ elim (in_either x ks dms i) [
+          | inr j ↦ inr (inl (hs.dm_holds x j))
+          | inl j ↦ (let w = removed_is x j in by_form (w.1.has_closed_context) refl (λ f. inr (inl (subst (HoldsRest r head) w.3 (hs.closed_image w.0 (w.1, w.2, f)))))
+              (λ f. let e = left_empty_open x j o w.0 w.1 w.2 w.3 f in inr (inr (o, e.0, e.1))))
+        ]
       ]
-
-      no_line : v.new_atoms ≡ []
-      no_line = same.new_atoms ∙ gr.line [] (sh.line ∙ pr.atoms.line ∙ free.brings.line
-          ∙ ap (λ xs. xs ++ new) (no_waiting h valid.sound.listed valid.settled) ∙ sym (plus_nothing new))
-
-      no_mem_line : v.new_mems ≡ []
-      no_mem_line = same.new_mems ∙ gr.mem_line [] (sh.mem_line ∙ pr.mems.line
-          ∙ ap (λ xs. xs ++ made_mems r (1 + K) body) (no_waiting_mems h valid.sound.listed valid.settled) ∙ sym (plus_nothing (made_mems r (1 + K) body)))
-
-      -- what was removed may be freed
-      pub ready_v : Ready v
-      ready_v = ready v F number fusion_v.coloured into back (λ x e. removed_empty x (gone_removed x e)) no_line no_mem_line
-
-      stays_mem : (x : ℕ) → (In x ks → ⊥) → (finished v).mems x ≡ v.mems x
-      stays_mem x o = by (v.mems x) (λ e. o (gone_removed x e))
         where
-          place : (y : HeapMem) (p : heap.Place) → y.place ≡ p → (p ≡ gone → ⊥) → heap.mem_unless_gone y ≡ Some y
-          place y top e d = rw e refl
-          place y (within k) e d = rw e refl
-          place y waiting e d = rw e refl
-          place y gone e d = absurd (d refl)
+          by_form : {X : Type 0} (t : Bool) → t ≡ t → (t ≡ true → X) → (t ≡ false → X) → X
+          by_form true e f g = f refl
+          by_form false e f g = g refl
 
-          by : (o : Option HeapMem) → (option_map (λ y. y.place) o ≡ Some gone → ⊥) → option_and_then heap.mem_unless_gone o ≡ o
-          by None d = refl
-          by (Some y) d = place y y.place refl (λ e. d (ap (λ z. Some z) e))
+          left_empty_open : (x : ℕ) → In x ks → (In x (moved_mems r body) → ⊥) → (k : ℕ) (b : HeadMembrane) → HasMembrane head k b → r.head.images.membrane k ≡ x → b.has_closed_context ≡ false → (left_atoms x ≡ []) × (left_mems x ≡ [])
+          left_empty_open x j o k b w e f = left_empty x j o (λ q. hs.open_holds k b w f (subst (HoldsRest r head) (sym e) q))
 
-      pub kept_s : (a : ℕ) → IsInPlace h a → functor_of s a ≡ functor_of h a
-      kept_s a i = ap (λ (f : ℕ → Option HeapAtom). option_map (λ x. x.functor) (f a)) same_atom ∙ kept_functor h valid head body n m r rule em stand c names free ps parts a i
+      pub removed_empty : (x : ℕ) → In x gs → (atoms_in v x ≡ []) × (mems_in v x ≡ [])
+      removed_empty x i = (ap (λ f. atoms_by (f x)) same.mems ∙ dsh.atoms x ∙ (by (removed_how x i)).0, ap (λ f. mems_by (f x)) same.mems ∙ dsh.mems x ∙ (by (removed_how x i)).1)
+        where
+          by : In x (moved_mems r body) ⊎ HoldsRest r head x ⊎ ((In x (moved_mems r body) → ⊥) × (left_atoms x ≡ []) × (left_mems x ≡ [])) → (without_all ds (atoms_in t3 x) ≡ []) × (without_all dms (mems_in t3 x) ≡ [])
+          by (inl j) = (ap (without_all ds) (gr.empty x j).0 ∙ without_nil ds, ap (without_all dms) (gr.empty x j).1 ∙ without_nil dms)
+          by (inr (inl w)) = (
+            nothing (without_all ds (atoms_in t3 x)) (λ a j.
+                let u = in_withouts_of ds (atoms_in t3 x) a (listed_t3.atoms_once x) j in
+                let p = in_withouts_of ns (atoms_in h x) a (valid.sound.listed.atoms_once x) (subst (In a) (held_atoms x w) u.0) in
+                u.1 (hs.holds_atoms x a w p.0 p.1)),
+            nothing (without_all dms (mems_in t3 x)) (λ a j.
+                let u = in_withouts_of dms (mems_in t3 x) a (listed_t3.mems_once x) j in
+                let p = in_withouts_of ks (mems_in h x) a (valid.sound.listed.mems_once x) (subst (In a) (held_mems x w) u.0) in
+                u.1 (hs.holds_mems x a w p.0 p.1)),
+          )
+          by (inr (inr w)) = (
+            ap (without_all ds) (gr.head_atoms x i w.0 ∙ atoms_t2 x ∙ w.1) ∙ without_nil ds,
+            ap (without_all dms) (gr.head_mems x i w.0 ∙ mems_t2 x ∙ w.2) ∙ without_nil dms,
+          )
 
-      -- an atom of a copy stands
-      copied_pairs : (e : ℕ × ℕ) → splice.IsOneOf e (copies_of 0 body) → (y : ℕ) → In y (r.copied e.0) → In y (atoms_of_pairs es)
-      copied_pairs e i y j = numbers_pairs y (copied_new r N 0 body e y i j)
+      module _ (sound : Sound v) where
+        old_s : (a : ℕ) → IsInPlace h a → IsInPlace s a
+        old_s a i = subst (λ (f : ℕ → Option HeapAtom). IsSome (option_and_then (λ x. home_by x.place) (f a))) (sym same_atom) (in_place_new h valid head body n m r qs rule em stand c names free ps parts ds hs.rests a i)
 
-      named_v : Names (finished v) number
-      named_v = names_left v F number fusion_v.coloured into back
+        pub s_old : (a : ℕ) → IsInPlace s a → IsInPlace h a
+        s_old a i = in_place_old h valid head body n m r qs rule em stand c names free ps parts ds hs.rests a (subst (λ (f : ℕ → Option HeapAtom). IsSome (option_and_then (λ x. home_by x.place) (f a))) same_atom i)
 
-      in_functors : (y : ℕ) → In y (atoms_of_pairs es) → functor_of (finished v) y ≡ functor_of s0 y
-      in_functors y i = ap (λ (q : Option HeapAtom). option_map (λ x. x.functor) q) (stands_on v y (stands_then y (inr i))) ∙ functors_v y
-          ∙ ap (λ (f : ℕ → Option HeapAtom). option_map (λ x. x.functor) (f y)) same_atom
+        left_stands : (x a : ℕ) → In a (left_atoms x) → IsInPlace s a × (In a ns → ⊥)
+        left_stands x a i = let w = in_withouts_of ns (atoms_in h x) a (valid.sound.listed.atoms_once x) i in (old_s a (in_place_listed h x a valid.sound.listed w.0), w.1)
 
-      -- ports of copies that were joined are joined
-      joined_then : (p q : Port) → In p.0 new → In q.0 new → partners s0 p ≡ Some q → partners (finished v) p ≡ Some q
-      joined_then p q i j e =
-          let back_e : partners s0 q ≡ Some p = free.sound.paired.back p.0 p.1 q.0 q.1 e in
-          let same_number : number p ≡ number q = ap fusion_v.to (inner_link h valid head body n m r rule em stand c names free ps parts p q i e ∙ ap of_solid (sym (free.same p q i e))
-          ∙ sym (inner_link h valid head body n m r rule em stand c names free ps parts q p j back_e)) in
-          elim (named_v.only p q (stands_port p q i e) (stands_port q p j back_e) same_number) [
-            | inl f ↦ absurd (free.sound.paired.apart p.0 p.1 (e ∙ ap Some (sym f)))
-            | inr f ↦ f
+        -- what is left where no rest is held isn't dropped
+        left_out : (x a : ℕ) → (HoldsRest r head x → ⊥) → In a (left_atoms x) → IsInPlace s a × (In a outs → ⊥)
+        left_out x a o i =
+            let w = in_withouts_of ns (atoms_in h x) a (valid.sound.listed.atoms_once x) i in
+            let p = left_stands x a i in
+            (p.0, λ j. elim (in_either a ns ds j) [ inl k ↦ p.1 k | inr k ↦ o (hs.atom_holds a x k w.0) ])
+
+        pub stands_v : (a : ℕ) → IsInPlace v a → (IsInPlace s a × (In a outs → ⊥)) ⊎ In a new
+        stands_v a i =
+            let w = within_of v a i in
+            let j = (sound.listed.atoms w.0 a).1 w.1 in
+            elim (decide_in w.0 gs) [
+              | inl k ↦ absurd (subst (In a) (removed_empty w.0 k).0 j)
+              | inr o ↦ elim (in_either a (left_atoms w.0) (added_atoms r qs left_atoms N 0 body w.0) (subst (In a) (atoms_v w.0 o) j)) [
+                | inl l ↦ inl (left_out w.0 a (λ q. o (hs.holds_removed w.0 q)) l)
+                | inr l ↦ elim (comes_from r qs left_atoms left_mems N 0 body free.long hs.whole w.0 a l) [ inl q ↦ inr q | inr q ↦ inl (left_out q.0 a (λ u. hs.moved_out q.0 q.1 u) q.2) ]
+              ]
+            ]
+
+        arrives : (y a : ℕ) → (In y gs → ⊥) → In a (added_atoms r qs left_atoms N 0 body y) → IsInPlace v a
+        arrives y a o i = in_place_listed v y a sound.listed (subst (In a) (sym (atoms_v y o)) (in_right a (left_atoms y) (added_atoms r qs left_atoms N 0 body y) i))
+
+        stands_then : (a : ℕ) → (IsInPlace s a × (In a outs → ⊥)) ⊎ In a new → IsInPlace v a
+        stands_then a (inl w) =
+            let x = within_of h a (s_old a w.0) in
+            let in_h : In a (atoms_in h x.0) = (valid.sound.listed.atoms x.0 a).1 x.1 in
+            let not_taken : In a ns → ⊥ = λ i. w.1 (in_left a ns ds i) in
+            let left : In a (left_atoms x.0) = in_withouts ns (atoms_in h x.0) a in_h not_taken in
+            elim (decide_in x.0 gs) [
+              | inr o ↦ in_place_listed v x.0 a sound.listed (subst (In a) (sym (atoms_v x.0 o)) (in_left a (left_atoms x.0) (added_atoms r qs left_atoms N 0 body x.0) left))
+              | inl k ↦ elim (removed_how x.0 k) [
+                | inl j ↦ (let y = moved_arrives r qs left_atoms gs E N 0 body goes x.0 a j left in arrives y.0 a y.1 y.2)
+                | inr u ↦ elim u [
+                  | inl q ↦ absurd (w.1 (in_right a ns ds (hs.holds_atoms x.0 a q in_h not_taken)))
+                  | inr q ↦ absurd (subst (In a) q.1 left)
+                ]
+              ]
+            ]
+        stands_then a (inr i) = let y = new_arrives r qs left_atoms left_mems gs E N (1 + K) 0 body free.long hs.whole new_apart goes a i in arrives y.0 a y.1 y.2
+
+        arities_v : (a : ℕ) → arity_of v a ≡ arity_of s a
+        arities_v a = same.arities a ∙ arities_t4 a
+
+        pub functors_v : (a : ℕ) → functor_of v a ≡ functor_of s a
+        functors_v a = same.functors a ∙ functors_t4 a
+
+        into : (p : Port) → StandsPort v p → F p
+        into p l = (subst (λ k. p.1 < k) (arities_v p.0) l.1, stands_v p.0 l.0)
+
+        back : (p : Port) → F p → StandsPort v p
+        back p f = (stands_then p.0 f.1, subst (λ k. p.1 < k) (sym (arities_v p.0)) f.0)
+
+        abbrev number : Port → ℕ
+        number p = fusion_v.to (raw_link news c p)
+
+        never_gone : (x : ℕ) → mem_place_of h x ≡ Some gone → ⊥
+        never_gone x e = by (h.mems x) e (valid.settled.mems x)
+          where
+            place : (y : HeapMem) → y.place ≡ gone → (Some y.place ≡ Some top) ⊎ IsSome (home_by y.place) → ⊥
+            place y e (inl f) = absurd (let g : Some gone ≡ Some top = sym (ap (λ z. Some z) e) ∙ f in cc)
+            place y e (inr f) = absurd (let g : IsSome (home_by gone) = subst (λ z. IsSome (home_by z)) e f in cc)
+
+            by : (o : Option HeapMem) → option_map (λ y. y.place) o ≡ Some gone
+                → (IsSome o → (option_map (λ y. y.place) o ≡ Some top) ⊎ IsSome (option_and_then (λ y. home_by y.place) o)) → ⊥
+            by None e f = absurd (cc)
+            by (Some y) e f = place y (cc) (f refl)
+
+        -- what is gone was removed
+        pub gone_removed : (x : ℕ) → mem_place_of v x ≡ Some gone → In x gs
+        gone_removed x e = elim (dsh.gone_before x (sym (ap (λ f. option_map (λ y. y.place) (f x)) same.mems) ∙ e)) [
+          | inl i ↦ in_right x ks dms i
+          | inr q ↦ elim (sh.gone_before x (gr.gone_before x q)) [
+            | inl i ↦ in_left x ks dms i
+            | inr f ↦ absurd (never_gone x (pr.mems.gone_before x f))
           ]
-        where
-          stands_port : (x z : Port) → In x.0 new → partners s0 x ≡ Some z → StandsPort (finished v) x
-          stands_port x z k f =
-              let at = stands_on v x.0 (stands_then x.0 (inr (numbers_pairs x.0 k))) in (
-                subst (λ (o : Option HeapAtom). IsSome (option_and_then (λ y. home_by y.place) o)) (sym at) (stands_then x.0 (inr (numbers_pairs x.0 k))),
-                subst (λ (o : Option HeapAtom). x.1 < length (partners_of o)) (sym at) (subst (λ k. x.1 < k) (sym (arities_v x.0 ∙ ap (λ (g : ℕ → Option HeapAtom). length (partners_of (g x.0))) same_atom))
-                    (port_within s0 x.0 x.1 z f)),
-              )
+        ]
 
-      copies_then : (e : ℕ × ℕ) → splice.IsOneOf e (copies_of 0 body) → IsCopyIn h (finished v) (r.head.images.part e.1) (r.copy e.0) (r.copied e.0)
-      copies_then e i =
-          let k = free.copies e i in
-          let at : (a : ℕ) → In a k.is.atoms → In (answer k.is.atoms (r.copied e.0) a) (r.copied e.0) = λ a j. answer_in k.is.atoms (r.copied e.0) a (long_enough k.is.long) j in
-          record {
-            atoms = k.is.atoms;
-            part = k.is.part;
-            long = k.is.long;
-            entered = k.is.entered;
-            functors = λ a j. in_functors (answer k.is.atoms (r.copied e.0) a) (copied_pairs e i (answer k.is.atoms (r.copied e.0) a) (at a j)) ∙ k.is.functors a j;
-            inner = λ a l b q j d f. let w = k.is.inner a l b q j d f in (
-              w.0,
-              joined_then (answer k.is.atoms (r.copied e.0) a, l) (answer k.is.atoms (r.copied e.0) b, q)
-                  (copied_new r N 0 body e (answer k.is.atoms (r.copied e.0) a) i (at a j)) (copied_new r N 0 body e (answer k.is.atoms (r.copied e.0) b) i (at b w.0)) w.1,
-            );
-          }
-        where
-          long_enough : {x y : ℕ} → x ≡ y → y ≤ x
-          long_enough {x = x} {y = y} e = omega (arith, e)
+        no_line : v.new_atoms ≡ []
+        no_line = same.new_atoms ∙ dsh.line ∙ gr.line [] (sh.line ∙ pr.atoms.line ∙ free.brings.line
+            ∙ ap (λ xs. xs ++ new) (no_waiting h valid.sound.listed valid.settled) ∙ sym (plus_nothing new))
 
-      -- The rule has fired.
-      pub fires_within : FiresWithin h c r head body (images_of r head ++ ps) (finished v)
-      fires_within = record {
-        to = fusion_v.to;
-        connectors_fused = fusion_v.connectors;
-        heads_fused = λ e i. fusion_v.heads (old_port r e.0, e.1) (heap_in (old_port r) e (old_ports head) i);
-        number = λ p. fusion_v.to (raw_link news c p);
-        named = names_left v F number fusion_v.coloured into back;
-        kept_links = λ p i. ap fusion_v.to (kept_link h valid head body n m r rule em stand c names free ps parts p i);
-        made_links = λ e i. ap fusion_v.to (new_link h valid head body n m r rule em stand c names free ps parts (new_port r e.0, e.1) (heap_in (new_port r) e (new_ports N 0 body) i));
-        kept_functors = λ a i o. ap (λ (q : Option HeapAtom). option_map (λ x. x.functor) q) (stands_on v a (stands_then a (inl (old_s a i, o)))) ∙ functors_v a ∙ kept_s a i;
-        made_functors = λ e i. ap (λ (q : Option HeapAtom). option_map (λ x. x.functor) q) (stands_on v e.0 (stands_then e.0 (inr (numbers_pairs e.0 (written_new r N 0 body e.0 e.1 i))))) ∙ functors_v e.0
-            ∙ ap (λ (f : ℕ → Option HeapAtom). option_map (λ x. x.functor) (f e.0)) same_atom ∙ new_functor h valid head body n m r rule em stand c names free ps parts e i;
-        new_placed = λ y i. subst (λ (o : Option HeapAtom). IsSome (option_and_then (λ x. home_by x.place) o)) (sym (stands_on v y (stands_then y (inr (numbers_pairs y i))))) (stands_then y (inr (numbers_pairs y i)));
-        copies = copies_then;
-        atoms = λ x o. ap atoms_by (stays_mem x o) ∙ atoms_v x o;
-        mems = λ x o. ap mems_by (stays_mem x o) ∙ mems_v x o;
-        rules = λ x o. ap rules_by (stays_mem x o) ∙ rules_v x o;
-      }
+        no_mem_line : v.new_mems ≡ []
+        no_mem_line = same.new_mems ∙ dsh.mem_line ∙ gr.mem_line [] (sh.mem_line ∙ pr.mems.line
+            ∙ ap (λ xs. xs ++ made_mems r qs (1 + K) body) (no_waiting_mems h valid.sound.listed valid.settled) ∙ sym (plus_nothing (made_mems r qs (1 + K) body)))
+
+        -- what was removed may be freed
+        pub ready_v : Ready v
+        ready_v = ready v F number fusion_v.coloured into back (λ x e. removed_empty x (gone_removed x e)) no_line no_mem_line
+
+        stays_mem : (x : ℕ) → (In x gs → ⊥) → (finished v).mems x ≡ v.mems x
+        stays_mem x o = by (v.mems x) (λ e. o (gone_removed x e))
+          where
+            place : (y : HeapMem) (p : heap.Place) → y.place ≡ p → (p ≡ gone → ⊥) → heap.mem_unless_gone y ≡ Some y
+            place y top e d = rw e refl
+            place y (within k) e d = rw e refl
+            place y waiting e d = rw e refl
+            place y gone e d = absurd (d refl)
+
+            by : (o : Option HeapMem) → (option_map (λ y. y.place) o ≡ Some gone → ⊥) → option_and_then heap.mem_unless_gone o ≡ o
+            by None d = refl
+            by (Some y) d = place y y.place refl (λ e. d (ap (λ z. Some z) e))
+
+        pub kept_s : (a : ℕ) → IsInPlace h a → functor_of s a ≡ functor_of h a
+        kept_s a i = ap (λ (f : ℕ → Option HeapAtom). option_map (λ x. x.functor) (f a)) same_atom ∙ kept_functor h valid head body n m r qs rule em stand c names free ps parts ds hs.rests a i
+
+        -- an atom of a copy stands
+        copied_pairs : (e : ℕ × ℕ) → splice.IsOneOf e (copies_of 0 body) → (y : ℕ) → In y (r.copied e.0) → In y new
+        copied_pairs e i y j = copied_new r qs N 0 body e y i j
+
+        named_v : Names (finished v) number
+        named_v = names_left v F number fusion_v.coloured into back
+
+        in_functors : (y : ℕ) → In y new → functor_of (finished v) y ≡ functor_of s0 y
+        in_functors y i = ap (λ (q : Option HeapAtom). option_map (λ x. x.functor) q) (stands_on v y (stands_then y (inr i))) ∙ functors_v y
+            ∙ ap (λ (f : ℕ → Option HeapAtom). option_map (λ x. x.functor) (f y)) same_atom
+
+        -- ports of copies that were joined are joined
+        joined_then : (p q : Port) → In p.0 new → In q.0 new → partners s0 p ≡ Some q → partners (finished v) p ≡ Some q
+        joined_then p q i j e =
+            let back_e : partners s0 q ≡ Some p = free.sound.paired.back p.0 p.1 q.0 q.1 e in
+            let same_number : number p ≡ number q = ap fusion_v.to (inner_link h valid head body n m r qs rule em stand c names free ps parts ds hs.rests p q i e ∙ ap of_solid (sym (free.same p q i e))
+            ∙ sym (inner_link h valid head body n m r qs rule em stand c names free ps parts ds hs.rests q p j back_e)) in
+            elim (named_v.only p q (stands_port p q i e) (stands_port q p j back_e) same_number) [
+              | inl f ↦ absurd (free.sound.paired.apart p.0 p.1 (e ∙ ap Some (sym f)))
+              | inr f ↦ f
+            ]
+          where
+            stands_port : (x z : Port) → In x.0 new → partners s0 x ≡ Some z → StandsPort (finished v) x
+            stands_port x z k f =
+                let at = stands_on v x.0 (stands_then x.0 (inr k)) in (
+                  subst (λ (o : Option HeapAtom). IsSome (option_and_then (λ y. home_by y.place) o)) (sym at) (stands_then x.0 (inr k)),
+                  subst (λ (o : Option HeapAtom). x.1 < length (partners_of o)) (sym at) (subst (λ k. x.1 < k) (sym (arities_v x.0 ∙ ap (λ (g : ℕ → Option HeapAtom). length (partners_of (g x.0))) same_atom))
+                      (port_within s0 x.0 x.1 z f)),
+                )
+
+        copies_then : (e : ℕ × ℕ) → splice.IsOneOf e (copies_of 0 body) → IsCopyIn h (finished v) (r.head.images.part e.1) (r.copy e.0) (r.copied e.0)
+        copies_then e i =
+            let k = free.copies e i in
+            let at : (a : ℕ) → In a k.is.atoms → In (answer k.is.atoms (r.copied e.0) a) (r.copied e.0) = λ a j. answer_in k.is.atoms (r.copied e.0) a (long_enough k.is.long) j in
+            record {
+              atoms = k.is.atoms;
+              part = k.is.part;
+              long = k.is.long;
+              entered = k.is.entered;
+              functors = λ a j. in_functors (answer k.is.atoms (r.copied e.0) a) (copied_pairs e i (answer k.is.atoms (r.copied e.0) a) (at a j)) ∙ k.is.functors a j;
+              inner = λ a l b q j d f. let w = k.is.inner a l b q j d f in (
+                w.0,
+                joined_then (answer k.is.atoms (r.copied e.0) a, l) (answer k.is.atoms (r.copied e.0) b, q)
+                    (copied_new r qs N 0 body e (answer k.is.atoms (r.copied e.0) a) i (at a j)) (copied_new r qs N 0 body e (answer k.is.atoms (r.copied e.0) b) i (at b w.0)) w.1,
+              );
+            }
+          where
+            long_enough : {x y : ℕ} → x ≡ y → y ≤ x
+            long_enough {x = x} {y = y} e = omega (arith, e)
+
+        -- The rule has fired.
+        pub fires_within : FiresWithin h c r head body (images_of r head ++ ps) (finished v)
+        fires_within = record {
+          to = fusion_v.to;
+          connectors_fused = fusion_v.connectors;
+          heads_fused = λ e i. fusion_v.heads (old_port r e.0, e.1) (heap_in (old_port r) e (old_ports head) i);
+          number = λ p. fusion_v.to (raw_link news c p);
+          named = names_left v F number fusion_v.coloured into back;
+          kept_links = λ p i. ap fusion_v.to (kept_link h valid head body n m r qs rule em stand c names free ps parts ds hs.rests p i);
+          made_links = λ e i. ap fusion_v.to (new_link h valid head body n m r qs rule em stand c names free ps parts ds hs.rests (new_port r e.0, e.1) (heap_in (new_port r) e (new_ports N 0 body) i));
+          kept_functors = λ a i o d. ap (λ (q : Option HeapAtom). option_map (λ x. x.functor) q) (stands_on v a (stands_then a (inl (old_s a i, λ j. elim (in_either a ns ds j) [ inl k ↦ o k | inr k ↦ d k ])))) ∙ functors_v a ∙ kept_s a i;
+          made_functors = λ e i. ap (λ (q : Option HeapAtom). option_map (λ x. x.functor) q) (stands_on v e.0 (stands_then e.0 (inr (written_new r qs N 0 body e.0 e.1 i)))) ∙ functors_v e.0
+              ∙ ap (λ (f : ℕ → Option HeapAtom). option_map (λ x. x.functor) (f e.0)) same_atom ∙ new_functor h valid head body n m r qs rule em stand c names free ps parts ds hs.rests e i;
+          new_placed = λ y i. subst (λ (o : Option HeapAtom). IsSome (option_and_then (λ x. home_by x.place) o)) (sym (stands_on v y (stands_then y (inr i)))) (stands_then y (inr i));
+          copies = copies_then;
+          rests = qs;
+          rests_long = free.long;
+          rests_copied = rests_then r qs N 0 body h (finished v) s0 new (λ y i. i) free.rests in_functors joined_then;
+          new_once = free.brings.once;
+          new_fresh = free.brings.fresh;
+          made_once = pr.mems.once;
+          made_fresh = pr.mems.fresh;
+          atoms = λ x o. ap atoms_by (stays_mem x o) ∙ atoms_v x o;
+          mems = λ x o. ap mems_by (stays_mem x o) ∙ mems_v x o;
+          rules = λ x o. ap rules_by (stays_mem x o) ∙ rules_v x o;
+        }

@@ -1,5 +1,5 @@
 -- The items of a well placed body go to membranes that are there.
-use Rattle.std.proofs.Common.{ℕ, suc, ◌+◌, ◌<◌, ◌≡◌, ◌≢◌, List, [], ◌∷◌, ◌++◌, length, Option, Some, None, IsSome, refl, sym, ap, subst, ◌∙◌, inl, inr, arith}
+use Rattle.std.proofs.Common.{ℕ, suc, true, false, ◌+◌, ◌<◌, ◌≡◌, ◌≢◌, List, [], ◌∷◌, ◌++◌, length, Option, Some, None, IsSome, refl, sym, ap, subst, ◌∙◌, inl, inr, arith}
 use Rattle.std.proofs.lemmas.Bool.{cases_eq}
 use Rattle.std.proofs.lemmas.List.{append_assoc}
 use Rattle.std.specs.Option.{option_map}
@@ -14,13 +14,15 @@ use Rattle.lmn_splice.specs.Splice.{IsOneOf}
 use Rattle.lmn_body.specs.declared.items.BodyItem.{BodyItem}
 use Rattle.lmn_body.specs.declared.items.BodyItem.TheVariants.{Atom, Connector, Copy, Bound, Membrane, Rest, Rule, Rules}
 use Rattle.lmn_body.specs.Running.{Registers}
-use Rattle.lmn_body.specs.Added.{moved_mems, made_mems}
-use Rattle.lmn_body.specs.Rules.{Target, Goes, Exists, Into, Nests, HeadNests, StandsIn, IsHeadMembrane, rests, WellPlaced}
+use Rattle.lmn_body.specs.Added.{moved_mems, made_mems, source_mems}
+use Rattle.lmn_body.specs.RestCopies.{RestCopies, later, rest_membranes}
+use Rattle.lmn_body.specs.Rules.{Target, Goes, Exists, Into, Nests, HeadNests, StandsIn, IsHeadMembrane, rests, closed_rests, WellPlaced}
 use Rattle.lmn_body.specs.Within.{membrane_images}
 use Rattle.lmn_body.proofs.Below.{preorder, below_home, removed_is, is_removed}
 use Rattle.lmn_base.specs.Lists.{In}
+use Rattle.lmn_base.proofs.Lists.{in_either}
 
--- a head membrane whose context stands in the body has its image among those that move
+-- a head membrane whose open context stands in the body has its image among those that move
 pub moved_are : (r : Registers) (body : List BodyItem) (k : ℕ) → IsOneOf k (rests body) → In (r.head.images.membrane k) (moved_mems r body)
 moved_are r [] k i = absurd i
 moved_are r (Atom functor links inside ∷ xs) k i = moved_are r xs k i
@@ -28,24 +30,29 @@ moved_are r (Connector left right ∷ xs) k i = moved_are r xs k i
 moved_are r (Copy part link inside ∷ xs) k i = moved_are r xs k i
 moved_are r (Bound integer link inside ∷ xs) k i = moved_are r xs k i
 moved_are r (Membrane inside ∷ xs) k i = moved_are r xs k i
-moved_are r (Rest of inside ∷ xs) k (inl e) = inl (ap r.head.images.membrane e)
-moved_are r (Rest of inside ∷ xs) k (inr i) = inr (moved_are r xs k i)
+moved_are r (Rest of false inside ∷ xs) k (inl e) = inl (ap r.head.images.membrane e)
+moved_are r (Rest of false inside ∷ xs) k (inr i) = inr (moved_are r xs k i)
+moved_are r (Rest of true inside ∷ xs) k i = moved_are r xs k i
 moved_are r (Rule rule inside ∷ xs) k i = moved_are r xs k i
 moved_are r (Rules of inside ∷ xs) k i = moved_are r xs k i
 
-module _ (h : Heap) (valid : Valid h) (head : List HeadItem) (m : ℕ) (r : Registers) (em : Lies h head m r.head.images) (stand : IsMemInPlace h m) (head_nests : HeadNests head)
-    (body : List BodyItem) (fresh : (x : ℕ) → In x (made_mems r (1 + length (membranes_of head)) body) → h.mems x ≡ None) where
+module _ (h : Heap) (valid : Valid h) (head : List HeadItem) (m : ℕ) (r : Registers) (qs : RestCopies) (em : Lies h head m r.head.images) (stand : IsMemInPlace h m) (head_nests : HeadNests head)
+    (body : List BodyItem) (fresh : (x : ℕ) → In x (made_mems r qs (1 + length (membranes_of head)) body) → h.mems x ≡ None)
+    (inner : List ℕ) (inner_mem : (x : ℕ) → In x inner → IsMem h x) (inner_later : (x : ℕ) → In x inner → preorder h valid m < preorder h valid x)
+    (rests_inner : (of : ℕ) → IsOneOf of (closed_rests body) → (x : ℕ) → In x (r.left_membranes of) → In x inner)
+    (open_apart : (of k : ℕ) → IsOneOf of (rests body) → IsOneOf k (closed_rests body) → In (r.head.images.membrane of) (rest_membranes r k) → ⊥) where
   abbrev K : ℕ
   K = length (membranes_of head)
 
   abbrev nm : List ℕ
-  nm = made_mems r (1 + K) body
+  nm = made_mems r qs (1 + K) body
 
+  -- the membranes of the head, and those of rests
   abbrev ks : List ℕ
-  ks = membrane_images r head
+  ks = membrane_images r head ++ inner
 
   abbrev E : ℕ → Type 0
-  E = Exists h r head body
+  E = Exists h r qs head body
 
   pub home_is_mem : IsMem h m
   home_is_mem = by (h.mems m) stand
@@ -54,8 +61,8 @@ module _ (h : Heap) (valid : Valid h) (head : List HeadItem) (m : ℕ) (r : Regi
       by None i = absurd i
       by (Some x) i = refl
 
-  pub removed_mem : (x : ℕ) → In x ks → IsMem h x
-  removed_mem x i =
+  image_mem : (x : ℕ) → In x (membrane_images r head) → IsMem h x
+  image_mem x i =
       let w = removed_is head r x i in
       by (h.mems x) ((valid.sound.listed.mems (r.head.images.membrane w.1.inside) x).0 (subst (λ z. In z (mems_in h (r.head.images.membrane w.1.inside))) w.3 (em.membranes_placed w.0 w.1 w.2)))
     where
@@ -63,11 +70,14 @@ module _ (h : Heap) (valid : Valid h) (head : List HeadItem) (m : ℕ) (r : Regi
       by None e = absurd (cc)
       by (Some y) e = refl
 
+  pub removed_mem : (x : ℕ) → In x ks → IsMem h x
+  removed_mem x i = elim (in_either x (membrane_images r head) inner i) [ inl j ↦ image_mem x j | inr j ↦ inner_mem x j ]
+
   pub new_apart : (x : ℕ) → In x nm → In x ks → ⊥
   new_apart x i j = let z : IsSome {T = HeapMem} None = subst (λ (o : Option HeapMem). IsSome o) (fresh x i) (removed_mem x j) in absurd (cc)
 
   pub home_apart : In m ks → ⊥
-  home_apart i = off (below_home h valid head m r em head_nests m i)
+  home_apart i = elim (in_either m (membrane_images r head) inner i) [ inl j ↦ off (below_home h valid head m r em head_nests m j) | inr j ↦ off (inner_later m j) ]
     where
       off : preorder h valid m < preorder h valid m → ⊥
       off l = omega arith
@@ -96,42 +106,56 @@ module _ (h : Heap) (valid : Valid h) (head : List HeadItem) (m : ℕ) (r : Regi
   into next done so inside (inr w) = inr (so inside w.0 w.1)
 
   head_image : (of : ℕ) → IsHeadMembrane K of → In (r.head.images.membrane of) ks
-  head_image of w = subst (λ z. In (r.head.images.membrane z) ks) (sym w.1) (is_removed head r w.0 w.2)
+  head_image of w = in_left (r.head.images.membrane of) (membrane_images r head) inner (subst (λ z. In (r.head.images.membrane z) (membrane_images r head)) (sym w.1) (is_removed head r w.0 w.2))
 
-  -- a head membrane whose number isn't there doesn't move
-  not_moved : (next : ℕ) (xs : List BodyItem) → WellPlaced K next xs → (of : ℕ) → IsHeadMembrane K of → (IsOneOf of (rests xs) → ⊥) → In (r.head.images.membrane of) (moved_mems r xs) → ⊥
-  not_moved next [] w of k o i = i
-  not_moved next (Atom functor links inside ∷ xs) w of k o i = not_moved next xs w.1 of k o i
-  not_moved next (Connector left right ∷ xs) w of k o i = not_moved next xs w of k o i
-  not_moved next (Copy part link inside ∷ xs) w of k o i = not_moved next xs w.1 of k o i
-  not_moved next (Bound integer link inside ∷ xs) w of k o i = not_moved next xs w.1 of k o i
-  not_moved next (Membrane inside ∷ xs) w of k o i = not_moved (next + 1) xs w.1 of k o i
-  not_moved next (Rest of' inside ∷ xs) w of k o (inl e) =
+  -- from a head membrane with an open context whose number isn't there nothing is taken
+  not_source : (next : ℕ) (xs : List BodyItem) → WellPlaced K next xs → (of : ℕ) → IsHeadMembrane K of → (IsOneOf of (rests xs) → ⊥)
+      → ((k : ℕ) → IsOneOf k (closed_rests xs) → In (r.head.images.membrane of) (rest_membranes r k) → ⊥) → In (r.head.images.membrane of) (source_mems r xs) → ⊥
+  not_source next [] w of k o c i = i
+  not_source next (Atom functor links inside ∷ xs) w of k o c i = not_source next xs w.1 of k o c i
+  not_source next (Connector left right ∷ xs) w of k o c i = not_source next xs w of k o c i
+  not_source next (Copy part link inside ∷ xs) w of k o c i = not_source next xs w.1 of k o c i
+  not_source next (Bound integer link inside ∷ xs) w of k o c i = not_source next xs w.1 of k o c i
+  not_source next (Membrane inside ∷ xs) w of k o c i = not_source (next + 1) xs w.1 of k o c i
+  not_source next (Rest of' false inside ∷ xs) w of k o c (inl e) =
       let q = w.0 in
       o (inl (q.1 ∙ ap (λ z. suc z) (em.membranes_differ q.0 k.0 q.2 k.2 (ap r.head.images.membrane (sym q.1) ∙ e ∙ ap r.head.images.membrane k.1)) ∙ sym k.1))
-  not_moved next (Rest of' inside ∷ xs) w of k o (inr i) = not_moved next xs w.3 of k (λ j. o (inr j)) i
-  not_moved next (Rule rule inside ∷ xs) w of k o i = not_moved next xs w.1 of k o i
-  not_moved next (Rules of' inside ∷ xs) w of k o i = not_moved next xs w.2 of k o i
+  not_source next (Rest of' false inside ∷ xs) w of k o c (inr i) = not_source next xs w.3 of k (λ j. o (inr j)) c i
+  not_source next (Rest of' true inside ∷ xs) w of k o c i = elim (in_either (r.head.images.membrane of) (rest_membranes r of') (source_mems r xs) i) [
+    | inl j ↦ c of' (inl refl) j
+    | inr j ↦ not_source next xs w.2 of k o (λ z l. c z (inr l)) j
+  ]
+  not_source next (Rule rule inside ∷ xs) w of k o c i = not_source next xs w.1 of k o c i
+  not_source next (Rules of' inside ∷ xs) w of k o c i = not_source next xs w.2 of k o c i
 
-  pub goes_all : (next : ℕ) (done : List ℕ) (xs : List BodyItem) → WellPlaced K next xs → nm ≡ done ++ made_mems r next xs → MadeSo next done → Goes r ks E xs
-  goes_all next done [] w e so = tt
-  goes_all next done (Atom functor links inside ∷ xs) w e so = (target next done (made_mems r next xs) e so inside w.0, goes_all next done xs w.1 e so)
-  goes_all next done (Connector left right ∷ xs) w e so = goes_all next done xs w e so
-  goes_all next done (Copy part link inside ∷ xs) w e so = (target next done (made_mems r next xs) e so inside w.0, goes_all next done xs w.1 e so)
-  goes_all next done (Bound integer link inside ∷ xs) w e so = (target next done (made_mems r next xs) e so inside w.0, goes_all next done xs w.1 e so)
-  goes_all next done (Membrane inside ∷ xs) w e so = (
-    target next done (r.head.images.membrane next ∷ made_mems r (next + 1) xs) e so inside w.0,
-    goes_all (next + 1) (done ++ r.head.images.membrane next ∷ []) xs w.1 (e ∙ sym (append_assoc done (r.head.images.membrane next ∷ []) (made_mems r (next + 1) xs))) (more_made next done so),
+  pub goes_all : (q : RestCopies) (next : ℕ) (done : List ℕ) (xs : List BodyItem) → WellPlaced K next xs → nm ≡ done ++ made_mems r q next xs → MadeSo next done
+      → ((k : ℕ) → IsOneOf k (rests xs) → IsOneOf k (rests body)) → ((k : ℕ) → IsOneOf k (closed_rests xs) → IsOneOf k (closed_rests body)) → Goes r ks E xs
+  goes_all q next done [] w e so us cs = tt
+  goes_all q next done (Atom functor links inside ∷ xs) w e so us cs = (target next done (made_mems r q next xs) e so inside w.0, goes_all q next done xs w.1 e so us cs)
+  goes_all q next done (Connector left right ∷ xs) w e so us cs = goes_all q next done xs w e so us cs
+  goes_all q next done (Copy part link inside ∷ xs) w e so us cs = (target next done (made_mems r q next xs) e so inside w.0, goes_all q next done xs w.1 e so us cs)
+  goes_all q next done (Bound integer link inside ∷ xs) w e so us cs = (target next done (made_mems r q next xs) e so inside w.0, goes_all q next done xs w.1 e so us cs)
+  goes_all q next done (Membrane inside ∷ xs) w e so us cs = (
+    target next done (r.head.images.membrane next ∷ made_mems r q (next + 1) xs) e so inside w.0,
+    goes_all q (next + 1) (done ++ r.head.images.membrane next ∷ []) xs w.1 (e ∙ sym (append_assoc done (r.head.images.membrane next ∷ []) (made_mems r q (next + 1) xs))) (more_made next done so) us cs,
   )
-  goes_all next done (Rest of inside ∷ xs) w e so = (
+  goes_all q next done (Rest of false inside ∷ xs) w e so us cs = (
     head_image of w.0,
     inl (removed_mem (r.head.images.membrane of) (head_image of w.0)),
-    not_moved next xs w.3 of w.0 w.1,
-    target next done (made_mems r next xs) e so inside w.2,
-    goes_all next done xs w.3 e so,
+    not_source next xs w.3 of w.0 w.1 (λ k j. open_apart of k (us of (inl refl)) (cs k j)),
+    target next done (made_mems r q next xs) e so inside w.2,
+    goes_all q next done xs w.3 e so (λ k i. us k (inr i)) cs,
   )
-  goes_all next done (Rule rule inside ∷ xs) w e so = (target next done (made_mems r next xs) e so inside w.0, goes_all next done xs w.1 e so)
-  goes_all next done (Rules of inside ∷ xs) w e so = (head_image of w.0, target next done (made_mems r next xs) e so inside w.1, goes_all next done xs w.2 e so)
+  goes_all q next done (Rest of true inside ∷ xs) w e so us cs = (
+    (λ x i. elim i [
+      | inl f ↦ (subst (λ z. In z ks) f (head_image of w.0), inl (subst (IsMem h) f (removed_mem (r.head.images.membrane of) (head_image of w.0))))
+      | inr j ↦ (let l = rests_inner of (cs of (inl refl)) x j in (in_right x (membrane_images r head) inner l, inl (inner_mem x l)))
+    ]),
+    target next done (made_mems r q next (Rest of true inside ∷ xs)) e so inside w.1,
+    goes_all (later q) next (done ++ (q 0).membranes) xs w.2 (e ∙ sym (append_assoc done (q 0).membranes (made_mems r (later q) next xs))) (λ j low high. in_left (r.head.images.membrane j) done (q 0).membranes (so j low high)) us (λ k i. cs k (inr i)),
+  )
+  goes_all q next done (Rule rule inside ∷ xs) w e so us cs = (target next done (made_mems r q next xs) e so inside w.0, goes_all q next done xs w.1 e so us cs)
+  goes_all q next done (Rules of inside ∷ xs) w e so us cs = (head_image of w.0, target next done (made_mems r q next xs) e so inside w.1, goes_all q next done xs w.2 e so us cs)
 
   pub nests_all : (next : ℕ) (done : List ℕ) (xs : List BodyItem) → WellPlaced K next xs → MadeSo next done → Nests r m done next xs
   nests_all next done [] w so = tt
@@ -140,7 +164,8 @@ module _ (h : Heap) (valid : Valid h) (head : List HeadItem) (m : ℕ) (r : Regi
   nests_all next done (Copy part link inside ∷ xs) w so = (into next done so inside w.0, nests_all next done xs w.1 so)
   nests_all next done (Bound integer link inside ∷ xs) w so = (into next done so inside w.0, nests_all next done xs w.1 so)
   nests_all next done (Membrane inside ∷ xs) w so = (into next done so inside w.0, nests_all (next + 1) (done ++ r.head.images.membrane next ∷ []) xs w.1 (more_made next done so))
-  nests_all next done (Rest of inside ∷ xs) w so = (into next done so inside w.2, nests_all next done xs w.3 so)
+  nests_all next done (Rest of false inside ∷ xs) w so = (into next done so inside w.2, nests_all next done xs w.3 so)
+  nests_all next done (Rest of true inside ∷ xs) w so = (into next done so inside w.1, nests_all next done xs w.2 so)
   nests_all next done (Rule rule inside ∷ xs) w so = (into next done so inside w.0, nests_all next done xs w.1 so)
   nests_all next done (Rules of inside ∷ xs) w so = (into next done so inside w.1, nests_all next done xs w.2 so)
 
@@ -151,7 +176,7 @@ module _ (h : Heap) (valid : Valid h) (head : List HeadItem) (m : ℕ) (r : Regi
       off l h = omega arith
 
   pub goes_body : WellPlaced K (1 + K) body → Goes r ks E body
-  goes_body w = goes_all (1 + K) [] body w refl none_yet
+  goes_body w = goes_all qs (1 + K) [] body w refl none_yet (λ k i. i) (λ k i. i)
 
   pub nests_body : WellPlaced K (1 + K) body → Nests r m [] (1 + K) body
   nests_body w = nests_all (1 + K) [] body w none_yet

@@ -2,14 +2,14 @@
 use Rattle.std.proofs.Common.{ℕ, ◌≡◌, ◌≢◌, ◌⊎◌, List, [], ◌∷◌, map, Option, Some, None, IsSome, refl, sym, ap, subst, ◌∙◌, inl, inr}
 use Rattle.std.proofs.lemmas.Bool.{cases_eq}
 use Rattle.std.specs.Option.{option_map, option_and_then}
-use Rattle.lmn_heap.specs.Heap.{Heap, HeapMem, within, gone, alter, home_by, mem_with_atoms, atom_out, mem_place_of, home_of, parent_of, atoms_in, mems_in, rules_in, atoms_by, Distinct, without, taken, taken_mem, taken_all}
+use Rattle.lmn_heap.specs.Heap.{Heap, HeapMem, within, waiting, gone, alter, home_by, mem_with_atoms, mem_with_place, with_place, atom_out, mem_out, mem_place_of, home_of, parent_of, atoms_in, mems_in, rules_in, atoms_by, Distinct, without, taken, taken_mem, taken_all}
 use Rattle.lmn_heap.proofs.ListLemmas.{each_in}
-use Rattle.lmn_heap.proofs.Listing.{atoms_at, atoms_away, place_away, home_is}
+use Rattle.lmn_heap.proofs.Listing.{alter_at, alter_away, atoms_at, atoms_away, place_away, home_is}
 use Rattle.lmn_heap.proofs.Groves.{without_absent}
 use Rattle.lmn_instr.specs.declared.instr.Instr.TheVariants.{RemoveMem}
 use Rattle.lmn_body.specs.Running.{Registers, DoesAll, Prepares}
 use Rattle.lmn_body.proofs.Phases.{taken_stays}
-use Rattle.lmn_body.proofs.ListOps.{change_keeps, there_by, out_mem, out_atoms, out_rules, out_there, out_place}
+use Rattle.lmn_body.proofs.ListOps.{change_keeps, place_by, there_by, out_mem, out_atoms, out_rules, out_there, out_place}
 use Rattle.lmn_body.proofs.Growing.{SameAtoms, same_atoms, same_atoms_after, some_there}
 use Rattle.lmn_heap.specs.Lists.{without_all}
 use Rattle.lmn_heap.proofs.Common.{place_home, in_of_without}
@@ -39,6 +39,8 @@ pub record Shrunk (s t : Heap) (ns ks : List ℕ) : Type 0 where
   pub rules : (x : ℕ) → rules_in t x ≡ rules_in s x
   pub there : (x : ℕ) → there_by (t.mems x) ≡ there_by (s.mems x)
   pub gone_before : (x : ℕ) → mem_place_of t x ≡ Some gone → In x ks ⊎ (mem_place_of s x ≡ Some gone)
+  pub homes : (a : ℕ) → (In a ns → ⊥) → home_of t a ≡ home_of s a
+  pub places : (x : ℕ) → (In x ks → ⊥) → mem_place_of t x ≡ mem_place_of s x
   pub line : t.new_atoms ≡ s.new_atoms
   pub mem_line : t.new_mems ≡ s.new_mems
 
@@ -65,7 +67,7 @@ taken_one s a m home once is x = ap (λ (o : Option ℕ). atoms_by (atom_out s.m
 
 -- a heap has shrunk by the atoms that are taken
 pub shrunk_atoms : (ns : List ℕ) (s : Heap) → Distinct ns → InOneList s ns → Shrunk s (taken_all s ns) ns []
-shrunk_atoms [] s d w = record { same = same_atoms s; atoms = λ x. refl; mems = λ x. refl; rules = λ x. refl; there = λ x. refl; gone_before = λ x e. inr e; line = refl; mem_line = refl }
+shrunk_atoms [] s d w = record { same = same_atoms s; atoms = λ x. refl; mems = λ x. refl; rules = λ x. refl; there = λ x. refl; gone_before = λ x e. inr e; homes = λ a o. refl; places = λ x o. refl; line = refl; mem_line = refl }
 shrunk_atoms (a ∷ ns) s d w =
     let v = w a (inl refl) in
     let t = taken s a in
@@ -85,6 +87,8 @@ shrunk_atoms (a ∷ ns) s d w =
       rules = λ x. on.rules x ∙ st.rules x;
       there = λ x. on.there x ∙ taken_there s a x;
       gone_before = λ x e. elim (on.gone_before x e) [ inl i ↦ absurd i | inr f ↦ inr (sym (st.mem_places x) ∙ f) ];
+      homes = λ b o. on.homes b (λ i. o (inr i)) ∙ ap (option_and_then (λ x. home_by x.place)) (alter_away s.atoms a (option_map (with_place gone)) b (λ e. o (inl (sym e))));
+      places = λ x o. on.places x o ∙ st.mem_places x;
       line = on.line;
       mem_line = on.mem_line;
     }
@@ -99,7 +103,7 @@ place_parent s k p e = by (s.mems k) e
 
 -- a heap has shrunk by the membranes that are taken
 pub shrunk_mems : (ks : List ℕ) (s : Heap) → Distinct ks → MemInOneList s ks → Shrunk s (all_taken_mems s ks) [] ks
-shrunk_mems [] s d w = record { same = same_atoms s; atoms = λ x. refl; mems = λ x. refl; rules = λ x. refl; there = λ x. refl; gone_before = λ x e. inr e; line = refl; mem_line = refl }
+shrunk_mems [] s d w = record { same = same_atoms s; atoms = λ x. refl; mems = λ x. refl; rules = λ x. refl; there = λ x. refl; gone_before = λ x e. inr e; homes = λ a o. refl; places = λ x o. refl; line = refl; mem_line = refl }
 shrunk_mems (k ∷ ks) s d w =
     let v = w k (inl refl) in
     let t = taken_mem s k in
@@ -122,6 +126,8 @@ shrunk_mems (k ∷ ks) s d w =
         | inl i ↦ inl (inr i)
         | inr f ↦ elim (cases_eq x k) [ inl q ↦ inl (inl (sym q)) | inr q ↦ inr (sym (out_place s k x q) ∙ f) ]
       ];
+      homes = λ b o. on.homes b o;
+      places = λ x o. on.places x (λ i. o (inr i)) ∙ out_place s k x (λ e. o (inl (sym e)));
       line = on.line;
       mem_line = on.mem_line;
     }
@@ -135,6 +141,8 @@ shrunk_after s t u ns ks g h = record {
   rules = λ x. h.rules x ∙ g.rules x;
   there = λ x. h.there x ∙ g.there x;
   gone_before = λ x e. elim (h.gone_before x e) [ inl i ↦ inl i | inr f ↦ elim (g.gone_before x f) [ inl i ↦ absurd i | inr q ↦ inr q ] ];
+  homes = λ a o. h.homes a (λ i. i) ∙ g.homes a o;
+  places = λ x o. h.places x o ∙ g.places x (λ i. i);
   line = h.line ∙ g.line;
   mem_line = h.mem_line ∙ g.mem_line;
 }
@@ -143,3 +151,18 @@ shrunk_after s t u ns ks g h = record {
 pub taken_places : (ns : List ℕ) (s : Heap) (x : ℕ) → mem_place_of (taken_all s ns) x ≡ mem_place_of s x
 taken_places [] s x = refl
 taken_places (a ∷ ns) s x = taken_places ns (taken s a) x ∙ (taken_stays s a).mem_places x
+
+gone_place : (o : Option HeapMem) → place_by (option_map (mem_with_place gone) o) ≡ Some waiting → ⊥
+gone_place None e = absurd (cc)
+gone_place (Some x) e = absurd (cc)
+
+-- taking membranes makes none wait
+pub taken_mems_wait : (ks : List ℕ) (s : Heap) (x : ℕ) → mem_place_of (all_taken_mems s ks) x ≡ Some waiting → mem_place_of s x ≡ Some waiting
+taken_mems_wait [] s x e = e
+taken_mems_wait (k ∷ ks) s x e =
+    let before = taken_mems_wait ks (taken_mem s k) x e in
+    elim (cases_eq x k) [
+      | inl q ↦ absurd (gone_place (mem_out s.mems (parent_of s k) k k)
+          (sym (ap place_by (alter_at (mem_out s.mems (parent_of s k) k) k (option_map (mem_with_place gone)))) ∙ ap (mem_place_of (taken_mem s k)) (sym q) ∙ before))
+      | inr d ↦ sym (out_place s k x d) ∙ before
+    ]

@@ -95,7 +95,7 @@ new_atoms_are h' r v g a c (Bound integer link inside ∷ xs) m s f e =
 new_atoms_are h' r v g a c (Connector left right ∷ xs) m s f e = new_atoms_are h' r v g a c xs m.1 s.1 f e
 new_atoms_are h' r v g a c (Copy part link inside ∷ xs) m s f e = absurd s.0
 new_atoms_are h' r v g a c (Membrane inside ∷ xs) m s f e = absurd s.0
-new_atoms_are h' r v g a c (Rest of inside ∷ xs) m s f e = absurd s.0
+new_atoms_are h' r v g a c (Rest of closed inside ∷ xs) m s f e = absurd s.0
 new_atoms_are h' r v g a c (Rule rule inside ∷ xs) m s f e = absurd s.0
 new_atoms_are h' r v g a c (Rules of inside ∷ xs) m s f e = absurd s.0
 
@@ -117,7 +117,7 @@ placed_here r a c k m body s e = by (k == m) refl
     same a (Connector left right ∷ xs) s q = same a xs s.1 q
     same a (Copy part link inside ∷ xs) s q = absurd s.0
     same a (Membrane inside ∷ xs) s q = absurd s.0
-    same a (Rest of inside ∷ xs) s q = absurd s.0
+    same a (Rest of closed inside ∷ xs) s q = absurd s.0
     same a (Rule rule inside ∷ xs) s q = absurd s.0
     same a (Rules of inside ∷ xs) s q = absurd s.0
 
@@ -128,7 +128,7 @@ placed_here r a c k m body s e = by (k == m) refl
     none a (Connector left right ∷ xs) s d = none a xs s.1 d
     none a (Copy part link inside ∷ xs) s d = absurd s.0
     none a (Membrane inside ∷ xs) s d = absurd s.0
-    none a (Rest of inside ∷ xs) s d = absurd s.0
+    none a (Rest of closed inside ∷ xs) s d = absurd s.0
     none a (Rule rule inside ∷ xs) s d = absurd s.0
     none a (Rules of inside ∷ xs) s d = absurd s.0
 

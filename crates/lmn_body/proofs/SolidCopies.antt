@@ -30,7 +30,7 @@ abbrev PortOf : Heap → List ℕ → Port → Type 0
 PortOf h xs p = In p.0 xs × (p.1 < arity_of h p.0)
 
 -- such a port is among all of them, and they are such
-port_there : (h : Heap) (xs : List ℕ) (p : Port) → In p.0 xs → p.1 < arity_of h p.0 → HasPort p (ports_of h xs)
+pub port_there : (h : Heap) (xs : List ℕ) (p : Port) → In p.0 xs → p.1 < arity_of h p.0 → HasPort p (ports_of h xs)
 port_there h [] p i l = absurd i
 port_there h (x ∷ xs) p (inl e) l =
     holds_left p (port_range x 0 (arity_of h x)) (ports_of h xs)
@@ -51,16 +51,16 @@ of_ports h all a i (suc n) ps k l r p (inr j) = of_ports h all a (i + 1) n ps k 
     on : (i n m : ℕ) → i + suc n ≤ m → (i + 1) + n ≤ m
     on i n m l = omega arith
 
-all_ports : (h : Heap) (all xs : List ℕ) → ((a : ℕ) → In a xs → In a all) → (p : Port) → HasPort p (ports_of h xs) → PortOf h all p
+pub all_ports : (h : Heap) (all xs : List ℕ) → ((a : ℕ) → In a xs → In a all) → (p : Port) → HasPort p (ports_of h xs) → PortOf h all p
 all_ports h all [] sub p k = absurd k
 all_ports h all (x ∷ xs) sub p k = of_ports h all x 0 (arity_of h x) (ports_of h xs) (sub x (inl refl)) (omega arith) (all_ports h all xs (λ a i. sub a (inr i))) p k
 
 -- the image of a link: the number of the image of the first port at which it stands
-image_of : (c number : Port → ℕ) (f : ℕ → ℕ) → List Port → ℕ → ℕ
+pub image_of : (c number : Port → ℕ) (f : ℕ → ℕ) → List Port → ℕ → ℕ
 image_of c number f [] x = 0
 image_of c number f (p ∷ ps) x = cond (c p == x) (number (moved f p)) (image_of c number f ps x)
 
-image_at : (c number : Port → ℕ) (f : ℕ → ℕ) (ps : List Port) (p : Port) → HasPort p ps → ((q : Port) → HasPort q ps → c q ≡ c p → number (moved f q) ≡ number (moved f p)) → image_of c number f ps (c p) ≡ number (moved f p)
+pub image_at : (c number : Port → ℕ) (f : ℕ → ℕ) (ps : List Port) (p : Port) → HasPort p ps → ((q : Port) → HasPort q ps → c q ≡ c p → number (moved f q) ≡ number (moved f p)) → image_of c number f ps (c p) ≡ number (moved f p)
 unfolding image_of
 image_at c number f [] p k e = absurd k
 image_at c number f (q ∷ ps) p (inl s) e = rw (eq-eqb (c q) (c p) (ap c s)) (ap (λ (z : Port). number (moved f z)) s)
@@ -98,7 +98,7 @@ atom_moved u v g f a (Some x) (Some y) e w =
     plain : (j n : ℕ) → j < 0 + n → j < n
     plain j n l = omega arith
 
-atoms_moved : (h h' : Heap) (u v : ℕ → ℕ → ℕ) (g f : ℕ → ℕ) (xs : List ℕ) → ((a : ℕ) → In a xs → functor_of h' (f a) ≡ functor_of h a)
+pub atoms_moved : (h h' : Heap) (u v : ℕ → ℕ → ℕ) (g f : ℕ → ℕ) (xs : List ℕ) → ((a : ℕ) → In a xs → functor_of h' (f a) ≡ functor_of h a)
     → ((a : ℕ) → In a xs → (x : HeapAtom) → h.atoms a ≡ Some x → (j : ℕ) → j < x.functor.arity → v (f a) j ≡ g (u a j)) → solid_atoms_at h' v (map f xs) ≡ map (linked_by g) (solid_atoms_at h u xs)
 atoms_moved h h' u v g f [] e w = refl
 atoms_moved h h' u v g f (a ∷ xs) e w =

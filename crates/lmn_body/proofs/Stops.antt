@@ -7,7 +7,7 @@ use Rattle.lmn_base.specs.declared.functor.Functor.{Functor}
 use Rattle.lmn_heap.specs.Heap.{Heap, HeapAtom, HeapMem, Place, top, within, waiting, gone, home_by, partners_of, new_atom, new_mem, mem_with_spare, unless_waiting, mem_unless_waiting, made_atom, made_mem, reserved}
 use Rattle.lmn_heap.proofs.Listing.{alter_at, alter_away}
 use Rattle.lmn_instr.specs.declared.instr.Instr.{Instr}
-use Rattle.lmn_instr.specs.declared.instr.Instr.TheVariants.{RemoveAtom, RemovePart, RemoveMem, NewAtom, NewInt, NewMem, CopyGround, MoveCells, LoadRule, CopyRules, NewLink, Relink, Unify, Proceed}
+use Rattle.lmn_instr.specs.declared.instr.Instr.TheVariants.{RemoveAtom, RemovePart, RemoveMem, NewAtom, NewInt, NewMem, CopyGround, MoveCells, CopyCells, LoadRule, CopyRules, DropCells, NewLink, Relink, Unify, Proceed}
 use Rattle.lmn_body.specs.Running.{Registers, integer_functor, Prepares}
 use Rattle.lmn_body.specs.Stopping.{NoCopying}
 use Rattle.lmn_body.specs.Laws.{PrepareStops}
@@ -88,8 +88,10 @@ all_wait r (NewInt a m v ∷ is) c h s t w p = all_wait r is c.1 h p.0 t (subst 
 all_wait r (NewMem m n ∷ is) c h s t w p = all_wait r is c.1 h p.0 t (subst (Waits h) (sym p.1.1) (mem_waits h s (r.head.images.membrane m) w p.1.0)) p.2
 all_wait r (CopyGround x m g ∷ is) c h s t w p = absurd (c.0 tt)
 all_wait r (MoveCells m n ∷ is) c h s t w p = all_wait r is c.1 h p.0 t (subst (Waits h) (sym p.1) w) p.2
+all_wait r (CopyCells m n ∷ is) c h s t w p = absurd (c.0 tt)
 all_wait r (LoadRule m k ∷ is) c h s t w p = all_wait r is c.1 h p.0 t (subst (Waits h) (sym p.1.1) (spare_waits h s (r.head.images.membrane m) p.1.0 w)) p.2
 all_wait r (CopyRules m n ∷ is) c h s t w p = all_wait r is c.1 h p.0 t (subst (Waits h) (sym p.1.1) (spare_waits h s (r.head.images.membrane n) p.1.0 w)) p.2
+all_wait r (DropCells m ∷ is) c h s t w p = all_wait r is c.1 h p.0 t (subst (Waits h) (sym p.1) w) p.2
 all_wait r (NewLink x y ∷ is) c h s t w p = all_wait r is c.1 h p.0 t (subst (Waits h) (sym p.1) w) p.2
 all_wait r (Relink x y ∷ is) c h s t w p = all_wait r is c.1 h p.0 t (subst (Waits h) (sym p.1) w) p.2
 all_wait r (Unify x y ∷ is) c h s t w p = all_wait r is c.1 h p.0 t (subst (Waits h) (sym p.1) w) p.2

@@ -30,4 +30,6 @@ worked_bodies = record {
   copy_in_membrane = refl;
   integer_made = refl;
   two_heads_joined = refl;
+  copied_rests = refl;
+  beside_an_open_rest = refl;
 }

@@ -5,7 +5,8 @@ use Rattle.lmn_heap.specs.Heap.{Heap, IsAtom, IsMem, IsInPlace, IsPlacedMem, IsM
 use Rattle.lmn_heap.specs.Conditions.{IsOutside, Ready}
 use Rattle.lmn_heap.specs.Graphs.{atom_map}
 use Rattle.lmn_instr.specs.declared.instr.Instr.{Instr}
-use Rattle.lmn_instr.specs.declared.instr.Instr.TheVariants.{RemoveAtom, RemovePart, RemoveMem, NewAtom, NewInt, NewMem, CopyGround, MoveCells, LoadRule, CopyRules, NewLink, Relink, Unify, Proceed}
+use Rattle.lmn_instr.specs.declared.instr.Instr.TheVariants.{RemoveAtom, RemovePart, RemoveMem, NewAtom, NewInt, NewMem, CopyGround, MoveCells, CopyCells, LoadRule, CopyRules, DropCells, NewLink, Relink, Unify, Proceed}
+use Rattle.lmn_parts.specs.Rests.{CopyWaits, IsContent}
 use Rattle.lmn_body.specs.Tied.{partners}
 use Rattle.lmn_body.specs.Running.{Registers, old_port, new_port, Does}
 use Rattle.lmn_base.specs.Lists.{Begins}
@@ -26,10 +27,14 @@ Can r (NewInt a m v) s = IsMemInPlace s (r.head.images.membrane m) × IsFirstOf 
 Can r (NewMem m n) s = IsMemInPlace s (r.head.images.membrane n) × IsFirstOf (r.head.images.membrane m) s.new_mems
 Can r (CopyGround c m g) s = IsMemInPlace s (r.head.images.membrane m) × Begins (r.copied c) s.new_atoms
 Can r (MoveCells m n) s = (mem_place_of s (r.head.images.membrane m) ≡ Some gone) × IsMemInPlace s (r.head.images.membrane n) × IsOutside s (r.head.images.membrane n) (r.head.images.membrane m)
+Can r (CopyCells m n) s =
+    IsMem s (r.head.images.membrane m) × IsMemInPlace s (r.head.images.membrane n)
+    × ((copies new_membranes : List ℕ) × CopyWaits s (r.head.images.membrane m) (r.head.images.membrane n) (r.left_atoms m) (r.left_membranes m) copies new_membranes)
 Can r (LoadRule m k) s = IsMem s (r.head.images.membrane m) × (1 ≤ spare_of s (r.head.images.membrane m))
 Can r (CopyRules m n) s =
     IsMem s (r.head.images.membrane m) × IsMem s (r.head.images.membrane n) × (r.head.images.membrane m ≢ r.head.images.membrane n)
     × (length (rules_in s (r.head.images.membrane m)) ≤ spare_of s (r.head.images.membrane n))
+Can r (DropCells m) s = (mem_place_of s (r.head.images.membrane m) ≡ Some gone) × IsContent s (r.head.images.membrane m) (r.left_atoms m) (r.left_membranes m)
 Can r (NewLink p q) s = StandsAsPort s (new_port r p) × StandsAsPort s (new_port r q) × (new_port r p ≢ new_port r q)
 Can r (Relink p h) s =
     StandsAsPort s (new_port r p) × StandsAsPort s (old_port r h) × ((x : Port) → partners s (old_port r h) ≡ Some x → new_port r p ≢ x)

@@ -31,7 +31,7 @@ made_atoms r f (Connector left right ∷ xs) = made_atoms r f xs
 made_atoms r f (Copy part link inside ∷ xs) = made_atoms r f xs
 made_atoms r f (Bound integer link inside ∷ xs) = (record { functor = integer_functor (r.head.integer integer); links = f link ∷ [] }) ∷ made_atoms r f xs
 made_atoms r f (Membrane inside ∷ xs) = made_atoms r f xs
-made_atoms r f (Rest of inside ∷ xs) = made_atoms r f xs
+made_atoms r f (Rest of closed inside ∷ xs) = made_atoms r f xs
 made_atoms r f (Rule rule inside ∷ xs) = made_atoms r f xs
 made_atoms r f (Rules of inside ∷ xs) = made_atoms r f xs
 

@@ -3,6 +3,7 @@ pub mod Items
 pub mod Code
 pub mod Running
 pub mod Names
+pub mod RestCopies
 pub mod Fired
 pub mod Added
 pub mod Within

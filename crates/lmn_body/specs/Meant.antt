@@ -1,5 +1,5 @@
 -- What the code of a small body means on a small heap.
-use Rattle.std.specs.Prelude.{ℕ, ◌≡◌, pos, List, [], ◌∷◌, None, Some}
+use Rattle.std.specs.Prelude.{◌≡◌, pos, List, [], ◌∷◌, None, Some}
 use Rattle.lmn_heap.specs.Heap.{Heap, atoms_in, functor_of, top}
 use Rattle.lmn_solid.specs.Examples.{a_of_arity, atom_in, b_of_arity, heap_with, membrane_at}
 use Rattle.lmn_instr.specs.declared.instr.Instr.{Instr}
@@ -20,6 +20,8 @@ by_number = record {
   head = record { images = record { atom = λ n. n; membrane = λ _. 0; part = λ _. (0, 0) }; integer = λ _. pos 0 };
   copy = λ _. (0, 0);
   copied = λ _. [];
+  left_atoms = λ _. [];
+  left_membranes = λ _. [];
 }
 
 -- A run of the code leaves the atom 2 alone, which is a `b`; and no run leaves the heap as it was.

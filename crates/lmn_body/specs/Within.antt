@@ -1,10 +1,12 @@
 -- What a firing leaves in the lists of each membrane, with membranes and contexts.
-use Rattle.std.specs.Prelude.{ℕ, ◌+◌, ◌≡◌, ◌==◌, if◌then◌else◌, List, [], ◌∷◌, ◌++◌, length, map, Some, ◌≢◌}
+use Rattle.std.specs.Prelude.{ℕ, Bool, true, false, not, ◌+◌, ◌≡◌, ◌↔◌, ◌⊎◌, ◌==◌, if◌then◌else◌, List, [], ◌∷◌, ◌++◌, length, map, Some, None, ◌≢◌}
 use Rattle.lmn_base.specs.declared.solid.SolidAtom.{SolidAtom}
-use Rattle.lmn_heap.specs.Heap.{Heap, IsInPlace, functor_of, link_of, atoms_in, mems_in, rules_in}
+use Rattle.lmn_heap.specs.Heap.{Heap, Distinct, IsInPlace, functor_of, link_of, atoms_in, mems_in, rules_in}
 use Rattle.lmn_base.specs.declared.functor.Functor.{Functor}
 use Rattle.lmn_solid.specs.declared.items.HeadItem.{HeadItem}
 use Rattle.lmn_solid.specs.Heads as heads
+use Rattle.lmn_solid.specs.Heads.{HeadMembrane}
+use Rattle.lmn_solid.specs.Embeddings.{Images, HasMembrane, HasTyped, IsAtomImage}
 use Rattle.lmn_splice.specs.Classes.{rising}
 use Rattle.lmn_splice.specs.Splice as splice
 use Rattle.lmn_splice.specs.Splice.{of_rule, of_solid}
@@ -16,18 +18,48 @@ use Rattle.lmn_body.specs.Items.{new_ports, old_ports, connectors}
 use Rattle.lmn_body.specs.Running.{Registers, old_port, new_port, integer_functor}
 use Rattle.lmn_body.specs.Names.{Names}
 use Rattle.lmn_body.specs.Made.{made_of, new_atoms, copies_of}
-use Rattle.lmn_parts.specs.Walks.{IsPartInDepth}
+use Rattle.lmn_parts.specs.Walks.{IsPartInDepth, is_in}
+use Rattle.lmn_parts.specs.Rests.{IsRest}
 use Rattle.lmn_parts.specs.Copies.{answer, moved}
-use Rattle.lmn_body.specs.Added.{added_atoms, added_mems, added_rules}
+use Rattle.lmn_body.specs.Added.{added_atoms, added_mems, added_rules, made_mems}
+use Rattle.lmn_body.specs.RestCopies.{RestCopy, RestCopies, later, rest_membranes, copied_atom, copied_into, given, AreAsLong, AreRestsCopied}
 use Rattle.lmn_body.specs.Fired.{linked_by}
 use Rattle.lmn_heap.specs.Solid.{solid_atoms_at}
-use Rattle.lmn_base.specs.Graphs.{Port}
+use Rattle.lmn_base.specs.Graphs.{Reached, Port}
+use Rattle.lmn_heap.specs.Graphs.{atom_map}
 use Rattle.lmn_heap.specs.Lists.{without_all}
 use Rattle.lmn_base.specs.Lists.{In}
 
 -- the images of the membranes of a head
 abbrev pub membrane_images : Registers → List HeadItem → List ℕ
 membrane_images r head = map r.head.images.membrane (rising 1 (length (heads.membranes_of head)))
+
+-- what the registers of these membranes of a head say to be left in those with a closed context; the first has the number k
+abbrev pub left_of_closed : (ℕ → List ℕ) → ℕ → List HeadMembrane → List ℕ
+left_of_closed left k [] = []
+left_of_closed left k (b ∷ bs) = (if b.has_closed_context then left k else []) ++ left_of_closed left (k + 1) bs
+
+-- the atoms and the membranes that a firing drops: those that are left where a closed context stands
+abbrev pub dropped_atoms : Registers → List HeadItem → List ℕ
+dropped_atoms r head = left_of_closed r.left_atoms 1 (heads.membranes_of head)
+
+abbrev pub dropped_mems : Registers → List HeadItem → List ℕ
+dropped_mems r head = left_of_closed r.left_membranes 1 (heads.membranes_of head)
+
+-- the membranes that a firing removes: those of the head, and those that it drops
+abbrev pub removed_mems : Registers → List HeadItem → List ℕ
+removed_mems r head = membrane_images r head ++ dropped_mems r head
+
+-- an atom of the heap is taken by a head: it is an image, or in a part
+abbrev pub IsTakenAtom : Heap → List HeadItem → Images → ℕ → Type 0
+IsTakenAtom h head f a = IsAtomImage head f a ⊎ ((g : ℕ) × (t : heads.HeadTyped) × HasTyped head g t × Reached (atom_map h) (f.part g) a)
+
+-- The registers hold what is left in each membrane of a head with a closed context: the atoms that aren't taken, the
+-- membranes that are no images, and all that is in these.
+abbrev pub HoldsRests : Heap → Registers → List HeadItem → Type 0
+HoldsRests h r head = (k : ℕ) (b : HeadMembrane) → HasMembrane head k b → b.has_closed_context ≡ true →
+    (left : ℕ → Bool) × ((a : ℕ) → In a (atoms_in h (r.head.images.membrane k)) → (left a ≡ true) ↔ (IsTakenAtom h head r.head.images a → ⊥))
+    × IsRest h (r.head.images.membrane k) left (λ x. not (is_in (membrane_images r head) x)) (r.left_atoms k) (r.left_membranes k)
 
 -- A part of the heap h has a copy in h': the atom of the copy that stands where an atom of the part stands, depth first, has
 -- its functor, and the root port and the links inside are those of the part.
@@ -48,6 +80,9 @@ pub record IsCopyIn (h h' : Heap) (root copy : Port) (copied : List ℕ) : Type 
 --   kept_functors, made_functors        an atom that stays keeps its functor, and a new one has its own
 --   new_placed                          each new atom stands in a membrane
 --   copies                              the atoms of a copy are joined with each other as those of its part were before
+--   rests                               the copies of what is left in membranes with closed contexts
+--   rests_long, rests_copied            each has an atom and a membrane for each of the rest, and is joined as the rest is
+--   new_once, new_fresh, made_once, made_fresh   the atoms and the membranes that are made are different, and none was there
 --   atoms, mems, rules                  the lists of each membrane that isn't removed: what stays, in its order, and then
 --                                       what the body adds, in its order
 pub record FiresWithin (h : Heap) (c : Port → ℕ) (r : Registers) (head : List HeadItem) (body : List BodyItem) (taken : List ℕ) (h' : Heap) : Type 0 where
@@ -58,29 +93,38 @@ pub record FiresWithin (h : Heap) (c : Port → ℕ) (r : Registers) (head : Lis
   pub named : Names h' number
   pub kept_links : (p : Port) → IsInPlace h p.0 → number p ≡ to (of_solid (c p))
   pub made_links : (e : NewPort × ℕ) → splice.IsOneOf e (new_ports (length (heads.atoms_of head)) 0 body) → number (new_port r e.0) ≡ to (of_rule e.1)
-  pub kept_functors : (a : ℕ) → IsInPlace h a → (In a (taken) → ⊥) → functor_of h' a ≡ functor_of h a
+  pub kept_functors : (a : ℕ) → IsInPlace h a → (In a taken → ⊥) → (In a (dropped_atoms r head) → ⊥) → functor_of h' a ≡ functor_of h a
   pub made_functors : (e : ℕ × Functor) → splice.IsOneOf e (made_of r (length (heads.atoms_of head)) body) → functor_of h' e.0 ≡ Some e.1
-  pub new_placed : (y : ℕ) → In y (new_atoms r (length (heads.atoms_of head)) 0 body) → IsInPlace h' y
+  pub rests : RestCopies
+  pub rests_long : AreAsLong r rests body
+  pub rests_copied : AreRestsCopied h h' r rests body
+  pub new_once : Distinct (new_atoms r rests (length (heads.atoms_of head)) 0 body)
+  pub new_fresh : (y : ℕ) → In y (new_atoms r rests (length (heads.atoms_of head)) 0 body) → h.atoms y ≡ None
+  pub new_placed : (y : ℕ) → In y (new_atoms r rests (length (heads.atoms_of head)) 0 body) → IsInPlace h' y
+  pub made_once : Distinct (made_mems r rests (1 + length (heads.membranes_of head)) body)
+  pub made_fresh : (x : ℕ) → In x (made_mems r rests (1 + length (heads.membranes_of head)) body) → h.mems x ≡ None
   pub copies : (e : ℕ × ℕ) → splice.IsOneOf e (copies_of 0 body) → IsCopyIn h h' (r.head.images.part e.1) (r.copy e.0) (r.copied e.0)
-  pub atoms : (x : ℕ) → (In x (membrane_images r head) → ⊥) → atoms_in h' x ≡
-      without_all taken (atoms_in h x) ++ added_atoms r (λ k. without_all taken (atoms_in h k)) (length (heads.atoms_of head)) 0 body x
-  pub mems : (x : ℕ) → (In x (membrane_images r head) → ⊥) → mems_in h' x ≡
-      without_all (membrane_images r head) (mems_in h x) ++ added_mems r (λ k. without_all (membrane_images r head) (mems_in h k)) (1 + length (heads.membranes_of head)) body x
-  pub rules : (x : ℕ) → (In x (membrane_images r head) → ⊥) → rules_in h' x ≡ rules_in h x ++ added_rules r (rules_in h) body x
+  pub atoms : (x : ℕ) → (In x (removed_mems r head) → ⊥) → atoms_in h' x ≡
+      without_all taken (atoms_in h x) ++ added_atoms r rests (λ k. without_all taken (atoms_in h k)) (length (heads.atoms_of head)) 0 body x
+  pub mems : (x : ℕ) → (In x (removed_mems r head) → ⊥) → mems_in h' x ≡
+      without_all (membrane_images r head) (mems_in h x) ++ added_mems r rests (λ k. without_all (membrane_images r head) (mems_in h k)) (1 + length (heads.membranes_of head)) body x
+  pub rules : (x : ℕ) → (In x (removed_mems r head) → ⊥) → rules_in h' x ≡ rules_in h x ++ added_rules r rests (rules_in h) body x
 
 -- The atoms of a solid that a body adds to membrane x: those that it makes, with their links of the rule, those of its copies, of
--- which the next has the number c, and what is left of the membranes whose contexts stand in x.
-abbrev pub added_with_copies : Registers → (ℕ → List SolidAtom) → (ℕ → List SolidAtom) → (ℕ → ℕ) → ℕ → List BodyItem → ℕ → List SolidAtom
-added_with_copies r left copy g c [] x = []
-added_with_copies r left copy g c (Atom functor links inside ∷ xs) x = (if r.head.images.membrane inside == x then (record { functor = functor; links = map g links }) ∷ [] else []) ++ added_with_copies r left copy g c xs x
-added_with_copies r left copy g c (Connector l l' ∷ xs) x = added_with_copies r left copy g c xs x
-added_with_copies r left copy g c (Copy part link inside ∷ xs) x = (if r.head.images.membrane inside == x then copy c else []) ++ added_with_copies r left copy g (c + 1) xs x
-added_with_copies r left copy g c (Bound integer link inside ∷ xs) x =
-    (if r.head.images.membrane inside == x then (record { functor = integer_functor (r.head.integer integer); links = g link ∷ [] }) ∷ [] else []) ++ added_with_copies r left copy g c xs x
-added_with_copies r left copy g c (Membrane inside ∷ xs) x = added_with_copies r left copy g c xs x
-added_with_copies r left copy g c (Rest of inside ∷ xs) x = (if r.head.images.membrane inside == x then left (r.head.images.membrane of) else []) ++ added_with_copies r left copy g c xs x
-added_with_copies r left copy g c (Rule rule inside ∷ xs) x = added_with_copies r left copy g c xs x
-added_with_copies r left copy g c (Rules of inside ∷ xs) x = added_with_copies r left copy g c xs x
+-- which the next has the number c, what is left of the membranes whose open contexts stand in x, and copies of rests. `rest`
+-- tells which of the atoms of a copy go to x.
+abbrev pub added_with_copies : Registers → RestCopies → (ℕ → List SolidAtom) → (ℕ → List SolidAtom) → (ℕ → ℕ → RestCopy → ℕ → List SolidAtom) → (ℕ → ℕ) → ℕ → List BodyItem → ℕ → List SolidAtom
+added_with_copies r q left copy rest g c [] x = []
+added_with_copies r q left copy rest g c (Atom functor links inside ∷ xs) x = (if r.head.images.membrane inside == x then (record { functor = functor; links = map g links }) ∷ [] else []) ++ added_with_copies r q left copy rest g c xs x
+added_with_copies r q left copy rest g c (Connector l l' ∷ xs) x = added_with_copies r q left copy rest g c xs x
+added_with_copies r q left copy rest g c (Copy part link inside ∷ xs) x = (if r.head.images.membrane inside == x then copy c else []) ++ added_with_copies r q left copy rest g (c + 1) xs x
+added_with_copies r q left copy rest g c (Bound integer link inside ∷ xs) x =
+    (if r.head.images.membrane inside == x then (record { functor = integer_functor (r.head.integer integer); links = g link ∷ [] }) ∷ [] else []) ++ added_with_copies r q left copy rest g c xs x
+added_with_copies r q left copy rest g c (Membrane inside ∷ xs) x = added_with_copies r q left copy rest g c xs x
+added_with_copies r q left copy rest g c (Rest of false inside ∷ xs) x = (if r.head.images.membrane inside == x then left (r.head.images.membrane of) else []) ++ added_with_copies r q left copy rest g c xs x
+added_with_copies r q left copy rest g c (Rest of true inside ∷ xs) x = rest of inside (q 0) x ++ added_with_copies r (later q) left copy rest g c xs x
+added_with_copies r q left copy rest g c (Rule rule inside ∷ xs) x = added_with_copies r q left copy rest g c xs x
+added_with_copies r q left copy rest g c (Rules of inside ∷ xs) x = added_with_copies r q left copy rest g c xs x
 
 -- The same of a body without copies.
 abbrev pub added_solid : Registers → (ℕ → List SolidAtom) → (ℕ → ℕ) → List BodyItem → ℕ → List SolidAtom
@@ -91,7 +135,8 @@ added_solid r left g (Copy part link inside ∷ xs) x = added_solid r left g xs 
 added_solid r left g (Bound integer link inside ∷ xs) x =
     (if r.head.images.membrane inside == x then (record { functor = integer_functor (r.head.integer integer); links = g link ∷ [] }) ∷ [] else []) ++ added_solid r left g xs x
 added_solid r left g (Membrane inside ∷ xs) x = added_solid r left g xs x
-added_solid r left g (Rest of inside ∷ xs) x = (if r.head.images.membrane inside == x then left (r.head.images.membrane of) else []) ++ added_solid r left g xs x
+added_solid r left g (Rest of false inside ∷ xs) x = (if r.head.images.membrane inside == x then left (r.head.images.membrane of) else []) ++ added_solid r left g xs x
+added_solid r left g (Rest of true inside ∷ xs) x = added_solid r left g xs x
 added_solid r left g (Rule rule inside ∷ xs) x = added_solid r left g xs x
 added_solid r left g (Rules of inside ∷ xs) x = added_solid r left g xs x
 
@@ -99,16 +144,22 @@ added_solid r left g (Rules of inside ∷ xs) x = added_solid r left g xs x
 abbrev pub left_solid : Heap → (Port → ℕ) → List ℕ → (ℕ → ℕ) → ℕ → List SolidAtom
 left_solid h c taken g k = map (linked_by g) (solid_atoms_at h (λ a i. c (a, i)) (without_all taken (atoms_in h k)))
 
+-- Which solid atoms of the copy of a rest go to membrane x: those of the copies of atoms that are left in the membrane of the
+-- head, or in one of the rest, whose copy is x.
+abbrev pub rest_solid : Heap → (Port → ℕ) → Registers → (ℕ → List ℕ) → ℕ → ℕ → RestCopy → ℕ → List SolidAtom
+rest_solid h' number r left of inside p x = solid_atoms_at h' (λ a i. number (a, i)) (given (λ k. map (copied_atom r of p) (left k)) (copied_into r of inside p) (rest_membranes r of) x)
+
 -- The atoms of each membrane of the solid after a firing: what is left, then what is added, raw links at their images.
 abbrev pub FiredSolid : (h : Heap) (c : Port → ℕ) (r : Registers) (head : List HeadItem) (body : List BodyItem) (taken : List ℕ) (h' : Heap) → FiresWithin h c r head body taken h' → Type 0
 FiredSolid h c r head body taken h' f =
     let left = left_solid h c taken (λ z. f.to (of_solid z)) in
-    (x : ℕ) → (In x (membrane_images r head) → ⊥) →
-    solid_atoms_at h' (λ a i. f.number (a, i)) (atoms_in h' x) ≡ left x ++ added_with_copies r left (λ k. solid_atoms_at h' (λ a i. f.number (a, i)) (r.copied k)) (λ z. f.to (of_rule z)) 0 body x
+    (x : ℕ) → (In x (removed_mems r head) → ⊥) →
+    solid_atoms_at h' (λ a i. f.number (a, i)) (atoms_in h' x) ≡
+    left x ++ added_with_copies r f.rests left (λ k. solid_atoms_at h' (λ a i. f.number (a, i)) (r.copied k)) (rest_solid h' f.number r (λ k. without_all taken (atoms_in h k))) (λ z. f.to (of_rule z)) 0 body x
 
 -- The same after a firing of a body without copies.
 abbrev pub FiredAtoms : (h : Heap) (c : Port → ℕ) (r : Registers) (head : List HeadItem) (body : List BodyItem) (taken : List ℕ) (h' : Heap) → FiresWithin h c r head body taken h' → Type 0
 FiredAtoms h c r head body taken h' f =
     let left = left_solid h c taken (λ z. f.to (of_solid z)) in
-    (x : ℕ) → (In x (membrane_images r head) → ⊥) →
+    (x : ℕ) → (In x (removed_mems r head) → ⊥) →
     solid_atoms_at h' (λ a i. f.number (a, i)) (atoms_in h' x) ≡ left x ++ added_solid r left (λ z. f.to (of_rule z)) body x

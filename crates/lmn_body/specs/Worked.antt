@@ -93,11 +93,11 @@ pub record WorkedBodies : Type 0 where
       codes "  REMOVEATOM A0\n  NEWATOM A1 M0 b/2\n  NEWATOM A2 M0 c/1\n  RELINK A2.0 A0.0\n  RELINK A1.1 A0.1\n  RELINK A1.0 A0.2\n  PROCEED\n"
   -- `{a(X), $p} :- {b(X), $p}.`: made, moved, relinked
   pub across_membranes :
-      body_lines (head.Membrane 0 true false false ∷ head.Atom (functor_named name_a 1) (0 ∷ []) 1 ∷ []) (body.Membrane 0 ∷ body.Atom (functor_named name_b 1) (0 ∷ []) 2 ∷ body.Rest 1 2 ∷ []) 1 ≡
+      body_lines (head.Membrane 0 true false false ∷ head.Atom (functor_named name_a 1) (0 ∷ []) 1 ∷ []) (body.Membrane 0 ∷ body.Atom (functor_named name_b 1) (0 ∷ []) 2 ∷ body.Rest 1 false 2 ∷ []) 1 ≡
       codes "  REMOVEATOM A0\n  REMOVEMEM M1\n  NEWMEM M2 M0\n  NEWATOM A1 M2 b/1\n  MOVECELLS M1 M2\n  RELINK A1.0 A0.0\n  PROCEED\n"
   -- `{$p}, {$q} :- {$q, $p}.`: in the order of the body
   pub two_contexts :
-      body_lines (head.Membrane 0 true false false ∷ head.Membrane 0 true false false ∷ []) (body.Membrane 0 ∷ body.Rest 2 3 ∷ body.Rest 1 3 ∷ []) 0 ≡
+      body_lines (head.Membrane 0 true false false ∷ head.Membrane 0 true false false ∷ []) (body.Membrane 0 ∷ body.Rest 2 false 3 ∷ body.Rest 1 false 3 ∷ []) 0 ≡
       codes "  REMOVEMEM M1\n  REMOVEMEM M2\n  NEWMEM M3 M0\n  MOVECELLS M2 M3\n  MOVECELLS M1 M3\n  PROCEED\n"
   -- `a :- {b, {c}}, {}, a.`: leaves before membranes, each followed by its level
   pub nested_membranes :
@@ -105,7 +105,7 @@ pub record WorkedBodies : Type 0 where
       codes "  REMOVEATOM A0\n  NEWATOM A1 M0 a/0\n  NEWMEM M1 M0\n  NEWATOM A2 M1 b/0\n  NEWMEM M2 M1\n  NEWATOM A3 M2 c/0\n  NEWMEM M3 M0\n  PROCEED\n"
   -- `{$p, @r} :- {$p, (a :- b), @r}, @r.`: LOADRULE before COPYRULES
   pub rules_in_order :
-      body_lines (head.Membrane 0 true false true ∷ []) (body.Membrane 0 ∷ body.Rest 1 2 ∷ body.Rule 1 2 ∷ body.Rules 1 2 ∷ body.Rules 1 0 ∷ []) 0 ≡
+      body_lines (head.Membrane 0 true false true ∷ []) (body.Membrane 0 ∷ body.Rest 1 false 2 ∷ body.Rule 1 2 ∷ body.Rules 1 2 ∷ body.Rules 1 0 ∷ []) 0 ≡
       codes "  REMOVEMEM M1\n  NEWMEM M2 M0\n  MOVECELLS M1 M2\n  LOADRULE M2 1\n  COPYRULES M1 M2\n  COPYRULES M1 M0\n  PROCEED\n"
   -- `a($x) :- ground($x) | b($x), c($x).`: copies where they are written
   pub copied_twice :
@@ -117,7 +117,7 @@ pub record WorkedBodies : Type 0 where
       codes "  REMOVEATOM A0\n  REMOVEPART G0\n  COPYGROUND C0 M0 G0\n  RELINK C0 A0.1\n  PROCEED\n"
   -- `p($x), {$p} :- ground($x) | {p($x), $p}.`
   pub copy_in_membrane :
-      body_lines (head.Atom (functor_named body_p 1) (0 ∷ []) 0 ∷ head.Typed 20 kind.Ground 0 0 ∷ head.Membrane 0 true false false ∷ []) (body.Membrane 0 ∷ body.Atom (functor_named body_p 1) (1 ∷ []) 2 ∷ body.Copy 0 1 2 ∷ body.Rest 1 2 ∷ []) 2 ≡
+      body_lines (head.Atom (functor_named body_p 1) (0 ∷ []) 0 ∷ head.Typed 20 kind.Ground 0 0 ∷ head.Membrane 0 true false false ∷ []) (body.Membrane 0 ∷ body.Atom (functor_named body_p 1) (1 ∷ []) 2 ∷ body.Copy 0 1 2 ∷ body.Rest 1 false 2 ∷ []) 2 ≡
       codes "  REMOVEATOM A0\n  REMOVEPART G0\n  REMOVEMEM M1\n  NEWMEM M2 M0\n  NEWATOM A1 M2 p/1\n  COPYGROUND C0 M2 G0\n  MOVECELLS M1 M2\n  NEWLINK A1.0 C0\n  PROCEED\n"
   -- `p(X) :- 3(X).`: an integer is an atom
   pub integer_made :
@@ -127,3 +127,11 @@ pub record WorkedBodies : Type 0 where
   pub two_heads_joined :
       body_lines (head.Atom (functor_named name_a 1) (0 ∷ []) 0 ∷ head.Atom (functor_named name_b 1) (1 ∷ []) 0 ∷ head.Atom (functor_named name_c 2) (2 ∷ 3 ∷ []) 0 ∷ []) (body.Connector 3 0 ∷ body.Connector 1 2 ∷ []) 4 ≡
       codes "  REMOVEATOM A0\n  REMOVEATOM A1\n  REMOVEATOM A2\n  UNIFY A0.0 A2.1\n  UNIFY A1.0 A2.0\n  PROCEED\n"
+  -- `{$p[]} :- {$p[]}, {$p[]}.`: copied twice, and dropped
+  pub copied_rests :
+      body_lines (head.Membrane 0 true true false ∷ []) (body.Membrane 0 ∷ body.Rest 1 true 2 ∷ body.Membrane 0 ∷ body.Rest 1 true 3 ∷ []) 0 ≡
+      codes "  REMOVEMEM M1\n  NEWMEM M2 M0\n  COPYCELLS M1 M2\n  NEWMEM M3 M0\n  COPYCELLS M1 M3\n  DROPCELLS M1\n  PROCEED\n"
+  -- `{a(X), $p[]}, {$q} :- $p[], b(X), $q.`: dropped behind all that is made, before the links
+  pub beside_an_open_rest :
+      body_lines (head.Membrane 0 true true false ∷ head.Atom (functor_named name_a 1) (0 ∷ []) 1 ∷ head.Membrane 0 true false false ∷ []) (body.Atom (functor_named name_b 1) (0 ∷ []) 0 ∷ body.Rest 1 true 0 ∷ body.Rest 2 false 0 ∷ []) 1 ≡
+      codes "  REMOVEATOM A0\n  REMOVEMEM M1\n  REMOVEMEM M2\n  NEWATOM A1 M0 b/1\n  COPYCELLS M1 M0\n  MOVECELLS M2 M0\n  DROPCELLS M1\n  RELINK A1.0 A0.0\n  PROCEED\n"

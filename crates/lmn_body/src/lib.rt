@@ -4,7 +4,7 @@
 //! anything when it runs.
 #![tactic(auto)]
 
-ghost use Rattle.lmn_body.specs.Laws.{BodyFires, BodyFiresWithin, BodyCanRun, FiringLeavesSolid, FiringLeavesAtoms, CopiesInSolid, PrepareStops, FlattenedArePlaced, FlattenedKeepLinks, FlattenedAreMade, FlattenedHeads, FlattenedAreLinked, FlattenedRules, ContextsOfHeads, LinksHaveNumbers};
+ghost use Rattle.lmn_body.specs.Laws.{BodyFires, BodyFiresWithin, BodyCanRun, FiringLeavesSolid, FiringLeavesAtoms, CopiesInSolid, RestsInSolid, PrepareStops, FlattenedArePlaced, FlattenedKeepLinks, FlattenedAreMade, FlattenedHeads, FlattenedAreLinked, FlattenedRules, ContextsOfHeads, LinksHaveNumbers};
 ghost use Rattle.lmn_body.specs.CopyExamples.{PartHasCopy};
 ghost use Rattle.lmn_body.specs.Meant.{BodyCodeIsMeant};
 ghost use Rattle.lmn_body.specs.Worked.{WorkedBodies};
@@ -24,11 +24,13 @@ pub fn body_code_fires_within()
     ensures { BodyFiresWithin }
 {}
 
-/// A firing leaves the atoms of the solid, in each membrane; those of a copy are the atoms of its part, each link at its image.
+/// A firing leaves the atoms of the solid, in each membrane; those of a copy are the atoms of its part, or of its rest, each link
+/// at its image.
 pub fn firing_leaves_atoms()
     ensures solid { FiringLeavesSolid }
     ensures atoms { FiringLeavesAtoms }
     ensures copies { CopiesInSolid }
+    ensures rests { RestsInSolid }
 {}
 
 /// A prepare may be given up after any of its instructions: what was made waits alone, and without it the heap is as it was,

@@ -100,7 +100,7 @@ read_making K a m c (Connector left right ∷ xs) p = read_making K a m c xs p
 read_making K a m c (Copy part link inside ∷ xs) p = (tt, read_making K a m (c + 1) xs p.1)
 read_making K a m c (Bound integer link inside ∷ xs) p = (tt, read_making K (a + 1) m c xs p.1)
 read_making K a m c (Membrane inside ∷ xs) p = (tt, read_making K a (m + 1) c xs p.1)
-read_making K a m c (Rest of inside ∷ xs) p = (tt, read_making K a m c xs p.3)
+read_making K a m c (Rest of closed inside ∷ xs) p = (tt, read_making K a m c xs p.3)
 read_making K a m c (Rule rule inside ∷ xs) p = (tt, read_making K a m c xs p.1)
 read_making K a m c (Rules of inside ∷ xs) p = (let e = p.0.1 in let l = p.0.2 in omega (arith, e, l), read_making K a m c xs p.2)
 

@@ -1,6 +1,6 @@
 -- Registers that hold an embedding, with new numbers beyond those of the head.
 use Rattle.std.proofs.Common.{ℕ, zero, suc, ◌≡◌, ◌+◌, ◌<◌, ◌≤◌, List, [], ◌∷◌, length, Some, refl, sym, ap, subst, ◌∙◌, inl, inr, arith}
-use Rattle.std.specs.Prelude.{slice_get, true, false}
+use Rattle.std.specs.Prelude.{slice_get}
 use Rattle.lmn_base.specs.declared.guard.Cond.{Cond}
 use Rattle.lmn_base.specs.Graphs.{StandsWhole}
 use Rattle.lmn_heap.specs.Graphs.{atom_map}
@@ -8,7 +8,7 @@ use Rattle.lmn_heap.specs.Heap.{Heap, atoms_in, functor_of, mems_in, rules_in}
 use Rattle.lmn_solid.specs.declared.items.HeadItem.{HeadItem}
 use Rattle.lmn_solid.specs.declared.items.HeadItem.TheVariants.{Atom, Typed, Membrane}
 use Rattle.lmn_solid.specs.Heads.{HeadAtom, HeadMembrane, atoms_of, membranes_of, outermost}
-use Rattle.lmn_solid.specs.Embeddings.{Embeds, HasAtom, HasMembrane, Images, IsLeast, StandsWithin, ListNotAfter, index_of, partner, positions}
+use Rattle.lmn_solid.specs.Embeddings.{Embeds, HasAtom, HasMembrane, Images, IsInRest, IsLeast, StandsWithin, ListNotAfter, index_of, partner, positions}
 use Rattle.lmn_compile_head.specs.Heads.{EachInside, IsHead}
 use Rattle.lmn_compile_head.proofs.Nesting.{atoms_nested, membranes_nested}
 use Rattle.lmn_base.proofs.Lists.{get_below}
@@ -57,6 +57,19 @@ module _ (h : Heap) (items : List HeadItem) (head : IsHead items) (f : Images) (
   in_mem : (k : ℕ) → k ≤ length (membranes_of items) → membrane k ≡ f.membrane k
   in_mem k l = same_mem k (omega (arith, l))
 
+  -- the rest of a head membrane is the same
+  rest_so : (k : ℕ) (b : HeadMembrane) → HasMembrane items k b → (x : ℕ) → IsInRest h items f k x → IsInRest h items other k x
+  rest_so k b w x u = elim u [
+    | inl z ↦ inl (subst (λ y. In x (atoms_in h y)) (sym (at_mem k b w)) z.0, λ i. z.1 (i.0, i.1, sym (same_atom i.0 i.1) ∙ i.2), z.2)
+    | inr z ↦ inr (z.0, subst (λ y. In z.0 (mems_in h y)) (sym (at_mem k b w)) z.1, λ i. (let l = i.1 in z.2 (i.0, i.1, sym (same_mem (suc i.0) (omega (arith, l))) ∙ i.2)), z.3)
+  ]
+
+  rest_back : (k : ℕ) (b : HeadMembrane) → HasMembrane items k b → (x : ℕ) → IsInRest h items other k x → IsInRest h items f k x
+  rest_back k b w x u = elim u [
+    | inl z ↦ inl (subst (λ y. In x (atoms_in h y)) (at_mem k b w) z.0, λ i. z.1 (i.0, i.1, same_atom i.0 i.1 ∙ i.2), z.2)
+    | inr z ↦ inr (z.0, subst (λ y. In z.0 (mems_in h y)) (at_mem k b w) z.1, λ i. (let l = i.1 in z.2 (i.0, i.1, same_mem (suc i.0) (omega (arith, l)) ∙ i.2)), z.3)
+  ]
+
   pub embeds_so : (guard : List Cond) (m : ℕ) → Embeds h items guard m f → Embeds h items guard m other
   embeds_so guard m e = record {
     lies = record {
@@ -79,7 +92,7 @@ module _ (h : Heap) (items : List HeadItem) (head : IsHead items) (f : Images) (
           let z = e.lies.no_other_membrane k b x w c (subst (λ y. In x (mems_in h y)) (at_mem k b w) i) in
           let l = z.1 in (z.0, z.1, same_mem (suc z.0) (omega (arith, l)) ∙ z.2);
       no_rule = λ k b w c. subst (λ z. rules_in h z ≡ []) (sym (at_mem k b w)) (e.lies.no_rule k b w c);
-      closed = λ k b x i p w c u q. (let clash : true ≡ false = sym c ∙ head.none_closed k b w in absurd (cc));
+      closed = λ k b x i p w c u q. rest_so k b w p.0 (e.lies.closed k b x i p w c (rest_back k b w x u) q);
       parts = λ n t w.
           let p = e.lies.parts n t w in
           record {

@@ -153,7 +153,7 @@ module _ (table : List RuleTree) (plans : List GuardPlan) (codes : List Code) (c
   same_room copy copied (Copy part link home ∷ xs) x = same_room copy copied xs x
   same_room copy copied (Bound integer link home ∷ xs) x = same_room copy copied xs x
   same_room copy copied (Membrane home ∷ xs) x = same_room copy copied xs x
-  same_room copy copied (Rest of home ∷ xs) x = same_room copy copied xs x
+  same_room copy copied (Rest of closed home ∷ xs) x = same_room copy copied xs x
   same_room copy copied (Rule rule home ∷ xs) x = ap (λ zs. if_inside (with_copies s.copy s.copied) x home (rule ∷ []) ++ zs) (same_room copy copied xs x)
   same_room copy copied (Rules of home ∷ xs) x = ap (λ zs. if_inside (with_copies s.copy s.copied) x home (rules_in h (images.membrane of)) ++ zs) (same_room copy copied xs x)
 

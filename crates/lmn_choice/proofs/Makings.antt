@@ -225,7 +225,7 @@ module _ (registers : HeadRegisters) (copy0 : ℕ → Port) (copied0 : ℕ → L
         keeps = λ x. elim (u.keeps x) [ inl k ↦ inl k | inr k ↦ inr (k ∙ made_room s m x (w.mems m (omega arith))) ];
         enough = u.enough;
       }
-  all_made rules (Rest of inside ∷ xs) a m c q n p la lm s w =
+  all_made rules (Rest of closed inside ∷ xs) a m c q n p la lm s w =
       let u = all_made rules xs a m c q n p.3 la lm s w in
       record { heap = u.heap; made = u.made; prepares = λ copy copied z. (s, refl, u.prepares copy copied z); all = u.all; bounded = u.bounded; keeps = u.keeps; enough = u.enough }
   all_made rules (Rule rule inside ∷ xs) a m c q n p la lm s w =

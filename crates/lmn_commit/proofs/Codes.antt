@@ -4,7 +4,7 @@ use Rattle.std.specs.Prelude.{slice_get}
 use Rattle.lmn_instr.specs.declared.instr.NewPort.{NewPort}
 use Rattle.lmn_instr.specs.declared.instr.NewPort.TheVariants as new
 use Rattle.lmn_instr.specs.declared.instr.Instr.{Instr}
-use Rattle.lmn_instr.specs.declared.instr.Instr.TheVariants.{RemoveAtom, RemovePart, RemoveMem, NewAtom, NewInt, NewMem, CopyGround, MoveCells, LoadRule, CopyRules, NewLink, Relink, Unify, Proceed}
+use Rattle.lmn_instr.specs.declared.instr.Instr.TheVariants.{RemoveAtom, RemovePart, RemoveMem, NewAtom, NewInt, NewMem, CopyGround, MoveCells, CopyCells, LoadRule, CopyRules, DropCells, NewLink, Relink, Unify, Proceed}
 use Rattle.lmn_body.specs.Running.{Registers}
 use Rattle.lmn_commit.specs.Preparing.{Uses, UsesPort, AllUse, UsesInOrder, needed, needed_by, atoms_made, membranes_made, copies_made}
 
@@ -47,6 +47,8 @@ uses_more a b m n g c d l k e (NewInt x y z) u = let v = u.0 in let w = u.1 in (
 uses_more a b m n g c d l k e (NewMem x y) u = let v = u.0 in let w = u.1 in (omega (arith, v), omega (arith, w))
 uses_more a b m n g c d l k e (CopyGround x y z) u = let v = u.0 in let w = u.1 in (omega (arith, v), omega (arith, w), u.2)
 uses_more a b m n g c d l k e (MoveCells x y) u = let v = u.0 in let w = u.1 in (omega (arith, v), omega (arith, w))
+uses_more a b m n g c d l k e (CopyCells x y) u = let v = u.0 in let w = u.1 in (omega (arith, v), omega (arith, w))
+uses_more a b m n g c d l k e (DropCells x) u = let v : x < m = u in omega (arith, v)
 uses_more a b m n g c d l k e (LoadRule x y) u = let v : x < m = u in omega (arith, v)
 uses_more a b m n g c d l k e (CopyRules x y) u = let v = u.0 in let w = u.1 in (omega (arith, v), omega (arith, w))
 uses_more a b m n g c d l k e (NewLink p q) u = (port_more a b c d l e p u.0, port_more a b c d l e q u.1)
@@ -75,6 +77,8 @@ reads_uses a m g v c (RemoveAtom x) u = uses_more a (a + 0) m (m + 0) g c (c + 0
 reads_uses a m g v c (RemovePart x) u = u
 reads_uses a m g v c (RemoveMem x) u = uses_more a (a + 0) m (m + 0) g c (c + 0) (omega arith) (omega arith) (omega arith) (RemoveMem x) u
 reads_uses a m g v c (MoveCells x y) u = uses_more a (a + 0) m (m + 0) g c (c + 0) (omega arith) (omega arith) (omega arith) (MoveCells x y) u
+reads_uses a m g v c (CopyCells x y) u = uses_more a (a + 0) m (m + 0) g c (c + 0) (omega arith) (omega arith) (omega arith) (CopyCells x y) u
+reads_uses a m g v c (DropCells x) u = uses_more a (a + 0) m (m + 0) g c (c + 0) (omega arith) (omega arith) (omega arith) (DropCells x) u
 reads_uses a m g v c (LoadRule x y) u = uses_more a (a + 0) m (m + 0) g c (c + 0) (omega arith) (omega arith) (omega arith) (LoadRule x y) u
 reads_uses a m g v c (CopyRules x y) u = uses_more a (a + 0) m (m + 0) g c (c + 0) (omega arith) (omega arith) (omega arith) (CopyRules x y) u
 reads_uses a m g v c (NewLink p q) u = uses_more a (a + 0) m (m + 0) g c (c + 0) (omega arith) (omega arith) (omega arith) (NewLink p q) u

@@ -4,16 +4,17 @@ use Rattle.std.specs.Prelude.{slice_get}
 use Rattle.std.specs.Prelude.{◌↔◌}
 use Rattle.lmn_base.specs.Graphs.{Reached}
 use Rattle.lmn_heap.specs.Graphs.{atom_map}
-use Rattle.lmn_heap.specs.Heap.{Heap, Distinct, IsMemInPlace, port_id, taken_all}
+use Rattle.lmn_heap.specs.Heap.{Heap, Distinct, IsMem, IsMemInPlace, gone, mem_place_of, port_id, taken_all}
 use Rattle.lmn_ground.proofs.GroundLaws.{part_atoms}
 use Rattle.lmn_instr.specs.declared.instr.Instr.{Instr}
-use Rattle.lmn_instr.specs.declared.instr.Instr.TheVariants.{RemovePart, CopyGround}
+use Rattle.lmn_instr.specs.declared.instr.Instr.TheVariants.{RemovePart, CopyGround, CopyCells, DropCells}
 use Rattle.lmn_body.specs.Running.{Registers, Does, DoesAll, all_placed}
 use Rattle.lmn_body.specs.Conditions.{Can}
 use Rattle.lmn_registers.specs.declared.registers.PartCopy.{PartCopy}
 use Rattle.lmn_registers.specs.declared.registers.SetRegisters.{SetRegisters}
 use Rattle.lmn_commit.specs.Registers.{AgreesWithCopies}
 use Rattle.lmn_commit.specs.Committing.{Runs, Stands}
+use Rattle.lmn_parts.specs.Rests.{CopyWaits, IsContent, rest_placed, rest_taken}
 use Rattle.lmn_parts.specs.Walks.{IsPartInDepth}
 use Rattle.lmn_base.specs.Lists.{In}
 
@@ -47,6 +48,53 @@ module _ {A M : Type 0} (atom : A → ℕ) (membrane : M → ℕ) (g : SetRegist
       let w : Can r (CopyGround x y z) s = subst (λ j. Can r j s) e can in
       subst (λ j. Does r j s t) (sym e)
       (w.1.0, w.1.1, placed (r.copied x) w.1.0 (u.copies x p copy).1 w.1.1 ∙ ap (λ n. all_placed s (map (λ a. (n, a)) (r.copied x))) (sym (u.membranes y m inside)))
+
+  -- the copy of a rest that is to be placed waits
+  pub rest_waits : (r : Registers) (i : Instr) (x y : ℕ) (m n : M) (s : Heap) → AgreesWithCopies atom membrane g r → i ≡ CopyCells x y → slice_get g.membranes x ≡ Some m → slice_get g.membranes y ≡ Some n → Can r i s →
+      IsMem s (membrane m) × IsMemInPlace s (membrane n) × ((atoms membranes copies new_membranes : List ℕ) × CopyWaits s (membrane m) (membrane n) atoms membranes copies new_membranes)
+  rest_waits r i x y m n s u e from to can =
+      let w : Can r (CopyCells x y) s = subst (λ j. Can r j s) e can in (
+        subst (IsMem s) (u.membranes x m from) w.0,
+        subst (IsMemInPlace s) (u.membranes y n to) w.1,
+        (
+          r.left_atoms x,
+          r.left_membranes x,
+          w.2.0,
+          w.2.1,
+          subst (λ k. CopyWaits s k (membrane n) (r.left_atoms x) (r.left_membranes x) w.2.0 w.2.1) (u.membranes x m from)
+              (subst (λ k. CopyWaits s (r.head.images.membrane x) k (r.left_atoms x) (r.left_membranes x) w.2.0 w.2.1) (u.membranes y n to) w.2.2),
+        ),
+      )
+
+  -- and goes to its membrane
+  pub rest_goes : (r : Registers) (i : Instr) (x y : ℕ) (m n : M) (s t : Heap) → AgreesWithCopies atom membrane g r → i ≡ CopyCells x y → slice_get g.membranes x ≡ Some m → slice_get g.membranes y ≡ Some n → Can r i s →
+      ((atoms membranes copies new_membranes : List ℕ) → CopyWaits s (membrane m) (membrane n) atoms membranes copies new_membranes → t ≡ rest_placed s (membrane m) (membrane n) atoms membranes copies new_membranes) → Does r i s t
+  rest_goes r i x y m n s t u e from to can goes =
+      let w = rest_waits r i x y m n s u e from to can in
+      let c : Can r (CopyCells x y) s = subst (λ j. Can r j s) e can in
+      let is = goes (r.left_atoms x) (r.left_membranes x) c.2.0 c.2.1 w.2.4 in
+      subst (λ j. Does r j s t) (sym e) (
+        c.2.0,
+        c.2.1,
+        c.2.2,
+        subst (λ k. t ≡ rest_placed s k (r.head.images.membrane y) (r.left_atoms x) (r.left_membranes x) c.2.0 c.2.1) (sym (u.membranes x m from))
+            (subst (λ k. t ≡ rest_placed s (membrane m) k (r.left_atoms x) (r.left_membranes x) c.2.0 c.2.1) (sym (u.membranes y n to)) is),
+      )
+
+  -- what is dropped is all that a membrane holds that was taken
+  pub rest_held : (r : Registers) (i : Instr) (x : ℕ) (m : M) (s : Heap) → AgreesWithCopies atom membrane g r → i ≡ DropCells x → slice_get g.membranes x ≡ Some m → Can r i s →
+      (mem_place_of s (membrane m) ≡ Some gone) × ((atoms membranes : List ℕ) × IsContent s (membrane m) atoms membranes)
+  rest_held r i x m s u e at can =
+      let w : Can r (DropCells x) s = subst (λ j. Can r j s) e can in (
+        subst (λ k. mem_place_of s k ≡ Some gone) (u.membranes x m at) w.0,
+        (r.left_atoms x, r.left_membranes x, subst (λ k. IsContent s k (r.left_atoms x) (r.left_membranes x)) (u.membranes x m at) w.1),
+      )
+
+  pub rest_dropped : (r : Registers) (i : Instr) (x : ℕ) (m : M) (s t : Heap) → AgreesWithCopies atom membrane g r → i ≡ DropCells x → slice_get g.membranes x ≡ Some m → Can r i s →
+      ((atoms membranes : List ℕ) → IsContent s (membrane m) atoms membranes → t ≡ rest_taken s atoms membranes) → Does r i s t
+  rest_dropped r i x m s t u e at can taken =
+      let w : Can r (DropCells x) s = subst (λ j. Can r j s) e can in
+      subst (λ j. Does r j s t) (sym e) (w.1, taken (r.left_atoms x) (r.left_membranes x) (subst (λ k. IsContent s k (r.left_atoms x) (r.left_membranes x)) (u.membranes x m at) w.1))
 
   -- what is done of code, from the heap s0 to the heap s: the rest can be run, and makes of s what the whole makes of s0
   abbrev pub Done : List Instr → List Instr → Heap → Heap → Type 0

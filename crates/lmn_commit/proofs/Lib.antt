@@ -7,3 +7,5 @@ pub mod Marks
 pub mod Doing
 pub mod Rules
 pub mod Ordering
+pub mod RestOf
+pub mod OwnCopies

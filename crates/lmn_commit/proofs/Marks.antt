@@ -2,12 +2,14 @@
 use Rattle.std.proofs.Common.{ℕ, zero, suc, ◌≡◌, ◌==◌, ◌&&◌, Bool, true, false, cond, List, [], ◌∷◌, map, Option, Some, None, refl, sym, ap, subst, ◌∙◌}
 use Rattle.std.specs.Option.{option_map, option_and_then}
 use Rattle.std.specs.Prelude.{slice_index_or}
-use Rattle.lmn_heap.specs.Heap.{Heap, HeapAtom, Place, top, within, waiting, gone, marks_of, link_of, with_place, atom_sent, unless_gone, linked, cleared, taken, placed, joined, moved_all, finished, taken_mem, placed_mem, rule_added, rules_copied, taken_all, Unmarked}
+use Rattle.lmn_heap.specs.Heap.{Heap, HeapAtom, Place, top, within, waiting, gone, marks_of, link_of, parent_of, atoms_in, with_place, atom_sent, unless_gone, linked, cleared, taken, placed, joined, moved_all, finished, taken_mem, placed_mem, rule_added, rules_copied, taken_all, Unmarked}
 use Rattle.lmn_heap.specs.Splice.{joined_to, joined_both}
 use Rattle.lmn_heap.proofs.Listing.{alter_keeps}
+use Rattle.lmn_parts.specs.Copies.{answer}
+use Rattle.lmn_parts.specs.Rests.{atoms_placed, membrane_placed, membranes_placed, copy_round, rest_placed, all_mems_taken, rest_taken}
 use Rattle.lmn_splice.specs.Ties.{Tie, newlink, relink, unify}
 use Rattle.lmn_instr.specs.declared.instr.Instr.{Instr}
-use Rattle.lmn_instr.specs.declared.instr.Instr.TheVariants.{RemoveAtom, RemovePart, RemoveMem, NewAtom, NewInt, NewMem, CopyGround, MoveCells, LoadRule, CopyRules, NewLink, Relink, Unify, Proceed}
+use Rattle.lmn_instr.specs.declared.instr.Instr.TheVariants.{RemoveAtom, RemovePart, RemoveMem, NewAtom, NewInt, NewMem, CopyGround, MoveCells, CopyCells, LoadRule, CopyRules, DropCells, NewLink, Relink, Unify, Proceed}
 use Rattle.lmn_body.specs.Tied.{tied}
 use Rattle.lmn_body.specs.Running.{Registers, Does, all_placed, old_port, new_port}
 use Rattle.lmn_base.specs.Graphs.{Port}
@@ -66,6 +68,28 @@ all_placed_same : (es : List (ℕ × ℕ)) (s : Heap) → Same s (all_placed s e
 all_placed_same [] s x = refl
 all_placed_same (e ∷ es) s x = all_placed_same es (placed s e.0 e.1) x ∙ placed_same s e.0 e.1 x
 
+atoms_placed_same : (copy : ℕ → ℕ) (n : ℕ) (xs : List ℕ) (s : Heap) → Same s (atoms_placed copy s n xs)
+atoms_placed_same copy n [] s x = refl
+atoms_placed_same copy n (a ∷ xs) s x = atoms_placed_same copy n xs (placed s n (copy a)) x ∙ placed_same s n (copy a) x
+
+membranes_placed_same : (copy_mem copy : ℕ → ℕ) (ms : List ℕ) (s : Heap) → Same s (membranes_placed copy_mem copy s ms)
+membranes_placed_same copy_mem copy [] s x = refl
+membranes_placed_same copy_mem copy (m ∷ ms) s x =
+    membranes_placed_same copy_mem copy ms (membrane_placed copy_mem copy s m) x
+    ∙ atoms_placed_same copy (copy_mem m) (atoms_in s m) (rules_copied (placed_mem s (copy_round copy_mem (parent_of s m)) (copy_mem m)) m (copy_mem m)) x
+
+rest_placed_same : (s : Heap) (m n : ℕ) (atoms ms copies new_ms : List ℕ) → Same s (rest_placed s m n atoms ms copies new_ms)
+rest_placed_same s m n atoms ms copies new_ms x =
+    membranes_placed_same (answer (m ∷ ms) (n ∷ new_ms)) (answer atoms copies) ms (atoms_placed (answer atoms copies) s n (atoms_in s m)) x
+    ∙ atoms_placed_same (answer atoms copies) n (atoms_in s m) s x
+
+all_mems_taken_same : (ms : List ℕ) (s : Heap) → Same s (all_mems_taken s ms)
+all_mems_taken_same [] s x = refl
+all_mems_taken_same (m ∷ ms) s x = all_mems_taken_same ms (taken_mem s m) x
+
+rest_taken_same : (s : Heap) (atoms ms : List ℕ) → Same s (rest_taken s atoms ms)
+rest_taken_same s atoms ms x = all_mems_taken_same ms (taken_all s atoms) x ∙ all_taken_same atoms s x
+
 finished_unmarked : (s : Heap) → Unmarked s → Unmarked (finished s)
 finished_unmarked s u a i = by (s.atoms a) (u a i)
   where
@@ -96,6 +120,8 @@ does_unmarked r (NewInt a m v) s t d u = on s t (placed s (r.head.images.membran
 does_unmarked r (NewMem m n) s t d u = on s t (placed_mem s (r.head.images.membrane n) (r.head.images.membrane m)) d.1 (λ x. refl) u
 does_unmarked r (CopyGround c m g) s t d u = on s t (all_placed s (map (λ a. (r.head.images.membrane m, a)) (r.copied c))) d.2 (all_placed_same (map (λ a. (r.head.images.membrane m, a)) (r.copied c)) s) u
 does_unmarked r (MoveCells m n) s t d u = on s t (moved_all s (r.head.images.membrane m) (r.head.images.membrane n)) d (λ x. on_sent (r.head.images.membrane m) (r.head.images.membrane n) (s.atoms x)) u
+does_unmarked r (CopyCells m n) s t d u = on s t _ d.3 (rest_placed_same s (r.head.images.membrane m) (r.head.images.membrane n) (r.left_atoms m) (r.left_membranes m) d.0 d.1) u
+does_unmarked r (DropCells m) s t d u = on s t _ d.1 (rest_taken_same s (r.left_atoms m) (r.left_membranes m)) u
 does_unmarked r (LoadRule m k) s t d u = on s t (rule_added s (r.head.images.membrane m) k) d (λ x. refl) u
 does_unmarked r (CopyRules m n) s t d u = on s t (rules_copied s (r.head.images.membrane m) (r.head.images.membrane n)) d (λ x. refl) u
 does_unmarked r (NewLink p q) s t d u = on s t (tied s (newlink (new_port r p) (new_port r q))) d (tied_same s (newlink (new_port r p) (new_port r q))) u

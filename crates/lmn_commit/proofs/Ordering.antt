@@ -29,7 +29,7 @@ CopiedBelow g (Connector left right ∷ xs) = CopiedBelow g xs
 CopiedBelow g (Copy part link inside ∷ xs) = (part < g) × CopiedBelow g xs
 CopiedBelow g (Bound integer link inside ∷ xs) = CopiedBelow g xs
 CopiedBelow g (Membrane inside ∷ xs) = CopiedBelow g xs
-CopiedBelow g (Rest of inside ∷ xs) = CopiedBelow g xs
+CopiedBelow g (Rest of closed inside ∷ xs) = CopiedBelow g xs
 CopiedBelow g (Rule rule inside ∷ xs) = CopiedBelow g xs
 CopiedBelow g (Rules of inside ∷ xs) = CopiedBelow g xs
 
@@ -40,7 +40,7 @@ copied_below g c (Connector left right ∷ xs) h = copied_below g c xs h
 copied_below g c (Copy part link inside ∷ xs) h = (h (c, part) (inl refl), copied_below g (c + 1) xs (λ e i. h e (inr i)))
 copied_below g c (Bound integer link inside ∷ xs) h = copied_below g c xs h
 copied_below g c (Membrane inside ∷ xs) h = copied_below g c xs h
-copied_below g c (Rest of inside ∷ xs) h = copied_below g c xs h
+copied_below g c (Rest of closed inside ∷ xs) h = copied_below g c xs h
 copied_below g c (Rule rule inside ∷ xs) h = copied_below g c xs h
 copied_below g c (Rules of inside ∷ xs) h = copied_below g c xs h
 
@@ -99,7 +99,7 @@ making_in_order k a m g v c (Membrane inside ∷ xs) rest l w b h r q p o = (
       (making_in_order k a (m + 1) g v c xs rest (omega (arith, l)) w.1 b h r (omega (arith, q)) p
       (order_same (a + atoms_in_body xs) (a + atoms_in_body xs) (m + (1 + membranes_in_body xs)) (m + 1 + membranes_in_body xs) g v (c + copies_in_body xs) (c + copies_in_body xs) rest refl (omega arith) refl o)),
 )
-making_in_order k a m g v c (Rest of inside ∷ xs) rest l w b h r q p o =
+making_in_order k a m g v c (Rest of closed inside ∷ xs) rest l w b h r q p o =
     ((head_below k m of l w.0, inside_below k m inside l w.2), still a m g v c (making a m c xs ++ rest) (making_in_order k a m g v c xs rest l w.3 b h r q p o))
 making_in_order k a m g v c (Rule rule inside ∷ xs) rest l w b h r q p o =
     (inside_below k m inside l w.0, still a m g v c (making a m c xs ++ rest) (making_in_order k a m g v c xs rest l w.1 b h r q p o))
@@ -155,7 +155,7 @@ news_below b d a c (Connector left right ∷ xs) l k = news_below b d a c xs l k
 news_below b d a c (Copy part link inside ∷ xs) l k = (let q : c < d = omega (arith, k) in q, news_below b d a (c + 1) xs l (omega (arith, k)))
 news_below b d a c (Bound integer link inside ∷ xs) l k = (let q : a < b = omega (arith, l) in q, news_below b d (a + 1) c xs (omega (arith, l)) k)
 news_below b d a c (Membrane inside ∷ xs) l k = news_below b d a c xs l k
-news_below b d a c (Rest of inside ∷ xs) l k = news_below b d a c xs l k
+news_below b d a c (Rest of closed inside ∷ xs) l k = news_below b d a c xs l k
 news_below b d a c (Rule rule inside ∷ xs) l k = news_below b d a c xs l k
 news_below b d a c (Rules of inside ∷ xs) l k = news_below b d a c xs l k
 

@@ -92,7 +92,8 @@ making_takes_none a m c (Connector left right ∷ xs) = making_takes_none a m c 
 making_takes_none a m c (Copy part link inside ∷ xs) = (tt, making_takes_none a m (c + 1) xs)
 making_takes_none a m c (Bound integer link inside ∷ xs) = (tt, making_takes_none (a + 1) m c xs)
 making_takes_none a m c (Membrane inside ∷ xs) = (tt, making_takes_none a (m + 1) c xs)
-making_takes_none a m c (Rest of inside ∷ xs) = (tt, making_takes_none a m c xs)
+making_takes_none a m c (Rest of true inside ∷ xs) = (tt, making_takes_none a m c xs)
+making_takes_none a m c (Rest of false inside ∷ xs) = (tt, making_takes_none a m c xs)
 making_takes_none a m c (Rule rule inside ∷ xs) = (tt, making_takes_none a m c xs)
 making_takes_none a m c (Rules of inside ∷ xs) = (tt, making_takes_none a m c xs)
 
@@ -147,7 +148,7 @@ making_needs r rules a m c (Connector left right ∷ xs) x = making_needs r rule
 making_needs r rules a m c (Copy part link inside ∷ xs) x = zero_first (making_needs r rules a m (c + 1) xs x)
 making_needs r rules a m c (Bound integer link inside ∷ xs) x = zero_first (making_needs r rules (a + 1) m c xs x)
 making_needs r rules a m c (Membrane inside ∷ xs) x = zero_first (making_needs r rules a (m + 1) c xs x)
-making_needs r rules a m c (Rest of inside ∷ xs) x = zero_first (making_needs r rules a m c xs x)
+making_needs r rules a m c (Rest of closed inside ∷ xs) x = zero_first (making_needs r rules a m c xs x)
 making_needs r rules a m c (Rule rule inside ∷ xs) x =
     let t = making_needs r rules a m c xs x in
     let u = length_append (if_inside r x inside (rule ∷ [])) (added_rules r rules xs x) in
@@ -265,7 +266,7 @@ atoms_run r (a ∷ ns) gs rest s j n c = (c.0, tt, λ t d. atoms_run r ns gs res
 
 -- a valid heap, in which nothing is made
 pub itself : (h : Heap) → Valid h → Alone h × SameButSpares h (discarded h)
-itself h v = prepare_stops (record { head = record { images = record { atom = λ k. 0; membrane = λ k. 0; part = λ k. (0, 0) }; integer = λ k. pos 0 }; copy = λ k. (0, 0); copied = λ k. [] }) [] tt h v h refl
+itself h v = prepare_stops (record { head = record { images = record { atom = λ k. 0; membrane = λ k. 0; part = λ k. (0, 0) }; integer = λ k. pos 0 }; copy = λ k. (0, 0); copied = λ k. []; left_atoms = λ k. []; left_membranes = λ k. [] }) [] tt h v h refl
 
 not_gone : (p : Place) → IsSome (home_by p) → (x : HeapAtom) → x.place ≡ p → unless_waiting x ≡ Some x
 not_gone top e x q = rw q refl

@@ -17,7 +17,7 @@ atoms_in_body (Connector left right ∷ xs) = atoms_in_body xs
 atoms_in_body (Copy part link inside ∷ xs) = atoms_in_body xs
 atoms_in_body (Bound integer link inside ∷ xs) = 1 + atoms_in_body xs
 atoms_in_body (Membrane inside ∷ xs) = atoms_in_body xs
-atoms_in_body (Rest of inside ∷ xs) = atoms_in_body xs
+atoms_in_body (Rest of closed inside ∷ xs) = atoms_in_body xs
 atoms_in_body (Rule rule inside ∷ xs) = atoms_in_body xs
 atoms_in_body (Rules of inside ∷ xs) = atoms_in_body xs
 
@@ -29,7 +29,7 @@ membranes_in_body (Connector left right ∷ xs) = membranes_in_body xs
 membranes_in_body (Copy part link inside ∷ xs) = membranes_in_body xs
 membranes_in_body (Bound integer link inside ∷ xs) = membranes_in_body xs
 membranes_in_body (Membrane inside ∷ xs) = 1 + membranes_in_body xs
-membranes_in_body (Rest of inside ∷ xs) = membranes_in_body xs
+membranes_in_body (Rest of closed inside ∷ xs) = membranes_in_body xs
 membranes_in_body (Rule rule inside ∷ xs) = membranes_in_body xs
 membranes_in_body (Rules of inside ∷ xs) = membranes_in_body xs
 
@@ -41,7 +41,7 @@ copies_in_body (Connector left right ∷ xs) = copies_in_body xs
 copies_in_body (Copy part link inside ∷ xs) = 1 + copies_in_body xs
 copies_in_body (Bound integer link inside ∷ xs) = copies_in_body xs
 copies_in_body (Membrane inside ∷ xs) = copies_in_body xs
-copies_in_body (Rest of inside ∷ xs) = copies_in_body xs
+copies_in_body (Rest of closed inside ∷ xs) = copies_in_body xs
 copies_in_body (Rule rule inside ∷ xs) = copies_in_body xs
 copies_in_body (Rules of inside ∷ xs) = copies_in_body xs
 
@@ -53,7 +53,7 @@ BoundBelow v (Connector left right ∷ xs) = BoundBelow v xs
 BoundBelow v (Copy part link inside ∷ xs) = BoundBelow v xs
 BoundBelow v (Bound integer link inside ∷ xs) = (integer < v) × BoundBelow v xs
 BoundBelow v (Membrane inside ∷ xs) = BoundBelow v xs
-BoundBelow v (Rest of inside ∷ xs) = BoundBelow v xs
+BoundBelow v (Rest of closed inside ∷ xs) = BoundBelow v xs
 BoundBelow v (Rule rule inside ∷ xs) = BoundBelow v xs
 BoundBelow v (Rules of inside ∷ xs) = BoundBelow v xs
 

@@ -8,7 +8,7 @@ use Rattle.lmn_parts.specs.Copies.{Copied, LeadsOut}
 use Rattle.lmn_instr.specs.declared.instr.NewPort.{NewPort}
 use Rattle.lmn_instr.specs.declared.instr.NewPort.TheVariants as new
 use Rattle.lmn_instr.specs.declared.instr.Instr.{Instr}
-use Rattle.lmn_instr.specs.declared.instr.Instr.TheVariants.{RemoveAtom, RemovePart, RemoveMem, NewAtom, NewInt, NewMem, CopyGround, MoveCells, LoadRule, CopyRules, NewLink, Relink, Unify, Proceed}
+use Rattle.lmn_instr.specs.declared.instr.Instr.TheVariants.{RemoveAtom, RemovePart, RemoveMem, NewAtom, NewInt, NewMem, CopyGround, MoveCells, CopyCells, LoadRule, CopyRules, DropCells, NewLink, Relink, Unify, Proceed}
 use Rattle.lmn_body.specs.Running.{Registers, Makes, Prepares}
 use Rattle.lmn_body.specs.Stopping.{SameButSpares}
 use Rattle.lmn_registers.specs.declared.registers.PartCopy.{PartCopy}
@@ -32,8 +32,10 @@ Uses a m g c (NewInt x y z) = (x < a) × (y < m)
 Uses a m g c (NewMem x y) = (x < m) × (y < m)
 Uses a m g c (CopyGround x y z) = (x < c) × (y < m) × (z < g)
 Uses a m g c (MoveCells x y) = (x < m) × (y < m)
+Uses a m g c (CopyCells x y) = (x < m) × (y < m)
 Uses a m g c (LoadRule x k) = x < m
 Uses a m g c (CopyRules x y) = (x < m) × (y < m)
+Uses a m g c (DropCells x) = x < m
 Uses a m g c (NewLink p q) = UsesPort a c p × UsesPort a c q
 Uses a m g c (Relink p h) = UsesPort a c p × (h.atom < a)
 Uses a m g c (Unify p h) = (p.atom < a) × (h.atom < a)

@@ -1,6 +1,11 @@
 -- The registers of a machine, by the numbers of what they hold.
-use Rattle.std.specs.Prelude.{ℕ, ℤ, ◌≡◌, List, Some, length, slice_get}
-use Rattle.lmn_heap.specs.Heap.{Heap, IsAtom, IsMem, port_id}
+use Rattle.std.specs.Prelude.{ℕ, ℤ, ◌≡◌, ◌↔◌, Bool, true, not, List, Some, length, map, slice_get}
+use Rattle.lmn_base.specs.Graphs.{Reached}
+use Rattle.lmn_base.specs.Lists.{In}
+use Rattle.lmn_heap.specs.Heap.{Heap, IsAtom, IsMem, atoms_in, port_id}
+use Rattle.lmn_heap.specs.Graphs.{atom_map}
+use Rattle.lmn_parts.specs.Rests.{IsRest}
+use Rattle.lmn_parts.specs.Walks.{is_in}
 use Rattle.lmn_body.specs.Running.{Registers}
 use Rattle.lmn_registers.specs.declared.registers.PartCopy.{PartCopy}
 use Rattle.lmn_registers.specs.declared.registers.SetRegisters.{SetRegisters}
@@ -48,3 +53,23 @@ pub record Grows {A M : Type 0} (g k : SetRegisters A M) : Type 0 where
   pub parts : k.parts ≡ g.parts
   pub integers : k.integers ≡ g.integers
   pub copies : (i : ℕ) (p : PartCopy A) → slice_get g.copies i ≡ Some p → slice_get k.copies i ≡ Some p
+
+-- an atom of a part in registers
+abbrev pub IsInParts : {A : Type 0} → (A → ℕ) → Heap → List (A × ℕ) → ℕ → Type 0
+IsInParts {A} atom h parts a = (k : ℕ) × (p : A × ℕ) × (slice_get parts k ≡ Some p) × Reached (atom_map h) (port_id atom p) a
+
+-- an atom that is in no register, and in no part in registers
+pub record IsBeside {A M : Type 0} (atom : A → ℕ) (h : Heap) (g : SetRegisters A M) (a : ℕ) : Type 0 where
+  pub no_atom : In a (map atom g.atoms) → ⊥
+  pub no_part : IsInParts atom h g.parts a → ⊥
+
+-- The rest of a membrane besides the registers: its atoms that are in none and in no part in registers, and its membranes that
+-- are in none, with all that is in these.
+abbrev pub IsRestBeside : {A M : Type 0} → (A → ℕ) → (M → ℕ) → Heap → SetRegisters A M → ℕ → List ℕ → List ℕ → Type 0
+IsRestBeside atom membrane h g m atoms membranes =
+    (left : ℕ → Bool) × ((a : ℕ) → In a (atoms_in h m) → (left a ≡ true) ↔ IsBeside atom h g a)
+    × IsRest h m left (λ x. not (is_in (map membrane g.membranes) x)) atoms membranes
+
+-- the registers of a body hold the rest of each membrane in registers
+abbrev pub HasRests : {A M : Type 0} → (A → ℕ) → (M → ℕ) → Heap → SetRegisters A M → Registers → Type 0
+HasRests {A} {M} atom membrane h g r = (k : ℕ) (m : M) → slice_get g.membranes k ≡ Some m → IsRestBeside atom membrane h g (membrane m) (r.left_atoms k) (r.left_membranes k)

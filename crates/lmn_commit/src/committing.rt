@@ -10,7 +10,7 @@ ghost use Rattle.lmn_commit.specs.Matched.{IsPrepared};
 ghost use Rattle.lmn_heap.specs.Sound.{Valid};
 
 use crate::splicing::{relink, unify};
-use lmn_ground::take_part;
+use lmn_ground::{drop_cells, place_cells, take_part};
 use lmn_instr::{AtomPort, Instr, NewPort};
 use lmn_registers::SetRegisters;
 use lmn_store::LinkStore;
@@ -77,6 +77,14 @@ fn run<S: LinkStore>(store: &mut S, instr: &Instr, set: &SetRegisters<S::Atom, S
                 set.membranes.at(*to as usize),
             );
         }
+        Instr::CopyCells { from, to } => {
+            place_cells(
+                store,
+                set.membranes.at(*from as usize),
+                set.membranes.at(*to as usize),
+            );
+        }
+        Instr::DropCells { membrane } => drop_cells(store, set.membranes.at(*membrane as usize)),
         Instr::LoadRule { membrane, rule } => {
             store.add_rule(set.membranes.at(*membrane as usize), *rule);
         }

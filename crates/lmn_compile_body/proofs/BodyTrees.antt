@@ -162,7 +162,7 @@ few_append (Connector left right ∷ xs) ys h g = few_append xs ys h g
 few_append (Copy part link inside ∷ xs) ys h g = few_append xs ys h g
 few_append (Bound integer link inside ∷ xs) ys h g = few_append xs ys h g
 few_append (Membrane inside ∷ xs) ys h g = few_append xs ys h g
-few_append (Rest of inside ∷ xs) ys h g = few_append xs ys h g
+few_append (Rest of closed inside ∷ xs) ys h g = few_append xs ys h g
 few_append (Rule rule inside ∷ xs) ys h g = few_append xs ys h g
 few_append (Rules of inside ∷ xs) ys h g = few_append xs ys h g
 
@@ -194,7 +194,7 @@ body_fits n (Connector left right ∷ xs) few low = (low.0, low.1.0, body_fits n
 body_fits n (Copy part link inside ∷ xs) few low = (low.0, body_fits n xs few low.1)
 body_fits n (Bound integer link inside ∷ xs) few low = (low.0, body_fits n xs few low.1)
 body_fits n (Membrane inside ∷ xs) few low = body_fits n xs few low
-body_fits n (Rest of inside ∷ xs) few low = body_fits n xs few low
+body_fits n (Rest of closed inside ∷ xs) few low = body_fits n xs few low
 body_fits n (Rule rule inside ∷ xs) few low = body_fits n xs few low
 body_fits n (Rules of inside ∷ xs) few low = body_fits n xs few low
 

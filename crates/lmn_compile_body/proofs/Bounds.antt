@@ -19,7 +19,7 @@ fits_few n (Connector left right ∷ xs) h = fits_few n xs h.2
 fits_few n (Copy part link inside ∷ xs) h = fits_few n xs h.1
 fits_few n (Bound integer link inside ∷ xs) h = fits_few n xs h.1
 fits_few n (Membrane inside ∷ xs) h = fits_few n xs h
-fits_few n (Rest of inside ∷ xs) h = fits_few n xs h
+fits_few n (Rest of closed inside ∷ xs) h = fits_few n xs h
 fits_few n (Rule rule inside ∷ xs) h = fits_few n xs h
 fits_few n (Rules of inside ∷ xs) h = fits_few n xs h
 
@@ -31,7 +31,7 @@ connectors_below n (Connector left right ∷ xs) h = (h.0, h.1, connectors_below
 connectors_below n (Copy part link inside ∷ xs) h = connectors_below n xs h.1
 connectors_below n (Bound integer link inside ∷ xs) h = connectors_below n xs h.1
 connectors_below n (Membrane inside ∷ xs) h = connectors_below n xs h
-connectors_below n (Rest of inside ∷ xs) h = connectors_below n xs h
+connectors_below n (Rest of closed inside ∷ xs) h = connectors_below n xs h
 connectors_below n (Rule rule inside ∷ xs) h = connectors_below n xs h
 connectors_below n (Rules of inside ∷ xs) h = connectors_below n xs h
 
@@ -51,7 +51,7 @@ new_below n a c (Connector left right ∷ xs) h = new_below n a c xs h.2
 new_below n a c (Copy part link inside ∷ xs) h = (h.0, new_below n a (c + 1) xs h.1)
 new_below n a c (Bound integer link inside ∷ xs) h = (h.0, new_below n (a + 1) c xs h.1)
 new_below n a c (Membrane inside ∷ xs) h = new_below n a c xs h
-new_below n a c (Rest of inside ∷ xs) h = new_below n a c xs h
+new_below n a c (Rest of closed inside ∷ xs) h = new_below n a c xs h
 new_below n a c (Rule rule inside ∷ xs) h = new_below n a c xs h
 new_below n a c (Rules of inside ∷ xs) h = new_below n a c xs h
 

@@ -1,6 +1,6 @@
 -- The contexts of a rule, by the tree of its head and that of its body: in which membranes they stand, and how often.
 use Rattle.std.proofs.Common.{ℕ, zero, suc, ◌≡◌, ◌≢◌, ◌≤◌, ◌<◌, ◌+◌, ◌⊎◌, Bool, true, false, List, [], ◌∷◌, ◌++◌, Some, length, map, sum, refl, ap, sym, subst, ◌∙◌, inl, inr, arith}
-use Rattle.std.specs.Prelude.{◌==◌, ◌&&◌, if◌then◌else◌, Contains, slice_get}
+use Rattle.std.specs.Prelude.{◌==◌, ◌||◌, ◌&&◌, if◌then◌else◌, Contains, slice_get}
 use Rattle.std.specs.List.{flat_map, list_any}
 use Rattle.std.proofs.lemmas.Bool.{cases_eq}
 use Rattle.std.proofs.lemmas.Bool.Decides.{Decides-eqb}
@@ -16,8 +16,8 @@ use Rattle.lmn_base.specs.declared.level.Leaf.TheVariants as leaf
 use Rattle.lmn_base.specs.declared.level.Level.{Level, out-Level}
 use Rattle.lmn_base.specs.declared.level.Level.TheFolds.{fold-Level, fold-roll-Level, ind-Level, fold_out-Level}
 use Rattle.lmn_base.specs.declared.refusal.Pos.{Pos}
-use Rattle.lmn_base.specs.Items.{untyped as untyped_use, untyped_form, leaf_item}
-use Rattle.lmn_base.specs.RuleCodes.{is_bare, bare_use, seconds, behind_the_first, seconds_by_membrane}
+use Rattle.lmn_base.specs.Items.{untyped_form, untyped as written, leaf_item}
+use Rattle.lmn_base.specs.RuleCodes.{bare_use, seconds, behind_the_first, seconds_by_membrane}
 use Rattle.lmn_base.specs.Uses.{use_of}
 use Rattle.lmn_guards.specs.declared.plan.TypeKind.{TypeKind}
 use Rattle.lmn_solid.specs.Heads.{HeadMembrane, membrane_of, membranes_of}
@@ -27,14 +27,13 @@ use Rattle.lmn_solid.proofs.HeadTrees.{Head, Heads, head, no_head, head_and, hea
 use Rattle.lmn_splice.specs.Splice.{IsOneOf, NoneTwice}
 use Rattle.lmn_body.proofs.Firing.{in_often}
 use Rattle.lmn_body.proofs.HeadPorts.{in_map, of_map as from_map}
-use Rattle.lmn_body.specs.Flattening.{NumberedContexts, names_inside, names_below, numbering, membrane_named}
+use Rattle.lmn_body.specs.Flattening.{NumberedContexts, names_inside, names_below, numbering, membrane_named, open_uses}
 use Rattle.lmn_congruence.specs.Links.{places, one_if_same}
 use Rattle.lmn_congruence.proofs.Counts.{one_if_equal as one_same}
 use Rattle.lmn_congruence.proofs.TranslatedLinks.{places_append as often_append}
 use Rattle.lmn_splice.proofs.Common.{in_append, in_back, in_front}
 use Rattle.lmn_body.proofs.Numbered.{leaves_none}
 use Rattle.lmn_compile_head.proofs.HeadLeaves.{all_membranes}
-use Rattle.lmn_compile_head.proofs.OpenHeads.{AllOpen, OpenHead, OpenHeads}
 use Rattle.lmn_base.specs.Names.{context_names}
 
 -- ---- lists
@@ -210,7 +209,7 @@ abbrev pub firsts : List (ℕ × ℕ) → List ℕ
 firsts es = map (λ e. e.0) es
 
 abbrev own_uses : List Leaf → List CtxUse → List CtxUse → List ℕ → List Item
-own_uses leaves cs rcs rs = map leaf_item leaves ++ (map untyped_use cs ++ (map item.RuleContext rcs ++ map item.Rule rs))
+own_uses leaves cs rcs rs = map leaf_item leaves ++ (map written cs ++ (map item.RuleContext rcs ++ map item.Rule rs))
 
 leaf_typed : (l : Leaf) (u : FormedUse) → leaf_item l ≡ item.Context u → u.form ≡ Typed
 leaf_typed (leaf.Atom f os p) u e = absurd (cc)
@@ -221,14 +220,15 @@ leaf_rule (leaf.Atom f os p) u e = absurd (cc)
 leaf_rule (leaf.Typed x o p) u e = absurd (cc)
 
 -- a use isn't typed and untyped
-pub not_both : Typed ≡ Bare → ⊥
-not_both e = absurd (cc)
+pub not_both : (b : Bool) → Typed ≡ untyped_form b → ⊥
+not_both true e = absurd (cc)
+not_both false e = absurd (cc)
 
-own_bare : (leaves : List Leaf) (cs rcs : List CtxUse) (rs : List ℕ) (u : FormedUse) → IsOneOf (item.Context u) (own_uses leaves cs rcs rs) → u.form ≡ Bare → IsOneOf u.name (context_names cs)
-own_bare leaves cs rcs rs u i bare = elim (in_append (item.Context u) (map leaf_item leaves) (map untyped_use cs ++ (map item.RuleContext rcs ++ map item.Rule rs)) i) [
-  | inl j ↦ (let r = from_map leaf_item (item.Context u) leaves j in absurd (not_both (sym (leaf_typed r.0 u r.2) ∙ bare)))
-  | inr j ↦ elim (in_append (item.Context u) (map untyped_use cs) (map item.RuleContext rcs ++ map item.Rule rs) j) [
-    | inl k ↦ (let r = from_map untyped_use (item.Context u) cs k in subst (λ x. IsOneOf x (context_names cs)) (named r.0 r.2) (in_map (λ (c : CtxUse). c.name) r.0 cs r.1))
+own_bare : (leaves : List Leaf) (cs rcs : List CtxUse) (rs : List ℕ) (u : FormedUse) → IsOneOf (item.Context u) (own_uses leaves cs rcs rs) → (u.form ≡ Typed → ⊥) → IsOneOf u.name (context_names cs)
+own_bare leaves cs rcs rs u i bare = elim (in_append (item.Context u) (map leaf_item leaves) (map written cs ++ (map item.RuleContext rcs ++ map item.Rule rs)) i) [
+  | inl j ↦ (let r = from_map leaf_item (item.Context u) leaves j in absurd (bare (leaf_typed r.0 u r.2)))
+  | inr j ↦ elim (in_append (item.Context u) (map written cs) (map item.RuleContext rcs ++ map item.Rule rs) j) [
+    | inl k ↦ (let r = from_map written (item.Context u) cs k in subst (λ x. IsOneOf x (context_names cs)) (named r.0 r.2) (in_map (λ (c : CtxUse). c.name) r.0 cs r.1))
     | inr k ↦ elim (in_append (item.Context u) (map item.RuleContext rcs) (map item.Rule rs) k) [
       | inl l ↦ (let r = from_map item.RuleContext (item.Context u) rcs l in absurd (rule_context r.0 r.2))
       | inr l ↦ (let r = from_map item.Rule (item.Context u) rs l in absurd (rule r.0 r.2))
@@ -236,7 +236,7 @@ own_bare leaves cs rcs rs u i bare = elim (in_append (item.Context u) (map leaf_
   ]
 ]
   where
-    named : (c : CtxUse) → untyped_use c ≡ item.Context u → c.name ≡ u.name
+    named : (c : CtxUse) → written c ≡ item.Context u → c.name ≡ u.name
     named c e = let same : (record { name = c.name; form = untyped_form c.closed; pos = c.pos }) ≡ u = cc in ap (λ (v : FormedUse). v.name) same
 
     rule_context : (c : CtxUse) → item.RuleContext c ≡ item.Context u → ⊥
@@ -246,10 +246,10 @@ own_bare leaves cs rcs rs u i bare = elim (in_append (item.Context u) (map leaf_
     rule k e = absurd (cc)
 
 own_of_rules : (leaves : List Leaf) (cs rcs : List CtxUse) (rs : List ℕ) (u : CtxUse) → IsOneOf (item.RuleContext u) (own_uses leaves cs rcs rs) → IsOneOf u.name (context_names rcs)
-own_of_rules leaves cs rcs rs u i = elim (in_append (item.RuleContext u) (map leaf_item leaves) (map untyped_use cs ++ (map item.RuleContext rcs ++ map item.Rule rs)) i) [
+own_of_rules leaves cs rcs rs u i = elim (in_append (item.RuleContext u) (map leaf_item leaves) (map written cs ++ (map item.RuleContext rcs ++ map item.Rule rs)) i) [
   | inl j ↦ (let r = from_map leaf_item (item.RuleContext u) leaves j in absurd (leaf_rule r.0 u r.2))
-  | inr j ↦ elim (in_append (item.RuleContext u) (map untyped_use cs) (map item.RuleContext rcs ++ map item.Rule rs) j) [
-    | inl k ↦ (let r = from_map untyped_use (item.RuleContext u) cs k in absurd (context r.0 r.2))
+  | inr j ↦ elim (in_append (item.RuleContext u) (map written cs) (map item.RuleContext rcs ++ map item.Rule rs) j) [
+    | inl k ↦ (let r = from_map written (item.RuleContext u) cs k in absurd (context r.0 r.2))
     | inr k ↦ elim (in_append (item.RuleContext u) (map item.RuleContext rcs) (map item.Rule rs) k) [
       | inl l ↦ (let r = from_map item.RuleContext (item.RuleContext u) rcs l in subst (λ x. IsOneOf x (context_names rcs)) (named r.0 r.2) (in_map (λ (c : CtxUse). c.name) r.0 rcs r.1))
       | inr l ↦ (let r = from_map item.Rule (item.RuleContext u) rs l in absurd (rule r.0 r.2))
@@ -257,7 +257,7 @@ own_of_rules leaves cs rcs rs u i = elim (in_append (item.RuleContext u) (map le
   ]
 ]
   where
-    context : (c : CtxUse) → untyped_use c ≡ item.RuleContext u → ⊥
+    context : (c : CtxUse) → written c ≡ item.RuleContext u → ⊥
     context c e = absurd (cc)
 
     named : (c : CtxUse) → item.RuleContext c ≡ item.RuleContext u → c.name ≡ u.name
@@ -275,13 +275,13 @@ back_name x es fs i = subst (IsOneOf x) (sym (map-append (λ (e : ℕ × ℕ). e
 
 mutual
   -- an untyped context that is used in a head has a membrane there
-  pub has_name : (inside next : ℕ) (h : Head) (u : FormedUse) → IsOneOf (item.Context u) (head_uses h) → u.form ≡ Bare → IsOneOf u.name (firsts (head_names untyped inside next h))
+  pub has_name : (inside next : ℕ) (h : Head) (u : FormedUse) → IsOneOf (item.Context u) (head_uses h) → (u.form ≡ Typed → ⊥) → IsOneOf u.name (firsts (head_names untyped inside next h))
   has_name inside next (head leaves hs cs rcs rs) u i bare = elim (in_append (item.Context u) (own_uses leaves cs rcs rs) (heads_uses hs) i) [
     | inl j ↦ front_name u.name (names_inside inside cs) (heads_names untyped next hs) (subst (IsOneOf u.name) (sym (own_names inside cs)) (own_bare leaves cs rcs rs u j bare))
     | inr j ↦ back_name u.name (names_inside inside cs) (heads_names untyped next hs) (have_name next hs u j bare)
   ]
 
-  have_name : (next : ℕ) (hs : Heads) (u : FormedUse) → IsOneOf (item.Context u) (heads_uses hs) → u.form ≡ Bare → IsOneOf u.name (firsts (heads_names untyped next hs))
+  have_name : (next : ℕ) (hs : Heads) (u : FormedUse) → IsOneOf (item.Context u) (heads_uses hs) → (u.form ≡ Typed → ⊥) → IsOneOf u.name (firsts (heads_names untyped next hs))
   have_name next no_head u i bare = absurd i
   have_name next (head_and h hs) u i bare = elim (in_append (item.Context u) (head_uses h) (heads_uses hs) i) [
     | inl j ↦ front_name u.name (head_names untyped next (next + 1) h) (heads_names untyped (next + 1 + size h) hs) (has_name next (next + 1) h u j bare)
@@ -345,17 +345,17 @@ module _ (pick : List CtxUse → List CtxUse → List CtxUse) where
         | inr j ↦ in_back (as_item u) (head_uses h) (heads_uses hs) (are_used hs u j)
       ]
 
--- an untyped context of a head is used there
-pub context_used : (h : Head) (u : CtxUse) → IsOneOf u (head_contexts untyped h) → IsOneOf (untyped_use u) (head_uses h)
-context_used = is_used untyped untyped_use (λ leaves cs rcs rs u i.
-    in_back (untyped_use u) (map leaf_item leaves) (map untyped_use cs ++ (map item.RuleContext rcs ++ map item.Rule rs))
-    (in_front (untyped_use u) (map untyped_use cs) (map item.RuleContext rcs ++ map item.Rule rs) (in_map untyped_use u cs i)))
+-- a context of a head is used there, as it is written
+pub context_used : (h : Head) (u : CtxUse) → IsOneOf u (head_contexts untyped h) → IsOneOf (written u) (head_uses h)
+context_used = is_used untyped written (λ leaves cs rcs rs u i.
+    in_back (written u) (map leaf_item leaves) (map written cs ++ (map item.RuleContext rcs ++ map item.Rule rs))
+    (in_front (written u) (map written cs) (map item.RuleContext rcs ++ map item.Rule rs) (in_map written u cs i)))
 
 -- and a rule context as such
 pub rule_context_used : (h : Head) (u : CtxUse) → IsOneOf u (head_contexts of_rules h) → IsOneOf (item.RuleContext u) (head_uses h)
 rule_context_used = is_used of_rules item.RuleContext (λ leaves cs rcs rs u i.
-    in_back (item.RuleContext u) (map leaf_item leaves) (map untyped_use cs ++ (map item.RuleContext rcs ++ map item.Rule rs))
-    (in_back (item.RuleContext u) (map untyped_use cs) (map item.RuleContext rcs ++ map item.Rule rs)
+    in_back (item.RuleContext u) (map leaf_item leaves) (map written cs ++ (map item.RuleContext rcs ++ map item.Rule rs))
+    (in_back (item.RuleContext u) (map written cs) (map item.RuleContext rcs ++ map item.Rule rs)
     (in_front (item.RuleContext u) (map item.RuleContext rcs) (map item.Rule rs) (in_map item.RuleContext u rcs i))))
 
 -- ---- how often names are used
@@ -394,19 +394,28 @@ one_place x y p = by (x == y) (y == x) refl refl
         off : false ≡ true → ⊥
         off e = absurd (cc)
 
+-- the open ones of two lists
+open_append : (cs ds : List CtxUse) → open_uses (cs ++ ds) ≡ open_uses cs ++ open_uses ds
+open_append [] ds = refl
+open_append (c ∷ cs) ds = by c.closed (open_append cs ds)
+  where
+    by : (k : Bool) → open_uses (cs ++ ds) ≡ open_uses cs ++ open_uses ds → (if k then open_uses (cs ++ ds) else c ∷ open_uses (cs ++ ds)) ≡ (if k then open_uses cs else c ∷ open_uses cs) ++ open_uses ds
+    by true e = e
+    by false e = ap (λ zs. c ∷ zs) e
+
 module _ (x : ℕ) where
-  names_used : (cs : List CtxUse) → length (flat_map (use_of x) (map untyped_use cs)) ≡ places x (context_names cs)
+  names_used : (cs : List CtxUse) → length (flat_map (use_of x) (map written cs)) ≡ places x (context_names cs)
   names_used [] = refl
   names_used (c ∷ cs) =
-      let a = length-append (use_of x (untyped_use c)) (flat_map (use_of x) (map untyped_use cs)) in
+      let a = length-append (use_of x (written c)) (flat_map (use_of x) (map written cs)) in
       let b = one_place x c.name c.pos in
       let d = names_used cs in
       omega (arith, a, b, d)
 
   own_used : (leaves : List Leaf) (cs rcs : List CtxUse) (rs : List ℕ) → places x (context_names cs) ≤ length (flat_map (use_of x) (own_uses leaves cs rcs rs))
   own_used leaves cs rcs rs =
-      let a = many_append (use_of x) (map leaf_item leaves) (map untyped_use cs ++ (map item.RuleContext rcs ++ map item.Rule rs)) in
-      let b = many_append (use_of x) (map untyped_use cs) (map item.RuleContext rcs ++ map item.Rule rs) in
+      let a = many_append (use_of x) (map leaf_item leaves) (map written cs ++ (map item.RuleContext rcs ++ map item.Rule rs)) in
+      let b = many_append (use_of x) (map written cs) (map item.RuleContext rcs ++ map item.Rule rs) in
       let c = names_used cs in
       omega (arith, a, b, c)
 
@@ -440,50 +449,59 @@ module _ (x : ℕ) where
       by true = refl
       by false = refl
 
-  bare_names : (cs : List CtxUse) → AllOpen cs → length (flat_map (bare_use x) (map untyped_use cs)) ≡ places x (context_names cs)
-  bare_names [] none = refl
-  bare_names (c ∷ cs) none =
-      let a = length-append (bare_use x (untyped_use c)) (flat_map (bare_use x) (map untyped_use cs)) in
-      let bare = ap (λ closed. is_bare (untyped_form closed)) none.0 in
-      let b = same (c.name == x) (is_bare (untyped_form c.closed)) bare ∙ one_place x c.name c.pos in
-      let d = bare_names cs none.1 in
-      omega (arith, a, b, d)
+  bare_names : (cs : List CtxUse) → length (flat_map (bare_use x) (map written cs)) ≡ places x (context_names (open_uses cs))
+  bare_names [] = refl
+  bare_names (c ∷ cs) = by c.closed (bare_names cs)
     where
-      same : (b o : Bool) → o ≡ true → length (if b && o then c.pos ∷ [] else []) ≡ length (if b then c.pos ∷ [] else [])
-      same true true e = refl
-      same true false e = absurd (cc)
-      same false o e = refl
+      open_one : (b : Bool) → length (if b && true then c.pos ∷ [] else []) ≡ length (if b then c.pos ∷ [] else [])
+      open_one true = refl
+      open_one false = refl
 
-  own_bares : (leaves : List Leaf) (cs rcs : List CtxUse) (rs : List ℕ) → AllOpen cs → length (flat_map (bare_use x) (own_uses leaves cs rcs rs)) ≡ places x (context_names cs)
-  own_bares leaves cs rcs rs none =
-      let a = many_append (bare_use x) (map leaf_item leaves) (map untyped_use cs ++ (map item.RuleContext rcs ++ map item.Rule rs)) in
-      let b = many_append (bare_use x) (map untyped_use cs) (map item.RuleContext rcs ++ map item.Rule rs) in
+      closed_one : (b : Bool) → length (if b && false then c.pos ∷ [] else []) ≡ 0
+      closed_one true = refl
+      closed_one false = refl
+
+      by : (k : Bool) → length (flat_map (bare_use x) (map written cs)) ≡ places x (context_names (open_uses cs))
+          → length (bare_use x (item.Context (record { name = c.name; form = untyped_form k; pos = c.pos })) ++ flat_map (bare_use x) (map written cs)) ≡ places x (context_names (if k then open_uses cs else c ∷ open_uses cs))
+      by true d =
+          let a = length-append (bare_use x (item.Context (record { name = c.name; form = untyped_form true; pos = c.pos }))) (flat_map (bare_use x) (map written cs)) in
+          let b = closed_one (c.name == x) in
+          omega (arith, a, b, d)
+      by false d =
+          let a = length-append (bare_use x (item.Context (record { name = c.name; form = untyped_form false; pos = c.pos }))) (flat_map (bare_use x) (map written cs)) in
+          let b = open_one (c.name == x) ∙ one_place x c.name c.pos in
+          omega (arith, a, b, d)
+
+  own_bares : (leaves : List Leaf) (cs rcs : List CtxUse) (rs : List ℕ) → length (flat_map (bare_use x) (own_uses leaves cs rcs rs)) ≡ places x (context_names (open_uses cs))
+  own_bares leaves cs rcs rs =
+      let a = many_append (bare_use x) (map leaf_item leaves) (map written cs ++ (map item.RuleContext rcs ++ map item.Rule rs)) in
+      let b = many_append (bare_use x) (map written cs) (map item.RuleContext rcs ++ map item.Rule rs) in
       let c = many_append (bare_use x) (map item.RuleContext rcs) (map item.Rule rs) in
       let d = ap length (mapped leaf_item (bare_use x) leaves) ∙ none_of (λ l. bare_use x (leaf_item l)) leaves bare_leaf in
       let e = ap length (mapped item.RuleContext (bare_use x) rcs) ∙ none_of (λ u. bare_use x (item.RuleContext u)) rcs (λ u. refl) in
       let f = ap length (mapped item.Rule (bare_use x) rs) ∙ none_of (λ k. bare_use x (item.Rule k)) rs (λ k. refl) in
-      let g = bare_names cs none in
+      let g = bare_names cs in
       omega (arith, a, b, c, d, e, f, g)
 
   mutual
-    -- where all are open, a name stands as often among the untyped contexts of a level as it is used bare
-    pub bare_often : (h : Head) → OpenHead h → places x (context_names (head_contexts untyped h)) ≡ length (flat_map (bare_use x) (head_uses h))
-    bare_often (head leaves hs cs rcs rs) none =
-        let a = ap (places x) (map-append (λ (u : CtxUse). u.name) cs (heads_contexts untyped hs)) in
-        let b = often_append x (context_names cs) (context_names (heads_contexts untyped hs)) in
-        let c = own_bares leaves cs rcs rs none.0 in
+    -- a name stands as often among the open contexts of a level as it is used bare
+    pub bare_often : (h : Head) → places x (context_names (open_uses (head_contexts untyped h))) ≡ length (flat_map (bare_use x) (head_uses h))
+    bare_often (head leaves hs cs rcs rs) =
+        let a = ap (λ us. places x (context_names us)) (open_append cs (heads_contexts untyped hs)) ∙ ap (places x) (map-append (λ (u : CtxUse). u.name) (open_uses cs) (open_uses (heads_contexts untyped hs))) in
+        let b = often_append x (context_names (open_uses cs)) (context_names (open_uses (heads_contexts untyped hs))) in
+        let c = own_bares leaves cs rcs rs in
         let d = many_append (bare_use x) (own_uses leaves cs rcs rs) (heads_uses hs) in
-        let e = all_bare_often hs none.1 in
+        let e = all_bare_often hs in
         omega (arith, a, b, c, d, e)
 
-    all_bare_often : (hs : Heads) → OpenHeads hs → places x (context_names (heads_contexts untyped hs)) ≡ length (flat_map (bare_use x) (heads_uses hs))
-    all_bare_often no_head none = refl
-    all_bare_often (head_and h hs) none =
-        let a = ap (places x) (map-append (λ (u : CtxUse). u.name) (head_contexts untyped h) (heads_contexts untyped hs)) in
-        let b = often_append x (context_names (head_contexts untyped h)) (context_names (heads_contexts untyped hs)) in
-        let c = bare_often h none.0 in
+    all_bare_often : (hs : Heads) → places x (context_names (open_uses (heads_contexts untyped hs))) ≡ length (flat_map (bare_use x) (heads_uses hs))
+    all_bare_often no_head = refl
+    all_bare_often (head_and h hs) =
+        let a = ap (λ us. places x (context_names us)) (open_append (head_contexts untyped h) (heads_contexts untyped hs)) ∙ ap (places x) (map-append (λ (u : CtxUse). u.name) (open_uses (head_contexts untyped h)) (open_uses (heads_contexts untyped hs))) in
+        let b = often_append x (context_names (open_uses (head_contexts untyped h))) (context_names (open_uses (heads_contexts untyped hs))) in
+        let c = bare_often h in
         let d = many_append (bare_use x) (head_uses h) (heads_uses hs) in
-        let e = all_bare_often hs none.1 in
+        let e = all_bare_often hs in
         omega (arith, a, b, c, d, e)
 
 -- ---- one context in each membrane of a head
@@ -558,21 +576,28 @@ get_back (x ∷ xs) ys zero k b q e = absurd (omega (arith, q))
 get_back (x ∷ xs) ys (suc j) k b q e = get_back xs ys j k b (omega (arith, q)) e
 
 module _ (kind : ℕ → TypeKind) where
-  own_context : (next : ℕ) (cs : List CtxUse) → has_some cs ≡ true → (x : ℕ) × IsOneOf (x, next) (names_inside next cs)
+  -- its first context, which is open where none is closed
+  own_context : (next : ℕ) (cs : List CtxUse) → has_some cs ≡ true → (c : CtxUse) × IsOneOf c cs × IsOneOf (c.name, next) (names_inside next cs) × (list_any (λ u. u.closed) cs ≡ false → c.closed ≡ false)
   own_context next [] e = absurd (cc)
-  own_context next (c ∷ cs) e = (c.name, inl refl)
+  own_context next (c ∷ cs) e = (c, inl refl, inl refl, λ f. by c.closed f)
+    where
+      by : (t : Bool) → (t || list_any (λ u. u.closed) cs) ≡ false → t ≡ false
+      by true f = absurd (cc)
+      by false f = refl
 
   -- a membrane of a head that has an untyped context is that of a name
   pub held_at : (inside next : ℕ) (hs : Heads) (j : ℕ) (b : HeadMembrane) → slice_get (membranes_of (flat_membranes kind inside next hs)) j ≡ Some b → b.has_context ≡ true
-      → (x : ℕ) × IsOneOf (x, next + j) (heads_names untyped next hs)
+      → (c : CtxUse) × IsOneOf c (heads_contexts untyped hs) × IsOneOf (c.name, next + j) (heads_names untyped next hs) × (b.has_closed_context ≡ false → c.closed ≡ false)
   held_at inside next no_head j b e c = absurd (cc)
   held_at inside next (head_and (head leaves hs cs rcs rs) more) zero b e c =
       let same : (record { inside = inside; has_context = has_some cs; has_closed_context = list_any (λ u. u.closed) cs; has_rule_context = has_some rcs }) ≡ b = cc in
       let r = own_context next cs (ap (λ (m : HeadMembrane). m.has_context) same ∙ c) in
       let plus : next ≡ next + 0 = omega arith in (
         r.0,
+        in_front r.0 (cs ++ heads_contexts untyped hs) (heads_contexts untyped more) (in_front r.0 cs (heads_contexts untyped hs) r.1),
         in_front _ (names_inside next cs ++ heads_names untyped (next + 1) hs) (heads_names untyped (next + 1 + sizes hs) more)
-            (in_front _ (names_inside next cs) (heads_names untyped (next + 1) hs) (subst (λ n. IsOneOf (r.0, n) (names_inside next cs)) plus r.1)),
+            (in_front _ (names_inside next cs) (heads_names untyped (next + 1) hs) (subst (λ n. IsOneOf (r.0.name, n) (names_inside next cs)) plus r.2)),
+        (λ f. r.3 (ap (λ (m : HeadMembrane). m.has_closed_context) same ∙ f)),
       )
   held_at inside next (head_and (head leaves hs cs rcs rs) more) (suc j) b e c =
       let first = leaf_items kind next leaves ++ flat_membranes kind next (next + 1) hs in
@@ -589,27 +614,97 @@ module _ (kind : ℕ → TypeKind) where
       by : (j < sizes hs) ⊎ ((k : ℕ) × (j ≡ sizes hs + k)) →
           slice_get (membranes_of (leaf_items kind next leaves ++ flat_membranes kind next (next + 1) hs) ++ membranes_of (flat_membranes kind inside (next + 1 + sizes hs) more)) j ≡ Some b →
           length (membranes_of (leaf_items kind next leaves ++ flat_membranes kind next (next + 1) hs)) ≡ sizes hs →
-          (slice_get (membranes_of (flat_membranes kind next (next + 1) hs)) j ≡ Some b → (x : ℕ) × IsOneOf (x, next + 1 + j) (heads_names untyped (next + 1) hs)) →
-          ((k : ℕ) → slice_get (membranes_of (flat_membranes kind inside (next + 1 + sizes hs) more)) k ≡ Some b → (x : ℕ) × IsOneOf (x, next + 1 + sizes hs + k) (heads_names untyped (next + 1 + sizes hs) more)) →
-          (x : ℕ) × IsOneOf (x, next + suc j) ((names_inside next cs ++ heads_names untyped (next + 1) hs) ++ heads_names untyped (next + 1 + sizes hs) more)
+          (slice_get (membranes_of (flat_membranes kind next (next + 1) hs)) j ≡ Some b → (c : CtxUse) × IsOneOf c (heads_contexts untyped hs) × IsOneOf (c.name, next + 1 + j) (heads_names untyped (next + 1) hs) × (b.has_closed_context ≡ false → c.closed ≡ false)) →
+          ((k : ℕ) → slice_get (membranes_of (flat_membranes kind inside (next + 1 + sizes hs) more)) k ≡ Some b → (c : CtxUse) × IsOneOf c (heads_contexts untyped more) × IsOneOf (c.name, next + 1 + sizes hs + k) (heads_names untyped (next + 1 + sizes hs) more) × (b.has_closed_context ≡ false → c.closed ≡ false)) →
+          (c : CtxUse) × IsOneOf c ((cs ++ heads_contexts untyped hs) ++ heads_contexts untyped more) × IsOneOf (c.name, next + suc j) ((names_inside next cs ++ heads_names untyped (next + 1) hs) ++ heads_names untyped (next + 1 + sizes hs) more)
+          × (b.has_closed_context ≡ false → c.closed ≡ false)
       by (inl l) e many inner later =
           let f = get_front (membranes_of (leaf_items kind next leaves ++ flat_membranes kind next (next + 1) hs)) (membranes_of (flat_membranes kind inside (next + 1 + sizes hs) more)) j b (omega (arith, l, many)) e in
           let r = inner (ap (λ ms. slice_get ms j) (sym (leaves_none kind next leaves (flat_membranes kind next (next + 1) hs))) ∙ f) in
           let q : next + 1 + j ≡ next + suc j = omega arith in (
             r.0,
+            in_front r.0 (cs ++ heads_contexts untyped hs) (heads_contexts untyped more) (in_back r.0 cs (heads_contexts untyped hs) r.1),
             in_front _ (names_inside next cs ++ heads_names untyped (next + 1) hs) (heads_names untyped (next + 1 + sizes hs) more)
-                (in_back _ (names_inside next cs) (heads_names untyped (next + 1) hs) (subst (λ n. IsOneOf (r.0, n) (heads_names untyped (next + 1) hs)) q r.1)),
+                (in_back _ (names_inside next cs) (heads_names untyped (next + 1) hs) (subst (λ n. IsOneOf (r.0.name, n) (heads_names untyped (next + 1) hs)) q r.2)),
+            r.3,
           )
       by (inr (k, w)) e many inner later =
           let f = get_back (membranes_of (leaf_items kind next leaves ++ flat_membranes kind next (next + 1) hs)) (membranes_of (flat_membranes kind inside (next + 1 + sizes hs) more)) j k b (omega (arith, w, many)) e in
           let r = later k f in
           let q : next + 1 + sizes hs + k ≡ next + suc j = omega (arith, w) in (
             r.0,
+            in_back r.0 (cs ++ heads_contexts untyped hs) (heads_contexts untyped more) r.1,
             in_back _ (names_inside next cs ++ heads_names untyped (next + 1) hs) (heads_names untyped (next + 1 + sizes hs) more)
-                (subst (λ n. IsOneOf (r.0, n) (heads_names untyped (next + 1 + sizes hs) more)) q r.1),
+                (subst (λ n. IsOneOf (r.0.name, n) (heads_names untyped (next + 1 + sizes hs) more)) q r.2),
+            r.3,
           )
 
--- a name with a membrane in a head is used there, bare
+  -- a context of a membrane
+  of_inside : (next : ℕ) (cs : List CtxUse) (x n : ℕ) → IsOneOf (x, n) (names_inside next cs) → (c : CtxUse) × IsOneOf c cs × (c.name ≡ x) × (n ≡ next)
+  of_inside next [] x n i = absurd i
+  of_inside next (c ∷ cs) x n (inl e) = (c, inl refl, ap (λ (e' : ℕ × ℕ). e'.0) e, sym (ap (λ (e' : ℕ × ℕ). e'.1) e))
+  of_inside next (c ∷ cs) x n (inr i) = let w = of_inside next cs x n i in (w.0, inr w.1, w.2, w.3)
+
+  -- is closed where one of them is, if there is but one
+  one_closed : (cs : List CtxUse) (c : CtxUse) → length cs ≤ 1 → IsOneOf c cs → list_any (λ u. u.closed) cs ≡ c.closed
+  one_closed [] c l i = absurd i
+  one_closed (d ∷ []) c l (inl e) = by d.closed ∙ ap (λ (u : CtxUse). u.closed) e
+    where
+      by : (t : Bool) → (t || false) ≡ t
+      by true = refl
+      by false = refl
+  one_closed (d ∷ []) c l (inr i) = absurd i
+  one_closed (d ∷ (e ∷ cs)) c l i = absurd (omega (arith, l))
+
+  in_front_get : (xs ys : List HeadMembrane) (j : ℕ) (b : HeadMembrane) → slice_get xs j ≡ Some b → slice_get (xs ++ ys) j ≡ Some b
+  in_front_get [] ys j b e = absurd (cc)
+  in_front_get (x ∷ xs) ys zero b e = e
+  in_front_get (x ∷ xs) ys (suc j) b e = in_front_get xs ys j b e
+
+  in_back_get : (xs ys : List HeadMembrane) (j k : ℕ) (b : HeadMembrane) → j ≡ length xs + k → slice_get ys k ≡ Some b → slice_get (xs ++ ys) j ≡ Some b
+  in_back_get [] ys j k b q e = let same : k ≡ j = omega (arith, q) in subst (λ n. slice_get ys n ≡ Some b) same e
+  in_back_get (x ∷ xs) ys zero k b q e = absurd (omega (arith, q))
+  in_back_get (x ∷ xs) ys (suc j) k b q e = in_back_get xs ys j k b (omega (arith, q)) e
+
+  -- The membrane of a name has a closed context where the context of that name is closed.
+  pub name_at : (inside next : ℕ) (hs : Heads) → AtMostOne untyped hs → (x n : ℕ) → IsOneOf (x, n) (heads_names untyped next hs)
+      → (c : CtxUse) × IsOneOf c (heads_contexts untyped hs) × (c.name ≡ x) × ((j : ℕ) × (n ≡ next + j) × ((b : HeadMembrane) × (slice_get (membranes_of (flat_membranes kind inside next hs)) j ≡ Some b) × (b.has_closed_context ≡ c.closed)))
+  name_at inside next no_head one x n i = absurd i
+  name_at inside next (head_and (head leaves hs cs rcs rs) more) one x n i =
+      let first = leaf_items kind next leaves ++ flat_membranes kind next (next + 1) hs in
+      let rest = flat_membranes kind inside (next + 1 + sizes hs) more in
+      let many : length (membranes_of first) ≡ sizes hs = ap length (leaves_none kind next leaves (flat_membranes kind next (next + 1) hs)) ∙ all_membranes kind next (next + 1) hs in
+      elim (in_append (x, n) (names_inside next cs ++ heads_names untyped (next + 1) hs) (heads_names untyped (next + 1 + sizes hs) more) i) [
+        | inl j ↦ elim (in_append (x, n) (names_inside next cs) (heads_names untyped (next + 1) hs) j) [
+          | inl k ↦ (let w = of_inside next cs x n k in
+              let at : n ≡ next + 0 = (let q = w.3 in omega (arith, q)) in (
+                w.0,
+                in_front w.0 (cs ++ heads_contexts untyped hs) (heads_contexts untyped more) (in_front w.0 cs (heads_contexts untyped hs) w.1),
+                w.2,
+                (0, at, (record { inside = inside; has_context = has_some cs; has_closed_context = list_any (λ u. u.closed) cs; has_rule_context = has_some rcs }, refl, one_closed cs w.0 one.0 w.1)),
+              ))
+          | inr k ↦ (let w = name_at next (next + 1) hs one.1 x n k in
+              let v = w.3 in
+              let at : n ≡ next + suc v.0 = (let q = v.1 in omega (arith, q)) in
+              let got = ap (λ ms. slice_get ms v.0) (leaves_none kind next leaves (flat_membranes kind next (next + 1) hs)) ∙ v.2.1 in (
+                w.0,
+                in_front w.0 (cs ++ heads_contexts untyped hs) (heads_contexts untyped more) (in_back w.0 cs (heads_contexts untyped hs) w.1),
+                w.2,
+                (suc v.0, at, (v.2.0, ap (λ ms. slice_get ms v.0) (membranes_append first rest) ∙ in_front_get (membranes_of first) (membranes_of rest) v.0 v.2.0 got, v.2.2)),
+              ))
+        ]
+        | inr j ↦ (let w = name_at inside (next + 1 + sizes hs) more one.2 x n j in
+            let v = w.3 in
+            let at : n ≡ next + suc (sizes hs + v.0) = (let q = v.1 in omega (arith, q)) in
+            let plus : sizes hs + v.0 ≡ length (membranes_of first) + v.0 = omega (arith, many) in (
+              w.0,
+              in_back w.0 (cs ++ heads_contexts untyped hs) (heads_contexts untyped more) w.1,
+              w.2,
+              (suc (sizes hs + v.0), at, (v.2.0, ap (λ ms. slice_get ms (sizes hs + v.0)) (membranes_append first rest) ∙ in_back_get (membranes_of first) (membranes_of rest) (sizes hs + v.0) v.0 v.2.0 plus v.2.1, v.2.2)),
+            ))
+      ]
+
+-- a name with a membrane in a head is used there
 mutual
   pub name_used : (inside next : ℕ) (h : Head) (x : ℕ) → IsOneOf x (firsts (head_names untyped inside next h)) → (u : CtxUse) × IsOneOf u (head_contexts untyped h) × (u.name ≡ x)
   name_used inside next (head leaves hs cs rcs rs) x i =

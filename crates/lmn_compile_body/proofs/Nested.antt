@@ -14,7 +14,7 @@ use Rattle.lmn_base.specs.declared.level.CtxUse.{CtxUse}
 use Rattle.lmn_base.specs.declared.level.Leaf.{Leaf}
 use Rattle.lmn_base.specs.declared.level.Level.{out-Level}
 use Rattle.lmn_base.specs.declared.rule.RuleTree.{RuleTree}
-use Rattle.lmn_base.specs.Items.{used, untyped as untyped_use, untyped_form, leaf_item, own_items, items_of, guard_items, condition_items, rule_items}
+use Rattle.lmn_base.specs.Items.{used, untyped_form, untyped as written, leaf_item, own_items, items_of, guard_items, condition_items, rule_items}
 use Rattle.lmn_base.specs.Levels.{leaves_of, links_of, contexts_of, rule_contexts_of}
 use Rattle.lmn_base.specs.RuleCodes.{bare_use, rule_use, is_left_of}
 use Rattle.lmn_base.specs.Uses.{use_of, has_use, is_some_place}
@@ -30,7 +30,7 @@ use Rattle.lmn_splice.specs.Splice.{IsOneOf, NoneTwice}
 use Rattle.lmn_compile_head.specs.Accepted.{head_items, AcceptedHeads}
 use Rattle.lmn_compile_head.specs.Heads.{kind_in}
 use Rattle.lmn_compile_head.specs.Tables.{AllBelow}
-use Rattle.lmn_body.specs.Flattening.{membrane_named}
+use Rattle.lmn_body.specs.Flattening.{membrane_named, open_uses}
 use Rattle.lmn_body.specs.Rules.{NestedRule, IsHeadMembrane}
 use Rattle.lmn_body.proofs.Firing.{in_often, often_in}
 use Rattle.lmn_body.proofs.HeadPorts.{in_map, of_map as from_map}
@@ -39,11 +39,9 @@ use Rattle.lmn_body.proofs.Numbered.{contexts_of_heads, leaves_none}
 use Rattle.lmn_compile_body.specs.Naming.{numbered_contexts, numbered_rule_contexts}
 use Rattle.lmn_compile_body.specs.Accepted.{rule_body_names, rule_body_items, IsCompilable, AcceptedNested}
 use Rattle.lmn_compile_body.proofs.BodyTrees.{numbers_below}
-use Rattle.lmn_compile_body.proofs.HeadContexts.{contained, distinct_map, names_are, head_names, heads_names, in_range, one_each, named_there, one_entry, untyped, of_rules, firsts, not_both, has_name, has_rule_name, head_contexts, same_contexts, context_used, rule_context_used, names_few, bare_often, inner_of, head_out, one_context, names_inner, held_at, name_used}
+use Rattle.lmn_compile_body.proofs.HeadContexts.{contained, name_at, head_contexts, heads_contexts, distinct_map, names_are, head_names, heads_names, in_range, one_each, named_there, one_entry, untyped, of_rules, firsts, not_both, has_name, has_rule_name, same_contexts, context_used, rule_context_used, names_few, bare_often, inner_of, head_out, one_context, names_inner, held_at, name_used}
 use Rattle.lmn_congruence.specs.Links.{places}
 use Rattle.lmn_compile_head.proofs.HeadLeaves.{below_back, below_front}
-use Rattle.lmn_compile_head.proofs.HeadUses.{never_typed}
-use Rattle.lmn_compile_head.proofs.OpenHeads.{accepted_open, open_form, used_bare}
 use Rattle.lmn_congruence.proofs.Counts.{one_if_equal as one_same}
 use Rattle.lmn_splice.proofs.Common.{in_append, in_back, in_front}
 use Rattle.lmn_base.specs.Names.{context_names}
@@ -148,13 +146,13 @@ module _ (heads : AcceptedHeads) (table : List RuleTree) (r : RuleTree) (plan : 
   top : (out-Level r.head).contexts ≡ []
   top = no_contexts (out-Level r.head).contexts (λ u i.
       let l = out-Level r.head in
-      let c = contained (untyped_use u) (own_items l) (in_back (untyped_use u) (map leaf_item l.leaves) _ (in_front (untyped_use u) (map untyped_use l.contexts) _ (in_map untyped_use u l.contexts i))) in
-      never_typed u.closed (order.no_context_at_top (record { name = u.name; form = untyped_form u.closed; pos = u.pos }) c))
+      let c = contained (written u) (own_items l) (in_back (written u) (map leaf_item l.leaves) _ (in_front (written u) (map written l.contexts) _ (in_map written u l.contexts i))) in
+      not_both u.closed (sym (order.no_context_at_top (record { name = u.name; form = untyped_form u.closed; pos = u.pos }) c)))
 
   rule_top : (out-Level r.head).rule_contexts ≡ []
   rule_top = no_contexts (out-Level r.head).rule_contexts (λ u i.
       let l = out-Level r.head in
-      order.no_rule_context_at_top u (contained (RuleContext u) (own_items l) (in_back (RuleContext u) (map leaf_item l.leaves) _ (in_back (RuleContext u) (map untyped_use l.contexts) _
+      order.no_rule_context_at_top u (contained (RuleContext u) (own_items l) (in_back (RuleContext u) (map leaf_item l.leaves) _ (in_back (RuleContext u) (map written l.contexts) _
       (in_front (RuleContext u) (map RuleContext l.rule_contexts) _ (in_map RuleContext u l.rule_contexts i))))))
 
   entries_are : entries ≡ heads_names untyped 1 (inner_of r.head)
@@ -163,98 +161,125 @@ module _ (heads : AcceptedHeads) (table : List RuleTree) (r : RuleTree) (plan : 
   rule_entries_are : rule_entries ≡ heads_names of_rules 1 (inner_of r.head)
   rule_entries_are = names_are of_rules r.head ∙ names_inner of_rules r.head rule_top
 
-  -- an untyped context of the rule is used bare, since none is closed
-  bare : (u : CtxUse) → IsOneOf (untyped_use u) (rule_items r) → untyped_use u ≡ used Bare u
-  bare u i = used_bare u (open_form u.closed (order.none_closed (record { name = u.name; form = untyped_form u.closed; pos = u.pos }) (contained (untyped_use u) (rule_items r) i)))
-
-  used_in_head : (u : CtxUse) → IsOneOf u (head_contexts untyped (head_at r.head)) → IsOneOf (used Bare u) (items_of r.head)
-  used_in_head u i =
-      let there = subst (IsOneOf (untyped_use u)) (sym (same_uses r.head)) (context_used (head_at r.head) u i) in
-      subst (λ x. IsOneOf x (items_of r.head)) (bare u (in_front (untyped_use u) (items_of r.head) (guard_items r.guard ++ items_of r.body) there)) there
-
-  used_in_body : (u : CtxUse) → IsOneOf u (contexts_of r.body) → IsOneOf (used Bare u) (items_of r.body)
-  used_in_body u i =
-      let there = subst (IsOneOf (untyped_use u)) (sym (same_uses r.body)) (context_used (head_at r.body) u (subst (IsOneOf u) (same_contexts untyped r.body) i)) in
-      subst (λ x. IsOneOf x (items_of r.body)) (bare u (in_back (untyped_use u) (items_of r.head) (guard_items r.guard ++ items_of r.body) (in_back (untyped_use u) (guard_items r.guard) (items_of r.body) there))) there
+  -- a context of the body is an item of the rule
+  body_in_rule : (u : CtxUse) → IsOneOf u (contexts_of r.body) → Contains (rule_items r) (written u)
+  body_in_rule u i =
+      let in_body = subst (IsOneOf (written u)) (sym (same_uses r.body)) (context_used (head_at r.body) u (subst (IsOneOf u) (same_contexts untyped r.body) i)) in
+      contained (written u) (rule_items r) (in_back (written u) (items_of r.head) (guard_items r.guard ++ items_of r.body) (in_back (written u) (guard_items r.guard) (items_of r.body) in_body))
 
   -- an untyped context of the body is one of the head
-  of_head : (u : CtxUse) → IsOneOf u (contexts_of r.body) → (v : FormedUse) × IsOneOf (Context v) (items_of r.head) × (v.name ≡ u.name) × (v.form ≡ Bare)
+  of_head : (u : CtxUse) → IsOneOf u (contexts_of r.body) → (v : FormedUse) × IsOneOf (Context v) (items_of r.head) × (v.name ≡ u.name) × (v.form ≡ untyped_form u.closed)
   of_head u i = by (has_use u.name (items_of r.head)) refl
     where
-      in_body : IsOneOf (used Bare u) (items_of r.body)
-      in_body = used_in_body u i
+      in_body : IsOneOf (written u) (items_of r.body)
+      in_body = subst (IsOneOf (written u)) (sym (same_uses r.body)) (context_used (head_at r.body) u (subst (IsOneOf u) (same_contexts untyped r.body) i))
 
       asked : (has_use u.name (items_of r.head) || list_any (is_left_of u.name) r.guard) ≡ true
-      asked = order.of_the_head (record { name = u.name; form = Bare; pos = u.pos }) (contained (used Bare u) (items_of r.body) in_body)
+      asked = order.of_the_head (record { name = u.name; form = untyped_form u.closed; pos = u.pos }) (contained (written u) (items_of r.body) in_body)
 
-      body_in_rule : Contains (rule_items r) (used Bare u)
-      body_in_rule = contained (used Bare u) (rule_items r) (in_back (used Bare u) (items_of r.head) (guard_items r.guard ++ items_of r.body) (in_back (used Bare u) (guard_items r.guard) (items_of r.body) in_body))
-
-      by : (b : Bool) → has_use u.name (items_of r.head) ≡ b → (v : FormedUse) × IsOneOf (Context v) (items_of r.head) × (v.name ≡ u.name) × (v.form ≡ Bare)
+      by : (b : Bool) → has_use u.name (items_of r.head) ≡ b → (v : FormedUse) × IsOneOf (Context v) (items_of r.head) × (v.name ≡ u.name) × (v.form ≡ untyped_form u.closed)
       by true e =
           let f = use_found u.name (items_of r.head) e in
-          (f.0, f.1, f.2, order.one_form f.0 (record { name = u.name; form = Bare; pos = u.pos }) (contained (Context f.0) (rule_items r) (in_front (Context f.0) (items_of r.head) (guard_items r.guard ++ items_of r.body) f.1)) body_in_rule f.2)
+          (f.0, f.1, f.2, order.one_form f.0 (record { name = u.name; form = untyped_form u.closed; pos = u.pos }) (contained (Context f.0) (rule_items r) (in_front (Context f.0) (items_of r.head) (guard_items r.guard ++ items_of r.body) f.1)) (body_in_rule u i) f.2)
       by false e =
           let f = left_found u.name r.guard (ap (λ b. b || list_any (is_left_of u.name) r.guard) (sym e) ∙ asked) in
-          absurd (not_both (order.one_form (record { name = f.0.name; form = Typed; pos = f.0.pos }) (record { name = u.name; form = Bare; pos = u.pos })
-          (contained (used Typed f.0) (rule_items r) (in_back (used Typed f.0) (items_of r.head) (guard_items r.guard ++ items_of r.body) (in_front (used Typed f.0) (guard_items r.guard) (items_of r.body) f.1))) body_in_rule f.2))
+          absurd (not_both u.closed (order.one_form (record { name = f.0.name; form = Typed; pos = f.0.pos }) (record { name = u.name; form = untyped_form u.closed; pos = u.pos })
+          (contained (used Typed f.0) (rule_items r) (in_back (used Typed f.0) (items_of r.head) (guard_items r.guard ++ items_of r.body) (in_front (used Typed f.0) (guard_items r.guard) (items_of r.body) f.1))) (body_in_rule u i) f.2))
 
   -- so it has a membrane there
   entry : (x : ℕ) → IsOneOf x (context_names (contexts_of r.body)) → IsOneOf (x, membrane_named entries x) entries
   entry x i =
       let u = from_map (λ (u : CtxUse). u.name) x (contexts_of r.body) i in
       let v = of_head u.0 u.1 in
-      let there = has_name 0 1 (head_at r.head) v.0 (subst (IsOneOf (Context v.0)) (same_uses r.head) v.1) v.3 in
+      let there = has_name 0 1 (head_at r.head) v.0 (subst (IsOneOf (Context v.0)) (same_uses r.head) v.1) (λ e. not_both u.0.closed (sym e ∙ v.3)) in
       named_there entries x (subst (λ es. IsOneOf x (firsts es)) (sym (names_are untyped r.head)) (subst (λ y. IsOneOf y (firsts (head_names untyped 0 1 (head_at r.head)))) (v.2 ∙ u.2) there))
 
-  -- which isn't that of the rule
-  owned : (u : CtxUse) → IsOneOf u (contexts_of r.body) → IsHeadMembrane (length (membranes_of (head_items r plan))) (membrane_named entries u.name)
+  -- a context of a membrane of the head is an item of the head
+  in_items : (c : CtxUse) → IsOneOf c (heads_contexts untyped (inner_of r.head)) → IsOneOf (written c) (items_of r.head)
+  in_items c i = subst (IsOneOf (written c)) (sym (same_uses r.head)) (context_used (head_at r.head) c
+      (subst (λ h. IsOneOf c (head_contexts untyped h)) (sym (head_out r.head)) (in_back c (out-Level r.head).contexts (heads_contexts untyped (inner_of r.head)) i)))
+
+  -- whose context is closed where that of the body is
+  owned : (u : CtxUse) → IsOneOf u (contexts_of r.body) → (b : HeadMembrane) × HasMembrane (head_items r plan) (membrane_named entries u.name) b × (b.has_closed_context ≡ u.closed)
   owned u i =
-      let e = entry u.name (in_map (λ (u : CtxUse). u.name) u (contexts_of r.body) i) in
-      not_zero (length (membranes_of (head_items r plan))) (membrane_named entries u.name) (in_range untyped 1 (inner_of r.head) (u.name, membrane_named entries u.name) (subst (IsOneOf (u.name, membrane_named entries u.name)) entries_are e)).0
-      (contexts_of_heads (kind_in plan.kinds) r.head u.name).0
+      let kind = kind_in plan.kinds in
+      let e = subst (IsOneOf (u.name, membrane_named entries u.name)) entries_are (entry u.name (in_map (λ (u : CtxUse). u.name) u (contexts_of r.body) i)) in
+      let w = name_at kind 0 1 (inner_of r.head) (one_context r.head order.one_in_membrane) u.name (membrane_named entries u.name) e in
+      let c = w.0 in
+      let j = w.3.0 in
+      let flat = trees.items_flat kind r.head ∙ ap (flat_items kind 0 1) (head_out r.head) in
+      let got = ap (λ is. slice_get (membranes_of is) j) flat ∙ ap (λ ms. slice_get ms j) (leaves_none kind 0 (out-Level r.head).leaves (flat_membranes kind 0 1 (inner_of r.head))) ∙ w.3.2.1 in
+      let in_head = in_items c w.1 in
+      let one = order.one_form (record { name = c.name; form = untyped_form c.closed; pos = c.pos }) (record { name = u.name; form = untyped_form u.closed; pos = u.pos })
+      (contained (written c) (rule_items r) (in_front (written c) (items_of r.head) (guard_items r.guard ++ items_of r.body) in_head)) (body_in_rule u i) w.2 in
+      (w.3.2.0, (j, w.3.1 ∙ plus j, got), w.3.2.2 ∙ same_closed c.closed u.closed one)
+    where
+      plus : (j : ℕ) → 1 + j ≡ suc j
+      plus j = omega arith
 
-  -- each stands once in the body
-  body_often : (x : ℕ) → places x (context_names (contexts_of r.body)) ≡ length (flat_map (bare_use x) (items_of r.body))
-  body_often x = ap (λ us. places x (context_names us)) (same_contexts untyped r.body) ∙ (bare_often x (head_at r.body) (accepted_open table r order).1 ∙ ap (λ is. length (flat_map (bare_use x) is)) (sym (same_uses r.body)))
+      same_closed : (a b : Bool) → untyped_form a ≡ untyped_form b → a ≡ b
+      same_closed true true e = refl
+      same_closed true false e = absurd (cc)
+      same_closed false true e = absurd (cc)
+      same_closed false false e = refl
 
-  once : NoneTwice (context_names (contexts_of r.body))
-  once = each_once (context_names (contexts_of r.body)) (λ x i.
-      let u = from_map (λ (u : CtxUse). u.name) x (contexts_of r.body) i in
-      let v = of_head u.0 u.1 in
-      let one = order.once_in_body v.0 (contained (Context v.0) (items_of r.head) v.1) v.3 in
+  -- each open one stands once in the body
+  body_often : (x : ℕ) → places x (context_names (open_uses (contexts_of r.body))) ≡ length (flat_map (bare_use x) (items_of r.body))
+  body_often x = ap (λ us. places x (context_names (open_uses us))) (same_contexts untyped r.body) ∙ (bare_often x (head_at r.body) ∙ ap (λ is. length (flat_map (bare_use x) is)) (sym (same_uses r.body)))
+
+  open_in : (us : List CtxUse) (u : CtxUse) → IsOneOf u (open_uses us) → IsOneOf u us × (u.closed ≡ false)
+  open_in [] u i = absurd i
+  open_in (v ∷ us) u i = by v.closed refl i (open_in us u)
+    where
+      by : (t : Bool) → v.closed ≡ t → IsOneOf u (if t then open_uses us else v ∷ open_uses us) → (IsOneOf u (open_uses us) → IsOneOf u us × (u.closed ≡ false)) → IsOneOf u (v ∷ us) × (u.closed ≡ false)
+      by true e i on = let w = on i in (inr w.0, w.1)
+      by false e (inl f) on = (inl f, ap (λ (x : CtxUse). x.closed) (sym f) ∙ e)
+      by false e (inr i) on = let w = on i in (inr w.0, w.1)
+
+  open_name : (x : ℕ) → IsOneOf x (context_names (open_uses (contexts_of r.body))) → IsOneOf x (context_names (contexts_of r.body))
+  open_name x i =
+      let u = from_map (λ (u : CtxUse). u.name) x (open_uses (contexts_of r.body)) i in
+      subst (λ y. IsOneOf y (context_names (contexts_of r.body))) u.2 (in_map (λ (u : CtxUse). u.name) u.0 (contexts_of r.body) (open_in (contexts_of r.body) u.0 u.1).0)
+
+  once : NoneTwice (context_names (open_uses (contexts_of r.body)))
+  once = each_once (context_names (open_uses (contexts_of r.body))) (λ x i.
+      let u = from_map (λ (u : CtxUse). u.name) x (open_uses (contexts_of r.body)) i in
+      let o = open_in (contexts_of r.body) u.0 u.1 in
+      let v = of_head u.0 o.0 in
+      let one = order.once_in_body v.0 (contained (Context v.0) (items_of r.head) v.1) (v.3 ∙ ap untyped_form o.1) in
       let many = body_often v.0.name in
-      subst (λ y. places y (context_names (contexts_of r.body)) ≤ 1) (v.2 ∙ u.2) (omega (arith, one, many)))
+      subst (λ y. places y (context_names (open_uses (contexts_of r.body))) ≤ 1) (v.2 ∙ u.2) (omega (arith, one, many)))
 
-  apart : NoneTwice (map (λ u. membrane_named entries u.name) (contexts_of r.body))
-  apart = subst NoneTwice (sym (map_names (membrane_named entries) (contexts_of r.body))) (distinct_map (membrane_named entries) (context_names (contexts_of r.body)) once (λ x y i j q.
+  apart : NoneTwice (map (λ u. membrane_named entries u.name) (open_uses (contexts_of r.body)))
+  apart = subst NoneTwice (sym (map_names (membrane_named entries) (open_uses (contexts_of r.body)))) (distinct_map (membrane_named entries) (context_names (open_uses (contexts_of r.body))) once (λ x y i j q.
       ap (λ (e : ℕ × ℕ). e.0) (one_each untyped 1 (inner_of r.head) (x, membrane_named entries x) (y, membrane_named entries y) (one_context r.head order.one_in_membrane)
-      (subst (IsOneOf (x, membrane_named entries x)) entries_are (entry x i)) (subst (IsOneOf (y, membrane_named entries y)) entries_are (entry y j)) q)))
+      (subst (IsOneOf (x, membrane_named entries x)) entries_are (entry x (open_name x i))) (subst (IsOneOf (y, membrane_named entries y)) entries_are (entry y (open_name y j))) q)))
 
-  -- each untyped context of the head stands in the body
-  stands : (i : ℕ) (b : HeadMembrane) → HasMembrane (head_items r plan) i b → b.has_context ≡ true → IsOneOf i (map (λ u. membrane_named entries u.name) (contexts_of r.body))
-  stands i b h c =
+  -- each open context of the head stands in the body
+  stands : (i : ℕ) (b : HeadMembrane) → HasMembrane (head_items r plan) i b → b.has_context ≡ true → b.has_closed_context ≡ false → IsOneOf i (map (λ u. membrane_named entries u.name) (open_uses (contexts_of r.body)))
+  stands i b h c open_b =
       let kind = kind_in plan.kinds in
       let flat = trees.items_flat kind r.head ∙ ap (flat_items kind 0 1) (head_out r.head) in
       let got = ap (λ ms. slice_get ms h.0) (sym (leaves_none kind 0 (out-Level r.head).leaves (flat_membranes kind 0 1 (inner_of r.head)))) ∙ (ap (λ is. slice_get (membranes_of is) h.0) (sym flat) ∙ h.2) in
       let n = held_at kind 0 1 (inner_of r.head) h.0 b got c in
-      let there = subst (IsOneOf (n.0, 1 + h.0)) (sym entries_are) n.1 in
-      let first = in_map (λ (e : ℕ × ℕ). e.0) (n.0, 1 + h.0) entries there in
-      let u = name_used 0 1 (head_at r.head) n.0 (subst (λ es. IsOneOf n.0 (firsts es)) (names_are untyped r.head) first) in
-      let in_head = used_in_head u.0 u.1 in
-      let one = order.once_in_body (record { name = u.0.name; form = Bare; pos = u.0.pos }) (contained (used Bare u.0) (items_of r.head) in_head) refl in
-      let many = body_often u.0.name in
-      let in_body = subst (λ x. IsOneOf x (context_names (contexts_of r.body))) u.2 (often_in u.0.name (context_names (contexts_of r.body)) (omega (arith, one, many))) in
-      let few_names = names_few n.0 0 1 (head_at r.head) in
-      let few_uses = order.once_in_head n.0 in
-      let same_items = ap (λ is. length (flat_map (use_of n.0) is)) (same_uses r.head) in
-      let same_names = ap (λ es. places n.0 (firsts es)) (names_are untyped r.head) in
-      let few : places n.0 (firsts entries) ≤ 1 = omega (arith, few_names, few_uses, same_items, same_names) in
-      let same : membrane_named entries n.0 ≡ 1 + h.0 = one_entry entries n.0 (membrane_named entries n.0) (1 + h.0) few (named_there entries n.0 first) there in
+      let u = n.0 in
+      let x = u.name in
+      let there = subst (IsOneOf (x, 1 + h.0)) (sym entries_are) n.2 in
+      let first = in_map (λ (e : ℕ × ℕ). e.0) (x, 1 + h.0) entries there in
+      let in_head = in_items u n.1 in
+      let one = order.once_in_body (record { name = u.name; form = untyped_form u.closed; pos = u.pos }) (contained (written u) (items_of r.head) in_head) (ap untyped_form (n.3 open_b)) in
+      let many = body_often x in
+      let in_body = often_in x (context_names (open_uses (contexts_of r.body))) (omega (arith, one, many)) in
+      let few_names = names_few x 0 1 (head_at r.head) in
+      let few_uses = order.once_in_head x in
+      let same_items = ap (λ is. length (flat_map (use_of x) is)) (same_uses r.head) in
+      let same_names = ap (λ es. places x (firsts es)) (names_are untyped r.head) in
+      let few : places x (firsts entries) ≤ 1 = omega (arith, few_names, few_uses, same_items, same_names) in
+      let same : membrane_named entries x ≡ 1 + h.0 = one_entry entries x (membrane_named entries x) (1 + h.0) few (named_there entries x first) there in
       let number = h.1 in
       let i_is : 1 + h.0 ≡ i = omega (arith, number) in
-      subst (IsOneOf i) (sym (map_names (membrane_named entries) (contexts_of r.body)))
-      (subst (λ k. IsOneOf k (map (membrane_named entries) (context_names (contexts_of r.body)))) (same ∙ i_is) (in_map (membrane_named entries) n.0 (context_names (contexts_of r.body)) in_body))
+      subst (IsOneOf i) (sym (map_names (membrane_named entries) (open_uses (contexts_of r.body))))
+      (subst (λ k. IsOneOf k (map (membrane_named entries) (context_names (open_uses (contexts_of r.body))))) (same ∙ i_is) (in_map (membrane_named entries) x (context_names (open_uses (contexts_of r.body))) in_body))
 
   -- a rule context of the body has a membrane in the head
   rules_owned : (u : CtxUse) → IsOneOf u (rule_contexts_of r.body) → IsHeadMembrane (length (membranes_of (head_items r plan))) (membrane_named rule_entries u.name)

@@ -13,7 +13,7 @@ BodyFits n (Connector left right ∷ xs) = (left < n) × (right < n) × BodyFits
 BodyFits n (Copy part link inside ∷ xs) = (link < n) × BodyFits n xs
 BodyFits n (Bound integer link inside ∷ xs) = (link < n) × BodyFits n xs
 BodyFits n (Membrane inside ∷ xs) = BodyFits n xs
-BodyFits n (Rest of inside ∷ xs) = BodyFits n xs
+BodyFits n (Rest of closed inside ∷ xs) = BodyFits n xs
 BodyFits n (Rule rule inside ∷ xs) = BodyFits n xs
 BodyFits n (Rules of inside ∷ xs) = BodyFits n xs
 
@@ -25,6 +25,6 @@ AllFew (Connector left right ∷ xs) = AllFew xs
 AllFew (Copy part link inside ∷ xs) = AllFew xs
 AllFew (Bound integer link inside ∷ xs) = AllFew xs
 AllFew (Membrane inside ∷ xs) = AllFew xs
-AllFew (Rest of inside ∷ xs) = AllFew xs
+AllFew (Rest of closed inside ∷ xs) = AllFew xs
 AllFew (Rule rule inside ∷ xs) = AllFew xs
 AllFew (Rules of inside ∷ xs) = AllFew xs

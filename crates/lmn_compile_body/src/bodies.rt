@@ -11,7 +11,7 @@ ghost use Rattle.lmn_compile_head.specs.Bindings.{part_numbers};
 use crate::ends::add_links;
 use crate::integers::integers_of;
 use crate::levels::flatten_body;
-use crate::makes::{add_making, add_removals, atoms_in, membranes_in};
+use crate::makes::{add_drops, add_making, add_removals, atoms_in, membranes_in};
 use crate::names::{add_contexts, add_rule_contexts};
 use crate::ports::{connectors_of, new_ports_of, old_ports_of};
 use lmn_base::{NoMemory, Rows, RuleTree};
@@ -41,6 +41,7 @@ pub fn code_of_body(
     let mut code = Rows::new(alloc);
     add_removals(&mut code, head)?;
     add_making(&mut code, body, atoms, 1 + membranes_in(head))?;
+    add_drops(&mut code, head)?;
     add_links(
         alloc,
         &mut code,

@@ -96,6 +96,7 @@ fn add_rests(
     for context in uses {
         items.push(BodyItem::Rest {
             of: number_of(contexts, context.name),
+            closed: context.closed,
             inside,
         })?;
     }

@@ -18,7 +18,6 @@ use Rattle.lmn_compile_head.specs.Heads.{kind_in, IsHead, IsGuard}
 use Rattle.lmn_compile_head.specs.Laws.{HeadMeetsHeap}
 use Rattle.lmn_compile_head.specs.Accepted.{head_items, HasRoom, IsReady, AcceptedHeads, AcceptedLeast}
 use Rattle.lmn_compile_head.proofs.HeadLeaves.{items_inside, at_most_twice, typed_leaf, port_of_leaf, head_fits, items_few, size_few}
-use Rattle.lmn_compile_head.proofs.OpenHeads.{accepted_open, none_closed}
 use Rattle.lmn_compile_head.proofs.GuardUses.{accepted_guard}
 use Rattle.lmn_compile_head.proofs.Laws.{code_of_least}
 use Rattle.lmn_base.specs.Graphs.{Port}
@@ -48,7 +47,6 @@ module _ (table : List RuleTree) (r : RuleTree) (plan : GuardPlan) (ready : IsRe
         inside = items_inside kind r.head;
         at_most_twice = λ x. at_most_twice kind r.head r.body x ready.accepted.linked;
         held = held;
-        none_closed = none_closed kind r.head (accepted_open table r order).0;
       }
 
   is_guard : IsGuard (heads.typed_contexts_of (head_items r plan)) [] r.guard

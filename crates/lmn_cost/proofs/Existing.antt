@@ -198,7 +198,7 @@ module _ (h : Heap) (valid : Valid h) (head : List HeadItem) (body : List BodyIt
       (length one.0 + on.0, (length one.0, on.0, ((one.0, one.1, refl), on.1, refl)))
   some_making a b c (Bound integer link inside ∷ xs) copied = let on = some_making (a + 1) b c xs copied in (1 + on.0, (1, on.0, (refl, on.1, refl)))
   some_making a b c (Membrane inside ∷ xs) copied = let on = some_making a (b + 1) c xs copied in (1 + on.0, (1, on.0, (refl, on.1, refl)))
-  some_making a b c (Rest of inside ∷ xs) copied = let on = some_making a b c xs copied in (0 + on.0, (0, on.0, (refl, on.1, refl)))
+  some_making a b c (Rest of closed inside ∷ xs) copied = let on = some_making a b c xs copied in (0 + on.0, (0, on.0, (refl, on.1, refl)))
   some_making a b c (Rule rule' inside ∷ xs) copied = let on = some_making a b c xs copied in (1 + on.0, (1, on.0, (refl, on.1, refl)))
   some_making a b c (Rules of inside ∷ xs) copied =
       let on = some_making a b c xs copied in

@@ -100,7 +100,7 @@ module _ (h : Heap) (r : HeadRegisters) where
   making_takes a m c (Copy part link inside ∷ xs) = (0, 0, (refl, making_takes a m (c + 1) xs, refl))
   making_takes a m c (Bound integer link inside ∷ xs) = (0, 0, (refl, making_takes (a + 1) m c xs, refl))
   making_takes a m c (Membrane inside ∷ xs) = (0, 0, (refl, making_takes a (m + 1) c xs, refl))
-  making_takes a m c (Rest of inside ∷ xs) = (0, 0, (refl, making_takes a m c xs, refl))
+  making_takes a m c (Rest of closed inside ∷ xs) = (0, 0, (refl, making_takes a m c xs, refl))
   making_takes a m c (Rule rule inside ∷ xs) = (0, 0, (refl, making_takes a m c xs, refl))
   making_takes a m c (Rules of inside ∷ xs) = (0, 0, (refl, making_takes a m c xs, refl))
 
@@ -159,7 +159,7 @@ module _ (h : Heap) (r : Registers) (left : ℕ → List ℕ) (ks : List ℕ) (E
       let on = making_adds a (m + 1) c xs g.1 sizes in
       let e = on.2 in
       (1 + on.0, (1, on.0, (refl, on.1, refl)), omega arith)
-  making_adds a m c (Rest of inner ∷ xs) g sizes =
+  making_adds a m c (Rest of closed inner ∷ xs) g sizes =
       let on = making_adds a m c xs g.4 sizes in
       let f = atoms_first inner (left (r.head.images.membrane of)) (added_atoms r left a c xs) g.3 in
       let e = on.2 in
@@ -183,6 +183,6 @@ moved_once r ks E (Connector left right ∷ xs) g = moved_once r ks E xs g
 moved_once r ks E (Copy part link inside ∷ xs) g = moved_once r ks E xs g.1
 moved_once r ks E (Bound integer link inside ∷ xs) g = moved_once r ks E xs g.1
 moved_once r ks E (Membrane inside ∷ xs) g = moved_once r ks E xs g.1
-moved_once r ks E (Rest of inside ∷ xs) g = (each_of _ (moved_mems r xs) (λ z i e. g.2 (subst (λ u. In u (moved_mems r xs)) (sym e) i)), moved_once r ks E xs g.4)
+moved_once r ks E (Rest of closed inside ∷ xs) g = (each_of _ (moved_mems r xs) (λ z i e. g.2 (subst (λ u. In u (moved_mems r xs)) (sym e) i)), moved_once r ks E xs g.4)
 moved_once r ks E (Rule rule inside ∷ xs) g = moved_once r ks E xs g.1
 moved_once r ks E (Rules of inside ∷ xs) g = moved_once r ks E xs g.2

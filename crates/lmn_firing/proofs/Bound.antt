@@ -12,7 +12,7 @@ use Rattle.lmn_solid.specs.Guards.{Meaning, bind, integer_named, context_alone, 
 use Rattle.lmn_solid.specs.Heads.{HeadTyped, typed_contexts_of, membranes_of}
 use Rattle.lmn_instr.specs.declared.instr.Instr.{Instr}
 use Rattle.lmn_instr.specs.declared.instr.Instr.TheVariants.{Commit}
-use Rattle.lmn_instr.specs.Running.{HeadRegisters, AllHold, Succeeds, atoms_set}
+use Rattle.lmn_instr.specs.Running.{HeadRegisters, HeadSize, AllHold, Succeeds, size_of_head}
 use Rattle.lmn_instr.specs.HeadCode.{Computed, value_code, comparison, part_named, equal_code, differ_parts_code, bind_register, guard_code, head_code, items_code, parts_code, all_filled_code}
 use Rattle.lmn_compile_head.specs.Accepted.{head_items, rule_head_code, AcceptedHeads}
 use Rattle.lmn_compile_head.specs.Heads.{UsesKnown, EqualAllowed, IsGuard}
@@ -22,7 +22,7 @@ use Rattle.lmn_compile_body.specs.Naming.{equal_registers, guard_registers}
 use Rattle.lmn_firing.specs.Bound.{bound_by, bound_all, BoundNames}
 use Rattle.lmn_base.specs.Lists.{In}
 
-module _ (h : Heap) (c : ℕ) (r : HeadRegisters) (ts : List HeadTyped) where
+module _ (h : Heap) (c : HeadSize) (r : HeadRegisters) (ts : List HeadTyped) where
   -- what names are bound to stands in their registers
   abbrev Holds : Meaning → (ℕ → ℕ) → Type 0
   Holds s registers = (x : ℕ) (z : ℤ) → s.bound_to x ≡ Some z → r.integer (registers x) ≡ z
@@ -78,9 +78,9 @@ module _ (h : Heap) (c : ℕ) (r : HeadRegisters) (ts : List HeadTyped) where
 
 -- the code of a guard holds where that of its head does
 guard_held : (h : Heap) (items : List HeadItem) (guard : List Cond) (m : ℕ) (r : HeadRegisters) → Succeeds h (head_code items guard) m r →
-    AllHold h (atoms_set (head_code items guard)) r (guard_code (typed_number (typed_contexts_of items) 0) (λ x. 0) 0 guard)
+    AllHold h (size_of_head (head_code items guard)) r (guard_code (typed_number (typed_contexts_of items) 0) (λ x. 0) 0 guard)
 guard_held h items guard m r s =
-    let c = atoms_set (head_code items guard) in
+    let c = size_of_head (head_code items guard) in
     let ps = parts_code items 0 (typed_contexts_of items) in
     let fs = all_filled_code items 1 (membranes_of items) in
     let gs = guard_code (typed_number (typed_contexts_of items) 0) (λ x. 0) 0 guard in
@@ -92,5 +92,5 @@ guard_held h items guard m r s =
 pub bound_names : AcceptedHeads → BoundNames
 bound_names heads table r plan ready h m s succeeds x z e =
     let items = head_items r plan in
-    registers_hold h (atoms_set (rule_head_code r plan)) s (typed_contexts_of items) r.guard 0 [] (λ x. 0) (λ x. None) (λ x u. absurd u) (λ x z e. absurd (cc))
+    registers_hold h (size_of_head (rule_head_code r plan)) s (typed_contexts_of items) r.guard 0 [] (λ x. 0) (λ x. None) (λ x u. absurd u) (λ x z e. absurd (cc))
     (guard_held h items r.guard m s succeeds) (heads.guard table r plan ready) x z e

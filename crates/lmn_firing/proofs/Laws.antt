@@ -5,6 +5,6 @@ use Rattle.lmn_firing.specs.Laws.{CodeFires}
 
 -- where head code succeeds, body code fires the rule
 pub code_fires : CodeFires
-code_fires head guard body n rule h meets m placed r first c names h' runs =
+code_fires head guard body n rule h meets m placed r first rests c names h' runs =
     let least = code_of_least.least h head guard m r.head meets first in
-    (least, body_fires_within head body n rule r h meets.valid m least.embeds.lies placed c names h' runs)
+    (least, body_fires_within head body n rule r h meets.valid m least.embeds.lies rests placed c names h' runs)

@@ -14,14 +14,14 @@ use Rattle.lmn_body.specs.Fired.{images_of}
 use Rattle.lmn_body.specs.Names.{Names}
 use Rattle.lmn_body.specs.Rules.{NestedRule, PartAtoms}
 use Rattle.lmn_body.specs.Running.{Registers, RunsBody}
-use Rattle.lmn_body.specs.Within.{FiresWithin}
+use Rattle.lmn_body.specs.Within.{FiresWithin, HoldsRests}
 use Rattle.lmn_base.specs.Graphs.{Port}
 
 -- Where the code of a head first succeeds in a membrane, its head embeds there at the least positions, and the code of the
--- body, run with the same registers, fires the rule.
+-- body, run with the same registers that hold its rests, fires the rule.
 abbrev pub CodeFires : Type 0
 CodeFires = (head : List HeadItem) (guard : List Cond) (body : List BodyItem) (n : ℕ) → NestedRule head body n →
     (h : Heap) → HeadMeetsHeap h head guard → (m : ℕ) → IsMemInPlace h m → (r : Registers) → IsFirstSuccess h (head_code head guard) m r.head →
-    (c : Port → ℕ) → Names h c → (h' : Heap) → RunsBody r (body_code head body n) h h' →
+    HoldsRests h r head → (c : Port → ℕ) → Names h c → (h' : Heap) → RunsBody r (body_code head body n) h h' →
     IsLeast h head guard m r.head.images
     × ((ps : List ℕ) × PartAtoms h head r.head.images ps × Valid h' × FiresWithin h c r head body (images_of r head ++ ps) h')

@@ -27,6 +27,8 @@ worked_listings = record {
   empty_inside = refl;
   typed_inside = refl;
   typed_in_two = refl;
+  closed_rest = refl;
+  closed_beside_typed = refl;
   constant = refl;
   each_occurrence = λ box. refl;
   bound_contexts = λ box. refl;
@@ -37,4 +39,5 @@ worked_listings = record {
   integer_atom = refl;
   whole_rule = refl;
   of_bodies = refl;
+  of_closed_rests = refl;
 }

@@ -19,7 +19,7 @@ use Rattle.lmn_solid.specs.Heads.{HeadAtom, HeadTyped, HeadMembrane, Occurrence,
 use Rattle.lmn_solid.specs.Guards.{typed_number, context_alone}
 use Rattle.lmn_instr.specs.declared.instr.AtomPort.{AtomPort}
 use Rattle.lmn_instr.specs.declared.instr.Instr.{Instr}
-use Rattle.lmn_instr.specs.declared.instr.Instr.TheVariants.{FindAtom, Deref, Func, InMem, NeqAtom, Joined, NotIn, AnyMem, NeqMem, IsInt, IsUnary, IsGround, NAtoms, NMems, NoRules, EqGround, NeqGround, GetInt, Const, Add, Sub, Mul, Div, Mod, Lt, Le, Gt, Ge, Eq, Ne, Commit}
+use Rattle.lmn_instr.specs.declared.instr.Instr.TheVariants.{FindAtom, Deref, Func, InMem, NeqAtom, Joined, NotIn, AnyMem, NeqMem, IsInt, IsUnary, IsGround, NAtoms, NMems, NoRules, IsClosed, EqGround, NeqGround, GetInt, Const, Add, Sub, Mul, Div, Mod, Lt, Le, Gt, Ge, Eq, Ne, Commit}
 use Rattle.lmn_base.specs.Graphs.{Port}
 
 -- a port of the head, as an operand
@@ -145,12 +145,13 @@ parts_inside k g [] = []
 parts_inside k g (t ∷ ts) = (if t.inside == k then g ∷ [] else []) ++ parts_inside k (g + 1) ts
 
 -- Membrane number k holds nothing else: without an untyped context no other atom, but for those of its typed contexts, and
--- no other membrane; without a rule context no rule.
+-- no other membrane; without a rule context no rule. With a closed context no link leaves its rest.
 abbrev pub filled_code : List HeadItem → ℕ → HeadMembrane → List Instr
 filled_code items k b =
     (if b.has_context then []
     else NAtoms k (number_inside (λ a. a.inside) k (atoms_of items)) (parts_inside k 0 (typed_contexts_of items)) ∷ (NMems k (number_inside (λ b. b.inside) k (membranes_of items)) ∷ []))
-    ++ (if b.has_rule_context then [] else NoRules k ∷ [])
+    ++ ((if b.has_rule_context then [] else NoRules k ∷ [])
+    ++ (if b.has_closed_context then IsClosed k (parts_inside k 0 (typed_contexts_of items)) ∷ [] else []))
 
 -- of each membrane, the first of which has the number k
 abbrev pub all_filled_code : List HeadItem → ℕ → List HeadMembrane → List Instr

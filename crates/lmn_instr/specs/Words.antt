@@ -1,7 +1,7 @@
 -- The words of an instruction's line: its name, and its operands in their order.
 use Rattle.std.specs.Prelude.{ℕ, List, [], ◌∷◌, ◌++◌, map, codes, option_to_list}
 use Rattle.lmn_instr.specs.declared.instr.Instr.{Instr}
-use Rattle.lmn_instr.specs.declared.instr.Instr.TheVariants.{FindAtom, Deref, Func, InMem, NeqAtom, Joined, NotIn, AnyMem, NeqMem, IsInt, IsUnary, IsGround, NAtoms, NMems, NoRules, EqGround, NeqGround, GetInt, Const, Add, Sub, Mul, Div, Mod, Lt, Le, Gt, Ge, Eq, Ne, Commit, RemoveAtom, RemovePart, RemoveMem, NewAtom, NewInt, NewMem, CopyGround, MoveCells, LoadRule, CopyRules, NewLink, Relink, Unify, Proceed}
+use Rattle.lmn_instr.specs.declared.instr.Instr.TheVariants.{FindAtom, Deref, Func, InMem, NeqAtom, Joined, NotIn, AnyMem, NeqMem, IsInt, IsUnary, IsGround, NAtoms, NMems, NoRules, IsClosed, EqGround, NeqGround, GetInt, Const, Add, Sub, Mul, Div, Mod, Lt, Le, Gt, Ge, Eq, Ne, Commit, RemoveAtom, RemovePart, RemoveMem, NewAtom, NewInt, NewMem, CopyGround, MoveCells, CopyCells, LoadRule, CopyRules, DropCells, NewLink, Relink, Unify, Proceed}
 use Rattle.lmn_instr.specs.declared.instr.NewPort.{NewPort}
 use Rattle.lmn_instr.specs.declared.instr.NewPort.TheVariants as new
 use Rattle.lmn_instr.specs.declared.words.Operand.{Operand}
@@ -30,6 +30,7 @@ line_words (IsGround g p m) = (codes "ISGROUND", Part g ∷ Port p ∷ Membrane 
 line_words (NAtoms m n gs) = (codes "NATOMS", Membrane m ∷ Number n ∷ map Part gs)
 line_words (NMems m n) = (codes "NMEMS", Membrane m ∷ Number n ∷ [])
 line_words (NoRules m) = (codes "NORULES", Membrane m ∷ [])
+line_words (IsClosed m gs) = (codes "ISCLOSED", Membrane m ∷ map Part gs)
 line_words (EqGround g h) = (codes "EQGROUND", Part g ∷ Part h ∷ [])
 line_words (NeqGround g h) = (codes "NEQGROUND", Part g ∷ Part h ∷ [])
 line_words (GetInt v g) = (codes "GETINT", Integer v ∷ Part g ∷ [])
@@ -54,8 +55,10 @@ line_words (NewInt a m v) = (codes "NEWINT", Atom a ∷ Membrane m ∷ Integer v
 line_words (NewMem m n) = (codes "NEWMEM", Membrane m ∷ Membrane n ∷ [])
 line_words (CopyGround c m g) = (codes "COPYGROUND", Copy c ∷ Membrane m ∷ Part g ∷ [])
 line_words (MoveCells m n) = (codes "MOVECELLS", Membrane m ∷ Membrane n ∷ [])
+line_words (CopyCells m n) = (codes "COPYCELLS", Membrane m ∷ Membrane n ∷ [])
 line_words (LoadRule m k) = (codes "LOADRULE", Membrane m ∷ Number k ∷ [])
 line_words (CopyRules m n) = (codes "COPYRULES", Membrane m ∷ Membrane n ∷ [])
+line_words (DropCells m) = (codes "DROPCELLS", Membrane m ∷ [])
 line_words (NewLink p q) = (codes "NEWLINK", port_operand p ∷ port_operand q ∷ [])
 line_words (Relink p q) = (codes "RELINK", port_operand p ∷ Port q ∷ [])
 line_words (Unify p q) = (codes "UNIFY", Port p ∷ Port q ∷ [])

@@ -16,7 +16,7 @@ use Rattle.lmn_base.specs.declared.level.CtxUse.{CtxUse}
 use Rattle.lmn_guards.specs.declared.plan.TypeKind.TheVariants as kind
 use Rattle.lmn_solid.specs.declared.items.HeadItem.{HeadItem}
 use Rattle.lmn_solid.specs.declared.items.HeadItem.TheVariants.{Atom, Typed, Membrane}
-use Rattle.lmn_instr.specs.declared.instr.Instr.TheVariants.{RemoveAtom, RemovePart, RemoveMem, NewAtom, NewInt, NewMem, CopyGround, MoveCells, LoadRule, CopyRules, NewLink, Relink, Unify, Proceed}
+use Rattle.lmn_instr.specs.declared.instr.Instr.TheVariants.{RemoveAtom, RemovePart, RemoveMem, NewAtom, NewInt, NewMem, CopyGround, MoveCells, CopyCells, LoadRule, CopyRules, DropCells, NewLink, Relink, Unify, Proceed}
 use Rattle.lmn_instr.specs.declared.instr.NewPort.TheVariants as new
 use Rattle.lmn_instr.specs.HeadCode.{head_code}
 use Rattle.lmn_instr.specs.Listings.{line, code_listing}
@@ -143,6 +143,12 @@ pub record WorkedListings : Type 0 where
   -- `{a($x, $y)}, {b($z)} :- ground($x), unary($y), int($z) | ..`
   pub typed_in_two : head_lines (Membrane 0 false false false ∷ (worked_atom name_a (0 ∷ (1 ∷ [])) 1 ∷ (Typed typed_x kind.Ground 0 1 ∷ (Typed typed_y kind.Unary 1 1 ∷ (Membrane 0 false false false ∷ (worked_atom name_b (2 ∷ []) 2 ∷ (Typed typed_z kind.Int 2 2 ∷ []))))))) (asks_type GROUND_NAME typed_x ∷ (asks_type UNARY_NAME typed_y ∷ (asks_type INT_NAME typed_z ∷ []))) ≡
       codes "  ANYMEM M1 M0\n  FINDATOM A0 M1 a/2\n  ANYMEM M2 M0\n  NEQMEM M2 M1\n  FINDATOM A1 M2 b/1\n  ISGROUND G0 A0.0 M1\n  ISUNARY G1 A0.1 M1\n  ISINT G2 A1.0 M2\n  NATOMS M1 1 G0 G1\n  NMEMS M1 0\n  NORULES M1\n  NATOMS M2 1 G2\n  NMEMS M2 0\n  NORULES M2\n  COMMIT\n"
+  -- `{$p[]} :- ..`
+  pub closed_rest : head_lines (Membrane 0 true true false ∷ []) [] ≡
+      codes "  ANYMEM M1 M0\n  NORULES M1\n  ISCLOSED M1\n  COMMIT\n"
+  -- `{a($x), $p[], @r} :- int($x) | ..`
+  pub closed_beside_typed : head_lines (Membrane 0 true true true ∷ (worked_atom name_a (0 ∷ []) 1 ∷ (Typed typed_x kind.Int 0 1 ∷ []))) (asks_type INT_NAME typed_x ∷ []) ≡
+      codes "  ANYMEM M1 M0\n  FINDATOM A0 M1 a/1\n  ISINT G0 A0.0 M1\n  ISCLOSED M1 G0\n  COMMIT\n"
   -- `p($x) :- $x < 3 | ..`
   pub constant : head_lines (worked_atom name_p (0 ∷ []) 0 ∷ (Typed typed_x kind.Int 0 0 ∷ [])) (compares cmp.Lt (of typed_x) (expr.Int (pos 3)) ∷ []) ≡
       codes "  FINDATOM A0 M0 p/1\n  ISINT G0 A0.0 M0\n  GETINT V0 G0\n  CONST V1 3\n  LT V0 V1\n  COMMIT\n"
@@ -181,3 +187,9 @@ pub record WorkedListings : Type 0 where
         (Unify (record { atom = 0; port = 0 }) (record { atom = 1; port = 2 }) ∷ []))))))))));
   }) 12 ≡
       codes "rule 12\n  REMOVEPART G0\n  REMOVEMEM M1\n  NEWINT A3 M0 V2\n  NEWMEM M2 M0\n  COPYGROUND C0 M2 G1\n  MOVECELLS M1 M0\n  LOADRULE M2 7\n  COPYRULES M1 M2\n  NEWLINK A2.0 C0\n  RELINK A2.1 A0.1\n  UNIFY A0.0 A1.2\n"
+  -- those of closed contexts, as rule 3
+  pub of_closed_rests : code_listing worked_names (record {
+    head = [];
+    body = RemoveMem 1 ∷ (NewMem 2 0 ∷ (CopyCells 1 2 ∷ (DropCells 1 ∷ (Proceed ∷ []))));
+  }) 3 ≡
+      codes "rule 3\n  REMOVEMEM M1\n  NEWMEM M2 M0\n  COPYCELLS M1 M2\n  DROPCELLS M1\n  PROCEED\n"

@@ -1,21 +1,21 @@
 -- The names in the code of a body are those of its atoms.
-use Rattle.std.proofs.Common.{ℕ, ◌+◌, List, [], ◌∷◌, ◌++◌, map, length}
+use Rattle.std.proofs.Common.{ℕ, ◌+◌, true, false, List, [], ◌∷◌, ◌++◌, map, length}
 use Rattle.std.specs.List.{AllByRecursion}
 use Rattle.lmn_solid.specs.declared.items.HeadItem.{HeadItem}
-use Rattle.lmn_solid.specs.Heads.{atoms_of, typed_contexts_of, membranes_of}
+use Rattle.lmn_solid.specs.Heads.{HeadMembrane, atoms_of, typed_contexts_of, membranes_of}
 use Rattle.lmn_splice.specs.Classes.{class_of, ends_of_class, rising}
 use Rattle.lmn_instr.specs.declared.instr.AtomPort.{AtomPort}
 use Rattle.lmn_instr.specs.declared.instr.NewPort.{NewPort}
 use Rattle.lmn_instr.specs.declared.instr.NewPort.TheVariants as new
 use Rattle.lmn_instr.specs.declared.instr.Instr.{Instr}
-use Rattle.lmn_instr.specs.declared.instr.Instr.TheVariants.{RemoveAtom, RemovePart, RemoveMem, NewLink, Relink, Proceed}
+use Rattle.lmn_instr.specs.declared.instr.Instr.TheVariants.{RemoveAtom, RemovePart, RemoveMem, DropCells, NewLink, Relink, Proceed}
 use Rattle.lmn_instr.specs.Labels.{HasLabel}
 use Rattle.lmn_instr.specs.Listings.{HasInstr}
 use Rattle.lmn_body.specs.declared.items.BodyItem.{BodyItem}
 use Rattle.lmn_body.specs.declared.items.BodyItem.TheVariants.{Atom, Connector, Copy, Bound, Membrane, Rest, Rule, Rules}
-use Rattle.lmn_body.specs.Code.{removals, making, link_code, links_code, body_code}
+use Rattle.lmn_body.specs.Code.{removals, making, drops, link_code, links_code, body_code}
 use Rattle.lmn_body.specs.Items.{new_ports, old_ports, connectors}
-use Rattle.lmn_listing.proofs.HeadNames.{HasInstrs, both}
+use Rattle.lmn_listing.proofs.HeadNames.{HasInstrs, both, if_has}
 
 module _ (names : List (List ℕ)) where
   -- the list has the name of an item, if it is an atom
@@ -25,7 +25,7 @@ module _ (names : List (List ℕ)) where
   HasItem (Copy part link inside) = Unit {0}
   HasItem (Bound integer link inside) = Unit {0}
   HasItem (Membrane inside) = Unit {0}
-  HasItem (Rest of inside) = Unit {0}
+  HasItem (Rest of closed inside) = Unit {0}
   HasItem (Rule rule inside) = Unit {0}
   HasItem (Rules of inside) = Unit {0}
 
@@ -48,9 +48,14 @@ module _ (names : List (List ℕ)) where
   making_has a m c (Copy part link inside ∷ xs) h = ((tt, (tt, (tt, tt))), making_has a m (c + 1) xs h.1)
   making_has a m c (Bound integer link inside ∷ xs) h = ((tt, (tt, (tt, tt))), making_has (a + 1) m c xs h.1)
   making_has a m c (Membrane inside ∷ xs) h = ((tt, (tt, tt)), making_has a (m + 1) c xs h.1)
-  making_has a m c (Rest of inside ∷ xs) h = ((tt, (tt, tt)), making_has a m c xs h.1)
+  making_has a m c (Rest of true inside ∷ xs) h = ((tt, (tt, tt)), making_has a m c xs h.1)
+  making_has a m c (Rest of false inside ∷ xs) h = ((tt, (tt, tt)), making_has a m c xs h.1)
   making_has a m c (Rule rule inside ∷ xs) h = ((tt, (tt, tt)), making_has a m c xs h.1)
   making_has a m c (Rules of inside ∷ xs) h = ((tt, (tt, tt)), making_has a m c xs h.1)
+
+  drops_have : (k : ℕ) (bs : List HeadMembrane) → HasInstrs names (drops k bs)
+  drops_have k [] = tt
+  drops_have k (b ∷ bs) = both names _ (drops (k + 1) bs) (if_has names b.has_closed_context (DropCells k ∷ []) ((tt, tt), tt)) (drops_have (k + 1) bs)
 
   new_link_has : (p q : NewPort) → HasInstr names (NewLink p q)
   new_link_has (new.Atom p) (new.Atom q) = (tt, (tt, tt))
@@ -88,6 +93,8 @@ module _ (names : List (List ℕ)) where
       let m = class_of (connectors body) in
       let ls = links_code m (new_ports a 0 body) (old_ports head) (rising 0 n) in
       let last : HasInstrs names (Proceed ∷ []) = (tt, tt) in
-      both names (removals head) (made ++ (ls ++ (Proceed ∷ []))) (removals_have head)
-      (both names made (ls ++ (Proceed ∷ [])) (making_has a k 0 body h)
-      (both names ls (Proceed ∷ []) (ties_have m (new_ports a 0 body) (old_ports head) (rising 0 n)) last))
+      let ds = drops 1 (membranes_of head) in
+      both names (removals head) (made ++ (ds ++ (ls ++ (Proceed ∷ [])))) (removals_have head)
+      (both names made (ds ++ (ls ++ (Proceed ∷ []))) (making_has a k 0 body h)
+      (both names ds (ls ++ (Proceed ∷ [])) (drops_have 1 (membranes_of head))
+      (both names ls (Proceed ∷ []) (ties_have m (new_ports a 0 body) (old_ports head) (rising 0 n)) last)))

@@ -19,7 +19,7 @@ use Rattle.lmn_solid.specs.Heads.{HeadAtom, HeadTyped, HeadMembrane, atoms_of, t
 use Rattle.lmn_solid.specs.Guards.{typed_number, context_alone}
 use Rattle.lmn_instr.specs.declared.instr.AtomPort.{AtomPort}
 use Rattle.lmn_instr.specs.declared.instr.Instr.{Instr}
-use Rattle.lmn_instr.specs.declared.instr.Instr.TheVariants.{NeqAtom, NotIn, NeqMem, NAtoms, NMems, NoRules, Commit}
+use Rattle.lmn_instr.specs.declared.instr.Instr.TheVariants.{NeqAtom, NotIn, NeqMem, NAtoms, NMems, NoRules, IsClosed, Commit}
 use Rattle.lmn_instr.specs.Labels.{HasLabel}
 use Rattle.lmn_instr.specs.Listings.{HasInstr}
 use Rattle.lmn_instr.specs.HeadCode.{items_code, atom_code, found_code, Entry, entry, differ_code, ports_code, port_code, joined_code, open_code, find_port, occurrences_before, is_entry, membrane_code, differ_membrane_code, parts_code, part_code, test_of, filled_code, all_filled_code, number_inside, parts_inside, head_code, operand, operator_instruction, comparison, named_code, value_code, equal_code, part_named, differ_parts_code, bind_register, guard_code}
@@ -35,7 +35,8 @@ module _ (names : List (List ℕ)) where
   both [] ys p q = q
   both (x ∷ xs) ys p q = (p.0, both xs ys p.1 q)
 
-  if_has : (b : Bool) (xs : List Instr) → HasInstrs xs → HasInstrs (if b then xs else [])
+  -- and of a list that stands or doesn't
+  pub if_has : (b : Bool) (xs : List Instr) → HasInstrs xs → HasInstrs (if b then xs else [])
   if_has true xs p = p
   if_has false xs p = tt
 
@@ -89,13 +90,20 @@ module _ (names : List (List ℕ)) where
   atoms_counted k n [] = (tt, (tt, tt))
   atoms_counted k n (g ∷ gs) = let h = atoms_counted k n gs in (tt, (tt, (tt, h.1.1)))
 
+  rest_closed : (k : ℕ) (gs : List ℕ) → HasInstr names (IsClosed k gs)
+  rest_closed k [] = (tt, tt)
+  rest_closed k (g ∷ gs) = let h = rest_closed k gs in (tt, (tt, h.1))
+
   filled_has : (items : List HeadItem) (k : ℕ) (b : HeadMembrane) → HasInstrs (filled_code items k b)
   filled_has items k b =
       let gs = parts_inside k 0 (typed_contexts_of items) in
       let many = number_inside (λ a. a.inside) k (atoms_of items) in
       let is = NAtoms k many gs ∷ (NMems k (number_inside (λ b. b.inside) k (membranes_of items)) ∷ []) in
-      both (if b.has_context then [] else is) (if b.has_rule_context then [] else NoRules k ∷ [])
-      (unless_has b.has_context is (atoms_counted k many gs, ((tt, (tt, tt)), tt))) (unless_has b.has_rule_context (NoRules k ∷ []) ((tt, tt), tt))
+      let closed = IsClosed k gs ∷ [] in
+      both (if b.has_context then [] else is) ((if b.has_rule_context then [] else NoRules k ∷ []) ++ (if b.has_closed_context then closed else []))
+      (unless_has b.has_context is (atoms_counted k many gs, ((tt, (tt, tt)), tt)))
+      (both (if b.has_rule_context then [] else NoRules k ∷ []) (if b.has_closed_context then closed else [])
+      (unless_has b.has_rule_context (NoRules k ∷ []) ((tt, tt), tt)) (if_has b.has_closed_context closed (rest_closed k gs, tt)))
 
   all_filled_has : (items : List HeadItem) (k : ℕ) (bs : List HeadMembrane) → HasInstrs (all_filled_code items k bs)
   all_filled_has items k [] = tt

@@ -93,14 +93,15 @@ listed_below n (k ∷ gs) (suc i) g a e = listed_below n gs i g a.1 e
 
 module _ (h : Heap) (s : HeadRegisters) where
   -- the parts of one register more
-  some_more : (gs : List ℕ) (i g b : ℕ) → slice_get gs i ≡ Some g → IsInSome h s (take (suc i) gs) b → IsInSome h s (take i gs) b ⊎ Reached (atom_map h) (s.images.part g) b
+  pub some_more : (gs : List ℕ) (i g b : ℕ) → slice_get gs i ≡ Some g → IsInSome h s (take (suc i) gs) b → IsInSome h s (take i gs) b ⊎ Reached (atom_map h) (s.images.part g) b
   some_more [] i g b e t = absurd (cc)
   some_more (k ∷ gs) zero g b e (inl r) = let same : k ≡ g = cc in inr (subst (λ x. Reached (atom_map h) (s.images.part x) b) same r)
   some_more (k ∷ gs) zero g b e (inr u) = absurd u
   some_more (k ∷ gs) (suc i) g b e (inl r) = inl (inl r)
   some_more (k ∷ gs) (suc i) g b e (inr u) = elim (some_more gs i g b e u) [ inl v ↦ inl (inr v) | inr r ↦ inr r ]
 
-  more_some : (gs : List ℕ) (i g b : ℕ) → slice_get gs i ≡ Some g → IsInSome h s (take i gs) b ⊎ Reached (atom_map h) (s.images.part g) b → IsInSome h s (take (suc i) gs) b
+  -- and back
+  pub more_some : (gs : List ℕ) (i g b : ℕ) → slice_get gs i ≡ Some g → IsInSome h s (take i gs) b ⊎ Reached (atom_map h) (s.images.part g) b → IsInSome h s (take (suc i) gs) b
   more_some [] i g b e t = absurd (cc)
   more_some (k ∷ gs) zero g b e (inl u) = absurd u
   more_some (k ∷ gs) zero g b e (inr r) = let same : g ≡ k = cc in inl (subst (λ x. Reached (atom_map h) (s.images.part x) b) same r)

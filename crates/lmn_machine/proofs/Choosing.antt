@@ -10,7 +10,7 @@ use Rattle.lmn_heap.specs.Functors.{with_functor}
 use Rattle.lmn_solid.specs.Embeddings.{ListNotAfter, index_of}
 use Rattle.lmn_instr.specs.declared.instr.Instr.{Instr}
 use Rattle.lmn_instr.specs.declared.instr.Instr.TheVariants.{FindAtom, AnyMem}
-use Rattle.lmn_instr.specs.Running.{HeadRegisters, AllHold, atoms_set, choices}
+use Rattle.lmn_instr.specs.Running.{HeadRegisters, HeadSize, AllHold, atoms_set, membranes_set, choices}
 use Rattle.lmn_registers.specs.declared.registers.SetRegisters.{SetRegisters}
 use Rattle.lmn_registers.specs.Agreeing.{Agrees}
 use Rattle.lmn_machine.specs.Searching.{AreHeldWhole, Extends, SetsAll, Searched, SetsMore}
@@ -85,19 +85,24 @@ module _ {A M : Type 0} (atom : A → ℕ) (membrane : M → ℕ) (h : Heap) whe
     whole = t.whole;
   }
 
-  -- the number of all atom registers is the same behind a choice
-  atom_more : (g : SetRegisters A M) (a : A) (code is : List Instr) (f : Functor) (y c : ℕ) → code ≡ FindAtom (length g.atoms) y f ∷ is → SetsAll c g code → SetsAll c (with_atom g a) is
+  -- what is set at last is the same behind a choice
+  atom_more : (g : SetRegisters A M) (a : A) (code is : List Instr) (f : Functor) (y : ℕ) (c : HeadSize) → code ≡ FindAtom (length g.atoms) y f ∷ is → SetsAll c g code → SetsAll c (with_atom g a) is
   atom_more g a code is f y c e k =
       let t : atoms_set code ≡ 1 + atoms_set is = ap atoms_set e in
       let l = length_push g.atoms a in
-      omega (arith, t, l, k)
+      let n = k.atoms in
+      record { atoms = omega (arith, t, l, n); membranes = k.membranes ∙ ap (λ j. length g.membranes + j) (ap membranes_set e) }
 
-  pub membrane_more : (g : SetRegisters A M) (m : M) (code is : List Instr) (y c : ℕ) → code ≡ AnyMem (length g.membranes) y ∷ is → SetsAll c g code → SetsAll c (with_membrane g m) is
-  membrane_more g m code is y c e k = k ∙ ap (λ n. length g.atoms + n) (ap atoms_set e)
+  pub membrane_more : (g : SetRegisters A M) (m : M) (code is : List Instr) (y : ℕ) (c : HeadSize) → code ≡ AnyMem (length g.membranes) y ∷ is → SetsAll c g code → SetsAll c (with_membrane g m) is
+  membrane_more g m code is y c e k =
+      let t : membranes_set code ≡ 1 + membranes_set is = ap membranes_set e in
+      let l = length_push g.membranes m in
+      let n = k.membranes in
+      record { atoms = k.atoms ∙ ap (λ j. length g.atoms + j) (ap atoms_set e); membranes = omega (arith, t, l, n) }
 
   -- Atoms. Registers that agree and with which the code holds have one of the candidates that are left.
   pub record AtomsLeft (g : SetRegisters A M) (code : List Instr) (f : Functor) (m : M) (candidate : Option A) : Type 0 where
-    pub left : (c : ℕ) (s : HeadRegisters) → SetsAll c g code → Agrees atom membrane g s → AllHold h c s code →
+    pub left : (c : HeadSize) (s : HeadRegisters) → SetsAll c g code → Agrees atom membrane g s → AllHold h c s code →
         In (s.images.atom (length g.atoms)) (from (option_map atom candidate) (with_functor h f (atoms_in h (membrane m))))
 
   pub atoms_first : (g : SetRegisters A M) (code is : List Instr) (f : Functor) (y : ℕ) (m : M) (r : Option A) → code ≡ FindAtom (length g.atoms) y f ∷ is → slice_get g.membranes y ≡ Some m →
@@ -176,7 +181,7 @@ module _ {A M : Type 0} (atom : A → ℕ) (membrane : M → ℕ) (h : Heap) whe
 
   -- Membranes, likewise.
   pub record MembranesLeft (g : SetRegisters A M) (code : List Instr) (m : M) (candidate : Option M) : Type 0 where
-    pub left : (c : ℕ) (s : HeadRegisters) → SetsAll c g code → Agrees atom membrane g s → AllHold h c s code →
+    pub left : (c : HeadSize) (s : HeadRegisters) → SetsAll c g code → Agrees atom membrane g s → AllHold h c s code →
         In (s.images.membrane (length g.membranes)) (from (option_map membrane candidate) (mems_in h (membrane m)))
 
   pub membranes_first : (g : SetRegisters A M) (code is : List Instr) (y : ℕ) (m : M) (r : Option M) → code ≡ AnyMem (length g.membranes) y ∷ is → slice_get g.membranes y ≡ Some m →

@@ -9,8 +9,8 @@ use Rattle.lmn_heap.specs.Graphs.{atom_map}
 use Rattle.lmn_guards.specs.declared.plan.TypeKind.TheVariants as kind
 use Rattle.lmn_instr.specs.declared.instr.AtomPort.{AtomPort}
 use Rattle.lmn_instr.specs.declared.instr.Instr.{Instr}
-use Rattle.lmn_instr.specs.declared.instr.Instr.TheVariants.{IsGround, NAtoms, EqGround, NeqGround}
-use Rattle.lmn_instr.specs.Running.{HeadRegisters, InstructionHolds, IsContext, HasOthers, IsInSome}
+use Rattle.lmn_instr.specs.declared.instr.Instr.TheVariants.{IsGround, NAtoms, IsClosed, EqGround, NeqGround}
+use Rattle.lmn_instr.specs.Running.{HeadRegisters, HeadSize, InstructionHolds, IsContext, HasOthers, IsInSome, IsClosedRest}
 use Rattle.lmn_registers.specs.declared.registers.SetRegisters.{SetRegisters}
 use Rattle.lmn_registers.specs.Agreeing.{Agrees}
 use Rattle.lmn_machine.specs.Searching.{AreHeldWhole, Stepped, HeadInOrder, HasGivenPart, IsWholeApart}
@@ -51,8 +51,8 @@ module _ {A M : Type 0} (atom : A → ℕ) (membrane : M → ℕ) (h : Heap) whe
   ground_gives : (g : SetRegisters A M) (p : AtomPort) (y : ℕ) (a : A) (m : M) (o : Option (A × ℕ)) → slice_get g.atoms p.atom ≡ Some a → slice_get g.membranes y ≡ Some m → WholeEnd g a p.port m o →
       GivesPart atom membrane h g (IsGround (length g.parts) p y) o
   ground_gives g p y a m o from place t = λ c s n r. (
-    λ k. t.only (s.images.part (length g.parts)) (subst (λ j. link_of h j p.port ≡ Some (s.images.part (length g.parts))) (r.atoms p.atom a from) k.held) (from_context g c (length g.parts) y s p m n r place k),
-    λ e. to_context g c (length g.parts) y s p m n r place
+    λ k. t.only (s.images.part (length g.parts)) (subst (λ j. link_of h j p.port ≡ Some (s.images.part (length g.parts))) (r.atoms p.atom a from) k.held) (from_context g c.atoms (length g.parts) y s p m n r place k),
+    λ e. to_context g c.atoms (length g.parts) y s p m n r place
         (subst (λ j. link_of h j p.port ≡ Some (s.images.part (length g.parts))) (sym (r.atoms p.atom a from)) (t.ends (s.images.part (length g.parts)) e)) (t.whole (s.images.part (length g.parts)) e),
   )
 
@@ -66,7 +66,7 @@ module _ {A M : Type 0} (atom : A → ℕ) (membrane : M → ℕ) (h : Heap) whe
   -- A test of two parts that are set: what it answers is whether their graphs are the same, or not.
   parts_stepped : (g : SetRegisters A M) (result : Bool) (i : Instr) (P : ℕ × ℕ → ℕ × ℕ → Type 0) (x y : ℕ) (p q : A × ℕ) → AreHeldWhole atom membrane h g → slice_get g.parts x ≡ Some p → slice_get g.parts y ≡ Some q → SetsSo i 0 0 0 0 →
       ((is : List Instr) → HeadInOrder (length g.atoms) (length g.membranes) (length g.parts) (length g.integers) (i ∷ is) → HeadInOrder (length g.atoms) (length g.membranes) (length g.parts) (length g.integers) is) →
-      ((c : ℕ) (s : HeadRegisters) → (InstructionHolds h c s i → P (s.images.part x) (s.images.part y)) × (P (s.images.part x) (s.images.part y) → InstructionHolds h c s i)) →
+      ((c : HeadSize) (s : HeadRegisters) → (InstructionHolds h c s i → P (s.images.part x) (s.images.part y)) × (P (s.images.part x) (s.images.part y) → InstructionHolds h c s i)) →
       ((result ≡ true → P (port_id atom p) (port_id atom q)) × (P (port_id atom p) (port_id atom q) → result ≡ true)) → Stepped atom membrane h g g result i
   parts_stepped g result i P x y p q held at_x at_y none next means given = record {
     held = held;
@@ -95,5 +95,17 @@ module _ {A M : Type 0} (atom : A → ℕ) (membrane : M → ℕ) (h : Heap) whe
     holds = λ t c s _ a. subst (λ k. HasOthers (IsInSome h s gs) n (atoms_in h k)) (sym (a.membranes x m at)) (subst (λ ks. HasOthers (IsInSome h s ks) n (atoms_in h (membrane m))) same ((given s a).0 t));
     only = λ c s _ a u. ((given s a).1 (subst (λ ks. HasOthers (IsInSome h s ks) n (atoms_in h (membrane m))) (sym same) (subst (λ k. HasOthers (IsInSome h s gs) n (atoms_in h k)) (a.membranes x m at) u)), a);
     sets = λ t. nothing_more atom membrane h g (NAtoms x n gs) (refl, refl, refl, refl);
+    order = λ t is o. o.1;
+  })
+
+  pub closed_stepped : (g : SetRegisters A M) (result : Bool) (i : Instr) (x : ℕ) (gs xs : List ℕ) (m : M) → i ≡ IsClosed x gs → xs ≡ gs → AreHeldWhole atom membrane h g → slice_get g.membranes x ≡ Some m →
+      ((c : HeadSize) (s : HeadRegisters) (y : ℕ) → c.atoms ≡ length g.atoms → c.membranes ≡ length g.membranes → Agrees atom membrane g s → s.images.membrane y ≡ membrane m →
+      (result ≡ true → IsClosedRest h c s y xs) × (IsClosedRest h c s y xs → result ≡ true)) → Stepped atom membrane h g g result i
+  closed_stepped g result i x gs xs m e same held at given = subst (λ j. Stepped atom membrane h g g result j) (sym e) (record {
+    held = held;
+    extends = extends_itself atom membrane h g;
+    holds = λ t c s n a. subst (λ ks. IsClosedRest h c s x ks) same ((given c s x n.0 n.1 a (a.membranes x m at)).0 t);
+    only = λ c s n a u. ((given c s x n.0 n.1 a (a.membranes x m at)).1 (subst (λ ks. IsClosedRest h c s x ks) (sym same) u), a);
+    sets = λ t. nothing_more atom membrane h g (IsClosed x gs) (refl, refl, refl, refl);
     order = λ t is o. o.1;
   })

@@ -5,7 +5,7 @@ use Rattle.lmn_heap.specs.Sound.{Forest, IsTree, flat, item_count_in}
 use Rattle.lmn_heap.proofs.Pigeonholes.{not_longer}
 use Rattle.lmn_instr.specs.declared.instr.Instr.{Instr}
 use Rattle.lmn_instr.specs.declared.instr.Instr.TheVariants.{RemoveAtom, RemovePart, RemoveMem, NewAtom, NewInt, NewMem, CopyGround, LoadRule, CopyRules}
-use Rattle.lmn_instr.specs.Running.{HeadRegisters}
+use Rattle.lmn_body.specs.Running.{Registers}
 use Rattle.lmn_machine.specs.Costs.{IsSize, AddsItems, TakesItems, InAll, Leaves}
 
 -- a part has one size
@@ -15,18 +15,18 @@ one_size h root m n (xs, a, e) (ys, b, f) =
     let y = not_longer ys xs b.0 (λ k s. (a.1 k).1 ((b.1 k).0 s)) in
     omega (arith, x, y, e, f)
 
-adds_one : (h : Heap) (r : HeadRegisters) (i : Instr) (m n : ℕ) → AddsItems h r i m → AddsItems h r i n → m ≡ n
+adds_one : (h : Heap) (r : Registers) (i : Instr) (m n : ℕ) → AddsItems h r i m → AddsItems h r i n → m ≡ n
 adds_one h r (NewAtom a x f) m n s t = s ∙ sym t
 adds_one h r (NewInt a x v) m n s t = s ∙ sym t
 adds_one h r (NewMem x k) m n s t = s ∙ sym t
-adds_one h r (CopyGround c x g) m n s t = one_size h (r.images.part g) m n s t
+adds_one h r (CopyGround c x g) m n s t = one_size h (r.head.images.part g) m n s t
 adds_one h r (LoadRule x k) m n s t = s ∙ sym t
 adds_one h r (CopyRules x k) m n s t = s ∙ sym t
 adds_one h r _ m n s t = s ∙ sym t
 
-takes_one : (h : Heap) (r : HeadRegisters) (i : Instr) (m n : ℕ) → TakesItems h r i m → TakesItems h r i n → m ≡ n
+takes_one : (h : Heap) (r : Registers) (i : Instr) (m n : ℕ) → TakesItems h r i m → TakesItems h r i n → m ≡ n
 takes_one h r (RemoveAtom a) m n s t = s ∙ sym t
-takes_one h r (RemovePart g) m n s t = one_size h (r.images.part g) m n s t
+takes_one h r (RemovePart g) m n s t = one_size h (r.head.images.part g) m n s t
 takes_one h r (RemoveMem x) m n s t = s ∙ sym t
 takes_one h r _ m n s t = s ∙ sym t
 
@@ -53,7 +53,7 @@ pub sum_last : (P : Instr → ℕ → Type 0) (all left : List Instr) (sum : ℕ
 sum_last P all left sum e s = let t : sum + 0 ≡ sum = omega arith in subst (λ k. InAll P all k) t (s.whole 0 (subst (λ xs. InAll P xs 0) (sym e) refl))
 
 -- what is left, by the sums
-pub left_over : (h : Heap) (r : HeadRegisters) (body : List Instr) (n items added taken : ℕ) → (f : Forest) → IsTree h f → items + 1 ≡ item_count_in h (flat f) → InAll (AddsItems h r) body added → InAll (TakesItems h r) body taken → Leaves h r body n → n + taken ≡ items + added
+pub left_over : (h : Heap) (r : Registers) (body : List Instr) (n items added taken : ℕ) → (f : Forest) → IsTree h f → items + 1 ≡ item_count_in h (flat f) → InAll (AddsItems h r) body added → InAll (TakesItems h r) body taken → Leaves h r body n → n + taken ≡ items + added
 left_over h r body n items added taken f tree count adds takes l =
     let a = one_sum (AddsItems h r) (adds_one h r) body added l.added adds l.adds in
     let t = one_sum (TakesItems h r) (takes_one h r) body taken l.taken takes l.takes in

@@ -10,7 +10,7 @@ use Rattle.lmn_heap.specs.Functors.{with_functor}
 use Rattle.lmn_instr.specs.declared.instr.Instr.{Instr}
 use Rattle.lmn_instr.specs.declared.instr.Instr.TheVariants.{FindAtom, AnyMem}
 use Rattle.lmn_instr.specs.declared.instr.AtomPort.{AtomPort}
-use Rattle.lmn_instr.specs.Running.{HeadRegisters, InstructionHolds, AllHold, port_of}
+use Rattle.lmn_instr.specs.Running.{HeadRegisters, HeadSize, InstructionHolds, AllHold, port_of}
 use Rattle.lmn_base.specs.Graphs.{Port}
 use Rattle.lmn_solid.specs.Embeddings.{partner}
 use Rattle.lmn_machine.proofs.Candidates.{with_functor_in}
@@ -22,7 +22,7 @@ use Rattle.lmn_machine.proofs.Stepping.{extends_itself}
 use Rattle.lmn_machine.proofs.Choosing.{AtomsLeft, MembranesLeft, with_membrane, agrees_membrane, membrane_more}
 
 -- an instruction of code that holds as a whole holds
-pub hold_behind : (h : Heap) (c : ℕ) (s : HeadRegisters) (code : List Instr) (k at : ℕ) (i : Instr) → k ≤ at → slice_get code at ≡ Some i → AllHold h c s (drop k code) → InstructionHolds h c s i
+pub hold_behind : (h : Heap) (c : HeadSize) (s : HeadRegisters) (code : List Instr) (k at : ℕ) (i : Instr) → k ≤ at → slice_get code at ≡ Some i → AllHold h c s (drop k code) → InstructionHolds h c s i
 hold_behind h c s [] k at i l e t = absurd (cc)
 hold_behind h c s (x ∷ xs) zero zero i l e t = let d : x ≡ i = cc in subst (λ y. InstructionHolds h c s y) d t.0
 hold_behind h c s (x ∷ xs) zero (suc at) i l e t = hold_behind h c s xs zero at i (omega arith) e t.1
@@ -55,7 +55,7 @@ smaller a o r xs e l = let k : length (from o xs) ≡ length (after a xs) = ap l
 
 -- What is left of the atoms from one candidate on is left from another on, whenever the code ahead succeeds.
 abbrev pub AtomsFit : {A M : Type 0} → (A → ℕ) → (M → ℕ) → Heap → SetRegisters A M → List Instr → Functor → ℕ → Option A → Option A → Type 0
-AtomsFit atom membrane h g is f m start r = (c : ℕ) (s : HeadRegisters) → Agrees atom membrane g s → AllHold h c s is → let all = with_functor h f (atoms_in h m) in
+AtomsFit atom membrane h g is f m start r = (c : HeadSize) (s : HeadRegisters) → Agrees atom membrane g s → AllHold h c s is → let all = with_functor h f (atoms_in h m) in
     In (s.images.atom (length g.atoms)) (from (option_map atom start) all) → In (s.images.atom (length g.atoms)) (from (option_map atom r) all)
 
 -- likewise of the membranes, whenever they hold what is asked
@@ -73,7 +73,7 @@ module _ {A M : Type 0} (atom : A → ℕ) (membrane : M → ℕ) (h : Heap) whe
   }
 
   -- what code asks for, it holds
-  asked_holds : (g : SetRegisters A M) (code : List Instr) (at register : ℕ) (asked : Option Functor) → IfSome asked (λ f. AsksFor code at register f) → (c : ℕ) (s : HeadRegisters) → AllHold h c s (drop at code) →
+  asked_holds : (g : SetRegisters A M) (code : List Instr) (at register : ℕ) (asked : Option Functor) → IfSome asked (λ f. AsksFor code at register f) → (c : HeadSize) (s : HeadRegisters) → AllHold h c s (drop at code) →
       HoldsAsked h asked (s.images.membrane register)
   asked_holds g code at register None t c s u = tt
   asked_holds g code at register (Some f) t c s u =
@@ -91,7 +91,7 @@ module _ {A M : Type 0} (atom : A → ℕ) (membrane : M → ℕ) (h : Heap) whe
 
   -- Where the membrane is told by an atom that stands in it, it is the only candidate.
   pub record OnlyOne (g : SetRegisters A M) (code : List Instr) (r : Option M) : Type 0 where
-    pub only : (c : ℕ) (s : HeadRegisters) → Agrees atom membrane g s → AllHold h c s code → option_map membrane r ≡ Some (s.images.membrane (length g.membranes))
+    pub only : (c : HeadSize) (s : HeadRegisters) → Agrees atom membrane g s → AllHold h c s code → option_map membrane r ≡ Some (s.images.membrane (length g.membranes))
 
   pub only_home : (g : SetRegisters A M) (code is : List Instr) (y : ℕ) (m : M) (a : ℕ) (r : Option M) → code ≡ AnyMem (length g.membranes) y ∷ is → slice_get g.membranes y ≡ Some m →
       IsGuest atom membrane h g is (length g.membranes) a → ((n : ℕ) → In a (atoms_in h n) → In n (mems_in h (membrane m)) → option_map membrane r ≡ Some n) → OnlyOne g code r

@@ -3,10 +3,10 @@ use Rattle.std.proofs.Common.{ℕ, zero, suc, ◌≡◌, List, [], ◌∷◌, So
 use Rattle.std.specs.Prelude.{Bool, true, false, slice_get}
 use Rattle.lmn_heap.specs.Heap.{Heap}
 use Rattle.lmn_instr.specs.declared.instr.Instr.{Instr}
-use Rattle.lmn_instr.specs.Running.{HeadRegisters, Succeeds, IsFirstSuccess, atoms_set}
+use Rattle.lmn_instr.specs.Running.{HeadRegisters, Succeeds, IsFirstSuccess, size_of_head}
 use Rattle.lmn_registers.specs.declared.registers.SetRegisters.{SetRegisters}
 use Rattle.lmn_registers.specs.Agreeing.{Agrees}
-use Rattle.lmn_machine.specs.Searching.{Searched, AreAllSet}
+use Rattle.lmn_machine.specs.Searching.{SetsAll, Searched, AreAllSet}
 use Rattle.lmn_machine.proofs.Stepping.{agrees_before}
 
 -- one membrane register
@@ -21,18 +21,23 @@ module _ {A M : Type 0} (atom : A → ℕ) (membrane : M → ℕ) (h : Heap) whe
       at zero n u = let t : m ≡ n = cc in e ∙ ap membrane t
       at (suc k) n u = absurd (cc)
 
+  -- the size of a head, by its code and the one membrane
+  sets_all : (m : M) (code : List Instr) → SetsAll {A = A} {M = M} (size_of_head code) (only_membrane m) code
+  sets_all m code = record { atoms = omega arith; membranes = omega arith }
+
   pub first_found : (m : M) (k : SetRegisters A M) (result : Bool) (code : List Instr) → Searched atom membrane h (only_membrane m) k result code → result ≡ true → (r : HeadRegisters) → Agrees atom membrane k r →
       IsFirstSuccess h code (membrane m) r
   first_found m k result code t e r a =
       let f = t.found e in
+      let all = sets_all m code in
       let b = agrees_before atom membrane h (only_membrane m) k r t.extends a in
       record {
-        succeeds = record { here = b.membranes 0 m refl; all = f.holds (atoms_set code) r (omega arith) a };
-        first = λ s u. f.first (atoms_set code) r s (omega arith) a (one_agrees m s u.here) u.all;
+        succeeds = record { here = b.membranes 0 m refl; all = f.holds (size_of_head code) r all a };
+        first = λ s u. f.first (size_of_head code) r s all a (one_agrees m s u.here) u.all;
       }
 
   pub none_found : (m : M) (k : SetRegisters A M) (result : Bool) (code : List Instr) → Searched atom membrane h (only_membrane m) k result code → result ≡ false → (r : HeadRegisters) → Succeeds h code (membrane m) r → ⊥
-  none_found m k result code t e r s = t.none e (atoms_set code) r (omega arith) (one_agrees m r s.here) s.all
+  none_found m k result code t e r s = t.none e (size_of_head code) r (sets_all m code) (one_agrees m r s.here) s.all
 
   pub all_set : (m : M) (k : SetRegisters A M) (result : Bool) (code : List Instr) → Searched atom membrane h (only_membrane m) k result code → result ≡ true → AreAllSet k code
   all_set m k result code t e = let s = t.sets e in record {

@@ -8,7 +8,7 @@ use Rattle.lmn_guards.specs.Values.{result_of}
 use Rattle.lmn_solid.specs.Guards.{integer_at, integer_of_functor}
 use Rattle.lmn_instr.specs.declared.instr.Instr.{Instr}
 use Rattle.lmn_instr.specs.declared.instr.Instr.TheVariants.{GetInt, Const, Add, Sub, Mul, Div, Mod}
-use Rattle.lmn_instr.specs.Running.{HeadRegisters, InstructionHolds}
+use Rattle.lmn_instr.specs.Running.{HeadRegisters, HeadSize, InstructionHolds}
 use Rattle.lmn_registers.specs.declared.registers.SetRegisters.{SetRegisters}
 use Rattle.lmn_registers.specs.Agreeing.{Agrees}
 use Rattle.lmn_machine.specs.Searching.{AreHeldWhole, Extends, Stepped, HeadInOrder, HasGiven}
@@ -42,7 +42,7 @@ module _ {A M : Type 0} (atom : A → ℕ) (membrane : M → ℕ) (h : Heap) whe
 
   -- What an instruction gives is the integer of the next register exactly where it holds.
   abbrev GivesInteger : SetRegisters A M → Instr → Option ℤ → Type 0
-  GivesInteger g i o = (c : ℕ) (s : HeadRegisters) → Agrees atom membrane g s →
+  GivesInteger g i o = (c : HeadSize) (s : HeadRegisters) → Agrees atom membrane g s →
       (InstructionHolds h c s i → o ≡ Some (s.integer (length g.integers))) × (o ≡ Some (s.integer (length g.integers)) → InstructionHolds h c s i)
 
   integer_stepped : (g k : SetRegisters A M) (result : Bool) (i : Instr) (o : Option ℤ) → AreHeldWhole atom membrane h g →

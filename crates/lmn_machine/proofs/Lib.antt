@@ -8,6 +8,7 @@ pub mod Climbing
 pub mod Giving
 pub mod Lone
 pub mod Owning
+pub mod Resting
 pub mod Contexts
 pub mod Apart
 pub mod Besides

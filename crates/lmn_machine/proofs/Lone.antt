@@ -16,7 +16,7 @@ use Rattle.lmn_solid.specs.Guards.{integer_at, integer_by, integer_of_functor, I
 use Rattle.lmn_instr.specs.declared.instr.AtomPort.{AtomPort}
 use Rattle.lmn_instr.specs.declared.instr.Instr.{Instr}
 use Rattle.lmn_instr.specs.declared.instr.Instr.TheVariants.{IsInt, IsUnary}
-use Rattle.lmn_instr.specs.Running.{HeadRegisters, InstructionHolds, IsContext, port_of}
+use Rattle.lmn_instr.specs.Running.{HeadRegisters, HeadSize, InstructionHolds, IsContext, port_of}
 use Rattle.lmn_registers.specs.declared.registers.SetRegisters.{SetRegisters}
 use Rattle.lmn_registers.specs.Agreeing.{Agrees}
 use Rattle.lmn_machine.specs.Searching.{AreHeldWhole, Extends, AllSet, Stepped, HeadInOrder, HasGivenPart, AreApart, IsLone, IsWholeApart, IsHeldPart}
@@ -158,7 +158,7 @@ module _ {A M : Type 0} (atom : A → ℕ) (membrane : M → ℕ) (h : Heap) whe
 
   -- What an instruction gives is the root of the next part exactly where it holds.
   abbrev pub GivesPart : SetRegisters A M → Instr → Option (A × ℕ) → Type 0
-  GivesPart g i o = (c : ℕ) (s : HeadRegisters) → c ≡ length g.atoms → Agrees atom membrane g s →
+  GivesPart g i o = (c : HeadSize) (s : HeadRegisters) → c.atoms ≡ length g.atoms → Agrees atom membrane g s →
       (InstructionHolds h c s i → option_map (port_id atom) o ≡ Some (s.images.part (length g.parts))) × (option_map (port_id atom) o ≡ Some (s.images.part (length g.parts)) → InstructionHolds h c s i)
 
   -- what is known of a part that was found from the port of an atom in registers
@@ -176,7 +176,7 @@ module _ {A M : Type 0} (atom : A → ℕ) (membrane : M → ℕ) (h : Heap) whe
 
   pub part_stepped : Sound h → (g k : SetRegisters A M) (result : Bool) (i : Instr) (j : ℕ) (a : A) (port m : ℕ) (o : Option (A × ℕ)) → slice_get g.atoms j ≡ Some a → FoundFrom g a port m o → AreHeldWhole atom membrane h g → IfSome o (λ p. IsAtom h (atom p.0)) →
       ((is : List Instr) → HeadInOrder (length g.atoms) (length g.membranes) (length g.parts) (length g.integers) (i ∷ is) → HeadInOrder (length g.atoms) (length g.membranes) (length g.parts + 1) (length g.integers) is) →
-      ((c : ℕ) → AllSet c (length g.atoms) i → c ≡ length g.atoms) → SetsSo i 0 0 1 0 → GivesPart g i o → HasGivenPart g k result o → Stepped atom membrane h g k result i
+      ((c : HeadSize) → AllSet c (length g.atoms) (length g.membranes) i → c.atoms ≡ length g.atoms) → SetsSo i 0 0 1 0 → GivesPart g i o → HasGivenPart g k result o → Stepped atom membrane h g k result i
   part_stepped sound g k result i j a port m None from known held there next all count means given = record {
     held = subst (λ l. AreHeldWhole atom membrane h l) (sym given.1) held;
     extends = subst (λ l. Extends g l) (sym given.1) (extends_itself atom membrane h g);
@@ -229,8 +229,8 @@ module _ {A M : Type 0} (atom : A → ℕ) (membrane : M → ℕ) (h : Heap) whe
   unary_gives : Sound h → (g : SetRegisters A M) (p : AtomPort) (y : ℕ) (a : A) (m : M) (o : Option (A × ℕ)) → slice_get g.atoms p.atom ≡ Some a → slice_get g.membranes y ≡ Some m → LoneEnd g a p.port m o →
       GivesPart g (IsUnary (length g.parts) p y) o
   unary_gives sound g p y a m o from place t = λ c s n r. (
-    λ k. t.only (s.images.part (length g.parts)) (subst (λ j. link_of h j p.port ≡ Some (s.images.part (length g.parts))) (r.atoms p.atom a from) k.held) (from_context atom membrane h g c (length g.parts) y s p m n r place k),
-    λ e. to_context atom membrane h sound g c (length g.parts) y s p m n r place
+    λ k. t.only (s.images.part (length g.parts)) (subst (λ j. link_of h j p.port ≡ Some (s.images.part (length g.parts))) (r.atoms p.atom a from) k.held) (from_context atom membrane h g c.atoms (length g.parts) y s p m n r place k),
+    λ e. to_context atom membrane h sound g c.atoms (length g.parts) y s p m n r place
         (subst (λ j. link_of h j p.port ≡ Some (s.images.part (length g.parts))) (sym (r.atoms p.atom a from)) (t.ends (s.images.part (length g.parts)) e)) (t.lone (s.images.part (length g.parts)) e),
   )
 
@@ -242,9 +242,9 @@ module _ {A M : Type 0} (atom : A → ℕ) (membrane : M → ℕ) (h : Heap) whe
   int_gives : Sound h → (g : SetRegisters A M) (p : AtomPort) (y : ℕ) (a : A) (m : M) (end o : Option (A × ℕ)) → slice_get g.atoms p.atom ≡ Some a → slice_get g.membranes y ≡ Some m → LoneEnd g a p.port m end →
       IntegerRoot end o → GivesPart g (IsInt (length g.parts) p y) o
   int_gives sound g p y a m end o from place t i = λ c s n r. (
-    λ k. i.only (s.images.part (length g.parts)) k.of_kind.0 ((unary_gives sound g p y a m end from place t c s n r).0 (int_to_unary atom membrane h c (length g.parts) y s p k)) k.of_kind.1,
+    λ k. i.only (s.images.part (length g.parts)) k.of_kind.0 ((unary_gives sound g p y a m end from place t c s n r).0 (int_to_unary atom membrane h c.atoms (length g.parts) y s p k)) k.of_kind.1,
     λ e. (let z = i.integer (s.images.part (length g.parts)) e in
-        unary_to_int atom membrane h c (length g.parts) y s p z.0 ((unary_gives sound g p y a m end from place t c s n r).1 (i.is_end (s.images.part (length g.parts)) e)) z.1),
+        unary_to_int atom membrane h c.atoms (length g.parts) y s p z.0 ((unary_gives sound g p y a m end from place t c s n r).1 (i.is_end (s.images.part (length g.parts)) e)) z.1),
   )
 
   pub unary_stepped : Sound h → (g k : SetRegisters A M) (result : Bool) (i : Instr) (x : ℕ) (p : AtomPort) (y : ℕ) (a : A) (m : M) (o : Option (A × ℕ)) → i ≡ IsUnary x p y → HeadInOrder (length g.atoms) (length g.membranes) (length g.parts) (length g.integers) (i ∷ []) → AreHeldWhole atom membrane h g →

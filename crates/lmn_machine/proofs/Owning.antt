@@ -10,21 +10,16 @@ use Rattle.lmn_heap.specs.Sound.{Sound}
 use Rattle.lmn_heap.specs.Graphs.{atom_map}
 use Rattle.lmn_heap.proofs.Listing.{alter_at, alter_away}
 use Rattle.lmn_ground.specs.Spread.{IsGroundIn}
-use Rattle.lmn_machine.specs.Searching.{IsWholeApart, own_marked}
-use Rattle.lmn_ground.specs.Marks.{paint_at, painted_at}
+use Rattle.lmn_ground.specs.Rests.{own_marked}
+use Rattle.lmn_machine.specs.Searching.{IsWholeApart, own_place, own_painted}
+use Rattle.lmn_ground.specs.Marks.{paint_at}
 use Rattle.lmn_ground.proofs.CopyLaws.{member as in_handles}
 use Rattle.lmn_ground.proofs.PaintedAt.{paint_links, is_paint, map_painted, painted_none}
 use Rattle.lmn_heap.proofs.Common.{decide_in as in_or_not, same_atoms as same_painted}
 use Rattle.lmn_base.specs.Lists.{In}
 
--- the place of the own mark
-abbrev own_place : HeapAtom → ℕ
-own_place x = length x.links
-
-abbrev own_painted : Heap → (ℕ → ℕ) → Heap
-own_painted h v = painted_at own_place h v
-
-arity_painted : (h : Heap) (v : ℕ → ℕ) (a : ℕ) → arity_of (own_painted h v) a ≡ arity_of h a
+-- own marks leave the arities
+pub arity_painted : (h : Heap) (v : ℕ → ℕ) (a : ℕ) → arity_of (own_painted h v) a ≡ arity_of h a
 arity_painted h v a = ap length (paint_links own_place (v a) (h.atoms a))
 
 set_twice : (xs : List ℕ) (k v w : ℕ) → slice_set (slice_set xs k v) k w ≡ slice_set xs k w
@@ -56,11 +51,12 @@ painted_set h v b m z = same_painted h _ _ (λ a. elim (cases_eq a b) [
     by (suc m) (suc w) (Some x) z = ap (λ (xs : List ℕ). Some (record x { marks = xs })) (set_twice x.marks (length x.links) (suc w) (suc m))
 
 -- the own marks after those of a list were set
-abbrev all_at : List ℕ → ℕ → (ℕ → ℕ) → ℕ → ℕ
+abbrev pub all_at : List ℕ → ℕ → (ℕ → ℕ) → ℕ → ℕ
 all_at [] m v = v
 all_at (x ∷ xs) m v = all_at xs m (alter v x (λ _. m))
 
-own_all : (h : Heap) (xs : List ℕ) (m : ℕ) (v : ℕ → ℕ) → Unmarked h → own_marked m xs (own_painted h v) ≡ own_painted h (all_at xs m v)
+-- further own marks
+pub own_all : (h : Heap) (xs : List ℕ) (m : ℕ) (v : ℕ → ℕ) → Unmarked h → own_marked m xs (own_painted h v) ≡ own_painted h (all_at xs m v)
 own_all h [] m v z = refl
 own_all h (x ∷ xs) m v z =
     ap (λ (k : ℕ). own_marked m xs (marked (own_painted h v) x k m)) (arity_painted h v x)
@@ -74,20 +70,23 @@ keeps (x ∷ xs) m v b e = keeps xs m (alter v x (λ _. m)) b (elim (cases_eq b 
   | inr d ↦ alter_away v x (λ _. m) b d ∙ e
 ])
 
-in_all : (xs : List ℕ) (m : ℕ) (v : ℕ → ℕ) (b : ℕ) → In b xs → all_at xs m v b ≡ m
+-- what is in the list has the mark
+pub in_all : (xs : List ℕ) (m : ℕ) (v : ℕ → ℕ) (b : ℕ) → In b xs → all_at xs m v b ≡ m
 in_all [] m v b i = absurd i
 in_all (x ∷ xs) m v b (inl e) = keeps xs m (alter v x (λ _. m)) b (subst (λ (z : ℕ). alter v x (λ _. m) z ≡ m) e (alter_at v x (λ _. m)))
 in_all (x ∷ xs) m v b (inr i) = in_all xs m (alter v x (λ _. m)) b i
 
-off_all : (xs : List ℕ) (m : ℕ) (v : ℕ → ℕ) (b : ℕ) → (In b xs → ⊥) → all_at xs m v b ≡ v b
+-- and what isn't has the one that it had
+pub off_all : (xs : List ℕ) (m : ℕ) (v : ℕ → ℕ) (b : ℕ) → (In b xs → ⊥) → all_at xs m v b ≡ v b
 off_all [] m v b n = refl
 off_all (x ∷ xs) m v b n = off_all xs m (alter v x (λ _. m)) b (λ i. n (inr i)) ∙ alter_away v x (λ _. m) b (λ e. n (inl (sym e)))
 
-abbrev none : ℕ → ℕ
+-- no own mark
+abbrev pub none : ℕ → ℕ
 none a = 0
 
 -- the heap while the marks are set
-marked_is : (h : Heap) (xs : List ℕ) (m : ℕ) → Unmarked h → own_marked m xs h ≡ own_painted h (all_at xs m none)
+pub marked_is : (h : Heap) (xs : List ℕ) (m : ℕ) → Unmarked h → own_marked m xs h ≡ own_painted h (all_at xs m none)
 marked_is h xs m z = ap (λ (s : Heap). own_marked m xs s) (sym (painted_none own_place h none (λ a. refl))) ∙ own_all h xs m none z
 
 -- marks that are taken back
@@ -118,7 +117,8 @@ clean_own_all h k xs m z e = subst (λ (s : Heap). PortsUnmarked s) (sym (e ∙ 
     by (suc w) None i l e = e
     by (suc w) (Some x) i l e = get_or-set_other x.marks (length x.links) i (suc w) 0 (λ (q : i ≡ length x.links). absurd (omega (arith, q, l))) ∙ e
 
-of_handles : {A : Type 0} (atom : A → ℕ) (xs : List A) (n : ℕ) → In n (map atom xs) → (k : ℕ) × ((b : A) × (slice_get xs k ≡ Some b) × (atom b ≡ n))
+-- what is among the numbers of handles is that of one
+pub of_handles : {A : Type 0} (atom : A → ℕ) (xs : List A) (n : ℕ) → In n (map atom xs) → (k : ℕ) × ((b : A) × (slice_get xs k ≡ Some b) × (atom b ≡ n))
 of_handles atom [] n i = absurd i
 of_handles atom (x ∷ xs) n (inl e) = (0, (x, refl, e))
 of_handles atom (x ∷ xs) n (inr i) = let r = of_handles atom xs n i in (suc r.0, r.1)

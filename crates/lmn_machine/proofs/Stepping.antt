@@ -6,11 +6,11 @@ use Rattle.lmn_heap.specs.Heap.{Heap}
 use Rattle.lmn_solid.specs.Embeddings.{ListNotAfter}
 use Rattle.lmn_instr.specs.declared.instr.AtomPort.{AtomPort}
 use Rattle.lmn_instr.specs.declared.instr.Instr.{Instr}
-use Rattle.lmn_instr.specs.declared.instr.Instr.TheVariants.{FindAtom, Deref, Func, InMem, NeqAtom, Joined, NotIn, AnyMem, NeqMem, IsInt, IsUnary, IsGround, NAtoms, NMems, NoRules, EqGround, NeqGround, GetInt, Const, Add, Sub, Mul, Div, Mod}
-use Rattle.lmn_instr.specs.Running.{HeadRegisters, InstructionHolds, AllHold, atoms_set, choices}
+use Rattle.lmn_instr.specs.declared.instr.Instr.TheVariants.{FindAtom, Deref, Func, InMem, NeqAtom, Joined, NotIn, AnyMem, NeqMem, IsInt, IsUnary, IsGround, NAtoms, NMems, NoRules, IsClosed, EqGround, NeqGround, GetInt, Const, Add, Sub, Mul, Div, Mod}
+use Rattle.lmn_instr.specs.Running.{HeadRegisters, HeadSize, InstructionHolds, AllHold, atoms_set, membranes_set, choices}
 use Rattle.lmn_registers.specs.declared.registers.SetRegisters.{SetRegisters}
 use Rattle.lmn_registers.specs.Agreeing.{Agrees}
-use Rattle.lmn_machine.specs.Searching.{AreHeldWhole, AsksNoPart, Compares, Extends, SetsAll, AllSet, TestsSetRegisters, Searched, Stepped, ChoosesNone, HeadInOrder, SetsMore, membranes_set, parts_set, integers_set}
+use Rattle.lmn_machine.specs.Searching.{AreHeldWhole, AsksNoPart, Compares, Extends, SetsAll, AllSet, TestsSetRegisters, Searched, Stepped, ChoosesNone, HeadInOrder, SetsMore, parts_set, integers_set}
 use Rattle.lmn_base.proofs.Lists.{take_whole as take_all}
 
 -- tests set no register
@@ -25,6 +25,7 @@ check_order (IsGround x p y) a m g v is r o = absurd r
 check_order (EqGround x y) a m g v is r o = absurd r
 check_order (NeqGround x y) a m g v is r o = absurd r
 check_order (NAtoms x n gs) a m g v is r o = absurd r
+check_order (IsClosed x gs) a m g v is r o = absurd r
 check_order (GetInt x y) a m g v is r o = absurd r
 check_order (Const x z) a m g v is r o = absurd r
 check_order (Add x y z) a m g v is r o = absurd r
@@ -36,17 +37,18 @@ check_order _ a m g v is r o = o.1
 
 -- an instruction without a choice that neither sets an atom nor looks at a part
 pub asks_no_part : (i : Instr) → ChoosesNone i → ((x : ℕ) (p : AtomPort) (e : ℕ) → i ≡ Deref x p e → ⊥) → ((x : ℕ) (p : AtomPort) (y : ℕ) → i ≡ IsInt x p y → ⊥) → ((x : ℕ) (p : AtomPort) (y : ℕ) → i ≡ IsUnary x p y → ⊥) →
-    ((x : ℕ) (p : AtomPort) (y : ℕ) → i ≡ IsGround x p y → ⊥) → ((x y : ℕ) → i ≡ EqGround x y → ⊥) → ((x y : ℕ) → i ≡ NeqGround x y → ⊥) → ((x n : ℕ) (gs : List ℕ) → i ≡ NAtoms x n gs → ⊥) → AsksNoPart i
-asks_no_part (FindAtom x y f) c d k l b eq ne n = absurd c
-asks_no_part (AnyMem x y) c d k l b eq ne n = absurd c
-asks_no_part (Deref x y e) c d k l b eq ne n = absurd (d x y e refl)
-asks_no_part (IsInt x y z) c d k l b eq ne n = absurd (k x y z refl)
-asks_no_part (IsUnary x y z) c d k l b eq ne n = absurd (l x y z refl)
-asks_no_part (IsGround x y z) c d k l b eq ne n = absurd (b x y z refl)
-asks_no_part (EqGround x y) c d k l b eq ne n = absurd (eq x y refl)
-asks_no_part (NeqGround x y) c d k l b eq ne n = absurd (ne x y refl)
-asks_no_part (NAtoms x y gs) c d k l b eq ne n = absurd (n x y gs refl)
-asks_no_part _ c d k l b eq ne n = tt
+    ((x : ℕ) (p : AtomPort) (y : ℕ) → i ≡ IsGround x p y → ⊥) → ((x y : ℕ) → i ≡ EqGround x y → ⊥) → ((x y : ℕ) → i ≡ NeqGround x y → ⊥) → ((x n : ℕ) (gs : List ℕ) → i ≡ NAtoms x n gs → ⊥) → ((x : ℕ) (gs : List ℕ) → i ≡ IsClosed x gs → ⊥) → AsksNoPart i
+asks_no_part (FindAtom x y f) c d k l b eq ne n r = absurd c
+asks_no_part (AnyMem x y) c d k l b eq ne n r = absurd c
+asks_no_part (Deref x y e) c d k l b eq ne n r = absurd (d x y e refl)
+asks_no_part (IsInt x y z) c d k l b eq ne n r = absurd (k x y z refl)
+asks_no_part (IsUnary x y z) c d k l b eq ne n r = absurd (l x y z refl)
+asks_no_part (IsGround x y z) c d k l b eq ne n r = absurd (b x y z refl)
+asks_no_part (EqGround x y) c d k l b eq ne n r = absurd (eq x y refl)
+asks_no_part (NeqGround x y) c d k l b eq ne n r = absurd (ne x y refl)
+asks_no_part (NAtoms x y gs) c d k l b eq ne n r = absurd (n x y gs refl)
+asks_no_part (IsClosed x gs) c d k l b eq ne n r = absurd (r x gs refl)
+asks_no_part _ c d k l b eq ne n r = tt
 
 -- where it doesn't set an integer either, it is a test of registers that are set
 pub test_reads : (i : Instr) (a m g v : ℕ) → AsksNoPart i → ((x y : ℕ) → i ≡ GetInt x y → ⊥) → ((x : ℕ) (z : ℤ) → i ≡ Const x z → ⊥) → ((x y z : ℕ) → i ≡ Add x y z → ⊥) → ((x y z : ℕ) → i ≡ Sub x y z → ⊥) →
@@ -60,6 +62,7 @@ test_reads (IsGround x y z) a m g v c w n p q r s t o = absurd c
 test_reads (EqGround x y) a m g v c w n p q r s t o = absurd c
 test_reads (NeqGround x y) a m g v c w n p q r s t o = absurd c
 test_reads (NAtoms x y gs) a m g v c w n p q r s t o = absurd c
+test_reads (IsClosed x gs) a m g v c w n p q r s t o = absurd c
 test_reads (GetInt x y) a m g v c w n p q r s t o = absurd (w x y refl)
 test_reads (Const x z) a m g v c w n p q r s t o = absurd (n x z refl)
 test_reads (Add x y z) a m g v c w n p q r s t o = absurd (p x y z refl)
@@ -82,15 +85,13 @@ test_compares (NoRules x) a m v r b c d e g k l n = absurd (l x refl)
 test_compares (NotIn p x) a m v r b c d e g k l n = absurd (n p x refl)
 test_compares _ a m v r b c d e g k l n = r
 
--- c is the number of all atom registers, where a are set and code is run next
-abbrev pub AllAtEnd : ℕ → ℕ → List Instr → Type 0
-AllAtEnd c a code = c ≡ a + atoms_set code
-
-all_set : (c a m g v : ℕ) (i : Instr) (is : List Instr) → AllAtEnd c a (i ∷ is) → HeadInOrder a m g v (i ∷ is) → AllSet c a i
-all_set c a m g v (IsInt x p y) is e o = let n = o.0.1 in omega (arith, e, n)
-all_set c a m g v (IsUnary x p y) is e o = let n = o.0.1 in omega (arith, e, n)
-all_set c a m g v (IsGround x p y) is e o = let n = o.0.1 in omega (arith, e, n)
-all_set c a m g v _ is e o = tt
+-- what is set when an instruction is run that speaks of all registers of a head is all that its code sets
+all_set : (c : HeadSize) (a m g v : ℕ) (i : Instr) (is : List Instr) → c.atoms ≡ a + atoms_set (i ∷ is) → c.membranes ≡ m + membranes_set (i ∷ is) → HeadInOrder a m g v (i ∷ is) → AllSet c a m i
+all_set c a m g v (IsInt x p y) is e f o = let n = o.0.1 in omega (arith, e, n)
+all_set c a m g v (IsUnary x p y) is e f o = let n = o.0.1 in omega (arith, e, n)
+all_set c a m g v (IsGround x p y) is e f o = let n = o.0.1 in omega (arith, e, n)
+all_set c a m g v (IsClosed x gs) is e f o = let n = o.0.2 in let k = o.0.3 in (omega (arith, e, n), omega (arith, f, k))
+all_set c a m g v _ is e f o = tt
 
 sets_more : (i : Instr) (is : List Instr) → atoms_set (i ∷ is) ≡ atoms_set (i ∷ []) + atoms_set is
 sets_more (FindAtom x y f) is = omega arith
@@ -161,7 +162,7 @@ module _ {A M : Type 0} (atom : A → ℕ) (membrane : M → ℕ) (h : Heap) whe
   }
 
   pub check_stepped : (g : SetRegisters A M) (result : Bool) (i : Instr) → AreHeldWhole atom membrane h g → TestsSetRegisters (length g.atoms) (length g.membranes) (length g.integers) i →
-      ((c : ℕ) (s : HeadRegisters) → Agrees atom membrane g s → (result ≡ true → InstructionHolds h c s i) × (InstructionHolds h c s i → result ≡ true)) → Stepped atom membrane h g g result i
+      ((c : HeadSize) (s : HeadRegisters) → Agrees atom membrane g s → (result ≡ true → InstructionHolds h c s i) × (InstructionHolds h c s i → result ≡ true)) → Stepped atom membrane h g g result i
   check_stepped g result i held r f = record {
     held = held;
     extends = extends_itself g;
@@ -176,8 +177,8 @@ module _ {A M : Type 0} (atom : A → ℕ) (membrane : M → ℕ) (h : Heap) whe
 
   pub deref_stepped : (g k : SetRegisters A M) (result : Bool) (i : Instr) (x : ℕ) (p : AtomPort) (e : ℕ) → i ≡ Deref x p e → HeadInOrder (length g.atoms) (length g.membranes) (length g.parts) (length g.integers) (i ∷ []) →
       AreHeldWhole atom membrane h k → Extends g k → (result ≡ true → length k.atoms ≡ length g.atoms + 1) → k.membranes ≡ g.membranes → k.parts ≡ g.parts → k.integers ≡ g.integers →
-      (result ≡ true → (c : ℕ) (s : HeadRegisters) → Agrees atom membrane k s → InstructionHolds h c s (Deref (length g.atoms) p e)) →
-      ((c : ℕ) (s : HeadRegisters) → Agrees atom membrane g s → InstructionHolds h c s (Deref (length g.atoms) p e) → (result ≡ true) × Agrees atom membrane k s) → Stepped atom membrane h g k result i
+      (result ≡ true → (c : HeadSize) (s : HeadRegisters) → Agrees atom membrane k s → InstructionHolds h c s (Deref (length g.atoms) p e)) →
+      ((c : HeadSize) (s : HeadRegisters) → Agrees atom membrane g s → InstructionHolds h c s (Deref (length g.atoms) p e) → (result ≡ true) × Agrees atom membrane k s) → Stepped atom membrane h g k result i
   deref_stepped g k result i x p e t o held extends more same same_parts same_integers holds only =
       let is_deref = deref_is i x p e (length g.atoms) (length g.membranes) (length g.parts) (length g.integers) t o in
       record {
@@ -203,9 +204,10 @@ module _ {A M : Type 0} (atom : A → ℕ) (membrane : M → ℕ) (h : Heap) whe
     pub held : AreHeldWhole atom membrane h g
     pub extends : Extends g0 g
     pub order : HeadInOrder (length g.atoms) (length g.membranes) (length g.parts) (length g.integers) code
-    pub back : (c : ℕ) (s : HeadRegisters) → SetsAll c g0 code0 → Agrees atom membrane g s → AllHold h c s code → AllHold h c s code0
-    pub on : (c : ℕ) (s : HeadRegisters) → SetsAll c g0 code0 → Agrees atom membrane g0 s → AllHold h c s code0 → Agrees atom membrane g s × AllHold h c s code
+    pub back : (c : HeadSize) (s : HeadRegisters) → SetsAll c g0 code0 → Agrees atom membrane g s → AllHold h c s code → AllHold h c s code0
+    pub on : (c : HeadSize) (s : HeadRegisters) → SetsAll c g0 code0 → Agrees atom membrane g0 s → AllHold h c s code0 → Agrees atom membrane g s × AllHold h c s code
     pub count : length g0.atoms + atoms_set code0 ≡ length g.atoms + atoms_set code
+    pub count_membranes : length g0.membranes + membranes_set code0 ≡ length g.membranes + membranes_set code
     pub same : (s : HeadRegisters) → choices h s code0 ≡ choices h s code
     pub sets : (k : SetRegisters A M) → SetsMore g k code → SetsMore g0 k code0
 
@@ -250,9 +252,13 @@ module _ {A M : Type 0} (atom : A → ℕ) (membrane : M → ℕ) (h : Heap) whe
     copies = f.copies ∙ e.copies;
   }
 
-  -- the instruction ahead knows the number of atom registers
-  ahead_set : (g0 g : SetRegisters A M) (code0 is : List Instr) (i : Instr) → Passed g0 g code0 (i ∷ is) → (c : ℕ) → SetsAll c g0 code0 → AllSet c (length g.atoms) i
-  ahead_set g0 g code0 is i p c n = all_set c (length g.atoms) (length g.membranes) (length g.parts) (length g.integers) i is (n ∙ p.count) p.order
+  -- what is set at last by all of the code is so by what is left of it
+  left_sets : (g0 g : SetRegisters A M) (code0 code : List Instr) → Passed g0 g code0 code → (c : HeadSize) → SetsAll c g0 code0 → SetsAll c g code
+  left_sets g0 g code0 code p c n = record { atoms = n.atoms ∙ p.count; membranes = n.membranes ∙ p.count_membranes }
+
+  -- the instruction ahead knows the numbers of atom and of membrane registers
+  ahead_set : (g0 g : SetRegisters A M) (code0 is : List Instr) (i : Instr) → Passed g0 g code0 (i ∷ is) → (c : HeadSize) → SetsAll c g0 code0 → AllSet c (length g.atoms) (length g.membranes) i
+  ahead_set g0 g code0 is i p c n = let s = left_sets g0 g code0 (i ∷ is) p c n in all_set c (length g.atoms) (length g.membranes) (length g.parts) (length g.integers) i is s.atoms s.membranes p.order
 
   pub passed_one : (g0 g k : SetRegisters A M) (code0 is : List Instr) (i : Instr) → ChoosesNone i → Passed g0 g code0 (i ∷ is) → Stepped atom membrane h g k true i → Passed g0 k code0 is
   passed_one g0 g k code0 is i n p t = record {
@@ -263,6 +269,7 @@ module _ {A M : Type 0} (atom : A → ℕ) (membrane : M → ℕ) (h : Heap) whe
     on = λ c s m a u. (let v = p.on c s m a u in ((t.only c s (ahead_set g0 g code0 is i p c m) v.0 v.1.0).1, v.1.1));
     sets = λ l s. p.sets l (sets_then g k l i is (t.sets refl) s);
     count = (let a = p.count in let b = (t.sets refl).atoms in let d = sets_more i is in omega (arith, a, b, d));
+    count_membranes = (let a = p.count_membranes in let b = (t.sets refl).membranes in let d = membranes_more i is in omega (arith, a, b, d));
     same = λ s. p.same s ∙ choice_none h s i is n;
   }
 
@@ -293,9 +300,9 @@ module _ {A M : Type 0} (atom : A → ℕ) (membrane : M → ℕ) (h : Heap) whe
     extends = extends_on g0 g k p.extends t.extends;
     sets = λ u. p.sets k (t.sets u);
     found = λ u. record {
-      holds = λ c s m a. p.back c s m (agrees_before g k s t.extends a) ((t.found u).holds c s (m ∙ p.count) a);
+      holds = λ c s m a. p.back c s m (agrees_before g k s t.extends a) ((t.found u).holds c s (left_sets g0 g code0 code p c m) a);
       first = λ c s v m a b w. (let z = p.on c v m b w in
-          subst (λ cs. ListNotAfter cs (choices h v code0)) (sym (p.same s)) (subst (λ cs. ListNotAfter (choices h s code) cs) (sym (p.same v)) ((t.found u).first c s v (m ∙ p.count) a z.0 z.1)));
+          subst (λ cs. ListNotAfter cs (choices h v code0)) (sym (p.same s)) (subst (λ cs. ListNotAfter (choices h s code) cs) (sym (p.same v)) ((t.found u).first c s v (left_sets g0 g code0 code p c m) a z.0 z.1)));
     };
-    none = λ u c s m a v. (let w = p.on c s m a v in t.none u c s (m ∙ p.count) w.0 w.1);
+    none = λ u c s m a v. (let w = p.on c s m a v in t.none u c s (left_sets g0 g code0 code p c m) w.0 w.1);
   }

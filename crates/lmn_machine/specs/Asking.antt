@@ -5,7 +5,7 @@ use Rattle.lmn_base.specs.Lists.{In}
 use Rattle.lmn_heap.specs.Heap.{Heap, functor_of, atoms_in}
 use Rattle.lmn_instr.specs.declared.instr.Instr.{Instr}
 use Rattle.lmn_instr.specs.declared.instr.Instr.TheVariants.{FindAtom}
-use Rattle.lmn_instr.specs.Running.{HeadRegisters, AllHold}
+use Rattle.lmn_instr.specs.Running.{HeadRegisters, HeadSize, AllHold}
 use Rattle.lmn_registers.specs.declared.registers.SetRegisters.{SetRegisters}
 use Rattle.lmn_registers.specs.Agreeing.{Agrees}
 
@@ -21,4 +21,4 @@ AsksFor code at register f = (k x : ℕ) × (at ≤ k) × (slice_get code k ≡ 
 -- An atom stands in the membrane of a register, whenever the code from a place on succeeds with registers that agree with
 -- those that are set.
 abbrev pub IsGuest : {A M : Type 0} → (A → ℕ) → (M → ℕ) → Heap → SetRegisters A M → List Instr → ℕ → ℕ → Type 0
-IsGuest atom membrane h g code register a = (c : ℕ) (s : HeadRegisters) → Agrees atom membrane g s → AllHold h c s code → In a (atoms_in h (s.images.membrane register))
+IsGuest atom membrane h g code register a = (c : HeadSize) (s : HeadRegisters) → Agrees atom membrane g s → AllHold h c s code → In a (atoms_in h (s.images.membrane register))

@@ -2,11 +2,12 @@
 use Rattle.std.specs.Prelude.{ℕ, ℤ, Bool, true, false, ◌≡◌, ◌<◌, ◌+◌, List, [], ◌∷◌, ◌++◌, Option, Some, None, length, slice_get, take}
 use Rattle.std.specs.List.{AllByRecursion}
 use Rattle.lmn_base.specs.Graphs.{Reached, StandsWhole}
-use Rattle.lmn_heap.specs.Heap.{Heap, port_id, home_of, link_of, arity_of, marked}
+use Rattle.lmn_heap.specs.Heap.{Heap, HeapAtom, IsAtom, port_id, home_of, link_of, arity_of}
 use Rattle.lmn_heap.specs.Graphs.{atom_map}
+use Rattle.lmn_ground.specs.Marks.{painted_at}
 use Rattle.lmn_instr.specs.declared.instr.Instr.{Instr}
-use Rattle.lmn_instr.specs.declared.instr.Instr.TheVariants.{FindAtom, Deref, Func, InMem, NeqAtom, Joined, AnyMem, NeqMem, NMems, NoRules, NotIn, IsInt, IsUnary, IsGround, NAtoms, EqGround, NeqGround, GetInt, Const, Add, Sub, Mul, Div, Mod, Lt, Le, Gt, Ge, Eq, Ne, Commit}
-use Rattle.lmn_instr.specs.Running.{HeadRegisters, InstructionHolds, AllHold, atoms_set, choices}
+use Rattle.lmn_instr.specs.declared.instr.Instr.TheVariants.{FindAtom, Deref, Func, InMem, NeqAtom, Joined, AnyMem, NeqMem, NMems, NoRules, NotIn, IsInt, IsUnary, IsGround, NAtoms, IsClosed, EqGround, NeqGround, GetInt, Const, Add, Sub, Mul, Div, Mod, Lt, Le, Gt, Ge, Eq, Ne, Commit}
+use Rattle.lmn_instr.specs.Running.{HeadRegisters, HeadSize, InstructionHolds, AllHold, atoms_set, membranes_set, choices}
 use Rattle.lmn_solid.specs.Embeddings.{ListNotAfter}
 use Rattle.lmn_solid.specs.Guards.{IsUnaryPart}
 use Rattle.lmn_registers.specs.Agreeing.{Agrees}
@@ -41,13 +42,7 @@ pub record Extends {A M : Type 0} (g k : SetRegisters A M) : Type 0 where
   pub integers : take (length g.integers) k.integers ≡ g.integers
   pub copies : k.copies ≡ g.copies
 
--- how many registers of membranes code sets
-abbrev pub membranes_set : List Instr → ℕ
-membranes_set [] = 0
-membranes_set (AnyMem m k ∷ is) = 1 + membranes_set is
-membranes_set (_ ∷ is) = membranes_set is
-
--- how many of typed contexts
+-- how many registers of typed contexts code sets
 abbrev pub parts_set : List Instr → ℕ
 parts_set [] = 0
 parts_set (IsInt g p m ∷ is) = 1 + parts_set is
@@ -81,15 +76,16 @@ pub record AreAllSet {A M : Type 0} (g : SetRegisters A M) (code : List Instr) :
   pub parts : length g.parts ≡ parts_set code
   pub integers : length g.integers ≡ integers_set code
 
--- c atom registers are set when all of the code is run that begins with the registers g.
-abbrev pub SetsAll : {A M : Type 0} → ℕ → SetRegisters A M → List Instr → Type 0
-SetsAll c g code = c ≡ length g.atoms + atoms_set code
+-- The size of a head is that of the registers that are set when all of its code is run that begins with the registers g.
+pub record SetsAll {A M : Type 0} (c : HeadSize) (g : SetRegisters A M) (code : List Instr) : Type 0 where
+  pub atoms : c.atoms ≡ length g.atoms + atoms_set code
+  pub membranes : c.membranes ≡ length g.membranes + membranes_set code
 
 -- Code succeeds with the registers that are set at last, and with any that agree with them; and whatever else agrees with
 -- those that were set at first chooses no earlier candidates.
 pub record Found {A M : Type 0} (atom : A → ℕ) (membrane : M → ℕ) (h : Heap) (g k : SetRegisters A M) (code : List Instr) : Type 0 where
-  pub holds : (c : ℕ) (s : HeadRegisters) → SetsAll c g code → Agrees atom membrane k s → AllHold h c s code
-  pub first : (c : ℕ) (s t : HeadRegisters) → SetsAll c g code → Agrees atom membrane k s → Agrees atom membrane g t → AllHold h c t code → ListNotAfter (choices h s code) (choices h t code)
+  pub holds : (c : HeadSize) (s : HeadRegisters) → SetsAll c g code → Agrees atom membrane k s → AllHold h c s code
+  pub first : (c : HeadSize) (s t : HeadRegisters) → SetsAll c g code → Agrees atom membrane k s → Agrees atom membrane g t → AllHold h c t code → ListNotAfter (choices h s code) (choices h t code)
 
 -- What a search answers, that began with the registers g and ends with k. Where it is false, the code succeeds with no
 -- registers that agree with g.
@@ -98,7 +94,7 @@ pub record Searched {A M : Type 0} (atom : A → ℕ) (membrane : M → ℕ) (h 
   pub extends : Extends g k
   pub sets : result ≡ true → SetsMore g k code
   pub found : result ≡ true → Found atom membrane h g k code
-  pub none : result ≡ false → (c : ℕ) (s : HeadRegisters) → SetsAll c g code → Agrees atom membrane g s → AllHold h c s code → ⊥
+  pub none : result ≡ false → (c : HeadSize) (s : HeadRegisters) → SetsAll c g code → Agrees atom membrane g s → AllHold h c s code → ⊥
 
 -- two integers that are set are compared, or the match is found
 abbrev pub Compares : ℕ → Instr → Type 0
@@ -125,7 +121,7 @@ TestsSetRegisters a m v i = Compares v i
 
 -- Head code that sets registers in the order of their numbers, reads none that isn't set, and has no more than there is
 -- room for. So far a atoms, m membranes, g typed contexts and v integers are set. Where a typed context is looked for, all
--- atoms are set.
+-- atoms are set; where it is asked whether a link leaves a rest, all membranes are, too.
 abbrev pub HeadInOrder : ℕ → ℕ → ℕ → ℕ → List Instr → Type 0
 HeadInOrder a m g v [] = Unit {0}
 HeadInOrder a m g v (FindAtom x y f ∷ is) = ((x ≡ a) × (y < m) × (a < ROOM) × (g ≡ 0)) × HeadInOrder (a + 1) m g v is
@@ -135,6 +131,7 @@ HeadInOrder a m g v (IsInt x p y ∷ is) = ((IsNext x g × (p.atom < a) × (y < 
 HeadInOrder a m g v (IsUnary x p y ∷ is) = ((IsNext x g × (p.atom < a) × (y < m)) × (atoms_set is ≡ 0)) × HeadInOrder a m (g + 1) v is
 HeadInOrder a m g v (IsGround x p y ∷ is) = ((IsNext x g × (p.atom < a) × (y < m)) × (atoms_set is ≡ 0)) × HeadInOrder a m (g + 1) v is
 HeadInOrder a m g v (NAtoms x n gs ∷ is) = ((x < m) × AllByRecursion (λ k. k < g) gs) × HeadInOrder a m g v is
+HeadInOrder a m g v (IsClosed x gs ∷ is) = ((x < m) × AllByRecursion (λ k. k < g) gs × (atoms_set is ≡ 0) × (membranes_set is ≡ 0)) × HeadInOrder a m g v is
 HeadInOrder a m g v (EqGround x y ∷ is) = ((x < g) × (y < g)) × HeadInOrder a m g v is
 HeadInOrder a m g v (NeqGround x y ∷ is) = ((x < g) × (y < g)) × HeadInOrder a m g v is
 HeadInOrder a m g v (GetInt x y ∷ is) = (IsNext x v × (y < g)) × HeadInOrder a m g (v + 1) is
@@ -161,16 +158,19 @@ AsksNoPart (IsInt x p y) = ⊥
 AsksNoPart (IsUnary x p y) = ⊥
 AsksNoPart (IsGround x p y) = ⊥
 AsksNoPart (NAtoms x n gs) = ⊥
+AsksNoPart (IsClosed x gs) = ⊥
 AsksNoPart (EqGround x y) = ⊥
 AsksNoPart (NeqGround x y) = ⊥
 AsksNoPart _ = Unit {0}
 
--- c is the number a of the atom registers that are set, where an instruction speaks of all atom registers
-abbrev pub AllSet : ℕ → ℕ → Instr → Type 0
-AllSet c a (IsInt x p y) = c ≡ a
-AllSet c a (IsUnary x p y) = c ≡ a
-AllSet c a (IsGround x p y) = c ≡ a
-AllSet c a _ = Unit {0}
+-- Where an instruction speaks of all atom registers of a head, or of all of its membrane registers, they are the first a and
+-- the first m, which are set.
+abbrev pub AllSet : HeadSize → ℕ → ℕ → Instr → Type 0
+AllSet c a m (IsInt x p y) = c.atoms ≡ a
+AllSet c a m (IsUnary x p y) = c.atoms ≡ a
+AllSet c a m (IsGround x p y) = c.atoms ≡ a
+AllSet c a m (IsClosed x gs) = (c.atoms ≡ a) × (c.membranes ≡ m)
+AllSet c a m _ = Unit {0}
 
 -- an integer goes into the next register, if there is one
 abbrev pub HasGiven : {A M : Type 0} → SetRegisters A M → SetRegisters A M → Bool → Option ℤ → Type 0
@@ -182,16 +182,23 @@ abbrev pub HasGivenPart : {A M : Type 0} → SetRegisters A M → SetRegisters A
 HasGivenPart g k result None = (result ≡ false) × (k ≡ g)
 HasGivenPart g k result (Some p) = (result ≡ true) × (k ≡ record g { parts = g.parts ++ p ∷ [] })
 
+-- the place of the own mark
+abbrev pub own_place : HeapAtom → ℕ
+own_place x = length x.links
+
+-- a heap with these own marks, where 0 stands for the one that an atom has
+abbrev pub own_painted : Heap → (ℕ → ℕ) → Heap
+own_painted h marks = painted_at own_place h marks
+
+-- the roots of parts are ports
+abbrev pub AreRootPorts : {A : Type 0} → (A → ℕ) → Heap → List (A × ℕ) → Type 0
+AreRootPorts {A} atom h parts = (k : ℕ) (p : A × ℕ) → slice_get parts k ≡ Some p → IsAtom h (atom p.0) × (p.1 < arity_of h (atom p.0))
+
 -- An atom of arity 1 that stands in a membrane and is in none of the registers: alone it is a part.
 pub record IsLone {A : Type 0} (atom : A → ℕ) (h : Heap) (handles : List A) (m n : ℕ) : Type 0 where
   pub unary : IsUnaryPart h (n, 0)
   pub home : home_of h n ≡ Some m
   pub apart : AreApart atom handles n
-
--- the own marks of these atoms are set, one after the other
-abbrev pub own_marked : ℕ → List ℕ → Heap → Heap
-own_marked v [] h = h
-own_marked v (a ∷ xs) h = own_marked v xs (marked h a (arity_of h a) v)
 
 -- The part entered at a port stands whole in a membrane, and no atom of it is in the registers.
 pub record IsWholeApart {A : Type 0} (atom : A → ℕ) (h : Heap) (handles : List A) (m : ℕ) (root : ℕ × ℕ) : Type 0 where
@@ -203,8 +210,8 @@ pub record IsWholeApart {A : Type 0} (atom : A → ℕ) (h : Heap) (handles : Li
 pub record Stepped {A M : Type 0} (atom : A → ℕ) (membrane : M → ℕ) (h : Heap) (g k : SetRegisters A M) (result : Bool) (i : Instr) : Type 0 where
   pub held : AreHeldWhole atom membrane h k
   pub extends : Extends g k
-  pub holds : result ≡ true → (c : ℕ) (s : HeadRegisters) → AllSet c (length g.atoms) i → Agrees atom membrane k s → InstructionHolds h c s i
-  pub only : (c : ℕ) (s : HeadRegisters) → AllSet c (length g.atoms) i → Agrees atom membrane g s → InstructionHolds h c s i → (result ≡ true) × Agrees atom membrane k s
+  pub holds : result ≡ true → (c : HeadSize) (s : HeadRegisters) → AllSet c (length g.atoms) (length g.membranes) i → Agrees atom membrane k s → InstructionHolds h c s i
+  pub only : (c : HeadSize) (s : HeadRegisters) → AllSet c (length g.atoms) (length g.membranes) i → Agrees atom membrane g s → InstructionHolds h c s i → (result ≡ true) × Agrees atom membrane k s
   pub sets : result ≡ true → SetsMore g k (i ∷ [])
   pub order : result ≡ true → (is : List Instr) → HeadInOrder (length g.atoms) (length g.membranes) (length g.parts) (length g.integers) (i ∷ is) →
       HeadInOrder (length k.atoms) (length k.membranes) (length k.parts) (length k.integers) is

@@ -5,7 +5,7 @@ ghost use Rattle.lmn_heap.specs.Lists.{from};
 ghost use Rattle.lmn_heap.specs.Heap.{IsAtom, IsMem, functor_of, home_of, parent_of, atoms_in, mems_in};
 ghost use Rattle.lmn_heap.specs.Functors.{with_functor};
 ghost use Rattle.lmn_instr.specs.declared.instr.Instr.TheVariants.{Deref, InMem};
-ghost use Rattle.lmn_instr.specs.Running.{HeadRegisters, InstructionHolds, AllHold};
+ghost use Rattle.lmn_instr.specs.Running.{HeadRegisters, HeadSize, InstructionHolds, AllHold};
 ghost use Rattle.lmn_registers.specs.Agreeing.{Agrees};
 ghost use Rattle.lmn_machine.specs.Searching.{AreHeldWhole};
 ghost use Rattle.lmn_machine.specs.Asking.{HoldsAsked, AsksFor, IsGuest};
@@ -27,7 +27,7 @@ fn refutes<S: LinkStore>(
 ) -> bool
     requires held { AreHeldWhole S.atom_id S.mem_id (S.heap store.now) set.now }
     requires atom { IsAtom (S.heap store.now) (S.atom_id a) }
-    ensures { IsTrue result → (c : ℕ) (s : HeadRegisters) → Agrees S.atom_id S.mem_id set.now s → s.images.atom register ≡ S.atom_id a → InstructionHolds (S.heap store.now) c s instr.now → ⊥ }
+    ensures { IsTrue result → (c : HeadSize) (s : HeadRegisters) → Agrees S.atom_id S.mem_id set.now s → s.images.atom register ≡ S.atom_id a → InstructionHolds (S.heap store.now) c s instr.now → ⊥ }
 {
     match instr {
         Instr::Func { atom, functor } => {
@@ -69,7 +69,7 @@ fn is_refuted<S: LinkStore>(
 ) -> bool
     requires held { AreHeldWhole S.atom_id S.mem_id (S.heap store.now) set.now }
     requires atom { IsAtom (S.heap store.now) (S.atom_id a) }
-    ensures { IsTrue result → (c k : ℕ) (s : HeadRegisters) → k ≤ at → Agrees S.atom_id S.mem_id set.now s → s.images.atom register ≡ S.atom_id a → AllHold (S.heap store.now) c s (drop k code.now) → ⊥ }
+    ensures { IsTrue result → (c : HeadSize) (k : ℕ) (s : HeadRegisters) → k ≤ at → Agrees S.atom_id S.mem_id set.now s → s.images.atom register ≡ S.atom_id a → AllHold (S.heap store.now) c s (drop k code.now) → ⊥ }
 {
     if at < code.len() {
         refutes(store, &code[at], register, a, set)
@@ -92,7 +92,7 @@ fn may_lead<S: LinkStore>(
     requires held { AreHeldWhole S.atom_id S.mem_id (S.heap store.now) set.now }
     requires atom { IsAtom (S.heap store.now) (S.atom_id a) }
     requires at { at ≤ length code.now }
-    ensures { IsFalse result → (c k : ℕ) (s : HeadRegisters) → k ≤ at → Agrees S.atom_id S.mem_id set.now s → s.images.atom from.atom ≡ S.atom_id a → InstructionHolds (S.heap store.now) c s (Deref register from port) →
+    ensures { IsFalse result → (c : HeadSize) (k : ℕ) (s : HeadRegisters) → k ≤ at → Agrees S.atom_id S.mem_id set.now s → s.images.atom from.atom ≡ S.atom_id a → InstructionHolds (S.heap store.now) c s (Deref register from port) →
         AllHold (S.heap store.now) c s (drop k code.now) → ⊥ }
 {
     match checks::end(store, a, from.port) {
@@ -120,7 +120,7 @@ fn atom_fits<S: LinkStore>(
 ) -> bool
     requires held { AreHeldWhole S.atom_id S.mem_id (S.heap store.now) set.now }
     requires atom { IsAtom (S.heap store.now) (S.atom_id a) }
-    ensures { IsFalse result → (c : ℕ) (s : HeadRegisters) → Agrees S.atom_id S.mem_id set.now s → s.images.atom (length set.now.atoms) ≡ S.atom_id a → AllHold (S.heap store.now) c s (drop at code.now) → ⊥ }
+    ensures { IsFalse result → (c : HeadSize) (s : HeadRegisters) → Agrees S.atom_id S.mem_id set.now s → s.images.atom (length set.now.atoms) ≡ S.atom_id a → AllHold (S.heap store.now) c s (drop at code.now) → ⊥ }
 {
     if at >= code.len() {
         return true;
@@ -154,7 +154,7 @@ pub fn fitting_atom<S: LinkStore>(
     ensures functor { IfSome result (λ a. functor_of (S.heap store.now) (S.atom_id a) ≡ Some functor) }
     ensures home { IfSome result (λ a. home_of (S.heap store.now) (S.atom_id a) ≡ Some (S.mem_id place)) }
     ensures further { let all = with_functor (S.heap store.now) functor (atoms_in (S.heap store.now) (S.mem_id place)) in length (from (option_map S.atom_id result) all) ≤ length (from (option_map S.atom_id start) all) }
-    ensures left { (c : ℕ) (s : HeadRegisters) → Agrees S.atom_id S.mem_id set.now s → AllHold (S.heap store.now) c s (drop at code.now) →
+    ensures left { (c : HeadSize) (s : HeadRegisters) → Agrees S.atom_id S.mem_id set.now s → AllHold (S.heap store.now) c s (drop at code.now) →
         let all = with_functor (S.heap store.now) functor (atoms_in (S.heap store.now) (S.mem_id place)) in
         In (s.images.atom (length set.now.atoms)) (from (option_map S.atom_id start) all) → In (s.images.atom (length set.now.atoms)) (from (option_map S.atom_id result) all) }
 {
@@ -175,7 +175,7 @@ fn looks_in_vain<S: LinkStore>(
     set: &SetRegisters<S::Atom, S::Mem>,
 ) -> bool
     requires held { AreHeldWhole S.atom_id S.mem_id (S.heap store.now) set.now }
-    ensures { IsTrue result → (c : ℕ) (s : HeadRegisters) → Agrees S.atom_id S.mem_id set.now s → InstructionHolds (S.heap store.now) c s instr.now → ⊥ }
+    ensures { IsTrue result → (c : HeadSize) (s : HeadRegisters) → Agrees S.atom_id S.mem_id set.now s → InstructionHolds (S.heap store.now) c s instr.now → ⊥ }
 {
     match instr {
         Instr::FindAtom {
@@ -204,7 +204,7 @@ fn is_hopeless<S: LinkStore>(
     set: &SetRegisters<S::Atom, S::Mem>,
 ) -> bool
     requires held { AreHeldWhole S.atom_id S.mem_id (S.heap store.now) set.now }
-    ensures { IsTrue result → (c : ℕ) (s : HeadRegisters) → Agrees S.atom_id S.mem_id set.now s → AllHold (S.heap store.now) c s (drop at code.now) → ⊥ }
+    ensures { IsTrue result → (c : HeadSize) (s : HeadRegisters) → Agrees S.atom_id S.mem_id set.now s → AllHold (S.heap store.now) c s (drop at code.now) → ⊥ }
 {
     for i in at..code.len() {
         if looks_in_vain(store, &code[i], set) {
@@ -232,7 +232,7 @@ pub fn further_atom<S: LinkStore>(
     ensures functor { IfSome result (λ a. functor_of (S.heap store.now) (S.atom_id a) ≡ Some functor) }
     ensures home { IfSome result (λ a. home_of (S.heap store.now) (S.atom_id a) ≡ Some (S.mem_id place)) }
     ensures further { let all = with_functor (S.heap store.now) functor (atoms_in (S.heap store.now) (S.mem_id place)) in length (from (option_map S.atom_id result) all) ≤ length (from (option_map S.atom_id start) all) }
-    ensures left { (c : ℕ) (s : HeadRegisters) → Agrees S.atom_id S.mem_id set.now s → AllHold (S.heap store.now) c s (drop at code.now) →
+    ensures left { (c : HeadSize) (s : HeadRegisters) → Agrees S.atom_id S.mem_id set.now s → AllHold (S.heap store.now) c s (drop at code.now) →
         let all = with_functor (S.heap store.now) functor (atoms_in (S.heap store.now) (S.mem_id place)) in
         In (s.images.atom (length set.now.atoms)) (from (option_map S.atom_id start) all) → In (s.images.atom (length set.now.atoms)) (from (option_map S.atom_id result) all) }
 {

@@ -4,11 +4,14 @@ ghost use Rattle.std.specs.List.{AllByRecursion};
 ghost use Rattle.lmn_heap.specs.Heap.{rules_in, Unmarked};
 ghost use Rattle.lmn_heap.specs.Sound.{Valid};
 ghost use Rattle.lmn_instr.specs.Running.{HeadRegisters};
+ghost use Rattle.lmn_body.specs.Running.{Registers};
+ghost use Rattle.lmn_commit.specs.Registers.{HasRests};
 ghost use Rattle.lmn_registers.specs.Agreeing.{Agrees};
 ghost use Rattle.lmn_machine.specs.Searching.{AreHeldWhole};
 ghost use Rattle.lmn_machine.specs.Costs.{AddsItems, IsSize, IsTold, Leaves, TakesItems};
 
 use crate::machine::Machine;
+use crate::rests::rest_items;
 use lmn_ground::size_of;
 use lmn_instr::{Code, Instr};
 use lmn_registers::SetRegisters;
@@ -82,12 +85,13 @@ fn added<S: LinkStore>(
     instr: &Instr,
     kept: &mut Option<Counted>,
 ) -> u64
+    requires valid { Valid (S.heap store.old) }
     requires unmarked { Unmarked (S.heap store.old) }
     requires held { AreHeldWhole S.atom_id S.mem_id (S.heap store.old) set.now }
     requires told { IsTold (length set.now.membranes) (length set.now.parts) instr.now }
     requires kept { IfSome kept.old (λ k. (s : HeadRegisters) → Agrees S.atom_id S.mem_id set.now s → IsSize (S.heap store.old) (s.images.part k.part) k.atoms) }
     ensures same { S.heap store.new ≡ S.heap store.old }
-    ensures adds { (s : HeadRegisters) → Agrees S.atom_id S.mem_id set.now s → AddsItems (S.heap store.old) s instr.now result }
+    ensures adds { (r : Registers) → Agrees S.atom_id S.mem_id set.now r.head → HasRests S.atom_id S.mem_id (S.heap store.old) set.now r → AddsItems (S.heap store.old) r instr.now result }
     ensures kept { IfSome kept.new (λ k. (s : HeadRegisters) → Agrees S.atom_id S.mem_id set.now s → IsSize (S.heap store.old) (s.images.part k.part) k.atoms) }
 {
     match instr {
@@ -96,6 +100,7 @@ fn added<S: LinkStore>(
         Instr::NewMem { .. } => 1,
         Instr::CopyGround { part, .. } => part_size(store, set, *part, kept),
         Instr::LoadRule { .. } => 1,
+        Instr::CopyCells { from, .. } => rest_items(store, set, *from),
         Instr::CopyRules { from, .. } => rules_of(store, set, *from),
         _ => 0,
     }
@@ -108,19 +113,21 @@ fn taken<S: LinkStore>(
     instr: &Instr,
     kept: &mut Option<Counted>,
 ) -> u128
+    requires valid { Valid (S.heap store.old) }
     requires unmarked { Unmarked (S.heap store.old) }
     requires held { AreHeldWhole S.atom_id S.mem_id (S.heap store.old) set.now }
     requires told { IsTold (length set.now.membranes) (length set.now.parts) instr.now }
     requires kept { IfSome kept.old (λ k. (s : HeadRegisters) → Agrees S.atom_id S.mem_id set.now s → IsSize (S.heap store.old) (s.images.part k.part) k.atoms) }
     ensures same { S.heap store.new ≡ S.heap store.old }
     ensures few { result ≤ 2 ^ 64 }
-    ensures takes { (s : HeadRegisters) → Agrees S.atom_id S.mem_id set.now s → TakesItems (S.heap store.old) s instr.now result }
+    ensures takes { (r : Registers) → Agrees S.atom_id S.mem_id set.now r.head → HasRests S.atom_id S.mem_id (S.heap store.old) set.now r → TakesItems (S.heap store.old) r instr.now result }
     ensures kept { IfSome kept.new (λ k. (s : HeadRegisters) → Agrees S.atom_id S.mem_id set.now s → IsSize (S.heap store.old) (s.images.part k.part) k.atoms) }
 {
     match instr {
         Instr::RemoveAtom { .. } => 1,
         Instr::RemovePart { part } => u128::from(part_size(store, set, *part, kept)),
         Instr::RemoveMem { membrane } => 1 + u128::from(rules_of(store, set, *membrane)),
+        Instr::DropCells { membrane } => u128::from(rest_items(store, set, *membrane)),
         _ => 0,
     }
 }
@@ -136,7 +143,7 @@ fn items_left<S: LinkStore>(
     requires held { AreHeldWhole S.atom_id S.mem_id (S.heap store.old) set.now }
     requires told { AllByRecursion (IsTold (length set.now.membranes) (length set.now.parts)) body.now }
     ensures same { S.heap store.new ≡ S.heap store.old }
-    ensures left { (s : HeadRegisters) (n : ℕ) → Agrees S.atom_id S.mem_id set.now s → Leaves (S.heap store.old) s body.now n → result ≡ min n (2 ^ 64 - 1) }
+    ensures left { (r : Registers) (n : ℕ) → Agrees S.atom_id S.mem_id set.now r.head → HasRests S.atom_id S.mem_id (S.heap store.old) set.now r → Leaves (S.heap store.old) r body.now n → result ≡ min n (2 ^ 64 - 1) }
 {
     let mut all_added: u128 = 0;
     let mut all_taken: u128 = 0;
@@ -171,7 +178,7 @@ impl<S: LinkStore> Machine<S> {
         requires told { AllByRecursion (IsTold (length self.old.set.membranes) (length self.old.set.parts)) code.now.body }
         ensures same { S.heap self.new.store ≡ S.heap self.old.store }
         ensures registers { self.new.set ≡ self.old.set }
-        ensures left { (s : HeadRegisters) (n : ℕ) → Agrees S.atom_id S.mem_id self.old.set s → Leaves (S.heap self.old.store) s code.now.body n → result ≡ min n (2 ^ 64 - 1) }
+        ensures left { (r : Registers) (n : ℕ) → Agrees S.atom_id S.mem_id self.old.set r.head → HasRests S.atom_id S.mem_id (S.heap self.old.store) self.old.set r → Leaves (S.heap self.old.store) r code.now.body n → result ≡ min n (2 ^ 64 - 1) }
     {
         items_left(&mut self.store, &self.set, code.body.as_slice())
     }

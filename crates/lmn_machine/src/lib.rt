@@ -10,6 +10,7 @@ mod integers;
 mod machine;
 mod others;
 mod parts;
+mod rests;
 mod search;
 mod steps;
 mod whole;

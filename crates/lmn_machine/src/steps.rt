@@ -1,12 +1,12 @@
 ghost use Rattle.std.specs.Prelude.{◌≡◌, ◌<◌, ◌↔◌, ◌+◌, ℕ, [], ◌∷◌, length, IsTrue};
 ghost use Rattle.lmn_heap.specs.Sound.{Valid};
-ghost use Rattle.lmn_instr.specs.Running.{HeadRegisters, InstructionHolds};
+ghost use Rattle.lmn_instr.specs.Running.{HeadRegisters, HeadSize, InstructionHolds};
 ghost use Rattle.lmn_heap.specs.Heap.{Heap, Unmarked};
 ghost use Rattle.lmn_registers.specs.Agreeing.{Agrees};
 ghost use Rattle.lmn_machine.specs.Searching.{AreHeldWhole, AsksNoPart, Compares, Extends, TestsSetRegisters, HeadInOrder, ChoosesNone, HasGiven, HasGivenPart, Stepped};
 ghost use Rattle.lmn_instr.specs.declared.instr.Instr.TheVariants.{Deref};
 
-use crate::{checks, integers, others, parts, whole};
+use crate::{checks, integers, others, parts, rests, whole};
 use lmn_instr::{AtomPort, Instr};
 use lmn_registers::{ROOM, SetRegisters};
 use lmn_store::LinkStore;
@@ -14,7 +14,7 @@ use lmn_store::LinkStore;
 /// Whether a comparison holds of the integers that are set; COMMIT holds.
 fn compare<A: Copy, M: Copy>(set: &SetRegisters<A, M>, instr: &Instr) -> bool
     requires { Compares (length set.now.integers) instr.now }
-    ensures { (atom : A → ℕ) (membrane : M → ℕ) (h : Heap) (c : ℕ) (s : HeadRegisters) → Agrees atom membrane set.now s → (IsTrue result ↔ InstructionHolds h c s instr.now) }
+    ensures { (atom : A → ℕ) (membrane : M → ℕ) (h : Heap) (c : HeadSize) (s : HeadRegisters) → Agrees atom membrane set.now s → (IsTrue result ↔ InstructionHolds h c s instr.now) }
 {
     match instr {
         Instr::Lt { left, right } => integers::is_less(
@@ -51,7 +51,7 @@ fn check<S: LinkStore>(store: &S, set: &SetRegisters<S::Atom, S::Mem>, instr: &I
     requires valid { Valid (S.heap store.now) }
     requires held { AreHeldWhole S.atom_id S.mem_id (S.heap store.now) set.now }
     requires reads { TestsSetRegisters (length set.now.atoms) (length set.now.membranes) (length set.now.integers) instr.now }
-    ensures { (c : ℕ) (s : HeadRegisters) → Agrees S.atom_id S.mem_id set.now s → (IsTrue result ↔ InstructionHolds (S.heap store.now) c s instr.now) }
+    ensures { (c : HeadSize) (s : HeadRegisters) → Agrees S.atom_id S.mem_id set.now s → (IsTrue result ↔ InstructionHolds (S.heap store.now) c s instr.now) }
 {
     match instr {
         Instr::Func { atom, functor } => checks::has_functor(
@@ -121,8 +121,8 @@ pub fn follow<S: LinkStore>(
     ensures membranes { set.new.membranes ≡ set.old.membranes }
     ensures parts { set.new.parts ≡ set.old.parts }
     ensures integers { set.new.integers ≡ set.old.integers }
-    ensures holds { IsTrue result → (c : ℕ) (s : HeadRegisters) → Agrees S.atom_id S.mem_id set.new s → InstructionHolds (S.heap store.now) c s (Deref (length set.old.atoms) from port) }
-    ensures only { (c : ℕ) (s : HeadRegisters) → Agrees S.atom_id S.mem_id set.old s → InstructionHolds (S.heap store.now) c s (Deref (length set.old.atoms) from port) →
+    ensures holds { IsTrue result → (c : HeadSize) (s : HeadRegisters) → Agrees S.atom_id S.mem_id set.new s → InstructionHolds (S.heap store.now) c s (Deref (length set.old.atoms) from port) }
+    ensures only { (c : HeadSize) (s : HeadRegisters) → Agrees S.atom_id S.mem_id set.old s → InstructionHolds (S.heap store.now) c s (Deref (length set.old.atoms) from port) →
         IsTrue result × Agrees S.atom_id S.mem_id set.new s }
 {
     match checks::end(store, set.atoms.at(from.atom as usize), from.port) {
@@ -275,6 +275,10 @@ pub fn step<S: LinkStore>(
         } => {
             let place = set.membranes.at(*membrane as usize);
             others::has_others(store, set, place, parts.as_slice(), *count)
+        }
+        Instr::IsClosed { membrane, parts } => {
+            let place = set.membranes.at(*membrane as usize);
+            rests::is_closed(store, set, place, parts.as_slice())
         }
         _ => compute(store, set, instr),
     }

@@ -4,7 +4,8 @@ ghost use Rattle.std.specs.Option.{option_map};
 ghost use Rattle.lmn_heap.specs.Heap.{IsAtom, IsMem, arity_of, link_of, port_id, marked, Unmarked};
 ghost use Rattle.lmn_base.specs.Graphs.{SameGraph};
 ghost use Rattle.lmn_heap.specs.Graphs.{atom_map};
-ghost use Rattle.lmn_machine.specs.Searching.{IsHeldPart, IsWholeApart, own_marked};
+ghost use Rattle.lmn_ground.specs.Rests.{own_marked};
+ghost use Rattle.lmn_machine.specs.Searching.{IsHeldPart, IsWholeApart};
 ghost use Rattle.lmn_commit.specs.Registers.{AreAtomHandles};
 
 use crate::checks;
@@ -23,7 +24,7 @@ fn set_own<S: LinkStore>(store: &mut S, a: S::Atom, mark: u64)
 }
 
 /// Sets the own marks of the atoms in registers.
-fn mark_all<S: LinkStore>(store: &mut S, atoms: &Stack<S::Atom>, mark: u64)
+pub fn mark_all<S: LinkStore>(store: &mut S, atoms: &Stack<S::Atom>, mark: u64)
     requires held { AreAtomHandles S.atom_id (S.heap store.old) atoms.now }
     ensures { S.heap store.new ≡ own_marked mark (map S.atom_id atoms.now) (S.heap store.old) }
 {

@@ -17,12 +17,13 @@ use Rattle.lmn_solid.specs.Guards.{typed_number, context_alone}
 use Rattle.lmn_solid.specs.Embeddings.{HasLink}
 use Rattle.lmn_instr.specs.declared.instr.AtomPort.{AtomPort}
 use Rattle.lmn_instr.specs.declared.instr.Instr.{Instr}
-use Rattle.lmn_instr.specs.declared.instr.Instr.TheVariants.{AnyMem, IsInt, IsUnary, IsGround, Commit}
+use Rattle.lmn_instr.specs.declared.instr.Instr.TheVariants.{AnyMem, IsInt, IsUnary, IsGround, IsClosed, Commit}
 use Rattle.lmn_instr.specs.HeadCode.{Entry, Computed, items_code, atom_code, found_code, entry, differ_code, ports_code, differ_membrane_code, all_filled_code, find_port, operand, test_of, part_code, parts_code, operator_instruction, named_code, value_code, comparison, part_named, equal_code, differ_parts_code, bind_register, guard_code, head_code}
 use Rattle.lmn_compile_head.specs.Heads.{IsHead}
 use Rattle.lmn_compile_head.proofs.Places.{find_missed, stands_at}
-use Rattle.lmn_machine.specs.Searching.{membranes_set, parts_set}
-use Rattle.lmn_matching.proofs.Order.{PlainReads, ReadAll, take_short, differ_reads, ports_read, differ_membranes_read, all_filled_reads, AreSet, all_set}
+use Rattle.lmn_instr.specs.Running.{membranes_set}
+use Rattle.lmn_machine.specs.Searching.{parts_set}
+use Rattle.lmn_matching.proofs.Order.{PlainReads, ReadAll, FilledReads, FilledAll, take_short, differ_reads, ports_read, differ_membranes_read, all_filled_reads, AreSet, all_set}
 use Rattle.lmn_base.specs.Graphs.{Port}
 
 -- code that sets neither a membrane nor a typed context
@@ -45,6 +46,14 @@ quiet_test a m g _ r ys = (refl, refl)
 quiet_tests : (a m g : ℕ) (xs : List Instr) → ReadAll a m g xs → Quiet xs
 quiet_tests a m g [] r = quiet_nothing
 quiet_tests a m g (i ∷ is) r = record { none = λ ys. (let u = quiet_test a m g i r.0 (is ++ ys) in let v = (quiet_tests a m g is r.1).none ys in (u.0 ∙ v.0, u.1 ∙ v.1)) }
+
+quiet_filled : (a m g : ℕ) (i : Instr) → FilledReads a m g i → (ys : List Instr) → (membranes_set (i ∷ ys) ≡ membranes_set ys) × (parts_set (i ∷ ys) ≡ parts_set ys)
+quiet_filled a m g (IsClosed x gs) r ys = (refl, refl)
+quiet_filled a m g i r ys = quiet_test a m g i r ys
+
+quiet_all_filled : (a m g : ℕ) (xs : List Instr) → FilledAll a m g xs → Quiet xs
+quiet_all_filled a m g [] r = quiet_nothing
+quiet_all_filled a m g (i ∷ is) r = record { none = λ ys. (let u = quiet_filled a m g i r.0 (is ++ ys) in let v = (quiet_all_filled a m g is r.1).none ys in (u.0 ∙ v.0, u.1 ∙ v.1)) }
 
 quiet_found : (n : ℕ) (a : HeadAtom) (e : Option Entry) → Quiet (found_code n a e)
 quiet_found n a None = record { none = λ ys. (refl, refl) }
@@ -166,7 +175,7 @@ module _ (items : List HeadItem) (head : IsHead items) where
       let b = parts_counted (1 + length (membranes_of items)) 0 ts (fs ++ (gs ++ (Commit ∷ []))) (all_set items head) in
       let n = length ts in
       let m = 1 + length (membranes_of items) in
-      let f = quiet_tests 0 m n fs (all_filled_reads items head 0 m n 1 (membranes_of items) (omega arith) (omega arith)) in
+      let f = quiet_all_filled 0 m n fs (all_filled_reads items head 0 m n 1 (membranes_of items) (omega arith) (omega arith)) in
       let c = f.none (gs ++ (Commit ∷ [])) in
       let d = (quiet_guard (typed_number ts 0) (λ x. 0) 0 guard).none (Commit ∷ []) in
       let z : membranes_set (fs ++ (gs ++ (Commit ∷ []))) ≡ 0 = c.0 ∙ d.0 in

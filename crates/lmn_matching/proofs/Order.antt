@@ -12,14 +12,14 @@ use Rattle.lmn_guards.specs.declared.plan.TypeKind.TheVariants as kind
 use Rattle.lmn_solid.specs.Embeddings.{HasLink}
 use Rattle.lmn_solid.specs.Guards.{typed_number}
 use Rattle.lmn_instr.specs.declared.instr.AtomPort.{AtomPort}
-use Rattle.lmn_instr.specs.Running.{atoms_set}
-use Rattle.lmn_compile_head.proofs.Counting.{parts_none, all_filled_none, guard_none}
+use Rattle.lmn_instr.specs.Running.{atoms_set, membranes_set}
+use Rattle.lmn_compile_head.proofs.Counting.{parts_none, guard_none}
 use Rattle.lmn_matching.proofs.GuardOrder.{guard_order}
 use Rattle.lmn_solid.specs.declared.items.HeadItem.{HeadItem}
 use Rattle.lmn_solid.specs.declared.items.HeadItem.TheVariants.{Atom, Typed, Membrane}
 use Rattle.lmn_solid.specs.Heads.{HeadAtom, HeadTyped, HeadMembrane, atoms_of, typed_contexts_of, membranes_of, at_atoms, at_ports, links_of_head, times, inside_of, outermost_by, outermost}
 use Rattle.lmn_instr.specs.declared.instr.Instr.{Instr}
-use Rattle.lmn_instr.specs.declared.instr.Instr.TheVariants.{FindAtom, Deref, AnyMem, NeqAtom, NeqMem, NotIn, IsInt, IsUnary, IsGround, NAtoms, NMems, NoRules, EqGround, NeqGround, GetInt, Const, Add, Sub, Mul, Div, Mod, Commit}
+use Rattle.lmn_instr.specs.declared.instr.Instr.TheVariants.{FindAtom, Deref, AnyMem, NeqAtom, NeqMem, NotIn, IsInt, IsUnary, IsGround, NAtoms, NMems, NoRules, IsClosed, EqGround, NeqGround, GetInt, Const, Add, Sub, Mul, Div, Mod, Commit}
 use Rattle.lmn_instr.specs.HeadCode.{items_code, atom_code, found_code, differ_code, differ_membrane_code, ports_code, port_code, joined_code, find_port, occurrences_before, Entry, entry, is_entry, operand, filled_code, all_filled_code, parts_inside, number_inside, head_code, parts_code, part_code, test_of, guard_code}
 use Rattle.lmn_compile_head.specs.Heads.{IsHead, IsGuard, EachInside}
 use Rattle.lmn_compile_head.proofs.Places.{occurs, has_either, atoms_have, ports_have, find_found, find_missed, stands_at, entry_stands}
@@ -70,6 +70,46 @@ one_read a m g _ is r o = (r, o)
 pub read_then : (a m g : ℕ) (xs ys : List Instr) → ReadAll a m g xs → HeadInOrder a m g 0 ys → HeadInOrder a m g 0 (xs ++ ys)
 read_then a m g [] ys r o = o
 read_then a m g (x ∷ xs) ys r o = one_read a m g x (xs ++ ys) r.0 (read_then a m g xs ys r.1 o)
+
+-- what a membrane holds is tested when all atoms and membranes are set
+
+-- an instruction that tests it reads such registers as are set
+abbrev pub FilledReads : ℕ → ℕ → ℕ → Instr → Type 0
+FilledReads a m g (IsClosed x gs) = (x < m) × AllByRecursion (λ k. k < g) gs
+FilledReads a m g i = PlainReads a m g i
+
+-- and so do several
+abbrev pub FilledAll : ℕ → ℕ → ℕ → List Instr → Type 0
+FilledAll a m g [] = Unit {0}
+FilledAll a m g (i ∷ is) = FilledReads a m g i × FilledAll a m g is
+
+-- code that sets neither atoms nor membranes
+abbrev pub SetsNone : List Instr → Type 0
+SetsNone is = (atoms_set is ≡ 0) × (membranes_set is ≡ 0)
+
+one_filled : (a m g : ℕ) (i : Instr) (is : List Instr) → FilledReads a m g i → SetsNone is → HeadInOrder a m g 0 is → HeadInOrder a m g 0 (i ∷ is) × SetsNone (i ∷ is)
+one_filled a m g (FindAtom x y f) is r n o = absurd r
+one_filled a m g (Deref x p k) is r n o = absurd r
+one_filled a m g (AnyMem x y) is r n o = absurd r
+one_filled a m g (IsClosed x gs) is r n o = (((r.0, r.1, n.0, n.1), o), n)
+one_filled a m g i is r n o = (one_read a m g i is r o, n)
+
+-- code that tests it, before code that sets neither and is in order, is in order
+pub filled_then : (a m g : ℕ) (xs ys : List Instr) → FilledAll a m g xs → SetsNone ys → HeadInOrder a m g 0 ys → HeadInOrder a m g 0 (xs ++ ys) × SetsNone (xs ++ ys)
+filled_then a m g [] ys r n o = (o, n)
+filled_then a m g (x ∷ xs) ys r n o = let t = filled_then a m g xs ys r.1 n o in one_filled a m g x (xs ++ ys) r.0 t.1 t.0
+
+filled_append : (a m g : ℕ) (xs ys : List Instr) → FilledAll a m g xs → FilledAll a m g ys → FilledAll a m g (xs ++ ys)
+filled_append a m g [] ys r s = s
+filled_append a m g (x ∷ xs) ys r s = (r.0, filled_append a m g xs ys r.1 s)
+
+filled_if : (a m g : ℕ) (b : Bool) (xs : List Instr) → FilledAll a m g xs → FilledAll a m g (if b then xs else [])
+filled_if a m g true xs r = r
+filled_if a m g false xs r = tt
+
+filled_unless : (a m g : ℕ) (b : Bool) (xs : List Instr) → FilledAll a m g xs → FilledAll a m g (if b then [] else xs)
+filled_unless a m g true xs r = tt
+filled_unless a m g false xs r = r
 
 reads_append : (a m g : ℕ) (xs ys : List Instr) → ReadAll a m g xs → ReadAll a m g ys → ReadAll a m g (xs ++ ys)
 reads_append a m g [] ys r s = s
@@ -206,16 +246,18 @@ module _ (items : List HeadItem) (head : IsHead items) where
         rw (append_assoc differ (items_code items n (i + 1) xs) ys) (read_then n ((i + 1) + 1) 0 differ (items_code items n (i + 1) xs ++ ys) (differ_membranes_read n (i + 1) ((i + 1) + 1) b 1 (take i (membranes_of items)) (omega arith) (omega (arith, short))) later),
       )
 
-  filled_reads : (a m g k : ℕ) (b : HeadMembrane) → length (typed_contexts_of items) ≤ g → k < m → ReadAll a m g (filled_code items k b)
+  filled_reads : (a m g k : ℕ) (b : HeadMembrane) → length (typed_contexts_of items) ≤ g → k < m → FilledAll a m g (filled_code items k b)
   filled_reads a m g k b few l =
-      reads_append a m g _ (if b.has_rule_context then [] else NoRules k ∷ [])
-      (reads_unless a m g b.has_context (NAtoms k (number_inside (λ a. a.inside) k (atoms_of items)) (parts_inside k 0 (typed_contexts_of items)) ∷ (NMems k (number_inside (λ b. b.inside) k (membranes_of items)) ∷ []))
+      filled_append a m g _ ((if b.has_rule_context then [] else NoRules k ∷ []) ++ (if b.has_closed_context then IsClosed k (parts_inside k 0 (typed_contexts_of items)) ∷ [] else []))
+      (filled_unless a m g b.has_context (NAtoms k (number_inside (λ a. a.inside) k (atoms_of items)) (parts_inside k 0 (typed_contexts_of items)) ∷ (NMems k (number_inside (λ b. b.inside) k (membranes_of items)) ∷ []))
       ((l, inside_below k g 0 (typed_contexts_of items) (omega (arith, few))), (l, tt)))
-      (reads_unless a m g b.has_rule_context (NoRules k ∷ []) (l, tt))
+      (filled_append a m g (if b.has_rule_context then [] else NoRules k ∷ []) (if b.has_closed_context then IsClosed k (parts_inside k 0 (typed_contexts_of items)) ∷ [] else [])
+      (filled_unless a m g b.has_rule_context (NoRules k ∷ []) (l, tt))
+      (filled_if a m g b.has_closed_context (IsClosed k (parts_inside k 0 (typed_contexts_of items)) ∷ []) ((l, inside_below k g 0 (typed_contexts_of items) (omega (arith, few))), tt)))
 
-  pub all_filled_reads : (a m g k : ℕ) (bs : List HeadMembrane) → length (typed_contexts_of items) ≤ g → k + length bs ≤ m → ReadAll a m g (all_filled_code items k bs)
+  pub all_filled_reads : (a m g k : ℕ) (bs : List HeadMembrane) → length (typed_contexts_of items) ≤ g → k + length bs ≤ m → FilledAll a m g (all_filled_code items k bs)
   all_filled_reads a m g k [] few l = tt
-  all_filled_reads a m g k (b ∷ bs) few l = reads_append a m g (filled_code items k b) (all_filled_code items (k + 1) bs) (filled_reads a m g k b few (omega arith)) (all_filled_reads a m g (k + 1) bs few (omega arith))
+  all_filled_reads a m g k (b ∷ bs) few l = filled_append a m g (filled_code items k b) (all_filled_code items (k + 1) bs) (filled_reads a m g k b few (omega arith)) (all_filled_reads a m g (k + 1) bs few (omega arith))
 
   -- Typed contexts, each of which stands in a membrane that is set and is held by an atom.
   abbrev pub AreSet : ℕ → List HeadTyped → Type 0
@@ -256,11 +298,12 @@ module _ (items : List HeadItem) (head : IsHead items) where
       let ts = typed_contexts_of items in
       let fs = all_filled_code items 1 (membranes_of items) in
       let gs = guard_code (typed_number ts 0) (λ x. 0) 0 guard in
-      let rest : HeadInOrder a m (0 + length ts) 0 (fs ++ (gs ++ (Commit ∷ []))) = read_then a m (0 + length ts) fs (gs ++ (Commit ∷ [])) (all_filled_reads a m (0 + length ts) 1 (membranes_of items) (omega arith) (omega arith))
+      let tests = guard_none (typed_number ts 0) (λ x. 0) 0 guard in
+      let rest = filled_then a m (0 + length ts) fs (gs ++ (Commit ∷ [])) (all_filled_reads a m (0 + length ts) 1 (membranes_of items) (omega arith) (omega arith))
+      (tests.none (Commit ∷ []), tests.keeps (Commit ∷ []))
       (guard_order a m (0 + length ts) ts (omega arith) guard 0 [] (λ x. 0) (Commit ∷ []) allowed (λ x s. absurd s) (omega (arith, short)) (λ w. (tt, tt))) in
-      let none : atoms_set (fs ++ (gs ++ (Commit ∷ []))) ≡ 0 = (all_filled_none items 1 (membranes_of items)).none (gs ++ (Commit ∷ [])) ∙ (guard_none (typed_number ts 0) (λ x. 0) 0 guard).none (Commit ∷ []) in
       items_order 0 0 items (parts_code items 0 ts ++ (fs ++ (gs ++ (Commit ∷ [])))) head.inside (omega arith) k
-      (parts_order a m 0 ts (fs ++ (gs ++ (Commit ∷ []))) (omega arith) all_set (omega (arith, few)) none rest)
+      (parts_order a m 0 ts (fs ++ (gs ++ (Commit ∷ []))) (omega arith) all_set (omega (arith, few)) rest.1.0 rest.0)
 
 -- how many of the items are of each kind
 pub few_of_each : (items : List HeadItem) → length (atoms_of items) + (length (membranes_of items) + length (typed_contexts_of items)) ≤ length items

@@ -6,8 +6,8 @@ use Rattle.lmn_instr.specs.declared.instr.Instr.{Instr}
 use Rattle.lmn_compile_head.specs.Accepted.{IsReady, head_items, rule_head_code}
 use Rattle.lmn_solid.specs.declared.items.HeadItem.{HeadItem}
 use Rattle.lmn_solid.specs.Heads.{atoms_of, typed_contexts_of, membranes_of}
-use Rattle.lmn_instr.specs.Running.{atoms_set}
-use Rattle.lmn_machine.specs.Searching.{HeadInOrder, membranes_set, parts_set}
+use Rattle.lmn_instr.specs.Running.{atoms_set, membranes_set}
+use Rattle.lmn_machine.specs.Searching.{HeadInOrder, parts_set}
 
 -- Code of the head of an accepted and well made rule, by its plan.
 pub record IsCodeOf (code : List Instr) (table : List RuleTree) (r : RuleTree) (plan : GuardPlan) : Type 0 where

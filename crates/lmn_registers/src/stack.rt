@@ -46,6 +46,15 @@ impl<T> Stack<T> {
     }
 }
 
+impl<T> Stack<T> {
+    /// All values, in order.
+    pub fn as_slice(&self) -> &[T]
+        ensures { result.now ≡ self.now }
+    {
+        self.items.as_slice()
+    }
+}
+
 impl<T: Copy> Stack<T> {
     /// The value at a place, counted from 0.
     pub fn at(&self, i: usize) -> T

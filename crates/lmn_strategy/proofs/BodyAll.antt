@@ -32,7 +32,7 @@ module _ (V P : ℕ → Type 0) where
   OfItem (Copy part link inside) = Unit {0}
   OfItem (Bound integer link inside) = V integer
   OfItem (Membrane inside) = Unit {0}
-  OfItem (Rest of inside) = Unit {0}
+  OfItem (Rest of closed inside) = Unit {0}
   OfItem (Rule k inside) = P k
   OfItem (Rules of inside) = Unit {0}
 
@@ -111,7 +111,7 @@ integers_below v (Connector left right ∷ xs) a = integers_below v xs a.1
 integers_below v (Copy part link inside ∷ xs) a = integers_below v xs a.1
 integers_below v (Bound integer link inside ∷ xs) a = (a.0, integers_below v xs a.1)
 integers_below v (Membrane inside ∷ xs) a = integers_below v xs a.1
-integers_below v (Rest of inside ∷ xs) a = integers_below v xs a.1
+integers_below v (Rest of closed inside ∷ xs) a = integers_below v xs a.1
 integers_below v (Rule rule inside ∷ xs) a = integers_below v xs a.1
 integers_below v (Rules of inside ∷ xs) a = integers_below v xs a.1
 
@@ -122,7 +122,7 @@ rules_all P (Connector left right ∷ xs) a = rules_all P xs a.1
 rules_all P (Copy part link inside ∷ xs) a = rules_all P xs a.1
 rules_all P (Bound integer link inside ∷ xs) a = rules_all P xs a.1
 rules_all P (Membrane inside ∷ xs) a = rules_all P xs a.1
-rules_all P (Rest of inside ∷ xs) a = rules_all P xs a.1
+rules_all P (Rest of closed inside ∷ xs) a = rules_all P xs a.1
 rules_all P (Rule rule inside ∷ xs) a = (a.0, rules_all P xs a.1)
 rules_all P (Rules of inside ∷ xs) a = rules_all P xs a.1
 
@@ -144,6 +144,6 @@ made_few (Connector left right ∷ xs) = let e = made_few xs in omega (arith, e)
 made_few (Copy part link inside ∷ xs) = let e = made_few xs in omega (arith, e)
 made_few (Bound integer link inside ∷ xs) = let e = made_few xs in omega (arith, e)
 made_few (Membrane inside ∷ xs) = let e = made_few xs in omega (arith, e)
-made_few (Rest of inside ∷ xs) = let e = made_few xs in omega (arith, e)
+made_few (Rest of closed inside ∷ xs) = let e = made_few xs in omega (arith, e)
 made_few (Rule rule inside ∷ xs) = let e = made_few xs in omega (arith, e)
 made_few (Rules of inside ∷ xs) = let e = made_few xs in omega (arith, e)

@@ -80,7 +80,7 @@ making_told k g a m c (Connector left right ∷ xs) w l = making_told k g a m c 
 making_told k g a m c (Copy part link inside ∷ xs) w l = (l (c, part) (inl refl), making_told k g a m (c + 1) xs w.1 (λ e i. l e (inr i)))
 making_told k g a m c (Bound integer link inside ∷ xs) w l = (tt, making_told k g (a + 1) m c xs w.1 l)
 making_told k g a m c (Membrane inside ∷ xs) w l = (tt, making_told k g a (m + 1) c xs w.1 l)
-making_told k g a m c (Rest of inside ∷ xs) w l = (tt, making_told k g a m c xs w.3 l)
+making_told k g a m c (Rest of closed inside ∷ xs) w l = (tt, making_told k g a m c xs w.3 l)
 making_told k g a m c (Rule rule inside ∷ xs) w l = (tt, making_told k g a m c xs w.1 l)
 making_told k g a m c (Rules of inside ∷ xs) w l = (head_below k of w.0, making_told k g a m c xs w.2 l)
 
@@ -103,7 +103,7 @@ module _ (P : ℕ → Type 0) where
   HasRules (Copy part link inside ∷ xs) = HasRules xs
   HasRules (Bound integer link inside ∷ xs) = HasRules xs
   HasRules (Membrane inside ∷ xs) = HasRules xs
-  HasRules (Rest of inside ∷ xs) = HasRules xs
+  HasRules (Rest of closed inside ∷ xs) = HasRules xs
   HasRules (Rule rule inside ∷ xs) = P rule × HasRules xs
   HasRules (Rules of inside ∷ xs) = HasRules xs
 
@@ -114,7 +114,7 @@ module _ (P : ℕ → Type 0) where
   making_loads a m c (Copy part link inside ∷ xs) r = (tt, making_loads a m (c + 1) xs r)
   making_loads a m c (Bound integer link inside ∷ xs) r = (tt, making_loads (a + 1) m c xs r)
   making_loads a m c (Membrane inside ∷ xs) r = (tt, making_loads a (m + 1) c xs r)
-  making_loads a m c (Rest of inside ∷ xs) r = (tt, making_loads a m c xs r)
+  making_loads a m c (Rest of closed inside ∷ xs) r = (tt, making_loads a m c xs r)
   making_loads a m c (Rule rule inside ∷ xs) r = (r.0, making_loads a m c xs r.1)
   making_loads a m c (Rules of inside ∷ xs) r = (tt, making_loads a m c xs r)
 

@@ -8,7 +8,7 @@ use Rattle.std.proofs.Math.Nat.{min-le_left, le-min}
 use Rattle.lmn_heap.specs.Heap.{Heap, HeapMem, IsMem, rules_by, rules_in, port_id, mem_with_spare, Unmarked}
 use Rattle.lmn_heap.specs.Sound.{Forest, Valid}
 use Rattle.lmn_instr.specs.declared.instr.Code.{Code}
-use Rattle.lmn_instr.specs.Running.{HeadRegisters, IsFirstSuccess, atoms_set}
+use Rattle.lmn_instr.specs.Running.{HeadRegisters, IsFirstSuccess, atoms_set, membranes_set}
 use Rattle.lmn_body.specs.Running.{Registers, RunsBody}
 use Rattle.lmn_body.specs.Stopping.{SameButSpares}
 use Rattle.lmn_registers.specs.Agreeing.{Agrees}
@@ -18,7 +18,7 @@ use Rattle.lmn_commit.specs.Preparing.{BodyInOrder, Prepared}
 use Rattle.lmn_commit.specs.Registers.{HasCopies, AreSized, Grows}
 use Rattle.lmn_commit.specs.Registers as body
 use Rattle.lmn_machine.specs.Costs.{IsTold, Leaves}
-use Rattle.lmn_machine.specs.Searching.{AreAllSet, membranes_set, parts_set, integers_set}
+use Rattle.lmn_machine.specs.Searching.{AreAllSet, parts_set, integers_set}
 use Rattle.lmn_machine.proofs.Besides.{known, known_agrees}
 use Rattle.lmn_strategy.specs.declared.turning.Turn.{Turn}
 use Rattle.lmn_strategy.specs.declared.turning.Turn.TheVariants.{Committed, Irreducible, Full, NoMemory}

@@ -1,14 +1,18 @@
 -- The rules in membranes after the code of a body: each stood in a membrane before, or is loaded by the code.
-use Rattle.std.proofs.Common.{ℕ, ◌≡◌, Bool, true, false, cond, List, [], ◌∷◌, ◌++◌, map, Option, Some, None, inl, inr, refl, sym, subst}
+use Rattle.std.proofs.Common.{ℕ, ◌≡◌, Bool, true, false, cond, List, [], ◌∷◌, ◌++◌, map, Option, Some, None, inl, inr, refl, sym, subst, ◌∙◌}
 use Rattle.std.specs.Prelude.{◌==◌, ◌&&◌}
 use Rattle.std.specs.Option.{option_map, option_and_then}
 use Rattle.std.specs.List.{AllByRecursion}
 use Rattle.lmn_heap.specs.Heap as heap
 use Rattle.lmn_heap.specs.Heap.{Heap, HeapMem, Place, top, within, waiting, gone, alter, rules_by, rules_in, atoms_in, mems_in, home_of, parent_of, link_of, mem_with_place, mem_with_atoms, mem_with_mems, mem_with_spare, mem_with_rules, new_mem, mem_unless_gone, placed, atom_out, mem_out, taken, mem_sent, emptied, filled, joined, without, taken_all}
 use Rattle.lmn_heap.specs.Splice.{joined_to, joined_both}
+use Rattle.lmn_parts.specs.Copies.{answer, made_like, ports_of}
+use Rattle.lmn_parts.specs.Rests.{made_roomy, rest_copied, atoms_placed, membrane_placed, membranes_placed, copy_round, rest_placed, all_mems_taken, rest_taken}
+use Rattle.lmn_body.proofs.RestMems.{like_mems}
+use Rattle.lmn_body.proofs.RestsMade.{joined_lines}
 use Rattle.lmn_splice.specs.Ties.{Tie, newlink, relink, unify}
 use Rattle.lmn_instr.specs.declared.instr.Instr.{Instr}
-use Rattle.lmn_instr.specs.declared.instr.Instr.TheVariants.{RemoveAtom, RemovePart, RemoveMem, NewAtom, NewInt, NewMem, CopyGround, MoveCells, LoadRule, CopyRules, NewLink, Relink, Unify, Proceed}
+use Rattle.lmn_instr.specs.declared.instr.Instr.TheVariants.{RemoveAtom, RemovePart, RemoveMem, NewAtom, NewInt, NewMem, CopyGround, MoveCells, CopyCells, LoadRule, CopyRules, DropCells, NewLink, Relink, Unify, Proceed}
 use Rattle.lmn_body.specs.Running.{Registers, Prepares, DoesAll, RunsBody, Makes, Does, all_placed, new_port, old_port}
 use Rattle.lmn_body.specs.Tied.{tied}
 use Rattle.lmn_strategy.specs.Turns.{Loads}
@@ -65,6 +69,51 @@ module _ (P : ℕ → Type 0) where
       by true i = absurd i
       by false i = all x k i
 
+  -- a rest is copied: new membranes have no rules
+  roomy : (es : List (ℕ × ℕ)) (s : Heap) → AllRules s.mems → AllRules (made_roomy s es).mems
+  roomy [] s all = all
+  roomy (e ∷ es) s all = roomy es (heap.reserved (heap.made_mem s e.0) e.0 e.1) (altered (heap.made_mem s e.0).mems e.0 (mem_with_spare e.1) (λ y q. q) (made s e.0 all))
+
+  rest_made : (s : Heap) (xs ys : List ℕ) (rooms : List (ℕ × ℕ)) → AllRules s.mems → AllRules (rest_copied s xs rooms ys).mems
+  rest_made s xs ys rooms all =
+      let t = made_roomy s rooms in
+      let like = made_like t xs ys in
+      subst (λ z. AllRules z) (sym ((joined_lines (answer xs ys) like (ports_of like xs)).1 ∙ (like_mems xs ys t).0)) (roomy rooms s all)
+
+  mem_comes : (s : Heap) (y x : ℕ) → AllRules s.mems → AllRules (heap.placed_mem s y x).mems
+  mem_comes s y x all =
+      altered (alter s.mems x (option_map (mem_with_place (within y)))) y (mem_with_mems (λ xs. xs ++ x ∷ [])) (λ z q. q) (altered s.mems x (mem_with_place (within y)) (λ z q. q) all)
+
+  copies_come : (copy : ℕ → ℕ) (n : ℕ) (xs : List ℕ) (s : Heap) → AllRules s.mems → AllRules (atoms_placed copy s n xs).mems
+  copies_come copy n [] s all = all
+  copies_come copy n (a ∷ xs) s all = copies_come copy n xs (placed s n (copy a)) (atom_comes s n (copy a) all)
+
+  -- and each copy of a membrane gets the rules of its original
+  membrane_comes : (copy_mem copy : ℕ → ℕ) (s : Heap) (m : ℕ) → AllRules s.mems → AllRules (membrane_placed copy_mem copy s m).mems
+  membrane_comes copy_mem copy s m all =
+      let n = copy_mem m in
+      let t = heap.placed_mem s (copy_round copy_mem (parent_of s m)) n in
+      let here = mem_comes s (copy_round copy_mem (parent_of s m)) n all in
+      copies_come copy n (atoms_in s m) (heap.rules_copied t m n) (rules_come t n (rules_in t m) (here m) here)
+
+  membranes_come : (copy_mem copy : ℕ → ℕ) (ms : List ℕ) (s : Heap) → AllRules s.mems → AllRules (membranes_placed copy_mem copy s ms).mems
+  membranes_come copy_mem copy [] s all = all
+  membranes_come copy_mem copy (m ∷ ms) s all = membranes_come copy_mem copy ms (membrane_placed copy_mem copy s m) (membrane_comes copy_mem copy s m all)
+
+  rest_comes : (s : Heap) (m n : ℕ) (atoms ms copies new_ms : List ℕ) → AllRules s.mems → AllRules (rest_placed s m n atoms ms copies new_ms).mems
+  rest_comes s m n atoms ms copies new_ms all =
+      membranes_come (answer (m ∷ ms) (n ∷ new_ms)) (answer atoms copies) ms (atoms_placed (answer atoms copies) s n (atoms_in s m)) (copies_come (answer atoms copies) n (atoms_in s m) s all)
+
+  mem_goes : (s : Heap) (n : ℕ) → AllRules s.mems → AllRules (heap.taken_mem s n).mems
+  mem_goes s n all = altered (mem_out s.mems (parent_of s n) n) n (mem_with_place gone) (λ y q. q) (mem_leaves s.mems (parent_of s n) n all)
+
+  mems_go : (ms : List ℕ) (s : Heap) → AllRules s.mems → AllRules (all_mems_taken s ms).mems
+  mems_go [] s all = all
+  mems_go (m ∷ ms) s all = mems_go ms (heap.taken_mem s m) (mem_goes s m all)
+
+  rest_goes : (s : Heap) (atoms ms : List ℕ) → AllRules s.mems → AllRules (rest_taken s atoms ms).mems
+  rest_goes s atoms ms all = mems_go ms (taken_all s atoms) (atoms_leave atoms s all)
+
   moved : (s : Heap) (m n : ℕ) → AllRules s.mems → AllRules (heap.moved_all s m n).mems
   moved s m n all x k i =
       let first = altered s.mems m emptied (λ y r. r) all in
@@ -118,6 +167,8 @@ module _ (P : ℕ → Type 0) where
   makes r (NewMem m n) s t w all = at _ t w.1 (made s (r.head.images.membrane m) all)
   makes r (CopyGround c m g) s t w all = subst (λ z. AllRules z) (sym w.0.beside.mems) all
   makes r (MoveCells m n) s t w all = at s t w all
+  makes r (CopyCells m n) s t w all = at _ t w.2.is (rest_made s (r.left_atoms m) w.0 w.1 all)
+  makes r (DropCells m) s t w all = at s t w all
   makes r (LoadRule m k) s t w all = at _ t w.1 (altered s.mems (r.head.images.membrane m) (mem_with_spare w.0) (λ y q. q) all)
   makes r (CopyRules m n) s t w all = at _ t w.1 (altered s.mems (r.head.images.membrane n) (mem_with_spare w.0) (λ y q. q) all)
   makes r (NewLink p q) s t w all = at s t w all
@@ -140,6 +191,8 @@ module _ (P : ℕ → Type 0) where
       at _ t w.1 (altered (alter s.mems x (option_map (mem_with_place (within y)))) y (mem_with_mems (λ xs. xs ++ x ∷ [])) (λ z q. q) (altered s.mems x (mem_with_place (within y)) (λ z q. q) all))
   does r (CopyGround c m g) s t l w all = at _ t w.2 (atoms_come (map (λ a. (r.head.images.membrane m, a)) (r.copied c)) s all)
   does r (MoveCells m n) s t l w all = at _ t w (moved s (r.head.images.membrane m) (r.head.images.membrane n) all)
+  does r (CopyCells m n) s t l w all = at _ t w.3 (rest_comes s (r.head.images.membrane m) (r.head.images.membrane n) (r.left_atoms m) (r.left_membranes m) w.0 w.1 all)
+  does r (DropCells m) s t l w all = at _ t w.1 (rest_goes s (r.left_atoms m) (r.left_membranes m) all)
   does r (LoadRule m k) s t l w all = at _ t w (rules_come s (r.head.images.membrane m) (k ∷ []) (λ j i. elim i [ inl e ↦ subst P e l | inr v ↦ absurd v ]) all)
   does r (CopyRules m n) s t l w all = at _ t w (rules_come s (r.head.images.membrane n) (rules_in s (r.head.images.membrane m)) (all (r.head.images.membrane m)) all)
   does r (NewLink p q) s t l w all = tie (newlink (new_port r p) (new_port r q)) s t w all

@@ -5,14 +5,14 @@ use Rattle.lmn_guards.proofs.AcceptedLemmas.{in_order}
 use Rattle.lmn_solid.specs.Heads.{atoms_of, typed_contexts_of, membranes_of}
 use Rattle.lmn_instr.specs.declared.instr.Code.{Code}
 use Rattle.lmn_instr.specs.declared.instr.Instr.{Instr}
-use Rattle.lmn_instr.specs.Running.{atoms_set}
+use Rattle.lmn_instr.specs.Running.{atoms_set, membranes_set}
 use Rattle.lmn_compile_head.specs.Accepted.{head_items, rule_head_code, AcceptedHeads}
 use Rattle.lmn_compile_head.specs.Heads.{kind_in}
 use Rattle.lmn_compile_body.specs.Accepted.{AcceptedNested, rule_body_names, rule_body_items, rule_body_code}
 use Rattle.lmn_compile_body.proofs.BodyTrees.{items_few}
 use Rattle.lmn_commit.specs.Orders.{BodiesAreInOrder}
 use Rattle.lmn_commit.specs.Preparing.{BodyInOrder}
-use Rattle.lmn_machine.specs.Searching.{membranes_set, parts_set, integers_set}
+use Rattle.lmn_machine.specs.Searching.{parts_set, integers_set}
 use Rattle.lmn_machine.specs.Costs.{IsTold}
 use Rattle.lmn_matching.specs.AcceptedCode.{AcceptedSetsItems}
 use Rattle.lmn_matching.proofs.Order.{few_of_each}

@@ -9,7 +9,7 @@ use Rattle.lmn_heap.specs.Sound.{Forest, Valid, flat}
 use Rattle.lmn_instr.specs.declared.instr.Code.{Code}
 use Rattle.lmn_instr.specs.declared.instr.Instr.{Instr}
 use Rattle.lmn_instr.specs.declared.instr.Instr.TheVariants.{LoadRule}
-use Rattle.lmn_instr.specs.Running.{HeadRegisters, IsFirstSuccess, atoms_set}
+use Rattle.lmn_instr.specs.Running.{HeadRegisters, IsFirstSuccess, atoms_set, membranes_set}
 use Rattle.lmn_compile_body.specs.Accepted.{IsCompilable}
 use Rattle.lmn_body.specs.Running.{Registers, RunsBody}
 use Rattle.lmn_body.specs.Stopping.{SameButSpares}
@@ -18,7 +18,7 @@ use Rattle.lmn_registers.specs.declared.registers.SetRegisters.{SetRegisters}
 use Rattle.lmn_commit.specs.Matched.{IsMatched, CanBeCommitted}
 use Rattle.lmn_commit.specs.Preparing.{BodyInOrder}
 use Rattle.lmn_machine.specs.Costs.{IsTold, Leaves}
-use Rattle.lmn_machine.specs.Searching.{AreHeldWhole, HeadInOrder, membranes_set, parts_set, integers_set}
+use Rattle.lmn_machine.specs.Searching.{AreHeldWhole, HeadInOrder, parts_set, integers_set}
 use Rattle.lmn_strategy.specs.declared.turning.Turn.{Turn}
 use Rattle.lmn_strategy.specs.declared.turning.Turn.TheVariants.{Committed, Irreducible, Full, NoMemory}
 use Rattle.lmn_compile.specs.Compiled.{AreWhole, IsCompiled, AreCompiled}

@@ -21,7 +21,7 @@ many (Connector left right ∷ xs) = many xs
 many (Copy part link inside ∷ xs) = many xs
 many (Bound integer link inside ∷ xs) = many xs
 many (Membrane inside ∷ xs) = suc (many xs)
-many (Rest of inside ∷ xs) = many xs
+many (Rest of closed inside ∷ xs) = many xs
 many (Rule rule inside ∷ xs) = many xs
 many (Rules of inside ∷ xs) = many xs
 
@@ -33,7 +33,7 @@ many_both (Connector left right ∷ xs) ys = many_both xs ys
 many_both (Copy part link inside ∷ xs) ys = many_both xs ys
 many_both (Bound integer link inside ∷ xs) ys = many_both xs ys
 many_both (Membrane inside ∷ xs) ys = omega (arith, many_both xs ys)
-many_both (Rest of inside ∷ xs) ys = many_both xs ys
+many_both (Rest of closed inside ∷ xs) ys = many_both xs ys
 many_both (Rule rule inside ∷ xs) ys = many_both xs ys
 many_both (Rules of inside ∷ xs) ys = many_both xs ys
 
@@ -45,7 +45,7 @@ past k (Connector left right ∷ xs) = past k xs
 past k (Copy part link inside ∷ xs) = past (k + 1) xs
 past k (Bound integer link inside ∷ xs) = past k xs
 past k (Membrane inside ∷ xs) = past k xs
-past k (Rest of inside ∷ xs) = past k xs
+past k (Rest of closed inside ∷ xs) = past k xs
 past k (Rule rule inside ∷ xs) = past k xs
 past k (Rules of inside ∷ xs) = past k xs
 
@@ -57,7 +57,7 @@ past_both k (Connector left right ∷ xs) ys = past_both k xs ys
 past_both k (Copy part link inside ∷ xs) ys = past_both (k + 1) xs ys
 past_both k (Bound integer link inside ∷ xs) ys = past_both k xs ys
 past_both k (Membrane inside ∷ xs) ys = past_both k xs ys
-past_both k (Rest of inside ∷ xs) ys = past_both k xs ys
+past_both k (Rest of closed inside ∷ xs) ys = past_both k xs ys
 past_both k (Rule rule inside ∷ xs) ys = past_both k xs ys
 past_both k (Rules of inside ∷ xs) ys = past_both k xs ys
 
@@ -68,7 +68,7 @@ Elsewhere s x (Connector left right) = Unit {0}
 Elsewhere s x (Copy part link inside) = at s inside ≢ x
 Elsewhere s x (Bound integer link inside) = at s inside ≢ x
 Elsewhere s x (Membrane inside) = at s inside ≢ x
-Elsewhere s x (Rest of inside) = at s inside ≢ x
+Elsewhere s x (Rest of closed inside) = at s inside ≢ x
 Elsewhere s x (Rule rule inside) = at s inside ≢ x
 Elsewhere s x (Rules of inside) = at s inside ≢ x
 
@@ -110,7 +110,7 @@ module _ (s : Registers) (left copy : ℕ → List SolidAtom) (g : ℕ → ℕ) 
   solid_both k (Copy part link inside ∷ xs) ys x = more (at s inside == x) _ _ _ _ (solid_both (k + 1) xs ys x)
   solid_both k (Bound integer link inside ∷ xs) ys x = more (at s inside == x) _ _ _ _ (solid_both k xs ys x)
   solid_both k (Membrane inside ∷ xs) ys x = solid_both k xs ys x
-  solid_both k (Rest of inside ∷ xs) ys x = more (at s inside == x) _ _ _ _ (solid_both k xs ys x)
+  solid_both k (Rest of closed inside ∷ xs) ys x = more (at s inside == x) _ _ _ _ (solid_both k xs ys x)
   solid_both k (Rule rule inside ∷ xs) ys x = solid_both k xs ys x
   solid_both k (Rules of inside ∷ xs) ys x = solid_both k xs ys x
 
@@ -121,7 +121,7 @@ module _ (s : Registers) (left copy : ℕ → List SolidAtom) (g : ℕ → ℕ) 
   solid_missed k (Copy part link inside ∷ xs) x m = missing (at s inside) x _ _ m.0 (solid_missed (k + 1) xs x m.1)
   solid_missed k (Bound integer link inside ∷ xs) x m = missing (at s inside) x _ _ m.0 (solid_missed k xs x m.1)
   solid_missed k (Membrane inside ∷ xs) x m = solid_missed k xs x m.1
-  solid_missed k (Rest of inside ∷ xs) x m = missing (at s inside) x _ _ m.0 (solid_missed k xs x m.1)
+  solid_missed k (Rest of closed inside ∷ xs) x m = missing (at s inside) x _ _ m.0 (solid_missed k xs x m.1)
   solid_missed k (Rule rule inside ∷ xs) x m = solid_missed k xs x m.1
   solid_missed k (Rules of inside ∷ xs) x m = solid_missed k xs x m.1
 
@@ -143,7 +143,7 @@ module _ (s : Registers) (left : ℕ → List ℕ) where
   mems_both n (Membrane inside ∷ xs) ys x =
       let z : (n + 1) + many xs ≡ n + suc (many xs) = omega arith in
       more (at s inside == x) _ _ _ _ (mems_both (n + 1) xs ys x ∙ ap (λ k. added_mems s left (n + 1) xs x ++ added_mems s left k ys x) z)
-  mems_both n (Rest of inside ∷ xs) ys x = more (at s inside == x) _ _ _ _ (mems_both n xs ys x)
+  mems_both n (Rest of closed inside ∷ xs) ys x = more (at s inside == x) _ _ _ _ (mems_both n xs ys x)
   mems_both n (Rule rule inside ∷ xs) ys x = mems_both n xs ys x
   mems_both n (Rules of inside ∷ xs) ys x = mems_both n xs ys x
 
@@ -154,7 +154,7 @@ module _ (s : Registers) (left : ℕ → List ℕ) where
   mems_missed n (Copy part link inside ∷ xs) x m = mems_missed n xs x m.1
   mems_missed n (Bound integer link inside ∷ xs) x m = mems_missed n xs x m.1
   mems_missed n (Membrane inside ∷ xs) x m = missing (at s inside) x _ _ m.0 (mems_missed (n + 1) xs x m.1)
-  mems_missed n (Rest of inside ∷ xs) x m = missing (at s inside) x _ _ m.0 (mems_missed n xs x m.1)
+  mems_missed n (Rest of closed inside ∷ xs) x m = missing (at s inside) x _ _ m.0 (mems_missed n xs x m.1)
   mems_missed n (Rule rule inside ∷ xs) x m = mems_missed n xs x m.1
   mems_missed n (Rules of inside ∷ xs) x m = mems_missed n xs x m.1
 
@@ -170,7 +170,7 @@ module _ (s : Registers) (rules : ℕ → List ℕ) where
   rules_both (Copy part link inside ∷ xs) ys x = rules_both xs ys x
   rules_both (Bound integer link inside ∷ xs) ys x = rules_both xs ys x
   rules_both (Membrane inside ∷ xs) ys x = rules_both xs ys x
-  rules_both (Rest of inside ∷ xs) ys x = rules_both xs ys x
+  rules_both (Rest of closed inside ∷ xs) ys x = rules_both xs ys x
   rules_both (Rule rule inside ∷ xs) ys x = more (at s inside == x) _ _ _ _ (rules_both xs ys x)
   rules_both (Rules of inside ∷ xs) ys x = more (at s inside == x) _ _ _ _ (rules_both xs ys x)
 
@@ -181,7 +181,7 @@ module _ (s : Registers) (rules : ℕ → List ℕ) where
   rules_missed (Copy part link inside ∷ xs) x m = rules_missed xs x m.1
   rules_missed (Bound integer link inside ∷ xs) x m = rules_missed xs x m.1
   rules_missed (Membrane inside ∷ xs) x m = rules_missed xs x m.1
-  rules_missed (Rest of inside ∷ xs) x m = rules_missed xs x m.1
+  rules_missed (Rest of closed inside ∷ xs) x m = rules_missed xs x m.1
   rules_missed (Rule rule inside ∷ xs) x m = missing (at s inside) x _ _ m.0 (rules_missed xs x m.1)
   rules_missed (Rules of inside ∷ xs) x m = missing (at s inside) x _ _ m.0 (rules_missed xs x m.1)
 

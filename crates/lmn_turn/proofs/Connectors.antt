@@ -64,7 +64,7 @@ connectors_both (Connector left right ∷ xs) ys = ap (λ z. (left, right) ∷ z
 connectors_both (Copy part link inside ∷ xs) ys = connectors_both xs ys
 connectors_both (Bound integer link inside ∷ xs) ys = connectors_both xs ys
 connectors_both (Membrane inside ∷ xs) ys = connectors_both xs ys
-connectors_both (Rest of inside ∷ xs) ys = connectors_both xs ys
+connectors_both (Rest of closed inside ∷ xs) ys = connectors_both xs ys
 connectors_both (Rule k inside ∷ xs) ys = connectors_both xs ys
 connectors_both (Rules of inside ∷ xs) ys = connectors_both xs ys
 

@@ -101,7 +101,7 @@ module _ (h h' : Heap) (c number : Port → ℕ) (s : Registers) (g : ℕ → �
       )
   each_known n D (Bound integer link inside ∷ xs) a k f links e b = each_known n D xs (a + 1) k f (λ d i. links d (inr i)) e b
   each_known n D (Membrane inside ∷ xs) a k f links e b = each_known n D xs a k f links e b
-  each_known n D (Rest of inside ∷ xs) a k f links e b = each_known n D xs a k f links e b
+  each_known n D (Rest of closed inside ∷ xs) a k f links e b = each_known n D xs a k f links e b
   each_known n D (Rule rule inside ∷ xs) a k f links e b = each_known n D xs a k f links e b
   each_known n D (Rules of inside ∷ xs) a k f links e b = each_known n D xs a k f links e b
 

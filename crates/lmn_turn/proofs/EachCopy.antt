@@ -12,7 +12,7 @@ EachCopy P k (Connector left right ∷ xs) = EachCopy P k xs
 EachCopy P k (Copy part link inside ∷ xs) = P k part link × EachCopy P (k + 1) xs
 EachCopy P k (Bound integer link inside ∷ xs) = EachCopy P k xs
 EachCopy P k (Membrane inside ∷ xs) = EachCopy P k xs
-EachCopy P k (Rest of inside ∷ xs) = EachCopy P k xs
+EachCopy P k (Rest of closed inside ∷ xs) = EachCopy P k xs
 EachCopy P k (Rule rule inside ∷ xs) = EachCopy P k xs
 EachCopy P k (Rules of inside ∷ xs) = EachCopy P k xs
 
@@ -24,6 +24,6 @@ each_both P k (Connector left right ∷ xs) ys e = each_both P k xs ys e
 each_both P k (Copy part link inside ∷ xs) ys e = let u = each_both P (k + 1) xs ys e.1 in ((e.0, u.0), u.1)
 each_both P k (Bound integer link inside ∷ xs) ys e = each_both P k xs ys e
 each_both P k (Membrane inside ∷ xs) ys e = each_both P k xs ys e
-each_both P k (Rest of inside ∷ xs) ys e = each_both P k xs ys e
+each_both P k (Rest of closed inside ∷ xs) ys e = each_both P k xs ys e
 each_both P k (Rule rule inside ∷ xs) ys e = each_both P k xs ys e
 each_both P k (Rules of inside ∷ xs) ys e = each_both P k xs ys e

@@ -1,14 +1,14 @@
 -- What the code of a body makes is new, and the root stays.
 use Rattle.std.proofs.Common.{ℕ, ◌≡◌, ◌+◌, Bool, true, false, List, [], ◌∷◌, ◌++◌, map, length, Option, Some, None, refl, ap, subst, ◌∙◌}
 use Rattle.std.specs.Prelude.{◌==◌, ◌&&◌, cond}
-use Rattle.lmn_heap.specs.Heap.{Heap, link_of, taken, placed, joined, taken_all}
+use Rattle.lmn_heap.specs.Heap.{Heap, link_of, parent_of, atoms_in, made_mem, reserved, taken, taken_mem, placed, placed_mem, rules_copied, joined, taken_all}
 use Rattle.lmn_heap.specs.Splice.{joined_to, joined_both}
 use Rattle.lmn_solid.specs.declared.items.HeadItem.{HeadItem}
 use Rattle.lmn_solid.specs.Heads.{atoms_of, membranes_of, typed_contexts_of}
 use Rattle.lmn_splice.specs.Classes.{class_of, rising}
 use Rattle.lmn_splice.specs.Ties.{Tie, newlink, relink, unify}
 use Rattle.lmn_instr.specs.declared.instr.Instr.{Instr}
-use Rattle.lmn_instr.specs.declared.instr.Instr.TheVariants.{RemoveAtom, RemovePart, RemoveMem, NewAtom, NewInt, NewMem, CopyGround, MoveCells, LoadRule, CopyRules, NewLink, Relink, Unify, Proceed}
+use Rattle.lmn_instr.specs.declared.instr.Instr.TheVariants.{RemoveAtom, RemovePart, RemoveMem, NewAtom, NewInt, NewMem, CopyGround, MoveCells, CopyCells, LoadRule, CopyRules, DropCells, NewLink, Relink, Unify, Proceed}
 use Rattle.lmn_body.specs.declared.items.BodyItem.{BodyItem}
 use Rattle.lmn_body.specs.Added.{made_mems}
 use Rattle.lmn_body.specs.Code.{body_code, making, removals, links_code}
@@ -16,7 +16,12 @@ use Rattle.lmn_body.specs.Items.{new_ports, old_ports, connectors}
 use Rattle.lmn_body.specs.Running.{Registers, Prepares, DoesAll, RunsBody, Makes, Does, all_placed, new_port, old_port}
 use Rattle.lmn_body.specs.Tied.{tied}
 use Rattle.lmn_body.proofs.Coding.{prepares_append, prepares_taken}
-use Rattle.lmn_body.proofs.Preparing.{MemsMade, making_mems}
+use Rattle.lmn_body.proofs.MemsMade.{MemsMade}
+use Rattle.lmn_body.proofs.Preparing.{making_mems}
+use Rattle.lmn_body.proofs.RestMems.{like_mems}
+use Rattle.lmn_body.proofs.RestsMade.{joined_lines}
+use Rattle.lmn_parts.specs.Copies.{answer, made_like, ports_of}
+use Rattle.lmn_parts.specs.Rests.{made_roomy, rest_copied, atoms_placed, membrane_placed, membranes_placed, copy_round, rest_placed, all_mems_taken}
 use Rattle.lmn_base.specs.Graphs.{Port}
 use Rattle.lmn_body.proofs.Parts.{no_part_prepares as part_prepares}
 use Rattle.lmn_body.proofs.Removing.{prepares_taken_mems as mem_prepares}
@@ -49,6 +54,35 @@ tied_root (newlink p q) s = refl
 tied_root (relink p o) s = to_root s p.0 p.1 (link_of s o.0 o.1)
 tied_root (unify g o) s = both_root s o.0 o.1 (link_of s g.0 g.1) (link_of s o.0 o.1)
 
+-- a rest is copied, placed and dropped beside it
+roomy_root : (es : List (ℕ × ℕ)) (s : Heap) → (made_roomy s es).root ≡ s.root
+roomy_root [] s = refl
+roomy_root (e ∷ es) s = roomy_root es (reserved (made_mem s e.0) e.0 e.1)
+
+rest_made_root : (s : Heap) (xs ys : List ℕ) (rooms : List (ℕ × ℕ)) → (rest_copied s xs rooms ys).root ≡ s.root
+rest_made_root s xs ys rooms =
+    let t = made_roomy s rooms in
+    let like = made_like t xs ys in
+    (joined_lines (answer xs ys) like (ports_of like xs)).3 ∙ (like_mems xs ys t).2 ∙ roomy_root rooms s
+
+copies_root : (copy : ℕ → ℕ) (n : ℕ) (xs : List ℕ) (s : Heap) → (atoms_placed copy s n xs).root ≡ s.root
+copies_root copy n [] s = refl
+copies_root copy n (a ∷ xs) s = copies_root copy n xs (placed s n (copy a))
+
+membranes_root : (copy_mem copy : ℕ → ℕ) (ms : List ℕ) (s : Heap) → (membranes_placed copy_mem copy s ms).root ≡ s.root
+membranes_root copy_mem copy [] s = refl
+membranes_root copy_mem copy (m ∷ ms) s =
+    membranes_root copy_mem copy ms (membrane_placed copy_mem copy s m)
+    ∙ copies_root copy (copy_mem m) (atoms_in s m) (rules_copied (placed_mem s (copy_round copy_mem (parent_of s m)) (copy_mem m)) m (copy_mem m))
+
+rest_placed_root : (s : Heap) (m n : ℕ) (atoms ms copies new_ms : List ℕ) → (rest_placed s m n atoms ms copies new_ms).root ≡ s.root
+rest_placed_root s m n atoms ms copies new_ms =
+    membranes_root (answer (m ∷ ms) (n ∷ new_ms)) (answer atoms copies) ms (atoms_placed (answer atoms copies) s n (atoms_in s m)) ∙ copies_root (answer atoms copies) n (atoms_in s m) s
+
+mems_taken_root : (ms : List ℕ) (s : Heap) → (all_mems_taken s ms).root ≡ s.root
+mems_taken_root [] s = refl
+mems_taken_root (m ∷ ms) s = mems_taken_root ms (taken_mem s m)
+
 makes_root : (r : Registers) (i : Instr) (s t : Heap) → Makes r i s t → t.root ≡ s.root
 makes_root r (RemoveAtom a) s t w = ap (λ z. z.root) w
 makes_root r (RemovePart g) s t w = ap (λ z. z.root) w
@@ -58,6 +92,8 @@ makes_root r (NewInt a m v) s t w = ap (λ z. z.root) w.1
 makes_root r (NewMem m n) s t w = ap (λ z. z.root) w.1
 makes_root r (CopyGround c m g) s t w = w.0.beside.root
 makes_root r (MoveCells m n) s t w = ap (λ z. z.root) w
+makes_root r (CopyCells m n) s t w = ap (λ z. z.root) w.2.is ∙ rest_made_root s (r.left_atoms m) w.0 w.1
+makes_root r (DropCells m) s t w = ap (λ z. z.root) w
 makes_root r (LoadRule m k) s t w = ap (λ z. z.root) w.1
 makes_root r (CopyRules m n) s t w = ap (λ z. z.root) w.1
 makes_root r (NewLink p q) s t w = ap (λ z. z.root) w
@@ -75,6 +111,8 @@ does_root r (NewInt a m v) s t w = ap (λ z. z.root) w.1
 does_root r (NewMem m n) s t w = ap (λ z. z.root) w.1
 does_root r (CopyGround c m g) s t w = ap (λ z. z.root) w.2 ∙ placed_root (map (λ a. (r.head.images.membrane m, a)) (r.copied c)) s
 does_root r (MoveCells m n) s t w = ap (λ z. z.root) w
+does_root r (CopyCells m n) s t w = ap (λ z. z.root) w.3 ∙ rest_placed_root s (r.head.images.membrane m) (r.head.images.membrane n) (r.left_atoms m) (r.left_membranes m) w.0 w.1
+does_root r (DropCells m) s t w = ap (λ z. z.root) w.1 ∙ (mems_taken_root (r.left_membranes m) (taken_all s (r.left_atoms m)) ∙ taken_root (r.left_atoms m) s)
 does_root r (LoadRule m k) s t w = ap (λ z. z.root) w
 does_root r (CopyRules m n) s t w = ap (λ z. z.root) w
 does_root r (NewLink p q) s t w = ap (λ z. z.root) w

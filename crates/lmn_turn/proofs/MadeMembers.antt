@@ -26,7 +26,7 @@ in_made s n (Membrane inside ∷ xs) j a b = elim (cases_eq j n) [
   | inl e ↦ inl (ap (at s) (sym e))
   | inr d ↦ inr (in_made s (n + 1) xs j (omega (arith, a, d)) (omega (arith, b)))
 ]
-in_made s n (Rest of inside ∷ xs) j a b = in_made s n xs j a b
+in_made s n (Rest of closed inside ∷ xs) j a b = in_made s n xs j a b
 in_made s n (Rule rule inside ∷ xs) j a b = in_made s n xs j a b
 in_made s n (Rules of inside ∷ xs) j a b = in_made s n xs j a b
 
@@ -47,6 +47,6 @@ made_apart s n (Membrane inside ∷ xs) d j k a b a' b' e = elim (cases_eq j n) 
     | inr q ↦ made_apart s (n + 1) xs d.1 j k (omega (arith, a, p)) (omega (arith, b)) (omega (arith, a', q)) (omega (arith, b')) e
   ]
 ]
-made_apart s n (Rest of inside ∷ xs) d j k a b a' b' e = made_apart s n xs d j k a b a' b' e
+made_apart s n (Rest of closed inside ∷ xs) d j k a b a' b' e = made_apart s n xs d j k a b a' b' e
 made_apart s n (Rule rule inside ∷ xs) d j k a b a' b' e = made_apart s n xs d j k a b a' b' e
 made_apart s n (Rules of inside ∷ xs) d j k a b a' b' e = made_apart s n xs d j k a b a' b' e

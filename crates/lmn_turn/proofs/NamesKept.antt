@@ -49,7 +49,7 @@ new_from s a c (Copy part link inside ∷ xs) b i = elim (in_either b (s.copied 
   | inr j ↦ elim (new_from s a (c + 1) xs b j) [ inl w ↦ inl w | inr w ↦ inr (w.0, inr w.1, w.2) ]
 ]
 new_from s a c (Membrane inside ∷ xs) b i = new_from s a c xs b i
-new_from s a c (Rest of inside ∷ xs) b i = new_from s a c xs b i
+new_from s a c (Rest of closed inside ∷ xs) b i = new_from s a c xs b i
 new_from s a c (Rule k inside ∷ xs) b i = new_from s a c xs b i
 new_from s a c (Rules of inside ∷ xs) b i = new_from s a c xs b i
 
@@ -62,7 +62,7 @@ module _ (names : List (List ℕ)) where
   ItemNamed (Copy part link inside) = Unit {0}
   ItemNamed (Bound integer link inside) = Unit {0}
   ItemNamed (Membrane inside) = Unit {0}
-  ItemNamed (Rest of inside) = Unit {0}
+  ItemNamed (Rest of closed inside) = Unit {0}
   ItemNamed (Rule k inside) = Unit {0}
   ItemNamed (Rules of inside) = Unit {0}
 
@@ -99,7 +99,7 @@ module _ (names : List (List ℕ)) where
   made_named s a (Connector left right ∷ xs) n b i = made_named s a xs n.1 b i
   made_named s a (Copy part link inside ∷ xs) n b i = made_named s a xs n.1 b i
   made_named s a (Membrane inside ∷ xs) n b i = made_named s a xs n.1 b i
-  made_named s a (Rest of inside ∷ xs) n b i = made_named s a xs n.1 b i
+  made_named s a (Rest of closed inside ∷ xs) n b i = made_named s a xs n.1 b i
   made_named s a (Rule k inside ∷ xs) n b i = made_named s a xs n.1 b i
   made_named s a (Rules of inside ∷ xs) n b i = made_named s a xs n.1 b i
 

@@ -35,7 +35,7 @@ module _ (P : ℕ → Type 0) where
   Written (Copy part link inside) = Unit {0}
   Written (Bound integer link inside) = Unit {0}
   Written (Membrane inside) = Unit {0}
-  Written (Rest of inside) = Unit {0}
+  Written (Rest of closed inside) = Unit {0}
   Written (Rule k inside) = P k
   Written (Rules of inside) = Unit {0}
 
@@ -101,7 +101,7 @@ module _ (P : ℕ → Type 0) where
   rule_from s rules (Copy part link inside ∷ xs) x k w i = rule_from s rules xs x k w.1 i
   rule_from s rules (Bound integer link inside ∷ xs) x k w i = rule_from s rules xs x k w.1 i
   rule_from s rules (Membrane inside ∷ xs) x k w i = rule_from s rules xs x k w.1 i
-  rule_from s rules (Rest of inside ∷ xs) x k w i = rule_from s rules xs x k w.1 i
+  rule_from s rules (Rest of closed inside ∷ xs) x k w i = rule_from s rules xs x k w.1 i
   rule_from s rules (Rule j inside ∷ xs) x k w i = elim (in_either k (if_inside s x inside (j ∷ [])) (added_rules s rules xs x) i) [
     | inl a ↦ elim (in_if s x inside (j ∷ []) k a) [ inl e ↦ inr (subst P e w.0) | inr b ↦ absurd b ]
     | inr a ↦ rule_from s rules xs x k w.1 a

@@ -1,11 +1,11 @@
-use Rattle.std.proofs.Common.{ℕ, ◌≡◌, ◌≤◌, Some, length, drop}
+use Rattle.std.proofs.Common.{◌≡◌, ◌≤◌, Some, length, drop}
 use Rattle.std.specs.Prelude.{IfSome}
 use Rattle.std.specs.Option.{option_map}
 use Rattle.lmn_base.specs.Lists.{In}
 use Rattle.lmn_heap.specs.Lists.{from}
 use Rattle.lmn_heap.specs.Heap.{functor_of, home_of, atoms_in}
 use Rattle.lmn_heap.specs.Functors.{with_functor}
-use Rattle.lmn_instr.specs.Running.{HeadRegisters, AllHold}
+use Rattle.lmn_instr.specs.Running.{HeadRegisters, HeadSize, AllHold}
 use Rattle.lmn_registers.specs.Agreeing.{Agrees}
 use Rattle.lmn_machine.proofs.ahead.fitting_atom.Given as goal
 
@@ -15,7 +15,7 @@ invariant-loop-candidate g l = record {
   home : IfSome l.candidate (λ a. home_of (g.S.LinkStore.heap l.fn.store) (g.S.LinkStore.atom_id a) ≡ Some (g.S.LinkStore.mem_id l.fn.place));
   further : let all = with_functor (g.S.LinkStore.heap l.fn.store) l.fn.functor (atoms_in (g.S.LinkStore.heap l.fn.store) (g.S.LinkStore.mem_id l.fn.place)) in
       length (from (option_map g.S.LinkStore.atom_id l.candidate) all) ≤ length (from (option_map g.S.LinkStore.atom_id l.fn.start) all);
-  left : (c : ℕ) (s : HeadRegisters) → Agrees g.S.LinkStore.atom_id g.S.LinkStore.mem_id l.fn.set s → AllHold (g.S.LinkStore.heap l.fn.store) c s (drop l.fn.at l.fn.code) →
+  left : (c : HeadSize) (s : HeadRegisters) → Agrees g.S.LinkStore.atom_id g.S.LinkStore.mem_id l.fn.set s → AllHold (g.S.LinkStore.heap l.fn.store) c s (drop l.fn.at l.fn.code) →
       let all = with_functor (g.S.LinkStore.heap l.fn.store) l.fn.functor (atoms_in (g.S.LinkStore.heap l.fn.store) (g.S.LinkStore.mem_id l.fn.place)) in
       In (s.images.atom (length l.fn.set.atoms)) (from (option_map g.S.LinkStore.atom_id l.fn.start) all) → In (s.images.atom (length l.fn.set.atoms)) (from (option_map g.S.LinkStore.atom_id l.candidate) all);
 }

@@ -3,6 +3,7 @@ use Rattle.std.specs.Prelude.{IfSome}
 use Rattle.lmn_heap.specs.Heap.{Heap}
 use Rattle.lmn_instr.specs.Running.{HeadRegisters}
 use Rattle.lmn_registers.specs.Agreeing.{Agrees}
+use Rattle.lmn_commit.specs.Registers.{HasRests}
 use Rattle.lmn_heap.specs.Sound.{Forest, IsTree, flat, item_count_in}
 use Rattle.lmn_machine.specs.Costs.{AddsItems, IsSize, TakesItems}
 use Rattle.lmn_machine.proofs.Calling.{drop_at, drop_none}
@@ -15,8 +16,8 @@ loop-i-init g c = record {
   added_few = omega arith;
   taken_few = omega arith;
   kept = tt;
-  adds = λ s a. sum_first (AddsItems (g.S.LinkStore.heap c.args.store.now) s) c.args.body.now (drop 0 c.args.body.now) 0 refl refl;
-  takes = λ s a. sum_first (TakesItems (g.S.LinkStore.heap c.args.store.now) s) c.args.body.now (drop 0 c.args.body.now) 0 refl refl;
+  adds = λ s a r. sum_first (AddsItems (g.S.LinkStore.heap c.args.store.now) s) c.args.body.now (drop 0 c.args.body.now) 0 refl refl;
+  takes = λ s a r. sum_first (TakesItems (g.S.LinkStore.heap c.args.store.now) s) c.args.body.now (drop 0 c.args.body.now) 0 refl refl;
 }
 
 pub loop-i-preserved : goal.loop-i-preserved
@@ -32,20 +33,20 @@ loop-i-preserved g c =
       added_few = omega (arith, a);
       taken_few = omega (arith, t, few);
       kept = subst (λ (h : Heap). IfSome c.taken-all_taken.new.kept (λ k. (s : HeadRegisters) → Agrees g.S.LinkStore.atom_id g.S.LinkStore.mem_id c.args.set.now s → IsSize h (s.images.part k.part) k.atoms)) (c.added.ensures.same ∙ c.loop-i.invariant.same) c.taken-all_taken.ensures.kept;
-      adds = λ s g'. sum_next (AddsItems (g.S.LinkStore.heap c.args.store.now) s) c.args.body.now (drop c.loop-i.i c.args.body.now) (drop (c.loop-i.i + 1) c.args.body.now) c.index-body-i.result c.loop-i.all_added c.added.result _ ahead
-          (subst (λ h. AddsItems h s c.index-body-i.result c.added.result) c.loop-i.invariant.same (c.added.ensures.adds s g')) (omega (arith, from)) (c.loop-i.invariant.adds s g');
-      takes = λ s g'. sum_next (TakesItems (g.S.LinkStore.heap c.args.store.now) s) c.args.body.now (drop c.loop-i.i c.args.body.now) (drop (c.loop-i.i + 1) c.args.body.now) c.index-body-i-in-loop-i.result c.loop-i.all_taken c.taken-all_taken.result _ again
-          (subst (λ h. TakesItems h s c.index-body-i-in-loop-i.result c.taken-all_taken.result) (c.added.ensures.same ∙ c.loop-i.invariant.same) (c.taken-all_taken.ensures.takes s g')) refl (c.loop-i.invariant.takes s g');
+      adds = λ s a' r. sum_next (AddsItems (g.S.LinkStore.heap c.args.store.now) s) c.args.body.now (drop c.loop-i.i c.args.body.now) (drop (c.loop-i.i + 1) c.args.body.now) c.index-body-i.result c.loop-i.all_added c.added.result _ ahead
+          (subst (λ h. AddsItems h s c.index-body-i.result c.added.result) c.loop-i.invariant.same (c.added.ensures.adds s a' (subst (λ (h : Heap). HasRests g.S.LinkStore.atom_id g.S.LinkStore.mem_id h c.args.set.now s) (sym c.loop-i.invariant.same) r))) (omega (arith, from)) (c.loop-i.invariant.adds s a' r);
+      takes = λ s a' r. sum_next (TakesItems (g.S.LinkStore.heap c.args.store.now) s) c.args.body.now (drop c.loop-i.i c.args.body.now) (drop (c.loop-i.i + 1) c.args.body.now) c.index-body-i-in-loop-i.result c.loop-i.all_taken c.taken-all_taken.result _ again
+          (subst (λ h. TakesItems h s c.index-body-i-in-loop-i.result c.taken-all_taken.result) (c.added.ensures.same ∙ c.loop-i.invariant.same) (c.taken-all_taken.ensures.takes s a' (subst (λ (h : Heap). HasRests g.S.LinkStore.atom_id g.S.LinkStore.mem_id h c.args.set.now s) (sym (c.added.ensures.same ∙ c.loop-i.invariant.same)) r))) refl (c.loop-i.invariant.takes s a' r);
     }
 
 pub returns-clause-left : goal.returns-clause-left
-returns-clause-left g c = λ s n a l.
+returns-clause-left g c = λ s n a r l.
     (let h = g.S.LinkStore.heap c.args.store.now in
     let f = c.requires.valid.tree.0 in
     let tree = c.requires.valid.tree.1 in
     let none = drop_none c.args.body.now c.loop-i.i (omega arith) in
-    let adds = sum_last (AddsItems h s) c.args.body.now (drop c.loop-i.i c.args.body.now) c.loop-i.all_added none (c.loop-i.invariant.adds s a) in
-    let takes = sum_last (TakesItems h s) c.args.body.now (drop c.loop-i.i c.args.body.now) c.loop-i.all_taken none (c.loop-i.invariant.takes s a) in
+    let adds = sum_last (AddsItems h s) c.args.body.now (drop c.loop-i.i c.args.body.now) c.loop-i.all_added none (c.loop-i.invariant.adds s a r) in
+    let takes = sum_last (TakesItems h s) c.args.body.now (drop c.loop-i.i c.args.body.now) c.loop-i.all_taken none (c.loop-i.invariant.takes s a r) in
     let count = subst (λ k. (e : Forest) → IsTree k e → c.items.result + 1 ≡ item_count_in k (flat e)) c.loop-i.invariant.same c.items.ensures f tree in
     c.capped.ensures n (left_over h s c.args.body.now n c.items.result c.loop-i.all_added c.loop-i.all_taken f tree count adds takes l))
 

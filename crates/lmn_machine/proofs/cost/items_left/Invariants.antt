@@ -1,6 +1,8 @@
 use Rattle.std.proofs.Common.{◌≡◌, ◌≤◌, ◌*◌, ◌^◌, drop}
 use Rattle.std.specs.Prelude.{IfSome}
 use Rattle.lmn_instr.specs.Running.{HeadRegisters}
+use Rattle.lmn_body.specs.Running.{Registers}
+use Rattle.lmn_commit.specs.Registers.{HasRests}
 use Rattle.lmn_registers.specs.Agreeing.{Agrees}
 use Rattle.lmn_machine.specs.Costs.{AddsItems, IsSize, TakesItems}
 use Rattle.lmn_machine.proofs.Costing.{SoFar}
@@ -12,6 +14,6 @@ invariant-loop-i g l = record {
   added_few : l.all_added ≤ l.i * (2 ^ 64);
   taken_few : l.all_taken ≤ l.i * (2 ^ 64);
   kept : IfSome l.kept (λ k. (s : HeadRegisters) → Agrees g.S.LinkStore.atom_id g.S.LinkStore.mem_id l.set s → IsSize (g.S.LinkStore.heap l.fn.store) (s.images.part k.part) k.atoms);
-  adds : (s : HeadRegisters) → Agrees g.S.LinkStore.atom_id g.S.LinkStore.mem_id l.set s → SoFar (AddsItems (g.S.LinkStore.heap l.fn.store) s) l.body (drop l.i l.body) l.all_added;
-  takes : (s : HeadRegisters) → Agrees g.S.LinkStore.atom_id g.S.LinkStore.mem_id l.set s → SoFar (TakesItems (g.S.LinkStore.heap l.fn.store) s) l.body (drop l.i l.body) l.all_taken;
+  adds : (r : Registers) → Agrees g.S.LinkStore.atom_id g.S.LinkStore.mem_id l.set r.head → HasRests g.S.LinkStore.atom_id g.S.LinkStore.mem_id (g.S.LinkStore.heap l.fn.store) l.set r → SoFar (AddsItems (g.S.LinkStore.heap l.fn.store) r) l.body (drop l.i l.body) l.all_added;
+  takes : (r : Registers) → Agrees g.S.LinkStore.atom_id g.S.LinkStore.mem_id l.set r.head → HasRests g.S.LinkStore.atom_id g.S.LinkStore.mem_id (g.S.LinkStore.heap l.fn.store) l.set r → SoFar (TakesItems (g.S.LinkStore.heap l.fn.store) r) l.body (drop l.i l.body) l.all_taken;
 }

@@ -1,6 +1,6 @@
 use Rattle.lmn_machine.proofs.Stepping.{deref_stepped, asks_no_part}
 use Rattle.lmn_machine.proofs.Lone.{unary_stepped, int_stepped}
-use Rattle.lmn_machine.proofs.Contexts.{ground_stepped, equal_stepped, differ_stepped, others_stepped}
+use Rattle.lmn_machine.proofs.Contexts.{ground_stepped, equal_stepped, differ_stepped, others_stepped, closed_stepped}
 use Rattle.lmn_machine.proofs.steps.step.Goals as goal
 
 pub returns-in-Deref-clause-stepped : goal.returns-in-Deref-clause-stepped
@@ -39,9 +39,14 @@ returns-in-NeqGround-clause-stepped g c =
     differ_stepped g.S.LinkStore.atom_id g.S.LinkStore.mem_id (g.S.LinkStore.heap c.args.store.now) c.args.set.now c.are_different.result c.args.instr.now _ _ _ _ c.in-NeqGround.is c.requires.held c.at-root-in-NeqGround.ensures c.at-other_root-in-NeqGround.ensures c.are_different.ensures.different
 
 pub compute-requires-clause-no_part : goal.compute-requires-clause-no_part
-compute-requires-clause-no_part g c = asks_no_part c.args.instr.now c.requires.no_choice c.in_default.not-Deref c.in_default.not-IsInt c.in_default.not-IsUnary c.in_default.not-IsGround c.in_default.not-EqGround c.in_default.not-NeqGround c.in_default.not-NAtoms
+compute-requires-clause-no_part g c = asks_no_part c.args.instr.now c.requires.no_choice c.in_default.not-Deref c.in_default.not-IsInt c.in_default.not-IsUnary c.in_default.not-IsGround c.in_default.not-EqGround c.in_default.not-NeqGround c.in_default.not-NAtoms c.in_default.not-IsClosed
 
 pub returns-in-NAtoms-clause-stepped : goal.returns-in-NAtoms-clause-stepped
 returns-in-NAtoms-clause-stepped g c =
     others_stepped g.S.LinkStore.atom_id g.S.LinkStore.mem_id (g.S.LinkStore.heap c.args.store.now) c.args.set.now c.has_others.result c.args.instr.now _ _ _ c.as_slice.result.now _ c.in-NAtoms.is c.as_slice.ensures c.requires.held c.at-place-in-NAtoms.ensures
     (λ s a. c.has_others.ensures.others s (record { atoms = a.atoms; membranes = a.membranes; parts = a.parts; integers = a.integers }))
+
+pub returns-in-IsClosed-clause-stepped : goal.returns-in-IsClosed-clause-stepped
+returns-in-IsClosed-clause-stepped g c =
+    closed_stepped g.S.LinkStore.atom_id g.S.LinkStore.mem_id (g.S.LinkStore.heap c.args.store.now) c.args.set.now c.is_closed.result c.args.instr.now _ _ c.as_slice-in-IsClosed.result.now _ c.in-IsClosed.is c.as_slice-in-IsClosed.ensures c.requires.held c.at-place-in-IsClosed.ensures
+    (λ d s y n k a. c.is_closed.ensures.closed d s y n k (record { atoms = a.atoms; membranes = a.membranes; parts = a.parts; integers = a.integers }))

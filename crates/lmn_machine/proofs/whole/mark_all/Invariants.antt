@@ -1,6 +1,6 @@
 use Rattle.std.proofs.Common.{◌≡◌, drop, map}
 use Rattle.lmn_commit.specs.Registers.{AreAtomHandles}
-use Rattle.lmn_machine.specs.Searching.{own_marked}
+use Rattle.lmn_ground.specs.Rests.{own_marked}
 use Rattle.lmn_machine.proofs.whole.mark_all.Given as goal
 
 abbrev pub invariant-loop-i : goal.invariant-loop-i
