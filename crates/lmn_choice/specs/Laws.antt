@@ -76,14 +76,14 @@ CostsAreItems = (table : List RuleTree) (plans : List GuardPlan) (codes : List C
     (h : Heap) (r : HeapReading) (inner : Forest) → IsReadWith h r inner table →
     (from : ℕ) (code : Code) (s : Registers) → IsChosen from codes h inner code s → (h' : Heap) → RunsBody s code.body h h' →
     (r' : HeapReading) (inner' : Forest) → IsRead h' r' → IsTree h' (tree_over h' inner') →
-    (k : ℕ) → Leaves h s.head code.body k ↔ (item_count_of_region (heap_region h' r' inner') ≡ k)
+    (k : ℕ) → Leaves h s code.body k ↔ (item_count_of_region (heap_region h' r' inner') ≡ k)
 
 -- So before anything runs, what is chosen has a next region with as many items as its cost tells, numbered in printed order.
 abbrev pub CostsAreTold : Type 0
 CostsAreTold = (table : List RuleTree) (plans : List GuardPlan) (codes : List Code) → HaveCodes table plans codes →
     (h : Heap) (r : HeapReading) (inner : Forest) → IsReadWith h r inner table → IsTable r table →
     (from : ℕ) (code : Code) (s : Registers) → IsChosen from codes h inner code s →
-    (k : ℕ) → Leaves h s.head code.body k → (S' : Region) × NextFrom from (heap_region h r inner) S' × IsNumbered S' × (item_count_of_region S' ≡ k)
+    (k : ℕ) → Leaves h s code.body k → (S' : Region) × NextFrom from (heap_region h r inner) S' × IsNumbered S' × (item_count_of_region S' ≡ k)
 
 -- The links of a heap can have the numbers of printed order.
 abbrev pub HeapsAreNumbered : Type 0
@@ -119,9 +119,9 @@ pub record TurnsAgree (table : List RuleTree) (plans : List GuardPlan) (codes : 
   pub next : (code : Code) (s : Registers) → IsChosen from codes h inner code s →
       (h' : Heap) → RunsBody s code.body h h' → IsNextHeap from h r inner table h'
   pub told : (code : Code) (s : Registers) → IsChosen from codes h inner code s →
-      (k : ℕ) → Leaves h s.head code.body k → (S' : Region) × NextFrom from (heap_region h r inner) S' × IsNumbered S' × (item_count_of_region S' ≡ k)
+      (k : ℕ) → Leaves h s code.body k → (S' : Region) × NextFrom from (heap_region h r inner) S' × IsNumbered S' × (item_count_of_region S' ≡ k)
   pub items : (code : Code) (s : Registers) → IsChosen from codes h inner code s → (h' : Heap) → RunsBody s code.body h h' →
-      (n : IsNextHeap from h r inner table h') (k : ℕ) → Leaves h s.head code.body k → item_count_of_region (heap_region h' (renumbered_reading r n.number) n.forest) ≡ k
+      (n : IsNextHeap from h r inner table h') (k : ℕ) → Leaves h s code.body k → item_count_of_region (heap_region h' (renumbered_reading r n.number) n.forest) ≡ k
 
 abbrev pub TurnsAreAlike : Type 0
 TurnsAreAlike = (table : List RuleTree) (plans : List GuardPlan) (codes : List Code) → HaveCodes table plans codes →

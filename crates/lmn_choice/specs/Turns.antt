@@ -16,6 +16,7 @@ use Rattle.lmn_bridge.specs.HeapRegions.{HeapReading, region_at}
 use Rattle.lmn_bridge.specs.Laws.{heap_process}
 use Rattle.lmn_bridge.specs.Premises.{IsRead, HasRules}
 use Rattle.lmn_strategy.specs.Choosing.{IsFirstIn, asked}
+use Rattle.lmn_strategy.specs.Turns.{HoldsRestsOf}
 use Rattle.lmn_compile.specs.Compiled.{AreWhole, AreCompiled}
 use Rattle.lmn_turn.specs.Commits.{IsTable}
 use Rattle.lmn_turn.specs.Turning.{Leads, renumbered_reading}
@@ -48,7 +49,7 @@ pub record IsReadWith (h : Heap) (r : HeapReading) (inner : Forest) (table : Lis
   pub rules : HasRules h r table
 
 -- Where membranes are asked from a number on, this code is that of the first rule whose head code succeeds, and the registers are
--- those of its first success.
+-- those of its first success, with the rests beside it.
 pub record IsChosen (from : ℕ) (codes : List Code) (h : Heap) (inner : Forest) (code : Code) (s : Registers) : Type 0 where
   pub membrane : ℕ
   pub place : ℕ
@@ -56,6 +57,7 @@ pub record IsChosen (from : ℕ) (codes : List Code) (h : Heap) (inner : Forest)
   pub chosen : IsFirstIn h codes (asked from (tree_over h inner)) membrane place number
   pub is : slice_get codes number ≡ Some code
   pub first : IsFirstSuccess h code.head membrane s.head
+  pub rests : HoldsRestsOf h code.head s
 
 -- The strategy of the calculus chooses the rule at a place of membrane m: its path leads there. There is a next region, with its
 -- links numbered in printed order.

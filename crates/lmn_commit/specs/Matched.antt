@@ -10,9 +10,10 @@ use Rattle.lmn_body.specs.Code.{body_code}
 use Rattle.lmn_body.specs.Rules.{NestedRule}
 use Rattle.lmn_body.specs.Running.{Registers, Prepares, DoesAll}
 use Rattle.lmn_body.specs.Stopping.{SameButSpares}
+use Rattle.lmn_body.specs.Within.{HoldsRests}
 use Rattle.lmn_registers.specs.declared.registers.SetRegisters.{SetRegisters}
 use Rattle.lmn_commit.specs.Committing.{Runs}
-use Rattle.lmn_commit.specs.Registers.{AgreesWithCopies}
+use Rattle.lmn_commit.specs.Registers.{AgreesWithCopies, HasRests}
 use Rattle.lmn_commit.specs.Preparing.{Prepared, needed}
 
 -- Code can be committed with these registers from a heap: once all that it makes is made, detached, and there is room for its rules, its
@@ -25,7 +26,7 @@ CanBeCommitted r code h = (s : Heap) → Prepares r code h s → SameButSpares h
 pub record IsMatched {A M : Type 0} (atom : A → ℕ) (membrane : M → ℕ) (h : Heap) (g : SetRegisters A M) (code : List Instr) : Type 0 where
   pub valid : Valid h
   pub unmarked : Unmarked h
-  pub commits : (r : Registers) → AgreesWithCopies atom membrane g r → CanBeCommitted r code h
+  pub commits : (r : Registers) → AgreesWithCopies atom membrane g r → HasRests atom membrane h g r → CanBeCommitted r code h
 
 -- The code is prepared, after it was matched.
 pub record IsPrepared {A M : Type 0} (atom : A → ℕ) (membrane : M → ℕ) (s : Heap) (k : SetRegisters A M) (code : List Instr) : Type 0 where
@@ -34,7 +35,8 @@ pub record IsPrepared {A M : Type 0} (atom : A → ℕ) (membrane : M → ℕ) (
   pub matched : IsMatched atom membrane before matched_by code
   pub prepared : Prepared atom membrane before s matched_by k code
 
--- The code of the body of a rule can be committed wherever its head lies, be there a guard or not.
+-- The code of the body of a rule can be committed wherever its head lies, be there a guard or not, with the rests that the
+-- registers hold.
 abbrev pub BodiesCanBeCommitted : Type 0
 BodiesCanBeCommitted = (head : List HeadItem) (body : List BodyItem) (links : ℕ) → NestedRule head body links →
-    (h : Heap) → Valid h → (m : ℕ) → IsMemInPlace h m → (r : Registers) → Lies h head m r.head.images → CanBeCommitted r (body_code head body links) h
+    (h : Heap) → Valid h → (m : ℕ) → IsMemInPlace h m → (r : Registers) → Lies h head m r.head.images → HoldsRests h r head → CanBeCommitted r (body_code head body links) h

@@ -5,6 +5,7 @@ use Rattle.lmn_heap.specs.Heap.{Heap, IsAtom, arity_of, made_atom, made_mem, res
 use Rattle.lmn_heap.specs.Conditions.{Alone}
 use Rattle.lmn_ground.specs.Spread.{IsWhole}
 use Rattle.lmn_parts.specs.Copies.{Copied, LeadsOut}
+use Rattle.lmn_parts.specs.Rests.{NoneLeaves}
 use Rattle.lmn_instr.specs.declared.instr.NewPort.{NewPort}
 use Rattle.lmn_instr.specs.declared.instr.NewPort.TheVariants as new
 use Rattle.lmn_instr.specs.declared.instr.Instr.{Instr}
@@ -14,7 +15,7 @@ use Rattle.lmn_body.specs.Stopping.{SameButSpares}
 use Rattle.lmn_registers.specs.declared.registers.PartCopy.{PartCopy}
 use Rattle.lmn_registers.specs.declared.registers.SetRegisters.{SetRegisters}
 use Rattle.lmn_registers.specs.declared.stack.TheConstants.{ROOM}
-use Rattle.lmn_commit.specs.Registers.{AgreesWithCopies, AreHeld, AreSized, Grows, HasCopies}
+use Rattle.lmn_commit.specs.Registers.{AgreesWithCopies, AreHeld, AreSized, Grows, HasCopies, HasRests, IsRestBeside}
 
 -- the register of a made port is set: a of atoms are, c of copies
 abbrev pub UsesPort : ℕ → ℕ → NewPort → Type 0
@@ -102,6 +103,11 @@ pub record CanBeCopied (s : Heap) (root : ℕ × ℕ) : Type 0 where
 abbrev pub CanCopy : {A M : Type 0} → (A → ℕ) → Heap → SetRegisters A M → Type 0
 CanCopy {A} atom s g = (k : ℕ) (p : A × ℕ) → slice_get g.parts k ≡ Some p → CanBeCopied s (port_id atom p)
 
+-- the rests that code copies can be copied: each is that of a membrane in registers, and no link leaves it
+abbrev pub CanCopyRests : {A M : Type 0} → (A → ℕ) → (M → ℕ) → Heap → SetRegisters A M → List Instr → Type 0
+CanCopyRests {A} {M} atom membrane h g code = (at m n : ℕ) → slice_get code at ≡ Some (CopyCells m n) →
+    (x : M) × (slice_get g.membranes m ≡ Some x) × ((atoms membranes : List ℕ) → IsRestBeside atom membrane h g (membrane x) atoms membranes → NoneLeaves h atoms)
+
 -- Of the heap t everything that isn't in the heap s waits, and is joined to none that doesn't; membranes may have other
 -- spares. So what is made can be given up.
 --   kept      the atoms of s are as they were
@@ -146,14 +152,15 @@ pub record IsMade {A M : Type 0} (atom : A → ℕ) (membrane : M → ℕ) (s t 
       (x : ℕ) → needed r (rules_in s) before x + needed_by r (rules_in s) i x ≤ spare_of t x
 
 -- Code is prepared: all that it makes is made, from the heap h to the heap s, and is in the registers; and each membrane
--- has room for the rules that it gets. `copied` has the atoms of each copy.
+-- has room for the rules that it gets. `copied` has the atoms of each copy. What is left of a membrane is what is left besides
+-- the registers of the head.
 pub record Prepared {A M : Type 0} (atom : A → ℕ) (membrane : M → ℕ) (h s : Heap) (g k : SetRegisters A M) (code : List Instr) : Type 0 where
   pub grows : Grows g k
   pub held : AreHeld atom membrane s k
   pub uses : AllUse (length k.atoms) (length k.membranes) (length k.parts) (length k.copies) code
   pub copied : List (List ℕ)
   pub sizes : AreSized k.copies copied
-  pub prepares : (r : Registers) → AgreesWithCopies atom membrane k r → HasCopies r copied → Prepares r code h s
+  pub prepares : (r : Registers) → AgreesWithCopies atom membrane k r → HasCopies r copied → HasRests atom membrane h g r → Prepares r code h s
   pub makes : OnlyMakes h s
   pub rules : (x : ℕ) → rules_in s x ≡ rules_in h x
   pub spares : (r : Registers) → AgreesWithCopies atom membrane k r → (x : ℕ) → needed r (rules_in h) code x ≤ spare_of s x

@@ -3,7 +3,7 @@ ghost use Rattle.std.specs.Prelude.{◌≡◌, ◌<◌, ◌++◌, ℕ, List, len
 ghost use Rattle.lmn_body.specs.Running.{Registers, DoesAll, Does, RunsBody, all_placed, old_port, new_port};
 ghost use Rattle.lmn_heap.specs.Heap.{IsMemInPlace, port_id, Unmarked};
 ghost use Rattle.lmn_body.specs.Conditions.{Can};
-ghost use Rattle.lmn_commit.specs.Registers.{AgreesWithCopies, HasCopies};
+ghost use Rattle.lmn_commit.specs.Registers.{AgreesWithCopies, HasCopies, HasRests};
 ghost use Rattle.lmn_commit.specs.Preparing.{AllUse, Uses, UsesPort};
 ghost use Rattle.lmn_commit.specs.Committing.{Runs, Stands};
 ghost use Rattle.lmn_commit.specs.Matched.{IsPrepared};
@@ -132,7 +132,7 @@ fn run_all<S: LinkStore>(store: &mut S, code: &[Instr], set: &SetRegisters<S::At
 /// fail, and leaves a valid store without marks.
 pub fn commit<S: LinkStore>(store: &mut S, code: &[Instr], set: &SetRegisters<S::Atom, S::Mem>)
     requires { IsPrepared S.atom_id S.mem_id (S.heap store.old) set.now code.now }
-    ensures fires { (p : IsPrepared S.atom_id S.mem_id (S.heap store.old) set.now code.now) (r : Registers) → AgreesWithCopies S.atom_id S.mem_id set.now r → HasCopies r p.prepared.copied →
+    ensures fires { (p : IsPrepared S.atom_id S.mem_id (S.heap store.old) set.now code.now) (r : Registers) → AgreesWithCopies S.atom_id S.mem_id set.now r → HasCopies r p.prepared.copied → HasRests S.atom_id S.mem_id p.before p.matched_by r →
         RunsBody r code.now p.before (S.heap store.new) }
     ensures valid { Valid (S.heap store.new) }
     ensures unmarked { Unmarked (S.heap store.new) }

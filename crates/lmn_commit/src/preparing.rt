@@ -5,7 +5,7 @@ ghost use Rattle.lmn_heap.specs.Sound.{Valid};
 ghost use Rattle.lmn_body.specs.Running.{Registers};
 ghost use Rattle.lmn_body.specs.Stopping.{SameButSpares};
 ghost use Rattle.lmn_commit.specs.Registers.{AgreesWithCopies, AreHeld};
-ghost use Rattle.lmn_commit.specs.Preparing.{AllUse, AtomIsMade, CanBeCopied, CanCopy, CopyIsMade, MembraneIsMade, OnlyMakes, RoomIsMade, BodyInOrder, IsMade, Prepared, UsesInOrder, Uses, needed, needed_by};
+ghost use Rattle.lmn_commit.specs.Preparing.{AllUse, AtomIsMade, CanBeCopied, CanCopy, CanCopyRests, CopyIsMade, MembraneIsMade, OnlyMakes, RoomIsMade, BodyInOrder, IsMade, Prepared, UsesInOrder, Uses, needed, needed_by};
 ghost use Rattle.lmn_registers.specs.declared.stack.TheConstants.{ROOM};
 
 use lmn_base::{Functor, Label, NoMemory};
@@ -207,7 +207,7 @@ fn make_all<S: LinkStore>(
 }
 
 /// Makes all that the code of a body makes, detached, and room for the rules that it adds. The registers of the head
-/// are set before, those of what is made afterwards. Want of memory leaves the store as it was, but for room for
+/// are set before, those of what is made afterwards. No link leaves what it copies. Want of memory leaves the store as it was, but for room for
 /// rules.
 pub fn prepare<S: LinkStore>(
     alloc: Global,
@@ -219,6 +219,7 @@ pub fn prepare<S: LinkStore>(
     requires unmarked { Unmarked (S.heap store.old) }
     requires held { AreHeld S.atom_id S.mem_id (S.heap store.old) set.old }
     requires parts { CanCopy S.atom_id (S.heap store.old) set.old }
+    requires rests { CanCopyRests S.atom_id S.mem_id (S.heap store.old) set.old code.now }
     requires copies { set.old.copies ≡ [] }
     requires order { BodyInOrder (length set.old.atoms) (length set.old.membranes) (length set.old.parts) (length set.old.integers) 0 code.now }
     ensures ok { OnOk result (Prepared S.atom_id S.mem_id (S.heap store.old) (S.heap store.new) set.old set.new code.now) }

@@ -4,8 +4,8 @@ ghost use Rattle.lmn_heap.specs.Sound.{Valid};
 ghost use Rattle.lmn_instr.specs.Running.{HeadRegisters, Succeeds, IsFirstSuccess};
 ghost use Rattle.lmn_body.specs.Running.{Registers as BodyRegisters, RunsBody};
 ghost use Rattle.lmn_body.specs.Stopping.{SameButSpares};
-ghost use Rattle.lmn_commit.specs.Registers.{AgreesWithCopies as BodyAgrees, HasCopies};
-ghost use Rattle.lmn_commit.specs.Preparing.{BodyInOrder, Prepared};
+ghost use Rattle.lmn_commit.specs.Registers.{AgreesWithCopies as BodyAgrees, HasCopies, HasRests};
+ghost use Rattle.lmn_commit.specs.Preparing.{BodyInOrder, CanCopyRests, Prepared};
 ghost use Rattle.lmn_commit.specs.Matched.{IsPrepared};
 ghost use Rattle.lmn_registers.specs.Agreeing.{Agrees};
 ghost use Rattle.lmn_machine.specs.Searching.{AreAllSet, AreHeldWhole, HeadInOrder};
@@ -92,6 +92,7 @@ impl<S: LinkStore> Machine<S> {
         requires valid { Valid (S.heap self.old.store) }
         requires unmarked { Unmarked (S.heap self.old.store) }
         requires held { AreHeldWhole S.atom_id S.mem_id (S.heap self.old.store) self.old.set }
+        requires rests { CanCopyRests S.atom_id S.mem_id (S.heap self.old.store) self.old.set code.now.body }
         requires copies { self.old.set.copies ≡ [] }
         requires order { BodyInOrder (length self.old.set.atoms) (length self.old.set.membranes) (length self.old.set.parts) (length self.old.set.integers) 0 code.now.body }
         ensures ok { OnOk result (Prepared S.atom_id S.mem_id (S.heap self.old.store) (S.heap self.new.store) self.old.set self.new.set code.now.body) }
@@ -106,7 +107,7 @@ impl<S: LinkStore> Machine<S> {
     /// Does what the body of a code does, after it was prepared: the rule is fired. It takes no memory and can't fail.
     pub fn commit(&mut self, code: &Code)
         requires { IsPrepared S.atom_id S.mem_id (S.heap self.old.store) self.old.set code.now.body }
-        ensures fires { (p : IsPrepared S.atom_id S.mem_id (S.heap self.old.store) self.old.set code.now.body) (r : BodyRegisters) → BodyAgrees S.atom_id S.mem_id self.old.set r → HasCopies r p.prepared.copied →
+        ensures fires { (p : IsPrepared S.atom_id S.mem_id (S.heap self.old.store) self.old.set code.now.body) (r : BodyRegisters) → BodyAgrees S.atom_id S.mem_id self.old.set r → HasCopies r p.prepared.copied → HasRests S.atom_id S.mem_id p.before p.matched_by r →
             RunsBody r code.now.body p.before (S.heap self.new.store) }
         ensures valid { Valid (S.heap self.new.store) }
         ensures unmarked { Unmarked (S.heap self.new.store) }

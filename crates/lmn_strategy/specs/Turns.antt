@@ -1,22 +1,29 @@
 -- What one turn does on a heap.
-use Rattle.std.specs.Prelude.{ℕ, ◌≡◌, ◌<◌, ◌≤◌, ◌+◌, List, [], Some, length, slice_get, All}
+use Rattle.std.specs.Prelude.{ℕ, ◌≡◌, ◌<◌, ◌≤◌, ◌+◌, ◌↔◌, Bool, true, not, List, [], Some, length, map, slice_get, All}
 use Rattle.std.specs.List.{AllByRecursion}
+use Rattle.lmn_base.specs.Graphs.{Reached}
 use Rattle.lmn_base.specs.Levels.{rules_of}
+use Rattle.lmn_base.specs.Lists.{In}
 use Rattle.lmn_base.specs.declared.rule.RuleTree.{RuleTree}
 use Rattle.lmn_guards.specs.declared.plan.GuardPlan.{GuardPlan}
-use Rattle.lmn_heap.specs.Heap.{Heap, IsMemInPlace}
+use Rattle.lmn_heap.specs.Graphs.{atom_map}
+use Rattle.lmn_heap.specs.Heap.{Heap, IsMemInPlace, atoms_in}
 use Rattle.lmn_heap.specs.Sound.{Forest, Valid, flat}
 use Rattle.lmn_instr.specs.declared.instr.Code.{Code}
 use Rattle.lmn_instr.specs.declared.instr.Instr.{Instr}
-use Rattle.lmn_instr.specs.declared.instr.Instr.TheVariants.{LoadRule}
+use Rattle.lmn_instr.specs.declared.instr.Instr.TheVariants.{CopyCells, LoadRule}
 use Rattle.lmn_instr.specs.Running.{HeadRegisters, IsFirstSuccess, atoms_set, membranes_set}
 use Rattle.lmn_compile_body.specs.Accepted.{IsCompilable}
 use Rattle.lmn_body.specs.Running.{Registers, RunsBody}
 use Rattle.lmn_body.specs.Stopping.{SameButSpares}
+use Rattle.lmn_parts.specs.Rests.{IsRest, NoneLeaves}
+use Rattle.lmn_parts.specs.Walks.{is_in}
+use Rattle.lmn_splice.specs.Classes.{rising}
 use Rattle.lmn_registers.specs.Agreeing.{Agrees}
 use Rattle.lmn_registers.specs.declared.registers.SetRegisters.{SetRegisters}
 use Rattle.lmn_commit.specs.Matched.{IsMatched, CanBeCommitted}
-use Rattle.lmn_commit.specs.Preparing.{BodyInOrder}
+use Rattle.lmn_commit.specs.Preparing.{BodyInOrder, CanCopyRests}
+use Rattle.lmn_commit.specs.Registers.{HasRests}
 use Rattle.lmn_machine.specs.Costs.{IsTold, Leaves}
 use Rattle.lmn_machine.specs.Searching.{AreHeldWhole, HeadInOrder, parts_set, integers_set}
 use Rattle.lmn_strategy.specs.declared.turning.Turn.{Turn}
@@ -32,6 +39,22 @@ pub record IsTableCode (codes : List Code) : Type 0 where
   pub compiled : AreCompiled table plans codes
   pub inner : (k : ℕ) (rule : RuleTree) → slice_get table k ≡ Some rule → All (λ j. j < length table) (rules_of rule.body)
 
+-- an atom is in none of the registers of atoms that head code sets, and in none of the parts
+pub record IsBesideCode (h : Heap) (code : List Instr) (s : HeadRegisters) (a : ℕ) : Type 0 where
+  pub no_atom : (k : ℕ) → k < atoms_set code → s.images.atom k ≡ a → ⊥
+  pub no_part : (k : ℕ) → k < parts_set code → Reached (atom_map h) (s.images.part k) a → ⊥
+
+-- The rest of the membrane in register m besides all that head code sets: its atoms that are in no register and in no part,
+-- and its membranes that are in no register, with all that is in these.
+abbrev pub IsRestOf : Heap → List Instr → HeadRegisters → ℕ → List ℕ → List ℕ → Type 0
+IsRestOf h code s m atoms membranes =
+    (left : ℕ → Bool) × ((a : ℕ) → In a (atoms_in h (s.images.membrane m)) → (left a ≡ true) ↔ IsBesideCode h code s a)
+    × IsRest h (s.images.membrane m) left (λ x. not (is_in (map s.images.membrane (rising 0 (1 + membranes_set code))) x)) atoms membranes
+
+-- the registers of a body hold the rest of each membrane that head code sets
+abbrev pub HoldsRestsOf : Heap → List Instr → Registers → Type 0
+HoldsRestsOf h code r = (m : ℕ) → m < 1 + membranes_set code → IsRestOf h code r.head m (r.left_atoms m) (r.left_membranes m)
+
 -- The answer to a rule that is chosen, whose commit with these registers would leave n items, where there may be `size`:
 -- the heap is h' then.
 abbrev pub IsAnswer : Heap → Registers → List Instr → ℕ → ℕ → Turn → Heap → Type 0
@@ -41,7 +64,7 @@ IsAnswer h s body n size Full h' = (size < n) × (h' ≡ h)
 IsAnswer h s body n size NoMemory h' = (n ≤ size) × SameButSpares h h'
 
 -- Where membranes are asked in this order a rule is chosen, the first whose code succeeds. These registers are its first
--- success, its commit with them leaves so many items, and this is the answer.
+-- success and hold the rests beside it, its commit with them leaves so many items, and this is the answer.
 pub record Chooses (h : Heap) (codes : List Code) (ms : List ℕ) (size : ℕ) (answer : Turn) (h' : Heap) : Type 0 where
   pub membrane : ℕ
   pub place : ℕ
@@ -51,8 +74,9 @@ pub record Chooses (h : Heap) (codes : List Code) (ms : List ℕ) (size : ℕ) (
   pub is : slice_get codes rule ≡ Some code
   pub registers : Registers
   pub first : IsFirstSuccess h code.head membrane registers.head
+  pub rests : HoldsRestsOf h code.head registers
   pub left : ℕ
-  pub leaves : Leaves h registers.head code.body left
+  pub leaves : Leaves h registers code.body left
   pub answered : IsAnswer h registers code.body left size answer h'
 
 -- What a turn does on the heap h with this tree, where the membrane with a number is asked first: the heap is h' then.
@@ -80,14 +104,17 @@ Loads P _ = Unit {0}
 --   head     the machine can run its head
 --   ready    after its head its body can be prepared, and what is read to tell its cost is set
 --   loads    the rules that it loads are of the table
---   leaves   where its head first succeeds in a membrane of a valid heap, its cost is told,
+--   copies   where its head first succeeds in a membrane of a valid heap, no link leaves the rests that it copies,
+--   leaves   with these rests its cost is told,
 --   commits  and its body can be committed
 pub record IsRunnable (rules : ℕ) (code : Code) : Type 0 where
   pub head : HeadInOrder 0 1 0 0 code.head
   pub ready : IsReadyCode code
   pub loads : AllByRecursion (Loads (λ j. j < rules)) code.body
-  pub leaves : (h : Heap) (m : ℕ) (s : HeadRegisters) → Valid h → IsMemInPlace h m → IsFirstSuccess h code.head m s → (n : ℕ) × Leaves h s code.body n
-  pub commits : (h : Heap) (m : ℕ) (r : Registers) → Valid h → IsMemInPlace h m → IsFirstSuccess h code.head m r.head → CanBeCommitted r code.body h
+  pub copies : (h : Heap) (m : ℕ) (s : HeadRegisters) → Valid h → IsMemInPlace h m → IsFirstSuccess h code.head m s → (at k n : ℕ) → slice_get code.body at ≡ Some (CopyCells k n) →
+      (k < 1 + membranes_set code.head) × ((atoms membranes : List ℕ) → IsRestOf h code.head s k atoms membranes → NoneLeaves h atoms)
+  pub leaves : (h : Heap) (m : ℕ) (r : Registers) → Valid h → IsMemInPlace h m → IsFirstSuccess h code.head m r.head → HoldsRestsOf h code.head r → (n : ℕ) × Leaves h r code.body n
+  pub commits : (h : Heap) (m : ℕ) (r : Registers) → Valid h → IsMemInPlace h m → IsFirstSuccess h code.head m r.head → HoldsRestsOf h code.head r → CanBeCommitted r code.body h
 
 -- each of these codes can be, and they are the table
 abbrev pub AreRunnable : List Code → Type 0
@@ -103,13 +130,16 @@ pub record CanFire {A M : Type 0} (atom : A → ℕ) (membrane : M → ℕ) (h :
   pub copies : g.copies ≡ []
   pub order : BodyInOrder (length g.atoms) (length g.membranes) (length g.parts) (length g.integers) 0 code.body
   pub told : AllByRecursion (IsTold (length g.membranes) (length g.parts)) code.body
+  pub rests : CanCopyRests atom membrane h g code.body
   pub matched : IsMatched atom membrane h g code.body
-  pub some : (s : HeadRegisters) → Agrees atom membrane g s → (n : ℕ) × Leaves h s code.body n
+  pub some : (r : Registers) → Agrees atom membrane g r.head → HasRests atom membrane h g r → (n : ℕ) × Leaves h r code.body n
 
--- The answer to a match that the registers hold, for registers that have the values of those that are set.
+-- The answer to a match that the registers hold, for registers that have the values of those that are set, and the rests
+-- beside these.
 pub record AnswersMatch {A M : Type 0} (atom : A → ℕ) (membrane : M → ℕ) (h : Heap) (g : SetRegisters A M) (code : Code) (size : ℕ) (answer : Turn) (h' : Heap) : Type 0 where
   pub registers : Registers
   pub agrees : Agrees atom membrane g registers.head
+  pub rests : HasRests atom membrane h g registers
   pub left : ℕ
-  pub leaves : Leaves h registers.head code.body left
+  pub leaves : Leaves h registers code.body left
   pub answered : IsAnswer h registers code.body left size answer h'

@@ -11,6 +11,7 @@ use Rattle.lmn_instr.specs.Running.{IsFirstSuccess}
 use Rattle.lmn_compile_head.specs.Accepted.{head_items, rule_head_code}
 use Rattle.lmn_compile_body.specs.Accepted.{IsCompilable, rule_body_code}
 use Rattle.lmn_body.specs.Running.{Registers, RunsBody}
+use Rattle.lmn_body.specs.Within.{HoldsRests}
 use Rattle.lmn_reduction.specs.Commits.{Commit}
 use Rattle.lmn_adequacy.specs.Choice.{Before}
 use Rattle.lmn_adequacy.specs.Embedding.{EmbedsIn}
@@ -39,12 +40,12 @@ pub record Turned (table : List RuleTree) (h : Heap) (r : HeapReading) (inner : 
   pub commits : Commit (heap_process h r inner) (heap_process h' (renumbered_reading r next.again.number) next.again.forest)
   pub rules : IsTable r table → HasRules h' (renumbered_reading r next.again.number) table
 
--- Where the head code of a rule of a membrane first succeeds, its body code, run with the same registers, makes a turn, at the
--- numbers of the images.
+-- Where the head code of a rule of a membrane first succeeds, its body code, run with the same registers, which hold what is left
+-- where closed contexts stand, makes a turn, at the numbers of the images.
 abbrev pub TurnsCommit : Type 0
 TurnsCommit = (table : List RuleTree) (rule : RuleTree) (plan : GuardPlan) → IsCompilable table rule plan →
     (h : Heap) (r : HeapReading) (inner : Forest) → IsRead h r → IsTree h (mem h.root inner bare) → HasRules h r table →
     (m : ℕ) (mi : Forest) → IsMem h m → HasForest h m mi →
     (index k : ℕ) → slice_get (rules_in h m) index ≡ Some k → slice_get table k ≡ Some rule →
-    (s : Registers) → IsFirstSuccess h (rule_head_code rule plan) m s.head → (h' : Heap) → RunsBody s (rule_body_code rule plan) h h' →
+    (s : Registers) → IsFirstSuccess h (rule_head_code rule plan) m s.head → HoldsRests h s (head_items rule plan) → (h' : Heap) → RunsBody s (rule_body_code rule plan) h h' →
     Turned table h r inner rule m index (numbers_left h s.head.images 0 1 [] [] (head_items rule plan)) h'
