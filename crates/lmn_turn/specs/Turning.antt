@@ -17,7 +17,7 @@ use Rattle.lmn_compile_body.specs.Accepted.{IsCompilable, rule_body_names, rule_
 use Rattle.lmn_body.specs.Fired.{images_of}
 use Rattle.lmn_body.specs.Rules.{PartAtoms}
 use Rattle.lmn_body.specs.Running.{Registers, RunsBody}
-use Rattle.lmn_body.specs.Within.{membrane_images}
+use Rattle.lmn_body.specs.Within.{HoldsRests, membrane_images}
 use Rattle.lmn_congruence.specs.Regions.{Region, region}
 use Rattle.lmn_congruence.specs.Translation.{context_tree, name_of, rule_tree}
 use Rattle.lmn_reduction.specs.Parts.{IsInteger}
@@ -92,7 +92,7 @@ pub record HasNext (h : Heap) (r : HeapReading) (inner : Forest) (rule : RuleTre
 abbrev pub TurnIsRead : Type 0
 TurnIsRead = (table : List RuleTree) (rule : RuleTree) (plan : GuardPlan) → IsCompilable table rule plan →
     (h : Heap) (r : HeapReading) → IsRead h r → IsRule r rule → (m : ℕ) (mi : Forest) → IsMem h m → HasForest h m mi →
-    (s : Registers) → IsFirstSuccess h (rule_head_code rule plan) m s.head → (h' : Heap) → RunsBody s (rule_body_code rule plan) h h' →
+    (s : Registers) → IsFirstSuccess h (rule_head_code rule plan) m s.head → HoldsRests h s (head_items rule plan) → (h' : Heap) → RunsBody s (rule_body_code rule plan) h h' →
     IsReadAgain h r rule h'
 
 -- Where the head code of an accepted rule first succeeds in a membrane, its body code, run with the same registers, leaves the next
@@ -102,6 +102,6 @@ TurnIsNext = (table : List RuleTree) (rule : RuleTree) (plan : GuardPlan) → Is
     (h : Heap) (r : HeapReading) (inner : Forest) → IsRead h r → IsTree h (mem h.root inner bare) → IsRule r rule →
     (m : ℕ) (mi : Forest) → IsMem h m → HasForest h m mi →
     (index k : ℕ) → slice_get (rules_in h m) index ≡ Some k → r.rule k ≡ rule_tree r.names r.rule rule →
-    (s : Registers) → IsFirstSuccess h (rule_head_code rule plan) m s.head →
+    (s : Registers) → IsFirstSuccess h (rule_head_code rule plan) m s.head → HoldsRests h s (head_items rule plan) →
     (ns : List ℕ) (e : EmbedsAt (rule_tree r.names r.rule rule) ns (region_at h r m mi)) → IsRegisters h r rule plan m mi s ns e →
     (h' : Heap) → RunsBody s (rule_body_code rule plan) h h' → HasNext h r inner rule m index ns h'
