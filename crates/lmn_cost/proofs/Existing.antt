@@ -1,7 +1,7 @@
 -- There is a sum for the body of a rule whose head is found.
-use Rattle.std.proofs.Common.{ℕ, zero, suc, ◌+◌, ◌<◌, ◌≤◌, ◌≡◌, List, [], ◌∷◌, ◌++◌, map, length, Option, Some, None, IsSome, refl, sym, ap, subst, ◌∙◌, inl, inr, arith, length-append}
-use Rattle.std.specs.Option.{option_map}
-use Rattle.lmn_heap.specs.Heap.{Heap, HeapMem, top, within, place_of, mem_place_of, mems_in, atoms_in, rules_in, IsInPlace, Distinct, Place, home_of, without}
+use Rattle.std.proofs.Common.{ℕ, zero, suc, ◌+◌, ◌<◌, ◌≤◌, ◌≡◌, true, false, List, [], ◌∷◌, ◌++◌, map, length, Option, Some, IsSome, refl, sym, ap, subst, ◌∙◌, inl, inr, arith, length-append}
+use Rattle.std.specs.Prelude.{sum}
+use Rattle.lmn_heap.specs.Heap.{Heap, top, within, place_of, mem_place_of, mems_in, atoms_in, rules_in, IsInPlace, IsMemInPlace, Distinct, Place, home_of, without}
 use Rattle.lmn_heap.specs.Sound.{Forest, flat, IsTree, Valid, item_count_in}
 use Rattle.lmn_heap.proofs.Depths.{both_distinct}
 use Rattle.lmn_heap.proofs.ListLemmas.{in_left, in_right, in_withouts}
@@ -12,20 +12,22 @@ use Rattle.lmn_solid.specs.Heads.{HeadTyped, atoms_of, typed_contexts_of, membra
 use Rattle.lmn_solid.specs.Embeddings.{Lies, HasTyped}
 use Rattle.lmn_splice.specs.Classes.{rising}
 use Rattle.lmn_splice.specs.Splice as splice
-use Rattle.lmn_splice.proofs.EndLemmas.{rising_distinct}
+use Rattle.lmn_splice.proofs.EndLemmas.{in_rising, rising_distinct}
 use Rattle.lmn_instr.specs.declared.instr.Instr.TheVariants.{RemovePart}
 use Rattle.lmn_body.specs.declared.items.BodyItem.{BodyItem}
 use Rattle.lmn_body.specs.declared.items.BodyItem.TheVariants.{Atom, Connector, Copy, Bound, Membrane, Rest, Rule, Rules}
 use Rattle.lmn_body.specs.Code.{making, body_code}
 use Rattle.lmn_body.specs.Fired.{images_of}
 use Rattle.lmn_body.specs.Made.{copies_of}
-use Rattle.lmn_body.specs.Rules.{AtomRule}
+use Rattle.lmn_body.specs.Names.{Names}
+use Rattle.lmn_body.specs.Rules.{AtomRule, NestedRule, PartAtoms}
 use Rattle.lmn_body.specs.Running.{Registers}
-use Rattle.lmn_body.specs.Within.{membrane_images}
+use Rattle.lmn_body.specs.Within.{membrane_images, dropped_atoms, dropped_mems, removed_mems, HoldsRests}
 use Rattle.lmn_body.proofs.Below.{removed_is}
 use Rattle.lmn_body.proofs.Finishing.{within_of, in_place_listed}
 use Rattle.lmn_body.proofs.Firing.{distinct_images, heap_in_of, rising_below}
 use Rattle.lmn_body.proofs.HeadPorts.{of_map}
+use Rattle.lmn_body.proofs.Held.{Held, held}
 use Rattle.lmn_body.proofs.Parts.{parts_apart, PartOf}
 use Rattle.lmn_ground.specs.Spread.{AreAtoms}
 use Rattle.lmn_machine.specs.Costs.{AddsItems, TakesItems, InAll, Leaves}
@@ -33,8 +35,9 @@ use Rattle.lmn_cost.proofs.Totals.{total_is_sum, total_part, total_three, total_
 use Rattle.lmn_cost.proofs.Codes.{code_adds, code_takes}
 use Rattle.lmn_cost.proofs.Finite.{part_listed}
 use Rattle.lmn_heap.specs.Lists.{without_all}
-use Rattle.lmn_base.proofs.Lists.{weigh as total, get_there as get_some, in_either}
-use Rattle.lmn_base.proofs.Numbers.{below_zero_plus as below_plain}
+use Rattle.lmn_base.proofs.Lists.{weigh as total, get_below, get_there as get_some, in_either}
+use Rattle.lmn_base.specs.Graphs.{Port}
+use Rattle.lmn_base.proofs.Numbers.{below_zero_plus as below_plain, zero_least as nothing_less, zero_plus_below as plain_below}
 use Rattle.lmn_heap.proofs.Common.{place_home}
 use Rattle.lmn_heap.proofs.Listing.{listed_mem as listed_some}
 use Rattle.lmn_base.specs.Lists.{In}
@@ -47,7 +50,11 @@ same_items h valid f g t u =
     ∙ total_part w (flat f) (flat g) t.once u.once (λ x i. u.all x (is_mem h valid.sound f t x i)) (λ y i o. absurd (o (t.all y (is_mem h valid.sound g u y i))))
     ∙ sym (total_is_sum w (flat g))
 
-module _ (h : Heap) (valid : Valid h) (head : List HeadItem) (body : List BodyItem) (n m : ℕ) (r : Registers) (rule : AtomRule head body n) (em : Lies h head m r.head.images) where
+module _ (h : Heap) (valid : Valid h) (head : List HeadItem) (body : List BodyItem) (n m : ℕ) (r : Registers) (nested : NestedRule head body n) (em : Lies h head m r.head.images) (stand : IsMemInPlace h m)
+    (rests_h : HoldsRests h r head) (c : Port → ℕ) (names : Names h c) where
+  abbrev rule : AtomRule head body n
+  rule = nested.atoms
+
   -- the atoms of a part, which all stand in one membrane
   one_part : (g : ℕ) (t : HeadTyped) → HasTyped head g t → (xs : List ℕ) × AreAtoms h (r.head.images.part g) xs
   one_part g t w =
@@ -69,7 +76,7 @@ module _ (h : Heap) (valid : Valid h) (head : List HeadItem) (body : List BodyIt
     pub once : Distinct ps
     pub are : (a : ℕ) → In a ps → (g : ℕ) × splice.IsOneOf g gs × PartOf h r g a
     pub all : (g a : ℕ) → splice.IsOneOf g gs → PartOf h r g a → In a ps
-    pub sum : InAll (TakesItems h r.head) (map RemovePart gs) (length ps)
+    pub sum : InAll (TakesItems h r) (map RemovePart gs) (length ps)
 
   all_parts : (gs : List ℕ) → splice.NoneTwice gs → ((g : ℕ) → splice.IsOneOf g gs → (t : HeadTyped) × HasTyped head g t) → (ps : List ℕ) × Listed gs ps
   all_parts [] d typed = ([], record { once = tt; are = λ a i. absurd i; all = λ g a i. absurd i; sum = refl })
@@ -108,8 +115,8 @@ module _ (h : Heap) (valid : Valid h) (head : List HeadItem) (body : List BodyIt
 
   -- what REMOVEPART takes, for any list of these atoms
   pub parts_sum : (ps : List ℕ) → Distinct ps → ((a : ℕ) → In a ps → (g : ℕ) × splice.IsOneOf g (rising 0 T) × PartOf h r g a) → ((g a : ℕ) → splice.IsOneOf g (rising 0 T) → PartOf h r g a → In a ps)
-      → InAll (TakesItems h r.head) (map RemovePart (rising 0 T)) (length ps)
-  parts_sum ps once are all = subst (λ k. InAll (TakesItems h r.head) (map RemovePart (rising 0 T)) k) same parts.1.sum
+      → InAll (TakesItems h r) (map RemovePart (rising 0 T)) (length ps)
+  parts_sum ps once are all = subst (λ k. InAll (TakesItems h r) (map RemovePart (rising 0 T)) k) same parts.1.sum
     where
       same : length parts.0 ≡ length ps
       same =
@@ -117,11 +124,29 @@ module _ (h : Heap) (valid : Valid h) (head : List HeadItem) (body : List BodyIt
           let y = not_longer ps parts.0 once (λ a i. let u = are a i in parts.1.all u.0 a u.1 u.2) in
           omega (arith, x, y)
 
+  parts_are : PartAtoms h head r.head.images parts.0
+  parts_are = record {
+    once = parts.1.once;
+    are = λ a i. let u = parts.1.are a i in let t = typed_at u.0 u.1 in (u.0, t.0, t.1, u.2);
+    all = λ g t a w i. parts.1.all g a (in_rising T 0 g (nothing_less g) (plain_below g T (get_below (typed_contexts_of head) g t w))) i;
+  }
+
+  -- what the rests are in the heap
+  hs : Held h valid head body m r parts.0
+  hs = held h valid head body n m r nested em stand rests_h parts.0 parts_are c names
+
   abbrev ns : List ℕ
   ns = images_of r head ++ parts.0
 
   abbrev ks : List ℕ
   ks = membrane_images r head
+
+  -- all atoms that go, and all membranes that are removed
+  abbrev outs : List ℕ
+  outs = ns ++ dropped_atoms r head
+
+  abbrev gs : List ℕ
+  gs = removed_mems r head
 
   abbrev old : List ℕ
   old = flat valid.tree.0
@@ -141,9 +166,16 @@ module _ (h : Heap) (valid : Valid h) (head : List HeadItem) (body : List BodyIt
     | inr j ↦ (let u = parts.1.are a j in let t = typed_at u.0 u.1 in subst (λ (o : Option ℕ). IsSome o) (sym ((em.parts u.0 t.0 t.1).whole.at_home a u.2)) refl)
   ]
 
-  stands : (a : ℕ) → In a ns → (y : ℕ) × In y old × In a (atoms_in h y) × ((z : ℕ) → In a (atoms_in h z) → z ≡ y)
+  -- so does what is dropped
+  outs_once : Distinct outs
+  outs_once = both_distinct ns (dropped_atoms r head) taken_once hs.rests.drop_once (λ a i j. hs.rests.drop_apart a j i)
+
+  out_stands : (a : ℕ) → In a outs → IsInPlace h a
+  out_stands a i = elim (in_either a ns (dropped_atoms r head) i) [ inl j ↦ taken_stands a j | inr j ↦ hs.rests.drop_placed a j ]
+
+  stands : (a : ℕ) → In a outs → (y : ℕ) × In y old × In a (atoms_in h y) × ((z : ℕ) → In a (atoms_in h z) → z ≡ y)
   stands a i =
-      let w = within_of h a (taken_stands a i) in
+      let w = within_of h a (out_stands a i) in
       let j = (valid.sound.listed.atoms w.0 a).1 w.1 in
       (w.0, valid.tree.1.all w.0 (listed_some h w.0 a j), j, λ z k. one z w.0 (sym ((valid.sound.listed.atoms z a).0 k) ∙ w.1))
     where
@@ -151,8 +183,8 @@ module _ (h : Heap) (valid : Valid h) (head : List HeadItem) (body : List BodyIt
       one y k e = (cc)
 
   -- membranes that are removed are there, and the root isn't one of them
-  removed_once : Distinct ks
-  removed_once = distinct_images r.head.images.membrane K 1 once
+  images_once : Distinct ks
+  images_once = distinct_images r.head.images.membrane K 1 once
     where
       once : (x y : ℕ) → 1 ≤ x → x < 1 + K → 1 ≤ y → y < 1 + K → r.head.images.membrane x ≡ r.head.images.membrane y → x ≡ y
       once zero y l p k q e = absurd (off l)
@@ -168,26 +200,27 @@ module _ (h : Heap) (valid : Valid h) (head : List HeadItem) (body : List BodyIt
           less : (z : ℕ) → suc z < 1 + K → z < K
           less z u = omega arith
 
-  removed_placed : (x : ℕ) → In x ks → (p : ℕ) × (mem_place_of h x ≡ Some (within p))
-  removed_placed x i =
-      let w = removed_is head r x i in
-      let p = r.head.images.membrane w.1.inside in
-      (p, (valid.sound.listed.mems p x).0 (subst (λ z. In z (mems_in h p)) w.3 (em.membranes_placed w.0 w.1 w.2)))
+  removed_once : Distinct gs
+  removed_once = both_distinct ks (dropped_mems r head) images_once hs.dms_once (λ x i j. hs.dms_apart x j i)
 
-  removed_old : (x : ℕ) → In x ks → In x old
-  removed_old x i = valid.tree.1.all x (by (h.mems x) (removed_placed x i).1)
-    where
-      by : {p : ℕ} (o : Option HeapMem) → option_map (λ y. y.place) o ≡ Some (within p) → IsSome o
-      by None e = absurd (cc)
-      by (Some y) e = refl
+  removed_placed : (x : ℕ) → In x gs → (p : ℕ) × (mem_place_of h x ≡ Some (within p))
+  removed_placed x i = elim (in_either x ks (dropped_mems r head) i) [
+    | inl j ↦ (let w = removed_is head r x j in
+        let p = r.head.images.membrane w.1.inside in
+        (p, (valid.sound.listed.mems p x).0 (subst (λ z. In z (mems_in h p)) w.3 (em.membranes_placed w.0 w.1 w.2))))
+    | inr j ↦ (let w = hs.dm_parent x j in (w.0, (valid.sound.listed.mems w.0 x).0 w.1))
+  ]
 
-  root_stays : In h.root (without_all ks old)
-  root_stays = in_withouts ks old h.root (root_first h valid.tree.0 valid.tree.1).0 (λ i.
+  removed_old : (x : ℕ) → In x gs → In x old
+  removed_old x i = valid.tree.1.all x (hs.removed_mem x i)
+
+  root_stays : In h.root (without_all gs old)
+  root_stays = in_withouts gs old h.root (root_first h valid.tree.0 valid.tree.1).0 (λ i.
       let p = removed_placed h.root i in
       let z : Some (within p.0) ≡ Some top = sym p.1 ∙ (valid.sound.listed.root h.root).1 refl in absurd (cc))
 
   -- each instruction of a body adds a number
-  some_making : (a b c : ℕ) (xs : List BodyItem) → ((e : ℕ × ℕ) → splice.IsOneOf e (copies_of c xs) → (t : HeadTyped) × HasTyped head e.1 t) → (k : ℕ) × InAll (AddsItems h r.head) (making a b c xs) k
+  some_making : (a b c : ℕ) (xs : List BodyItem) → ((e : ℕ × ℕ) → splice.IsOneOf e (copies_of c xs) → (t : HeadTyped) × HasTyped head e.1 t) → (k : ℕ) × InAll (AddsItems h r) (making a b c xs) k
   some_making a b c [] copied = (0, refl)
   some_making a b c (Atom functor links inside ∷ xs) copied = let on = some_making (a + 1) b c xs copied in (1 + on.0, (1, on.0, (refl, on.1, refl)))
   some_making a b c (Connector left right ∷ xs) copied = some_making a b c xs copied
@@ -198,41 +231,44 @@ module _ (h : Heap) (valid : Valid h) (head : List HeadItem) (body : List BodyIt
       (length one.0 + on.0, (length one.0, on.0, ((one.0, one.1, refl), on.1, refl)))
   some_making a b c (Bound integer link inside ∷ xs) copied = let on = some_making (a + 1) b c xs copied in (1 + on.0, (1, on.0, (refl, on.1, refl)))
   some_making a b c (Membrane inside ∷ xs) copied = let on = some_making a (b + 1) c xs copied in (1 + on.0, (1, on.0, (refl, on.1, refl)))
-  some_making a b c (Rest of closed inside ∷ xs) copied = let on = some_making a b c xs copied in (0 + on.0, (0, on.0, (refl, on.1, refl)))
+  some_making a b c (Rest of false inside ∷ xs) copied = let on = some_making a b c xs copied in (0 + on.0, (0, on.0, (refl, on.1, refl)))
+  some_making a b c (Rest of true inside ∷ xs) copied =
+      let on = some_making a b c xs copied in
+      let k = length (r.left_atoms of) + sum (map (λ x. 1 + length (rules_in h x)) (r.left_membranes of)) in (k + on.0, (k, on.0, (refl, on.1, refl)))
   some_making a b c (Rule rule' inside ∷ xs) copied = let on = some_making a b c xs copied in (1 + on.0, (1, on.0, (refl, on.1, refl)))
   some_making a b c (Rules of inside ∷ xs) copied =
       let on = some_making a b c xs copied in
       let k = length (rules_in h (r.head.images.membrane of)) in (k + on.0, (k, on.0, (refl, on.1, refl)))
 
   -- There is a number that is left.
-  pub some_left : (k : ℕ) × Leaves h r.head (body_code head body n) k
+  pub some_left : (k : ℕ) × Leaves h r (body_code head body n) k
   some_left =
       let made = some_making N (1 + K) 0 body rule.copied in
       let ones : ℕ → ℕ = λ x. 1 in
       let rules : ℕ → ℕ = λ x. length (rules_in h x) in
-      let left : ℕ → ℕ = λ x. length (without_all ns (atoms_in h x)) in
-      let kept = without_all ks old in
-      let taken = length ns + total (λ k. 1 + length (rules_in h k)) ks in
+      let left : ℕ → ℕ = λ x. length (without_all outs (atoms_in h x)) in
+      let kept = without_all gs old in
+      let taken = length outs + total (λ k. 1 + length (rules_in h k)) gs in
       let rest = total ones (without h.root kept) + total left old + total rules kept in
-      let e1 = total_withouts ones ks old removed_once removed_old in
-      let e2 = total_withouts rules ks old removed_once removed_old in
+      let e1 = total_withouts ones gs old removed_once removed_old in
+      let e2 = total_withouts rules gs old removed_once removed_old in
       let e3 = total_without ones h.root kept root_stays in
-      let e4 = all_out ns (atoms_in h) old taken_once valid.tree.1.once stands in
+      let e4 = all_out outs (atoms_in h) old outs_once valid.tree.1.once stands in
       let e5 = total_is_sum (λ x. 1 + length (atoms_in h x) + length (rules_in h x)) old ∙ total_three ones (λ x. length (atoms_in h x)) rules old in
-      let e6 = total_plus ones rules ks in (
+      let e6 = total_plus ones rules gs in (
         rest + made.0,
         record {
           added = made.0;
           taken = taken;
           adds = code_adds h r head body n made.0 made.1;
           takes = code_takes h r head body n parts.0 parts.1.sum;
-          count = λ f t. sums (item_count_in h old) (item_count_in h (flat f)) (length ns) (total (λ k. 1 + length (rules_in h k)) ks) made.0
-              (total ones old) (total ones ks) (total ones kept) (total ones (without h.root kept)) (total rules old) (total rules ks) (total rules kept) (total (λ x. length (atoms_in h x)) old) (total left old)
+          count = λ f t. sums (item_count_in h old) (item_count_in h (flat f)) (length outs) (total (λ k. 1 + length (rules_in h k)) gs) made.0
+              (total ones old) (total ones gs) (total ones kept) (total ones (without h.root kept)) (total rules old) (total rules gs) (total rules kept) (total (λ x. length (atoms_in h x)) old) (total left old)
               e1 e2 e3 e4 e5 e6 (same_items h valid f valid.tree.0 t valid.tree.1);
         },
       )
     where
-      sums : (items items_f taken_atoms taken_mems added ones_old ones_ks ones_kept ones_rest rules_old rules_ks rules_kept atoms_old left_old : ℕ)
-          → ones_old ≡ ones_ks + ones_kept → rules_old ≡ rules_ks + rules_kept → ones_kept ≡ 1 + ones_rest → atoms_old ≡ taken_atoms + left_old → items ≡ ones_old + atoms_old + rules_old
-          → taken_mems ≡ ones_ks + rules_ks → items_f ≡ items → (ones_rest + left_old + rules_kept + added) + (taken_atoms + taken_mems) + 1 ≡ items_f + added
-      sums items items_f taken_atoms taken_mems added ones_old ones_ks ones_kept ones_rest rules_old rules_ks rules_kept atoms_old left_old e1 e2 e3 e4 e5 e6 e7 = omega arith
+      sums : (items items_f taken_atoms taken_mems added ones_old ones_gs ones_kept ones_rest rules_old rules_gs rules_kept atoms_old left_old : ℕ)
+          → ones_old ≡ ones_gs + ones_kept → rules_old ≡ rules_gs + rules_kept → ones_kept ≡ 1 + ones_rest → atoms_old ≡ taken_atoms + left_old → items ≡ ones_old + atoms_old + rules_old
+          → taken_mems ≡ ones_gs + rules_gs → items_f ≡ items → (ones_rest + left_old + rules_kept + added) + (taken_atoms + taken_mems) + 1 ≡ items_f + added
+      sums items items_f taken_atoms taken_mems added ones_old ones_gs ones_kept ones_rest rules_old rules_gs rules_kept atoms_old left_old e1 e2 e3 e4 e5 e6 e7 = omega arith

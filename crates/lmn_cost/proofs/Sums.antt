@@ -1,26 +1,35 @@
 -- What the instructions of a body add and take, part by part.
-use Rattle.std.proofs.Common.{ℕ, ◌+◌, ◌≡◌, List, [], ◌∷◌, ◌++◌, map, length, refl, sym, ap, subst, ◌∙◌, inl, inr, arith, length-append}
+use Rattle.std.proofs.Common.{ℕ, ◌+◌, ◌≡◌, ◌==◌, ◌⊎◌, Bool, true, false, cond, List, [], ◌∷◌, ◌++◌, map, length, refl, sym, ap, subst, ◌∙◌, inl, inr, arith, length-append}
+use Rattle.std.specs.Prelude.{if◌then◌else◌, sum}
+use Rattle.std.proofs.lemmas.List.{length-map}
 use Rattle.lmn_heap.specs.Heap.{Heap, rules_in}
 use Rattle.lmn_splice.specs.Splice as splice
 use Rattle.lmn_splice.specs.Classes.{ends_of_class}
 use Rattle.lmn_instr.specs.declared.instr.AtomPort.{AtomPort}
 use Rattle.lmn_instr.specs.declared.instr.NewPort.{NewPort}
 use Rattle.lmn_instr.specs.declared.instr.Instr.{Instr}
-use Rattle.lmn_instr.specs.declared.instr.Instr.TheVariants.{RemoveAtom, RemovePart, RemoveMem}
-use Rattle.lmn_instr.specs.Running.{HeadRegisters}
+use Rattle.lmn_instr.specs.declared.instr.Instr.TheVariants.{RemoveAtom, RemovePart, RemoveMem, DropCells}
+use Rattle.lmn_parts.specs.Copies.{answer}
+use Rattle.lmn_parts.proofs.AnswerLaws.{answer_in, answer_on, answer_here}
+use Rattle.lmn_solid.specs.Heads.{HeadMembrane}
 use Rattle.lmn_body.specs.declared.items.BodyItem.{BodyItem}
 use Rattle.lmn_body.specs.declared.items.BodyItem.TheVariants.{Atom, Connector, Copy, Bound, Membrane, Rest, Rule, Rules}
-use Rattle.lmn_body.specs.Code.{making, link_code, links_code}
+use Rattle.lmn_body.specs.Code.{making, drops, link_code, links_code}
 use Rattle.lmn_body.specs.Made.{copies_of}
 use Rattle.lmn_body.specs.Running.{Registers}
-use Rattle.lmn_body.specs.Added.{if_inside, added_atoms, added_rules, moved_mems, made_mems}
-use Rattle.lmn_body.specs.Rules.{Goes}
+use Rattle.lmn_body.specs.Added.{if_inside, added_atoms, added_mems, added_rules, source_mems, moved_mems, made_mems}
+use Rattle.lmn_body.specs.RestCopies.{RestCopies, later, rest_membranes, copied_atom, copied_membrane, copied_into, given, AreAsLong}
+use Rattle.lmn_body.specs.Rules.{Goes, closed_rests}
+use Rattle.lmn_body.specs.Within.{left_of_closed}
+use Rattle.lmn_body.proofs.AddedLemmas.{AreWholeRests, in_if, of_map, long_enough}
+use Rattle.lmn_body.proofs.MakingParts.{moved_source}
+use Rattle.lmn_body.proofs.RestGrowing.{in_given}
 use Rattle.lmn_machine.specs.Costs.{IsSize, AddsItems, TakesItems, InAll}
-use Rattle.lmn_cost.proofs.Totals.{total_same, total_plus, total_none}
+use Rattle.lmn_cost.proofs.Totals.{total_is_sum, total_same, total_plus, total_none, total_ones}
 use Rattle.lmn_heap.specs.Lists.{Distinct}
-use Rattle.lmn_heap.proofs.ListLemmas.{each_in, each_of}
+use Rattle.lmn_heap.proofs.ListLemmas.{each_in, each_of, in_left, in_right}
 use Rattle.std.proofs.lemmas.Bool.{eq-eqb}
-use Rattle.lmn_base.proofs.Lists.{weigh as total}
+use Rattle.lmn_base.proofs.Lists.{weigh as total, weigh_append, in_either}
 use Rattle.lmn_base.proofs.Numbers.{not_equal as apart_test}
 use Rattle.lmn_base.specs.Lists.{In}
 
@@ -36,16 +45,16 @@ one_more P x xs a n p s = (a, n, (p, s, refl))
 none_more : (P : Instr → ℕ → Type 0) (x : Instr) (xs : List Instr) (n : ℕ) → P x 0 → InAll P xs n → InAll P (x ∷ xs) n
 none_more P x xs n p s = (0, n, (p, s, omega arith))
 
-module _ (h : Heap) (r : HeadRegisters) where
+module _ (h : Heap) (r : Registers) where
   -- removals
 
   pub atoms_taken : (ns : List ℕ) → InAll (TakesItems h r) (map RemoveAtom ns) (length ns)
   atoms_taken [] = refl
   atoms_taken (n ∷ ns) = (1, length ns, (refl, atoms_taken ns, omega arith))
 
-  pub mems_taken : (ks : List ℕ) → InAll (TakesItems h r) (map RemoveMem ks) (total (λ k. 1 + length (rules_in h (r.images.membrane k))) ks)
+  pub mems_taken : (ks : List ℕ) → InAll (TakesItems h r) (map RemoveMem ks) (total (λ k. 1 + length (rules_in h (r.head.images.membrane k))) ks)
   mems_taken [] = refl
-  mems_taken (k ∷ ks) = one_more (TakesItems h r) (RemoveMem k) (map RemoveMem ks) (1 + length (rules_in h (r.images.membrane k))) (total (λ k. 1 + length (rules_in h (r.images.membrane k))) ks) refl (mems_taken ks)
+  mems_taken (k ∷ ks) = one_more (TakesItems h r) (RemoveMem k) (map RemoveMem ks) (1 + length (rules_in h (r.head.images.membrane k))) (total (λ k. 1 + length (rules_in h (r.head.images.membrane k))) ks) refl (mems_taken ks)
 
   pub atoms_add : (ns : List ℕ) → InAll (AddsItems h r) (map RemoveAtom ns) 0
   atoms_add [] = refl
@@ -100,80 +109,202 @@ module _ (h : Heap) (r : HeadRegisters) where
   making_takes a m c (Copy part link inside ∷ xs) = (0, 0, (refl, making_takes a m (c + 1) xs, refl))
   making_takes a m c (Bound integer link inside ∷ xs) = (0, 0, (refl, making_takes (a + 1) m c xs, refl))
   making_takes a m c (Membrane inside ∷ xs) = (0, 0, (refl, making_takes a (m + 1) c xs, refl))
-  making_takes a m c (Rest of closed inside ∷ xs) = (0, 0, (refl, making_takes a m c xs, refl))
+  making_takes a m c (Rest of false inside ∷ xs) = (0, 0, (refl, making_takes a m c xs, refl))
+  making_takes a m c (Rest of true inside ∷ xs) = (0, 0, (refl, making_takes a m c xs, refl))
   making_takes a m c (Rule rule inside ∷ xs) = (0, 0, (refl, making_takes a m c xs, refl))
   making_takes a m c (Rules of inside ∷ xs) = (0, 0, (refl, making_takes a m c xs, refl))
 
--- What stands in one membrane of a list is counted once.
-inside_once : (r : Registers) (inside : ℕ) (ns : List ℕ) (at : List ℕ) → Distinct at → In (r.head.images.membrane inside) at → total (λ x. length (if_inside r x inside ns)) at ≡ length ns
-inside_once r inside ns [] d i = absurd i
-inside_once r inside ns (x ∷ xs) d (inl e) =
-    let here : length (if_inside r x inside ns) ≡ length ns = rw (eq-eqb (r.head.images.membrane inside) x (sym e)) refl in
-    let rest = total_none (λ z. length (if_inside r z inside ns)) xs (λ z i. rw (apart_test (r.head.images.membrane inside) z (λ q. each_in (λ u. x ≡ u → ⊥) xs z d.0 i (e ∙ q))) refl) in
+  -- what is dropped
+
+  pub drops_add : (k : ℕ) (bs : List HeadMembrane) → InAll (AddsItems h r) (drops k bs) 0
+  drops_add k [] = refl
+  drops_add k (b ∷ bs) = by b.has_closed_context (drops_add (k + 1) bs)
+    where
+      by : (c : Bool) → InAll (AddsItems h r) (drops (k + 1) bs) 0 → InAll (AddsItems h r) (cond c (DropCells k ∷ []) [] ++ drops (k + 1) bs) 0
+      by false w = w
+      by true w = none_more (AddsItems h r) (DropCells k) (drops (k + 1) bs) 0 refl w
+
+  abbrev mem_items : ℕ → ℕ
+  mem_items k = 1 + length (rules_in h k)
+
+  pub drops_take : (k : ℕ) (bs : List HeadMembrane) → InAll (TakesItems h r) (drops k bs) (length (left_of_closed r.left_atoms k bs) + total (λ x. 1 + length (rules_in h x)) (left_of_closed r.left_membranes k bs))
+  drops_take k [] = refl
+  drops_take k (b ∷ bs) = by b.has_closed_context (drops_take (k + 1) bs)
+    where
+      by : (c : Bool) → InAll (TakesItems h r) (drops (k + 1) bs) (length (left_of_closed r.left_atoms (k + 1) bs) + total mem_items (left_of_closed r.left_membranes (k + 1) bs))
+          → InAll (TakesItems h r) (cond c (DropCells k ∷ []) [] ++ drops (k + 1) bs)
+          (length (cond c (r.left_atoms k) [] ++ left_of_closed r.left_atoms (k + 1) bs) + total mem_items (cond c (r.left_membranes k) [] ++ left_of_closed r.left_membranes (k + 1) bs))
+      by false w = w
+      by true w =
+          let atoms = left_of_closed r.left_atoms (k + 1) bs in
+          let mems = left_of_closed r.left_membranes (k + 1) bs in
+          let long = length-append (r.left_atoms k) atoms in
+          let weight = weigh_append mem_items (r.left_membranes k) mems in
+          let same = total_is_sum mem_items (r.left_membranes k) in
+          let e : (length (r.left_atoms k) + sum (map mem_items (r.left_membranes k))) + (length atoms + total mem_items mems) ≡ length (r.left_atoms k ++ atoms) + total mem_items (r.left_membranes k ++ mems) =
+          sums (length (r.left_atoms k)) (sum (map mem_items (r.left_membranes k))) (length atoms) (total mem_items mems) (length (r.left_atoms k ++ atoms)) (total mem_items (r.left_membranes k ++ mems)) (total mem_items (r.left_membranes k)) long weight same in
+          subst (λ n. InAll (TakesItems h r) (DropCells k ∷ drops (k + 1) bs) n) e
+          (one_more (TakesItems h r) (DropCells k) (drops (k + 1) bs) (length (r.left_atoms k) + sum (map mem_items (r.left_membranes k))) (length atoms + total mem_items mems) refl w)
+        where
+          sums : (a s b t ab st u : ℕ) → ab ≡ a + b → st ≡ u + t → s ≡ u → (a + s) + (b + t) ≡ ab + st
+          sums a s b t ab st u e f g = omega arith
+
+-- What goes to one of some different membranes is counted once.
+counted_once : (y : ℕ) (ns : List ℕ) (at : List ℕ) → Distinct at → In y at → total (λ x. length (if y == x then ns else [])) at ≡ length ns
+counted_once y ns [] d i = absurd i
+counted_once y ns (x ∷ xs) d (inl e) =
+    let here : length (if y == x then ns else []) ≡ length ns = rw (eq-eqb y x (sym e)) refl in
+    let rest = total_none (λ z. length (if y == z then ns else [])) xs (λ z i. rw (apart_test y z (λ q. each_in (λ u. x ≡ u → ⊥) xs z d.0 i (e ∙ q))) refl) in
     omega arith
-inside_once r inside ns (x ∷ xs) d (inr i) =
-    let here : length (if_inside r x inside ns) ≡ 0 = rw (apart_test (r.head.images.membrane inside) x (λ q. each_in (λ u. x ≡ u → ⊥) xs (r.head.images.membrane inside) d.0 i (sym q))) refl in
-    let rest = inside_once r inside ns xs d.1 i in
+counted_once y ns (x ∷ xs) d (inr i) =
+    let here : length (if y == x then ns else []) ≡ 0 = rw (apart_test y x (λ q. each_in (λ u. x ≡ u → ⊥) xs y d.0 i (sym q))) refl in
+    let rest = counted_once y ns xs d.1 i in
     omega arith
+
+-- What is given to membranes of a list is counted once.
+given_total : (list : ℕ → List ℕ) (to : ℕ → ℕ) (ks : List ℕ) (at : List ℕ) → Distinct at → ((k : ℕ) → In k ks → In (to k) at) → total (λ x. length (given list to ks x)) at ≡ total (λ k. length (list k)) ks
+given_total list to [] at d into = total_none (λ x. length (given list to [] x)) at (λ x i. refl)
+given_total list to (k ∷ ks) at d into =
+    total_same (λ x. length (given list to (k ∷ ks) x)) (λ x. length (if to k == x then list k else []) + length (given list to ks x)) at (λ x i. length-append (if to k == x then list k else []) (given list to ks x))
+    ∙ total_plus (λ x. length (if to k == x then list k else [])) (λ x. length (given list to ks x)) at
+    ∙ (λ t. counted_once (to k) (list k) at d (into k (inl refl)) t + given_total list to ks at d (λ z i. into z (inr i)) t)
+
+-- What is left in the membranes of a rest is as many atoms as the rest has.
+pub record IsAllLeft (r : Registers) (left : ℕ → List ℕ) (of : ℕ) : Type 0 where
+  pub total : total (λ x. length (left x)) (rest_membranes r of) ≡ length (r.left_atoms of)
+  pub outside : In (r.head.images.membrane of) (r.left_membranes of) → ⊥
 
 -- What a body adds to the membranes of a list: its instructions tell the sum, without what is left of the membranes that
 -- move.
 module _ (h : Heap) (r : Registers) (left : ℕ → List ℕ) (ks : List ℕ) (E : ℕ → Type 0) (at : List ℕ) (once : Distinct at)
     (inside : (x : ℕ) → (In x ks → ⊥) × E x → In x at) where
-  abbrev Sum : ℕ → ℕ → ℕ → List BodyItem → Type 0
-  Sum a m c body = (n : ℕ) × InAll (AddsItems h r.head) (making a m c body) n
-      × (total (λ x. length (added_atoms r left a c body x)) at + length (made_mems r m body) + total (λ x. length (added_rules r (rules_in h) body x)) at
+  abbrev Sum : RestCopies → ℕ → ℕ → ℕ → List BodyItem → Type 0
+  Sum q a m c body = (n : ℕ) × InAll (AddsItems h r) (making a m c body) n
+      × (total (λ x. length (added_atoms r q left a c body x)) at + length (made_mems r q m body) + total (λ x. length (added_rules r q (rules_in h) body x)) at
       ≡ n + total (λ x. length (left x)) (moved_mems r body))
+
+  -- something is added, and then the rest
+  first_added : (first rest : ℕ → List ℕ) → total (λ x. length (first x ++ rest x)) at ≡ total (λ x. length (first x)) at + total (λ x. length (rest x)) at
+  first_added first rest =
+      total_same (λ x. length (first x ++ rest x)) (λ x. length (first x) + length (rest x)) at (λ x i. length-append (first x) (rest x))
+      ∙ total_plus (λ x. length (first x)) (λ x. length (rest x)) at
 
   -- something is added to one membrane
   atoms_first : (inner : ℕ) (ns : List ℕ) (rest : ℕ → List ℕ) → (In (r.head.images.membrane inner) ks → ⊥) × E (r.head.images.membrane inner)
       → total (λ x. length (if_inside r x inner ns ++ rest x)) at ≡ length ns + total (λ x. length (rest x)) at
   atoms_first inner ns rest w =
-      total_same (λ x. length (if_inside r x inner ns ++ rest x)) (λ x. length (if_inside r x inner ns) + length (rest x)) at (λ x i. length-append (if_inside r x inner ns) (rest x))
-      ∙ total_plus (λ x. length (if_inside r x inner ns)) (λ x. length (rest x)) at
-      ∙ ap (λ k. k + total (λ x. length (rest x)) at) (inside_once r inner ns at once (inside (r.head.images.membrane inner) w))
+      first_added (λ x. if_inside r x inner ns) rest
+      ∙ ap (λ k. k + total (λ x. length (rest x)) at) (counted_once (r.head.images.membrane inner) ns at once (inside (r.head.images.membrane inner) w))
 
-  pub making_adds : (a m c : ℕ) (body : List BodyItem) → Goes r ks E body → ((e : ℕ × ℕ) → splice.IsOneOf e (copies_of c body) → IsSize h (r.head.images.part e.1) (length (r.copied e.0))) → Sum a m c body
-  making_adds a m c [] g sizes = (
+  -- what a copy of a rest adds, by its parts
+  copy_sum : (atoms mems items rules more made more_rules first first_rules all_atoms all_made all_rules left_size n moved : ℕ)
+      → all_atoms ≡ first + more → first ≡ left_size → left_size ≡ atoms → all_made ≡ mems + made → all_rules ≡ first_rules + more_rules → first_rules ≡ rules → items ≡ mems + rules → more + made + more_rules ≡ n + moved
+      → all_atoms + all_made + all_rules ≡ ((atoms + items) + n) + moved
+  copy_sum atoms mems items rules more made more_rules first first_rules all_atoms all_made all_rules left_size n moved e1 e2 e3 e4 e5 e6 e7 e8 = omega arith
+
+  pub making_adds : (q : RestCopies) (a m c : ℕ) (body : List BodyItem) → Goes r ks E body → AreAsLong r q body → ((of : ℕ) → splice.IsOneOf of (closed_rests body) → IsAllLeft r left of) → ((x : ℕ) → In x (made_mems r q m body) → In x at)
+      → ((e : ℕ × ℕ) → splice.IsOneOf e (copies_of c body) → IsSize h (r.head.images.part e.1) (length (r.copied e.0))) → Sum q a m c body
+  making_adds q a m c [] g long whole made sizes = (
     0,
     refl,
     let x = total_none (λ x. 0) at (λ x i. refl) in omega arith,
   )
-  making_adds a m c (Atom functor links inner ∷ xs) g sizes =
-      let on = making_adds (a + 1) m c xs g.1 sizes in
-      let f = atoms_first inner (r.head.images.atom a ∷ []) (added_atoms r left (a + 1) c xs) g.0 in
+  making_adds q a m c (Atom functor links inner ∷ xs) g long whole made sizes =
+      let on = making_adds q (a + 1) m c xs g.1 long whole made sizes in
+      let f = atoms_first inner (r.head.images.atom a ∷ []) (added_atoms r q left (a + 1) c xs) g.0 in
       let e = on.2 in
       (1 + on.0, (1, on.0, (refl, on.1, refl)), omega arith)
-  making_adds a m c (Connector l l' ∷ xs) g sizes = making_adds a m c xs g sizes
-  making_adds a m c (Copy part link inner ∷ xs) g sizes =
-      let on = making_adds a m (c + 1) xs g.1 (λ e i. sizes e (inr i)) in
-      let f = atoms_first inner (r.copied c) (added_atoms r left a (c + 1) xs) g.0 in
+  making_adds q a m c (Connector l l' ∷ xs) g long whole made sizes = making_adds q a m c xs g long whole made sizes
+  making_adds q a m c (Copy part link inner ∷ xs) g long whole made sizes =
+      let on = making_adds q a m (c + 1) xs g.1 long whole made (λ e i. sizes e (inr i)) in
+      let f = atoms_first inner (r.copied c) (added_atoms r q left a (c + 1) xs) g.0 in
       let e = on.2 in
       (length (r.copied c) + on.0, (length (r.copied c), on.0, (sizes (c, part) (inl refl), on.1, refl)), omega arith)
-  making_adds a m c (Bound integer link inner ∷ xs) g sizes =
-      let on = making_adds (a + 1) m c xs g.1 sizes in
-      let f = atoms_first inner (r.head.images.atom a ∷ []) (added_atoms r left (a + 1) c xs) g.0 in
+  making_adds q a m c (Bound integer link inner ∷ xs) g long whole made sizes =
+      let on = making_adds q (a + 1) m c xs g.1 long whole made sizes in
+      let f = atoms_first inner (r.head.images.atom a ∷ []) (added_atoms r q left (a + 1) c xs) g.0 in
       let e = on.2 in
       (1 + on.0, (1, on.0, (refl, on.1, refl)), omega arith)
-  making_adds a m c (Membrane inner ∷ xs) g sizes =
-      let on = making_adds a (m + 1) c xs g.1 sizes in
+  making_adds q a m c (Membrane inner ∷ xs) g long whole made sizes =
+      let on = making_adds q a (m + 1) c xs g.1 long whole (λ x i. made x (inr i)) sizes in
       let e = on.2 in
       (1 + on.0, (1, on.0, (refl, on.1, refl)), omega arith)
-  making_adds a m c (Rest of closed inner ∷ xs) g sizes =
-      let on = making_adds a m c xs g.4 sizes in
-      let f = atoms_first inner (left (r.head.images.membrane of)) (added_atoms r left a c xs) g.3 in
+  making_adds q a m c (Rest of false inner ∷ xs) g long whole made sizes =
+      let on = making_adds q a m c xs g.4 long whole made sizes in
+      let f = atoms_first inner (left (r.head.images.membrane of)) (added_atoms r q left a c xs) g.3 in
       let e = on.2 in
       (on.0, (0, on.0, (refl, on.1, omega arith)), omega arith)
-  making_adds a m c (Rule rule inner ∷ xs) g sizes =
-      let on = making_adds a m c xs g.1 sizes in
-      let f = atoms_first inner (rule ∷ []) (added_rules r (rules_in h) xs) g.0 in
+  making_adds q a m c (Rest of true inner ∷ xs) g long whole made sizes =
+      let p = q 0 in
+      let on = making_adds (later q) a m c xs g.2 long.1 (λ o i. whole o (inr i)) (λ x i. made x (in_right x p.membranes (made_mems r (later q) m xs) i)) sizes in
+      let atoms = r.left_atoms of in
+      let mems = r.left_membranes of in
+      let list : ℕ → List ℕ = λ k. map (copied_atom r of p) (left k) in
+      let to = copied_into r of inner p in
+      let items : ℕ → ℕ = λ k. 1 + length (rules_in h k) in
+      let rules : ℕ → ℕ = λ k. length (rules_in h k) in
+      let size = length atoms + sum (map items mems) in (
+        size + on.0,
+        (size, on.0, (refl, on.1, refl)),
+        copy_sum (length atoms) (length mems) (sum (map items mems)) (total rules mems) (total (λ x. length (added_atoms r (later q) left a c xs x)) at) (length (made_mems r (later q) m xs)) (total (λ x. length (added_rules r (later q) (rules_in h) xs x)) at)
+            (total (λ x. length (given list to (rest_membranes r of) x)) at) (total (λ x. length (given (rules_in h) to mems x)) at)
+            (total (λ x. length (given list to (rest_membranes r of) x ++ added_atoms r (later q) left a c xs x)) at) (length (p.membranes ++ made_mems r (later q) m xs))
+            (total (λ x. length (given (rules_in h) to mems x ++ added_rules r (later q) (rules_in h) xs x)) at) (total (λ k. length (left k)) (rest_membranes r of)) on.0 (total (λ x. length (left x)) (moved_mems r xs))
+            (first_added (given list to (rest_membranes r of)) (added_atoms r (later q) left a c xs))
+            (given_total list to (rest_membranes r of) at once target ∙ total_same (λ k. length (list k)) (λ k. length (left k)) (rest_membranes r of) (λ k i. length-map (left k) (copied_atom r of p)))
+            (whole of (inl refl)).total
+            (length-append p.membranes (made_mems r (later q) m xs) ∙ ap (λ k. k + length (made_mems r (later q) m xs)) long.0.1)
+            (first_added (given (rules_in h) to mems) (added_rules r (later q) (rules_in h) xs))
+            (given_total (rules_in h) to mems at once (λ k i. target k (inr i)))
+            (total_is_sum items mems ∙ total_plus (λ k. 1) rules mems ∙ ap (λ k. k + total rules mems) (total_ones mems))
+            on.2,
+      )
+    where
+      target : (k : ℕ) → In k (rest_membranes r of) → In (copied_into r of inner (q 0) k) at
+      target k (inl e) = subst (λ z. In z at) (sym (answer_here (r.head.images.membrane of) (r.head.images.membrane inner) (r.left_membranes of) (q 0).membranes k e)) (inside (r.head.images.membrane inner) g.1)
+      target k (inr j) =
+          let d : r.head.images.membrane of ≡ k → ⊥ = λ e. (whole of (inl refl)).outside (subst (λ z. In z (r.left_membranes of)) (sym e) j) in
+          let y = answer (r.left_membranes of) (q 0).membranes k in
+          subst (λ z. In z at) (sym (answer_on (r.head.images.membrane of) (r.head.images.membrane inner) (r.left_membranes of) (q 0).membranes k d))
+          (made y (in_left y (q 0).membranes (made_mems r (later q) m xs) (answer_in (r.left_membranes of) (q 0).membranes k (long_enough long.0.1) j)))
+  making_adds q a m c (Rule rule inner ∷ xs) g long whole made sizes =
+      let on = making_adds q a m c xs g.1 long whole made sizes in
+      let f = atoms_first inner (rule ∷ []) (added_rules r q (rules_in h) xs) g.0 in
       let e = on.2 in
       (1 + on.0, (1, on.0, (refl, on.1, refl)), omega arith)
-  making_adds a m c (Rules of inner ∷ xs) g sizes =
-      let on = making_adds a m c xs g.2 sizes in
-      let f = atoms_first inner (rules_in h (r.head.images.membrane of)) (added_rules r (rules_in h) xs) g.1 in
+  making_adds q a m c (Rules of inner ∷ xs) g long whole made sizes =
+      let on = making_adds q a m c xs g.2 long whole made sizes in
+      let f = atoms_first inner (rules_in h (r.head.images.membrane of)) (added_rules r q (rules_in h) xs) g.1 in
       let e = on.2 in
       (length (rules_in h (r.head.images.membrane of)) + on.0, (length (rules_in h (r.head.images.membrane of)), on.0, (refl, on.1, refl)), omega arith)
+
+-- an added membrane is made, or was left of one whose content moves
+pub moved_from : (r : Registers) (q : RestCopies) (left left_mems : ℕ → List ℕ) (m : ℕ) (body : List BodyItem) → AreAsLong r q body → AreWholeRests r left left_mems body → (x b : ℕ) → In b (added_mems r q left_mems m body x)
+    → In b (made_mems r q m body) ⊎ ((k : ℕ) × In k (moved_mems r body) × In b (left_mems k))
+moved_from r q left left_mems m [] long whole x b i = absurd i
+moved_from r q left left_mems m (Atom functor links inside ∷ xs) long whole x b i = moved_from r q left left_mems m xs long whole x b i
+moved_from r q left left_mems m (Connector l l' ∷ xs) long whole x b i = moved_from r q left left_mems m xs long whole x b i
+moved_from r q left left_mems m (Copy part link inside ∷ xs) long whole x b i = moved_from r q left left_mems m xs long whole x b i
+moved_from r q left left_mems m (Bound integer link inside ∷ xs) long whole x b i = moved_from r q left left_mems m xs long whole x b i
+moved_from r q left left_mems m (Membrane inside ∷ xs) long whole x b i = elim (in_either b (if_inside r x inside (r.head.images.membrane m ∷ [])) (added_mems r q left_mems (m + 1) xs x) i) [
+  | inl j ↦ elim (in_if r x inside (r.head.images.membrane m ∷ []) b j) [ inl e ↦ inl (inl e) | inr v ↦ absurd v ]
+  | inr j ↦ elim (moved_from r q left left_mems (m + 1) xs long whole x b j) [ inl v ↦ inl (inr v) | inr v ↦ inr v ]
+]
+moved_from r q left left_mems m (Rest of false inside ∷ xs) long whole x b i = elim (in_either b (if_inside r x inside (left_mems (r.head.images.membrane of))) (added_mems r q left_mems m xs x) i) [
+  | inl j ↦ inr (r.head.images.membrane of, inl refl, in_if r x inside (left_mems (r.head.images.membrane of)) b j)
+  | inr j ↦ elim (moved_from r q left left_mems m xs long whole x b j) [ inl v ↦ inl v | inr v ↦ inr (v.0, inr v.1, v.2) ]
+]
+moved_from r q left left_mems m (Rest of true inside ∷ xs) long whole x b i =
+    let p = q 0 in
+    let G = given (λ k. map (copied_membrane r of p) (left_mems k)) (copied_into r of inside p) (rest_membranes r of) x in
+    elim (in_either b G (added_mems r (later q) left_mems m xs x) i) [
+      | inl j ↦ (let w = in_given (λ k. map (copied_membrane r of p) (left_mems k)) (copied_into r of inside p) (rest_membranes r of) x b j in
+          let v = of_map (copied_membrane r of p) b (left_mems w.0) w.3 in
+          inl (in_left b p.membranes (made_mems r (later q) m xs) (subst (λ z. In z p.membranes) v.2 (answer_in (r.left_membranes of) p.membranes v.0 (long_enough long.0.1) ((whole of (inl refl)).into_mems w.0 v.0 w.1 v.1)))))
+      | inr j ↦ elim (moved_from r (later q) left left_mems m xs long.1 (λ o i. whole o (inr i)) x b j) [ inl v ↦ inl (in_right b p.membranes (made_mems r (later q) m xs) v) | inr v ↦ inr v ]
+    ]
+moved_from r q left left_mems m (Rule rule inside ∷ xs) long whole x b i = moved_from r q left left_mems m xs long whole x b i
+moved_from r q left left_mems m (Rules of inside ∷ xs) long whole x b i = moved_from r q left left_mems m xs long whole x b i
 
 -- the membranes that move are different
 pub moved_once : (r : Registers) (ks : List ℕ) (E : ℕ → Type 0) (body : List BodyItem) → Goes r ks E body → Distinct (moved_mems r body)
@@ -183,6 +314,7 @@ moved_once r ks E (Connector left right ∷ xs) g = moved_once r ks E xs g
 moved_once r ks E (Copy part link inside ∷ xs) g = moved_once r ks E xs g.1
 moved_once r ks E (Bound integer link inside ∷ xs) g = moved_once r ks E xs g.1
 moved_once r ks E (Membrane inside ∷ xs) g = moved_once r ks E xs g.1
-moved_once r ks E (Rest of closed inside ∷ xs) g = (each_of _ (moved_mems r xs) (λ z i e. g.2 (subst (λ u. In u (moved_mems r xs)) (sym e) i)), moved_once r ks E xs g.4)
+moved_once r ks E (Rest of false inside ∷ xs) g = (each_of _ (moved_mems r xs) (λ z i e. g.2 (subst (λ u. In u (source_mems r xs)) (sym e) (moved_source r xs z i))), moved_once r ks E xs g.4)
+moved_once r ks E (Rest of true inside ∷ xs) g = moved_once r ks E xs g.2
 moved_once r ks E (Rule rule inside ∷ xs) g = moved_once r ks E xs g.1
 moved_once r ks E (Rules of inside ∷ xs) g = moved_once r ks E xs g.2
