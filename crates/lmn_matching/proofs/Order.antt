@@ -55,6 +55,7 @@ one_read a m g (AnyMem x y) is r o = absurd r
 one_read a m g (IsInt x p y) is r o = absurd r
 one_read a m g (IsUnary x p y) is r o = absurd r
 one_read a m g (IsGround x p y) is r o = absurd r
+one_read a m g (IsClosed x gs) is r o = absurd r
 one_read a m g (EqGround x y) is r o = absurd r
 one_read a m g (NeqGround x y) is r o = absurd r
 one_read a m g (GetInt x y) is r o = absurd r
