@@ -15,7 +15,7 @@ use Rattle.lmn_registers.specs.Agreeing.{Agrees}
 use Rattle.lmn_registers.specs.declared.registers.SetRegisters.{SetRegisters}
 use Rattle.lmn_commit.specs.Matched.{IsPrepared}
 use Rattle.lmn_commit.specs.Preparing.{BodyInOrder, Prepared}
-use Rattle.lmn_commit.specs.Registers.{HasCopies, AreSized, Grows}
+use Rattle.lmn_commit.specs.Registers.{HasCopies, HasRests, AreSized, Grows}
 use Rattle.lmn_commit.specs.Registers as body
 use Rattle.lmn_machine.specs.Costs.{IsTold, Leaves}
 use Rattle.lmn_machine.specs.Searching.{AreAllSet, parts_set, integers_set}
@@ -25,25 +25,28 @@ use Rattle.lmn_strategy.specs.declared.turning.Turn.TheVariants.{Committed, Irre
 use Rattle.lmn_strategy.specs.Choosing.{CanTurn, IsFirstIn, IsFirstRule, HasFound, asked}
 use Rattle.lmn_strategy.specs.Turns.{AreRunnable, IsAnswer, Chooses, IsTurn, CanFire, AnswersMatch, Loads}
 use Rattle.lmn_strategy.proofs.KeptRules.{AllRules, rules_kept}
+use Rattle.lmn_strategy.proofs.RestsHeld.{holds_by_code, rest_by_code, rests_held}
 use Rattle.lmn_base.proofs.Lists.{value_or, get_there as there}
 use Rattle.lmn_heap.proofs.Common.{mem_stands}
 use Rattle.lmn_base.specs.Lists.{In}
 
 -- ---- the registers of a body
 
--- registers that have the values of those that are set, where the copies have these atoms
-abbrev body_known : {A M : Type 0} → (A → ℕ) → (M → ℕ) → SetRegisters A M → List (List ℕ) → Registers
-body_known atom membrane g copied = record {
+-- registers that have the values of those that are set, where the copies have these atoms and the rests are these lists
+abbrev body_known : {A M : Type 0} → (A → ℕ) → (M → ℕ) → SetRegisters A M → List (List ℕ) → (ℕ → List ℕ × List ℕ) → Registers
+body_known atom membrane g copied left = record {
   head = known atom membrane g;
   copy = λ k. value_or (λ p. port_id atom p.root) (0, 0) (slice_get g.copies k);
   copied = λ k. value_or (λ xs. xs) [] (slice_get copied k);
+  left_atoms = λ k. (left k).0;
+  left_membranes = λ k. (left k).1;
 }
 
-known_copies : {A M : Type 0} (atom : A → ℕ) (membrane : M → ℕ) (g : SetRegisters A M) (copied : List (List ℕ)) → HasCopies (body_known atom membrane g copied) copied
-known_copies atom membrane g copied k atoms e = ap (λ o. value_or (λ xs. xs) [] o) e
+known_copies : {A M : Type 0} (atom : A → ℕ) (membrane : M → ℕ) (g : SetRegisters A M) (copied : List (List ℕ)) (left : ℕ → List ℕ × List ℕ) → HasCopies (body_known atom membrane g copied left) copied
+known_copies atom membrane g copied left k atoms e = ap (λ o. value_or (λ xs. xs) [] o) e
 
-body_agrees : {A M : Type 0} (atom : A → ℕ) (membrane : M → ℕ) (g : SetRegisters A M) (copied : List (List ℕ)) → AreSized g.copies copied → body.AgreesWithCopies atom membrane g (body_known atom membrane g copied)
-body_agrees atom membrane g copied sized =
+body_agrees : {A M : Type 0} (atom : A → ℕ) (membrane : M → ℕ) (g : SetRegisters A M) (copied : List (List ℕ)) (left : ℕ → List ℕ × List ℕ) → AreSized g.copies copied → body.AgreesWithCopies atom membrane g (body_known atom membrane g copied left)
+body_agrees atom membrane g copied left sized =
     let a = known_agrees atom membrane g in
     record {
       atoms = a.atoms;
@@ -89,6 +92,7 @@ can_fire atom membrane h codes run rules can m place n g first found code is =
     let set = subst (λ (c : Code). AreAllSet g c.head) same found.set in
     let placed = mem_stands h can.valid m (ruled_mem h m place n first.stands) in
     let is_first : (s : HeadRegisters) → Agrees atom membrane g s → IsFirstSuccess h code.head m s = λ s a. subst (λ (c : Code). IsFirstSuccess h c.head m s) same (found.first s a) in
+    let agrees : (s : Registers) → body.AgreesWithCopies atom membrane g s → Agrees atom membrane g s.head = λ s a. record { atoms = a.atoms; membranes = a.membranes; parts = a.parts; integers = a.integers } in
     record {
       held = found.held;
       copies = found.copies;
@@ -97,9 +101,14 @@ can_fire atom membrane h codes run rules can m place n g first found code is =
       matched = record {
         valid = can.valid;
         unmarked = can.unmarked;
-        commits = λ s a. r.commits h m s can.valid placed (is_first s.head (record { atoms = a.atoms; membranes = a.membranes; parts = a.parts; integers = a.integers }));
+        commits = λ s a rests. r.commits h m s can.valid placed (is_first s.head (agrees s a)) (holds_by_code atom membrane h g code.head set s (agrees s a) rests);
       };
-      some = λ s a. r.leaves h m s can.valid placed (is_first s a);
+      rests = λ at k x e.
+          (let s = known atom membrane g in
+          let a = known_agrees atom membrane g in
+          let w = r.copies h m s can.valid placed (is_first s a) at k x e in
+          let y = there g.membranes k (subst (λ n. k < n) (sym set.membranes) w.0) in (y.0, y.1, λ atoms membranes rest. w.1 atoms membranes (rest_by_code atom membrane h g code.head set s a k y.0 y.1 atoms membranes rest)));
+      some = λ s a rests. r.leaves h m s can.valid placed (is_first s.head a) (holds_by_code atom membrane h g code.head set s a rests);
     }
   where
     order_as : {A M : Type 0} (g : SetRegisters A M) (code : Code) → AreAllSet g code.head → BodyInOrder (atoms_set code.head) (1 + membranes_set code.head) (parts_set code.head) (integers_set code.head) 0 code.body →
@@ -118,7 +127,14 @@ le_or_less (suc m) zero = inr (omega arith)
 le_or_less (suc m) (suc n) = elim (le_or_less m n) [ inl a ↦ inl (omega (arith, a)) | inr b ↦ inr (omega (arith, b)) ]
 
 module _ {A M : Type 0} (atom : A → ℕ) (membrane : M → ℕ) (h : Heap) (g : SetRegisters A M) (code : Code) (can : CanFire atom membrane h g code) (size cost : ℕ)
-    (left : (s : HeadRegisters) (n : ℕ) → Agrees atom membrane g s → Leaves h s code.body n → cost ≡ min n (2 ^ 64 - 1)) where
+    (left : (s : Registers) (n : ℕ) → Agrees atom membrane g s.head → HasRests atom membrane h g s → Leaves h s code.body n → cost ≡ min n (2 ^ 64 - 1)) where
+  -- the rests besides the registers
+  abbrev lists : ℕ → List ℕ × List ℕ
+  lists k = (rests_held atom membrane h can.matched.valid g can.held k).0
+
+  has_lists : (s : Registers) → ((k : ℕ) → s.left_atoms k ≡ (lists k).0) → ((k : ℕ) → s.left_membranes k ≡ (lists k).1) → HasRests atom membrane h g s
+  has_lists s e d k m i = rw (e k, d k) ((rests_held atom membrane h can.matched.valid g can.held k).1 m i)
+
   few_left : (n : ℕ) → size < 2 ^ 64 - 1 → cost ≡ min n (2 ^ 64 - 1) → cost ≤ size → n ≤ size
   few_left n small e c = elim (le_or_less n size) [
     | inl a ↦ a
@@ -131,18 +147,20 @@ module _ {A M : Type 0} (atom : A → ℕ) (membrane : M → ℕ) (h : Heap) (g 
   -- too many items would be left
   pub fires_full : (h' : Heap) → h' ≡ h → size < cost → AnswersMatch atom membrane h g code size Full h'
   fires_full h' e l =
-      let s = body_known atom membrane g [] in
+      let s = body_known atom membrane g [] lists in
       let a = known_agrees atom membrane g in
-      let n = can.some s.head a in
-      record { registers = s; agrees = a; left = n.0; leaves = n.1; answered = (many_left n.0 (left s.head n.0 a n.1) l, e) }
+      let rests = has_lists s (λ k. refl) (λ k. refl) in
+      let n = can.some s a rests in
+      record { registers = s; agrees = a; rests = rests; left = n.0; leaves = n.1; answered = (many_left n.0 (left s n.0 a rests n.1) l, e) }
 
   -- there is no memory
   pub fires_not : (h' : Heap) → size < 2 ^ 64 - 1 → cost ≤ size → SameButSpares h h' → AnswersMatch atom membrane h g code size NoMemory h'
   fires_not h' small l same =
-      let s = body_known atom membrane g [] in
+      let s = body_known atom membrane g [] lists in
       let a = known_agrees atom membrane g in
-      let n = can.some s.head a in
-      record { registers = s; agrees = a; left = n.0; leaves = n.1; answered = (few_left n.0 small (left s.head n.0 a n.1) l, same) }
+      let rests = has_lists s (λ k. refl) (λ k. refl) in
+      let n = can.some s a rests in
+      record { registers = s; agrees = a; rests = rests; left = n.0; leaves = n.1; answered = (few_left n.0 small (left s n.0 a rests n.1) l, same) }
 
   -- the body is prepared
   abbrev is_prepared : (t : Heap) (k : SetRegisters A M) → Prepared atom membrane h t g k code.body → IsPrepared atom membrane t k code.body
@@ -150,17 +168,19 @@ module _ {A M : Type 0} (atom : A → ℕ) (membrane : M → ℕ) (h : Heap) (g 
 
   -- it is committed
   pub fires_all : (t h' : Heap) (k : SetRegisters A M) (p : Prepared atom membrane h t g k code.body) → size < 2 ^ 64 - 1 → cost ≤ size →
-      ((q : IsPrepared atom membrane t k code.body) (r : Registers) → body.AgreesWithCopies atom membrane k r → HasCopies r q.prepared.copied → RunsBody r code.body q.before h') → AnswersMatch atom membrane h g code size Committed h'
+      ((q : IsPrepared atom membrane t k code.body) (r : Registers) → body.AgreesWithCopies atom membrane k r → HasCopies r q.prepared.copied → HasRests atom membrane q.before q.matched_by r → RunsBody r code.body q.before h') → AnswersMatch atom membrane h g code size Committed h'
   fires_all t h' k p small l runs =
-      let s = body_known atom membrane k p.copied in
+      let s = body_known atom membrane k p.copied lists in
       let a = agrees_before atom membrane g k p.grows s.head (known_agrees atom membrane k) in
-      let n = can.some s.head a in
+      let rests = has_lists s (λ i. refl) (λ i. refl) in
+      let n = can.some s a rests in
       record {
         registers = s;
         agrees = a;
+        rests = rests;
         left = n.0;
         leaves = n.1;
-        answered = (few_left n.0 small (left s.head n.0 a n.1) l, runs (is_prepared t k p) s (body_agrees atom membrane k p.copied p.sizes) (known_copies atom membrane k p.copied));
+        answered = (few_left n.0 small (left s n.0 a rests n.1) l, runs (is_prepared t k p) s (body_agrees atom membrane k p.copied lists p.sizes) (known_copies atom membrane k p.copied lists) rests);
       }
 
 -- what is prepared over a heap and registers that are as they were
@@ -180,6 +200,7 @@ module _ {A M : Type 0} (atom : A → ℕ) (membrane : M → ℕ) (h : Heap) (co
     is = is;
     registers = fires.registers;
     first = subst (λ (c : Code). IsFirstSuccess h c.head m fires.registers.head) (one_code codes n found.code code found.is is) (found.first fires.registers.head fires.agrees);
+    rests = holds_by_code atom membrane h g code.head (subst (λ (c : Code). AreAllSet g c.head) (one_code codes n found.code code found.is is) found.set) fires.registers fires.agrees fires.rests;
     left = fires.left;
     leaves = fires.leaves;
     answered = fires.answered;

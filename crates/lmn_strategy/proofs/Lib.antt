@@ -8,5 +8,7 @@ pub mod GuardIntegers
 pub mod BodyUses
 pub mod BodyAll
 pub mod ReadyBodies
+pub mod RestsFound
+pub mod RestsHeld
 pub mod Runnable
 pub mod Firing

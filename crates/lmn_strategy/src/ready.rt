@@ -23,6 +23,7 @@ pub fn tables_are_runnable()
     ensures { TablesAreRunnable }
 {
     accepted_in_order();
+    accepted_sets_items();
     bodies_are_ready();
     bodies_can_be_committed();
     accepted_bodies();

@@ -1,5 +1,6 @@
-use Rattle.std.proofs.Common.{arith, subst}
+use Rattle.std.proofs.Common.{arith, subst, sym}
 use Rattle.lmn_body.specs.Stopping.{SameButSpares}
+use Rattle.lmn_commit.specs.Preparing.{CanCopyRests}
 use Rattle.lmn_strategy.proofs.Firing.{fires_full, fires_not, fires_all, prepared_as}
 use Rattle.lmn_strategy.proofs.turning.fire.Goals as goal
 
@@ -7,6 +8,11 @@ pub returns-then-cost-size-clause-fires : goal.returns-then-cost-size-clause-fir
 returns-then-cost-size-clause-fires g c =
     fires_full g.S.LinkStore.atom_id g.S.LinkStore.mem_id (g.S.LinkStore.heap c.args.machine.now.store) c.args.machine.now.set c.args.code.now c.requires.fire c.args.size c.cost.result c.cost.ensures.left
     (g.S.LinkStore.heap c.cost.new.self.store) c.cost.ensures.same (let t = c.if-cost-size.true in omega (arith, t))
+
+pub prepare-requires-clause-rests : goal.prepare-requires-clause-rests
+prepare-requires-clause-rests g c =
+    subst (λ x. CanCopyRests g.S.LinkStore.atom_id g.S.LinkStore.mem_id x c.cost.new.self.set c.args.code.now.body) (sym c.cost.ensures.same)
+    (subst (λ x. CanCopyRests g.S.LinkStore.atom_id g.S.LinkStore.mem_id (g.S.LinkStore.heap c.args.machine.now.store) x c.args.code.now.body) (sym c.cost.ensures.registers) c.requires.fire.rests)
 
 pub returns-in-Ok-clause-fires : goal.returns-in-Ok-clause-fires
 returns-in-Ok-clause-fires g c =
