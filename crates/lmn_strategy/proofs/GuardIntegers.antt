@@ -16,7 +16,7 @@ use Rattle.lmn_solid.specs.declared.items.HeadItem.{HeadItem}
 use Rattle.lmn_solid.specs.Heads.{HeadTyped, typed_contexts_of, membranes_of}
 use Rattle.lmn_solid.specs.Guards.{typed_number, context_alone}
 use Rattle.lmn_instr.specs.declared.instr.Instr.{Instr}
-use Rattle.lmn_instr.specs.declared.instr.Instr.TheVariants.{Add, Sub, Mul, Div, Mod, Commit}
+use Rattle.lmn_instr.specs.declared.instr.Instr.TheVariants.{Commit}
 use Rattle.lmn_instr.specs.HeadCode.{Computed, operator_instruction, named_code, value_code, comparison, part_named, equal_code, differ_parts_code, bind_register, guard_code, head_code, items_code, parts_code, all_filled_code}
 use Rattle.lmn_compile_head.specs.Heads.{UsesKnown, EqualAllowed, IsGuard}
 use Rattle.lmn_compile_body.specs.Naming.{equal_registers, guard_registers}

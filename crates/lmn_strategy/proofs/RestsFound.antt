@@ -24,7 +24,7 @@ use Rattle.lmn_solid.specs.declared.items.HeadItem.{HeadItem}
 use Rattle.lmn_solid.specs.Heads.{HeadMembrane, atoms_of, typed_contexts_of, membranes_of}
 use Rattle.lmn_solid.specs.Embeddings.{HasMembrane, Lies}
 use Rattle.lmn_instr.specs.declared.instr.Instr.{Instr}
-use Rattle.lmn_instr.specs.Running.{HeadRegisters, IsFirstSuccess, atoms_set, membranes_set}
+use Rattle.lmn_instr.specs.Running.{HeadRegisters, IsFirstSuccess, membranes_set}
 use Rattle.lmn_compile_head.specs.Accepted.{AcceptedLeast, head_items, rule_head_code}
 use Rattle.lmn_compile_body.specs.Accepted.{AcceptedNested, IsCompilable, rule_body_items}
 use Rattle.lmn_body.specs.Fired.{images_of}
@@ -38,7 +38,6 @@ use Rattle.lmn_body.proofs.Firing.{heap_in_of, of_heap_in, rising_below}
 use Rattle.lmn_body.proofs.HeadPorts.{in_map, of_map}
 use Rattle.lmn_commit.proofs.RestOf.{rest_of}
 use Rattle.lmn_cost.proofs.Finite.{part_listed}
-use Rattle.lmn_machine.specs.Searching.{parts_set}
 use Rattle.lmn_matching.specs.AcceptedCode.{AcceptedSetsItems, SetsItems}
 use Rattle.lmn_strategy.specs.Turns.{HoldsRestsOf, IsBesideCode, IsRestOf}
 

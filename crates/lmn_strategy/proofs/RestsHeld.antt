@@ -1,11 +1,11 @@
 -- The rests besides the registers that a match has set: there is one of each membrane, and it is the rest besides what head code
 -- sets.
-use Rattle.std.proofs.Common.{ℕ, zero, suc, ◌≡◌, ◌<◌, ◌+◌, Bool, true, not, inl, inr, List, [], ◌∷◌, ◌++◌, map, length, Option, Some, None, refl, sym, ap, subst, ◌∙◌, arith}
+use Rattle.std.proofs.Common.{ℕ, suc, ◌≡◌, ◌<◌, ◌+◌, true, not, inl, inr, List, [], ◌∷◌, ◌++◌, map, length, Option, Some, None, refl, sym, ap, subst, ◌∙◌, arith}
 use Rattle.std.specs.Prelude.{slice_get, ◌↔◌}
 use Rattle.lmn_base.specs.Graphs.{Reached, StandsWhole}
 use Rattle.lmn_base.specs.Lists.{In}
 use Rattle.lmn_base.proofs.Lists.{get_below, get_there as there, in_either, value_or}
-use Rattle.lmn_heap.specs.Heap.{Heap, IsMem, atoms_in, port_id}
+use Rattle.lmn_heap.specs.Heap.{Heap, atoms_in, port_id}
 use Rattle.lmn_heap.specs.Graphs.{atom_map}
 use Rattle.lmn_heap.specs.Sound.{Valid}
 use Rattle.lmn_heap.proofs.ListLemmas.{in_left, in_right}
@@ -22,9 +22,9 @@ use Rattle.lmn_body.specs.Running.{Registers}
 use Rattle.lmn_body.proofs.Dropping.{not_in, out_of}
 use Rattle.lmn_body.proofs.Firing.{heap_in_of, of_heap_in, rising_below}
 use Rattle.lmn_body.proofs.HeadPorts.{in_map, of_map}
-use Rattle.lmn_commit.specs.Registers.{HasRests, IsBeside, IsInParts, IsRestBeside}
+use Rattle.lmn_commit.specs.Registers.{HasRests, IsBeside, IsRestBeside}
 use Rattle.lmn_commit.proofs.RestOf.{rest_of}
-use Rattle.lmn_machine.specs.Searching.{AreAllSet, AreHeldWhole, parts_set}
+use Rattle.lmn_machine.specs.Searching.{AreAllSet, AreHeldWhole}
 use Rattle.lmn_strategy.specs.Turns.{HoldsRestsOf, IsBesideCode, IsRestOf}
 use Rattle.lmn_strategy.proofs.RestsFound.{all_of_parts}
 

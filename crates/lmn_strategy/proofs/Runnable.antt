@@ -1,5 +1,5 @@
 -- The code of a table of accepted rules can be run by turns.
-use Rattle.std.proofs.Common.{ℕ, ◌≡◌, ◌<◌, ◌+◌, List, [], length, Some, sym, subst, arith}
+use Rattle.std.proofs.Common.{ℕ, ◌≡◌, ◌<◌, ◌+◌, List, length, Some, sym, subst, arith}
 use Rattle.std.specs.Prelude.{slice_get, All}
 use Rattle.std.specs.List.{AllByRecursion}
 use Rattle.std.proofs.lemmas.Option.{slice_get_within}
@@ -75,7 +75,7 @@ tables_are_runnable order sets ready commit nested least cost codes t n code e =
     let r = has_rule codes t n code e in
     let first : (h : Heap) (m : ℕ) (s : HeadRegisters) → IsFirstSuccess h code.head m s → IsFirstSuccess h (rule_head_code r.rule r.plan) m s = λ h m s f. subst (λ hd. IsFirstSuccess h hd m s) r.compiled.head f in
     let rests : (h : Heap) (m : ℕ) (s : Registers) → Valid h → IsFirstSuccess h code.head m s.head → HoldsRestsOf h code.head s → HoldsRests h s (head_items r.rule r.plan) =
-      λ h m s valid f w. rests_of_rule sets nested least t.table r.rule r.plan r.whole h valid m s (first h m s.head f) (subst (λ hd. HoldsRestsOf h hd s) r.compiled.head w) in
+    λ h m s valid f w. rests_of_rule sets nested least t.table r.rule r.plan r.whole h valid m s (first h m s.head f) (subst (λ hd. HoldsRestsOf h hd s) r.compiled.head w) in
     record {
       head = order code.head t.table r.rule r.plan (record { ready = r.whole.ready; is = r.compiled.head });
       ready = ready t.table r.rule r.plan r.whole code r.compiled;
