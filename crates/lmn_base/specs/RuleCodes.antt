@@ -208,19 +208,6 @@ in_other_form items item = []
 abbrev pub in_two_forms : RuleTree → Row
 in_two_forms r = record { code = 45; places = flat_map (in_other_form (rule_items r)) (rule_items r) }
 
--- ---- E90: a context is closed, which no code runs yet
-
-abbrev pub is_closed : Form → Bool
-is_closed Closed = true
-is_closed form = false
-
-abbrev pub closed_place : Item → List Pos
-closed_place (Context u) = if is_closed u.form then u.pos ∷ [] else []
-closed_place item = []
-
-abbrev pub closed_in_rule : RuleTree → Row
-closed_in_rule r = record { code = 90; places = flat_map closed_place (rule_items r) }
-
 -- ---- all of them, in their order
 
 -- the rows on the size and the head's emptiness, on the head, and on the uses of contexts
@@ -231,7 +218,7 @@ abbrev pub head_rows : List RuleTree → RuleTree → List Row
 head_rows table r = rule_in_head table r ∷ connector_in_head r ∷ context_at_top r ∷ rule_context_at_top r ∷ two_in_membrane r ∷ []
 
 abbrev pub use_rows : RuleTree → List Row
-use_rows r = twice_in_head r ∷ not_once_in_body r ∷ not_in_head r ∷ in_two_forms r ∷ closed_in_rule r ∷ []
+use_rows r = twice_in_head r ∷ not_once_in_body r ∷ not_in_head r ∷ in_two_forms r ∷ []
 
 abbrev pub rule_rows : List RuleTree → RuleTree → List Row
 rule_rows table r = size_rows r ++ (head_rows table r ++ use_rows r)

@@ -26,7 +26,7 @@ impl Pos {
 /// Why a text is refused, and where.
 #[derive(Clone, Copy, Debug, PartialEq, Eq)]
 pub struct Refusal {
-    /// The number of the code: 1 for `E01`, 90 for `E90`.
+    /// The number of the code: 1 for `E01`, 50 for `E50`.
     pub code: u8,
     /// The place to which the code points.
     pub pos: Pos,

@@ -1,5 +1,5 @@
 -- Where the rows apply to the rules of small texts, by computation.
-use Rattle.std.proofs.Common.{ℕ, ◌≡◌, ◌==◌, List, [], ◌∷◌, ◌++◌, ap, ◌∙◌}
+use Rattle.std.proofs.Common.{ℕ, ◌≡◌, ◌==◌, List, [], ◌∷◌, ◌++◌, refl, ap, ◌∙◌}
 use Rattle.std.specs.Prelude.{nat_lt, ◌||◌, if◌then◌else◌}
 use Rattle.std.specs.List.{flat_map}
 use Rattle.std.proofs.lemmas.List.Elements.{All-from_recursion}
@@ -16,11 +16,12 @@ use Rattle.lmn_base.specs.declared.level.Level.TheFolds.{fold-roll-Level}
 use Rattle.lmn_base.specs.declared.functor.Label.TheVariants.{Name}
 use Rattle.lmn_base.specs.declared.refusal.Pos.{Pos}
 use Rattle.lmn_base.specs.declared.rule.RuleTree.{RuleTree}
+use Rattle.lmn_base.specs.Firsts.{NoneApplies}
 use Rattle.lmn_base.specs.Items.{items_of, own_items, leaf_item, untyped, guard_items, number_of_items, number_step}
-use Rattle.lmn_base.specs.RuleCodes.{rule_rows, untyped_place, rule_context_place, connector_place, inner_rule, seconds, seconds_by_membrane, first_with_some, used_again, in_other_form, missing, bare_again, from_nowhere, closed_place}
+use Rattle.lmn_base.specs.RuleCodes.{rule_rows, untyped_place, rule_context_place, connector_place, inner_rule, seconds, seconds_by_membrane, first_with_some, used_again, in_other_form, missing, bare_again, from_nowhere}
 use Rattle.lmn_base.specs.Limits.{most_head_items, most_body_items, most_conditions, most_guard_tokens}
 use Rattle.lmn_base.proofs.ItemLemmas.{listed_items as listed}
-use Rattle.lmn_contexts.specs.Examples.{name_r, context_x, alone, holding, empty, membrane_with_contexts, without_guard, EmptyHead, RuleInHead, ConnectorInHead, ContextAtTop, RuleContextAtTop, TwoInMembrane, OuterPairFirst, TwiceInHead, TwiceInTwoForms, NotInBody, TwiceInBody, NotInHead, RuleContextNotInHead, InTwoForms, closed_at, ClosedAtTop, ClosedCopied, OpenAndClosed, ClosedInRule, LargestHead, LargestBody, NothingOffends, many}
+use Rattle.lmn_contexts.specs.Examples.{name_r, context_x, alone, holding, empty, membrane_with_contexts, without_guard, EmptyHead, RuleInHead, ConnectorInHead, ContextAtTop, RuleContextAtTop, TwoInMembrane, OuterPairFirst, TwiceInHead, TwiceInTwoForms, NotInBody, TwiceInBody, NotInHead, RuleContextNotInHead, InTwoForms, closed_at, ClosedAtTop, ClosedCopied, OpenAndClosed, LargestHead, LargestBody, NothingOffends, ClosedStands, many}
 use Rattle.lmn_base.specs.SmallTexts.{at_column, name_a, name_b, name_p, use_at}
 use Rattle.lmn_base.proofs.RowLemmas.{Nowhere}
 
@@ -149,13 +150,6 @@ open_and_closed =
     let body : items_of (holding [] [] (use_at name_p 10 ∷ []) []) ≡ _ = listed _ in
     λ i. two_forms (closed_head i ++ body i)
 
--- and a rule with a closed context, until code runs one
-pub closed_in_rule : ClosedInRule
-closed_in_rule =
-    let head : items_of (membrane_with_contexts (use_at name_p 2 ∷ [])) ≡ _ = in_one [] _ [] _ (listed _) in
-    let body : items_of (holding [] [] (use_at name_p 8 ∷ []) []) ≡ _ = listed _ in
-    ((λ i. flat_map closed_place (closed_head i ++ none i)), (λ i. flat_map closed_place (head i ++ body i)))
-
 b_alone : items_of (holding (alone name_b 1 ∷ []) [] [] []) ≡ leaf_item (alone name_b 1) ∷ []
 b_alone = listed _
 
@@ -233,7 +227,7 @@ nothing_offends =
                       (λ i. once (head i) (body i)),
                       (
                         (λ i. flat_map (from_nowhere (head i) []) (body i)),
-                        ((λ i. two_forms (head i ++ body i)), ((λ i. flat_map closed_place (head i ++ body i)), tt)),
+                        ((λ i. two_forms (head i ++ body i)), tt),
                       ),
                     ),
                   ),
@@ -244,3 +238,51 @@ nothing_offends =
         ),
       ),
     )
+
+-- the rows of a rule with one membrane of closed contexts in its head, none of which applies: what has to be shown of its body
+module _ (body : Level) (items : List Item) (size : ℕ) (listed_body : items_of body ≡ items) (size_of_body : number_of_items body ≡ size) where
+  closed_rows : (λ (is : List Item). once (untyped (closed_at name_p 2) ∷ []) is) items ≡ [] → flat_map (from_nowhere (untyped (closed_at name_p 2) ∷ []) []) items ≡ [] →
+      two_forms ((untyped (closed_at name_p 2) ∷ []) ++ items) ≡ [] → too_many 2 size ≡ [] → NoneApplies (rule_rows [] (without_guard (membrane_with_contexts (closed_at name_p 2 ∷ [])) body))
+  closed_rows not_twice somewhere alike few =
+      let inner : Level = holding [] [] (closed_at name_p 2 ∷ []) [] in
+      let rolled : Level-F Level = record { leaves = []; membranes = inner ∷ []; contexts = []; rule_contexts = []; rules = [] } in
+      let head_size : number_of_items (membrane_with_contexts (closed_at name_p 2 ∷ [])) ≡ 2 = sized [] inner 1 (counted _) in
+      let top : own_items (out-Level (membrane_with_contexts (closed_at name_p 2 ∷ []))) ≡ [] = ap own_items (out-roll-Level _) in
+      All-from_recursion Nowhere (rule_rows [] (without_guard (membrane_with_contexts (closed_at name_p 2 ∷ [])) body)) (
+        (λ i. too_many (head_size i) (size_of_body i)) ∙ few,
+        (
+          (λ i. if head_size i == 0 then at_column 1 ∷ [] else []),
+          (
+            ap (flat_map (inner_rule [])) closed_head,
+            (
+              ap (flat_map connector_place) closed_head,
+              (
+                ap (flat_map untyped_place) top,
+                (
+                  ap (flat_map rule_context_place) top,
+                  (
+                    ap first_with_some (membranes_of_rolled rolled ∙ ap (λ ps. ps ++ []) (seconds_listed _)),
+                    (
+                      (λ i. flat_map (used_again (closed_head i)) (closed_head i)),
+                      (
+                        (λ i. once (closed_head i) (listed_body i)) ∙ not_twice,
+                        (
+                          (λ i. flat_map (from_nowhere (closed_head i) []) (listed_body i)) ∙ somewhere,
+                          ((λ i. two_forms (closed_head i ++ listed_body i)) ∙ alike, tt),
+                        ),
+                      ),
+                    ),
+                  ),
+                ),
+              ),
+            ),
+          ),
+        ),
+      )
+
+-- a closed context may be copied, and dropped
+pub closed_stands : ClosedStands
+closed_stands =
+    let made : Level = holding [] [] (closed_at name_p 12 ∷ closed_at name_p 18 ∷ []) [] in
+    let body : items_of (membrane_with_contexts (closed_at name_p 12 ∷ closed_at name_p 18 ∷ [])) ≡ _ = in_one [] made [] _ (listed _) in
+    (closed_rows _ _ 3 body (sized [] made 2 (counted _)) refl refl refl refl, closed_rows empty [] 0 none size_of_empty refl refl refl refl)

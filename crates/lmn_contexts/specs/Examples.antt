@@ -10,7 +10,7 @@ use Rattle.lmn_base.specs.declared.level.Level.TheViews.{roll-Level}
 use Rattle.lmn_base.specs.declared.refusal.Pos.{Pos}
 use Rattle.lmn_base.specs.declared.rule.RuleTree.{RuleTree}
 use Rattle.lmn_base.specs.Firsts.{Row, NoneApplies}
-use Rattle.lmn_base.specs.RuleCodes.{too_large, empty_head, rule_in_head, connector_in_head, context_at_top, rule_context_at_top, two_in_membrane, twice_in_head, not_once_in_body, not_in_head, in_two_forms, closed_in_rule, rule_rows}
+use Rattle.lmn_base.specs.RuleCodes.{too_large, empty_head, rule_in_head, connector_in_head, context_at_top, rule_context_at_top, two_in_membrane, twice_in_head, not_once_in_body, not_in_head, in_two_forms, rule_rows}
 use Rattle.lmn_base.specs.SmallTexts.{name_b, name_a, at_column, name_p, name_q, use_at}
 
 -- The names `a`, `b`, `p`, `q`, `r` and `x` have the numbers 4 to 9.
@@ -138,12 +138,6 @@ ClosedCopied =
 abbrev pub OpenAndClosed : Type 0
 OpenAndClosed = AppliesAt (in_two_forms (without_guard (membrane_with_contexts (closed_at name_p 2 ∷ [])) (holding [] [] (use_at name_p 10 ∷ []) []))) (at_column 10 ∷ [])
 
--- `{$p[]} :- .` has a closed context, and `{$p} :- $p.` hasn't.
-abbrev pub ClosedInRule : Type 0
-ClosedInRule =
-    let open_one = without_guard (membrane_with_contexts (use_at name_p 2 ∷ [])) (holding [] [] (use_at name_p 8 ∷ []) []) in
-    AppliesAt (closed_in_rule (without_guard (membrane_with_contexts (closed_at name_p 2 ∷ [])) empty)) (at_column 2 ∷ []) × AppliesAt (closed_in_rule open_one) []
-
 -- so many leaves
 abbrev pub many : ℕ → Leaf → List Leaf
 many zero leaf = []
@@ -167,3 +161,10 @@ NothingOffends =
     let head = holding [] (holding (alone name_a 2 ∷ []) [] (use_at name_p 5 ∷ []) (use_at name_r 9 ∷ []) ∷ []) [] [] in
     let body = holding [] (holding [] [] (use_at name_p 17 ∷ []) (use_at name_r 21 ∷ use_at name_r 25 ∷ []) ∷ []) [] [] in
     NoneApplies (rule_rows [] (without_guard head body))
+
+-- `{$p[]} :- {$p[], $p[]}.` and `{$p[]} :- .`: no row applies to a closed context that is copied, or dropped.
+abbrev pub ClosedStands : Type 0
+ClosedStands =
+    let head = membrane_with_contexts (closed_at name_p 2 ∷ []) in
+    let body = membrane_with_contexts (closed_at name_p 12 ∷ closed_at name_p 18 ∷ []) in
+    NoneApplies (rule_rows [] (without_guard head body)) × NoneApplies (rule_rows [] (without_guard head empty))

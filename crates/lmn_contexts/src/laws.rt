@@ -2,8 +2,8 @@
 
 ghost use Rattle.lmn_contexts.specs.Examples.{EmptyHead, RuleInHead, ConnectorInHead, ContextAtTop, RuleContextAtTop};
 ghost use Rattle.lmn_contexts.specs.Examples.{TwoInMembrane, OuterPairFirst, TwiceInHead, TwiceInTwoForms, NotInBody};
-ghost use Rattle.lmn_contexts.specs.Examples.{TwiceInBody, NotInHead, RuleContextNotInHead, InTwoForms, ClosedAtTop, ClosedCopied, OpenAndClosed, ClosedInRule};
-ghost use Rattle.lmn_contexts.specs.Examples.{LargestHead, LargestBody, NothingOffends};
+ghost use Rattle.lmn_contexts.specs.Examples.{TwiceInBody, NotInHead, RuleContextNotInHead, InTwoForms, ClosedAtTop, ClosedCopied, OpenAndClosed};
+ghost use Rattle.lmn_contexts.specs.Examples.{LargestHead, LargestBody, NothingOffends, ClosedStands};
 
 /// What may not stand in a head, and at which place a small text offends by it.
 pub fn heads_that_offend()
@@ -28,12 +28,12 @@ pub fn uses_that_offend()
     ensures closed_at_top { ClosedAtTop }
     ensures closed_copied { ClosedCopied }
     ensures open_and_closed { OpenAndClosed }
-    ensures closed_in_rule { ClosedInRule }
 {}
 
-/// The largest head and body, and a rule that may stand.
+/// The largest head and body, and rules that may stand.
 pub fn rules_within_limits()
     ensures head { LargestHead }
     ensures body { LargestBody }
     ensures whole { NothingOffends }
+    ensures closed { ClosedStands }
 {}

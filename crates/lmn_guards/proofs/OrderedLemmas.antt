@@ -22,7 +22,7 @@ use Rattle.lmn_base.specs.Firsts.{Row, NoneApplies}
 use Rattle.lmn_base.specs.Items.{own_items, items_of, rule_items, number_of_items}
 use Rattle.lmn_base.specs.Levels.{leaves_of}
 use Rattle.lmn_base.specs.PlaceOrder.{not_after}
-use Rattle.lmn_base.specs.RuleCodes.{rule_rows, size_rows, head_rows, use_rows, is_too_large, too_large, empty_head, rule_in_head, connector_in_head, context_at_top, rule_context_at_top, two_in_membrane, twice_in_head, not_once_in_body, not_in_head, in_two_forms, inner_rule, is_connector_label, connector_place, is_bare, is_untyped, untyped_place, rule_context_place, seconds_by_membrane, first_with_some, use_up_to, rule_use_up_to, used_again, bare_use, bare_use_up_to, missing, bare_again, rule_use, from_nowhere, is_left_of, same_form, other_form_up_to, in_other_form, is_closed, closed_place, closed_in_rule}
+use Rattle.lmn_base.specs.RuleCodes.{rule_rows, size_rows, head_rows, use_rows, is_too_large, too_large, empty_head, rule_in_head, connector_in_head, context_at_top, rule_context_at_top, two_in_membrane, twice_in_head, not_once_in_body, not_in_head, in_two_forms, inner_rule, is_connector_label, connector_place, is_bare, is_untyped, untyped_place, rule_context_place, seconds_by_membrane, first_with_some, use_up_to, rule_use_up_to, used_again, bare_use, bare_use_up_to, missing, bare_again, rule_use, from_nowhere, is_left_of, same_form, other_form_up_to, in_other_form}
 use Rattle.lmn_base.specs.Solids.{connector}
 use Rattle.lmn_base.specs.Uses.{use_of, has_use, is_some_place}
 use Rattle.lmn_base.specs.WellMade.{IsLinkedRule}
@@ -264,12 +264,6 @@ module _ (table : List RuleTree) (r : RuleTree) (o : IsInOrder table r) where
   one_form_each (RuleContext u) w = refl
   one_form_each (Rule k) w = refl
 
-  not_closed : (x : Item) → Contains (rule_items r) x → closed_place x ≡ []
-  not_closed (Atom f p) w = refl
-  not_closed (Context u) w = nowhere_if (is_closed u.form) u.pos (o.none_closed u w)
-  not_closed (RuleContext u) w = refl
-  not_closed (Rule k) w = refl
-
   each_typed : (x : Leaf) → Contains (leaves_of r.head) x → untyped r.head r.guard x ≡ []
   each_typed (leaf.Atom f ls p) w = refl
   each_typed (leaf.Typed n l p) w = nowhere_unless (is_some (type_of r.head r.guard n)) p (o.has_type n l p w)
@@ -288,11 +282,10 @@ module _ (table : List RuleTree) (r : RuleTree) (o : IsInOrder table r) where
 
   use_rows_none : NoneApplies (use_rows r)
   use_rows_none =
-      none_more (twice_in_head r) (not_once_in_body r ∷ not_in_head r ∷ in_two_forms r ∷ closed_in_rule r ∷ []) (all_none (used_again head) head not_again) (
-      none_more (not_once_in_body r) (not_in_head r ∷ in_two_forms r ∷ closed_in_rule r ∷ []) (both_none (flat_map (missing body) head) (flat_map (bare_again head body) body) (all_none (missing body) head none_missing) (all_none (bare_again head body) body bare_not_again)) (
-      none_more (not_in_head r) (in_two_forms r ∷ closed_in_rule r ∷ []) (all_none (from_nowhere head r.guard) body from_somewhere) (
-      none_more (in_two_forms r) (closed_in_rule r ∷ []) (all_none (in_other_form (rule_items r)) (rule_items r) one_form_each) (
-      none_more (closed_in_rule r) ([]) (all_none closed_place (rule_items r) not_closed) (no_rows)))))
+      none_more (twice_in_head r) (not_once_in_body r ∷ not_in_head r ∷ in_two_forms r ∷ []) (all_none (used_again head) head not_again) (
+      none_more (not_once_in_body r) (not_in_head r ∷ in_two_forms r ∷ []) (both_none (flat_map (missing body) head) (flat_map (bare_again head body) body) (all_none (missing body) head none_missing) (all_none (bare_again head body) body bare_not_again)) (
+      none_more (not_in_head r) (in_two_forms r ∷ []) (all_none (from_nowhere head r.guard) body from_somewhere) (
+      none_more (in_two_forms r) ([]) (all_none (in_other_form (rule_items r)) (rule_items r) one_form_each) (no_rows))))
 
   head_rows_none : NoneApplies (head_rows table r)
   head_rows_none =

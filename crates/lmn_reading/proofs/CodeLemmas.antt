@@ -17,7 +17,7 @@ use Rattle.lmn_guards.specs.GuardCodes.{guard_rows, rows_of_condition, rows_of_c
 use Rattle.lmn_lexer.specs.declared.token.Kind.{Kind}
 use Rattle.lmn_lexer.specs.Faults.{Wrong, bad_byte, bad_quoted_byte, open_quote, open_comment, wrong_token, string, inline_code, hyperlink, TokenFault, integer_out_of_range, long_name, floating_point}
 use Rattle.lmn_reading.specs.declared.code.Code.{Code}
-use Rattle.lmn_reading.specs.declared.code.Code.TheVariants.{TextTooLong, BadByte, NotClosed, IntegerOutOfRange, NameTooLong, FloatingPoint, StringLiteral, InlineCode, Hyperlink, UnexpectedToken, NestingTooDeep, TooManyArguments, LinkOnce, LinkTooOften, LinkOnceInRule, LinkTooOftenInRule, ContextOutsideHeadMembrane, TwoContextsInMembrane, ContextTwiceInHead, ContextNotOnceInBody, ContextNotInHead, RuleContextOutsideHeadMembrane, RuleInHead, ConnectorInHead, EmptyHead, ContextOutsideRule, ContextWithoutType, UnknownGuard, WrongOperands, UnboundContext, RuleTooLarge, ContextInTwoForms, TypedContextNotHeld, ProcessTooLarge, ClosedContext}
+use Rattle.lmn_reading.specs.declared.code.Code.TheVariants.{TextTooLong, BadByte, NotClosed, IntegerOutOfRange, NameTooLong, FloatingPoint, StringLiteral, InlineCode, Hyperlink, UnexpectedToken, NestingTooDeep, TooManyArguments, LinkOnce, LinkTooOften, LinkOnceInRule, LinkTooOftenInRule, ContextOutsideHeadMembrane, TwoContextsInMembrane, ContextTwiceInHead, ContextNotOnceInBody, ContextNotInHead, RuleContextOutsideHeadMembrane, RuleInHead, ConnectorInHead, EmptyHead, ContextOutsideRule, ContextWithoutType, UnknownGuard, WrongOperands, UnboundContext, RuleTooLarge, ContextInTwoForms, TypedContextNotHeld, ProcessTooLarge}
 use Rattle.lmn_reading.specs.Codes.{code_number, code_of, CodesAreNumbered, NumbersAreOfCodes, IsCode}
 use Rattle.lmn_reading.specs.Laws.{RefusalsHaveCodes}
 use Rattle.lmn_reading.specs.Texts.{by_bytes, by_tokens, by_contexts, by_links, by_rules, rows_of_rule, rows_of_rules}
@@ -60,7 +60,6 @@ codes_are_numbered RuleTooLarge = refl
 codes_are_numbered ContextInTwoForms = refl
 codes_are_numbered TypedContextNotHeld = refl
 codes_are_numbered ProcessTooLarge = refl
-codes_are_numbered ClosedContext = refl
 
 -- a code that is found by a test, or by what comes later
 found : (n m : ℕ) (here code : Code) (later : Option Code) → code_number here ≡ m → (cond (n == m) (Some here) later) ≡ Some code → (later ≡ Some code → n ≡ code_number code) → n ≡ code_number code
@@ -107,8 +106,7 @@ numbers_are_of_codes n code e =
     found n 45 ContextInTwoForms code _ refl e (λ e.
     found n 46 TypedContextNotHeld code _ refl e (λ e.
     found n 50 ProcessTooLarge code _ refl e (λ e.
-    found n 90 ClosedContext code _ refl e (λ e.
-    absurd (cc))))))))))))))))))))))))))))))))))))
+    absurd (cc)))))))))))))))))))))))))))))))))))
 
 -- ---- refusals
 
@@ -121,7 +119,7 @@ of_rows (row ∷ rows) refusal h (by_this f) = All-head HasCode row rows h
 of_rows (row ∷ rows) refusal h (by_later r) = of_rows rows refusal (All-tail HasCode row rows h) r
 
 of_rule : (table : List RuleTree) (r : RuleTree) → All HasCode (rule_rows table r)
-of_rule table r = All-from_recursion HasCode (rule_rows table r) (refl, (refl, (refl, (refl, (refl, (refl, (refl, (refl, (refl, (refl, (refl, (refl, tt))))))))))))
+of_rule table r = All-from_recursion HasCode (rule_rows table r) (refl, (refl, (refl, (refl, (refl, (refl, (refl, (refl, (refl, (refl, (refl, tt)))))))))))
 
 of_condition : (head : Level) (before : List Cond) (c : Cond) → All HasCode (rows_of_condition head before c)
 of_condition head before c = All-from_recursion HasCode (rows_of_condition head before c) (refl, (refl, (refl, tt)))

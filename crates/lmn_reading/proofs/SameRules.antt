@@ -21,7 +21,7 @@ use Rattle.lmn_base.specs.Levels.{leaves_of}
 use Rattle.lmn_base.specs.Limits.{most_head_items, most_body_items, most_conditions, most_guard_tokens}
 use Rattle.lmn_base.specs.Names as names
 use Rattle.lmn_base.specs.Names.{expression_names, condition_names, level_names, rule_names, plain_names}
-use Rattle.lmn_base.specs.RuleCodes.{expression_tokens, condition_tokens, inner_rule, is_left_of, from_nowhere, in_other_form, closed_place, empty_head, connector_in_head, context_at_top, rule_context_at_top, two_in_membrane, twice_in_head, not_once_in_body, rule_rows}
+use Rattle.lmn_base.specs.RuleCodes.{expression_tokens, condition_tokens, inner_rule, is_left_of, from_nowhere, in_other_form, empty_head, connector_in_head, context_at_top, rule_context_at_top, two_in_membrane, twice_in_head, not_once_in_body, rule_rows}
 use Rattle.lmn_base.specs.Uses.{has_use}
 use Rattle.lmn_congruence.specs.Rules as tree
 use Rattle.lmn_congruence.specs.Translation as translated
@@ -282,7 +282,6 @@ module _ (s : RuleTree) (cs ds : List Cond) (h : EachPair SameCond cs ds) where
         ∷ not_once_in_body s
         ∷ record { code = 34; places = all_nowhere (items_of s.body) i }
         ∷ record { code = 45; places = flat_map (in_other_form (same_rule_items i)) (same_rule_items i) }
-        ∷ record { code = 90; places = flat_map closed_place (same_rule_items i) }
         ∷ []
 
 module _ (table others : List RuleTree) (inner : (k : ℕ) → option_map (λ (r : RuleTree). r.pos) (slice_get table k) ≡ option_map (λ (r : RuleTree). r.pos) (slice_get others k)) where

@@ -1,7 +1,7 @@
 -- The table of refusals: the number and the words of each code.
 use Rattle.std.specs.Prelude.{ℕ, ◌≡◌, ◌==◌, List, [], ◌∷◌, Option, Some, None, codes, if◌then◌else◌, IsSome}
 use Rattle.lmn_reading.specs.declared.code.Code.{Code}
-use Rattle.lmn_reading.specs.declared.code.Code.TheVariants.{TextTooLong, BadByte, NotClosed, IntegerOutOfRange, NameTooLong, FloatingPoint, StringLiteral, InlineCode, Hyperlink, UnexpectedToken, NestingTooDeep, TooManyArguments, LinkOnce, LinkTooOften, LinkOnceInRule, LinkTooOftenInRule, ContextOutsideHeadMembrane, TwoContextsInMembrane, ContextTwiceInHead, ContextNotOnceInBody, ContextNotInHead, RuleContextOutsideHeadMembrane, RuleInHead, ConnectorInHead, EmptyHead, ContextOutsideRule, ContextWithoutType, UnknownGuard, WrongOperands, UnboundContext, RuleTooLarge, ContextInTwoForms, TypedContextNotHeld, ProcessTooLarge, ClosedContext}
+use Rattle.lmn_reading.specs.declared.code.Code.TheVariants.{TextTooLong, BadByte, NotClosed, IntegerOutOfRange, NameTooLong, FloatingPoint, StringLiteral, InlineCode, Hyperlink, UnexpectedToken, NestingTooDeep, TooManyArguments, LinkOnce, LinkTooOften, LinkOnceInRule, LinkTooOftenInRule, ContextOutsideHeadMembrane, TwoContextsInMembrane, ContextTwiceInHead, ContextNotOnceInBody, ContextNotInHead, RuleContextOutsideHeadMembrane, RuleInHead, ConnectorInHead, EmptyHead, ContextOutsideRule, ContextWithoutType, UnknownGuard, WrongOperands, UnboundContext, RuleTooLarge, ContextInTwoForms, TypedContextNotHeld, ProcessTooLarge}
 
 -- the number of each code, and its words
 abbrev pub code_row : Code → ℕ × List ℕ
@@ -39,7 +39,6 @@ code_row RuleTooLarge = (44, codes "rule too large")
 code_row ContextInTwoForms = (45, codes "context in two forms")
 code_row TypedContextNotHeld = (46, codes "typed context not held")
 code_row ProcessTooLarge = (50, codes "process too large")
-code_row ClosedContext = (90, codes "closed context not run yet")
 
 -- the number of a code
 abbrev pub code_number : Code → ℕ
@@ -56,7 +55,7 @@ all_codes =
     ∷ UnexpectedToken ∷ NestingTooDeep ∷ TooManyArguments ∷ LinkOnce ∷ LinkTooOften ∷ LinkOnceInRule ∷ LinkTooOftenInRule
     ∷ ContextOutsideHeadMembrane ∷ TwoContextsInMembrane ∷ ContextTwiceInHead ∷ ContextNotOnceInBody ∷ ContextNotInHead
     ∷ RuleContextOutsideHeadMembrane ∷ RuleInHead ∷ ConnectorInHead ∷ EmptyHead ∷ ContextOutsideRule ∷ ContextWithoutType ∷ UnknownGuard
-    ∷ WrongOperands ∷ UnboundContext ∷ RuleTooLarge ∷ ContextInTwoForms ∷ TypedContextNotHeld ∷ ProcessTooLarge ∷ ClosedContext ∷ []
+    ∷ WrongOperands ∷ UnboundContext ∷ RuleTooLarge ∷ ContextInTwoForms ∷ TypedContextNotHeld ∷ ProcessTooLarge ∷ []
 
 -- the first of some codes that has a number
 abbrev pub first_numbered : ℕ → List Code → Option Code

@@ -74,8 +74,6 @@ pub enum Code {
     TypedContextNotHeld,
     /// The process of the text has more items than there may be.
     ProcessTooLarge,
-    /// A context is closed, which no code runs yet.
-    ClosedContext,
 }
 
 impl Code {
@@ -118,7 +116,6 @@ impl Code {
             Code::ContextInTwoForms => 45,
             Code::TypedContextNotHeld => 46,
             Code::ProcessTooLarge => 50,
-            Code::ClosedContext => 90,
         }
     }
 
@@ -161,7 +158,6 @@ impl Code {
             Code::ContextInTwoForms => b"context in two forms",
             Code::TypedContextNotHeld => b"typed context not held",
             Code::ProcessTooLarge => b"process too large",
-            Code::ClosedContext => b"closed context not run yet",
         }
     }
 
@@ -204,7 +200,6 @@ impl Code {
             45 => Some(Code::ContextInTwoForms),
             46 => Some(Code::TypedContextNotHeld),
             50 => Some(Code::ProcessTooLarge),
-            90 => Some(Code::ClosedContext),
             _ => None,
         }
     }

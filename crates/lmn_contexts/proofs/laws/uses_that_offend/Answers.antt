@@ -1,4 +1,4 @@
-use Rattle.lmn_contexts.proofs.WorkedRows.{twice_in_two_forms, not_in_body, twice_in_body, not_in_head, rule_context_not_in_head, in_two_forms, closed_at_top, closed_copied, open_and_closed, closed_in_rule}
+use Rattle.lmn_contexts.proofs.WorkedRows.{twice_in_two_forms, not_in_body, twice_in_body, not_in_head, rule_context_not_in_head, in_two_forms, closed_at_top, closed_copied, open_and_closed}
 use Rattle.lmn_contexts.proofs.laws.uses_that_offend.Goals as goal
 
 pub returns-clause-forms : goal.returns-clause-forms
@@ -27,6 +27,3 @@ returns-clause-closed_copied c = closed_copied
 
 pub returns-clause-open_and_closed : goal.returns-clause-open_and_closed
 returns-clause-open_and_closed c = open_and_closed
-
-pub returns-clause-closed_in_rule : goal.returns-clause-closed_in_rule
-returns-clause-closed_in_rule c = closed_in_rule
