@@ -1,12 +1,15 @@
--- Integers in decimal, as a text spells them.
-use Rattle.std.proofs.Common.{◌≡◌, ℕ, suc, ◌+◌, ◌-◌, ◌*◌, ◌/◌, ◌%◌, ◌<◌, ◌≤◌, ◌^◌, ◌==◌, Bool, true, false, if◌then◌else◌, List, [], ◌∷◌, ◌++◌, ℤ, pos, negsuc, FitsSigned, w64, inl, inr, refl, sym, ap, ◌∙◌, arith}
+-- Numbers and integers in decimal, as a text spells them.
+use Rattle.std.proofs.Common.{◌≡◌, ℕ, zero, suc, ◌+◌, ◌-◌, ◌*◌, ◌/◌, ◌%◌, ◌<◌, ◌≤◌, ◌^◌, ◌==◌, Bool, true, false, if◌then◌else◌, List, [], ◌∷◌, ◌++◌, ℤ, pos, negsuc, FitsSigned, w64, inl, inr, refl, sym, ap, ◌∙◌, arith}
 use Rattle.std.specs.Char.{is_ascii_digit}
 use Rattle.std.specs.Fmt.{decimal, signed_decimal}
+use Rattle.std.specs.Prelude.{nat_lt}
+use Rattle.std.proofs.lemmas.Bool.{ltb-true, ltb-false}
 use Rattle.std.proofs.lemmas.Bool.Decides.{nat_tests}
-use Rattle.std.proofs.lemmas.Fmt.{decimal_by_steps}
+use Rattle.std.proofs.lemmas.Fmt.{decimal_by_steps, decimal_digit, decimal_step_wide}
 use Rattle.lmn_lexer.specs.Faults.{value_behind, SpelledInRange}
 use Rattle.lmn_lexer.specs.Spelling.{IsDigits, IsIntegerSpelling, AllPass}
 use Rattle.lmn_lexer.specs.Values.{integer_of, minus_of}
+use Rattle.lmn_plain.specs.Numerals.{last_digits, numeral}
 
 digit_passes : (n : ℕ) → n < 10 → is_ascii_digit (48 + n) ≡ true
 digit_passes n h = grind (arith, nat_tests)
@@ -41,6 +44,36 @@ more_digits n ds h w =
 
 decimal_writes : (n : ℕ) → n < 2 ^ 64 → Writes n (decimal n)
 decimal_writes n h = decimal_by_steps Writes one_digit more_digits n h
+
+-- What holds of one digit, and of a number's digits with one more behind them, holds of each numeral.
+module _ (P : ℕ → List ℕ → Type 0) (one : (n : ℕ) → n < 10 → P n ((48 + n) ∷ []))
+    (more : (n : ℕ) (ds : List ℕ) → 10 ≤ n → P (n / 10) ds → P n (ds ++ (48 + n % 10) ∷ [])) where
+  one_step : (most n : ℕ) (b : Bool) → nat_lt n 10 ≡ b → (10 ≤ n → P (n / 10) (last_digits most (n / 10)))
+      → P n (if b then (48 + n) ∷ [] else last_digits most (n / 10) ++ (48 + n % 10) ∷ [])
+  one_step most n true e before = one n (ltb-true n 10 e)
+  one_step most n false e before = let large = ltb-false n 10 e in more n (last_digits most (n / 10)) large (before large)
+
+  by_steps : (most n : ℕ) → n < most → P n (last_digits most n)
+  by_steps zero n h = absurd (omega (arith, h))
+  by_steps (suc most) n h = one_step most n (nat_lt n 10) refl (λ large. by_steps most (n / 10) (omega (arith, large, h)))
+
+  pub numeral_by_steps : (n : ℕ) → P n (numeral n)
+  unfolding numeral
+  numeral_by_steps n = by_steps (suc n) n (omega arith)
+
+-- a numeral writes its number
+pub numeral_writes : (n : ℕ) → Writes n (numeral n)
+numeral_writes n = numeral_by_steps Writes one_digit more_digits n
+
+-- numbers with one numeral are one
+pub numeral_same : (m n : ℕ) → numeral m ≡ numeral n → m ≡ n
+numeral_same m n e = sym (numeral_writes m).1 ∙ ap (value_behind 0) e ∙ (numeral_writes n).1
+
+-- with 64 digits at most it is what the library writes
+pub numeral_is_decimal : (n : ℕ) → n < 10 ^ 64 → numeral n ≡ decimal n
+numeral_is_decimal n small =
+    numeral_by_steps (λ m ds. m < 10 ^ 64 → ds ≡ decimal m) (λ m h k. sym (decimal_digit m h))
+    (λ m ds h e k. ap (λ ds. ds ++ (48 + m % 10) ∷ []) (e (omega (arith, k))) ∙ sym (decimal_step_wide m h k)) n small
 
 -- the bytes spell the integer, and it is in range
 pub record SpellsInteger (z : ℤ) (bytes : List ℕ) : Type 0 where

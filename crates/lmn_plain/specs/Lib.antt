@@ -6,6 +6,7 @@ pub mod Meanings
 pub mod Expansion
 pub mod Plains
 pub mod Labels
+pub mod Numerals
 pub mod Words
 pub mod Spelled
 pub mod Agreement
