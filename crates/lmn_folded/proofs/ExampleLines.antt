@@ -1,13 +1,14 @@
 -- Folded lines of small regions, by computing.
 use Rattle.std.proofs.Common.{ℕ, zero, suc, ◌≡◌, ◌≢◌, ◌≤◌, ◌<◌, ◌⊎◌, inl, inr, ◌&&◌, Bool, true, List, [], ◌∷◌, Some, nat_lt, nat_le, refl, sym, ◌∙◌, subst, arith}
 use Rattle.std.specs.Prelude.{codes}
-use Rattle.std.proofs.lemmas.Fmt.{decimal_digit}
+use Rattle.std.specs.Fmt.{digits}
 use Rattle.lmn_base.specs.Links.{NumbersLinks, no_more, known, new}
 use Rattle.lmn_congruence.specs.Links.{one_if_same, places}
 use Rattle.lmn_congruence.specs.Orders.{Among, at_head, further}
 use Rattle.lmn_congruence.specs.Process.{Process, nothing, connector, atom, pair, membrane, rule, occurrences, Closed, Fresh, Local}
 use Rattle.lmn_congruence.specs.Regions.{Region, region_process}
 use Rattle.lmn_congruence.proofs.Counts.{none_if_apart, one_if_equal}
+use Rattle.lmn_plain.specs.Numerals.{numeral}
 use Rattle.lmn_folded.specs.Terms.{Folded, folded_links, renamed_folded}
 use Rattle.lmn_folded.specs.Lines.{IsFoldedLine}
 use Rattle.lmn_folded.specs.Words.{line_of_folded}
@@ -92,31 +93,38 @@ line_by S f n count to line a b e one numbers is = record {
 
 -- the line of two lists
 pub two_lists : example.TwoLists
-two_lists = line_by example.two_lists _ 10 0 (λ x. x) _ refl refl refl (λ x y a b e. e) no_more (rw (decimal_digit 0 (omega arith), decimal_digit 1 (omega arith), decimal_digit 2 (omega arith)) refl)
+unfolding numeral digits
+two_lists = line_by example.two_lists _ 10 0 (λ x. x) _ refl refl refl (λ x y a b e. e) no_more refl
 
 -- and of an answer in a list
 pub an_answer : example.AnAnswer
-an_answer = line_by example.an_answer _ 7 0 (λ x. x) _ refl refl refl (λ x y a b e. e) no_more (rw (decimal_digit 0 (omega arith), decimal_digit 1 (omega arith), decimal_digit 2 (omega arith), decimal_digit 3 (omega arith), decimal_digit 4 (omega arith), decimal_digit 5 (omega arith), decimal_digit 6 (omega arith)) refl)
+unfolding numeral digits
+an_answer = line_by example.an_answer _ 7 0 (λ x. x) _ refl refl refl (λ x y a b e. e) no_more refl
 
 -- and of two atoms in a circle
 pub in_a_circle : example.InACircle
-in_a_circle = line_by example.in_a_circle _ 2 1 (λ x. x) _ refl refl refl (λ x y a b e. e) (new (known (omega arith) no_more)) (rw (decimal_digit 0 (omega arith)) refl)
+unfolding numeral
+in_a_circle = line_by example.in_a_circle _ 2 1 (λ x. x) _ refl refl refl (λ x y a b e. e) (new (known (omega arith) no_more)) refl
 
 -- and of one beside it
 pub beside_a_circle : example.BesideACircle
-beside_a_circle = line_by example.beside_a_circle _ 3 2 (λ x. x) _ refl refl refl (λ x y a b e. e) (new (known (omega arith) (new (known (omega arith) no_more)))) (rw (decimal_digit 0 (omega arith), decimal_digit 1 (omega arith)) refl)
+unfolding numeral
+beside_a_circle = line_by example.beside_a_circle _ 3 2 (λ x. x) _ refl refl refl (λ x y a b e. e) (new (known (omega arith) (new (known (omega arith) no_more)))) refl
 
 -- an atom isn't its own child
 pub own_argument : example.OwnArgument
-own_argument = line_by example.own_argument _ 1 1 (λ x. x) _ refl refl refl (λ x y a b e. e) (new (known (omega arith) no_more)) (rw (decimal_digit 0 (omega arith)) refl)
+unfolding numeral
+own_argument = line_by example.own_argument _ 1 1 (λ x. x) _ refl refl refl (λ x y a b e. e) (new (known (omega arith) no_more)) refl
 
 -- two lists may share their rest
 pub shared_rest : example.SharedRest
-shared_rest = line_by example.shared_rest _ 5 1 (λ x. x) _ refl refl refl (λ x y a b e. e) (new (known (omega arith) no_more)) (rw (decimal_digit 0 (omega arith), decimal_digit 1 (omega arith), decimal_digit 2 (omega arith)) refl)
+unfolding numeral digits
+shared_rest = line_by example.shared_rest _ 5 1 (λ x. x) _ refl refl refl (λ x y a b e. e) (new (known (omega arith) no_more)) refl
 
 -- a rest may be no list
 pub other_rest : example.OtherRest
-other_rest = line_by example.other_rest _ 3 0 (λ x. x) _ refl refl refl (λ x y a b e. e) no_more (rw (decimal_digit 1 (omega arith)) refl)
+unfolding digits
+other_rest = line_by example.other_rest _ 3 0 (λ x. x) _ refl refl refl (λ x y a b e. e) no_more refl
 
 -- of two atoms joined by their last ports the later one is the child
 pub last_ports : example.LastPorts
@@ -128,7 +136,8 @@ no_lists = line_by example.no_lists _ 4 0 (λ x. x) _ refl refl refl (λ x y a b
 
 -- an item isn't written as a list
 pub cell_as_item : example.CellAsItem
-cell_as_item = line_by example.cell_as_item _ 2 1 (λ x. x) _ refl refl refl (λ x y a b e. e) (new (known (omega arith) no_more)) (rw (decimal_digit 0 (omega arith), decimal_digit 1 (omega arith)) refl)
+unfolding numeral digits
+cell_as_item = line_by example.cell_as_item _ 2 1 (λ x. x) _ refl refl refl (λ x y a b e. e) (new (known (omega arith) no_more)) refl
 
 seven : (x : ℕ) → Among x (7 ∷ 7 ∷ []) → x ≡ 7
 seven x at_head = refl
@@ -137,9 +146,9 @@ seven x (further (further h)) = elim h [ ]
 
 -- an atom in a membrane is no child of one outside
 pub across : example.Across
+unfolding numeral
 across =
-    line_by example.across_membrane _ 8 1 (λ x. 0) _ refl refl refl (λ x y a b e. seven x a ∙ sym (seven y b)) (new (known (omega arith) no_more))
-    (rw (decimal_digit 0 (omega arith)) refl)
+    line_by example.across_membrane _ 8 1 (λ x. 0) _ refl refl refl (λ x y a b e. seven x a ∙ sym (seven y b)) (new (known (omega arith) no_more)) refl
 
 -- the example is closed
 pub last_ports_closed : Closed (region_process example.last_ports)

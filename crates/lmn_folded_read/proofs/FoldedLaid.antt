@@ -117,7 +117,7 @@ bar_goes ps h rest ws g = spaced_goes kind.Bar (codes "|") (λ minus. refl) tt r
 
 mutual
   term_can : (t : FoldedTerm) → TermSpelled t → Begins (term_pieces t)
-  term_can (link x) h = (link_can x h, λ rest. refl)
+  term_can (link x) h = (link_can x, λ rest. refl)
   term_can (labelled l ts) h =
       three_cases Begins (is_cell l ts) (is_empty_list l ts) _ _ _ (list_begins (cell_pieces ts) (cell_can ts h.1)) empty_begins
       (named_begins l (terms_pieces ts) h.0 (terms_can ts h.1))
@@ -134,7 +134,7 @@ mutual
       )
 
   rest_goes : (r : FoldedTerm) → TermSpelled r → RestGoes (rest_pieces r)
-  rest_goes (link x) h = bar_goes (link_piece x ∷ []) (link_can x h)
+  rest_goes (link x) h = bar_goes (link_piece x ∷ []) (link_can x)
   rest_goes (labelled l ts) h =
       let inside = cell_can ts h.1 in
       three_cases RestGoes (is_cell l ts) (is_empty_list l ts) _ _ _ (λ rest ws g. comma_goes (inside.0 rest ws g)) (λ rest ws g. g)
@@ -180,7 +180,7 @@ all_both (ps ∷ pss) qss h k = (h.0, all_both pss qss h.1 k)
 
 mutual
   term_right : (t : FoldedTerm) → TermSpelled t → Right (term_pieces t)
-  term_right (link x) h = (link_right x h, tt)
+  term_right (link x) h = (link_right x, tt)
   term_right (labelled l ts) h =
       three_cases Right (is_cell l ts) (is_empty_list l ts) _ _ _
       ((λ i. absurd (cc)), both_right (cell_pieces ts) (word kind.RBracket (codes "]") ∷ []) (cell_right ts h.1) ((λ i. absurd (cc)), tt))
@@ -193,7 +193,7 @@ mutual
   cell_right (term_and t (term_and r ts)) h = both_right (term_pieces t) (rest_pieces r) (term_right t h.0) (rest_right r h.1.0)
 
   rest_right : (r : FoldedTerm) → TermSpelled r → Right (rest_pieces r)
-  rest_right (link x) h = ((λ i. absurd (cc)), (link_right x h, tt))
+  rest_right (link x) h = ((λ i. absurd (cc)), (link_right x, tt))
   rest_right (labelled l ts) h =
       three_cases Right (is_cell l ts) (is_empty_list l ts) _ _ _ ((λ i. absurd (cc)), cell_right ts h.1) tt
       ((λ i. absurd (cc)), named_right l (terms_pieces ts) h.0 (terms_right ts h.1))

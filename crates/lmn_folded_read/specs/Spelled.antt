@@ -1,13 +1,13 @@
 -- Folded processes that a text can spell.
 use Rattle.std.specs.Prelude.{⊤}
 use Rattle.std.specs.List.{AllByRecursion}
-use Rattle.lmn_plain.specs.Spelled.{LabelSpelled, IsLinkNumber, RulesSpelled}
+use Rattle.lmn_plain.specs.Spelled.{LabelSpelled, RulesSpelled}
 use Rattle.lmn_folded.specs.Terms.{FoldedTerm, link, labelled, FoldedTerms, no_term, term_and, FoldedItem, Folded, folded, FoldedMembranes, no_membrane, membrane_and}
 use Rattle.lmn_congruence.specs.Translation.{rules}
 
 abbrev mutual
   pub TermSpelled : FoldedTerm → Type 0
-  TermSpelled (link x) = IsLinkNumber x
+  TermSpelled (link x) = ⊤
   TermSpelled (labelled l ts) = LabelSpelled l × TermsSpelled ts
 
   pub TermsSpelled : FoldedTerms → Type 0
