@@ -1,5 +1,5 @@
 -- The folded line of a small process.
-use Rattle.std.proofs.Common.{refl, sym, subst, arith}
+use Rattle.std.proofs.Common.{refl, sym, subst}
 use Rattle.std.specs.Prelude.{codes}
 use Rattle.lmn_congruence.specs.Regions.{Region}
 use Rattle.lmn_lexer.specs.Spelling.{byte, nothing}
@@ -15,7 +15,7 @@ use Rattle.lmn_folded.proofs.ExampleLines.{last_ports_closed}
 pub its_line : ItsLine
 its_line alloc names is a b =
     folded_lines_read_back alloc names last_ports (codes "a(b).\n") is ((a, (b, tt)), tt, tt, tt, tt)
-    ((((codes "a", byte refl nothing), (omega arith, tt), tt), (((codes "b", byte refl nothing), (omega arith, tt), tt), tt)), tt, tt, tt, tt)
+    ((((codes "a", byte refl nothing), tt), (((codes "b", byte refl nothing), tt), tt)), tt, tt, tt, tt)
     (tt, tt) last_ports_closed folded.last_ports
 
 -- and no other one

@@ -10,11 +10,9 @@ use Rattle.lmn_plain.specs.Links.{Link, written, made}
 use Rattle.lmn_plain.specs.Expanded.{ExpandedLeaf, ExpandedLevel, level, ExpandedLevels, no_level, level_and, ExpandedRule}
 use Rattle.lmn_plain.specs.Agreement.{link_by_number}
 use Rattle.lmn_plain.specs.Plains.{EachPair}
-use Rattle.lmn_plain.specs.Spelled.{IsLinkNumber}
 use Rattle.lmn_plain.specs.Words.{link_name}
 use Rattle.lmn_plain.proofs.ReadBack.{name_same as link_same}
 use Rattle.lmn_folded.specs.Terms.{FoldedTerm, FoldedTerms, FoldedItem, Folded, FoldedMembranes, term_links, terms_links, items_links, folded_links, membranes_links, renamed_term, renamed_terms, renamed_item, renamed_folded, renamed_membranes}
-use Rattle.lmn_folded.proofs.Numbering.{renamed_links}
 use Rattle.lmn_folded.proofs.Places.{count}
 use Rattle.lmn_folded_read.specs.Apart as apart
 use Rattle.lmn_folded_read.specs.Apart.{TermApart, link_apart, atom_apart, TermsApart, none_apart, more_apart, ItemsApart, items_apart, FoldedApart, MembranesApart}
@@ -23,7 +21,7 @@ use Rattle.lmn_folded_same.specs.Whole.{TermWhole, link_whole, atom_whole, Terms
 use Rattle.lmn_folded_same.specs.Named.{AtomNamed, RegionNamed, RegionsNamed, OneToOneNames, FoldedLinksAreNamed}
 use Rattle.lmn_base.proofs.Numbers.{not_equal as apart_false, same_or_not as same_or_apart}
 use Rattle.lmn_congruence.proofs.TranslatedLinks.{no_link_in_rules as no_rule_links, places_append}
-use Rattle.lmn_congruence.proofs.Common.{among_map, among_left, among_right, places_among, among_places}
+use Rattle.lmn_congruence.proofs.Common.{among_left, among_right, places_among, among_places}
 use Rattle.lmn_base.specs.declared.refusal.Pos.{Pos}
 use Rattle.lmn_lexer.specs.Laying.{Word}
 
@@ -274,7 +272,7 @@ no_made m way e = cc
 
 -- a folded form that is taken apart in a text has the atoms of its region, with other names for the links
 pub folded_links_are_named : FoldedLinksAreNamed
-folded_links_are_named words places_of table given numbered T l own closed w n small a different none_written =
+folded_links_are_named words places_of table given numbered T l own closed w n a different none_written =
     (name, one, it.named name (by_table, by_number))
   where
     to : ℕ → ℕ
@@ -299,11 +297,6 @@ folded_links_are_named words places_of table given numbered T l own closed w n s
     by_number : (x : ℕ) → Among x (folded_links given) → name x ≡ link_by_number (n.to x)
     by_number x i = let c = it.counts x in let m = at_most x in let p = among_places i in look_none it.links x (link_by_number (n.to x)) (omega (arith, c, m, p))
 
-    small_here : (x : ℕ) → Among x (folded_links given) → IsLinkNumber (n.to x)
-    small_here x i =
-        let P : List ℕ → Type 0 = λ xs. Among (n.to x) xs in
-        small (n.to x) (subst P (sym (ap folded_links n.is ∙ renamed_links n.to given)) (among_map n.to i))
-
     printed : (x : ℕ) → occurrences x (region_process T) ≢ 0 → places x (firsts it.links) ≡ 0 → Among x (folded_links given)
     printed x o e = let c = it.counts x in places_among x (folded_links given) (λ z. o (omega (arith, c, e, z)))
 
@@ -323,7 +316,7 @@ folded_links_are_named words places_of table given numbered T l own closed w n s
         go (inl z) (inl v) =
             let i = printed x o z in
             let j = printed y p v in
-            n.one_to_one x y i j (link_same (n.to x) (n.to y) (small_here x i) (small_here y j) (sym (by_number x i) ∙ e ∙ by_number y j))
+            n.one_to_one x y i j (link_same (n.to x) (n.to y) (sym (by_number x i) ∙ e ∙ by_number y j))
         go (inl z) (inr m) = absurd (mixed x y (printed x o z) m e)
         go (inr m) (inl v) = absurd (mixed y x (printed y p v) m (sym e))
         go (inr m) (inr k) =

@@ -215,11 +215,11 @@ still_closed f P Q closed one counts y = go (same_or_apart (occurrences y Q) 0)
 
 -- a folded form that is taken apart in a text is the region that was folded
 pub folded_texts_are_same : FoldedTextsAreSame
-folded_texts_are_same words places_of table number S given numbered l own closed form n small a different none_written apart_numbers =
+folded_texts_are_same words places_of table number S given numbered l own closed form n a different none_written apart_numbers =
     let whole = folded_forms_are_whole S given closed form in
     let T = whole.0 in
     let id_closed : Closed (region_process T) = λ y. closed_too y (counted y whole.2) (closed y) in
-    let names = folded_links_are_named words places_of table given numbered T l own id_closed whole.1 n small a different none_written in
+    let names = folded_links_are_named words places_of table given numbered T l own id_closed whole.1 n a different none_written in
     let name = names.0 in
     let new : ℕ → ℕ = λ x. number (name x) in
     let same = also_renamed new whole.2 in

@@ -49,7 +49,7 @@ module _ (names : List tree.Name) where
 
   atoms_fine : (xs : List SolidAtom) → AllByRecursion (LeafHeld names) (map atom_as_leaf xs) → AllByRecursion LeafSpelled (map atom_as_leaf xs) → AllByRecursion AtomFine xs
   atoms_fine [] h s = tt
-  atoms_fine (a ∷ xs) h s = ((h.0, s.0.2), atoms_fine xs h.1 s.1)
+  atoms_fine (a ∷ xs) h s = ((h.0, s.0.1), atoms_fine xs h.1 s.1)
 
   rules_fine : (rs : List tree.Rule) → RulesHeld names (rules rs) → RulesSpelled (rules rs) → EachNumbered (rules rs) → AllByRecursion RuleFine rs
   rules_fine [] h s n = tt

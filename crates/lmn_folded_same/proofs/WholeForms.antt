@@ -1,10 +1,9 @@
 -- A folded form, taken apart, is the region with its atoms in another order.
 use Rattle.std.proofs.Common.{◌≡◌, ℕ, suc, zero, ◌+◌, List, [], ◌∷◌, ◌++◌, length, slice_get, Some, refl, sym, ap, ◌∙◌, subst, arith}
 use Rattle.std.proofs.lemmas.Option.{same_Some}
-use Rattle.lmn_congruence.specs.Orders.{Among, Shuffle, none, more, here}
+use Rattle.lmn_congruence.specs.Orders.{Among, Shuffle}
 use Rattle.lmn_congruence.specs.Process.{together}
 use Rattle.lmn_congruence.specs.Regions.{SolidAtom, Region, region, Regions, no_region, region_and, region_process, regions_processes, solid_atom_with}
-use Rattle.lmn_congruence.specs.Rules.{Rule}
 use Rattle.lmn_congruence.specs.Same.{renamed_atom}
 use Rattle.lmn_folded.specs.Terms.{FoldedTerm, FoldedTerms, FoldedItem, Folded, FoldedMembranes}
 use Rattle.lmn_folded.specs.Folding as folding

@@ -8,8 +8,7 @@ use Rattle.lmn_lexer.specs.Laying.{Word}
 use Rattle.lmn_plain.specs.Links.{Link, made}
 use Rattle.lmn_plain.specs.Expanded.{ExpandedLeaf, atom_leaf, typed_leaf, ExpandedLevel, level, ExpandedLevels, no_level, level_and, ExpandedRule, use_links}
 use Rattle.lmn_plain.specs.Plains.{EachPair}
-use Rattle.lmn_plain.specs.Spelled.{IsLinkNumber}
-use Rattle.lmn_folded.specs.Terms.{Folded, folded_links}
+use Rattle.lmn_folded.specs.Terms.{Folded}
 use Rattle.lmn_folded.specs.Lines.{IsNumberedForm}
 use Rattle.lmn_folded_read.specs.Apart.{FoldedApart}
 use Rattle.lmn_folded_same.specs.Whole.{FoldedWhole}
@@ -33,10 +32,10 @@ module _ (name : ℕ → Link) where
 abbrev pub OneToOneNames : (ℕ → Link) → Region → Type 0
 OneToOneNames name T = (x y : ℕ) → occurrences x (region_process T) ≢ 0 → occurrences y (region_process T) ≢ 0 → name x ≡ name y → x ≡ y
 
--- A folded form taken apart is a region, and with numbers that can be spelled for its printed links it is taken apart in a text
--- too, each term with a link that was made for it. Then the text has the atoms of that region, with other names for the links.
+-- A folded form taken apart is a region, and with numbers for its printed links it is taken apart in a text too, each term with a
+-- link that was made for it. Then the text has the atoms of that region, with other names for the links.
 abbrev pub FoldedLinksAreNamed : Type 0
 FoldedLinksAreNamed = (words : List Word) (places : List Pos) (table : List ExpandedRule) (given numbered : Folded) (T : Region) (l : ExpandedLevel) (own : List Link)
-    → Closed (region_process T) → FoldedWhole given T → IsNumberedForm given numbered → ((x : ℕ) → Among x (folded_links numbered) → IsLinkNumber x)
+    → Closed (region_process T) → FoldedWhole given T → IsNumberedForm given numbered
     → FoldedApart words places table numbered l own → EachOnce own → ((a : Link) → Among a own → (way : List ℕ) × (a ≡ made way))
     → (name : ℕ → Link) × OneToOneNames name T × RegionNamed name T l

@@ -10,8 +10,7 @@ use Rattle.lmn_plain.specs.Agreement.{RulesAre}
 use Rattle.lmn_plain.specs.Links.{Link, made}
 use Rattle.lmn_plain.specs.Expanded.{ExpandedLeaf, atom_leaf, typed_leaf, ExpandedLevel, level, ExpandedLevels, no_level, level_and, ExpandedRule, use_links, expanded_links}
 use Rattle.lmn_plain.specs.Plains.{EachPair, OneToOne}
-use Rattle.lmn_plain.specs.Spelled.{IsLinkNumber}
-use Rattle.lmn_folded.specs.Terms.{Folded, folded_links}
+use Rattle.lmn_folded.specs.Terms.{Folded}
 use Rattle.lmn_folded.specs.Folding.{Folds}
 use Rattle.lmn_folded.specs.Lines.{IsNumberedForm}
 use Rattle.lmn_folded_read.specs.Apart.{FoldedApart}
@@ -34,12 +33,12 @@ module _ (words : List Word) (places : List Pos) (table : List ExpandedRule) (nu
     RegionsNumbered (region_and r rs) (level_and l ls) = RegionNumbered r l × RegionsNumbered rs ls
     RegionsNumbered _ _ = ⊥
 
--- The folded form of a region, with numbers that can be spelled for its printed links, is taken apart in a text, each term with a
--- link that was made for it. With a number for each link of the text, different ones for different links, this is the region that
--- was folded, up to the order of atoms and the numbers of links.
+-- The folded form of a region, with numbers for its printed links, is taken apart in a text, each term with a link that was made for
+-- it. With a number for each link of the text, different ones for different links, this is the region that was folded, up to the
+-- order of atoms and the numbers of links.
 abbrev pub FoldedTextsAreSame : Type 0
 FoldedTextsAreSame = (words : List Word) (places : List Pos) (table : List ExpandedRule) (number : Link → ℕ) (S : Region) (given numbered : Folded) (l : ExpandedLevel) (own : List Link)
-    → Closed (region_process S) → Folds S given → IsNumberedForm given numbered → ((x : ℕ) → Among x (folded_links numbered) → IsLinkNumber x)
+    → Closed (region_process S) → Folds S given → IsNumberedForm given numbered
     → FoldedApart words places table numbered l own → EachOnce own → ((a : Link) → Among a own → (way : List ℕ) × (a ≡ made way))
     → OneToOne number (expanded_links l)
     → (T : Region) × SameUpToAtomOrder S T × Closed (region_process T) × RegionNumbered words places table number T l
