@@ -31,7 +31,7 @@ b_spelled = (codes "b", byte refl nothing)
 
 -- an atom without links
 one_spelled : (name : Name) → LabelSpelled (named name) → LevelSpelled (only_leaves (atom_leaf (named name) [] ∷ []))
-one_spelled name h = (((h, tt, tt), tt), tt, tt, tt, tt)
+one_spelled name h = (((h, tt), tt), tt, tt, tt, tt)
 
 one_held : (names : List Name) (name : Name) → Contains names name → LevelHeld names (only_leaves (atom_leaf (named name) [] ∷ []))
 one_held names name h = ((h, tt), tt, tt, tt, tt)
@@ -44,7 +44,7 @@ module _ (alloc : Global) (names : List Name) (is : IsNames names) (a : Contains
       let S = changing (named name ∷ []) in
       let back = lines_read_back alloc names (as_level S) 0 is
       ((held, tt), tt, tt, tt, ((one_held names (codes "a") a, tt, one_held names (codes "b") b), tt))
-      (((spelled, tt, tt), tt), tt, tt, tt, ((one_spelled (codes "a") a_spelled, tt, one_spelled (codes "b") b_spelled), tt))
+      (((spelled, tt), tt), tt, tt, tt, ((one_spelled (codes "a") a_spelled, tt, one_spelled (codes "b") b_spelled), tt))
       no_more (tt, (((0, no_more), (tt, tt), (tt, tt)), tt)) (no_contexts S) in
       record {
         plain = back.0;

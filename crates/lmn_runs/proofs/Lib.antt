@@ -1,6 +1,5 @@
 mod LabelsStay
 mod Tables
-mod Counted
 mod GoodLevels
 pub mod TraceLines
 mod TraceRuns

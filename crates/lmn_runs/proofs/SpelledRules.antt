@@ -1,9 +1,8 @@
 -- A text can spell the rules and the top of the plain of a tree, where it can spell what their tokens mean.
-use Rattle.std.proofs.Common.{◌≡◌, ◌≢◌, ℕ, zero, suc, ◌+◌, ◌<◌, ◌≤◌, ◌^◌, ◌==◌, Bool, true, false, if◌then◌else◌, List, [], ◌∷◌, ◌++◌, map, length, get_or, slice_get, Some, All, refl, sym, ap, ◌∙◌, subst, arith}
+use Rattle.std.proofs.Common.{◌≡◌, ◌≢◌, ℕ, zero, suc, ◌+◌, ◌<◌, ◌≤◌, ◌==◌, Bool, true, false, if◌then◌else◌, List, [], ◌∷◌, ◌++◌, map, length, get_or, slice_get, Some, All, refl, sym, ap, ◌∙◌, subst, arith}
 use Rattle.std.specs.Prelude.{Contains, codes}
-use Rattle.std.specs.List.{AllByRecursion, flat_map}
-use Rattle.std.proofs.lemmas.List.{append-nil}
-use Rattle.std.proofs.lemmas.Option.{get_or_from_slice_get, same_Some}
+use Rattle.std.specs.List.{AllByRecursion}
+use Rattle.std.proofs.lemmas.Option.{same_Some}
 use Rattle.lmn_base.specs.declared.functor.Label.TheVariants.{Name as Named}
 use Rattle.lmn_base.specs.declared.functor.TheConstants.{INT_NAME, UNARY_NAME, GROUND_NAME}
 use Rattle.lmn_base.specs.declared.guard.Cond.{Cond}
@@ -12,31 +11,26 @@ use Rattle.lmn_base.specs.declared.guard.Expr.TheFolds.{fold-roll-Expr}
 use Rattle.lmn_base.specs.declared.level.CtxUse.{CtxUse}
 use Rattle.lmn_base.specs.declared.level.Level as base_level
 use Rattle.lmn_base.specs.declared.level.Level.TheFolds.{fold-roll-Level}
-use Rattle.lmn_base.specs.declared.level.Occ.{Occ}
 use Rattle.lmn_base.specs.declared.rule.RuleTree.{RuleTree}
-use Rattle.lmn_base.specs.Levels.{links_of as base_links, rules_of}
-use Rattle.lmn_base.specs.Links.{NumbersLinks}
+use Rattle.lmn_base.specs.Levels.{rules_of}
 use Rattle.lmn_base.specs.Names.{IsNames}
-use Rattle.lmn_base.specs.WellMade.{IsWellMadeRule, IsWellMade}
-use Rattle.lmn_congruence.specs.Orders.{Among, at_head, further}
+use Rattle.lmn_base.specs.WellMade.{IsWellMade}
 use Rattle.lmn_congruence.specs.Rules as tree
 use Rattle.lmn_congruence.specs.Rules.{Name}
 use Rattle.lmn_congruence.specs.Translation.{atom_or_connector, condition_of, context_with, context_tree, expression_of, kind_of, leaf_of, level_of, level_step, levels, name_of, names_of, numbered_rule, rules}
 use Rattle.lmn_congruence.specs.Translation as translation
 use Rattle.lmn_congruence.proofs.NumberedRules.{rule_has_number}
 use Rattle.lmn_parser.specs.Syntax as syntax
-use Rattle.lmn_plain.specs.Expanded.{Context, ExpandedLeaf, ExpandedLevel, ExpandedLevels, ExpandedRule, atom_leaf, expanded_leaf_links, expanded_leaves_links, level, level_and, expanded_links_in, expanded_links, no_level, typed_leaf, use_links}
-use Rattle.lmn_plain.specs.Links.{Link, Use}
-use Rattle.lmn_plain.specs.Plains.{EachPair, IsCond, IsExpr, IsRuleOf, all_numbered, context_use, number_of, numbered, numbered_context, numbered_leaf, numbered_use}
-use Rattle.lmn_plain.specs.Spelled.{ConditionSpelled, ExpressionSpelled, UntypedSpelled, IsContextName, IsLinkNumber, LabelSpelled, LeafSpelled, LevelSpelled, LevelsSpelled, SpellsNoConnector, RuleSpelled, RulesSpelled}
+use Rattle.lmn_plain.specs.Expanded.{Context, ExpandedLeaf, ExpandedLevel, ExpandedLevels, ExpandedRule, atom_leaf, level, level_and, no_level, typed_leaf}
+use Rattle.lmn_plain.specs.Links.{Link}
+use Rattle.lmn_plain.specs.Plains.{EachPair, IsCond, IsExpr, IsRuleOf, all_numbered, context_use, number_of, numbered, numbered_context, numbered_leaf}
+use Rattle.lmn_plain.specs.Spelled.{ConditionSpelled, ExpressionSpelled, UntypedSpelled, IsContextName, LabelSpelled, LeafSpelled, LevelSpelled, LevelsSpelled, SpellsNoConnector, RuleSpelled, RulesSpelled}
 use Rattle.lmn_plain.proofs.Fitting.{numbers_in, rule_numbers}
 use Rattle.lmn_plain.proofs.HeldLabels.{connector_number, held_back}
-use Rattle.lmn_plain.proofs.NumberedLevels.{links_numbered, rules_numbered}
+use Rattle.lmn_plain.proofs.NumberedLevels.{rules_numbered}
 use Rattle.lmn_plain.proofs.SolidNumbers.{there}
 use Rattle.lmn_runs.proofs.GoodLevels.{fits}
 use Rattle.lmn_runs.proofs.SpelledParts.{ConditionRight, ContextRight, ExprRight, LeafRight, LevelRight, LevelsRight, RuleRight, TokenRight}
-use Rattle.lmn_folded_same.proofs.SpelledForms.{numbers_below}
-use Rattle.lmn_congruence.proofs.Common.{among_left, among_right, among_map}
 use Rattle.lmn_base.specs.declared.rule.Plain.{Plain}
 use Rattle.lmn_base.specs.declared.refusal.Pos.{Pos}
 use Rattle.lmn_lexer.specs.Laying.{Word}
@@ -65,8 +59,8 @@ module _ (names : List Name) (is : IsNames names) where
 
   -- ---- leaves
 
-  named_leaf : (n : Name) (xs : List ℕ) → IsLabel (tree.named n) → AllByRecursion IsLinkNumber xs → LeafSpelled (atom_or_connector names (Named (number_of names n)) xs)
-  named_leaf n xs h small = go (number_of names n) refl xs small
+  named_leaf : (n : Name) (xs : List ℕ) → IsLabel (tree.named n) → LeafSpelled (atom_or_connector names (Named (number_of names n)) xs)
+  named_leaf n xs h = go (number_of names n) refl xs
     where
       spelled : (k : ℕ) → number_of names n ≡ k → LabelSpelled (tree.named (name_of names k))
       spelled k e = subst (λ m. LabelSpelled (tree.named m)) (sym (held_back names n h.1) ∙ ap (name_of names) e) h.0
@@ -83,30 +77,22 @@ module _ (names : List Name) (is : IsNames names) where
       other j e (x ∷ y ∷ []) = apart j e
       other j e (x ∷ y ∷ z ∷ xs) = tt
 
-      go : (k : ℕ) → number_of names n ≡ k → (xs : List ℕ) → AllByRecursion IsLinkNumber xs → LeafSpelled (atom_or_connector names (Named k) xs)
-      go zero e [] s = (spelled 0 e, tt, tt)
-      go zero e (x ∷ []) s = (spelled 0 e, s, tt)
-      go zero e (x ∷ y ∷ []) s = (s.0, s.1.0)
-      go zero e (x ∷ y ∷ z ∷ xs) s = (spelled 0 e, s, tt)
-      go (suc j) e xs s = (spelled (suc j) e, s, other j e xs)
+      go : (k : ℕ) → number_of names n ≡ k → (xs : List ℕ) → LeafSpelled (atom_or_connector names (Named k) xs)
+      go zero e [] = (spelled 0 e, tt)
+      go zero e (x ∷ []) = (spelled 0 e, tt)
+      go zero e (x ∷ y ∷ []) = tt
+      go zero e (x ∷ y ∷ z ∷ xs) = (spelled 0 e, tt)
+      go (suc j) e xs = (spelled (suc j) e, other j e xs)
 
   module _ (number : Link → ℕ) (ρ : ℕ → tree.Rule) where
-    -- the links have numbers that can be spelled
-    abbrev Small : List Link → Type 0
-    Small xs = (x : Link) → Among x xs → IsLinkNumber (number x)
+    leaf_spelled : (l : ExpandedLeaf) → LeafRight IsLabel IsContext l → LeafSpelled (leaf_of names (numbered_leaf names number l))
+    leaf_spelled (atom_leaf (tree.named n) us place) h = named_leaf n _ h
+    leaf_spelled (atom_leaf (tree.integer z) us place) h = (h, tt)
+    leaf_spelled (typed_leaf n u place) h = context_back n h
 
-    small_uses : (us : List Use) → Small (use_links us) → AllByRecursion IsLinkNumber (map (λ (o : Occ). o.link) (map (numbered_use names number) us))
-    small_uses [] h = tt
-    small_uses (u ∷ us) h = (h u.link at_head, small_uses us (λ x i. h x (further i)))
-
-    leaf_spelled : (l : ExpandedLeaf) → LeafRight IsLabel IsContext l → Small (expanded_leaf_links l) → LeafSpelled (leaf_of names (numbered_leaf names number l))
-    leaf_spelled (atom_leaf (tree.named n) us place) h s = named_leaf n _ h (small_uses us s)
-    leaf_spelled (atom_leaf (tree.integer z) us place) h s = (h, small_uses us s, tt)
-    leaf_spelled (typed_leaf n u place) h s = (context_back n h, s u.link at_head)
-
-    leaves_spelled : (ls : List ExpandedLeaf) → AllByRecursion (LeafRight IsLabel IsContext) ls → Small (expanded_leaves_links ls) → AllByRecursion LeafSpelled (map (leaf_of names) (map (numbered_leaf names number) ls))
-    leaves_spelled [] h s = tt
-    leaves_spelled (l ∷ ls) h s = (leaf_spelled l h.0 (λ x i. s x (among_left (expanded_leaves_links ls) i)), leaves_spelled ls h.1 (λ x i. s x (among_right (expanded_leaf_links l) i)))
+    leaves_spelled : (ls : List ExpandedLeaf) → AllByRecursion (LeafRight IsLabel IsContext) ls → AllByRecursion LeafSpelled (map (leaf_of names) (map (numbered_leaf names number) ls))
+    leaves_spelled [] h = tt
+    leaves_spelled (l ∷ ls) h = (leaf_spelled l h.0, leaves_spelled ls h.1)
 
     contexts_spelled : (cs : List Context) → AllByRecursion (ContextRight IsLabel IsContext) cs → AllByRecursion IsContextName (names_of names (map (numbered_context names number) cs))
     contexts_spelled [] h = tt
@@ -155,27 +141,24 @@ module _ (names : List Name) (is : IsNames names) where
       as_trees (level_and l ls) = two (as_tree l) (as_trees ls)
 
     mutual
-      tree_spelled : (l : ExpandedLevel) → LevelRight IsLabel IsContext l → Small (expanded_links l) → All T (rule_numbers l) → LevelSpelled (tree_level l)
-      tree_spelled (level ls ms cs os rs) h s k = (
-        leaves_spelled ls h.0 (λ x i. s x (among_left (expanded_links_in ms) i)),
-        trees_spelled ms h.1 (λ x i. s x (among_right (expanded_leaves_links ls) i)) (all_of_right T rs (numbers_in ms) k),
+      tree_spelled : (l : ExpandedLevel) → LevelRight IsLabel IsContext l → All T (rule_numbers l) → LevelSpelled (tree_level l)
+      tree_spelled (level ls ms cs os rs) h k = (
+        leaves_spelled ls h.0,
+        trees_spelled ms h.1 (all_of_right T rs (numbers_in ms) k),
         untyped_spelled cs h.2,
         contexts_spelled os h.3,
         each_spelled rs (all_of_left T rs (numbers_in ms) k),
       )
 
-      trees_spelled : (ls : ExpandedLevels) → LevelsRight IsLabel IsContext ls → Small (expanded_links_in ls) → All T (numbers_in ls) → LevelsSpelled (tree_levels ls)
-      trees_spelled no_level h s k = tt
-      trees_spelled (level_and l ls) h s k = (
-        tree_spelled l h.0 (λ x i. s x (among_left (expanded_links_in ls) i)) (all_of_left T (rule_numbers l) (numbers_in ls) k),
-        trees_spelled ls h.1 (λ x i. s x (among_right (expanded_links l) i)) (all_of_right T (rule_numbers l) (numbers_in ls) k),
-      )
+      trees_spelled : (ls : ExpandedLevels) → LevelsRight IsLabel IsContext ls → All T (numbers_in ls) → LevelsSpelled (tree_levels ls)
+      trees_spelled no_level h k = tt
+      trees_spelled (level_and l ls) h k = (tree_spelled l h.0 (all_of_left T (rule_numbers l) (numbers_in ls) k), trees_spelled ls h.1 (all_of_right T (rule_numbers l) (numbers_in ls) k))
 
     -- a level with numbers for names and links
-    pub level_spelled : (l : ExpandedLevel) (b : base_level.Level) → b ≡ numbered names number l → LevelRight IsLabel IsContext l → Small (expanded_links l) → All T (rules_of b) → LevelSpelled (level_of names ρ b)
-    level_spelled l b e h s k =
+    pub level_spelled : (l : ExpandedLevel) (b : base_level.Level) → b ≡ numbered names number l → LevelRight IsLabel IsContext l → All T (rules_of b) → LevelSpelled (level_of names ρ b)
+    level_spelled l b e h k =
         let numbers : All T (rule_numbers l) = subst (All T) (ap rules_of e ∙ rules_numbered names number l) k in
-        subst LevelSpelled (sym (ap (level_of names ρ) e ∙ as_tree l)) (tree_spelled l h s numbers)
+        subst LevelSpelled (sym (ap (level_of names ρ) e ∙ as_tree l)) (tree_spelled l h numbers)
 
   -- ---- guards
 
@@ -246,7 +229,6 @@ module _ (names : List Name) (is : IsNames names) where
     rule_here (r ∷ rs) (u ∷ ts) i h (suc k) t e = rule_here rs ts i.1 h.1 k t e
 
     module _ (p : Plain) (well : IsWellMade p) (rs : List ExpandedRule) (each : EachPair (IsRuleOf words places names) rs p.rules) (right : AllByRecursion (RuleRight IsLabel IsContext words places) rs)
-        (few : (k : ℕ) (t : RuleTree) → slice_get p.rules k ≡ Some t → length t.links ≤ 2 ^ 64)
         (known : (k : ℕ) (t : RuleTree) → slice_get p.rules k ≡ Some t → NoneUnknown (map (condition_of names) t.guard)) where
       abbrev rule_at : ℕ → tree.Rule
       rule_at = numbered_rule names p.rules
@@ -259,27 +241,15 @@ module _ (names : List Name) (is : IsNames names) where
           let here = rule_here rs p.rules each right k t found.1 in
           let r = here.0 in
           let i = here.1 in
-          let P : RuleTree → Type 0 = IsWellMadeRule in
-          let made = subst P (get_or_from_slice_get p.rules k t t found.1) (well.each_rule k t l) in
-          let table = made.table in
           let inside = well.rules_in_rules k t found.1 in
           let T : ℕ → Type 0 = λ j. RuleSpelled (rule_at j) in
           let all : All T (rules_of t.head ++ rules_of t.body) =
           (λ j d b. let u = inside j d b in spelled_rule m (get_or (rules_of t.head ++ rules_of t.body) j d) (omega (arith, h, u.0)) u.1) in
-          let Q : List ℕ → Type 0 = λ xs. NumbersLinks xs (length t.links) in
-          let same : flat_map base_links (t.head ∷ t.body ∷ []) ≡ map i.number (expanded_links r.head) ++ map i.number (expanded_links r.body) =
-          ap (λ xs. base_links t.head ++ xs) (append-nil (base_links t.body))
-          ∙ ap (λ xs. xs ++ base_links t.body) (ap base_links i.head ∙ links_numbered names i.number r.head)
-          ∙ ap (λ xs. map i.number (expanded_links r.head) ++ xs) (ap base_links i.body ∙ links_numbered names i.number r.body) in
-          let numbers = subst Q same table.numbered in
-          let most = few k t found.1 in
-          let small : (x : ℕ) → Among x (map i.number (expanded_links r.head) ++ map i.number (expanded_links r.body)) → IsLinkNumber x =
-          (λ x a. let b = numbers_below numbers x a in omega (arith, b, most)) in
           let R : tree.Rule → Type 0 = RuleSpelled in
           subst R (sym (rule_has_number names p k t well found.1)) (
-            level_spelled i.number rule_at r.head t.head i.head here.2.0 (λ x a. small (i.number x) (among_left (map i.number (expanded_links r.body)) (among_map i.number a))) (all_of_left T (rules_of t.head) (rules_of t.body) all),
+            level_spelled i.number rule_at r.head t.head i.head here.2.0 (all_of_left T (rules_of t.head) (rules_of t.body) all),
             guard_spelled r.guard t.guard i.guard here.2.1 (known k t found.1),
-            level_spelled i.number rule_at r.body t.body i.body here.2.2 (λ x a. small (i.number x) (among_right (map i.number (expanded_links r.head)) (among_map i.number a))) (all_of_right T (rules_of t.head) (rules_of t.body) all),
+            level_spelled i.number rule_at r.body t.body i.body here.2.2 (all_of_right T (rules_of t.head) (rules_of t.body) all),
           )
 
       pub rules_spelled : (k : ℕ) → k < length p.rules → RuleSpelled (rule_at k)

@@ -1,41 +1,36 @@
 -- What is printed of a trace is a run.
-use Rattle.std.proofs.Common.{◌≡◌, ℕ, ◌+◌, ◌*◌, ◌^◌, ◌<◌, ◌≤◌, ◌⊎◌, ◌↔◌, inl, inr, Bool, true, false, List, [], ◌∷◌, ◌++◌, map, length, get_or, All, refl, sym, ap, ◌∙◌, subst, arith}
-use Rattle.std.specs.Prelude.{sum}
+use Rattle.std.proofs.Common.{◌≡◌, ℕ, ◌+◌, ◌<◌, ◌≤◌, ◌⊎◌, ◌↔◌, inl, inr, Bool, true, false, List, [], ◌∷◌, ◌++◌, map, length, get_or, All, refl, sym, ap, ◌∙◌, subst, arith}
 use Rattle.std.specs.List.{AllByRecursion, flat_map}
 use Rattle.std.proofs.lemmas.List.Elements.{All-from_recursion}
-use Rattle.std.proofs.lemmas.List.{length-append, length-map}
-use Rattle.std.proofs.lemmas.List.Sums.{sum_by-cons}
+use Rattle.std.proofs.lemmas.List.{length-append}
 use Rattle.lmn_base.specs.declared.rule.Plain.{Plain}
-use Rattle.lmn_base.specs.declared.rule.RuleTree.{RuleTree}
 use Rattle.lmn_base.specs.declared.solid.Solid.{Solid}
 use Rattle.lmn_base.specs.declared.solid.SolidAtom as base_atom
 use Rattle.lmn_base.specs.declared.solid.Region as base_region
-use Rattle.lmn_base.specs.declared.solid.Region.TheFolds.{fold-Region, fold-roll-Region, ind-Region}
+use Rattle.lmn_base.specs.declared.solid.Region.TheFolds.{fold-roll-Region}
 use Rattle.lmn_base.specs.declared.solid.Region.TheViews.{roll-Region}
 use Rattle.lmn_base.specs.Levels.{contexts_of, leaves_of, rule_contexts_of, rules_of}
-use Rattle.lmn_base.specs.Limits.{most_links}
 use Rattle.lmn_base.specs.Links.{NumbersLinks}
 use Rattle.lmn_base.specs.Names.{HasNames, NamesSolid, context_names, label_names, leaf_names, level_names, rule_names, IsNames}
-use Rattle.lmn_base.specs.Solids.{HasEachRule, atoms_step, item_count, items_step, rules_step}
-use Rattle.lmn_congruence.specs.Orders.{Among, at_head, further}
+use Rattle.lmn_base.specs.Solids.{HasEachRule, atoms_step, rules_step}
+use Rattle.lmn_congruence.specs.Orders.{at_head, further}
 use Rattle.lmn_congruence.specs.Plains.{level_process}
 use Rattle.lmn_congruence.specs.Process.{Closed}
-use Rattle.lmn_congruence.specs.Regions.{Region, Regions, SolidAtom, item_count_of_region, item_count_of_regions, no_region, region, region_and, region_process}
+use Rattle.lmn_congruence.specs.Regions.{Region, Regions, SolidAtom, no_region, region, region_and, region_process}
 use Rattle.lmn_congruence.specs.Rules as tree
-use Rattle.lmn_congruence.specs.Rules.{Name, Rule, atom_leaf, body_of, named, integer}
+use Rattle.lmn_congruence.specs.Rules.{Name, Rule, atom_leaf, named, integer}
 use Rattle.lmn_congruence.specs.SolidsOfPlains.{IsSolidOf}
-use Rattle.lmn_congruence.specs.Translation.{numbered_rule, region_of, region_step, regions, solid_atom_of, top_of, rules as as_rules}
-use Rattle.lmn_congruence.proofs.NumberedRules.{rule_has_number}
+use Rattle.lmn_congruence.specs.Translation.{numbered_rule, region_of, region_step, top_of, rules as as_rules}
 use Rattle.lmn_congruence.proofs.SolidsOfPlains.{solids_of_plains}
 use Rattle.lmn_plain.specs.LinkNumbers.{AllRulesNumbered, EachNumbered, RuleNumbered, RulesNumbered, leaves_links, level_links, levels_links}
 use Rattle.lmn_plain.specs.NamesHeld.{LeafHeld, LevelHeld, LevelsHeld, RuleHeld, RulesHeld}
 use Rattle.lmn_plain.specs.SolidLines.{as_level, as_levels, atom_as_leaf}
-use Rattle.lmn_plain.specs.Spelled.{IsLinkNumber, LeafSpelled, LevelSpelled, LevelsSpelled, RuleSpelled, RulesSpelled}
+use Rattle.lmn_plain.specs.Spelled.{LeafSpelled, LevelSpelled, LevelsSpelled, RuleSpelled, RulesSpelled}
 use Rattle.lmn_plain.specs.Words.{line_of}
 use Rattle.lmn_plain.proofs.HeldSolids.{level_held}
 use Rattle.lmn_plain.proofs.SolidLines.{no_contexts, same_process}
 use Rattle.lmn_plain.proofs.SolidNames.{solid_held}
-use Rattle.lmn_plain.proofs.SolidNumbers.{solid_numbers, solid_rules_numbered, there}
+use Rattle.lmn_plain.proofs.SolidNumbers.{solid_numbers, solid_rules_numbered}
 use Rattle.lmn_plain.proofs.TextPlains.{lines_read_back}
 use Rattle.lmn_folded.specs.Lines.{IsFoldedLine, IsLine}
 use Rattle.lmn_folded_same.specs.ReadBack.{IsFoldedLineOf}
@@ -52,13 +47,10 @@ use Rattle.lmn_reduction.specs.Chains.{Commits, no_step, step_after}
 use Rattle.lmn_reduction.specs.Commits.{Commit, Irreducible}
 use Rattle.lmn_runs.specs.Laws.{IsPrintable, TracesAreRuns, solid_of}
 use Rattle.lmn_runs.specs.Runs.{AllLines, IsLineOf, IsProcessLine, LastLine, LinesOf, Prints, Stop, StopsBy, StopsSo, at_end, first_line, next_line, no_memory, printed_solids}
-use Rattle.lmn_runs.proofs.Counted.{numbers_count}
-use Rattle.lmn_runs.proofs.GoodLevels.{Good, GoodRule, LabelHeld, LevelFew, good_integer, integer_good, level_few, level_good, not_connector, rule_good}
+use Rattle.lmn_runs.proofs.GoodLevels.{Good, GoodRule, LabelHeld, good_integer, integer_good, level_good, not_connector, rule_good}
 use Rattle.lmn_runs.proofs.TraceLines.{one_more_line}
 use Rattle.lmn_runs.proofs.LabelsStay.{AllAtoms, AllAtomsIn, Atoms, fused_good, next_atoms}
 use Rattle.lmn_runs.proofs.Tables.{solid_has_rules, solid_rules}
-use Rattle.lmn_folded_same.proofs.SpelledForms.{numbers_below}
-use Rattle.lmn_congruence.proofs.Common.{among_left, among_right}
 use Rattle.std.specs.declared.alloc.Global.{Global}
 use Rattle.lmn_base.proofs.Lists.{all_of_left, all_of_right}
 
@@ -85,21 +77,6 @@ module _ (names : List Name) where
 
   abbrev RegionsGood : Regions → Type 0
   RegionsGood = AllAtomsIn (Good names) (good_integer names) (integer_good names)
-
-  -- as many ports as an atom may have links, for each item
-  few_ports : (xs : List SolidAtom) → AtomsGood xs → length (links_at xs) ≤ most_links * length xs
-  few_ports [] h = omega arith
-  few_ports (a ∷ xs) h =
-      let first = h a at_head in
-      omega (arith, length-append a.links (links_at xs), first.few, few_ports xs (λ b i. h b (further i)))
-
-  mutual
-    region_ports : (r : Region) → RegionGood r → length (printed_links r) ≤ most_links * item_count_of_region r
-    region_ports (region xs ms rs) h = omega (arith, length-append (links_at xs) (printed_links_in ms), few_ports xs h.0, regions_ports ms h.1)
-
-    regions_ports : (ms : Regions) → RegionsGood ms → length (printed_links_in ms) ≤ most_links * item_count_of_regions ms
-    regions_ports no_region h = omega arith
-    regions_ports (region_and m ms) h = omega (arith, length-append (printed_links m) (printed_links_in ms), region_ports m h.0, regions_ports ms h.1)
 
   -- ---- what a text can spell, and what the list holds
 
@@ -130,21 +107,14 @@ module _ (names : List Name) where
   leaf_held : (a : SolidAtom) → Good names a.label (length a.links) → LeafHeld names (atom_as_leaf a)
   leaf_held a g = label_leaf a.label a.links g.held
 
-  links_small : (bound : ℕ) (xs : List ℕ) → bound ≤ 2 ^ 64 → ((x : ℕ) → Among x xs → x < bound) → AllByRecursion IsLinkNumber xs
-  links_small bound [] small h = tt
-  links_small bound (x ∷ xs) small h = (omega (arith, small, h x at_head), links_small bound xs small (λ y i. h y (further i)))
-
   atoms_held : (xs : List SolidAtom) → AtomsGood xs → AllByRecursion (LeafHeld names) (map atom_as_leaf xs)
   atoms_held [] h = tt
   atoms_held (a ∷ xs) h = (leaf_held a (h a at_head), atoms_held xs (λ b i. h b (further i)))
 
-  atoms_spelled : (bound : ℕ) (xs : List SolidAtom) → bound ≤ 2 ^ 64 → AtomsGood xs → ((x : ℕ) → Among x (links_at xs) → x < bound) → AllByRecursion LeafSpelled (map atom_as_leaf xs)
-  atoms_spelled bound [] small h b = tt
-  atoms_spelled bound (a ∷ xs) small h b =
-      let g = h a at_head in (
-        (g.spelled, links_small bound a.links small (λ x i. b x (among_left (links_at xs) i)), not_connector names a.label a.links g.no_connector),
-        atoms_spelled bound xs small (λ c i. h c (further i)) (λ x i. b x (among_right a.links i)),
-      )
+  atoms_spelled : (xs : List SolidAtom) → AtomsGood xs → AllByRecursion LeafSpelled (map atom_as_leaf xs)
+  atoms_spelled [] h = tt
+  atoms_spelled (a ∷ xs) h =
+      let g = h a at_head in ((g.spelled, not_connector names a.label a.links g.no_connector), atoms_spelled xs (λ c i. h c (further i)))
 
   mutual
     region_held : (r : Region) → RegionGood r → AllRules RuleFine r → LevelHeld names (as_level r)
@@ -163,31 +133,21 @@ module _ (names : List Name) where
     regions_numbered (region_and m ms) k = (region_numbered m k.0, regions_numbered ms k.1)
 
   mutual
-    region_spelled : (bound : ℕ) (r : Region) → bound ≤ 2 ^ 64 → RegionGood r → AllRules RuleFine r → ((x : ℕ) → Among x (printed_links r) → x < bound) → LevelSpelled (as_level r)
-    region_spelled bound (region xs ms rs) small h k b = (
-      atoms_spelled bound xs small h.0 (λ x i. b x (among_left (printed_links_in ms) i)),
-      regions_spelled bound ms small h.1 k.1 (λ x i. b x (among_right (links_at xs) i)),
-      tt,
-      tt,
-      rules_spelled rs k.0,
-    )
+    region_spelled : (r : Region) → RegionGood r → AllRules RuleFine r → LevelSpelled (as_level r)
+    region_spelled (region xs ms rs) h k = (atoms_spelled xs h.0, regions_spelled ms h.1 k.1, tt, tt, rules_spelled rs k.0)
 
-    regions_spelled : (bound : ℕ) (ms : Regions) → bound ≤ 2 ^ 64 → RegionsGood ms → AllRulesIn RuleFine ms → ((x : ℕ) → Among x (printed_links_in ms) → x < bound) → LevelsSpelled (as_levels ms)
-    regions_spelled bound no_region small h k b = tt
-    regions_spelled bound (region_and m ms) small h k b = (
-      region_spelled bound m small h.0 k.0 (λ x i. b x (among_left (printed_links_in ms) i)),
-      regions_spelled bound ms small h.1 k.1 (λ x i. b x (among_right (printed_links m) i)),
-    )
+    regions_spelled : (ms : Regions) → RegionsGood ms → AllRulesIn RuleFine ms → LevelsSpelled (as_levels ms)
+    regions_spelled no_region h k = tt
+    regions_spelled (region_and m ms) h k = (region_spelled m h.0 k.0, regions_spelled ms h.1 k.1)
 
   -- ---- the line of a solid
 
   -- what each solid of a trace is like
-  record Fine (size : ℕ) (S : Region) : Type 0 where
+  record Fine (S : Region) : Type 0 where
     pub closed : Closed (region_process S)
     pub rules : AllRules (Throughout RuleFine) S
     pub atoms : RegionGood S
     pub numbered : IsNumbered S
-    pub few : item_count_of_region S ≤ size
 
   itself : (r : Rule) → Throughout RuleFine r → RuleFine r
   itself (tree.rule_of head guard body) h = h.0
@@ -198,23 +158,18 @@ module _ (names : List Name) where
   good_rule : (r : Rule) → Throughout RuleFine r → GoodRule names r
   good_rule r h = let f = itself r h in f.good
 
-  module _ (alloc : Global) (is : IsNames names) (size : ℕ) (small : size < 2 ^ 32) where
-    rules_fine : (S : Region) → Fine size S → AllRules RuleFine S
+  module _ (alloc : Global) (is : IsNames names) where
+    rules_fine : (S : Region) → Fine S → AllRules RuleFine S
     rules_fine S f = all_rules_so itself S f.rules
 
-    spelled_fine : (S : Region) → Fine size S → LevelSpelled (as_level S)
-    spelled_fine S f =
-        let n = f.numbered in
-        let count = numbers_count n.1 in
-        let ports = region_ports S f.atoms in
-        let bound : n.0 ≤ 2 ^ 64 = omega (arith, count.1, ports, f.few, small) in
-        region_spelled n.0 S bound f.atoms (rules_fine S f) (numbers_below n.1)
+    spelled_fine : (S : Region) → Fine S → LevelSpelled (as_level S)
+    spelled_fine S f = region_spelled S f.atoms (rules_fine S f)
 
-    numbers_fine : (S : Region) (f : Fine size S) → NumbersLinks (level_links (as_level S)) f.numbered.0
+    numbers_fine : (S : Region) (f : Fine S) → NumbersLinks (level_links (as_level S)) f.numbered.0
     numbers_fine S f = subst (λ xs. NumbersLinks xs f.numbered.0) (sym (region_links S)) f.numbered.1
 
     -- the plain line of such a solid is that of its process,
-    plain_fine : (S : Region) → Fine size S → IsLineOf names (region_process S) (line_of (as_level S))
+    plain_fine : (S : Region) → Fine S → IsLineOf names (region_process S) (line_of (as_level S))
     plain_fine S f =
         let fine = rules_fine S f in
         let back = lines_read_back alloc names (as_level S) f.numbered.0 is (region_held S f.atoms fine) (spelled_fine S f) (numbers_fine S f) (region_numbered S fine) (no_contexts S) in
@@ -227,23 +182,23 @@ module _ (names : List Name) where
         }
 
     -- and so is its folded line
-    folded_fine : (S : Region) (line : List ℕ) → Fine size S → IsFoldedLine S line → IsFoldedLineOf names (region_process S) line
+    folded_fine : (S : Region) (line : List ℕ) → Fine S → IsFoldedLine S line → IsFoldedLineOf names (region_process S) line
     folded_fine S line f h =
         let fine = rules_fine S f in
         folded_lines_read_back alloc names S line is (region_held S f.atoms fine) (spelled_fine S f) (region_numbered S fine) f.closed h
 
-    line_fine : (folded : Bool) (S : Region) (line : List ℕ) → Fine size S → IsLine folded S line → IsProcessLine folded names (region_process S) line
+    line_fine : (folded : Bool) (S : Region) (line : List ℕ) → Fine S → IsLine folded S line → IsProcessLine folded names (region_process S) line
     line_fine true S line f h = folded_fine S line f h
     line_fine false S line f h = subst (IsLineOf names (region_process S)) (sym h) (plain_fine S f)
 
     -- ---- traces
 
-    module _ (chooser : Chooser) (budget : ℕ) (S : Region) (start : Fine size S) where
+    module _ (chooser : Chooser) (budget size : ℕ) (S : Region) (start : Fine S) where
       abbrev IsTrace : List Region → Region → Type 0
       IsTrace = Trace chooser budget size S
 
-      next_fine : {n : ℕ} {R T : Region} → Fine size R → Turn chooser n R T → item_count_of_region T ≤ size → Fine size T
-      next_fine {n} {R} {T} f t few =
+      next_fine : {n : ℕ} {R T : Region} → Fine R → Turn chooser n R T → Fine T
+      next_fine {n} {R} {T} f t =
           let next = t.next.next in
           let accepted = all_rules_so accepted_rule R f.rules in
           record {
@@ -251,14 +206,13 @@ module _ (names : List Name) where
             rules = next_rules RuleFine next accepted f.rules;
             atoms = next_atoms (Good names) (good_integer names) (integer_good names) next accepted (all_rules_so good_rule R f.rules) f.atoms;
             numbered = t.numbered;
-            few = few;
           }
 
-      fine : {before : List Region} {R : Region} → IsTrace before R → Fine size R
+      fine : {before : List Region} {R : Region} → IsTrace before R → Fine R
       fine loaded = start
-      fine (turned p l t few) = next_fine (fine p) t few
+      fine (turned p l t few) = next_fine (fine p) t
 
-      one_commit : {n : ℕ} {R T : Region} → Fine size R → Turn chooser n R T → Commit (region_process R) (region_process T)
+      one_commit : {n : ℕ} {R T : Region} → Fine R → Turn chooser n R T → Commit (region_process R) (region_process T)
       one_commit {n} {R} {T} f t =
           let from = t.next in
           firings_commit R T f.closed (all_rules_so accepted_rule R f.rules) (record { path = from.path; number = from.number; positions = from.positions; next = from.next })
@@ -279,7 +233,7 @@ module _ (names : List Name) where
       all_lines folded (turned {before = before} {S' = R} {S'' = T} p l t few) lines h =
           let f = fine p in
           let cut = one_more_line folded (before ++ R ∷ []) T lines h in
-          let more = next_line cut.1 (all_lines folded p cut.0 cut.2) (one_commit f t) (line_fine folded T cut.1 (next_fine f t few) cut.3) in
+          let more = next_line cut.1 (all_lines folded p cut.0 cut.2) (one_commit f t) (line_fine folded T cut.1 (next_fine f t) cut.3) in
           let longer : AllLines folded names (region_process S) (length (before ++ R ∷ [])) (region_process T) (cut.0 ++ cut.1 ∷ []) =
           subst (λ n. AllLines folded names (region_process S) n (region_process T) (cut.0 ++ cut.1 ∷ [])) (sym (one_longer before R)) more in
           subst (AllLines folded names (region_process S) (length (before ++ R ∷ [])) (region_process T)) (sym cut.4) longer
@@ -304,7 +258,7 @@ module _ (names : List Name) where
           StopsSo (record { trace = trace; folded = folded; budget = budget; size = size; chooser = chooser }) (length before) R why → StopsBy budget why (length before) (region_process R)
       stops trace folded {before} {R} p = go
         where
-          f : Fine size R
+          f : Fine R
           f = fine p
 
           stuck : Irreducible (region_process R) ↔ (¬ (HasEmbedding R))
@@ -335,22 +289,6 @@ module _ (names : List Name) where
           )
 
 -- ---- the solid of a plain
-
--- as many items
-abbrev SameItems : List Name → List RuleTree → base_region.Region → Type 0
-SameItems names table r = item_count_of_region (fold-Region Region (region_step names (numbered_rule names table)) r) ≡ fold-Region ℕ items_step r
-
-inner_items : (names : List Name) (table : List RuleTree) (rs : List ((r : base_region.Region) × SameItems names table r))
-    → item_count_of_regions (regions (map (fold-Region Region (region_step names (numbered_rule names table))) (map (λ e. e.0) rs))) ≡ length (map (λ e. e.0) rs) + sum (map (fold-Region ℕ items_step) (map (λ e. e.0) rs))
-inner_items names table [] = refl
-inner_items names table (e ∷ rs) =
-    omega (arith, e.1, inner_items names table rs, sum_by-cons (λ (n : ℕ). n) (fold-Region ℕ items_step e.0) (map (fold-Region ℕ items_step) (map (λ (e : (r : base_region.Region) × SameItems names table r). e.0) rs)))
-
-same_items : (names : List Name) (table : List RuleTree) (r : base_region.Region) → SameItems names table r
-same_items names table = ind-Region (SameItems names table) (λ y z is.
-    let inside = subst (λ r. item_count_of_regions (regions (map (fold-Region Region (region_step names (numbered_rule names table))) r.membranes)) ≡ length r.membranes + sum (map (fold-Region ℕ items_step) r.membranes)) is (inner_items names table z.membranes) in
-    rw (fold-roll-Region Region (region_step names (numbered_rule names table)) y, fold-roll-Region ℕ items_step y)
-    (omega (arith, inside, length-map y.atoms (solid_atom_of names), length-map y.rules (numbered_rule names table), length-map y.membranes (fold-Region ℕ items_step))))
 
 module _ (names : List Name) (p : Plain) (printable : IsPrintable names p) where
   abbrev ρ : ℕ → Rule
@@ -392,13 +330,6 @@ module _ (names : List Name) (p : Plain) (printable : IsPrintable names p) where
       let P : Region → Type 0 = λ r. RulesNumbered (as_level r) in
       (subst P (lone_region k) (solid_rules_numbered names p (lone k) printable.made (lone_has k l))).1.0
 
-  body_few : (k : ℕ) → k < length p.rules → LevelFew names (body_of (ρ k))
-  body_few k l =
-      let found = there p.rules k l in
-      let t = found.0 in
-      let P : Rule → Type 0 = λ r. LevelFew names (body_of r) in
-      subst P (sym (rule_has_number names p k t printable.made found.1)) (level_few names ρ t.body (printable.rules_few k t found.1))
-
   rule_fine : (k : ℕ) → k < length p.rules → RuleFine names (ρ k)
   rule_fine k l =
       let r = printable.rules k l in
@@ -407,7 +338,7 @@ module _ (names : List Name) (p : Plain) (printable : IsPrintable names p) where
         held = rule_held k l;
         numbered = rule_numbered k l;
         spelled = r.0;
-        good = rule_good names (ρ k) r.0 (rule_held k l) (body_few k l);
+        good = rule_good names (ρ k) r.0 (rule_held k l);
       }
 
   top_held : LevelHeld names (top_of names p)
@@ -423,11 +354,11 @@ module _ (names : List Name) (p : Plain) (printable : IsPrintable names p) where
         rule_numbers = λ i d l. rule_held (get_or (rules_of p.top) i d) (printable.made.rules_at_top i d l);
       })
 
-  solid_fine : (size : ℕ) (s : Solid) → IsSolidOf p s → item_count s ≤ size → Fine names size (solid_of names p s)
-  solid_fine size s i few =
+  solid_fine : (s : Solid) → IsSolidOf p s → Fine names (solid_of names p s)
+  solid_fine s i =
       let S = solid_of names p s in
       let so = solids_of_plains names p s printable.made i in
-      let good = fused_good (Good names) (good_integer names) (integer_good names) so.to (top_of names p) (level_good names (top_of names p) printable.top top_held (level_few names ρ p.top printable.top_few)) in
+      let good = fused_good (Good names) (good_integer names) (integer_good names) so.to (top_of names p) (level_good names (top_of names p) printable.top top_held) in
       let n = solid_numbers names p s i.is_solid in
       let P : Region → Type 0 = RegionGood names in
       record {
@@ -435,14 +366,13 @@ module _ (names : List Name) (p : Plain) (printable : IsPrintable names p) where
         rules = solid_rules (RuleFine names) names p printable.made rule_fine s (solid_has_rules p s printable.made i);
         atoms = subst P (sym so.is) good;
         numbered = (n.0, subst (λ xs. NumbersLinks xs n.0) (region_links S) n.1);
-        few = omega (arith, same_items names p.rules s.root, few);
       }
 
 -- a trace with its lines is a run
 pub traces_are_runs : TracesAreRuns
 traces_are_runs alloc g names p s printable i few small before last trace =
-    let start = solid_fine names p printable g.size s i few in
+    let start = solid_fine names p printable s i in
     record {
-      prints = λ lines. prints names alloc printable.named.0 g.size small g.chooser g.budget (solid_of names p s) start g.trace g.folded trace lines;
-      stops = stops names alloc printable.named.0 g.size small g.chooser g.budget (solid_of names p s) start g.trace g.folded trace;
+      prints = λ lines. prints names alloc printable.named.0 g.chooser g.budget g.size (solid_of names p s) start g.trace g.folded trace lines;
+      stops = stops names alloc printable.named.0 g.chooser g.budget g.size (solid_of names p s) start g.trace g.folded trace;
     }
