@@ -1,6 +1,7 @@
 -- What is written of small runs.
 use Rattle.std.proofs.Common.{[], ◌∷◌, codes, refl}
 use Rattle.std.specs.Fmt.{digits}
+use Rattle.lmn_plain.specs.Numerals.{numeral}
 use Rattle.lmn_folded.proofs.ExampleLines as folded
 use Rattle.lmn_drive.specs.Examples.{FoldedRunIsWritten, FullRunIsWritten}
 
@@ -14,7 +15,7 @@ full_run_is_written = (
 
 -- and in the folded form
 pub folded_run_is_written : FoldedRunIsWritten
-unfolding digits
+unfolding digits numeral
 folded_run_is_written = (
   (record { first_lines = []; last_line = codes "a(b).\n"; are_lines = tt; is_line = folded.last_ports }, refl),
   (record { first_lines = []; last_line = codes "a(L0). b(L0).\n"; are_lines = tt; is_line = refl }, refl),
