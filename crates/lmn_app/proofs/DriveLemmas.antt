@@ -1,5 +1,5 @@
 -- What a run of an engine wrote is a run of the text that was loaded.
-use Rattle.std.proofs.Common.{◌≡◌, ℕ, ◌≤◌, ◌<◌, ◌^◌, ◌++◌, Bool, true, false, List, [], ◌∷◌, length, Option, Some, inr, refl, sym, ap, ◌∙◌, subst, arith}
+use Rattle.std.proofs.Common.{◌≡◌, ℕ, ◌≤◌, ◌<◌, ◌++◌, Bool, true, false, List, [], ◌∷◌, length, Option, Some, inr, refl, sym, ap, ◌∙◌, subst, arith}
 use Rattle.std.specs.List.{concat}
 use Rattle.std.specs.declared.alloc.Global.{Global}
 use Rattle.std.proofs.lemmas.List.{append-nil, append_assoc}
@@ -68,7 +68,7 @@ written_is true first_lines last_line word =
     sym (ap (λ xs. xs ++ rest) (concat-append first_lines (last_line ∷ []) ∙ ap (λ xs. concat first_lines ++ xs) (append-nil last_line)) ∙ append_assoc (concat first_lines) last_line rest)
 written_is false first_lines last_line word = ap (λ xs. xs ++ end_line word (length first_lines)) (sym (append-nil last_line))
 
-module _ (alloc : Global) (laws : Laws) (w : RunSettings) (small : w.size < 2 ^ 32)
+module _ (alloc : Global) (laws : Laws) (w : RunSettings)
     (text : List ℕ) (names : List Name) (plain : Plain) (plans : List GuardPlan) (a : Accepts text names plain plans) (s : Solid) (i : IsSolidOf plain s) (few : item_count s ≤ w.size) where
   -- what the engine is given
   abbrev g : Driven
@@ -112,7 +112,7 @@ module _ (alloc : Global) (laws : Laws) (w : RunSettings) (small : w.size < 2 ^ 
       is_told = refl;
       lines = lines;
       commits = n;
-      run = trace_is_run laws alloc (given w) text lines n trace small why stops;
+      run = trace_is_run laws alloc (given w) text lines n trace why stops;
       trace = trace;
       stops = stops;
       took = subst (λ xs. Takes xs old new) (text_is why word e) took;
@@ -135,7 +135,7 @@ module _ (alloc : Global) (laws : Laws) (w : RunSettings) (small : w.size < 2 ^ 
         lines = lines;
         commits = n;
         trace = trace n h r;
-        run = λ why stops. trace_is_run laws alloc (given w) text lines n (trace n h r) small why stops;
+        run = λ why stops. trace_is_run laws alloc (given w) text lines n (trace n h r) why stops;
         took = λ why stops. took why stops;
       }
     where

@@ -1,13 +1,10 @@
 -- What is printed of the trace of a text is a run of it.
-use Rattle.std.proofs.Common.{ℕ, ◌<◌, ◌≤◌, ◌^◌, List, sym, ap, subst, arith}
+use Rattle.std.proofs.Common.{ℕ, List, sym, subst}
 use Rattle.std.specs.declared.alloc.Global.{Global}
 use Rattle.lmn_accepted.specs.Rules.{AcceptedTexts}
-use Rattle.lmn_compile_body.specs.Accepted.{AcceptedBodies}
-use Rattle.lmn_base.specs.Solids.{item_count}
-use Rattle.lmn_congruence.specs.Regions.{item_count_of_region, region_process}
+use Rattle.lmn_congruence.specs.Regions.{region_process}
 use Rattle.lmn_congruence.specs.Translation.{top_of}
 use Rattle.lmn_congruence.proofs.SolidsOfPlains.{solids_of_plains}
-use Rattle.lmn_congruence.proofs.TranslatedItems.{items_kept}
 use Rattle.lmn_reduction.proofs.Plains.{plain_settles}
 use Rattle.lmn_adequacy.specs.Runs.{Trace}
 use Rattle.lmn_runs.specs.Laws.{TracesAreRuns, solid_of}
@@ -20,20 +17,18 @@ use Rattle.lmn_app.proofs.ReadPlains.{plain_read}
 -- the laws that a run of a text takes
 pub record Laws : Type 0 where
   pub accepted : AcceptedTexts
-  pub bodies : AcceptedBodies
   pub printable : PlainsArePrintable
   pub runs : TracesAreRuns
 
 -- a trace of an accepted text that stops is a run
-pub trace_is_run : Laws → Global → (g : Given) (text : List ℕ) (lines : List (List ℕ)) (n : ℕ) (t : IsTraceOf g text lines n) → g.size < 2 ^ 32 →
+pub trace_is_run : Laws → Global → (g : Given) (text : List ℕ) (lines : List (List ℕ)) (n : ℕ) (t : IsTraceOf g text lines n) →
     (why : Stop) → StopsSo g n t.last why → IsRun g.trace g.folded g.budget text lines why n
-trace_is_run laws alloc g text lines n t small why stops =
+trace_is_run laws alloc g text lines n t why stops =
     let a = t.accepted in
-    let printable = laws.printable text t.names t.plain (plain_read laws.accepted laws.bodies text t.names t.plain t.plans a) in
+    let printable = laws.printable text t.names t.plain (plain_read laws.accepted text t.names t.plain t.plans a) in
     let s = solid_with_region t.names t.plain printable.made t.solid t.of_plain t.numbered in
-    let few : item_count s.0 ≤ g.size = omega (arith, t.few, ap item_count_of_region s.2, items_kept t.names (let p = t.plain in p.rules) s.0) in
     let trace = subst (λ S. Trace g.chooser g.budget g.size S t.before t.last) s.2 t.trace in
-    let run = laws.runs alloc g t.names t.plain s.0 printable s.1 few small t.before t.last trace in
+    let run = laws.runs alloc g t.names t.plain s.0 printable s.1 t.before t.last trace in
     let first = region_process (solid_of t.names t.plain s.0) in
     let last = region_process t.last in
     let Q : ℕ → Type 0 = λ k. Prints g.trace g.folded t.names first k last lines in

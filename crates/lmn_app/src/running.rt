@@ -10,7 +10,6 @@ use crate::ending::Ending;
 use crate::task::{RunSettings, Task};
 use lmn_accepted::accepted_texts;
 use lmn_base::{Names, NoMemory, Pos, Refusal};
-use lmn_compile_body::accepted_bodies;
 use lmn_drive::{RunEnd, RunOptions, drive};
 use lmn_io::Sink;
 use lmn_loading::loading_settles;
@@ -39,7 +38,6 @@ pub(crate) fn run<O: Sink>(
     out: &mut O,
 ) -> Ending
     requires accepted { (text : List ℕ) × Accepts text names.now accepted.now.plain accepted.now.plans }
-    requires size { settings.now.size < 2 ^ 32 }
     requires budget { settings.now.budget ≤ 2 ^ 63 - 1 }
     ensures { (text : List ℕ) (before after : ℕ) → Accepts text names.now accepted.now.plain accepted.now.plans →
         Ended (Task.Run settings.now) result (Some (Some text)) (O.told out.old) (O.told out.new) (O.faults out.old) (O.faults out.new) before after }
@@ -70,7 +68,6 @@ fn run_in<S: LinkStore + Drop, O: Sink, L: Ledger>(
     blank: Blank,
 ) -> Ending
     requires accepted { (text : List ℕ) × Accepts text names.now accepted.now.plain accepted.now.plans }
-    requires size { settings.now.size < 2 ^ 32 }
     requires budget { settings.now.budget ≤ 2 ^ 63 - 1 }
     requires store { IsEmpty (S.heap store) }
     requires name { blank.name ≡ L.name }
@@ -80,7 +77,6 @@ fn run_in<S: LinkStore + Drop, O: Sink, L: Ledger>(
         Ended (Task.Run settings.now) result (Some (Some text)) (O.told out.old) (O.told out.new) (O.faults out.old) (O.faults out.new) before after }
 {
     accepted_texts();
-    accepted_bodies();
     plains_are_printable();
     traces_are_runs();
     let order = settings.order;

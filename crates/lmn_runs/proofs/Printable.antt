@@ -29,7 +29,7 @@ in_turn_known (difference_in_turn a b i) = in_turn_known i
 -- a text can spell the plain of an accepted text
 pub plains_are_printable : PlainsArePrintable
 plains_are_printable text names plain a =
-    record { made = a.made; named = a.named; top = top; rules = λ k l. (spelled k l, accepted k l); top_few = a.top_few; rules_few = λ k t e. (a.rules_few k t e).0 }
+    record { made = a.made; named = a.named; top = top; rules = λ k l. (spelled k l, accepted k l) }
   where
     parts_right : PartsRight (IsLabel names a.named.0) (IsContext names a.named.0) (words_of text a.tokens) (map (λ (t : Token). t.pos) a.tokens) (parts_of (words_of text a.tokens) (map (λ (t : Token). t.pos) a.tokens) a.tree)
     parts_right =

@@ -370,7 +370,7 @@ module _ (names : List Name) (p : Plain) (printable : IsPrintable names p) where
 
 -- a trace with its lines is a run
 pub traces_are_runs : TracesAreRuns
-traces_are_runs alloc g names p s printable i few small before last trace =
+traces_are_runs alloc g names p s printable i before last trace =
     let start = solid_fine names p printable s i in
     record {
       prints = λ lines. prints names alloc printable.named.0 g.chooser g.budget g.size (solid_of names p s) start g.trace g.folded trace lines;

@@ -1,16 +1,9 @@
 -- The laws of runs.
-use Rattle.std.specs.Prelude.{ℕ, ◌≡◌, ◌<◌, ◌≤◌, ◌^◌, ⊤, List, Some, length, slice_get}
-use Rattle.std.specs.List.{AllByRecursion}
+use Rattle.std.specs.Prelude.{ℕ, ◌≡◌, ◌<◌, List, length}
 use Rattle.std.specs.declared.alloc.Global.{Global}
-use Rattle.lmn_base.specs.declared.level.Leaf.{Leaf}
-use Rattle.lmn_base.specs.declared.level.Leaf.TheVariants.{Atom, Typed}
 use Rattle.lmn_base.specs.declared.rule.Plain.{Plain}
-use Rattle.lmn_base.specs.declared.rule.RuleTree.{RuleTree}
 use Rattle.lmn_base.specs.declared.solid.Solid.{Solid}
-use Rattle.lmn_base.specs.Levels.{leaves_of}
-use Rattle.lmn_base.specs.Limits.{most_links}
 use Rattle.lmn_base.specs.Names.{NamesPlain}
-use Rattle.lmn_base.specs.Solids.{item_count}
 use Rattle.lmn_base.specs.WellMade.{IsWellMade}
 use Rattle.lmn_congruence.specs.Process.{Closed}
 use Rattle.lmn_congruence.specs.Regions.{Region, region_process}
@@ -22,20 +15,13 @@ use Rattle.lmn_adequacy.specs.Accepted.{Accepted}
 use Rattle.lmn_adequacy.specs.Runs.{Trace}
 use Rattle.lmn_runs.specs.Runs.{Given, PrintedLines, Prints, Stop, StopsBy, StopsSo}
 
--- an atom has no more links than its arity can count
-abbrev pub LinksAreFew : Leaf → Type 0
-LinksAreFew (Atom functor links pos) = length links ≤ most_links
-LinksAreFew (Typed name link pos) = ⊤
-
 -- A plain of which runs can be printed, by a list of names: it is well made and has names of the list alone; a text can spell its top
--- and its rules; no atom has too many links; and each rule is accepted.
+-- and its rules; and each rule is accepted.
 pub record IsPrintable (names : List Name) (plain : Plain) : Type 0 where
   pub made : IsWellMade plain
   pub named : NamesPlain names plain
   pub top : LevelSpelled (top_of names plain)
   pub rules : (k : ℕ) → k < length plain.rules → RuleSpelled (numbered_rule names plain.rules k) × Accepted (numbered_rule names plain.rules k)
-  pub top_few : AllByRecursion LinksAreFew (leaves_of plain.top)
-  pub rules_few : (k : ℕ) (r : RuleTree) → slice_get plain.rules k ≡ Some r → AllByRecursion LinksAreFew (leaves_of r.body)
 
 -- the process of the solid of a plain, as a region
 abbrev pub solid_of : List Name → Plain → Solid → Region
@@ -48,11 +34,10 @@ pub record IsRunOf (g : Given) (names : List Name) (plain : Plain) (s : Solid) (
       Prints g.trace g.folded names (region_process (solid_of names plain s)) (length before) (region_process last) lines
   pub stops : (why : Stop) → StopsSo g (length before) last why → StopsBy g.budget why (length before) (region_process last)
 
--- Each trace is such a run, where fewer than 2 ^ 32 items are allowed. A box in a condition belongs to an allocator, so one is given.
+-- Each trace is such a run. A box in a condition belongs to an allocator, so one is given.
 abbrev pub TracesAreRuns : Type 0
 TracesAreRuns = (alloc : Global) (g : Given) (names : List Name) (plain : Plain) (s : Solid) → IsPrintable names plain → IsSolidOf plain s →
-    item_count s ≤ g.size → g.size < 2 ^ 32 → (before : List Region) (last : Region) →
-    Trace g.chooser g.budget g.size (solid_of names plain s) before last → IsRunOf g names plain s before last
+    (before : List Region) (last : Region) → Trace g.chooser g.budget g.size (solid_of names plain s) before last → IsRunOf g names plain s before last
 
 -- Lines are printed of each trace whose first solid has each link in two places, as that of a plain has, and no others are.
 abbrev pub TracesHaveLines : Type 0

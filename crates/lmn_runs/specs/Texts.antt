@@ -1,9 +1,7 @@
 -- Plains of texts of which runs can be printed.
-use Rattle.std.specs.Prelude.{ℕ, ◌≡◌, ◌<◌, ◌≤◌, ◌^◌, List, Some, Contains, codes, length, slice_get}
-use Rattle.std.specs.List.{AllByRecursion}
+use Rattle.std.specs.Prelude.{ℕ, ◌≡◌, List, Some, Contains, codes, slice_get}
 use Rattle.lmn_base.specs.declared.rule.Plain.{Plain}
 use Rattle.lmn_base.specs.declared.rule.RuleTree.{RuleTree}
-use Rattle.lmn_base.specs.Levels.{leaves_of}
 use Rattle.lmn_base.specs.Names.{NamesPlain}
 use Rattle.lmn_base.specs.WellMade.{IsWellMade}
 use Rattle.lmn_congruence.specs.Rules.{Name as NameOf}
@@ -18,7 +16,7 @@ use Rattle.lmn_parser.specs.Readings.{Reads}
 use Rattle.lmn_parser.specs.Syntax.{Clauses}
 use Rattle.lmn_plain.specs.Laws.{IsPlain}
 use Rattle.lmn_plain.specs.Meanings.{name_spelled}
-use Rattle.lmn_runs.specs.Laws.{LinksAreFew, IsPrintable}
+use Rattle.lmn_runs.specs.Laws.{IsPrintable}
 
 -- the kinds of tokens that spell a name
 abbrev pub HasName : Kind → Type 0
@@ -38,13 +36,10 @@ pub record HoldsTokenNames (names : List NameOf) (text : List ℕ) (tokens : Lis
   pub token : (p : ℕ) (t : Token) → slice_get tokens p ≡ Some t → HasName t.kind → Contains names (name_spelled t.kind (bytes_of text t))
 
 -- What reading makes sure of the plain of a text.
---   short      the text has fewer than 2 ^ 32 bytes
 --   right      nothing is wrong in it, it reads as a tree, and the plain is that of the tree, by the numbers of a list of names
 --   holds      the list holds the names of its tokens, and of the plain
 --   accepted   each rule is accepted
---   few        no atom of the top, nor of the body of a rule, has more than 255 links, and no rule has more than 2 ^ 64
 pub record IsPlainRead (text : List ℕ) (names : List NameOf) (plain : Plain) : Type 0 where
-  pub short : length text < 2 ^ 32
   pub tokens : List Token
   pub tree : Clauses
   pub right : NothingWrong text
@@ -54,8 +49,6 @@ pub record IsPlainRead (text : List ℕ) (names : List NameOf) (plain : Plain) :
   pub named : NamesPlain names plain
   pub holds : HoldsTokenNames names text tokens
   pub accepted : (k : ℕ) (r : RuleTree) → slice_get plain.rules k ≡ Some r → Accepted (rule_tree names (numbered_rule names plain.rules) r)
-  pub top_few : AllByRecursion LinksAreFew (leaves_of plain.top)
-  pub rules_few : (k : ℕ) (r : RuleTree) → slice_get plain.rules k ≡ Some r → AllByRecursion LinksAreFew (leaves_of r.body) × (length r.links ≤ 2 ^ 64)
 
 -- Runs of such a plain can be printed.
 abbrev pub PlainsArePrintable : Type 0

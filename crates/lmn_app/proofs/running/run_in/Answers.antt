@@ -33,7 +33,7 @@ returns-in-Ok g c text before after a =
     let new = g.O.Sink.told c.drive-end.new.out in
     let count = g.O.Sink.faults c.args.out.now in
     let count' = g.O.Sink.faults c.drive-end.new.out in
-    let laws : Laws = record { accepted = c.accepted_texts.ensures; bodies = c.accepted_bodies.ensures.room; printable = c.plains_are_printable.ensures; runs = c.traces_are_runs.ensures } in
+    let laws : Laws = record { accepted = c.accepted_texts.ensures; printable = c.plains_are_printable.ensures; runs = c.traces_are_runs.ensures } in
     let held = c.in-Ok.ensures.holds names (well_named c.accepted_texts.ensures text names plain plans a.named a.accepted) in
     let from = held.from in
     let D : Region → ℕ → Type 0 = λ S size. Drove (given_by_engine names plain.rules size (record { trace = settings.trace; folded = settings.folded; budget = settings.budget }) (chosen settings.order) S) n h end old new in
@@ -45,7 +45,7 @@ returns-in-Ok g c text before after a =
     let first = subst (λ S. D S engine.size) from.2 drove in
     let driven = subst (D (solid_of names plain from.0)) c.in-Ok.ensures.keeps.2 first in
     subst (λ ending. Ended (task.Run settings) ending (Some (Some text)) old new count count' before after) (sym c.ending_of.ensures)
-    (driven_ended c.args.alloc laws settings c.requires.size text names plain plans a from.0 from.1 (c.in-Ok.ensures.fits from.0 from.1) n h end old new count count' before after driven c.drive-end.ensures.same c.drive-end.ensures.rose)
+    (driven_ended c.args.alloc laws settings text names plain plans a from.0 from.1 (c.in-Ok.ensures.fits from.0 from.1) n h end old new count count' before after driven c.drive-end.ensures.same c.drive-end.ensures.rose)
 
 pub returns-in-Err-Size : goal.returns-in-Err-Size
 returns-in-Err-Size g c text before after a =
