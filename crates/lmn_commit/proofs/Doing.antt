@@ -69,6 +69,7 @@ module _ {A M : Type 0} (atom : A → ℕ) (membrane : M → ℕ) (g : SetRegist
   -- and goes to its membrane
   pub rest_goes : (r : Registers) (i : Instr) (x y : ℕ) (m n : M) (s t : Heap) → AgreesWithCopies atom membrane g r → i ≡ CopyCells x y → slice_get g.membranes x ≡ Some m → slice_get g.membranes y ≡ Some n → Can r i s →
       ((atoms membranes copies new_membranes : List ℕ) → CopyWaits s (membrane m) (membrane n) atoms membranes copies new_membranes → t ≡ rest_placed s (membrane m) (membrane n) atoms membranes copies new_membranes) → Does r i s t
+  unfolding rest_waits
   rest_goes r i x y m n s t u e from to can goes =
       let w = rest_waits r i x y m n s u e from to can in
       let c : Can r (CopyCells x y) s = subst (λ j. Can r j s) e can in

@@ -7,5 +7,7 @@ pub mod Marks
 pub mod Doing
 pub mod Rules
 pub mod Ordering
+pub mod PartLists
 pub mod RestOf
+pub mod Owning
 pub mod OwnCopies

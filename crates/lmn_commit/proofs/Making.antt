@@ -5,15 +5,16 @@ use Rattle.std.specs.Option.{option_map}
 use Rattle.std.specs.Prelude.{slice_get, pos}
 use Rattle.lmn_base.specs.declared.functor.Functor.{Functor}
 use Rattle.lmn_heap.specs.Heap.{Heap, HeapAtom, HeapMem, IsAtom, IsMem, alter, new_atom, new_mem, mem_with_spare, made_atom, made_mem, reserved, rules_in, rules_by, spare_of, spare_by, port_id}
-use Rattle.lmn_heap.specs.Sound.{Paired}
+use Rattle.lmn_heap.specs.Sound.{Paired, Valid}
 use Rattle.lmn_heap.proofs.Listing.{alter_at, alter_away, alter_keeps}
 use Rattle.lmn_instr.specs.declared.instr.Instr.{Instr}
-use Rattle.lmn_instr.specs.declared.instr.Instr.TheVariants.{RemoveAtom, RemovePart, RemoveMem, NewAtom, NewInt, NewMem, MoveCells, CopyGround, LoadRule, CopyRules, NewLink, Relink, Unify, Proceed}
+use Rattle.lmn_instr.specs.declared.instr.Instr.TheVariants.{RemoveAtom, RemovePart, RemoveMem, NewAtom, NewInt, NewMem, MoveCells, CopyGround, CopyCells, DropCells, LoadRule, CopyRules, NewLink, Relink, Unify, Proceed}
 use Rattle.lmn_body.specs.Running.{Registers, IsCopied, Makes, Prepares, integer_functor}
 use Rattle.lmn_registers.specs.declared.registers.PartCopy.{PartCopy}
 use Rattle.lmn_registers.specs.declared.registers.SetRegisters.{SetRegisters}
-use Rattle.lmn_commit.specs.Registers.{AgreesWithCopies, AreHeld, AreSized, Grows, HasCopies}
-use Rattle.lmn_commit.specs.Preparing.{Uses, AllUse, UsesInOrder, BodyInOrder, needed, needed_by, atoms_made, membranes_made, copies_made, CopyIsMade, OnlyMakes, RoomIsMade, IsMade, Prepared, CanCopy, AtomIsMade, MembraneIsMade}
+use Rattle.lmn_commit.specs.Registers.{AgreesWithCopies, AreHeld, AreSized, Grows, HasCopies, HasRests, IsRestBeside}
+use Rattle.lmn_commit.specs.Preparing.{Uses, AllUse, UsesInOrder, BodyInOrder, needed, needed_by, atoms_made, membranes_made, copies_made, CopyIsMade, OnlyMakes, RoomIsMade, IsMade, Prepared, CanCopy, HoldsCopied, AtomIsMade, MembraneIsMade}
+use Rattle.lmn_commit.proofs.RestOf.{rest_beside}
 use Rattle.lmn_commit.proofs.Codes.{get_either, all_use_more, use_one_more, reads_uses, needed_more}
 use Rattle.lmn_commit.proofs.Waiting.{makes_nothing, makes_on, still_copied, none_there}
 use Rattle.lmn_base.proofs.Lists.{get_front, get_last, plus_nothing as nothing_more}
@@ -79,9 +80,9 @@ module _ {A M : Type 0} (atom : A → ℕ) (membrane : M → ℕ) where
     copies = λ i x e. a.copies i x (u.copies i x e);
   }
 
-  -- there are such registers, whose copies have given atoms
-  pub some_registers : (g : SetRegisters A M) (copied : List (List ℕ)) → AreSized g.copies copied → (r : Registers) × AgreesWithCopies atom membrane g r × HasCopies r copied
-  some_registers g copied sized = (
+  -- There are such registers, whose copies have given atoms, with the rests besides registers of a valid heap.
+  pub some_registers : (g : SetRegisters A M) (copied : List (List ℕ)) → AreSized g.copies copied → (h : Heap) → Valid h → (head : SetRegisters A M) → (r : Registers) × AgreesWithCopies atom membrane g r × HasCopies r copied × HasRests atom membrane h head r
+  some_registers g copied sized h valid head = (
     record {
       head = record {
         images = record {
@@ -93,6 +94,8 @@ module _ {A M : Type 0} (atom : A → ℕ) (membrane : M → ℕ) where
       };
       copy = λ k. root (slice_get g.copies k);
       copied = λ k. atoms (slice_get copied k);
+      left_atoms = λ k. (rest (slice_get head.membranes k)).0;
+      left_membranes = λ k. (rest (slice_get head.membranes k)).1;
     },
     record {
       atoms = λ k a e. ap (number atom) e;
@@ -102,8 +105,13 @@ module _ {A M : Type 0} (atom : A → ℕ) (membrane : M → ℕ) where
       copies = λ k p e. (ap root e, (let x = get_too g.copies copied (sym sized.count) k p e in ap (λ xs. length (atoms xs)) x.1 ∙ sized.sizes k p x.0 e x.1));
     },
     λ k xs e. ap atoms e,
+    λ k m e. subst (λ (o : Option M). IsRestBeside atom membrane h head (membrane m) (rest o).0 (rest o).1) (sym e) (rest_beside atom membrane h valid head (membrane m)).2,
   )
     where
+      rest : Option M → List ℕ × List ℕ
+      rest None = ([], [])
+      rest (Some m) = (let w = rest_beside atom membrane h valid head (membrane m) in (w.0, w.1))
+
       number : {X : Type 0} → (X → ℕ) → Option X → ℕ
       number f None = 0
       number f (Some x) = f x
@@ -158,7 +166,9 @@ module _ {A M : Type 0} (atom : A → ℕ) (membrane : M → ℕ) where
       copies = ap (λ (l : SetRegisters A M). length l.copies) made.3 ∙ (let e : length g.copies ≡ length g.copies + 0 = omega arith in e) ∙ ap (λ n. length g.copies + n) (sym no_copy);
       copied = [];
       sizes = none_sized g.copies k.copies (ap (λ (l : SetRegisters A M). l.copies) made.3);
-      makes = λ r es u z h. makes r u (u.atoms (length g.atoms) new_one in_next);
+      makes = λ r es u z h copied. makes r u (u.atoms (length g.atoms) new_one in_next);
+      new_atoms = λ j a e. elim (get_either g.atoms new_one j a (subst (λ (l : SetRegisters A M). slice_get l.atoms j ≡ Some a) made.3 e)) [ inl w ↦ inl w | inr w ↦ inr (subst (λ x. s.atoms (atom x) ≡ None) w made.1) ];
+      new_membranes = λ j m e. inl (subst (λ (l : SetRegisters A M). slice_get l.membranes j ≡ Some m) made.3 e);
       rules = λ x. ap (λ (u : Heap). rules_in u x) made.2;
       spares = λ r u e x. (let v = e x in let w = free r (rules_in s) x in let z : spare_of t x ≡ spare_of s x = ap (λ (q : Heap). spare_of q x) made.2 in omega (arith, v, w, z));
     }
@@ -224,10 +234,12 @@ module _ {A M : Type 0} (atom : A → ℕ) (membrane : M → ℕ) where
           copies = ap (λ (l : SetRegisters A M). length l.copies) made.3 ∙ (let z : length g.copies ≡ length g.copies + 0 = omega arith in z) ∙ ap (λ n. length g.copies + n) (sym (ap copies_made e));
           copied = [];
           sizes = none_sized g.copies k.copies (ap (λ (l : SetRegisters A M). l.copies) made.3);
-          makes = λ r es w z h. subst (λ j. Makes r j s t) (sym e)
+          makes = λ r es w z h copied. subst (λ j. Makes r j s t) (sym e)
               (let q = w.membranes (length g.membranes) new_handle (subst (λ (l : SetRegisters A M). slice_get l.membranes (length g.membranes) ≡ Some new_handle) (sym made.3) (get_last g.membranes new_handle)) in
               let n : r.head.images.membrane x ≡ membrane new_handle = ap r.head.images.membrane u.0.0 ∙ q in
               (ap s.mems n ∙ made.1, made.2 ∙ ap (λ m. made_mem s m) (sym n)));
+          new_atoms = λ j a q. inl (subst (λ (l : SetRegisters A M). slice_get l.atoms j ≡ Some a) made.3 q);
+          new_membranes = λ j m q. elim (get_either g.membranes new_handle j m (subst (λ (l : SetRegisters A M). slice_get l.membranes j ≡ Some m) made.3 q)) [ inl w ↦ inl w | inr w ↦ inr (subst (λ z. s.mems (membrane z) ≡ None) w made.1) ];
           rules = λ z. ap (λ (w : Heap). rules_in w z) made.2 ∙ same_rules z;
           spares = λ r w l z. (let p = room z (needed r (rules_in s) before z) (l z) in
               let q : needed_by r (rules_in s) i z ≡ 0 = ap (λ j. needed_by r (rules_in s) j z) e in
@@ -257,7 +269,9 @@ module _ {A M : Type 0} (atom : A → ℕ) (membrane : M → ℕ) where
       copies = (let z : length g.copies ≡ length g.copies + 0 = omega arith in z) ∙ ap (λ k. length g.copies + k) (sym no_copy);
       copied = [];
       sizes = none_sized g.copies g.copies refl;
-      makes = λ r es u z h. makes r u;
+      makes = λ r es u z h copied. makes r u;
+      new_atoms = λ j a e. inl e;
+      new_membranes = λ j m e. inl e;
       rules = λ x. ap (λ (u : Heap). rules_in u x) made.0 ∙ rules_stay x;
       spares = λ r u l x. elim (cases_eq x y) [
         | inl e ↦ (let p = made.1 r u in let q : needed r (rules_in s) upto y ≡ needed r (rules_in s) before y + needed_by r (rules_in s) i y = ap (λ is. needed r (rules_in s) is y) is ∙ needed_more r (rules_in s) before i y in
@@ -310,11 +324,13 @@ module _ {A M : Type 0} (atom : A → ℕ) (membrane : M → ℕ) where
         copies = ap (λ (l : SetRegisters A M). length l.copies) made.3 ∙ length_push g.copies made.0 ∙ ap (λ n. length g.copies + n) (sym (ap copies_made e));
         copied = made.1.copies ∷ [];
         sizes = λ es w. subst (λ (l : SetRegisters A M). AreSized l.copies (es ++ made.1.copies ∷ [])) (sym made.3) (one_sized g.copies es made.0 made.1.copies made.2 w);
-        makes = λ r es w sized has. subst (λ j. Makes r j s t) (sym e)
+        makes = λ r es w sized has copied. subst (λ j. Makes r j s t) (sym e)
             (let root : r.head.images.part z ≡ port_id atom p = w.parts z p (subst (λ ps. slice_get ps z ≡ Some p) (sym same_parts) at) in
             let copy : r.copy x ≡ port_id atom made.0.root = ap r.copy next ∙ (w.copies (length g.copies) made.0 in_next).0 in
             let atoms : r.copied x ≡ made.1.copies = ap r.copied (next ∙ sym sized.count) ∙ has (length es) made.1.copies (get_last es made.1.copies) in
             subst (λ q. IsCopied s q (r.copy x) (r.copied x) t) (sym root) (subst (λ q. IsCopied s (port_id atom p) q (r.copied x) t) (sym copy) (made.1, sym atoms)));
+        new_atoms = λ j a q. inl (subst (λ (l : SetRegisters A M). slice_get l.atoms j ≡ Some a) made.3 q);
+        new_membranes = λ j m q. inl (subst (λ (l : SetRegisters A M). slice_get l.membranes j ≡ Some m) made.3 q);
         rules = λ m. ap rules_by (same_mems m);
         spares = λ r w l m. (let b = l m in let q : needed_by r (rules_in s) i m ≡ 0 = ap (λ j. needed_by r (rules_in s) j m) e in let d : spare_of t m ≡ spare_of s m = ap spare_by (same_mems m) in omega (arith, b, q, d));
       }
@@ -331,6 +347,7 @@ module _ {A M : Type 0} (atom : A → ℕ) (membrane : M → ℕ) where
     pub no_copy : (x y z : ℕ) → i ≡ CopyGround x y z → ⊥
     pub no_rule : (x y : ℕ) → i ≡ LoadRule x y → ⊥
     pub no_rules : (x y : ℕ) → i ≡ CopyRules x y → ⊥
+    pub no_rest : (x y : ℕ) → i ≡ CopyCells x y → ⊥
 
   makes_none : (a m g v c : ℕ) (i : Instr) → UsesInOrder a m g v c i → IsOther i → MakesNone i
   makes_none a m g v c (NewAtom x y f) u o = absurd (o.no_atom x y f refl)
@@ -339,6 +356,8 @@ module _ {A M : Type 0} (atom : A → ℕ) (membrane : M → ℕ) where
   makes_none a m g v c (CopyGround x y z) u o = absurd (o.no_copy x y z refl)
   makes_none a m g v c (LoadRule x y) u o = absurd (o.no_rule x y refl)
   makes_none a m g v c (CopyRules x y) u o = absurd (o.no_rules x y refl)
+  makes_none a m g v c (CopyCells x y) u o = absurd (o.no_rest x y refl)
+  makes_none a m g v c (DropCells x) u o = (refl, refl, refl, λ r s. refl, λ r rules x. refl)
   makes_none a m g v c (RemoveAtom x) u o = (refl, refl, refl, λ r s. refl, λ r rules x. refl)
   makes_none a m g v c (RemovePart x) u o = (refl, refl, refl, λ r s. refl, λ r rules x. refl)
   makes_none a m g v c (RemoveMem x) u o = (refl, refl, refl, λ r s. refl, λ r rules x. refl)
@@ -361,7 +380,9 @@ module _ {A M : Type 0} (atom : A → ℕ) (membrane : M → ℕ) where
         copies = omega (arith, third);
         copied = [];
         sizes = none_sized g.copies g.copies refl;
-        makes = λ r es u z h. none.3 r s;
+        makes = λ r es u z h copied. none.3 r s;
+        new_atoms = λ j a e. inl e;
+        new_membranes = λ j m e. inl e;
         rules = λ x. refl;
         spares = λ r u l x. (let e = none.4 r (rules_in s) x in let b = l x in omega (arith, e, b));
       }
@@ -375,7 +396,7 @@ module _ {A M : Type 0} (atom : A → ℕ) (membrane : M → ℕ) where
     uses = tt;
     copied = [];
     sizes = subst (λ ps. AreSized ps []) (sym e) (record { count = refl; sizes = λ k p xs a b. absurd (cc) });
-    prepares = λ r u h. refl;
+    prepares = λ r u h rests. refl;
     makes = makes_nothing s;
     rules = λ x. refl;
     spares = λ r u x. omega arith;
@@ -393,8 +414,9 @@ module _ {A M : Type 0} (atom : A → ℕ) (membrane : M → ℕ) where
   same_needed r f g is x e = let q : f ≡ g = λ i y. e y i in ap (λ h. needed r h is x) q
 
   pub prepared_more : (h s t : Heap) (g k l : SetRegisters A M) (is : List Instr) (i : Instr) (v : ℕ) → Prepared atom membrane h s g k is → IsMade atom membrane s t k l is i → OnlyMakes s t →
+      ((r : Registers) → HasRests atom membrane h g r → HoldsCopied atom membrane s k r i) →
       UsesInOrder (length k.atoms) (length k.membranes) (length k.parts) v (length k.copies) i → Prepared atom membrane h t g l (is ++ i ∷ [])
-  prepared_more h s t g k l is i v p m makes reads =
+  prepared_more h s t g k l is i v p m makes holds reads =
       let more = m.atoms in
       let more_mems = m.membranes in
       let more_copies = m.copies in
@@ -410,7 +432,7 @@ module _ {A M : Type 0} (atom : A → ℕ) (membrane : M → ℕ) where
         uses = subst (λ n. AllUse (length l.atoms) (length l.membranes) n (length l.copies) (is ++ i ∷ [])) (sym parts) uses;
         copied = p.copied ++ m.copied;
         sizes = m.sizes p.copied p.sizes;
-        prepares = λ r u has. prepares_more r is i h s t (p.prepares r (agrees_before k l r m.grows u) (λ n xs e. has n xs (get_front p.copied m.copied n xs e))) (m.makes r p.copied u p.sizes has);
+        prepares = λ r u has rests. prepares_more r is i h s t (p.prepares r (agrees_before k l r m.grows u) (λ n xs e. has n xs (get_front p.copied m.copied n xs e)) rests) (m.makes r p.copied u p.sizes has (holds r rests));
         makes = makes_on h s t p.makes makes;
         rules = λ x. m.rules x ∙ p.rules x;
         spares = λ r u x. (

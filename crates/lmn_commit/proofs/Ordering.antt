@@ -1,15 +1,15 @@
 -- The code of a body sets its registers in order.
 use Rattle.std.proofs.Common.{ℕ, ◌≡◌, ◌<◌, ◌≤◌, ◌+◌, ◌==◌, inl, inr, Bool, true, false, cond, List, [], ◌∷◌, ◌++◌, map, refl, arith, ap, sym, subst, length, ◌∙◌}
 use Rattle.std.proofs.lemmas.List.{append_assoc}
-use Rattle.lmn_solid.specs.Heads.{Occurrence, HeadAtom, at_ports, at_atoms, atoms_of, typed_contexts_of, membranes_of, links_of_head, times}
+use Rattle.lmn_solid.specs.Heads.{Occurrence, HeadAtom, HeadMembrane, at_ports, at_atoms, atoms_of, typed_contexts_of, membranes_of, links_of_head, times}
 use Rattle.lmn_splice.specs.Classes.{class_of, ends_of_class, rising}
 use Rattle.lmn_instr.specs.declared.instr.AtomPort.{AtomPort}
 use Rattle.lmn_instr.specs.declared.instr.NewPort.{NewPort}
 use Rattle.lmn_instr.specs.declared.instr.Instr.{Instr}
-use Rattle.lmn_instr.specs.declared.instr.Instr.TheVariants.{RemoveAtom, RemovePart, RemoveMem, Proceed}
+use Rattle.lmn_instr.specs.declared.instr.Instr.TheVariants.{RemoveAtom, RemovePart, RemoveMem, DropCells, Proceed}
 use Rattle.lmn_body.specs.declared.items.BodyItem.{BodyItem}
 use Rattle.lmn_body.specs.declared.items.BodyItem.TheVariants.{Atom, Connector, Copy, Bound, Membrane, Rest, Rule, Rules}
-use Rattle.lmn_body.specs.Code.{making, link_code, links_code}
+use Rattle.lmn_body.specs.Code.{making, drops, link_code, links_code}
 use Rattle.lmn_body.specs.Items.{new_ports, old_ports, connectors, new_ports_from, once_in}
 use Rattle.lmn_splice.specs.Splice as splice
 use Rattle.lmn_body.specs.Made.{copies_of}
@@ -63,6 +63,14 @@ mems_in_order : (a m g v c : ℕ) (ns : List ℕ) (rest : List Instr) → ((n : 
 mems_in_order a m g v c [] rest b o = o
 mems_in_order a m g v c (n ∷ ns) rest b o = (b n (inl refl), still a m g v c (map RemoveMem ns ++ rest) (mems_in_order a m g v c ns rest (λ k i. b k (inr i)) o))
 
+drops_in_order : (a m g v c k : ℕ) (bs : List HeadMembrane) (rest : List Instr) → k + length bs ≤ m → BodyInOrder a m g v c rest → BodyInOrder a m g v c (drops k bs ++ rest)
+drops_in_order a m g v c k [] rest l o = o
+drops_in_order a m g v c k (b ∷ bs) rest l o = by b.has_closed_context (drops_in_order a m g v c (k + 1) bs rest (omega (arith, l)) o)
+  where
+    by : (t : Bool) → BodyInOrder a m g v c (drops (k + 1) bs ++ rest) → BodyInOrder a m g v c (cond t (DropCells k ∷ []) [] ++ drops (k + 1) bs ++ rest)
+    by true q = ((let z : k < m = omega (arith, l) in z), still a m g v c (drops (k + 1) bs ++ rest) q)
+    by false q = q
+
 inside_below : (k m inside : ℕ) → 1 + k ≤ m → StandsIn k m inside → inside < m
 inside_below k m inside l (inl e) = omega (arith, l, e)
 inside_below k m inside l (inr w) = w.1
@@ -99,8 +107,10 @@ making_in_order k a m g v c (Membrane inside ∷ xs) rest l w b h r q p o = (
       (making_in_order k a (m + 1) g v c xs rest (omega (arith, l)) w.1 b h r (omega (arith, q)) p
       (order_same (a + atoms_in_body xs) (a + atoms_in_body xs) (m + (1 + membranes_in_body xs)) (m + 1 + membranes_in_body xs) g v (c + copies_in_body xs) (c + copies_in_body xs) rest refl (omega arith) refl o)),
 )
-making_in_order k a m g v c (Rest of closed inside ∷ xs) rest l w b h r q p o =
+making_in_order k a m g v c (Rest of false inside ∷ xs) rest l w b h r q p o =
     ((head_below k m of l w.0, inside_below k m inside l w.2), still a m g v c (making a m c xs ++ rest) (making_in_order k a m g v c xs rest l w.3 b h r q p o))
+making_in_order k a m g v c (Rest of true inside ∷ xs) rest l w b h r q p o =
+    ((head_below k m of l w.0, inside_below k m inside l w.1), still a m g v c (making a m c xs ++ rest) (making_in_order k a m g v c xs rest l w.2 b h r q p o))
 making_in_order k a m g v c (Rule rule inside ∷ xs) rest l w b h r q p o =
     (inside_below k m inside l w.0, still a m g v c (making a m c xs ++ rest) (making_in_order k a m g v c xs rest l w.1 b h r q p o))
 making_in_order k a m g v c (Rules of inside ∷ xs) rest l w b h r q p o =
@@ -220,10 +230,12 @@ bodies_are_in_order head body n v rule below room room_mems room_copies =
     let os = map RemoveAtom (rising 0 a) in
     let gs = map RemovePart (rising 0 g) in
     let ms = map RemoveMem (rising 1 k) in
-    let tail = made ++ (ls ++ (Proceed ∷ [])) in
+    let ds = drops 1 (membranes_of head) in
+    let tail = made ++ (ds ++ (ls ++ (Proceed ∷ []))) in
     let end : BodyInOrder (a + atoms_in_body body) (1 + k + membranes_in_body body) g v (0 + e) (Proceed ∷ []) = (tt, tt) in
     let links = links_in_order (a + atoms_in_body body) (1 + k + membranes_in_body body) g v (0 + e) (class_of (connectors body)) (new_ports a 0 body) (old_ports head) (rising 0 n) (Proceed ∷ []) news olds end in
-    let making_part = making_in_order k a (1 + k) g v 0 body (ls ++ (Proceed ∷ [])) (omega arith) rule.placed below copied room room_mems (omega (arith, room_copies)) links in
+    let dropping = drops_in_order (a + atoms_in_body body) (1 + k + membranes_in_body body) g v (0 + e) 1 (membranes_of head) (ls ++ (Proceed ∷ [])) (omega arith) links in
+    let making_part = making_in_order k a (1 + k) g v 0 body (ds ++ (ls ++ (Proceed ∷ []))) (omega arith) rule.placed below copied room room_mems (omega (arith, room_copies)) dropping in
     let mems_part = mems_in_order a (1 + k) g v 0 (rising 1 k) tail (λ x i. (let b = (rising_below k 1 x i).1 in b)) making_part in
     let parts_part = parts_in_order a (1 + k) g v 0 (rising 0 g) (ms ++ tail) (λ x i. (let b = (rising_below g 0 x i).1 in omega (arith, b))) mems_part in
     let atoms_part = atoms_in_order a (1 + k) g v 0 (rising 0 a) (gs ++ (ms ++ tail)) (λ x i. (let b = (rising_below a 0 x i).1 in omega (arith, b))) parts_part in

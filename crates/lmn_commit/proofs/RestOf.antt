@@ -1,7 +1,7 @@
 -- A membrane of a valid heap has a rest, whatever is set apart of its atoms and membranes.
-use Rattle.std.proofs.Common.{◌≡◌, ℕ, zero, suc, Bool, true, false, List, [], ◌∷◌, ◌++◌, Some, refl, sym, ap, subst, inl, inr}
-use Rattle.std.specs.Prelude.{if◌then◌else◌}
-use Rattle.lmn_heap.specs.Heap.{Heap, Distinct, IsMem, parent_of, atoms_in, mems_in}
+use Rattle.std.proofs.Common.{◌≡◌, ℕ, zero, suc, Bool, true, false, List, [], ◌∷◌, ◌++◌, map, Option, Some, None, IsSome, refl, sym, ap, subst, inl, inr}
+use Rattle.std.specs.Prelude.{if◌then◌else◌, not}
+use Rattle.lmn_heap.specs.Heap.{Heap, HeapMem, Distinct, IsMem, parent_of, atoms_by, mems_by, atoms_in, mems_in}
 use Rattle.lmn_heap.specs.Conditions.{Above}
 use Rattle.lmn_heap.specs.Sound.{Forest, bare, mem, flat, Forms, Listed, Valid}
 use Rattle.lmn_heap.proofs.Depths.{both_distinct}
@@ -12,7 +12,12 @@ use Rattle.lmn_heap.proofs.Groves.{child_inside}
 use Rattle.lmn_base.proofs.Lists.{in_either}
 use Rattle.lmn_base.specs.Lists.{In}
 use Rattle.lmn_parts.specs.Rests.{keep, atoms_of_all, IsRest}
+use Rattle.lmn_parts.specs.Walks.{is_in}
+use Rattle.lmn_ground.proofs.DropLaws.{is_out, out_is}
 use Rattle.lmn_ground.proofs.RestLaws.{keep_here, keep_past}
+use Rattle.lmn_registers.specs.declared.registers.SetRegisters.{SetRegisters}
+use Rattle.lmn_commit.specs.Registers.{IsRestBeside}
+use Rattle.lmn_commit.proofs.PartLists.{parts_told}
 
 -- a tree and those beside it, or these alone
 abbrev chosen : Bool → ℕ → Forest → Forest → Forest
@@ -112,3 +117,44 @@ root_over s listed (mem k inner rest) roots q forms (inr i) = elim (in_either q 
 pub within_forest : (s : Heap) → Listed s → (f : Forest) (roots : List ℕ) (c : ℕ) → Forms s f roots → In c (flat f) → (d q : ℕ) → Above s d c q → In q (flat f)
 within_forest s listed f roots c forms i zero q e = subst (λ z. In z (flat f)) (sym e) i
 within_forest s listed f roots c forms i (suc d) q (p, e, w) = child_inside s f roots forms p q (within_forest s listed f roots c forms i d p w) ((listed.mems p q).1 (parent_place s q p e))
+
+-- Every number has a rest besides registers, that of no membrane is empty.
+
+not_true : (b : Bool) → not b ≡ true → b ≡ false
+not_true true e = absurd (cc)
+not_true false e = refl
+
+empty_rest : (h : Heap) (m : ℕ) (left_atom left_membrane : ℕ → Bool) → h.mems m ≡ None → IsRest h m left_atom left_membrane [] []
+empty_rest h m left_atom left_membrane e = record {
+  forest = bare;
+  forms = ap (λ (o : Option HeapMem). keep left_membrane (mems_by o)) e;
+  preorder = refl;
+  once = tt;
+  outside = λ i. absurd i;
+  in_order = sym (ap (λ (o : Option HeapMem). keep left_atom (atoms_by o) ++ []) e);
+}
+
+any_rest : (h : Heap) → Valid h → (m : ℕ) (left_atom left_membrane : ℕ → Bool) → (atoms membranes : List ℕ) × IsRest h m left_atom left_membrane atoms membranes
+any_rest h valid m left_atom left_membrane = by (h.mems m) refl
+  where
+    by : (o : Option HeapMem) → h.mems m ≡ o → (atoms membranes : List ℕ) × IsRest h m left_atom left_membrane atoms membranes
+    by None e = ([], [], empty_rest h m left_atom left_membrane e)
+    by (Some x) e = rest_of h valid m (subst (λ (o : Option HeapMem). IsSome o) (sym e) refl) left_atom left_membrane
+
+-- There is a rest of each membrane besides registers.
+pub rest_beside : {A M : Type 0} (atom : A → ℕ) (membrane : M → ℕ) (h : Heap) → Valid h → (g : SetRegisters A M) (m : ℕ) → (atoms membranes : List ℕ) × IsRestBeside atom membrane h g m atoms membranes
+rest_beside atom membrane h valid g m =
+    let told = parts_told atom h valid g.parts in
+    let taken = map atom g.atoms ++ told.0 in
+    let left : ℕ → Bool = λ a. not (is_in taken a) in
+    let r = any_rest h valid m left (λ x. not (is_in (map membrane g.membranes) x)) in (
+      r.0,
+      r.1,
+      (left, λ a i. (
+        λ e. (let off = out_is a taken (not_true (is_in taken a) e) in record {
+          no_atom = λ k. off (in_left a (map atom g.atoms) told.0 k);
+          no_part = λ w. off (in_right a (map atom g.atoms) told.0 ((told.1 a).1 w));
+        }),
+        λ b. ap (λ t. not t) (is_out a taken (λ k. elim (in_either a (map atom g.atoms) told.0 k) [ inl j ↦ b.no_atom j | inr j ↦ b.no_part ((told.1 a).0 j) ])),
+      ), r.2),
+    )

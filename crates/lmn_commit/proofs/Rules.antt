@@ -9,27 +9,28 @@ use Rattle.lmn_base.specs.Solids.{connector}
 use Rattle.lmn_heap.proofs.Replacing.{port_within}
 use Rattle.lmn_heap.specs.Conditions.{Alone}
 use Rattle.lmn_solid.specs.declared.items.HeadItem.{HeadItem}
-use Rattle.lmn_solid.specs.Heads.{HeadTyped, typed_contexts_of, atoms_of, membranes_of}
+use Rattle.lmn_solid.specs.Heads.{HeadMembrane, HeadTyped, typed_contexts_of, atoms_of, membranes_of}
 use Rattle.lmn_solid.specs.Embeddings.{Lies}
 use Rattle.lmn_splice.specs.Classes.{class_of, ends_of_class, rising}
 use Rattle.lmn_instr.specs.declared.instr.AtomPort.{AtomPort}
 use Rattle.lmn_instr.specs.declared.instr.NewPort.{NewPort}
 use Rattle.lmn_instr.specs.declared.instr.Instr.{Instr}
-use Rattle.lmn_instr.specs.declared.instr.Instr.TheVariants.{RemoveAtom, RemovePart, RemoveMem, LoadRule, CopyRules, Proceed}
+use Rattle.lmn_instr.specs.declared.instr.Instr.TheVariants.{RemoveAtom, RemovePart, RemoveMem, LoadRule, CopyRules, DropCells, Proceed}
 use Rattle.lmn_body.specs.declared.items.BodyItem.{BodyItem}
 use Rattle.lmn_body.specs.declared.items.BodyItem.TheVariants.{Atom, Connector, Copy, Bound, Membrane, Rest, Rule, Rules}
-use Rattle.lmn_body.specs.Added.{added_rules, if_inside}
-use Rattle.lmn_body.specs.Code.{body_code, removals, making, link_code, links_code}
+use Rattle.lmn_body.specs.Added.{named_rules, if_inside}
+use Rattle.lmn_body.specs.Code.{body_code, removals, making, drops, link_code, links_code}
 use Rattle.lmn_body.specs.Rules.{NestedRule}
 use Rattle.lmn_body.specs.Items.{new_ports, old_ports, connectors}
 use Rattle.lmn_body.specs.Running.{Registers, Prepares, DoesAll}
 use Rattle.lmn_body.specs.Conditions.{Can, CanRun}
 use Rattle.lmn_body.specs.Stopping.{SameButSpares}
+use Rattle.lmn_body.specs.Within.{HoldsRests}
 use Rattle.lmn_body.proofs.Stops.{prepare_stops}
 use Rattle.lmn_body.proofs.Parts.{taken_links}
 use Rattle.lmn_body.proofs.Firing.{rising_below}
 use Rattle.lmn_registers.specs.declared.registers.SetRegisters.{SetRegisters}
-use Rattle.lmn_commit.specs.Registers.{AgreesWithCopies, HasCopies}
+use Rattle.lmn_commit.specs.Registers.{AgreesWithCopies, HasCopies, HasRests}
 use Rattle.lmn_commit.specs.Preparing.{needed, needed_by}
 use Rattle.lmn_commit.specs.Committing.{Runs, Stands}
 use Rattle.lmn_commit.specs.Matched.{IsPrepared, BodiesCanBeCommitted}
@@ -84,6 +85,14 @@ atoms_plain (n ∷ ns) = (tt, atoms_plain ns)
 mems_plain : (ns : List ℕ) → AllAre IsPlain (map RemoveMem ns)
 mems_plain [] = tt
 mems_plain (n ∷ ns) = (tt, mems_plain ns)
+
+drops_plain : (k : ℕ) (bs : List HeadMembrane) → AllAre IsPlain (drops k bs)
+drops_plain k [] = tt
+drops_plain k (b ∷ bs) = by b.has_closed_context (drops_plain (k + 1) bs)
+  where
+    by : (t : Bool) → AllAre IsPlain (drops (k + 1) bs) → AllAre IsPlain (cond t (DropCells k ∷ []) [] ++ drops (k + 1) bs)
+    by true p = (tt, p)
+    by false p = p
 
 making_takes_none : (a m c : ℕ) (body : List BodyItem) → AllAre TakesNone (making a m c body)
 making_takes_none a m c [] = tt
@@ -141,43 +150,47 @@ if_length r x inside ns = by (r.head.images.membrane inside == x)
 zero_first : {m n : ℕ} → m ≡ n → 0 + m ≡ n
 zero_first {m} {n} e = omega (arith, e)
 
-making_needs : (r : Registers) (rules : ℕ → List ℕ) (a m c : ℕ) (body : List BodyItem) (x : ℕ) → needed r rules (making a m c body) x ≡ length (added_rules r rules body x)
+making_needs : (r : Registers) (rules : ℕ → List ℕ) (a m c : ℕ) (body : List BodyItem) (x : ℕ) → needed r rules (making a m c body) x ≡ length (named_rules r rules body x)
 making_needs r rules a m c [] x = refl
 making_needs r rules a m c (Atom functor links inside ∷ xs) x = zero_first (making_needs r rules (a + 1) m c xs x)
 making_needs r rules a m c (Connector left right ∷ xs) x = making_needs r rules a m c xs x
 making_needs r rules a m c (Copy part link inside ∷ xs) x = zero_first (making_needs r rules a m (c + 1) xs x)
 making_needs r rules a m c (Bound integer link inside ∷ xs) x = zero_first (making_needs r rules (a + 1) m c xs x)
 making_needs r rules a m c (Membrane inside ∷ xs) x = zero_first (making_needs r rules a (m + 1) c xs x)
-making_needs r rules a m c (Rest of closed inside ∷ xs) x = zero_first (making_needs r rules a m c xs x)
+making_needs r rules a m c (Rest of true inside ∷ xs) x = zero_first (making_needs r rules a m c xs x)
+making_needs r rules a m c (Rest of false inside ∷ xs) x = zero_first (making_needs r rules a m c xs x)
 making_needs r rules a m c (Rule rule inside ∷ xs) x =
     let t = making_needs r rules a m c xs x in
-    let u = length_append (if_inside r x inside (rule ∷ [])) (added_rules r rules xs x) in
+    let u = length_append (if_inside r x inside (rule ∷ [])) (named_rules r rules xs x) in
     let v = if_length r x inside (rule ∷ []) in
-    ap (λ n. needed_by r rules (LoadRule inside rule) x + n) t ∙ sym (u ∙ ap (λ n. n + length (added_rules r rules xs x)) v)
+    ap (λ n. needed_by r rules (LoadRule inside rule) x + n) t ∙ sym (u ∙ ap (λ n. n + length (named_rules r rules xs x)) v)
 making_needs r rules a m c (Rules of inside ∷ xs) x =
     let t = making_needs r rules a m c xs x in
-    let u = length_append (if_inside r x inside (rules (r.head.images.membrane of))) (added_rules r rules xs x) in
+    let u = length_append (if_inside r x inside (rules (r.head.images.membrane of))) (named_rules r rules xs x) in
     let v = if_length r x inside (rules (r.head.images.membrane of)) in
-    ap (λ n. needed_by r rules (CopyRules of inside) x + n) t ∙ sym (u ∙ ap (λ n. n + length (added_rules r rules xs x)) v)
+    ap (λ n. needed_by r rules (CopyRules of inside) x + n) t ∙ sym (u ∙ ap (λ n. n + length (named_rules r rules xs x)) v)
 
-code_needs : (r : Registers) (rules : ℕ → List ℕ) (head : List HeadItem) (body : List BodyItem) (n x : ℕ) → needed r rules (body_code head body n) x ≡ length (added_rules r rules body x)
+code_needs : (r : Registers) (rules : ℕ → List ℕ) (head : List HeadItem) (body : List BodyItem) (n x : ℕ) → needed r rules (body_code head body n) x ≡ length (named_rules r rules body x)
 code_needs r rules head body n x =
     let os = map RemoveAtom (rising 0 (length (atoms_of head))) in
     let gs = map RemovePart (rising 0 (length (typed_contexts_of head))) in
     let ms = map RemoveMem (rising 1 (length (membranes_of head))) in
     let made = making (length (atoms_of head)) (1 + length (membranes_of head)) 0 body in
     let ls = links_code (class_of (connectors body)) (new_ports (length (atoms_of head)) 0 body) (old_ports head) (rising 0 n) in
-    let e1 = needed_append r rules (removals head) (made ++ (ls ++ (Proceed ∷ []))) x in
+    let ds = drops 1 (membranes_of head) in
+    let e1 = needed_append r rules (removals head) (made ++ (ds ++ (ls ++ (Proceed ∷ [])))) x in
     let e2 = needed_append r rules os (gs ++ ms) x in
     let e3 = needed_append r rules gs ms x in
-    let e4 = needed_append r rules made (ls ++ (Proceed ∷ [])) x in
+    let e4 = needed_append r rules made (ds ++ (ls ++ (Proceed ∷ []))) x in
+    let e6 = needed_append r rules ds (ls ++ (Proceed ∷ [])) x in
+    let z5 = plain_needs_none r rules ds x (drops_plain 1 (membranes_of head)) in
     let e5 = needed_append r rules ls (Proceed ∷ []) x in
     let z1 = plain_needs_none r rules os x (atoms_plain (rising 0 (length (atoms_of head)))) in
     let z2 = parts_need_none r rules (rising 0 (length (typed_contexts_of head))) x in
     let z3 = plain_needs_none r rules ms x (mems_plain (rising 1 (length (membranes_of head)))) in
     let z4 = plain_needs_none r rules ls x (links_plain (class_of (connectors body)) (new_ports (length (atoms_of head)) 0 body) (old_ports head) (rising 0 n)) in
     let k = making_needs r rules (length (atoms_of head)) (1 + length (membranes_of head)) 0 body x in
-    omega (arith, e1, e2, e3, e4, e5, z1, z2, z3, z4, k)
+    omega (arith, e1, e2, e3, e4, e5, e6, z1, z2, z3, z4, z5, k)
 
 -- Parts stand whole until they are taken
 
@@ -312,7 +325,7 @@ get_typed [] k l = absurd (omega arith)
 get_typed (x ∷ xs) zero l = (x, refl)
 get_typed (x ∷ xs) (suc k) l = get_typed xs k (omega arith)
 
-module _ (head : List HeadItem) (body : List BodyItem) (n : ℕ) (rule : NestedRule head body n) (h : Heap) (valid : Valid h) (m : ℕ) (in_place : IsMemInPlace h m) (r : Registers) (lies : Lies h head m r.head.images)
+module _ (head : List HeadItem) (body : List BodyItem) (n : ℕ) (rule : NestedRule head body n) (h : Heap) (valid : Valid h) (m : ℕ) (in_place : IsMemInPlace h m) (r : Registers) (lies : Lies h head m r.head.images) (rests : HoldsRests h r head)
     (s : Heap) (prepares : Prepares r (body_code head body n) h s) (same : SameButSpares h (discarded s)) (room : (x : ℕ) → needed r (rules_in h) (body_code head body n) x ≤ spare_of s x) where
   root_joined : (g : ℕ) → g < length (typed_contexts_of head) → IsSome (link_of h (r.head.images.part g).0 (r.head.images.part g).1)
   root_joined g l =
@@ -337,7 +350,7 @@ module _ (head : List HeadItem) (body : List BodyItem) (n : ℕ) (rule : NestedR
   can_run : CanRun r (body_code head body n) s
   can_run =
       let c = links_have_numbers h valid in
-      body_can_run head body n rule r h valid m lies in_place c.0 c.1 s prepares (λ x. subst (λ k. k ≤ spare_of s x) (code_needs r (rules_in h) head body n x) (room x))
+      body_can_run head body n rule r h valid m lies rests in_place c.0 c.1 s prepares (λ x. subst (λ k. k ≤ spare_of s x) (code_needs r (rules_in h) head body n x) (room x))
 
   -- a body that is prepared can be committed,
   body_runs : Runs r (body_code head body n) s
@@ -347,12 +360,14 @@ module _ (head : List HeadItem) (body : List BodyItem) (n : ℕ) (rule : NestedR
       let os = map RemoveAtom (rising 0 (length (atoms_of head))) in
       let gs = map RemovePart (rising 0 (length (typed_contexts_of head))) in
       let ms = map RemoveMem (rising 1 (length (membranes_of head))) in
-      let rest = ms ++ (made ++ (ls ++ (Proceed ∷ []))) in
+      let ds = drops 1 (membranes_of head) in
+      let rest = ms ++ (made ++ (ds ++ (ls ++ (Proceed ∷ [])))) in
       let none : AllAre TakesNone rest =
-      all_append TakesNone ms (made ++ (ls ++ (Proceed ∷ []))) (all_plain ms (mems_plain (rising 1 (length (membranes_of head)))))
-      (all_append TakesNone made (ls ++ (Proceed ∷ [])) (making_takes_none (length (atoms_of head)) (1 + length (membranes_of head)) 0 body)
-      (all_append TakesNone ls (Proceed ∷ []) (all_plain ls (links_plain (class_of (connectors body)) (new_ports (length (atoms_of head)) 0 body) (old_ports head) (rising 0 n))) (tt, tt))) in
-      let parts : body_code head body n ≡ os ++ (gs ++ rest) = append_assoc os (gs ++ ms) (made ++ (ls ++ (Proceed ∷ []))) ∙ ap (λ is. os ++ is) (append_assoc gs ms (made ++ (ls ++ (Proceed ∷ [])))) in
+      all_append TakesNone ms (made ++ (ds ++ (ls ++ (Proceed ∷ [])))) (all_plain ms (mems_plain (rising 1 (length (membranes_of head)))))
+      (all_append TakesNone made (ds ++ (ls ++ (Proceed ∷ []))) (making_takes_none (length (atoms_of head)) (1 + length (membranes_of head)) 0 body)
+      (all_append TakesNone ds (ls ++ (Proceed ∷ [])) (all_plain ds (drops_plain 1 (membranes_of head)))
+      (all_append TakesNone ls (Proceed ∷ []) (all_plain ls (links_plain (class_of (connectors body)) (new_ports (length (atoms_of head)) 0 body) (old_ports head) (rising 0 n))) (tt, tt)))) in
+      let parts : body_code head body n ≡ os ++ (gs ++ rest) = append_assoc os (gs ++ ms) (made ++ (ds ++ (ls ++ (Proceed ∷ [])))) ∙ ap (λ is. os ++ is) (append_assoc gs ms (made ++ (ds ++ (ls ++ (Proceed ∷ []))))) in
       subst (λ is. Runs r is s) (sym parts)
       (atoms_run r (rising 0 (length (atoms_of head))) (rising 0 (length (typed_contexts_of head))) rest s joined_now none (subst (λ is. CanRun r is s) parts can_run))
 
@@ -360,20 +375,21 @@ module _ (head : List HeadItem) (body : List BodyItem) (n : ℕ) (rule : NestedR
   body_leaves_valid : (t : Heap) → DoesAll r (body_code head body n) s t → Valid t
   body_leaves_valid t w =
       let c = links_have_numbers h valid in
-      (body_fires_within head body n rule r h valid m lies in_place c.0 c.1 t (s, prepares, w)).2
+      (body_fires_within head body n rule r h valid m lies rests in_place c.0 c.1 t (s, prepares, w)).2
 
 -- the code of the body of a rule can be committed wherever its head lies
 pub bodies_can_be_committed : BodiesCanBeCommitted
-bodies_can_be_committed head body n rule h valid m in_place r lies s prepares same room =
-    (body_runs head body n rule h valid m in_place r lies s prepares same room, body_leaves_valid head body n rule h valid m in_place r lies s prepares same room)
+bodies_can_be_committed head body n rule h valid m in_place r lies rests s prepares same room =
+    (body_runs head body n rule h valid m in_place r lies rests s prepares same room, body_leaves_valid head body n rule h valid m in_place r lies rests s prepares same room)
 
-module _ {A M : Type 0} (atom : A → ℕ) (membrane : M → ℕ) (s : Heap) (k : SetRegisters A M) (code : List Instr) (p : IsPrepared atom membrane s k code) (r : Registers) (u : AgreesWithCopies atom membrane k r) (has : HasCopies r p.prepared.copied) where
+module _ {A M : Type 0} (atom : A → ℕ) (membrane : M → ℕ) (s : Heap) (k : SetRegisters A M) (code : List Instr) (p : IsPrepared atom membrane s k code) (r : Registers) (u : AgreesWithCopies atom membrane k r) (has : HasCopies r p.prepared.copied)
+    (rests : HasRests atom membrane p.before p.matched_by r) where
   pub prepares : Prepares r code p.before s
-  prepares = p.prepared.prepares r u has
+  prepares = p.prepared.prepares r u has rests
 
   committed : Runs r code s × ((t : Heap) → DoesAll r code s t → Valid t)
   committed =
-      p.matched.commits r (agrees_before atom membrane p.matched_by k r p.prepared.grows u) s prepares (p.prepared.makes.rest p.before (itself p.before p.matched.valid).1) (p.prepared.spares r u)
+      p.matched.commits r (agrees_before atom membrane p.matched_by k r p.prepared.grows u) rests s prepares (p.prepared.makes.rest p.before (itself p.before p.matched.valid).1) (p.prepared.spares r u)
 
   -- what is prepared can be committed,
   pub prepared_runs : Runs r code s

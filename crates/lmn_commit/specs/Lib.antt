@@ -1,4 +1,5 @@
 pub mod Registers
+pub mod OwnMarks
 pub mod Preparing
 pub mod Committing
 pub mod Matched

@@ -1,7 +1,9 @@
 -- What it means that the code of a body is prepared.
-use Rattle.std.specs.Prelude.{ℕ, ◌≡◌, ◌<◌, ◌≤◌, ◌+◌, ◌==◌, if◌then◌else◌, List, [], ◌∷◌, ◌++◌, None, Some, IsSome, length, slice_get}
+use Rattle.std.specs.Prelude.{ℕ, ◌≡◌, ◌<◌, ◌≤◌, ◌+◌, ◌⊎◌, ◌==◌, if◌then◌else◌, List, [], ◌∷◌, ◌++◌, None, Some, IsSome, length, slice_get}
 use Rattle.lmn_base.specs.declared.functor.Functor.{Functor}
-use Rattle.lmn_heap.specs.Heap.{Heap, IsAtom, arity_of, made_atom, made_mem, reserved, discarded, rules_in, spare_of, port_id, Unmarked}
+use Rattle.lmn_base.specs.Graphs.{Reached}
+use Rattle.lmn_heap.specs.Graphs.{atom_map}
+use Rattle.lmn_heap.specs.Heap.{Heap, IsAtom, arity_of, home_of, made_atom, made_mem, reserved, discarded, rules_in, spare_of, port_id, Unmarked}
 use Rattle.lmn_heap.specs.Conditions.{Alone}
 use Rattle.lmn_ground.specs.Spread.{IsWhole}
 use Rattle.lmn_parts.specs.Copies.{Copied, LeadsOut}
@@ -108,6 +110,22 @@ abbrev pub CanCopyRests : {A M : Type 0} → (A → ℕ) → (M → ℕ) → Hea
 CanCopyRests {A} {M} atom membrane h g code = (at m n : ℕ) → slice_get code at ≡ Some (CopyCells m n) →
     (x : M) × (slice_get g.membranes m ≡ Some x) × ((atoms membranes : List ℕ) → IsRestBeside atom membrane h g (membrane x) atoms membranes → NoneLeaves h atoms)
 
+-- the rest of a membrane besides registers, which no link leaves
+abbrev pub HasClosedRest : {A M : Type 0} → (A → ℕ) → (M → ℕ) → Heap → SetRegisters A M → ℕ → Type 0
+HasClosedRest atom membrane s g m = (atoms membranes : List ℕ) × IsRestBeside atom membrane s g m atoms membranes × NoneLeaves s atoms
+
+-- The rest that an instruction copies can be copied: it is that of a membrane in registers, and no link leaves it.
+abbrev pub CanCopyRest : {A M : Type 0} → (A → ℕ) → (M → ℕ) → Heap → SetRegisters A M → Instr → Type 0
+CanCopyRest {A} {M} atom membrane s g i = (m n : ℕ) → i ≡ CopyCells m n → (x : M) × (slice_get g.membranes m ≡ Some x) × HasClosedRest atom membrane s g (membrane x)
+
+-- the registers of a body hold the rest that an instruction copies
+abbrev pub HoldsCopied : {A M : Type 0} → (A → ℕ) → (M → ℕ) → Heap → SetRegisters A M → Registers → Instr → Type 0
+HoldsCopied {A} {M} atom membrane s g r i = (m n : ℕ) (x : M) → i ≡ CopyCells m n → slice_get g.membranes m ≡ Some x → IsRestBeside atom membrane s g (membrane x) (r.left_atoms m) (r.left_membranes m)
+
+-- each of these parts stands in one membrane
+abbrev pub AreAtHome : {A : Type 0} → (A → ℕ) → Heap → List (A × ℕ) → Type 0
+AreAtHome {A} atom s parts = (k : ℕ) (p : A × ℕ) → slice_get parts k ≡ Some p → (m : ℕ) × ((a : ℕ) → Reached (atom_map s) (port_id atom p) a → home_of s a ≡ Some m)
+
 -- Of the heap t everything that isn't in the heap s waits, and is joined to none that doesn't; membranes may have other
 -- spares. So what is made can be given up.
 --   kept      the atoms of s are as they were
@@ -137,7 +155,8 @@ abbrev pub RoomIsMade : {A M : Type 0} → (A → ℕ) → (M → ℕ) → Heap 
 RoomIsMade atom membrane s t g code x =
     (t ≡ reserved s x (spare_of t x)) × ((r : Registers) → AgreesWithCopies atom membrane g r → needed r (rules_in s) code x ≤ spare_of t x)
 
--- What an instruction makes is made, after the code before it. `copied` has the atoms of the copy that it makes.
+-- What an instruction makes is made, after the code before it. `copied` has the atoms of the copy that it makes. The atoms and
+-- the membranes of further registers are new.
 pub record IsMade {A M : Type 0} (atom : A → ℕ) (membrane : M → ℕ) (s t : Heap) (g k : SetRegisters A M) (before : List Instr) (i : Instr) : Type 0 where
   pub grows : Grows g k
   pub held : AreHeld atom membrane t k
@@ -146,7 +165,9 @@ pub record IsMade {A M : Type 0} (atom : A → ℕ) (membrane : M → ℕ) (s t 
   pub copies : length k.copies ≡ length g.copies + copies_made i
   pub copied : List (List ℕ)
   pub sizes : (earlier : List (List ℕ)) → AreSized g.copies earlier → AreSized k.copies (earlier ++ copied)
-  pub makes : (r : Registers) (earlier : List (List ℕ)) → AgreesWithCopies atom membrane k r → AreSized g.copies earlier → HasCopies r (earlier ++ copied) → Makes r i s t
+  pub makes : (r : Registers) (earlier : List (List ℕ)) → AgreesWithCopies atom membrane k r → AreSized g.copies earlier → HasCopies r (earlier ++ copied) → HoldsCopied atom membrane s g r i → Makes r i s t
+  pub new_atoms : (j : ℕ) (a : A) → slice_get k.atoms j ≡ Some a → (slice_get g.atoms j ≡ Some a) ⊎ (s.atoms (atom a) ≡ None)
+  pub new_membranes : (j : ℕ) (m : M) → slice_get k.membranes j ≡ Some m → (slice_get g.membranes j ≡ Some m) ⊎ (s.mems (membrane m) ≡ None)
   pub rules : (x : ℕ) → rules_in t x ≡ rules_in s x
   pub spares : (r : Registers) → AgreesWithCopies atom membrane k r → ((x : ℕ) → needed r (rules_in s) before x ≤ spare_of s x) →
       (x : ℕ) → needed r (rules_in s) before x + needed_by r (rules_in s) i x ≤ spare_of t x
