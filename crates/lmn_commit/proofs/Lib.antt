@@ -10,4 +10,5 @@ pub mod Ordering
 pub mod PartLists
 pub mod RestOf
 pub mod Owning
+pub mod Inside
 pub mod OwnCopies

@@ -1,11 +1,12 @@
 -- Own marks that are set for a while.
-use Rattle.std.specs.Prelude.{ℕ, ◌≡◌, ◌<◌, List, None, Some, length, map, slice_get}
+use Rattle.std.specs.Prelude.{ℕ, ◌≡◌, ◌<◌, ◌⊎◌, List, None, Some, length, map, slice_get}
 use Rattle.lmn_base.specs.Graphs.{Reached}
 use Rattle.lmn_base.specs.Lists.{In}
 use Rattle.lmn_heap.specs.Heap.{Heap, HeapAtom, IsAtom, Unmarked, arity_of, home_of, port_id}
 use Rattle.lmn_heap.specs.Graphs.{atom_map}
 use Rattle.lmn_ground.specs.Marks.{painted_at}
 use Rattle.lmn_ground.specs.Spread.{IsWhole}
+use Rattle.lmn_registers.specs.declared.registers.SetRegisters.{SetRegisters}
 
 -- the place of the own mark
 abbrev pub own_place : HeapAtom → ℕ
@@ -30,3 +31,7 @@ IsOneInside {A} atom h atoms m a = In a (map atom atoms) × (home_of h a ≡ Som
 -- an atom of one of the parts whose roots stand in a membrane
 abbrev pub IsInPartInside : {A : Type 0} → (A → ℕ) → Heap → List (A × ℕ) → ℕ → ℕ → Type 0
 IsInPartInside {A} atom h parts m a = (k : ℕ) × (p : A × ℕ) × (slice_get parts k ≡ Some p) × (home_of h (atom p.0) ≡ Some m) × Reached (atom_map h) (port_id atom p) a
+
+-- an atom that is in registers or in a part in registers, and stands in a membrane
+abbrev pub IsTakenInside : {A M : Type 0} → (A → ℕ) → Heap → SetRegisters A M → ℕ → ℕ → Type 0
+IsTakenInside atom h g m a = IsOneInside atom h g.atoms m a ⊎ IsInPartInside atom h g.parts m a

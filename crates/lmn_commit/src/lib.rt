@@ -6,6 +6,7 @@
 
 mod committing;
 mod laws;
+mod marking;
 mod preparing;
 mod splicing;
 
