@@ -12,3 +12,6 @@ pub mod RestOf
 pub mod Owning
 pub mod Inside
 pub mod OwnCopies
+pub mod RestMaking
+pub mod Later
+pub mod RestCopying

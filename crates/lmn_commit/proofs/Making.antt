@@ -13,7 +13,7 @@ use Rattle.lmn_body.specs.Running.{Registers, IsCopied, Makes, Prepares, integer
 use Rattle.lmn_registers.specs.declared.registers.PartCopy.{PartCopy}
 use Rattle.lmn_registers.specs.declared.registers.SetRegisters.{SetRegisters}
 use Rattle.lmn_commit.specs.Registers.{AgreesWithCopies, AreHeld, AreSized, Grows, HasCopies, HasRests, IsRestBeside}
-use Rattle.lmn_commit.specs.Preparing.{Uses, AllUse, UsesInOrder, BodyInOrder, needed, needed_by, atoms_made, membranes_made, copies_made, CopyIsMade, OnlyMakes, RoomIsMade, IsMade, Prepared, CanCopy, HoldsCopied, AtomIsMade, MembraneIsMade}
+use Rattle.lmn_commit.specs.Preparing.{Uses, AllUse, UsesInOrder, BodyInOrder, needed, needed_by, atoms_made, membranes_made, copies_made, CopyIsMade, OnlyMakes, RestIsMade, RoomIsMade, IsMade, Prepared, CanCopy, HoldsCopied, AtomIsMade, MembraneIsMade}
 use Rattle.lmn_commit.proofs.RestOf.{rest_beside}
 use Rattle.lmn_commit.proofs.Codes.{get_either, all_use_more, use_one_more, reads_uses, needed_more}
 use Rattle.lmn_commit.proofs.Waiting.{makes_nothing, makes_on, still_copied, none_there}
@@ -333,6 +333,26 @@ module _ {A M : Type 0} (atom : A → ℕ) (membrane : M → ℕ) where
         new_membranes = λ j m q. inl (subst (λ (l : SetRegisters A M). slice_get l.membranes j ≡ Some m) made.3 q);
         rules = λ m. ap rules_by (same_mems m);
         spares = λ r w l m. (let b = l m in let q : needed_by r (rules_in s) i m ≡ 0 = ap (λ j. needed_by r (rules_in s) j m) e in let d : spare_of t m ≡ spare_of s m = ap spare_by (same_mems m) in omega (arith, b, q, d));
+      }
+
+  -- The copy of a rest is made.
+  pub rest_made : (s t : Heap) (g : SetRegisters A M) (before : List Instr) (i : Instr) (x y : ℕ) (h : M) → AreHeld atom membrane s g → OnlyMakes s t → i ≡ CopyCells x y → slice_get g.membranes x ≡ Some h →
+      RestIsMade atom membrane s t g (membrane h) → IsMade atom membrane s t g g before i
+  rest_made s t g before i x y h held makes e at made =
+      let kept : (a : ℕ) → IsAtom s a → IsAtom t a = λ a w. subst (λ (o : Option HeapAtom). IsSome o) (sym (makes.kept a w)) w in
+      record {
+        grows = grows_none g;
+        held = record { atoms = λ n a q. kept (atom a) (held.atoms n a q); membranes = λ n m q. made.there (membrane m) (held.membranes n m q); parts = λ n q w. kept (atom q.0) (held.parts n q w) };
+        atoms = (let z : length g.atoms ≡ length g.atoms + 0 = omega arith in z) ∙ ap (λ k. length g.atoms + k) (sym (ap atoms_made e));
+        membranes = (let z : length g.membranes ≡ length g.membranes + 0 = omega arith in z) ∙ ap (λ k. length g.membranes + k) (sym (ap membranes_made e));
+        copies = (let z : length g.copies ≡ length g.copies + 0 = omega arith in z) ∙ ap (λ k. length g.copies + k) (sym (ap copies_made e));
+        copied = [];
+        sizes = none_sized g.copies g.copies refl;
+        makes = λ r es u z has copied. subst (λ j. Makes r j s t) (sym e) (made.copied (r.left_atoms x) (r.left_membranes x) (copied x y h e at));
+        new_atoms = λ j a q. inl q;
+        new_membranes = λ j m q. inl q;
+        rules = made.rules;
+        spares = λ r u l m. (let q : needed_by r (rules_in s) i m ≡ 0 = ap (λ j. needed_by r (rules_in s) j m) e in let b = made.room m (needed r (rules_in s) before m) (l m) in omega (arith, b, q));
       }
 
   -- the other instructions make nothing

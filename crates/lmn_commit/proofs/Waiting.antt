@@ -144,7 +144,8 @@ makes_room_or_not (Err e) s t m n p q = makes_same s t q
 
 -- Atoms beside what was there
 
-beside_makes : (s t : Heap) (ys : List ℕ) → Beside s t ys → OnlyMakes s t
+-- what stands beside all that was there is only made
+pub beside_makes : (s t : Heap) (ys : List ℕ) → Beside s t ys → OnlyMakes s t
 beside_makes s t ys b = record {
   kept = λ a i. b.kept a (λ n. none_there (s.atoms a) i (b.fresh.1 a n));
   alone = λ l a i c j w q. elim (in_or_not a ys) [
@@ -203,12 +204,20 @@ module _ (s t : Heap) (paired : Paired s) (m : OnlyMakes s t) (root : ℕ × ℕ
   same_arity : (a : ℕ) → IsAtom s a → arity_of t a ≡ arity_of s a
   same_arity a w = ap (λ (o : Option HeapAtom). length (partners_of o)) (m.kept a w)
 
-  reached : (a : ℕ) → Reached (atom_map t) root a → Reached (atom_map s) root a × IsAtom s a
+  -- what is reached later was reached before
+  pub reached : (a : ℕ) → Reached (atom_map t) root a → Reached (atom_map s) root a × IsAtom s a
   reached a at_root = (at_root, can.atom)
   reached x (across {a = a} {i = i} {j = j} w d e) =
       let before = reached a w in
       let link : link_of s a i ≡ Some (x, j) = sym (same_link a i before.1) ∙ e in
       (across before.0 d link, atom_of_link x j (subst (λ (o : Option (ℕ × ℕ)). IsSome o) (sym (paired.back a i x j link)) refl))
+
+  -- and what was reached is reached
+  pub reached_later : (a : ℕ) → Reached (atom_map s) root a → Reached (atom_map t) root a × IsAtom s a
+  reached_later a at_root = (at_root, can.atom)
+  reached_later x (across {a = a} {i = i} {j = j} w d e) =
+      let before = reached_later a w in
+      (across before.0 d (same_link a i before.1 ∙ e), atom_of_link x j (subst (λ (o : Option (ℕ × ℕ)). IsSome o) (sym (paired.back a i x j e)) refl))
 
   pub still_copied : CanBeCopied t root
   still_copied = record {

@@ -3,11 +3,11 @@ use Rattle.std.specs.Prelude.{ℕ, ◌≡◌, ◌<◌, ◌≤◌, ◌+◌, ◌�
 use Rattle.lmn_base.specs.declared.functor.Functor.{Functor}
 use Rattle.lmn_base.specs.Graphs.{Reached}
 use Rattle.lmn_heap.specs.Graphs.{atom_map}
-use Rattle.lmn_heap.specs.Heap.{Heap, IsAtom, arity_of, home_of, made_atom, made_mem, reserved, discarded, rules_in, spare_of, port_id, Unmarked}
+use Rattle.lmn_heap.specs.Heap.{Heap, IsAtom, IsMem, arity_of, home_of, made_atom, made_mem, reserved, discarded, rules_in, spare_of, port_id, Unmarked}
 use Rattle.lmn_heap.specs.Conditions.{Alone}
 use Rattle.lmn_ground.specs.Spread.{IsWhole}
 use Rattle.lmn_parts.specs.Copies.{Copied, LeadsOut}
-use Rattle.lmn_parts.specs.Rests.{NoneLeaves}
+use Rattle.lmn_parts.specs.Rests.{NoneLeaves, RestCopied}
 use Rattle.lmn_instr.specs.declared.instr.NewPort.{NewPort}
 use Rattle.lmn_instr.specs.declared.instr.NewPort.TheVariants as new
 use Rattle.lmn_instr.specs.declared.instr.Instr.{Instr}
@@ -149,6 +149,13 @@ MembraneIsMade {A} {M} membrane s t g k = (m : M) × (s.mems (membrane m) ≡ No
 abbrev pub CopyIsMade : {A M : Type 0} → (A → ℕ) → Heap → Heap → SetRegisters A M → SetRegisters A M → ℕ × ℕ → Type 0
 CopyIsMade {A} atom s t g k root =
     (p : PartCopy A) × (w : Copied s t root (port_id atom p.root)) × (length w.copies ≡ p.atoms) × (k ≡ record g { copies = g.copies ++ p ∷ [] })
+
+-- A copy more of the rest of a membrane besides registers. Each membrane is there, with its rules, and has as much room as it had.
+pub record RestIsMade {A M : Type 0} (atom : A → ℕ) (membrane : M → ℕ) (s t : Heap) (g : SetRegisters A M) (m : ℕ) : Type 0 where
+  pub copied : (atoms membranes : List ℕ) → IsRestBeside atom membrane s g m atoms membranes → (copies : List ℕ) × (rooms : List (ℕ × ℕ)) × RestCopied s t atoms membranes copies rooms
+  pub there : (n : ℕ) → IsMem s n → IsMem t n
+  pub rules : (n : ℕ) → rules_in t n ≡ rules_in s n
+  pub room : (n k : ℕ) → k ≤ spare_of s n → k ≤ spare_of t n
 
 -- there is room in the membrane x for all rules that code adds to it
 abbrev pub RoomIsMade : {A M : Type 0} → (A → ℕ) → (M → ℕ) → Heap → Heap → SetRegisters A M → List Instr → ℕ → Type 0

@@ -5,11 +5,12 @@ ghost use Rattle.lmn_heap.specs.Sound.{Valid};
 ghost use Rattle.lmn_body.specs.Running.{Registers};
 ghost use Rattle.lmn_body.specs.Stopping.{SameButSpares};
 ghost use Rattle.lmn_commit.specs.Registers.{AgreesWithCopies, AreHeld};
-ghost use Rattle.lmn_commit.specs.Preparing.{AllUse, AtomIsMade, CanBeCopied, CanCopy, CanCopyRests, CopyIsMade, MembraneIsMade, OnlyMakes, RoomIsMade, BodyInOrder, IsMade, Prepared, UsesInOrder, Uses, needed, needed_by};
+ghost use Rattle.lmn_commit.specs.Preparing.{AllUse, AreAtHome, AtomIsMade, CanBeCopied, CanCopy, CanCopyRest, CanCopyRests, CopyIsMade, HasClosedRest, RestIsMade, MembraneIsMade, OnlyMakes, RoomIsMade, BodyInOrder, IsMade, Prepared, UsesInOrder, Uses, needed, needed_by};
 ghost use Rattle.lmn_registers.specs.declared.stack.TheConstants.{ROOM};
 
 use lmn_base::{Functor, Label, NoMemory};
-use lmn_ground::copy_counted;
+use crate::marking::mark_taken;
+use lmn_ground::{copy_cells, copy_counted};
 use lmn_instr::Instr;
 use lmn_registers::{PartCopy, SetRegisters};
 use lmn_store::LinkStore;
@@ -141,6 +142,30 @@ fn reserve<S: LinkStore>(
     }
 }
 
+/// Copies what a membrane holds besides the registers; no link leaves it. While it is copied, what is in registers or in
+/// parts in registers and stands in the membrane has the own mark 1.
+fn copy_rest<S: LinkStore>(
+    alloc: Global,
+    store: &mut S,
+    set: &SetRegisters<S::Atom, S::Mem>,
+    m: S::Mem,
+) -> Result<(), NoMemory>
+    requires unmarked { Unmarked (S.heap store.old) }
+    requires held { AreHeld S.atom_id S.mem_id (S.heap store.old) set.now }
+    requires parts { CanCopy S.atom_id (S.heap store.old) set.now }
+    requires homes { AreAtHome S.atom_id (S.heap store.old) set.now.parts }
+    requires membrane { IsMem (S.heap store.old) (S.mem_id m) }
+    requires closed { HasClosedRest S.atom_id S.mem_id (S.heap store.old) set.now (S.mem_id m) }
+    ensures ok { OnOk result (RestIsMade S.atom_id S.mem_id (S.heap store.old) (S.heap store.new) set.now (S.mem_id m)) }
+    ensures makes { OnlyMakes (S.heap store.old) (S.heap store.new) }
+{
+    let _root = store.root();
+    mark_taken(store, set, m, 1);
+    let copied = copy_cells(alloc, store, m, set.membranes.as_slice());
+    mark_taken(store, set, m, 0);
+    copied
+}
+
 /// Makes what the instruction at a place of the code makes.
 fn make<S: LinkStore>(
     alloc: Global,
@@ -156,6 +181,8 @@ fn make<S: LinkStore>(
     requires reads { UsesInOrder (length set.old.atoms) (length set.old.membranes) (length set.old.parts) (length set.old.integers) (length set.old.copies) instr.now }
     requires unmarked { Unmarked (S.heap store.old) }
     requires parts { CanCopy S.atom_id (S.heap store.old) set.old }
+    requires homes { AreAtHome S.atom_id (S.heap store.old) set.old.parts }
+    requires rest { CanCopyRest S.atom_id S.mem_id (S.heap store.old) set.old instr.now }
     ensures ok { OnOk result (IsMade S.atom_id S.mem_id (S.heap store.old) (S.heap store.new) set.old set.new (take at code.now) instr.now) }
     ensures makes { OnlyMakes (S.heap store.old) (S.heap store.new) }
 {
@@ -180,6 +207,10 @@ fn make<S: LinkStore>(
             let to = set.membranes.at(*to as usize);
             reserve(alloc, store, code, at, set, to)
         }
+        Instr::CopyCells { from, .. } => {
+            let from = set.membranes.at(*from as usize);
+            copy_rest(alloc, store, set, from)
+        }
         _ => Ok(()),
     }
 }
@@ -195,6 +226,8 @@ fn make_all<S: LinkStore>(
     requires unmarked { Unmarked (S.heap store.old) }
     requires held { AreHeld S.atom_id S.mem_id (S.heap store.old) set.old }
     requires parts { CanCopy S.atom_id (S.heap store.old) set.old }
+    requires homes { AreAtHome S.atom_id (S.heap store.old) set.old.parts }
+    requires rests { CanCopyRests S.atom_id S.mem_id (S.heap store.old) set.old code.now }
     requires copies { set.old.copies ≡ [] }
     requires order { BodyInOrder (length set.old.atoms) (length set.old.membranes) (length set.old.parts) (length set.old.integers) 0 code.now }
     ensures ok { OnOk result (Prepared S.atom_id S.mem_id (S.heap store.old) (S.heap store.new) set.old set.new code.now) }
@@ -219,6 +252,7 @@ pub fn prepare<S: LinkStore>(
     requires unmarked { Unmarked (S.heap store.old) }
     requires held { AreHeld S.atom_id S.mem_id (S.heap store.old) set.old }
     requires parts { CanCopy S.atom_id (S.heap store.old) set.old }
+    requires homes { AreAtHome S.atom_id (S.heap store.old) set.old.parts }
     requires rests { CanCopyRests S.atom_id S.mem_id (S.heap store.old) set.old code.now }
     requires copies { set.old.copies ≡ [] }
     requires order { BodyInOrder (length set.old.atoms) (length set.old.membranes) (length set.old.parts) (length set.old.integers) 0 code.now }

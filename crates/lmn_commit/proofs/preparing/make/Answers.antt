@@ -64,6 +64,6 @@ returns-in-CopyRules-clause-ok g c = on_ok_weaker c.reserve-in-CopyRules.result
 pub returns-in_default : goal.returns-in_default
 returns-in_default g c = record {
   ok = nothing_made g.S.LinkStore.atom_id g.S.LinkStore.mem_id (g.S.LinkStore.heap c.args.store.now) c.args.set.now (take c.args.at c.args.code.now) c.args.instr.now c.requires.held (length c.args.set.now.integers) (length c.args.set.now.copies) c.requires.reads
-      (record { no_atom = c.in_default.not-NewAtom; no_integer = c.in_default.not-NewInt; no_mem = c.in_default.not-NewMem; no_copy = c.in_default.not-CopyGround; no_rule = c.in_default.not-LoadRule; no_rules = c.in_default.not-CopyRules });
+      (record { no_atom = c.in_default.not-NewAtom; no_integer = c.in_default.not-NewInt; no_mem = c.in_default.not-NewMem; no_copy = c.in_default.not-CopyGround; no_rule = c.in_default.not-LoadRule; no_rules = c.in_default.not-CopyRules; no_rest = c.in_default.not-CopyCells });
   makes = makes_nothing (g.S.LinkStore.heap c.args.store.now);
 }

@@ -1,8 +1,10 @@
-use Rattle.std.proofs.Common.{◌+◌, take, drop, subst, sym, ap, length, ◌∷◌}
+use Rattle.std.proofs.Common.{◌+◌, take, drop, subst, sym, ap, length, ◌∷◌, inl}
 use Rattle.lmn_commit.specs.Preparing.{Prepared, BodyInOrder}
 use Rattle.lmn_commit.proofs.Codes.{read_at, take_get}
 use Rattle.lmn_commit.proofs.Making.{prepared_nothing, prepared_more, in_order_next, still_copies}
 use Rattle.lmn_commit.proofs.Waiting.{makes_on}
+use Rattle.lmn_commit.proofs.Later.{apart_more, still_at_home, still_copied_rests, still_holds}
+use Rattle.lmn_commit.proofs.Rules.{itself}
 use Rattle.lmn_commit.proofs.preparing.make_all.Goals as goal
 use Rattle.lmn_base.proofs.Lists.{drop_get}
 
@@ -14,6 +16,7 @@ make-requires-clause-reads g c =
 pub loop-i-init : goal.loop-i-init
 loop-i-init g c = record {
   done = prepared_nothing g.S.LinkStore.atom_id g.S.LinkStore.mem_id (g.S.LinkStore.heap c.args.store.now) c.args.set.now c.requires.copies c.requires.held;
+  apart = record { atoms = λ j a e. inl e; membranes = λ j m e. inl e };
   order = subst (λ n. BodyInOrder (length c.args.set.now.atoms) (length c.args.set.now.membranes) (length c.args.set.now.parts) (length c.args.set.now.integers) n c.args.code.now) (sym (ap length c.requires.copies)) c.requires.order;
 }
 
@@ -26,6 +29,12 @@ make-requires-clause-unmarked g c = c.loop-i.invariant.done.makes.unmarked c.req
 pub make-requires-clause-parts : goal.make-requires-clause-parts
 make-requires-clause-parts g c = still_copies g.S.LinkStore.atom_id g.S.LinkStore.mem_id (g.S.LinkStore.heap c.args.store.now) (g.S.LinkStore.heap c.loop-i.store) c.args.set.now c.loop-i.set (take c.loop-i.i c.args.code.now)
     c.requires.valid.sound.paired c.loop-i.invariant.done c.requires.parts
+
+pub make-requires-clause-homes : goal.make-requires-clause-homes
+make-requires-clause-homes g c = still_at_home g.S.LinkStore.atom_id g.S.LinkStore.mem_id (g.S.LinkStore.heap c.args.store.now) (g.S.LinkStore.heap c.loop-i.store) c.requires.valid c.loop-i.invariant.done.makes (c.loop-i.invariant.done.makes.rest (g.S.LinkStore.heap c.args.store.now) (itself (g.S.LinkStore.heap c.args.store.now) c.requires.valid).1) c.args.set.now c.loop-i.set c.loop-i.invariant.done.grows c.loop-i.invariant.apart c.requires.parts c.requires.homes
+
+pub make-requires-clause-rest : goal.make-requires-clause-rest
+make-requires-clause-rest g c = still_copied_rests g.S.LinkStore.atom_id g.S.LinkStore.mem_id (g.S.LinkStore.heap c.args.store.now) (g.S.LinkStore.heap c.loop-i.store) c.requires.valid c.loop-i.invariant.done.makes (c.loop-i.invariant.done.makes.rest (g.S.LinkStore.heap c.args.store.now) (itself (g.S.LinkStore.heap c.args.store.now) c.requires.valid).1) c.args.set.now c.loop-i.set c.loop-i.invariant.done.grows c.loop-i.invariant.apart c.requires.parts c.requires.held c.args.code.now c.loop-i.i c.index-code-i.result (read_at c.args.code.now c.loop-i.i c.index-code-i.result c.loop-i-test.true c.index-code-i.is) c.requires.rests
 
 pub returns-in_err-make-clause-makes : goal.returns-in_err-make-clause-makes
 returns-in_err-make-clause-makes g c = makes_on (g.S.LinkStore.heap c.args.store.now) (g.S.LinkStore.heap c.loop-i.store) (g.S.LinkStore.heap c.make.new.store) c.loop-i.invariant.done.makes c.make.ensures.makes
@@ -40,6 +49,8 @@ loop-i-preserved g c =
     record {
       done = subst (λ is. Prepared g.S.LinkStore.atom_id g.S.LinkStore.mem_id (g.S.LinkStore.heap c.args.store.now) (g.S.LinkStore.heap c.make.new.store) c.args.set.now c.make.new.set is) (sym (take_get c.loop-i.i c.args.code.now c.index-code-i.result here))
           (prepared_more g.S.LinkStore.atom_id g.S.LinkStore.mem_id (g.S.LinkStore.heap c.args.store.now) (g.S.LinkStore.heap c.loop-i.store) (g.S.LinkStore.heap c.make.new.store) c.args.set.now c.loop-i.set c.make.new.set (take c.loop-i.i c.args.code.now) c.index-code-i.result (length c.loop-i.set.integers)
-          c.loop-i.invariant.done made c.make.ensures.makes order.0);
+          c.loop-i.invariant.done made c.make.ensures.makes
+          (still_holds g.S.LinkStore.atom_id g.S.LinkStore.mem_id (g.S.LinkStore.heap c.args.store.now) (g.S.LinkStore.heap c.loop-i.store) c.requires.valid c.loop-i.invariant.done.makes (c.loop-i.invariant.done.makes.rest (g.S.LinkStore.heap c.args.store.now) (itself (g.S.LinkStore.heap c.args.store.now) c.requires.valid).1) c.args.set.now c.loop-i.set c.loop-i.invariant.done.grows c.loop-i.invariant.apart c.requires.parts c.requires.held c.args.code.now c.loop-i.i c.index-code-i.result here c.requires.rests) order.0);
+      apart = apart_more g.S.LinkStore.atom_id g.S.LinkStore.mem_id (g.S.LinkStore.heap c.args.store.now) (g.S.LinkStore.heap c.loop-i.store) c.requires.valid c.loop-i.invariant.done.makes (c.loop-i.invariant.done.makes.rest (g.S.LinkStore.heap c.args.store.now) (itself (g.S.LinkStore.heap c.args.store.now) c.requires.valid).1) c.args.set.now c.loop-i.set c.loop-i.invariant.done.grows c.loop-i.invariant.apart c.requires.parts c.make.new.set made.new_atoms made.new_membranes;
       order = in_order_next g.S.LinkStore.atom_id g.S.LinkStore.mem_id c.loop-i.set c.make.new.set c.index-code-i.result (drop (c.loop-i.i + 1) c.args.code.now) made.atoms made.membranes made.grows.parts made.grows.integers made.copies order;
     }
