@@ -1,11 +1,11 @@
 -- What is in registers, or in a part in registers, and stands in a membrane: while its own marks are set.
 use Rattle.std.proofs.Common.{◌≡◌, ◌<◌, ◌≤◌, ℕ, ◌+◌, List, [], ◌∷◌, ◌++◌, length, map, Some, None, IsSome, refl, sym, ap, subst, ◌∙◌, inl, inr, arith}
-use Rattle.std.specs.Prelude.{◌⊎◌, ◌↔◌, slice_get}
+use Rattle.std.specs.Prelude.{◌↔◌, slice_get}
 use Rattle.lmn_base.specs.Graphs.{AtomMap, Port, Reached}
 use Rattle.lmn_base.specs.Lists.{In}
 use Rattle.lmn_base.proofs.Lists.{get_below, in_either}
 use Rattle.lmn_base.proofs.Numbers.{same_or_not}
-use Rattle.lmn_heap.specs.Heap.{Heap, IsAtom, IsMem, marked, arity_of, home_of, link_of, port_id, PortsUnmarked, Unmarked}
+use Rattle.lmn_heap.specs.Heap.{Heap, IsAtom, IsMem, marked, arity_of, home_of, port_id, PortsUnmarked}
 use Rattle.lmn_heap.specs.Graphs.{atom_map}
 use Rattle.lmn_heap.proofs.ListLemmas.{in_left, in_right}
 use Rattle.lmn_parts.specs.Walks.{IsPartInDepth}
@@ -15,7 +15,6 @@ use Rattle.lmn_ground.proofs.GroundLaws.{part_atoms}
 use Rattle.lmn_ground.proofs.CopyLaws.{member as in_handles}
 use Rattle.lmn_registers.specs.declared.registers.SetRegisters.{SetRegisters}
 use Rattle.lmn_commit.specs.OwnMarks.{own_painted, AreWholeParts, HasOwnMarks, IsInPartInside, IsOneInside, IsTakenInside}
-use Rattle.lmn_commit.specs.Registers.{AreAtomHandles}
 use Rattle.lmn_commit.proofs.Owning.{all_at, of_handles, own_append, same_graph, arity_same, there_painted, back_painted, mem_painted, clean_painted, marked_more}
 
 -- one of the first n of these atoms

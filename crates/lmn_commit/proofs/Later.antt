@@ -1,12 +1,11 @@
 -- The rest of a membrane besides registers is the same when more is made and is in registers.
 use Rattle.std.proofs.Common.{◌≡◌, ℕ, Bool, true, false, List, [], ◌∷◌, ◌++◌, map, Option, Some, None, IsSome, refl, sym, ap, subst, ◌∙◌, inl, inr}
 use Rattle.std.specs.Option.{option_map, option_and_then}
-use Rattle.std.specs.Prelude.{◌⊎◌, ◌↔◌, not, slice_get, slice_index_or}
+use Rattle.std.specs.Prelude.{◌⊎◌, not, slice_get, slice_index_or}
 use Rattle.lmn_base.specs.Lists.{In}
 use Rattle.lmn_base.proofs.Lists.{in_either}
-use Rattle.lmn_heap.specs.Heap.{Heap, HeapAtom, HeapMem, Place, top, within, waiting, gone, IsAtom, IsMem, mem_with_spare, mem_unless_waiting, atoms_by, mems_by, atoms_in, mems_in, partners_of, link_of, home_by, home_of, port_id, discarded}
-use Rattle.lmn_heap.specs.Graphs.{atom_map}
-use Rattle.lmn_heap.specs.Sound.{Forest, bare, mem, flat, Forms, Listed, Paired, Valid}
+use Rattle.lmn_heap.specs.Heap.{Heap, HeapAtom, HeapMem, Place, top, within, waiting, gone, IsAtom, IsMem, mem_with_spare, mem_unless_waiting, atoms_by, mems_by, atoms_in, mems_in, partners_of, home_by, port_id, discarded}
+use Rattle.lmn_heap.specs.Sound.{Forest, bare, mem, flat, Forms, Listed, Valid}
 use Rattle.lmn_heap.proofs.Groves.{forms_frame}
 use Rattle.lmn_parts.specs.Rests.{keep, atoms_of_all, IsRest, NoneLeaves}
 use Rattle.lmn_parts.specs.Walks.{is_in}
@@ -14,11 +13,10 @@ use Rattle.lmn_ground.proofs.CopyLaws.{member as in_handles}
 use Rattle.lmn_ground.proofs.DropLaws.{is_out, out_is}
 use Rattle.lmn_ground.proofs.RestLaws.{keep_in, all_in}
 use Rattle.lmn_instr.specs.declared.instr.Instr.{Instr}
-use Rattle.lmn_instr.specs.declared.instr.Instr.TheVariants.{CopyCells}
 use Rattle.lmn_body.specs.Running.{Registers}
 use Rattle.lmn_body.specs.Stopping.{SameButSpares}
 use Rattle.lmn_registers.specs.declared.registers.SetRegisters.{SetRegisters}
-use Rattle.lmn_commit.specs.Registers.{AreHeld, Grows, HasRests, IsBeside, IsInParts, IsRestBeside}
+use Rattle.lmn_commit.specs.Registers.{AreHeld, Grows, HasRests, IsInParts, IsRestBeside}
 use Rattle.lmn_commit.specs.Preparing.{AreAtHome, CanCopy, CanCopyRest, CanCopyRests, HoldsCopied, OnlyMakes}
 use Rattle.lmn_commit.proofs.Owning.{of_handles, keep_same}
 use Rattle.lmn_commit.proofs.RestOf.{rest_beside}
@@ -208,6 +206,8 @@ module _ {A M : Type 0} (atom : A → ℕ) (membrane : M → ℕ) (h s : Heap) (
   pub still_at_home : AreAtHome atom h g.parts → AreAtHome atom s k.parts
   still_at_home homes = λ j p e. (
       let at : slice_get g.parts j ≡ Some p = subst (λ ps. slice_get ps j ≡ Some p) grows.parts e in
-      let m = homes j p at in
-      (m.0, λ a r. (let w = reached h s valid.sound.paired makes (port_id atom p) (can j p at) a r in
-          ap (λ (o : Option HeapAtom). option_and_then (λ x. home_by x.place) o) (makes.kept a w.1) ∙ m.1 a w.0)))
+      let m = homes j p at in (
+        m.0,
+        λ a r. (let w = reached h s valid.sound.paired makes (port_id atom p) (can j p at) a r in
+            ap (λ (o : Option HeapAtom). option_and_then (λ x. home_by x.place) o) (makes.kept a w.1) ∙ m.1 a w.0),
+      ))

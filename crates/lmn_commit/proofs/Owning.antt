@@ -184,4 +184,3 @@ pub test_same : (a b : Bool) → (a ≡ true → b ≡ true) → (b ≡ true →
 test_same true b f g = sym (f refl)
 test_same false true f g = g refl
 test_same false false f g = refl
-

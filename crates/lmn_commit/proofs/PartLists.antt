@@ -1,11 +1,11 @@
 -- The atoms of parts in a valid heap, as a list.
 use Rattle.std.proofs.Common.{ℕ, zero, suc, ◌≡◌, ◌≢◌, ◌==◌, ◌<◌, ◌≤◌, ◌⊎◌, Bool, true, false, cond, List, [], ◌∷◌, ◌++◌, length, Option, Some, None, IsSome, refl, sym, ap, subst, ◌∙◌, inl, inr, arith}
 use Rattle.std.proofs.lemmas.Bool.{cases_eq, eq-eqb}
-use Rattle.std.specs.Option.{option_map, option_and_then}
+use Rattle.std.specs.Option.{option_and_then}
 use Rattle.std.specs.Prelude.{◌↔◌, slice_get, slice_index_or}
 use Rattle.lmn_base.specs.Graphs.{Reached, at_root, across}
 use Rattle.lmn_base.proofs.Lists.{in_either}
-use Rattle.lmn_heap.specs.Heap.{Heap, HeapAtom, HeapMem, within, home_by, IsAtom, IsMem, arity_of, link_of, partners_of, atoms_by, atoms_in, port_id}
+use Rattle.lmn_heap.specs.Heap.{Heap, HeapAtom, HeapMem, home_by, IsAtom, arity_of, link_of, partners_of, atoms_by, atoms_in, port_id}
 use Rattle.lmn_heap.specs.Graphs.{atom_map}
 use Rattle.lmn_heap.specs.Lists.{Distinct, without}
 use Rattle.lmn_heap.specs.Sound.{Valid, flat}
@@ -200,11 +200,13 @@ parts_told atom h v [] = ([], λ a. (λ i. absurd i, λ w. absurd (none w.0 w.1 
     none (suc k) p e = cc
 parts_told {A} atom h v (p ∷ ps) =
     let one = part_told h v (port_id atom p) in
-    let more = parts_told atom h v ps in
-    (one.0 ++ more.0, λ a. (
-      λ i. elim (in_either a one.0 more.0 i) [ inl k ↦ (0, p, refl, (one.1 a).0 k) | inr k ↦ (let w = (more.1 a).0 k in (suc w.0, w.1, w.2, w.3)) ],
-      λ w. by one.0 more.0 a (one.1 a).1 (more.1 a).1 w.0 w.1 w.2 w.3,
-    ))
+    let more = parts_told atom h v ps in (
+      one.0 ++ more.0,
+      λ a. (
+        λ i. elim (in_either a one.0 more.0 i) [ inl k ↦ (0, p, refl, (one.1 a).0 k) | inr k ↦ (let w = (more.1 a).0 k in (suc w.0, w.1, w.2, w.3)) ],
+        λ w. by one.0 more.0 a (one.1 a).1 (more.1 a).1 w.0 w.1 w.2 w.3,
+      ),
+    )
   where
     by : (xs ys : List ℕ) (a : ℕ) → (Reached (atom_map h) (port_id atom p) a → In a xs) → (IsInParts atom h ps a → In a ys) → (k : ℕ) (q : A × ℕ) → slice_get (p ∷ ps) k ≡ Some q → Reached (atom_map h) (port_id atom q) a → In a (xs ++ ys)
     by xs ys a first later zero q e r = let same : p ≡ q = cc in in_left a xs ys (first (subst (λ z. Reached (atom_map h) (port_id atom z) a) (sym same) r))

@@ -1,33 +1,32 @@
 -- A rest that is copied while what is in registers is marked.
-use Rattle.std.proofs.Common.{◌≡◌, ◌<◌, ◌≤◌, ◌+◌, ℕ, zero, suc, Bool, true, false, List, [], ◌∷◌, ◌++◌, map, length, Option, Some, None, IsSome, Result, Ok, Err, refl, sym, ap, subst, ◌∙◌, inl, inr, arith}
+use Rattle.std.proofs.Common.{◌≡◌, ◌≤◌, ◌+◌, ℕ, zero, suc, Bool, true, List, [], ◌∷◌, ◌++◌, map, length, Option, Some, None, IsSome, Result, Ok, Err, refl, sym, ap, subst, ◌∙◌, inl, inr, arith}
 use Rattle.std.proofs.lemmas.Bool.Decides.{Decides-eqb}
 use Rattle.std.proofs.lemmas.List.{get_or-set_same}
 use Rattle.std.proofs.lemmas.Result.{on_ok_weaker}
 use Rattle.std.specs.Option.{option_map, option_and_then}
-use Rattle.std.specs.Prelude.{◌⊎◌, ◌↔◌, ◌==◌, not, slice_get, slice_index_or, OnOk, OnErr}
+use Rattle.std.specs.Prelude.{◌↔◌, ◌==◌, not, slice_get, slice_index_or, OnOk, OnErr}
 use Rattle.lmn_base.specs.Graphs.{AtomMap, Reached, at_root}
 use Rattle.lmn_base.specs.Lists.{In}
 use Rattle.lmn_base.proofs.Lists.{in_either}
-use Rattle.lmn_heap.specs.Heap.{Heap, HeapAtom, HeapMem, within, IsAtom, IsMem, Distinct, home_by, marks_of, partners_of, mark_of, own_mark, arity_of, home_of, link_of, atoms_in, mems_in, rules_in, port_id, PortsUnmarked, Unmarked}
-use Rattle.lmn_heap.specs.Graphs.{atom_map}
+use Rattle.lmn_heap.specs.Heap.{Heap, HeapAtom, within, IsAtom, IsMem, Distinct, home_by, marks_of, partners_of, mark_of, own_mark, arity_of, home_of, atoms_in, mems_in, rules_in, port_id, PortsUnmarked, Unmarked}
 use Rattle.lmn_heap.specs.Sound.{Forms, Sound, flat}
 use Rattle.lmn_heap.proofs.Common.{decide_in}
 use Rattle.lmn_heap.proofs.Groves.{forms_frame, forms_one}
 use Rattle.lmn_parts.specs.Copies.{AreNew, made_like}
-use Rattle.lmn_parts.specs.Rests.{AreRoomsFor, keep, atoms_of_all, IsRest, NoneLeaves, RestCopied, RestRemains, made_roomy, rest_copied}
+use Rattle.lmn_parts.specs.Rests.{AreRoomsFor, keep, atoms_of_all, NoneLeaves, RestCopied, RestRemains, made_roomy, rest_copied}
 use Rattle.lmn_parts.specs.Walks.{is_in}
 use Rattle.lmn_ground.specs.Marks.{paint_at}
 use Rattle.lmn_ground.specs.Rests.{AreMembranes, IsLeft, own_marked}
-use Rattle.lmn_ground.proofs.RestLaws.{keep_in, all_in, atoms_once}
+use Rattle.lmn_ground.proofs.RestLaws.{all_in, atoms_once}
 use Rattle.lmn_ground.proofs.PaintedAt.{painted_none}
 use Rattle.lmn_registers.specs.declared.registers.SetRegisters.{SetRegisters}
-use Rattle.lmn_commit.specs.OwnMarks.{own_place, own_painted, AreWholeParts, HasOwnMarks, IsInPartInside, IsTakenInside}
-use Rattle.lmn_commit.specs.Registers.{AreAtomHandles, AreHeld, IsBeside, IsInParts, IsRestBeside}
+use Rattle.lmn_commit.specs.OwnMarks.{own_place, own_painted, AreWholeParts, HasOwnMarks, IsTakenInside}
+use Rattle.lmn_commit.specs.Registers.{AreAtomHandles, AreHeld, IsBeside, IsRestBeside}
 use Rattle.lmn_commit.specs.Preparing.{AreAtHome, CanCopy, HasClosedRest, OnlyMakes, RestIsMade}
 use Rattle.lmn_commit.proofs.Inside.{whole_same}
 use Rattle.lmn_commit.proofs.Later.{rest_atom}
 use Rattle.lmn_commit.proofs.OwnCopies.{copied_own, made_own, roomy_own}
-use Rattle.lmn_commit.proofs.Owning.{all_at, are_membranes, arity_painted, arity_same, clean_painted, in_all, keep_same, link_same, marked_is, marked_more, mem_painted, none, off_all, of_handles, port_painted, same_graph, test_same, there_painted}
+use Rattle.lmn_commit.proofs.Owning.{all_at, are_membranes, arity_painted, arity_same, clean_painted, in_all, keep_same, link_same, marked_is, marked_more, mem_painted, none, off_all, port_painted, same_graph, test_same, there_painted}
 use Rattle.lmn_commit.proofs.RestMaking.{makes_remains, makes_rest, remains_keeps_mem, rest_keeps_mem, rest_keeps_room, rest_keeps_rules}
 use Rattle.lmn_commit.proofs.RestOf.{kept_has}
 use Rattle.lmn_commit.proofs.Waiting.{none_there, reached_later, still_copied}

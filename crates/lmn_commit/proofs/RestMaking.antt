@@ -1,13 +1,12 @@
 -- What is made as the copy of a rest waits, and can be given up.
-use Rattle.std.proofs.Common.{◌≡◌, ◌≢◌, ◌≤◌, ◌+◌, ℕ, zero, suc, List, [], ◌∷◌, ◌++◌, map, length, Option, Some, None, IsSome, refl, sym, ap, subst, ◌∙◌, inl, inr, arith}
+use Rattle.std.proofs.Common.{◌≡◌, ◌≤◌, ℕ, zero, suc, List, [], ◌∷◌, ◌++◌, map, Option, Some, None, IsSome, refl, sym, ap, subst, ◌∙◌, inl, inr, arith}
 use Rattle.std.proofs.lemmas.Bool.{cases_eq}
 use Rattle.std.specs.Option.{option_map}
 use Rattle.std.specs.Prelude.{slice_index_or}
 use Rattle.lmn_base.specs.declared.functor.Functor.{Functor}
-use Rattle.lmn_base.specs.Lists.{In}
 use Rattle.lmn_heap.specs.Heap.{Heap, HeapAtom, HeapMem, IsMem, Distinct, new_mem, with_link, mem_with_spare, partners_of, marks_of, mark_of, link_of, functor_of, rules_in, spare_of, spare_by, made_atom, made_mem, reserved}
 use Rattle.lmn_heap.specs.Sound.{Paired, Shaped}
-use Rattle.lmn_heap.proofs.Listing.{alter_at, alter_away}
+use Rattle.lmn_heap.proofs.Listing.{alter_away}
 use Rattle.lmn_heap.proofs.Common.{decide_in}
 use Rattle.lmn_parts.specs.Copies.{AllAtoms, AreNew, Beside, answer, made_as, made_like, ports_of}
 use Rattle.lmn_parts.specs.Rests.{AreNewMembranes, NoneLeaves, RestCopied, RestRemains, made_roomy}

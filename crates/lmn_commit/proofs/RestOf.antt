@@ -1,7 +1,7 @@
 -- A membrane of a valid heap has a rest, whatever is set apart of its atoms and membranes.
 use Rattle.std.proofs.Common.{◌≡◌, ℕ, zero, suc, Bool, true, false, List, [], ◌∷◌, ◌++◌, map, Option, Some, None, IsSome, refl, sym, ap, subst, inl, inr}
 use Rattle.std.specs.Prelude.{if◌then◌else◌, not}
-use Rattle.lmn_heap.specs.Heap.{Heap, HeapMem, Distinct, IsMem, parent_of, atoms_by, mems_by, atoms_in, mems_in}
+use Rattle.lmn_heap.specs.Heap.{Heap, HeapMem, Distinct, IsMem, atoms_by, mems_by, atoms_in, mems_in}
 use Rattle.lmn_heap.specs.Conditions.{Above}
 use Rattle.lmn_heap.specs.Sound.{Forest, bare, mem, flat, Forms, Listed, Valid}
 use Rattle.lmn_heap.proofs.Depths.{both_distinct}
@@ -150,11 +150,15 @@ rest_beside atom membrane h valid g m =
     let r = any_rest h valid m left (λ x. not (is_in (map membrane g.membranes) x)) in (
       r.0,
       r.1,
-      (left, λ a i. (
-        λ e. (let off = out_is a taken (not_true (is_in taken a) e) in record {
-          no_atom = λ k. off (in_left a (map atom g.atoms) told.0 k);
-          no_part = λ w. off (in_right a (map atom g.atoms) told.0 ((told.1 a).1 w));
-        }),
-        λ b. ap (λ t. not t) (is_out a taken (λ k. elim (in_either a (map atom g.atoms) told.0 k) [ inl j ↦ b.no_atom j | inr j ↦ b.no_part ((told.1 a).0 j) ])),
-      ), r.2),
+      (
+        left,
+        λ a i. (
+          λ e. (let off = out_is a taken (not_true (is_in taken a) e) in record {
+            no_atom = λ k. off (in_left a (map atom g.atoms) told.0 k);
+            no_part = λ w. off (in_right a (map atom g.atoms) told.0 ((told.1 a).1 w));
+          }),
+          λ b. ap (λ t. not t) (is_out a taken (λ k. elim (in_either a (map atom g.atoms) told.0 k) [ inl j ↦ b.no_atom j | inr j ↦ b.no_part ((told.1 a).0 j) ])),
+        ),
+        r.2,
+      ),
     )

@@ -74,12 +74,7 @@ fn paint_inside<S: LinkStore>(store: &mut S, part: (S::Atom, u8), m: S::Mem, mar
 }
 
 /// Sets the own marks of the atoms of those parts whose roots stand in a membrane.
-fn paint_parts<S: LinkStore>(
-    store: &mut S,
-    parts: &Stack<(S::Atom, u8)>,
-    m: S::Mem,
-    mark: u64,
-)
+fn paint_parts<S: LinkStore>(store: &mut S, parts: &Stack<(S::Atom, u8)>, m: S::Mem, mark: u64)
     requires marked { HasOwnMarks (S.heap store.old) }
     requires parts { AreWholeParts S.atom_id (S.heap store.old) parts.now }
     requires membrane { IsMem (S.heap store.old) (S.mem_id m) }

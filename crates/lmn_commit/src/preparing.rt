@@ -8,8 +8,8 @@ ghost use Rattle.lmn_commit.specs.Registers.{AgreesWithCopies, AreHeld};
 ghost use Rattle.lmn_commit.specs.Preparing.{AllUse, AreAtHome, AtomIsMade, CanBeCopied, CanCopy, CanCopyRest, CanCopyRests, CopyIsMade, HasClosedRest, RestIsMade, MembraneIsMade, OnlyMakes, RoomIsMade, BodyInOrder, IsMade, Prepared, UsesInOrder, Uses, needed, needed_by};
 ghost use Rattle.lmn_registers.specs.declared.stack.TheConstants.{ROOM};
 
-use lmn_base::{Functor, Label, NoMemory};
 use crate::marking::mark_taken;
+use lmn_base::{Functor, Label, NoMemory};
 use lmn_ground::{copy_cells, copy_counted};
 use lmn_instr::Instr;
 use lmn_registers::{PartCopy, SetRegisters};

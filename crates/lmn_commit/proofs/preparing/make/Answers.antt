@@ -1,11 +1,11 @@
-use Rattle.std.proofs.Common.{◌+◌, take, Some, length, ap, w64, refl, sym, subst, ◌∙◌}
+use Rattle.std.proofs.Common.{◌≡◌, ◌+◌, take, Some, length, ap, w64, refl, sym, subst, ◌∙◌}
 use Rattle.std.proofs.lemmas.Result.{on_ok_weaker}
 use Rattle.std.proofs.lemmas.Int.{to_z-of_z}
 use Rattle.lmn_body.specs.Running.{integer_functor}
 use Rattle.lmn_instr.specs.declared.instr.Instr.TheVariants.{LoadRule, CopyRules}
-use Rattle.lmn_commit.specs.Preparing.{AllUse, UsesInOrder}
+use Rattle.lmn_commit.specs.Preparing.{AllUse, HasClosedRest, UsesInOrder}
 use Rattle.lmn_commit.proofs.Codes.{take_get, use_one_more}
-use Rattle.lmn_commit.proofs.Making.{new_atom_made, new_int_made, new_mem_made, copy_made, load_rule_made, copy_rules_made, nothing_made}
+use Rattle.lmn_commit.proofs.Making.{new_atom_made, new_int_made, new_mem_made, copy_made, load_rule_made, copy_rules_made, rest_made, nothing_made}
 use Rattle.lmn_commit.proofs.Waiting.{makes_nothing}
 use Rattle.lmn_commit.proofs.preparing.make.Goals as goal
 use Rattle.lmn_base.proofs.Lists.{get_below}
@@ -60,6 +60,21 @@ pub returns-in-CopyRules-clause-ok : goal.returns-in-CopyRules-clause-ok
 returns-in-CopyRules-clause-ok g c = on_ok_weaker c.reserve-in-CopyRules.result
     (λ made. copy_rules_made g.S.LinkStore.atom_id g.S.LinkStore.mem_id (g.S.LinkStore.heap c.args.store.now) (g.S.LinkStore.heap c.reserve-in-CopyRules.new.store) c.args.set.now (take c.args.at c.args.code.now) (take (c.args.at + 1) c.args.code.now) c.args.instr.now
     c.at-to-in-CopyRules.result c.in-CopyRules.from c.in-CopyRules.to c.requires.held made (take_get c.args.at c.args.code.now c.args.instr.now c.requires.at) c.in-CopyRules.is c.at-to-in-CopyRules.ensures) c.reserve-in-CopyRules.ensures.ok
+
+pub copy_rest-requires-clause-membrane : goal.copy_rest-requires-clause-membrane
+copy_rest-requires-clause-membrane g c = c.requires.held.membranes c.in-CopyCells.from c.at-from.result c.at-from.ensures
+
+pub copy_rest-requires-clause-closed : goal.copy_rest-requires-clause-closed
+copy_rest-requires-clause-closed g c =
+    let r = c.requires.rest c.in-CopyCells.from c.in-CopyCells.to c.in-CopyCells.is in
+    let same : Some r.0 ≡ Some c.at-from.result = sym r.1 ∙ c.at-from.ensures in
+    let one : r.0 ≡ c.at-from.result = cc in
+    subst (λ x. HasClosedRest g.S.LinkStore.atom_id g.S.LinkStore.mem_id (g.S.LinkStore.heap c.args.store.now) c.args.set.now (g.S.LinkStore.mem_id x)) one r.2
+
+pub returns-in-CopyCells-clause-ok : goal.returns-in-CopyCells-clause-ok
+returns-in-CopyCells-clause-ok g c = on_ok_weaker c.copy_rest.result
+    (λ made. rest_made g.S.LinkStore.atom_id g.S.LinkStore.mem_id (g.S.LinkStore.heap c.args.store.now) (g.S.LinkStore.heap c.copy_rest.new.store) c.args.set.now (take c.args.at c.args.code.now) c.args.instr.now
+    c.in-CopyCells.from c.in-CopyCells.to c.at-from.result c.requires.held c.copy_rest.ensures.makes c.in-CopyCells.is c.at-from.ensures made) c.copy_rest.ensures.ok
 
 pub returns-in_default : goal.returns-in_default
 returns-in_default g c = record {
