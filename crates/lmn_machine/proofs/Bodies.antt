@@ -6,13 +6,17 @@ use Rattle.lmn_heap.specs.Heap.{Heap, HeapAtom, IsAtom, partners_of, arity_of, p
 use Rattle.lmn_heap.specs.Sound.{Sound}
 use Rattle.lmn_registers.specs.declared.registers.SetRegisters.{SetRegisters}
 use Rattle.lmn_commit.specs.Registers as body
-use Rattle.lmn_commit.specs.Preparing.{CanBeCopied, CanCopy}
+use Rattle.lmn_commit.specs.Preparing.{AreAtHome, CanBeCopied, CanCopy}
 use Rattle.lmn_machine.specs.Searching.{AreHeldWhole, IsHeldPart}
 
 module _ {A M : Type 0} (atom : A → ℕ) (membrane : M → ℕ) (h : Heap) (g : SetRegisters A M) (held : AreHeldWhole atom membrane h g) where
   -- the handles are held
   pub held_for_body : body.AreHeld atom membrane h g
   held_for_body = record { atoms = held.atoms; membranes = held.membranes; parts = held.parts }
+
+  -- each part stands in one membrane
+  pub parts_home : AreAtHome atom h g.parts
+  parts_home = λ k p e. (let w = (held.whole k p e).whole in (w.0, w.1.at_home))
 
   some_functor : (o : Option HeapAtom) → IsSome o → (f : Functor) × (option_map (λ x. x.functor) o ≡ Some f)
   some_functor None e = absurd (cc)
