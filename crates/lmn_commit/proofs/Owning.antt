@@ -142,29 +142,6 @@ module _ (h : Heap) (z : Unmarked h) (v : ℕ → ℕ) (s : Heap) (e : s ≡ own
   pub marked_more : (xs : List ℕ) (m : ℕ) (t : Heap) → t ≡ own_marked m xs s → t ≡ own_painted h (all_at xs m v)
   marked_more xs m t f = f ∙ ap (λ (k : Heap). own_marked m xs k) e ∙ own_all h xs m v z
 
--- A heap now that is s but for further own marks.
-module _ (h : Heap) (z : Unmarked h) (v : ℕ → ℕ) (s : Heap) (e : s ≡ own_painted h v) (all : List ℕ) (m : ℕ) (now : Heap) (f : now ≡ own_marked m all s) where
-  painted_now : now ≡ own_painted h (all_at all m v)
-  painted_now = marked_more h z v s e all m now f
-
-  pub now_graph : atom_map now ≡ atom_map s
-  now_graph = same_graph h z (all_at all m v) now painted_now ∙ sym (same_graph h z v s e)
-
-  pub now_atom : (a : ℕ) → IsAtom s a → IsAtom now a
-  now_atom a i = there_painted h z (all_at all m v) now painted_now a (back_painted h z v s e a i)
-
-  now_arity : (a : ℕ) → arity_of now a ≡ arity_of s a
-  now_arity a = arity_same h z (all_at all m v) now painted_now a ∙ sym (arity_same h z v s e a)
-
-  pub now_port : (a i : ℕ) → i < arity_of s a → i < arity_of now a
-  now_port a i l = subst (λ n. i < n) (sym (now_arity a)) l
-
-  pub now_clean : PortsUnmarked now
-  now_clean = clean_painted h z (all_at all m v) now painted_now
-
-  pub now_full : ((a i : ℕ) → i < arity_of s a → IsSome (link_of s a i)) → (a i : ℕ) → i < arity_of now a → IsSome (link_of now a i)
-  now_full full a i l = subst IsSome (ap (λ (n : AtomMap). n.partner (a, i)) (sym now_graph)) (full a i (subst (λ n. i < n) (now_arity a) l))
-
 -- handles of membranes name membranes
 pub are_membranes : {M : Type 0} (membrane : M → ℕ) (s : Heap) (ms : List M) → ((k : ℕ) (m : M) → slice_get ms k ≡ Some m → IsMem s (membrane m)) → AreMembranes s (map membrane ms)
 are_membranes membrane s [] f = tt

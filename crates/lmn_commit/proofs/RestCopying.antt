@@ -29,7 +29,7 @@ use Rattle.lmn_commit.proofs.OwnCopies.{copied_own, made_own, roomy_own}
 use Rattle.lmn_commit.proofs.Owning.{all_at, are_membranes, arity_painted, arity_same, clean_painted, in_all, keep_same, link_same, marked_is, marked_more, mem_painted, none, off_all, port_painted, same_graph, test_same, there_painted}
 use Rattle.lmn_commit.proofs.RestMaking.{makes_remains, makes_rest, remains_keeps_mem, rest_keeps_mem, rest_keeps_room, rest_keeps_rules}
 use Rattle.lmn_commit.proofs.RestOf.{kept_has}
-use Rattle.lmn_commit.proofs.Waiting.{none_there, reached_later, still_copied}
+use Rattle.lmn_commit.proofs.Waiting.{makes_nothing, none_there, reached_later, still_copied}
 
 -- The heap s, in which a rest of the membrane m is to be copied, and t, which is s with marks: all of the atoms of the list all.
 module _ {A M : Type 0} (atom : A → ℕ) (membrane : M → ℕ) (s : Heap) (sound : Sound s) (z : Unmarked s) (g : SetRegisters A M) (held : AreHeld atom membrane s g) (can : CanCopy {A = A} {M = M} atom s g) (homes : AreAtHome atom s g.parts)
@@ -37,8 +37,8 @@ module _ {A M : Type 0} (atom : A → ℕ) (membrane : M → ℕ) (s : Heap) (so
   abbrev v : ℕ → ℕ
   v = all_at all 1 none
 
-  p : t ≡ own_painted s v
-  p = e ∙ marked_is s all 1 z
+  pub is_painted : t ≡ own_painted s v
+  is_painted = e ∙ marked_is s all 1 z
 
   -- what is marked stands in the membrane
   at_home : (a : ℕ) → In a all → home_of s a ≡ Some m
@@ -84,7 +84,7 @@ module _ {A M : Type 0} (atom : A → ℕ) (membrane : M → ℕ) (s : Heap) (so
       by (Some x) q = refl
 
   own_is : (a : ℕ) → IsAtom s a → own_mark t a ≡ v a
-  own_is a there = ap (λ (h : Heap). own_mark h a) p ∙ ap (λ (n : ℕ). mark_of (own_painted s v) a n) (arity_painted s v a) ∙ by (v a) (s.atoms a) there (sound.shaped.marks a there) (z a (arity_of s a))
+  own_is a there = ap (λ (h : Heap). own_mark h a) is_painted ∙ ap (λ (n : ℕ). mark_of (own_painted s v) a n) (arity_painted s v a) ∙ by (v a) (s.atoms a) there (sound.shaped.marks a there) (z a (arity_of s a))
     where
       by : (w : ℕ) (o : Option HeapAtom) → IsSome o → length (marks_of o) ≡ length (partners_of o) + 1 → slice_index_or (marks_of o) (length (partners_of o)) 0 ≡ 0 → slice_index_or (marks_of (paint_at own_place w o)) (length (partners_of o)) 0 ≡ w
       by w None q l k = absurd (cc)
@@ -105,20 +105,72 @@ module _ {A M : Type 0} (atom : A → ℕ) (membrane : M → ℕ) (s : Heap) (so
   )
 
   lists_painted : (n : ℕ) → (atoms_in t n ≡ atoms_in s n) × (mems_in t n ≡ mems_in s n)
-  lists_painted n = (ap (λ (h : Heap). atoms_in h n) p, ap (λ (h : Heap). mems_in h n) p)
+  lists_painted n = (ap (λ (h : Heap). atoms_in h n) is_painted, ap (λ (h : Heap). mems_in h n) is_painted)
 
   all_painted : (ms : List ℕ) → atoms_of_all s ms ≡ atoms_of_all t ms
   all_painted [] = refl
   all_painted (n ∷ ms) = ap (λ zs. zs ++ atoms_of_all s ms) (sym (lists_painted n).0) ∙ ap (λ zs. atoms_in t n ++ zs) (all_painted ms)
 
   pub asked_mem : (n : ℕ) → IsMem s n → IsMem t n
-  asked_mem n i = mem_painted s z v t p n i
+  asked_mem n i = mem_painted s z v t is_painted n i
 
   pub asked_out : (out : List M) → out ≡ g.membranes → AreMembranes t (map membrane out)
   asked_out out same = are_membranes membrane t out (λ k n u. asked_mem (membrane n) (held.membranes k n (subst (λ ms. slice_get ms k ≡ Some n) same u)))
 
   pub asked_clean : PortsUnmarked t
-  asked_clean = clean_painted s z v t p
+  asked_clean = clean_painted s z v t is_painted
+
+  -- A later heap u: without the marks of t it is r, which is s and what was made since.
+  pub record GoesOn (u r : Heap) : Type 0 where
+    pub is : u ≡ own_painted r v
+    pub makes : OnlyMakes s r
+    pub keeps : (n : ℕ) → IsMem s n → IsMem r n
+
+  -- so it is where nothing was made
+  pub goes_on : GoesOn t s
+  goes_on = record { is = is_painted; makes = makes_nothing s; keeps = λ n i. i }
+
+  module _ (u r : Heap) (c : GoesOn u r) where
+    r_unmarked : Unmarked r
+    r_unmarked = c.makes.unmarked z
+
+    pub again_marked : HasOwnMarks u
+    again_marked = (r, v, r_unmarked, c.is)
+
+    r_atom : (a : ℕ) → IsAtom s a → IsAtom r a
+    r_atom a i = subst (λ (o : Option HeapAtom). IsSome o) (sym (c.makes.kept a i)) i
+
+    pub again_held : AreAtomHandles atom u g.atoms
+    again_held = λ k a q. there_painted r r_unmarked v u c.is (atom a) (r_atom (atom a) (held.atoms k a q))
+
+    pub again_parts : AreWholeParts atom u g.parts
+    again_parts = λ k q i. (
+        let still = still_copied s r sound.paired c.makes (port_id atom q) (can k q i) in (
+          there_painted r r_unmarked v u c.is (atom q.0) still.atom,
+          port_painted r r_unmarked v u c.is (atom q.0) q.1 still.port,
+          whole_same r u (same_graph r r_unmarked v u c.is) (arity_same r r_unmarked v u c.is) (port_id atom q) still.whole,
+        ))
+
+    pub again_mem : (n : ℕ) → IsMem s n → IsMem u n
+    again_mem n i = mem_painted r r_unmarked v u c.is n (c.keeps n i)
+
+    home_again : (a : ℕ) → IsAtom s a → home_of u a ≡ home_of s a
+    home_again a i = ap (λ (n : AtomMap). n.home a) (same_graph r r_unmarked v u c.is) ∙ ap (λ (o : Option HeapAtom). option_and_then (λ x. home_by x.place) o) (c.makes.kept a i)
+
+    -- what was marked is marked again
+    taken_again : (a : ℕ) → IsTakenInside {A = A} {M = M} atom s g m a → IsTakenInside {A = A} {M = M} atom u g m a
+    taken_again a (inl w) = inl (w.0, home_again a (marked_atom a ((told a).1 (inl w))) ∙ w.1)
+    taken_again a (inr w) =
+        let later = reached_later s r sound.paired c.makes (port_id atom w.1) (can w.0 w.1 w.2) a w.4 in
+        inr (w.0, w.1, w.2, home_again (atom w.1.0) (can w.0 w.1 w.2).atom ∙ w.3, subst (λ (n : AtomMap). Reached n (port_id atom w.1) a) (sym (same_graph r r_unmarked v u c.is)) later.0)
+
+    -- The marks are taken back.
+    module _ (again : List ℕ) (retold : (a : ℕ) → In a again ↔ IsTakenInside {A = A} {M = M} atom u g m a) (w : Heap) (f : w ≡ own_marked 0 again u) where
+      pub last_is : w ≡ r
+      last_is = marked_more r r_unmarked v u c.is again 0 w f ∙ painted_none own_place r (all_at again 0 v) (λ a. elim (decide_in a again) [
+        | inl i ↦ in_all again 0 v a i
+        | inr n ↦ off_all again 0 v a n ∙ off_mark a (λ i. n ((retold a).1 (taken_again a ((told a).0 i))))
+      ])
 
   -- the rest besides registers is the one that is told by marks
   module _ (out : List M) (same_out : out ≡ g.membranes) where
@@ -172,16 +224,10 @@ module _ {A M : Type 0} (atom : A → ℕ) (membrane : M → ℕ) (s : Heap) (so
 
       -- and no link leaves it
       pub asked_closed : (atoms membranes : List ℕ) → IsLeft t m (map membrane out) atoms membranes → NoneLeaves t atoms
-      asked_closed atoms membranes r = subst (NoneLeaves t) (sym (one_left closed.0 closed.1 atoms membranes left r)) (λ a i b j k q. closed.3 a i b j k (sym (link_same s z v t p a i) ∙ q))
-
-      -- The heap u when it is copied: with the same marks it is a heap in which more is made.
-      record Copies (u r : Heap) : Type 0 where
-        is : u ≡ own_painted r v
-        makes : OnlyMakes s r
-        keeps : (n : ℕ) → IsMem s n → IsMem r n
+      asked_closed atoms membranes r = subst (NoneLeaves t) (sym (one_left closed.0 closed.1 atoms membranes left r)) (λ a i b j k q. closed.3 a i b j k (sym (link_same s z v t is_painted a i) ∙ q))
 
       new_atom : (y : ℕ) → t.atoms y ≡ None → s.atoms y ≡ None
-      new_atom y q = by (v y) (s.atoms y) (sym (ap (λ (h : Heap). h.atoms y) p) ∙ q)
+      new_atom y q = by (v y) (s.atoms y) (sym (ap (λ (h : Heap). h.atoms y) is_painted) ∙ q)
         where
           by : (w : ℕ) (o : Option HeapAtom) → paint_at own_place w o ≡ None → o ≡ None
           by zero o f = f
@@ -194,7 +240,7 @@ module _ {A M : Type 0} (atom : A → ℕ) (membrane : M → ℕ) (s : Heap) (so
       rest_of_s : (u : Heap) (xs ms ys : List ℕ) (rooms : List (ℕ × ℕ)) → RestCopied t u xs ms ys rooms → RestCopied s (rest_copied s xs rooms ys) xs ms ys rooms
       rest_of_s u xs ms ys rooms c = record {
         new_atoms = (c.new_atoms.0, λ y i. new_atom y (c.new_atoms.1 y i));
-        new_membranes = (c.new_membranes.0, λ n i. ap (λ (h : Heap). h.mems n) (sym p) ∙ c.new_membranes.1 n i);
+        new_membranes = (c.new_membranes.0, λ n i. ap (λ (h : Heap). h.mems n) (sym is_painted) ∙ c.new_membranes.1 n i);
         long = c.long;
         roomy = rooms_for ms rooms c.roomy;
         is = refl;
@@ -203,31 +249,31 @@ module _ {A M : Type 0} (atom : A → ℕ) (membrane : M → ℕ) (s : Heap) (so
           rooms_for : (ms : List ℕ) (es : List (ℕ × ℕ)) → AreRoomsFor t ms es → AreRoomsFor s ms es
           rooms_for [] es w = w
           rooms_for (n ∷ ms) [] w = w
-          rooms_for (n ∷ ms) (e' ∷ es) w = (subst (λ (h : Heap). length (rules_in h n) ≤ e'.1) p w.0, rooms_for ms es w.1)
+          rooms_for (n ∷ ms) (e' ∷ es) w = (subst (λ (h : Heap). length (rules_in h n) ≤ e'.1) is_painted w.0, rooms_for ms es w.1)
 
-      ok_copies : (u : Heap) (xs ms ys : List ℕ) (rooms : List (ℕ × ℕ)) → IsRestBeside atom membrane s g m xs ms → NoneLeaves s xs → RestCopied t u xs ms ys rooms → Copies u (rest_copied s xs rooms ys)
+      ok_copies : (u : Heap) (xs ms ys : List ℕ) (rooms : List (ℕ × ℕ)) → IsRestBeside atom membrane s g m xs ms → NoneLeaves s xs → RestCopied t u xs ms ys rooms → GoesOn u (rest_copied s xs rooms ys)
       ok_copies u xs ms ys rooms w stays c =
           let d = rest_of_s u xs ms ys rooms c in
           let there = rest_atom s sound.listed m w.0 (λ n. not (is_in (map membrane g.membranes) n)) xs ms w.2 in
           let once : Distinct xs = atoms_once s sound m w.0 (λ n. not (is_in (map membrane g.membranes) n)) xs ms w.2 in
           record {
-            is = c.is ∙ ap (λ (h : Heap). rest_copied h xs rooms ys) p ∙ copied_own s v xs ys rooms (new_mark ys c.new_atoms);
+            is = c.is ∙ ap (λ (h : Heap). rest_copied h xs rooms ys) is_painted ∙ copied_own s v xs ys rooms (new_mark ys c.new_atoms);
             makes = makes_rest s (rest_copied s xs rooms ys) xs ms ys rooms d sound.paired sound.shaped there once stays;
             keeps = rest_keeps_mem s (rest_copied s xs rooms ys) xs ms ys rooms d sound.paired sound.shaped there once stays;
           }
 
-      err_copies : (u : Heap) (xs : List ℕ) (c : RestRemains t u xs) → Copies u (made_like (made_roomy s c.rooms) xs c.copies)
+      err_copies : (u : Heap) (xs : List ℕ) (c : RestRemains t u xs) → GoesOn u (made_like (made_roomy s c.rooms) xs c.copies)
       err_copies u xs c =
           let r = made_like (made_roomy s c.rooms) xs c.copies in
           let d : RestRemains s r xs = record {
             copies = c.copies;
             rooms = c.rooms;
             new_atoms = (c.new_atoms.0, λ y i. new_atom y (c.new_atoms.1 y i));
-            new_membranes = (c.new_membranes.0, λ n i. ap (λ (h : Heap). h.mems n) (sym p) ∙ c.new_membranes.1 n i);
+            new_membranes = (c.new_membranes.0, λ n i. ap (λ (h : Heap). h.mems n) (sym is_painted) ∙ c.new_membranes.1 n i);
             is = refl;
           } in
           record {
-            is = c.is ∙ ap (λ (h : Heap). made_like (made_roomy h c.rooms) xs c.copies) p ∙ ap (λ (h : Heap). made_like h xs c.copies) (roomy_own s v c.rooms) ∙ made_own (made_roomy s c.rooms) v xs c.copies (new_mark c.copies c.new_atoms);
+            is = c.is ∙ ap (λ (h : Heap). made_like (made_roomy h c.rooms) xs c.copies) is_painted ∙ ap (λ (h : Heap). made_like h xs c.copies) (roomy_own s v c.rooms) ∙ made_own (made_roomy s c.rooms) v xs c.copies (new_mark c.copies c.new_atoms);
             makes = makes_remains s r xs d;
             keeps = remains_keeps_mem s r xs d;
           }
@@ -236,57 +282,18 @@ module _ {A M : Type 0} (atom : A → ℕ) (membrane : M → ℕ) (s : Heap) (so
       module _ {T E : Type 0} (result : Result T E) (u : Heap)
           (ok : OnOk result ((atoms membranes : List ℕ) → IsLeft t m (map membrane out) atoms membranes → (copies : List ℕ) × (rooms : List (ℕ × ℕ)) × RestCopied t u atoms membranes copies rooms))
           (err : OnErr result ((atoms membranes : List ℕ) → IsLeft t m (map membrane out) atoms membranes → RestRemains t u atoms)) where
-        seen : (r : Heap) × Copies u r
+        pub seen : (r : Heap) × GoesOn u r
         seen = by result ok err
           where
             by : (q : Result T E) → OnOk q ((atoms membranes : List ℕ) → IsLeft t m (map membrane out) atoms membranes → (copies : List ℕ) × (rooms : List (ℕ × ℕ)) × RestCopied t u atoms membranes copies rooms)
-                → OnErr q ((atoms membranes : List ℕ) → IsLeft t m (map membrane out) atoms membranes → RestRemains t u atoms) → (r : Heap) × Copies u r
+                → OnErr q ((atoms membranes : List ℕ) → IsLeft t m (map membrane out) atoms membranes → RestRemains t u atoms) → (r : Heap) × GoesOn u r
             by (Ok x) f n = (let w = f closed.0 closed.1 left in (rest_copied s closed.0 w.1 w.0, ok_copies u closed.0 closed.1 w.0 w.1 closed.2 closed.3 w.2))
             by (Err x) f n = (let w = n closed.0 closed.1 left in (made_like (made_roomy s w.rooms) closed.0 w.copies, err_copies u closed.0 w))
 
-        r_unmarked : Unmarked seen.0
-        r_unmarked = seen.1.makes.unmarked z
-
-        pub again_marked : HasOwnMarks u
-        again_marked = (seen.0, v, r_unmarked, seen.1.is)
-
-        r_atom : (a : ℕ) → IsAtom s a → IsAtom seen.0 a
-        r_atom a i = subst (λ (o : Option HeapAtom). IsSome o) (sym (seen.1.makes.kept a i)) i
-
-        pub again_held : AreAtomHandles atom u g.atoms
-        again_held = λ k a q. there_painted seen.0 r_unmarked v u seen.1.is (atom a) (r_atom (atom a) (held.atoms k a q))
-
-        pub again_parts : AreWholeParts atom u g.parts
-        again_parts = λ k q i. (
-            let c = still_copied s seen.0 sound.paired seen.1.makes (port_id atom q) (can k q i) in (
-              there_painted seen.0 r_unmarked v u seen.1.is (atom q.0) c.atom,
-              port_painted seen.0 r_unmarked v u seen.1.is (atom q.0) q.1 c.port,
-              whole_same seen.0 u (same_graph seen.0 r_unmarked v u seen.1.is) (arity_same seen.0 r_unmarked v u seen.1.is) (port_id atom q) c.whole,
-            ))
-
-        pub again_mem : (n : ℕ) → IsMem s n → IsMem u n
-        again_mem n i = mem_painted seen.0 r_unmarked v u seen.1.is n (seen.1.keeps n i)
-
-        home_again : (a : ℕ) → IsAtom s a → home_of u a ≡ home_of s a
-        home_again a i = ap (λ (n : AtomMap). n.home a) (same_graph seen.0 r_unmarked v u seen.1.is) ∙ ap (λ (o : Option HeapAtom). option_and_then (λ x. home_by x.place) o) (seen.1.makes.kept a i)
-
-        -- what was marked is marked again
-        taken_again : (a : ℕ) → IsTakenInside {A = A} {M = M} atom s g m a → IsTakenInside {A = A} {M = M} atom u g m a
-        taken_again a (inl w) = inl (w.0, home_again a (marked_atom a ((told a).1 (inl w))) ∙ w.1)
-        taken_again a (inr w) =
-            let later = reached_later s seen.0 sound.paired seen.1.makes (port_id atom w.1) (can w.0 w.1 w.2) a w.4 in
-            inr (w.0, w.1, w.2, home_again (atom w.1.0) (can w.0 w.1 w.2).atom ∙ w.3, subst (λ (n : AtomMap). Reached n (port_id atom w.1) a) (sym (same_graph seen.0 r_unmarked v u seen.1.is)) later.0)
-
         -- The marks are taken back.
         module _ (again : List ℕ) (retold : (a : ℕ) → In a again ↔ IsTakenInside {A = A} {M = M} atom u g m a) (w : Heap) (f : w ≡ own_marked 0 again u) where
-          last_is : (r : Heap) → Copies u r → w ≡ r
-          last_is r c = marked_more r (c.makes.unmarked z) v u c.is again 0 w f ∙ painted_none own_place r (all_at again 0 v) (λ a. elim (decide_in a again) [
-            | inl i ↦ in_all again 0 v a i
-            | inr n ↦ off_all again 0 v a n ∙ off_mark a (λ i. n ((retold a).1 (taken_again a ((told a).0 i))))
-          ])
-
           pub last_makes : OnlyMakes s w
-          last_makes = subst (OnlyMakes s) (sym (last_is seen.0 seen.1)) seen.1.makes
+          last_makes = subst (OnlyMakes s) (sym (last_is u seen.0 seen.1 again retold w f)) seen.1.makes
 
           module _ (given : (atoms membranes : List ℕ) → IsLeft t m (map membrane out) atoms membranes → (copies : List ℕ) × (rooms : List (ℕ × ℕ)) × RestCopied t u atoms membranes copies rooms) where
             copied_now : (atoms membranes : List ℕ) → IsRestBeside atom membrane s g m atoms membranes → (copies : List ℕ) × (rooms : List (ℕ × ℕ)) × RestCopied s w atoms membranes copies rooms
@@ -295,7 +302,7 @@ module _ {A M : Type 0} (atom : A → ℕ) (membrane : M → ℕ) (s : Heap) (so
                 let q = given atoms membranes there in
                 let stays : NoneLeaves s atoms = subst (NoneLeaves s) (sym (one_left closed.0 closed.1 atoms membranes left there)) closed.3 in
                 let c = ok_copies u atoms membranes q.0 q.1 b stays q.2 in
-                (q.0, q.1, subst (λ (h : Heap). RestCopied s h atoms membranes q.0 q.1) (sym (last_is (rest_copied s atoms q.1 q.0) c)) (rest_of_s u atoms membranes q.0 q.1 q.2))
+                (q.0, q.1, subst (λ (h : Heap). RestCopied s h atoms membranes q.0 q.1) (sym (last_is u (rest_copied s atoms q.1 q.0) c again retold w f)) (rest_of_s u atoms membranes q.0 q.1 q.2))
 
             rest_now : RestIsMade atom membrane s w g m
             rest_now =

@@ -12,4 +12,5 @@ mod splicing;
 
 pub use committing::commit;
 pub use laws::{bodies_are_in_order, bodies_can_be_committed};
+pub use marking::{mark_taken, set_own};
 pub use preparing::prepare;

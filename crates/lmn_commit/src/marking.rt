@@ -14,7 +14,7 @@ use lmn_registers::{SetRegisters, Stack};
 use lmn_store::LinkStore;
 
 /// Sets the own mark of an atom.
-fn set_own<S: LinkStore>(store: &mut S, a: S::Atom, mark: u64)
+pub fn set_own<S: LinkStore>(store: &mut S, a: S::Atom, mark: u64)
     requires { IsAtom (S.heap store.old) (S.atom_id a) }
     ensures { S.heap store.new ≡ marked (S.heap store.old) (S.atom_id a) (arity_of (S.heap store.old) (S.atom_id a)) mark }
 {

@@ -1,4 +1,4 @@
-use Rattle.lmn_commit.proofs.RestCopying.{first_marked, first_parts, asked_mem, asked_out, asked_rest, asked_clean, asked_unmatched, asked_closed, again_marked, again_held, again_parts, again_mem, last_copied, last_makes}
+use Rattle.lmn_commit.proofs.RestCopying.{first_marked, first_parts, asked_mem, asked_out, asked_rest, asked_clean, asked_unmatched, asked_closed, again_marked, again_held, again_parts, again_mem, seen, last_copied, last_makes}
 use Rattle.lmn_commit.proofs.preparing.copy_rest.Goals as goal
 
 pub mark_taken-requires-clause-marked : goal.mark_taken-requires-clause-marked
@@ -26,16 +26,24 @@ pub copy_cells-copied-requires-clause-closed : goal.copy_cells-copied-requires-c
 copy_cells-copied-requires-clause-closed g c = asked_closed g.S.LinkStore.atom_id g.S.LinkStore.mem_id (g.S.LinkStore.heap c.args.store.now) c.root-root.ensures.sound c.requires.unmarked c.args.set.now c.requires.held c.requires.parts c.requires.homes (g.S.LinkStore.mem_id c.args.m) c.mark_taken.ensures.0 c.mark_taken.ensures.1 (g.S.LinkStore.heap c.mark_taken.new.store) c.mark_taken.ensures.2 c.as_slice.result.now c.as_slice.ensures c.requires.closed
 
 pub mark_taken-requires-2-clause-marked : goal.mark_taken-requires-2-clause-marked
-mark_taken-requires-2-clause-marked g c = again_marked g.S.LinkStore.atom_id g.S.LinkStore.mem_id (g.S.LinkStore.heap c.args.store.now) c.root-root.ensures.sound c.requires.unmarked c.args.set.now c.requires.held c.requires.parts c.requires.homes (g.S.LinkStore.mem_id c.args.m) c.mark_taken.ensures.0 c.mark_taken.ensures.1 (g.S.LinkStore.heap c.mark_taken.new.store) c.mark_taken.ensures.2 c.as_slice.result.now c.as_slice.ensures c.requires.closed c.copy_cells-copied.result (g.S.LinkStore.heap c.copy_cells-copied.new.store) c.copy_cells-copied.ensures.ok c.copy_cells-copied.ensures.err
+mark_taken-requires-2-clause-marked g c =
+    let later = seen g.S.LinkStore.atom_id g.S.LinkStore.mem_id (g.S.LinkStore.heap c.args.store.now) c.root-root.ensures.sound c.requires.unmarked c.args.set.now c.requires.held c.requires.parts c.requires.homes (g.S.LinkStore.mem_id c.args.m) c.mark_taken.ensures.0 c.mark_taken.ensures.1 (g.S.LinkStore.heap c.mark_taken.new.store) c.mark_taken.ensures.2 c.as_slice.result.now c.as_slice.ensures c.requires.closed c.copy_cells-copied.result (g.S.LinkStore.heap c.copy_cells-copied.new.store) c.copy_cells-copied.ensures.ok c.copy_cells-copied.ensures.err in
+    again_marked g.S.LinkStore.atom_id g.S.LinkStore.mem_id (g.S.LinkStore.heap c.args.store.now) c.root-root.ensures.sound c.requires.unmarked c.args.set.now c.requires.held c.requires.parts c.requires.homes (g.S.LinkStore.mem_id c.args.m) c.mark_taken.ensures.0 c.mark_taken.ensures.1 (g.S.LinkStore.heap c.mark_taken.new.store) c.mark_taken.ensures.2 (g.S.LinkStore.heap c.copy_cells-copied.new.store) later.0 later.1
 
 pub mark_taken-requires-2-clause-held : goal.mark_taken-requires-2-clause-held
-mark_taken-requires-2-clause-held g c = again_held g.S.LinkStore.atom_id g.S.LinkStore.mem_id (g.S.LinkStore.heap c.args.store.now) c.root-root.ensures.sound c.requires.unmarked c.args.set.now c.requires.held c.requires.parts c.requires.homes (g.S.LinkStore.mem_id c.args.m) c.mark_taken.ensures.0 c.mark_taken.ensures.1 (g.S.LinkStore.heap c.mark_taken.new.store) c.mark_taken.ensures.2 c.as_slice.result.now c.as_slice.ensures c.requires.closed c.copy_cells-copied.result (g.S.LinkStore.heap c.copy_cells-copied.new.store) c.copy_cells-copied.ensures.ok c.copy_cells-copied.ensures.err
+mark_taken-requires-2-clause-held g c =
+    let later = seen g.S.LinkStore.atom_id g.S.LinkStore.mem_id (g.S.LinkStore.heap c.args.store.now) c.root-root.ensures.sound c.requires.unmarked c.args.set.now c.requires.held c.requires.parts c.requires.homes (g.S.LinkStore.mem_id c.args.m) c.mark_taken.ensures.0 c.mark_taken.ensures.1 (g.S.LinkStore.heap c.mark_taken.new.store) c.mark_taken.ensures.2 c.as_slice.result.now c.as_slice.ensures c.requires.closed c.copy_cells-copied.result (g.S.LinkStore.heap c.copy_cells-copied.new.store) c.copy_cells-copied.ensures.ok c.copy_cells-copied.ensures.err in
+    again_held g.S.LinkStore.atom_id g.S.LinkStore.mem_id (g.S.LinkStore.heap c.args.store.now) c.root-root.ensures.sound c.requires.unmarked c.args.set.now c.requires.held c.requires.parts c.requires.homes (g.S.LinkStore.mem_id c.args.m) c.mark_taken.ensures.0 c.mark_taken.ensures.1 (g.S.LinkStore.heap c.mark_taken.new.store) c.mark_taken.ensures.2 (g.S.LinkStore.heap c.copy_cells-copied.new.store) later.0 later.1
 
 pub mark_taken-requires-2-clause-parts : goal.mark_taken-requires-2-clause-parts
-mark_taken-requires-2-clause-parts g c = again_parts g.S.LinkStore.atom_id g.S.LinkStore.mem_id (g.S.LinkStore.heap c.args.store.now) c.root-root.ensures.sound c.requires.unmarked c.args.set.now c.requires.held c.requires.parts c.requires.homes (g.S.LinkStore.mem_id c.args.m) c.mark_taken.ensures.0 c.mark_taken.ensures.1 (g.S.LinkStore.heap c.mark_taken.new.store) c.mark_taken.ensures.2 c.as_slice.result.now c.as_slice.ensures c.requires.closed c.copy_cells-copied.result (g.S.LinkStore.heap c.copy_cells-copied.new.store) c.copy_cells-copied.ensures.ok c.copy_cells-copied.ensures.err
+mark_taken-requires-2-clause-parts g c =
+    let later = seen g.S.LinkStore.atom_id g.S.LinkStore.mem_id (g.S.LinkStore.heap c.args.store.now) c.root-root.ensures.sound c.requires.unmarked c.args.set.now c.requires.held c.requires.parts c.requires.homes (g.S.LinkStore.mem_id c.args.m) c.mark_taken.ensures.0 c.mark_taken.ensures.1 (g.S.LinkStore.heap c.mark_taken.new.store) c.mark_taken.ensures.2 c.as_slice.result.now c.as_slice.ensures c.requires.closed c.copy_cells-copied.result (g.S.LinkStore.heap c.copy_cells-copied.new.store) c.copy_cells-copied.ensures.ok c.copy_cells-copied.ensures.err in
+    again_parts g.S.LinkStore.atom_id g.S.LinkStore.mem_id (g.S.LinkStore.heap c.args.store.now) c.root-root.ensures.sound c.requires.unmarked c.args.set.now c.requires.held c.requires.parts c.requires.homes (g.S.LinkStore.mem_id c.args.m) c.mark_taken.ensures.0 c.mark_taken.ensures.1 (g.S.LinkStore.heap c.mark_taken.new.store) c.mark_taken.ensures.2 (g.S.LinkStore.heap c.copy_cells-copied.new.store) later.0 later.1
 
 pub mark_taken-requires-2-clause-membrane : goal.mark_taken-requires-2-clause-membrane
-mark_taken-requires-2-clause-membrane g c = again_mem g.S.LinkStore.atom_id g.S.LinkStore.mem_id (g.S.LinkStore.heap c.args.store.now) c.root-root.ensures.sound c.requires.unmarked c.args.set.now c.requires.held c.requires.parts c.requires.homes (g.S.LinkStore.mem_id c.args.m) c.mark_taken.ensures.0 c.mark_taken.ensures.1 (g.S.LinkStore.heap c.mark_taken.new.store) c.mark_taken.ensures.2 c.as_slice.result.now c.as_slice.ensures c.requires.closed c.copy_cells-copied.result (g.S.LinkStore.heap c.copy_cells-copied.new.store) c.copy_cells-copied.ensures.ok c.copy_cells-copied.ensures.err (g.S.LinkStore.mem_id c.args.m) c.requires.membrane
+mark_taken-requires-2-clause-membrane g c =
+    let later = seen g.S.LinkStore.atom_id g.S.LinkStore.mem_id (g.S.LinkStore.heap c.args.store.now) c.root-root.ensures.sound c.requires.unmarked c.args.set.now c.requires.held c.requires.parts c.requires.homes (g.S.LinkStore.mem_id c.args.m) c.mark_taken.ensures.0 c.mark_taken.ensures.1 (g.S.LinkStore.heap c.mark_taken.new.store) c.mark_taken.ensures.2 c.as_slice.result.now c.as_slice.ensures c.requires.closed c.copy_cells-copied.result (g.S.LinkStore.heap c.copy_cells-copied.new.store) c.copy_cells-copied.ensures.ok c.copy_cells-copied.ensures.err in
+    again_mem g.S.LinkStore.atom_id g.S.LinkStore.mem_id (g.S.LinkStore.heap c.args.store.now) c.root-root.ensures.sound c.requires.unmarked c.args.set.now c.requires.held c.requires.parts c.requires.homes (g.S.LinkStore.mem_id c.args.m) c.mark_taken.ensures.0 c.mark_taken.ensures.1 (g.S.LinkStore.heap c.mark_taken.new.store) c.mark_taken.ensures.2 (g.S.LinkStore.heap c.copy_cells-copied.new.store) later.0 later.1 (g.S.LinkStore.mem_id c.args.m) c.requires.membrane
 
 pub returns-clause-ok : goal.returns-clause-ok
 returns-clause-ok g c = last_copied g.S.LinkStore.atom_id g.S.LinkStore.mem_id (g.S.LinkStore.heap c.args.store.now) c.root-root.ensures.sound c.requires.unmarked c.args.set.now c.requires.held c.requires.parts c.requires.homes (g.S.LinkStore.mem_id c.args.m) c.mark_taken.ensures.0 c.mark_taken.ensures.1 (g.S.LinkStore.heap c.mark_taken.new.store) c.mark_taken.ensures.2 c.as_slice.result.now c.as_slice.ensures c.requires.closed c.copy_cells-copied.result (g.S.LinkStore.heap c.copy_cells-copied.new.store) c.copy_cells-copied.ensures.ok c.copy_cells-copied.ensures.err c.mark_taken-2.ensures.0 c.mark_taken-2.ensures.1 (g.S.LinkStore.heap c.mark_taken-2.new.store) c.mark_taken-2.ensures.2
