@@ -1,14 +1,13 @@
 -- Rests that are told by own marks, and what is asked of them.
-use Rattle.std.proofs.Common.{◌≡◌, ◌<◌, ◌≤◌, ℕ, zero, suc, ◌+◌, Bool, true, false, List, [], ◌∷◌, ◌++◌, length, map, take, Option, Some, None, IsSome, refl, sym, ap, subst, ◌∙◌, inl, inr, arith}
+use Rattle.std.proofs.Common.{◌≡◌, ◌<◌, ℕ, zero, suc, ◌+◌, Bool, true, false, List, [], ◌∷◌, ◌++◌, length, map, take, Option, Some, None, IsSome, refl, sym, ap, subst, ◌∙◌, inl, inr, arith}
 use Rattle.std.proofs.lemmas.Bool.Decides.{Decides-eqb}
-use Rattle.std.proofs.lemmas.List.{get_or-set_same, get_or-set_other}
+use Rattle.std.proofs.lemmas.List.{get_or-set_same}
 use Rattle.std.specs.Option.{option_map, option_and_then}
-use Rattle.std.specs.Prelude.{◌⊎◌, ◌↔◌, ◌==◌, not, slice_get, slice_index_or, sum}
+use Rattle.std.specs.Prelude.{◌⊎◌, ◌↔◌, ◌==◌, not, slice_get, slice_index_or}
 use Rattle.lmn_base.specs.Graphs.{AtomMap, Port, Reached}
 use Rattle.lmn_base.specs.Lists.{In}
 use Rattle.lmn_base.proofs.Lists.{get_below, get_there, in_either}
-use Rattle.lmn_base.proofs.Numbers.{same_or_not}
-use Rattle.lmn_heap.specs.Heap.{Heap, HeapAtom, within, home_by, IsAtom, IsMem, marked, marks_of, partners_of, mark_of, arity_of, link_of, home_of, port_id, atoms_in, mems_in, rules_in, PortsUnmarked, own_mark, Unmarked}
+use Rattle.lmn_heap.specs.Heap.{Heap, HeapAtom, within, home_by, IsAtom, IsMem, marks_of, partners_of, mark_of, arity_of, link_of, home_of, atoms_in, mems_in, PortsUnmarked, own_mark, Unmarked}
 use Rattle.lmn_heap.specs.Sound.{Forms, Valid}
 use Rattle.lmn_heap.specs.Graphs.{atom_map}
 use Rattle.lmn_heap.proofs.Common.{decide_in}
@@ -23,83 +22,23 @@ use Rattle.lmn_ground.specs.Spread.{IsWhole}
 use Rattle.lmn_ground.proofs.GroundLaws.{part_atoms}
 use Rattle.lmn_ground.proofs.CopyLaws.{member as in_handles}
 use Rattle.lmn_ground.proofs.DropLaws.{is_out, out_is}
-use Rattle.lmn_ground.proofs.PaintedAt.{is_paint, map_painted, painted_none}
-use Rattle.lmn_ground.proofs.RestLaws.{keep_in, keep_here, keep_past, all_in, in_all as in_all_of}
-use Rattle.lmn_commit.specs.Registers.{IsBeside, IsInParts, IsRestBeside}
+use Rattle.lmn_ground.proofs.PaintedAt.{painted_none}
+use Rattle.lmn_ground.proofs.RestLaws.{keep_in, all_in, in_all as in_all_of}
 use Rattle.lmn_commit.proofs.RestOf.{rest_of, kept_has, has_kept, root_over, within_forest}
 use Rattle.lmn_solid.specs.Embeddings.{StandsWithin}
 use Rattle.lmn_instr.specs.Running.{HeadRegisters, HeadSize, IsInSome, IsLeftIn, IsClosedRest}
 use Rattle.lmn_registers.specs.declared.registers.SetRegisters.{SetRegisters}
 use Rattle.lmn_registers.specs.Agreeing.{Agrees}
-use Rattle.lmn_machine.specs.Searching.{AreHeldWhole, AreRootPorts, own_place, own_painted}
+use Rattle.lmn_machine.specs.Searching.{AreHeldWhole, AreRootPorts}
+use Rattle.lmn_commit.specs.OwnMarks.{own_place, own_painted}
 use Rattle.lmn_machine.proofs.Besides.{some_more, more_some, known, known_agrees}
-use Rattle.lmn_machine.proofs.Owning.{arity_painted, all_at, own_all, in_all, off_all, none, marked_is, of_handles}
-
--- own marks of two lists are set one after the other
-pub own_append : (v : ℕ) (xs ys : List ℕ) (s : Heap) → own_marked v (xs ++ ys) s ≡ own_marked v ys (own_marked v xs s)
-own_append v [] ys s = refl
-own_append v (x ∷ xs) ys s = own_append v xs ys (marked s x (arity_of s x) v)
+use Rattle.lmn_commit.proofs.Owning.{arity_painted, all_at, in_all, off_all, none, marked_is, of_handles, same_graph, arity_same, link_same, there_painted, back_painted, mem_painted, clean_painted, full_painted, port_painted, marked_more, are_membranes}
 
 -- which atoms are in parts is told by the graph
 pub some_same : (h t : Heap) → atom_map t ≡ atom_map h → (r : HeadRegisters) (gs : List ℕ) (b : ℕ) → IsInSome h r gs b → IsInSome t r gs b
 some_same h t e r [] b u = u
 some_same h t e r (g ∷ gs) b (inl k) = inl (subst (λ (n : AtomMap). Reached n (r.images.part g) b) (sym e) k)
 some_same h t e r (g ∷ gs) b (inr k) = inr (some_same h t e r gs b k)
-
--- A heap s that is h but for own marks.
-module _ (h : Heap) (z : Unmarked h) (v : ℕ → ℕ) (s : Heap) (e : s ≡ own_painted h v) where
-  pub same_graph : atom_map s ≡ atom_map h
-  same_graph = ap atom_map e ∙ map_painted own_place h v
-
-  pub arity_same : (a : ℕ) → arity_of s a ≡ arity_of h a
-  arity_same a = ap (λ (k : Heap). arity_of k a) e ∙ arity_painted h v a
-
-  pub link_same : (a i : ℕ) → link_of s a i ≡ link_of h a i
-  link_same a i = ap (λ (n : AtomMap). n.partner (a, i)) same_graph
-
-  pub there_painted : (a : ℕ) → IsAtom h a → IsAtom s a
-  there_painted a i = subst (λ (k : Heap). IsAtom k a) (sym e) (is_paint own_place (v a) (h.atoms a) i)
-
-  pub back_painted : (a : ℕ) → IsAtom s a → IsAtom h a
-  back_painted a i = by (v a) (h.atoms a) (subst (λ (k : Heap). IsAtom k a) e i)
-    where
-      by : (w : ℕ) (o : Option HeapAtom) → IsSome (paint_at own_place w o) → IsSome o
-      by zero o i = i
-      by (suc w) None i = absurd (cc)
-      by (suc w) (Some x) i = refl
-
-  pub mem_painted : (m : ℕ) → IsMem h m → IsMem s m
-  mem_painted m i = subst (λ (k : Heap). IsMem k m) (sym e) i
-
-  pub clean_painted : PortsUnmarked s
-  clean_painted = subst (λ (k : Heap). PortsUnmarked k) (sym e) (λ a i l. by (v a) (h.atoms a) i (subst (λ (n : ℕ). i < n) (arity_painted h v a) l) (z a i))
-    where
-      by : (w : ℕ) (o : Option HeapAtom) (i : ℕ) → i < length (partners_of o) → slice_index_or (marks_of o) i 0 ≡ 0 → slice_index_or (marks_of (paint_at own_place w o)) i 0 ≡ 0
-      by zero o i l e = e
-      by (suc w) None i l e = e
-      by (suc w) (Some x) i l e = get_or-set_other x.marks (length x.links) i (suc w) 0 (λ (q : i ≡ length x.links). absurd (omega (arith, q, l))) ∙ e
-
-  pub full_painted : ((a i : ℕ) → i < arity_of h a → IsSome (link_of h a i)) → (a i : ℕ) → i < arity_of s a → IsSome (link_of s a i)
-  full_painted full a i l = subst IsSome (sym (link_same a i)) (full a i (subst (λ n. i < n) (arity_same a) l))
-
-  pub port_painted : (a i : ℕ) → i < arity_of h a → i < arity_of s a
-  port_painted a i l = subst (λ n. i < n) (sym (arity_same a)) l
-
-  -- further own marks
-  pub marked_more : (xs : List ℕ) (m : ℕ) (t : Heap) → t ≡ own_marked m xs s → t ≡ own_painted h (all_at xs m v)
-  marked_more xs m t f = f ∙ ap (λ (k : Heap). own_marked m xs k) e ∙ own_all h xs m v z
-
--- an atom of one of the first n parts
-abbrev pub IsInFirst : {A : Type 0} → (A → ℕ) → Heap → List (A × ℕ) → ℕ → ℕ → Type 0
-IsInFirst {A} atom h parts n a = (k : ℕ) × (p : A × ℕ) × (k < n) × (slice_get parts k ≡ Some p) × Reached (atom_map h) (port_id atom p) a
-
--- the first are all
-pub first_all : {A : Type 0} (atom : A → ℕ) (h : Heap) (parts : List (A × ℕ)) (n a : ℕ) → length parts ≤ n → IsInFirst atom h parts n a ↔ IsInParts atom h parts a
-first_all atom h parts n a l = (λ w. (w.0, w.1, w.3, w.4), λ w. (w.0, w.1, (let k = get_below parts w.0 w.1 w.2 in omega (arith, k, l)), w.2, w.3))
-
--- which atoms are in parts is told by the graph
-pub parts_same : {A : Type 0} (atom : A → ℕ) (h t : Heap) → atom_map t ≡ atom_map h → (parts : List (A × ℕ)) (b : ℕ) → IsInParts atom h parts b → IsInParts atom t parts b
-parts_same atom h t e parts b w = (w.0, w.1, w.2, subst (λ (n : AtomMap). Reached n (port_id atom w.1) b) (sym e) w.3)
 
 -- A heap now that is s but for further own marks.
 module _ (h : Heap) (z : Unmarked h) (v : ℕ → ℕ) (s : Heap) (e : s ≡ own_painted h v) (all : List ℕ) (m : ℕ) (now : Heap) (f : now ≡ own_marked m all s) where
@@ -141,24 +80,6 @@ module _ (h : Heap) (z : Unmarked h) (v : ℕ → ℕ) (s : Heap) (e : s ≡ own
         λ k. elim (some_more s r listed i g b at (subst (λ j. IsInSome s r (take j listed) b) (sym t) k)) [
           | inl a ↦ in_left b all ps (told.1 a)
           | inr a ↦ in_right b all ps (atoms.1 (subst (λ (n : AtomMap). Reached n root b) (sym now_graph) (subst (λ p. Reached (atom_map s) p b) is a)))
-        ],
-      )
-
-  -- the atoms of one more of all parts
-  pub parts_more : {A : Type 0} (atom : A → ℕ) (parts : List (A × ℕ)) (i : ℕ) (p : A × ℕ) (b : ℕ) → slice_get parts i ≡ Some p → In b all ↔ IsInFirst atom s parts i b → (ps : List ℕ) → IsPartInDepth now (port_id atom p) ps →
-      In b (all ++ ps) ↔ IsInFirst atom s parts (i + 1) b
-  parts_more atom parts i p b at told ps part =
-      let atoms = (part_atoms now (port_id atom p) ps part).1 b in (
-        λ k. elim (in_either b all ps k) [
-          | inl a ↦ (let w = told.0 a in let l = w.2 in (w.0, w.1, omega (arith, l), w.3, w.4))
-          | inr a ↦ (i, p, omega arith, at, subst (λ (n : AtomMap). Reached n (port_id atom p) b) now_graph (atoms.0 a))
-        ],
-        λ w. elim (same_or_not w.0 i) [
-          | inl q ↦ (
-              let same : Some p ≡ Some w.1 = sym at ∙ (ap (λ j. slice_get parts j) (sym q) ∙ w.3) in
-              let one : p ≡ w.1 = cc in
-              in_right b all ps (atoms.1 (subst (λ (n : AtomMap). Reached n (port_id atom p) b) (sym now_graph) (subst (λ r. Reached (atom_map s) (port_id atom r) b) (sym one) w.4))))
-          | inr d ↦ (let l = w.2 in in_left b all ps (told.1 (w.0, w.1, omega (arith, l, d), w.3, w.4)))
         ],
       )
 
@@ -299,26 +220,6 @@ module _ (h : Heap) (valid : Valid h) (z : Unmarked h) (v : ℕ → ℕ) where
       λ f. given.1 (λ a i b j w k. left_is b (f a i (b, j) (is_left a w) (sym (link_same h z v t refl a i) ∙ k))),
     )
 
--- handles of membranes name membranes
-pub are_membranes : {M : Type 0} (membrane : M → ℕ) (s : Heap) (ms : List M) → ((k : ℕ) (m : M) → slice_get ms k ≡ Some m → IsMem s (membrane m)) → AreMembranes s (map membrane ms)
-are_membranes membrane s [] f = tt
-are_membranes membrane s (m ∷ ms) f = (f 0 m refl, are_membranes membrane s ms (λ k n e. f (suc k) n e))
-
--- which of a list are kept is told by the test on its members
-keep_same : (p q : ℕ → Bool) (xs : List ℕ) → ((x : ℕ) → In x xs → p x ≡ q x) → keep p xs ≡ keep q xs
-keep_same p q [] f = refl
-keep_same p q (x ∷ xs) f = by (p x) refl (keep_same p q xs (λ y i. f y (inr i)))
-  where
-    by : (t : Bool) → p x ≡ t → keep p xs ≡ keep q xs → keep p (x ∷ xs) ≡ keep q (x ∷ xs)
-    by true e k = keep_here p x xs e ∙ (ap (λ ys. x ∷ ys) k ∙ sym (keep_here q x xs (sym (f x (inl refl)) ∙ e)))
-    by false e k = keep_past p x xs e ∙ (k ∙ sym (keep_past q x xs (sym (f x (inl refl)) ∙ e)))
-
--- two tests that are true together are the same
-test_same : (a b : Bool) → (a ≡ true → b ≡ true) → (b ≡ true → a ≡ true) → a ≡ b
-test_same true b f g = sym (f refl)
-test_same false true f g = g refl
-test_same false false f g = refl
-
 -- The heaps while a rest is asked about: h1 when the atoms in registers are marked, h2 when those of the parts are, k behind the
 -- question, h3 when the marks of the parts are taken back.
 module _ {A M : Type 0} (atom : A → ℕ) (membrane : M → ℕ) (h : Heap) (valid : Valid h) (z : Unmarked h) (g : SetRegisters A M) (held : AreHeldWhole atom membrane h g)
@@ -393,45 +294,6 @@ module _ {A M : Type 0} (atom : A → ℕ) (membrane : M → ℕ) (h : Heap) (va
           let s = known atom membrane g in
           let agrees = known_agrees atom membrane g in
           (again s agrees a).1 (some_same h1 k (same_graph h z v2 k (e ∙ p2) ∙ sym graph1) s gs a ((told s agrees a).0 i))
-
-    -- How many items it has, where all parts in registers are painted.
-    module _ (told : (a : ℕ) → In a ys ↔ IsInParts atom h1 g.parts a) where
-      beside : (a : ℕ) → IsBeside atom h g a → v2 a ≡ 0
-      beside a b = off_both a b.no_atom (λ j. b.no_part (parts_same atom h1 h (sym graph1) g.parts a ((told a).0 j)))
-
-      is_beside : (a : ℕ) → v2 a ≡ 0 → IsBeside atom h g a
-      is_beside a e = record {
-        no_atom = λ i. (let f = on_atom a i in omega (arith, e, f));
-        no_part = λ w. (let f = in_all ys 1 v1 a ((told a).1 (parts_same atom h h1 graph1 g.parts a w)) in omega (arith, e, f));
-      }
-
-      -- the rest besides the registers is what is told by the marks
-      beside_left : (m : ℕ) (atoms ms : List ℕ) → IsRestBeside atom membrane h g m atoms ms → IsLeft (own_painted h v2) m (map membrane g.membranes) atoms ms
-      beside_left m atoms ms w =
-          let t = own_painted h v2 in
-          let la : ℕ → Bool = λ a. own_mark t a == 0 in
-          let lm : ℕ → Bool = λ n. not (is_in (map membrane g.membranes) n) in
-          let same : (a : ℕ) → In a (atoms_in h m) → w.0 a ≡ la a = λ a i.
-          let own = own_is h valid z v2 a (is_atom h valid z v2 m a i) in
-          test_same (w.0 a) (la a) (λ l. (Decides-eqb (own_mark t a) 0).1 (own ∙ beside a ((w.1 a i).0 l))) (λ l. (w.1 a i).1 (is_beside a (sym own ∙ (Decides-eqb (own_mark t a) 0).0 l))) in
-          record {
-            forest = w.2.forest;
-            forms = forms_frame h t w.2.forest (keep lm (mems_in h m)) (λ n i. refl) w.2.forms;
-            preorder = w.2.preorder;
-            once = w.2.once;
-            outside = w.2.outside;
-            in_order = w.2.in_order ∙ (ap (λ ys'. ys' ++ atoms_of_all h ms) (keep_same w.0 la (atoms_in h m) same) ∙ ap (λ ys'. keep la (atoms_in h m) ++ ys') (sym (all_same h valid z v2 ms)));
-          }
-
-      pub asked_items : (m : ℕ) (out : List M) (result : ℕ) → out ≡ g.membranes → ((atoms ms : List ℕ) → IsLeft h2 m (map membrane out) atoms ms → result ≡ length atoms + sum (map (λ n. 1 + length (rules_in h2 n)) ms))
-          → (atoms ms : List ℕ) → IsRestBeside atom membrane h g m atoms ms → result ≡ length atoms + sum (map (λ n. 1 + length (rules_in h n)) ms)
-      asked_items m out result same answer atoms ms w =
-          let stands : IsLeft h2 m (map membrane out) atoms ms =
-          subst (λ (s : Heap). IsLeft s m (map membrane out) atoms ms) (sym p2) (subst (λ os. IsLeft (own_painted h v2) m (map membrane os) atoms ms) (sym same) (beside_left m atoms ms w)) in
-          subst (λ (s : Heap). result ≡ length atoms + sum (map (λ n. 1 + length (rules_in s n)) ms)) p2 (answer atoms ms stands)
-
-      pub parts_again : (k : Heap) → k ≡ h2 → (zs : List ℕ) → ((a : ℕ) → In a zs ↔ IsInParts atom k g.parts a) → (a : ℕ) → In a ys → In a zs
-      parts_again k e zs again a i = (again a).1 (parts_same atom h1 k (same_graph h z v2 k (e ∙ p2) ∙ sym graph1) g.parts a ((told a).0 i))
 
     module _ (k : Heap) (e : k ≡ h2) where
       p : k ≡ own_painted h v2

@@ -2,9 +2,8 @@
 use Rattle.std.specs.Prelude.{ℕ, ℤ, Bool, true, false, ◌≡◌, ◌<◌, ◌+◌, List, [], ◌∷◌, ◌++◌, Option, Some, None, length, slice_get, take}
 use Rattle.std.specs.List.{AllByRecursion}
 use Rattle.lmn_base.specs.Graphs.{Reached, StandsWhole}
-use Rattle.lmn_heap.specs.Heap.{Heap, HeapAtom, IsAtom, port_id, home_of, link_of, arity_of}
+use Rattle.lmn_heap.specs.Heap.{Heap, IsAtom, port_id, home_of, link_of, arity_of}
 use Rattle.lmn_heap.specs.Graphs.{atom_map}
-use Rattle.lmn_ground.specs.Marks.{painted_at}
 use Rattle.lmn_instr.specs.declared.instr.Instr.{Instr}
 use Rattle.lmn_instr.specs.declared.instr.Instr.TheVariants.{FindAtom, Deref, Func, InMem, NeqAtom, Joined, AnyMem, NeqMem, NMems, NoRules, NotIn, IsInt, IsUnary, IsGround, NAtoms, IsClosed, EqGround, NeqGround, GetInt, Const, Add, Sub, Mul, Div, Mod, Lt, Le, Gt, Ge, Eq, Ne, Commit}
 use Rattle.lmn_instr.specs.Running.{HeadRegisters, HeadSize, InstructionHolds, AllHold, atoms_set, membranes_set, choices}
@@ -181,14 +180,6 @@ HasGiven g k result (Some z) = (result ≡ true) × (k ≡ record g { integers =
 abbrev pub HasGivenPart : {A M : Type 0} → SetRegisters A M → SetRegisters A M → Bool → Option (A × ℕ) → Type 0
 HasGivenPart g k result None = (result ≡ false) × (k ≡ g)
 HasGivenPart g k result (Some p) = (result ≡ true) × (k ≡ record g { parts = g.parts ++ p ∷ [] })
-
--- the place of the own mark
-abbrev pub own_place : HeapAtom → ℕ
-own_place x = length x.links
-
--- a heap with these own marks, where 0 stands for the one that an atom has
-abbrev pub own_painted : Heap → (ℕ → ℕ) → Heap
-own_painted h marks = painted_at own_place h marks
 
 -- the roots of parts are ports
 abbrev pub AreRootPorts : {A : Type 0} → (A → ℕ) → Heap → List (A × ℕ) → Type 0

@@ -8,10 +8,12 @@ ghost use Rattle.lmn_instr.specs.Running.{HeadRegisters, HeadSize, IsClosedRest,
 ghost use Rattle.lmn_ground.specs.Rests.{own_marked};
 ghost use Rattle.lmn_body.specs.Running.{Registers};
 ghost use Rattle.lmn_registers.specs.Agreeing.{Agrees};
-ghost use Rattle.lmn_commit.specs.Registers.{HasRests, IsInParts};
-ghost use Rattle.lmn_machine.specs.Searching.{AreHeldWhole, AreRootPorts, own_painted};
+ghost use Rattle.lmn_commit.specs.OwnMarks.{own_painted};
+ghost use Rattle.lmn_commit.specs.Registers.{HasRests};
+ghost use Rattle.lmn_machine.specs.Searching.{AreHeldWhole, AreRootPorts};
 
 use crate::whole::mark_all;
+use lmn_commit::mark_taken;
 use lmn_ground::{closed, items_left, paint};
 use lmn_registers::SetRegisters;
 use lmn_store::LinkStore;
@@ -60,20 +62,8 @@ pub fn is_closed<S: LinkStore>(
     stays
 }
 
-/// Sets the own marks of the atoms of all parts in registers.
-fn paint_all<S: LinkStore>(store: &mut S, set: &SetRegisters<S::Atom, S::Mem>, mark: u64)
-    requires marked { (h : Heap) × (marks : ℕ → ℕ) × Unmarked h × (S.heap store.old ≡ own_painted h marks) }
-    requires full { (a i : ℕ) → i < arity_of (S.heap store.old) a → IsSome (link_of (S.heap store.old) a i) }
-    requires parts { AreRootPorts S.atom_id (S.heap store.old) set.now.parts }
-    ensures { (all : List ℕ) × ((a : ℕ) → In a all ↔ IsInParts S.atom_id (S.heap store.old) set.now.parts a) × (S.heap store.new ≡ own_marked mark all (S.heap store.old)) }
-{
-    for i in 0..set.parts.len() {
-        paint(store, set.parts.at(i), mark);
-    }
-}
-
 /// How many items are left in the membrane of a register besides all registers: atoms, membranes, and the rules in these.
-/// While they are counted, the atoms in registers and those of the parts have the own mark 1.
+/// While they are counted, those of the registers and of the parts in them that stand in the membrane have the own mark 1.
 pub fn rest_items<S: LinkStore>(
     store: &mut S,
     set: &SetRegisters<S::Atom, S::Mem>,
@@ -89,10 +79,8 @@ pub fn rest_items<S: LinkStore>(
 {
     let _root = store.root();
     let place = set.membranes.at(membrane as usize);
-    mark_all(store, &set.atoms, 1);
-    paint_all(store, set, 1);
+    mark_taken(store, set, place, 1);
     let items = items_left(store, place, set.membranes.as_slice());
-    paint_all(store, set, 0);
-    mark_all(store, &set.atoms, 0);
+    mark_taken(store, set, place, 0);
     items
 }

@@ -1,7 +1,7 @@
 //! Parts of any number of atoms.
 ghost use Rattle.std.specs.Prelude.{◌≡◌, ◌<◌, ◌↔◌, ℕ, List, Some, IfSome, IsTrue, map};
 ghost use Rattle.std.specs.Option.{option_map};
-ghost use Rattle.lmn_heap.specs.Heap.{IsAtom, IsMem, arity_of, link_of, port_id, marked, Unmarked};
+ghost use Rattle.lmn_heap.specs.Heap.{IsAtom, IsMem, arity_of, link_of, port_id, Unmarked};
 ghost use Rattle.lmn_base.specs.Graphs.{SameGraph};
 ghost use Rattle.lmn_heap.specs.Graphs.{atom_map};
 ghost use Rattle.lmn_ground.specs.Rests.{own_marked};
@@ -9,19 +9,10 @@ ghost use Rattle.lmn_machine.specs.Searching.{IsHeldPart, IsWholeApart};
 ghost use Rattle.lmn_commit.specs.Registers.{AreAtomHandles};
 
 use crate::checks;
+use lmn_commit::set_own;
 use lmn_ground::{equal, is_ground};
 use lmn_registers::Stack;
 use lmn_store::LinkStore;
-
-/// Sets the own mark of an atom.
-fn set_own<S: LinkStore>(store: &mut S, a: S::Atom, mark: u64)
-    requires { IsAtom (S.heap store.old) (S.atom_id a) }
-    ensures { S.heap store.new ≡ marked (S.heap store.old) (S.atom_id a) (arity_of (S.heap store.old) (S.atom_id a)) mark }
-{
-    let _root = store.root();
-    let own = store.functor(a).arity;
-    store.set_mark(a, own, mark);
-}
 
 /// Sets the own marks of the atoms in registers.
 pub fn mark_all<S: LinkStore>(store: &mut S, atoms: &Stack<S::Atom>, mark: u64)

@@ -5,7 +5,8 @@ use Rattle.lmn_base.specs.Lists.{In}
 use Rattle.lmn_instr.specs.Running.{IsInSome}
 use Rattle.lmn_ground.specs.Rests.{own_marked}
 use Rattle.lmn_ground.proofs.GatherRestLaws.{take_past}
-use Rattle.lmn_machine.proofs.Resting.{now_atom, now_port, now_clean, now_whole, own_append, tells_more}
+use Rattle.lmn_machine.proofs.Resting.{now_atom, now_port, now_clean, now_whole, tells_more}
+use Rattle.lmn_commit.proofs.Owning.{own_append}
 use Rattle.lmn_machine.proofs.rests.paint_parts.Goals as goal
 
 pub paint-requires-clause-atom : goal.paint-requires-clause-atom

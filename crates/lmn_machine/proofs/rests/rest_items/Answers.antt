@@ -1,40 +1,47 @@
-use Rattle.std.proofs.Common.{map, refl}
-use Rattle.lmn_machine.proofs.Resting.{first_marked, first_full, first_parts, asked_mem, asked_out, asked_rest, asked_items, again_marked, again_full, again_parts, parts_again, last_held, last_same}
+use Rattle.std.proofs.Common.{◌≡◌, ◌+◌, length, map, subst}
+use Rattle.std.specs.Prelude.{sum}
+use Rattle.lmn_heap.specs.Heap.{Heap, rules_in}
+use Rattle.lmn_commit.proofs.RestCopying.{first_marked, first_parts, is_painted, asked_mem, asked_out, beside_left, goes_on, again_marked, again_held, again_parts, again_mem, last_is}
+use Rattle.lmn_commit.proofs.RestOf.{rest_beside}
+use Rattle.lmn_machine.proofs.Bodies.{held_for_body, parts_can, parts_home}
 use Rattle.lmn_machine.proofs.rests.rest_items.Goals as goal
 
-pub paint_all-requires-clause-marked : goal.paint_all-requires-clause-marked
-paint_all-requires-clause-marked g c = first_marked g.S.LinkStore.atom_id g.S.LinkStore.mem_id (g.S.LinkStore.heap c.args.store.now) c.requires.valid c.requires.unmarked c.args.set.now c.requires.held (g.S.LinkStore.heap c.mark_all.new.store) c.mark_all.ensures
+pub mark_taken-requires-clause-marked : goal.mark_taken-requires-clause-marked
+mark_taken-requires-clause-marked g c = first_marked (g.S.LinkStore.heap c.args.store.now) c.requires.unmarked
 
-pub paint_all-requires-clause-full : goal.paint_all-requires-clause-full
-paint_all-requires-clause-full g c = first_full g.S.LinkStore.atom_id g.S.LinkStore.mem_id (g.S.LinkStore.heap c.args.store.now) c.requires.valid c.requires.unmarked c.args.set.now c.requires.held (g.S.LinkStore.heap c.mark_all.new.store) c.mark_all.ensures
-
-pub paint_all-requires-clause-parts : goal.paint_all-requires-clause-parts
-paint_all-requires-clause-parts g c = first_parts g.S.LinkStore.atom_id g.S.LinkStore.mem_id (g.S.LinkStore.heap c.args.store.now) c.requires.valid c.requires.unmarked c.args.set.now c.requires.held (g.S.LinkStore.heap c.mark_all.new.store) c.mark_all.ensures
+pub mark_taken-requires-clause-parts : goal.mark_taken-requires-clause-parts
+mark_taken-requires-clause-parts g c = first_parts g.S.LinkStore.atom_id (g.S.LinkStore.heap c.args.store.now) c.args.set.now
+    (parts_can g.S.LinkStore.atom_id g.S.LinkStore.mem_id (g.S.LinkStore.heap c.args.store.now) c.args.set.now c.requires.held c.requires.valid.sound)
 
 pub items_left-items-requires-clause-mem : goal.items_left-items-requires-clause-mem
-items_left-items-requires-clause-mem g c = asked_mem g.S.LinkStore.atom_id g.S.LinkStore.mem_id (g.S.LinkStore.heap c.args.store.now) c.requires.valid c.requires.unmarked c.args.set.now c.requires.held (g.S.LinkStore.heap c.mark_all.new.store) c.mark_all.ensures (g.S.LinkStore.heap c.paint_all.new.store) c.paint_all.ensures.0 c.paint_all.ensures.2 (g.S.LinkStore.mem_id c.at-place.result) (c.requires.held.membranes c.args.membrane c.at-place.result c.at-place.ensures)
+items_left-items-requires-clause-mem g c = asked_mem g.S.LinkStore.atom_id g.S.LinkStore.mem_id (g.S.LinkStore.heap c.args.store.now) c.requires.valid.sound c.requires.unmarked c.args.set.now (held_for_body g.S.LinkStore.atom_id g.S.LinkStore.mem_id (g.S.LinkStore.heap c.args.store.now) c.args.set.now c.requires.held) (parts_can g.S.LinkStore.atom_id g.S.LinkStore.mem_id (g.S.LinkStore.heap c.args.store.now) c.args.set.now c.requires.held c.requires.valid.sound) (parts_home g.S.LinkStore.atom_id g.S.LinkStore.mem_id (g.S.LinkStore.heap c.args.store.now) c.args.set.now c.requires.held) (g.S.LinkStore.mem_id c.at-place.result) c.mark_taken.ensures.0 c.mark_taken.ensures.1 (g.S.LinkStore.heap c.mark_taken.new.store) c.mark_taken.ensures.2 (g.S.LinkStore.mem_id c.at-place.result) (c.requires.held.membranes c.args.membrane c.at-place.result c.at-place.ensures)
 
 pub items_left-items-requires-clause-out : goal.items_left-items-requires-clause-out
-items_left-items-requires-clause-out g c = asked_out g.S.LinkStore.atom_id g.S.LinkStore.mem_id (g.S.LinkStore.heap c.args.store.now) c.requires.valid c.requires.unmarked c.args.set.now c.requires.held (g.S.LinkStore.heap c.mark_all.new.store) c.mark_all.ensures (g.S.LinkStore.heap c.paint_all.new.store) c.paint_all.ensures.0 c.paint_all.ensures.2 c.as_slice.result.now c.as_slice.ensures
+items_left-items-requires-clause-out g c = asked_out g.S.LinkStore.atom_id g.S.LinkStore.mem_id (g.S.LinkStore.heap c.args.store.now) c.requires.valid.sound c.requires.unmarked c.args.set.now (held_for_body g.S.LinkStore.atom_id g.S.LinkStore.mem_id (g.S.LinkStore.heap c.args.store.now) c.args.set.now c.requires.held) (parts_can g.S.LinkStore.atom_id g.S.LinkStore.mem_id (g.S.LinkStore.heap c.args.store.now) c.args.set.now c.requires.held c.requires.valid.sound) (parts_home g.S.LinkStore.atom_id g.S.LinkStore.mem_id (g.S.LinkStore.heap c.args.store.now) c.args.set.now c.requires.held) (g.S.LinkStore.mem_id c.at-place.result) c.mark_taken.ensures.0 c.mark_taken.ensures.1 (g.S.LinkStore.heap c.mark_taken.new.store) c.mark_taken.ensures.2 c.as_slice.result.now c.as_slice.ensures
 
 pub items_left-items-requires-clause-rest : goal.items_left-items-requires-clause-rest
-items_left-items-requires-clause-rest g c = asked_rest g.S.LinkStore.atom_id g.S.LinkStore.mem_id (g.S.LinkStore.heap c.args.store.now) c.requires.valid c.requires.unmarked c.args.set.now c.requires.held (g.S.LinkStore.heap c.mark_all.new.store) c.mark_all.ensures (g.S.LinkStore.heap c.paint_all.new.store) c.paint_all.ensures.0 c.paint_all.ensures.2 (g.S.LinkStore.mem_id c.at-place.result) (map g.S.LinkStore.mem_id c.as_slice.result.now) (c.requires.held.membranes c.args.membrane c.at-place.result c.at-place.ensures)
+items_left-items-requires-clause-rest g c =
+    let r = rest_beside g.S.LinkStore.atom_id g.S.LinkStore.mem_id (g.S.LinkStore.heap c.args.store.now) c.requires.valid c.args.set.now (g.S.LinkStore.mem_id c.at-place.result) in
+    (r.0, r.1, beside_left g.S.LinkStore.atom_id g.S.LinkStore.mem_id (g.S.LinkStore.heap c.args.store.now) c.requires.valid.sound c.requires.unmarked c.args.set.now (held_for_body g.S.LinkStore.atom_id g.S.LinkStore.mem_id (g.S.LinkStore.heap c.args.store.now) c.args.set.now c.requires.held) (parts_can g.S.LinkStore.atom_id g.S.LinkStore.mem_id (g.S.LinkStore.heap c.args.store.now) c.args.set.now c.requires.held c.requires.valid.sound) (parts_home g.S.LinkStore.atom_id g.S.LinkStore.mem_id (g.S.LinkStore.heap c.args.store.now) c.args.set.now c.requires.held) (g.S.LinkStore.mem_id c.at-place.result) c.mark_taken.ensures.0 c.mark_taken.ensures.1 (g.S.LinkStore.heap c.mark_taken.new.store) c.mark_taken.ensures.2 c.as_slice.result.now c.as_slice.ensures r.0 r.1 r.2)
 
-pub paint_all-requires-2-clause-marked : goal.paint_all-requires-2-clause-marked
-paint_all-requires-2-clause-marked g c = again_marked g.S.LinkStore.atom_id g.S.LinkStore.mem_id (g.S.LinkStore.heap c.args.store.now) c.requires.valid c.requires.unmarked c.args.set.now c.requires.held (g.S.LinkStore.heap c.mark_all.new.store) c.mark_all.ensures (g.S.LinkStore.heap c.paint_all.new.store) c.paint_all.ensures.0 c.paint_all.ensures.2 (g.S.LinkStore.heap c.paint_all.new.store) refl
+pub mark_taken-requires-2-clause-marked : goal.mark_taken-requires-2-clause-marked
+mark_taken-requires-2-clause-marked g c = again_marked g.S.LinkStore.atom_id g.S.LinkStore.mem_id (g.S.LinkStore.heap c.args.store.now) c.requires.valid.sound c.requires.unmarked c.args.set.now (held_for_body g.S.LinkStore.atom_id g.S.LinkStore.mem_id (g.S.LinkStore.heap c.args.store.now) c.args.set.now c.requires.held) (parts_can g.S.LinkStore.atom_id g.S.LinkStore.mem_id (g.S.LinkStore.heap c.args.store.now) c.args.set.now c.requires.held c.requires.valid.sound) (parts_home g.S.LinkStore.atom_id g.S.LinkStore.mem_id (g.S.LinkStore.heap c.args.store.now) c.args.set.now c.requires.held) (g.S.LinkStore.mem_id c.at-place.result) c.mark_taken.ensures.0 c.mark_taken.ensures.1 (g.S.LinkStore.heap c.mark_taken.new.store) c.mark_taken.ensures.2 (g.S.LinkStore.heap c.mark_taken.new.store) (g.S.LinkStore.heap c.args.store.now) (goes_on g.S.LinkStore.atom_id g.S.LinkStore.mem_id (g.S.LinkStore.heap c.args.store.now) c.requires.valid.sound c.requires.unmarked c.args.set.now (held_for_body g.S.LinkStore.atom_id g.S.LinkStore.mem_id (g.S.LinkStore.heap c.args.store.now) c.args.set.now c.requires.held) (parts_can g.S.LinkStore.atom_id g.S.LinkStore.mem_id (g.S.LinkStore.heap c.args.store.now) c.args.set.now c.requires.held c.requires.valid.sound) (parts_home g.S.LinkStore.atom_id g.S.LinkStore.mem_id (g.S.LinkStore.heap c.args.store.now) c.args.set.now c.requires.held) (g.S.LinkStore.mem_id c.at-place.result) c.mark_taken.ensures.0 c.mark_taken.ensures.1 (g.S.LinkStore.heap c.mark_taken.new.store) c.mark_taken.ensures.2)
 
-pub paint_all-requires-2-clause-full : goal.paint_all-requires-2-clause-full
-paint_all-requires-2-clause-full g c = again_full g.S.LinkStore.atom_id g.S.LinkStore.mem_id (g.S.LinkStore.heap c.args.store.now) c.requires.valid c.requires.unmarked c.args.set.now c.requires.held (g.S.LinkStore.heap c.mark_all.new.store) c.mark_all.ensures (g.S.LinkStore.heap c.paint_all.new.store) c.paint_all.ensures.0 c.paint_all.ensures.2 (g.S.LinkStore.heap c.paint_all.new.store) refl
+pub mark_taken-requires-2-clause-held : goal.mark_taken-requires-2-clause-held
+mark_taken-requires-2-clause-held g c = again_held g.S.LinkStore.atom_id g.S.LinkStore.mem_id (g.S.LinkStore.heap c.args.store.now) c.requires.valid.sound c.requires.unmarked c.args.set.now (held_for_body g.S.LinkStore.atom_id g.S.LinkStore.mem_id (g.S.LinkStore.heap c.args.store.now) c.args.set.now c.requires.held) (parts_can g.S.LinkStore.atom_id g.S.LinkStore.mem_id (g.S.LinkStore.heap c.args.store.now) c.args.set.now c.requires.held c.requires.valid.sound) (parts_home g.S.LinkStore.atom_id g.S.LinkStore.mem_id (g.S.LinkStore.heap c.args.store.now) c.args.set.now c.requires.held) (g.S.LinkStore.mem_id c.at-place.result) c.mark_taken.ensures.0 c.mark_taken.ensures.1 (g.S.LinkStore.heap c.mark_taken.new.store) c.mark_taken.ensures.2 (g.S.LinkStore.heap c.mark_taken.new.store) (g.S.LinkStore.heap c.args.store.now) (goes_on g.S.LinkStore.atom_id g.S.LinkStore.mem_id (g.S.LinkStore.heap c.args.store.now) c.requires.valid.sound c.requires.unmarked c.args.set.now (held_for_body g.S.LinkStore.atom_id g.S.LinkStore.mem_id (g.S.LinkStore.heap c.args.store.now) c.args.set.now c.requires.held) (parts_can g.S.LinkStore.atom_id g.S.LinkStore.mem_id (g.S.LinkStore.heap c.args.store.now) c.args.set.now c.requires.held c.requires.valid.sound) (parts_home g.S.LinkStore.atom_id g.S.LinkStore.mem_id (g.S.LinkStore.heap c.args.store.now) c.args.set.now c.requires.held) (g.S.LinkStore.mem_id c.at-place.result) c.mark_taken.ensures.0 c.mark_taken.ensures.1 (g.S.LinkStore.heap c.mark_taken.new.store) c.mark_taken.ensures.2)
 
-pub paint_all-requires-2-clause-parts : goal.paint_all-requires-2-clause-parts
-paint_all-requires-2-clause-parts g c = again_parts g.S.LinkStore.atom_id g.S.LinkStore.mem_id (g.S.LinkStore.heap c.args.store.now) c.requires.valid c.requires.unmarked c.args.set.now c.requires.held (g.S.LinkStore.heap c.mark_all.new.store) c.mark_all.ensures (g.S.LinkStore.heap c.paint_all.new.store) c.paint_all.ensures.0 c.paint_all.ensures.2 (g.S.LinkStore.heap c.paint_all.new.store) refl
+pub mark_taken-requires-2-clause-parts : goal.mark_taken-requires-2-clause-parts
+mark_taken-requires-2-clause-parts g c = again_parts g.S.LinkStore.atom_id g.S.LinkStore.mem_id (g.S.LinkStore.heap c.args.store.now) c.requires.valid.sound c.requires.unmarked c.args.set.now (held_for_body g.S.LinkStore.atom_id g.S.LinkStore.mem_id (g.S.LinkStore.heap c.args.store.now) c.args.set.now c.requires.held) (parts_can g.S.LinkStore.atom_id g.S.LinkStore.mem_id (g.S.LinkStore.heap c.args.store.now) c.args.set.now c.requires.held c.requires.valid.sound) (parts_home g.S.LinkStore.atom_id g.S.LinkStore.mem_id (g.S.LinkStore.heap c.args.store.now) c.args.set.now c.requires.held) (g.S.LinkStore.mem_id c.at-place.result) c.mark_taken.ensures.0 c.mark_taken.ensures.1 (g.S.LinkStore.heap c.mark_taken.new.store) c.mark_taken.ensures.2 (g.S.LinkStore.heap c.mark_taken.new.store) (g.S.LinkStore.heap c.args.store.now) (goes_on g.S.LinkStore.atom_id g.S.LinkStore.mem_id (g.S.LinkStore.heap c.args.store.now) c.requires.valid.sound c.requires.unmarked c.args.set.now (held_for_body g.S.LinkStore.atom_id g.S.LinkStore.mem_id (g.S.LinkStore.heap c.args.store.now) c.args.set.now c.requires.held) (parts_can g.S.LinkStore.atom_id g.S.LinkStore.mem_id (g.S.LinkStore.heap c.args.store.now) c.args.set.now c.requires.held c.requires.valid.sound) (parts_home g.S.LinkStore.atom_id g.S.LinkStore.mem_id (g.S.LinkStore.heap c.args.store.now) c.args.set.now c.requires.held) (g.S.LinkStore.mem_id c.at-place.result) c.mark_taken.ensures.0 c.mark_taken.ensures.1 (g.S.LinkStore.heap c.mark_taken.new.store) c.mark_taken.ensures.2)
 
-pub mark_all-requires-2 : goal.mark_all-requires-2
-mark_all-requires-2 g c = record { held = last_held g.S.LinkStore.atom_id g.S.LinkStore.mem_id (g.S.LinkStore.heap c.args.store.now) c.requires.valid c.requires.unmarked c.args.set.now c.requires.held (g.S.LinkStore.heap c.mark_all.new.store) c.mark_all.ensures (g.S.LinkStore.heap c.paint_all.new.store) c.paint_all.ensures.0 c.paint_all.ensures.2 (g.S.LinkStore.heap c.paint_all.new.store) refl (g.S.LinkStore.heap c.paint_all-2.new.store) c.paint_all-2.ensures.0 c.paint_all-2.ensures.2 }
+pub mark_taken-requires-2-clause-membrane : goal.mark_taken-requires-2-clause-membrane
+mark_taken-requires-2-clause-membrane g c = again_mem g.S.LinkStore.atom_id g.S.LinkStore.mem_id (g.S.LinkStore.heap c.args.store.now) c.requires.valid.sound c.requires.unmarked c.args.set.now (held_for_body g.S.LinkStore.atom_id g.S.LinkStore.mem_id (g.S.LinkStore.heap c.args.store.now) c.args.set.now c.requires.held) (parts_can g.S.LinkStore.atom_id g.S.LinkStore.mem_id (g.S.LinkStore.heap c.args.store.now) c.args.set.now c.requires.held c.requires.valid.sound) (parts_home g.S.LinkStore.atom_id g.S.LinkStore.mem_id (g.S.LinkStore.heap c.args.store.now) c.args.set.now c.requires.held) (g.S.LinkStore.mem_id c.at-place.result) c.mark_taken.ensures.0 c.mark_taken.ensures.1 (g.S.LinkStore.heap c.mark_taken.new.store) c.mark_taken.ensures.2 (g.S.LinkStore.heap c.mark_taken.new.store) (g.S.LinkStore.heap c.args.store.now) (goes_on g.S.LinkStore.atom_id g.S.LinkStore.mem_id (g.S.LinkStore.heap c.args.store.now) c.requires.valid.sound c.requires.unmarked c.args.set.now (held_for_body g.S.LinkStore.atom_id g.S.LinkStore.mem_id (g.S.LinkStore.heap c.args.store.now) c.args.set.now c.requires.held) (parts_can g.S.LinkStore.atom_id g.S.LinkStore.mem_id (g.S.LinkStore.heap c.args.store.now) c.args.set.now c.requires.held c.requires.valid.sound) (parts_home g.S.LinkStore.atom_id g.S.LinkStore.mem_id (g.S.LinkStore.heap c.args.store.now) c.args.set.now c.requires.held) (g.S.LinkStore.mem_id c.at-place.result) c.mark_taken.ensures.0 c.mark_taken.ensures.1 (g.S.LinkStore.heap c.mark_taken.new.store) c.mark_taken.ensures.2) (g.S.LinkStore.mem_id c.at-place.result) (c.requires.held.membranes c.args.membrane c.at-place.result c.at-place.ensures)
 
 pub returns-clause-same : goal.returns-clause-same
-returns-clause-same g c = last_same g.S.LinkStore.atom_id g.S.LinkStore.mem_id (g.S.LinkStore.heap c.args.store.now) c.requires.valid c.requires.unmarked c.args.set.now c.requires.held (g.S.LinkStore.heap c.mark_all.new.store) c.mark_all.ensures (g.S.LinkStore.heap c.paint_all.new.store) c.paint_all.ensures.0 c.paint_all.ensures.2 (g.S.LinkStore.heap c.paint_all.new.store) refl (g.S.LinkStore.heap c.paint_all-2.new.store) c.paint_all-2.ensures.0 c.paint_all-2.ensures.2
-    (parts_again g.S.LinkStore.atom_id g.S.LinkStore.mem_id (g.S.LinkStore.heap c.args.store.now) c.requires.valid c.requires.unmarked c.args.set.now c.requires.held (g.S.LinkStore.heap c.mark_all.new.store) c.mark_all.ensures (g.S.LinkStore.heap c.paint_all.new.store) c.paint_all.ensures.0 c.paint_all.ensures.2 c.paint_all.ensures.1 (g.S.LinkStore.heap c.paint_all.new.store) refl c.paint_all-2.ensures.0 c.paint_all-2.ensures.1) (g.S.LinkStore.heap c.mark_all-2.new.store) c.mark_all-2.ensures
+returns-clause-same g c = last_is g.S.LinkStore.atom_id g.S.LinkStore.mem_id (g.S.LinkStore.heap c.args.store.now) c.requires.valid.sound c.requires.unmarked c.args.set.now (held_for_body g.S.LinkStore.atom_id g.S.LinkStore.mem_id (g.S.LinkStore.heap c.args.store.now) c.args.set.now c.requires.held) (parts_can g.S.LinkStore.atom_id g.S.LinkStore.mem_id (g.S.LinkStore.heap c.args.store.now) c.args.set.now c.requires.held c.requires.valid.sound) (parts_home g.S.LinkStore.atom_id g.S.LinkStore.mem_id (g.S.LinkStore.heap c.args.store.now) c.args.set.now c.requires.held) (g.S.LinkStore.mem_id c.at-place.result) c.mark_taken.ensures.0 c.mark_taken.ensures.1 (g.S.LinkStore.heap c.mark_taken.new.store) c.mark_taken.ensures.2 (g.S.LinkStore.heap c.mark_taken.new.store) (g.S.LinkStore.heap c.args.store.now) (goes_on g.S.LinkStore.atom_id g.S.LinkStore.mem_id (g.S.LinkStore.heap c.args.store.now) c.requires.valid.sound c.requires.unmarked c.args.set.now (held_for_body g.S.LinkStore.atom_id g.S.LinkStore.mem_id (g.S.LinkStore.heap c.args.store.now) c.args.set.now c.requires.held) (parts_can g.S.LinkStore.atom_id g.S.LinkStore.mem_id (g.S.LinkStore.heap c.args.store.now) c.args.set.now c.requires.held c.requires.valid.sound) (parts_home g.S.LinkStore.atom_id g.S.LinkStore.mem_id (g.S.LinkStore.heap c.args.store.now) c.args.set.now c.requires.held) (g.S.LinkStore.mem_id c.at-place.result) c.mark_taken.ensures.0 c.mark_taken.ensures.1 (g.S.LinkStore.heap c.mark_taken.new.store) c.mark_taken.ensures.2) c.mark_taken-2.ensures.0 c.mark_taken-2.ensures.1 (g.S.LinkStore.heap c.mark_taken-2.new.store) c.mark_taken-2.ensures.2
 
 pub returns-clause-items : goal.returns-clause-items
-returns-clause-items g c = λ r w. asked_items g.S.LinkStore.atom_id g.S.LinkStore.mem_id (g.S.LinkStore.heap c.args.store.now) c.requires.valid c.requires.unmarked c.args.set.now c.requires.held (g.S.LinkStore.heap c.mark_all.new.store) c.mark_all.ensures (g.S.LinkStore.heap c.paint_all.new.store) c.paint_all.ensures.0 c.paint_all.ensures.2 c.paint_all.ensures.1 (g.S.LinkStore.mem_id c.at-place.result) c.as_slice.result.now c.items_left-items.result c.as_slice.ensures c.items_left-items.ensures (r.left_atoms c.args.membrane) (r.left_membranes c.args.membrane) (w c.args.membrane c.at-place.result c.at-place.ensures)
+returns-clause-items g c = λ r w.
+    let atoms = r.left_atoms c.args.membrane in
+    let membranes = r.left_membranes c.args.membrane in
+    let left = beside_left g.S.LinkStore.atom_id g.S.LinkStore.mem_id (g.S.LinkStore.heap c.args.store.now) c.requires.valid.sound c.requires.unmarked c.args.set.now (held_for_body g.S.LinkStore.atom_id g.S.LinkStore.mem_id (g.S.LinkStore.heap c.args.store.now) c.args.set.now c.requires.held) (parts_can g.S.LinkStore.atom_id g.S.LinkStore.mem_id (g.S.LinkStore.heap c.args.store.now) c.args.set.now c.requires.held c.requires.valid.sound) (parts_home g.S.LinkStore.atom_id g.S.LinkStore.mem_id (g.S.LinkStore.heap c.args.store.now) c.args.set.now c.requires.held) (g.S.LinkStore.mem_id c.at-place.result) c.mark_taken.ensures.0 c.mark_taken.ensures.1 (g.S.LinkStore.heap c.mark_taken.new.store) c.mark_taken.ensures.2 c.as_slice.result.now c.as_slice.ensures atoms membranes (w c.args.membrane c.at-place.result c.at-place.ensures) in
+    subst (λ (h : Heap). c.items_left-items.result ≡ length atoms + sum (map (λ n. 1 + length (rules_in h n)) membranes)) (is_painted g.S.LinkStore.atom_id g.S.LinkStore.mem_id (g.S.LinkStore.heap c.args.store.now) c.requires.valid.sound c.requires.unmarked c.args.set.now (held_for_body g.S.LinkStore.atom_id g.S.LinkStore.mem_id (g.S.LinkStore.heap c.args.store.now) c.args.set.now c.requires.held) (parts_can g.S.LinkStore.atom_id g.S.LinkStore.mem_id (g.S.LinkStore.heap c.args.store.now) c.args.set.now c.requires.held c.requires.valid.sound) (parts_home g.S.LinkStore.atom_id g.S.LinkStore.mem_id (g.S.LinkStore.heap c.args.store.now) c.args.set.now c.requires.held) (g.S.LinkStore.mem_id c.at-place.result) c.mark_taken.ensures.0 c.mark_taken.ensures.1 (g.S.LinkStore.heap c.mark_taken.new.store) c.mark_taken.ensures.2) (c.items_left-items.ensures atoms membranes left)
