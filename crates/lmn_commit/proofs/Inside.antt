@@ -32,6 +32,7 @@ atoms_all {A} atom h atoms m n b l = (
   λ w. (let o = of_handles atom atoms b w.0 in let k = get_below atoms o.0 o.1.0 o.1.1 in (o.0, o.1.0, omega (arith, k, l), o.1.1, o.1.2, w.1)),
 )
 
+-- and so it is of parts
 pub parts_all : {A : Type 0} (atom : A → ℕ) (h : Heap) (parts : List (A × ℕ)) (m n b : ℕ) → length parts ≤ n → IsInFirstInside atom h parts m n b ↔ IsInPartInside atom h parts m b
 parts_all atom h parts m n b l = (λ w. (w.0, w.1, w.3, w.4, w.5), λ w. (let k = get_below parts w.0 w.1 w.2 in (w.0, w.1, omega (arith, k, l), w.2, w.3, w.4)))
 
@@ -39,15 +40,19 @@ parts_all atom h parts m n b l = (λ w. (w.0, w.1, w.3, w.4, w.5), λ w. (let k 
 abbrev pub MarksThese : (ℕ → Type 0) → ℕ → Heap → Heap → Type 0
 MarksThese P mark s t = (all : List ℕ) × ((b : ℕ) → In b all ↔ P b) × (t ≡ own_marked mark all s)
 
+-- an atom that stands there is marked
 pub atom_marked : (mark m a : ℕ) (s t : Heap) → home_of s a ≡ Some m → t ≡ marked s a (arity_of s a) mark → MarksThese (λ b. (a ≡ b) × (home_of s b ≡ Some m)) mark s t
 atom_marked mark m a s t home e = (a ∷ [], λ b. (λ i. elim i [ inl q ↦ (q, subst (λ z. home_of s z ≡ Some m) q home) | inr j ↦ absurd j ], λ w. inl w.0), e)
 
+-- of one that stands elsewhere nothing is
 pub atom_not_marked : (mark m a : ℕ) (s : Heap) → (home_of s a ≡ Some m → ⊥) → MarksThese (λ b. (a ≡ b) × (home_of s b ≡ Some m)) mark s s
 atom_not_marked mark m a s off = ([], λ b. (λ i. absurd i, λ w. absurd (off (subst (λ z. home_of s z ≡ Some m) (sym w.0) w.1))), refl)
 
+-- the atoms of a part whose root stands there are marked
 pub part_marked : (mark m : ℕ) (root : Port) (s t : Heap) → home_of s root.0 ≡ Some m → (ps : List ℕ) → IsPartInDepth s root ps → t ≡ own_marked mark ps s → MarksThese (λ b. (home_of s root.0 ≡ Some m) × Reached (atom_map s) root b) mark s t
 part_marked mark m root s t home ps part e = (ps, λ b. (let w = (part_atoms s root ps part).1 b in (λ i. (home, w.0 i), λ u. w.1 u.1)), e)
 
+-- of one whose root stands elsewhere none is
 pub part_not_marked : (mark m : ℕ) (root : Port) (s : Heap) → (home_of s root.0 ≡ Some m → ⊥) → MarksThese (λ b. (home_of s root.0 ≡ Some m) × Reached (atom_map s) root b) mark s s
 part_not_marked mark m root s off = ([], λ b. (λ i. absurd i, λ w. absurd (off w.0)), refl)
 
@@ -66,27 +71,35 @@ module _ (s : Heap) (has : HasOwnMarks s) (all : List ℕ) (mark : ℕ) (now : H
   is_now : now ≡ own_painted has.0 v
   is_now = marked_more has.0 has.2 has.1 s has.3 all mark now f
 
+  -- the graph is as it was
   pub graph_now : atom_map now ≡ atom_map s
   graph_now = same_graph has.0 has.2 v now is_now ∙ sym (same_graph has.0 has.2 has.1 s has.3)
 
+  -- so is where each atom stands
   pub home_now : (a : ℕ) → home_of now a ≡ home_of s a
   home_now a = ap (λ (n : AtomMap). n.home a) graph_now
 
+  -- and how many ports it has
   pub arity_now : (a : ℕ) → arity_of now a ≡ arity_of s a
   arity_now a = arity_same has.0 has.2 v now is_now a ∙ sym (arity_same has.0 has.2 has.1 s has.3 a)
 
+  -- other marks than own ones are still 0
   pub has_now : HasOwnMarks now
   has_now = (has.0, v, has.2, is_now)
 
+  -- each atom is there
   pub atom_now : (a : ℕ) → IsAtom s a → IsAtom now a
   atom_now a i = there_painted has.0 has.2 v now is_now a (back_painted has.0 has.2 has.1 s has.3 a i)
 
+  -- and each membrane
   pub mem_now : (m : ℕ) → IsMem s m → IsMem now m
   mem_now m i = mem_painted has.0 has.2 v now is_now m (subst (λ (h : Heap). IsMem h m) has.3 i)
 
+  -- and each port
   pub port_now : (a i : ℕ) → i < arity_of s a → i < arity_of now a
   port_now a i l = subst (λ n. i < n) (sym (arity_now a)) l
 
+  -- a part is as whole as it was
   pub whole_now : (root : Port) → IsWhole s root None → IsWhole now root None
   whole_now root w = whole_same s now graph_now arity_now root w
 
@@ -125,6 +138,7 @@ module _ (s : Heap) (has : HasOwnMarks s) (all : List ℕ) (mark : ℕ) (now : H
     ],
   )
 
+  -- so are all parts in registers
   pub wholes_now : {A : Type 0} (atom : A → ℕ) (parts : List (A × ℕ)) → AreWholeParts atom s parts → AreWholeParts atom now parts
   wholes_now atom parts w = λ k p e. (let u = w k p e in (atom_now (atom p.0) u.0, port_now (atom p.0) p.1 u.1, whole_now (port_id atom p) u.2))
 

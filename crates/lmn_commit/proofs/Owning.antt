@@ -101,18 +101,23 @@ own_append v (x ∷ xs) ys s = own_append v xs ys (marked s x (arity_of s x) v)
 
 -- A heap s that is h but for own marks.
 module _ (h : Heap) (z : Unmarked h) (v : ℕ → ℕ) (s : Heap) (e : s ≡ own_painted h v) where
+  -- the graph is that of h
   pub same_graph : atom_map s ≡ atom_map h
   same_graph = ap atom_map e ∙ map_painted own_place h v
 
+  -- each atom has as many ports
   pub arity_same : (a : ℕ) → arity_of s a ≡ arity_of h a
   arity_same a = ap (λ (k : Heap). arity_of k a) e ∙ arity_painted h v a
 
+  -- which are joined alike
   pub link_same : (a i : ℕ) → link_of s a i ≡ link_of h a i
   link_same a i = ap (λ (n : AtomMap). n.partner (a, i)) same_graph
 
+  -- each atom of h is there
   pub there_painted : (a : ℕ) → IsAtom h a → IsAtom s a
   there_painted a i = subst (λ (k : Heap). IsAtom k a) (sym e) (is_paint own_place (v a) (h.atoms a) i)
 
+  -- and no other
   pub back_painted : (a : ℕ) → IsAtom s a → IsAtom h a
   back_painted a i = by (v a) (h.atoms a) (subst (λ (k : Heap). IsAtom k a) e i)
     where
@@ -121,9 +126,11 @@ module _ (h : Heap) (z : Unmarked h) (v : ℕ → ℕ) (s : Heap) (e : s ≡ own
       by (suc w) None i = absurd (cc)
       by (suc w) (Some x) i = refl
 
+  -- each membrane is there
   pub mem_painted : (m : ℕ) → IsMem h m → IsMem s m
   mem_painted m i = subst (λ (k : Heap). IsMem k m) (sym e) i
 
+  -- no mark of a port is set
   pub clean_painted : PortsUnmarked s
   clean_painted = subst (λ (k : Heap). PortsUnmarked k) (sym e) (λ a i l. by (v a) (h.atoms a) i (subst (λ (n : ℕ). i < n) (arity_painted h v a) l) (z a i))
     where
@@ -132,9 +139,11 @@ module _ (h : Heap) (z : Unmarked h) (v : ℕ → ℕ) (s : Heap) (e : s ≡ own
       by (suc w) None i l e = e
       by (suc w) (Some x) i l e = get_or-set_other x.marks (length x.links) i (suc w) 0 (λ (q : i ≡ length x.links). absurd (omega (arith, q, l))) ∙ e
 
+  -- all ports are joined where they are in h
   pub full_painted : ((a i : ℕ) → i < arity_of h a → IsSome (link_of h a i)) → (a i : ℕ) → i < arity_of s a → IsSome (link_of s a i)
   full_painted full a i l = subst IsSome (sym (link_same a i)) (full a i (subst (λ n. i < n) (arity_same a) l))
 
+  -- each port is there
   pub port_painted : (a i : ℕ) → i < arity_of h a → i < arity_of s a
   port_painted a i l = subst (λ n. i < n) (sym (arity_same a)) l
 

@@ -37,6 +37,7 @@ module _ {A M : Type 0} (atom : A → ℕ) (membrane : M → ℕ) (s : Heap) (so
   abbrev v : ℕ → ℕ
   v = all_at all 1 none
 
+  -- the marks that are set
   pub is_painted : t ≡ own_painted s v
   is_painted = e ∙ marked_is s all 1 z
 
@@ -111,12 +112,15 @@ module _ {A M : Type 0} (atom : A → ℕ) (membrane : M → ℕ) (s : Heap) (so
   all_painted [] = refl
   all_painted (n ∷ ms) = ap (λ zs. zs ++ atoms_of_all s ms) (sym (lists_painted n).0) ∙ ap (λ zs. atoms_in t n ++ zs) (all_painted ms)
 
+  -- each membrane is there
   pub asked_mem : (n : ℕ) → IsMem s n → IsMem t n
   asked_mem n i = mem_painted s z v t is_painted n i
 
+  -- those in registers are set apart
   pub asked_out : (out : List M) → out ≡ g.membranes → AreMembranes t (map membrane out)
   asked_out out same = are_membranes membrane t out (λ k n u. asked_mem (membrane n) (held.membranes k n (subst (λ ms. slice_get ms k ≡ Some n) same u)))
 
+  -- no mark of a port is set
   pub asked_clean : PortsUnmarked t
   asked_clean = clean_painted s z v t is_painted
 
@@ -134,15 +138,18 @@ module _ {A M : Type 0} (atom : A → ℕ) (membrane : M → ℕ) (s : Heap) (so
     r_unmarked : Unmarked r
     r_unmarked = c.makes.unmarked z
 
+    -- other marks than own ones are 0
     pub again_marked : HasOwnMarks u
     again_marked = (r, v, r_unmarked, c.is)
 
     r_atom : (a : ℕ) → IsAtom s a → IsAtom r a
     r_atom a i = subst (λ (o : Option HeapAtom). IsSome o) (sym (c.makes.kept a i)) i
 
+    -- the atoms in registers are there
     pub again_held : AreAtomHandles atom u g.atoms
     again_held = λ k a q. there_painted r r_unmarked v u c.is (atom a) (r_atom (atom a) (held.atoms k a q))
 
+    -- the parts in registers are whole
     pub again_parts : AreWholeParts atom u g.parts
     again_parts = λ k q i. (
         let still = still_copied s r sound.paired c.makes (port_id atom q) (can k q i) in (
@@ -151,6 +158,7 @@ module _ {A M : Type 0} (atom : A → ℕ) (membrane : M → ℕ) (s : Heap) (so
           whole_same r u (same_graph r r_unmarked v u c.is) (arity_same r r_unmarked v u c.is) (port_id atom q) still.whole,
         ))
 
+    -- each membrane is there
     pub again_mem : (n : ℕ) → IsMem s n → IsMem u n
     again_mem n i = mem_painted r r_unmarked v u c.is n (c.keeps n i)
 
@@ -166,6 +174,7 @@ module _ {A M : Type 0} (atom : A → ℕ) (membrane : M → ℕ) (s : Heap) (so
 
     -- The marks are taken back.
     module _ (again : List ℕ) (retold : (a : ℕ) → In a again ↔ IsTakenInside {A = A} {M = M} atom u g m a) (w : Heap) (f : w ≡ own_marked 0 again u) where
+      -- what is left is the heap without marks
       pub last_is : w ≡ r
       last_is = marked_more r r_unmarked v u c.is again 0 w f ∙ painted_none own_place r (all_at again 0 v) (λ a. elim (decide_in a again) [
         | inl i ↦ in_all again 0 v a i
@@ -180,6 +189,7 @@ module _ {A M : Type 0} (atom : A → ℕ) (membrane : M → ℕ) (s : Heap) (so
     abbrev left_membrane : ℕ → Bool
     left_membrane n = not (is_in (map membrane out) n)
 
+    -- The rest besides the registers is left by the marks.
     pub beside_left : (atoms membranes : List ℕ) → IsRestBeside atom membrane s g m atoms membranes → IsLeft t m (map membrane out) atoms membranes
     beside_left atoms membranes w =
         let same : (a : ℕ) → In a (atoms_in s m) → w.0 a ≡ left_atom a = λ a i.
@@ -219,6 +229,7 @@ module _ {A M : Type 0} (atom : A → ℕ) (membrane : M → ℕ) (s : Heap) (so
       left : IsLeft t m (map membrane out) closed.0 closed.1
       left = beside_left closed.0 closed.1 closed.2
 
+      -- There is a rest.
       pub asked_rest : (atoms membranes : List ℕ) × IsLeft t m (map membrane out) atoms membranes
       asked_rest = (closed.0, closed.1, left)
 
@@ -282,6 +293,7 @@ module _ {A M : Type 0} (atom : A → ℕ) (membrane : M → ℕ) (s : Heap) (so
       module _ {T E : Type 0} (result : Result T E) (u : Heap)
           (ok : OnOk result ((atoms membranes : List ℕ) → IsLeft t m (map membrane out) atoms membranes → (copies : List ℕ) × (rooms : List (ℕ × ℕ)) × RestCopied t u atoms membranes copies rooms))
           (err : OnErr result ((atoms membranes : List ℕ) → IsLeft t m (map membrane out) atoms membranes → RestRemains t u atoms)) where
+        -- the heap without marks
         pub seen : (r : Heap) × GoesOn u r
         seen = by result ok err
           where
@@ -292,6 +304,7 @@ module _ {A M : Type 0} (atom : A → ℕ) (membrane : M → ℕ) (s : Heap) (so
 
         -- The marks are taken back.
         module _ (again : List ℕ) (retold : (a : ℕ) → In a again ↔ IsTakenInside {A = A} {M = M} atom u g m a) (w : Heap) (f : w ≡ own_marked 0 again u) where
+          -- It only makes,
           pub last_makes : OnlyMakes s w
           last_makes = subst (OnlyMakes s) (sym (last_is u seen.0 seen.1 again retold w f)) seen.1.makes
 
@@ -316,6 +329,7 @@ module _ {A M : Type 0} (atom : A → ℕ) (membrane : M → ℕ) (s : Heap) (so
                   room = rest_keeps_room s w closed.0 closed.1 q.0 q.1 q.2 sound.paired sound.shaped there once closed.3;
                 }
 
+          -- and where it succeeds the rest is copied.
           pub last_copied : OnOk result (RestIsMade atom membrane s w g m)
           last_copied = on_ok_weaker result rest_now ok
 
