@@ -28,12 +28,11 @@ use Rattle.lmn_body.specs.declared.items.BodyItem.{BodyItem}
 use Rattle.lmn_body.specs.declared.items.BodyItem.TheVariants.{Atom, Connector}
 use Rattle.lmn_body.specs.Flattening.{BodyNames, atom_item, typed_item, body_leaf_items, context_items, body_rule_items, rule_context_items}
 use Rattle.lmn_body.specs.Running.{Registers, integer_functor}
-use Rattle.lmn_body.specs.Added.{added_mems, added_rules}
-use Rattle.lmn_body.specs.Within.{added_with_copies}
 use Rattle.std.specs.Prelude.{◌&&◌}
 use Rattle.lmn_turn.specs.Standing.{StandAs, none_stands}
 use Rattle.lmn_turn.proofs.Standings.{stand_both}
-use Rattle.lmn_turn.proofs.Adders.{at, here_is}
+use Rattle.lmn_compile_head.proofs.OpenHeads.{AllOpen}
+use Rattle.lmn_turn.proofs.Adders.{at, here_is, open_solid, open_mems, open_rules, solid_rest_here, mems_rest_here, rules_rest_none}
 use Rattle.lmn_turn.proofs.CopyLinks.{Block}
 use Rattle.lmn_turn.proofs.OwnLinks.{open_atoms, open_membranes, OwnLeaves, own_none, own_atom, own_connector, own_integer, own_copy}
 use Rattle.lmn_turn.proofs.Locals.{next_copy, after_leaves, after_level}
@@ -125,7 +124,7 @@ module _ (h h' : Heap) (r r' : HeapReading) (s : Registers) (bn : BodyNames) (c 
 
   -- the atoms that items add, the next copy with a number
   abbrev solid : ℕ → List BodyItem → ℕ → List region.SolidAtom
-  solid k xs x = map (solid_atom_of r.names) (added_with_copies s left copy (λ z. to (of_rule z)) k xs x)
+  solid k xs x = map (solid_atom_of r.names) (open_solid s left copy (λ z. to (of_rule z)) k xs x)
 
   -- ---- what is asked of the contents
 
@@ -203,19 +202,19 @@ module _ (h h' : Heap) (r r' : HeapReading) (s : Registers) (bn : BodyNames) (c 
 
   -- and what the items add
   typed_atoms : (inside : ℕ) (o : Option ℕ) (k n x : ℕ) (xs : List BodyItem) → TypedAgrees o k n x →
-      fused_leaves to (typed_made o k (bn.integer n) x) ++ map (solid_atom_of r.names) (added_with_copies s left copy (λ z. to (of_rule z)) (next_copy o k) xs (at s inside))
-      ≡ map (solid_atom_of r.names) (added_with_copies s left copy (λ z. to (of_rule z)) k (typed_item o (bn.integer n) x inside ∷ xs) (at s inside))
+      fused_leaves to (typed_made o k (bn.integer n) x) ++ map (solid_atom_of r.names) (open_solid s left copy (λ z. to (of_rule z)) (next_copy o k) xs (at s inside))
+      ≡ map (solid_atom_of r.names) (open_solid s left copy (λ z. to (of_rule z)) k (typed_item o (bn.integer n) x inside ∷ xs) (at s inside))
   typed_atoms inside (Some g) k n x xs a =
-      let rest = added_with_copies s left copy (λ z. to (of_rule z)) (k + 1) xs (at s inside) in
+      let rest = open_solid s left copy (λ z. to (of_rule z)) (k + 1) xs (at s inside) in
       ap (λ ys. ys ++ map (solid_atom_of r.names) rest) (fused_made to (part k x) ∙ a.atoms)
       ∙ sym (map-append (solid_atom_of r.names) (copy k) rest)
       ∙ ap (map (solid_atom_of r.names)) (sym (here_is (at s inside) (copy k) rest))
   typed_atoms inside None k n x xs a =
       let atom : SolidAtom = record { functor = integer_functor (s.head.integer (bn.integer n)); links = to (of_rule x) ∷ [] } in
-      ap (map (solid_atom_of r.names)) (sym (here_is (at s inside) (atom ∷ []) (added_with_copies s left copy (λ z. to (of_rule z)) k xs (at s inside))))
+      ap (map (solid_atom_of r.names)) (sym (here_is (at s inside) (atom ∷ []) (open_solid s left copy (λ z. to (of_rule z)) k xs (at s inside))))
 
   pub leaf_atoms : (inside k : ℕ) (ls : List Leaf) → LeavesAgree k ls →
-      fused_leaves to (leaves_made k ls) ≡ map (solid_atom_of r.names) (added_with_copies s left copy (λ z. to (of_rule z)) k (body_leaf_items bn inside ls) (at s inside))
+      fused_leaves to (leaves_made k ls) ≡ map (solid_atom_of r.names) (open_solid s left copy (λ z. to (of_rule z)) k (body_leaf_items bn inside ls) (at s inside))
   leaf_atoms inside k [] a = refl
   leaf_atoms inside k (leaf.Atom f os p ∷ ls) a = elim (leaf_cases r.names f (map (λ o. o.link) os) inside (length-map os (λ o. o.link) ∙ a.0)) [
     | inl e ↦ ap (λ l. fused_leaves to (placed_leaf l ∷ leaves_made k ls)) e.2 ∙ leaf_atoms inside k ls a.1 ∙ ap (λ (i : BodyItem). solid k (i ∷ body_leaf_items bn inside ls) (at s inside)) (sym e.3)
@@ -223,7 +222,7 @@ module _ (h h' : Heap) (r r' : HeapReading) (s : Registers) (bn : BodyNames) (c 
         let one : record { label = label_of r.names f.label; links = map to (map of_rule ys) } ≡ solid_atom_of r.names (record { functor = f; links = map (λ z. to (of_rule z)) ys }) =
         λ i. record { label = label_of r.names f.label; links = map_twice to of_rule ys i } in
         ap (λ l. fused_leaves to (placed_leaf l ∷ leaves_made k ls)) e.0 ∙ (λ i. one i ∷ leaf_atoms inside k ls a.1 i)
-        ∙ ap (map (solid_atom_of r.names)) (sym (here_is (at s inside) ((record { functor = f; links = map (λ z. to (of_rule z)) ys }) ∷ []) (added_with_copies s left copy (λ z. to (of_rule z)) k (body_leaf_items bn inside ls) (at s inside))))
+        ∙ ap (map (solid_atom_of r.names)) (sym (here_is (at s inside) ((record { functor = f; links = map (λ z. to (of_rule z)) ys }) ∷ []) (open_solid s left copy (λ z. to (of_rule z)) k (body_leaf_items bn inside ls) (at s inside))))
         ∙ ap (λ (i : BodyItem). solid k (i ∷ body_leaf_items bn inside ls) (at s inside)) (sym e.1))
   ]
   leaf_atoms inside k (leaf.Typed n o p ∷ ls) a =
@@ -233,7 +232,7 @@ module _ (h h' : Heap) (r r' : HeapReading) (s : Registers) (bn : BodyNames) (c 
 
   -- leaves add no membranes and no rules
   atom_item_adds : (b : Bool) (f : Functor) (ys : List ℕ) (inside n x : ℕ) (xs : List BodyItem) →
-      (added_mems s left_mems n (atom_item b f ys inside ∷ xs) x ≡ added_mems s left_mems n xs x) × (added_rules s (rules_in h) (atom_item b f ys inside ∷ xs) x ≡ added_rules s (rules_in h) xs x)
+      (open_mems s left_mems n (atom_item b f ys inside ∷ xs) x ≡ open_mems s left_mems n xs x) × (open_rules s (rules_in h) (atom_item b f ys inside ∷ xs) x ≡ open_rules s (rules_in h) xs x)
   atom_item_adds true f [] inside n x xs = (refl, refl)
   atom_item_adds true f (a ∷ []) inside n x xs = (refl, refl)
   atom_item_adds true f (a ∷ (b ∷ [])) inside n x xs = (refl, refl)
@@ -241,11 +240,11 @@ module _ (h h' : Heap) (r r' : HeapReading) (s : Registers) (bn : BodyNames) (c 
   atom_item_adds false f ys inside n x xs = (refl, refl)
 
   typed_item_adds : (o : Option ℕ) (i y inside n x : ℕ) (xs : List BodyItem) →
-      (added_mems s left_mems n (typed_item o i y inside ∷ xs) x ≡ added_mems s left_mems n xs x) × (added_rules s (rules_in h) (typed_item o i y inside ∷ xs) x ≡ added_rules s (rules_in h) xs x)
+      (open_mems s left_mems n (typed_item o i y inside ∷ xs) x ≡ open_mems s left_mems n xs x) × (open_rules s (rules_in h) (typed_item o i y inside ∷ xs) x ≡ open_rules s (rules_in h) xs x)
   typed_item_adds (Some g) i y inside n x xs = (refl, refl)
   typed_item_adds None i y inside n x xs = (refl, refl)
 
-  pub leaf_adds : (inside n x : ℕ) (ls : List Leaf) → (added_mems s left_mems n (body_leaf_items bn inside ls) x ≡ []) × (added_rules s (rules_in h) (body_leaf_items bn inside ls) x ≡ [])
+  pub leaf_adds : (inside n x : ℕ) (ls : List Leaf) → (open_mems s left_mems n (body_leaf_items bn inside ls) x ≡ []) × (open_rules s (rules_in h) (body_leaf_items bn inside ls) x ≡ [])
   leaf_adds inside n x [] = (refl, refl)
   leaf_adds inside n x (leaf.Atom f os p ∷ ls) =
       let a = atom_item_adds (same_functor f connector) f (map (λ o. o.link) os) inside n x (body_leaf_items bn inside ls) in
@@ -258,48 +257,48 @@ module _ (h h' : Heap) (r r' : HeapReading) (s : Registers) (bn : BodyNames) (c 
 
   -- ---- contexts and rules
 
-  pub context_atoms_are : (inside k : ℕ) (us : List CtxUse) → ContextsAgree us →
-      fused_leaves to (kept_atoms (open_atoms c (names_of r.names us))) ≡ map (solid_atom_of r.names) (added_with_copies s left copy (λ z. to (of_rule z)) k (context_items bn inside us) (at s inside))
-  context_atoms_are inside k us a = fused_kept to (open_atoms c (names_of r.names us)) ∙ by us a
+  pub context_atoms_are : (inside k : ℕ) (us : List CtxUse) → AllOpen us → ContextsAgree us →
+      fused_leaves to (kept_atoms (open_atoms c (names_of r.names us))) ≡ map (solid_atom_of r.names) (open_solid s left copy (λ z. to (of_rule z)) k (context_items bn inside us) (at s inside))
+  context_atoms_are inside k us o a = fused_kept to (open_atoms c (names_of r.names us)) ∙ by us o a
     where
-      by : (us : List CtxUse) → ContextsAgree us → map (renamed_atom (λ z. to (of_solid z))) (open_atoms c (names_of r.names us)) ≡ map (solid_atom_of r.names) (added_with_copies s left copy (λ z. to (of_rule z)) k (context_items bn inside us) (at s inside))
-      by [] a = refl
-      by (u ∷ us) a =
+      by : (us : List CtxUse) → AllOpen us → ContextsAgree us → map (renamed_atom (λ z. to (of_solid z))) (open_atoms c (names_of r.names us)) ≡ map (solid_atom_of r.names) (open_solid s left copy (λ z. to (of_rule z)) k (context_items bn inside us) (at s inside))
+      by [] o a = refl
+      by (u ∷ us) o a =
           let mine = left (at s (bn.context u.name)) in
-          let rest = added_with_copies s left copy (λ z. to (of_rule z)) k (context_items bn inside us) (at s inside) in
+          let rest = open_solid s left copy (λ z. to (of_rule z)) k (context_items bn inside us) (at s inside) in
           map-append (renamed_atom (λ z. to (of_solid z))) (c.atoms_of (tree.open_context (name_of r.names u.name))) (open_atoms c (names_of r.names us))
-          ∙ (λ i. a.0.atoms i ++ by us a.1 i) ∙ sym (map-append (solid_atom_of r.names) mine rest)
-          ∙ ap (map (solid_atom_of r.names)) (sym (here_is (at s inside) mine rest))
+          ∙ (λ i. a.0.atoms i ++ by us o.1 a.1 i) ∙ sym (map-append (solid_atom_of r.names) mine rest)
+          ∙ ap (map (solid_atom_of r.names)) (sym (solid_rest_here s left copy (λ z. to (of_rule z)) (bn.context u.name) inside k u.closed (context_items bn inside us) o.0))
 
-  pub context_membranes_stand : (inside n : ℕ) (us : List CtxUse) → ContextsAgree us → StandAs h' r' (added_mems s left_mems n (context_items bn inside us) (at s inside)) (fused_levels to (levels (open_membranes c (names_of r.names us))))
-  context_membranes_stand inside n [] a = none_stands
-  context_membranes_stand inside n (u ∷ us) a =
+  pub context_membranes_stand : (inside n : ℕ) (us : List CtxUse) → AllOpen us → ContextsAgree us → StandAs h' r' (open_mems s left_mems n (context_items bn inside us) (at s inside)) (fused_levels to (levels (open_membranes c (names_of r.names us))))
+  context_membranes_stand inside n [] o a = none_stands
+  context_membranes_stand inside n (u ∷ us) o a =
       let mine = left_mems (at s (bn.context u.name)) in
-      let rest = added_mems s left_mems n (context_items bn inside us) (at s inside) in
+      let rest = open_mems s left_mems n (context_items bn inside us) (at s inside) in
       let p = name_of r.names u.name in
-      subst (λ xs. StandAs h' r' xs (fused_levels to (levels (kept_membranes (c.membranes_of (tree.open_context p)) ++ open_membranes c (names_of r.names us))))) (sym (here_is (at s inside) mine rest))
-      (stand_both h' r' to mine rest (kept_membranes (c.membranes_of (tree.open_context p))) (open_membranes c (names_of r.names us)) a.0.membranes (context_membranes_stand inside n us a.1))
+      subst (λ xs. StandAs h' r' xs (fused_levels to (levels (kept_membranes (c.membranes_of (tree.open_context p)) ++ open_membranes c (names_of r.names us))))) (sym (mems_rest_here s left_mems (bn.context u.name) inside n u.closed (context_items bn inside us) o.0))
+      (stand_both h' r' to mine rest (kept_membranes (c.membranes_of (tree.open_context p))) (open_membranes c (names_of r.names us)) a.0.membranes (context_membranes_stand inside n us o.1 a.1))
 
-  pub contexts_no_rules : (inside x : ℕ) (us : List CtxUse) → added_rules s (rules_in h) (context_items bn inside us) x ≡ []
-  contexts_no_rules inside x [] = refl
-  contexts_no_rules inside x (u ∷ us) = contexts_no_rules inside x us
+  pub contexts_no_rules : (inside x : ℕ) (us : List CtxUse) → AllOpen us → open_rules s (rules_in h) (context_items bn inside us) x ≡ []
+  contexts_no_rules inside x [] o = refl
+  contexts_no_rules inside x (u ∷ us) o = rules_rest_none s (rules_in h) (bn.context u.name) inside x u.closed (context_items bn inside us) o.0 ∙ contexts_no_rules inside x us o.1
 
-  pub rules_alone : (inside n k x : ℕ) (ks : List ℕ) → (added_with_copies s left copy (λ z. to (of_rule z)) k (body_rule_items inside ks) x ≡ []) × (added_mems s left_mems n (body_rule_items inside ks) x ≡ [])
+  pub rules_alone : (inside n k x : ℕ) (ks : List ℕ) → (open_solid s left copy (λ z. to (of_rule z)) k (body_rule_items inside ks) x ≡ []) × (open_mems s left_mems n (body_rule_items inside ks) x ≡ [])
   rules_alone inside n k x [] = (refl, refl)
   rules_alone inside n k x (j ∷ ks) = rules_alone inside n k x ks
 
-  pub rule_contexts_alone : (inside n k x : ℕ) (us : List CtxUse) → (added_with_copies s left copy (λ z. to (of_rule z)) k (rule_context_items bn inside us) x ≡ []) × (added_mems s left_mems n (rule_context_items bn inside us) x ≡ [])
+  pub rule_contexts_alone : (inside n k x : ℕ) (us : List CtxUse) → (open_solid s left copy (λ z. to (of_rule z)) k (rule_context_items bn inside us) x ≡ []) × (open_mems s left_mems n (rule_context_items bn inside us) x ≡ [])
   rule_contexts_alone inside n k x [] = (refl, refl)
   rule_contexts_alone inside n k x (u ∷ us) = rule_contexts_alone inside n k x us
 
-  pub rules_are : (inside : ℕ) (ks : List ℕ) → map r.rule ks ≡ map r.rule (added_rules s (rules_in h) (body_rule_items inside ks) (at s inside))
+  pub rules_are : (inside : ℕ) (ks : List ℕ) → map r.rule ks ≡ map r.rule (open_rules s (rules_in h) (body_rule_items inside ks) (at s inside))
   rules_are inside [] = refl
   rules_are inside (k ∷ ks) =
-      ap (λ z. r.rule k ∷ z) (rules_are inside ks) ∙ ap (map r.rule) (sym (here_is (at s inside) (k ∷ []) (added_rules s (rules_in h) (body_rule_items inside ks) (at s inside))))
+      ap (λ z. r.rule k ∷ z) (rules_are inside ks) ∙ ap (map r.rule) (sym (here_is (at s inside) (k ∷ []) (open_rules s (rules_in h) (body_rule_items inside ks) (at s inside))))
 
-  pub rule_contexts_are : (inside : ℕ) (us : List CtxUse) → RuleContextsAgree us → context_rules c (names_of r.names us) ≡ map r.rule (added_rules s (rules_in h) (rule_context_items bn inside us) (at s inside))
+  pub rule_contexts_are : (inside : ℕ) (us : List CtxUse) → RuleContextsAgree us → context_rules c (names_of r.names us) ≡ map r.rule (open_rules s (rules_in h) (rule_context_items bn inside us) (at s inside))
   rule_contexts_are inside [] a = refl
   rule_contexts_are inside (u ∷ us) a =
       let mine = rules_in h (at s (bn.rule_context u.name)) in
-      let rest = added_rules s (rules_in h) (rule_context_items bn inside us) (at s inside) in
+      let rest = open_rules s (rules_in h) (rule_context_items bn inside us) (at s inside) in
       (λ i. a.0 i ++ rule_contexts_are inside us a.1 i) ∙ sym (map-append r.rule mine rest) ∙ ap (map r.rule) (sym (here_is (at s inside) mine rest))

@@ -1,7 +1,8 @@
 -- The map of raw links after a firing, with the links inside copies, and what the firing says by it.
 use Rattle.std.proofs.Common.{ℕ, ◌≡◌, ◌+◌, ◌<◌, ◌≤◌, List, ◌++◌, length, sym, ap, ◌∙◌, arith}
 use Rattle.lmn_base.specs.declared.solid.SolidAtom.{SolidAtom}
-use Rattle.lmn_heap.specs.Heap.{Heap, IsMem}
+use Rattle.lmn_heap.specs.Heap.{Heap, IsMem, atoms_in}
+use Rattle.lmn_heap.specs.Lists.{without_all}
 use Rattle.lmn_heap.specs.Solid.{solid_atoms_at}
 use Rattle.lmn_congruence.specs.Regions as region
 use Rattle.lmn_solid.specs.declared.items.HeadItem.{HeadItem}
@@ -11,8 +12,9 @@ use Rattle.lmn_body.specs.declared.items.BodyItem.{BodyItem}
 use Rattle.lmn_body.specs.Items.{connectors}
 use Rattle.lmn_body.specs.Made.{copies_of}
 use Rattle.lmn_body.specs.Running.{Registers}
-use Rattle.lmn_body.specs.Within.{FiresWithin, FiredSolid, added_with_copies, left_solid}
+use Rattle.lmn_body.specs.Within.{FiresWithin, FiredSolid, membrane_images, removed_mems, left_solid, rest_solid}
 use Rattle.lmn_bridge.specs.HeapRegions.{HeapReading}
+use Rattle.lmn_turn.proofs.Adders.{NoRestCopied, open_solid, solid_is_open}
 use Rattle.lmn_turn.proofs.CopyLinks.{over, over_rule, over_solid}
 use Rattle.lmn_turn.proofs.CopyMaps.{CopyData, Copies, chosen, KnownBy, each_known, raw_part}
 use Rattle.lmn_turn.proofs.EachCopy.{EachCopy}
@@ -61,9 +63,13 @@ module _ (h h' : Heap) (r : HeapReading) (s : Registers) (head : List HeadItem) 
   rule_is : ◌≡◌ {A = ℕ → ℕ} (λ z. f.to (of_rule z)) (λ z. map_of (of_rule z))
   rule_is = λ i z. sym (map_rule z) i
 
-  -- and by it the atoms of each membrane are what is left and what is added
-  pub map_fired : FiredTo h (λ p. r.name p.0 p.1) s head body taken h' (λ a i. f.number (a, i)) map_of copy_of
-  map_fired x o = solid x o ∙ (λ i. left_is i x ++ added_with_copies s (left_is i) copy_of (rule_is i) 0 body x)
+  -- and by it the atoms of each membrane are what is left and what is added, where no rest is copied
+  pub map_fired : NoRestCopied body → ((x : ℕ) → In x (removed_mems s head) → In x (membrane_images s head)) → FiredTo h (λ p. r.name p.0 p.1) s head body taken h' (λ a i. f.number (a, i)) map_of copy_of
+  map_fired none no_drops x o =
+      let left = left_solid h (λ p. r.name p.0 p.1) taken (λ z. f.to (of_solid z)) in
+      let rest = rest_solid h' f.number s (λ k. without_all taken (atoms_in h k)) in
+      solid x (λ i. o (no_drops x i)) ∙ ap (λ xs. left x ++ xs) (solid_is_open s f.rests left copy_of rest (λ z. f.to (of_rule z)) 0 body x none)
+      ∙ (λ i. left_is i x ++ open_solid s (left_is i) copy_of (rule_is i) 0 body x)
 
   -- what is known of each copy
   abbrev pub Known : ℕ → ℕ → ℕ → Type 0

@@ -5,7 +5,7 @@ use Rattle.lmn_heap.specs.Sound.{Forest, bare, mem, flat, Forms}
 use Rattle.lmn_heap.proofs.ListLemmas.{in_left, in_right}
 use Rattle.lmn_congruence.specs.Fused.{Joins}
 use Rattle.lmn_congruence.specs.Plains.{fused_levels, leaf_process, level_process, levels_processes}
-use Rattle.lmn_congruence.specs.Process.{together, rule}
+use Rattle.lmn_congruence.specs.Process.{together}
 use Rattle.lmn_congruence.specs.Regions.{Region, Regions, SolidAtom, no_region, region, region_and}
 use Rattle.lmn_congruence.specs.Rules.{Level, level, rules_list}
 use Rattle.lmn_congruence.specs.Same.{renamed_atom}

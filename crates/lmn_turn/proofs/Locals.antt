@@ -9,10 +9,11 @@ use Rattle.lmn_heap.specs.Functors.{same_functor}
 use Rattle.std.proofs.lemmas.List.{append-nil}
 use Rattle.lmn_solid.proofs.HeadTrees.{Head, Heads, head, no_head, head_and, size, sizes}
 use Rattle.lmn_body.specs.declared.items.BodyItem.{BodyItem}
-use Rattle.lmn_body.specs.declared.items.BodyItem.TheVariants.{Membrane}
+use Rattle.lmn_body.specs.declared.items.BodyItem.TheVariants.{Membrane, Rest}
 use Rattle.lmn_body.specs.Flattening.{BodyNames, atom_item, typed_item, body_leaf_items, context_items, body_rule_items, rule_context_items}
 use Rattle.lmn_compile_body.proofs.BodyTrees.{flat_body, flat_bodies}
-use Rattle.lmn_turn.proofs.Adders.{at, many, many_both, past, past_both, Elsewhere, Misses, misses_both, Adder}
+use Rattle.lmn_compile_head.proofs.OpenHeads.{AllOpen, OpenHead, OpenHeads}
+use Rattle.lmn_turn.proofs.Adders.{at, many, many_both, past, past_both, Elsewhere, Misses, misses_both, Adder, NoRestCopied, no_rest_both}
 use Rattle.lmn_body.specs.Running.{Registers}
 
 -- ---- the numbers of copies
@@ -135,6 +136,53 @@ module _ (bn : BodyNames) where
         let a = many_both (flat_body bn next (next + 1) h) (flat_bodies bn inside (next + 1 + size h) hs) in
         omega (arith, a, many_flat next (next + 1) h, many_inside inside (next + 1 + size h) hs)
 
+  -- ---- no rest is copied
+
+  atom_open : (b : Bool) (f : Functor) (ys : List ℕ) (inside : ℕ) (xs : List BodyItem) → NoRestCopied xs → NoRestCopied (atom_item b f ys inside ∷ xs)
+  atom_open true f [] inside xs o = o
+  atom_open true f (a ∷ []) inside xs o = o
+  atom_open true f (a ∷ (b ∷ [])) inside xs o = o
+  atom_open true f (a ∷ (b ∷ (c ∷ ys))) inside xs o = o
+  atom_open false f ys inside xs o = o
+
+  typed_open : (t : Option ℕ) (i x inside : ℕ) (xs : List BodyItem) → NoRestCopied xs → NoRestCopied (typed_item t i x inside ∷ xs)
+  typed_open (Some g) i x inside xs o = o
+  typed_open None i x inside xs o = o
+
+  leaves_open : (inside : ℕ) (ls : List Leaf) → NoRestCopied (body_leaf_items bn inside ls)
+  leaves_open inside [] = tt
+  leaves_open inside (leaf.Atom f os p ∷ ls) = atom_open (same_functor f connector) f (map (λ o. o.link) os) inside (body_leaf_items bn inside ls) (leaves_open inside ls)
+  leaves_open inside (leaf.Typed n o p ∷ ls) = typed_open (bn.part n) (bn.integer n) o.link inside (body_leaf_items bn inside ls) (leaves_open inside ls)
+
+  rest_open : (of inside : ℕ) (b : Bool) (xs : List BodyItem) → b ≡ false → NoRestCopied xs → NoRestCopied (Rest of b inside ∷ xs)
+  rest_open of inside true xs e o = absurd (cc)
+  rest_open of inside false xs e o = o
+
+  contexts_open : (inside : ℕ) (us : List CtxUse) → AllOpen us → NoRestCopied (context_items bn inside us)
+  contexts_open inside [] o = tt
+  contexts_open inside (u ∷ us) o = rest_open (bn.context u.name) inside u.closed (context_items bn inside us) o.0 (contexts_open inside us o.1)
+
+  rules_open : (inside : ℕ) (ks : List ℕ) → NoRestCopied (body_rule_items inside ks)
+  rules_open inside [] = tt
+  rules_open inside (k ∷ ks) = rules_open inside ks
+
+  rule_contexts_open : (inside : ℕ) (us : List CtxUse) → NoRestCopied (rule_context_items bn inside us)
+  rule_contexts_open inside [] = tt
+  rule_contexts_open inside (u ∷ us) = rule_contexts_open inside us
+
+  mutual
+    -- a level without closed contexts copies no rest
+    pub body_open : (inside next : ℕ) (h : Head) → OpenHead h → NoRestCopied (flat_body bn inside next h)
+    body_open inside next (head leaves hs cs rcs rs) o =
+        no_rest_both (body_leaf_items bn inside leaves) (flat_bodies bn inside next hs ++ (context_items bn inside cs ++ (body_rule_items inside rs ++ rule_context_items bn inside rcs))) (leaves_open inside leaves)
+        (no_rest_both (flat_bodies bn inside next hs) (context_items bn inside cs ++ (body_rule_items inside rs ++ rule_context_items bn inside rcs)) (bodies_open inside next hs o.1)
+        (no_rest_both (context_items bn inside cs) (body_rule_items inside rs ++ rule_context_items bn inside rcs) (contexts_open inside cs o.0)
+        (no_rest_both (body_rule_items inside rs) (rule_context_items bn inside rcs) (rules_open inside rs) (rule_contexts_open inside rcs))))
+
+    bodies_open : (inside next : ℕ) (hs : Heads) → OpenHeads hs → NoRestCopied (flat_bodies bn inside next hs)
+    bodies_open inside next no_head o = tt
+    bodies_open inside next (head_and h hs) o = no_rest_both (flat_body bn next (next + 1) h) (flat_bodies bn inside (next + 1 + size h) hs) (body_open next (next + 1) h o.0) (bodies_open inside (next + 1 + size h) hs o.1)
+
   -- ---- where items are written
 
   module _ (s : Registers) where
@@ -154,9 +202,13 @@ module _ (bn : BodyNames) where
     leaves_miss x inside d (leaf.Atom f os p ∷ ls) = (atom_elsewhere x (same_functor f connector) f (map (λ o. o.link) os) inside d, leaves_miss x inside d ls)
     leaves_miss x inside d (leaf.Typed n o p ∷ ls) = (typed_elsewhere x (bn.part n) (bn.integer n) o.link inside d, leaves_miss x inside d ls)
 
-    contexts_miss : (x inside : ℕ) → at s inside ≢ x → (us : List CtxUse) → Misses s x (context_items bn inside us)
-    contexts_miss x inside d [] = tt
-    contexts_miss x inside d (u ∷ us) = (d, contexts_miss x inside d us)
+    rest_elsewhere : (x of inside : ℕ) (b : Bool) → b ≡ false → at s inside ≢ x → Elsewhere s x (Rest of b inside)
+    rest_elsewhere x of inside true e d = absurd (cc)
+    rest_elsewhere x of inside false e d = d
+
+    contexts_miss : (x inside : ℕ) → at s inside ≢ x → (us : List CtxUse) → AllOpen us → Misses s x (context_items bn inside us)
+    contexts_miss x inside d [] o = tt
+    contexts_miss x inside d (u ∷ us) o = (rest_elsewhere x (bn.context u.name) inside u.closed o.0 d, contexts_miss x inside d us o.1)
 
     rules_miss : (x inside : ℕ) → at s inside ≢ x → (ks : List ℕ) → Misses s x (body_rule_items inside ks)
     rules_miss x inside d [] = tt
@@ -166,25 +218,25 @@ module _ (bn : BodyNames) where
     rule_contexts_miss x inside d [] = tt
     rule_contexts_miss x inside d (u ∷ us) = (d, rule_contexts_miss x inside d us)
 
-    behind_miss : (x inside : ℕ) → at s inside ≢ x → (cs rcs : List CtxUse) (rs : List ℕ) → Misses s x (context_items bn inside cs ++ (body_rule_items inside rs ++ rule_context_items bn inside rcs))
-    behind_miss x inside d cs rcs rs =
-        misses_both s x (context_items bn inside cs) (body_rule_items inside rs ++ rule_context_items bn inside rcs) (contexts_miss x inside d cs)
+    behind_miss : (x inside : ℕ) → at s inside ≢ x → (cs rcs : List CtxUse) (rs : List ℕ) → AllOpen cs → Misses s x (context_items bn inside cs ++ (body_rule_items inside rs ++ rule_context_items bn inside rcs))
+    behind_miss x inside d cs rcs rs o =
+        misses_both s x (context_items bn inside cs) (body_rule_items inside rs ++ rule_context_items bn inside rcs) (contexts_miss x inside d cs o)
         (misses_both s x (body_rule_items inside rs) (rule_context_items bn inside rcs) (rules_miss x inside d rs) (rule_contexts_miss x inside d rcs))
 
     mutual
       -- a level adds nothing elsewhere
-      pub body_misses : (x inside next : ℕ) (h : Head) → at s inside ≢ x → ((j : ℕ) → next ≤ j → j < next + size h → at s j ≢ x) → Misses s x (flat_body bn inside next h)
-      body_misses x inside next (head leaves hs cs rcs rs) d o =
+      pub body_misses : (x inside next : ℕ) (h : Head) → OpenHead h → at s inside ≢ x → ((j : ℕ) → next ≤ j → j < next + size h → at s j ≢ x) → Misses s x (flat_body bn inside next h)
+      body_misses x inside next (head leaves hs cs rcs rs) op d o =
           misses_both s x (body_leaf_items bn inside leaves) (flat_bodies bn inside next hs ++ (context_items bn inside cs ++ (body_rule_items inside rs ++ rule_context_items bn inside rcs))) (leaves_miss x inside d leaves)
-          (misses_both s x (flat_bodies bn inside next hs) (context_items bn inside cs ++ (body_rule_items inside rs ++ rule_context_items bn inside rcs)) (bodies_miss x inside next hs d o) (behind_miss x inside d cs rcs rs))
+          (misses_both s x (flat_bodies bn inside next hs) (context_items bn inside cs ++ (body_rule_items inside rs ++ rule_context_items bn inside rcs)) (bodies_miss x inside next hs op.1 d o) (behind_miss x inside d cs rcs rs op.0))
 
-      bodies_miss : (x inside next : ℕ) (hs : Heads) → at s inside ≢ x → ((j : ℕ) → next ≤ j → j < next + sizes hs → at s j ≢ x) → Misses s x (flat_bodies bn inside next hs)
-      bodies_miss x inside next no_head d o = tt
-      bodies_miss x inside next (head_and h hs) d o = (
+      bodies_miss : (x inside next : ℕ) (hs : Heads) → OpenHeads hs → at s inside ≢ x → ((j : ℕ) → next ≤ j → j < next + sizes hs → at s j ≢ x) → Misses s x (flat_bodies bn inside next hs)
+      bodies_miss x inside next no_head op d o = tt
+      bodies_miss x inside next (head_and h hs) op d o = (
         d,
         misses_both s x (flat_body bn next (next + 1) h) (flat_bodies bn inside (next + 1 + size h) hs)
-            (body_misses x next (next + 1) h (o next (omega arith) (omega arith)) (λ j l k. o j (omega (arith, l)) (omega (arith, k))))
-            (bodies_miss x inside (next + 1 + size h) hs d (λ j l k. o j (omega (arith, l)) (omega (arith, k)))),
+            (body_misses x next (next + 1) h op.0 (o next (omega arith) (omega arith)) (λ j l k. o j (omega (arith, l)) (omega (arith, k))))
+            (bodies_miss x inside (next + 1 + size h) hs op.1 d (λ j l k. o j (omega (arith, l)) (omega (arith, k)))),
       )
 
     -- ---- what is local
@@ -212,9 +264,9 @@ module _ (bn : BodyNames) where
       front : (n c : ℕ) (xs ys : List BodyItem) (x : ℕ) → Misses s x ys → A.adds n c (xs ++ ys) x ≡ A.adds n c xs x
       front n c xs ys x m = A.both n c xs ys x ∙ ap (λ z. A.adds n c xs x ++ z) (A.missed (n + many xs) (past c xs) ys x m) ∙ append-nil (A.adds n c xs x)
 
-      pub local_inside : (inside next c : ℕ) (leaves : List Leaf) (hs : Heads) (cs rcs : List CtxUse) (rs : List ℕ) → Used inside → low ≤ next → inside < next → next + sizes hs ≤ high →
+      pub local_inside : (inside next c : ℕ) (leaves : List Leaf) (hs : Heads) (cs rcs : List CtxUse) (rs : List ℕ) → AllOpen cs → Used inside → low ≤ next → inside < next → next + sizes hs ≤ high →
           Local (head leaves hs cs rcs rs) inside next c → LocalIn hs inside next (after_leaves bn c leaves)
-      local_inside inside next c leaves hs cs rcs rs u l i t L j a b =
+      local_inside inside next c leaves hs cs rcs rs o u l i t L j a b =
           let d = differ inside j u (inr (omega (arith, l, a), omega (arith, b, t))) (λ e. omega (arith, e, i, a)) in
           let z : next + 0 ≡ next = omega arith in
           let c' = after_leaves bn c leaves in
@@ -222,26 +274,26 @@ module _ (bn : BodyNames) where
           ∙ skip next 0 c c' (body_leaf_items bn inside leaves) (flat_bodies bn inside next hs ++ (context_items bn inside cs ++ (body_rule_items inside rs ++ rule_context_items bn inside rcs))) (at s j) (leaves_miss (at s j) inside d leaves) (no_leaf_membrane inside leaves)
           (leaves_past bn inside c leaves)
           ∙ ap (λ n. A.adds n c' (flat_bodies bn inside next hs ++ (context_items bn inside cs ++ (body_rule_items inside rs ++ rule_context_items bn inside rcs))) (at s j)) z
-          ∙ front next c' (flat_bodies bn inside next hs) (context_items bn inside cs ++ (body_rule_items inside rs ++ rule_context_items bn inside rcs)) (at s j) (behind_miss (at s j) inside d cs rcs rs)
+          ∙ front next c' (flat_bodies bn inside next hs) (context_items bn inside cs ++ (body_rule_items inside rs ++ rule_context_items bn inside rcs)) (at s j) (behind_miss (at s j) inside d cs rcs rs o)
 
-      pub local_first : (inside next c : ℕ) (h : Head) (hs : Heads) → Used inside → low ≤ next → inside < next → next + sizes (head_and h hs) ≤ high → LocalIn (head_and h hs) inside next c → Local h next (next + 1) c
-      local_first inside next c h hs u l i t L j w =
+      pub local_first : (inside next c : ℕ) (h : Head) (hs : Heads) → OpenHeads hs → Used inside → low ≤ next → inside < next → next + sizes (head_and h hs) ≤ high → LocalIn (head_and h hs) inside next c → Local h next (next + 1) c
+      local_first inside next c h hs o u l i t L j w =
           let within : (next ≤ j) × (j < next + 1 + size h) = elim w [ inl e ↦ (omega (arith, e), omega (arith, e)) | inr p ↦ (let a = p.0 in omega (arith, a), p.1) ] in
           let a = within.0 in
           let b = within.1 in
           let used : Used j = inr (omega (arith, l, a), omega (arith, b, t)) in
           let d = differ inside j u used (λ e. omega (arith, e, i, a)) in
-          let others = bodies_miss (at s j) inside (next + 1 + size h) hs d (λ k x e. differ k j (inr (omega (arith, l, x), omega (arith, e, t))) used (λ q. omega (arith, q, x, b))) in
+          let others = bodies_miss (at s j) inside (next + 1 + size h) hs o d (λ k x e. differ k j (inr (omega (arith, l, x), omega (arith, e, t))) used (λ q. omega (arith, q, x, b))) in
           L j a (omega (arith, b))
           ∙ skip next 1 c c (Membrane inside ∷ []) (flat_body bn next (next + 1) h ++ flat_bodies bn inside (next + 1 + size h) hs) (at s j) (d, tt) refl refl
           ∙ front (next + 1) c (flat_body bn next (next + 1) h) (flat_bodies bn inside (next + 1 + size h) hs) (at s j) others
 
-      pub local_rest : (inside next c : ℕ) (h : Head) (hs : Heads) → Used inside → low ≤ next → inside < next → next + sizes (head_and h hs) ≤ high → LocalIn (head_and h hs) inside next c →
+      pub local_rest : (inside next c : ℕ) (h : Head) (hs : Heads) → OpenHead h → Used inside → low ≤ next → inside < next → next + sizes (head_and h hs) ≤ high → LocalIn (head_and h hs) inside next c →
           LocalIn hs inside (next + 1 + size h) (after_level bn c h)
-      local_rest inside next c h hs u l i t L j a b =
+      local_rest inside next c h hs o u l i t L j a b =
           let used : Used j = inr (omega (arith, l, a), omega (arith, b, t)) in
           let d = differ inside j u used (λ e. omega (arith, e, i, a)) in
-          let mine = body_misses (at s j) next (next + 1) h (differ next j (inr (l, omega (arith, t))) used (λ e. omega (arith, e, a))) (λ k x e. differ k j (inr (omega (arith, l, x), omega (arith, e, t))) used (λ q. omega (arith, q, e, a))) in
+          let mine = body_misses (at s j) next (next + 1) h o (differ next j (inr (l, omega (arith, t))) used (λ e. omega (arith, e, a))) (λ k x e. differ k j (inr (omega (arith, l, x), omega (arith, e, t))) used (λ q. omega (arith, q, e, a))) in
           L j (omega (arith, a)) (omega (arith, b))
           ∙ skip next 1 c c (Membrane inside ∷ []) (flat_body bn next (next + 1) h ++ flat_bodies bn inside (next + 1 + size h) hs) (at s j) (d, tt) refl refl
           ∙ skip (next + 1) (size h) c (after_level bn c h) (flat_body bn next (next + 1) h) (flat_bodies bn inside (next + 1 + size h) hs) (at s j) mine (many_flat next (next + 1) h) (level_past bn next (next + 1) c h)

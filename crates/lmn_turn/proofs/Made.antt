@@ -1,30 +1,18 @@
--- What the code of a body makes is new, and the root stays.
-use Rattle.std.proofs.Common.{ℕ, ◌≡◌, ◌+◌, Bool, true, false, List, [], ◌∷◌, ◌++◌, map, length, Option, Some, None, refl, ap, subst, ◌∙◌}
+-- Code of a body leaves the root where it is.
+use Rattle.std.proofs.Common.{ℕ, ◌≡◌, Bool, true, false, List, [], ◌∷◌, map, Option, Some, None, refl, ap, ◌∙◌}
 use Rattle.std.specs.Prelude.{◌==◌, ◌&&◌, cond}
 use Rattle.lmn_heap.specs.Heap.{Heap, link_of, parent_of, atoms_in, made_mem, reserved, taken, taken_mem, placed, placed_mem, rules_copied, joined, taken_all}
 use Rattle.lmn_heap.specs.Splice.{joined_to, joined_both}
-use Rattle.lmn_solid.specs.declared.items.HeadItem.{HeadItem}
-use Rattle.lmn_solid.specs.Heads.{atoms_of, membranes_of, typed_contexts_of}
-use Rattle.lmn_splice.specs.Classes.{class_of, rising}
 use Rattle.lmn_splice.specs.Ties.{Tie, newlink, relink, unify}
 use Rattle.lmn_instr.specs.declared.instr.Instr.{Instr}
 use Rattle.lmn_instr.specs.declared.instr.Instr.TheVariants.{RemoveAtom, RemovePart, RemoveMem, NewAtom, NewInt, NewMem, CopyGround, MoveCells, CopyCells, LoadRule, CopyRules, DropCells, NewLink, Relink, Unify, Proceed}
-use Rattle.lmn_body.specs.declared.items.BodyItem.{BodyItem}
-use Rattle.lmn_body.specs.Added.{made_mems}
-use Rattle.lmn_body.specs.Code.{body_code, making, removals, links_code}
-use Rattle.lmn_body.specs.Items.{new_ports, old_ports, connectors}
 use Rattle.lmn_body.specs.Running.{Registers, Prepares, DoesAll, RunsBody, Makes, Does, all_placed, new_port, old_port}
 use Rattle.lmn_body.specs.Tied.{tied}
-use Rattle.lmn_body.proofs.Coding.{prepares_append, prepares_taken}
-use Rattle.lmn_body.proofs.MemsMade.{MemsMade}
-use Rattle.lmn_body.proofs.Preparing.{making_mems}
 use Rattle.lmn_body.proofs.RestMems.{like_mems}
 use Rattle.lmn_body.proofs.RestsMade.{joined_lines}
 use Rattle.lmn_parts.specs.Copies.{answer, made_like, ports_of}
 use Rattle.lmn_parts.specs.Rests.{made_roomy, rest_copied, atoms_placed, membrane_placed, membranes_placed, copy_round, rest_placed, all_mems_taken}
 use Rattle.lmn_base.specs.Graphs.{Port}
-use Rattle.lmn_body.proofs.Parts.{no_part_prepares as part_prepares}
-use Rattle.lmn_body.proofs.Removing.{prepares_taken_mems as mem_prepares}
 
 -- ---- the root
 
@@ -132,22 +120,3 @@ commits_root r (i ∷ is) s t w = commits_root r is w.0 t w.2 ∙ does_root r i 
 -- code of a body leaves the root where it is
 pub root_stays : (r : Registers) (code : List Instr) (s t : Heap) → RunsBody r code s t → t.root ≡ s.root
 root_stays r code s t w = commits_root r code w.0 t w.2 ∙ prepares_root r code s w.0 w.1
-
--- ---- what is made
-
--- what a body makes is new, each once
-pub all_new : (head : List HeadItem) (body : List BodyItem) (n : ℕ) → (r : Registers) (h h' : Heap) → RunsBody r (body_code head body n) h h' →
-    (t : Heap) × MemsMade h t (made_mems r (1 + length (membranes_of head)) body)
-all_new head body n r h h' (s, prepares, commits) =
-    let N = length (atoms_of head) in
-    let K = length (membranes_of head) in
-    let links_part = links_code (class_of (connectors body)) (new_ports N 0 body) (old_ports head) (rising 0 n) in
-    let parts = map RemovePart (rising 0 (length (typed_contexts_of head))) in
-    let mems = map RemoveMem (rising 1 K) in
-    let make = making N (1 + K) 0 body in
-    let pa = prepares_append r (removals head) (make ++ (links_part ++ (Proceed ∷ []))) h s prepares in
-    let pb = prepares_append r (map RemoveAtom (rising 0 N)) (parts ++ mems) h pa.0 pa.1 in
-    let pc = prepares_append r parts mems pb.0 pa.0 pb.2 in
-    let pd = prepares_append r make (links_part ++ (Proceed ∷ [])) pa.0 s pa.2 in
-    let first : pa.0 ≡ h = mem_prepares r (rising 1 K) pc.0 pa.0 pc.2 ∙ part_prepares r (rising 0 (length (typed_contexts_of head))) pb.0 pc.0 pc.1 ∙ prepares_taken r (rising 0 N) h pb.0 pb.1 in
-    (pd.0, making_mems r N (1 + K) 0 body h pd.0 (subst (λ z. Prepares r make z pd.0) first pd.1))

@@ -1,14 +1,21 @@
 -- Contexts that aren't closed are open in the calculus too.
-use Rattle.std.proofs.Common.{◌≡◌, false, List, [], ◌∷◌, ◌++◌, map, refl, ap, subst, ◌∙◌, inl, inr}
-use Rattle.std.specs.Prelude.{Contains}
+use Rattle.std.proofs.Common.{ℕ, suc, ◌+◌, ◌≡◌, false, List, [], ◌∷◌, ◌++◌, map, Some, refl, ap, subst, ◌∙◌, inl, inr}
+use Rattle.std.specs.Prelude.{Contains, cond, slice_get}
+use Rattle.lmn_base.specs.Lists.{In}
+use Rattle.lmn_base.proofs.Lists.{in_either}
 use Rattle.lmn_base.specs.declared.level.CtxUse.{CtxUse}
 use Rattle.lmn_base.specs.declared.level.Level.{Level}
 use Rattle.lmn_base.specs.Levels.{contexts_of}
 use Rattle.lmn_congruence.specs.Rules.{Name, open_context}
 use Rattle.lmn_congruence.specs.Translation.{context_tree, context_with, name_of, names_of}
 use Rattle.lmn_adequacy.specs.Accepted.{open_names}
+use Rattle.lmn_solid.specs.declared.items.HeadItem.{HeadItem}
+use Rattle.lmn_solid.specs.Heads.{HeadMembrane, membranes_of}
+use Rattle.lmn_solid.specs.Embeddings.{HasMembrane}
 use Rattle.lmn_solid.proofs.HeadTrees.{Head, Heads, head, no_head, head_and, head_at}
 use Rattle.lmn_splice.specs.Splice.{IsOneOf}
+use Rattle.lmn_body.specs.Running.{Registers}
+use Rattle.lmn_body.specs.Within.{membrane_images, left_of_closed, dropped_mems, removed_mems}
 use Rattle.lmn_compile_head.proofs.OpenHeads.{AllOpen, OpenHead, OpenHeads}
 use Rattle.lmn_compile_body.proofs.HeadContexts.{head_contexts, heads_contexts, is_in, same_contexts, untyped}
 
@@ -48,3 +55,16 @@ mutual
 -- so no context of such a level is closed
 pub contexts_open : (l : Level) → OpenHead (head_at l) → (u : CtxUse) → Contains (contexts_of l) u → u.closed ≡ false
 contexts_open l o u w = one_open (head_contexts untyped (head_at l)) (all_open (head_at l) o) u (subst (IsOneOf u) (same_contexts untyped l) (is_in u (contexts_of l) w))
+
+-- ---- heads without closed contexts
+
+none_left : (left : ℕ → List ℕ) (k : ℕ) (bs : List HeadMembrane) → ((i : ℕ) (b : HeadMembrane) → slice_get bs i ≡ Some b → b.has_closed_context ≡ false) → left_of_closed left k bs ≡ []
+none_left left k [] o = refl
+none_left left k (b ∷ bs) o = ap (λ t. cond t (left k) [] ++ left_of_closed left (k + 1) bs) (o 0 b refl) ∙ none_left left (k + 1) bs (λ i c e. o (suc i) c e)
+
+-- where no membrane of a head has a closed context, no membrane is dropped: only those of the head are removed
+pub none_dropped : (items : List HeadItem) (s : Registers) → ((k : ℕ) (b : HeadMembrane) → HasMembrane items k b → b.has_closed_context ≡ false) → (x : ℕ) → In x (removed_mems s items) → In x (membrane_images s items)
+none_dropped items s o x i = elim (in_either x (membrane_images s items) (dropped_mems s items) i) [
+  | inl j ↦ j
+  | inr j ↦ absurd (subst (In x) (none_left s.left_membranes 1 (membranes_of items) (λ n b e. o (suc n) b (n, refl, e))) j)
+]

@@ -12,7 +12,6 @@ use Rattle.lmn_base.specs.WellMade.{FitsArity}
 use Rattle.lmn_guards.specs.declared.plan.GuardPlan.{GuardPlan}
 use Rattle.std.specs.Option.{option_map}
 use Rattle.lmn_heap.specs.Heap.{Heap, HeapMem, top, within, Place, IsMem, mems_in, rules_in}
-use Rattle.lmn_heap.specs.Lists.{Distinct}
 use Rattle.lmn_heap.specs.Sound.{Forest, bare, mem, IsTree, Valid}
 use Rattle.lmn_solid.specs.declared.items.HeadItem.{HeadItem}
 use Rattle.lmn_solid.specs.Heads.{membranes_of}
@@ -27,8 +26,10 @@ use Rattle.lmn_body.specs.Added.{made_mems}
 use Rattle.lmn_body.specs.Fired.{images_of}
 use Rattle.lmn_body.specs.Flattening.{BodyNames}
 use Rattle.lmn_body.specs.Running.{Registers, RunsBody}
-use Rattle.lmn_body.specs.Within.{membrane_images, FiresWithin}
+use Rattle.lmn_body.specs.Rules.{NestedRule}
+use Rattle.lmn_body.specs.Within.{membrane_images, dropped_mems, removed_mems, FiresWithin, HoldsRests}
 use Rattle.lmn_body.proofs.Below.{removed_is}
+use Rattle.lmn_body.proofs.Held.{Held, held}
 use Rattle.lmn_firing.specs.Accepted.{AcceptedFires, Fired}
 use Rattle.lmn_bridge.specs.HeapRegions.{HeapReading}
 use Rattle.lmn_bridge.specs.Premises.{IsRead, HasForest, IsRule}
@@ -36,7 +37,7 @@ use Rattle.lmn_turn.proofs.RulesKept.{body_written, rules_kept}
 use Rattle.lmn_turn.specs.Turning.{TurnIsRead, renumbered_reading}
 use Rattle.lmn_turn.proofs.Adders.{at}
 use Rattle.lmn_turn.proofs.Leavings.{root_tree}
-use Rattle.lmn_turn.proofs.Made.{root_stays, all_new}
+use Rattle.lmn_turn.proofs.Made.{root_stays}
 use Rattle.lmn_turn.proofs.Namings.{names_of_naming, naming_of_names}
 use Rattle.lmn_turn.proofs.NamesKept.{LeavesNamed, body_named, names_known}
 use Rattle.lmn_turn.proofs.Places.{placing}
@@ -44,7 +45,7 @@ use Rattle.lmn_turn.proofs.Turns.{Placing}
 use Rattle.lmn_base.specs.Graphs.{Port}
 use Rattle.lmn_heap.proofs.Common.{mem_stands}
 use Rattle.lmn_base.specs.Lists.{In}
-use Rattle.lmn_base.proofs.Lists.{all_of_left, all_of_right}
+use Rattle.lmn_base.proofs.Lists.{all_of_left, all_of_right, in_either}
 
 -- ---- names
 
@@ -78,7 +79,7 @@ module _ (r : HeapReading) (rule : RuleTree) (is : IsRule r rule) where
 
 module _ (firing : AcceptedFires) (head_law : AcceptedHeads) (nested : AcceptedNested) (table : List RuleTree) (rule : RuleTree) (plan : GuardPlan) (whole : IsCompilable table rule plan)
     (h : Heap) (r : HeapReading) (read : IsRead h r) (is_rule : IsRule r rule)
-    (m : ℕ) (mi : Forest) (there : IsMem h m) (forest : HasForest h m mi) (s : Registers) (first : IsFirstSuccess h (rule_head_code rule plan) m s.head)
+    (m : ℕ) (mi : Forest) (there : IsMem h m) (forest : HasForest h m mi) (s : Registers) (first : IsFirstSuccess h (rule_head_code rule plan) m s.head) (rests : HoldsRests h s (head_items rule plan))
     (h' : Heap) (runs : RunsBody s (rule_body_code rule plan) h h') where
   abbrev items : List HeadItem
   items = head_items rule plan
@@ -102,7 +103,7 @@ module _ (firing : AcceptedFires) (head_law : AcceptedHeads) (nested : AcceptedN
   body_is = items_flat bn (length (membranes_of items)) rule.body
 
   pub fired : Fired rule plan h m s c h'
-  fired = firing.fires table rule plan whole h m s c (record { valid = read.valid; placed = mem_stands h read.valid m there; first = first; named = names_of_naming h read.valid r.name read.naming }) h' runs
+  fired = firing.fires table rule plan whole h m s c (record { valid = read.valid; placed = mem_stands h read.valid m there; first = first; named = names_of_naming h read.valid r.name read.naming; rests = rests }) h' runs
 
   abbrev taken : List ℕ
   taken = images_of s items ++ fired.parts
@@ -113,41 +114,39 @@ module _ (firing : AcceptedFires) (head_law : AcceptedHeads) (nested : AcceptedN
   is_head : IsHead items
   is_head = head_law.head table rule plan whole.ready
 
-  new_mems : ((x : ℕ) → In x (made_mems s low (rule_body_items rule plan)) → h.mems x ≡ None) × Distinct (made_mems s low (rule_body_items rule plan))
-  new_mems = let u = all_new items (rule_body_items rule plan) (length rule.links) s h h' runs in (u.1.fresh, u.1.once)
+  -- the items of the rule, and what is asked of the rests that it drops
+  nested_flat : NestedRule items B (length rule.links)
+  nested_flat = subst (λ b. NestedRule items b (length rule.links)) body_is (nested table rule plan whole)
 
-  pub place : Placing h s (membrane_images s items) (made_mems s low B) taken m mi
-  place =
-      let n = nested table rule plan whole in
-      subst (λ b. Placing h s (membrane_images s items) (made_mems s low b) taken m mi) body_is
-      (placing h read.valid items rule.guard m mi s fired.least.embeds n.head_nests is_head.inside there forest.forms forest.once fired.parts fired.are (made_mems s low (rule_body_items rule plan)) new_mems.0 new_mems.1)
+  holds : Held h read.valid items B m s fired.parts
+  holds = held h read.valid items B (length rule.links) m s nested_flat fired.least.embeds.lies (mem_stands h read.valid m there) rests fired.parts fired.are c (names_of_naming h read.valid r.name read.naming)
 
   module _ (f : FiresWithin h (λ p. r.name p.0 p.1) s (head_items rule plan) (flat_body (rule_body_names rule plan) 0 (1 + length (membranes_of (head_items rule plan))) (head_at rule.body)) (images_of s (head_items rule plan) ++ fired.parts) h') where
-    pub not_removed : (x : ℕ) → In x (made_mems s low B) → In x (membrane_images s items) → ⊥
-    not_removed x i j = by (h.mems x) (place.images_there x j) (place.fresh x i)
-      where
-        by : (o : Option HeapMem) → IsSome o → o ≡ None → ⊥
-        by None i e = absurd (cc)
-        by (Some y) i e = absurd (cc)
+    pub place : Placing h s (membrane_images s items) (made_mems s f.rests low B) taken m mi
+    place = placing h read.valid items rule.guard m mi s fired.least.embeds nested_flat.head_nests is_head.inside there forest.forms forest.once fired.parts fired.are (made_mems s f.rests low B) f.made_fresh f.made_once
 
     pub same_root : h'.root ≡ h.root
     same_root = root_stays s (rule_body_code rule plan) h h' runs
 
-    root_not_removed : In h'.root (membrane_images s items) → ⊥
-    root_not_removed i =
-        let w = removed_is items s h.root (subst (λ z. In z (membrane_images s items)) same_root i) in
-        let placed = subst (λ z. In z (mems_in h (at s w.1.inside))) w.3 (fired.least.embeds.lies.membranes_placed w.0 w.1 w.2) in
-        clash (sym ((read.valid.sound.listed.root h.root).1 refl) ∙ (read.valid.sound.listed.mems (at s w.1.inside) h.root).0 placed)
+    root_not_removed : In h'.root (removed_mems s items) → ⊥
+    root_not_removed i = elim (in_either h.root (membrane_images s items) (dropped_mems s items) (subst (λ z. In z (removed_mems s items)) same_root i)) [
+      | inl j ↦ (let w = removed_is items s h.root j in
+          clash (at s w.1.inside) (subst (λ z. In z (mems_in h (at s w.1.inside))) w.3 (fired.least.embeds.lies.membranes_placed w.0 w.1 w.2)))
+      | inr j ↦ (let w = holds.dm_parent h.root j in clash w.0 w.1)
+    ]
       where
-        clash : {y : ℕ} → ◌≡◌ {A = Option Place} (Some top) (Some (within y)) → ⊥
-        clash e = absurd (cc)
+        clash : (y : ℕ) → In h.root (mems_in h y) → ⊥
+        clash y i = by (sym ((read.valid.sound.listed.root h.root).1 refl) ∙ (read.valid.sound.listed.mems y h.root).0 i)
+          where
+            by : ◌≡◌ {A = Option Place} (Some top) (Some (within y)) → ⊥
+            by e = absurd (cc)
 
     pub read_again : IsRead h' (renumbered_reading r f.number)
     read_again = record {
       valid = fired.valid;
       naming = naming_of_names h' fired.valid f.number f.named;
       names = read.names;
-      known = names_known h h' read.valid fired.valid c s items B taken f not_removed r.names read.known (body_named r.names bn 0 low hd (body_leaves_named r rule is_rule)) fired.valid.tree.0 fired.valid.tree.1 root_not_removed;
+      known = names_known h h' read.valid fired.valid c s items B m fired.parts holds f r.names read.known (body_named r.names bn 0 low hd (body_leaves_named r rule is_rule)) fired.valid.tree.0 fired.valid.tree.1 root_not_removed;
     }
 
     pub tree_again : (t : Forest) × IsTree h' (mem h'.root t bare)
@@ -155,20 +154,20 @@ module _ (firing : AcceptedFires) (head_law : AcceptedHeads) (nested : AcceptedN
 
     -- each rule of a membrane stood in one before, or stands in the body
     pub rules_again : (x k : ℕ) → In k (rules_in h' x) → ((y : ℕ) × In k (rules_in h y)) ⊎ Contains (rules_of rule.body) k
-    rules_again x k i = elim (rules_kept h h' read.valid fired.valid c s items B taken f not_removed (Contains (head_rules hd)) (body_written (Contains (head_rules hd)) bn 0 low hd (λ k w. w)) fired.valid.tree.0 fired.valid.tree.1 root_not_removed x k i) [
+    rules_again x k i = elim (rules_kept h h' read.valid fired.valid c s items B m fired.parts holds f (Contains (head_rules hd)) (body_written (Contains (head_rules hd)) bn 0 low hd (λ k w. w)) fired.valid.tree.0 fired.valid.tree.1 root_not_removed x k i) [
       | inl w ↦ inl w
       | inr w ↦ inr (subst (λ ks. Contains ks k) (sym (same_rules rule.body)) w)
     ]
 
 -- a heap is read again after a turn
 pub turn_is_read : AcceptedFires → AcceptedHeads → AcceptedNested → TurnIsRead
-turn_is_read firing head_law nested table rule plan whole h r read is_rule m mi there forest s first h' runs =
-    let f = flat_fires firing head_law nested table rule plan whole h r read is_rule m mi there forest s first h' runs in
-    let t = tree_again firing head_law nested table rule plan whole h r read is_rule m mi there forest s first h' runs f in
+turn_is_read firing head_law nested table rule plan whole h r read is_rule m mi there forest s first rests h' runs =
+    let f = flat_fires firing head_law nested table rule plan whole h r read is_rule m mi there forest s first rests h' runs in
+    let t = tree_again firing head_law nested table rule plan whole h r read is_rule m mi there forest s first rests h' runs f in
     record {
       number = f.number;
-      read = read_again firing head_law nested table rule plan whole h r read is_rule m mi there forest s first h' runs f;
+      read = read_again firing head_law nested table rule plan whole h r read is_rule m mi there forest s first rests h' runs f;
       forest = t.0;
       tree = t.1;
-      rules = rules_again firing head_law nested table rule plan whole h r read is_rule m mi there forest s first h' runs f;
+      rules = rules_again firing head_law nested table rule plan whole h r read is_rule m mi there forest s first rests h' runs f;
     }

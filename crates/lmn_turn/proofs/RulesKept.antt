@@ -1,5 +1,5 @@
 -- After a firing each rule of a membrane stood in one before, or stands in the body.
-use Rattle.std.proofs.Common.{ℕ, ◌+◌, ◌⊎◌, Bool, true, false, List, [], ◌∷◌, ◌++◌, map, length, Option, Some, None, IsSome, refl, subst, inl, inr}
+use Rattle.std.proofs.Common.{ℕ, ◌+◌, ◌⊎◌, Bool, true, false, List, [], ◌∷◌, ◌++◌, map, Option, Some, None, IsSome, refl, subst, inl, inr}
 use Rattle.std.specs.Prelude.{Contains}
 use Rattle.std.proofs.lemmas.List.Elements.{Contains-append_left, Contains-append_right}
 use Rattle.lmn_base.specs.declared.functor.Functor.{Functor}
@@ -13,18 +13,21 @@ use Rattle.lmn_solid.specs.declared.items.HeadItem.{HeadItem}
 use Rattle.lmn_solid.proofs.HeadTrees.{Head, Heads, head, no_head, head_and, size, head_rules, heads_rules}
 use Rattle.lmn_body.specs.declared.items.BodyItem.{BodyItem}
 use Rattle.lmn_body.specs.declared.items.BodyItem.TheVariants.{Atom, Connector, Copy, Bound, Membrane, Rest, Rule, Rules}
-use Rattle.lmn_body.specs.Added.{if_inside, added_rules, made_mems}
+use Rattle.lmn_body.specs.Added.{if_inside, added_rules}
+use Rattle.lmn_body.specs.Fired.{images_of}
+use Rattle.lmn_body.specs.RestCopies.{RestCopies, later, copied_into, given}
 use Rattle.lmn_body.specs.Flattening.{atom_item, typed_item, body_leaf_items, context_items, body_rule_items, rule_context_items, BodyNames}
 use Rattle.lmn_body.specs.Running.{Registers}
-use Rattle.lmn_body.specs.Within.{membrane_images, FiresWithin}
+use Rattle.lmn_body.specs.Within.{removed_mems, FiresWithin}
 use Rattle.lmn_compile_body.proofs.BodyTrees.{flat_body, flat_bodies}
 use Rattle.lmn_turn.proofs.Adders.{at}
 use Rattle.lmn_turn.proofs.NamesKept.{none_removed}
 use Rattle.lmn_base.specs.Graphs.{Port}
 use Rattle.lmn_base.proofs.Lists.{contains_behind as later_is, contains_first as first_is, in_either}
 use Rattle.lmn_body.proofs.AddedLemmas.{in_if}
+use Rattle.lmn_body.proofs.Held.{Held}
+use Rattle.lmn_body.proofs.RestGrowing.{in_given}
 use Rattle.lmn_base.specs.declared.level.Leaf.TheVariants as leaf
-use Rattle.lmn_solid.specs.Heads as heads
 use Rattle.lmn_base.specs.Lists.{In}
 
 module _ (P : ℕ → Type 0) where
@@ -94,21 +97,25 @@ module _ (P : ℕ → Type 0) where
       )
 
   -- a rule that is added is written, or stood in a membrane
-  rule_from : (s : Registers) (rules : ℕ → List ℕ) (xs : List BodyItem) (x k : ℕ) → AllWritten xs → In k (added_rules s rules xs x) → ((y : ℕ) × In k (rules y)) ⊎ P k
-  rule_from s rules [] x k w i = absurd i
-  rule_from s rules (Atom functor links inside ∷ xs) x k w i = rule_from s rules xs x k w.1 i
-  rule_from s rules (Connector l l' ∷ xs) x k w i = rule_from s rules xs x k w.1 i
-  rule_from s rules (Copy part link inside ∷ xs) x k w i = rule_from s rules xs x k w.1 i
-  rule_from s rules (Bound integer link inside ∷ xs) x k w i = rule_from s rules xs x k w.1 i
-  rule_from s rules (Membrane inside ∷ xs) x k w i = rule_from s rules xs x k w.1 i
-  rule_from s rules (Rest of closed inside ∷ xs) x k w i = rule_from s rules xs x k w.1 i
-  rule_from s rules (Rule j inside ∷ xs) x k w i = elim (in_either k (if_inside s x inside (j ∷ [])) (added_rules s rules xs x) i) [
-    | inl a ↦ elim (in_if s x inside (j ∷ []) k a) [ inl e ↦ inr (subst P e w.0) | inr b ↦ absurd b ]
-    | inr a ↦ rule_from s rules xs x k w.1 a
+  rule_from : (s : Registers) (q : RestCopies) (rules : ℕ → List ℕ) (xs : List BodyItem) (x k : ℕ) → AllWritten xs → In k (added_rules s q rules xs x) → ((y : ℕ) × In k (rules y)) ⊎ P k
+  rule_from s q rules [] x k w i = absurd i
+  rule_from s q rules (Atom functor links inside ∷ xs) x k w i = rule_from s q rules xs x k w.1 i
+  rule_from s q rules (Connector l l' ∷ xs) x k w i = rule_from s q rules xs x k w.1 i
+  rule_from s q rules (Copy part link inside ∷ xs) x k w i = rule_from s q rules xs x k w.1 i
+  rule_from s q rules (Bound integer link inside ∷ xs) x k w i = rule_from s q rules xs x k w.1 i
+  rule_from s q rules (Membrane inside ∷ xs) x k w i = rule_from s q rules xs x k w.1 i
+  rule_from s q rules (Rest of false inside ∷ xs) x k w i = rule_from s q rules xs x k w.1 i
+  rule_from s q rules (Rest of true inside ∷ xs) x k w i = elim (in_either k (given rules (copied_into s of inside (q 0)) (s.left_membranes of) x) (added_rules s (later q) rules xs x) i) [
+    | inl a ↦ (let u = in_given rules (copied_into s of inside (q 0)) (s.left_membranes of) x k a in inl (u.0, u.3))
+    | inr a ↦ rule_from s (later q) rules xs x k w.1 a
   ]
-  rule_from s rules (Rules of inside ∷ xs) x k w i = elim (in_either k (if_inside s x inside (rules (at s of))) (added_rules s rules xs x) i) [
+  rule_from s q rules (Rule j inside ∷ xs) x k w i = elim (in_either k (if_inside s x inside (j ∷ [])) (added_rules s q rules xs x) i) [
+    | inl a ↦ elim (in_if s x inside (j ∷ []) k a) [ inl e ↦ inr (subst P e w.0) | inr b ↦ absurd b ]
+    | inr a ↦ rule_from s q rules xs x k w.1 a
+  ]
+  rule_from s q rules (Rules of inside ∷ xs) x k w i = elim (in_either k (if_inside s x inside (rules (at s of))) (added_rules s q rules xs x) i) [
     | inl a ↦ inl (at s of, in_if s x inside (rules (at s of)) k a)
-    | inr a ↦ rule_from s rules xs x k w.1 a
+    | inr a ↦ rule_from s q rules xs x k w.1 a
   ]
 
 -- ---- after a firing
@@ -120,13 +127,12 @@ ruled_mem h x k i = by (h.mems x) i
     by None i = absurd i
     by (Some y) i = refl
 
-module _ (h h' : Heap) (v : Valid h) (v' : Valid h') (c : Port → ℕ) (s : Registers) (items : List HeadItem) (body : List BodyItem) (taken : List ℕ) (f : FiresWithin h c s items body taken h')
-    (new : (x : ℕ) → In x (made_mems s (1 + length (heads.membranes_of items)) body) → In x (membrane_images s items) → ⊥) where
+module _ (h h' : Heap) (v : Valid h) (v' : Valid h') (c : Port → ℕ) (s : Registers) (items : List HeadItem) (body : List BodyItem) (m : ℕ) (parts : List ℕ) (hs : Held h v items body m s parts) (f : FiresWithin h c s items body (images_of s items ++ parts) h') where
   -- each rule of a membrane stood in one before, or is written in the body
-  pub rules_kept : (P : ℕ → Type 0) → AllWritten P body → (t : Forest) → IsTree h' t → (In h'.root (membrane_images s items) → ⊥) → (x k : ℕ) → In k (rules_in h' x) → ((y : ℕ) × In k (rules_in h y)) ⊎ P k
+  pub rules_kept : (P : ℕ → Type 0) → AllWritten P body → (t : Forest) → IsTree h' t → (In h'.root (removed_mems s items) → ⊥) → (x k : ℕ) → In k (rules_in h' x) → ((y : ℕ) × In k (rules_in h y)) ⊎ P k
   rules_kept P w t tr o x k i =
-      let outside = none_removed h h' v v' c s items body taken f new t (h'.root ∷ []) tr.forms (λ z j. elim j [ inl q ↦ subst (λ w. In w (membrane_images s items) → ⊥) q o | inr w ↦ absurd w ]) x (tr.all x (ruled_mem h' x k i)) in
-      elim (in_either k (rules_in h x) (added_rules s (rules_in h) body x) (subst (In k) (f.rules x outside) i)) [
+      let outside = none_removed h h' v v' c s items body m parts hs f t (h'.root ∷ []) tr.forms (λ z j. elim j [ inl q ↦ subst (λ w. In w (removed_mems s items) → ⊥) q o | inr w ↦ absurd w ]) x (tr.all x (ruled_mem h' x k i)) in
+      elim (in_either k (rules_in h x) (added_rules s f.rests (rules_in h) body x) (subst (In k) (f.rules x outside) i)) [
         | inl a ↦ inl (x, a)
-        | inr a ↦ rule_from P s (rules_in h) body x k w a
+        | inr a ↦ rule_from P s f.rests (rules_in h) body x k w a
       ]

@@ -29,14 +29,14 @@ read_as r number rule k = record { well_made = k.well_made; known = k.known; acc
 
 -- the body code of the rule whose head code first succeeds makes a turn
 pub turns_commit : TurnIsNext → AcceptedHeads → AcceptedLeast → BoundNames → EmbedsAlike → LeastAlike → FiringsCommit → TurnsCommit
-turns_commit is_next head_law least_law bound_law alike first_alike commit table rule plan whole h r inner read tr has m mi there forest index k stands is_at s first h' runs =
+turns_commit is_next head_law least_law bound_law alike first_alike commit table rule plan whole h r inner read tr has m mi there forest index k stands is_at s first rests h' runs =
     let known = has.known m k (got_in (rules_in h m) index k stands) in
     let same = same_Some known.0 rule (sym known.1 ∙ is_at) in
     let is_rule = subst (λ z. IsRule r z) same known.2 in
     let e = ordered head_law least_law alike bound_law table rule plan whole.ready h r read is_rule m mi forest s first in
     let is = ordered_is head_law least_law alike bound_law table rule plan whole.ready h r read is_rule m mi forest s first in
     let ns = numbers_at head_law least_law alike bound_law table rule plan whole.ready h r read is_rule m mi forest s first in
-    let next = is_next table rule plan whole h r inner read tr is_rule m mi there forest index k stands (has.read k rule is_at) s first ns e is h' runs in
+    let next = is_next table rule plan whole h r inner read tr is_rule m mi there forest index k stands (has.read k rule is_at) s first rests ns e is h' runs in
     let least = (first_alike h r m mi (kind_in plan.kinds) rule read forest is_rule (plan_types table rule plan whole.ready) ns).0
     (s.head.images, least_law.least table rule plan h m s.head whole.ready read.valid first, refl) in
     record {

@@ -41,7 +41,7 @@ use Rattle.lmn_body.specs.Fired.{images_of}
 use Rattle.lmn_body.specs.Flattening.{BodyNames}
 use Rattle.lmn_body.specs.Items.{connectors, port_at}
 use Rattle.lmn_body.specs.Running.{Registers, RunsBody}
-use Rattle.lmn_body.specs.Within.{membrane_images, FiresWithin, FiredSolid}
+use Rattle.lmn_body.specs.Within.{membrane_images, removed_mems, FiresWithin, FiredSolid, HoldsRests}
 use Rattle.lmn_body.proofs.Below.{is_removed}
 use Rattle.lmn_body.proofs.Committing.{in_withouts_of}
 use Rattle.lmn_body.proofs.Numbered.{contexts_of_heads}
@@ -51,9 +51,9 @@ use Rattle.lmn_bridge.specs.Premises.{IsRead, HasForest, IsRule}
 use Rattle.lmn_bridge.proofs.HeadTrees.{level_tree}
 use Rattle.lmn_bridge.proofs.Occurrences.{times_are}
 use Rattle.lmn_bridge.proofs.Wholes.{closed_heap}
-use Rattle.lmn_compile_head.proofs.OpenHeads.{OpenHead, accepted_open}
+use Rattle.lmn_compile_head.proofs.OpenHeads.{OpenHead, accepted_open, none_closed}
 use Rattle.lmn_guards.proofs.AcceptedLemmas.{in_order}
-use Rattle.lmn_turn.proofs.OpenTrees.{contexts_open, tree_open}
+use Rattle.lmn_turn.proofs.OpenTrees.{contexts_open, none_dropped, tree_open}
 use Rattle.lmn_turn.specs.Standing.{StandAs}
 use Rattle.lmn_turn.proofs.ReadAgain as again
 use Rattle.lmn_turn.proofs.ReadAgain.{body_fits, root_mem}
@@ -68,6 +68,7 @@ use Rattle.lmn_turn.proofs.FiredMaps.{Known, copies_known, copy_of, data_of, map
 use Rattle.lmn_turn.proofs.HeadLinks.{has_port, is_old}
 use Rattle.lmn_turn.proofs.LinksBelow.{links_limit}
 use Rattle.lmn_turn.proofs.Kept.{kept_stand}
+use Rattle.lmn_turn.proofs.Locals.{body_open}
 use Rattle.lmn_turn.proofs.Leavings.{listed_there, forest_there, left_free}
 use Rattle.lmn_turn.proofs.Paths.{RawFrom}
 use Rattle.lmn_turn.proofs.Turns.{FiredTo, Placing, LeavesRest, left, left_read, untouched, fires_in_tree}
@@ -82,7 +83,7 @@ same_region e = (cc, cc)
 
 module _ (firing : AcceptedFires) (head_law : AcceptedHeads) (nested : AcceptedNested) (table : List RuleTree) (rule : RuleTree) (plan : GuardPlan) (whole : IsCompilable table rule plan)
     (h : Heap) (r : HeapReading) (inner : Forest) (read : IsRead h r) (tr : IsTree h (mem h.root inner bare)) (is_rule : IsRule r rule)
-    (m : ℕ) (mi : Forest) (there : IsMem h m) (forest : HasForest h m mi) (s : Registers) (first : IsFirstSuccess h (rule_head_code rule plan) m s.head)
+    (m : ℕ) (mi : Forest) (there : IsMem h m) (forest : HasForest h m mi) (s : Registers) (first : IsFirstSuccess h (rule_head_code rule plan) m s.head) (rests : HoldsRests h s (head_items rule plan))
     (h' : Heap) (runs : RunsBody s (rule_body_code rule plan) h h') where
   abbrev items : List HeadItem
   items = head_items rule plan
@@ -106,7 +107,7 @@ module _ (firing : AcceptedFires) (head_law : AcceptedHeads) (nested : AcceptedN
   body_is = items_flat bn (length (membranes_of items)) rule.body
 
   abbrev pub fired : Fired rule plan h m s (λ p. r.name p.0 p.1) h'
-  fired = again.fired firing head_law nested table rule plan whole h r read is_rule m mi there forest s first h' runs
+  fired = again.fired firing head_law nested table rule plan whole h r read is_rule m mi there forest s first rests h' runs
 
   abbrev taken : List ℕ
   taken = images_of s items ++ fired.parts
@@ -118,8 +119,8 @@ module _ (firing : AcceptedFires) (head_law : AcceptedHeads) (nested : AcceptedN
   is_head : IsHead items
   is_head = head_law.head table rule plan whole.ready
 
-  abbrev place : Placing h s (membrane_images s items) (made_mems s low B) taken m mi
-  place = again.place firing head_law nested table rule plan whole h r read is_rule m mi there forest s first h' runs
+  abbrev place : Placing h s (membrane_images s items) (made_mems s both.0.rests low B) taken m mi
+  place = again.place firing head_law nested table rule plan whole h r read is_rule m mi there forest s first rests h' runs both.0
 
   abbrev f : FiresWithin h c s items B taken h'
   f = both.0
@@ -129,6 +130,14 @@ module _ (firing : AcceptedFires) (head_law : AcceptedHeads) (nested : AcceptedN
 
   abbrev mems_at : ℕ → List ℕ
   mems_at x = without_all (membrane_images s items) (mems_in h x)
+
+  -- no context of the rule is closed
+  opened : OpenHead (head_at rule.head) × OpenHead (head_at rule.body)
+  opened = accepted_open table rule (in_order table rule whole.ready.accepted)
+
+  -- so no rest is dropped
+  no_drops : (x : ℕ) → In x (removed_mems s (head_items rule plan)) → In x (membrane_images s (head_items rule plan))
+  no_drops = none_dropped (head_items rule plan) s (none_closed (kind_in plan.kinds) rule.head opened.0)
 
   -- a membrane of a context
   register_inside : (k : ℕ) → (k ≡ 0) ⊎ ((i : ℕ) × (k ≡ suc i) × (i < length (membranes_of items))) → In (at s k) (m ∷ flat mi)
@@ -168,33 +177,29 @@ module _ (firing : AcceptedFires) (head_law : AcceptedHeads) (nested : AcceptedN
     joined = map_joins h h' r s items B taken both.0 both.1 both.2 (flat (mem h.root inner bare)) tr.all limit above
 
     fired_to : FiredTo h c s items B taken h' (λ a i. both.0.number (a, i)) to copy
-    fired_to = map_fired h h' r s items B taken both.0 both.1 both.2 (flat (mem h.root inner bare)) tr.all limit above
+    fired_to = map_fired h h' r s items B taken both.0 both.1 both.2 (flat (mem h.root inner bare)) tr.all limit above (body_open bn 0 low hd opened.1) no_drops
 
     abbrev left_at : ℕ → List SolidAtom
-    left_at = left h h' r s items bn hd low taken both.0 to limit copy part joined fired_to refl m mi place
+    left_at = left h h' r s items bn hd low taken both.0 to limit copy part joined fired_to refl m mi place opened.1 no_drops
 
     -- ---- what the contents stand for
 
     -- what is left of a membrane stands after the firing
     left_stands : (x : ℕ) → In x (m ∷ flat mi) → (t : Forest) → Forms h t (mems_at x) → StandAs h' r' (mems_at x) (fused_levels to (levels (kept_membranes (regions_at h r t))))
     left_stands x i t F =
-        let free = left_free h read.valid s (membrane_images s items) (made_mems s low B) taken m mi place x i t (mems_at x) F (λ z j. in_withouts_of (membrane_images s items) (mems_in h x) z (read.valid.sound.listed.mems_once x) j) in
-        kept_stand h h' r (λ a i. both.0.number (a, i)) to t (mems_at x) F (λ y j. let w = free y j in untouched h h' r s items bn hd low taken both.0 to limit copy part joined fired_to refl m mi place y w.0 w.1)
-
-    -- no context of the body is closed
-    opened : OpenHead (head_at rule.body)
-    opened = (accepted_open table rule (in_order table rule whole.ready.accepted)).1
+        let free = left_free h read.valid s (membrane_images s items) (made_mems s both.0.rests low B) taken m mi place x i t (mems_at x) F (λ z j. in_withouts_of (membrane_images s items) (mems_in h x) z (read.valid.sound.listed.mems_once x) j) in
+        kept_stand h h' r (λ a i. both.0.number (a, i)) to t (mems_at x) F (λ y j. let w = free y j in untouched h h' r s items bn hd low taken both.0 to limit copy part joined fired_to refl m mi place opened.1 no_drops y w.0 w.1)
 
     -- an untyped context stands for what is left of its membrane
     context_agrees : (u : CtxUse) → Contains (head_contexts hd) u → ContextAgrees h h' r r' s bn e.contents left_at mems_at to limit copy part u
     context_agrees u w =
         let x = at s (bn.context u.name) in
         let there = subst (λ us. Contains us u) (sym (same_contexts rule.body)) w in
-        let is_open = sym (tree_open r.names u (contexts_open rule.body opened u there)) in
+        let is_open = sym (tree_open r.names u (contexts_open rule.body opened.1 u there)) in
         let L = has.contexts u there in
         let same = same_region L.is in
         record {
-          atoms = ap (map (renamed_atom (λ z. to (of_solid z)))) (ap e.contents.atoms_of is_open ∙ same.0) ∙ sym (left_read h h' r s items bn hd low taken both.0 to limit copy part joined fired_to refl m mi place x);
+          atoms = ap (map (renamed_atom (λ z. to (of_solid z)))) (ap e.contents.atoms_of is_open ∙ same.0) ∙ sym (left_read h h' r s items bn hd low taken both.0 to limit copy part joined fired_to refl m mi place opened.1 no_drops x);
           membranes = subst (λ R. StandAs h' r' (mems_at x) (fused_levels to (levels (kept_membranes R)))) (sym (ap e.contents.membranes_of is_open ∙ same.1))
               (left_stands x (register_inside (bn.context u.name) (contexts_of_heads (kind_in plan.kinds) rule.head u.name).0) L.forest L.forms);
         }
@@ -225,13 +230,13 @@ module _ (firing : AcceptedFires) (head_law : AcceptedHeads) (nested : AcceptedN
         (λ u w. has.rule_contexts u (subst (λ us. Contains us u) (sym (same_rule_contexts rule.body)) w))
         (copies_known h h' r s items B taken both.0 both.1 both.2 (flat (mem h.root inner bare)) tr.all limit above)
 
-    leaves_rest : LeavesRest h h' r s items bn hd low taken both.0 to limit copy part joined fired_to refl m mi place e.rest
+    leaves_rest : LeavesRest h h' r s items bn hd low taken both.0 to limit copy part joined fired_to refl m mi place opened.1 no_drops e.rest
     leaves_rest = record {
       atoms = atoms_at h r (without_all taken (atoms_in h m));
       membranes = regions_at h r rest.forest;
       rules = map r.rule (rules_in h m);
       is = rest.is;
-      atoms_are = sym (left_read h h' r s items bn hd low taken both.0 to limit copy part joined fired_to refl m mi place m);
+      atoms_are = sym (left_read h h' r s items bn hd low taken both.0 to limit copy part joined fired_to refl m mi place opened.1 no_drops m);
       membranes_are = left_stands m (inl refl) rest.forest rest.forms;
       rules_are = refl;
     }
@@ -261,20 +266,20 @@ module _ (firing : AcceptedFires) (head_law : AcceptedHeads) (nested : AcceptedN
       raw : RawFrom h h' r (λ a i. both.0.number (a, i)) to index ns m h.root inner nothing
       raw =
           let w = taken_at r.rule (rules_in h m) index k stands in
-          fires_in_tree h h' r s items bn hd low taken both.0 to limit copy part joined fired_to refl m mi place (rule_tree r.names r.rule rule) is_rule.accepted ns index w.0 (subst (λ z. Taken index z (map r.rule (rules_in h m)) w.0) rule_is w.1)
-          (level_tree r.names r.rule rule.body) e leaves_rest opened agrees (all_fit h h' r r' s bn e.contents left_at mems_at to limit copy part 0 hd agrees) wires
+          fires_in_tree h h' r s items bn hd low taken both.0 to limit copy part joined fired_to refl m mi place opened.1 no_drops (rule_tree r.names r.rule rule) is_rule.accepted ns index w.0 (subst (λ z. Taken index z (map r.rule (rules_in h m)) w.0) rule_is w.1)
+          (level_tree r.names r.rule rule.body) e leaves_rest agrees (all_fit h h' r r' s bn e.contents left_at mems_at to limit copy part 0 hd agrees) wires
           inner tr.forms.2 (subst (λ z. Distinct (h.root ∷ z)) (plus_nothing (flat inner)) tr.once) in_tree
           (λ y j. elim j [ inl q ↦ subst (IsMem h) q (root_mem h read.valid) | inr q ↦ forest_there h read.valid inner (mems_in h h.root) tr.forms.2 (λ z u. listed_there h read.valid z h.root u) y q ])
           nothing (beside_nothing (region_process (region_at h r h.root inner)) (closed_heap h r inner read tr)) (omega arith)
 
       read_again : IsRead h' (renumbered_reading r both.0.number)
-      read_again = again.read_again firing head_law nested table rule plan whole h r read is_rule m mi there forest s first h' runs both.0
+      read_again = again.read_again firing head_law nested table rule plan whole h r read is_rule m mi there forest s first rests h' runs both.0
 
       tree_again : (t : Forest) × IsTree h' (mem h'.root t bare)
-      tree_again = again.tree_again firing head_law nested table rule plan whole h r read is_rule m mi there forest s first h' runs both.0
+      tree_again = again.tree_again firing head_law nested table rule plan whole h r read is_rule m mi there forest s first rests h' runs both.0
 
       same_root : h'.root ≡ h.root
-      same_root = again.same_root firing head_law nested table rule plan whole h r read is_rule m mi there forest s first h' runs both.0
+      same_root = again.same_root firing head_law nested table rule plan whole h r read is_rule m mi there forest s first rests h' runs both.0
 
       first_region : {S S' : Region} → region_and S no_region ≡ region_and S' no_region → S ≡ S'
       first_region e = cc
@@ -289,7 +294,7 @@ module _ (firing : AcceptedFires) (head_law : AcceptedHeads) (nested : AcceptedN
               read = read_again;
               forest = tree_again.0;
               tree = tree_again.1;
-              rules = again.rules_again firing head_law nested table rule plan whole h r read is_rule m mi there forest s first h' runs both.0;
+              rules = again.rules_again firing head_law nested table rule plan whole h r read is_rule m mi there forest s first rests h' runs both.0;
             };
             path = raw.path;
             leads = raw.leads;
@@ -308,7 +313,7 @@ module _ (firing : AcceptedFires) (head_law : AcceptedHeads) (nested : AcceptedN
 
 -- a turn on a heap is the next solid
 pub turn_is_next : AcceptedFires → AcceptedHeads → AcceptedNested → TurnIsNext
-turn_is_next firing head_law nested table rule plan whole h r inner read tr is_rule m mi there forest index k stands rule_is s first ns e regs h' runs =
-    let fires = fired firing head_law nested table rule plan whole h r inner read tr is_rule m mi there forest s first h' runs in
+turn_is_next firing head_law nested table rule plan whole h r inner read tr is_rule m mi there forest index k stands rule_is s first rests ns e regs h' runs =
+    let fires = fired firing head_law nested table rule plan whole h r inner read tr is_rule m mi there forest s first rests h' runs in
     let both_are = regs fires.parts fires.are in
-    turned firing head_law nested table rule plan whole h r inner read tr is_rule m mi there forest s first h' runs ns e both_are.0 both_are.1 index k stands rule_is
+    turned firing head_law nested table rule plan whole h r inner read tr is_rule m mi there forest s first rests h' runs ns e both_are.0 both_are.1 index k stands rule_is

@@ -87,16 +87,16 @@ pub record HasNext (h : Heap) (r : HeapReading) (inner : Forest) (rule : RuleTre
   pub leads : Leads h m path h.root
   pub next : NextAt path index ns (region_at h r h.root inner) (region_at h' (renumbered_reading r again.number) h'.root again.forest)
 
--- Where the head code of an accepted rule first succeeds in a membrane, its body code, run with the same registers, leaves a heap
--- that can be read again.
+-- Where the head code of an accepted rule first succeeds in a membrane, its body code, run with the same registers, which hold
+-- what is left where closed contexts stand, leaves a heap that can be read again.
 abbrev pub TurnIsRead : Type 0
 TurnIsRead = (table : List RuleTree) (rule : RuleTree) (plan : GuardPlan) → IsCompilable table rule plan →
     (h : Heap) (r : HeapReading) → IsRead h r → IsRule r rule → (m : ℕ) (mi : Forest) → IsMem h m → HasForest h m mi →
     (s : Registers) → IsFirstSuccess h (rule_head_code rule plan) m s.head → HoldsRests h s (head_items rule plan) → (h' : Heap) → RunsBody s (rule_body_code rule plan) h h' →
     IsReadAgain h r rule h'
 
--- Where the head code of an accepted rule first succeeds in a membrane, its body code, run with the same registers, leaves the next
--- solid of the calculus, for each embedding that is that of the registers.
+-- Where the head code of an accepted rule first succeeds in a membrane, its body code, run with the same registers, which hold
+-- what is left where closed contexts stand, leaves the next solid of the calculus, for each embedding that is that of the registers.
 abbrev pub TurnIsNext : Type 0
 TurnIsNext = (table : List RuleTree) (rule : RuleTree) (plan : GuardPlan) → IsCompilable table rule plan →
     (h : Heap) (r : HeapReading) (inner : Forest) → IsRead h r → IsTree h (mem h.root inner bare) → IsRule r rule →
