@@ -29,12 +29,12 @@ use Rattle.lmn_splice.specs.Classes.{rising}
 use Rattle.lmn_splice.specs.Splice as splice
 use Rattle.lmn_base.specs.Names.{HasNames, leaf_names, level_names, context_names, condition_names}
 use Rattle.lmn_compile_body.specs.Accepted.{rule_body_names}
+use Rattle.lmn_base.specs.declared.level.CtxUse.{CtxUse}
 use Rattle.lmn_base.specs.declared.level.Leaf.{Leaf}
 use Rattle.lmn_compile_head.specs.Accepted.{AcceptedHeads, AcceptedLeast, IsReady, head_items, rule_head_code}
-use Rattle.lmn_compile_head.proofs.OpenHeads.{OpenHead, accepted_open}
 use Rattle.lmn_guards.proofs.AcceptedLemmas.{in_order}
 use Rattle.lmn_compile_head.specs.Heads.{IsHead, EachInside, kind_in}
-use Rattle.lmn_compile_body.proofs.HeadContexts.{head_names, heads_names, untyped, of_rules}
+use Rattle.lmn_compile_body.proofs.HeadContexts.{head_contexts, heads_contexts, head_names, heads_names, untyped, of_rules}
 use Rattle.lmn_instr.specs.Running.{IsFirstSuccess}
 use Rattle.lmn_body.specs.Fired.{images_of}
 use Rattle.lmn_body.specs.Flattening.{names_inside, context_membrane, rule_context_membrane}
@@ -64,16 +64,15 @@ use Rattle.lmn_bridge.proofs.Walking.{run}
 use Rattle.lmn_turn.specs.Turning.{IsLeft, IsRegisters}
 use Rattle.lmn_turn.proofs.Adders.{at}
 use Rattle.lmn_turn.proofs.BoundIntegers.{typed_among, guard_binds}
-use Rattle.lmn_turn.proofs.Contexts.{context_there, rule_context_there}
+use Rattle.lmn_turn.proofs.Contexts.{context_there, one_context, rule_context_there}
 use Rattle.lmn_turn.proofs.Found.{found, part_at, whole_once, atoms_are, membranes_are, parts_are, membranes_read, link_is, part_is, part_ground}
 use Rattle.lmn_turn.proofs.Held.{Held, HeldLevel}
 use Rattle.lmn_turn.proofs.LeftOver.{Room, LeftThere, left_there, each_read, contexts_there, context_among, name_among}
-use Rattle.lmn_turn.proofs.OpenTrees.{contexts_open, tree_open}
 use Rattle.lmn_turn.proofs.PartNames.{part_named}
 use Rattle.lmn_turn.proofs.PlanTypes.{plan_types}
 use Rattle.lmn_base.specs.Graphs.{Port}
 use Rattle.lmn_base.proofs.Lists.{weigh, get_below, get_there as get_some, weigh_append, in_either, all_of_left, all_of_right}
-use Rattle.lmn_splice.proofs.Common.{in_append}
+use Rattle.lmn_splice.proofs.Common.{in_append, in_back}
 use Rattle.lmn_base.specs.Lists.{In}
 
 -- the images of numbers in a row
@@ -88,26 +87,26 @@ module _ (h : Heap) (r : HeapReading) (read : IsRead h r) (c : Contents) (all_as
     (ms_are : (b : ℕ) → In b all_ms → In b ks) (ks_are : (b : ℕ) → In b ks → In b all_ms) (kind : ℕ → TypeKind) (at : ℕ → ℕ) where
   -- what the contexts of a head stand for
   pub record HeadThere (hd : Head) : Type 0 where
-    pub contexts : (e : ℕ × ℕ) → splice.IsOneOf e (head_names untyped 0 1 hd) →
-        IsLeft h r taken ks (at e.1) (region (c.atoms_of (tree.open_context (name_of r.names e.0))) (c.membranes_of (tree.open_context (name_of r.names e.0))) (map r.rule (rules_in h (at e.1))))
+    pub contexts : (e : ℕ × ℕ) → splice.IsOneOf e (head_names untyped 0 1 hd) → (u : CtxUse) × splice.IsOneOf u (head_contexts untyped hd) × (u.name ≡ e.0)
+        × IsLeft h r taken ks (at e.1) (region (c.atoms_of (context_tree r.names u)) (c.membranes_of (context_tree r.names u)) (map r.rule (rules_in h (at e.1))))
     pub rules : (e : ℕ × ℕ) → splice.IsOneOf e (head_names of_rules 0 1 hd) → c.rules_of (name_of r.names e.0) ≡ map r.rule (rules_in h (at e.1))
 
-  pub head_there : (hd : Head) (m : ℕ) {ns xs : List ℕ} {ps : List (List ℕ)} {bs ms : List ℕ} {i i' : Forest} → OpenHead hd → EachLevel (λ l. NoConnectorLeaf (tree_leaves l)) (tree_of r.names r.rule hd) →
+  pub head_there : (hd : Head) (m : ℕ) {ns xs : List ℕ} {ps : List (List ℕ)} {bs ms : List ℕ} {i i' : Forest} → EachLevel (λ l. NoConnectorLeaf (tree_leaves l)) (tree_of r.names r.rule hd) →
       own_contexts (tree_of r.names r.rule hd) ≡ [] → own_rule_contexts (tree_of r.names r.rule hd) ≡ [] →
       Lies h r c.link_of c.typed_of (Held h read.valid r c) (tree_of r.names r.rule hd) bs ps ms ns (atoms_in h m) xs i i' →
       Room h read.valid r c all_as all_ps all_ms taken ks takes_as takes_ps takes_only ms_are ks_are (λ b. 0) (λ b. 0) (atoms_in h m) i bs ps ms → Reads at 1 ms → Grown h i → HeadThere hd
-  head_there (head leaves hs cs rcs rs) m {i = i} op o no_c no_r (lies {bs = bs} {as' = as'} {ms = ms} {parts = parts} {ps = ps} fit dist among out inner) room reads grown =
+  head_there (head leaves hs cs rcs rs) m {i = i} o no_c no_r (lies {bs = bs} {as' = as'} {ms = ms} {parts = parts} {ps = ps} fit dist among out inner) room reads grown =
       let deeper : Room h read.valid r c all_as all_ps all_ms taken ks takes_as takes_ps takes_only ms_are ks_are (λ b. 0 + (weigh (one_if_same b) bs + weigh (one_if_same b) (flattened parts))) (λ b. 0) [] i as' ps ms = record {
         atom_room = λ b. let u = room.atom_room b in omega (arith, u, weigh_out (one_if_same b) bs (atoms_in h m) dist among out);
         membrane_room = room.membrane_room;
         all_atoms_are = λ b. let u = room.all_atoms_are b in omega (arith, u, weigh_append (one_if_same b) bs as', parts_both (one_if_same b) parts ps);
         all_membranes_are = room.all_membranes_are;
       } in
-      let below = contexts_there h read.valid r c all_as all_ps all_ms taken ks takes_as takes_ps takes_only ms_are ks_are kind at hs 1 (λ b. 0 + (weigh (one_if_same b) bs + weigh (one_if_same b) (flattened parts))) (λ b. 0) op.1 o.1 inner deeper reads grown in
+      let below = contexts_there h read.valid r c all_as all_ps all_ms taken ks takes_as takes_ps takes_only ms_are ks_are kind at hs 1 (λ b. 0 + (weigh (one_if_same b) bs + weigh (one_if_same b) (flattened parts))) (λ b. 0) o.1 inner deeper reads grown in
       record {
         contexts = λ e w. elim (in_append e (names_inside 0 cs) (heads_names untyped 1 hs) w) [
-          | inl a ↦ absurd (no_context_among (subst (Among (tree.open_context (name_of r.names e.0))) no_c (context_among r.names 0 cs op.0 e a).0))
-          | inr b ↦ below.contexts e b
+          | inl a ↦ (let n = context_among r.names 0 cs e a in absurd (no_context_among (subst (Among (context_tree r.names n.0)) no_c n.3)))
+          | inr b ↦ (let n = below.contexts e b in (n.0, in_back n.0 cs (heads_contexts untyped hs) n.1, n.2, n.3))
         ];
         rules = λ e w. elim (in_append e (names_inside 0 rcs) (heads_names of_rules 1 hs) w) [
           | inl a ↦ absurd (nothing_among (subst (Among (name_of r.names e.0)) no_r (name_among r.names 0 rcs e a).0))
@@ -153,10 +152,6 @@ module _ (head_law : AcceptedHeads) (least_law : AcceptedLeast) (alike : EmbedsA
 
   as_flat : items ≡ J
   as_flat = items_flat kind rule.head
-
-  -- none of its contexts is closed
-  opened : OpenHead (head_at rule.head) × OpenHead (head_at rule.body)
-  opened = accepted_open table rule (in_order table rule ready.accepted)
 
   is_head : IsHead items
   is_head = head_law.head table rule plan ready
@@ -266,7 +261,7 @@ module _ (head_law : AcceptedHeads) (least_law : AcceptedLeast) (alike : EmbedsA
     }
 
     in_head : HeadThere h r read c F.atoms (flattened F.parts) F.membranes taken (membrane_images s J) takes_as takes_ps takes_only ms_are ks_are kind (at s) (head_at rule.head)
-    in_head = head_there h r read c F.atoms (flattened F.parts) F.membranes taken (membrane_images s J) takes_as takes_ps takes_only ms_are ks_are kind (at s) (head_at rule.head) m opened.0 only
+    in_head = head_there h r read c F.atoms (flattened F.parts) F.membranes taken (membrane_images s J) takes_as takes_ps takes_only ms_are ks_are kind (at s) (head_at rule.head) m only
         (ap own_contexts (sym tree_is) ∙ is_rule.accepted.top_contexts) (ap own_rule_contexts (sym tree_is) ∙ is_rule.accepted.top_rule_contexts) F.lying room
         (membranes_read h r read kind (head_at rule.head) m mi forest.forms forest.once c plain numbers_at ordered.rest both.0 both.1 only (no_rules r rule kind is_rule) (few_all r rule kind is_rule) holds inside rule.guard s.head.images lies_at numbers_are)
         (forms_grown h mi (mems_in h m) forest.forms)
@@ -302,11 +297,12 @@ module _ (head_law : AcceptedHeads) (least_law : AcceptedLeast) (alike : EmbedsA
         record {
           links = λ x p k. sym (link_is h r read kind (head_at rule.head) m mi forest.forms forest.once c plain numbers_at ordered.rest both.0 both.1 only (no_rules r rule kind is_rule) (few_all r rule kind is_rule) holds inside rule.guard s.head.images lies_at numbers_are x p
               (subst (λ xs. HasLink xs x p) as_flat k));
-          contexts = λ u w. subst (λ xs. IsLeft h r (images_of s xs ++ parts) (membrane_images s xs) (at s (context_membrane rule.head u.name)) (region (c.atoms_of (context_tree r.names u)) (c.membranes_of (context_tree r.names u)) (map r.rule (rules_in h (at s (context_membrane rule.head u.name)))))) back
+          contexts = λ u w.
+              let n = (in_head parts are').contexts (u.name, context_membrane rule.head u.name) (context_there r rule read.names is_rule u w) in
+              subst (λ xs. IsLeft h r (images_of s xs ++ parts) (membrane_images s xs) (at s (context_membrane rule.head u.name)) (region (c.atoms_of (context_tree r.names u)) (c.membranes_of (context_tree r.names u)) (map r.rule (rules_in h (at s (context_membrane rule.head u.name)))))) back
               (subst (λ p. IsLeft h r (images_of s J ++ parts) (membrane_images s J) (at s (context_membrane rule.head u.name)) (region (c.atoms_of p) (c.membranes_of p) (map r.rule (rules_in h (at s (context_membrane rule.head u.name))))))
-              (sym (tree_open r.names u (contexts_open rule.body opened.1 u w)))
-              ((in_head parts are').contexts (u.name, context_membrane rule.head u.name) (context_there r rule read.names is_rule opened.0 opened.1 u w)));
-          rule_contexts = λ u w. (in_head parts are').rules (u.name, rule_context_membrane rule.head u.name) (rule_context_there r rule read.names is_rule opened.0 opened.1 u w);
+              (one_context table rule (in_order table rule ready.accepted) r.names n.0 u n.1 w n.2) n.3);
+          rule_contexts = λ u w. (in_head parts are').rules (u.name, rule_context_membrane rule.head u.name) (rule_context_there r rule read.names is_rule u w);
           parts = λ n o p g w e. part_named h r kind rule s.head.images c.typed_of takes n g e;
           bound = bound_is;
         },

@@ -1,5 +1,5 @@
 -- What the head leaves of its membranes, and what its contexts stand for, are what is left on the heap.
-use Rattle.std.proofs.Common.{ℕ, ◌≡◌, ◌+◌, ◌≤◌, ◌⊎◌, List, [], ◌∷◌, ◌++◌, map, length, sym, ap, subst, ◌∙◌, inl, inr, arith}
+use Rattle.std.proofs.Common.{ℕ, ◌≡◌, ◌+◌, ◌≤◌, ◌⊎◌, List, [], ◌∷◌, ◌++◌, map, length, refl, sym, ap, subst, ◌∙◌, inl, inr, arith}
 use Rattle.lmn_base.specs.declared.level.CtxUse.{CtxUse}
 use Rattle.lmn_heap.specs.Heap.{Heap, IsAtom, atoms_in, mems_in, rules_in}
 use Rattle.lmn_heap.specs.Lists.{without_all}
@@ -11,7 +11,7 @@ use Rattle.lmn_splice.specs.Splice as splice
 use Rattle.lmn_congruence.specs.Links.{one_if_same}
 use Rattle.lmn_congruence.specs.Orders.{Among, at_head, further}
 use Rattle.lmn_congruence.specs.Regions.{region}
-use Rattle.lmn_congruence.specs.Rules.{Level, Name, level, open_context}
+use Rattle.lmn_congruence.specs.Rules.{Level, Name, level}
 use Rattle.lmn_congruence.specs.Translation.{context_tree, name_of, names_of}
 use Rattle.lmn_adequacy.specs.Accepted.{NoConnectorLeaf, EachOf, own_leaves}
 use Rattle.lmn_adequacy.specs.Embedding.{Contents}
@@ -29,14 +29,12 @@ use Rattle.lmn_bridge.proofs.PartsOut.{flattened, parts_both, flattened_left}
 use Rattle.lmn_bridge.proofs.Pieces.{atom_at, atoms_each, numbers}
 use Rattle.lmn_bridge.proofs.Walking.{flat_size}
 use Rattle.lmn_bridge.proofs.Weighing.{heavy_taken, level_weighs, membranes_weigh, weigh_nothing, weigh_out}
-use Rattle.lmn_compile_body.proofs.HeadContexts.{heads_names, untyped, of_rules}
-use Rattle.lmn_compile_head.proofs.OpenHeads.{AllOpen, OpenHeads}
-use Rattle.lmn_turn.proofs.OpenTrees.{open_trees}
+use Rattle.lmn_compile_body.proofs.HeadContexts.{head_contexts, heads_contexts, heads_names, untyped, of_rules}
 use Rattle.lmn_turn.specs.Turning.{IsLeft}
 use Rattle.lmn_turn.proofs.Held.{Held, context_is, rule_context_is, parts_sub, parts_or_left, tops_sub, left_grown, grown_forms}
 use Rattle.lmn_turn.proofs.Sublists.{Sublist, sub_then, sub_without_all, gone_or_left, sub_is}
 use Rattle.lmn_base.proofs.Lists.{weigh, weigh_append}
-use Rattle.lmn_splice.proofs.Common.{in_append}
+use Rattle.lmn_splice.proofs.Common.{in_append, in_back, in_front}
 use Rattle.lmn_guards.specs.declared.plan.TypeKind.{TypeKind}
 use Rattle.lmn_base.specs.Lists.{In}
 
@@ -53,16 +51,12 @@ name_among names inside (u ∷ us) e (inl q) =
     (subst (λ x. Among (name_of names x) (name_of names u.name ∷ names_of names us)) (ap (λ (p : ℕ × ℕ). p.0) q) at_head, sym (ap (λ (p : ℕ × ℕ). p.1) q))
 name_among names inside (u ∷ us) e (inr i) = let w = name_among names inside us e i in (further w.0, w.1)
 
--- and a context that isn't closed is among the open ones
-pub context_among : (names : List Name) (inside : ℕ) (us : List CtxUse) → AllOpen us → (e : ℕ × ℕ) → splice.IsOneOf e (names_inside inside us) → Among (open_context (name_of names e.0)) (map (context_tree names) us) × (e.1 ≡ inside)
-context_among names inside us o e i =
-    let w = name_among names inside us e i in
-    (subst (Among (open_context (name_of names e.0))) (sym (open_trees names us o)) (opened (names_of names us) w.0), w.1)
-  where
-    opened : {p : Name} (ps : List Name) → Among p ps → Among (open_context p) (map open_context ps)
-    opened [] k = elim k [ ]
-    opened (p ∷ ps) at_head = at_head
-    opened (p ∷ ps) (further k) = further (opened ps k)
+-- and it is that of a context of the calculus
+pub context_among : (names : List Name) (inside : ℕ) (us : List CtxUse) (e : ℕ × ℕ) → splice.IsOneOf e (names_inside inside us) →
+    (u : CtxUse) × splice.IsOneOf u us × (u.name ≡ e.0) × Among (context_tree names u) (map (context_tree names) us) × (e.1 ≡ inside)
+context_among names inside [] e i = absurd i
+context_among names inside (u ∷ us) e (inl q) = (u, inl refl, ap (λ (p : ℕ × ℕ). p.0) q, at_head, sym (ap (λ (p : ℕ × ℕ). p.1) q))
+context_among names inside (u ∷ us) e (inr i) = let w = context_among names inside us e i in (w.0, inr w.1, w.2, further w.3, w.4)
 
 module _ (h : Heap) (v : Valid h) (r : HeapReading) (c : Contents) (all_as all_ps all_ms taken ks : List ℕ)
     (takes_as : (b : ℕ) → In b all_as → In b taken) (takes_ps : (b : ℕ) → In b all_ps → In b taken) (takes_only : (b : ℕ) → In b taken → In b all_as ⊎ In b all_ps)
@@ -132,14 +126,14 @@ module _ (h : Heap) (v : Valid h) (r : HeapReading) (c : Contents) (all_as all_p
   module _ (kind : ℕ → TypeKind) (at : ℕ → ℕ) where
     -- what the contexts of the membranes of a head stand for
     pub record ContextsThere (next : ℕ) (hs : Heads) : Type 0 where
-      pub contexts : (e : ℕ × ℕ) → splice.IsOneOf e (heads_names untyped next hs) →
-          IsLeft h r taken ks (at e.1) (region (c.atoms_of (open_context (name_of r.names e.0))) (c.membranes_of (open_context (name_of r.names e.0))) (map r.rule (rules_in h (at e.1))))
+      pub contexts : (e : ℕ × ℕ) → splice.IsOneOf e (heads_names untyped next hs) → (u : CtxUse) × splice.IsOneOf u (heads_contexts untyped hs) × (u.name ≡ e.0)
+          × IsLeft h r taken ks (at e.1) (region (c.atoms_of (context_tree r.names u)) (c.membranes_of (context_tree r.names u)) (map r.rule (rules_in h (at e.1))))
       pub rules : (e : ℕ × ℕ) → splice.IsOneOf e (heads_names of_rules next hs) → c.rules_of (name_of r.names e.0) ≡ map r.rule (rules_in h (at e.1))
 
-    pub contexts_there : (hs : Heads) (next : ℕ) (ea em : ℕ → ℕ) {bs ms ns : List ℕ} {ps : List (List ℕ)} {F F' : Forest} → OpenHeads hs → EachOf (λ l. NoConnectorLeaf (own_leaves l)) (trees_of r.names r.rule hs) →
+    pub contexts_there : (hs : Heads) (next : ℕ) (ea em : ℕ → ℕ) {bs ms ns : List ℕ} {ps : List (List ℕ)} {F F' : Forest} → EachOf (λ l. NoConnectorLeaf (own_leaves l)) (trees_of r.names r.rule hs) →
         LiesIn h r c.link_of c.typed_of (Held h v r c) (trees_of r.names r.rule hs) bs ps ms ns F F' → Room ea em [] F bs ps ms → Reads at next ms → Grown h F → ContextsThere next hs
-    contexts_there no_head next ea em op o lies_none room gm g = record { contexts = λ e i. absurd i; rules = λ e i. absurd i }
-    contexts_there (head_and (head leaves hs' cs rcs rs) hs) next ea em op o
+    contexts_there no_head next ea em o lies_none room gm g = record { contexts = λ e i. absurd i; rules = λ e i. absurd i }
+    contexts_there (head_and (head leaves hs' cs rcs rs) hs) next ea em o
         (lies_and {m = m} {bs = bs} {qs = qs} {ks = ks'} {f = F} {f' = F'} {f'' = F''} {i = i} {i' = i'} k (lies {bs = bs'} {as' = as'} {ms = ms} {ns = ns'} {rest = xs} {parts = parts} {ps = ps} fit dist among out inner) q more) room gm g =
         let hd = head leaves hs' cs rcs rs in
         let d : Lies h r c.link_of c.typed_of (Held h v r c) (tree_of r.names r.rule (head leaves hs' cs rcs rs)) (bs' ++ as') (parts ++ ps) ms (numbers bs' (atoms_in h m) ++ ns') (atoms_in h m) xs i i' = lies fit dist among out inner in
@@ -185,23 +179,27 @@ module _ (h : Heap) (v : Valid h) (r : HeapReading) (c : Contents) (all_as all_p
         let len = level_length h r c.link_of c.typed_of (Held h v r c) kind next (next + 1) hd o.0 d in
         let y : (next + 1) + length ms ≡ next + 1 + sizes hs' = let s = len.1 in omega (arith, s, flat_size kind next (next + 1) hd) in
         let below = contexts_there hs' (next + 1) (λ b. (ea b + (weigh (one_if_same b) bs + weigh (one_if_same b) (flattened qs))) + (weigh (one_if_same b) bs' + weigh (one_if_same b) (flattened parts))) (λ b. (em b + one_if_same b m) + weigh (one_if_same b) ks')
-        op.0.1 o.0.1 inner deeper under.0 grown.0.1 in
+        o.0.1 inner deeper under.0 grown.0.1 in
         let behind = contexts_there hs (next + 1 + sizes hs') (λ b. ea b + (weigh (one_if_same b) all_bs + weigh (one_if_same b) (flattened all_ps))) (λ b. (em b + one_if_same b m) + weigh (one_if_same b) ms)
-        op.1 o.1 more there (subst (λ z. Reads at z ks') y under.1) grown.1 in
+        o.1 more there (subst (λ z. Reads at z ks') y under.1) grown.1 in
         record {
           contexts = λ e w. elim (in_append e (names_inside next cs ++ heads_names untyped (next + 1) hs') (heads_names untyped (next + 1 + sizes hs') hs) w) [
             | inl a ↦ elim (in_append e (names_inside next cs) (heads_names untyped (next + 1) hs') a) [
-              | inl b ↦ (let n = context_among r.names next cs op.0.0 e b in
-                  let held = context_is c q.1.0 n.0 in
-                  let there : at e.1 ≡ m = ap at n.1 ∙ gm.0 in
-                  record {
-                    forest = i';
-                    forms = subst (λ z. Forms h i' (without_all ks (mems_in h z))) (sym there) left.forms;
-                    is = λ j. region ((held.0 ∙ each_read m xs left.atoms ∙ ap (λ z. atoms_at h r (without_all taken (atoms_in h z))) (sym there)) j) (held.1 j) (map r.rule (rules_in h (at e.1)));
-                  })
-              | inr b ↦ below.contexts e b
+              | inl b ↦ (let n = context_among r.names next cs e b in
+                  let held = context_is c q.1.0 n.3 in
+                  let there : at e.1 ≡ m = ap at n.4 ∙ gm.0 in (
+                    n.0,
+                    in_front n.0 (head_contexts untyped hd) (heads_contexts untyped hs) (in_front n.0 cs (heads_contexts untyped hs') n.1),
+                    n.2,
+                    record {
+                      forest = i';
+                      forms = subst (λ z. Forms h i' (without_all ks (mems_in h z))) (sym there) left.forms;
+                      is = λ j. region ((held.0 ∙ each_read m xs left.atoms ∙ ap (λ z. atoms_at h r (without_all taken (atoms_in h z))) (sym there)) j) (held.1 j) (map r.rule (rules_in h (at e.1)));
+                    },
+                  ))
+              | inr b ↦ (let w = below.contexts e b in (w.0, in_front w.0 (head_contexts untyped hd) (heads_contexts untyped hs) (in_back w.0 cs (heads_contexts untyped hs') w.1), w.2, w.3))
             ]
-            | inr a ↦ behind.contexts e a
+            | inr a ↦ (let w = behind.contexts e a in (w.0, in_back w.0 (head_contexts untyped hd) (heads_contexts untyped hs) w.1, w.2, w.3))
           ];
           rules = λ e w. elim (in_append e (names_inside next rcs ++ heads_names of_rules (next + 1) hs') (heads_names of_rules (next + 1 + sizes hs') hs) w) [
             | inl a ↦ elim (in_append e (names_inside next rcs) (heads_names of_rules (next + 1) hs') a) [
