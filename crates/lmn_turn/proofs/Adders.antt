@@ -1,14 +1,20 @@
 -- What a body adds to a membrane comes from the items that are written in it.
-use Rattle.std.proofs.Common.{ℕ, suc, ◌+◌, ◌≡◌, ◌≢◌, ◌==◌, Bool, true, false, cond, List, [], ◌∷◌, ◌++◌, refl, sym, ap, subst, map, ◌∙◌, arith, append_assoc}
-use Rattle.std.proofs.lemmas.Bool.{eq-eqb}
+use Rattle.std.proofs.Common.{ℕ, zero, suc, inl, inr, ◌+◌, ◌≡◌, ◌≢◌, ◌==◌, Bool, true, false, cond, List, [], ◌∷◌, ◌++◌, refl, sym, ap, subst, map, ◌∙◌, arith, append_assoc}
+use Rattle.std.proofs.lemmas.Bool.{cases_eq, eq-eqb}
+use Rattle.std.proofs.lemmas.List.{append-nil}
 use Rattle.lmn_base.specs.declared.solid.SolidAtom.{SolidAtom}
 use Rattle.lmn_body.specs.declared.items.BodyItem.{BodyItem}
 use Rattle.lmn_body.specs.declared.items.BodyItem.TheVariants.{Atom, Connector, Copy, Bound, Membrane, Rest, Rule, Rules}
-use Rattle.lmn_body.specs.Running.{Registers, integer_functor}
+use Rattle.lmn_body.specs.Running.{Registers}
 use Rattle.lmn_body.specs.Added.{added_mems, added_rules}
-use Rattle.lmn_body.specs.RestCopies.{RestCopy, RestCopies, rest_membranes, copied_membrane, copied_into, given}
+use Rattle.lmn_body.specs.RestCopies.{RestCopy, RestCopies, later, rest_membranes, copied_membrane, copied_into, given, IsAsLong}
 use Rattle.lmn_body.specs.Within.{added_with_copies}
+use Rattle.lmn_base.specs.Lists.{In}
 use Rattle.lmn_base.proofs.Numbers.{not_equal as not_eq}
+use Rattle.lmn_heap.specs.Lists.{Distinct}
+use Rattle.lmn_heap.proofs.ListLemmas.{each_in}
+use Rattle.lmn_parts.proofs.AnswerLaws.{answer_here, answer_in, answer_on, answer_one}
+use Rattle.lmn_body.proofs.AddedLemmas.{long_enough}
 
 -- the membrane of a register
 abbrev pub at : Registers → ℕ → ℕ
@@ -62,15 +68,106 @@ past_both k (Rest of closed inside ∷ xs) ys = past_both k xs ys
 past_both k (Rule rule inside ∷ xs) ys = past_both k xs ys
 past_both k (Rules of inside ∷ xs) ys = past_both k xs ys
 
--- the membrane in which an item is written isn't this one; what a copied rest adds goes to more than one
+-- ---- copies of rests by their numbers
+
+-- those from number d on
+abbrev pub from_copy : RestCopies → ℕ → RestCopies
+from_copy q zero = q
+from_copy q (suc d) = later (from_copy q d)
+
+-- copy number d
+abbrev pub rest_copy : RestCopies → ℕ → RestCopy
+rest_copy q d = from_copy q d 0
+
+-- the number of the next copy of a rest behind items
+abbrev pub closed_past : ℕ → List BodyItem → ℕ
+closed_past d [] = d
+closed_past d (Atom functor links inside ∷ xs) = closed_past d xs
+closed_past d (Connector left right ∷ xs) = closed_past d xs
+closed_past d (Copy part link inside ∷ xs) = closed_past d xs
+closed_past d (Bound integer link inside ∷ xs) = closed_past d xs
+closed_past d (Membrane inside ∷ xs) = closed_past d xs
+closed_past d (Rest of false inside ∷ xs) = closed_past d xs
+closed_past d (Rest of true inside ∷ xs) = closed_past (suc d) xs
+closed_past d (Rule rule inside ∷ xs) = closed_past d xs
+closed_past d (Rules of inside ∷ xs) = closed_past d xs
+
+-- the numbers behind two bodies
+pub closed_both : (d : ℕ) (xs ys : List BodyItem) → closed_past d (xs ++ ys) ≡ closed_past (closed_past d xs) ys
+closed_both d [] ys = refl
+closed_both d (Atom functor links inside ∷ xs) ys = closed_both d xs ys
+closed_both d (Connector left right ∷ xs) ys = closed_both d xs ys
+closed_both d (Copy part link inside ∷ xs) ys = closed_both d xs ys
+closed_both d (Bound integer link inside ∷ xs) ys = closed_both d xs ys
+closed_both d (Membrane inside ∷ xs) ys = closed_both d xs ys
+closed_both d (Rest of false inside ∷ xs) ys = closed_both d xs ys
+closed_both d (Rest of true inside ∷ xs) ys = closed_both (suc d) xs ys
+closed_both d (Rule rule inside ∷ xs) ys = closed_both d xs ys
+closed_both d (Rules of inside ∷ xs) ys = closed_both d xs ys
+
+-- what holds of each copy of a rest that items make, by its number, that of its membrane in the head, and that of the membrane to
+-- which it goes; the next copy has number d
+abbrev pub EachRest : (ℕ → ℕ → ℕ → Type 0) → ℕ → List BodyItem → Type 0
+EachRest P d [] = Unit {0}
+EachRest P d (Atom functor links inside ∷ xs) = EachRest P d xs
+EachRest P d (Connector left right ∷ xs) = EachRest P d xs
+EachRest P d (Copy part link inside ∷ xs) = EachRest P d xs
+EachRest P d (Bound integer link inside ∷ xs) = EachRest P d xs
+EachRest P d (Membrane inside ∷ xs) = EachRest P d xs
+EachRest P d (Rest of false inside ∷ xs) = EachRest P d xs
+EachRest P d (Rest of true inside ∷ xs) = P d of inside × EachRest P (suc d) xs
+EachRest P d (Rule rule inside ∷ xs) = EachRest P d xs
+EachRest P d (Rules of inside ∷ xs) = EachRest P d xs
+
+-- of items in a row
+pub rests_in_row : (P : ℕ → ℕ → ℕ → Type 0) (d : ℕ) (xs ys : List BodyItem) → EachRest P d (xs ++ ys) → EachRest P d xs × EachRest P (closed_past d xs) ys
+rests_in_row P d [] ys e = (tt, e)
+rests_in_row P d (Atom functor links inside ∷ xs) ys e = rests_in_row P d xs ys e
+rests_in_row P d (Connector left right ∷ xs) ys e = rests_in_row P d xs ys e
+rests_in_row P d (Copy part link inside ∷ xs) ys e = rests_in_row P d xs ys e
+rests_in_row P d (Bound integer link inside ∷ xs) ys e = rests_in_row P d xs ys e
+rests_in_row P d (Membrane inside ∷ xs) ys e = rests_in_row P d xs ys e
+rests_in_row P d (Rest of false inside ∷ xs) ys e = rests_in_row P d xs ys e
+rests_in_row P d (Rest of true inside ∷ xs) ys e = let u = rests_in_row P (suc d) xs ys e.1 in ((e.0, u.0), u.1)
+rests_in_row P d (Rule rule inside ∷ xs) ys e = rests_in_row P d xs ys e
+rests_in_row P d (Rules of inside ∷ xs) ys e = rests_in_row P d xs ys e
+
+-- of each what follows
+pub each_rest : (P Q : ℕ → ℕ → ℕ → Type 0) → ((d of inside : ℕ) → P d of inside → Q d of inside) → (d : ℕ) (xs : List BodyItem) → EachRest P d xs → EachRest Q d xs
+each_rest P Q f d [] e = tt
+each_rest P Q f d (Atom functor links inside ∷ xs) e = each_rest P Q f d xs e
+each_rest P Q f d (Connector left right ∷ xs) e = each_rest P Q f d xs e
+each_rest P Q f d (Copy part link inside ∷ xs) e = each_rest P Q f d xs e
+each_rest P Q f d (Bound integer link inside ∷ xs) e = each_rest P Q f d xs e
+each_rest P Q f d (Membrane inside ∷ xs) e = each_rest P Q f d xs e
+each_rest P Q f d (Rest of false inside ∷ xs) e = each_rest P Q f d xs e
+each_rest P Q f d (Rest of true inside ∷ xs) e = (f d of inside e.0, each_rest P Q f (suc d) xs e.1)
+each_rest P Q f d (Rule rule inside ∷ xs) e = each_rest P Q f d xs e
+each_rest P Q f d (Rules of inside ∷ xs) e = each_rest P Q f d xs e
+
+-- of each what follows from two facts
+pub each_rest_of : (P Q R : ℕ → ℕ → ℕ → Type 0) → ((d of inside : ℕ) → P d of inside → Q d of inside → R d of inside) → (d : ℕ) (xs : List BodyItem) → EachRest P d xs → EachRest Q d xs → EachRest R d xs
+each_rest_of P Q R f d [] a b = tt
+each_rest_of P Q R f d (Atom functor links inside ∷ xs) a b = each_rest_of P Q R f d xs a b
+each_rest_of P Q R f d (Connector left right ∷ xs) a b = each_rest_of P Q R f d xs a b
+each_rest_of P Q R f d (Copy part link inside ∷ xs) a b = each_rest_of P Q R f d xs a b
+each_rest_of P Q R f d (Bound integer link inside ∷ xs) a b = each_rest_of P Q R f d xs a b
+each_rest_of P Q R f d (Membrane inside ∷ xs) a b = each_rest_of P Q R f d xs a b
+each_rest_of P Q R f d (Rest of false inside ∷ xs) a b = each_rest_of P Q R f d xs a b
+each_rest_of P Q R f d (Rest of true inside ∷ xs) a b = (f d of inside a.0 b.0, each_rest_of P Q R f (suc d) xs a.1 b.1)
+each_rest_of P Q R f d (Rule rule inside ∷ xs) a b = each_rest_of P Q R f d xs a b
+each_rest_of P Q R f d (Rules of inside ∷ xs) a b = each_rest_of P Q R f d xs a b
+
+-- ---- where items are written
+
+-- the membrane in which an item is written isn't this one
 abbrev pub Elsewhere : Registers → ℕ → BodyItem → Type 0
 Elsewhere s x (Atom functor links inside) = at s inside ≢ x
 Elsewhere s x (Connector left right) = Unit {0}
 Elsewhere s x (Copy part link inside) = at s inside ≢ x
 Elsewhere s x (Bound integer link inside) = at s inside ≢ x
 Elsewhere s x (Membrane inside) = at s inside ≢ x
-Elsewhere s x (Rest of false inside) = at s inside ≢ x
-Elsewhere s x (Rest of true inside) = ⊥
+Elsewhere s x (Rest of closed inside) = at s inside ≢ x
 Elsewhere s x (Rule rule inside) = at s inside ≢ x
 Elsewhere s x (Rules of inside) = at s inside ≢ x
 
@@ -84,12 +181,20 @@ pub misses_both : (s : Registers) (x : ℕ) (xs ys : List BodyItem) → Misses s
 misses_both s x [] ys a b = b
 misses_both s x (i ∷ is) ys a b = (a.0, misses_both s x is ys a.1 b)
 
--- What items add to a membrane, where the next membrane has a register and the next copy a number: it comes from the items one
--- after another, and items that are written elsewhere add nothing.
-pub record Adder (s : Registers) (X : Type 0) : Type 0 where
-  pub adds : ℕ → ℕ → List BodyItem → ℕ → List X
-  pub both : (n k : ℕ) (xs ys : List BodyItem) (x : ℕ) → adds n k (xs ++ ys) x ≡ adds n k xs x ++ adds (n + many xs) (past k xs) ys x
-  pub missed : (n k : ℕ) (xs : List BodyItem) (x : ℕ) → Misses s x xs → adds n k xs x ≡ []
+-- the membrane is none of the copy, which is as long as its rest
+abbrev pub Away : Registers → RestCopies → ℕ → ℕ → ℕ → ℕ → Type 0
+Away s q x d of inside = IsAsLong s of (rest_copy q d) × (In x (rest_copy q d).membranes → ⊥)
+
+-- What items add to a membrane, where the next copy of a rest has a number, the next membrane a register and the next copy of a part a
+-- number: it comes from the items one after another, and items that are written elsewhere add nothing.
+--   rest     what a copy of a rest adds
+pub record Adder (s : Registers) (q : RestCopies) (X : Type 0) : Type 0 where
+  pub adds : ℕ → ℕ → ℕ → List BodyItem → ℕ → List X
+  pub rest : ℕ → ℕ → RestCopy → ℕ → List X
+  pub both : (d n k : ℕ) (xs ys : List BodyItem) (x : ℕ) → adds d n k (xs ++ ys) x ≡ adds d n k xs x ++ adds (closed_past d xs) (n + many xs) (past k xs) ys x
+  pub missed : (d n k : ℕ) (xs : List BodyItem) (x : ℕ) → Misses s x xs → EachRest (Away s q x) d xs → adds d n k xs x ≡ []
+  pub rest_first : (d n k of inside : ℕ) (xs : List BodyItem) (x : ℕ) → adds d n k (Rest of true inside ∷ xs) x ≡ rest of inside (rest_copy q d) x ++ adds (suc d) n k xs x
+  pub rest_missed : (d of inside x : ℕ) → at s inside ≢ x → Away s q x d of inside → rest of inside (rest_copy q d) x ≡ []
 
 -- one choice more
 more : {X : Type 0} (b : Bool) (as' bs cs ds : List X) → bs ≡ cs ++ ds → cond b as' [] ++ bs ≡ (cond b as' [] ++ cs) ++ ds
@@ -104,195 +209,209 @@ missing a x as' bs d e = rw (not_eq a x d) e
 pub here_is : {X : Type 0} (x : ℕ) (as' bs : List X) → cond (x == x) as' [] ++ bs ≡ as' ++ bs
 here_is x as' bs = rw (eq-eqb x x refl) refl
 
--- ---- bodies that copy no rest
+-- ---- what copies of rests give
 
--- no rest is copied
-abbrev pub NoRestCopied : List BodyItem → Type 0
-NoRestCopied [] = Unit {0}
-NoRestCopied (Atom functor links inside ∷ xs) = NoRestCopied xs
-NoRestCopied (Connector left right ∷ xs) = NoRestCopied xs
-NoRestCopied (Copy part link inside ∷ xs) = NoRestCopied xs
-NoRestCopied (Bound integer link inside ∷ xs) = NoRestCopied xs
-NoRestCopied (Membrane inside ∷ xs) = NoRestCopied xs
-NoRestCopied (Rest of false inside ∷ xs) = NoRestCopied xs
-NoRestCopied (Rest of true inside ∷ xs) = ⊥
-NoRestCopied (Rule rule inside ∷ xs) = NoRestCopied xs
-NoRestCopied (Rules of inside ∷ xs) = NoRestCopied xs
+-- nothing where no membrane gives to this one
+pub given_none : (list : ℕ → List ℕ) (to : ℕ → ℕ) (ks : List ℕ) (x : ℕ) → ((k : ℕ) → In k ks → to k ≢ x) → given list to ks x ≡ []
+given_none list to [] x o = refl
+given_none list to (k ∷ ks) x o = missing (to k) x (list k) (given list to ks x) (o k (inl refl)) (given_none list to ks x (λ j i. o j (inr i)))
 
--- two such bodies are one
-pub no_rest_both : (xs ys : List BodyItem) → NoRestCopied xs → NoRestCopied ys → NoRestCopied (xs ++ ys)
-no_rest_both [] ys a b = b
-no_rest_both (Atom functor links inside ∷ xs) ys a b = no_rest_both xs ys a b
-no_rest_both (Connector left right ∷ xs) ys a b = no_rest_both xs ys a b
-no_rest_both (Copy part link inside ∷ xs) ys a b = no_rest_both xs ys a b
-no_rest_both (Bound integer link inside ∷ xs) ys a b = no_rest_both xs ys a b
-no_rest_both (Membrane inside ∷ xs) ys a b = no_rest_both xs ys a b
-no_rest_both (Rest of false inside ∷ xs) ys a b = no_rest_both xs ys a b
-no_rest_both (Rest of true inside ∷ xs) ys a b = absurd a
-no_rest_both (Rule rule inside ∷ xs) ys a b = no_rest_both xs ys a b
-no_rest_both (Rules of inside ∷ xs) ys a b = no_rest_both xs ys a b
+-- the list of one, where this one alone gives to the membrane
+pub given_one : (list : ℕ → List ℕ) (to : ℕ → ℕ) (ks : List ℕ) (x k0 : ℕ) → Distinct ks → In k0 ks → to k0 ≡ x → ((k : ℕ) → In k ks → to k ≡ x → k ≡ k0) → given list to ks x ≡ list k0
+given_one list to [] x k0 d i e one = absurd i
+given_one list to (k ∷ ks) x k0 d (inl g) e one =
+    let others = given_none list to ks x (λ j i f. each_in (λ y. k ≢ y) ks j d.0 i (g ∙ sym (one j (inr i) f))) in
+    ap (λ z. cond (to k == x) (list k) [] ++ z) others ∙ rw (eq-eqb (to k) x (ap to g ∙ e)) (append-nil (list k) ∙ ap list g)
+given_one list to (k ∷ ks) x k0 d (inr i) e one =
+    let off : to k ≢ x = λ f. each_in (λ y. k ≢ y) ks k0 d.0 i (one k (inl refl) f) in
+    rw (not_eq (to k) x off) (given_one list to ks x k0 d.1 i e (λ j l f. one j (inr l) f))
 
--- the copies of such a body, for which nothing asks
-abbrev pub no_copies : RestCopies
-no_copies k = record { atoms = []; membranes = [] }
+module _ (s : Registers) (of inside : ℕ) (p : RestCopy) (long : IsAsLong s of p) where
+  abbrev into : ℕ → ℕ
+  into = copied_into s of inside p
 
-abbrev pub no_copied_solid : ℕ → ℕ → RestCopy → ℕ → List SolidAtom
-no_copied_solid of inside p x = []
+  -- a membrane of the rest is copied to a new one
+  pub into_inner : (k : ℕ) → In k (s.left_membranes of) → (In (at s of) (s.left_membranes of) → ⊥) → into k ≡ copied_membrane s of p k
+  into_inner k i outside = answer_on (at s of) (at s inside) (s.left_membranes of) p.membranes k (λ e. outside (subst (λ z. In z (s.left_membranes of)) (sym e) i))
 
--- what it adds: the atoms of the solid, the membranes and the rules
-abbrev pub open_solid : Registers → (ℕ → List SolidAtom) → (ℕ → List SolidAtom) → (ℕ → ℕ) → ℕ → List BodyItem → ℕ → List SolidAtom
-open_solid s left copy g k xs x = added_with_copies s no_copies left copy no_copied_solid g k xs x
+  -- that of the context to the one in which the copy is written
+  pub into_own : into (at s of) ≡ at s inside
+  into_own = answer_here (at s of) (at s inside) (s.left_membranes of) p.membranes (at s of) refl
 
-abbrev pub open_mems : Registers → (ℕ → List ℕ) → ℕ → List BodyItem → ℕ → List ℕ
-open_mems s left n xs x = added_mems s no_copies left n xs x
+  pub copy_in : (k : ℕ) → In k (s.left_membranes of) → In (copied_membrane s of p k) p.membranes
+  copy_in k i = answer_in (s.left_membranes of) p.membranes k (long_enough long.1) i
 
-abbrev pub open_rules : Registers → (ℕ → List ℕ) → List BodyItem → ℕ → List ℕ
-open_rules s rules xs x = added_rules s no_copies rules xs x
+  into_new : (x k : ℕ) → at s inside ≢ x → (In x p.membranes → ⊥) → In k (s.left_membranes of) → into k ≢ x
+  into_new x k d o i e = elim (cases_eq (at s of) k) [
+    | inl g ↦ d (sym (answer_here (at s of) (at s inside) (s.left_membranes of) p.membranes k g) ∙ e)
+    | inr g ↦ o (subst (λ z. In z p.membranes) (sym (answer_on (at s of) (at s inside) (s.left_membranes of) p.membranes k g) ∙ e) (copy_in k i))
+  ]
 
--- it adds the same whatever its copies are called
-pub solid_is_open : (s : Registers) (q : RestCopies) (left copy : ℕ → List SolidAtom) (rest : ℕ → ℕ → RestCopy → ℕ → List SolidAtom) (g : ℕ → ℕ) (k : ℕ) (xs : List BodyItem) (x : ℕ) → NoRestCopied xs →
-    added_with_copies s q left copy rest g k xs x ≡ open_solid s left copy g k xs x
-solid_is_open s q left copy rest g k [] x o = refl
-solid_is_open s q left copy rest g k (Atom functor links inside ∷ xs) x o = ap (λ z. cond (at s inside == x) ((record { functor = functor; links = map g links }) ∷ []) [] ++ z) (solid_is_open s q left copy rest g k xs x o)
-solid_is_open s q left copy rest g k (Connector l l' ∷ xs) x o = solid_is_open s q left copy rest g k xs x o
-solid_is_open s q left copy rest g k (Copy part link inside ∷ xs) x o = ap (λ z. cond (at s inside == x) (copy k) [] ++ z) (solid_is_open s q left copy rest g (k + 1) xs x o)
-solid_is_open s q left copy rest g k (Bound integer link inside ∷ xs) x o =
-    ap (λ z. cond (at s inside == x) ((record { functor = integer_functor (s.head.integer integer); links = g link ∷ [] }) ∷ []) [] ++ z) (solid_is_open s q left copy rest g k xs x o)
-solid_is_open s q left copy rest g k (Membrane inside ∷ xs) x o = solid_is_open s q left copy rest g k xs x o
-solid_is_open s q left copy rest g k (Rest of false inside ∷ xs) x o = ap (λ z. cond (at s inside == x) (left (at s of)) [] ++ z) (solid_is_open s q left copy rest g k xs x o)
-solid_is_open s q left copy rest g k (Rest of true inside ∷ xs) x o = absurd o
-solid_is_open s q left copy rest g k (Rule rule inside ∷ xs) x o = solid_is_open s q left copy rest g k xs x o
-solid_is_open s q left copy rest g k (Rules of inside ∷ xs) x o = solid_is_open s q left copy rest g k xs x o
+  -- elsewhere a copy gives nothing
+  pub gives_none : (list : ℕ → List ℕ) (x : ℕ) → at s inside ≢ x → (In x p.membranes → ⊥) → given list into (rest_membranes s of) x ≡ []
+  gives_none list x d o = given_none list into (rest_membranes s of) x (λ k i. elim i [ inl g ↦ (λ e. d (sym (answer_here (at s of) (at s inside) (s.left_membranes of) p.membranes k g) ∙ e)) | inr j ↦ into_new x k d o j ])
 
-pub mems_are_open : (s : Registers) (q : RestCopies) (left : ℕ → List ℕ) (n : ℕ) (xs : List BodyItem) (x : ℕ) → NoRestCopied xs → added_mems s q left n xs x ≡ open_mems s left n xs x
-mems_are_open s q left n [] x o = refl
-mems_are_open s q left n (Atom functor links inside ∷ xs) x o = mems_are_open s q left n xs x o
-mems_are_open s q left n (Connector l l' ∷ xs) x o = mems_are_open s q left n xs x o
-mems_are_open s q left n (Copy part link inside ∷ xs) x o = mems_are_open s q left n xs x o
-mems_are_open s q left n (Bound integer link inside ∷ xs) x o = mems_are_open s q left n xs x o
-mems_are_open s q left n (Membrane inside ∷ xs) x o = ap (λ z. cond (at s inside == x) (at s n ∷ []) [] ++ z) (mems_are_open s q left (n + 1) xs x o)
-mems_are_open s q left n (Rest of false inside ∷ xs) x o = ap (λ z. cond (at s inside == x) (left (at s of)) [] ++ z) (mems_are_open s q left n xs x o)
-mems_are_open s q left n (Rest of true inside ∷ xs) x o = absurd o
-mems_are_open s q left n (Rule rule inside ∷ xs) x o = mems_are_open s q left n xs x o
-mems_are_open s q left n (Rules of inside ∷ xs) x o = mems_are_open s q left n xs x o
+  pub gives_none_inner : (list : ℕ → List ℕ) (x : ℕ) → at s inside ≢ x → (In x p.membranes → ⊥) → given list into (s.left_membranes of) x ≡ []
+  gives_none_inner list x d o = given_none list into (s.left_membranes of) x (λ k j. into_new x k d o j)
 
-pub rules_are_open : (s : Registers) (q : RestCopies) (rules : ℕ → List ℕ) (xs : List BodyItem) (x : ℕ) → NoRestCopied xs → added_rules s q rules xs x ≡ open_rules s rules xs x
-rules_are_open s q rules [] x o = refl
-rules_are_open s q rules (Atom functor links inside ∷ xs) x o = rules_are_open s q rules xs x o
-rules_are_open s q rules (Connector l l' ∷ xs) x o = rules_are_open s q rules xs x o
-rules_are_open s q rules (Copy part link inside ∷ xs) x o = rules_are_open s q rules xs x o
-rules_are_open s q rules (Bound integer link inside ∷ xs) x o = rules_are_open s q rules xs x o
-rules_are_open s q rules (Membrane inside ∷ xs) x o = rules_are_open s q rules xs x o
-rules_are_open s q rules (Rest of false inside ∷ xs) x o = rules_are_open s q rules xs x o
-rules_are_open s q rules (Rest of true inside ∷ xs) x o = absurd o
-rules_are_open s q rules (Rule rule inside ∷ xs) x o = ap (λ z. cond (at s inside == x) (rule ∷ []) [] ++ z) (rules_are_open s q rules xs x o)
-rules_are_open s q rules (Rules of inside ∷ xs) x o = ap (λ z. cond (at s inside == x) (rules (at s of)) [] ++ z) (rules_are_open s q rules xs x o)
+  module _ (outside : In (at s of) (s.left_membranes of) → ⊥) (apart : In (at s inside) p.membranes → ⊥) where
+    inner_none : (list : ℕ → List ℕ) → given list into (s.left_membranes of) (at s inside) ≡ []
+    inner_none list = given_none list into (s.left_membranes of) (at s inside) (λ k i e. apart (subst (λ z. In z p.membranes) (sym (into_inner k i outside) ∙ e) (copy_in k i)))
 
-module _ (s : Registers) (left copy : ℕ → List SolidAtom) (g : ℕ → ℕ) where
-  pub solid_both : (k : ℕ) (xs ys : List BodyItem) (x : ℕ) → open_solid s left copy g k (xs ++ ys) x ≡ open_solid s left copy g k xs x ++ open_solid s left copy g (past k xs) ys x
-  solid_both k [] ys x = refl
-  solid_both k (Atom functor links inside ∷ xs) ys x = more (at s inside == x) _ _ _ _ (solid_both k xs ys x)
-  solid_both k (Connector l l' ∷ xs) ys x = solid_both k xs ys x
-  solid_both k (Copy part link inside ∷ xs) ys x = more (at s inside == x) _ _ _ _ (solid_both (k + 1) xs ys x)
-  solid_both k (Bound integer link inside ∷ xs) ys x = more (at s inside == x) _ _ _ _ (solid_both k xs ys x)
-  solid_both k (Membrane inside ∷ xs) ys x = solid_both k xs ys x
-  solid_both k (Rest of false inside ∷ xs) ys x = more (at s inside == x) _ _ _ _ (solid_both k xs ys x)
-  solid_both k (Rest of true inside ∷ xs) ys x = solid_both k xs ys x
-  solid_both k (Rule rule inside ∷ xs) ys x = solid_both k xs ys x
-  solid_both k (Rules of inside ∷ xs) ys x = solid_both k xs ys x
+    -- where it is written it gives what stands in the membrane of the context
+    pub gives_own : (list : ℕ → List ℕ) → given list into (rest_membranes s of) (at s inside) ≡ list (at s of)
+    gives_own list = ap (λ z. cond (into (at s of) == at s inside) (list (at s of)) [] ++ z) (inner_none list) ∙ rw (eq-eqb (into (at s of)) (at s inside) into_own) (append-nil (list (at s of)))
 
-  pub solid_missed : (k : ℕ) (xs : List BodyItem) (x : ℕ) → Misses s x xs → open_solid s left copy g k xs x ≡ []
-  solid_missed k [] x m = refl
-  solid_missed k (Atom functor links inside ∷ xs) x m = missing (at s inside) x _ _ m.0 (solid_missed k xs x m.1)
-  solid_missed k (Connector l l' ∷ xs) x m = solid_missed k xs x m.1
-  solid_missed k (Copy part link inside ∷ xs) x m = missing (at s inside) x _ _ m.0 (solid_missed (k + 1) xs x m.1)
-  solid_missed k (Bound integer link inside ∷ xs) x m = missing (at s inside) x _ _ m.0 (solid_missed k xs x m.1)
-  solid_missed k (Membrane inside ∷ xs) x m = solid_missed k xs x m.1
-  solid_missed k (Rest of false inside ∷ xs) x m = missing (at s inside) x _ _ m.0 (solid_missed k xs x m.1)
-  solid_missed k (Rest of true inside ∷ xs) x m = absurd m.0
-  solid_missed k (Rule rule inside ∷ xs) x m = solid_missed k xs x m.1
-  solid_missed k (Rules of inside ∷ xs) x m = solid_missed k xs x m.1
+    pub gives_own_inner : (list : ℕ → List ℕ) → given list into (s.left_membranes of) (at s inside) ≡ []
+    gives_own_inner = inner_none
 
-  -- an open context adds what is left of its membrane
-  pub solid_rest_here : (of inside k : ℕ) (b : Bool) (xs : List BodyItem) → b ≡ false → open_solid s left copy g k (Rest of b inside ∷ xs) (at s inside) ≡ left (at s of) ++ open_solid s left copy g k xs (at s inside)
-  solid_rest_here of inside k true xs e = absurd (cc)
-  solid_rest_here of inside k false xs e = here_is (at s inside) (left (at s of)) (open_solid s left copy g k xs (at s inside))
+    module _ (once : Distinct (s.left_membranes of)) (made_once : Distinct p.membranes) (k : ℕ) (i : In k (s.left_membranes of)) where
+      abbrev y : ℕ
+      y = copied_membrane s of p k
+
+      only : (j : ℕ) → In j (s.left_membranes of) → into j ≡ copied_membrane s of p k → j ≡ k
+      only j l e = answer_one (s.left_membranes of) p.membranes j k (long_enough long.1) made_once l i (sym (into_inner j l outside) ∙ e)
+
+      -- and a copied membrane gets what stands in its original
+      pub gives_inner : (list : ℕ → List ℕ) → given list into (s.left_membranes of) (copied_membrane s of p k) ≡ list k
+      gives_inner list = given_one list into (s.left_membranes of) y k once i (into_inner k i outside) only
+
+      pub gives_copied : (list : ℕ → List ℕ) → given list into (rest_membranes s of) (copied_membrane s of p k) ≡ list k
+      gives_copied list =
+          let off : into (at s of) ≢ y = λ e. apart (subst (λ z. In z p.membranes) (sym e ∙ into_own) (copy_in k i)) in
+          rw (not_eq (into (at s of)) y off) (gives_inner list)
+
+-- ---- atoms of the solid, membranes and rules
+
+abbrev pub solid_adds : Registers → RestCopies → (ℕ → List SolidAtom) → (ℕ → List SolidAtom) → (ℕ → ℕ → RestCopy → ℕ → List SolidAtom) → (ℕ → ℕ) → ℕ → ℕ → List BodyItem → ℕ → List SolidAtom
+solid_adds s q left copy rest g d k xs x = added_with_copies s (from_copy q d) left copy rest g k xs x
+
+abbrev pub mems_adds : Registers → RestCopies → (ℕ → List ℕ) → ℕ → ℕ → List BodyItem → ℕ → List ℕ
+mems_adds s q left d n xs x = added_mems s (from_copy q d) left n xs x
+
+abbrev pub rules_adds : Registers → RestCopies → (ℕ → List ℕ) → ℕ → List BodyItem → ℕ → List ℕ
+rules_adds s q rules d xs x = added_rules s (from_copy q d) rules xs x
+
+-- the membranes of copies that a copy of a rest gives to a membrane, and the rules
+abbrev pub rest_mems : Registers → (ℕ → List ℕ) → ℕ → ℕ → RestCopy → ℕ → List ℕ
+rest_mems s left of inside p x = given (λ k. map (copied_membrane s of p) (left k)) (copied_into s of inside p) (rest_membranes s of) x
+
+abbrev pub rest_rules : Registers → (ℕ → List ℕ) → ℕ → ℕ → RestCopy → ℕ → List ℕ
+rest_rules s rules of inside p x = given rules (copied_into s of inside p) (s.left_membranes of) x
+
+module _ (s : Registers) (q : RestCopies) (left copy : ℕ → List SolidAtom) (rest : ℕ → ℕ → RestCopy → ℕ → List SolidAtom) (g : ℕ → ℕ)
+    (rest_none : (d of inside x : ℕ) → at s inside ≢ x → Away s q x d of inside → rest of inside (rest_copy q d) x ≡ []) where
+  pub solid_both : (d k : ℕ) (xs ys : List BodyItem) (x : ℕ) → solid_adds s q left copy rest g d k (xs ++ ys) x ≡ solid_adds s q left copy rest g d k xs x ++ solid_adds s q left copy rest g (closed_past d xs) (past k xs) ys x
+  solid_both d k [] ys x = refl
+  solid_both d k (Atom functor links inside ∷ xs) ys x = more (at s inside == x) _ _ _ _ (solid_both d k xs ys x)
+  solid_both d k (Connector left right ∷ xs) ys x = solid_both d k xs ys x
+  solid_both d k (Copy part link inside ∷ xs) ys x = more (at s inside == x) _ _ _ _ (solid_both d (k + 1) xs ys x)
+  solid_both d k (Bound integer link inside ∷ xs) ys x = more (at s inside == x) _ _ _ _ (solid_both d k xs ys x)
+  solid_both d k (Membrane inside ∷ xs) ys x = solid_both d k xs ys x
+  solid_both d k (Rest of false inside ∷ xs) ys x = more (at s inside == x) _ _ _ _ (solid_both d k xs ys x)
+  solid_both d k (Rest of true inside ∷ xs) ys x = more true (rest of inside (rest_copy q d) x) _ _ _ (solid_both (suc d) k xs ys x)
+  solid_both d k (Rule rule inside ∷ xs) ys x = solid_both d k xs ys x
+  solid_both d k (Rules of inside ∷ xs) ys x = solid_both d k xs ys x
+
+  pub solid_missed : (d k : ℕ) (xs : List BodyItem) (x : ℕ) → Misses s x xs → EachRest (Away s q x) d xs → solid_adds s q left copy rest g d k xs x ≡ []
+  solid_missed d k [] x m a = refl
+  solid_missed d k (Atom functor links inside ∷ xs) x m a = missing (at s inside) x _ _ m.0 (solid_missed d k xs x m.1 a)
+  solid_missed d k (Connector left right ∷ xs) x m a = solid_missed d k xs x m.1 a
+  solid_missed d k (Copy part link inside ∷ xs) x m a = missing (at s inside) x _ _ m.0 (solid_missed d (k + 1) xs x m.1 a)
+  solid_missed d k (Bound integer link inside ∷ xs) x m a = missing (at s inside) x _ _ m.0 (solid_missed d k xs x m.1 a)
+  solid_missed d k (Membrane inside ∷ xs) x m a = solid_missed d k xs x m.1 a
+  solid_missed d k (Rest of false inside ∷ xs) x m a = missing (at s inside) x _ _ m.0 (solid_missed d k xs x m.1 a)
+  solid_missed d k (Rest of true inside ∷ xs) x m a = ap (λ z. z ++ solid_adds s q left copy rest g (suc d) k xs x) (rest_none d of inside x m.0 a.0) ∙ solid_missed (suc d) k xs x m.1 a.1
+  solid_missed d k (Rule rule inside ∷ xs) x m a = solid_missed d k xs x m.1 a
+  solid_missed d k (Rules of inside ∷ xs) x m a = solid_missed d k xs x m.1 a
 
   -- the atoms of the solid
-  abbrev pub atoms_adder : Adder s SolidAtom
+  abbrev pub atoms_adder : Adder s q SolidAtom
   atoms_adder = record {
-    adds = λ n k xs x. open_solid s left copy g k xs x;
-    both = λ n k xs ys x. solid_both k xs ys x;
-    missed = λ n k xs x m. solid_missed k xs x m;
+    adds = λ d n k xs x. solid_adds s q left copy rest g d k xs x;
+    rest = rest;
+    both = λ d n k xs ys x. solid_both d k xs ys x;
+    missed = λ d n k xs x m a. solid_missed d k xs x m a;
+    rest_first = λ d n k of inside xs x. refl;
+    rest_missed = rest_none;
   }
 
-module _ (s : Registers) (left : ℕ → List ℕ) where
-  pub mems_both : (n : ℕ) (xs ys : List BodyItem) (x : ℕ) → open_mems s left n (xs ++ ys) x ≡ open_mems s left n xs x ++ open_mems s left (n + many xs) ys x
-  mems_both n [] ys x = subst (λ z. open_mems s left n ys x ≡ open_mems s left z ys x) (omega arith) refl
-  mems_both n (Atom functor links inside ∷ xs) ys x = mems_both n xs ys x
-  mems_both n (Connector l l' ∷ xs) ys x = mems_both n xs ys x
-  mems_both n (Copy part link inside ∷ xs) ys x = mems_both n xs ys x
-  mems_both n (Bound integer link inside ∷ xs) ys x = mems_both n xs ys x
-  mems_both n (Membrane inside ∷ xs) ys x =
+module _ (s : Registers) (q : RestCopies) (left : ℕ → List ℕ) where
+  pub mems_both : (d n : ℕ) (xs ys : List BodyItem) (x : ℕ) → mems_adds s q left d n (xs ++ ys) x ≡ mems_adds s q left d n xs x ++ mems_adds s q left (closed_past d xs) (n + many xs) ys x
+  mems_both d n [] ys x = subst (λ z. mems_adds s q left d n ys x ≡ mems_adds s q left d z ys x) (omega arith) refl
+  mems_both d n (Atom functor links inside ∷ xs) ys x = mems_both d n xs ys x
+  mems_both d n (Connector left right ∷ xs) ys x = mems_both d n xs ys x
+  mems_both d n (Copy part link inside ∷ xs) ys x = mems_both d n xs ys x
+  mems_both d n (Bound integer link inside ∷ xs) ys x = mems_both d n xs ys x
+  mems_both d n (Membrane inside ∷ xs) ys x =
       let z : (n + 1) + many xs ≡ n + suc (many xs) = omega arith in
-      more (at s inside == x) _ _ _ _ (mems_both (n + 1) xs ys x ∙ ap (λ k. open_mems s left (n + 1) xs x ++ open_mems s left k ys x) z)
-  mems_both n (Rest of false inside ∷ xs) ys x = more (at s inside == x) _ _ _ _ (mems_both n xs ys x)
-  mems_both n (Rest of true inside ∷ xs) ys x =
-      more true (given (λ k. map (copied_membrane s of (no_copies 0)) (left k)) (copied_into s of inside (no_copies 0)) (rest_membranes s of) x) _ _ _ (mems_both n xs ys x)
-  mems_both n (Rule rule inside ∷ xs) ys x = mems_both n xs ys x
-  mems_both n (Rules of inside ∷ xs) ys x = mems_both n xs ys x
+      more (at s inside == x) _ _ _ _ (mems_both d (n + 1) xs ys x ∙ ap (λ k. mems_adds s q left d (n + 1) xs x ++ mems_adds s q left (closed_past d xs) k ys x) z)
+  mems_both d n (Rest of false inside ∷ xs) ys x = more (at s inside == x) _ _ _ _ (mems_both d n xs ys x)
+  mems_both d n (Rest of true inside ∷ xs) ys x = more true (rest_mems s left of inside (rest_copy q d) x) _ _ _ (mems_both (suc d) n xs ys x)
+  mems_both d n (Rule rule inside ∷ xs) ys x = mems_both d n xs ys x
+  mems_both d n (Rules of inside ∷ xs) ys x = mems_both d n xs ys x
 
-  pub mems_missed : (n : ℕ) (xs : List BodyItem) (x : ℕ) → Misses s x xs → open_mems s left n xs x ≡ []
-  mems_missed n [] x m = refl
-  mems_missed n (Atom functor links inside ∷ xs) x m = mems_missed n xs x m.1
-  mems_missed n (Connector l l' ∷ xs) x m = mems_missed n xs x m.1
-  mems_missed n (Copy part link inside ∷ xs) x m = mems_missed n xs x m.1
-  mems_missed n (Bound integer link inside ∷ xs) x m = mems_missed n xs x m.1
-  mems_missed n (Membrane inside ∷ xs) x m = missing (at s inside) x _ _ m.0 (mems_missed (n + 1) xs x m.1)
-  mems_missed n (Rest of false inside ∷ xs) x m = missing (at s inside) x _ _ m.0 (mems_missed n xs x m.1)
-  mems_missed n (Rest of true inside ∷ xs) x m = absurd m.0
-  mems_missed n (Rule rule inside ∷ xs) x m = mems_missed n xs x m.1
-  mems_missed n (Rules of inside ∷ xs) x m = mems_missed n xs x m.1
+  pub mems_rest_none : (d of inside x : ℕ) → at s inside ≢ x → Away s q x d of inside → rest_mems s left of inside (rest_copy q d) x ≡ []
+  mems_rest_none d of inside x m a = gives_none s of inside (rest_copy q d) a.0 (λ k. map (copied_membrane s of (rest_copy q d)) (left k)) x m a.1
 
-  -- an open context adds what is left of its membrane
-  pub mems_rest_here : (of inside n : ℕ) (b : Bool) (xs : List BodyItem) → b ≡ false → open_mems s left n (Rest of b inside ∷ xs) (at s inside) ≡ left (at s of) ++ open_mems s left n xs (at s inside)
-  mems_rest_here of inside n true xs e = absurd (cc)
-  mems_rest_here of inside n false xs e = here_is (at s inside) (left (at s of)) (open_mems s left n xs (at s inside))
+  pub mems_missed : (d n : ℕ) (xs : List BodyItem) (x : ℕ) → Misses s x xs → EachRest (Away s q x) d xs → mems_adds s q left d n xs x ≡ []
+  mems_missed d n [] x m a = refl
+  mems_missed d n (Atom functor links inside ∷ xs) x m a = mems_missed d n xs x m.1 a
+  mems_missed d n (Connector left right ∷ xs) x m a = mems_missed d n xs x m.1 a
+  mems_missed d n (Copy part link inside ∷ xs) x m a = mems_missed d n xs x m.1 a
+  mems_missed d n (Bound integer link inside ∷ xs) x m a = mems_missed d n xs x m.1 a
+  mems_missed d n (Membrane inside ∷ xs) x m a = missing (at s inside) x _ _ m.0 (mems_missed d (n + 1) xs x m.1 a)
+  mems_missed d n (Rest of false inside ∷ xs) x m a = missing (at s inside) x _ _ m.0 (mems_missed d n xs x m.1 a)
+  mems_missed d n (Rest of true inside ∷ xs) x m a = ap (λ z. z ++ mems_adds s q left (suc d) n xs x) (mems_rest_none d of inside x m.0 a.0) ∙ mems_missed (suc d) n xs x m.1 a.1
+  mems_missed d n (Rule rule inside ∷ xs) x m a = mems_missed d n xs x m.1 a
+  mems_missed d n (Rules of inside ∷ xs) x m a = mems_missed d n xs x m.1 a
 
   -- the membranes
-  abbrev pub mems_adder : Adder s ℕ
-  mems_adder = record { adds = λ n k xs x. open_mems s left n xs x; both = λ n k xs ys x. mems_both n xs ys x; missed = λ n k xs x m. mems_missed n xs x m }
+  abbrev pub mems_adder : Adder s q ℕ
+  mems_adder = record {
+    adds = λ d n k xs x. mems_adds s q left d n xs x;
+    rest = λ of inside p x. rest_mems s left of inside p x;
+    both = λ d n k xs ys x. mems_both d n xs ys x;
+    missed = λ d n k xs x m a. mems_missed d n xs x m a;
+    rest_first = λ d n k of inside xs x. refl;
+    rest_missed = mems_rest_none;
+  }
 
-module _ (s : Registers) (rules : ℕ → List ℕ) where
-  pub rules_both : (xs ys : List BodyItem) (x : ℕ) → open_rules s rules (xs ++ ys) x ≡ open_rules s rules xs x ++ open_rules s rules ys x
-  rules_both [] ys x = refl
-  rules_both (Atom functor links inside ∷ xs) ys x = rules_both xs ys x
-  rules_both (Connector l l' ∷ xs) ys x = rules_both xs ys x
-  rules_both (Copy part link inside ∷ xs) ys x = rules_both xs ys x
-  rules_both (Bound integer link inside ∷ xs) ys x = rules_both xs ys x
-  rules_both (Membrane inside ∷ xs) ys x = rules_both xs ys x
-  rules_both (Rest of false inside ∷ xs) ys x = rules_both xs ys x
-  rules_both (Rest of true inside ∷ xs) ys x = more true (given rules (copied_into s of inside (no_copies 0)) (s.left_membranes of) x) _ _ _ (rules_both xs ys x)
-  rules_both (Rule rule inside ∷ xs) ys x = more (at s inside == x) _ _ _ _ (rules_both xs ys x)
-  rules_both (Rules of inside ∷ xs) ys x = more (at s inside == x) _ _ _ _ (rules_both xs ys x)
+module _ (s : Registers) (q : RestCopies) (rules : ℕ → List ℕ) where
+  pub rules_both : (d : ℕ) (xs ys : List BodyItem) (x : ℕ) → rules_adds s q rules d (xs ++ ys) x ≡ rules_adds s q rules d xs x ++ rules_adds s q rules (closed_past d xs) ys x
+  rules_both d [] ys x = refl
+  rules_both d (Atom functor links inside ∷ xs) ys x = rules_both d xs ys x
+  rules_both d (Connector left right ∷ xs) ys x = rules_both d xs ys x
+  rules_both d (Copy part link inside ∷ xs) ys x = rules_both d xs ys x
+  rules_both d (Bound integer link inside ∷ xs) ys x = rules_both d xs ys x
+  rules_both d (Membrane inside ∷ xs) ys x = rules_both d xs ys x
+  rules_both d (Rest of false inside ∷ xs) ys x = rules_both d xs ys x
+  rules_both d (Rest of true inside ∷ xs) ys x = more true (rest_rules s rules of inside (rest_copy q d) x) _ _ _ (rules_both (suc d) xs ys x)
+  rules_both d (Rule rule inside ∷ xs) ys x = more (at s inside == x) _ _ _ _ (rules_both d xs ys x)
+  rules_both d (Rules of inside ∷ xs) ys x = more (at s inside == x) _ _ _ _ (rules_both d xs ys x)
 
-  pub rules_missed : (xs : List BodyItem) (x : ℕ) → Misses s x xs → open_rules s rules xs x ≡ []
-  rules_missed [] x m = refl
-  rules_missed (Atom functor links inside ∷ xs) x m = rules_missed xs x m.1
-  rules_missed (Connector l l' ∷ xs) x m = rules_missed xs x m.1
-  rules_missed (Copy part link inside ∷ xs) x m = rules_missed xs x m.1
-  rules_missed (Bound integer link inside ∷ xs) x m = rules_missed xs x m.1
-  rules_missed (Membrane inside ∷ xs) x m = rules_missed xs x m.1
-  rules_missed (Rest of false inside ∷ xs) x m = rules_missed xs x m.1
-  rules_missed (Rest of true inside ∷ xs) x m = absurd m.0
-  rules_missed (Rule rule inside ∷ xs) x m = missing (at s inside) x _ _ m.0 (rules_missed xs x m.1)
-  rules_missed (Rules of inside ∷ xs) x m = missing (at s inside) x _ _ m.0 (rules_missed xs x m.1)
+  pub rules_rest_none : (d of inside x : ℕ) → at s inside ≢ x → Away s q x d of inside → rest_rules s rules of inside (rest_copy q d) x ≡ []
+  rules_rest_none d of inside x m a = gives_none_inner s of inside (rest_copy q d) a.0 rules x m a.1
 
-  -- an open context adds no rule
-  pub rules_rest_none : (of inside x : ℕ) (b : Bool) (xs : List BodyItem) → b ≡ false → open_rules s rules (Rest of b inside ∷ xs) x ≡ open_rules s rules xs x
-  rules_rest_none of inside x true xs e = absurd (cc)
-  rules_rest_none of inside x false xs e = refl
+  pub rules_missed : (d : ℕ) (xs : List BodyItem) (x : ℕ) → Misses s x xs → EachRest (Away s q x) d xs → rules_adds s q rules d xs x ≡ []
+  rules_missed d [] x m a = refl
+  rules_missed d (Atom functor links inside ∷ xs) x m a = rules_missed d xs x m.1 a
+  rules_missed d (Connector left right ∷ xs) x m a = rules_missed d xs x m.1 a
+  rules_missed d (Copy part link inside ∷ xs) x m a = rules_missed d xs x m.1 a
+  rules_missed d (Bound integer link inside ∷ xs) x m a = rules_missed d xs x m.1 a
+  rules_missed d (Membrane inside ∷ xs) x m a = rules_missed d xs x m.1 a
+  rules_missed d (Rest of false inside ∷ xs) x m a = rules_missed d xs x m.1 a
+  rules_missed d (Rest of true inside ∷ xs) x m a = ap (λ z. z ++ rules_adds s q rules (suc d) xs x) (rules_rest_none d of inside x m.0 a.0) ∙ rules_missed (suc d) xs x m.1 a.1
+  rules_missed d (Rule rule inside ∷ xs) x m a = missing (at s inside) x _ _ m.0 (rules_missed d xs x m.1 a)
+  rules_missed d (Rules of inside ∷ xs) x m a = missing (at s inside) x _ _ m.0 (rules_missed d xs x m.1 a)
 
   -- the rules
-  abbrev pub rules_adder : Adder s ℕ
-  rules_adder = record { adds = λ n k xs x. open_rules s rules xs x; both = λ n k xs ys x. rules_both xs ys x; missed = λ n k xs x m. rules_missed xs x m }
+  abbrev pub rules_adder : Adder s q ℕ
+  rules_adder = record {
+    adds = λ d n k xs x. rules_adds s q rules d xs x;
+    rest = λ of inside p x. rest_rules s rules of inside p x;
+    both = λ d n k xs ys x. rules_both d xs ys x;
+    missed = λ d n k xs x m a. rules_missed d xs x m a;
+    rest_first = λ d n k of inside xs x. refl;
+    rest_missed = rules_rest_none;
+  }

@@ -15,27 +15,27 @@ use Rattle.lmn_congruence.specs.Orders.{Among, at_head, further, none, more, her
 use Rattle.lmn_congruence.specs.Plains.{fused_leaves, fused_levels}
 use Rattle.lmn_congruence.specs.Regions as region
 use Rattle.lmn_congruence.specs.Rules as tree
-use Rattle.lmn_congruence.specs.Same.{renamed_atom}
-use Rattle.lmn_congruence.specs.Translation.{name_of, names_of, atom_or_connector, label_of, leaf_of, levels, solid_atom_of}
+use Rattle.lmn_congruence.specs.Same.{renamed_atom, renamed_regions}
+use Rattle.lmn_congruence.specs.Translation.{context_tree, context_with, name_of, names_of, atom_or_connector, label_of, leaf_of, levels, solid_atom_of}
 use Rattle.lmn_reduction.specs.Parts.{Rooted, IsInteger, an_integer}
 use Rattle.lmn_adequacy.specs.Embedding.{IsPart, Contents}
 use Rattle.lmn_adequacy.specs.Next.{DepthFirst, reaches_listed, reaches_new, reaches_none, part_leaves, kept_atoms, kept_membranes, context_rules, links_at}
 use Rattle.lmn_congruence.specs.Links.{places}
 use Rattle.lmn_congruence.proofs.Counts.{none_if_apart, one_if_equal}
-use Rattle.lmn_solid.proofs.HeadTrees.{Head, Heads, head, no_head, head_and}
+use Rattle.lmn_solid.proofs.HeadTrees.{Head, Heads, head, no_head, head_and, size}
 use Rattle.lmn_bridge.specs.HeapRegions.{HeapReading}
 use Rattle.lmn_body.specs.declared.items.BodyItem.{BodyItem}
-use Rattle.lmn_body.specs.declared.items.BodyItem.TheVariants.{Atom, Connector}
+use Rattle.lmn_body.specs.declared.items.BodyItem.TheVariants.{Atom, Connector, Rest}
 use Rattle.lmn_body.specs.Flattening.{BodyNames, atom_item, typed_item, body_leaf_items, context_items, body_rule_items, rule_context_items}
 use Rattle.lmn_body.specs.Running.{Registers, integer_functor}
+use Rattle.lmn_body.specs.RestCopies.{RestCopy, RestCopies}
 use Rattle.std.specs.Prelude.{◌&&◌}
 use Rattle.lmn_turn.specs.Standing.{StandAs, none_stands}
 use Rattle.lmn_turn.proofs.Standings.{stand_both}
-use Rattle.lmn_compile_head.proofs.OpenHeads.{AllOpen}
-use Rattle.lmn_turn.proofs.Adders.{at, here_is, open_solid, open_mems, open_rules, solid_rest_here, mems_rest_here, rules_rest_none}
-use Rattle.lmn_turn.proofs.CopyLinks.{Block}
-use Rattle.lmn_turn.proofs.OwnLinks.{open_atoms, open_membranes, OwnLeaves, own_none, own_atom, own_connector, own_integer, own_copy}
-use Rattle.lmn_turn.proofs.Locals.{next_copy, after_leaves, after_level}
+use Rattle.lmn_turn.proofs.Adders.{at, here_is, rest_copy, rest_mems, rest_rules, solid_adds, mems_adds, rules_adds}
+use Rattle.lmn_turn.proofs.CopyLinks.{Block, code, code_apart}
+use Rattle.lmn_turn.proofs.OwnLinks.{OwnContexts, own_no_context, own_open, own_closed, OwnLeaves, own_none, own_atom, own_connector, own_integer, own_copy}
+use Rattle.lmn_turn.proofs.Locals.{next_copy, after_leaves, after_level, next_closed, closed_after, closed_after_levels, closed_after_level}
 use Rattle.lmn_splice.specs.Splice.{of_rule, of_solid}
 use Rattle.lmn_base.proofs.Lists.{map_twice}
 use Rattle.lmn_base.proofs.Numbers.{not_equal as not_eq, same_or_not}
@@ -118,13 +118,13 @@ integer_first z x =
     let one = one_if_equal (of_rule x) (of_rule x) refl in
     reaches_new {bs = []} {cs = []} (omega (arith, one)) at_head (reaches_listed (omega (arith, one)) reaches_none) reaches_none
 
-module _ (h h' : Heap) (r r' : HeapReading) (s : Registers) (bn : BodyNames) (c : Contents) (left : ℕ → List SolidAtom) (left_mems : ℕ → List ℕ) (to : ℕ → ℕ) (limit : ℕ) (copy : ℕ → List SolidAtom) (part : ℕ → ℕ → List region.SolidAtom) where
+module _ (h h' : Heap) (r r' : HeapReading) (s : Registers) (bn : BodyNames) (c : Contents) (left : ℕ → List SolidAtom) (left_mems : ℕ → List ℕ) (to : ℕ → ℕ) (limit : ℕ) (copy : ℕ → List SolidAtom) (part : ℕ → ℕ → List region.SolidAtom) (q : RestCopies) (rest : ℕ → ℕ → RestCopy → ℕ → List SolidAtom) where
   abbrev names : List tree.Name
   names = r.names
 
-  -- the atoms that items add, the next copy with a number
-  abbrev solid : ℕ → List BodyItem → ℕ → List region.SolidAtom
-  solid k xs x = map (solid_atom_of r.names) (open_solid s left copy (λ z. to (of_rule z)) k xs x)
+  -- the atoms that items add, the next copies with their numbers
+  abbrev solid : ℕ → ℕ → List BodyItem → ℕ → List region.SolidAtom
+  solid count k xs x = map (solid_atom_of r.names) (solid_adds s q left copy rest (λ z. to (of_rule z)) count k xs x)
 
   -- ---- what is asked of the contents
 
@@ -135,7 +135,7 @@ module _ (h h' : Heap) (r r' : HeapReading) (s : Registers) (bn : BodyNames) (c 
   pub record CopyAgrees (k n x : ℕ) : Type 0 where
     pub is : IsPart (c.typed_of (name_of r.names n)) (of_rule x) (part k x)
     pub order : DepthFirst (of_rule x) (part k x)
-    pub own : (z : ℕ) → Among z (links_at (part k x)) → (z ≡ of_rule x) ⊎ ((L : ℕ) × (z ≡ of_solid L) × Block limit k L)
+    pub own : (z : ℕ) → Among z (links_at (part k x)) → (z ≡ of_rule x) ⊎ ((L : ℕ) × (z ≡ of_solid L) × Block limit (of_rule k) L)
     pub atoms : map (renamed_atom to) (part k x) ≡ map (solid_atom_of r.names) (copy k)
 
   -- a typed context of the head is copied; a name that the guard binds stands for its integer
@@ -149,26 +149,45 @@ module _ (h h' : Heap) (r r' : HeapReading) (s : Registers) (bn : BodyNames) (c 
   LeavesAgree k (leaf.Atom f os p ∷ ls) = (length os ≡ f.arity) × LeavesAgree k ls
   LeavesAgree k (leaf.Typed n o p ∷ ls) = TypedAgrees (bn.part n) k n o.link × LeavesAgree (next_copy (bn.part n) k) ls
 
-  -- an untyped context stands for what is left of its membrane
+  -- the link that a link of a rest has in copy number `count`
+  abbrev pub own_link : ℕ → ℕ → ℕ
+  own_link count y = limit + code (of_solid count) y
+
+  -- an open context stands for what is left of its membrane
   pub record ContextAgrees (u : CtxUse) : Type 0 where
     pub atoms : map (renamed_atom (λ z. to (of_solid z))) (c.atoms_of (tree.open_context (name_of r.names u.name))) ≡ map (solid_atom_of r.names) (left (at s (bn.context u.name)))
     pub membranes : StandAs h' r' (left_mems (at s (bn.context u.name))) (fused_levels to (levels (kept_membranes (c.membranes_of (tree.open_context (name_of r.names u.name))))))
 
-  abbrev pub ContextsAgree : List CtxUse → Type 0
-  ContextsAgree [] = Unit {0}
-  ContextsAgree (u ∷ us) = ContextAgrees u × ContextsAgree us
+  -- Copy number `count` of what a closed context stands for, which goes to the membrane of a register, is with each link at its image what
+  -- the body adds there: atoms, membranes with what stands in them, and no rule.
+  pub record CopiedAgrees (count inside : ℕ) (u : CtxUse) : Type 0 where
+    pub atoms : map (renamed_atom (λ z. to (of_solid z))) (map (renamed_atom (λ y. limit + code (of_solid count) y)) (c.atoms_of (tree.closed_context (name_of r.names u.name))))
+        ≡ map (solid_atom_of r.names) (rest (bn.context u.name) inside (rest_copy q count) (at s inside))
+    pub membranes : StandAs h' r' (rest_mems s left_mems (bn.context u.name) inside (rest_copy q count) (at s inside))
+        (fused_levels to (levels (kept_membranes (renamed_regions (λ y. limit + code (of_solid count) y) (c.membranes_of (tree.closed_context (name_of r.names u.name)))))))
+    pub rules : rest_rules s (rules_in h) (bn.context u.name) inside (rest_copy q count) (at s inside) ≡ []
+
+  -- an untyped context, by its form
+  abbrev pub AgreesAs : Bool → ℕ → ℕ → CtxUse → Type 0
+  AgreesAs true count inside u = CopiedAgrees count inside u
+  AgreesAs false count inside u = ContextAgrees u
+
+  abbrev pub ContextsAgree : ℕ → ℕ → List CtxUse → Type 0
+  ContextsAgree count inside [] = Unit {0}
+  ContextsAgree count inside (u ∷ us) = AgreesAs u.closed count inside u × ContextsAgree (next_closed u.closed count) inside us
 
   abbrev pub RuleContextsAgree : List CtxUse → Type 0
   RuleContextsAgree [] = Unit {0}
   RuleContextsAgree (u ∷ us) = (c.rules_of (name_of r.names u.name) ≡ map r.rule (rules_in h (at s (bn.rule_context u.name)))) × RuleContextsAgree us
 
+  -- a level, the next copies with their numbers, of the first membrane in it the register `next`
   abbrev mutual
-    pub BodyAgrees : ℕ → Head → Type 0
-    BodyAgrees k (head leaves hs cs rcs rs) = LeavesAgree k leaves × ContextsAgree cs × RuleContextsAgree rcs × BodiesAgree (after_leaves bn k leaves) hs
+    pub BodyAgrees : ℕ → ℕ → ℕ → ℕ → Head → Type 0
+    BodyAgrees inside next k count (head leaves hs cs rcs rs) = LeavesAgree k leaves × ContextsAgree (closed_after_levels count hs) inside cs × RuleContextsAgree rcs × BodiesAgree next (after_leaves bn k leaves) count hs
 
-    pub BodiesAgree : ℕ → Heads → Type 0
-    BodiesAgree k no_head = Unit {0}
-    BodiesAgree k (head_and h hs) = BodyAgrees k h × BodiesAgree (after_level bn k h) hs
+    pub BodiesAgree : ℕ → ℕ → ℕ → Heads → Type 0
+    BodiesAgree next k count no_head = Unit {0}
+    BodiesAgree next k count (head_and h hs) = BodyAgrees next (next + 1) k count h × BodiesAgree (next + 1 + size h) (after_level bn k h) (closed_after_level count h) hs
 
   -- ---- leaves
 
@@ -201,104 +220,161 @@ module _ (h h' : Heap) (r r' : HeapReading) (s : Registers) (bn : BodyNames) (c 
   leaves_make inside k (leaf.Typed n o p ∷ ls) a = typed_makes (bn.part n) k (after_leaves bn (next_copy (bn.part n) k) ls) n o.link a.0 (leaves_make inside (next_copy (bn.part n) k) ls a.1)
 
   -- and what the items add
-  typed_atoms : (inside : ℕ) (o : Option ℕ) (k n x : ℕ) (xs : List BodyItem) → TypedAgrees o k n x →
-      fused_leaves to (typed_made o k (bn.integer n) x) ++ map (solid_atom_of r.names) (open_solid s left copy (λ z. to (of_rule z)) (next_copy o k) xs (at s inside))
-      ≡ map (solid_atom_of r.names) (open_solid s left copy (λ z. to (of_rule z)) k (typed_item o (bn.integer n) x inside ∷ xs) (at s inside))
-  typed_atoms inside (Some g) k n x xs a =
-      let rest = open_solid s left copy (λ z. to (of_rule z)) (k + 1) xs (at s inside) in
+  typed_atoms : (count inside : ℕ) (o : Option ℕ) (k n x : ℕ) (xs : List BodyItem) → TypedAgrees o k n x →
+      fused_leaves to (typed_made o k (bn.integer n) x) ++ map (solid_atom_of r.names) (solid_adds s q left copy rest (λ z. to (of_rule z)) count (next_copy o k) xs (at s inside))
+      ≡ map (solid_atom_of r.names) (solid_adds s q left copy rest (λ z. to (of_rule z)) count k (typed_item o (bn.integer n) x inside ∷ xs) (at s inside))
+  typed_atoms count inside (Some g) k n x xs a =
+      let rest = solid_adds s q left copy rest (λ z. to (of_rule z)) count (k + 1) xs (at s inside) in
       ap (λ ys. ys ++ map (solid_atom_of r.names) rest) (fused_made to (part k x) ∙ a.atoms)
       ∙ sym (map-append (solid_atom_of r.names) (copy k) rest)
       ∙ ap (map (solid_atom_of r.names)) (sym (here_is (at s inside) (copy k) rest))
-  typed_atoms inside None k n x xs a =
+  typed_atoms count inside None k n x xs a =
       let atom : SolidAtom = record { functor = integer_functor (s.head.integer (bn.integer n)); links = to (of_rule x) ∷ [] } in
-      ap (map (solid_atom_of r.names)) (sym (here_is (at s inside) (atom ∷ []) (open_solid s left copy (λ z. to (of_rule z)) k xs (at s inside))))
+      ap (map (solid_atom_of r.names)) (sym (here_is (at s inside) (atom ∷ []) (solid_adds s q left copy rest (λ z. to (of_rule z)) count k xs (at s inside))))
 
-  pub leaf_atoms : (inside k : ℕ) (ls : List Leaf) → LeavesAgree k ls →
-      fused_leaves to (leaves_made k ls) ≡ map (solid_atom_of r.names) (open_solid s left copy (λ z. to (of_rule z)) k (body_leaf_items bn inside ls) (at s inside))
-  leaf_atoms inside k [] a = refl
-  leaf_atoms inside k (leaf.Atom f os p ∷ ls) a = elim (leaf_cases r.names f (map (λ o. o.link) os) inside (length-map os (λ o. o.link) ∙ a.0)) [
-    | inl e ↦ ap (λ l. fused_leaves to (placed_leaf l ∷ leaves_made k ls)) e.2 ∙ leaf_atoms inside k ls a.1 ∙ ap (λ (i : BodyItem). solid k (i ∷ body_leaf_items bn inside ls) (at s inside)) (sym e.3)
+  pub leaf_atoms : (count inside k : ℕ) (ls : List Leaf) → LeavesAgree k ls →
+      fused_leaves to (leaves_made k ls) ≡ map (solid_atom_of r.names) (solid_adds s q left copy rest (λ z. to (of_rule z)) count k (body_leaf_items bn inside ls) (at s inside))
+  leaf_atoms count inside k [] a = refl
+  leaf_atoms count inside k (leaf.Atom f os p ∷ ls) a = elim (leaf_cases r.names f (map (λ o. o.link) os) inside (length-map os (λ o. o.link) ∙ a.0)) [
+    | inl e ↦ ap (λ l. fused_leaves to (placed_leaf l ∷ leaves_made k ls)) e.2 ∙ leaf_atoms count inside k ls a.1 ∙ ap (λ (i : BodyItem). solid count k (i ∷ body_leaf_items bn inside ls) (at s inside)) (sym e.3)
     | inr e ↦ (let ys = map (λ o. o.link) os in
         let one : record { label = label_of r.names f.label; links = map to (map of_rule ys) } ≡ solid_atom_of r.names (record { functor = f; links = map (λ z. to (of_rule z)) ys }) =
         λ i. record { label = label_of r.names f.label; links = map_twice to of_rule ys i } in
-        ap (λ l. fused_leaves to (placed_leaf l ∷ leaves_made k ls)) e.0 ∙ (λ i. one i ∷ leaf_atoms inside k ls a.1 i)
-        ∙ ap (map (solid_atom_of r.names)) (sym (here_is (at s inside) ((record { functor = f; links = map (λ z. to (of_rule z)) ys }) ∷ []) (open_solid s left copy (λ z. to (of_rule z)) k (body_leaf_items bn inside ls) (at s inside))))
-        ∙ ap (λ (i : BodyItem). solid k (i ∷ body_leaf_items bn inside ls) (at s inside)) (sym e.1))
+        ap (λ l. fused_leaves to (placed_leaf l ∷ leaves_made k ls)) e.0 ∙ (λ i. one i ∷ leaf_atoms count inside k ls a.1 i)
+        ∙ ap (map (solid_atom_of r.names)) (sym (here_is (at s inside) ((record { functor = f; links = map (λ z. to (of_rule z)) ys }) ∷ []) (solid_adds s q left copy rest (λ z. to (of_rule z)) count k (body_leaf_items bn inside ls) (at s inside))))
+        ∙ ap (λ (i : BodyItem). solid count k (i ∷ body_leaf_items bn inside ls) (at s inside)) (sym e.1))
   ]
-  leaf_atoms inside k (leaf.Typed n o p ∷ ls) a =
+  leaf_atoms count inside k (leaf.Typed n o p ∷ ls) a =
       fused_both to (typed_made (bn.part n) k (bn.integer n) o.link) (leaves_made (next_copy (bn.part n) k) ls)
-      ∙ ap (λ ys. fused_leaves to (typed_made (bn.part n) k (bn.integer n) o.link) ++ ys) (leaf_atoms inside (next_copy (bn.part n) k) ls a.1)
-      ∙ typed_atoms inside (bn.part n) k n o.link (body_leaf_items bn inside ls) a.0
+      ∙ ap (λ ys. fused_leaves to (typed_made (bn.part n) k (bn.integer n) o.link) ++ ys) (leaf_atoms count inside (next_copy (bn.part n) k) ls a.1)
+      ∙ typed_atoms count inside (bn.part n) k n o.link (body_leaf_items bn inside ls) a.0
 
   -- leaves add no membranes and no rules
-  atom_item_adds : (b : Bool) (f : Functor) (ys : List ℕ) (inside n x : ℕ) (xs : List BodyItem) →
-      (open_mems s left_mems n (atom_item b f ys inside ∷ xs) x ≡ open_mems s left_mems n xs x) × (open_rules s (rules_in h) (atom_item b f ys inside ∷ xs) x ≡ open_rules s (rules_in h) xs x)
-  atom_item_adds true f [] inside n x xs = (refl, refl)
-  atom_item_adds true f (a ∷ []) inside n x xs = (refl, refl)
-  atom_item_adds true f (a ∷ (b ∷ [])) inside n x xs = (refl, refl)
-  atom_item_adds true f (a ∷ (b ∷ (c ∷ ys))) inside n x xs = (refl, refl)
-  atom_item_adds false f ys inside n x xs = (refl, refl)
+  atom_item_adds : (count : ℕ) (b : Bool) (f : Functor) (ys : List ℕ) (inside n x : ℕ) (xs : List BodyItem) →
+      (mems_adds s q left_mems count n (atom_item b f ys inside ∷ xs) x ≡ mems_adds s q left_mems count n xs x) × (rules_adds s q (rules_in h) count (atom_item b f ys inside ∷ xs) x ≡ rules_adds s q (rules_in h) count xs x)
+  atom_item_adds count true f [] inside n x xs = (refl, refl)
+  atom_item_adds count true f (a ∷ []) inside n x xs = (refl, refl)
+  atom_item_adds count true f (a ∷ (b ∷ [])) inside n x xs = (refl, refl)
+  atom_item_adds count true f (a ∷ (b ∷ (c ∷ ys))) inside n x xs = (refl, refl)
+  atom_item_adds count false f ys inside n x xs = (refl, refl)
 
-  typed_item_adds : (o : Option ℕ) (i y inside n x : ℕ) (xs : List BodyItem) →
-      (open_mems s left_mems n (typed_item o i y inside ∷ xs) x ≡ open_mems s left_mems n xs x) × (open_rules s (rules_in h) (typed_item o i y inside ∷ xs) x ≡ open_rules s (rules_in h) xs x)
-  typed_item_adds (Some g) i y inside n x xs = (refl, refl)
-  typed_item_adds None i y inside n x xs = (refl, refl)
+  typed_item_adds : (count : ℕ) (o : Option ℕ) (i y inside n x : ℕ) (xs : List BodyItem) →
+      (mems_adds s q left_mems count n (typed_item o i y inside ∷ xs) x ≡ mems_adds s q left_mems count n xs x) × (rules_adds s q (rules_in h) count (typed_item o i y inside ∷ xs) x ≡ rules_adds s q (rules_in h) count xs x)
+  typed_item_adds count (Some g) i y inside n x xs = (refl, refl)
+  typed_item_adds count None i y inside n x xs = (refl, refl)
 
-  pub leaf_adds : (inside n x : ℕ) (ls : List Leaf) → (open_mems s left_mems n (body_leaf_items bn inside ls) x ≡ []) × (open_rules s (rules_in h) (body_leaf_items bn inside ls) x ≡ [])
-  leaf_adds inside n x [] = (refl, refl)
-  leaf_adds inside n x (leaf.Atom f os p ∷ ls) =
-      let a = atom_item_adds (same_functor f connector) f (map (λ o. o.link) os) inside n x (body_leaf_items bn inside ls) in
-      let b = leaf_adds inside n x ls in
+  pub leaf_adds : (count inside n x : ℕ) (ls : List Leaf) → (mems_adds s q left_mems count n (body_leaf_items bn inside ls) x ≡ []) × (rules_adds s q (rules_in h) count (body_leaf_items bn inside ls) x ≡ [])
+  leaf_adds count inside n x [] = (refl, refl)
+  leaf_adds count inside n x (leaf.Atom f os p ∷ ls) =
+      let a = atom_item_adds count (same_functor f connector) f (map (λ o. o.link) os) inside n x (body_leaf_items bn inside ls) in
+      let b = leaf_adds count inside n x ls in
       (a.0 ∙ b.0, a.1 ∙ b.1)
-  leaf_adds inside n x (leaf.Typed m o p ∷ ls) =
-      let a = typed_item_adds (bn.part m) (bn.integer m) o.link inside n x (body_leaf_items bn inside ls) in
-      let b = leaf_adds inside n x ls in
+  leaf_adds count inside n x (leaf.Typed m o p ∷ ls) =
+      let a = typed_item_adds count (bn.part m) (bn.integer m) o.link inside n x (body_leaf_items bn inside ls) in
+      let b = leaf_adds count inside n x ls in
       (a.0 ∙ b.0, a.1 ∙ b.1)
 
   -- ---- contexts and rules
 
-  pub context_atoms_are : (inside k : ℕ) (us : List CtxUse) → AllOpen us → ContextsAgree us →
-      fused_leaves to (kept_atoms (open_atoms c (names_of r.names us))) ≡ map (solid_atom_of r.names) (open_solid s left copy (λ z. to (of_rule z)) k (context_items bn inside us) (at s inside))
-  context_atoms_are inside k us o a = fused_kept to (open_atoms c (names_of r.names us)) ∙ by us o a
+  -- what an untyped context makes, by its form, and what contexts make
+  abbrev pub context_atoms : Bool → ℕ → tree.Name → List region.SolidAtom
+  context_atoms true count p = map (renamed_atom (λ y. limit + code (of_solid count) y)) (c.atoms_of (tree.closed_context p))
+  context_atoms false count p = c.atoms_of (tree.open_context p)
+
+  abbrev pub contexts_atoms : ℕ → List CtxUse → List region.SolidAtom
+  contexts_atoms count [] = []
+  contexts_atoms count (u ∷ us) = context_atoms u.closed count (name_of r.names u.name) ++ contexts_atoms (next_closed u.closed count) us
+
+  abbrev pub context_regions : Bool → ℕ → tree.Name → region.Regions
+  context_regions true count p = renamed_regions (λ y. limit + code (of_solid count) y) (c.membranes_of (tree.closed_context p))
+  context_regions false count p = c.membranes_of (tree.open_context p)
+
+  abbrev pub contexts_membranes : ℕ → List CtxUse → List tree.Level
+  contexts_membranes count [] = []
+  contexts_membranes count (u ∷ us) = kept_membranes (context_regions u.closed count (name_of r.names u.name)) ++ contexts_membranes (next_closed u.closed count) us
+
+  -- it is what the calculus says
+  pub contexts_make : (count : ℕ) (us : List CtxUse) → OwnContexts c (Block limit) count (closed_after count us) (map (context_tree r.names) us) (contexts_atoms count us) (contexts_membranes count us)
+  contexts_make count [] = own_no_context
+  contexts_make count (u ∷ us) = by u.closed (contexts_make (next_closed u.closed count) us)
     where
-      by : (us : List CtxUse) → AllOpen us → ContextsAgree us → map (renamed_atom (λ z. to (of_solid z))) (open_atoms c (names_of r.names us)) ≡ map (solid_atom_of r.names) (open_solid s left copy (λ z. to (of_rule z)) k (context_items bn inside us) (at s inside))
-      by [] o a = refl
-      by (u ∷ us) o a =
-          let mine = left (at s (bn.context u.name)) in
-          let rest = open_solid s left copy (λ z. to (of_rule z)) k (context_items bn inside us) (at s inside) in
-          map-append (renamed_atom (λ z. to (of_solid z))) (c.atoms_of (tree.open_context (name_of r.names u.name))) (open_atoms c (names_of r.names us))
-          ∙ (λ i. a.0.atoms i ++ by us o.1 a.1 i) ∙ sym (map-append (solid_atom_of r.names) mine rest)
-          ∙ ap (map (solid_atom_of r.names)) (sym (solid_rest_here s left copy (λ z. to (of_rule z)) (bn.context u.name) inside k u.closed (context_items bn inside us) o.0))
+      p : tree.Name
+      p = name_of r.names u.name
 
-  pub context_membranes_stand : (inside n : ℕ) (us : List CtxUse) → AllOpen us → ContextsAgree us → StandAs h' r' (open_mems s left_mems n (context_items bn inside us) (at s inside)) (fused_levels to (levels (open_membranes c (names_of r.names us))))
-  context_membranes_stand inside n [] o a = none_stands
-  context_membranes_stand inside n (u ∷ us) o a =
+      by : (b : Bool) → OwnContexts c (Block limit) (next_closed b count) (closed_after (next_closed b count) us) (map (context_tree r.names) us) (contexts_atoms (next_closed b count) us) (contexts_membranes (next_closed b count) us)
+          → OwnContexts c (Block limit) count (closed_after (next_closed b count) us) (context_with b (name_of r.names u.name) ∷ map (context_tree r.names) us) (context_atoms b count (name_of r.names u.name) ++ contexts_atoms (next_closed b count) us) (kept_membranes (context_regions b count (name_of r.names u.name)) ++ contexts_membranes (next_closed b count) us)
+      by true w = own_closed (λ y. limit + code (of_solid count) y) (λ y z e. (code_apart (of_solid count) y (of_solid count) z (omega (arith, e))).1) (λ y. (y, refl)) w
+      by false w = own_open w
+
+  -- and what the items add: the atoms of a context
+  context_adds : (b : Bool) (count inside k : ℕ) (u : CtxUse) (xs : List BodyItem) → AgreesAs b count inside u →
+      map (renamed_atom (λ z. to (of_solid z))) (context_atoms b count (name_of r.names u.name)) ++ map (solid_atom_of r.names) (solid_adds s q left copy rest (λ z. to (of_rule z)) (next_closed b count) k xs (at s inside))
+      ≡ map (solid_atom_of r.names) (solid_adds s q left copy rest (λ z. to (of_rule z)) count k (Rest (bn.context u.name) b inside ∷ xs) (at s inside))
+  context_adds true count inside k u xs a =
+      let mine = rest (bn.context u.name) inside (rest_copy q count) (at s inside) in
+      let others = solid_adds s q left copy rest (λ z. to (of_rule z)) (suc count) k xs (at s inside) in
+      ap (λ ys. ys ++ map (solid_atom_of r.names) others) a.atoms ∙ sym (map-append (solid_atom_of r.names) mine others)
+  context_adds false count inside k u xs a =
+      let mine = left (at s (bn.context u.name)) in
+      let others = solid_adds s q left copy rest (λ z. to (of_rule z)) count k xs (at s inside) in
+      ap (λ ys. ys ++ map (solid_atom_of r.names) others) a.atoms ∙ sym (map-append (solid_atom_of r.names) mine others) ∙ ap (map (solid_atom_of r.names)) (sym (here_is (at s inside) mine others))
+
+  pub context_atoms_are : (inside k count : ℕ) (us : List CtxUse) → ContextsAgree count inside us →
+      fused_leaves to (kept_atoms (contexts_atoms count us)) ≡ map (solid_atom_of r.names) (solid_adds s q left copy rest (λ z. to (of_rule z)) count k (context_items bn inside us) (at s inside))
+  context_atoms_are inside k count us a = fused_kept to (contexts_atoms count us) ∙ by count us a
+    where
+      by : (count : ℕ) (us : List CtxUse) → ContextsAgree count inside us → map (renamed_atom (λ z. to (of_solid z))) (contexts_atoms count us) ≡ map (solid_atom_of r.names) (solid_adds s q left copy rest (λ z. to (of_rule z)) count k (context_items bn inside us) (at s inside))
+      by count [] a = refl
+      by count (u ∷ us) a =
+          let f = renamed_atom (λ z. to (of_solid z)) in
+          map-append f (context_atoms u.closed count (name_of r.names u.name)) (contexts_atoms (next_closed u.closed count) us)
+          ∙ ap (λ ys. map f (context_atoms u.closed count (name_of r.names u.name)) ++ ys) (by (next_closed u.closed count) us a.1)
+          ∙ context_adds u.closed count inside k u (context_items bn inside us) a.0
+
+  -- its membranes
+  context_stands : (b : Bool) (count inside n : ℕ) (u : CtxUse) (xs : List BodyItem) (others : List tree.Level) → AgreesAs b count inside u →
+      StandAs h' r' (mems_adds s q left_mems (next_closed b count) n xs (at s inside)) (fused_levels to (levels others)) →
+      StandAs h' r' (mems_adds s q left_mems count n (Rest (bn.context u.name) b inside ∷ xs) (at s inside)) (fused_levels to (levels (kept_membranes (context_regions b count (name_of r.names u.name)) ++ others)))
+  context_stands true count inside n u xs others a t =
+      stand_both h' r' to (rest_mems s left_mems (bn.context u.name) inside (rest_copy q count) (at s inside)) (mems_adds s q left_mems (suc count) n xs (at s inside)) (kept_membranes (context_regions true count (name_of r.names u.name))) others a.membranes t
+  context_stands false count inside n u xs others a t =
       let mine = left_mems (at s (bn.context u.name)) in
-      let rest = open_mems s left_mems n (context_items bn inside us) (at s inside) in
+      let behind = mems_adds s q left_mems count n xs (at s inside) in
       let p = name_of r.names u.name in
-      subst (λ xs. StandAs h' r' xs (fused_levels to (levels (kept_membranes (c.membranes_of (tree.open_context p)) ++ open_membranes c (names_of r.names us))))) (sym (mems_rest_here s left_mems (bn.context u.name) inside n u.closed (context_items bn inside us) o.0))
-      (stand_both h' r' to mine rest (kept_membranes (c.membranes_of (tree.open_context p))) (open_membranes c (names_of r.names us)) a.0.membranes (context_membranes_stand inside n us o.1 a.1))
+      subst (λ xs. StandAs h' r' xs (fused_levels to (levels (kept_membranes (c.membranes_of (tree.open_context p)) ++ others)))) (sym (here_is (at s inside) mine behind))
+      (stand_both h' r' to mine behind (kept_membranes (c.membranes_of (tree.open_context p))) others a.membranes t)
 
-  pub contexts_no_rules : (inside x : ℕ) (us : List CtxUse) → AllOpen us → open_rules s (rules_in h) (context_items bn inside us) x ≡ []
-  contexts_no_rules inside x [] o = refl
-  contexts_no_rules inside x (u ∷ us) o = rules_rest_none s (rules_in h) (bn.context u.name) inside x u.closed (context_items bn inside us) o.0 ∙ contexts_no_rules inside x us o.1
+  pub context_membranes_stand : (inside n count : ℕ) (us : List CtxUse) → ContextsAgree count inside us → StandAs h' r' (mems_adds s q left_mems count n (context_items bn inside us) (at s inside)) (fused_levels to (levels (contexts_membranes count us)))
+  context_membranes_stand inside n count [] a = none_stands
+  context_membranes_stand inside n count (u ∷ us) a =
+      context_stands u.closed count inside n u (context_items bn inside us) (contexts_membranes (next_closed u.closed count) us) a.0 (context_membranes_stand inside n (next_closed u.closed count) us a.1)
 
-  pub rules_alone : (inside n k x : ℕ) (ks : List ℕ) → (open_solid s left copy (λ z. to (of_rule z)) k (body_rule_items inside ks) x ≡ []) × (open_mems s left_mems n (body_rule_items inside ks) x ≡ [])
-  rules_alone inside n k x [] = (refl, refl)
-  rules_alone inside n k x (j ∷ ks) = rules_alone inside n k x ks
+  -- and no rule
+  context_no_rule : (b : Bool) (count inside : ℕ) (u : CtxUse) (xs : List BodyItem) → AgreesAs b count inside u →
+      rules_adds s q (rules_in h) count (Rest (bn.context u.name) b inside ∷ xs) (at s inside) ≡ rules_adds s q (rules_in h) (next_closed b count) xs (at s inside)
+  context_no_rule true count inside u xs a = ap (λ z. z ++ rules_adds s q (rules_in h) (suc count) xs (at s inside)) a.rules
+  context_no_rule false count inside u xs a = refl
 
-  pub rule_contexts_alone : (inside n k x : ℕ) (us : List CtxUse) → (open_solid s left copy (λ z. to (of_rule z)) k (rule_context_items bn inside us) x ≡ []) × (open_mems s left_mems n (rule_context_items bn inside us) x ≡ [])
-  rule_contexts_alone inside n k x [] = (refl, refl)
-  rule_contexts_alone inside n k x (u ∷ us) = rule_contexts_alone inside n k x us
+  pub contexts_no_rules : (inside count : ℕ) (us : List CtxUse) → ContextsAgree count inside us → rules_adds s q (rules_in h) count (context_items bn inside us) (at s inside) ≡ []
+  contexts_no_rules inside count [] a = refl
+  contexts_no_rules inside count (u ∷ us) a = context_no_rule u.closed count inside u (context_items bn inside us) a.0 ∙ contexts_no_rules inside (next_closed u.closed count) us a.1
 
-  pub rules_are : (inside : ℕ) (ks : List ℕ) → map r.rule ks ≡ map r.rule (open_rules s (rules_in h) (body_rule_items inside ks) (at s inside))
-  rules_are inside [] = refl
-  rules_are inside (k ∷ ks) =
-      ap (λ z. r.rule k ∷ z) (rules_are inside ks) ∙ ap (map r.rule) (sym (here_is (at s inside) (k ∷ []) (open_rules s (rules_in h) (body_rule_items inside ks) (at s inside))))
+  pub rules_alone : (count inside n k x : ℕ) (ks : List ℕ) → (solid_adds s q left copy rest (λ z. to (of_rule z)) count k (body_rule_items inside ks) x ≡ []) × (mems_adds s q left_mems count n (body_rule_items inside ks) x ≡ [])
+  rules_alone count inside n k x [] = (refl, refl)
+  rules_alone count inside n k x (j ∷ ks) = rules_alone count inside n k x ks
 
-  pub rule_contexts_are : (inside : ℕ) (us : List CtxUse) → RuleContextsAgree us → context_rules c (names_of r.names us) ≡ map r.rule (open_rules s (rules_in h) (rule_context_items bn inside us) (at s inside))
-  rule_contexts_are inside [] a = refl
-  rule_contexts_are inside (u ∷ us) a =
+  pub rule_contexts_alone : (count inside n k x : ℕ) (us : List CtxUse) → (solid_adds s q left copy rest (λ z. to (of_rule z)) count k (rule_context_items bn inside us) x ≡ []) × (mems_adds s q left_mems count n (rule_context_items bn inside us) x ≡ [])
+  rule_contexts_alone count inside n k x [] = (refl, refl)
+  rule_contexts_alone count inside n k x (u ∷ us) = rule_contexts_alone count inside n k x us
+
+  pub rules_are : (count inside : ℕ) (ks : List ℕ) → map r.rule ks ≡ map r.rule (rules_adds s q (rules_in h) count (body_rule_items inside ks) (at s inside))
+  rules_are count inside [] = refl
+  rules_are count inside (k ∷ ks) =
+      ap (λ z. r.rule k ∷ z) (rules_are count inside ks) ∙ ap (map r.rule) (sym (here_is (at s inside) (k ∷ []) (rules_adds s q (rules_in h) count (body_rule_items inside ks) (at s inside))))
+
+  pub rule_contexts_are : (count inside : ℕ) (us : List CtxUse) → RuleContextsAgree us → context_rules c (names_of r.names us) ≡ map r.rule (rules_adds s q (rules_in h) count (rule_context_items bn inside us) (at s inside))
+  rule_contexts_are count inside [] a = refl
+  rule_contexts_are count inside (u ∷ us) a =
       let mine = rules_in h (at s (bn.rule_context u.name)) in
-      let rest = open_rules s (rules_in h) (rule_context_items bn inside us) (at s inside) in
-      (λ i. a.0 i ++ rule_contexts_are inside us a.1 i) ∙ sym (map-append r.rule mine rest) ∙ ap (map r.rule) (sym (here_is (at s inside) mine rest))
+      let rest = rules_adds s q (rules_in h) count (rule_context_items bn inside us) (at s inside) in
+      (λ i. a.0 i ++ rule_contexts_are count inside us a.1 i) ∙ sym (map-append r.rule mine rest) ∙ ap (map r.rule) (sym (here_is (at s inside) mine rest))

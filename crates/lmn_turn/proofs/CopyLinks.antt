@@ -1,4 +1,4 @@
--- Raw links inside copies of typed contexts, and a map of raw links that is known at them.
+-- Raw links inside copies, and a map of raw links that is known at them.
 use Rattle.std.proofs.Common.{ℕ, zero, suc, cond, ltb, ◌≡◌, ◌+◌, ◌-◌, ◌<◌, ◌≤◌, refl, sym, ap, ◌∙◌, arith}
 use Rattle.lmn_adequacy.proofs.Skeleton.{at_even, at_odd, by_parity}
 use Rattle.lmn_splice.specs.Splice.{of_rule, of_solid}

@@ -11,6 +11,7 @@ use Rattle.lmn_congruence.specs.Translation.{solid_atom_of}
 use Rattle.lmn_adequacy.specs.Next.{DepthFirst, links_at}
 use Rattle.lmn_adequacy.specs.Embedding.{IsPart}
 use Rattle.lmn_adequacy.proofs.Depth.{renamed_links}
+use Rattle.lmn_adequacy.proofs.Skeleton.{at_even, by_parity}
 use Rattle.lmn_bridge.specs.HeapRegions.{HeapReading, atoms_at}
 use Rattle.lmn_bridge.specs.Premises.{IsRead}
 use Rattle.lmn_parts.specs.Walks.{IsPartInDepth as InDepth}
@@ -37,7 +38,8 @@ use Rattle.lmn_reduction.specs.Parts.{Rooted}
 
 -- ---- renaming atoms
 
-renamed_twice : (f g k : ℕ → ℕ) → ((y : ℕ) → f (g y) ≡ k y) → (xs : List region.SolidAtom) → map (renamed_atom f) (map (renamed_atom g) xs) ≡ map (renamed_atom k) xs
+-- renaming twice is renaming once
+pub renamed_twice : (f g k : ℕ → ℕ) → ((y : ℕ) → f (g y) ≡ k y) → (xs : List region.SolidAtom) → map (renamed_atom f) (map (renamed_atom g) xs) ≡ map (renamed_atom k) xs
 renamed_twice f g k e [] = refl
 renamed_twice f g k e (x ∷ xs) = λ i. record { label = x.label; links = links x.links i } ∷ renamed_twice f g k e xs i
   where
@@ -72,21 +74,21 @@ module _ (h h' : Heap) (c number : Port → ℕ) (s : Registers) (g : ℕ → �
   chosen (e ∷ es) f zero = let i = f e (inl refl) in record { to = i.to; atoms = i.atoms; root = c (s.head.images.part e.1) }
   chosen (e ∷ es) f (suc k) = chosen es (λ d i. f d (inr i)) k
 
-  -- Of copy number k, of the typed context p, at the rule's link x. All copies have numbers below n.
+  -- Of copy number k, of the typed context p, at the rule's link x. The copies of typed contexts have even numbers, all below n.
   pub record KnownBy (n : ℕ) (d : CopyData) (k p x : ℕ) : Type 0 where
     pub part : InDepth h (s.head.images.part p) d.atoms
     pub are : solid_atoms_at h' (λ a i. number (a, i)) (s.copied k) ≡ map (linked_by d.to) (solid_atoms_at h (λ a i. c (a, i)) d.atoms)
     pub root : d.root ≡ c (s.head.images.part p)
     pub entered : d.to (c (s.head.images.part p)) ≡ g x
-    pub below : k < n
+    pub below : of_rule k < n
 
   -- so much is known of each copy that items make
-  pub each_known : (n : ℕ) (D : ℕ → CopyData) (items : List BodyItem) (a k : ℕ) (f : Copies (copies_of k items)) → ((e : NewPort × ℕ) → IsOneOf e (new_ports a k items) → number (new_port s e.0) ≡ g e.1) →
-      ((j : ℕ) → D (k + j) ≡ chosen (copies_of k items) f j) → k + length (copies_of k items) ≤ n → EachCopy (λ i p x. KnownBy n (D i) i p x) k items
-  each_known n D [] a k f links e b = tt
-  each_known n D (Atom functor ls inside ∷ xs) a k f links e b = each_known n D xs (a + 1) k f (λ d i. links d (in_back d (new_ports_from a 0 ls) (new_ports (a + 1) k xs) i)) e b
-  each_known n D (Connector left right ∷ xs) a k f links e b = each_known n D xs a k f links e b
-  each_known n D (Copy p x inside ∷ xs) a k f links e b =
+  pub each_known : (n m : ℕ) → of_rule m ≤ n → (D : ℕ → CopyData) (items : List BodyItem) (a k : ℕ) (f : Copies (copies_of k items)) → ((e : NewPort × ℕ) → IsOneOf e (new_ports a k items) → number (new_port s e.0) ≡ g e.1) →
+      ((j : ℕ) → D (k + j) ≡ chosen (copies_of k items) f j) → k + length (copies_of k items) ≤ m → EachCopy (λ i p x. KnownBy n (D i) i p x) k items
+  each_known n m wide D [] a k f links e b = tt
+  each_known n m wide D (Atom functor ls inside ∷ xs) a k f links e b = each_known n m wide D xs (a + 1) k f (λ d i. links d (in_back d (new_ports_from a 0 ls) (new_ports (a + 1) k xs) i)) e b
+  each_known n m wide D (Connector left right ∷ xs) a k f links e b = each_known n m wide D xs a k f links e b
+  each_known n m wide D (Copy p x inside ∷ xs) a k f links e b =
       let i = f (k, p) (inl refl) in
       let z : k + 0 ≡ k = omega arith in
       let same : D k ≡ record { to = i.to; atoms = i.atoms; root = c (s.head.images.part p) } = ap D (sym z) ∙ e 0 in (
@@ -95,15 +97,15 @@ module _ (h h' : Heap) (c number : Port → ℕ) (s : Registers) (g : ℕ → �
           are = i.are;
           root = refl;
           entered = i.entered ∙ links (new.Copy k, x) (inl refl);
-          below = omega (arith, b);
+          below = omega (arith, b, wide);
         }),
-        each_known n D xs a (k + 1) (λ d j. f d (inr j)) (λ d j. links d (inr j)) (λ j. let w : (k + 1) + j ≡ k + suc j = omega arith in ap D w ∙ e (suc j)) (omega (arith, b)),
+        each_known n m wide D xs a (k + 1) (λ d j. f d (inr j)) (λ d j. links d (inr j)) (λ j. let w : (k + 1) + j ≡ k + suc j = omega arith in ap D w ∙ e (suc j)) (omega (arith, b)),
       )
-  each_known n D (Bound integer link inside ∷ xs) a k f links e b = each_known n D xs (a + 1) k f (λ d i. links d (inr i)) e b
-  each_known n D (Membrane inside ∷ xs) a k f links e b = each_known n D xs a k f links e b
-  each_known n D (Rest of closed inside ∷ xs) a k f links e b = each_known n D xs a k f links e b
-  each_known n D (Rule rule inside ∷ xs) a k f links e b = each_known n D xs a k f links e b
-  each_known n D (Rules of inside ∷ xs) a k f links e b = each_known n D xs a k f links e b
+  each_known n m wide D (Bound integer link inside ∷ xs) a k f links e b = each_known n m wide D xs (a + 1) k f (λ d i. links d (inr i)) e b
+  each_known n m wide D (Membrane inside ∷ xs) a k f links e b = each_known n m wide D xs a k f links e b
+  each_known n m wide D (Rest of closed inside ∷ xs) a k f links e b = each_known n m wide D xs a k f links e b
+  each_known n m wide D (Rule rule inside ∷ xs) a k f links e b = each_known n m wide D xs a k f links e b
+  each_known n m wide D (Rules of inside ∷ xs) a k f links e b = each_known n m wide D xs a k f links e b
 
 -- ---- raw links and raw atoms of a copy
 
@@ -126,46 +128,51 @@ copy_link_one limit k x y z d e = by (same_or_not y d.root) (same_or_not z d.roo
 abbrev pub raw_part : Heap → HeapReading → ℕ → CopyData → ℕ → ℕ → List region.SolidAtom
 raw_part h r limit d k x = map (renamed_atom (raw_link limit d k x)) (atoms_at h r d.atoms)
 
-module _ (h h' : Heap) (r : HeapReading) (read : IsRead h r) (number : Port → ℕ) (s : Registers) (to : ℕ → ℕ) (limit n : ℕ) (D : ℕ → CopyData) where
+-- where the links of all copies go: those of copy number k of a typed context have the number `of_rule k`, and those of copy number d of a
+-- rest the number `of_solid d`
+abbrev pub all_maps : (ℕ → CopyData) → (ℕ → ℕ → ℕ) → ℕ → ℕ → ℕ
+all_maps D E t y = by_parity (λ k. (D k).to y) (λ d. E d y) t
+
+module _ (h h' : Heap) (r : HeapReading) (read : IsRead h r) (number : Port → ℕ) (s : Registers) (to : ℕ → ℕ) (limit n : ℕ) (D : ℕ → CopyData) (E : ℕ → ℕ → ℕ) where
   -- the map at all raw links
   abbrev pub to_all : ℕ → ℕ
-  to_all = over to limit n (λ k. (D k).to)
+  to_all = over to limit n (all_maps D E)
 
   module _ (k p x : ℕ) (known : KnownBy h h' (λ q. r.name q.0 q.1) number s (λ z. to (of_rule z)) n (D k) k p x) (m : ℕ) (part : List ℕ) (g : Rooted) (ground : IsGroundPart h r m (s.head.images.part p) part g) where
-    copy_of_part : IsPart g (of_rule x) (raw_part h r limit (D k) k x) × DepthFirst (of_rule x) (raw_part h r limit (D k) k x)
+    copy_of_part : IsPart g (of_rule x) (raw_part h r limit (D k) (of_rule k) x) × DepthFirst (of_rule x) (raw_part h r limit (D k) (of_rule k) x)
     copy_of_part =
         let root = s.head.images.part p in
-        let w = copied_part h r read m root part g ground (D k).atoms known.part (raw_link limit (D k) k x) (λ y z i j e. copy_link_one limit k x y z (D k) e) in
-        let e : raw_link limit (D k) k x (r.name root.0 root.1) ≡ of_rule x = chosen_there (D k).root (of_rule x) (copy_link limit k (r.name root.0 root.1)) (r.name root.0 root.1) (sym known.root) in
-        (subst (λ z. IsPart g z (raw_part h r limit (D k) k x)) e w.is, subst (λ z. DepthFirst z (raw_part h r limit (D k) k x)) e w.in_order)
+        let w = copied_part h r read m root part g ground (D k).atoms known.part (raw_link limit (D k) (of_rule k) x) (λ y z i j e. copy_link_one limit (of_rule k) x y z (D k) e) in
+        let e : raw_link limit (D k) (of_rule k) x (r.name root.0 root.1) ≡ of_rule x = chosen_there (D k).root (of_rule x) (copy_link limit (of_rule k) (r.name root.0 root.1)) (r.name root.0 root.1) (sym known.root) in
+        (subst (λ z. IsPart g z (raw_part h r limit (D k) (of_rule k) x)) e w.is, subst (λ z. DepthFirst z (raw_part h r limit (D k) (of_rule k) x)) e w.in_order)
 
     -- it is the part, depth first
-    pub raw_is : IsPart g (of_rule x) (raw_part h r limit (D k) k x)
+    pub raw_is : IsPart g (of_rule x) (raw_part h r limit (D k) (of_rule k) x)
     raw_is = copy_of_part.0
 
-    pub raw_order : DepthFirst (of_rule x) (raw_part h r limit (D k) k x)
+    pub raw_order : DepthFirst (of_rule x) (raw_part h r limit (D k) (of_rule k) x)
     raw_order = copy_of_part.1
 
   module _ (k p x : ℕ) (known : KnownBy h h' (λ q. r.name q.0 q.1) number s (λ z. to (of_rule z)) n (D k) k p x) where
     -- its links are that of the rule, and links of the copy
-    pub raw_own_links : (z : ℕ) → Among z (links_at (raw_part h r limit (D k) k x)) → (z ≡ of_rule x) ⊎ ((L : ℕ) × (z ≡ of_solid L) × Block limit k L)
+    pub raw_own_links : (z : ℕ) → Among z (links_at (raw_part h r limit (D k) (of_rule k) x)) → (z ≡ of_rule x) ⊎ ((L : ℕ) × (z ≡ of_solid L) × Block limit (of_rule k) L)
     raw_own_links z a =
-        let f = raw_link limit (D k) k x in
+        let f = raw_link limit (D k) (of_rule k) x in
         let w = from_map f z (links_at (atoms_at h r (D k).atoms)) (subst (λ ys. Among z ys) (renamed_links f (atoms_at h r (D k).atoms)) a) in
         by w.0 w.1 (same_or_not w.0 (D k).root)
       where
-        by : (y : ℕ) → z ≡ raw_link limit (D k) k x y → (y ≡ (D k).root) ⊎ (y ≢ (D k).root) → (z ≡ of_rule x) ⊎ ((L : ℕ) × (z ≡ of_solid L) × Block limit k L)
-        by y e (inl q) = inl (e ∙ chosen_there (D k).root (of_rule x) (copy_link limit k y) y q)
-        by y e (inr q) = inr (limit + code k y, e ∙ chosen_elsewhere (D k).root (of_rule x) (copy_link limit k y) y q, (y, refl))
+        by : (y : ℕ) → z ≡ raw_link limit (D k) (of_rule k) x y → (y ≡ (D k).root) ⊎ (y ≢ (D k).root) → (z ≡ of_rule x) ⊎ ((L : ℕ) × (z ≡ of_solid L) × Block limit (of_rule k) L)
+        by y e (inl q) = inl (e ∙ chosen_there (D k).root (of_rule x) (copy_link limit (of_rule k) y) y q)
+        by y e (inr q) = inr (limit + code (of_rule k) y, e ∙ chosen_elsewhere (D k).root (of_rule x) (copy_link limit (of_rule k) y) y q, (y, refl))
 
     -- and with each link at its image it is the copy in the solid
-    pub raw_atoms : map (renamed_atom to_all) (raw_part h r limit (D k) k x) ≡ map (solid_atom_of r.names) (solid_atoms_at h' (λ a i. number (a, i)) (s.copied k))
+    pub raw_atoms : map (renamed_atom to_all) (raw_part h r limit (D k) (of_rule k) x) ≡ map (solid_atom_of r.names) (solid_atoms_at h' (λ a i. number (a, i)) (s.copied k))
     raw_atoms =
-        renamed_twice to_all (raw_link limit (D k) k x) (D k).to (λ y. at y (same_or_not y (D k).root)) (atoms_at h r (D k).atoms)
+        renamed_twice to_all (raw_link limit (D k) (of_rule k) x) (D k).to (λ y. at y (same_or_not y (D k).root)) (atoms_at h r (D k).atoms)
         ∙ sym (read_linked r.names (D k).to (solid_atoms_at h r.name (D k).atoms)) ∙ ap (map (solid_atom_of r.names)) (sym known.are)
       where
-        at : (y : ℕ) → (y ≡ (D k).root) ⊎ (y ≢ (D k).root) → to_all (raw_link limit (D k) k x y) ≡ (D k).to y
+        at : (y : ℕ) → (y ≡ (D k).root) ⊎ (y ≢ (D k).root) → to_all (raw_link limit (D k) (of_rule k) x y) ≡ (D k).to y
         at y (inl q) =
-            ap to_all (chosen_there (D k).root (of_rule x) (copy_link limit k y) y q) ∙ over_rule to limit n (λ k. (D k).to) x
+            ap to_all (chosen_there (D k).root (of_rule x) (copy_link limit (of_rule k) y) y q) ∙ over_rule to limit n (all_maps D E) x
             ∙ sym known.entered ∙ ap (D k).to (sym known.root ∙ sym q)
-        at y (inr q) = ap to_all (chosen_elsewhere (D k).root (of_rule x) (copy_link limit k y) y q) ∙ over_copy to limit n (λ k. (D k).to) k y known.below
+        at y (inr q) = ap to_all (chosen_elsewhere (D k).root (of_rule x) (copy_link limit (of_rule k) y) y q) ∙ over_copy to limit n (all_maps D E) (of_rule k) y known.below ∙ at_even (λ j. (D j).to y) (λ d. E d y) k

@@ -6,7 +6,7 @@ mod Locals
 mod CopyLinks
 mod EachCopy
 mod CopyMaps
-mod OpenTrees
+mod RestMaps
 mod OwnLinks
 mod Bodies
 mod MadeLevels
@@ -17,6 +17,7 @@ mod LinksKept
 mod Paths
 mod Connectors
 mod MadeMembers
+mod RestsAlone
 mod Turns
 mod Made
 mod Namings

@@ -218,7 +218,7 @@ module _ (h h' : Heap) (v : Valid h) (v' : Valid h') (c : Port → ℕ) (s : Reg
       by (Some y) e i = absurd (cc)
 
   -- nor one that is left of a membrane that holds no rest
-  left_kept : (k z : ℕ) → (HoldsRest s head k → ⊥) → In z (left_mems k) → In z ks → ⊥
+  pub left_kept : (k z : ℕ) → (HoldsRest s head k → ⊥) → In z (left_mems k) → In z ks → ⊥
   left_kept k z o i j =
       let w = in_withouts_of (membrane_images s head) (mems_in h k) z (v.sound.listed.mems_once k) i in
       elim (in_either z (membrane_images s head) (dropped_mems s head) j) [ inl l ↦ w.1 l | inr l ↦ o (hs.mem_holds z k l w.0) ]

@@ -4,7 +4,7 @@ use Rattle.std.specs.Option.{option_map}
 use Rattle.lmn_base.specs.declared.guard.Cond.{Cond}
 use Rattle.lmn_heap.specs.Heap.{Heap, HeapMem, Place, within, IsMem, atoms_in, mems_in, mem_place_of}
 use Rattle.lmn_heap.specs.Lists.{Distinct}
-use Rattle.lmn_heap.specs.Sound.{Forest, flat, Forms, Valid}
+use Rattle.lmn_heap.specs.Sound.{Forest, bare, mem, flat, Forms, Valid}
 use Rattle.lmn_heap.proofs.Groves.{list_inside, child_inside}
 use Rattle.lmn_solid.specs.declared.items.HeadItem.{HeadItem}
 use Rattle.lmn_solid.specs.declared.items.HeadItem.TheVariants.{Atom, Typed, Membrane}
@@ -15,7 +15,14 @@ use Rattle.lmn_splice.specs.Classes.{rising}
 use Rattle.lmn_body.specs.Fired.{images_of}
 use Rattle.lmn_body.specs.Rules.{HeadNests, PartAtoms}
 use Rattle.lmn_body.specs.Running.{Registers}
-use Rattle.lmn_body.specs.Within.{membrane_images}
+use Rattle.lmn_body.specs.Within.{membrane_images, dropped_mems, removed_mems, HoldsRests}
+use Rattle.lmn_body.specs.declared.items.BodyItem.{BodyItem}
+use Rattle.lmn_body.proofs.Dropping.{keep_in}
+use Rattle.lmn_body.proofs.Held.{Held}
+use Rattle.lmn_heap.proofs.ListLemmas.{in_left}
+use Rattle.lmn_parts.specs.Rests.{keep}
+use Rattle.lmn_parts.specs.Walks.{is_in}
+use Rattle.std.specs.Prelude.{not}
 use Rattle.lmn_body.proofs.Below.{removed_is, is_removed}
 use Rattle.lmn_body.proofs.Firing.{rising_below, heap_in_of}
 use Rattle.lmn_body.proofs.HeadPorts.{of_map}
@@ -131,3 +138,43 @@ module _ (h : Heap) (v : Valid h) (items : List HeadItem) (guard : List Cond) (m
       once = once;
       taken_home = taken_home;
     }
+
+    -- the same of all membranes that the rule removes
+    module _ (body : List BodyItem) (hs : Held h v items body m s parts) (rests : HoldsRests h s items) (made : List ℕ) (p : Placing h s (membrane_images s items) made (images_of s items ++ parts) m mi) where
+      widen : (y : ℕ) → In y (m ∷ membrane_images s items) → In y (m ∷ removed_mems s items)
+      widen y (inl e) = inl e
+      widen y (inr i) = inr (in_left y (membrane_images s items) (dropped_mems s items) i)
+
+      -- what stands in the membranes of a forest stands below those round it
+      forest_below : (f : Forest) (ms : List ℕ) → Forms h f ms → ((z : ℕ) → In z ms → In z (flat mi)) → (x : ℕ) → In x (flat f) → In x (flat mi)
+      forest_below bare ms F o x i = absurd i
+      forest_below (mem k i f) ms F o x (inl e) = subst (λ z. In z (flat mi)) e (o k (subst (In k) (sym F.1) (inl refl)))
+      forest_below (mem k i f) ms F o x (inr j) = elim (in_either x (flat i) (flat f) j) [
+        | inl l ↦ forest_below i (mems_in h k) F.2 (λ z w. child_inside h mi (mems_in h m) formed k z (o k (subst (In k) (sym F.1) (inl refl))) w) x l
+        | inr l ↦ forest_below f F.0 F.3 (λ z w. o z (subst (In z) (sym F.1) (inr w))) x l
+      ]
+
+      dropped_below : (x : ℕ) → In x (dropped_mems s items) → In x (flat mi)
+      dropped_below x i =
+          let w = hs.dm_holds x i in
+          let home = p.images_below (s.head.images.membrane w.0) (hs.closed_in w.0 w.1) in
+          elim w.2 [
+            | inl e ↦ subst (λ z. In z (flat mi)) e home
+            | inr j ↦ (let rest = (rests w.0 w.1.0 w.1.1 w.1.2).2 in
+                forest_below rest.forest (keep (λ x. not (is_in (membrane_images s items) x)) (mems_in h (s.head.images.membrane w.0))) rest.forms
+                (λ z l. child_inside h mi (mems_in h m) formed (s.head.images.membrane w.0) z home (keep_in (λ x. not (is_in (membrane_images s items) x)) (mems_in h (s.head.images.membrane w.0)) z l).0) x (subst (In x) rest.preorder j))
+          ]
+
+      pub placing_removed : Placing h s (removed_mems s items) made (images_of s items ++ parts) m mi
+      placing_removed = record {
+        at_home = p.at_home;
+        there = p.there;
+        formed = p.formed;
+        apart = p.apart;
+        images_there = hs.removed_mem;
+        images_below = λ x i. elim (in_either x (membrane_images s items) (dropped_mems s items) i) [ inl j ↦ p.images_below x j | inr j ↦ dropped_below x j ];
+        images_home = λ x y i j. elim (in_either x (membrane_images s items) (dropped_mems s items) i) [ inl l ↦ widen y (p.images_home x y l j) | inr l ↦ inr (hs.holds_removed y (hs.mem_holds x y l j)) ];
+        fresh = p.fresh;
+        once = p.once;
+        taken_home = λ a y i j. widen y (p.taken_home a y i j);
+      }

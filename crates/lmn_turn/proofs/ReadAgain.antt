@@ -23,13 +23,14 @@ use Rattle.lmn_compile_body.specs.Accepted.{AcceptedNested, IsCompilable, rule_b
 use Rattle.lmn_compile_body.proofs.BodyTrees.{flat_body, items_flat}
 use Rattle.lmn_body.specs.declared.items.BodyItem.{BodyItem}
 use Rattle.lmn_body.specs.Added.{made_mems}
+use Rattle.lmn_splice.specs.Splice as splice
 use Rattle.lmn_body.specs.Fired.{images_of}
 use Rattle.lmn_body.specs.Flattening.{BodyNames}
 use Rattle.lmn_body.specs.Running.{Registers, RunsBody}
-use Rattle.lmn_body.specs.Rules.{NestedRule}
+use Rattle.lmn_body.specs.Rules.{NestedRule, closed_rests}
 use Rattle.lmn_body.specs.Within.{membrane_images, dropped_mems, removed_mems, FiresWithin, HoldsRests}
 use Rattle.lmn_body.proofs.Below.{removed_is}
-use Rattle.lmn_body.proofs.Held.{Held, held}
+use Rattle.lmn_body.proofs.Held.{Held, held, rest_dropped}
 use Rattle.lmn_firing.specs.Accepted.{AcceptedFires, Fired}
 use Rattle.lmn_bridge.specs.HeapRegions.{HeapReading}
 use Rattle.lmn_bridge.specs.Premises.{IsRead, HasForest, IsRule}
@@ -40,7 +41,7 @@ use Rattle.lmn_turn.proofs.Leavings.{root_tree}
 use Rattle.lmn_turn.proofs.Made.{root_stays}
 use Rattle.lmn_turn.proofs.Namings.{names_of_naming, naming_of_names}
 use Rattle.lmn_turn.proofs.NamesKept.{LeavesNamed, body_named, names_known}
-use Rattle.lmn_turn.proofs.Places.{placing}
+use Rattle.lmn_turn.proofs.Places.{placing, placing_removed}
 use Rattle.lmn_turn.proofs.Turns.{Placing}
 use Rattle.lmn_base.specs.Graphs.{Port}
 use Rattle.lmn_heap.proofs.Common.{mem_stands}
@@ -115,15 +116,24 @@ module _ (firing : AcceptedFires) (head_law : AcceptedHeads) (nested : AcceptedN
   is_head = head_law.head table rule plan whole.ready
 
   -- the items of the rule, and what is asked of the rests that it drops
-  nested_flat : NestedRule items B (length rule.links)
+  pub nested_flat : NestedRule items B (length rule.links)
   nested_flat = subst (λ b. NestedRule items b (length rule.links)) body_is (nested table rule plan whole)
 
-  holds : Held h read.valid items B m s fired.parts
+  pub holds : Held h read.valid items B m s fired.parts
   holds = held h read.valid items B (length rule.links) m s nested_flat fired.least.embeds.lies (mem_stands h read.valid m there) rests fired.parts fired.are c (names_of_naming h read.valid r.name read.naming)
+
+  -- the membranes of a rest that the body copies are dropped
+  pub copied_dropped : (of : ℕ) → splice.IsOneOf of (closed_rests B) → (x : ℕ) → In x (s.left_membranes of) → In x (dropped_mems s items)
+  copied_dropped = rest_dropped h read.valid items B (length rule.links) m s nested_flat fired.least.embeds.lies (mem_stands h read.valid m there) rests fired.parts fired.are c (names_of_naming h read.valid r.name read.naming)
 
   module _ (f : FiresWithin h (λ p. r.name p.0 p.1) s (head_items rule plan) (flat_body (rule_body_names rule plan) 0 (1 + length (membranes_of (head_items rule plan))) (head_at rule.body)) (images_of s (head_items rule plan) ++ fired.parts) h') where
     pub place : Placing h s (membrane_images s items) (made_mems s f.rests low B) taken m mi
     place = placing h read.valid items rule.guard m mi s fired.least.embeds nested_flat.head_nests is_head.inside there forest.forms forest.once fired.parts fired.are (made_mems s f.rests low B) f.made_fresh f.made_once
+
+    -- the same of all membranes that the rule removes
+    pub place_removed : Placing h s (removed_mems s items) (made_mems s f.rests low B) taken m mi
+    place_removed =
+        placing_removed h read.valid items rule.guard m mi s fired.least.embeds nested_flat.head_nests is_head.inside there forest.forms forest.once fired.parts fired.are B holds rests (made_mems s f.rests low B) place
 
     pub same_root : h'.root ≡ h.root
     same_root = root_stays s (rule_body_code rule plan) h h' runs
