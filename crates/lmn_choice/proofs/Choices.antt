@@ -14,6 +14,7 @@ use Rattle.lmn_compile_head.specs.Accepted.{AcceptedHeads, AcceptedLeast, head_i
 use Rattle.lmn_compile_head.specs.Heads.{kind_in}
 use Rattle.lmn_compile_head.specs.Laws.{CodeOfEmbeddings}
 use Rattle.lmn_body.specs.Running.{Registers, RunsBody}
+use Rattle.lmn_body.specs.Within.{HoldsRests}
 use Rattle.lmn_adequacy.specs.Choice.{ChosenFrom, asked_paths}
 use Rattle.lmn_adequacy.specs.Embedding.{EmbedsAt, EmbedsIn}
 use Rattle.lmn_adequacy.specs.Laws.{EmbeddingsFire, FiringsCommit, NumberingExists, RenamedNext}
@@ -24,6 +25,7 @@ use Rattle.lmn_bridge.specs.Numbers.{numbers_left}
 use Rattle.lmn_bridge.proofs.Results.{root_forest}
 use Rattle.lmn_bridge.proofs.Wholes.{closed_heap, all_accepted}
 use Rattle.lmn_strategy.specs.Choosing.{CodeSucceeds}
+use Rattle.lmn_strategy.specs.Turns.{HoldsRestsOf}
 use Rattle.lmn_turn.specs.Commits.{IsTable, Turned, TurnsCommit}
 use Rattle.lmn_turn.specs.Turning.{Leads, renumbered_reading}
 use Rattle.lmn_choice.specs.Laws.{ChoicesAgree, ChoicesAlike, HeapsAreNumbered}
@@ -35,6 +37,7 @@ use Rattle.lmn_choice.proofs.Numbers.{numbered_alike}
 use Rattle.lmn_choice.proofs.Paths.{forest_there, leads_to_one}
 use Rattle.lmn_choice.proofs.Placed.{AtEnd, at_end, at_path}
 use Rattle.lmn_choice.proofs.Renumbering.{table_as}
+use Rattle.lmn_choice.proofs.RestsHeld.{RestsOfRule}
 use Rattle.lmn_heap.proofs.Common.{in_at as got_in}
 use Rattle.lmn_base.specs.Lists.{In}
 
@@ -52,6 +55,10 @@ module _ (table : List RuleTree) (plans : List GuardPlan) (codes : List Code) (c
 
   pub first_of : IsFirstSuccess h (rule_head_code rule_of.rule rule_of.plan) m s.head
   first_of = subst (λ z. IsFirstSuccess h z m s.head) (ap (λ z. z.head) code_of ∙ rule_of.head) ch.first
+
+  -- what is left in its membranes with closed contexts
+  pub rests_held : RestsOfRule → HoldsRests h s (head_items rule_of.rule rule_of.plan)
+  rests_held law = law table rule_of.rule rule_of.plan rule_of.whole h w.read.valid m s first_of (subst (λ z. HoldsRestsOf h z s) (ap (λ z. z.head) code_of ∙ rule_of.head) ch.rests)
 
   -- its membrane
   pub inside : In m (membranes_in_preorder h inner)
@@ -150,11 +157,11 @@ module _ (table : List RuleTree) (plans : List GuardPlan) (codes : List Code) (c
           commit = commits S S' (closed_heap h r inner w.read w.tree) (all_accepted h r table w.rules h.root inner) (record { path = t.next.path; number = ch.place; positions = numbers_of; next = next });
         }
 
-    pub run_is_next : HeapsAreNumbered → RenamedNext → FiringsCommit → TurnsCommit → IsTable r table → (h' : Heap) → RunsBody s code.body h h' → IsNextHeap from h r inner table h'
-    run_is_next numbering renaming commits turns tab h' runs =
+    pub run_is_next : HeapsAreNumbered → RenamedNext → FiringsCommit → TurnsCommit → RestsOfRule → IsTable r table → (h' : Heap) → RunsBody s code.body h h' → IsNextHeap from h r inner table h'
+    run_is_next numbering renaming commits turns rests tab h' runs =
         let u = rule_of in
         next_heap numbering renaming commits tab h' (turns table u.rule u.plan u.whole h r inner w.read w.tree w.rules m forest_of.0
-        (is_mem h w.read.valid.sound (tree_over h inner) w.tree m inside) forest_of.1 ch.place ch.number ch.chosen.rule.stands u.is s first_of h'
+        (is_mem h w.read.valid.sound (tree_over h inner) w.tree m inside) forest_of.1 ch.place ch.number ch.chosen.rule.stands u.is s first_of (rests_held rests) h'
         (subst (λ z. RunsBody s z h h') (ap (λ z. z.body) code_of ∙ u.body) runs))
 
 -- what is chosen by code is chosen by the calculus
@@ -163,6 +170,6 @@ choices_alike heads embeddings alike least_law first_alike fire exists renaming 
     choice_is table plans codes c h r inner w from code s ch heads embeddings alike least_law first_alike fire exists renaming
 
 -- and the run of its body code leaves the next heap
-pub choices_agree : AcceptedHeads → CodeOfEmbeddings → EmbedsAlike → AcceptedLeast → LeastAlike → HeapsAreNumbered → RenamedNext → FiringsCommit → TurnsCommit → ChoicesAgree
-choices_agree heads embeddings alike least_law first_alike numbering renaming commits turns table plans codes c h r inner w tab from code s ch h' runs =
-    run_is_next table plans codes c h r inner w from code s ch heads embeddings alike least_law first_alike numbering renaming commits turns tab h' runs
+pub choices_agree : AcceptedHeads → CodeOfEmbeddings → EmbedsAlike → AcceptedLeast → LeastAlike → HeapsAreNumbered → RenamedNext → FiringsCommit → TurnsCommit → RestsOfRule → ChoicesAgree
+choices_agree heads embeddings alike least_law first_alike numbering renaming commits turns rests table plans codes c h r inner w tab from code s ch h' runs =
+    run_is_next table plans codes c h r inner w from code s ch heads embeddings alike least_law first_alike numbering renaming commits turns rests tab h' runs

@@ -15,8 +15,7 @@ use Rattle.lmn_ground.proofs.GroundLaws.{part_atoms}
 use Rattle.lmn_body.proofs.Brought.{brings_copied, brings_listed}
 use Rattle.lmn_bridge.proofs.Runs.{in_run, run_distinct}
 use Rattle.lmn_bridge.proofs.Walking.{run}
-use Rattle.lmn_commit.specs.Preparing.{CanBeCopied, OnlyMakes}
-use Rattle.lmn_commit.proofs.Waiting.{makes_copy}
+use Rattle.lmn_commit.specs.Preparing.{CanBeCopied}
 use Rattle.lmn_choice.proofs.Runs.{Bounded}
 use Rattle.lmn_heap.proofs.Common.{decide_in, is_atom_at}
 use Rattle.lmn_heap.proofs.Replacing.{port_within}
@@ -78,7 +77,8 @@ leads_to_atom s sound root p b e = by (is_port p root) e
     by true q = absurd (cc)
     by false q = other (link_of s p.0 p.1) refl q
 
-length_run : (f : ℕ → ℕ) (n k : ℕ) → length (run f n k) ≡ k
+-- a row has as many values as it is long
+pub length_run : (f : ℕ → ℕ) (n k : ℕ) → length (run f n k) ≡ k
 length_run f n zero = refl
 length_run f n (suc k) = let u = length_run f (n + 1) k in omega (arith, u)
 
@@ -90,7 +90,6 @@ pub record HasCopy (s : Heap) (root : ℕ × ℕ) (number : ℕ → ℕ) (q : �
   pub is : Copied s heap root new_root
   pub atoms : is.copies ≡ run number q many
   pub sound : Sound heap
-  pub makes : OnlyMakes s heap
 
 -- a part that can be copied has a copy with these numbers
 pub copy_exists : (s : Heap) → Sound s → (all : List ℕ) → Bounded s all → (root : ℕ × ℕ) → CanBeCopied s root → (number : ℕ → ℕ) (q : ℕ) → ((i j : ℕ) → number i ≡ number j → i ≡ j) → ((j : ℕ) → q ≤ j → s.atoms (number j) ≡ None) → HasCopy s root number q
@@ -129,7 +128,6 @@ copy_exists s sound all bounded root can number q apart fresh =
       is = c;
       atoms = refl;
       sound = record { paired = b.paired sound.paired; listed = brings_listed s t ys b beside.mems beside.new_mems beside.root sound.listed; shaped = b.shaped sound.shaped };
-      makes = makes_copy s t root new_root c;
     }
 
 -- ---- copies, as registers

@@ -1,23 +1,23 @@
--- A cost is told by registers of the head alone.
-use Rattle.std.proofs.Common.{ℕ, ◌≡◌, ◌+◌, ◌<◌, List, [], ◌∷◌, ◌++◌, map, length, refl, sym, subst, inl, inr, arith}
+-- A cost is told by registers of the head, and by what they hold of rests.
+use Rattle.std.proofs.Common.{ℕ, ◌≡◌, ◌+◌, ◌<◌, Bool, true, false, List, [], ◌∷◌, ◌++◌, map, length, refl, sym, subst, ◌∙◌, inl, inr, arith}
+use Rattle.std.specs.Prelude.{if◌then◌else◌, sum}
 use Rattle.lmn_heap.specs.Heap.{Heap, rules_in}
 use Rattle.lmn_solid.specs.declared.items.HeadItem.{HeadItem}
-use Rattle.lmn_solid.specs.Heads.{atoms_of, membranes_of, typed_contexts_of}
+use Rattle.lmn_solid.specs.Heads.{HeadMembrane, atoms_of, membranes_of, typed_contexts_of}
 use Rattle.lmn_splice.specs.Classes.{class_of, ends_of_class, rising}
 use Rattle.lmn_splice.specs.Splice as splice
 use Rattle.lmn_instr.specs.declared.instr.AtomPort.{AtomPort}
 use Rattle.lmn_instr.specs.declared.instr.NewPort.{NewPort}
 use Rattle.lmn_instr.specs.declared.instr.Instr.{Instr}
-use Rattle.lmn_instr.specs.declared.instr.Instr.TheVariants.{RemoveAtom, RemovePart, RemoveMem, CopyGround, CopyRules, Proceed}
-use Rattle.lmn_instr.specs.Running.{HeadRegisters}
+use Rattle.lmn_instr.specs.declared.instr.Instr.TheVariants.{RemoveAtom, RemovePart, RemoveMem, CopyGround, CopyCells, CopyRules, DropCells, Proceed}
 use Rattle.lmn_body.specs.declared.items.BodyItem.{BodyItem}
 use Rattle.lmn_body.specs.declared.items.BodyItem.TheVariants.{Atom, Connector, Copy, Bound, Membrane, Rest, Rule, Rules}
-use Rattle.lmn_body.specs.Code.{body_code, link_code, links_code, making, removals}
+use Rattle.lmn_body.specs.Code.{body_code, drops, link_code, links_code, making, removals}
 use Rattle.lmn_body.specs.Items.{connectors, new_ports, old_ports}
 use Rattle.lmn_body.specs.Rules.{WellPlaced}
 use Rattle.lmn_body.specs.Running.{Registers as BodyRegisters, Prepares}
 use Rattle.lmn_body.proofs.Firing.{rising_below}
-use Rattle.lmn_machine.specs.Costs.{AddsItems, InAll, IsSize, Leaves, TakesItems}
+use Rattle.lmn_machine.specs.Costs.{AddsItems, InAll, IsRestSize, IsSize, Leaves, TakesItems}
 
 -- ---- instructions that make nothing
 
@@ -64,6 +64,15 @@ quiet_links r s m news olds [] = refl
 quiet_links r s m news olds (z ∷ zs) =
     prepares_join r (link_code (ends_of_class m z news) (ends_of_class m z olds)) (links_code m news olds zs) s s s (quiet_link r s (ends_of_class m z news) (ends_of_class m z olds)) (quiet_links r s m news olds zs)
 
+-- nor does what is dropped
+pub quiet_drops : (r : BodyRegisters) (s : Heap) (k : ℕ) (bs : List HeadMembrane) → Prepares r (drops k bs) s s
+quiet_drops r s k [] = refl
+quiet_drops r s k (b ∷ bs) = by b.has_closed_context (quiet_drops r s (k + 1) bs)
+  where
+    by : (t : Bool) → Prepares r (drops (k + 1) bs) s s → Prepares r ((if t then DropCells k ∷ [] else []) ++ drops (k + 1) bs) s s
+    by true rest = (s, refl, rest)
+    by false rest = rest
+
 -- ---- what is read to tell a cost
 
 -- the membranes that are read are below m
@@ -100,9 +109,18 @@ read_making K a m c (Connector left right ∷ xs) p = read_making K a m c xs p
 read_making K a m c (Copy part link inside ∷ xs) p = (tt, read_making K a m (c + 1) xs p.1)
 read_making K a m c (Bound integer link inside ∷ xs) p = (tt, read_making K (a + 1) m c xs p.1)
 read_making K a m c (Membrane inside ∷ xs) p = (tt, read_making K a (m + 1) c xs p.1)
-read_making K a m c (Rest of closed inside ∷ xs) p = (tt, read_making K a m c xs p.3)
+read_making K a m c (Rest of false inside ∷ xs) p = (tt, read_making K a m c xs p.3)
+read_making K a m c (Rest of true inside ∷ xs) p = (tt, read_making K a m c xs p.2)
 read_making K a m c (Rule rule inside ∷ xs) p = (tt, read_making K a m c xs p.1)
 read_making K a m c (Rules of inside ∷ xs) p = (let e = p.0.1 in let l = p.0.2 in omega (arith, e, l), read_making K a m c xs p.2)
+
+read_drops : (m k : ℕ) (bs : List HeadMembrane) → AllRead m (drops k bs)
+read_drops m k [] = tt
+read_drops m k (b ∷ bs) = by b.has_closed_context (read_drops m (k + 1) bs)
+  where
+    by : (t : Bool) → AllRead m (drops (k + 1) bs) → AllRead m ((if t then DropCells k ∷ [] else []) ++ drops (k + 1) bs)
+    by true rest = (tt, rest)
+    by false rest = rest
 
 read_link : (m : ℕ) (ps : List NewPort) (hs : List AtomPort) → AllRead m (link_code ps hs)
 read_link m [] [] = tt
@@ -127,25 +145,33 @@ body_reads head body n p =
     let K = length (membranes_of head) in
     let T = length (typed_contexts_of head) in
     let make = making N (1 + K) 0 body in
+    let drop = drops 1 (membranes_of head) in
     let links = links_code (class_of (connectors body)) (new_ports N 0 body) (old_ports head) (rising 0 n) in
-    read_both (1 + K) (removals head) (make ++ (links ++ (Proceed ∷ [])))
+    read_both (1 + K) (removals head) (make ++ (drop ++ (links ++ (Proceed ∷ []))))
     (read_both (1 + K) (map RemoveAtom (rising 0 N)) (map RemovePart (rising 0 T) ++ map RemoveMem (rising 1 K)) (read_atoms (1 + K) (rising 0 N))
     (read_both (1 + K) (map RemovePart (rising 0 T)) (map RemoveMem (rising 1 K)) (read_parts (1 + K) (rising 0 T))
     (read_mems (1 + K) (rising 1 K) (λ x i. let l = (rising_below K 1 x i).1 in omega (arith, l)))))
-    (read_both (1 + K) make (links ++ (Proceed ∷ [])) (read_making K N (1 + K) 0 body p)
-    (read_both (1 + K) links (Proceed ∷ []) (read_links (1 + K) (class_of (connectors body)) (new_ports N 0 body) (old_ports head) (rising 0 n)) (tt, tt)))
+    (read_both (1 + K) make (drop ++ (links ++ (Proceed ∷ []))) (read_making K N (1 + K) 0 body p)
+    (read_both (1 + K) drop (links ++ (Proceed ∷ [])) (read_drops (1 + K) 1 (membranes_of head))
+    (read_both (1 + K) links (Proceed ∷ []) (read_links (1 + K) (class_of (connectors body)) (new_ports N 0 body) (old_ports head) (rising 0 n)) (tt, tt))))
 
 -- ---- registers that agree there
 
-module _ (h : Heap) (s t : HeadRegisters) (m : ℕ) (same_part : (g : ℕ) → t.images.part g ≡ s.images.part g) (same_mem : (k : ℕ) → k < m → t.images.membrane k ≡ s.images.membrane k) where
+module _ (h : Heap) (s t : BodyRegisters) (m : ℕ) (same_part : (g : ℕ) → t.head.images.part g ≡ s.head.images.part g) (same_mem : (k : ℕ) → k < m → t.head.images.membrane k ≡ s.head.images.membrane k)
+    (same_atoms : (k : ℕ) → t.left_atoms k ≡ s.left_atoms k) (same_mems : (k : ℕ) → t.left_membranes k ≡ s.left_membranes k) where
+  rest_size_so : (k n : ℕ) → IsRestSize h s k n → IsRestSize h t k n
+  rest_size_so k n a = let p = sym (same_atoms k) in let q = sym (same_mems k) in a ∙ (λ i. length (p i) + sum (map (λ x. 1 + length (rules_in h x)) (q i)))
+
   adds_so : (i : Instr) (n : ℕ) → Reads m i → AddsItems h s i n → AddsItems h t i n
   adds_so (CopyGround c k g) n l a = subst (λ z. IsSize h z n) (sym (same_part g)) a
+  adds_so (CopyCells k y) n l a = rest_size_so k n a
   adds_so (CopyRules k y) n l a = subst (λ z. n ≡ length (rules_in h z)) (sym (same_mem k l)) a
   adds_so i n l a = a
 
   takes_so : (i : Instr) (n : ℕ) → Reads m i → TakesItems h s i n → TakesItems h t i n
   takes_so (RemovePart g) n l a = subst (λ z. IsSize h z n) (sym (same_part g)) a
   takes_so (RemoveMem k) n l a = subst (λ z. n ≡ 1 + length (rules_in h z)) (sym (same_mem k l)) a
+  takes_so (DropCells k) n l a = rest_size_so k n a
   takes_so i n l a = a
 
   in_all_so : (P Q : Instr → ℕ → Type 0) → ((i : Instr) (n : ℕ) → Reads m i → P i n → Q i n) → (is : List Instr) (n : ℕ) → AllRead m is → InAll P is n → InAll Q is n

@@ -16,7 +16,8 @@ use Rattle.lmn_cost.specs.Laws.{CostIsTold}
 use Rattle.lmn_cost.proofs.Totals.{total_is_sum}
 use Rattle.lmn_choice.specs.Laws.{CostsAreItems}
 use Rattle.lmn_choice.specs.Turns.{tree_over, heap_region}
-use Rattle.lmn_choice.proofs.Choices.{rule_of, code_of, first_of, inside}
+use Rattle.lmn_choice.proofs.Choices.{rule_of, code_of, first_of, inside, rests_held}
+use Rattle.lmn_choice.proofs.RestsHeld.{RestsOfRule}
 use Rattle.lmn_base.proofs.Lists.{weigh as total, weigh_append}
 use Rattle.lmn_heap.proofs.Common.{mem_stands as mem_in_place}
 
@@ -46,15 +47,15 @@ module _ (h : Heap) (v : Valid h) (r : HeapReading) where
       omega arith
 
 -- the cost is the number of items of the region that is left
-pub costs_are_items : CostIsTold → CostsAreItems
-costs_are_items law table plans codes c h r inner w from code s ch h' runs r' inner' read tr k =
+pub costs_are_items : CostIsTold → RestsOfRule → CostsAreItems
+costs_are_items law rests table plans codes c h r inner w from code s ch h' runs r' inner' read tr k =
     let u = rule_of table plans codes c h r inner w from code s ch in
     let body : code.body ≡ rule_body_code u.rule u.plan = ap (λ z. z.body) (code_of table plans codes c h r inner w from code s ch) ∙ u.body in
     let m = ch.membrane in
     let there = is_mem h w.read.valid.sound (tree_over h inner) w.tree m (inside table plans codes c h r inner w from code s ch) in
     let told = law.told table u.rule u.plan h m s
-    (record { whole = u.whole; valid = w.read.valid; placed = mem_in_place h w.read.valid m there; first = first_of table plans codes c h r inner w from code s ch }) h' (subst (λ z. RunsBody s z h h') body runs) (tree_over h' inner') tr k in
+    (record { whole = u.whole; valid = w.read.valid; placed = mem_in_place h w.read.valid m there; first = first_of table plans codes c h r inner w from code s ch; rests = rests_held table plans codes c h r inner w from code s ch rests }) h' (subst (λ z. RunsBody s z h h') body runs) (tree_over h' inner') tr k in
     let all = items_read h' read.valid r' inner' in (
-      (λ l. let e : k + 1 ≡ item_count_in h' (flat (tree_over h' inner')) = told.0 (subst (λ z. Leaves h s.head z k) body l) in omega (arith, e, all)),
-      (λ q. subst (λ z. Leaves h s.head z k) (sym body) (told.1 (let e : item_count_of_region (heap_region h' r' inner') ≡ k = q in omega (arith, e, all)))),
+      (λ l. let e : k + 1 ≡ item_count_in h' (flat (tree_over h' inner')) = told.0 (subst (λ z. Leaves h s z k) body l) in omega (arith, e, all)),
+      (λ q. subst (λ z. Leaves h s z k) (sym body) (told.1 (let e : item_count_of_region (heap_region h' r' inner') ≡ k = q in omega (arith, e, all)))),
     )

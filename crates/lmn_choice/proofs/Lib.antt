@@ -5,6 +5,7 @@ mod Placed
 mod Codes
 mod Ends
 mod Renumbering
+mod RestsHeld
 mod Choices
 mod Asked
 mod Items
@@ -13,6 +14,7 @@ mod ExampleHeaps
 mod Choosers
 mod Runs
 mod Copying
+mod RestCopying
 mod Makings
 mod Fresh
 mod Costs

@@ -3,11 +3,13 @@ use Rattle.std.proofs.Common.{ℕ, ◌≡◌, ◌==◌, Bool, true, false, cond,
 use Rattle.std.specs.Prelude.{◌&&◌}
 use Rattle.std.specs.Option.{option_map, option_and_then}
 use Rattle.std.proofs.lemmas.Bool.{eq-eqb}
-use Rattle.lmn_heap.specs.Heap.{Heap, HeapAtom, IsAtom, alter, after, atom_sent, cleared, finished, from, gone, joined, link_of, linked, moved_all, placed, placed_mem, rule_added, rules_copied, taken, taken_mem, unless_gone, with_link, with_place, within, taken_all}
+use Rattle.lmn_heap.specs.Heap.{Heap, HeapAtom, IsAtom, alter, after, atom_sent, atoms_in, cleared, finished, from, gone, joined, link_of, linked, moved_all, parent_of, placed, placed_mem, rule_added, rules_copied, taken, taken_mem, unless_gone, with_link, with_place, within, taken_all}
 use Rattle.lmn_heap.specs.Splice.{joined_both, joined_to}
+use Rattle.lmn_parts.specs.Copies.{answer}
+use Rattle.lmn_parts.specs.Rests.{all_mems_taken, atoms_placed, copy_round, membrane_placed, membranes_placed, rest_placed, rest_taken}
 use Rattle.lmn_splice.specs.Ties.{Tie, newlink, relink, unify}
 use Rattle.lmn_instr.specs.declared.instr.Instr.{Instr}
-use Rattle.lmn_instr.specs.declared.instr.Instr.TheVariants.{RemoveAtom, RemovePart, RemoveMem, NewAtom, NewInt, NewMem, CopyGround, MoveCells, LoadRule, CopyRules, NewLink, Relink, Unify, Proceed}
+use Rattle.lmn_instr.specs.declared.instr.Instr.TheVariants.{RemoveAtom, RemovePart, RemoveMem, NewAtom, NewInt, NewMem, CopyGround, MoveCells, CopyCells, LoadRule, CopyRules, DropCells, NewLink, Relink, Unify, Proceed}
 use Rattle.lmn_body.specs.Conditions.{Can, CanRun, IsFirstOf}
 use Rattle.lmn_body.specs.Running.{Registers, Does, DoesAll, all_placed, new_port, old_port}
 use Rattle.lmn_body.specs.Tied.{tied}
@@ -74,6 +76,25 @@ all_placed_fewer : (es : List (ℕ × ℕ)) (s : Heap) → Fewer (all_placed s e
 all_placed_fewer [] s a i = i
 all_placed_fewer (e ∷ es) s a i = altered s.atoms e.1 (with_place (within e.0)) a (all_placed_fewer es (placed s e.0 e.1) a i)
 
+copies_fewer : (copy : ℕ → ℕ) (n : ℕ) (xs : List ℕ) (s : Heap) → Fewer (atoms_placed copy s n xs).atoms s.atoms
+copies_fewer copy n [] s a i = i
+copies_fewer copy n (x ∷ xs) s a i = altered s.atoms (copy x) (with_place (within n)) a (copies_fewer copy n xs (placed s n (copy x)) a i)
+
+membranes_fewer : (copy_mem copy : ℕ → ℕ) (ms : List ℕ) (s : Heap) → Fewer (membranes_placed copy_mem copy s ms).atoms s.atoms
+membranes_fewer copy_mem copy [] s a i = i
+membranes_fewer copy_mem copy (m ∷ ms) s a i =
+    let n = copy_mem m in
+    copies_fewer copy n (atoms_in s m) (rules_copied (placed_mem s (copy_round copy_mem (parent_of s m)) n) m n) a (membranes_fewer copy_mem copy ms (membrane_placed copy_mem copy s m) a i)
+
+rest_fewer : (s : Heap) (m n : ℕ) (atoms membranes copies new_membranes : List ℕ) → Fewer (rest_placed s m n atoms membranes copies new_membranes).atoms s.atoms
+rest_fewer s m n atoms membranes copies new_membranes a i =
+    let copy = answer atoms copies in
+    copies_fewer copy n (atoms_in s m) s a (membranes_fewer (answer (m ∷ membranes) (n ∷ new_membranes)) copy membranes (atoms_placed copy s n (atoms_in s m)) a i)
+
+mems_taken_fewer : (ms : List ℕ) (s : Heap) → Fewer (all_mems_taken s ms).atoms s.atoms
+mems_taken_fewer [] s a i = i
+mems_taken_fewer (m ∷ ms) s a i = mems_taken_fewer ms (taken_mem s m) a i
+
 -- ---- one instruction
 
 -- the atoms of a heap stand in a list
@@ -111,8 +132,21 @@ can_do r (CopyGround k m g) s xs b c =
     let es = map (λ a. (r.head.images.membrane m, a)) (r.copied k) in
     record { heap = all_placed s es; does = (c.1.0, c.1.1, refl); fewer = all_placed_fewer es s }
 can_do r (MoveCells m n) s xs b c = record { heap = moved_all s (r.head.images.membrane m) (r.head.images.membrane n); does = refl; fewer = λ a i. map_some (s.atoms a) (atom_sent (r.head.images.membrane m) (r.head.images.membrane n)) i }
+can_do r (CopyCells m n) s xs b c =
+    let to = r.head.images.membrane n in
+    let home = r.head.images.membrane m in
+    record {
+      heap = rest_placed s home to (r.left_atoms m) (r.left_membranes m) c.2.0 c.2.1;
+      does = (c.2.0, c.2.1, c.2.2, refl);
+      fewer = rest_fewer s home to (r.left_atoms m) (r.left_membranes m) c.2.0 c.2.1;
+    }
 can_do r (LoadRule m k) s xs b c = record { heap = rule_added s (r.head.images.membrane m) k; does = refl; fewer = λ a i. i }
 can_do r (CopyRules m n) s xs b c = record { heap = rules_copied s (r.head.images.membrane m) (r.head.images.membrane n); does = refl; fewer = λ a i. i }
+can_do r (DropCells m) s xs b c = record {
+  heap = rest_taken s (r.left_atoms m) (r.left_membranes m);
+  does = (c.1, refl);
+  fewer = λ a i. all_taken_fewer (r.left_atoms m) s a (mems_taken_fewer (r.left_membranes m) (taken_all s (r.left_atoms m)) a i);
+}
 can_do r (NewLink p q) s xs b c = record { heap = tied s (newlink (new_port r p) (new_port r q)); does = refl; fewer = tied_fewer s (newlink (new_port r p) (new_port r q)) }
 can_do r (Relink p h) s xs b c = record { heap = tied s (relink (new_port r p) (old_port r h)); does = refl; fewer = tied_fewer s (relink (new_port r p) (old_port r h)) }
 can_do r (Unify g h) s xs b c = record { heap = tied s (unify (old_port r g) (old_port r h)); does = refl; fewer = tied_fewer s (unify (old_port r g) (old_port r h)) }

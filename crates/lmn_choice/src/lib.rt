@@ -15,6 +15,7 @@ use lmn_bridge::{least_embeddings_are_alike, rules_embed_alike};
 use lmn_compile_body::accepted_bodies;
 use lmn_compile_head::{accepted_heads, accepted_least, code_means_embedding};
 use lmn_cost::commits_cost_what_is_told;
+use lmn_matching::accepted_sets_items;
 use lmn_turn::{turns_commit, turns_end_exactly};
 
 /// The paths of the calculus and the membranes of a heap have the same numbers, so they are asked in the same order, and one
@@ -56,6 +57,8 @@ pub fn choices_agree()
     code_means_embedding();
     rules_embed_alike();
     accepted_least();
+    accepted_bodies();
+    accepted_sets_items();
     least_embeddings_are_alike();
     turns_commit();
     heaps_are_numbered();
@@ -67,6 +70,9 @@ pub fn choices_agree()
 pub fn costs_are_items()
     ensures { CostsAreItems }
 {
+    accepted_least();
+    accepted_bodies();
+    accepted_sets_items();
     commits_cost_what_is_told();
 }
 
@@ -77,6 +83,7 @@ pub fn costs_are_told()
     accepted_heads();
     accepted_least();
     accepted_bodies();
+    accepted_sets_items();
     body_code_can_run();
     links_have_numbers();
     choices_agree();
