@@ -86,7 +86,7 @@ module _ (names : List Name) (table : List RuleTree) (c : Chooser) (n size : ℕ
       -- what a turn leaves
       pub turned : (answer : Turn) (h' : Heap) → Valid h' → IsTurn h codes (tree_over h o.inner) from size answer h' → IsTurned names table c size n S answer h'
       turned Committed h' v t =
-          let chosen : IsChosen from codes h o.inner t.code t.registers = record { membrane = t.membrane; place = t.place; number = t.rule; chosen = t.chosen; is = t.is; first = t.first } in
+          let chosen : IsChosen from codes h o.inner t.code t.registers = record { membrane = t.membrane; place = t.place; number = t.rule; chosen = t.chosen; is = t.is; first = t.first; rests = t.rests } in
           let next = (the_agreement).next t.code t.registers chosen h' t.answered.1 in
           let S' = heap_region h' (renumbered_reading (reading_by names table o.number) next.number) next.forest in
           let holds : HoldsRegion names table h' S' = record { number = λ a i. next.number (a, i); inner = next.forest; read = next.again.read; tree = next.again.tree; rules = next.again.rules; keeps = next.of_table; is = refl; numbered = next.numbered } in (
@@ -97,11 +97,11 @@ module _ (names : List Name) (table : List RuleTree) (c : Chooser) (n size : ℕ
           )
       turned Irreducible h' v t = (done alike have h S o t.0, subst (λ k. HoldsRegion names table k S) (sym t.1) o)
       turned Full h' v t =
-          let chosen : IsChosen from codes h o.inner t.code t.registers = record { membrane = t.membrane; place = t.place; number = t.rule; chosen = t.chosen; is = t.is; first = t.first } in
+          let chosen : IsChosen from codes h o.inner t.code t.registers = record { membrane = t.membrane; place = t.place; number = t.rule; chosen = t.chosen; is = t.is; first = t.first; rests = t.rests } in
           let told = (the_agreement).told t.code t.registers chosen t.left t.leaves in
           ((told.0, turn_to told.0 told.1 told.2, subst (λ k. size < k) (sym told.3) t.answered.0), subst (λ k. HoldsRegion names table k S) (sym t.answered.1) o)
       turned NoMemory h' v t =
-          let chosen : IsChosen from codes h o.inner t.code t.registers = record { membrane = t.membrane; place = t.place; number = t.rule; chosen = t.chosen; is = t.is; first = t.first } in
+          let chosen : IsChosen from codes h o.inner t.code t.registers = record { membrane = t.membrane; place = t.place; number = t.rule; chosen = t.chosen; is = t.is; first = t.first; rests = t.rests } in
           let told = (the_agreement).told t.code t.registers chosen t.left t.leaves in
           let same = spares h h' (reading_by names table o.number) o.inner table t.answered.1 v (read_with h S o) in
           let holds : HoldsRegion names table h' S = record { number = o.number; inner = o.inner; read = same.0.read; tree = same.0.tree; rules = same.0.rules; keeps = o.keeps; is = o.is ∙ sym same.1; numbered = o.numbered } in
