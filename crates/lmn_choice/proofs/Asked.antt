@@ -15,7 +15,7 @@ use Rattle.lmn_compile_head.specs.Heads.{kind_in}
 use Rattle.lmn_compile_head.specs.Laws.{CodeOfEmbeddings}
 use Rattle.lmn_congruence.specs.Regions.{Region, Regions}
 use Rattle.lmn_adequacy.specs.Embedding.{EmbedsAt, EmbedsIn, TakenRegion, region_first, region_later}
-use Rattle.lmn_bridge.specs.HeapRegions.{HeapReading, region_at, regions_at}
+use Rattle.lmn_bridge.specs.HeapRegions.{HeapReading, region_at}
 use Rattle.lmn_bridge.specs.Laws.{EmbedsAlike}
 use Rattle.lmn_bridge.specs.Numbers.{numbers_left}
 use Rattle.lmn_bridge.specs.Premises.{HasForest}

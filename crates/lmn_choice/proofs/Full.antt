@@ -12,7 +12,7 @@ use Rattle.lmn_solid.specs.Embeddings.{HasTyped, Images, IsLeast}
 use Rattle.lmn_splice.specs.Classes.{class_of, rising}
 use Rattle.lmn_instr.specs.declared.instr.Code.{Code}
 use Rattle.lmn_instr.specs.declared.instr.Instr.TheVariants.{Proceed}
-use Rattle.lmn_instr.specs.Running.{HeadRegisters, IsFirstSuccess, atoms_set, membranes_set}
+use Rattle.lmn_instr.specs.Running.{HeadRegisters, IsFirstSuccess}
 use Rattle.lmn_compile_head.specs.Accepted.{AcceptedHeads, AcceptedLeast, head_items, rule_head_code}
 use Rattle.lmn_compile_body.specs.Accepted.{AcceptedNested, rule_body_code, rule_body_items}
 use Rattle.lmn_body.specs.declared.items.BodyItem.{BodyItem}

@@ -3,7 +3,7 @@ use Rattle.std.proofs.Common.{ℕ, ◌≡◌, ◌≢◌, ◌⊎◌, ◌+◌, ◌
 use Rattle.std.specs.Option.{option_map}
 use Rattle.std.proofs.lemmas.Bool.{cases_eq, eqb-true}
 use Rattle.lmn_base.specs.declared.functor.Functor.{Functor}
-use Rattle.lmn_heap.specs.Heap.{Heap, HeapMem, IsMem, alter, link_of, made_atom, made_mem, mem_with_spare, new_atom, new_mem, partners_of, reserved, spare_by, spare_of}
+use Rattle.lmn_heap.specs.Heap.{Heap, HeapMem, IsMem, alter, made_atom, made_mem, mem_with_spare, new_atom, new_mem, partners_of, reserved, spare_by, spare_of}
 use Rattle.lmn_body.specs.declared.items.BodyItem.{BodyItem}
 use Rattle.lmn_body.specs.declared.items.BodyItem.TheVariants.{Atom, Connector, Copy, Bound, Membrane, Rest, Rule, Rules}
 use Rattle.lmn_body.specs.Added.{if_inside, named_rules}
@@ -25,7 +25,6 @@ use Rattle.lmn_body.proofs.MemsMade.{MemsMade, made_one_mem, reserved_mems}
 use Rattle.lmn_body.proofs.RestMems.{rest_listed, rest_mems}
 use Rattle.lmn_body.proofs.RestsMade.{IsClosed, brings_rest}
 use Rattle.lmn_body.proofs.Rooms.{spare_after}
-use Rattle.lmn_bridge.proofs.Walking.{run}
 use Rattle.lmn_choice.proofs.RestCopying.{copied_rest, copies as rest_copies, rest_has_copy, room_numbers, rooms as rest_rooms}
 use Rattle.lmn_choice.proofs.Copying.{AreThese, HasCopy, copy_exists}
 use Rattle.lmn_choice.proofs.Runs.{Bounded}

@@ -1,8 +1,6 @@
 -- A rest that no link leaves has a copy.
 use Rattle.std.proofs.Common.{ℕ, ◌≡◌, ◌≤◌, ◌+◌, List, [], ◌∷◌, map, length, None, refl, sym, ap, subst, arith}
-use Rattle.lmn_base.specs.Lists.{In}
 use Rattle.lmn_heap.specs.Heap.{Heap, rules_in}
-use Rattle.lmn_parts.specs.Copies.{AreNew}
 use Rattle.lmn_parts.specs.Rests.{AreNewMembranes, AreRoomsFor, RestCopied, rest_copied}
 use Rattle.lmn_bridge.proofs.Runs.{in_run, run_distinct}
 use Rattle.lmn_bridge.proofs.Walking.{run}

@@ -1,6 +1,6 @@
 -- What the registers of a rule that is chosen hold of rests.
-use Rattle.std.proofs.Common.{ℕ, zero, suc, ◌≡◌, ◌+◌, ◌<◌, List, [], ◌∷◌, map, refl, sym, ap, subst, ◌∙◌, arith}
-use Rattle.std.specs.Prelude.{Bool, true, not, ◌↔◌}
+use Rattle.std.proofs.Common.{ℕ, zero, suc, ◌≡◌, ◌+◌, ◌<◌, List, ◌∷◌, map, refl, sym, subst, ◌∙◌, arith}
+use Rattle.std.specs.Prelude.{not}
 use Rattle.lmn_base.specs.Graphs.{Reached, Port}
 use Rattle.lmn_base.specs.Lists.{In}
 use Rattle.lmn_base.specs.declared.rule.RuleTree.{RuleTree}
