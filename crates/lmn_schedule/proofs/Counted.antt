@@ -1,9 +1,6 @@
 -- The membranes of a heap have as many rules as the solid that it holds.
-use Rattle.std.proofs.Common.{ℕ, ◌≡◌, ◌+◌, List, length, refl, sym, ap, subst, arith}
+use Rattle.std.proofs.Common.{◌≡◌, ◌+◌, refl, sym, ap, subst, arith}
 use Rattle.std.proofs.lemmas.List.{length-map}
-use Rattle.lmn_base.specs.declared.rule.RuleTree.{RuleTree}
-use Rattle.lmn_congruence.specs.Regions.{Region}
-use Rattle.lmn_congruence.specs.Rules.{Name}
 use Rattle.lmn_heap.specs.Heap.{Heap, rules_in}
 use Rattle.lmn_heap.specs.Sound.{Forest, bare, mem, flat}
 use Rattle.lmn_bridge.specs.HeapRegions.{HeapReading, region_at, regions_at}
@@ -14,7 +11,7 @@ use Rattle.lmn_choice.specs.Turns.{tree_over}
 use Rattle.lmn_strategy.specs.Counting.{rule_count}
 use Rattle.lmn_strategy.proofs.Counts.{count_both}
 use Rattle.lmn_schedule.specs.Counting.{CountsAreAlike, RulesAreCounted, rule_count_of_region, rule_count_of_regions}
-use Rattle.lmn_schedule.specs.Held.{HoldsRegion, reading_by}
+use Rattle.lmn_schedule.specs.Held.{reading_by}
 
 -- those of a forest are those of its regions
 count_regions : (h : Heap) (r : HeapReading) (f : Forest) → rule_count h (flat f) ≡ rule_count_of_regions (regions_at h r f)
