@@ -15,7 +15,6 @@ pub mod Holding
 pub mod Bounds
 pub mod HeadLeaves
 pub mod HeadUses
-pub mod OpenHeads
 pub mod PlanKinds
 mod GuardUses
 mod AcceptedHeads
