@@ -15,6 +15,7 @@ use Rattle.lmn_heap.specs.Lists.{Distinct}
 use Rattle.lmn_heap.proofs.ListLemmas.{each_in}
 use Rattle.lmn_parts.proofs.AnswerLaws.{answer_here, answer_in, answer_on, answer_one}
 use Rattle.lmn_body.proofs.AddedLemmas.{long_enough}
+use Rattle.lmn_body.proofs.RestGrowing.{given_none}
 
 -- the membrane of a register
 abbrev pub at : Registers → ℕ → ℕ
@@ -211,11 +212,6 @@ here_is x as' bs = rw (eq-eqb x x refl) refl
 
 -- ---- what copies of rests give
 
--- nothing where no membrane gives to this one
-pub given_none : (list : ℕ → List ℕ) (to : ℕ → ℕ) (ks : List ℕ) (x : ℕ) → ((k : ℕ) → In k ks → to k ≢ x) → given list to ks x ≡ []
-given_none list to [] x o = refl
-given_none list to (k ∷ ks) x o = missing (to k) x (list k) (given list to ks x) (o k (inl refl)) (given_none list to ks x (λ j i. o j (inr i)))
-
 -- the list of one, where this one alone gives to the membrane
 pub given_one : (list : ℕ → List ℕ) (to : ℕ → ℕ) (ks : List ℕ) (x k0 : ℕ) → Distinct ks → In k0 ks → to k0 ≡ x → ((k : ℕ) → In k ks → to k ≡ x → k ≡ k0) → given list to ks x ≡ list k0
 given_one list to [] x k0 d i e one = absurd i
@@ -251,19 +247,18 @@ module _ (s : Registers) (of inside : ℕ) (p : RestCopy) (long : IsAsLong s of 
   pub gives_none : (list : ℕ → List ℕ) (x : ℕ) → at s inside ≢ x → (In x p.membranes → ⊥) → given list into (rest_membranes s of) x ≡ []
   gives_none list x d o = given_none list into (rest_membranes s of) x (λ k i. elim i [ inl g ↦ (λ e. d (sym (answer_here (at s of) (at s inside) (s.left_membranes of) p.membranes k g) ∙ e)) | inr j ↦ into_new x k d o j ])
 
+  -- and no rules, since those of the membrane of the context stay
   pub gives_none_inner : (list : ℕ → List ℕ) (x : ℕ) → at s inside ≢ x → (In x p.membranes → ⊥) → given list into (s.left_membranes of) x ≡ []
   gives_none_inner list x d o = given_none list into (s.left_membranes of) x (λ k j. into_new x k d o j)
 
   module _ (outside : In (at s of) (s.left_membranes of) → ⊥) (apart : In (at s inside) p.membranes → ⊥) where
-    inner_none : (list : ℕ → List ℕ) → given list into (s.left_membranes of) (at s inside) ≡ []
-    inner_none list = given_none list into (s.left_membranes of) (at s inside) (λ k i e. apart (subst (λ z. In z p.membranes) (sym (into_inner k i outside) ∙ e) (copy_in k i)))
+    -- and from the membranes of the rest nothing
+    pub gives_own_inner : (list : ℕ → List ℕ) → given list into (s.left_membranes of) (at s inside) ≡ []
+    gives_own_inner list = given_none list into (s.left_membranes of) (at s inside) (λ k i e. apart (subst (λ z. In z p.membranes) (sym (into_inner k i outside) ∙ e) (copy_in k i)))
 
     -- where it is written it gives what stands in the membrane of the context
     pub gives_own : (list : ℕ → List ℕ) → given list into (rest_membranes s of) (at s inside) ≡ list (at s of)
-    gives_own list = ap (λ z. cond (into (at s of) == at s inside) (list (at s of)) [] ++ z) (inner_none list) ∙ rw (eq-eqb (into (at s of)) (at s inside) into_own) (append-nil (list (at s of)))
-
-    pub gives_own_inner : (list : ℕ → List ℕ) → given list into (s.left_membranes of) (at s inside) ≡ []
-    gives_own_inner = inner_none
+    gives_own list = ap (λ z. cond (into (at s of) == at s inside) (list (at s of)) [] ++ z) (gives_own_inner list) ∙ rw (eq-eqb (into (at s of)) (at s inside) into_own) (append-nil (list (at s of)))
 
     module _ (once : Distinct (s.left_membranes of)) (made_once : Distinct p.membranes) (k : ℕ) (i : In k (s.left_membranes of)) where
       abbrev y : ℕ
@@ -283,19 +278,23 @@ module _ (s : Registers) (of inside : ℕ) (p : RestCopy) (long : IsAsLong s of 
 
 -- ---- atoms of the solid, membranes and rules
 
+-- what items add to a membrane, the next copies with their numbers: to its atoms in the solid,
 abbrev pub solid_adds : Registers → RestCopies → (ℕ → List SolidAtom) → (ℕ → List SolidAtom) → (ℕ → ℕ → RestCopy → ℕ → List SolidAtom) → (ℕ → ℕ) → ℕ → ℕ → List BodyItem → ℕ → List SolidAtom
 solid_adds s q left copy rest g d k xs x = added_with_copies s (from_copy q d) left copy rest g k xs x
 
+-- to its membranes,
 abbrev pub mems_adds : Registers → RestCopies → (ℕ → List ℕ) → ℕ → ℕ → List BodyItem → ℕ → List ℕ
 mems_adds s q left d n xs x = added_mems s (from_copy q d) left n xs x
 
+-- and to its rules
 abbrev pub rules_adds : Registers → RestCopies → (ℕ → List ℕ) → ℕ → List BodyItem → ℕ → List ℕ
 rules_adds s q rules d xs x = added_rules s (from_copy q d) rules xs x
 
--- the membranes of copies that a copy of a rest gives to a membrane, and the rules
+-- the copied membranes that a copy of a rest gives to a membrane
 abbrev pub rest_mems : Registers → (ℕ → List ℕ) → ℕ → ℕ → RestCopy → ℕ → List ℕ
 rest_mems s left of inside p x = given (λ k. map (copied_membrane s of p) (left k)) (copied_into s of inside p) (rest_membranes s of) x
 
+-- and the rules
 abbrev pub rest_rules : Registers → (ℕ → List ℕ) → ℕ → ℕ → RestCopy → ℕ → List ℕ
 rest_rules s rules of inside p x = given rules (copied_into s of inside p) (s.left_membranes of) x
 

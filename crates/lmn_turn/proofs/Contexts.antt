@@ -4,7 +4,6 @@ use Rattle.std.specs.Prelude.{Contains, All}
 use Rattle.std.specs.List.{flat_map}
 use Rattle.std.proofs.lemmas.List.{map-append}
 use Rattle.std.proofs.lemmas.List.Elements.{All-head, All-tail, All-cons, All-nil}
-use Rattle.lmn_base.specs.declared.item.Form.TheVariants.{Typed}
 use Rattle.lmn_base.specs.Items.{untyped_form, untyped as written, items_of, guard_items, rule_items}
 use Rattle.lmn_base.specs.declared.level.CtxUse.{CtxUse}
 use Rattle.lmn_base.specs.declared.rule.RuleTree.{RuleTree}
@@ -24,6 +23,7 @@ use Rattle.lmn_bridge.proofs.HeadTrees.{tree_of, trees_of, level_tree}
 use Rattle.lmn_bridge.proofs.KindConditions.{same_number}
 use Rattle.lmn_compile_body.proofs.HeadContexts.{contained, is_in, head_names, untyped, of_rules, firsts, names_are, named_there, head_contexts, heads_contexts, same_contexts, context_used, rule_context_used, has_name, has_rule_name}
 use Rattle.lmn_guards.specs.Accepted.{IsInOrder}
+use Rattle.lmn_compile_head.proofs.HeadUses.{never_typed}
 use Rattle.lmn_splice.proofs.Common.{in_back, in_front}
 use Rattle.lmn_bridge.proofs.SameParts.{put_among}
 use Rattle.lmn_base.proofs.Lists.{all_of_left, all_of_right}
@@ -109,11 +109,6 @@ all_named P [] a u i = absurd i
 all_named P (v ∷ us) a u (inl e) = subst (λ (z : CtxUse). P z.name) e (All-head P v.name (context_names us) a)
 all_named P (v ∷ us) a u (inr i) = all_named P us (All-tail P v.name (context_names us) a) u i
 
--- an untyped context is of no type
-not_typed : (b : Bool) → untyped_form b ≡ Typed → ⊥
-not_typed true e = absurd (cc)
-not_typed false e = absurd (cc)
-
 module _ (r : HeapReading) (rule : RuleTree) (read_names : IsNames r.names) (is : IsRule r rule) where
   abbrev P : ℕ → Type 0
   P n = n < length r.names
@@ -150,7 +145,7 @@ module _ (r : HeapReading) (rule : RuleTree) (read_names : IsNames r.names) (is 
       let in_list = subst (IsOneOf v.0) (sym (same_contexts untyped rule.head)) v.1 in
       let same = same_number r.names v.0.name u.name read_names (one_named v.0.name (all_named P (contexts_of rule.head) (contexts_known rule.head head_known) v.0 in_list)) (one_named u.name (all_named P (contexts_of rule.body) (contexts_known rule.body body_known) u i)) v.2 in
       let first = subst (λ y. IsOneOf y (firsts (head_names untyped 0 1 (head_at rule.head)))) same (has_name 0 1 (head_at rule.head) (record { name = v.0.name; form = untyped_form v.0.closed; pos = v.0.pos })
-      (context_used (head_at rule.head) v.0 v.1) (not_typed v.0.closed)) in
+      (context_used (head_at rule.head) v.0 v.1) (never_typed v.0.closed)) in
       let e = sym (names_are untyped rule.head) in
       subst (λ es. IsOneOf {A = ℕ × ℕ} (u.name, context_membrane rule.head u.name) es) (names_are untyped rule.head) (named_there _ u.name (subst (λ es. IsOneOf u.name (firsts es)) e first))
 

@@ -149,6 +149,7 @@ Disjoint q t (Rest of true inside ∷ xs) = EachRest (λ u of' inside'. (y : ℕ
 Disjoint q t (Rule rule inside ∷ xs) = Disjoint q t xs
 Disjoint q t (Rules of inside ∷ xs) = Disjoint q t xs
 
+-- so it is, since no membrane is made twice
 pub disjoint : (s : Registers) (q : RestCopies) (t n : ℕ) (xs : List BodyItem) → Distinct (made_mems s (from_copy q t) n xs) → Disjoint q t xs
 disjoint s q t n [] d = tt
 disjoint s q t n (Atom functor links inside ∷ xs) d = disjoint s q t n xs d
