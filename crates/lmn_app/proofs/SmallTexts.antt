@@ -18,7 +18,7 @@ use Rattle.lmn_base.specs.Items.{items_of, leaf_item, number_of_items, number_st
 use Rattle.lmn_base.specs.Levels.{leaves_of, links_of, occurrences_of_leaf}
 use Rattle.lmn_base.specs.Limits.{most_head_items, most_body_items, most_conditions, most_guard_tokens}
 use Rattle.lmn_base.specs.Links.{EachTwice, NumbersLinks, no_more}
-use Rattle.lmn_base.specs.RuleCodes.{bare_again, closed_place, untyped_place, connector_place, first_with_some, from_nowhere, in_other_form, inner_rule, missing, rule_context_place, head_rows, seconds_by_membrane, size_rows, use_rows, used_again}
+use Rattle.lmn_base.specs.RuleCodes.{bare_again, untyped_place, connector_place, first_with_some, from_nowhere, in_other_form, inner_rule, missing, rule_context_place, head_rows, seconds_by_membrane, size_rows, use_rows, used_again}
 use Rattle.lmn_base.specs.SmallTexts.{at_column}
 use Rattle.lmn_base.specs.WellMade.{IsAtomLeaf, IsWellMade}
 use Rattle.lmn_base.proofs.ItemLemmas.{listed_items}
@@ -196,7 +196,7 @@ small_rule_accepted =
     let by_head = All-from_recursion Nowhere (head_rows small_table small_rule)
     (ap (flat_map (inner_rule small_table)) head, (ap (flat_map connector_place) head, (ap (flat_map untyped_place) top, (ap (flat_map rule_context_place) top, (ap (λ ms. first_with_some (flat_map seconds_by_membrane ms)) inside, tt))))) in
     let by_use = All-from_recursion Nowhere (use_rows small_rule)
-    ((λ i. flat_map (used_again (head i)) (head i)), ((λ i. not_once (head i) (body i)), ((λ i. flat_map (from_nowhere (head i) []) (body i)), ((λ i. two_forms (head i ++ body i)), ((λ i. flat_map closed_place (head i ++ body i)), tt))))) in
+    ((λ i. flat_map (used_again (head i)) (head i)), ((λ i. not_once (head i) (body i)), ((λ i. flat_map (from_nowhere (head i) []) (body i)), ((λ i. two_forms (head i ++ body i)), tt)))) in
     record {
       linked = subst EachTwice (λ i. sym (no_links 7 4 []) i ++ sym (no_links 8 9 []) i) (λ x. inl refl);
       contexts = All-append Nowhere (size_rows small_rule) (head_rows small_table small_rule ++ use_rows small_rule) by_size (All-append Nowhere (head_rows small_table small_rule) (use_rows small_rule) by_head by_use);
