@@ -6,27 +6,31 @@ from looking.lines import PLAIN_ATOM, end_of_parentheses, plain_item
 
 QUOTED_BRACKET_OR_MARK = re.compile(r"'(?:[^']|'')*'|[(\[{)\]}]| :- ?| \| ?|, ")
 TYPED = re.compile(r'\$(\w+)\[L\d+\]')
+CLOSED = re.compile(r'\$(\w+)\[\]')
 NO_ATOM = re.compile(r'L\d+ = L\d+|[$@]\w+')
 INTEGER = re.compile(r'-?\d+\(?')
 
 
 class Level:
-    """What one side of a rule has, its membranes included: atoms by functors, typed contexts by names, membranes."""
+    """What one side of a rule has, its membranes included: atoms by functors, typed and closed contexts by names, membranes."""
 
     def __init__(self):
-        self.atoms, self.contexts, self.membranes = Counter(), Counter(), 0
+        self.atoms, self.contexts, self.closed, self.membranes = Counter(), Counter(), Counter(), 0
 
     def add(self, text):
         """Counts the items of a text with commas between them."""
         at = 0
         while at < len(text):
-            atom, typed, other = PLAIN_ATOM.match(text, at), TYPED.match(text, at), NO_ATOM.match(text, at)
+            atom, typed, closed, other = (it.match(text, at) for it in (PLAIN_ATOM, TYPED, CLOSED, NO_ATOM))
             if atom:
                 self.atoms[plain_item(*atom.groups()).functor] += 1
                 at = atom.end()
             elif typed:
                 self.contexts[typed.group(1)] += 1
                 at = typed.end()
+            elif closed:
+                self.closed[closed.group(1)] += 1
+                at = closed.end()
             elif other:
                 at = other.end()
             elif text[at] == '(':
@@ -61,6 +65,8 @@ class Rule:
         self.body.add(body)
         self.atoms = signed(self.body.atoms, self.head.atoms)
         self.contexts = signed(self.body.contexts, self.head.contexts)
+        rests = signed(self.body.closed, self.head.closed).values()
+        self.copies, self.drops = any(it > 0 for it in rests), any(it < 0 for it in rests)
         self.membranes = self.body.membranes - self.head.membranes
 
     def may_be(self, context, functor):
@@ -80,15 +86,16 @@ class Rule:
 
     def can_have_made(self, change):
         """Whether one firing of the rule can be this change: atoms that came, less those that went, and likewise membranes."""
-        if self.membranes != change.membranes:
+        membranes = change.membranes - self.membranes
+        if membranes > 0 and not self.copies or membranes < 0 and not self.drops:
             return False
         rest = signed(change.atoms, self.atoms)
         came, went = sum(it for it in rest.values() if it > 0), -sum(it for it in rest.values() if it < 0)
         made = {name: it for name, it in self.contexts.items() if it > 0}
         gone = {name: -it for name, it in self.contexts.items() if it < 0}
-        fits = all(any(self.may_be(name, functor) for name in (made if it > 0 else gone)) for functor, it in rest.items())
-        enough = came <= sum(made.values()) or any(map(self.is_graph, made))
-        return fits and enough and (went <= sum(gone.values()) or any(map(self.is_graph, gone)))
+        fits = all((self.copies if it > 0 else self.drops) or any(self.may_be(name, functor) for name in (made if it > 0 else gone)) for functor, it in rest.items())
+        enough = self.copies or came <= sum(made.values()) or any(map(self.is_graph, made))
+        return fits and enough and (self.drops or went <= sum(gone.values()) or any(map(self.is_graph, gone)))
 
 
 class Change:
