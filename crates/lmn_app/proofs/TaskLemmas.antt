@@ -9,9 +9,9 @@ use Rattle.lmn_app.proofs.DemoLemmas.{demo_short}
 
 -- the numbers of a task are those of its command
 pub task_in_range : (c : Request) → IsInRanges c → IsInRange (task_of c)
-task_in_range (to_run run) h = h.0
+task_in_range (to_run run) h = (omega (arith, h.2), h.0)
 task_in_range (to_compile file) h = tt
-task_in_range (to_demo n) h = omega arith
+task_in_range (to_demo n) h = (omega arith, omega arith)
 
 -- the text of `demo` is the one that is told
 pub demo_told : (n : ℕ) (text : List ℕ) → n ≤ 100000 → text ≡ demo_text n → IsTextOf (Some (Some (demo_text n))) text

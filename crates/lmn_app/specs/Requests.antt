@@ -1,5 +1,5 @@
 -- What the words of the command line ask of a text.
-use Rattle.std.specs.Prelude.{◌≡◌, ◌≤◌, ◌-◌, ⊤, ℕ, true, false, List, Option, Some, None, option_map, ◌^◌}
+use Rattle.std.specs.Prelude.{◌≡◌, ◌<◌, ◌≤◌, ◌-◌, ⊤, ℕ, true, false, List, Option, Some, None, option_map, ◌^◌}
 use Rattle.std.specs.declared.string.String.{String}
 use Rattle.std.specs.declared.alloc.Global.{Global}
 use Rattle.lmn_io.specs.Texts.{ShelfAsked, asked_once_more}
@@ -58,7 +58,7 @@ abbrev pub most_items : Task → Option ℕ
 most_items (task.Run s) = Some s.size
 most_items task.List = None
 
--- the budget of a run is a number of 63 bits
+-- the numbers of a task lie in their ranges
 abbrev pub IsInRange : Task → Type 0
-IsInRange (task.Run s) = s.budget ≤ 2 ^ 63 - 1
+IsInRange (task.Run s) = (s.size < 2 ^ 32) × (s.budget ≤ 2 ^ 63 - 1)
 IsInRange task.List = ⊤

@@ -38,6 +38,7 @@ pub(crate) fn run<O: Sink>(
     out: &mut O,
 ) -> Ending
     requires accepted { (text : List ℕ) × Accepts text names.now accepted.now.plain accepted.now.plans }
+    requires size { settings.now.size < 2 ^ 32 }
     requires budget { settings.now.budget ≤ 2 ^ 63 - 1 }
     ensures { (text : List ℕ) (before after : ℕ) → Accepts text names.now accepted.now.plain accepted.now.plans →
         Ended (Task.Run settings.now) result (Some (Some text)) (O.told out.old) (O.told out.new) (O.faults out.old) (O.faults out.new) before after }
@@ -68,6 +69,7 @@ fn run_in<S: LinkStore + Drop, O: Sink, L: Ledger>(
     blank: Blank,
 ) -> Ending
     requires accepted { (text : List ℕ) × Accepts text names.now accepted.now.plain accepted.now.plans }
+    requires size { settings.now.size < 2 ^ 32 }
     requires budget { settings.now.budget ≤ 2 ^ 63 - 1 }
     requires store { IsEmpty (S.heap store) }
     requires name { blank.name ≡ L.name }

@@ -10,8 +10,11 @@ pub run-requires-clause-accepted : goal.run-requires-clause-accepted
 run-requires-clause-accepted g c =
     (c.args.text.now, read_accepts c.args.text.now c.with_key-names.result c.read.new.names c.in-Ok.accepted.plain c.in-Ok.accepted.plans c.requires.short c.with_key-names.ensures c.in-Ok.ensures.names c.in-Ok.ensures.reads)
 
+pub run-requires-clause-size : goal.run-requires-clause-size
+run-requires-clause-size g c = (rw c.in-Run.is at c.requires.range).0
+
 pub run-requires-clause-budget : goal.run-requires-clause-budget
-run-requires-clause-budget g c = rw c.in-Run.is at c.requires.range
+run-requires-clause-budget g c = (rw c.in-Run.is at c.requires.range).1
 
 pub returns-in-Run : goal.returns-in-Run
 returns-in-Run g c = λ before after.
