@@ -1,0 +1,48 @@
+-- Lists of names to which a name is put.
+use Rattle.std.proofs.Common.{◌≡◌, ◌≤◌, ◌<◌, ◌+◌, ℕ, Bool, true, false, List, [], ◌∷◌, ◌++◌, length, Contains, slice_get, Some, refl, sym, ap, ◌∙◌, subst, arith, true≢false}
+use Rattle.std.specs.Prelude.{bytes_eq, Result, Ok, Err, OnOk, OnErr, slice_index_or}
+use Rattle.std.specs.List.{list_any}
+use Rattle.std.specs.Cmp.Lexicographic.{nat_list_eq_equiv}
+use Rattle.std.proofs.lemmas.List.{append-nil, append_assoc, length-append}
+use Rattle.std.proofs.lemmas.Map.Views.{list_any-from_Contains, Contains-from_any}
+use Rattle.std.proofs.lemmas.Option.{get_or_from_slice_get, slice_get_within}
+use Rattle.std.proofs.lemmas.Slice.Eq.{bytes_eq-Decides}
+use Rattle.lmn_base.specs.declared.memory.NoMemory.{NoMemory}
+use Rattle.lmn_lexer.specs.NameText.{name_text}
+use Rattle.lmn_functors.specs.Reading.{AddsNames}
+
+-- none is added
+pub adds_none : (n : ℕ) (names : List (List ℕ)) → AddsNames n names names
+adds_none n names = record { more = []; are = sym (append-nil names); few = omega arith }
+
+pub adds_same : (n : ℕ) (names later : List (List ℕ)) → later ≡ names → AddsNames n names later
+adds_same n names later e = subst (AddsNames n names) (sym e) (adds_none n names)
+
+-- some and then some more
+pub adds_both : (m n : ℕ) (a b c : List (List ℕ)) → AddsNames m a b → AddsNames n b c → AddsNames (m + n) a c
+adds_both m n a b c h k =
+    let size = length-append h.more k.more in
+    record {
+      more = h.more ++ k.more;
+      are = k.are ∙ ap (λ x. x ++ k.more) h.are ∙ append_assoc a h.more k.more;
+      few = let u = h.few in let v = k.few in omega arith;
+    }
+
+-- a name is put
+pub adds_put : (old new : List (List ℕ)) (name : List ℕ) (r : Result ℕ NoMemory) → OnOk r (Contains old name → new ≡ old)
+    → OnOk r (¬ (Contains old name) → new ≡ old ++ name ∷ []) → OnErr r (new ≡ old) → AddsNames 1 old new
+adds_put old new name (Err e) held absent err = adds_same 1 old new err
+adds_put old new name (Ok k) held absent err = by (list_any (bytes_eq name) old) refl
+  where
+    by : (b : Bool) → list_any (bytes_eq name) old ≡ b → AddsNames 1 old new
+    by true e = adds_same 1 old new (held (Contains-from_any (λ x y. (bytes_eq-Decides x y).0) name old e))
+    by false e =
+        record { more = name ∷ []; are = absent (λ there. true≢false (sym (list_any-from_Contains nat_list_eq_equiv name old there) ∙ e)); few = omega arith }
+
+-- a name that was put is short
+pub short_named : (names : List (List ℕ)) (k : ℕ) (name : List ℕ) → slice_get names k ≡ Some name → length name ≤ 255 → length (slice_index_or names k []) ≤ 255
+short_named names k name e l = let same = ap length (get_or_from_slice_get names k name [] e) in omega arith
+
+-- the name with a number
+pub named_text : (names : List (List ℕ)) (k : ℕ) (name : List ℕ) → slice_get names k ≡ Some name → (k < length names) × (name_text (slice_index_or names k []) ≡ name_text name)
+named_text names k name e = (slice_get_within names k name e, ap name_text (get_or_from_slice_get names k name [] e))

@@ -1,0 +1,11 @@
+pub mod VerifiedExamples
+pub mod OpcodeLemmas
+pub mod Places
+pub mod OperandLemmas
+pub mod Listed
+pub mod LineLemmas
+pub mod VerifyingLemmas
+pub mod Deciding
+pub mod ReachingLemmas
+pub mod CodeLemmas
+pub mod Exclusion

@@ -1,0 +1,10 @@
+pub mod Operands
+pub mod Verified
+pub mod VerifiedExamples
+pub mod Opcodes
+pub mod Lines
+pub mod Taking
+pub mod Passing
+pub mod Listings
+pub mod Reaching
+pub mod ListingLaws

@@ -1,0 +1,327 @@
+-- Lines that tell weights.
+use Rattle.std.proofs.Common.{ℕ, zero, suc, ◌≡◌, ◌≤◌, ◌<◌, ◌+◌, ◌-◌, ◌&&◌, ◌⊎◌, inl, inr, Bool, true, false, List, [], ◌∷◌, ◌++◌, Option, Some, None, length, take, drop, get_or, refl, sym, ap, subst, ◌∙◌, arith, codes, if◌then◌else◌}
+use Rattle.std.specs.Prelude.{nat_le, Result, Ok, Err, IfOk, IfSome, ◌==◌}
+use Rattle.std.specs.Char.{is_ascii_digit}
+use Rattle.std.specs.Fmt.{decimal, signed_decimal}
+use Rattle.std.specs.List.{AllByRecursion, list_all}
+use Rattle.std.proofs.lemmas.Bool.{eqb-true, leb-true}
+use Rattle.std.proofs.lemmas.Grind.{flat_map-append}
+use Rattle.std.proofs.lemmas.List.{append-nil, append_assoc, drop_more, get_or_append_left, length-append, take-append-drop, take_all, take_more}
+use Rattle.lmn_base.proofs.Lists.{all_append, head_is, tail_is}
+use Rattle.lmn_base.proofs.Lists.{holds_of_item}
+use Rattle.lmn_base.proofs.Truth.{and_true}
+use Rattle.lmn_base.specs.declared.functor.Functor.{Functor}
+use Rattle.lmn_base.specs.declared.functor.Label.{Label}
+use Rattle.lmn_base.specs.declared.functor.Label.TheVariants.{Int, Name}
+use Rattle.lmn_base.specs.declared.memory.NoMemory.{NoMemory}
+use Rattle.lmn_base.specs.declared.refusal.Refusal.{Refusal}
+use Rattle.lmn_functors.proofs.NameLemmas.{adds_both, adds_none}
+use Rattle.lmn_functors.specs.Reading.{AddsNames}
+use Rattle.lmn_instr.specs.Labels.{HasLabel, listed_label_text}
+use Rattle.lmn_instr.specs.Listings.{functor_text}
+use Rattle.lmn_lexer.proofs.FaultLemmas.{value_grows}
+use Rattle.lmn_lexer.specs.Faults.{value_behind}
+use Rattle.lmn_lexer.specs.NameText.{name_text}
+use Rattle.lmn_weight.specs.declared.told.Told.{Told}
+use Rattle.lmn_weight.specs.declared.weights.Weights.{Weights}
+use Rattle.lmn_weight.specs.Lines.{AreWeightsOf, HasNoSpace, IsFirstWrong, IsIntegerText, IsNamed, IsOneLine, IsTold, IsWeightLine, MayBeNamed, TakesFunctor, TakesItem, TakesLine, Tell, are_digits, integers, is_listed, joined, line_more, membranes, no_line, nothing_told, number_written, of_functor, or_nothing, small_value}
+use Rattle.lmn_weight.specs.Plains.{AreSmall, is_integer, is_integer_label}
+
+-- ---- names that are put
+
+label_stays : (k : ℕ) (names later : List (List ℕ)) (l : Label) → HasLabel names l → AddsNames k names later → listed_label_text later l ≡ listed_label_text names l
+label_stays k names later (Name n) h a = ap name_text (ap (λ ns. get_or ns n []) a.are ∙ get_or_append_left names a.more [] n h)
+label_stays k names later (Int z) h a = refl
+
+has_stays : (k : ℕ) (names later : List (List ℕ)) (l : Label) → HasLabel names l → AddsNames k names later → HasLabel later l
+has_stays k names later (Name n) h a = let size = ap length a.are in let two = length-append names a.more in omega (arith, size, two, h)
+has_stays k names later (Int z) h a = tt
+
+functor_stays : (k : ℕ) (names later : List (List ℕ)) (f : Functor) → HasLabel names f.label → AddsNames k names later → functor_text later f ≡ functor_text names f
+functor_stays k names later f h a = ap (λ t. t ++ (codes "/" ++ decimal f.arity)) (label_stays k names later f.label h a)
+
+-- what lines tell they tell by more names too
+tell_stays : (k : ℕ) (names later : List (List ℕ)) {lines : List (List ℕ)} {t : Told} → AddsNames k names later → Tell names lines t → Tell later lines t
+tell_stays k names later a (no_line e) = no_line e
+tell_stays k names later a (line_more l w i) = line_more (tell_stays k names later a l) w (go i)
+  where
+    go : {item : List ℕ} {n : ℕ} {old new : Told} → IsTold names item n old new → IsTold later item n old new
+    go (integers e o new) = integers e o new
+    go (membranes e o new) = membranes e o new
+    go (of_functor f e has i o new) = of_functor f (functor_stays k names later f has a ∙ e) (has_stays k names later f.label has a) i o new
+
+pub adds_more : (m n : ℕ) (before later : List (List ℕ)) → m ≤ n → AddsNames m before later → AddsNames n before later
+adds_more m n before later h a = record { more = a.more; are = a.are; few = (let f = a.few in omega (arith, f, h)) }
+
+-- ---- numbers
+
+digits_of : (digits : List ℕ) (n : ℕ) → number_written digits ≡ Some n → (list_all is_ascii_digit digits ≡ true) × (small_value digits ≡ Some n)
+digits_of digits n e = go (are_digits digits) refl e
+  where
+    go : (b : Bool) → are_digits digits ≡ b → (if b then small_value digits else None) ≡ Some n → (list_all is_ascii_digit digits ≡ true) × (small_value digits ≡ Some n)
+    go true d h = ((and_true (nat_le (length digits) 7) (list_all is_ascii_digit digits) (and_true (nat_le 1 (length digits)) (nat_le (length digits) 7 && list_all is_ascii_digit digits) d).1).1, h)
+    go false d h = absurd (cc)
+
+no_space : (digits : List ℕ) → list_all is_ascii_digit digits ≡ true → HasNoSpace digits
+no_space [] h = tt
+no_space (d ∷ ds) h =
+    let a = and_true (is_ascii_digit d) (list_all is_ascii_digit ds) h in
+    ((λ e. no (subst (λ x. is_ascii_digit x ≡ true) e a.0)), no_space ds a.1)
+  where
+    no : is_ascii_digit 32 ≡ true → ⊥
+    no e = absurd (cc)
+
+small_number : (digits : List ℕ) (n : ℕ) → number_written digits ≡ Some n → n ≤ 1000000
+small_number digits n e = go (value_behind 0 digits) (digits_of digits n e).1
+  where
+    go : (v : ℕ) → (if nat_le v 1000000 then Some v else None) ≡ Some n → n ≤ 1000000
+    go v = by (nat_le v 1000000) refl
+      where
+        by : (b : Bool) → nat_le v 1000000 ≡ b → (if b then Some v else None) ≡ Some n → n ≤ 1000000
+        by true h f = let same : v ≡ n = cc in let low = leb-true v 1000000 h in omega (arith, low, same)
+        by false h f = absurd (cc)
+
+not_small : (v : ℕ) → 1000000 < v → None ≡ (if nat_le v 1000000 then Some v else None)
+not_small v h = go (nat_le v 1000000) refl
+  where
+    go : (b : Bool) → nat_le v 1000000 ≡ b → None ≡ (if b then Some v else None)
+    go true e = absurd (let low = leb-true v 1000000 e in omega (arith, low, h))
+    go false e = refl
+
+-- digits of which the first write a large number write one
+pub large_value : (digits : List ℕ) (n : ℕ) (rest : List ℕ) → value_behind 0 digits ≡ value_behind n rest → 1000000 < n → None ≡ small_value digits
+large_value digits n rest e h = let grown = value_grows n rest in not_small (value_behind 0 digits) (omega (arith, e, grown, h))
+
+-- ---- the last space
+
+no_space_within : (u v : List ℕ) → HasNoSpace (u ++ 32 ∷ v) → ⊥
+no_space_within [] v h = h.0 refl
+no_space_within (x ∷ u) v h = no_space_within u v h.1
+
+-- a line is split at its last space in one way
+last_split : (u v s t : List ℕ) → HasNoSpace v → HasNoSpace t → u ++ 32 ∷ v ≡ s ++ 32 ∷ t → (u ≡ s) × (v ≡ t)
+last_split [] v [] t h k e = (refl, tail_is e)
+last_split [] v (y ∷ s) t h k e = absurd (no_space_within s t (subst HasNoSpace (tail_is e) h))
+last_split (x ∷ u) v [] t h k e = absurd (no_space_within u v (subst HasNoSpace (sym (tail_is e)) k))
+last_split (x ∷ u) v (y ∷ s) t h k e =
+    let r = last_split u v s t h k (tail_is e) in
+    (λ i. head_is e i ∷ r.0 i, r.1)
+
+split_at : (line : List ℕ) (at : ℕ) → at < length line → get_or line at 0 ≡ 32 → line ≡ take at line ++ 32 ∷ drop (at + 1) line
+split_at line at l e = sym (take-append-drop at line) ∙ ap (λ t. take at line ++ t) (drop_more line at 0 l) ∙ ap (λ x. take at line ++ x ∷ drop (at + 1) line) e
+
+-- a line that says something says it by its last space
+pub line_parts : (line : List ℕ) (at : ℕ) → at < length line → get_or line at 0 ≡ 32 → HasNoSpace (drop (at + 1) line) → (item : List ℕ) (n : ℕ) → IsWeightLine line item n
+    → (item ≡ take at line) × (number_written (drop (at + 1) line) ≡ Some n)
+line_parts line at l e none item n w =
+    let r = last_split item w.digits (take at line) (drop (at + 1) line) (no_space w.digits (digits_of w.digits n w.number).0) none (sym w.is ∙ split_at line at l e) in
+    (r.0, ap number_written (sym r.1) ∙ w.number)
+
+-- and one without a space says nothing
+pub no_line_without : (line : List ℕ) → HasNoSpace line → (item : List ℕ) (n : ℕ) → IsWeightLine line item n → ⊥
+no_line_without line h item n w = no_space_within item w.digits (subst HasNoSpace w.is h)
+
+pub line_made : (line : List ℕ) (at n : ℕ) → at < length line → get_or line at 0 ≡ 32 → number_written (drop (at + 1) line) ≡ Some n → IsWeightLine line (take at line) n
+line_made line at n l e w = record { digits = drop (at + 1) line; number = w; is = split_at line at l e }
+
+-- ---- what is named
+
+-- a functor that a line names is told, or the line can't be
+pub item_taken : (names : List (List ℕ)) (item : List ℕ) (n : ℕ) (old new : Told) (f : Functor) (r : Result Bool NoMemory) (found : Option Functor) → found ≡ Some f
+    → IfSome found (λ f. HasLabel names f.label × (functor_text names f ≡ item)) → (item ≡ codes "int" → ⊥) → (item ≡ codes "{}" → ⊥) → IfOk r (TakesFunctor f n old new) → IfOk r (TakesItem names item n old new)
+item_taken names item n old new f (Err e) found is some no_int no_membrane t = t
+item_taken names item n old new f (Ok b) found is some no_int no_membrane t =
+    let s = holds_of_item (λ (f : Functor). HasLabel names f.label × (functor_text names f ≡ item)) found f is some in
+    go b s.0 s.1 t
+  where
+    integer : (l : Label) (arity : ℕ) → (is_integer_label l && (arity == 1)) ≡ true → listed_label_text names l ++ (codes "/" ++ decimal arity) ≡ item → IsIntegerText item
+    integer (Name k) arity e same = absurd (cc)
+    integer (Int z) arity e same = (z, ap (λ k. signed_decimal z ++ (codes "/" ++ decimal k)) (sym (eqb-true arity 1 e)) ∙ same)
+
+    named : (is_integer f ≡ true) ⊎ (is_listed f old.functors ≡ true) → functor_text names f ≡ item → MayBeNamed item → IsNamed names old item
+    named why e (inl i) = absurd (no_int i)
+    named why e (inr (inl m)) = absurd (no_membrane m)
+    named (inl i) e (inr (inr m)) = absurd (m.1 (integer f.label f.arity i e))
+    named (inr l) e (inr (inr m)) = inr (inr (f, e, l))
+
+    go : (b : Bool) → HasLabel names f.label → functor_text names f ≡ item → TakesFunctor f n old new b → TakesItem names item n old new b
+    go true has e t = of_functor f e has t.0 t.1 t.2
+    go false has e t = (t.0, named t.1 e)
+
+-- what a line names is told, so the line is, or neither is
+pub line_taken : (names : List (List ℕ)) (line : List ℕ) (at n : ℕ) (old new : Told) (r : Result Bool NoMemory) → at < length line → get_or line at 0 ≡ 32 → HasNoSpace (drop (at + 1) line) → number_written (drop (at + 1) line) ≡ Some n
+    → IfOk r (TakesItem names (take at line) n old new) → IfOk r (TakesLine names line old new)
+line_taken names line at n old new (Err e) l space none w t = t
+line_taken names line at n old new (Ok true) l space none w t = (take at line, n, line_made line at n l space w, t)
+line_taken names line at n old new (Ok false) l space none w t = (
+  t.0,
+  λ item m v may. (let p = (line_parts line at l space none item m v).0 in subst (IsNamed names old) (sym p) (t.1 (subst MayBeNamed p may))),
+)
+
+-- a line without a number says nothing
+pub line_untaken : (names : List (List ℕ)) (t : Told) (line : List ℕ) (at : ℕ) → at < length line → get_or line at 0 ≡ 32 → HasNoSpace (drop (at + 1) line) → number_written (drop (at + 1) line) ≡ None
+    → (item : List ℕ) (n : ℕ) → IsWeightLine line item n → MayBeNamed item → IsNamed names t item
+line_untaken names t line at l space none e item n w may = absurd (let p = (line_parts line at l space none item n w).1 in cc)
+
+pub line_unsplit : (names : List (List ℕ)) (t : Told) (line : List ℕ) → HasNoSpace line → (item : List ℕ) (n : ℕ) → IsWeightLine line item n → MayBeNamed item → IsNamed names t item
+line_unsplit names t line h item n w may = absurd (no_line_without line h item n w)
+
+-- ---- what was told is small
+
+record ToldSmall (t : Told) : Type 0 where
+  lists : length t.functors ≡ length t.values
+  values : AllByRecursion (λ n. n ≤ 1000000) t.values
+  int : or_nothing t.int ≤ 1000000
+  membrane : or_nothing t.membrane ≤ 1000000
+
+told_small : (names : List (List ℕ)) {lines : List (List ℕ)} {t : Told} → Tell names lines t → ToldSmall t
+told_small names (no_line e) = subst ToldSmall (sym e) (record { lists = refl; values = tt; int = omega arith; membrane = omega arith })
+told_small names (line_more {n = n} {old = old} l w i) = go i (told_small names l) (small_number w.digits n w.number)
+  where
+    go : {item : List ℕ} {new : Told} → IsTold names item n old new → ToldSmall old → n ≤ 1000000 → ToldSmall new
+    go (integers e o new) s h = subst ToldSmall (sym new) (record { lists = s.lists; values = s.values; int = h; membrane = s.membrane })
+    go (membranes e o new) s h = subst ToldSmall (sym new) (record { lists = s.lists; values = s.values; int = s.int; membrane = h })
+    go (of_functor f e has i o new) s h =
+        subst ToldSmall (sym new) (record {
+          lists = (let a = length-append old.functors (f ∷ []) in let b = length-append old.values (n ∷ []) in let c = s.lists in omega (arith, a, b, c));
+          values = all_append (λ n. n ≤ 1000000) old.values (n ∷ []) s.values (h, tt);
+          int = s.int;
+          membrane = s.membrane;
+        })
+
+-- ---- reading
+
+-- The bytes up to a place are lines, and these tell what is told.
+pub record Reached (before names : List (List ℕ)) (text : List ℕ) (at number : ℕ) (told : Told) : Type 0 where
+  pub lines : List (List ℕ)
+  pub apart : AllByRecursion IsOneLine lines
+  pub front : joined lines ≡ take at text
+  pub within : at ≤ length text
+  pub tell : Tell names lines told
+  pub number_is : number ≡ length lines + 1
+  pub few : length lines ≤ at
+  pub added : AddsNames (length lines) before names
+
+pub reached_start : (names : List (List ℕ)) (text : List ℕ) (told : Told) → told ≡ nothing_told → Reached names names text 0 1 told
+reached_start names text told e = record {
+  lines = [];
+  apart = tt;
+  front = refl;
+  within = omega arith;
+  tell = no_line e;
+  number_is = refl;
+  few = omega arith;
+  added = adds_none 0 names;
+}
+
+pub start_is : (fs : List Functor) (vs : List ℕ) → fs ≡ [] → vs ≡ [] → record { functors = fs; values = vs; int = None; membrane = None } ≡ nothing_told
+start_is fs vs e h = λ i. record { functors = e i; values = h i; int = None; membrane = None }
+
+joined_more : (lines : List (List ℕ)) (line : List ℕ) → joined (lines ++ line ∷ []) ≡ joined lines ++ (line ++ 10 ∷ [])
+joined_more lines line = flat_map-append (λ l. l ++ 10 ∷ []) lines (line ∷ []) ∙ ap (λ t. joined lines ++ t) (append-nil (line ++ 10 ∷ []))
+
+take_nothing : (n : ℕ) → take {A = ℕ} n [] ≡ []
+take_nothing zero = refl
+take_nothing (suc n) = refl
+
+taken_more : (text : List ℕ) (at end : ℕ) → at ≤ end → end < length text → get_or text end 0 ≡ 10 → take (end + 1) text ≡ take at text ++ (take (end - at) (drop at text) ++ 10 ∷ [])
+taken_more text at end h l e =
+    take_more text end 0 l ∙ ap (λ x. take end text ++ x ∷ []) e ∙ ap (λ t. t ++ 10 ∷ []) (taken text at end h)
+    ∙ append_assoc (take at text) (take (end - at) (drop at text)) (10 ∷ [])
+  where
+    taken : (text : List ℕ) (at end : ℕ) → at ≤ end → take end text ≡ take at text ++ take (end - at) (drop at text)
+    taken text zero end h = ap (λ n. take n text) (let e : end ≡ end - 0 = omega arith in e)
+    taken [] (suc at) (suc end) h = sym (take_nothing (suc end - suc at))
+    taken (x ∷ text) (suc at) (suc end) h =
+        let e : end - at ≡ suc end - suc at = omega arith in
+        ap (λ t. x ∷ t) (taken text at end (omega (arith, h))) ∙ ap (λ n. x ∷ (take at text ++ take n (drop at text))) e
+    taken text (suc at) zero h = absurd (omega (arith, h))
+
+-- a line more
+pub reached_more : (before names later : List (List ℕ)) (text : List ℕ) (at number end : ℕ) (old new : Told) → Reached before names text at number old → at ≤ end → end < length text → get_or text end 0 ≡ 10
+    → IsOneLine (take (end - at) (drop at text)) → AddsNames 1 names later → (b : Bool) → b ≡ true → TakesLine later (take (end - at) (drop at text)) old new b → Reached before later text (end + 1) (number + 1) new
+reached_more before names later text at number end old new r h l e one a false is t = absurd (cc)
+reached_more before names later text at number end old new r h l e one a true is t = record {
+  lines = r.lines ++ line ∷ [];
+  apart = all_append IsOneLine r.lines (line ∷ []) r.apart (one, tt);
+  front = joined_more r.lines line ∙ ap (λ u. u ++ (line ++ 10 ∷ [])) r.front ∙ sym (taken_more text at end h l e);
+  within = omega (arith, l);
+  tell = line_more (tell_stays 1 names later a r.tell) t.2 t.3;
+  number_is = (let n = r.number_is in omega (arith, n, size));
+  few = (let f = r.few in omega (arith, f, size, h));
+  added = adds_more (length r.lines + 1) (length (r.lines ++ line ∷ [])) before later (omega (arith, size)) (adds_both (length r.lines) 1 before names later r.added a);
+}
+  where
+    line : List ℕ
+    line = take (end - at) (drop at text)
+
+    size : length (r.lines ++ line ∷ []) ≡ length r.lines + 1
+    size = length-append r.lines (line ∷ [])
+
+-- a line that can't be told is the first that is wrong
+pub reached_wrong : (before names later : List (List ℕ)) (text : List ℕ) (at number end : ℕ) (old new : Told) (refusal : Refusal) → Reached before names text at number old → at ≤ end → end < length text → get_or text end 0 ≡ 10
+    → IsOneLine (take (end - at) (drop at text)) → AddsNames 1 names later → (b : Bool) → b ≡ false → TakesLine later (take (end - at) (drop at text)) old new b → refusal ≡ record { code = 85; pos = record { line = number; column = 1 } } → IsFirstWrong later text refusal
+reached_wrong before names later text at number end old new refusal r h l e one a true is t f = absurd (cc)
+reached_wrong before names later text at number end old new refusal r h l e one a false is t f = record {
+  lines = r.lines;
+  apart = r.apart;
+  told = old;
+  tell = tell_stays 1 names later a r.tell;
+  line = line;
+  rest = 10 ∷ drop (end + 1) text;
+  one = one;
+  text_is =
+      sym (append_assoc (joined r.lines) line (10 ∷ drop (end + 1) text)) ∙ ap (λ u. (u ++ line) ++ 10 ∷ drop (end + 1) text) r.front
+      ∙ sym (append_assoc (take at text ++ line) (10 ∷ []) (drop (end + 1) text)) ∙ ap (λ u. u ++ drop (end + 1) text) (append_assoc (take at text) line (10 ∷ []) ∙ sym (taken_more text at end h l e))
+      ∙ take-append-drop (end + 1) text;
+  wrong = inr (drop (end + 1) text, refl, t.1);
+  refused = f ∙ ap (λ n. record { code = 85; pos = record { line = n; column = 1 } }) r.number_is;
+}
+  where
+    line : List ℕ
+    line = take (end - at) (drop at text)
+
+-- so is one without a line feed
+pub reached_unended : (before names : List (List ℕ)) (text : List ℕ) (at number : ℕ) (told : Told) (refusal : Refusal) → Reached before names text at number told → at < length text → IsOneLine (drop at text)
+    → refusal ≡ record { code = 85; pos = record { line = number; column = 1 } } → IsFirstWrong names text refusal
+reached_unended before names text at number told refusal r l one f = record {
+  lines = r.lines;
+  apart = r.apart;
+  told = told;
+  tell = r.tell;
+  line = drop at text;
+  rest = [];
+  one = one;
+  text_is = ap (λ u. joined r.lines ++ u) (append-nil (drop at text)) ∙ ap (λ u. u ++ drop at text) r.front ∙ take-append-drop at text;
+  wrong = inl ((λ e. (let some = sym (drop_more text at 0 l) ∙ e in absurd (cc))), refl);
+  refused = f ∙ ap (λ n. record { code = 85; pos = record { line = n; column = 1 } }) r.number_is;
+}
+
+-- where all is read, it is told
+pub reached_all : (before names : List (List ℕ)) (text : List ℕ) (at number : ℕ) (told : Told) (w : Weights) → Reached before names text at number told → length text ≤ at → w.functors ≡ told.functors → w.values ≡ told.values
+    → w.int ≡ or_nothing told.int → w.membrane ≡ or_nothing told.membrane → AreWeightsOf names text w
+reached_all before names text at number told w r l f v i m = record {
+  lines = r.lines;
+  apart = r.apart;
+  text_is = r.front ∙ take_all at text l;
+  told = told;
+  tell = r.tell;
+  functors = f;
+  values = v;
+  int = i;
+  membrane = m;
+}
+
+-- the lists are of one length
+pub weights_lists : (names : List (List ℕ)) (text : List ℕ) (w : Weights) → AreWeightsOf names text w → length w.functors ≡ length w.values
+weights_lists names text w a = ap length a.functors ∙ (told_small names a.tell).lists ∙ ap length (sym a.values)
+
+-- and the weights are small
+pub weights_small : (names : List (List ℕ)) (text : List ℕ) (w : Weights) → AreWeightsOf names text w → AreSmall w
+weights_small names text w a =
+    let s = told_small names a.tell in
+    record {
+      listed = subst (AllByRecursion (λ n. n ≤ 1000000)) (sym a.values) s.values;
+      int = (let e = a.int in let b = s.int in omega (arith, e, b));
+      membrane = (let e = a.membrane in let b = s.membrane in omega (arith, e, b));
+    }

@@ -1,0 +1,8 @@
+use Rattle.std.proofs.Common.{◌≡◌, ◌+◌, ◌-◌, ◌^◌, min, map, sum, take}
+use Rattle.lmn_base.specs.declared.level.Level.{out-Level}
+use Rattle.lmn_weight.specs.Plains as plains
+use Rattle.lmn_weight.proofs.bounding.+typed_uses.Given as goal
+
+abbrev pub invariant-loop-inner : goal.invariant-loop-inner
+invariant-loop-inner l =
+    l.number ≡ min (sum (map (plains.one_if_use l.name) (out-Level l.level).leaves) + sum (map (plains.typed_uses l.name) (take l.inner-index l.inner-items))) (2 ^ 64 - 1)

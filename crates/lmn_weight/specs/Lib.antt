@@ -1,0 +1,5 @@
+pub mod Weights
+pub mod Lowered
+pub mod Laws
+pub mod Plains
+pub mod Lines

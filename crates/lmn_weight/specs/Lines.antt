@@ -1,0 +1,151 @@
+-- What WEIGHTS says, line by line.
+use Rattle.std.specs.Prelude.{ℕ, ℤ, ◌≡◌, ◌≢◌, ◌⊎◌, ◌+◌, ◌&&◌, Bool, true, false, List, [], ◌∷◌, ◌++◌, Option, Some, None, IsSome, codes, length, nat_le, if◌then◌else◌}
+use Rattle.std.specs.Char.{is_ascii_digit}
+use Rattle.std.specs.Fmt.{decimal, signed_decimal}
+use Rattle.std.specs.List.{AllByRecursion, flat_map, list_all, list_any}
+use Rattle.lmn_base.specs.declared.functor.Functor.{Functor}
+use Rattle.lmn_base.specs.declared.refusal.Refusal.{Refusal}
+use Rattle.lmn_functors.specs.Reading.{IsFunctorText}
+use Rattle.lmn_heap.specs.Functors.{same_functor}
+use Rattle.lmn_instr.specs.Labels.{HasLabel}
+use Rattle.lmn_instr.specs.Listings.{functor_text}
+use Rattle.lmn_lexer.specs.Faults.{value_behind}
+use Rattle.lmn_weight.specs.declared.told.Told.{Told}
+use Rattle.lmn_weight.specs.declared.weights.Weights.{Weights}
+use Rattle.lmn_weight.specs.Plains.{is_integer}
+
+-- ---- one line
+
+-- the number that digits write, where it is at most 1,000,000
+abbrev pub small_value : List ℕ → Option ℕ
+small_value digits = if nat_le (value_behind 0 digits) 1000000 then Some (value_behind 0 digits) else None
+
+-- there are 1 to 7 digits
+abbrev pub are_digits : List ℕ → Bool
+are_digits bytes = nat_le 1 (length bytes) && (nat_le (length bytes) 7 && list_all is_ascii_digit bytes)
+
+-- the number that 1 to 7 digits write, where it is at most 1,000,000; zeros may stand in front
+abbrev pub number_written : List ℕ → Option ℕ
+number_written bytes = if are_digits bytes then small_value bytes else None
+
+-- a line, without its line feed, is what it names, a space, and a number
+pub record IsWeightLine (line item : List ℕ) (n : ℕ) : Type 0 where
+  pub digits : List ℕ
+  pub number : number_written digits ≡ Some n
+  pub is : line ≡ item ++ 32 ∷ digits
+
+-- no byte is a space
+abbrev pub HasNoSpace : List ℕ → Type 0
+HasNoSpace bytes = AllByRecursion (λ b. b ≢ 32) bytes
+
+-- the text of an integer with one link
+abbrev pub IsIntegerText : List ℕ → Type 0
+IsIntegerText item = (z : ℤ) × (signed_decimal z ++ (codes "/" ++ decimal 1) ≡ item)
+
+-- what a line may name: all integers with one link, membranes, or a functor that is no integer with one link
+abbrev pub MayBeNamed : List ℕ → Type 0
+MayBeNamed item = (item ≡ codes "int") ⊎ ((item ≡ codes "{}") ⊎ (IsFunctorText item × ¬ (IsIntegerText item)))
+
+-- ---- what some lines tell
+
+-- the functor is among these
+abbrev pub is_listed : Functor → List Functor → Bool
+is_listed f fs = list_any (λ g. same_functor g f) fs
+
+-- it is named already
+abbrev pub IsNamed : List (List ℕ) → Told → List ℕ → Type 0
+IsNamed names t item =
+    ((item ≡ codes "int") × IsSome t.int) ⊎ (((item ≡ codes "{}") × IsSome t.membrane)
+    ⊎ ((f : Functor) × (functor_text names f ≡ item) × (is_listed f t.functors ≡ true)))
+
+-- what a line says is told as well: it is named here for the first time
+pub data IsTold (names : List (List ℕ)) (item : List ℕ) (n : ℕ) (old new : Told) : Type 0 where
+  integers : item ≡ codes "int" → old.int ≡ None →
+      new ≡ record { functors = old.functors; values = old.values; int = Some n; membrane = old.membrane } → IsTold names item n old new
+  membranes : item ≡ codes "{}" → old.membrane ≡ None →
+      new ≡ record { functors = old.functors; values = old.values; int = old.int; membrane = Some n } → IsTold names item n old new
+  of_functor : (f : Functor) → functor_text names f ≡ item → HasLabel names f.label → is_integer f ≡ false → is_listed f old.functors ≡ false →
+      new ≡ record { functors = old.functors ++ f ∷ []; values = old.values ++ n ∷ []; int = old.int; membrane = old.membrane } → IsTold names item n old new
+
+-- nothing is told
+abbrev pub nothing_told : Told
+nothing_told = record { functors = []; values = []; int = None; membrane = None }
+
+-- a line that names a functor is told, or isn't
+abbrev pub TakesFunctor : Functor → ℕ → Told → Told → Bool → Type 0
+TakesFunctor f n old new true =
+    (is_integer f ≡ false) × (is_listed f old.functors ≡ false)
+    × (new ≡ record { functors = old.functors ++ f ∷ []; values = old.values ++ n ∷ []; int = old.int; membrane = old.membrane })
+TakesFunctor f n old new false = (new ≡ old) × ((is_integer f ≡ true) ⊎ (is_listed f old.functors ≡ true))
+
+-- so is one that names integers
+abbrev pub TakesInt : ℕ → Told → Told → Bool → Type 0
+TakesInt n old new true = (old.int ≡ None) × (new ≡ record { functors = old.functors; values = old.values; int = Some n; membrane = old.membrane })
+TakesInt n old new false = (new ≡ old) × IsSome old.int
+
+-- or membranes
+abbrev pub TakesMembrane : ℕ → Told → Told → Bool → Type 0
+TakesMembrane n old new true = (old.membrane ≡ None) × (new ≡ record { functors = old.functors; values = old.values; int = old.int; membrane = Some n })
+TakesMembrane n old new false = (new ≡ old) × IsSome old.membrane
+
+-- what a line names is told, or it can't be
+abbrev pub TakesItem : List (List ℕ) → List ℕ → ℕ → Told → Told → Bool → Type 0
+TakesItem names item n old new true = IsTold names item n old new
+TakesItem names item n old new false = (new ≡ old) × (MayBeNamed item → IsNamed names old item)
+
+-- a line is told, or it can't be
+abbrev pub TakesLine : List (List ℕ) → List ℕ → Told → Told → Bool → Type 0
+TakesLine names line old new true = (item : List ℕ) × (n : ℕ) × IsWeightLine line item n × IsTold names item n old new
+TakesLine names line old new false = (new ≡ old) × ((item : List ℕ) (n : ℕ) → IsWeightLine line item n → MayBeNamed item → IsNamed names old item)
+
+-- what lines tell, from the first to the last: each is of the form, and names what none before it names
+pub data Tell (names : List (List ℕ)) : List (List ℕ) → Told → Type 0 where
+  no_line : {t : Told} → t ≡ nothing_told → Tell names [] t
+  line_more : {lines : List (List ℕ)} {line item : List ℕ} {n : ℕ} {old new : Told} →
+      Tell names lines old → IsWeightLine line item n → IsTold names item n old new → Tell names (lines ++ line ∷ []) new
+
+-- ---- a text of lines
+
+-- no byte is a line feed
+abbrev pub IsOneLine : List ℕ → Type 0
+IsOneLine line = AllByRecursion (λ b. b ≢ 10) line
+
+-- lines, each with its line feed
+abbrev pub joined : List (List ℕ) → List ℕ
+joined lines = flat_map (λ line. line ++ 10 ∷ []) lines
+
+-- a weight that is told, or else 0
+abbrev pub or_nothing : Option ℕ → ℕ
+or_nothing None = 0
+or_nothing (Some n) = n
+
+-- the text is lines, and the weights are what they tell
+pub record AreWeightsOf (names : List (List ℕ)) (text : List ℕ) (w : Weights) : Type 0 where
+  pub lines : List (List ℕ)
+  pub apart : AllByRecursion IsOneLine lines
+  pub text_is : joined lines ≡ text
+  pub told : Told
+  pub tell : Tell names lines told
+  pub functors : w.functors ≡ told.functors
+  pub values : w.values ≡ told.values
+  pub int : w.int ≡ or_nothing told.int
+  pub membrane : w.membrane ≡ or_nothing told.membrane
+
+-- what is wrong with a line: it has no line feed, or whatever it may name is named already, as where it names nothing
+abbrev pub IsWrong : List (List ℕ) → Told → List ℕ → List ℕ → Type 0
+IsWrong names t line rest =
+    ((line ≢ []) × (rest ≡ []))
+    ⊎ ((more : List ℕ) × (rest ≡ 10 ∷ more) × ((item : List ℕ) (n : ℕ) → IsWeightLine line item n → MayBeNamed item → IsNamed names t item))
+
+-- E85: the first line that is wrong
+pub record IsFirstWrong (names : List (List ℕ)) (text : List ℕ) (refusal : Refusal) : Type 0 where
+  pub lines : List (List ℕ)
+  pub apart : AllByRecursion IsOneLine lines
+  pub told : Told
+  pub tell : Tell names lines told
+  pub line : List ℕ
+  pub rest : List ℕ
+  pub one : IsOneLine line
+  pub text_is : joined lines ++ (line ++ rest) ≡ text
+  pub wrong : IsWrong names told line rest
+  pub refused : refusal ≡ record { code = 85; pos = record { line = length lines + 1; column = 1 } }

@@ -1,0 +1,37 @@
+//! Weights of processes, rules that lower them, and what they bound.
+//!
+//! The definitions stand in `specs/`: `Weights`, `Lowered` and `Laws` of processes and rules as trees, `Plains` of the same as
+//! they are read, `Lines` of the text that tells weights. Each law is the contract of a function with an empty body.
+#![tactic(auto)]
+
+ghost use Rattle.lmn_weight.specs.Laws.{CongruenceKeepsWeight, SettlingKeepsWeight};
+ghost use Rattle.lmn_weight.specs.Laws.{LoweredRulesLower, WeightBoundsCommits};
+
+mod bounding;
+mod reading;
+mod told;
+mod weights;
+
+pub use bounding::bound;
+pub use reading::read;
+pub use told::Told;
+pub use weights::Weights;
+
+/// Congruence and settling keep the weight of a process.
+#[tactic(auto, using(crate::proofs::KeptWeight::congruence_keeps, crate::proofs::KeptWeight::settling_keeps))]
+pub fn weight_is_kept()
+    ensures congruence { CongruenceKeepsWeight }
+    ensures settling { SettlingKeepsWeight }
+{}
+
+/// Where a rule that is lowered fires, what it makes weighs less than what it takes.
+#[tactic(auto, using(crate::proofs::FiredWeight::lowered_rules_lower))]
+pub fn lowered_rules_lower()
+    ensures { LoweredRulesLower }
+{}
+
+/// Where each rule is lowered, the weight of a process bounds every chain of commits from what it settles to.
+#[tactic(auto, using(crate::proofs::Bounds::weight_bounds))]
+pub fn weight_bounds_commits()
+    ensures { WeightBoundsCommits }
+{}
