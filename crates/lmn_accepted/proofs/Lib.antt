@@ -1,13 +1,13 @@
-mod Listed
+pub mod Listed
 mod FewLinks
-mod PlanKinds
-mod Items
-mod Trees
-mod Expressions
-mod InTurns
-mod Types
-mod Counts
-mod AcceptedRules
+pub mod PlanKinds
+pub mod Items
+pub mod Trees
+pub mod Expressions
+pub mod InTurns
+pub mod Types
+pub mod Counts
+pub mod AcceptedRules
 mod AcceptedTexts
 mod NumbersBack
 mod HeldLevels

@@ -28,9 +28,9 @@ use Rattle.lmn_adequacy.specs.Runs.{End, irreducible, budget_done, full}
 use Rattle.lmn_drive.specs.declared.driving.RunEnd.{RunEnd}
 use Rattle.lmn_drive.specs.declared.driving.RunEnd.TheVariants as run
 use Rattle.lmn_drive.specs.Driving.{Drove, RunInput as Driven, given_by_engine as driven, no_memory as no_memory_word, Ran}
-use Rattle.lmn_drive.specs.Written.{Lines, written, end_line}
+use Rattle.lmn_drive.specs.Written.{Lines, written}
 use Rattle.lmn_runs.specs.Laws.{solid_of}
-use Rattle.lmn_runs.specs.Runs.{LinesOf, Stop, StopsSo, at_end, no_memory, printed_solids, word_of_stop, end_word as driven_word}
+use Rattle.lmn_runs.specs.Runs.{LinesOf, Stop, StopsSo, at_end, no_memory, end_line, printed_solids, word_of_stop, end_word as driven_word}
 use Rattle.lmn_runs.proofs.TraceLines.{lines_count, lines_with}
 use Rattle.lmn_app.specs.declared.task.RunSettings.{RunSettings}
 use Rattle.lmn_app.specs.declared.task.Task.TheVariants as task

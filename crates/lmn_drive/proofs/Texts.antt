@@ -4,7 +4,8 @@ use Rattle.std.specs.List.{concat}
 use Rattle.std.proofs.lemmas.List.Folds.{concat-append}
 use Rattle.lmn_io.specs.Taking.{Takes, TakesPrefix}
 use Rattle.lmn_io.proofs.TakingLemmas.{prefix_more, prefix_after, takes_both}
-use Rattle.lmn_drive.specs.Written.{end_line, traced, written}
+use Rattle.lmn_drive.specs.Written.{traced, written}
+use Rattle.lmn_runs.specs.Runs.{end_line}
 use Rattle.lmn_drive.specs.Driving.{rest_of}
 
 -- one line more

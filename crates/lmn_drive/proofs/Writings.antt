@@ -12,7 +12,8 @@ use Rattle.lmn_folded.specs.Lines.{IsLine}
 use Rattle.lmn_folded_printer.specs.Lines.{IsHeapLine}
 use Rattle.lmn_schedule.specs.Held.{HoldsRegion}
 use Rattle.lmn_drive.specs.Driving.{IsRestOf, IsTracedLineOf, rest_of}
-use Rattle.lmn_drive.specs.Written.{end_line, traced}
+use Rattle.lmn_drive.specs.Written.{traced}
+use Rattle.lmn_runs.specs.Runs.{end_line}
 use Rattle.lmn_drive.proofs.Lines.{line_held}
 
 -- what holds at the exit of a `?`

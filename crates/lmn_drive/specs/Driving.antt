@@ -13,8 +13,8 @@ use Rattle.lmn_drive.specs.declared.driving.RunOptions.{RunOptions}
 use Rattle.lmn_drive.specs.declared.driving.RunEnd.TheVariants.{Irreducible, Budget, Full, NoMemory, Failed}
 use Rattle.lmn_drive.specs.declared.driving.Stop.{Stop}
 use Rattle.lmn_drive.specs.declared.driving.Stop.TheVariants as stop
-use Rattle.lmn_drive.specs.Written.{Lines, written, traced, end_line}
-use Rattle.lmn_runs.specs.Runs.{end_word}
+use Rattle.lmn_drive.specs.Written.{Lines, written, traced}
+use Rattle.lmn_runs.specs.Runs.{end_line, end_word}
 
 -- What a run is given: a list of names and a table of rules, what the chooser answers, the budget and the size, whether all lines
 -- are written, and in the folded form, and the solid at the start.

@@ -1,9 +1,9 @@
 -- What a run writes.
-use Rattle.std.specs.Prelude.{ℕ, ◌≡◌, List, [], ◌∷◌, ◌++◌, length, codes, decimal, Bool, if◌then◌else◌}
+use Rattle.std.specs.Prelude.{ℕ, ◌≡◌, List, [], ◌++◌, length, Bool, if◌then◌else◌}
 use Rattle.std.specs.List.{concat}
 use Rattle.lmn_congruence.specs.Regions.{Region}
 use Rattle.lmn_folded.specs.Lines.{IsLine}
-use Rattle.lmn_runs.specs.Runs.{LinesOf}
+use Rattle.lmn_runs.specs.Runs.{LinesOf, end_line}
 
 -- The lines of the solids of a trace that is cut, in the folded form where that is asked, and else in the plain one: those of the solids
 -- before the last one, and that of the last one.
@@ -16,10 +16,6 @@ pub record Lines (folded : Bool) (before : List Region) (last : Region) : Type 0
 -- lines that are written with a trace alone
 abbrev pub traced : Bool → List (List ℕ) → List ℕ
 traced trace lines = if trace then concat lines else []
-
--- the end line: a word, and how many commits were done
-abbrev pub end_line : List ℕ → ℕ → List ℕ
-end_line word commits = concat (codes "% " ∷ word ∷ codes " after " ∷ decimal commits ∷ codes "\n" ∷ [])
 
 -- What is written by lines: with a trace those before the last one, then the last one, and the end line with a word.
 abbrev pub written : Bool → List (List ℕ) → List ℕ → List ℕ → List ℕ

@@ -7,7 +7,7 @@ ghost use Rattle.lmn_order.specs.Answers.{AnswersBelow};
 ghost use Rattle.lmn_schedule.specs.Held.{EngineCanTurn, HoldsRegion};
 ghost use Rattle.lmn_schedule.specs.Turning.{Gives};
 ghost use Rattle.lmn_folded_printer.specs.Lines.{IsHeapLine};
-ghost use Rattle.lmn_drive.specs.Written.{end_line};
+ghost use Rattle.lmn_runs.specs.Runs.{end_line};
 ghost use Rattle.lmn_drive.specs.Answers.{BrokeByAnswers, DroveByAnswers, GoingByAnswers, StepsOnByAnswers, StoppedByAnswers};
 ghost use Rattle.lmn_drive.specs.Driving.{Broke, Concludes, CountsCommit, Drove, Going, IsRestOf, IsTracedLineOf, StepsOn, Stopped, given_by_engine, stop_end, stop_word};
 

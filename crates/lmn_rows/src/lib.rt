@@ -9,6 +9,8 @@ mod choosers;
 #[cfg(test)]
 mod code;
 #[cfg(test)]
+mod codes_read;
+#[cfg(test)]
 mod failing;
 #[cfg(test)]
 mod fired;

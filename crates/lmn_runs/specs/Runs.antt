@@ -1,5 +1,6 @@
 -- What a run is, by what it prints: in the calculus, and by the strategy.
-use Rattle.std.specs.Prelude.{ℕ, ◌≡◌, ◌+◌, ◌<◌, ◌≤◌, List, [], ◌∷◌, ◌++◌, Bool, true, false, if◌then◌else◌, codes}
+use Rattle.std.specs.Prelude.{ℕ, ◌≡◌, ◌+◌, ◌<◌, ◌≤◌, List, [], ◌∷◌, ◌++◌, Bool, true, false, if◌then◌else◌, codes, decimal}
+use Rattle.std.specs.List.{concat}
 use Rattle.lmn_base.specs.declared.rule.Plain.{Plain}
 use Rattle.lmn_congruence.specs.Process.{Process, Closed}
 use Rattle.lmn_congruence.specs.Regions.{Region}
@@ -31,6 +32,10 @@ end_word full = codes "full"
 abbrev pub word_of_stop : Stop → List ℕ
 word_of_stop (at_end e) = end_word e
 word_of_stop no_memory = codes "no memory"
+
+-- the end line: a word, and how many commits were done
+abbrev pub end_line : List ℕ → ℕ → List ℕ
+end_line word commits = concat (codes "% " ∷ word ∷ codes " after " ∷ decimal commits ∷ codes "\n" ∷ [])
 
 -- How a run stops at a process after n commits. With the word irreducible the process is so, and with each other word it isn't.
 abbrev pub StopsBy : ℕ → Stop → ℕ → Process → Type 0

@@ -1,6 +1,6 @@
 use Rattle.std.proofs.Common.{◌≡◌, ◌∙◌, subst}
 use Rattle.lmn_io.specs.Writing.{WritesText}
-use Rattle.lmn_drive.specs.Written.{end_line}
+use Rattle.lmn_runs.specs.Runs.{end_line}
 use Rattle.lmn_drive.specs.Driving.{stop_word}
 use Rattle.lmn_drive.proofs.Writings.{rest_broke, rest_written}
 use Rattle.lmn_drive.proofs.driving.write_rest.Goals as goal

@@ -1,0 +1,5 @@
+mod WeightsAgree
+mod Integers
+mod LoweredTrees
+mod Bounded
+mod Sizes

@@ -1,0 +1,4 @@
+pub mod Chains
+pub mod Examples
+pub mod Laws
+pub mod Steps
