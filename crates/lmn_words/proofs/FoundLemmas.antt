@@ -13,10 +13,11 @@ use Rattle.clap.specs.declared.parser.matches.SubCommand.{SubCommand}
 use Rattle.clap.specs.declared.parser.matches.ArgMatches.TheViews.{out-SubCommand}
 use Rattle.lmn_words.specs.declared.command.RunWords.{RunWords}
 use Rattle.lmn_words.specs.declared.command.Command.{Command}
-use Rattle.lmn_words.specs.Forms.{Asks, InForm, IsInRanges, Request, Run, TextsAsk, CommandWord, ordered_by, request_of, run_of, texts_of, to_compile, to_demo, to_run}
-use Rattle.lmn_words.specs.Hearing.{number_written}
+use Rattle.lmn_words.specs.declared.command.PairKind.{PairKind}
+use Rattle.lmn_words.specs.Forms.{Asks, InForm, IsInRanges, Pair, Request, Run, TextsAsk, CommandWord, ordered_by, pair_word, request_of, run_of, standing_first, standing_last, texts_of, to_compile, to_demo, to_pair, to_run}
+use Rattle.lmn_words.specs.Hearing.{number_written, pair_in_order, pair_named}
 use Rattle.lmn_words.specs.Parsing.{FoundIsRequest, Tells, number_given, order_given, whole_line}
-use Rattle.lmn_words.proofs.ReadLemmas.{in_ranges}
+use Rattle.lmn_words.proofs.ReadLemmas.{in_ranges, order_undone, pair_word_read}
 use Rattle.lmn_words.proofs.ParseLemmas.{asked_taken}
 
 -- words of the form are taken
@@ -43,10 +44,15 @@ module _ {Z : Type 0} where
 other_length : (a b : Text) → a ≡ b → (length a ≡ length b → ⊥) → ⊥
 other_length a b e differs = differs (ap length e)
 
+-- the word of a command with a program and a second text is none of these
+not_pair : (k : PairKind) (n : Text) → n ≡ pair_word k → (n ≡ codes "run" → ⊥) × (n ≡ codes "compile" → ⊥) × (n ≡ codes "demo" → ⊥)
+not_pair k n is = (λ e. none-some k (ap pair_named (sym e ∙ is) ∙ pair_word_read k), λ e. none-some k (ap pair_named (sym e ∙ is) ∙ pair_word_read k), λ e. none-some k (ap pair_named (sym e ∙ is) ∙ pair_word_read k))
+
 -- the file of `compile`
 pub compile_found : (n : Text) (rows : List Row) (r : Request) (o : Option Text) → n ≡ codes "compile" → o ≡ first_of (codes "file") rows → FoundIsRequest (Some (n, rows)) r
     → option_map to_compile o ≡ Some r
 compile_found n rows (to_run run) o is e h = absurd (other_length (codes "compile") (codes "run") (sym is ∙ h.0) (λ l. omega (arith, l)))
+compile_found n rows (to_pair pair) o is e h = absurd ((not_pair pair.kind n h.0).1 is)
 compile_found n rows (to_demo k) o is e h = absurd (other_length (codes "compile") (codes "demo") (sym is ∙ h.0) (λ l. omega (arith, l)))
 compile_found n rows (to_compile file) o is e h = ap (option_map to_compile) (e ∙ h.1)
 
@@ -55,7 +61,17 @@ pub demo_found : (n : Text) (rows : List Row) (r : Request) (o : Option ℕ) →
     → option_map to_demo o ≡ Some r
 demo_found n rows (to_run run) o is e h = absurd (other_length (codes "demo") (codes "run") (sym is ∙ h.0) (λ l. omega (arith, l)))
 demo_found n rows (to_compile file) o is e h = absurd (other_length (codes "demo") (codes "compile") (sym is ∙ h.0) (λ l. omega (arith, l)))
+demo_found n rows (to_pair pair) o is e h = absurd ((not_pair pair.kind n h.0).2 is)
 demo_found n rows (to_demo k) o is e h = ap (option_map to_demo) (e ∙ h.1)
+
+-- two words of such a command, in their order, are the pair
+pub pair_same : (pair : Pair) (k : PairKind) (first last : Text) → k ≡ pair.kind → first ≡ standing_first pair.kind pair.file pair.second → last ≡ standing_last pair.kind pair.file pair.second
+    → pair_in_order k first last ≡ pair
+pair_same pair k first last is front back = (λ i. pair_in_order (is i) (front i) (back i)) ∙ order_undone pair.kind pair.file pair.second
+
+-- what is found of such a command
+pub kind_found : (n : Text) (rows : List Row) (pair : Pair) (k : PairKind) → Some k ≡ pair_named n → FoundIsRequest (Some (n, rows)) (to_pair pair) → k ≡ pair.kind
+kind_found n rows pair k named h = same_Some k pair.kind (named ∙ ap pair_named h.0 ∙ pair_word_read pair.kind)
 
 flag_is : (o : Option Text) (a b : Bool) → (o ≡ Some (codes "true") → a ≡ true) → (o ≡ Some (codes "false") → a ≡ false) → o ≡ Some (bool_text b) → a ≡ b
 flag_is o a true given missing e = given e

@@ -24,12 +24,14 @@ use Rattle.lmn_words.specs.declared.setting.Flag.TheVariants as flag
 use Rattle.lmn_words.specs.declared.setting.Valued.{Valued}
 use Rattle.lmn_words.specs.declared.setting.Valued.TheVariants as valued
 use Rattle.lmn_words.specs.declared.setting.OrderName.TheVariants as name
-use Rattle.lmn_words.specs.Forms.{CommandWord, IsFileName, IsNumber, Sets, AreFilesAndSettings, nothing, a_file, a_flag, two_words, one_word, ordered_by, Run, Request, to_run, to_compile, to_demo, AsksRun, TextsAsk, budget_of, size_of, order_name_of, seed_of}
+use Rattle.lmn_words.specs.declared.command.PairKind.{PairKind}
+use Rattle.lmn_words.specs.declared.command.PairKind.TheVariants as kind
+use Rattle.lmn_words.specs.Forms.{CommandWord, IsFileName, IsNumber, Sets, AreFilesAndSettings, nothing, a_file, a_flag, two_words, one_word, ordered_by, Run, Pair, Request, to_run, to_compile, to_demo, to_pair, AsksRun, TextsAsk, pair_word, standing_first, standing_last, budget_of, size_of, order_name_of, seed_of}
 use Rattle.lmn_words.specs.Hearing.{no_settings, number_written, order_named, with_setting}
-use Rattle.lmn_words.specs.Parsing.{FoundIsRequest, Tells, compile_line, demo_line, whole_line}
+use Rattle.lmn_words.specs.Parsing.{FoundIsRequest, Tells, compile_line, demo_line, pair_line, whole_line}
 use Rattle.lmn_words.proofs.WordLemmas.{bool_cases, if_some, number_read, option_word, order_read}
 use Rattle.lmn_words.proofs.SettingLemmas.{all_read, firsts, firsts_collected, front_empty, is_none, list_option, only_value, settings_all, trace_value, folded_value}
-use Rattle.lmn_words.proofs.ReadLemmas.{each_once}
+use Rattle.lmn_words.proofs.ReadLemmas.{each_once, standing_names}
 use Rattle.lmn_words.proofs.WalkLemmas.{Stands, after_met, and_first_true, at_new_row, between, both_passes, both_walked, built_line, file_passes, file_walked, flag_id, flag_passes, flag_walked, given, held, name_passes, name_walked, named, option_id, passes, plain_met, plain_passes, run_rules, run_shape, stands_done, stands_file, stands_option, step_of_met, used_new, used_once, value_walked, value_word_passes}
 use Rattle.lmn_base.proofs.Numbers.{unequal as not_same}
 use Rattle.std.proofs.lemmas.Bool.{and_from}
@@ -481,6 +483,87 @@ one_taken o (b ∷ bs) h =
       ap (λ (w : Walk). first_text (one_id o) (finished (one_rules o) w.held)) (one_walked o b bs e) ∙ first_word o (b ∷ bs),
     )
 
+-- ---- the words of a command with a program and a second text
+
+abbrev two_shape : PairKind → Shape
+two_shape k = built_line (pair_line (pair_word k)).top
+
+abbrev two_rules : PairKind → List Rule
+two_rules k = (two_shape k).rules
+
+-- the first of the two is pending
+abbrev one_held : Text → Option (Text × List Text)
+one_held w = Some (codes "first", w ∷ [])
+
+-- between the two words, and behind both
+abbrev between_two : Text → Walk
+between_two w = between (one_held w) [] 2
+
+abbrev behind_two : PairKind → Text → Text → Walk
+behind_two k w v = between (Some (codes "last", v ∷ [])) (settled_rows (two_rules k) (one_held w) []) 3
+
+first_of_two : (k : PairKind) (b : ℕ) (bs : Text) → (b == 45) ≡ false → walked (two_rules k) [] (between None [] 1) (b ∷ bs) ≡ between_two (b ∷ bs)
+unfolding walked
+first_of_two k b bs e = ap (after_met (two_rules k) (between None [] 1) (b ∷ bs)) (plain_met (two_rules k) idle b bs 1 (held None []) e refl)
+
+last_of_two : (k : PairKind) (w : Text) (c : ℕ) (cs : Text) → (c == 45) ≡ false → walked (two_rules k) [] (between_two w) (c ∷ cs) ≡ behind_two k w (c ∷ cs)
+unfolding walked
+last_of_two k w c cs e = ap (after_met (two_rules k) (between_two w) (c ∷ cs)) (plain_met (two_rules k) idle c cs 2 (held (one_held w) []) e refl)
+
+two_walked : (k : PairKind) (b : ℕ) (bs : Text) (c : ℕ) (cs : Text) → (b == 45) ≡ false → (c == 45) ≡ false
+    → walk (two_rules k) [] nothing_held ((b ∷ bs) ∷ ((c ∷ cs) ∷ [])) ≡ behind_two k (b ∷ bs) (c ∷ cs)
+two_walked k b bs c cs e f = ap (λ w. walked (two_rules k) [] w (c ∷ cs)) (first_of_two k b bs e) ∙ last_of_two k (b ∷ bs) c cs f
+
+first_turn : (k : PairKind) (b : ℕ) (bs : Text) → (b == 45) ≡ false → turn_passes (two_shape k) [] (between None [] 1) (b ∷ bs) ≡ true
+first_turn k b bs e =
+    and_first_true (word_passes (two_shape k) [] false idle (b ∷ bs) (held None [])) (step_of_met (two_shape k) 1 (word_met (two_rules k) [] false idle 1 (b ∷ bs) (held None [])))
+    (plain_passes (two_shape k) idle b bs (held None []) e refl)
+    ∙ ap (step_of_met (two_shape k) 1) (plain_met (two_rules k) idle b bs 1 (held None []) e refl)
+
+last_turn : (k : PairKind) (w : Text) (c : ℕ) (cs : Text) → (c == 45) ≡ false → turn_passes (two_shape k) [] (between_two w) (c ∷ cs) ≡ true
+last_turn k w c cs e =
+    and_first_true (word_passes (two_shape k) [] false idle (c ∷ cs) (held (one_held w) [])) (step_of_met (two_shape k) 2 (word_met (two_rules k) [] false idle 2 (c ∷ cs) (held (one_held w) [])))
+    (plain_passes (two_shape k) idle c cs (held (one_held w) []) e refl)
+    ∙ ap (step_of_met (two_shape k) 2) (plain_met (two_rules k) idle c cs 2 (held (one_held w) []) e refl)
+
+two_passes : (k : PairKind) (b : ℕ) (bs : Text) (c : ℕ) (cs : Text) → (b == 45) ≡ false → (c == 45) ≡ false
+    → walk_passes (two_shape k) [] (between None [] 1) ((b ∷ bs) ∷ ((c ∷ cs) ∷ [])) ≡ true
+unfolding walk_passes
+two_passes k b bs c cs e f =
+    and_from (turn_passes (two_shape k) [] (between None [] 1) (b ∷ bs)) (walk_passes (two_shape k) [] (walked (two_rules k) [] (between None [] 1) (b ∷ bs)) ((c ∷ cs) ∷ [])) (first_turn k b bs e)
+    (ap (λ w. walk_passes (two_shape k) [] w ((c ∷ cs) ∷ [])) (first_of_two k b bs e)
+    ∙ and_from (turn_passes (two_shape k) [] (between_two (b ∷ bs)) (c ∷ cs)) true (last_turn k (b ∷ bs) c cs f) refl)
+
+-- what is asked behind the walk
+abbrev after_two : PairKind → Walk → Bool
+after_two k w = settle_passes (two_rules k) (two_shape k).args_override_self w.held && (list_all default_passes (two_rules k) && is_valid (two_shape k) (finished (two_rules k) w.held) false)
+
+-- and met there
+after_both : (k : PairKind) (w v : Text) → after_two k (behind_two k w v) ≡ true
+after_both k w v = refl
+
+first_given_of_two : (k : PairKind) (w v : Text) → first_text (codes "first") (finished (two_rules k) (behind_two k w v).held) ≡ Some w
+first_given_of_two k w v = refl
+
+last_given_of_two : (k : PairKind) (w v : Text) → first_text (codes "last") (finished (two_rules k) (behind_two k w v).held) ≡ Some v
+last_given_of_two k w v = refl
+
+-- two words that don't begin with a hyphen are taken, and the matches tell both
+two_taken : (k : PairKind) (w v : CommandWord) → IsFileName w → IsFileName v
+    → (level_passes (two_shape k) [] nothing_held (w ∷ (v ∷ [])) false ≡ true) × (first_text (codes "first") (rows_after (two_rules k) [] (w ∷ (v ∷ []))) ≡ Some w)
+    × (first_text (codes "last") (rows_after (two_rules k) [] (w ∷ (v ∷ []))) ≡ Some v)
+two_taken k [] v h g = absurd h
+two_taken k (b ∷ bs) [] h g = absurd g
+two_taken k (b ∷ bs) (c ∷ cs) h g =
+    let e = not_same b 45 h in
+    let f = not_same c 45 g in
+    let walks = two_walked k b bs c cs e f in (
+      and_from (walk_passes (two_shape k) [] (between None [] 1) ((b ∷ bs) ∷ ((c ∷ cs) ∷ []))) (after_two k (walk (two_rules k) [] nothing_held ((b ∷ bs) ∷ ((c ∷ cs) ∷ []))))
+          (two_passes k b bs c cs e f) (ap (after_two k) walks ∙ after_both k (b ∷ bs) (c ∷ cs)),
+      ap (λ (w : Walk). first_text (codes "first") (finished (two_rules k) w.held)) walks ∙ first_given_of_two k (b ∷ bs) (c ∷ cs),
+      ap (λ (w : Walk). first_text (codes "last") (finished (two_rules k) w.held)) walks ∙ last_given_of_two k (b ∷ bs) (c ∷ cs),
+    )
+
 -- ---- the first word
 
 abbrev top : App
@@ -517,6 +600,13 @@ demo_stops : Stops (codes "demo")
 unfolding clap_on_literals
 demo_stops = (refl, refl)
 
+pair_stops : (k : PairKind) → Stops (pair_word k)
+unfolding clap_on_literals
+pair_stops kind.Check = (refl, refl)
+pair_stops kind.Debug = (refl, refl)
+pair_stops kind.Exec = (refl, refl)
+pair_stops kind.Bound = (refl, refl)
+
 top_walked : (n : Text) (words : List CommandWord) → Stops n → walk top.top.rules (names_of top) nothing_held (n ∷ words) ≡ stopped_at n words
 top_walked n words h = ap (λ w. fold (walked top.top.rules (names_of top)) w words) h.0 ∙ kept_words top.top.rules (names_of top) (walk_from nothing_held) n [] words
 
@@ -538,6 +628,27 @@ top_takes n words h found e =
     (ap (λ (v : Walk). level_passes top.top (names_of top) nothing_held (n ∷ words) (is_some (entered top v.stopped))) (top_walked n words h)
     ∙ ap (level_passes top.top (names_of top) nothing_held (n ∷ words)) found
     ∙ and_from (walk_passes top.top (names_of top) (walk_from nothing_held) (n ∷ words)) (top_after w) (top_passes n words h) (ap top_after (top_walked n words h))))
+
+-- the line of each command with a program and a second text is among those of the program
+pair_entered : (k : PairKind) (words : List CommandWord) → (is_some (entered top (Some (pair_word k, words))) ≡ true)
+    × (level_passes (two_shape k) [] nothing_held words false ≡ true → entered_passes top (Some (pair_word k, words)) ≡ true)
+    × (entered top (Some (pair_word k, words)) ≡ Some (pair_word k, rows_after (two_rules k) [] words))
+pair_entered kind.Check words = (refl, (λ e. e), refl)
+pair_entered kind.Debug words = (refl, (λ e. e), refl)
+pair_entered kind.Exec words = (refl, (λ e. e), refl)
+pair_entered kind.Bound words = (refl, (λ e. e), refl)
+
+pair_taken : (k : PairKind) (first last : CommandWord) → IsFileName first → IsFileName last → (pair : Pair) → k ≡ pair.kind → first ≡ standing_first pair.kind pair.file pair.second
+    → last ≡ standing_last pair.kind pair.file pair.second
+    → (takes whole_line (pair_word k ∷ (first ∷ (last ∷ []))) ≡ true) × FoundIsRequest (subcommand_of whole_line (pair_word k ∷ (first ∷ (last ∷ [])))) (to_pair pair)
+pair_taken k first last f l pair is front back =
+    let t = two_taken k first last f l in
+    let words : List CommandWord = first ∷ (last ∷ []) in
+    let n = pair_entered k words in (
+      top_takes (pair_word k) words (pair_stops k) n.0 (n.1 t.0),
+      subst (λ (v : Walk). FoundIsRequest (entered top v.stopped) (to_pair pair)) (sym (top_walked (pair_word k) words (pair_stops k)))
+          (subst (λ o. FoundIsRequest o (to_pair pair)) (sym n.2) (ap pair_word is, t.1 ∙ ap Some front, t.2 ∙ ap Some back)),
+    )
 
 -- what words ask for is taken, and found
 pub asked_taken : (words : List CommandWord) (r : Request) → TextsAsk words r → (takes whole_line words ≡ true) × FoundIsRequest (subcommand_of whole_line words) r
@@ -566,3 +677,10 @@ asked_taken (w ∷ words) (to_demo n) h =
       subst (λ (v : Walk). FoundIsRequest (entered top v.stopped) (to_demo n)) (sym (top_walked (codes "demo") (word ∷ []) demo_stops))
           (refl, ap (option_and_then number_written) t.1 ∙ number_is 1 100000 word n is),
     ))
+asked_taken (w ∷ words) (to_pair pair) h =
+    let k = pair.kind in
+    let first = standing_first k pair.file pair.second in
+    let last = standing_last k pair.file pair.second in
+    let names = standing_names k pair.file pair.second h.1.1 h.1.2 in
+    let P : CommandWord → List CommandWord → Type 0 = λ v ws. (takes whole_line (v ∷ ws) ≡ true) × FoundIsRequest (subcommand_of whole_line (v ∷ ws)) (to_pair pair) in
+    subst (λ v. P v words) (sym h.0) (subst (P (pair_word k)) (sym h.1.0) (pair_taken k first last names.0 names.1 pair refl refl refl))

@@ -1,7 +1,7 @@
 -- That the words are read exactly as they are of the form.
 use Rattle.std.specs.declared.string.String.{String}
 use Rattle.std.specs.declared.alloc.Global.{Global}
-use Rattle.std.proofs.Common.{◌≤◌, ◌≡◌, ℕ, ◌+◌, ◌==◌, Bool, true, false, if◌then◌else◌, List, [], ◌∷◌, ◌++◌, length, take, drop, Option, Some, None, is_some, option_map, option_and_then, option_to_list, filter_map, bytes_eq, codes, inl, inr, refl, sym, ap, ◌∙◌, subst, arith}
+use Rattle.std.proofs.Common.{◌≤◌, ◌≡◌, ℕ, ◌+◌, ◌==◌, ◌&&◌, Bool, true, false, if◌then◌else◌, List, [], ◌∷◌, ◌++◌, length, take, drop, Option, Some, None, is_some, option_map, option_and_then, option_to_list, filter_map, bytes_eq, codes, inl, inr, refl, sym, ap, ◌∙◌, subst, arith}
 use Rattle.std.specs.Prelude.{⊤, unwrap_or}
 use Rattle.std.proofs.lemmas.Bool.{eq-eqb}
 use Rattle.std.proofs.lemmas.List.{append-nil}
@@ -14,9 +14,11 @@ use Rattle.lmn_words.specs.declared.setting.Flag.TheVariants as flag
 use Rattle.lmn_words.specs.declared.setting.Valued.{Valued}
 use Rattle.lmn_words.specs.declared.setting.Valued.TheVariants as valued
 use Rattle.lmn_words.specs.declared.setting.OrderName.TheVariants as name
-use Rattle.lmn_words.specs.Forms.{texts_of, InForm, IsInRanges, CommandWord, IsFileName, Sets, AreFilesAndSettings, nothing, a_file, a_flag, two_words, one_word, EachAtMostOnce, OnlyOr, ordered_by, Run, Request, to_run, to_compile, to_demo, AsksRun, AsksCompile, AsksDemo, TextsAsk, IsForm, flag_word, trace_of, folded_of, budget_of, size_of, order_name_of, seed_of}
-use Rattle.lmn_words.specs.Hearing.{is_file_name, flag_named, option_named, setting_of, with_setting, Heard, no_settings, nothing_heard, hear_setting, hear_value, hear_file, equals_at, hear_option, hear_flag, hear_dashes, hear_word, hear_waiting, hear, hear_all, run_by, run_heard, run_read, file_read, demo_read, request_read}
-use Rattle.lmn_words.proofs.WordLemmas.{false_true, if_some, map_some, then_some, number_from_told, number_from_read, flag_told, option_word, option_told, setting_told, setting_read, file_told, file_read_is, cut_told, is_bytes}
+use Rattle.lmn_words.specs.declared.command.PairKind.{PairKind}
+use Rattle.lmn_words.specs.declared.command.PairKind.TheVariants as kind
+use Rattle.lmn_words.specs.Forms.{texts_of, InForm, IsInRanges, CommandWord, IsFileName, Sets, AreFilesAndSettings, nothing, a_file, a_flag, two_words, one_word, EachAtMostOnce, OnlyOr, ordered_by, Run, Pair, Request, to_run, to_compile, to_demo, to_pair, AsksRun, AsksCompile, AsksDemo, AsksPair, TextsAsk, IsForm, pair_word, standing_first, standing_last, flag_word, trace_of, folded_of, budget_of, size_of, order_name_of, seed_of}
+use Rattle.lmn_words.specs.Hearing.{is_file_name, flag_named, option_named, setting_of, with_setting, Heard, no_settings, nothing_heard, hear_setting, hear_value, hear_file, equals_at, hear_option, hear_flag, hear_dashes, hear_word, hear_waiting, hear, hear_all, run_by, run_heard, run_read, file_read, demo_read, pair_named, pair_in_order, pair_read, pair_asked, request_read}
+use Rattle.lmn_words.proofs.WordLemmas.{bool_cases, false_true, if_some, map_some, then_some, number_from_told, number_from_read, flag_told, option_word, option_told, setting_told, setting_read, file_told, file_read_is, cut_told, is_bytes}
 use Rattle.lmn_words.proofs.SettingLemmas.{settings_all, is_none, list_option, front_empty, all_told, all_read, firsts, firsts_collected, at_most_one, only_value, value_only, flag_only, trace_value, folded_value}
 use Rattle.lmn_base.proofs.Numbers.{unequal as not_same}
 
@@ -270,12 +272,100 @@ demo_told (w ∷ (v ∷ words)) n e = absurd (none-some n e)
 demo_reads : (words : List CommandWord) (n : ℕ) → AsksDemo words n → demo_read words ≡ Some n
 demo_reads words n h = ap demo_read h.1 ∙ number_from_read 1 100000 h.0 n h.2
 
+-- ---- two files
+
+pair_told : (w : CommandWord) (k : PairKind) → pair_named w ≡ Some k → w ≡ pair_word k
+pair_told w k e =
+    if_some (bytes_eq w (codes "check")) _ _ k e (λ t s. is_bytes w _ t ∙ ap pair_word (same_Some kind.Check k s)) (λ f e.
+    if_some (bytes_eq w (codes "debug")) _ _ k e (λ t s. is_bytes w _ t ∙ ap pair_word (same_Some kind.Debug k s)) (λ f e.
+    if_some (bytes_eq w (codes "exec")) _ _ k e (λ t s. is_bytes w _ t ∙ ap pair_word (same_Some kind.Exec k s)) (λ f e.
+    if_some (bytes_eq w (codes "bound")) _ _ k e (λ t s. is_bytes w _ t ∙ ap pair_word (same_Some kind.Bound k s)) (λ f e.
+    absurd (none-some k e)))))
+
+-- the word of a command is read as that command
+pub pair_word_read : (k : PairKind) → pair_named (pair_word k) ≡ Some k
+pair_word_read kind.Check = refl
+pair_word_read kind.Debug = refl
+pair_word_read kind.Exec = refl
+pair_word_read kind.Bound = refl
+
+-- the kind and the files of a pair in order
+in_order_asks : (k : PairKind) (first last : CommandWord) → IsFileName first → IsFileName last → AsksPair (first ∷ last ∷ []) (pair_in_order k first last)
+in_order_asks kind.Check first last f l = (refl, f, l)
+in_order_asks kind.Debug first last f l = (refl, f, l)
+in_order_asks kind.Exec first last f l = (refl, l, f)
+in_order_asks kind.Bound first last f l = (refl, f, l)
+
+in_order_kind : (k : PairKind) (first last : CommandWord) → (pair_in_order k first last).kind ≡ k
+in_order_kind kind.Check first last = refl
+in_order_kind kind.Debug first last = refl
+in_order_kind kind.Exec first last = refl
+in_order_kind kind.Bound first last = refl
+
+-- the words of a pair, in their order, are that pair
+pub order_undone : (k : PairKind) (file second : CommandWord) → pair_in_order k (standing_first k file second) (standing_last k file second) ≡ record { kind = k; file = file; second = second }
+order_undone kind.Check file second = refl
+order_undone kind.Debug file second = refl
+order_undone kind.Exec file second = refl
+order_undone kind.Bound file second = refl
+
+-- both words of a pair are names of files
+pub standing_names : (k : PairKind) (file second : CommandWord) → IsFileName file → IsFileName second → IsFileName (standing_first k file second) × IsFileName (standing_last k file second)
+standing_names kind.Check file second f s = (f, s)
+standing_names kind.Debug file second f s = (f, s)
+standing_names kind.Exec file second f s = (s, f)
+standing_names kind.Bound file second f s = (f, s)
+
+both_true : (a b : Bool) → (a && b) ≡ true → (a ≡ true) × (b ≡ true)
+both_true true b e = (refl, e)
+both_true false b e = false_true e
+
+pair_read_told : (words : List CommandWord) (k : PairKind) (p : Pair) → pair_read words k ≡ Some p → (p.kind ≡ k) × AsksPair words p
+pair_read_told [] k p e = absurd (none-some p e)
+pair_read_told (w ∷ []) k p e = absurd (none-some p e)
+pair_read_told (w ∷ (v ∷ [])) k p e = if_some (is_file_name w && is_file_name v) (Some (pair_in_order k w v)) None p e
+    (λ t s. let both = both_true (is_file_name w) (is_file_name v) t in
+    subst (λ q. (q.kind ≡ k) × AsksPair (w ∷ (v ∷ [])) q) (same_Some (pair_in_order k w v) p s) (in_order_kind k w v, in_order_asks k w v (file_told w both.0) (file_told v both.1)))
+    (λ f s. absurd (none-some p s))
+pair_read_told (w ∷ (v ∷ (u ∷ words))) k p e = absurd (none-some p e)
+
+two_read : (k : PairKind) (w v : CommandWord) → IsFileName w → IsFileName v → pair_read (w ∷ (v ∷ [])) k ≡ Some (pair_in_order k w v)
+two_read k w v f l =
+    ap (λ b. if b && is_file_name v then Some (pair_in_order k w v) else None) (file_read_is w f)
+    ∙ ap (λ b. if b then Some (pair_in_order k w v) else None) (file_read_is v l)
+
+pair_reads : (words : List CommandWord) (p : Pair) → AsksPair words p → pair_read words p.kind ≡ Some p
+pair_reads words p h =
+    let names = standing_names p.kind p.file p.second h.1 h.2 in
+    ap (λ ws. pair_read ws p.kind) h.0 ∙ two_read p.kind (standing_first p.kind p.file p.second) (standing_last p.kind p.file p.second) names.0 names.1
+    ∙ ap Some (order_undone p.kind p.file p.second)
+
+pair_asked_told : (w : CommandWord) (words : List CommandWord) (r : Request) → pair_asked w words ≡ Some r → TextsAsk (w ∷ words) r
+pair_asked_told w words r e = option_and_then_some (λ k. option_map to_pair (pair_read words k)) (pair_named w) r e (λ k named rest.
+    map_some to_pair (pair_read words k) r rest (λ p is same.
+    let t = pair_read_told words k p is in
+    subst (TextsAsk (w ∷ words)) same (pair_told w k named ∙ ap pair_word (sym t.0), t.1)))
+
 -- what other first words are read as
 abbrev behind_compile : CommandWord → List CommandWord → Option Request
-behind_compile w words = if bytes_eq w (codes "demo") then option_map to_demo (demo_read words) else None
+behind_compile w words = if bytes_eq w (codes "demo") then option_map to_demo (demo_read words) else pair_asked w words
 
 abbrev behind_run : CommandWord → List CommandWord → Option Request
 behind_run w words = if bytes_eq w (codes "compile") then option_map to_compile (file_read words) else behind_compile w words
+
+other_bytes : (w v : CommandWord) → (w ≡ v → ⊥) → bytes_eq w v ≡ false
+other_bytes w v differs = elim (bool_cases (bytes_eq w v)) [
+  | inl t ↦ absurd (differs (is_bytes w v t))
+  | inr f ↦ f
+]
+
+-- a first word that is none of the three is read as one of the others
+pub other_read : (w : CommandWord) (words : List CommandWord) → (w ≡ codes "run" → ⊥) → (w ≡ codes "compile" → ⊥) → (w ≡ codes "demo" → ⊥)
+    → request_read (w ∷ words) ≡ pair_asked w words
+other_read w words r c d =
+    if_false (bytes_eq w (codes "run")) (option_map to_run (run_read words)) (behind_run w words) (other_bytes w (codes "run") r)
+    ∙ if_false (bytes_eq w (codes "compile")) (option_map to_compile (file_read words)) (behind_compile w words) (other_bytes w (codes "compile") c)
+    ∙ if_false (bytes_eq w (codes "demo")) (option_map to_demo (demo_read words)) (pair_asked w words) (other_bytes w (codes "demo") d)
 
 -- what is read of the words is what they ask for
 pub request_told : (words : List CommandWord) (r : Request) → request_read words ≡ Some r → TextsAsk words r
@@ -285,9 +375,9 @@ request_told (w ∷ words) r e =
     (λ t g. map_some to_run (run_read words) r g (λ run is same. subst (TextsAsk (w ∷ words)) same (is_bytes w (codes "run") t, run_told words run is)))
     (λ f g. if_some (bytes_eq w (codes "compile")) (option_map to_compile (file_read words)) (behind_compile w words) r g
     (λ t k. map_some to_compile (file_read words) r k (λ file is same. subst (TextsAsk (w ∷ words)) same (is_bytes w (codes "compile") t, file_told_of words file is)))
-    (λ f k. if_some (bytes_eq w (codes "demo")) (option_map to_demo (demo_read words)) None r k
+    (λ f k. if_some (bytes_eq w (codes "demo")) (option_map to_demo (demo_read words)) (pair_asked w words) r k
     (λ t l. map_some to_demo (demo_read words) r l (λ n is same. subst (TextsAsk (w ∷ words)) same (is_bytes w (codes "demo") t, demo_told words n is)))
-    (λ f l. absurd (none-some r l))))
+    (λ f l. pair_asked_told w words r l)))
 
 run_first : (w : CommandWord) (words : List CommandWord) → w ≡ codes "run" → request_read (w ∷ words) ≡ option_map to_run (run_read words)
 run_first w words e = ap (λ v. request_read (v ∷ words)) e
@@ -298,12 +388,22 @@ compile_first w words e = ap (λ v. request_read (v ∷ words)) e
 demo_first : (w : CommandWord) (words : List CommandWord) → w ≡ codes "demo" → request_read (w ∷ words) ≡ option_map to_demo (demo_read words)
 demo_first w words e = ap (λ v. request_read (v ∷ words)) e
 
+pair_behind : (k : PairKind) (words : List CommandWord) → request_read (pair_word k ∷ words) ≡ option_map to_pair (pair_read words k)
+pair_behind kind.Check words = refl
+pair_behind kind.Debug words = refl
+pair_behind kind.Exec words = refl
+pair_behind kind.Bound words = refl
+
+pair_first : (w : CommandWord) (k : PairKind) (words : List CommandWord) → w ≡ pair_word k → request_read (w ∷ words) ≡ option_map to_pair (pair_read words k)
+pair_first w k words e = ap (λ v. request_read (v ∷ words)) e ∙ pair_behind k words
+
 -- what words ask for is read
 pub request_reads : (words : List CommandWord) (r : Request) → TextsAsk words r → request_read words ≡ Some r
 request_reads [] r h = absurd h
 request_reads (w ∷ words) (to_run run) h = run_first w words h.0 ∙ ap (option_map to_run) (run_reads words run h.1)
 request_reads (w ∷ words) (to_compile file) h = compile_first w words h.0 ∙ ap (option_map to_compile) (file_reads words file h.1)
 request_reads (w ∷ words) (to_demo n) h = demo_first w words h.0 ∙ ap (option_map to_demo) (demo_reads words n h.1)
+request_reads (w ∷ words) (to_pair p) h = pair_first w p.kind words h.0 ∙ ap (option_map to_pair) (pair_reads words p h.1)
 
 -- words of the form are read
 pub form_reads : (words : List CommandWord) → IsForm words → (r : Request) × (request_read words ≡ Some r)
@@ -313,14 +413,21 @@ form_reads (w ∷ words) (inl h) = (
   run_first w words h.0 ∙ ap (option_map to_run) (run_spelled words h.1.0 h.1.1 h.1.2 h.1.3),
 )
 form_reads (w ∷ words) (inr (inl h)) = (to_compile h.1.0, compile_first w words h.0 ∙ ap (option_map to_compile) (file_reads words h.1.0 h.1.1))
-form_reads (w ∷ words) (inr (inr h)) = (to_demo h.1.0, demo_first w words h.0 ∙ ap (option_map to_demo) (demo_reads words h.1.0 h.1.1))
+form_reads (w ∷ words) (inr (inr (inl h))) = (to_demo h.1.0, demo_first w words h.0 ∙ ap (option_map to_demo) (demo_reads words h.1.0 h.1.1))
+form_reads (w ∷ words) (inr (inr (inr (k, is, (first, last, e, f, l))))) = (
+  to_pair (pair_in_order k first last),
+  pair_first w k words is ∙ ap (λ ws. option_map to_pair (pair_read ws k)) e ∙ ap (option_map to_pair) (two_read k first last f l),
+)
 
 -- words that ask for something are of the form
 pub asks_form : (words : List CommandWord) (r : Request) → TextsAsk words r → IsForm words
 asks_form [] r h = absurd h
 asks_form (w ∷ words) (to_run run) h = inl (h.0, (run.file, h.1.settings, h.1.spelled, each_once h.1))
 asks_form (w ∷ words) (to_compile file) h = inr (inl (h.0, (file, h.1)))
-asks_form (w ∷ words) (to_demo n) h = inr (inr (h.0, (n, h.1)))
+asks_form (w ∷ words) (to_demo n) h = inr (inr (inl (h.0, (n, h.1))))
+asks_form (w ∷ words) (to_pair p) h =
+    let names = standing_names p.kind p.file p.second h.1.1 h.1.2 in
+    inr (inr (inr (p.kind, h.0, (standing_first p.kind p.file p.second, standing_last p.kind p.file p.second, h.1.0, names.0, names.1))))
 
 -- ---- ranges
 
@@ -380,6 +487,7 @@ in_ranges (w ∷ words) (to_run run) h =
     (budget_in_range a.settings run.budget (all_in_range a.spelled) a.budget, size.0, size.1)
 in_ranges (w ∷ words) (to_compile file) h = tt
 in_ranges (w ∷ words) (to_demo n) h = (h.1.2.3, h.1.2.4)
+in_ranges (w ∷ words) (to_pair p) h = tt
 
 -- ---- the form
 

@@ -14,6 +14,9 @@ use Rattle.lmn_words.specs.declared.setting.OrderName.TheVariants as name
 use Rattle.lmn_words.specs.declared.command.Command.{Command}
 use Rattle.lmn_words.specs.declared.command.Command.TheVariants as command
 use Rattle.lmn_words.specs.declared.command.RunWords.{RunWords}
+use Rattle.lmn_words.specs.declared.command.PairKind.{PairKind}
+use Rattle.lmn_words.specs.declared.command.PairKind.TheVariants as kind
+use Rattle.lmn_words.specs.declared.command.PairWords.{PairWords}
 
 -- ---- words
 
@@ -121,11 +124,38 @@ pub record Run : Type 0 where
   pub size : ℕ
   pub order : Order
 
+-- what a command with a program and a second text is asked for: the file of the program, and that of the second text
+pub record Pair : Type 0 where
+  pub kind : PairKind
+  pub file : CommandWord
+  pub second : CommandWord
+
 -- what is asked for
 pub data Request : Type 0 where
   to_run : Run → Request
   to_compile : CommandWord → Request
   to_demo : ℕ → Request
+  to_pair : Pair → Request
+
+-- the word of a command with a program and a second text
+abbrev pub pair_word : PairKind → CommandWord
+pair_word kind.Check = codes "check"
+pair_word kind.Debug = codes "debug"
+pair_word kind.Exec = codes "exec"
+pair_word kind.Bound = codes "bound"
+
+-- Of two words the one that stands first, and the one that stands last: the program stands first, but for `exec`.
+abbrev pub standing_first : PairKind → CommandWord → CommandWord → CommandWord
+standing_first kind.Check file second = file
+standing_first kind.Debug file second = file
+standing_first kind.Exec file second = second
+standing_first kind.Bound file second = file
+
+abbrev pub standing_last : PairKind → CommandWord → CommandWord → CommandWord
+standing_last kind.Check file second = second
+standing_last kind.Debug file second = second
+standing_last kind.Exec file second = file
+standing_last kind.Bound file second = second
 
 -- the words behind `run` name one file, and settings that give these values
 pub record AsksRun (words : List CommandWord) (run : Run) : Type 0 where
@@ -149,6 +179,10 @@ AsksCompile words file = (words ≡ file ∷ []) × IsFileName file
 abbrev pub AsksDemo : List CommandWord → ℕ → Type 0
 AsksDemo words n = (word : CommandWord) × (words ≡ word ∷ []) × IsNumber 1 100000 word n
 
+-- the words are these two files
+abbrev pub AsksPair : List CommandWord → Pair → Type 0
+AsksPair words p = (words ≡ standing_first p.kind p.file p.second ∷ standing_last p.kind p.file p.second ∷ []) × IsFileName p.file × IsFileName p.second
+
 -- the bytes of each word
 abbrev pub texts_of : List (String Global) → List CommandWord
 texts_of = map string_bytes
@@ -159,6 +193,7 @@ TextsAsk [] request = ⊥
 TextsAsk (first ∷ words) (to_run run) = (first ≡ codes "run") × AsksRun words run
 TextsAsk (first ∷ words) (to_compile file) = (first ≡ codes "compile") × AsksCompile words file
 TextsAsk (first ∷ words) (to_demo n) = (first ≡ codes "demo") × AsksDemo words n
+TextsAsk (first ∷ words) (to_pair pair) = (first ≡ pair_word pair.kind) × AsksPair words pair
 
 -- the words ask for this
 abbrev pub Asks : List (String Global) → Request → Type 0
@@ -173,6 +208,7 @@ abbrev pub IsInRanges : Request → Type 0
 IsInRanges (to_run run) = (run.budget ≤ 9223372036854775807) × (1 ≤ run.size) × (run.size ≤ 4294967295)
 IsInRanges (to_compile file) = ⊤
 IsInRanges (to_demo n) = (1 ≤ n) × (n ≤ 100000)
+IsInRanges (to_pair pair) = ⊤
 
 -- ---- the form, without what is asked for: the law `FormsAsk` says that it is the same form
 
@@ -188,11 +224,15 @@ IsCompileForm words = (file : CommandWord) × AsksCompile words file
 abbrev pub IsDemoForm : List CommandWord → Type 0
 IsDemoForm words = (n : ℕ) × AsksDemo words n
 
+-- two files
+abbrev pub IsPairForm : List CommandWord → Type 0
+IsPairForm words = (first : CommandWord) × (last : CommandWord) × (words ≡ first ∷ last ∷ []) × IsFileName first × IsFileName last
+
 -- the first word names a command, and the others are of its form
 abbrev pub IsForm : List CommandWord → Type 0
 IsForm [] = ⊥
 IsForm (first ∷ words) = ((first ≡ codes "run") × IsRunForm words) ⊎ ((first ≡ codes "compile") × IsCompileForm words)
-    ⊎ ((first ≡ codes "demo") × IsDemoForm words)
+    ⊎ ((first ≡ codes "demo") × IsDemoForm words) ⊎ ((kind : PairKind) × (first ≡ pair_word kind) × IsPairForm words)
 
 -- ---- what a command is
 
@@ -207,8 +247,13 @@ run_of words = record {
   order = words.order;
 }
 
+-- and what one with a program and a second text does
+abbrev pub pair_of : PairWords → Pair
+pair_of words = record { kind = words.kind; file = words.file.now; second = words.second.now }
+
 -- the request of a command
 abbrev pub request_of : Command → Request
 request_of (command.Run run) = to_run (run_of run)
 request_of (command.Compile file) = to_compile file.now
 request_of (command.Demo n) = to_demo n
+request_of (command.Pair pair) = to_pair (pair_of pair)

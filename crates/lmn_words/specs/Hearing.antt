@@ -12,7 +12,9 @@ use Rattle.lmn_words.specs.declared.setting.Valued.TheVariants as valued
 use Rattle.lmn_words.specs.declared.setting.OrderName.{OrderName}
 use Rattle.lmn_words.specs.declared.setting.OrderName.TheVariants as name
 use Rattle.lmn_words.specs.declared.reading.Reader.{Reader}
-use Rattle.lmn_words.specs.Forms.{CommandWord, Request, Run, ordered_by, to_run, to_compile, to_demo}
+use Rattle.lmn_words.specs.declared.command.PairKind.{PairKind}
+use Rattle.lmn_words.specs.declared.command.PairKind.TheVariants as kind
+use Rattle.lmn_words.specs.Forms.{CommandWord, Pair, Request, Run, ordered_by, to_run, to_compile, to_demo, to_pair}
 
 -- ---- one word
 
@@ -149,8 +151,36 @@ demo_read [] = None
 demo_read (word ∷ []) = number_from 1 100000 word
 demo_read (word ∷ more ∷ words) = None
 
+abbrev pub pair_named : CommandWord → Option PairKind
+pair_named word = if bytes_eq word (codes "check") then Some kind.Check
+    else if bytes_eq word (codes "debug") then Some kind.Debug
+    else if bytes_eq word (codes "exec") then Some kind.Exec
+    else if bytes_eq word (codes "bound") then Some kind.Bound else None
+
+-- what two words ask for, in their order
+abbrev pub pair_in_order : PairKind → CommandWord → CommandWord → Pair
+pair_in_order kind.Check first last = record { kind = kind.Check; file = first; second = last }
+pair_in_order kind.Debug first last = record { kind = kind.Debug; file = first; second = last }
+pair_in_order kind.Exec first last = record { kind = kind.Exec; file = last; second = first }
+pair_in_order kind.Bound first last = record { kind = kind.Bound; file = first; second = last }
+
+abbrev pub are_two_files : List CommandWord → Bool
+are_two_files [] = false
+are_two_files (first ∷ []) = false
+are_two_files (first ∷ last ∷ []) = is_file_name first && is_file_name last
+are_two_files (first ∷ last ∷ more ∷ words) = false
+
+abbrev pub pair_read : List CommandWord → PairKind → Option Pair
+pair_read [] kind = None
+pair_read (first ∷ []) kind = None
+pair_read (first ∷ last ∷ []) kind = if is_file_name first && is_file_name last then Some (pair_in_order kind first last) else None
+pair_read (first ∷ last ∷ more ∷ words) kind = None
+
+abbrev pub pair_asked : CommandWord → List CommandWord → Option Request
+pair_asked first words = option_and_then (λ kind. option_map to_pair (pair_read words kind)) (pair_named first)
+
 abbrev pub request_read : List CommandWord → Option Request
 request_read [] = None
 request_read (first ∷ words) = if bytes_eq first (codes "run") then option_map to_run (run_read words)
     else if bytes_eq first (codes "compile") then option_map to_compile (file_read words)
-    else if bytes_eq first (codes "demo") then option_map to_demo (demo_read words) else None
+    else if bytes_eq first (codes "demo") then option_map to_demo (demo_read words) else pair_asked first words

@@ -8,7 +8,7 @@ use Rattle.clap.specs.declared.builder.command.Command.{Command}
 use Rattle.clap.specs.declared.builder.command.Command.TheViews.{out-Command}
 use Rattle.lmn_words.specs.declared.setting.OrderName.{OrderName}
 use Rattle.lmn_words.specs.declared.setting.OrderName.TheVariants as name
-use Rattle.lmn_words.specs.Forms.{Request, Run, ordered_by, to_compile, to_demo, to_run}
+use Rattle.lmn_words.specs.Forms.{Request, Run, ordered_by, pair_word, standing_first, standing_last, to_compile, to_demo, to_pair, to_run}
 use Rattle.lmn_words.specs.Hearing.{number_written, order_named}
 
 -- ---- the command line
@@ -36,12 +36,17 @@ compile_line = with_rule (new_app (codes "compile")) (required_rule (codes "file
 abbrev pub demo_line : App
 demo_line = with_rule (new_app (codes "demo")) (required_rule (codes "number"))
 
+abbrev pub pair_line : Text → App
+pair_line name = with_rule (with_rule (new_app name) (required_rule (codes "first"))) (required_rule (codes "last"))
+
 -- no name of the program stands before the words, nothing is asked for but the commands, and one is
 abbrev pub with_settings : Shape → Shape
 with_settings top = record top { no_binary_name = true; disable_help_flag = true; disable_help_subcommand = true; subcommand_required = true }
 
 abbrev pub whole_line : App
-whole_line = with_subcommand (with_subcommand (with_subcommand (on_top with_settings (new_app (codes "lmn"))) run_line.top) compile_line.top) demo_line.top
+whole_line = with_subcommand (with_subcommand (with_subcommand (with_subcommand (with_subcommand (with_subcommand (with_subcommand
+    (on_top with_settings (new_app (codes "lmn"))) run_line.top) compile_line.top) demo_line.top)
+    (pair_line (codes "check")).top) (pair_line (codes "debug")).top) (pair_line (codes "exec")).top) (pair_line (codes "bound")).top
 
 -- a command is a line, in which no argument is global
 abbrev pub IsLineOfCommand : Command → App → Type 0
@@ -72,3 +77,5 @@ FoundIsRequest None request = ⊥
 FoundIsRequest (Some found) (to_run run) = (found.0 ≡ codes "run") × Tells found.1 run
 FoundIsRequest (Some found) (to_compile file) = (found.0 ≡ codes "compile") × (first_of (codes "file") found.1 ≡ Some file)
 FoundIsRequest (Some found) (to_demo n) = (found.0 ≡ codes "demo") × (option_and_then number_written (first_of (codes "number") found.1) ≡ Some n)
+FoundIsRequest (Some found) (to_pair pair) = (found.0 ≡ pair_word pair.kind) × (first_of (codes "first") found.1 ≡ Some (standing_first pair.kind pair.file pair.second))
+    × (first_of (codes "last") found.1 ≡ Some (standing_last pair.kind pair.file pair.second))

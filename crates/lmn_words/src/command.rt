@@ -9,6 +9,81 @@ pub enum Command<'w> {
     Compile(&'w str),
     /// A run of the text that is made of this number: 1 to 100000.
     Demo(u64),
+    /// What is done with a program and a second text.
+    Pair(PairWords<'w>),
+}
+
+/// A command with a program and a second text.
+#[derive(Clone, Copy, Debug, PartialEq, Eq)]
+pub enum PairKind {
+    /// `check`: whether a trace is one of the program.
+    Check,
+    /// `debug`: the program is run as a script says.
+    Debug,
+    /// `exec`: a listing is run in place of the code of the program's rules.
+    Exec,
+    /// `bound`: how many commits the program has at most, by weights.
+    Bound,
+}
+
+/// What the words of a command with a program and a second text ask for. The names aren't empty and don't begin with `-`.
+#[derive(Clone, Copy, Debug, PartialEq, Eq)]
+pub struct PairWords<'w> {
+    /// What is done.
+    pub kind: PairKind,
+    /// The name of the program's file.
+    pub file: &'w str,
+    /// The name of the file of the second text.
+    pub second: &'w str,
+}
+
+impl PairKind {
+    ghost use Rattle.std.specs.Prelude.{◌≡◌};
+    ghost use Rattle.lmn_words.specs.Forms.{pair_of, pair_word};
+    ghost use Rattle.lmn_words.specs.Hearing.{pair_in_order, pair_named};
+
+    /// The word of the command.
+    pub fn word(self) -> &'static str
+        ensures { result.now ≡ pair_word self }
+    {
+        match self {
+            PairKind::Check => "check",
+            PairKind::Debug => "debug",
+            PairKind::Exec => "exec",
+            PairKind::Bound => "bound",
+        }
+    }
+
+    /// The command with this word.
+    pub(crate) fn named(word: &str) -> Option<PairKind>
+        ensures { result ≡ pair_named word.now }
+    {
+        match word {
+            "check" => Some(PairKind::Check),
+            "debug" => Some(PairKind::Debug),
+            "exec" => Some(PairKind::Exec),
+            "bound" => Some(PairKind::Bound),
+            _ => None,
+        }
+    }
+
+    /// What the command is asked for by two words: the program first, but for `exec`.
+    pub(crate) fn of_words<'w>(self, first: &'w str, last: &'w str) -> PairWords<'w>
+        ensures { pair_of result ≡ pair_in_order self first.entry.now last.entry.now }
+    {
+        match self {
+            PairKind::Exec => PairWords {
+                kind: self,
+                file: last,
+                second: first,
+            },
+            PairKind::Check | PairKind::Debug | PairKind::Bound => PairWords {
+                kind: self,
+                file: first,
+                second: last,
+            },
+        }
+    }
 }
 
 /// What the words of `run` ask for.

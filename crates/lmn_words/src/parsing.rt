@@ -1,11 +1,11 @@
 //! Words of the form as `clap` reads them.
 ghost use Rattle.std.specs.Prelude.{◌≡◌, ◌↔◌, IfOk, false, IfSome, IsSome, OnErr, Some, option_and_then, option_map, unwrap_or};
 ghost use Rattle.clap.specs.Words.{found_of, rows_of, rule_of, subcommand_rows_of};
-ghost use Rattle.lmn_words.specs.Forms.{Asks, InForm, IsInRanges, Request, Run, request_of, run_of};
+ghost use Rattle.lmn_words.specs.Forms.{Asks, InForm, IsInRanges, Pair, Request, Run, request_of, run_of, to_pair};
 ghost use Rattle.lmn_words.specs.Hearing.{number_written, order_named};
-ghost use Rattle.lmn_words.specs.Parsing.{FoundIsRequest, IsLineOfCommand, Tells, compile_line, demo_line, flag_rule, option_rule, required_rule, run_line, whole_line};
+ghost use Rattle.lmn_words.specs.Parsing.{FoundIsRequest, IsLineOfCommand, Tells, compile_line, demo_line, flag_rule, option_rule, pair_line, required_rule, run_line, whole_line};
 
-use crate::command::{Command, RunWords};
+use crate::command::{Command, PairKind, RunWords};
 use crate::reading::in_form;
 use crate::setting::{OrderName, number};
 use clap::error::ErrorKind;
@@ -64,7 +64,11 @@ fn whole_line<'w>(alloc: Global) -> Result<clap::Command<'w>, AllocError>
         .subcommand_required(true)
         .subcommand(run_line(alloc)?)?
         .subcommand(compile_line(alloc)?)?
-        .subcommand(demo_line(alloc)?)
+        .subcommand(demo_line(alloc)?)?
+        .subcommand(pair_line(alloc, "check")?)?
+        .subcommand(pair_line(alloc, "debug")?)?
+        .subcommand(pair_line(alloc, "exec")?)?
+        .subcommand(pair_line(alloc, "bound")?)
 }
 
 /// The words of `run`.
@@ -93,6 +97,15 @@ fn demo_line<'w>(alloc: Global) -> Result<clap::Command<'w>, AllocError>
     ensures { IfOk result (λ line. IsLineOfCommand line demo_line) }
 {
     clap::Command::new(alloc, "demo").arg(required(alloc, "number"))
+}
+
+/// The words of a command with a program and a second text.
+fn pair_line<'w>(alloc: Global, name: &'w str) -> Result<clap::Command<'w>, AllocError>
+    ensures { IfOk result (λ line. IsLineOfCommand line (pair_line name.entry.now)) }
+{
+    clap::Command::new(alloc, name)
+        .arg(required(alloc, "first"))?
+        .arg(required(alloc, "last"))
 }
 
 /// A word that has to stand there.
@@ -128,8 +141,18 @@ fn command_of<'w>(matches: &ArgMatches<'w>) -> Option<Command<'w>>
         "run" => Some(Command::Run(run_words(words)?)),
         "compile" => Some(Command::Compile(words.get_str("file")?)),
         "demo" => Some(Command::Demo(number(words.get_str("number")?)?)),
-        _ => None,
+        other => pair_found(other, words),
     }
+}
+
+/// What the matches of a command with a program and a second text ask for.
+fn pair_found<'w>(name: &str, words: &ArgMatches<'w>) -> Option<Command<'w>>
+    ensures { (pair : Pair) → FoundIsRequest (Some (name.now, rows_of (found_of words.now))) (to_pair pair) → option_map request_of result ≡ Some (to_pair pair) }
+{
+    let kind = PairKind::named(name)?;
+    let first = words.get_str("first")?;
+    let last = words.get_str("last")?;
+    Some(Command::Pair(kind.of_words(first, last)))
 }
 
 /// What the matches of `run` ask for.

@@ -1,6 +1,7 @@
 //! The form of the words.
-ghost use Rattle.std.specs.Prelude.{◌≡◌, ◌↔◌, IsTrue, is_some, option_map};
+ghost use Rattle.std.specs.Prelude.{◌≡◌, ◌↔◌, ◌∷◌, IsTrue, is_some, option_map};
 ghost use Rattle.lmn_words.specs.Hearing.{
+  are_two_files,
   demo_read,
   file_read,
   hear,
@@ -14,12 +15,14 @@ ghost use Rattle.lmn_words.specs.Hearing.{
   heard_of,
   is_file_name,
   nothing_heard,
+  pair_asked,
   request_read,
   run_heard,
   run_read,
 };
 ghost use Rattle.lmn_words.specs.Forms.{InForm, texts_of};
 
+use crate::command::PairKind;
 use crate::setting::{Flag, Setting, Settings, Valued, demo_number};
 
 /// Whether the words of the command line are of the form. It takes no memory.
@@ -35,12 +38,19 @@ fn is_form(words: &[String]) -> bool
 {
     match words {
         [] => false,
-        [first, rest @ ..] => match first.as_str() {
-            "run" => is_run_form(rest),
-            "compile" => is_compile_form(rest),
-            "demo" => is_demo_form(rest),
-            _ => false,
-        },
+        [first, rest @ ..] => is_form_of(first.as_str(), rest),
+    }
+}
+
+/// Whether a first word, and the words behind it, are of the form.
+fn is_form_of(first: &str, rest: &[String]) -> bool
+    ensures { result ≡ is_some (request_read (first.now ∷ texts_of rest.now)) }
+{
+    match first {
+        "run" => is_run_form(rest),
+        "compile" => is_compile_form(rest),
+        "demo" => is_demo_form(rest),
+        _ => is_pair_form(first, rest),
     }
 }
 
@@ -70,6 +80,26 @@ fn is_demo_form(words: &[String]) -> bool
 {
     match words {
         [word] => demo_number(word.as_str()).is_some(),
+        _ => false,
+    }
+}
+
+/// Whether a word names a command with a program and a second text, and the words behind it are two files.
+fn is_pair_form(name: &str, words: &[String]) -> bool
+    ensures { result ≡ is_some (pair_asked name.now (texts_of words.now)) }
+{
+    match PairKind::named(name) {
+        Some(_) => are_two_files(words),
+        None => false,
+    }
+}
+
+/// Whether words are two files.
+fn are_two_files(words: &[String]) -> bool
+    ensures { result ≡ are_two_files (texts_of words.now) }
+{
+    match words {
+        [first, last] => is_file_name(first.as_bytes()) && is_file_name(last.as_bytes()),
         _ => false,
     }
 }
