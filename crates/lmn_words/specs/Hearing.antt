@@ -151,31 +151,29 @@ demo_read [] = None
 demo_read (word ∷ []) = number_from 1 100000 word
 demo_read (word ∷ more ∷ words) = None
 
+-- the command with a program and a second text that a word names
 abbrev pub pair_named : CommandWord → Option PairKind
-pair_named word = if bytes_eq word (codes "check") then Some kind.Check
-    else if bytes_eq word (codes "debug") then Some kind.Debug
-    else if bytes_eq word (codes "exec") then Some kind.Exec
-    else if bytes_eq word (codes "bound") then Some kind.Bound else None
+pair_named word = if bytes_eq word (codes "bound") then Some kind.Bound else None
 
 -- what two words ask for, in their order
 abbrev pub pair_in_order : PairKind → CommandWord → CommandWord → Pair
-pair_in_order kind.Check first last = record { kind = kind.Check; file = first; second = last }
-pair_in_order kind.Debug first last = record { kind = kind.Debug; file = first; second = last }
-pair_in_order kind.Exec first last = record { kind = kind.Exec; file = last; second = first }
 pair_in_order kind.Bound first last = record { kind = kind.Bound; file = first; second = last }
 
+-- two words name files
 abbrev pub are_two_files : List CommandWord → Bool
 are_two_files [] = false
 are_two_files (first ∷ []) = false
 are_two_files (first ∷ last ∷ []) = is_file_name first && is_file_name last
 are_two_files (first ∷ last ∷ more ∷ words) = false
 
+-- what two files ask for
 abbrev pub pair_read : List CommandWord → PairKind → Option Pair
 pair_read [] kind = None
 pair_read (first ∷ []) kind = None
 pair_read (first ∷ last ∷ []) kind = if is_file_name first && is_file_name last then Some (pair_in_order kind first last) else None
 pair_read (first ∷ last ∷ more ∷ words) kind = None
 
+-- what a first word, and the words behind it, ask of a program and a second text
 abbrev pub pair_asked : CommandWord → List CommandWord → Option Request
 pair_asked first words = option_and_then (λ kind. option_map to_pair (pair_read words kind)) (pair_named first)
 

@@ -16,12 +16,6 @@ pub enum Command<'w> {
 /// A command with a program and a second text.
 #[derive(Clone, Copy, Debug, PartialEq, Eq)]
 pub enum PairKind {
-    /// `check`: whether a trace is one of the program.
-    Check,
-    /// `debug`: the program is run as a script says.
-    Debug,
-    /// `exec`: a listing is run in place of the code of the program's rules.
-    Exec,
     /// `bound`: how many commits the program has at most, by weights.
     Bound,
 }
@@ -47,9 +41,6 @@ impl PairKind {
         ensures { result.now ≡ pair_word self }
     {
         match self {
-            PairKind::Check => "check",
-            PairKind::Debug => "debug",
-            PairKind::Exec => "exec",
             PairKind::Bound => "bound",
         }
     }
@@ -59,25 +50,17 @@ impl PairKind {
         ensures { result ≡ pair_named word.now }
     {
         match word {
-            "check" => Some(PairKind::Check),
-            "debug" => Some(PairKind::Debug),
-            "exec" => Some(PairKind::Exec),
             "bound" => Some(PairKind::Bound),
             _ => None,
         }
     }
 
-    /// What the command is asked for by two words: the program first, but for `exec`.
+    /// What the command is asked for by two words, of which the program's stands first.
     pub(crate) fn of_words<'w>(self, first: &'w str, last: &'w str) -> PairWords<'w>
         ensures { pair_of result ≡ pair_in_order self first.entry.now last.entry.now }
     {
         match self {
-            PairKind::Exec => PairWords {
-                kind: self,
-                file: last,
-                second: first,
-            },
-            PairKind::Check | PairKind::Debug | PairKind::Bound => PairWords {
+            PairKind::Bound => PairWords {
                 kind: self,
                 file: first,
                 second: last,
