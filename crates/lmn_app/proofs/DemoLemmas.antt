@@ -4,7 +4,6 @@ use Rattle.std.specs.Prelude.{decimal}
 use Rattle.std.specs.List.{flat_map, range_with_len}
 use Rattle.std.specs.Fmt.{digits}
 use Rattle.std.proofs.lemmas.Fmt.{length-decimal-le}
-use Rattle.lmn_words.specs.Forms.{to_run}
 use Rattle.lmn_words.proofs.Examples.{folded_run_asked}
 use Rattle.lmn_app.specs.DemoLaws.{DemoIsFoldedRun}
 use Rattle.lmn_app.specs.Demos.{SomeDemo, demo_atom, demo_text}
@@ -54,4 +53,4 @@ some_demo = refl
 
 -- `demo` does with its text what `run --folded` does with a file
 pub demo_is_folded_run : DemoIsFoldedRun
-demo_is_folded_run n file named = (to_run _, folded_run_asked file named, refl)
+demo_is_folded_run file named = (_, folded_run_asked file named, refl)

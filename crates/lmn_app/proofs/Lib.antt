@@ -3,9 +3,11 @@ mod TextLemmas
 mod ReadPlains
 mod RunLemmas
 mod OutcomeLemmas
+mod RequestLemmas
 mod ListLemmas
 mod DriveLemmas
 mod MainLemmas
+mod BoundLemmas
 mod DemoLemmas
 mod TaskLemmas
 mod OneListing

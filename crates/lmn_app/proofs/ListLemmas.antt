@@ -17,7 +17,8 @@ use Rattle.lmn_app.specs.declared.task.Task.TheVariants as task
 use Rattle.lmn_app.specs.declared.ending.Ending.TheVariants.{Done, Refused, WriteFault}
 use Rattle.lmn_app.specs.Outcomes.{Ended}
 use Rattle.lmn_app.specs.Requests.{most_items}
-use Rattle.lmn_app.specs.Texts.{Accepts, by_reading, text_bytes}
+use Rattle.lmn_app.specs.Texts.{Accepts, IsRefusal, by_reading, text_bytes}
+use Rattle.lmn_reading.specs.Codes.{IsCode}
 use Rattle.lmn_app.specs.Writing.{IsListing}
 use Rattle.lmn_accepted.proofs.FirstNames.{first_are_names}
 use Rattle.lmn_app.proofs.OutcomeLemmas.{refused_ended}
@@ -54,8 +55,15 @@ pub read_accepts : (text : List ℕ) (before names : List Name) (plain : Plain) 
 read_accepts text before names plain plans short e named a = record { short = short; named = subst (λ b. LeavesNames text b names) e named; accepted = a }
 
 -- and its refusal is that of the text
+pub read_refuses : (size : Option ℕ) (text : List ℕ) (before names : List Name) (r : Refusal) → length text ≤ text_bytes → before ≡ first_names → LeavesNames text before names
+    → IsRefusedAs text names r → IsRefusal size text r × IsCode r.code
+read_refuses size text before names r short e named h =
+    let refused = by_reading short names (subst (λ b. LeavesNames text b names) e named) h in
+    (refused, refusal_code size text r refused)
+
+-- a task whose text is refused ends so
 pub read_refused : (t : Task) (text : List ℕ) (before names : List Name) (r : Refusal) (x : Option (List ℕ)) (n : Faults) (rb ra : ℕ) → length text ≤ text_bytes → before ≡ first_names → LeavesNames text before names
     → IsRefusedAs text names r → Ended t (Refused r) (Some (Some text)) x x n n rb ra
 read_refused t text before names r x n rb ra short e named h =
-    let refused = by_reading short names (subst (λ b. LeavesNames text b names) e named) h in
-    refused_ended t r (Some (Some text)) x n rb ra refused (refusal_code (most_items t) text r refused)
+    let refused = read_refuses (most_items t) text before names r short e named h in
+    refused_ended t r (Some (Some text)) x n rb ra refused.0 refused.1

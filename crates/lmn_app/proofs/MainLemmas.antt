@@ -1,5 +1,5 @@
 -- What the top call leaves behind, by its status.
-use Rattle.std.proofs.Common.{◌≡◌, ◌≢◌, ℕ, List, [], Option, Some, None, ◌⊎◌, inl, inr, refl, sym, ap, ◌∙◌, subst, append-nil, arith}
+use Rattle.std.proofs.Common.{◌≡◌, ◌≢◌, ◌≤◌, ℕ, List, [], Option, Some, None, ◌⊎◌, inl, inr, refl, sym, ap, ◌∙◌, subst, append-nil, arith}
 use Rattle.std.specs.declared.string.String.{String}
 use Rattle.std.specs.declared.alloc.Global.{Global}
 use Rattle.lmn_base.specs.declared.refusal.Refusal.{Refusal}
@@ -7,20 +7,24 @@ use Rattle.lmn_io.specs.Counts.{FailedLast, Faults, NoneBehindFailed, NoneFailed
 use Rattle.lmn_io.specs.Taking.{Takes, TakesPrefix}
 use Rattle.lmn_io.proofs.TakingLemmas.{no_put}
 use Rattle.lmn_app.specs.declared.ending.Ending.{Ending}
-use Rattle.lmn_app.specs.declared.ending.Ending.TheVariants.{Done, Budget, Refused, Words, ReadFault, WriteFault, NoMemory, Full}
+use Rattle.lmn_app.specs.declared.ending.Ending.TheVariants.{Done, Budget, Refused, Words, ReadFault, WriteFault, NoMemory, Full, SecondRefused}
 use Rattle.lmn_words.specs.Laws.{OneRequest}
 use Rattle.lmn_words.specs.Forms.{InForm, Request}
-use Rattle.lmn_app.specs.Endings.{Concludes, HasLine, line_of_ending, refusal_line, status_of}
+use Rattle.lmn_words.specs.declared.command.PairKind.{PairKind}
+use Rattle.lmn_words.specs.Forms.{Pair, to_run, to_compile, to_demo, to_pair}
+use Rattle.lmn_app.specs.Endings.{Concludes, HasLine, line_of_ending, refusal_line, second_line, status_of}
+use Rattle.lmn_app.specs.SecondTexts.{second_status}
 use Rattle.lmn_reading.specs.Codes.{IsCode}
-use Rattle.lmn_app.specs.Outcomes.{CountsFaults, Ended, Output}
+use Rattle.lmn_app.specs.Outcomes.{AnswersOf, CountsFaults, Output, OutputOf, PairOutput, RefusesSecondOf, RequestEnded}
 use Rattle.lmn_app.specs.Texts.{IsRefusal}
 use Rattle.lmn_app.specs.declared.task.Task.{Task}
 use Rattle.lmn_app.specs.declared.task.Task.TheVariants as task
-use Rattle.lmn_app.specs.Requests.{Asked, most_items, task_of}
+use Rattle.lmn_app.specs.Demos.{demo_text}
+use Rattle.lmn_app.specs.Requests.{Asked, ReadRose, folded_run, most_items_of, settings_of, told_of}
 use Rattle.lmn_app.specs.Texts.{IsAccepted}
-use Rattle.lmn_app.specs.Outcomes.{Answers}
-use Rattle.lmn_app.specs.Writing.{IfTold, IsToldAnd}
-use Rattle.lmn_app.proofs.OutcomeLemmas.{Refusing, accepted_answered, unaccepted_answered}
+use Rattle.lmn_app.specs.Writing.{IfTold, IsToldAnd, told_under}
+use Rattle.lmn_app.proofs.OutcomeLemmas.{Refusing}
+use Rattle.lmn_app.proofs.RequestLemmas.{not_words, read_counted, refusal_of, request_answered, request_refused_so, second_high, second_of}
 
 -- ---- each status is that of one ending
 
@@ -34,6 +38,7 @@ done_is ReadFault h = absurd (cc)
 done_is WriteFault h = absurd (cc)
 done_is NoMemory h = absurd (cc)
 done_is Full h = absurd (cc)
+done_is (SecondRefused kind r) h = let high = second_high kind in absurd (omega (arith, high.0, h))
 
 -- the status 1 that of a budget that is done
 pub budget_is : (e : Ending) → status_of e ≡ 1 → e ≡ Budget
@@ -45,6 +50,7 @@ budget_is ReadFault h = absurd (cc)
 budget_is WriteFault h = absurd (cc)
 budget_is NoMemory h = absurd (cc)
 budget_is Full h = absurd (cc)
+budget_is (SecondRefused kind r) h = let high = second_high kind in absurd (omega (arith, high.0, h))
 
 -- the status 6 that of want of memory
 pub memory_is : (e : Ending) → status_of e ≡ 6 → e ≡ NoMemory
@@ -56,6 +62,7 @@ memory_is ReadFault h = absurd (cc)
 memory_is WriteFault h = absurd (cc)
 memory_is NoMemory h = refl
 memory_is Full h = absurd (cc)
+memory_is (SecondRefused kind r) h = let high = second_high kind in absurd (omega (arith, high.0, h))
 
 -- the status 7 that of a size that is reached
 pub full_is : (e : Ending) → status_of e ≡ 7 → e ≡ Full
@@ -67,6 +74,7 @@ full_is ReadFault h = absurd (cc)
 full_is WriteFault h = absurd (cc)
 full_is NoMemory h = absurd (cc)
 full_is Full h = refl
+full_is (SecondRefused kind r) h = let high = second_high kind in absurd (omega (arith, high.0, h))
 
 -- the status 3 that of words that ask for nothing
 pub words_is : (e : Ending) → status_of e ≡ 3 → e ≡ Words
@@ -78,6 +86,7 @@ words_is ReadFault h = absurd (cc)
 words_is WriteFault h = absurd (cc)
 words_is NoMemory h = absurd (cc)
 words_is Full h = absurd (cc)
+words_is (SecondRefused kind r) h = let high = second_high kind in absurd (omega (arith, high.0, h))
 
 -- the status 4 that of a file that can't be read
 pub read_is : (e : Ending) → status_of e ≡ 4 → e ≡ ReadFault
@@ -89,6 +98,7 @@ read_is ReadFault h = refl
 read_is WriteFault h = absurd (cc)
 read_is NoMemory h = absurd (cc)
 read_is Full h = absurd (cc)
+read_is (SecondRefused kind r) h = let high = second_high kind in absurd (omega (arith, high.0, h))
 
 write_is : (e : Ending) → status_of e ≡ 5 → e ≡ WriteFault
 write_is Done h = absurd (cc)
@@ -99,16 +109,17 @@ write_is ReadFault h = absurd (cc)
 write_is WriteFault h = refl
 write_is NoMemory h = absurd (cc)
 write_is Full h = absurd (cc)
+write_is (SecondRefused kind r) h = let high = second_high kind in absurd (omega (arith, high.0, h))
 
 took_nothing : (old new : Option (List ℕ)) → Takes [] old new → new ≡ old
 took_nothing None new h = h
 took_nothing (Some old) new h = h ∙ ap Some (append-nil old)
 
--- What is done for the words: a command ended so, or there is none and nothing was done. `told` is what is told of the text of a
--- command, `read` and `reads` are the counts of its file.
-module _ (one : OneRequest) (words : List (String Global)) (told : Request → Option (Option (List ℕ))) (read reads : Request → ℕ) (oo on eo en : Option (List ℕ)) (ob oa eb ea : Faults) (status : ℕ) where
+-- What is done for the words: a command ended so, or there is none and nothing was done. `texts` is what the shelf tells, `read` and
+-- `reads` are the counts of its files.
+module _ (one : OneRequest) (words : List (String Global)) (texts : Option (List ℕ → Option (List ℕ))) (read reads : List ℕ → ℕ) (oo on eo en : Option (List ℕ)) (ob oa eb ea : Faults) (status : ℕ) where
   abbrev pub Acted : Ending → Type 0
-  Acted e = Asked words (λ c. Ended (task_of c) e (told c) oo on ob oa (read c) (reads c)) ⊎ (¬ (InForm words) × (e ≡ Words) × (on ≡ oo) × (oa ≡ ob))
+  Acted e = Asked words (λ c. RequestEnded c e texts oo on ob oa read reads) ⊎ (¬ (InForm words) × (e ≡ Words) × (on ≡ oo) × (oa ≡ ob))
 
   abbrev pub Concluded : Ending → Type 0
   Concluded e = Concludes e status eo en eb ea
@@ -120,54 +131,98 @@ module _ (one : OneRequest) (words : List (String Global)) (told : Request → O
   asked_or_memory e (inr (q, is)) (inr (s, p, rose, line)) = inr (q, inr (s, rose))
 
   -- what `out` took where the status is that of one ending
-  pub out_taken : (e ending : Ending) → Acted e → Concluded e → (k : ℕ) → k ≢ 5 → ending ≢ Words → (status_of e ≡ k → e ≡ ending) → status ≡ k → Asked words (λ c. Output (task_of c) ending (told c) oo on)
+  pub out_taken : (e ending : Ending) → Acted e → Concluded e → (k : ℕ) → k ≢ 5 → ending ≢ Words → (status_of e ≡ k → e ≡ ending) → status ≡ k → Asked words (λ c. OutputOf c ending texts oo on)
   out_taken e ending (inl (c, asks, h)) (inl (s, t, q)) k five words is same =
       let here = is (sym s ∙ same) in
-      (c, asks, subst (λ x. Output (task_of c) x (told c) oo on) here h.output)
+      (c, asks, subst (λ x. OutputOf c x texts oo on) here h.output)
   out_taken e ending (inr (none, w, o, f)) (inl (s, t, q)) k five words is same = absurd (words (sym (is (sym s ∙ same)) ∙ w))
   out_taken e ending a (inr (s, p, rose, line)) k five words is same = absurd (five (sym same ∙ s))
 
-  -- nothing was taken where the ending has no output
-  none_taken : (t : Task) (e : Ending) (text : Option (Option (List ℕ))) → (status_of e ≡ 2) ⊎ (status_of e ≡ 3) ⊎ (status_of e ≡ 4) → Output t e text oo on → on ≡ oo
+  -- the endings without output
+  abbrev pub IsSilent : Ending → Type 0
+  IsSilent Done = ⊥
+  IsSilent Budget = ⊥
+  IsSilent Full = ⊥
+  IsSilent NoMemory = ⊥
+  IsSilent WriteFault = ⊥
+  IsSilent _ = Unit {0}
+
+  silent : (e : Ending) → ((2 ≤ status_of e) × (status_of e ≤ 4)) ⊎ (8 ≤ status_of e) → IsSilent e
+  silent Done (inl h) = absurd (omega (arith, h.0))
+  silent Done (inr h) = absurd (omega (arith, h))
+  silent Budget (inl h) = absurd (omega (arith, h.0))
+  silent Budget (inr h) = absurd (omega (arith, h))
+  silent Full (inl h) = absurd (omega (arith, h.1))
+  silent Full (inr h) = absurd (omega (arith, h))
+  silent NoMemory (inl h) = absurd (omega (arith, h.1))
+  silent NoMemory (inr h) = absurd (omega (arith, h))
+  silent WriteFault (inl h) = absurd (omega (arith, h.1))
+  silent WriteFault (inr h) = absurd (omega (arith, h))
+  silent (Refused r) h = tt
+  silent Words h = tt
+  silent ReadFault h = tt
+  silent (SecondRefused kind r) h = tt
+
+  none_taken : (t : Task) (e : Ending) (text : Option (Option (List ℕ))) → IsSilent e → Output t e text oo on → on ≡ oo
   none_taken (task.Run s) (Refused r) text k h = h
   none_taken (task.Run s) Words text k h = h
   none_taken (task.Run s) ReadFault text k h = h
   none_taken task.List (Refused r) text k h = h
   none_taken task.List Words text k h = h
   none_taken task.List ReadFault text k h = h
-  none_taken t Done text (inl k) h = absurd (cc)
-  none_taken t Done text (inr (inl k)) h = absurd (cc)
-  none_taken t Done text (inr (inr k)) h = absurd (cc)
-  none_taken t Budget text (inl k) h = absurd (cc)
-  none_taken t Budget text (inr (inl k)) h = absurd (cc)
-  none_taken t Budget text (inr (inr k)) h = absurd (cc)
-  none_taken t WriteFault text (inl k) h = absurd (cc)
-  none_taken t WriteFault text (inr (inl k)) h = absurd (cc)
-  none_taken t WriteFault text (inr (inr k)) h = absurd (cc)
-  none_taken t NoMemory text (inl k) h = absurd (cc)
-  none_taken t NoMemory text (inr (inl k)) h = absurd (cc)
-  none_taken t NoMemory text (inr (inr k)) h = absurd (cc)
-  none_taken t Full text (inl k) h = absurd (cc)
-  none_taken t Full text (inr (inl k)) h = absurd (cc)
-  none_taken t Full text (inr (inr k)) h = absurd (cc)
+  none_taken (task.Run s) (SecondRefused kind r) text k h = absurd h
+  none_taken task.List (SecondRefused kind r) text k h = absurd h
+  none_taken t Done text k h = absurd k
+  none_taken t Budget text k h = absurd k
+  none_taken t WriteFault text k h = absurd k
+  none_taken t NoMemory text k h = absurd k
+  none_taken t Full text k h = absurd k
 
-  untouched_by : (e : Ending) → Acted e → (status_of e ≡ 2) ⊎ (status_of e ≡ 3) ⊎ (status_of e ≡ 4) → on ≡ oo
-  untouched_by e (inl (c, asks, h)) k = none_taken (task_of c) e (told c) k h.output
+  none_taken_of_pair : (p : Pair) (e : Ending) → IsSilent e → PairOutput p e texts oo on → on ≡ oo
+  none_taken_of_pair p (Refused r) k h = h
+  none_taken_of_pair p Words k h = h
+  none_taken_of_pair p ReadFault k h = h
+  none_taken_of_pair p (SecondRefused kind r) k h = h
+  none_taken_of_pair p Done k h = absurd k
+  none_taken_of_pair p Budget k h = absurd k
+  none_taken_of_pair p WriteFault k h = absurd k
+  none_taken_of_pair p NoMemory k h = absurd k
+  none_taken_of_pair p Full k h = absurd k
+
+  -- nothing was taken where the ending has no output
+  none_taken_of : (c : Request) (e : Ending) → IsSilent e → OutputOf c e texts oo on → on ≡ oo
+  none_taken_of (to_run run) e k h = none_taken (task.Run (settings_of run)) e (told_under texts run.file) k h
+  none_taken_of (to_compile file) e k h = none_taken task.List e (told_under texts file) k h
+  none_taken_of (to_demo n) e k h = none_taken (task.Run folded_run) e (Some (Some (demo_text n))) k h
+  none_taken_of (to_pair p) e k h = none_taken_of_pair p e k h
+
+  -- the statuses with which `out` takes nothing
+  abbrev pub Quiet : ℕ → Type 0
+  Quiet s = (s ≡ 2) ⊎ (s ≡ 3) ⊎ (s ≡ 4) ⊎ (8 ≤ s)
+
+  quiet_range : (s : ℕ) → Quiet s → ((2 ≤ s) × (s ≤ 4)) ⊎ (8 ≤ s)
+  quiet_range s (inl h) = inl (omega (arith, h), omega (arith, h))
+  quiet_range s (inr (inl h)) = inl (omega (arith, h), omega (arith, h))
+  quiet_range s (inr (inr (inl h))) = inl (omega (arith, h), omega (arith, h))
+  quiet_range s (inr (inr (inr h))) = inr h
+
+  untouched_by : (e : Ending) → Acted e → Quiet (status_of e) → on ≡ oo
+  untouched_by e (inl (c, asks, h)) k = none_taken_of c e (silent e (quiet_range (status_of e) k)) h.output
   untouched_by e (inr (none, w, o, f)) k = o
 
-  pub untouched : (e : Ending) → Acted e → Concluded e → (status ≡ 2) ⊎ (status ≡ 3) ⊎ (status ≡ 4) → on ≡ oo
-  untouched e a (inl (s, t, q)) (inl k) = untouched_by e a (inl (sym s ∙ k))
-  untouched e a (inl (s, t, q)) (inr (inl k)) = untouched_by e a (inr (inl (sym s ∙ k)))
-  untouched e a (inl (s, t, q)) (inr (inr k)) = untouched_by e a (inr (inr (sym s ∙ k)))
-  untouched e a (inr (s, p, rose, line)) (inl k) = absurd (omega (arith, s, k))
-  untouched e a (inr (s, p, rose, line)) (inr (inl k)) = absurd (omega (arith, s, k))
-  untouched e a (inr (s, p, rose, line)) (inr (inr k)) = absurd (omega (arith, s, k))
+  not_five : (s : ℕ) → s ≡ 5 → ((2 ≤ s) × (s ≤ 4)) ⊎ (8 ≤ s) → ⊥
+  not_five s is (inl h) = omega (arith, is, h.1)
+  not_five s is (inr h) = omega (arith, is, h)
+
+  pub untouched : (e : Ending) → Acted e → Concluded e → Quiet status → on ≡ oo
+  untouched e a (inl (s, t, q)) k = untouched_by e a (subst Quiet s k)
+  untouched e a (inr (s, p, rose, line)) k = absurd (not_five status s (quiet_range status k))
 
   -- status 3 only where the words aren't of the form, and there always, but for a failing `err`
   pub not_of_form : (e : Ending) → Acted e → Concluded e → status ≡ 3 → ¬ (InForm words)
   not_of_form e (inl (c, asks, h)) (inl (s, t, q)) k =
       let here = words_is e (sym s ∙ k) in
-      absurd (let gone = subst (λ x. Ended (task_of c) x (told c) oo on ob oa (read c) (reads c)) here h in gone.cause)
+      absurd (let gone = subst (λ x. RequestEnded c x texts oo on ob oa read reads) here h in not_words texts read reads c gone.cause)
   not_of_form e (inr (none, w, o, f)) (inl (s, t, q)) k = none
   not_of_form e a (inr (s, p, rose, line)) k = absurd (omega (arith, s, k))
 
@@ -176,14 +231,14 @@ module _ (one : OneRequest) (words : List (String Global)) (told : Request → O
   form_answered e (inr (none, w, o, f)) (inl (s, t, q)) n = inl (subst (λ x. status ≡ status_of x) w s)
   form_answered e (inr (none, w, o, f)) (inr (s, p, rose, line)) n = inr (s, rose)
 
-  pub read_rose : (e : Ending) → Acted e → Concluded e → status ≡ 4 → Asked words (λ c. Rose (read c) (reads c))
+  pub read_rose : (e : Ending) → Acted e → Concluded e → status ≡ 4 → Asked words (λ c. ReadRose c read reads)
   read_rose e (inl (c, asks, h)) (inl (s, t, q)) k =
-      let here = subst (λ x. Ended (task_of c) x (told c) oo on ob oa (read c) (reads c)) (read_is e (sym s ∙ k)) h in (c, asks, here.cause)
+      let here = subst (λ x. RequestEnded c x texts oo on ob oa read reads) (read_is e (sym s ∙ k)) h in (c, asks, read_counted texts read reads c here.cause)
   read_rose e (inr (none, w, o, f)) (inl (s, t, q)) k = absurd (let three : status ≡ 3 = subst (λ x. status ≡ status_of x) w s in omega (arith, three, k))
   read_rose e a (inr (s, p, rose, line)) k = absurd (omega (arith, s, k))
 
   pub write_rose : (e : Ending) → Acted e → Concluded e → status ≡ 5 → FailedLast ob oa ⊎ FailedLast eb ea
-  write_rose e (inl (c, asks, h)) (inl (s, t, q)) k = inl (let here = subst (λ x. Ended (task_of c) x (told c) oo on ob oa (read c) (reads c)) (write_is e (sym s ∙ k)) h in here.counts)
+  write_rose e (inl (c, asks, h)) (inl (s, t, q)) k = inl (let here = subst (λ x. RequestEnded c x texts oo on ob oa read reads) (write_is e (sym s ∙ k)) h in here.counts)
   write_rose e (inr (none, w, o, f)) (inl (s, t, q)) k = absurd (let three : status ≡ 3 = subst (λ x. status ≡ status_of x) w s in omega (arith, three, k))
   write_rose e a (inr (s, p, rose, line)) k = inr rose
 
@@ -200,6 +255,7 @@ module _ (one : OneRequest) (words : List (String Global)) (told : Request → O
   counts_stay WriteFault n h = absurd (n refl)
   counts_stay NoMemory n h = h
   counts_stay Full n h = h
+  counts_stay (SecondRefused kind r) n h = h
 
   pub puts_stay : (e : Ending) → Acted e → Concluded e → ¬ (status ≡ 5) → NoneFailed ob oa × NoneFailed eb ea
   puts_stay e (inl (c, asks, h)) (inl (s, t, same)) n = (counts_stay e (λ k. n (s ∙ k)) h.counts, same)
@@ -215,6 +271,7 @@ module _ (one : OneRequest) (words : List (String Global)) (told : Request → O
   counts_last WriteFault h = inr h
   counts_last NoMemory h = inl h
   counts_last Full h = inl h
+  counts_last (SecondRefused kind r) h = inl h
 
   out_last : (e : Ending) → Acted e → NoneBehindFailed ob oa
   out_last e (inl (c, asks, h)) = counts_last e h.counts
@@ -229,8 +286,8 @@ module _ (one : OneRequest) (words : List (String Global)) (told : Request → O
   puts_end e a k = (out_last e a, err_last e k)
 
   pub refusal_told : (e : Ending) → Acted e → Concluded e → status ≡ 2 →
-      Asked words (λ c. (r : Refusal) × IsToldAnd (told c) (λ text. IsRefusal (most_items (task_of c)) text r) × IsCode r.code × Takes (refusal_line r) eo en)
-  refusal_told (Refused r) (inl (c, asks, h)) (inl (s, t, same)) k = let cause = h.cause in (c, asks, (r, cause.0, cause.1, t))
+      Asked words (λ c. (r : Refusal) × IsToldAnd (told_of c texts) (λ text. IsRefusal (most_items_of c) text r) × IsCode r.code × Takes (refusal_line r) eo en)
+  refusal_told (Refused r) (inl (c, asks, h)) (inl (s, t, same)) k = let cause = refusal_of texts read reads c r h.cause in (c, asks, (r, cause.0, cause.1, t))
   refusal_told Done (inl (c, asks, h)) (inl (s, t, q)) k = absurd (omega (arith, s, k))
   refusal_told Budget (inl (c, asks, h)) (inl (s, t, q)) k = absurd (omega (arith, s, k))
   refusal_told Words (inl (c, asks, h)) (inl (s, t, q)) k = absurd (omega (arith, s, k))
@@ -238,8 +295,24 @@ module _ (one : OneRequest) (words : List (String Global)) (told : Request → O
   refusal_told WriteFault (inl (c, asks, h)) (inl (s, t, q)) k = absurd (omega (arith, s, k))
   refusal_told NoMemory (inl (c, asks, h)) (inl (s, t, q)) k = absurd (omega (arith, s, k))
   refusal_told Full (inl (c, asks, h)) (inl (s, t, q)) k = absurd (omega (arith, s, k))
+  refusal_told (SecondRefused kind r) (inl (c, asks, h)) (inl (s, t, q)) k = let high = second_high kind in absurd (omega (arith, s, k, high.0))
   refusal_told e (inr (none, w, o, f)) (inl (s, t, q)) k = absurd (let three : status ≡ 3 = subst (λ x. status ≡ status_of x) w s in omega (arith, three, k))
   refusal_told e a (inr (s, p, rose, line)) k = absurd (omega (arith, s, k))
+
+  -- a status above 7 is that of a second text that is refused
+  pub second_told : (e : Ending) → Acted e → Concluded e → 8 ≤ status →
+      Asked words (λ c. (kind : PairKind) × (r : Refusal) × (status ≡ second_status kind) × RefusesSecondOf c texts kind r × Takes (second_line r) eo en)
+  second_told (SecondRefused kind r) (inl (c, asks, h)) (inl (s, t, same)) k = (c, asks, (kind, r, s, second_of texts read reads c kind r h.cause, t))
+  second_told Done (inl (c, asks, h)) (inl (s, t, q)) k = absurd (omega (arith, s, k))
+  second_told Budget (inl (c, asks, h)) (inl (s, t, q)) k = absurd (omega (arith, s, k))
+  second_told (Refused r) (inl (c, asks, h)) (inl (s, t, q)) k = absurd (omega (arith, s, k))
+  second_told Words (inl (c, asks, h)) (inl (s, t, q)) k = absurd (omega (arith, s, k))
+  second_told ReadFault (inl (c, asks, h)) (inl (s, t, q)) k = absurd (omega (arith, s, k))
+  second_told WriteFault (inl (c, asks, h)) (inl (s, t, q)) k = absurd (omega (arith, s, k))
+  second_told NoMemory (inl (c, asks, h)) (inl (s, t, q)) k = absurd (omega (arith, s, k))
+  second_told Full (inl (c, asks, h)) (inl (s, t, q)) k = absurd (omega (arith, s, k))
+  second_told e (inr (none, w, o, f)) (inl (s, t, q)) k = absurd (let three : status ≡ 3 = subst (λ x. status ≡ status_of x) w s in omega (arith, three, k))
+  second_told e a (inr (s, p, rose, line)) k = absurd (omega (arith, s, k))
 
   -- the line that `err` took, where the status is that of one ending
   pub line_taken : (e ending : Ending) → Concluded e → (k : ℕ) → k ≢ 5 → (status_of e ≡ k → e ≡ ending) → status ≡ k → Takes (line_of_ending ending) eo en
@@ -254,20 +327,20 @@ module _ (one : OneRequest) (words : List (String Global)) (told : Request → O
 
   -- with 5 either `out` failed and `err` took its line, or `err` failed
   pub failed : (e : Ending) → Acted e → Concluded e → status ≡ 5 →
-      (Asked words (λ c. Output (task_of c) WriteFault (told c) oo on) × FailedLast ob oa × Takes (line_of_ending WriteFault) eo en × NoneFailed eb ea)
+      (Asked words (λ c. OutputOf c WriteFault texts oo on) × FailedLast ob oa × Takes (line_of_ending WriteFault) eo en × NoneFailed eb ea)
       ⊎ (FailedLast eb ea × ((ending : Ending) × HasLine ending × TakesPrefix (line_of_ending ending) eo en × Acted ending))
   failed e (inl (c, asks, h)) (inl (s, t, same)) k =
       let is = write_is e (sym s ∙ k) in
-      let here = subst (λ x. Ended (task_of c) x (told c) oo on ob oa (read c) (reads c)) is h in
+      let here = subst (λ x. RequestEnded c x texts oo on ob oa read reads) is h in
       inl ((c, asks, here.output), here.counts, subst (λ x. Takes (line_of_ending x) eo en) is t, same)
   failed e (inr (none, w, o, f)) (inl (s, t, same)) k = absurd (let three : status ≡ 3 = subst (λ x. status ≡ status_of x) w s in omega (arith, three, k))
   failed e a (inr (s, p, rose, line)) k = inr (rose, (e, line, p, a))
 
   -- an accepted text is answered so where nothing fails, and one that isn't is refused
-  pub answered : (e : Ending) → Acted e → Concluded e → InForm words → Asked words (λ c. ¬ (Rose (read c) (reads c)) → ¬ (FailedLast ob oa) → ¬ (FailedLast eb ea) → IfTold (told c) (λ text. IsAccepted (most_items (task_of c)) text → Answers (task_of c) status))
-  answered e (inl (c, asks, h)) k form = (c, asks, λ r o x. accepted_answered (task_of c) e (told c) oo on ob oa (read c) (reads c) status eo en eb ea h k r o x)
+  pub answered : (e : Ending) → Acted e → Concluded e → InForm words → Asked words (λ c. ¬ (ReadRose c read reads) → ¬ (FailedLast ob oa) → ¬ (FailedLast eb ea) → IfTold (told_of c texts) (λ text. IsAccepted (most_items_of c) text → AnswersOf c status))
+  answered e (inl (c, asks, h)) k form = (c, asks, λ r o x. request_answered texts oo on ob oa read reads status eo en eb ea c e h k r o x)
   answered e (inr (none, w, o, f)) k form = absurd (none form)
 
-  pub refused_so : (e : Ending) → Acted e → Concluded e → InForm words → Asked words (λ c. IfTold (told c) (λ text. ¬ (IsAccepted (most_items (task_of c)) text) → Refusing status))
-  refused_so e (inl (c, asks, h)) k form = (c, asks, unaccepted_answered (task_of c) e (told c) oo on ob oa (read c) (reads c) status eo en eb ea h k)
+  pub refused_so : (e : Ending) → Acted e → Concluded e → InForm words → Asked words (λ c. IfTold (told_of c texts) (λ text. ¬ (IsAccepted (most_items_of c) text) → Refusing status))
+  refused_so e (inl (c, asks, h)) k form = (c, asks, request_refused_so texts oo on ob oa read reads status eo en eb ea c e h k)
   refused_so e (inr (none, w, o, f)) k form = absurd (none form)

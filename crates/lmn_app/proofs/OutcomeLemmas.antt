@@ -6,7 +6,7 @@ use Rattle.lmn_io.specs.Counts.{FailedLast, Faults, Rose}
 use Rattle.lmn_io.proofs.TakingLemmas.{no_put}
 use Rattle.lmn_runs.specs.Runs.{Stop}
 use Rattle.lmn_app.specs.declared.ending.Ending.{Ending}
-use Rattle.lmn_app.specs.declared.ending.Ending.TheVariants.{Done, Budget, Refused, Words, ReadFault, WriteFault, NoMemory, Full}
+use Rattle.lmn_app.specs.declared.ending.Ending.TheVariants.{Done, Budget, Refused, Words, ReadFault, WriteFault, NoMemory, Full, SecondRefused}
 use Rattle.lmn_app.specs.declared.task.RunSettings.{RunSettings}
 use Rattle.lmn_app.specs.declared.task.Task.{Task}
 use Rattle.lmn_app.specs.declared.task.Task.TheVariants as task
@@ -15,15 +15,22 @@ use Rattle.lmn_reading.specs.Codes.{IsCode}
 use Rattle.lmn_app.specs.Outcomes.{Answers, Causes, Ended, Output}
 use Rattle.lmn_app.specs.Texts.{IsAccepted, IsRefusal, at_start, text_bytes, too_long}
 use Rattle.lmn_app.specs.Requests.{most_items}
+use Rattle.lmn_app.specs.Runnings.{EndsUnread}
 use Rattle.lmn_app.specs.Writing.{IfTold, IsToldAnd, Lists, ListsPart, WritesRun, WritesPartOfRun, told_under}
 use Rattle.lmn_app.proofs.TextLemmas.{refused_not_accepted}
 
 -- ---- a text that is told
 
 -- what is said of a text is said of what is told, if that is told at all
-told_here : (P : List ℕ → Type 0) (told : Option (Option (List ℕ))) (bytes : List ℕ) → IfSome told (λ found. found ≡ Some bytes) → P bytes → IsToldAnd told P
+pub told_here : (P : List ℕ → Type 0) (told : Option (Option (List ℕ))) (bytes : List ℕ) → IfSome told (λ found. found ≡ Some bytes) → P bytes → IsToldAnd told P
 told_here P None bytes e p = tt
 told_here P (Some found) bytes e p = subst (λ o. IsSomeAnd o P) (sym e) p
+
+-- what holds of a text holds of the one that is told, where that is this one
+pub told_and : (P : List ℕ → Type 0) (told : Option (Option (List ℕ))) (text : List ℕ) → IsToldAnd told (λ found. found ≡ text) → P text → IsToldAnd told P
+told_and P None text h p = tt
+told_and P (Some None) text h p = h
+told_and P (Some (Some found)) text h p = subst P (sym h) p
 
 -- what a map has under a name is what is told
 pub under_told : (texts : Option (List ℕ → Option (List ℕ))) (name bytes : List ℕ) → IfSome texts (λ text. text name ≡ Some bytes) → IfSome (told_under texts name) (λ found. found ≡ Some bytes)
@@ -69,6 +76,7 @@ module _ (told : Option (Option (List ℕ))) (bytes : List ℕ) (e : IfSome told
   causes_told t WriteFault before after h = h
   causes_told t NoMemory before after h = h
   causes_told t Full before after h = h
+  causes_told t (SecondRefused kind r) before after h = h
 
   output_told : (t : Task) (ending : Ending) (old new : Option (List ℕ)) → Output t ending (Some (Some bytes)) old new → Output t ending told old new
   output_told (task.Run s) Done old new h = writes_told s _ old new h
@@ -87,6 +95,8 @@ module _ (told : Option (Option (List ℕ))) (bytes : List ℕ) (e : IfSome told
   output_told task.List (Refused r) old new h = h
   output_told task.List Words old new h = h
   output_told task.List ReadFault old new h = h
+  output_told (task.Run s) (SecondRefused kind r) old new h = h
+  output_told task.List (SecondRefused kind r) old new h = h
 
   pub ended_told : (t : Task) (ending : Ending) (old new : Option (List ℕ)) (before after : Faults) (read_before read_after : ℕ) → Ended t ending (Some (Some bytes)) old new before after read_before read_after
       → Ended t ending told old new before after read_before read_after
@@ -95,18 +105,20 @@ module _ (told : Option (Option (List ℕ))) (bytes : List ℕ) (e : IfSome told
 
 -- ---- statuses
 
-when_told : (told : Option (Option (List ℕ))) (P : List ℕ → Type 0) → ((text : List ℕ) → P text) → IfTold told P
+-- where it holds of each text it holds of the one that is told
+pub when_told : (told : Option (Option (List ℕ))) (P : List ℕ → Type 0) → ((text : List ℕ) → P text) → IfTold told P
 when_told None P h = tt
 when_told (Some None) P h = tt
 when_told (Some (Some text)) P h = h text
 
-refused_told : (size : Option ℕ) (told : Option (Option (List ℕ))) (r : Refusal) (A : Type 0) → IsToldAnd told (λ text. IsRefusal size text r) → IfTold told (λ text. IsAccepted size text → A)
+-- a text that is told and is refused isn't accepted
+pub refused_told : (size : Option ℕ) (told : Option (Option (List ℕ))) (r : Refusal) (A : Type 0) → IsToldAnd told (λ text. IsRefusal size text r) → IfTold told (λ text. IsAccepted size text → A)
 refused_told size None r A h = tt
 refused_told size (Some None) r A h = tt
 refused_told size (Some (Some text)) r A h = λ a. absurd (refused_not_accepted size text r h a)
 
 -- the text that is told is this one
-told_is : (told : Option (Option (List ℕ))) (text : List ℕ) (P : List ℕ → Type 0) → IsToldAnd told (λ found. found ≡ text) → P text → IfTold told P
+pub told_is : (told : Option (Option (List ℕ))) (text : List ℕ) (P : List ℕ → Type 0) → IsToldAnd told (λ found. found ≡ text) → P text → IfTold told P
 told_is None text P h p = tt
 told_is (Some None) text P h p = tt
 told_is (Some (Some found)) text P h p = subst P (sym h) p
@@ -128,6 +140,7 @@ accepted_answered t (Refused r) told oo on ob oa rb ra status eo en eb ea h (inl
 accepted_answered t Words told oo on ob oa rb ra status eo en eb ea h (inl k) read out err = absurd (h.cause)
 accepted_answered t ReadFault told oo on ob oa rb ra status eo en eb ea h (inl k) read out err = absurd (read h.cause)
 accepted_answered t WriteFault told oo on ob oa rb ra status eo en eb ea h (inl k) read out err = absurd (out h.counts)
+accepted_answered t (SecondRefused kind r) told oo on ob oa rb ra status eo en eb ea h (inl k) read out err = absurd (h.cause)
 
 -- a status of a task that is refused, or of which the file can't be read, or that has no memory
 abbrev pub Refusing : ℕ → Type 0
@@ -159,6 +172,7 @@ unaccepted_answered t Words told oo on ob oa rb ra status eo en eb ea h (inl k) 
 unaccepted_answered t ReadFault told oo on ob oa rb ra status eo en eb ea h (inl k) = when_told told _ (λ text n. inr (inl k.0))
 unaccepted_answered t WriteFault told oo on ob oa rb ra status eo en eb ea h (inl k) = when_told told _ (λ text n. inr (inr (inl k.0)))
 unaccepted_answered t NoMemory told oo on ob oa rb ra status eo en eb ea h (inl k) = when_told told _ (λ text n. inr (inr (inr k.0)))
+unaccepted_answered t (SecondRefused kind r) told oo on ob oa rb ra status eo en eb ea h (inl k) = absurd (h.cause)
 
 -- ---- endings at which nothing was taken
 
@@ -188,7 +202,7 @@ pub memory_ended : (t : Task) (told : Option (Option (List ℕ))) (x : Option (L
 memory_ended t told x n rb ra = record { cause = tt; output = nothing_more t told x; counts = no_put n }
 
 -- a text that is told and is too long
-long_told : (P : List ℕ → Type 0) (told : Option (List ℕ → Option (List ℕ))) (name : List ℕ) (most : ℕ) → IfSome told (λ text. IsSomeAnd (text name) (λ bytes. most < length bytes))
+pub long_told : (P : List ℕ → Type 0) (told : Option (List ℕ → Option (List ℕ))) (name : List ℕ) (most : ℕ) → IfSome told (λ text. IsSomeAnd (text name) (λ bytes. most < length bytes))
     → ((bytes : List ℕ) → most < length bytes → P bytes) → IsToldAnd (told_under told name) P
 long_told P None name most h f = tt
 long_told P (Some text) name most h f = go (text name) h
@@ -197,8 +211,24 @@ long_told P (Some text) name most h f = go (text name) h
     go None k = k
     go (Some bytes) k = f bytes k
 
--- a task with a text that is too long ends so
-pub long_ended : (t : Task) (told : Option (List ℕ → Option (List ℕ))) (name : List ℕ) (x : Option (List ℕ)) (n : Faults) (rb ra : ℕ) → IfSome told (λ text. IsSomeAnd (text name) (λ bytes. text_bytes < length bytes))
-    → Ended t (Refused (at_start 1)) (told_under told name) x x n n rb ra
-long_ended t told name x n rb ra h =
-    refused_ended t (at_start 1) (told_under told name) x n rb ra (long_told (λ text. IsRefusal (most_items t) text (at_start 1)) told name text_bytes h (λ bytes l. too_long l refl)) refl
+long_refused : (size : Option ℕ) (told : Option (Option (List ℕ))) → IsToldAnd told (λ bytes. text_bytes < length bytes) → IsToldAnd told (λ text. IsRefusal size text (at_start 1))
+long_refused size None h = tt
+long_refused size (Some None) h = h
+long_refused size (Some (Some bytes)) h = too_long h refl
+
+-- a program that is too long is refused for that
+pub too_long_refused : (size : Option ℕ) (told : Option (Option (List ℕ))) (r : Refusal) → (r ≡ at_start 1) × IsToldAnd told (λ bytes. text_bytes < length bytes)
+    → IsToldAnd told (λ text. IsRefusal size text r) × IsCode r.code
+too_long_refused size told r h = subst (λ (q : Refusal). IsToldAnd told (λ text. IsRefusal size text q) × IsCode q.code) (sym h.0) (long_refused size told h.1, refl)
+
+-- a task without a program ends so
+pub unread_ended : (t : Task) (e : Ending) (told : Option (Option (List ℕ))) (x : Option (List ℕ)) (n : Faults) (rb ra : ℕ) → EndsUnread e told rb ra → Ended t e told x x n n rb ra
+unread_ended t (Refused r) told x n rb ra h = let k = too_long_refused (most_items t) told r h in refused_ended t r told x n rb ra k.0 k.1
+unread_ended t ReadFault told x n rb ra h = fault_ended t told x n rb ra h
+unread_ended t NoMemory told x n rb ra h = memory_ended t told x n rb ra
+unread_ended t Done told x n rb ra h = absurd h
+unread_ended t Budget told x n rb ra h = absurd h
+unread_ended t Words told x n rb ra h = absurd h
+unread_ended t WriteFault told x n rb ra h = absurd h
+unread_ended t Full told x n rb ra h = absurd h
+unread_ended t (SecondRefused kind r) told x n rb ra h = absurd h

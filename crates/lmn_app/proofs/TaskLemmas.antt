@@ -1,17 +1,17 @@
 -- The tasks of commands, and their texts.
 use Rattle.std.proofs.Common.{◌≡◌, ℕ, List, Some, sym, ap, subst, arith, length, ◌≤◌}
-use Rattle.lmn_words.specs.Forms.{IsInRanges, Request, to_run, to_compile, to_demo}
+use Rattle.lmn_words.specs.Forms.{IsInRanges, Run, to_run}
+use Rattle.lmn_app.specs.declared.task.RunSettings.{RunSettings}
+use Rattle.lmn_app.specs.declared.task.Task.TheVariants as task
 use Rattle.lmn_app.specs.Demos.{demo_text}
-use Rattle.lmn_app.specs.Requests.{IsInRange, task_of}
+use Rattle.lmn_app.specs.Requests.{IsInRange, settings_of}
 use Rattle.lmn_app.specs.Texts.{text_bytes}
 use Rattle.lmn_app.specs.Writing.{IsTextOf}
 use Rattle.lmn_app.proofs.DemoLemmas.{demo_short}
 
--- the numbers of a task are those of its command
-pub task_in_range : (c : Request) → IsInRanges c → IsInRange (task_of c)
-task_in_range (to_run run) h = (omega (arith, h.2), h.0)
-task_in_range (to_compile file) h = tt
-task_in_range (to_demo n) h = (omega arith, omega arith)
+-- the numbers of a run are those of its words
+pub run_in_range : (run : Run) (s : RunSettings) → s ≡ settings_of run → IsInRanges (to_run run) → IsInRange (task.Run s)
+run_in_range run s is h = subst (λ (t : RunSettings). IsInRange (task.Run t)) (sym is) (omega (arith, h.2), h.0)
 
 -- the text of `demo` is the one that is told
 pub demo_told : (n : ℕ) (text : List ℕ) → n ≤ 100000 → text ≡ demo_text n → IsTextOf (Some (Some (demo_text n))) text

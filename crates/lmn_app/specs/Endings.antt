@@ -3,7 +3,8 @@ use Rattle.std.specs.Prelude.{◌≡◌, ℕ, ⊤, ◌⊎◌, List, [], ◌∷�
 use Rattle.std.specs.List.{concat}
 use Rattle.lmn_base.specs.declared.refusal.Refusal.{Refusal}
 use Rattle.lmn_app.specs.declared.ending.Ending.{Ending}
-use Rattle.lmn_app.specs.declared.ending.Ending.TheVariants.{Done, Budget, Refused, Words, ReadFault, WriteFault, NoMemory, Full}
+use Rattle.lmn_app.specs.declared.ending.Ending.TheVariants.{Done, Budget, Refused, Words, ReadFault, WriteFault, NoMemory, Full, SecondRefused}
+use Rattle.lmn_app.specs.SecondTexts.{second_status, second_words}
 use Rattle.lmn_io.specs.Counts.{FailedLast, Faults, NoneFailed}
 use Rattle.lmn_io.specs.Taking.{Takes, TakesPrefix}
 use Rattle.lmn_reading.specs.Codes.{words_of_number}
@@ -18,20 +19,29 @@ status_of ReadFault = 4
 status_of WriteFault = 5
 status_of NoMemory = 6
 status_of Full = 7
+status_of (SecondRefused kind refusal) = second_status kind
 
 -- what stands before the number of a code, which has two digits
 abbrev pub code_letters : ℕ → List ℕ
 code_letters code = if nat_lt code 10 then codes "E0" else codes "E"
 
 -- the code, the line and the column of the place, and the words
-abbrev pub refusal_line : Refusal → List ℕ
-refusal_line refusal =
+abbrev pub line_with : List ℕ → Refusal → List ℕ
+line_with words refusal =
     concat (code_letters refusal.code ∷ decimal refusal.code ∷ codes " " ∷ decimal refusal.pos.line ∷ codes ":" ∷ decimal refusal.pos.column
-    ∷ codes " " ∷ words_of_number refusal.code ∷ codes "\n" ∷ [])
+    ∷ codes " " ∷ words ∷ codes "\n" ∷ [])
+
+-- the line of a refusal of a program, and of one of a second text
+abbrev pub refusal_line : Refusal → List ℕ
+refusal_line refusal = line_with (words_of_number refusal.code) refusal
+
+abbrev pub second_line : Refusal → List ℕ
+second_line refusal = line_with (second_words refusal.code) refusal
 
 -- the line of an ending, or nothing
 abbrev pub line_of_ending : Ending → List ℕ
 line_of_ending (Refused refusal) = refusal_line refusal
+line_of_ending (SecondRefused kind refusal) = second_line refusal
 line_of_ending Words = codes "lmn: words not understood\n"
 line_of_ending ReadFault = codes "lmn: read failed\n"
 line_of_ending WriteFault = codes "lmn: write failed\n"

@@ -3,9 +3,12 @@ pub mod Demos
 pub mod Endings
 pub mod NameExamples
 pub mod Outcomes
+pub mod Pairs
+pub mod Bounds
 pub mod Requests
 pub mod Runnings
 pub mod Runs
+pub mod SecondTexts
 pub mod TextExamples
 pub mod Texts
 pub mod Writing

@@ -1,4 +1,8 @@
+ghost use Rattle.std.specs.Prelude.{◌≡◌};
+ghost use Rattle.lmn_app.specs.SecondTexts.{second_status};
+
 use lmn_base::Refusal;
+use lmn_words::PairKind;
 
 /// How a call ends. Each ending has a status and a line on `err`, which may be nothing.
 #[derive(Clone, Copy, Debug, PartialEq, Eq)]
@@ -19,6 +23,8 @@ pub enum Ending {
     NoMemory,
     /// The next commit would leave too many items, and all was written.
     Full,
+    /// The second text is refused, as weights are.
+    SecondRefused(PairKind, Refusal),
 }
 
 impl Ending {
@@ -26,7 +32,7 @@ impl Ending {
     ghost use Rattle.lmn_app.specs.Endings.{status_of};
 
     /// The status of the program: 0 for done, 1 for the budget, 2 for a refused text, 3 for the words,
-    /// 4 for a read fault, 5 for a write fault, 6 for want of memory, 7 for too many items.
+    /// 4 for a read fault, 5 for a write fault, 6 for want of memory, 7 for too many items, 11 for weights.
     pub fn status(self) -> u8
         ensures { result ≡ status_of self }
     {
@@ -39,6 +45,16 @@ impl Ending {
             Ending::WriteFault => 5,
             Ending::NoMemory => 6,
             Ending::Full => 7,
+            Ending::SecondRefused(kind, _) => second_status(kind),
         }
+    }
+}
+
+/// The status of a refusal of a second text.
+fn second_status(kind: PairKind) -> u8
+    ensures { result ≡ second_status kind }
+{
+    match kind {
+        PairKind::Bound => 11,
     }
 }

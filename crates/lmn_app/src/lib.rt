@@ -1,11 +1,13 @@
 //! The top call: what the program does with the words of its command line.
 #![tactic(auto)]
 
+mod bounding;
 mod compiling;
 mod conclusion;
 mod demo;
 mod ending;
 pub mod laws;
+mod pairing;
 mod running;
 mod task;
 mod top;

@@ -1,5 +1,5 @@
 use lmn_order::Order;
-use lmn_words::Command;
+use lmn_words::RunWords;
 
 /// What a command does with a text.
 #[derive(Clone, Copy, Debug, PartialEq, Eq)]
@@ -26,7 +26,7 @@ pub(crate) struct RunSettings {
 }
 
 /// What `run --folded` gives with all other defaults.
-const DEMO: RunSettings = RunSettings {
+pub(crate) const DEMO: RunSettings = RunSettings {
     trace: false,
     folded: true,
     budget: 1_000_000,
@@ -34,25 +34,21 @@ const DEMO: RunSettings = RunSettings {
     order: Order::First,
 };
 
-impl Task {
+impl RunSettings {
     ghost use Rattle.std.specs.Prelude.{◌≡◌};
-    ghost use Rattle.lmn_words.specs.Forms.{request_of};
-    ghost use Rattle.lmn_app.specs.Requests.{task_of};
+    ghost use Rattle.lmn_words.specs.Forms.{run_of};
+    ghost use Rattle.lmn_app.specs.Requests.{settings_of};
 
-    /// The task of a command.
-    pub(crate) fn of(command: Command<'_>) -> Task
-        ensures { result ≡ task_of (request_of command.entry) }
+    /// What a run is given by the words.
+    pub(crate) fn of(words: RunWords<'_>) -> RunSettings
+        ensures { result ≡ settings_of (run_of words.entry) }
     {
-        match command {
-            Command::Run(words) => Task::Run(RunSettings {
-                trace: words.trace,
-                folded: words.folded,
-                budget: words.budget,
-                size: words.size,
-                order: words.order,
-            }),
-            Command::Compile(_) => Task::List,
-            Command::Demo(_) => Task::Run(DEMO),
+        RunSettings {
+            trace: words.trace,
+            folded: words.folded,
+            budget: words.budget,
+            size: words.size,
+            order: words.order,
         }
     }
 }

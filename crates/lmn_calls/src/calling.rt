@@ -24,12 +24,16 @@ fn rows_of<T: Copy + Drop>(alloc: Global, items: &[T]) -> Result<Rows<T>, AllocE
     Ok(Rows::from_vec(Vec::from_slice(alloc, items)?))
 }
 
-/// A shelf with one file, `f`.
-fn shelf_of(alloc: Global, text: &[u8], failing: &[u64]) -> Result<MemShelf> {
+/// A shelf with the file `f`, and `g` where a call has a second one.
+fn shelf_of(alloc: Global, text: &[u8], second: &Option<Vec<u8>>, failing: &[u64]) -> Result<MemShelf> {
     let mut names = Rows::new(alloc);
     names.push(rows_of(alloc, b"f")?)?;
     let mut texts = Rows::new(alloc);
     texts.push(rows_of(alloc, text)?)?;
+    if let Some(second) = second {
+        names.push(rows_of(alloc, b"g")?)?;
+        texts.push(rows_of(alloc, second.as_slice())?)?;
+    }
     let failing = rows_of(alloc, failing)?;
     Ok(MemShelf::new(alloc, names, texts, failing))
 }
@@ -45,7 +49,7 @@ fn out_room(call: &Call) -> usize {
 
 /// Makes a call with so much of its text.
 pub(crate) fn make(alloc: Global, call: &Call, text: &[u8]) -> Result<Ended> {
-    let mut shelf = shelf_of(alloc, text, call.fetches_failing.as_slice())?;
+    let mut shelf = shelf_of(alloc, text, &call.second, call.fetches_failing.as_slice())?;
     let puts_failing = rows_of(alloc, call.puts_failing.as_slice())?;
     let mut out = MemSink::new(alloc, out_room(call), puts_failing)?;
     let mut err = MemSink::new(alloc, call.err_room, Rows::new(alloc))?;

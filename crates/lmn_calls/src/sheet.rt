@@ -21,6 +21,8 @@ pub(crate) struct Call {
     pub(crate) words: Vec<String>,
     /// The text of the file `f`.
     pub(crate) text: Vec<u8>,
+    /// The text of the file `g`, where there is one.
+    pub(crate) second: Option<Vec<u8>>,
     /// Whether it is made once with each front of the text.
     pub(crate) with_fronts: bool,
     /// The numbers of the fetches that fail, and of the puts into `out`.
@@ -85,6 +87,7 @@ fn call_of(alloc: Global, line: usize, rest: &str) -> Result<Call> {
         line,
         words: words_of(alloc, rest)?,
         text: Vec::new(alloc),
+        second: None,
         with_fronts: false,
         fetches_failing: Vec::new(alloc),
         puts_failing: Vec::new(alloc),
@@ -98,15 +101,27 @@ fn call_of(alloc: Global, line: usize, rest: &str) -> Result<Call> {
     })
 }
 
-/// Hears a line on the text of the file, and answers whether it is one.
-fn hear_text(call: &mut Call, key: &str, rest: &str) -> Result<bool> {
+/// Hears a line on a text, and answers whether it is one.
+fn hear_bytes(text: &mut Vec<u8>, key: &str, rest: &str) -> Result<bool> {
     match key {
-        "text" => add(&mut call.text, rest)?,
-        "line" => add_line(&mut call.text, rest)?,
-        "times" => add_times(&mut call.text, rest)?,
-        "bytes" => add_bytes(&mut call.text, rest)?,
-        "fronts" => call.with_fronts = true,
+        "text" => add(text, rest)?,
+        "line" => add_line(text, rest)?,
+        "times" => add_times(text, rest)?,
+        "bytes" => add_bytes(text, rest)?,
         _ => return Ok(false),
+    }
+    Ok(true)
+}
+
+/// Hears a line on the files, and answers whether it is one.
+fn hear_text(call: &mut Call, alloc: Global, key: &str, rest: &str) -> Result<bool> {
+    match key {
+        "fronts" => call.with_fronts = true,
+        "beside" => call.second = Some(Vec::new(alloc)),
+        _ => match &mut call.second {
+            Some(text) => return hear_bytes(text, key, rest),
+            None => return hear_bytes(&mut call.text, key, rest),
+        },
     }
     Ok(true)
 }
@@ -137,8 +152,8 @@ fn hear_wanted(wanted: &mut Wanted, key: &str, rest: &str) -> Result<bool> {
 }
 
 /// Hears a line of a call.
-fn hear(call: &mut Call, key: &str, rest: &str) -> Result<()> {
-    if hear_text(call, key, rest)?
+fn hear(call: &mut Call, alloc: Global, key: &str, rest: &str) -> Result<()> {
+    if hear_text(call, alloc, key, rest)?
         || hear_failing(call, key, rest)?
         || hear_wanted(&mut call.wanted, key, rest)?
     {
@@ -158,7 +173,7 @@ fn hear_line(calls: &mut Vec<Call>, alloc: Global, number: usize, line: &str) ->
         return Ok(());
     }
     match calls.last_mut() {
-        Some(call) => hear(call, key, rest),
+        Some(call) => hear(call, alloc, key, rest),
         None => bail!("no call before it"),
     }
 }

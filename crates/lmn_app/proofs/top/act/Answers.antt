@@ -1,7 +1,6 @@
 use Rattle.std.proofs.Common.{inl, inr, refl, sym, true≢false}
 use Rattle.lmn_words.specs.Forms.{request_of}
-use Rattle.lmn_app.specs.Requests.{task_of}
-use Rattle.lmn_app.proofs.OutcomeLemmas.{memory_ended}
+use Rattle.lmn_app.proofs.RequestLemmas.{request_memory}
 use Rattle.lmn_app.proofs.top.act.Goals as goal
 
 pub returns-in-Ok-Some-clause-asked : goal.returns-in-Ok-Some-clause-asked
@@ -28,4 +27,4 @@ returns-in-Err-clause-asked g c = λ form. inr (refl, refl)
 pub returns-in-Err-clause-ended : goal.returns-in-Err-clause-ended
 returns-in-Err-clause-ended g c =
     let asks = c.in-Err.ensures.memory in
-    inl (asks.0, asks.1, memory_ended (task_of asks.0) _ _ _ _ _)
+    inl (asks.0, asks.1, request_memory asks.0 _ _ _ _ _)

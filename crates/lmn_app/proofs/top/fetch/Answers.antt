@@ -1,5 +1,6 @@
 use Rattle.std.proofs.Common.{refl}
-use Rattle.lmn_app.proofs.OutcomeLemmas.{fault_ended, long_ended, memory_ended, under_told}
+use Rattle.lmn_app.specs.Texts.{text_bytes}
+use Rattle.lmn_app.proofs.OutcomeLemmas.{long_told, under_told}
 use Rattle.lmn_app.proofs.top.fetch.Goals as goal
 
 pub returns-in-Ok-Whole-clause-text : goal.returns-in-Ok-Whole-clause-text
@@ -8,14 +9,11 @@ returns-in-Ok-Whole-clause-text g c =
     (found.0, under_told (g.F.Shelf.told c.args.shelf.now) c.args.name.now _ found.1)
 
 pub returns-in-Ok-TooLong-clause-fault : goal.returns-in-Ok-TooLong-clause-fault
-returns-in-Ok-TooLong-clause-fault g c = λ t took count.
+returns-in-Ok-TooLong-clause-fault g c =
     let found = rw c.in-Ok-TooLong.field-0-is at c.in-Ok-TooLong.ensures.fetched in
-    long_ended t (g.F.Shelf.told c.args.shelf.now) c.args.name.now took count _ _ found
+    (refl, long_told _ (g.F.Shelf.told c.args.shelf.now) c.args.name.now text_bytes found (λ bytes l. l))
 
 pub returns-in-Err-Failed-clause-fault : goal.returns-in-Err-Failed-clause-fault
-returns-in-Err-Failed-clause-fault g c = λ t took count.
+returns-in-Err-Failed-clause-fault g c =
     let rose = rw c.in-Err-Failed.field-0-is at c.in-Err-Failed.ensures.rose in
-    fault_ended t _ took count _ _ (rose refl)
-
-pub returns-in-Err-NoMemory-clause-fault : goal.returns-in-Err-NoMemory-clause-fault
-returns-in-Err-NoMemory-clause-fault g c = λ t took count. memory_ended t _ took count _ _
+    rose refl

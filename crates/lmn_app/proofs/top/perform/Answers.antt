@@ -1,25 +1,21 @@
-use Rattle.std.proofs.Common.{length, ◌≤◌, subst, sym}
-use Rattle.lmn_words.specs.Forms.{request_of}
-use Rattle.lmn_app.specs.Requests.{IsInRange, faults_of, task_of, told_of}
-use Rattle.lmn_app.specs.Texts.{text_bytes}
-use Rattle.lmn_app.proofs.OutcomeLemmas.{ended_told}
-use Rattle.lmn_app.proofs.TaskLemmas.{task_in_range}
+use Rattle.std.proofs.Common.{arith}
+use Rattle.lmn_words.specs.Forms.{run_of}
+use Rattle.lmn_app.specs.Requests.{IsInRange}
+use Rattle.lmn_app.proofs.RequestLemmas.{demo_ended, list_ended, run_ended}
+use Rattle.lmn_app.proofs.TaskLemmas.{run_in_range}
 use Rattle.lmn_app.proofs.top.perform.Goals as goal
 
-pub perform_on-requires-clause-short : goal.perform_on-requires-clause-short
-perform_on-requires-clause-short g c = subst (λ text. length text ≤ text_bytes) (sym c.as_slice.ensures) c.in-Ok.ensures.text.0
+pub perform_file-requires : goal.perform_file-requires
+perform_file-requires g c = record { range = run_in_range (run_of c.in-Run.words) _ c.of.ensures (rw c.in-Run.is at c.requires) }
 
-pub perform_on-requires-clause-range : goal.perform_on-requires-clause-range
-perform_on-requires-clause-range g c = subst IsInRange (sym c.of.ensures) (task_in_range (request_of c.args.command) c.requires)
+pub perform_demo-requires : goal.perform_demo-requires
+perform_demo-requires g c = let range = rw c.in-Demo.is at c.requires in record { few = range.1 }
 
-pub returns-in-Ok-clause-ended : goal.returns-in-Ok-clause-ended
-returns-in-Ok-clause-ended g c =
-    let q = request_of c.args.command in
-    let told = told_of q (g.F.Shelf.told c.args.shelf.now) in
-    let read = faults_of q (g.F.Shelf.faults c.args.shelf.now) in
-    let reads = faults_of q (g.F.Shelf.faults c.text_of.new.shelf) in
-    let done = rw c.of.ensures at (c.perform_on.ensures read reads) in
-    ended_told told c.as_slice.result.now (rw c.as_slice.ensures c.in-Ok.ensures.text.1) (task_of q) _ _ _ _ _ read reads done
+pub returns-in-Run-clause-ended : goal.returns-in-Run-clause-ended
+returns-in-Run-clause-ended g c = rw c.in-Run.is (run_ended _ _ _ _ _ _ _ (run_of c.in-Run.words) _ _ c.of.ensures c.perform_file.ensures.ended)
 
-pub returns-in-Err-clause-ended : goal.returns-in-Err-clause-ended
-returns-in-Err-clause-ended g c = c.in-Err.ensures.fault (task_of (request_of c.args.command)) _ _
+pub returns-in-Compile-clause-ended : goal.returns-in-Compile-clause-ended
+returns-in-Compile-clause-ended g c = rw c.in-Compile.is (list_ended _ _ _ _ _ _ _ c.in-Compile.file.now _ c.perform_file-in-Compile.ensures.ended)
+
+pub returns-in-Demo-clause-ended : goal.returns-in-Demo-clause-ended
+returns-in-Demo-clause-ended g c = rw c.in-Demo.is (demo_ended _ _ _ _ _ _ _ c.in-Demo.n _ c.perform_demo.ensures)

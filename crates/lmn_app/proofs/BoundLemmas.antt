@@ -1,0 +1,127 @@
+-- What bounds a program by weights.
+use Rattle.std.proofs.Common.{◌≡◌, ◌≤◌, ◌^◌, ◌+◌, ℕ, List, [], ◌∷◌, Option, Some, Ok, Err, length, refl, sym, ap, ◌∙◌, subst, inl, inr, arith}
+use Rattle.lmn_accepted.specs.Rules.{AcceptedTexts}
+use Rattle.lmn_accepted.proofs.Loadable.{rules_whole}
+use Rattle.lmn_accepted.proofs.PlanKinds.{at_index}
+use Rattle.lmn_base.specs.declared.refusal.Refusal.{Refusal}
+use Rattle.lmn_base.specs.declared.rule.Plain.{Plain}
+use Rattle.lmn_base.specs.Items.{number_of_items}
+use Rattle.lmn_bounding.specs.Bounding.{FewWeighed, IsAcceptedPlain, RulesAreSmall, WeightsBound}
+use Rattle.lmn_congruence.specs.Rules.{Name}
+use Rattle.lmn_functors.specs.Reading.{AddsNames}
+use Rattle.lmn_guards.specs.Accepted.{IsAcceptedRule}
+use Rattle.lmn_guards.specs.declared.plan.GuardPlan.{GuardPlan}
+use Rattle.lmn_io.specs.Counts.{Faults}
+use Rattle.lmn_io.specs.Writing.{WritesText}
+use Rattle.lmn_io.proofs.TakingLemmas.{no_put}
+use Rattle.lmn_weight.specs.declared.weights.Weights.{Weights}
+use Rattle.lmn_weight.specs.Lines.{AreWeightsOf, IsFirstWrong}
+use Rattle.lmn_weight.specs.Plains.{EachLowered, IsFirstNotLowered, IsOfSize, level_weight}
+use Rattle.lmn_words.specs.declared.command.PairKind.{PairKind}
+use Rattle.lmn_words.specs.declared.command.PairKind.TheVariants.{Bound}
+use Rattle.lmn_words.specs.Forms.{Pair, to_pair}
+use Rattle.lmn_app.specs.declared.ending.Ending.{Ending}
+use Rattle.lmn_app.specs.declared.ending.Ending.TheVariants.{Done, Budget, Refused, Words, ReadFault, WriteFault, NoMemory, Full, SecondRefused}
+use Rattle.lmn_app.specs.Bounds.{IsBound, IsWrongWeights, ReadsBoth, bad_weight, bound_line, not_lowered}
+use Rattle.lmn_app.specs.Outcomes.{RequestEnded}
+use Rattle.lmn_app.specs.Pairs.{HasProgram, IsSecondRefusal, most_items_of_pair, second_wrong}
+use Rattle.lmn_app.specs.Runnings.{EndsBound}
+use Rattle.lmn_app.specs.SecondTexts.{second_bytes}
+use Rattle.lmn_app.specs.Texts.{Accepts, IsAccepted}
+use Rattle.lmn_app.specs.Writing.{IsToldAnd, told_under}
+use Rattle.lmn_app.proofs.ListLemmas.{plain_named}
+use Rattle.lmn_app.proofs.OutcomeLemmas.{told_and}
+
+-- ---- what is asked of the plain of an accepted program
+
+-- its rules can be weighed, and its process bounded
+pub accepted_plain : AcceptedTexts → (program : List ℕ) (names : List Name) (plain : Plain) (plans : List GuardPlan) → Accepts program names plain plans → IsAcceptedPlain names plain plans
+accepted_plain laws program names plain plans a =
+    let read = a.accepted in
+    record { made = laws.made program names plain plans read; named = plain_named laws program names plain plans a; rules = read.rules; planned = read.planned }
+
+-- few items of its rules weigh, and of its top where it has few
+pub few_weigh : FewWeighed → RulesAreSmall → (program : List ℕ) (names : List Name) (plain : Plain) (plans : List GuardPlan) → Accepts program names plain plans
+    → number_of_items plain.top ≤ 2 ^ 24 → IsOfSize plain
+few_weigh few small program names plain plans a h =
+    let read = a.accepted in
+    record { top = omega (arith, few plain.top, h); rules = λ k r e. small plain.rules r (at_index (IsAcceptedRule plain.rules) plain.rules k r read.rules e) }
+
+-- ---- how a bound ends
+
+module _ (laws : AcceptedTexts) (weights_bound : WeightsBound) (program weights : List ℕ) (names : List Name) (plain : Plain) (plans : List GuardPlan) (a : Accepts program names plain plans) (later : List Name)
+    (adds : AddsNames (length weights) names later) where
+  abbrev both : ReadsBoth program weights
+  both = record { names = names; plain = plain; plans = plans; accepted = a; later = later; adds = adds }
+
+  -- what the top weighs is a bound
+  pub is_bound : (by : Weights) → AreWeightsOf later weights by → EachLowered by plain plans → (n : ℕ) → n ≡ level_weight by [] [] plain.top → IsBound program weights n
+  is_bound by are lowered n weighs = record {
+    of = both;
+    by = by;
+    are = are;
+    lowered = lowered;
+    weighs = weighs;
+    bounds = λ first last commits settles chain.
+        subst (λ m. commits ≤ m) (sym weighs) (weights_bound names plain plans by (accepted_plain laws program names plain plans a) lowered first last commits settles chain);
+  }
+
+  module _ (old new : Option (List ℕ)) (before after : Faults) where
+    -- its line was written
+    pub written_ended : {A E : Type 0} (x : A) (n : ℕ) → IsBound program weights n → WritesText {A = A} {E = E} (bound_line n) (Ok x) old before new after → EndsBound program weights Done old new before after
+    written_ended x n bound written = ((bound_line n, (n, bound, refl), written.took _ refl), written.same)
+
+    -- or a part of it
+    pub part_ended : {A E : Type 0} (e : E) (n : ℕ) → IsBound program weights n → WritesText {A = A} {E = E} (bound_line n) (Err e) old before new after → EndsBound program weights WriteFault old new before after
+    part_ended e n bound written = ((bound_line n, (n, bound, refl), written.prefix _ refl), written.rose)
+
+  -- a line is wrong
+  pub bad_ended : (r : Refusal) (x : Option (List ℕ)) (count : Faults) → IsFirstWrong later weights r → EndsBound program weights (SecondRefused Bound r) x x count count
+  bad_ended r x count wrong = (bad_weight both wrong, inr (inl (ap (λ (q : Refusal). q.code) wrong.refused)), refl, no_put count)
+
+  -- a rule isn't lowered
+  pub not_lowered_ended : (by : Weights) → AreWeightsOf later weights by → (r : Refusal) (x : Option (List ℕ)) (count : Faults) → IsFirstNotLowered by plain plans r
+      → EndsBound program weights (SecondRefused Bound r) x x count count
+  not_lowered_ended by are r x count wrong = (not_lowered both by are wrong, inr (inr (ap (λ (q : Refusal). q.code) wrong.refused)), refl, no_put count)
+
+-- memory was wanting
+pub bound_memory : (program weights : List ℕ) (x : Option (List ℕ)) (count : Faults) → EndsBound program weights NoMemory x x count count
+bound_memory program weights x count = (refl, no_put count)
+
+-- ---- as a request
+
+-- a program that is accepted is that of a command
+pub accepted_for : (kind : PairKind) (program : List ℕ) (names : List Name) (plain : Plain) (plans : List GuardPlan) → Accepts program names plain plans → IsAccepted (most_items_of_pair kind) program
+accepted_for Bound program names plain plans a = (names, plain, plans, a, tt)
+
+-- where it is the one that is told
+abbrev pub has_program : (p : Pair) (texts : Option (List ℕ → Option (List ℕ))) (program : List ℕ) (names : List Name) (plain : Plain) (plans : List GuardPlan) → Accepts program names plain plans
+    → IsToldAnd (told_under texts p.file) (λ found. found ≡ program) → HasProgram p texts
+has_program p texts program names plain plans a told = record { program = program; is_told = told; accepted = accepted_for p.kind program names plain plans a }
+
+-- there is one command
+pub only_bound : (kind : PairKind) → kind ≡ Bound
+only_bound Bound = refl
+
+module _ (p : Pair) (texts : Option (List ℕ → Option (List ℕ))) (f g : List ℕ → ℕ) (old new : Option (List ℕ)) (before after : Faults) (kind : p.kind ≡ Bound) (of : HasProgram p texts) (second : List ℕ)
+    (told : IsToldAnd (told_under texts p.second) (λ found. found ≡ second)) (short : length second ≤ second_bytes p.kind) where
+  -- a call that bounds the program by the second text ended so
+  pub bound_ended : (e : Ending) → EndsBound of.program second e old new before after → RequestEnded (to_pair p) e texts old new before after f g
+  bound_ended Done h = record { cause = tt; output = record { writes = record { of = of; second = second; second_told = told; short = short; written = h.0.0; is = rw kind h.0.1 }; took = h.0.2 }; counts = h.1 }
+  bound_ended WriteFault h = record { cause = tt; output = record { writes = record { of = of; second = second; second_told = told; short = short; written = h.0.0; is = rw kind h.0.1 }; took = h.0.2 }; counts = h.1 }
+  bound_ended (SecondRefused Bound r) h = record {
+    cause = record {
+      same = sym kind;
+      of = of;
+      refused = told_and (λ bytes. IsSecondRefusal p.kind of.program bytes r) (told_under texts p.second) second told (second_wrong short (rw kind h.0));
+      code = rw kind h.1;
+    };
+    output = h.2;
+    counts = h.3;
+  }
+  bound_ended NoMemory h = record { cause = tt; output = inl h.0; counts = h.1 }
+  bound_ended Budget h = absurd h
+  bound_ended (Refused r) h = absurd h
+  bound_ended Words h = absurd h
+  bound_ended ReadFault h = absurd h
+  bound_ended Full h = absurd h

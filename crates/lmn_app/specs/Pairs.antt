@@ -1,0 +1,69 @@
+-- What commands do with a program and a second text. Each command has one case of each of these definitions.
+use Rattle.std.specs.Prelude.{◌≡◌, ◌<◌, ◌≤◌, ◌⊎◌, ℕ, List, Option, Some, None, length}
+use Rattle.lmn_base.specs.declared.refusal.Refusal.{Refusal}
+use Rattle.lmn_io.specs.Taking.{Takes, TakesPrefix}
+use Rattle.lmn_words.specs.declared.command.PairKind.{PairKind}
+use Rattle.lmn_words.specs.declared.command.PairKind.TheVariants.{Bound}
+use Rattle.lmn_words.specs.Forms.{Pair}
+use Rattle.lmn_app.specs.declared.ending.Ending.{Ending}
+use Rattle.lmn_app.specs.declared.ending.Ending.TheVariants.{Done, WriteFault}
+use Rattle.lmn_app.specs.Bounds.{IsBounded, IsWrongWeights}
+use Rattle.lmn_app.specs.SecondTexts.{IsSecondCode, long_code, second_bytes}
+use Rattle.lmn_app.specs.Texts.{IsAccepted, at_start}
+use Rattle.lmn_app.specs.Writing.{IsToldAnd, told_under}
+
+-- the most items of the process of the program; `bound` loads none
+abbrev pub most_items_of_pair : PairKind → Option ℕ
+most_items_of_pair Bound = None
+
+-- what is wrong in a second text beside a program, and where
+abbrev pub IsWrong : PairKind → List ℕ → List ℕ → Refusal → Type 0
+IsWrong Bound program weights refusal = IsWrongWeights program weights refusal
+
+-- what is written of both where a command ends so; where `out` fails, what was due
+abbrev pub IsWritten : PairKind → Ending → List ℕ → List ℕ → List ℕ → Type 0
+IsWritten Bound Done program weights written = IsBounded program weights written
+IsWritten Bound WriteFault program weights written = IsBounded program weights written
+IsWritten Bound _ program weights written = ⊥
+
+-- the statuses for an accepted program, where nothing fails
+abbrev pub PairAnswers : PairKind → ℕ → Type 0
+PairAnswers Bound status = (status ≡ 0) ⊎ (status ≡ 11) ⊎ (status ≡ 6)
+
+-- ---- of all commands
+
+-- The refusal of a second text: it has too many bytes, or something is wrong in it.
+pub data IsSecondRefusal (kind : PairKind) (program second : List ℕ) (refusal : Refusal) : Type 0 where
+  second_long : second_bytes kind < length second → refusal ≡ at_start (long_code kind) → IsSecondRefusal kind program second refusal
+  second_wrong : length second ≤ second_bytes kind → IsWrong kind program second refusal → IsSecondRefusal kind program second refusal
+
+-- A program that is accepted: the one that is told under its name, if one is.
+pub record HasProgram (pair : Pair) (texts : Option (List ℕ → Option (List ℕ))) : Type 0 where
+  pub program : List ℕ
+  pub is_told : IsToldAnd (told_under texts pair.file) (λ found. found ≡ program)
+  pub accepted : IsAccepted (most_items_of_pair pair.kind) program
+
+-- the second text is refused so, beside an accepted program
+pub record RefusesSecond (pair : Pair) (texts : Option (List ℕ → Option (List ℕ))) (kind : PairKind) (refusal : Refusal) : Type 0 where
+  pub same : kind ≡ pair.kind
+  pub of : HasProgram pair texts
+  pub refused : IsToldAnd (told_under texts pair.second) (λ second. IsSecondRefusal pair.kind of.program second refusal)
+  pub code : IsSecondCode pair.kind refusal.code
+
+-- What is written of an accepted program and a second text. The texts are those that are told, if they are.
+pub record Writes (pair : Pair) (ending : Ending) (texts : Option (List ℕ → Option (List ℕ))) : Type 0 where
+  pub of : HasProgram pair texts
+  pub second : List ℕ
+  pub second_told : IsToldAnd (told_under texts pair.second) (λ found. found ≡ second)
+  pub short : length second ≤ second_bytes pair.kind
+  pub written : List ℕ
+  pub is : IsWritten pair.kind ending of.program second written
+
+-- all of it was taken, or a prefix
+pub record WritesAll (pair : Pair) (ending : Ending) (texts : Option (List ℕ → Option (List ℕ))) (old new : Option (List ℕ)) : Type 0 where
+  pub writes : Writes pair ending texts
+  pub took : Takes writes.written old new
+
+pub record WritesPart (pair : Pair) (ending : Ending) (texts : Option (List ℕ → Option (List ℕ))) (old new : Option (List ℕ)) : Type 0 where
+  pub writes : Writes pair ending texts
+  pub took : TakesPrefix writes.written old new

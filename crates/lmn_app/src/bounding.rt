@@ -1,0 +1,69 @@
+ghost use Rattle.std.specs.Prelude.{◌≡◌, ◌≤◌, ◌<◌, ◌+◌, ◌^◌, ◌↔◌, ℕ, IsTrue, List, length};
+ghost use Rattle.lmn_bounding.specs.Bounding.{IsAcceptedPlain};
+ghost use Rattle.lmn_io.specs.Writing.{WritesText};
+ghost use Rattle.lmn_weight.specs.Plains.{weighed_items};
+ghost use Rattle.lmn_app.specs.Bounds.{bound_line};
+ghost use Rattle.lmn_app.specs.Runnings.{EndsBound};
+ghost use Rattle.lmn_app.specs.Texts.{Accepts};
+
+use crate::ending::Ending;
+use itoa::Buffer;
+use lmn_accepted::accepted_texts;
+use lmn_base::{Names, TextFault, number_of_items};
+use lmn_bounding::{few_items_weigh, weights_bound_commits};
+use lmn_io::{Failed, Sink, put_all};
+use lmn_reading::Accepted;
+use lmn_weight::{bound, read};
+use lmn_words::PairKind;
+use std::alloc::Global;
+
+/// The most items of a top that is weighed.
+const TOP_ITEMS: u64 = 1 << 24;
+
+/// Writes how many commits an accepted text has at most, by the weights of a second one.
+/// A top of so many items that their weights overflow would stand in no memory.
+pub(crate) fn bound_by<O: Sink>(
+    alloc: Global,
+    accepted: &Accepted,
+    names: &mut Names,
+    weights: &[u8],
+    out: &mut O,
+) -> Ending
+    requires accepted { (program : List ℕ) × Accepts program names.old accepted.now.plain accepted.now.plans }
+    requires room { length names.old + length weights.now < 2 ^ 32 }
+    ensures { (program : List ℕ) → Accepts program names.old accepted.now.plain accepted.now.plans →
+        EndsBound program weights.now result (O.told out.old) (O.told out.new) (O.faults out.old) (O.faults out.new) }
+{
+    accepted_texts();
+    few_items_weigh();
+    weights_bound_commits();
+    if number_of_items(&accepted.plain.top) > TOP_ITEMS {
+        return Ending::NoMemory;
+    }
+    match read(alloc, weights, names) {
+        Ok(weights) => match bound(&weights, &accepted.plain, accepted.plans.as_slice()) {
+            Ok(most) => match write_bound(most, out) {
+                Ok(()) => Ending::Done,
+                Err(Failed) => Ending::WriteFault,
+            },
+            Err(refusal) => Ending::SecondRefused(PairKind::Bound, refusal),
+        },
+        Err(TextFault::Refused(refusal)) => Ending::SecondRefused(PairKind::Bound, refusal),
+        Err(TextFault::NoMemory) => Ending::NoMemory,
+    }
+}
+
+/// Writes the line of a bound.
+fn write_bound<O: Sink>(most: u64, out: &mut O) -> Result<(), Failed>
+    ensures { WritesText (bound_line most) result (O.told out.old) (O.faults out.old) (O.told out.new) (O.faults out.new) }
+{
+    let mut digits = Buffer::new();
+    put_all(
+        out,
+        &[
+            b"% at most ".as_slice(),
+            digits.format(most).as_bytes(),
+            b"\n".as_slice(),
+        ],
+    )
+}

@@ -1,0 +1,84 @@
+ghost use Rattle.std.specs.Prelude.{◌≡◌, ◌≤◌, ◌⊎◌, ◌^◌, ℕ, List, Option, option_map, IfErr, IfOk, Some, length};
+ghost use Rattle.lmn_io.specs.Counts.{Faults};
+ghost use Rattle.lmn_io.specs.Texts.{asked_once_more};
+ghost use Rattle.lmn_words.specs.Forms.{pair_of, to_pair};
+ghost use Rattle.lmn_app.specs.Outcomes.{RequestEnded};
+ghost use Rattle.lmn_app.specs.Pairs.{HasProgram};
+ghost use Rattle.lmn_app.specs.SecondTexts.{long_code, second_bytes};
+ghost use Rattle.lmn_app.specs.Texts.{Accepts, at_start};
+ghost use Rattle.lmn_app.specs.Writing.{IsToldAnd, told_under};
+
+use crate::bounding::bound_by;
+use crate::ending::Ending;
+use lmn_base::{Names, Pos, Refusal, Rows};
+use lmn_io::{FetchFault, Fetched, Shelf, Sink};
+use lmn_reading::Accepted;
+use lmn_words::{PairKind, PairWords};
+use std::alloc::Global;
+
+/// Does what a command does with an accepted program and a second text, which it fetches.
+/// `program` is the text of the program, of which the shelf may tell.
+pub(crate) fn act_on_pair<F: Shelf, O: Sink>(
+    alloc: Global,
+    words: PairWords<'_>,
+    accepted: &Accepted,
+    names: &mut Names,
+    shelf: &mut F,
+    out: &mut O,
+) -> Ending
+    requires accepted { (program : List ℕ) × Accepts program names.old accepted.now.plain accepted.now.plans
+        × IsToldAnd (told_under (F.told shelf.old) (pair_of words).file) (λ found. found ≡ program) }
+    requires room { length names.old ≤ 2 ^ 31 }
+    ensures asked { (F.asked shelf.new ≡ F.asked shelf.old)
+        ⊎ ((F.asked shelf.new ≡ option_map (asked_once_more (second_bytes (pair_of words.entry).kind)) (F.asked shelf.old)) × HasProgram (pair_of words.entry) (F.told shelf.old)) }
+    ensures ended { RequestEnded (to_pair (pair_of words.entry)) result (F.told shelf.old) (O.told out.old) (O.told out.new) (O.faults out.old) (O.faults out.new) (F.faults shelf.old) (F.faults shelf.new) }
+{
+    match fetch_second(alloc, words, shelf) {
+        Ok(second) => match words.kind {
+            PairKind::Bound => bound_by(alloc, accepted, names, second.as_slice(), out),
+        },
+        Err(ending) => ending,
+    }
+}
+
+/// The second text of a command, or how a call ends without one. The program is accepted.
+pub(crate) fn fetch_second<F: Shelf>(
+    alloc: Global,
+    words: PairWords<'_>,
+    shelf: &mut F,
+) -> Result<Rows<u8>, Ending>
+    ensures asked { F.asked shelf.new ≡ option_map (asked_once_more (second_bytes (pair_of words.entry).kind)) (F.asked shelf.old) }
+    ensures short { IfOk result (λ text. length text ≤ second_bytes (pair_of words.entry).kind) }
+    ensures told { IfOk result (λ text. IsToldAnd (told_under (F.told shelf.old) (pair_of words.entry).second) (λ found. found ≡ text)) }
+    ensures fault { IfErr result (λ ending. (took : Option (List ℕ)) (count : Faults) → HasProgram (pair_of words.entry) (F.told shelf.old) →
+        RequestEnded (to_pair (pair_of words.entry)) ending (F.told shelf.old) took took count count (F.faults shelf.old) (F.faults shelf.new)) }
+{
+    match shelf.fetch(alloc, words.second, second_bytes(words.kind)) {
+        Ok(Fetched::Whole(text)) => Ok(text),
+        Ok(Fetched::TooLong) => Err(Ending::SecondRefused(words.kind, too_long(words.kind))),
+        Err(FetchFault::Failed) => Err(Ending::ReadFault),
+        Err(FetchFault::NoMemory) => Err(Ending::NoMemory),
+    }
+}
+
+/// The most bytes of a second text.
+fn second_bytes(kind: PairKind) -> u64
+    ensures { result ≡ second_bytes kind }
+{
+    match kind {
+        PairKind::Bound => 65_536,
+    }
+}
+
+/// The refusal of one that is longer.
+fn too_long(kind: PairKind) -> Refusal
+    ensures { result ≡ at_start (long_code kind) }
+{
+    let code = match kind {
+        PairKind::Bound => 84,
+    };
+    Refusal {
+        code,
+        pos: Pos { line: 1, column: 1 },
+    }
+}
