@@ -1,7 +1,6 @@
 -- What bounds a program by weights.
-use Rattle.std.proofs.Common.{◌≡◌, ◌≤◌, ◌^◌, ◌+◌, ℕ, List, [], ◌∷◌, Option, Some, Ok, Err, length, refl, sym, ap, ◌∙◌, subst, inl, inr, arith}
+use Rattle.std.proofs.Common.{◌≡◌, ◌≤◌, ◌^◌, ℕ, List, [], Option, Ok, Err, length, refl, sym, ap, subst, inl, inr, arith}
 use Rattle.lmn_accepted.specs.Rules.{AcceptedTexts}
-use Rattle.lmn_accepted.proofs.Loadable.{rules_whole}
 use Rattle.lmn_accepted.proofs.PlanKinds.{at_index}
 use Rattle.lmn_base.specs.declared.refusal.Refusal.{Refusal}
 use Rattle.lmn_base.specs.declared.rule.Plain.{Plain}
@@ -22,7 +21,7 @@ use Rattle.lmn_words.specs.declared.command.PairKind.TheVariants.{Bound}
 use Rattle.lmn_words.specs.Forms.{Pair, to_pair}
 use Rattle.lmn_app.specs.declared.ending.Ending.{Ending}
 use Rattle.lmn_app.specs.declared.ending.Ending.TheVariants.{Done, Budget, Refused, Words, ReadFault, WriteFault, NoMemory, Full, SecondRefused}
-use Rattle.lmn_app.specs.Bounds.{IsBound, IsWrongWeights, ReadsBoth, bad_weight, bound_line, not_lowered}
+use Rattle.lmn_app.specs.Bounds.{IsBound, ReadsBoth, bad_weight, bound_line, not_lowered}
 use Rattle.lmn_app.specs.Outcomes.{RequestEnded}
 use Rattle.lmn_app.specs.Pairs.{HasProgram, IsSecondRefusal, most_items_of_pair, second_wrong}
 use Rattle.lmn_app.specs.Runnings.{EndsBound}

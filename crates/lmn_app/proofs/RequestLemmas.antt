@@ -1,8 +1,8 @@
 -- What follows from how a request ended.
-use Rattle.std.specs.Prelude.{◌≡◌, ◌<◌, ◌≤◌, ◌+◌, min, ℕ, ◌⊎◌, List, Option, None, Some, IfSome, IsSomeAnd, option_map}
+use Rattle.std.specs.Prelude.{◌≡◌, ◌<◌, ◌≤◌, ℕ, ◌⊎◌, List, Option, Some, IfSome, IsSomeAnd, option_map}
 use Rattle.std.proofs.Common.{inl, inr, refl, subst, sym, ap, ◌∙◌, length, arith}
 use Rattle.lmn_base.specs.declared.refusal.Refusal.{Refusal}
-use Rattle.lmn_io.specs.Counts.{FailedLast, Faults, Rose, one_more, last_count}
+use Rattle.lmn_io.specs.Counts.{FailedLast, Faults, Rose}
 use Rattle.lmn_io.proofs.TakingLemmas.{no_put}
 use Rattle.lmn_io.specs.Texts.{ShelfAsked, asked_once_more}
 use Rattle.lmn_reading.specs.Codes.{IsCode}
@@ -15,8 +15,8 @@ use Rattle.lmn_app.specs.declared.task.RunSettings.{RunSettings}
 use Rattle.lmn_app.specs.declared.task.Task.TheVariants as task
 use Rattle.lmn_app.specs.Demos.{demo_text}
 use Rattle.lmn_app.specs.Endings.{Concludes, status_of}
-use Rattle.lmn_app.specs.Outcomes.{AnswersOf, CausesOf, CountsFaults, Ended, OutputOf, PairCauses, PairOutput, RefusesSecondOf, RequestEnded}
-use Rattle.lmn_app.specs.Pairs.{HasProgram, IsSecondRefusal, IsWritten, PairAnswers, RefusesSecond, Writes, most_items_of_pair, second_long}
+use Rattle.lmn_app.specs.Outcomes.{AnswersOf, CausesOf, Ended, PairCauses, RefusesSecondOf, RequestEnded}
+use Rattle.lmn_app.specs.Pairs.{HasProgram, IsSecondRefusal, IsWritten, PairAnswers, Writes, most_items_of_pair, second_long}
 use Rattle.lmn_app.specs.Requests.{Fetches, ReadRose, asked_program, folded_run, most_items_of, settings_of, told_of}
 use Rattle.lmn_app.specs.Runnings.{EndsUnread}
 use Rattle.lmn_app.specs.SecondTexts.{IsSecondCode, long_code, second_bytes, second_status}

@@ -1,6 +1,4 @@
-use Rattle.std.proofs.Common.{arith}
 use Rattle.lmn_words.specs.Forms.{run_of}
-use Rattle.lmn_app.specs.Requests.{IsInRange}
 use Rattle.lmn_app.proofs.RequestLemmas.{demo_ended, list_ended, run_ended}
 use Rattle.lmn_app.proofs.TaskLemmas.{run_in_range}
 use Rattle.lmn_app.proofs.top.perform.Goals as goal

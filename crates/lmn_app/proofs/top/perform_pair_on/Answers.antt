@@ -1,4 +1,4 @@
-use Rattle.std.proofs.Common.{arith, ap, inl, length, refl}
+use Rattle.std.proofs.Common.{arith, ap, length}
 use Rattle.lmn_expand.proofs.GlossaryLemmas.{grown_length}
 use Rattle.lmn_words.specs.Forms.{pair_of, to_pair}
 use Rattle.lmn_app.specs.Pairs.{most_items_of_pair}
