@@ -25,7 +25,12 @@ fn rows_of<T: Copy + Drop>(alloc: Global, items: &[T]) -> Result<Rows<T>, AllocE
 }
 
 /// A shelf with the file `f`, and `g` where a call has a second one.
-fn shelf_of(alloc: Global, text: &[u8], second: &Option<Vec<u8>>, failing: &[u64]) -> Result<MemShelf> {
+fn shelf_of(
+    alloc: Global,
+    text: &[u8],
+    second: &Option<Vec<u8>>,
+    failing: &[u64],
+) -> Result<MemShelf> {
     let mut names = Rows::new(alloc);
     names.push(rows_of(alloc, b"f")?)?;
     let mut texts = Rows::new(alloc);
