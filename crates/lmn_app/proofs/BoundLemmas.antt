@@ -5,6 +5,7 @@ use Rattle.lmn_accepted.proofs.PlanKinds.{at_index}
 use Rattle.lmn_base.specs.declared.refusal.Refusal.{Refusal}
 use Rattle.lmn_base.specs.declared.rule.Plain.{Plain}
 use Rattle.lmn_base.specs.Items.{number_of_items}
+use Rattle.lmn_base.specs.Names.{IsNames}
 use Rattle.lmn_bounding.specs.Bounding.{FewWeighed, IsAcceptedPlain, RulesAreSmall, WeightsBound}
 use Rattle.lmn_congruence.specs.Rules.{Name}
 use Rattle.lmn_functors.specs.Reading.{AddsNames}
@@ -49,9 +50,9 @@ few_weigh few small program names plain plans a h =
 -- ---- how a bound ends
 
 module _ (laws : AcceptedTexts) (weights_bound : WeightsBound) (program weights : List ℕ) (names : List Name) (plain : Plain) (plans : List GuardPlan) (a : Accepts program names plain plans) (later : List Name)
-    (adds : AddsNames (length weights) names later) where
+    (adds : AddsNames (length weights) names later) (once : IsNames later) where
   abbrev both : ReadsBoth program weights
-  both = record { names = names; plain = plain; plans = plans; accepted = a; later = later; adds = adds }
+  both = record { names = names; plain = plain; plans = plans; accepted = a; later = later; adds = adds; once = once }
 
   -- what the top weighs is a bound
   pub is_bound : (by : Weights) → AreWeightsOf later weights by → EachLowered by plain plans → (n : ℕ) → n ≡ level_weight by [] [] plain.top → IsBound program weights n

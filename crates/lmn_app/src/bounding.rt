@@ -1,7 +1,6 @@
-ghost use Rattle.std.specs.Prelude.{◌≡◌, ◌≤◌, ◌<◌, ◌+◌, ◌^◌, ◌↔◌, ℕ, IsTrue, List, length};
-ghost use Rattle.lmn_bounding.specs.Bounding.{IsAcceptedPlain};
+ghost use Rattle.std.specs.Prelude.{◌<◌, ◌+◌, ◌^◌, ℕ, List, length};
+ghost use Rattle.lmn_base.specs.Names.{IsNames};
 ghost use Rattle.lmn_io.specs.Writing.{WritesText};
-ghost use Rattle.lmn_weight.specs.Plains.{weighed_items};
 ghost use Rattle.lmn_app.specs.Bounds.{bound_line};
 ghost use Rattle.lmn_app.specs.Runnings.{EndsBound};
 ghost use Rattle.lmn_app.specs.Texts.{Accepts};
@@ -41,16 +40,29 @@ pub(crate) fn bound_by<O: Sink>(
         return Ending::NoMemory;
     }
     match read(alloc, weights, names) {
-        Ok(weights) => match bound(&weights, &accepted.plain, accepted.plans.as_slice()) {
-            Ok(most) => match write_bound(most, out) {
-                Ok(()) => Ending::Done,
-                Err(Failed) => Ending::WriteFault,
-            },
-            Err(refusal) => Ending::SecondRefused(PairKind::Bound, refusal),
-        },
-        Err(TextFault::Refused(refusal)) => Ending::SecondRefused(PairKind::Bound, refusal),
+        Ok(weights) => {
+            stand_once(names);
+            match bound(&weights, &accepted.plain, accepted.plans.as_slice()) {
+                Ok(most) => match write_bound(most, out) {
+                    Ok(()) => Ending::Done,
+                    Err(Failed) => Ending::WriteFault,
+                },
+                Err(refusal) => Ending::SecondRefused(PairKind::Bound, refusal),
+            }
+        }
+        Err(TextFault::Refused(refusal)) => {
+            stand_once(names);
+            Ending::SecondRefused(PairKind::Bound, refusal)
+        }
         Err(TextFault::NoMemory) => Ending::NoMemory,
     }
+}
+
+/// No name stands twice in a list.
+fn stand_once(names: &Names)
+    ensures { IsNames names.now }
+{
+    names.len();
 }
 
 /// Writes the line of a bound.
