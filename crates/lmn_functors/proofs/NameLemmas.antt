@@ -1,13 +1,19 @@
 -- Lists of names to which a name is put.
-use Rattle.std.proofs.Common.{◌≡◌, ◌≤◌, ◌<◌, ◌+◌, ℕ, Bool, true, false, List, [], ◌∷◌, ◌++◌, length, Contains, slice_get, Some, refl, sym, ap, ◌∙◌, subst, arith, true≢false}
+use Rattle.std.proofs.Common.{◌≡◌, ◌≤◌, ◌<◌, ◌+◌, ℕ, Bool, true, false, List, [], ◌∷◌, ◌++◌, length, Contains, slice_get, get_or, codes, Some, refl, sym, ap, ◌∙◌, subst, arith, true≢false}
 use Rattle.std.specs.Prelude.{bytes_eq, Result, Ok, Err, OnOk, OnErr, slice_index_or}
+use Rattle.std.specs.Fmt.{decimal}
 use Rattle.std.specs.List.{list_any}
 use Rattle.std.specs.Cmp.Lexicographic.{nat_list_eq_equiv}
-use Rattle.std.proofs.lemmas.List.{append-nil, append_assoc, length-append}
+use Rattle.std.proofs.lemmas.List.{append-nil, append_assoc, get_or_append_left, length-append}
 use Rattle.std.proofs.lemmas.Map.Views.{list_any-from_Contains, Contains-from_any}
 use Rattle.std.proofs.lemmas.Option.{get_or_from_slice_get, slice_get_within}
 use Rattle.std.proofs.lemmas.Slice.Eq.{bytes_eq-Decides}
+use Rattle.lmn_base.specs.declared.functor.Functor.{Functor}
+use Rattle.lmn_base.specs.declared.functor.Label.{Label}
+use Rattle.lmn_base.specs.declared.functor.Label.TheVariants.{Int, Name}
 use Rattle.lmn_base.specs.declared.memory.NoMemory.{NoMemory}
+use Rattle.lmn_instr.specs.Labels.{HasLabel, listed_label_text}
+use Rattle.lmn_instr.specs.Listings.{functor_text}
 use Rattle.lmn_lexer.specs.NameText.{name_text}
 use Rattle.lmn_functors.specs.Reading.{AddsNames}
 
@@ -46,3 +52,23 @@ short_named names k name e l = let same = ap length (get_or_from_slice_get names
 -- the name with a number
 pub named_text : (names : List (List ℕ)) (k : ℕ) (name : List ℕ) → slice_get names k ≡ Some name → (k < length names) × (name_text (slice_index_or names k []) ≡ name_text name)
 named_text names k name e = (slice_get_within names k name e, ap name_text (get_or_from_slice_get names k name [] e))
+
+-- ---- names that are added
+
+-- the text of a label stays where names are added
+pub label_stays : (k : ℕ) (names later : List (List ℕ)) (l : Label) → HasLabel names l → AddsNames k names later → listed_label_text later l ≡ listed_label_text names l
+label_stays k names later (Name n) h a = ap name_text (ap (λ ns. get_or ns n []) a.are ∙ get_or_append_left names a.more [] n h)
+label_stays k names later (Int z) h a = refl
+
+-- and its name is held
+pub has_stays : (k : ℕ) (names later : List (List ℕ)) (l : Label) → HasLabel names l → AddsNames k names later → HasLabel later l
+has_stays k names later (Name n) h a = let size = ap length a.are in let two = length-append names a.more in omega (arith, size, two, h)
+has_stays k names later (Int z) h a = tt
+
+-- so the text of a functor stays
+pub functor_stays : (k : ℕ) (names later : List (List ℕ)) (f : Functor) → HasLabel names f.label → AddsNames k names later → functor_text later f ≡ functor_text names f
+functor_stays k names later f h a = ap (λ t. t ++ (codes "/" ++ decimal f.arity)) (label_stays k names later f.label h a)
+
+-- at most n names more are at most as many as n or more
+pub adds_more : (m n : ℕ) (before later : List (List ℕ)) → m ≤ n → AddsNames m before later → AddsNames n before later
+adds_more m n before later h a = record { more = a.more; are = a.are; few = (let f = a.few in omega (arith, f, h)) }

@@ -15,30 +15,22 @@ use Rattle.lmn_base.specs.declared.functor.Label.{Label}
 use Rattle.lmn_base.specs.declared.functor.Label.TheVariants.{Int, Name}
 use Rattle.lmn_base.specs.declared.memory.NoMemory.{NoMemory}
 use Rattle.lmn_base.specs.declared.refusal.Refusal.{Refusal}
-use Rattle.lmn_functors.proofs.NameLemmas.{adds_both, adds_none}
+use Rattle.lmn_functors.proofs.NameLemmas.{adds_both, adds_more, adds_none, functor_stays, has_stays}
 use Rattle.lmn_functors.specs.Reading.{AddsNames}
 use Rattle.lmn_instr.specs.Labels.{HasLabel, listed_label_text}
 use Rattle.lmn_instr.specs.Listings.{functor_text}
 use Rattle.lmn_lexer.proofs.FaultLemmas.{value_grows}
 use Rattle.lmn_lexer.specs.Faults.{value_behind}
 use Rattle.lmn_lexer.specs.NameText.{name_text}
+use Rattle.lmn_lines.proofs.LineLemmas.{joined_more, last_split, no_space_within, split_at, taken_more}
+use Rattle.lmn_lines.proofs.NumberLemmas.{digits_of, no_space, small_number}
+use Rattle.lmn_lines.specs.Lines.{HasNoSpace, IsOneLine, joined, number_written}
 use Rattle.lmn_weight.specs.declared.told.Told.{Told}
 use Rattle.lmn_weight.specs.declared.weights.Weights.{Weights}
-use Rattle.lmn_weight.specs.Lines.{AreWeightsOf, HasNoSpace, IsFirstWrong, IsIntegerText, IsNamed, IsOneLine, IsTold, IsWeightLine, MayBeNamed, TakesFunctor, TakesItem, TakesLine, Tell, are_digits, integers, is_listed, joined, line_more, membranes, no_line, nothing_told, number_written, of_functor, or_nothing, small_value}
+use Rattle.lmn_weight.specs.Lines.{AreWeightsOf, IsFirstWrong, IsIntegerText, IsNamed, IsTold, IsWeightLine, MayBeNamed, TakesFunctor, TakesItem, TakesLine, Tell, integers, is_listed, line_more, membranes, no_line, nothing_told, of_functor, or_nothing}
 use Rattle.lmn_weight.specs.Plains.{AreSmall, is_integer, is_integer_label}
 
 -- ---- names that are put
-
-label_stays : (k : ℕ) (names later : List (List ℕ)) (l : Label) → HasLabel names l → AddsNames k names later → listed_label_text later l ≡ listed_label_text names l
-label_stays k names later (Name n) h a = ap name_text (ap (λ ns. get_or ns n []) a.are ∙ get_or_append_left names a.more [] n h)
-label_stays k names later (Int z) h a = refl
-
-has_stays : (k : ℕ) (names later : List (List ℕ)) (l : Label) → HasLabel names l → AddsNames k names later → HasLabel later l
-has_stays k names later (Name n) h a = let size = ap length a.are in let two = length-append names a.more in omega (arith, size, two, h)
-has_stays k names later (Int z) h a = tt
-
-functor_stays : (k : ℕ) (names later : List (List ℕ)) (f : Functor) → HasLabel names f.label → AddsNames k names later → functor_text later f ≡ functor_text names f
-functor_stays k names later f h a = ap (λ t. t ++ (codes "/" ++ decimal f.arity)) (label_stays k names later f.label h a)
 
 -- what lines tell they tell by more names too
 tell_stays : (k : ℕ) (names later : List (List ℕ)) {lines : List (List ℕ)} {t : Told} → AddsNames k names later → Tell names lines t → Tell later lines t
@@ -50,65 +42,7 @@ tell_stays k names later a (line_more l w i) = line_more (tell_stays k names lat
     go (membranes e o new) = membranes e o new
     go (of_functor f e has i o new) = of_functor f (functor_stays k names later f has a ∙ e) (has_stays k names later f.label has a) i o new
 
-pub adds_more : (m n : ℕ) (before later : List (List ℕ)) → m ≤ n → AddsNames m before later → AddsNames n before later
-adds_more m n before later h a = record { more = a.more; are = a.are; few = (let f = a.few in omega (arith, f, h)) }
-
--- ---- numbers
-
-digits_of : (digits : List ℕ) (n : ℕ) → number_written digits ≡ Some n → (list_all is_ascii_digit digits ≡ true) × (small_value digits ≡ Some n)
-digits_of digits n e = go (are_digits digits) refl e
-  where
-    go : (b : Bool) → are_digits digits ≡ b → (if b then small_value digits else None) ≡ Some n → (list_all is_ascii_digit digits ≡ true) × (small_value digits ≡ Some n)
-    go true d h = ((and_true (nat_le (length digits) 7) (list_all is_ascii_digit digits) (and_true (nat_le 1 (length digits)) (nat_le (length digits) 7 && list_all is_ascii_digit digits) d).1).1, h)
-    go false d h = absurd (cc)
-
-no_space : (digits : List ℕ) → list_all is_ascii_digit digits ≡ true → HasNoSpace digits
-no_space [] h = tt
-no_space (d ∷ ds) h =
-    let a = and_true (is_ascii_digit d) (list_all is_ascii_digit ds) h in
-    ((λ e. no (subst (λ x. is_ascii_digit x ≡ true) e a.0)), no_space ds a.1)
-  where
-    no : is_ascii_digit 32 ≡ true → ⊥
-    no e = absurd (cc)
-
-small_number : (digits : List ℕ) (n : ℕ) → number_written digits ≡ Some n → n ≤ 1000000
-small_number digits n e = go (value_behind 0 digits) (digits_of digits n e).1
-  where
-    go : (v : ℕ) → (if nat_le v 1000000 then Some v else None) ≡ Some n → n ≤ 1000000
-    go v = by (nat_le v 1000000) refl
-      where
-        by : (b : Bool) → nat_le v 1000000 ≡ b → (if b then Some v else None) ≡ Some n → n ≤ 1000000
-        by true h f = let same : v ≡ n = cc in let low = leb-true v 1000000 h in omega (arith, low, same)
-        by false h f = absurd (cc)
-
-not_small : (v : ℕ) → 1000000 < v → None ≡ (if nat_le v 1000000 then Some v else None)
-not_small v h = go (nat_le v 1000000) refl
-  where
-    go : (b : Bool) → nat_le v 1000000 ≡ b → None ≡ (if b then Some v else None)
-    go true e = absurd (let low = leb-true v 1000000 e in omega (arith, low, h))
-    go false e = refl
-
--- digits of which the first write a large number write one
-pub large_value : (digits : List ℕ) (n : ℕ) (rest : List ℕ) → value_behind 0 digits ≡ value_behind n rest → 1000000 < n → None ≡ small_value digits
-large_value digits n rest e h = let grown = value_grows n rest in not_small (value_behind 0 digits) (omega (arith, e, grown, h))
-
 -- ---- the last space
-
-no_space_within : (u v : List ℕ) → HasNoSpace (u ++ 32 ∷ v) → ⊥
-no_space_within [] v h = h.0 refl
-no_space_within (x ∷ u) v h = no_space_within u v h.1
-
--- a line is split at its last space in one way
-last_split : (u v s t : List ℕ) → HasNoSpace v → HasNoSpace t → u ++ 32 ∷ v ≡ s ++ 32 ∷ t → (u ≡ s) × (v ≡ t)
-last_split [] v [] t h k e = (refl, tail_is e)
-last_split [] v (y ∷ s) t h k e = absurd (no_space_within s t (subst HasNoSpace (tail_is e) h))
-last_split (x ∷ u) v [] t h k e = absurd (no_space_within u v (subst HasNoSpace (sym (tail_is e)) k))
-last_split (x ∷ u) v (y ∷ s) t h k e =
-    let r = last_split u v s t h k (tail_is e) in
-    (λ i. head_is e i ∷ r.0 i, r.1)
-
-split_at : (line : List ℕ) (at : ℕ) → at < length line → get_or line at 0 ≡ 32 → line ≡ take at line ++ 32 ∷ drop (at + 1) line
-split_at line at l e = sym (take-append-drop at line) ∙ ap (λ t. take at line ++ t) (drop_more line at 0 l) ∙ ap (λ x. take at line ++ x ∷ drop (at + 1) line) e
 
 -- a line that says something says it by its last space
 pub line_parts : (line : List ℕ) (at : ℕ) → at < length line → get_or line at 0 ≡ 32 → HasNoSpace (drop (at + 1) line) → (item : List ℕ) (n : ℕ) → IsWeightLine line item n
@@ -216,26 +150,6 @@ reached_start names text told e = record {
 
 pub start_is : (fs : List Functor) (vs : List ℕ) → fs ≡ [] → vs ≡ [] → record { functors = fs; values = vs; int = None; membrane = None } ≡ nothing_told
 start_is fs vs e h = λ i. record { functors = e i; values = h i; int = None; membrane = None }
-
-joined_more : (lines : List (List ℕ)) (line : List ℕ) → joined (lines ++ line ∷ []) ≡ joined lines ++ (line ++ 10 ∷ [])
-joined_more lines line = flat_map-append (λ l. l ++ 10 ∷ []) lines (line ∷ []) ∙ ap (λ t. joined lines ++ t) (append-nil (line ++ 10 ∷ []))
-
-take_nothing : (n : ℕ) → take {A = ℕ} n [] ≡ []
-take_nothing zero = refl
-take_nothing (suc n) = refl
-
-taken_more : (text : List ℕ) (at end : ℕ) → at ≤ end → end < length text → get_or text end 0 ≡ 10 → take (end + 1) text ≡ take at text ++ (take (end - at) (drop at text) ++ 10 ∷ [])
-taken_more text at end h l e =
-    take_more text end 0 l ∙ ap (λ x. take end text ++ x ∷ []) e ∙ ap (λ t. t ++ 10 ∷ []) (taken text at end h)
-    ∙ append_assoc (take at text) (take (end - at) (drop at text)) (10 ∷ [])
-  where
-    taken : (text : List ℕ) (at end : ℕ) → at ≤ end → take end text ≡ take at text ++ take (end - at) (drop at text)
-    taken text zero end h = ap (λ n. take n text) (let e : end ≡ end - 0 = omega arith in e)
-    taken [] (suc at) (suc end) h = sym (take_nothing (suc end - suc at))
-    taken (x ∷ text) (suc at) (suc end) h =
-        let e : end - at ≡ suc end - suc at = omega arith in
-        ap (λ t. x ∷ t) (taken text at end (omega (arith, h))) ∙ ap (λ n. x ∷ (take at text ++ take n (drop at text))) e
-    taken text (suc at) zero h = absurd (omega (arith, h))
 
 -- a line more
 pub reached_more : (before names later : List (List ℕ)) (text : List ℕ) (at number end : ℕ) (old new : Told) → Reached before names text at number old → at ≤ end → end < length text → get_or text end 0 ≡ 10

@@ -10,33 +10,18 @@ use Rattle.lmn_heap.specs.Functors.{same_functor}
 use Rattle.lmn_instr.specs.Labels.{HasLabel}
 use Rattle.lmn_instr.specs.Listings.{functor_text}
 use Rattle.lmn_lexer.specs.Faults.{value_behind}
+use Rattle.lmn_lines.specs.Lines.{IsOneLine, joined, number_written}
 use Rattle.lmn_weight.specs.declared.told.Told.{Told}
 use Rattle.lmn_weight.specs.declared.weights.Weights.{Weights}
 use Rattle.lmn_weight.specs.Plains.{is_integer}
 
 -- ---- one line
 
--- the number that digits write, where it is at most 1,000,000
-abbrev pub small_value : List ℕ → Option ℕ
-small_value digits = if nat_le (value_behind 0 digits) 1000000 then Some (value_behind 0 digits) else None
-
--- there are 1 to 7 digits
-abbrev pub are_digits : List ℕ → Bool
-are_digits bytes = nat_le 1 (length bytes) && (nat_le (length bytes) 7 && list_all is_ascii_digit bytes)
-
--- the number that 1 to 7 digits write, where it is at most 1,000,000; zeros may stand in front
-abbrev pub number_written : List ℕ → Option ℕ
-number_written bytes = if are_digits bytes then small_value bytes else None
-
 -- a line, without its line feed, is what it names, a space, and a number
 pub record IsWeightLine (line item : List ℕ) (n : ℕ) : Type 0 where
   pub digits : List ℕ
   pub number : number_written digits ≡ Some n
   pub is : line ≡ item ++ 32 ∷ digits
-
--- no byte is a space
-abbrev pub HasNoSpace : List ℕ → Type 0
-HasNoSpace bytes = AllByRecursion (λ b. b ≢ 32) bytes
 
 -- the text of an integer with one link
 abbrev pub IsIntegerText : List ℕ → Type 0
@@ -105,14 +90,6 @@ pub data Tell (names : List (List ℕ)) : List (List ℕ) → Told → Type 0 wh
       Tell names lines old → IsWeightLine line item n → IsTold names item n old new → Tell names (lines ++ line ∷ []) new
 
 -- ---- a text of lines
-
--- no byte is a line feed
-abbrev pub IsOneLine : List ℕ → Type 0
-IsOneLine line = AllByRecursion (λ b. b ≢ 10) line
-
--- lines, each with its line feed
-abbrev pub joined : List (List ℕ) → List ℕ
-joined lines = flat_map (λ line. line ++ 10 ∷ []) lines
 
 -- a weight that is told, or else 0
 abbrev pub or_nothing : Option ℕ → ℕ

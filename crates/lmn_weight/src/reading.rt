@@ -5,75 +5,16 @@ ghost use Rattle.std.specs.Char.{is_ascii_digit};
 ghost use Rattle.lmn_base.specs.Refusals.{IfRefused};
 ghost use Rattle.lmn_functors.specs.Reading.{AddsNames};
 ghost use Rattle.lmn_base.specs.declared.refusal.TextFault.TheVariants.{Refused};
-ghost use Rattle.lmn_weight.specs.Lines.{are_digits, is_listed, number_written, or_nothing, small_value};
-ghost use Rattle.lmn_weight.specs.Lines.{AreWeightsOf, HasNoSpace, IsFirstWrong, IsOneLine, TakesFunctor, TakesInt, TakesItem, TakesLine, TakesMembrane};
+ghost use Rattle.lmn_weight.specs.Lines.{is_listed, or_nothing};
+ghost use Rattle.lmn_weight.specs.Lines.{AreWeightsOf, IsFirstWrong, TakesFunctor, TakesInt, TakesItem, TakesLine, TakesMembrane};
 ghost use Rattle.lmn_weight.specs.Plains.{AreSmall};
 
 use crate::told::Told;
 use crate::weights::{Weights, is_integer, same_functor};
 use lmn_base::{Functor, Names, NoMemory, Pos, Refusal, Rows, TextFault};
 use lmn_functors::read_functor;
+use lmn_lines::{last_space, next_feed, number_written};
 use std::alloc::Global;
-
-/// The most that one thing may weigh.
-const MOST_WEIGHT: u64 = 1_000_000;
-
-/// The most digits of a number.
-const MOST_DIGITS: usize = 7;
-
-/// The number that digits write, where it is small.
-fn small_value(digits: &[u8]) -> Option<u64>
-    ensures { result ≡ small_value digits.now }
-{
-    let mut value: u64 = 0;
-    for digit in digits {
-        value = value * 10 + u64::from(digit.saturating_sub(b'0'));
-        if value > MOST_WEIGHT {
-            return None;
-        }
-    }
-    Some(value)
-}
-
-/// Whether each byte is a digit.
-fn all_digits(bytes: &[u8]) -> bool
-    ensures { result ≡ list_all is_ascii_digit bytes.now }
-{
-    bytes.iter().all(|byte| byte.is_ascii_digit())
-}
-
-/// Whether these are 1 to 7 digits.
-fn are_digits(bytes: &[u8]) -> bool
-    ensures { result ≡ are_digits bytes.now }
-{
-    1 <= bytes.len() && bytes.len() <= MOST_DIGITS && all_digits(bytes)
-}
-
-/// The number that 1 to 7 digits write, where it is small.
-fn number_written(bytes: &[u8]) -> Option<u64>
-    ensures { result ≡ number_written bytes.now }
-{
-    if are_digits(bytes) {
-        small_value(bytes)
-    } else {
-        None
-    }
-}
-
-/// The place of the last space of a line.
-fn last_space(line: &[u8]) -> Option<usize>
-    ensures some { IfSome result (λ at. (at < length line.now) × (slice_index line.now at ≡ 32) × HasNoSpace (drop (at + 1) line.now)) }
-    ensures none { IfNone result (HasNoSpace line.now) }
-{
-    let mut at = line.len();
-    while at > 0 {
-        at -= 1;
-        if line[at] == b' ' {
-            return Some(at);
-        }
-    }
-    None
-}
 
 /// Whether a functor is among these.
 fn is_listed(functor: Functor, functors: &[Functor]) -> bool
@@ -164,22 +105,6 @@ fn take_line(told: &mut Told, line: &[u8], names: &mut Names) -> Result<bool, No
         },
         None => Ok(false),
     }
-}
-
-/// The place of the first line feed from a place on.
-fn next_feed(text: &[u8], at: usize) -> Option<usize>
-    requires { at ≤ length text.now }
-    ensures some { IfSome result (λ end. (at ≤ end) × (end < length text.now) × (slice_index text.now end ≡ 10) × IsOneLine (take (end - at) (drop at text.now))) }
-    ensures none { IfNone result (IsOneLine (drop at text.now)) }
-{
-    let mut end = at;
-    while end < text.len() {
-        if text[end] == b'\n' {
-            return Some(end);
-        }
-        end += 1;
-    }
-    None
 }
 
 /// The line with this number is refused.

@@ -1,6 +1,6 @@
 use Rattle.std.proofs.Common.{◌≤◌, length, drop}
-use Rattle.lmn_weight.specs.Lines.{HasNoSpace}
-use Rattle.lmn_weight.proofs.reading.last_space.Given as goal
+use Rattle.lmn_lines.specs.Lines.{HasNoSpace}
+use Rattle.lmn_lines.proofs.reading.last_space.Given as goal
 
 abbrev pub decreases-loop-at : goal.decreases-loop-at
 decreases-loop-at l = l.at

@@ -1,6 +1,6 @@
 use Rattle.std.proofs.Common.{◌≤◌, ◌-◌, length, drop, take}
-use Rattle.lmn_weight.specs.Lines.{IsOneLine}
-use Rattle.lmn_weight.proofs.reading.next_feed.Given as goal
+use Rattle.lmn_lines.specs.Lines.{IsOneLine}
+use Rattle.lmn_lines.proofs.reading.next_feed.Given as goal
 
 abbrev pub decreases-loop-end : goal.decreases-loop-end
 decreases-loop-end l = length l.initial.text - l.end
