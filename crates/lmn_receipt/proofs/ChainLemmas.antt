@@ -6,11 +6,12 @@ use Rattle.lmn_reduction.specs.Chains.{Commits, no_step, step_after}
 use Rattle.lmn_reduction.specs.Commits.{Commit, Irreducible}
 use Rattle.lmn_adequacy.specs.Accepted.{Accepted}
 use Rattle.lmn_adequacy.specs.Choice.{NextFrom, paths}
-use Rattle.lmn_adequacy.specs.Embedding.{AllRules, HasEmbedding}
+use Rattle.lmn_adequacy.specs.Embedding.{AllRules}
 use Rattle.lmn_adequacy.specs.Next.{Next}
 use Rattle.lmn_adequacy.specs.Runs.{Chooser, End, Ends, Trace, Turn, budget_done, full, irreducible, loaded, none_allowed, nothing_embeds, too_many, turned}
 use Rattle.lmn_adequacy.proofs.Heads.{all_rules_so}
 use Rattle.lmn_adequacy.proofs.Results.{firings_commit, irreducible_exactly, next_is_solid, throughout_itself}
+use Rattle.lmn_adequacy.proofs.Runs.{embeds_in}
 use Rattle.lmn_runs.specs.Runs.{Stop, StopsSo, at_end, no_memory, word_of_stop}
 use Rattle.lmn_receipt.specs.Chains.{Continued, Continues, IsEndWord, begun, continued}
 use Rattle.lmn_receipt.specs.Laws.{ChoosesBelow, ChainsAreCommits, ContinuesByCommit, IsAcceptedSolid, TracesAreChains}
@@ -24,10 +25,6 @@ some_membrane (region xs ms rs) = omega arith
 -- one more solid makes a list one longer
 pub one_longer : (before : List Region) (R : Region) → length (before ++ R ∷ []) ≡ length before + 1
 one_longer before R = length-append before (R ∷ [])
-
--- a next solid comes by a rule that embeds
-pub embeds_in : {from : ℕ} {S S' : Region} → NextFrom from S S' → HasEmbedding S
-embeds_in n = record { path = n.path; number = n.number; positions = n.positions; embeds = n.chosen.embeds }
 
 module _ (chooser : Chooser) (budget size : ℕ) (below : ChoosesBelow chooser) (S : Region) where
   turn_continues : {n : ℕ} {R T : Region} → Turn chooser n R T → Continues R T

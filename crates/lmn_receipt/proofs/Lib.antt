@@ -1,3 +1,6 @@
 pub mod ChainLemmas
 pub mod WalkLemmas
 mod SmallChains
+mod LineBytes
+mod OneSolid
+mod OneChain

@@ -14,7 +14,8 @@ use Rattle.lmn_runs.specs.Runs.{end_line}
 use Rattle.lmn_receipt.specs.Chains.{BeginsChain, Continues, IsChain, IsEndThere, IsEndWord, IsProcessThere, IsWrongTrace, at_line, begun, continued, no_first_line, no_end_line, line_of_solid, no_next_line}
 use Rattle.lmn_receipt.specs.Laws.{IsAcceptedSolid}
 use Rattle.lmn_receipt.specs.Steps.{IsOtherEnd, IsStep, NoEndIsDue, NothingFits}
-use Rattle.lmn_receipt.proofs.ChainLemmas.{accepted_of, embeds_in, one_longer, sound_next}
+use Rattle.lmn_adequacy.proofs.Runs.{embeds_in}
+use Rattle.lmn_receipt.proofs.ChainLemmas.{accepted_of, one_longer, sound_next}
 
 -- ---- lines
 

@@ -1,15 +1,22 @@
 -- The laws of chains.
 use Rattle.std.specs.Prelude.{◌≡◌, ◌<◌, ◌++◌, ℕ, List, [], ◌∷◌, codes, length, map}
 use Rattle.std.specs.List.{concat}
+use Rattle.std.specs.declared.alloc.Global.{Global}
+use Rattle.lmn_base.specs.declared.refusal.Refusal.{Refusal}
+use Rattle.lmn_base.specs.declared.rule.Plain.{Plain}
+use Rattle.lmn_base.specs.declared.solid.Solid.{Solid}
 use Rattle.lmn_congruence.specs.Process.{Closed}
 use Rattle.lmn_congruence.specs.Regions.{Region, region_process}
+use Rattle.lmn_congruence.specs.Rules.{Name}
+use Rattle.lmn_congruence.specs.SolidsOfPlains.{IsSolidOf}
 use Rattle.lmn_reduction.specs.Chains.{Commits}
 use Rattle.lmn_reduction.specs.Commits.{Commit, Irreducible}
 use Rattle.lmn_adequacy.specs.Accepted.{Accepted, Throughout}
 use Rattle.lmn_adequacy.specs.Embedding.{AllRules}
 use Rattle.lmn_adequacy.specs.Runs.{Chooser, Trace}
+use Rattle.lmn_runs.specs.Laws.{IsPrintable, solid_of}
 use Rattle.lmn_runs.specs.Runs.{Given, Stop, StopsSo, end_line, word_of_stop}
-use Rattle.lmn_receipt.specs.Chains.{Continued, Continues, IsChain, line_of_solid}
+use Rattle.lmn_receipt.specs.Chains.{Continued, Continues, IsChain, IsWrongTrace, line_of_solid}
 
 -- what each solid of a chain is like: it has no free link, and its rules are accepted, those in rules too
 pub record IsAcceptedSolid (S : Region) : Type 0 where
@@ -39,3 +46,18 @@ pub record IsChainOfCommits (S : Region) (trace : List ℕ) (n : ℕ) (chain : I
 
 abbrev pub ChainsAreCommits : Type 0
 ChainsAreCommits = (S : Region) (trace : List ℕ) (n : ℕ) → IsAcceptedSolid S → (chain : IsChain S trace n) → IsChainOfCommits S trace n chain
+
+-- What holds of a trace beside a solid.
+--   not_both     it isn't a chain and wrong
+--   one_count    it is a chain of so many commits alone
+--   one_refusal  and it is wrong at one line alone, and in one way
+pub record IsOneOf (S : Region) (trace : List ℕ) : Type 0 where
+  pub not_both : (n : ℕ) (refusal : Refusal) → IsChain S trace n → IsWrongTrace S trace refusal → ⊥
+  pub one_count : (n m : ℕ) → IsChain S trace n → IsChain S trace m → n ≡ m
+  pub one_refusal : (r q : Refusal) → IsWrongTrace S trace r → IsWrongTrace S trace q → r ≡ q
+
+-- So it is with each trace, beside the solid of a plain of which runs can be printed: a line tells its solid. A box in a condition
+-- belongs to an allocator, so one is given.
+abbrev pub TracesAreOneOf : Type 0
+TracesAreOneOf = (alloc : Global) (names : List Name) (plain : Plain) (s : Solid) → IsPrintable names plain → IsSolidOf plain s →
+    (trace : List ℕ) → IsOneOf (solid_of names plain s) trace

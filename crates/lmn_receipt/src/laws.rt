@@ -1,7 +1,7 @@
 //! The laws of chains.
 
 ghost use Rattle.lmn_receipt.specs.Examples.{Empty, MoreBehind, NoEnd, NoFiring, NothingFires, WrongWord};
-ghost use Rattle.lmn_receipt.specs.Laws.{ChainsAreCommits, ContinuesByCommit, TracesAreChains};
+ghost use Rattle.lmn_receipt.specs.Laws.{ChainsAreCommits, ContinuesByCommit, TracesAreChains, TracesAreOneOf};
 
 /// What is written of a trace that stops is a chain.
 pub fn traces_are_chains()
@@ -22,4 +22,9 @@ pub fn small_chains()
     ensures more { MoreBehind }
     ensures firing { NoFiring }
     ensures empty { Empty }
+{}
+
+/// A trace beside the solid of a plain is a chain or wrong, and not both, of so many commits or at one line alone.
+pub fn traces_are_one_of()
+    ensures { TracesAreOneOf }
 {}

@@ -2,7 +2,7 @@ mod LabelsStay
 mod Tables
 mod GoodLevels
 pub mod TraceLines
-mod TraceRuns
+pub mod TraceRuns
 mod SpelledParts
 mod SpelledRules
 mod RightWords

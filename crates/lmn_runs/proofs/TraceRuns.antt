@@ -117,7 +117,7 @@ module _ (names : List Name) where
       let g = h a at_head in ((g.spelled, not_connector names a.label a.links g.no_connector), atoms_spelled xs (λ c i. h c (further i)))
 
   mutual
-    region_held : (r : Region) → RegionGood r → AllRules RuleFine r → LevelHeld names (as_level r)
+    pub region_held : (r : Region) → RegionGood r → AllRules RuleFine r → LevelHeld names (as_level r)
     region_held (region xs ms rs) h k = (atoms_held xs h.0, regions_held ms h.1 k.1, tt, tt, rules_held rs k.0)
 
     regions_held : (ms : Regions) → RegionsGood ms → AllRulesIn RuleFine ms → LevelsHeld names (as_levels ms)
@@ -125,7 +125,7 @@ module _ (names : List Name) where
     regions_held (region_and m ms) h k = (region_held m h.0 k.0, regions_held ms h.1 k.1)
 
   mutual
-    region_numbered : (r : Region) → AllRules RuleFine r → RulesNumbered (as_level r)
+    pub region_numbered : (r : Region) → AllRules RuleFine r → RulesNumbered (as_level r)
     region_numbered (region xs ms rs) k = (regions_numbered ms k.1, rules_numbered rs k.0)
 
     regions_numbered : (ms : Regions) → AllRulesIn RuleFine ms → AllRulesNumbered (as_levels ms)
@@ -143,7 +143,7 @@ module _ (names : List Name) where
   -- ---- the line of a solid
 
   -- what each solid of a trace is like
-  record Fine (S : Region) : Type 0 where
+  pub record Fine (S : Region) : Type 0 where
     pub closed : Closed (region_process S)
     pub rules : AllRules (Throughout RuleFine) S
     pub atoms : RegionGood S
@@ -159,13 +159,13 @@ module _ (names : List Name) where
   good_rule r h = let f = itself r h in f.good
 
   module _ (alloc : Global) (is : IsNames names) where
-    rules_fine : (S : Region) → Fine S → AllRules RuleFine S
+    pub rules_fine : (S : Region) → Fine S → AllRules RuleFine S
     rules_fine S f = all_rules_so itself S f.rules
 
-    spelled_fine : (S : Region) → Fine S → LevelSpelled (as_level S)
+    pub spelled_fine : (S : Region) → Fine S → LevelSpelled (as_level S)
     spelled_fine S f = region_spelled S f.atoms (rules_fine S f)
 
-    numbers_fine : (S : Region) (f : Fine S) → NumbersLinks (level_links (as_level S)) f.numbered.0
+    pub numbers_fine : (S : Region) (f : Fine S) → NumbersLinks (level_links (as_level S)) f.numbered.0
     numbers_fine S f = subst (λ xs. NumbersLinks xs f.numbered.0) (sym (region_links S)) f.numbered.1
 
     -- the plain line of such a solid is that of its process,
@@ -197,7 +197,8 @@ module _ (names : List Name) where
       abbrev IsTrace : List Region → Region → Type 0
       IsTrace = Trace chooser budget size S
 
-      next_fine : {n : ℕ} {R T : Region} → Fine R → Turn chooser n R T → Fine T
+      -- what comes next is such a solid too
+      pub next_fine : {n : ℕ} {R T : Region} → Fine R → Turn chooser n R T → Fine T
       next_fine {n} {R} {T} f t =
           let next = t.next.next in
           let accepted = all_rules_so accepted_rule R f.rules in
@@ -354,7 +355,8 @@ module _ (names : List Name) (p : Plain) (printable : IsPrintable names p) where
         rule_numbers = λ i d l. rule_held (get_or (rules_of p.top) i d) (printable.made.rules_at_top i d l);
       })
 
-  solid_fine : (s : Solid) → IsSolidOf p s → Fine names (solid_of names p s)
+  -- the solid of such a plain is one
+  pub solid_fine : (s : Solid) → IsSolidOf p s → Fine names (solid_of names p s)
   solid_fine s i =
       let S = solid_of names p s in
       let so = solids_of_plains names p s printable.made i in

@@ -1,5 +1,6 @@
 use Rattle.std.proofs.Common.{arith}
-use Rattle.lmn_receipt.proofs.ChainLemmas.{embeds_in, some_membrane}
+use Rattle.lmn_adequacy.proofs.Runs.{embeds_in}
+use Rattle.lmn_receipt.proofs.ChainLemmas.{some_membrane}
 use Rattle.lmn_receipt.proofs.WalkLemmas.{other_done, stuck_done}
 use Rattle.lmn_receipt.proofs.walk.end.Goals as goal
 
