@@ -1,0 +1,3 @@
+mod NumberLoops
+mod LaidParts
+mod SettledLinks

@@ -1,0 +1,10 @@
+//! Settling: the solid of a process whose links connectors may still join.
+//!
+//! The definitions stand in `specs/Raw`.
+#![tactic(auto)]
+
+mod assembling;
+mod numbers;
+mod settling;
+
+pub use settling::{RawMembrane, settle};
