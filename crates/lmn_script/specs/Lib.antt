@@ -1,0 +1,5 @@
+pub mod Scripts
+pub mod Asked
+pub mod Lines
+pub mod Laws
+pub mod Examples
