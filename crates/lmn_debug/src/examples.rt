@@ -1,0 +1,28 @@
+//! Small counts, and commands of a session on a small course: each the contract of an empty function.
+ghost use Rattle.lmn_debug.specs.Examples.{CountsAtEveryDepth, CountsStandSo, StepsStop, WaitsStop};
+
+use lmn_adequacy::examples::traces_end;
+
+/// How 2 stands to 2.
+pub fn counts_stand_so()
+    ensures { CountsStandSo }
+{}
+
+/// `a. b. a(X,X). {a. {a}}` has three atoms `a/0`, and not one.
+pub fn counts_at_every_depth()
+    ensures { CountsAtEveryDepth }
+{}
+
+/// Where `step` stops on `a. a :- a, a.` with the size 3, and where it doesn't.
+pub fn steps_stop()
+    ensures { StepsStop }
+{
+    traces_end();
+}
+
+/// Where `until` stops on `a. a :- a, a.` with the size 3, and where it doesn't.
+pub fn waits_stop()
+    ensures { WaitsStop }
+{
+    traces_end();
+}
