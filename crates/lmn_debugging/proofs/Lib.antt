@@ -1,0 +1,4 @@
+pub mod Obeyings
+mod TraceParts
+mod OneOutcome
+mod ExampleOrders
