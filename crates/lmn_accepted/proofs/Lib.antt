@@ -15,5 +15,6 @@ mod SameTrees
 mod SameGuards
 mod SamePlainTrees
 mod OneProcess
+mod LongerLists
 pub mod FirstNames
 pub mod Loadable

@@ -1,8 +1,9 @@
 -- That an accepted text can be loaded.
-use Rattle.std.specs.Prelude.{ℕ, List}
+use Rattle.std.specs.Prelude.{ℕ, ◌≡◌, ◌++◌, List}
 use Rattle.lmn_base.specs.declared.rule.Plain.{Plain}
-use Rattle.lmn_base.specs.Names.{first_names}
+use Rattle.lmn_base.specs.Names.{IsNames, first_names}
 use Rattle.lmn_congruence.specs.Rules.{Name}
+use Rattle.lmn_congruence.specs.Translation.{top_of}
 use Rattle.lmn_guards.specs.declared.plan.GuardPlan.{GuardPlan}
 use Rattle.lmn_reading.specs.Texts.{IsAcceptedAs, LeavesNames}
 use Rattle.lmn_schedule.specs.Held.{AreNames, CanBeLoaded}
@@ -16,3 +17,9 @@ AcceptedCanBeLoaded = (text : List ℕ) (names : List Name) (plain : Plain) (pla
 abbrev pub AcceptedAreNamed : Type 0
 AcceptedAreNamed = (text : List ℕ) (names : List Name) (plain : Plain) (plans : List GuardPlan)
     → LeavesNames text first_names names → IsAcceptedAs text names plain plans → AreNames names plain
+
+-- So does a list that goes on behind them, as once another text is read; by it the top of the plain is the same.
+abbrev pub AcceptedAreNamedBehind : Type 0
+AcceptedAreNamedBehind = (text : List ℕ) (names more : List Name) (plain : Plain) (plans : List GuardPlan)
+    → LeavesNames text first_names names → IsAcceptedAs text names plain plans → IsNames (names ++ more)
+    → AreNames (names ++ more) plain × (top_of (names ++ more) plain ≡ top_of names plain)

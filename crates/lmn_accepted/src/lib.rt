@@ -1,7 +1,7 @@
 //! What holds of the rules of an accepted text, that it can be loaded, and that a text is one process by any list of names.
 #![tactic(auto)]
 
-ghost use Rattle.lmn_accepted.specs.Loading.{AcceptedAreNamed, AcceptedCanBeLoaded};
+ghost use Rattle.lmn_accepted.specs.Loading.{AcceptedAreNamed, AcceptedAreNamedBehind, AcceptedCanBeLoaded};
 ghost use Rattle.lmn_accepted.specs.Rules.{AcceptedTexts};
 ghost use Rattle.lmn_accepted.specs.OneProcess.{OneProcess, OneProcessOfReadings};
 
@@ -20,10 +20,11 @@ pub fn texts_are_one_process()
     ensures read { OneProcessOfReadings }
 {}
 
-/// The plain of an accepted text can be loaded, and the list that reading leaves has its names.
+/// The plain of an accepted text can be loaded, and the list that reading leaves has its names, as has a list that goes on behind it.
 pub fn accepted_texts_can_be_loaded()
     ensures loaded { AcceptedCanBeLoaded }
     ensures named { AcceptedAreNamed }
+    ensures behind { AcceptedAreNamedBehind }
 {
     accepted_texts();
 }

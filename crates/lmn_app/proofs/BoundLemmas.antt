@@ -17,20 +17,13 @@ use Rattle.lmn_io.proofs.TakingLemmas.{no_put}
 use Rattle.lmn_weight.specs.declared.weights.Weights.{Weights}
 use Rattle.lmn_weight.specs.Lines.{AreWeightsOf, IsFirstWrong}
 use Rattle.lmn_weight.specs.Plains.{EachLowered, IsFirstNotLowered, IsOfSize, level_weight}
-use Rattle.lmn_words.specs.declared.command.PairKind.{PairKind}
 use Rattle.lmn_words.specs.declared.command.PairKind.TheVariants.{Bound}
-use Rattle.lmn_words.specs.Forms.{Pair, to_pair}
-use Rattle.lmn_app.specs.declared.ending.Ending.{Ending}
-use Rattle.lmn_app.specs.declared.ending.Ending.TheVariants.{Done, Budget, Refused, Words, ReadFault, WriteFault, NoMemory, Full, SecondRefused}
-use Rattle.lmn_app.specs.Bounds.{IsBound, ReadsBoth, bad_weight, bound_line, not_lowered}
-use Rattle.lmn_app.specs.Outcomes.{RequestEnded}
-use Rattle.lmn_app.specs.Pairs.{HasProgram, IsSecondRefusal, most_items_of_pair, second_wrong}
+use Rattle.lmn_app.specs.declared.ending.Ending.TheVariants.{Done, WriteFault, NoMemory, SecondRefused}
+use Rattle.lmn_app.specs.Bounds.{IsBound, bad_weight, bound_line, not_lowered}
 use Rattle.lmn_app.specs.Runnings.{EndsBound}
-use Rattle.lmn_app.specs.SecondTexts.{second_bytes}
-use Rattle.lmn_app.specs.Texts.{Accepts, IsAccepted}
-use Rattle.lmn_app.specs.Writing.{IsToldAnd, told_under}
+use Rattle.lmn_app.specs.Seconds.{ReadsBoth}
+use Rattle.lmn_app.specs.Texts.{Accepts}
 use Rattle.lmn_app.proofs.ListLemmas.{plain_named}
-use Rattle.lmn_app.proofs.OutcomeLemmas.{told_and}
 
 -- ---- what is asked of the plain of an accepted program
 
@@ -87,41 +80,3 @@ module _ (laws : AcceptedTexts) (weights_bound : WeightsBound) (program weights 
 -- memory was wanting
 pub bound_memory : (program weights : List ℕ) (x : Option (List ℕ)) (count : Faults) → EndsBound program weights NoMemory x x count count
 bound_memory program weights x count = (refl, no_put count)
-
--- ---- as a request
-
--- a program that is accepted is that of a command
-pub accepted_for : (kind : PairKind) (program : List ℕ) (names : List Name) (plain : Plain) (plans : List GuardPlan) → Accepts program names plain plans → IsAccepted (most_items_of_pair kind) program
-accepted_for Bound program names plain plans a = (names, plain, plans, a, tt)
-
--- where it is the one that is told
-abbrev pub has_program : (p : Pair) (texts : Option (List ℕ → Option (List ℕ))) (program : List ℕ) (names : List Name) (plain : Plain) (plans : List GuardPlan) → Accepts program names plain plans
-    → IsToldAnd (told_under texts p.file) (λ found. found ≡ program) → HasProgram p texts
-has_program p texts program names plain plans a told = record { program = program; is_told = told; accepted = accepted_for p.kind program names plain plans a }
-
--- there is one command
-pub only_bound : (kind : PairKind) → kind ≡ Bound
-only_bound Bound = refl
-
-module _ (p : Pair) (texts : Option (List ℕ → Option (List ℕ))) (f g : List ℕ → ℕ) (old new : Option (List ℕ)) (before after : Faults) (kind : p.kind ≡ Bound) (of : HasProgram p texts) (second : List ℕ)
-    (told : IsToldAnd (told_under texts p.second) (λ found. found ≡ second)) (short : length second ≤ second_bytes p.kind) where
-  -- a call that bounds the program by the second text ended so
-  pub bound_ended : (e : Ending) → EndsBound of.program second e old new before after → RequestEnded (to_pair p) e texts old new before after f g
-  bound_ended Done h = record { cause = tt; output = record { writes = record { of = of; second = second; second_told = told; short = short; written = h.0.0; is = rw kind h.0.1 }; took = h.0.2 }; counts = h.1 }
-  bound_ended WriteFault h = record { cause = tt; output = record { writes = record { of = of; second = second; second_told = told; short = short; written = h.0.0; is = rw kind h.0.1 }; took = h.0.2 }; counts = h.1 }
-  bound_ended (SecondRefused Bound r) h = record {
-    cause = record {
-      same = sym kind;
-      of = of;
-      refused = told_and (λ bytes. IsSecondRefusal p.kind of.program bytes r) (told_under texts p.second) second told (second_wrong short (rw kind h.0));
-      code = rw kind h.1;
-    };
-    output = h.2;
-    counts = h.3;
-  }
-  bound_ended NoMemory h = record { cause = tt; output = inl h.0; counts = h.1 }
-  bound_ended Budget h = absurd h
-  bound_ended (Refused r) h = absurd h
-  bound_ended Words h = absurd h
-  bound_ended ReadFault h = absurd h
-  bound_ended Full h = absurd h

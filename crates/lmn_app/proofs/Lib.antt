@@ -8,6 +8,8 @@ mod ListLemmas
 mod DriveLemmas
 mod MainLemmas
 mod BoundLemmas
+mod PairLemmas
+mod DebugLemmas
 mod DemoLemmas
 mod TaskLemmas
 mod OneListing

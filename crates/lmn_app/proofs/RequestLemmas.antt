@@ -7,7 +7,7 @@ use Rattle.lmn_io.proofs.TakingLemmas.{no_put}
 use Rattle.lmn_io.specs.Texts.{ShelfAsked, asked_once_more}
 use Rattle.lmn_reading.specs.Codes.{IsCode}
 use Rattle.lmn_words.specs.declared.command.PairKind.{PairKind}
-use Rattle.lmn_words.specs.declared.command.PairKind.TheVariants.{Bound}
+use Rattle.lmn_words.specs.declared.command.PairKind.TheVariants.{Bound, Debug}
 use Rattle.lmn_words.specs.Forms.{Pair, Request, Run, to_run, to_compile, to_demo, to_pair}
 use Rattle.lmn_app.specs.declared.ending.Ending.{Ending}
 use Rattle.lmn_app.specs.declared.ending.Ending.TheVariants.{Done, Budget, Refused, Words, ReadFault, WriteFault, NoMemory, Full, SecondRefused}
@@ -38,6 +38,7 @@ rose_earlier a b c le h = omega (arith, le, h)
 
 -- each lies above those of the other endings
 pub second_high : (kind : PairKind) → (8 ≤ second_status kind) × (second_status kind ≤ 11)
+second_high Debug = (omega arith, omega arith)
 second_high Bound = (omega arith, omega arith)
 
 -- ---- a task as a request
@@ -71,6 +72,15 @@ module _ (texts : Option (List ℕ → Option (List ℕ))) (oo on : Option (List
 
   -- what is written where a command ends so is among its statuses
   written_answers : (kind : PairKind) (e : Ending) (program second written : List ℕ) (status : ℕ) → (status ≡ 5 → ⊥) → status ≡ status_of e → IsWritten kind e program second written → PairAnswers kind status
+  written_answers Debug Done program second written status five is h = inl is
+  written_answers Debug NoMemory program second written status five is h = inr (inr is)
+  written_answers Debug WriteFault program second written status five is h = absurd (five is)
+  written_answers Debug Budget program second written status five is h = absurd h
+  written_answers Debug (Refused r) program second written status five is h = absurd h
+  written_answers Debug Words program second written status five is h = absurd h
+  written_answers Debug ReadFault program second written status five is h = absurd h
+  written_answers Debug Full program second written status five is h = absurd h
+  written_answers Debug (SecondRefused k r) program second written status five is h = absurd h
   written_answers Bound Done program second written status five is h = inl is
   written_answers Bound WriteFault program second written status five is h = absurd (five is)
   written_answers Bound Budget program second written status five is h = absurd h
@@ -82,9 +92,11 @@ module _ (texts : Option (List ℕ → Option (List ℕ))) (oo on : Option (List
   written_answers Bound (SecondRefused k r) program second written status five is h = absurd h
 
   memory_answers : (kind : PairKind) (status : ℕ) → status ≡ 6 → PairAnswers kind status
+  memory_answers Debug status is = inr (inr is)
   memory_answers Bound status is = inr (inr is)
 
   second_answers : (kind : PairKind) (status : ℕ) → status ≡ second_status kind → PairAnswers kind status
+  second_answers Debug status is = inr (inl is)
   second_answers Bound status is = inr (inl is)
 
   module _ (status : ℕ) (eo en : Option (List ℕ)) (eb ea : Faults) where
@@ -223,6 +235,7 @@ pair_unread p Full texts x n f g h = absurd h
 pair_unread p (SecondRefused kind r) texts x n f g h = absurd h
 
 long_is_code : (kind : PairKind) → IsSecondCode kind (long_code kind)
+long_is_code Debug = inl refl
 long_is_code Bound = inl refl
 
 -- the second text is too long

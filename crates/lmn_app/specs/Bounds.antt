@@ -1,31 +1,15 @@
 -- What `bound` says of weights beside a program.
-use Rattle.std.specs.Prelude.{◌≡◌, ◌≤◌, ℕ, List, [], ◌∷◌, codes, decimal, length}
+use Rattle.std.specs.Prelude.{◌≡◌, ◌≤◌, ℕ, List, [], ◌∷◌, codes, decimal}
 use Rattle.std.specs.List.{concat}
 use Rattle.lmn_base.specs.declared.refusal.Refusal.{Refusal}
-use Rattle.lmn_base.specs.declared.rule.Plain.{Plain}
-use Rattle.lmn_base.specs.Names.{IsNames}
 use Rattle.lmn_congruence.specs.Process.{Process}
-use Rattle.lmn_congruence.specs.Rules.{Name}
 use Rattle.lmn_congruence.specs.Translation.{plain_process}
-use Rattle.lmn_functors.specs.Reading.{AddsNames}
-use Rattle.lmn_guards.specs.declared.plan.GuardPlan.{GuardPlan}
 use Rattle.lmn_reduction.specs.Chains.{Commits}
 use Rattle.lmn_reduction.specs.Commits.{Settles}
 use Rattle.lmn_weight.specs.declared.weights.Weights.{Weights}
 use Rattle.lmn_weight.specs.Lines.{AreWeightsOf, IsFirstWrong}
 use Rattle.lmn_weight.specs.Plains.{EachLowered, IsFirstNotLowered, level_weight}
-use Rattle.lmn_app.specs.Texts.{Accepts}
-
--- A program that is accepted, and the list of names once weights are read too: their names stand behind those of the program, and
--- none stands twice.
-pub record ReadsBoth (program weights : List ℕ) : Type 0 where
-  pub names : List Name
-  pub plain : Plain
-  pub plans : List GuardPlan
-  pub accepted : Accepts program names plain plans
-  pub later : List Name
-  pub adds : AddsNames (length weights) names later
-  pub once : IsNames later
+use Rattle.lmn_app.specs.Seconds.{ReadsBoth}
 
 -- Each rule of the program, those in rules too, is lowered by the weights, and n is what its top weighs. So no chain of commits
 -- from what its process settles to has more of them, whatever is chosen.

@@ -5,10 +5,12 @@ pub mod NameExamples
 pub mod Outcomes
 pub mod Pairs
 pub mod Bounds
+pub mod Debugs
 pub mod Requests
 pub mod Runnings
 pub mod Runs
 pub mod SecondTexts
+pub mod Seconds
 pub mod TextExamples
 pub mod Texts
 pub mod Writing

@@ -1,13 +1,17 @@
--- How a call ends whose run ended so, without a program, and that bounds one. Contracts of this crate's own functions alone cite these words.
-use Rattle.std.specs.Prelude.{◌≡◌, ◌<◌, ⊤, ℕ, List, Option, length}
+-- How a call ends whose run or whose orders ended so, without a program, and that bounds or debugs one. Contracts of this crate's own functions alone cite these words.
+use Rattle.std.specs.Prelude.{◌≡◌, ◌<◌, ◌⊎◌, ⊤, ℕ, List, Option, length}
 use Rattle.lmn_io.specs.Taking.{Takes, TakesPrefix}
-use Rattle.lmn_words.specs.declared.command.PairKind.TheVariants.{Bound}
+use Rattle.lmn_words.specs.declared.command.PairKind.TheVariants.{Bound, Debug}
+use Rattle.lmn_debugging.specs.declared.debugging.DebugEnd.{DebugEnd}
+use Rattle.lmn_debugging.specs.declared.debugging.DebugEnd.TheVariants as session
 use Rattle.lmn_drive.specs.declared.driving.RunEnd.{RunEnd}
 use Rattle.lmn_drive.specs.declared.driving.RunEnd.TheVariants as run
 use Rattle.lmn_app.specs.declared.ending.Ending.{Ending}
 use Rattle.lmn_app.specs.declared.ending.Ending.TheVariants.{Done, Budget, Refused, ReadFault, WriteFault, NoMemory, Full, SecondRefused}
 use Rattle.lmn_io.specs.Counts.{FailedLast, Faults, NoneFailed, Rose}
+use Rattle.lmn_script.specs.Scripts.{IsFirstWrong}
 use Rattle.lmn_app.specs.Bounds.{IsBounded, IsWrongWeights}
+use Rattle.lmn_app.specs.Debugs.{IsDebugged}
 use Rattle.lmn_app.specs.SecondTexts.{IsSecondCode}
 use Rattle.lmn_app.specs.Texts.{at_start, text_bytes}
 use Rattle.lmn_app.specs.Writing.{IsToldAnd}
@@ -18,6 +22,11 @@ ended_as run.Budget = Budget
 ended_as run.Full = Full
 ended_as run.NoMemory = NoMemory
 ended_as run.Failed = WriteFault
+
+abbrev pub obeyed_as : DebugEnd → Ending
+obeyed_as session.Done = Done
+obeyed_as session.NoMemory = NoMemory
+obeyed_as session.Failed = WriteFault
 
 -- A call ends so without a program: it is too long, or can't be read, or memory was wanting.
 abbrev pub EndsUnread : Ending → Option (Option (List ℕ)) → ℕ → ℕ → Type 0
@@ -34,3 +43,13 @@ EndsBound program weights WriteFault old new before after = ((written : List ℕ
 EndsBound program weights (SecondRefused Bound r) old new before after = IsWrongWeights program weights r × IsSecondCode Bound r.code × (new ≡ old) × NoneFailed before after
 EndsBound program weights NoMemory old new before after = (new ≡ old) × NoneFailed before after
 EndsBound program weights _ old new before after = ⊥
+
+-- A call that obeys a script over a program ends so, with what `out` took and counts: the lines were written, or a part of them, or those
+-- of the orders before one for which no memory was found, or none for want of memory; or a line of the script is wrong.
+abbrev pub EndsDebugged : List ℕ → List ℕ → Ending → Option (List ℕ) → Option (List ℕ) → Faults → Faults → Type 0
+EndsDebugged program script Done old new before after = ((written : List ℕ) × IsDebugged Done program script written × Takes written old new) × NoneFailed before after
+EndsDebugged program script WriteFault old new before after = ((written : List ℕ) × IsDebugged WriteFault program script written × TakesPrefix written old new) × FailedLast before after
+EndsDebugged program script NoMemory old new before after =
+    ((new ≡ old) ⊎ ((written : List ℕ) × IsDebugged NoMemory program script written × Takes written old new)) × NoneFailed before after
+EndsDebugged program script (SecondRefused Debug r) old new before after = IsFirstWrong script r × IsSecondCode Debug r.code × (new ≡ old) × NoneFailed before after
+EndsDebugged program script _ old new before after = ⊥

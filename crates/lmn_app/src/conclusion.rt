@@ -76,6 +76,8 @@ fn second_words(code: u8) -> &'static [u8]
     ensures { result.now ≡ second_words code }
 {
     match code {
+        70 => b"script too long",
+        71 => b"unknown command",
         84 => b"weights too long",
         85 => b"bad weight",
         86 => b"rule not lowered",

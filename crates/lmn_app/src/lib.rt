@@ -4,6 +4,7 @@
 mod bounding;
 mod compiling;
 mod conclusion;
+mod debugging;
 mod demo;
 mod ending;
 pub mod laws;

@@ -9,6 +9,7 @@ ghost use Rattle.lmn_app.specs.Texts.{Accepts, at_start};
 ghost use Rattle.lmn_app.specs.Writing.{IsToldAnd, told_under};
 
 use crate::bounding::bound_by;
+use crate::debugging::debug_by;
 use crate::ending::Ending;
 use lmn_base::{Names, Pos, Refusal, Rows};
 use lmn_io::{FetchFault, Fetched, Shelf, Sink};
@@ -17,7 +18,6 @@ use lmn_words::{PairKind, PairWords};
 use std::alloc::Global;
 
 /// Does what a command does with an accepted program and a second text, which it fetches.
-/// `program` is the text of the program, of which the shelf may tell.
 pub(crate) fn act_on_pair<F: Shelf, O: Sink>(
     alloc: Global,
     words: PairWords<'_>,
@@ -33,10 +33,30 @@ pub(crate) fn act_on_pair<F: Shelf, O: Sink>(
         ⊎ ((F.asked shelf.new ≡ option_map (asked_once_more (second_bytes (pair_of words.entry).kind)) (F.asked shelf.old)) × HasProgram (pair_of words.entry) (F.told shelf.old)) }
     ensures ended { RequestEnded (to_pair (pair_of words.entry)) result (F.told shelf.old) (O.told out.old) (O.told out.new) (O.faults out.old) (O.faults out.new) (F.faults shelf.old) (F.faults shelf.new) }
 {
+    match words.kind {
+        PairKind::Debug => debug_by(alloc, words, accepted, names, shelf, out),
+        PairKind::Bound => bound_on(alloc, words, accepted, names, shelf, out),
+    }
+}
+
+/// Bounds an accepted program by weights, which it fetches.
+fn bound_on<F: Shelf, O: Sink>(
+    alloc: Global,
+    words: PairWords<'_>,
+    accepted: &Accepted,
+    names: &mut Names,
+    shelf: &mut F,
+    out: &mut O,
+) -> Ending
+    requires kind { words.kind ≡ PairKind.Bound }
+    requires accepted { (program : List ℕ) × Accepts program names.old accepted.now.plain accepted.now.plans
+        × IsToldAnd (told_under (F.told shelf.old) (pair_of words).file) (λ found. found ≡ program) }
+    requires room { length names.old ≤ 2 ^ 31 }
+    ensures asked { F.asked shelf.new ≡ option_map (asked_once_more (second_bytes (pair_of words.entry).kind)) (F.asked shelf.old) }
+    ensures ended { RequestEnded (to_pair (pair_of words.entry)) result (F.told shelf.old) (O.told out.old) (O.told out.new) (O.faults out.old) (O.faults out.new) (F.faults shelf.old) (F.faults shelf.new) }
+{
     match fetch_second(alloc, words, shelf) {
-        Ok(second) => match words.kind {
-            PairKind::Bound => bound_by(alloc, accepted, names, second.as_slice(), out),
-        },
+        Ok(second) => bound_by(alloc, accepted, names, second.as_slice(), out),
         Err(ending) => ending,
     }
 }
@@ -66,6 +86,7 @@ fn second_bytes(kind: PairKind) -> u64
     ensures { result ≡ second_bytes kind }
 {
     match kind {
+        PairKind::Debug => 65_536,
         PairKind::Bound => 65_536,
     }
 }
@@ -75,6 +96,7 @@ fn too_long(kind: PairKind) -> Refusal
     ensures { result ≡ at_start (long_code kind) }
 {
     let code = match kind {
+        PairKind::Debug => 70,
         PairKind::Bound => 84,
     };
     Refusal {

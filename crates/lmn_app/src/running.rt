@@ -24,7 +24,7 @@ use std::marker::Brand;
 use std::sync::ledger::{Blank, Ledger};
 
 /// The refusal of a text whose process has too many items.
-const TOO_LARGE: Refusal = Refusal {
+pub(crate) const TOO_LARGE: Refusal = Refusal {
     code: 50,
     pos: Pos { line: 1, column: 1 },
 };

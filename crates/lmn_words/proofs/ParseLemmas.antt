@@ -602,6 +602,7 @@ demo_stops = (refl, refl)
 
 pair_stops : (k : PairKind) → Stops (pair_word k)
 unfolding clap_on_literals
+pair_stops kind.Debug = (refl, refl)
 pair_stops kind.Bound = (refl, refl)
 
 top_walked : (n : Text) (words : List CommandWord) → Stops n → walk top.top.rules (names_of top) nothing_held (n ∷ words) ≡ stopped_at n words
@@ -630,6 +631,7 @@ top_takes n words h found e =
 pair_entered : (k : PairKind) (words : List CommandWord) → (is_some (entered top (Some (pair_word k, words))) ≡ true)
     × (level_passes (two_shape k) [] nothing_held words false ≡ true → entered_passes top (Some (pair_word k, words)) ≡ true)
     × (entered top (Some (pair_word k, words)) ≡ Some (pair_word k, rows_after (two_rules k) [] words))
+pair_entered kind.Debug words = (refl, (λ e. e), refl)
 pair_entered kind.Bound words = (refl, (λ e. e), refl)
 
 pair_taken : (k : PairKind) (first last : CommandWord) → IsFileName first → IsFileName last → (pair : Pair) → k ≡ pair.kind → first ≡ standing_first pair.kind pair.file pair.second

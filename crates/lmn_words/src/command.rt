@@ -16,6 +16,8 @@ pub enum Command<'w> {
 /// A command with a program and a second text.
 #[derive(Clone, Copy, Debug, PartialEq, Eq)]
 pub enum PairKind {
+    /// `debug`: a session over the program, by a script of orders.
+    Debug,
     /// `bound`: how many commits the program has at most, by weights.
     Bound,
 }
@@ -41,6 +43,7 @@ impl PairKind {
         ensures { result.now ≡ pair_word self }
     {
         match self {
+            PairKind::Debug => "debug",
             PairKind::Bound => "bound",
         }
     }
@@ -50,6 +53,7 @@ impl PairKind {
         ensures { result ≡ pair_named word.now }
     {
         match word {
+            "debug" => Some(PairKind::Debug),
             "bound" => Some(PairKind::Bound),
             _ => None,
         }
@@ -60,7 +64,7 @@ impl PairKind {
         ensures { pair_of result ≡ pair_in_order self first.entry.now last.entry.now }
     {
         match self {
-            PairKind::Bound => PairWords {
+            PairKind::Debug | PairKind::Bound => PairWords {
                 kind: self,
                 file: first,
                 second: last,

@@ -1,25 +1,9 @@
-use Rattle.std.proofs.Common.{inr, subst}
+use Rattle.std.proofs.Common.{inr}
 use Rattle.lmn_words.specs.Forms.{pair_of}
-use Rattle.lmn_app.specs.Runnings.{EndsBound}
-use Rattle.lmn_app.proofs.BoundLemmas.{bound_ended, has_program, only_bound}
+use Rattle.lmn_app.proofs.PairLemmas.{has_bound}
 use Rattle.lmn_app.proofs.pairing.act_on_pair.Goals as goal
 
-pub returns-in-Ok-clause-asked : goal.returns-in-Ok-clause-asked
-returns-in-Ok-clause-asked g c =
-    inr (c.fetch_second.ensures.asked, has_program (pair_of c.args.words) _ c.requires.accepted.0 _ _ _ c.requires.accepted.1 c.requires.accepted.2)
-
-pub returns-in-Ok-clause-ended : goal.returns-in-Ok-clause-ended
-returns-in-Ok-clause-ended g c =
+pub returns-in-Bound-clause-asked : goal.returns-in-Bound-clause-asked
+returns-in-Bound-clause-asked g c =
     let pair = pair_of c.args.words in
-    let program = c.requires.accepted.0 in
-    let of = has_program pair (g.F.Shelf.told c.args.shelf.now) program c.args.names.now c.args.accepted.now.plain c.args.accepted.now.plans c.requires.accepted.1 c.requires.accepted.2 in
-    bound_ended pair (g.F.Shelf.told c.args.shelf.now) _ _ _ _ _ _ (only_bound pair.kind) of c.in-Ok.second c.in-Ok.ensures.told c.in-Ok.ensures.short c.bound_by.result
-    (subst (λ second. EndsBound program second c.bound_by.result (g.O.Sink.told c.args.out.now) (g.O.Sink.told c.bound_by.new.out) (g.O.Sink.faults c.args.out.now) (g.O.Sink.faults c.bound_by.new.out)) c.as_slice.ensures (c.bound_by.ensures program c.requires.accepted.1))
-
-pub returns-in-Err-clause-asked : goal.returns-in-Err-clause-asked
-returns-in-Err-clause-asked g c =
-    inr (c.fetch_second.ensures.asked, has_program (pair_of c.args.words) _ c.requires.accepted.0 _ _ _ c.requires.accepted.1 c.requires.accepted.2)
-
-pub returns-in-Err-clause-ended : goal.returns-in-Err-clause-ended
-returns-in-Err-clause-ended g c =
-    c.in-Err.ensures.fault _ _ (has_program (pair_of c.args.words) (g.F.Shelf.told c.args.shelf.now) c.requires.accepted.0 _ _ _ c.requires.accepted.1 c.requires.accepted.2)
+    inr (c.bound_on.ensures.asked, has_bound pair (g.F.Shelf.told c.args.shelf.now) c.requires.accepted.0 c.requires.accepted.2 _ _ _ c.requires.accepted.1 c.in-Bound.is)

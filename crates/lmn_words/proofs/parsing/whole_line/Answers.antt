@@ -9,4 +9,5 @@ returns c =
     let run = command_more _ _ _ _ _ c.in_ok-subcommand.ensures top c.in_ok-run_line.ensures in
     let compile = command_more _ _ _ _ _ c.in_ok-subcommand-2.ensures run c.in_ok-compile_line.ensures in
     let demo = command_more _ _ _ _ _ c.in_ok-subcommand-3.ensures compile c.in_ok-demo_line.ensures in
-    IfOk-weaker c.subcommand-4.result _ _ (λ line adds. command_more _ _ line _ _ adds demo c.in_ok-pair_line.ensures) c.subcommand-4.ensures
+    let debug = command_more _ _ _ _ _ c.in_ok-subcommand-4.ensures demo c.in_ok-pair_line.ensures in
+    IfOk-weaker c.subcommand-5.result _ _ (λ line adds. command_more _ _ line _ _ adds debug c.in_ok-pair_line-2.ensures) c.subcommand-5.ensures

@@ -1,0 +1,89 @@
+-- Commands with a program and a second text, as requests.
+use Rattle.std.proofs.Common.{◌≡◌, ◌≤◌, ℕ, List, Option, Some, length, sym, subst, inl, inr}
+use Rattle.lmn_base.specs.declared.rule.Plain.{Plain}
+use Rattle.lmn_congruence.specs.Rules.{Name}
+use Rattle.lmn_guards.specs.declared.plan.GuardPlan.{GuardPlan}
+use Rattle.lmn_io.specs.Counts.{Faults}
+use Rattle.lmn_words.specs.declared.command.PairKind.{PairKind}
+use Rattle.lmn_words.specs.declared.command.PairKind.TheVariants.{Bound, Debug}
+use Rattle.lmn_words.specs.Forms.{Pair, to_pair}
+use Rattle.lmn_app.specs.declared.ending.Ending.{Ending}
+use Rattle.lmn_app.specs.declared.ending.Ending.TheVariants.{Done, Budget, Refused, Words, ReadFault, WriteFault, NoMemory, Full, SecondRefused}
+use Rattle.lmn_app.specs.Debugs.{session_size}
+use Rattle.lmn_app.specs.Outcomes.{RequestEnded}
+use Rattle.lmn_app.specs.Pairs.{HasProgram, IsSecondRefusal, IsWritten, Writes, most_items_of_pair, second_wrong}
+use Rattle.lmn_app.specs.Runnings.{EndsBound, EndsDebugged}
+use Rattle.lmn_app.specs.SecondTexts.{second_bytes}
+use Rattle.lmn_app.specs.Texts.{Accepts, Fits, IsAccepted}
+use Rattle.lmn_app.specs.Writing.{IsToldAnd, told_under}
+use Rattle.lmn_app.proofs.OutcomeLemmas.{told_and}
+
+-- ---- the program
+
+module _ (p : Pair) (texts : Option (List ℕ → Option (List ℕ))) (program : List ℕ) (told : IsToldAnd (told_under texts p.file) (λ found. found ≡ program)) (names : List Name) (plain : Plain) (plans : List GuardPlan)
+    (a : Accepts program names plain plans) where
+  abbrev accepted_for : (kind : PairKind) → p.kind ≡ kind → IsAccepted (most_items_of_pair kind) program → HasProgram p texts
+  accepted_for kind is accepted = record { program = program; is_told = told; accepted = subst (λ k. IsAccepted (most_items_of_pair k) program) (sym is) accepted }
+
+  -- an accepted program is that of `bound`
+  abbrev pub has_bound : p.kind ≡ Bound → HasProgram p texts
+  has_bound is = accepted_for Bound is (names, plain, plans, a, tt)
+
+  -- and of `debug`, where its process fits
+  abbrev pub has_session : p.kind ≡ Debug → Fits (Some session_size) names plain → HasProgram p texts
+  has_session is fits = accepted_for Debug is (names, plain, plans, a, fits)
+
+-- ---- how a call ends that has both texts
+
+module _ (p : Pair) (texts : Option (List ℕ → Option (List ℕ))) (of : HasProgram p texts) (second : List ℕ) (told : IsToldAnd (told_under texts p.second) (λ found. found ≡ second))
+    (short : length second ≤ second_bytes p.kind) where
+  writes_so : (e : Ending) (written : List ℕ) → IsWritten p.kind e of.program second written → Writes p e texts
+  writes_so e written is = record { of = of; second = second; second_told = told; short = short; written = written; is = is }
+
+  module _ (f g : List ℕ → ℕ) (old new : Option (List ℕ)) (before after : Faults) where
+    -- one that bounds the program ended so
+    pub bound_ended : p.kind ≡ Bound → (e : Ending) → EndsBound of.program second e old new before after → RequestEnded (to_pair p) e texts old new before after f g
+    unfolding writes_so
+    bound_ended kind Done h = record { cause = tt; output = record { writes = writes_so Done h.0.0 (rw kind h.0.1); took = h.0.2 }; counts = h.1 }
+    bound_ended kind WriteFault h = record { cause = tt; output = record { writes = writes_so WriteFault h.0.0 (rw kind h.0.1); took = h.0.2 }; counts = h.1 }
+    bound_ended kind (SecondRefused Bound r) h = record {
+      cause = record {
+        same = sym kind;
+        of = of;
+        refused = told_and (λ bytes. IsSecondRefusal p.kind of.program bytes r) (told_under texts p.second) second told (second_wrong short (rw kind h.0));
+        code = rw kind h.1;
+      };
+      output = h.2;
+      counts = h.3;
+    }
+    bound_ended kind (SecondRefused Debug r) h = absurd h
+    bound_ended kind NoMemory h = record { cause = tt; output = inl h.0; counts = h.1 }
+    bound_ended kind Budget h = absurd h
+    bound_ended kind (Refused r) h = absurd h
+    bound_ended kind Words h = absurd h
+    bound_ended kind ReadFault h = absurd h
+    bound_ended kind Full h = absurd h
+
+    -- and one that debugs it
+    pub debug_ended : p.kind ≡ Debug → (e : Ending) → EndsDebugged of.program second e old new before after → RequestEnded (to_pair p) e texts old new before after f g
+    unfolding writes_so
+    debug_ended kind Done h = record { cause = tt; output = record { writes = writes_so Done h.0.0 (rw kind h.0.1); took = h.0.2 }; counts = h.1 }
+    debug_ended kind WriteFault h = record { cause = tt; output = record { writes = writes_so WriteFault h.0.0 (rw kind h.0.1); took = h.0.2 }; counts = h.1 }
+    debug_ended kind (SecondRefused Debug r) h = record {
+      cause = record {
+        same = sym kind;
+        of = of;
+        refused = told_and (λ bytes. IsSecondRefusal p.kind of.program bytes r) (told_under texts p.second) second told (second_wrong short (rw kind h.0));
+        code = rw kind h.1;
+      };
+      output = h.2;
+      counts = h.3;
+    }
+    debug_ended kind (SecondRefused Bound r) h = absurd h
+    debug_ended kind NoMemory h =
+        record { cause = tt; output = elim h.0 [ inl same ↦ inl same | inr some ↦ inr (record { writes = writes_so NoMemory some.0 (rw kind some.1); took = some.2 }) ]; counts = h.1 }
+    debug_ended kind Budget h = absurd h
+    debug_ended kind (Refused r) h = absurd h
+    debug_ended kind Words h = absurd h
+    debug_ended kind ReadFault h = absurd h
+    debug_ended kind Full h = absurd h
