@@ -1,12 +1,11 @@
 -- What bounds a program by weights.
-use Rattle.std.proofs.Common.{◌≡◌, ◌≤◌, ◌^◌, ℕ, List, [], Option, Ok, Err, length, refl, sym, ap, subst, inl, inr, arith}
+use Rattle.std.proofs.Common.{◌≡◌, ◌≤◌, ℕ, List, [], Option, Ok, Err, length, refl, sym, ap, subst, inl, inr, arith}
 use Rattle.lmn_accepted.specs.Rules.{AcceptedTexts}
 use Rattle.lmn_accepted.proofs.PlanKinds.{at_index}
 use Rattle.lmn_base.specs.declared.refusal.Refusal.{Refusal}
 use Rattle.lmn_base.specs.declared.rule.Plain.{Plain}
-use Rattle.lmn_base.specs.Items.{number_of_items}
 use Rattle.lmn_base.specs.Names.{IsNames}
-use Rattle.lmn_bounding.specs.Bounding.{FewWeighed, IsAcceptedPlain, RulesAreSmall, WeightsBound}
+use Rattle.lmn_bounding.specs.Bounding.{IsAcceptedPlain, RulesAreSmall, TopsAreSmall, WeightsBound}
 use Rattle.lmn_congruence.specs.Rules.{Name}
 use Rattle.lmn_functors.specs.Reading.{AddsNames}
 use Rattle.lmn_guards.specs.Accepted.{IsAcceptedRule}
@@ -33,12 +32,13 @@ accepted_plain laws program names plain plans a =
     let read = a.accepted in
     record { made = laws.made program names plain plans read; named = plain_named laws program names plain plans a; rules = read.rules; planned = read.planned }
 
--- few items of its rules weigh, and of its top where it has few
-pub few_weigh : FewWeighed → RulesAreSmall → (program : List ℕ) (names : List Name) (plain : Plain) (plans : List GuardPlan) → Accepts program names plain plans
-    → number_of_items plain.top ≤ 2 ^ 24 → IsOfSize plain
-few_weigh few small program names plain plans a h =
+-- and few items of its top weigh, and of its rules
+pub few_weigh : TopsAreSmall → RulesAreSmall → (program : List ℕ) (names : List Name) (plain : Plain) (plans : List GuardPlan) → Accepts program names plain plans → IsOfSize plain
+few_weigh tops small program names plain plans a =
     let read = a.accepted in
-    record { top = omega (arith, few plain.top, h); rules = λ k r e. small plain.rules r (at_index (IsAcceptedRule plain.rules) plain.rules k r read.rules e) }
+    let top = tops program names plain read.reads in
+    let short = a.short in
+    record { top = omega (arith, top, short); rules = λ k r e. small plain.rules r (at_index (IsAcceptedRule plain.rules) plain.rules k r read.rules e) }
 
 -- ---- how a bound ends
 

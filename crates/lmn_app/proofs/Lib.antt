@@ -10,8 +10,10 @@ mod MainLemmas
 mod BoundLemmas
 mod PairLemmas
 mod DebugLemmas
+mod OneBound
 mod DemoLemmas
 mod TaskLemmas
 mod OneListing
 mod SmallTexts
+mod SmallBounds
 mod SmallRuns

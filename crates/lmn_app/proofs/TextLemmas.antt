@@ -51,7 +51,8 @@ refusal_code size text r (too_large names p ps a l e) = has_code r 50 e refl
 
 -- ---- the list of names
 
-one_list : (text : List ℕ) (names others : List Name) (p : Plain) → NamesText text names → NamesText text others → ReadsAs text names p → names ≡ others
+-- a text that reads has one list of names
+pub one_list : (text : List ℕ) (names others : List Name) (p : Plain) → NamesText text names → NamesText text others → ReadsAs text names p → names ≡ others
 one_list text names others p h k r = h r.tokens r.tree r.right r.reads r.within ∙ sym (k r.tokens r.tree r.right r.reads r.within)
 
 at_names : (text : List ℕ) (names others : List Name) (r : Refusal) → NamesText text names → NamesText text others → IsRefusedAs text names r → IsRefusedAs text others r
@@ -64,7 +65,8 @@ at_names text names others r h k (by_links p reads n f) =
 at_names text names others r h k (by_rules p reads n l f) =
     let P : List Name → Type 0 = λ ns. IsRefusedAs text ns r in subst P (one_list text names others p h k reads) (by_rules p reads n l f)
 
-accepted_at : (text : List ℕ) (names others : List Name) (p : Plain) (ps : List GuardPlan) → NamesText text names → NamesText text others → IsAcceptedAs text names p ps
+-- and is accepted by it
+pub accepted_at : (text : List ℕ) (names others : List Name) (p : Plain) (ps : List GuardPlan) → NamesText text names → NamesText text others → IsAcceptedAs text names p ps
     → IsAcceptedAs text others p ps
 accepted_at text names others p ps h k a = let P : List Name → Type 0 = λ ns. IsAcceptedAs text ns p ps in subst P (one_list text names others p h k a.reads) a
 

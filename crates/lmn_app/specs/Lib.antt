@@ -15,3 +15,5 @@ pub mod TextExamples
 pub mod Texts
 pub mod Writing
 pub mod ListingLaws
+pub mod BoundLaws
+pub mod BoundExamples

@@ -8,7 +8,7 @@ ghost use Rattle.lmn_app.specs.Texts.{Accepts};
 use crate::ending::Ending;
 use itoa::Buffer;
 use lmn_accepted::accepted_texts;
-use lmn_base::{Names, TextFault, number_of_items};
+use lmn_base::{Names, TextFault};
 use lmn_bounding::{few_items_weigh, weights_bound_commits};
 use lmn_io::{Failed, Sink, put_all};
 use lmn_reading::Accepted;
@@ -16,11 +16,7 @@ use lmn_weight::{bound, read};
 use lmn_words::PairKind;
 use std::alloc::Global;
 
-/// The most items of a top that is weighed.
-const TOP_ITEMS: u64 = 1 << 24;
-
 /// Writes how many commits an accepted text has at most, by the weights of a second one.
-/// A top of so many items that their weights overflow would stand in no memory.
 pub(crate) fn bound_by<O: Sink>(
     alloc: Global,
     accepted: &Accepted,
@@ -36,9 +32,6 @@ pub(crate) fn bound_by<O: Sink>(
     accepted_texts();
     few_items_weigh();
     weights_bound_commits();
-    if number_of_items(&accepted.plain.top) > TOP_ITEMS {
-        return Ending::NoMemory;
-    }
     match read(alloc, weights, names) {
         Ok(weights) => {
             stand_once(names);

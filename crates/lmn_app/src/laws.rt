@@ -1,6 +1,8 @@
 //! The laws of texts: a text is accepted or refused, refused in one way. What is said of texts, shown of a small one. What
-//! `demo` does.
+//! `demo` does. That weights bound a program, or are refused, in one way.
 
+ghost use Rattle.lmn_app.specs.BoundExamples.{SmallTextIsBounded, SmallTextIsNotByTwo, SmallTextIsNotLowered};
+ghost use Rattle.lmn_app.specs.BoundLaws.{BoundNotRefused, BoundOrRefused, BoundWhereLowered, OneBound, OneWrongWeights};
 ghost use Rattle.lmn_app.specs.Demos.{SomeDemo};
 ghost use Rattle.lmn_app.specs.DemoLaws.{DemoIsFoldedRun};
 ghost use Rattle.lmn_app.specs.ListingLaws.{OneListing};
@@ -8,7 +10,10 @@ ghost use Rattle.lmn_app.specs.NameExamples.{SomeNames};
 ghost use Rattle.lmn_app.specs.TextExamples.{SmallTextHasItsTrace, SmallTextIsAccepted, SmallTextRuns};
 ghost use Rattle.lmn_app.specs.Texts.{AcceptedOrRefused, OneRefusal, RefusedNotAccepted};
 
+use lmn_accepted::accepted_texts;
+use lmn_bounding::weights_bound_commits;
 use lmn_runs::short_run_prints;
+use lmn_weight::{plains_weigh_alike, weights_are_read_once, weights_are_told_or_wrong};
 
 /// A text that is refused isn't accepted, and it has one refusal at most.
 pub fn refusals_are_one()
@@ -54,3 +59,30 @@ pub fn demo_is_a_folded_run()
     ensures run { DemoIsFoldedRun }
     ensures text { SomeDemo }
 {}
+
+/// Weights bound an accepted program by one number, or they have one refusal beside it, and not both. They bound it exactly where
+/// every rule of it is lowered.
+pub fn weights_bound_or_are_refused()
+    ensures one { OneBound }
+    ensures apart { BoundNotRefused }
+    ensures refusal { OneWrongWeights }
+    ensures either { BoundOrRefused }
+    ensures lowered { BoundWhereLowered }
+{
+    accepted_texts();
+    weights_bound_commits();
+    weights_are_read_once();
+    weights_are_told_or_wrong();
+    plains_weigh_alike();
+}
+
+/// `a. a :- b.` is bounded by 1, and not by 2, where an `a` alone weighs. Where a `b` alone does, its rule isn't lowered.
+pub fn small_text_is_bounded()
+    ensures bounded { SmallTextIsBounded }
+    ensures only { SmallTextIsNotByTwo }
+    ensures not_lowered { SmallTextIsNotLowered }
+{
+    accepted_texts();
+    weights_bound_commits();
+    weights_bound_or_are_refused();
+}

@@ -1,33 +1,34 @@
 -- The weight of a plain bounds the commits of its process.
 use Rattle.std.proofs.Common.{ℕ, zero, suc, ◌≡◌, ◌<◌, ◌≤◌, ◌+◌, false, List, [], ◌∷◌, ◌++◌, Some, All, map, length, get_or, slice_get, refl, sym, subst, ◌∙◌, arith}
-use Rattle.std.specs.List.{AllByRecursion, flat_map}
+use Rattle.std.specs.List.{flat_map}
 use Rattle.std.proofs.lemmas.List.Elements.{All-weaker, recursion_from_All}
 use Rattle.std.proofs.lemmas.Option.{same_Some}
 use Rattle.lmn_adequacy.specs.Accepted.{Accepted, Throughout, ThroughoutLevel, ThroughoutLevels, ThroughoutRules}
-use Rattle.lmn_base.proofs.Lists.{all_left, all_of_left, all_of_right, get_there}
+use Rattle.lmn_base.proofs.Lists.{all_of_left, all_of_right, get_there}
 use Rattle.lmn_base.specs.declared.level.Level.{Level}
 use Rattle.lmn_base.specs.declared.level.Level.TheFolds.{fold-roll-Level, ind-Level}
 use Rattle.lmn_base.specs.declared.rule.Plain.{Plain}
 use Rattle.lmn_base.specs.declared.rule.RuleTree.{RuleTree}
 use Rattle.lmn_base.specs.Levels.{leaves_of, rules_of}
-use Rattle.lmn_base.specs.Names.{HasNames, level_names, rule_names}
+use Rattle.lmn_base.specs.Names.{level_names, rule_names}
 use Rattle.lmn_base.specs.WellMade.{FitsArity, IsWellMade, IsWellMadeRule}
 use Rattle.lmn_congruence.proofs.NumberedRules.{rule_has_number}
 use Rattle.lmn_congruence.specs.Rules as tree
-use Rattle.lmn_congruence.specs.Translation.{level_of, level_step, levels, numbered_rule, plain_process, rule_tree, rules, top_of}
+use Rattle.lmn_congruence.specs.Translation.{level_of, level_step, levels, numbered_rule, plain_process, rules, top_of}
 use Rattle.lmn_guards.specs.Accepted.{IsAcceptedRule}
 use Rattle.lmn_guards.specs.declared.plan.GuardPlan.{GuardPlan}
 use Rattle.lmn_guards.specs.Plans.{IsPlan}
 use Rattle.lmn_plain.specs.Plains.{EachPair}
 use Rattle.lmn_accepted.proofs.AcceptedRules.{accepted_tree}
 use Rattle.lmn_accepted.proofs.PlanKinds.{at_index}
+use Rattle.lmn_weight.proofs.AlikePlains.{rule_known}
 use Rattle.lmn_weight.proofs.Bounds.{weight_bounds}
 use Rattle.lmn_weight.specs.Lowered.{Lowered}
 use Rattle.lmn_weight.specs.declared.weights.Weights.{Weights}
 use Rattle.lmn_weight.specs.Plains.{EachLowered, level_weight}
 use Rattle.lmn_weight.specs.Weights.{Weighing, weight}
 use Rattle.lmn_bounding.proofs.LoweredTrees.{all_fit, level_known, lowered_tree}
-use Rattle.lmn_bounding.proofs.WeightsAgree.{IsFit, level_agrees, process_weighs, weighing}
+use Rattle.lmn_bounding.proofs.WeightsAgree.{level_agrees, process_weighs, weighing}
 use Rattle.lmn_bounding.specs.Bounding.{IsAcceptedPlain, IsLoweredTree, LoweredPlains, WeightsBound}
 
 -- ---- what holds of each rule of a table holds throughout the top
@@ -80,20 +81,14 @@ module _ (H : tree.Rule → Type 0) (names : List tree.Name) (p : Plain) (well :
 
 -- ---- a plain
 
--- each rule has its plan
-plan_there : (rs : List RuleTree) (plans : List GuardPlan) (k : ℕ) (r : RuleTree) → EachPair IsPlan rs plans → slice_get rs k ≡ Some r → (plan : GuardPlan) × (slice_get plans k ≡ Some plan) × IsPlan r plan
-plan_there [] [] zero r h e = absurd (cc)
-plan_there [] [] (suc k) r h e = absurd (cc)
-plan_there [] (q ∷ qs) k r h e = absurd h
-plan_there (s ∷ rs) [] k r h e = absurd h
-plan_there (s ∷ rs) (q ∷ qs) zero r h e = (q, refl, subst (λ s. IsPlan s q) (same_Some s r e) h.0)
-plan_there (s ∷ rs) (q ∷ qs) (suc k) r h e = plan_there rs qs k r h.1 e
-
-rule_known : (P : ℕ → Type 0) (rs : List RuleTree) (k : ℕ) (r : RuleTree) → All P (flat_map rule_names rs) → slice_get rs k ≡ Some r → All P (rule_names r)
-rule_known P [] zero r h e = absurd (cc)
-rule_known P [] (suc k) r h e = absurd (cc)
-rule_known P (s ∷ rs) zero r h e = subst (λ s. All P (rule_names s)) (same_Some s r e) (all_of_left P (rule_names s) (flat_map rule_names rs) h)
-rule_known P (s ∷ rs) (suc k) r h e = rule_known P rs k r (all_of_right P (rule_names s) (flat_map rule_names rs) h) e
+-- what stands beside an item of two lists that go together
+pub pair_there : {A B : Type 0} (R : A → B → Type 0) (xs : List A) (ys : List B) (k : ℕ) (x : A) → EachPair R xs ys → slice_get xs k ≡ Some x → (y : B) × (slice_get ys k ≡ Some y) × R x y
+pair_there R [] [] zero x h e = absurd (cc)
+pair_there R [] [] (suc k) x h e = absurd (cc)
+pair_there R [] (y ∷ ys) k x h e = absurd h
+pair_there R (w ∷ xs) [] k x h e = absurd h
+pair_there R (w ∷ xs) (y ∷ ys) zero x h e = (y, refl, subst (λ z. R z y) (same_Some w x e) h.0)
+pair_there R (w ∷ xs) (y ∷ ys) (suc k) x h e = pair_there R xs ys k x h.1 e
 
 module _ (names : List tree.Name) (p : Plain) (plans : List GuardPlan) (w : Weights) (a : IsAcceptedPlain names p plans) (each : EachLowered w p plans) where
   abbrev v : Weighing
@@ -110,7 +105,7 @@ module _ (names : List tree.Name) (p : Plain) (plans : List GuardPlan) (w : Weig
       let found = get_there p.rules k l in
       let r = found.0 in
       let e = found.1 in
-      let plan = plan_there p.rules plans k r a.planned e in
+      let plan = pair_there IsPlan p.rules plans k r a.planned e in
       let accepted = at_index (IsAcceptedRule p.rules) p.rules k r a.rules e in
       let known = rule_known (λ n. n < length names) p.rules k r (all_of_right (λ n. n < length names) (level_names p.top) (flat_map rule_names p.rules) a.named.1) e in
       let made : IsWellMadeRule r = one_made k r e in

@@ -1,5 +1,6 @@
 mod WeightsAgree
 mod Integers
 mod LoweredTrees
-mod Bounded
+pub mod Bounded
 mod Sizes
+mod Nothing

@@ -1,11 +1,10 @@
 -- A rule of a plain that is lowered is lowered as a tree.
-use Rattle.std.proofs.Common.{ℕ, zero, suc, ◌≡◌, ◌<◌, ◌≤◌, ◌+◌, ◌==◌, ◌⊎◌, inl, inr, ◌&&◌, ◌||◌, Bool, true, false, cond, List, [], ◌∷◌, ◌++◌, Option, Some, None, IsSome, All, Contains, map, length, sum, refl, sym, ap, subst, ◌∙◌, arith, if◌then◌else◌}
-use Rattle.std.specs.Prelude.{IsTrue, nat_le, nat_lt}
+use Rattle.std.proofs.Common.{ℕ, zero, suc, ◌≡◌, ◌<◌, ◌≤◌, ◌+◌, ◌==◌, ◌⊎◌, inl, inr, ◌&&◌, ◌||◌, Bool, true, false, cond, List, [], ◌∷◌, ◌++◌, Some, None, IsSome, Contains, map, length, sum, refl, sym, ap, subst, ◌∙◌, arith, if◌then◌else◌}
+use Rattle.std.specs.Prelude.{nat_le, nat_lt}
 use Rattle.std.specs.List.{AllByRecursion, flat_map, list_all, list_any}
 use Rattle.std.proofs.lemmas.Bool.{eq-eqb, eqb-true, leb-true, ltb-true}
 use Rattle.std.proofs.lemmas.List.Concat.{flat_map-append}
 use Rattle.std.proofs.lemmas.List.Elements.{recursion_from_All}
-use Rattle.std.proofs.lemmas.List.Sums.{sum-map, sum_by-cons}
 use Rattle.lmn_base.proofs.Lists.{all_append, all_left, all_of_left, all_right, some_is}
 use Rattle.lmn_base.proofs.Truth.{and_true, either_true}
 use Rattle.lmn_base.specs.declared.guard.Cond.{Cond}
@@ -17,7 +16,7 @@ use Rattle.lmn_base.specs.declared.level.Level.TheFolds.{fold-roll-Level, ind-Le
 use Rattle.lmn_base.specs.declared.item.Item.{Item}
 use Rattle.lmn_base.specs.declared.rule.RuleTree.{RuleTree}
 use Rattle.lmn_base.specs.Firsts.{NoneApplies, Row}
-use Rattle.lmn_base.specs.Items.{guard_items, items_of, own_items}
+use Rattle.lmn_base.specs.Items.{items_of, own_items}
 use Rattle.lmn_base.specs.Levels.{contexts_of, leaves_of, rule_contexts_of}
 use Rattle.lmn_base.specs.Names.{HasNames, IsNames, condition_names, context_names, leaf_names, level_names, rule_names}
 use Rattle.lmn_base.specs.RuleCodes.{is_left_of}
@@ -26,7 +25,7 @@ use Rattle.lmn_adequacy.specs.Accepted.{all_contexts, closed_names}
 use Rattle.lmn_bridge.proofs.HeadTrees.{level_tree}
 use Rattle.lmn_congruence.specs.Orders.{Among, EachOnce, at_head, further}
 use Rattle.lmn_congruence.specs.Rules as tree
-use Rattle.lmn_congruence.specs.Translation.{condition_of, level_of, name_of, rule_tree}
+use Rattle.lmn_congruence.specs.Translation.{condition_of, level_of, rule_tree}
 use Rattle.lmn_guards.proofs.AcceptedLemmas.{in_order}
 use Rattle.lmn_guards.specs.Accepted.{IsAcceptedRule, IsInOrder}
 use Rattle.lmn_guards.specs.declared.plan.GuardPlan.{GuardPlan}
@@ -41,19 +40,16 @@ use Rattle.lmn_reduction.specs.Firing.{typed_contexts}
 use Rattle.lmn_solid.proofs.HeadTrees.{Head, Heads, head, head_and, head_at, head_leaves, head_membranes, heads_leaves, heads_membranes, no_head, same_leaves, same_membranes, same_uses}
 use Rattle.lmn_accepted.proofs.Counts.{closed_known, guard_typed, typed_in_head, typed_known}
 use Rattle.lmn_accepted.proofs.Items.{closed_name, closed_own, closed_use, typed_are, typed_name}
-use Rattle.lmn_accepted.proofs.Listed.{N, alone, each_once, how_often_here, how_often_later, known_one, some_of}
+use Rattle.lmn_accepted.proofs.Listed.{N, alone, each_once, how_often_later, known_one, some_of}
 use Rattle.lmn_accepted.proofs.PlanKinds.{leaf_name}
 use Rattle.lmn_accepted.proofs.Trees.{closed_named, typed_named}
 use Rattle.lmn_accepted.proofs.Types.{left_used_there}
+use Rattle.lmn_weight.proofs.SmallWeights.{sum_cons}
 use Rattle.lmn_weight.specs.Lowered.{Lowered, MakesInt, StandsForInt, other_contexts}
 use Rattle.lmn_weight.specs.declared.weights.Weights.{Weights}
 use Rattle.lmn_weight.specs.Plains as plain
-use Rattle.lmn_weight.specs.Weights.{level_weight}
-use Rattle.lmn_bounding.proofs.Integers.{IsInt, UsedAs, all_among, all_asked_made, among_any, any_among, bindings, bound_known, bound_made, lefts_bound, made_int, names_by, right_use, used_as}
+use Rattle.lmn_bounding.proofs.Integers.{all_among, all_asked_made, among_any, any_among, bindings, bound_known, bound_made, lefts_bound, made_int, names_by, right_use, used_as}
 use Rattle.lmn_bounding.proofs.WeightsAgree.{IsFit, level_agrees, number_in, number_is, number_named, weighing}
-
-sum_cons : {X : Type 0} (f : X → ℕ) (x : X) (xs : List X) → sum (map f (x ∷ xs)) ≡ f x + sum (map f xs)
-sum_cons f x xs = sum-map f (x ∷ xs) ∙ sum_by-cons f x xs ∙ ap (λ n. f x + n) (sym (sum-map f xs))
 
 -- ---- how often contexts stand in a level
 

@@ -1,12 +1,10 @@
 -- The weights of plains are those of their trees, by one weighing for a list of names.
-use Rattle.std.proofs.Common.{ℕ, zero, suc, ◌≡◌, ◌<◌, ◌≤◌, ◌+◌, ◌*◌, ◌&&◌, ◌||◌, Bool, true, false, List, [], ◌∷◌, ◌++◌, map, length, get_or, sum, refl, sym, ap, subst, ◌∙◌, arith, if◌then◌else◌}
+use Rattle.std.proofs.Common.{ℕ, zero, suc, ◌≡◌, ◌<◌, ◌+◌, ◌*◌, Bool, true, false, List, [], ◌∷◌, ◌++◌, map, length, get_or, sum, refl, ap, subst, ◌∙◌, arith, if◌then◌else◌}
 use Rattle.std.specs.Prelude.{bytes_eq, ◌==◌}
-use Rattle.std.specs.List.{AllByRecursion, flat_map, list_any}
+use Rattle.std.specs.List.{AllByRecursion, flat_map}
 use Rattle.std.proofs.lemmas.List.{length-map}
-use Rattle.std.proofs.lemmas.List.Sums.{sum-map, sum_by-cons}
 use Rattle.std.proofs.lemmas.Slice.Eq.{bytes_eq-Decides}
 use Rattle.lmn_base.proofs.Lists.{all_left, all_right}
-use Rattle.lmn_base.specs.declared.functor.Functor.{Functor}
 use Rattle.lmn_base.specs.declared.functor.Label.{Label}
 use Rattle.lmn_base.specs.declared.functor.Label.TheVariants.{Int, Name}
 use Rattle.lmn_base.specs.declared.level.Leaf.{Leaf}
@@ -19,11 +17,11 @@ use Rattle.lmn_base.specs.WellMade.{FitsArity}
 use Rattle.lmn_congruence.specs.Plains.{leaf_process, level_process, levels_processes}
 use Rattle.lmn_congruence.specs.Process.{rule, together}
 use Rattle.lmn_congruence.specs.Rules as tree
-use Rattle.lmn_congruence.specs.SolidsOfPlains.{is_connector}
 use Rattle.lmn_congruence.specs.Translation.{atom_or_connector, label_of, leaf_of, level_of, level_step, levels, name_of}
 use Rattle.lmn_guards.specs.declared.plan.TypedUse.{TypedUse}
 use Rattle.lmn_reading.proofs.NamedPlains.{AllBelow}
 use Rattle.lmn_accepted.proofs.Listed.{one_number}
+use Rattle.lmn_weight.proofs.SmallWeights.{sum_cons}
 use Rattle.lmn_weight.specs.declared.weights.Weights.{Weights}
 use Rattle.lmn_weight.specs.Plains as plain
 use Rattle.lmn_weight.specs.Weights.{Weighing, atom_weight, leaf_weight, leaves_weight, level_weight, membranes_weight, weight}
@@ -107,9 +105,6 @@ module _ (names : List tree.Name) (is : IsNames names) (w : Weights) where
     leaf_agrees (leaf.Atom f os p) h =
         connector_or_atom f.label (map (λ o. o.link) os) h.0 ∙ ap (λ k. plain.functor_weight w (record { label = f.label; arity = k })) (length-map os (λ o. o.link) ∙ h.1)
     leaf_agrees (leaf.Typed n o p) h = ap (λ b. if b then w.int else 0) (alike n h.0.0)
-
-    sum_cons : {X : Type 0} (f : X → ℕ) (x : X) (xs : List X) → sum (map f (x ∷ xs)) ≡ f x + sum (map f xs)
-    sum_cons f x xs = sum-map f (x ∷ xs) ∙ sum_by-cons f x xs ∙ ap (λ n. f x + n) (sym (sum-map f xs))
 
     leaves_agree : (ls : List Leaf) → AllByRecursion (IsFit names) ls → leaves_weight v is_int (map (leaf_of names) ls) ≡ sum (map (plain.leaf_weight w kinds bound) ls)
     leaves_agree [] h = refl

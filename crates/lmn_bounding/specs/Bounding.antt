@@ -1,11 +1,9 @@
 -- The bound of the commits of a plain by weights.
-use Rattle.std.specs.Prelude.{ℕ, [], List, ◌≡◌, ◌≤◌}
+use Rattle.std.specs.Prelude.{ℕ, [], List, ◌≡◌, ◌≤◌, ◌+◌, length}
 use Rattle.std.specs.List.{AllByRecursion}
 use Rattle.lmn_adequacy.specs.Accepted.{Accepted, ThroughoutLevel}
-use Rattle.lmn_base.specs.declared.level.Level.{Level}
 use Rattle.lmn_base.specs.declared.rule.Plain.{Plain}
 use Rattle.lmn_base.specs.declared.rule.RuleTree.{RuleTree}
-use Rattle.lmn_base.specs.Items.{number_of_items}
 use Rattle.lmn_base.specs.Names.{NamesPlain}
 use Rattle.lmn_base.specs.WellMade.{IsWellMade}
 use Rattle.lmn_congruence.specs.Process.{Process}
@@ -15,6 +13,7 @@ use Rattle.lmn_guards.specs.Accepted.{IsAcceptedRule}
 use Rattle.lmn_guards.specs.declared.plan.GuardPlan.{GuardPlan}
 use Rattle.lmn_guards.specs.Plans.{IsPlan}
 use Rattle.lmn_plain.specs.Plains.{EachPair}
+use Rattle.lmn_reading.specs.Texts.{ReadsAs}
 use Rattle.lmn_reduction.specs.Chains.{Commits}
 use Rattle.lmn_reduction.specs.Commits.{Settles}
 use Rattle.lmn_weight.specs.declared.weights.Weights.{Weights}
@@ -44,9 +43,9 @@ abbrev pub WeightsBound : Type 0
 WeightsBound = (names : List Name) (plain : Plain) (plans : List GuardPlan) (w : Weights) → IsAcceptedPlain names plain plans → EachLowered w plain plans →
     (first last : Process) (n : ℕ) → Settles (plain_process names plain) first → Commits n first last → n ≤ level_weight w [] [] plain.top
 
--- no more items of a level weigh than it has
-abbrev pub FewWeighed : Type 0
-FewWeighed = (l : Level) → weighed_items l ≤ number_of_items l
+-- no more items of the top of a text weigh than it has bytes, and one
+abbrev pub TopsAreSmall : Type 0
+TopsAreSmall = (text : List ℕ) (names : List Name) (plain : Plain) → ReadsAs text names plain → weighed_items plain.top ≤ length text + 1
 
 -- and of the head and the body of an accepted rule at most 1,024 do
 abbrev pub RulesAreSmall : Type 0

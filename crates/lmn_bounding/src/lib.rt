@@ -3,7 +3,8 @@
 //! The definitions stand in `specs/Bounding`. Each law is the contract of a function with an empty body.
 #![tactic(auto)]
 
-ghost use Rattle.lmn_bounding.specs.Bounding.{FewWeighed, LoweredPlains, RulesAreSmall, WeightsBound};
+ghost use Rattle.lmn_bounding.specs.Examples.{NothingIsAccepted, UnplannedIsNot};
+ghost use Rattle.lmn_bounding.specs.Bounding.{LoweredPlains, RulesAreSmall, TopsAreSmall, WeightsBound};
 
 /// Each rule of the tree of a plain is lowered by one weighing, where those of its table are, and the weight of the plain is
 /// that of its process.
@@ -18,9 +19,14 @@ pub fn weights_bound_commits()
     ensures { WeightsBound }
 {}
 
-/// No more items of a level weigh than it has, and few of an accepted rule: what `bound` asks of sizes.
-#[tactic(auto, using(crate::proofs::Sizes::few_weighed))]
+/// No more items of the top of a text weigh than it has bytes, and few of an accepted rule: what `bound` asks of sizes.
 pub fn few_items_weigh()
-    ensures levels { FewWeighed }
+    ensures tops { TopsAreSmall }
     ensures rules { RulesAreSmall }
+{}
+
+/// The plain of nothing is as an accepted text has it, and one whose rule has no plan isn't.
+pub fn nothing_is_accepted()
+    ensures some { NothingIsAccepted }
+    ensures unplanned { UnplannedIsNot }
 {}

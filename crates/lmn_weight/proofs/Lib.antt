@@ -3,5 +3,10 @@ pub mod FiredWeight
 mod KeptLowered
 pub mod Bounds
 mod BoundLemmas
-mod SmallWeights
+pub mod SmallWeights
+mod FunctorTexts
+mod IndexLemmas
 mod LineLemmas
+mod OneTelling
+mod SomeTelling
+pub mod AlikePlains

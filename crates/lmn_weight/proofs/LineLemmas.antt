@@ -1,33 +1,28 @@
 -- Lines that tell weights.
-use Rattle.std.proofs.Common.{ℕ, zero, suc, ◌≡◌, ◌≤◌, ◌<◌, ◌+◌, ◌-◌, ◌&&◌, ◌⊎◌, inl, inr, Bool, true, false, List, [], ◌∷◌, ◌++◌, Option, Some, None, length, take, drop, get_or, refl, sym, ap, subst, ◌∙◌, arith, codes, if◌then◌else◌}
-use Rattle.std.specs.Prelude.{nat_le, Result, Ok, Err, IfOk, IfSome, ◌==◌}
-use Rattle.std.specs.Char.{is_ascii_digit}
+use Rattle.std.proofs.Common.{ℕ, ◌≡◌, ◌≤◌, ◌<◌, ◌+◌, ◌-◌, ◌&&◌, ◌⊎◌, inl, inr, Bool, true, false, List, [], ◌∷◌, ◌++◌, Option, Some, None, length, take, drop, get_or, refl, sym, ap, subst, ◌∙◌, arith, codes}
+use Rattle.std.specs.Prelude.{Result, Ok, Err, IfOk, IfSome, ◌==◌}
 use Rattle.std.specs.Fmt.{decimal, signed_decimal}
-use Rattle.std.specs.List.{AllByRecursion, list_all}
-use Rattle.std.proofs.lemmas.Bool.{eqb-true, leb-true}
-use Rattle.std.proofs.lemmas.Grind.{flat_map-append}
-use Rattle.std.proofs.lemmas.List.{append-nil, append_assoc, drop_more, get_or_append_left, length-append, take-append-drop, take_all, take_more}
-use Rattle.lmn_base.proofs.Lists.{all_append, head_is, tail_is}
+use Rattle.std.specs.List.{AllByRecursion}
+use Rattle.std.proofs.lemmas.Bool.{eqb-true}
+use Rattle.std.proofs.lemmas.List.{append-nil, append_assoc, drop_more, length-append, take-append-drop, take_all}
+use Rattle.lmn_base.proofs.Lists.{all_append}
 use Rattle.lmn_base.proofs.Lists.{holds_of_item}
-use Rattle.lmn_base.proofs.Truth.{and_true}
 use Rattle.lmn_base.specs.declared.functor.Functor.{Functor}
 use Rattle.lmn_base.specs.declared.functor.Label.{Label}
 use Rattle.lmn_base.specs.declared.functor.Label.TheVariants.{Int, Name}
 use Rattle.lmn_base.specs.declared.memory.NoMemory.{NoMemory}
 use Rattle.lmn_base.specs.declared.refusal.Refusal.{Refusal}
-use Rattle.lmn_functors.proofs.NameLemmas.{adds_both, adds_more, adds_none, functor_stays, has_stays}
-use Rattle.lmn_functors.specs.Reading.{AddsNames}
+use Rattle.lmn_functors.proofs.NameLemmas.{adds_both, adds_more, adds_none, functor_stays}
+use Rattle.lmn_functors.specs.Reading.{AddsNames, IsShortLabel}
 use Rattle.lmn_instr.specs.Labels.{HasLabel, listed_label_text}
 use Rattle.lmn_instr.specs.Listings.{functor_text}
-use Rattle.lmn_lexer.proofs.FaultLemmas.{value_grows}
-use Rattle.lmn_lexer.specs.Faults.{value_behind}
-use Rattle.lmn_lexer.specs.NameText.{name_text}
 use Rattle.lmn_lines.proofs.LineLemmas.{joined_more, last_split, no_space_within, split_at, taken_more}
 use Rattle.lmn_lines.proofs.NumberLemmas.{digits_of, no_space, small_number}
 use Rattle.lmn_lines.specs.Lines.{HasNoSpace, IsOneLine, joined, number_written}
+use Rattle.lmn_weight.proofs.FunctorTexts.{text_stays}
 use Rattle.lmn_weight.specs.declared.told.Told.{Told}
 use Rattle.lmn_weight.specs.declared.weights.Weights.{Weights}
-use Rattle.lmn_weight.specs.Lines.{AreWeightsOf, IsFirstWrong, IsIntegerText, IsNamed, IsTold, IsWeightLine, MayBeNamed, TakesFunctor, TakesItem, TakesLine, Tell, integers, is_listed, line_more, membranes, no_line, nothing_told, of_functor, or_nothing}
+use Rattle.lmn_weight.specs.Lines.{AreWeightsOf, HasText, IsFirstWrong, IsNarrow, IsNarrowLabel, IsIntegerText, IsNamed, IsTold, IsWeightLine, MayBeNamed, TakesFunctor, TakesItem, TakesLine, Tell, integers, is_listed, line_more, membranes, no_line, nothing_told, of_functor, or_nothing}
 use Rattle.lmn_weight.specs.Plains.{AreSmall, is_integer, is_integer_label}
 
 -- ---- names that are put
@@ -40,7 +35,7 @@ tell_stays k names later a (line_more l w i) = line_more (tell_stays k names lat
     go : {item : List ℕ} {n : ℕ} {old new : Told} → IsTold names item n old new → IsTold later item n old new
     go (integers e o new) = integers e o new
     go (membranes e o new) = membranes e o new
-    go (of_functor f e has i o new) = of_functor f (functor_stays k names later f has a ∙ e) (has_stays k names later f.label has a) i o new
+    go (of_functor f e has i o new) = of_functor f (functor_stays k names later f has.held a ∙ e) (text_stays k names later f has a) i o new
 
 -- ---- the last space
 
@@ -62,23 +57,23 @@ line_made line at n l e w = record { digits = drop (at + 1) line; number = w; is
 
 -- a functor that a line names is told, or the line can't be
 pub item_taken : (names : List (List ℕ)) (item : List ℕ) (n : ℕ) (old new : Told) (f : Functor) (r : Result Bool NoMemory) (found : Option Functor) → found ≡ Some f
-    → IfSome found (λ f. HasLabel names f.label × (functor_text names f ≡ item)) → (item ≡ codes "int" → ⊥) → (item ≡ codes "{}" → ⊥) → IfOk r (TakesFunctor f n old new) → IfOk r (TakesItem names item n old new)
-item_taken names item n old new f (Err e) found is some no_int no_membrane t = t
-item_taken names item n old new f (Ok b) found is some no_int no_membrane t =
+    → IfSome found (λ f. HasLabel names f.label × (functor_text names f ≡ item)) → IfSome found (λ f. IsShortLabel names f.label) → IsNarrow f → (item ≡ codes "int" → ⊥) → (item ≡ codes "{}" → ⊥) → IfOk r (TakesFunctor f n old new) → IfOk r (TakesItem names item n old new)
+item_taken names item n old new f (Err e) found is some short narrow no_int no_membrane t = t
+item_taken names item n old new f (Ok b) found is some short narrow no_int no_membrane t =
     let s = holds_of_item (λ (f : Functor). HasLabel names f.label × (functor_text names f ≡ item)) found f is some in
-    go b s.0 s.1 t
+    go b (record { held = s.0; short = holds_of_item (λ (f : Functor). IsShortLabel names f.label) found f is short; narrow = narrow }) s.1 t
   where
-    integer : (l : Label) (arity : ℕ) → (is_integer_label l && (arity == 1)) ≡ true → listed_label_text names l ++ (codes "/" ++ decimal arity) ≡ item → IsIntegerText item
-    integer (Name k) arity e same = absurd (cc)
-    integer (Int z) arity e same = (z, ap (λ k. signed_decimal z ++ (codes "/" ++ decimal k)) (sym (eqb-true arity 1 e)) ∙ same)
+    integer : (l : Label) (arity : ℕ) → IsNarrowLabel l → (is_integer_label l && (arity == 1)) ≡ true → listed_label_text names l ++ (codes "/" ++ decimal arity) ≡ item → IsIntegerText item
+    integer (Name k) arity h e same = absurd (cc)
+    integer (Int z) arity h e same = (z, h, ap (λ k. signed_decimal z ++ (codes "/" ++ decimal k)) (sym (eqb-true arity 1 e)) ∙ same)
 
     named : (is_integer f ≡ true) ⊎ (is_listed f old.functors ≡ true) → functor_text names f ≡ item → MayBeNamed item → IsNamed names old item
     named why e (inl i) = absurd (no_int i)
     named why e (inr (inl m)) = absurd (no_membrane m)
-    named (inl i) e (inr (inr m)) = absurd (m.1 (integer f.label f.arity i e))
+    named (inl i) e (inr (inr m)) = absurd (m.1 (integer f.label f.arity narrow.0 i e))
     named (inr l) e (inr (inr m)) = inr (inr (f, e, l))
 
-    go : (b : Bool) → HasLabel names f.label → functor_text names f ≡ item → TakesFunctor f n old new b → TakesItem names item n old new b
+    go : (b : Bool) → HasText names f → functor_text names f ≡ item → TakesFunctor f n old new b → TakesItem names item n old new b
     go true has e t = of_functor f e has t.0 t.1 t.2
     go false has e t = (t.0, named t.1 e)
 

@@ -35,7 +35,8 @@ scaled : (n m : ℕ) → m ≤ 1000000 → n * m ≤ 1000000 * n
 scaled zero m h = omega arith
 scaled (suc n) m h = let i = scaled n m h in let e : suc n * m ≡ m + n * m = grind arith in omega (arith, e, i, h)
 
-sum_cons : {X : Type 0} (f : X → ℕ) (x : X) (xs : List X) → sum (map f (x ∷ xs)) ≡ f x + sum (map f xs)
+-- a sum with a first part
+pub sum_cons : {X : Type 0} (f : X → ℕ) (x : X) (xs : List X) → sum (map f (x ∷ xs)) ≡ f x + sum (map f xs)
 sum_cons f x xs = sum-map f (x ∷ xs) ∙ sum_by-cons f x xs ∙ ap (λ n. f x + n) (sym (sum-map f xs))
 
 combined : (leaves n m inner atoms k items number : ℕ) → leaves ≤ 1000000 * atoms → n ≡ number → number * m ≤ 1000000 * number → k ≡ number → inner ≤ 1000000 * items → leaves + (n * m + inner) ≤ 1000000 * (atoms + (k + items))

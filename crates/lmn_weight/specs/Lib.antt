@@ -3,3 +3,5 @@ pub mod Lowered
 pub mod Laws
 pub mod Plains
 pub mod Lines
+pub mod OneReading
+pub mod Index

@@ -1,15 +1,15 @@
 -- What WEIGHTS says, line by line.
-use Rattle.std.specs.Prelude.{ℕ, ℤ, ◌≡◌, ◌≢◌, ◌⊎◌, ◌+◌, ◌&&◌, Bool, true, false, List, [], ◌∷◌, ◌++◌, Option, Some, None, IsSome, codes, length, nat_le, if◌then◌else◌}
-use Rattle.std.specs.Char.{is_ascii_digit}
+use Rattle.std.specs.Prelude.{ℕ, ℤ, ◌≡◌, ◌≢◌, ◌≤◌, ◌⊎◌, ◌+◌, Bool, true, false, List, [], ◌∷◌, ◌++◌, Option, Some, None, IsSome, codes, length}
 use Rattle.std.specs.Fmt.{decimal, signed_decimal}
-use Rattle.std.specs.List.{AllByRecursion, flat_map, list_all, list_any}
+use Rattle.std.specs.List.{AllByRecursion, list_any}
 use Rattle.lmn_base.specs.declared.functor.Functor.{Functor}
+use Rattle.lmn_base.specs.declared.functor.Label.{Label}
+use Rattle.lmn_base.specs.declared.functor.Label.TheVariants.{Int, Name}
 use Rattle.lmn_base.specs.declared.refusal.Refusal.{Refusal}
-use Rattle.lmn_functors.specs.Reading.{IsFunctorText}
+use Rattle.lmn_functors.specs.Reading.{IsFunctorText, IsIn64Bits, IsShortLabel}
 use Rattle.lmn_heap.specs.Functors.{same_functor}
 use Rattle.lmn_instr.specs.Labels.{HasLabel}
 use Rattle.lmn_instr.specs.Listings.{functor_text}
-use Rattle.lmn_lexer.specs.Faults.{value_behind}
 use Rattle.lmn_lines.specs.Lines.{IsOneLine, joined, number_written}
 use Rattle.lmn_weight.specs.declared.told.Told.{Told}
 use Rattle.lmn_weight.specs.declared.weights.Weights.{Weights}
@@ -23,15 +23,31 @@ pub record IsWeightLine (line item : List ℕ) (n : ℕ) : Type 0 where
   pub number : number_written digits ≡ Some n
   pub is : line ≡ item ++ 32 ∷ digits
 
--- the text of an integer with one link
+-- the text of an integer of 64 bits with one link
 abbrev pub IsIntegerText : List ℕ → Type 0
-IsIntegerText item = (z : ℤ) × (signed_decimal z ++ (codes "/" ++ decimal 1) ≡ item)
+IsIntegerText item = (z : ℤ) × IsIn64Bits z × (signed_decimal z ++ (codes "/" ++ decimal 1) ≡ item)
 
 -- what a line may name: all integers with one link, membranes, or a functor that is no integer with one link
 abbrev pub MayBeNamed : List ℕ → Type 0
 MayBeNamed item = (item ≡ codes "int") ⊎ ((item ≡ codes "{}") ⊎ (IsFunctorText item × ¬ (IsIntegerText item)))
 
 -- ---- what some lines tell
+
+-- the integer of a label has 64 bits
+abbrev pub IsNarrowLabel : Label → Type 0
+IsNarrowLabel (Name n) = Unit {0}
+IsNarrowLabel (Int z) = IsIn64Bits z
+
+-- its integer has 64 bits, and its arity is at most 255
+abbrev pub IsNarrow : Functor → Type 0
+IsNarrow f = IsNarrowLabel f.label × (f.arity ≤ 255)
+
+-- A functor that has a text: the list has its name, which has at most 255 bytes, or its integer has 64 bits; and its arity is at
+-- most 255.
+pub record HasText (names : List (List ℕ)) (f : Functor) : Type 0 where
+  pub held : HasLabel names f.label
+  pub short : IsShortLabel names f.label
+  pub narrow : IsNarrow f
 
 -- the functor is among these
 abbrev pub is_listed : Functor → List Functor → Bool
@@ -49,7 +65,7 @@ pub data IsTold (names : List (List ℕ)) (item : List ℕ) (n : ℕ) (old new :
       new ≡ record { functors = old.functors; values = old.values; int = Some n; membrane = old.membrane } → IsTold names item n old new
   membranes : item ≡ codes "{}" → old.membrane ≡ None →
       new ≡ record { functors = old.functors; values = old.values; int = old.int; membrane = Some n } → IsTold names item n old new
-  of_functor : (f : Functor) → functor_text names f ≡ item → HasLabel names f.label → is_integer f ≡ false → is_listed f old.functors ≡ false →
+  of_functor : (f : Functor) → functor_text names f ≡ item → HasText names f → is_integer f ≡ false → is_listed f old.functors ≡ false →
       new ≡ record { functors = old.functors ++ f ∷ []; values = old.values ++ n ∷ []; int = old.int; membrane = old.membrane } → IsTold names item n old new
 
 -- nothing is told

@@ -1,10 +1,13 @@
 //! The weight of a process, where each rule lowers it.
-ghost use Rattle.std.specs.Prelude.{◌≡◌, ◌<◌, ◌==◌, ◌-◌, ◌^◌, [], min, length, sum, map, IfOk, IfErr};
+ghost use Rattle.std.specs.Prelude.{◌≡◌, ◌<◌, ◌==◌, ◌-◌, ◌^◌, List, [], min, length, sum, map, IfErr, IfOk, IfSome};
+ghost use Rattle.lmn_base.specs.declared.functor.Functor.{Functor};
+ghost use Rattle.lmn_weight.specs.Index.{IsIndexOf};
 ghost use Rattle.std.specs.List.{list_any, list_all};
 ghost use Rattle.lmn_base.specs.Levels.{contexts_of};
 ghost use Rattle.lmn_weight.specs.Plains as plains;
 ghost use Rattle.lmn_weight.specs.Plains.{AreSmall, EachLowered, IsFirstNotLowered, IsOfSize};
 
+use crate::index::{Entry, Index, index_of};
 use crate::weights::{Weights, functor_weight};
 use lmn_base::{CtxUse, Leaf, Level, Plain, Refusal, RuleTree};
 use lmn_guards::{GuardPlan, TypeKind, TypedUse};
@@ -52,12 +55,19 @@ fn stands_for_int(kinds: &[TypedUse], bound: &[u32], name: u32) -> bool
 }
 
 /// The weight of a leaf.
-fn leaf_weight(weights: &Weights, kinds: &[TypedUse], bound: &[u32], leaf: &Leaf) -> u64
-    requires { length weights.now.functors ≡ length weights.now.values }
+fn leaf_weight(
+    weights: &Weights,
+    index: Option<&[Entry]>,
+    kinds: &[TypedUse],
+    bound: &[u32],
+    leaf: &Leaf,
+) -> u64
+    requires lists { length weights.now.functors ≡ length weights.now.values }
+    requires index { IfSome index (λ entries. IsIndexOf weights.now.functors entries.now) }
     ensures { result ≡ plains.leaf_weight weights.now kinds.now bound.now leaf.now }
 {
     match leaf {
-        Leaf::Atom { functor, .. } => functor_weight(weights, *functor),
+        Leaf::Atom { functor, .. } => functor_weight(weights, index, *functor),
         Leaf::Typed { name, .. } => {
             if stands_for_int(kinds, bound, *name) {
                 weights.int
@@ -69,28 +79,46 @@ fn leaf_weight(weights: &Weights, kinds: &[TypedUse], bound: &[u32], leaf: &Leaf
 }
 
 /// The weight of leaves, or 2^64 - 1 where it is greater.
-fn leaves_weight(weights: &Weights, kinds: &[TypedUse], bound: &[u32], leaves: &[Leaf]) -> u64
-    requires { length weights.now.functors ≡ length weights.now.values }
+fn leaves_weight(
+    weights: &Weights,
+    index: Option<&[Entry]>,
+    kinds: &[TypedUse],
+    bound: &[u32],
+    leaves: &[Leaf],
+) -> u64
+    requires lists { length weights.now.functors ≡ length weights.now.values }
+    requires index { IfSome index (λ entries. IsIndexOf weights.now.functors entries.now) }
     ensures { result ≡ min (sum (map (plains.leaf_weight weights.now kinds.now bound.now) leaves.now)) (2 ^ 64 - 1) }
 {
     let mut weight = 0u64;
     for leaf in leaves {
-        weight = weight.saturating_add(leaf_weight(weights, kinds, bound, leaf));
+        weight = weight.saturating_add(leaf_weight(weights, index, kinds, bound, leaf));
     }
     weight
 }
 
 /// The weight of a level, or 2^64 - 1 where it is greater.
-fn level_weight(weights: &Weights, kinds: &[TypedUse], bound: &[u32], level: &Level) -> u64
-    requires { length weights.now.functors ≡ length weights.now.values }
+fn level_weight(
+    weights: &Weights,
+    index: Option<&[Entry]>,
+    kinds: &[TypedUse],
+    bound: &[u32],
+    level: &Level,
+) -> u64
+    requires lists { length weights.now.functors ≡ length weights.now.values }
+    requires index { IfSome index (λ entries. IsIndexOf weights.now.functors entries.now) }
     ensures { result ≡ min (plains.level_weight weights.now kinds.now bound.now level.now) (2 ^ 64 - 1) }
 {
     let walls = (level.membranes.len() as u64).saturating_mul(weights.membrane);
-    let mut weight = leaves_weight(weights, kinds, bound, level.leaves.as_slice()).saturating_add(
-        walls,
-    );
+    let mut weight = leaves_weight(
+        weights,
+        index,
+        kinds,
+        bound,
+        level.leaves.as_slice(),
+    ).saturating_add(walls);
     for inner in level.membranes.as_slice() {
-        weight = weight.saturating_add(level_weight(weights, kinds, bound, inner));
+        weight = weight.saturating_add(level_weight(weights, index, kinds, bound, inner));
     }
     weight
 }
@@ -218,18 +246,29 @@ fn all_closed_once(body: &Level, level: &Level) -> bool
 }
 
 /// Whether a rule is lowered.
-fn is_lowered(weights: &Weights, rule: &RuleTree, plan: &GuardPlan) -> bool
+fn is_lowered(weights: &Weights, index: Option<&[Entry]>, rule: &RuleTree, plan: &GuardPlan) -> bool
     requires lists { length weights.now.functors ≡ length weights.now.values }
+    requires index { IfSome index (λ entries. IsIndexOf weights.now.functors entries.now) }
     requires head { plains.level_weight weights.now plan.now.kinds plan.now.bound rule.now.head < 2 ^ 64 }
     requires body { plains.level_weight weights.now plan.now.kinds plan.now.bound rule.now.body < 2 ^ 64 }
     ensures { result ≡ plains.is_lowered weights.now rule.now plan.now }
 {
     let kinds = plan.kinds.as_slice();
     let bound = plan.bound.as_slice();
-    level_weight(weights, kinds, bound, &rule.body)
-        < level_weight(weights, kinds, bound, &rule.head)
+    level_weight(weights, index, kinds, bound, &rule.body)
+        < level_weight(weights, index, kinds, bound, &rule.head)
         && all_stand_once(&rule.body, kinds)
         && all_closed_once(&rule.body, &rule.head)
+}
+
+/// The entries of an index, where there is one.
+fn entries_of(index: &Option<Index>) -> Option<&[Entry]>
+    ensures { (functors : List Functor) → IfSome index.now (λ index. IsIndexOf functors index.items) → IfSome result (λ entries. IsIndexOf functors entries.now) }
+{
+    match index {
+        Some(index) => Some(index.as_slice()),
+        None => None,
+    }
 }
 
 /// How many rules are asked: all of the table, those in rules too.
@@ -249,14 +288,16 @@ pub fn bound(weights: &Weights, plain: &Plain, plans: &[GuardPlan]) -> Result<u6
     ensures ok { IfOk result (λ n. EachLowered weights.now plain.now plans.now × (n ≡ plains.level_weight weights.now [] [] plain.now.top)) }
     ensures err { IfErr result (λ refusal. IsFirstNotLowered weights.now plain.now plans.now refusal) }
 {
+    let index = index_of(weights.functors.as_slice());
+    let entries = entries_of(&index);
     for k in 0..asked(plain) {
         let rule = plain.rules.at(k);
-        if !is_lowered(weights, rule, &plans[k]) {
+        if !is_lowered(weights, entries, rule, &plans[k]) {
             return Err(Refusal {
                 code: 86,
                 pos: rule.pos,
             });
         }
     }
-    Ok(level_weight(weights, &[], &[], &plain.top))
+    Ok(level_weight(weights, entries, &[], &[], &plain.top))
 }

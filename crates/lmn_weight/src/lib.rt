@@ -6,8 +6,10 @@
 
 ghost use Rattle.lmn_weight.specs.Laws.{CongruenceKeepsWeight, SettlingKeepsWeight};
 ghost use Rattle.lmn_weight.specs.Laws.{LoweredRulesLower, WeightBoundsCommits};
+ghost use Rattle.lmn_weight.specs.OneReading.{AlikeForPlains, OneTelling, OneWrongLine, ToldNotWrong, ToldOrWrong};
 
 mod bounding;
+mod index;
 mod reading;
 mod told;
 mod weights;
@@ -34,4 +36,23 @@ pub fn lowered_rules_lower()
 #[tactic(auto, using(crate::proofs::Bounds::weight_bounds))]
 pub fn weight_bounds_commits()
     ensures { WeightBoundsCommits }
+{}
+
+/// What a text tells of weights is alike by every list of names behind one list. A text that tells weights has no line that is
+/// wrong, and one line at most is the first wrong one.
+pub fn weights_are_read_once()
+    ensures telling { OneTelling }
+    ensures right { ToldNotWrong }
+    ensures line { OneWrongLine }
+{}
+
+/// Each text tells weights, or a line of it is wrong.
+#[tactic(auto, using(crate::proofs::SomeTelling::told_or_wrong))]
+pub fn weights_are_told_or_wrong()
+    ensures { ToldOrWrong }
+{}
+
+/// Weights that are alike for the names of a plain weigh it alike, and lower the same rules of it.
+pub fn plains_weigh_alike()
+    ensures { AlikeForPlains }
 {}

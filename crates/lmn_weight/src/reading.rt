@@ -3,15 +3,15 @@ ghost use Rattle.std.specs.Prelude.{ℕ, List, true, false, ◌≡◌, ◌≤◌
 ghost use Rattle.std.specs.List.{list_all};
 ghost use Rattle.std.specs.Char.{is_ascii_digit};
 ghost use Rattle.lmn_base.specs.Refusals.{IfRefused};
-ghost use Rattle.lmn_functors.specs.Reading.{AddsNames};
+ghost use Rattle.lmn_functors.specs.Reading.{AddsNames, IsIn64Bits};
 ghost use Rattle.lmn_base.specs.declared.refusal.TextFault.TheVariants.{Refused};
-ghost use Rattle.lmn_weight.specs.Lines.{is_listed, or_nothing};
+ghost use Rattle.lmn_weight.specs.Lines.{IsNarrow, is_listed, or_nothing};
 ghost use Rattle.lmn_weight.specs.Lines.{AreWeightsOf, IsFirstWrong, TakesFunctor, TakesInt, TakesItem, TakesLine, TakesMembrane};
 ghost use Rattle.lmn_weight.specs.Plains.{AreSmall};
 
 use crate::told::Told;
 use crate::weights::{Weights, is_integer, same_functor};
-use lmn_base::{Functor, Names, NoMemory, Pos, Refusal, Rows, TextFault};
+use lmn_base::{Functor, Label, Names, NoMemory, Pos, Refusal, Rows, TextFault};
 use lmn_functors::read_functor;
 use lmn_lines::{last_space, next_feed, number_written};
 use std::alloc::Global;
@@ -34,6 +34,21 @@ fn is_text(item: &[u8], word: &[u8]) -> bool
     ensures no { result ≡ false → item.now ≡ word.now → ⊥ }
 {
     item == word
+}
+
+/// An integer has 64 bits.
+fn integer_is_narrow(integer: i64)
+    ensures { IsIn64Bits integer }
+{}
+
+/// The integer of a functor has 64 bits, and its arity is at most 255.
+fn functor_is_narrow(functor: Functor)
+    ensures { IsNarrow functor }
+{
+    match functor.label {
+        Label::Name(_) => {}
+        Label::Int(integer) => integer_is_narrow(integer),
+    }
 }
 
 /// Tells the weight of a functor, unless it is an integer with one link or is told already.
@@ -87,7 +102,10 @@ fn take_item(told: &mut Told, item: &[u8], weight: u64, names: &mut Names) -> Re
         return Ok(take_membrane(told, weight));
     }
     match read_functor(item, names)? {
-        Some(functor) => take_functor(told, functor, weight),
+        Some(functor) => {
+            functor_is_narrow(functor);
+            take_functor(told, functor, weight)
+        }
         None => Ok(false),
     }
 }

@@ -1,9 +1,11 @@
 //! What each kind of atom weighs.
-ghost use Rattle.std.specs.Prelude.{◌≡◌, ◌↔◌, IsTrue, length};
+ghost use Rattle.std.specs.Prelude.{◌≡◌, ◌↔◌, IfSome, IsTrue, length};
 ghost use Rattle.lmn_congruence.specs.SolidsOfPlains as solids;
 ghost use Rattle.lmn_heap.specs.Functors as functors;
+ghost use Rattle.lmn_weight.specs.Index.{IsIndexOf};
 ghost use Rattle.lmn_weight.specs.Plains.{listed_weight, is_integer, functor_weight};
 
+use crate::index::{Entry, indexed_weight};
 use lmn_base::{CONNECTOR_NAME, Functor, Label, Rows};
 
 /// What WEIGHTS tells. What it doesn't name weighs nothing.
@@ -65,9 +67,10 @@ pub(crate) fn is_integer(functor: Functor) -> bool
     }
 }
 
-/// The weight of an atom.
-pub(crate) fn functor_weight(weights: &Weights, functor: Functor) -> u64
-    requires { length weights.now.functors ≡ length weights.now.values }
+/// The weight of an atom, by the index of the functors where there is one.
+pub(crate) fn functor_weight(weights: &Weights, index: Option<&[Entry]>, functor: Functor) -> u64
+    requires lists { length weights.now.functors ≡ length weights.now.values }
+    requires index { IfSome index (λ entries. IsIndexOf weights.now.functors entries.now) }
     ensures { result ≡ functor_weight weights.now functor }
 {
     if is_connector(functor) {
@@ -76,9 +79,10 @@ pub(crate) fn functor_weight(weights: &Weights, functor: Functor) -> u64
     if is_integer(functor) {
         return weights.int;
     }
-    listed_weight(
-        weights.functors.as_slice(),
-        weights.values.as_slice(),
-        functor,
-    )
+    let functors = weights.functors.as_slice();
+    let values = weights.values.as_slice();
+    match index {
+        Some(entries) => indexed_weight(entries, functors, values, functor),
+        None => listed_weight(functors, values, functor),
+    }
 }

@@ -1,4 +1,4 @@
-use Rattle.std.proofs.Common.{ap, ◌∙◌, arith, length, subst}
+use Rattle.std.proofs.Common.{ap, ◌∙◌, length, subst}
 use Rattle.lmn_accepted.proofs.Loadable.{rules_whole}
 use Rattle.lmn_weight.specs.Plains.{EachLowered, IsFirstNotLowered}
 use Rattle.lmn_app.proofs.BoundLemmas.{bad_ended, few_weigh, is_bound, not_lowered_ended, part_ended, written_ended}
@@ -15,9 +15,7 @@ bound-requires-clause-plans g c =
 pub bound-requires-clause-size : goal.bound-requires-clause-size
 bound-requires-clause-size g c =
     let read = c.args.accepted.now in
-    let few = c.if-number_of_items-gt-TOP_ITEMS.false in
-    let count = c.number_of_items.ensures in
-    few_weigh c.few_items_weigh.ensures.levels c.few_items_weigh.ensures.rules c.requires.accepted.0 c.args.names.now read.plain read.plans c.requires.accepted.1 (omega (arith, few, count))
+    few_weigh c.few_items_weigh.ensures.tops c.few_items_weigh.ensures.rules c.requires.accepted.0 c.args.names.now read.plain read.plans c.requires.accepted.1
 
 pub returns-in-Ok-write_bound : goal.returns-in-Ok-write_bound
 returns-in-Ok-write_bound g c = λ program a.

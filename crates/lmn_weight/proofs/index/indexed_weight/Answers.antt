@@ -1,0 +1,15 @@
+use Rattle.std.proofs.Common.{◌∙◌}
+use Rattle.lmn_weight.proofs.IndexLemmas.{found_weight, none_found, place_within}
+use Rattle.lmn_weight.proofs.index.indexed_weight.Goals as goal
+
+pub weight_at-requires-clause-place : goal.weight_at-requires-clause-place
+weight_at-requires-clause-place c =
+    place_within c.args.functors.now c.args.index.now c.args.values.now c.requires.index c.args.functor c.first_of-at.result c.first_of-at.ensures c.if-at-index.true _
+
+pub returns-then-at-index : goal.returns-then-at-index
+returns-then-at-index c =
+    c.weight_at.ensures
+    ∙ found_weight c.args.functors.now c.args.index.now c.args.values.now c.requires.index c.args.functor c.first_of-at.result c.first_of-at.ensures c.if-at-index.true c.requires.lists _
+
+pub returns : goal.returns
+returns c = none_found c.args.functors.now c.args.index.now c.args.values.now c.requires.index c.args.functor c.first_of-at.result c.first_of-at.ensures c.if-at-index.false
