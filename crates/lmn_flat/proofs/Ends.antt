@@ -9,7 +9,8 @@ use Rattle.lmn_base.proofs.Lists.{get_front, plus_nothing}
 use Rattle.lmn_base.proofs.Numbers.{below_or_from, equal_itself, equal_when, same_or_not, unequal, three_ways}
 use Rattle.lmn_flat.specs.declared.tables.FlatAtom.{FlatAtom}
 use Rattle.lmn_flat.specs.declared.tables.Port.{Port}
-use Rattle.lmn_flat.specs.Building.{all_ports_added, links_of_atoms, one_port, port_added, ports_added}
+use Rattle.lmn_flat.specs.Tables.{no_port}
+use Rattle.lmn_flat.specs.Building.{all_ports_added, links_of_atoms, port_added, ports_added}
 use Rattle.lmn_flat.proofs.Preorder.{get_behind}
 use Rattle.lmn_flat.proofs.Steps.{get_other, get_set, length_set, length_two}
 
@@ -93,7 +94,7 @@ module _ (n : ℕ) (ps : List Port) (done : ℕ → List Port) (told : Told n ps
   -- a link that has occurred once
   told_known : x < n → length (done x ++ p ∷ []) ≤ 2 → Told n (port_added ps x p) (one_more done (x, p))
   told_known l few =
-      let e : port_added ps x p ≡ slice_set ps (2 * x + 1) p = ap (λ b. if b then ps ++ p ∷ one_port ∷ [] else slice_set ps (2 * x + 1) p) (unequal (2 * x) (length ps) (λ d. omega (arith, d, l, told.even))) in
+      let e : port_added ps x p ≡ slice_set ps (2 * x + 1) p = ap (λ b. if b then ps ++ p ∷ no_port ∷ [] else slice_set ps (2 * x + 1) p) (unequal (2 * x) (length ps) (λ d. omega (arith, d, l, told.even))) in
       subst (λ qs. Told n qs (one_more done (x, p))) (sym e) (record {
         even = length_set ps (2 * x + 1) p ∙ told.even;
         later = λ y m. more_elsewhere y (λ d. omega (arith, d, l, m)) ∙ told.later y m;
@@ -105,6 +106,7 @@ module _ (n : ℕ) (ps : List Port) (done : ℕ → List Port) (told : Told n ps
       second (q ∷ []) h f = (get_other ps (2 * x + 1) p (2 * x) (λ d. omega (arith, d)) ∙ h, get_set ps (2 * x + 1) p (omega (arith, told.even, l)))
       second (q ∷ r ∷ []) h f = absurd (omega (arith, f))
       second (q ∷ r ∷ s ∷ ds) h f = absurd h
+
       at_link : (y : ℕ) → y < n → (y ≡ x) ⊎ (y ≢ x) → HasEnds (slice_set ps (2 * x + 1) p) y (one_more done (x, p) y)
       at_link y m (inl d) = subst (λ z. HasEnds (slice_set ps (2 * x + 1) p) z (one_more done (x, p) z)) (sym d) (subst (HasEnds (slice_set ps (2 * x + 1) p) x) (sym more_here) (second (done x) (told.ends x l) few))
       at_link y m (inr d) =
@@ -118,21 +120,22 @@ module _ (n : ℕ) (ps : List Port) (done : ℕ → List Port) (told : Told n ps
   told_new : x ≡ n → Told (suc n) (port_added ps x p) (one_more done (x, p))
   told_new e =
       let t : 2 * x ≡ length ps = omega (arith, e, told.even) in
-      let g : port_added ps x p ≡ ps ++ p ∷ one_port ∷ [] = ap (λ b. if b then ps ++ p ∷ one_port ∷ [] else slice_set ps (2 * x + 1) p) (ap (λ k. k == length ps) t ∙ equal_itself (length ps)) in
+      let g : port_added ps x p ≡ ps ++ p ∷ no_port ∷ [] = ap (λ b. if b then ps ++ p ∷ no_port ∷ [] else slice_set ps (2 * x + 1) p) (ap (λ k. k == length ps) t ∙ equal_itself (length ps)) in
       subst (λ qs. Told (suc n) qs (one_more done (x, p))) (sym g) (record {
-        even = length_two ps p one_port ∙ omega (arith, told.even);
+        even = length_two ps p no_port ∙ omega (arith, told.even);
         later = λ y m. more_elsewhere y (λ d. omega (arith, d, e, m)) ∙ told.later y (omega (arith, m));
         ends = λ y m. at_link t y m (same_or_not y x);
       })
     where
-      first : 2 * x ≡ length ps → slice_get (ps ++ p ∷ one_port ∷ []) (2 * x) ≡ Some p
-      first t = let z : 2 * x ≡ length ps + 0 = omega (arith, t) in ap (slice_get (ps ++ p ∷ one_port ∷ [])) z ∙ get_behind ps (p ∷ one_port ∷ []) 0
-      at_link : 2 * x ≡ length ps → (y : ℕ) → y < suc n → (y ≡ x) ⊎ (y ≢ x) → HasEnds (ps ++ p ∷ one_port ∷ []) y (one_more done (x, p) y)
+      first : 2 * x ≡ length ps → slice_get (ps ++ p ∷ no_port ∷ []) (2 * x) ≡ Some p
+      first t = let z : 2 * x ≡ length ps + 0 = omega (arith, t) in ap (slice_get (ps ++ p ∷ no_port ∷ [])) z ∙ get_behind ps (p ∷ no_port ∷ []) 0
+
+      at_link : 2 * x ≡ length ps → (y : ℕ) → y < suc n → (y ≡ x) ⊎ (y ≢ x) → HasEnds (ps ++ p ∷ no_port ∷ []) y (one_more done (x, p) y)
       at_link t y m (inl d) =
           let here : one_more done (x, p) x ≡ p ∷ [] = more_here ∙ ap (λ ds. ds ++ p ∷ []) (told.later x (omega (arith, e))) in
-          subst (λ z. HasEnds (ps ++ p ∷ one_port ∷ []) z (one_more done (x, p) z)) (sym d) (subst (HasEnds (ps ++ p ∷ one_port ∷ []) x) (sym here) (first t))
+          subst (λ z. HasEnds (ps ++ p ∷ no_port ∷ []) z (one_more done (x, p) z)) (sym d) (subst (HasEnds (ps ++ p ∷ no_port ∷ []) x) (sym here) (first t))
       at_link t y m (inr d) =
-          subst (HasEnds (ps ++ p ∷ one_port ∷ []) y) (sym (more_elsewhere y d)) (ends_alike ps (ps ++ p ∷ one_port ∷ []) y (done y) (λ k q o g. get_front ps (p ∷ one_port ∷ []) k q g) (told.ends y (omega_below y n x d e m)))
+          subst (HasEnds (ps ++ p ∷ no_port ∷ []) y) (sym (more_elsewhere y d)) (ends_alike ps (ps ++ p ∷ no_port ∷ []) y (done y) (λ k q o g. get_front ps (p ∷ no_port ∷ []) k q g) (told.ends y (omega_below y n x d e m)))
         where
           omega_below : (y n x : ℕ) → y ≢ x → x ≡ n → y < suc n → y < n
           omega_below y n x d e m = by_order (three_ways y n)
@@ -163,8 +166,10 @@ told_all (e ∷ es) n m ps done h t few =
   where
     behind : (x : ℕ) → one_more done e x ++ places x es ≡ done x ++ places x (e ∷ es)
     behind x = append_assoc (done x) (if x == e.0 then e.1 ∷ [] else []) (places x es)
+
     here : length (done e.0 ++ e.1 ∷ []) ≤ 2
     here = subst (λ ds. length ds ≤ 2) (more_here n ps done t e.0 e.1) (shorter (one_more done e e.0) (places e.0 es) (subst (λ ds. length ds ≤ 2) (sym (behind e.0)) (few e.0)))
+
     by_head : ((e.0 < n) × Numbers n (links_in es) m) ⊎ ((e.0 ≡ n) × Numbers (suc n) (links_in es) m)
         → ((k : ℕ) (qs : List Port) → Numbers k (links_in es) m → Told k qs (one_more done e) → Told m (entered_all qs es) (λ x. one_more done e x ++ places x es))
         → Told m (entered_all (port_added ps e.0 e.1) es) (λ x. done x ++ places x (e ∷ es))
@@ -232,12 +237,12 @@ port_there x a (z ∷ ys) zero i y e d =
     let s : z ≡ y = cc e in
     subst (OneOf (port_at (a + 0) i)) (sym (places_both x (entries a 0 z.links) (all_entries (suc a) ys)))
     (one_left (port_at (a + 0) i) (places x (entries a 0 z.links)) (places x (all_entries (suc a) ys))
-      (subst (λ b. OneOf (port_at b i) (places x (entries a 0 z.links))) w (subst (λ j. OneOf (port_at a j) (places x (entries a 0 z.links))) v (entry_there x a 0 z.links i (ap (λ (t : FlatAtom). slice_get t.links i) s ∙ d)))))
+    (subst (λ b. OneOf (port_at b i) (places x (entries a 0 z.links))) w (subst (λ j. OneOf (port_at a j) (places x (entries a 0 z.links))) v (entry_there x a 0 z.links i (ap (λ (t : FlatAtom). slice_get t.links i) s ∙ d)))))
 port_there x a (z ∷ ys) (suc k) i y e d =
     let w : suc a + k ≡ a + suc k = omega arith in
     subst (OneOf (port_at (a + suc k) i)) (sym (places_both x (entries a 0 z.links) (all_entries (suc a) ys)))
     (one_right (port_at (a + suc k) i) (places x (entries a 0 z.links)) (places x (all_entries (suc a) ys))
-      (subst (λ b. OneOf (port_at b i) (places x (all_entries (suc a) ys))) w (port_there x (suc a) ys k i y e d)))
+    (subst (λ b. OneOf (port_at b i) (places x (all_entries (suc a) ys))) w (port_there x (suc a) ys k i y e d)))
 
 -- where a port of a link stands
 entry_from : (x a i : ℕ) (xs : List ℕ) (q : Port) → OneOf q (places x (entries a i xs)) → (k : ℕ) × (q ≡ port_at a (i + k)) × (slice_get xs k ≡ Some x)
@@ -297,10 +302,10 @@ pub lone_all : (x a : ℕ) (ys : List FlatAtom) → Lone (places x (all_entries 
 lone_all x a [] = tt
 lone_all x a (y ∷ ys) = subst Lone (sym (places_both x (entries a 0 y.links) (all_entries (suc a) ys)))
     (lone_both (places x (entries a 0 y.links)) (places x (all_entries (suc a) ys)) (lone_entries x a 0 y.links) (lone_all x (suc a) ys) (λ p q g h e.
-      let r = ap (λ (t : Port). t.atom) (entry_from x a 0 y.links p g).1 in
-      let s = (port_from x (suc a) ys q h).is in
-      let d : p.atom ≡ q.atom = ap (λ (t : Port). t.atom) e in
-      omega (arith, r, s, d)))
+    let r = ap (λ (t : Port). t.atom) (entry_from x a 0 y.links p g).1 in
+    let s = (port_from x (suc a) ys q h).is in
+    let d : p.atom ≡ q.atom = ap (λ (t : Port). t.atom) e in
+    omega (arith, r, s, d)))
 
 -- ---- each link twice
 

@@ -22,10 +22,10 @@ Kids K (tree atoms rules inner rest) k = (K k ≡ heads (suc k) inner) × Kids K
 pub kids_alike : (K L : ℕ → List ℕ) (ts : Trees) (k : ℕ) → ((m : ℕ) → m < k + size ts → K m ≡ L m) → Kids K ts k → Kids L ts k
 kids_alike K L none k e h = tt
 kids_alike K L (tree atoms rules inner rest) k e h = (
-    sym (e k (omega arith)) ∙ h.0,
-    kids_alike K L inner (suc k) (λ m l. e m (omega (arith, l))) h.1,
-    kids_alike K L rest (suc k + size inner) (λ m l. e m (omega (arith, l))) h.2,
-  )
+  sym (e k (omega arith)) ∙ h.0,
+  kids_alike K L inner (suc k) (λ m l. e m (omega (arith, l))) h.1,
+  kids_alike K L rest (suc k + size inner) (λ m l. e m (omega (arith, l))) h.2,
+)
 
 -- such membranes are a forest
 pub forms_are : (h : Heap) (ts : Trees) (k : ℕ) → Kids (mems_in h) ts k → Forms h (forest k ts) (heads k ts)
@@ -134,9 +134,11 @@ module _ (u : Tables) (rises : Rises u.membranes) where
       by_inner : (parent_at u.membranes i ≡ k) ⊎ ((suc k ≤ parent_at u.membranes i) × (parent_at u.membranes i < suc k + size inner)) → (parent_at u.membranes i ≡ p) ⊎ ((k ≤ parent_at u.membranes i) × (parent_at u.membranes i < k + size (tree atoms rules inner rest)))
       by_inner (inl e) = inr (omega (arith, e), omega (arith, e))
       by_inner (inr r) = inr (omega (arith, r.0), omega (arith, r.1))
+
       by_rest : (parent_at u.membranes i ≡ p) ⊎ ((suc k + size inner ≤ parent_at u.membranes i) × (parent_at u.membranes i < suc k + size inner + size rest)) → (parent_at u.membranes i ≡ p) ⊎ ((k ≤ parent_at u.membranes i) × (parent_at u.membranes i < k + size (tree atoms rules inner rest)))
       by_rest (inl e) = inl e
       by_rest (inr r) = inr (omega (arith, r.0), omega (arith, r.1))
+
       by_order : (k < i) ⊎ ((k ≡ i) ⊎ (i < k)) → (i < suc k + size inner) ⊎ (suc k + size inner ≤ i)
           → (k < i → i < suc k + size inner → (parent_at u.membranes i ≡ k) ⊎ ((suc k ≤ parent_at u.membranes i) × (parent_at u.membranes i < suc k + size inner)))
           → (suc k + size inner ≤ i → (parent_at u.membranes i ≡ p) ⊎ ((suc k + size inner ≤ parent_at u.membranes i) × (parent_at u.membranes i < suc k + size inner + size rest)))
@@ -153,9 +155,9 @@ module _ (u : Tables) (rises : Rises u.membranes) where
       let ms = u.membranes in
       ap (λ xs. xs ++ picks ms p (suc k) (size inner + size rest)) (picked ms p k (ap parent_by s.0))
       ∙ ap (λ xs. k ∷ xs) (
-        picks_both ms p (suc k) (size inner) (size rest)
-        ∙ ap (λ xs. xs ++ picks ms p (suc k + size inner) (size rest)) (picks_none ms p (suc k) (size inner) (λ i b c e. by_parent i e (parents_in inner k (suc k) (a + length atoms) s.2 i b c)))
-        ∙ heads_are rest p (suc k + size inner) (a + length atoms + count inner) s.3 (omega (arith, l)))
+      picks_both ms p (suc k) (size inner) (size rest)
+      ∙ ap (λ xs. xs ++ picks ms p (suc k + size inner) (size rest)) (picks_none ms p (suc k) (size inner) (λ i b c e. by_parent i e (parents_in inner k (suc k) (a + length atoms) s.2 i b c)))
+      ∙ heads_are rest p (suc k + size inner) (a + length atoms + count inner) s.3 (omega (arith, l)))
     where
       by_parent : (i : ℕ) → parent_at u.membranes i ≡ p → (parent_at u.membranes i ≡ k) ⊎ ((suc k ≤ parent_at u.membranes i) × (parent_at u.membranes i < suc k + size inner)) → ⊥
       by_parent i e (inl d) = omega (arith, l, e, d)
@@ -171,20 +173,20 @@ module _ (u : Tables) (rises : Rises u.membranes) where
       let e : n ≡ k + (size inner + after) = omega (arith, b) in
       let d : 1 + k ≡ suc k = omega arith in (
         ap (picks ms k 1) e
-        ∙ picks_both ms k 1 k (size inner + after)
-        ∙ ap (λ xs. xs ++ picks ms k (1 + k) (size inner + after)) (picks_none ms k 1 k (λ i x y z. let r = risen i x in omega (arith, r, y, z)))
-        ∙ ap (λ c. picks ms k c (size inner + after)) d
-        ∙ picks_both ms k (suc k) (size inner) after
-        ∙ ap (λ xs. picks ms k (suc k) (size inner) ++ xs) (picks_none ms k (suc k + size inner) after (λ i x y z.
-          by_part i z (below_or_from i (k + size (tree atoms rules inner rest)))
-          (λ c. parents_in rest p (suc k + size inner) (a + length atoms + count inner) s.3 i x (omega (arith, c)))
-          (λ c. f i c (omega (arith, y, b)))))
-        ∙ plus_nothing (picks ms k (suc k) (size inner))
-        ∙ heads_are inner k (suc k) (a + length atoms) s.2 (omega arith),
+            ∙ picks_both ms k 1 k (size inner + after)
+            ∙ ap (λ xs. xs ++ picks ms k (1 + k) (size inner + after)) (picks_none ms k 1 k (λ i x y z. let r = risen i x in omega (arith, r, y, z)))
+            ∙ ap (λ c. picks ms k c (size inner + after)) d
+            ∙ picks_both ms k (suc k) (size inner) after
+            ∙ ap (λ xs. picks ms k (suc k) (size inner) ++ xs) (picks_none ms k (suc k + size inner) after (λ i x y z.
+            by_part i z (below_or_from i (k + size (tree atoms rules inner rest)))
+            (λ c. parents_in rest p (suc k + size inner) (a + length atoms + count inner) s.3 i x (omega (arith, c)))
+            (λ c. f i c (omega (arith, y, b)))))
+            ∙ plus_nothing (picks ms k (suc k) (size inner))
+            ∙ heads_are inner k (suc k) (a + length atoms) s.2 (omega arith),
         kids_are n inner k (suc k) (a + length atoms) s.2 (omega arith) (omega (arith, b)) (λ i x y.
-          outside_inner i (below_or_from i (k + size (tree atoms rules inner rest)))
-          (λ c. parents_in rest p (suc k + size inner) (a + length atoms + count inner) s.3 i x (omega (arith, c)))
-          (λ c. f i c y)),
+            outside_inner i (below_or_from i (k + size (tree atoms rules inner rest)))
+            (λ c. parents_in rest p (suc k + size inner) (a + length atoms + count inner) s.3 i x (omega (arith, c)))
+            (λ c. f i c y)),
         kids_are n rest p (suc k + size inner) (a + length atoms + count inner) s.3 (omega (arith, l)) (omega (arith, b)) (λ i x y. outside_rest i (f i (omega (arith, x)) y)),
       )
     where
@@ -201,6 +203,7 @@ module _ (u : Tables) (rises : Rises u.membranes) where
           beyond : (parent_at u.membranes i < k) ⊎ (k + size (tree atoms rules inner rest) ≤ parent_at u.membranes i) → ⊥
           beyond (inl d) = omega (arith, e, d)
           beyond (inr d) = omega (arith, e, d)
+
       outside_inner : (i : ℕ) → (i < k + size (tree atoms rules inner rest)) ⊎ (k + size (tree atoms rules inner rest) ≤ i)
           → (i < k + size (tree atoms rules inner rest) → (parent_at u.membranes i ≡ p) ⊎ ((suc k + size inner ≤ parent_at u.membranes i) × (parent_at u.membranes i < suc k + size inner + size rest)))
           → (k + size (tree atoms rules inner rest) ≤ i → (parent_at u.membranes i < k) ⊎ (k + size (tree atoms rules inner rest) ≤ parent_at u.membranes i))
@@ -215,6 +218,7 @@ module _ (u : Tables) (rises : Rises u.membranes) where
           beyond : (parent_at u.membranes i < k) ⊎ (k + size (tree atoms rules inner rest) ≤ parent_at u.membranes i) → (parent_at u.membranes i < suc k) ⊎ (suc k + size inner ≤ parent_at u.membranes i)
           beyond (inl d) = inl (omega (arith, d))
           beyond (inr d) = inr (omega (arith, d))
+
       outside_rest : (i : ℕ) → (parent_at u.membranes i < k) ⊎ (k + size (tree atoms rules inner rest) ≤ parent_at u.membranes i) → (parent_at u.membranes i < suc k + size inner) ⊎ (suc k + size inner + size rest ≤ parent_at u.membranes i)
       outside_rest i (inl d) = inl (omega (arith, d))
       outside_rest i (inr d) = inr (omega (arith, d))

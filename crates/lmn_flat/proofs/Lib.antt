@@ -5,3 +5,6 @@ pub mod Kids
 pub mod Ends
 pub mod Regions
 pub mod Whole
+pub mod Climbing
+pub mod Left
+pub mod ExampleTables

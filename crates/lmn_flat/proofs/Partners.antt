@@ -1,13 +1,13 @@
 -- Ports in the heap of the tables, and what stands at their links.
 use Rattle.std.proofs.Common.{ℕ, zero, suc, true, false, ◌≡◌, ◌+◌, ◌*◌, ◌<◌, List, [], ◌∷◌, length, refl, sym, ap, subst, ◌∙◌, arith}
-use Rattle.std.specs.Prelude.{Option, Some, None, ◌==◌, ◌&&◌, if◌then◌else◌, slice_get, slice_index_or}
+use Rattle.std.specs.Prelude.{IsSome, Option, Some, None, ◌==◌, ◌&&◌, if◌then◌else◌, slice_get, slice_index_or}
 use Rattle.std.specs.Option.{option_map}
-use Rattle.lmn_heap.specs.Heap.{arity_of, link_of, partners_of}
+use Rattle.lmn_heap.specs.Heap.{IsAtom, arity_of, link_of, partners_of}
 use Rattle.lmn_flat.specs.declared.flat.Flat.{Flat}
 use Rattle.lmn_flat.specs.declared.tables.FlatAtom.{FlatAtom}
 use Rattle.lmn_flat.specs.declared.tables.Port.{Port}
-use Rattle.lmn_flat.specs.Tables.{links_by}
-use Rattle.lmn_flat.specs.Flats.{heap_atom, heap_of, link_at, no_port, other_than, partner_by, partners_from, port_by}
+use Rattle.lmn_flat.specs.Tables.{links_by, no_port}
+use Rattle.lmn_flat.specs.Flats.{heap_atom, heap_of, link_at, other_than, partner_by, partners_from, port_by}
 
 -- what a list has at a place in it, whatever stands for what isn't there
 pub index_any : {A : Type 0} (xs : List A) (k : ℕ) (d e : A) → k < length xs → slice_index_or xs k d ≡ slice_index_or xs k e
@@ -92,3 +92,14 @@ module _ (flat : Flat) (a i : ℕ) (x : FlatAtom) (l : i < arity_of (heap_of fla
   -- the link at a port by its atom
   pub link_is : (y : ℕ) → slice_get x.links i ≡ Some y → y ≡ link_at flat a i
   link_is y d = link_by_get (slice_get flat.atoms.items a) x i y atom_is d
+
+in_table : (o : Option FlatAtom) (ports : List Port) (a : ℕ) → IsSome (option_map (heap_atom ports a) o) → (x : FlatAtom) × (o ≡ Some x)
+in_table None ports a i = absurd (cc i)
+in_table (Some x) ports a i = (x, refl)
+
+-- how many ports an atom has by the table
+pub arity_read : (flat : Flat) (a : ℕ) (x : FlatAtom) → IsAtom (heap_of flat) a → x ≡ slice_index_or flat.atoms.items a x → length x.links ≡ arity_of (heap_of flat) a
+arity_read flat a x i is =
+    let r = in_table (slice_get flat.atoms.items a) flat.ports.items a i in
+    let e : slice_get flat.atoms.items a ≡ Some x = r.1 ∙ ap Some (sym (index_got flat.atoms.items a r.0 x r.1) ∙ sym is) in
+    sym (atom_ports flat.ports.items a (slice_get flat.atoms.items a) ∙ ap (λ o. length (links_by o)) e)

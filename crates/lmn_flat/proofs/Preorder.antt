@@ -92,9 +92,9 @@ module _ (t : Tables) (fine : Fine t) (atoms : List SolidAtom) (rules : List ℕ
 
   atoms_before : (m : ℕ) (x : FlatMembrane) → slice_get t.membranes m ≡ Some x → (a : ℕ) → In a x.atoms ↔ ((y : FlatAtom) × (slice_get (t.atoms ++ more) a ≡ Some y) × (y.home ≡ m))
   atoms_before m x e a = (
-      (λ i. let r = (fine.atoms m x e a).0 i in (r.0, get_front t.atoms more a r.0 r.1, r.2)),
-      (λ r. by_part r.0 r.2 (got_more a r.0 r.1)),
-    )
+    (λ i. let r = (fine.atoms m x e a).0 i in (r.0, get_front t.atoms more a r.0 r.1, r.2)),
+    (λ r. by_part r.0 r.2 (got_more a r.0 r.1)),
+  )
     where
       by_part : (y : FlatAtom) → y.home ≡ m → (slice_get t.atoms a ≡ Some y) ⊎ ((y.home ≡ length t.membranes) × (length t.atoms ≤ a) × (a < length t.atoms + length atoms)) → In a x.atoms
       by_part y h (inl d) = (fine.atoms m x e a).1 (y, d, h)
@@ -102,17 +102,19 @@ module _ (t : Tables) (fine : Fine t) (atoms : List SolidAtom) (rules : List ℕ
 
   atoms_last : (a : ℕ) → In a (range_with_len (length t.atoms) (length atoms)) ↔ ((y : FlatAtom) × (slice_get (t.atoms ++ more) a ≡ Some y) × (y.home ≡ length t.membranes))
   atoms_last a = (
-      (λ i. made (range_from a (length t.atoms) (length atoms) i)),
-      (λ r. by_part r.0 r.2 (got_more a r.0 r.1)),
-    )
+    (λ i. made (range_from a (length t.atoms) (length atoms) i)),
+    (λ r. by_part r.0 r.2 (got_more a r.0 r.1)),
+  )
     where
       made : (length t.atoms ≤ a) × (a < length t.atoms + length atoms) → (y : FlatAtom) × (slice_get (t.atoms ++ more) a ≡ Some y) × (y.home ≡ length t.membranes)
       made r =
           let s = split_at (length t.atoms) a r.0 in
-          let g = get_there atoms s.0 (omega (arith, r.1, s.1)) in
-          (at_home (length t.membranes) g.0,
+          let g = get_there atoms s.0 (omega (arith, r.1, s.1)) in (
+            at_home (length t.membranes) g.0,
             ap (slice_get (t.atoms ++ more)) s.1 ∙ get_behind t.atoms more s.0 ∙ slice_get-map (at_home (length t.membranes)) atoms s.0 ∙ ap (option_map (at_home (length t.membranes))) g.1,
-            refl)
+            refl,
+          )
+
       by_part : (y : FlatAtom) → y.home ≡ length t.membranes → (slice_get t.atoms a ≡ Some y) ⊎ ((y.home ≡ length t.membranes) × (length t.atoms ≤ a) × (a < length t.atoms + length atoms)) → In a (range_with_len (length t.atoms) (length atoms))
       by_part y h (inl d) = let l = fine.homes a y d in absurd (omega (arith, l, h))
       by_part y h (inr d) = in_range a (length t.atoms) (length atoms) d.1 d.2
@@ -133,9 +135,11 @@ module _ (t : Tables) (fine : Fine t) (atoms : List SolidAtom) (rules : List ℕ
           by_place : (P : ℕ → FlatMembrane → Type 0) → ((m : ℕ) (x : FlatMembrane) → slice_get t.membranes m ≡ Some x → P m x) → P (length t.membranes) row → (m : ℕ) (x : FlatMembrane) → (slice_get t.membranes m ≡ Some x) ⊎ ((m ≡ length t.membranes) × (row ≡ x)) → P m x
           by_place P f last m x (inl d) = f m x d
           by_place P f last m x (inr d) = subst (P m) d.1 (subst (λ k. P k row) (sym d.0) last)
+
       homes_more : (a : ℕ) (y : FlatAtom) → (slice_get t.atoms a ≡ Some y) ⊎ ((y.home ≡ length t.membranes) × (length t.atoms ≤ a) × (a < length t.atoms + length atoms)) → y.home < length (t.membranes ++ row ∷ [])
       homes_more a y (inl d) = let l = fine.homes a y d in omega (arith, l, grown)
       homes_more a y (inr d) = omega (arith, d.0, grown)
+
       risen : (m : ℕ) (x : FlatMembrane) → (slice_get t.membranes (suc m) ≡ Some x) ⊎ ((suc m ≡ length t.membranes) × (row ≡ x)) → x.parent < suc m
       risen m x (inl d) = fine.rises m x d
       risen m x (inr d) = subst (λ (z : FlatMembrane). z.parent < suc m) d.1 (below m d.0)
@@ -240,8 +244,7 @@ stands_visited u (tree atoms rules inner rest) p t g =
     let m1 : length t1.membranes ≡ suc k = omega (arith, one) in
     let a1 : length t1.atoms ≡ length t.atoms + length atoms = omega (arith, two, three) in
     let m2 : length t2.membranes ≡ suc k + size inner = omega (arith, c, m1) in
-    let a2 : length t2.atoms ≡ length t.atoms + length atoms + count inner = omega (arith, d, a1) in
-    (
+    let a2 : length t2.atoms ≡ length t.atoms + length atoms + count inner = omega (arith, d, a1) in (
       from1.membranes k (lone_membrane p (length t.atoms) atoms rules) (get_last t.membranes (lone_membrane p (length t.atoms) atoms rules)),
       (λ i x e. from1.atoms (length t.atoms + i) (at_home k x) (get_behind t.atoms (map (at_home k) atoms) i ∙ slice_get-map (at_home k) atoms i ∙ ap (option_map (at_home k)) e)),
       stands_at u inner k m1 a1 (stands_visited u inner k t1 from2),
@@ -260,7 +263,8 @@ abbrev pub heads : ℕ → Trees → List ℕ
 heads k none = []
 heads k (tree atoms rules inner rest) = k ∷ heads (suc k + size inner) rest
 
-range_both : (s n m : ℕ) → range_with_len s (n + m) ≡ range_with_len s n ++ range_with_len (s + n) m
+-- a row of numbers in two parts
+pub range_both : (s n m : ℕ) → range_with_len s (n + m) ≡ range_with_len s n ++ range_with_len (s + n) m
 range_both s zero m = let e : 0 + m ≡ m = omega arith in let d : s ≡ s + 0 = omega arith in ap (range_with_len s) e ∙ ap (λ b. range_with_len b m) d
 range_both s (suc n) m =
     let e : suc n + m ≡ suc (n + m) = omega arith in
@@ -273,6 +277,6 @@ forest_flat k none = refl
 forest_flat k (tree atoms rules inner rest) =
     let e : suc k ≡ k + 1 = omega arith in
     ap (λ l. k ∷ l) (
-      (λ i. forest_flat (suc k) inner i ++ forest_flat (suc k + size inner) rest i)
-      ∙ sym (range_both (suc k) (size inner) (size rest))
-      ∙ ap (λ b. range_with_len b (size inner + size rest)) e)
+    (λ i. forest_flat (suc k) inner i ++ forest_flat (suc k + size inner) rest i)
+    ∙ sym (range_both (suc k) (size inner) (size rest))
+    ∙ ap (λ b. range_with_len b (size inner + size rest)) e)

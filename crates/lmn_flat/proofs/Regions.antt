@@ -4,49 +4,26 @@ use Rattle.std.specs.Prelude.{Some, flat_map, slice_get, slice_index_or}
 use Rattle.std.specs.Option.{option_map}
 use Rattle.std.proofs.lemmas.List.{append_assoc}
 use Rattle.std.specs.List.{range_with_len}
-use Rattle.lmn_base.specs.declared.rule.RuleTree.{RuleTree}
 use Rattle.lmn_base.specs.declared.solid.SolidAtom.{SolidAtom}
 use Rattle.lmn_base.specs.declared.solid.Region.{Region}
+use Rattle.lmn_base.specs.declared.solid.Region.TheViews.{roll-Region}
 use Rattle.lmn_base.specs.declared.solid.Region.TheFolds.{fold-roll-Region, ind-Region}
 use Rattle.lmn_base.specs.Solids.{atoms_of_region, atoms_step, links_of_region}
 use Rattle.lmn_base.proofs.Lists.{map_append, plus_nothing}
 use Rattle.lmn_congruence.specs.Regions as solid
-use Rattle.lmn_congruence.specs.Rules as tree
-use Rattle.lmn_congruence.specs.Translation.{numbered_region, numbered_rule, region_step, regions, solid_atom_of}
 use Rattle.lmn_heap.specs.Heap.{atoms_in, rules_in}
-use Rattle.lmn_heap.specs.Solid.{links_from, solid_atom_at, solid_atoms_at}
-use Rattle.lmn_bridge.specs.HeapRegions.{regions_at}
+use Rattle.lmn_heap.specs.Solid.{links_from, regions_of, solid_atom_at, solid_atoms_at}
 use Rattle.lmn_flat.specs.declared.flat.Flat.{Flat}
 use Rattle.lmn_flat.specs.declared.tables.FlatAtom.{FlatAtom}
 use Rattle.lmn_flat.specs.declared.tables.FlatMembrane.{FlatMembrane}
 use Rattle.lmn_flat.specs.Tables.{links_by}
-use Rattle.lmn_flat.specs.Flats.{heap_atom, heap_of, link_at, reading_of}
+use Rattle.lmn_flat.specs.Flats.{heap_atom, heap_of, link_at}
 use Rattle.lmn_flat.specs.Building.{Trees, none, in_front, trees_of, trees_step, Tables, no_tables, added, at_home, links_of_atoms, visited}
 use Rattle.lmn_flat.specs.Building as built
 use Rattle.lmn_flat.proofs.Partners.{index_got}
 use Rattle.lmn_flat.proofs.Preorder.{Stands, count, forest}
 
 -- ---- regions
-
-module _ (names : List tree.Name) (rule : ℕ → tree.Rule) where
-  -- the regions of the calculus that a tree stands for
-  abbrev pub read : Trees → solid.Regions
-  read none = solid.no_region
-  read (built.tree atoms rules inner rest) = solid.region_and (solid.region (map (solid_atom_of names) atoms) (read inner) (map rule rules)) (read rest)
-
-  abbrev Reads : Region → Type 0
-  Reads r = (rest : Trees) → read (trees_of r rest) ≡ solid.region_and (numbered_region names rule r) (read rest)
-
-  inner_read : (rs : List ((r : Region) × Reads r)) → read (in_front (map trees_of (map (λ e. e.0) rs)) none) ≡ regions (map (numbered_region names rule) (map (λ e. e.0) rs))
-  inner_read [] = refl
-  inner_read (e ∷ rs) = e.1 (in_front (map trees_of (map (λ e. e.0) rs)) none) ∙ ap (solid.region_and (numbered_region names rule e.0)) (inner_read rs)
-
-  -- a region in front of others stands for its own and theirs
-  pub reads : (r : Region) → Reads r
-  reads = ind-Region Reads (λ y z is rest.
-      let inside = subst (λ r. read (in_front (map trees_of r.membranes) none) ≡ regions (map (numbered_region names rule) r.membranes)) is (inner_read z.membranes) in
-      rw (fold-roll-Region solid.Region (region_step names rule) y, fold-roll-Region (Trees → Trees) trees_step y)
-      (λ i. solid.region_and (solid.region (map (solid_atom_of names) y.atoms) (inside i) (map rule y.rules)) (read rest)))
 
 first_region : solid.Region → solid.Regions → solid.Region
 first_region d solid.no_region = d
@@ -56,6 +33,25 @@ first_region d (solid.region_and r rs) = r
 pub same_first : (r s : solid.Region) (rs : solid.Regions) → solid.region_and r rs ≡ solid.region_and s rs → r ≡ s
 unfolding first_region
 same_first r s rs e = ap (first_region r) e
+
+-- the regions of a solid that a tree stands for
+abbrev pub rolled : Trees → List Region
+rolled none = []
+rolled (built.tree atoms rules inner rest) = roll-Region (record { atoms = atoms; membranes = rolled inner; rules = rules }) ∷ rolled rest
+
+abbrev Rolls : Region → Type 0
+Rolls r = (rest : Trees) → rolled (trees_of r rest) ≡ r ∷ rolled rest
+
+inner_rolled : (rs : List ((r : Region) × Rolls r)) → rolled (in_front (map trees_of (map (λ e. e.0) rs)) none) ≡ map (λ e. e.0) rs
+inner_rolled [] = refl
+inner_rolled (e ∷ rs) = e.1 (in_front (map trees_of (map (λ e. e.0) rs)) none) ∙ ap (λ xs. e.0 ∷ xs) (inner_rolled rs)
+
+-- a region in front of others is itself
+pub rolls : (r : Region) → Rolls r
+rolls = ind-Region Rolls (λ y z is rest.
+    let inside = subst (λ r. rolled (in_front (map trees_of r.membranes) none) ≡ r.membranes) is (inner_rolled z.membranes) in
+    rw (fold-roll-Region (Trees → Trees) trees_step y)
+    (λ i. roll-Region (record { atoms = y.atoms; membranes = inside i; rules = y.rules }) ∷ rolled rest))
 
 -- ---- atoms
 
@@ -93,8 +89,8 @@ plain_visited (built.tree atoms rules inner rest) p t =
     let t1 = added atoms rules p t in
     plain_visited rest p (visited inner k t1)
     ∙ ap (λ xs. xs ++ atoms_of_trees rest) (
-      plain_visited inner k t1
-      ∙ ap (λ xs. xs ++ atoms_of_trees inner) (map_append plain t.atoms (map (at_home k) atoms) ∙ ap (λ xs. map plain t.atoms ++ xs) (plain_at_home k atoms)))
+    plain_visited inner k t1
+    ∙ ap (λ xs. xs ++ atoms_of_trees inner) (map_append plain t.atoms (map (at_home k) atoms) ∙ ap (λ xs. map plain t.atoms ++ xs) (plain_at_home k atoms)))
     ∙ append_assoc (map plain t.atoms ++ atoms) (atoms_of_trees inner) (atoms_of_trees rest)
     ∙ append_assoc (map plain t.atoms) atoms (atoms_of_trees inner ++ atoms_of_trees rest)
 
@@ -130,20 +126,19 @@ module _ (flat : Flat) (u : Tables) (same : u.atoms ≡ flat.atoms.items) (ariti
       let here : slice_get u.atoms a ≡ Some (at_home k x) = ap (slice_get u.atoms) (sym e) ∙ f 0 x refl in
       let there = got a (at_home k x) here in
       let links : links_from (link_at flat) a 0 x.functor.arity ≡ x.links =
-          ap (links_from (link_at flat) a 0) (sym (arities a (at_home k x) here))
-          ∙ links_row (link_at flat) a 0 x.links (λ j y d. let g : 0 + j ≡ j = omega arith in ap (link_at flat a) g ∙ ap (λ o. slice_index_or (links_by o) j 0) there ∙ index_got x.links j y 0 d) in
+      ap (links_from (link_at flat) a 0) (sym (arities a (at_home k x) here))
+      ∙ links_row (link_at flat) a 0 x.links (λ j y d. let g : 0 + j ≡ j = omega arith in ap (link_at flat a) g ∙ ap (λ o. slice_index_or (links_by o) j 0) there ∙ index_got x.links j y 0 d) in
       let behind = atoms_row k (a + 1) atoms (λ i y d. let g : a + 1 + i ≡ a + suc i = omega arith in ap (slice_get u.atoms) g ∙ f (suc i) y d) in
       ap (λ o. solid_atom_at (link_at flat) a (option_map (heap_atom flat.ports.items a) o) ++ solid_atoms_at (heap_of flat) (link_at flat) (range_with_len (a + 1) (length atoms))) there
       ∙ (λ i. record { functor = x.functor; links = links i } ∷ behind i)
 
-  module _ (names : List tree.Name) (table : List RuleTree)
-    (held : (m : ℕ) (x : FlatMembrane) → slice_get u.membranes m ≡ Some x → (atoms_in (heap_of flat) m ≡ x.atoms) × (rules_in (heap_of flat) m ≡ x.rules)) where
-    -- the regions that stand in the tables are those that the heap is read as
-    pub regions_row : (ts : Trees) (p k a : ℕ) → Stands u ts p k a → regions_at (heap_of flat) (reading_of names table flat) (forest k ts) ≡ read names (numbered_rule names table) ts
-    regions_row none p k a s = refl
-    regions_row (built.tree atoms rules inner rest) p k a s =
-        let h = held k (built.lone_membrane p a atoms rules) s.0 in
-        let here : solid_atoms_at (heap_of flat) (link_at flat) (atoms_in (heap_of flat) k) ≡ atoms = ap (solid_atoms_at (heap_of flat) (link_at flat)) h.0 ∙ atoms_row k a atoms s.1 in
-        let inside = regions_row inner k (suc k) (a + length atoms) s.2 in
-        let after = regions_row rest p (suc k + built.size inner) (a + length atoms + count inner) s.3 in
-        (λ i. solid.region_and (solid.region (map (solid_atom_of names) (here i)) (inside i) (map (numbered_rule names table) (h.1 i))) (after i))
+  -- the regions that stand in the tables are those of the heap
+  pub solid_row : ((m : ℕ) (x : FlatMembrane) → slice_get u.membranes m ≡ Some x → (atoms_in (heap_of flat) m ≡ x.atoms) × (rules_in (heap_of flat) m ≡ x.rules)) →
+      (ts : Trees) (p k a : ℕ) → Stands u ts p k a → regions_of (heap_of flat) (link_at flat) (forest k ts) ≡ rolled ts
+  solid_row held none p k a s = refl
+  solid_row held (built.tree atoms rules inner rest) p k a s =
+      let h = held k (built.lone_membrane p a atoms rules) s.0 in
+      let here : solid_atoms_at (heap_of flat) (link_at flat) (atoms_in (heap_of flat) k) ≡ atoms = ap (solid_atoms_at (heap_of flat) (link_at flat)) h.0 ∙ atoms_row k a atoms s.1 in
+      let inside = solid_row held inner k (suc k) (a + length atoms) s.2 in
+      let after = solid_row held rest p (suc k + built.size inner) (a + length atoms + count inner) s.3 in
+      (λ i. roll-Region (record { atoms = here i; membranes = inside i; rules = h.1 i }) ∷ after i)

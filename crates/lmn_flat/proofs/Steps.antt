@@ -15,8 +15,8 @@ use Rattle.lmn_base.proofs.Numbers.{equal_itself, same_or_not, unequal}
 use Rattle.lmn_flat.specs.declared.tables.FlatAtom.{FlatAtom}
 use Rattle.lmn_flat.specs.declared.tables.FlatMembrane.{FlatMembrane}
 use Rattle.lmn_flat.specs.declared.tables.Port.{Port}
-use Rattle.lmn_flat.specs.Tables.{Rises}
-use Rattle.lmn_flat.specs.Building.{Trees, none, tree, in_front, trees_of, trees_step, size, Tables, added, visited, visited_waiting, waiting_size, entered, at_home, one_port, parent_by, child, children, with_inner, port_added, ports_added, all_ports_added, links_of_atoms, GoesOn}
+use Rattle.lmn_flat.specs.Tables.{Rises, no_port}
+use Rattle.lmn_flat.specs.Building.{Trees, none, tree, in_front, trees_of, trees_step, size, Tables, added, visited, visited_waiting, waiting_size, entered, at_home, parent_by, child, children, with_inner, port_added, ports_added, all_ports_added, links_of_atoms, GoesOn}
 use Rattle.lmn_flat.proofs.Partners.{got_index, index_got}
 
 -- ---- regions
@@ -83,10 +83,6 @@ entered_next n rs i r e = ap (entered n) (drop_get i rs r e)
 
 -- ---- membranes in membranes
 
--- a number more in the list of the membrane round it
-pub inner_more : (start : List FlatMembrane) (k m : ℕ) → children start (suc k) m ≡ children start k m ++ child start m k
-inner_more start k m = refl
-
 -- a list with another item, or with two more
 pub get_set : {A : Type 0} (xs : List A) (k : ℕ) (x : A) → k < length xs → slice_get (slice_set xs k x) k ≡ Some x
 get_set [] k x l = absurd (omega (arith, l))
@@ -106,10 +102,11 @@ length_set (y ∷ xs) zero x = refl
 length_set (y ∷ xs) (suc k) x = ap suc (length_set xs k x)
 
 -- an item of the list once its inner lists are filled
-filled_at : (start now : List FlatMembrane) (n m : ℕ) → ((m : ℕ) → slice_get now m ≡ option_map (with_inner (children start n m)) (slice_get start m)) → (x : FlatMembrane) → slice_get start m ≡ Some x → slice_get now m ≡ Some (with_inner (children start n m) x)
+pub filled_at : (start now : List FlatMembrane) (n m : ℕ) → ((m : ℕ) → slice_get now m ≡ option_map (with_inner (children start n m)) (slice_get start m)) → (x : FlatMembrane) → slice_get start m ≡ Some x → slice_get now m ≡ Some (with_inner (children start n m) x)
 filled_at start now n m h x e = h m ∙ ap (option_map (with_inner (children start n m))) e
 
-filled_from : (start now : List FlatMembrane) (n m : ℕ) → ((m : ℕ) → slice_get now m ≡ option_map (with_inner (children start n m)) (slice_get start m)) → (z : FlatMembrane) → slice_get now m ≡ Some z → (x : FlatMembrane) × (slice_get start m ≡ Some x) × (z ≡ with_inner (children start n m) x)
+-- and what it was before
+pub filled_from : (start now : List FlatMembrane) (n m : ℕ) → ((m : ℕ) → slice_get now m ≡ option_map (with_inner (children start n m)) (slice_get start m)) → (z : FlatMembrane) → slice_get now m ≡ Some z → (x : FlatMembrane) × (slice_get start m ≡ Some x) × (z ≡ with_inner (children start n m) x)
 filled_from start now n m h z e = by_option (slice_get start m) refl (sym e ∙ h m)
   where
     by_option : (o : Option FlatMembrane) → slice_get start m ≡ o → Some z ≡ option_map (with_inner (children start n m)) o → (x : FlatMembrane) × (slice_get start m ≡ Some x) × (z ≡ with_inner (children start n m) x)
@@ -117,7 +114,7 @@ filled_from start now n m h z e = by_option (slice_get start m) refl (sym e ∙ 
     by_option (Some x) d g = (x, d, cc g)
 
 module _ (start now : List FlatMembrane) (k : ℕ) (y : FlatMembrane) (below : suc k < length start) (rises : Rises start)
-  (filled : (m : ℕ) → slice_get now m ≡ option_map (with_inner (children start (suc k) m)) (slice_get start m)) (is : y ≡ slice_index_or now (suc k) y) where
+    (filled : (m : ℕ) → slice_get now m ≡ option_map (with_inner (children start (suc k) m)) (slice_get start m)) (is : y ≡ slice_index_or now (suc k) y) where
   there : (x : FlatMembrane) × (slice_get start (suc k) ≡ Some x)
   there = (slice_index_or start (suc k) y, got_index start (suc k) y below)
 
@@ -289,11 +286,11 @@ goes_next ports p x xs g = by_head (numbers_head g.3)
     by_head : ((x < g.0) × Numbers g.0 xs g.1) ⊎ ((x ≡ g.0) × Numbers (suc g.0) xs g.1) → GoesOn (port_added ports x p) xs
     by_head (inl h) =
         let t : (2 * x == length ports) ≡ false = unequal (2 * x) (length ports) (λ e. omega (arith, e, h.0, g.2)) in
-        (g.0, g.1, ap length (ap (λ b. if b then ports ++ p ∷ one_port ∷ [] else slice_set ports (2 * x + 1) p) t) ∙ length_set ports (2 * x + 1) p ∙ g.2, h.1)
+        (g.0, g.1, ap length (ap (λ b. if b then ports ++ p ∷ no_port ∷ [] else slice_set ports (2 * x + 1) p) t) ∙ length_set ports (2 * x + 1) p ∙ g.2, h.1)
     by_head (inr h) =
         let e : 2 * x ≡ length ports = omega (arith, h.0, g.2) in
         let t : (2 * x == length ports) ≡ true = ap (λ n. n == length ports) e ∙ equal_itself (length ports) in
-        (suc g.0, g.1, ap length (ap (λ b. if b then ports ++ p ∷ one_port ∷ [] else slice_set ports (2 * x + 1) p) t) ∙ length_two ports p one_port ∙ omega (arith, g.2), h.1)
+        (suc g.0, g.1, ap length (ap (λ b. if b then ports ++ p ∷ no_port ∷ [] else slice_set ports (2 * x + 1) p) t) ∙ length_two ports p no_port ∙ omega (arith, g.2), h.1)
 
 -- the first link that is left isn't beyond the next one
 pub goes_at : (ports : List Port) (links : List ℕ) (i : ℕ) → i < length links → GoesOn ports (drop i links) → (n : ℕ) × (length ports ≡ 2 * n) × (slice_index_or links i 0 ≤ n)

@@ -1,8 +1,10 @@
 -- The tables of a solid are its tables.
-use Rattle.std.proofs.Common.{ℕ, zero, suc, Bool, true, false, ◌≡◌, ◌≢◌, ◌+◌, ◌*◌, ◌<◌, ◌⊎◌, ◌↔◌, inl, inr, List, [], ◌∷◌, length, map, refl, sym, ap, subst, ◌∙◌, arith}
+use Rattle.std.proofs.Common.{ℕ, zero, suc, Bool, true, false, ◌≡◌, ◌≢◌, ◌+◌, ◌*◌, ◌<◌, ◌⊎◌, ◌↔◌, inl, inr, List, [], ◌∷◌, length, map, refl, sym, ap, subst, ◌∙◌, arith, ◌++◌}
 use Rattle.std.specs.Prelude.{All, Option, Some, None, IsSome, ◌==◌, ◌&&◌, if◌then◌else◌, slice_get, slice_index_or}
+use Rattle.std.specs.List.{flat_map, range_with_len}
 use Rattle.std.specs.Option.{option_and_then, option_map}
 use Rattle.std.proofs.lemmas.List.{length-replicate}
+use Rattle.std.proofs.lemmas.List.Concat.{flat_map-append}
 use Rattle.std.proofs.lemmas.Option.{slice_get-map}
 use Rattle.lmn_base.specs.declared.functor.Functor.{Functor}
 use Rattle.lmn_base.specs.declared.solid.SolidAtom.{SolidAtom}
@@ -12,31 +14,32 @@ use Rattle.lmn_base.specs.Lists.{In}
 use Rattle.lmn_base.specs.Links.{EachTwice, NumbersLinks}
 use Rattle.lmn_base.specs.Solids.{IsSolid, atoms_of_region, connector, links_of_region}
 use Rattle.lmn_base.proofs.Lists.{get_below, get_there}
-use Rattle.lmn_base.proofs.Numbers.{equal_itself, equal_when}
+use Rattle.lmn_base.proofs.Numbers.{equal_itself, equal_when, three_ways}
 use Rattle.lmn_base.proofs.Truth.{and_true}
 use Rattle.lmn_heap.specs.Heap.{HeapAtom, HeapMem, Place, top, within, waiting, IsMem, arity_of, atoms_by, atoms_in, functor_of, home_by, link_of, marks_of, mem_place_of, mems_by, mems_in, partners_of, place_of, rules_by, rules_in}
 use Rattle.lmn_heap.specs.Lists.{Distinct}
-use Rattle.lmn_heap.specs.Solid.{IsNaming}
+use Rattle.lmn_heap.specs.Solid.{IsNaming, regions_of}
+use Rattle.lmn_bridge.proofs.SolidRegions.{solids_are_regions}
 use Rattle.lmn_heap.specs.Sound as sound
 use Rattle.lmn_heap.specs.Sound.{Forest, IsTree, Listed, Paired, Shaped, Valid, bare, mem}
 use Rattle.lmn_heap.proofs.Common.{same_port}
 use Rattle.lmn_congruence.specs.Regions.{no_region}
-use Rattle.lmn_congruence.specs.Translation.{numbered_rule, region_of}
+use Rattle.lmn_congruence.specs.Translation.{numbered_region, numbered_rule, region_of, regions}
 use Rattle.lmn_bridge.specs.HeapRegions.{region_at}
 use Rattle.lmn_flat.specs.declared.flat.Flat.{Flat}
 use Rattle.lmn_flat.specs.declared.tables.FlatAtom.{FlatAtom}
 use Rattle.lmn_flat.specs.declared.tables.FlatMembrane.{FlatMembrane}
 use Rattle.lmn_flat.specs.declared.tables.Port.{Port}
-use Rattle.lmn_flat.specs.Tables.{HasPorts, link_in, links_by}
-use Rattle.lmn_flat.specs.Flats.{IsFlatOf, heap_atom, heap_membrane, heap_of, link_at, no_port, other_than, partner_by, port_by, reading_of}
+use Rattle.lmn_flat.specs.Tables.{HasPorts, link_in, links_by, no_port}
+use Rattle.lmn_flat.specs.Flats.{FlatsHaveTheirSolids, IsFlatOf, heap_atom, heap_membrane, heap_of, link_at, other_than, partner_by, port_by, reading_of}
 use Rattle.lmn_flat.specs.Building.{GoesOn, Tables, Trees, all_ports_added, children, in_front, links_of_atoms, no_tables, none, parent_by, size, trees_of, visited, with_inner}
 use Rattle.lmn_flat.specs.Building as built
 use Rattle.lmn_flat.proofs.Ends.{HasLink, Joined, joined_at}
 use Rattle.lmn_flat.proofs.Kids.{children_picks, forms_are, heads_are, in_picks, kids_alike, kids_are, parent_at, picks, picks_in, picks_once, Kids}
 use Rattle.lmn_flat.proofs.Partners.{atom_ports, got_index, index_got, joined_to}
-use Rattle.lmn_flat.proofs.Preorder.{Fine, Stands, fine_whole, forest, forest_flat, grows_same, in_range, range_distinct, split_at, stands_visited, visited_membranes}
-use Rattle.lmn_flat.proofs.Regions.{links_whole, plain, plain_whole, read, reads, regions_row, same_first}
-use Rattle.lmn_flat.proofs.Steps.{Filled, trees_apart}
+use Rattle.lmn_flat.proofs.Preorder.{Fine, Stands, count, fine_whole, forest, forest_flat, grows_same, in_range, range_both, range_distinct, split_at, stands_visited, visited_atoms, visited_membranes}
+use Rattle.lmn_flat.proofs.Regions.{links_whole, plain, plain_whole, rolled, rolls, same_first, solid_row}
+use Rattle.lmn_flat.proofs.Steps.{Filled, filled_at, filled_from, trees_apart}
 
 -- ---- what the first pass makes of a solid
 
@@ -173,7 +176,7 @@ port_not_tested p a i n = by_test ((p.atom == a) && (p.index == i)) refl
     by_test true e = let t = and_true (p.atom == a) (p.index == i) e in absurd (n (λ k. record { atom = equal_when p.atom a t.0 k; index = equal_when p.index i t.1 k }))
 
 module _ (s : Solid) (is : IsSolid s) (u : Tables) (made : u ≡ visited (trees_of s.root none) 0 no_tables) (flat : Flat) (same : u.atoms ≡ flat.atoms.items)
-  (filled : Filled u.membranes flat.membranes.items (length u.membranes)) (of_ports : flat.ports.items ≡ all_ports_added [] 0 u.atoms) where
+    (filled : Filled u.membranes flat.membranes.items (length u.membranes)) (of_ports : flat.ports.items ≡ all_ports_added [] 0 u.atoms) where
   -- a membrane of the table
   mem_at : (m : ℕ) (x : FlatMembrane) → slice_get u.membranes m ≡ Some x → (heap_of flat).mems m ≡ Some (heap_membrane m (with_inner (children u.membranes (length u.membranes) m) x))
   mem_at m x e = ap (option_map (heap_membrane m)) (filled m ∙ ap (option_map (with_inner (children u.membranes (length u.membranes) m))) e)
@@ -202,15 +205,16 @@ module _ (s : Solid) (is : IsSolid s) (u : Tables) (made : u ≡ visited (trees_
 
   atoms_listed : (m a : ℕ) → In a (atoms_in (heap_of flat) m) ↔ (place_of (heap_of flat) a ≡ Some (within m))
   atoms_listed m a = (
-      (λ i. by_option (slice_get u.membranes m) refl i),
-      (λ e. at_home (home_is (slice_get u.atoms a) flat.ports.items a m (sym (place_atom a) ∙ e))),
-    )
+    (λ i. by_option (slice_get u.membranes m) refl i),
+    (λ e. at_home (home_is (slice_get u.atoms a) flat.ports.items a m (sym (place_atom a) ∙ e))),
+  )
     where
       by_option : (o : Option FlatMembrane) → slice_get u.membranes m ≡ o → In a (atoms_in (heap_of flat) m) → place_of (heap_of flat) a ≡ Some (within m)
       by_option None e i = absurd (subst (In a) (ap atoms_by (no_mem m e)) i)
       by_option (Some x) e i =
           let y = ((fine s is u made).atoms m x e a).0 (subst (In a) (held m x e).0 i) in
           place_atom a ∙ placed_at_home (slice_get u.atoms a) flat.ports.items a y.0 y.1 ∙ ap (λ n. Some (within n)) y.2
+
       at_home : (y : FlatAtom) × (slice_get u.atoms a ≡ Some y) × (y.home ≡ m) → In a (atoms_in (heap_of flat) m)
       at_home y =
           let f = fine s is u made in
@@ -226,12 +230,13 @@ module _ (s : Solid) (is : IsSolid s) (u : Tables) (made : u ≡ visited (trees_
 
   mems_listed : (m n : ℕ) → In n (mems_in (heap_of flat) m) ↔ (mem_place_of (heap_of flat) n ≡ Some (within m))
   mems_listed m n = (
-      (λ i. by_option (slice_get u.membranes m) refl i),
-      (λ e. in_parent (parent_place (slice_get u.membranes n) n m (sym (place_mem n) ∙ e))),
-    )
+    (λ i. by_option (slice_get u.membranes m) refl i),
+    (λ e. in_parent (parent_place (slice_get u.membranes n) n m (sym (place_mem n) ∙ e))),
+  )
     where
       below : n < 1 + size (inner s is u made) → n < length u.membranes
       below l = omega (arith, l, how_many s is u made)
+
       in_table : (k : ℕ) → n ≡ suc k → n < length u.membranes → parent_at u.membranes n ≡ m → mem_place_of (heap_of flat) n ≡ Some (within m)
       in_table k e l p =
           let g = get_there u.membranes n l in
@@ -239,12 +244,14 @@ module _ (s : Solid) (is : IsSolid s) (u : Tables) (made : u ≡ visited (trees_
           ∙ ap (λ j. option_map (λ (x : HeapMem). x.place) (option_map (heap_membrane j) (slice_get u.membranes n))) e
           ∙ placed_in_parent (slice_get u.membranes n) k g.0 g.1
           ∙ ap (λ q. Some (within q)) (sym (ap parent_by g.1) ∙ p)
+
       by_option : (o : Option FlatMembrane) → slice_get u.membranes m ≡ o → In n (mems_in (heap_of flat) m) → mem_place_of (heap_of flat) n ≡ Some (within m)
       by_option None e i = absurd (subst (In n) (ap mems_by (no_mem m e)) i)
       by_option (Some x) e i =
           let r = in_picks u.membranes n m 1 (size (inner s is u made)) (subst (In n) (mems_are m (get_below u.membranes m x e)) i) in
           let k = split_at 1 n r.0 in
           in_table k.0 (omega (arith, k.1)) (below r.1) r.2
+
       in_parent : (k : ℕ) × (n ≡ suc k) × (x : FlatMembrane) × (slice_get u.membranes n ≡ Some x) × (x.parent ≡ m) → In n (mems_in (heap_of flat) m)
       in_parent r =
           let l = get_below u.membranes n r.2 r.3 in
@@ -324,6 +331,7 @@ module _ (s : Solid) (is : IsSolid s) (u : Tables) (made : u ≡ visited (trees_
     where
       partner_is : (j : Joined flat.ports.items u.atoms (link_at flat a i)) → partner_by flat.ports.items a i (link_at flat a i) ≡ (if (j.first.atom == a) && (j.first.index == i) then port_by j.second else port_by j.first)
       partner_is j = (λ k. other_than a i (index_got flat.ports.items (2 * link_at flat a i) j.first no_port j.at_first k) (index_got flat.ports.items (2 * link_at flat a i + 1) j.second no_port j.at_second k))
+
       by_end : (j : Joined flat.ports.items u.atoms (link_at flat a i)) → (port a i ≡ j.first) ⊎ (port a i ≡ j.second) → Partnered a i
       by_end j (inl e) = record {
         other = j.second;
@@ -418,6 +426,39 @@ module _ (s : Solid) (is : IsSolid s) (u : Tables) (made : u ≡ visited (trees_
       by_option m None e i = absurd (cc (subst IsSome (no_mem m e) i))
       by_option m (Some x) e i = subst (In m) (sym (forest_flat 0 (ts s is u made))) (in_range m 0 (size (ts s is u made)) (omega arith) (omega (arith, get_below u.membranes m x e, how_many s is u made)))
 
+  as_many : length flat.membranes.items ≡ length u.membranes
+  as_many = by_order (three_ways (length flat.membranes.items) (length u.membranes))
+    where
+      by_order : (length flat.membranes.items < length u.membranes) ⊎ ((length flat.membranes.items ≡ length u.membranes) ⊎ (length u.membranes < length flat.membranes.items)) → length flat.membranes.items ≡ length u.membranes
+      by_order (inr (inl e)) = e
+      by_order (inl l) =
+          let k = length flat.membranes.items in
+          let g = get_there u.membranes k l in
+          absurd (omega (arith, get_below flat.membranes.items k _ (filled_at u.membranes flat.membranes.items (length u.membranes) k filled g.0 g.1)))
+      by_order (inr (inr l)) =
+          let k = length u.membranes in
+          let g = get_there flat.membranes.items k l in
+          let r = filled_from u.membranes flat.membranes.items (length u.membranes) k filled g.0 g.1 in
+          absurd (omega (arith, get_below u.membranes k r.0 r.1))
+
+  all_membranes : size (ts s is u made) ≡ length flat.membranes.items
+  all_membranes = omega (arith, as_many, how_many s is u made)
+
+  atoms_in_row : (ts : Trees) (p k a : ℕ) → Stands u ts p k a → flat_map (atoms_in (heap_of flat)) (sound.flat (forest k ts)) ≡ range_with_len a (count ts)
+  atoms_in_row none p k a st = refl
+  atoms_in_row (built.tree atoms rules inner rest) p k a st =
+      let f = atoms_in (heap_of flat) in
+      let x = held k (built.lone_membrane p a atoms rules) st.0 in
+      let y = atoms_in_row inner k (suc k) (a + length atoms) st.2 in
+      let z = atoms_in_row rest p (suc k + size inner) (a + length atoms + count inner) st.3 in
+      ap (λ xs. f k ++ xs) (flat_map-append f (sound.flat (forest (suc k) inner)) (sound.flat (forest (suc k + size inner) rest)))
+      ∙ (λ i. x.0 i ++ (y i ++ z i))
+      ∙ ap (λ xs. range_with_len a (length atoms) ++ xs) (sym (range_both (a + length atoms) (count inner) (count rest)))
+      ∙ sym (range_both a (length atoms) (count inner + count rest))
+
+  how_many_atoms : length flat.atoms.items ≡ count (ts s is u made)
+  how_many_atoms = ap length (sym same) ∙ ap (λ (t : Tables). length t.atoms) (unfolded s is u made) ∙ visited_atoms (ts s is u made) 0 no_tables ∙ omega arith
+
   valid : Valid (heap_of flat)
   valid = record {
     sound = record { paired = paired; listed = listed; shaped = shaped };
@@ -430,6 +471,9 @@ module _ (s : Solid) (is : IsSolid s) (u : Tables) (made : u ≡ visited (trees_
     tree = (mem 0 (forest 1 (inner s is u made)) bare, is_tree);
   }
 
+  its_root : regions_of (heap_of flat) (link_at flat) (mem 0 (forest 1 (inner s is u made)) bare) ≡ s.root ∷ []
+  its_root = solid_row flat u same (arities s is u made) held (ts s is u made) 0 0 0 (stands s is u made) ∙ ap rolled (sym (trees_apart s.root none)) ∙ rolls s.root none
+
   -- the tables are those of the solid
   pub is_flat : IsFlatOf s flat
   is_flat = record {
@@ -437,9 +481,23 @@ module _ (s : Solid) (is : IsSolid s) (u : Tables) (made : u ≡ visited (trees_
     naming = naming;
     inner = forest 1 (inner s is u made);
     tree = is_tree;
+    preorder = forest_flat 0 (ts s is u made) ∙ ap (range_with_len 0) all_membranes;
+    printed = atoms_in_row (ts s is u made) 0 0 0 (stands s is u made) ∙ ap (range_with_len 0) (sym how_many_atoms);
+    root = its_root;
     region = λ names table.
-      same_first (region_at (heap_of flat) (reading_of names table flat) 0 (forest 1 (inner s is u made))) (region_of names table s) no_region (
-        regions_row flat u same (arities s is u made) names table held (ts s is u made) 0 0 0 (stands s is u made)
-        ∙ ap (read names (numbered_rule names table)) (sym (trees_apart s.root none))
-        ∙ reads names (numbered_rule names table) s.root none);
+        same_first (region_at (heap_of flat) (reading_of names table flat) 0 (forest 1 (inner s is u made))) (region_of names table s) no_region (
+        sym (solids_are_regions (heap_of flat) (reading_of names table flat) (mem 0 (forest 1 (inner s is u made)) bare))
+        ∙ ap (λ rs. regions (map (numbered_region names (numbered_rule names table)) rs)) its_root);
   }
+
+-- the heap of the tables has the solid
+pub flats_have_their_solids : FlatsHaveTheirSolids
+flats_have_their_solids s flat is f = record {
+  forest = mem 0 f.inner bare;
+  tree = f.tree;
+  name = link_at flat;
+  naming = f.naming;
+  root = f.root;
+  count = is.numbered.0;
+  numbers = is.numbered.1;
+}

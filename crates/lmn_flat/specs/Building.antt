@@ -9,6 +9,7 @@ use Rattle.lmn_base.specs.declared.solid.Region.TheFolds.{fold-Region}
 use Rattle.lmn_flat.specs.declared.tables.FlatAtom.{FlatAtom}
 use Rattle.lmn_flat.specs.declared.tables.FlatMembrane.{FlatMembrane}
 use Rattle.lmn_flat.specs.declared.tables.Port.{Port}
+use Rattle.lmn_flat.specs.Tables.{no_port}
 
 -- Regions side by side, by recursion: a first one with its atoms, its rules and what is in it, and those after it.
 pub data Trees : Type 0 where
@@ -94,13 +95,9 @@ children membranes (suc n) outer = children membranes n outer ++ child membranes
 abbrev pub with_inner : List ℕ → FlatMembrane → FlatMembrane
 with_inner inner x = record x { membranes = inner }
 
--- a port without the second one of its link
-abbrev pub one_port : Port
-one_port = record { atom = 0; index = 0 }
-
 -- A link is a new one, or it has occurred: then this is its second port.
 abbrev pub port_added : List Port → ℕ → Port → List Port
-port_added ports link p = if 2 * link == length ports then ports ++ p ∷ one_port ∷ [] else slice_set ports (2 * link + 1) p
+port_added ports link p = if 2 * link == length ports then ports ++ p ∷ no_port ∷ [] else slice_set ports (2 * link + 1) p
 
 -- the ports of an atom from one on
 abbrev pub ports_added : List Port → ℕ → ℕ → List ℕ → List Port

@@ -1,15 +1,20 @@
 -- What the tables of a solid stand for: a heap in which the number of an atom, and of a membrane, is its place in its table.
-use Rattle.std.specs.Prelude.{ℕ, zero, suc, ◌≡◌, ◌+◌, ◌*◌, ◌==◌, ◌&&◌, List, [], ◌∷◌, Option, Some, if◌then◌else◌, length, replicate, slice_get, slice_index_or}
+use Rattle.std.specs.Prelude.{ℕ, zero, suc, ◌≡◌, ◌+◌, ◌*◌, ◌==◌, ◌&&◌, List, [], ◌∷◌, Option, Some, if◌then◌else◌, flat_map, length, replicate, slice_get, slice_index_or}
+use Rattle.std.specs.List.{range_with_len}
 use Rattle.std.specs.Option.{option_map}
+use Rattle.lmn_base.specs.Lists.{In}
 use Rattle.lmn_base.specs.declared.rule.RuleTree.{RuleTree}
 use Rattle.lmn_base.specs.declared.solid.Solid.{Solid}
+use Rattle.lmn_base.specs.Solids.{IsSolid}
 use Rattle.lmn_congruence.specs.Rules.{Name}
 use Rattle.lmn_congruence.specs.Translation.{numbered_rule, region_of}
 use Rattle.lmn_bridge.specs.HeapRegions.{HeapReading, region_at}
-use Rattle.lmn_heap.specs.Heap.{Heap, HeapAtom, HeapMem, Place, top, within}
-use Rattle.lmn_heap.specs.Solid.{IsNaming}
+use Rattle.lmn_heap.specs.Heap.{Heap, HeapAtom, HeapMem, Place, top, within, atoms_in, mems_in}
+use Rattle.lmn_heap.specs.Conditions.{Above}
+use Rattle.lmn_heap.specs.Solid.{HasSolid, IsNaming, regions_of}
+use Rattle.lmn_heap.specs.Sound as sound
 use Rattle.lmn_heap.specs.Sound.{Forest, bare, mem, IsTree, Valid}
-use Rattle.lmn_flat.specs.Tables.{link_in}
+use Rattle.lmn_flat.specs.Tables.{link_in, no_port}
 use Rattle.lmn_flat.specs.declared.flat.Flat.{Flat}
 use Rattle.lmn_flat.specs.declared.tables.FlatAtom.{FlatAtom}
 use Rattle.lmn_flat.specs.declared.tables.FlatMembrane.{FlatMembrane}
@@ -22,9 +27,6 @@ port_by p = (p.atom, p.index)
 -- the port of the two of a link that isn't this one
 abbrev pub other_than : ℕ → ℕ → Port → Port → ℕ × ℕ
 other_than a i p q = if (p.atom == a) && (p.index == i) then port_by q else port_by p
-
-abbrev pub no_port : Port
-no_port = record { atom = 0; index = 0 }
 
 -- the port to which a port with this link is joined: each link has its two ports one behind the other
 abbrev pub partner_by : List Port → ℕ → ℕ → ℕ → ℕ × ℕ
@@ -65,14 +67,33 @@ link_at flat = link_in flat.atoms.items
 abbrev pub reading_of : List Name → List RuleTree → Flat → HeapReading
 reading_of names table flat = record { name = link_at flat; names = names; rule = numbered_rule names table }
 
+-- a membrane is another one or stands in it
+abbrev pub IsWithin : Heap → ℕ → ℕ → Type 0
+IsWithin h m outer = (k : ℕ) × Above h k outer m
+
+-- A membrane stands in a membrane, at some depth, and neither is it one of the images that stand directly in that one, nor
+-- does it stand in such an image.
+abbrev pub IsLeft : Heap → List ℕ → ℕ → ℕ → Type 0
+IsLeft h images home m = (c : ℕ) × In c (mems_in h home) × (¬ In c images) × IsWithin h m c
+
 -- The tables are those of a solid.
---   valid   the heap is one between commits
---   naming  the two ports of a link have its number, and no other port has
---   inner   its membranes are a tree, with this forest in the root
---   region  by each list of names and table of rules it is read as the region of the solid
+--   valid     the heap is one between commits
+--   naming    the two ports of a link have its number, and no other port has
+--   inner     its membranes are a tree, with this forest in the root
+--   preorder  membranes are numbered in preorder
+--   printed   atoms are numbered in printed order: those of a membrane before those of the next
+--   root      it has the solid, with its links numbered as they are there
+--   region    by each list of names and table of rules it is read as the region of the solid
 pub record IsFlatOf (s : Solid) (flat : Flat) : Type 0 where
   pub valid : Valid (heap_of flat)
   pub naming : IsNaming (heap_of flat) (link_at flat)
   pub inner : Forest
   pub tree : IsTree (heap_of flat) (mem 0 inner bare)
+  pub preorder : sound.flat (mem 0 inner bare) ≡ range_with_len 0 (length flat.membranes.items)
+  pub printed : flat_map (atoms_in (heap_of flat)) (sound.flat (mem 0 inner bare)) ≡ range_with_len 0 (length flat.atoms.items)
+  pub root : regions_of (heap_of flat) (link_at flat) (mem 0 inner bare) ≡ s.root ∷ []
   pub region : (names : List Name) (table : List RuleTree) → region_at (heap_of flat) (reading_of names table flat) 0 inner ≡ region_of names table s
+
+-- the heap of the tables has the solid
+abbrev pub FlatsHaveTheirSolids : Type 0
+FlatsHaveTheirSolids = (s : Solid) (flat : Flat) → IsSolid s → IsFlatOf s flat → HasSolid (heap_of flat) s

@@ -1,3 +1,4 @@
 pub mod Tables
 pub mod Building
 pub mod Flats
+pub mod Examples

@@ -13,6 +13,10 @@ links_by (Some x) = x.links
 abbrev pub link_in : List FlatAtom → ℕ → ℕ → ℕ
 link_in atoms a i = slice_index_or (links_by (slice_get atoms a)) i 0
 
+-- what stands in the place of a port that isn't there
+abbrev pub no_port : Port
+no_port = record { atom = 0; index = 0 }
+
 -- each link has two places in the table of ports
 abbrev pub HasPorts : List FlatAtom → List Port → Type 0
 HasPorts atoms ports = (a i : ℕ) → i < length (links_by (slice_get atoms a)) → 2 * link_in atoms a i + 1 < length ports

@@ -4,9 +4,16 @@
 #![tactic(auto)]
 
 mod building;
+mod examples;
 mod flat;
+mod laws;
 mod reading;
 mod tables;
 
+pub use examples::{
+    across_has_its_tables, both_outside_is_not_across, inner_is_left, inner_is_within,
+    one_port_twice_is_no_link,
+};
 pub use flat::Flat;
+pub use laws::flats_have_their_solids;
 pub use tables::Port;
