@@ -1,5 +1,6 @@
 -- The way from a membrane to those round it.
 use Rattle.std.proofs.Common.{ℕ, zero, suc, ◌≡◌, ◌<◌, ◌≤◌, ◌≢◌, ◌↔◌, length, refl, sym, ap, subst, ◌∙◌, arith}
+use Rattle.std.proofs.lemmas.Option.{slice_get-get_or}
 use Rattle.std.specs.Prelude.{Option, Some, None, IsSome, slice_get, slice_index_or}
 use Rattle.std.specs.Option.{option_and_then, option_map}
 use Rattle.lmn_base.proofs.Lists.{get_below}
@@ -8,7 +9,6 @@ use Rattle.lmn_heap.specs.Conditions.{Above}
 use Rattle.lmn_flat.specs.declared.flat.Flat.{Flat}
 use Rattle.lmn_flat.specs.declared.tables.FlatMembrane.{FlatMembrane}
 use Rattle.lmn_flat.specs.Flats.{IsWithin, heap_membrane, heap_of}
-use Rattle.lmn_flat.proofs.Partners.{got_index}
 use Rattle.lmn_flat.proofs.Preorder.{split_at}
 
 table_parent : (o : Option FlatMembrane) (m p : ℕ) → option_and_then (λ (x : HeapMem). home_by x.place) (option_map (heap_membrane m) o) ≡ Some p → (k : ℕ) × (m ≡ suc k) × (x : FlatMembrane) × (o ≡ Some x) × (x.parent ≡ p)
@@ -57,7 +57,7 @@ module _ (flat : Flat) where
 
   module _ (outer at : ℕ) (x : FlatMembrane) (past : outer < at) (below : at < length flat.membranes.items) (is : x ≡ slice_index_or flat.membranes.items at x) where
     climbs : (n : ℕ) → at ≡ suc n → parent_of (heap_of flat) at ≡ Some x.parent
-    climbs n e = subst (λ m. parent_of (heap_of flat) m ≡ Some x.parent) (sym e) (parent_read n x (ap (slice_get flat.membranes.items) (sym e) ∙ got_index flat.membranes.items at x below ∙ ap Some (sym is)))
+    climbs n e = subst (λ m. parent_of (heap_of flat) m ≡ Some x.parent) (sym e) (parent_read n x (ap (slice_get flat.membranes.items) (sym e) ∙ slice_get-get_or flat.membranes.items at x below ∙ ap Some (sym is)))
 
     -- the membrane round one that isn't the outermost
     pub round_it : parent_of (heap_of flat) at ≡ Some x.parent

@@ -1,7 +1,7 @@
 -- The table of ports has the two ports of each link.
 use Rattle.std.proofs.Common.{ℕ, zero, suc, Bool, true, false, cond, ◌≡◌, ◌≢◌, ◌+◌, ◌*◌, ◌<◌, ◌≤◌, ◌⊎◌, inl, inr, List, [], ◌∷◌, ◌++◌, length, refl, sym, ap, subst, ◌∙◌, arith}
 use Rattle.std.specs.Prelude.{Some, ◌==◌, if◌then◌else◌, count_by, slice_get, slice_set}
-use Rattle.std.proofs.lemmas.List.{append_assoc, length-append}
+use Rattle.std.proofs.lemmas.List.{append_assoc, length-append, length-set}
 use Rattle.std.proofs.lemmas.List.Recursion.{is_count_by}
 use Rattle.lmn_base.specs.Links.{EachTwice, Numbers, no_more}
 use Rattle.lmn_base.proofs.Common.{numbers_head}
@@ -12,7 +12,7 @@ use Rattle.lmn_flat.specs.declared.tables.Port.{Port}
 use Rattle.lmn_flat.specs.Tables.{no_port}
 use Rattle.lmn_flat.specs.Building.{all_ports_added, links_of_atoms, port_added, ports_added}
 use Rattle.lmn_flat.proofs.Preorder.{get_behind}
-use Rattle.lmn_flat.proofs.Steps.{get_other, get_set, length_set, length_two}
+use Rattle.lmn_flat.proofs.Steps.{get_other, get_set, length_two}
 
 -- ---- links with their ports, in order
 
@@ -96,7 +96,7 @@ module _ (n : ℕ) (ps : List Port) (done : ℕ → List Port) (told : Told n ps
   told_known l few =
       let e : port_added ps x p ≡ slice_set ps (2 * x + 1) p = ap (λ b. if b then ps ++ p ∷ no_port ∷ [] else slice_set ps (2 * x + 1) p) (unequal (2 * x) (length ps) (λ d. omega (arith, d, l, told.even))) in
       subst (λ qs. Told n qs (one_more done (x, p))) (sym e) (record {
-        even = length_set ps (2 * x + 1) p ∙ told.even;
+        even = length-set ps (2 * x + 1) p ∙ told.even;
         later = λ y m. more_elsewhere y (λ d. omega (arith, d, l, m)) ∙ told.later y m;
         ends = λ y m. at_link y m (same_or_not y x);
       })

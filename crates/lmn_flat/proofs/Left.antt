@@ -1,5 +1,6 @@
 -- Which membranes are left in a membrane.
 use Rattle.std.proofs.Common.{ℕ, zero, suc, Bool, true, false, ◌≡◌, ◌≢◌, ◌+◌, ◌<◌, ◌≤◌, ◌⊎◌, inl, inr, ◌↔◌, List, [], ◌∷◌, ◌++◌, length, refl, sym, ap, subst, ◌∙◌, arith}
+use Rattle.std.proofs.lemmas.Option.{slice_get-get_or}
 use Rattle.std.specs.Prelude.{AllPairs, Option, Some, None, IsSome, ◌==◌, ◌||◌, not, slice_get, slice_index_or}
 use Rattle.std.specs.List.{list_any}
 use Rattle.std.proofs.lemmas.List.{length-append}
@@ -18,7 +19,6 @@ use Rattle.lmn_flat.specs.declared.flat.Flat.{Flat}
 use Rattle.lmn_flat.specs.declared.tables.FlatMembrane.{FlatMembrane}
 use Rattle.lmn_flat.specs.Flats.{IsLeft, heap_of}
 use Rattle.lmn_flat.proofs.Climbing.{round_it, above_at_most, mem_in_table, parent_less}
-use Rattle.lmn_flat.proofs.Partners.{got_index}
 
 to_parent : (o : Option HeapMem) (m : ℕ) → option_map (λ (x : HeapMem). x.place) o ≡ Some (within m) → option_and_then (λ (x : HeapMem). home_by x.place) o ≡ Some m
 to_parent None m e = absurd (cc e)
@@ -172,7 +172,7 @@ module _ (P : ℕ → Type 0) (flags more : List Bool) (left : List ℕ) (n : �
       (λ i. forth m (in_snoc m n left (subst (In m) d i))),
       (λ r. back m r.1 (below_next2 m n r.0)),
     );
-    order = subst (AllPairs (λ m n. m < n)) (sym d) (all_pairs_push (λ m n. m < n) left n kept.order (λ k e l. ((kept.listed (slice_index_or left k e)).0 (in_at left k (slice_index_or left k e) (got_index left k e l))).0));
+    order = subst (AllPairs (λ m n. m < n)) (sym d) (all_pairs_push (λ m n. m < n) left n kept.order (λ k e l. ((kept.listed (slice_index_or left k e)).0 (in_at left k (slice_index_or left k e) (slice_get-get_or left k e l))).0));
   }
     where
       forth : (m : ℕ) → In m left ⊎ (m ≡ n) → (m < n + 1) × P m

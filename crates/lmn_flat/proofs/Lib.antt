@@ -8,3 +8,4 @@ pub mod Whole
 pub mod Climbing
 pub mod Left
 pub mod ExampleTables
+pub mod Known

@@ -1,5 +1,6 @@
 -- Ports in the heap of the tables, and what stands at their links.
 use Rattle.std.proofs.Common.{ℕ, zero, suc, true, false, ◌≡◌, ◌+◌, ◌*◌, ◌<◌, List, [], ◌∷◌, length, refl, sym, ap, subst, ◌∙◌, arith}
+use Rattle.std.proofs.lemmas.Option.{get_or_from_slice_get, slice_get-get_or}
 use Rattle.std.specs.Prelude.{IsSome, Option, Some, None, ◌==◌, ◌&&◌, if◌then◌else◌, slice_get, slice_index_or}
 use Rattle.std.specs.Option.{option_map}
 use Rattle.lmn_heap.specs.Heap.{IsAtom, arity_of, link_of, partners_of}
@@ -14,17 +15,6 @@ pub index_any : {A : Type 0} (xs : List A) (k : ℕ) (d e : A) → k < length xs
 index_any [] k d e l = absurd (omega (arith, l))
 index_any (x ∷ xs) zero d e l = refl
 index_any (x ∷ xs) (suc k) d e l = index_any xs k d e (omega (arith, l))
-
--- a look-up in a list tells what stands there
-pub index_got : {A : Type 0} (xs : List A) (k : ℕ) (x d : A) → slice_get xs k ≡ Some x → slice_index_or xs k d ≡ x
-index_got [] k x d e = absurd (cc e)
-index_got (y ∷ xs) zero x d e = cc e
-index_got (y ∷ xs) (suc k) x d e = index_got xs k x d e
-
-pub got_index : {A : Type 0} (xs : List A) (k : ℕ) (d : A) → k < length xs → slice_get xs k ≡ Some (slice_index_or xs k d)
-got_index [] k d l = absurd (omega (arith, l))
-got_index (x ∷ xs) zero d l = refl
-got_index (x ∷ xs) (suc k) d l = got_index xs k d (omega (arith, l))
 
 ports_counted : (ports : List Port) (a i : ℕ) (xs : List ℕ) → length (partners_from ports a i xs) ≡ length xs
 ports_counted ports a i [] = refl
@@ -74,7 +64,7 @@ linked_by : (o : Option FlatAtom) (x : FlatAtom) (i : ℕ) → o ≡ Some x → 
 linked_by o x i e l = rw e at l
 
 link_by_get : (o : Option FlatAtom) (x : FlatAtom) (i y : ℕ) → o ≡ Some x → slice_get x.links i ≡ Some y → y ≡ slice_index_or (links_by o) i 0
-link_by_get o x i y e d = rw e (sym (index_got x.links i y 0 d))
+link_by_get o x i y e d = rw e (sym (get_or_from_slice_get x.links i y 0 d))
 
 links_below : (atoms : List FlatAtom) (a i : ℕ) → i < length (links_by (slice_get atoms a)) → a < length atoms
 links_below [] a i l = absurd (omega (arith, l))
@@ -83,7 +73,7 @@ links_below (x ∷ xs) (suc a) i l = let s = links_below xs a i l in omega (arit
 
 module _ (flat : Flat) (a i : ℕ) (x : FlatAtom) (l : i < arity_of (heap_of flat) a) (is : x ≡ slice_index_or flat.atoms.items a x) where
   atom_is : slice_get flat.atoms.items a ≡ Some x
-  atom_is = got_index flat.atoms.items a x (links_below flat.atoms.items a i (has_link flat a i l)) ∙ ap Some (sym is)
+  atom_is = slice_get-get_or flat.atoms.items a x (links_below flat.atoms.items a i (has_link flat a i l)) ∙ ap Some (sym is)
 
   -- the atom of a port has so many links
   pub port_below : i < length x.links
@@ -101,5 +91,5 @@ in_table (Some x) ports a i = (x, refl)
 pub arity_read : (flat : Flat) (a : ℕ) (x : FlatAtom) → IsAtom (heap_of flat) a → x ≡ slice_index_or flat.atoms.items a x → length x.links ≡ arity_of (heap_of flat) a
 arity_read flat a x i is =
     let r = in_table (slice_get flat.atoms.items a) flat.ports.items a i in
-    let e : slice_get flat.atoms.items a ≡ Some x = r.1 ∙ ap Some (sym (index_got flat.atoms.items a r.0 x r.1) ∙ sym is) in
+    let e : slice_get flat.atoms.items a ≡ Some x = r.1 ∙ ap Some (sym (get_or_from_slice_get flat.atoms.items a r.0 x r.1) ∙ sym is) in
     sym (atom_ports flat.ports.items a (slice_get flat.atoms.items a) ∙ ap (λ o. length (links_by o)) e)

@@ -1,5 +1,6 @@
 -- Trees of regions, and the regions and atoms that they stand for.
 use Rattle.std.proofs.Common.{ℕ, suc, ◌≡◌, ◌+◌, List, [], ◌∷◌, ◌++◌, length, map, refl, sym, ap, subst, ◌∙◌, arith}
+use Rattle.std.proofs.lemmas.Option.{get_or_from_slice_get}
 use Rattle.std.specs.Prelude.{Some, flat_map, slice_get, slice_index_or}
 use Rattle.std.specs.Option.{option_map}
 use Rattle.std.proofs.lemmas.List.{append_assoc}
@@ -20,7 +21,6 @@ use Rattle.lmn_flat.specs.Tables.{links_by}
 use Rattle.lmn_flat.specs.Flats.{heap_atom, heap_of, link_at}
 use Rattle.lmn_flat.specs.Building.{Trees, none, in_front, trees_of, trees_step, Tables, no_tables, added, at_home, links_of_atoms, visited}
 use Rattle.lmn_flat.specs.Building as built
-use Rattle.lmn_flat.proofs.Partners.{index_got}
 use Rattle.lmn_flat.proofs.Preorder.{Stands, count, forest}
 
 -- ---- regions
@@ -127,7 +127,7 @@ module _ (flat : Flat) (u : Tables) (same : u.atoms ≡ flat.atoms.items) (ariti
       let there = got a (at_home k x) here in
       let links : links_from (link_at flat) a 0 x.functor.arity ≡ x.links =
       ap (links_from (link_at flat) a 0) (sym (arities a (at_home k x) here))
-      ∙ links_row (link_at flat) a 0 x.links (λ j y d. let g : 0 + j ≡ j = omega arith in ap (link_at flat a) g ∙ ap (λ o. slice_index_or (links_by o) j 0) there ∙ index_got x.links j y 0 d) in
+      ∙ links_row (link_at flat) a 0 x.links (λ j y d. let g : 0 + j ≡ j = omega arith in ap (link_at flat a) g ∙ ap (λ o. slice_index_or (links_by o) j 0) there ∙ get_or_from_slice_get x.links j y 0 d) in
       let behind = atoms_row k (a + 1) atoms (λ i y d. let g : a + 1 + i ≡ a + suc i = omega arith in ap (slice_get u.atoms) g ∙ f (suc i) y d) in
       ap (λ o. solid_atom_at (link_at flat) a (option_map (heap_atom flat.ports.items a) o) ++ solid_atoms_at (heap_of flat) (link_at flat) (range_with_len (a + 1) (length atoms))) there
       ∙ (λ i. record { functor = x.functor; links = links i } ∷ behind i)

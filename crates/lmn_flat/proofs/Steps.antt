@@ -1,9 +1,10 @@
 -- One round of each loop that builds the tables.
 use Rattle.std.proofs.Common.{ℕ, zero, suc, true, false, ◌≡◌, ◌≢◌, ◌+◌, ◌-◌, ◌*◌, ◌<◌, ◌≤◌, ◌⊎◌, inl, inr, List, [], ◌∷◌, ◌++◌, length, map, take, drop, refl, sym, ap, subst, ◌∙◌, arith}
+use Rattle.std.proofs.lemmas.Option.{get_or_from_slice_get, slice_get-get_or}
 use Rattle.std.specs.Prelude.{Option, Some, None, ◌==◌, if◌then◌else◌, slice_get, slice_index_or, slice_set}
 use Rattle.std.specs.List.{range_with_len}
 use Rattle.std.specs.Option.{option_map}
-use Rattle.std.proofs.lemmas.List.{append_assoc, length-append, length-map}
+use Rattle.std.proofs.lemmas.List.{append_assoc, length-append, length-map, length-set}
 use Rattle.lmn_base.specs.Links.{Numbers, no_more, known, new}
 use Rattle.lmn_base.specs.declared.solid.SolidAtom.{SolidAtom}
 use Rattle.lmn_base.specs.declared.solid.Region.{Region}
@@ -17,7 +18,6 @@ use Rattle.lmn_flat.specs.declared.tables.FlatMembrane.{FlatMembrane}
 use Rattle.lmn_flat.specs.declared.tables.Port.{Port}
 use Rattle.lmn_flat.specs.Tables.{Rises, no_port}
 use Rattle.lmn_flat.specs.Building.{Trees, none, tree, in_front, trees_of, trees_step, size, Tables, added, visited, visited_waiting, waiting_size, entered, at_home, parent_by, child, children, with_inner, port_added, ports_added, all_ports_added, links_of_atoms, GoesOn}
-use Rattle.lmn_flat.proofs.Partners.{got_index, index_got}
 
 -- ---- regions
 
@@ -96,11 +96,6 @@ get_other (y ∷ xs) zero x (suc j) n = refl
 get_other (y ∷ xs) (suc k) x zero n = refl
 get_other (y ∷ xs) (suc k) x (suc j) n = get_other xs k x j (λ e. n (ap suc e))
 
-pub length_set : {A : Type 0} (xs : List A) (k : ℕ) (x : A) → length (slice_set xs k x) ≡ length xs
-length_set [] k x = refl
-length_set (y ∷ xs) zero x = refl
-length_set (y ∷ xs) (suc k) x = ap suc (length_set xs k x)
-
 -- an item of the list once its inner lists are filled
 pub filled_at : (start now : List FlatMembrane) (n m : ℕ) → ((m : ℕ) → slice_get now m ≡ option_map (with_inner (children start n m)) (slice_get start m)) → (x : FlatMembrane) → slice_get start m ≡ Some x → slice_get now m ≡ Some (with_inner (children start n m) x)
 filled_at start now n m h x e = h m ∙ ap (option_map (with_inner (children start n m))) e
@@ -116,13 +111,13 @@ filled_from start now n m h z e = by_option (slice_get start m) refl (sym e ∙ 
 module _ (start now : List FlatMembrane) (k : ℕ) (y : FlatMembrane) (below : suc k < length start) (rises : Rises start)
     (filled : (m : ℕ) → slice_get now m ≡ option_map (with_inner (children start (suc k) m)) (slice_get start m)) (is : y ≡ slice_index_or now (suc k) y) where
   there : (x : FlatMembrane) × (slice_get start (suc k) ≡ Some x)
-  there = (slice_index_or start (suc k) y, got_index start (suc k) y below)
+  there = (slice_index_or start (suc k) y, slice_get-get_or start (suc k) y below)
 
   here : slice_get now (suc k) ≡ Some (with_inner (children start (suc k) (suc k)) there.0)
   here = filled_at start now (suc k) (suc k) filled there.0 there.1
 
   y_is : y ≡ with_inner (children start (suc k) (suc k)) there.0
-  y_is = is ∙ index_got now (suc k) _ y here
+  y_is = is ∙ get_or_from_slice_get now (suc k) _ y here
 
   parent_is : y.parent ≡ there.0.parent
   parent_is = ap (λ (x : FlatMembrane). x.parent) y_is
@@ -138,7 +133,7 @@ module _ (start now : List FlatMembrane) (k : ℕ) (y : FlatMembrane) (below : s
 
   module _ (z : FlatMembrane) (inner : List ℕ) (z_is : z ≡ slice_index_or now y.parent z) (more : inner ≡ z.membranes ++ suc k ∷ []) where
     found : slice_get now y.parent ≡ Some z
-    found = got_index now y.parent z parent_there ∙ ap Some (sym z_is)
+    found = slice_get-get_or now y.parent z parent_there ∙ ap Some (sym z_is)
 
     abbrev pub changed : FlatMembrane
     changed = record { parent = z.parent; atoms = z.atoms; membranes = inner; rules = z.rules }
@@ -204,7 +199,7 @@ take_next (y ∷ xs) (suc i) x e = ap (λ l. y ∷ l) (take_next xs i x e)
 pub atoms_more : (h i : ℕ) (start now : List FlatAtom) (xs : List SolidAtom) (x : SolidAtom) (links : List ℕ) → i < length xs → x ≡ slice_index_or xs i x → links ≡ x.links →
     now ≡ start ++ map (at_home h) (take i xs) → now ++ record { functor = x.functor; links = links; home = h } ∷ [] ≡ start ++ map (at_home h) (take (i + 1) xs)
 atoms_more h i start now xs x links l is e d =
-    let t = take_next xs i x (got_index xs i x l ∙ ap Some (sym is)) in
+    let t = take_next xs i x (slice_get-get_or xs i x l ∙ ap Some (sym is)) in
     let s : suc i ≡ i + 1 = omega arith in
     ap (λ ys. ys ++ record { functor = x.functor; links = links; home = h } ∷ []) d
     ∙ ap (λ ls. (start ++ map (at_home h) (take i xs)) ++ record { functor = x.functor; links = ls; home = h } ∷ []) e
@@ -286,7 +281,7 @@ goes_next ports p x xs g = by_head (numbers_head g.3)
     by_head : ((x < g.0) × Numbers g.0 xs g.1) ⊎ ((x ≡ g.0) × Numbers (suc g.0) xs g.1) → GoesOn (port_added ports x p) xs
     by_head (inl h) =
         let t : (2 * x == length ports) ≡ false = unequal (2 * x) (length ports) (λ e. omega (arith, e, h.0, g.2)) in
-        (g.0, g.1, ap length (ap (λ b. if b then ports ++ p ∷ no_port ∷ [] else slice_set ports (2 * x + 1) p) t) ∙ length_set ports (2 * x + 1) p ∙ g.2, h.1)
+        (g.0, g.1, ap length (ap (λ b. if b then ports ++ p ∷ no_port ∷ [] else slice_set ports (2 * x + 1) p) t) ∙ length-set ports (2 * x + 1) p ∙ g.2, h.1)
     by_head (inr h) =
         let e : 2 * x ≡ length ports = omega (arith, h.0, g.2) in
         let t : (2 * x == length ports) ≡ true = ap (λ n. n == length ports) e ∙ equal_itself (length ports) in
@@ -295,7 +290,7 @@ goes_next ports p x xs g = by_head (numbers_head g.3)
 -- the first link that is left isn't beyond the next one
 pub goes_at : (ports : List Port) (links : List ℕ) (i : ℕ) → i < length links → GoesOn ports (drop i links) → (n : ℕ) × (length ports ≡ 2 * n) × (slice_index_or links i 0 ≤ n)
 goes_at ports links i l g =
-    let e = drop_get i links (slice_index_or links i 0) (got_index links i 0 l) in
+    let e = drop_get i links (slice_index_or links i 0) (slice_get-get_or links i 0 l) in
     by_head (numbers_head (subst (λ xs. Numbers g.0 xs g.1) e g.3))
   where
     by_head : ((slice_index_or links i 0 < g.0) × Numbers g.0 (drop (i + 1) links) g.1) ⊎ ((slice_index_or links i 0 ≡ g.0) × Numbers (suc g.0) (drop (i + 1) links) g.1) → (n : ℕ) × (length ports ≡ 2 * n) × (slice_index_or links i 0 ≤ n)
@@ -304,7 +299,7 @@ goes_at ports links i l g =
 
 module _ (ports ports' : List Port) (links : List ℕ) (a i x : ℕ) (l : i < length links) (is : x ≡ slice_index_or links i 0) (more : ports' ≡ port_added ports x (record { atom = a; index = i })) where
   left : drop i links ≡ x ∷ drop (i + 1) links
-  left = drop_get i links x (got_index links i 0 l ∙ ap Some (sym is))
+  left = drop_get i links x (slice_get-get_or links i 0 l ∙ ap Some (sym is))
 
   -- a port more
   pub ports_next : (all : List Port) → ports_added ports a i (drop i links) ≡ all → ports_added ports' a (i + 1) (drop (i + 1) links) ≡ all
@@ -330,7 +325,7 @@ numbers_front (x ∷ xs) ys (new h) = let r = numbers_front xs ys h in (r.0, new
 
 module _ (ports ports' : List Port) (atoms : List FlatAtom) (i : ℕ) (x : FlatAtom) (links : List ℕ) (l : i < length atoms) (is : x ≡ slice_index_or atoms i x) (of_x : links ≡ x.links) where
   atoms_left : drop i atoms ≡ x ∷ drop (i + 1) atoms
-  atoms_left = drop_get i atoms x (got_index atoms i x l ∙ ap Some (sym is))
+  atoms_left = drop_get i atoms x (slice_get-get_or atoms i x l ∙ ap Some (sym is))
 
   goes_here : GoesOn ports (links_of_atoms (drop i atoms)) → GoesOn ports (links ++ links_of_atoms (drop (i + 1) atoms))
   goes_here g = subst (λ ls. GoesOn ports (ls ++ links_of_atoms (drop (i + 1) atoms))) (sym of_x) (subst (λ xs. GoesOn ports (links_of_atoms xs)) atoms_left g)

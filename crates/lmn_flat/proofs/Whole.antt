@@ -5,7 +5,7 @@ use Rattle.std.specs.List.{flat_map, range_with_len}
 use Rattle.std.specs.Option.{option_and_then, option_map}
 use Rattle.std.proofs.lemmas.List.{length-replicate}
 use Rattle.std.proofs.lemmas.List.Concat.{flat_map-append}
-use Rattle.std.proofs.lemmas.Option.{slice_get-map}
+use Rattle.std.proofs.lemmas.Option.{slice_get-map, get_or_from_slice_get, slice_get-get_or}
 use Rattle.lmn_base.specs.declared.functor.Functor.{Functor}
 use Rattle.lmn_base.specs.declared.solid.SolidAtom.{SolidAtom}
 use Rattle.lmn_base.specs.declared.solid.Solid.{Solid}
@@ -36,7 +36,7 @@ use Rattle.lmn_flat.specs.Building.{GoesOn, Tables, Trees, all_ports_added, chil
 use Rattle.lmn_flat.specs.Building as built
 use Rattle.lmn_flat.proofs.Ends.{HasLink, Joined, joined_at}
 use Rattle.lmn_flat.proofs.Kids.{children_picks, forms_are, heads_are, in_picks, kids_alike, kids_are, parent_at, picks, picks_in, picks_once, Kids}
-use Rattle.lmn_flat.proofs.Partners.{atom_ports, got_index, index_got, joined_to}
+use Rattle.lmn_flat.proofs.Partners.{atom_ports, joined_to}
 use Rattle.lmn_flat.proofs.Preorder.{Fine, Stands, count, fine_whole, forest, forest_flat, grows_same, in_range, range_both, range_distinct, split_at, stands_visited, visited_atoms, visited_membranes}
 use Rattle.lmn_flat.proofs.Regions.{links_whole, plain, plain_whole, rolled, rolls, same_first, solid_row}
 use Rattle.lmn_flat.proofs.Steps.{Filled, filled_at, filled_from, trees_apart}
@@ -76,7 +76,7 @@ module _ (s : Solid) (is : IsSolid s) (u : Tables) (made : u ≡ visited (trees_
   each_atom P all a y e =
       let d : map plain u.atoms ≡ atoms_of_region s.root = ap (λ (t : Tables). map plain t.atoms) made ∙ plain_whole s.root in
       let g : slice_get (atoms_of_region s.root) a ≡ Some (plain y) = ap (λ xs. slice_get xs a) (sym d) ∙ slice_get-map plain u.atoms a ∙ ap (option_map plain) e in
-      subst P (index_got (atoms_of_region s.root) a (plain y) (plain y) g) (all a (plain y) (get_below (atoms_of_region s.root) a (plain y) g))
+      subst P (get_or_from_slice_get (atoms_of_region s.root) a (plain y) (plain y) g) (all a (plain y) (get_below (atoms_of_region s.root) a (plain y) g))
 
   arities : (a : ℕ) (y : FlatAtom) → slice_get u.atoms a ≡ Some y → length y.links ≡ y.functor.arity
   arities = each_atom (λ x. length x.links ≡ x.functor.arity) is.arities
@@ -87,7 +87,7 @@ module _ (s : Solid) (is : IsSolid s) (u : Tables) (made : u ≡ visited (trees_
   -- a link at a port of the table
   link_there : (o : Option FlatAtom) (a i : ℕ) → slice_get u.atoms a ≡ o → i < length (links_by o) → HasLink 0 u.atoms (slice_index_or (links_by o) i 0) (record { atom = a; index = i })
   link_there None a i e l = absurd (omega (arith, l))
-  link_there (Some y) a i e l = record { place = a; is = omega arith; atom = y; there = e; link = got_index y.links i 0 l }
+  link_there (Some y) a i e l = record { place = a; is = omega arith; atom = y; there = e; link = slice_get-get_or y.links i 0 l }
 
   module _ (ports : List Port) (of_ports : ports ≡ all_ports_added [] 0 u.atoms) where
     joined_there : (x : ℕ) (q : Port) → HasLink 0 u.atoms x q → Joined ports u.atoms x
@@ -330,7 +330,7 @@ module _ (s : Solid) (is : IsSolid s) (u : Tables) (made : u ≡ visited (trees_
       by_end j (j.no_other (port a i) h)
     where
       partner_is : (j : Joined flat.ports.items u.atoms (link_at flat a i)) → partner_by flat.ports.items a i (link_at flat a i) ≡ (if (j.first.atom == a) && (j.first.index == i) then port_by j.second else port_by j.first)
-      partner_is j = (λ k. other_than a i (index_got flat.ports.items (2 * link_at flat a i) j.first no_port j.at_first k) (index_got flat.ports.items (2 * link_at flat a i + 1) j.second no_port j.at_second k))
+      partner_is j = (λ k. other_than a i (get_or_from_slice_get flat.ports.items (2 * link_at flat a i) j.first no_port j.at_first k) (get_or_from_slice_get flat.ports.items (2 * link_at flat a i + 1) j.second no_port j.at_second k))
 
       by_end : (j : Joined flat.ports.items u.atoms (link_at flat a i)) → (port a i ≡ j.first) ⊎ (port a i ≡ j.second) → Partnered a i
       by_end j (inl e) = record {
@@ -356,7 +356,7 @@ module _ (s : Solid) (is : IsSolid s) (u : Tables) (made : u ≡ visited (trees_
   link_of_has x q h =
       let e : slice_get u.atoms q.atom ≡ Some h.atom = ap (slice_get u.atoms) (h.is ∙ omega arith) ∙ h.there in (
         subst (λ n. q.index < n) (sym (table_arity q.atom ∙ ap (λ o. length (links_by o)) e)) (get_below h.atom.links q.index x h.link),
-        ap (λ ys. link_in ys q.atom q.index) (sym same) ∙ ap (λ o. slice_index_or (links_by o) q.index 0) e ∙ index_got h.atom.links q.index x 0 h.link,
+        ap (λ ys. link_in ys q.atom q.index) (sym same) ∙ ap (λ o. slice_index_or (links_by o) q.index 0) e ∙ get_or_from_slice_get h.atom.links q.index x 0 h.link,
       )
 
   port_is : (p : Port) (b j : ℕ) → ◌≡◌ {A = Option (ℕ × ℕ)} (Some (port_by p)) (Some (b, j)) → p ≡ port b j

@@ -5,10 +5,12 @@ use Rattle.std.specs.Option.{option_map}
 use Rattle.lmn_base.specs.Lists.{In}
 use Rattle.lmn_base.specs.declared.rule.RuleTree.{RuleTree}
 use Rattle.lmn_base.specs.declared.solid.Solid.{Solid}
+use Rattle.lmn_base.specs.Names.{NamesSolid}
 use Rattle.lmn_base.specs.Solids.{IsSolid}
 use Rattle.lmn_congruence.specs.Rules.{Name}
 use Rattle.lmn_congruence.specs.Translation.{numbered_rule, region_of}
 use Rattle.lmn_bridge.specs.HeapRegions.{HeapReading, region_at}
+use Rattle.lmn_bridge.specs.Premises.{IsRead}
 use Rattle.lmn_heap.specs.Heap.{Heap, HeapAtom, HeapMem, Place, top, within, atoms_in, mems_in}
 use Rattle.lmn_heap.specs.Conditions.{Above}
 use Rattle.lmn_heap.specs.Solid.{HasSolid, IsNaming, regions_of}
@@ -97,3 +99,7 @@ pub record IsFlatOf (s : Solid) (flat : Flat) : Type 0 where
 -- the heap of the tables has the solid
 abbrev pub FlatsHaveTheirSolids : Type 0
 FlatsHaveTheirSolids = (s : Solid) (flat : Flat) → IsSolid s → IsFlatOf s flat → HasSolid (heap_of flat) s
+
+-- The heap of the tables is read by each list of names that has those of the solid, so the laws of `lmn_bridge` hold of it.
+abbrev pub FlatsAreRead : Type 0
+FlatsAreRead = (names : List Name) (table : List RuleTree) (s : Solid) (flat : Flat) → IsFlatOf s flat → NamesSolid names table s → IsRead (heap_of flat) (reading_of names table flat)

@@ -15,5 +15,5 @@ pub use examples::{
     one_port_twice_is_no_link,
 };
 pub use flat::Flat;
-pub use laws::flats_have_their_solids;
+pub use laws::{flats_are_read, flats_have_their_solids};
 pub use tables::Port;

@@ -17,8 +17,8 @@ use Rattle.lmn_base.specs.declared.functor.Label.TheVariants.{Int, Name}
 use Rattle.lmn_heap.proofs.WithFunctor.{functor_is, functor_same}
 use Rattle.lmn_heap.specs.Functors.{same_functor}
 use Rattle.lmn_weight.specs.declared.index.Entry.{Entry}
-use Rattle.lmn_weight.specs.Index.{IsFound, IsIndexOf, entries_from, entry_cmp, entry_of, is_at, is_integer_label, number_of}
-use Rattle.lmn_weight.specs.Plains.{listed_weight}
+use Rattle.lmn_weight.specs.Index.{IsFound, IsIndexOf, entries_from, entry_cmp, entry_of, is_at, number_of}
+use Rattle.lmn_weight.specs.Plains.{is_integer_label, listed_weight}
 
 -- ---- the order
 

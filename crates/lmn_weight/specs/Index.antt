@@ -8,11 +8,7 @@ use Rattle.lmn_base.specs.declared.functor.Label.{Label}
 use Rattle.lmn_base.specs.declared.functor.Label.TheVariants.{Int, Name}
 use Rattle.lmn_heap.specs.Functors.{same_functor}
 use Rattle.lmn_weight.specs.declared.index.Entry.{Entry}
-
--- names before integers
-abbrev pub is_integer_label : Label → Bool
-is_integer_label (Name n) = false
-is_integer_label (Int z) = true
+use Rattle.lmn_weight.specs.Plains.{is_integer_label}
 
 -- the integer, or the number of the name
 abbrev pub number_of : Label → ℤ
@@ -28,7 +24,7 @@ abbrev pub entries_from : ℕ → List Functor → List Entry
 entries_from place [] = []
 entries_from place (f ∷ fs) = entry_of f place ∷ entries_from (suc place) fs
 
--- by the label, by the arity, and then by the place
+-- names before integers, by their numbers, then by the arity, and then by the place
 abbrev pub entry_cmp : Entry → Entry → Ordering
 entry_cmp d e =
     ordering_then (bool_cmp d.is_integer e.is_integer) (ordering_then (int_cmp d.number e.number) (ordering_then (nat_cmp d.arity e.arity) (nat_cmp d.place e.place)))

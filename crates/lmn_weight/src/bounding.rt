@@ -1,9 +1,9 @@
 //! The weight of a process, where each rule lowers it.
 ghost use Rattle.std.specs.Prelude.{◌≡◌, ◌<◌, ◌==◌, ◌-◌, ◌^◌, List, [], min, length, sum, map, IfErr, IfOk, IfSome};
-ghost use Rattle.lmn_base.specs.declared.functor.Functor.{Functor};
-ghost use Rattle.lmn_weight.specs.Index.{IsIndexOf};
 ghost use Rattle.std.specs.List.{list_any, list_all};
+ghost use Rattle.lmn_base.specs.declared.functor.Functor.{Functor};
 ghost use Rattle.lmn_base.specs.Levels.{contexts_of};
+ghost use Rattle.lmn_weight.specs.Index.{IsIndexOf};
 ghost use Rattle.lmn_weight.specs.Plains as plains;
 ghost use Rattle.lmn_weight.specs.Plains.{AreSmall, EachLowered, IsFirstNotLowered, IsOfSize};
 

@@ -14,7 +14,7 @@ const MOST: usize = 10_922;
 
 /// A functor, and its place among those of WEIGHTS. Entries are compared by the functor first.
 #[derive(Clone, Copy, Default, PartialEq, Eq, PartialOrd, Ord)]
-pub struct Entry {
+pub(crate) struct Entry {
     /// Whether the label is an integer.
     is_integer: bool,
     /// The integer, or the number of the name.
@@ -26,7 +26,7 @@ pub struct Entry {
 }
 
 /// The functors of WEIGHTS by a rising order.
-pub type Index = ArrayVec<Entry, MOST>;
+pub(crate) type Index = ArrayVec<Entry, MOST>;
 
 /// A functor at a place.
 fn entry_of(functor: Functor, place: usize) -> Entry
@@ -45,7 +45,7 @@ fn entry_of(functor: Functor, place: usize) -> Entry
 }
 
 /// The functors by a rising order, unless they are more than WEIGHTS can name.
-pub fn index_of(functors: &[Functor]) -> Option<Index>
+pub(crate) fn index_of(functors: &[Functor]) -> Option<Index>
     ensures { IfSome result (λ index. IsIndexOf functors.now index.items) }
 {
     let mut index = ArrayVec::new();
@@ -80,7 +80,7 @@ fn weight_at(functors: &[Functor], values: &[u64], place: usize, functor: Functo
 }
 
 /// The weight of a functor by the list.
-pub fn indexed_weight(
+pub(crate) fn indexed_weight(
     index: &[Entry],
     functors: &[Functor],
     values: &[u64],

@@ -1,7 +1,7 @@
 use Rattle.std.proofs.Common.{false, arith}
+use Rattle.std.proofs.lemmas.Option.{slice_get-get_or}
 use Rattle.lmn_flat.proofs.Climbing.{climb_less}
 use Rattle.lmn_flat.proofs.Left.{left_deeper, left_direct, left_not, not_among}
-use Rattle.lmn_flat.proofs.Partners.{got_index}
 use Rattle.lmn_flat.proofs.flat.Flat.is_left.Goals as goal
 
 pub returns-then-number-home : goal.returns-then-number-home
@@ -22,5 +22,5 @@ pub returns-else-parent-home : goal.returns-else-parent-home
 returns-else-parent-home c =
     let l = climb_less c.args.self.now c.args.home c.args.number c.index.result.now c.if-number-home.false c.requires.number.0 c.index.ensures in
     let d = left_deeper c.args.self.now c.requires.valid c.args.home c.args.images.now c.args.number c.index.result.now c.if-number-home.false c.requires.number.0 c.index.ensures c.if-parent-home.false in
-    let n = c.requires.before c.index.result.now.parent _ (got_index c.args.before.now c.index.result.now.parent false (omega (arith, l, c.requires.number.1))) in
+    let n = c.requires.before c.index.result.now.parent _ (slice_get-get_or c.args.before.now c.index.result.now.parent false (omega (arith, l, c.requires.number.1))) in
     ((λ t. d.1 (n.0 t)), (λ h. n.1 (d.0 h)))
