@@ -76,7 +76,3 @@ module _ (laws : AcceptedTexts) (weights_bound : WeightsBound) (program weights 
   pub not_lowered_ended : (by : Weights) → AreWeightsOf later weights by → (r : Refusal) (x : Option (List ℕ)) (count : Faults) → IsFirstNotLowered by plain plans r
       → EndsBound program weights (SecondRefused Bound r) x x count count
   not_lowered_ended by are r x count wrong = (not_lowered both by are wrong, inr (inr (ap (λ (q : Refusal). q.code) wrong.refused)), refl, no_put count)
-
--- memory was wanting
-pub bound_memory : (program weights : List ℕ) (x : Option (List ℕ)) (count : Faults) → EndsBound program weights NoMemory x x count count
-bound_memory program weights x count = (refl, no_put count)

@@ -17,3 +17,4 @@ mod OneListing
 mod SmallTexts
 mod SmallBounds
 mod SmallRuns
+mod SmallSessions

@@ -48,10 +48,10 @@ use Rattle.lmn_accepted.proofs.FirstNames.{first_are_names}
 use Rattle.lmn_app.proofs.SmallTexts.{reads, small_text_is_accepted}
 
 -- the solids of its trace
-abbrev first : Region
+abbrev pub first : Region
 first = changing (label_a ∷ [])
 
-abbrev last : Region
+abbrev pub last : Region
 last = changing (label_b ∷ [])
 
 -- ---- its solid
@@ -70,7 +70,8 @@ its_rules =
 small_top : top_of small_names small_plain ≡ as_level first
 small_top = rolled (numbered_rule small_names (small_rule ∷ [])) _ ∙ ap (λ rs. level (atom_leaf label_a [] ∷ []) no_level [] [] (rule_and (slice_index_or rs 0 no_such_rule) no_rule)) its_rules
 
-small_solid : SolidOf (top_of small_names small_plain) first
+-- it is that of its plain
+pub small_solid : SolidOf (top_of small_names small_plain) first
 small_solid = subst (λ l. SolidOf l first) (sym small_top) (own_solid first (λ x. inl refl))
 
 -- each text of these bytes that is accepted has this top
@@ -84,7 +85,8 @@ same_top names plain plans a =
 
 -- ---- its run
 
-small_named : IsNames small_names
+-- its names are names
+pub small_named : IsNames small_names
 small_named = (plains_are_named small_text first_names small_names small_plain first_are_names small_text_is_accepted.named reads).0
 
 small_settles : Settles (plain_process small_names small_plain) (region_process first)
@@ -159,12 +161,13 @@ small_text_runs printed alloc budget room = (small_run room (both_lines printed 
 -- ---- its trace
 
 -- a trace is one under more commits and items
-more_allowed : {chooser : Chooser} {budget more size larger : ℕ} {S last : Region} {before : List Region} → budget ≤ more → size ≤ larger
+pub more_allowed : {chooser : Chooser} {budget more size larger : ℕ} {S last : Region} {before : List Region} → budget ≤ more → size ≤ larger
     → Trace chooser budget size S before last → Trace chooser more larger S before last
 more_allowed b s loaded = loaded
 more_allowed b s (turned t l turn few) = turned (more_allowed b s t) (omega (arith, b, l)) turn (omega (arith, s, few))
 
-nothing_left : {chooser : Chooser} {budget size n : ℕ} {S : Region} → Ends chooser budget size n S irreducible → ¬ (HasEmbedding S)
+-- nothing embeds where it ends so
+pub nothing_left : {chooser : Chooser} {budget size n : ℕ} {S : Region} → Ends chooser budget size n S irreducible → ¬ (HasEmbedding S)
 nothing_left (nothing_embeds h) = h
 
 small_trace : {trace : Bool} {lines : List (List ℕ)} {budget size : ℕ} (chooser : Chooser) → 1 ≤ budget → 2 ≤ size

@@ -5,6 +5,7 @@ pub mod NameExamples
 pub mod Outcomes
 pub mod Pairs
 pub mod Bounds
+pub mod DebugExamples
 pub mod Debugs
 pub mod Requests
 pub mod Runnings

@@ -10,6 +10,7 @@ mod ending;
 pub mod laws;
 mod pairing;
 mod running;
+pub mod sessions;
 mod task;
 mod top;
 

@@ -1,5 +1,5 @@
 -- Functors and the texts that name them.
-use Rattle.std.proofs.Common.{ℕ, ℤ, pos, negsuc, ◌≡◌, ◌≢◌, ◌<◌, ◌≤◌, ◌^◌, ◌&&◌, ◌⊎◌, inl, inr, Bool, true, false, List, [], ◌∷◌, ◌++◌, AllPairs, length, get_or, refl, sym, ap, subst, ◌∙◌, arith, if◌then◌else◌}
+use Rattle.std.proofs.Common.{ℕ, zero, suc, ℤ, pos, negsuc, ◌≡◌, ◌≢◌, ◌<◌, ◌≤◌, ◌^◌, ◌&&◌, ◌⊎◌, inl, inr, Bool, true, false, List, [], ◌∷◌, ◌++◌, AllPairs, length, get_or, refl, sym, ap, subst, ◌∙◌, arith, if◌then◌else◌}
 use Rattle.std.specs.Prelude.{◌==◌}
 use Rattle.std.specs.Char.{is_ascii_lowercase}
 use Rattle.std.specs.Fmt.{decimal, signed_decimal}
@@ -103,6 +103,12 @@ name_no_integer name z h e =
     apart c d e (inr q) (inr (l, m)) = absurd (omega (arith, e, q, m))
 
 -- ---- labels and functors
+
+-- what a list has at a place hangs on no default
+pub any_default : {X : Type 0} (xs : List X) (i : ℕ) (d e : X) → i < length xs → get_or xs i d ≡ get_or xs i e
+any_default [] i d e l = absurd (omega (arith, l))
+any_default (x ∷ xs) zero d e l = refl
+any_default (x ∷ xs) (suc i) d e l = any_default xs i d e (omega (arith, l))
 
 -- a name of a list without repeats has one number
 one_number : (names : List (List ℕ)) → AllPairs (λ m n. m ≢ n) names → (m n : ℕ) → m < length names → n < length names → get_or names m [] ≡ get_or names n [] → m ≡ n

@@ -16,8 +16,9 @@ use Rattle.lmn_base.specs.declared.functor.Label.{Label}
 use Rattle.lmn_base.specs.declared.functor.Label.TheVariants.{Int, Name}
 use Rattle.lmn_heap.proofs.WithFunctor.{functor_is, functor_same}
 use Rattle.lmn_heap.specs.Functors.{same_functor}
+use Rattle.lmn_weight.proofs.FunctorTexts.{any_default}
 use Rattle.lmn_weight.specs.declared.index.Entry.{Entry}
-use Rattle.lmn_weight.specs.Index.{IsFound, IsIndexOf, entries_from, entry_cmp, entry_of, is_at, number_of}
+use Rattle.lmn_weight.specs.Index.{IsFirstPlace, IsIndexOf, entries_from, entry_cmp, entry_of, is_at, label_number}
 use Rattle.lmn_weight.specs.Plains.{is_integer_label, listed_weight}
 
 -- ---- the order
@@ -34,13 +35,13 @@ then_twice Greater b c = refl
 
 -- functors by their labels and then by their arities
 abbrev label_cmp : Label → Label → Ordering
-label_cmp k l = ordering_then (bool_cmp (is_integer_label k) (is_integer_label l)) (int_cmp (number_of k) (number_of l))
+label_cmp k l = ordering_then (bool_cmp (is_integer_label k) (is_integer_label l)) (int_cmp (label_number k) (label_number l))
 
 abbrev functor_cmp : Functor → Functor → Ordering
 functor_cmp f g = ordering_then (label_cmp f.label g.label) (nat_cmp f.arity g.arity)
 
 functors_total : IsTotalOrder functor_cmp
-functors_total = then_total (then_total (on_total (λ f. is_integer_label f.label) bool_cmp_total) (on_total (λ f. number_of f.label) int_cmp_total)) (on_total (λ f. f.arity) nat_cmp_total)
+functors_total = then_total (then_total (on_total (λ f. is_integer_label f.label) bool_cmp_total) (on_total (λ f. label_number f.label) int_cmp_total)) (on_total (λ f. f.arity) nat_cmp_total)
 
 -- entries are ordered
 pub entries_total : IsTotalOrder entry_cmp
@@ -50,7 +51,7 @@ entries_total = then_total (on_total (λ e. e.is_integer) bool_cmp_total) (then_
 entries_compared : (f g : Functor) (k m : ℕ) → entry_cmp (entry_of f k) (entry_of g m) ≡ ordering_then (functor_cmp f g) (nat_cmp k m)
 entries_compared f g k m =
     let a = bool_cmp (is_integer_label f.label) (is_integer_label g.label) in
-    let b = int_cmp (number_of f.label) (number_of g.label) in
+    let b = int_cmp (label_number f.label) (label_number g.label) in
     let c = nat_cmp f.arity g.arity in
     let d = nat_cmp k m in
     then_twice a b (ordering_then c d) ∙ then_twice (ordering_then a b) c d
@@ -58,7 +59,7 @@ entries_compared f g k m =
 one_integer : (y z : ℤ) → int_cmp y z ≡ Equal → y ≡ z
 one_integer y z h = (Decides-int_eq y z).0 (ap is_eq h)
 
-one_label : (k l : Label) → bool_cmp (is_integer_label k) (is_integer_label l) ≡ Equal → int_cmp (number_of k) (number_of l) ≡ Equal → k ≡ l
+one_label : (k l : Label) → bool_cmp (is_integer_label k) (is_integer_label l) ≡ Equal → int_cmp (label_number k) (label_number l) ≡ Equal → k ≡ l
 one_label (Name m) (Name n) e h = let same : pos m ≡ pos n = one_integer (pos m) (pos n) h in ap Name (let r : m ≡ n = cc in r)
 one_label (Name m) (Int z) e h = absurd (cc)
 one_label (Int y) (Name n) e h = absurd (cc)
@@ -67,7 +68,7 @@ one_label (Int y) (Int z) e h = ap Int (one_integer y z h)
 one_functor : (f g : Functor) → functor_cmp f g ≡ Equal → f ≡ g
 one_functor f g e =
     let parts = then_equal (label_cmp f.label g.label) (nat_cmp f.arity g.arity) e in
-    let label = then_equal (bool_cmp (is_integer_label f.label) (is_integer_label g.label)) (int_cmp (number_of f.label) (number_of g.label)) parts.0 in
+    let label = then_equal (bool_cmp (is_integer_label f.label) (is_integer_label g.label)) (int_cmp (label_number f.label) (label_number g.label)) parts.0 in
     let labels = one_label f.label g.label label.0 label.1 in
     let arities = exact_unsigned f.arity g.arity parts.1 in
     λ i. record { label = labels i; arity = arities i }
@@ -144,17 +145,12 @@ entries_size : (fs : List Functor) (k : ℕ) → length (entries_from k fs) ≡ 
 entries_size [] k = refl
 entries_size (f ∷ fs) k = let r = entries_size fs (suc k) in omega (arith, r)
 
-same_default : (es : List Entry) (i : ℕ) (d e : Entry) → i < length es → get_or es i d ≡ get_or es i e
-same_default [] i d e l = absurd (omega (arith, l))
-same_default (x ∷ xs) zero d e l = refl
-same_default (x ∷ xs) (suc i) d e l = same_default xs i d e (omega (arith, l))
-
 module _ (fs : List Functor) (es : List Entry) (index : IsIndexOf fs es) (d : Functor) where
   -- each entry is of a functor at its place
   entry_is : (i : ℕ) (e : Entry) → i < length es → (m : ℕ) × (m < length fs) × (get_or es i e ≡ entry_of (get_or fs m d) m)
   entry_is i e l =
       let x = get_or es i e in
-      let there = Contains-permutation es (entries_from 0 fs) x (IsPermutation-sym (entries_from 0 fs) es index.of) (i, l, same_default es i x e l) in
+      let there = Contains-permutation es (entries_from 0 fs) x (IsPermutation-sym (entries_from 0 fs) es index.of) (i, l, any_default es i x e l) in
       let few : there.0 < length fs = (let n = there.1 in let s = entries_size fs 0 in omega (arith, n, s)) in
       (there.0, few, sym there.2 ∙ entry_there fs 0 there.0 d x few ∙ ap (entry_of (get_or fs there.0 d)) (let s : 0 + there.0 ≡ there.0 = omega arith in s))
 
@@ -214,7 +210,7 @@ listed_none (g ∷ gs) (v ∷ vs) f none = by (same_functor g f) refl (listed_no
     by true t rest = absurd (none 0 (omega arith) t)
     by false t rest = rest
 
-module _ (fs : List Functor) (es : List Entry) (vs : List ℕ) (index : IsIndexOf fs es) (f : Functor) (at : ℕ) (p : IsFound es f at) where
+module _ (fs : List Functor) (es : List Entry) (vs : List ℕ) (index : IsIndexOf fs es) (f : Functor) (at : ℕ) (p : IsFirstPlace es f at) where
   -- where the functor stands at a place, an entry of it that isn't later was found
   place_found : (k : ℕ) → k < length fs → is_at fs k f ≡ true → (at < length es) × ((e : Entry) (g : Functor) (m : ℕ) → get_or es at e ≡ entry_of g m → (g ≡ f) × (m ≤ k))
   place_found k l t = by (cases_lt i at)
@@ -240,7 +236,7 @@ module _ (fs : List Functor) (es : List Entry) (vs : List ℕ) (index : IsIndexO
             within,
             λ e g m same. (
                 let d = entry_of f k in
-                let here : get_or es at d ≡ entry_of g m = same_default es at d e within ∙ same in
+                let here : get_or es at d ≡ entry_of g m = any_default es at d e within ∙ same in
                 let low = sym (ap (λ x. is_lt (entry_cmp x (entry_of f 0))) here) ∙ p.1 at d (omega arith) within in
                 let high = (λ j. is_lt (entry_cmp (sym there.2 j) (sym here j))) ∙ not_below_at entry_cmp entries_total es index.sorted at i d h short in
                 between f g k m low high

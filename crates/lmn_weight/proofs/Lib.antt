@@ -9,4 +9,5 @@ mod IndexLemmas
 mod LineLemmas
 mod OneTelling
 mod SomeTelling
+mod LineExamples
 pub mod AlikePlains

@@ -79,18 +79,20 @@ last_of x (y ∷ ys) = let r = last_of y ys in (x ∷ r.0, r.1, ap (λ zs. x ∷
 -- ---- what a line names
 
 -- a line says one thing
-one_saying : (line item other : List ℕ) (m n : ℕ) → IsWeightLine line item m → IsWeightLine line other n → (item ≡ other) × (m ≡ n)
+pub one_saying : (line item other : List ℕ) (m n : ℕ) → IsWeightLine line item m → IsWeightLine line other n → (item ≡ other) × (m ≡ n)
 one_saying line item other m n v w =
     let r = last_split item v.digits other w.digits (no_space v.digits (digits_of v.digits m v.number).0) (no_space w.digits (digits_of w.digits n w.number).0) (sym v.is ∙ w.is) in
     (r.0, same_Some m n (sym v.number ∙ ap number_written r.1 ∙ w.number))
 
-differ : (m n : ℕ) → m < n → n ≢ m
+-- a number below another is another
+pub differ : (m n : ℕ) → m < n → n ≢ m
 differ m n l e = omega (arith, l, e)
 
-int_slashless : HasNoSlash (codes "int")
+-- two words have no slash
+pub int_slashless : HasNoSlash (codes "int")
 int_slashless = (differ 47 105 (omega arith), (differ 47 110 (omega arith), (differ 47 116 (omega arith), tt)))
 
-braces_slashless : HasNoSlash (codes "{}")
+pub braces_slashless : HasNoSlash (codes "{}")
 braces_slashless = (differ 47 123 (omega arith), (differ 47 125 (omega arith), tt))
 
 -- a functor is no word without a slash

@@ -1,15 +1,15 @@
 -- Each text tells weights, or a line of it is wrong.
-use Rattle.std.proofs.Common.{ℕ, zero, suc, pos, negsuc, ◌≡◌, ◌≢◌, ◌<◌, ◌≤◌, ◌+◌, ◌-◌, ◌^◌, ◌⊎◌, inl, inr, Bool, true, false, List, [], ◌∷◌, ◌++◌, Option, Some, None, IsSome, codes, length, take, drop, get_or, eqb, refl, sym, ap, subst, ◌∙◌, arith, if◌then◌else◌}
+use Rattle.std.proofs.Common.{ℕ, zero, suc, pos, negsuc, ◌≡◌, ◌≢◌, ◌<◌, ◌≤◌, ◌+◌, ◌-◌, ◌^◌, ◌⊎◌, inl, inr, Bool, true, false, List, [], ◌∷◌, ◌++◌, Option, Some, None, IsSome, codes, length, take, drop, get_or, refl, sym, ap, subst, ◌∙◌, arith, if◌then◌else◌}
 use Rattle.std.specs.Prelude.{bytes_eq, Ok}
 use Rattle.std.specs.Fmt.{decimal}
 use Rattle.std.specs.List.{AllByRecursion, flat_map}
 use Rattle.std.proofs.Math.Seq.{drop-append-add, get_or-append_seam, take-append_seam}
 use Rattle.std.proofs.lemmas.Bool.{cases_lt}
-use Rattle.std.proofs.lemmas.Bool.Decides.{Decides-eqb}
-use Rattle.std.proofs.lemmas.List.{append_assoc, append_cancel_right, get_or_past, get_or_push, length-append, length-drop}
+use Rattle.std.proofs.lemmas.List.{append_assoc, append_cancel_right, get_or-drop, get_or_push, length-append, length-drop}
 use Rattle.std.proofs.lemmas.List.Quantifiers.{all_pairs_push}
 use Rattle.std.proofs.lemmas.Slice.Eq.{bytes_eq-Decides}
 use Rattle.lmn_base.proofs.Lists.{head_is, tail_is}
+use Rattle.lmn_base.proofs.Numbers.{same_or_not}
 use Rattle.lmn_base.specs.declared.functor.Functor.{Functor}
 use Rattle.lmn_base.specs.declared.functor.Label.TheVariants.{Int, Name}
 use Rattle.lmn_base.specs.declared.refusal.Refusal.{Refusal}
@@ -21,7 +21,7 @@ use Rattle.lmn_instr.specs.Listings.{functor_text}
 use Rattle.lmn_lexer.specs.NameText.{name_text, quoted, quoted_byte}
 use Rattle.lmn_lexer.specs.Spelling.{is_bare_name}
 use Rattle.lmn_lines.specs.Lines.{HasNoSpace, IsOneLine, number_written}
-use Rattle.lmn_weight.proofs.FunctorTexts.{bare_unquoted, quoted_one}
+use Rattle.lmn_weight.proofs.FunctorTexts.{any_default, bare_unquoted, quoted_one}
 use Rattle.lmn_weight.proofs.LineLemmas.{Reached, item_taken, line_taken, line_unsplit, line_untaken, reached_all, reached_more, reached_start, reached_unended, reached_wrong}
 use Rattle.lmn_weight.specs.declared.told.Told.{Told}
 use Rattle.lmn_weight.specs.declared.weights.Weights.{Weights}
@@ -30,13 +30,6 @@ use Rattle.lmn_weight.specs.OneReading.{ToldOrWrong}
 use Rattle.lmn_weight.specs.Plains.{is_integer}
 
 -- ---- decided
-
-same_or_not : (b c : ℕ) → (b ≡ c) ⊎ (b ≢ c)
-same_or_not b c = by (eqb b c) (Decides-eqb b c).0 (Decides-eqb b c).1
-  where
-    by : (t : Bool) → (t ≡ true → b ≡ c) → (b ≡ c → t ≡ true) → (b ≡ c) ⊎ (b ≢ c)
-    by true to back = inl (to refl)
-    by false to back = inr (λ e. (let z = back e in absurd (cc)))
 
 same_text_or_not : (s t : List ℕ) → (s ≡ t) ⊎ (s ≢ t)
 same_text_or_not s t = by (bytes_eq s t) (bytes_eq-Decides s t).0 (bytes_eq-Decides s t).1
@@ -305,16 +298,11 @@ put_name names is name = by (number_of names name)
           record { more = name ∷ []; are = refl; few = omega arith },
           record {
             begins = (more ++ name ∷ [], ap (λ ns. ns ++ name ∷ []) is.begins.1 ∙ append_assoc first_names more (name ∷ []));
-            once = all_pairs_push (λ m n. m ≢ n) names name is.once (λ k d l e. none k l (same_default names k d l ∙ e));
+            once = all_pairs_push (λ m n. m ≢ n) names name is.once (λ k d l e. none k l (any_default names k [] d l ∙ e));
           },
           omega (arith, size),
           get_or_push names name [] (length names) refl,
         )
-      where
-        same_default : (names : List (List ℕ)) (k : ℕ) (d : List ℕ) → k < length names → get_or names k [] ≡ get_or names k d
-        same_default [] k d l = absurd (omega (arith, l))
-        same_default (m ∷ ms) zero d l = refl
-        same_default (m ∷ ms) (suc k) d l = same_default ms k d (omega (arith, l))
 
     by : NumberOf names name → Put names name
     by (inl (n, l, e)) = (names, n, adds_none 1 names, is, l, e)
@@ -416,11 +404,6 @@ module _ (names : List (List ℕ)) (is : IsNames names) (t : Told) where
 
 -- ---- a text
 
-get_or_drop : (text : List ℕ) (at k : ℕ) (d : ℕ) → get_or text (at + k) d ≡ get_or (drop at text) k d
-get_or_drop text zero k d = ap (λ n. get_or text n d) (let e : 0 + k ≡ k = omega arith in e)
-get_or_drop [] (suc at) k d = sym (get_or_past [] k d (omega arith))
-get_or_drop (x ∷ text) (suc at) k d = ap (λ n. get_or (x ∷ text) n d) (let e : suc at + k ≡ suc (at + k) = omega arith in e) ∙ get_or_drop text at k d
-
 module _ (before : List (List ℕ)) (text : List ℕ) where
   -- what is told in the end, or refused
   abbrev Ends : Type 0
@@ -458,7 +441,7 @@ module _ (before : List (List ℕ)) (text : List ℕ) where
         short = let s = size in omega (arith, s)
 
         feed : get_or text end 0 ≡ 10
-        feed = get_or_drop text at (length u) 0 ∙ ap (λ xs. get_or xs (length u) 0) e ∙ get_or-append_seam u 10 v 0
+        feed = sym (get_or-drop at text (length u) 0) ∙ ap (λ xs. get_or xs (length u) 0) e ∙ get_or-append_seam u 10 v 0
 
         is_line : take (end - at) (drop at text) ≡ u
         is_line = let n : end - at ≡ length u = omega arith in ap (λ k. take k (drop at text)) n ∙ ap (take (length u)) e ∙ take-append_seam u (10 ∷ v)

@@ -11,13 +11,13 @@ use Rattle.lmn_weight.specs.declared.index.Entry.{Entry}
 use Rattle.lmn_weight.specs.Plains.{is_integer_label}
 
 -- the integer, or the number of the name
-abbrev pub number_of : Label → ℤ
-number_of (Name n) = pos n
-number_of (Int z) = z
+abbrev pub label_number : Label → ℤ
+label_number (Name n) = pos n
+label_number (Int z) = z
 
 -- a functor at a place
 abbrev pub entry_of : Functor → ℕ → Entry
-entry_of f place = record { is_integer = is_integer_label f.label; number = number_of f.label; arity = f.arity; place = place }
+entry_of f place = record { is_integer = is_integer_label f.label; number = label_number f.label; arity = f.arity; place = place }
 
 -- functors at their places, the first at this one
 abbrev pub entries_from : ℕ → List Functor → List Entry
@@ -39,6 +39,6 @@ abbrev pub is_at : List Functor → ℕ → Functor → Bool
 is_at functors place f = same_functor (slice_index_or functors place f) f
 
 -- before this place all entries are below those of a functor, and from it on none is
-abbrev pub IsFound : List Entry → Functor → ℕ → Type 0
-IsFound entries f place =
+abbrev pub IsFirstPlace : List Entry → Functor → ℕ → Type 0
+IsFirstPlace entries f place =
     IsPartitionPoint (λ e. is_lt (entry_cmp e (entry_of f 0)) ≡ true) (λ e. is_lt (entry_cmp e (entry_of f 0)) ≡ false) entries place

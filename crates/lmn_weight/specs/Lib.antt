@@ -5,3 +5,4 @@ pub mod Plains
 pub mod Lines
 pub mod OneReading
 pub mod Index
+pub mod LineExamples

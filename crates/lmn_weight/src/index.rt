@@ -61,7 +61,7 @@ pub(crate) fn index_of(functors: &[Functor]) -> Option<Index>
 /// Where the first entry stands that isn't below those of a functor, or how many there are.
 fn first_of(index: &[Entry], functor: Functor) -> usize
     requires { IsSorted spec.entry_cmp index.now }
-    ensures { spec.IsFound index.now functor result }
+    ensures { spec.IsFirstPlace index.now functor result }
 {
     let wanted = entry_of(functor, 0);
     index.partition_point(|entry| *entry < wanted)

@@ -6,6 +6,7 @@
 
 ghost use Rattle.lmn_weight.specs.Laws.{CongruenceKeepsWeight, SettlingKeepsWeight};
 ghost use Rattle.lmn_weight.specs.Laws.{LoweredRulesLower, WeightBoundsCommits};
+ghost use Rattle.lmn_weight.specs.LineExamples.{OneFewerDoesNot, OneMoreStandsBehind, OthersAreAlike, SomeHaveText, TheseAreNot, ThreeAreTold, WideHasNoText, WideIsWrong};
 ghost use Rattle.lmn_weight.specs.OneReading.{AlikeForPlains, OneTelling, OneWrongLine, ToldNotWrong, ToldOrWrong};
 
 mod bounding;
@@ -55,4 +56,20 @@ pub fn weights_are_told_or_wrong()
 /// Weights that are alike for the names of a plain weigh it alike, and lower the same rules of it.
 pub fn plains_weigh_alike()
     ensures { AlikeForPlains }
+{}
+
+/// A text of three lines tells weights, and one that names a functor of 300 links is wrong; which functors have a text.
+pub fn some_lines_tell()
+    ensures three { ThreeAreTold }
+    ensures wide { WideIsWrong }
+    ensures text { SomeHaveText }
+    ensures no_text { WideHasNoText }
+{}
+
+/// A list of names that stands behind another, and one that doesn't; weights that are alike, and weights that aren't.
+pub fn some_weights_are_alike()
+    ensures behind { OneMoreStandsBehind }
+    ensures not_behind { OneFewerDoesNot }
+    ensures alike { OthersAreAlike }
+    ensures apart { TheseAreNot }
 {}
