@@ -18,3 +18,4 @@ mod SmallTexts
 mod SmallBounds
 mod SmallRuns
 mod SmallSessions
+mod OneSession

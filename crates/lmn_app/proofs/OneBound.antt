@@ -24,8 +24,9 @@ use Rattle.lmn_weight.specs.declared.weights.Weights.{Weights}
 use Rattle.lmn_weight.specs.Lines.{AreWeightsOf, IsFirstWrong}
 use Rattle.lmn_weight.specs.OneReading.{AlikeForPlains, OneTelling, OneWrongLine, StandsBehind, ToldNotWrong, ToldOrWrong, WeighPlainAlike}
 use Rattle.lmn_weight.specs.Plains.{EachLowered, IsFirstNotLowered, closed_once, is_lowered, level_weight, stands_once}
-use Rattle.lmn_app.specs.Bounds.{IsBound, IsWrongWeights, ReadsBoth, bad_weight, not_lowered}
+use Rattle.lmn_app.specs.Bounds.{IsBound, IsWrongWeights, bad_weight, not_lowered}
 use Rattle.lmn_app.specs.BoundLaws.{BoundNotRefused, BoundOrRefused, BoundWhereLowered, OneBound, OneWrongWeights}
+use Rattle.lmn_app.specs.Seconds.{ReadsBoth}
 use Rattle.lmn_app.proofs.BoundLemmas.{is_bound}
 use Rattle.lmn_app.proofs.ListLemmas.{plain_named}
 use Rattle.lmn_app.proofs.TextLemmas.{accepted_at, one_list}

@@ -19,8 +19,9 @@ use Rattle.lmn_weight.proofs.SmallWeights.{sum_cons}
 use Rattle.lmn_weight.specs.declared.weights.Weights.{Weights}
 use Rattle.lmn_weight.specs.Lines.{AreWeightsOf, HasText, line_more, no_line, of_functor}
 use Rattle.lmn_weight.specs.Plains.{EachLowered, IsFirstNotLowered, closed_once, functor_weight, is_lowered, leaf_weight, level_weight, weight_step}
-use Rattle.lmn_app.specs.Bounds.{ReadsBoth, not_lowered}
+use Rattle.lmn_app.specs.Bounds.{not_lowered}
 use Rattle.lmn_app.specs.BoundExamples.{SmallTextIsBounded, SmallTextIsNotLowered, small_weights, turned_weights}
+use Rattle.lmn_app.specs.Seconds.{ReadsBoth}
 use Rattle.lmn_app.specs.TextExamples.{no_plan, one_atom, one_leaf, small_names, small_plain, small_rule, small_text}
 use Rattle.lmn_app.proofs.BoundLemmas.{is_bound}
 use Rattle.lmn_app.proofs.ListLemmas.{plain_named}

@@ -21,7 +21,7 @@ use Rattle.lmn_script.specs.declared.order.Order.TheVariants.{Step, Back, Show}
 use Rattle.lmn_script.specs.Laws.{OrdersAreOnce}
 use Rattle.lmn_script.specs.Scripts.{AreOrdersOf, one_order, says_nothing}
 use Rattle.lmn_script.proofs.LineLemmas.{without}
-use Rattle.lmn_app.specs.DebugExamples.{NoStandingStep, SmallSession}
+use Rattle.lmn_app.specs.DebugExamples.{SmallTextIsDebugged, SmallTextIsNotDebuggedSo}
 use Rattle.lmn_app.specs.Debugs.{IsSession, session_size}
 use Rattle.lmn_app.specs.TextExamples.{no_plan, small_names, small_plain, small_text}
 use Rattle.lmn_app.proofs.SmallRuns.{first, last, more_allowed, nothing_left, small_named, small_solid}
@@ -83,7 +83,7 @@ its_lines =
       stops = ((omega arith, omega arith), nothing_embeds (nothing_left t.1));
     }))) (went_back {n = 1})) (shown {S = first} (record { before = []; trace = loaded; count = refl }) refl)
 
-pub small_session : SmallSession
+pub small_session : SmallTextIsDebugged
 unfolding digits
 small_session = (small_session_of, record { lines = line_at 1 Irreducible ∷ line_at 0 Done ∷ codes "a. (a :- b).\n" ∷ []; last = 0; obeys = its_lines; is = refl })
 
@@ -133,7 +133,7 @@ stands_still g NoMemory t' S ne to e = ne refl
 no_line_so : {names : List Name} {g : Course} {line : List ℕ} {t : ℕ} → Obeys names g 0 (Step 1) line t → codes "% at 0\n" ≡ line → ⊥
 no_line_so {g = g} (stepped {t' = t'} {stop = stop} ne s) e = stands_still g stop t' s.solid ne s.stops e
 
-pub no_standing_step : OrdersAreOnce → NoStandingStep
+pub no_standing_step : OrdersAreOnce → SmallTextIsNotDebuggedSo
 no_standing_step once (s, o) =
     let of = s.of in
     let one = one_obeyed o.obeys (Step 1) (once of.later (codes "step 1\n") s.orders (Step 1 ∷ []) of.once s.are (one_step of.later)) in

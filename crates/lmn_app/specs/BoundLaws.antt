@@ -4,7 +4,8 @@ use Rattle.lmn_base.specs.declared.refusal.Refusal.{Refusal}
 use Rattle.lmn_weight.specs.declared.weights.Weights.{Weights}
 use Rattle.lmn_weight.specs.Lines.{AreWeightsOf}
 use Rattle.lmn_weight.specs.Plains.{EachLowered}
-use Rattle.lmn_app.specs.Bounds.{IsBound, IsWrongWeights, ReadsBoth}
+use Rattle.lmn_app.specs.Bounds.{IsBound, IsWrongWeights}
+use Rattle.lmn_app.specs.Seconds.{ReadsBoth}
 use Rattle.lmn_app.specs.Texts.{IsAccepted}
 
 -- weights bound a program by one number at most

@@ -5,9 +5,9 @@ use Rattle.lmn_app.specs.Debugs.{IsDebugged}
 use Rattle.lmn_app.specs.TextExamples.{small_text}
 
 -- Of two firings that are asked for there is one; one firing back its first process stands there.
-abbrev pub SmallSession : Type 0
-SmallSession = IsDebugged Done small_text (codes "step 2\nback 1\nshow\n") (codes "% at 1 irreducible\n% at 0\na. (a :- b).\n")
+abbrev pub SmallTextIsDebugged : Type 0
+SmallTextIsDebugged = IsDebugged Done small_text (codes "step 2\nback 1\nshow\n") (codes "% at 1 irreducible\n% at 0\na. (a :- b).\n")
 
 -- A step that is taken doesn't leave the number as it was.
-abbrev pub NoStandingStep : Type 0
-NoStandingStep = ¬ (IsDebugged Done small_text (codes "step 1\n") (codes "% at 0\n"))
+abbrev pub SmallTextIsNotDebuggedSo : Type 0
+SmallTextIsNotDebuggedSo = ¬ (IsDebugged Done small_text (codes "step 1\n") (codes "% at 0\n"))

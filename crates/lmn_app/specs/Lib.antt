@@ -6,6 +6,7 @@ pub mod Outcomes
 pub mod Pairs
 pub mod Bounds
 pub mod DebugExamples
+pub mod DebugLaws
 pub mod Debugs
 pub mod Requests
 pub mod Runnings

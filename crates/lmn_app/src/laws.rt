@@ -3,6 +3,8 @@
 
 ghost use Rattle.lmn_app.specs.BoundExamples.{SmallTextIsBounded, SmallTextIsNotByTwo, SmallTextIsNotLowered};
 ghost use Rattle.lmn_app.specs.BoundLaws.{BoundNotRefused, BoundOrRefused, BoundWhereLowered, OneBound, OneWrongWeights};
+ghost use Rattle.lmn_app.specs.DebugExamples.{SmallTextIsDebugged, SmallTextIsNotDebuggedSo};
+ghost use Rattle.lmn_app.specs.DebugLaws.{OneWrongScript, SessionNotRefused, SessionOrRefused};
 ghost use Rattle.lmn_app.specs.Demos.{SomeDemo};
 ghost use Rattle.lmn_app.specs.DemoLaws.{DemoIsFoldedRun};
 ghost use Rattle.lmn_app.specs.ListingLaws.{OneListing};
@@ -13,6 +15,7 @@ ghost use Rattle.lmn_app.specs.Texts.{AcceptedOrRefused, OneRefusal, RefusedNotA
 use lmn_accepted::accepted_texts;
 use lmn_bounding::weights_bound_commits;
 use lmn_runs::short_run_prints;
+use lmn_script::{orders_are_once, scripts_are_decided};
 use lmn_weight::{plains_weigh_alike, weights_are_read_once, weights_are_told_or_wrong};
 
 /// A text that is refused isn't accepted, and it has one refusal at most.
@@ -85,4 +88,23 @@ pub fn small_text_is_bounded()
     accepted_texts();
     weights_bound_commits();
     weights_bound_or_are_refused();
+}
+
+/// A script orders a session over an accepted program of few enough items, or it is refused by one code at one place, and not both.
+pub fn scripts_are_obeyed_or_refused()
+    ensures either { SessionOrRefused }
+    ensures apart { SessionNotRefused }
+    ensures refusal { OneWrongScript }
+{
+    accepted_texts();
+    scripts_are_decided();
+}
+
+/// A session over `a. a :- b.`: two firings are asked for and one is there, and one firing back its first process stands there. A step that is
+/// taken doesn't leave the number as it was.
+pub fn small_text_is_debugged()
+    ensures debugged { SmallTextIsDebugged }
+    ensures not_so { SmallTextIsNotDebuggedSo }
+{
+    orders_are_once();
 }

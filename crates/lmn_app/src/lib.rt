@@ -10,7 +10,6 @@ mod ending;
 pub mod laws;
 mod pairing;
 mod running;
-pub mod sessions;
 mod task;
 mod top;
 

@@ -22,14 +22,14 @@ pub(crate) struct Entry {
     /// How many links it has.
     arity: u8,
     /// Where it stands.
-    place: usize,
+    place: u32,
 }
 
 /// The functors of WEIGHTS by a rising order.
 pub(crate) type Index = ArrayVec<Entry, MOST>;
 
 /// A functor at a place.
-fn entry_of(functor: Functor, place: usize) -> Entry
+fn entry_of(functor: Functor, place: u32) -> Entry
     ensures { result ≡ spec.entry_of functor place }
 {
     let (is_integer, number) = match functor.label {
@@ -48,9 +48,15 @@ fn entry_of(functor: Functor, place: usize) -> Entry
 pub(crate) fn index_of(functors: &[Functor]) -> Option<Index>
     ensures { IfSome result (λ index. IsIndexOf functors.now index.items) }
 {
+    if functors.len() > MOST {
+        return None;
+    }
     let mut index = ArrayVec::new();
     for place in 0..functors.len() {
-        if index.try_push(entry_of(functors[place], place)).is_err() {
+        if index
+            .try_push(entry_of(functors[place], place as u32))
+            .is_err()
+        {
             return None;
         }
     }
@@ -92,7 +98,7 @@ pub(crate) fn indexed_weight(
 {
     let at = first_of(index, functor);
     if at < index.len() {
-        return weight_at(functors, values, index[at].place, functor);
+        return weight_at(functors, values, index[at].place as usize, functor);
     }
     0
 }
