@@ -37,6 +37,7 @@ session_or_refused laws some program script (names, plain, plans, a, (S, of, few
     let made = laws.made program names plain plans a.accepted in
     let s = solid_with_items names plain made S of in
     let small : item_count s.0 ≤ session_size = omega (arith, few, s.2) in
-    elim (some names script (plain_named laws program names plain plans a).0)
-    [ inl has ↦ inl (session_by laws program script names plain plans a s.0 s.1 small has)
-    | inr wrong ↦ inr wrong ]
+    elim (some names script (plain_named laws program names plain plans a).0) [
+      | inl has ↦ inl (session_by laws program script names plain plans a s.0 s.1 small has)
+      | inr wrong ↦ inr wrong
+    ]
