@@ -13,3 +13,4 @@ pub mod FillLemmas
 pub mod MadeLemmas
 pub mod RunLemmas
 pub mod LineLemmas
+pub mod InsertLemmas

@@ -29,7 +29,7 @@ still_there f a g k t = elim (cases_eq k a) [
     by (Some x) t = refl
 
 -- a change that keeps a part of a cell
-keeps : {Y : Type 0} (v : Option HeldCell → Y) (f : ℕ → Option HeldCell) (a : ℕ) (g : HeldCell → HeldCell) → ((o : Option HeldCell) → v (option_map g o) ≡ v o) → (k : ℕ) → v (alter f a (option_map g) k) ≡ v (f k)
+pub keeps : {Y : Type 0} (v : Option HeldCell → Y) (f : ℕ → Option HeldCell) (a : ℕ) (g : HeldCell → HeldCell) → ((o : Option HeldCell) → v (option_map g o) ≡ v o) → (k : ℕ) → v (alter f a (option_map g) k) ≡ v (f k)
 keeps v f a g h k = elim (cases_eq k a) [
   | inl e ↦ ap (λ m. v (alter f a (option_map g) m)) e ∙ ap v (alter_at f a (option_map g)) ∙ h (f a) ∙ ap (λ m. v (f m)) (sym e)
   | inr d ↦ ap v (alter_away f a (option_map g) k d)
@@ -64,7 +64,7 @@ link_above f q j v m i l = link_other f q j v m i (λ z. absurd (omega (arith, z
 
 -- The two steps of leaving
 
-count_links : (j : ℕ) (v : Option ℕ) (o : Option HeldCell) → length (links_of (option_map (with_link j v) o)) ≡ length (links_of o)
+pub count_links : (j : ℕ) (v : Option ℕ) (o : Option HeldCell) → length (links_of (option_map (with_link j v) o)) ≡ length (links_of o)
 count_links j v None = refl
 count_links j v (Some c) = length-set c.links j v
 
@@ -84,11 +84,12 @@ there_prev f m e None p a t = still_there f m (with_link (e + 1) p) a t
 there_prev f m e (Some q) p a t = still_there f q (with_link PREV p) a t
 
 -- where a list begins then, and where it ends
-next_first : (f : ℕ → Option HeldCell) (m e : ℕ) (p n : Option ℕ) → PREV < e → e < length (links_of (f m)) → link_in (with_next f m e p n) m e ≡ begins (link_in f m e) p n
+pub next_first : (f : ℕ → Option HeldCell) (m e : ℕ) (p n : Option ℕ) → PREV < e → e < length (links_of (f m)) → link_in (with_next f m e p n) m e ≡ begins (link_in f m e) p n
 next_first f m e None n b l = link_same f m e n l
 next_first f m e (Some q) n b l = link_above f q NEXT n m e (omega (arith, b))
 
-next_last : (f : ℕ → Option HeldCell) (m e : ℕ) (p n : Option ℕ) → PREV < e → link_in (with_next f m e p n) m (e + 1) ≡ link_in f m (e + 1)
+-- another next leaves where a list ends
+pub next_last : (f : ℕ → Option HeldCell) (m e : ℕ) (p n : Option ℕ) → PREV < e → link_in (with_next f m e p n) m (e + 1) ≡ link_in f m (e + 1)
 next_last f m e None n b = link_other f m e n m (e + 1) (λ z. absurd (omega (arith, z)))
 next_last f m e (Some q) n b = link_above f q NEXT n m (e + 1) (omega (arith, b))
 
@@ -101,7 +102,7 @@ prev_last f m e None p b l = link_same f m (e + 1) p l
 prev_last f m e (Some q) p b l = link_above f q PREV p m (e + 1) (omega (arith, b))
 
 -- the ends of other lists
-next_keeps : (f : ℕ → Option HeldCell) (m e : ℕ) (p n : Option ℕ) (b k : ℕ) → PREV < k → (b ≡ m → k ≢ e) → link_in (with_next f m e p n) b k ≡ link_in f b k
+pub next_keeps : (f : ℕ → Option HeldCell) (m e : ℕ) (p n : Option ℕ) (b k : ℕ) → PREV < k → (b ≡ m → k ≢ e) → link_in (with_next f m e p n) b k ≡ link_in f b k
 next_keeps f m e None n b k l h = link_other f m e n b k (λ z w. h w z)
 next_keeps f m e (Some q) n b k l h = link_above f q NEXT n b k (omega (arith, l))
 
@@ -115,17 +116,19 @@ each_snoc P [] x a p = (p, tt)
 each_snoc P (y ∷ ys) x a p = (a.0, each_snoc P ys x a.1 p)
 
 -- links after each step
-next_at : (f : ℕ → Option HeldCell) (m e : ℕ) (p n : Option ℕ) (q : ℕ) → p ≡ Some q → NEXT < length (links_of (f q)) → link_in (with_next f m e p n) q NEXT ≡ n
+pub next_at : (f : ℕ → Option HeldCell) (m e : ℕ) (p n : Option ℕ) (q : ℕ) → p ≡ Some q → NEXT < length (links_of (f q)) → link_in (with_next f m e p n) q NEXT ≡ n
 next_at f m e p n q s l = subst (λ o. link_in (with_next f m e o n) q NEXT ≡ n) (sym s) (link_same f q NEXT n l)
 
-next_away : (f : ℕ → Option HeldCell) (m e : ℕ) (p n : Option ℕ) (a k : ℕ) → k < e → (k ≡ NEXT → p ≢ Some a) → link_in (with_next f m e p n) a k ≡ link_in f a k
+-- links of other cells
+pub next_away : (f : ℕ → Option HeldCell) (m e : ℕ) (p n : Option ℕ) (a k : ℕ) → k < e → (k ≡ NEXT → p ≢ Some a) → link_in (with_next f m e p n) a k ≡ link_in f a k
 next_away f m e None n a k l d = link_below f m e n a k l
 next_away f m e (Some q) n a k l d = link_other f q NEXT n a k (λ z w. d z (ap Some (sym w)))
 
 prev_at : (f : ℕ → Option HeldCell) (m e : ℕ) (n p : Option ℕ) (q : ℕ) → n ≡ Some q → PREV < length (links_of (f q)) → link_in (with_prev f m e n p) q PREV ≡ p
 prev_at f m e n p q s l = subst (λ o. link_in (with_prev f m e o p) q PREV ≡ p) (sym s) (link_same f q PREV p l)
 
-prev_away : (f : ℕ → Option HeldCell) (m e : ℕ) (n p : Option ℕ) (a k : ℕ) → k < e → (k ≡ PREV → n ≢ Some a) → link_in (with_prev f m e n p) a k ≡ link_in f a k
+-- links of other cells after a change of prev
+pub prev_away : (f : ℕ → Option HeldCell) (m e : ℕ) (n p : Option ℕ) (a k : ℕ) → k < e → (k ≡ PREV → n ≢ Some a) → link_in (with_prev f m e n p) a k ≡ link_in f a k
 prev_away f m e None p a k l d = link_below f m (e + 1) p a k (omega (arith, l))
 prev_away f m e (Some q) p a k l d = link_other f q PREV p a k (λ z w. d z (ap Some (sym w)))
 
@@ -151,10 +154,11 @@ rest_apart x z (y ∷ ys) d j = elim (cases_eq y x) [
     by (inr k) rest n = rest k
 
 -- the ends of a list are behind the links of a node
-home_low : (e : ℕ) → PREV < e → HOME < e
+pub home_low : (e : ℕ) → PREV < e → HOME < e
 home_low e b = omega (arith, b)
 
-next_low : (e : ℕ) → PREV < e → NEXT < e
+-- so are the links of its neighbours
+pub next_low : (e : ℕ) → PREV < e → NEXT < e
 next_low e b = omega (arith, b)
 
 -- A cell of a list, with what stands before it and behind it
@@ -166,7 +170,8 @@ pub record Found (f : ℕ → Option HeldCell) (m e x : ℕ) (xs : List ℕ) : T
   pub before : (q : ℕ) → link_in f x PREV ≡ Some q → In q ys
   pub behind : (q : ℕ) → link_in f x NEXT ≡ Some q → In q zs
 
-found_in : (f : ℕ → Option HeldCell) (m e x : ℕ) (xs : List ℕ) → Line f m e xs → In x xs → Found f m e x xs
+-- a cell of a list is found
+pub found_in : (f : ℕ → Option HeldCell) (m e x : ℕ) (xs : List ℕ) → Line f m e xs → In x xs → Found f m e x xs
 found_in f m e x xs line i =
     let s = in_split x xs i in let F = node_in f in
     let r : RunsThrough F None (link_in f m e) (s.0 ++ (x ∷ s.1)) (link_in f m (e + 1)) None = subst (λ us. RunsThrough F None (link_in f m e) us (link_in f m (e + 1)) None) s.2 line.runs in

@@ -3,7 +3,7 @@ use Rattle.std.proofs.Common.{◌≡◌, ◌≢◌, ℕ, List, [], ◌∷◌, �
 use Rattle.std.specs.List.{AllByRecursion}
 use Rattle.lmn_base.specs.Lists.{In}
 use Rattle.lmn_heap.specs.Lists.{Distinct}
-use Rattle.lmn_heap.proofs.ListLemmas.{each_in, each_of, apart, distinct_left, distinct_right}
+use Rattle.lmn_heap.proofs.ListLemmas.{each_in, each_of, apart, in_left, in_right, distinct_left, distinct_right}
 use Rattle.lmn_cells.specs.Runs.{Node, RunsThrough}
 
 -- a run stays one where its nodes stay as they are
@@ -138,3 +138,40 @@ joins f g first last (y ∷ xs) x h d fresh r =
     let b : RunsThrough g last (Some x) (x ∷ []) (Some x) None = (refl, ap (λ u. u.prev) h.here, (ap (λ u. u.next) h.here, refl)) in
     let keeps : begins first last (Some x) ≡ first = ap (λ o. begins first o (Some x)) s.1 in
     subst (λ o. RunsThrough g None o (y ∷ (xs ++ x ∷ [])) (Some x) None) (sym keeps) (join g None first (y ∷ xs) last (Some x) (x ∷ []) (Some x) None a b)
+
+-- g is f where x stands behind p and before a
+pub record Between (f g : ℕ → Node) (x : ℕ) (p : Option ℕ) (a : ℕ) : Type 0 where
+  pub here : g x ≡ record { prev = p; next = Some a }
+  pub before : (q : ℕ) → q ≢ x → p ≡ Some q → g q ≡ record (f q) { next = Some x }
+  pub behind : g a ≡ record (f a) { prev = Some x }
+  pub other : (z : ℕ) → z ≢ x → p ≢ Some z → z ≢ a → g z ≡ f z
+
+module _ (f g : ℕ → Node) (x : ℕ) (p : Option ℕ) (a : ℕ) (h : Between f g x p a) where
+  -- the part before it
+  front_part : (ys zs : List ℕ) (first : Option ℕ) → Distinct (ys ++ (a ∷ zs)) → (In x (ys ++ (a ∷ zs)) → ⊥) → RunsThrough f None first ys p (Some a) → RunsThrough g None (begins first p (Some x)) ys p (Some x)
+  front_part [] zs first d fresh r = (ap (λ o. begins first o (Some x)) r.1, r.1)
+  front_part (y ∷ ys) zs first d fresh r =
+      let s = last_in f None first y ys p (Some a) r in
+      let keeps : begins first p (Some x) ≡ first = ap (λ o. begins first o (Some x)) s.1 in
+      let not_x : (z : ℕ) → In z (y ∷ ys) → z ≢ x = λ z i same. fresh (subst (λ u. In u ((y ∷ ys) ++ (a ∷ zs))) same (in_left z (y ∷ ys) (a ∷ zs) i)) in
+      let not_a : (z : ℕ) → In z (y ∷ ys) → z ≢ a = λ z i. apart (y ∷ ys) (a ∷ zs) z a d i (inl refl) in
+      subst (λ o. RunsThrough g None o (y ∷ ys) p (Some x)) (sym keeps)
+      (relink_end f g None first y ys p (Some a) (Some x) r (distinct_left (y ∷ ys) (a ∷ zs) d)
+      (λ q at. let i : In q (y ∷ ys) = subst (λ u. In u (y ∷ ys)) (let e : Some s.0 ≡ Some q = sym s.1 ∙ at in cc) s.2 in h.before q (not_x q i) at)
+      (λ z i away. h.other z (not_x z i) away (not_a z i)))
+
+-- a run with one more cell before one of its own
+pub inserts : (f g : ℕ → Node) (first last : Option ℕ) (ys : List ℕ) (x a : ℕ) (zs : List ℕ) → Between f g x (f a).prev a → Distinct (ys ++ (a ∷ zs)) → (In x (ys ++ (a ∷ zs)) → ⊥)
+    → RunsThrough f None first (ys ++ (a ∷ zs)) last None → RunsThrough g None (begins first (f a).prev (Some x)) (ys ++ (x ∷ a ∷ zs)) last None
+inserts f g first last ys x a zs h d fresh r =
+    let p = (f a).prev in
+    let s = split f None first ys (a ∷ zs) last None r in
+    let one : RunsThrough f None first ys p (Some a) = subst (λ o. RunsThrough f None first ys p o) s.3.0 (subst (λ o. RunsThrough f None first ys o s.1) (sym s.3.1) s.2) in
+    let two : RunsThrough f p (Some a) (a ∷ zs) last None = (refl, refl, s.3.2) in
+    let own : Distinct (a ∷ zs) = distinct_right ys (a ∷ zs) d in
+    let not_x : (z : ℕ) → In z zs → z ≢ x = λ z i same. fresh (subst (λ u. In u (ys ++ (a ∷ zs))) same (in_right z ys (a ∷ zs) (inr i))) in
+    let not_a : (z : ℕ) → In z zs → z ≢ a = λ z i same. each_in (λ v. a ≢ v) zs z own.0 i (sym same) in
+    let not_p : (z : ℕ) → In z zs → p ≢ Some z = λ z i same. apart ys (a ∷ zs) z z d (before_in f first ys p (Some a) z one same) (inr i) refl in
+    let rest : RunsThrough g (Some x) (Some a) (a ∷ zs) last None = relink_start f g p (Some a) a zs last None (Some x) two h.behind (each_of _ zs (λ z i. h.other z (not_x z i) (not_p z i) (not_a z i))) in
+    let mid : RunsThrough g p (Some x) (x ∷ a ∷ zs) last None = (refl, ap (λ u. u.prev) h.here, subst (λ o. RunsThrough g (Some x) o (a ∷ zs) last None) (sym (ap (λ u. u.next) h.here)) rest) in
+    join g None (begins first p (Some x)) ys p (Some x) (x ∷ a ∷ zs) last None (front_part f g x p a h ys zs first d fresh one) mid

@@ -9,7 +9,7 @@ pub record HeldPort : Type 0 where
   pub port : ℕ
   pub mark : ℕ
 
--- a cell: seven links, seven numbers, and its ports
+-- a cell: seven links, eight numbers, and its ports
 pub record HeldCell : Type 0 where
   pub links : List (Option ℕ)
   pub numbers : List ℕ
@@ -73,7 +73,7 @@ ports_by (i ∷ j ∷ k ∷ is) = record { to = led_to i; port = number_by j; ma
 
 abbrev pub cell_by : List Item → Option HeldCell
 cell_by [] = None
-cell_by (i ∷ is) = Some record { links = first_links 7 (i ∷ is); numbers = first_numbers 7 (drop 7 (i ∷ is)); ports = ports_by (drop 14 (i ∷ is)) }
+cell_by (i ∷ is) = Some record { links = first_links 7 (i ∷ is); numbers = first_numbers 8 (drop 7 (i ∷ is)); ports = ports_by (drop 15 (i ∷ is)) }
 
 -- the cell of each number
 abbrev pub cells_by : List Row → ℕ → Option HeldCell
@@ -82,7 +82,7 @@ cells_by rows b = cell_by (items_in rows b)
 -- a cell has as many links and numbers as all cells, and fewer than 2 ^ 16 ports
 pub record IsShaped (c : HeldCell) : Type 0 where
   pub links : length c.links ≡ 7
-  pub numbers : length c.numbers ≡ 7
+  pub numbers : length c.numbers ≡ 8
   pub few : length c.ports < 2 ^ 16
 
 -- words are those of a cell, or there are none
@@ -134,7 +134,7 @@ with_mark j n c = record c { ports = slice_set c.ports j (record (slice_index_or
 
 -- a cell in which nothing is set
 abbrev pub blank_cell : ℕ → HeldCell
-blank_cell ports = record { links = replicate 7 None; numbers = replicate 7 0; ports = replicate ports no_port }
+blank_cell ports = record { links = replicate 7 None; numbers = replicate 8 0; ports = replicate ports no_port }
 
 -- the words of so many links that lead nowhere, of numbers that are 0, and of ports in which nothing is set
 abbrev pub blank_links : ℕ → List Item

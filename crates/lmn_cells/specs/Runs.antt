@@ -1,5 +1,5 @@
 -- Cells that are linked both ways, one behind the other.
-use Rattle.std.specs.Prelude.{◌≡◌, ◌≢◌, ◌<◌, ℕ, ◌+◌, List, [], ◌∷◌, Option, Some, None, IsSome, slice_index_or}
+use Rattle.std.specs.Prelude.{◌≡◌, ◌≢◌, ◌<◌, ℕ, ◌==◌, ◌+◌, List, [], ◌∷◌, Option, Some, None, IsSome, if◌then◌else◌, slice_index_or}
 use Rattle.std.specs.Option.{option_map}
 use Rattle.std.specs.List.{AllByRecursion}
 use Rattle.lmn_base.specs.Lists.{In}
@@ -70,3 +70,13 @@ unlinked f m e x = let p = link_in f x PREV in let n = link_in f x NEXT in alter
 abbrev pub appended : (ℕ → Option HeldCell) → ℕ → ℕ → ℕ → ℕ → Option HeldCell
 appended f m e x = let p = link_in f m (e + 1) in
     alter (with_next (alter (alter (alter f x (option_map (with_link HOME (Some m)))) x (option_map (with_link PREV p))) x (option_map (with_link NEXT None))) m e p (Some x)) m (option_map (with_link (e + 1) (Some x)))
+
+-- xs with x directly before the first a
+abbrev pub put_before : ℕ → ℕ → List ℕ → List ℕ
+put_before x a [] = []
+put_before x a (y ∷ ys) = if y == a then x ∷ y ∷ ys else y ∷ put_before x a ys
+
+-- a cell stands directly before a in the list at m and e
+abbrev pub inserted : (ℕ → Option HeldCell) → ℕ → ℕ → ℕ → ℕ → ℕ → Option HeldCell
+inserted f m e a x = let p = link_in f a PREV in
+    alter (with_next (alter (alter (alter f x (option_map (with_link HOME (Some m)))) x (option_map (with_link PREV p))) x (option_map (with_link NEXT (Some a)))) m e p (Some x)) a (option_map (with_link PREV (Some x)))

@@ -1,4 +1,4 @@
-//! Cells: rows with seven links, seven numbers and three words for each port.
+//! Cells: rows with seven links, eight numbers and three words for each port.
 ghost use Rattle.std.specs.Prelude.{◌≡◌, ℕ, ◌+◌, ◌*◌, ◌^◌, ◌<◌, ◌∷◌, length, IsSome, None, Some, MatchResult, slice_index_or};
 ghost use Rattle.std.specs.Option.{option_map};
 ghost use denote.RawPtr.{block_of};
@@ -110,7 +110,7 @@ impl Cells {
     /// A number of a cell.
     pub fn number(&self, c: Cell, k: usize) -> u64
         requires there { IsSome (cells_by self.now (cell_id c)) }
-        requires below { k < 7 }
+        requires below { k < 8 }
         ensures { result ≡ slice_index_or (numbers_of (cells_by self.now (cell_id c))) k 0 }
     {
         self.rows.number(c.at, LINKS + k)
@@ -119,7 +119,7 @@ impl Cells {
     /// A number of a cell is another.
     pub fn set_number(&mut self, c: Cell, k: usize, n: u64)
         requires there { IsSome (cells_by self.old (cell_id c)) }
-        requires below { k < 7 }
+        requires below { k < 8 }
         ensures { cells_by self.new ≡ alter (cells_by self.old) (cell_id c) (option_map (with_number k n)) }
     {
         self.rows.set_number(c.at, LINKS + k, n);

@@ -5,7 +5,7 @@ ghost use Rattle.lmn_heap.specs.Lists.{without};
 ghost use Rattle.lmn_base.specs.Lists.{In};
 ghost use Rattle.lmn_cells.specs.Cells.{cells_by};
 ghost use Rattle.lmn_cells.specs.CellIds.{cell_id};
-ghost use Rattle.lmn_cells.specs.Runs.{Line, IsHome, Apart, with_next, with_prev, unlinked, appended};
+ghost use Rattle.lmn_cells.specs.Runs.{Line, IsHome, Apart, with_next, with_prev, unlinked, appended, inserted, put_before};
 
 use crate::cell::Cells;
 use crate::handle::Cell;
@@ -59,6 +59,27 @@ pub fn append(cells: &mut Cells, m: Cell, e: usize, c: Cell)
     cells.set_link(c, NEXT, None);
     set_next(cells, m, e, last, Some(c));
     cells.set_link(m, e + 1, Some(c));
+}
+
+/// A cell goes directly before another one, in the list that begins at a link of a membrane.
+pub fn insert(cells: &mut Cells, m: Cell, e: usize, at: Cell, c: Cell)
+    requires home { IsHome (cells_by cells.old) (cell_id m) e }
+    requires there { IsSome (cells_by cells.old (cell_id c)) }
+    requires differ { cell_id c ≢ cell_id m }
+    requires list { (xs : List ℕ) × Line (cells_by cells.old) (cell_id m) e xs × In (cell_id at) xs × (In (cell_id c) xs → ⊥) }
+    ensures inserted { cells_by cells.new ≡ inserted (cells_by cells.old) (cell_id m) e (cell_id at) (cell_id c) }
+    ensures list { (xs : List ℕ) → Line (cells_by cells.old) (cell_id m) e xs → In (cell_id at) xs → (In (cell_id c) xs → ⊥) →
+        Line (cells_by cells.new) (cell_id m) e (put_before (cell_id c) (cell_id at) xs) }
+    ensures others { (xs : List ℕ) → Line (cells_by cells.old) (cell_id m) e xs → In (cell_id at) xs → (In (cell_id c) xs → ⊥) → (n k : ℕ) (ys : List ℕ) → Line (cells_by cells.old) n k ys →
+        Apart (cell_id m) e (cell_id c ∷ xs) n k ys → Line (cells_by cells.new) n k ys }
+{
+    cells.whole();
+    let prev = cells.link(at, PREV);
+    cells.set_link(c, HOME, Some(m));
+    cells.set_link(c, PREV, prev);
+    cells.set_link(c, NEXT, Some(at));
+    set_next(cells, m, e, prev, Some(c));
+    cells.set_link(at, PREV, Some(c));
 }
 
 /// A cell leaves the list that begins at a link of a membrane.

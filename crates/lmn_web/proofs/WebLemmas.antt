@@ -1,5 +1,5 @@
 -- How a change of cells is a change of the web.
-use Rattle.std.proofs.Common.{◌≡◌, ◌≢◌, ◌↔◌, ◌⊎◌, ℕ, zero, suc, ◌<◌, ◌==◌, Bool, true, List, [], ◌∷◌, ◌++◌, length, map, get_or, set, slice_get, replicate, Option, Some, None, IsSome, is_some, false, refl, sym, ap, subst, ◌∙◌, inl, inr, arith, length-set, get_or-set_same, get_or-set_other}
+use Rattle.std.proofs.Common.{◌≡◌, ◌≢◌, ◌↔◌, ◌⊎◌, ℕ, zero, suc, ◌+◌, ◌<◌, ◌==◌, Bool, true, List, [], ◌∷◌, ◌++◌, length, map, get_or, set, slice_get, replicate, Option, Some, None, IsSome, is_some, false, refl, sym, ap, subst, ◌∙◌, inl, inr, arith, length-set, get_or-set_same, get_or-set_other}
 use Rattle.std.proofs.lemmas.Bool.{cases_eq, eq-eqb}
 use Rattle.std.proofs.lemmas.List.{map-set, length-map, length-replicate}
 use Rattle.std.proofs.lemmas.Option.{slice_get_within}
@@ -8,13 +8,17 @@ use Rattle.std.specs.Option.{option_map}
 use Rattle.lmn_base.proofs.Numbers.{not_equal}
 use Rattle.lmn_heap.specs.Heap.{alter}
 use Rattle.lmn_heap.proofs.Listing.{alter_at, alter_away, alter_keeps}
-use Rattle.lmn_cells.specs.Cells.{HeldPort, HeldCell, blank_cell, numbers_of, ports_of, port_of, no_port, with_number, with_mark as with_port_mark}
+use Rattle.lmn_cells.specs.Cells.{HeldPort, HeldCell, blank_cell, links_of, numbers_of, ports_of, port_of, no_port, with_number, with_mark as with_port_mark}
 use Rattle.lmn_cells.specs.Ports as cell
 use Rattle.lmn_cells.specs.Ports.{IsPort, Reaches, Paired, partner_by, partner_in}
 use Rattle.lmn_cells.proofs.PortLemmas.{cleared_ports, linked_ports}
-use Rattle.lmn_web.specs.Webs.{WebCell, partners_of, web_cell, web_of, partner_at, arity_at, new_cell, described, with_partner, with_mark, linked, cleared, joined, parted, IsPaired, IsWeb, IsIndexed, INDEX, ARITY, KIND, HIGH, LOW, OWN, number_in, label_by}
+use Rattle.lmn_cells.specs.Runs.{HOME}
+use Rattle.lmn_web.specs.Webs.{WebCell, partners_of, web_cell, web_with, web_of, list_in, list_link, count_number, partner_at, arity_at, new_cell, with_partner, with_mark, linked, cleared, joined, parted, IsPaired, INDEX, ARITY, KIND, HIGH, LOW, OWN, number_in, label_by}
+use Rattle.lmn_web.specs.Indexes.{described, IsListed, IsWeb, IsIndexed}
+use Rattle.lmn_web.proofs.ListedLemmas.{Listing, listing, lists_same, listed_self, listed_beside, web_self, cell_of}
 use Rattle.lmn_web.specs.Kinds.{kind_by}
 use Rattle.lmn_web.specs.declared.kind.CellKind.{CellKind}
+use Rattle.lmn_web.specs.declared.kind.CellKind.TheVariants.{Atom, Membrane}
 
 -- Lists
 
@@ -41,101 +45,104 @@ get_mapped (p ∷ ps) (suc i) = get_mapped ps i
 -- Reading
 
 -- a cell that the web has is there
-pub some_back : (o : Option HeldCell) → IsSome (option_map web_cell o) → IsSome o
-some_back None t = t
-some_back (Some c) t = refl
+pub some_back : (f : ℕ → Option HeldCell) (ys : ℕ → CellKind → List ℕ) (a : ℕ) → IsSome (web_with f ys a) → IsSome (f a)
+some_back f ys a = by (f a)
+  where
+    by : (o : Option HeldCell) → IsSome (option_map (web_cell (ys a)) o) → IsSome o
+    by None t = t
+    by (Some c) t = refl
 
 -- the other end of a port, in the cells and in the web
-pub partner_same : (f : ℕ → Option HeldCell) (a i : ℕ) → partner_at (web_of f) a i ≡ partner_in f a i
-partner_same f a i = by (f a)
+pub partner_same : (f : ℕ → Option HeldCell) (ys : ℕ → CellKind → List ℕ) (a i : ℕ) → partner_at (web_with f ys) a i ≡ partner_in f a i
+partner_same f ys a i = by (f a)
   where
-    by : (o : Option HeldCell) → get_or (partners_of (option_map web_cell o)) i None ≡ partner_by (port_of o i)
+    by : (o : Option HeldCell) → get_or (partners_of (option_map (web_cell (ys a)) o)) i None ≡ partner_by (port_of o i)
     by None = refl
     by (Some c) = get_mapped c.ports i
 
 -- how many ports a cell has, in the cells and in the web
-pub arity_same : (f : ℕ → Option HeldCell) (a : ℕ) → arity_at (web_of f) a ≡ length (ports_of (f a))
-arity_same f a = by (f a)
+pub arity_same : (f : ℕ → Option HeldCell) (ys : ℕ → CellKind → List ℕ) (a : ℕ) → arity_at (web_with f ys) a ≡ length (ports_of (f a))
+arity_same f ys a = by (f a)
   where
-    by : (o : Option HeldCell) → length (partners_of (option_map web_cell o)) ≡ length (ports_of o)
+    by : (o : Option HeldCell) → length (partners_of (option_map (web_cell (ys a)) o)) ≡ length (ports_of o)
     by None = refl
     by (Some c) = length-map c.ports partner_by
 
 -- a port of the web is one of the cells
-pub port_back : (f : ℕ → Option HeldCell) (a i : ℕ) → i < arity_at (web_of f) a → IsPort f a i
-port_back f a i l = subst (λ n. i < n) (arity_same f a) l
+pub port_back : (f : ℕ → Option HeldCell) (ys : ℕ → CellKind → List ℕ) (a i : ℕ) → i < arity_at (web_with f ys) a → IsPort f a i
+port_back f ys a i l = subst (λ n. i < n) (arity_same f ys a) l
 
 -- Changes
 
 -- a change of a cell is a change of what it stands for
-pub commutes : (f : ℕ → Option HeldCell) (a : ℕ) (g : HeldCell → HeldCell) (h : WebCell → WebCell) → ((c : HeldCell) → f a ≡ Some c → web_cell (g c) ≡ h (web_cell c))
-    → web_of (alter f a (option_map g)) ≡ alter (web_of f) a (option_map h)
-commutes f a g h e = λ t b. at b t
+pub commutes : (f : ℕ → Option HeldCell) (ys : ℕ → CellKind → List ℕ) (a : ℕ) (g : HeldCell → HeldCell) (h : WebCell → WebCell) → ((c : HeldCell) → f a ≡ Some c → web_cell (ys a) (g c) ≡ h (web_cell (ys a) c))
+    → web_with (alter f a (option_map g)) ys ≡ alter (web_with f ys) a (option_map h)
+commutes f ys a g h e = λ t b. at b t
   where
-    by : (o : Option HeldCell) → ((c : HeldCell) → o ≡ Some c → web_cell (g c) ≡ h (web_cell c)) → option_map web_cell (option_map g o) ≡ option_map h (option_map web_cell o)
+    by : (o : Option HeldCell) → ((c : HeldCell) → o ≡ Some c → web_cell (ys a) (g c) ≡ h (web_cell (ys a) c)) → option_map (web_cell (ys a)) (option_map g o) ≡ option_map h (option_map (web_cell (ys a)) o)
     by None k = refl
     by (Some c) k = ap Some (k c refl)
 
-    at : (b : ℕ) → web_of (alter f a (option_map g)) b ≡ alter (web_of f) a (option_map h) b
+    at : (b : ℕ) → web_with (alter f a (option_map g)) ys b ≡ alter (web_with f ys) a (option_map h) b
     at b = elim (cases_eq b a) [
-      | inl s ↦ ap (web_of (alter f a (option_map g))) s ∙ ap (option_map web_cell) (alter_at f a (option_map g)) ∙ by (f a) e
-          ∙ sym (ap (alter (web_of f) a (option_map h)) s ∙ alter_at (web_of f) a (option_map h))
-      | inr d ↦ ap (option_map web_cell) (alter_away f a (option_map g) b d) ∙ sym (alter_away (web_of f) a (option_map h) b d)
+      | inl s ↦ ap (web_with (alter f a (option_map g)) ys) s ∙ ap (option_map (web_cell (ys a))) (alter_at f a (option_map g)) ∙ by (f a) e
+          ∙ sym (ap (alter (web_with f ys) a (option_map h)) s ∙ alter_at (web_with f ys) a (option_map h))
+      | inr d ↦ ap (option_map (web_cell (ys b))) (alter_away f a (option_map g) b d) ∙ sym (alter_away (web_with f ys) a (option_map h) b d)
     ]
 
 -- a cell of which two parts are others
 parts : (c : WebCell) (ps qs : List (Option (ℕ × ℕ))) (ms ns : List ℕ) → ps ≡ qs → ms ≡ ns → record c { partners = ps; marks = ms } ≡ record c { partners = qs; marks = ns }
 parts c ps qs ms ns p m = λ t. record c { partners = p t; marks = m t }
 
-none_cell : (i : ℕ) (c : HeldCell) → web_cell (cell.with_partner i None c) ≡ with_partner i None (web_cell c)
-none_cell i c = let q : HeldPort = record (get_or c.ports i no_port) { to = None } in
-    parts (web_cell c) _ _ _ _ (map-set partner_by c.ports i q) (ap (λ ms. ms ++ get_or c.numbers OWN 0 ∷ []) (map-set_same (λ (p : HeldPort). p.mark) c.ports i q no_port refl))
+none_cell : (lists : CellKind → List ℕ) (i : ℕ) (c : HeldCell) → web_cell lists (cell.with_partner i None c) ≡ with_partner i None (web_cell lists c)
+none_cell lists i c = let q : HeldPort = record (get_or c.ports i no_port) { to = None } in
+    parts (web_cell lists c) _ _ _ _ (map-set partner_by c.ports i q) (ap (λ ms. ms ++ get_or c.numbers OWN 0 ∷ []) (map-set_same (λ (p : HeldPort). p.mark) c.ports i q no_port refl))
 
-some_cell : (i : ℕ) (p : ℕ × ℕ) (c : HeldCell) → i < length c.ports → web_cell (cell.with_partner i (Some p) c) ≡ with_partner i (Some p) (web_cell c)
-some_cell i p c l =
+some_cell : (lists : CellKind → List ℕ) (i : ℕ) (p : ℕ × ℕ) (c : HeldCell) → i < length c.ports → web_cell lists (cell.with_partner i (Some p) c) ≡ with_partner i (Some p) (web_cell lists c)
+some_cell lists i p c l =
     let q : HeldPort = record (get_or c.ports i no_port) { to = Some p.0 } in let one = set c.ports i q in let r : HeldPort = record (get_or one i no_port) { port = p.1 } in
     let there : get_or one i no_port ≡ q = get_or-set_same c.ports i q no_port l in
-    parts (web_cell c) _ _ _ _
+    parts (web_cell lists c) _ _ _ _
     (map-set partner_by one i r ∙ ap (λ (z : HeldPort). set (map partner_by one) i (partner_by (record z { port = p.1 }))) there ∙ ap (λ ps. set ps i (Some p)) (map-set partner_by c.ports i q) ∙ set_twice (map partner_by c.ports) i (partner_by q) (Some p))
     (ap (λ ms. ms ++ get_or c.numbers OWN 0 ∷ []) (map-set_same (λ (z : HeldPort). z.mark) one i r no_port refl ∙ map-set_same (λ (z : HeldPort). z.mark) c.ports i q no_port refl))
 
-linked_none : (f : ℕ → Option HeldCell) (a i : ℕ) → web_of (cell.linked f a i None) ≡ linked (web_of f) a i None
-linked_none f a i = commutes f a (cell.with_partner i None) (with_partner i None) (λ c e. none_cell i c)
+linked_none : (f : ℕ → Option HeldCell) (ys : ℕ → CellKind → List ℕ) (a i : ℕ) → web_with (cell.linked f a i None) ys ≡ linked (web_with f ys) a i None
+linked_none f ys a i = commutes f ys a (cell.with_partner i None) (with_partner i None) (λ c e. none_cell (ys a) i c)
 
-linked_some : (f : ℕ → Option HeldCell) (a i : ℕ) (p : ℕ × ℕ) → IsPort f a i → web_of (cell.linked f a i (Some p)) ≡ linked (web_of f) a i (Some p)
-linked_some f a i p l = commutes f a (cell.with_partner i (Some p)) (with_partner i (Some p)) (λ c e. some_cell i p c (subst (λ (o : Option HeldCell). i < length (ports_of o)) e l))
+linked_some : (f : ℕ → Option HeldCell) (ys : ℕ → CellKind → List ℕ) (a i : ℕ) (p : ℕ × ℕ) → IsPort f a i → web_with (cell.linked f a i (Some p)) ys ≡ linked (web_with f ys) a i (Some p)
+linked_some f ys a i p l = commutes f ys a (cell.with_partner i (Some p)) (with_partner i (Some p)) (λ c e. some_cell (ys a) i p c (subst (λ (o : Option HeldCell). i < length (ports_of o)) e l))
 
-cleared_web : (f : ℕ → Option HeldCell) (p : Option (ℕ × ℕ)) → web_of (cell.cleared f p) ≡ cleared (web_of f) p
-cleared_web f None = refl
-cleared_web f (Some p) = linked_none f p.0 p.1
+cleared_web : (f : ℕ → Option HeldCell) (ys : ℕ → CellKind → List ℕ) (p : Option (ℕ × ℕ)) → web_with (cell.cleared f p) ys ≡ cleared (web_with f ys) p
+cleared_web f ys None = refl
+cleared_web f ys (Some p) = linked_none f ys p.0 p.1
 
 -- two ports that are joined
-pub joined_web : (f : ℕ → Option HeldCell) (a i b j : ℕ) → IsPort f a i → IsPort f b j → web_of (cell.joined f a i b j) ≡ joined (web_of f) a i b j
-joined_web f a i b j pa pb =
+pub joined_web : (f : ℕ → Option HeldCell) (ys : ℕ → CellKind → List ℕ) (a i b j : ℕ) → IsPort f a i → IsPort f b j → web_with (cell.joined f a i b j) ys ≡ joined (web_with f ys) a i b j
+joined_web f ys a i b j pa pb =
     let p = partner_in f a i in let q = partner_in f b j in let one = cell.cleared f p in let two = cell.cleared one q in let three = cell.linked two a i (Some (b, j)) in
-    linked_some three b j (a, i) (linked_ports two a i (Some (b, j)) b j (cleared_ports one q b j (cleared_ports f p b j pb)))
-    ∙ ap (λ (w : ℕ → Option WebCell). linked w b j (Some (a, i))) (linked_some two a i (b, j) (cleared_ports one q a i (cleared_ports f p a i pa))
-    ∙ ap (λ (w : ℕ → Option WebCell). linked w a i (Some (b, j))) (cleared_web one q ∙ ap (λ (w : ℕ → Option WebCell). cleared w q) (cleared_web f p)
-    ∙ sym (λ t. cleared (cleared (web_of f) (partner_same f a i t)) (partner_same f b j t))))
+    linked_some three ys b j (a, i) (linked_ports two a i (Some (b, j)) b j (cleared_ports one q b j (cleared_ports f p b j pb)))
+    ∙ ap (λ (w : ℕ → Option WebCell). linked w b j (Some (a, i))) (linked_some two ys a i (b, j) (cleared_ports one q a i (cleared_ports f p a i pa))
+    ∙ ap (λ (w : ℕ → Option WebCell). linked w a i (Some (b, j))) (cleared_web one ys q ∙ ap (λ (w : ℕ → Option WebCell). cleared w q) (cleared_web f ys p)
+    ∙ sym (λ t. cleared (cleared (web_with f ys) (partner_same f ys a i t)) (partner_same f ys b j t))))
 
 -- a port that is split
-pub parted_web : (f : ℕ → Option HeldCell) (a i : ℕ) → web_of (cell.parted f a i) ≡ parted (web_of f) a i
-parted_web f a i =
-    linked_none (cell.cleared f (partner_in f a i)) a i
-    ∙ ap (λ (w : ℕ → Option WebCell). linked w a i None) (cleared_web f (partner_in f a i) ∙ sym (ap (cleared (web_of f)) (partner_same f a i)))
+pub parted_web : (f : ℕ → Option HeldCell) (ys : ℕ → CellKind → List ℕ) (a i : ℕ) → web_with (cell.parted f a i) ys ≡ parted (web_with f ys) a i
+parted_web f ys a i =
+    linked_none (cell.cleared f (partner_in f a i)) ys a i
+    ∙ ap (λ (w : ℕ → Option WebCell). linked w a i None) (cleared_web f ys (partner_in f a i) ∙ sym (ap (cleared (web_with f ys)) (partner_same f ys a i)))
 
 -- the mark of a port
-pub port_mark_web : (f : ℕ → Option HeldCell) (a i v : ℕ) → IsPort f a i → web_of (alter f a (option_map (with_port_mark i v))) ≡ alter (web_of f) a (option_map (with_mark i v))
-port_mark_web f a i v l = commutes f a (with_port_mark i v) (with_mark i v) (λ c e.
+pub port_mark_web : (f : ℕ → Option HeldCell) (ys : ℕ → CellKind → List ℕ) (a i v : ℕ) → IsPort f a i → web_with (alter f a (option_map (with_port_mark i v))) ys ≡ alter (web_with f ys) a (option_map (with_mark i v))
+port_mark_web f ys a i v l = commutes f ys a (with_port_mark i v) (with_mark i v) (λ c e.
     let q : HeldPort = record (get_or c.ports i no_port) { mark = v } in
-    parts (web_cell c) _ _ _ _ (map-set_same partner_by c.ports i q no_port refl)
+    parts (web_cell (ys a) c) _ _ _ _ (map-set_same partner_by c.ports i q no_port refl)
     (ap (λ ms. ms ++ get_or c.numbers OWN 0 ∷ []) (map-set (λ (p : HeldPort). p.mark) c.ports i q)
     ∙ sym (set_front (map (λ (p : HeldPort). p.mark) c.ports) (get_or c.numbers OWN 0) v i (subst (λ n. i < n) (sym (length-map c.ports (λ (p : HeldPort). p.mark))) (subst (λ (o : Option HeldCell). i < length (ports_of o)) e l)))))
 
 -- a cell's own mark
-pub own_mark_web : (f : ℕ → Option HeldCell) (a i v : ℕ) → length (numbers_of (f a)) ≡ 7 → i ≡ length (ports_of (f a)) → web_of (alter f a (option_map (with_number OWN v))) ≡ alter (web_of f) a (option_map (with_mark i v))
-own_mark_web f a i v n last = commutes f a (with_number OWN v) (with_mark i v) (λ c e.
-    let ns = c.numbers in let seven : length ns ≡ 7 = subst (λ (o : Option HeldCell). length (numbers_of o) ≡ 7) e n in
+pub own_mark_web : (f : ℕ → Option HeldCell) (ys : ℕ → CellKind → List ℕ) (a i v : ℕ) → length (numbers_of (f a)) ≡ 8 → i ≡ length (ports_of (f a)) → web_with (alter f a (option_map (with_number OWN v))) ys ≡ alter (web_with f ys) a (option_map (with_mark i v))
+own_mark_web f ys a i v n last = commutes f ys a (with_number OWN v) (with_mark i v) (λ c e.
+    let ns = c.numbers in let seven : length ns ≡ 8 = subst (λ (o : Option HeldCell). length (numbers_of o) ≡ 8) e n in
     let other : (k : ℕ) → k ≢ OWN → get_or (set ns OWN v) k 0 ≡ get_or ns k 0 = λ k d. get_or-set_other ns OWN k v 0 d in
     let at : i ≡ length c.ports = subst (λ (o : Option HeldCell). i ≡ length (ports_of o)) e last in
     let ms = map (λ (p : HeldPort). p.mark) c.ports in
@@ -146,33 +153,59 @@ own_mark_web f a i v n last = commutes f a (with_number OWN v) (with_mark i v) (
       kind = kind_by (other KIND (λ z. absurd (omega (arith, z))) t);
       partners = map partner_by c.ports;
       marks = new t;
+      home = get_or c.links HOME None;
+      atoms = ys a Atom;
+      membranes = ys a Membrane;
     })
 
 -- What holds of every web
 
 -- what of a cell the web keeps account of
-pub record Told : Type 0 where
+pub record Account : Type 0 where
   pub there : Bool
   pub index : ℕ
   pub arity : ℕ
   pub numbers : ℕ
   pub ports : ℕ
 
+-- the account of the cell at a number, or of none
+abbrev pub account : Option HeldCell → Account
+account o = record { there = is_some o; index = get_or (numbers_of o) INDEX 0; arity = get_or (numbers_of o) ARITY 0; numbers = length (numbers_of o); ports = length (ports_of o) }
+
+-- that, and what its lists are read off
+pub record Told : Type 0 where
+  pub there : Bool
+  pub index : ℕ
+  pub arity : ℕ
+  pub numbers : ℕ
+  pub ports : ℕ
+  pub listing : Listing
+
 -- what is told of the cell at a number, or of none
 abbrev pub told : Option HeldCell → Told
-told o = record { there = is_some o; index = get_or (numbers_of o) INDEX 0; arity = get_or (numbers_of o) ARITY 0; numbers = length (numbers_of o); ports = length (ports_of o) }
+told o = record { there = is_some o; index = get_or (numbers_of o) INDEX 0; arity = get_or (numbers_of o) ARITY 0; numbers = length (numbers_of o); ports = length (ports_of o); listing = listing o }
 
-Tells : List ℕ → (ℕ → Told) → Type 0
+Tells : List ℕ → (ℕ → Account) → Type 0
 Tells all k = ((b i : ℕ) → (slice_get all i ≡ Some b) ↔ (((k b).there ≡ true) × ((k b).index ≡ i)))
-    × ((b : ℕ) → (k b).there ≡ true → (k b).arity ≡ (k b).ports) × ((b : ℕ) → (k b).ports < 256) × ((b : ℕ) → (k b).there ≡ true → (k b).numbers ≡ 7)
+    × ((b : ℕ) → (k b).there ≡ true → (k b).arity ≡ (k b).ports) × ((b : ℕ) → (k b).ports < 256) × ((b : ℕ) → (k b).there ≡ true → (k b).numbers ≡ 8)
 
--- a change that leaves what is told of each cell, and all ports paired, leaves a web
-pub same_web : (f g : ℕ → Option HeldCell) (all : List ℕ) → IsWeb f all → ((b : ℕ) → told (g b) ≡ told (f b)) → Reaches g → Paired g → IsWeb g all
+-- a change that leaves the account of each cell, and all ports paired, leaves a web if the lists are right
+pub kept_web : (f g : ℕ → Option HeldCell) (all : List ℕ) → IsWeb f all → ((b : ℕ) → account (g b) ≡ account (f b)) → Reaches g → Paired g → IsListed g (list_in g) → IsWeb g all
 unfolding Tells
+kept_web f g all w same reaches paired listed =
+    let e : ◌≡◌ {A = ℕ → Account} (λ b. account (f b)) (λ b. account (g b)) = λ t b. sym (same b) t in
+    let k : Tells all (λ b. account (g b)) = subst (Tells all) e (w.indexed, w.arity, w.few, w.numbers) in
+    record { indexed = k.0; arity = k.1; few = k.2; numbers = k.3; reaches = reaches; paired = paired; listed = listed }
+
+-- one that leaves what is told of each cell leaves the lists too
+pub same_web : (f g : ℕ → Option HeldCell) (all : List ℕ) → IsWeb f all → ((b : ℕ) → told (g b) ≡ told (f b)) → Reaches g → Paired g → IsWeb g all
 same_web f g all w same reaches paired =
-    let e : ◌≡◌ {A = ℕ → Told} (λ b. told (f b)) (λ b. told (g b)) = λ t b. sym (same b) t in
-    let k : Tells all (λ b. told (g b)) = subst (Tells all) e (w.indexed, w.arity, w.few, w.numbers) in
-    record { indexed = k.0; arity = k.1; few = k.2; numbers = k.3; reaches = reaches; paired = paired }
+    kept_web f g all w (λ b. ap (λ (k : Told). record { there = k.there; index = k.index; arity = k.arity; numbers = k.numbers; ports = k.ports }) (same b)) reaches paired
+    (listed_self g (list_in f) (lists_same f g (λ b. ap (λ (k : Told). k.listing) (same b)) (list_in f) w.listed))
+
+-- and the web has the lists that it had
+pub web_keeps : (f g : ℕ → Option HeldCell) (all : List ℕ) → IsWeb f all → ((b : ℕ) → told (g b) ≡ told (f b)) → web_of g ≡ web_with g (list_in f)
+web_keeps f g all w same = web_self g (list_in f) (lists_same f g (λ b. ap (λ (k : Told). k.listing) (same b)) (list_in f) w.listed)
 
 told_partner : (i : ℕ) (p : Option (ℕ × ℕ)) (o : Option HeldCell) → told (option_map (cell.with_partner i p) o) ≡ told o
 told_partner i p None = refl
@@ -198,8 +231,8 @@ pub told_parted : (f : ℕ → Option HeldCell) (a i c : ℕ) → told (cell.par
 told_parted f a i c = told_linked (cell.cleared f (partner_in f a i)) a i None c ∙ told_cleared f (partner_in f a i) c
 
 -- ports with the partners that they had are paired
-pub reaches_same : (f g : ℕ → Option HeldCell) → ((b i : ℕ) → partner_in g b i ≡ partner_in f b i) → ((b : ℕ) → told (g b) ≡ told (f b)) → Reaches f → Reaches g
-reaches_same f g same t r a i b j e = subst (λ (k : Told). j < k.ports) (sym (t b)) (r a i b j (sym (same a i) ∙ e))
+pub reaches_same : (f g : ℕ → Option HeldCell) → ((b i : ℕ) → partner_in g b i ≡ partner_in f b i) → ((b : ℕ) → length (ports_of (g b)) ≡ length (ports_of (f b))) → Reaches f → Reaches g
+reaches_same f g same t r a i b j e = subst (λ n. j < n) (sym (t b)) (r a i b j (sym (same a i) ∙ e))
 
 -- and nothing else
 pub paired_same : (f g : ℕ → Option HeldCell) → ((b i : ℕ) → partner_in g b i ≡ partner_in f b i) → Paired f → Paired g
@@ -208,30 +241,17 @@ paired_same f g same p = record {
   apart = λ a i e. p.apart a i (sym (same a i) ∙ e);
 }
 
--- a mark of a port leaves a web
-pub port_mark_keeps : (f : ℕ → Option HeldCell) (all : List ℕ) (a i v : ℕ) → IsWeb f all → IsWeb (alter f a (option_map (with_port_mark i v))) all
-port_mark_keeps f all a i v w =
-    let g = alter f a (option_map (with_port_mark i v)) in
-    let t : (b : ℕ) → told (g b) ≡ told (f b) = alter_keeps f a (option_map (with_port_mark i v)) told counts in
-    let s : (b k : ℕ) → partner_in g b k ≡ partner_in f b k = λ b k. alter_keeps f a (option_map (with_port_mark i v)) (λ o. partner_by (port_of o k)) (partners k) b in
-    same_web f g all w t (reaches_same f g s t w.reaches) (paired_same f g s w.paired)
+-- a mark of a port
+told_mark : (f : ℕ → Option HeldCell) (a i v b : ℕ) → told (alter f a (option_map (with_port_mark i v)) b) ≡ told (f b)
+told_mark f a i v b = alter_keeps f a (option_map (with_port_mark i v)) told counts b
   where
     counts : (o : Option HeldCell) → told (option_map (with_port_mark i v) o) ≡ told o
     counts None = refl
     counts (Some c) = λ t. record (told (Some c)) { ports = length-set c.ports i (record (get_or c.ports i no_port) { mark = v }) t }
 
-    partners : (k : ℕ) (o : Option HeldCell) → partner_by (port_of (option_map (with_port_mark i v) o) k) ≡ partner_by (port_of o k)
-    partners k None = refl
-    partners k (Some c) = let q : HeldPort = record (get_or c.ports i no_port) { mark = v } in
-        sym (get_mapped (set c.ports i q) k) ∙ ap (λ ps. get_or ps k None) (map-set_same partner_by c.ports i q no_port refl) ∙ get_mapped c.ports k
-
--- and so does its own mark
-pub own_mark_keeps : (f : ℕ → Option HeldCell) (all : List ℕ) (a v : ℕ) → IsWeb f all → IsWeb (alter f a (option_map (with_number OWN v))) all
-own_mark_keeps f all a v w =
-    let g = alter f a (option_map (with_number OWN v)) in
-    let t : (b : ℕ) → told (g b) ≡ told (f b) = alter_keeps f a (option_map (with_number OWN v)) told counts in
-    let s : (b k : ℕ) → partner_in g b k ≡ partner_in f b k = λ b k. alter_keeps f a (option_map (with_number OWN v)) (λ o. partner_by (port_of o k)) (partners k) b in
-    same_web f g all w t (reaches_same f g s t w.reaches) (paired_same f g s w.paired)
+-- and a cell's own
+told_own : (f : ℕ → Option HeldCell) (a v b : ℕ) → told (alter f a (option_map (with_number OWN v)) b) ≡ told (f b)
+told_own f a v b = alter_keeps f a (option_map (with_number OWN v)) told counts b
   where
     counts : (o : Option HeldCell) → told (option_map (with_number OWN v) o) ≡ told o
     counts None = refl
@@ -239,11 +259,43 @@ own_mark_keeps f all a v w =
       index = get_or-set_other c.numbers OWN INDEX v 0 (λ z. absurd (omega (arith, z))) t;
       arity = get_or-set_other c.numbers OWN ARITY v 0 (λ z. absurd (omega (arith, z))) t;
       numbers = length-set c.numbers OWN v t;
+      listing = record (listing (Some c)) {
+        kind = get_or-set_other c.numbers OWN KIND v 0 (λ z. absurd (omega (arith, z))) t;
+        atoms = get_or-set_other c.numbers OWN 6 v 0 (λ z. absurd (omega (arith, z))) t;
+        membranes = get_or-set_other c.numbers OWN 7 v 0 (λ z. absurd (omega (arith, z))) t;
+      };
     }
 
+-- a mark of a port leaves a web
+pub port_mark_keeps : (f : ℕ → Option HeldCell) (all : List ℕ) (a i v : ℕ) → IsWeb f all → IsWeb (alter f a (option_map (with_port_mark i v))) all
+port_mark_keeps f all a i v w =
+    let g = alter f a (option_map (with_port_mark i v)) in
+    let s : (b k : ℕ) → partner_in g b k ≡ partner_in f b k = λ b k. alter_keeps f a (option_map (with_port_mark i v)) (λ o. partner_by (port_of o k)) (partners k) b in
+    same_web f g all w (told_mark f a i v) (reaches_same f g s (λ b. ap (λ (k : Told). k.ports) (told_mark f a i v b)) w.reaches) (paired_same f g s w.paired)
+  where
+    partners : (k : ℕ) (o : Option HeldCell) → partner_by (port_of (option_map (with_port_mark i v) o) k) ≡ partner_by (port_of o k)
+    partners k None = refl
+    partners k (Some c) = let q : HeldPort = record (get_or c.ports i no_port) { mark = v } in
+        sym (get_mapped (set c.ports i q) k) ∙ ap (λ ps. get_or ps k None) (map-set_same partner_by c.ports i q no_port refl) ∙ get_mapped c.ports k
+
+-- and its lists
+pub mark_keeps : (f g : ℕ → Option HeldCell) (all : List ℕ) (a i v : ℕ) → IsWeb f all → g ≡ alter f a (option_map (with_port_mark i v)) → web_of g ≡ web_with (alter f a (option_map (with_port_mark i v))) (list_in f)
+mark_keeps f g all a i v w e = ap web_of e ∙ web_keeps f (alter f a (option_map (with_port_mark i v))) all w (told_mark f a i v)
+
+-- and so does its own mark
+pub own_mark_keeps : (f : ℕ → Option HeldCell) (all : List ℕ) (a v : ℕ) → IsWeb f all → IsWeb (alter f a (option_map (with_number OWN v))) all
+own_mark_keeps f all a v w =
+    let g = alter f a (option_map (with_number OWN v)) in
+    let s : (b k : ℕ) → partner_in g b k ≡ partner_in f b k = λ b k. alter_keeps f a (option_map (with_number OWN v)) (λ o. partner_by (port_of o k)) (partners k) b in
+    same_web f g all w (told_own f a v) (reaches_same f g s (λ b. ap (λ (k : Told). k.ports) (told_own f a v b)) w.reaches) (paired_same f g s w.paired)
+  where
     partners : (k : ℕ) (o : Option HeldCell) → partner_by (port_of (option_map (with_number OWN v) o) k) ≡ partner_by (port_of o k)
     partners k None = refl
     partners k (Some c) = refl
+
+-- with its lists
+pub own_keeps : (f g : ℕ → Option HeldCell) (all : List ℕ) (a v : ℕ) → IsWeb f all → g ≡ alter f a (option_map (with_number OWN v)) → web_of g ≡ web_with (alter f a (option_map (with_number OWN v))) (list_in f)
+own_keeps f g all a v w e = ap web_of e ∙ web_keeps f (alter f a (option_map (with_number OWN v))) all w (told_own f a v)
 
 -- no cell, no index
 pub empty_web : (f : ℕ → Option HeldCell) (all : List ℕ) → f ≡ (λ _. None) → all ≡ [] → IsWeb f all
@@ -254,7 +306,18 @@ empty_web f all none bare = subst (λ (g : ℕ → Option HeldCell). IsWeb g all
   numbers = λ b t. absurd cc;
   reaches = λ a i b j e. absurd cc;
   paired = record { back = λ a i b j e. absurd cc; apart = λ a i e. absurd cc };
+  listed = listed_self (λ _. None) (λ m k. []) record {
+    line = λ m k t. absurd cc;
+    count = λ m k. none_counted k;
+    kinds = λ m x k i. absurd i;
+    homes = λ m x e. absurd cc;
+    bare = λ m k e. refl;
+  };
 })
+  where
+    none_counted : (k : CellKind) → number_in (λ _. None) 0 (count_number k) ≡ 0
+    none_counted Atom = refl
+    none_counted Membrane = refl
 
 -- two cells are one where their indices are
 pub same_test : (f : ℕ → Option HeldCell) (all : List ℕ) → IsWeb f all → (a b : ℕ) → IsSome (f a) → IsSome (f b) → (number_in f a INDEX == number_in f b INDEX) ≡ (a == b)
@@ -265,11 +328,11 @@ same_test f all w a b ta tb = elim (cases_eq a b) [
 ]
 
 -- all ports of a web are paired
-pub web_paired : (f : ℕ → Option HeldCell) → Reaches f → Paired f → IsPaired (web_of f)
-web_paired f r p = record {
-  reaches = λ a i b j e. subst (λ n. j < n) (sym (arity_same f b)) (r a i b j (sym (partner_same f a i) ∙ e));
-  back = λ a i b j e. partner_same f b j ∙ p.back a i b j (sym (partner_same f a i) ∙ e);
-  apart = λ a i e. p.apart a i (sym (partner_same f a i) ∙ e);
+pub web_paired : (f : ℕ → Option HeldCell) (ys : ℕ → CellKind → List ℕ) → Reaches f → Paired f → IsPaired (web_with f ys)
+web_paired f ys r p = record {
+  reaches = λ a i b j e. subst (λ n. j < n) (sym (arity_same f ys b)) (r a i b j (sym (partner_same f ys a i) ∙ e));
+  back = λ a i b j e. partner_same f ys b j ∙ p.back a i b j (sym (partner_same f ys a i) ∙ e);
+  apart = λ a i e. p.apart a i (sym (partner_same f ys a i) ∙ e);
 }
 
 -- A new cell
@@ -339,8 +402,9 @@ mapped_marks zero = refl
 mapped_marks (suc n) = ap (λ ms. 0 ∷ ms) (mapped_marks n)
 
 -- a new cell stands for a new cell of the web
-pub new_web : (l n i k h low : ℕ) (kind : CellKind) → label_by h low ≡ l → kind_by k ≡ kind → web_cell (described i n k h low (blank_cell n)) ≡ new_cell l n kind
-new_web l n i k h low kind el ek = λ t. record { label = el t; kind = ek t; partners = mapped_none n t; marks = ap (λ ms. ms ++ 0 ∷ []) (mapped_marks n) t }
+pub new_web : (lists : CellKind → List ℕ) (l n i k h low : ℕ) (kind : CellKind) → ((j : CellKind) → lists j ≡ []) → label_by h low ≡ l → kind_by k ≡ kind → web_cell lists (described i n k h low (blank_cell n)) ≡ new_cell l n kind
+new_web lists l n i k h low kind none el ek =
+    λ t. record { label = el t; kind = ek t; partners = mapped_none n t; marks = ap (λ ms. ms ++ 0 ∷ []) (mapped_marks n) t; home = None; atoms = none Atom t; membranes = none Membrane t }
 
 -- a cell that was made and described is one change
 pub made_once : (f one g : ℕ → Option HeldCell) (a : ℕ) (c : HeldCell) (h : HeldCell → HeldCell) → one ≡ alter f a (λ _. Some c) → g ≡ alter one a (option_map h) → g ≡ alter f a (λ _. Some (h c))
@@ -354,13 +418,13 @@ made_once f one g a c h e1 e2 = e2 ∙ ap (λ (u : ℕ → Option HeldCell). alt
     ]
 
 -- the web of a new cell and the others
-pub made_is : (f : ℕ → Option HeldCell) (a : ℕ) (c : HeldCell) → web_of (alter f a (λ _. Some c)) ≡ alter (web_of f) a (λ _. Some (web_cell c))
-made_is f a c = λ t b. at b t
+pub made_is : (f : ℕ → Option HeldCell) (ys : ℕ → CellKind → List ℕ) (a : ℕ) (c : HeldCell) → web_with (alter f a (λ _. Some c)) ys ≡ alter (web_with f ys) a (λ _. Some (web_cell (ys a) c))
+made_is f ys a c = λ t b. at b t
   where
-    at : (b : ℕ) → web_of (alter f a (λ _. Some c)) b ≡ alter (web_of f) a (λ _. Some (web_cell c)) b
+    at : (b : ℕ) → web_with (alter f a (λ _. Some c)) ys b ≡ alter (web_with f ys) a (λ _. Some (web_cell (ys a) c)) b
     at b = elim (cases_eq b a) [
-      | inl s ↦ ap (web_of (alter f a (λ _. Some c))) s ∙ ap (option_map web_cell) (alter_at f a (λ _. Some c)) ∙ sym (ap (alter (web_of f) a (λ _. Some (web_cell c))) s ∙ alter_at (web_of f) a (λ _. Some (web_cell c)))
-      | inr d ↦ ap (option_map web_cell) (alter_away f a (λ _. Some c) b d) ∙ sym (alter_away (web_of f) a (λ _. Some (web_cell c)) b d)
+      | inl s ↦ ap (web_with (alter f a (λ _. Some c)) ys) s ∙ ap (option_map (web_cell (ys a))) (alter_at f a (λ _. Some c)) ∙ sym (ap (alter (web_with f ys) a (λ _. Some (web_cell (ys a) c))) s ∙ alter_at (web_with f ys) a (λ _. Some (web_cell (ys a) c)))
+      | inr d ↦ ap (option_map (web_cell (ys b))) (alter_away f a (λ _. Some c) b d) ∙ sym (alter_away (web_with f ys) a (λ _. Some (web_cell (ys a) c)) b d)
     ]
 
 -- All cells are freed
@@ -414,11 +478,33 @@ module _ (f : ℕ → Option HeldCell) (all : List ℕ) (w : IsWeb f all) (a n k
     | inr d ↦ subst (P b) (sym (away b d)) (else_ b d)
   ]
 
+  blank_link : (j : CellKind) → get_or cell_made.links (list_link j) None ≡ None
+  blank_link Atom = refl
+  blank_link Membrane = refl
+
+  blank_end : (j : CellKind) → get_or cell_made.links (list_link j + 1) None ≡ None
+  blank_end Atom = refl
+  blank_end Membrane = refl
+
+  blank_count : (j : CellKind) → get_or cell_made.numbers (count_number j) 0 ≡ 0
+  blank_count Atom = refl
+  blank_count Membrane = refl
+
   no_a : IsSome (f a) → ⊥
   no_a t = let h = subst (λ (o : Option HeldCell). IsSome o) fresh t in absurd cc
 
   partners_stay : (b i : ℕ) → partner_in g b i ≡ partner_in f b i
   partners_stay b i = each (λ m o. partner_by (port_of o i) ≡ partner_in f m i) (none_there n i ∙ sym (ap (λ (o : Option HeldCell). partner_by (port_of o i)) fresh)) (λ m d. refl) b
+
+  -- nothing stands in the lists of a cell that isn't there
+  pub no_list : (k : CellKind) → list_in f a k ≡ []
+  no_list k = w.listed.bare a k (ap (λ (o : Option HeldCell). kind_by (get_or (numbers_of o) KIND 0)) fresh)
+
+  made_lists : IsListed g (list_in f)
+  made_lists = listed_beside f g a (list_in f) w.listed away (λ m j i. no_a (cell_of f (list_in f) w.listed m a j i).0) no_list
+      (λ j. (ap (λ (o : Option HeldCell). get_or (links_of o) (list_link j) None) here ∙ blank_link j, ap (λ (o : Option HeldCell). get_or (links_of o) (list_link j + 1) None) here ∙ blank_end j))
+      (λ j. ap (λ (o : Option HeldCell). get_or (numbers_of o) (count_number j) 0) here ∙ blank_count j)
+      (ap (λ (o : Option HeldCell). get_or (links_of o) HOME None) here)
 
   -- a new cell makes a web again
   pub made_web : IsWeb g (all ++ a ∷ [])
@@ -433,10 +519,15 @@ module _ (f : ℕ → Option HeldCell) (all : List ℕ) (w : IsWeb f all) (a n k
         )) b;
     arity = each (λ m o. IsSome o → get_or (numbers_of o) ARITY 0 ≡ length (ports_of o)) (λ t. sym (length-replicate n no_port)) (λ m d. w.arity m);
     few = each (λ m o. length (ports_of o) < 256) (subst (λ c. c < 256) (sym (length-replicate n no_port)) small) (λ m d. w.few m);
-    numbers = each (λ m o. IsSome o → length (numbers_of o) ≡ 7) (λ t. refl) (λ m d. w.numbers m);
+    numbers = each (λ m o. IsSome o → length (numbers_of o) ≡ 8) (λ t. refl) (λ m d. w.numbers m);
     reaches = λ c i b j e. let l : IsPort f b j = w.reaches c i b j (sym (partners_stay c i) ∙ e) in
         each (λ m o. (b ≡ m → j < length (ports_of o))) (λ s. absurd (let z : j < length (ports_of (f a)) = subst (λ m. j < length (ports_of (f m))) s l in
         let y : j < 0 = subst (λ (o : Option HeldCell). j < length (ports_of o)) fresh z in omega (arith, y)))
         (λ m d s. subst (λ q. j < length (ports_of (f q))) s l) b refl;
     paired = paired_same f g partners_stay w.paired;
+    listed = listed_self g (list_in f) made_lists;
   }
+
+  -- and the web has the new cell and all others
+  pub made_with : web_of g ≡ web_with g (list_in f)
+  made_with = web_self g (list_in f) made_lists

@@ -1,2 +1,4 @@
 pub mod Kinds
 pub mod Webs
+pub mod Indexes
+pub mod Examples

@@ -1,6 +1,7 @@
 //! What a cell stands for.
 ghost use Rattle.std.specs.Prelude.{◌≡◌};
 ghost use Rattle.lmn_web.specs.Kinds.{kind_by};
+ghost use Rattle.lmn_web.specs.Webs.{list_link, count_number};
 
 /// What a cell stands for.
 #[derive(Clone, Copy)]
@@ -29,5 +30,25 @@ pub fn kind_of(n: u64) -> CellKind
         CellKind::Atom
     } else {
         CellKind::Membrane
+    }
+}
+
+/// The link at which a list of this kind begins.
+pub fn first_link(kind: CellKind) -> usize
+    ensures { result ≡ list_link kind }
+{
+    match kind {
+        CellKind::Atom => 3,
+        CellKind::Membrane => 5,
+    }
+}
+
+/// The number that says how long it is.
+pub fn count_place(kind: CellKind) -> usize
+    ensures { result ≡ count_number kind }
+{
+    match kind {
+        CellKind::Atom => 6,
+        CellKind::Membrane => 7,
     }
 }

@@ -1,20 +1,29 @@
 //! The calls of a web.
-ghost use Rattle.std.specs.Prelude.{◌≡◌, ◌==◌, ℕ, ◌+◌, ◌^◌, ◌<◌, ◌≤◌, IsSome, None, Some, MatchResult, length, map, slice_index_or};
+ghost use Rattle.std.specs.Prelude.{◌≡◌, ◌≢◌, ◌==◌, ℕ, ◌+◌, ◌^◌, ◌<◌, ◌≤◌, IfSome, IsSome, None, Some, MatchResult, length, map, slice_get, slice_index_or};
 ghost use Rattle.std.specs.Option.{option_map};
+ghost use Rattle.lmn_base.specs.Lists.{In};
 ghost use Rattle.lmn_heap.specs.Heap.{alter};
+ghost use Rattle.lmn_heap.specs.Lists.{after, from};
 ghost use Rattle.lmn_cells.specs.Cells.{cells_by};
 ghost use Rattle.lmn_cells.specs.CellIds.{cell_id, port_id};
 ghost use Rattle.lmn_cells.specs.Ports.{IsSamePort};
-ghost use Rattle.lmn_web.specs.Webs.{web_by, partner_at, arity_at, partners_of, marks_of, new_cell, with_mark, joined, parted, described, IsPaired, IsIndexed};
+ghost use Rattle.lmn_web.specs.Webs.{web_by, partner_at, arity_at, kind_at, home_at, cells_in, partners_of, marks_of, new_cell, with_mark, joined, parted, added_last, added_before, unlinked, web_label, is_labelled, with_label, IsPaired, IsLoose, StandOnce};
+ghost use Rattle.lmn_web.specs.Indexes.{described, reindexed, IsIndexed};
+ghost use Rattle.lmn_web.specs.declared.kind.CellKind.TheVariants.{Atom, Membrane};
 
-use crate::kind::{CellKind, kind_of, number_of};
+use crate::kind::{CellKind, count_place, first_link, kind_of, number_of};
 use lmn_cells::cell::Cells;
 use lmn_cells::handle::Cell;
-use lmn_cells::ports;
+use lmn_cells::{lists, ports};
 use std::alloc::{AllocError, Global};
 use std::marker::Model;
 
-// The numbers of a cell.
+// The link of a cell to the membrane in a list of which it stands, and to the next cell of that list.
+const HOME: usize = 0;
+
+const NEXT: usize = 1;
+
+// The numbers of a cell, besides the lengths of its two lists.
 const INDEX: usize = 0;
 
 const ARITY: usize = 1;
@@ -42,7 +51,7 @@ impl Model for Web {
     ghost use Rattle.lmn_cells.specs.Rows.{Row};
     ghost use Rattle.lmn_cells.specs.Cells.{cells_by};
     ghost use Rattle.lmn_cells.specs.CellIds.{cell_id};
-    ghost use Rattle.lmn_web.specs.Webs.{IsWeb};
+    ghost use Rattle.lmn_web.specs.Indexes.{IsWeb};
 
     ghost Value = { List Row };
 
@@ -69,7 +78,7 @@ impl Web {
         }
     }
 
-    /// A new cell: no port has a partner, and every mark is 0.
+    /// A new cell: no port has a partner, it stands in no list, its lists are empty, and every mark is 0.
     pub fn make(&mut self, label: u128, arity: u8, kind: CellKind) -> Result<Cell, AllocError>
         ensures { MatchResult result
             (λ c. (web_by self.old (cell_id c) ≡ None) × (web_by self.new ≡ alter (web_by self.old) (cell_id c) (λ _. Some (new_cell label arity kind))))
@@ -93,10 +102,22 @@ impl Web {
         Ok(c)
     }
 
+    /// The cell doesn't live any more.
+    pub fn free(&mut self, c: Cell)
+        requires { IsLoose (web_by self.old) (cell_id c) }
+        ensures { web_by self.new ≡ alter (web_by self.old) (cell_id c) (λ _. None) }
+    {
+        let index = self.cells.number(c, INDEX) as usize;
+        let ports = self.cells.number(c, ARITY) as usize;
+        self.all.swap_remove(index);
+        reindex(&mut self.cells, self.all.as_slice(), index);
+        self.cells.free(c, ports);
+    }
+
     /// The label that the cell was made with.
     pub fn label(&self, c: Cell) -> u128
         requires { IsSome (web_by self.now (cell_id c)) }
-        ensures { option_map (λ x. x.label) (web_by self.now (cell_id c)) ≡ Some result }
+        ensures { web_label (web_by self.now) (cell_id c) ≡ Some result }
     {
         self.cells.number(c, HIGH) as u128 * WHOLE + self.cells.number(c, LOW) as u128
     }
@@ -162,6 +183,141 @@ impl Web {
         ports::split(&mut self.cells, c, port as usize);
     }
 
+    /// Each cell with a home stands once in that home's list of its kind, and in no other list.
+    pub fn listed(&self)
+        ensures { StandOnce (web_by self.now) }
+    {
+        let _ = &self.all;
+    }
+
+    /// The membrane in a list of which the cell stands.
+    pub fn home(&self, c: Cell) -> Option<Cell>
+        requires { IsSome (web_by self.now (cell_id c)) }
+        ensures { home_at (web_by self.now) (cell_id c) ≡ option_map cell_id result }
+    {
+        self.cells.link(c, HOME)
+    }
+
+    /// The first cell of a kind in a membrane.
+    pub fn first(&self, home: Cell, kind: CellKind) -> Option<Cell>
+        requires { IsSome (web_by self.now (cell_id home)) }
+        ensures list { from (option_map cell_id result) (cells_in (web_by self.now) (cell_id home) kind) ≡ cells_in (web_by self.now) (cell_id home) kind }
+        ensures home { IfSome result (λ c. home_at (web_by self.now) (cell_id c) ≡ Some (cell_id home)) }
+    {
+        self.cells.link(home, first_link(kind))
+    }
+
+    /// The next cell behind this one in its list.
+    pub fn next(&self, c: Cell) -> Option<Cell>
+        requires { IsSome (home_at (web_by self.now) (cell_id c)) }
+        ensures list { (m : ℕ) → home_at (web_by self.now) (cell_id c) ≡ Some m →
+            from (option_map cell_id result) (cells_in (web_by self.now) m (kind_at (web_by self.now) (cell_id c))) ≡ after (cell_id c) (cells_in (web_by self.now) m (kind_at (web_by self.now) (cell_id c))) }
+        ensures home { IfSome result (λ d. home_at (web_by self.now) (cell_id d) ≡ home_at (web_by self.now) (cell_id c)) }
+    {
+        self.cells.link(c, NEXT)
+    }
+
+    /// The first atom of a membrane with this label and so many ports.
+    pub fn first_with(&self, home: Cell, label: u128, arity: u8) -> Option<Cell>
+        requires { IsSome (web_by self.now (cell_id home)) }
+        ensures list { let all = with_label (web_by self.now) label arity (cells_in (web_by self.now) (cell_id home) Atom) in from (option_map cell_id result) all ≡ all }
+        ensures there { IfSome result (λ c. In (cell_id c) (cells_in (web_by self.now) (cell_id home) Atom)) }
+    {
+        self.seek(home, self.first(home, CellKind::Atom), label, arity)
+    }
+
+    /// The next atom behind this one in its list with its label and as many ports.
+    pub fn next_with(&self, c: Cell) -> Option<Cell>
+        requires home { IsSome (home_at (web_by self.now) (cell_id c)) }
+        requires atom { kind_at (web_by self.now) (cell_id c) ≡ Atom }
+        ensures list { (m label : ℕ) → home_at (web_by self.now) (cell_id c) ≡ Some m → web_label (web_by self.now) (cell_id c) ≡ Some label →
+            let all = with_label (web_by self.now) label (arity_at (web_by self.now) (cell_id c)) (cells_in (web_by self.now) m Atom) in from (option_map cell_id result) all ≡ after (cell_id c) all }
+        ensures there { (m : ℕ) → home_at (web_by self.now) (cell_id c) ≡ Some m → IfSome result (λ d. In (cell_id d) (cells_in (web_by self.now) m Atom)) }
+    {
+        match self.home(c) {
+            Some(home) => self.seek(home, self.next(c), self.label(c), self.arity(c)),
+            None => None,
+        }
+    }
+
+    // Whether the cell has this label and so many ports.
+    fn has_label(&self, c: Cell, label: u128, arity: u8) -> bool
+        requires { IsSome (web_by self.now (cell_id c)) }
+        ensures { result ≡ is_labelled (web_by self.now) label arity (cell_id c) }
+    {
+        self.label(c) == label && self.arity(c) == arity
+    }
+
+    // The first atom with this label and so many ports, from an atom of the membrane on.
+    fn seek(&self, home: Cell, start: Option<Cell>, label: u128, arity: u8) -> Option<Cell>
+        requires { IfSome start (λ c. In (cell_id c) (cells_in (web_by self.now) (cell_id home) Atom)) }
+        ensures list { let all = cells_in (web_by self.now) (cell_id home) Atom in
+            from (option_map cell_id result) (with_label (web_by self.now) label arity all) ≡ with_label (web_by self.now) label arity (from (option_map cell_id start) all) }
+        ensures there { IfSome result (λ c. In (cell_id c) (cells_in (web_by self.now) (cell_id home) Atom)) }
+    {
+        self.listed();
+        let mut at = start;
+        while let Some(c) = at {
+            if self.has_label(c, label, arity) {
+                return Some(c);
+            }
+            at = self.next(c);
+        }
+        None
+    }
+
+    /// How many cells of a kind stand in a membrane.
+    pub fn count(&self, home: Cell, kind: CellKind) -> u64
+        requires { IsSome (web_by self.now (cell_id home)) }
+        ensures { result ≡ length (cells_in (web_by self.now) (cell_id home) kind) }
+    {
+        self.cells.number(home, count_place(kind))
+    }
+
+    /// The cell goes to the end of the list of its kind.
+    pub fn add_last(&mut self, home: Cell, c: Cell)
+        requires there { IsSome (web_by self.old (cell_id c)) }
+        requires homeless { home_at (web_by self.old) (cell_id c) ≡ None }
+        requires membrane { kind_at (web_by self.old) (cell_id home) ≡ Membrane }
+        requires differ { cell_id c ≢ cell_id home }
+        ensures { web_by self.new ≡ added_last (web_by self.old) (cell_id home) (cell_id c) }
+    {
+        let kind = kind_of(self.cells.number(c, KIND));
+        lists::append(&mut self.cells, home, first_link(kind), c);
+        let count = self.cells.number(home, count_place(kind));
+        self.cells.set_number(home, count_place(kind), count + 1);
+    }
+
+    /// The cell goes directly before another one of its kind.
+    pub fn add_before(&mut self, after: Cell, c: Cell)
+        requires there { IsSome (web_by self.old (cell_id c)) }
+        requires homeless { home_at (web_by self.old) (cell_id c) ≡ None }
+        requires home { IsSome (home_at (web_by self.old) (cell_id after)) }
+        requires differ { home_at (web_by self.old) (cell_id after) ≢ Some (cell_id c) }
+        requires kind { kind_at (web_by self.old) (cell_id after) ≡ kind_at (web_by self.old) (cell_id c) }
+        ensures { (m : ℕ) → home_at (web_by self.old) (cell_id after) ≡ Some m → web_by self.new ≡ added_before (web_by self.old) m (cell_id after) (cell_id c) }
+    {
+        if let Some(home) = self.cells.link(after, HOME) {
+            let kind = kind_of(self.cells.number(c, KIND));
+            lists::insert(&mut self.cells, home, first_link(kind), after, c);
+            let count = self.cells.number(home, count_place(kind));
+            self.cells.set_number(home, count_place(kind), count + 1);
+        }
+    }
+
+    /// The cell leaves its list.
+    pub fn unlink(&mut self, c: Cell)
+        requires { IsSome (home_at (web_by self.old) (cell_id c)) }
+        ensures { (m : ℕ) → home_at (web_by self.old) (cell_id c) ≡ Some m → web_by self.new ≡ unlinked (web_by self.old) m (cell_id c) }
+    {
+        if let Some(home) = self.cells.link(c, HOME) {
+            let kind = kind_of(self.cells.number(c, KIND));
+            lists::unlink(&mut self.cells, home, first_link(kind), c);
+            let count = self.cells.number(home, count_place(kind));
+            self.cells.set_number(home, count_place(kind), count - 1);
+        }
+    }
+
     /// The mark of a port, or behind the ports the cell's own.
     pub fn mark(&self, c: Cell, slot: u8) -> u64
         requires there { IsSome (web_by self.now (cell_id c)) }
@@ -199,6 +355,16 @@ fn describe(cells: &mut Cells, c: Cell, index: u64, arity: u64, kind: u64, high:
     cells.set_number(c, KIND, kind);
     cells.set_number(c, HIGH, high);
     cells.set_number(c, LOW, low);
+}
+
+// The cell at an index of the table, if there is one, has this index.
+fn reindex(cells: &mut Cells, all: &[Cell], index: usize)
+    requires { (b : ℕ) → slice_get (map cell_id all.now) index ≡ Some b → IsSome (cells_by cells.old b) }
+    ensures { cells_by cells.new ≡ reindexed (cells_by cells.old) index (slice_get (map cell_id all.now) index) }
+{
+    if let Some(&moved) = all.get(index) {
+        cells.set_number(moved, INDEX, index as u64);
+    }
 }
 
 // Every cell is freed.

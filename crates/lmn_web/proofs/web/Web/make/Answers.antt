@@ -7,8 +7,9 @@ use Rattle.lmn_cells.specs.Cells.{HeldCell, cells_by, blank_cell}
 use Rattle.std.specs.Option.{option_map}
 use Rattle.lmn_cells.specs.CellIds.{cell_id}
 use Rattle.lmn_cells.specs.declared.handle.Cell.{Cell}
-use Rattle.lmn_web.specs.Webs.{web_by, web_of, web_cell, described, new_cell, label_by, IsWeb}
-use Rattle.lmn_web.proofs.WebLemmas.{made_once, made_is, made_web, new_web}
+use Rattle.lmn_web.specs.Webs.{web_by, web_of, web_cell, list_in, new_cell, label_by}
+use Rattle.lmn_web.specs.Indexes.{described, IsWeb}
+use Rattle.lmn_web.proofs.WebLemmas.{made_once, made_is, made_web, made_with, no_list, new_web}
 use Rattle.lmn_web.proofs.web.Web.make.Goals as goal
 
 pub describe-requires : goal.describe-requires
@@ -30,8 +31,14 @@ invariant_of-self-2 c =
 pub returns : goal.returns
 returns c =
     let f = cells_by c.self.inside.cells in let a = cell_id c.in_ok-c.c in let n = c.args.arity in let k = c.number_of.result in let h = c.args.label / 2 ^ 64 in let low = c.args.label % 2 ^ 64 in
+    let all = map cell_id c.self.inside.all.items in
+    let small : n < 256 = c.ranges.arity.fits in
+    let index : c.len-index.result ≡ length all = c.len-index.ensures ∙ c.reserve.new.self.ok.0 ∙ ap (λ (xs : List Cell). length xs) c.reserve.ensures.items ∙ sym (length-map c.self.inside.all.items cell_id) in
+    let once : cells_by c.describe.new.cells ≡ alter f a (λ _. Some (described (length all) n k h low (blank_cell n))) =
+    made_once f _ _ a (blank_cell n) _ c.in_ok-c.ensures.1 c.describe.ensures ∙ (λ t. alter f a (λ _. Some (described (index t) n k h low (blank_cell n)))) in
     let whole : label_by h low ≡ c.args.label = omega arith in (
-      subst (λ (z : List Row). web_by z a ≡ None) c.self.view_is (ap (λ (o : Option HeldCell). option_map web_cell o) c.in_ok-c.ensures.0),
-      ap web_of (made_once f _ _ a (blank_cell n) _ c.in_ok-c.ensures.1 c.describe.ensures) ∙ made_is f a _ ∙ ap (λ x. alter (web_of f) a (λ _. Some x)) (new_web c.args.label n c.len-index.result k h low c.args.kind whole c.number_of.ensures)
+      subst (λ (z : List Row). web_by z a ≡ None) c.self.view_is (ap (λ (o : Option HeldCell). option_map (web_cell (list_in f a)) o) c.in_ok-c.ensures.0),
+      ap web_of once ∙ made_with f all c.self.invariant a n k h low c.in_ok-c.ensures.0 small ∙ made_is f (list_in f) a _
+          ∙ ap (λ x. alter (web_of f) a (λ _. Some x)) (new_web (list_in f a) c.args.label n (length all) k h low c.args.kind (no_list f all c.self.invariant a n k h low c.in_ok-c.ensures.0 small) whole c.number_of.ensures)
           ∙ ap (λ (z : List Row). alter (web_by z) a (λ _. Some (new_cell c.args.label n c.args.kind))) c.self.view_is,
     )

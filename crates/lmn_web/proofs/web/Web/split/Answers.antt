@@ -2,8 +2,8 @@ use Rattle.std.proofs.Common.{ℕ, List, Option, ap, ◌∙◌}
 use Rattle.lmn_cells.specs.Rows.{Row}
 use Rattle.lmn_cells.specs.Cells.{HeldCell, cells_by}
 use Rattle.lmn_cells.specs.CellIds.{cell_id}
-use Rattle.lmn_web.specs.Webs.{web_by, web_of, parted}
-use Rattle.lmn_web.proofs.WebLemmas.{same_web, told_parted, told, parted_web}
+use Rattle.lmn_web.specs.Webs.{web_by, web_with, list_in, parted}
+use Rattle.lmn_web.proofs.WebLemmas.{same_web, web_keeps, told_parted, told, parted_web}
 use Rattle.lmn_web.proofs.web.Web.split.Goals as goal
 
 pub invariant_of-self : goal.invariant_of-self
@@ -14,4 +14,6 @@ invariant_of-self c =
 
 pub returns : goal.returns
 returns c =
-    ap web_of c.split.ensures.parted ∙ parted_web (cells_by c.self.inside.cells) (cell_id c.args.c) c.args.port ∙ ap (λ (z : List Row). parted (web_by z) (cell_id c.args.c) c.args.port) c.self.view_is
+    let f = cells_by c.self.inside.cells in
+    let same = web_keeps f (cells_by c.split.new.cells) _ c.self.invariant (λ b. ap (λ (g : ℕ → Option HeldCell). told (g b)) c.split.ensures.parted ∙ told_parted f (cell_id c.args.c) c.args.port b) in
+    same ∙ ap (λ (g : ℕ → Option HeldCell). web_with g (list_in f)) c.split.ensures.parted ∙ parted_web f (list_in f) (cell_id c.args.c) c.args.port ∙ ap (λ (z : List Row). parted (web_by z) (cell_id c.args.c) c.args.port) c.self.view_is

@@ -1,0 +1,100 @@
+-- What holds of the examples.
+use Rattle.std.proofs.Common.{◌≡◌, ◌≢◌, ℕ, zero, suc, [], Option, Some, None, refl, sym, subst, inl, inr, arith}
+use Rattle.std.proofs.lemmas.Bool.{cases_eq}
+use Rattle.lmn_base.specs.Lists.{In}
+use Rattle.lmn_base.proofs.Numbers.{not_equal}
+use Rattle.lmn_heap.specs.Lists.{Distinct}
+use Rattle.lmn_web.specs.declared.kind.CellKind.{CellKind}
+use Rattle.lmn_web.specs.declared.kind.CellKind.TheVariants.{Atom, Membrane}
+use Rattle.lmn_web.specs.Webs.{WebCell, home_of, web_kind, cells_of, home_at, kind_at, cells_in, partner_at, unlinked}
+use Rattle.lmn_web.specs.Examples.{two_listed, SecondIsLast, SecondIsFirst, FirstIsGone, BothAreListed, LostAreNotListed, GoneIsLoose, ListedIsNotLoose, OneHasLabel, NoneHasTwoPorts}
+
+-- a cell that was added last stands at the end
+pub second_is_last : SecondIsLast
+second_is_last = refl
+
+-- one that was added before another stands there
+pub second_is_first : SecondIsFirst
+second_is_first = refl
+
+-- one that left isn't there
+pub first_is_gone : FirstIsGone
+first_is_gone = (refl, refl)
+
+-- P of the three cells and of none
+each : (P : ℕ → Option WebCell → Type 0) → P 0 (two_listed 0) → P 1 (two_listed 1) → P 2 (two_listed 2) → ((m : ℕ) → P m None) → (m : ℕ) → P m (two_listed m)
+each P a b c d m = elim (cases_eq m 0) [
+  | inl e ↦ subst (λ z. P z (two_listed z)) (sym e) a
+  | inr x ↦ elim (cases_eq m 1) [
+    | inl e ↦ subst (λ z. P z (two_listed z)) (sym e) b
+    | inr y ↦ elim (cases_eq m 2) [
+      | inl e ↦ subst (λ z. P z (two_listed z)) (sym e) c
+      | inr z ↦ rw (not_equal m 0 x, not_equal m 1 y, not_equal m 2 z) (d m)
+    ]
+  ]
+]
+
+-- two atoms in a membrane are listed
+pub both_are_listed : BothAreListed
+both_are_listed = record {
+  once = each (λ m o. (k : CellKind) → Distinct (cells_of o k)) two none none (λ m k. tt);
+  homes = λ m x k. each (λ m o. (k : CellKind) → In x (cells_of o k) → (home_at two_listed x ≡ Some m) × (kind_at two_listed x ≡ k) × (x ≢ m)) (inside x) (nothing x 1) (nothing x 2) (λ m k i. absurd i) m k;
+  listed = λ m x. each (λ x o. home_of o ≡ Some m → In x (cells_in two_listed m (web_kind o))) (λ e. absurd cc) (λ e. subst (λ n. In 1 (cells_in two_listed n Atom)) (same m e) (inl refl)) (λ e. subst (λ n. In 2 (cells_in two_listed n Atom)) (same m e) (inr (inl refl))) (λ x e. absurd cc) x;
+  bare = λ m k. each (λ m o. (k : CellKind) → web_kind o ≡ Atom → cells_of o k ≡ []) (λ k e. absurd (other e)) (λ k e. empty k) (λ k e. empty k) (λ m k e. refl) m k;
+}
+  where
+    two : (k : CellKind) → Distinct (cells_of (two_listed 0) k)
+    two Atom = (((λ e. absurd (omega (arith, e))), tt), (tt, tt))
+    two Membrane = tt
+
+    none : (k : CellKind) → Distinct (cells_of (two_listed 1) k)
+    none Atom = tt
+    none Membrane = tt
+
+    inside : (x : ℕ) (k : CellKind) → In x (cells_of (two_listed 0) k) → (home_at two_listed x ≡ Some 0) × (kind_at two_listed x ≡ k) × (x ≢ 0)
+    inside x Atom (inl e) = subst (λ z. (home_at two_listed z ≡ Some 0) × (kind_at two_listed z ≡ Atom) × (z ≢ 0)) e (refl, refl, λ s. absurd (omega (arith, s)))
+    inside x Atom (inr (inl e)) = subst (λ z. (home_at two_listed z ≡ Some 0) × (kind_at two_listed z ≡ Atom) × (z ≢ 0)) e (refl, refl, λ s. absurd (omega (arith, s)))
+    inside x Atom (inr (inr i)) = absurd i
+    inside x Membrane i = absurd i
+
+    nothing : (x m : ℕ) (k : CellKind) → In x (cells_of (two_listed 1) k) → (home_at two_listed x ≡ Some m) × (kind_at two_listed x ≡ k) × (x ≢ m)
+    nothing x m Atom i = absurd i
+    nothing x m Membrane i = absurd i
+
+    same : (m : ℕ) → ◌≡◌ {A = Option ℕ} (Some 0) (Some m) → 0 ≡ m
+    same m e = cc
+
+    other : Membrane ≡ Atom → ⊥
+    other e = absurd cc
+
+    empty : (k : CellKind) → cells_of (two_listed 1) k ≡ []
+    empty Atom = refl
+    empty Membrane = refl
+
+-- with an empty list they aren't
+pub lost_are_not_listed : LostAreNotListed
+lost_are_not_listed l = l.listed 0 1 refl
+
+-- an atom that left its list may be freed
+pub gone_is_loose : GoneIsLoose
+gone_is_loose = record { there = refl; alone = alone; homeless = refl; empty = empty }
+  where
+    alone : (i : ℕ) → partner_at (unlinked two_listed 0 1) 1 i ≡ None
+    alone zero = refl
+    alone (suc i) = refl
+
+    empty : (k : CellKind) → cells_in (unlinked two_listed 0 1) 1 k ≡ []
+    empty Atom = refl
+    empty Membrane = refl
+
+-- one that is in a list may not
+pub listed_is_not_loose : ListedIsNotLoose
+listed_is_not_loose l = let e : ◌≡◌ {A = Option ℕ} (Some 0) None = l.homeless in absurd cc
+
+-- one of two atoms has a label
+pub one_has_label : OneHasLabel
+one_has_label = refl
+
+-- none has it with another number of ports
+pub none_has_two_ports : NoneHasTwoPorts
+none_has_two_ports = refl

@@ -1,0 +1,90 @@
+use Rattle.std.proofs.Common.{◌≡◌, List, Some, refl, sym, ap, subst, ◌∙◌, map, arith}
+use Rattle.std.proofs.lemmas.List.{length-map}
+use Rattle.std.specs.Option.{option_map}
+use Rattle.lmn_cells.specs.Rows.{Row}
+use Rattle.lmn_cells.specs.Cells.{cells_by}
+use Rattle.lmn_cells.specs.CellIds.{cell_id}
+use Rattle.lmn_cells.specs.Runs.{HOME, link_in, Line, IsHome, put_before}
+use Rattle.lmn_web.specs.Kinds.{kind_by}
+use Rattle.lmn_web.specs.Webs.{web_by, list_in, list_link, count_number, number_in, home_at, added_before}
+use Rattle.lmn_web.specs.Indexes.{cell_kind}
+use Rattle.lmn_web.proofs.ListedLemmas.{home_same, link_behind, link_below}
+use Rattle.lmn_web.proofs.RelistLemmas.{enters_before, before_among, inserted_there, inserted_fits, inserts, relists_web, relists_is, in_none, before_is}
+use Rattle.lmn_web.proofs.web.Web.add_before.Goals as goal
+
+pub insert-requires-clause-home : goal.insert-requires-clause-home
+insert-requires-clause-home c =
+    let f = cells_by c.self.inside.cells in let m = cell_id c.in-Some.home in let a = cell_id c.args.after in let x = cell_id c.args.c in let w = c.self.invariant in
+    let home : link_in f a HOME ≡ Some m = c.link.ensures ∙ ap (option_map cell_id) c.in-Some.is in
+    subst (λ e. IsHome f m e) (sym c.first_link.ensures) record { there = (w.listed.homes m a home).0; behind = link_behind c.kind_of-kind.result; below = link_below c.kind_of-kind.result }
+
+pub insert-requires-clause-differ : goal.insert-requires-clause-differ
+insert-requires-clause-differ c =
+    let f = cells_by c.self.inside.cells in let m = cell_id c.in-Some.home in let a = cell_id c.args.after in let x = cell_id c.args.c in let w = c.self.invariant in
+    let home : link_in f a HOME ≡ Some m = c.link.ensures ∙ ap (option_map cell_id) c.in-Some.is in
+    let enters = enters_before c.self.inside.cells c.args.self.now _ c.self.view_is w m a x home c.requires.kind c.requires.there c.requires.homeless c.requires.differ in
+    enters.differ
+
+pub insert-requires-clause-list : goal.insert-requires-clause-list
+insert-requires-clause-list c =
+    let f = cells_by c.self.inside.cells in let m = cell_id c.in-Some.home in let a = cell_id c.args.after in let x = cell_id c.args.c in let w = c.self.invariant in
+    let home : link_in f a HOME ≡ Some m = c.link.ensures ∙ ap (option_map cell_id) c.in-Some.is in
+    let among = before_among c.self.inside.cells c.args.self.now _ c.self.view_is w m a x home c.requires.kind in
+    let enters = enters_before c.self.inside.cells c.args.self.now _ c.self.view_is w m a x home c.requires.kind c.requires.there c.requires.homeless c.requires.differ in
+    let kind : c.kind_of-kind.result ≡ cell_kind f x = c.kind_of-kind.ensures ∙ ap kind_by c.number.ensures in
+    let k = cell_kind f x in
+    (list_in f m k, subst (λ e. Line f m e (list_in f m k)) (sym (c.first_link.ensures ∙ ap list_link kind)) (w.listed.line m k (w.listed.homes m a home).0), among, in_none f (list_in f) w.listed x enters.free m k)
+
+pub number-count-requires-clause-there : goal.number-count-requires-clause-there
+number-count-requires-clause-there c =
+    let f = cells_by c.self.inside.cells in let m = cell_id c.in-Some.home in let a = cell_id c.args.after in let x = cell_id c.args.c in let w = c.self.invariant in
+    let home : link_in f a HOME ≡ Some m = c.link.ensures ∙ ap (option_map cell_id) c.in-Some.is in
+    let among = before_among c.self.inside.cells c.args.self.now _ c.self.view_is w m a x home c.requires.kind in
+    let enters = enters_before c.self.inside.cells c.args.self.now _ c.self.view_is w m a x home c.requires.kind c.requires.there c.requires.homeless c.requires.differ in
+    let kind : c.kind_of-kind.result ≡ cell_kind f x = c.kind_of-kind.ensures ∙ ap kind_by c.number.ensures in
+    let p = count_number (cell_kind f x) in
+    inserted_there f (cells_by c.insert.new.cells) (cells_by c.insert.new.cells) _ w m x c.first_link.result p p (number_in (cells_by c.insert.new.cells) m p) enters (c.first_link.ensures ∙ ap list_link kind) refl refl refl a among (c.insert.ensures.inserted, c.insert.ensures.list, c.insert.ensures.others)
+
+pub set_number-requires-clause-there : goal.set_number-requires-clause-there
+set_number-requires-clause-there c =
+    let f = cells_by c.self.inside.cells in let m = cell_id c.in-Some.home in let a = cell_id c.args.after in let x = cell_id c.args.c in let w = c.self.invariant in
+    let home : link_in f a HOME ≡ Some m = c.link.ensures ∙ ap (option_map cell_id) c.in-Some.is in
+    let among = before_among c.self.inside.cells c.args.self.now _ c.self.view_is w m a x home c.requires.kind in
+    let enters = enters_before c.self.inside.cells c.args.self.now _ c.self.view_is w m a x home c.requires.kind c.requires.there c.requires.homeless c.requires.differ in
+    let kind : c.kind_of-kind.result ≡ cell_kind f x = c.kind_of-kind.ensures ∙ ap kind_by c.number.ensures in
+    let p = count_number (cell_kind f x) in
+    inserted_there f (cells_by c.insert.new.cells) (cells_by c.insert.new.cells) _ w m x c.first_link.result p p (number_in (cells_by c.insert.new.cells) m p) enters (c.first_link.ensures ∙ ap list_link kind) refl refl refl a among (c.insert.ensures.inserted, c.insert.ensures.list, c.insert.ensures.others)
+
+pub overflow_add-count : goal.overflow_add-count
+overflow_add-count c =
+    let f = cells_by c.self.inside.cells in let m = cell_id c.in-Some.home in let a = cell_id c.args.after in let x = cell_id c.args.c in let w = c.self.invariant in
+    let home : link_in f a HOME ≡ Some m = c.link.ensures ∙ ap (option_map cell_id) c.in-Some.is in
+    let among = before_among c.self.inside.cells c.args.self.now _ c.self.view_is w m a x home c.requires.kind in
+    let enters = enters_before c.self.inside.cells c.args.self.now _ c.self.view_is w m a x home c.requires.kind c.requires.there c.requires.homeless c.requires.differ in
+    let kind : c.kind_of-kind.result ≡ cell_kind f x = c.kind_of-kind.ensures ∙ ap kind_by c.number.ensures in
+    let fits = inserted_fits f (cells_by c.insert.new.cells) (cells_by c.insert.new.cells) (map cell_id c.self.inside.all.items) w m x c.first_link.result c.count_place.result c.count_place.result c.number-count.result enters (c.first_link.ensures ∙ ap list_link kind) (c.count_place.ensures ∙ ap count_number kind) (c.count_place.ensures ∙ ap count_number kind) c.number-count.ensures a among
+    (c.insert.ensures.inserted, c.insert.ensures.list, c.insert.ensures.others) in
+    let same = length-map c.self.inside.all.items cell_id in let len = c.self.inside.all.ok.0 in let room = c.self.inside.all.ok.1 in let small = c.self.inside.all.small in
+    omega (arith, fits, same, len, room, small)
+
+pub invariant_of-self : goal.invariant_of-self
+invariant_of-self c =
+    let f = cells_by c.self.inside.cells in let m = cell_id c.in-Some.home in let a = cell_id c.args.after in let x = cell_id c.args.c in let w = c.self.invariant in
+    let home : link_in f a HOME ≡ Some m = c.link.ensures ∙ ap (option_map cell_id) c.in-Some.is in
+    let among = before_among c.self.inside.cells c.args.self.now _ c.self.view_is w m a x home c.requires.kind in
+    let enters = enters_before c.self.inside.cells c.args.self.now _ c.self.view_is w m a x home c.requires.kind c.requires.there c.requires.homeless c.requires.differ in
+    let kind : c.kind_of-kind.result ≡ cell_kind f x = c.kind_of-kind.ensures ∙ ap kind_by c.number.ensures in
+    relists_web f (cells_by c.set_number.new.self) _ w m x (Some m) (put_before x a (list_in f m (cell_kind f x))) (inserts f (cells_by c.insert.new.cells) (cells_by c.set_number.new.self) _ w m x c.first_link.result c.count_place.result c.count_place-in-Some.result c.number-count.result enters (c.first_link.ensures ∙ ap list_link kind) (c.count_place.ensures ∙ ap count_number kind) (c.count_place-in-Some.ensures ∙ ap count_number kind) c.number-count.ensures
+    a among (c.insert.ensures.inserted, c.insert.ensures.list, c.insert.ensures.others) c.set_number.ensures)
+
+pub returns-in-Some : goal.returns-in-Some
+returns-in-Some c n at =
+    let f = cells_by c.self.inside.cells in let m = cell_id c.in-Some.home in let a = cell_id c.args.after in let x = cell_id c.args.c in let w = c.self.invariant in
+    let home : link_in f a HOME ≡ Some m = c.link.ensures ∙ ap (option_map cell_id) c.in-Some.is in
+    let among = before_among c.self.inside.cells c.args.self.now _ c.self.view_is w m a x home c.requires.kind in
+    let enters = enters_before c.self.inside.cells c.args.self.now _ c.self.view_is w m a x home c.requires.kind c.requires.there c.requires.homeless c.requires.differ in
+    let kind : c.kind_of-kind.result ≡ cell_kind f x = c.kind_of-kind.ensures ∙ ap kind_by c.number.ensures in
+    let same : n ≡ m = let e : Some n ≡ Some m = sym at ∙ ap (λ (z : List Row). home_at (web_by z) a) (sym c.self.view_is) ∙ home_same f (list_in f) a ∙ home in cc in
+    relists_is f (cells_by c.set_number.new.self) _ w m x (Some m) (put_before x a (list_in f m (cell_kind f x))) (inserts f (cells_by c.insert.new.cells) (cells_by c.set_number.new.self) _ w m x c.first_link.result c.count_place.result c.count_place-in-Some.result c.number-count.result enters (c.first_link.ensures ∙ ap list_link kind) (c.count_place.ensures ∙ ap count_number kind) (c.count_place-in-Some.ensures ∙ ap count_number kind) c.number-count.ensures
+    a among (c.insert.ensures.inserted, c.insert.ensures.list, c.insert.ensures.others) c.set_number.ensures)
+    ∙ before_is f (list_in f) w.listed m a x ∙ (λ t. added_before (web_by (c.self.view_is t)) (sym same t) a x)

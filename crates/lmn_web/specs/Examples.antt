@@ -1,0 +1,49 @@
+-- A small web, made by what calls do, and what holds of it.
+use Rattle.std.specs.Prelude.{◌≡◌, ℕ, [], ◌∷◌, Option, Some, None}
+use Rattle.std.specs.Option.{option_map}
+use Rattle.lmn_heap.specs.Heap.{alter}
+use Rattle.lmn_web.specs.declared.kind.CellKind.TheVariants.{Atom, Membrane}
+use Rattle.lmn_web.specs.Webs.{WebCell, new_cell, with_list, cells_in, home_at, added_last, added_before, unlinked, with_label, IsLoose, StandOnce}
+
+-- the membrane 0, and the atoms 1 and 2 in no list
+abbrev pub unlisted : ℕ → Option WebCell
+unlisted = alter (alter (alter (λ _. None) 0 (λ _. Some (new_cell 0 0 Membrane))) 1 (λ _. Some (new_cell 5 1 Atom))) 2 (λ _. Some (new_cell 6 1 Atom))
+
+-- both atoms in the membrane
+abbrev pub two_listed : ℕ → Option WebCell
+two_listed = added_last (added_last unlisted 0 1) 0 2
+
+-- the second came to the end
+abbrev pub SecondIsLast : Type 0
+SecondIsLast = cells_in two_listed 0 Atom ≡ 1 ∷ 2 ∷ []
+
+-- or before the first
+abbrev pub SecondIsFirst : Type 0
+SecondIsFirst = cells_in (added_before (added_last unlisted 0 1) 0 1 2) 0 Atom ≡ 2 ∷ 1 ∷ []
+
+-- the first left
+abbrev pub FirstIsGone : Type 0
+FirstIsGone = (cells_in (unlinked two_listed 0 1) 0 Atom ≡ 2 ∷ []) × (home_at (unlinked two_listed 0 1) 1 ≡ None)
+
+abbrev pub BothAreListed : Type 0
+BothAreListed = StandOnce two_listed
+
+-- with another list they aren't
+abbrev pub LostAreNotListed : Type 0
+LostAreNotListed = StandOnce (alter two_listed 0 (option_map (with_list Atom []))) → ⊥
+
+-- an atom that left may be freed
+abbrev pub GoneIsLoose : Type 0
+GoneIsLoose = IsLoose (unlinked two_listed 0 1) 1
+
+-- one in a list may not
+abbrev pub ListedIsNotLoose : Type 0
+ListedIsNotLoose = IsLoose two_listed 1 → ⊥
+
+-- of two atoms one has a label
+abbrev pub OneHasLabel : Type 0
+OneHasLabel = with_label two_listed 6 1 (1 ∷ 2 ∷ []) ≡ 2 ∷ []
+
+-- and none has it with two ports
+abbrev pub NoneHasTwoPorts : Type 0
+NoneHasTwoPorts = with_label two_listed 6 2 (1 ∷ 2 ∷ []) ≡ []

@@ -1,0 +1,48 @@
+-- Words of the invariant of a web, and of private functions: how its cells are listed and indexed.
+use Rattle.std.specs.Prelude.{◌≡◌, ◌↔◌, ℕ, ◌<◌, List, [], length, Option, Some, None, IsSome, slice_get}
+use Rattle.std.specs.Option.{option_map}
+use Rattle.lmn_base.specs.Lists.{In}
+use Rattle.lmn_heap.specs.Heap.{alter}
+use Rattle.lmn_cells.specs.Cells.{HeldCell, numbers_of, ports_of, with_number}
+use Rattle.lmn_cells.specs.Ports.{Reaches, Paired}
+use Rattle.lmn_cells.specs.Runs.{HOME, link_in, Line}
+use Rattle.lmn_web.specs.declared.kind.CellKind.{CellKind}
+use Rattle.lmn_web.specs.declared.kind.CellKind.TheVariants.{Atom}
+use Rattle.lmn_web.specs.Kinds.{kind_by}
+use Rattle.lmn_web.specs.Webs.{INDEX, ARITY, KIND, HIGH, LOW, number_in, count_number, list_link, list_in}
+
+-- a cell with these numbers
+abbrev pub described : ℕ → ℕ → ℕ → ℕ → ℕ → HeldCell → HeldCell
+described index arity kind high low c = with_number LOW low (with_number HIGH high (with_number KIND kind (with_number ARITY arity (with_number INDEX index c))))
+
+-- the cell of a number, if any, has this index
+abbrev pub reindexed : (ℕ → Option HeldCell) → ℕ → Option ℕ → ℕ → Option HeldCell
+reindexed f i None = f
+reindexed f i (Some b) = alter f b (option_map (with_number INDEX i))
+
+-- what a cell stands for; where there is none, an atom
+abbrev pub cell_kind : (ℕ → Option HeldCell) → ℕ → CellKind
+cell_kind f b = kind_by (number_in f b KIND)
+
+-- these are the lists of the cells, and each cell with a home stands in the list of its kind
+pub record IsListed (f : ℕ → Option HeldCell) (lists : ℕ → CellKind → List ℕ) : Type 0 where
+  pub line : (m : ℕ) (k : CellKind) → IsSome (f m) → Line f m (list_link k) (lists m k)
+  pub count : (m : ℕ) (k : CellKind) → number_in f m (count_number k) ≡ length (lists m k)
+  pub kinds : (m x : ℕ) (k : CellKind) → In x (lists m k) → cell_kind f x ≡ k
+  pub homes : (m x : ℕ) → link_in f x HOME ≡ Some m → IsSome (f m) × In x (lists m (cell_kind f x))
+  pub bare : (m : ℕ) (k : CellKind) → cell_kind f m ≡ Atom → lists m k ≡ []
+
+-- the cells are those of a list, each once, at its index
+pub record IsWeb (f : ℕ → Option HeldCell) (all : List ℕ) : Type 0 where
+  pub indexed : (b i : ℕ) → (slice_get all i ≡ Some b) ↔ (IsSome (f b) × (number_in f b INDEX ≡ i))
+  pub arity : (b : ℕ) → IsSome (f b) → number_in f b ARITY ≡ length (ports_of (f b))
+  pub few : (b : ℕ) → length (ports_of (f b)) < 256
+  pub numbers : (b : ℕ) → IsSome (f b) → length (numbers_of (f b)) ≡ 8
+  pub reaches : Reaches f
+  pub paired : Paired f
+  pub listed : IsListed f (list_in f)
+
+-- as many cells as a list has, each at its index, that tell how many ports they have
+pub record IsIndexed (f : ℕ → Option HeldCell) (all : List ℕ) : Type 0 where
+  pub indexed : (b i : ℕ) → (slice_get all i ≡ Some b) ↔ (IsSome (f b) × (number_in f b INDEX ≡ i))
+  pub arity : (b : ℕ) → IsSome (f b) → number_in f b ARITY ≡ length (ports_of (f b))

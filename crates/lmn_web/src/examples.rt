@@ -1,0 +1,56 @@
+//! What holds of a small web. Each law is the contract of a function with an empty body.
+ghost use Rattle.lmn_web.specs.Examples.{BothAreListed, FirstIsGone, GoneIsLoose, ListedIsNotLoose, LostAreNotListed, NoneHasTwoPorts, OneHasLabel, SecondIsFirst, SecondIsLast};
+
+/// A cell that was added last stands at the end.
+#[tactic(auto, using(crate::proofs::ExampleProofs::second_is_last))]
+pub fn second_is_last()
+    ensures { SecondIsLast }
+{}
+
+/// One that was added before another stands there.
+#[tactic(auto, using(crate::proofs::ExampleProofs::second_is_first))]
+pub fn second_is_first()
+    ensures { SecondIsFirst }
+{}
+
+/// One that left a list isn't in it, and has no home.
+#[tactic(auto, using(crate::proofs::ExampleProofs::first_is_gone))]
+pub fn first_is_gone()
+    ensures { FirstIsGone }
+{}
+
+/// Two atoms in a membrane are listed.
+#[tactic(auto, using(crate::proofs::ExampleProofs::both_are_listed))]
+pub fn both_are_listed()
+    ensures { BothAreListed }
+{}
+
+/// With an empty list they aren't.
+#[tactic(auto, using(crate::proofs::ExampleProofs::lost_are_not_listed))]
+pub fn lost_are_not_listed()
+    ensures { LostAreNotListed }
+{}
+
+/// An atom that left its list may be freed.
+#[tactic(auto, using(crate::proofs::ExampleProofs::gone_is_loose))]
+pub fn gone_is_loose()
+    ensures { GoneIsLoose }
+{}
+
+/// One that is in a list may not.
+#[tactic(auto, using(crate::proofs::ExampleProofs::listed_is_not_loose))]
+pub fn listed_is_not_loose()
+    ensures { ListedIsNotLoose }
+{}
+
+/// One of two atoms has a label.
+#[tactic(auto, using(crate::proofs::ExampleProofs::one_has_label))]
+pub fn one_has_label()
+    ensures { OneHasLabel }
+{}
+
+/// None has it with another number of ports.
+#[tactic(auto, using(crate::proofs::ExampleProofs::none_has_two_ports))]
+pub fn none_has_two_ports()
+    ensures { NoneHasTwoPorts }
+{}
