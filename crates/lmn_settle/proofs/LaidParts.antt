@@ -51,10 +51,10 @@ are_below_given (q ∷ ps) p zero r h = below_front 1 ps (p ∷ []) h
 are_below_given (q ∷ ps) p (suc k) r h = below_given 1 ps k r (below_front 1 ps (p ∷ []) h)
 
 mutual
-  laid_size : (a n : ℕ) (m : RawRegion) → length (laid a n m) ≡ size m
+  pub laid_size : (a n : ℕ) (m : RawRegion) → length (laid a n m) ≡ size m
   laid_size a n (raw xs ms rs) = ap suc (laid_in_size n (suc n) ms)
 
-  laid_in_size : (a n : ℕ) (ms : RawRegions) → length (laid_in a n ms) ≡ size_in ms
+  pub laid_in_size : (a n : ℕ) (ms : RawRegions) → length (laid_in a n ms) ≡ size_in ms
   laid_in_size a n no_raw = refl
   laid_in_size a n (raw_and m ms) =
       length-append (laid a n m) (laid_in a (n + size m) ms) ∙ ap (λ k. k + length (laid_in a (n + size m) ms)) (laid_size a n m)

@@ -94,7 +94,7 @@ keys_of_links classes (a ∷ xs) =
 -- ---- the atoms of a region
 
 mutual
-  atoms_settled : (v : ℕ → ℕ) (m : RawRegion) → atoms_of_region (settled v m) ≡ map (settled_atom v) (raw_atoms m)
+  pub atoms_settled : (v : ℕ → ℕ) (m : RawRegion) → atoms_of_region (settled v m) ≡ map (settled_atom v) (raw_atoms m)
   atoms_settled v (raw xs ms rs) =
       fold-roll-Region (List SolidAtom) atoms_step _
       ∙ ap (λ ys. map (settled_atom v) xs ++ ys) (inner_settled v ms) ∙ sym (map-append (settled_atom v) xs (raw_atoms_in ms))
@@ -108,7 +108,7 @@ links_renamed v [] = refl
 links_renamed v (a ∷ xs) = ap (λ ys. map v a.links ++ ys) (links_renamed v xs) ∙ sym (map-append v a.links (flat_map (λ a. a.links) xs))
 
 -- its links are the images of those before
-links_settled : (v : ℕ → ℕ) (m : RawRegion) → links_of_region (settled v m) ≡ map v (raw_links m)
+pub links_settled : (v : ℕ → ℕ) (m : RawRegion) → links_of_region (settled v m) ≡ map v (raw_links m)
 links_settled v m = ap (flat_map (λ a. a.links)) (atoms_settled v m) ∙ links_renamed v (raw_atoms m)
 
 -- ---- images of links
@@ -193,7 +193,7 @@ renumbered_region classes t r = renamed (numbered_link classes (number_in t)) r
 pub table_is_laid : (classes : List ℕ) (t : Numbers) (r : RawRegion) (items numbered : List RawMembrane) → items ≡ laid 0 0 r → numbered ≡ map (numbered_membrane classes (number_in t)) items → numbered ≡ laid 0 0 (renumbered_region classes t r)
 table_is_laid classes t r items numbered e d = d ∙ ap (map (numbered_membrane classes (number_in t))) e ∙ laid_renamed classes (number_in t) 0 0 r
 
-map_same : (xs : List ℕ) → map (λ x. x) xs ≡ xs
+pub map_same : (xs : List ℕ) → map (λ x. x) xs ≡ xs
 map_same [] = refl
 map_same (x ∷ xs) = ap (λ ys. x ∷ ys) (map_same xs)
 

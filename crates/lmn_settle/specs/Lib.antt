@@ -1,2 +1,3 @@
 pub mod Raw
 pub mod Tables
+pub mod Levels

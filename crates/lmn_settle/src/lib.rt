@@ -5,6 +5,8 @@
 
 mod assembling;
 mod numbers;
+mod plains;
 mod settling;
 
+pub use plains::solid_of;
 pub use settling::{RawMembrane, settle};
