@@ -8,7 +8,7 @@ mod EachCopy
 mod CopyMaps
 mod RestMaps
 mod OwnLinks
-mod Bodies
+pub mod Bodies
 mod MadeLevels
 mod Kept
 pub mod Leading
@@ -27,7 +27,7 @@ mod Contents
 pub mod Leavings
 mod RulesKept
 mod ReadAgain
-mod HeadLinks
+pub mod HeadLinks
 mod FiredMaps
 mod TurnsNext
 mod Sublists
@@ -41,6 +41,6 @@ mod Embedded
 mod Tables
 pub mod Turned
 mod PartOrder
-mod CopiedParts
+pub mod CopiedParts
 mod PartNames
 mod PartLinks
