@@ -1,5 +1,5 @@
 //! The weight of a process, where each rule lowers it.
-ghost use Rattle.std.specs.Prelude.{◌≡◌, ◌<◌, ◌==◌, ◌-◌, ◌^◌, List, [], min, length, sum, map, IfErr, IfOk, IfSome};
+ghost use Rattle.std.specs.Prelude.{◌≡◌, ◌<◌, ◌==◌, ◌-◌, ◌^◌, List, [], min, length, sum, map, IfErr, IfOk, IfSome, IsTrue};
 ghost use Rattle.std.specs.List.{list_any, list_all};
 ghost use Rattle.lmn_base.specs.declared.functor.Functor.{Functor};
 ghost use Rattle.lmn_base.specs.Levels.{contexts_of};
@@ -7,8 +7,9 @@ ghost use Rattle.lmn_weight.specs.Index.{IsIndexOf};
 ghost use Rattle.lmn_weight.specs.Plains as plains;
 ghost use Rattle.lmn_weight.specs.Plains.{AreSmall, EachLowered, IsFirstNotLowered, IsOfSize};
 
-use crate::index::{Entry, Index, index_of};
+use crate::index::{Entry, Index, fill};
 use crate::weights::{Weights, functor_weight};
+use arrayvec::ArrayVec;
 use lmn_base::{CtxUse, Leaf, Level, Plain, Refusal, RuleTree};
 use lmn_guards::{GuardPlan, TypeKind, TypedUse};
 
@@ -261,13 +262,14 @@ fn is_lowered(weights: &Weights, index: Option<&[Entry]>, rule: &RuleTree, plan:
         && all_closed_once(&rule.body, &rule.head)
 }
 
-/// The entries of an index, where there is one.
-fn entries_of(index: &Option<Index>) -> Option<&[Entry]>
-    ensures { (functors : List Functor) → IfSome index.now (λ index. IsIndexOf functors index.items) → IfSome result (λ entries. IsIndexOf functors entries.now) }
+/// The entries of an index, where it is whole.
+fn entries_of(index: &Index, is_whole: bool) -> Option<&[Entry]>
+    ensures { (functors : List Functor) → (IsTrue is_whole → IsIndexOf functors index.now.items) → IfSome result (λ entries. IsIndexOf functors entries.now) }
 {
-    match index {
-        Some(index) => Some(index.as_slice()),
-        None => None,
+    if is_whole {
+        Some(index.as_slice())
+    } else {
+        None
     }
 }
 
@@ -288,8 +290,9 @@ pub fn bound(weights: &Weights, plain: &Plain, plans: &[GuardPlan]) -> Result<u6
     ensures ok { IfOk result (λ n. EachLowered weights.now plain.now plans.now × (n ≡ plains.level_weight weights.now [] [] plain.now.top)) }
     ensures err { IfErr result (λ refusal. IsFirstNotLowered weights.now plain.now plans.now refusal) }
 {
-    let index = index_of(weights.functors.as_slice());
-    let entries = entries_of(&index);
+    let mut index = ArrayVec::new();
+    let is_whole = fill(&mut index, weights.functors.as_slice());
+    let entries = entries_of(&index, is_whole);
     for k in 0..asked(plain) {
         let rule = plain.rules.at(k);
         if !is_lowered(weights, entries, rule, &plans[k]) {

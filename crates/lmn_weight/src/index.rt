@@ -1,5 +1,5 @@
 //! The functors of WEIGHTS in an order in which one is found quickly.
-ghost use Rattle.std.specs.Prelude.{◌≡◌, ◌<◌, IfSome, if◌then◌else◌, length, slice_index};
+ghost use Rattle.std.specs.Prelude.{◌≡◌, ◌<◌, IsTrue, [], if◌then◌else◌, length, slice_index};
 ghost use Rattle.std.specs.List.Sorted.{IsSorted};
 ghost use Rattle.lmn_weight.specs.Plains.{listed_weight};
 ghost use Rattle.lmn_weight.specs.Index as spec;
@@ -44,24 +44,25 @@ fn entry_of(functor: Functor, place: u32) -> Entry
     }
 }
 
-/// The functors by a rising order, unless they are more than WEIGHTS can name.
-pub(crate) fn index_of(functors: &[Functor]) -> Option<Index>
-    ensures { IfSome result (λ index. IsIndexOf functors.now index.items) }
+/// Fills an empty index with the functors by a rising order. Answers whether it is whole: there are no more of them than WEIGHTS can
+/// name. An index is large, so it is filled where it stands.
+pub(crate) fn fill(index: &mut Index, functors: &[Functor]) -> bool
+    requires { index.old.items ≡ [] }
+    ensures { IsTrue result → IsIndexOf functors.now index.new.items }
 {
     if functors.len() > MOST {
-        return None;
+        return false;
     }
-    let mut index = ArrayVec::new();
     for place in 0..functors.len() {
         if index
             .try_push(entry_of(functors[place], place as u32))
             .is_err()
         {
-            return None;
+            return false;
         }
     }
     index.as_mut_slice().sort_unstable();
-    Some(index)
+    true
 }
 
 /// Where the first entry stands that isn't below those of a functor, or how many there are.
