@@ -1,7 +1,7 @@
-mod Lists
-mod Paths
-mod Numbers
-mod Placed
+pub mod Lists
+pub mod Paths
+pub mod Numbers
+pub mod Placed
 mod Codes
 mod Ends
 mod Renumbering

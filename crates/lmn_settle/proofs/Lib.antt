@@ -1,4 +1,4 @@
 mod NumberLoops
 mod LaidParts
-mod SettledLinks
+pub mod SettledLinks
 pub mod PlainSolids

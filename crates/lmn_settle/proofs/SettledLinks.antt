@@ -114,7 +114,7 @@ links_settled v m = ap (flat_map (λ a. a.links)) (atoms_settled v m) ∙ links_
 -- ---- images of links
 
 -- a link's image stands as often as the link, where no other has it
-places_renamed : (f : ℕ → ℕ) (y : ℕ) (xs : List ℕ) → ((x : ℕ) → IsOneOf x xs → f x ≡ f y → x ≡ y) → places (f y) (map f xs) ≡ places y xs
+pub places_renamed : (f : ℕ → ℕ) (y : ℕ) (xs : List ℕ) → ((x : ℕ) → IsOneOf x xs → f x ≡ f y → x ≡ y) → places (f y) (map f xs) ≡ places y xs
 places_renamed f y [] one = refl
 places_renamed f y (x ∷ xs) one =
     let rest = places_renamed f y xs (λ z o. one z (inr o)) in

@@ -37,7 +37,7 @@ mod Found
 mod LeftOver
 mod Contexts
 mod BoundIntegers
-mod Embedded
+pub mod Embedded
 mod Tables
 pub mod Turned
 mod PartOrder

@@ -1,0 +1,4 @@
+mod Spelling
+mod Rests
+mod Lying
+mod Chosen

@@ -1,0 +1,44 @@
+//! The next solid, by plain search over lists: no store, no machine and no code.
+//!
+//! The definitions stand in `specs/`. A law is the contract of a function that at most names other laws, so it does nothing when it
+//! runs.
+#![tactic(auto)]
+
+ghost use Rattle.lmn_next.specs.Laws.{FirstIsChosen, LeastImagesLie, NoneHasEmbedding};
+ghost use Rattle.lmn_next.specs.Settling.{SpelledLevelsSettle};
+
+use lmn_bridge::{least_embeddings_are_alike, rules_embed_alike};
+use lmn_compile_head::{accepted_heads, accepted_least};
+use lmn_firing::bound_names_have_values;
+
+/// The least images of a rule are an embedding of the calculus at the least numbers, with its contents, its rest, and the integers
+/// that the guard binds.
+pub fn least_images_lie()
+    ensures { LeastImagesLie }
+{
+    accepted_heads();
+    accepted_least();
+    bound_names_have_values();
+    rules_embed_alike();
+    least_embeddings_are_alike();
+}
+
+/// What is found first, in the order in which membranes and rules are asked, is what the strategy of the calculus chooses.
+pub fn first_is_chosen()
+    ensures { FirstIsChosen }
+{
+    least_images_lie();
+    rules_embed_alike();
+}
+
+/// Where no rule of a membrane is found to embed, nothing embeds.
+pub fn none_has_embedding()
+    ensures { NoneHasEmbedding }
+{
+    rules_embed_alike();
+}
+
+/// A raw region that spells a closed level of the calculus can be settled, and what it is settled to is the solid of the level.
+pub fn spelled_levels_settle()
+    ensures { SpelledLevelsSettle }
+{}
