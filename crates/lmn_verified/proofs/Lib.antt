@@ -1,0 +1,7 @@
+mod FunctorTexts
+mod Instrs
+mod Operands
+mod WholeLines
+mod Lines
+mod Codes
+mod HeadShapes

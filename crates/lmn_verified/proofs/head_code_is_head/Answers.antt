@@ -1,0 +1,5 @@
+use Rattle.lmn_verified.proofs.HeadShapes.{head_code_is_head, head_code_looks, head_code_finds_first}
+use Rattle.lmn_verified.proofs.head_code_is_head.Goals as goal
+
+pub returns : goal.returns
+returns c = record { head = head_code_is_head; looks = head_code_looks; first = head_code_finds_first }
