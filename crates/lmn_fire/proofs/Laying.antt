@@ -5,6 +5,7 @@ use Rattle.lmn_base.specs.Lists.{In}
 use Rattle.lmn_base.specs.declared.solid.SolidAtom.{SolidAtom}
 use Rattle.std.specs.Prelude.{◌==◌, ◌<◌, Some, map, slice_index_or}
 use Rattle.std.proofs.Common.{drop}
+use Rattle.std.proofs.lemmas.Option.{slice_get-get_or}
 use Rattle.lmn_base.proofs.Lists.{drop_get}
 use Rattle.lmn_base.specs.declared.level.CtxUse.{CtxUse}
 use Rattle.lmn_base.specs.declared.level.Level.{Level}
@@ -12,7 +13,6 @@ use Rattle.lmn_body.specs.Flattening.{membrane_named}
 use Rattle.lmn_heap.proofs.Heights.{mem_of_place}
 use Rattle.lmn_heap.specs.Heap.{Heap, IsMem, mems_in, top}
 use Rattle.lmn_heap.specs.Sound.{Forest, Forms, Valid}
-use Rattle.lmn_flat.proofs.Partners.{got_index}
 use Rattle.lmn_flat.specs.Flats.{heap_of}
 use Rattle.lmn_flat.specs.declared.flat.Flat.{Flat}
 use Rattle.lmn_fire.specs.declared.matched.Match.{Match}
@@ -98,7 +98,7 @@ context_more flat t left us i d l around rows rows' all next next' x w names are
     let ns = context_membranes flat t left (context_next t.links u.closed next) (drop (i + 1) us) in
     let is : rows' ≡ rows ++ laid_in around (length rows) ms = laid (left x) (forms x there) ∙ (λ j. rows ++ laid_in around (length rows) (raws_at flat (w_is j) (left (y j)))) in
     ap (λ k. rows' ++ laid_in around (length rows') (context_membranes flat t left k (drop (i + 1) us))) next_is
-    ∙ more_laid rows rows' all around ms ns is (ap (λ vs. rows ++ laid_in around (length rows) (context_membranes flat t left next vs)) (sym (drop_get i us u (got_index us i d l))) ∙ e)
+    ∙ more_laid rows rows' all around ms ns is (ap (λ vs. rows ++ laid_in around (length rows) (context_membranes flat t left next vs)) (sym (drop_get i us u (slice_get-get_or us i d l))) ∙ e)
 
 module _ (flat : Flat) (t : Match) (left : ℕ → Forest) (ls : List Level) (i : ℕ) (l : Level) (below : i < length ls) (is : l ≡ slice_index_or ls i l) (next next1 next2 : ℕ)
     (to_own : next1 ≡ (level_made flat t left l).own next) (to_after : next2 ≡ (level_made flat t left l).after next1) where
@@ -106,7 +106,7 @@ module _ (flat : Flat) (t : Match) (left : ℕ → Forest) (ls : List Level) (i 
   made xs = map (level_made flat t left) xs
 
   first : drop i ls ≡ l ∷ drop (i + 1) ls
-  first = drop_get i ls l (got_index ls i l below ∙ ap (λ z. Some z) (sym is))
+  first = drop_get i ls l (slice_get-get_or ls i l below ∙ ap (λ z. Some z) (sym is))
 
   next_is : next2 ≡ (level_made flat t left l).after ((level_made flat t left l).own next)
   next_is = to_after ∙ ap (level_made flat t left l).after to_own
