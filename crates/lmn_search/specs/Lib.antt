@@ -1,0 +1,13 @@
+pub mod Marks
+pub mod Walking
+pub mod Pairing
+pub mod Binding
+pub mod Knowing
+pub mod Taking
+pub mod Placing
+pub mod Parting
+pub mod Closing
+pub mod Holding
+pub mod Meeting
+pub mod Choosing
+pub mod Finding
