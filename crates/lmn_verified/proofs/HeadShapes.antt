@@ -23,13 +23,21 @@ use Rattle.lmn_solid.specs.Heads.{HeadAtom, HeadTyped, HeadMembrane, atoms_of, t
 use Rattle.lmn_solid.specs.Guards.{typed_number, context_alone}
 use Rattle.lmn_instr.specs.declared.instr.AtomPort.{AtomPort}
 use Rattle.lmn_instr.specs.declared.instr.Instr.{Instr}
-use Rattle.lmn_instr.specs.declared.instr.Instr.TheVariants.{Deref, NeqAtom, Joined, NotIn, AnyMem, NeqMem, Commit, NoRules, IsClosed}
+use Rattle.lmn_instr.specs.declared.instr.Instr.TheVariants.{Deref, NeqAtom, Joined, NotIn, AnyMem, NeqMem, IsInt, IsUnary, IsGround, NAtoms, NMems, NoRules, IsClosed, EqGround, NeqGround, GetInt, Const, Add, Sub, Mul, Div, Mod, Lt, Le, Gt, Ge, Eq, Ne, Commit}
 use Rattle.lmn_instr.specs.HeadCode.{Entry, Computed, find_port, occurrences_before, entry, is_entry, found_code, differ_code, open_code, joined_code, port_code, ports_code, atom_code, differ_membrane_code, membrane_code, items_code, test_of, part_code, parts_code, filled_code, all_filled_code, operator_instruction, named_code, value_code, comparison, part_named, equal_code, differ_parts_code, bind_register, guard_code, head_code}
 use Rattle.lmn_verify.specs.Verified.{is_commit, is_empty, is_head, is_of_head, finds, is_looked_at, all_looked_at, surveys, finds_first}
 use Rattle.lmn_verified.specs.HeadCodes.{HeadCodeIsHead, HeadCodeLooks, HeadCodeFindsFirst}
 
--- NEQATOM, JOINED, NOTIN, ANYMEM and NEQMEM
-abbrev is_check : Instr → Bool
+-- NEQATOM, JOINED, NOTIN and NEQMEM
+abbrev pub compares : Instr → Bool
+compares (NeqAtom _ _) = true
+compares (Joined _ _) = true
+compares (NotIn _ _) = true
+compares (NeqMem _ _) = true
+compares _ = false
+
+-- and ANYMEM
+abbrev pub is_check : Instr → Bool
 is_check (NeqAtom _ _) = true
 is_check (Joined _ _) = true
 is_check (NotIn _ _) = true
@@ -38,16 +46,24 @@ is_check (NeqMem _ _) = true
 is_check _ = false
 
 -- an instruction of a head that finds nothing, other than COMMIT
-abbrev is_test : Instr → Bool
+abbrev pub is_test : Instr → Bool
 is_test i = is_of_head i && not (finds i)
 
 either : (Q : List Instr → Type 0) (b : Bool) (xs ys : List Instr) → Q xs → Q ys → Q (if b then xs else ys)
 either Q true xs ys h g = h
 either Q false xs ys h g = g
 
--- What holds of no code, of two parts behind each other, of how an atom is found, and of each check holds of atoms and membranes.
-module _ (Q : List Instr → Type 0) (none : Q []) (both : (xs ys : List Instr) → Q xs → Q ys → Q (xs ++ ys)) (found : (n : ℕ) (a : HeadAtom) (e : Option Entry) → Q (found_code n a e)) (one : (i : Instr) → is_check i ≡ true → Q (i ∷ [])) where
-  differ : (n : ℕ) (a : HeadAtom) (k : ℕ) (bs : List HeadAtom) → Q (differ_code n a k bs)
+compares_checks : (i : Instr) → compares i ≡ true → is_check i ≡ true
+compares_checks (NeqAtom _ _) h = refl
+compares_checks (Joined _ _) h = refl
+compares_checks (NotIn _ _) h = refl
+compares_checks (NeqMem _ _) h = refl
+compares_checks _ h = absurd (true≢false (sym h))
+
+-- What holds of no code, of two parts behind each other, and of each instruction that compares holds of all by which an atom or a
+-- membrane is told from others.
+module _ (Q : List Instr → Type 0) (none : Q []) (both : (xs ys : List Instr) → Q xs → Q ys → Q (xs ++ ys)) (one : (i : Instr) → compares i ≡ true → Q (i ∷ [])) where
+  pub differ : (n : ℕ) (a : HeadAtom) (k : ℕ) (bs : List HeadAtom) → Q (differ_code n a k bs)
   differ n a k [] = none
   differ n a k (b ∷ bs) = both _ _ (either Q ((b.inside == a.inside) && same_functor b.functor a.functor) (NeqAtom n k ∷ []) [] (one _ refl) none) (differ n a (k + 1) bs)
 
@@ -58,21 +74,23 @@ module _ (Q : List Instr → Type 0) (none : Q []) (both : (xs ys : List Instr) 
   joined items n a i x None = opened items n a i x
   joined items n a i x (Some p) = one _ refl
 
-  ports : (items : List HeadItem) (n : ℕ) (a : HeadAtom) (i : ℕ) (xs : List ℕ) → Q (ports_code items n a i xs)
+  pub ports : (items : List HeadItem) (n : ℕ) (a : HeadAtom) (i : ℕ) (xs : List ℕ) → Q (ports_code items n a i xs)
   ports items n a i [] = none
   ports items n a i (x ∷ xs) =
       both (port_code items n a i x) (ports_code items n a (i + 1) xs)
       (either Q (is_entry i (entry items n a)) [] (joined_code items n a i x (find_port x (occurrences_before items n a i))) none (joined items n a i x (find_port x (occurrences_before items n a i))))
       (ports items n a (i + 1) xs)
 
+  pub differ_membrane : (k : ℕ) (b : HeadMembrane) (j : ℕ) (cs : List HeadMembrane) → Q (differ_membrane_code k b j cs)
+  differ_membrane k b j [] = none
+  differ_membrane k b j (c ∷ cs) = both _ _ (either Q (c.inside == b.inside) (NeqMem k j ∷ []) [] (one _ refl) none) (differ_membrane k b (j + 1) cs)
+
+-- And where it holds of how an atom is found it holds of atoms and membranes.
+module _ (Q : List Instr → Type 0) (none : Q []) (both : (xs ys : List Instr) → Q xs → Q ys → Q (xs ++ ys)) (found : (n : ℕ) (a : HeadAtom) (e : Option Entry) → Q (found_code n a e)) (one : (i : Instr) → is_check i ≡ true → Q (i ∷ [])) where
   atom : (items : List HeadItem) (n : ℕ) (a : HeadAtom) → Q (atom_code items n a)
   atom items n a =
       both (found_code n a (entry items n a)) _ (found n a (entry items n a))
-      (both (differ_code n a 0 (take n (atoms_of items))) _ (differ n a 0 (take n (atoms_of items))) (ports items n a 0 a.links))
-
-  differ_membrane : (k : ℕ) (b : HeadMembrane) (j : ℕ) (cs : List HeadMembrane) → Q (differ_membrane_code k b j cs)
-  differ_membrane k b j [] = none
-  differ_membrane k b j (c ∷ cs) = both _ _ (either Q (c.inside == b.inside) (NeqMem k j ∷ []) [] (one _ refl) none) (differ_membrane k b (j + 1) cs)
+      (both (differ_code n a 0 (take n (atoms_of items))) _ (differ Q none both (λ i h. one i (compares_checks i h)) n a 0 (take n (atoms_of items))) (ports Q none both (λ i h. one i (compares_checks i h)) items n a 0 a.links))
 
   pub all_items : (items : List HeadItem) (n i : ℕ) (xs : List HeadItem) → Q (items_code items n i xs)
   all_items items n i [] = none
@@ -80,12 +98,77 @@ module _ (Q : List Instr → Type 0) (none : Q []) (both : (xs ys : List Instr) 
   all_items items n i (Typed name kind link inside ∷ xs) = all_items items n i xs
   all_items items n i (Membrane inside c d r ∷ xs) =
       both (membrane_code items i (record { inside = inside; has_context = c; has_closed_context = d; has_rule_context = r })) (items_code items n (i + 1) xs)
-      (both (AnyMem (i + 1) inside ∷ []) _ (one _ refl) (differ_membrane (i + 1) (record { inside = inside; has_context = c; has_closed_context = d; has_rule_context = r }) 1 (take i (membranes_of items))))
+      (both (AnyMem (i + 1) inside ∷ []) _ (one _ refl) (differ_membrane Q none both (λ i h. one i (compares_checks i h)) (i + 1) (record { inside = inside; has_context = c; has_closed_context = d; has_rule_context = r }) 1 (take i (membranes_of items))))
       (all_items items n (i + 1) xs)
 
--- And what holds of each test holds of the tests.
-module _ (Q : List Instr → Type 0) (none : Q []) (both : (xs ys : List Instr) → Q xs → Q ys → Q (xs ++ ys)) (one : (i : Instr) → is_test i ≡ true → Q (i ∷ [])) where
-  test : (k : TypeKind) (g : ℕ) (p : AtomPort) (m : ℕ) → is_test (test_of k g p m) ≡ true
+-- ISINT, ISUNARY and ISGROUND
+abbrev pub looks_at_part : Instr → Bool
+looks_at_part (IsInt _ _ _) = true
+looks_at_part (IsUnary _ _ _) = true
+looks_at_part (IsGround _ _ _) = true
+looks_at_part _ = false
+
+-- what is asked of a membrane as a whole
+abbrev pub asks_membrane : Instr → Bool
+asks_membrane (NAtoms _ _ _) = true
+asks_membrane (NMems _ _) = true
+asks_membrane (NoRules _) = true
+asks_membrane (IsClosed _ _) = true
+asks_membrane _ = false
+
+-- what a guard asks and computes
+abbrev pub is_of_guard : Instr → Bool
+is_of_guard (EqGround _ _) = true
+is_of_guard (NeqGround _ _) = true
+is_of_guard (GetInt _ _) = true
+is_of_guard (Const _ _) = true
+is_of_guard (Add _ _ _) = true
+is_of_guard (Sub _ _ _) = true
+is_of_guard (Mul _ _ _) = true
+is_of_guard (Div _ _ _) = true
+is_of_guard (Mod _ _ _) = true
+is_of_guard (Lt _ _) = true
+is_of_guard (Le _ _) = true
+is_of_guard (Gt _ _) = true
+is_of_guard (Ge _ _) = true
+is_of_guard (Eq _ _) = true
+is_of_guard (Ne _ _) = true
+is_of_guard _ = false
+
+pub part_is_test : (i : Instr) → looks_at_part i ≡ true → is_test i ≡ true
+part_is_test (IsInt _ _ _) h = refl
+part_is_test (IsUnary _ _ _) h = refl
+part_is_test (IsGround _ _ _) h = refl
+part_is_test _ h = absurd (true≢false (sym h))
+
+pub membrane_is_test : (i : Instr) → asks_membrane i ≡ true → is_test i ≡ true
+membrane_is_test (NAtoms _ _ _) h = refl
+membrane_is_test (NMems _ _) h = refl
+membrane_is_test (NoRules _) h = refl
+membrane_is_test (IsClosed _ _) h = refl
+membrane_is_test _ h = absurd (true≢false (sym h))
+
+pub guard_is_test : (i : Instr) → is_of_guard i ≡ true → is_test i ≡ true
+guard_is_test (EqGround _ _) h = refl
+guard_is_test (NeqGround _ _) h = refl
+guard_is_test (GetInt _ _) h = refl
+guard_is_test (Const _ _) h = refl
+guard_is_test (Add _ _ _) h = refl
+guard_is_test (Sub _ _ _) h = refl
+guard_is_test (Mul _ _ _) h = refl
+guard_is_test (Div _ _ _) h = refl
+guard_is_test (Mod _ _ _) h = refl
+guard_is_test (Lt _ _) h = refl
+guard_is_test (Le _ _) h = refl
+guard_is_test (Gt _ _) h = refl
+guard_is_test (Ge _ _) h = refl
+guard_is_test (Eq _ _) h = refl
+guard_is_test (Ne _ _) h = refl
+guard_is_test _ h = absurd (true≢false (sym h))
+
+-- And what holds of each test holds of the tests: of typed contexts,
+module _ (Q : List Instr → Type 0) (none : Q []) (both : (xs ys : List Instr) → Q xs → Q ys → Q (xs ++ ys)) (one : (i : Instr) → looks_at_part i ≡ true → Q (i ∷ [])) where
+  test : (k : TypeKind) (g : ℕ) (p : AtomPort) (m : ℕ) → looks_at_part (test_of k g p m) ≡ true
   test kind.Int g p m = refl
   test kind.Unary g p m = refl
   test kind.Ground g p m = refl
@@ -98,6 +181,8 @@ module _ (Q : List Instr → Type 0) (none : Q []) (both : (xs ys : List Instr) 
   parts items g [] = none
   parts items g (t ∷ ts) = both (part_code g t (find_port t.link (at_atoms 0 (atoms_of items)))) (parts_code items (g + 1) ts) (part g t (find_port t.link (at_atoms 0 (atoms_of items)))) (parts items (g + 1) ts)
 
+-- of membranes,
+module _ (Q : List Instr → Type 0) (none : Q []) (both : (xs ys : List Instr) → Q xs → Q ys → Q (xs ++ ys)) (one : (i : Instr) → asks_membrane i ≡ true → Q (i ∷ [])) where
   filled : (items : List HeadItem) (k : ℕ) (b : HeadMembrane) → Q (filled_code items k b)
   filled items k b =
       both _ _ (either Q b.has_context [] (_ ∷ (_ ∷ [])) none (both (_ ∷ []) (_ ∷ []) (one _ refl) (one _ refl)))
@@ -107,7 +192,9 @@ module _ (Q : List Instr → Type 0) (none : Q []) (both : (xs ys : List Instr) 
   all_filled items k [] = none
   all_filled items k (b ∷ bs) = both (filled_code items k b) (all_filled_code items (k + 1) bs) (filled items k b) (all_filled items (k + 1) bs)
 
-  operator : (o : Arith) (v w x : ℕ) → is_test (operator_instruction o v w x) ≡ true
+-- and of a guard.
+module _ (Q : List Instr → Type 0) (none : Q []) (both : (xs ys : List Instr) → Q xs → Q ys → Q (xs ++ ys)) (one : (i : Instr) → is_of_guard i ≡ true → Q (i ∷ [])) where
+  operator : (o : Arith) (v w x : ℕ) → is_of_guard (operator_instruction o v w x) ≡ true
   operator arith.Add v w x = refl
   operator arith.Sub v w x = refl
   operator arith.Mul v w x = refl
@@ -126,7 +213,7 @@ module _ (Q : List Instr → Type 0) (none : Q []) (both : (xs ys : List Instr) 
       let b = value_code part bound right a.next in
       both a.code _ (value part bound left v) (both b.code (operator_instruction o b.next a.at b.at ∷ []) (value part bound right a.next) (one _ (operator o b.next a.at b.at)))
 
-  compared : (c : Cmp) (v w : ℕ) → is_test (comparison c v w) ≡ true
+  compared : (c : Cmp) (v w : ℕ) → is_of_guard (comparison c v w) ≡ true
   compared cmp.Lt v w = refl
   compared cmp.Le v w = refl
   compared cmp.Gt v w = refl
@@ -174,9 +261,9 @@ whole : (test late : List Instr → Bool) → ((ys : List Instr) → late ys ≡
     → late (Commit ∷ []) ≡ true → (items : List HeadItem) (guard : List Cond) → test (head_code items guard) ≡ true
 whole test late into found check tested last items guard =
     all_items (Leads test) (leads_none test) (leads_both test) found check items 0 0 items _ (into _
-    (parts (Leads late) (leads_none late) (leads_both late) tested items 0 (typed_contexts_of items) _
-    (all_filled (Leads late) (leads_none late) (leads_both late) tested items 1 (membranes_of items) _
-    (guards (Leads late) (leads_none late) (leads_both late) tested (typed_number (typed_contexts_of items) 0) (λ x. 0) 0 guard (Commit ∷ []) last))))
+    (parts (Leads late) (leads_none late) (leads_both late) (λ i h. tested i (part_is_test i h)) items 0 (typed_contexts_of items) _
+    (all_filled (Leads late) (leads_none late) (leads_both late) (λ i h. tested i (membrane_is_test i h)) items 1 (membranes_of items) _
+    (guards (Leads late) (leads_none late) (leads_both late) (λ i h. tested i (guard_is_test i h)) (typed_number (typed_contexts_of items) 0) (λ x. 0) 0 guard (Commit ∷ []) last))))
 
 -- ---- instructions of a head, and COMMIT
 

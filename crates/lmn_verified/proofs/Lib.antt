@@ -5,3 +5,11 @@ mod WholeLines
 mod Lines
 mod Codes
 mod HeadShapes
+mod Finding
+mod Apart
+mod InOrder
+mod BodyShapes
+mod GuardSizes
+mod Resting
+mod Integers
+mod Accepted
