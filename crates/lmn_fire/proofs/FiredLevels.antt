@@ -7,13 +7,17 @@ use Rattle.lmn_base.proofs.Numbers.{not_equal, same_or_not}
 use Rattle.lmn_base.specs.Lists.{In}
 use Rattle.lmn_base.specs.declared.solid.SolidAtom.{SolidAtom}
 use Rattle.lmn_congruence.specs.LinkedRules.{level_occurrences}
-use Rattle.lmn_congruence.specs.Plains.{fused_leaves, fused_level}
-use Rattle.lmn_congruence.specs.Regions.{Region, Regions, region, region_and}
+use Rattle.lmn_congruence.specs.Plains.{fused_leaves, fused_level, level_process}
+use Rattle.lmn_congruence.specs.Process.{Closed, Process, occurrences, pair, renamed}
+use Rattle.lmn_congruence.specs.Regions.{Region, Regions, region, region_and, region_process}
 use Rattle.lmn_congruence.specs.Rules as tree
 use Rattle.lmn_congruence.specs.Rules.{Name, connector_leaf}
 use Rattle.lmn_congruence.specs.Translation.{levels, rules as listed_rules}
 use Rattle.lmn_adequacy.specs.Embedding.{TakenRegion, region_first, region_later}
 use Rattle.lmn_adequacy.specs.Next.{RawAt, fires_below, kept_atoms, kept_membranes, raw_level, replaced, wire_leaves}
+use Rattle.lmn_congruence.proofs.Reordered.{reordered_count}
+use Rattle.lmn_adequacy.proofs.Commits.{closed_as, region_out}
+use Rattle.lmn_adequacy.proofs.Existence.{below_order}
 use Rattle.lmn_heap.specs.Heap.{atoms_in, mems_in, rules_in}
 use Rattle.lmn_heap.specs.Lists.{Distinct}
 use Rattle.lmn_heap.specs.Sound.{Forest, bare, mem, flat as members, Forms}
@@ -95,7 +99,11 @@ module _ (flat : Flat) (names : List Name) (rule : ℕ → tree.Rule) (F R : ℕ
 
   -- ---- the whole region
 
-  module _ (index : ℕ) (ns : List ℕ) (home : ℕ) (mi : Forest) (formed : Forms (heap_of flat) mi (mems_in (heap_of flat) home)) (made : RawRegion) (ps : List (ℕ × ℕ)) where
+  module _ (accepted : Type 0) (index : ℕ) (ns : List ℕ) (home : ℕ) (mi : Forest) (formed : Forms (heap_of flat) mi (mems_in (heap_of flat) home)) (made : RawRegion) (ps : List (ℕ × ℕ)) where
+    -- a raw level is closed beside each process beside which a region is, where both have links below a number
+    abbrev pub Closes : Region → tree.Level → Type 0
+    Closes S L = accepted → (O : Process) → Closed (pair (region_process S) O) → ((z : ℕ) → F ≤ z → occurrences z (pair (region_process S) O) ≡ 0) → Closed (pair (level_process L) (renamed of_solid O))
+
     -- the rule fires at or below a membrane, and what is made there is spelled
     pub record FiredAt (x : ℕ) (i : Forest) : Type 0 where
       pub path : List ℕ
@@ -103,6 +111,7 @@ module _ (flat : Flat) (names : List Name) (rule : ℕ → tree.Rule) (F R : ℕ
       pub fires : RawAt path index ns (region_at (heap_of flat) (record { name = link_at flat; names = names; rule = rule }) x i) level
       pub is : fused_level (λ z. z) level ≡ read_region names rule (raw_link F R) (fired_region flat home made x i)
       pub pairs : level_connectors level ≡ map (mapped_pair (raw_link F R)) ps
+      pub closes : Closes (region_at (heap_of flat) (record { name = link_at flat; names = names; rule = rule }) x i) level
 
     record FoundAt (f : Forest) : Type 0 where
       pub place : ℕ
@@ -114,6 +123,7 @@ module _ (flat : Flat) (names : List Name) (rule : ℕ → tree.Rule) (F R : ℕ
       pub fires : RawAt path index ns child level
       pub spelt : Spelt names rule (raw_link F R) (replaced place level (kept_membranes (regions_at (heap_of flat) (record { name = link_at flat; names = names; rule = rule }) f))) (fired_regions flat home made f)
       pub pairs : levels_connectors (levels (replaced place level (kept_membranes (regions_at (heap_of flat) (record { name = link_at flat; names = names; rule = rule }) f)))) ≡ map (mapped_pair (raw_link F R)) ps
+      pub closes : Closes child level
 
     as_other : (b : Bool) (o : RawRegion) → b ≡ false → cond b made o ≡ o
     as_other b o e = ap (λ c. cond c made o) e
@@ -152,6 +162,16 @@ module _ (flat : Flat) (names : List Name) (rule : ℕ → tree.Rule) (F R : ℕ
                 (kept_fused xs ∙ sym (atoms_read flat names rule F below (raw_link F R) of_solid (Shifted 0) kept_link (atoms_in (heap_of flat) x))) u.spelt refl
                 ∙ ap (read_region names rule (raw_link F R)) (sym other);
             pairs = (λ j. kept_leaves xs j ++ u.pairs j);
+            closes = λ a O closed low.
+                let Q = region_process (region xs u.others rs) in
+                let P = region_process (region xs S rs) in
+                let child = region_process u.child in
+                let L' = tree.level (kept_atoms xs) (levels (replaced u.place u.level (kept_membranes S))) [] [] (listed_rules rs) in
+                let out = region_out xs rs u.taken in
+                let order = below_order xs rs u.level u.taken in
+                let same : (z : ℕ) → occurrences z (pair P O) ≡ occurrences z (pair child (pair Q O)) = λ z. omega (arith, reordered_count out z) in
+                closed_as (pair (level_process u.level) (renamed of_solid (pair Q O))) (pair (level_process L') (renamed of_solid O)) (λ z. omega (arith, reordered_count order z))
+                (u.closes a (pair Q O) (closed_as (pair P O) (pair child (pair Q O)) same closed) (λ z m. sym (same z) ∙ low z m));
           }
 
       -- it fires in the first tree of a forest
@@ -166,6 +186,7 @@ module _ (flat : Flat) (names : List Name) (rule : ℕ → tree.Rule) (F R : ℕ
         fires = u.fires;
         spelt = (u.is, forest_spelt f o);
         pairs = (λ j. u.pairs j ++ kept_none (regions_at (heap_of flat) reading f) j) ∙ plus_nothing (map (mapped_pair (raw_link F R)) ps);
+        closes = u.closes;
       }
 
       -- or in a later one
@@ -181,6 +202,7 @@ module _ (flat : Flat) (names : List Name) (rule : ℕ → tree.Rule) (F R : ℕ
             fires = u.fires;
             spelt = (first.0, u.spelt);
             pairs = (λ j. kept_one (region_at (heap_of flat) reading k i) j ++ u.pairs j);
+            closes = u.closes;
           }
 
       find : (f : Forest) (ms : List ℕ) → Forms (heap_of flat) f ms → Distinct (members f) → In home (members f) → FoundAt f

@@ -12,3 +12,11 @@ pub mod Wholes
 pub mod Fine
 pub mod FineLevels
 pub mod SpelledLaw
+mod ClosesAbove
+mod LinksUnder
+mod PartLinks
+mod Ranges
+mod Known
+mod Leaving
+mod Standing
+mod SettledRules

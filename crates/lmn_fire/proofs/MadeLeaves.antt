@@ -13,7 +13,7 @@ use Rattle.lmn_base.specs.declared.level.Leaf.{Leaf}
 use Rattle.lmn_base.specs.declared.level.Leaf.TheVariants as leaf
 use Rattle.lmn_base.specs.declared.level.Occ.{Occ}
 use Rattle.lmn_base.specs.declared.solid.SolidAtom.{SolidAtom}
-use Rattle.lmn_congruence.specs.Orders.{Among}
+use Rattle.lmn_congruence.specs.Orders.{Among, at_head, further}
 use Rattle.lmn_congruence.specs.Plains.{fused_leaves}
 use Rattle.lmn_congruence.specs.Regions as solid
 use Rattle.lmn_congruence.specs.Rules as tree
@@ -21,7 +21,8 @@ use Rattle.lmn_congruence.specs.Rules.{Name}
 use Rattle.lmn_congruence.specs.Same.{renamed_atom}
 use Rattle.lmn_congruence.specs.Translation.{atom_or_connector, label_of, leaf_of, name_of}
 use Rattle.lmn_adequacy.specs.Embedding.{Contents, IsPart}
-use Rattle.lmn_adequacy.specs.Next.{DepthFirst, MadeLeaves, links_at, made_atom, made_connector, made_copy, no_made_leaf, part_leaves}
+use Rattle.lmn_adequacy.specs.Next.{DepthFirst, links_at, part_leaves}
+use Rattle.lmn_adequacy.proofs.Depth.{renamed_links}
 use Rattle.lmn_heap.specs.Functors.{same_functor}
 use Rattle.lmn_body.specs.Running.{integer_functor}
 use Rattle.lmn_bridge.specs.HeapRegions.{HeapReading, atoms_at}
@@ -37,6 +38,8 @@ use Rattle.lmn_fire.specs.Making.{body_atom, integer_atoms, leaf_next, leaves_at
 use Rattle.lmn_fire.specs.Meant.{LeafFits, MeansPart, integer_named, part_named}
 use Rattle.lmn_fire.specs.Spelled.{leaf_connectors, mapped_pair}
 use Rattle.lmn_fire.proofs.Numbers.{of_copy, of_own, raw_link}
+use Rattle.lmn_fire.proofs.LinksUnder.{atoms_under, renamed_among}
+use Rattle.lmn_fire.proofs.Ranges.{RangedLeaves, ranged_atom, ranged_connector, ranged_copy, ranged_none}
 use Rattle.lmn_fire.proofs.Reading.{atoms_read, leaves_fused, read_atom}
 
 -- ---- connectors
@@ -142,27 +145,27 @@ module _ (flat : Flat) (t : Match) (names : List Name) (rule : ℕ → tree.Rule
 
   -- ---- leaves
 
-  -- what leaves make, as raw leaves
-  pub record LeavesSpelt (ls : List tree.Leaf) (xs : List SolidAtom) (ps : List (ℕ × ℕ)) : Type 0 where
+  -- what leaves make, as raw leaves, where the copies have links in a range
+  pub record LeavesSpelt (a e : ℕ) (ls : List tree.Leaf) (xs : List SolidAtom) (ps : List (ℕ × ℕ)) : Type 0 where
     pub outs : List tree.Leaf
-    pub makes : MadeLeaves c ls outs
+    pub makes : RangedLeaves c a e ls outs
     pub atoms : fused_leaves (λ z. z) outs ≡ map (read_atom names (raw_link t.links R)) xs
     pub pairs : leaf_connectors outs ≡ map (mapped_pair (raw_link t.links R)) ps
 
   -- one leaf more, which makes these
-  more : (l : tree.Leaf) (ls : List tree.Leaf) (os : List tree.Leaf) (ys xs : List SolidAtom) (qs ps : List (ℕ × ℕ)) → ((outs : List tree.Leaf) → MadeLeaves c ls outs → MadeLeaves c (l ∷ ls) (os ++ outs)) →
-      fused_leaves (λ z. z) os ≡ map (read_atom names (raw_link t.links R)) ys → leaf_connectors os ≡ map (mapped_pair (raw_link t.links R)) qs → LeavesSpelt ls xs ps → LeavesSpelt (l ∷ ls) (ys ++ xs) (qs ++ ps)
-  more l ls os ys xs qs ps f a p u = record {
+  more : (a b e : ℕ) (l : tree.Leaf) (ls : List tree.Leaf) (os : List tree.Leaf) (ys xs : List SolidAtom) (qs ps : List (ℕ × ℕ)) → ((outs : List tree.Leaf) → RangedLeaves c b e ls outs → RangedLeaves c a e (l ∷ ls) (os ++ outs)) →
+      fused_leaves (λ z. z) os ≡ map (read_atom names (raw_link t.links R)) ys → leaf_connectors os ≡ map (mapped_pair (raw_link t.links R)) qs → LeavesSpelt b e ls xs ps → LeavesSpelt a e (l ∷ ls) (ys ++ xs) (qs ++ ps)
+  more a b e l ls os ys xs qs ps f read p u = record {
     outs = os ++ u.outs;
     makes = f u.outs u.makes;
-    atoms = leaves_fused os u.outs ∙ (λ i. a i ++ u.atoms i) ∙ sym (map_append (read_atom names (raw_link t.links R)) ys xs);
+    atoms = leaves_fused os u.outs ∙ (λ i. read i ++ u.atoms i) ∙ sym (map_append (read_atom names (raw_link t.links R)) ys xs);
     pairs = connectors_both os u.outs ∙ (λ i. p i ++ u.pairs i) ∙ sym (map_append (mapped_pair (raw_link t.links R)) qs ps);
   }
 
-  atom_more : (f : Functor) (os : List Occ) (ls : List tree.Leaf) (xs : List SolidAtom) (ps : List (ℕ × ℕ)) → length os ≡ f.arity → AllByRecursion (λ o. o.link < R) os → LeavesSpelt ls xs ps →
+  atom_more : (a e : ℕ) (f : Functor) (os : List Occ) (ls : List tree.Leaf) (xs : List SolidAtom) (ps : List (ℕ × ℕ)) → length os ≡ f.arity → AllByRecursion (λ o. o.link < R) os → LeavesSpelt a e ls xs ps →
       let zs = map (λ o. t.links + o.link) os in
-      LeavesSpelt (atom_or_connector names f.label (map (λ o. o.link) os) ∷ ls) (body_atom (same_functor f connector) f zs ++ xs) (pair_of (same_functor f connector) zs ++ ps)
-  atom_more f os ls xs ps long b u = by (made_as names f ys (length-map os (λ o. o.link) ∙ long))
+      LeavesSpelt a e (atom_or_connector names f.label (map (λ o. o.link) os) ∷ ls) (body_atom (same_functor f connector) f zs ++ xs) (pair_of (same_functor f connector) zs ++ ps)
+  atom_more a e f os ls xs ps long b u = by (made_as names f ys (length-map os (λ o. o.link) ∙ long))
     where
       ys : List ℕ
       ys = map (λ o. o.link) os
@@ -186,16 +189,16 @@ module _ (flat : Flat) (t : Match) (names : List Name) (rule : ℕ → tree.Rule
           subst (λ z. (body_atom z f (a ∷ (d ∷ [])) ≡ []) × (map (mapped_pair (raw_link t.links R)) (pair_of z (a ∷ (d ∷ []))) ≡ (x, y) ∷ [])) (sym is) (refl, λ i. (first i, second i) ∷ [])
       two x y (a ∷ (d ∷ (g ∷ us))) n e k is = absurd (omega (arith, n))
 
-      by : IsMadeAs names f ys → LeavesSpelt (atom_or_connector names f.label ys ∷ ls) (body_atom (same_functor f connector) f zs ++ xs) (pair_of (same_functor f connector) zs ++ ps)
+      by : IsMadeAs names f ys → LeavesSpelt a e (atom_or_connector names f.label ys ∷ ls) (body_atom (same_functor f connector) f zs ++ xs) (pair_of (same_functor f connector) zs ++ ps)
       by (inl (x, y, is, tl, s)) =
           let w = two (of_rule x) (of_rule y) zs (as_long ∙ ap length is) (read ∙ ap (map of_rule) is) (same_functor f connector) s in
-          more (atom_or_connector names f.label ys) ls (tree.connector_leaf (of_rule x) (of_rule y) ∷ []) (body_atom (same_functor f connector) f zs) xs (pair_of (same_functor f connector) zs) ps
-          (λ outs m. subst (λ z. MadeLeaves c (z ∷ ls) (tree.connector_leaf (of_rule x) (of_rule y) ∷ outs)) (sym tl) (made_connector m))
+          more a a e (atom_or_connector names f.label ys) ls (tree.connector_leaf (of_rule x) (of_rule y) ∷ []) (body_atom (same_functor f connector) f zs) xs (pair_of (same_functor f connector) zs) ps
+          (λ outs m. subst (λ z. RangedLeaves c a e (z ∷ ls) (tree.connector_leaf (of_rule x) (of_rule y) ∷ outs)) (sym tl) (ranged_connector m))
           (ap (map (read_atom names (raw_link t.links R))) (sym w.0)) (sym w.1) u
       by (inr (tl, w)) =
           let k = w zs as_long in
-          more (atom_or_connector names f.label ys) ls (tree.atom_leaf (label_of names f.label) (map of_rule ys) ∷ []) (body_atom (same_functor f connector) f zs) xs (pair_of (same_functor f connector) zs) ps
-          (λ outs m. subst (λ z. MadeLeaves c (z ∷ ls) (tree.atom_leaf (label_of names f.label) (map of_rule ys) ∷ outs)) (sym tl) (made_atom m))
+          more a a e (atom_or_connector names f.label ys) ls (tree.atom_leaf (label_of names f.label) (map of_rule ys) ∷ []) (body_atom (same_functor f connector) f zs) xs (pair_of (same_functor f connector) zs) ps
+          (λ outs m. subst (λ z. RangedLeaves c a e (z ∷ ls) (tree.atom_leaf (label_of names f.label) (map of_rule ys) ∷ outs)) (sym tl) (ranged_atom m))
           ((λ i. record { label = label_of names f.label; links = (map_itself (map of_rule ys) ∙ sym read) i } ∷ []) ∙ ap (map (read_atom names (raw_link t.links R))) (sym k.0))
           (ap (map (mapped_pair (raw_link t.links R))) (sym k.1)) u
 
@@ -223,19 +226,55 @@ module _ (flat : Flat) (t : Match) (names : List Name) (rule : ℕ → tree.Rule
       by true e = refl
       by false e = e
 
-  typed_more : (n x next : ℕ) (ls : List tree.Leaf) (xs : List SolidAtom) (ps : List (ℕ × ℕ)) → x < R → t.links + R ≤ next → (o : Option Part) →
-      MeansPart (heap_of flat) (record { name = link_at flat; names = names; rule = rule }) t c n o → LeavesSpelt ls xs ps → LeavesSpelt (tree.typed_leaf (name_of names n) x ∷ ls) (typed_by o n (t.links + x) next ++ xs) ps
-  typed_more n x next ls xs ps l m (Some p) s u =
+  -- where the links of the copy behind it are
+  abbrev next_by : Option Part → ℕ → ℕ
+  next_by (Some p) next = next + t.links
+  next_by None next = next
+
+  next_is : (ps : List Part) (n next : ℕ) → typed_next t.links ps n next ≡ next_by (part_named ps n) next
+  next_is [] n next = refl
+  next_is (p ∷ ps) n next = by (p.name == n) (next_is ps n next)
+    where
+      by : (b : Bool) → typed_next t.links ps n next ≡ next_by (part_named ps n) next → cond b (next + t.links) (typed_next t.links ps n next) ≡ next_by (cond b (Some p) (part_named ps n)) next
+      by true e = refl
+      by false e = e
+
+  -- a link of a copy is the one that holds it, or one of the range
+  into_range : (p : Part) (x next y : ℕ) → t.links + R ≤ next → y < t.links → (into p x next y ≡ of_rule x) ⊎ ((L : ℕ) × (into p x next y ≡ of_solid L) × (next - R ≤ L) × (L < (next + t.links) - R))
+  into_range p x next y m l = by (y == p.link)
+    where
+      by : (b : Bool) → (cond b (of_rule x) (of_solid ((next - R) + y)) ≡ of_rule x) ⊎ ((L : ℕ) × (cond b (of_rule x) (of_solid ((next - R) + y)) ≡ of_solid L) × (next - R ≤ L) × (L < (next + t.links) - R))
+      by true = inl refl
+      by false = inr ((next - R) + y, refl, omega arith, omega (arith, m, l))
+
+  copy_range : (p : Part) (x next : ℕ) → t.links + R ≤ next → (z : ℕ) → Among z (links_at (copy p x next)) → (z ≡ of_rule x) ⊎ ((L : ℕ) × (z ≡ of_solid L) × (next - R ≤ L) × (L < (next + t.links) - R))
+  copy_range p x next m z k =
+      let kept = atoms_at (heap_of flat) reading p.atoms in
+      let w = renamed_among (into p x next) z (links_at kept) (subst (Among z) (renamed_links (into p x next) kept) k) in
+      let y : ℕ = w.0 in
+      let e : z ≡ into p x next y = w.2 in
+      elim (into_range p x next y m (atoms_under (heap_of flat) reading t.links below p.atoms y w.1)) [
+        | inl i ↦ inl (e ∙ i)
+        | inr (L, i, a, b) ↦ inr (L, e ∙ i, a, b)
+      ]
+
+  integer_range : (z x a b : ℕ) → (y : ℕ) → Among y (x ∷ []) → (y ≡ x) ⊎ ((L : ℕ) × (y ≡ of_solid L) × (a ≤ L) × (L < b))
+  integer_range z x a b y at_head = inl refl
+  integer_range z x a b y (further k) = elim k [ ]
+
+  typed_more : (n x next e : ℕ) (ls : List tree.Leaf) (xs : List SolidAtom) (ps : List (ℕ × ℕ)) → x < R → t.links + R ≤ next → (o : Option Part) →
+      MeansPart (heap_of flat) (record { name = link_at flat; names = names; rule = rule }) t c n o → LeavesSpelt (next_by o next - R) e ls xs ps → LeavesSpelt (next - R) e (tree.typed_leaf (name_of names n) x ∷ ls) (typed_by o n (t.links + x) next ++ xs) ps
+  typed_more n x next e ls xs ps l m (Some p) s u =
       let one : (y z : ℕ) → Among y (links_at (atoms_at (heap_of flat) reading p.atoms)) → Among z (links_at (atoms_at (heap_of flat) reading p.atoms)) → into p x next y ≡ into p x next z → y ≡ z = λ y z i j. into_apart p x next y z in
       let is = renamed_part (into p x next) (c.typed_of (name_of names n)) p.link (atoms_at (heap_of flat) reading p.atoms) one s.is in
       let order = renamed_depth_first (into p x next) p.link (atoms_at (heap_of flat) reading p.atoms) one s.held s.in_order in
-      more (tree.typed_leaf (name_of names n) x) ls (part_leaves (copy p x next)) (written_atoms flat (Root p.link (t.links + x) next) p.atoms) xs [] ps
-      (λ outs w. made_copy (subst (λ k. IsPart (c.typed_of (name_of names n)) k (copy p x next)) (into_root p x next) is) (subst (λ k. DepthFirst k (copy p x next)) (into_root p x next) order) w)
+      more (next - R) ((next + t.links) - R) e (tree.typed_leaf (name_of names n) x) ls (part_leaves (copy p x next)) (written_atoms flat (Root p.link (t.links + x) next) p.atoms) xs [] ps
+      (λ outs w. ranged_copy (subst (λ k. IsPart (c.typed_of (name_of names n)) k (copy p x next)) (into_root p x next) is) (subst (λ k. DepthFirst k (copy p x next)) (into_root p x next) order) (omega (arith, m)) (copy_range p x next m) w)
       (copy_read p x next l m) (no_connector_made (copy p x next)) u
-  typed_more n x next ls xs ps l m None (z, e, i) u =
+  typed_more n x next end ls xs ps l m None (z, e, i) u =
       let atom = integer_atom z x in
-      more (tree.typed_leaf (name_of names n) x) ls (part_leaves (atom ∷ [])) (integer_atoms t.integers n (t.links + x)) xs [] ps
-      (λ outs w. made_copy (integer_part z (c.typed_of (name_of names n)) x i) (integer_first z x) w)
+      more (next - R) (next - R) end (tree.typed_leaf (name_of names n) x) ls (part_leaves (atom ∷ [])) (integer_atoms t.integers n (t.links + x)) xs [] ps
+      (λ outs w. ranged_copy (integer_part z (c.typed_of (name_of names n)) x i) (integer_first z x) (omega arith) (integer_range 0 (of_rule x) (next - R) (next - R)) w)
       ((λ j. record { label = tree.integer z; links = sym (of_own t.links R x l) j ∷ [] } ∷ []) ∙ ap (map (read_atom names (raw_link t.links R))) (sym (integers_are t.integers n (t.links + x) z e)))
       refl u
 
@@ -257,11 +296,14 @@ module _ (flat : Flat) (t : Match) (names : List Name) (rule : ℕ → tree.Rule
 
   -- all leaves of a level
   pub leaves_spelt : (ls : List Leaf) (next : ℕ) → t.links + R ≤ next → AllByRecursion (LeafFits (heap_of flat) (record { name = link_at flat; names = names; rule = rule }) t c R) ls →
-      LeavesSpelt (map (leaf_of names) ls) (leaves_atoms flat t next ls) (pairs_of t ls)
-  leaves_spelt [] next m f = record { outs = []; makes = no_made_leaf; atoms = refl; pairs = refl }
-  leaves_spelt (leaf.Atom g os pos ∷ ls) next m f = atom_more g os (map (leaf_of names) ls) (leaves_atoms flat t next ls) (pairs_of t ls) f.0.0 f.0.1 (leaves_spelt ls next m f.1)
+      LeavesSpelt (next - R) (leaves_next t ls next - R) (map (leaf_of names) ls) (leaves_atoms flat t next ls) (pairs_of t ls)
+  leaves_spelt [] next m f = record { outs = []; makes = ranged_none; atoms = refl; pairs = refl }
+  leaves_spelt (leaf.Atom g os pos ∷ ls) next m f = atom_more (next - R) (leaves_next t ls next - R) g os (map (leaf_of names) ls) (leaves_atoms flat t next ls) (pairs_of t ls) f.0.0 f.0.1 (leaves_spelt ls next m f.1)
   leaves_spelt (leaf.Typed n o pos ∷ ls) next m f =
       let further = leaf_grows (leaf.Typed n o pos) next in
-      subst (λ ys. LeavesSpelt (tree.typed_leaf (name_of names n) o.link ∷ map (leaf_of names) ls) (ys ++ leaves_atoms flat t (leaf_next t (leaf.Typed n o pos) next) ls) (pairs_of t ls)) (sym (typed_is t.parts n (t.links + o.link) next))
-      (typed_more n o.link next (map (leaf_of names) ls) (leaves_atoms flat t (leaf_next t (leaf.Typed n o pos) next) ls) (pairs_of t ls) f.0.0 m (part_named t.parts n) f.0.1
-      (leaves_spelt ls (leaf_next t (leaf.Typed n o pos) next) (omega (arith, m, further)) f.1))
+      let after = leaf_next t (leaf.Typed n o pos) next in
+      let end = leaves_next t ls (leaf_next t (leaf.Typed n o pos) next) - R in
+      let rest = leaves_spelt ls after (omega (arith, m, further)) f.1 in
+      subst (λ ys. LeavesSpelt (next - R) end (tree.typed_leaf (name_of names n) o.link ∷ map (leaf_of names) ls) (ys ++ leaves_atoms flat t after ls) (pairs_of t ls)) (sym (typed_is t.parts n (t.links + o.link) next))
+      (typed_more n o.link next end (map (leaf_of names) ls) (leaves_atoms flat t after ls) (pairs_of t ls) f.0.0 m (part_named t.parts n) f.0.1
+      (subst (λ k. LeavesSpelt (k - R) end (map (leaf_of names) ls) (leaves_atoms flat t after ls) (pairs_of t ls)) (next_is t.parts n next) rest))

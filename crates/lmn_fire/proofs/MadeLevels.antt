@@ -1,5 +1,5 @@
 -- What the levels of a body make is what the calculus says.
-use Rattle.std.proofs.Common.{ℕ, ◌≡◌, ◌+◌, ◌-◌, ◌<◌, ◌≤◌, Bool, true, false, List, [], ◌∷◌, ◌++◌, map, refl, sym, ap, subst, ◌∙◌, arith}
+use Rattle.std.proofs.Common.{ℕ, ◌≡◌, ◌≢◌, ◌+◌, ◌-◌, ◌<◌, ◌≤◌, Bool, true, false, List, [], ◌∷◌, ◌++◌, map, refl, sym, ap, subst, ◌∙◌, arith}
 use Rattle.std.specs.List.{AllByRecursion, flat_map}
 use Rattle.std.proofs.lemmas.List.{append_assoc}
 use Rattle.lmn_base.proofs.Lists.{all_left, all_right, map_append, map_twice, plus_nothing}
@@ -10,14 +10,15 @@ use Rattle.lmn_base.specs.declared.level.Level.{Level}
 use Rattle.lmn_base.specs.declared.level.Level.TheFolds.{fold-roll-Level, ind-Level}
 use Rattle.lmn_congruence.specs.Plains.{fused_leaves}
 use Rattle.lmn_congruence.specs.Regions as solid
-use Rattle.lmn_congruence.specs.Regions.{Region, Regions, no_region, region, region_and}
+use Rattle.lmn_congruence.specs.Regions.{Region, Regions, no_region, region, region_and, region_process}
 use Rattle.lmn_congruence.specs.Rules as tree
 use Rattle.lmn_congruence.specs.Rules.{Name, closed_context, open_context}
-use Rattle.lmn_congruence.specs.Same.{IsRenamed, renamed_atom, renamed_region, renamed_regions}
+use Rattle.lmn_congruence.specs.Same.{renamed_atom, renamed_region, renamed_regions}
 use Rattle.lmn_congruence.specs.Translation.{context_tree, context_with, leaf_of, level_of, level_step as tree_step, levels, name_of, names_of, rules as listed_rules}
 use Rattle.lmn_congruence.proofs.Common.{rules_listed}
-use Rattle.lmn_adequacy.specs.Embedding.{Contents}
-use Rattle.lmn_adequacy.specs.Next.{MadeContexts, MadeLevel, MadeMembranes, context_rules, kept_atoms, kept_level, kept_membranes, made_closed, made_context, made_level, made_membrane, made_open, no_made_context, no_made_membrane}
+use Rattle.lmn_adequacy.specs.Embedding.{Contents, region_of}
+use Rattle.lmn_adequacy.specs.Next.{context_rules, kept_atoms, kept_level, kept_membranes}
+use Rattle.lmn_congruence.specs.Process.{occurrences}
 use Rattle.lmn_body.specs.Flattening.{membrane_named}
 use Rattle.lmn_heap.specs.Heap.{atoms_in, rules_in}
 use Rattle.lmn_heap.specs.Sound.{Forest}
@@ -32,6 +33,8 @@ use Rattle.lmn_fire.specs.Meant.{BodyFits, ContextFits, LeafFits, RuleContextFit
 use Rattle.lmn_fire.specs.Spelled.{leaf_connectors, level_connectors, levels_connectors, mapped_pair}
 use Rattle.lmn_fire.proofs.MadeLeaves.{connectors_both, leaves_grow, leaves_spelt}
 use Rattle.lmn_fire.proofs.Numbers.{of_copy, of_kept, raw_link}
+use Rattle.lmn_fire.proofs.LinksUnder.{region_under}
+use Rattle.lmn_fire.proofs.Ranges.{RangedContexts, RangedLevel, RangedMembranes, ranged_closed, ranged_level, ranged_membrane, ranged_no_context, ranged_no_membrane, ranged_open}
 use Rattle.lmn_fire.proofs.Reading.{Spelt, atoms_read, forest_read, kept_fused, kept_spelt, leaves_fused, level_spelt, read_atom, spelt_both}
 
 -- ---- what stays has no connector
@@ -78,7 +81,7 @@ module _ (flat : Flat) (t : Match) (names : List Name) (rule : ℕ → tree.Rule
   pub record ContextsSpelt (us : List CtxUse) (next : ℕ) : Type 0 where
     pub xs : List solid.SolidAtom
     pub ks : List tree.Level
-    pub makes : MadeContexts c (map (context_tree names) us) xs ks
+    pub makes : RangedContexts c (next - R) (contexts_next t.links us next - R) (map (context_tree names) us) xs ks
     pub atoms : map (renamed_atom of_solid) xs ≡ map (read_atom names (raw_link t.links R)) (context_atoms flat t next us)
     pub spelt : Spelt names rule (raw_link t.links R) ks (context_membranes flat t left next us)
     pub none : levels_connectors (levels ks) ≡ []
@@ -95,7 +98,7 @@ module _ (flat : Flat) (t : Match) (names : List Name) (rule : ℕ → tree.Rule
   context_more : (b : Bool) (p : Name) (next : ℕ) (us : List CtxUse) (as' : List ℕ) (f : Forest) → t.links + R ≤ next →
       c.atoms_of (context_with b p) ≡ atoms_at (heap_of flat) (record { name = link_at flat; names = names; rule = rule }) as' →
       c.membranes_of (context_with b p) ≡ regions_at (heap_of flat) (record { name = link_at flat; names = names; rule = rule }) f → ContextsSpelt us (context_next t.links b next) →
-      (ys : List solid.SolidAtom) × (ls : List tree.Level) × MadeContexts c (context_with b p ∷ map (context_tree names) us) ys ls
+      (ys : List solid.SolidAtom) × (ls : List tree.Level) × RangedContexts c (next - R) (contexts_next t.links us (context_next t.links b next) - R) (context_with b p ∷ map (context_tree names) us) ys ls
       × (map (renamed_atom of_solid) ys ≡ map (read_atom names (raw_link t.links R)) (written_atoms flat (context_writing b next) as' ++ context_atoms flat t (context_next t.links b next) us))
       × Spelt names rule (raw_link t.links R) ls (raws_append (raws_at flat (context_writing b next) f) (context_membranes flat t left (context_next t.links b next) us))
       × (levels_connectors (levels ls) ≡ [])
@@ -106,10 +109,11 @@ module _ (flat : Flat) (t : Match) (names : List Name) (rule : ℕ → tree.Rule
       let S = c.membranes_of (closed_context p) in
       let ys = map (renamed_atom (λ y. (next - R) + y)) xs in
       let ms = renamed_regions (λ y. (next - R) + y) S in
-      let one : IsRenamed (region xs S []) (region ys ms []) = record { to = λ y. (next - R) + y; one_to_one = λ y z o q w. omega (arith, w); is = refl } in (
+      let under : (y : ℕ) → occurrences y (region_process (region_of c (closed_context p))) ≢ 0 → y < t.links = λ y o.
+      region_under (heap_of flat) (record { name = link_at flat; names = names; rule = rule }) t.links below as' f y (subst (λ z. occurrences y (region_process z) ≢ 0) (λ i. region (e i) (d i) []) o) in (
         ys ++ u.xs,
         kept_membranes ms ++ u.ks,
-        made_context (made_closed one) u.makes,
+        ranged_closed {b = (next + t.links) - R} (λ y. (next - R) + y) (λ y z w. omega (arith, w)) (omega (arith, m)) (λ y o. let l = under y o in (omega arith, omega (arith, l, m))) u.makes,
         map_append (renamed_atom of_solid) ys u.xs
             ∙ (λ i. (atoms_twice of_solid (λ y. (next - R) + y) xs ∙ ap (map (renamed_atom (λ y. of_solid ((next - R) + y)))) e
             ∙ sym (atoms_read flat names rule t.links below (raw_link t.links R) (λ y. of_solid ((next - R) + y)) (Shifted next) same as')) i ++ u.atoms i)
@@ -126,7 +130,7 @@ module _ (flat : Flat) (t : Match) (names : List Name) (rule : ℕ → tree.Rule
       let S = c.membranes_of (open_context p) in (
         xs ++ u.xs,
         kept_membranes S ++ u.ks,
-        made_context made_open u.makes,
+        ranged_open u.makes,
         map_append (renamed_atom of_solid) xs u.xs
             ∙ (λ i. (ap (map (renamed_atom of_solid)) e ∙ sym (atoms_read flat names rule t.links below (raw_link t.links R) of_solid (Shifted 0) same as')) i ++ u.atoms i)
             ∙ sym (map_append (read_atom names (raw_link t.links R)) (written_atoms flat (Shifted 0) as') (context_atoms flat t next us)),
@@ -137,7 +141,7 @@ module _ (flat : Flat) (t : Match) (names : List Name) (rule : ℕ → tree.Rule
       )
 
   contexts_spelt : (us : List CtxUse) (next : ℕ) → t.links + R ≤ next → AllByRecursion (ContextFits flat (record { name = link_at flat; names = names; rule = rule }) t c left) us → ContextsSpelt us next
-  contexts_spelt [] next m f = record { xs = []; ks = []; makes = no_made_context; atoms = refl; spelt = tt; none = refl }
+  contexts_spelt [] next m f = record { xs = []; ks = []; makes = ranged_no_context; atoms = refl; spelt = tt; none = refl }
   contexts_spelt (u ∷ us) next m f =
       let a = next_grows u.closed next in
       let x = membrane_named t.contexts u.name in
@@ -156,7 +160,7 @@ module _ (flat : Flat) (t : Match) (names : List Name) (rule : ℕ → tree.Rule
     pub outs : List tree.Leaf
     pub membranes : List tree.Level
     pub rules : List tree.Rule
-    pub makes : MadeLevel c l outs membranes rules
+    pub makes : RangedLevel c (next - R) (b.after (b.own next) - R) l outs membranes rules
     pub atoms : fused_leaves (λ z. z) outs ≡ map (read_atom names (raw_link t.links R)) (b.atoms next)
     pub spelt : Spelt names rule (raw_link t.links R) membranes (b.membranes (b.start next) (b.own next))
     pub are : rules ≡ map rule b.rules
@@ -168,7 +172,7 @@ module _ (flat : Flat) (t : Match) (names : List Name) (rule : ℕ → tree.Rule
 
   record MembranesAt (ls : tree.Levels) (bs : List LevelMade) (ps : List (ℕ × ℕ)) (next : ℕ) : Type 0 where
     pub made : List tree.Level
-    pub makes : MadeMembranes c ls made
+    pub makes : RangedMembranes c (next - R) (after_membranes next bs - R) ls made
     pub spelt : Spelt names rule (raw_link t.links R) made (made_membranes next bs)
     pub pairs : levels_connectors (levels made) ≡ map (mapped_pair (raw_link t.links R)) ps
 
@@ -183,7 +187,7 @@ module _ (flat : Flat) (t : Match) (names : List Name) (rule : ℕ → tree.Rule
         let k = u.grows next in
         let o = w.spells (b.after (b.own next)) (omega (arith, m, k)) in record {
           made = tree.level a.outs (levels a.membranes) [] [] (listed_rules a.rules) ∷ o.made;
-          makes = made_membrane a.makes o.makes;
+          makes = ranged_membrane a.makes o.makes;
           spelt = (level_spelt names rule (raw_link t.links R) a.outs a.membranes a.rules (b.atoms next) (b.membranes (b.start next) (b.own next)) b.rules a.atoms a.spelt a.are, o.spelt);
           pairs = (λ i. a.pairs i ++ o.pairs i) ∙ sym (map_append (mapped_pair (raw_link t.links R)) ps qs);
         };
@@ -215,7 +219,7 @@ module _ (flat : Flat) (t : Match) (names : List Name) (rule : ℕ → tree.Rule
           outs = a.outs ++ kept_atoms u.xs;
           membranes = o.made ++ u.ks;
           rules = tree.rules_list (listed_rules (map rule rs)) ++ context_rules c (names_of names rcs);
-          makes = made_level a.makes o.makes u.makes;
+          makes = ranged_level a.makes u.makes o.makes;
           atoms = leaves_fused a.outs (kept_atoms u.xs) ∙ (λ i. a.atoms i ++ (kept_fused u.xs ∙ u.atoms) i) ∙ sym (map_append (read_atom names (raw_link t.links R)) (leaves_atoms flat t next leaves) (context_atoms flat t start cs));
           spelt = spelt_both names rule (raw_link t.links R) o.made u.ks (made_membranes (contexts_next t.links cs start) bs) (context_membranes flat t left start cs) o.spelt u.spelt;
           are = (λ i. rules_listed (map rule rs) i ++ rules_are rcs rf i) ∙ sym (map_append rule rs (rules_named flat t rcs));
@@ -245,7 +249,7 @@ module _ (flat : Flat) (t : Match) (names : List Name) (rule : ℕ → tree.Rule
 
   inside : (ls : List ((l : Level) × One l)) → let ms = map (λ e. e.0) ls in Fits (all_in leaves_of ms) (all_in contexts_of ms) (all_in rule_contexts_of ms) →
       MembranesSpelt (levels (map (level_of names rule) ms)) (map (level_made flat t left) ms) (all_in (level_pairs t) ms)
-  inside [] f = record { spells = λ next m. record { made = []; makes = no_made_membrane; spelt = tt; pairs = refl }; grows = λ next. omega arith }
+  inside [] f = record { spells = λ next m. record { made = []; makes = ranged_no_membrane; spelt = tt; pairs = refl }; grows = λ next. omega arith }
   inside (e ∷ ls) f =
       let ms = map (λ e. e.0) ls in
       let P = LeafFits (heap_of flat) reading t c R in

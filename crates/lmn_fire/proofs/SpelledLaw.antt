@@ -1,8 +1,12 @@
 -- The law: what a firing makes spells a raw level of the calculus.
-use Rattle.std.proofs.Common.{ℕ, ◌≡◌, ◌≢◌, ◌+◌, ◌<◌, ◌≤◌, List, [], ◌∷◌, ◌++◌, length, sym, subst, arith}
+use Rattle.std.proofs.Common.{ℕ, ◌≡◌, ◌≢◌, ◌+◌, ◌<◌, ◌≤◌, List, [], ◌∷◌, ◌++◌, Some, length, sym, subst, arith}
 use Rattle.std.specs.List.{AllByRecursion}
-use Rattle.std.proofs.lemmas.List.Elements.{All-from_recursion}
-use Rattle.lmn_base.specs.Levels.{leaves_of}
+use Rattle.std.proofs.lemmas.List.Elements.{All-from_recursion, recursion_from_All}
+use Rattle.std.specs.Prelude.{flat_map}
+use Rattle.lmn_base.proofs.Lists.{all_left}
+use Rattle.lmn_base.specs.Levels.{contexts_of, leaves_of, rule_contexts_of, rules_of}
+use Rattle.lmn_base.specs.Names.{context_names, label_names, leaf_names, level_names}
+use Rattle.lmn_base.specs.declared.functor.Functor.{Functor}
 use Rattle.lmn_base.specs.Solids.{connector}
 use Rattle.lmn_base.specs.declared.level.Leaf.{Leaf}
 use Rattle.lmn_base.specs.declared.level.Leaf.TheVariants as leaf
@@ -11,7 +15,8 @@ use Rattle.lmn_congruence.specs.Rules.{head_of}
 use Rattle.lmn_congruence.specs.Translation.{numbered_rule, rule_tree}
 use Rattle.lmn_adequacy.specs.Embedding.{Contents}
 use Rattle.lmn_bridge.specs.HeapRegions.{HeapReading}
-use Rattle.lmn_heap.specs.Heap.{Heap}
+use Rattle.lmn_heap.specs.Heap.{Heap, HeapAtom}
+use Rattle.lmn_flat.specs.Flats.{heap_of}
 use Rattle.lmn_settle.specs.Raw.{raw_atoms, raw_links}
 use Rattle.lmn_fire.specs.declared.matched.Match.{Match}
 use Rattle.lmn_fire.specs.Laws.{FiringsAreSpelled}
@@ -20,12 +25,23 @@ use Rattle.lmn_fire.specs.Meant.{LeafFits, wire_pairs}
 use Rattle.lmn_fire.proofs.Fine.{Fine}
 use Rattle.lmn_fire.proofs.FineLevels.{HasLinks, body_is_fine, body_is_paired, fine_long, fine_low, fine_other, home_fine, pairs_both, region_fine, wires_low}
 use Rattle.lmn_fire.proofs.FiringLaw.{made_is_written}
+use Rattle.lmn_fire.proofs.Known.{LeafKnown, atoms_named, body_known, home_known, leaves_named, whole_known}
 use Rattle.lmn_fire.proofs.MadeLevels.{body_spelt}
+use Rattle.lmn_fire.specs.Spelled.{raw_rules}
 
 has_links : (h : Heap) (r : HeapReading) (t : Match) (c : Contents) (R : ℕ) (ls : List Leaf) → AllByRecursion (LeafFits h r t c R) ls → AllByRecursion (HasLinks R) ls
 has_links h r t c R [] f = tt
 has_links h r t c R (leaf.Atom g os pos ∷ ls) f = (f.0, has_links h r t c R ls f.1)
 has_links h r t c R (leaf.Typed name o pos ∷ ls) f = (f.0.0, has_links h r t c R ls f.1)
+
+any_leaf : (ls : List Leaf) → AllByRecursion (LeafKnown (λ f. Unit {0})) ls
+any_leaf [] = tt
+any_leaf (leaf.Atom g os pos ∷ ls) = (tt, any_leaf ls)
+any_leaf (leaf.Typed name o pos ∷ ls) = (tt, any_leaf ls)
+
+any_rule : (ks : List ℕ) → AllByRecursion (λ k. Unit {0}) ks
+any_rule [] = tt
+any_rule (k ∷ ks) = (tt, any_rule ks)
 
 pub firings_are_spelled : FiringsAreSpelled
 firings_are_spelled flat names table t rule left inner mi index k ns valid f d p formed at is_at e is rows pairs links m =
@@ -62,4 +78,19 @@ firings_are_spelled flat names table t rule left inner mi index k ns valid f d p
         links_below = All-from_recursion (λ x. x < links) (raw_links r) (subst (λ z. AllByRecursion (λ x. x < z) (raw_links r)) (sym m.bound) (fine_low N (raw_atoms r) fine));
         pairs_below = subst (λ z. PairsBelow links z) (sym m.connectors) (subst (λ z. PairsBelow z (ws ++ level_pairs t rule.body)) (sym m.bound) low);
       },
+      w.4,
+      (λ n g.
+          let known = body_known (λ k. k < n) (λ f. Unit {0}) flat t left g.0 (λ a x q. tt) (λ z. tt) rule.body (any_leaf (leaves_of rule.body)) (recursion_from_All (λ k. k < n) (rules_of rule.body) g.1) in
+          let all = whole_known (λ k. k < n) (λ f. Unit {0}) flat t left g.0 (λ a x q. tt) (λ z. tt) t.home made (home_known (λ k. k < n) (λ f. Unit {0}) flat t left g.0 (λ a x q. tt) (λ z. tt) b start known) 0 inner in
+          All-from_recursion (λ k. k < n) (raw_rules r) all.1),
+      (λ g.
+          let N : ℕ → Type 0 = λ k. k < length names in
+          let Q : Functor → Type 0 = λ f. AllByRecursion (λ k. k < length names) (label_names f.label) in
+          let there : (a : ℕ) (x : HeapAtom) → (heap_of flat).atoms a ≡ Some x → AllByRecursion (λ k. k < length names) (label_names x.functor.label) = λ a x q. recursion_from_All (λ k. k < length names) (label_names x.functor.label) (g.0 a x q) in
+          let leaves = flat_map leaf_names (leaves_of rule.body) in
+          let of_body = recursion_from_All N (level_names rule.body) g.1 in
+          let named = leaves_named N (leaves_of rule.body) (all_left N leaves (context_names (contexts_of rule.body)) (all_left N (leaves ++ context_names (contexts_of rule.body)) (context_names (rule_contexts_of rule.body)) of_body)) in
+          let known = body_known (λ k. Unit {0}) Q flat t left (λ m k q. tt) there (λ z. tt) rule.body named (any_rule (rules_of rule.body)) in
+          let all = whole_known (λ k. Unit {0}) Q flat t left (λ m k q. tt) there (λ z. tt) t.home made (home_known (λ k. Unit {0}) Q flat t left (λ m k q. tt) there (λ z. tt) b start known) 0 inner in
+          All-from_recursion N (flat_map (λ a. label_names a.functor.label) (raw_atoms r)) (atoms_named N (raw_atoms r) all.0)),
     )

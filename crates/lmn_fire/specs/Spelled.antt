@@ -6,7 +6,7 @@ use Rattle.lmn_classes.specs.Tables.{PairsBelow}
 use Rattle.lmn_congruence.specs.Plains.{fused_level}
 use Rattle.lmn_congruence.specs.Rules.{Leaf, Level, Levels, Name, atom_leaf, connector_leaf, level, level_and, no_level, typed_leaf}
 use Rattle.lmn_congruence.specs.Translation.{numbered_region, numbered_rule}
-use Rattle.lmn_settle.specs.Raw.{RawRegion, raw_atoms, raw_links, settled}
+use Rattle.lmn_settle.specs.Raw.{RawRegion, RawRegions, no_raw, raw, raw_and, raw_atoms, raw_links, settled}
 
 -- the connectors of leaves, and of a level: its own, and then those in each of its membranes
 abbrev pub leaf_connectors : List Leaf → List (ℕ × ℕ)
@@ -22,6 +22,15 @@ abbrev mutual
   pub levels_connectors : Levels → List (ℕ × ℕ)
   levels_connectors no_level = []
   levels_connectors (level_and l ls) = level_connectors l ++ levels_connectors ls
+
+-- the rules of a raw region, by number
+abbrev mutual
+  pub raw_rules : RawRegion → List ℕ
+  raw_rules (raw xs ms rs) = rs ++ raw_rules_in ms
+
+  pub raw_rules_in : RawRegions → List ℕ
+  raw_rules_in no_raw = []
+  raw_rules_in (raw_and m ms) = raw_rules m ++ raw_rules_in ms
 
 -- a connector with each link at its image
 abbrev pub mapped_pair : (ℕ → ℕ) → ℕ × ℕ → ℕ × ℕ

@@ -2,3 +2,5 @@ mod Spelling
 mod Rests
 mod Lying
 mod Chosen
+mod Settled
+mod FlatRules

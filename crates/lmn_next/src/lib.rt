@@ -5,10 +5,11 @@
 #![tactic(auto)]
 
 ghost use Rattle.lmn_next.specs.Laws.{FirstIsChosen, LeastImagesLie, NoneHasEmbedding};
-ghost use Rattle.lmn_next.specs.Settling.{SpelledLevelsSettle};
+ghost use Rattle.lmn_next.specs.Settling.{FiringsSettle, FlatsHaveRules, SpelledLevelsSettle};
 
 use lmn_bridge::{least_embeddings_are_alike, rules_embed_alike};
 use lmn_compile_head::{accepted_heads, accepted_least};
+use lmn_fire::{firings_are_spelled, settled_solids_keep};
 use lmn_firing::bound_names_have_values;
 
 /// The least images of a rule are an embedding of the calculus at the least numbers, with its contents, its rest, and the integers
@@ -41,4 +42,18 @@ pub fn none_has_embedding()
 /// A raw region that spells a closed level of the calculus can be settled, and what it is settled to is the solid of the level.
 pub fn spelled_levels_settle()
     ensures { SpelledLevelsSettle }
+{}
+
+/// What a firing makes by a match can be settled, and what it is settled to is the solid of the level after this firing.
+pub fn firings_settle()
+    ensures { FiringsSettle }
+{
+    firings_are_spelled();
+    settled_solids_keep();
+    spelled_levels_settle();
+}
+
+/// The rules in the membranes of a solid's tables are rules of the solid.
+pub fn flats_have_rules()
+    ensures { FlatsHaveRules }
 {}
