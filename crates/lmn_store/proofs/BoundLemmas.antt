@@ -1,7 +1,7 @@
 -- The bound of a store over slabs, and the number of its items.
 use Rattle.std.proofs.Common.{◌≡◌, ◌≢◌, ℕ, ◌+◌, ◌≤◌, List, [], ◌∷◌, ◌++◌, length, map, Option, Some, None, IsSome, refl, sym, ap, subst, ◌∙◌, inl, inr, arith, length-append}
 use Rattle.std.proofs.lemmas.List.Sums.{sum-map, sum_by-cons}
-use Rattle.std.specs.Prelude.{sum}
+use Rattle.std.specs.Prelude.{sum, is_some, count_by, slice_index_or}
 use Rattle.std.specs.Option.{option_map}
 use Rattle.lmn_heap.specs.Lists.{Distinct}
 use Rattle.lmn_heap.specs.Heap.{HeapAtom, HeapMem, Place, within, atoms_in, rules_in, spare_of, IsMem, spare_by, rules_by}
@@ -10,10 +10,12 @@ use Rattle.lmn_heap.proofs.ListLemmas.{each_in, in_left, in_right}
 use Rattle.lmn_heap.proofs.Depths.{both_distinct}
 use Rattle.lmn_heap.proofs.Trees.{is_mem}
 use Rattle.lmn_lists.specs.Lines.{list_at}
-use Rattle.lmn_store.specs.Cells.{atoms_in_cells, mems_in_cells, with_lists, place_by}
+use Rattle.lmn_store.specs.Cells.{atoms_in_cells, mem_in_cell, mems_in_cells, with_lists, place_by}
+use Rattle.lmn_store.specs.declared.cell.MemCell.{MemCell}
 use Rattle.lmn_store.specs.Census.{weight, total}
 use Rattle.lmn_store.specs.Kept.{Kept, AlwaysHolds, BOUND, heap_of, one, with_rules}
 use Rattle.lmn_store.proofs.Files.{place_mem}
+use Rattle.lmn_store.proofs.SlotLemmas.{slots_taken}
 use Rattle.lmn_store.proofs.CensusLemmas.{total_two, census_less}
 use Rattle.lmn_store.proofs.BuiltLemmas.{built_rules}
 use Rattle.lmn_store.proofs.FitsLemmas.{built_atoms, fits_sound}
@@ -175,6 +177,20 @@ module _ (k : Kept) (n m s : ℕ) (h : AlwaysHolds k n m s) where
       some_place : (o : Option HeapAtom) (P : Place) → option_map (λ x. x.place) o ≡ Some P → IsSome o
       some_place None P e = absurd (cc)
       some_place (Some x) P e = refl
+
+  -- The membranes of the tree are those of the slots that are taken.
+  pub mems_are : (f : Forest) → IsTree (heap_of k) f → count_by is_some k.mems ≡ length (flat f)
+  mems_are f t = slots_taken k.mems (flat f) t.once (λ x. (
+    λ i. of_cell (slice_index_or k.mems x None) (mem_is k n m s h x (is_mem (heap_of k) (fits_sound A B L M h.fits) f t x i)),
+    λ i. t.all x (of_mem x (in_cell (slice_index_or k.mems x None) i)),
+  ))
+    where
+      of_cell : (o : Option MemCell) → IsSome (option_map mem_in_cell o) → IsSome o
+      of_cell None i = absurd (cc)
+      of_cell (Some x) i = refl
+      in_cell : (o : Option MemCell) → IsSome o → IsSome (option_map mem_in_cell o)
+      in_cell None i = absurd (cc)
+      in_cell (Some x) i = refl
 
   -- the root is counted
   pub some_mem : 1 ≤ m

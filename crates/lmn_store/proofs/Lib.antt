@@ -10,6 +10,7 @@ pub mod RuleLemmas
 pub mod BoundLemmas
 pub mod FreedLemmas
 pub mod SeekLemmas
+pub mod SlotLemmas
 pub mod ReadLemmas
 pub mod RulePairs
 pub mod MovePairs

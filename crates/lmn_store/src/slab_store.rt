@@ -178,6 +178,10 @@ impl LinkStore for SlabStore {
         self.mems[m].rules.len()
     }
 
+    fn membranes(&self) -> u64 {
+        self.mems.len() as u64
+    }
+
     fn items(&self) -> u64 {
         self.atom_count + self.mem_count - 1
     }

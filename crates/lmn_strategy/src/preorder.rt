@@ -63,13 +63,5 @@ pub fn membranes<S: LinkStore>(store: &S) -> u64
     requires valid { Valid (S.heap store.now) }
     ensures { (f : Forest) → IsTree (S.heap store.now) f → result ≡ length (flat f) }
 {
-    // There are fewer membranes than that, so the loop ends at a return.
-    let mut at = store.root();
-    for counted in 0..u64::MAX {
-        match next_membrane(store, at) {
-            Some(next) => at = next,
-            None => return counted + 1,
-        }
-    }
-    0
+    store.membranes()
 }
