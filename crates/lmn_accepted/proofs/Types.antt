@@ -41,7 +41,7 @@ use Rattle.lmn_guards.proofs.WorkedGuards.{of_context as context_items, of_integ
 abbrev pub AllTyped : List Item → Type 0
 AllTyped xs = AllByRecursion (λ x. (u : CtxUse) × (x ≡ used form.Typed u)) xs
 
-typed_use_there : (n : ℕ) (xs : List Item) → AllTyped xs → has_use n xs ≡ true → 1 ≤ how_often n (flat_map typed_name xs)
+pub typed_use_there : (n : ℕ) (xs : List Item) → AllTyped xs → has_use n xs ≡ true → 1 ≤ how_often n (flat_map typed_name xs)
 typed_use_there n [] h e = absurd (cc)
 typed_use_there n (x ∷ xs) h e =
     let u = h.0 in

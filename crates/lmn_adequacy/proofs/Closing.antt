@@ -38,7 +38,7 @@ use Rattle.lmn_splice.proofs.Fusions.{apart_rule as even_not_odd, solid_once as 
 
 -- ---- the links of the region in an instance of the head
 
-odd_copy : (g : Rooted) (y L : ℕ) (P : Process) → IsGround g → IsCopy g (of_rule y) P → Linked P → IsEven (occurrences (of_solid L) P)
+pub odd_copy : (g : Rooted) (y L : ℕ) (P : Process) → IsGround g → IsCopy g (of_rule y) P → Linked P → IsEven (occurrences (of_solid L) P)
 odd_copy g y L P i c l = go (source c.to g.process (of_solid L))
   where
     not_root : (z : ℕ) → c.to z ≡ of_solid L → z ≢ g.root
@@ -131,7 +131,7 @@ body_ground {r} a t g q k =
 
 -- ---- the raw process
 
-even_closed : (h b : ℕ) → (h + b ≡ 0) ⊎ (h + b ≡ 2) → (b + one_if_once h ≡ 0) ⊎ (b + one_if_once h ≡ 2)
+pub even_closed : (h b : ℕ) → (h + b ≡ 0) ⊎ (h + b ≡ 2) → (b + one_if_once h ≡ 0) ⊎ (b + one_if_once h ≡ 2)
 even_closed h b e = grind arith
 
 -- q places in the image of the head, n in the head, w at connectors, b in the body, c of which contexts have

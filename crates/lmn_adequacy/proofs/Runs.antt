@@ -26,7 +26,7 @@ record Good (S : Region) : Type 0 where
 good_rules : {S : Region} → Good S → AllRules Accepted S
 good_rules {S} g = all_rules_so throughout_itself S g.accepted
 
-next_of : {from : ℕ} {S S' : Region} → NextFrom from S S' → Next S S'
+pub next_of : {from : ℕ} {S S' : Region} → NextFrom from S S' → Next S S'
 next_of n = record { path = n.path; number = n.number; positions = n.positions; next = n.next }
 
 -- where a firing is chosen a rule embeds
@@ -36,7 +36,7 @@ embeds_in n = record { path = n.path; number = n.number; positions = n.positions
 good_next : {from : ℕ} {S S' : Region} → Good S → NextFrom from S S' → Good S'
 good_next {from} {S} {S'} g n = let u = next_is_solid S S' g.accepted (next_of n) in record { closed = u.0; accepted = u.1 }
 
-one_longer : (before : List Region) (S : Region) → length (before ++ S ∷ []) ≡ length before + 1
+pub one_longer : (before : List Region) (S : Region) → length (before ++ S ∷ []) ≡ length before + 1
 one_longer before S = length-append before (S ∷ [])
 
 turn_one : {chooser : Chooser} {n k : ℕ} {S T S' S'' : Region} → n ≡ k → S ≡ T → Good S → Turn chooser n S S' → Turn chooser k T S'' → S' ≡ S''

@@ -15,7 +15,6 @@ use Rattle.lmn_base.specs.SmallTexts.{at_column}
 use Rattle.lmn_bounding.specs.Bounding.{WeightsBound}
 use Rattle.lmn_functors.proofs.NameLemmas.{adds_none}
 use Rattle.lmn_instr.specs.Listings.{functor_text}
-use Rattle.lmn_weight.proofs.SmallWeights.{sum_cons}
 use Rattle.lmn_weight.specs.declared.weights.Weights.{Weights}
 use Rattle.lmn_weight.specs.Lines.{AreWeightsOf, HasText, line_more, no_line, of_functor}
 use Rattle.lmn_weight.specs.Plains.{EachLowered, IsFirstNotLowered, closed_once, functor_weight, is_lowered, leaf_weight, level_weight, weight_step}
@@ -26,6 +25,7 @@ use Rattle.lmn_app.specs.TextExamples.{no_plan, one_atom, one_leaf, small_names,
 use Rattle.lmn_app.proofs.BoundLemmas.{is_bound}
 use Rattle.lmn_app.proofs.ListLemmas.{plain_named}
 use Rattle.lmn_app.proofs.SmallTexts.{small_text_is_accepted}
+use Rattle.lmn_base.proofs.Lists.{sum_cons}
 
 -- ---- what is told
 

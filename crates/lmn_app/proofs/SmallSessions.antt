@@ -1,13 +1,12 @@
 -- Sessions over a small text.
-use Rattle.std.proofs.Common.{◌≡◌, ◌≢◌, ℕ, ◌+◌, false, List, [], ◌∷◌, ◌++◌, length, refl, sym, ap, ◌∙◌, subst, inl, arith, true≢false, append-nil, length-append}
-use Rattle.std.specs.Prelude.{bytes_eq, codes}
+use Rattle.std.proofs.Common.{◌≡◌, ◌≢◌, ℕ, ◌+◌, List, [], ◌∷◌, ◌++◌, length, refl, ap, ◌∙◌, subst, inl, arith, append-nil, length-append}
+use Rattle.std.specs.Prelude.{codes}
 use Rattle.std.specs.Fmt.{digits}
 use Rattle.std.specs.List.{concat}
-use Rattle.std.proofs.lemmas.Slice.Eq.{bytes_eq-Decides}
 use Rattle.lmn_adequacy.specs.Runs.{loaded, nothing_embeds}
 use Rattle.lmn_adequacy.proofs.ExampleChanges.{short_trace_ends}
 use Rattle.lmn_base.specs.Links.{no_more}
-use Rattle.lmn_base.proofs.Lists.{head_is}
+use Rattle.lmn_base.proofs.Lists.{head_is, unlike}
 use Rattle.lmn_congruence.specs.Regions.{Region}
 use Rattle.lmn_congruence.specs.Rules.{Name}
 use Rattle.lmn_debug.specs.Courses.{Course, StepsTo, course}
@@ -26,6 +25,7 @@ use Rattle.lmn_app.specs.Debugs.{IsSession, session_size}
 use Rattle.lmn_app.specs.TextExamples.{no_plan, small_names, small_plain, small_text}
 use Rattle.lmn_app.proofs.SmallRuns.{first, last, more_allowed, nothing_left, small_named, small_solid}
 use Rattle.lmn_app.proofs.SmallTexts.{small_text_is_accepted}
+use Rattle.lmn_debugging.proofs.ExampleOrders.{none_before as none_obeyed}
 
 -- ---- a session
 
@@ -89,9 +89,6 @@ small_session = (small_session_of, record { lines = line_at 1 Irreducible ∷ li
 
 -- ---- and what is none
 
-unlike : (a b : List ℕ) → bytes_eq a b ≡ false → a ≡ b → ⊥
-unlike a b d e = true≢false (sym ((bytes_eq-Decides a b).1 e) ∙ d)
-
 one_step : (names : List Name) → AreOrdersOf names (codes "step 1\n") (Step 1 ∷ [])
 unfolding digits
 one_step names = record {
@@ -105,10 +102,6 @@ one_step names = record {
 only_one : {A : Type 0} (xs : List A) (x y : A) → xs ++ x ∷ [] ≡ y ∷ [] → (xs ≡ []) × (x ≡ y)
 only_one [] x y e = (refl, head_is e)
 only_one (z ∷ zs) x y e = absurd (let many = ap length e in omega (arith, many, length-append zs (x ∷ [])))
-
-none_obeyed : {names : List Name} {g : Course} {orders : List Order} {lines : List (List ℕ)} {t : ℕ} → ObeysAll names g orders lines t → orders ≡ [] → (lines ≡ []) × (t ≡ 0)
-none_obeyed begun e = (refl, refl)
-none_obeyed (obeyed {orders = orders} {order = order} all this) e = absurd (let many = ap length e in omega (arith, many, length-append orders (order ∷ [])))
 
 -- one order is obeyed at the beginning
 one_obeyed : {names : List Name} {g : Course} {orders : List Order} {lines : List (List ℕ)} {t : ℕ} → ObeysAll names g orders lines t → (order : Order) → orders ≡ order ∷ []

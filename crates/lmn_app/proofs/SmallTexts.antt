@@ -14,7 +14,7 @@ use Rattle.lmn_base.specs.declared.level.Level.TheViews.{out-roll-Level, roll-Le
 use Rattle.lmn_base.specs.declared.refusal.Pos.{Pos}
 use Rattle.lmn_base.specs.declared.rule.RuleTree.{RuleTree}
 use Rattle.lmn_base.specs.Names.{first_names}
-use Rattle.lmn_base.specs.Items.{items_of, leaf_item, number_of_items, number_step, own_items}
+use Rattle.lmn_base.specs.Items.{items_of, leaf_item, number_of_items, own_items}
 use Rattle.lmn_base.specs.Levels.{leaves_of, links_of, occurrences_of_leaf}
 use Rattle.lmn_base.specs.Limits.{most_head_items, most_body_items, most_conditions, most_guard_tokens}
 use Rattle.lmn_base.specs.Links.{EachTwice, NumbersLinks, no_more}
@@ -47,6 +47,7 @@ use Rattle.lmn_plain.proofs.PrintedLines.{plains_are_well_made}
 use Rattle.lmn_plain.proofs.ShortTexts.{arrow, dot, is_its_tree, its_tree, its_words, laid, name_word}
 use Rattle.lmn_app.specs.TextExamples.{SmallTextIsAccepted, no_plan, one_atom, one_leaf, small_names, small_plain, small_rule, small_text}
 use Rattle.lmn_reading.specs.Texts.{ReadsAs}
+use Rattle.lmn_contexts.proofs.WorkedRows.{counted}
 
 -- ---- its tokens
 
@@ -156,9 +157,6 @@ reads = record {
 
 leaves_listed : (l : Level-F Level) → leaves_of (roll-Level l) ≡ l.leaves ++ flat_map (λ inner. inner) (map-Level Level (List Leaf) leaves_of l).membranes
 leaves_listed l = fold-roll-Level (List Leaf) (λ l. l.leaves ++ flat_map (λ inner. inner) l.membranes) l
-
-counted : (l : Level-F Level) → number_of_items (roll-Level l) ≡ number_step (map-Level Level ℕ number_of_items l)
-counted l = fold-roll-Level ℕ number_step l
 
 abbrev head_items : List Item
 head_items = leaf_item (one_leaf 7 4) ∷ []

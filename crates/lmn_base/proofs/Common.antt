@@ -1,31 +1,33 @@
 -- Lemmas that several crates above cite.
+use Rattle.lmn_base.proofs.Numbers.{triangle, triangle_less}
 use Rattle.lmn_base.specs.Graphs.{Port}
 use Rattle.lmn_base.specs.Items.{expression_items, expression_items_step}
+use Rattle.lmn_base.specs.Levels.{leaves_of}
 use Rattle.lmn_base.specs.LinkUses.{NotAfter}
 use Rattle.lmn_base.specs.Links.{Numbers, known, new, no_more}
+use Rattle.lmn_base.specs.Lists.{In}
 use Rattle.lmn_base.specs.Solids.{rules_step, atoms_of_region}
+use Rattle.lmn_base.specs.Uses.{has_use, is_some_place, use_of}
 use Rattle.lmn_base.specs.declared.guard.Arith.{Arith}
 use Rattle.lmn_base.specs.declared.guard.Expr.{Expr}
 use Rattle.lmn_base.specs.declared.guard.Expr.TheFolds.{fold-roll-Expr}
 use Rattle.lmn_base.specs.declared.item.Item.{Item}
+use Rattle.lmn_base.specs.declared.level.Leaf.{Leaf}
 use Rattle.lmn_base.specs.declared.level.Level.{Level, out-Level}
 use Rattle.lmn_base.specs.declared.level.Level.TheFolds.{fold-Level, fold_out-Level}
 use Rattle.lmn_base.specs.declared.refusal.Pos.{Pos}
 use Rattle.lmn_base.specs.declared.solid.Region.{Region}
 use Rattle.lmn_base.specs.declared.solid.Region.TheFolds.{fold-Region}
-use Rattle.std.proofs.Common.{suc, ℕ, List, ap, inl, inr, ◌≡◌, ◌≢◌, ◌⊎◌, Box, Global, sym, ◌++◌, ◌∙◌, arith, [], ◌∷◌, All, AllPairs, zero, ◌≤◌, refl, ◌<◌, ◌+◌, Option, Some, None, map, length, get_or}
+use Rattle.lmn_base.specs.declared.solid.SolidAtom.{SolidAtom}
+use Rattle.std.proofs.Common.{suc, ℕ, List, ap, inl, inr, ◌≡◌, ◌≢◌, ◌⊎◌, Box, Global, sym, ◌++◌, ◌∙◌, arith, [], ◌∷◌, All, AllPairs, zero, ◌≤◌, refl, ◌<◌, ◌+◌, Option, Some, None, map, length, get_or, true, true≢false}
 use Rattle.std.proofs.lemmas.Bool.{cases_eq, cases_lt}
+use Rattle.std.proofs.lemmas.List.{get_or-map, length-map}
+use Rattle.std.proofs.lemmas.List.Concat.{flat_map-append}
 use Rattle.std.proofs.lemmas.List.Sorted.{IsPermutation-append_comm, IsPermutation-append_left}
+use Rattle.std.proofs.lemmas.List.Sums.{get_or-le-sum_by}
 use Rattle.std.specs.List.{sum, flat_map}
 use Rattle.std.specs.List.Sorted.{IsPermutation}
-use Rattle.lmn_base.proofs.Numbers.{triangle, triangle_less}
 use Rattle.std.specs.Prelude.{min}
-use Rattle.lmn_base.specs.Lists.{In}
-use Rattle.std.proofs.lemmas.List.Sums.{get_or-le-sum_by}
-use Rattle.std.proofs.lemmas.List.{get_or-map, length-map}
-use Rattle.lmn_base.specs.declared.level.Leaf.{Leaf}
-use Rattle.lmn_base.specs.declared.solid.SolidAtom.{SolidAtom}
-use Rattle.lmn_base.specs.Levels.{leaves_of}
 use Rattle.lmn_base.specs.declared.guard.Expr.TheOpen as step
 use Rattle.lmn_base.specs.declared.guard.Expr.TheVariants as expr
 
@@ -148,3 +150,30 @@ port_of_number p q e = elim (cases_eq (p.0 + p.1) (q.0 + q.1)) [
 abbrev pub lesser : Port → Option Port → ℕ
 lesser p None = port_number p
 lesser p (Some q) = min (port_number p) (port_number q)
+
+-- what is used in a list is used in a longer one
+pub in_left : (x : ℕ) (as' bs : List Item) → has_use x as' ≡ true → has_use x (as' ++ bs) ≡ true
+in_left x as' bs u = ap is_some_place (flat_map-append (use_of x) as' bs) ∙ some_left (flat_map (use_of x) as') (flat_map (use_of x) bs) u
+  where
+    some_left : (us vs : List Pos) → is_some_place us ≡ true → is_some_place (us ++ vs) ≡ true
+    some_left [] vs s = absurd (true≢false (sym s))
+    some_left (p ∷ us) vs s = refl
+
+-- what is used in a list is used behind others
+pub in_right : (x : ℕ) (as' bs : List Item) → has_use x bs ≡ true → has_use x (as' ++ bs) ≡ true
+in_right x as' bs u = ap is_some_place (flat_map-append (use_of x) as' bs) ∙ some_right (flat_map (use_of x) as') (flat_map (use_of x) bs) u
+  where
+    some_right : (us vs : List Pos) → is_some_place vs ≡ true → is_some_place (us ++ vs) ≡ true
+    some_right [] vs s = s
+    some_right (p ∷ us) vs s = refl
+
+-- what stands in an image comes from one that stands in the list
+pub of_map : (f : ℕ → ℕ) (b : ℕ) (xs : List ℕ) → In b (map f xs) → (a : ℕ) × In a xs × (f a ≡ b)
+of_map f b [] i = absurd i
+of_map f b (x ∷ xs) (inl e) = (x, inl refl, e)
+of_map f b (x ∷ xs) (inr i) = let w = of_map f b xs i in (w.0, inr w.1, w.2)
+
+-- maps that agree on a list have one image of it
+pub map_same : (f g : ℕ → ℕ) (xs : List ℕ) → ((x : ℕ) → In x xs → f x ≡ g x) → map f xs ≡ map g xs
+map_same f g [] e = refl
+map_same f g (x ∷ xs) e = let here = e x (inl refl) in let rest = map_same f g xs (λ y i. e y (inr i)) in λ t. here t ∷ rest t

@@ -1,11 +1,14 @@
 -- General lemmas on lists, options and results.
-use Rattle.std.proofs.Common.{List, [], ℕ, ◌+◌, ◌∷◌, ◌≡◌, ◌⊎◌, None, Option, Some, ap, arith, length, refl, suc, take, zero, ◌≤◌, map, ◌++◌, ◌<◌, drop, ◌∙◌, Err, Ok, Result, sym, inl, inr, All, subst}
-use Rattle.std.specs.List.{AllByRecursion, flat_map}
 use Rattle.lmn_base.specs.Lists.{In}
-use Rattle.std.specs.Prelude.{slice_get, IsSome, Contains, IfSome}
-use Rattle.std.specs.Result.{OnErr}
-use Rattle.std.proofs.lemmas.List.{length-append}
+use Rattle.std.proofs.Common.{List, [], ℕ, ◌+◌, ◌∷◌, ◌≡◌, ◌⊎◌, None, Option, Some, ap, arith, length, refl, suc, take, zero, ◌≤◌, map, ◌++◌, ◌<◌, drop, ◌∙◌, Err, Ok, Result, sym, inl, inr, All, subst, AllPairs, get_or, ◌≢◌, false, true≢false}
+use Rattle.std.proofs.lemmas.Bool.{cases_lt}
+use Rattle.std.proofs.lemmas.List.{length-append, append_assoc, take_more, get_or-drop}
+use Rattle.std.proofs.lemmas.List.Sums.{sum-map, sum_by-cons}
 use Rattle.std.proofs.lemmas.Option.{same_Some}
+use Rattle.std.proofs.lemmas.Slice.Eq.{bytes_eq-Decides}
+use Rattle.std.specs.List.{AllByRecursion, flat_map}
+use Rattle.std.specs.Prelude.{slice_get, IsSome, Contains, IfSome, slice_index_or, codes, bytes_eq, sum, slice_set}
+use Rattle.std.specs.Result.{OnErr}
 
 -- the sum of the weights of some numbers
 abbrev pub weigh : (ℕ → ℕ) → List ℕ → ℕ
@@ -234,3 +237,87 @@ holds_of_item P o a e h = subst (λ x. IfSome x P) e h
 pub two_empty : {A : Type 0} (xs ys : List A) → xs ++ ys ≡ [] → (xs ≡ []) × (ys ≡ [])
 two_empty [] ys e = (refl, e)
 two_empty (x ∷ xs) ys e = absurd (cc)
+
+-- names of which no two are alike stand at one place each
+pub one_number : (names : List (List ℕ)) → AllPairs (λ m n. m ≢ n) names → (m n : ℕ) → m < length names → n < length names → get_or names m [] ≡ get_or names n [] → m ≡ n
+one_number names once m n a b e = by (cases_lt m n) (cases_lt n m)
+  where
+    by : (m < n) ⊎ (n ≤ m) → (n < m) ⊎ (m ≤ n) → m ≡ n
+    by (inl l) s = absurd (once m n [] l b e)
+    by (inr h) (inl l) = absurd (once n m [] l a (sym e))
+    by (inr h) (inr k) = omega (arith, h, k)
+
+-- what is there at a place stands within the list
+pub link_within : (xs : List (Option (ℕ × ℕ))) (i : ℕ) (q : ℕ × ℕ) → slice_index_or xs i None ≡ Some q → i < length xs
+link_within [] i q e = absurd (cc)
+link_within (x ∷ xs) zero q e = omega arith
+link_within (x ∷ xs) (suc i) q e = let k = link_within xs i q e in omega (arith, k)
+
+-- a line with its feed, and what follows it
+pub behind_feed : (x a r : List ℕ) → x ++ codes "\n" ≡ a → a ++ r ≡ x ++ 10 ∷ r
+behind_feed x a r e = ap (λ t. t ++ r) (sym e) ∙ append_assoc x (codes "\n") r
+
+-- bytes that a test finds different are different
+pub unlike : (a b : List ℕ) → bytes_eq a b ≡ false → a ≡ b → ⊥
+unlike a b d e = true≢false (sym ((bytes_eq-Decides a b).1 e) ∙ d)
+
+-- what was put at the end stands at the end
+pub get_end : (xs : List ℕ) (y : ℕ) → slice_get (xs ++ y ∷ []) (length xs) ≡ Some y
+get_end [] y = refl
+get_end (x ∷ xs) y = get_end xs y
+
+-- what stands at a place within a list, read either way
+pub get_index : (xs : List ℕ) (i : ℕ) → i < length xs → slice_get xs i ≡ Some (slice_index_or xs i 0)
+get_index [] i l = absurd (omega (arith, l))
+get_index (x ∷ xs) zero l = refl
+get_index (x ∷ xs) (suc i) l = get_index xs i (omega (arith, l))
+
+-- two different numbers aren't both there
+pub some_in : (p : Option ℕ) (u z : ℕ) → p ≡ Some u → z ≢ u → p ≢ Some z
+some_in p u z e differs same = differs (let h : Some z ≡ Some u = sym same ∙ e in cc)
+
+-- lists that are equal with one more at the end are equal, and so are the ones at the end
+pub last_one : {A : Type 0} (xs ys : List A) (x y : A) → xs ++ x ∷ [] ≡ ys ++ y ∷ [] → (xs ≡ ys) × (x ≡ y)
+last_one [] [] x y e = (refl, cc)
+last_one [] (b ∷ ys) x y e = let long = ap length e in let more = length-append ys (y ∷ []) in absurd (omega (arith, long, more))
+last_one (a ∷ xs) [] x y e = let long = ap length e in let more = length-append xs (x ∷ []) in absurd (omega (arith, long, more))
+last_one (a ∷ xs) (b ∷ ys) x y e =
+    let head : a ≡ b = cc in
+    let rest : xs ++ x ∷ [] ≡ ys ++ y ∷ [] = cc in
+    let u = last_one xs ys x y rest in
+    (both head u.0, u.1)
+  where
+    both : {A : Type 0} {a b : A} {xs ys : List A} → a ≡ b → xs ≡ ys → a ∷ xs ≡ b ∷ ys
+    both d f = cc
+
+-- within a list what would be read beyond it doesn't matter
+pub read_as : {X : Type 0} (xs : List X) (i : ℕ) (d e : X) → i < length xs → get_or xs i d ≡ get_or xs i e
+read_as [] i d e h = absurd (omega arith)
+read_as (x ∷ xs) zero d e h = refl
+read_as (x ∷ xs) (suc i) d e h = read_as xs i d e (omega arith)
+
+-- what was set is read back
+pub get_set : {A : Type 0} (xs : List A) (k : ℕ) (x : A) → k < length xs → slice_get (slice_set xs k x) k ≡ Some x
+get_set [] k x l = absurd (omega (arith, l))
+get_set (y ∷ xs) zero x l = refl
+get_set (y ∷ xs) (suc k) x l = get_set xs k x (omega (arith, l))
+
+-- one more of a list is taken
+pub one_more : {X : Type 0} (xs : List X) (i : ℕ) (x : X) → i < length xs → x ≡ get_or xs i x → take i xs ++ x ∷ [] ≡ take (i + 1) xs
+one_more xs i x l e = ap (λ y. take i xs ++ y ∷ []) e ∙ sym (take_more xs i x l)
+
+-- what follows from what holds of an option holds of it
+pub weaker : {X : Type 0} (o : Option X) (P Q : X → Type 0) → ((x : X) → P x → Q x) → IfSome o P → IfSome o Q
+weaker None P Q h p = tt
+weaker (Some x) P Q h p = h x p
+
+-- lists that are alike from a place on have one thing at it
+pub same_behind : {A : Type 0} (i : ℕ) (xs ys : List A) (d : A) → drop i ys ≡ drop i xs → get_or ys i d ≡ get_or xs i d
+same_behind i xs ys d e = sym (at_zero ys) ∙ ap (λ l. get_or l 0 d) e ∙ at_zero xs
+  where
+    at_zero : (l : List _) → get_or (drop i l) 0 d ≡ get_or l i d
+    at_zero l = let k : i + 0 ≡ i = omega arith in get_or-drop i l 0 d ∙ ap (λ n. get_or l n d) k
+
+-- the sum over a list with one more in front
+pub sum_cons : {X : Type 0} (f : X → ℕ) (x : X) (xs : List X) → sum (map f (x ∷ xs)) ≡ f x + sum (map f xs)
+sum_cons f x xs = sum-map f (x ∷ xs) ∙ sum_by-cons f x xs ∙ ap (λ n. f x + n) (sym (sum-map f xs))

@@ -1,10 +1,10 @@
 -- General lemmas on numbers.
-use Rattle.std.proofs.Common.{suc, zero, ℕ, ◌+◌, arith, true, ◌==◌, ◌≡◌, inl, inr, ◌<◌, ◌∙◌, ◌≤◌, ◌⊎◌, ◌≢◌, false, Bool, refl, nat_le, replicate, subst, sym}
+use Rattle.lmn_base.proofs.Truth.{Decided}
+use Rattle.std.proofs.Common.{suc, zero, ℕ, ◌+◌, arith, true, ◌==◌, ◌≡◌, inl, inr, ◌<◌, ◌∙◌, ◌≤◌, ◌⊎◌, ◌≢◌, false, Bool, refl, nat_le, replicate, subst, sym, ap, []}
 use Rattle.std.proofs.Math.Nat.{min-eq_left, min_comm}
 use Rattle.std.proofs.lemmas.Bool.{cases_lt, eqb-true, cases_eq}
 use Rattle.std.proofs.lemmas.Bool.Decides.{nat_tests, leb_tells}
-use Rattle.std.specs.Prelude.{min, nat_lt, slice_index_or, if◌then◌else◌}
-use Rattle.lmn_base.proofs.Truth.{Decided}
+use Rattle.std.specs.Prelude.{min, nat_lt, slice_index_or, if◌then◌else◌, take}
 
 -- the sum of the numbers up to n
 abbrev pub triangle : ℕ → ℕ
@@ -149,3 +149,34 @@ below_not_above K x y c = omega arith
 -- numbers that a test finds different are different
 pub unequal_when : (a b : ℕ) → (a == b) ≡ false → a ≡ b → ⊥
 unequal_when a b h e = grind (arith, nat_tests)
+
+-- two numbers are equal, or one is less
+pub in_order : (n k : ℕ) → (n ≡ k) ⊎ ((n < k) ⊎ (k < n))
+in_order n k = grind arith
+
+-- a port is another one or isn't
+pub is_port : (a i : ℕ) (root : ℕ × ℕ) → ((a ≡ root.0) × (i ≡ root.1)) ⊎ (◌≢◌ {A = ℕ × ℕ} (a, i) root)
+is_port a i root = elim (cases_eq a root.0) [
+  | inl e ↦ elim (cases_eq i root.1) [
+    | inl f ↦ inl (e, f)
+    | inr d ↦ inr (λ q. d (ap (λ p. p.1) q))
+  ]
+  | inr d ↦ inr (λ q. d (ap (λ p. p.0) q))
+]
+
+-- nothing and k is k
+pub no_more : (k : ℕ) → 0 + k ≡ k
+no_more k = omega arith
+
+-- a byte above 10 is no line feed
+pub no_feed : (b : ℕ) → 10 < b → b ≡ 10 → ⊥
+no_feed b l e = omega (arith, l, e)
+
+-- of no list nothing is taken
+pub take_none : (k : ℕ) → take {A = ℕ} k [] ≡ []
+take_none zero = refl
+take_none (suc k) = refl
+
+-- one is not zero
+pub one_is_not_zero : ◌≢◌ {A = ℕ} 1 0
+one_is_not_zero = omega arith

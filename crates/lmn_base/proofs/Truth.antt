@@ -64,3 +64,19 @@ false_not_true h = cc
 -- a statement that holds or doesn't
 abbrev pub Decided : Type 0 → Type 0
 Decided P = P ⊎ (P → ⊥)
+
+-- a truth value is true or false
+pub bool_cases : (b : Bool) → (b ≡ true) ⊎ (b ≡ false)
+bool_cases true = inl refl
+bool_cases false = inr refl
+
+-- tests that follow from each other are one
+pub test_same : (a b : Bool) → (a ≡ true → b ≡ true) → (b ≡ true → a ≡ true) → a ≡ b
+test_same true b f g = sym (f refl)
+test_same false true f g = g refl
+test_same false false f g = refl
+
+-- where a test fails the second is chosen
+pub if_no : {X : Type 0} (t : Bool) (x y : X) → t ≡ false → (if t then x else y) ≡ y
+if_no true x y e = absurd cc
+if_no false x y e = refl

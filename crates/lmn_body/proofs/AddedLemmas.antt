@@ -17,6 +17,7 @@ use Rattle.lmn_splice.specs.Splice.{IsOneOf}
 use Rattle.lmn_parts.specs.Copies.{answer}
 use Rattle.lmn_parts.proofs.AnswerLaws.{answer_in, answer_on, answer_here, answer_onto}
 use Rattle.lmn_body.proofs.RestGrowing.{in_given, given_in}
+use Rattle.lmn_base.proofs.Common.{of_map}
 
 -- what goes to a membrane if it is this one is among what goes there
 pub in_if : (r : Registers) (x inside : ℕ) (ns : List ℕ) (b : ℕ) → In b (if_inside r x inside ns) → In b ns
@@ -28,12 +29,6 @@ in_if r x inside ns b i = by (r.head.images.membrane inside == x) i
 
 if_there : (r : Registers) (inside : ℕ) (ns : List ℕ) → if_inside r (r.head.images.membrane inside) inside ns ≡ ns
 if_there r inside ns = rw (eq-eqb (r.head.images.membrane inside) (r.head.images.membrane inside) refl) refl
-
--- an image of a list comes from an element
-pub of_map : (f : ℕ → ℕ) (b : ℕ) (xs : List ℕ) → In b (map f xs) → (a : ℕ) × In a xs × (f a ≡ b)
-of_map f b [] i = absurd i
-of_map f b (x ∷ xs) (inl e) = (x, inl refl, e)
-of_map f b (x ∷ xs) (inr i) = let w = of_map f b xs i in (w.0, inr w.1, w.2)
 
 -- What is left in the membranes of a rest is the rest: its atoms, and membranes of it.
 pub record IsWholeRest (r : Registers) (left left_mems : ℕ → List ℕ) (of : ℕ) : Type 0 where

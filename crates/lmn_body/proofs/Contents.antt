@@ -5,9 +5,9 @@ use Rattle.std.specs.Prelude.{slice_get, ◌↔◌}
 use Rattle.lmn_heap.specs.Heap.{Heap, Distinct, gone, mem_place_of, atoms_in, mems_in, without}
 use Rattle.lmn_heap.specs.Lists.{without_all}
 use Rattle.lmn_heap.specs.Sound.{Forms}
-use Rattle.lmn_heap.proofs.ListLemmas.{each_in, in_left, in_right, apart, distinct_left, distinct_right}
+use Rattle.lmn_heap.proofs.ListLemmas.{each_in, in_left, in_right, apart, distinct_left, distinct_right, withouts_nothing as without_all_nothing}
 use Rattle.lmn_heap.proofs.Common.{decide_in}
-use Rattle.lmn_heap.proofs.Groves.{forms_frame}
+use Rattle.lmn_heap.proofs.Groves.{forms_frame, without_absent as absent}
 use Rattle.lmn_parts.specs.Rests.{IsRest, IsContent, atoms_of_all, keep, rest_taken}
 use Rattle.lmn_solid.specs.Heads.{HeadMembrane}
 use Rattle.lmn_instr.specs.declared.instr.Instr.TheVariants.{DropCells}
@@ -18,13 +18,9 @@ use Rattle.lmn_body.specs.Running.{Registers}
 use Rattle.lmn_body.specs.Within.{left_of_closed}
 use Rattle.lmn_body.proofs.Drops.{in_less, shrunk_rest, still_one, still_one_mem}
 use Rattle.lmn_body.proofs.Removing.{Shrunk, InOneList, MemInOneList}
-use Rattle.lmn_body.proofs.RestGrowing.{keep_all}
 use Rattle.lmn_base.specs.Lists.{In}
 use Rattle.lmn_base.proofs.Numbers.{not_equal}
-
-absent : (n : ℕ) (xs : List ℕ) → (In n xs → ⊥) → without n xs ≡ xs
-absent n [] o = refl
-absent n (y ∷ ys) o = rw (not_equal y n (λ e. o (inl e))) (ap (λ zs. y ∷ zs) (absent n ys (λ j. o (inr j))))
+use Rattle.lmn_parts.proofs.Common.{keep_all}
 
 -- nothing is taken from a list that has none of it
 pub without_none : (ns xs : List ℕ) → ((a : ℕ) → In a ns → In a xs → ⊥) → without_all ns xs ≡ xs
@@ -47,16 +43,12 @@ without_all_here (n ∷ ns) x xs o i = elim (cases_eq x n) [
     less : (xs : List ℕ) → In x (without n xs) → In x xs
     less xs j = in_less (n ∷ []) xs x j
 
-without_all_there : (ns : List ℕ) (x : ℕ) (xs : List ℕ) → (In x ns → ⊥) → without_all ns (x ∷ xs) ≡ x ∷ without_all ns xs
+pub without_all_there : (ns : List ℕ) (x : ℕ) (xs : List ℕ) → (In x ns → ⊥) → without_all ns (x ∷ xs) ≡ x ∷ without_all ns xs
 without_all_there [] x xs o = refl
 without_all_there (n ∷ ns) x xs o = ap (without_all ns) (there (λ e. o (inl (sym e)))) ∙ without_all_there ns x (without n xs) (λ i. o (inr i))
   where
     there : x ≢ n → without n (x ∷ xs) ≡ x ∷ without n xs
     there d = rw (not_equal x n d) refl
-
-without_all_nothing : (ns : List ℕ) → without_all ns [] ≡ []
-without_all_nothing [] = refl
-without_all_nothing (n ∷ ns) = without_all_nothing ns
 
 -- what is kept is what isn't taken out
 pub keep_without : (test : ℕ → Bool) (ns xs : List ℕ) → Distinct xs → ((x : ℕ) → In x xs → (test x ≡ true) ↔ (In x ns → ⊥)) → without_all ns xs ≡ keep test xs

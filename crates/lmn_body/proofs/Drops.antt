@@ -4,7 +4,7 @@ use Rattle.std.specs.Option.{option_map, option_and_then}
 use Rattle.lmn_heap.specs.Heap.{Heap, HeapMem, Distinct, home_by, mem_place_of, parent_of, atoms_in, mems_in, taken, taken_all, taken_mem, without}
 use Rattle.lmn_heap.specs.Lists.{without_all}
 use Rattle.lmn_heap.proofs.ListLemmas.{each_in, in_left, in_right, apart, distinct_left, distinct_right}
-use Rattle.lmn_heap.proofs.Common.{in_of_without}
+use Rattle.lmn_heap.proofs.Common.{in_of_without, all_more as without_both}
 use Rattle.lmn_heap.specs.Sound.{Listed}
 use Rattle.lmn_heap.proofs.Listing.{taken_listed}
 use Rattle.lmn_heap.proofs.MemListing.{taken_mem_listed}
@@ -17,11 +17,6 @@ use Rattle.lmn_body.specs.Within.{left_of_closed}
 use Rattle.lmn_body.proofs.Growing.{same_atoms_after, some_there}
 use Rattle.lmn_body.proofs.Removing.{Shrunk, InOneList, MemInOneList, all_taken_mems, shrunk_atoms, shrunk_mems, shrunk_after}
 use Rattle.lmn_base.specs.Lists.{In}
-
--- some are taken and then others
-pub without_both : (xs ys zs : List ℕ) → without_all (xs ++ ys) zs ≡ without_all ys (without_all xs zs)
-without_both [] ys zs = refl
-without_both (x ∷ xs) ys zs = without_both xs ys (without x zs)
 
 -- what is left of a list stood in it
 pub in_less : (ns xs : List ℕ) (x : ℕ) → In x (without_all ns xs) → In x xs

@@ -31,12 +31,12 @@ use Rattle.lmn_body.proofs.RestGrowing.{grown_rest, child_in, all_membranes}
 use Rattle.lmn_body.proofs.RestListing.{atoms_settle, rest_settles}
 use Rattle.lmn_body.proofs.TreeAfter.{rest_comes}
 use Rattle.lmn_body.proofs.Contents.{content_on}
-use Rattle.lmn_body.proofs.Rooms.{get_in, HasRoom, rule_targets, targets_within}
+use Rattle.lmn_body.proofs.Rooms.{HasRoom, rule_targets, targets_within}
 use Rattle.lmn_body.proofs.MemListing.{same_lists_listed, sent_at, moved_place}
 use Rattle.lmn_heap.proofs.MemListing.{placed_mem_listed}
 use Rattle.lmn_heap.proofs.MoveListing.{moved_all_listed}
 use Rattle.lmn_body.proofs.Below.{index_split, index_front}
-use Rattle.lmn_heap.proofs.Common.{decide_in as decide}
+use Rattle.lmn_heap.proofs.Common.{decide_in as decide, in_at as get_in}
 use Rattle.lmn_heap.proofs.Depths.{both_distinct}
 use Rattle.lmn_heap.proofs.Heights.{parent_place}
 use Rattle.lmn_base.specs.Lists.{In}

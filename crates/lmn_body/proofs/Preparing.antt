@@ -11,7 +11,7 @@ use Rattle.lmn_body.proofs.Making.{made_at}
 use Rattle.lmn_body.proofs.MemsMade.{MemsMade, none_made, mems_made_after, made_one_mem, made_atom_mems, reserved_mems, mems_same}
 use Rattle.lmn_body.proofs.RestsMade.{IsClosed, HaveRestCopies, has_rest_on, brings_rest, has_rest}
 use Rattle.lmn_body.proofs.RestMems.{rest_mems, rest_long}
-use Rattle.lmn_body.proofs.Rooms.{get_in, HasRoom, room_as, rest_room, spare_after}
+use Rattle.lmn_body.proofs.Rooms.{HasRoom, room_as, rest_room, spare_after}
 use Rattle.lmn_body.specs.RestCopies.{RestCopy, RestCopies, AreAsLong}
 use Rattle.lmn_body.specs.Rules.{closed_rests}
 use Rattle.lmn_body.specs.Made.{new_atoms, copies_of}
@@ -25,6 +25,7 @@ use Rattle.lmn_parts.specs.Copies.{AllAtoms}
 use Rattle.lmn_parts.specs.Rests.{NoneLeaves}
 use Rattle.lmn_base.specs.Graphs.{Port}
 use Rattle.lmn_base.specs.Lists.{In}
+use Rattle.lmn_heap.proofs.Common.{in_at as get_in}
 
 -- The atoms of a heap and the line of those that wait are those of another heap.
 pub record SameLines (s t : Heap) : Type 0 where

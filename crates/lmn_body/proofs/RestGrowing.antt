@@ -7,13 +7,15 @@ use Rattle.lmn_heap.specs.Heap.{Heap, HeapMem, Distinct, home_by, mem_place_of, 
 use Rattle.lmn_heap.specs.Sound.{Forest, bare, mem, flat, Forms}
 use Rattle.lmn_heap.proofs.ListLemmas.{in_left, in_right, each_in, distinct_left, distinct_right}
 use Rattle.lmn_parts.specs.Copies.{answer}
-use Rattle.lmn_parts.specs.Rests.{CopyWaits, atoms_placed, atoms_of_all, copy_round, keep, membrane_placed, membranes_placed, rest_placed}
+use Rattle.lmn_parts.specs.Rests.{CopyWaits, atoms_placed, atoms_of_all, copy_round, membrane_placed, membranes_placed, rest_placed}
 use Rattle.lmn_parts.proofs.AnswerLaws.{answer_here, answer_on, answer_in, answer_one, map_answer}
 use Rattle.lmn_body.specs.Running.{all_placed}
 use Rattle.lmn_body.specs.RestCopies.{given}
 use Rattle.lmn_body.proofs.Growing.{Grown, grown_none, grown_after, grown_all_placed, grown_placed_mem, grown_rules, only_at, only_other, some_there}
 use Rattle.lmn_base.specs.Lists.{In}
 use Rattle.lmn_base.proofs.Lists.{in_either, plus_nothing}
+use Rattle.lmn_base.proofs.Common.{map_same}
+use Rattle.lmn_parts.proofs.Common.{keep_all}
 
 -- ---- what some membranes give
 
@@ -240,11 +242,6 @@ module _ (ks : List ℕ) (copy cm : ℕ → ℕ) where
 
 -- ---- the whole rest
 
--- keeping all keeps all
-pub keep_all : (xs : List ℕ) → keep (λ _. true) xs ≡ xs
-keep_all [] = refl
-keep_all (x ∷ xs) = ap (λ ys. x ∷ ys) (keep_all xs)
-
 -- each membrane of a forest stands in the list of the one round it
 pub stands_round : (s : Heap) (f : Forest) (roots : List ℕ) (p k : ℕ) → Forms s f roots → ((j : ℕ) → In j roots → In j (mems_in s p)) → In k (flat f) → (q : ℕ) × In q (p ∷ flat f) × In k (mems_in s q)
 stands_round s bare roots p k forms into i = absurd i
@@ -282,10 +279,6 @@ root_of_forest s (mem m inner rest) roots k (others, are, forms_in, forms_rest) 
   | inl e ↦ inl e
   | inr l ↦ inr (in_right k (flat inner) (flat rest) (root_of_forest s rest others k forms_rest l))
 ]
-
-map_same : (f g : ℕ → ℕ) (xs : List ℕ) → ((x : ℕ) → In x xs → f x ≡ g x) → map f xs ≡ map g xs
-map_same f g [] e = refl
-map_same f g (x ∷ xs) e = let here = e x (inl refl) in let rest = map_same f g xs (λ y i. e y (inr i)) in λ t. here t ∷ rest t
 
 all_copies : (s : Heap) (copy : ℕ → ℕ) (ks : List ℕ) → copies_in s copy ks ≡ map copy (atoms_of_all s ks)
 all_copies s copy [] = refl

@@ -1,23 +1,24 @@
 -- Copies of atoms that no link leaves are made, and joined as these.
 use Rattle.std.proofs.Common.{◌≡◌, ◌≢◌, ◌⊎◌, ℕ, zero, suc, ◌+◌, ◌<◌, List, [], ◌∷◌, ◌++◌, length, Option, Some, None, IsSome, refl, sym, ap, subst, ◌∙◌, inl, inr, arith}
 use Rattle.std.proofs.lemmas.Bool.{cases_eq}
-use Rattle.std.proofs.lemmas.List.{append_assoc, length-set}
+use Rattle.std.proofs.lemmas.List.{append_assoc}
 use Rattle.std.specs.Option.{option_map}
 use Rattle.std.specs.Prelude.{slice_index_or}
 use Rattle.lmn_base.specs.declared.functor.Functor.{Functor}
-use Rattle.lmn_heap.specs.Heap.{Heap, HeapAtom, Distinct, IsAtom, with_link, new_atom, partners_of, functor_of, link_of, arity_of, linked, cleared, joined}
+use Rattle.lmn_heap.specs.Heap.{Heap, HeapAtom, Distinct, with_link, new_atom, partners_of, functor_of, link_of, arity_of, linked, cleared, joined}
 use Rattle.lmn_heap.specs.Sound.{Paired}
 use Rattle.lmn_heap.specs.Splice.{joined_to}
 use Rattle.lmn_heap.proofs.ListLemmas.{each_in}
 use Rattle.lmn_heap.proofs.Listing.{alter_at, alter_away}
 use Rattle.lmn_heap.proofs.Ports.{SamePort, same_port, linked_away, joined_arity, joined_a, joined_b, joined_other, joined_paired}
 use Rattle.lmn_heap.proofs.Replacing.{port_within}
-use Rattle.lmn_heap.proofs.Common.{same_port as same_pair}
+use Rattle.lmn_heap.proofs.Common.{same_port as same_pair, has_functor, is_not}
 use Rattle.lmn_parts.specs.Walks.{port_range, HasPort}
 use Rattle.lmn_parts.specs.Copies.{AllAtoms, AreNew, made_as, made_like, moved, answer, ports_of}
 use Rattle.lmn_parts.specs.Rests.{joined_as, all_joined_as}
 use Rattle.lmn_parts.proofs.AnswerLaws.{answer_in, answer_one, answer_here, answer_on}
 use Rattle.lmn_base.specs.Lists.{In}
+use Rattle.lmn_parts.proofs.Common.{as_away as one_away, as_here as one_here, either_port, ports_in as range_in}
 
 -- ---- what joining leaves as it is
 
@@ -252,17 +253,6 @@ module _ (xs ys : List ℕ) where
 
 -- ---- the ports of atoms
 
--- the ports of an atom of a list are of the list
-range_in : (xs : List ℕ) (a i n : ℕ) → In a xs → (p : ℕ × ℕ) → HasPort p (port_range a i n) → In p.0 xs
-range_in xs a i zero a_in p k = absurd k
-range_in xs a i (suc n) a_in p (inl e) = subst (λ (q : ℕ × ℕ). In q.0 xs) e a_in
-range_in xs a i (suc n) a_in p (inr k) = range_in xs a (i + 1) n a_in p k
-
-either_port : (a i n : ℕ) (ps : List (ℕ × ℕ)) (p : ℕ × ℕ) → HasPort p (port_range a i n ++ ps) → HasPort p (port_range a i n) ⊎ HasPort p ps
-either_port a i zero ps p h = inr h
-either_port a i (suc n) ps p (inl e) = inl (inl e)
-either_port a i (suc n) ps p (inr h) = elim (either_port a (i + 1) n ps p h) [ inl k ↦ inl (inr k) | inr k ↦ inr k ]
-
 pub ports_in : (s : Heap) (xs zs : List ℕ) → ((a : ℕ) → In a zs → In a xs) → (p : ℕ × ℕ) → HasPort p (ports_of s zs) → In p.0 xs
 ports_in s xs [] sub p k = absurd k
 ports_in s xs (z ∷ zs) sub p k = elim (either_port z 0 (arity_of s z) (ports_of s zs) p k) [
@@ -302,39 +292,17 @@ port_of s (z ∷ zs) a i (inr j) l = back_port (port_range z 0 (arity_of s z)) (
 
 -- ---- copies are made
 
-one_away : (s : Heap) (b c : ℕ) (o : Option Functor) → c ≢ b → (made_as s b o).atoms c ≡ s.atoms c
-one_away s b c None d = refl
-one_away s b c (Some f) d = alter_away s.atoms b (λ _. Some (new_atom f)) c d
-
 -- other atoms stay when copies are made
 pub made_away : (s : Heap) (xs ys : List ℕ) (c : ℕ) → (In c ys → ⊥) → (made_like s xs ys).atoms c ≡ s.atoms c
 made_away s [] ys c n = refl
 made_away s (x ∷ xs) [] c n = refl
 made_away s (x ∷ xs) (y ∷ ys) c n = made_away (made_as s y (functor_of s x)) xs ys c (λ k. n (inr k)) ∙ one_away s y c (functor_of s x) (λ e. n (inl (sym e)))
 
--- an atom that is there is none that is not
-is_not : (s : Heap) (a b : ℕ) → IsAtom s a → s.atoms b ≡ None → a ≢ b
-is_not s a b is none e = by (s.atoms b) (subst (λ (z : ℕ). IsAtom s z) e is) none
-  where
-    by : (o : Option HeapAtom) → IsSome o → o ≡ None → ⊥
-    by None i f = absurd (cc)
-    by (Some h) i f = absurd (cc)
-
-has_functor : (s : Heap) (x : ℕ) → IsAtom s x → (f : Functor) × (functor_of s x ≡ Some f)
-has_functor s x is = by (s.atoms x) is
-  where
-    by : (o : Option HeapAtom) → IsSome o → (f : Functor) × (option_map (λ (h : HeapAtom). h.functor) o ≡ Some f)
-    by None i = absurd (cc)
-    by (Some h) i = (h.functor, refl)
-
 one_there : (s : Heap) (y : ℕ) (o : Option Functor) (xs : List ℕ) → AllAtoms s xs → s.atoms y ≡ None → AllAtoms (made_as s y o) xs
 one_there s y o xs h none x i = subst (λ (q : Option HeapAtom). IsSome q) (sym (one_away s y x o (is_not s x y (h x i) none))) (h x i)
 
 one_new : (s : Heap) (y : ℕ) (o : Option Functor) (ys : List ℕ) → AreNew s (y ∷ ys) → AreNew (made_as s y o) ys
 one_new s y o ys h = (h.0.1, λ z i. one_away s y z o (λ e. each_in (λ (w : ℕ). y ≢ w) ys z h.0.0 i (sym e)) ∙ h.1 z (inr i))
-
-one_here : (s : Heap) (y : ℕ) (f : Functor) (o : Option Functor) → o ≡ Some f → (made_as s y o).atoms y ≡ Some (new_atom f)
-one_here s y f o e = subst (λ (q : Option Functor). (made_as s y q).atoms y ≡ Some (new_atom f)) (sym e) (alter_at s.atoms y (λ _. Some (new_atom f)))
 
 not_again : (y : ℕ) (ys : List ℕ) → Distinct (y ∷ ys) → In y ys → ⊥
 not_again y ys d i = each_in (λ (w : ℕ). y ≢ w) ys y d.0 i refl
@@ -376,10 +344,6 @@ made_line s (x ∷ xs) (y ∷ ys) h n l =
     one_line : (f : Functor) (o : Option Functor) → o ≡ Some f → (made_as s y o).new_atoms ≡ s.new_atoms ++ y ∷ []
     one_line f None e = absurd (cc)
     one_line f (Some g) e = refl
-
-pub arity_linked : (i : ℕ) (p : Option (ℕ × ℕ)) (o : Option HeapAtom) → length (partners_of (option_map (with_link i p) o)) ≡ length (partners_of o)
-arity_linked i p None = refl
-arity_linked i p (Some x) = length-set x.links i p
 
 pub functor_linked : (i : ℕ) (p : Option (ℕ × ℕ)) (o : Option HeapAtom) → option_map (λ (x : HeapAtom). x.functor) (option_map (with_link i p) o) ≡ option_map (λ (x : HeapAtom). x.functor) o
 functor_linked i p None = refl

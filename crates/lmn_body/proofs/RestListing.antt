@@ -1,6 +1,5 @@
 -- The copy of a rest goes to its place: lists and places stay together.
 use Rattle.std.proofs.Common.{ℕ, ◌≡◌, ◌≢◌, List, [], ◌∷◌, ◌++◌, map, Some, IsSome, refl, sym, ap, subst, ◌∙◌, inl, inr}
-use Rattle.std.proofs.lemmas.Bool.{eq-eqb}
 use Rattle.std.proofs.lemmas.List.{append_assoc}
 use Rattle.std.specs.Option.{option_map}
 use Rattle.lmn_heap.specs.Heap as heap
@@ -17,9 +16,7 @@ use Rattle.lmn_body.proofs.Growing.{Grown, grown_placed, grown_all_placed, some_
 use Rattle.lmn_body.proofs.MemListing.{same_lists_listed, place_after}
 use Rattle.lmn_body.proofs.RestGrowing.{Places, Placing, copies_in, copies_same, grown_membrane, placing_on, parent_as, placed_pairs, all_atoms, all_membranes, placing as rest_placing, cm_m, forms, of_flat}
 use Rattle.lmn_base.specs.Lists.{In}
-
-first_from : (a : ℕ) (zs : List ℕ) → heap.from (Some a) (a ∷ zs) ≡ a ∷ zs
-first_from a zs = rw (eq-eqb a a refl) refl
+use Rattle.lmn_heap.proofs.Common.{from_here as first_from}
 
 -- From s to t some membranes are placed, and atoms: lists and places stay together, and no other membrane changes its place.
 pub record Settles (s t : Heap) (new : List ℕ) : Type 0 where

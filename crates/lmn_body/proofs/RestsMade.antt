@@ -9,7 +9,7 @@ use Rattle.lmn_heap.specs.Sound.{Paired, Shaped}
 use Rattle.lmn_heap.specs.Splice.{joined_to}
 use Rattle.lmn_heap.proofs.Replacing.{port_within}
 use Rattle.lmn_heap.proofs.Shapes.{WellShaped, shaped_of, shaped_at, joined_shape}
-use Rattle.lmn_heap.proofs.Common.{no_links, no_port}
+use Rattle.lmn_heap.proofs.Common.{no_links, no_port, arity_linked}
 use Rattle.lmn_parts.specs.Walks.{HasPort}
 use Rattle.lmn_parts.specs.Copies.{AllAtoms, answer, made_like, moved, ports_of}
 use Rattle.lmn_parts.specs.Rests.{NoneLeaves, RestCopied, joined_as, all_joined_as, made_roomy}
@@ -20,7 +20,7 @@ use Rattle.lmn_body.specs.Running.{Registers}
 use Rattle.lmn_body.specs.RestCopies.{RestCopies, later, AreCopiesIn}
 use Rattle.lmn_body.specs.Tied.{partners}
 use Rattle.lmn_body.proofs.Brought.{Brings, Old, brought_old, link_at, made_shapes}
-use Rattle.lmn_body.proofs.RestJoins.{Copying, all_view, all_copying, all_away, all_joins, ports_in, port_of, made_away, made_at, made_line, arity_linked, functor_linked, place_linked}
+use Rattle.lmn_body.proofs.RestJoins.{Copying, all_view, all_copying, all_away, all_joins, ports_in, port_of, made_away, made_at, made_line, functor_linked, place_linked}
 use Rattle.lmn_base.specs.Graphs.{Port}
 use Rattle.lmn_base.specs.Lists.{In}
 

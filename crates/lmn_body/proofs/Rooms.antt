@@ -19,12 +19,7 @@ use Rattle.lmn_body.proofs.Growing.{some_there}
 use Rattle.lmn_body.proofs.RestMems.{new_on, rest_same_mems}
 use Rattle.lmn_base.specs.Lists.{In}
 use Rattle.lmn_base.proofs.Lists.{in_either}
-
--- a number that stands at a place of a list is in it
-pub get_in : (xs : List ℕ) (k x : ℕ) → slice_get xs k ≡ Some x → In x xs
-get_in [] k x e = absurd (cc)
-get_in (y ∷ xs) zero x e = let g : y ≡ x = (cc) in inl g
-get_in (y ∷ xs) (suc k) x e = inr (get_in xs k x e)
+use Rattle.lmn_heap.proofs.Common.{in_at as get_in}
 
 -- the membranes that get rules by name
 abbrev pub rule_targets : Registers → List BodyItem → List ℕ

@@ -19,7 +19,7 @@ use Rattle.lmn_body.specs.Running.{Registers, DoesAll}
 use Rattle.lmn_body.specs.Names.{Names}
 use Rattle.lmn_body.specs.Added.{if_inside, added_mems, moved_mems, made_mems}
 use Rattle.lmn_body.specs.RestCopies.{RestCopy, RestCopies, later as later_copies, rest_membranes, copied_membrane, copied_into, given, IsAsLong, AreAsLong}
-use Rattle.lmn_body.proofs.AddedLemmas.{AreWholeRests, of_map, long_enough}
+use Rattle.lmn_body.proofs.AddedLemmas.{AreWholeRests, long_enough}
 use Rattle.lmn_body.proofs.RestGrowing.{in_given}
 use Rattle.lmn_body.proofs.Held.{Held}
 use Rattle.lmn_heap.specs.Sound.{Listed}
@@ -45,6 +45,7 @@ use Rattle.lmn_body.specs.Code.{making, drops}
 use Rattle.lmn_base.specs.Lists.{In}
 use Rattle.lmn_base.proofs.Lists.{in_either}
 use Rattle.lmn_base.proofs.Numbers.{not_equal}
+use Rattle.lmn_base.proofs.Common.{of_map}
 
 -- Membranes that are added
 

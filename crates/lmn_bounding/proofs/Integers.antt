@@ -39,7 +39,7 @@ use Rattle.lmn_accepted.proofs.InTurns.{rows_apart}
 use Rattle.lmn_accepted.proofs.Items.{typed_name, untyped_name}
 use Rattle.lmn_accepted.proofs.Listed.{N, alone, among_name, how_often_here, how_often_later, number_among}
 use Rattle.lmn_accepted.proofs.PlanKinds.{leaf_name}
-use Rattle.lmn_accepted.proofs.Types.{AllTyped, condition_typed}
+use Rattle.lmn_accepted.proofs.Types.{AllTyped, condition_typed, typed_use_there}
 use Rattle.lmn_weight.specs.Lowered.{MakesInt, has_type, in_value, is_bound as bound_here, on_left, on_right}
 
 -- ---- tests of lists
@@ -143,18 +143,6 @@ has_typed n xs h = some (flat_map (use_of n) xs) (let c = use_count n xs in omeg
 untyped_none : (xs : List Item) → AllTyped xs → flat_map untyped_name xs ≡ []
 untyped_none [] h = refl
 untyped_none (x ∷ xs) h = let u = h.0 in subst (λ y. flat_map untyped_name (y ∷ xs) ≡ []) (sym u.1) (untyped_none xs h.1)
-
--- and among items that are all typed what is used stands typed
-pub typed_use_there : (n : ℕ) (xs : List Item) → AllTyped xs → has_use n xs ≡ true → 1 ≤ how_often n (flat_map typed_name xs)
-typed_use_there n xs t h =
-    let c = use_count n xs in
-    let none = ap (how_often n) (untyped_none xs t) in
-    let l = some (flat_map (use_of n) xs) h in
-    omega (arith, c, none, l)
-  where
-    some : (ps : List Pos) → is_some_place ps ≡ true → 1 ≤ length ps
-    some [] e = absurd (cc)
-    some (p ∷ ps) e = omega arith
 
 -- ---- what conditions bind
 

@@ -5,7 +5,7 @@ use Rattle.std.specs.List.{AllByRecursion, flat_map, list_all, list_any}
 use Rattle.std.proofs.lemmas.Bool.{eq-eqb, eqb-true, leb-true, ltb-true}
 use Rattle.std.proofs.lemmas.List.Concat.{flat_map-append}
 use Rattle.std.proofs.lemmas.List.Elements.{recursion_from_All}
-use Rattle.lmn_base.proofs.Lists.{all_append, all_left, all_of_left, all_right, some_is}
+use Rattle.lmn_base.proofs.Lists.{all_append, all_left, all_of_left, all_right, some_is, sum_cons}
 use Rattle.lmn_base.proofs.Truth.{and_true, either_true}
 use Rattle.lmn_base.specs.declared.guard.Cond.{Cond}
 use Rattle.lmn_base.specs.declared.level.CtxUse.{CtxUse}
@@ -44,7 +44,6 @@ use Rattle.lmn_accepted.proofs.Listed.{N, alone, each_once, how_often_later, kno
 use Rattle.lmn_accepted.proofs.PlanKinds.{leaf_name}
 use Rattle.lmn_accepted.proofs.Trees.{closed_named, typed_named}
 use Rattle.lmn_accepted.proofs.Types.{left_used_there}
-use Rattle.lmn_weight.proofs.SmallWeights.{sum_cons}
 use Rattle.lmn_weight.specs.Lowered.{Lowered, MakesInt, StandsForInt, other_contexts}
 use Rattle.lmn_weight.specs.declared.weights.Weights.{Weights}
 use Rattle.lmn_weight.specs.Plains as plain

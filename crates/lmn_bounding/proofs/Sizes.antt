@@ -18,9 +18,9 @@ use Rattle.lmn_lexer.proofs.FewTokens.{few_tokens}
 use Rattle.lmn_lexer.specs.Laying.{words_of}
 use Rattle.lmn_plain.proofs.FewItems.{few_at_top}
 use Rattle.lmn_plain.specs.Sizes.{size_step}
-use Rattle.lmn_weight.proofs.SmallWeights.{sum_cons}
 use Rattle.lmn_weight.specs.Plains.{one_if_weighed, weighed_items, weighed_step}
 use Rattle.lmn_bounding.specs.Bounding.{RulesAreSmall, TopsAreSmall}
+use Rattle.lmn_base.proofs.Lists.{sum_cons}
 
 one_leaf : (l : Leaf) → one_if_weighed l ≤ 1
 one_leaf (leaf.Atom f os p) = go (is_connector f)

@@ -4,7 +4,7 @@ use Rattle.std.specs.Prelude.{bytes_eq, ◌==◌}
 use Rattle.std.specs.List.{AllByRecursion, flat_map}
 use Rattle.std.proofs.lemmas.List.{length-map}
 use Rattle.std.proofs.lemmas.Slice.Eq.{bytes_eq-Decides}
-use Rattle.lmn_base.proofs.Lists.{all_left, all_right}
+use Rattle.lmn_base.proofs.Lists.{all_left, all_right, sum_cons}
 use Rattle.lmn_base.specs.declared.functor.Label.{Label}
 use Rattle.lmn_base.specs.declared.functor.Label.TheVariants.{Int, Name}
 use Rattle.lmn_base.specs.declared.level.Leaf.{Leaf}
@@ -21,7 +21,6 @@ use Rattle.lmn_congruence.specs.Translation.{atom_or_connector, label_of, leaf_o
 use Rattle.lmn_guards.specs.declared.plan.TypedUse.{TypedUse}
 use Rattle.lmn_reading.proofs.NamedPlains.{AllBelow}
 use Rattle.lmn_accepted.proofs.Listed.{one_number}
-use Rattle.lmn_weight.proofs.SmallWeights.{sum_cons}
 use Rattle.lmn_weight.specs.declared.weights.Weights.{Weights}
 use Rattle.lmn_weight.specs.Plains as plain
 use Rattle.lmn_weight.specs.Weights.{Weighing, atom_weight, leaf_weight, leaves_weight, level_weight, membranes_weight, weight}

@@ -18,7 +18,7 @@ use Rattle.lmn_bridge.proofs.Pieces.{atom_at}
 use Rattle.lmn_bridge.proofs.Counting.{times_at, ends_among}
 use Rattle.lmn_bridge.proofs.Forests.{none_of, some_of, once_of}
 use Rattle.lmn_bridge.proofs.Ports.{port_named, named_port}
-use Rattle.lmn_bridge.proofs.PartLists.{is_port, all_of_part, PartList}
+use Rattle.lmn_bridge.proofs.PartLists.{all_of_part, PartList}
 use Rattle.lmn_base.proofs.Lists.{weigh, some_is}
 use Rattle.lmn_congruence.proofs.Counts.{none_if_apart as apart_none}
 use Rattle.lmn_heap.proofs.Replacing.{port_within}
@@ -26,6 +26,7 @@ use Rattle.lmn_heap.specs.Solid.{IsNaming}
 use Rattle.lmn_base.specs.Lists.{In}
 use Rattle.std.specs.List.{AllByRecursion}
 use Rattle.lmn_congruence.proofs.Common.{among_image}
+use Rattle.lmn_base.proofs.Numbers.{is_port}
 
 -- atoms side by side: a first one and others
 abbrev pub side_by_side : SolidAtom → List SolidAtom → Process

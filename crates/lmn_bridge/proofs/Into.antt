@@ -35,7 +35,6 @@ use Rattle.lmn_bridge.proofs.Forests.{forms_tops, forms_grown, once_of, one_home
 use Rattle.lmn_bridge.proofs.Ports.{find_place, port_named}
 use Rattle.lmn_bridge.specs.Parts.{HasPart, IsGroundPart}
 use Rattle.lmn_bridge.proofs.EmbeddedParts.{embedded_parts_are_apart}
-use Rattle.lmn_bridge.proofs.PartLists.{is_port}
 use Rattle.lmn_bridge.proofs.PartLaws.{ground_parts_stand_whole}
 use Rattle.lmn_bridge.proofs.PartsOut.{flattened}
 use Rattle.lmn_bridge.proofs.PartsLaid.{as_read}
@@ -56,6 +55,7 @@ use Rattle.lmn_bridge.specs.Premises.{IsRead}
 use Rattle.lmn_reduction.specs.Parts.{Rooted}
 use Rattle.lmn_base.specs.Lists.{In}
 use Rattle.std.specs.List.{AllByRecursion}
+use Rattle.lmn_base.proofs.Numbers.{is_port}
 
 -- ---- links of an atom
 

@@ -43,7 +43,7 @@ use Rattle.lmn_reduction.proofs.Values.{context_tree, operation_tree}
 use Rattle.lmn_bridge.proofs.HeadFacts.{typed_holds}
 use Rattle.lmn_bridge.proofs.KindConditions.{heads_are, typed_known, guard_known, same_number}
 use Rattle.lmn_bridge.proofs.TypeConditions.{among_named, among_of}
-use Rattle.lmn_base.proofs.Common.{operation_items}
+use Rattle.lmn_base.proofs.Common.{operation_items, in_left as used_left, in_right as used_right}
 use Rattle.lmn_base.proofs.Truth.{and_true as and_both, either_true as or_either}
 use Rattle.lmn_guards.proofs.WorkedGuards.{of_context as context_items, of_integer as number_items}
 use Rattle.lmn_adequacy.proofs.Accepting.{integer_ground}
@@ -57,22 +57,6 @@ never_both true e f = cc
 never_both false e f = cc
 
 -- ---- uses of a name
-
-used_left : (n : ℕ) (xs ys : List Item) → has_use n xs ≡ true → has_use n (xs ++ ys) ≡ true
-used_left n [] ys e = absurd (cc)
-used_left n (x ∷ xs) ys e = by (use_of n x) e (used_left n xs ys)
-  where
-    by : (ps : List Pos) → is_some_place (ps ++ flat_map (use_of n) xs) ≡ true → (has_use n xs ≡ true → has_use n (xs ++ ys) ≡ true) → is_some_place (ps ++ flat_map (use_of n) (xs ++ ys)) ≡ true
-    by [] e later = later e
-    by (p ∷ ps) e later = refl
-
-used_right : (n : ℕ) (xs ys : List Item) → has_use n ys ≡ true → has_use n (xs ++ ys) ≡ true
-used_right n [] ys e = e
-used_right n (x ∷ xs) ys e = by (use_of n x) (used_right n xs ys e)
-  where
-    by : (ps : List Pos) → has_use n (xs ++ ys) ≡ true → is_some_place (ps ++ flat_map (use_of n) (xs ++ ys)) ≡ true
-    by [] e = e
-    by (p ∷ ps) e = refl
 
 used_either : (n : ℕ) (xs ys : List Item) → has_use n (xs ++ ys) ≡ true → (has_use n xs ≡ true) ⊎ (has_use n ys ≡ true)
 used_either n [] ys e = inr e

@@ -36,13 +36,9 @@ use Rattle.lmn_bridge.proofs.Lengths.{level_length, leaf_length}
 use Rattle.lmn_base.proofs.Lists.{weigh, weigh_append}
 use Rattle.lmn_base.proofs.Numbers.{not_equal as apart_test}
 use Rattle.lmn_base.specs.Lists.{In}
+use Rattle.lmn_heap.proofs.Common.{all_more}
 
 -- ---- lists
-
--- some are taken out, and then others
-pub all_more : (bs cs xs : List ℕ) → without_all (bs ++ cs) xs ≡ without_all cs (without_all bs xs)
-all_more [] cs xs = refl
-all_more (b ∷ bs) cs xs = all_more bs cs (without b xs)
 
 -- what isn't there takes nothing out
 pub all_absent : (bs xs : List ℕ) → ((b : ℕ) → In b bs → In b xs → ⊥) → without_all bs xs ≡ xs

@@ -68,7 +68,7 @@ reads_index none (x ∷ xs) g n h =
     (ap g (sym z) ∙ h 0 (omega arith), reads_index none xs g (n + 1) (λ i l. let y : (n + 1) + i ≡ n + suc i = omega arith in ap g y ∙ h (suc i) (omega (arith, l))))
 
 -- and its row is the list
-reads_run : {A : Type 0} (g : ℕ → A) (n : ℕ) (xs : List A) → Reads g n xs → run g n (length xs) ≡ xs
+pub reads_run : {A : Type 0} (g : ℕ → A) (n : ℕ) (xs : List A) → Reads g n xs → run g n (length xs) ≡ xs
 reads_run g n [] h = refl
 reads_run g n (x ∷ xs) h = cc (h.0, reads_run g (n + 1) xs h.1)
 
@@ -95,7 +95,7 @@ places_part (p ∷ ps) b (suc n) = omega (arith, places_part ps b n, places_both
 
 -- ---- lists by their indices
 
-in_index : (xs : List ℕ) (b : ℕ) → In b xs → (i : ℕ) × (i < length xs) × (slice_index_or xs i 0 ≡ b)
+pub in_index : (xs : List ℕ) (b : ℕ) → In b xs → (i : ℕ) × (i < length xs) × (slice_index_or xs i 0 ≡ b)
 in_index [] b p = absurd p
 in_index (x ∷ xs) b (inl e) = (0, omega arith, e)
 in_index (x ∷ xs) b (inr p) = let u = in_index xs b p in (suc u.0, omega (arith, u.1), u.2)

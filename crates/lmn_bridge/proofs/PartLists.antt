@@ -8,30 +8,11 @@ use Rattle.lmn_heap.specs.Lists.{Distinct, without}
 use Rattle.lmn_heap.specs.Sound.{Valid}
 use Rattle.lmn_heap.proofs.ListLemmas.{each_in, each_of, in_without}
 use Rattle.lmn_heap.proofs.Listing.{home_is}
-use Rattle.lmn_bridge.proofs.Weighing.{weigh_without}
-use Rattle.lmn_base.proofs.Lists.{weigh}
 use Rattle.lmn_heap.proofs.Replacing.{port_within}
-use Rattle.lmn_heap.proofs.Common.{decide_in}
+use Rattle.lmn_heap.proofs.Common.{decide_in, shorter_without as length_without}
 use Rattle.lmn_base.specs.Lists.{In}
 use Rattle.std.specs.List.{AllByRecursion}
-
--- a list without one of its numbers is one shorter
-pub length_without : (a : ℕ) (xs : List ℕ) → In a xs → suc (length (without a xs)) ≡ length xs
-length_without a xs i = omega (arith, weigh_without (λ x. 1) a xs i, all_ones xs, all_ones (without a xs))
-  where
-    all_ones : (ys : List ℕ) → weigh (λ x. 1) ys ≡ length ys
-    all_ones [] = refl
-    all_ones (y ∷ ys) = omega (arith, all_ones ys)
-
--- two ports are one or not
-pub is_port : (a i : ℕ) (root : ℕ × ℕ) → ((a ≡ root.0) × (i ≡ root.1)) ⊎ (◌≢◌ {A = ℕ × ℕ} (a, i) root)
-is_port a i root = elim (cases_eq a root.0) [
-  | inl e ↦ elim (cases_eq i root.1) [
-    | inl f ↦ inl (e, f)
-    | inr d ↦ inr (λ q. d (ap (λ p. p.1) q))
-  ]
-  | inr d ↦ inr (λ q. d (ap (λ p. p.0) q))
-]
+use Rattle.lmn_base.proofs.Numbers.{is_port}
 
 module _ (h : Heap) (root : ℕ × ℕ) where
   -- a port of the list, other than the root, whose partner isn't in the list

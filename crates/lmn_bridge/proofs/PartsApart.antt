@@ -5,8 +5,8 @@ use Rattle.lmn_heap.specs.Heap.{Heap, link_of}
 use Rattle.lmn_heap.specs.Graphs.{atom_map}
 use Rattle.lmn_heap.specs.Sound.{Valid}
 use Rattle.lmn_bridge.specs.Parts.{PartsAreApart}
-use Rattle.lmn_bridge.proofs.PartLists.{is_port}
 use Rattle.lmn_heap.proofs.Common.{same_port}
+use Rattle.lmn_base.proofs.Numbers.{is_port}
 
 -- from an atom of both the other part is walked back to where the first is entered
 walked_back : (h : Heap) (v : Valid h) (p q other : Port) → link_of h q.0 q.1 ≡ Some other → (Reached (atom_map h) p other.0 → ⊥) →

@@ -13,13 +13,14 @@ use Rattle.lmn_bridge.proofs.Pieces.{atom_at}
 use Rattle.lmn_bridge.proofs.Counting.{times_at, ends_among}
 use Rattle.lmn_bridge.proofs.Forests.{none_of, some_of, once_of, find_in}
 use Rattle.lmn_bridge.proofs.Ports.{port_named}
-use Rattle.lmn_bridge.proofs.PartLists.{IsShut, is_port, all_of_part}
+use Rattle.lmn_bridge.proofs.PartLists.{IsShut, all_of_part}
 use Rattle.lmn_bridge.proofs.GroundParts.{rooted_at, at_among, among_atom, atom_among, occurs_beside}
 use Rattle.lmn_base.proofs.Lists.{weigh}
 use Rattle.lmn_heap.proofs.Common.{same_port, decide_in}
 use Rattle.lmn_heap.proofs.Replacing.{port_within}
 use Rattle.lmn_base.specs.Lists.{In}
 use Rattle.std.specs.List.{AllByRecursion}
+use Rattle.lmn_base.proofs.Numbers.{is_port}
 
 module _ (h : Heap) (r : HeapReading) (v : Valid h) (naming : IsNaming h r.name) (root q : ℕ × ℕ) (link : link_of h root.0 root.1 ≡ Some q)
     (x : ℕ) (xs : List ℕ) (once : Distinct (x ∷ xs)) (atoms : AllByRecursion (IsAtom h) (x ∷ xs)) (away : In q.0 (x ∷ xs) → ⊥) (ground : IsGround (rooted_at h r root x xs)) where

@@ -10,6 +10,7 @@ use Rattle.lmn_heap.proofs.Listing.{alter_at, alter_away}
 use Rattle.lmn_cells.specs.CellIds.{IsLink, led_by}
 use Rattle.lmn_base.proofs.Numbers.{not_equal}
 use Rattle.lmn_cells.proofs.CellWords.{link_at, number_at, past_links, set_link_at, set_number_at, set_past_links, cell_back, ports_at, set_ports_at, port_word_at, set_to_at, set_port_at, set_mark_at}
+use Rattle.lmn_base.proofs.Truth.{if_no}
 
 -- a cell that is there, with its words
 pub record Found (rows : List Row) (b : ℕ) : Type 0 where
@@ -122,11 +123,6 @@ low_port rows b j laid there low = let f = found rows b laid there in let few = 
 pub if_yes : {X : Type 0} (t : Bool) (x y : X) → t ≡ true → (if t then x else y) ≡ x
 if_yes true x y e = refl
 if_yes false x y e = absurd cc
-
--- a choice whose test is false
-pub if_no : {X : Type 0} (t : Bool) (x y : X) → t ≡ false → (if t then x else y) ≡ y
-if_no true x y e = absurd cc
-if_no false x y e = refl
 
 -- the words that a block was given
 pub items_same : (rs : List Row) (b : ℕ) (is : List Item) → 0 < length (items_in rs b) → items_in (with_items b is rs) b ≡ is

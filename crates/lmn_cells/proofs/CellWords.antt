@@ -2,11 +2,9 @@
 use Rattle.std.proofs.Common.{◌≡◌, ℕ, zero, suc, ◌+◌, ◌*◌, ◌<◌, List, [], ◌∷◌, ◌++◌, length, drop, get_or, set, Option, Some, None, refl, subst, ap, ◌∙◌, arith}
 use Rattle.lmn_cells.specs.Rows.{Item, blank, number}
 use Rattle.lmn_cells.specs.Cells.{HeldPort, HeldCell, link_to, link_items, number_items, port_items, cell_items, led_to, first_links, first_numbers, ports_by, cell_by, IsShaped, no_port}
+use Rattle.lmn_base.proofs.Numbers.{no_more}
 
 -- Reading
-
-no_more : (k : ℕ) → 0 + k ≡ k
-no_more k = omega arith
 
 one_less : (n k : ℕ) → suc n + k ≡ suc (n + k)
 one_less n k = omega arith

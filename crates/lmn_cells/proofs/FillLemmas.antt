@@ -3,8 +3,9 @@ use Rattle.std.proofs.Common.{◌≡◌, ℕ, zero, suc, ◌+◌, ◌*◌, ◌<�
 use Rattle.std.proofs.lemmas.Bool.{cases_eq, eq-eqb}
 use Rattle.lmn_cells.specs.Rows.{Item, blank, number, Row, row, items_in, with_items}
 use Rattle.lmn_cells.specs.Cells.{link_to, cell_items, blank_cell, blank_links, blank_numbers, blank_ports}
-use Rattle.lmn_cells.proofs.CellRows.{items_same, if_yes, if_no}
+use Rattle.lmn_cells.proofs.CellRows.{items_same, if_yes}
 use Rattle.lmn_base.proofs.Numbers.{not_equal}
+use Rattle.lmn_base.proofs.Truth.{if_no}
 
 -- a row is written twice
 pub with_twice : (rs : List Row) (b : ℕ) (is js : List Item) → with_items b js (with_items b is rs) ≡ with_items b js rs

@@ -9,9 +9,10 @@ use Rattle.lmn_heap.specs.Lists.{Distinct}
 use Rattle.lmn_heap.proofs.ListLemmas.{each_in, each_of, apart}
 use Rattle.lmn_cells.specs.Cells.{HeldCell, links_of, with_link, HaveLinks}
 use Rattle.lmn_cells.specs.Runs.{RunsThrough, HOME, NEXT, PREV, node_in, link_in, Line, IsHome, Apart, with_next, put_before, inserted}
-use Rattle.lmn_cells.proofs.CellRows.{if_yes, if_no}
+use Rattle.lmn_cells.proofs.CellRows.{if_yes}
 use Rattle.lmn_cells.proofs.RunLemmas.{Between, begins, frame, inserts}
 use Rattle.lmn_cells.proofs.LineLemmas.{Found, found_in, before_there, cell_there, still_there, there_next, keeps, count_links, links_next, link_same, link_other, link_above, next_first, next_last, next_keeps, next_at, next_away, home_low, next_low}
+use Rattle.lmn_base.proofs.Truth.{if_no}
 
 -- what stands in a list with one more before a
 pub in_put : (x a z : ℕ) (xs : List ℕ) → In z (put_before x a xs) → (z ≡ x) ⊎ In z xs

@@ -1,5 +1,5 @@
 -- What leaves a list, and what comes to its end.
-use Rattle.std.proofs.Common.{◌≡◌, ◌≢◌, ℕ, ◌+◌, ◌<◌, ◌==◌, Bool, true, false, List, [], ◌∷◌, ◌++◌, length, get_or, Option, Some, None, IsSome, IfSome, if◌then◌else◌, refl, sym, ap, subst, ◌∙◌, inl, inr, arith, get_or-set_same, get_or-set_other, length-set}
+use Rattle.std.proofs.Common.{◌≡◌, ◌≢◌, ℕ, ◌+◌, ◌<◌, ◌==◌, List, [], ◌∷◌, ◌++◌, length, get_or, Option, Some, None, IsSome, IfSome, refl, sym, ap, subst, ◌∙◌, inl, inr, arith, get_or-set_same, get_or-set_other, length-set}
 use Rattle.std.proofs.lemmas.Bool.{cases_eq, eq-eqb}
 use Rattle.std.specs.Option.{option_map}
 use Rattle.std.specs.List.{AllByRecursion}
@@ -10,10 +10,12 @@ use Rattle.lmn_heap.proofs.Listing.{distinct_without, distinct_snoc}
 use Rattle.lmn_cells.specs.Cells.{HeldCell, links_of, with_link, HaveLinks}
 use Rattle.lmn_heap.specs.Heap.{alter}
 use Rattle.lmn_cells.specs.Runs.{RunsThrough, HOME, NEXT, PREV, node_in, link_in, Line, IsHome, Apart, with_next, with_prev, unlinked, appended}
-use Rattle.lmn_cells.proofs.CellRows.{if_yes, if_no}
+use Rattle.lmn_cells.proofs.CellRows.{if_yes}
 use Rattle.lmn_heap.proofs.Listing.{alter_at, alter_away}
 use Rattle.lmn_base.proofs.Numbers.{not_equal}
 use Rattle.lmn_cells.proofs.RunLemmas.{Left, Joined, begins, ends, frame, split, leaves, joins, before_in, after_in}
+use Rattle.lmn_base.proofs.Truth.{if_no}
+use Rattle.lmn_heap.proofs.Common.{in_of_without as in_rest}
 
 -- One change
 
@@ -131,16 +133,6 @@ prev_at f m e n p q s l = subst (λ o. link_in (with_prev f m e o p) q PREV ≡ 
 pub prev_away : (f : ℕ → Option HeldCell) (m e : ℕ) (n p : Option ℕ) (a k : ℕ) → k < e → (k ≡ PREV → n ≢ Some a) → link_in (with_prev f m e n p) a k ≡ link_in f a k
 prev_away f m e None p a k l d = link_below f m (e + 1) p a k (omega (arith, l))
 prev_away f m e (Some q) p a k l d = link_other f q PREV p a k (λ z w. d z (ap Some (sym w)))
-
--- what is left of a list without one of its cells
-in_rest : (x z : ℕ) (xs : List ℕ) → In z (without x xs) → In z xs
-in_rest x z [] j = j
-in_rest x z (y ∷ ys) j = by (y == x) (in_rest x z ys) j
-  where
-    by : (t : Bool) → (In z (without x ys) → In z ys) → In z (if t then ys else y ∷ without x ys) → In z (y ∷ ys)
-    by true rest j = inr j
-    by false rest (inl e) = inl e
-    by false rest (inr j) = inr (rest j)
 
 rest_apart : (x z : ℕ) (xs : List ℕ) → Distinct xs → In z (without x xs) → z ≢ x
 rest_apart x z [] d j = absurd j

@@ -7,8 +7,9 @@ use Rattle.lmn_cells.specs.Cells.{HeldCell, cell_items, cell_by, cells_by, blank
 use Rattle.lmn_heap.specs.Heap.{alter}
 use Rattle.lmn_base.proofs.Numbers.{not_equal}
 use Rattle.lmn_cells.proofs.CellWords.{cell_back}
-use Rattle.lmn_cells.proofs.CellRows.{found, if_yes, if_no, word_count}
+use Rattle.lmn_cells.proofs.CellRows.{found, if_yes, word_count}
 use Rattle.lmn_heap.proofs.Listing.{alter_at, alter_away}
+use Rattle.lmn_base.proofs.Truth.{if_no}
 
 blank_shaped : (p : ℕ) → p < 2 ^ 16 → IsShaped (blank_cell p)
 blank_shaped p few = record { links = refl; numbers = refl; few = subst (λ n. n < 2 ^ 16) (sym (length-replicate p no_port)) few }

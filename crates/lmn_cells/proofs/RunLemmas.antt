@@ -5,6 +5,7 @@ use Rattle.lmn_base.specs.Lists.{In}
 use Rattle.lmn_heap.specs.Lists.{Distinct}
 use Rattle.lmn_heap.proofs.ListLemmas.{each_in, each_of, apart, in_left, in_right, distinct_left, distinct_right}
 use Rattle.lmn_cells.specs.Runs.{Node, RunsThrough}
+use Rattle.lmn_base.proofs.Lists.{some_in}
 
 -- a run stays one where its nodes stay as they are
 pub frame : (f g : ℕ → Node) (b first : Option ℕ) (xs : List ℕ) (last end : Option ℕ) → AllByRecursion (λ y. g y ≡ f y) xs → RunsThrough f b first xs last end → RunsThrough g b first xs last end
@@ -46,9 +47,6 @@ pub relink_start : (f g : ℕ → Node) (b first : Option ℕ) (y : ℕ) (ys : L
     → g y ≡ record (f y) { prev = new } → AllByRecursion (λ z. g z ≡ f z) ys → RunsThrough g new first (y ∷ ys) last e
 relink_start f g b first y ys last e new r at other =
     (r.0, ap (λ n. n.prev) at, frame f g (Some y) (g y).next ys last e other (subst (λ o. RunsThrough f (Some y) o ys last e) (ap (λ n. n.next) (sym at)) r.2))
-
-some_in : (p : Option ℕ) (u z : ℕ) → p ≡ Some u → z ≢ u → p ≢ Some z
-some_in p u z e differs same = differs (let h : Some z ≡ Some u = sym same ∙ e in cc)
 
 -- what begins a list, where the cell before is none or another
 abbrev pub begins : Option ℕ → Option ℕ → Option ℕ → Option ℕ

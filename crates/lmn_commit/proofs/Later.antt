@@ -21,6 +21,7 @@ use Rattle.lmn_commit.specs.Preparing.{AreAtHome, CanCopy, CanCopyRest, CanCopyR
 use Rattle.lmn_commit.proofs.Owning.{of_handles, keep_same}
 use Rattle.lmn_commit.proofs.RestOf.{rest_beside}
 use Rattle.lmn_commit.proofs.Waiting.{none_there, reached, reached_later}
+use Rattle.lmn_heap.proofs.Common.{listed_atom}
 
 -- what stands in a membrane that doesn't wait
 kept_mem : (k : ℕ) (o p : Option HeapMem) → option_and_then mem_unless_waiting o ≡ option_map (mem_with_spare k) p → IsSome p → (atoms_by o ≡ atoms_by p) × (mems_by o ≡ mems_by p)
@@ -42,14 +43,6 @@ listed_mem : (s : Heap) → Listed s → (m n : ℕ) → In n (mems_in s m) → 
 listed_mem s listed m n i = by (s.mems n) ((listed.mems m n).0 i)
   where
     by : (o : Option HeapMem) → option_map (λ x. x.place) o ≡ Some (within m) → IsSome o
-    by None e = absurd (cc)
-    by (Some x) e = refl
-
--- or an atom
-listed_atom : (s : Heap) → Listed s → (m a : ℕ) → In a (atoms_in s m) → IsAtom s a
-listed_atom s listed m a i = by (s.atoms a) ((listed.atoms m a).0 i)
-  where
-    by : (o : Option HeapAtom) → option_map (λ x. x.place) o ≡ Some (within m) → IsSome o
     by None e = absurd (cc)
     by (Some x) e = refl
 

@@ -1,5 +1,5 @@
 -- A rest is copied while own marks are set: making and joining don't see them.
-use Rattle.std.proofs.Common.{◌≡◌, ℕ, zero, suc, List, [], ◌∷◌, ◌++◌, length, Option, Some, None, sym, refl, ap, subst, ◌∙◌, inl, inr}
+use Rattle.std.proofs.Common.{◌≡◌, ℕ, zero, suc, List, [], ◌∷◌, ◌++◌, Option, Some, None, sym, refl, ap, subst, ◌∙◌, inl, inr}
 use Rattle.std.proofs.lemmas.Bool.{cases_eq}
 use Rattle.std.proofs.lemmas.List.{length-set}
 use Rattle.std.specs.Option.{option_map}
@@ -9,12 +9,13 @@ use Rattle.lmn_heap.specs.Heap.{Heap, HeapAtom, alter, with_link, with_mark, new
 use Rattle.lmn_heap.specs.Splice.{joined_to}
 use Rattle.lmn_heap.proofs.Listing.{alter_at, alter_away}
 use Rattle.lmn_ground.specs.Marks.{paint_at}
-use Rattle.lmn_ground.proofs.PaintedAt.{paint_functor, paint_links, map_painted}
+use Rattle.lmn_ground.proofs.PaintedAt.{paint_functor, map_painted}
 use Rattle.lmn_commit.specs.OwnMarks.{own_place, own_painted}
 use Rattle.lmn_parts.specs.Copies.{answer, made_as, made_like, moved, ports_of}
 use Rattle.lmn_parts.specs.Rests.{made_roomy, joined_as, all_joined_as, rest_copied}
 use Rattle.lmn_parts.specs.Walks.{port_range}
 use Rattle.lmn_base.specs.Lists.{In}
+use Rattle.lmn_commit.proofs.Owning.{arity_painted as arity_same}
 
 -- atoms with own marks
 abbrev over : (ℕ → ℕ) → (ℕ → Option HeapAtom) → ℕ → Option HeapAtom
@@ -49,9 +50,6 @@ joined_over v f p q a i b j =
 
 link_same : (s : Heap) (v : ℕ → ℕ) (a i : ℕ) → link_of (own_painted s v) a i ≡ link_of s a i
 link_same s v a i = ap (λ (n : AtomMap). n.partner (a, i)) (map_painted own_place s v)
-
-arity_same : (s : Heap) (v : ℕ → ℕ) (a : ℕ) → arity_of (own_painted s v) a ≡ arity_of s a
-arity_same s v a = ap length (paint_links own_place (v a) (s.atoms a))
 
 joined_painted : (s : Heap) (v : ℕ → ℕ) (a i b j : ℕ) → joined (own_painted s v) a i b j ≡ own_painted (joined s a i b j) v
 joined_painted s v a i b j = ap (λ (f : ℕ → Option HeapAtom). let t : Heap = record s { atoms = f } in t)

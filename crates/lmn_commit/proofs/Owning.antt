@@ -164,9 +164,3 @@ keep_same p q (x ∷ xs) f = by (p x) refl (keep_same p q xs (λ y i. f y (inr i
     by : (t : Bool) → p x ≡ t → keep p xs ≡ keep q xs → keep p (x ∷ xs) ≡ keep q (x ∷ xs)
     by true e k = keep_here p x xs e ∙ (ap (λ ys. x ∷ ys) k ∙ sym (keep_here q x xs (sym (f x (inl refl)) ∙ e)))
     by false e k = keep_past p x xs e ∙ (k ∙ sym (keep_past q x xs (sym (f x (inl refl)) ∙ e)))
-
--- two tests that are true together are the same
-pub test_same : (a b : Bool) → (a ≡ true → b ≡ true) → (b ≡ true → a ≡ true) → a ≡ b
-test_same true b f g = sym (f refl)
-test_same false true f g = g refl
-test_same false false f g = refl

@@ -1,6 +1,6 @@
 -- The atoms of parts in a valid heap, as a list.
-use Rattle.std.proofs.Common.{ℕ, zero, suc, ◌≡◌, ◌≢◌, ◌==◌, ◌<◌, ◌≤◌, ◌⊎◌, Bool, true, false, cond, List, [], ◌∷◌, ◌++◌, length, Option, Some, None, IsSome, refl, sym, ap, subst, ◌∙◌, inl, inr, arith}
-use Rattle.std.proofs.lemmas.Bool.{cases_eq, eq-eqb}
+use Rattle.std.proofs.Common.{ℕ, zero, suc, ◌≡◌, ◌≢◌, ◌<◌, ◌≤◌, ◌⊎◌, List, [], ◌∷◌, ◌++◌, length, Option, Some, None, IsSome, refl, sym, ap, subst, ◌∙◌, inl, inr, arith}
+use Rattle.std.proofs.lemmas.Bool.{cases_eq}
 use Rattle.std.specs.Option.{option_and_then}
 use Rattle.std.specs.Prelude.{◌↔◌, slice_get, slice_index_or}
 use Rattle.lmn_base.specs.Graphs.{Reached, at_root, across}
@@ -12,32 +12,13 @@ use Rattle.lmn_heap.specs.Sound.{Valid, flat}
 use Rattle.lmn_heap.proofs.ListLemmas.{each_in, each_of, in_left, in_right, in_without}
 use Rattle.lmn_heap.proofs.Listing.{home_is}
 use Rattle.lmn_heap.proofs.Replacing.{port_within}
-use Rattle.lmn_heap.proofs.Common.{decide_in}
+use Rattle.lmn_heap.proofs.Common.{decide_in, shorter_without}
 use Rattle.lmn_base.specs.Lists.{In}
 use Rattle.lmn_parts.specs.Rests.{atoms_of_all}
 use Rattle.lmn_ground.proofs.RestLaws.{in_all}
 use Rattle.lmn_commit.specs.Registers.{IsInParts}
 use Rattle.std.specs.List.{AllByRecursion}
-
--- a list without one of its numbers is one shorter
-shorter_without : (a : ℕ) (xs : List ℕ) → In a xs → suc (length (without a xs)) ≡ length xs
-shorter_without a [] i = absurd i
-shorter_without a (x ∷ xs) i = by (x == a) refl i (shorter_without a xs)
-  where
-    by : (t : Bool) → (x == a) ≡ t → In a (x ∷ xs) → (In a xs → suc (length (without a xs)) ≡ length xs) → suc (length (cond t xs (x ∷ without a xs))) ≡ suc (length xs)
-    by true e j later = refl
-    by false e (inl same) later = absurd (let v : true ≡ false = sym (eq-eqb x a same) ∙ e in cc)
-    by false e (inr j) later = ap suc (later j)
-
--- two ports are one or not
-is_port : (a i : ℕ) (root : ℕ × ℕ) → ((a ≡ root.0) × (i ≡ root.1)) ⊎ (◌≢◌ {A = ℕ × ℕ} (a, i) root)
-is_port a i root = elim (cases_eq a root.0) [
-  | inl e ↦ elim (cases_eq i root.1) [
-    | inl f ↦ inl (e, f)
-    | inr d ↦ inr (λ q. d (ap (λ p. p.1) q))
-  ]
-  | inr d ↦ inr (λ q. d (ap (λ p. p.0) q))
-]
+use Rattle.lmn_base.proofs.Numbers.{is_port}
 
 module _ (h : Heap) (root : ℕ × ℕ) where
   -- a port of the list, other than the root, whose partner isn't in the list

@@ -1,9 +1,7 @@
 -- Atoms of the line that are placed in a membrane, one after the other.
-use Rattle.std.proofs.Common.{ℕ, zero, suc, ◌≡◌, ◌<◌, ◌+◌, List, [], ◌∷◌, ◌++◌, map, Option, Some, None, refl, arith, ap, sym, subst, length, drop, ◌∙◌}
+use Rattle.std.proofs.Common.{ℕ, zero, suc, ◌≡◌, ◌<◌, ◌+◌, List, [], ◌∷◌, ◌++◌, map, Some, refl, arith, ap, sym, length, drop, ◌∙◌}
 use Rattle.std.proofs.lemmas.Bool.{eq-eqb}
-use Rattle.std.specs.Option.{option_map}
-use Rattle.lmn_heap.specs.Heap.{Heap, HeapMem, IsTopOrWithin, IsMemInPlace, from, after, placed, mem_with_atoms}
-use Rattle.lmn_heap.proofs.Listing.{alter_keeps}
+use Rattle.lmn_heap.specs.Heap.{Heap, from, after, placed}
 use Rattle.lmn_body.specs.Running.{all_placed}
 use Rattle.lmn_base.proofs.Lists.{head_is}
 
@@ -42,11 +40,3 @@ place_step m a h s t i atoms rest l e first is done =
       ap (λ (u : Heap). u.new_atoms) now ∙ after_first w.0 s.new_atoms (drop (i + 1) atoms ++ rest) left,
       ap (λ u. all_placed u (pairs m (drop (i + 1) atoms))) now ∙ (sym (ap (λ xs. all_placed s (pairs m xs)) w.1) ∙ done),
     )
-
--- membranes stay in place then
-pub still_in_place : (s t : Heap) (m a n : ℕ) → t ≡ placed s m a → IsMemInPlace s n → IsMemInPlace t n
-still_in_place s t m a n e w = subst (λ u. IsMemInPlace u n) (sym e) (subst IsTopOrWithin (sym (alter_keeps s.mems m (option_map (mem_with_atoms (λ xs. xs ++ a ∷ []))) (λ (o : Option HeapMem). option_map (λ x. x.place) o) on n)) w)
-  where
-    on : (o : Option HeapMem) → option_map (λ x. x.place) (option_map (mem_with_atoms (λ xs. xs ++ a ∷ [])) o) ≡ option_map (λ x. x.place) o
-    on None = refl
-    on (Some x) = refl

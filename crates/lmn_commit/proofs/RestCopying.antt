@@ -26,10 +26,11 @@ use Rattle.lmn_commit.specs.Preparing.{AreAtHome, CanCopy, HasClosedRest, OnlyMa
 use Rattle.lmn_commit.proofs.Inside.{whole_same}
 use Rattle.lmn_commit.proofs.Later.{rest_atom}
 use Rattle.lmn_commit.proofs.OwnCopies.{copied_own, made_own, roomy_own}
-use Rattle.lmn_commit.proofs.Owning.{all_at, are_membranes, arity_painted, arity_same, clean_painted, in_all, keep_same, link_same, marked_is, marked_more, mem_painted, none, off_all, port_painted, same_graph, test_same, there_painted}
+use Rattle.lmn_commit.proofs.Owning.{all_at, are_membranes, arity_painted, arity_same, clean_painted, in_all, keep_same, link_same, marked_is, marked_more, mem_painted, none, off_all, port_painted, same_graph, there_painted}
 use Rattle.lmn_commit.proofs.RestMaking.{makes_remains, makes_rest, remains_keeps_mem, rest_keeps_mem, rest_keeps_room, rest_keeps_rules}
 use Rattle.lmn_commit.proofs.RestOf.{kept_has}
 use Rattle.lmn_commit.proofs.Waiting.{makes_nothing, none_there, reached_later, still_copied}
+use Rattle.lmn_base.proofs.Truth.{test_same}
 
 -- The heap s, in which a rest of the membrane m is to be copied, and t, which is s with marks: all of the atoms of the list all.
 module _ {A M : Type 0} (atom : A → ℕ) (membrane : M → ℕ) (s : Heap) (sound : Sound s) (z : Unmarked s) (g : SetRegisters A M) (held : AreHeld atom membrane s g) (can : CanCopy {A = A} {M = M} atom s g) (homes : AreAtHome atom s g.parts)

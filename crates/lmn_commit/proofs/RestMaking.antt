@@ -4,7 +4,7 @@ use Rattle.std.proofs.lemmas.Bool.{cases_eq}
 use Rattle.std.specs.Option.{option_map}
 use Rattle.std.specs.Prelude.{slice_index_or}
 use Rattle.lmn_base.specs.declared.functor.Functor.{Functor}
-use Rattle.lmn_heap.specs.Heap.{Heap, HeapAtom, HeapMem, IsMem, Distinct, new_mem, with_link, mem_with_spare, partners_of, marks_of, mark_of, link_of, functor_of, rules_in, spare_of, spare_by, made_atom, made_mem, reserved}
+use Rattle.lmn_heap.specs.Heap.{Heap, HeapAtom, HeapMem, IsMem, Distinct, new_mem, mem_with_spare, partners_of, marks_of, mark_of, link_of, functor_of, rules_in, spare_of, spare_by, made_atom, made_mem, reserved}
 use Rattle.lmn_heap.specs.Sound.{Paired, Shaped}
 use Rattle.lmn_heap.proofs.Listing.{alter_away}
 use Rattle.lmn_heap.proofs.Common.{decide_in}
@@ -17,6 +17,7 @@ use Rattle.lmn_body.proofs.RestsMade.{brings_rest, joined_lines, roomy_atoms}
 use Rattle.lmn_body.proofs.RestMems.{like_mems, new_on, rest_mems, rest_same_mems, roomy_mems}
 use Rattle.lmn_commit.specs.Preparing.{OnlyMakes}
 use Rattle.lmn_commit.proofs.Waiting.{beside_makes, makes_atom, makes_mem, makes_nothing, makes_on, makes_room}
+use Rattle.lmn_ground.proofs.JoinLaws.{marks_linked}
 
 -- membranes that are made, each with room
 makes_roomy : (rooms : List (ℕ × ℕ)) (s : Heap) → AreNewMembranes s (map (λ e. e.0) rooms) → OnlyMakes s (made_roomy s rooms)
@@ -48,10 +49,6 @@ makes_like (x ∷ xs) [] s w = makes_nothing s
 makes_like (x ∷ xs) (y ∷ ys) s w =
     let t = made_as s y (functor_of s x) in
     makes_on s t (made_like t xs ys) (one_like s y (functor_of s x) (w.1 y (inl refl))) (makes_like xs ys t (as_new s y (functor_of s x) ys w))
-
-marks_linked : (i : ℕ) (p : Option (ℕ × ℕ)) (o : Option HeapAtom) → marks_of (option_map (with_link i p) o) ≡ marks_of o
-marks_linked i p None = refl
-marks_linked i p (Some x) = refl
 
 none_linked : (k : ℕ) (q : ℕ × ℕ) → slice_index_or (partners_of None) k None ≡ Some q → ⊥
 none_linked zero q e = cc

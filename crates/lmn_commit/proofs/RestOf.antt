@@ -18,6 +18,7 @@ use Rattle.lmn_ground.proofs.RestLaws.{keep_here, keep_past}
 use Rattle.lmn_registers.specs.declared.registers.SetRegisters.{SetRegisters}
 use Rattle.lmn_commit.specs.Registers.{IsRestBeside}
 use Rattle.lmn_commit.proofs.PartLists.{parts_told}
+use Rattle.lmn_base.proofs.Truth.{not_true}
 
 -- a tree and those beside it, or these alone
 abbrev chosen : Bool → ℕ → Forest → Forest → Forest
@@ -119,10 +120,6 @@ within_forest s listed f roots c forms i zero q e = subst (λ z. In z (flat f)) 
 within_forest s listed f roots c forms i (suc d) q (p, e, w) = child_inside s f roots forms p q (within_forest s listed f roots c forms i d p w) ((listed.mems p q).1 (parent_place s q p e))
 
 -- Every number has a rest besides registers, that of no membrane is empty.
-
-not_true : (b : Bool) → not b ≡ true → b ≡ false
-not_true true e = absurd (cc)
-not_true false e = refl
 
 empty_rest : (h : Heap) (m : ℕ) (left_atom left_membrane : ℕ → Bool) → h.mems m ≡ None → IsRest h m left_atom left_membrane [] []
 empty_rest h m left_atom left_membrane e = record {

@@ -19,6 +19,7 @@ use Rattle.lmn_base.specs.Levels.{leaves_of}
 use Rattle.lmn_base.specs.Uses.{is_some_place, use_of, has_use}
 use Rattle.lmn_solid.proofs.HeadTrees.{Head, Heads, head, no_head, head_and, head_at, head_leaves, heads_leaves, same_leaves, head_uses, heads_uses, same_uses}
 use Rattle.lmn_base.proofs.Lists.{contains_behind as behind, contains_first as here}
+use Rattle.lmn_guards.proofs.OrderedLemmas.{some_of as there_some}
 
 -- ---- what is found in a list
 
@@ -35,16 +36,6 @@ pub some_there : {X : Type 0} (f : X → List Pos) (xs : List X) (x : X) → Con
 some_there f [] x (k, within, is) e = absurd (omega (arith, within))
 some_there f (y ∷ ys) x (zero, within, is) e = some_left (f y) (flat_map f ys) (subst (λ z. is_some_place (f z) ≡ true) (sym is) e)
 some_there f (y ∷ ys) x (suc k, within, is) e = some_right (f y) (flat_map f ys) (some_there f ys x (k, omega (arith, within), is) e)
-
--- and a place of a list is one of one of it
-pub there_some : {X : Type 0} (f : X → List Pos) (xs : List X) → is_some_place (flat_map f xs) ≡ true → (x : X) × Contains xs x × (is_some_place (f x) ≡ true)
-there_some f [] e = absurd (cc)
-there_some {X} f (x ∷ xs) e = by (f x) refl e (there_some f xs)
-  where
-    by : (ps : List Pos) → f x ≡ ps → is_some_place (ps ++ flat_map f xs) ≡ true → (is_some_place (flat_map f xs) ≡ true → (y : X) × Contains xs y × (is_some_place (f y) ≡ true))
-        → (y : X) × Contains (x ∷ xs) y × (is_some_place (f y) ≡ true)
-    by [] g h later = let r = later h in (r.0, behind x xs r.0 r.1, r.2)
-    by (p ∷ ps) g h later = (x, here x xs, ap is_some_place g)
 
 -- what is in the list of one of a list is in the lists of all
 pub contained : {X Y : Type 0} (f : X → List Y) (xs : List X) (x : X) (y : Y) → Contains xs x → Contains (f x) y → Contains (flat_map f xs) y

@@ -26,7 +26,7 @@ use Rattle.lmn_base.specs.SmallTexts.{at_column, name_a, name_b, name_p, use_at}
 use Rattle.lmn_base.proofs.RowLemmas.{Nowhere}
 
 -- how many there are
-counted : (l : Level-F Level) → number_of_items (roll-Level l) ≡ number_step (map-Level Level ℕ number_of_items l)
+pub counted : (l : Level-F Level) → number_of_items (roll-Level l) ≡ number_step (map-Level Level ℕ number_of_items l)
 counted l = fold-roll-Level ℕ number_step l
 
 -- a head that holds nothing is refused

@@ -27,7 +27,6 @@ use Rattle.lmn_body.proofs.Committing.{in_withouts_of}
 use Rattle.lmn_body.proofs.Finishing.{within_of}
 use Rattle.lmn_body.proofs.Firing.{ns_once, taken_in_place}
 use Rattle.lmn_body.proofs.Contents.{without_none}
-use Rattle.lmn_body.proofs.Drops.{without_both}
 use Rattle.lmn_body.proofs.Growing.{some_there}
 use Rattle.lmn_body.proofs.HeapTies.{SameItems}
 use Rattle.lmn_body.proofs.Held.{Held, HoldsRest}
@@ -42,9 +41,10 @@ use Rattle.lmn_cost.proofs.Sums.{IsAllLeft, making_adds, moved_from, moved_once}
 use Rattle.lmn_base.specs.Graphs.{Port}
 use Rattle.lmn_heap.specs.Lists.{without_all}
 use Rattle.lmn_base.proofs.Lists.{weigh as total, weigh_append, in_either}
-use Rattle.lmn_heap.proofs.Common.{decide_in}
+use Rattle.lmn_heap.proofs.Common.{decide_in, all_more as without_both}
 use Rattle.lmn_heap.proofs.Listing.{listed_mem as listed_some, distinct_without_all}
 use Rattle.lmn_base.specs.Lists.{In}
+use Rattle.lmn_parts.proofs.Common.{keep_all as all_kept}
 
 -- what `finish` leaves of a membrane
 
@@ -79,11 +79,6 @@ was_in x (Some y) i = by y.place refl
 all_atoms : (s : Heap) (ms : List ℕ) (list : ℕ → List ℕ) → ((x : ℕ) → atoms_in s x ≡ list x) → length (atoms_of_all s ms) ≡ total (λ x. length (list x)) ms
 all_atoms s [] list same = refl
 all_atoms s (m ∷ ms) list same = length-append (atoms_in s m) (atoms_of_all s ms) ∙ (λ t. length (same m t) + all_atoms s ms list same t)
-
--- where all of a list is kept, it is that list
-all_kept : (xs : List ℕ) → keep (λ _. true) xs ≡ xs
-all_kept [] = refl
-all_kept (x ∷ xs) = ap (λ zs. x ∷ zs) (all_kept xs)
 
 -- what stands in a membrane, at every depth, is as many atoms as the lists of the membranes have
 content_total : (s : Heap) (m : ℕ) (atoms membranes : List ℕ) (list : ℕ → List ℕ) → IsContent s m atoms membranes → ((x : ℕ) → atoms_in s x ≡ list x) → total (λ x. length (list x)) (m ∷ membranes) ≡ length atoms

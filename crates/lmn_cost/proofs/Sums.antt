@@ -21,7 +21,7 @@ use Rattle.lmn_body.specs.Added.{if_inside, added_atoms, added_mems, added_rules
 use Rattle.lmn_body.specs.RestCopies.{RestCopies, later, rest_membranes, copied_atom, copied_membrane, copied_into, given, AreAsLong}
 use Rattle.lmn_body.specs.Rules.{Goes, closed_rests}
 use Rattle.lmn_body.specs.Within.{left_of_closed}
-use Rattle.lmn_body.proofs.AddedLemmas.{AreWholeRests, in_if, of_map, long_enough}
+use Rattle.lmn_body.proofs.AddedLemmas.{AreWholeRests, in_if, long_enough}
 use Rattle.lmn_body.proofs.MakingParts.{moved_source}
 use Rattle.lmn_body.proofs.RestGrowing.{in_given}
 use Rattle.lmn_machine.specs.Costs.{IsSize, AddsItems, TakesItems, InAll}
@@ -32,6 +32,7 @@ use Rattle.std.proofs.lemmas.Bool.{eq-eqb}
 use Rattle.lmn_base.proofs.Lists.{weigh as total, weigh_append, in_either}
 use Rattle.lmn_base.proofs.Numbers.{not_equal as apart_test}
 use Rattle.lmn_base.specs.Lists.{In}
+use Rattle.lmn_base.proofs.Common.{of_map}
 
 -- one part and then another
 pub both_sums : (P : Instr → ℕ → Type 0) (xs ys : List Instr) (m n : ℕ) → InAll P xs m → InAll P ys n → InAll P (xs ++ ys) (m + n)

@@ -20,6 +20,7 @@ use Rattle.lmn_debug.specs.Laws.{CoursesAreOne, SameOrLacking, StepsAreExact, Wa
 use Rattle.lmn_debug.specs.declared.session.Stop.{Stop}
 use Rattle.lmn_debug.specs.declared.session.Stop.TheVariants as stop
 use Rattle.lmn_debug.proofs.Traces.{goes_on, passes}
+use Rattle.lmn_base.proofs.Numbers.{in_order}
 
 -- a course has one solid at each number
 pub courses_are_one : CoursesAreOne
@@ -46,9 +47,6 @@ irreducible_end e = record { end = irreducible; ends = e; inside = λ d. absurd 
 
 full_end : {g : Course} {t : ℕ} {S : Region} → EndsSo g t S full → HasEnd g t S stop.Full
 full_end e = record { end = full; ends = e; inside = λ d. absurd (cc d); is = refl }
-
-in_order : (n k : ℕ) → (n ≡ k) ⊎ ((n < k) ⊎ (k < n))
-in_order n k = grind arith
 
 module _ (g : Course) (closed : Closed (region_process g.first)) (accepted : AllRules (Throughout Accepted) g.first) where
   -- the next solid is one

@@ -11,21 +11,15 @@ use Rattle.lmn_base.specs.Lists.{In}
 use Rattle.lmn_base.proofs.Lists.{all_of_left, all_of_right}
 use Rattle.lmn_heap.specs.Heap.{Heap, rules_in}
 use Rattle.lmn_heap.specs.Sound.{Forest, bare, mem}
-use Rattle.lmn_congruence.specs.Process.{Closed}
-use Rattle.lmn_congruence.specs.Regions.{Region, region_process}
+use Rattle.lmn_congruence.specs.Regions.{Region}
 use Rattle.lmn_congruence.specs.Rules as tree
 use Rattle.lmn_congruence.specs.Translation.{level_of, level_step, levels, rules}
 use Rattle.lmn_adequacy.specs.Accepted.{Accepted, Throughout, ThroughoutLevel, ThroughoutLevels, ThroughoutRules}
 use Rattle.lmn_adequacy.specs.Embedding.{AllRules, AllRulesIn, EachRule}
 use Rattle.lmn_bridge.specs.HeapRegions.{HeapReading, regions_at}
 use Rattle.lmn_bridge.specs.Premises.{HasRules}
-use Rattle.lmn_bridge.proofs.Wholes.{closed_heap}
 use Rattle.lmn_turn.specs.Commits.{IsTable}
 use Rattle.lmn_schedule.specs.Held.{HoldsRegion, reading_by}
-
--- the process of a solid that a heap holds is closed
-pub closed_held : {names : List tree.Name} {table : List RuleTree} {h : Heap} {S : Region} → HoldsRegion names table h S → Closed (region_process S)
-closed_held {names} {table} {h} {S} held = subst (λ R. Closed (region_process R)) (sym held.is) (closed_heap h (reading_by names table held.number) held.inner held.read held.tree)
 
 -- ---- a rule that stands in another one is smaller
 

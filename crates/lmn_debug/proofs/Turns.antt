@@ -20,10 +20,7 @@ use Rattle.lmn_debug.specs.Courses.{Course, StepsTo, WaitsTo, Wish, Meets, Withi
 use Rattle.lmn_debug.specs.Sessions.{StandsAt, StandsStepped, StandsWaited}
 use Rattle.lmn_debug.specs.Turning.{Refuses, TurnsTo, Waits, WaitsOn, counted}
 use Rattle.lmn_debug.proofs.CountLemmas.{so_once}
-
--- what holds of a number and of a heap holds of equal ones
-pub moved : (P : ℕ → Heap → Type 0) {n n' : ℕ} {h h' : Heap} → n' ≡ n → h' ≡ h → P n h → P n' h'
-moved P {n} {n'} {h} {h'} e d p = subst (λ k. P n' k) (sym d) (subst (λ k. P k h) (sym e) p)
+use Rattle.lmn_heap.proofs.Common.{moved}
 
 -- what holds of a table and of a size holds of equal ones
 pub moved_to : (P : List RuleTree → ℕ → Type 0) {T T' : List RuleTree} {z z' : ℕ} → T ≡ T' → z ≡ z' → P T z → P T' z'

@@ -12,11 +12,12 @@ use Rattle.lmn_script.specs.declared.order.Order.{Order}
 use Rattle.lmn_script.specs.declared.order.Order.TheVariants.{Step, Back, Show}
 use Rattle.lmn_debugging.specs.Examples.{LinesMayFail, MemoryMayLack, OrdersAreWritten}
 use Rattle.lmn_debugging.specs.Orders.{LacksMemory, Obeys, ObeysAll, begun, line_at, obeyed, shown, stepped, waited, went_back}
-use Rattle.lmn_debugging.proofs.OneOutcome.{back_line, last_one}
+use Rattle.lmn_debugging.proofs.OneOutcome.{back_line}
+use Rattle.lmn_base.proofs.Lists.{last_one}
 
 -- ---- one order
 
-none_before : {names : List Name} {g : Course} {xs : List Order} {lines : List (List ℕ)} {t : ℕ} → ObeysAll names g xs lines t → xs ≡ [] → (lines ≡ []) × (t ≡ 0)
+pub none_before : {names : List Name} {g : Course} {xs : List Order} {lines : List (List ℕ)} {t : ℕ} → ObeysAll names g xs lines t → xs ≡ [] → (lines ≡ []) × (t ≡ 0)
 none_before begun e = (refl, refl)
 none_before (obeyed {orders = ys} {order = y} p o) e = let long = ap length e in let more = length-append ys (y ∷ []) in absurd (omega (arith, long, more))
 

@@ -10,7 +10,6 @@ use Rattle.lmn_base.specs.declared.guard.Cmp.{Cmp}
 use Rattle.lmn_base.specs.declared.rule.Plain.{Plain}
 use Rattle.lmn_base.specs.declared.rule.RuleTree.{RuleTree}
 use Rattle.lmn_base.specs.WellMade.{IsWellMade}
-use Rattle.lmn_adequacy.specs.Runs.{loaded}
 use Rattle.lmn_adequacy.proofs.PlainSolids.{solid_of_plain_is_one}
 use Rattle.lmn_congruence.specs.Regions.{Region}
 use Rattle.lmn_congruence.specs.Rules.{Name}
@@ -18,7 +17,6 @@ use Rattle.lmn_congruence.specs.Translation.{region_of}
 use Rattle.lmn_heap.specs.Heap.{Heap}
 use Rattle.lmn_io.specs.Taking.{Takes, TakesPrefix}
 use Rattle.lmn_io.proofs.TakingLemmas.{prefix_after, takes_both, takes_nothing}
-use Rattle.lmn_drive.proofs.Ends.{closed_held}
 use Rattle.lmn_drive.proofs.Lines.{line_held}
 use Rattle.lmn_folded_printer.specs.Lines.{IsHeapLine}
 use Rattle.lmn_runs.proofs.TraceLines.{some_line}
@@ -33,6 +31,7 @@ use Rattle.lmn_debugging.specs.declared.debugging.Halt.{Halt}
 use Rattle.lmn_debugging.specs.declared.debugging.Halt.TheVariants.{NoMemory, Failed}
 use Rattle.lmn_debugging.specs.Obeying.{Halted, HaltedSo, IsRegionOf, Obeyed, ObeyedSo, LineTold}
 use Rattle.lmn_debugging.specs.Orders.{LacksMemory, ObeyedAll, Obeys, ObeysAll, begun, line_at, obeyed, shown, stepped, waited, went_back}
+use Rattle.lmn_schedule.proofs.Common.{closed_held}
 
 -- what holds of a closure, of the rules of a plain and of a size holds of equal ones
 pub moved : {F : Type 0} (Q : F → List RuleTree → ℕ → Type 0) {f f' : F} {p p' : Plain} {n n' : ℕ} → f ≡ f' → p ≡ p' → n ≡ n' → Q f p.rules n → Q f' p'.rules n'
@@ -46,10 +45,6 @@ first_is_one names plain h made held S first =
 
 pub first_held : (names : List Name) (plain : Plain) (h : Heap) → IsWellMade plain → HoldsSolid names plain h → (S : Region) → IsRegionOf names plain S → HoldsRegion names plain.rules h S
 first_held names plain h made held S first = subst (HoldsRegion names plain.rules h) (first_is_one names plain h made held S first) held.holds
-
--- before the first commit it stands at the number 0
-pub stands_first : (names : List Name) (table : List RuleTree) (g : Course) (h : Heap) → HoldsRegion names table h g.first → StandsAt names table g 0 h
-stands_first names table g h held = record { solid = g.first; is = record { before = []; trace = loaded; count = refl }; holds = held }
 
 module _ (names : List Name) (table : List RuleTree) (g : Course) (t : ℕ) where
   -- an order was carried out as its line says, or it lacks memory: what is written of it

@@ -4,7 +4,7 @@ use Rattle.std.specs.List.{concat}
 use Rattle.std.proofs.lemmas.List.{length-append, drop-append-le}
 use Rattle.lmn_adequacy.specs.Runs.{End, irreducible, full, loaded}
 use Rattle.lmn_adequacy.proofs.Runs.{end_is_one}
-use Rattle.lmn_base.proofs.Lists.{all_of_right}
+use Rattle.lmn_base.proofs.Lists.{all_of_right, last_one}
 use Rattle.lmn_congruence.specs.Regions.{Region}
 use Rattle.lmn_congruence.specs.Rules.{Name}
 use Rattle.lmn_folded.specs.Lines.{IsLine}
@@ -16,9 +16,7 @@ use Rattle.lmn_debug.specs.declared.session.Stop.TheVariants as stop
 use Rattle.lmn_debugging.specs.Laws.{BackUndoesStep, OrdersAreOne, OrdersStayInTrace, SolidsAreOne, WritingIsOne}
 use Rattle.lmn_debugging.specs.Orders.{Obeys, ObeysAll, begun, line_at, obeyed, shown, stepped, waited, went_back}
 use Rattle.lmn_debugging.proofs.TraceParts.{BeginsWell, earlier, ended, passed, solid_one}
-
-in_order : (n k : ℕ) → (n ≡ k) ⊎ ((n < k) ⊎ (k < n))
-in_order n k = grind arith
+use Rattle.lmn_base.proofs.Numbers.{in_order}
 
 -- a course has one solid at a number
 pub solids_are_one : SolidsAreOne
@@ -195,20 +193,6 @@ pub orders_are_one : OrdersAreOne
 orders_are_one names g t order line line' t' t'' closed accepted a b = done_one names g t (record { closed = closed; accepted = accepted }) order line line' t' t'' (done a) (done b)
 
 -- ---- orders one behind the other
-
--- two lists that end with an element each
-pub last_one : {A : Type 0} (xs ys : List A) (x y : A) → xs ++ x ∷ [] ≡ ys ++ y ∷ [] → (xs ≡ ys) × (x ≡ y)
-last_one [] [] x y e = (refl, cc)
-last_one [] (b ∷ ys) x y e = let long = ap length e in let more = length-append ys (y ∷ []) in absurd (omega (arith, long, more))
-last_one (a ∷ xs) [] x y e = let long = ap length e in let more = length-append xs (x ∷ []) in absurd (omega (arith, long, more))
-last_one (a ∷ xs) (b ∷ ys) x y e =
-    let head : a ≡ b = cc in
-    let rest : xs ++ x ∷ [] ≡ ys ++ y ∷ [] = cc in
-    let u = last_one xs ys x y rest in
-    (both head u.0, u.1)
-  where
-    both : {A : Type 0} {a b : A} {xs ys : List A} → a ≡ b → xs ≡ ys → a ∷ xs ≡ b ∷ ys
-    both d f = cc
 
 module _ (names : List Name) (g : Course) (well : BeginsWell g) where
   none_or_more : {A : Type 0} (xs : List A) (x : A) → ¬ ([] ≡ xs ++ x ∷ [])

@@ -11,13 +11,9 @@ use Rattle.lmn_adequacy.specs.Embedding.{AllRules}
 use Rattle.lmn_adequacy.specs.Runs.{Chooser, Turn, End, Ends, nothing_embeds, none_allowed, too_many}
 use Rattle.lmn_adequacy.proofs.Numbering.{numbered_one}
 use Rattle.lmn_adequacy.proofs.OneChoice.{next_from_one}
-use Rattle.lmn_bridge.proofs.Wholes.{all_accepted, closed_heap}
+use Rattle.lmn_bridge.proofs.Wholes.{all_accepted}
 use Rattle.lmn_schedule.specs.Held.{HoldsRegion, reading_by}
 use Rattle.lmn_adequacy.proofs.Runs.{embeds_in}
-
--- the process of a solid that a heap holds is closed, and its rules are accepted
-pub closed_held : {names : List Name} {table : List RuleTree} {h : Heap} {S : Region} → HoldsRegion names table h S → Closed (region_process S)
-closed_held {names} {table} {h} {S} held = subst (λ R. Closed (region_process R)) (sym held.is) (closed_heap h (reading_by names table held.number) held.inner held.read held.tree)
 
 -- a heap that holds an accepted region has accepted rules
 pub accepted_held : {names : List Name} {table : List RuleTree} {h : Heap} {S : Region} → HoldsRegion names table h S → AllRules Accepted S

@@ -17,18 +17,15 @@ use Rattle.lmn_drive.specs.declared.driving.Stop.{Stop}
 use Rattle.lmn_drive.specs.declared.driving.Stop.TheVariants as stop
 use Rattle.lmn_drive.specs.Written.{traced}
 use Rattle.lmn_drive.specs.Driving.{RunInput, Ran, EndsSo, GoesOn, text, no_memory, RunEnded, Drove, Going, IsRestOf, IsTracedLineOf, StopsBecause, Stopped, Broke, stop_word, stop_end, rest_of}
-use Rattle.lmn_drive.proofs.Ends.{accepted_held, closed_held, no_end, one_end}
+use Rattle.lmn_drive.proofs.Ends.{accepted_held, no_end, one_end}
 use Rattle.lmn_drive.proofs.Writings.{rest_held, traced_held}
 use Rattle.lmn_drive.proofs.Texts.{all_taken, front_taken, line_begun, line_taken, part_taken}
 use Rattle.lmn_runs.specs.Runs.{end_word}
+use Rattle.lmn_schedule.proofs.Common.{closed_held}
 
 -- what a turn answers at the last solid of a run
 abbrev pub Answers : {g : RunInput} {n : ℕ} {h : Heap} → Ran g n h → Turn → Heap → Type 0
 Answers {g} {n} r a h' = IsTurned g.names g.table g.chooser g.size n r.last a h'
-
--- what holds of so many commits and of a heap holds of equal ones
-pub moved : (P : ℕ → Heap → Type 0) {n n' : ℕ} {h h' : Heap} → n' ≡ n → h' ≡ h → P n h → P n' h'
-moved P {n} {n'} {h} {h'} e d p = subst (λ k. P n' k) (sym d) (subst (λ k. P k h) (sym e) p)
 
 -- with none more it is the same
 pub none_more : (n : ℕ) → n + 0 ≡ n

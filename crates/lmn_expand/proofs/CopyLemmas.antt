@@ -33,6 +33,7 @@ use Rattle.lmn_expand.proofs.EachLemmas.{each_append, each_map}
 use Rattle.lmn_expand.proofs.GrowingLemmas.{in_either, key_more}
 use Rattle.lmn_expand.proofs.ScopeLemmas.{key_new, scope_new}
 use Rattle.lmn_expand.specs.Copies.{Copies, CountsPlaces, Freshens, IsFreshOrSame, NoneFresh, links_of_leaf, links_of_levels, new_link, often}
+use Rattle.lmn_base.proofs.Truth.{test_same as same_test}
 
 min_is : (a b : ℕ) → ((min a b ≡ a) × (a ≤ b)) ⊎ ((min a b ≡ b) × (b ≤ a))
 min_is a b = elim (cases_lt a b) [
@@ -147,12 +148,6 @@ occurs a (b ∷ bs) = if same_link a b then 1 + occurs a bs else occurs a bs
 
 times_is : (a : Link) (bs : List Link) → occurs a bs ≡ times_among a bs
 times_is a bs = is_count_by (occurs a) (same_link a) refl (λ b bs. refl) bs
-
-same_test : (s t : Bool) → (s ≡ true → t ≡ true) → (t ≡ true → s ≡ true) → s ≡ t
-same_test true true f g = refl
-same_test true false f g = sym (f refl)
-same_test false true f g = g refl
-same_test false false f g = refl
 
 test_is : (keys : List Link) (a b : Link) (x y : ℕ) → IsKey keys a x → IsKey keys b y → same_link a b ≡ (x == y)
 test_is keys a b x y h k = same_test (same_link a b) (x == y)

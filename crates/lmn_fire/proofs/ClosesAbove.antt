@@ -1,7 +1,6 @@
 -- Where an accepted rule embeds, each link of its raw process has two places, where the copies have links from any number on that is
 -- above the links of the region and of what stands beside it.
-use Rattle.std.proofs.Common.{ℕ, List, refl, sym, ap, subst, inl, inr, arith, ◌≡◌, ◌≢◌, ◌+◌, ◌≤◌, ◌<◌, ◌⊎◌, [], ◌∙◌}
-use Rattle.lmn_congruence.specs.FreeLinks.{one_if_once}
+use Rattle.std.proofs.Common.{ℕ, List, refl, sym, subst, inl, inr, arith, ◌≡◌, ◌+◌, ◌≤◌, ◌<◌, ◌⊎◌, [], ◌∙◌}
 use Rattle.lmn_congruence.specs.LinkedRules.{level_occurrences}
 use Rattle.lmn_congruence.specs.Process.{Closed, Linked, Process, nothing, occurrences, pair, renamed, together}
 use Rattle.lmn_congruence.specs.Regions.{Region, region_process}
@@ -10,8 +9,7 @@ use Rattle.lmn_congruence.specs.UpToOrder.{Reordered, r_beside, r_chain, r_regro
 use Rattle.lmn_reduction.specs.Assignments.{Assignment}
 use Rattle.lmn_reduction.specs.Firing.{typed_contexts}
 use Rattle.lmn_reduction.specs.Guards.{GuardHolds}
-use Rattle.lmn_reduction.specs.Instances.{IsCopy, LeafInstances, leaf_and, no_leaf, of_atom, of_connector, of_typed}
-use Rattle.lmn_reduction.specs.Parts.{IsGround, Rooted}
+use Rattle.lmn_reduction.specs.Instances.{LeafInstances, leaf_and, no_leaf, of_atom, of_connector, of_typed}
 use Rattle.lmn_congruence.proofs.Counts.{linked_inside, linked_left, linked_right}
 use Rattle.lmn_congruence.proofs.LinkMaps.{closed_linked}
 use Rattle.lmn_congruence.proofs.Renaming.{occurrences_image, occurrences_none}
@@ -20,8 +18,7 @@ use Rattle.lmn_adequacy.specs.Accepted.{Accepted, all_contexts, contexts_in, ope
 use Rattle.lmn_adequacy.specs.Loose.{Plain}
 use Rattle.lmn_adequacy.proofs.Accepting.{accepted_head}
 use Rattle.lmn_adequacy.proofs.Bodies.{Copied, context_places, context_places_shuffle, open_places_append, odd_contexts, odd_not_even, LevelMade}
-use Rattle.lmn_adequacy.proofs.Embedding.{EvenMore, not_one_even}
-use Rattle.lmn_adequacy.proofs.Exposing.{Source, found, missing, source}
+use Rattle.lmn_adequacy.proofs.Embedding.{EvenMore}
 use Rattle.lmn_adequacy.proofs.Heads.{HeadLeaves, HeadLevel, HeadLevels}
 use Rattle.lmn_adequacy.proofs.Images.{image_at_least, no_link_rule_contexts}
 use Rattle.lmn_adequacy.proofs.LiteralHeads.{HeadInstance, HeadInstances, head_and, head_instance, no_head}
@@ -31,21 +28,9 @@ use Rattle.lmn_adequacy.proofs.Wires.{IsEven, at_most_two, even_less, even_zero_
 use Rattle.lmn_splice.specs.Splice.{of_rule, of_solid}
 use Rattle.lmn_congruence.proofs.TranslatedLinks.{no_link_in_rules as no_link_rules}
 use Rattle.lmn_splice.proofs.Fusions.{apart_rule as even_not_odd, solid_once as odd_differs}
+use Rattle.lmn_adequacy.proofs.Closing.{even_closed, odd_copy}
 
 -- ---- the links of the region in an instance of the head
-
-odd_copy : (g : Rooted) (y L : ℕ) (P : Process) → IsGround g → IsCopy g (of_rule y) P → Linked P → IsEven (occurrences (of_solid L) P)
-odd_copy g y L P i c l = go (source c.to g.process (of_solid L))
-  where
-    not_root : (z : ℕ) → c.to z ≡ of_solid L → z ≢ g.root
-    not_root z e f = absurd (even_not_odd y L (sym c.root ∙ ap c.to (sym f) ∙ e))
-
-    go : Source c.to g.process (of_solid L) → IsEven (occurrences (of_solid L) P)
-    go (found z o e) =
-        let n : occurrences (c.to z) (renamed c.to g.process) ≡ occurrences z g.process = occurrences_image c.to z g.process (λ z' o' q. c.one_to_one z' z o' o q) in
-        let m : occurrences (of_solid L) P ≡ occurrences z g.process = ap (occurrences (of_solid L)) c.is ∙ ap (λ k. occurrences k (renamed c.to g.process)) (sym e) ∙ n in
-        not_one_even (occurrences (of_solid L) P) (λ f. not_root z e (i.nothing_else_free z (sym m ∙ f))) (l.at_most_twice (of_solid L))
-    go (missing h) = (0, ap (occurrences (of_solid L)) c.is ∙ occurrences_none c.to (of_solid L) g.process h)
 
 module _ (t : Assignment) (p : Plain t) where
   odd_leaves : (L : ℕ) {ls : List Leaf} {Ps : List Process} → LeafInstances (made t) ls Ps → HeadLeaves t ls → Linked (together Ps) → IsEven (occurrences (of_solid L) (together Ps))
@@ -76,9 +61,6 @@ module _ (t : Assignment) (p : Plain t) where
         record { half = m.half + n.half; is = omega (arith, m.is, n.is, open_places_append t p L (all_contexts k) (contexts_in ks)) }
 
 -- ---- the raw process
-
-even_closed : (h b : ℕ) → (h + b ≡ 0) ⊎ (h + b ≡ 2) → (b + one_if_once h ≡ 0) ⊎ (b + one_if_once h ≡ 2)
-even_closed h b e = grind arith
 
 -- q places in the image of the head, n in the head, w at connectors, b in the body, c of which contexts have
 odd_closed : (L N q n w c b k o h i j : ℕ) → (d : Copied N k L c b) → n ≡ c + (h + h) → n + w ≤ q → q + (i + i) ≡ (n + w) + (j + j)

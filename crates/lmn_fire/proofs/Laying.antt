@@ -10,9 +10,8 @@ use Rattle.lmn_base.proofs.Lists.{drop_get}
 use Rattle.lmn_base.specs.declared.level.CtxUse.{CtxUse}
 use Rattle.lmn_base.specs.declared.level.Level.{Level}
 use Rattle.lmn_body.specs.Flattening.{membrane_named}
-use Rattle.lmn_heap.proofs.Heights.{mem_of_place}
-use Rattle.lmn_heap.specs.Heap.{Heap, IsMem, mems_in, top}
-use Rattle.lmn_heap.specs.Sound.{Forest, Forms, Valid}
+use Rattle.lmn_heap.specs.Heap.{Heap, IsMem, mems_in}
+use Rattle.lmn_heap.specs.Sound.{Forest, Forms}
 use Rattle.lmn_flat.specs.Flats.{heap_of}
 use Rattle.lmn_flat.specs.declared.flat.Flat.{Flat}
 use Rattle.lmn_fire.specs.declared.matched.Match.{Match}
@@ -33,10 +32,6 @@ in_left_by x a xs ys false f (inr j) = inr (f j)
 pub in_left_of : (taken xs : List ℕ) (a : ℕ) → In a (left_of taken xs) → In a xs
 in_left_of taken [] a i = i
 in_left_of taken (x ∷ xs) a i = in_left_by x a xs (left_of taken xs) (is_in taken x) (λ j. in_left_of taken xs a j) i
-
--- the root is there
-pub root_there : (h : Heap) → Valid h → IsMem h h.root
-root_there h v = mem_of_place h h.root top ((v.sound.listed.root h.root).1 refl)
 
 -- the membrane that a name stands for is there
 pub named_there : (h : Heap) → IsMem h 0 → (names : List (ℕ × ℕ)) → AreThere h names → (name : ℕ) → IsMem h (membrane_named names name)

@@ -5,14 +5,14 @@ use Rattle.std.proofs.lemmas.List.{append_assoc, length-append, length-set}
 use Rattle.std.proofs.lemmas.List.Recursion.{is_count_by}
 use Rattle.lmn_base.specs.Links.{EachTwice, Numbers, no_more}
 use Rattle.lmn_base.proofs.Common.{numbers_head}
-use Rattle.lmn_base.proofs.Lists.{get_front, plus_nothing}
+use Rattle.lmn_base.proofs.Lists.{get_front, plus_nothing, get_set}
 use Rattle.lmn_base.proofs.Numbers.{below_or_from, equal_itself, equal_when, same_or_not, unequal, three_ways}
 use Rattle.lmn_flat.specs.declared.tables.FlatAtom.{FlatAtom}
 use Rattle.lmn_flat.specs.declared.tables.Port.{Port}
 use Rattle.lmn_flat.specs.Tables.{no_port}
 use Rattle.lmn_flat.specs.Building.{all_ports_added, links_of_atoms, port_added, ports_added}
 use Rattle.lmn_flat.proofs.Preorder.{get_behind}
-use Rattle.lmn_flat.proofs.Steps.{get_other, get_set, length_two}
+use Rattle.lmn_flat.proofs.Steps.{get_other, length_two}
 
 -- ---- links with their ports, in order
 

@@ -11,7 +11,7 @@ use Rattle.lmn_base.specs.declared.solid.Region.{Region}
 use Rattle.lmn_base.specs.declared.solid.Region.TheFolds.{fold_out-Region}
 use Rattle.lmn_base.specs.declared.solid.Region.TheViews.{out-Region}
 use Rattle.lmn_base.proofs.Common.{numbers_head}
-use Rattle.lmn_base.proofs.Lists.{drop_get, get_below, map_append, plus_nothing}
+use Rattle.lmn_base.proofs.Lists.{drop_get, get_below, map_append, plus_nothing, get_set}
 use Rattle.lmn_base.proofs.Numbers.{equal_itself, same_or_not, unequal}
 use Rattle.lmn_flat.specs.declared.tables.FlatAtom.{FlatAtom}
 use Rattle.lmn_flat.specs.declared.tables.FlatMembrane.{FlatMembrane}
@@ -82,12 +82,6 @@ pub entered_next : (n : ℕ) (rs : List Region) (i : ℕ) (r : Region) → slice
 entered_next n rs i r e = ap (entered n) (drop_get i rs r e)
 
 -- ---- membranes in membranes
-
--- a list with another item, or with two more
-pub get_set : {A : Type 0} (xs : List A) (k : ℕ) (x : A) → k < length xs → slice_get (slice_set xs k x) k ≡ Some x
-get_set [] k x l = absurd (omega (arith, l))
-get_set (y ∷ xs) zero x l = refl
-get_set (y ∷ xs) (suc k) x l = get_set xs k x (omega (arith, l))
 
 pub get_other : {A : Type 0} (xs : List A) (k : ℕ) (x : A) (j : ℕ) → j ≢ k → slice_get (slice_set xs k x) j ≡ slice_get xs j
 get_other [] k x j n = refl

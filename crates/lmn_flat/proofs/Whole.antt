@@ -13,7 +13,7 @@ use Rattle.lmn_base.specs.declared.solid.Region.TheViews.{out-Region}
 use Rattle.lmn_base.specs.Lists.{In}
 use Rattle.lmn_base.specs.Links.{EachTwice, NumbersLinks}
 use Rattle.lmn_base.specs.Solids.{IsSolid, atoms_of_region, connector, links_of_region}
-use Rattle.lmn_base.proofs.Lists.{get_below, get_there}
+use Rattle.lmn_base.proofs.Lists.{get_below, get_there, link_within as linked_below}
 use Rattle.lmn_base.proofs.Numbers.{equal_itself, equal_when, three_ways}
 use Rattle.lmn_base.proofs.Truth.{and_true}
 use Rattle.lmn_heap.specs.Heap.{HeapAtom, HeapMem, Place, top, within, waiting, IsMem, arity_of, atoms_by, atoms_in, functor_of, home_by, link_of, marks_of, mem_place_of, mems_by, mems_in, partners_of, place_of, rules_by, rules_in}
@@ -155,11 +155,6 @@ membrane_in_place : (o : Option FlatMembrane) (m : ℕ) → IsSome (option_map (
 membrane_in_place None m i = absurd (cc i)
 membrane_in_place (Some x) zero i = inl refl
 membrane_in_place (Some x) (suc m) i = inr refl
-
-linked_below : (xs : List (Option (ℕ × ℕ))) (i : ℕ) (p : ℕ × ℕ) → slice_index_or xs i None ≡ Some p → i < length xs
-linked_below [] i p e = absurd (cc e)
-linked_below (x ∷ xs) zero p e = omega arith
-linked_below (x ∷ xs) (suc i) p e = let l = linked_below xs i p e in omega (arith, l)
 
 -- the test of a port
 port_tested : (p : Port) (a i : ℕ) → p ≡ record { atom = a; index = i } → ((p.atom == a) && (p.index == i)) ≡ true

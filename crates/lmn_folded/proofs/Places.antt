@@ -1,13 +1,13 @@
 -- A link that stands at most twice has no third place. So an atom is a child at one port at most, and at a port there is one
 -- child at most.
-use Rattle.std.proofs.Common.{ℕ, zero, suc, ◌≡◌, ◌≢◌, ◌+◌, ◌≤◌, ◌⊎◌, List, [], ◌∷◌, ◌++◌, map, length, slice_get, Some, refl, sym, ap, ◌∙◌, subst, inl, inr, arith}
+use Rattle.std.proofs.Common.{ℕ, zero, suc, ◌≡◌, ◌≢◌, ◌+◌, ◌≤◌, ◌⊎◌, List, [], ◌∷◌, map, length, slice_get, Some, refl, sym, ap, ◌∙◌, subst, inl, inr, arith}
 use Rattle.std.proofs.lemmas.Option.{same_Some}
 use Rattle.lmn_congruence.specs.Links.{places}
 use Rattle.lmn_congruence.specs.Process.{occurrences, together}
 use Rattle.lmn_congruence.specs.Regions.{SolidAtom, atom_process}
 use Rattle.lmn_congruence.proofs.Counts.{one_if_equal, none_if_apart}
 use Rattle.lmn_folded.specs.Folding.{IsChild}
-use Rattle.lmn_base.proofs.Lists.{ends_in_one_way}
+use Rattle.lmn_base.proofs.Lists.{ends_in_one_way, get_end as last_here}
 use Rattle.lmn_base.proofs.Numbers.{same_or_not as same_or_apart}
 
 -- how often a link stands at atoms
@@ -97,10 +97,6 @@ three_places atoms x p k q j r i few a b c d e f =
     other : {m n s t : ℕ} → (m ≢ n) ⊎ (s ≢ t) → (n ≢ m) ⊎ (t ≢ s)
     other (inl d) = inl (λ e. d (sym e))
     other (inr d) = inr (λ e. d (sym e))
-
-last_here : (xs : List ℕ) (x : ℕ) → slice_get (xs ++ x ∷ []) (length xs) ≡ Some x
-last_here [] x = refl
-last_here (y ∷ xs) x = last_here xs x
 
 -- the last link of a child stands at its last port
 pub last_place : {atoms : List SolidAtom} {q p k : ℕ} (c : IsChild atoms q p k) → Place atoms q (length c.first_links) c.last_link

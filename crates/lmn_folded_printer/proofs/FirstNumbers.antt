@@ -9,15 +9,12 @@ use Rattle.lmn_heap.specs.Solid.{IsNaming}
 use Rattle.lmn_printer.proofs.SolidLinks.{numbers_below}
 use Rattle.lmn_heap.proofs.Common.{decide_in, in_map}
 use Rattle.lmn_base.specs.Lists.{In}
+use Rattle.lmn_base.proofs.Common.{map_same as map_agrees}
 
 in_among : (x : ℕ) (xs : List ℕ) → In x xs → Among x xs
 in_among x [] i = absurd i
 in_among x (y ∷ ys) (inl e) = subst (λ z. Among z (y ∷ ys)) e at_head
 in_among x (y ∷ ys) (inr i) = further (in_among x ys i)
-
-map_agrees : (f g : ℕ → ℕ) (xs : List ℕ) → ((x : ℕ) → In x xs → f x ≡ g x) → map f xs ≡ map g xs
-map_agrees f g [] h = refl
-map_agrees f g (x ∷ xs) h = ap (λ y. y ∷ map f xs) (h x (inl refl)) ∙ ap (λ ys. g x ∷ ys) (map_agrees f g xs (λ y i. h y (inr i)))
 
 -- these links
 record First (given : FoldedMembranes) : Type 0 where

@@ -1,6 +1,6 @@
 -- Names in quotes, byte by byte, and texts that are split at their last `/`.
 use Rattle.std.proofs.Common.{◌≡◌, ◌≢◌, ◌<◌, ◌≤◌, ◌+◌, ◌^◌, ℕ, Bool, true, false, if◌then◌else◌, eqb, List, [], ◌∷◌, ◌++◌, length, get_or, drop, take, refl, sym, ap, ◌∙◌, subst, arith, rules, true≢false, ◌↔◌}
-use Rattle.std.specs.Prelude.{codes, Result, Ok, Err, OnOk, IsOk, is_err, Option, Some, None, IfSome}
+use Rattle.std.specs.Prelude.{codes, Result, Ok, Err, OnOk, IsOk, is_err}
 use Rattle.std.specs.List.{flat_map}
 use Rattle.std.specs.Fmt.{decimal}
 use Rattle.std.specs.Str.Parse.{AllDigits}
@@ -146,7 +146,3 @@ no_functor text label arity h e = no_slash_within label (decimal arity) (subst H
 pub pushed : {T E : Type 0} (r : Result T E) {P Q : Type 0} → is_err r ≡ false → OnOk r P → (IsOk r ↔ Q) → P × Q
 pushed (Ok x) e p q = (p, q.0 (search rules))
 pushed (Err y) e p q = absurd (true≢false e)
-
-pub some_weaker : {A : Type 0} (o : Option A) (P Q : A → Type 0) → ((x : A) → P x → Q x) → IfSome o P → IfSome o Q
-some_weaker None P Q h p = tt
-some_weaker (Some x) P Q h p = h x p

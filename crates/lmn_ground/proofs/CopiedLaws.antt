@@ -22,10 +22,10 @@ use Rattle.lmn_parts.proofs.AnswerLaws.{map_answer, answer_here, answer_in, answ
 use Rattle.lmn_ground.proofs.NumberLaws.{begins, numbered_same}
 use Rattle.lmn_ground.proofs.FollowLaws.{walked}
 use Rattle.lmn_ground.proofs.JoinLaws.{like_by, all_view, all_marks, all_copying, all_away, all_joins}
-use Rattle.lmn_ground.proofs.CopyLaws.{length_map, made_away, made_new, made_at, is_not, has_functor, as_there, as_new}
+use Rattle.lmn_ground.proofs.CopyLaws.{length_map, made_away, made_new, made_at, as_there, as_new}
 use Rattle.lmn_ground.proofs.PaintedLaws.{all_painted, ports_painted, made_painted, unmarked_painted}
 use Rattle.lmn_parts.specs.Walks.{port_range, IsPartInDepth, HasPort, Net, net}
-use Rattle.lmn_heap.proofs.Common.{decide_in as in_or_not, no_links, no_port, same_port}
+use Rattle.lmn_heap.proofs.Common.{decide_in as in_or_not, no_links, no_port, same_port, has_functor, is_not}
 use Rattle.lmn_heap.proofs.Replacing.{port_within as link_inside}
 use Rattle.lmn_base.specs.Lists.{In}
 

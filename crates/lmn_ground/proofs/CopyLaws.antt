@@ -14,12 +14,13 @@ use Rattle.lmn_ground.specs.Copies.{unmarked_all, Made, Copying}
 use Rattle.lmn_parts.specs.Copies.{made_as, made_like, joined_like, all_joined, ports_of, AreNew, AllAtoms, answer}
 use Rattle.lmn_parts.proofs.AnswerLaws.{answer_here, answer_on}
 use Rattle.lmn_ground.proofs.NumberLaws.{numbered_low, rest_in}
-use Rattle.lmn_ground.proofs.JoinLaws.{like_some, like_copying, like_numbers, like_arity, all_append, all_copying, all_numbers, all_arity, ports_in, copies_differ}
+use Rattle.lmn_ground.proofs.JoinLaws.{like_some, like_copying, like_numbers, like_arity, all_append, all_copying, all_numbers, all_arity, copies_differ}
 use Rattle.lmn_ground.proofs.SoughtLaws.{same_port}
 use Rattle.lmn_parts.specs.Walks.{port_range, is_port}
-use Rattle.lmn_heap.proofs.Common.{in_at}
+use Rattle.lmn_heap.proofs.Common.{in_at, has_functor, is_not}
 use Rattle.lmn_base.specs.Lists.{In}
 use Rattle.lmn_base.proofs.Lists.{in_snoc}
+use Rattle.lmn_parts.proofs.Common.{as_away, as_here, ports_in}
 
 -- lists
 
@@ -111,32 +112,12 @@ pub made_nil : (s : Heap) (xs : List ℕ) → s ≡ made_like s xs []
 made_nil s [] = refl
 made_nil s (x ∷ xs) = refl
 
-as_away : (s : Heap) (b c : ℕ) (o : Option Functor) → c ≢ b → (made_as s b o).atoms c ≡ s.atoms c
-as_away s b c None d = refl
-as_away s b c (Some f) d = alter_away s.atoms b (λ _. Some (new_atom f)) c d
-
 -- other atoms stay when copies are made
 pub made_away : (s : Heap) (xs ys : List ℕ) (c : ℕ) → (In c ys → ⊥) → (made_like s xs ys).atoms c ≡ s.atoms c
 made_away s [] ys c n = refl
 made_away s (x ∷ xs) [] c n = refl
 made_away s (x ∷ xs) (y ∷ ys) c n =
     made_away (made_as s y (functor_of s x)) xs ys c (λ k. n (inr k)) ∙ as_away s y c (functor_of s x) (λ e. n (inl (sym e)))
-
--- an atom that is there is none that is not
-pub is_not : (s : Heap) (a b : ℕ) → IsAtom s a → s.atoms b ≡ None → a ≢ b
-is_not s a b is none e = by (s.atoms b) (subst (λ (z : ℕ). IsAtom s z) e is) none
-  where
-    by : (o : Option HeapAtom) → IsSome o → o ≡ None → ⊥
-    by None i f = absurd (cc)
-    by (Some h) i f = absurd (cc)
-
--- an atom has a functor
-pub has_functor : (s : Heap) (x : ℕ) → IsAtom s x → (f : Functor) × (functor_of s x ≡ Some f)
-has_functor s x is = by (s.atoms x) is
-  where
-    by : (o : Option HeapAtom) → IsSome o → (f : Functor) × (option_map (λ (h : HeapAtom). h.functor) o ≡ Some f)
-    by None i = absurd (cc)
-    by (Some h) i = (h.functor, refl)
 
 -- what holds of the others when one atom is made
 pub as_there : (s : Heap) (y : ℕ) (o : Option Functor) (xs : List ℕ) → AllAtoms s xs → s.atoms y ≡ None → AllAtoms (made_as s y o) xs
@@ -145,9 +126,6 @@ as_there s y o xs h none x i = subst (λ (q : Option HeapAtom). IsSome q) (sym (
 -- the others are still new when one is made
 pub as_new : (s : Heap) (y : ℕ) (o : Option Functor) (ys : List ℕ) → AreNew s (y ∷ ys) → AreNew (made_as s y o) ys
 as_new s y o ys h = (h.0.1, λ z i. as_away s y z o (λ e. each_in (λ (w : ℕ). y ≢ w) ys z h.0.0 i (sym e)) ∙ h.1 z (inr i))
-
-as_here : (s : Heap) (y : ℕ) (f : Functor) (o : Option Functor) → o ≡ Some f → (made_as s y o).atoms y ≡ Some (new_atom f)
-as_here s y f o e = subst (λ (q : Option Functor). (made_as s y q).atoms y ≡ Some (new_atom f)) (sym e) (alter_at s.atoms y (λ _. Some (new_atom f)))
 
 not_again : (y : ℕ) (ys : List ℕ) → Distinct (y ∷ ys) → In y ys → ⊥
 not_again y ys d i = each_in (λ (w : ℕ). y ≢ w) ys y d.0 i refl

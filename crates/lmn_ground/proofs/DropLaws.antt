@@ -5,7 +5,7 @@ use Rattle.std.specs.Option.{option_map, option_and_then}
 use Rattle.std.specs.Prelude.{IfSome}
 use Rattle.lmn_heap.specs.Heap.{Heap, HeapAtom, HeapMem, gone, home_by, alter, with_place, mem_with_place, mem_with_atoms, mem_with_mems, without, after, from, Distinct, IsMem, home_of, parent_of, atoms_in, mems_in, atoms_by, mems_by, taken, taken_all, taken_mem, atom_out, mem_out}
 use Rattle.lmn_heap.specs.Sound.{Listed}
-use Rattle.lmn_heap.proofs.Common.{decide_in}
+use Rattle.lmn_heap.proofs.Common.{decide_in, from_here}
 use Rattle.lmn_heap.proofs.Listing.{alter_at, home_is, without_first}
 use Rattle.lmn_heap.proofs.Heights.{parent_place}
 use Rattle.lmn_heap.proofs.ListLemmas.{each_in}
@@ -16,7 +16,8 @@ use Rattle.lmn_parts.specs.Rests.{keep, all_mems_taken, rest_taken}
 use Rattle.lmn_parts.proofs.AnswerLaws.{is_in_true}
 use Rattle.lmn_ground.proofs.PaintLaws.{in_is}
 use Rattle.lmn_ground.proofs.TakeLaws.{home_away}
-use Rattle.lmn_ground.proofs.RestLaws.{from_here, keep_in}
+use Rattle.lmn_ground.proofs.RestLaws.{keep_in}
+use Rattle.lmn_heap.proofs.Groves.{without_absent as without_out}
 
 -- what is not among these
 abbrev pub but : List ℕ → List ℕ → List ℕ
@@ -83,11 +84,6 @@ but_away D (x ∷ xs) a d =
     by : (t : Bool) → but (a ∷ D) xs ≡ but D xs → (if not t then x ∷ but (a ∷ D) xs else but (a ∷ D) xs) ≡ (if not t then x ∷ but D xs else but D xs)
     by true r = r
     by false r = ap (λ zs. x ∷ zs) r
-
--- a list without what isn't in it
-pub without_out : (a : ℕ) (xs : List ℕ) → (In a xs → ⊥) → without a xs ≡ xs
-without_out a [] d = refl
-without_out a (x ∷ xs) d = rw (apart_test x a (λ q. d (inl q))) (ap (λ zs. x ∷ zs) (without_out a xs (λ i. d (inr i))))
 
 -- one more is taken
 pub but_more : (D xs : List ℕ) (a : ℕ) → Distinct xs → but (a ∷ D) xs ≡ without a (but D xs)

@@ -16,11 +16,7 @@ use Rattle.lmn_parts.specs.Rests.{IsContent, atoms_of_all, keep, rest_taken}
 use Rattle.lmn_ground.specs.Rests.{IsLeft}
 use Rattle.lmn_ground.proofs.RestLaws.{all_in, atoms_once, in_all, keep_distinct, keep_in, rest_found, rest_is}
 use Rattle.lmn_ground.proofs.DropLaws.{all_dropped, atoms_left, but, but_in, but_nothing, but_out, dropped, dropped_none, mem_taken_dropped, mems_left, onto, onto_either, onto_first, onto_second, parent_gone, parent_left, rest_dropped, same_dropped, still_mem}
-
--- everything is kept
-pub keep_all : (xs : List ℕ) → keep (λ _. true) xs ≡ xs
-keep_all [] = refl
-keep_all (x ∷ xs) = ap (λ zs. x ∷ zs) (keep_all xs)
+use Rattle.lmn_parts.proofs.Common.{keep_all}
 
 -- a membrane of a list is in the forest of the list
 pub top_in : (s : Heap) (f : Forest) (ls : List ℕ) (k : ℕ) → Forms s f ls → In k ls → In k (flat f)

@@ -1,7 +1,6 @@
 -- The copies of ports are joined, one after the other.
-use Rattle.std.proofs.Common.{◌≡◌, ◌≢◌, ◌⊎◌, ℕ, zero, suc, ◌+◌, ◌<◌, Bool, true, false, cond, List, [], ◌∷◌, ◌++◌, length, Option, Some, None, IsSome, refl, sym, ap, subst, ◌∙◌, inl, inr, arith}
+use Rattle.std.proofs.Common.{◌≡◌, ◌≢◌, ◌⊎◌, ℕ, ◌+◌, ◌<◌, Bool, true, false, cond, List, [], ◌∷◌, ◌++◌, length, Option, Some, None, IsSome, refl, sym, ap, subst, ◌∙◌, inl, inr, arith}
 use Rattle.std.proofs.lemmas.Bool.{cases_eq}
-use Rattle.std.proofs.lemmas.List.{length-set}
 use Rattle.std.specs.Option.{option_map}
 use Rattle.std.specs.Prelude.{slice_index_or}
 use Rattle.lmn_heap.specs.Heap.{Heap, HeapAtom, with_link, partners_of, marks_of, mark_of, link_of, arity_of, linked, cleared, joined}
@@ -16,10 +15,10 @@ use Rattle.lmn_parts.proofs.AnswerLaws.{answer_in, answer_one}
 use Rattle.lmn_ground.proofs.SoughtLaws.{same_port as is_root_port}
 use Rattle.lmn_ground.proofs.SpreadLaws.{not_root}
 use Rattle.lmn_ground.proofs.NumberLaws.{numbered_same}
-use Rattle.lmn_parts.specs.Walks.{port_range, HasPort, is_port}
+use Rattle.lmn_parts.specs.Walks.{HasPort, is_port}
 use Rattle.lmn_heap.proofs.Replacing.{port_within as link_inside}
 use Rattle.lmn_base.specs.Lists.{In}
-use Rattle.lmn_heap.proofs.Common.{same_port as same_pair}
+use Rattle.lmn_heap.proofs.Common.{same_port as same_pair, arity_linked}
 
 -- what joining leaves as it is
 module _ {X : Type 0} (view : Option HeapAtom → X) (h : (i : ℕ) (p : Option (ℕ × ℕ)) (o : Option HeapAtom) → view (option_map (with_link i p) o) ≡ view o) where
@@ -222,11 +221,6 @@ marks_linked i p (Some x) = refl
 pub all_marks : (f : ℕ → ℕ) (root : ℕ × ℕ) (s : Heap) (ps : List (ℕ × ℕ)) (c k : ℕ) → mark_of (all_joined f root s ps) c k ≡ mark_of s c k
 all_marks f root s ps c k = ap (λ (xs : List ℕ). slice_index_or xs k 0) (all_view marks_of marks_linked f root s ps c)
 
--- an atom keeps its arity
-pub arity_linked : (i : ℕ) (p : Option (ℕ × ℕ)) (o : Option HeapAtom) → length (partners_of (option_map (with_link i p) o)) ≡ length (partners_of o)
-arity_linked i p None = refl
-arity_linked i p (Some x) = length-set x.links i p
-
 -- and so do all
 pub all_arity : (f : ℕ → ℕ) (root : ℕ × ℕ) (s : Heap) (ps : List (ℕ × ℕ)) (c : ℕ) → arity_of (all_joined f root s ps) c ≡ arity_of s c
 all_arity f root s ps c = all_view (λ (o : Option HeapAtom). length (partners_of o)) arity_linked f root s ps c
@@ -274,9 +268,3 @@ module _ (root : ℕ × ℕ) (xs ys : List ℕ) where
   all_joins s (p ∷ ps) t h a i (inr k) d is =
       all_joins (joined_like (answer xs ys) root s p) ps (like_copying s root xs ys t p.0 p.1 (h p (inl refl))) (λ q m. h q (inr m)) a i k d
       (subst (λ (o : Option (ℕ × ℕ)). IsSome o) (sym (ap (λ (o : Option HeapAtom). slice_index_or (partners_of o) i None) (like_away s root xs ys t p.0 p.1 (h p (inl refl)) a (t.apart a (h (a, i) (inr k)))))) is)
-
--- the ports of an atom of a list are of the list
-pub ports_in : (xs : List ℕ) (a i n : ℕ) → In a xs → (p : ℕ × ℕ) → HasPort p (port_range a i n) → In p.0 xs
-ports_in xs a i zero a_in p k = absurd k
-ports_in xs a i (suc n) a_in p (inl e) = subst (λ (q : ℕ × ℕ). In q.0 xs) e a_in
-ports_in xs a i (suc n) a_in p (inr k) = ports_in xs a (i + 1) n a_in p k

@@ -2,7 +2,6 @@
 use Rattle.std.proofs.Common.{◌≡◌, ◌≢◌, ℕ, ◌+◌, ◌≤◌, ◌^◌, List, [], ◌∷◌, length, map, true, false, Bool, Option, Some, None, refl, sym, ap, ◌∙◌, inl, inr, arith, if◌then◌else◌, ◌==◌}
 use Rattle.std.specs.Prelude.{sum}
 use Rattle.std.proofs.lemmas.Bool.{eq-eqb, eqb-true}
-use Rattle.std.proofs.lemmas.List.Sums.{sum-map, sum_by-cons}
 use Rattle.lmn_heap.specs.Heap.{Heap, Distinct, after, from, without, rules_in}
 use Rattle.lmn_heap.specs.Sound.{AtMost, Sound}
 use Rattle.lmn_heap.proofs.ListLemmas.{each_in, in_without}
@@ -11,9 +10,7 @@ use Rattle.lmn_base.specs.Lists.{In}
 use Rattle.lmn_ground.specs.Rests.{IsLeft}
 use Rattle.lmn_ground.proofs.RestLaws.{atoms_once}
 use Rattle.lmn_ground.proofs.GatherRestLaws.{rest_atom, rest_member}
-
-sum_cons : (f : ℕ → ℕ) (x : ℕ) (xs : List ℕ) → sum (map f (x ∷ xs)) ≡ f x + sum (map f xs)
-sum_cons f x xs = sum-map f (x ∷ xs) ∙ sum_by-cons f x xs ∙ ap (λ n. f x + n) (sym (sum-map f xs))
+use Rattle.lmn_base.proofs.Lists.{sum_cons}
 
 -- a list weighs what one of its elements does and what the others do
 weight_without : (f : ℕ → ℕ) (x : ℕ) (ys : List ℕ) → In x ys → sum (map f ys) ≡ f x + sum (map f (without x ys))

@@ -69,7 +69,7 @@ pub owned_snoc : (v : ℕ) (xs : List ℕ) (b : ℕ) (s : Heap) → own_marked v
 owned_snoc v [] b s = refl
 owned_snoc v (x ∷ xs) b s = owned_snoc v xs b (owned s x v)
 
-reached_same : (m n : AtomMap) (root : ℕ × ℕ) → ((c l : ℕ) → m.partner (c, l) ≡ n.partner (c, l)) → (x : ℕ) → Reached m root x → Reached n root x
+pub reached_same : (m n : AtomMap) (root : ℕ × ℕ) → ((c l : ℕ) → m.partner (c, l) ≡ n.partner (c, l)) → (x : ℕ) → Reached m root x → Reached n root x
 reached_same m n root h x at_root = at_root
 reached_same m n root h x (across {a = a} {i = i} r d e) = across (reached_same m n root h a r) d (sym (h a i) ∙ e)
 

@@ -1,5 +1,5 @@
 -- Copies of atoms that no link leaves.
-use Rattle.std.proofs.Common.{◌≡◌, ◌⊎◌, ℕ, zero, suc, ◌+◌, ◌<◌, false, List, [], ◌∷◌, ◌++◌, length, Option, Some, None, IsSome, refl, sym, ap, subst, ◌∙◌, inl, inr, arith}
+use Rattle.std.proofs.Common.{◌≡◌, ℕ, zero, suc, ◌+◌, ◌<◌, false, List, [], ◌∷◌, length, Option, Some, None, IsSome, refl, sym, ap, subst, ◌∙◌, inl, inr, arith}
 use Rattle.std.specs.Option.{option_map}
 use Rattle.std.specs.Prelude.{slice_index_or, OnOk, OnErr, Result, Ok, Err}
 use Rattle.std.proofs.lemmas.List.{length-replicate}
@@ -14,12 +14,14 @@ use Rattle.lmn_parts.proofs.AnswerLaws.{answer_in}
 use Rattle.lmn_ground.specs.Copies.{Copying, Made, NumbersAtoms, unmarked_all}
 use Rattle.lmn_ground.specs.Marks.{first_marks, painted}
 use Rattle.lmn_ground.specs.Spread.{Numbered}
-use Rattle.lmn_ground.proofs.CopyLaws.{has_functor, is_not, made_at, made_away, made_new, other_port}
+use Rattle.lmn_ground.proofs.CopyLaws.{made_at, made_away, made_new, other_port}
 use Rattle.lmn_ground.proofs.CopiedLaws.{link_at, made_is, numbers_net, old_marks, ports_of_in}
 use Rattle.lmn_ground.proofs.JoinLaws.{all_copying, all_marks}
 use Rattle.lmn_ground.proofs.NumberLaws.{numbered_same}
 use Rattle.lmn_ground.proofs.PaintedLaws.{all_painted, ports_painted, unmarked_painted}
 use Rattle.lmn_ground.proofs.PaintLaws.{net_painted}
+use Rattle.lmn_heap.proofs.Common.{has_functor, is_not}
+use Rattle.lmn_parts.proofs.Common.{either_port}
 
 -- Joining with a root that is no port is joining without one.
 
@@ -27,11 +29,6 @@ range_small : (a i n : ℕ) (p : ℕ × ℕ) → HasPort p (port_range a i n) �
 range_small a i zero p h = absurd h
 range_small a i (suc n) p (inl e) = (sym (ap (λ (q : ℕ × ℕ). q.0) e), subst (λ z. z < i + suc n) (ap (λ (q : ℕ × ℕ). q.1) e) (omega arith))
 range_small a i (suc n) p (inr h) = let w = range_small a (i + 1) n p h in let l = w.1 in (w.0, omega (arith, l))
-
-either_port : (a i n : ℕ) (ps : List (ℕ × ℕ)) (p : ℕ × ℕ) → HasPort p (port_range a i n ++ ps) → HasPort p (port_range a i n) ⊎ HasPort p ps
-either_port a i zero ps p h = inr h
-either_port a i (suc n) ps p (inl e) = inl (inl e)
-either_port a i (suc n) ps p (inr h) = elim (either_port a (i + 1) n ps p h) [ inl k ↦ inl (inr k) | inr k ↦ inr k ]
 
 ports_small : (s : Heap) (xs : List ℕ) (p : ℕ × ℕ) → HasPort p (ports_of s xs) → p.1 < arity_of s p.0
 ports_small s [] p h = absurd h

@@ -1,6 +1,5 @@
 -- The order of a rest: what comes next.
-use Rattle.std.proofs.Common.{◌≡◌, ◌≢◌, ◌⊎◌, ℕ, zero, suc, ◌<◌, ◌≤◌, ◌-◌, ◌^◌, not, List, [], ◌∷◌, ◌++◌, length, true, false, Bool, Option, Some, None, refl, sym, ap, subst, ◌∙◌, inl, inr, arith, if◌then◌else◌}
-use Rattle.std.proofs.lemmas.Bool.{eq-eqb}
+use Rattle.std.proofs.Common.{◌≡◌, ◌≢◌, ◌⊎◌, ℕ, ◌<◌, ◌-◌, ◌^◌, not, List, [], ◌∷◌, ◌++◌, length, true, false, Bool, Option, Some, None, refl, sym, ap, subst, ◌∙◌, inl, inr, arith, if◌then◌else◌}
 use Rattle.std.proofs.lemmas.List.{append_assoc, length-append}
 use Rattle.std.specs.Option.{option_map}
 use Rattle.std.specs.Prelude.{IfSome}
@@ -10,7 +9,7 @@ use Rattle.lmn_heap.specs.Trees.{forest_of}
 use Rattle.lmn_heap.proofs.Trees.{At, Left, Round, Inside, around, after_at, after_split, find_at, from_next, in_here, next_in, parent_by, mem_by, split_at, tail_of}
 use Rattle.lmn_heap.proofs.ListLemmas.{each_in, in_left, in_right, in_split}
 use Rattle.lmn_heap.proofs.Listing.{home_is}
-use Rattle.lmn_heap.proofs.Depths.{both_distinct}
+use Rattle.lmn_heap.proofs.Depths.{both_distinct, forest_is as forest_found}
 use Rattle.lmn_heap.proofs.Pigeonholes.{not_longer}
 use Rattle.lmn_base.specs.Lists.{In}
 use Rattle.lmn_base.proofs.Lists.{in_either, plus_nothing}
@@ -18,6 +17,7 @@ use Rattle.std.specs.List.{AllByRecursion}
 use Rattle.lmn_parts.specs.Rests.{IsRest, atoms_of_all, keep}
 use Rattle.lmn_parts.specs.Walks.{is_in}
 use Rattle.lmn_ground.specs.Rests.{IsLeft}
+use Rattle.lmn_heap.proofs.Common.{from_here}
 
 -- what is kept of a list is in it, and once
 pub keep_in : (p : ℕ → Bool) (xs : List ℕ) (x : ℕ) → In x (keep p xs) → In x xs
@@ -45,10 +45,6 @@ keep_append p (x ∷ xs) ys = by (p x) (keep_append p xs ys)
         → (if t then x ∷ keep p (xs ++ ys) else keep p (xs ++ ys)) ≡ (if t then x ∷ keep p xs else keep p xs) ++ keep p ys
     by true r = ap (λ zs. x ∷ zs) r
     by false r = r
-
--- the first that is kept is the first of what is kept
-pub from_here : (x : ℕ) (xs : List ℕ) → from (Some x) (x ∷ xs) ≡ x ∷ xs
-from_here x xs = rw (eq-eqb x x refl) refl
 
 -- nothing is kept twice
 pub keep_distinct : (p : ℕ → Bool) (ys : List ℕ) → Distinct ys → Distinct (keep p ys)
@@ -184,17 +180,6 @@ pub first_flat : (s : Heap) (g : Forest) (ls : List ℕ) (o : Option ℕ) → Fo
 first_flat s g ls None F e = sym (bare_of s g ls F (sym e))
 first_flat s g ls (Some n) F e = let w = first_of_forest s g ls n (after n ls) F (sym e) in
     ap (λ z. from (Some n) z) w.1 ∙ from_here n w.0 ∙ sym w.1
-
--- a forest is found by its list
-forest_found : (s : Heap) (n : ℕ) (f : Forest) (ms : List ℕ) → Forms s f ms → length (flat f) ≤ n → forest_of s n ms ≡ f
-forest_found s zero bare ms F h = refl
-forest_found s (suc n) bare ms F h = ap (forest_of s (suc n)) F
-forest_found s zero (mem k i r) ms F h = absurd (omega arith)
-forest_found s (suc n) (mem k i r) ms F h =
-    let a = length-append (flat i) (flat r) in
-    let x = forest_found s n i (mems_in s k) F.2 (omega (arith, h)) in
-    let y = forest_found s n r F.0 F.3 (omega (arith, h)) in
-    ap (forest_of s (suc n)) F.1 ∙ (λ t. mem k (x t) (y t))
 
 module _ (s : Heap) (sound : Sound s) (m : ℕ) (left_atom left_membrane : ℕ → Bool) where
   abbrev pub tops : List ℕ

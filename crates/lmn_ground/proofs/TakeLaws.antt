@@ -3,7 +3,6 @@ use Rattle.std.proofs.Common.{false, ◌≡◌, ◌≢◌, ℕ, zero, suc, ◌+�
 use Rattle.std.proofs.lemmas.Bool.{cases_eq}
 use Rattle.std.specs.Option.{option_map, option_and_then}
 use Rattle.std.specs.Prelude.{slice_index_or}
-use Rattle.lmn_base.specs.Graphs.{AtomMap, Reached, at_root, across}
 use Rattle.lmn_heap.specs.Graphs.{atom_map}
 use Rattle.lmn_ground.proofs.WipeLaws.{b_reached}
 use Rattle.lmn_heap.specs.Heap.{link_of, Heap, HeapAtom, Distinct, IsAtom, IsInPlace, alter, gone, home_by, with_place, with_mark, partners_of, marks_of, marked, taken, atom_out, arity_of, home_of, taken_all}
@@ -17,6 +16,7 @@ use Rattle.lmn_ground.proofs.PaintedAt.{paint_home}
 use Rattle.lmn_parts.specs.Walks.{neighbour, is_port, Net, net, is_in, Walk, ends}
 use Rattle.lmn_heap.proofs.Common.{decide_in as in_or_not}
 use Rattle.lmn_base.specs.Lists.{In}
+use Rattle.lmn_ground.proofs.OwnLaws.{reached_same}
 
 -- what taking leaves as it is
 kept_by : {X : Type 0} (view : Option HeapAtom → X) → ((o : Option HeapAtom) → view (option_map (with_place gone) o) ≡ view o) → (s : Heap) (b a : ℕ) → view ((taken s b).atoms a) ≡ view (s.atoms a)
@@ -89,10 +89,6 @@ home_marked s a k m b = elim (cases_eq b a) [
     by : (o : Option HeapAtom) → option_and_then (λ (x : HeapAtom). home_by x.place) (option_map (with_mark k m) o) ≡ option_and_then (λ (x : HeapAtom). home_by x.place) o
     by None = refl
     by (Some x) = refl
-
-reached_same : (m n : AtomMap) (root : ℕ × ℕ) → ((c l : ℕ) → m.partner (c, l) ≡ n.partner (c, l)) → (x : ℕ) → Reached m root x → Reached n root x
-reached_same m n root h x at_root = at_root
-reached_same m n root h x (across {a = a} {i = i} r d e) = across (reached_same m n root h a r) d (sym (h a i) ∙ e)
 
 -- The walk doesn't see that an atom is taken.
 pub wiping_taken : (before now : Heap) (root : ℕ × ℕ) (seen met : List ℕ) (depth a i left b : ℕ) → Wiping before now root seen met depth a i left

@@ -9,8 +9,10 @@ use Rattle.lmn_heap.proofs.Trees.{Left, tail_of}
 use Rattle.lmn_base.specs.Lists.{In}
 use Rattle.lmn_parts.specs.Rests.{IsContent, keep}
 use Rattle.lmn_ground.specs.Rests.{AreTwins}
-use Rattle.lmn_ground.proofs.RestLaws.{bare_of, begins, climbs, enters, first_of_rest, found, found_top, from_here}
-use Rattle.lmn_ground.proofs.DroppingLaws.{after_inner, after_top, all_once, behind_few, child_behind, child_in, found_is, keep_all, less_behind, round_of}
+use Rattle.lmn_ground.proofs.RestLaws.{bare_of, begins, climbs, enters, first_of_rest, found, found_top}
+use Rattle.lmn_ground.proofs.DroppingLaws.{after_inner, after_top, all_once, behind_few, child_behind, child_in, found_is, less_behind, round_of}
+use Rattle.lmn_heap.proofs.Common.{from_here}
+use Rattle.lmn_parts.proofs.Common.{keep_all}
 
 -- a membrane has one content
 pub content_one : (s : Heap) → Sound s → AtMost (2 ^ 48) s → (m : ℕ) (xs ms ys ns : List ℕ) → IsContent s m xs ms → IsContent s m ys ns → ms ≡ ns

@@ -54,7 +54,7 @@ all_without ([] ∷ lists) h = all_without lists (λ ps w. h ps (contains_behind
 all_without ((p ∷ ps) ∷ lists) h = let e = h (p ∷ ps) (contains_first (p ∷ ps) lists) in absurd (cc)
 
 -- where some place is there, an item has it
-some_of : {X : Type 0} (f : X → List Pos) (xs : List X) → is_some_place (flat_map f xs) ≡ true → (x : X) × Contains xs x × (is_some_place (f x) ≡ true)
+pub some_of : {X : Type 0} (f : X → List Pos) (xs : List X) → is_some_place (flat_map f xs) ≡ true → (x : X) × Contains xs x × (is_some_place (f x) ≡ true)
 some_of f [] e = absurd (cc)
 some_of f (x ∷ xs) e = by (f x) refl (some_of f xs)
   where

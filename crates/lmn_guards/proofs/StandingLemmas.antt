@@ -21,7 +21,7 @@ use Rattle.lmn_base.specs.Items.{expression_items, expression_items_step}
 use Rattle.lmn_base.specs.RuleCodes.{is_left_of, is_too_large, too_large}
 use Rattle.lmn_base.proofs.Numbers.{equal_when}
 use Rattle.lmn_base.proofs.RowLemmas.{Nowhere, no_rows, none_before, none_behind}
-use Rattle.lmn_base.proofs.Truth.{and_true, never_both}
+use Rattle.lmn_base.proofs.Truth.{and_true, never_both, bool_cases as known_or_not}
 use Rattle.lmn_guards.specs.Accepted.{AcceptedExactly}
 use Rattle.lmn_guards.specs.Conditions.{IsKnown, EachKnown, MayStand, AllMayStand}
 use Rattle.lmn_guards.specs.GuardCodes.{in_head, is_bound, is_type, is_of_head, unknown, use_of_none, unbound, has_wrong_operands, condition_place, wrong_operands, rows_of_condition, rows_of_conditions, rows_of_typed}
@@ -78,10 +78,6 @@ one_argument (u ∷ v ∷ args) e = absurd (let h = equal_when (length (u ∷ v 
 or_false : (a b : Bool) → (a || b) ≡ false → (a ≡ false) × (b ≡ false)
 or_false true b e = absurd (cc)
 or_false false b e = (refl, e)
-
-known_or_not : (a : Bool) → (a ≡ true) ⊎ (a ≡ false)
-known_or_not true = inl refl
-known_or_not false = inr refl
 
 not_of : (a b : Bool) → (a && not b) ≡ false → a ≡ true → b ≡ true
 not_of true true e f = refl

@@ -1,15 +1,17 @@
 -- Lemmas that several crates above cite.
-use Rattle.lmn_heap.specs.Heap.{Heap, HeapAtom, home_by, home_of, place_of, within, IsAtom, arity_of, partners_of, IsInPlace, HeapMem, IsMem, IsMemInPlace, IsTopOrWithin, Place, gone, top, waiting, atoms_by, linked, cleared, marks_of, with_link, rules_by, alter, mem_with_atoms, link_of}
-use Rattle.lmn_heap.specs.Lists.{without}
+use Rattle.lmn_base.specs.Lists.{In}
+use Rattle.lmn_base.specs.declared.functor.Functor.{Functor}
+use Rattle.lmn_heap.proofs.Listing.{alter_keeps}
+use Rattle.lmn_heap.specs.Heap.{Heap, HeapAtom, home_by, home_of, place_of, within, IsAtom, arity_of, partners_of, IsInPlace, HeapMem, IsMem, IsMemInPlace, IsTopOrWithin, Place, gone, top, waiting, atoms_by, linked, cleared, marks_of, with_link, rules_by, alter, mem_with_atoms, link_of, functor_of, atoms_in, after, from}
+use Rattle.lmn_heap.specs.Lists.{without, without_all}
 use Rattle.lmn_heap.specs.Solid.{links_from}
-use Rattle.lmn_heap.specs.Sound.{Valid}
-use Rattle.std.proofs.Common.{None, Option, Some, ap, ℕ, ◌≡◌, IsSome, arith, length, refl, ◌<◌, inl, inr, subst, sym, ◌⊎◌, List, [], ◌∷◌, slice_get, suc, zero, Bool, cond, false, true, ◌==◌, ◌+◌, map, replicate}
-use Rattle.std.proofs.lemmas.Bool.{cases_eq}
+use Rattle.lmn_heap.specs.Sound.{Valid, Listed}
+use Rattle.std.proofs.Common.{None, Option, Some, ap, ℕ, ◌≡◌, IsSome, arith, length, refl, ◌<◌, inl, inr, subst, sym, ◌⊎◌, List, [], ◌∷◌, slice_get, suc, zero, Bool, cond, false, true, ◌==◌, ◌+◌, map, replicate, ◌≢◌, ◌++◌, ◌∙◌}
+use Rattle.std.proofs.lemmas.Bool.{cases_eq, eq-eqb}
+use Rattle.std.proofs.lemmas.List.{length-set}
 use Rattle.std.proofs.lemmas.Option.{none-some, same_Some}
 use Rattle.std.specs.Option.{option_and_then, option_map}
-use Rattle.lmn_heap.proofs.Listing.{alter_keeps}
 use Rattle.std.specs.Prelude.{slice_index_or}
-use Rattle.lmn_base.specs.Lists.{In}
 
 -- what stands in a membrane has that for its home
 pub place_home : (s : Heap) (a m : ℕ) → place_of s a ≡ Some (within m) → home_of s a ≡ Some m
@@ -168,3 +170,59 @@ pub position : (xs : List ℕ) (a : ℕ) → In a xs → (q : ℕ) × (slice_get
 position [] a h = absurd h
 position (x ∷ xs) a (inl e) = (zero, ap Some e)
 position (x ∷ xs) a (inr h) = let q = position xs a h in (suc q.0, q.1)
+
+-- an atom that is there isn't one that isn't
+pub is_not : (s : Heap) (a b : ℕ) → IsAtom s a → s.atoms b ≡ None → a ≢ b
+is_not s a b is none e = by (s.atoms b) (subst (λ (z : ℕ). IsAtom s z) e is) none
+  where
+    by : (o : Option HeapAtom) → IsSome o → o ≡ None → ⊥
+    by None i f = absurd (cc)
+    by (Some h) i f = absurd (cc)
+
+-- an atom that is there has a functor
+pub has_functor : (s : Heap) (x : ℕ) → IsAtom s x → (f : Functor) × (functor_of s x ≡ Some f)
+has_functor s x is = by (s.atoms x) is
+  where
+    by : (o : Option HeapAtom) → IsSome o → (f : Functor) × (option_map (λ (h : HeapAtom). h.functor) o ≡ Some f)
+    by None i = absurd (cc)
+    by (Some h) i = (h.functor, refl)
+
+-- what stands in a list of atoms is an atom
+pub listed_atom : (s : Heap) → Listed s → (m a : ℕ) → In a (atoms_in s m) → IsAtom s a
+listed_atom s listed m a i = by (s.atoms a) ((listed.atoms m a).0 i)
+  where
+    by : (o : Option HeapAtom) → option_map (λ x. x.place) o ≡ Some (within m) → IsSome o
+    by None e = absurd (cc)
+    by (Some x) e = refl
+
+-- taking out two lists is taking out one after the other
+pub all_more : (bs cs xs : List ℕ) → without_all (bs ++ cs) xs ≡ without_all cs (without_all bs xs)
+all_more [] cs xs = refl
+all_more (b ∷ bs) cs xs = all_more bs cs (without b xs)
+
+-- without one that stands in it a list is one shorter
+pub shorter_without : (a : ℕ) (xs : List ℕ) → In a xs → suc (length (without a xs)) ≡ length xs
+shorter_without a [] i = absurd i
+shorter_without a (x ∷ xs) i = by (x == a) refl i (shorter_without a xs)
+  where
+    by : (t : Bool) → (x == a) ≡ t → In a (x ∷ xs) → (In a xs → suc (length (without a xs)) ≡ length xs) → suc (length (cond t xs (x ∷ without a xs))) ≡ suc (length xs)
+    by true e j later = refl
+    by false e (inl same) later = absurd (let v : true ≡ false = sym (eq-eqb x a same) ∙ e in cc)
+    by false e (inr j) later = ap suc (later j)
+
+-- behind the first of a list stands the rest
+pub after_first : (a : ℕ) (xs : List ℕ) → after a (a ∷ xs) ≡ xs
+after_first a xs = rw (eq-eqb a a refl) refl
+
+-- from its first on a list is whole
+pub from_here : (x : ℕ) (xs : List ℕ) → from (Some x) (x ∷ xs) ≡ x ∷ xs
+from_here x xs = rw (eq-eqb x x refl) refl
+
+-- a link that is set leaves the arity
+pub arity_linked : (i : ℕ) (p : Option (ℕ × ℕ)) (o : Option HeapAtom) → length (partners_of (option_map (with_link i p) o)) ≡ length (partners_of o)
+arity_linked i p None = refl
+arity_linked i p (Some x) = length-set x.links i p
+
+-- what holds of a number and a heap holds of equal ones
+pub moved : (P : ℕ → Heap → Type 0) {n n' : ℕ} {h h' : Heap} → n' ≡ n → h' ≡ h → P n h → P n' h'
+moved P {n} {n'} {h} {h'} e d p = subst (λ k. P n' k) (sym d) (subst (λ k. P k h) (sym e) p)

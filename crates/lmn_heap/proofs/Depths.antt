@@ -90,7 +90,7 @@ pub tree_once : (s : Heap) → Listed s → (f : Forest) → Forms s f (s.root �
 tree_once s h f F = flat_once s h f (s.root ∷ []) 0 (λ x i. elim i [ inl e ↦ subst (λ z. parent_of s z ≡ None) e (parent_by s s.root top ((h.root s.root).1 refl)) | inr j ↦ absurd j ]) (tt, tt) F
 
 -- A forest is found with as much fuel as it has membranes.
-forest_is : (s : Heap) (n : ℕ) (f : Forest) (ms : List ℕ) → Forms s f ms → length (flat f) ≤ n → forest_of s n ms ≡ f
+pub forest_is : (s : Heap) (n : ℕ) (f : Forest) (ms : List ℕ) → Forms s f ms → length (flat f) ≤ n → forest_of s n ms ≡ f
 forest_is s zero bare ms F h = refl
 forest_is s (suc n) bare ms F h = ap (forest_of s (suc n)) F
 forest_is s zero (mem k i r) ms F h = absurd (omega arith)

@@ -1,7 +1,6 @@
 -- The items of a heap's membranes are those of its solid.
-use Rattle.std.proofs.Common.{◌≡◌, ℕ, ◌+◌, List, [], ◌∷◌, ◌++◌, length, map, Option, Some, None, IsSome, refl, sym, ap, subst, ◌∙◌, inl, inr, arith, length-append}
+use Rattle.std.proofs.Common.{◌≡◌, ℕ, ◌+◌, List, [], ◌∷◌, ◌++◌, length, map, Option, Some, None, IsSome, refl, subst, inl, inr, arith, length-append}
 use Rattle.std.proofs.lemmas.List.{length-map}
-use Rattle.std.proofs.lemmas.List.Sums.{sum-map, sum_by-cons}
 use Rattle.std.specs.Prelude.{sum}
 use Rattle.std.specs.Option.{option_map}
 use Rattle.lmn_base.specs.declared.solid.Region.{Region}
@@ -14,9 +13,7 @@ use Rattle.lmn_heap.specs.Sound.{Forest, bare, mem, flat, item_count_in}
 use Rattle.lmn_heap.specs.Solid.{solid_atom_at, solid_atoms_at, regions_of}
 use Rattle.lmn_heap.specs.Laws.{ItemsOfSolid}
 use Rattle.lmn_base.specs.Lists.{In}
-
-sum_cons : {X : Type 0} (f : X → ℕ) (x : X) (xs : List X) → sum (map f (x ∷ xs)) ≡ f x + sum (map f xs)
-sum_cons f x xs = sum-map f (x ∷ xs) ∙ sum_by-cons f x xs ∙ ap (λ n. f x + n) (sym (sum-map f xs))
+use Rattle.lmn_base.proofs.Lists.{sum_cons}
 
 abbrev count : Region → ℕ
 count = fold-Region ℕ items_step

@@ -5,9 +5,7 @@ use Rattle.lmn_solid.specs.Embeddings.{ListNotAfter, index_of}
 use Rattle.lmn_instr.specs.Running.{HeadRegisters, Succeeds, IsFirstSuccess, choices}
 use Rattle.lmn_instr.specs.Meant.{HeadCodeIsMeant, holding, two_atoms, two_different}
 use Rattle.lmn_base.specs.Lists.{In}
-
-one_not_zero : ◌≢◌ {A = ℕ} 1 0
-one_not_zero = omega arith
+use Rattle.lmn_base.proofs.Numbers.{one_is_not_zero as one_not_zero}
 
 zero_not_one : ◌≢◌ {A = ℕ} 0 1
 zero_not_one = omega arith

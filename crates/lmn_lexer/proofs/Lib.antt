@@ -16,3 +16,4 @@ pub mod SoundTokens
 pub mod FewTokens
 pub mod LaidTexts
 pub mod CutOrRefused
+pub mod Common

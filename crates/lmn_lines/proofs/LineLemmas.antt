@@ -4,6 +4,7 @@ use Rattle.std.proofs.lemmas.Grind.{flat_map-append}
 use Rattle.std.proofs.lemmas.List.{append-nil, append_assoc, drop_more, take-append-drop, take_more}
 use Rattle.lmn_base.proofs.Lists.{head_is, tail_is}
 use Rattle.lmn_lines.specs.Lines.{HasNoSpace, joined}
+use Rattle.lmn_base.proofs.Numbers.{take_none as take_nothing}
 
 -- ---- spaces
 
@@ -30,10 +31,6 @@ split_at line at l e = sym (take-append-drop at line) ∙ ap (λ t. take at line
 -- a line more
 pub joined_more : (lines : List (List ℕ)) (line : List ℕ) → joined (lines ++ line ∷ []) ≡ joined lines ++ (line ++ 10 ∷ [])
 joined_more lines line = flat_map-append (λ l. l ++ 10 ∷ []) lines (line ∷ []) ∙ ap (λ t. joined lines ++ t) (append-nil (line ++ 10 ∷ []))
-
-take_nothing : (n : ℕ) → take {A = ℕ} n [] ≡ []
-take_nothing zero = refl
-take_nothing (suc n) = refl
 
 -- what stands up to the end of the next line
 pub taken_more : (text : List ℕ) (at end : ℕ) → at ≤ end → end < length text → get_or text end 0 ≡ 10 → take (end + 1) text ≡ take at text ++ (take (end - at) (drop at text) ++ 10 ∷ [])

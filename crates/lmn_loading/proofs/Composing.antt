@@ -8,9 +8,9 @@ use Rattle.lmn_base.specs.declared.level.Leaf.{Leaf}
 use Rattle.lmn_base.specs.declared.level.Level.{Level}
 use Rattle.lmn_base.specs.Levels.{leaves_of}
 use Rattle.lmn_congruence.specs.SolidsOfPlains.{fused_leaf, fused_region}
-use Rattle.lmn_heap.specs.Heap.{Heap, HeapAtom, HeapMem, within, home_by, IsAtom, IsMem, IsPlacedMem, atoms_in, mems_in, rules_in, mems_by, atoms_by, rules_by}
+use Rattle.lmn_heap.specs.Heap.{Heap, HeapAtom, HeapMem, home_by, IsAtom, IsMem, IsPlacedMem, atoms_in, mems_in, rules_in, mems_by, atoms_by, rules_by}
 use Rattle.lmn_heap.specs.Solid.{solid_atoms_at, solid_atom_at, regions_of}
-use Rattle.lmn_heap.specs.Sound.{Listed, Forest, bare, mem, flat}
+use Rattle.lmn_heap.specs.Sound.{Forest, bare, mem, flat}
 use Rattle.lmn_heap.proofs.Groves.{beside, forms_frame, forms_beside}
 use Rattle.lmn_heap.proofs.SolidLemmas.{atoms_append, regions_beside, regions_frame}
 use Rattle.lmn_splice.specs.Splice.{IsOneOf, NoneTwice, ports, links}
@@ -20,10 +20,10 @@ use Rattle.lmn_congruence.specs.Links.{places}
 use Rattle.lmn_base.proofs.Lists.{nothing_added as none_more, joined_alike as both, in_either, none_is_not}
 use Rattle.lmn_congruence.proofs.TranslatedLinks.{places_append as often_append}
 use Rattle.lmn_heap.proofs.Calls.{stands_some as standing_is_mem}
-use Rattle.lmn_heap.proofs.Items.{place_some as placed_is_atom}
 use Rattle.lmn_splice.proofs.Common.{in_append as either_in, in_back as right_in, in_front as left_in, links_append, ports_append, distinct_append}
 use Rattle.lmn_heap.proofs.ListLemmas as lemmas
 use Rattle.lmn_base.specs.Lists.{In}
+use Rattle.lmn_heap.proofs.Common.{listed_atom as listed_is_atom}
 
 -- Lists
 
@@ -73,10 +73,6 @@ placed_is_mem (Some x) i = refl
 pub atoms_frame : (s t : Heap) (name : ℕ → ℕ → ℕ) (xs : List ℕ) → ((a : ℕ) → In a xs → t.atoms a ≡ s.atoms a) → solid_atoms_at t name xs ≡ solid_atoms_at s name xs
 atoms_frame s t name [] h = refl
 atoms_frame s t name (a ∷ xs) h = both (ap (solid_atom_at name a) (h a (inl refl))) (atoms_frame s t name xs (λ b i. h b (inr i)))
-
--- an atom in the list of a membrane
-pub listed_is_atom : (s : Heap) → Listed s → (k a : ℕ) → In a (atoms_in s k) → IsAtom s a
-listed_is_atom s h k a i = placed_is_atom (s.atoms a) (within k) ((h.atoms k a).0 i)
 
 made_more : (o : Option HeapAtom) (a : ℕ) (ps qs : List (Port × ℕ)) → ((p : Port) → IsOneOf p (ports ps) → IsOneOf p (ports qs)) → IsMadeAtom o a ps → IsMadeAtom o a qs
 made_more o a ps qs f h = record { in_place = h.in_place; no_connector = h.no_connector; ports = λ i l. f (a, i) (h.ports i l); unmarked = h.unmarked }

@@ -18,12 +18,8 @@ use Rattle.lmn_loading.specs.Adding.{CanBeFilled, AddsToMembrane, Fills, AtomIsA
 use Rattle.lmn_loading.proofs.Composing.{composed, nothing_added}
 use Rattle.lmn_loading.proofs.Atoms.{no_leaf, atom_added, room_added, one_rule, room_left}
 use Rattle.lmn_loading.proofs.Membranes.{new_ready, membrane_added}
-use Rattle.lmn_base.proofs.Lists.{plus_nothing as nil_behind, all_of_left, all_of_right}
+use Rattle.lmn_base.proofs.Lists.{plus_nothing as nil_behind, all_of_left, all_of_right, one_more as one_further}
 use Rattle.lmn_heap.proofs.Calls.{stands_some as standing_is_mem}
-
--- an item more of a list
-one_further : {A : Type 0} (xs : List A) (i : ℕ) (x : A) → i < length xs → x ≡ get_or xs i x → take i xs ++ x ∷ [] ≡ take (i + 1) xs
-one_further xs i x l e = ap (λ y. take i xs ++ y ∷ []) e ∙ sym (take_more xs i x l)
 
 module _ {A : Type 0} (id : A → ℕ) where
   by_id_append : (ps qs : List ((A × ℕ) × ℕ)) → by_id id (ps ++ qs) ≡ by_id id ps ++ by_id id qs

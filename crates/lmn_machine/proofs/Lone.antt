@@ -1,6 +1,6 @@
 -- Typed contexts of one atom.
 use Rattle.std.proofs.Common.{ℕ, ℤ, zero, suc, ◌≡◌, ◌<◌, ◌≤◌, ◌+◌, inl, inr, List, [], ◌∷◌, ◌++◌, Option, Some, None, refl, arith, ap, sym, subst, length, ◌∙◌}
-use Rattle.std.specs.Prelude.{Bool, true, false, slice_get, slice_index_or, IfSome, ◌==◌, if◌then◌else◌, ◌⊎◌}
+use Rattle.std.specs.Prelude.{Bool, true, false, slice_get, IfSome, ◌==◌, if◌then◌else◌, ◌⊎◌}
 use Rattle.std.specs.Option.{option_map}
 use Rattle.std.proofs.lemmas.Option.{slice_get_within}
 use Rattle.lmn_base.specs.declared.functor.Functor.{Functor}
@@ -22,7 +22,7 @@ use Rattle.lmn_registers.specs.Agreeing.{Agrees}
 use Rattle.lmn_machine.specs.Searching.{AreHeldWhole, Extends, AllSet, Stepped, HeadInOrder, HasGivenPart, AreApart, IsLone, IsWholeApart, IsHeldPart}
 use Rattle.lmn_machine.proofs.Stepping.{SetsSo, extends_itself, agrees_before}
 use Rattle.lmn_machine.proofs.Choosing.{take_front}
-use Rattle.lmn_base.proofs.Lists.{get_last, take_whole, get_either}
+use Rattle.lmn_base.proofs.Lists.{get_last, take_whole, get_either, link_within}
 use Rattle.lmn_base.proofs.Numbers.{below_next2 as less_or_same}
 use Rattle.std.proofs.lemmas.List.{length_push}
 
@@ -45,12 +45,6 @@ apart_next {A} atom handles n i x t here d = record { differ = λ k b l e. at k 
 -- and so from all
 pub apart_all : {A : Type 0} (atom : A → ℕ) (handles : List A) (n i : ℕ) → length handles ≤ i → ApartUpTo atom handles n i → AreApart atom handles n
 apart_all atom handles n i l t = record { differ = λ k b e. t.differ k b (let w = slice_get_within handles k b e in omega (arith, w, l)) e }
-
--- a port with a link is one of the atom
-link_within : (xs : List (Option (ℕ × ℕ))) (i : ℕ) (q : ℕ × ℕ) → slice_index_or xs i None ≡ Some q → i < length xs
-link_within [] i q e = absurd (cc)
-link_within (x ∷ xs) zero q e = omega arith
-link_within (x ∷ xs) (suc i) q e = let k = link_within xs i q e in omega (arith, k)
 
 one : (b : Bool) (y z : ℤ) (n : ℕ) → (n == 1) ≡ b → (if b then Some y else None) ≡ Some z → n ≡ 1
 one true y z n t e = (Decides-eqb n 1).0 t

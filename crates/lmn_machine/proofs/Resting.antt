@@ -1,5 +1,5 @@
 -- Rests that are told by own marks, and what is asked of them.
-use Rattle.std.proofs.Common.{◌≡◌, ◌<◌, ℕ, zero, suc, ◌+◌, Bool, true, false, List, [], ◌∷◌, ◌++◌, length, map, take, Option, Some, None, IsSome, refl, sym, ap, subst, ◌∙◌, inl, inr, arith}
+use Rattle.std.proofs.Common.{◌≡◌, ◌<◌, ℕ, zero, suc, ◌+◌, Bool, true, List, [], ◌∷◌, ◌++◌, length, map, take, Option, Some, None, IsSome, refl, sym, ap, subst, ◌∙◌, inl, inr, arith}
 use Rattle.std.proofs.lemmas.Bool.Decides.{Decides-eqb}
 use Rattle.std.proofs.lemmas.List.{get_or-set_same}
 use Rattle.std.specs.Option.{option_map, option_and_then}
@@ -33,6 +33,7 @@ use Rattle.lmn_machine.specs.Searching.{AreHeldWhole, AreRootPorts}
 use Rattle.lmn_commit.specs.OwnMarks.{own_place, own_painted}
 use Rattle.lmn_machine.proofs.Besides.{some_more, more_some, known, known_agrees}
 use Rattle.lmn_commit.proofs.Owning.{arity_painted, all_at, in_all, off_all, none, marked_is, of_handles, same_graph, arity_same, link_same, there_painted, back_painted, mem_painted, clean_painted, full_painted, port_painted, marked_more, are_membranes}
+use Rattle.lmn_base.proofs.Truth.{not_true}
 
 -- which atoms are in parts is told by the graph
 pub some_same : (h t : Heap) → atom_map t ≡ atom_map h → (r : HeadRegisters) (gs : List ℕ) (b : ℕ) → IsInSome h r gs b → IsInSome t r gs b
@@ -92,10 +93,6 @@ all_back h z xs ys zs sub t e = e ∙ painted_none own_place h (all_at xs 0 (all
     | inr m ↦ off_all zs 0 (all_at ys 1 (all_at xs 1 none)) a m ∙ (off_all ys 1 (all_at xs 1 none) a (λ j. m (sub a j)) ∙ off_all xs 1 none a n)
   ]
 ])
-
-not_true : (b : Bool) → not b ≡ true → b ≡ false
-not_true true e = absurd (cc)
-not_true false e = refl
 
 -- The rests of a heap with own marks v.
 module _ (h : Heap) (valid : Valid h) (z : Unmarked h) (v : ℕ → ℕ) where

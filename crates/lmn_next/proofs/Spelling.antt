@@ -8,7 +8,7 @@ use Rattle.lmn_base.proofs.Lists.{map_itself}
 use Rattle.lmn_congruence.specs.Fused.{Joins}
 use Rattle.lmn_congruence.specs.Links.{places}
 use Rattle.lmn_congruence.specs.Plains.{SolidOf, fused_leaves, fused_level, fused_levels, leaf_process, level_process, levels_processes}
-use Rattle.lmn_congruence.specs.Process.{Closed, occurrences, rule, together}
+use Rattle.lmn_congruence.specs.Process.{Closed, occurrences, together}
 use Rattle.lmn_congruence.specs.Regions as solid
 use Rattle.lmn_congruence.specs.Rules as tree
 use Rattle.lmn_congruence.specs.Same.{renamed_atom, renamed_region, renamed_regions}
@@ -19,6 +19,8 @@ use Rattle.lmn_settle.specs.Raw.{CanSettle, IsSettled, RawRegion, RawRegions, no
 use Rattle.lmn_settle.proofs.SettledLinks.{links_settled, places_renamed}
 use Rattle.lmn_fire.specs.Spelled.{Spells, leaf_connectors, level_connectors, levels_connectors, mapped_pair}
 use Rattle.lmn_next.specs.Settling.{SettlesToSolid, SpelledLevelsSettle}
+use Rattle.lmn_congruence.proofs.Common.{rules_join}
+use Rattle.lmn_splice.proofs.Common.{in_back as one_right, in_front as one_left}
 
 -- ---- the places of links
 
@@ -57,19 +59,6 @@ leaves_join v [] j = tt
 leaves_join v (tree.atom_leaf a xs ∷ ls) j = (tt, leaves_join v ls j)
 leaves_join v (tree.connector_leaf y z ∷ ls) j = (j (y, z) (inl refl), leaves_join v ls (λ e i. j e (inr i)))
 leaves_join v (tree.typed_leaf p y ∷ ls) j = (tt, leaves_join v ls j)
-
-rules_join : (v : ℕ → ℕ) (rs : List tree.Rule) → Joins v (together (map rule rs))
-rules_join v [] = tt
-rules_join v (r ∷ rs) = (tt, rules_join v rs)
-
-one_left : {A : Type 0} (x : A) (xs ys : List A) → IsOneOf x xs → IsOneOf x (xs ++ ys)
-one_left x [] ys i = absurd i
-one_left x (y ∷ xs) ys (inl e) = inl e
-one_left x (y ∷ xs) ys (inr i) = inr (one_left x xs ys i)
-
-one_right : {A : Type 0} (x : A) (xs ys : List A) → IsOneOf x ys → IsOneOf x (xs ++ ys)
-one_right x [] ys i = i
-one_right x (y ∷ xs) ys i = inr (one_right x xs ys i)
 
 mutual
   level_join : (v : ℕ → ℕ) (l : tree.Level) → ((e : ℕ × ℕ) → IsOneOf e (level_connectors l) → v e.0 ≡ v e.1) → Joins v (level_process l)

@@ -2,7 +2,7 @@
 use Rattle.std.proofs.Common.{◌≡◌, ℕ, zero, suc, ◌+◌, ◌<◌, ◌≤◌, List, [], ◌∷◌, ◌++◌, map, length, set, get_or, take, drop, slice_get, Some, All, refl, sym, ap, ◌∙◌, subst, arith}
 use Rattle.std.specs.List.{flat_map}
 use Rattle.std.proofs.lemmas.Option.{get_or_from_slice_get}
-use Rattle.std.proofs.lemmas.List.{take_more, take_all, map-append, append-nil, length-set, get_or-drop, take_more_set, drop-set-lt}
+use Rattle.std.proofs.lemmas.List.{take_more, take_all, map-append, append-nil, length-set, take_more_set, drop-set-lt}
 use Rattle.std.proofs.lemmas.Grind.{drop_more_same}
 use Rattle.std.proofs.lemmas.List.Concat.{flat_map-append}
 use Rattle.std.proofs.lemmas.List.Elements.{All-nil, All-cons, All-head, All-tail}
@@ -18,6 +18,7 @@ use Rattle.lmn_numbering.specs.Numberings.{IsNumbering, FollowsNumbering, GivesN
 use Rattle.lmn_numbering.specs.Renumbered.{renumbered_occurrence, renumbered_leaf, renumbered, renumbered_step}
 use Rattle.lmn_numbering.proofs.NumberSteps.{gives_none, gives_more, agrees_before}
 use Rattle.lmn_base.proofs.Common.{levels_in as number_of_levels, membrane_smaller}
+use Rattle.lmn_base.proofs.Lists.{same_behind}
 
 -- The first i of the parts xs have got their numbers, and ys are the parts now. `f` renames a part, and `g` lists its
 -- links.
@@ -26,13 +27,6 @@ pub record Renumbers {A : Type 0} (f : (ℕ → ℕ) → A → A) (g : A → Lis
   pub size : length ys ≡ length xs
   pub done : (to : ℕ → ℕ) → FollowsNumbering to u → take i ys ≡ map (f to) (take i xs)
   pub rest : drop i ys ≡ drop i xs
-
--- what stands behind the first k of a list that agrees with another from i on
-same_behind : {A : Type 0} (i : ℕ) (xs ys : List A) (d : A) → drop i ys ≡ drop i xs → get_or ys i d ≡ get_or xs i d
-same_behind i xs ys d e = sym (at_zero ys) ∙ ap (λ l. get_or l 0 d) e ∙ at_zero xs
-  where
-    at_zero : (l : List _) → get_or (drop i l) 0 d ≡ get_or l i d
-    at_zero l = let k : i + 0 ≡ i = omega arith in get_or-drop i l 0 d ∙ ap (λ n. get_or l n d) k
 
 -- what holds of all numbers of two lists holds of all of the first
 pub all_left : (S : ℕ → Type 0) (xs ys : List ℕ) → All S (xs ++ ys) → All S xs

@@ -1,2 +1,3 @@
 pub mod WalkLaws
 pub mod AnswerLaws
+pub mod Common

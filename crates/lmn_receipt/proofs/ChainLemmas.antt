@@ -1,17 +1,15 @@
 -- Traces are chains, and chains are chains of commits.
-use Rattle.std.proofs.Common.{◌≡◌, ◌∙◌, ℕ, Bool, ◌+◌, ◌<◌, ◌⊎◌, List, [], ◌∷◌, ◌++◌, codes, length, inl, inr, refl, sym, ap, subst, arith}
-use Rattle.std.proofs.lemmas.List.{length-append}
+use Rattle.std.proofs.Common.{◌≡◌, ◌∙◌, ℕ, Bool, ◌<◌, ◌⊎◌, List, codes, length, inl, inr, refl, sym, ap, subst, arith}
 use Rattle.lmn_congruence.specs.Regions.{Region, region, region_process}
 use Rattle.lmn_reduction.specs.Chains.{Commits, no_step, step_after}
 use Rattle.lmn_reduction.specs.Commits.{Commit, Irreducible}
 use Rattle.lmn_adequacy.specs.Accepted.{Accepted}
-use Rattle.lmn_adequacy.specs.Choice.{NextFrom, paths}
+use Rattle.lmn_adequacy.specs.Choice.{paths}
 use Rattle.lmn_adequacy.specs.Embedding.{AllRules}
-use Rattle.lmn_adequacy.specs.Next.{Next}
 use Rattle.lmn_adequacy.specs.Runs.{Chooser, End, Ends, Trace, Turn, budget_done, full, irreducible, loaded, none_allowed, nothing_embeds, too_many, turned}
 use Rattle.lmn_adequacy.proofs.Heads.{all_rules_so}
 use Rattle.lmn_adequacy.proofs.Results.{firings_commit, irreducible_exactly, next_is_solid, throughout_itself}
-use Rattle.lmn_adequacy.proofs.Runs.{embeds_in}
+use Rattle.lmn_adequacy.proofs.Runs.{embeds_in, next_of as next_by, one_longer}
 use Rattle.lmn_runs.specs.Runs.{Stop, StopsSo, at_end, no_memory, word_of_stop}
 use Rattle.lmn_receipt.specs.Chains.{Continued, Continues, IsEndWord, begun, continued}
 use Rattle.lmn_receipt.specs.Laws.{ChoosesBelow, ChainsAreCommits, ContinuesByCommit, IsAcceptedSolid, TracesAreChains}
@@ -21,10 +19,6 @@ use Rattle.lmn_receipt.specs.Laws.{ChoosesBelow, ChainsAreCommits, ContinuesByCo
 -- each solid has a membrane: its root
 pub some_membrane : (S : Region) → 0 < length (paths S)
 some_membrane (region xs ms rs) = omega arith
-
--- one more solid makes a list one longer
-pub one_longer : (before : List Region) (R : Region) → length (before ++ R ∷ []) ≡ length before + 1
-one_longer before R = length-append before (R ∷ [])
 
 module _ (chooser : Chooser) (budget size : ℕ) (below : ChoosesBelow chooser) (S : Region) where
   turn_continues : {n : ℕ} {R T : Region} → Turn chooser n R T → Continues R T
@@ -56,9 +50,6 @@ traces_are_chains g S before last why below trace stops = record {
 }
 
 -- ---- chains are chains of commits
-
-next_by : {from : ℕ} {S S' : Region} → NextFrom from S S' → Next S S'
-next_by n = record { path = n.path; number = n.number; positions = n.positions; next = n.next }
 
 -- the rules of such a solid are accepted
 pub accepted_of : (S : Region) → IsAcceptedSolid S → AllRules Accepted S

@@ -12,11 +12,11 @@ use Rattle.lmn_plain.specs.Words.{text_of, top_pieces}
 use Rattle.lmn_runs.proofs.TraceRuns.{Fine, next_fine, solid_fine, spelled_fine}
 use Rattle.lmn_runs.specs.Laws.{solid_of}
 use Rattle.lmn_runs.specs.Runs.{end_line}
-use Rattle.lmn_receipt.proofs.ChainLemmas.{one_longer}
 use Rattle.lmn_receipt.proofs.LineBytes.{NoFeed, NoPercent, first_line_one, line_no_feed, line_no_percent}
 use Rattle.lmn_receipt.proofs.OneSolid.{one_solid}
 use Rattle.lmn_receipt.specs.Chains.{BeginsChain, Continued, Continues, IsChain, IsEndThere, IsEndWord, IsProcessThere, IsWrongTrace, at_line, begun, continued, line_of_solid, no_end_line, no_first_line, no_next_line}
 use Rattle.lmn_receipt.specs.Laws.{TracesAreOneOf}
+use Rattle.lmn_adequacy.proofs.Runs.{one_longer}
 
 -- ---- solids one behind the other, the first first
 

@@ -14,8 +14,9 @@ use Rattle.lmn_runs.specs.Runs.{end_line}
 use Rattle.lmn_receipt.specs.Chains.{BeginsChain, Continues, IsChain, IsEndThere, IsEndWord, IsProcessThere, IsWrongTrace, at_line, begun, continued, no_first_line, no_end_line, line_of_solid, no_next_line}
 use Rattle.lmn_receipt.specs.Laws.{IsAcceptedSolid}
 use Rattle.lmn_receipt.specs.Steps.{IsOtherEnd, IsStep, NoEndIsDue, NothingFits}
-use Rattle.lmn_adequacy.proofs.Runs.{embeds_in}
-use Rattle.lmn_receipt.proofs.ChainLemmas.{accepted_of, one_longer, sound_next}
+use Rattle.lmn_adequacy.proofs.Runs.{embeds_in, one_longer}
+use Rattle.lmn_receipt.proofs.ChainLemmas.{accepted_of, sound_next}
+use Rattle.lmn_base.proofs.Numbers.{below_or_from as below_or}
 
 -- ---- lines
 
@@ -120,9 +121,6 @@ Tried S rest from = (k : ℕ) → k < from → (S' : Region) (more : List ℕ) �
 -- none was tried,
 pub tried_none : (S : Region) (rest : List ℕ) → Tried S rest 0
 tried_none S rest k l = absurd (omega (arith, l))
-
-below_or : (k from : ℕ) → (k < from) ⊎ (from ≤ k)
-below_or k from = grind arith
 
 -- those up to the reach of one whose line isn't there have been tried with it,
 pub tried_more : (S : Region) (rest : List ℕ) (from reach : ℕ) (next : Region) → IsAcceptedSolid S → Tried S rest from → IsNumbered next

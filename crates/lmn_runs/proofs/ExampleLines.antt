@@ -55,7 +55,7 @@ module _ (alloc : Global) (names : List Name) (is : IsNames names) (a : Contains
       }
 
 -- each commit has a line
-many_lines : {folded : Bool} {names : List Name} {P Q : Process} {n : ℕ} {lines : List (List ℕ)} → AllLines folded names P n Q lines → length lines ≡ n + 1
+pub many_lines : {folded : Bool} {names : List Name} {P Q : Process} {n : ℕ} {lines : List (List ℕ)} → AllLines folded names P n Q lines → length lines ≡ n + 1
 many_lines (first_line line h) = refl
 many_lines (next_line {lines = lines} line h c g) = omega (arith, many_lines h, length-append lines (line ∷ []))
 

@@ -3,3 +3,4 @@ pub mod Loaded
 mod Turned
 pub mod Counted
 mod Holding
+pub mod Common

@@ -1,19 +1,15 @@
 -- How texts are cut into lines.
 use Rattle.std.proofs.Common.{ℕ, suc, ◌≡◌, ◌+◌, inl, inr, List, [], ◌∷◌, ◌++◌, length, refl, sym, ap, subst, ◌∙◌}
 use Rattle.std.specs.List.{AllByRecursion}
-use Rattle.std.proofs.lemmas.List.{append-nil, append_assoc}
+use Rattle.std.proofs.lemmas.List.{append-nil}
 use Rattle.lmn_base.proofs.Lists.{all_append, all_left, all_right, head_is, tail_is}
 use Rattle.lmn_base.specs.declared.refusal.Refusal.{Refusal}
 use Rattle.lmn_lexer.specs.Gaps.{EndsLine}
 use Rattle.lmn_lines.specs.Lines.{IsOneLine, joined}
 use Rattle.lmn_script.specs.Scripts.{AreLines, IsFirstWrong, MayStand}
+use Rattle.lmn_lines.proofs.Common.{feed_within, joined_first}
 
 -- ---- first lines
-
--- no line feed stands within one line
-feed_within : (u v : List ℕ) → IsOneLine (u ++ 10 ∷ v) → ⊥
-feed_within [] v h = h.0 refl
-feed_within (x ∷ u) v h = feed_within u v h.1
 
 -- a text has one first line
 first_line : (u v rest more : List ℕ) → IsOneLine u → IsOneLine v → EndsLine rest → u ++ rest ≡ v ++ 10 ∷ more → (u ≡ v) × (rest ≡ 10 ∷ more)
@@ -28,10 +24,6 @@ first_line (x ∷ u) (y ∷ v) rest more h k e q =
 last_line : (u v rest : List ℕ) → IsOneLine v → EndsLine rest → u ++ rest ≡ v → u ≡ v
 last_line u v [] k e q = sym (append-nil u) ∙ q
 last_line u v (b ∷ more) k e q = absurd (feed_within u more (subst (λ x. IsOneLine (u ++ x ∷ more)) e (subst IsOneLine (sym q) k)))
-
--- the first of some lines stands in front
-pub joined_first : (line : List ℕ) (lines : List (List ℕ)) (rest : List ℕ) → joined (line ∷ lines) ++ rest ≡ line ++ 10 ∷ (joined lines ++ rest)
-joined_first line lines rest = append_assoc (line ++ 10 ∷ []) (joined lines) rest ∙ append_assoc line (10 ∷ []) (joined lines ++ rest)
 
 -- one line isn't cut
 line_uncut : (line : List ℕ) (lines : List (List ℕ)) (rest last : List ℕ) → IsOneLine last → joined (line ∷ lines) ++ rest ≡ last → ⊥

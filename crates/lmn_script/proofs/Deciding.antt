@@ -1,5 +1,5 @@
 -- Each text has a first wrong line, or lines that may stand.
-use Rattle.std.proofs.Common.{ℕ, ℤ, pos, negsuc, zero, suc, ◌≡◌, ◌≢◌, ◌≤◌, ◌<◌, ◌+◌, ◌^◌, ◌⊎◌, inl, inr, Bool, true, false, List, [], ◌∷◌, ◌++◌, Option, Some, None, codes, length, drop, refl, sym, ap, subst, ◌∙◌, arith, true≢false, if◌then◌else◌}
+use Rattle.std.proofs.Common.{ℕ, ℤ, pos, negsuc, zero, suc, ◌≡◌, ◌≢◌, ◌≤◌, ◌<◌, ◌+◌, ◌^◌, ◌⊎◌, inl, inr, Bool, true, false, List, [], ◌∷◌, ◌++◌, Option, Some, None, codes, length, drop, refl, sym, ap, subst, ◌∙◌, arith, true≢false}
 use Rattle.std.specs.Prelude.{bytes_eq}
 use Rattle.std.specs.Fmt.{decimal, signed_decimal}
 use Rattle.std.specs.List.{AllByRecursion, flat_map}
@@ -8,7 +8,7 @@ use Rattle.std.proofs.Math.Seq.{drop-append_seam}
 use Rattle.std.proofs.lemmas.Fmt.{decimal_injective, decimal_is_IsNumeral}
 use Rattle.std.proofs.lemmas.List.{append-nil, append_cancel_left}
 use Rattle.std.proofs.lemmas.Slice.Eq.{bytes_eq-Decides}
-use Rattle.lmn_base.proofs.Lists.{head_is, tail_is}
+use Rattle.lmn_base.proofs.Lists.{head_is, tail_is, last_one as ends_alike}
 use Rattle.lmn_base.proofs.Numbers.{below_or_from, same_or_not}
 use Rattle.lmn_base.proofs.Truth.{Decided}
 use Rattle.lmn_base.specs.declared.guard.Cmp.{Cmp}
@@ -21,10 +21,12 @@ use Rattle.lmn_lexer.specs.NameText.{name_text, quoted, quoted_byte}
 use Rattle.lmn_lexer.specs.Spelling.{is_bare_name}
 use Rattle.lmn_lines.proofs.LineLemmas.{last_split, no_space_within}
 use Rattle.lmn_lines.specs.Lines.{HasNoSpace, IsOneLine, joined, number_written}
-use Rattle.lmn_script.proofs.Cuts.{joined_first, last_all, lines_of, with_last}
+use Rattle.lmn_script.proofs.Cuts.{last_all, lines_of, with_last}
 use Rattle.lmn_script.proofs.LineLemmas.{FrontForm, back_front, front_form, line_unnumbered, line_unsplit, operator_spaceless, step_front, until_front, until_no_back, until_no_step}
-use Rattle.lmn_script.proofs.OneOrder.{ends_alike, name_once, quoted_once, short}
+use Rattle.lmn_script.proofs.OneOrder.{name_once, quoted_once, short}
 use Rattle.lmn_script.specs.Scripts.{AreLines, HasForm, IsFirstWrong, IsNumbered, MayStand, cmp_text, of_back, of_show, of_step, of_until}
+use Rattle.lmn_lexer.proofs.Common.{bare_or_quoted as written, text_bare, text_quoted}
+use Rattle.lmn_lines.proofs.Common.{joined_first}
 
 -- ---- bytes
 
@@ -150,20 +152,6 @@ unquoted_decided text = go (begins_decided (codes "'") text)
     go : Decided ((rest : List ℕ) × (text ≡ codes "'" ++ rest)) → Decided ((name : List ℕ) × (quoted name ≡ text))
     go (inl (rest, e)) = closed rest e (ends rest)
     go (inr d) = inr (λ r. d (flat_map quoted_byte r.0 ++ codes "'", sym r.1))
-
-text_bare : (name : List ℕ) → is_bare_name name ≡ true → name_text name ≡ name
-text_bare name h = ap (λ t. if t then name else quoted name) h
-
-text_quoted : (name : List ℕ) → is_bare_name name ≡ false → name_text name ≡ quoted name
-text_quoted name h = ap (λ t. if t then name else quoted name) h
-
--- a name that is written so is bare or stands in quotes
-written : (name text : List ℕ) → name_text name ≡ text → ((is_bare_name name ≡ true) × (name ≡ text)) ⊎ ((is_bare_name name ≡ false) × (quoted name ≡ text))
-written name text e = go (is_bare_name name) refl
-  where
-    go : (t : Bool) → is_bare_name name ≡ t → ((is_bare_name name ≡ true) × (name ≡ text)) ⊎ ((is_bare_name name ≡ false) × (quoted name ≡ text))
-    go true h = inl (h, sym (text_bare name h) ∙ e)
-    go false h = inr (h, sym (text_quoted name h) ∙ e)
 
 named_decided : (text : List ℕ) → Decided ((name : List ℕ) × (name_text name ≡ text))
 named_decided text = go (is_bare_name text) refl

@@ -11,7 +11,7 @@ use Rattle.std.proofs.lemmas.List.{append_cancel_left, append_cancel_right}
 use Rattle.std.proofs.lemmas.Option.{same_Some}
 use Rattle.std.proofs.lemmas.Str.Parse.{digit_from_value}
 use lib.Signed.{mag}
-use Rattle.lmn_base.proofs.Lists.{head_is, tail_is}
+use Rattle.lmn_base.proofs.Lists.{head_is, tail_is, last_one as ends_alike}
 use Rattle.lmn_base.proofs.Numbers.{three_ways}
 use Rattle.lmn_base.proofs.Truth.{and_true}
 use Rattle.lmn_base.specs.declared.functor.Functor.{Functor}
@@ -197,13 +197,6 @@ order_once names line Show (Step n) once v w = absurd (numbered_no_show (codes "
 order_once names line Show (Back n) once v w = absurd (numbered_no_show (codes "back") line n w.0 v)
 order_once names line Show (Until f op n) once v w = absurd (numbered_no_show (w.0).front line n (w.0).numbered v)
 order_once names line Show Show once v w = refl
-
--- two equal lists end alike
-pub ends_alike : {A : Type 0} (xs ys : List A) (x y : A) → xs ++ x ∷ [] ≡ ys ++ y ∷ [] → (xs ≡ ys) × (x ≡ y)
-ends_alike [] [] x y e = (refl, head_is e)
-ends_alike [] (z ∷ ys) x y e = absurd (short ys y (tail_is e))
-ends_alike (z ∷ xs) [] x y e = absurd (short xs x (sym (tail_is e)))
-ends_alike (z ∷ xs) (w ∷ ys) x y e = let r = ends_alike xs ys x y (tail_is e) in (λ i. head_is e i ∷ r.0 i, r.1)
 
 -- lines order one list
 pub says_once : (names : List (List ℕ)) → AllPairs (λ x y. x ≢ y) names → {ls : List (List ℕ)} {a : List Order} → Says names ls a → {ms : List (List ℕ)} {b : List Order} → Says names ms b → ls ≡ ms → a ≡ b

@@ -1,12 +1,10 @@
 -- Small scripts.
-use Rattle.std.proofs.Common.{ℕ, ◌≡◌, ◌≢◌, false, List, [], ◌∷◌, AllPairs, codes, take, refl, sym, ap, subst, ◌∙◌, arith, true≢false, inl, inr}
-use Rattle.std.specs.Prelude.{bytes_eq}
+use Rattle.std.proofs.Common.{ℕ, ◌≡◌, ◌≢◌, List, [], ◌∷◌, AllPairs, codes, take, refl, sym, ap, subst, arith, inl, inr}
 use Rattle.std.specs.Fmt.{digits}
-use Rattle.std.proofs.lemmas.Slice.Eq.{bytes_eq-Decides}
 use Rattle.lmn_base.specs.declared.guard.Cmp.{Cmp}
 use Rattle.lmn_base.specs.declared.guard.Cmp.TheVariants.{Eq, Ge, Gt, Le, Lt, Ne}
 use Rattle.lmn_base.specs.declared.refusal.Refusal.{Refusal}
-use Rattle.lmn_base.proofs.Lists.{head_is}
+use Rattle.lmn_base.proofs.Lists.{head_is, unlike}
 use Rattle.lmn_functors.proofs.QuotedLemmas.{no_functor}
 use Rattle.lmn_functors.specs.Reading.{IsFunctorText}
 use Rattle.lmn_lines.proofs.LineLemmas.{last_split}
@@ -17,9 +15,6 @@ use Rattle.lmn_script.specs.Examples.{EightDigits, FirstIsNotWrong, NoFunctor, N
 use Rattle.lmn_script.specs.Scripts.{HasForm, IsNumbered, MayStand, Says, an_empty_line, cmp_text, of_show, of_step, of_until, one_order, says_nothing}
 use Rattle.lmn_script.specs.declared.order.Order.{Order}
 use Rattle.lmn_script.specs.declared.order.Order.TheVariants.{Step, Until}
-
-unlike : (a b : List ℕ) → bytes_eq a b ≡ false → a ≡ b → ⊥
-unlike a b d e = true≢false (sym ((bytes_eq-Decides a b).1 e) ∙ d)
 
 -- ---- lines
 

@@ -6,7 +6,7 @@ use Rattle.std.proofs.lemmas.Option.{same_Some}
 use Rattle.lmn_base.specs.declared.guard.Cond.{Cond}
 use Rattle.lmn_base.specs.Lists.{In}
 use Rattle.lmn_base.specs.Graphs.{Port, Reached, StandsWhole}
-use Rattle.lmn_base.proofs.Lists.{get_below, get_front, get_last, get_there}
+use Rattle.lmn_base.proofs.Lists.{get_below, get_front, get_last, get_there, get_index}
 use Rattle.lmn_base.proofs.Numbers.{below_next2}
 use Rattle.lmn_bridge.proofs.PartLists.{all_of_part, part_list}
 use Rattle.lmn_heap.specs.Heap.{Heap, link_of, atoms_in, mems_in}
@@ -32,9 +32,9 @@ use Rattle.lmn_search.specs.declared.head.TypedItem.{TypedItem}
 use Rattle.lmn_search.specs.declared.parts.Part.{Part}
 use Rattle.lmn_search.specs.declared.placed.Placed.{Placed}
 use Rattle.lmn_search.proofs.EmbeddingLemmas.{atoms_long, mapped, membranes_long, read_or, unmapped}
-use Rattle.lmn_search.proofs.FitsLemmas.{get_index}
-use Rattle.lmn_search.proofs.LyingLemmas.{in_at, named_same, outermost_same, times_same}
-use Rattle.lmn_search.proofs.WholeLemmas.{item_in}
+use Rattle.lmn_search.proofs.LyingLemmas.{named_same, outermost_same, times_same}
+use Rattle.lmn_bridge.proofs.OutOf.{in_index as in_at, index_in as item_in}
+use Rattle.lmn_compile_head.proofs.Nesting.{atoms_inside as atoms_within, membranes_inside as membranes_within}
 
 -- ---- items nest
 
@@ -55,33 +55,9 @@ outer_less (suc fuel) ms k n = by (inside_of ms k == 0) (outer_less fuel ms (ins
     by true r l = omega arith
     by false r l = omega (arith, r, l)
 
-membranes_within : (i : ℕ) (xs : List HeadItem) → EachInside i xs → (j : ℕ) (b : HeadMembrane) → slice_get (membranes_of xs) j ≡ Some b → b.inside ≤ i + j
-membranes_within i [] n j b e = absurd (cc)
-membranes_within i (Atom functor links inside ∷ xs) n j b e = membranes_within i xs n.1 j b e
-membranes_within i (Typed name kind link inside ∷ xs) n j b e = membranes_within i xs n.1 j b e
-membranes_within i (Membrane inside has_context has_closed_context has_rule_context ∷ xs) n zero b e =
-    let here : inside ≤ i = n.0 in
-    let same : ◌≡◌ {A = Option HeadMembrane} (Some (record { inside = inside; has_context = has_context; has_closed_context = has_closed_context; has_rule_context = has_rule_context })) (Some b) = e in
-    let is : inside ≡ b.inside = ap (λ (o : Option HeadMembrane). or_none o) same in omega (arith, here, is)
-  where
-    or_none : Option HeadMembrane → ℕ
-    or_none None = 0
-    or_none (Some m) = m.inside
-membranes_within i (Membrane inside has_context has_closed_context has_rule_context ∷ xs) n (suc j) b e = let r = membranes_within (i + 1) xs n.1 j b e in omega (arith, r)
-
 atom_or : Option HeadAtom → ℕ
 atom_or None = 0
 atom_or (Some a) = a.inside
-
-pub atoms_within : (i : ℕ) (xs : List HeadItem) → EachInside i xs → (j : ℕ) (a : HeadAtom) → slice_get (atoms_of xs) j ≡ Some a → a.inside ≤ i + length (membranes_of xs)
-unfolding atom_or
-atoms_within i [] n j a e = absurd (cc)
-atoms_within i (Atom functor links inside ∷ xs) n zero a e =
-    let here : inside ≤ i = n.0 in
-    let is : inside ≡ a.inside = ap atom_or e in omega (arith, here, is)
-atoms_within i (Atom functor links inside ∷ xs) n (suc j) a e = atoms_within i xs n.1 j a e
-atoms_within i (Typed name kind link inside ∷ xs) n j a e = atoms_within i xs n.1 j a e
-atoms_within i (Membrane inside has_context has_closed_context has_rule_context ∷ xs) n j a e = let r = atoms_within (i + 1) xs n.1 j a e in omega (arith, r)
 
 typed_or : Option HeadTyped → ℕ
 typed_or None = 0

@@ -6,7 +6,7 @@ use Rattle.lmn_base.specs.declared.functor.Functor.{Functor}
 use Rattle.lmn_base.specs.declared.guard.Cond.{Cond}
 use Rattle.lmn_base.specs.Lists.{In}
 use Rattle.lmn_base.proofs.Lists.{in_snoc, take_whole}
-use Rattle.lmn_base.proofs.Numbers.{equal_itself, equal_when}
+use Rattle.lmn_base.proofs.Numbers.{equal_itself, equal_when, three_ways as order_of}
 use Rattle.lmn_guards.specs.declared.plan.TypeKind.{TypeKind}
 use Rattle.lmn_heap.specs.Heap.{Heap, IsAtom, IsMem, atoms_in, mems_in}
 use Rattle.lmn_solid.specs.declared.items.HeadItem.{HeadItem}
@@ -25,7 +25,8 @@ use Rattle.lmn_search.specs.declared.meeting.Fulfilled.{Fulfilled}
 use Rattle.lmn_search.specs.declared.parts.Part.{Part}
 use Rattle.lmn_search.specs.declared.placed.Placed.{Placed}
 use Rattle.lmn_search.proofs.SearchLemmas.{popped}
-use Rattle.lmn_search.proofs.WholeLemmas.{all_so_far, in_whole, item_in}
+use Rattle.lmn_search.proofs.WholeLemmas.{all_so_far, in_whole}
+use Rattle.lmn_bridge.proofs.OutOf.{index_in as item_in}
 
 -- ---- lists
 
@@ -72,18 +73,6 @@ get_early (y ∷ ys) (suc j) (suc i) b e l = inr (get_early ys j i b e (omega (a
 none_taken : (a : ℕ) (cs : List ℕ) → In a (take 0 cs) → ⊥
 none_taken a [] i = i
 none_taken a (c ∷ cs) i = i
-
--- the order of two numbers
-pub order_of : (m n : ℕ) → (m < n) ⊎ ((m ≡ n) ⊎ (n < m))
-order_of zero zero = inr (inl refl)
-order_of zero (suc n) = inl (omega arith)
-order_of (suc m) zero = inr (inr (omega arith))
-order_of (suc m) (suc n) = by (order_of m n)
-  where
-    by : (m < n) ⊎ ((m ≡ n) ⊎ (n < m)) → (suc m < suc n) ⊎ ((suc m ≡ suc n) ⊎ (suc n < suc m))
-    by (inl l) = inl (omega (arith, l))
-    by (inr (inl e)) = inr (inl (ap suc e))
-    by (inr (inr l)) = inr (inr (omega (arith, l)))
 
 -- ---- the choices for one item, in their order
 

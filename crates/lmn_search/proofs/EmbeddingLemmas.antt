@@ -5,7 +5,7 @@ use Rattle.std.proofs.lemmas.List.{length_push}
 use Rattle.std.proofs.lemmas.Option.{same_Some, slice_get-map}
 use Rattle.lmn_base.specs.Lists.{In}
 use Rattle.lmn_base.specs.Graphs.{Port}
-use Rattle.lmn_base.proofs.Lists.{get_front, get_last}
+use Rattle.lmn_base.proofs.Lists.{get_front, get_last, get_index}
 use Rattle.lmn_heap.specs.Heap.{Heap, functor_of, link_of, atoms_in, mems_in}
 use Rattle.lmn_solid.specs.declared.items.HeadItem.{HeadItem}
 use Rattle.lmn_solid.specs.declared.items.HeadItem.TheVariants.{Atom, Typed, Membrane}
@@ -17,8 +17,7 @@ use Rattle.lmn_search.specs.Placing.{membrane_at}
 use Rattle.lmn_search.specs.Taking.{LinksFit, StandsAt}
 use Rattle.lmn_search.specs.declared.head.Head.{Head}
 use Rattle.lmn_search.specs.declared.placed.Placed.{Placed}
-use Rattle.lmn_search.proofs.FitsLemmas.{get_index}
-use Rattle.lmn_search.proofs.WholeLemmas.{item_in}
+use Rattle.lmn_bridge.proofs.OutOf.{index_in as item_in}
 
 -- where the items lie, by a placement and the entries of its parts
 abbrev pub images_by : Placed → (ℕ → Port) → Images

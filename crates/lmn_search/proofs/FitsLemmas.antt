@@ -1,18 +1,12 @@
 -- Links that lead to those of earlier atoms.
-use Rattle.std.proofs.Common.{◌≡◌, ◌≢◌, ◌∙◌, ℕ, zero, suc, ◌+◌, ◌<◌, ◌≤◌, List, [], ◌∷◌, length, slice_get, slice_index_or, Some, refl, sym, ap, subst, inl, inr, arith}
+use Rattle.std.proofs.Common.{◌≡◌, ◌≢◌, ◌∙◌, ℕ, ◌+◌, ◌<◌, ◌≤◌, List, length, slice_get, slice_index_or, Some, sym, ap, subst, inl, inr, arith}
 use Rattle.std.proofs.lemmas.Option.{same_Some}
 use Rattle.std.proofs.lemmas.Bool.{cases_eq}
 use Rattle.lmn_base.specs.Graphs.{Port}
-use Rattle.lmn_base.proofs.Lists.{get_below}
+use Rattle.lmn_base.proofs.Lists.{get_below, get_index}
 use Rattle.lmn_heap.specs.Heap.{Heap, link_of}
 use Rattle.lmn_search.specs.Taking.{StandsAt, image_port, PortFits, LinksFit}
 use Rattle.lmn_search.specs.declared.head.AtomItem.{AtomItem}
-
--- what stands at a place of a list
-pub get_index : (xs : List ℕ) (i : ℕ) → i < length xs → slice_get xs i ≡ Some (slice_index_or xs i 0)
-get_index [] i l = absurd (omega (arith, l))
-get_index (x ∷ xs) zero l = refl
-get_index (x ∷ xs) (suc i) l = get_index xs i (omega (arith, l))
 
 module _ (h : Heap) (atoms : List AtomItem) (images : List ℕ) (p : Port) (x m : ℕ) (a : AtomItem) (links : List ℕ) (at : slice_get atoms m ≡ Some a) (is : links ≡ a.links) where
   -- a port that fits leads to the ports of one atom,

@@ -26,17 +26,12 @@ use Rattle.lmn_search.specs.declared.head.MembraneItem.{MembraneItem}
 use Rattle.lmn_search.specs.declared.head.TypedItem.{TypedItem}
 use Rattle.lmn_search.specs.declared.parts.Part.{Part}
 use Rattle.lmn_search.specs.declared.placed.Placed.{Placed}
-use Rattle.lmn_search.proofs.ChoosingLemmas.{order_of}
 use Rattle.lmn_search.proofs.EmbeddingLemmas.{AtomChosen, MembraneChosen, atom_chosen, atoms_long, images_by, keeps_on, mapped, membrane_chosen, membranes_long, unmapped}
 use Rattle.lmn_search.proofs.FulfillingLemmas.{entries, entry_is, taken_parts}
-use Rattle.lmn_search.proofs.WholeLemmas.{item_in}
+use Rattle.lmn_base.proofs.Numbers.{three_ways as order_of}
+use Rattle.lmn_bridge.proofs.OutOf.{in_index as in_at, index_in as item_in}
 
 -- ---- lists
-
-pub in_at : (xs : List ℕ) (b : ℕ) → In b xs → (n : ℕ) × (n < length xs) × (slice_index_or xs n 0 ≡ b)
-in_at [] b i = absurd i
-in_at (x ∷ xs) b (inl e) = (0, omega arith, e)
-in_at (x ∷ xs) b (inr i) = let r = in_at xs b i in let l = r.1 in (suc r.0, omega (arith, l), r.2)
 
 -- ---- words of a head and of its items kept by their sorts
 

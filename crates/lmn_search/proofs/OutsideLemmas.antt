@@ -5,7 +5,7 @@ use Rattle.std.proofs.lemmas.Option.{same_Some, slice_get-get_or}
 use Rattle.std.proofs.lemmas.Bool.{cases_eq}
 use Rattle.lmn_base.specs.Lists.{In}
 use Rattle.lmn_base.specs.Graphs.{Port}
-use Rattle.lmn_base.proofs.Lists.{drop_get, get_there, get_below}
+use Rattle.lmn_base.proofs.Lists.{drop_get, get_there, get_below, get_index, get_set as get_set_here}
 use Rattle.lmn_base.proofs.Numbers.{unequal}
 use Rattle.lmn_heap.specs.Heap.{Heap, HeapAtom, IsAtom, IsMem, atoms_in, home_of, link_of, within}
 use Rattle.lmn_heap.specs.Conditions.{Above}
@@ -21,9 +21,9 @@ use Rattle.lmn_search.specs.declared.head.AtomItem.{AtomItem}
 use Rattle.lmn_search.specs.declared.head.MembraneItem.{MembraneItem}
 use Rattle.lmn_search.specs.declared.head.Head.{Head}
 use Rattle.lmn_search.specs.declared.placed.Placed.{Placed}
-use Rattle.lmn_search.proofs.WholeLemmas.{in_longer, item_in}
-use Rattle.lmn_search.proofs.WalkingLemmas.{get_set_here, get_set_away}
-use Rattle.lmn_search.proofs.FitsLemmas.{get_index}
+use Rattle.lmn_search.proofs.WholeLemmas.{in_longer}
+use Rattle.lmn_search.proofs.WalkingLemmas.{get_set_away}
+use Rattle.lmn_bridge.proofs.OutOf.{index_in as item_in}
 
 -- ---- counting
 
@@ -219,9 +219,3 @@ atom_leads h head a image p k outer b links e is ls inside leads =
       (λ z _. subst (λ (xs : List ℕ). LeadsOut h head xs image (membrane_at p.home p.membranes (outermost_in head.membranes a.inside))) ls (subst (LeadsOut h head links image) at (leads.0 z))),
       λ f. leads.1 (subst (LeadsOut h head links image) (sym at) (subst (λ (xs : List ℕ). LeadsOut h head xs image (membrane_at p.home p.membranes (outermost_in head.membranes a.inside))) (sym ls) (f inside))),
     )
-
--- what stands at a place of a list
-pub index_is : (xs : List ℕ) (i x : ℕ) → slice_get xs i ≡ Some x → slice_index_or xs i 0 ≡ x
-index_is [] i x e = absurd (cc)
-index_is (y ∷ xs) zero x e = same_Some _ _ e
-index_is (y ∷ xs) (suc i) x e = index_is xs i x e

@@ -2,11 +2,10 @@
 use Rattle.std.proofs.Common.{◌≡◌, ◌≢◌, ◌∙◌, ◌↔◌, ◌⊎◌, ℕ, zero, suc, ◌+◌, ◌<◌, ◌≤◌, List, [], ◌∷◌, ◌++◌, length, slice_get, slice_set, Option, Some, None, Bool, true, false, nat_eq, refl, sym, ap, subst, inl, inr, arith, length-append}
 use Rattle.std.proofs.lemmas.Option.{same_Some}
 use Rattle.std.proofs.lemmas.Bool.{cases_eq}
-use Rattle.std.specs.List.{AllByRecursion}
 use Rattle.lmn_base.specs.Lists.{In}
 use Rattle.lmn_base.specs.Graphs.{Reached, at_root, across, Port, SameGraph}
 use Rattle.lmn_base.specs.declared.functor.Functor.{Functor}
-use Rattle.lmn_base.proofs.Lists.{get_front, get_last, get_there, get_below, get_either}
+use Rattle.lmn_base.proofs.Lists.{get_front, get_last, get_there, get_below, get_either, get_set as get_set_here}
 use Rattle.lmn_base.proofs.Numbers.{equal_itself, unequal}
 use Rattle.lmn_heap.specs.Heap.{Heap, HeapAtom, IsAtom, Distinct, arity_of, functor_of, link_of}
 use Rattle.lmn_heap.specs.Sound.{Valid}
@@ -18,7 +17,8 @@ use Rattle.lmn_parts.proofs.AnswerLaws.{answer_here, answer_on}
 use Rattle.lmn_ground.proofs.EqualLaws.{agree_same}
 use Rattle.lmn_search.specs.Pairing.{Numbers, IsPair, AreTwins, Clash, Adds, Joins, Agree, Comparing, ComparingAt, Tells}
 use Rattle.lmn_search.specs.declared.pairs.Pairs.{Pairs}
-use Rattle.lmn_search.proofs.WalkingLemmas.{get_set_here, get_set_away, length_set, one_marked, blank, no_marks, all_unmarked, reached_atom}
+use Rattle.lmn_search.proofs.WalkingLemmas.{get_set_away, length_set, one_marked, blank, no_marks, all_unmarked, reached_atom}
+use Rattle.lmn_heap.proofs.ListLemmas.{each_in as in_by_all, each_of as all_by_in}
 
 -- ---- numbers in lists
 
@@ -72,15 +72,6 @@ one_place : (marks : List (Option ℕ)) (xs : List ℕ) (n m a : ℕ) → Number
 one_place marks xs n m a t e g =
     let f : Some (Some n) ≡ Some (Some m) = sym (t.marked a n e) ∙ t.marked a m g in
     same_Some _ _ (same_Some _ _ f)
-
-all_by_in : (P : ℕ → Type 0) (xs : List ℕ) → ((a : ℕ) → In a xs → P a) → AllByRecursion P xs
-all_by_in P [] h = tt
-all_by_in P (x ∷ xs) h = (h x (inl refl), all_by_in P xs (λ a i. h a (inr i)))
-
-in_by_all : (P : ℕ → Type 0) (xs : List ℕ) (a : ℕ) → AllByRecursion P xs → In a xs → P a
-in_by_all P [] a h i = absurd i
-in_by_all P (x ∷ xs) a h (inl e) = subst P e h.0
-in_by_all P (x ∷ xs) a h (inr i) = in_by_all P xs a h.1 i
 
 once_each : (xs : List ℕ) → ((n m a : ℕ) → slice_get xs n ≡ Some a → slice_get xs m ≡ Some a → n ≡ m) → Distinct xs
 once_each [] h = tt

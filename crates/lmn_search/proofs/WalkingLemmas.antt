@@ -5,7 +5,7 @@ use Rattle.std.proofs.lemmas.Result.{on_ok_weaker}
 use Rattle.std.proofs.lemmas.Bool.{cases_eq}
 use Rattle.lmn_base.specs.Lists.{In}
 use Rattle.lmn_base.specs.Graphs.{Reached, at_root, across, Port}
-use Rattle.lmn_base.proofs.Lists.{in_snoc, get_front, get_there}
+use Rattle.lmn_base.proofs.Lists.{in_snoc, get_front, get_there, get_set as get_set_here}
 use Rattle.lmn_heap.specs.Heap.{Heap, IsAtom, arity_of, link_of}
 use Rattle.lmn_heap.specs.Sound.{Valid}
 use Rattle.lmn_heap.specs.Graphs.{atom_map}
@@ -13,12 +13,6 @@ use Rattle.lmn_heap.proofs.Common.{in_at, position, linked_atom}
 use Rattle.lmn_heap.proofs.ListLemmas.{in_left, in_right}
 use Rattle.lmn_heap.proofs.Replacing.{port_within}
 use Rattle.lmn_search.specs.Walking.{IsMarked, unmarked, Tells, Notes, Walking, WalkingAt, HasPlaces, Leads, Gathering, GatheringAt, IsGathered}
-
--- what is set stands at its place, and leaves the others
-pub get_set_here : {A : Type 0} (xs : List A) (p : ℕ) (v : A) → p < length xs → slice_get (slice_set xs p v) p ≡ Some v
-get_set_here [] p v l = absurd (omega (arith, l))
-get_set_here (x ∷ xs) zero v l = refl
-get_set_here (x ∷ xs) (suc p) v l = get_set_here xs p v (omega (arith, l))
 
 pub get_set_away : {A : Type 0} (xs : List A) (p q : ℕ) (v : A) → q ≢ p → slice_get (slice_set xs p v) q ≡ slice_get xs q
 get_set_away [] p q v d = refl

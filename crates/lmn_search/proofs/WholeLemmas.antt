@@ -1,5 +1,5 @@
 -- Parts that stand whole.
-use Rattle.std.proofs.Common.{◌≡◌, ◌≢◌, ◌∙◌, ◌⊎◌, ℕ, zero, suc, ◌+◌, ◌<◌, ◌≤◌, List, [], ◌∷◌, take, length, slice_index_or, Option, Some, refl, sym, subst, inl, inr, arith}
+use Rattle.std.proofs.Common.{◌≡◌, ◌≢◌, ◌∙◌, ◌⊎◌, ℕ, zero, suc, ◌+◌, ◌<◌, ◌≤◌, List, [], ◌∷◌, take, length, slice_index_or, Option, Some, sym, subst, inl, inr, arith}
 use Rattle.std.proofs.lemmas.Option.{same_Some}
 use Rattle.lmn_base.specs.Lists.{In}
 use Rattle.lmn_base.specs.Graphs.{Port}
@@ -17,11 +17,6 @@ in_longer a (y ∷ xs) (suc i) l k = by (in_longer a xs i (omega (arith, l))) (l
     by : (In a (take (i + 1) xs) → In a (take i xs) ⊎ (slice_index_or xs i 0 ≡ a)) → In a (take (suc (i + 1)) (y ∷ xs)) → In a (take (suc i) (y ∷ xs)) ⊎ (slice_index_or xs i 0 ≡ a)
     by h (inl g) = inl (inl g)
     by h (inr m) = elim (h m) [ inl n ↦ inl (inr n) | inr g ↦ inr g ]
-
-pub item_in : (xs : List ℕ) (i : ℕ) → i < length xs → In (slice_index_or xs i 0) xs
-item_in [] i l = absurd (omega (arith, l))
-item_in (x ∷ xs) zero l = inl refl
-item_in (x ∷ xs) (suc i) l = inr (item_in xs i (omega (arith, l)))
 
 -- an item more that isn't a, and one more of which P holds
 pub not_so_far : (a : ℕ) (xs : List ℕ) (i : ℕ) → i < length xs → slice_index_or xs i 0 ≢ a → (In a (take i xs) → ⊥) → In a (take (i + 1) xs) → ⊥

@@ -9,6 +9,7 @@ use Rattle.lmn_base.specs.declared.solid.SolidAtom.{SolidAtom}
 use Rattle.lmn_settle.specs.declared.assembling.Part.{Part}
 use Rattle.lmn_settle.specs.Raw.{RawRegion, RawRegions, laid, laid_in, no_raw, raw, raw_and, settled, settled_all, settled_atom, size, size_in}
 use Rattle.lmn_settle.specs.Tables.{assembled, empty_part, given, no_part, whole}
+use Rattle.lmn_base.proofs.Lists.{map_itself as links_same}
 
 -- ---- each part lies in an earlier one
 
@@ -155,10 +156,6 @@ given_all_to_last ps p [] = ap (λ xs. ps ++ with_inner p xs ∷ []) (sym (appen
 given_all_to_last ps p (r ∷ rs) =
     ap (λ xs. given_all xs (length ps) rs) (given_to_last ps p r) ∙ given_all_to_last ps (with_inner p (p.membranes ++ r ∷ [])) rs
     ∙ ap (λ xs. ps ++ with_inner p xs ∷ []) (append_assoc p.membranes (r ∷ []) rs)
-
-links_same : (xs : List ℕ) → map (λ x. x) xs ≡ xs
-links_same [] = refl
-links_same (x ∷ xs) = ap (λ ys. x ∷ ys) (links_same xs)
 
 -- atoms with each link at itself
 pub atoms_same : (xs : List SolidAtom) → map (settled_atom (λ x. x)) xs ≡ xs

@@ -1,23 +1,17 @@
 -- Loops that give the links of each of some items their numbers.
-use Rattle.std.proofs.Common.{ℕ, zero, suc, ◌≡◌, ◌+◌, ◌<◌, ◌≤◌, ◌⊎◌, inl, inr, List, [], ◌∷◌, ◌++◌, map, length, set, get_or, drop, All, refl, sym, ap, ◌∙◌, subst, arith}
+use Rattle.std.proofs.Common.{ℕ, zero, suc, ◌≡◌, ◌+◌, ◌<◌, ◌≤◌, ◌⊎◌, inl, inr, List, [], ◌∷◌, ◌++◌, map, length, set, get_or, All, refl, sym, ap, ◌∙◌, subst, arith}
 use Rattle.std.specs.List.{flat_map}
-use Rattle.std.proofs.lemmas.List.{get_or-drop, get_or_append_left}
+use Rattle.std.proofs.lemmas.List.{get_or_append_left}
 use Rattle.lmn_numbering.proofs.LevelSteps.{Renumbers, all_left, all_right, renumbers_links, renumbers_next, renumbers_parts, renumbers_start}
 use Rattle.lmn_settle.specs.declared.numbers.Numbers.{Numbers}
 use Rattle.lmn_settle.specs.Tables.{Follows, Gives, HaveKeys, IsValid, class_in}
+use Rattle.lmn_base.proofs.Lists.{same_behind}
 
 -- The first i of the items xs have got their numbers, and ys are the items now. By a table of classes `f` renames an item, and `g`
 -- lists its classes.
 pub record Passed {A : Type 0} (f : List ℕ → (ℕ → ℕ) → A → A) (g : List ℕ → A → List ℕ) (old now : Numbers) (i : ℕ) (xs ys : List A) : Type 0 where
   pub classes : now.classes ≡ old.classes
   pub renumbers : Renumbers (f old.classes) (g old.classes) (record { numbers = old.numbers; count = old.count }) (record { numbers = now.numbers; count = now.count }) i xs ys
-
--- an item that isn't reached yet is as it was
-same_behind : {A : Type 0} (i : ℕ) (xs ys : List A) (d : A) → drop i ys ≡ drop i xs → get_or ys i d ≡ get_or xs i d
-same_behind i xs ys d e = sym (at_zero ys) ∙ ap (λ l. get_or l 0 d) e ∙ at_zero xs
-  where
-    at_zero : (l : List _) → get_or (drop i l) 0 d ≡ get_or l i d
-    at_zero l = let k : i + 0 ≡ i = omega arith in get_or-drop i l 0 d ∙ ap (λ n. get_or l n d) k
 
 -- what holds of all that items list holds of what one of them lists
 part : {A : Type 0} (g : A → List ℕ) (S : ℕ → Type 0) (i : ℕ) (xs : List A) (d : A) → i < length xs → All S (flat_map g xs) → All S (g (get_or xs i d))
@@ -84,6 +78,3 @@ read_more xs y x (inr s) h are e = ap (class_in (xs ++ y ∷ [])) s ∙ at_end x
     at_end : (xs : List ℕ) (y : ℕ) → class_in (xs ++ y ∷ []) (length xs) ≡ y
     at_end [] y = refl
     at_end (x ∷ xs) y = at_end xs y
-
-pub below_or_at : (x n : ℕ) → x < n + 1 → (x < n) ⊎ (x ≡ n)
-below_or_at x n l = grind arith

@@ -3,12 +3,12 @@ use Rattle.std.specs.Prelude.{◌==◌, ◌&&◌}
 use Rattle.std.proofs.Common.{ℕ, suc, ◌≡◌, ◌≢◌, ◌+◌, ◌<◌, ◌≤◌, ◌⊎◌, Bool, true, false, cond, inl, inr, List, [], ◌∷◌, ◌++◌, All, map, take, get_or, length, refl, sym, ap, ◌∙◌, subst, arith, append_assoc, append-nil}
 use Rattle.std.proofs.lemmas.Grind.{flat_map-append}
 use Rattle.std.proofs.lemmas.List.Folds.{flat_map-map}
-use Rattle.std.proofs.lemmas.List.{length-append, length-map, map-append, take_all, take_more}
+use Rattle.std.proofs.lemmas.List.{length-append, length-map, map-append, take_all}
 use Rattle.std.proofs.lemmas.List.Elements.{All-append, All-cons, All-head, All-nil, All-tail}
 use Rattle.std.specs.List.{flat_map}
 use Rattle.lmn_base.proofs.Common.{inner_leaves}
 use Rattle.lmn_base.proofs.FirstLemmas.{next_piece}
-use Rattle.lmn_base.proofs.Lists.{all_of_left, all_of_right, joined_alike as both}
+use Rattle.lmn_base.proofs.Lists.{all_of_left, all_of_right, joined_alike as both, map_itself as map_same, one_more}
 use Rattle.lmn_base.specs.Levels.{contexts_of, leaves_of, links_of, rule_contexts_of}
 use Rattle.lmn_base.specs.Links.{EachTwice}
 use Rattle.lmn_base.specs.Names.{HasNames, NamesPlain, NamesSolid, context_names, label_names, leaf_names, level_names, rule_names}
@@ -40,7 +40,7 @@ use Rattle.lmn_settle.specs.declared.settling.RawMembrane.{RawMembrane}
 use Rattle.lmn_settle.specs.Levels.{raw_of_level, raw_step, raws}
 use Rattle.lmn_settle.specs.Raw.{CanSettle, IsSettled, RawRegion, laid, laid_in, raw_atoms, raw_atoms_in, raw_links, settled, settled_all, settled_atom, size, size_in}
 use Rattle.lmn_settle.proofs.LaidParts.{laid_in_size}
-use Rattle.lmn_settle.proofs.SettledLinks.{atoms_settled, links_settled, map_same}
+use Rattle.lmn_settle.proofs.SettledLinks.{atoms_settled, links_settled}
 use Rattle.lmn_splice.proofs.Common.{in_back, in_front}
 use Rattle.lmn_splice.specs.Splice.{IsOneOf, both_links}
 
@@ -58,9 +58,6 @@ laid_one_more a n (x ∷ rs) r =
     ap (λ xs. laid a n x ++ xs) (laid_one_more a (n + size x) rs r)
     ∙ sym (append_assoc (laid a n x) (laid_in a (n + size x) (raws rs)) (laid a ((n + size x) + size_in (raws rs)) r))
     ∙ ap (λ k. (laid a n x ++ laid_in a (n + size x) (raws rs)) ++ laid a k r) e
-
-one_more : {X : Type 0} (xs : List X) (i : ℕ) (x : X) → i < length xs → x ≡ get_or xs i x → take i xs ++ x ∷ [] ≡ take (i + 1) xs
-one_more xs i x l e = ap (λ y. take i xs ++ y ∷ []) e ∙ sym (take_more xs i x l)
 
 -- the membranes of a level so far, and one more
 pub laid_next : (a number : ℕ) (l : Level-F Level) (start now next : List RawMembrane) (xs : List Level) (i : ℕ) (x : Level) → i < length xs → x ≡ get_or xs i x → number ≡ length start

@@ -26,6 +26,7 @@ use Rattle.lmn_settle.specs.Tables.{AreClasses, Follows, Gives, HaveKeys, IsNew,
 use Rattle.lmn_splice.proofs.ClassLemmas.{class_least, classes_twice, connected}
 use Rattle.lmn_splice.specs.Classes.{class_of}
 use Rattle.lmn_splice.specs.Splice.{IsOneOf, TwiceOrNever, both_links}
+use Rattle.lmn_base.proofs.Lists.{map_itself as map_same}
 
 -- ---- links with other numbers
 
@@ -192,10 +193,6 @@ renumbered_region classes t r = renamed (numbered_link classes (number_in t)) r
 
 pub table_is_laid : (classes : List ℕ) (t : Numbers) (r : RawRegion) (items numbered : List RawMembrane) → items ≡ laid 0 0 r → numbered ≡ map (numbered_membrane classes (number_in t)) items → numbered ≡ laid 0 0 (renumbered_region classes t r)
 table_is_laid classes t r items numbered e d = d ∙ ap (map (numbered_membrane classes (number_in t))) e ∙ laid_renamed classes (number_in t) 0 0 r
-
-pub map_same : (xs : List ℕ) → map (λ x. x) xs ≡ xs
-map_same [] = refl
-map_same (x ∷ xs) = ap (λ ys. x ∷ ys) (map_same xs)
 
 map_both : (f g : ℕ → ℕ) (xs : List ℕ) → map (λ x. f (g x)) xs ≡ map f (map g xs)
 map_both f g [] = refl

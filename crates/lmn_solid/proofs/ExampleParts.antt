@@ -14,12 +14,10 @@ use Rattle.lmn_solid.specs.Heads.{HeadAtom, HeadTyped}
 use Rattle.lmn_solid.proofs.Found.{found_none, found_one}
 use Rattle.lmn_solid.proofs.ExampleLinks.{four_five, not_a_name}
 use Rattle.lmn_base.specs.Lists.{In}
+use Rattle.lmn_base.proofs.Numbers.{one_is_not_zero as one_not_zero}
 
 other_index : (n i j : ℕ) → i ≢ j → ◌≢◌ {A = Port} (n, i) (n, j)
 other_index n i j d e = d (ap (λ p. p.1) e)
-
-one_not_zero : ◌≢◌ {A = ℕ} 1 0
-one_not_zero = omega arith
 
 -- ---- a part that comes back
 

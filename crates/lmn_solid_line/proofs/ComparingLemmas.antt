@@ -4,9 +4,9 @@ use Rattle.std.proofs.lemmas.List.{length-drop, take-append-drop}
 use Rattle.std.proofs.Math.Seq.{take-add}
 use Rattle.std.specs.Prelude.{Result}
 use Rattle.std.specs.Option.{option_map}
-use Rattle.std.proofs.lemmas.Option.{slice_get-get_or, slice_get_past}
+use Rattle.std.proofs.lemmas.Option.{slice_get_past}
 use Rattle.std.proofs.lemmas.Result.{on_ok_weaker, on_err_weaker}
-use Rattle.lmn_base.proofs.Lists.{drop_get}
+use Rattle.lmn_base.proofs.Lists.{drop_get, get_index as there}
 use Rattle.lmn_io.specs.Counts.{one_more}
 use Rattle.lmn_io.specs.Writing.{WritesText}
 use Rattle.lmn_io.specs.declared.sink.Failed.{Failed}
@@ -55,10 +55,6 @@ all_met text piece left at count failures since after other v view none is same 
       same = (refl, more);
       rose = tt;
     })))
-
--- the other byte is one of the piece
-there : (piece : List ℕ) (count : ℕ) → count < length piece → slice_get piece count ≡ Some (slice_index_or piece count 0)
-there piece count l = slice_get-get_or piece count 0 l
 
 -- of a piece of which a byte is another one a part is written
 pub other_met : (text piece left : List ℕ) (at count failures since after : ℕ) (other : Option ℕ) (v : Compared) (e : Failed) → IsComparison text at other failures → compared text at other failures since ≡ v → other ≡ None

@@ -1,6 +1,5 @@
 -- The bound of a store over slabs, and the number of its items.
 use Rattle.std.proofs.Common.{◌≡◌, ◌≢◌, ℕ, ◌+◌, ◌≤◌, List, [], ◌∷◌, ◌++◌, length, map, Option, Some, None, IsSome, refl, sym, ap, subst, ◌∙◌, inl, inr, arith, length-append}
-use Rattle.std.proofs.lemmas.List.Sums.{sum-map, sum_by-cons}
 use Rattle.std.specs.Prelude.{sum, is_some, count_by, slice_index_or}
 use Rattle.std.specs.Option.{option_map}
 use Rattle.lmn_heap.specs.Lists.{Distinct}
@@ -21,10 +20,7 @@ use Rattle.lmn_store.proofs.BuiltLemmas.{built_rules}
 use Rattle.lmn_store.proofs.FitsLemmas.{built_atoms, fits_sound}
 use Rattle.lmn_store.proofs.HoldsLemmas.{mem_is, mem_there, root_is, in_home}
 use Rattle.lmn_base.specs.Lists.{In}
-use Rattle.lmn_base.proofs.Lists.{in_either}
-
-sum_cons : (f : ℕ → ℕ) (x : ℕ) (xs : List ℕ) → sum (map f (x ∷ xs)) ≡ f x + sum (map f xs)
-sum_cons f x xs = sum-map f (x ∷ xs) ∙ sum_by-cons f x xs ∙ ap (λ n. f x + n) (sym (sum-map f xs))
+use Rattle.lmn_base.proofs.Lists.{in_either, sum_cons}
 
 -- totals of items that are all there
 total_ones : (A : ℕ → Option HeapAtom) (ks : List ℕ) → ((k : ℕ) → In k ks → IsSome (A k)) → total one A ks ≡ length ks

@@ -26,7 +26,7 @@ use Rattle.lmn_base.specs.Lists.{In}
 
 -- ---- how many integers code sets
 
-integers_both : (xs ys : List Instr) → integers_set (xs ++ ys) ≡ integers_set xs + integers_set ys
+pub integers_both : (xs ys : List Instr) → integers_set (xs ++ ys) ≡ integers_set xs + integers_set ys
 integers_both [] ys = omega arith
 integers_both (x ∷ xs) ys =
     let a = one_more x (xs ++ ys) in
@@ -34,7 +34,7 @@ integers_both (x ∷ xs) ys =
     let c = integers_both xs ys in
     omega (arith, a, b, c)
 
-operation_sets : (o : Arith) (v w x : ℕ) → integers_set (operator_instruction o v w x ∷ []) ≡ 1
+pub operation_sets : (o : Arith) (v w x : ℕ) → integers_set (operator_instruction o v w x ∷ []) ≡ 1
 operation_sets op.Add v w x = refl
 operation_sets op.Sub v w x = refl
 operation_sets op.Mul v w x = refl
@@ -49,7 +49,7 @@ comparison_sets cmp.Ge v w = refl
 comparison_sets cmp.Eq v w = refl
 comparison_sets cmp.Ne v w = refl
 
-differ_sets : (g k : Option ℕ) → integers_set (differ_parts_code g k) ≡ 0
+pub differ_sets : (g k : Option ℕ) → integers_set (differ_parts_code g k) ≡ 0
 differ_sets None k = refl
 differ_sets (Some g) None = refl
 differ_sets (Some g) (Some k) = refl

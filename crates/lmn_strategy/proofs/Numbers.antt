@@ -7,6 +7,7 @@ use Rattle.lmn_heap.specs.Sound.{Forest, Sound, Valid, AtMost, IsTree, flat}
 use Rattle.lmn_heap.proofs.Pigeonholes.{not_longer}
 use Rattle.lmn_heap.proofs.Trees.{after_split, in_here, is_mem, root_first}
 use Rattle.lmn_base.specs.Lists.{In}
+use Rattle.lmn_base.proofs.Numbers.{take_none}
 
 -- a list, cut at the element with a number
 pub record Cut (xs : List ℕ) (i m : ℕ) : Type 0 where
@@ -55,11 +56,6 @@ take_farther [] a b m l e = absurd (cc)
 take_farther (x ∷ xs) a zero m l e = absurd (omega (arith, l))
 take_farther (x ∷ xs) zero (suc b) m l e = (take b xs, let s : x ≡ m = (cc) in ap (λ z. z ∷ take b xs) s)
 take_farther (x ∷ xs) (suc a) (suc b) m l e = let r = take_farther xs a b m (omega (arith, l)) e in (r.0, ap (λ z. x ∷ z) r.1)
-
--- where the list ends, no more is taken
-take_none : (k : ℕ) → take {A = ℕ} k [] ≡ []
-take_none zero = refl
-take_none (suc k) = refl
 
 -- no more is taken than there is
 pub take_no_more : (xs : List ℕ) (a b : ℕ) → a ≤ b → slice_get xs a ≡ None → take b xs ≡ take a xs

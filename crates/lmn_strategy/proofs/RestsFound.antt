@@ -1,6 +1,6 @@
 -- What a match leaves in membranes: there is such a rest of each, that of an accepted rule is what its head leaves, and no link
 -- leaves it where the context is closed.
-use Rattle.std.proofs.Common.{ℕ, zero, suc, ◌≡◌, ◌<◌, ◌+◌, ◌==◌, Bool, true, false, cond, not, inl, inr, List, [], ◌∷◌, ◌++◌, map, length, Option, Some, None, refl, sym, ap, subst, ◌∙◌, arith}
+use Rattle.std.proofs.Common.{ℕ, zero, suc, ◌≡◌, ◌<◌, ◌+◌, ◌==◌, Bool, true, false, cond, not, inl, inr, List, [], ◌++◌, map, length, Option, Some, None, refl, sym, ap, subst, ◌∙◌, arith}
 use Rattle.std.specs.Prelude.{slice_get, ◌↔◌}
 use Rattle.std.proofs.lemmas.Bool.{cases_eq, eq-eqb, eqb-true}
 use Rattle.lmn_base.specs.declared.rule.RuleTree.{RuleTree}
@@ -15,7 +15,7 @@ use Rattle.lmn_heap.specs.Sound.{Forms, Valid}
 use Rattle.lmn_heap.proofs.Heights.{mem_of_place}
 use Rattle.lmn_heap.proofs.ListLemmas.{in_left, in_right}
 use Rattle.lmn_heap.proofs.Listing.{home_is}
-use Rattle.lmn_parts.specs.Rests.{IsRest, NoneLeaves, keep}
+use Rattle.lmn_parts.specs.Rests.{IsRest, NoneLeaves}
 use Rattle.lmn_parts.specs.Walks.{is_in}
 use Rattle.lmn_splice.specs.Classes.{rising}
 use Rattle.lmn_splice.specs.Splice.{IsOneOf}
@@ -40,6 +40,7 @@ use Rattle.lmn_commit.proofs.RestOf.{rest_of}
 use Rattle.lmn_cost.proofs.Finite.{part_listed}
 use Rattle.lmn_matching.specs.AcceptedCode.{AcceptedSetsItems, SetsItems}
 use Rattle.lmn_strategy.specs.Turns.{HoldsRestsOf, IsBesideCode, IsRestOf}
+use Rattle.lmn_commit.proofs.Owning.{keep_same}
 
 -- ---- atoms of parts
 
@@ -65,11 +66,6 @@ all_of_parts h valid (suc n) root whole =
     less k l d = grind arith
 
 -- ---- tests
-
--- tests that agree on a list keep the same of it
-keep_same : (p q : ℕ → Bool) (xs : List ℕ) → ((x : ℕ) → In x xs → p x ≡ q x) → keep p xs ≡ keep q xs
-keep_same p q [] e = refl
-keep_same p q (x ∷ xs) e = let more = keep_same p q xs (λ y i. e y (inr i)) in rw (e x (inl refl), more) refl
 
 -- So a rest by the one is a rest by the other.
 rest_by : (h : Heap) (m : ℕ) (left p q : ℕ → Bool) (atoms membranes : List ℕ) → ((x : ℕ) → In x (mems_in h m) → p x ≡ q x) → IsRest h m left p atoms membranes → IsRest h m left q atoms membranes

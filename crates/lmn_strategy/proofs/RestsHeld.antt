@@ -27,9 +27,7 @@ use Rattle.lmn_commit.proofs.RestOf.{rest_of}
 use Rattle.lmn_machine.specs.Searching.{AreAllSet, AreHeldWhole}
 use Rattle.lmn_strategy.specs.Turns.{HoldsRestsOf, IsBesideCode, IsRestOf}
 use Rattle.lmn_strategy.proofs.RestsFound.{all_of_parts}
-
-none_more : (k : ℕ) → 0 + k ≡ k
-none_more k = omega arith
+use Rattle.lmn_base.proofs.Numbers.{no_more as none_more}
 
 -- what is read of a list by its places
 map_rising : {B : Type 0} (f : ℕ → ℕ) (v : B → ℕ) (xs : List B) (a : ℕ) → ((k : ℕ) (x : B) → slice_get xs k ≡ Some x → f (a + k) ≡ v x) → map f (rising a (length xs)) ≡ map v xs

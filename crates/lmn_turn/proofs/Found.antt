@@ -46,15 +46,10 @@ use Rattle.lmn_turn.proofs.Held.{Held, HeldLevel, held_level, lies_kept}
 use Rattle.lmn_turn.proofs.Numbered.{SameImages, same_images, embedding_fresh}
 use Rattle.lmn_base.specs.Graphs.{Port}
 use Rattle.lmn_base.proofs.Lists.{weigh, get_below, weigh_append, get_map, plus_nothing}
-use Rattle.lmn_bridge.proofs.OutOf.{flattened_in, index_in, places_part, reads_index}
+use Rattle.lmn_bridge.proofs.OutOf.{flattened_in, index_in, places_part, reads_index, reads_run}
 use Rattle.lmn_base.specs.Lists.{In}
 
 -- ---- lists by their indices
-
--- what a map gives in a row is the list
-pub reads_run : {A : Type 0} (g : ℕ → A) (n : ℕ) (bs : List A) → Reads g n bs → run g n (length bs) ≡ bs
-reads_run g n [] h = refl
-reads_run g n (b ∷ bs) h = λ j. h.0 j ∷ reads_run g (n + 1) bs h.1 j
 
 module _ (h : Heap) (r : HeapReading) (read : IsRead h r) (kind : ℕ → TypeKind) (hd : Head) (m : ℕ) (inner : Forest) (forms : Forms h inner (mems_in h m)) (once : Distinct (m ∷ flat inner))
     (c : Contents) (plain : Plain (assignment_of c)) (ns : List ℕ) (rest : Region) (images : LevelImages (assignment_of c) (tree_of r.names r.rule hd) ns (region_at h r m inner) rest) (left : EachLeft c images)

@@ -15,7 +15,7 @@ use Rattle.lmn_adequacy.specs.Embedding.{KeepsLinks, Contents, assignment_of, Le
 use Rattle.lmn_adequacy.specs.Loose.{LevelImages, level_images, MembraneImages, no_membrane_image, membrane_image_and, filling, EachLeft, EachLeftIn}
 use Rattle.lmn_bridge.specs.HeapRegions.{HeapReading, regions_at}
 use Rattle.lmn_bridge.proofs.Counting.{list_atoms}
-use Rattle.lmn_bridge.proofs.Forests.{tops, Grown, taken_grown}
+use Rattle.lmn_bridge.proofs.Forests.{tops, Grown}
 use Rattle.lmn_bridge.proofs.Lying.{Kept, Lies, lies, LiesIn, lies_none, lies_and, rest_at}
 use Rattle.lmn_bridge.proofs.PartsOut.{PartsOut, parts_none, parts_atom, parts_typed, find_parts, flattened, merged_either}
 use Rattle.lmn_bridge.proofs.Pieces.{atom_at, atoms_each}
@@ -144,11 +144,6 @@ parts_or_left (parts_typed {parts = parts} {part = part} ground is m p) a i = el
 pub tops_sub : {h : Heap} {r : HeapReading} {link_of : ℕ → ℕ} {typed_of : Name → Rooted} {Q : Level → ℕ → List ℕ → Forest → Forest → Type 0} {ls : Levels} {bs ms ns : List ℕ} {ps : List (List ℕ)} {f f' : Forest} → LiesIn h r link_of typed_of Q ls bs ps ms ns f f' → Sublist (tops f') (tops f)
 tops_sub (lies_none {f = f}) = sub_itself (tops f)
 tops_sub (lies_and k d q later) = sub_then (tops_sub later) (sub_tree k)
-
--- and still a forest of the heap
-pub left_grown : {h : Heap} {r : HeapReading} {link_of : ℕ → ℕ} {typed_of : Name → Rooted} {Q : Level → ℕ → List ℕ → Forest → Forest → Type 0} {ls : Levels} {bs ms ns : List ℕ} {ps : List (List ℕ)} {f f' : Forest} → LiesIn h r link_of typed_of Q ls bs ps ms ns f f' → Grown h f → Grown h f'
-left_grown lies_none g = g
-left_grown {h = h} (lies_and k d q later) g = left_grown later (taken_grown h k g).1
 
 -- a grown forest is that of its first membranes
 pub grown_forms : (h : Heap) (f : Forest) → Grown h f → Forms h f (tops f)

@@ -28,10 +28,10 @@ use Rattle.lmn_bridge.proofs.Lying.{Lies, lies, LiesIn, lies_none, lies_and}
 use Rattle.lmn_bridge.proofs.PartsOut.{flattened, parts_both, flattened_left}
 use Rattle.lmn_bridge.proofs.Pieces.{atom_at, atoms_each, numbers}
 use Rattle.lmn_bridge.proofs.Walking.{flat_size}
-use Rattle.lmn_bridge.proofs.Weighing.{heavy_taken, level_weighs, membranes_weigh, weigh_nothing, weigh_out}
+use Rattle.lmn_bridge.proofs.Weighing.{heavy_taken, level_weighs, membranes_weigh, weigh_nothing, weigh_out, forest_left_grown as left_grown}
 use Rattle.lmn_compile_body.proofs.HeadContexts.{head_contexts, heads_contexts, heads_names, untyped, of_rules}
 use Rattle.lmn_turn.specs.Turning.{IsLeft}
-use Rattle.lmn_turn.proofs.Held.{Held, context_is, rule_context_is, parts_sub, parts_or_left, tops_sub, left_grown, grown_forms}
+use Rattle.lmn_turn.proofs.Held.{Held, context_is, rule_context_is, parts_sub, parts_or_left, tops_sub, grown_forms}
 use Rattle.lmn_turn.proofs.Sublists.{Sublist, sub_then, sub_without_all, gone_or_left, sub_is}
 use Rattle.lmn_base.proofs.Lists.{weigh, weigh_append}
 use Rattle.lmn_splice.proofs.Common.{in_append, in_back, in_front}

@@ -30,7 +30,7 @@ use Rattle.lmn_parts.proofs.WalkLaws.{once}
 use Rattle.lmn_parts.specs.Walks.{net, neighbour}
 use Rattle.lmn_body.specs.Running.{Registers, integer_functor}
 use Rattle.lmn_body.specs.Within.{membrane_images, dropped_mems, removed_mems, FiresWithin}
-use Rattle.lmn_body.proofs.AddedLemmas.{AreWholeRests, comes_from, in_if, long_enough, of_map}
+use Rattle.lmn_body.proofs.AddedLemmas.{AreWholeRests, comes_from, in_if, long_enough}
 use Rattle.lmn_body.proofs.BodyPorts.{numbers}
 use Rattle.lmn_body.proofs.Committing.{in_withouts_of}
 use Rattle.lmn_body.proofs.Held.{Held, HoldsRest}
@@ -41,6 +41,7 @@ use Rattle.lmn_compile_body.proofs.BodyTrees.{flat_body, flat_bodies}
 use Rattle.lmn_base.specs.Graphs.{Port}
 use Rattle.lmn_base.specs.Lists.{In}
 use Rattle.lmn_base.proofs.Lists.{in_either}
+use Rattle.lmn_base.proofs.Common.{of_map}
 
 -- some atoms of h, each once, with copies in h' of which an atom is one
 abbrev pub IsRestCopyAtom : Heap → Heap → ℕ → Type 0

@@ -11,6 +11,7 @@ use Rattle.lmn_bridge.proofs.Lying.{TakenTree, tree_first, tree_later}
 use Rattle.lmn_base.proofs.Numbers.{not_equal as apart_test}
 use Rattle.lmn_base.specs.Lists.{In}
 use Rattle.std.specs.List.{AllByRecursion}
+use Rattle.lmn_body.proofs.Contents.{without_all_there as step_kept}
 
 -- the first list has elements of the second, in their order
 pub data Sublist : List ℕ → List ℕ → Type 0 where
@@ -88,10 +89,6 @@ step_out (a ∷ ns) y ys d i = elim (cases_eq y a) [
 
     smaller : AllByRecursion (λ z. y ≢ z) (without a ys)
     smaller = each_of (λ z. y ≢ z) (without a ys) (λ z j. each_in (λ w. y ≢ w) ys z d.0 (in_without_of a z ys d.1 j).0)
-
-step_kept : (ns : List ℕ) (y : ℕ) (ys : List ℕ) → (In y ns → ⊥) → without_all ns (y ∷ ys) ≡ y ∷ without_all ns ys
-step_kept [] y ys o = refl
-step_kept (a ∷ ns) y ys o = rw (apart_test y a (λ e. o (inl (sym e)))) (step_kept ns y (without a ys) (λ j. o (inr j)))
 
 -- a sublist is what some numbers leave, where it has none of them and all others
 pub sub_is : (ns : List ℕ) {xs ys : List ℕ} → Sublist xs ys → Distinct ys → ((a : ℕ) → In a ys → In a ns ⊎ In a xs) → ((a : ℕ) → In a xs → In a ns → ⊥) → xs ≡ without_all ns ys

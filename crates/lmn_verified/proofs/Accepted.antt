@@ -33,8 +33,9 @@ use Rattle.lmn_verified.proofs.Finding.{numbered_length, found_atom, found_membr
 use Rattle.lmn_guards.proofs.AcceptedLemmas.{in_order as rule_order}
 use Rattle.lmn_verified.proofs.Integers.{head_gets, computes}
 use Rattle.lmn_verified.proofs.GuardSizes.{head_computes_few}
-use Rattle.lmn_verified.proofs.Resting.{rising_length, body_rests}
+use Rattle.lmn_verified.proofs.Resting.{body_rests}
 use Rattle.lmn_verified.proofs.InOrder.{total, head_in_order, body_in_order}
+use Rattle.lmn_verify.proofs.Deciding.{length_rising as rising_length}
 
 atoms_counted : (items : List HeadItem) (guard : List Cond) → length (atoms_found (head_code items guard)) ≡ length (atoms_of items)
 atoms_counted items guard = ap length (head_finds items guard) ∙ numbered_length found_atom 0 (atoms_of items)

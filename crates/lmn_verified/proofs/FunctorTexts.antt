@@ -1,16 +1,16 @@
 -- A functor has a text that no other has.
-use Rattle.std.proofs.Common.{ℕ, ℤ, pos, negsuc, ◌≡◌, ◌≢◌, ◌<◌, ◌≤◌, ◌^◌, ◌⊎◌, inl, inr, Bool, true, false, List, [], ◌∷◌, ◌++◌, AllPairs, length, get_or, refl, sym, ap, subst, ◌∙◌, arith, if◌then◌else◌}
+use Rattle.std.proofs.Common.{ℕ, ℤ, pos, negsuc, ◌≡◌, ◌≢◌, ◌<◌, ◌≤◌, ◌^◌, ◌⊎◌, inl, inr, Bool, true, false, List, [], ◌∷◌, ◌++◌, AllPairs, length, get_or, refl, sym, ap, ◌∙◌, arith, if◌then◌else◌}
 use Rattle.std.specs.Char.{is_ascii_lowercase}
 use Rattle.std.specs.Fmt.{decimal, signed_decimal}
 use Rattle.std.specs.Int.{is_in_range}
 use Rattle.std.specs.List.{flat_map, list_all}
 use Rattle.std.specs.Str.Parse.{AllDigits}
-use Rattle.std.proofs.lemmas.Bool.{cases_lt, leb-true}
+use Rattle.std.proofs.lemmas.Bool.{leb-true}
 use Rattle.std.proofs.lemmas.Fmt.{decimal_injective, decimal_is_IsNumeral, decimal_nonempty, signed_decimal_injective}
 use Rattle.std.proofs.lemmas.List.{append_cancel_left, append_cancel_right}
 use Rattle.std.proofs.lemmas.Str.Parse.{digit_from_value}
 use lib.Signed.{mag}
-use Rattle.lmn_base.proofs.Lists.{head_is, tail_is}
+use Rattle.lmn_base.proofs.Lists.{head_is, tail_is, one_number}
 use Rattle.lmn_base.proofs.Truth.{and_true}
 use Rattle.lmn_base.specs.declared.functor.Functor.{Functor}
 use Rattle.lmn_base.specs.declared.functor.Label.{Label}
@@ -22,6 +22,8 @@ use Rattle.lmn_instr.specs.Listings.{functor_text}
 use Rattle.lmn_lexer.specs.NameText.{name_text, quoted, quoted_byte}
 use Rattle.lmn_lexer.specs.Spelling.{goes_on, is_bare_name}
 use Rattle.lmn_verify.specs.Opcodes.{FitsLabel}
+use Rattle.lmn_functors.proofs.Common.{size_of}
+use Rattle.lmn_lexer.proofs.Common.{bare_unquoted}
 
 -- ---- names
 
@@ -35,13 +37,6 @@ quoted_one (x ∷ a) b e =
     let f = first_of_name b (q.0 ++ flat_map quoted_byte a) x front in
     let rest : quoted_byte x ++ flat_map quoted_byte a ≡ quoted_byte x ++ flat_map quoted_byte f.0 = ap (λ t. t ++ flat_map quoted_byte a) q.1 ∙ sym f.2 in
     ap (λ t. x ∷ t) (quoted_one a f.0 (append_cancel_left (quoted_byte x) _ _ rest)) ∙ sym f.1
-
--- a bare name begins with no quote
-pub bare_unquoted : (bytes rest : List ℕ) → is_bare_name bytes ≡ true → bytes ≡ 39 ∷ rest → ⊥
-bare_unquoted bytes rest h e = no (subst (λ b. is_bare_name b ≡ true) e h)
-  where
-    no : is_bare_name (39 ∷ rest) ≡ true → ⊥
-    no f = absurd (cc)
 
 -- a text is that of one name
 pub one_name : (a b : List ℕ) → name_text a ≡ name_text b → a ≡ b
@@ -100,19 +95,6 @@ name_no_integer name z h e =
     apart c d e (inr q) (inr (l, m)) = absurd (omega (arith, e, q, m))
 
 -- ---- labels and functors
-
--- a name of a list without repeats has one number
-one_number : (names : List (List ℕ)) → AllPairs (λ m n. m ≢ n) names → (m n : ℕ) → m < length names → n < length names → get_or names m [] ≡ get_or names n [] → m ≡ n
-one_number names once m n a b e = by (cases_lt m n) (cases_lt n m)
-  where
-    by : (m < n) ⊎ (n ≤ m) → (n < m) ⊎ (m ≤ n) → m ≡ n
-    by (inl l) s = absurd (once m n [] l b e)
-    by (inr h) (inl l) = absurd (once n m [] l a (sym e))
-    by (inr h) (inr k) = omega (arith, h, k)
-
-pub size_of : (z : ℤ) → IsIn64Bits z → mag z < 2 ^ 63
-size_of (pos n) h = h
-size_of (negsuc n) h = h
 
 -- A functor that has a text: the list has its name, and its numbers have as many bits as an instruction keeps of them.
 pub record HasText (names : List (List ℕ)) (f : Functor) : Type 0 where

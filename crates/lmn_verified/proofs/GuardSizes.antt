@@ -3,7 +3,6 @@ use Rattle.std.proofs.Common.{◌≡◌, ◌≤◌, ◌+◌, ℕ, true, List, []
 use Rattle.std.specs.Prelude.{sum_by}
 use Rattle.std.proofs.lemmas.List.Sums.{sum_by-cons}
 use Rattle.lmn_base.specs.RuleCodes.{condition_tokens, expression_tokens}
-use Rattle.lmn_base.specs.declared.guard.Arith.{Arith}
 use Rattle.lmn_base.specs.declared.guard.Arith.TheVariants as arithmetic
 use Rattle.lmn_base.specs.declared.guard.Cmp.{Cmp}
 use Rattle.lmn_base.specs.declared.guard.Cmp.TheVariants as cmp
@@ -19,17 +18,7 @@ use Rattle.lmn_instr.specs.declared.instr.Instr.TheVariants.{GetInt, Const, Add,
 use Rattle.lmn_instr.specs.HeadCode.{Entry, Computed, found_code, items_code, parts_code, all_filled_code, operator_instruction, named_code, value_code, comparison, part_named, equal_code, differ_parts_code, bind_register, guard_code, head_code}
 use Rattle.lmn_machine.specs.Searching.{integers_set}
 use Rattle.lmn_verified.proofs.HeadShapes.{is_check, looks_at_part, asks_membrane, all_items, parts, all_filled}
-
-integers_both : (xs ys : List Instr) → integers_set (xs ++ ys) ≡ integers_set xs + integers_set ys
-integers_both [] ys = omega arith
-integers_both (GetInt v g ∷ xs) ys = let h = integers_both xs ys in omega (arith, h)
-integers_both (Const v z ∷ xs) ys = let h = integers_both xs ys in omega (arith, h)
-integers_both (Add v w x ∷ xs) ys = let h = integers_both xs ys in omega (arith, h)
-integers_both (Sub v w x ∷ xs) ys = let h = integers_both xs ys in omega (arith, h)
-integers_both (Mul v w x ∷ xs) ys = let h = integers_both xs ys in omega (arith, h)
-integers_both (Div v w x ∷ xs) ys = let h = integers_both xs ys in omega (arith, h)
-integers_both (Mod v w x ∷ xs) ys = let h = integers_both xs ys in omega (arith, h)
-integers_both (_ ∷ xs) ys = integers_both xs ys
+use Rattle.lmn_strategy.proofs.GuardIntegers.{differ_sets as differ_none, integers_both, operation_sets as one_operation}
 
 -- code that computes none
 abbrev NoInteger : List Instr → Type 0
@@ -74,13 +63,6 @@ found_none n a (Some e) = refl
 
 -- ---- guards
 
-one_operation : (o : Arith) (v w x : ℕ) → integers_set (operator_instruction o v w x ∷ []) ≡ 1
-one_operation arithmetic.Add v w x = refl
-one_operation arithmetic.Sub v w x = refl
-one_operation arithmetic.Mul v w x = refl
-one_operation arithmetic.Div v w x = refl
-one_operation arithmetic.Mod v w x = refl
-
 no_comparison : (c : Cmp) (v w : ℕ) (xs : List Instr) → integers_set (comparison c v w ∷ xs) ≡ integers_set xs
 no_comparison cmp.Lt v w xs = refl
 no_comparison cmp.Le v w xs = refl
@@ -115,11 +97,6 @@ equal_few : (left right : Option ℕ) (c : Computed) (xs ys : List Instr) (t n :
 equal_few None right c xs ys t n h a b = let e = integers_both c.code xs in omega (arith, e, h, a)
 equal_few (Some l) None c xs ys t n h a b = omega (arith, b)
 equal_few (Some l) (Some r) c xs ys t n h a b = let e : integers_set ys ≤ (t + t) + n = omega (arith, b) in e
-
-differ_none : (left right : Option ℕ) → integers_set (differ_parts_code left right) ≡ 0
-differ_none None right = refl
-differ_none (Some g) None = refl
-differ_none (Some g) (Some k) = refl
 
 guard_few : (part : ℕ → Option ℕ) (bound : ℕ → ℕ) (v : ℕ) (cs : List Cond) → integers_set (guard_code part bound v cs) ≤ sum_by condition_tokens cs + sum_by condition_tokens cs
 guard_few part bound v [] = omega arith

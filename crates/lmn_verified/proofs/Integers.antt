@@ -1,9 +1,8 @@
 -- In the code of accepted rules GETINT is of integers.
 use Rattle.std.proofs.Common.{◌≡◌, ◌+◌, ◌==◌, ◌&&◌, ◌||◌, not, ℕ, zero, suc, Bool, true, false, if◌then◌else◌, List, [], ◌∷◌, ◌++◌, Option, Some, None, refl, sym, ap, ◌∙◌, subst, arith, true≢false}
 use Rattle.std.specs.Prelude.{slice_get, Contains}
-use Rattle.std.specs.List.{list_all, list_any, flat_map}
+use Rattle.std.specs.List.{list_all, list_any}
 use Rattle.std.proofs.lemmas.List.Folds.{list_all-append, list_any-append}
-use Rattle.std.proofs.lemmas.List.Concat.{flat_map-append}
 use Rattle.lmn_base.proofs.Lists.{some_is, none_is_not, contains_behind, contains_first}
 use Rattle.lmn_base.proofs.Numbers.{equal_itself}
 use Rattle.lmn_base.specs.Graphs.{Port}
@@ -24,7 +23,7 @@ use Rattle.lmn_compile_head.proofs.PlanKinds.{narrower, kind_of_leaf}
 use Rattle.lmn_compile_head.proofs.Places.{find_missed, stands_at}
 use Rattle.std.proofs.lemmas.List.Folds.{list_any_at}
 use Rattle.std.proofs.lemmas.List.Elements.{Contains-append_left, Contains-append_right}
-use Rattle.lmn_base.specs.Uses.{has_use, use_of, is_some_place}
+use Rattle.lmn_base.specs.Uses.{has_use, is_some_place}
 use Rattle.lmn_base.specs.declared.guard.Arith.{Arith}
 use Rattle.lmn_base.specs.declared.guard.Arith.TheVariants as arithmetic
 use Rattle.lmn_base.specs.declared.guard.Cmp.{Cmp}
@@ -34,8 +33,7 @@ use Rattle.lmn_base.specs.declared.guard.Cond.TheVariants.{Kind, Compare, Equal,
 use Rattle.lmn_base.specs.declared.guard.Expr.{Expr}
 use Rattle.lmn_base.specs.declared.guard.Expr.TheVariants as expr
 use Rattle.lmn_base.specs.declared.item.Item.{Item}
-use Rattle.lmn_base.specs.declared.refusal.Pos.{Pos}
-use Rattle.lmn_base.proofs.Common.{operation_items}
+use Rattle.lmn_base.proofs.Common.{operation_items, in_left, in_right}
 use Rattle.lmn_guards.proofs.WorkedGuards.{of_context}
 use Rattle.lmn_guards.specs.declared.plan.TypeKind.{TypeKind}
 use Rattle.lmn_guards.specs.declared.plan.TypeKind.TheVariants as kind
@@ -49,21 +47,6 @@ use Rattle.lmn_verify.specs.declared.found.FoundPart.{FoundPart}
 use Rattle.lmn_verify.specs.Verified.{gets_integer, is_int_kind}
 use Rattle.lmn_verified.proofs.Finding.{found_part, found_parts}
 use Rattle.lmn_verified.proofs.HeadShapes.{is_check, looks_at_part, asks_membrane, all_items, parts, all_filled}
-
--- a use in one of two lists
-in_left : (x : ℕ) (as' bs : List Item) → has_use x as' ≡ true → has_use x (as' ++ bs) ≡ true
-in_left x as' bs u = ap is_some_place (flat_map-append (use_of x) as' bs) ∙ some_left (flat_map (use_of x) as') (flat_map (use_of x) bs) u
-  where
-    some_left : (us vs : List Pos) → is_some_place us ≡ true → is_some_place (us ++ vs) ≡ true
-    some_left [] vs s = absurd (true≢false (sym s))
-    some_left (p ∷ us) vs s = refl
-
-in_right : (x : ℕ) (as' bs : List Item) → has_use x bs ≡ true → has_use x (as' ++ bs) ≡ true
-in_right x as' bs u = ap is_some_place (flat_map-append (use_of x) as' bs) ∙ some_right (flat_map (use_of x) as') (flat_map (use_of x) bs) u
-  where
-    some_right : (us vs : List Pos) → is_some_place vs ≡ true → is_some_place (us ++ vs) ≡ true
-    some_right [] vs s = s
-    some_right (p ∷ us) vs s = refl
 
 -- ---- code without GETINT
 

@@ -23,9 +23,10 @@ use Rattle.lmn_verify.proofs.Listed.{same_line, has_operands}
 use Rattle.lmn_verify.proofs.Places.{has_no_by_test}
 use Rattle.lmn_verify.proofs.OpcodeLemmas.{mnemonic_is, no_space, one_name}
 use Rattle.lmn_verify.proofs.LineLemmas.{form_text, IsFormed, first_follows, second_follows, third_follows}
-use Rattle.lmn_verified.proofs.WholeLines.{operands_behind, whole_first, not_empty, all_lines}
+use Rattle.lmn_verified.proofs.WholeLines.{operands_behind, all_lines}
 use Rattle.lmn_verified.proofs.Instrs.{one_instr}
 use Rattle.lmn_verified.proofs.Operands.{one_cut, one_some, one_parts}
+use Rattle.lmn_verify.proofs.Exclusion.{not_empty, whole_first}
 
 some_named : (ns : List (List ℕ)) (k : Option Kind) (o : Operand) → AllByRecursion (HasOperand ns) (some_operand k o) → HasSome ns k o
 some_named ns None o h = tt

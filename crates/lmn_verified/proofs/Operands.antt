@@ -8,7 +8,7 @@ use Rattle.lmn_base.specs.declared.functor.Functor.{Functor}
 use Rattle.lmn_base.proofs.Lists.{head_is, tail_is}
 use Rattle.lmn_instr.specs.declared.instr.AtomPort.{AtomPort}
 use Rattle.lmn_functors.specs.Reading.{IsIn64Bits}
-use Rattle.lmn_verified.proofs.FunctorTexts.{HasText, one_functor, size_of}
+use Rattle.lmn_verified.proofs.FunctorTexts.{HasText, one_functor}
 use Rattle.lmn_verify.specs.declared.words.Operand.{Operand}
 use Rattle.lmn_verify.specs.declared.words.Operand.TheVariants as operand
 use Rattle.lmn_verify.specs.declared.opcode.Kind.{Kind}
@@ -20,6 +20,7 @@ use Rattle.lmn_verify.specs.Taking.{IsBehind, FollowsKind, Follows, some_text, H
 use Rattle.lmn_verify.proofs.Places.{has_no_decimal}
 use Rattle.lmn_verify.proofs.OpcodeLemmas.{is_functor}
 use Rattle.lmn_verify.proofs.OperandLemmas.{operand_no_space, no_parts, parts_behind}
+use Rattle.lmn_functors.proofs.Common.{size_of}
 
 -- nothing stands behind, or this byte first
 abbrev pub Behind : ℕ → List ℕ → Type 0

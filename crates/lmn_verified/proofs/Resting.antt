@@ -1,5 +1,5 @@
 -- Behind what it takes out, the code of a body makes, then drops, then ties, and then ends.
-use Rattle.std.proofs.Common.{◌≡◌, ◌<◌, ◌≤◌, ◌+◌, ◌==◌, ◌&&◌, ◌||◌, not, ℕ, zero, suc, Bool, true, false, if◌then◌else◌, List, [], ◌∷◌, ◌++◌, length, map, drop, inl, inr, refl, sym, ap, ◌∙◌, arith, true≢false}
+use Rattle.std.proofs.Common.{◌≡◌, ◌<◌, ◌≤◌, ◌+◌, ◌==◌, ◌&&◌, ◌||◌, not, ℕ, Bool, true, false, if◌then◌else◌, List, [], ◌∷◌, ◌++◌, length, map, drop, inl, inr, refl, sym, ap, ◌∙◌, arith, true≢false}
 use Rattle.std.specs.Prelude.{nat_lt}
 use Rattle.std.specs.List.{AllByRecursion}
 use Rattle.std.proofs.lemmas.Bool.{lt-ltb, le-leb}
@@ -27,6 +27,7 @@ use Rattle.lmn_strategy.proofs.BodyInstructions.{HasRules}
 use Rattle.lmn_verify.specs.Verified.{is_open, is_removed, is_made, makes, makes_and_ties, drops_and_ties, ties_and_ends, ties}
 use Rattle.lmn_verify.specs.Verified as verified
 use Rattle.lmn_verified.proofs.BodyShapes.{makes_none, dropped, tied}
+use Rattle.lmn_verify.proofs.Deciding.{length_rising as rising_length}
 
 -- ---- what is made
 
@@ -181,11 +182,6 @@ all_old items = all_from_each (λ (e : AtomPort × ℕ). nat_lt e.0.atom (length
     lt-ltb e.0.atom (length (atoms_of items)) (omega (arith, l, number, same)))
 
 -- ---- the whole
-
--- how many numbers those are
-pub rising_length : (x n : ℕ) → length (rising x n) ≡ n
-rising_length x zero = refl
-rising_length x (suc n) = ap (λ k. suc k) (rising_length (suc x) n)
 
 mapped_length : (f : ℕ → Instr) (x n : ℕ) → length (map f (rising x n)) ≡ n
 mapped_length f x n = length-map (rising x n) f ∙ rising_length x n

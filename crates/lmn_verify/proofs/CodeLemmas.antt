@@ -18,9 +18,9 @@ use Rattle.lmn_verify.specs.Verified.{IsVerified}
 use Rattle.lmn_verify.specs.Lines.{rule, head, nothing, due_rule, IsWholeLine}
 use Rattle.lmn_verify.specs.Listings.{IsWholeCode, HasPlainLines, AreListed, IsFirstUnverified, lines_of, lines_of_all, listings_from}
 use Rattle.lmn_verify.specs.Reaching.{Reached, IsLineEnd, IsEnded, IsReadCode, AreReadCodes, IsRefusedLine}
-use Rattle.lmn_functors.proofs.NameLemmas.{adds_both, adds_none}
+use Rattle.lmn_functors.proofs.NameLemmas.{adds_both, adds_none, adds_more as adds_fewer}
 use Rattle.lmn_verify.proofs.LineLemmas.{more_instrs}
-use Rattle.lmn_verify.proofs.ReachingLemmas.{adds_fewer, reached_first, reached_more, reached_wrong, refusal_of, whole_where}
+use Rattle.lmn_verify.proofs.ReachingLemmas.{reached_first, reached_more, reached_wrong, refusal_of, whole_where}
 
 abbrev rule_line : ℕ → List ℕ
 rule_line j = codes "rule " ++ (decimal j ++ codes "\n")
@@ -86,13 +86,13 @@ code_read listing text before middle later j from first end at ln at2 ln2 code e
 -- ---- the listings of several
 
 -- a listing says the same with more names
-more_code : (n : ℕ) (a b : List (List ℕ)) → AddsNames n a b → (c : Code) (k : ℕ) → HasCode a c → HasCode b c × (code_listing b c k ≡ code_listing a c k) × (HasPlainLines a c → HasPlainLines b c)
+pub more_code : (n : ℕ) (a b : List (List ℕ)) → AddsNames n a b → (c : Code) (k : ℕ) → HasCode a c → HasCode b c × (code_listing b c k ≡ code_listing a c k) × (HasPlainLines a c → HasPlainLines b c)
 more_code n a b g c k h =
     let heads = more_instrs n a b g c.head h.0 in
     let bodies = more_instrs n a b g c.body h.1 in
     ((heads.0, bodies.0), (λ j. codes "rule " ++ (decimal k ++ (codes "\n" ++ (heads.1 j ++ bodies.1 j)))), λ s. (heads.2 s.0, bodies.2 s.1))
 
-more_codes : (n : ℕ) (a b : List (List ℕ)) → AddsNames n a b → (cs : List Code) (k : ℕ) → AllByRecursion (HasCode a) cs
+pub more_codes : (n : ℕ) (a b : List (List ℕ)) → AddsNames n a b → (cs : List Code) (k : ℕ) → AllByRecursion (HasCode a) cs
     → AllByRecursion (HasCode b) cs × (listings_from b k cs ≡ listings_from a k cs) × (AllByRecursion (HasPlainLines a) cs → AllByRecursion (HasPlainLines b) cs)
 more_codes n a b g [] k h = (tt, refl, λ s. s)
 more_codes n a b g (c ∷ cs) k h =

@@ -23,7 +23,7 @@ all_append f (x ∷ xs) ys = ap (λ b. f x && b) (all_append f xs ys) ∙ go (f 
     go true b = refl
     go false b = refl
 
-length_rising : (s n : ℕ) → length (rising s n) ≡ n
+pub length_rising : (s n : ℕ) → length (rising s n) ≡ n
 length_rising s zero = refl
 length_rising s (suc n) = ap suc (length_rising (suc s) n)
 

@@ -5,7 +5,7 @@ use Rattle.std.specs.List.{AllByRecursion, flat_map}
 use Rattle.std.specs.Fmt.{decimal}
 use Rattle.std.proofs.lemmas.Bool.Decides.{Decides-eqb}
 use Rattle.std.proofs.lemmas.List.{append_assoc, append-nil, length-append}
-use Rattle.lmn_base.proofs.Lists.{all_append, map_append, head_is, tail_is}
+use Rattle.lmn_base.proofs.Lists.{all_append, map_append, head_is, tail_is, behind_feed}
 use Rattle.lmn_instr.specs.declared.instr.Code.{Code}
 use Rattle.lmn_instr.specs.declared.instr.Instr.{Instr}
 use Rattle.lmn_instr.specs.Listings.{line, code_listing}
@@ -18,11 +18,12 @@ use Rattle.lmn_verify.specs.Reaching.{due_in, due_out, last_of}
 use Rattle.lmn_verify.proofs.Places.{has_no_decimal}
 use Rattle.lmn_verify.proofs.ReachingLemmas.{stays, goes_out, stands_in}
 use Rattle.lmn_verify.proofs.CodeLemmas.{due_here, due_none}
+use Rattle.lmn_base.proofs.Numbers.{no_feed}
 
 -- ---- whole lines
 
 -- a text is cut at its first line feed in one way
-feed_split : (x y r s : List ℕ) → HasNo 10 x → HasNo 10 y → x ++ 10 ∷ r ≡ y ++ 10 ∷ s → (x ≡ y) × (r ≡ s)
+pub feed_split : (x y r s : List ℕ) → HasNo 10 x → HasNo 10 y → x ++ 10 ∷ r ≡ y ++ 10 ∷ s → (x ≡ y) × (r ≡ s)
 feed_split [] [] r s h g e = (refl, tail_is e)
 feed_split [] (c ∷ cs) r s h g e = absurd (g.0 (sym (head_is e)))
 feed_split (b ∷ bs) [] r s h g e = absurd (h.0 (head_is e))
@@ -30,11 +31,7 @@ feed_split (b ∷ bs) (c ∷ cs) r s h g e =
     let more = feed_split bs cs r s h.1 g.1 (tail_is e) in
     ((λ i. head_is e i ∷ more.0 i), more.1)
 
--- a whole line and what stands behind it
-behind_feed : (x a r : List ℕ) → x ++ codes "\n" ≡ a → a ++ r ≡ x ++ 10 ∷ r
-behind_feed x a r e = ap (λ t. t ++ r) (sym e) ∙ append_assoc x (codes "\n") r
-
-whole_first : (a b r s : List ℕ) → IsWholeLine a → IsWholeLine b → a ++ r ≡ b ++ s → (a ≡ b) × (r ≡ s)
+pub whole_first : (a b r s : List ℕ) → IsWholeLine a → IsWholeLine b → a ++ r ≡ b ++ s → (a ≡ b) × (r ≡ s)
 whole_first a b r s v w e =
     let cut = feed_split v.0 w.0 r s v.1 w.1 (sym (behind_feed v.0 a r v.2) ∙ e ∙ behind_feed w.0 b s w.2) in
     (sym v.2 ∙ ap (λ t. t ++ codes "\n") cut.0 ∙ w.2, cut.1)
@@ -50,7 +47,7 @@ first_feed (b ∷ bs) r h = go (eqb b 10) (Decides-eqb b 10).0 (first_feed bs r 
 first_whole : (a r : List ℕ) → IsWholeLine a → first_line (a ++ r) ≡ a
 first_whole a r v = ap first_line (behind_feed v.0 a r v.2) ∙ first_feed v.0 r v.1 ∙ v.2
 
-not_empty : (a r : List ℕ) → IsWholeLine a → a ++ r ≡ [] → ⊥
+pub not_empty : (a r : List ℕ) → IsWholeLine a → a ++ r ≡ [] → ⊥
 not_empty a r v e =
     let none : v.0 ++ 10 ∷ r ≡ [] = sym (behind_feed v.0 a r v.2) ∙ e in
     let size = length-append v.0 (10 ∷ r) in
@@ -111,11 +108,11 @@ abbrev all_lines : List (List ℕ) → ℕ → List Code → List (List ℕ)
 all_lines ns k [] = []
 all_lines ns k (c ∷ cs) = rule_line k ∷ (map (line ns) c.head ++ (map (line ns) c.body ++ all_lines ns (k + 1) cs))
 
-joined_both : (xs ys : List (List ℕ)) → joined_lines (xs ++ ys) ≡ joined_lines xs ++ joined_lines ys
+pub joined_both : (xs ys : List (List ℕ)) → joined_lines (xs ++ ys) ≡ joined_lines xs ++ joined_lines ys
 joined_both [] ys = refl
 joined_both (x ∷ xs) ys = ap (λ t. x ++ t) (joined_both xs ys) ∙ sym (append_assoc x (joined_lines xs) (joined_lines ys))
 
-joined_map : (ns : List (List ℕ)) (is : List Instr) → joined_lines (map (line ns) is) ≡ flat_map (line ns) is
+pub joined_map : (ns : List (List ℕ)) (is : List Instr) → joined_lines (map (line ns) is) ≡ flat_map (line ns) is
 joined_map ns [] = refl
 joined_map ns (i ∷ is) = ap (λ t. line ns i ++ t) (joined_map ns is)
 
@@ -130,12 +127,9 @@ text_is ns k (c ∷ cs) =
     ap (λ t. code_listing ns c k ++ t) (text_is ns (k + 1) cs)
     ∙ ap (λ t. codes "rule " ++ t) (append_assoc (decimal k) (codes "\n" ++ (heads ++ bodies)) rest ∙ ap (λ t. decimal k ++ 10 ∷ t) (append_assoc heads bodies rest ∙ sym inner) ∙ sym (append_assoc (decimal k) (codes "\n") _))
 
-lines_whole : (ns : List (List ℕ)) (is : List Instr) → AllByRecursion (HasPlainLine ns) is → AllByRecursion IsWholeLine (map (line ns) is)
+pub lines_whole : (ns : List (List ℕ)) (is : List Instr) → AllByRecursion (HasPlainLine ns) is → AllByRecursion IsWholeLine (map (line ns) is)
 lines_whole ns [] h = tt
 lines_whole ns (i ∷ is) h = (h.0.1, lines_whole ns is h.1)
-
-no_feed : (b : ℕ) → 10 < b → b ≡ 10 → ⊥
-no_feed b l e = omega (arith, l, e)
 
 rule_whole : (k : ℕ) → k < 2 ^ 64 → IsWholeLine (rule_line k)
 rule_whole k l = (

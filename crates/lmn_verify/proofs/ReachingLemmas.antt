@@ -19,7 +19,7 @@ use Rattle.lmn_verify.specs.Opcodes.{opcode_of, is_in_head}
 use Rattle.lmn_verify.specs.declared.opcode.Opcode.TheVariants as opcode
 use Rattle.lmn_verify.specs.Lines.{Due, head, body, nothing, due_rule, due_behind, StandsAs, Stand, HasNo, IsPlaceOf, IsLine, HasShortNames, FitsInstr, IsWholeLine, joined_lines, first_line, IsWrongLine}
 use Rattle.lmn_verify.specs.Reaching.{Reached, IsLineEnd, IsReadAt, AreRead, IsBegun, IsEnded, IsRefusedLine, due_in, due_out, last_of}
-use Rattle.lmn_functors.proofs.NameLemmas.{adds_both, adds_none}
+use Rattle.lmn_functors.proofs.NameLemmas.{adds_both, adds_none, adds_more as adds_fewer}
 use Rattle.lmn_verify.proofs.Listed.{same_line}
 use Rattle.lmn_verify.proofs.LineLemmas.{more_instrs}
 
@@ -290,9 +290,6 @@ pub read_none : (b : Bool) (listing text : List ℕ) (at end : ℕ) → IsLineEn
 read_none b listing text at end e is none l = none (subst (IsLine b) (sym (is ∙ e.line)) l)
 
 -- ---- heads and bodies
-
-pub adds_fewer : (m n : ℕ) (a b : List (List ℕ)) → m ≤ n → AddsNames m a b → AddsNames n a b
-adds_fewer m n a b l g = record { more = g.more; are = g.are; few = let few = g.few in omega arith }
 
 pub adds_length : (n : ℕ) (a b : List (List ℕ)) → AddsNames n a b → length b ≤ length a + n
 adds_length n a b g = let few = g.few in let size = ap length g.are ∙ length-append a g.more in omega arith

@@ -12,6 +12,7 @@ use Rattle.lmn_verify.specs.Operands.{operands, all_operands}
 use Rattle.lmn_verify.specs.Verified.{is_next, is_set, uses_in_order, after_one, in_order, after, after_all, at_first, sets_register, finds, surveys, finds_first, stand_once, same_port, port_of_register, takes_out, removes}
 use Rattle.lmn_instr.specs.declared.instr.NewPort.{NewPort}
 use Rattle.lmn_instr.specs.declared.instr.NewPort.TheVariants as new
+use Rattle.lmn_base.proofs.Truth.{first_true as and_first}
 
 -- what holds at what is left from a place on
 pub more_at : {A B : Type 0} (F : List A → B) (xs : List A) (at : ℕ) (x : A) → at < length xs → x ≡ get_or xs at x → F (drop at xs) ≡ F (x ∷ drop (at + 1) xs)
@@ -60,10 +61,6 @@ first_alone sets c (o ∷ os) = refl
 pub after_told : (sets : Bool) (c : RegisterCounts) (ops : Operands) (os : List Operand) (first : Option Operand) → all_operands ops ≡ os → option_to_list first ≡ take 1 (all_operands ops)
     → after_one sets c (option_to_list first) ≡ after_one sets c os
 after_told sets c ops os first e f = ap (after_one sets c) (f ∙ ap (take 1) e) ∙ first_alone sets c os
-
-and_first : (a b : Bool) → (a && b) ≡ true → a ≡ true
-and_first true b e = refl
-and_first false b e = e
 
 pub first_allowed : (sets : Bool) (c : RegisterCounts) (ops : Operands) (os : List Operand) (first : Option Operand) → all_operands ops ≡ os → option_to_list first ≡ take 1 (all_operands ops)
     → uses_in_order sets c os ≡ true → list_all (λ o. if sets then is_next c o else is_set c o) (option_to_list first) ≡ true

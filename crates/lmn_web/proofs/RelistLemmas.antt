@@ -25,6 +25,7 @@ use Rattle.lmn_web.specs.Webs.{WebCell, web_cell, web_with, web_of, web_by, kind
 use Rattle.lmn_web.specs.Indexes.{cell_kind, IsListed, IsWeb}
 use Rattle.lmn_web.proofs.ListedLemmas.{kind_cases, link_behind, links_apart, count_behind, counts_apart, count_below, line_same, listed_self, web_self, home_same, kind_same, list_same, cell_of}
 use Rattle.lmn_web.proofs.WebLemmas.{some_back, Account, account, kept_web, reaches_same, paired_same}
+use Rattle.lmn_base.proofs.Common.{of_map as in_map}
 
 -- What of a cell no list changes
 
@@ -240,11 +241,6 @@ apart_more f ys l x e m n k j d = let a = apart_lists f ys l m n k j d in record
 }
 
 -- A list is no longer than the table of all cells
-
-in_map : (idx : ℕ → ℕ) (y : ℕ) (xs : List ℕ) → In y (map idx xs) → (z : ℕ) × In z xs × (idx z ≡ y)
-in_map idx y [] i = absurd i
-in_map idx y (x ∷ xs) (inl e) = (x, inl refl, e)
-in_map idx y (x ∷ xs) (inr i) = let r = in_map idx y xs i in (r.0, inr r.1, r.2)
 
 distinct_map : (idx : ℕ → ℕ) (xs : List ℕ) → Distinct xs → ((a b : ℕ) → In a xs → In b xs → idx a ≡ idx b → a ≡ b) → Distinct (map idx xs)
 distinct_map idx [] d one = tt

@@ -19,6 +19,7 @@ use Rattle.lmn_web.proofs.ListedLemmas.{Listing, listing, lists_same, listed_sel
 use Rattle.lmn_web.specs.Kinds.{kind_by}
 use Rattle.lmn_web.specs.declared.kind.CellKind.{CellKind}
 use Rattle.lmn_web.specs.declared.kind.CellKind.TheVariants.{Atom, Membrane}
+use Rattle.lmn_base.proofs.Lists.{get_end}
 
 -- Lists
 
@@ -372,10 +373,6 @@ get_front : (xs : List ℕ) (y i : ℕ) → i < length xs → slice_get (xs ++ y
 get_front [] y i l = absurd (omega (arith, l))
 get_front (x ∷ xs) y zero l = refl
 get_front (x ∷ xs) y (suc i) l = get_front xs y i (omega (arith, l))
-
-get_end : (xs : List ℕ) (y : ℕ) → slice_get (xs ++ y ∷ []) (length xs) ≡ Some y
-get_end [] y = refl
-get_end (x ∷ xs) y = get_end xs y
 
 -- what stands at an index stands before the end, or at it
 get_split : (xs : List ℕ) (y i b : ℕ) → slice_get (xs ++ y ∷ []) i ≡ Some b → (slice_get xs i ≡ Some b) ⊎ ((i ≡ length xs) × (b ≡ y))

@@ -16,10 +16,10 @@ use Rattle.lmn_base.specs.declared.functor.Label.{Label}
 use Rattle.lmn_base.specs.declared.functor.Label.TheVariants.{Int, Name}
 use Rattle.lmn_heap.proofs.WithFunctor.{functor_is, functor_same}
 use Rattle.lmn_heap.specs.Functors.{same_functor}
-use Rattle.lmn_weight.proofs.FunctorTexts.{any_default}
 use Rattle.lmn_weight.specs.declared.index.Entry.{Entry}
 use Rattle.lmn_weight.specs.Index.{IsFirstPlace, IsIndexOf, entries_from, entry_cmp, entry_of, is_at, label_number}
 use Rattle.lmn_weight.specs.Plains.{is_integer_label, listed_weight}
+use Rattle.lmn_base.proofs.Lists.{read_as as any_default}
 
 -- ---- the order
 

@@ -26,6 +26,7 @@ use Rattle.lmn_weight.specs.declared.weights.Weights.{Weights}
 use Rattle.lmn_weight.specs.Lines.{AreWeightsOf, HasText, IsFirstWrong, IsNamed, IsTold, IsWeightLine, IsWrong, MayBeNamed, Tell, integers, is_listed, line_more, membranes, no_line, of_functor, or_nothing}
 use Rattle.lmn_weight.specs.OneReading.{AreAlike, OneTelling, OneWrongLine, StandsBehind, ToldNotWrong}
 use Rattle.lmn_weight.specs.Plains.{is_integer, listed_weight}
+use Rattle.lmn_lines.proofs.Common.{feed_within as no_feed_within, joined_first as first_joined}
 
 -- ---- lines
 
@@ -37,10 +38,6 @@ one_line (x ∷ l) [] u v h k e = absurd (h.0 (head_is e))
 one_line (x ∷ l) (y ∷ m) u v h k e =
     let r = one_line l m u v h.1 k.1 (tail_is e) in
     (λ i. head_is e i ∷ r.0 i, r.1)
-
--- the first of some lines, and what stands behind it
-first_joined : (line : List ℕ) (lines : List (List ℕ)) (rest : List ℕ) → joined (line ∷ lines) ++ rest ≡ line ++ 10 ∷ (joined lines ++ rest)
-first_joined line lines rest = ap (λ t. t ++ rest) (append_assoc line (10 ∷ []) (joined lines)) ∙ append_assoc line (10 ∷ joined lines) rest
 
 -- lines at the front of a text are the first of at least as many others
 front_lines : (xs ys : List (List ℕ)) (u v : List ℕ) → AllByRecursion IsOneLine xs → AllByRecursion IsOneLine ys → joined xs ++ u ≡ joined ys ++ v → length xs ≤ length ys
@@ -62,11 +59,6 @@ same_lines (x ∷ xs) (y ∷ ys) h k e =
     let one = one_line x y (joined xs ++ []) (joined ys ++ []) h.0 k.0 (sym (first_joined x xs []) ∙ e ∙ first_joined y ys []) in
     let r = same_lines xs ys h.1 k.1 one.1 in
     λ i. one.0 i ∷ r i
-
--- a line has no line feed within
-no_feed_within : (u v : List ℕ) → IsOneLine (u ++ 10 ∷ v) → ⊥
-no_feed_within [] v h = h.0 refl
-no_feed_within (x ∷ u) v h = no_feed_within u v h.1
 
 none_at_end : {A : Type 0} (xs : List A) (x : A) (ys : List A) → [] ≡ xs ++ x ∷ ys → ⊥
 none_at_end xs x ys e = let n = ap length e in let s = length-append xs (x ∷ ys) in omega (arith, n, s)

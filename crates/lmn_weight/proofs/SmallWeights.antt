@@ -1,8 +1,7 @@
 -- A level weighs at most 1,000,000 for each of its items.
-use Rattle.std.proofs.Common.{Some, slice_get, ℕ, zero, suc, Bool, true, false, List, map, sum, length, subst, sym, ap, arith, ◌∙◌, ◌≡◌, ◌+◌, ◌*◌, ◌^◌, ◌<◌, ◌≤◌, [], ◌∷◌, if◌then◌else◌}
+use Rattle.std.proofs.Common.{Some, slice_get, ℕ, zero, suc, Bool, true, false, List, map, sum, length, subst, arith, ◌≡◌, ◌+◌, ◌*◌, ◌^◌, ◌<◌, ◌≤◌, [], ◌∷◌, if◌then◌else◌}
 use Rattle.std.specs.List.{AllByRecursion}
 use Rattle.std.proofs.lemmas.List.{length-map}
-use Rattle.std.proofs.lemmas.List.Sums.{sum-map, sum_by-cons}
 use Rattle.lmn_base.specs.declared.functor.Functor.{Functor}
 use Rattle.lmn_base.specs.declared.level.Leaf.{Leaf}
 use Rattle.lmn_base.specs.declared.level.Leaf.TheVariants.{Atom, Typed}
@@ -16,6 +15,7 @@ use Rattle.lmn_base.specs.declared.rule.Plain.{Plain}
 use Rattle.lmn_base.specs.declared.rule.RuleTree.{RuleTree}
 use Rattle.lmn_guards.specs.declared.plan.GuardPlan.{GuardPlan}
 use Rattle.lmn_weight.specs.Plains.{AreSmall, IsOfSize, is_integer, leaf_weight, level_weight, listed_weight, one_if_weighed, stands_for_int, weighed_items, weighed_step, weight_step}
+use Rattle.lmn_base.proofs.Lists.{sum_cons}
 
 listed_small : (fs : List Functor) (vs : List ℕ) (f : Functor) → AllByRecursion (λ n. n ≤ 1000000) vs → listed_weight fs vs f ≤ 1000000
 listed_small [] vs f h = omega arith
@@ -34,10 +34,6 @@ either_small false m n most h k = k
 scaled : (n m : ℕ) → m ≤ 1000000 → n * m ≤ 1000000 * n
 scaled zero m h = omega arith
 scaled (suc n) m h = let i = scaled n m h in let e : suc n * m ≡ m + n * m = grind arith in omega (arith, e, i, h)
-
--- a sum with a first part
-pub sum_cons : {X : Type 0} (f : X → ℕ) (x : X) (xs : List X) → sum (map f (x ∷ xs)) ≡ f x + sum (map f xs)
-sum_cons f x xs = sum-map f (x ∷ xs) ∙ sum_by-cons f x xs ∙ ap (λ n. f x + n) (sym (sum-map f xs))
 
 combined : (leaves n m inner atoms k items number : ℕ) → leaves ≤ 1000000 * atoms → n ≡ number → number * m ≤ 1000000 * number → k ≡ number → inner ≤ 1000000 * items → leaves + (n * m + inner) ≤ 1000000 * (atoms + (k + items))
 combined leaves n m inner atoms k items number a e b e' c = rw (e, e') (omega (arith, a, b, c))

@@ -1,5 +1,5 @@
 -- Each text tells weights, or a line of it is wrong.
-use Rattle.std.proofs.Common.{ℕ, zero, suc, pos, negsuc, ◌≡◌, ◌≢◌, ◌<◌, ◌≤◌, ◌+◌, ◌-◌, ◌^◌, ◌⊎◌, inl, inr, Bool, true, false, List, [], ◌∷◌, ◌++◌, Option, Some, None, IsSome, codes, length, take, drop, get_or, refl, sym, ap, subst, ◌∙◌, arith, if◌then◌else◌}
+use Rattle.std.proofs.Common.{ℕ, zero, suc, pos, negsuc, ◌≡◌, ◌≢◌, ◌<◌, ◌≤◌, ◌+◌, ◌-◌, ◌^◌, ◌⊎◌, inl, inr, Bool, true, false, List, [], ◌∷◌, ◌++◌, Option, Some, None, IsSome, codes, length, take, drop, get_or, refl, sym, ap, subst, ◌∙◌, arith}
 use Rattle.std.specs.Prelude.{bytes_eq, Ok}
 use Rattle.std.specs.Fmt.{decimal}
 use Rattle.std.specs.List.{AllByRecursion, flat_map}
@@ -8,7 +8,7 @@ use Rattle.std.proofs.lemmas.Bool.{cases_lt}
 use Rattle.std.proofs.lemmas.List.{append_assoc, append_cancel_right, get_or-drop, get_or_push, length-append, length-drop}
 use Rattle.std.proofs.lemmas.List.Quantifiers.{all_pairs_push}
 use Rattle.std.proofs.lemmas.Slice.Eq.{bytes_eq-Decides}
-use Rattle.lmn_base.proofs.Lists.{head_is, tail_is}
+use Rattle.lmn_base.proofs.Lists.{head_is, tail_is, read_as as any_default}
 use Rattle.lmn_base.proofs.Numbers.{same_or_not}
 use Rattle.lmn_base.specs.declared.functor.Functor.{Functor}
 use Rattle.lmn_base.specs.declared.functor.Label.TheVariants.{Int, Name}
@@ -21,13 +21,14 @@ use Rattle.lmn_instr.specs.Listings.{functor_text}
 use Rattle.lmn_lexer.specs.NameText.{name_text, quoted, quoted_byte}
 use Rattle.lmn_lexer.specs.Spelling.{is_bare_name}
 use Rattle.lmn_lines.specs.Lines.{HasNoSpace, IsOneLine, number_written}
-use Rattle.lmn_weight.proofs.FunctorTexts.{any_default, bare_unquoted, quoted_one}
+use Rattle.lmn_weight.proofs.FunctorTexts.{quoted_one}
 use Rattle.lmn_weight.proofs.LineLemmas.{Reached, item_taken, line_taken, line_unsplit, line_untaken, reached_all, reached_more, reached_start, reached_unended, reached_wrong}
 use Rattle.lmn_weight.specs.declared.told.Told.{Told}
 use Rattle.lmn_weight.specs.declared.weights.Weights.{Weights}
 use Rattle.lmn_weight.specs.Lines.{AreWeightsOf, HasText, IsFirstWrong, MayBeNamed, TakesFunctor, TakesItem, TakesLine, integers, is_listed, membranes, nothing_told, or_nothing}
 use Rattle.lmn_weight.specs.OneReading.{ToldOrWrong}
 use Rattle.lmn_weight.specs.Plains.{is_integer}
+use Rattle.lmn_lexer.proofs.Common.{bare_or_quoted, bare_unquoted, text_bare as bare_text, text_quoted as quoted_text}
 
 -- ---- decided
 
@@ -163,19 +164,6 @@ find_ended (b ∷ (c ∷ r)) = go (same_or_not b 39) (same_or_not c 39) (find_en
 -- a name of at most 255 bytes has the text, or none has it
 abbrev Named : List ℕ → Type 0
 Named text = ((name : List ℕ) × (length name ≤ 255) × (name_text name ≡ text)) ⊎ ((name : List ℕ) → length name ≤ 255 → name_text name ≡ text → ⊥)
-
-bare_or_quoted : (name text : List ℕ) → name_text name ≡ text → ((is_bare_name name ≡ true) × (name ≡ text)) ⊎ ((is_bare_name name ≡ false) × (quoted name ≡ text))
-bare_or_quoted name text e = by (is_bare_name name) refl e
-  where
-    by : (b : Bool) → is_bare_name name ≡ b → (if b then name else quoted name) ≡ text → ((is_bare_name name ≡ true) × (name ≡ text)) ⊎ ((is_bare_name name ≡ false) × (quoted name ≡ text))
-    by true h e = inl (h, e)
-    by false h e = inr (h, e)
-
-bare_text : (name : List ℕ) → is_bare_name name ≡ true → name_text name ≡ name
-bare_text name h = ap (λ b. if b then name else quoted name) h
-
-quoted_text : (name : List ℕ) → is_bare_name name ≡ false → name_text name ≡ quoted name
-quoted_text name h = ap (λ b. if b then name else quoted name) h
 
 -- the text is a bare name
 find_bare : (text : List ℕ) → is_bare_name text ≡ true → Named text

@@ -29,12 +29,13 @@ use Rattle.lmn_words.specs.declared.command.PairKind.TheVariants as kind
 use Rattle.lmn_words.specs.Forms.{CommandWord, IsFileName, IsNumber, Sets, AreFilesAndSettings, nothing, a_file, a_flag, two_words, one_word, ordered_by, Run, Pair, Request, to_run, to_compile, to_demo, to_pair, AsksRun, TextsAsk, pair_word, standing_first, standing_last, budget_of, size_of, order_name_of, seed_of}
 use Rattle.lmn_words.specs.Hearing.{no_settings, number_written, order_named, with_setting}
 use Rattle.lmn_words.specs.Parsing.{FoundIsRequest, Tells, compile_line, demo_line, pair_line, whole_line}
-use Rattle.lmn_words.proofs.WordLemmas.{bool_cases, if_some, number_read, option_word, order_read}
+use Rattle.lmn_words.proofs.WordLemmas.{if_some, number_read, option_word, order_read}
 use Rattle.lmn_words.proofs.SettingLemmas.{all_read, firsts, firsts_collected, front_empty, is_none, list_option, only_value, settings_all, trace_value, folded_value}
 use Rattle.lmn_words.proofs.ReadLemmas.{each_once, standing_names}
 use Rattle.lmn_words.proofs.WalkLemmas.{Stands, after_met, and_first_true, at_new_row, between, both_passes, both_walked, built_line, file_passes, file_walked, flag_id, flag_passes, flag_walked, given, held, name_passes, name_walked, named, option_id, passes, plain_met, plain_passes, run_rules, run_shape, stands_done, stands_file, stands_option, step_of_met, used_new, used_once, value_walked, value_word_passes}
 use Rattle.lmn_base.proofs.Numbers.{unequal as not_same}
 use Rattle.std.proofs.lemmas.Bool.{and_from}
+use Rattle.lmn_base.proofs.Truth.{bool_cases}
 
 -- ---- what rows tell
 

@@ -18,9 +18,10 @@ use Rattle.lmn_words.specs.declared.command.PairKind.{PairKind}
 use Rattle.lmn_words.specs.declared.command.PairKind.TheVariants as kind
 use Rattle.lmn_words.specs.Forms.{texts_of, InForm, IsInRanges, CommandWord, IsFileName, Sets, AreFilesAndSettings, nothing, a_file, a_flag, two_words, one_word, EachAtMostOnce, OnlyOr, ordered_by, Run, Pair, Request, to_run, to_compile, to_demo, to_pair, AsksRun, AsksCompile, AsksDemo, AsksPair, TextsAsk, IsForm, pair_word, standing_first, standing_last, flag_word, trace_of, folded_of, budget_of, size_of, order_name_of, seed_of}
 use Rattle.lmn_words.specs.Hearing.{is_file_name, flag_named, option_named, setting_of, with_setting, Heard, no_settings, nothing_heard, hear_setting, hear_value, hear_file, equals_at, hear_option, hear_flag, hear_dashes, hear_word, hear_waiting, hear, hear_all, run_by, run_heard, run_read, file_read, demo_read, pair_named, pair_in_order, pair_read, pair_asked, request_read}
-use Rattle.lmn_words.proofs.WordLemmas.{bool_cases, false_true, if_some, map_some, then_some, number_from_told, number_from_read, flag_told, option_word, option_told, setting_told, setting_read, file_told, file_read_is, cut_told, is_bytes}
+use Rattle.lmn_words.proofs.WordLemmas.{false_true, if_some, map_some, then_some, number_from_told, number_from_read, flag_told, option_word, option_told, setting_told, setting_read, file_told, file_read_is, cut_told, is_bytes}
 use Rattle.lmn_words.proofs.SettingLemmas.{settings_all, is_none, list_option, front_empty, all_told, all_read, firsts, firsts_collected, at_most_one, only_value, value_only, flag_only, trace_value, folded_value}
 use Rattle.lmn_base.proofs.Numbers.{unequal as not_same}
+use Rattle.lmn_base.proofs.Truth.{and_true as both_true, bool_cases, if_no as if_false}
 
 -- ---- what is read was spelled
 
@@ -130,10 +131,6 @@ name_heard valued.Budget f s = refl
 name_heard valued.Size f s = refl
 name_heard valued.Order f s = refl
 name_heard valued.Seed f s = refl
-
-if_false : {A : Type 0} (b : Bool) (x y : A) → b ≡ false → (if b then x else y) ≡ y
-if_false true x y e = false_true (sym e)
-if_false false x y e = refl
 
 cut_heard : (h : Heard) (w : CommandWord) → (equals_at w ≡ length w → ⊥)
     → hear_option h w ≡ option_and_then (λ o. hear_value h o (drop (equals_at w + 1) w)) (option_named (take (equals_at w) w))
@@ -303,10 +300,6 @@ order_undone kind.Bound file second = refl
 pub standing_names : (k : PairKind) (file second : CommandWord) → IsFileName file → IsFileName second → IsFileName (standing_first k file second) × IsFileName (standing_last k file second)
 standing_names kind.Debug file second f s = (f, s)
 standing_names kind.Bound file second f s = (f, s)
-
-both_true : (a b : Bool) → (a && b) ≡ true → (a ≡ true) × (b ≡ true)
-both_true true b e = (refl, e)
-both_true false b e = false_true e
 
 pair_read_told : (words : List CommandWord) (k : PairKind) (p : Pair) → pair_read words k ≡ Some p → (p.kind ≡ k) × AsksPair words p
 pair_read_told [] k p e = absurd (none-some p e)

@@ -14,8 +14,9 @@ use Rattle.lmn_words.specs.declared.setting.Valued.{Valued}
 use Rattle.lmn_words.specs.declared.setting.Valued.TheVariants as valued
 use Rattle.lmn_words.specs.Forms.{flag_word}
 use Rattle.lmn_words.specs.Parsing.{run_line, whole_line}
-use Rattle.lmn_words.proofs.WordLemmas.{bool_cases, option_word}
+use Rattle.lmn_words.proofs.WordLemmas.{option_word}
 use Rattle.std.proofs.lemmas.Bool.{or_right}
+use Rattle.lmn_base.proofs.Truth.{bool_cases}
 
 -- ---- the built commands
 

@@ -1,5 +1,5 @@
 -- What single words are: numbers, names of options, values.
-use Rattle.std.proofs.Common.{◌≡◌, ℕ, suc, ◌+◌, ◌<◌, ◌≤◌, ◌⊎◌, ◌^◌, ◌==◌, ◌&&◌, not, nat_le, Bool, true, false, if◌then◌else◌, cond, [], ◌∷◌, ◌++◌, length, take, drop, Option, Some, None, Result, Ok, Err, option_map, option_and_then, OkIff, bytes_eq, codes, inl, inr, refl, sym, ap, ◌∙◌, subst, arith}
+use Rattle.std.proofs.Common.{◌≡◌, ℕ, suc, ◌+◌, ◌<◌, ◌≤◌, ◌^◌, ◌==◌, ◌&&◌, not, nat_le, Bool, true, false, if◌then◌else◌, cond, [], ◌∷◌, ◌++◌, length, take, drop, Option, Some, None, Result, Ok, Err, option_map, option_and_then, OkIff, bytes_eq, codes, inl, inr, refl, sym, ap, ◌∙◌, subst, arith}
 use Rattle.std.specs.List.{list_all}
 use Rattle.std.specs.Result.{result_ok}
 use Rattle.std.specs.Char.{digit_value}
@@ -19,7 +19,7 @@ use Rattle.lmn_words.specs.declared.setting.OrderName.TheVariants as name
 use Rattle.lmn_words.specs.Forms.{CommandWord, IsFileName, IsNumber, flag_word, order_word, Sets}
 use Rattle.lmn_words.specs.Hearing.{begins_with, is_file_name, is_digit, number_written, number_from, order_named, flag_named, option_named, setting_of, equals_at}
 use Rattle.lmn_base.proofs.Numbers.{unequal as not_same}
-use Rattle.lmn_base.proofs.Truth.{first_true as and_first, not_true as not_false, second_true as and_second}
+use Rattle.lmn_base.proofs.Truth.{first_true as and_first, not_true as not_false, second_true as and_second, bool_cases}
 use Rattle.std.proofs.lemmas.Slice.Eq.{bytes_eq-Decides}
 
 -- words that pass the test are the same
@@ -27,11 +27,6 @@ pub is_bytes : (w v : CommandWord) → bytes_eq w v ≡ true → w ≡ v
 is_bytes w v e = (bytes_eq-Decides w v).0 e
 
 -- ---- tests and options
-
--- a truth value is true or false
-pub bool_cases : (b : Bool) → (b ≡ true) ⊎ (b ≡ false)
-bool_cases true = inl refl
-bool_cases false = inr refl
 
 -- from false being true anything follows
 pub false_true : {P : Type 0} → false ≡ true → P

@@ -1,6 +1,7 @@
 use Rattle.std.proofs.Common.{arith}
-use Rattle.lmn_commit.proofs.Placing.{one_waits, place_step, still_in_place}
+use Rattle.lmn_commit.proofs.Placing.{one_waits, place_step}
 use Rattle.lmn_commit.proofs.committing.place_atoms.Goals as goal
+use Rattle.lmn_ground.proofs.PlaceLaws.{still_in_place}
 
 pub place_atom-atom-requires-clause-waiting : goal.place_atom-atom-requires-clause-waiting
 place_atom-atom-requires-clause-waiting g c =

@@ -2,8 +2,9 @@ use Rattle.std.proofs.Common.{◌≡◌, ◌+◌, ◌-◌, sym, subst, arith}
 use Rattle.lmn_schedule.specs.Held.{HoldsRegion}
 use Rattle.lmn_debug.specs.Courses.{IsAt}
 use Rattle.lmn_debug.proofs.Exactness.{courses_are_one}
-use Rattle.lmn_debug.proofs.Held.{closed_held, throughout_held}
+use Rattle.lmn_debug.proofs.Held.{throughout_held}
 use Rattle.lmn_debug.proofs.laws.steps_are_taken_back.Goals as goal
+use Rattle.lmn_schedule.proofs.Common.{closed_held}
 
 pub returns : goal.returns
 returns c names table g fresh held t n t' before after back s stepped b =

@@ -3,8 +3,9 @@ use Rattle.lmn_store.specs.Kept.{heap_of}
 use Rattle.lmn_debug.specs.Courses.{course}
 use Rattle.lmn_debug.specs.Sessions.{StandsAt}
 use Rattle.lmn_debugging.specs.Obeying.{HaltedSo}
-use Rattle.lmn_debugging.proofs.Obeyings.{all_written, stands_first}
+use Rattle.lmn_debugging.proofs.Obeyings.{all_written}
 use Rattle.lmn_debugging.proofs.debugging.debug.Goals as goal
+use Rattle.lmn_debug.proofs.Turns.{stands_first}
 
 pub returns-in-Ok-clause-debugged : goal.returns-in-Ok-clause-debugged
 returns-in-Ok-clause-debugged g c k gives named held =

@@ -8,9 +8,10 @@ use Rattle.lmn_adequacy.specs.Runs.{Chooser}
 use Rattle.lmn_drive.specs.Answers.{BrokeByAnswers, GoingByAnswers, StepsOnByAnswers, StoppedByAnswers}
 use Rattle.lmn_drive.specs.declared.driving.Stop.TheVariants as stop
 use Rattle.lmn_drive.proofs.Answered.{carried, first_broke, first_going, irreducible_stops, reducible_stops}
-use Rattle.lmn_drive.proofs.Goings.{broke_first, going_first, moved, stops_budget, stops_done}
+use Rattle.lmn_drive.proofs.Goings.{broke_first, going_first, stops_budget, stops_done}
 use Rattle.lmn_drive.proofs.Writings.{at_err}
 use Rattle.lmn_drive.proofs.driving.run.Goals as goal
+use Rattle.lmn_heap.proofs.Common.{moved}
 
 pub returns-in_err-write_traced-clause-stops : goal.returns-in_err-write_traced-clause-stops
 returns-in_err-write_traced-clause-stops g c k gives solid held =

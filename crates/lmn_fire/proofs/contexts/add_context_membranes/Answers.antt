@@ -2,8 +2,9 @@ use Rattle.std.proofs.Common.{sym, subst}
 use Rattle.lmn_heap.specs.Heap.{IsMem}
 use Rattle.lmn_flat.specs.Flats.{heap_of}
 use Rattle.lmn_fire.specs.Making.{AreThere}
-use Rattle.lmn_fire.proofs.Laying.{context_more, named_there, root_there}
+use Rattle.lmn_fire.proofs.Laying.{context_more, named_there}
 use Rattle.lmn_fire.proofs.contexts.add_context_membranes.Goals as goal
+use Rattle.lmn_turn.proofs.ReadAgain.{root_mem as root_there}
 
 pub add_left_membranes-requires-clause-membrane : goal.add_left_membranes-requires-clause-membrane
 add_left_membranes-requires-clause-membrane c =

@@ -2,8 +2,9 @@ use Rattle.std.proofs.Common.{sym, subst}
 use Rattle.lmn_heap.specs.Heap.{IsMem}
 use Rattle.lmn_flat.specs.Flats.{heap_of}
 use Rattle.lmn_fire.specs.Making.{AreThere}
-use Rattle.lmn_fire.proofs.Laying.{named_there, root_there}
+use Rattle.lmn_fire.proofs.Laying.{named_there}
 use Rattle.lmn_fire.proofs.contexts.add_rules.Goals as goal
+use Rattle.lmn_turn.proofs.ReadAgain.{root_mem as root_there}
 
 pub rules-requires : goal.rules-requires
 rules-requires c =

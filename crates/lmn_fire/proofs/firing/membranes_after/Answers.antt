@@ -7,8 +7,8 @@ use Rattle.lmn_flat.specs.Flats.{heap_of}
 use Rattle.lmn_settle.specs.Raw.{laid}
 use Rattle.lmn_fire.specs.Making.{WaitsFor, fired_region, home_region, level_made}
 use Rattle.lmn_fire.proofs.Fired.{none_waits, root_waits}
-use Rattle.lmn_fire.proofs.Laying.{root_there}
 use Rattle.lmn_fire.proofs.firing.membranes_after.Goals as goal
+use Rattle.lmn_turn.proofs.ReadAgain.{root_mem as root_there}
 
 pub loop-init : goal.loop-init
 loop-init c =

@@ -1,8 +1,8 @@
 use Rattle.std.proofs.Common.{◌≡◌, ◌++◌, ◌∷◌, [], ℕ, List, Some, sym, ap, ◌∙◌}
 use Rattle.std.proofs.lemmas.Slice.Eq.{strip_prefix_is, strip_suffix_is}
 use Rattle.std.proofs.lemmas.Bool.Decides.{Decides-eqb}
-use Rattle.lmn_functors.proofs.QuotedLemmas.{some_weaker}
 use Rattle.lmn_functors.proofs.reading.unquoted.Goals as goal
+use Rattle.lmn_base.proofs.Lists.{weaker as some_weaker}
 
 pub returns-in-Some-strip_suffix-clause-some : goal.returns-in-Some-strip_suffix-clause-some
 returns-in-Some-strip_suffix-clause-some c =

@@ -1,7 +1,7 @@
 use Rattle.std.proofs.Common.{◌∙◌, arith}
 use Rattle.lmn_search.proofs.BelowLemmas.{one_more}
-use Rattle.lmn_search.proofs.WholeLemmas.{item_in}
 use Rattle.lmn_search.proofs.below.note_all.Goals as goal
+use Rattle.lmn_bridge.proofs.OutOf.{index_in as item_in}
 
 pub note-requires : goal.note-requires
 note-requires c = let l = c.requires _ (item_in c.args.numbers.now c.loop-number.number-index c.loop-number-test.true) in let e = c.loop-number.invariant.long in omega (arith, l, e)

@@ -1,8 +1,8 @@
 use Rattle.lmn_heap.specs.Heap.{atoms_in}
 use Rattle.lmn_flat.specs.Flats.{heap_of}
 use Rattle.lmn_search.proofs.ClosingLemmas.{atoms_more, atoms_all}
-use Rattle.lmn_search.proofs.WholeLemmas.{item_in}
 use Rattle.lmn_search.proofs.closed.add_atoms.Goals as goal
+use Rattle.lmn_bridge.proofs.OutOf.{index_in as item_in}
 
 pub atoms-requires : goal.atoms-requires
 atoms-requires c = c.requires.membranes _ (item_in c.args.membranes.now c.loop-membrane.membrane-index c.loop-membrane-test.true)

@@ -1,9 +1,10 @@
 use Rattle.std.proofs.Common.{refl}
 use Rattle.lmn_flat.specs.Flats.{heap_of}
 use Rattle.lmn_search.specs.Closing.{PortsStay}
-use Rattle.lmn_search.proofs.WholeLemmas.{item_in, in_whole, all_so_far}
+use Rattle.lmn_search.proofs.WholeLemmas.{in_whole, all_so_far}
 use Rattle.lmn_search.proofs.PairingLemmas.{port_differs}
 use Rattle.lmn_search.proofs.closed.all_stay.Goals as goal
+use Rattle.lmn_bridge.proofs.OutOf.{index_in as item_in}
 
 pub ports_stay-requires-clause-atom : goal.ports_stay-requires-clause-atom
 ports_stay-requires-clause-atom c = c.requires.atoms _ (item_in c.args.atoms.now c.loop-atom.atom-index c.loop-atom-test.true)

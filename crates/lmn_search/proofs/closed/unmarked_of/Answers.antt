@@ -1,7 +1,7 @@
 use Rattle.lmn_search.specs.Walking.{IsMarked}
 use Rattle.lmn_search.proofs.ClosingLemmas.{others_more, others_all}
-use Rattle.lmn_search.proofs.WholeLemmas.{item_in}
 use Rattle.lmn_search.proofs.closed.unmarked_of.Goals as goal
+use Rattle.lmn_bridge.proofs.OutOf.{index_in as item_in}
 
 pub add_unmarked-requires : goal.add_unmarked-requires
 add_unmarked-requires c = c.requires _ (item_in c.args.numbers.now c.loop-number.number-index c.loop-number-test.true)

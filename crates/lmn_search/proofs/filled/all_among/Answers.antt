@@ -1,8 +1,9 @@
 use Rattle.std.proofs.Common.{refl}
 use Rattle.lmn_base.specs.Lists.{In}
-use Rattle.lmn_search.proofs.WholeLemmas.{item_in, in_whole, all_so_far}
+use Rattle.lmn_search.proofs.WholeLemmas.{in_whole, all_so_far}
 use Rattle.lmn_search.proofs.PairingLemmas.{port_differs}
 use Rattle.lmn_search.proofs.filled.all_among.Goals as goal
+use Rattle.lmn_bridge.proofs.OutOf.{index_in as item_in}
 
 pub returns-then-not-has : goal.returns-then-not-has
 returns-then-not-has c = ((λ z. absurd (cc)), λ f. absurd (port_differs c.has.ensures.1 c.if-not-has.true (f _ (item_in c.args.numbers.now c.loop-number.number-index c.loop-number-test.true))))

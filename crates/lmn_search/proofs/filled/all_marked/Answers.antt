@@ -1,9 +1,10 @@
 use Rattle.std.proofs.Common.{refl, slice_index_or}
 use Rattle.lmn_search.specs.Walking.{IsMarked}
 use Rattle.lmn_search.proofs.OutsideLemmas.{is_marked}
-use Rattle.lmn_search.proofs.WholeLemmas.{item_in, in_whole, all_so_far}
+use Rattle.lmn_search.proofs.WholeLemmas.{in_whole, all_so_far}
 use Rattle.lmn_search.proofs.PairingLemmas.{port_differs}
 use Rattle.lmn_search.proofs.filled.all_marked.Goals as goal
+use Rattle.lmn_bridge.proofs.OutOf.{index_in as item_in}
 
 pub has-requires : goal.has-requires
 has-requires c = c.requires _ (item_in c.args.numbers.now c.loop-number.number-index c.loop-number-test.true)

@@ -1,8 +1,9 @@
 use Rattle.std.proofs.Common.{◌∙◌, arith, slice_index_or, inl, inr}
 use Rattle.lmn_search.proofs.OutsideLemmas.{mark_more}
 use Rattle.lmn_search.proofs.WalkingLemmas.{set_length}
-use Rattle.lmn_search.proofs.WholeLemmas.{item_in, in_whole, in_part}
+use Rattle.lmn_search.proofs.WholeLemmas.{in_whole, in_part}
 use Rattle.lmn_search.proofs.filled.mark_all.Goals as goal
+use Rattle.lmn_bridge.proofs.OutOf.{index_in as item_in}
 
 pub set-requires : goal.set-requires
 set-requires c = let l = c.requires _ (item_in c.args.numbers.now c.loop-number.number-index c.loop-number-test.true) in let e = c.loop-number.invariant.long in omega (arith, l, e)

@@ -3,8 +3,8 @@ use Rattle.std.proofs.lemmas.Option.{slice_get-get_or}
 use Rattle.lmn_flat.specs.Flats.{heap_of, port_by}
 use Rattle.lmn_search.proofs.FitsLemmas.{fits_atom, fits_more}
 use Rattle.lmn_search.proofs.PairingLemmas.{port_differs}
-use Rattle.lmn_search.proofs.WholeLemmas.{item_in}
 use Rattle.lmn_search.proofs.fits.port_fits.Goals as goal
+use Rattle.lmn_bridge.proofs.OutOf.{index_in as item_in}
 
 pub leads_to_all-requires-clause-atom : goal.leads_to_all-requires-clause-atom
 leads_to_all-requires-clause-atom c = c.requires.images _ (item_in c.args.images.now c.args.place.atom c.requires.place)

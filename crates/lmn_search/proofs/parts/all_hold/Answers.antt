@@ -5,8 +5,8 @@ use Rattle.lmn_search.proofs.OutsideLemmas.{each_more, each_all}
 use Rattle.std.proofs.lemmas.Option.{slice_get-get_or}
 use Rattle.lmn_flat.specs.Flats.{heap_of, port_by}
 use Rattle.lmn_search.proofs.PairingLemmas.{port_differs}
-use Rattle.lmn_search.proofs.WholeLemmas.{item_in}
 use Rattle.lmn_search.proofs.parts.all_hold.Goals as goal
+use Rattle.lmn_bridge.proofs.OutOf.{index_in as item_in}
 
 pub holds_at-requires-clause-atom : goal.holds_at-requires-clause-atom
 holds_at-requires-clause-atom c = c.requires.images _ (item_in c.args.images.now c.loop-number.number (let l = c.loop-number-test.true in let e = c.requires.all in omega (arith, l, e)))

@@ -5,8 +5,8 @@ use Rattle.lmn_flat.specs.Flats.{heap_of, port_by}
 use Rattle.lmn_search.specs.Parting.{LeadsTo}
 use Rattle.lmn_search.specs.declared.head.AtomItem.{AtomItem}
 use Rattle.lmn_search.proofs.OutsideLemmas.{each_more, each_all}
-use Rattle.lmn_search.proofs.WholeLemmas.{item_in}
 use Rattle.lmn_search.proofs.parts.entry_of.Goals as goal
+use Rattle.lmn_bridge.proofs.OutOf.{index_in as item_in}
 
 pub entry_at-requires-clause-atom : goal.entry_at-requires-clause-atom
 entry_at-requires-clause-atom c = c.requires.images _ (item_in c.args.images.now c.loop-number.number (let l = c.loop-number-test.true in let e = c.requires.all in omega (arith, l, e)))

@@ -11,8 +11,8 @@ use Rattle.lmn_search.proofs.ChoosingLemmas.{answers_atom, answers_membrane, ans
 use Rattle.lmn_search.proofs.OutsideLemmas.{atom_listed}
 use Rattle.lmn_search.proofs.PairingLemmas.{port_differs}
 use Rattle.lmn_search.proofs.SearchLemmas.{apart_in}
-use Rattle.lmn_search.proofs.WholeLemmas.{item_in}
 use Rattle.lmn_search.proofs.search.+search.Goals as goal
+use Rattle.lmn_bridge.proofs.OutOf.{index_in as item_in}
 
 pub search-fulfil-requires-clause-atoms : goal.search-fulfil-requires-clause-atoms
 search-fulfil-requires-clause-atoms t c = end_atoms (heap_of c.args.flat.now) c.args.head.now c.args.items.now c.args.placed.now (nothing_left c.args.items.now c.in-empty.len_below) c.requires.sits

@@ -1,7 +1,8 @@
 use Rattle.std.proofs.Common.{refl, subst}
 use Rattle.lmn_base.specs.Lists.{In}
-use Rattle.lmn_search.proofs.WholeLemmas.{item_in, not_so_far}
+use Rattle.lmn_search.proofs.WholeLemmas.{not_so_far}
 use Rattle.lmn_search.proofs.whole.has.Goals as goal
+use Rattle.lmn_bridge.proofs.OutOf.{index_in as item_in}
 
 pub returns-then-other-number : goal.returns-then-other-number
 returns-then-other-number c = ((λ z. subst (λ n. In n c.args.list.now) c.if-other-number.true (item_in c.args.list.now c.loop-other.other-index c.loop-other-test.true)), λ i. refl)

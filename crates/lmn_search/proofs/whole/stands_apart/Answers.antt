@@ -2,8 +2,9 @@ use Rattle.std.proofs.Common.{◌∙◌, ap, Some, refl}
 use Rattle.lmn_flat.specs.Flats.{heap_of}
 use Rattle.lmn_search.specs.Walking.{Fits}
 use Rattle.lmn_search.proofs.PairingLemmas.{port_differs}
-use Rattle.lmn_search.proofs.WholeLemmas.{item_in, in_whole, all_so_far, all_fit, one_misfits, misfit_home}
+use Rattle.lmn_search.proofs.WholeLemmas.{in_whole, all_so_far, all_fit, one_misfits, misfit_home}
 use Rattle.lmn_search.proofs.whole.stands_apart.Goals as goal
+use Rattle.lmn_bridge.proofs.OutOf.{index_in as item_in}
 
 pub home-requires : goal.home-requires
 home-requires c = c.requires.atoms _ (item_in c.args.atoms.now c.loop-atom.atom-index c.loop-atom-test.true)

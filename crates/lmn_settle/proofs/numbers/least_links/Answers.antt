@@ -2,8 +2,9 @@ use Rattle.std.proofs.Common.{[], ◌∷◌, ◌≡◌, ◌∙◌, ap, length, a
 use Rattle.std.proofs.lemmas.List.{length-append}
 use Rattle.lmn_settle.specs.Tables.{class_in}
 use Rattle.lmn_splice.specs.Classes.{class_of}
-use Rattle.lmn_settle.proofs.NumberLoops.{below_or_at, read_more}
+use Rattle.lmn_settle.proofs.NumberLoops.{read_more}
 use Rattle.lmn_settle.proofs.numbers.least_links.Goals as goal
+use Rattle.lmn_base.proofs.Numbers.{below_next2 as below_or_at}
 
 pub loop-link-init : goal.loop-link-init
 loop-link-init c =

@@ -6,8 +6,9 @@ use Rattle.lmn_debug.specs.Courses.{course, most_turns, wish}
 use Rattle.lmn_debug.specs.Sessions.{StandsWaited}
 use Rattle.lmn_debug.specs.Turning.{Waits, WaitsOn, counted}
 use Rattle.lmn_debug.specs.declared.session.Stop.TheVariants as stop
-use Rattle.lmn_debug.proofs.Turns.{moved_to, moved, waits_first, waits_limit, waits_met}
+use Rattle.lmn_debug.proofs.Turns.{moved_to, waits_first, waits_limit, waits_met}
 use Rattle.lmn_debug.proofs.session.Session.until.Goals as goal
+use Rattle.lmn_heap.proofs.Common.{moved}
 
 pub loop-init : goal.loop-init
 loop-init g c =
