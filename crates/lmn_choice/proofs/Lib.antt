@@ -2,20 +2,20 @@ pub mod Lists
 pub mod Paths
 pub mod Numbers
 pub mod Placed
-mod Codes
-mod Ends
-mod Renumbering
-mod RestsHeld
-mod Choices
-mod Asked
-mod Items
-mod Spares
-mod ExampleHeaps
-mod Choosers
-mod Runs
-mod Copying
-mod RestCopying
-mod Makings
-mod Fresh
-mod Costs
-mod Full
+pub mod Codes
+pub mod Ends
+pub mod Renumbering
+pub mod RestsHeld
+pub mod Choices
+pub mod Asked
+pub mod Items
+pub mod Spares
+pub mod ExampleHeaps
+pub mod Choosers
+pub mod Runs
+pub mod Copying
+pub mod RestCopying
+pub mod Makings
+pub mod Fresh
+pub mod Costs
+pub mod Full

@@ -23,7 +23,7 @@ abbrev regions_first : Heap → (ℕ → ℕ → ℕ) → ℕ → Forest → Reg
 regions_first s name n x = roll-Region (record { atoms = solid_atoms_at s name (atoms_in s n); membranes = regions_of s name x; rules = rules_in s n })
 
 -- what holds of each rule of the regions of a forest holds of each rule of its membranes
-in_forest : (P : ℕ → Type 0) (s : Heap) (name : ℕ → ℕ → ℕ) (f : Forest) → All P (all_rules (regions_of s name f)) → (m : ℕ) → In m (flat f) → All P (rules_in s m)
+pub in_forest : (P : ℕ → Type 0) (s : Heap) (name : ℕ → ℕ → ℕ) (f : Forest) → All P (all_rules (regions_of s name f)) → (m : ℕ) → In m (flat f) → All P (rules_in s m)
 in_forest P s name bare h m i = absurd i
 in_forest P s name (mem n x r) h m i =
     let here : rules (regions_first s name n x) ≡ rules_in s n ++ all_rules (regions_of s name x) = fold-roll-Region (List ℕ) rules_step _ in

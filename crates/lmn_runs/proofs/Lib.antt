@@ -1,5 +1,5 @@
 mod LabelsStay
-mod Tables
+pub mod Tables
 mod GoodLevels
 pub mod TraceLines
 pub mod TraceRuns

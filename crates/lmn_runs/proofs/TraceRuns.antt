@@ -169,7 +169,7 @@ module _ (names : List Name) where
     numbers_fine S f = subst (λ xs. NumbersLinks xs f.numbered.0) (sym (region_links S)) f.numbered.1
 
     -- the plain line of such a solid is that of its process,
-    plain_fine : (S : Region) → Fine S → IsLineOf names (region_process S) (line_of (as_level S))
+    pub plain_fine : (S : Region) → Fine S → IsLineOf names (region_process S) (line_of (as_level S))
     plain_fine S f =
         let fine = rules_fine S f in
         let back = lines_read_back alloc names (as_level S) f.numbered.0 is (region_held S f.atoms fine) (spelled_fine S f) (numbers_fine S f) (region_numbered S fine) (no_contexts S) in

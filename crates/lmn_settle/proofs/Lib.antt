@@ -1,4 +1,4 @@
-mod NumberLoops
-mod LaidParts
+pub mod NumberLoops
+pub mod LaidParts
 pub mod SettledLinks
 pub mod PlainSolids

@@ -23,7 +23,7 @@ use Rattle.lmn_base.specs.Lists.{In}
 use Rattle.lmn_base.proofs.Lists.{in_either, sum_cons}
 
 -- totals of items that are all there
-total_ones : (A : ℕ → Option HeapAtom) (ks : List ℕ) → ((k : ℕ) → In k ks → IsSome (A k)) → total one A ks ≡ length ks
+pub total_ones : (A : ℕ → Option HeapAtom) (ks : List ℕ) → ((k : ℕ) → In k ks → IsSome (A k)) → total one A ks ≡ length ks
 total_ones A [] h = refl
 total_ones A (k ∷ ks) h = let r = total_ones A ks (λ j i. h j (inr i)) in let w = by (A k) (h k (inl refl)) in omega arith
   where
@@ -31,7 +31,7 @@ total_ones A (k ∷ ks) h = let r = total_ones A ks (λ j i. h j (inr i)) in let
     by None i = absurd (cc)
     by (Some x) i = refl
 
-total_rules : (B : ℕ → Option HeapMem) (ks : List ℕ) → ((k : ℕ) → In k ks → IsSome (B k)) → total with_rules B ks ≡ length ks + sum (map (λ k. length (rules_by (B k))) ks)
+pub total_rules : (B : ℕ → Option HeapMem) (ks : List ℕ) → ((k : ℕ) → In k ks → IsSome (B k)) → total with_rules B ks ≡ length ks + sum (map (λ k. length (rules_by (B k))) ks)
 total_rules B [] h = refl
 total_rules B (k ∷ ks) h =
     let r = total_rules B ks (λ j i. h j (inr i)) in
@@ -42,7 +42,7 @@ total_rules B (k ∷ ks) h =
     by None i = absurd (cc)
     by (Some x) i = refl
 
-total_spare : (B : ℕ → Option HeapMem) (ks : List ℕ) → total (λ (x : HeapMem). x.spare) B ks ≡ sum (map (λ k. spare_by (B k)) ks)
+pub total_spare : (B : ℕ → Option HeapMem) (ks : List ℕ) → total (λ (x : HeapMem). x.spare) B ks ≡ sum (map (λ k. spare_by (B k)) ks)
 total_spare B [] = refl
 total_spare B (k ∷ ks) = let r = total_spare B ks in let w = by (B k) in let s = sum_cons (λ k. spare_by (B k)) k ks in omega arith
   where

@@ -15,4 +15,4 @@ pub mod ReadLemmas
 pub mod RulePairs
 pub mod MovePairs
 pub mod NewPair
-mod CheckLemmas
+pub mod CheckLemmas

@@ -1,46 +1,46 @@
 pub mod PlanTypes
-mod Steps
-mod Standings
-mod Adders
-mod Locals
-mod CopyLinks
-mod EachCopy
-mod CopyMaps
-mod RestMaps
-mod OwnLinks
+pub mod Steps
+pub mod Standings
+pub mod Adders
+pub mod Locals
+pub mod CopyLinks
+pub mod EachCopy
+pub mod CopyMaps
+pub mod RestMaps
+pub mod OwnLinks
 pub mod Bodies
-mod MadeLevels
-mod Kept
+pub mod MadeLevels
+pub mod Kept
 pub mod Leading
-mod LinksBelow
-mod LinksKept
-mod Paths
-mod Connectors
-mod MadeMembers
-mod RestsAlone
-mod Turns
-mod Made
-mod Namings
-mod NamesKept
-mod Places
-mod Contents
+pub mod LinksBelow
+pub mod LinksKept
+pub mod Paths
+pub mod Connectors
+pub mod MadeMembers
+pub mod RestsAlone
+pub mod Turns
+pub mod Made
+pub mod Namings
+pub mod NamesKept
+pub mod Places
+pub mod Contents
 pub mod Leavings
-mod RulesKept
-mod ReadAgain
+pub mod RulesKept
+pub mod ReadAgain
 pub mod HeadLinks
-mod FiredMaps
-mod TurnsNext
-mod Sublists
-mod Numbered
-mod Held
-mod Found
-mod LeftOver
-mod Contexts
-mod BoundIntegers
+pub mod FiredMaps
+pub mod TurnsNext
+pub mod Sublists
+pub mod Numbered
+pub mod Held
+pub mod Found
+pub mod LeftOver
+pub mod Contexts
+pub mod BoundIntegers
 pub mod Embedded
-mod Tables
+pub mod Tables
 pub mod Turned
-mod PartOrder
+pub mod PartOrder
 pub mod CopiedParts
-mod PartNames
-mod PartLinks
+pub mod PartNames
+pub mod PartLinks
