@@ -184,6 +184,7 @@ module _ (k : Kept) (n m s : ℕ) (h : AlwaysHolds k n m s) where
       of_cell : (o : Option MemCell) → IsSome (option_map mem_in_cell o) → IsSome o
       of_cell None i = absurd (cc)
       of_cell (Some x) i = refl
+
       in_cell : (o : Option MemCell) → IsSome o → IsSome (option_map mem_in_cell o)
       in_cell None i = absurd (cc)
       in_cell (Some x) i = refl
