@@ -1,14 +1,18 @@
 -- The functors of weights by a rising order, and what is found by it.
-use Rattle.std.proofs.Common.{ℕ, zero, suc, ℤ, pos, ◌≡◌, ◌<◌, ◌≤◌, ◌+◌, ◌⊎◌, inl, inr, Bool, true, false, List, [], ◌∷◌, length, get_or, refl, sym, ap, subst, ◌∙◌, arith, if◌then◌else◌}
+use Rattle.std.proofs.Common.{ℕ, zero, suc, ℤ, pos, ◌≡◌, ◌<◌, ◌≤◌, ◌+◌, ◌⊎◌, inl, inr, Bool, true, false, List, [], ◌∷◌, ◌++◌, drop, length, get_or, map, take, refl, sym, ap, subst, ◌∙◌, arith, if◌then◌else◌}
 use Rattle.std.specs.Cmp.{IsTotalOrder, bool_cmp_total, nat_cmp_is}
 use Rattle.std.specs.declared.cmp.Ordering.{Ordering}
 use Rattle.std.specs.declared.cmp.Ordering.TheVariants.{Less, Equal, Greater}
-use Rattle.std.specs.List.Sorted.{IsPartitionedBy, IsSorted}
+use Rattle.std.specs.List.Sorted.{IsPartitionedBy, IsPermutation, IsSorted}
 use Rattle.std.specs.Ordering.{bool_cmp, int_cmp, is_eq, is_lt, nat_cmp, ordering_reverse, ordering_then}
+use Rattle.std.proofs.Math.Nat.{zero-add}
 use Rattle.std.proofs.lemmas.Bool.{cases_lt}
 use Rattle.std.proofs.lemmas.Bool.Decides.{Decides-int_eq}
 use Rattle.std.proofs.lemmas.Cmp.{int_cmp_total, nat_cmp_total, on_total, then_total}
-use Rattle.std.proofs.lemmas.List.Sorted.{Contains-permutation, IsPermutation-sym}
+use Rattle.std.proofs.lemmas.List.{get_or-map, length-map, map-id, take_at}
+use Rattle.std.proofs.lemmas.List.FromFn.{get_or-range_with_len, length-range_with_len, map-range_with_len_more}
+use Rattle.std.proofs.lemmas.List.Sorted.{Contains-permutation, IsPermutation-sym, length_permutation}
+use Rattle.std.specs.List.{range_with_len}
 use Rattle.std.proofs.lemmas.Map.Keys.{ge_from_not_lt}
 use Rattle.std.proofs.lemmas.Map.Lookups.{exact_unsigned}
 use Rattle.lmn_base.specs.declared.functor.Functor.{Functor}
@@ -17,7 +21,7 @@ use Rattle.lmn_base.specs.declared.functor.Label.TheVariants.{Int, Name}
 use Rattle.lmn_heap.proofs.WithFunctor.{functor_is, functor_same}
 use Rattle.lmn_heap.specs.Functors.{same_functor}
 use Rattle.lmn_weight.specs.declared.index.Entry.{Entry}
-use Rattle.lmn_weight.specs.Index.{IsFirstPlace, IsIndexOf, entries_from, entry_cmp, entry_of, is_at, label_number}
+use Rattle.lmn_weight.specs.Index.{IsFirstPlace, IsIndexOf, IsRising, entry_at, entry_cmp, entry_of, is_at, label_number}
 use Rattle.lmn_weight.specs.Plains.{is_integer_label, listed_weight}
 use Rattle.lmn_base.proofs.Lists.{read_as as any_default}
 
@@ -134,32 +138,67 @@ module _ {K : Type 0} (R : K → K → Ordering) (o : IsTotalOrder R) where
       by true f = f
       by false f = absurd (let z = sym (below_more (get_or xs j d) w (get_or xs i d) e f) ∙ not_below_at xs s i j d h l in cc)
 
--- ---- entries and their places
+-- ---- places, and what stands there
 
-entry_there : (fs : List Functor) (k m : ℕ) (d : Functor) (e : Entry) → m < length fs → get_or (entries_from k fs) m e ≡ entry_of (get_or fs m d) (k + m)
-entry_there [] k m d e l = absurd (omega (arith, l))
-entry_there (f ∷ fs) k zero d e l = ap (entry_of f) (let s : k ≡ k + 0 = omega arith in s)
-entry_there (f ∷ fs) k (suc m) d e l = entry_there fs (suc k) m d e (omega (arith, l)) ∙ ap (entry_of (get_or fs m d)) (let s : suc k + m ≡ k + suc m = omega arith in s)
+-- what stands at each of the places
+abbrev entries_at : List Functor → List ℕ → List Entry
+entries_at fs ps = map (entry_at fs) ps
 
-entries_size : (fs : List Functor) (k : ℕ) → length (entries_from k fs) ≡ length fs
-entries_size [] k = refl
-entries_size (f ∷ fs) k = let r = entries_size fs (suc k) in omega (arith, r)
+entry_read : (fs : List Functor) (ps : List ℕ) (i : ℕ) (e : Entry) → i < length ps → get_or (entries_at fs ps) i e ≡ entry_at fs (get_or ps i 0)
+entry_read fs ps i e l = get_or-map (entry_at fs) ps i 0 e l
 
-module _ (fs : List Functor) (es : List Entry) (index : IsIndexOf fs es) (d : Functor) where
-  -- each entry is of a functor at its place
-  entry_is : (i : ℕ) (e : Entry) → i < length es → (m : ℕ) × (m < length fs) × (get_or es i e ≡ entry_of (get_or fs m d) m)
+entries_size : (fs : List Functor) (ps : List ℕ) → length (entries_at fs ps) ≡ length ps
+entries_size fs ps = length-map ps (entry_at fs)
+
+-- at rising places the entries rise
+entries_rise : (fs : List Functor) (ps : List ℕ) → IsRising fs ps → IsSorted entry_cmp (entries_at fs ps)
+entries_rise fs ps h k e z l =
+    let size = entries_size fs ps in
+    let low = entry_read fs ps k e (omega (arith, l, size)) in
+    let high = entry_read fs ps (k + 1) e (omega (arith, l, size)) in
+    ap is_lt (λ i. entry_cmp (high i) (low i)) ∙ h k 0 z (omega (arith, l, size))
+
+-- what is below something stands at the front of such places
+pub places_below : (fs : List Functor) (ps : List ℕ) → IsRising fs ps → (w : Entry) → IsPartitionedBy (λ k. is_lt (entry_cmp (entry_at fs k) w)) ps
+places_below fs ps h w i j d le l e =
+    let size = entries_size fs ps in
+    let at : (k : ℕ) → k < length ps → get_or (entries_at fs ps) k (entry_at fs d) ≡ entry_at fs (get_or ps k d) = λ k s. get_or-map (entry_at fs) ps k d (entry_at fs d) s in
+    let low : is_lt (entry_cmp (get_or (entries_at fs ps) j (entry_at fs d)) w) ≡ true = ap (λ x. is_lt (entry_cmp x w)) (at j l) ∙ e in
+    sym (ap (λ x. is_lt (entry_cmp x w)) (at i (omega (arith, le, l)))) ∙ front_is_below entry_cmp entries_total (entries_at fs ps) (entries_rise fs ps h) w i j (entry_at fs d) le (omega (arith, l, size)) low
+
+-- one place more
+pub one_place_more : (n : ℕ) → range_with_len 0 n ++ n ∷ [] ≡ range_with_len 0 (n + 1)
+one_place_more n =
+    let longer = map-range_with_len_more (λ (k : ℕ). k) 0 n n (zero-add n) in
+    sym (sym (map-id (range_with_len 0 (n + 1))) ∙ longer ∙ ap (λ ps. ps ++ n ∷ []) (map-id (range_with_len 0 n)))
+
+-- all places, sorted, are an index
+pub sorted_index : (fs : List Functor) (ps qs : List ℕ) (n : ℕ) → ps ≡ range_with_len 0 n → n ≡ length fs → IsPermutation ps qs → IsRising fs qs → IsIndexOf fs (take (length ps) (qs ++ drop (length qs) ps))
+sorted_index fs ps qs n all same of rising =
+    let size = length_permutation ps qs of in
+    let whole : qs ≡ take (length ps) (qs ++ drop (length qs) ps) = sym (take_at qs (drop (length qs) ps) (length ps) size) in
+    subst (IsIndexOf fs) whole (record { of = subst (λ xs. IsPermutation xs qs) (all ∙ ap (range_with_len 0) same) of; rising = rising })
+
+module _ (fs : List Functor) (ps : List ℕ) (index : IsIndexOf fs ps) (d : Functor) where
+  -- each place is one of the functors, so each entry is of a functor at its place
+  entry_is : (i : ℕ) (e : Entry) → i < length ps → (m : ℕ) × (m < length fs) × (m ≡ get_or ps i 0) × (get_or (entries_at fs ps) i e ≡ entry_of (get_or fs m d) m)
   entry_is i e l =
-      let x = get_or es i e in
-      let there = Contains-permutation es (entries_from 0 fs) x (IsPermutation-sym (entries_from 0 fs) es index.of) (i, l, any_default es i x e l) in
-      let few : there.0 < length fs = (let n = there.1 in let s = entries_size fs 0 in omega (arith, n, s)) in
-      (there.0, few, sym there.2 ∙ entry_there fs 0 there.0 d x few ∙ ap (entry_of (get_or fs there.0 d)) (let s : 0 + there.0 ≡ there.0 = omega arith in s))
+      let m = get_or ps i 0 in
+      let there = Contains-permutation ps (range_with_len 0 (length fs)) m (IsPermutation-sym (range_with_len 0 (length fs)) ps index.of) (i, l, any_default ps i m 0 l) in
+      let size = length-range_with_len 0 (length fs) in
+      let few : there.0 < length fs = (let n = there.1 in omega (arith, n, size)) in
+      let same : m ≡ 0 + there.0 = sym there.2 ∙ get_or-range_with_len 0 (length fs) there.0 m few in
+      let within : m < length fs = omega (arith, same, few) in
+      (m, within, refl, entry_read fs ps i e l ∙ ap (λ f. entry_of f m) (any_default fs m _ d within))
 
   -- and each functor has its entry
-  entry_of_place : (m : ℕ) → m < length fs → (i : ℕ) × (i < length es) × (get_or es i (entry_of (get_or fs m d) m) ≡ entry_of (get_or fs m d) m)
+  entry_of_place : (m : ℕ) → m < length fs → (i : ℕ) × (i < length ps) × (get_or (entries_at fs ps) i (entry_of (get_or fs m d) m) ≡ entry_of (get_or fs m d) m)
   entry_of_place m l =
-      let x = entry_of (get_or fs m d) m in
-      let own : get_or (entries_from 0 fs) m x ≡ x = entry_there fs 0 m d x l ∙ ap (entry_of (get_or fs m d)) (let s : 0 + m ≡ m = omega arith in s) in
-      Contains-permutation (entries_from 0 fs) es x index.of (m, (let s = entries_size fs 0 in omega (arith, s, l)), own)
+      let size = length-range_with_len 0 (length fs) in
+      let own : get_or (range_with_len 0 (length fs)) m m ≡ m = get_or-range_with_len 0 (length fs) m m l ∙ zero-add m in
+      let there = Contains-permutation (range_with_len 0 (length fs)) ps m index.of (m, omega (arith, size, l), own) in
+      let place : get_or ps there.0 0 ≡ m = any_default ps there.0 0 m there.1 ∙ there.2 in
+      (there.0, there.1, entry_read fs ps there.0 _ there.1 ∙ ap (entry_at fs) place ∙ ap (λ f. entry_of f m) (any_default fs m _ d l))
 
 -- ---- what is found
 
@@ -210,58 +249,76 @@ listed_none (g ∷ gs) (v ∷ vs) f none = by (same_functor g f) refl (listed_no
     by true t rest = absurd (none 0 (omega arith) t)
     by false t rest = rest
 
-module _ (fs : List Functor) (es : List Entry) (vs : List ℕ) (index : IsIndexOf fs es) (f : Functor) (at : ℕ) (p : IsFirstPlace es f at) where
+module _ (fs : List Functor) (ps vs : List ℕ) (index : IsIndexOf fs ps) (f : Functor) (at : ℕ) (p : IsFirstPlace fs ps f at) where
+  abbrev es : List Entry
+  es = entries_at fs ps
+
+  size : length es ≡ length ps
+  size = entries_size fs ps
+
+  below_it : (i : ℕ) (e : Entry) → i < at → i < length ps → is_lt (entry_cmp (get_or es i e) (entry_of f 0)) ≡ true
+  below_it i e h l = ap (λ x. is_lt (entry_cmp x (entry_of f 0))) (entry_read fs ps i e l) ∙ p.0 i 0 (omega arith) h
+
+  not_below_it : (i : ℕ) (e : Entry) → at ≤ i → i < length ps → is_lt (entry_cmp (get_or es i e) (entry_of f 0)) ≡ false
+  not_below_it i e h l = ap (λ x. is_lt (entry_cmp x (entry_of f 0))) (entry_read fs ps i e l) ∙ p.1 i 0 h l
+
   -- where the functor stands at a place, an entry of it that isn't later was found
-  place_found : (k : ℕ) → k < length fs → is_at fs k f ≡ true → (at < length es) × ((e : Entry) (g : Functor) (m : ℕ) → get_or es at e ≡ entry_of g m → (g ≡ f) × (m ≤ k))
+  place_found : (k : ℕ) → k < length fs → is_at fs k f ≡ true → (at < length ps) × ((e : Entry) (g : Functor) (m : ℕ) → get_or es at e ≡ entry_of g m → (g ≡ f) × (m ≤ k))
   place_found k l t = by (cases_lt i at)
     where
       own : get_or fs k f ≡ f
       own = functor_is (get_or fs k f) f t
 
-      there : (i : ℕ) × (i < length es) × (get_or es i (entry_of f k) ≡ entry_of f k)
-      there = let r = entry_of_place fs es index f k l in (r.0, r.1, subst (λ g. get_or es r.0 (entry_of g k) ≡ entry_of g k) own r.2)
+      there : (i : ℕ) × (i < length ps) × (get_or es i (entry_of f k) ≡ entry_of f k)
+      there = let r = entry_of_place fs ps index f k l in (r.0, r.1, subst (λ g. get_or es r.0 (entry_of g k) ≡ entry_of g k) own r.2)
 
       i : ℕ
       i = there.0
 
-      by : (i < at) ⊎ (at ≤ i) → (at < length es) × ((e : Entry) (g : Functor) (m : ℕ) → get_or es at e ≡ entry_of g m → (g ≡ f) × (m ≤ k))
+      by : (i < at) ⊎ (at ≤ i) → (at < length ps) × ((e : Entry) (g : Functor) (m : ℕ) → get_or es at e ≡ entry_of g m → (g ≡ f) × (m ≤ k))
       by (inl h) = absurd (
-          let low = p.0 i (entry_of f k) (omega arith) h in
+          let low = below_it i (entry_of f k) h there.1 in
           let z = sym low ∙ ap (λ x. is_lt (entry_cmp x (entry_of f 0))) there.2 ∙ not_below_first f k in
           cc
           )
       by (inr h) =
           let short = there.1 in
-          let within : at < length es = omega (arith, h, short) in (
+          let within : at < length ps = omega (arith, h, short) in (
             within,
             λ e g m same. (
                 let d = entry_of f k in
-                let here : get_or es at d ≡ entry_of g m = any_default es at d e within ∙ same in
-                let low = sym (ap (λ x. is_lt (entry_cmp x (entry_of f 0))) here) ∙ p.1 at d (omega arith) within in
-                let high = (λ j. is_lt (entry_cmp (sym there.2 j) (sym here j))) ∙ not_below_at entry_cmp entries_total es index.sorted at i d h short in
+                let here : get_or es at d ≡ entry_of g m = any_default es at d e (omega (arith, within, size)) ∙ same in
+                let low = sym (ap (λ x. is_lt (entry_cmp x (entry_of f 0))) here) ∙ not_below_it at d (omega arith) within in
+                let high = (λ j. is_lt (entry_cmp (sym there.2 j) (sym here j))) ∙ not_below_at entry_cmp entries_total es (entries_rise fs ps index.rising) at i d h (omega (arith, short, size)) in
                 between f g k m low high
                 ),
           )
 
   -- so what stands at the place that was found is the weight
-  pub found_weight : at < length es → length fs ≡ length vs → (e : Entry) → (if is_at fs (get_or es at e).place f then get_or vs (get_or es at e).place 0 else 0) ≡ listed_weight fs vs f
-  found_weight l lists e =
-      let here = entry_is fs es index f at e l in
-      let place : (get_or es at e).place ≡ here.0 = ap (λ x. x.place) here.2 in
-      ap (λ k. if is_at fs k f then get_or vs k 0 else 0) place ∙ by here.0 here.1 here.2 (is_at fs here.0 f) refl
+  pub found_weight : at < length ps → length fs ≡ length vs → (d : ℕ) → (if is_at fs (get_or ps at d) f then get_or vs (get_or ps at d) 0 else 0) ≡ listed_weight fs vs f
+  found_weight l lists d =
+      let e = entry_of f 0 in
+      let here = entry_is fs ps index f at e l in
+      let place : get_or ps at d ≡ here.0 = any_default ps at d 0 l ∙ sym here.2 in
+      ap (λ k. if is_at fs k f then get_or vs k 0 else 0) place ∙ by here.0 here.1 e here.3 (is_at fs here.0 f) refl
     where
-      by : (m : ℕ) → m < length fs → get_or es at e ≡ entry_of (get_or fs m f) m → (b : Bool) → is_at fs m f ≡ b → (if b then get_or vs m 0 else 0) ≡ listed_weight fs vs f
-      by m few is true t = sym (listed_first fs vs f m lists few t (λ k h u. ((place_found k h u).1 e (get_or fs m f) m is).1))
-      by m few is false t = sym (listed_none fs vs f (λ k h u. (
+      by : (m : ℕ) → m < length fs → (e : Entry) → get_or es at e ≡ entry_of (get_or fs m f) m → (b : Bool) → is_at fs m f ≡ b → (if b then get_or vs m 0 else 0) ≡ listed_weight fs vs f
+      by m few e is true t = sym (listed_first fs vs f m lists few t (λ k h u. ((place_found k h u).1 e (get_or fs m f) m is).1))
+      by m few e is false t = sym (listed_none fs vs f (λ k h u. (
           let same = ((place_found k h u).1 e (get_or fs m f) m is).0 in
           let z = sym t ∙ ap (λ g. same_functor g f) same ∙ functor_same f in
           absurd (cc)
           )))
 
   -- and nothing is found at the end where there is none
-  pub none_found : length es ≤ at → 0 ≡ listed_weight fs vs f
+  pub none_found : length ps ≤ at → 0 ≡ listed_weight fs vs f
   none_found l = sym (listed_none fs vs f (λ k h u. (let within = (place_found k h u).0 in omega (arith, within, l))))
 
-  -- the place of an entry is one of the functors
-  pub place_within : at < length es → (e : Entry) → (get_or es at e).place < length fs
-  place_within l e = let here = entry_is fs es index f at e l in let place = ap (λ x. x.place) here.2 in let few = here.1 in omega (arith, place, few)
+-- each place of an index is one of the functors
+pub place_within : (fs : List Functor) (ps : List ℕ) → IsIndexOf fs ps → (i d : ℕ) → i < length ps → get_or ps i d < length fs
+place_within fs ps index i d l =
+    let f : Functor = record { label = Int (pos 0); arity = 0 } in
+    let here = entry_is fs ps index f i (entry_of f 0) l in
+    let few = here.1 in
+    let place = any_default ps i d 0 l ∙ sym here.2 in
+    omega (arith, few, place)

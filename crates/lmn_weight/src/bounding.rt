@@ -7,7 +7,7 @@ ghost use Rattle.lmn_weight.specs.Index.{IsIndexOf};
 ghost use Rattle.lmn_weight.specs.Plains as plains;
 ghost use Rattle.lmn_weight.specs.Plains.{AreSmall, EachLowered, IsFirstNotLowered, IsOfSize};
 
-use crate::index::{Entry, Index, fill};
+use crate::index::{Index, fill};
 use crate::weights::{Weights, functor_weight};
 use arrayvec::ArrayVec;
 use lmn_base::{CtxUse, Leaf, Level, Plain, Refusal, RuleTree};
@@ -58,13 +58,13 @@ fn stands_for_int(kinds: &[TypedUse], bound: &[u32], name: u32) -> bool
 /// The weight of a leaf.
 fn leaf_weight(
     weights: &Weights,
-    index: Option<&[Entry]>,
+    index: Option<&[u16]>,
     kinds: &[TypedUse],
     bound: &[u32],
     leaf: &Leaf,
 ) -> u64
     requires lists { length weights.now.functors ≡ length weights.now.values }
-    requires index { IfSome index (λ entries. IsIndexOf weights.now.functors entries.now) }
+    requires index { IfSome index (λ places. IsIndexOf weights.now.functors places.now) }
     ensures { result ≡ plains.leaf_weight weights.now kinds.now bound.now leaf.now }
 {
     match leaf {
@@ -82,13 +82,13 @@ fn leaf_weight(
 /// The weight of leaves, or 2^64 - 1 where it is greater.
 fn leaves_weight(
     weights: &Weights,
-    index: Option<&[Entry]>,
+    index: Option<&[u16]>,
     kinds: &[TypedUse],
     bound: &[u32],
     leaves: &[Leaf],
 ) -> u64
     requires lists { length weights.now.functors ≡ length weights.now.values }
-    requires index { IfSome index (λ entries. IsIndexOf weights.now.functors entries.now) }
+    requires index { IfSome index (λ places. IsIndexOf weights.now.functors places.now) }
     ensures { result ≡ min (sum (map (plains.leaf_weight weights.now kinds.now bound.now) leaves.now)) (2 ^ 64 - 1) }
 {
     let mut weight = 0u64;
@@ -101,13 +101,13 @@ fn leaves_weight(
 /// The weight of a level, or 2^64 - 1 where it is greater.
 fn level_weight(
     weights: &Weights,
-    index: Option<&[Entry]>,
+    index: Option<&[u16]>,
     kinds: &[TypedUse],
     bound: &[u32],
     level: &Level,
 ) -> u64
     requires lists { length weights.now.functors ≡ length weights.now.values }
-    requires index { IfSome index (λ entries. IsIndexOf weights.now.functors entries.now) }
+    requires index { IfSome index (λ places. IsIndexOf weights.now.functors places.now) }
     ensures { result ≡ min (plains.level_weight weights.now kinds.now bound.now level.now) (2 ^ 64 - 1) }
 {
     let walls = (level.membranes.len() as u64).saturating_mul(weights.membrane);
@@ -247,9 +247,9 @@ fn all_closed_once(body: &Level, level: &Level) -> bool
 }
 
 /// Whether a rule is lowered.
-fn is_lowered(weights: &Weights, index: Option<&[Entry]>, rule: &RuleTree, plan: &GuardPlan) -> bool
+fn is_lowered(weights: &Weights, index: Option<&[u16]>, rule: &RuleTree, plan: &GuardPlan) -> bool
     requires lists { length weights.now.functors ≡ length weights.now.values }
-    requires index { IfSome index (λ entries. IsIndexOf weights.now.functors entries.now) }
+    requires index { IfSome index (λ places. IsIndexOf weights.now.functors places.now) }
     requires head { plains.level_weight weights.now plan.now.kinds plan.now.bound rule.now.head < 2 ^ 64 }
     requires body { plains.level_weight weights.now plan.now.kinds plan.now.bound rule.now.body < 2 ^ 64 }
     ensures { result ≡ plains.is_lowered weights.now rule.now plan.now }
@@ -262,9 +262,9 @@ fn is_lowered(weights: &Weights, index: Option<&[Entry]>, rule: &RuleTree, plan:
         && all_closed_once(&rule.body, &rule.head)
 }
 
-/// The entries of an index, where it is whole.
-fn entries_of(index: &Index, is_whole: bool) -> Option<&[Entry]>
-    ensures { (functors : List Functor) → (IsTrue is_whole → IsIndexOf functors index.now.items) → IfSome result (λ entries. IsIndexOf functors entries.now) }
+/// The places of an index, where it is whole.
+fn places_of(index: &Index, is_whole: bool) -> Option<&[u16]>
+    ensures { (functors : List Functor) → (IsTrue is_whole → IsIndexOf functors index.now.items) → IfSome result (λ places. IsIndexOf functors places.now) }
 {
     if is_whole {
         Some(index.as_slice())
@@ -292,15 +292,15 @@ pub fn bound(weights: &Weights, plain: &Plain, plans: &[GuardPlan]) -> Result<u6
 {
     let mut index = ArrayVec::new();
     let is_whole = fill(&mut index, weights.functors.as_slice());
-    let entries = entries_of(&index, is_whole);
+    let places = places_of(&index, is_whole);
     for k in 0..asked(plain) {
         let rule = plain.rules.at(k);
-        if !is_lowered(weights, entries, rule, &plans[k]) {
+        if !is_lowered(weights, places, rule, &plans[k]) {
             return Err(Refusal {
                 code: 86,
                 pos: rule.pos,
             });
         }
     }
-    Ok(level_weight(weights, entries, &[], &[], &plain.top))
+    Ok(level_weight(weights, places, &[], &[], &plain.top))
 }

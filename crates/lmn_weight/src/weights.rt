@@ -5,7 +5,7 @@ ghost use Rattle.lmn_heap.specs.Functors as functors;
 ghost use Rattle.lmn_weight.specs.Index.{IsIndexOf};
 ghost use Rattle.lmn_weight.specs.Plains.{listed_weight, is_integer, functor_weight};
 
-use crate::index::{Entry, indexed_weight};
+use crate::index::indexed_weight;
 use lmn_base::{CONNECTOR_NAME, Functor, Label, Rows};
 
 /// What WEIGHTS tells. What it doesn't name weighs nothing.
@@ -68,9 +68,9 @@ pub(crate) fn is_integer(functor: Functor) -> bool
 }
 
 /// The weight of an atom, by the index of the functors where there is one.
-pub(crate) fn functor_weight(weights: &Weights, index: Option<&[Entry]>, functor: Functor) -> u64
+pub(crate) fn functor_weight(weights: &Weights, index: Option<&[u16]>, functor: Functor) -> u64
     requires lists { length weights.now.functors ≡ length weights.now.values }
-    requires index { IfSome index (λ entries. IsIndexOf weights.now.functors entries.now) }
+    requires index { IfSome index (λ places. IsIndexOf weights.now.functors places.now) }
     ensures { result ≡ functor_weight weights.now functor }
 {
     if is_connector(functor) {
@@ -82,7 +82,7 @@ pub(crate) fn functor_weight(weights: &Weights, index: Option<&[Entry]>, functor
     let functors = weights.functors.as_slice();
     let values = weights.values.as_slice();
     match index {
-        Some(entries) => indexed_weight(entries, functors, values, functor),
+        Some(places) => indexed_weight(places, functors, values, functor),
         None => listed_weight(functors, values, functor),
     }
 }
