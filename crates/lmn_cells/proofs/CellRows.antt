@@ -30,14 +30,14 @@ found rows b laid there = elim (laid b) [
   | inr s ↦ record { cell = s.0; shaped = s.1; words = s.2; is = ap cell_by s.2 ∙ cell_back s.0 s.1 }
 ]
 
--- each cell has seven links
+-- each cell has eight links
 pub have_links : (rows : List Row) → AreLaid rows → HaveLinks (cells_by rows)
 have_links rows laid a there = let f = found rows a laid there in ap (λ (o : Option HeldCell). length (links_of o)) f.is ∙ f.shaped.links
 
 -- Links
 
 -- a word that leads somewhere
-pub word_is : (rows : List Row) (b k : ℕ) (laid : AreLaid rows) (there : IsSome (cells_by rows b)) → k < 7
+pub word_is : (rows : List Row) (b k : ℕ) (laid : AreLaid rows) (there : IsSome (cells_by rows b)) → k < 8
     → get_or (items_in rows b) k blank ≡ link_to (get_or (links_of (cells_by rows b)) k None)
 word_is rows b k laid there low =
     let f = found rows b laid there in
@@ -75,15 +75,15 @@ number_read i m n e r = ap number_in (sym r ∙ e)
 
 -- Numbers
 
-six : (k : ℕ) → k < 8 → 7 + k < 15
+six : (k : ℕ) → k < 8 → 8 + k < 16
 six k l = omega (arith, l)
 
 -- the word of a number of a cell
 pub number_is : (rows : List Row) (b k : ℕ) (laid : AreLaid rows) (there : IsSome (cells_by rows b)) → k < 8
-    → get_or (items_in rows b) (7 + k) blank ≡ number (get_or (numbers_of (cells_by rows b)) k 0)
+    → get_or (items_in rows b) (8 + k) blank ≡ number (get_or (numbers_of (cells_by rows b)) k 0)
 number_is rows b k laid there low =
     let f = found rows b laid there in
-    ap (λ is. get_or is (7 + k) blank) f.words ∙ past_links f.cell.links 7 k (number_items f.cell.numbers ++ port_items f.cell.ports) f.shaped.links
+    ap (λ is. get_or is (8 + k) blank) f.words ∙ past_links f.cell.links 8 k (number_items f.cell.numbers ++ port_items f.cell.ports) f.shaped.links
     ∙ number_at f.cell.numbers k (port_items f.cell.ports) (subst (λ n. k < n) (sym f.shaped.numbers) low)
     ∙ ap (λ (o : Option HeldCell). number (get_or (numbers_of o) k 0)) (sym f.is)
 
@@ -91,26 +91,26 @@ number_is rows b k laid there low =
 
 -- the word that says where a port leads
 pub to_is : (rows : List Row) (b j : ℕ) (laid : AreLaid rows) (there : IsSome (cells_by rows b)) → j < length (ports_of (cells_by rows b))
-    → get_or (items_in rows b) (15 + (j * 3 + 0)) blank ≡ link_to (get_or (ports_of (cells_by rows b)) j no_port).to
+    → get_or (items_in rows b) (16 + (j * 3 + 0)) blank ≡ link_to (get_or (ports_of (cells_by rows b)) j no_port).to
 to_is rows b j laid there low =
     let f = found rows b laid there in
-    ap (λ is. get_or is (15 + (j * 3 + 0)) blank) f.words ∙ ports_at f.cell f.shaped (j * 3 + 0) ∙ port_word_at f.cell.ports j 0 (omega arith) (subst (λ (o : Option HeldCell). j < length (ports_of o)) f.is low)
+    ap (λ is. get_or is (16 + (j * 3 + 0)) blank) f.words ∙ ports_at f.cell f.shaped (j * 3 + 0) ∙ port_word_at f.cell.ports j 0 (omega arith) (subst (λ (o : Option HeldCell). j < length (ports_of o)) f.is low)
     ∙ ap (λ (o : Option HeldCell). link_to (get_or (ports_of o) j no_port).to) (sym f.is)
 
 -- the word of the port there
 pub port_is : (rows : List Row) (b j : ℕ) (laid : AreLaid rows) (there : IsSome (cells_by rows b)) → j < length (ports_of (cells_by rows b))
-    → get_or (items_in rows b) (15 + (j * 3 + 1)) blank ≡ number (get_or (ports_of (cells_by rows b)) j no_port).port
+    → get_or (items_in rows b) (16 + (j * 3 + 1)) blank ≡ number (get_or (ports_of (cells_by rows b)) j no_port).port
 port_is rows b j laid there low =
     let f = found rows b laid there in
-    ap (λ is. get_or is (15 + (j * 3 + 1)) blank) f.words ∙ ports_at f.cell f.shaped (j * 3 + 1) ∙ port_word_at f.cell.ports j 1 (omega arith) (subst (λ (o : Option HeldCell). j < length (ports_of o)) f.is low)
+    ap (λ is. get_or is (16 + (j * 3 + 1)) blank) f.words ∙ ports_at f.cell f.shaped (j * 3 + 1) ∙ port_word_at f.cell.ports j 1 (omega arith) (subst (λ (o : Option HeldCell). j < length (ports_of o)) f.is low)
     ∙ ap (λ (o : Option HeldCell). number (get_or (ports_of o) j no_port).port) (sym f.is)
 
 -- the word of the mark of a port
 pub mark_is : (rows : List Row) (b j : ℕ) (laid : AreLaid rows) (there : IsSome (cells_by rows b)) → j < length (ports_of (cells_by rows b))
-    → get_or (items_in rows b) (15 + (j * 3 + 2)) blank ≡ number (get_or (ports_of (cells_by rows b)) j no_port).mark
+    → get_or (items_in rows b) (16 + (j * 3 + 2)) blank ≡ number (get_or (ports_of (cells_by rows b)) j no_port).mark
 mark_is rows b j laid there low =
     let f = found rows b laid there in
-    ap (λ is. get_or is (15 + (j * 3 + 2)) blank) f.words ∙ ports_at f.cell f.shaped (j * 3 + 2) ∙ port_word_at f.cell.ports j 2 (omega arith) (subst (λ (o : Option HeldCell). j < length (ports_of o)) f.is low)
+    ap (λ is. get_or is (16 + (j * 3 + 2)) blank) f.words ∙ ports_at f.cell f.shaped (j * 3 + 2) ∙ port_word_at f.cell.ports j 2 (omega arith) (subst (λ (o : Option HeldCell). j < length (ports_of o)) f.is low)
     ∙ ap (λ (o : Option HeldCell). number (get_or (ports_of o) j no_port).mark) (sym f.is)
 
 -- fewer than 2 ^ 16 ports, and their words are below 2 ^ 32
@@ -161,20 +161,20 @@ count_ports [] = refl
 count_ports (p ∷ ps) = let r = count_ports ps in omega (arith, r)
 
 -- how many words a cell has
-pub word_count : (c : HeldCell) → IsShaped c → length (cell_items c) ≡ 15 + length c.ports * 3
+pub word_count : (c : HeldCell) → IsShaped c → length (cell_items c) ≡ 16 + length c.ports * 3
 word_count c s =
     let a = count_links c.links (number_items c.numbers ++ port_items c.ports) in let b = count_numbers c.numbers (port_items c.ports) in let d = count_ports c.ports in
     let e = s.links in let f = s.numbers in omega (arith, a, b, d, e, f)
 
 -- a cell has its links and numbers
-pub words_there : (rows : List Row) (b : ℕ) → AreLaid rows → IsSome (cells_by rows b) → 15 < suc (length (items_in rows b))
-words_there rows b laid there = let f = found rows b laid there in subst (λ is. 15 < suc (length is)) (sym f.words) (let n = word_count f.cell f.shaped in omega (arith, n))
+pub words_there : (rows : List Row) (b : ℕ) → AreLaid rows → IsSome (cells_by rows b) → 16 < suc (length (items_in rows b))
+words_there rows b laid there = let f = found rows b laid there in subst (λ is. 16 < suc (length is)) (sym f.words) (let n = word_count f.cell f.shaped in omega (arith, n))
 
 -- a cell has the words of its ports
-pub port_words_there : (rows : List Row) (b j w : ℕ) → AreLaid rows → IsSome (cells_by rows b) → j < length (ports_of (cells_by rows b)) → w < 3 → 15 + (j * 3 + w) < length (items_in rows b)
+pub port_words_there : (rows : List Row) (b j w : ℕ) → AreLaid rows → IsSome (cells_by rows b) → j < length (ports_of (cells_by rows b)) → w < 3 → 16 + (j * 3 + w) < length (items_in rows b)
 port_words_there rows b j w laid there low h =
     let f = found rows b laid there in let l : j < length f.cell.ports = subst (λ (o : Option HeldCell). j < length (ports_of o)) f.is low in
-    subst (λ is. 15 + (j * 3 + w) < length is) (sym f.words) (let n = word_count f.cell f.shaped in omega (arith, n, l, h))
+    subst (λ is. 16 + (j * 3 + w) < length is) (sym f.words) (let n = word_count f.cell f.shaped in omega (arith, n, l, h))
 
 -- one word of a cell is written: what the rows stand for then
 pub changes : (rows : List Row) (b k : ℕ) (i : Item) (g : HeldCell → HeldCell) (laid : AreLaid rows) (there : IsSome (cells_by rows b))
@@ -198,7 +198,7 @@ changes rows b k i g laid there by =
     record { laid = laid'; cells = λ t j. cells' j t }
 
 -- a link
-pub link_changes : (rows : List Row) (b k : ℕ) (x : Option ℕ) (laid : AreLaid rows) (there : IsSome (cells_by rows b)) → k < 7 → Changed rows b k (link_to x) (with_link k x)
+pub link_changes : (rows : List Row) (b k : ℕ) (x : Option ℕ) (laid : AreLaid rows) (there : IsSome (cells_by rows b)) → k < 8 → Changed rows b k (link_to x) (with_link k x)
 link_changes rows b k x laid there low = changes rows b k (link_to x) (with_link k x) laid there
     (λ c s e. (
       set_link_at c.links k x (number_items c.numbers ++ port_items c.ports) (subst (λ n. k < n) (sym s.links) low),
@@ -206,32 +206,32 @@ link_changes rows b k x laid there low = changes rows b k (link_to x) (with_link
     ))
 
 -- a number
-pub number_changes : (rows : List Row) (b k n : ℕ) (laid : AreLaid rows) (there : IsSome (cells_by rows b)) → k < 8 → Changed rows b (7 + k) (number n) (with_number k n)
-number_changes rows b k n laid there low = changes rows b (7 + k) (number n) (with_number k n) laid there
+pub number_changes : (rows : List Row) (b k n : ℕ) (laid : AreLaid rows) (there : IsSome (cells_by rows b)) → k < 8 → Changed rows b (8 + k) (number n) (with_number k n)
+number_changes rows b k n laid there low = changes rows b (8 + k) (number n) (with_number k n) laid there
     (λ c s e. (
-      set_past_links c.links 7 k (number n) (number_items c.numbers ++ port_items c.ports) s.links ∙ ap (λ is. link_items c.links ++ is) (set_number_at c.numbers k n (port_items c.ports) (subst (λ m. k < m) (sym s.numbers) low)),
+      set_past_links c.links 8 k (number n) (number_items c.numbers ++ port_items c.ports) s.links ∙ ap (λ is. link_items c.links ++ is) (set_number_at c.numbers k n (port_items c.ports) (subst (λ m. k < m) (sym s.numbers) low)),
       record { links = s.links; numbers = length-set c.numbers k n ∙ s.numbers; few = s.few },
     ))
 
 -- where a port leads
-pub to_changes : (rows : List Row) (b j : ℕ) (x : Option ℕ) (laid : AreLaid rows) (there : IsSome (cells_by rows b)) → j < length (ports_of (cells_by rows b)) → Changed rows b (15 + (j * 3 + 0)) (link_to x) (with_to j x)
-to_changes rows b j x laid there low = changes rows b (15 + (j * 3 + 0)) (link_to x) (with_to j x) laid there
+pub to_changes : (rows : List Row) (b j : ℕ) (x : Option ℕ) (laid : AreLaid rows) (there : IsSome (cells_by rows b)) → j < length (ports_of (cells_by rows b)) → Changed rows b (16 + (j * 3 + 0)) (link_to x) (with_to j x)
+to_changes rows b j x laid there low = changes rows b (16 + (j * 3 + 0)) (link_to x) (with_to j x) laid there
     (λ c s e. (
       set_ports_at c s (j * 3 + 0) (link_to x) ∙ ap (λ is. link_items c.links ++ (number_items c.numbers ++ is)) (set_to_at c.ports j x (subst (λ (o : Option HeldCell). j < length (ports_of o)) e low)),
       record { links = s.links; numbers = s.numbers; few = subst (λ n. n < 2 ^ 16) (sym (length-set c.ports j _)) s.few },
     ))
 
 -- the number of the port there
-pub port_changes : (rows : List Row) (b j n : ℕ) (laid : AreLaid rows) (there : IsSome (cells_by rows b)) → j < length (ports_of (cells_by rows b)) → Changed rows b (15 + (j * 3 + 1)) (number n) (with_port j n)
-port_changes rows b j n laid there low = changes rows b (15 + (j * 3 + 1)) (number n) (with_port j n) laid there
+pub port_changes : (rows : List Row) (b j n : ℕ) (laid : AreLaid rows) (there : IsSome (cells_by rows b)) → j < length (ports_of (cells_by rows b)) → Changed rows b (16 + (j * 3 + 1)) (number n) (with_port j n)
+port_changes rows b j n laid there low = changes rows b (16 + (j * 3 + 1)) (number n) (with_port j n) laid there
     (λ c s e. (
       set_ports_at c s (j * 3 + 1) (number n) ∙ ap (λ is. link_items c.links ++ (number_items c.numbers ++ is)) (set_port_at c.ports j n (subst (λ (o : Option HeldCell). j < length (ports_of o)) e low)),
       record { links = s.links; numbers = s.numbers; few = subst (λ m. m < 2 ^ 16) (sym (length-set c.ports j _)) s.few },
     ))
 
 -- the mark of a port
-pub mark_changes : (rows : List Row) (b j n : ℕ) (laid : AreLaid rows) (there : IsSome (cells_by rows b)) → j < length (ports_of (cells_by rows b)) → Changed rows b (15 + (j * 3 + 2)) (number n) (with_mark j n)
-mark_changes rows b j n laid there low = changes rows b (15 + (j * 3 + 2)) (number n) (with_mark j n) laid there
+pub mark_changes : (rows : List Row) (b j n : ℕ) (laid : AreLaid rows) (there : IsSome (cells_by rows b)) → j < length (ports_of (cells_by rows b)) → Changed rows b (16 + (j * 3 + 2)) (number n) (with_mark j n)
+mark_changes rows b j n laid there low = changes rows b (16 + (j * 3 + 2)) (number n) (with_mark j n) laid there
     (λ c s e. (
       set_ports_at c s (j * 3 + 2) (number n) ∙ ap (λ is. link_items c.links ++ (number_items c.numbers ++ is)) (set_mark_at c.ports j n (subst (λ (o : Option HeldCell). j < length (ports_of o)) e low)),
       record { links = s.links; numbers = s.numbers; few = subst (λ m. m < 2 ^ 16) (sym (length-set c.ports j _)) s.few },

@@ -95,11 +95,11 @@ ports_back : (ps : List HeldPort) → ports_by (port_items ps) ≡ ps
 ports_back [] = refl
 ports_back (p ∷ ps) = λ j. record { to = link_back p.to j; port = p.port; mark = p.mark } ∷ ports_back ps j
 
-whole : (is : List Item) → 0 < length is → cell_by is ≡ Some record { links = first_links 7 is; numbers = first_numbers 8 (drop 7 is); ports = ports_by (drop 15 is) }
+whole : (is : List Item) → 0 < length is → cell_by is ≡ Some record { links = first_links 8 is; numbers = first_numbers 8 (drop 8 is); ports = ports_by (drop 16 is) }
 whole [] l = absurd (omega (arith, l))
 whole (i ∷ is) l = refl
 
-some_words : (ls : List (Option ℕ)) (rest : List Item) → length ls ≡ 7 → 0 < length (link_items ls ++ rest)
+some_words : (ls : List (Option ℕ)) (rest : List Item) → length ls ≡ 8 → 0 < length (link_items ls ++ rest)
 some_words [] rest e = absurd (omega (arith, e))
 some_words (x ∷ ls) rest e = omega arith
 
@@ -109,9 +109,9 @@ cell_back c s =
     let ns = number_items c.numbers ++ port_items c.ports in
     whole (cell_items c) (some_words c.links ns s.links)
     ∙ (λ j. Some record {
-      links = links_back c.links 7 ns s.links j;
-      numbers = (ap (first_numbers 8) (links_gone c.links 7 0 ns s.links) ∙ numbers_back c.numbers 8 (port_items c.ports) s.numbers) j;
-      ports = (ap ports_by (links_gone c.links 7 8 ns s.links ∙ numbers_gone c.numbers 8 (port_items c.ports) s.numbers) ∙ ports_back c.ports) j;
+      links = links_back c.links 8 ns s.links j;
+      numbers = (ap (first_numbers 8) (links_gone c.links 8 0 ns s.links) ∙ numbers_back c.numbers 8 (port_items c.ports) s.numbers) j;
+      ports = (ap ports_by (links_gone c.links 8 8 ns s.links ∙ numbers_gone c.numbers 8 (port_items c.ports) s.numbers) ∙ ports_back c.ports) j;
     })
 
 -- Ports
@@ -156,14 +156,14 @@ set_mark_at (p ∷ ps) (suc j) n l = subst (λ m. set (port_items (p ∷ ps)) m 
     (ap (λ is. link_to p.to ∷ number p.port ∷ number p.mark ∷ is) (set_mark_at ps j n (omega (arith, l))))
 
 -- behind the links and the numbers
-ten : (m : ℕ) → 15 + m ≡ 7 + (8 + m)
+ten : (m : ℕ) → 16 + m ≡ 8 + (8 + m)
 ten m = omega arith
 
 -- a word of the ports, among all words
-pub ports_at : (c : HeldCell) → IsShaped c → (m : ℕ) → get_or (cell_items c) (15 + m) blank ≡ get_or (port_items c.ports) m blank
-ports_at c s m = ap (λ n. get_or (cell_items c) n blank) (ten m) ∙ past_links c.links 7 (8 + m) (number_items c.numbers ++ port_items c.ports) s.links ∙ past_numbers c.numbers 8 m (port_items c.ports) s.numbers
+pub ports_at : (c : HeldCell) → IsShaped c → (m : ℕ) → get_or (cell_items c) (16 + m) blank ≡ get_or (port_items c.ports) m blank
+ports_at c s m = ap (λ n. get_or (cell_items c) n blank) (ten m) ∙ past_links c.links 8 (8 + m) (number_items c.numbers ++ port_items c.ports) s.links ∙ past_numbers c.numbers 8 m (port_items c.ports) s.numbers
 
 -- a word of the ports is written, among all words
-pub set_ports_at : (c : HeldCell) → IsShaped c → (m : ℕ) (i : Item) → set (cell_items c) (15 + m) i ≡ link_items c.links ++ (number_items c.numbers ++ set (port_items c.ports) m i)
-set_ports_at c s m i = ap (λ n. set (cell_items c) n i) (ten m) ∙ set_past_links c.links 7 (8 + m) i (number_items c.numbers ++ port_items c.ports) s.links
+pub set_ports_at : (c : HeldCell) → IsShaped c → (m : ℕ) (i : Item) → set (cell_items c) (16 + m) i ≡ link_items c.links ++ (number_items c.numbers ++ set (port_items c.ports) m i)
+set_ports_at c s m i = ap (λ n. set (cell_items c) n i) (ten m) ∙ set_past_links c.links 8 (8 + m) i (number_items c.numbers ++ port_items c.ports) s.links
     ∙ ap (λ is. link_items c.links ++ is) (set_past_numbers c.numbers 8 m i (port_items c.ports) s.numbers)

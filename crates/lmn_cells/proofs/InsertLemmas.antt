@@ -65,7 +65,7 @@ distinct_put x a (y ∷ ys) d out = by (y == a) (distinct_put x a ys d.1 (λ i. 
     by false r = (each_of _ (put_before x a ys) (λ z i. elim (in_put x a z ys i) [ inl e ↦ (λ same. out (inl (same ∙ e))) | inr k ↦ each_in (λ w. y ≢ w) ys z d.0 k ]), r)
 
 -- where it stands then
-put_at : (x : ℕ) (ys : List ℕ) (a : ℕ) (zs : List ℕ) → Distinct (ys ++ (a ∷ zs)) → put_before x a (ys ++ (a ∷ zs)) ≡ ys ++ (x ∷ a ∷ zs)
+pub put_at : (x : ℕ) (ys : List ℕ) (a : ℕ) (zs : List ℕ) → Distinct (ys ++ (a ∷ zs)) → put_before x a (ys ++ (a ∷ zs)) ≡ ys ++ (x ∷ a ∷ zs)
 put_at x [] a zs d = if_yes (a == a) (x ∷ a ∷ zs) (a ∷ put_before x a zs) (eq-eqb a a refl)
 put_at x (y ∷ ys) a zs d = if_no (y == a) (x ∷ y ∷ (ys ++ (a ∷ zs))) (y ∷ put_before x a (ys ++ (a ∷ zs))) (not_equal y a (apart (y ∷ ys) (a ∷ zs) y a d (inl refl) (inl refl))) ∙ ap (λ u. y ∷ u) (put_at x ys a zs d.1)
 
@@ -103,14 +103,14 @@ module _ (f : ℕ → Option HeldCell) (m e a x : ℕ) (xs : List ℕ) (home : I
   not_at : (q : ℕ) → p ≡ Some q → q ≢ a
   not_at q s = apart d.ys (a ∷ d.zs) q a apart_all (d.before q s) (inl refl)
 
-  seven : (q : ℕ) → IsSome (f q) → length (links_of (b3 q)) ≡ 7
+  seven : (q : ℕ) → IsSome (f q) → length (links_of (b3 q)) ≡ 8
   seven q t = keeps (λ o. length (links_of o)) b2 x (with_link NEXT (Some a)) (count_links NEXT (Some a)) q ∙ keeps (λ o. length (links_of o)) b1 x (with_link PREV p) (count_links PREV p) q
       ∙ keeps (λ o. length (links_of o)) f x (with_link HOME (Some m)) (count_links HOME (Some m)) q ∙ have q t
 
-  seven1 : length (links_of (b1 x)) ≡ 7
+  seven1 : length (links_of (b1 x)) ≡ 8
   seven1 = keeps (λ o. length (links_of o)) f x (with_link HOME (Some m)) (count_links HOME (Some m)) x ∙ have x there
 
-  seven2 : length (links_of (b2 x)) ≡ 7
+  seven2 : length (links_of (b2 x)) ≡ 8
   seven2 = keeps (λ o. length (links_of o)) b1 x (with_link PREV p) (count_links PREV p) x ∙ seven1
 
   -- all links of other cells stay in the first three steps

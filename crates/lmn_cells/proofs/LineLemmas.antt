@@ -311,13 +311,13 @@ module _ (f : ℕ → Option HeldCell) (m e x : ℕ) (xs : List ℕ) (home : IsH
   last_cell : (q : ℕ) → last ≡ Some q → In q xs
   last_cell q s = before_in (node_in f) (link_in f m e) xs last None q line.runs s
 
-  seven1 : length (links_of (a1 x)) ≡ 7
+  seven1 : length (links_of (a1 x)) ≡ 8
   seven1 = keeps (λ o. length (links_of o)) f x (with_link HOME (Some m)) (count_links HOME (Some m)) x ∙ have x there
 
-  seven2 : length (links_of (a2 x)) ≡ 7
+  seven2 : length (links_of (a2 x)) ≡ 8
   seven2 = keeps (λ o. length (links_of o)) a1 x (with_link PREV last) (count_links PREV last) x ∙ seven1
 
-  seven3 : (q : ℕ) → IsSome (f q) → length (links_of (a3 q)) ≡ 7
+  seven3 : (q : ℕ) → IsSome (f q) → length (links_of (a3 q)) ≡ 8
   seven3 q t = keeps (λ o. length (links_of o)) a2 x (with_link NEXT None) (count_links NEXT None) q ∙ keeps (λ o. length (links_of o)) a1 x (with_link PREV last) (count_links PREV last) q
       ∙ keeps (λ o. length (links_of o)) f x (with_link HOME (Some m)) (count_links HOME (Some m)) q ∙ have q t
 

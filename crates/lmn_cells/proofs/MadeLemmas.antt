@@ -70,7 +70,7 @@ few_ports rows b p laid there e =
     let f = found rows b laid there in let few = f.shaped.few in let same : length f.cell.ports ≡ p = sym (ap (λ (o : Option HeldCell). length (ports_of o)) f.is) ∙ e in omega (arith, few, same)
 
 -- how many words the row of a cell has
-pub count_words : (rows : List Row) (b p : ℕ) → AreLaid rows → IsSome (cells_by rows b) → length (ports_of (cells_by rows b)) ≡ p → length (items_in rows b) ≡ 15 + p * 3
+pub count_words : (rows : List Row) (b p : ℕ) → AreLaid rows → IsSome (cells_by rows b) → length (ports_of (cells_by rows b)) ≡ p → length (items_in rows b) ≡ 16 + p * 3
 count_words rows b p laid there e =
     let f = found rows b laid there in let same : length f.cell.ports ≡ p = sym (ap (λ (o : Option HeldCell). length (ports_of o)) f.is) ∙ e in
-    ap (λ (is : List Item). length is) f.words ∙ word_count f.cell f.shaped ∙ ap (λ n. 15 + n * 3) same
+    ap (λ (is : List Item). length is) f.words ∙ word_count f.cell f.shaped ∙ ap (λ n. 16 + n * 3) same

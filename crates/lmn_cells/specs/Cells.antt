@@ -9,7 +9,7 @@ pub record HeldPort : Type 0 where
   pub port : ℕ
   pub mark : ℕ
 
--- a cell: seven links, eight numbers, and its ports
+-- a cell: eight links, eight numbers, and its ports
 pub record HeldCell : Type 0 where
   pub links : List (Option ℕ)
   pub numbers : List ℕ
@@ -73,7 +73,7 @@ ports_by (i ∷ j ∷ k ∷ is) = record { to = led_to i; port = number_by j; ma
 
 abbrev pub cell_by : List Item → Option HeldCell
 cell_by [] = None
-cell_by (i ∷ is) = Some record { links = first_links 7 (i ∷ is); numbers = first_numbers 8 (drop 7 (i ∷ is)); ports = ports_by (drop 15 (i ∷ is)) }
+cell_by (i ∷ is) = Some record { links = first_links 8 (i ∷ is); numbers = first_numbers 8 (drop 8 (i ∷ is)); ports = ports_by (drop 16 (i ∷ is)) }
 
 -- the cell of each number
 abbrev pub cells_by : List Row → ℕ → Option HeldCell
@@ -81,7 +81,7 @@ cells_by rows b = cell_by (items_in rows b)
 
 -- a cell has as many links and numbers as all cells, and fewer than 2 ^ 16 ports
 pub record IsShaped (c : HeldCell) : Type 0 where
-  pub links : length c.links ≡ 7
+  pub links : length c.links ≡ 8
   pub numbers : length c.numbers ≡ 8
   pub few : length c.ports < 2 ^ 16
 
@@ -134,7 +134,7 @@ with_mark j n c = record c { ports = slice_set c.ports j (record (slice_index_or
 
 -- a cell in which nothing is set
 abbrev pub blank_cell : ℕ → HeldCell
-blank_cell ports = record { links = replicate 7 None; numbers = replicate 8 0; ports = replicate ports no_port }
+blank_cell ports = record { links = replicate 8 None; numbers = replicate 8 0; ports = replicate ports no_port }
 
 -- the words of so many links that lead nowhere, of numbers that are 0, and of ports in which nothing is set
 abbrev pub blank_links : ℕ → List Item
@@ -146,6 +146,6 @@ blank_numbers n = number_items (replicate n 0)
 abbrev pub blank_ports : ℕ → List Item
 blank_ports n = port_items (replicate n no_port)
 
--- each cell that is there has seven links
+-- each cell that is there has eight links
 abbrev pub HaveLinks : (ℕ → Option HeldCell) → Type 0
-HaveLinks f = (a : ℕ) → IsSome (f a) → length (links_of (f a)) ≡ 7
+HaveLinks f = (a : ℕ) → IsSome (f a) → length (links_of (f a)) ≡ 8

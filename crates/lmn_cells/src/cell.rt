@@ -1,4 +1,4 @@
-//! Cells: rows with seven links, eight numbers and three words for each port.
+//! Cells: rows with eight links, eight numbers and three words for each port.
 ghost use Rattle.std.specs.Prelude.{◌≡◌, ℕ, ◌+◌, ◌*◌, ◌^◌, ◌<◌, ◌∷◌, length, IsSome, None, Some, MatchResult, slice_index_or};
 ghost use Rattle.std.specs.Option.{option_map};
 ghost use denote.RawPtr.{block_of};
@@ -82,7 +82,7 @@ impl Cells {
             .free(&self.alloc, c.at, FIRST_PORT + ports * PORT_WORDS);
     }
 
-    /// Each cell has seven links.
+    /// Each cell has eight links.
     pub fn whole(&self)
         ensures { HaveLinks (cells_by self.now) }
     {
@@ -92,7 +92,7 @@ impl Cells {
     /// The cell to which a link leads.
     pub fn link(&self, c: Cell, k: usize) -> Option<Cell>
         requires there { IsSome (cells_by self.now (cell_id c)) }
-        requires below { k < 7 }
+        requires below { k < 8 }
         ensures { slice_index_or (links_of (cells_by self.now (cell_id c))) k None ≡ option_map cell_id result }
     {
         cell_from(self.rows.link(c.at, k))
@@ -101,7 +101,7 @@ impl Cells {
     /// A link leads elsewhere.
     pub fn set_link(&mut self, c: Cell, k: usize, to: Option<Cell>)
         requires there { IsSome (cells_by self.old (cell_id c)) }
-        requires below { k < 7 }
+        requires below { k < 8 }
         ensures { cells_by self.new ≡ alter (cells_by self.old) (cell_id c) (option_map (with_link k (option_map cell_id to))) }
     {
         self.rows.set_link(c.at, k, pointer_of(to));

@@ -7,12 +7,12 @@ ghost use Rattle.lmn_cells.specs.Cells.{link_items, number_items, cell_items, bl
 use crate::rows::{Rows, nowhere};
 
 /// How many links a cell has.
-pub const LINKS: usize = 7;
+pub const LINKS: usize = 8;
 
 const NUMBERS: usize = 8;
 
 /// The word at which the ports begin.
-pub const FIRST_PORT: usize = 15;
+pub const FIRST_PORT: usize = 16;
 
 /// How many words a port has.
 pub const PORT_WORDS: usize = 3;
@@ -21,8 +21,8 @@ pub const PORT_WORDS: usize = 3;
 fn fill_links(rows: &mut Rows, at: *mut u8, ports: usize)
     requires start { IsStart at }
     requires few { ports < 2 ^ 16 }
-    requires words { items_in rows.old.rows (block_of at) ≡ replicate (15 + ports * 3) blank }
-    ensures { rows.new.rows ≡ with_items (block_of at) (blank_links 7 ++ replicate (8 + ports * 3) blank) rows.old.rows }
+    requires words { items_in rows.old.rows (block_of at) ≡ replicate (16 + ports * 3) blank }
+    ensures { rows.new.rows ≡ with_items (block_of at) (blank_links 8 ++ replicate (8 + ports * 3) blank) rows.old.rows }
 {
     for k in 0..LINKS {
         rows.set_link(at, k, nowhere());
@@ -33,8 +33,8 @@ fn fill_links(rows: &mut Rows, at: *mut u8, ports: usize)
 fn fill_numbers(rows: &mut Rows, at: *mut u8, ports: usize)
     requires start { IsStart at }
     requires few { ports < 2 ^ 16 }
-    requires words { items_in rows.old.rows (block_of at) ≡ blank_links 7 ++ replicate (8 + ports * 3) blank }
-    ensures { rows.new.rows ≡ with_items (block_of at) (blank_links 7 ++ (blank_numbers 8 ++ replicate (ports * 3) blank)) rows.old.rows }
+    requires words { items_in rows.old.rows (block_of at) ≡ blank_links 8 ++ replicate (8 + ports * 3) blank }
+    ensures { rows.new.rows ≡ with_items (block_of at) (blank_links 8 ++ (blank_numbers 8 ++ replicate (ports * 3) blank)) rows.old.rows }
 {
     for k in 0..NUMBERS {
         rows.set_number(at, LINKS + k, 0);
@@ -45,7 +45,7 @@ fn fill_numbers(rows: &mut Rows, at: *mut u8, ports: usize)
 fn fill_ports(rows: &mut Rows, at: *mut u8, ports: usize)
     requires start { IsStart at }
     requires few { ports < 2 ^ 16 }
-    requires words { items_in rows.old.rows (block_of at) ≡ blank_links 7 ++ (blank_numbers 8 ++ replicate (ports * 3) blank) }
+    requires words { items_in rows.old.rows (block_of at) ≡ blank_links 8 ++ (blank_numbers 8 ++ replicate (ports * 3) blank) }
     ensures { rows.new.rows ≡ with_items (block_of at) (cell_items (blank_cell ports)) rows.old.rows }
 {
     for j in 0..ports {
@@ -59,7 +59,7 @@ fn fill_ports(rows: &mut Rows, at: *mut u8, ports: usize)
 pub fn fill(rows: &mut Rows, at: *mut u8, ports: usize)
     requires start { IsStart at }
     requires few { ports < 2 ^ 16 }
-    requires words { items_in rows.old.rows (block_of at) ≡ replicate (15 + ports * 3) blank }
+    requires words { items_in rows.old.rows (block_of at) ≡ replicate (16 + ports * 3) blank }
     ensures { rows.new.rows ≡ with_items (block_of at) (cell_items (blank_cell ports)) rows.old.rows }
 {
     fill_links(rows, at, ports);

@@ -3,4 +3,9 @@ pub mod WebLemmas
 pub mod RelistLemmas
 pub mod FreeLemmas
 pub mod SeekLemmas
+pub mod ClassLemmas
+pub mod Reclassing
+pub mod ClassWrites
+pub mod ClassRuns
+pub mod ClassSteps
 pub mod ExampleProofs

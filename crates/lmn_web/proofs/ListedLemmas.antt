@@ -13,7 +13,7 @@ use Rattle.lmn_cells.proofs.LineLemmas.{behind_there}
 use Rattle.lmn_web.specs.declared.kind.CellKind.{CellKind}
 use Rattle.lmn_web.specs.declared.kind.CellKind.TheVariants.{Atom, Membrane}
 use Rattle.lmn_web.specs.Kinds.{kind_by}
-use Rattle.lmn_web.specs.Webs.{web_cell, web_with, web_of, kind_at, home_at, home_of, cells_in, cells_of, walked, list_in, number_in, count_number, list_link, StandOnce, KIND, OWN}
+use Rattle.lmn_web.specs.Webs.{WebCell, web_cell, web_with, web_of, kind_at, home_at, home_of, cells_in, cells_of, walked, list_in, number_in, count_number, list_link, StandOnce, KIND, OWN}
 use Rattle.lmn_web.specs.Indexes.{cell_kind, IsListed}
 
 -- Kinds
@@ -31,7 +31,7 @@ link_behind Atom = omega arith
 link_behind Membrane = omega arith
 
 -- and they are links of a cell
-pub link_below : (k : CellKind) → list_link k + 1 < 7
+pub link_below : (k : CellKind) → list_link k + 1 < 8
 link_below Atom = omega arith
 link_below Membrane = omega arith
 
@@ -97,11 +97,10 @@ none_long xs e next first = subst (λ us. walked next (length us) first ≡ us) 
 
 -- the lists are those that the cells tell
 pub lists_are : (f : ℕ → Option HeldCell) (ys : ℕ → CellKind → List ℕ) → IsListed f ys → (m : ℕ) (k : CellKind) → list_in f m k ≡ ys m k
-lists_are f ys l m k = ap (λ n. walked (λ a. link_in f a NEXT) n (link_in f m (list_link k))) (l.count m k) ∙ by (f m) refl
-  where
-    by : (o : Option HeldCell) → f m ≡ o → walked (λ a. link_in f a NEXT) (length (ys m k)) (link_in f m (list_link k)) ≡ ys m k
-    by None e = none_long (ys m k) (l.bare m k (ap (λ (o : Option HeldCell). kind_by (get_or (numbers_of o) KIND 0)) e)) (λ a. link_in f a NEXT) (link_in f m (list_link k))
-    by (Some c) e = walked_is (node_in f) None (link_in f m (list_link k)) (ys m k) (link_in f m (list_link k + 1)) (l.line m k (subst (λ (o : Option HeldCell). IsSome o) (sym e) refl)).runs
+lists_are f ys l m k = ap (λ n. walked (λ a. link_in f a NEXT) n (link_in f m (list_link k))) (l.count m k) ∙ elim (kind_cases (cell_kind f m) Atom) [
+  | inl e ↦ none_long (ys m k) (l.bare m k e) (λ a. link_in f a NEXT) (link_in f m (list_link k))
+  | inr d ↦ walked_is (node_in f) None (link_in f m (list_link k)) (ys m k) (link_in f m (list_link k + 1)) (l.line m k d).runs
+]
 
 same_lists : (f : ℕ → Option HeldCell) (ys : ℕ → CellKind → List ℕ) → IsListed f ys → list_in f ≡ ys
 same_lists f ys l = λ t m k. lists_are f ys l m k t
@@ -148,7 +147,7 @@ module _ (f g : ℕ → Option HeldCell) (same : (b : ℕ) → listing (g b) ≡
   -- the lists are as they were
   pub lists_same : (ys : ℕ → CellKind → List ℕ) → IsListed f ys → IsListed g ys
   lists_same ys l = record {
-    line = λ m k t. line_same f g link_is there_is m (list_link k) (ys m k) (l.line m k (there_back m t));
+    line = λ m k t. line_same f g link_is there_is m (list_link k) (ys m k) (l.line m k (λ e. t (kind_is m ∙ e)));
     count = λ m k. count_is m k ∙ l.count m k;
     kinds = λ m x k i. kind_is x ∙ l.kinds m x k i;
     homes = λ m x e. let h = l.homes m x (sym (link_is x HOME) ∙ e) in (there_is m h.0, subst (λ k. In x (ys m k)) (sym (kind_is x)) h.1);
@@ -170,7 +169,7 @@ module _ (f g : ℕ → Option HeldCell) (a : ℕ) (ys : ℕ → CellKind → Li
   listed_beside = record {
     line = λ m k t. elim (cases_eq m a) [
       | inl e ↦ subst (λ z. Line g z (list_link k) (ys z k)) (sym e) (no_list k)
-      | inr d ↦ line_kept f g m (list_link k) (ys m k) (away m d) (λ z i. other m z k i) (l.line m k (subst (λ (o : Option HeldCell). IsSome o) (away m d) t))
+      | inr d ↦ line_kept f g m (list_link k) (ys m k) (away m d) (λ z i. other m z k i) (l.line m k (λ e. t (ap (λ (o : Option HeldCell). kind_by (get_or (numbers_of o) KIND 0)) (away m d) ∙ e)))
     ];
     count = λ m k. elim (cases_eq m a) [
       | inl e ↦ subst (λ z. number_in g z (count_number k) ≡ length (ys z k)) (sym e) (counts k ∙ sym (ap (λ (us : List ℕ). length us) (none k)))
@@ -258,28 +257,24 @@ home_there f a m e = by (f a) e
     by None h = absurd cc
     by (Some c) h = refl
 
+-- a list in which a cell stands is linked
+pub own_line : (f : ℕ → Option HeldCell) (ys : ℕ → CellKind → List ℕ) → IsListed f ys → (m x : ℕ) (k : CellKind) → In x (ys m k) → Line f m (list_link k) (ys m k)
+own_line f ys l m x k i = l.line m k (λ e. subst (λ us. In x us) (l.bare m k e) i)
+
 -- a cell of a list is not its home, and has it
 pub cell_of : (f : ℕ → Option HeldCell) (ys : ℕ → CellKind → List ℕ) → IsListed f ys → (m x : ℕ) (k : CellKind) → In x (ys m k) → IsSome (f x) × (x ≢ m) × (link_in f x HOME ≡ Some m)
-cell_of f ys l m x k i = each_in (λ y. IsSome (f y) × (y ≢ m) × (link_in f y HOME ≡ Some m)) (ys m k) x (l.line m k (membrane (f m) refl)).cells i
-  where
-    membrane : (o : Option HeldCell) → f m ≡ o → IsSome (f m)
-    membrane None e = absurd (subst (λ us. In x us) (l.bare m k (ap (λ (o : Option HeldCell). kind_by (get_or (numbers_of o) KIND 0)) e)) i)
-    membrane (Some c) e = subst (λ (o : Option HeldCell). IsSome o) (sym e) refl
+cell_of f ys l m x k i = each_in (λ y. IsSome (f y) × (y ≢ m) × (link_in f y HOME ≡ Some m)) (ys m k) x (own_line f ys l m x k i).cells i
 
 -- the lists of a web
 pub web_listed : (f : ℕ → Option HeldCell) (ys : ℕ → CellKind → List ℕ) → IsListed f ys → StandOnce (web_with f ys)
 web_listed f ys l =
     let lists : (m : ℕ) (k : CellKind) → ys m k ≡ cells_in (web_with f ys) m k = λ m k. sym (list_same f ys l m k) in
     record {
-      once = λ m k. subst Distinct (lists m k) (once m k (f m) refl);
+      once = λ m k. subst Distinct (lists m k) (elim (kind_cases (cell_kind f m) Atom) [ inl e ↦ subst Distinct (sym (l.bare m k e)) tt | inr d ↦ (l.line m k d).once ]);
       homes = λ m x k i. let j : In x (ys m k) = subst (λ us. In x us) (sym (lists m k)) i in let c = cell_of f ys l m x k j in (home_same f ys x ∙ c.2, kind_same f ys x ∙ l.kinds m x k j, c.1);
       listed = λ m x e. subst (λ us. In x us) (lists m (cell_kind f x) ∙ ap (cells_in (web_with f ys) m) (sym (kind_same f ys x))) (l.homes m x (sym (home_same f ys x) ∙ e)).1;
       bare = λ m k e. sym (lists m k) ∙ l.bare m k (sym (kind_same f ys m) ∙ e);
     }
-  where
-    once : (m : ℕ) (k : CellKind) (o : Option HeldCell) → f m ≡ o → Distinct (ys m k)
-    once m k None e = subst Distinct (sym (l.bare m k (ap (λ (o : Option HeldCell). kind_by (get_or (numbers_of o) KIND 0)) e))) tt
-    once m k (Some c) e = (l.line m k (subst (λ (o : Option HeldCell). IsSome o) (sym e) refl)).once
 
 -- what a call answers, if anything, has this
 pub if_some : {X : Type 0} (id : X → ℕ) (r : Option X) (P : ℕ → Type 0) → ((q : ℕ) → option_map id r ≡ Some q → P q) → IfSome r (λ x. P (id x))
@@ -302,4 +297,16 @@ next_home f ys l x t q e = by (link_in f x HOME) refl (subst (λ (o : Option ℕ
     by None h s = absurd cc
     by (Some m) h s =
         let i = l.homes m x h in let k = cell_kind f x in
-        home_same f ys q ∙ (cell_of f ys l m q k (behind_there f m (list_link k) x (ys m k) (l.line m k i.0) i.1 q e)).2 ∙ sym h ∙ sym (home_same f ys x)
+        home_same f ys q ∙ (cell_of f ys l m q k (behind_there f m (list_link k) x (ys m k) (own_line f ys l m x k i.1) i.1 q e)).2 ∙ sym h ∙ sym (home_same f ys x)
+
+-- the kind that a cell is told to have
+pub kind_told : (w : ℕ → Option WebCell) (a : ℕ) (k : CellKind) → option_map (λ x. x.kind) (w a) ≡ Some k → kind_at w a ≡ k
+kind_told w a k e = by (w a) e
+  where
+    by : (o : Option WebCell) → option_map (λ x. x.kind) o ≡ Some k → kind_at (λ _. o) a ≡ k
+    by None h = absurd cc
+    by (Some c) h = (let z : Some c.kind ≡ Some k = h in cc)
+
+-- a membrane is no atom
+pub no_atom_by : (f : ℕ → Option HeldCell) (ys : ℕ → CellKind → List ℕ) (m : ℕ) → kind_at (web_with f ys) m ≡ Membrane → cell_kind f m ≡ Atom → ⊥
+no_atom_by f ys m e s = let z : Membrane ≡ Atom = sym e ∙ kind_same f ys m ∙ s in absurd cc

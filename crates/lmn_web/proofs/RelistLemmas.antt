@@ -22,8 +22,9 @@ use Rattle.lmn_web.specs.declared.kind.CellKind.TheVariants.{Atom, Membrane}
 use Rattle.lmn_web.specs.Kinds.{kind_by}
 use Rattle.lmn_web.specs.Webs as web
 use Rattle.lmn_web.specs.Webs.{WebCell, web_cell, web_with, web_of, web_by, kind_at, cells_in, list_in, number_in, count_number, list_link, label_by, with_home, with_list, relisted, added_last, added_before, INDEX, ARITY, KIND, HIGH, LOW, OWN}
+use Rattle.lmn_web.specs.Classes.{Rest, rest}
 use Rattle.lmn_web.specs.Indexes.{cell_kind, IsListed, IsWeb}
-use Rattle.lmn_web.proofs.ListedLemmas.{kind_cases, link_behind, links_apart, count_behind, counts_apart, count_below, line_same, listed_self, web_self, home_same, kind_same, list_same, cell_of}
+use Rattle.lmn_web.proofs.ListedLemmas.{kind_cases, link_behind, links_apart, count_behind, counts_apart, count_below, line_same, listed_self, web_self, home_same, kind_same, list_same, own_line, cell_of}
 use Rattle.lmn_web.proofs.WebLemmas.{some_back, Account, account, kept_web, reaches_same, paired_same}
 use Rattle.lmn_base.proofs.Common.{of_map as in_map}
 
@@ -119,7 +120,7 @@ pub record Relists (f g : ℕ → Option HeldCell) (ys : ℕ → CellKind → Li
   pub count_at : number_in g m (count_number (cell_kind f x)) ≡ length xs
   pub count_away : (n : ℕ) (j : CellKind) → (n ≡ m → j ≡ cell_kind f x → ⊥) → number_in g n (count_number j) ≡ number_in f n (count_number j)
   pub line : Line g m (list_link (cell_kind f x)) xs
-  pub others : (n : ℕ) (j : CellKind) → IsSome (f n) → (n ≡ m → j ≡ cell_kind f x → ⊥) → Line g n (list_link j) (ys n j)
+  pub others : (n : ℕ) (j : CellKind) → (cell_kind f n ≡ Atom → ⊥) → (n ≡ m → j ≡ cell_kind f x → ⊥) → Line g n (list_link j) (ys n j)
   pub was : (z : ℕ) → In z xs → z ≢ x → In z (ys m (cell_kind f x))
   pub stays : (z : ℕ) → In z (ys m (cell_kind f x)) → z ≢ x → In z xs
   pub comes : (n : ℕ) → h ≡ Some n → (n ≡ m) × In x xs
@@ -162,7 +163,7 @@ module _ (f g : ℕ → Option HeldCell) (ys : ℕ → CellKind → List ℕ) (l
 
   new_lists : IsListed g new
   new_lists = record {
-    line = each (λ n j us. IsSome (g n) → Line g n (list_link j) us) (λ _. r.line) (λ n j d t. r.others n j (sym (there_is n) ∙ t) d);
+    line = each (λ n j us. (cell_kind g n ≡ Atom → ⊥) → Line g n (list_link j) us) (λ _. r.line) (λ n j d t. r.others n j (λ e. t (kind_is n ∙ e)) d);
     count = each (λ n j us. number_in g n (count_number j) ≡ length us) r.count_at (λ n j d. r.count_away n j d ∙ l.count n j);
     kinds = λ n z j. each (λ n j us. In z us → cell_kind g z ≡ j) (λ i. elim (cases_eq z x) [
       | inl e ↦ ap (cell_kind g) e ∙ kind_is x
@@ -260,16 +261,7 @@ no_more f all w xs d there =
 
 -- The steps in the cells
 
--- what of a cell its links leave
-pub record Rest : Type 0 where
-  pub there : Bool
-  pub numbers : List ℕ
-  pub ports : List HeldPort
-
-abbrev rest : Option HeldCell → Rest
-rest o = record { there = is_some o; numbers = numbers_of o; ports = ports_of o }
-
-rest_link : (f : ℕ → Option HeldCell) (a j : ℕ) (v : Option ℕ) (b : ℕ) → rest (alter f a (option_map (with_link j v)) b) ≡ rest (f b)
+pub rest_link : (f : ℕ → Option HeldCell) (a j : ℕ) (v : Option ℕ) (b : ℕ) → rest (alter f a (option_map (with_link j v)) b) ≡ rest (f b)
 rest_link f a j v b = keeps rest f a (with_link j v) by b
   where
     by : (o : Option HeldCell) → rest (option_map (with_link j v) o) ≡ rest o
@@ -361,7 +353,7 @@ pub record Moves (f F : ℕ → Option HeldCell) (ys : ℕ → CellKind → List
   pub home_at : link_in F x HOME ≡ h
   pub home_away : (b : ℕ) → b ≢ x → link_in F b HOME ≡ link_in f b HOME
   pub line : Line F m (list_link (cell_kind f x)) xs
-  pub others : (n : ℕ) (j : CellKind) → IsSome (f n) → (n ≡ m → j ≡ cell_kind f x → ⊥) → Line F n (list_link j) (ys n j)
+  pub others : (n : ℕ) (j : CellKind) → (cell_kind f n ≡ Atom → ⊥) → (n ≡ m → j ≡ cell_kind f x → ⊥) → Line F n (list_link j) (ys n j)
 
 -- a number of a cell after such a change
 pub moved_number : (f F : ℕ → Option HeldCell) (ys : ℕ → CellKind → List ℕ) (m x : ℕ) (h : Option ℕ) (xs : List ℕ) → Moves f F ys m x h xs → (b i : ℕ) → number_in F b i ≡ number_in f b i
@@ -492,7 +484,7 @@ module _ (f F g : ℕ → Option HeldCell) (all : List ℕ) (w : IsWeb f all) (m
   there_h = membrane_there f m enters.membrane
 
   line_e : Line f m e ls
-  line_e = subst (λ j. Line f m j ls) (sym at_e) (w.listed.line m ka there_h)
+  line_e = subst (λ j. Line f m j ls) (sym at_e) (w.listed.line m ka enters.membrane)
 
   -- it was in no list
   pub out_of : In x ls → ⊥
@@ -520,7 +512,7 @@ module _ (f F g : ℕ → Option HeldCell) (all : List ℕ) (w : IsWeb f all) (m
 
   -- the list with one more is no longer than the table
   room : length (x ∷ ls) ≤ length all
-  room = no_more f all w (x ∷ ls) (each_of _ ls (λ z i s. out_of (subst (λ u. In u ls) (sym s) i)), (w.listed.line m ka there_h).once)
+  room = no_more f all w (x ∷ ls) (each_of _ ls (λ z i s. out_of (subst (λ u. In u ls) (sym s) i)), (w.listed.line m ka enters.membrane).once)
       (λ z i. elim i [ inl s ↦ subst (λ u. IsSome (f u)) s enters.there | inr j ↦ (cell_of f (list_in f) w.listed m z ka j).0 ])
 
   comes_in : (us : List ℕ) → Moves f F (list_in f) m x (Some m) us → length us ≡ length ls + 1 → ((z : ℕ) → In z us → z ≢ x → In z ls) → ((z : ℕ) → In z ls → In z us) → In x us → g ≡ alter F m (option_map (with_number q (n + 1)))
@@ -600,7 +592,7 @@ module _ (f F g : ℕ → Option HeldCell) (all : List ℕ) (w : IsWeb f all) (m
   there_l = (w.listed.homes m x home).0
 
   line_l : Line f m e lx
-  line_l = subst (λ j. Line f m j lx) (sym at_e) (w.listed.line m kl there_l)
+  line_l = subst (λ j. Line f m j lx) (sym at_e) (own_line f (list_in f) w.listed m x kl in_it)
 
   unlinked_moves : Unlinked → Moves f F (list_in f) m x None rx
   unlinked_moves u = record {
@@ -625,7 +617,7 @@ module _ (f F g : ℕ → Option HeldCell) (all : List ℕ) (w : IsWeb f all) (m
   -- a cell leaves its list
   pub unlinks : Unlinked → g ≡ alter F m (option_map (with_number q (n - 1))) → Relists f g (list_in f) m x None rx
   unlinks u is =
-      let d : Distinct lx = (w.listed.line m kl there_l).once in
+      let d : Distinct lx = (own_line f (list_in f) w.listed m x kl in_it).once in
       let len : n - 1 ≡ length rx = let t = unlinked_some u in omega (arith, t) in
       subst (λ (v : ℕ → Option HeldCell). Relists f v (list_in f) m x None rx) (sym (is ∙ ap (λ j. alter F m (option_map (with_number j (n - 1)))) at_q))
       (counted f F all w m x None rx (unlinked_moves u) (n - 1) there_l (cell_of f (list_in f) w.listed m x kl in_it).1 no_atom len

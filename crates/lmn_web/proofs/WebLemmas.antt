@@ -308,7 +308,7 @@ empty_web f all none bare = subst (λ (g : ℕ → Option HeldCell). IsWeb g all
   reaches = λ a i b j e. absurd cc;
   paired = record { back = λ a i b j e. absurd cc; apart = λ a i e. absurd cc };
   listed = listed_self (λ _. None) (λ m k. []) record {
-    line = λ m k t. absurd cc;
+    line = λ m k t. absurd (t refl);
     count = λ m k. none_counted k;
     kinds = λ m x k i. absurd i;
     homes = λ m x e. absurd cc;

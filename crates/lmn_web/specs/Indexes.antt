@@ -26,7 +26,7 @@ cell_kind f b = kind_by (number_in f b KIND)
 
 -- these are the lists of the cells, and each cell with a home stands in the list of its kind
 pub record IsListed (f : ℕ → Option HeldCell) (lists : ℕ → CellKind → List ℕ) : Type 0 where
-  pub line : (m : ℕ) (k : CellKind) → IsSome (f m) → Line f m (list_link k) (lists m k)
+  pub line : (m : ℕ) (k : CellKind) → (cell_kind f m ≡ Atom → ⊥) → Line f m (list_link k) (lists m k)
   pub count : (m : ℕ) (k : CellKind) → number_in f m (count_number k) ≡ length (lists m k)
   pub kinds : (m x : ℕ) (k : CellKind) → In x (lists m k) → cell_kind f x ≡ k
   pub homes : (m x : ℕ) → link_in f x HOME ≡ Some m → IsSome (f m) × In x (lists m (cell_kind f x))

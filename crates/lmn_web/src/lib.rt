@@ -1,6 +1,7 @@
 //! A web of cells: ports that are joined two by two, each cell with a label and marks.
 #![tactic(auto)]
 
+mod classes;
 pub mod examples;
 mod kind;
 mod web;

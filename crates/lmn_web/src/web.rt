@@ -204,7 +204,10 @@ impl Web {
         ensures list { from (option_map cell_id result) (cells_in (web_by self.now) (cell_id home) kind) ≡ cells_in (web_by self.now) (cell_id home) kind }
         ensures home { IfSome result (λ c. home_at (web_by self.now) (cell_id c) ≡ Some (cell_id home)) }
     {
-        self.cells.link(home, first_link(kind))
+        match self.kind(home) {
+            CellKind::Atom => None,
+            CellKind::Membrane => self.cells.link(home, first_link(kind)),
+        }
     }
 
     /// The next cell behind this one in its list.

@@ -15,14 +15,14 @@ set_link-requires c =
 pub set_number-requires : goal.set_number-requires
 set_number-requires c =
     let old = c.args.rows.now.rows in let rows = c.loop-j.rows.rows in let b = block_of c.args.at in let p = c.args.ports in let j = c.loop-j.j in let low = c.loop-j-test.true in let few = c.requires.few in
-    (c.requires.start, omega (arith, low, few), second_there old c.set_link.new.self.rows b p j (first_word old rows c.set_link.new.self.rows b p j c.loop-j.invariant low (c.set_link.ensures ∙ ap (λ q. with_items b (set (items_in rows b) (15 + j * 3) (link q)) rows) c.nowhere.ensures)) low)
+    (c.requires.start, omega (arith, low, few), second_there old c.set_link.new.self.rows b p j (first_word old rows c.set_link.new.self.rows b p j c.loop-j.invariant low (c.set_link.ensures ∙ ap (λ q. with_items b (set (items_in rows b) (16 + j * 3) (link q)) rows) c.nowhere.ensures)) low)
 
 pub set_number-requires-in-loop-j : goal.set_number-requires-in-loop-j
 set_number-requires-in-loop-j c =
     let old = c.args.rows.now.rows in let rows = c.loop-j.rows.rows in let b = block_of c.args.at in let p = c.args.ports in let j = c.loop-j.j in let low = c.loop-j-test.true in let few = c.requires.few in
-    (c.requires.start, omega (arith, low, few), third_there old c.set_number.new.self.rows b p j (second_word old c.set_link.new.self.rows c.set_number.new.self.rows b p j (first_word old rows c.set_link.new.self.rows b p j c.loop-j.invariant low (c.set_link.ensures ∙ ap (λ q. with_items b (set (items_in rows b) (15 + j * 3) (link q)) rows) c.nowhere.ensures)) low c.set_number.ensures) low)
+    (c.requires.start, omega (arith, low, few), third_there old c.set_number.new.self.rows b p j (second_word old c.set_link.new.self.rows c.set_number.new.self.rows b p j (first_word old rows c.set_link.new.self.rows b p j c.loop-j.invariant low (c.set_link.ensures ∙ ap (λ q. with_items b (set (items_in rows b) (16 + j * 3) (link q)) rows) c.nowhere.ensures)) low c.set_number.ensures) low)
 
 pub loop-j-preserved : goal.loop-j-preserved
 loop-j-preserved c =
     let old = c.args.rows.now.rows in let rows = c.loop-j.rows.rows in let b = block_of c.args.at in let p = c.args.ports in let j = c.loop-j.j in let low = c.loop-j-test.true in let few = c.requires.few in
-    third_word old c.set_number.new.self.rows c.set_number-in-loop-j.new.self.rows b p j (second_word old c.set_link.new.self.rows c.set_number.new.self.rows b p j (first_word old rows c.set_link.new.self.rows b p j c.loop-j.invariant low (c.set_link.ensures ∙ ap (λ q. with_items b (set (items_in rows b) (15 + j * 3) (link q)) rows) c.nowhere.ensures)) low c.set_number.ensures) low c.set_number-in-loop-j.ensures
+    third_word old c.set_number.new.self.rows c.set_number-in-loop-j.new.self.rows b p j (second_word old c.set_link.new.self.rows c.set_number.new.self.rows b p j (first_word old rows c.set_link.new.self.rows b p j c.loop-j.invariant low (c.set_link.ensures ∙ ap (λ q. with_items b (set (items_in rows b) (16 + j * 3) (link q)) rows) c.nowhere.ensures)) low c.set_number.ensures) low c.set_number-in-loop-j.ensures

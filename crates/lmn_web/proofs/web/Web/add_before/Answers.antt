@@ -8,7 +8,7 @@ use Rattle.lmn_cells.specs.Runs.{HOME, link_in, Line, IsHome, put_before}
 use Rattle.lmn_web.specs.Kinds.{kind_by}
 use Rattle.lmn_web.specs.Webs.{web_by, list_in, list_link, count_number, number_in, home_at, added_before}
 use Rattle.lmn_web.specs.Indexes.{cell_kind}
-use Rattle.lmn_web.proofs.ListedLemmas.{home_same, link_behind, link_below}
+use Rattle.lmn_web.proofs.ListedLemmas.{own_line, home_same, link_behind, link_below}
 use Rattle.lmn_web.proofs.RelistLemmas.{enters_before, before_among, inserted_there, inserted_fits, inserts, relists_web, relists_is, in_none, before_is}
 use Rattle.lmn_web.proofs.web.Web.add_before.Goals as goal
 
@@ -33,7 +33,7 @@ insert-requires-clause-list c =
     let enters = enters_before c.self.inside.cells c.args.self.now _ c.self.view_is w m a x home c.requires.kind c.requires.there c.requires.homeless c.requires.differ in
     let kind : c.kind_of-kind.result ≡ cell_kind f x = c.kind_of-kind.ensures ∙ ap kind_by c.number.ensures in
     let k = cell_kind f x in
-    (list_in f m k, subst (λ e. Line f m e (list_in f m k)) (sym (c.first_link.ensures ∙ ap list_link kind)) (w.listed.line m k (w.listed.homes m a home).0), among, in_none f (list_in f) w.listed x enters.free m k)
+    (list_in f m k, subst (λ e. Line f m e (list_in f m k)) (sym (c.first_link.ensures ∙ ap list_link kind)) (own_line f (list_in f) w.listed m a k among), among, in_none f (list_in f) w.listed x enters.free m k)
 
 pub number-count-requires-clause-there : goal.number-count-requires-clause-there
 number-count-requires-clause-there c =

@@ -22,7 +22,7 @@ append-requires-clause-list c =
     let f = cells_by c.self.inside.cells in let m = cell_id c.args.home in let x = cell_id c.args.c in let w = c.self.invariant in
     let enters = enters_last c.self.inside.cells c.args.self.now c.self.view_is m x c.requires.there c.requires.homeless c.requires.membrane c.requires.differ in
     let k = c.kind_of-kind.result in
-    (list_in f m k, subst (λ e. Line f m e (list_in f m k)) (sym c.first_link.ensures) (w.listed.line m k (membrane_there f m enters.membrane)), in_none f (list_in f) w.listed x enters.free m k)
+    (list_in f m k, subst (λ e. Line f m e (list_in f m k)) (sym c.first_link.ensures) (w.listed.line m k enters.membrane), in_none f (list_in f) w.listed x enters.free m k)
 
 pub number-count-requires-clause-there : goal.number-count-requires-clause-there
 number-count-requires-clause-there c =

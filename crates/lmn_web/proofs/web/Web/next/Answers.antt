@@ -7,7 +7,7 @@ use Rattle.lmn_cells.specs.CellIds.{cell_id}
 use Rattle.lmn_cells.specs.Runs.{HOME, link_in}
 use Rattle.lmn_web.specs.Webs.{web_by, cells_in, list_in, list_link, home_at, kind_at}
 use Rattle.lmn_web.specs.Indexes.{cell_kind}
-use Rattle.lmn_web.proofs.ListedLemmas.{goes_on, home_same, kind_same, list_same, next_home, if_some, some_home}
+use Rattle.lmn_web.proofs.ListedLemmas.{own_line, goes_on, home_same, kind_same, list_same, next_home, if_some, some_home}
 use Rattle.lmn_web.proofs.web.Web.next.Goals as goal
 
 pub link-requires-clause-there : goal.link-requires-clause-there
@@ -23,7 +23,7 @@ returns-clause-list c m home =
     subst (λ (z : List Row). from (option_map cell_id c.link.result) (cells_in (web_by z) m (kind_at (web_by z) x)) ≡ after x (cells_in (web_by z) m (kind_at (web_by z) x))) c.self.view_is
     (subst (λ j. from (option_map cell_id c.link.result) (cells_in (web_by c.self.inside.cells) m j) ≡ after x (cells_in (web_by c.self.inside.cells) m j)) (sym (kind_same f (list_in f) x))
     (subst (λ us. from (option_map cell_id c.link.result) us ≡ after x us) (sym (list_same f (list_in f) w.listed m k))
-    (subst (λ o. from o (list_in f m k) ≡ after x (list_in f m k)) c.link.ensures (goes_on f m (list_link k) x (list_in f m k) (w.listed.line m k h.0) h.1))))
+    (subst (λ o. from o (list_in f m k) ≡ after x (list_in f m k)) c.link.ensures (goes_on f m (list_link k) x (list_in f m k) (own_line f (list_in f) w.listed m x k h.1) h.1))))
 
 pub returns-clause-home : goal.returns-clause-home
 returns-clause-home c =

@@ -8,7 +8,7 @@ use Rattle.lmn_cells.specs.Runs.{HOME, link_in, Line, IsHome}
 use Rattle.lmn_web.specs.Kinds.{kind_by}
 use Rattle.lmn_web.specs.Webs.{web_by, list_in, list_link, count_number, number_in, home_at, unlinked}
 use Rattle.lmn_web.specs.Indexes.{cell_kind}
-use Rattle.lmn_web.proofs.ListedLemmas.{home_same, link_behind, link_below, some_home}
+use Rattle.lmn_web.proofs.ListedLemmas.{own_line, home_same, link_behind, link_below, some_home}
 use Rattle.lmn_web.proofs.RelistLemmas.{unlinked_there, unlinked_some, unlinks, relists_web, relists_is, without_is}
 use Rattle.lmn_web.proofs.web.Web.unlink.Goals as goal
 
@@ -34,7 +34,7 @@ unlink-requires-clause-list c =
     let home : link_in f x HOME ≡ Some m = c.link.ensures ∙ ap (option_map cell_id) c.in-Some.is in
     let kind : c.kind_of-kind.result ≡ cell_kind f x = c.kind_of-kind.ensures ∙ ap kind_by c.number.ensures in
     let h = w.listed.homes m x home in
-    (list_in f m (cell_kind f x), subst (λ e. Line f m e (list_in f m (cell_kind f x))) (sym (c.first_link.ensures ∙ ap list_link kind)) (w.listed.line m (cell_kind f x) h.0), h.1)
+    (list_in f m (cell_kind f x), subst (λ e. Line f m e (list_in f m (cell_kind f x))) (sym (c.first_link.ensures ∙ ap list_link kind)) (own_line f (list_in f) w.listed m x (cell_kind f x) h.1), h.1)
 
 pub number-count-requires-clause-there : goal.number-count-requires-clause-there
 number-count-requires-clause-there c =

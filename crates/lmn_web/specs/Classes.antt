@@ -1,0 +1,145 @@
+-- Words of private functions: the atoms of a membrane that have one class, which is the high half of their labels and how many ports they have, are linked one behind the other.
+use Rattle.std.specs.Prelude.{◌≡◌, ◌≢◌, ◌==◌, ◌&&◌, ◌<◌, ◌≤◌, Bool, false, ℕ, List, [], ◌∷◌, length, filter, Option, Some, None, IsSome, is_some, if◌then◌else◌}
+use Rattle.lmn_base.specs.Lists.{In}
+use Rattle.lmn_heap.specs.Lists.{Distinct}
+use Rattle.std.specs.Option.{option_map}
+use Rattle.lmn_heap.specs.Heap.{alter}
+use Rattle.lmn_cells.specs.Cells.{HeldPort, HeldCell, links_of, numbers_of, ports_of, with_link}
+use Rattle.lmn_cells.specs.Runs.{Node, RunsThrough, link_in}
+use Rattle.lmn_web.specs.Webs.{number_in, count_number, ARITY, HIGH}
+use Rattle.lmn_web.specs.declared.kind.CellKind.TheVariants.{Atom}
+
+-- the links of an atom to the next and the previous one of its class, and, of the first one of a class, to the first one of another class and to the last one of its own
+abbrev pub CLASS_NEXT : ℕ
+CLASS_NEXT = 3
+
+abbrev pub CLASS_PREV : ℕ
+CLASS_PREV = 4
+
+abbrev pub PEER : ℕ
+PEER = 5
+
+abbrev pub CLASS_LAST : ℕ
+CLASS_LAST = 6
+
+-- the link of a membrane to the first atom of a class
+abbrev pub LEADERS : ℕ
+LEADERS = 7
+
+abbrev pub class_node : (ℕ → Option HeldCell) → ℕ → Node
+class_node f a = record { prev = link_in f a CLASS_PREV; next = link_in f a CLASS_NEXT }
+
+-- the class of an atom
+abbrev pub key_in : (ℕ → Option HeldCell) → ℕ → ℕ × ℕ
+key_in f a = (number_in f a HIGH, number_in f a ARITY)
+
+abbrev pub is_key : ℕ × ℕ → ℕ × ℕ → Bool
+is_key p q = (p.0 == q.0) && (p.1 == q.1)
+
+-- those of a list that have this class
+abbrev pub of_class : (ℕ → Option HeldCell) → ℕ × ℕ → List ℕ → List ℕ
+of_class f p xs = filter (λ a. is_key (key_in f a) p) xs
+
+-- these cells, each linked to the next
+abbrev pub ArePeers : (ℕ → Option HeldCell) → Option ℕ → List ℕ → Type 0
+ArePeers f first [] = first ≡ None
+ArePeers f first (l ∷ ls) = (first ≡ Some l) × IsSome (f l) × ArePeers f (link_in f l PEER) ls
+
+-- ls are the first atoms of the classes of m, whose atoms are xs
+pub record AreClassed (f : ℕ → Option HeldCell) (m : ℕ) (xs ls : List ℕ) : Type 0 where
+  pub peers : ArePeers f (link_in f m LEADERS) ls
+  pub once : Distinct ls
+  pub inside : (l : ℕ) → In l ls → In l xs
+  pub apart : (j k : ℕ) → In j ls → In k ls → key_in f j ≡ key_in f k → j ≡ k
+  pub every : (x : ℕ) → In x xs → (l : ℕ) × In l ls × (key_in f l ≡ key_in f x)
+  pub runs : (l : ℕ) → In l ls → RunsThrough (class_node f) None (Some l) (of_class f (key_in f l) xs) (link_in f l CLASS_LAST) None
+
+-- the first of a list with this class, and the one before it, or the last of the list
+pub record Place : Type 0 where
+  pub before : Option ℕ
+  pub leader : Option ℕ
+
+abbrev pub place_of : (ℕ → Option HeldCell) → ℕ × ℕ → Option ℕ → List ℕ → Place
+place_of f p before [] = record { before = before; leader = None }
+place_of f p before (l ∷ ls) = if is_key (key_in f l) p then record { before = before; leader = Some l } else place_of f p (Some l) ls
+
+-- What is written
+
+-- one link of a cell is another
+abbrev pub relinked : (ℕ → Option HeldCell) → ℕ → ℕ → Option ℕ → ℕ → Option HeldCell
+relinked f a k v = alter f a (option_map (with_link k v))
+
+-- what follows a cell in the chain of leaders, or begins it, is another
+abbrev pub led : (ℕ → Option HeldCell) → ℕ → Option ℕ → Option ℕ → ℕ → Option HeldCell
+led f m None to = relinked f m LEADERS to
+led f m (Some d) to = relinked f d PEER to
+
+-- c begins a class of its own
+abbrev pub begun : (ℕ → Option HeldCell) → ℕ → ℕ → ℕ → Option HeldCell
+begun f m c = relinked (relinked (relinked (relinked (relinked f c CLASS_NEXT None) c CLASS_PREV None) c CLASS_LAST (Some c)) c PEER (link_in f m LEADERS)) m LEADERS (Some c)
+
+-- c stands behind q, the last one of the class of l
+abbrev pub lengthened : (ℕ → Option HeldCell) → ℕ → ℕ → ℕ → ℕ → Option HeldCell
+lengthened f l q c = relinked (relinked (relinked (relinked f c CLASS_NEXT None) c CLASS_PREV (Some q)) q CLASS_NEXT (Some c)) l CLASS_LAST (Some c)
+
+-- c stands between p and d
+abbrev pub put_between : (ℕ → Option HeldCell) → ℕ → ℕ → ℕ → ℕ → Option HeldCell
+put_between f p d c = relinked (relinked (relinked (relinked f c CLASS_NEXT (Some d)) c CLASS_PREV (Some p)) p CLASS_NEXT (Some c)) d CLASS_PREV (Some c)
+
+-- c leads in the place of d, which stands behind it
+abbrev pub put_first : (ℕ → Option HeldCell) → ℕ → Option ℕ → ℕ → ℕ → ℕ → Option HeldCell
+put_first f m before d c = led (relinked (relinked (relinked (relinked (relinked f c CLASS_NEXT (Some d)) c CLASS_PREV None) d CLASS_PREV (Some c)) c CLASS_LAST (link_in f d CLASS_LAST)) c PEER (link_in f d PEER)) m before (Some c)
+
+-- what stood between p and n has left
+abbrev pub closed : (ℕ → Option HeldCell) → ℕ → ℕ → ℕ → Option HeldCell
+closed f p n = relinked (relinked f p CLASS_NEXT (Some n)) n CLASS_PREV (Some p)
+
+-- p is the last one of the class of l
+abbrev pub shortened : (ℕ → Option HeldCell) → ℕ → ℕ → ℕ → Option HeldCell
+shortened f l p = relinked (relinked f p CLASS_NEXT None) l CLASS_LAST (Some p)
+
+-- n leads in the place of c, which stood before it
+abbrev pub passed : (ℕ → Option HeldCell) → ℕ → Option ℕ → ℕ → ℕ → ℕ → Option HeldCell
+passed f m before c n = led (relinked (relinked (relinked f n CLASS_PREV None) n CLASS_LAST (link_in f c CLASS_LAST)) n PEER (link_in f c PEER)) m before (Some n)
+
+-- What the three calls ask and leave
+
+-- what of a cell its links leave
+pub record Rest : Type 0 where
+  pub there : Bool
+  pub numbers : List ℕ
+  pub ports : List HeldPort
+
+abbrev pub rest : Option HeldCell → Rest
+rest o = record { there = is_some o; numbers = numbers_of o; ports = ports_of o }
+
+-- xs are the atoms of m, and ls the first ones of their classes; c is an atom
+pub record MayFile (f : ℕ → Option HeldCell) (m c : ℕ) (xs ls : List ℕ) : Type 0 where
+  pub classed : AreClassed f m xs ls
+  pub once : Distinct xs
+  pub alive : (z : ℕ) → In z xs → IsSome (f z)
+  pub short : length ls ≤ number_in f m (count_number Atom)
+  pub there_m : IsSome (f m)
+  pub there_c : IsSome (f c)
+  pub no_m : In m xs → ⊥
+  pub not_m : c ≢ m
+
+-- What writes to classes leave: p is the class, and xs has all cells that are written but m.
+pub record Touches (f g : ℕ → Option HeldCell) (m : ℕ) (xs : List ℕ) (p : ℕ × ℕ) : Type 0 where
+  pub rests : (b : ℕ) → rest (g b) ≡ rest (f b)
+  pub lengths : (b : ℕ) → length (links_of (g b)) ≡ length (links_of (f b))
+  pub links : (b j : ℕ) → j < 3 → link_in g b j ≡ link_in f b j
+  pub away : (b j : ℕ) → (In b xs → ⊥) → (b ≡ m → j ≢ LEADERS) → link_in g b j ≡ link_in f b j
+  pub nodes : (z : ℕ) → is_key (key_in f z) p ≡ false → class_node g z ≡ class_node f z
+  pub lasts : (z : ℕ) → is_key (key_in f z) p ≡ false → link_in g z CLASS_LAST ≡ link_in f z CLASS_LAST
+
+-- of one class the list is zs then, and of all others it is as it was
+pub record OneClass (f : ℕ → Option HeldCell) (p : ℕ × ℕ) (xs zs xs' : List ℕ) : Type 0 where
+  pub others : (q : ℕ × ℕ) → is_key q p ≡ false → of_class f q xs' ≡ of_class f q xs
+  pub own : of_class f p xs' ≡ zs
+
+-- the classes are those of a list xs' then
+pub record Filed (f g : ℕ → Option HeldCell) (m : ℕ) (xs : List ℕ) (p : ℕ × ℕ) (xs' : List ℕ) : Type 0 where
+  pub touches : Touches f g m xs p
+  pub leaders : List ℕ
+  pub classed : AreClassed g m xs' leaders

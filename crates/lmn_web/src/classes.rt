@@ -1,0 +1,280 @@
+//! The atoms of a membrane by class: the high half of a label, and how many ports.
+ghost use Rattle.std.specs.Prelude.{◌≡◌, ◌≢◌, ◌≤◌, ◌++◌, ◌∷◌, [], ℕ, List, None, Some, IfSome, IsSome, length};
+ghost use Rattle.std.specs.Option.{option_map};
+ghost use Rattle.lmn_base.specs.Lists.{In};
+ghost use Rattle.lmn_cells.specs.Cells.{cells_by};
+ghost use Rattle.lmn_cells.specs.CellIds.{cell_id};
+ghost use Rattle.lmn_heap.specs.Lists.{without};
+ghost use Rattle.lmn_cells.specs.Runs.{link_in, put_before};
+ghost use Rattle.lmn_web.specs.declared.kind.CellKind.TheVariants.{Atom};
+ghost use Rattle.lmn_web.specs.Webs.{number_in, count_number};
+ghost use Rattle.lmn_web.specs.Classes.{ArePeers, Filed, MayFile, OneClass, begun, closed, is_key, key_in, led, lengthened, passed, place_of, put_between, put_first, of_class, shortened};
+
+use lmn_cells::cell::Cells;
+use lmn_cells::handle::Cell;
+
+// The numbers of an atom that say its class.
+const ARITY: usize = 1;
+
+const HIGH: usize = 3;
+
+// The links of an atom to the next and the previous one of its class, and of the first one of a class to the first one
+// of the next class, and to the last one of its own.
+const CLASS_NEXT: usize = 3;
+
+const CLASS_PREV: usize = 4;
+
+const PEER: usize = 5;
+
+const CLASS_LAST: usize = 6;
+
+// The link of a membrane to the first atom of a class.
+
+const LEADERS: usize = 7;
+
+/// The first atom of a class in a membrane, and the first one of the class before it in the chain.
+#[derive(Clone, Copy)]
+pub struct Leader {
+    /// None where the class comes first. Where there is no such class, the last one of the chain.
+    pub before: Option<Cell>,
+    /// None where the membrane has no atom of the class.
+    pub leader: Option<Cell>,
+}
+
+/// Whether an atom has a class.
+fn has_class(cells: &Cells, c: Cell, high: u64, arity: u64) -> bool
+    requires { IsSome (cells_by cells.now (cell_id c)) }
+    ensures { result ≡ is_key (key_in (cells_by cells.now) (cell_id c)) (high, arity) }
+{
+    cells.number(c, HIGH) == high && cells.number(c, ARITY) == arity
+}
+
+/// Where a membrane has the first atom of a class.
+pub fn find(cells: &Cells, m: Cell, high: u64, arity: u64) -> Leader
+    requires there { IsSome (cells_by cells.now (cell_id m)) }
+    requires peers { (ls : List ℕ) × ArePeers (cells_by cells.now) (link_in (cells_by cells.now) (cell_id m) 7) ls × (length ls ≤ number_in (cells_by cells.now) (cell_id m) (count_number Atom)) }
+    ensures { (ls : List ℕ) → ArePeers (cells_by cells.now) (link_in (cells_by cells.now) (cell_id m) 7) ls →
+        (option_map cell_id result.before ≡ (place_of (cells_by cells.now) (high, arity) None ls).before) × (option_map cell_id result.leader ≡ (place_of (cells_by cells.now) (high, arity) None ls).leader) }
+{
+    let mut before = None;
+    let mut at = cells.link(m, LEADERS);
+    while let Some(c) = at {
+        if has_class(cells, c, high, arity) {
+            return Leader {
+                before,
+                leader: Some(c),
+            };
+        }
+        before = Some(c);
+        at = cells.link(c, PEER);
+    }
+    Leader {
+        before,
+        leader: None,
+    }
+}
+
+// What follows an atom in the chain of leaders, or begins it, is another.
+fn set_leader(cells: &mut Cells, m: Cell, before: Option<Cell>, to: Option<Cell>)
+    requires there { IsSome (cells_by cells.old (cell_id m)) }
+    requires before { IfSome before (λ d. IsSome (cells_by cells.old (cell_id d))) }
+    ensures { cells_by cells.new ≡ led (cells_by cells.old) (cell_id m) (option_map cell_id before) (option_map cell_id to) }
+{
+    match before {
+        None => cells.set_link(m, LEADERS, to),
+        Some(d) => cells.set_link(d, PEER, to),
+    }
+}
+
+// An atom begins a class.
+fn begin(cells: &mut Cells, m: Cell, c: Cell)
+    requires m { IsSome (cells_by cells.old (cell_id m)) }
+    requires c { IsSome (cells_by cells.old (cell_id c)) }
+    ensures { cells_by cells.new ≡ begun (cells_by cells.old) (cell_id m) (cell_id c) }
+{
+    let first = cells.link(m, LEADERS);
+    cells.set_link(c, CLASS_NEXT, None);
+    cells.set_link(c, CLASS_PREV, None);
+    cells.set_link(c, CLASS_LAST, Some(c));
+    cells.set_link(c, PEER, first);
+    cells.set_link(m, LEADERS, Some(c));
+}
+
+// An atom goes behind the last one of a class.
+fn lengthen(cells: &mut Cells, leader: Cell, last: Cell, c: Cell)
+    requires leader { IsSome (cells_by cells.old (cell_id leader)) }
+    requires last { IsSome (cells_by cells.old (cell_id last)) }
+    requires c { IsSome (cells_by cells.old (cell_id c)) }
+    ensures { cells_by cells.new ≡ lengthened (cells_by cells.old) (cell_id leader) (cell_id last) (cell_id c) }
+{
+    cells.set_link(c, CLASS_NEXT, None);
+    cells.set_link(c, CLASS_PREV, Some(last));
+    cells.set_link(last, CLASS_NEXT, Some(c));
+    cells.set_link(leader, CLASS_LAST, Some(c));
+}
+
+// An atom goes between two of its class.
+fn put_inside(cells: &mut Cells, prev: Cell, next: Cell, c: Cell)
+    requires prev { IsSome (cells_by cells.old (cell_id prev)) }
+    requires next { IsSome (cells_by cells.old (cell_id next)) }
+    requires c { IsSome (cells_by cells.old (cell_id c)) }
+    ensures { cells_by cells.new ≡ put_between (cells_by cells.old) (cell_id prev) (cell_id next) (cell_id c) }
+{
+    cells.set_link(c, CLASS_NEXT, Some(next));
+    cells.set_link(c, CLASS_PREV, Some(prev));
+    cells.set_link(prev, CLASS_NEXT, Some(c));
+    cells.set_link(next, CLASS_PREV, Some(c));
+}
+
+// An atom goes before the first one of its class.
+fn put_leader(cells: &mut Cells, m: Cell, before: Option<Cell>, leader: Cell, c: Cell)
+    requires m { IsSome (cells_by cells.old (cell_id m)) }
+    requires before { IfSome before (λ d. IsSome (cells_by cells.old (cell_id d))) }
+    requires leader { IsSome (cells_by cells.old (cell_id leader)) }
+    requires c { IsSome (cells_by cells.old (cell_id c)) }
+    ensures { cells_by cells.new ≡ put_first (cells_by cells.old) (cell_id m) (option_map cell_id before) (cell_id leader) (cell_id c) }
+{
+    let last = cells.link(leader, CLASS_LAST);
+    let peer = cells.link(leader, PEER);
+    cells.set_link(c, CLASS_NEXT, Some(leader));
+    cells.set_link(c, CLASS_PREV, None);
+    cells.set_link(leader, CLASS_PREV, Some(c));
+    cells.set_link(c, CLASS_LAST, last);
+    cells.set_link(c, PEER, peer);
+    set_leader(cells, m, before, Some(c));
+}
+
+// What stood between two atoms of a class leaves.
+fn close(cells: &mut Cells, prev: Cell, next: Cell)
+    requires prev { IsSome (cells_by cells.old (cell_id prev)) }
+    requires next { IsSome (cells_by cells.old (cell_id next)) }
+    ensures { cells_by cells.new ≡ closed (cells_by cells.old) (cell_id prev) (cell_id next) }
+{
+    cells.set_link(prev, CLASS_NEXT, Some(next));
+    cells.set_link(next, CLASS_PREV, Some(prev));
+}
+
+// The last one of a class leaves.
+fn shorten(cells: &mut Cells, leader: Cell, prev: Cell)
+    requires leader { IsSome (cells_by cells.old (cell_id leader)) }
+    requires prev { IsSome (cells_by cells.old (cell_id prev)) }
+    ensures { cells_by cells.new ≡ shortened (cells_by cells.old) (cell_id leader) (cell_id prev) }
+{
+    cells.set_link(prev, CLASS_NEXT, None);
+    cells.set_link(leader, CLASS_LAST, Some(prev));
+}
+
+// The first one of a class leaves, and the next one leads.
+fn pass(cells: &mut Cells, m: Cell, before: Option<Cell>, c: Cell, next: Cell)
+    requires m { IsSome (cells_by cells.old (cell_id m)) }
+    requires before { IfSome before (λ d. IsSome (cells_by cells.old (cell_id d))) }
+    requires c { IsSome (cells_by cells.old (cell_id c)) }
+    requires next { IsSome (cells_by cells.old (cell_id next)) }
+    ensures { cells_by cells.new ≡ passed (cells_by cells.old) (cell_id m) (option_map cell_id before) (cell_id c) (cell_id next) }
+{
+    let last = cells.link(c, CLASS_LAST);
+    let peer = cells.link(c, PEER);
+    cells.set_link(next, CLASS_PREV, None);
+    cells.set_link(next, CLASS_LAST, last);
+    cells.set_link(next, PEER, peer);
+    set_leader(cells, m, before, Some(next));
+}
+
+/// An atom is the last one of its class.
+pub fn file_last(cells: &mut Cells, m: Cell, c: Cell)
+    requires { (xs ls : List ℕ) × MayFile (cells_by cells.old) (cell_id m) (cell_id c) xs ls }
+    ensures { (xs ls xs' : List ℕ) → MayFile (cells_by cells.old) (cell_id m) (cell_id c) xs ls → (In (cell_id c) xs → ⊥) →
+        OneClass (cells_by cells.old) (key_in (cells_by cells.old) (cell_id c)) xs (of_class (cells_by cells.old) (key_in (cells_by cells.old) (cell_id c)) xs ++ cell_id c ∷ []) xs' →
+        Filed (cells_by cells.old) (cells_by cells.new) (cell_id m) (cell_id c ∷ xs) (key_in (cells_by cells.old) (cell_id c)) xs' }
+{
+    cells.whole();
+    let high = cells.number(c, HIGH);
+    let arity = cells.number(c, ARITY);
+    let found = find(cells, m, high, arity);
+    match found.leader {
+        None => begin(cells, m, c),
+        Some(leader) => {
+            if let Some(last) = cells.link(leader, CLASS_LAST) {
+                lengthen(cells, leader, last, c);
+            }
+        }
+    }
+}
+
+/// An atom stands directly before another one of its class.
+pub fn file_before(cells: &mut Cells, m: Cell, d: Cell, c: Cell)
+    requires { (xs ls : List ℕ) × MayFile (cells_by cells.old) (cell_id m) (cell_id c) xs ls × In (cell_id d) xs × (key_in (cells_by cells.old) (cell_id d) ≡ key_in (cells_by cells.old) (cell_id c)) }
+    ensures { (xs ls xs' : List ℕ) → MayFile (cells_by cells.old) (cell_id m) (cell_id c) xs ls → (In (cell_id c) xs → ⊥) → In (cell_id d) xs →
+        OneClass (cells_by cells.old) (key_in (cells_by cells.old) (cell_id c)) xs (put_before (cell_id c) (cell_id d) (of_class (cells_by cells.old) (key_in (cells_by cells.old) (cell_id c)) xs)) xs' →
+        Filed (cells_by cells.old) (cells_by cells.new) (cell_id m) (cell_id c ∷ xs) (key_in (cells_by cells.old) (cell_id c)) xs' }
+{
+    cells.whole();
+    match cells.link(d, CLASS_PREV) {
+        Some(prev) => put_inside(cells, prev, d, c),
+        None => {
+            let high = cells.number(c, HIGH);
+            let arity = cells.number(c, ARITY);
+            let found = find(cells, m, high, arity);
+            put_leader(cells, m, found.before, d, c);
+        }
+    }
+}
+
+// The last one of a class leaves it.
+fn unfile_last(cells: &mut Cells, m: Cell, c: Cell, prev: Cell)
+    requires classes { (xs ls : List ℕ) × MayFile (cells_by cells.old) (cell_id m) (cell_id c) xs ls × In (cell_id c) xs }
+    requires prev { link_in (cells_by cells.old) (cell_id c) 4 ≡ Some (cell_id prev) }
+    requires next { link_in (cells_by cells.old) (cell_id c) 3 ≡ None }
+    ensures { (xs ls xs' : List ℕ) → MayFile (cells_by cells.old) (cell_id m) (cell_id c) xs ls → In (cell_id c) xs →
+        OneClass (cells_by cells.old) (key_in (cells_by cells.old) (cell_id c)) xs (without (cell_id c) (of_class (cells_by cells.old) (key_in (cells_by cells.old) (cell_id c)) xs)) xs' →
+        Filed (cells_by cells.old) (cells_by cells.new) (cell_id m) xs (key_in (cells_by cells.old) (cell_id c)) xs' }
+{
+    cells.whole();
+    let high = cells.number(c, HIGH);
+    let arity = cells.number(c, ARITY);
+    let found = find(cells, m, high, arity);
+    if let Some(leader) = found.leader {
+        shorten(cells, leader, prev);
+    }
+}
+
+// The first one of a class leaves it.
+fn unfile_first(cells: &mut Cells, m: Cell, c: Cell, next: Option<Cell>)
+    requires classes { (xs ls : List ℕ) × MayFile (cells_by cells.old) (cell_id m) (cell_id c) xs ls × In (cell_id c) xs }
+    requires prev { link_in (cells_by cells.old) (cell_id c) 4 ≡ None }
+    requires next { link_in (cells_by cells.old) (cell_id c) 3 ≡ option_map cell_id next }
+    ensures { (xs ls xs' : List ℕ) → MayFile (cells_by cells.old) (cell_id m) (cell_id c) xs ls → In (cell_id c) xs →
+        OneClass (cells_by cells.old) (key_in (cells_by cells.old) (cell_id c)) xs (without (cell_id c) (of_class (cells_by cells.old) (key_in (cells_by cells.old) (cell_id c)) xs)) xs' →
+        Filed (cells_by cells.old) (cells_by cells.new) (cell_id m) xs (key_in (cells_by cells.old) (cell_id c)) xs' }
+{
+    cells.whole();
+    let high = cells.number(c, HIGH);
+    let arity = cells.number(c, ARITY);
+    let found = find(cells, m, high, arity);
+    match next {
+        Some(n) => pass(cells, m, found.before, c, n),
+        None => {
+            let peer = cells.link(c, PEER);
+            set_leader(cells, m, found.before, peer);
+        }
+    }
+}
+
+/// An atom leaves its class.
+pub fn unfile(cells: &mut Cells, m: Cell, c: Cell)
+    requires { (xs ls : List ℕ) × MayFile (cells_by cells.old) (cell_id m) (cell_id c) xs ls × In (cell_id c) xs }
+    ensures { (xs ls xs' : List ℕ) → MayFile (cells_by cells.old) (cell_id m) (cell_id c) xs ls → In (cell_id c) xs →
+        OneClass (cells_by cells.old) (key_in (cells_by cells.old) (cell_id c)) xs (without (cell_id c) (of_class (cells_by cells.old) (key_in (cells_by cells.old) (cell_id c)) xs)) xs' →
+        Filed (cells_by cells.old) (cells_by cells.new) (cell_id m) xs (key_in (cells_by cells.old) (cell_id c)) xs' }
+{
+    cells.whole();
+    let prev = cells.link(c, CLASS_PREV);
+    let next = cells.link(c, CLASS_NEXT);
+    match prev {
+        None => unfile_first(cells, m, c, next),
+        Some(p) => match next {
+            None => unfile_last(cells, m, c, p),
+            Some(n) => close(cells, p, n),
+        },
+    }
+}
