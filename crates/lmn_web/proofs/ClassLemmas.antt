@@ -2,7 +2,8 @@
 use Rattle.std.proofs.Common.{◌≡◌, ◌≤◌, ◌<◌, ℕ, zero, suc, true, false, List, [], ◌∷◌, length, Option, Some, None, IsSome, refl, sym, ap, subst, ◌∙◌, arith}
 use Rattle.lmn_cells.specs.Cells.{HeldCell}
 use Rattle.lmn_cells.specs.Runs.{link_in}
-use Rattle.lmn_cells.proofs.CellRows.{if_yes, if_no}
+use Rattle.lmn_cells.proofs.CellRows.{if_yes}
+use Rattle.lmn_base.proofs.Truth.{if_no}
 use Rattle.lmn_web.specs.Webs.{walked}
 use Rattle.lmn_web.specs.Classes.{PEER, ArePeers, is_key, key_in, Place, place_of}
 

@@ -1,5 +1,5 @@
 -- A cell is freed: the last of the table takes its place.
-use Rattle.std.proofs.Common.{◌≡◌, ◌≢◌, ◌⊎◌, ℕ, ◌+◌, ◌-◌, ◌<◌, List, [], ◌∷◌, length, ◌++◌, map, get_or, set, Option, Some, None, IsSome, is_some, refl, sym, ap, subst, ◌∙◌, inl, inr, arith, length-set, get_or-set_same, get_or-set_other}
+use Rattle.std.proofs.Common.{◌≡◌, ◌≢◌, ◌⊎◌, ℕ, ◌+◌, ◌-◌, ◌<◌, ◌^◌, List, [], ◌∷◌, length, ◌++◌, map, get_or, set, Option, Some, None, IsSome, is_some, refl, sym, ap, subst, ◌∙◌, inl, inr, arith, length-set, get_or-set_same, get_or-set_other}
 use Rattle.std.proofs.lemmas.Bool.{cases_eq}
 use Rattle.std.proofs.lemmas.List.{length-map}
 use Rattle.std.proofs.lemmas.Option.{slice_get_within, slice_get-map, slice_get-get_or}
@@ -13,10 +13,12 @@ use Rattle.lmn_cells.specs.Runs.{HOME, link_in}
 use Rattle.lmn_web.specs.declared.kind.CellKind.{CellKind}
 use Rattle.lmn_web.specs.Kinds.{kind_by}
 use Rattle.lmn_web.specs.Webs.{web_cell, web_with, web_of, list_in, list_link, count_number, number_in, label_by, IsLoose, INDEX, ARITY, KIND, HIGH, LOW, OWN}
-use Rattle.lmn_web.specs.Indexes.{reindexed, IsListed, IsWeb}
+use Rattle.lmn_web.specs.Indexes.{reindexed, IsListed, IsWeb, IsClassed}
+use Rattle.lmn_web.specs.Classes.{LEADERS}
 use Rattle.lmn_web.proofs.ListedLemmas.{Listing, listing, lists_same, listed_self, listed_beside, web_self, home_same, list_same}
 use Rattle.lmn_web.proofs.WebLemmas.{some_back, partner_same}
 use Rattle.lmn_web.proofs.RelistLemmas.{in_none}
+use Rattle.lmn_web.proofs.Filing.{classed_self, classed_beside, classed_links}
 
 -- the last element of a list takes the place of one that goes
 pub record Swapped (all rest : List ℕ) (i : ℕ) : Type 0 where
@@ -42,11 +44,13 @@ swapped_by {X} id old new i len x same less taken others = record {
 pub record Kept : Type 0 where
   pub arity : ℕ
   pub numbers : ℕ
+  pub high : ℕ
+  pub low : ℕ
   pub ports : List HeldPort
   pub listing : Listing
 
 abbrev kept : Option HeldCell → Kept
-kept o = record { arity = get_or (numbers_of o) ARITY 0; numbers = length (numbers_of o); ports = ports_of o; listing = listing o }
+kept o = record { arity = get_or (numbers_of o) ARITY 0; numbers = length (numbers_of o); high = get_or (numbers_of o) HIGH 0; low = get_or (numbers_of o) LOW 0; ports = ports_of o; listing = listing o }
 
 kept_by : (i : ℕ) (o : Option HeldCell) → kept (option_map (with_number INDEX i) o) ≡ kept o
 kept_by i None = refl
@@ -55,6 +59,8 @@ kept_by i (Some c) =
     λ t. record {
       arity = far ARITY (omega arith) t;
       numbers = length-set c.numbers INDEX i t;
+      high = far HIGH (omega arith) t;
+      low = far LOW (omega arith) t;
       ports = c.ports;
       listing = record (listing (Some c)) { kind = far KIND (omega arith) t; atoms = far 6 (omega arith) t; membranes = far 7 (omega arith) t };
     }
@@ -212,6 +218,13 @@ module _ (f : ℕ → Option HeldCell) (all : List ℕ) (w : IsWeb f all) (a : �
       };
       listed = listed_self H (list_in f) h_lists;
     }
+
+    -- with the classes that they had
+    pub freed_classed : IsClassed f (list_in f) → IsClassed H (list_in H)
+    freed_classed c = classed_self H (list_in f) h_lists
+        (classed_beside G H a (list_in f) h_away (λ m k j. in_none f (list_in f) w.listed a homeless m k j) empty (ap (λ (o : Option HeldCell). get_or (links_of o) LEADERS None) h_at) (subst (λ (o : Option HeldCell). get_or (numbers_of o) LOW 0 < 2 ^ 64) (sym h_at) (omega arith))
+        (classed_links f G (list_in f) (λ b k. ap (λ (u : Kept). get_or u.listing.links k None) (kept_all b)) (λ b t. ((kept_all b t).high, (kept_all b t).arity)) (λ b. ap (λ (u : Kept). u.low) (kept_all b))
+        (λ b. ap (λ (u : Kept). kind_by u.listing.kind) (kept_all b)) (λ b t. there_all b ∙ t) c))
 
     -- and all but that cell stay
     pub freed_is : web_of H ≡ alter (web_of f) a (λ _. None)

@@ -6,6 +6,8 @@ pub mod SeekLemmas
 pub mod ClassLemmas
 pub mod Reclassing
 pub mod ClassWrites
+pub mod FilterLemmas
+pub mod Filing
 pub mod ClassRuns
 pub mod ClassSteps
 pub mod ExampleProofs

@@ -102,7 +102,8 @@ lists_are f ys l m k = ap (λ n. walked (λ a. link_in f a NEXT) n (link_in f m 
   | inr d ↦ walked_is (node_in f) None (link_in f m (list_link k)) (ys m k) (link_in f m (list_link k + 1)) (l.line m k d).runs
 ]
 
-same_lists : (f : ℕ → Option HeldCell) (ys : ℕ → CellKind → List ℕ) → IsListed f ys → list_in f ≡ ys
+-- all of them
+pub same_lists : (f : ℕ → Option HeldCell) (ys : ℕ → CellKind → List ℕ) → IsListed f ys → list_in f ≡ ys
 same_lists f ys l = λ t m k. lists_are f ys l m k t
 
 -- so they are lists of the web

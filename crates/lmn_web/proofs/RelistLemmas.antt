@@ -40,7 +40,8 @@ pub record Core : Type 0 where
   pub numbers : ℕ
   pub ports : List HeldPort
 
-abbrev core : HeldCell → Core
+-- the core of a cell
+abbrev pub core : HeldCell → Core
 core c = record { index = get_or c.numbers INDEX 0; arity = get_or c.numbers ARITY 0; kind = get_or c.numbers KIND 0; high = get_or c.numbers HIGH 0; low = get_or c.numbers LOW 0; own = get_or c.numbers OWN 0; numbers = length c.numbers; ports = c.ports }
 
 -- the core of a cell, or none
@@ -88,7 +89,7 @@ home_core None h lists = refl
 home_core (Some c) h lists = refl
 
 -- the lists of a membrane, one of which is another
-abbrev put_list : CellKind → List ℕ → (CellKind → List ℕ) → CellKind → List ℕ
+abbrev pub put_list : CellKind → List ℕ → (CellKind → List ℕ) → CellKind → List ℕ
 put_list Atom xs old Atom = xs
 put_list Atom xs old Membrane = old Membrane
 put_list Membrane xs old Atom = old Atom
@@ -129,14 +130,15 @@ module _ (f g : ℕ → Option HeldCell) (ys : ℕ → CellKind → List ℕ) (l
   abbrev k : CellKind
   k = cell_kind f x
 
-  abbrev new : ℕ → CellKind → List ℕ
+  -- the lists then
+  abbrev pub new : ℕ → CellKind → List ℕ
   new = alter ys m (put_list k xs)
 
   new_away : (n : ℕ) → n ≢ m → new n ≡ ys n
   new_away n d = alter_away ys m (put_list k xs) n d
 
   -- P of the list that changes and of all others
-  each : (P : ℕ → CellKind → List ℕ → Type 0) → P m k xs → ((n : ℕ) (j : CellKind) → (n ≡ m → j ≡ k → ⊥) → P n j (ys n j)) → (n : ℕ) (j : CellKind) → P n j (new n j)
+  pub each : (P : ℕ → CellKind → List ℕ → Type 0) → P m k xs → ((n : ℕ) (j : CellKind) → (n ≡ m → j ≡ k → ⊥) → P n j (ys n j)) → (n : ℕ) (j : CellKind) → P n j (new n j)
   each P at away n j = elim (cases_eq n m) [
     | inl e ↦ subst (λ z. P z j (new z j)) (sym e) (subst (λ (u : CellKind → List ℕ). P m j (u j)) (sym (alter_at ys m (put_list k xs))) (elim (kind_cases j k) [
       | inl s ↦ subst (λ i. P m i (put_list k xs (ys m) i)) (sym s) (subst (P m k) (sym (put_same k xs (ys m))) at)
@@ -145,23 +147,27 @@ module _ (f g : ℕ → Option HeldCell) (ys : ℕ → CellKind → List ℕ) (l
     | inr d ↦ subst (λ (u : CellKind → List ℕ). P n j (u j)) (sym (new_away n d)) (away n j (λ e _. d e))
   ]
 
-  kind_is : (b : ℕ) → cell_kind g b ≡ cell_kind f b
+  -- a cell keeps its kind
+  pub kind_is : (b : ℕ) → cell_kind g b ≡ cell_kind f b
   kind_is b = kind_core (g b) ∙ ap kind_by_core (r.cores b) ∙ sym (kind_core (f b))
 
   there_is : (b : ℕ) → is_some (g b) ≡ is_some (f b)
   there_is b = core_there (g b) ∙ ap (λ (o : Option Core). is_some o) (r.cores b) ∙ sym (core_there (f b))
 
-  there : (b : ℕ) → IsSome (f b) → IsSome (g b)
+  -- what is there stays there
+  pub there : (b : ℕ) → IsSome (f b) → IsSome (g b)
   there b t = there_is b ∙ t
 
-  m_there : IsSome (f m)
+  -- so is the membrane
+  pub m_there : IsSome (f m)
   m_there = by (f m) refl
     where
       by : (o : Option HeldCell) → f m ≡ o → IsSome (f m)
       by None e = absurd (r.membrane (ap (λ (o : Option HeldCell). kind_by (get_or (numbers_of o) KIND 0)) e))
       by (Some c) e = subst (λ (o : Option HeldCell). IsSome o) (sym e) refl
 
-  new_lists : IsListed g new
+  -- they are lists of the cells
+  pub new_lists : IsListed g new
   new_lists = record {
     line = each (λ n j us. (cell_kind g n ≡ Atom → ⊥) → Line g n (list_link j) us) (λ _. r.line) (λ n j d t. r.others n j (λ e. t (kind_is n ∙ e)) d);
     count = each (λ n j us. number_in g n (count_number j) ≡ length us) r.count_at (λ n j d. r.count_away n j d ∙ l.count n j);
@@ -324,10 +330,12 @@ no_home f m e x =
     by None = refl
     by (Some c) = none c.links
 
-abbrev back : Rest → Option Core
+-- the core by what links leave
+abbrev pub back : Rest → Option Core
 back r = if r.there then Some record { index = get_or r.numbers INDEX 0; arity = get_or r.numbers ARITY 0; kind = get_or r.numbers KIND 0; high = get_or r.numbers HIGH 0; low = get_or r.numbers LOW 0; own = get_or r.numbers OWN 0; numbers = length r.numbers; ports = r.ports } else None
 
-core_rest : (o : Option HeldCell) → core_of o ≡ back (rest o)
+-- links leave the core
+pub core_rest : (o : Option HeldCell) → core_of o ≡ back (rest o)
 core_rest None = refl
 core_rest (Some c) = refl
 
@@ -417,7 +425,7 @@ module _ (f F : ℕ → Option HeldCell) (all : List ℕ) (w : IsWeb f all) (m x
 -- The three calls
 
 -- a list without one of its numbers is shorter by one
-length_without : (x : ℕ) (xs : List ℕ) → In x xs → length (without x xs) + 1 ≡ length xs
+pub length_without : (x : ℕ) (xs : List ℕ) → In x xs → length (without x xs) + 1 ≡ length xs
 length_without x [] i = absurd i
 length_without x (y ∷ ys) i = by (y == x) refl (length_without x ys) i
   where

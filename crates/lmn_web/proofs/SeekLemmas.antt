@@ -1,5 +1,5 @@
 -- The atoms of a list that have one label.
-use Rattle.std.proofs.Common.{◌≡◌, ◌==◌, ◌&&◌, ℕ, Bool, true, false, cond, List, [], ◌∷◌, Option, Some, None, IfSome, IsSome, refl, sym, ap, ◌∙◌}
+use Rattle.std.proofs.Common.{◌≡◌, ◌==◌, ◌&&◌, ◌<◌, ℕ, length, subst, arith, Bool, true, false, cond, List, [], ◌∷◌, Option, Some, None, IfSome, IsSome, refl, sym, ap, ◌∙◌}
 use Rattle.std.proofs.lemmas.Bool.{eq-eqb, eqb-true}
 use Rattle.std.specs.Option.{option_map}
 use Rattle.std.specs.List.{filter}
@@ -45,3 +45,23 @@ homed w a m e = by (w a) e
     by : (o : Option WebCell) → home_of o ≡ Some m → IsSome o
     by None h = absurd cc
     by (Some c) h = refl
+
+-- What is left of a search for those of a list that pass a test: from here on it finds what it finds from the start.
+pub record Seeks (test : ℕ → Bool) (all : List ℕ) (start at : Option ℕ) : Type 0 where
+  pub there : (d : ℕ) → at ≡ Some d → In d all
+  pub rest : filter test (from at all) ≡ filter test (from start all)
+
+-- at the start
+pub seeks_first : (test : ℕ → Bool) (all : List ℕ) (a : ℕ) → In a all → Seeks test all (Some a) (Some a)
+seeks_first test all a i = record { there = λ d e. (let z : a ≡ d = cc in subst (λ u. In u all) z i); rest = refl }
+
+-- one that is passed over
+pub seeks_next : (test : ℕ → Bool) (all : List ℕ) (start next : Option ℕ) (a : ℕ) → Seeks test all start (Some a) → test a ≡ false → from next all ≡ after a all → Seeks test all start next × (length (from next all) < length (from (Some a) all))
+seeks_next test all start next a s out on = (
+  record { there = λ d e. next_in a d all (ap (λ o. from o all) (sym e) ∙ on); rest = filter_on test a all next out on ∙ s.rest },
+  subst (λ us. length us < length (a ∷ after a all)) (sym on) (omega arith),
+)
+
+-- and one that is found
+pub seeks_found : (test : ℕ → Bool) (all : List ℕ) (start : Option ℕ) (a : ℕ) → Seeks test all start (Some a) → test a ≡ true → from (Some a) (filter test all) ≡ filter test (from start all)
+seeks_found test all start a s here = filter_from test a all here ∙ s.rest

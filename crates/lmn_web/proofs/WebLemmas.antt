@@ -180,11 +180,13 @@ pub record Told : Type 0 where
   pub arity : ℕ
   pub numbers : ℕ
   pub ports : ℕ
+  pub high : ℕ
+  pub low : ℕ
   pub listing : Listing
 
 -- what is told of the cell at a number, or of none
 abbrev pub told : Option HeldCell → Told
-told o = record { there = is_some o; index = get_or (numbers_of o) INDEX 0; arity = get_or (numbers_of o) ARITY 0; numbers = length (numbers_of o); ports = length (ports_of o); listing = listing o }
+told o = record { there = is_some o; index = get_or (numbers_of o) INDEX 0; arity = get_or (numbers_of o) ARITY 0; numbers = length (numbers_of o); ports = length (ports_of o); high = get_or (numbers_of o) HIGH 0; low = get_or (numbers_of o) LOW 0; listing = listing o }
 
 Tells : List ℕ → (ℕ → Account) → Type 0
 Tells all k = ((b i : ℕ) → (slice_get all i ≡ Some b) ↔ (((k b).there ≡ true) × ((k b).index ≡ i)))
@@ -243,7 +245,7 @@ paired_same f g same p = record {
 }
 
 -- a mark of a port
-told_mark : (f : ℕ → Option HeldCell) (a i v b : ℕ) → told (alter f a (option_map (with_port_mark i v)) b) ≡ told (f b)
+pub told_mark : (f : ℕ → Option HeldCell) (a i v b : ℕ) → told (alter f a (option_map (with_port_mark i v)) b) ≡ told (f b)
 told_mark f a i v b = alter_keeps f a (option_map (with_port_mark i v)) told counts b
   where
     counts : (o : Option HeldCell) → told (option_map (with_port_mark i v) o) ≡ told o
@@ -251,7 +253,7 @@ told_mark f a i v b = alter_keeps f a (option_map (with_port_mark i v)) told cou
     counts (Some c) = λ t. record (told (Some c)) { ports = length-set c.ports i (record (get_or c.ports i no_port) { mark = v }) t }
 
 -- and a cell's own
-told_own : (f : ℕ → Option HeldCell) (a v b : ℕ) → told (alter f a (option_map (with_number OWN v)) b) ≡ told (f b)
+pub told_own : (f : ℕ → Option HeldCell) (a v b : ℕ) → told (alter f a (option_map (with_number OWN v)) b) ≡ told (f b)
 told_own f a v b = alter_keeps f a (option_map (with_number OWN v)) told counts b
   where
     counts : (o : Option HeldCell) → told (option_map (with_number OWN v) o) ≡ told o
@@ -260,6 +262,8 @@ told_own f a v b = alter_keeps f a (option_map (with_number OWN v)) told counts 
       index = get_or-set_other c.numbers OWN INDEX v 0 (λ z. absurd (omega (arith, z))) t;
       arity = get_or-set_other c.numbers OWN ARITY v 0 (λ z. absurd (omega (arith, z))) t;
       numbers = length-set c.numbers OWN v t;
+      high = get_or-set_other c.numbers OWN HIGH v 0 (λ z. absurd (omega (arith, z))) t;
+      low = get_or-set_other c.numbers OWN LOW v 0 (λ z. absurd (omega (arith, z))) t;
       listing = record (listing (Some c)) {
         kind = get_or-set_other c.numbers OWN KIND v 0 (λ z. absurd (omega (arith, z))) t;
         atoms = get_or-set_other c.numbers OWN 6 v 0 (λ z. absurd (omega (arith, z))) t;
@@ -497,7 +501,8 @@ module _ (f : ℕ → Option HeldCell) (all : List ℕ) (w : IsWeb f all) (a n k
   pub no_list : (k : CellKind) → list_in f a k ≡ []
   no_list k = w.listed.bare a k (ap (λ (o : Option HeldCell). kind_by (get_or (numbers_of o) KIND 0)) fresh)
 
-  made_lists : IsListed g (list_in f)
+  -- the lists are as they were
+  pub made_lists : IsListed g (list_in f)
   made_lists = listed_beside f g a (list_in f) w.listed away (λ m j i. no_a (cell_of f (list_in f) w.listed m a j i).0) no_list
       (λ j. (ap (λ (o : Option HeldCell). get_or (links_of o) (list_link j) None) here ∙ blank_link j, ap (λ (o : Option HeldCell). get_or (links_of o) (list_link j + 1) None) here ∙ blank_end j))
       (λ j. ap (λ (o : Option HeldCell). get_or (numbers_of o) (count_number j) 0) here ∙ blank_count j)

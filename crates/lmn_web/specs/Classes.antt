@@ -1,13 +1,14 @@
 -- Words of private functions: the atoms of a membrane that have one class, which is the high half of their labels and how many ports they have, are linked one behind the other.
-use Rattle.std.specs.Prelude.{◌≡◌, ◌≢◌, ◌==◌, ◌&&◌, ◌<◌, ◌≤◌, Bool, false, ℕ, List, [], ◌∷◌, length, filter, Option, Some, None, IsSome, is_some, if◌then◌else◌}
+use Rattle.std.specs.Prelude.{◌≡◌, ◌≢◌, ◌==◌, ◌&&◌, ◌<◌, ◌≤◌, ◌+◌, ◌++◌, Bool, false, ℕ, List, [], ◌∷◌, length, filter, Option, Some, None, IsSome, is_some, if◌then◌else◌}
 use Rattle.lmn_base.specs.Lists.{In}
-use Rattle.lmn_heap.specs.Lists.{Distinct}
+use Rattle.lmn_heap.specs.Lists.{Distinct, without}
 use Rattle.std.specs.Option.{option_map}
 use Rattle.lmn_heap.specs.Heap.{alter}
 use Rattle.lmn_cells.specs.Cells.{HeldPort, HeldCell, links_of, numbers_of, ports_of, with_link}
-use Rattle.lmn_cells.specs.Runs.{Node, RunsThrough, link_in}
+use Rattle.lmn_cells.specs.Runs.{Node, RunsThrough, link_in, put_before}
 use Rattle.lmn_web.specs.Webs.{number_in, count_number, ARITY, HIGH}
-use Rattle.lmn_web.specs.declared.kind.CellKind.TheVariants.{Atom}
+use Rattle.lmn_web.specs.declared.kind.CellKind.{CellKind}
+use Rattle.lmn_web.specs.declared.kind.CellKind.TheVariants.{Atom, Membrane}
 
 -- the links of an atom to the next and the previous one of its class, and, of the first one of a class, to the first one of another class and to the last one of its own
 abbrev pub CLASS_NEXT : ℕ
@@ -118,7 +119,7 @@ pub record MayFile (f : ℕ → Option HeldCell) (m c : ℕ) (xs ls : List ℕ) 
   pub classed : AreClassed f m xs ls
   pub once : Distinct xs
   pub alive : (z : ℕ) → In z xs → IsSome (f z)
-  pub short : length ls ≤ number_in f m (count_number Atom)
+  pub short : length ls ≤ number_in f m (count_number Atom) + 1
   pub there_m : IsSome (f m)
   pub there_c : IsSome (f c)
   pub no_m : In m xs → ⊥
@@ -143,3 +144,26 @@ pub record Filed (f g : ℕ → Option HeldCell) (m : ℕ) (xs : List ℕ) (p : 
   pub touches : Touches f g m xs p
   pub leaders : List ℕ
   pub classed : AreClassed g m xs' leaders
+
+-- a list with c directly before a cell of it, or at its end
+abbrev pub put_at : ℕ → Option ℕ → List ℕ → List ℕ
+put_at c None xs = xs ++ c ∷ []
+put_at c (Some d) xs = put_before c d xs
+
+-- c, which isn't filed, may come before a cell of its class, or to the end of it, so that the atoms of m are xs'
+pub record MayEnter (f : ℕ → Option HeldCell) (m c : ℕ) (place : Option ℕ) (xs ls xs' : List ℕ) : Type 0 where
+  pub may : MayFile f m c xs ls
+  pub fresh : In c xs → ⊥
+  pub inside : (d : ℕ) → place ≡ Some d → In d xs × (key_in f d ≡ key_in f c)
+  pub one : OneClass f (key_in f c) xs (put_at c place (of_class f (key_in f c) xs)) xs'
+
+-- c, which is filed, may leave its class, so that the atoms of m are xs'
+pub record MayLeave (f : ℕ → Option HeldCell) (m c : ℕ) (xs ls xs' : List ℕ) : Type 0 where
+  pub may : MayFile f m c xs ls
+  pub inside : In c xs
+  pub one : OneClass f (key_in f c) xs (without c (of_class f (key_in f c) xs)) xs'
+
+-- as filing leaves the cells: nothing changes for a membrane
+abbrev pub FiledAs : CellKind → (ℕ → Option HeldCell) → (ℕ → Option HeldCell) → ℕ → List ℕ → ℕ × ℕ → List ℕ → Type 0
+FiledAs Atom f g m xs p xs' = Filed f g m xs p xs'
+FiledAs Membrane f g m xs p xs' = g ≡ f

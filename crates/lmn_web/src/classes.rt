@@ -1,15 +1,16 @@
 //! The atoms of a membrane by class: the high half of a label, and how many ports.
-ghost use Rattle.std.specs.Prelude.{◌≡◌, ◌≢◌, ◌≤◌, ◌++◌, ◌∷◌, [], ℕ, List, None, Some, IfSome, IsSome, length};
+ghost use Rattle.std.specs.Prelude.{◌≡◌, ◌≢◌, ◌≤◌, ◌+◌, ◌++◌, ◌∷◌, [], ℕ, List, None, Some, IfSome, IsSome, length};
 ghost use Rattle.std.specs.Option.{option_map};
 ghost use Rattle.lmn_base.specs.Lists.{In};
 ghost use Rattle.lmn_cells.specs.Cells.{cells_by};
 ghost use Rattle.lmn_cells.specs.CellIds.{cell_id};
-ghost use Rattle.lmn_heap.specs.Lists.{without};
-ghost use Rattle.lmn_cells.specs.Runs.{link_in, put_before};
+ghost use Rattle.lmn_heap.specs.Lists.{after, from, without};
+ghost use Rattle.lmn_cells.specs.Runs.{Line, link_in, put_before};
 ghost use Rattle.lmn_web.specs.declared.kind.CellKind.TheVariants.{Atom};
-ghost use Rattle.lmn_web.specs.Webs.{number_in, count_number};
-ghost use Rattle.lmn_web.specs.Classes.{ArePeers, Filed, MayFile, OneClass, begun, closed, is_key, key_in, led, lengthened, passed, place_of, put_between, put_first, of_class, shortened};
+ghost use Rattle.lmn_web.specs.Webs.{number_in, count_number, list_in};
+ghost use Rattle.lmn_web.specs.Classes.{ArePeers, Filed, FiledAs, MayEnter, MayFile, MayLeave, OneClass, begun, closed, is_key, key_in, led, lengthened, passed, place_of, put_between, put_first, of_class, shortened};
 
+use crate::kind::CellKind;
 use lmn_cells::cell::Cells;
 use lmn_cells::handle::Cell;
 
@@ -17,6 +18,9 @@ use lmn_cells::handle::Cell;
 const ARITY: usize = 1;
 
 const HIGH: usize = 3;
+
+// The link of an atom to the next one of its list.
+const NEXT: usize = 1;
 
 // The links of an atom to the next and the previous one of its class, and of the first one of a class to the first one
 // of the next class, and to the last one of its own.
@@ -29,7 +33,6 @@ const PEER: usize = 5;
 const CLASS_LAST: usize = 6;
 
 // The link of a membrane to the first atom of a class.
-
 const LEADERS: usize = 7;
 
 /// The first atom of a class in a membrane, and the first one of the class before it in the chain.
@@ -52,7 +55,7 @@ fn has_class(cells: &Cells, c: Cell, high: u64, arity: u64) -> bool
 /// Where a membrane has the first atom of a class.
 pub fn find(cells: &Cells, m: Cell, high: u64, arity: u64) -> Leader
     requires there { IsSome (cells_by cells.now (cell_id m)) }
-    requires peers { (ls : List ℕ) × ArePeers (cells_by cells.now) (link_in (cells_by cells.now) (cell_id m) 7) ls × (length ls ≤ number_in (cells_by cells.now) (cell_id m) (count_number Atom)) }
+    requires peers { (ls : List ℕ) × ArePeers (cells_by cells.now) (link_in (cells_by cells.now) (cell_id m) 7) ls × (length ls ≤ number_in (cells_by cells.now) (cell_id m) (count_number Atom) + 1) }
     ensures { (ls : List ℕ) → ArePeers (cells_by cells.now) (link_in (cells_by cells.now) (cell_id m) 7) ls →
         (option_map cell_id result.before ≡ (place_of (cells_by cells.now) (high, arity) None ls).before) × (option_map cell_id result.leader ≡ (place_of (cells_by cells.now) (high, arity) None ls).leader) }
 {
@@ -71,6 +74,43 @@ pub fn find(cells: &Cells, m: Cell, high: u64, arity: u64) -> Leader
     Leader {
         before,
         leader: None,
+    }
+}
+
+// The first atom of a class from one of a membrane's list on.
+fn seek(cells: &Cells, m: Cell, start: Cell, high: u64, arity: u64) -> Option<Cell>
+    requires line { Line (cells_by cells.now) (cell_id m) 3 (list_in (cells_by cells.now) (cell_id m) Atom) }
+    requires start { In (cell_id start) (list_in (cells_by cells.now) (cell_id m) Atom) }
+    ensures { let f = cells_by cells.now in let all = list_in f (cell_id m) Atom in
+        from (option_map cell_id result) (of_class f (high, arity) all) ≡ of_class f (high, arity) (from (Some (cell_id start)) all) }
+{
+    let mut at = Some(start);
+    while let Some(c) = at {
+        if has_class(cells, c, high, arity) {
+            return Some(c);
+        }
+        at = cells.link(c, NEXT);
+    }
+    None
+}
+
+/// The first atom of the class of `c` from another atom of a membrane's list on. None where no atom is asked for.
+pub fn place_from(cells: &Cells, m: Cell, kind: CellKind, start: Cell, c: Cell) -> Option<Cell>
+    requires there { IsSome (cells_by cells.now (cell_id c)) }
+    requires line { kind ≡ Atom → Line (cells_by cells.now) (cell_id m) 3 (list_in (cells_by cells.now) (cell_id m) Atom) }
+    requires start { kind ≡ Atom → In (cell_id start) (list_in (cells_by cells.now) (cell_id m) Atom) }
+    ensures { kind ≡ Atom → let f = cells_by cells.now in let all = list_in f (cell_id m) Atom in
+        from (option_map cell_id result) (of_class f (key_in f (cell_id c)) all) ≡ of_class f (key_in f (cell_id c)) (from (Some (cell_id start)) all) }
+{
+    match kind {
+        CellKind::Atom => seek(
+            cells,
+            m,
+            start,
+            cells.number(c, HIGH),
+            cells.number(c, ARITY),
+        ),
+        CellKind::Membrane => None,
     }
 }
 
@@ -276,5 +316,33 @@ pub fn unfile(cells: &mut Cells, m: Cell, c: Cell)
             None => unfile_last(cells, m, c, p),
             Some(n) => close(cells, p, n),
         },
+    }
+}
+
+/// What came into a list of a membrane is filed: an atom comes directly before another one of its class, or behind all
+/// of them. A membrane has no class.
+pub fn enter_class(cells: &mut Cells, m: Cell, kind: CellKind, place: Option<Cell>, c: Cell)
+    requires { kind ≡ Atom → (xs ls xs' : List ℕ) × MayEnter (cells_by cells.old) (cell_id m) (cell_id c) (option_map cell_id place) xs ls xs' }
+    ensures { (xs ls xs' : List ℕ) → (kind ≡ Atom → MayEnter (cells_by cells.old) (cell_id m) (cell_id c) (option_map cell_id place) xs ls xs') →
+        FiledAs kind (cells_by cells.old) (cells_by cells.new) (cell_id m) (cell_id c ∷ xs) (key_in (cells_by cells.old) (cell_id c)) xs' }
+{
+    match kind {
+        CellKind::Atom => match place {
+            None => file_last(cells, m, c),
+            Some(d) => file_before(cells, m, d, c),
+        },
+        CellKind::Membrane => {}
+    }
+}
+
+/// What left a list of a membrane leaves its class, where it is an atom.
+pub fn leave_class(cells: &mut Cells, m: Cell, kind: CellKind, c: Cell)
+    requires { kind ≡ Atom → (xs ls xs' : List ℕ) × MayLeave (cells_by cells.old) (cell_id m) (cell_id c) xs ls xs' }
+    ensures { (xs ls xs' : List ℕ) → (kind ≡ Atom → MayLeave (cells_by cells.old) (cell_id m) (cell_id c) xs ls xs') →
+        FiledAs kind (cells_by cells.old) (cells_by cells.new) (cell_id m) xs (key_in (cells_by cells.old) (cell_id c)) xs' }
+{
+    match kind {
+        CellKind::Atom => unfile(cells, m, c),
+        CellKind::Membrane => {}
     }
 }

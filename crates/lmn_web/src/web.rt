@@ -11,6 +11,7 @@ ghost use Rattle.lmn_web.specs.Webs.{web_by, partner_at, arity_at, kind_at, home
 ghost use Rattle.lmn_web.specs.Indexes.{described, reindexed, IsIndexed};
 ghost use Rattle.lmn_web.specs.declared.kind.CellKind.TheVariants.{Atom, Membrane};
 
+use crate::classes::{enter_class, leave_class, place_from};
 use crate::kind::{CellKind, count_place, first_link, kind_of, number_of};
 use lmn_cells::cell::Cells;
 use lmn_cells::handle::Cell;
@@ -51,13 +52,13 @@ impl Model for Web {
     ghost use Rattle.lmn_cells.specs.Rows.{Row};
     ghost use Rattle.lmn_cells.specs.Cells.{cells_by};
     ghost use Rattle.lmn_cells.specs.CellIds.{cell_id};
-    ghost use Rattle.lmn_web.specs.Indexes.{IsWeb};
+    ghost use Rattle.lmn_web.specs.Indexes.{IsClassedWeb};
 
     ghost Value = { List Row };
 
     ghost view = { λ s. s.cells };
 
-    ghost invariant = { λ s. IsWeb (cells_by s.cells) (map cell_id s.all.items) };
+    ghost invariant = { λ s. IsClassedWeb (cells_by s.cells) (map cell_id s.all.items) };
 }
 
 impl Drop for Web {
@@ -289,6 +290,7 @@ impl Web {
         lists::append(&mut self.cells, home, first_link(kind), c);
         let count = self.cells.number(home, count_place(kind));
         self.cells.set_number(home, count_place(kind), count + 1);
+        enter_class(&mut self.cells, home, kind, None, c);
     }
 
     /// The cell goes directly before another one of its kind.
@@ -302,9 +304,11 @@ impl Web {
     {
         if let Some(home) = self.cells.link(after, HOME) {
             let kind = kind_of(self.cells.number(c, KIND));
+            let place = place_from(&self.cells, home, kind, after, c);
             lists::insert(&mut self.cells, home, first_link(kind), after, c);
             let count = self.cells.number(home, count_place(kind));
             self.cells.set_number(home, count_place(kind), count + 1);
+            enter_class(&mut self.cells, home, kind, place, c);
         }
     }
 
@@ -318,6 +322,7 @@ impl Web {
             lists::unlink(&mut self.cells, home, first_link(kind), c);
             let count = self.cells.number(home, count_place(kind));
             self.cells.set_number(home, count_place(kind), count - 1);
+            leave_class(&mut self.cells, home, kind, c);
         }
     }
 

@@ -1,4 +1,4 @@
-use Rattle.std.proofs.Common.{◌<◌, ℕ, Some, None, length, sym, subst, ◌∙◌}
+use Rattle.std.proofs.Common.{◌+◌, ◌<◌, ℕ, Some, None, length, sym, subst, ◌∙◌}
 use Rattle.std.specs.Option.{option_map}
 use Rattle.lmn_cells.specs.Cells.{cells_by}
 use Rattle.lmn_cells.specs.CellIds.{cell_id}
@@ -11,7 +11,7 @@ use Rattle.lmn_web.proofs.classes.find.Goals as goal
 
 pub loop-at-init : goal.loop-at-init
 loop-at-init c =
-    let f = cells_by c.args.cells.now in let n = number_in f (cell_id c.args.m) (count_number Atom) in let p : ℕ × ℕ = (c.args.high, c.args.arity) in let l = c.requires.peers in
+    let f = cells_by c.args.cells.now in let n = number_in f (cell_id c.args.m) (count_number Atom) + 1 in let p : ℕ × ℕ = (c.args.high, c.args.arity) in let l = c.requires.peers in
     subst (λ o. Left f p (link_in f (cell_id c.args.m) LEADERS) n None o) c.link-at.ensures (left_all f p (link_in f (cell_id c.args.m) LEADERS) n l.0 l.1 l.2)
 
 pub has_class-requires : goal.has_class-requires
@@ -25,14 +25,14 @@ returns-then-has_class c = left_found (cells_by c.args.cells.now) _ _ _ _ _ (rw 
 
 pub loop-at-smaller : goal.loop-at-smaller
 loop-at-smaller c =
-    let f = cells_by c.args.cells.now in let n = number_in f (cell_id c.args.m) (count_number Atom) in let p : ℕ × ℕ = (c.args.high, c.args.arity) in
+    let f = cells_by c.args.cells.now in let n = number_in f (cell_id c.args.m) (count_number Atom) + 1 in let p : ℕ × ℕ = (c.args.high, c.args.arity) in
     let next = left_next f p (link_in f (cell_id c.args.m) LEADERS) n _ (cell_id c.in-Some.c) (rw c.in-Some.is at c.loop-at.invariant) (sym c.has_class.ensures ∙ c.if-has_class.false) in
     subst (λ o. length (walked (λ a. link_in f a PEER) n (option_map cell_id c.link-at-in-Some.result)) < length (walked (λ a. link_in f a PEER) n (option_map cell_id o))) (sym c.in-Some.is)
     (subst (λ o. length (walked (λ a. link_in f a PEER) n o) < length (walked (λ a. link_in f a PEER) n (Some (cell_id c.in-Some.c)))) c.link-at-in-Some.ensures next.1)
 
 pub loop-at-preserved : goal.loop-at-preserved
 loop-at-preserved c =
-    let f = cells_by c.args.cells.now in let n = number_in f (cell_id c.args.m) (count_number Atom) in let p : ℕ × ℕ = (c.args.high, c.args.arity) in
+    let f = cells_by c.args.cells.now in let n = number_in f (cell_id c.args.m) (count_number Atom) + 1 in let p : ℕ × ℕ = (c.args.high, c.args.arity) in
     let next = left_next f p (link_in f (cell_id c.args.m) LEADERS) n _ (cell_id c.in-Some.c) (rw c.in-Some.is at c.loop-at.invariant) (sym c.has_class.ensures ∙ c.if-has_class.false) in
     subst (λ o. Left f p (link_in f (cell_id c.args.m) LEADERS) n (Some (cell_id c.in-Some.c)) o) c.link-at-in-Some.ensures next.0
 

@@ -1,32 +1,37 @@
-use Rattle.std.proofs.Common.{◌≡◌, ◌++◌, ◌∷◌, [], List, Some, refl, sym, ap, subst, ◌∙◌, map, arith}
-use Rattle.std.proofs.lemmas.List.{length-map}
+use Rattle.std.proofs.Common.{◌≡◌, ◌+◌, ◌++◌, ℕ, Option, None, ◌∷◌, [], List, Some, refl, sym, ap, subst, ◌∙◌, map, arith}
+use Rattle.std.proofs.lemmas.List.{length-map, length-append}
+use Rattle.lmn_base.specs.Lists.{In}
 use Rattle.lmn_cells.specs.Rows.{Row}
 use Rattle.lmn_cells.specs.Cells.{cells_by}
 use Rattle.lmn_cells.specs.CellIds.{cell_id}
 use Rattle.lmn_cells.specs.Runs.{Line, IsHome}
+use Rattle.lmn_web.specs.declared.kind.CellKind.TheVariants.{Atom}
 use Rattle.lmn_web.specs.Kinds.{kind_by}
 use Rattle.lmn_web.specs.Webs.{web_by, list_in, list_link, count_number, number_in, added_last}
 use Rattle.lmn_web.specs.Indexes.{cell_kind}
 use Rattle.lmn_web.proofs.ListedLemmas.{link_behind, link_below}
-use Rattle.lmn_web.proofs.RelistLemmas.{enters_last, appended_there, appended_fits, appends, relists_web, relists_is, membrane_there, in_none, last_is}
+use Rattle.lmn_web.proofs.RelistLemmas.{enters_last, appended_there, appended_fits, appends, relists_is, membrane_there, in_none, last_is}
+use Rattle.lmn_web.specs.Classes.{key_in, MayEnter}
+use Rattle.lmn_web.proofs.FilterLemmas.{one_last}
+use Rattle.lmn_web.proofs.Filing.{Leaves, appends_left, leaders, may_enter, entered_web, entered_list}
 use Rattle.lmn_web.proofs.web.Web.add_last.Goals as goal
 
 pub append-requires-clause-home : goal.append-requires-clause-home
 append-requires-clause-home c =
-    let f = cells_by c.self.inside.cells in let m = cell_id c.args.home in let x = cell_id c.args.c in let w = c.self.invariant in
+    let f = cells_by c.self.inside.cells in let m = cell_id c.args.home in let x = cell_id c.args.c in let w = c.self.invariant.web in
     let enters = enters_last c.self.inside.cells c.args.self.now c.self.view_is m x c.requires.there c.requires.homeless c.requires.membrane c.requires.differ in
     subst (λ e. IsHome f m e) (sym c.first_link.ensures) record { there = membrane_there f m enters.membrane; behind = link_behind c.kind_of-kind.result; below = link_below c.kind_of-kind.result }
 
 pub append-requires-clause-list : goal.append-requires-clause-list
 append-requires-clause-list c =
-    let f = cells_by c.self.inside.cells in let m = cell_id c.args.home in let x = cell_id c.args.c in let w = c.self.invariant in
+    let f = cells_by c.self.inside.cells in let m = cell_id c.args.home in let x = cell_id c.args.c in let w = c.self.invariant.web in
     let enters = enters_last c.self.inside.cells c.args.self.now c.self.view_is m x c.requires.there c.requires.homeless c.requires.membrane c.requires.differ in
     let k = c.kind_of-kind.result in
     (list_in f m k, subst (λ e. Line f m e (list_in f m k)) (sym c.first_link.ensures) (w.listed.line m k enters.membrane), in_none f (list_in f) w.listed x enters.free m k)
 
 pub number-count-requires-clause-there : goal.number-count-requires-clause-there
 number-count-requires-clause-there c =
-    let f = cells_by c.self.inside.cells in let m = cell_id c.args.home in let x = cell_id c.args.c in let w = c.self.invariant in
+    let f = cells_by c.self.inside.cells in let m = cell_id c.args.home in let x = cell_id c.args.c in let w = c.self.invariant.web in
     let enters = enters_last c.self.inside.cells c.args.self.now c.self.view_is m x c.requires.there c.requires.homeless c.requires.membrane c.requires.differ in
     let kind : c.kind_of-kind.result ≡ cell_kind f x = c.kind_of-kind.ensures ∙ ap kind_by c.number.ensures in
     let p = count_number (cell_kind f x) in
@@ -34,7 +39,7 @@ number-count-requires-clause-there c =
 
 pub set_number-requires-clause-there : goal.set_number-requires-clause-there
 set_number-requires-clause-there c =
-    let f = cells_by c.self.inside.cells in let m = cell_id c.args.home in let x = cell_id c.args.c in let w = c.self.invariant in
+    let f = cells_by c.self.inside.cells in let m = cell_id c.args.home in let x = cell_id c.args.c in let w = c.self.invariant.web in
     let enters = enters_last c.self.inside.cells c.args.self.now c.self.view_is m x c.requires.there c.requires.homeless c.requires.membrane c.requires.differ in
     let kind : c.kind_of-kind.result ≡ cell_kind f x = c.kind_of-kind.ensures ∙ ap kind_by c.number.ensures in
     let p = count_number (cell_kind f x) in
@@ -42,7 +47,7 @@ set_number-requires-clause-there c =
 
 pub overflow_add-count : goal.overflow_add-count
 overflow_add-count c =
-    let f = cells_by c.self.inside.cells in let m = cell_id c.args.home in let x = cell_id c.args.c in let w = c.self.invariant in
+    let f = cells_by c.self.inside.cells in let m = cell_id c.args.home in let x = cell_id c.args.c in let w = c.self.invariant.web in
     let enters = enters_last c.self.inside.cells c.args.self.now c.self.view_is m x c.requires.there c.requires.homeless c.requires.membrane c.requires.differ in
     let kind : c.kind_of-kind.result ≡ cell_kind f x = c.kind_of-kind.ensures ∙ ap kind_by c.number.ensures in
     let fits = appended_fits f (cells_by c.append.new.cells) (cells_by c.append.new.cells) (map cell_id c.self.inside.all.items) w m x c.first_link.result c.count_place.result c.count_place.result c.number-count.result enters (c.first_link.ensures ∙ ap list_link kind) (c.count_place.ensures ∙ ap count_number kind) (c.count_place.ensures ∙ ap count_number kind) c.number-count.ensures
@@ -50,19 +55,48 @@ overflow_add-count c =
     let same = length-map c.self.inside.all.items cell_id in let len = c.self.inside.all.ok.0 in let room = c.self.inside.all.ok.1 in let small = c.self.inside.all.small in
     omega (arith, fits, same, len, room, small)
 
-pub invariant_of-self : goal.invariant_of-self
-invariant_of-self c =
-    let f = cells_by c.self.inside.cells in let m = cell_id c.args.home in let x = cell_id c.args.c in let w = c.self.invariant in
+pub enter_class-requires : goal.enter_class-requires
+enter_class-requires c atom =
+    let f = cells_by c.self.inside.cells in let m = cell_id c.args.home in let x = cell_id c.args.c in let W = c.self.invariant in let w = W.web in
     let enters = enters_last c.self.inside.cells c.args.self.now c.self.view_is m x c.requires.there c.requires.homeless c.requires.membrane c.requires.differ in
     let kind : c.kind_of-kind.result ≡ cell_kind f x = c.kind_of-kind.ensures ∙ ap kind_by c.number.ensures in
-    relists_web f (cells_by c.set_number.new.self) _ w m x (Some m) (list_in f m (cell_kind f x) ++ x ∷ []) (appends f (cells_by c.append.new.cells) (cells_by c.set_number.new.self) _ w m x c.first_link.result c.count_place.result c.count_place-2.result c.number-count.result enters (c.first_link.ensures ∙ ap list_link kind) (c.count_place.ensures ∙ ap count_number kind) (c.count_place-2.ensures ∙ ap count_number kind) c.number-count.ensures
-    (c.append.ensures.appended, c.append.ensures.list, c.append.ensures.others) c.set_number.ensures)
+    let own = list_in f m (cell_kind f x) in let F = cells_by c.set_number.new.self in let xs = own ++ x ∷ [] in
+    let r = appends f (cells_by c.append.new.cells) F _ w m x c.first_link.result c.count_place.result c.count_place-2.result c.number-count.result enters (c.first_link.ensures ∙ ap list_link kind) (c.count_place.ensures ∙ ap count_number kind) (c.count_place-2.ensures ∙ ap count_number kind) c.number-count.ensures
+    (c.append.ensures.appended, c.append.ensures.list, c.append.ensures.others) c.set_number.ensures in
+    let leaves : Leaves f F m = appends_left f (cells_by c.append.new.cells) F m c.first_link.result x c.count_place-2.result (c.number-count.result + 1) (cell_kind f x) (c.first_link.ensures ∙ ap list_link kind) c.append.ensures.appended c.set_number.ensures in
+    let out : In x own → ⊥ = in_none f (list_in f) w.listed x enters.free m (cell_kind f x) in
+    let first = leaders f F _ W m x (Some m) xs r leaves in
+    let may : c.kind_of-kind.result ≡ Atom → MayEnter F m x None own first xs = λ atom.
+    may_enter f F _ W m x (Some m) xs r leaves None (sym kind ∙ atom) enters.there (let e = length-append own (x ∷ []) in omega (arith, e)) out (λ d e. absurd cc) (one_last F x own) in
+    (own, first, xs, may atom)
+
+pub invariant_of-self : goal.invariant_of-self
+invariant_of-self c =
+    let f = cells_by c.self.inside.cells in let m = cell_id c.args.home in let x = cell_id c.args.c in let W = c.self.invariant in let w = W.web in
+    let enters = enters_last c.self.inside.cells c.args.self.now c.self.view_is m x c.requires.there c.requires.homeless c.requires.membrane c.requires.differ in
+    let kind : c.kind_of-kind.result ≡ cell_kind f x = c.kind_of-kind.ensures ∙ ap kind_by c.number.ensures in
+    let own = list_in f m (cell_kind f x) in let F = cells_by c.set_number.new.self in let xs = own ++ x ∷ [] in
+    let r = appends f (cells_by c.append.new.cells) F _ w m x c.first_link.result c.count_place.result c.count_place-2.result c.number-count.result enters (c.first_link.ensures ∙ ap list_link kind) (c.count_place.ensures ∙ ap count_number kind) (c.count_place-2.ensures ∙ ap count_number kind) c.number-count.ensures
+    (c.append.ensures.appended, c.append.ensures.list, c.append.ensures.others) c.set_number.ensures in
+    let leaves : Leaves f F m = appends_left f (cells_by c.append.new.cells) F m c.first_link.result x c.count_place-2.result (c.number-count.result + 1) (cell_kind f x) (c.first_link.ensures ∙ ap list_link kind) c.append.ensures.appended c.set_number.ensures in
+    let out : In x own → ⊥ = in_none f (list_in f) w.listed x enters.free m (cell_kind f x) in
+    let first = leaders f F _ W m x (Some m) xs r leaves in
+    let may : c.kind_of-kind.result ≡ Atom → MayEnter F m x None own first xs = λ atom.
+    may_enter f F _ W m x (Some m) xs r leaves None (sym kind ∙ atom) enters.there (let e = length-append own (x ∷ []) in omega (arith, e)) out (λ d e. absurd cc) (one_last F x own) in
+    entered_web f F _ W m x (Some m) xs r leaves (cells_by c.enter_class.new.cells) c.kind_of-kind.result (key_in F x) kind enters.free (c.enter_class.ensures own first xs may)
 
 pub returns : goal.returns
 returns c =
-    let f = cells_by c.self.inside.cells in let m = cell_id c.args.home in let x = cell_id c.args.c in let w = c.self.invariant in
+    let f = cells_by c.self.inside.cells in let m = cell_id c.args.home in let x = cell_id c.args.c in let W = c.self.invariant in let w = W.web in
     let enters = enters_last c.self.inside.cells c.args.self.now c.self.view_is m x c.requires.there c.requires.homeless c.requires.membrane c.requires.differ in
     let kind : c.kind_of-kind.result ≡ cell_kind f x = c.kind_of-kind.ensures ∙ ap kind_by c.number.ensures in
-    relists_is f (cells_by c.set_number.new.self) _ w m x (Some m) (list_in f m (cell_kind f x) ++ x ∷ []) (appends f (cells_by c.append.new.cells) (cells_by c.set_number.new.self) _ w m x c.first_link.result c.count_place.result c.count_place-2.result c.number-count.result enters (c.first_link.ensures ∙ ap list_link kind) (c.count_place.ensures ∙ ap count_number kind) (c.count_place-2.ensures ∙ ap count_number kind) c.number-count.ensures
-    (c.append.ensures.appended, c.append.ensures.list, c.append.ensures.others) c.set_number.ensures)
+    let own = list_in f m (cell_kind f x) in let F = cells_by c.set_number.new.self in let xs = own ++ x ∷ [] in
+    let r = appends f (cells_by c.append.new.cells) F _ w m x c.first_link.result c.count_place.result c.count_place-2.result c.number-count.result enters (c.first_link.ensures ∙ ap list_link kind) (c.count_place.ensures ∙ ap count_number kind) (c.count_place-2.ensures ∙ ap count_number kind) c.number-count.ensures
+    (c.append.ensures.appended, c.append.ensures.list, c.append.ensures.others) c.set_number.ensures in
+    let leaves : Leaves f F m = appends_left f (cells_by c.append.new.cells) F m c.first_link.result x c.count_place-2.result (c.number-count.result + 1) (cell_kind f x) (c.first_link.ensures ∙ ap list_link kind) c.append.ensures.appended c.set_number.ensures in
+    let out : In x own → ⊥ = in_none f (list_in f) w.listed x enters.free m (cell_kind f x) in
+    let first = leaders f F _ W m x (Some m) xs r leaves in
+    let may : c.kind_of-kind.result ≡ Atom → MayEnter F m x None own first xs = λ atom.
+    may_enter f F _ W m x (Some m) xs r leaves None (sym kind ∙ atom) enters.there (let e = length-append own (x ∷ []) in omega (arith, e)) out (λ d e. absurd cc) (one_last F x own) in
+    relists_is f (cells_by c.enter_class.new.cells) _ w m x (Some m) xs (entered_list f F _ W m x (Some m) xs r leaves (cells_by c.enter_class.new.cells) c.kind_of-kind.result (key_in F x) kind enters.free (c.enter_class.ensures own first xs may))
     ∙ last_is f (list_in f) w.listed m x ∙ ap (λ (z : List Row). added_last (web_by z) m x) c.self.view_is

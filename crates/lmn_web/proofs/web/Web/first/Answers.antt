@@ -15,7 +15,7 @@ use Rattle.lmn_web.proofs.web.Web.first.Goals as goal
 
 pub returns-in-Membrane-clause-list : goal.returns-in-Membrane-clause-list
 returns-in-Membrane-clause-list c =
-    let f = cells_by c.self.inside.cells in let m = cell_id c.args.home in let k = c.args.kind in let w = c.self.invariant in
+    let f = cells_by c.self.inside.cells in let m = cell_id c.args.home in let k = c.args.kind in let w = c.self.invariant.web in
     let membrane : cell_kind f m ≡ Atom → ⊥ = no_atom_by f (list_in f) m (subst (λ (z : List Row). kind_at (web_by z) m ≡ Membrane) (sym c.self.view_is) (kind_told (web_by c.args.self.now) m Membrane (c.kind.ensures ∙ ap Some c.in-Membrane.is))) in
     let link : link_in f m (list_link k) ≡ option_map cell_id c.link.result = ap (link_in f m) (sym c.first_link.ensures) ∙ c.link.ensures in
     subst (λ (z : List Row). from (option_map cell_id c.link.result) (cells_in (web_by z) m k) ≡ cells_in (web_by z) m k) c.self.view_is
@@ -24,7 +24,7 @@ returns-in-Membrane-clause-list c =
 
 pub returns-in-Membrane-clause-home : goal.returns-in-Membrane-clause-home
 returns-in-Membrane-clause-home c =
-    let f = cells_by c.self.inside.cells in let m = cell_id c.args.home in let k = c.args.kind in let w = c.self.invariant in
+    let f = cells_by c.self.inside.cells in let m = cell_id c.args.home in let k = c.args.kind in let w = c.self.invariant.web in
     let membrane : cell_kind f m ≡ Atom → ⊥ = no_atom_by f (list_in f) m (subst (λ (z : List Row). kind_at (web_by z) m ≡ Membrane) (sym c.self.view_is) (kind_told (web_by c.args.self.now) m Membrane (c.kind.ensures ∙ ap Some c.in-Membrane.is))) in
     let link : link_in f m (list_link k) ≡ option_map cell_id c.link.result = ap (link_in f m) (sym c.first_link.ensures) ∙ c.link.ensures in
     if_some cell_id c.link.result (λ q. home_at (web_by c.args.self.now) q ≡ Some m) (λ q e.
@@ -36,4 +36,4 @@ pub returns-in-Atom-clause-list : goal.returns-in-Atom-clause-list
 returns-in-Atom-clause-list c =
     let f = cells_by c.self.inside.cells in let m = cell_id c.args.home in let k = c.args.kind in
     let atom : kind_at (web_by c.self.inside.cells) m ≡ Atom = subst (λ (z : List Row). kind_at (web_by z) m ≡ Atom) (sym c.self.view_is) (kind_told (web_by c.args.self.now) m Atom (c.kind.ensures ∙ ap Some c.in-Atom.is)) in
-    subst (λ (z : List Row). [] ≡ cells_in (web_by z) m k) c.self.view_is (sym ((web_listed f (list_in f) c.self.invariant.listed).bare m k atom))
+    subst (λ (z : List Row). [] ≡ cells_in (web_by z) m k) c.self.view_is (sym ((web_listed f (list_in f) c.self.invariant.web.listed).bare m k atom))

@@ -17,7 +17,7 @@ link-requires-clause-there c =
 
 pub returns-clause-list : goal.returns-clause-list
 returns-clause-list c m home =
-    let f = cells_by c.self.inside.cells in let x = cell_id c.args.c in let w = c.self.invariant in let k = cell_kind f x in
+    let f = cells_by c.self.inside.cells in let x = cell_id c.args.c in let w = c.self.invariant.web in let k = cell_kind f x in
     let at : link_in f x HOME ≡ Some m = sym (home_same f (list_in f) x) ∙ ap (λ (z : List Row). home_at (web_by z) x) c.self.view_is ∙ home in
     let h = w.listed.homes m x at in
     subst (λ (z : List Row). from (option_map cell_id c.link.result) (cells_in (web_by z) m (kind_at (web_by z) x)) ≡ after x (cells_in (web_by z) m (kind_at (web_by z) x))) c.self.view_is
@@ -30,4 +30,4 @@ returns-clause-home c =
     let f = cells_by c.self.inside.cells in let x = cell_id c.args.c in
     if_some cell_id c.link.result (λ q. home_at (web_by c.args.self.now) q ≡ home_at (web_by c.args.self.now) x) (λ q e.
     subst (λ (z : List Row). home_at (web_by z) q ≡ home_at (web_by z) x) c.self.view_is
-    (next_home f (list_in f) c.self.invariant.listed x (subst (λ (z : List Row). IsSome (home_at (web_by z) x)) (sym c.self.view_is) c.requires) q (c.link.ensures ∙ e)))
+    (next_home f (list_in f) c.self.invariant.web.listed x (subst (λ (z : List Row). IsSome (home_at (web_by z) x)) (sym c.self.view_is) c.requires) q (c.link.ensures ∙ e)))

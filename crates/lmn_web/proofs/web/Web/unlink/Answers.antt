@@ -1,15 +1,20 @@
-use Rattle.std.proofs.Common.{◌≡◌, List, Some, None, IsSome, refl, sym, ap, subst, ◌∙◌, arith}
+use Rattle.std.proofs.Common.{◌≡◌, ◌-◌, ℕ, Option, List, Some, None, IsSome, refl, sym, ap, subst, ◌∙◌, arith}
 use Rattle.std.specs.Option.{option_map}
+use Rattle.lmn_base.specs.Lists.{In}
 use Rattle.lmn_heap.specs.Lists.{without}
 use Rattle.lmn_cells.specs.Rows.{Row}
 use Rattle.lmn_cells.specs.Cells.{cells_by}
 use Rattle.lmn_cells.specs.CellIds.{cell_id}
 use Rattle.lmn_cells.specs.Runs.{HOME, link_in, Line, IsHome}
+use Rattle.lmn_web.specs.declared.kind.CellKind.TheVariants.{Atom}
 use Rattle.lmn_web.specs.Kinds.{kind_by}
 use Rattle.lmn_web.specs.Webs.{web_by, list_in, list_link, count_number, number_in, home_at, unlinked}
 use Rattle.lmn_web.specs.Indexes.{cell_kind}
-use Rattle.lmn_web.proofs.ListedLemmas.{own_line, home_same, link_behind, link_below, some_home}
-use Rattle.lmn_web.proofs.RelistLemmas.{unlinked_there, unlinked_some, unlinks, relists_web, relists_is, without_is}
+use Rattle.lmn_web.proofs.ListedLemmas.{own_line, cell_of, home_same, link_behind, link_below, some_home}
+use Rattle.lmn_web.proofs.RelistLemmas.{unlinked_there, unlinked_some, unlinks, length_without, relists_is, without_is}
+use Rattle.lmn_web.specs.Classes.{key_in, MayLeave}
+use Rattle.lmn_web.proofs.FilterLemmas.{one_without}
+use Rattle.lmn_web.proofs.Filing.{Leaves, unlinks_left, leaders, may_leave, left_web, left_list}
 use Rattle.lmn_web.proofs.web.Web.unlink.Goals as goal
 
 pub link-requires-clause-there : goal.link-requires-clause-there
@@ -24,13 +29,13 @@ number-requires-clause-there c =
 
 pub unlink-requires-clause-home : goal.unlink-requires-clause-home
 unlink-requires-clause-home c =
-    let f = cells_by c.self.inside.cells in let m = cell_id c.in-Some.home in let x = cell_id c.args.c in let w = c.self.invariant in
+    let f = cells_by c.self.inside.cells in let m = cell_id c.in-Some.home in let x = cell_id c.args.c in let w = c.self.invariant.web in
     let home : link_in f x HOME ≡ Some m = c.link.ensures ∙ ap (option_map cell_id) c.in-Some.is in
     subst (λ e. IsHome f m e) (sym c.first_link.ensures) record { there = (w.listed.homes m x home).0; behind = link_behind c.kind_of-kind.result; below = link_below c.kind_of-kind.result }
 
 pub unlink-requires-clause-list : goal.unlink-requires-clause-list
 unlink-requires-clause-list c =
-    let f = cells_by c.self.inside.cells in let m = cell_id c.in-Some.home in let x = cell_id c.args.c in let w = c.self.invariant in
+    let f = cells_by c.self.inside.cells in let m = cell_id c.in-Some.home in let x = cell_id c.args.c in let w = c.self.invariant.web in
     let home : link_in f x HOME ≡ Some m = c.link.ensures ∙ ap (option_map cell_id) c.in-Some.is in
     let kind : c.kind_of-kind.result ≡ cell_kind f x = c.kind_of-kind.ensures ∙ ap kind_by c.number.ensures in
     let h = w.listed.homes m x home in
@@ -38,7 +43,7 @@ unlink-requires-clause-list c =
 
 pub number-count-requires-clause-there : goal.number-count-requires-clause-there
 number-count-requires-clause-there c =
-    let f = cells_by c.self.inside.cells in let m = cell_id c.in-Some.home in let x = cell_id c.args.c in let w = c.self.invariant in
+    let f = cells_by c.self.inside.cells in let m = cell_id c.in-Some.home in let x = cell_id c.args.c in let w = c.self.invariant.web in
     let home : link_in f x HOME ≡ Some m = c.link.ensures ∙ ap (option_map cell_id) c.in-Some.is in
     let kind : c.kind_of-kind.result ≡ cell_kind f x = c.kind_of-kind.ensures ∙ ap kind_by c.number.ensures in
     let p = count_number (cell_kind f x) in
@@ -46,7 +51,7 @@ number-count-requires-clause-there c =
 
 pub set_number-requires-clause-there : goal.set_number-requires-clause-there
 set_number-requires-clause-there c =
-    let f = cells_by c.self.inside.cells in let m = cell_id c.in-Some.home in let x = cell_id c.args.c in let w = c.self.invariant in
+    let f = cells_by c.self.inside.cells in let m = cell_id c.in-Some.home in let x = cell_id c.args.c in let w = c.self.invariant.web in
     let home : link_in f x HOME ≡ Some m = c.link.ensures ∙ ap (option_map cell_id) c.in-Some.is in
     let kind : c.kind_of-kind.result ≡ cell_kind f x = c.kind_of-kind.ensures ∙ ap kind_by c.number.ensures in
     let p = count_number (cell_kind f x) in
@@ -54,26 +59,55 @@ set_number-requires-clause-there c =
 
 pub overflow_sub-count : goal.overflow_sub-count
 overflow_sub-count c =
-    let f = cells_by c.self.inside.cells in let m = cell_id c.in-Some.home in let x = cell_id c.args.c in let w = c.self.invariant in
+    let f = cells_by c.self.inside.cells in let m = cell_id c.in-Some.home in let x = cell_id c.args.c in let w = c.self.invariant.web in
     let home : link_in f x HOME ≡ Some m = c.link.ensures ∙ ap (option_map cell_id) c.in-Some.is in
     let kind : c.kind_of-kind.result ≡ cell_kind f x = c.kind_of-kind.ensures ∙ ap kind_by c.number.ensures in
     let some = unlinked_some f (cells_by c.unlink.new.cells) (cells_by c.unlink.new.cells) _ w m x c.first_link.result c.count_place.result c.count_place.result c.number-count.result home (c.first_link.ensures ∙ ap list_link kind) (c.count_place.ensures ∙ ap count_number kind) (c.count_place.ensures ∙ ap count_number kind) c.number-count.ensures (c.unlink.ensures.unlinked, c.unlink.ensures.list, c.unlink.ensures.others) in
     omega (arith, some)
 
-pub invariant_of-self : goal.invariant_of-self
-invariant_of-self c =
-    let f = cells_by c.self.inside.cells in let m = cell_id c.in-Some.home in let x = cell_id c.args.c in let w = c.self.invariant in
+pub leave_class-requires : goal.leave_class-requires
+leave_class-requires c atom =
+    let f = cells_by c.self.inside.cells in let m = cell_id c.in-Some.home in let x = cell_id c.args.c in let W = c.self.invariant in let w = W.web in
     let home : link_in f x HOME ≡ Some m = c.link.ensures ∙ ap (option_map cell_id) c.in-Some.is in
     let kind : c.kind_of-kind.result ≡ cell_kind f x = c.kind_of-kind.ensures ∙ ap kind_by c.number.ensures in
-    relists_web f (cells_by c.set_number.new.self) _ w m x None (without x (list_in f m (cell_kind f x))) (unlinks f (cells_by c.unlink.new.cells) (cells_by c.set_number.new.self) _ w m x c.first_link.result c.count_place.result c.count_place-in-Some.result c.number-count.result home (c.first_link.ensures ∙ ap list_link kind) (c.count_place.ensures ∙ ap count_number kind) (c.count_place-in-Some.ensures ∙ ap count_number kind) c.number-count.ensures
-    (c.unlink.ensures.unlinked, c.unlink.ensures.list, c.unlink.ensures.others) c.set_number.ensures)
+    let own = list_in f m (cell_kind f x) in let F = cells_by c.set_number.new.self in let xs = without x own in
+    let r = unlinks f (cells_by c.unlink.new.cells) F _ w m x c.first_link.result c.count_place.result c.count_place-in-Some.result c.number-count.result home (c.first_link.ensures ∙ ap list_link kind) (c.count_place.ensures ∙ ap count_number kind) (c.count_place-in-Some.ensures ∙ ap count_number kind) c.number-count.ensures
+    (c.unlink.ensures.unlinked, c.unlink.ensures.list, c.unlink.ensures.others) c.set_number.ensures in
+    let leaves : Leaves f F m = unlinks_left f (cells_by c.unlink.new.cells) F m c.first_link.result x c.count_place-in-Some.result (c.number-count.result - 1) (cell_kind f x) (c.first_link.ensures ∙ ap list_link kind) c.unlink.ensures.unlinked c.set_number.ensures in
+    let in_own : In x own = (w.listed.homes m x home).1 in
+    let first = leaders f F _ W m x None xs r leaves in
+    let may : c.kind_of-kind.result ≡ Atom → MayLeave F m x own first xs = λ atom.
+    may_leave f F _ W m x None xs r leaves (sym kind ∙ atom) (cell_of f (list_in f) w.listed m x (cell_kind f x) in_own).0 (let e = length_without x own in_own in omega (arith, e)) in_own (one_without F x own) in
+    (own, first, xs, may atom)
+
+pub invariant_of-self : goal.invariant_of-self
+invariant_of-self c =
+    let f = cells_by c.self.inside.cells in let m = cell_id c.in-Some.home in let x = cell_id c.args.c in let W = c.self.invariant in let w = W.web in
+    let home : link_in f x HOME ≡ Some m = c.link.ensures ∙ ap (option_map cell_id) c.in-Some.is in
+    let kind : c.kind_of-kind.result ≡ cell_kind f x = c.kind_of-kind.ensures ∙ ap kind_by c.number.ensures in
+    let own = list_in f m (cell_kind f x) in let F = cells_by c.set_number.new.self in let xs = without x own in
+    let r = unlinks f (cells_by c.unlink.new.cells) F _ w m x c.first_link.result c.count_place.result c.count_place-in-Some.result c.number-count.result home (c.first_link.ensures ∙ ap list_link kind) (c.count_place.ensures ∙ ap count_number kind) (c.count_place-in-Some.ensures ∙ ap count_number kind) c.number-count.ensures
+    (c.unlink.ensures.unlinked, c.unlink.ensures.list, c.unlink.ensures.others) c.set_number.ensures in
+    let leaves : Leaves f F m = unlinks_left f (cells_by c.unlink.new.cells) F m c.first_link.result x c.count_place-in-Some.result (c.number-count.result - 1) (cell_kind f x) (c.first_link.ensures ∙ ap list_link kind) c.unlink.ensures.unlinked c.set_number.ensures in
+    let in_own : In x own = (w.listed.homes m x home).1 in
+    let first = leaders f F _ W m x None xs r leaves in
+    let may : c.kind_of-kind.result ≡ Atom → MayLeave F m x own first xs = λ atom.
+    may_leave f F _ W m x None xs r leaves (sym kind ∙ atom) (cell_of f (list_in f) w.listed m x (cell_kind f x) in_own).0 (let e = length_without x own in_own in omega (arith, e)) in_own (one_without F x own) in
+    left_web f F _ W m x None xs r leaves (cells_by c.leave_class.new.cells) c.kind_of-kind.result (key_in F x) kind (c.leave_class.ensures own first xs may)
 
 pub returns-in-Some : goal.returns-in-Some
 returns-in-Some c n at =
-    let f = cells_by c.self.inside.cells in let m = cell_id c.in-Some.home in let x = cell_id c.args.c in let w = c.self.invariant in
+    let f = cells_by c.self.inside.cells in let m = cell_id c.in-Some.home in let x = cell_id c.args.c in let W = c.self.invariant in let w = W.web in
     let home : link_in f x HOME ≡ Some m = c.link.ensures ∙ ap (option_map cell_id) c.in-Some.is in
     let kind : c.kind_of-kind.result ≡ cell_kind f x = c.kind_of-kind.ensures ∙ ap kind_by c.number.ensures in
+    let own = list_in f m (cell_kind f x) in let F = cells_by c.set_number.new.self in let xs = without x own in
+    let r = unlinks f (cells_by c.unlink.new.cells) F _ w m x c.first_link.result c.count_place.result c.count_place-in-Some.result c.number-count.result home (c.first_link.ensures ∙ ap list_link kind) (c.count_place.ensures ∙ ap count_number kind) (c.count_place-in-Some.ensures ∙ ap count_number kind) c.number-count.ensures
+    (c.unlink.ensures.unlinked, c.unlink.ensures.list, c.unlink.ensures.others) c.set_number.ensures in
+    let leaves : Leaves f F m = unlinks_left f (cells_by c.unlink.new.cells) F m c.first_link.result x c.count_place-in-Some.result (c.number-count.result - 1) (cell_kind f x) (c.first_link.ensures ∙ ap list_link kind) c.unlink.ensures.unlinked c.set_number.ensures in
+    let in_own : In x own = (w.listed.homes m x home).1 in
+    let first = leaders f F _ W m x None xs r leaves in
+    let may : c.kind_of-kind.result ≡ Atom → MayLeave F m x own first xs = λ atom.
+    may_leave f F _ W m x None xs r leaves (sym kind ∙ atom) (cell_of f (list_in f) w.listed m x (cell_kind f x) in_own).0 (let e = length_without x own in_own in omega (arith, e)) in_own (one_without F x own) in
     let same : n ≡ m = let e : Some n ≡ Some m = sym at ∙ ap (λ (z : List Row). home_at (web_by z) x) (sym c.self.view_is) ∙ home_same f (list_in f) x ∙ home in cc in
-    relists_is f (cells_by c.set_number.new.self) _ w m x None (without x (list_in f m (cell_kind f x))) (unlinks f (cells_by c.unlink.new.cells) (cells_by c.set_number.new.self) _ w m x c.first_link.result c.count_place.result c.count_place-in-Some.result c.number-count.result home (c.first_link.ensures ∙ ap list_link kind) (c.count_place.ensures ∙ ap count_number kind) (c.count_place-in-Some.ensures ∙ ap count_number kind) c.number-count.ensures
-    (c.unlink.ensures.unlinked, c.unlink.ensures.list, c.unlink.ensures.others) c.set_number.ensures)
+    relists_is f (cells_by c.leave_class.new.cells) _ w m x None xs (left_list f F _ W m x None xs r leaves (cells_by c.leave_class.new.cells) c.kind_of-kind.result (key_in F x) kind (c.leave_class.ensures own first xs may))
     ∙ without_is f (list_in f) w.listed m x ∙ (λ t. unlinked (web_by (c.self.view_is t)) (sym same t) x)

@@ -1,0 +1,403 @@
+-- The classes of a web stay, and follow its lists.
+use Rattle.std.proofs.Common.{◌≡◌, ◌≢◌, ◌+◌, ◌<◌, ◌≤◌, ◌^◌, ◌++◌, ℕ, List, [], ◌∷◌, length, get_or, Option, Some, None, IsSome, refl, sym, ap, subst, ◌∙◌, inl, inr, arith}
+use Rattle.std.proofs.lemmas.Bool.{cases_eq}
+use Rattle.std.specs.Option.{option_map}
+use Rattle.lmn_base.specs.Lists.{In}
+use Rattle.lmn_heap.specs.Heap.{alter}
+use Rattle.lmn_heap.specs.Lists.{Distinct, from, without}
+use Rattle.lmn_heap.proofs.Listing.{alter_at, alter_away}
+use Rattle.lmn_heap.proofs.ListLemmas.{each_in, each_of}
+use Rattle.lmn_heap.proofs.Pigeonholes.{not_longer}
+use Rattle.lmn_cells.specs.Cells.{HeldCell, blank_cell, links_of, numbers_of, with_link, with_number}
+use Rattle.lmn_cells.specs.Runs.{HOME, NEXT, PREV, RunsThrough, node_in, link_in, Line, put_before, with_next, with_prev, appended, inserted, unlinked}
+use Rattle.lmn_cells.proofs.LineLemmas.{keeps, link_other}
+use Rattle.lmn_cells.proofs.InsertLemmas.{length_put}
+use Rattle.lmn_cells.proofs.RunLemmas.{frame}
+use Rattle.lmn_web.specs.declared.kind.CellKind.{CellKind}
+use Rattle.lmn_web.specs.declared.kind.CellKind.TheVariants.{Atom, Membrane}
+use Rattle.lmn_web.specs.Kinds.{kind_by}
+use Rattle.lmn_web.specs.Webs.{list_in, list_link, count_number, number_in, ARITY, KIND, HIGH, LOW}
+use Rattle.lmn_web.specs.Indexes.{described, cell_kind, IsListed, IsWeb, IsClassed, IsClassedWeb}
+use Rattle.lmn_web.specs.Classes.{CLASS_NEXT, CLASS_PREV, CLASS_LAST, PEER, LEADERS, Rest, class_node, key_in, is_key, of_class, ArePeers, AreClassed, MayFile, MayEnter, MayLeave, OneClass, Touches, Filed, FiledAs, put_at}
+use Rattle.lmn_web.proofs.ListedLemmas.{same_lists, lists_same, cell_of}
+use Rattle.lmn_web.proofs.WebLemmas.{Told, told, made_web, made_lists, no_list}
+use Rattle.lmn_web.proofs.RelistLemmas.{Core, Relists, relists_web, in_none, new, new_lists, each, kind_is, there, m_there, core_of, back, core_rest}
+use Rattle.lmn_web.proofs.Reclassing.{in_filter}
+use Rattle.lmn_web.proofs.FilterLemmas.{filter_same, one_before, place_in}
+
+-- Classes stay
+
+-- where the links of its atoms to each other, and its own to the first class, are as they were
+module _ (f g : ℕ → Option HeldCell) (m : ℕ) (xs ls : List ℕ) (keys : (x : ℕ) → In x xs → key_in g x ≡ key_in f x) (links : (x k : ℕ) → In x xs → PREV < k → k < LEADERS → link_in g x k ≡ link_in f x k)
+    (stay : (x : ℕ) → In x xs → IsSome (f x) → IsSome (g x)) (head : link_in g m LEADERS ≡ link_in f m LEADERS) where
+  list_kept : (p : ℕ × ℕ) → of_class g p xs ≡ of_class f p xs
+  list_kept p = filter_same (λ a. is_key (key_in g a) p) (λ a. is_key (key_in f a) p) xs (λ x i. ap (λ q. is_key q p) (keys x i))
+
+  peers_kept : (first : Option ℕ) (ks : List ℕ) → ((k : ℕ) → In k ks → In k xs) → ArePeers f first ks → ArePeers g first ks
+  peers_kept first [] inside q = q
+  peers_kept first (k ∷ ks) inside q =
+      let i = inside k (inl refl) in
+      (q.0, stay k i q.1, subst (λ o. ArePeers g o ks) (sym (links k PEER i (omega arith) (omega arith))) (peers_kept (link_in f k PEER) ks (λ j o. inside j (inr o)) q.2))
+
+  -- a membrane keeps its classes
+  pub class_kept : AreClassed f m xs ls → AreClassed g m xs ls
+  class_kept c = record {
+    peers = subst (λ o. ArePeers g o ls) (sym head) (peers_kept (link_in f m LEADERS) ls c.inside c.peers);
+    once = c.once;
+    inside = c.inside;
+    apart = λ j k a b e. c.apart j k a b (sym (keys j (c.inside j a)) ∙ e ∙ keys k (c.inside k b));
+    every = λ x i. let o = c.every x i in (o.0, o.1, keys o.0 (c.inside o.0 o.1) ∙ o.2 ∙ sym (keys x i));
+    runs = λ l i. let q = key_in f l in let il = c.inside l i in
+        subst (λ r. RunsThrough (class_node g) None (Some l) (of_class g r xs) (link_in g l CLASS_LAST) None) (sym (keys l il))
+        (subst (λ us. RunsThrough (class_node g) None (Some l) us (link_in g l CLASS_LAST) None) (sym (list_kept q))
+        (subst (λ o. RunsThrough (class_node g) None (Some l) (of_class f q xs) o None) (sym (links l CLASS_LAST il (omega arith) (omega arith)))
+        (frame (class_node f) (class_node g) None (Some l) (of_class f q xs) (link_in f l CLASS_LAST) None
+        (each_of _ (of_class f q xs) (λ z j. let w = (in_filter (λ a. is_key (key_in f a) q) z xs j).0 in λ t. record { prev = links z CLASS_PREV w (omega arith) (omega arith) t; next = links z CLASS_NEXT w (omega arith) (omega arith) t })) (c.runs l i))));
+  }
+
+-- the classes of the lists that the cells tell
+pub classed_self : (f : ℕ → Option HeldCell) (ys : ℕ → CellKind → List ℕ) → IsListed f ys → IsClassed f ys → IsClassed f (list_in f)
+classed_self f ys l c = subst (λ (z : ℕ → CellKind → List ℕ). IsClassed f z) (sym (same_lists f ys l)) c
+
+-- a change that leaves links, classes and halves of labels
+pub classed_links : (f g : ℕ → Option HeldCell) (ys : ℕ → CellKind → List ℕ) → ((b k : ℕ) → link_in g b k ≡ link_in f b k) → ((b : ℕ) → key_in g b ≡ key_in f b) → ((b : ℕ) → number_in g b LOW ≡ number_in f b LOW) → ((b : ℕ) → cell_kind g b ≡ cell_kind f b)
+    → ((b : ℕ) → IsSome (f b) → IsSome (g b)) → IsClassed f ys → IsClassed g ys
+classed_links f g ys link key low kind stay c = record {
+  classes = λ m d. let o = c.classes m (λ e. d (kind m ∙ e)) in (o.0, class_kept f g m (ys m Atom) o.0 (λ x i. key x) (λ x k i a b. link x k) (λ x i t. stay x t) (link m LEADERS) o.1);
+  low = λ b. subst (λ n. n < 2 ^ 64) (sym (low b)) (c.low b);
+}
+
+-- one of ports and marks does
+pub classed_told : (f g : ℕ → Option HeldCell) (ys : ℕ → CellKind → List ℕ) → ((b : ℕ) → told (g b) ≡ told (f b)) → IsClassed f ys → IsClassed g ys
+classed_told f g ys same c = classed_links f g ys (λ b k. ap (λ (t : Told). get_or t.listing.links k None) (same b)) (λ b t. ((same b t).high, (same b t).arity)) (λ b. ap (λ (t : Told). t.low) (same b))
+    (λ b. ap (λ (t : Told). kind_by t.listing.kind) (same b)) (λ b t. ap (λ (t : Told). t.listing.there) (same b) ∙ t) c
+
+-- so it leaves a web
+pub same_classed : (f g : ℕ → Option HeldCell) (all : List ℕ) → IsClassedWeb f all → ((b : ℕ) → told (g b) ≡ told (f b)) → IsWeb g all → IsClassedWeb g all
+same_classed f g all w same v = record {
+  web = v;
+  classed = classed_self g (list_in f) (lists_same f g (λ b. ap (λ (t : Told). t.listing) (same b)) (list_in f) w.web.listed) (classed_told f g (list_in f) same w.classed);
+}
+
+-- a cell comes or goes that stands in no list, has none, and has no class
+pub classed_beside : (f g : ℕ → Option HeldCell) (a : ℕ) (ys : ℕ → CellKind → List ℕ) → ((b : ℕ) → b ≢ a → g b ≡ f b) → ((m : ℕ) (k : CellKind) → In a (ys m k) → ⊥) → ((k : CellKind) → ys a k ≡ []) → link_in g a LEADERS ≡ None → number_in g a LOW < 2 ^ 64
+    → IsClassed f ys → IsClassed g ys
+classed_beside f g a ys away out none head small c = record {
+  classes = λ m d. elim (cases_eq m a) [
+    | inl e ↦ ([], subst (λ z. AreClassed g z (ys z Atom) []) (sym e) (subst (λ us. AreClassed g a us []) (sym (none Atom)) bare))
+    | inr n ↦ (let o = c.classes m (λ e. d (ap (λ (o : Option HeldCell). kind_by (get_or (numbers_of o) KIND 0)) (away m n) ∙ e)) in
+        (o.0, class_kept f g m (ys m Atom) o.0
+            (λ x i t. (get_or (numbers_of (other m x i t)) HIGH 0, get_or (numbers_of (other m x i t)) ARITY 0))
+            (λ x k i _ _. ap (λ (o : Option HeldCell). get_or (links_of o) k None) (other m x i))
+            (λ x i t. subst (λ (o : Option HeldCell). IsSome o) (sym (other m x i)) t)
+            (ap (λ (o : Option HeldCell). get_or (links_of o) LEADERS None) (away m n)) o.1))
+  ];
+  low = λ b. elim (cases_eq b a) [
+    | inl e ↦ subst (λ z. number_in g z LOW < 2 ^ 64) (sym e) small
+    | inr n ↦ subst (λ (o : Option HeldCell). get_or (numbers_of o) LOW 0 < 2 ^ 64) (sym (away b n)) (c.low b)
+  ];
+}
+  where
+    other : (m x : ℕ) → In x (ys m Atom) → g x ≡ f x
+    other m x i = away x (λ e. out m Atom (subst (λ u. In u (ys m Atom)) e i))
+
+    bare : AreClassed g a [] []
+    bare = record { peers = head; once = tt; inside = λ l i. i; apart = λ j k p q e. absurd p; every = λ x i. absurd i; runs = λ l i. absurd i }
+
+-- no cell, no class
+pub empty_classed : (f : ℕ → Option HeldCell) (all : List ℕ) → f ≡ (λ _. None) → IsWeb f all → IsClassedWeb f all
+empty_classed f all none w = record {
+  web = w;
+  classed = subst (λ (g : ℕ → Option HeldCell). IsClassed g (list_in g)) (sym none) record { classes = λ m d. absurd (d refl); low = λ b. omega arith };
+}
+
+-- a new cell has no class
+pub made_classed : (f : ℕ → Option HeldCell) (all : List ℕ) → IsClassedWeb f all → (a n k h low : ℕ) → f a ≡ None → n < 256 → low < 2 ^ 64
+    → IsClassedWeb (alter f a (λ _. Some (described (length all) n k h low (blank_cell n)))) (all ++ a ∷ [])
+made_classed f all w a n k h low fresh small half =
+    let v : HeldCell = described (length all) n k h low (blank_cell n) in let g = alter f a (λ _. Some v) in
+    let here : g a ≡ Some v = alter_at f a (λ _. Some v) in
+    let gone : IsSome (f a) → ⊥ = λ t. (let e = subst (λ (o : Option HeldCell). IsSome o) fresh t in absurd cc) in
+    record {
+      web = made_web f all w.web a n k h low fresh small;
+      classed = classed_self g (list_in f) (made_lists f all w.web a n k h low fresh small)
+          (classed_beside f g a (list_in f) (λ b d. alter_away f a (λ _. Some v) b d) (λ m j i. gone (cell_of f (list_in f) w.web.listed m a j i).0) (no_list f all w.web a n k h low fresh small)
+          (ap (λ (o : Option HeldCell). get_or (links_of o) LEADERS None) here) (subst (λ z. z < 2 ^ 64) (sym (ap (λ (o : Option HeldCell). get_or (numbers_of o) LOW 0) here)) half) w.classed);
+    }
+
+-- What the steps of lists leave
+
+-- all links behind those of lists but of the membrane, and its own to the first class
+abbrev pub Leaves : (ℕ → Option HeldCell) → (ℕ → Option HeldCell) → ℕ → Type 0
+Leaves f g m = (b k : ℕ) → PREV < k → (b ≡ m → k ≡ LEADERS) → link_in g b k ≡ link_in f b k
+
+own_end : (f : ℕ → Option HeldCell) (m e : ℕ) (v : Option ℕ) → e < LEADERS → Leaves f (alter f m (option_map (with_link e v))) m
+own_end f m e v low b k d a = link_other f m e v b k (λ s z. let l = a z in absurd (omega (arith, s, l, low)))
+
+list_link_left : (f : ℕ → Option HeldCell) (q j : ℕ) (v : Option ℕ) (m : ℕ) → j ≤ PREV → Leaves f (alter f q (option_map (with_link j v))) m
+list_link_left f q j v m low b k d a = link_other f q j v b k (λ s _. absurd (omega (arith, s, d, low)))
+
+next_left : (f : ℕ → Option HeldCell) (m e : ℕ) (p n : Option ℕ) → e < LEADERS → Leaves f (with_next f m e p n) m
+next_left f m e None n low = own_end f m e n low
+next_left f m e (Some q) n low = list_link_left f q NEXT n m (omega arith)
+
+prev_left : (f : ℕ → Option HeldCell) (m e : ℕ) (n p : Option ℕ) → e + 1 < LEADERS → Leaves f (with_prev f m e n p) m
+prev_left f m e None p low = own_end f m (e + 1) p low
+prev_left f m e (Some q) p low = list_link_left f q PREV p m (omega arith)
+
+-- one more cell at the end
+appended_left : (f : ℕ → Option HeldCell) (m e x : ℕ) → e + 1 < LEADERS → Leaves f (appended f m e x) m
+appended_left f m e x low b k d a =
+    let p = link_in f m (e + 1) in let a1 = alter f x (option_map (with_link HOME (Some m))) in let a2 = alter a1 x (option_map (with_link PREV p)) in let a3 = alter a2 x (option_map (with_link NEXT None)) in
+    own_end (with_next a3 m e p (Some x)) m (e + 1) (Some x) low b k d a ∙ next_left a3 m e p (Some x) (omega (arith, low)) b k d a
+    ∙ list_link_left a2 x NEXT None m (omega arith) b k d a ∙ list_link_left a1 x PREV p m (omega arith) b k d a ∙ list_link_left f x HOME (Some m) m (omega arith) b k d a
+
+-- or before another
+inserted_left : (f : ℕ → Option HeldCell) (m e z x : ℕ) → e + 1 < LEADERS → Leaves f (inserted f m e z x) m
+inserted_left f m e z x low b k d a =
+    let p = link_in f z PREV in let a1 = alter f x (option_map (with_link HOME (Some m))) in let a2 = alter a1 x (option_map (with_link PREV p)) in let a3 = alter a2 x (option_map (with_link NEXT (Some z))) in
+    list_link_left (with_next a3 m e p (Some x)) z PREV (Some x) m (omega arith) b k d a ∙ next_left a3 m e p (Some x) (omega (arith, low)) b k d a
+    ∙ list_link_left a2 x NEXT (Some z) m (omega arith) b k d a ∙ list_link_left a1 x PREV p m (omega arith) b k d a ∙ list_link_left f x HOME (Some m) m (omega arith) b k d a
+
+-- one less
+unlinked_left : (f : ℕ → Option HeldCell) (m e x : ℕ) → e + 1 < LEADERS → Leaves f (unlinked f m e x) m
+unlinked_left f m e x low b k d a =
+    let p = link_in f x PREV in let n = link_in f x NEXT in let f1 = with_next f m e p n in
+    list_link_left (with_prev f1 m e n p) x HOME None m (omega arith) b k d a ∙ prev_left f1 m e n p low b k d a ∙ next_left f m e p n (omega (arith, low)) b k d a
+
+-- a number leaves all links
+number_left : (f : ℕ → Option HeldCell) (m q n b k : ℕ) → link_in (alter f m (option_map (with_number q n))) b k ≡ link_in f b k
+number_left f m q n b k = keeps (λ o. get_or (links_of o) k None) f m (with_number q n) by b
+  where
+    by : (o : Option HeldCell) → get_or (links_of (option_map (with_number q n) o)) k None ≡ get_or (links_of o) k None
+    by None = refl
+    by (Some c) = refl
+
+-- the ends of a list come before the link to the first class
+pub link_low : (k : CellKind) → list_link k + 1 < LEADERS
+link_low Atom = omega arith
+link_low Membrane = omega arith
+
+counted_left : (f F g : ℕ → Option HeldCell) (m q n : ℕ) → g ≡ alter F m (option_map (with_number q n)) → Leaves f F m → Leaves f g m
+counted_left f F g m q n e l b k d a = ap (λ (u : ℕ → Option HeldCell). link_in u b k) e ∙ number_left F m q n b k ∙ l b k d a
+
+-- what a cell at the end leaves
+pub appends_left : (f F g : ℕ → Option HeldCell) (m e x q n : ℕ) (k : CellKind) → e ≡ list_link k → F ≡ appended f m e x → g ≡ alter F m (option_map (with_number q n)) → Leaves f g m
+appends_left f F g m e x q n k at is told = counted_left f F g m q n told (subst (λ (u : ℕ → Option HeldCell). Leaves f u m) (sym is) (appended_left f m e x (subst (λ j. j + 1 < LEADERS) (sym at) (link_low k))))
+
+-- one before another
+pub inserts_left : (f F g : ℕ → Option HeldCell) (m e z x q n : ℕ) (k : CellKind) → e ≡ list_link k → F ≡ inserted f m e z x → g ≡ alter F m (option_map (with_number q n)) → Leaves f g m
+inserts_left f F g m e z x q n k at is told = counted_left f F g m q n told (subst (λ (u : ℕ → Option HeldCell). Leaves f u m) (sym is) (inserted_left f m e z x (subst (λ j. j + 1 < LEADERS) (sym at) (link_low k))))
+
+-- and one that leaves
+pub unlinks_left : (f F g : ℕ → Option HeldCell) (m e x q n : ℕ) (k : CellKind) → e ≡ list_link k → F ≡ unlinked f m e x → g ≡ alter F m (option_map (with_number q n)) → Leaves f g m
+unlinks_left f F g m e x q n k at is told = counted_left f F g m q n told (subst (λ (u : ℕ → Option HeldCell). Leaves f u m) (sym is) (unlinked_left f m e x (subst (λ j. j + 1 < LEADERS) (sym at) (link_low k))))
+
+-- A list changes, and then its classes
+
+abbrev key_by_core : Option Core → ℕ × ℕ
+key_by_core None = (0, 0)
+key_by_core (Some q) = (q.high, q.arity)
+
+key_core : (o : Option HeldCell) → (get_or (numbers_of o) HIGH 0, get_or (numbers_of o) ARITY 0) ≡ key_by_core (core_of o)
+key_core None = refl
+key_core (Some c) = refl
+
+abbrev low_by_core : Option Core → ℕ
+low_by_core None = 0
+low_by_core (Some q) = q.low
+
+low_core : (o : Option HeldCell) → get_or (numbers_of o) LOW 0 ≡ low_by_core (core_of o)
+low_core None = refl
+low_core (Some c) = refl
+
+module _ (f F : ℕ → Option HeldCell) (all : List ℕ) (w : IsClassedWeb f all) (m x : ℕ) (h : Option ℕ) (xs : List ℕ) (r : Relists f F (list_in f) m x h xs) (leaves : Leaves f F m) where
+  abbrev own : List ℕ
+  own = list_in f m (cell_kind f x)
+
+  abbrev lists : ℕ → CellKind → List ℕ
+  lists = new f F (list_in f) w.web.listed m x h xs r
+
+  -- a cell of a list of atoms is one, and not the membrane
+  atom_of : (n z : ℕ) → In z (list_in f n Atom) → cell_kind f z ≡ Atom
+  atom_of n z i = w.web.listed.kinds n z Atom i
+
+  no_m : (n z : ℕ) → In z (list_in f n Atom) → z ≡ m → ⊥
+  no_m n z i e = r.membrane (ap (cell_kind f) (sym e) ∙ atom_of n z i)
+
+  -- a cell keeps its class
+  pub key_still : (b : ℕ) → key_in F b ≡ key_in f b
+  key_still b = key_core (F b) ∙ ap key_by_core (r.cores b) ∙ sym (key_core (f b))
+
+  low_still : (b : ℕ) → number_in F b LOW ≡ number_in f b LOW
+  low_still b = low_core (F b) ∙ ap low_by_core (r.cores b) ∙ sym (low_core (f b))
+
+  -- the lists as they were have their classes
+  pub still_classed : (n : ℕ) → (cell_kind f n ≡ Atom → ⊥) → (ls : List ℕ) × AreClassed F n (list_in f n Atom) ls
+  still_classed n d =
+      let o = w.classed.classes n d in
+      (o.0, class_kept f F n (list_in f n Atom) o.0 (λ z i. key_still z) (λ z k i a b. leaves z k a (λ e. absurd (no_m n z i e))) (λ z i t. there f F (list_in f) w.web.listed m x h xs r z t) (leaves n LEADERS (omega arith) (λ _. refl)) o.1)
+
+  -- the first atoms of its classes
+  abbrev pub leaders : List ℕ
+  leaders = (still_classed m r.membrane).0
+
+  -- an atom may be filed
+  may_file : cell_kind f x ≡ Atom → IsSome (f x) → length own ≤ length xs + 1 → MayFile F m x own leaders
+  may_file atom t long =
+      let o = still_classed m r.membrane in let l = w.web.listed.line m Atom r.membrane in
+      let stay : (z : ℕ) → IsSome (f z) → IsSome (F z) = λ z s. there f F (list_in f) w.web.listed m x h xs r z s in
+      let count : number_in F m (count_number Atom) ≡ length xs = subst (λ k. number_in F m (count_number k) ≡ length xs) atom r.count_at in
+      let few = not_longer o.0 (list_in f m Atom) o.1.once o.1.inside in
+      let within : length (list_in f m Atom) ≤ length xs + 1 = subst (λ k. length (list_in f m k) ≤ length xs + 1) atom long in
+      subst (λ k. MayFile F m x (list_in f m k) leaders) (sym atom) record {
+        classed = o.1;
+        once = l.once;
+        alive = λ z i. stay z (cell_of f (list_in f) w.web.listed m z Atom i).0;
+        short = omega (arith, few, within, count);
+        there_m = stay m (m_there f F (list_in f) w.web.listed m x h xs r);
+        there_c = stay x t;
+        no_m = λ i. no_m m m i refl;
+        not_m = r.differ;
+      }
+
+  -- an atom that came into a list may be filed in its class
+  pub may_enter : (place : Option ℕ) → cell_kind f x ≡ Atom → IsSome (f x) → length own ≤ length xs + 1 → (In x own → ⊥) → ((d : ℕ) → place ≡ Some d → In d own × (key_in F d ≡ key_in F x)) → OneClass F (key_in F x) own (put_at x place (of_class F (key_in F x) own)) xs
+      → MayEnter F m x place own leaders xs
+  may_enter place atom t long fresh inside one = record { may = may_file atom t long; fresh = fresh; inside = inside; one = one }
+
+  -- and one that left may leave its class
+  pub may_leave : cell_kind f x ≡ Atom → IsSome (f x) → length own ≤ length xs + 1 → In x own → OneClass F (key_in F x) own (without x (of_class F (key_in F x) own)) xs → MayLeave F m x own leaders xs
+  may_leave atom t long inside one = record { may = may_file atom t long; inside = inside; one = one }
+
+  -- the classes of a list are as they were
+  pub class_still : (p : ℕ × ℕ) (us : List ℕ) → of_class F p us ≡ of_class f p us
+  class_still p us = filter_same (λ a. is_key (key_in F a) p) (λ a. is_key (key_in f a) p) us (λ z i. ap (λ q. is_key q p) (key_still z))
+
+  -- one that came before another, by the first of its class from there on
+  pub may_before : (a : ℕ) (place : Option ℕ) → put_before x a own ≡ xs → cell_kind f x ≡ Atom → IsSome (f x) → link_in f x HOME ≡ None → In a own
+      → from place (of_class f (key_in f x) (list_in f m Atom)) ≡ of_class f (key_in f x) (from (Some a) (list_in f m Atom)) → MayEnter F m x place own leaders xs
+  may_before a place is atom t free i found =
+      let k = cell_kind f x in let q = key_in f x in
+      let found_own : from place (of_class f q own) ≡ of_class f q (from (Some a) own) = subst (λ j. from place (of_class f q (list_in f m j)) ≡ of_class f q (from (Some a) (list_in f m j))) (sym atom) found in
+      let still : (us : List ℕ) → of_class F (key_in F x) us ≡ of_class f q us = λ us. class_still (key_in F x) us ∙ ap (λ p. of_class f p us) (key_still x) in
+      let found_then : from place (of_class F (key_in F x) own) ≡ of_class F (key_in F x) (from (Some a) own) = ap (from place) (still own) ∙ found_own ∙ sym (still (from (Some a) own)) in
+      let once : Distinct own = subst (λ j. Distinct (list_in f m j)) (sym atom) (w.web.listed.line m Atom r.membrane).once in
+      may_enter place atom t (let e = length_put x a own i in let g = ap (λ (us : List ℕ). length us) is in omega (arith, e, g)) (in_none f (list_in f) w.web.listed x free m k)
+      (λ d s. let n = place_in f q a place own i found_own d s in (n.0, key_still d ∙ n.1 ∙ sym (key_still x)))
+      (subst (λ us. OneClass F (key_in F x) own (put_at x place (of_class F (key_in F x) own)) us) is (one_before F x a place own once i found_then))
+
+  module _ (G : ℕ → Option HeldCell) (zs : List ℕ) (p : ℕ × ℕ) (t : Touches F G m zs p) (atoms : (z : ℕ) → In z zs → cell_kind F z ≡ Atom) where
+    link_stays : (n e : ℕ) → (cell_kind f n ≡ Atom → ⊥) → (n ≡ m → e ≢ LEADERS) → link_in G n e ≡ link_in F n e
+    link_stays n e d c = t.away n e (λ i. d (sym (kind_is f F (list_in f) w.web.listed m x h xs r n) ∙ atoms n i)) c
+
+    line_stays : (n : ℕ) (k : CellKind) (us : List ℕ) → (cell_kind f n ≡ Atom → ⊥) → Line F n (list_link k) us → Line G n (list_link k) us
+    line_stays n k us d l = record {
+      runs = subst (λ o. RunsThrough (node_in G) None o us (link_in G n (list_link k + 1)) None) (sym (link_stays n (list_link k) d (λ _ e. let b = link_low k in absurd (omega (arith, e, b)))))
+          (subst (λ o. RunsThrough (node_in G) None (link_in F n (list_link k)) us o None) (sym (link_stays n (list_link k + 1) d (λ _ e. let b = link_low k in absurd (omega (arith, e, b)))))
+          (frame (node_in F) (node_in G) None (link_in F n (list_link k)) us (link_in F n (list_link k + 1)) None
+          (each_of _ us (λ z i u. record { prev = t.links z PREV (omega arith) u; next = t.links z NEXT (omega arith) u })) l.runs));
+      cells = each_of _ us (λ z i. let c = each_in (λ y. IsSome (F y) × (y ≢ n) × (link_in F y HOME ≡ Some n)) us z l.cells i in
+          (ap (λ (u : Rest). u.there) (t.rests z) ∙ c.0, c.1, t.links z HOME (omega arith) ∙ c.2));
+      once = l.once;
+    }
+
+    -- filing leaves the lists
+    touched_relists : Relists f G (list_in f) m x h xs
+    touched_relists = record {
+      cores = λ b. core_rest (G b) ∙ ap back (t.rests b) ∙ sym (core_rest (F b)) ∙ r.cores b;
+      differ = r.differ;
+      membrane = r.membrane;
+      home_at = t.links x HOME (omega arith) ∙ r.home_at;
+      home_away = λ b d. t.links b HOME (omega arith) ∙ r.home_away b d;
+      count_at = ap (λ (u : Rest). get_or u.numbers (count_number (cell_kind f x)) 0) (t.rests m) ∙ r.count_at;
+      count_away = λ n j d. ap (λ (u : Rest). get_or u.numbers (count_number j) 0) (t.rests n) ∙ r.count_away n j d;
+      line = line_stays m (cell_kind f x) xs r.membrane r.line;
+      others = λ n j c d. line_stays n j (list_in f n j) c (r.others n j c d);
+      was = r.was;
+      stays = r.stays;
+      comes = r.comes;
+    }
+
+    -- and the classes of all other membranes
+    others_classed : (n : ℕ) → n ≢ m → (cell_kind f n ≡ Atom → ⊥) → ((z : ℕ) → In z (list_in f n Atom) → In z zs → ⊥) → (ls : List ℕ) × AreClassed G n (list_in f n Atom) ls
+    others_classed n d c apart =
+        let o = still_classed n c in
+        (o.0, class_kept F G n (list_in f n Atom) o.0 (λ z i u. (get_or (t.rests z u).numbers HIGH 0, get_or (t.rests z u).numbers ARITY 0)) (λ z k i a b. t.away z k (apart z i) (λ e. absurd (no_m n z i e)))
+            (λ z i s. ap (λ (u : Rest). u.there) (t.rests z) ∙ s) (link_stays n LEADERS c (λ e. absurd (d e))) o.1)
+
+    low_touched : (b : ℕ) → number_in G b LOW < 2 ^ 64
+    low_touched b = subst (λ n. n < 2 ^ 64) (sym (ap (λ (u : Rest). get_or u.numbers LOW 0) (t.rests b) ∙ low_still b)) (w.classed.low b)
+
+  -- a change of a list of membranes leaves all classes
+  membrane_classed : cell_kind f x ≡ Membrane → IsClassed F lists
+  membrane_classed e = record {
+    classes = λ n d. each f F (list_in f) w.web.listed m x h xs r (λ n j us. j ≡ Atom → (cell_kind F n ≡ Atom → ⊥) → (ls : List ℕ) × AreClassed F n us ls)
+        (λ s. absurd (let z : Atom ≡ Membrane = sym s ∙ e in cc)) (λ n j _ s c. subst (λ i. (ls : List ℕ) × AreClassed F n (list_in f n i) ls) (sym s) (still_classed n (λ a. c (kind_is f F (list_in f) w.web.listed m x h xs r n ∙ a)))) n Atom refl d;
+    low = λ b. subst (λ n. n < 2 ^ 64) (sym (low_still b)) (w.classed.low b);
+  }
+
+  -- one of a list of atoms and then of its classes
+  atom_classed : (G : ℕ → Option HeldCell) (zs : List ℕ) (p : ℕ × ℕ) → cell_kind f x ≡ Atom → (filed : Filed F G m zs p xs) → (atoms : (z : ℕ) → In z zs → cell_kind F z ≡ Atom) → ((n z : ℕ) → n ≢ m → In z (list_in f n Atom) → In z zs → ⊥)
+      → IsClassed G lists
+  atom_classed G zs p e filed atoms apart = record {
+    classes = λ n d. each f F (list_in f) w.web.listed m x h xs r (λ n j us. j ≡ Atom → (cell_kind F n ≡ Atom → ⊥) → (ls : List ℕ) × AreClassed G n us ls)
+        (λ s c. (filed.leaders, filed.classed)) (λ n j away s c. subst (λ i. (ls : List ℕ) × AreClassed G n (list_in f n i) ls) (sym s)
+        (let other : n ≢ m = λ q. away q (s ∙ sym e) in
+        others_classed G zs p filed.touches atoms n other (λ a. c (kind_is f F (list_in f) w.web.listed m x h xs r n ∙ a)) (λ z i k. apart n z other i k))) n Atom refl
+        (λ a. d (ap (λ (u : Rest). kind_by (get_or u.numbers KIND 0)) (filed.touches.rests n) ∙ a));
+    low = low_touched G zs p filed.touches atoms;
+  }
+
+  module _ (G : ℕ → Option HeldCell) (zs : List ℕ) (p : ℕ × ℕ) (atoms : cell_kind f x ≡ Atom → (z : ℕ) → In z zs → cell_kind F z ≡ Atom) (apart : cell_kind f x ≡ Atom → (n z : ℕ) → n ≢ m → In z (list_in f n Atom) → In z zs → ⊥) where
+    -- the list is another
+    filed_relists : (k : CellKind) → k ≡ cell_kind f x → FiledAs k F G m zs p xs → Relists f G (list_in f) m x h xs
+    filed_relists Atom e filed = touched_relists G zs p filed.touches (atoms (sym e))
+    filed_relists Membrane e same = subst (λ (u : ℕ → Option HeldCell). Relists f u (list_in f) m x h xs) (sym same) r
+
+    filed_lists : (k : CellKind) → k ≡ cell_kind f x → FiledAs k F G m zs p xs → IsClassed G lists
+    filed_lists Atom e filed = atom_classed G zs p (sym e) filed (atoms (sym e)) (apart (sym e))
+    filed_lists Membrane e same = subst (λ (u : ℕ → Option HeldCell). IsClassed u lists) (sym same) (membrane_classed (sym e))
+
+    -- and its classes follow
+    filed_web : (k : CellKind) → k ≡ cell_kind f x → FiledAs k F G m zs p xs → IsClassedWeb G all
+    filed_web k e filed =
+        let v = filed_relists k e filed in
+        record {
+          web = relists_web f G all w.web m x h xs v;
+          classed = classed_self G lists (new_lists f G (list_in f) w.web.listed m x h xs v) (filed_lists k e filed);
+        }
+
+  -- The three calls
+
+  own_atom : cell_kind f x ≡ Atom → (z : ℕ) → In z own → cell_kind F z ≡ Atom
+  own_atom e z i = kind_is f F (list_in f) w.web.listed m x h xs r z ∙ w.web.listed.kinds m z (cell_kind f x) i ∙ e
+
+  own_apart : (n z : ℕ) → n ≢ m → In z (list_in f n Atom) → In z own → ⊥
+  own_apart n z d i k =
+      let a = cell_of f (list_in f) w.web.listed n z Atom i in let b = cell_of f (list_in f) w.web.listed m z (cell_kind f x) k in
+      let e : Some n ≡ Some m = sym a.2 ∙ b.2 in d (let q : n ≡ m = cc in q)
+
+  more_atoms : cell_kind f x ≡ Atom → (z : ℕ) → In z (x ∷ own) → cell_kind F z ≡ Atom
+  more_atoms e z (inl s) = ap (cell_kind F) (sym s) ∙ kind_is f F (list_in f) w.web.listed m x h xs r x ∙ e
+  more_atoms e z (inr i) = own_atom e z i
+
+  more_apart : link_in f x HOME ≡ None → (n z : ℕ) → n ≢ m → In z (list_in f n Atom) → In z (x ∷ own) → ⊥
+  more_apart free n z d i (inl s) = in_none f (list_in f) w.web.listed x free n Atom (subst (λ u. In u (list_in f n Atom)) (sym s) i)
+  more_apart free n z d i (inr k) = own_apart n z d i k
+
+  -- a cell that came into a list and its class leaves a web
+  pub entered_web : (G : ℕ → Option HeldCell) (k : CellKind) (p : ℕ × ℕ) → k ≡ cell_kind f x → link_in f x HOME ≡ None → FiledAs k F G m (x ∷ own) p xs → IsClassedWeb G all
+  entered_web G k p e free filed = filed_web G (x ∷ own) p more_atoms (λ _. more_apart free) k e filed
+
+  -- in which the list is another
+  pub entered_list : (G : ℕ → Option HeldCell) (k : CellKind) (p : ℕ × ℕ) → k ≡ cell_kind f x → link_in f x HOME ≡ None → FiledAs k F G m (x ∷ own) p xs → Relists f G (list_in f) m x h xs
+  entered_list G k p e free filed = filed_relists G (x ∷ own) p more_atoms (λ _. more_apart free) k e filed
+
+  -- so does one that left both
+  pub left_web : (G : ℕ → Option HeldCell) (k : CellKind) (p : ℕ × ℕ) → k ≡ cell_kind f x → FiledAs k F G m own p xs → IsClassedWeb G all
+  left_web G k p e filed = filed_web G own p own_atom (λ _. own_apart) k e filed
+
+  -- and the list is another
+  pub left_list : (G : ℕ → Option HeldCell) (k : CellKind) (p : ℕ × ℕ) → k ≡ cell_kind f x → FiledAs k F G m own p xs → Relists f G (list_in f) m x h xs
+  left_list G k p e filed = filed_relists G own p own_atom (λ _. own_apart) k e filed
