@@ -85,12 +85,14 @@ pub classed_beside : (f g : ℕ → Option HeldCell) (a : ℕ) (ys : ℕ → Cel
 classed_beside f g a ys away out none head small c = record {
   classes = λ m d. elim (cases_eq m a) [
     | inl e ↦ ([], subst (λ z. AreClassed g z (ys z Atom) []) (sym e) (subst (λ us. AreClassed g a us []) (sym (none Atom)) bare))
-    | inr n ↦ (let o = c.classes m (λ e. d (ap (λ (o : Option HeldCell). kind_by (get_or (numbers_of o) KIND 0)) (away m n) ∙ e)) in
-        (o.0, class_kept f g m (ys m Atom) o.0
-            (λ x i t. (get_or (numbers_of (other m x i t)) HIGH 0, get_or (numbers_of (other m x i t)) ARITY 0))
-            (λ x k i _ _. ap (λ (o : Option HeldCell). get_or (links_of o) k None) (other m x i))
-            (λ x i t. subst (λ (o : Option HeldCell). IsSome o) (sym (other m x i)) t)
-            (ap (λ (o : Option HeldCell). get_or (links_of o) LEADERS None) (away m n)) o.1))
+    | inr n ↦ (let o = c.classes m (λ e. d (ap (λ (o : Option HeldCell). kind_by (get_or (numbers_of o) KIND 0)) (away m n) ∙ e)) in (
+      o.0,
+      class_kept f g m (ys m Atom) o.0
+          (λ x i t. (get_or (numbers_of (other m x i t)) HIGH 0, get_or (numbers_of (other m x i t)) ARITY 0))
+          (λ x k i _ _. ap (λ (o : Option HeldCell). get_or (links_of o) k None) (other m x i))
+          (λ x i t. subst (λ (o : Option HeldCell). IsSome o) (sym (other m x i)) t)
+          (ap (λ (o : Option HeldCell). get_or (links_of o) LEADERS None) (away m n)) o.1,
+    ))
   ];
   low = λ b. elim (cases_eq b a) [
     | inl e ↦ subst (λ z. number_in g z LOW < 2 ^ 64) (sym e) small
@@ -322,9 +324,11 @@ module _ (f F : ℕ → Option HeldCell) (all : List ℕ) (w : IsClassedWeb f al
     -- and the classes of all other membranes
     others_classed : (n : ℕ) → n ≢ m → (cell_kind f n ≡ Atom → ⊥) → ((z : ℕ) → In z (list_in f n Atom) → In z zs → ⊥) → (ls : List ℕ) × AreClassed G n (list_in f n Atom) ls
     others_classed n d c apart =
-        let o = still_classed n c in
-        (o.0, class_kept F G n (list_in f n Atom) o.0 (λ z i u. (get_or (t.rests z u).numbers HIGH 0, get_or (t.rests z u).numbers ARITY 0)) (λ z k i a b. t.away z k (apart z i) (λ e. absurd (no_m n z i e)))
-            (λ z i s. ap (λ (u : Rest). u.there) (t.rests z) ∙ s) (link_stays n LEADERS c (λ e. absurd (d e))) o.1)
+        let o = still_classed n c in (
+          o.0,
+          class_kept F G n (list_in f n Atom) o.0 (λ z i u. (get_or (t.rests z u).numbers HIGH 0, get_or (t.rests z u).numbers ARITY 0)) (λ z k i a b. t.away z k (apart z i) (λ e. absurd (no_m n z i e)))
+              (λ z i s. ap (λ (u : Rest). u.there) (t.rests z) ∙ s) (link_stays n LEADERS c (λ e. absurd (d e))) o.1,
+        )
 
     low_touched : (b : ℕ) → number_in G b LOW < 2 ^ 64
     low_touched b = subst (λ n. n < 2 ^ 64) (sym (ap (λ (u : Rest). get_or u.numbers LOW 0) (t.rests b) ∙ low_still b)) (w.classed.low b)

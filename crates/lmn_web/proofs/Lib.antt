@@ -8,6 +8,7 @@ pub mod Reclassing
 pub mod ClassWrites
 pub mod FilterLemmas
 pub mod Filing
+pub mod ClassReads
 pub mod ClassRuns
 pub mod ClassSteps
 pub mod ExampleProofs

@@ -196,28 +196,33 @@ module _ (f g : ℕ → Option HeldCell) (a : ℕ) (ys : ℕ → CellKind → Li
 
 -- Reading a list
 
+-- where a run begins
+pub run_begins : (h : ℕ → Node) (before first : Option ℕ) (us : List ℕ) (last : Option ℕ) → RunsThrough h before first us last None → from first us ≡ us
+run_begins h before first [] last r = subst (λ o. from o [] ≡ []) (sym r.0) refl
+run_begins h before first (u ∷ us) last r = subst (λ o. from o (u ∷ us) ≡ u ∷ us) (sym r.0) front
+  where
+    front : u ∷ after u (u ∷ us) ≡ u ∷ us
+    front = rw (eq-eqb u u refl) refl
+
+-- what follows a cell of it
+pub run_goes_on : (h : ℕ → Node) (first last : Option ℕ) (x : ℕ) (xs : List ℕ) → RunsThrough h None first xs last None → Distinct xs → In x xs → from (h x).next xs ≡ after x xs
+run_goes_on h first last x xs run once i =
+    let s = in_split x xs i in
+    let behind : after x xs ≡ s.1 = ap (after x) s.2 ∙ after_split x s.0 s.1 (subst Distinct s.2 once) in
+    let r = split h None first s.0 (x ∷ s.1) last None (subst (λ us. RunsThrough h None first us last None) s.2 run) in
+    next (h x).next s.1 last behind r.3.2
+  where
+    next : (o : Option ℕ) (zs : List ℕ) (end : Option ℕ) → after x xs ≡ zs → RunsThrough h (Some x) o zs end None → from o xs ≡ after x xs
+    next o [] end b r = subst (λ p. from p xs ≡ after x xs) (sym r.0) (sym b)
+    next o (z ∷ zs) end b r = subst (λ p. from p xs ≡ after x xs) (sym r.0) (from_next x z xs zs once b)
+
 -- where a list begins
 pub begins_list : (f : ℕ → Option HeldCell) (m e : ℕ) (xs : List ℕ) → Line f m e xs → from (link_in f m e) xs ≡ xs
-begins_list f m e xs l = start (node_in f) None (link_in f m e) xs (link_in f m (e + 1)) l.runs
-  where
-    front : (x : ℕ) (ys : List ℕ) → x ∷ after x (x ∷ ys) ≡ x ∷ ys
-    front x ys = rw (eq-eqb x x refl) refl
-
-    start : (h : ℕ → Node) (before first : Option ℕ) (us : List ℕ) (last : Option ℕ) → RunsThrough h before first us last None → from first us ≡ us
-    start h before first [] last r = subst (λ o. from o [] ≡ []) (sym r.0) refl
-    start h before first (u ∷ us) last r = subst (λ o. from o (u ∷ us) ≡ u ∷ us) (sym r.0) (front u us)
+begins_list f m e xs l = run_begins (node_in f) None (link_in f m e) xs (link_in f m (e + 1)) l.runs
 
 -- what follows a cell of it
 pub goes_on : (f : ℕ → Option HeldCell) (m e x : ℕ) (xs : List ℕ) → Line f m e xs → In x xs → from (link_in f x NEXT) xs ≡ after x xs
-goes_on f m e x xs l i =
-    let s = in_split x xs i in
-    let behind : after x xs ≡ s.1 = ap (after x) s.2 ∙ after_split x s.0 s.1 (subst Distinct s.2 l.once) in
-    let r = split (node_in f) None (link_in f m e) s.0 (x ∷ s.1) (link_in f m (e + 1)) None (subst (λ us. RunsThrough (node_in f) None (link_in f m e) us (link_in f m (e + 1)) None) s.2 l.runs) in
-    next (link_in f x NEXT) s.1 (link_in f m (e + 1)) behind r.3.2
-  where
-    next : (o : Option ℕ) (zs : List ℕ) (last : Option ℕ) → after x xs ≡ zs → RunsThrough (node_in f) (Some x) o zs last None → from o xs ≡ after x xs
-    next o [] last b r = subst (λ p. from p xs ≡ after x xs) (sym r.0) (sym b)
-    next o (z ∷ zs) last b r = subst (λ p. from p xs ≡ after x xs) (sym r.0) (from_next x z xs zs l.once b)
+goes_on f m e x xs l i = run_goes_on (node_in f) (link_in f m e) (link_in f m (e + 1)) x xs l.runs l.once i
 
 -- the first of a list is in it
 pub from_in : (o : Option ℕ) (xs : List ℕ) → from o xs ≡ xs → (q : ℕ) → o ≡ Some q → In q xs

@@ -1,13 +1,14 @@
 -- The atoms of a list that have one label.
-use Rattle.std.proofs.Common.{◌≡◌, ◌==◌, ◌&&◌, ◌<◌, ℕ, length, subst, arith, Bool, true, false, cond, List, [], ◌∷◌, Option, Some, None, IfSome, IsSome, refl, sym, ap, ◌∙◌}
+use Rattle.std.proofs.Common.{◌≡◌, ◌==◌, ◌&&◌, ◌<◌, ℕ, length, subst, arith, Bool, true, false, cond, List, [], ◌∷◌, Option, Some, None, IfSome, IsSome, refl, sym, ap, ◌∙◌, inl, inr}
 use Rattle.std.proofs.lemmas.Bool.{eq-eqb, eqb-true}
 use Rattle.std.specs.Option.{option_map}
 use Rattle.std.specs.List.{filter}
 use Rattle.std.specs.Prelude.{unwrap_or}
 use Rattle.lmn_base.specs.Lists.{In}
+use Rattle.lmn_base.proofs.Truth.{and_true, bool_cases}
 use Rattle.lmn_heap.specs.Lists.{from, after}
 use Rattle.lmn_heap.proofs.Trees.{next_in}
-use Rattle.lmn_web.specs.Webs.{WebCell, home_at, home_of, web_label, arity_at, is_labelled}
+use Rattle.lmn_web.specs.Webs.{WebCell, home_at, home_of, web_label, arity_at, is_labelled, with_label, class_of, is_classed, with_class}
 
 -- what stands behind an element that passes the test, of those that pass
 pub filter_after : (test : ℕ → Bool) (a : ℕ) (xs : List ℕ) → test a ≡ true → after a (filter test xs) ≡ filter test (after a xs)
@@ -33,6 +34,38 @@ filter_on test a xs next e n = ap (filter test) n ∙ sym (ap (λ b. cond b (a �
 pub label_here : (w : ℕ → Option WebCell) (a label n : ℕ) → web_label w a ≡ Some label → n ≡ arity_at w a → is_labelled w label n a ≡ true
 label_here w a label n l e = (λ t. unwrap_or (option_map (λ z. z == label) (l t)) false && (sym e t == n)) ∙ rw (eq-eqb label label refl) (eq-eqb n n refl)
 
+-- one that is of a class
+pub class_here : (w : ℕ → Option WebCell) (a class n : ℕ) → is_classed w class n a ≡ true → (l : ℕ) × (web_label w a ≡ Some l) × (class_of l ≡ class) × (arity_at w a ≡ n)
+class_here w a class n e = let both = and_true (unwrap_or (option_map (λ k. class_of k == class) (web_label w a)) false) (arity_at w a == n) e in by (web_label w a) both.0 (eqb-true (arity_at w a) n both.1)
+  where
+    by : (o : Option ℕ) → unwrap_or (option_map (λ k. class_of k == class) o) false ≡ true → arity_at w a ≡ n → (l : ℕ) × (o ≡ Some l) × (class_of l ≡ class) × (arity_at w a ≡ n)
+    by None t s = absurd cc
+    by (Some l) t s = (l, refl, eqb-true (class_of l) class t, s)
+
+-- a label is of its class
+label_class : (w : ℕ → Option WebCell) (a label n : ℕ) → is_labelled w label n a ≡ true → is_classed w (class_of label) n a ≡ true
+label_class w a label n e = let both = and_true (unwrap_or (option_map (λ k. k == label) (web_label w a)) false) (arity_at w a == n) e in by (web_label w a) both.0 both.1
+  where
+    by : (o : Option ℕ) → unwrap_or (option_map (λ k. k == label) o) false ≡ true → (arity_at w a == n) ≡ true → (unwrap_or (option_map (λ k. class_of k == class_of label) o) false && (arity_at w a == n)) ≡ true
+    by None t s = absurd cc
+    by (Some l) t s = rw (eq-eqb (class_of l) (class_of label) (ap class_of (eqb-true l label t))) s
+
+-- of those that pass a wider test the same pass the narrower one
+filter_within : (s t : ℕ → Bool) (xs : List ℕ) → ((x : ℕ) → s x ≡ true → t x ≡ true) → filter s (filter t xs) ≡ filter s xs
+filter_within s t [] h = refl
+filter_within s t (x ∷ xs) h = by (t x) refl (filter_within s t xs h)
+  where
+    by : (b : Bool) → t x ≡ b → filter s (filter t xs) ≡ filter s xs → filter s (cond b (x ∷ filter t xs) (filter t xs)) ≡ filter s (x ∷ xs)
+    by true e rest = λ u. cond (s x) (x ∷ rest u) (rest u)
+    by false e rest = elim (bool_cases (s x)) [
+      | inl y ↦ absurd (let z : true ≡ false = sym (h x y) ∙ e in cc)
+      | inr n ↦ rest ∙ sym (ap (λ b. cond b (x ∷ filter s xs) (filter s xs)) n)
+    ]
+
+-- so the atoms with a label are those of its class with it
+pub label_within : (w : ℕ → Option WebCell) (label n : ℕ) (xs : List ℕ) → with_label w label n (with_class w (class_of label) n xs) ≡ with_label w label n xs
+label_within w label n xs = filter_within (is_labelled w label n) (is_classed w (class_of label) n) xs (λ a. label_class w a label n)
+
 -- what follows an element, if anything, is in the list
 pub next_some : {X : Type 0} (id : X → ℕ) (r : Option X) (a : ℕ) (xs : List ℕ) → from (option_map id r) xs ≡ after a xs → IfSome r (λ x. In (id x) xs)
 next_some id None a xs e = tt
@@ -54,6 +87,11 @@ pub record Seeks (test : ℕ → Bool) (all : List ℕ) (start at : Option ℕ) 
 -- at the start
 pub seeks_first : (test : ℕ → Bool) (all : List ℕ) (a : ℕ) → In a all → Seeks test all (Some a) (Some a)
 seeks_first test all a i = record { there = λ d e. (let z : a ≡ d = cc in subst (λ u. In u all) z i); rest = refl }
+
+-- also where there may be none
+pub seeks_start : {X : Type 0} (id : X → ℕ) (test : ℕ → Bool) (all : List ℕ) (o : Option X) → IfSome o (λ x. In (id x) all) → Seeks test all (option_map id o) (option_map id o)
+seeks_start id test all None i = record { there = λ d e. absurd cc; rest = refl }
+seeks_start id test all (Some x) i = seeks_first test all (id x) i
 
 -- one that is passed over
 pub seeks_next : (test : ℕ → Bool) (all : List ℕ) (start next : Option ℕ) (a : ℕ) → Seeks test all start (Some a) → test a ≡ false → from next all ≡ after a all → Seeks test all start next × (length (from next all) < length (from (Some a) all))

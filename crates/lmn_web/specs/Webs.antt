@@ -1,5 +1,5 @@
 -- What a web holds, as its calls see it, and how cells stand for that.
-use Rattle.std.specs.Prelude.{◌≡◌, ◌≢◌, ◌==◌, ◌&&◌, Bool, false, ℕ, zero, suc, ◌+◌, ◌*◌, ◌^◌, ◌<◌, List, [], ◌∷◌, ◌++◌, length, map, filter, Option, Some, None, IsSome, slice_index_or, slice_set, replicate, unwrap_or}
+use Rattle.std.specs.Prelude.{◌≡◌, ◌≢◌, ◌==◌, ◌&&◌, Bool, false, ℕ, zero, suc, ◌+◌, ◌*◌, ◌/◌, ◌^◌, ◌<◌, List, [], ◌∷◌, ◌++◌, length, map, filter, Option, Some, None, IsSome, slice_index_or, slice_set, replicate, unwrap_or}
 use Rattle.std.specs.Option.{option_map}
 use Rattle.lmn_heap.specs.Heap.{alter}
 use Rattle.lmn_base.specs.Lists.{In}
@@ -76,6 +76,18 @@ is_labelled w label n a = unwrap_or (option_map (λ k. k == label) (web_label w 
 -- those of a list that have this label and so many ports, in their order
 abbrev pub with_label : (ℕ → Option WebCell) → ℕ → ℕ → List ℕ → List ℕ
 with_label w label n xs = filter (is_labelled w label n) xs
+
+-- the class of a label: its upper half
+abbrev pub class_of : ℕ → ℕ
+class_of label = label / 2 ^ 64
+
+-- the cell's label has this class, and the cell so many ports
+abbrev pub is_classed : (ℕ → Option WebCell) → ℕ → ℕ → ℕ → Bool
+is_classed w class n a = unwrap_or (option_map (λ k. class_of k == class) (web_label w a)) false && (arity_at w a == n)
+
+-- those of a list of which this holds, in their order
+abbrev pub with_class : (ℕ → Option WebCell) → ℕ → ℕ → List ℕ → List ℕ
+with_class w class n xs = filter (is_classed w class n) xs
 
 -- a cell that may be freed: no partner, no home, and nothing in its lists
 pub record IsLoose (w : ℕ → Option WebCell) (a : ℕ) : Type 0 where

@@ -22,10 +22,11 @@ const HIGH: usize = 3;
 // The link of an atom to the next one of its list.
 const NEXT: usize = 1;
 
-// The links of an atom to the next and the previous one of its class, and of the first one of a class to the first one
-// of the next class, and to the last one of its own.
-const CLASS_NEXT: usize = 3;
+/// The link of an atom to the next one of its class.
+pub const CLASS_NEXT: usize = 3;
 
+// The links of an atom to the previous one of its class, and of the first one of a class to the first one of the next
+// class, and to the last one of its own.
 const CLASS_PREV: usize = 4;
 
 const PEER: usize = 5;

@@ -7,11 +7,11 @@ ghost use Rattle.lmn_heap.specs.Lists.{after, from};
 ghost use Rattle.lmn_cells.specs.Cells.{cells_by};
 ghost use Rattle.lmn_cells.specs.CellIds.{cell_id, port_id};
 ghost use Rattle.lmn_cells.specs.Ports.{IsSamePort};
-ghost use Rattle.lmn_web.specs.Webs.{web_by, partner_at, arity_at, kind_at, home_at, cells_in, partners_of, marks_of, new_cell, with_mark, joined, parted, added_last, added_before, unlinked, web_label, is_labelled, with_label, IsPaired, IsLoose, StandOnce};
+ghost use Rattle.lmn_web.specs.Webs.{web_by, partner_at, arity_at, kind_at, home_at, cells_in, partners_of, marks_of, new_cell, with_mark, joined, parted, added_last, added_before, unlinked, web_label, is_labelled, with_label, class_of, with_class, IsPaired, IsLoose, StandOnce};
 ghost use Rattle.lmn_web.specs.Indexes.{described, reindexed, IsIndexed};
 ghost use Rattle.lmn_web.specs.declared.kind.CellKind.TheVariants.{Atom, Membrane};
 
-use crate::classes::{enter_class, leave_class, place_from};
+use crate::classes::{CLASS_NEXT, enter_class, find, leave_class, place_from};
 use crate::kind::{CellKind, count_place, first_link, kind_of, number_of};
 use lmn_cells::cell::Cells;
 use lmn_cells::handle::Cell;
@@ -221,13 +221,41 @@ impl Web {
         self.cells.link(c, NEXT)
     }
 
+    /// The first atom of a membrane whose label has this class, the upper half of a label, and that has so many ports.
+    pub fn first_of_class(&self, home: Cell, class: u64, arity: u8) -> Option<Cell>
+        requires { IsSome (web_by self.now (cell_id home)) }
+        ensures list { let all = with_class (web_by self.now) class arity (cells_in (web_by self.now) (cell_id home) Atom) in from (option_map cell_id result) all ≡ all }
+        ensures there { IfSome result (λ c. In (cell_id c) (cells_in (web_by self.now) (cell_id home) Atom)) }
+    {
+        match self.kind(home) {
+            CellKind::Atom => None,
+            CellKind::Membrane => find(&self.cells, home, class, arity as u64).leader,
+        }
+    }
+
+    /// The next atom behind this one in its list with a label of its class and as many ports.
+    pub fn next_of_class(&self, c: Cell) -> Option<Cell>
+        requires home { IsSome (home_at (web_by self.now) (cell_id c)) }
+        requires atom { kind_at (web_by self.now) (cell_id c) ≡ Atom }
+        ensures list { (m label : ℕ) → home_at (web_by self.now) (cell_id c) ≡ Some m → web_label (web_by self.now) (cell_id c) ≡ Some label →
+            let all = with_class (web_by self.now) (class_of label) (arity_at (web_by self.now) (cell_id c)) (cells_in (web_by self.now) m Atom) in from (option_map cell_id result) all ≡ after (cell_id c) all }
+        ensures there { (m : ℕ) → home_at (web_by self.now) (cell_id c) ≡ Some m → IfSome result (λ d. In (cell_id d) (cells_in (web_by self.now) m Atom)) }
+    {
+        self.cells.link(c, CLASS_NEXT)
+    }
+
     /// The first atom of a membrane with this label and so many ports.
     pub fn first_with(&self, home: Cell, label: u128, arity: u8) -> Option<Cell>
         requires { IsSome (web_by self.now (cell_id home)) }
         ensures list { let all = with_label (web_by self.now) label arity (cells_in (web_by self.now) (cell_id home) Atom) in from (option_map cell_id result) all ≡ all }
         ensures there { IfSome result (λ c. In (cell_id c) (cells_in (web_by self.now) (cell_id home) Atom)) }
     {
-        self.seek(home, self.first(home, CellKind::Atom), label, arity)
+        self.seek(
+            home,
+            self.first_of_class(home, (label / WHOLE) as u64, arity),
+            label,
+            arity,
+        )
     }
 
     /// The next atom behind this one in its list with its label and as many ports.
@@ -239,7 +267,7 @@ impl Web {
         ensures there { (m : ℕ) → home_at (web_by self.now) (cell_id c) ≡ Some m → IfSome result (λ d. In (cell_id d) (cells_in (web_by self.now) m Atom)) }
     {
         match self.home(c) {
-            Some(home) => self.seek(home, self.next(c), self.label(c), self.arity(c)),
+            Some(home) => self.seek(home, self.next_of_class(c), self.label(c), self.arity(c)),
             None => None,
         }
     }
@@ -252,10 +280,10 @@ impl Web {
         self.label(c) == label && self.arity(c) == arity
     }
 
-    // The first atom with this label and so many ports, from an atom of the membrane on.
+    // The first atom with this label and so many ports, from an atom of its class on.
     fn seek(&self, home: Cell, start: Option<Cell>, label: u128, arity: u8) -> Option<Cell>
-        requires { IfSome start (λ c. In (cell_id c) (cells_in (web_by self.now) (cell_id home) Atom)) }
-        ensures list { let all = cells_in (web_by self.now) (cell_id home) Atom in
+        requires { IfSome start (λ c. In (cell_id c) (with_class (web_by self.now) (class_of label) arity (cells_in (web_by self.now) (cell_id home) Atom))) }
+        ensures list { let all = with_class (web_by self.now) (class_of label) arity (cells_in (web_by self.now) (cell_id home) Atom) in
             from (option_map cell_id result) (with_label (web_by self.now) label arity all) ≡ with_label (web_by self.now) label arity (from (option_map cell_id start) all) }
         ensures there { IfSome result (λ c. In (cell_id c) (cells_in (web_by self.now) (cell_id home) Atom)) }
     {
@@ -265,7 +293,7 @@ impl Web {
             if self.has_label(c, label, arity) {
                 return Some(c);
             }
-            at = self.next(c);
+            at = self.next_of_class(c);
         }
         None
     }

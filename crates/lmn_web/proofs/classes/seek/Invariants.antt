@@ -1,4 +1,4 @@
-use Rattle.std.proofs.Common.{ℕ, Some, length}
+use Rattle.std.proofs.Common.{Some, length}
 use Rattle.std.specs.Option.{option_map}
 use Rattle.lmn_heap.specs.Lists.{from}
 use Rattle.lmn_cells.specs.Cells.{cells_by}

@@ -1,4 +1,4 @@
-use Rattle.std.proofs.Common.{◌≡◌, ◌+◌, ◌++◌, ℕ, Option, None, ◌∷◌, [], List, Some, refl, sym, ap, subst, ◌∙◌, map, arith}
+use Rattle.std.proofs.Common.{◌≡◌, ◌+◌, ◌++◌, None, ◌∷◌, [], List, Some, refl, sym, ap, subst, ◌∙◌, map, arith}
 use Rattle.std.proofs.lemmas.List.{length-map, length-append}
 use Rattle.lmn_base.specs.Lists.{In}
 use Rattle.lmn_cells.specs.Rows.{Row}

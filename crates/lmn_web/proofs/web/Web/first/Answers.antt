@@ -1,4 +1,4 @@
-use Rattle.std.proofs.Common.{◌≡◌, List, [], Some, IsSome, sym, ap, subst, ◌∙◌}
+use Rattle.std.proofs.Common.{◌≡◌, List, [], Some, sym, ap, subst, ◌∙◌}
 use Rattle.std.specs.Option.{option_map}
 use Rattle.lmn_base.specs.Lists.{In}
 use Rattle.lmn_heap.specs.Lists.{from}
@@ -8,7 +8,6 @@ use Rattle.lmn_cells.specs.CellIds.{cell_id}
 use Rattle.lmn_cells.specs.Runs.{link_in}
 use Rattle.lmn_web.specs.Webs.{web_by, cells_in, list_in, list_link, home_at, kind_at}
 use Rattle.lmn_web.proofs.ListedLemmas.{kind_told, no_atom_by, begins_list, list_same, web_listed, from_in, if_some}
-use Rattle.lmn_web.proofs.WebLemmas.{some_back}
 use Rattle.lmn_web.specs.Indexes.{cell_kind}
 use Rattle.lmn_web.specs.declared.kind.CellKind.TheVariants.{Atom, Membrane}
 use Rattle.lmn_web.proofs.web.Web.first.Goals as goal

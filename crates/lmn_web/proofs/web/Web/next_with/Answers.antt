@@ -4,28 +4,33 @@ use Rattle.lmn_base.specs.Lists.{In}
 use Rattle.lmn_heap.specs.Lists.{from, after}
 use Rattle.lmn_cells.specs.CellIds.{cell_id}
 use Rattle.lmn_web.specs.declared.kind.CellKind.TheVariants.{Atom}
-use Rattle.lmn_web.specs.Webs.{web_by, cells_in, home_at, arity_at, is_labelled, with_label}
-use Rattle.lmn_web.proofs.SeekLemmas.{filter_after, next_some, label_here}
+use Rattle.lmn_web.specs.Webs.{web_by, cells_in, home_at, arity_at, is_labelled, with_label, class_of, with_class}
+use Rattle.lmn_web.proofs.SeekLemmas.{filter_after, next_some, label_here, label_within}
 use Rattle.lmn_web.proofs.web.Web.next_with.Goals as goal
 
 pub seek-requires : goal.seek-requires
 seek-requires c =
-    let w = web_by c.args.self.now in let m = cell_id c.in-Some.home in let x = cell_id c.args.c in let all = cells_in w m Atom in
+    let w = web_by c.args.self.now in let m = cell_id c.in-Some.home in let x = cell_id c.args.c in let cells = cells_in w m Atom in
     let home : home_at w x ≡ Some m = c.home.ensures ∙ ap (option_map cell_id) c.in-Some.is in
-    let next : from (option_map cell_id c.next.result) all ≡ after x all = subst (λ k. from (option_map cell_id c.next.result) (cells_in w m k) ≡ after x (cells_in w m k)) c.requires.atom (c.next.ensures.list m home) in
-    next_some cell_id c.next.result x all next
+    let class = class_of c.label.result in let all = with_class w class c.arity.result cells in let r = option_map cell_id c.next_of_class.result in
+    let next : from r all ≡ after x all = subst (λ n. from r (with_class w class n cells) ≡ after x (with_class w class n cells)) (sym c.arity.ensures) (c.next_of_class.ensures.list m c.label.result home c.label.ensures) in
+    next_some cell_id c.next_of_class.result x all next
 
 pub returns-in-Some-clause-list : goal.returns-in-Some-clause-list
 returns-in-Some-clause-list c n label at named =
-    let w = web_by c.args.self.now in let m = cell_id c.in-Some.home in let x = cell_id c.args.c in let all = cells_in w m Atom in
+    let w = web_by c.args.self.now in let m = cell_id c.in-Some.home in let x = cell_id c.args.c in let cells = cells_in w m Atom in
     let home : home_at w x ≡ Some m = c.home.ensures ∙ ap (option_map cell_id) c.in-Some.is in
-    let next : from (option_map cell_id c.next.result) all ≡ after x all = subst (λ k. from (option_map cell_id c.next.result) (cells_in w m k) ≡ after x (cells_in w m k)) c.requires.atom (c.next.ensures.list m home) in
+    let class = class_of c.label.result in let all = with_class w class c.arity.result cells in let r = option_map cell_id c.next_of_class.result in
+    let next : from r all ≡ after x all = subst (λ n. from r (with_class w class n cells) ≡ after x (with_class w class n cells)) (sym c.arity.ensures) (c.next_of_class.ensures.list m c.label.result home c.label.ensures) in
     let same : n ≡ m = let e : Some n ≡ Some m = sym at ∙ home in cc in
     let called : label ≡ c.label.result = let e : Some label ≡ Some c.label.result = sym named ∙ c.label.ensures in cc in
-    let found = c.seek.ensures.list ∙ ap (with_label w c.label.result c.arity.result) next ∙ sym (filter_after (is_labelled w c.label.result c.arity.result) x all (label_here w x c.label.result c.arity.result c.label.ensures c.arity.ensures)) in
-    subst (λ z. from (option_map cell_id c.seek.result) (with_label w label (arity_at w x) (cells_in w z Atom)) ≡ after x (with_label w label (arity_at w x) (cells_in w z Atom))) (sym same)
-    (subst (λ z. from (option_map cell_id c.seek.result) (with_label w z (arity_at w x) all) ≡ after x (with_label w z (arity_at w x) all)) (sym called)
-    (subst (λ z. from (option_map cell_id c.seek.result) (with_label w c.label.result z all) ≡ after x (with_label w c.label.result z all)) c.arity.ensures found))
+    let s = option_map cell_id c.seek.result in
+    let found : from s (with_label w c.label.result c.arity.result all) ≡ after x (with_label w c.label.result c.arity.result all) =
+    c.seek.ensures.list ∙ ap (with_label w c.label.result c.arity.result) next ∙ sym (filter_after (is_labelled w c.label.result c.arity.result) x all (label_here w x c.label.result c.arity.result c.label.ensures c.arity.ensures)) in
+    let found_all = subst (λ us. from s us ≡ after x us) (label_within w c.label.result c.arity.result cells) found in
+    subst (λ z. from s (with_label w label (arity_at w x) (cells_in w z Atom)) ≡ after x (with_label w label (arity_at w x) (cells_in w z Atom))) (sym same)
+    (subst (λ z. from s (with_label w z (arity_at w x) cells) ≡ after x (with_label w z (arity_at w x) cells)) (sym called)
+    (subst (λ z. from s (with_label w c.label.result z cells) ≡ after x (with_label w c.label.result z cells)) c.arity.ensures found_all))
 
 pub returns-in-Some-clause-there : goal.returns-in-Some-clause-there
 returns-in-Some-clause-there c n at =

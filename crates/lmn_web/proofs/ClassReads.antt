@@ -1,0 +1,68 @@
+-- What the links of classes tell of the web.
+use Rattle.std.proofs.Common.{◌≡◌, ◌==◌, ◌&&◌, ◌+◌, ◌^◌, ◌<◌, ◌≤◌, ℕ, List, length, get_or, Option, Some, None, IsSome, refl, sym, ap, subst, ◌∙◌, arith}
+use Rattle.std.proofs.lemmas.List.{length-map}
+use Rattle.std.specs.Option.{option_map}
+use Rattle.lmn_base.specs.Lists.{In}
+use Rattle.lmn_heap.specs.Lists.{Distinct, from, after}
+use Rattle.lmn_heap.proofs.Pigeonholes.{not_longer}
+use Rattle.lmn_cells.specs.Cells.{HeldCell, numbers_of, ports_of}
+use Rattle.lmn_cells.specs.Ports.{partner_by}
+use Rattle.lmn_cells.specs.Runs.{RunsThrough, link_in}
+use Rattle.lmn_web.specs.declared.kind.CellKind.TheVariants.{Atom}
+use Rattle.lmn_web.specs.Webs.{web_cell, web_of, list_in, cells_in, number_in, count_number, label_by, web_label, class_of, is_classed, with_class, partners_of, ARITY, HIGH, LOW}
+use Rattle.lmn_web.specs.Indexes.{cell_kind, IsClassedWeb}
+use Rattle.lmn_web.specs.Classes.{CLASS_NEXT, CLASS_LAST, LEADERS, class_node, key_in, is_key, of_class, ArePeers, AreClassed, place_of}
+use Rattle.lmn_web.proofs.ListedLemmas.{run_begins, run_goes_on, list_same, cell_of}
+use Rattle.lmn_web.proofs.Reclassing.{key_same, key_true, filter_in, leader_in, class_none}
+use Rattle.lmn_web.proofs.ClassRuns.{distinct_filter}
+use Rattle.lmn_web.proofs.FilterLemmas.{filter_same}
+
+-- the upper half of a label
+class_half : (high low : ℕ) → low < 2 ^ 64 → class_of (label_by high low) ≡ high
+class_half high low l = omega (arith, l)
+
+-- the class of a cell, in the cells and in the web
+pub class_test : (f : ℕ → Option HeldCell) (all : List ℕ) → IsClassedWeb f all → (a class n : ℕ) → IsSome (f a) → is_classed (web_of f) class n a ≡ is_key (key_in f a) (class, n)
+class_test f all w a class n t = by (f a) t (w.classed.low a) (w.web.arity a t)
+  where
+    by : (o : Option HeldCell) → IsSome o → get_or (numbers_of o) LOW 0 < 2 ^ 64 → get_or (numbers_of o) ARITY 0 ≡ length (ports_of o) → is_classed (λ _. option_map (web_cell (list_in f a)) o) class n a ≡ is_key (get_or (numbers_of o) HIGH 0, get_or (numbers_of o) ARITY 0) (class, n)
+    by None s l e = absurd cc
+    by (Some c) s l e = λ u. (class_half (get_or c.numbers HIGH 0) (get_or c.numbers LOW 0) l u == class) && ((length-map c.ports partner_by ∙ sym e) u == n)
+
+-- the atoms of a class of a membrane, in the cells and in the web
+pub class_list : (f : ℕ → Option HeldCell) (all : List ℕ) → IsClassedWeb f all → (m class n : ℕ) → with_class (web_of f) class n (cells_in (web_of f) m Atom) ≡ of_class f (class, n) (list_in f m Atom)
+class_list f all w m class n = ap (with_class (web_of f) class n) (list_same f (list_in f) w.web.listed m Atom)
+    ∙ filter_same (is_classed (web_of f) class n) (λ a. is_key (key_in f a) (class, n)) (list_in f m Atom) (λ x i. class_test f all w x class n (cell_of f (list_in f) w.web.listed m x Atom i).0)
+
+-- where a class begins
+pub class_begins : (f : ℕ → Option HeldCell) (m : ℕ) (xs ls : List ℕ) → AreClassed f m xs ls → (p : ℕ × ℕ) (o : Option ℕ) → (place_of f p None ls).leader ≡ o → from o (of_class f p xs) ≡ of_class f p xs
+class_begins f m xs ls c p None e = sym (class_none f m xs ls c p e)
+class_begins f m xs ls c p (Some l) e =
+    let i = leader_in f p None ls l e in
+    subst (λ q. from (Some l) (of_class f q xs) ≡ of_class f q xs) (key_true (key_in f l) p i.1) (run_begins (class_node f) None (Some l) (of_class f (key_in f l) xs) (link_in f l CLASS_LAST) (c.runs l i.0))
+
+-- and goes on
+pub class_goes_on : (f : ℕ → Option HeldCell) (m : ℕ) (xs ls : List ℕ) → AreClassed f m xs ls → Distinct xs → (x : ℕ) → In x xs → from (link_in f x CLASS_NEXT) (of_class f (key_in f x) xs) ≡ after x (of_class f (key_in f x) xs)
+class_goes_on f m xs ls c once x i =
+    let l = c.every x i in let q = key_in f x in
+    run_goes_on (class_node f) (Some l.0) (link_in f l.0 CLASS_LAST) x (of_class f q xs)
+    (subst (λ p. RunsThrough (class_node f) None (Some l.0) (of_class f p xs) (link_in f l.0 CLASS_LAST) None) l.2 (c.runs l.0 l.1))
+    (distinct_filter (λ a. is_key (key_in f a) q) xs once) (filter_in (λ a. is_key (key_in f a) q) x xs i (key_same q))
+
+-- the first atoms of the classes of a membrane may be gone over
+pub may_find : (f : ℕ → Option HeldCell) (all : List ℕ) → IsClassedWeb f all → (m : ℕ) → (cell_kind f m ≡ Atom → ⊥) → (ls : List ℕ) × ArePeers f (link_in f m LEADERS) ls × (length ls ≤ number_in f m (count_number Atom) + 1)
+may_find f all w m d =
+    let o = w.classed.classes m d in
+    let few = not_longer o.0 (list_in f m Atom) o.1.once o.1.inside in let count = w.web.listed.count m Atom in
+    (o.0, o.1.peers, omega (arith, few, count))
+
+-- the label of a cell tells its class
+pub key_by_label : (f : ℕ → Option HeldCell) (all : List ℕ) → IsClassedWeb f all → (a label : ℕ) → web_label (web_of f) a ≡ Some label → key_in f a ≡ (class_of label, length (partners_of (web_of f a)))
+key_by_label f all w a label e = by (f a) e (w.classed.low a) (w.web.arity a)
+  where
+    by : (o : Option HeldCell) → option_map (λ c. c.label) (option_map (web_cell (list_in f a)) o) ≡ Some label → get_or (numbers_of o) LOW 0 < 2 ^ 64 → (IsSome o → get_or (numbers_of o) ARITY 0 ≡ length (ports_of o))
+        → ◌≡◌ {A = ℕ × ℕ} (get_or (numbers_of o) HIGH 0, get_or (numbers_of o) ARITY 0) (class_of label, length (partners_of (option_map (web_cell (list_in f a)) o)))
+    by None s l n = absurd cc
+    by (Some c) s l n =
+        let called : label_by (get_or c.numbers HIGH 0) (get_or c.numbers LOW 0) ≡ label = cc in
+        λ t. ((sym (class_half (get_or c.numbers HIGH 0) (get_or c.numbers LOW 0) l) ∙ ap class_of called) t, (n refl ∙ sym (length-map c.ports partner_by)) t)
