@@ -7,7 +7,7 @@ use Rattle.lmn_heap.specs.Lists.{Distinct}
 use Rattle.lmn_web.specs.declared.kind.CellKind.{CellKind}
 use Rattle.lmn_web.specs.declared.kind.CellKind.TheVariants.{Atom, Membrane}
 use Rattle.lmn_web.specs.Webs.{WebCell, home_of, web_kind, cells_of, home_at, kind_at, cells_in, partner_at, unlinked}
-use Rattle.lmn_web.specs.Examples.{two_listed, SecondIsLast, SecondIsFirst, FirstIsGone, BothAreListed, LostAreNotListed, GoneIsLoose, ListedIsNotLoose, OneHasLabel, NoneHasTwoPorts}
+use Rattle.lmn_web.specs.Examples.{two_listed, SecondIsLast, SecondIsFirst, FirstIsGone, BothAreListed, LostAreNotListed, GoneIsLoose, ListedIsNotLoose, OneHasLabel, NoneHasTwoPorts, BothAreOfOneClass, NoneIsOfAnotherClass}
 
 -- a cell that was added last stands at the end
 pub second_is_last : SecondIsLast
@@ -98,3 +98,11 @@ one_has_label = refl
 -- none has it with another number of ports
 pub none_has_two_ports : NoneHasTwoPorts
 none_has_two_ports = refl
+
+-- labels with one upper half are of one class
+pub both_are_of_one_class : BothAreOfOneClass
+both_are_of_one_class = refl
+
+-- with another one there is none
+pub none_is_of_another_class : NoneIsOfAnotherClass
+none_is_of_another_class = refl

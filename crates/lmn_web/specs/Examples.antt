@@ -3,7 +3,7 @@ use Rattle.std.specs.Prelude.{◌≡◌, ℕ, [], ◌∷◌, Option, Some, None}
 use Rattle.std.specs.Option.{option_map}
 use Rattle.lmn_heap.specs.Heap.{alter}
 use Rattle.lmn_web.specs.declared.kind.CellKind.TheVariants.{Atom, Membrane}
-use Rattle.lmn_web.specs.Webs.{WebCell, new_cell, with_list, cells_in, home_at, added_last, added_before, unlinked, with_label, IsLoose, StandOnce}
+use Rattle.lmn_web.specs.Webs.{WebCell, new_cell, with_list, cells_in, home_at, added_last, added_before, unlinked, with_label, with_class, IsLoose, StandOnce}
 
 -- the membrane 0, and the atoms 1 and 2 in no list
 abbrev pub unlisted : ℕ → Option WebCell
@@ -47,3 +47,11 @@ OneHasLabel = with_label two_listed 6 1 (1 ∷ 2 ∷ []) ≡ 2 ∷ []
 -- and none has it with two ports
 abbrev pub NoneHasTwoPorts : Type 0
 NoneHasTwoPorts = with_label two_listed 6 2 (1 ∷ 2 ∷ []) ≡ []
+
+-- labels with one upper half are of one class
+abbrev pub BothAreOfOneClass : Type 0
+BothAreOfOneClass = with_class two_listed 0 1 (1 ∷ 2 ∷ []) ≡ 1 ∷ 2 ∷ []
+
+-- with another one there is none
+abbrev pub NoneIsOfAnotherClass : Type 0
+NoneIsOfAnotherClass = with_class two_listed 1 1 (1 ∷ 2 ∷ []) ≡ []

@@ -1,5 +1,5 @@
 //! What holds of a small web. Each law is the contract of a function with an empty body.
-ghost use Rattle.lmn_web.specs.Examples.{BothAreListed, FirstIsGone, GoneIsLoose, ListedIsNotLoose, LostAreNotListed, NoneHasTwoPorts, OneHasLabel, SecondIsFirst, SecondIsLast};
+ghost use Rattle.lmn_web.specs.Examples.{BothAreListed, BothAreOfOneClass, FirstIsGone, GoneIsLoose, ListedIsNotLoose, LostAreNotListed, NoneHasTwoPorts, NoneIsOfAnotherClass, OneHasLabel, SecondIsFirst, SecondIsLast};
 
 /// A cell that was added last stands at the end.
 #[tactic(auto, using(crate::proofs::ExampleProofs::second_is_last))]
@@ -53,4 +53,16 @@ pub fn one_has_label()
 #[tactic(auto, using(crate::proofs::ExampleProofs::none_has_two_ports))]
 pub fn none_has_two_ports()
     ensures { NoneHasTwoPorts }
+{}
+
+/// Two atoms whose labels have one upper half are of one class.
+#[tactic(auto, using(crate::proofs::ExampleProofs::both_are_of_one_class))]
+pub fn both_are_of_one_class()
+    ensures { BothAreOfOneClass }
+{}
+
+/// None is of the class of another upper half.
+#[tactic(auto, using(crate::proofs::ExampleProofs::none_is_of_another_class))]
+pub fn none_is_of_another_class()
+    ensures { NoneIsOfAnotherClass }
 {}
