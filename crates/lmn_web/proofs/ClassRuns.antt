@@ -2,6 +2,7 @@
 use Rattle.std.proofs.Common.{◌≡◌, ◌≢◌, ◌<◌, ℕ, Bool, true, false, cond, List, [], ◌∷◌, ◌++◌, length, Option, Some, None, IsSome, refl, sym, ap, subst, ◌∙◌, inl, inr, arith}
 use Rattle.std.specs.List.{filter}
 use Rattle.lmn_base.specs.Lists.{In}
+use Rattle.lmn_base.proofs.Truth.{bool_cases}
 use Rattle.lmn_base.proofs.Lists.{in_either}
 use Rattle.lmn_heap.specs.Lists.{Distinct}
 use Rattle.lmn_heap.proofs.ListLemmas.{each_in, each_of, in_left, in_right, distinct_right, apart}
@@ -10,7 +11,7 @@ use Rattle.lmn_cells.specs.Runs.{Node, RunsThrough, link_in}
 use Rattle.lmn_cells.proofs.LineLemmas.{link_same, link_other}
 use Rattle.lmn_cells.proofs.RunLemmas.{Left, Joined, Between, begins, ends, joins, leaves, inserts, split, before_in, after_in}
 use Rattle.lmn_web.specs.Classes.{Touches, CLASS_NEXT, CLASS_PREV, CLASS_LAST, PEER, LEADERS, class_node, key_in, is_key, of_class, ArePeers, AreClassed, place_of, relinked, led, begun, lengthened, put_between, put_first, closed, shortened, passed}
-use Rattle.lmn_web.proofs.Reclassing.{cases_of, key_same, key_true, in_filter, Reclasses, reclassed, leader_in, leader_none, peers_frame}
+use Rattle.lmn_web.proofs.Reclassing.{key_same, key_true, in_filter, Reclasses, reclassed, leader_in, leader_none, peers_frame}
 use Rattle.lmn_web.proofs.ClassWrites.{length_kept, touches_none, touches_own, touches_peer, touches_head, touches_led, touches_keys, touches_there, led_other, Stands, stands, peers_split, chain_turned, last_or_in, led_at, led_none, led_away, in_mid, distinct_swap, distinct_drop}
 
 -- a list by a test has no repeat where the list has none
@@ -772,7 +773,7 @@ module _ (f : ℕ → Option HeldCell) (m c : ℕ) (xs ls : List ℕ) (have : Ha
     ]
       where
         by : (l : ℕ) → In l ls → (c ≡ l → ⊥) → is_key (key_in f l) p ≡ false
-        by l w n = elim (cases_of (is_key (key_in f l) p)) [ inl t ↦ absurd (n (same_lead c lead l w t)) | inr t ↦ t ]
+        by l w n = elim (bool_cases (is_key (key_in f l) p)) [ inl t ↦ absurd (n (same_lead c lead l w t)) | inr t ↦ t ]
 
     -- the classes then
     pub dropped_classed : AreClassed k1 m xs' (s_k.us ++ s_k.vs)

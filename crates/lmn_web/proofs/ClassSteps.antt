@@ -1,6 +1,7 @@
 -- The calls that file an atom by its class.
 use Rattle.std.proofs.Common.{◌≡◌, ℕ, true, List, [], ◌∷◌, ◌++◌, Option, Some, None, IsSome, refl, sym, ap, subst, ◌∙◌, inr}
 use Rattle.lmn_base.specs.Lists.{In}
+use Rattle.lmn_base.proofs.Lists.{plus_nothing}
 use Rattle.lmn_heap.specs.Lists.{Distinct, without}
 use Rattle.lmn_heap.proofs.ListLemmas.{in_split, in_left, in_right, without_at}
 use Rattle.lmn_cells.specs.Cells.{HeldCell, HaveLinks}
@@ -155,16 +156,12 @@ filed_shortened f have m c xs ls xs' a i one l pr lead prev next =
     let w = among f m c xs ls a i in let u = leads f m c xs ls a (key_in f c) l lead in
     let none : w.vs ≡ [] = (back_is (class_node f) (Some w.l) w.us c w.vs (link_in f w.l CLASS_LAST) w.run None next).0 refl in
     let cut : of_class f (key_in f c) xs ≡ w.us ++ c ∷ [] = w.is ∙ ap (λ us. w.us ++ (c ∷ us)) none in
-    let inside : of_class f (key_in f c) xs' ≡ w.us = one.own ∙ ap (without c) w.is ∙ without_at w.us c w.vs w.once ∙ ap (λ us. w.us ++ us) none ∙ nothing w.us in
+    let inside : of_class f (key_in f c) xs' ≡ w.us = one.own ∙ ap (without c) w.is ∙ without_at w.us c w.vs w.once ∙ ap (λ us. w.us ++ us) none ∙ plus_nothing w.us in
     record {
       touches = shortened_touches f m c xs ls have a.classed a.alive a.once a.there_m a.there_c a.no_m a.not_m xs' w.us l pr one.others cut inside u.inside u.key prev next;
       leaders = ls;
       classed = shortened_classed f m c xs ls have a.classed a.alive a.once a.there_m a.there_c a.no_m a.not_m xs' w.us l pr one.others cut inside u.inside u.key prev next;
     }
-  where
-    nothing : (ws : List ℕ) → ws ++ [] ≡ ws
-    nothing [] = refl
-    nothing (y ∷ ws) = ap (λ us. y ∷ us) (nothing ws)
 
 -- the first one of a class has none before it
 front_is : (f : ℕ → Option HeldCell) (m c : ℕ) (xs ls : List ℕ) (w : Among f xs ls c) → link_in f c CLASS_PREV ≡ None → (of_class f (key_in f c) xs ≡ c ∷ w.vs) × ((place_of f (key_in f c) None ls).leader ≡ Some c)

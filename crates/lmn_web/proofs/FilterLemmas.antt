@@ -4,6 +4,7 @@ use Rattle.std.proofs.lemmas.Bool.{eq-eqb, eqb-true}
 use Rattle.std.proofs.lemmas.List.Elements.{filter-append}
 use Rattle.std.specs.List.{filter}
 use Rattle.lmn_base.specs.Lists.{In}
+use Rattle.lmn_base.proofs.Lists.{plus_nothing}
 use Rattle.lmn_base.proofs.Numbers.{not_equal}
 use Rattle.lmn_base.proofs.Truth.{if_no, bool_cases}
 use Rattle.lmn_heap.specs.Lists.{Distinct, from, after, without}
@@ -33,11 +34,7 @@ end_yes : (test : ℕ → Bool) (c : ℕ) (xs : List ℕ) → test c ≡ true �
 end_yes test c xs e = filter-append test xs (c ∷ []) ∙ ap (λ us. filter test xs ++ us) (filter_yes test c [] e)
 
 end_no : (test : ℕ → Bool) (c : ℕ) (xs : List ℕ) → test c ≡ false → filter test (xs ++ c ∷ []) ≡ filter test xs
-end_no test c xs e = filter-append test xs (c ∷ []) ∙ ap (λ us. filter test xs ++ us) (filter_no test c [] e) ∙ nothing (filter test xs)
-  where
-    nothing : (us : List ℕ) → us ++ [] ≡ us
-    nothing [] = refl
-    nothing (u ∷ us) = ap (λ vs. u ∷ vs) (nothing us)
+end_no test c xs e = filter-append test xs (c ∷ []) ∙ ap (λ us. filter test xs ++ us) (filter_no test c [] e) ∙ plus_nothing (filter test xs)
 
 -- Without one
 

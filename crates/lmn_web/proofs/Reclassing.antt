@@ -3,7 +3,7 @@ use Rattle.std.proofs.Common.{◌≡◌, ◌⊎◌, ◌==◌, ℕ, Bool, true, f
 use Rattle.std.proofs.lemmas.Bool.{eq-eqb, eqb-true}
 use Rattle.std.specs.List.{filter}
 use Rattle.lmn_base.specs.Lists.{In}
-use Rattle.lmn_base.proofs.Truth.{and_true}
+use Rattle.lmn_base.proofs.Truth.{bool_cases, and_true}
 use Rattle.lmn_heap.specs.Lists.{Distinct}
 use Rattle.lmn_heap.proofs.ListLemmas.{each_of}
 use Rattle.lmn_cells.specs.Cells.{HeldCell}
@@ -20,11 +20,6 @@ key_same p = rw (eq-eqb p.0 p.0 refl) (eq-eqb p.1 p.1 refl)
 -- and no other does
 pub key_true : (p q : ℕ × ℕ) → is_key p q ≡ true → p ≡ q
 key_true p q e = let w = and_true (p.0 == q.0) (p.1 == q.1) e in λ t. (eqb-true p.0 q.0 w.0 t, eqb-true p.1 q.1 w.1 t)
-
--- a test is true, or false
-pub cases_of : (b : Bool) → (b ≡ true) ⊎ (b ≡ false)
-cases_of true = inl refl
-cases_of false = inr refl
 
 -- what passes a test stands in the list
 pub in_filter : (test : ℕ → Bool) (z : ℕ) (xs : List ℕ) → In z (filter test xs) → In z xs × (test z ≡ true)
@@ -87,7 +82,7 @@ module _ (f g : ℕ → Option HeldCell) (m : ℕ) (xs ls : List ℕ) (old : Are
   was_in x i e = (in_filter (λ a. is_key (key_in f a) (key_in f x)) x xs (subst (λ us. In x us) (r.lists (key_in f x) e) (filter_in (λ a. is_key (key_in f a) (key_in f x)) x xs' i (key_same (key_in f x))))).0
 
   run_of : (l : ℕ) → In l ls' → RunsThrough (class_node g) None (Some l) (of_class f (key_in f l) xs') (link_in g l CLASS_LAST) None
-  run_of l i = elim (cases_of (is_key (key_in f l) p)) [
+  run_of l i = elim (bool_cases (is_key (key_in f l) p)) [
     | inl e ↦ subst (λ q. RunsThrough (class_node g) None (Some l) (of_class f q xs') (link_in g l CLASS_LAST) None) (sym (own_class l e)) (r.run l (r.heads l i e))
     | inr e ↦ (let q = key_in f l in let j = r.were l i e in
         subst (λ us. RunsThrough (class_node g) None (Some l) us (link_in g l CLASS_LAST) None) (sym (r.lists q e))
@@ -104,11 +99,11 @@ module _ (f g : ℕ → Option HeldCell) (m : ℕ) (xs ls : List ℕ) (old : Are
     inside = λ l i. (in_filter (λ a. is_key (key_in f a) (key_in f l)) l xs' (run_first (class_node g) None l (of_class f (key_in f l) xs') (link_in g l CLASS_LAST) (run_of l i))).0;
     apart = λ j k a b e.
         let s : key_in f j ≡ key_in f k = sym (r.keys j) ∙ e ∙ r.keys k in
-        elim (cases_of (is_key (key_in f j) p)) [
+        elim (bool_cases (is_key (key_in f j) p)) [
           | inl t ↦ (let u : Some j ≡ Some k = sym (r.heads j a t) ∙ r.heads k b (ap (λ q. is_key q p) (sym s) ∙ t) in cc)
           | inr t ↦ old.apart j k (r.were j a t) (r.were k b (ap (λ q. is_key q p) (sym s) ∙ t)) s
         ];
-    every = λ x i. elim (cases_of (is_key (key_in f x) p)) [
+    every = λ x i. elim (bool_cases (is_key (key_in f x) p)) [
       | inl t ↦ head x i t h refl
       | inr t ↦ (let o = old.every x (was_in x i t) in (o.0, r.stay o.0 o.1 (ap (λ q. is_key q p) o.2 ∙ t), r.keys o.0 ∙ o.2 ∙ sym (r.keys x)))
     ];

@@ -43,7 +43,7 @@ pub record IsWeb (f : ℕ → Option HeldCell) (all : List ℕ) : Type 0 where
   pub paired : Paired f
   pub listed : IsListed f (list_in f)
 
--- the atoms of each membrane are linked by class, and the low half of a label is one
+-- the atoms of each membrane are linked by class, and the lower half of each label is below 2 ^ 64
 pub record IsClassed (f : ℕ → Option HeldCell) (lists : ℕ → CellKind → List ℕ) : Type 0 where
   pub classes : (m : ℕ) → (cell_kind f m ≡ Atom → ⊥) → (ls : List ℕ) × AreClassed f m (lists m Atom) ls
   pub low : (b : ℕ) → number_in f b LOW < 2 ^ 64
