@@ -5,7 +5,7 @@ use Rattle.lmn_cells.specs.Runs.{link_in}
 use Rattle.lmn_cells.proofs.CellRows.{if_yes}
 use Rattle.lmn_base.proofs.Truth.{if_no}
 use Rattle.lmn_web.specs.Webs.{walked}
-use Rattle.lmn_web.specs.Classes.{PEER, ArePeers, is_key, key_in, Place, place_of}
+use Rattle.lmn_web.specs.Classes.{PEER, ArePeers, is_key, key_in, ClassPlace, class_place}
 
 -- the peers from one on
 pub walked_peers : (f : ℕ → Option HeldCell) (n : ℕ) (first : Option ℕ) (ls : List ℕ) → ArePeers f first ls → length ls ≤ n → walked (λ a. link_in f a PEER) n first ≡ ls
@@ -31,18 +31,18 @@ pub record Left (f : ℕ → Option HeldCell) (p : ℕ × ℕ) (start : Option �
   pub rest : List ℕ
   pub peers : ArePeers f at rest
   pub short : length rest ≤ n
-  pub same : (ls : List ℕ) → ArePeers f start ls → place_of f p before rest ≡ place_of f p None ls
+  pub same : (ls : List ℕ) → ArePeers f start ls → class_place f p before rest ≡ class_place f p None ls
 
 -- at the start
 pub left_all : (f : ℕ → Option HeldCell) (p : ℕ × ℕ) (start : Option ℕ) (n : ℕ) (ls : List ℕ) → ArePeers f start ls → length ls ≤ n → Left f p start n None start
-left_all f p start n ls q l = record { rest = ls; peers = q; short = l; same = λ ks r. ap (place_of f p None) (same_peers f start ls ks q r) }
+left_all f p start n ls q l = record { rest = ls; peers = q; short = l; same = λ ks r. ap (class_place f p None) (same_peers f start ls ks q r) }
 
 -- a cell that is passed
 pub left_next : (f : ℕ → Option HeldCell) (p : ℕ × ℕ) (start : Option ℕ) (n : ℕ) (before : Option ℕ) (c : ℕ) → Left f p start n before (Some c) → is_key (key_in f c) p ≡ false
     → Left f p start n (Some c) (link_in f c PEER) × (length (walked (λ a. link_in f a PEER) n (link_in f c PEER)) < length (walked (λ a. link_in f a PEER) n (Some c)))
 left_next f p start n before c l other_class = by l.rest l.peers l.short l.same
   where
-    by : (rest : List ℕ) → ArePeers f (Some c) rest → length rest ≤ n → ((ls : List ℕ) → ArePeers f start ls → place_of f p before rest ≡ place_of f p None ls)
+    by : (rest : List ℕ) → ArePeers f (Some c) rest → length rest ≤ n → ((ls : List ℕ) → ArePeers f start ls → class_place f p before rest ≡ class_place f p None ls)
         → Left f p start n (Some c) (link_in f c PEER) × (length (walked (λ a. link_in f a PEER) n (link_in f c PEER)) < length (walked (λ a. link_in f a PEER) n (Some c)))
     by [] q s same = absurd cc
     by (x ∷ rest) q s same =
@@ -52,7 +52,7 @@ left_next f p start n before c l other_class = by l.rest l.peers l.short l.same
             rest = rest;
             peers = peers;
             short = omega (arith, s);
-            same = λ ls r. sym (if_no (is_key (key_in f x) p) _ (place_of f p (Some x) rest) (ap (λ u. is_key (key_in f u) p) z ∙ other_class) ∙ ap (λ u. place_of f p (Some u) rest) z) ∙ same ls r;
+            same = λ ls r. sym (if_no (is_key (key_in f x) p) _ (class_place f p (Some x) rest) (ap (λ u. is_key (key_in f u) p) z ∙ other_class) ∙ ap (λ u. class_place f p (Some u) rest) z) ∙ same ls r;
           },
           subst (λ us. length us < length (walked (λ a. link_in f a PEER) n (Some c))) (sym (walked_peers f n (link_in f c PEER) rest peers (omega (arith, s))))
               (subst (λ us. length rest < length us) (sym (walked_peers f n (Some c) (x ∷ rest) q s)) (omega arith)),
@@ -60,23 +60,23 @@ left_next f p start n before c l other_class = by l.rest l.peers l.short l.same
 
 -- one that is found
 pub left_found : (f : ℕ → Option HeldCell) (p : ℕ × ℕ) (start : Option ℕ) (n : ℕ) (before : Option ℕ) (c : ℕ) → Left f p start n before (Some c) → is_key (key_in f c) p ≡ true
-    → (ls : List ℕ) → ArePeers f start ls → (before ≡ (place_of f p None ls).before) × (Some c ≡ (place_of f p None ls).leader)
+    → (ls : List ℕ) → ArePeers f start ls → (before ≡ (class_place f p None ls).before) × (Some c ≡ (class_place f p None ls).leader)
 left_found f p start n before c l this_class ls r = by l.rest l.peers (l.same ls r)
   where
-    by : (rest : List ℕ) → ArePeers f (Some c) rest → place_of f p before rest ≡ place_of f p None ls → (before ≡ (place_of f p None ls).before) × (Some c ≡ (place_of f p None ls).leader)
+    by : (rest : List ℕ) → ArePeers f (Some c) rest → class_place f p before rest ≡ class_place f p None ls → (before ≡ (class_place f p None ls).before) × (Some c ≡ (class_place f p None ls).leader)
     by [] q same = absurd cc
     by (x ∷ rest) q same =
         let e : ◌≡◌ {A = Option ℕ} (Some c) (Some x) = q.0 in let z : x ≡ c = cc in
-        let w : record { before = before; leader = Some x } ≡ place_of f p None ls = sym (if_yes (is_key (key_in f x) p) _ (place_of f p (Some x) rest) (ap (λ u. is_key (key_in f u) p) z ∙ this_class)) ∙ same in
-        (ap (λ (u : Place). u.before) w, e ∙ ap (λ (u : Place). u.leader) w)
+        let w : record { before = before; leader = Some x } ≡ class_place f p None ls = sym (if_yes (is_key (key_in f x) p) _ (class_place f p (Some x) rest) (ap (λ u. is_key (key_in f u) p) z ∙ this_class)) ∙ same in
+        (ap (λ (u : ClassPlace). u.before) w, e ∙ ap (λ (u : ClassPlace). u.leader) w)
 
 -- none is
 pub left_none : (f : ℕ → Option HeldCell) (p : ℕ × ℕ) (start : Option ℕ) (n : ℕ) (before : Option ℕ) → Left f p start n before None
-    → (ls : List ℕ) → ArePeers f start ls → (before ≡ (place_of f p None ls).before) × (None ≡ (place_of f p None ls).leader)
+    → (ls : List ℕ) → ArePeers f start ls → (before ≡ (class_place f p None ls).before) × (None ≡ (class_place f p None ls).leader)
 left_none f p start n before l ls r = by l.rest l.peers (l.same ls r)
   where
-    by : (rest : List ℕ) → ArePeers f None rest → place_of f p before rest ≡ place_of f p None ls → (before ≡ (place_of f p None ls).before) × (None ≡ (place_of f p None ls).leader)
-    by [] q same = (ap (λ (u : Place). u.before) same, ap (λ (u : Place). u.leader) same)
+    by : (rest : List ℕ) → ArePeers f None rest → class_place f p before rest ≡ class_place f p None ls → (before ≡ (class_place f p None ls).before) × (None ≡ (class_place f p None ls).leader)
+    by [] q same = (ap (λ (u : ClassPlace). u.before) same, ap (λ (u : ClassPlace). u.leader) same)
     by (x ∷ rest) q same = absurd (let e : ◌≡◌ {A = Option ℕ} None (Some x) = q.0 in cc)
 
 -- the next to be looked at is there

@@ -9,16 +9,16 @@ use Rattle.lmn_cells.specs.Cells.{HeldCell, numbers_of, ports_of}
 use Rattle.lmn_cells.specs.Ports.{partner_by}
 use Rattle.lmn_cells.specs.Runs.{RunsThrough, link_in}
 use Rattle.lmn_web.specs.declared.kind.CellKind.TheVariants.{Atom}
-use Rattle.lmn_web.specs.Webs.{web_cell, web_of, list_in, cells_in, number_in, count_number, label_by, web_label, class_of, is_classed, with_class, partners_of, ARITY, HIGH, LOW}
+use Rattle.lmn_web.specs.Webs.{web_cell, web_of, list_in, cells_in, number_in, count_number, label_by, web_label, label_class, is_classed, with_class, partners_of, ARITY, HIGH, LOW}
 use Rattle.lmn_web.specs.Indexes.{cell_kind, IsClassedWeb}
-use Rattle.lmn_web.specs.Classes.{CLASS_NEXT, CLASS_LAST, LEADERS, class_node, key_in, is_key, of_class, ArePeers, AreClassed, place_of}
+use Rattle.lmn_web.specs.Classes.{CLASS_NEXT, CLASS_LAST, LEADERS, class_node, key_in, is_key, of_class, ArePeers, AreClassed, class_place}
 use Rattle.lmn_web.proofs.ListedLemmas.{run_begins, run_goes_on, list_same, cell_of}
 use Rattle.lmn_web.proofs.Reclassing.{key_same, key_true, filter_in, leader_in, class_none}
 use Rattle.lmn_web.proofs.ClassRuns.{distinct_filter}
 use Rattle.lmn_web.proofs.FilterLemmas.{filter_same}
 
 -- the upper half of a label
-class_half : (high low : ℕ) → low < 2 ^ 64 → class_of (label_by high low) ≡ high
+class_half : (high low : ℕ) → low < 2 ^ 64 → label_class (label_by high low) ≡ high
 class_half high low l = omega (arith, l)
 
 -- the class of a cell, in the cells and in the web
@@ -35,7 +35,7 @@ class_list f all w m class n = ap (with_class (web_of f) class n) (list_same f (
     ∙ filter_same (is_classed (web_of f) class n) (λ a. is_key (key_in f a) (class, n)) (list_in f m Atom) (λ x i. class_test f all w x class n (cell_of f (list_in f) w.web.listed m x Atom i).0)
 
 -- where a class begins
-pub class_begins : (f : ℕ → Option HeldCell) (m : ℕ) (xs ls : List ℕ) → AreClassed f m xs ls → (p : ℕ × ℕ) (o : Option ℕ) → (place_of f p None ls).leader ≡ o → from o (of_class f p xs) ≡ of_class f p xs
+pub class_begins : (f : ℕ → Option HeldCell) (m : ℕ) (xs ls : List ℕ) → AreClassed f m xs ls → (p : ℕ × ℕ) (o : Option ℕ) → (class_place f p None ls).leader ≡ o → from o (of_class f p xs) ≡ of_class f p xs
 class_begins f m xs ls c p None e = sym (class_none f m xs ls c p e)
 class_begins f m xs ls c p (Some l) e =
     let i = leader_in f p None ls l e in
@@ -57,12 +57,12 @@ may_find f all w m d =
     (o.0, o.1.peers, omega (arith, few, count))
 
 -- the label of a cell tells its class
-pub key_by_label : (f : ℕ → Option HeldCell) (all : List ℕ) → IsClassedWeb f all → (a label : ℕ) → web_label (web_of f) a ≡ Some label → key_in f a ≡ (class_of label, length (partners_of (web_of f a)))
+pub key_by_label : (f : ℕ → Option HeldCell) (all : List ℕ) → IsClassedWeb f all → (a label : ℕ) → web_label (web_of f) a ≡ Some label → key_in f a ≡ (label_class label, length (partners_of (web_of f a)))
 key_by_label f all w a label e = by (f a) e (w.classed.low a) (w.web.arity a)
   where
     by : (o : Option HeldCell) → option_map (λ c. c.label) (option_map (web_cell (list_in f a)) o) ≡ Some label → get_or (numbers_of o) LOW 0 < 2 ^ 64 → (IsSome o → get_or (numbers_of o) ARITY 0 ≡ length (ports_of o))
-        → ◌≡◌ {A = ℕ × ℕ} (get_or (numbers_of o) HIGH 0, get_or (numbers_of o) ARITY 0) (class_of label, length (partners_of (option_map (web_cell (list_in f a)) o)))
+        → ◌≡◌ {A = ℕ × ℕ} (get_or (numbers_of o) HIGH 0, get_or (numbers_of o) ARITY 0) (label_class label, length (partners_of (option_map (web_cell (list_in f a)) o)))
     by None s l n = absurd cc
     by (Some c) s l n =
         let called : label_by (get_or c.numbers HIGH 0) (get_or c.numbers LOW 0) ≡ label = cc in
-        λ t. ((sym (class_half (get_or c.numbers HIGH 0) (get_or c.numbers LOW 0) l) ∙ ap class_of called) t, (n refl ∙ sym (length-map c.ports partner_by)) t)
+        λ t. ((sym (class_half (get_or c.numbers HIGH 0) (get_or c.numbers LOW 0) l) ∙ ap label_class called) t, (n refl ∙ sym (length-map c.ports partner_by)) t)

@@ -10,7 +10,7 @@ use Rattle.lmn_cells.specs.Cells.{HeldCell, links_of, HaveLinks}
 use Rattle.lmn_cells.specs.Runs.{Node, RunsThrough, link_in}
 use Rattle.lmn_cells.proofs.LineLemmas.{link_same, link_other}
 use Rattle.lmn_cells.proofs.RunLemmas.{Left, Joined, Between, begins, ends, joins, leaves, inserts, split, before_in, after_in}
-use Rattle.lmn_web.specs.Classes.{Touches, CLASS_NEXT, CLASS_PREV, CLASS_LAST, PEER, LEADERS, class_node, key_in, is_key, of_class, ArePeers, AreClassed, place_of, relinked, led, begun, lengthened, put_between, put_first, closed, shortened, passed}
+use Rattle.lmn_web.specs.Classes.{Touches, CLASS_NEXT, CLASS_PREV, CLASS_LAST, PEER, LEADERS, class_node, key_in, is_key, of_class, ArePeers, AreClassed, class_place, link_written, led, begun, lengthened, put_between, put_first, closed, shortened, passed}
 use Rattle.lmn_web.proofs.Reclassing.{key_same, key_true, in_filter, Reclasses, reclassed, leader_in, leader_none, peers_frame}
 use Rattle.lmn_web.proofs.ClassWrites.{length_kept, touches_none, touches_own, touches_peer, touches_head, touches_led, touches_keys, touches_there, led_other, Stands, stands, peers_split, chain_turned, last_or_in, led_at, led_none, led_away, in_mid, distinct_swap, distinct_drop}
 
@@ -24,15 +24,15 @@ distinct_filter test (x ∷ xs) d = by (test x) (distinct_filter test xs d.1)
     by false r = r
 
 -- a link that was just written
-pub link_at : (f : ℕ → Option HeldCell) (a k : ℕ) (v : Option ℕ) → length (links_of (f a)) ≡ 8 → k < 8 → link_in (relinked f a k v) a k ≡ v
+pub link_at : (f : ℕ → Option HeldCell) (a k : ℕ) (v : Option ℕ) → length (links_of (f a)) ≡ 8 → k < 8 → link_in (link_written f a k v) a k ≡ v
 link_at f a k v e l = link_same f a k v (omega (arith, e, l))
 
 -- another link
-pub link_far : (f : ℕ → Option HeldCell) (a k : ℕ) (v : Option ℕ) (b j : ℕ) → j ≢ k → link_in (relinked f a k v) b j ≡ link_in f b j
+pub link_far : (f : ℕ → Option HeldCell) (a k : ℕ) (v : Option ℕ) (b j : ℕ) → j ≢ k → link_in (link_written f a k v) b j ≡ link_in f b j
 link_far f a k v b j d = link_other f a k v b j (λ e _. d e)
 
 -- a link of another cell
-pub link_by : (f : ℕ → Option HeldCell) (a k : ℕ) (v : Option ℕ) (b j : ℕ) → b ≢ a → link_in (relinked f a k v) b j ≡ link_in f b j
+pub link_by : (f : ℕ → Option HeldCell) (a k : ℕ) (v : Option ℕ) (b j : ℕ) → b ≢ a → link_in (link_written f a k v) b j ≡ link_in f b j
 link_by f a k v b j d = link_other f a k v b j (λ _ e. d e)
 
 -- what stands before a cell of a run stands in its front part
@@ -65,18 +65,18 @@ module _ (f : ℕ → Option HeldCell) (m c : ℕ) (xs ls : List ℕ) (have : Ha
 
   -- A class begins
 
-  module _ (xs' : List ℕ) (lists : (q : ℕ × ℕ) → is_key q p ≡ false → of_class f q xs' ≡ of_class f q xs) (alone : of_class f p xs' ≡ c ∷ []) (fresh : In c xs → ⊥) (none : (place_of f p None ls).leader ≡ None) where
+  module _ (xs' : List ℕ) (lists : (q : ℕ × ℕ) → is_key q p ≡ false → of_class f q xs' ≡ of_class f q xs) (alone : of_class f p xs' ≡ c ∷ []) (fresh : In c xs → ⊥) (none : (class_place f p None ls).leader ≡ None) where
     abbrev b1 : ℕ → Option HeldCell
-    b1 = relinked f c CLASS_NEXT None
+    b1 = link_written f c CLASS_NEXT None
 
     abbrev b2 : ℕ → Option HeldCell
-    b2 = relinked b1 c CLASS_PREV None
+    b2 = link_written b1 c CLASS_PREV None
 
     abbrev b3 : ℕ → Option HeldCell
-    b3 = relinked b2 c CLASS_LAST (Some c)
+    b3 = link_written b2 c CLASS_LAST (Some c)
 
     abbrev b4 : ℕ → Option HeldCell
-    b4 = relinked b3 c PEER (link_in f m LEADERS)
+    b4 = link_written b3 c PEER (link_in f m LEADERS)
 
     abbrev b5 : ℕ → Option HeldCell
     b5 = begun f m c
@@ -148,13 +148,13 @@ module _ (f : ℕ → Option HeldCell) (m c : ℕ) (xs ls : List ℕ) (have : Ha
 
   module _ (xs' : List ℕ) (l q : ℕ) (lists : (r : ℕ × ℕ) → is_key r p ≡ false → of_class f r xs' ≡ of_class f r xs) (longer : of_class f p xs' ≡ zs ++ c ∷ []) (fresh : In c xs → ⊥) (in_l : In l ls) (key_l : is_key (key_in f l) p ≡ true) (last : link_in f l CLASS_LAST ≡ Some q) where
     abbrev l1 : ℕ → Option HeldCell
-    l1 = relinked f c CLASS_NEXT None
+    l1 = link_written f c CLASS_NEXT None
 
     abbrev l2 : ℕ → Option HeldCell
-    l2 = relinked l1 c CLASS_PREV (Some q)
+    l2 = link_written l1 c CLASS_PREV (Some q)
 
     abbrev l3 : ℕ → Option HeldCell
-    l3 = relinked l2 q CLASS_NEXT (Some c)
+    l3 = link_written l2 q CLASS_NEXT (Some c)
 
     abbrev l4 : ℕ → Option HeldCell
     l4 = lengthened f l q c
@@ -226,13 +226,13 @@ module _ (f : ℕ → Option HeldCell) (m c : ℕ) (xs ls : List ℕ) (have : Ha
   module _ (xs' us vs : List ℕ) (l pr d : ℕ) (lists : (r : ℕ × ℕ) → is_key r p ≡ false → of_class f r xs' ≡ of_class f r xs) (cut : zs ≡ us ++ (d ∷ vs)) (inside : of_class f p xs' ≡ us ++ (c ∷ d ∷ vs)) (fresh : In c xs → ⊥)
       (in_l : In l ls) (key_l : is_key (key_in f l) p ≡ true) (prev : link_in f d CLASS_PREV ≡ Some pr) where
     abbrev i1 : ℕ → Option HeldCell
-    i1 = relinked f c CLASS_NEXT (Some d)
+    i1 = link_written f c CLASS_NEXT (Some d)
 
     abbrev i2 : ℕ → Option HeldCell
-    i2 = relinked i1 c CLASS_PREV (Some pr)
+    i2 = link_written i1 c CLASS_PREV (Some pr)
 
     abbrev i3 : ℕ → Option HeldCell
-    i3 = relinked i2 pr CLASS_NEXT (Some c)
+    i3 = link_written i2 pr CLASS_NEXT (Some c)
 
     abbrev i4 : ℕ → Option HeldCell
     i4 = put_between f pr d c
@@ -317,7 +317,7 @@ module _ (f : ℕ → Option HeldCell) (m c : ℕ) (xs ls : List ℕ) (have : Ha
   module _ (xs' us vs : List ℕ) (l pr nx : ℕ) (lists : (r : ℕ × ℕ) → is_key r p ≡ false → of_class f r xs' ≡ of_class f r xs) (cut : zs ≡ us ++ (c ∷ vs)) (inside : of_class f p xs' ≡ us ++ vs)
       (in_l : In l ls) (key_l : is_key (key_in f l) p ≡ true) (prev : link_in f c CLASS_PREV ≡ Some pr) (next : link_in f c CLASS_NEXT ≡ Some nx) where
     abbrev e1 : ℕ → Option HeldCell
-    e1 = relinked f pr CLASS_NEXT (Some nx)
+    e1 = link_written f pr CLASS_NEXT (Some nx)
 
     abbrev e2 : ℕ → Option HeldCell
     e2 = closed f pr nx
@@ -387,7 +387,7 @@ module _ (f : ℕ → Option HeldCell) (m c : ℕ) (xs ls : List ℕ) (have : Ha
   module _ (xs' us : List ℕ) (l pr : ℕ) (lists : (r : ℕ × ℕ) → is_key r p ≡ false → of_class f r xs' ≡ of_class f r xs) (cut : zs ≡ us ++ c ∷ []) (inside : of_class f p xs' ≡ us)
       (in_l : In l ls) (key_l : is_key (key_in f l) p ≡ true) (prev : link_in f c CLASS_PREV ≡ Some pr) (next : link_in f c CLASS_NEXT ≡ None) where
     abbrev s1 : ℕ → Option HeldCell
-    s1 = relinked f pr CLASS_NEXT None
+    s1 = link_written f pr CLASS_NEXT None
 
     abbrev s2 : ℕ → Option HeldCell
     s2 = shortened f l pr
@@ -449,9 +449,9 @@ module _ (f : ℕ → Option HeldCell) (m c : ℕ) (xs ls : List ℕ) (have : Ha
 
   -- The leader changes
 
-  module _ (x : ℕ) (lead : (place_of f p None ls).leader ≡ Some x) where
+  module _ (x : ℕ) (lead : (class_place f p None ls).leader ≡ Some x) where
     abbrev pub bef : Option ℕ
-    bef = (place_of f p None ls).before
+    bef = (class_place f p None ls).before
 
     abbrev pub at_x : Stands f p ls bef x
     at_x = stands f p ls x lead
@@ -488,21 +488,21 @@ module _ (f : ℕ → Option HeldCell) (m c : ℕ) (xs ls : List ℕ) (have : Ha
 
   -- An atom comes before the first of its class
 
-  module _ (xs' vs : List ℕ) (d : ℕ) (lists : (r : ℕ × ℕ) → is_key r p ≡ false → of_class f r xs' ≡ of_class f r xs) (cut : zs ≡ d ∷ vs) (inside : of_class f p xs' ≡ c ∷ d ∷ vs) (fresh : In c xs → ⊥) (lead : (place_of f p None ls).leader ≡ Some d) where
+  module _ (xs' vs : List ℕ) (d : ℕ) (lists : (r : ℕ × ℕ) → is_key r p ≡ false → of_class f r xs' ≡ of_class f r xs) (cut : zs ≡ d ∷ vs) (inside : of_class f p xs' ≡ c ∷ d ∷ vs) (fresh : In c xs → ⊥) (lead : (class_place f p None ls).leader ≡ Some d) where
     abbrev h1 : ℕ → Option HeldCell
-    h1 = relinked f c CLASS_NEXT (Some d)
+    h1 = link_written f c CLASS_NEXT (Some d)
 
     abbrev h2 : ℕ → Option HeldCell
-    h2 = relinked h1 c CLASS_PREV None
+    h2 = link_written h1 c CLASS_PREV None
 
     abbrev h3 : ℕ → Option HeldCell
-    h3 = relinked h2 d CLASS_PREV (Some c)
+    h3 = link_written h2 d CLASS_PREV (Some c)
 
     abbrev h4 : ℕ → Option HeldCell
-    h4 = relinked h3 c CLASS_LAST (link_in f d CLASS_LAST)
+    h4 = link_written h3 c CLASS_LAST (link_in f d CLASS_LAST)
 
     abbrev h5 : ℕ → Option HeldCell
-    h5 = relinked h4 c PEER (link_in f d PEER)
+    h5 = link_written h4 c PEER (link_in f d PEER)
 
     abbrev h6 : ℕ → Option HeldCell
     h6 = put_first f m (bef d lead) d c
@@ -627,15 +627,15 @@ module _ (f : ℕ → Option HeldCell) (m c : ℕ) (xs ls : List ℕ) (have : Ha
 
   -- The first of a class leaves, and the next one leads
 
-  module _ (xs' vs : List ℕ) (nx : ℕ) (lists : (r : ℕ × ℕ) → is_key r p ≡ false → of_class f r xs' ≡ of_class f r xs) (cut : zs ≡ c ∷ nx ∷ vs) (inside : of_class f p xs' ≡ nx ∷ vs) (lead : (place_of f p None ls).leader ≡ Some c) where
+  module _ (xs' vs : List ℕ) (nx : ℕ) (lists : (r : ℕ × ℕ) → is_key r p ≡ false → of_class f r xs' ≡ of_class f r xs) (cut : zs ≡ c ∷ nx ∷ vs) (inside : of_class f p xs' ≡ nx ∷ vs) (lead : (class_place f p None ls).leader ≡ Some c) where
     abbrev g1 : ℕ → Option HeldCell
-    g1 = relinked f nx CLASS_PREV None
+    g1 = link_written f nx CLASS_PREV None
 
     abbrev g2 : ℕ → Option HeldCell
-    g2 = relinked g1 nx CLASS_LAST (link_in f c CLASS_LAST)
+    g2 = link_written g1 nx CLASS_LAST (link_in f c CLASS_LAST)
 
     abbrev g3 : ℕ → Option HeldCell
-    g3 = relinked g2 nx PEER (link_in f c PEER)
+    g3 = link_written g2 nx PEER (link_in f c PEER)
 
     abbrev g4 : ℕ → Option HeldCell
     g4 = passed f m (bef c lead) c nx
@@ -749,7 +749,7 @@ module _ (f : ℕ → Option HeldCell) (m c : ℕ) (xs ls : List ℕ) (have : Ha
 
   -- The only one of a class leaves
 
-  module _ (xs' : List ℕ) (lists : (r : ℕ × ℕ) → is_key r p ≡ false → of_class f r xs' ≡ of_class f r xs) (inside : of_class f p xs' ≡ []) (lead : (place_of f p None ls).leader ≡ Some c) where
+  module _ (xs' : List ℕ) (lists : (r : ℕ × ℕ) → is_key r p ≡ false → of_class f r xs' ≡ of_class f r xs) (inside : of_class f p xs' ≡ []) (lead : (class_place f p None ls).leader ≡ Some c) where
     abbrev k1 : ℕ → Option HeldCell
     k1 = led f m (bef c lead) (link_in f c PEER)
 

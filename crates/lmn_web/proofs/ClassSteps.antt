@@ -8,7 +8,7 @@ use Rattle.lmn_cells.specs.Cells.{HeldCell, HaveLinks}
 use Rattle.lmn_cells.specs.Runs.{Node, RunsThrough, link_in, put_before}
 use Rattle.lmn_cells.proofs.RunLemmas.{before_in, split, last_in as last_of_run}
 use Rattle.lmn_cells.proofs.InsertLemmas.{put_at}
-use Rattle.lmn_web.specs.Classes.{CLASS_NEXT, CLASS_PREV, CLASS_LAST, PEER, class_node, key_in, is_key, of_class, place_of, led, begun, lengthened, put_between, put_first, closed, shortened, passed, MayFile, OneClass, Filed}
+use Rattle.lmn_web.specs.Classes.{CLASS_NEXT, CLASS_PREV, CLASS_LAST, PEER, class_node, key_in, is_key, of_class, class_place, led, begun, lengthened, put_between, put_first, closed, shortened, passed, MayFile, ClassBecomes, Refiled}
 use Rattle.lmn_web.proofs.Reclassing.{key_same, key_true, in_filter, filter_in, leader_in, class_none}
 use Rattle.lmn_web.proofs.ClassWrites.{stands, last_or_in}
 use Rattle.lmn_web.proofs.ClassRuns.{inside_classed, inside_touches, first_classed, first_touches, prev_in, next_in_run, closed_classed, closed_touches, shortened_classed, shortened_touches, passed_classed, passed_touches, dropped_classed, dropped_touches, distinct_filter, begun_classed, begun_touches, longer_classed, longer_touches}
@@ -20,7 +20,7 @@ pub record Leads (f : ℕ → Option HeldCell) (xs ls : List ℕ) (p : ℕ × �
   pub alive : IsSome (f l)
   pub run : RunsThrough (class_node f) None (Some l) (of_class f p xs) (link_in f l CLASS_LAST) None
 
-pub leads : (f : ℕ → Option HeldCell) (m c : ℕ) (xs ls : List ℕ) → MayFile f m c xs ls → (p : ℕ × ℕ) (l : ℕ) → (place_of f p None ls).leader ≡ Some l → Leads f xs ls p l
+pub leads : (f : ℕ → Option HeldCell) (m c : ℕ) (xs ls : List ℕ) → MayFile f m c xs ls → (p : ℕ × ℕ) (l : ℕ) → (class_place f p None ls).leader ≡ Some l → Leads f xs ls p l
 leads f m c xs ls a p l e = let w = leader_in f p None ls l e in record {
   inside = w.0;
   key = w.1;
@@ -29,13 +29,13 @@ leads f m c xs ls a p l e = let w = leader_in f p None ls l e in record {
 }
 
 -- its last one is there
-pub last_alive : (f : ℕ → Option HeldCell) (m c : ℕ) (xs ls : List ℕ) → MayFile f m c xs ls → (p : ℕ × ℕ) (l : ℕ) → (place_of f p None ls).leader ≡ Some l → (q : ℕ) → link_in f l CLASS_LAST ≡ Some q → IsSome (f q)
+pub last_alive : (f : ℕ → Option HeldCell) (m c : ℕ) (xs ls : List ℕ) → MayFile f m c xs ls → (p : ℕ × ℕ) (l : ℕ) → (class_place f p None ls).leader ≡ Some l → (q : ℕ) → link_in f l CLASS_LAST ≡ Some q → IsSome (f q)
 last_alive f m c xs ls a p l e q s =
     let w = leads f m c xs ls a p l e in
     a.alive q (in_filter (λ z. is_key (key_in f z) p) q xs (before_in (class_node f) (Some l) (of_class f p xs) (link_in f l CLASS_LAST) None q w.run s)).0
 
 -- and there is one
-pub last_some : (f : ℕ → Option HeldCell) (m c : ℕ) (xs ls : List ℕ) → MayFile f m c xs ls → (p : ℕ × ℕ) (l : ℕ) → (place_of f p None ls).leader ≡ Some l → link_in f l CLASS_LAST ≡ None → ⊥
+pub last_some : (f : ℕ → Option HeldCell) (m c : ℕ) (xs ls : List ℕ) → MayFile f m c xs ls → (p : ℕ × ℕ) (l : ℕ) → (class_place f p None ls).leader ≡ Some l → link_in f l CLASS_LAST ≡ None → ⊥
 last_some f m c xs ls a p l e s = let w = leads f m c xs ls a p l e in by (of_class f p xs) (subst (λ o. RunsThrough (class_node f) None (Some l) (of_class f p xs) o None) s w.run)
   where
     no_last : (n : ℕ → Node) (b first : Option ℕ) (z : ℕ) (zs : List ℕ) → RunsThrough n b first (z ∷ zs) None None → ⊥
@@ -47,8 +47,8 @@ last_some f m c xs ls a p l e s = let w = leads f m c xs ls a p l e in by (of_cl
     by (z ∷ zs) r = no_last (class_node f) None (Some l) z zs r
 
 -- an atom begins a class
-pub filed_begun : (f : ℕ → Option HeldCell) → HaveLinks f → (m c : ℕ) (xs ls xs' : List ℕ) → MayFile f m c xs ls → (In c xs → ⊥) → OneClass f (key_in f c) xs (of_class f (key_in f c) xs ++ c ∷ []) xs' → (place_of f (key_in f c) None ls).leader ≡ None
-    → Filed f (begun f m c) m (c ∷ xs) (key_in f c) xs'
+pub filed_begun : (f : ℕ → Option HeldCell) → HaveLinks f → (m c : ℕ) (xs ls xs' : List ℕ) → MayFile f m c xs ls → (In c xs → ⊥) → ClassBecomes f (key_in f c) xs (of_class f (key_in f c) xs ++ c ∷ []) xs' → (class_place f (key_in f c) None ls).leader ≡ None
+    → Refiled f (begun f m c) m (c ∷ xs) (key_in f c) xs'
 filed_begun f have m c xs ls xs' a fresh one none =
     let alone : of_class f (key_in f c) xs' ≡ c ∷ [] = one.own ∙ ap (λ (us : List ℕ). us ++ c ∷ []) (class_none f m xs ls a.classed (key_in f c) none) in
     record {
@@ -58,8 +58,8 @@ filed_begun f have m c xs ls xs' a fresh one none =
     }
 
 -- or stands at its end
-pub filed_longer : (f : ℕ → Option HeldCell) → HaveLinks f → (m c : ℕ) (xs ls xs' : List ℕ) → MayFile f m c xs ls → (In c xs → ⊥) → OneClass f (key_in f c) xs (of_class f (key_in f c) xs ++ c ∷ []) xs' → (l q : ℕ) → (place_of f (key_in f c) None ls).leader ≡ Some l
-    → link_in f l CLASS_LAST ≡ Some q → Filed f (lengthened f l q c) m (c ∷ xs) (key_in f c) xs'
+pub filed_longer : (f : ℕ → Option HeldCell) → HaveLinks f → (m c : ℕ) (xs ls xs' : List ℕ) → MayFile f m c xs ls → (In c xs → ⊥) → ClassBecomes f (key_in f c) xs (of_class f (key_in f c) xs ++ c ∷ []) xs' → (l q : ℕ) → (class_place f (key_in f c) None ls).leader ≡ Some l
+    → link_in f l CLASS_LAST ≡ Some q → Refiled f (lengthened f l q c) m (c ∷ xs) (key_in f c) xs'
 filed_longer f have m c xs ls xs' a fresh one l q e s =
     let w = leads f m c xs ls a (key_in f c) l e in
     record {
@@ -71,15 +71,15 @@ filed_longer f have m c xs ls xs' a fresh one l q e s =
 -- An atom that is filed
 
 -- its class has a first one
-pub lead_is : (f : ℕ → Option HeldCell) (m c : ℕ) (xs ls : List ℕ) → MayFile f m c xs ls → In c xs → (l : ℕ) × ((place_of f (key_in f c) None ls).leader ≡ Some l)
-lead_is f m c xs ls a i = by (place_of f (key_in f c) None ls).leader refl
+pub lead_is : (f : ℕ → Option HeldCell) (m c : ℕ) (xs ls : List ℕ) → MayFile f m c xs ls → In c xs → (l : ℕ) × ((class_place f (key_in f c) None ls).leader ≡ Some l)
+lead_is f m c xs ls a i = by (class_place f (key_in f c) None ls).leader refl
   where
-    by : (o : Option ℕ) → (place_of f (key_in f c) None ls).leader ≡ o → (l : ℕ) × ((place_of f (key_in f c) None ls).leader ≡ Some l)
+    by : (o : Option ℕ) → (class_place f (key_in f c) None ls).leader ≡ o → (l : ℕ) × ((class_place f (key_in f c) None ls).leader ≡ Some l)
     by None e = absurd (subst (λ us. In c us) (class_none f m xs ls a.classed (key_in f c) e) (filter_in (λ z. is_key (key_in f z) (key_in f c)) c xs i (key_same (key_in f c))))
     by (Some l) e = (l, e)
 
 -- what comes before it in the chain is there
-pub before_alive : (f : ℕ → Option HeldCell) (m c : ℕ) (xs ls : List ℕ) → MayFile f m c xs ls → (p : ℕ × ℕ) (l b : ℕ) → (place_of f p None ls).leader ≡ Some l → (place_of f p None ls).before ≡ Some b → IsSome (f b)
+pub before_alive : (f : ℕ → Option HeldCell) (m c : ℕ) (xs ls : List ℕ) → MayFile f m c xs ls → (p : ℕ × ℕ) (l b : ℕ) → (class_place f p None ls).leader ≡ Some l → (class_place f p None ls).before ≡ Some b → IsSome (f b)
 before_alive f m c xs ls a p l b e s =
     let w = stands f p ls l e in
     a.alive b (a.classed.inside b (subst (λ us. In b us) (sym w.is) (in_left b w.us (l ∷ w.vs) (last_or_in w.us b (sym w.last ∙ s)))))
@@ -91,7 +91,7 @@ pub record Among (f : ℕ → Option HeldCell) (xs ls : List ℕ) (c : ℕ) : Ty
   pub is : of_class f (key_in f c) xs ≡ us ++ (c ∷ vs)
   pub once : Distinct (us ++ (c ∷ vs))
   pub l : ℕ
-  pub lead : (place_of f (key_in f c) None ls).leader ≡ Some l
+  pub lead : (class_place f (key_in f c) None ls).leader ≡ Some l
   pub leads : Leads f xs ls (key_in f c) l
   pub run : RunsThrough (class_node f) None (Some l) (us ++ (c ∷ vs)) (link_in f l CLASS_LAST) None
 
@@ -139,8 +139,8 @@ back_is h first us d vs last r o e = by vs (split h None first us (d ∷ vs) las
     by (y ∷ ws) q = (λ s. absurd (let z : ◌≡◌ {A = Option ℕ} (Some y) None = sym q.0 ∙ e ∙ s in cc), λ n s. (ws, let z : ◌≡◌ {A = Option ℕ} (Some y) (Some n) = sym q.0 ∙ e ∙ s in let r : y ≡ n = cc in ap (λ u. u ∷ ws) r))
 
 -- it leaves from between two
-pub filed_closed : (f : ℕ → Option HeldCell) → HaveLinks f → (m c : ℕ) (xs ls xs' : List ℕ) → MayFile f m c xs ls → In c xs → OneClass f (key_in f c) xs (without c (of_class f (key_in f c) xs)) xs' → (pr nx : ℕ) → link_in f c CLASS_PREV ≡ Some pr → link_in f c CLASS_NEXT ≡ Some nx
-    → Filed f (closed f pr nx) m xs (key_in f c) xs'
+pub filed_closed : (f : ℕ → Option HeldCell) → HaveLinks f → (m c : ℕ) (xs ls xs' : List ℕ) → MayFile f m c xs ls → In c xs → ClassBecomes f (key_in f c) xs (without c (of_class f (key_in f c) xs)) xs' → (pr nx : ℕ) → link_in f c CLASS_PREV ≡ Some pr → link_in f c CLASS_NEXT ≡ Some nx
+    → Refiled f (closed f pr nx) m xs (key_in f c) xs'
 filed_closed f have m c xs ls xs' a i one pr nx prev next =
     let w = among f m c xs ls a i in let inside = one.own ∙ ap (without c) w.is ∙ without_at w.us c w.vs w.once in
     record {
@@ -150,8 +150,8 @@ filed_closed f have m c xs ls xs' a i one pr nx prev next =
     }
 
 -- or from the end
-pub filed_shortened : (f : ℕ → Option HeldCell) → HaveLinks f → (m c : ℕ) (xs ls xs' : List ℕ) → MayFile f m c xs ls → In c xs → OneClass f (key_in f c) xs (without c (of_class f (key_in f c) xs)) xs' → (l pr : ℕ) → (place_of f (key_in f c) None ls).leader ≡ Some l
-    → link_in f c CLASS_PREV ≡ Some pr → link_in f c CLASS_NEXT ≡ None → Filed f (shortened f l pr) m xs (key_in f c) xs'
+pub filed_shortened : (f : ℕ → Option HeldCell) → HaveLinks f → (m c : ℕ) (xs ls xs' : List ℕ) → MayFile f m c xs ls → In c xs → ClassBecomes f (key_in f c) xs (without c (of_class f (key_in f c) xs)) xs' → (l pr : ℕ) → (class_place f (key_in f c) None ls).leader ≡ Some l
+    → link_in f c CLASS_PREV ≡ Some pr → link_in f c CLASS_NEXT ≡ None → Refiled f (shortened f l pr) m xs (key_in f c) xs'
 filed_shortened f have m c xs ls xs' a i one l pr lead prev next =
     let w = among f m c xs ls a i in let u = leads f m c xs ls a (key_in f c) l lead in
     let none : w.vs ≡ [] = (back_is (class_node f) (Some w.l) w.us c w.vs (link_in f w.l CLASS_LAST) w.run None next).0 refl in
@@ -164,19 +164,19 @@ filed_shortened f have m c xs ls xs' a i one l pr lead prev next =
     }
 
 -- the first one of a class has none before it
-front_is : (f : ℕ → Option HeldCell) (m c : ℕ) (xs ls : List ℕ) (w : Among f xs ls c) → link_in f c CLASS_PREV ≡ None → (of_class f (key_in f c) xs ≡ c ∷ w.vs) × ((place_of f (key_in f c) None ls).leader ≡ Some c)
+front_is : (f : ℕ → Option HeldCell) (m c : ℕ) (xs ls : List ℕ) (w : Among f xs ls c) → link_in f c CLASS_PREV ≡ None → (of_class f (key_in f c) xs ≡ c ∷ w.vs) × ((class_place f (key_in f c) None ls).leader ≡ Some c)
 front_is f m c xs ls w prev =
     let none : w.us ≡ [] = no_front (class_node f) (Some w.l) w.us c w.vs (link_in f w.l CLASS_LAST) w.run prev in
     let r : RunsThrough (class_node f) None (Some w.l) (c ∷ w.vs) (link_in f w.l CLASS_LAST) None = subst (λ us. RunsThrough (class_node f) None (Some w.l) (us ++ (c ∷ w.vs)) (link_in f w.l CLASS_LAST) None) none w.run in
     (w.is ∙ ap (λ us. us ++ (c ∷ w.vs)) none, w.lead ∙ r.0)
 
 -- it is found
-pub leads_itself : (f : ℕ → Option HeldCell) (m c : ℕ) (xs ls : List ℕ) → MayFile f m c xs ls → In c xs → link_in f c CLASS_PREV ≡ None → (place_of f (key_in f c) None ls).leader ≡ Some c
+pub leads_itself : (f : ℕ → Option HeldCell) (m c : ℕ) (xs ls : List ℕ) → MayFile f m c xs ls → In c xs → link_in f c CLASS_PREV ≡ None → (class_place f (key_in f c) None ls).leader ≡ Some c
 leads_itself f m c xs ls a i prev = (front_is f m c xs ls (among f m c xs ls a i) prev).1
 
 -- it leaves, and the next one leads
-pub filed_passed : (f : ℕ → Option HeldCell) → HaveLinks f → (m c : ℕ) (xs ls xs' : List ℕ) → MayFile f m c xs ls → In c xs → OneClass f (key_in f c) xs (without c (of_class f (key_in f c) xs)) xs' → (nx : ℕ) → link_in f c CLASS_PREV ≡ None → link_in f c CLASS_NEXT ≡ Some nx
-    → Filed f (passed f m (place_of f (key_in f c) None ls).before c nx) m xs (key_in f c) xs'
+pub filed_passed : (f : ℕ → Option HeldCell) → HaveLinks f → (m c : ℕ) (xs ls xs' : List ℕ) → MayFile f m c xs ls → In c xs → ClassBecomes f (key_in f c) xs (without c (of_class f (key_in f c) xs)) xs' → (nx : ℕ) → link_in f c CLASS_PREV ≡ None → link_in f c CLASS_NEXT ≡ Some nx
+    → Refiled f (passed f m (class_place f (key_in f c) None ls).before c nx) m xs (key_in f c) xs'
 filed_passed f have m c xs ls xs' a i one nx prev next =
     let w = among f m c xs ls a i in let u = front_is f m c xs ls w prev in
     let b = (back_is (class_node f) (Some w.l) w.us c w.vs (link_in f w.l CLASS_LAST) w.run (Some nx) next).1 nx refl in
@@ -189,8 +189,8 @@ filed_passed f have m c xs ls xs' a i one nx prev next =
     }
 
 -- or its class is gone
-pub filed_dropped : (f : ℕ → Option HeldCell) → HaveLinks f → (m c : ℕ) (xs ls xs' : List ℕ) → MayFile f m c xs ls → In c xs → OneClass f (key_in f c) xs (without c (of_class f (key_in f c) xs)) xs' → link_in f c CLASS_PREV ≡ None → link_in f c CLASS_NEXT ≡ None
-    → Filed f (led f m (place_of f (key_in f c) None ls).before (link_in f c PEER)) m xs (key_in f c) xs'
+pub filed_dropped : (f : ℕ → Option HeldCell) → HaveLinks f → (m c : ℕ) (xs ls xs' : List ℕ) → MayFile f m c xs ls → In c xs → ClassBecomes f (key_in f c) xs (without c (of_class f (key_in f c) xs)) xs' → link_in f c CLASS_PREV ≡ None → link_in f c CLASS_NEXT ≡ None
+    → Refiled f (led f m (class_place f (key_in f c) None ls).before (link_in f c PEER)) m xs (key_in f c) xs'
 filed_dropped f have m c xs ls xs' a i one prev next =
     let w = among f m c xs ls a i in let u = front_is f m c xs ls w prev in
     let none : w.vs ≡ [] = (back_is (class_node f) (Some w.l) w.us c w.vs (link_in f w.l CLASS_LAST) w.run None next).0 refl in
@@ -213,12 +213,12 @@ pub prev_other : (f : ℕ → Option HeldCell) (m c : ℕ) (xs ls : List ℕ) �
 prev_other f m c xs ls a d i q e = prev_alive f m d xs ls (may_other f m c xs ls a d i) i q e
 
 -- with none before it it is found
-pub leads_other : (f : ℕ → Option HeldCell) (m c : ℕ) (xs ls : List ℕ) → MayFile f m c xs ls → (d : ℕ) → In d xs → key_in f d ≡ key_in f c → link_in f d CLASS_PREV ≡ None → (place_of f (key_in f c) None ls).leader ≡ Some d
-leads_other f m c xs ls a d i k e = subst (λ p. (place_of f p None ls).leader ≡ Some d) k (leads_itself f m d xs ls (may_other f m c xs ls a d i) i e)
+pub leads_other : (f : ℕ → Option HeldCell) (m c : ℕ) (xs ls : List ℕ) → MayFile f m c xs ls → (d : ℕ) → In d xs → key_in f d ≡ key_in f c → link_in f d CLASS_PREV ≡ None → (class_place f (key_in f c) None ls).leader ≡ Some d
+leads_other f m c xs ls a d i k e = subst (λ p. (class_place f p None ls).leader ≡ Some d) k (leads_itself f m d xs ls (may_other f m c xs ls a d i) i e)
 
 -- between two
-pub filed_inside : (f : ℕ → Option HeldCell) → HaveLinks f → (m c : ℕ) (xs ls xs' : List ℕ) → MayFile f m c xs ls → (In c xs → ⊥) → (d : ℕ) → In d xs → key_in f d ≡ key_in f c → OneClass f (key_in f c) xs (put_before c d (of_class f (key_in f c) xs)) xs'
-    → (pr : ℕ) → link_in f d CLASS_PREV ≡ Some pr → Filed f (put_between f pr d c) m (c ∷ xs) (key_in f c) xs'
+pub filed_inside : (f : ℕ → Option HeldCell) → HaveLinks f → (m c : ℕ) (xs ls xs' : List ℕ) → MayFile f m c xs ls → (In c xs → ⊥) → (d : ℕ) → In d xs → key_in f d ≡ key_in f c → ClassBecomes f (key_in f c) xs (put_before c d (of_class f (key_in f c) xs)) xs'
+    → (pr : ℕ) → link_in f d CLASS_PREV ≡ Some pr → Refiled f (put_between f pr d c) m (c ∷ xs) (key_in f c) xs'
 filed_inside f have m c xs ls xs' a fresh d i k one pr prev =
     let w = among f m d xs ls (may_other f m c xs ls a d i) i in
     let cut : of_class f (key_in f c) xs ≡ w.us ++ (d ∷ w.vs) = ap (λ p. of_class f p xs) (sym k) ∙ w.is in
@@ -231,8 +231,8 @@ filed_inside f have m c xs ls xs' a fresh d i k one pr prev =
     }
 
 -- before the first
-pub filed_first : (f : ℕ → Option HeldCell) → HaveLinks f → (m c : ℕ) (xs ls xs' : List ℕ) → MayFile f m c xs ls → (In c xs → ⊥) → (d : ℕ) → In d xs → key_in f d ≡ key_in f c → OneClass f (key_in f c) xs (put_before c d (of_class f (key_in f c) xs)) xs'
-    → link_in f d CLASS_PREV ≡ None → Filed f (put_first f m (place_of f (key_in f c) None ls).before d c) m (c ∷ xs) (key_in f c) xs'
+pub filed_first : (f : ℕ → Option HeldCell) → HaveLinks f → (m c : ℕ) (xs ls xs' : List ℕ) → MayFile f m c xs ls → (In c xs → ⊥) → (d : ℕ) → In d xs → key_in f d ≡ key_in f c → ClassBecomes f (key_in f c) xs (put_before c d (of_class f (key_in f c) xs)) xs'
+    → link_in f d CLASS_PREV ≡ None → Refiled f (put_first f m (class_place f (key_in f c) None ls).before d c) m (c ∷ xs) (key_in f c) xs'
 filed_first f have m c xs ls xs' a fresh d i k one prev =
     let b = may_other f m c xs ls a d i in let w = among f m d xs ls b i in let u = front_is f m d xs ls w prev in
     let cut : of_class f (key_in f c) xs ≡ d ∷ w.vs = ap (λ p. of_class f p xs) (sym k) ∙ u.0 in

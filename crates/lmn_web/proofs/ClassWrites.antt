@@ -8,22 +8,22 @@ use Rattle.lmn_cells.specs.Cells.{HeldCell, links_of, with_link}
 use Rattle.lmn_cells.specs.Runs.{link_in}
 use Rattle.lmn_cells.proofs.LineLemmas.{still_there, link_same, link_other, keeps, count_links}
 use Rattle.lmn_web.specs.Webs.{HIGH, ARITY}
-use Rattle.lmn_web.specs.Classes.{Rest, Touches, CLASS_NEXT, CLASS_PREV, CLASS_LAST, PEER, LEADERS, key_in, is_key, ArePeers, place_of, relinked, led}
+use Rattle.lmn_web.specs.Classes.{AllButLinks, Touches, CLASS_NEXT, CLASS_PREV, CLASS_LAST, PEER, LEADERS, key_in, is_key, ArePeers, class_place, link_written, led}
 use Rattle.lmn_web.proofs.RelistLemmas.{rest_link}
 
 -- a write keeps what is there
-pub kept : (f g : ℕ → Option HeldCell) (a k : ℕ) (v : Option ℕ) (x : ℕ) → g ≡ relinked f a k v → IsSome (f x) → IsSome (g x)
+pub kept : (f g : ℕ → Option HeldCell) (a k : ℕ) (v : Option ℕ) (x : ℕ) → g ≡ link_written f a k v → IsSome (f x) → IsSome (g x)
 kept f g a k v x e t = subst (λ (h : ℕ → Option HeldCell). IsSome (h x)) (sym e) (still_there f a (with_link k v) x t)
 
 -- also where there may be nothing
-pub kept_some : {X : Type 0} (f g : ℕ → Option HeldCell) (a k : ℕ) (v : Option ℕ) (o : Option X) (id : X → ℕ) → g ≡ relinked f a k v → IfSome o (λ x. IsSome (f (id x))) → IfSome o (λ x. IsSome (g (id x)))
+pub kept_some : {X : Type 0} (f g : ℕ → Option HeldCell) (a k : ℕ) (v : Option ℕ) (o : Option X) (id : X → ℕ) → g ≡ link_written f a k v → IfSome o (λ x. IsSome (f (id x))) → IfSome o (λ x. IsSome (g (id x)))
 kept_some f g a k v None id e t = tt
 kept_some f g a k v (Some x) id e t = kept f g a k v (id x) e t
 
 -- Reading after a write
 
 -- as many links as before
-pub length_kept : (f : ℕ → Option HeldCell) (a k : ℕ) (v : Option ℕ) (x : ℕ) → length (links_of (relinked f a k v x)) ≡ length (links_of (f x))
+pub length_kept : (f : ℕ → Option HeldCell) (a k : ℕ) (v : Option ℕ) (x : ℕ) → length (links_of (link_written f a k v x)) ≡ length (links_of (f x))
 length_kept f a k v x = keeps (λ o. length (links_of o)) f a (with_link k v) (count_links k v) x
 
 -- nothing was written
@@ -31,7 +31,7 @@ pub touches_none : (f : ℕ → Option HeldCell) (m : ℕ) (xs : List ℕ) (p : 
 touches_none f m xs p = record { rests = λ b. refl; lengths = λ b. refl; links = λ b j l. refl; away = λ b j o d. refl; nodes = λ z e. refl; lasts = λ z e. refl }
 
 -- a write to a cell of the class
-pub touches_own : (f g : ℕ → Option HeldCell) (m : ℕ) (xs : List ℕ) (p : ℕ × ℕ) → Touches f g m xs p → (a k : ℕ) (v : Option ℕ) → In a xs → is_key (key_in f a) p ≡ true → 2 < k → Touches f (relinked g a k v) m xs p
+pub touches_own : (f g : ℕ → Option HeldCell) (m : ℕ) (xs : List ℕ) (p : ℕ × ℕ) → Touches f g m xs p → (a k : ℕ) (v : Option ℕ) → In a xs → is_key (key_in f a) p ≡ true → 2 < k → Touches f (link_written g a k v) m xs p
 touches_own f g m xs p t a k v i own low = record {
   rests = λ b. rest_link g a k v b ∙ t.rests b;
   lengths = λ b. length_kept g a k v b ∙ t.lengths b;
@@ -45,7 +45,7 @@ touches_own f g m xs p t a k v i own low = record {
     other z e s = let w : true ≡ false = sym own ∙ ap (λ u. is_key (key_in f u) p) (sym s) ∙ e in absurd cc
 
 -- a write to the chain
-pub touches_peer : (f g : ℕ → Option HeldCell) (m : ℕ) (xs : List ℕ) (p : ℕ × ℕ) → Touches f g m xs p → (a : ℕ) (v : Option ℕ) → In a xs → Touches f (relinked g a PEER v) m xs p
+pub touches_peer : (f g : ℕ → Option HeldCell) (m : ℕ) (xs : List ℕ) (p : ℕ × ℕ) → Touches f g m xs p → (a : ℕ) (v : Option ℕ) → In a xs → Touches f (link_written g a PEER v) m xs p
 touches_peer f g m xs p t a v i = record {
   rests = λ b. rest_link g a PEER v b ∙ t.rests b;
   lengths = λ b. length_kept g a PEER v b ∙ t.lengths b;
@@ -56,7 +56,7 @@ touches_peer f g m xs p t a v i = record {
 }
 
 -- a write to where it begins
-pub touches_head : (f g : ℕ → Option HeldCell) (m : ℕ) (xs : List ℕ) (p : ℕ × ℕ) → Touches f g m xs p → (v : Option ℕ) → Touches f (relinked g m LEADERS v) m xs p
+pub touches_head : (f g : ℕ → Option HeldCell) (m : ℕ) (xs : List ℕ) (p : ℕ × ℕ) → Touches f g m xs p → (v : Option ℕ) → Touches f (link_written g m LEADERS v) m xs p
 touches_head f g m xs p t v = record {
   rests = λ b. rest_link g m LEADERS v b ∙ t.rests b;
   lengths = λ b. length_kept g m LEADERS v b ∙ t.lengths b;
@@ -77,7 +77,7 @@ touches_keys f g m xs p t b = λ u. (get_or (t.rests b u).numbers HIGH 0, get_or
 
 -- and so is what is there
 pub touches_there : (f g : ℕ → Option HeldCell) (m : ℕ) (xs : List ℕ) (p : ℕ × ℕ) → Touches f g m xs p → (b : ℕ) → IsSome (f b) → IsSome (g b)
-touches_there f g m xs p t b s = ap (λ (r : Rest). r.there) (t.rests b) ∙ s
+touches_there f g m xs p t b s = ap (λ (r : AllButLinks). r.there) (t.rests b) ∙ s
 
 -- other links after a leader changed
 pub led_other : (f : ℕ → Option HeldCell) (m : ℕ) (before to : Option ℕ) (b j : ℕ) → (j ≡ PEER → before ≡ Some b → ⊥) → (j ≢ LEADERS) → link_in (led f m before to) b j ≡ link_in f b j
@@ -106,18 +106,18 @@ pub record Stands (f : ℕ → Option HeldCell) (p : ℕ × ℕ) (ls : List ℕ)
   pub is : ls ≡ us ++ (x ∷ vs)
   pub last : before ≡ last_or None us
 
-stands_from : (f : ℕ → Option HeldCell) (p : ℕ × ℕ) (b : Option ℕ) (ls : List ℕ) (x : ℕ) → (place_of f p b ls).leader ≡ Some x → (us : List ℕ) × (vs : List ℕ) × (ls ≡ us ++ (x ∷ vs)) × ((place_of f p b ls).before ≡ last_or b us)
+stands_from : (f : ℕ → Option HeldCell) (p : ℕ × ℕ) (b : Option ℕ) (ls : List ℕ) (x : ℕ) → (class_place f p b ls).leader ≡ Some x → (us : List ℕ) × (vs : List ℕ) × (ls ≡ us ++ (x ∷ vs)) × ((class_place f p b ls).before ≡ last_or b us)
 stands_from f p b [] x e = absurd cc
 stands_from f p b (z ∷ ls) x e = by (is_key (key_in f z) p) (λ t. stands_from f p (Some z) ls x t) e
   where
-    by : (c : Bool) → ((place_of f p (Some z) ls).leader ≡ Some x → (us : List ℕ) × (vs : List ℕ) × (ls ≡ us ++ (x ∷ vs)) × ((place_of f p (Some z) ls).before ≡ last_or (Some z) us))
-        → (if c then record { before = b; leader = Some z } else place_of f p (Some z) ls).leader ≡ Some x
-        → (us : List ℕ) × (vs : List ℕ) × (z ∷ ls ≡ us ++ (x ∷ vs)) × ((if c then record { before = b; leader = Some z } else place_of f p (Some z) ls).before ≡ last_or b us)
+    by : (c : Bool) → ((class_place f p (Some z) ls).leader ≡ Some x → (us : List ℕ) × (vs : List ℕ) × (ls ≡ us ++ (x ∷ vs)) × ((class_place f p (Some z) ls).before ≡ last_or (Some z) us))
+        → (if c then record { before = b; leader = Some z } else class_place f p (Some z) ls).leader ≡ Some x
+        → (us : List ℕ) × (vs : List ℕ) × (z ∷ ls ≡ us ++ (x ∷ vs)) × ((if c then record { before = b; leader = Some z } else class_place f p (Some z) ls).before ≡ last_or b us)
     by true rec t = let s : ◌≡◌ {A = Option ℕ} (Some z) (Some x) = t in let r : z ≡ x = cc in ([], ls, ap (λ u. u ∷ ls) r, refl)
     by false rec t = let w = rec t in (z ∷ w.0, w.1, ap (λ u. z ∷ u) w.2, w.3)
 
 -- the class that is found
-pub stands : (f : ℕ → Option HeldCell) (p : ℕ × ℕ) (ls : List ℕ) (x : ℕ) → (place_of f p None ls).leader ≡ Some x → Stands f p ls (place_of f p None ls).before x
+pub stands : (f : ℕ → Option HeldCell) (p : ℕ × ℕ) (ls : List ℕ) (x : ℕ) → (class_place f p None ls).leader ≡ Some x → Stands f p ls (class_place f p None ls).before x
 stands f p ls x e = let w = stands_from f p None ls x e in record { us = w.0; vs = w.1; is = w.2; last = w.3 }
 
 -- the chain is cut in two

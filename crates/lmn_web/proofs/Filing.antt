@@ -18,7 +18,7 @@ use Rattle.lmn_web.specs.declared.kind.CellKind.TheVariants.{Atom, Membrane}
 use Rattle.lmn_web.specs.Kinds.{kind_by}
 use Rattle.lmn_web.specs.Webs.{list_in, list_link, count_number, number_in, ARITY, KIND, HIGH, LOW}
 use Rattle.lmn_web.specs.Indexes.{described, cell_kind, IsListed, IsWeb, IsClassed, IsClassedWeb}
-use Rattle.lmn_web.specs.Classes.{CLASS_NEXT, CLASS_PREV, CLASS_LAST, PEER, LEADERS, Rest, class_node, key_in, is_key, of_class, ArePeers, AreClassed, MayFile, MayEnter, MayLeave, OneClass, Touches, Filed, FiledAs, put_at}
+use Rattle.lmn_web.specs.Classes.{CLASS_NEXT, CLASS_PREV, CLASS_LAST, PEER, LEADERS, AllButLinks, class_node, key_in, is_key, of_class, ArePeers, AreClassed, MayFile, MayEnter, MayLeave, ClassBecomes, Touches, Refiled, FiledAs, put_at}
 use Rattle.lmn_web.proofs.ListedLemmas.{same_lists, lists_same, cell_of}
 use Rattle.lmn_web.proofs.WebLemmas.{Told, told, made_web, made_lists, no_list}
 use Rattle.lmn_web.proofs.RelistLemmas.{Core, Relists, relists_web, in_none, new, new_lists, each, kind_is, there, m_there, core_of, back, core_rest}
@@ -264,12 +264,12 @@ module _ (f F : ℕ → Option HeldCell) (all : List ℕ) (w : IsClassedWeb f al
       }
 
   -- an atom that came into a list may be filed in its class
-  pub may_enter : (place : Option ℕ) → cell_kind f x ≡ Atom → IsSome (f x) → length own ≤ length xs + 1 → (In x own → ⊥) → ((d : ℕ) → place ≡ Some d → In d own × (key_in F d ≡ key_in F x)) → OneClass F (key_in F x) own (put_at x place (of_class F (key_in F x) own)) xs
+  pub may_enter : (place : Option ℕ) → cell_kind f x ≡ Atom → IsSome (f x) → length own ≤ length xs + 1 → (In x own → ⊥) → ((d : ℕ) → place ≡ Some d → In d own × (key_in F d ≡ key_in F x)) → ClassBecomes F (key_in F x) own (put_at x place (of_class F (key_in F x) own)) xs
       → MayEnter F m x place own leaders xs
   may_enter place atom t long fresh inside one = record { may = may_file atom t long; fresh = fresh; inside = inside; one = one }
 
   -- and one that left may leave its class
-  pub may_leave : cell_kind f x ≡ Atom → IsSome (f x) → length own ≤ length xs + 1 → In x own → OneClass F (key_in F x) own (without x (of_class F (key_in F x) own)) xs → MayLeave F m x own leaders xs
+  pub may_leave : cell_kind f x ≡ Atom → IsSome (f x) → length own ≤ length xs + 1 → In x own → ClassBecomes F (key_in F x) own (without x (of_class F (key_in F x) own)) xs → MayLeave F m x own leaders xs
   may_leave atom t long inside one = record { may = may_file atom t long; inside = inside; one = one }
 
   -- the classes of a list are as they were
@@ -287,7 +287,7 @@ module _ (f F : ℕ → Option HeldCell) (all : List ℕ) (w : IsClassedWeb f al
       let once : Distinct own = subst (λ j. Distinct (list_in f m j)) (sym atom) (w.web.listed.line m Atom r.membrane).once in
       may_enter place atom t (let e = length_put x a own i in let g = ap (λ (us : List ℕ). length us) is in omega (arith, e, g)) (in_none f (list_in f) w.web.listed x free m k)
       (λ d s. let n = place_in f q a place own i found_own d s in (n.0, key_still d ∙ n.1 ∙ sym (key_still x)))
-      (subst (λ us. OneClass F (key_in F x) own (put_at x place (of_class F (key_in F x) own)) us) is (one_before F x a place own once i found_then))
+      (subst (λ us. ClassBecomes F (key_in F x) own (put_at x place (of_class F (key_in F x) own)) us) is (one_before F x a place own once i found_then))
 
   module _ (G : ℕ → Option HeldCell) (zs : List ℕ) (p : ℕ × ℕ) (t : Touches F G m zs p) (atoms : (z : ℕ) → In z zs → cell_kind F z ≡ Atom) where
     link_stays : (n e : ℕ) → (cell_kind f n ≡ Atom → ⊥) → (n ≡ m → e ≢ LEADERS) → link_in G n e ≡ link_in F n e
@@ -300,7 +300,7 @@ module _ (f F : ℕ → Option HeldCell) (all : List ℕ) (w : IsClassedWeb f al
           (frame (node_in F) (node_in G) None (link_in F n (list_link k)) us (link_in F n (list_link k + 1)) None
           (each_of _ us (λ z i u. record { prev = t.links z PREV (omega arith) u; next = t.links z NEXT (omega arith) u })) l.runs));
       cells = each_of _ us (λ z i. let c = each_in (λ y. IsSome (F y) × (y ≢ n) × (link_in F y HOME ≡ Some n)) us z l.cells i in
-          (ap (λ (u : Rest). u.there) (t.rests z) ∙ c.0, c.1, t.links z HOME (omega arith) ∙ c.2));
+          (ap (λ (u : AllButLinks). u.there) (t.rests z) ∙ c.0, c.1, t.links z HOME (omega arith) ∙ c.2));
       once = l.once;
     }
 
@@ -312,8 +312,8 @@ module _ (f F : ℕ → Option HeldCell) (all : List ℕ) (w : IsClassedWeb f al
       membrane = r.membrane;
       home_at = t.links x HOME (omega arith) ∙ r.home_at;
       home_away = λ b d. t.links b HOME (omega arith) ∙ r.home_away b d;
-      count_at = ap (λ (u : Rest). get_or u.numbers (count_number (cell_kind f x)) 0) (t.rests m) ∙ r.count_at;
-      count_away = λ n j d. ap (λ (u : Rest). get_or u.numbers (count_number j) 0) (t.rests n) ∙ r.count_away n j d;
+      count_at = ap (λ (u : AllButLinks). get_or u.numbers (count_number (cell_kind f x)) 0) (t.rests m) ∙ r.count_at;
+      count_away = λ n j d. ap (λ (u : AllButLinks). get_or u.numbers (count_number j) 0) (t.rests n) ∙ r.count_away n j d;
       line = line_stays m (cell_kind f x) xs r.membrane r.line;
       others = λ n j c d. line_stays n j (list_in f n j) c (r.others n j c d);
       was = r.was;
@@ -327,11 +327,11 @@ module _ (f F : ℕ → Option HeldCell) (all : List ℕ) (w : IsClassedWeb f al
         let o = still_classed n c in (
           o.0,
           class_kept F G n (list_in f n Atom) o.0 (λ z i u. (get_or (t.rests z u).numbers HIGH 0, get_or (t.rests z u).numbers ARITY 0)) (λ z k i a b. t.away z k (apart z i) (λ e. absurd (no_m n z i e)))
-              (λ z i s. ap (λ (u : Rest). u.there) (t.rests z) ∙ s) (link_stays n LEADERS c (λ e. absurd (d e))) o.1,
+              (λ z i s. ap (λ (u : AllButLinks). u.there) (t.rests z) ∙ s) (link_stays n LEADERS c (λ e. absurd (d e))) o.1,
         )
 
     low_touched : (b : ℕ) → number_in G b LOW < 2 ^ 64
-    low_touched b = subst (λ n. n < 2 ^ 64) (sym (ap (λ (u : Rest). get_or u.numbers LOW 0) (t.rests b) ∙ low_still b)) (w.classed.low b)
+    low_touched b = subst (λ n. n < 2 ^ 64) (sym (ap (λ (u : AllButLinks). get_or u.numbers LOW 0) (t.rests b) ∙ low_still b)) (w.classed.low b)
 
   -- a change of a list of membranes leaves all classes
   membrane_classed : cell_kind f x ≡ Membrane → IsClassed F lists
@@ -342,14 +342,14 @@ module _ (f F : ℕ → Option HeldCell) (all : List ℕ) (w : IsClassedWeb f al
   }
 
   -- one of a list of atoms and then of its classes
-  atom_classed : (G : ℕ → Option HeldCell) (zs : List ℕ) (p : ℕ × ℕ) → cell_kind f x ≡ Atom → (filed : Filed F G m zs p xs) → (atoms : (z : ℕ) → In z zs → cell_kind F z ≡ Atom) → ((n z : ℕ) → n ≢ m → In z (list_in f n Atom) → In z zs → ⊥)
+  atom_classed : (G : ℕ → Option HeldCell) (zs : List ℕ) (p : ℕ × ℕ) → cell_kind f x ≡ Atom → (filed : Refiled F G m zs p xs) → (atoms : (z : ℕ) → In z zs → cell_kind F z ≡ Atom) → ((n z : ℕ) → n ≢ m → In z (list_in f n Atom) → In z zs → ⊥)
       → IsClassed G lists
   atom_classed G zs p e filed atoms apart = record {
     classes = λ n d. each f F (list_in f) w.web.listed m x h xs r (λ n j us. j ≡ Atom → (cell_kind F n ≡ Atom → ⊥) → (ls : List ℕ) × AreClassed G n us ls)
         (λ s c. (filed.leaders, filed.classed)) (λ n j away s c. subst (λ i. (ls : List ℕ) × AreClassed G n (list_in f n i) ls) (sym s)
         (let other : n ≢ m = λ q. away q (s ∙ sym e) in
         others_classed G zs p filed.touches atoms n other (λ a. c (kind_is f F (list_in f) w.web.listed m x h xs r n ∙ a)) (λ z i k. apart n z other i k))) n Atom refl
-        (λ a. d (ap (λ (u : Rest). kind_by (get_or u.numbers KIND 0)) (filed.touches.rests n) ∙ a));
+        (λ a. d (ap (λ (u : AllButLinks). kind_by (get_or u.numbers KIND 0)) (filed.touches.rests n) ∙ a));
     low = low_touched G zs p filed.touches atoms;
   }
 

@@ -12,7 +12,7 @@ use Rattle.lmn_heap.proofs.ListLemmas.{each_in}
 use Rattle.lmn_cells.specs.Cells.{HeldCell}
 use Rattle.lmn_cells.specs.Runs.{put_before}
 use Rattle.lmn_cells.proofs.CellRows.{if_yes}
-use Rattle.lmn_web.specs.Classes.{key_in, is_key, of_class, put_at, OneClass}
+use Rattle.lmn_web.specs.Classes.{key_in, is_key, of_class, put_at, ClassBecomes}
 use Rattle.lmn_web.proofs.Reclassing.{key_same, key_true, in_filter}
 
 -- two tests that agree on a list
@@ -126,14 +126,14 @@ key_apart : (p q : ℕ × ℕ) → is_key q p ≡ false → is_key p q ≡ false
 key_apart p q e = elim (bool_cases (is_key p q)) [ inl t ↦ absurd (let z : true ≡ false = sym (key_same q) ∙ ap (λ u. is_key q u) (sym (key_true p q t)) ∙ e in cc) | inr f ↦ f ]
 
 -- an atom comes to the end
-pub one_last : (f : ℕ → Option HeldCell) (c : ℕ) (xs : List ℕ) → OneClass f (key_in f c) xs (put_at c None (of_class f (key_in f c) xs)) (xs ++ c ∷ [])
+pub one_last : (f : ℕ → Option HeldCell) (c : ℕ) (xs : List ℕ) → ClassBecomes f (key_in f c) xs (put_at c None (of_class f (key_in f c) xs)) (xs ++ c ∷ [])
 one_last f c xs = record {
   others = λ q e. end_no (λ a. is_key (key_in f a) q) c xs (key_apart (key_in f c) q e);
   own = end_yes (λ a. is_key (key_in f a) (key_in f c)) c xs (key_same (key_in f c));
 }
 
 -- leaves
-pub one_without : (f : ℕ → Option HeldCell) (c : ℕ) (xs : List ℕ) → OneClass f (key_in f c) xs (without c (of_class f (key_in f c) xs)) (without c xs)
+pub one_without : (f : ℕ → Option HeldCell) (c : ℕ) (xs : List ℕ) → ClassBecomes f (key_in f c) xs (without c (of_class f (key_in f c) xs)) (without c xs)
 one_without f c xs = record {
   others = λ q e. without_no (λ a. is_key (key_in f a) q) c xs (key_apart (key_in f c) q e);
   own = without_yes (λ a. is_key (key_in f a) (key_in f c)) c xs (key_same (key_in f c));
@@ -141,7 +141,7 @@ one_without f c xs = record {
 
 -- or comes before another, where d is the first of its class from there on
 pub one_before : (f : ℕ → Option HeldCell) (c a : ℕ) (d : Option ℕ) (xs : List ℕ) → Distinct xs → In a xs → from d (of_class f (key_in f c) xs) ≡ of_class f (key_in f c) (from (Some a) xs)
-    → OneClass f (key_in f c) xs (put_at c d (of_class f (key_in f c) xs)) (put_before c a xs)
+    → ClassBecomes f (key_in f c) xs (put_at c d (of_class f (key_in f c) xs)) (put_before c a xs)
 one_before f c a None xs apart i e = record {
   others = λ q e. before_no (λ a. is_key (key_in f a) q) c a xs (key_apart (key_in f c) q e);
   own = before_end (λ a. is_key (key_in f a) (key_in f c)) c a xs (key_same (key_in f c)) i e;

@@ -9,7 +9,7 @@ use Rattle.lmn_heap.proofs.ListLemmas.{each_of}
 use Rattle.lmn_cells.specs.Cells.{HeldCell}
 use Rattle.lmn_cells.specs.Runs.{Node, RunsThrough, link_in}
 use Rattle.lmn_cells.proofs.RunLemmas.{frame}
-use Rattle.lmn_web.specs.Classes.{PEER, CLASS_LAST, LEADERS, class_node, key_in, is_key, of_class, ArePeers, AreClassed, place_of}
+use Rattle.lmn_web.specs.Classes.{PEER, CLASS_LAST, LEADERS, class_node, key_in, is_key, of_class, ArePeers, AreClassed, class_place}
 
 -- Tests of classes
 
@@ -118,28 +118,28 @@ module _ (f g : ℕ → Option HeldCell) (m : ℕ) (xs ls : List ℕ) (old : Are
 -- The place of a class
 
 -- a class with a first atom
-pub leader_in : (f : ℕ → Option HeldCell) (p : ℕ × ℕ) (before : Option ℕ) (ls : List ℕ) (l : ℕ) → (place_of f p before ls).leader ≡ Some l → In l ls × (is_key (key_in f l) p ≡ true)
+pub leader_in : (f : ℕ → Option HeldCell) (p : ℕ × ℕ) (before : Option ℕ) (ls : List ℕ) (l : ℕ) → (class_place f p before ls).leader ≡ Some l → In l ls × (is_key (key_in f l) p ≡ true)
 leader_in f p before [] l e = absurd cc
 leader_in f p before (x ∷ ls) l e = by (is_key (key_in f x) p) refl (leader_in f p (Some x) ls l) e
   where
-    by : (b : Bool) → is_key (key_in f x) p ≡ b → ((place_of f p (Some x) ls).leader ≡ Some l → In l ls × (is_key (key_in f l) p ≡ true))
-        → (if b then record { before = before; leader = Some x } else place_of f p (Some x) ls).leader ≡ Some l → In l (x ∷ ls) × (is_key (key_in f l) p ≡ true)
+    by : (b : Bool) → is_key (key_in f x) p ≡ b → ((class_place f p (Some x) ls).leader ≡ Some l → In l ls × (is_key (key_in f l) p ≡ true))
+        → (if b then record { before = before; leader = Some x } else class_place f p (Some x) ls).leader ≡ Some l → In l (x ∷ ls) × (is_key (key_in f l) p ≡ true)
     by true t rest s = let z : x ≡ l = cc in (inl z, ap (λ u. is_key (key_in f u) p) (sym z) ∙ t)
     by false t rest s = let w = rest s in (inr w.0, w.1)
 
 -- and one with none
-pub leader_none : (f : ℕ → Option HeldCell) (p : ℕ × ℕ) (before : Option ℕ) (ls : List ℕ) → (place_of f p before ls).leader ≡ None → (l : ℕ) → In l ls → is_key (key_in f l) p ≡ false
+pub leader_none : (f : ℕ → Option HeldCell) (p : ℕ × ℕ) (before : Option ℕ) (ls : List ℕ) → (class_place f p before ls).leader ≡ None → (l : ℕ) → In l ls → is_key (key_in f l) p ≡ false
 leader_none f p before [] e l i = absurd i
 leader_none f p before (x ∷ ls) e l i = by (is_key (key_in f x) p) refl (λ s j. leader_none f p (Some x) ls s l j) e i
   where
-    by : (b : Bool) → is_key (key_in f x) p ≡ b → ((place_of f p (Some x) ls).leader ≡ None → In l ls → is_key (key_in f l) p ≡ false)
-        → (if b then record { before = before; leader = Some x } else place_of f p (Some x) ls).leader ≡ None → In l (x ∷ ls) → is_key (key_in f l) p ≡ false
+    by : (b : Bool) → is_key (key_in f x) p ≡ b → ((class_place f p (Some x) ls).leader ≡ None → In l ls → is_key (key_in f l) p ≡ false)
+        → (if b then record { before = before; leader = Some x } else class_place f p (Some x) ls).leader ≡ None → In l (x ∷ ls) → is_key (key_in f l) p ≡ false
     by true t rest s j = absurd (let z : ◌≡◌ {A = Option ℕ} (Some x) None = s in cc)
     by false t rest s (inl z) = ap (λ u. is_key (key_in f u) p) (sym z) ∙ t
     by false t rest s (inr j) = rest s j
 
 -- with none the membrane has no atom of the class
-pub class_none : (f : ℕ → Option HeldCell) (m : ℕ) (xs ls : List ℕ) → AreClassed f m xs ls → (p : ℕ × ℕ) → (place_of f p None ls).leader ≡ None → of_class f p xs ≡ []
+pub class_none : (f : ℕ → Option HeldCell) (m : ℕ) (xs ls : List ℕ) → AreClassed f m xs ls → (p : ℕ × ℕ) → (class_place f p None ls).leader ≡ None → of_class f p xs ≡ []
 class_none f m xs ls old p e = by (of_class f p xs) (λ z i. in_filter (λ a. is_key (key_in f a) p) z xs i)
   where
     by : (zs : List ℕ) → ((z : ℕ) → In z zs → In z xs × (is_key (key_in f z) p ≡ true)) → zs ≡ []

@@ -22,7 +22,7 @@ use Rattle.lmn_web.specs.declared.kind.CellKind.TheVariants.{Atom, Membrane}
 use Rattle.lmn_web.specs.Kinds.{kind_by}
 use Rattle.lmn_web.specs.Webs as web
 use Rattle.lmn_web.specs.Webs.{WebCell, web_cell, web_with, web_of, web_by, kind_at, cells_in, list_in, number_in, count_number, list_link, label_by, with_home, with_list, relisted, added_last, added_before, INDEX, ARITY, KIND, HIGH, LOW, OWN}
-use Rattle.lmn_web.specs.Classes.{Rest, rest}
+use Rattle.lmn_web.specs.Classes.{AllButLinks, all_but_links}
 use Rattle.lmn_web.specs.Indexes.{cell_kind, IsListed, IsWeb}
 use Rattle.lmn_web.proofs.ListedLemmas.{kind_cases, link_behind, links_apart, count_behind, counts_apart, count_below, line_same, listed_self, web_self, home_same, kind_same, list_same, own_line, cell_of}
 use Rattle.lmn_web.proofs.WebLemmas.{some_back, Account, account, kept_web, reaches_same, paired_same}
@@ -267,34 +267,34 @@ no_more f all w xs d there =
 
 -- The steps in the cells
 
-pub rest_link : (f : ℕ → Option HeldCell) (a j : ℕ) (v : Option ℕ) (b : ℕ) → rest (alter f a (option_map (with_link j v)) b) ≡ rest (f b)
-rest_link f a j v b = keeps rest f a (with_link j v) by b
+pub rest_link : (f : ℕ → Option HeldCell) (a j : ℕ) (v : Option ℕ) (b : ℕ) → all_but_links (alter f a (option_map (with_link j v)) b) ≡ all_but_links (f b)
+rest_link f a j v b = keeps all_but_links f a (with_link j v) by b
   where
-    by : (o : Option HeldCell) → rest (option_map (with_link j v) o) ≡ rest o
+    by : (o : Option HeldCell) → all_but_links (option_map (with_link j v) o) ≡ all_but_links o
     by None = refl
     by (Some c) = refl
 
-rest_next : (f : ℕ → Option HeldCell) (m e : ℕ) (p n : Option ℕ) (b : ℕ) → rest (with_next f m e p n b) ≡ rest (f b)
+rest_next : (f : ℕ → Option HeldCell) (m e : ℕ) (p n : Option ℕ) (b : ℕ) → all_but_links (with_next f m e p n b) ≡ all_but_links (f b)
 rest_next f m e None n b = rest_link f m e n b
 rest_next f m e (Some q) n b = rest_link f q NEXT n b
 
-rest_prev : (f : ℕ → Option HeldCell) (m e : ℕ) (n p : Option ℕ) (b : ℕ) → rest (with_prev f m e n p b) ≡ rest (f b)
+rest_prev : (f : ℕ → Option HeldCell) (m e : ℕ) (n p : Option ℕ) (b : ℕ) → all_but_links (with_prev f m e n p b) ≡ all_but_links (f b)
 rest_prev f m e None p b = rest_link f m (e + 1) p b
 rest_prev f m e (Some q) p b = rest_link f q PREV p b
 
 -- what the three steps leave
 
-rest_appended : (f : ℕ → Option HeldCell) (m e x b : ℕ) → rest (appended f m e x b) ≡ rest (f b)
+rest_appended : (f : ℕ → Option HeldCell) (m e x b : ℕ) → all_but_links (appended f m e x b) ≡ all_but_links (f b)
 rest_appended f m e x b =
     let p = link_in f m (e + 1) in let a1 = alter f x (option_map (with_link HOME (Some m))) in let a2 = alter a1 x (option_map (with_link PREV p)) in let a3 = alter a2 x (option_map (with_link NEXT None)) in
     rest_link (with_next a3 m e p (Some x)) m (e + 1) (Some x) b ∙ rest_next a3 m e p (Some x) b ∙ rest_link a2 x NEXT None b ∙ rest_link a1 x PREV p b ∙ rest_link f x HOME (Some m) b
 
-rest_inserted : (f : ℕ → Option HeldCell) (m e a x b : ℕ) → rest (inserted f m e a x b) ≡ rest (f b)
+rest_inserted : (f : ℕ → Option HeldCell) (m e a x b : ℕ) → all_but_links (inserted f m e a x b) ≡ all_but_links (f b)
 rest_inserted f m e a x b =
     let p = link_in f a PREV in let a1 = alter f x (option_map (with_link HOME (Some m))) in let a2 = alter a1 x (option_map (with_link PREV p)) in let a3 = alter a2 x (option_map (with_link NEXT (Some a))) in
     rest_link (with_next a3 m e p (Some x)) a PREV (Some x) b ∙ rest_next a3 m e p (Some x) b ∙ rest_link a2 x NEXT (Some a) b ∙ rest_link a1 x PREV p b ∙ rest_link f x HOME (Some m) b
 
-rest_unlinked : (f : ℕ → Option HeldCell) (m e x b : ℕ) → rest (unlinked f m e x b) ≡ rest (f b)
+rest_unlinked : (f : ℕ → Option HeldCell) (m e x b : ℕ) → all_but_links (unlinked f m e x b) ≡ all_but_links (f b)
 rest_unlinked f m e x b =
     let p = link_in f x PREV in let n = link_in f x NEXT in let f1 = with_next f m e p n in
     rest_link (with_prev f1 m e n p) x HOME None b ∙ rest_prev f1 m e n p b ∙ rest_next f m e p n b
@@ -331,11 +331,11 @@ no_home f m e x =
     by (Some c) = none c.links
 
 -- the core by what links leave
-abbrev pub back : Rest → Option Core
+abbrev pub back : AllButLinks → Option Core
 back r = if r.there then Some record { index = get_or r.numbers INDEX 0; arity = get_or r.numbers ARITY 0; kind = get_or r.numbers KIND 0; high = get_or r.numbers HIGH 0; low = get_or r.numbers LOW 0; own = get_or r.numbers OWN 0; numbers = length r.numbers; ports = r.ports } else None
 
 -- links leave the core
-pub core_rest : (o : Option HeldCell) → core_of o ≡ back (rest o)
+pub core_rest : (o : Option HeldCell) → core_of o ≡ back (all_but_links o)
 core_rest None = refl
 core_rest (Some c) = refl
 
@@ -357,7 +357,7 @@ core_count j n (Some c) =
 
 -- f is changed to F by links alone, and in g the length of a list is told too
 pub record Moves (f F : ℕ → Option HeldCell) (ys : ℕ → CellKind → List ℕ) (m x : ℕ) (h : Option ℕ) (xs : List ℕ) : Type 0 where
-  pub rests : (b : ℕ) → rest (F b) ≡ rest (f b)
+  pub rests : (b : ℕ) → all_but_links (F b) ≡ all_but_links (f b)
   pub home_at : link_in F x HOME ≡ h
   pub home_away : (b : ℕ) → b ≢ x → link_in F b HOME ≡ link_in f b HOME
   pub line : Line F m (list_link (cell_kind f x)) xs
@@ -365,11 +365,11 @@ pub record Moves (f F : ℕ → Option HeldCell) (ys : ℕ → CellKind → List
 
 -- a number of a cell after such a change
 pub moved_number : (f F : ℕ → Option HeldCell) (ys : ℕ → CellKind → List ℕ) (m x : ℕ) (h : Option ℕ) (xs : List ℕ) → Moves f F ys m x h xs → (b i : ℕ) → number_in F b i ≡ number_in f b i
-moved_number f F ys m x h xs v b i = ap (λ (r : Rest). get_or r.numbers i 0) (v.rests b)
+moved_number f F ys m x h xs v b i = ap (λ (r : AllButLinks). get_or r.numbers i 0) (v.rests b)
 
 -- and what is there
 pub moved_there : (f F : ℕ → Option HeldCell) (ys : ℕ → CellKind → List ℕ) (m x : ℕ) (h : Option ℕ) (xs : List ℕ) → Moves f F ys m x h xs → (b : ℕ) → IsSome (f b) → IsSome (F b)
-moved_there f F ys m x h xs v b t = ap (λ (r : Rest). r.there) (v.rests b) ∙ t
+moved_there f F ys m x h xs v b t = ap (λ (r : AllButLinks). r.there) (v.rests b) ∙ t
 
 module _ (f F : ℕ → Option HeldCell) (all : List ℕ) (w : IsWeb f all) (m x : ℕ) (h : Option ℕ) (xs : List ℕ) (v : Moves f F (list_in f) m x h xs) (count : ℕ) (there_m : IsSome (f m)) where
   abbrev kd : CellKind
@@ -409,7 +409,7 @@ module _ (f F : ℕ → Option HeldCell) (all : List ℕ) (w : IsWeb f all) (m x
     membrane = membrane;
     home_at = links_keep x HOME ∙ v.home_at;
     home_away = λ b d. links_keep b HOME ∙ v.home_away b d;
-    count_at = ap (λ (o : Option HeldCell). get_or (numbers_of o) (count_number kd) 0) (alter_at F m (option_map (with_number (count_number kd) count))) ∙ set_there (F m) (ap (λ (r : Rest). length r.numbers) (v.rests m) ∙ w.numbers m there_m) ∙ long;
+    count_at = ap (λ (o : Option HeldCell). get_or (numbers_of o) (count_number kd) 0) (alter_at F m (option_map (with_number (count_number kd) count))) ∙ set_there (F m) (ap (λ (r : AllButLinks). length r.numbers) (v.rests m) ∙ w.numbers m there_m) ∙ long;
     count_away = λ b j d. elim (cases_eq b m) [
       | inl s ↦ subst (λ z. number_in G z (count_number j) ≡ number_in f z (count_number j)) (sym s) (ap (λ (o : Option HeldCell). get_or (numbers_of o) (count_number j) 0) (alter_at F m (option_map (with_number (count_number kd) count)))
           ∙ set_other (F m) j (d s) ∙ moved_number f F (list_in f) m x h xs v m (count_number j))
@@ -430,9 +430,9 @@ length_without x [] i = absurd i
 length_without x (y ∷ ys) i = by (y == x) refl (length_without x ys) i
   where
     by : (t : Bool) → (y == x) ≡ t → (In x ys → length (without x ys) + 1 ≡ length ys) → In x (y ∷ ys) → length (if t then ys else y ∷ without x ys) + 1 ≡ length (y ∷ ys)
-    by true e rest j = omega arith
-    by false e rest (inl s) = absurd (let z : true ≡ false = sym (eq-eqb y x s) ∙ e in cc)
-    by false e rest (inr j) = let r = rest j in omega (arith, r)
+    by true e all_but_links j = omega arith
+    by false e all_but_links (inl s) = absurd (let z : true ≡ false = sym (eq-eqb y x s) ∙ e in cc)
+    by false e all_but_links (inr j) = let r = all_but_links j in omega (arith, r)
 
 -- a cell of a kind that is no atom is there
 pub membrane_there : (f : ℕ → Option HeldCell) (m : ℕ) → (cell_kind f m ≡ Atom → ⊥) → IsSome (f m)
@@ -505,7 +505,7 @@ module _ (f F g : ℕ → Option HeldCell) (all : List ℕ) (w : IsWeb f all) (m
   Clause us = (k : ℕ) (j : ℕ) (ys : List ℕ) → Line f k j ys → Apart m e (x ∷ ls) k j ys → Line F k j ys
 
   -- the change of the cells
-  coming : (us : List ℕ) → ((b : ℕ) → rest (F b) ≡ rest (f b)) → ((b : ℕ) → b ≢ x → link_in F b HOME ≡ link_in f b HOME) → In x us → Line F m e us → Clause us → Moves f F (list_in f) m x (Some m) us
+  coming : (us : List ℕ) → ((b : ℕ) → all_but_links (F b) ≡ all_but_links (f b)) → ((b : ℕ) → b ≢ x → link_in F b HOME ≡ link_in f b HOME) → In x us → Line F m e us → Clause us → Moves f F (list_in f) m x (Some m) us
   coming us rests homes i line others = record {
     rests = rests;
     home_at = (each_in (λ y. IsSome (F y) × (y ≢ m) × (link_in F y HOME ≡ Some m)) us x line.cells i).2;
@@ -541,7 +541,7 @@ module _ (f F g : ℕ → Option HeldCell) (all : List ℕ) (w : IsWeb f all) (m
   in_end = in_right x ls (x ∷ []) (inl refl)
 
   appended_moves : Appended → Moves f F (list_in f) m x (Some m) at_end
-  appended_moves a = coming at_end (λ b. ap (λ (u : ℕ → Option HeldCell). rest (u b)) a.0 ∙ rest_appended f m e x b)
+  appended_moves a = coming at_end (λ b. ap (λ (u : ℕ → Option HeldCell). all_but_links (u b)) a.0 ∙ rest_appended f m e x b)
       (λ b d. ap (λ (u : ℕ → Option HeldCell). link_in u b HOME) a.0 ∙ home_appended f m e x (subst (λ j. PREV < j) (sym at_e) (link_behind ka)) b d) in_end (a.1 ls line_e out_of) (a.2 ls line_e out_of)
 
   -- what is there stays there
@@ -562,7 +562,7 @@ module _ (f F g : ℕ → Option HeldCell) (all : List ℕ) (w : IsWeb f all) (m
       × ((xs : List ℕ) → Line f m e xs → In a xs → (In x xs → ⊥) → (k j : ℕ) (ys : List ℕ) → Line f k j ys → Apart m e (x ∷ xs) k j ys → Line F k j ys)
 
   inserted_moves : (a : ℕ) → In a ls → Inserted a → Moves f F (list_in f) m x (Some m) (put_before x a ls)
-  inserted_moves a i s = coming (put_before x a ls) (λ b. ap (λ (u : ℕ → Option HeldCell). rest (u b)) s.0 ∙ rest_inserted f m e a x b)
+  inserted_moves a i s = coming (put_before x a ls) (λ b. ap (λ (u : ℕ → Option HeldCell). all_but_links (u b)) s.0 ∙ rest_inserted f m e a x b)
       (λ b d. ap (λ (u : ℕ → Option HeldCell). link_in u b HOME) s.0 ∙ home_inserted f m e a x (subst (λ j. PREV < j) (sym at_e) (link_behind ka)) b d) (in_put_new x a ls i) (s.1 ls line_e i out_of) (s.2 ls line_e i out_of)
 
   -- what is there stays there
@@ -604,7 +604,7 @@ module _ (f F g : ℕ → Option HeldCell) (all : List ℕ) (w : IsWeb f all) (m
 
   unlinked_moves : Unlinked → Moves f F (list_in f) m x None rx
   unlinked_moves u = record {
-    rests = λ b. ap (λ (v : ℕ → Option HeldCell). rest (v b)) u.0 ∙ rest_unlinked f m e x b;
+    rests = λ b. ap (λ (v : ℕ → Option HeldCell). all_but_links (v b)) u.0 ∙ rest_unlinked f m e x b;
     home_at = ap (λ (v : ℕ → Option HeldCell). link_in v x HOME) u.0 ∙ no_home f m e x;
     home_away = λ b d. ap (λ (v : ℕ → Option HeldCell). link_in v b HOME) u.0 ∙ home_unlinked f m e x (subst (λ j. PREV < j) (sym at_e) (link_behind kl)) b d;
     line = subst (λ j. Line F m j rx) at_e (u.1 lx line_l in_it);

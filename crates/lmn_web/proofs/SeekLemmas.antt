@@ -8,7 +8,7 @@ use Rattle.lmn_base.specs.Lists.{In}
 use Rattle.lmn_base.proofs.Truth.{and_true, bool_cases}
 use Rattle.lmn_heap.specs.Lists.{from, after}
 use Rattle.lmn_heap.proofs.Trees.{next_in}
-use Rattle.lmn_web.specs.Webs.{WebCell, home_at, home_of, web_label, arity_at, is_labelled, with_label, class_of, is_classed, with_class}
+use Rattle.lmn_web.specs.Webs.{WebCell, home_at, home_of, web_label, arity_at, is_labelled, with_label, label_class, is_classed, with_class}
 
 -- what stands behind an element that passes the test, of those that pass
 pub filter_after : (test : ℕ → Bool) (a : ℕ) (xs : List ℕ) → test a ≡ true → after a (filter test xs) ≡ filter test (after a xs)
@@ -35,20 +35,20 @@ pub label_here : (w : ℕ → Option WebCell) (a label n : ℕ) → web_label w 
 label_here w a label n l e = (λ t. unwrap_or (option_map (λ z. z == label) (l t)) false && (sym e t == n)) ∙ rw (eq-eqb label label refl) (eq-eqb n n refl)
 
 -- one that is of a class
-pub class_here : (w : ℕ → Option WebCell) (a class n : ℕ) → is_classed w class n a ≡ true → (l : ℕ) × (web_label w a ≡ Some l) × (class_of l ≡ class) × (arity_at w a ≡ n)
-class_here w a class n e = let both = and_true (unwrap_or (option_map (λ k. class_of k == class) (web_label w a)) false) (arity_at w a == n) e in by (web_label w a) both.0 (eqb-true (arity_at w a) n both.1)
+pub class_here : (w : ℕ → Option WebCell) (a class n : ℕ) → is_classed w class n a ≡ true → (l : ℕ) × (web_label w a ≡ Some l) × (label_class l ≡ class) × (arity_at w a ≡ n)
+class_here w a class n e = let both = and_true (unwrap_or (option_map (λ k. label_class k == class) (web_label w a)) false) (arity_at w a == n) e in by (web_label w a) both.0 (eqb-true (arity_at w a) n both.1)
   where
-    by : (o : Option ℕ) → unwrap_or (option_map (λ k. class_of k == class) o) false ≡ true → arity_at w a ≡ n → (l : ℕ) × (o ≡ Some l) × (class_of l ≡ class) × (arity_at w a ≡ n)
+    by : (o : Option ℕ) → unwrap_or (option_map (λ k. label_class k == class) o) false ≡ true → arity_at w a ≡ n → (l : ℕ) × (o ≡ Some l) × (label_class l ≡ class) × (arity_at w a ≡ n)
     by None t s = absurd cc
-    by (Some l) t s = (l, refl, eqb-true (class_of l) class t, s)
+    by (Some l) t s = (l, refl, eqb-true (label_class l) class t, s)
 
 -- a label is of its class
-label_class : (w : ℕ → Option WebCell) (a label n : ℕ) → is_labelled w label n a ≡ true → is_classed w (class_of label) n a ≡ true
-label_class w a label n e = let both = and_true (unwrap_or (option_map (λ k. k == label) (web_label w a)) false) (arity_at w a == n) e in by (web_label w a) both.0 both.1
+label_in_class : (w : ℕ → Option WebCell) (a label n : ℕ) → is_labelled w label n a ≡ true → is_classed w (label_class label) n a ≡ true
+label_in_class w a label n e = let both = and_true (unwrap_or (option_map (λ k. k == label) (web_label w a)) false) (arity_at w a == n) e in by (web_label w a) both.0 both.1
   where
-    by : (o : Option ℕ) → unwrap_or (option_map (λ k. k == label) o) false ≡ true → (arity_at w a == n) ≡ true → (unwrap_or (option_map (λ k. class_of k == class_of label) o) false && (arity_at w a == n)) ≡ true
+    by : (o : Option ℕ) → unwrap_or (option_map (λ k. k == label) o) false ≡ true → (arity_at w a == n) ≡ true → (unwrap_or (option_map (λ k. label_class k == label_class label) o) false && (arity_at w a == n)) ≡ true
     by None t s = absurd cc
-    by (Some l) t s = rw (eq-eqb (class_of l) (class_of label) (ap class_of (eqb-true l label t))) s
+    by (Some l) t s = rw (eq-eqb (label_class l) (label_class label) (ap label_class (eqb-true l label t))) s
 
 -- of those that pass a wider test the same pass the narrower one
 filter_within : (s t : ℕ → Bool) (xs : List ℕ) → ((x : ℕ) → s x ≡ true → t x ≡ true) → filter s (filter t xs) ≡ filter s xs
@@ -63,8 +63,8 @@ filter_within s t (x ∷ xs) h = by (t x) refl (filter_within s t xs h)
     ]
 
 -- so the atoms with a label are those of its class with it
-pub label_within : (w : ℕ → Option WebCell) (label n : ℕ) (xs : List ℕ) → with_label w label n (with_class w (class_of label) n xs) ≡ with_label w label n xs
-label_within w label n xs = filter_within (is_labelled w label n) (is_classed w (class_of label) n) xs (λ a. label_class w a label n)
+pub label_within : (w : ℕ → Option WebCell) (label n : ℕ) (xs : List ℕ) → with_label w label n (with_class w (label_class label) n xs) ≡ with_label w label n xs
+label_within w label n xs = filter_within (is_labelled w label n) (is_classed w (label_class label) n) xs (λ a. label_in_class w a label n)
 
 -- what follows an element, if anything, is in the list
 pub next_some : {X : Type 0} (id : X → ℕ) (r : Option X) (a : ℕ) (xs : List ℕ) → from (option_map id r) xs ≡ after a xs → IfSome r (λ x. In (id x) xs)

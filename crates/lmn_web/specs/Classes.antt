@@ -56,63 +56,63 @@ pub record AreClassed (f : ℕ → Option HeldCell) (m : ℕ) (xs ls : List ℕ)
   pub runs : (l : ℕ) → In l ls → RunsThrough (class_node f) None (Some l) (of_class f (key_in f l) xs) (link_in f l CLASS_LAST) None
 
 -- the first of a list with this class, and the one before it, or the last of the list
-pub record Place : Type 0 where
+pub record ClassPlace : Type 0 where
   pub before : Option ℕ
   pub leader : Option ℕ
 
-abbrev pub place_of : (ℕ → Option HeldCell) → ℕ × ℕ → Option ℕ → List ℕ → Place
-place_of f p before [] = record { before = before; leader = None }
-place_of f p before (l ∷ ls) = if is_key (key_in f l) p then record { before = before; leader = Some l } else place_of f p (Some l) ls
+abbrev pub class_place : (ℕ → Option HeldCell) → ℕ × ℕ → Option ℕ → List ℕ → ClassPlace
+class_place f p before [] = record { before = before; leader = None }
+class_place f p before (l ∷ ls) = if is_key (key_in f l) p then record { before = before; leader = Some l } else class_place f p (Some l) ls
 
 -- What is written
 
 -- one link of a cell is another
-abbrev pub relinked : (ℕ → Option HeldCell) → ℕ → ℕ → Option ℕ → ℕ → Option HeldCell
-relinked f a k v = alter f a (option_map (with_link k v))
+abbrev pub link_written : (ℕ → Option HeldCell) → ℕ → ℕ → Option ℕ → ℕ → Option HeldCell
+link_written f a k v = alter f a (option_map (with_link k v))
 
 -- what follows a cell in the chain of leaders, or begins it, is another
 abbrev pub led : (ℕ → Option HeldCell) → ℕ → Option ℕ → Option ℕ → ℕ → Option HeldCell
-led f m None to = relinked f m LEADERS to
-led f m (Some d) to = relinked f d PEER to
+led f m None to = link_written f m LEADERS to
+led f m (Some d) to = link_written f d PEER to
 
 -- c begins a class of its own
 abbrev pub begun : (ℕ → Option HeldCell) → ℕ → ℕ → ℕ → Option HeldCell
-begun f m c = relinked (relinked (relinked (relinked (relinked f c CLASS_NEXT None) c CLASS_PREV None) c CLASS_LAST (Some c)) c PEER (link_in f m LEADERS)) m LEADERS (Some c)
+begun f m c = link_written (link_written (link_written (link_written (link_written f c CLASS_NEXT None) c CLASS_PREV None) c CLASS_LAST (Some c)) c PEER (link_in f m LEADERS)) m LEADERS (Some c)
 
 -- c stands behind q, the last one of the class of l
 abbrev pub lengthened : (ℕ → Option HeldCell) → ℕ → ℕ → ℕ → ℕ → Option HeldCell
-lengthened f l q c = relinked (relinked (relinked (relinked f c CLASS_NEXT None) c CLASS_PREV (Some q)) q CLASS_NEXT (Some c)) l CLASS_LAST (Some c)
+lengthened f l q c = link_written (link_written (link_written (link_written f c CLASS_NEXT None) c CLASS_PREV (Some q)) q CLASS_NEXT (Some c)) l CLASS_LAST (Some c)
 
 -- c stands between p and d
 abbrev pub put_between : (ℕ → Option HeldCell) → ℕ → ℕ → ℕ → ℕ → Option HeldCell
-put_between f p d c = relinked (relinked (relinked (relinked f c CLASS_NEXT (Some d)) c CLASS_PREV (Some p)) p CLASS_NEXT (Some c)) d CLASS_PREV (Some c)
+put_between f p d c = link_written (link_written (link_written (link_written f c CLASS_NEXT (Some d)) c CLASS_PREV (Some p)) p CLASS_NEXT (Some c)) d CLASS_PREV (Some c)
 
 -- c leads in the place of d, which stands behind it
 abbrev pub put_first : (ℕ → Option HeldCell) → ℕ → Option ℕ → ℕ → ℕ → ℕ → Option HeldCell
-put_first f m before d c = led (relinked (relinked (relinked (relinked (relinked f c CLASS_NEXT (Some d)) c CLASS_PREV None) d CLASS_PREV (Some c)) c CLASS_LAST (link_in f d CLASS_LAST)) c PEER (link_in f d PEER)) m before (Some c)
+put_first f m before d c = led (link_written (link_written (link_written (link_written (link_written f c CLASS_NEXT (Some d)) c CLASS_PREV None) d CLASS_PREV (Some c)) c CLASS_LAST (link_in f d CLASS_LAST)) c PEER (link_in f d PEER)) m before (Some c)
 
 -- what stood between p and n has left
 abbrev pub closed : (ℕ → Option HeldCell) → ℕ → ℕ → ℕ → Option HeldCell
-closed f p n = relinked (relinked f p CLASS_NEXT (Some n)) n CLASS_PREV (Some p)
+closed f p n = link_written (link_written f p CLASS_NEXT (Some n)) n CLASS_PREV (Some p)
 
 -- p is the last one of the class of l
 abbrev pub shortened : (ℕ → Option HeldCell) → ℕ → ℕ → ℕ → Option HeldCell
-shortened f l p = relinked (relinked f p CLASS_NEXT None) l CLASS_LAST (Some p)
+shortened f l p = link_written (link_written f p CLASS_NEXT None) l CLASS_LAST (Some p)
 
 -- n leads in the place of c, which stood before it
 abbrev pub passed : (ℕ → Option HeldCell) → ℕ → Option ℕ → ℕ → ℕ → ℕ → Option HeldCell
-passed f m before c n = led (relinked (relinked (relinked f n CLASS_PREV None) n CLASS_LAST (link_in f c CLASS_LAST)) n PEER (link_in f c PEER)) m before (Some n)
+passed f m before c n = led (link_written (link_written (link_written f n CLASS_PREV None) n CLASS_LAST (link_in f c CLASS_LAST)) n PEER (link_in f c PEER)) m before (Some n)
 
 -- What the three calls ask and leave
 
 -- what of a cell its links leave
-pub record Rest : Type 0 where
+pub record AllButLinks : Type 0 where
   pub there : Bool
   pub numbers : List ℕ
   pub ports : List HeldPort
 
-abbrev pub rest : Option HeldCell → Rest
-rest o = record { there = is_some o; numbers = numbers_of o; ports = ports_of o }
+abbrev pub all_but_links : Option HeldCell → AllButLinks
+all_but_links o = record { there = is_some o; numbers = numbers_of o; ports = ports_of o }
 
 -- xs are the atoms of m, and ls the first ones of their classes; c is an atom
 pub record MayFile (f : ℕ → Option HeldCell) (m c : ℕ) (xs ls : List ℕ) : Type 0 where
@@ -127,7 +127,7 @@ pub record MayFile (f : ℕ → Option HeldCell) (m c : ℕ) (xs ls : List ℕ) 
 
 -- What writes to classes leave: p is the class, and xs has all cells that are written but m.
 pub record Touches (f g : ℕ → Option HeldCell) (m : ℕ) (xs : List ℕ) (p : ℕ × ℕ) : Type 0 where
-  pub rests : (b : ℕ) → rest (g b) ≡ rest (f b)
+  pub rests : (b : ℕ) → all_but_links (g b) ≡ all_but_links (f b)
   pub lengths : (b : ℕ) → length (links_of (g b)) ≡ length (links_of (f b))
   pub links : (b j : ℕ) → j < 3 → link_in g b j ≡ link_in f b j
   pub away : (b j : ℕ) → (In b xs → ⊥) → (b ≡ m → j ≢ LEADERS) → link_in g b j ≡ link_in f b j
@@ -135,12 +135,12 @@ pub record Touches (f g : ℕ → Option HeldCell) (m : ℕ) (xs : List ℕ) (p 
   pub lasts : (z : ℕ) → is_key (key_in f z) p ≡ false → link_in g z CLASS_LAST ≡ link_in f z CLASS_LAST
 
 -- of one class the list is zs then, and of all others it is as it was
-pub record OneClass (f : ℕ → Option HeldCell) (p : ℕ × ℕ) (xs zs xs' : List ℕ) : Type 0 where
+pub record ClassBecomes (f : ℕ → Option HeldCell) (p : ℕ × ℕ) (xs zs xs' : List ℕ) : Type 0 where
   pub others : (q : ℕ × ℕ) → is_key q p ≡ false → of_class f q xs' ≡ of_class f q xs
   pub own : of_class f p xs' ≡ zs
 
 -- the classes are those of a list xs' then
-pub record Filed (f g : ℕ → Option HeldCell) (m : ℕ) (xs : List ℕ) (p : ℕ × ℕ) (xs' : List ℕ) : Type 0 where
+pub record Refiled (f g : ℕ → Option HeldCell) (m : ℕ) (xs : List ℕ) (p : ℕ × ℕ) (xs' : List ℕ) : Type 0 where
   pub touches : Touches f g m xs p
   pub leaders : List ℕ
   pub classed : AreClassed g m xs' leaders
@@ -155,15 +155,15 @@ pub record MayEnter (f : ℕ → Option HeldCell) (m c : ℕ) (place : Option �
   pub may : MayFile f m c xs ls
   pub fresh : In c xs → ⊥
   pub inside : (d : ℕ) → place ≡ Some d → In d xs × (key_in f d ≡ key_in f c)
-  pub one : OneClass f (key_in f c) xs (put_at c place (of_class f (key_in f c) xs)) xs'
+  pub one : ClassBecomes f (key_in f c) xs (put_at c place (of_class f (key_in f c) xs)) xs'
 
 -- c, which is filed, may leave its class, so that the atoms of m are xs'
 pub record MayLeave (f : ℕ → Option HeldCell) (m c : ℕ) (xs ls xs' : List ℕ) : Type 0 where
   pub may : MayFile f m c xs ls
   pub inside : In c xs
-  pub one : OneClass f (key_in f c) xs (without c (of_class f (key_in f c) xs)) xs'
+  pub one : ClassBecomes f (key_in f c) xs (without c (of_class f (key_in f c) xs)) xs'
 
 -- as filing leaves the cells: nothing changes for a membrane
 abbrev pub FiledAs : CellKind → (ℕ → Option HeldCell) → (ℕ → Option HeldCell) → ℕ → List ℕ → ℕ × ℕ → List ℕ → Type 0
-FiledAs Atom f g m xs p xs' = Filed f g m xs p xs'
+FiledAs Atom f g m xs p xs' = Refiled f g m xs p xs'
 FiledAs Membrane f g m xs p xs' = g ≡ f

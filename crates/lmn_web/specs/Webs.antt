@@ -78,12 +78,12 @@ abbrev pub with_label : (ℕ → Option WebCell) → ℕ → ℕ → List ℕ �
 with_label w label n xs = filter (is_labelled w label n) xs
 
 -- the class of a label: its upper half
-abbrev pub class_of : ℕ → ℕ
-class_of label = label / 2 ^ 64
+abbrev pub label_class : ℕ → ℕ
+label_class label = label / 2 ^ 64
 
 -- the cell's label has this class, and the cell so many ports
 abbrev pub is_classed : (ℕ → Option WebCell) → ℕ → ℕ → ℕ → Bool
-is_classed w class n a = unwrap_or (option_map (λ k. class_of k == class) (web_label w a)) false && (arity_at w a == n)
+is_classed w class n a = unwrap_or (option_map (λ k. label_class k == class) (web_label w a)) false && (arity_at w a == n)
 
 -- those of a list of which this holds, in their order
 abbrev pub with_class : (ℕ → Option WebCell) → ℕ → ℕ → List ℕ → List ℕ

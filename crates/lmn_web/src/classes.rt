@@ -8,7 +8,7 @@ ghost use Rattle.lmn_heap.specs.Lists.{after, from, without};
 ghost use Rattle.lmn_cells.specs.Runs.{Line, link_in, put_before};
 ghost use Rattle.lmn_web.specs.declared.kind.CellKind.TheVariants.{Atom};
 ghost use Rattle.lmn_web.specs.Webs.{number_in, count_number, list_in};
-ghost use Rattle.lmn_web.specs.Classes.{ArePeers, Filed, FiledAs, MayEnter, MayFile, MayLeave, OneClass, begun, closed, is_key, key_in, led, lengthened, passed, place_of, put_between, put_first, of_class, shortened};
+ghost use Rattle.lmn_web.specs.Classes.{ArePeers, Refiled, FiledAs, MayEnter, MayFile, MayLeave, ClassBecomes, begun, closed, is_key, key_in, led, lengthened, passed, class_place, put_between, put_first, of_class, shortened};
 
 use crate::kind::CellKind;
 use lmn_cells::cell::Cells;
@@ -58,7 +58,7 @@ pub fn find(cells: &Cells, m: Cell, high: u64, arity: u64) -> Leader
     requires there { IsSome (cells_by cells.now (cell_id m)) }
     requires peers { (ls : List ℕ) × ArePeers (cells_by cells.now) (link_in (cells_by cells.now) (cell_id m) 7) ls × (length ls ≤ number_in (cells_by cells.now) (cell_id m) (count_number Atom) + 1) }
     ensures { (ls : List ℕ) → ArePeers (cells_by cells.now) (link_in (cells_by cells.now) (cell_id m) 7) ls →
-        (option_map cell_id result.before ≡ (place_of (cells_by cells.now) (high, arity) None ls).before) × (option_map cell_id result.leader ≡ (place_of (cells_by cells.now) (high, arity) None ls).leader) }
+        (option_map cell_id result.before ≡ (class_place (cells_by cells.now) (high, arity) None ls).before) × (option_map cell_id result.leader ≡ (class_place (cells_by cells.now) (high, arity) None ls).leader) }
 {
     let mut before = None;
     let mut at = cells.link(m, LEADERS);
@@ -225,8 +225,8 @@ fn pass(cells: &mut Cells, m: Cell, before: Option<Cell>, c: Cell, next: Cell)
 pub fn file_last(cells: &mut Cells, m: Cell, c: Cell)
     requires { (xs ls : List ℕ) × MayFile (cells_by cells.old) (cell_id m) (cell_id c) xs ls }
     ensures { (xs ls xs' : List ℕ) → MayFile (cells_by cells.old) (cell_id m) (cell_id c) xs ls → (In (cell_id c) xs → ⊥) →
-        OneClass (cells_by cells.old) (key_in (cells_by cells.old) (cell_id c)) xs (of_class (cells_by cells.old) (key_in (cells_by cells.old) (cell_id c)) xs ++ cell_id c ∷ []) xs' →
-        Filed (cells_by cells.old) (cells_by cells.new) (cell_id m) (cell_id c ∷ xs) (key_in (cells_by cells.old) (cell_id c)) xs' }
+        ClassBecomes (cells_by cells.old) (key_in (cells_by cells.old) (cell_id c)) xs (of_class (cells_by cells.old) (key_in (cells_by cells.old) (cell_id c)) xs ++ cell_id c ∷ []) xs' →
+        Refiled (cells_by cells.old) (cells_by cells.new) (cell_id m) (cell_id c ∷ xs) (key_in (cells_by cells.old) (cell_id c)) xs' }
 {
     cells.whole();
     let high = cells.number(c, HIGH);
@@ -246,8 +246,8 @@ pub fn file_last(cells: &mut Cells, m: Cell, c: Cell)
 pub fn file_before(cells: &mut Cells, m: Cell, d: Cell, c: Cell)
     requires { (xs ls : List ℕ) × MayFile (cells_by cells.old) (cell_id m) (cell_id c) xs ls × In (cell_id d) xs × (key_in (cells_by cells.old) (cell_id d) ≡ key_in (cells_by cells.old) (cell_id c)) }
     ensures { (xs ls xs' : List ℕ) → MayFile (cells_by cells.old) (cell_id m) (cell_id c) xs ls → (In (cell_id c) xs → ⊥) → In (cell_id d) xs →
-        OneClass (cells_by cells.old) (key_in (cells_by cells.old) (cell_id c)) xs (put_before (cell_id c) (cell_id d) (of_class (cells_by cells.old) (key_in (cells_by cells.old) (cell_id c)) xs)) xs' →
-        Filed (cells_by cells.old) (cells_by cells.new) (cell_id m) (cell_id c ∷ xs) (key_in (cells_by cells.old) (cell_id c)) xs' }
+        ClassBecomes (cells_by cells.old) (key_in (cells_by cells.old) (cell_id c)) xs (put_before (cell_id c) (cell_id d) (of_class (cells_by cells.old) (key_in (cells_by cells.old) (cell_id c)) xs)) xs' →
+        Refiled (cells_by cells.old) (cells_by cells.new) (cell_id m) (cell_id c ∷ xs) (key_in (cells_by cells.old) (cell_id c)) xs' }
 {
     cells.whole();
     match cells.link(d, CLASS_PREV) {
@@ -267,8 +267,8 @@ fn unfile_last(cells: &mut Cells, m: Cell, c: Cell, prev: Cell)
     requires prev { link_in (cells_by cells.old) (cell_id c) 4 ≡ Some (cell_id prev) }
     requires next { link_in (cells_by cells.old) (cell_id c) 3 ≡ None }
     ensures { (xs ls xs' : List ℕ) → MayFile (cells_by cells.old) (cell_id m) (cell_id c) xs ls → In (cell_id c) xs →
-        OneClass (cells_by cells.old) (key_in (cells_by cells.old) (cell_id c)) xs (without (cell_id c) (of_class (cells_by cells.old) (key_in (cells_by cells.old) (cell_id c)) xs)) xs' →
-        Filed (cells_by cells.old) (cells_by cells.new) (cell_id m) xs (key_in (cells_by cells.old) (cell_id c)) xs' }
+        ClassBecomes (cells_by cells.old) (key_in (cells_by cells.old) (cell_id c)) xs (without (cell_id c) (of_class (cells_by cells.old) (key_in (cells_by cells.old) (cell_id c)) xs)) xs' →
+        Refiled (cells_by cells.old) (cells_by cells.new) (cell_id m) xs (key_in (cells_by cells.old) (cell_id c)) xs' }
 {
     cells.whole();
     let high = cells.number(c, HIGH);
@@ -285,8 +285,8 @@ fn unfile_first(cells: &mut Cells, m: Cell, c: Cell, next: Option<Cell>)
     requires prev { link_in (cells_by cells.old) (cell_id c) 4 ≡ None }
     requires next { link_in (cells_by cells.old) (cell_id c) 3 ≡ option_map cell_id next }
     ensures { (xs ls xs' : List ℕ) → MayFile (cells_by cells.old) (cell_id m) (cell_id c) xs ls → In (cell_id c) xs →
-        OneClass (cells_by cells.old) (key_in (cells_by cells.old) (cell_id c)) xs (without (cell_id c) (of_class (cells_by cells.old) (key_in (cells_by cells.old) (cell_id c)) xs)) xs' →
-        Filed (cells_by cells.old) (cells_by cells.new) (cell_id m) xs (key_in (cells_by cells.old) (cell_id c)) xs' }
+        ClassBecomes (cells_by cells.old) (key_in (cells_by cells.old) (cell_id c)) xs (without (cell_id c) (of_class (cells_by cells.old) (key_in (cells_by cells.old) (cell_id c)) xs)) xs' →
+        Refiled (cells_by cells.old) (cells_by cells.new) (cell_id m) xs (key_in (cells_by cells.old) (cell_id c)) xs' }
 {
     cells.whole();
     let high = cells.number(c, HIGH);
@@ -305,8 +305,8 @@ fn unfile_first(cells: &mut Cells, m: Cell, c: Cell, next: Option<Cell>)
 pub fn unfile(cells: &mut Cells, m: Cell, c: Cell)
     requires { (xs ls : List ℕ) × MayFile (cells_by cells.old) (cell_id m) (cell_id c) xs ls × In (cell_id c) xs }
     ensures { (xs ls xs' : List ℕ) → MayFile (cells_by cells.old) (cell_id m) (cell_id c) xs ls → In (cell_id c) xs →
-        OneClass (cells_by cells.old) (key_in (cells_by cells.old) (cell_id c)) xs (without (cell_id c) (of_class (cells_by cells.old) (key_in (cells_by cells.old) (cell_id c)) xs)) xs' →
-        Filed (cells_by cells.old) (cells_by cells.new) (cell_id m) xs (key_in (cells_by cells.old) (cell_id c)) xs' }
+        ClassBecomes (cells_by cells.old) (key_in (cells_by cells.old) (cell_id c)) xs (without (cell_id c) (of_class (cells_by cells.old) (key_in (cells_by cells.old) (cell_id c)) xs)) xs' →
+        Refiled (cells_by cells.old) (cells_by cells.new) (cell_id m) xs (key_in (cells_by cells.old) (cell_id c)) xs' }
 {
     cells.whole();
     let prev = cells.link(c, CLASS_PREV);

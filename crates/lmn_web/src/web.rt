@@ -7,7 +7,7 @@ ghost use Rattle.lmn_heap.specs.Lists.{after, from};
 ghost use Rattle.lmn_cells.specs.Cells.{cells_by};
 ghost use Rattle.lmn_cells.specs.CellIds.{cell_id, port_id};
 ghost use Rattle.lmn_cells.specs.Ports.{IsSamePort};
-ghost use Rattle.lmn_web.specs.Webs.{web_by, partner_at, arity_at, kind_at, home_at, cells_in, partners_of, marks_of, new_cell, with_mark, joined, parted, added_last, added_before, unlinked, web_label, is_labelled, with_label, class_of, with_class, IsPaired, IsLoose, StandOnce};
+ghost use Rattle.lmn_web.specs.Webs.{web_by, partner_at, arity_at, kind_at, home_at, cells_in, partners_of, marks_of, new_cell, with_mark, joined, parted, added_last, added_before, unlinked, web_label, is_labelled, with_label, label_class, with_class, IsPaired, IsLoose, StandOnce};
 ghost use Rattle.lmn_web.specs.Indexes.{described, reindexed, IsIndexed};
 ghost use Rattle.lmn_web.specs.declared.kind.CellKind.TheVariants.{Atom, Membrane};
 
@@ -238,7 +238,7 @@ impl Web {
         requires home { IsSome (home_at (web_by self.now) (cell_id c)) }
         requires atom { kind_at (web_by self.now) (cell_id c) ≡ Atom }
         ensures list { (m label : ℕ) → home_at (web_by self.now) (cell_id c) ≡ Some m → web_label (web_by self.now) (cell_id c) ≡ Some label →
-            let all = with_class (web_by self.now) (class_of label) (arity_at (web_by self.now) (cell_id c)) (cells_in (web_by self.now) m Atom) in from (option_map cell_id result) all ≡ after (cell_id c) all }
+            let all = with_class (web_by self.now) (label_class label) (arity_at (web_by self.now) (cell_id c)) (cells_in (web_by self.now) m Atom) in from (option_map cell_id result) all ≡ after (cell_id c) all }
         ensures there { (m : ℕ) → home_at (web_by self.now) (cell_id c) ≡ Some m → IfSome result (λ d. In (cell_id d) (cells_in (web_by self.now) m Atom)) }
     {
         self.cells.link(c, CLASS_NEXT)
@@ -282,8 +282,8 @@ impl Web {
 
     // The first atom with this label and so many ports, from an atom of its class on.
     fn seek(&self, home: Cell, start: Option<Cell>, label: u128, arity: u8) -> Option<Cell>
-        requires { IfSome start (λ c. In (cell_id c) (with_class (web_by self.now) (class_of label) arity (cells_in (web_by self.now) (cell_id home) Atom))) }
-        ensures list { let all = with_class (web_by self.now) (class_of label) arity (cells_in (web_by self.now) (cell_id home) Atom) in
+        requires { IfSome start (λ c. In (cell_id c) (with_class (web_by self.now) (label_class label) arity (cells_in (web_by self.now) (cell_id home) Atom))) }
+        ensures list { let all = with_class (web_by self.now) (label_class label) arity (cells_in (web_by self.now) (cell_id home) Atom) in
             from (option_map cell_id result) (with_label (web_by self.now) label arity all) ≡ with_label (web_by self.now) label arity (from (option_map cell_id start) all) }
         ensures there { IfSome result (λ c. In (cell_id c) (cells_in (web_by self.now) (cell_id home) Atom)) }
     {

@@ -2,7 +2,7 @@ use Rattle.std.proofs.Common.{◌∙◌, sym, ap, ℕ, Option, Some, None}
 use Rattle.std.specs.Option.{option_map}
 use Rattle.lmn_cells.specs.Cells.{HeldCell, cells_by}
 use Rattle.lmn_cells.specs.CellIds.{cell_id}
-use Rattle.lmn_web.specs.Classes.{CLASS_NEXT, CLASS_PREV, CLASS_LAST, PEER, LEADERS, relinked}
+use Rattle.lmn_web.specs.Classes.{CLASS_NEXT, CLASS_PREV, CLASS_LAST, PEER, LEADERS, link_written}
 use Rattle.lmn_web.proofs.ClassWrites.{kept}
 use Rattle.lmn_web.proofs.classes.begin.Goals as goal
 
@@ -24,4 +24,4 @@ set_link-requires-5-clause-there c =
 
 pub returns : goal.returns
 returns c =
-    c.set_link-5.ensures ∙ ap (λ (h : ℕ → Option HeldCell). relinked h (cell_id c.args.m) LEADERS (Some (cell_id c.args.c))) (c.set_link-4.ensures ∙ ap (λ (h : ℕ → Option HeldCell). relinked h (cell_id c.args.c) PEER (option_map cell_id c.link-first.result)) (c.set_link-3.ensures ∙ ap (λ (h : ℕ → Option HeldCell). relinked h (cell_id c.args.c) CLASS_LAST (Some (cell_id c.args.c))) (c.set_link-2.ensures ∙ ap (λ (h : ℕ → Option HeldCell). relinked h (cell_id c.args.c) CLASS_PREV None) (c.set_link.ensures)))) ∙ sym (λ t. (relinked (relinked (relinked (relinked (relinked (cells_by c.args.cells.now) (cell_id c.args.c) CLASS_NEXT None) (cell_id c.args.c) CLASS_PREV None) (cell_id c.args.c) CLASS_LAST (Some (cell_id c.args.c))) (cell_id c.args.c) PEER (c.link-first.ensures t)) (cell_id c.args.m) LEADERS (Some (cell_id c.args.c))))
+    c.set_link-5.ensures ∙ ap (λ (h : ℕ → Option HeldCell). link_written h (cell_id c.args.m) LEADERS (Some (cell_id c.args.c))) (c.set_link-4.ensures ∙ ap (λ (h : ℕ → Option HeldCell). link_written h (cell_id c.args.c) PEER (option_map cell_id c.link-first.result)) (c.set_link-3.ensures ∙ ap (λ (h : ℕ → Option HeldCell). link_written h (cell_id c.args.c) CLASS_LAST (Some (cell_id c.args.c))) (c.set_link-2.ensures ∙ ap (λ (h : ℕ → Option HeldCell). link_written h (cell_id c.args.c) CLASS_PREV None) (c.set_link.ensures)))) ∙ sym (λ t. (link_written (link_written (link_written (link_written (link_written (cells_by c.args.cells.now) (cell_id c.args.c) CLASS_NEXT None) (cell_id c.args.c) CLASS_PREV None) (cell_id c.args.c) CLASS_LAST (Some (cell_id c.args.c))) (cell_id c.args.c) PEER (c.link-first.ensures t)) (cell_id c.args.m) LEADERS (Some (cell_id c.args.c))))

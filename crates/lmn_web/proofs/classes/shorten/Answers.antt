@@ -1,7 +1,7 @@
 use Rattle.std.proofs.Common.{◌∙◌, ap, ℕ, Option, Some}
 use Rattle.lmn_cells.specs.Cells.{HeldCell}
 use Rattle.lmn_cells.specs.CellIds.{cell_id}
-use Rattle.lmn_web.specs.Classes.{CLASS_LAST, relinked}
+use Rattle.lmn_web.specs.Classes.{CLASS_LAST, link_written}
 use Rattle.lmn_web.proofs.ClassWrites.{kept}
 use Rattle.lmn_web.proofs.classes.shorten.Goals as goal
 
@@ -11,4 +11,4 @@ set_link-requires-2-clause-there c =
 
 pub returns : goal.returns
 returns c =
-    c.set_link-2.ensures ∙ ap (λ (h : ℕ → Option HeldCell). relinked h (cell_id c.args.leader) CLASS_LAST (Some (cell_id c.args.prev))) (c.set_link.ensures)
+    c.set_link-2.ensures ∙ ap (λ (h : ℕ → Option HeldCell). link_written h (cell_id c.args.leader) CLASS_LAST (Some (cell_id c.args.prev))) (c.set_link.ensures)

@@ -2,7 +2,7 @@ use Rattle.std.proofs.Common.{ℕ, Option, sym, ap, subst, ◌∙◌}
 use Rattle.std.specs.Option.{option_map}
 use Rattle.lmn_cells.specs.Cells.{HeldCell, cells_by}
 use Rattle.lmn_cells.specs.CellIds.{cell_id}
-use Rattle.lmn_web.specs.Classes.{key_in, Filed}
+use Rattle.lmn_web.specs.Classes.{key_in, Refiled}
 use Rattle.lmn_web.proofs.ClassSteps.{filed_closed, prev_alive, next_alive}
 use Rattle.lmn_web.proofs.classes.unfile.Goals as goal
 
@@ -33,5 +33,5 @@ close-requires-clause-next c =
 pub returns-in-Some-next : goal.returns-in-Some-next
 returns-in-Some-next c xs ls xs' a i one =
     let f = cells_by c.args.cells.now in let m = cell_id c.args.m in let x = cell_id c.args.c in let p = key_in f x in
-    subst (λ (g : ℕ → Option HeldCell). Filed f g m xs p xs') (sym c.close.ensures)
+    subst (λ (g : ℕ → Option HeldCell). Refiled f g m xs p xs') (sym c.close.ensures)
     (filed_closed f c.whole.ensures m x xs ls xs' a i one (cell_id c.in-Some.p) (cell_id c.in-Some-next.n) (c.link-prev.ensures ∙ ap (option_map cell_id) c.in-Some.is) (c.link-next.ensures ∙ ap (option_map cell_id) c.in-Some-next.is))

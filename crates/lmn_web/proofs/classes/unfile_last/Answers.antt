@@ -2,7 +2,7 @@ use Rattle.std.proofs.Common.{◌≡◌, ℕ, Option, Some, None, sym, ap, subst
 use Rattle.std.specs.Option.{option_map}
 use Rattle.lmn_cells.specs.Cells.{HeldCell, cells_by}
 use Rattle.lmn_cells.specs.CellIds.{cell_id}
-use Rattle.lmn_web.specs.Classes.{key_in, place_of, Filed}
+use Rattle.lmn_web.specs.Classes.{key_in, class_place, Refiled}
 use Rattle.lmn_web.proofs.ClassSteps.{leads, filed_shortened, prev_alive, lead_is}
 use Rattle.lmn_web.proofs.classes.unfile_last.Goals as goal
 
@@ -18,7 +18,7 @@ shorten-requires-clause-leader c =
     let kp : ◌≡◌ {A = ℕ × ℕ} (c.number-high.result, c.number-arity.result) p = λ t. (c.number-high.ensures t, c.number-arity.ensures t) in
     let r = c.requires.classes in let ls = r.1 in let a = r.2 in
     let l = cell_id c.in-Some.leader in
-    let lead : (place_of f p None ls).leader ≡ Some l = ap (λ q. (place_of f q None ls).leader) (sym kp) ∙ sym (c.find-found.ensures ls a.classed.peers).1 ∙ ap (option_map cell_id) c.in-Some.is in
+    let lead : (class_place f p None ls).leader ≡ Some l = ap (λ q. (class_place f q None ls).leader) (sym kp) ∙ sym (c.find-found.ensures ls a.classed.peers).1 ∙ ap (option_map cell_id) c.in-Some.is in
     (leads f m x r.0 ls a p l lead).alive
 
 pub shorten-requires-clause-prev : goal.shorten-requires-clause-prev
@@ -32,12 +32,12 @@ returns-in-Some c xs ls xs' a i one =
     let f = cells_by c.args.cells.now in let m = cell_id c.args.m in let x = cell_id c.args.c in let p = key_in f x in
     let kp : ◌≡◌ {A = ℕ × ℕ} (c.number-high.result, c.number-arity.result) p = λ t. (c.number-high.ensures t, c.number-arity.ensures t) in
     let l = cell_id c.in-Some.leader in
-    let lead : (place_of f p None ls).leader ≡ Some l = ap (λ q. (place_of f q None ls).leader) (sym kp) ∙ sym (c.find-found.ensures ls a.classed.peers).1 ∙ ap (option_map cell_id) c.in-Some.is in
-    subst (λ (g : ℕ → Option HeldCell). Filed f g m xs p xs') (sym c.shorten.ensures) (filed_shortened f c.whole.ensures m x xs ls xs' a i one l (cell_id c.args.prev) lead c.requires.prev c.requires.next)
+    let lead : (class_place f p None ls).leader ≡ Some l = ap (λ q. (class_place f q None ls).leader) (sym kp) ∙ sym (c.find-found.ensures ls a.classed.peers).1 ∙ ap (option_map cell_id) c.in-Some.is in
+    subst (λ (g : ℕ → Option HeldCell). Refiled f g m xs p xs') (sym c.shorten.ensures) (filed_shortened f c.whole.ensures m x xs ls xs' a i one l (cell_id c.args.prev) lead c.requires.prev c.requires.next)
 
 pub returns-in_default : goal.returns-in_default
 returns-in_default c xs ls xs' a i one =
     let f = cells_by c.args.cells.now in let m = cell_id c.args.m in let x = cell_id c.args.c in let p = key_in f x in
     let kp : ◌≡◌ {A = ℕ × ℕ} (c.number-high.result, c.number-arity.result) p = λ t. (c.number-high.ensures t, c.number-arity.ensures t) in
     let w = lead_is f m x xs ls a i in
-    absurd (let e : ◌≡◌ {A = Option ℕ} None (Some w.0) = sym (ap (option_map cell_id) c.in_default.is) ∙ (c.find-found.ensures ls a.classed.peers).1 ∙ ap (λ q. (place_of f q None ls).leader) kp ∙ w.1 in cc)
+    absurd (let e : ◌≡◌ {A = Option ℕ} None (Some w.0) = sym (ap (option_map cell_id) c.in_default.is) ∙ (c.find-found.ensures ls a.classed.peers).1 ∙ ap (λ q. (class_place f q None ls).leader) kp ∙ w.1 in cc)

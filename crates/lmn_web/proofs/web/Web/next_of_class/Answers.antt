@@ -8,7 +8,7 @@ use Rattle.lmn_cells.specs.Cells.{cells_by}
 use Rattle.lmn_cells.specs.CellIds.{cell_id}
 use Rattle.lmn_cells.specs.Runs.{HOME, link_in}
 use Rattle.lmn_web.specs.declared.kind.CellKind.TheVariants.{Atom}
-use Rattle.lmn_web.specs.Webs.{web_by, web_of, cells_in, list_in, home_at, kind_at, arity_at, web_label, class_of, with_class}
+use Rattle.lmn_web.specs.Webs.{web_by, web_of, cells_in, list_in, home_at, kind_at, arity_at, web_label, label_class, with_class}
 use Rattle.lmn_web.specs.Indexes.{cell_kind}
 use Rattle.lmn_web.specs.Classes.{is_key, key_in, of_class}
 use Rattle.lmn_web.proofs.ListedLemmas.{home_same, kind_same, list_same, own_line, some_home, if_some}
@@ -34,8 +34,8 @@ returns-clause-list c m label at named =
     let on : from r (of_class f (key_in f x) cells) ≡ after x (of_class f (key_in f x) cells) = subst (λ u. from u (of_class f (key_in f x) cells) ≡ after x (of_class f (key_in f x) cells)) c.link.ensures (class_goes_on f m cells o.0 o.1 line.once x among) in
     let w = web_of f in
     let key = key_by_label f _ W x label (ap (λ (z : List Row). web_label (web_by z) x) c.self.view_is ∙ named) in
-    subst (λ (z : List Row). from r (with_class (web_by z) (class_of label) (arity_at (web_by z) x) (cells_in (web_by z) m Atom)) ≡ after x (with_class (web_by z) (class_of label) (arity_at (web_by z) x) (cells_in (web_by z) m Atom))) c.self.view_is
-    (subst (λ us. from r us ≡ after x us) (sym (class_list f _ W m (class_of label) (arity_at w x))) (subst (λ p. from r (of_class f p cells) ≡ after x (of_class f p cells)) key on))
+    subst (λ (z : List Row). from r (with_class (web_by z) (label_class label) (arity_at (web_by z) x) (cells_in (web_by z) m Atom)) ≡ after x (with_class (web_by z) (label_class label) (arity_at (web_by z) x) (cells_in (web_by z) m Atom))) c.self.view_is
+    (subst (λ us. from r us ≡ after x us) (sym (class_list f _ W m (label_class label) (arity_at w x))) (subst (λ p. from r (of_class f p cells) ≡ after x (of_class f p cells)) key on))
 
 pub returns-clause-there : goal.returns-clause-there
 returns-clause-there c m at =

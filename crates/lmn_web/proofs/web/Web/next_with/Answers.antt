@@ -4,7 +4,7 @@ use Rattle.lmn_base.specs.Lists.{In}
 use Rattle.lmn_heap.specs.Lists.{from, after}
 use Rattle.lmn_cells.specs.CellIds.{cell_id}
 use Rattle.lmn_web.specs.declared.kind.CellKind.TheVariants.{Atom}
-use Rattle.lmn_web.specs.Webs.{web_by, cells_in, home_at, arity_at, is_labelled, with_label, class_of, with_class}
+use Rattle.lmn_web.specs.Webs.{web_by, cells_in, home_at, arity_at, is_labelled, with_label, label_class, with_class}
 use Rattle.lmn_web.proofs.SeekLemmas.{filter_after, next_some, label_here, label_within}
 use Rattle.lmn_web.proofs.web.Web.next_with.Goals as goal
 
@@ -12,7 +12,7 @@ pub seek-requires : goal.seek-requires
 seek-requires c =
     let w = web_by c.args.self.now in let m = cell_id c.in-Some.home in let x = cell_id c.args.c in let cells = cells_in w m Atom in
     let home : home_at w x ≡ Some m = c.home.ensures ∙ ap (option_map cell_id) c.in-Some.is in
-    let class = class_of c.label.result in let all = with_class w class c.arity.result cells in let r = option_map cell_id c.next_of_class.result in
+    let class = label_class c.label.result in let all = with_class w class c.arity.result cells in let r = option_map cell_id c.next_of_class.result in
     let next : from r all ≡ after x all = subst (λ n. from r (with_class w class n cells) ≡ after x (with_class w class n cells)) (sym c.arity.ensures) (c.next_of_class.ensures.list m c.label.result home c.label.ensures) in
     next_some cell_id c.next_of_class.result x all next
 
@@ -20,7 +20,7 @@ pub returns-in-Some-clause-list : goal.returns-in-Some-clause-list
 returns-in-Some-clause-list c n label at named =
     let w = web_by c.args.self.now in let m = cell_id c.in-Some.home in let x = cell_id c.args.c in let cells = cells_in w m Atom in
     let home : home_at w x ≡ Some m = c.home.ensures ∙ ap (option_map cell_id) c.in-Some.is in
-    let class = class_of c.label.result in let all = with_class w class c.arity.result cells in let r = option_map cell_id c.next_of_class.result in
+    let class = label_class c.label.result in let all = with_class w class c.arity.result cells in let r = option_map cell_id c.next_of_class.result in
     let next : from r all ≡ after x all = subst (λ n. from r (with_class w class n cells) ≡ after x (with_class w class n cells)) (sym c.arity.ensures) (c.next_of_class.ensures.list m c.label.result home c.label.ensures) in
     let same : n ≡ m = let e : Some n ≡ Some m = sym at ∙ home in cc in
     let called : label ≡ c.label.result = let e : Some label ≡ Some c.label.result = sym named ∙ c.label.ensures in cc in
