@@ -1,6 +1,6 @@
 -- What a firing makes is a raw level of the calculus.
 use Rattle.std.proofs.Common.{ℕ, zero, suc, ◌≡◌, ◌≢◌, ◌+◌, ◌<◌, ◌≤◌, Bool, true, false, cond, List, [], ◌∷◌, ◌++◌, map, refl, sym, ap, subst, ◌∙◌, inl, inr, arith}
-use Rattle.std.specs.Prelude.{◌==◌}
+use Rattle.std.specs.Prelude.{◌==◌, Some, slice_get}
 use Rattle.std.proofs.lemmas.List.{append_assoc}
 use Rattle.lmn_base.proofs.Lists.{in_either, map_append, plus_nothing}
 use Rattle.lmn_base.proofs.Numbers.{not_equal, same_or_not}
@@ -24,6 +24,8 @@ use Rattle.lmn_heap.specs.Sound.{Forest, bare, mem, flat as members, Forms}
 use Rattle.lmn_heap.proofs.Groves.{forms_one}
 use Rattle.lmn_heap.proofs.ListLemmas.{apart, distinct_left, distinct_right, each_in, in_left, in_right}
 use Rattle.lmn_bridge.specs.HeapRegions.{HeapReading, atoms_at, region_at, regions_at}
+use Rattle.lmn_bridge.proofs.Forests.{forms_tops, tops}
+use Rattle.lmn_turn.specs.Turning.{Leads, enters}
 use Rattle.lmn_settle.specs.Raw.{RawRegion, RawRegions, raw, raw_and}
 use Rattle.lmn_splice.specs.Splice.{of_rule, of_solid}
 use Rattle.lmn_flat.specs.Flats.{heap_of, link_at}
@@ -107,6 +109,7 @@ module _ (flat : Flat) (names : List Name) (rule : ℕ → tree.Rule) (F R : ℕ
     -- the rule fires at or below a membrane, and what is made there is spelled
     pub record FiredAt (x : ℕ) (i : Forest) : Type 0 where
       pub path : List ℕ
+      pub leads : Leads (heap_of flat) home path x
       pub level : tree.Level
       pub fires : RawAt path index ns (region_at (heap_of flat) (record { name = link_at flat; names = names; rule = rule }) x i) level
       pub is : fused_level (λ z. z) level ≡ read_region names rule (raw_link F R) (fired_region flat home made x i)
@@ -118,7 +121,10 @@ module _ (flat : Flat) (names : List Name) (rule : ℕ → tree.Rule) (F R : ℕ
       pub child : Region
       pub others : Regions
       pub taken : TakenRegion place child (regions_at (heap_of flat) (record { name = link_at flat; names = names; rule = rule }) f) others
+      pub top : ℕ
+      pub at : slice_get (tops f) place ≡ Some top
       pub path : List ℕ
+      pub leads : Leads (heap_of flat) home path top
       pub level : tree.Level
       pub fires : RawAt path index ns child level
       pub spelt : Spelt names rule (raw_link F R) (replaced place level (kept_membranes (regions_at (heap_of flat) (record { name = link_at flat; names = names; rule = rule }) f))) (fired_regions flat home made f)
@@ -156,6 +162,7 @@ module _ (flat : Flat) (names : List Name) (rule : ℕ → tree.Rule) (F R : ℕ
           let S = regions_at (heap_of flat) reading i in
           let other = as_other (x == home) (raw (written_atoms flat (Shifted 0) (atoms_in (heap_of flat) x)) (fired_regions flat home made i) (rules_in (heap_of flat) x)) (not_equal x home (λ e. each_in (λ v. x ≢ v) (members i) home d.0 p e)) in record {
             path = u.place ∷ u.path;
+            leads = enters (subst (λ z. slice_get z u.place ≡ Some u.top) (forms_tops (heap_of flat) i (mems_in (heap_of flat) x) f) u.at) u.leads;
             level = tree.level (kept_atoms xs) (levels (replaced u.place u.level (kept_membranes S))) [] [] (listed_rules rs);
             fires = fires_below {path = u.path} {L = u.level} u.taken u.fires;
             is = level_spelt names rule (raw_link F R) (kept_atoms xs) (replaced u.place u.level (kept_membranes S)) rs (written_atoms flat (Shifted 0) (atoms_in (heap_of flat) x)) (fired_regions flat home made i) (rules_in (heap_of flat) x)
@@ -181,7 +188,10 @@ module _ (flat : Flat) (names : List Name) (rule : ℕ → tree.Rule) (F R : ℕ
         child = region_at (heap_of flat) reading k i;
         others = regions_at (heap_of flat) reading f;
         taken = region_first;
+        top = k;
+        at = refl;
         path = u.path;
+        leads = u.leads;
         level = u.level;
         fires = u.fires;
         spelt = (u.is, forest_spelt f o);
@@ -197,7 +207,10 @@ module _ (flat : Flat) (names : List Name) (rule : ℕ → tree.Rule) (F R : ℕ
             child = u.child;
             others = region_and (region_at (heap_of flat) reading k i) u.others;
             taken = region_later u.taken;
+            top = u.top;
+            at = u.at;
             path = u.path;
+            leads = u.leads;
             level = u.level;
             fires = u.fires;
             spelt = (first.0, u.spelt);

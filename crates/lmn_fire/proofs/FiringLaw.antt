@@ -21,6 +21,7 @@ use Rattle.lmn_heap.specs.Sound.{Forest, flat as members, Forms}
 use Rattle.lmn_bridge.specs.HeapRegions.{HeapReading, atoms_at, region_at, regions_at}
 use Rattle.lmn_settle.specs.Raw.{RawRegion, raw}
 use Rattle.lmn_turn.proofs.Leading.{taken_at}
+use Rattle.lmn_turn.specs.Turning.{Leads, stays}
 use Rattle.lmn_flat.specs.Flats.{heap_of, reading_of}
 use Rattle.lmn_flat.specs.declared.flat.Flat.{Flat}
 use Rattle.lmn_fire.specs.declared.matched.Match.{Match}
@@ -95,6 +96,7 @@ module _ (flat : Flat) (names : List Name) (table : List RuleTree) (t : Match) (
       let w = taken_at number (rules_in (heap_of flat) t.home) index k at in
       let other = raw (written_atoms flat (Shifted 0) (atoms_in (heap_of flat) t.home)) (fired_regions flat t.home made mi) (rules_in (heap_of flat) t.home) in record {
         path = [];
+        leads = stays;
         level = L;
         fires = fires_here (subst (λ z. Taken index z (map number (rules_in (heap_of flat) t.home)) w.0) is_at w.1) fires;
         is = u.0 ∙ ap (λ c. read_region names number (raw_link t.links R) (cond c made other)) (sym (equal_itself t.home));
@@ -120,7 +122,7 @@ module _ (flat : Flat) (names : List Name) (table : List RuleTree) (t : Match) (
     (is : IsMatch flat (reading_of names table flat) t rule left e.contents e.rest)
     (pairs : List (ℕ × ℕ)) (joined : pairs ≡ wire_pairs t.links e.contents.link_of (head_of (rule_tree names (numbered_rule names table) rule)) (length rule.links) ++ level_pairs t rule.body) where
   -- it writes a raw level, which is closed where the rule is accepted and the region is closed
-  pub made_is_written : (L : tree.Level) × (path : List ℕ) × RawAt path index ns (region_at (heap_of flat) (reading_of names table flat) 0 inner) L
+  pub made_is_written : (L : tree.Level) × (path : List ℕ) × Leads (heap_of flat) t.home path 0 × RawAt path index ns (region_at (heap_of flat) (reading_of names table flat) 0 inner) L
       × Writes names table L (fired_region flat t.home (home_region flat t left (level_made flat t left rule.body) (t.links + length rule.links)) 0 inner) pairs
       × (Accepted (rule_tree names (numbered_rule names table) rule) → Closed (region_process (region_at (heap_of flat) (reading_of names table flat) 0 inner)) → Closed (level_process L))
   made_is_written =
@@ -129,6 +131,7 @@ module _ (flat : Flat) (names : List Name) (table : List RuleTree) (t : Match) (
       let u = whole flat names table t rule left inner mi index k ns formed at is_at e is f d p in (
         u.level,
         u.path,
+        u.leads,
         u.fires,
         record {
           from = raw_link F R;

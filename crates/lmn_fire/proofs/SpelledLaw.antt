@@ -61,12 +61,13 @@ firings_are_spelled flat names table t rule left inner mi index k ns valid f d p
     region_fine flat valid t left R N is.below enough t.home made (home_fine flat valid t left R N is.below enough b start (body_is_fine flat valid t left R N is.below enough rule.body has) (omega arith)) 0 inner in
     let low : PairsBelow N (ws ++ level_pairs t rule.body) =
     pairs_both flat valid t left R N is.below enough ws (level_pairs t rule.body) (wires_low t.links R N e.contents.link_of head enough is.wired R (omega arith)) (body_is_paired flat valid t left R N is.below enough rule.body has) in
-    let u = w.3 in (
+    let u = w.4 in (
       r,
       w.0,
       w.1,
       m.membranes,
       w.2,
+      w.3,
       record {
         from = u.from;
         to = u.to;
@@ -78,7 +79,7 @@ firings_are_spelled flat names table t rule left inner mi index k ns valid f d p
         links_below = All-from_recursion (λ x. x < links) (raw_links r) (subst (λ z. AllByRecursion (λ x. x < z) (raw_links r)) (sym m.bound) (fine_low N (raw_atoms r) fine));
         pairs_below = subst (λ z. PairsBelow links z) (sym m.connectors) (subst (λ z. PairsBelow z (ws ++ level_pairs t rule.body)) (sym m.bound) low);
       },
-      w.4,
+      w.5,
       (λ n g.
           let known = body_known (λ k. k < n) (λ f. Unit {0}) flat t left g.0 (λ a x q. tt) (λ z. tt) rule.body (any_leaf (leaves_of rule.body)) (recursion_from_All (λ k. k < n) (rules_of rule.body) g.1) in
           let all = whole_known (λ k. k < n) (λ f. Unit {0}) flat t left g.0 (λ a x q. tt) (λ z. tt) t.home made (home_known (λ k. k < n) (λ f. Unit {0}) flat t left g.0 (λ a x q. tt) (λ z. tt) b start known) 0 inner in

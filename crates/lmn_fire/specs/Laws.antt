@@ -29,7 +29,7 @@ use Rattle.lmn_reduction.specs.Parts.{Rooted}
 use Rattle.lmn_parts.specs.Walks.{IsPartInDepth}
 use Rattle.lmn_bridge.specs.Parts.{IsGroundPart}
 use Rattle.lmn_bridge.specs.Premises.{IsRead}
-use Rattle.lmn_turn.specs.Turning.{IsLeft}
+use Rattle.lmn_turn.specs.Turning.{IsLeft, Leads}
 use Rattle.lmn_fire.specs.declared.matched.Match.{Match}
 use Rattle.lmn_fire.specs.declared.matched.Part.{Part}
 use Rattle.lmn_fire.specs.Making.{IsMade, LeftForms, left_of}
@@ -58,7 +58,7 @@ abbrev pub NamesKnown : List Name → Flat → LevelTree → Type 0
 NamesKnown names flat body = ((a : ℕ) (x : HeapAtom) → (heap_of flat).atoms a ≡ Some x → HasNames names (label_names x.functor.label)) × HasNames names (level_names body)
 
 -- Where rule number `index` of a membrane embeds, what is made by a match of this embedding is the table of a region that, with its
--- connectors, spells a raw level: the one after this firing. Where the rule is accepted and the region is closed, so is the level.
+-- connectors, spells a raw level: the one after this firing, to whose membrane a path leads. Where the rule is accepted and the region is closed, so is the level.
 -- What is made has no rule from a number on and no unknown name, where the solid and the body of the rule have none.
 abbrev pub FiringsAreSpelled : Type 0
 FiringsAreSpelled = (flat : Flat) (names : List Name) (table : List RuleTree) (t : Match) (rule : RuleTree) (left : ℕ → Forest) (inner mi : Forest) (index k : ℕ) (ns : List ℕ) →
@@ -68,7 +68,7 @@ FiringsAreSpelled = (flat : Flat) (names : List Name) (table : List RuleTree) (t
     (e : EmbedsAt (rule_tree names r.rule rule) ns (region_at h r t.home mi)) → IsMatch flat r t rule left e.contents e.rest →
     (rows : List RawMembrane) (pairs : List (ℕ × ℕ)) (links : ℕ) →
     IsMade flat t left inner rule.body (t.links + length rule.links) (wire_pairs t.links e.contents.link_of (head_of (rule_tree names r.rule rule)) (length rule.links)) rows pairs links →
-    (R : RawRegion) × (L : Level) × (path : List ℕ) × (rows ≡ laid 0 0 R) × RawAt path index ns (region_at h r 0 inner) L × Spells names table L R pairs links
+    (R : RawRegion) × (L : Level) × (path : List ℕ) × (rows ≡ laid 0 0 R) × Leads h t.home path 0 × RawAt path index ns (region_at h r 0 inner) L × Spells names table L R pairs links
     × (Accepted (rule_tree names r.rule rule) → Closed (region_process (region_at h r 0 inner)) → Closed (level_process L))
     × ((n : ℕ) → RulesBelow n flat rule.body → All (λ k. k < n) (raw_rules R)) × (NamesKnown names flat rule.body → HasNames names (flat_map (λ a. label_names a.functor.label) (raw_atoms R)))
 

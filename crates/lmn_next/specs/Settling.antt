@@ -13,10 +13,11 @@ use Rattle.lmn_congruence.specs.Translation.{region_of, rule_tree}
 use Rattle.lmn_adequacy.specs.Accepted.{Accepted}
 use Rattle.lmn_adequacy.specs.Embedding.{EmbedsAt}
 use Rattle.lmn_adequacy.specs.Next.{RawAt}
-use Rattle.lmn_heap.specs.Heap.{mems_in, rules_in}
+use Rattle.lmn_heap.specs.Heap.{Heap, mems_in, rules_in}
 use Rattle.lmn_heap.specs.Lists.{Distinct}
 use Rattle.lmn_heap.specs.Sound.{Forest, flat as members, Forms, Valid}
 use Rattle.lmn_bridge.specs.HeapRegions.{region_at}
+use Rattle.lmn_turn.specs.Turning.{Leads}
 use Rattle.lmn_settle.specs.Raw.{CanSettle, IsSettled, RawRegion, laid}
 use Rattle.lmn_settle.specs.declared.settling.RawMembrane.{RawMembrane}
 use Rattle.lmn_flat.specs.Flats.{IsFlatOf, heap_of, reading_of}
@@ -44,12 +45,13 @@ pub record IsSolidOfLevel (names : List Name) (table : List RuleTree) (L : Level
   pub named : HasNames names (solid_names s)
 
 -- The table of raw membranes and its connectors can be settled, and what it is settled to is the solid of the level after the firing of
--- rule number `index` of the membrane at the end of the path.
-pub record SettlesToNext (names : List Name) (table : List RuleTree) (S : Region) (index : ℕ) (ns : List ℕ) (rows : List RawMembrane) (connectors : List (ℕ × ℕ)) (n : ℕ) : Type 0 where
+-- rule number `index` of a membrane, to which the path leads.
+pub record SettlesToNext (h : Heap) (home : ℕ) (names : List Name) (table : List RuleTree) (S : Region) (index : ℕ) (ns : List ℕ) (rows : List RawMembrane) (connectors : List (ℕ × ℕ)) (n : ℕ) : Type 0 where
   pub region : RawRegion
   pub is_laid : rows ≡ laid 0 0 region
   pub level : Level
   pub path : List ℕ
+  pub leads : Leads h home path 0
   pub fires : RawAt path index ns S level
   pub can_settle : CanSettle region connectors n
   pub solid : (s : Solid) → IsSettled region connectors s → IsSolidOfLevel names table level s
@@ -64,7 +66,7 @@ FiringsSettle = (flat : Flat) (names : List Name) (table : List RuleTree) (t : M
     (e : EmbedsAt (rule_tree names r.rule rule) ns (region_at h r t.home mi)) → IsMatch flat r t rule left e.contents e.rest →
     (rows : List RawMembrane) (pairs : List (ℕ × ℕ)) (links : ℕ) →
     IsMade flat t left inner rule.body (t.links + length rule.links) (wire_pairs t.links e.contents.link_of (head_of (rule_tree names r.rule rule)) (length rule.links)) rows pairs links →
-    SettlesToNext names table (region_at h r 0 inner) index ns rows pairs links
+    SettlesToNext h t.home names table (region_at h r 0 inner) index ns rows pairs links
 
 -- The rules in the membranes of a solid's tables are of a table that has each rule of the solid.
 abbrev pub FlatsHaveRules : Type 0
