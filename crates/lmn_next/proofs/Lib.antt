@@ -4,3 +4,4 @@ mod Lying
 mod Chosen
 mod Settled
 mod FlatRules
+mod Searched

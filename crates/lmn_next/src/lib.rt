@@ -7,6 +7,9 @@
 ghost use Rattle.lmn_next.specs.Laws.{FirstIsChosen, LeastImagesLie, NoneHasEmbedding};
 ghost use Rattle.lmn_next.specs.Settling.{FiringsSettle, FlatsHaveRules, SpelledLevelsSettle};
 
+mod firing;
+
+pub use firing::searched_rules_may_fire;
 use lmn_bridge::{least_embeddings_are_alike, rules_embed_alike};
 use lmn_compile_head::{accepted_heads, accepted_least};
 use lmn_fire::{firings_are_spelled, settled_solids_keep};
