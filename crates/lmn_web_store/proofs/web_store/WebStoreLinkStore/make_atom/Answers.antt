@@ -1,0 +1,112 @@
+use Rattle.std.proofs.Common.{subst, sym, ap, ◌∙◌, refl, ℕ, arith}
+use Rattle.std.specs.Prelude.{Option}
+use Rattle.lmn_base.proofs.Lists.{on_err}
+use Rattle.lmn_heap.specs.Heap.{made_atom}
+use Rattle.lmn_store.specs.Kept.{HasCounts}
+use Rattle.lmn_cells.specs.CellIds.{cell_id}
+use Rattle.lmn_web.specs.declared.kind.CellKind.TheVariants.{Atom}
+use Rattle.lmn_web.specs.Webs.{WebCell, web_by}
+use Rattle.lmn_web_store.specs.WebHeaps.{KeptWeb, heap_of, heap_by, atoms_of, mems_of}
+use Rattle.lmn_web_store.specs.WebStores.{IsStored, kept_by}
+use Rattle.lmn_web_store.proofs.MakeLemmas.{new_there, new_homeless, new_apart, old_kind, made_line, atom_stored, made_atom_heap, made_atom_counts}
+use Rattle.lmn_web_store.proofs.web_store.WebStoreLinkStore.make_atom.Goals as goal
+
+pub add_last-requires-clause-there : goal.add_last-requires-clause-there
+add_last-requires-clause-there c =
+    let k = kept_by c.self.inside in
+    let p = k.posts in
+    let v = web_by k.web in
+    let inv = c.self.invariant.stored in
+    let a = cell_id c.in_ok-a.a in
+    let u = web_by c.make.new.self in
+    let none = c.in_ok-a.ensures.0 in
+    let make = c.in_ok-a.ensures.1 in
+    new_there v u a _ _ _ none make
+
+pub add_last-requires-clause-homeless : goal.add_last-requires-clause-homeless
+add_last-requires-clause-homeless c =
+    let k = kept_by c.self.inside in
+    let p = k.posts in
+    let v = web_by k.web in
+    let inv = c.self.invariant.stored in
+    let a = cell_id c.in_ok-a.a in
+    let u = web_by c.make.new.self in
+    let none = c.in_ok-a.ensures.0 in
+    let make = c.in_ok-a.ensures.1 in
+    new_homeless v u a _ _ _ none make
+
+pub add_last-requires-clause-membrane : goal.add_last-requires-clause-membrane
+add_last-requires-clause-membrane c =
+    let k = kept_by c.self.inside in
+    let p = k.posts in
+    let v = web_by k.web in
+    let inv = c.self.invariant.stored in
+    let a = cell_id c.in_ok-a.a in
+    let u = web_by c.make.new.self in
+    let none = c.in_ok-a.ensures.0 in
+    let make = c.in_ok-a.ensures.1 in
+    old_kind v u a _ _ _ none make p.waiting inv.waiting
+
+pub add_last-requires-clause-differ : goal.add_last-requires-clause-differ
+add_last-requires-clause-differ c =
+    let k = kept_by c.self.inside in
+    let p = k.posts in
+    let v = web_by k.web in
+    let inv = c.self.invariant.stored in
+    let a = cell_id c.in_ok-a.a in
+    let u = web_by c.make.new.self in
+    let none = c.in_ok-a.ensures.0 in
+    let make = c.in_ok-a.ensures.1 in
+    new_apart v u a _ _ _ none make p.waiting inv.waiting
+
+pub invariant_of-self : goal.invariant_of-self
+invariant_of-self c =
+    let k = kept_by c.self.inside in
+    let p = k.posts in
+    let v = web_by k.web in
+    let inv = c.self.invariant.stored in
+    record {
+      stored = subst (λ (f : ℕ → Option WebCell). IsStored p k.table f) (sym c.in_err-a.ensures) inv;
+      counts = subst (λ (f : ℕ → Option WebCell). HasCounts (atoms_of p f) (mems_of p k.table f) c.self.inside.atom_count c.self.inside.mem_count c.self.inside.spare_count) (sym c.in_err-a.ensures) c.self.invariant.counts;
+    }
+
+pub returns-in_err-a-clause-err : goal.returns-in_err-a-clause-err
+returns-in_err-a-clause-err c =
+    let k = kept_by c.self.inside in
+    let p = k.posts in
+    let v = web_by k.web in
+    let inv = c.self.invariant.stored in
+    on_err _ _ (ap (λ (f : ℕ → Option WebCell). heap_by p k.table f) c.in_err-a.ensures ∙ ap (λ (z : KeptWeb). heap_of z) c.self.view_is)
+
+pub invariant_of-self-2 : goal.invariant_of-self-2
+invariant_of-self-2 c =
+    let k = kept_by c.self.inside in
+    let p = k.posts in
+    let v = web_by k.web in
+    let inv = c.self.invariant.stored in
+    let a = cell_id c.in_ok-a.a in
+    let u = web_by c.make.new.self in
+    let none = c.in_ok-a.ensures.0 in
+    let make = c.in_ok-a.ensures.1 in
+    let w = web_by c.add_last.new.self in
+    let d = made_line p v u (web_by c.add_last.new.self) a Atom c.number_of.result c.args.f.arity none (λ e. new_apart v u a _ _ _ none make p.waiting inv.waiting (sym e)) make c.add_last.ensures in
+    let low = c.if-self-ge-BOUND.false in
+    record {
+      stored = atom_stored p k.table v w a c.number_of.result c.args.f.arity d inv c.number_of.ensures.range;
+      counts = made_atom_counts p k.table v w a c.number_of.result c.args.f.arity d inv c.number_of.ensures.range c.args.f c.number_of.ensures.back refl _ _ _ (omega (arith, low)) c.self.invariant.counts;
+    }
+
+pub returns-clause-ok : goal.returns-clause-ok
+returns-clause-ok c =
+    let k = kept_by c.self.inside in
+    let p = k.posts in
+    let v = web_by k.web in
+    let inv = c.self.invariant.stored in
+    let a = cell_id c.in_ok-a.a in
+    let u = web_by c.make.new.self in
+    let none = c.in_ok-a.ensures.0 in
+    let make = c.in_ok-a.ensures.1 in
+    let w = web_by c.add_last.new.self in
+    let d = made_line p v u (web_by c.add_last.new.self) a Atom c.number_of.result c.args.f.arity none (λ e. new_apart v u a _ _ _ none make p.waiting inv.waiting (sym e)) make c.add_last.ensures in
+    made_atom_heap p k.table v w a c.number_of.result c.args.f.arity d inv c.number_of.ensures.range c.args.f c.number_of.ensures.back refl
+    ∙ ap (λ (z : KeptWeb). made_atom (heap_of z) a c.args.f) c.self.view_is

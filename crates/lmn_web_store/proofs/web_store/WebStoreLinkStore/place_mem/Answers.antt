@@ -1,0 +1,72 @@
+use Rattle.std.proofs.Common.{◌≡◌, ◌≢◌, [], ℕ, Option, Some, IsSome, refl, sym, ap, subst, ◌∙◌}
+use Rattle.std.specs.Option.{option_map}
+use Rattle.lmn_heap.specs.Lists.{from}
+use Rattle.lmn_heap.specs.Heap.{IsMemInPlace, placed_mem}
+use Rattle.lmn_cells.specs.CellIds.{cell_id}
+use Rattle.lmn_web.specs.declared.kind.CellKind.TheVariants.{Membrane}
+use Rattle.lmn_web.specs.Webs.{web_by, cells_in}
+use Rattle.lmn_web_store.specs.WebHeaps.{KeptWeb, heap_of}
+use Rattle.lmn_web_store.specs.WebStores.{kept_by}
+use Rattle.lmn_web_store.proofs.SendLemmas.{sent_stored, sent_counts}
+use Rattle.lmn_web_store.proofs.PlaceLemmas.{first_some, placing, placed_mem_heap}
+use Rattle.lmn_web_store.proofs.web_store.WebStoreLinkStore.place_mem.Goals as goal
+
+pub unwrap-n-requires : goal.unwrap-n-requires
+unwrap-n-requires c =
+    let k = kept_by c.self.inside in
+    first_some cell_id c.first.result (cells_in (web_by k.web) k.posts.waiting Membrane) c.first.ensures.list (subst (λ (z : KeptWeb). (heap_of z).new_mems ≢ []) (sym c.self.view_is) c.requires.waiting)
+
+pub send-requires-clause-listed : goal.send-requires-clause-listed
+send-requires-clause-listed c =
+    let k = kept_by c.self.inside in let w = web_by k.web in let x = cell_id c.unwrap-n.result in let n = cell_id c.args.m in
+    let first : from (Some x) (cells_in w k.posts.waiting Membrane) ≡ cells_in w k.posts.waiting Membrane = subst (λ o. from (option_map cell_id o) (cells_in w k.posts.waiting Membrane) ≡ cells_in w k.posts.waiting Membrane) c.unwrap-n.ensures c.first.ensures.list in
+    let q = placing k.posts k.table w c.self.invariant.stored c.listed.ensures Membrane x n first (subst (λ (z : KeptWeb). IsMemInPlace (heap_of z) n) (sym c.self.view_is) c.requires.mem) in
+    subst (λ (o : Option ℕ). IsSome o) (sym q.home) refl
+
+pub send-requires-clause-membrane : goal.send-requires-clause-membrane
+send-requires-clause-membrane c =
+    let k = kept_by c.self.inside in let w = web_by k.web in let x = cell_id c.unwrap-n.result in let n = cell_id c.args.m in
+    let first : from (Some x) (cells_in w k.posts.waiting Membrane) ≡ cells_in w k.posts.waiting Membrane = subst (λ o. from (option_map cell_id o) (cells_in w k.posts.waiting Membrane) ≡ cells_in w k.posts.waiting Membrane) c.unwrap-n.ensures c.first.ensures.list in
+    let q = placing k.posts k.table w c.self.invariant.stored c.listed.ensures Membrane x n first (subst (λ (z : KeptWeb). IsMemInPlace (heap_of z) n) (sym c.self.view_is) c.requires.mem) in
+    q.membrane
+
+pub send-requires-clause-differ : goal.send-requires-clause-differ
+send-requires-clause-differ c =
+    let k = kept_by c.self.inside in let w = web_by k.web in let x = cell_id c.unwrap-n.result in let n = cell_id c.args.m in
+    let first : from (Some x) (cells_in w k.posts.waiting Membrane) ≡ cells_in w k.posts.waiting Membrane = subst (λ o. from (option_map cell_id o) (cells_in w k.posts.waiting Membrane) ≡ cells_in w k.posts.waiting Membrane) c.unwrap-n.ensures c.first.ensures.list in
+    let q = placing k.posts k.table w c.self.invariant.stored c.listed.ensures Membrane x n first (subst (λ (z : KeptWeb). IsMemInPlace (heap_of z) n) (sym c.self.view_is) c.requires.mem) in
+    q.differ
+
+pub send-requires-clause-elsewhere : goal.send-requires-clause-elsewhere
+send-requires-clause-elsewhere c =
+    let k = kept_by c.self.inside in let w = web_by k.web in let x = cell_id c.unwrap-n.result in let n = cell_id c.args.m in
+    let first : from (Some x) (cells_in w k.posts.waiting Membrane) ≡ cells_in w k.posts.waiting Membrane = subst (λ o. from (option_map cell_id o) (cells_in w k.posts.waiting Membrane) ≡ cells_in w k.posts.waiting Membrane) c.unwrap-n.ensures c.first.ensures.list in
+    let q = placing k.posts k.table w c.self.invariant.stored c.listed.ensures Membrane x n first (subst (λ (z : KeptWeb). IsMemInPlace (heap_of z) n) (sym c.self.view_is) c.requires.mem) in
+    q.elsewhere
+
+pub invariant_of-self : goal.invariant_of-self
+invariant_of-self c =
+    let k = kept_by c.self.inside in let w = web_by k.web in let x = cell_id c.unwrap-n.result in let n = cell_id c.args.m in
+    let first : from (Some x) (cells_in w k.posts.waiting Membrane) ≡ cells_in w k.posts.waiting Membrane = subst (λ o. from (option_map cell_id o) (cells_in w k.posts.waiting Membrane) ≡ cells_in w k.posts.waiting Membrane) c.unwrap-n.ensures c.first.ensures.list in
+    let q = placing k.posts k.table w c.self.invariant.stored c.listed.ensures Membrane x n first (subst (λ (z : KeptWeb). IsMemInPlace (heap_of z) n) (sym c.self.view_is) c.requires.mem) in
+    let v = web_by c.send.new.web in
+    let s = c.send.ensures k.posts.waiting q.home in
+    record {
+      stored = sent_stored w v k.posts.waiting n x s k.posts k.table c.self.invariant.stored q.home q.no_line q.fits;
+      counts = sent_counts w v k.posts.waiting n x s k.posts k.table _ _ _ c.self.invariant.counts;
+    }
+
+pub returns-clause-first : goal.returns-clause-first
+returns-clause-first c =
+    let k = kept_by c.self.inside in let w = web_by k.web in let x = cell_id c.unwrap-n.result in
+    let first : from (Some x) (cells_in w k.posts.waiting Membrane) ≡ cells_in w k.posts.waiting Membrane = subst (λ o. from (option_map cell_id o) (cells_in w k.posts.waiting Membrane) ≡ cells_in w k.posts.waiting Membrane) c.unwrap-n.ensures c.first.ensures.list in
+    subst (λ (z : KeptWeb). from (Some x) (heap_of z).new_mems ≡ (heap_of z).new_mems) c.self.view_is first
+
+pub returns-clause-placed : goal.returns-clause-placed
+returns-clause-placed c =
+    let k = kept_by c.self.inside in let w = web_by k.web in let x = cell_id c.unwrap-n.result in let n = cell_id c.args.m in
+    let first : from (Some x) (cells_in w k.posts.waiting Membrane) ≡ cells_in w k.posts.waiting Membrane = subst (λ o. from (option_map cell_id o) (cells_in w k.posts.waiting Membrane) ≡ cells_in w k.posts.waiting Membrane) c.unwrap-n.ensures c.first.ensures.list in
+    let q = placing k.posts k.table w c.self.invariant.stored c.listed.ensures Membrane x n first (subst (λ (z : KeptWeb). IsMemInPlace (heap_of z) n) (sym c.self.view_is) c.requires.mem) in
+    let v = web_by c.send.new.web in
+    placed_mem_heap k.posts k.table w v n x (c.send.ensures k.posts.waiting q.home) c.self.invariant.stored.waiting q.no_line q.no_end q.kind first
+    ∙ ap (λ (z : KeptWeb). placed_mem (heap_of z) n x) c.self.view_is

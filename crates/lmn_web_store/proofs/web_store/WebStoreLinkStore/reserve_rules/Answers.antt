@@ -1,0 +1,46 @@
+use Rattle.std.proofs.Common.{subst, sym, ap, ◌≤◌, ◌∙◌, arith}
+use Rattle.lmn_heap.specs.Heap.{IsMem, reserved}
+use Rattle.lmn_cells.specs.CellIds.{cell_id}
+use Rattle.lmn_web.specs.Webs.{web_by}
+use Rattle.lmn_web_store.specs.WebHeaps.{KeptWeb, heap_of}
+use Rattle.lmn_web_store.specs.WebStores.{kept_by, HasRules}
+use Rattle.lmn_web_store.proofs.RulingLemmas.{room_kept, room_is, room_stored, room_heap, room_now, room_counts}
+use Rattle.lmn_web_store.proofs.web_store.WebStoreLinkStore.reserve_rules.Goals as goal
+
+pub index-requires : goal.index-requires
+index-requires c = (subst (λ (z : KeptWeb). HasRules z.table (web_by z.web) (cell_id c.args.m) c.place_of_rules-place.result) (sym c.self.view_is) c.place_of_rules-place.ensures).1
+
+pub invariant_of-self-2 : goal.invariant_of-self-2
+invariant_of-self-2 c =
+    let m = cell_id c.args.m in
+    let k = kept_by c.self.inside in
+    let s = subst (λ (z : KeptWeb). IsMem (heap_of z) m) (sym c.self.view_is) c.requires in
+    let h = subst (λ (z : KeptWeb). HasRules z.table (web_by z.web) m c.place_of_rules-place.result) (sym c.self.view_is) c.place_of_rules-place.ensures in
+    let low = c.if-n-spare-2.false in
+    let more = c.if-n-spare.false in
+    let bound = c.self.invariant.counts.bound in
+    let is = room_is k.posts k.table (web_by k.web) c.self.invariant.stored m c.place_of_rules-place.result s h c.index.result.now c.index.ensures ∙ sym c.spare-spare.ensures in
+    record {
+      stored = room_stored k.posts k.table (web_by k.web) c.self.invariant.stored m c.place_of_rules-place.result s h _ _ _ c.self.invariant.counts _ c.args.n c.in_ok-reserve.ensures.ok;
+      counts = room_counts k.posts k.table (web_by k.web) c.self.invariant.stored m c.place_of_rules-place.result s h _ _ _ c.self.invariant.counts _ c.args.n c.in_ok-reserve.ensures.ok c.spare-spare.result is (omega (arith, more)) (omega (arith, low, more, bound));
+    }
+
+pub returns-clause-least : goal.returns-clause-least
+returns-clause-least c =
+    let m = cell_id c.args.m in
+    let k = kept_by c.self.inside in
+    let s = subst (λ (z : KeptWeb). IsMem (heap_of z) m) (sym c.self.view_is) c.requires in
+    let h = subst (λ (z : KeptWeb). HasRules z.table (web_by z.web) m c.place_of_rules-place.result) (sym c.self.view_is) c.place_of_rules-place.ensures in
+    subst (λ j. c.args.n ≤ j) (sym (room_now k.posts k.table (web_by k.web) c.self.invariant.stored m c.place_of_rules-place.result s h _ _ _ c.self.invariant.counts _ c.args.n c.in_ok-reserve.ensures.ok)) (omega arith)
+
+pub returns-clause-ok : goal.returns-clause-ok
+returns-clause-ok c =
+    let m = cell_id c.args.m in
+    let k = kept_by c.self.inside in
+    let s = subst (λ (z : KeptWeb). IsMem (heap_of z) m) (sym c.self.view_is) c.requires in
+    let h = subst (λ (z : KeptWeb). HasRules z.table (web_by z.web) m c.place_of_rules-place.result) (sym c.self.view_is) c.place_of_rules-place.ensures in
+    room_heap k.posts k.table (web_by k.web) c.self.invariant.stored m c.place_of_rules-place.result s h _ _ _ c.self.invariant.counts _ c.args.n c.in_ok-reserve.ensures.ok
+    ∙ ap (λ (z : KeptWeb). reserved (heap_of z) m c.args.n) c.self.view_is ∙ ap (reserved (heap_of c.args.self.now) m) (sym (room_now k.posts k.table (web_by k.web) c.self.invariant.stored m c.place_of_rules-place.result s h _ _ _ c.self.invariant.counts _ c.args.n c.in_ok-reserve.ensures.ok))
+
+pub returns-then-n-spare-clause-ok : goal.returns-then-n-spare-clause-ok
+returns-then-n-spare-clause-ok c = room_kept (heap_of c.args.self.now) (cell_id c.args.m)

@@ -1,0 +1,44 @@
+use Rattle.std.proofs.Common.{subst, sym, ap, ◌≤◌, ◌∙◌, ℕ}
+use Rattle.lmn_heap.specs.Heap.{IsAtom, arity_of}
+use Rattle.lmn_cells.specs.CellIds.{cell_id}
+use Rattle.lmn_web.specs.Webs.{web_by}
+use Rattle.lmn_web_store.specs.WebHeaps.{KeptWeb, heap_of}
+use Rattle.lmn_web_store.specs.WebStores.{kept_by}
+use Rattle.lmn_web_store.proofs.ReadLemmas.{atom_there, arity_is}
+use Rattle.lmn_web_store.proofs.web_store.WebStoreLinkStore.set_mark.Goals as goal
+use Rattle.lmn_heap.specs.Heap.{marked}
+use Rattle.lmn_web.specs.Webs.{WebCell}
+use Rattle.lmn_web_store.specs.WebHeaps.{atoms_of, mems_of, heap_by}
+use Rattle.lmn_web_store.specs.WebStores.{IsStored}
+use Rattle.lmn_store.specs.Kept.{HasCounts}
+use Rattle.lmn_web_store.proofs.CoreLemmas.{stored_same}
+use Rattle.lmn_web_store.proofs.MarkLemmas.{core_same, marked_heap, marked_counts}
+use Rattle.std.specs.Prelude.{Option}
+
+pub set_mark-requires-clause-slot : goal.set_mark-requires-clause-slot
+set_mark-requires-clause-slot c =
+    let a = cell_id c.args.a in
+    let k = kept_by c.self.inside in
+    let i = atom_there k.posts k.table (web_by k.web) a (subst (λ (z : KeptWeb). IsAtom (heap_of z) a) (sym c.self.view_is) c.requires.atom) in
+    subst (λ n. c.args.slot ≤ n) (arity_is k.posts k.table (web_by k.web) a i.1) (subst (λ (z : KeptWeb). c.args.slot ≤ arity_of (heap_of z) a) (sym c.self.view_is) c.requires.slot)
+
+pub invariant_of-self : goal.invariant_of-self
+invariant_of-self c =
+    let a = cell_id c.args.a in
+    let k = kept_by c.self.inside in
+    let v = web_by k.web in
+    let i = atom_there k.posts k.table v a (subst (λ (z : KeptWeb). IsAtom (heap_of z) a) (sym c.self.view_is) c.requires.atom) in
+    let e = c.set_mark.ensures in
+    record {
+      stored = subst (λ (f : ℕ → Option WebCell). IsStored k.posts k.table f) (sym e) (stored_same v _ (core_same k.posts k.table v a c.args.slot c.args.v) k.posts k.table c.self.invariant.stored);
+      counts = subst (λ (f : ℕ → Option WebCell). HasCounts (atoms_of k.posts f) (mems_of k.posts k.table f) c.self.inside.atom_count c.self.inside.mem_count c.self.inside.spare_count) (sym e) (marked_counts k.posts k.table v a c.args.slot c.args.v i.1 _ _ _ c.self.invariant.counts);
+    }
+
+pub returns : goal.returns
+returns c =
+    let a = cell_id c.args.a in
+    let k = kept_by c.self.inside in
+    let v = web_by k.web in
+    let i = atom_there k.posts k.table v a (subst (λ (z : KeptWeb). IsAtom (heap_of z) a) (sym c.self.view_is) c.requires.atom) in
+    ap (λ (f : ℕ → Option WebCell). heap_by k.posts k.table f) c.set_mark.ensures ∙ marked_heap k.posts k.table v a c.args.slot c.args.v i.1
+    ∙ ap (λ (z : KeptWeb). marked (heap_of z) a c.args.slot c.args.v) c.self.view_is

@@ -1,0 +1,7 @@
+pub mod Labels
+pub mod WebHeaps
+pub mod WebStores
+pub mod Tables
+pub mod Examples
+pub mod Sends
+pub mod Frees

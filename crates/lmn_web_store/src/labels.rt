@@ -1,0 +1,42 @@
+//! The label of an atom, and the number by which its cell tells it.
+ghost use Rattle.std.specs.Prelude.{◌≡◌};
+ghost use Rattle.lmn_web_store.specs.Labels.{IsLabelNumber, label_by, label_number};
+
+use lmn_base::Label;
+
+// Where the numbers of integers below 0 begin, and those of names, which are multiples of this.
+const NEGATIVES: u128 = 0x8000_0000_0000_0000;
+
+const NAMES: u128 = 0x1_0000_0000_0000_0000;
+
+/// The number of a label. Its upper half is 0 for an integer, and another one for each name.
+pub fn number_of(label: Label) -> u128
+    ensures number { result ≡ label_number label }
+    ensures range { IsLabelNumber result }
+    ensures back { label_by result ≡ label }
+{
+    match label {
+        Label::Name(n) => (n as u128 + 1) * NAMES,
+        Label::Int(z) => {
+            if z >= 0 {
+                (z as u64) as u128
+            } else {
+                NEGATIVES + ((-(z + 1)) as u64) as u128
+            }
+        }
+    }
+}
+
+/// The label of a number.
+pub fn label_of(n: u128) -> Label
+    requires { IsLabelNumber n }
+    ensures { result ≡ label_by n }
+{
+    if n < NEGATIVES {
+        Label::Int(n as i64)
+    } else if n < NAMES {
+        Label::Int(-((n - NEGATIVES) as i64) - 1)
+    } else {
+        Label::Name((n / NAMES - 1) as u32)
+    }
+}

@@ -1,0 +1,12 @@
+//! A store that keeps its items in a web of cells.
+#![tactic(auto)]
+
+pub mod examples;
+mod freeing;
+mod labels;
+mod rules;
+mod sending;
+mod table;
+mod web_store;
+
+pub use web_store::WebStore;
