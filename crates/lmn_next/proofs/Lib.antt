@@ -5,3 +5,7 @@ mod Chosen
 mod Settled
 mod FlatRules
 mod Searched
+mod BoundValues
+mod Matches
+mod Asked
+mod SearchExamples

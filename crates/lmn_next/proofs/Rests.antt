@@ -25,26 +25,28 @@ use Rattle.lmn_body.proofs.HeadPorts.{in_map, of_map}
 use Rattle.lmn_commit.proofs.RestOf.{rest_of}
 use Rattle.lmn_strategy.proofs.RestsFound.{IsLeftBy, all_of_parts}
 
+-- The atoms that a head takes are its images and those of its parts.
+module _ (h : Heap) (head : List HeadItem) (r : Registers) (ps : List ℕ) (are : (a : ℕ) → In a ps ↔ ((k : ℕ) × (k < length (typed_contexts_of head)) × Reached (atom_map h) (r.head.images.part k) a)) where
+  pub of_taken : (a : ℕ) → In a (images_of r head ++ ps) → IsTakenAtom h head r.head.images a
+  of_taken a i = elim (in_either a (images_of r head) ps i) [
+    | inl j ↦ (let n = length (atoms_of head) in let w = of_map r.head.images.atom a (rising 0 n) (heap_in_of a (images_of r head) j) in inl (w.0, (let b = (rising_below n 0 w.0 w.1).1 in omega (arith, b)), w.2))
+    | inr j ↦ (let w = (are a).0 j in let t = there (typed_contexts_of head) w.0 w.1 in inr (w.0, t.0, t.1, w.2))
+  ]
+
+  pub in_taken : (a : ℕ) → IsTakenAtom h head r.head.images a → In a (images_of r head ++ ps)
+  in_taken a (inl w) =
+      let n = length (atoms_of head) in
+      in_left a (images_of r head) ps (of_heap_in a (images_of r head) (subst (λ z. IsOneOf z (images_of r head)) w.2 (in_map r.head.images.atom w.0 (rising 0 n) (in_rising n 0 w.0 (omega arith) (let l = w.1 in omega (arith, l))))))
+  in_taken a (inr w) = in_right a (images_of r head) ps ((are a).1 (w.0, get_below (typed_contexts_of head) w.0 w.1 w.2, w.3))
+
 module _ (h : Heap) (valid : Valid h) (head : List HeadItem) (m : ℕ) (r : Registers) (lies : Lies h head m r.head.images) where
   -- the atoms of the parts
-  in_parts : (ps : List ℕ) × ((a : ℕ) → In a ps ↔ ((k : ℕ) × (k < length (typed_contexts_of head)) × Reached (atom_map h) (r.head.images.part k) a))
+  pub in_parts : (ps : List ℕ) × ((a : ℕ) → In a ps ↔ ((k : ℕ) × (k < length (typed_contexts_of head)) × Reached (atom_map h) (r.head.images.part k) a))
   in_parts = all_of_parts h valid (length (typed_contexts_of head)) r.head.images.part (λ k l. let t = there (typed_contexts_of head) k l in (r.head.images.membrane t.0.inside, (lies.parts k t.0 t.1).whole))
 
   -- the atoms that are taken
   abbrev taken : List ℕ
   taken = images_of r head ++ in_parts.0
-
-  is_taken : (a : ℕ) → In a taken → IsTakenAtom h head r.head.images a
-  is_taken a i = elim (in_either a (images_of r head) in_parts.0 i) [
-    | inl j ↦ (let n = length (atoms_of head) in let w = of_map r.head.images.atom a (rising 0 n) (heap_in_of a (images_of r head) j) in inl (w.0, (let b = (rising_below n 0 w.0 w.1).1 in omega (arith, b)), w.2))
-    | inr j ↦ (let w = (in_parts.1 a).0 j in let t = there (typed_contexts_of head) w.0 w.1 in inr (w.0, t.0, t.1, w.2))
-  ]
-
-  taken_in : (a : ℕ) → IsTakenAtom h head r.head.images a → In a taken
-  taken_in a (inl w) =
-      let n = length (atoms_of head) in
-      in_left a (images_of r head) in_parts.0 (of_heap_in a (images_of r head) (subst (λ z. IsOneOf z (images_of r head)) w.2 (in_map r.head.images.atom w.0 (rising 0 n) (in_rising n 0 w.0 (omega arith) (let l = w.1 in omega (arith, l))))))
-  taken_in a (inr w) = in_right a (images_of r head) in_parts.0 ((in_parts.1 a).1 (w.0, get_below (typed_contexts_of head) w.0 w.1 w.2, w.3))
 
   -- there is a rest of each membrane of the head
   some_left : (k : ℕ) (b : HeadMembrane) → HasMembrane head k b → (l : List ℕ × List ℕ) × IsLeftBy h head r k l.0 l.1
@@ -52,7 +54,7 @@ module _ (h : Heap) (valid : Valid h) (head : List HeadItem) (m : ℕ) (r : Regi
       let left : ℕ → Bool = λ a. not (is_in taken a) in
       let at = r.head.images.membrane in
       let w = rest_of h valid (at k) (mem_of_place h (at k) (within (at b.inside)) ((valid.sound.listed.mems (at b.inside) (at k)).0 (lies.membranes_placed k b has))) left (λ x. not (is_in (membrane_images r head) x)) in
-      ((w.0, w.1), (left, (λ a i. ((λ e t. not_in taken a e (taken_in a t)), (λ o. out_of taken a (λ j. o (is_taken a j))))), w.2))
+      ((w.0, w.1), (left, (λ a i. ((λ e t. not_in taken a e (in_taken h head r in_parts.0 in_parts.1 a t)), (λ o. out_of taken a (λ j. o (of_taken h head r in_parts.0 in_parts.1 a j))))), w.2))
 
   -- chosen for each number
   pub all_left : (j : ℕ) → (l : List ℕ × List ℕ) × ((c : HeadMembrane) → HasMembrane head j c → IsLeftBy h head r j l.0 l.1)

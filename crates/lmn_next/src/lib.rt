@@ -7,9 +7,15 @@
 ghost use Rattle.lmn_next.specs.Laws.{FirstIsChosen, LeastImagesLie, NoneHasEmbedding};
 ghost use Rattle.lmn_next.specs.Settling.{FiringsSettle, FlatsHaveRules, SpelledLevelsSettle};
 
+mod examples;
 mod firing;
 
-pub use firing::searched_rules_may_fire;
+pub use examples::{
+    integer_of_no_name, no_integers_are_told, no_links_are_no_match, no_rule_fires,
+    no_rule_is_asked, no_rules_can_be_searched, nothing_is_by, nothing_is_searched,
+    one_link_is_one, other_rule_may_not_fire, plan_of_no_rule, rule_of_no_plain,
+};
+pub use firing::{asked_rules_fire, matches_are_of_embeddings, searched_rules_may_fire};
 use lmn_bridge::{least_embeddings_are_alike, rules_embed_alike};
 use lmn_compile_head::{accepted_heads, accepted_least};
 use lmn_fire::{firings_are_spelled, settled_solids_keep};

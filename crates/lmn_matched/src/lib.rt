@@ -1,0 +1,14 @@
+//! From what a search finds to the match that a firing takes.
+//!
+//! The definitions stand in `specs/Matched`; of `specs/Pieces` contracts of private functions speak.
+#![tactic(auto)]
+
+mod images;
+mod matching;
+mod names;
+mod numbers;
+mod parts;
+mod walk;
+mod wires;
+
+pub use matching::matched;

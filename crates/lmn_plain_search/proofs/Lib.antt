@@ -1,0 +1,7 @@
+mod Asks
+mod Firings
+mod Rounds
+mod Places
+mod Fired
+mod Found
+mod Planned

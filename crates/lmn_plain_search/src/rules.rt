@@ -1,0 +1,131 @@
+//! Rules that are asked in a membrane.
+ghost use Rattle.std.specs.Prelude.{◌≡◌, ◌<◌, ℕ, List, IfOk, IfSome, None, take};
+ghost use Rattle.lmn_base.specs.declared.rule.Plain.{Plain};
+ghost use Rattle.lmn_base.specs.declared.solid.Solid.{Solid};
+ghost use Rattle.lmn_congruence.specs.Rules.{Name};
+ghost use Rattle.lmn_guards.specs.declared.plan.GuardPlan.{GuardPlan};
+ghost use Rattle.lmn_heap.specs.Heap.{IsMem, rules_in};
+ghost use Rattle.lmn_solid.specs.Embeddings.{Embeds, Images, IsLeast};
+ghost use Rattle.lmn_compile_head.specs.Accepted.{head_items};
+ghost use Rattle.lmn_flat.specs.Flats.{heap_of};
+ghost use Rattle.lmn_search.specs.Finding.{images};
+ghost use Rattle.lmn_search.specs.Holding.{HasRoom};
+ghost use Rattle.lmn_next.specs.Choosing.{NoneOf};
+ghost use Rattle.lmn_next.specs.Firing.{TellsIntegers};
+ghost use Rattle.lmn_next.specs.Asking.{Fires, IsAsked, IsSearched};
+ghost use Rattle.lmn_plain_search.specs.Turns.{FiresIn};
+
+use crate::laws::asked_rules;
+use lmn_base::{NoMemory, Plain, Rows, RuleTree, Solid};
+use lmn_compile_head::flatten;
+use lmn_fire::fire;
+use lmn_flat::Flat;
+use lmn_guards::GuardPlan;
+use lmn_matched::matched;
+use lmn_next::asked_rules_fire;
+use lmn_search::{Found, Room, least};
+use lmn_settle::settle;
+use lmn_solid::HeadItem;
+use std::alloc::Global;
+
+/// The solid after a rule fires in a membrane where it is found to lie.
+fn fire_found(
+    alloc: Global,
+    flat: &Flat,
+    rule: &RuleTree,
+    plan: &GuardPlan,
+    items: &[HeadItem],
+    membrane: usize,
+    found: &Found,
+) -> Result<Solid, NoMemory>
+    requires asked { (names : List Name) × (plain : Plain) × (plans : List GuardPlan) × (s : Solid) × (place : ℕ) × IsAsked names plain plans s flat.now membrane place rule.now plan.now }
+    requires items { items.now ≡ head_items rule.now plan.now }
+    requires least { IsLeast (heap_of flat.now) (head_items rule.now plan.now) rule.now.guard membrane (images membrane found.now) }
+    requires known { TellsIntegers (heap_of flat.now) (head_items rule.now plan.now) rule.now.guard membrane found.now }
+    ensures { (names : List Name) (plain : Plain) (plans : List GuardPlan) (s : Solid) (place : ℕ) → IsAsked names plain plans s flat.now membrane place rule.now plan.now →
+        IfOk result (Fires names plain s flat.now membrane place rule.now plan.now) }
+{
+    asked_rules();
+    asked_rules_fire();
+    let mut connectors = Rows::new(alloc);
+    let taken = matched(alloc, flat, rule, items, membrane, found, &mut connectors)?;
+    let (membranes, links) = fire(
+        alloc,
+        flat,
+        &taken,
+        &rule.body,
+        rule.links.len() as u64,
+        &mut connectors,
+    )?;
+    settle(alloc, membranes, connectors.as_slice(), links)
+}
+
+/// The solid after a rule fires in a membrane at its least embedding, if it has one there.
+fn fire_rule(
+    alloc: Global,
+    flat: &Flat,
+    rule: &RuleTree,
+    plan: &GuardPlan,
+    membrane: usize,
+    room: &mut Room,
+) -> Result<Option<Solid>, NoMemory>
+    requires asked { (names : List Name) × (plain : Plain) × (plans : List GuardPlan) × (s : Solid) × (place : ℕ) × IsAsked names plain plans s flat.now membrane place rule.now plan.now }
+    requires room { HasRoom (heap_of flat.now) room.old }
+    ensures room { HasRoom (heap_of flat.now) room.new }
+    ensures some { (names : List Name) (plain : Plain) (plans : List GuardPlan) (s : Solid) (place : ℕ) → IsAsked names plain plans s flat.now membrane place rule.now plan.now →
+        IfOk result (λ found. IfSome found (Fires names plain s flat.now membrane place rule.now plan.now)) }
+    ensures none { IfOk result (λ found. found ≡ None → (f : Images) → ¬ (Embeds (heap_of flat.now) (head_items rule.now plan.now) rule.now.guard membrane f)) }
+{
+    asked_rules();
+    let items = flatten(alloc, &rule.head, plan)?;
+    let least = least(
+        alloc,
+        flat,
+        items.as_slice(),
+        rule.guard.as_slice(),
+        membrane,
+        room,
+    )?;
+    match least {
+        None => Ok(None),
+        Some(found) => {
+            let next = fire_found(alloc, flat, rule, plan, items.as_slice(), membrane, &found)?;
+            Ok(Some(next))
+        }
+    }
+}
+
+/// The solid after the first rule of a membrane that embeds there fires, if one does.
+pub(crate) fn fire_in(
+    alloc: Global,
+    flat: &Flat,
+    plain: &Plain,
+    plans: &[GuardPlan],
+    membrane: usize,
+    room: &mut Room,
+) -> Result<Option<Solid>, NoMemory>
+    requires searched { (names : List Name) × (s : Solid) × IsSearched names plain.now plans.now s flat.now }
+    requires there { IsMem (heap_of flat.now) membrane }
+    requires room { HasRoom (heap_of flat.now) room.old }
+    ensures room { HasRoom (heap_of flat.now) room.new }
+    ensures some { (names : List Name) (s : Solid) → IsSearched names plain.now plans.now s flat.now → IfOk result (λ found. IfSome found (FiresIn names plain.now plans.now s flat.now membrane)) }
+    ensures none { IfOk result (λ found. found ≡ None → NoneOf plain.now.rules plans.now (heap_of flat.now) membrane (rules_in (heap_of flat.now) membrane)) }
+{
+    asked_rules();
+    let rules = flat.rules(membrane);
+    for place in 0..rules.len() {
+        let number = rules[place] as usize;
+        let fired = fire_rule(
+            alloc,
+            flat,
+            plain.rules.at(number),
+            &plans[number],
+            membrane,
+            room,
+        )?;
+        if fired.is_some() {
+            return Ok(fired);
+        }
+    }
+    Ok(None)
+}
