@@ -1,3 +1,4 @@
 mod Telling
 mod Walking
 mod Wiring
+mod Shown

@@ -3,7 +3,7 @@ use Rattle.std.proofs.Common.{ℕ, zero, suc, ℤ, ◌≡◌, ◌+◌, ◌<◌, 
 use Rattle.std.specs.Prelude.{IsSome, max, Option, Some, None, cond, ◌==◌, nat_lt, not, position, flat_map, if◌then◌else◌, slice_get, slice_index_or}
 use Rattle.std.specs.Option.{option_and_then, option_map}
 use Rattle.std.specs.List.{AllByRecursion, prefix_len, zip}
-use Rattle.std.proofs.lemmas.Bool.{eqb-true}
+use Rattle.std.proofs.lemmas.Bool.{cases_lt, eqb-true}
 use Rattle.std.proofs.lemmas.Bool.Decides.{nat_tests}
 use Rattle.std.proofs.lemmas.List.{append-nil, append_assoc, drop_all, get_or_past}
 use Rattle.std.proofs.Math.Nat.{le-max_left, le-max_right}
@@ -11,6 +11,7 @@ use Rattle.lmn_base.specs.Graphs.{Port, Reached, across, at_root}
 use Rattle.lmn_base.specs.Lists.{In}
 use Rattle.lmn_base.proofs.Lists.{get_there, in_either}
 use Rattle.lmn_base.proofs.Numbers.{equal_itself}
+use Rattle.lmn_heap.proofs.ListLemmas.{in_left, in_right}
 use Rattle.lmn_heap.specs.Graphs.{atom_map}
 use Rattle.lmn_heap.specs.Heap.{Heap, IsAtom, IsMem, arity_of}
 use Rattle.lmn_heap.specs.Sound.{Valid}
@@ -93,15 +94,10 @@ link_past flat a i l = get_or_past (links_by (slice_get flat.atoms.items a)) i 0
 pub links_below : (flat : Flat) (n top : ℕ) → ((a i : ℕ) → i < arity_of (heap_of flat) a → link_at flat a i < n) → top ≡ max n 1 → (a i : ℕ) → link_at flat a i < top
 links_below flat n top all e a i =
     let x = le-max_left n 1 in let y = le-max_right n 1 in
-    elim (below_or (arity_of (heap_of flat) a) i) [
+    elim (cases_lt i (arity_of (heap_of flat) a)) [
       | inl l ↦ (let b = all a i l in omega (arith, b, x, e))
       | inr l ↦ (let b = link_past flat a i l in omega (arith, b, y, e))
     ]
-  where
-    below_or : (k i : ℕ) → (i < k) ⊎ (k ≤ i)
-    below_or zero i = inr (omega arith)
-    below_or (suc k) zero = inl (omega arith)
-    below_or (suc k) (suc i) = elim (below_or k i) [ inl l ↦ inl (omega (arith, l)) | inr l ↦ inr (omega (arith, l)) ]
 
 -- ---- parts
 
@@ -118,15 +114,6 @@ pub parts_ended : (flat : Flat) (at : ℕ → Port) (g : ℕ) (names more : List
     ((rest : List Part) → AreParts flat at g more rest → AreParts flat at 0 names (parts ++ rest)) → AreParts flat at 0 names parts
 parts_ended flat at g names more parts e gives = subst (AreParts flat at 0 names) (append-nil parts) (gives [] (subst (λ (xs : List ℕ). AreParts flat at g xs []) (sym e) tt))
 
-in_front : (a : ℕ) (xs ys : List ℕ) → In a xs → In a (xs ++ ys)
-in_front a [] ys i = absurd i
-in_front a (x ∷ xs) ys (inl e) = inl e
-in_front a (x ∷ xs) ys (inr i) = inr (in_front a xs ys i)
-
-in_back : (a : ℕ) (xs ys : List ℕ) → In a ys → In a (xs ++ ys)
-in_back a [] ys i = i
-in_back a (x ∷ xs) ys i = inr (in_back a xs ys i)
-
 -- each atom of the parts is reached from the port of a typed context
 parts_reached : (flat : Flat) (at : ℕ → Port) (g : ℕ) (ts : List HeadTyped) (ps : List Part) → AreParts flat at g (map (λ t. t.name) ts) ps → (a : ℕ) → In a (flat_map (λ p. p.atoms) ps) →
     (k : ℕ) × (t : HeadTyped) × (slice_get ts k ≡ Some t) × Reached (atom_map (heap_of flat)) (at (g + k)) a
@@ -136,9 +123,9 @@ parts_reached flat at g (t ∷ ts) [] are a i = absurd are
 parts_reached flat at g (t ∷ ts) (p ∷ ps) are a i = elim (in_either a p.atoms (flat_map (λ p. p.atoms) ps) i) [
   | inl j ↦ (let z : g ≡ g + 0 = omega arith in (0, t, refl, subst (λ k. Reached (atom_map (heap_of flat)) (at k) a) z (((part_atoms (heap_of flat) (at g) p.atoms are.1.in_depth).1 a).0 j)))
   | inr j ↦ (
-    let w = parts_reached flat at (g + 1) ts ps are.2 a j in
-    let z : g + 1 + w.0 ≡ g + suc w.0 = omega arith in
-    (suc w.0, w.1, w.2, subst (λ k. Reached (atom_map (heap_of flat)) (at k) a) z w.3))
+      let w = parts_reached flat at (g + 1) ts ps are.2 a j in
+      let z : g + 1 + w.0 ≡ g + suc w.0 = omega arith in
+      (suc w.0, w.1, w.2, subst (λ k. Reached (atom_map (heap_of flat)) (at k) a) z w.3))
 ]
 
 -- and each of those is an atom of the parts
@@ -148,10 +135,10 @@ reached_parts flat at g [] ps are a k t e r = absurd (cc)
 reached_parts flat at g (u ∷ ts) [] are a k t e r = absurd are
 reached_parts flat at g (u ∷ ts) (p ∷ ps) are a zero t e r =
     let z : g + 0 ≡ g = omega arith in
-    in_front a p.atoms (flat_map (λ p. p.atoms) ps) (((part_atoms (heap_of flat) (at g) p.atoms are.1.in_depth).1 a).1 (subst (λ k. Reached (atom_map (heap_of flat)) (at k) a) z r))
+    in_left a p.atoms (flat_map (λ p. p.atoms) ps) (((part_atoms (heap_of flat) (at g) p.atoms are.1.in_depth).1 a).1 (subst (λ k. Reached (atom_map (heap_of flat)) (at k) a) z r))
 reached_parts flat at g (u ∷ ts) (p ∷ ps) are a (suc k) t e r =
     let z : g + suc k ≡ g + 1 + k = omega arith in
-    in_back a p.atoms (flat_map (λ p. p.atoms) ps) (reached_parts flat at (g + 1) ts ps are.2 a k t e (subst (λ k. Reached (atom_map (heap_of flat)) (at k) a) z r))
+    in_right a p.atoms (flat_map (λ p. p.atoms) ps) (reached_parts flat at (g + 1) ts ps are.2 a k t e (subst (λ k. Reached (atom_map (heap_of flat)) (at k) a) z r))
 
 -- the part of a name
 pub named_part : (flat : Flat) (f : Images) (g : ℕ) (ts : List HeadTyped) (ps : List Part) → AreParts flat f.part g (map (λ t. t.name) ts) ps → (x : ℕ) → IsPartOfName flat f (typed_number ts g x) (part_named ps x)
@@ -173,8 +160,7 @@ parts_there flat v at g [] (p ∷ ps) are entered = absurd are
 parts_there flat v at g (t ∷ ts) [] are entered = absurd are
 parts_there flat v at g (t ∷ ts) (p ∷ ps) are entered =
     let z : g + 0 ≡ g = omega arith in
-    let here = subst (λ k. (at k).1 < arity_of (heap_of flat) (at k).0) z (entered 0 (omega arith)) in
-    (
+    let here = subst (λ k. (at k).1 < arity_of (heap_of flat) (at k).0) z (entered 0 (omega arith)) in (
       (λ a i. reached_atom (heap_of flat) (at g) a v (is_atom_at (heap_of flat) (at g).0 (at g).1 here) (((part_atoms (heap_of flat) (at g) p.atoms are.1.in_depth).1 a).0 i)),
       parts_there flat v at (g + 1) ts ps are.2 (λ k l. (let y : g + suc k ≡ g + 1 + k = omega arith in subst (λ n. (at n).1 < arity_of (heap_of flat) (at n).0) y (entered (suc k) (omega (arith, l))))),
     )
@@ -280,8 +266,8 @@ taken_are flat items f images ps atoms read are e a = (
         inr (w.0, w.1, w.2, subst (λ k. Reached (atom_map (heap_of flat)) (f.part k) a) z w.3))
   ]),
   λ t. subst (In a) (sym e) (elim t [
-    | inl w ↦ in_front a (images_from images 0 (atoms_of items)) (flat_map (λ p. p.atoms) ps) ((images_are images (atoms_of items) a).1 (w.0, w.1, sym (read w.0) ∙ w.2))
-    | inr w ↦ (let z : w.0 ≡ 0 + w.0 = omega arith in in_back a (images_from images 0 (atoms_of items)) (flat_map (λ p. p.atoms) ps)
+    | inl w ↦ in_left a (images_from images 0 (atoms_of items)) (flat_map (λ p. p.atoms) ps) ((images_are images (atoms_of items) a).1 (w.0, w.1, sym (read w.0) ∙ w.2))
+    | inr w ↦ (let z : w.0 ≡ 0 + w.0 = omega arith in in_right a (images_from images 0 (atoms_of items)) (flat_map (λ p. p.atoms) ps)
         (reached_parts flat f.part 0 (typed_contexts_of items) ps are a w.0 w.1 w.2 (subst (λ k. Reached (atom_map (heap_of flat)) (f.part k) a) z w.3)))
   ]),
 )

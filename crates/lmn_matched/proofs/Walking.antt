@@ -2,7 +2,7 @@
 use Rattle.std.proofs.Common.{ℕ, zero, suc, ◌≡◌, ◌+◌, ◌-◌, ◌<◌, ◌≤◌, ◌⊎◌, inl, inr, Bool, true, false, List, [], ◌∷◌, ◌++◌, length, refl, sym, ap, subst, ◌∙◌, arith}
 use Rattle.std.specs.Prelude.{Option, Some, None, cond, slice_get, slice_set}
 use Rattle.std.specs.Option.{option_and_then}
-use Rattle.std.proofs.lemmas.List.{append-nil}
+use Rattle.std.proofs.lemmas.List.{append-nil, length-set}
 use Rattle.std.proofs.lemmas.Option.{same_Some}
 use Rattle.lmn_base.specs.Graphs.{Port}
 use Rattle.lmn_base.specs.Lists.{In}
@@ -11,6 +11,7 @@ use Rattle.lmn_parts.proofs.WalkLaws.{in_last}
 use Rattle.lmn_heap.specs.Heap.{Heap, IsAtom, arity_of, link_of}
 use Rattle.lmn_heap.specs.Sound.{Valid}
 use Rattle.lmn_heap.proofs.Common.{linked_atom}
+use Rattle.lmn_heap.proofs.ListLemmas.{in_left}
 use Rattle.lmn_parts.specs.Walks.{Net, ends, finds, is_port, kept, net, neighbour, passes, port_range}
 use Rattle.lmn_flat.specs.Flats.{port_by}
 use Rattle.lmn_flat.specs.declared.tables.Port.{Port as Place}
@@ -62,11 +63,6 @@ kept_mark (x ∷ xs) zero y (suc a) e = e
 kept_mark (x ∷ xs) (suc k) y zero e = e
 kept_mark (x ∷ xs) (suc k) y (suc a) e = kept_mark xs k y a e
 
-as_long : (xs : List ℕ) (k y : ℕ) → length (slice_set xs k y) ≡ length xs
-as_long [] k y = refl
-as_long (x ∷ xs) zero y = refl
-as_long (x ∷ xs) (suc k) y = ap suc (as_long xs k y)
-
 -- before a round nothing is found
 pub tells_nothing : (h : Heap) (round : ℕ) (marks : List ℕ) → Before h round marks → Tells h round marks []
 tells_nothing h round marks b = record {
@@ -85,19 +81,14 @@ tells_more h round marks marks' atoms atoms' b t l e g = subst (λ (xs : List �
   ];
   listed = λ a m. elim (either_mark marks b round a round m) [
     | inl s ↦ subst (λ (x : ℕ). In x (atoms ++ b ∷ [])) (sym s.0) (in_last b atoms)
-    | inr s ↦ in_front a atoms (t.listed a s)
+    | inr s ↦ in_left a atoms (b ∷ []) (t.listed a s)
   ];
-  places = λ a is. (let long = as_long marks b round in let m = t.places a is in omega (arith, long, m));
+  places = λ a is. (let long = length-set marks b round in let m = t.places a is in omega (arith, long, m));
   none_later = λ a n m. elim (either_mark marks b round a n m) [
     | inl s ↦ (let w = s.1 in omega (arith, w))
     | inr s ↦ t.none_later a n s
   ];
 }))
-  where
-    in_front : (a : ℕ) (xs : List ℕ) → In a xs → In a (xs ++ b ∷ [])
-    in_front a [] i = absurd i
-    in_front a (x ∷ xs) (inl e) = inl e
-    in_front a (x ∷ xs) (inr i) = inr (in_front a xs i)
 
 -- behind a round the next one may begin
 pub round_ends : (h : Heap) (round : ℕ) (marks atoms : List ℕ) → Tells h round marks atoms → Before h (round + 1) marks

@@ -15,7 +15,7 @@ use crate::images::{atom_images, membrane_images};
 use crate::names::{context_images, integers_of, rule_context_images};
 use crate::parts::{add_atoms, parts_of};
 use crate::wires::add_wires;
-use lmn_base::{NoMemory, RuleTree, Rows};
+use lmn_base::{NoMemory, Rows, RuleTree};
 use lmn_fire::Match;
 use lmn_flat::Flat;
 use lmn_search::Found;

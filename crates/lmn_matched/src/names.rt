@@ -46,11 +46,7 @@ pub(crate) fn typed_names(alloc: Global, items: &[HeadItem]) -> Result<Rows<u32>
 }
 
 /// Adds the names of contexts that stand in a membrane.
-fn add_names(
-    names: &mut Rows<(u32, usize)>,
-    uses: &[CtxUse],
-    inside: usize,
-) -> Result<(), NoMemory>
+fn add_names(names: &mut Rows<(u32, usize)>, uses: &[CtxUse], inside: usize) -> Result<(), NoMemory>
     ensures { OnOk result (names.new ≡ names.old ++ names_inside inside uses.now) }
 {
     for context in uses {
@@ -119,7 +115,10 @@ fn images_of(
     let mut images = Rows::new(alloc);
     for entry in names {
         let (name, _) = *entry;
-        images.push((name, membrane_image(home, membranes, number_of(names, name))))?;
+        images.push((
+            name,
+            membrane_image(home, membranes, number_of(names, name)),
+        ))?;
     }
     Ok(images)
 }

@@ -94,15 +94,7 @@ pub(crate) fn in_depth(
         let Some(port) = waiting.pop() else {
             return Ok(atoms);
         };
-        follow(
-            flat,
-            root,
-            port,
-            round,
-            marks,
-            &mut atoms,
-            &mut waiting,
-        )?;
+        follow(flat, root, port, round, marks, &mut atoms, &mut waiting)?;
     }
     Err(NoMemory)
 }

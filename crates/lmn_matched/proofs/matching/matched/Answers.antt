@@ -41,7 +41,7 @@ returns-clause-matched c =
     let names = (numbering (λ l. l.contexts) c.args.rule.now.head).names 0 1 in
     let rule_names = (numbering (λ l. l.rule_contexts) c.args.rule.now.head).names 0 1 in
     let are = subst (AreParts flat (port_at found.parts) 0 (map (λ t. t.name) (typed_contexts_of items))) (sym c.parts.view_is)
-        (subst (λ qs. AreParts flat (port_at qs) 0 (map (λ t. t.name) (typed_contexts_of items)) c.in_ok-parts.parts) c.as_slice-3.ensures c.in_ok-parts.ensures) in
+    (subst (λ qs. AreParts flat (port_at qs) 0 (map (λ t. t.name) (typed_contexts_of items)) c.in_ok-parts.parts) c.as_slice-3.ensures c.in_ok-parts.ensures) in
     let first = c.in_ok-atoms.ensures ∙ ap (λ xs. images_from xs 0 (atoms_of items)) c.as_slice.ensures in
     let parts = c.as_slice-4.ensures ∙ sym c.parts.view_is in
     let membranes = c.membranes.view_is ∙ c.in_ok-membranes.ensures ∙ ap (λ xs. images_from xs 0 (membranes_of items)) c.as_slice-2.ensures in
@@ -68,7 +68,7 @@ returns-clause-ready c =
     let rule_names = (numbering (λ l. l.rule_contexts) c.args.rule.now.head).names 0 1 in
     let kind = c.requires.items in
     let are = subst (AreParts flat (port_at found.parts) 0 (map (λ t. t.name) (typed_contexts_of items))) (sym c.parts.view_is)
-        (subst (λ qs. AreParts flat (port_at qs) 0 (map (λ t. t.name) (typed_contexts_of items)) c.in_ok-parts.parts) c.as_slice-3.ensures c.in_ok-parts.ensures) in
+    (subst (λ qs. AreParts flat (port_at qs) 0 (map (λ t. t.name) (typed_contexts_of items)) c.in_ok-parts.parts) c.as_slice-3.ensures c.in_ok-parts.ensures) in
     record {
       parts = parts_there flat c.requires.valid f.part 0 (typed_contexts_of items) _ are (λ k l. (let z : k ≡ 0 + k = omega arith in subst (λ g. (f.part g).1 < arity_of h (f.part g).0) z (entry_there h c.requires.valid items m f c.requires.lies c.requires.head k l)));
       contexts = subst (AreThere h) (sym (c.in_ok-context_images.ensures ∙ ap (λ ms. imaged (membrane_at m ms) names names) c.as_slice-8.ensures))
