@@ -17,9 +17,9 @@ use Rattle.lmn_weight.specs.declared.weights.Weights.{Weights}
 use Rattle.lmn_weight.specs.Lines.{AreWeightsOf, IsFirstWrong}
 use Rattle.lmn_weight.specs.Plains.{EachLowered, IsFirstNotLowered, IsOfSize, level_weight}
 use Rattle.lmn_words.specs.declared.command.PairKind.TheVariants.{Bound}
-use Rattle.lmn_app.specs.declared.ending.Ending.TheVariants.{Done, WriteFault, NoMemory, SecondRefused}
+use Rattle.lmn_app.specs.declared.ending.Ending.TheVariants.{Done, WriteFault, SecondRefused}
 use Rattle.lmn_app.specs.Bounds.{IsBound, bad_weight, bound_line, not_lowered}
-use Rattle.lmn_app.specs.Runnings.{EndsBound}
+use Rattle.lmn_app.specs.Runnings.{EndsByLine}
 use Rattle.lmn_app.specs.Seconds.{ReadsBoth}
 use Rattle.lmn_app.specs.Texts.{Accepts}
 use Rattle.lmn_app.proofs.ListLemmas.{plain_named}
@@ -61,18 +61,18 @@ module _ (laws : AcceptedTexts) (weights_bound : WeightsBound) (program weights 
 
   module _ (old new : Option (List ℕ)) (before after : Faults) where
     -- its line was written
-    pub written_ended : {A E : Type 0} (x : A) (n : ℕ) → IsBound program weights n → WritesText {A = A} {E = E} (bound_line n) (Ok x) old before new after → EndsBound program weights Done old new before after
+    pub written_ended : {A E : Type 0} (x : A) (n : ℕ) → IsBound program weights n → WritesText {A = A} {E = E} (bound_line n) (Ok x) old before new after → EndsByLine Bound program weights Done old new before after
     written_ended x n bound written = ((bound_line n, (n, bound, refl), written.took _ refl), written.same)
 
     -- or a part of it
-    pub part_ended : {A E : Type 0} (e : E) (n : ℕ) → IsBound program weights n → WritesText {A = A} {E = E} (bound_line n) (Err e) old before new after → EndsBound program weights WriteFault old new before after
+    pub part_ended : {A E : Type 0} (e : E) (n : ℕ) → IsBound program weights n → WritesText {A = A} {E = E} (bound_line n) (Err e) old before new after → EndsByLine Bound program weights WriteFault old new before after
     part_ended e n bound written = ((bound_line n, (n, bound, refl), written.prefix _ refl), written.rose)
 
   -- a line is wrong
-  pub bad_ended : (r : Refusal) (x : Option (List ℕ)) (count : Faults) → IsFirstWrong later weights r → EndsBound program weights (SecondRefused Bound r) x x count count
-  bad_ended r x count wrong = (bad_weight both wrong, inr (inl (ap (λ (q : Refusal). q.code) wrong.refused)), refl, no_put count)
+  pub bad_ended : (r : Refusal) (x : Option (List ℕ)) (count : Faults) → IsFirstWrong later weights r → EndsByLine Bound program weights (SecondRefused Bound r) x x count count
+  bad_ended r x count wrong = (refl, bad_weight both wrong, inr (inl (ap (λ (q : Refusal). q.code) wrong.refused)), refl, no_put count)
 
   -- a rule isn't lowered
   pub not_lowered_ended : (by : Weights) → AreWeightsOf later weights by → (r : Refusal) (x : Option (List ℕ)) (count : Faults) → IsFirstNotLowered by plain plans r
-      → EndsBound program weights (SecondRefused Bound r) x x count count
-  not_lowered_ended by are r x count wrong = (not_lowered both by are wrong, inr (inr (ap (λ (q : Refusal). q.code) wrong.refused)), refl, no_put count)
+      → EndsByLine Bound program weights (SecondRefused Bound r) x x count count
+  not_lowered_ended by are r x count wrong = (refl, not_lowered both by are wrong, inr (inr (ap (λ (q : Refusal). q.code) wrong.refused)), refl, no_put count)

@@ -8,9 +8,11 @@ mod ListLemmas
 mod DriveLemmas
 mod MainLemmas
 mod BoundLemmas
+mod CheckLemmas
 mod PairLemmas
 mod DebugLemmas
 mod OneBound
+mod OneCheck
 mod DemoLemmas
 mod TaskLemmas
 mod OneListing
@@ -19,3 +21,4 @@ mod SmallBounds
 mod SmallRuns
 mod SmallSessions
 mod OneSession
+mod SmallChecks

@@ -5,14 +5,14 @@ use Rattle.lmn_congruence.specs.Rules.{Name}
 use Rattle.lmn_guards.specs.declared.plan.GuardPlan.{GuardPlan}
 use Rattle.lmn_io.specs.Counts.{Faults}
 use Rattle.lmn_words.specs.declared.command.PairKind.{PairKind}
-use Rattle.lmn_words.specs.declared.command.PairKind.TheVariants.{Bound, Debug}
+use Rattle.lmn_words.specs.declared.command.PairKind.TheVariants.{Bound, Check, Debug}
 use Rattle.lmn_words.specs.Forms.{Pair, to_pair}
 use Rattle.lmn_app.specs.declared.ending.Ending.{Ending}
 use Rattle.lmn_app.specs.declared.ending.Ending.TheVariants.{Done, Budget, Refused, Words, ReadFault, WriteFault, NoMemory, Full, SecondRefused}
 use Rattle.lmn_app.specs.Debugs.{session_size}
 use Rattle.lmn_app.specs.Outcomes.{RequestEnded}
 use Rattle.lmn_app.specs.Pairs.{HasProgram, IsSecondRefusal, IsWritten, Writes, most_items_of_pair, second_wrong}
-use Rattle.lmn_app.specs.Runnings.{EndsBound, EndsDebugged}
+use Rattle.lmn_app.specs.Runnings.{EndsByLine, EndsDebugged}
 use Rattle.lmn_app.specs.SecondTexts.{second_bytes}
 use Rattle.lmn_app.specs.Texts.{Accepts, Fits, IsAccepted}
 use Rattle.lmn_app.specs.Writing.{IsToldAnd, told_under}
@@ -25,7 +25,11 @@ module _ (p : Pair) (texts : Option (List ℕ → Option (List ℕ))) (program :
   abbrev accepted_for : (kind : PairKind) → p.kind ≡ kind → IsAccepted (most_items_of_pair kind) program → HasProgram p texts
   accepted_for kind is accepted = record { program = program; is_told = told; accepted = subst (λ k. IsAccepted (most_items_of_pair k) program) (sym is) accepted }
 
-  -- an accepted program is that of `bound`
+  -- an accepted program is that of `check`
+  abbrev pub has_trace : p.kind ≡ Check → HasProgram p texts
+  has_trace is = accepted_for Check is (names, plain, plans, a, tt)
+
+  -- and of `bound`
   abbrev pub has_bound : p.kind ≡ Bound → HasProgram p texts
   has_bound is = accepted_for Bound is (names, plain, plans, a, tt)
 
@@ -41,30 +45,29 @@ module _ (p : Pair) (texts : Option (List ℕ → Option (List ℕ))) (of : HasP
   writes_so e written is = record { of = of; second = second; second_told = told; short = short; written = written; is = is }
 
   module _ (f g : List ℕ → ℕ) (old new : Option (List ℕ)) (before after : Faults) where
-    -- one that bounds the program ended so
-    pub bound_ended : p.kind ≡ Bound → (e : Ending) → EndsBound of.program second e old new before after → RequestEnded (to_pair p) e texts old new before after f g
+    -- one that writes a line of both ended so
+    pub line_ended : (e : Ending) → EndsByLine p.kind of.program second e old new before after → RequestEnded (to_pair p) e texts old new before after f g
     unfolding writes_so
-    bound_ended kind Done h = record { cause = tt; output = record { writes = writes_so Done h.0.0 (rw kind h.0.1); took = h.0.2 }; counts = h.1 }
-    bound_ended kind WriteFault h = record { cause = tt; output = record { writes = writes_so WriteFault h.0.0 (rw kind h.0.1); took = h.0.2 }; counts = h.1 }
-    bound_ended kind (SecondRefused Bound r) h = record {
+    line_ended Done h = record { cause = tt; output = record { writes = writes_so Done h.0.0 h.0.1; took = h.0.2 }; counts = h.1 }
+    line_ended WriteFault h = record { cause = tt; output = record { writes = writes_so WriteFault h.0.0 h.0.1; took = h.0.2 }; counts = h.1 }
+    line_ended (SecondRefused kind r) h = record {
       cause = record {
-        same = sym kind;
+        same = h.0;
         of = of;
-        refused = told_and (λ bytes. IsSecondRefusal p.kind of.program bytes r) (told_under texts p.second) second told (second_wrong short (rw kind h.0));
-        code = rw kind h.1;
+        refused = told_and (λ bytes. IsSecondRefusal p.kind of.program bytes r) (told_under texts p.second) second told (second_wrong short h.1);
+        code = h.2;
       };
-      output = h.2;
-      counts = h.3;
+      output = h.3;
+      counts = h.4;
     }
-    bound_ended kind (SecondRefused Debug r) h = absurd h
-    bound_ended kind NoMemory h = record { cause = tt; output = inl h.0; counts = h.1 }
-    bound_ended kind Budget h = absurd h
-    bound_ended kind (Refused r) h = absurd h
-    bound_ended kind Words h = absurd h
-    bound_ended kind ReadFault h = absurd h
-    bound_ended kind Full h = absurd h
+    line_ended NoMemory h = record { cause = tt; output = inl h.0; counts = h.1 }
+    line_ended Budget h = absurd h
+    line_ended (Refused r) h = absurd h
+    line_ended Words h = absurd h
+    line_ended ReadFault h = absurd h
+    line_ended Full h = absurd h
 
-    -- and one that debugs it
+    -- and one that debugs the program
     pub debug_ended : p.kind ≡ Debug → (e : Ending) → EndsDebugged of.program second e old new before after → RequestEnded (to_pair p) e texts old new before after f g
     unfolding writes_so
     debug_ended kind Done h = record { cause = tt; output = record { writes = writes_so Done h.0.0 (rw kind h.0.1); took = h.0.2 }; counts = h.1 }
@@ -79,6 +82,7 @@ module _ (p : Pair) (texts : Option (List ℕ → Option (List ℕ))) (of : HasP
       output = h.2;
       counts = h.3;
     }
+    debug_ended kind (SecondRefused Check r) h = absurd h
     debug_ended kind (SecondRefused Bound r) h = absurd h
     debug_ended kind NoMemory h =
         record { cause = tt; output = elim h.0 [ inl same ↦ inl same | inr some ↦ inr (record { writes = writes_so NoMemory some.0 (rw kind some.1); took = some.2 }) ]; counts = h.1 }

@@ -5,6 +5,7 @@ pub mod NameExamples
 pub mod Outcomes
 pub mod Pairs
 pub mod Bounds
+pub mod Checks
 pub mod DebugExamples
 pub mod DebugLaws
 pub mod Debugs
@@ -18,4 +19,6 @@ pub mod Texts
 pub mod Writing
 pub mod ListingLaws
 pub mod BoundLaws
+pub mod CheckLaws
 pub mod BoundExamples
+pub mod CheckExamples

@@ -1,7 +1,8 @@
--- How a call ends whose run or whose orders ended so, without a program, and that bounds or debugs one. Contracts of this crate's own functions alone cite these words.
+-- How a call ends whose run or whose orders ended so, without a program, and that writes a line of one or debugs it. Contracts of this crate's own functions alone cite these words.
 use Rattle.std.specs.Prelude.{◌≡◌, ◌<◌, ◌⊎◌, ⊤, ℕ, List, Option, length}
 use Rattle.lmn_io.specs.Taking.{Takes, TakesPrefix}
-use Rattle.lmn_words.specs.declared.command.PairKind.TheVariants.{Bound, Debug}
+use Rattle.lmn_words.specs.declared.command.PairKind.{PairKind}
+use Rattle.lmn_words.specs.declared.command.PairKind.TheVariants.{Debug}
 use Rattle.lmn_debugging.specs.declared.debugging.DebugEnd.{DebugEnd}
 use Rattle.lmn_debugging.specs.declared.debugging.DebugEnd.TheVariants as session
 use Rattle.lmn_drive.specs.declared.driving.RunEnd.{RunEnd}
@@ -10,8 +11,8 @@ use Rattle.lmn_app.specs.declared.ending.Ending.{Ending}
 use Rattle.lmn_app.specs.declared.ending.Ending.TheVariants.{Done, Budget, Refused, ReadFault, WriteFault, NoMemory, Full, SecondRefused}
 use Rattle.lmn_io.specs.Counts.{FailedLast, Faults, NoneFailed, Rose}
 use Rattle.lmn_script.specs.Scripts.{IsFirstWrong}
-use Rattle.lmn_app.specs.Bounds.{IsBounded, IsWrongWeights}
 use Rattle.lmn_app.specs.Debugs.{IsDebugged}
+use Rattle.lmn_app.specs.Pairs.{IsWritten, IsWrong}
 use Rattle.lmn_app.specs.SecondTexts.{IsSecondCode}
 use Rattle.lmn_app.specs.Texts.{at_start, text_bytes}
 use Rattle.lmn_app.specs.Writing.{IsToldAnd}
@@ -35,14 +36,15 @@ EndsUnread ReadFault told before after = Rose before after
 EndsUnread NoMemory told before after = ⊤
 EndsUnread _ told before after = ⊥
 
--- A call that bounds a program by weights ends so, with what `out` took and counts: the line was written, or a part of it, or
--- something is wrong in the weights, or memory was wanting.
-abbrev pub EndsBound : List ℕ → List ℕ → Ending → Option (List ℕ) → Option (List ℕ) → Faults → Faults → Type 0
-EndsBound program weights Done old new before after = ((written : List ℕ) × IsBounded program weights written × Takes written old new) × NoneFailed before after
-EndsBound program weights WriteFault old new before after = ((written : List ℕ) × IsBounded program weights written × TakesPrefix written old new) × FailedLast before after
-EndsBound program weights (SecondRefused Bound r) old new before after = IsWrongWeights program weights r × IsSecondCode Bound r.code × (new ≡ old) × NoneFailed before after
-EndsBound program weights NoMemory old new before after = (new ≡ old) × NoneFailed before after
-EndsBound program weights _ old new before after = ⊥
+-- A call that writes one line of a program and a second text ends so, with what `out` took and counts: the line was written, or a part
+-- of it, or something is wrong in the second text, or memory was wanting.
+abbrev pub EndsByLine : PairKind → List ℕ → List ℕ → Ending → Option (List ℕ) → Option (List ℕ) → Faults → Faults → Type 0
+EndsByLine kind program second Done old new before after = ((written : List ℕ) × IsWritten kind Done program second written × Takes written old new) × NoneFailed before after
+EndsByLine kind program second WriteFault old new before after = ((written : List ℕ) × IsWritten kind WriteFault program second written × TakesPrefix written old new) × FailedLast before after
+EndsByLine kind program second (SecondRefused k r) old new before after =
+    (k ≡ kind) × IsWrong kind program second r × IsSecondCode kind r.code × (new ≡ old) × NoneFailed before after
+EndsByLine kind program second NoMemory old new before after = (new ≡ old) × NoneFailed before after
+EndsByLine kind program second _ old new before after = ⊥
 
 -- A call that obeys a script over a program ends so, with what `out` took and counts: the lines were written, or a part of them, or those
 -- of the orders before one for which no memory was found, or none for want of memory; or a line of the script is wrong.

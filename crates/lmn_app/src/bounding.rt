@@ -2,7 +2,7 @@ ghost use Rattle.std.specs.Prelude.{◌<◌, ◌+◌, ◌^◌, ℕ, List, length
 ghost use Rattle.lmn_base.specs.Names.{IsNames};
 ghost use Rattle.lmn_io.specs.Writing.{WritesText};
 ghost use Rattle.lmn_app.specs.Bounds.{bound_line};
-ghost use Rattle.lmn_app.specs.Runnings.{EndsBound};
+ghost use Rattle.lmn_app.specs.Runnings.{EndsByLine};
 ghost use Rattle.lmn_app.specs.Texts.{Accepts};
 
 use crate::ending::Ending;
@@ -27,7 +27,7 @@ pub(crate) fn bound_by<O: Sink>(
     requires accepted { (program : List ℕ) × Accepts program names.old accepted.now.plain accepted.now.plans }
     requires room { length names.old + length weights.now < 2 ^ 32 }
     ensures { (program : List ℕ) → Accepts program names.old accepted.now.plain accepted.now.plans →
-        EndsBound program weights.now result (O.told out.old) (O.told out.new) (O.faults out.old) (O.faults out.new) }
+        EndsByLine PairKind.Bound program weights.now result (O.told out.old) (O.told out.new) (O.faults out.old) (O.faults out.new) }
 {
     accepted_texts();
     few_items_weigh();

@@ -76,6 +76,9 @@ fn second_words(code: u8) -> &'static [u8]
     ensures { result.now ≡ second_words code }
 {
     match code {
+        60 => b"trace too long",
+        61 => b"not a firing of the last process",
+        62 => b"wrong end",
         70 => b"script too long",
         71 => b"unknown command",
         84 => b"weights too long",

@@ -1,8 +1,10 @@
 //! The laws of texts: a text is accepted or refused, refused in one way. What is said of texts, shown of a small one. What
-//! `demo` does. That weights bound a program, or are refused, in one way.
+//! `demo` does. That weights bound a program, or are refused, in one way, and that a trace is one of a program, or wrong.
 
 ghost use Rattle.lmn_app.specs.BoundExamples.{SmallTextIsBounded, SmallTextIsNotByTwo, SmallTextIsNotLowered};
 ghost use Rattle.lmn_app.specs.BoundLaws.{BoundNotRefused, BoundOrRefused, BoundWhereLowered, OneBound, OneWrongWeights};
+ghost use Rattle.lmn_app.specs.CheckExamples.{NothingIsWrong, SmallTextIsChecked, SmallTextIsNotTwice};
+ghost use Rattle.lmn_app.specs.CheckLaws.{CheckedNotWrong, OneCount, OneWrongTrace, RunsAreChecked};
 ghost use Rattle.lmn_app.specs.DebugExamples.{SmallTextIsDebugged, SmallTextIsNotDebuggedSo};
 ghost use Rattle.lmn_app.specs.DebugLaws.{OneWrongScript, SessionNotRefused, SessionOrRefused};
 ghost use Rattle.lmn_app.specs.Demos.{SomeDemo};
@@ -14,7 +16,8 @@ ghost use Rattle.lmn_app.specs.Texts.{AcceptedOrRefused, OneRefusal, RefusedNotA
 
 use lmn_accepted::accepted_texts;
 use lmn_bounding::weights_bound_commits;
-use lmn_runs::short_run_prints;
+use lmn_receipt::{chains_are_commits, traces_are_chains, traces_are_one_of};
+use lmn_runs::{plains_are_printable, short_run_prints};
 use lmn_script::{orders_are_once, scripts_are_decided};
 use lmn_weight::{plains_weigh_alike, weights_are_read_once, weights_are_told_or_wrong};
 
@@ -77,6 +80,34 @@ pub fn weights_bound_or_are_refused()
     weights_are_read_once();
     weights_are_told_or_wrong();
     plains_weigh_alike();
+}
+
+/// A trace is one of a program, of so many commits, or it is wrong beside it at one line, and not both. What a run writes of its trace
+/// is one of the program.
+pub fn traces_are_checked()
+    ensures one { OneCount }
+    ensures apart { CheckedNotWrong }
+    ensures refusal { OneWrongTrace }
+    ensures runs { RunsAreChecked }
+{
+    accepted_texts();
+    plains_are_printable();
+    chains_are_commits();
+    traces_are_chains();
+    traces_are_one_of();
+}
+
+/// The lines of `a. a :- b.` and of what comes of it are a trace of it, of one commit and no more; nothing at all is none.
+pub fn small_text_is_checked()
+    ensures checked { SmallTextIsChecked }
+    ensures only { SmallTextIsNotTwice }
+    ensures wrong { NothingIsWrong }
+{
+    accepted_texts();
+    plains_are_printable();
+    chains_are_commits();
+    traces_are_chains();
+    traces_are_one_of();
 }
 
 /// `a. a :- b.` is bounded by 1, and not by 2, where an `a` alone weighs. Where a `b` alone does, its rule isn't lowered.

@@ -2,6 +2,7 @@
 #![tactic(auto)]
 
 mod bounding;
+mod checking;
 mod compiling;
 mod conclusion;
 mod debugging;

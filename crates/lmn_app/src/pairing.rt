@@ -9,6 +9,7 @@ ghost use Rattle.lmn_app.specs.Texts.{Accepts, at_start};
 ghost use Rattle.lmn_app.specs.Writing.{IsToldAnd, told_under};
 
 use crate::bounding::bound_by;
+use crate::checking::check_by;
 use crate::debugging::debug_by;
 use crate::ending::Ending;
 use lmn_base::{Names, Pos, Refusal, Rows};
@@ -34,8 +35,30 @@ pub(crate) fn act_on_pair<F: Shelf, O: Sink>(
     ensures ended { RequestEnded (to_pair (pair_of words.entry)) result (F.told shelf.old) (O.told out.old) (O.told out.new) (O.faults out.old) (O.faults out.new) (F.faults shelf.old) (F.faults shelf.new) }
 {
     match words.kind {
+        PairKind::Check => check_on(alloc, words, accepted, names, shelf, out),
         PairKind::Debug => debug_by(alloc, words, accepted, names, shelf, out),
         PairKind::Bound => bound_on(alloc, words, accepted, names, shelf, out),
+    }
+}
+
+/// Checks a trace, which it fetches, against an accepted program.
+fn check_on<F: Shelf, O: Sink>(
+    alloc: Global,
+    words: PairWords<'_>,
+    accepted: &Accepted,
+    names: &Names,
+    shelf: &mut F,
+    out: &mut O,
+) -> Ending
+    requires kind { words.kind ≡ PairKind.Check }
+    requires accepted { (program : List ℕ) × Accepts program names.now accepted.now.plain accepted.now.plans
+        × IsToldAnd (told_under (F.told shelf.old) (pair_of words).file) (λ found. found ≡ program) }
+    ensures asked { F.asked shelf.new ≡ option_map (asked_once_more (second_bytes (pair_of words.entry).kind)) (F.asked shelf.old) }
+    ensures ended { RequestEnded (to_pair (pair_of words.entry)) result (F.told shelf.old) (O.told out.old) (O.told out.new) (O.faults out.old) (O.faults out.new) (F.faults shelf.old) (F.faults shelf.new) }
+{
+    match fetch_second(alloc, words, shelf) {
+        Ok(trace) => check_by(alloc, accepted, names, trace.as_slice(), out),
+        Err(ending) => ending,
     }
 }
 
@@ -86,6 +109,7 @@ fn second_bytes(kind: PairKind) -> u64
     ensures { result ≡ second_bytes kind }
 {
     match kind {
+        PairKind::Check => 67_108_864,
         PairKind::Debug => 65_536,
         PairKind::Bound => 65_536,
     }
@@ -96,6 +120,7 @@ fn too_long(kind: PairKind) -> Refusal
     ensures { result ≡ at_start (long_code kind) }
 {
     let code = match kind {
+        PairKind::Check => 60,
         PairKind::Debug => 70,
         PairKind::Bound => 84,
     };

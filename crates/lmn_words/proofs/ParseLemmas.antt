@@ -603,6 +603,7 @@ demo_stops = (refl, refl)
 
 pair_stops : (k : PairKind) → Stops (pair_word k)
 unfolding clap_on_literals
+pair_stops kind.Check = (refl, refl)
 pair_stops kind.Debug = (refl, refl)
 pair_stops kind.Bound = (refl, refl)
 
@@ -632,6 +633,7 @@ top_takes n words h found e =
 pair_entered : (k : PairKind) (words : List CommandWord) → (is_some (entered top (Some (pair_word k, words))) ≡ true)
     × (level_passes (two_shape k) [] nothing_held words false ≡ true → entered_passes top (Some (pair_word k, words)) ≡ true)
     × (entered top (Some (pair_word k, words)) ≡ Some (pair_word k, rows_after (two_rules k) [] words))
+pair_entered kind.Check words = (refl, (λ e. e), refl)
 pair_entered kind.Debug words = (refl, (λ e. e), refl)
 pair_entered kind.Bound words = (refl, (λ e. e), refl)
 

@@ -139,15 +139,18 @@ pub data Request : Type 0 where
 
 -- the word of a command with a program and a second text
 abbrev pub pair_word : PairKind → CommandWord
+pair_word kind.Check = codes "check"
 pair_word kind.Debug = codes "debug"
 pair_word kind.Bound = codes "bound"
 
 -- Of two words the one that stands first, and the one that stands last: the program stands first.
 abbrev pub standing_first : PairKind → CommandWord → CommandWord → CommandWord
+standing_first kind.Check file second = file
 standing_first kind.Debug file second = file
 standing_first kind.Bound file second = file
 
 abbrev pub standing_last : PairKind → CommandWord → CommandWord → CommandWord
+standing_last kind.Check file second = second
 standing_last kind.Debug file second = second
 standing_last kind.Bound file second = second
 

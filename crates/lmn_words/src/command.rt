@@ -16,6 +16,8 @@ pub enum Command<'w> {
 /// A command with a program and a second text.
 #[derive(Clone, Copy, Debug, PartialEq, Eq)]
 pub enum PairKind {
+    /// `check`: whether a trace is one of the program.
+    Check,
     /// `debug`: a session over the program, by a script of orders.
     Debug,
     /// `bound`: how many commits the program has at most, by weights.
@@ -43,6 +45,7 @@ impl PairKind {
         ensures { result.now ≡ pair_word self }
     {
         match self {
+            PairKind::Check => "check",
             PairKind::Debug => "debug",
             PairKind::Bound => "bound",
         }
@@ -53,6 +56,7 @@ impl PairKind {
         ensures { result ≡ pair_named word.now }
     {
         match word {
+            "check" => Some(PairKind::Check),
             "debug" => Some(PairKind::Debug),
             "bound" => Some(PairKind::Bound),
             _ => None,
@@ -64,7 +68,7 @@ impl PairKind {
         ensures { pair_of result ≡ pair_in_order self first.entry.now last.entry.now }
     {
         match self {
-            PairKind::Debug | PairKind::Bound => PairWords {
+            PairKind::Check | PairKind::Debug | PairKind::Bound => PairWords {
                 kind: self,
                 file: first,
                 second: last,

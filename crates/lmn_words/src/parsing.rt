@@ -65,6 +65,7 @@ fn whole_line<'w>(alloc: Global) -> Result<clap::Command<'w>, AllocError>
         .subcommand(run_line(alloc)?)?
         .subcommand(compile_line(alloc)?)?
         .subcommand(demo_line(alloc)?)?
+        .subcommand(pair_line(alloc, "check")?)?
         .subcommand(pair_line(alloc, "debug")?)?
         .subcommand(pair_line(alloc, "bound")?)
 }

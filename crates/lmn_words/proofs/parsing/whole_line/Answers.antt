@@ -9,5 +9,6 @@ returns c =
     let run = command_more _ _ _ _ _ c.in_ok-subcommand.ensures top c.in_ok-run_line.ensures in
     let compile = command_more _ _ _ _ _ c.in_ok-subcommand-2.ensures run c.in_ok-compile_line.ensures in
     let demo = command_more _ _ _ _ _ c.in_ok-subcommand-3.ensures compile c.in_ok-demo_line.ensures in
-    let debug = command_more _ _ _ _ _ c.in_ok-subcommand-4.ensures demo c.in_ok-pair_line.ensures in
-    IfOk-weaker c.subcommand-5.result _ _ (λ line adds. command_more _ _ line _ _ adds debug c.in_ok-pair_line-2.ensures) c.subcommand-5.ensures
+    let check = command_more _ _ _ _ _ c.in_ok-subcommand-4.ensures demo c.in_ok-pair_line.ensures in
+    let debug = command_more _ _ _ _ _ c.in_ok-subcommand-5.ensures check c.in_ok-pair_line-2.ensures in
+    IfOk-weaker c.subcommand-6.result _ _ (λ line adds. command_more _ _ line _ _ adds debug c.in_ok-pair_line-3.ensures) c.subcommand-6.ensures
