@@ -1,8 +1,7 @@
 -- What obeys a script beside a program.
-use Rattle.std.proofs.Common.{◌≡◌, ◌≤◌, ◌<◌, ℕ, List, Option, Some, length, refl, sym, ap, subst, inl, inr, arith}
+use Rattle.std.proofs.Common.{◌≡◌, ◌≤◌, ◌<◌, ℕ, List, Option, Some, length, refl, sym, subst, inr, arith}
 use Rattle.lmn_accepted.specs.Loading.{AcceptedAreNamed, AcceptedAreNamedBehind}
 use Rattle.lmn_adequacy.proofs.PlainSolids.{solids_of_plains_exist}
-use Rattle.lmn_base.specs.declared.refusal.Refusal.{Refusal}
 use Rattle.lmn_base.specs.declared.rule.Plain.{Plain}
 use Rattle.lmn_base.specs.declared.solid.Solid.{Solid}
 use Rattle.lmn_base.specs.Names.{IsNames}
@@ -22,7 +21,6 @@ use Rattle.lmn_functors.specs.Reading.{AddsNames}
 use Rattle.lmn_guards.specs.declared.plan.GuardPlan.{GuardPlan}
 use Rattle.lmn_heap.specs.Heap.{Heap}
 use Rattle.lmn_io.specs.Counts.{FailedLast, Faults, NoneFailed}
-use Rattle.lmn_io.proofs.TakingLemmas.{no_put}
 use Rattle.lmn_loading.specs.Loaded.{LoadCauses}
 use Rattle.lmn_loading.specs.declared.loading.LoadFault.TheVariants.{Size}
 use Rattle.lmn_order.specs.declared.order.Order.TheVariants.{First}
@@ -30,10 +28,10 @@ use Rattle.lmn_order.specs.Orders.{chosen}
 use Rattle.lmn_runs.specs.Laws.{solid_of}
 use Rattle.lmn_schedule.specs.Held.{AreNames, CanBeLoaded, HoldsSolid}
 use Rattle.lmn_script.specs.declared.order.Order.{Order}
-use Rattle.lmn_script.specs.Scripts.{AreOrdersOf, IsFirstWrong}
+use Rattle.lmn_script.specs.Scripts.{AreOrdersOf}
 use Rattle.lmn_words.specs.declared.command.PairKind.TheVariants.{Debug}
 use Rattle.lmn_words.specs.Forms.{Pair, to_pair}
-use Rattle.lmn_app.specs.declared.ending.Ending.TheVariants.{Refused, SecondRefused, NoMemory}
+use Rattle.lmn_app.specs.declared.ending.Ending.TheVariants.{Refused}
 use Rattle.lmn_app.specs.Debugs.{IsSession, session_size}
 use Rattle.lmn_app.specs.Outcomes.{RequestEnded}
 use Rattle.lmn_app.specs.Pairs.{HasProgram, most_items_of_pair}

@@ -1,5 +1,5 @@
 -- A script orders a session over a program, or is refused.
-use Rattle.std.proofs.Common.{◌≡◌, ◌≤◌, ◌⊎◌, ℕ, List, Some, inl, inr, arith}
+use Rattle.std.proofs.Common.{◌≤◌, ℕ, List, inl, inr, arith}
 use Rattle.lmn_accepted.specs.Rules.{AcceptedTexts}
 use Rattle.lmn_base.specs.declared.rule.Plain.{Plain}
 use Rattle.lmn_base.specs.declared.solid.Solid.{Solid}
