@@ -9,7 +9,7 @@ ghost use Rattle.lmn_order.specs.Answers.{AnswersBelow};
 ghost use Rattle.lmn_order.specs.Orders.{chosen};
 ghost use Rattle.lmn_schedule.specs.Held.{AreNames, EngineCanTurn, HoldsSolid};
 ghost use Rattle.lmn_schedule.specs.Turning.{Gives};
-ghost use Rattle.lmn_store.specs.Kept.{heap_of};
+ghost use Rattle.lmn_web_store.specs.WebHeaps.{heap_of};
 ghost use Rattle.lmn_words.specs.Forms.{pair_of, to_pair};
 ghost use Rattle.lmn_app.specs.Debugs.{session_size};
 ghost use Rattle.lmn_app.specs.Outcomes.{RequestEnded};
@@ -32,7 +32,7 @@ use lmn_order::{Chooser, Order};
 use lmn_reading::Accepted;
 use lmn_schedule::{Engine, LoadFault};
 use lmn_script::read_script;
-use lmn_store::SlabStore;
+use lmn_web_store::WebStore;
 use lmn_words::{PairKind, PairWords};
 use std::alloc::Global;
 use std::marker::Brand;
@@ -59,7 +59,7 @@ pub(crate) fn debug_by<F: Shelf, O: Sink>(
     ensures ended { RequestEnded (to_pair (pair_of words.entry)) result (F.told shelf.old) (O.told out.old) (O.told out.new) (O.faults out.old) (O.faults out.new) (F.faults shelf.old) (F.faults shelf.new) }
 {
     loading_settles();
-    match SlabStore::new(alloc) {
+    match WebStore::new(alloc) {
         Ok(store) => debug_in::<_, _, Brand>(
             alloc,
             words,
@@ -80,7 +80,7 @@ fn debug_in<F: Shelf, O: Sink, L: Ledger>(
     words: PairWords<'_>,
     accepted: &Accepted,
     names: &mut Names,
-    store: SlabStore,
+    store: WebStore,
     shelf: &mut F,
     out: &mut O,
     blank: Blank,
@@ -132,7 +132,7 @@ fn debug_in<F: Shelf, O: Sink, L: Ledger>(
 /// Reads a script, and carries its orders out over an engine that holds the process of an accepted program.
 fn obey<'p, C: Fn(u64, u64) -> u64 + Copy + Drop, O: Sink, L: Ledger>(
     alloc: Global,
-    engine: Engine<'p, SlabStore, C>,
+    engine: Engine<'p, WebStore, C>,
     accepted: &'p Accepted,
     choose: C,
     names: &mut Names,

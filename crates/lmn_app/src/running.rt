@@ -18,7 +18,8 @@ use lmn_order::Chooser;
 use lmn_reading::Accepted;
 use lmn_runs::{plains_are_printable, traces_are_runs};
 use lmn_schedule::{Engine, LoadFault};
-use lmn_store::{LinkStore, SlabStore};
+use lmn_store::LinkStore;
+use lmn_web_store::WebStore;
 use std::alloc::Global;
 use std::marker::Brand;
 use std::sync::ledger::{Blank, Ledger};
@@ -44,7 +45,7 @@ pub(crate) fn run<O: Sink>(
         Ended (Task.Run settings.now) result (Some (Some text)) (O.told out.old) (O.told out.new) (O.faults out.old) (O.faults out.new) before after }
 {
     loading_settles();
-    match SlabStore::new(alloc) {
+    match WebStore::new(alloc) {
         Ok(store) => run_in::<_, _, Brand>(
             alloc,
             accepted,

@@ -1,3 +1,4 @@
+pub mod NewStores
 pub mod Obeyings
 mod TraceParts
 mod OneOutcome

@@ -2,14 +2,14 @@ ghost use Rattle.std.specs.Prelude.{◌≡◌, ◌<◌, ◌-◌, ◌^◌, List, 
 ghost use Rattle.lmn_congruence.specs.Rules.{Name};
 ghost use Rattle.lmn_order.specs.Answers.{AnswersBelow};
 ghost use Rattle.lmn_schedule.specs.Held.{AreNames, CanBeLoaded, EngineCanTurn, HoldsSolid};
-ghost use Rattle.lmn_store.specs.Kept.{heap_of};
+ghost use Rattle.lmn_web_store.specs.WebHeaps.{heap_of};
 
 use lmn_base::{NoMemory, Plain};
 use lmn_guards::GuardPlan;
 use lmn_loading::{LoadFault, loading_settles};
 use lmn_order::Chooser;
 use lmn_schedule::Engine;
-use lmn_store::SlabStore;
+use lmn_web_store::WebStore;
 use std::alloc::Global;
 
 /// What an engine is made of that holds the first process: so it can be made again.
@@ -23,7 +23,7 @@ pub(crate) struct Beginning<'p, F> {
 
 impl<'p, F: Fn(u64, u64) -> u64 + Copy + Drop> Beginning<'p, F> {
     /// An engine that has made no commit.
-    pub(crate) fn engine(&self, alloc: Global) -> Result<Engine<'p, SlabStore, F>, NoMemory>
+    pub(crate) fn engine(&self, alloc: Global) -> Result<Engine<'p, WebStore, F>, NoMemory>
         requires plain { CanBeLoaded self.now.plain.now self.now.plans.now }
         requires chooser { AnswersBelow F.pre F.post self.now.choose }
         requires size { self.now.size < 2 ^ 64 - 1 }
@@ -32,7 +32,7 @@ impl<'p, F: Fn(u64, u64) -> u64 + Copy + Drop> Beginning<'p, F> {
         ensures keeps { IfOk result (λ e. (e.plain.now ≡ self.now.plain.now) × (e.chooser.f ≡ self.now.choose) × (e.size ≡ self.now.size) × (e.commits ≡ 0)) }
     {
         loading_settles();
-        let store = SlabStore::new(alloc)?;
+        let store = WebStore::new(alloc)?;
         match Engine::load(
             alloc,
             self.plain,

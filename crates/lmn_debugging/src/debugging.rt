@@ -6,7 +6,7 @@ ghost use Rattle.lmn_order.specs.Answers.{AnswersBelow};
 ghost use Rattle.lmn_schedule.specs.Held.{AreNames, CanBeLoaded, EngineCanTurn, HoldsSolid};
 ghost use Rattle.lmn_schedule.specs.Turning.{Gives};
 ghost use Rattle.lmn_script.specs.Asked.{AreAskedWith, IsAskedWith};
-ghost use Rattle.lmn_store.specs.Kept.{heap_of};
+ghost use Rattle.lmn_web_store.specs.WebHeaps.{heap_of};
 ghost use Rattle.lmn_debug.specs.Breaks.{StandsSo};
 ghost use Rattle.lmn_debug.specs.Courses.{course};
 ghost use Rattle.lmn_debug.specs.Sessions.{StandsAt};
@@ -22,7 +22,7 @@ use lmn_io::{Failed, Sink};
 use lmn_machine::Steps;
 use lmn_schedule::Engine;
 use lmn_script::Order;
-use lmn_store::SlabStore;
+use lmn_web_store::WebStore;
 use std::alloc::Global;
 use std::sync::ledger::Ledger;
 
@@ -51,7 +51,7 @@ pub(crate) enum Halt {
 /// of these.
 pub fn debug<'p, F: Fn(u64, u64) -> u64 + Copy + Drop, O: Sink, L: Ledger>(
     alloc: Global,
-    engine: Engine<'p, SlabStore, F>,
+    engine: Engine<'p, WebStore, F>,
     plain: &'p Plain,
     plans: &'p [GuardPlan],
     choose: F,
@@ -90,7 +90,7 @@ pub fn debug<'p, F: Fn(u64, u64) -> u64 + Copy + Drop, O: Sink, L: Ledger>(
 /// Carries out orders, the first of them where the session has made no commit.
 fn carry_out<'p, F: Fn(u64, u64) -> u64 + Copy + Drop, O: Sink, L: Ledger>(
     alloc: Global,
-    session: &mut Session<'p, SlabStore, F>,
+    session: &mut Session<'p, WebStore, F>,
     beginning: &Beginning<'p, F>,
     names: &Names,
     orders: &[Order],
@@ -119,7 +119,7 @@ fn carry_out<'p, F: Fn(u64, u64) -> u64 + Copy + Drop, O: Sink, L: Ledger>(
 /// Carries out an order, and writes its line.
 fn obey<'p, F: Fn(u64, u64) -> u64 + Copy + Drop, O: Sink, L: Ledger>(
     alloc: Global,
-    session: &mut Session<'p, SlabStore, F>,
+    session: &mut Session<'p, WebStore, F>,
     beginning: &Beginning<'p, F>,
     names: &Names,
     order: Order,
@@ -151,7 +151,7 @@ fn obey<'p, F: Fn(u64, u64) -> u64 + Copy + Drop, O: Sink, L: Ledger>(
 /// At most `n` turns, up to the first that doesn't commit.
 fn step<'p, F: Fn(u64, u64) -> u64 + Copy + Drop, O: Sink, L: Ledger>(
     alloc: Global,
-    session: &mut Session<'p, SlabStore, F>,
+    session: &mut Session<'p, WebStore, F>,
     beginning: &Beginning<'p, F>,
     names: &Names,
     n: u64,
@@ -176,7 +176,7 @@ fn step<'p, F: Fn(u64, u64) -> u64 + Copy + Drop, O: Sink, L: Ledger>(
 /// Back by `n` commits, or to the first process.
 fn back<'p, F: Fn(u64, u64) -> u64 + Copy + Drop, O: Sink, L: Ledger>(
     alloc: Global,
-    session: &mut Session<'p, SlabStore, F>,
+    session: &mut Session<'p, WebStore, F>,
     beginning: &Beginning<'p, F>,
     names: &Names,
     n: u64,
@@ -203,7 +203,7 @@ fn back<'p, F: Fn(u64, u64) -> u64 + Copy + Drop, O: Sink, L: Ledger>(
 /// Puts the session back by `n` commits, or to the first process.
 fn go_back<'p, F: Fn(u64, u64) -> u64 + Copy + Drop, L: Ledger>(
     alloc: Global,
-    session: &mut Session<'p, SlabStore, F>,
+    session: &mut Session<'p, WebStore, F>,
     beginning: &Beginning<'p, F>,
     n: u64,
     steps: &mut Steps<L>,
@@ -225,7 +225,7 @@ fn go_back<'p, F: Fn(u64, u64) -> u64 + Copy + Drop, L: Ledger>(
 /// Turns until the number of atoms with the functor stands so to `n`.
 fn until<'p, F: Fn(u64, u64) -> u64 + Copy + Drop, O: Sink, L: Ledger>(
     alloc: Global,
-    session: &mut Session<'p, SlabStore, F>,
+    session: &mut Session<'p, WebStore, F>,
     beginning: &Beginning<'p, F>,
     names: &Names,
     functor: Functor,
@@ -272,7 +272,7 @@ fn stands_so(op: Cmp, count: u64, n: u64) -> bool
 
 /// Writes the line of the process.
 fn show<'p, F: Fn(u64, u64) -> u64 + Copy + Drop, O: Sink>(
-    session: &mut Session<'p, SlabStore, F>,
+    session: &mut Session<'p, WebStore, F>,
     beginning: &Beginning<'p, F>,
     names: &Names,
     out: &mut O,

@@ -1,5 +1,5 @@
 use Rattle.std.proofs.Common.{subst}
-use Rattle.lmn_store.specs.Kept.{heap_of}
+use Rattle.lmn_web_store.specs.WebHeaps.{heap_of}
 use Rattle.lmn_debug.specs.Courses.{course}
 use Rattle.lmn_debug.specs.declared.session.Stop.TheVariants as stop
 use Rattle.lmn_debugging.specs.Obeying.{LineTold}

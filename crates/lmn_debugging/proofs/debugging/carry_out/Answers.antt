@@ -1,7 +1,7 @@
 use Rattle.std.proofs.Common.{◌≤◌, subst, arith, length}
 use Rattle.std.proofs.lemmas.List.{take_all}
 use Rattle.lmn_io.proofs.TakingLemmas.{no_put, none_more}
-use Rattle.lmn_store.specs.Kept.{heap_of}
+use Rattle.lmn_web_store.specs.WebHeaps.{heap_of}
 use Rattle.lmn_debug.specs.Courses.{course}
 use Rattle.lmn_debugging.specs.Obeying.{HaltedSo, ObeyedSo}
 use Rattle.lmn_debugging.proofs.Obeyings.{at_halt, halted_behind, none_obeyed, one_obeyed}

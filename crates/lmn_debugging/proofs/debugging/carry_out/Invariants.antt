@@ -1,7 +1,7 @@
 use Rattle.std.proofs.Common.{◌≡◌, ◌≤◌, ◌*◌, take}
 use Rattle.lmn_io.specs.Counts.{NoneFailed}
 use Rattle.lmn_schedule.specs.Held.{EngineCanTurn}
-use Rattle.lmn_store.specs.Kept.{heap_of}
+use Rattle.lmn_web_store.specs.WebHeaps.{heap_of}
 use Rattle.lmn_debug.specs.Sessions.{StandsAt}
 use Rattle.lmn_debugging.specs.Obeying.{ObeyedSo, OfEachCourse, most_asked}
 use Rattle.lmn_debugging.proofs.debugging.carry_out.Given as goal

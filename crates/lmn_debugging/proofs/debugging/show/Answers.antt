@@ -1,4 +1,4 @@
-use Rattle.lmn_store.specs.Kept.{heap_of}
+use Rattle.lmn_web_store.specs.WebHeaps.{heap_of}
 use Rattle.lmn_debug.specs.Courses.{course}
 use Rattle.lmn_debugging.proofs.Obeyings.{show_halted, show_obeyed}
 use Rattle.lmn_debugging.proofs.debugging.show.Goals as goal

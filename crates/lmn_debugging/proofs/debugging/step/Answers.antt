@@ -1,6 +1,6 @@
 use Rattle.std.proofs.Common.{sym, subst}
 use Rattle.lmn_schedule.specs.Turning.{Gives}
-use Rattle.lmn_store.specs.Kept.{heap_of}
+use Rattle.lmn_web_store.specs.WebHeaps.{heap_of}
 use Rattle.lmn_debug.specs.Courses.{course}
 use Rattle.lmn_debug.specs.Sessions.{StandsAt, StandsStepped}
 use Rattle.lmn_debugging.specs.Obeying.{LineTold}
