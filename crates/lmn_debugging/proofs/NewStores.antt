@@ -1,8 +1,8 @@
 -- A new store is empty.
-use Rattle.std.proofs.Common.{ℕ, ◌≡◌, ◌≢◌, ◌⊎◌, ◌==◌, List, Option, Some, None, IsSome, false, true, true≢false, refl, arith, ap, sym, inl, inr}
+use Rattle.std.proofs.Common.{ℕ, ◌≡◌, ◌≢◌, ◌⊎◌, false, true, true≢false, refl, sym, inl, inr}
 use Rattle.std.proofs.lemmas.Bool.{cases_eq}
 use Rattle.lmn_base.proofs.Numbers.{equal_itself, not_equal}
-use Rattle.lmn_heap.specs.Heap.{IsMem, rules_in}
+use Rattle.lmn_heap.specs.Heap.{IsMem}
 use Rattle.lmn_loading.specs.Loaded.{IsEmpty}
 use Rattle.lmn_web_store.specs.WebHeaps.{alone}
 

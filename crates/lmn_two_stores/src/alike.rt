@@ -86,16 +86,7 @@ fn lines_in<S: LinkStore + Drop>(
     requires accepted { CanBeLoaded accepted.now.plain accepted.now.plans }
     requires store { IsEmpty (S.heap store) }
 {
-    written_in::<_, Brand>(
-        rt,
-        accepted,
-        names,
-        row,
-        folded,
-        store,
-        out,
-        Blank::new(1),
-    )
+    written_in::<_, Brand>(rt, accepted, names, row, folded, store, out, Blank::new(1))
 }
 
 /// Runs a text over each store, in the plain or the folded form.
@@ -103,8 +94,9 @@ fn run_row(rt: &(impl Abort + AllocGlobal), row: &Row, folded: bool) {
     loading_settles();
     let mut names = Names::new(rt.alloc());
     let accepted = read_of(rt, &mut names, row.text);
-    let mut in_slabs =
-        MemSink::new(rt.alloc(), 100_000, Rows::new(rt.alloc())).expect(rt, "memory");
+    let mut in_slabs = MemSink::new(rt.alloc(), 100_000, Rows::new(rt.alloc())).expect(
+        rt, "memory",
+    );
     let slabs = SlabStore::new(rt.alloc()).expect(rt, "memory");
     let slab_end = lines_in(rt, &accepted, &names, row, folded, slabs, &mut in_slabs);
     let mut in_web = MemSink::new(rt.alloc(), 100_000, Rows::new(rt.alloc())).expect(rt, "memory");

@@ -1,6 +1,5 @@
 use Rattle.std.proofs.Common.{subst, sym}
 use Rattle.lmn_loading.specs.Loaded.{IsEmpty}
-use Rattle.lmn_web_store.specs.WebHeaps.{alone, heap_of}
 use Rattle.lmn_debugging.proofs.NewStores.{alone_is_empty}
 use Rattle.lmn_debugging.proofs.beginning.Beginning.engine.Goals as goal
 
