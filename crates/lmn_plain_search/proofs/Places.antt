@@ -61,25 +61,20 @@ pub nothing_by : {A : Type 0} (o : Option A) (b : Bool) → b ≡ is_some o → 
 nothing_by None b e f = refl
 nothing_by (Some x) b e f = let d : true ≡ false = sym e ∙ f in absurd (cc)
 
--- the rule at a place of a list
-pub stands_here : (xs ys : List ℕ) (i : ℕ) → xs ≡ ys → i < length xs → slice_get ys i ≡ Some (get_or xs i 0)
-stands_here xs ys i e l = subst (λ z. slice_get z i ≡ Some (get_or xs i 0)) e (slice_get-get_or xs i 0 l)
+module _ (laws : AskedRules) (names : List Name) (plain : Plain) (plans : List GuardPlan) (s : Solid) (flat : Flat) (m place : ℕ) (xs : List ℕ) (w : IsSearched names plain plans s flat) (e : xs ≡ rules_in (heap_of flat) m) (n : ℕ) (o : slice_get xs place ≡ Some n) where
+  stands : slice_get (rules_in (heap_of flat) m) place ≡ Some n
+  stands = subst (λ z. slice_get z place ≡ Some n) e o
 
-module _ (laws : AskedRules) (names : List Name) (plain : Plain) (plans : List GuardPlan) (s : Solid) (flat : Flat) (m place : ℕ) (xs : List ℕ) (w : IsSearched names plain plans s flat) (e : xs ≡ rules_in (heap_of flat) m) (l : place < length xs) where
-  -- its number is one of the plain, and it has a plan
-  pub known_here : (get_or xs place 0 < length plain.rules) × (get_or xs place 0 < length plans)
-  known_here = laws.known names plain plans s flat m place (get_or xs place 0) w (stands_here xs (rules_in (heap_of flat) m) place e l)
+  -- the number of the rule at a place is one of the plain, and it has a plan
+  pub known_here : (n < length plain.rules) × (n < length plans)
+  known_here = laws.known names plain plans s flat m place n w stands
+
+  planned : (plan d : GuardPlan) → plan ≡ get_or plans n d → slice_get plans n ≡ Some plan
+  planned plan d p = slice_get-get_or plans n d known_here.1 ∙ ap (λ z. Some z) (sym p)
 
   -- so it is asked there
-  pub asked_here : (rule : RuleTree) (plan d : GuardPlan) → IsMem (heap_of flat) m → slice_get plain.rules (get_or xs place 0) ≡ Some rule → plan ≡ get_or plans (get_or xs place 0) d → IsAsked names plain plans s flat m place rule plan
-  asked_here rule plan d there r p = record {
-    searched = w;
-    there = there;
-    number = get_or xs place 0;
-    stands = stands_here xs (rules_in (heap_of flat) m) place e l;
-    is = r;
-    plan_is = slice_get-get_or plans (get_or xs place 0) d known_here.1 ∙ ap (λ z. Some z) (sym p);
-  }
+  pub asked_here : (rule : RuleTree) (plan d : GuardPlan) → IsMem (heap_of flat) m → slice_get plain.rules n ≡ Some rule → plan ≡ get_or plans n d → IsAsked names plain plans s flat m place rule plan
+  asked_here rule plan d there r p = record { searched = w; there = there; number = n; stands = stands; is = r; plan_is = planned plan d p }
 
   -- where no rule before it embeds, and it fires
   pub fires_here : (rule : RuleTree) (plan : GuardPlan) → IsAsked names plain plans s flat m place rule plan → NoneOf plain.rules plans (heap_of flat) m (take place xs) → (next : Solid) → Fires names plain s flat m place rule plan next →
@@ -94,10 +89,9 @@ module _ (laws : AskedRules) (names : List Name) (plain : Plain) (plans : List G
   }
 
   -- and where no rule before it embeds, and it doesn't
-  pub none_here : (rule : RuleTree) (plan d : GuardPlan) → slice_get plain.rules (get_or xs place 0) ≡ Some rule → plan ≡ get_or plans (get_or xs place 0) d → NoneOf plain.rules plans (heap_of flat) m (take place xs) →
+  pub none_here : (rule : RuleTree) (plan d : GuardPlan) → slice_get plain.rules n ≡ Some rule → plan ≡ get_or plans n d → NoneOf plain.rules plans (heap_of flat) m (take place xs) →
       ((f : Images) → ¬ (Embeds (heap_of flat) (head_items rule plan) rule.guard m f)) → NoneOf plain.rules plans (heap_of flat) m (take (place + 1) xs)
-  none_here rule plan d r p none here =
-      none_more plain.rules plans (heap_of flat) m xs place (get_or xs place 0) rule plan (slice_get-get_or xs place 0 l) r (slice_get-get_or plans (get_or xs place 0) d known_here.1 ∙ ap (λ z. Some z) (sym p)) none here
+  none_here rule plan d r p none here = none_more plain.rules plans (heap_of flat) m xs place n rule plan o r (planned plan d p) none here
 
 -- what holds of a front that isn't shorter than the list holds of the list
 pub whole_front : (P : List ℕ → Type 0) (xs ys : List ℕ) (n : ℕ) → xs ≡ ys → length xs ≤ n → P (take n xs) → P ys

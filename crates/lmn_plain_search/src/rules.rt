@@ -1,5 +1,5 @@
 //! Rules that are asked in a membrane.
-ghost use Rattle.std.specs.Prelude.{◌≡◌, ◌<◌, ℕ, List, IfOk, IfSome, None, take};
+ghost use Rattle.std.specs.Prelude.{◌≡◌, ◌<◌, ℕ, List, IfOk, IfSome, None, Some, length, slice_get, take};
 ghost use Rattle.lmn_base.specs.declared.rule.Plain.{Plain};
 ghost use Rattle.lmn_base.specs.declared.solid.Solid.{Solid};
 ghost use Rattle.lmn_congruence.specs.Rules.{Name};
@@ -95,6 +95,14 @@ fn fire_rule(
     }
 }
 
+/// The number of the rule at a place.
+fn rule_at(rules: &[u32], place: usize) -> usize
+    requires { place < length rules.now }
+    ensures { slice_get rules.now place ≡ Some result }
+{
+    rules[place] as usize
+}
+
 /// The solid after the first rule of a membrane that embeds there fires, if one does.
 pub(crate) fn fire_in(
     alloc: Global,
@@ -114,7 +122,7 @@ pub(crate) fn fire_in(
     asked_rules();
     let rules = flat.rules(membrane);
     for place in 0..rules.len() {
-        let number = rules[place] as usize;
+        let number = rule_at(rules, place);
         let fired = fire_rule(
             alloc,
             flat,

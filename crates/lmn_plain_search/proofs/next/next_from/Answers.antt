@@ -8,11 +8,11 @@ use Rattle.lmn_plain_search.proofs.next.next_from.Goals as goal
 pub of-requires : goal.of-requires
 of-requires c = c.requires.2.solid
 
-pub asked_at-membrane-requires : goal.asked_at-membrane-requires
-asked_at-membrane-requires c =
+pub asked_at-membrane-requires-clause-from : goal.asked_at-membrane-requires-clause-from
+asked_at-membrane-requires-clause-from c =
     let q = c.requires in
     let w = searched q.0 c.args.plain.now c.args.plans.now c.args.solid.now c.in_ok-flat.flat q.1 q.2 c.in_ok-flat.ensures in
-    (one_of_count c.firings_are_next.ensures q.0 c.args.plain.now c.args.plans.now c.args.solid.now c.in_ok-flat.flat w c.membrane_count-count.result c.membrane_count-count.ensures.count c.args.from q.3, c.loop-turn-test.true)
+    one_of_count c.firings_are_next.ensures q.0 c.args.plain.now c.args.plans.now c.args.solid.now c.in_ok-flat.flat w c.membrane_count-count.result c.membrane_count-count.ensures.count c.args.from q.3
 
 pub fire_in-requires-clause-searched : goal.fire_in-requires-clause-searched
 fire_in-requires-clause-searched c =
@@ -22,11 +22,11 @@ fire_in-requires-clause-searched c =
 pub fire_in-requires-clause-there : goal.fire_in-requires-clause-there
 fire_in-requires-clause-there c = (c.membrane_count-count.ensures.count c.asked_at-membrane.result).1 c.asked_at-membrane.ensures.0
 
-pub reach_of-reach-requires : goal.reach_of-reach-requires
-reach_of-reach-requires c =
+pub reach_of-reach-requires-clause-from : goal.reach_of-reach-requires-clause-from
+reach_of-reach-requires-clause-from c =
     let q = c.requires in
     let w = searched q.0 c.args.plain.now c.args.plans.now c.args.solid.now c.in_ok-flat.flat q.1 q.2 c.in_ok-flat.ensures in
-    (one_of_count c.firings_are_next.ensures q.0 c.args.plain.now c.args.plans.now c.args.solid.now c.in_ok-flat.flat w c.membrane_count-count.result c.membrane_count-count.ensures.count c.args.from q.3, c.loop-turn-test.true)
+    one_of_count c.firings_are_next.ensures q.0 c.args.plain.now c.args.plans.now c.args.solid.now c.in_ok-flat.flat w c.membrane_count-count.result c.membrane_count-count.ensures.count c.args.from q.3
 
 pub returns-in-Some-clause-by : goal.returns-in-Some-clause-by
 returns-in-Some-clause-by c names can by =
