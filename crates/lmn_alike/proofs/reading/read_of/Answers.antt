@@ -2,7 +2,7 @@ use Rattle.std.proofs.Common.{◌≤◌, ap, arith, length, subst}
 use Rattle.std.proofs.lemmas.Result.{MatchResult-at_ok}
 use Rattle.lmn_base.specs.Refusals.{IfRefused}
 use Rattle.lmn_reading.specs.Texts.{IsAcceptedAs, IsRefusedAs, LeavesNames}
-use Rattle.lmn_two_stores.proofs.reading.read_of.Goals as goal
+use Rattle.lmn_alike.proofs.reading.read_of.Goals as goal
 
 pub read-requires : goal.read-requires
 read-requires g c = record { room = let short : length c.args.text.now ≤ 4194304 = search in omega (arith, ap length c.requires, short) }
