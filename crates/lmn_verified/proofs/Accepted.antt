@@ -27,7 +27,7 @@ use Rattle.lmn_strategy.specs.Turns.{BodiesAreReady}
 use Rattle.lmn_strategy.proofs.BodyAll.{level_rules}
 use Rattle.lmn_verify.specs.Verified.{in_order, at_first, atoms_found, membranes_found, parts_found, takes_out, registers_held, makes_and_ties, gets_integer}
 use Rattle.lmn_verify.specs.declared.words.Operand.TheVariants as operand
-use Rattle.lmn_verified.specs.AcceptedCodes.{AcceptedIsVerifiedFor, AcceptedBodiesRest}
+use Rattle.lmn_verified.proofs.Clauses.{AcceptedIsVerifiedFor, AcceptedBodiesRest}
 use Rattle.lmn_verified.proofs.BodyShapes.{removals_take, body_makes_few, atoms_amount, membranes_amount, copies_amount}
 use Rattle.lmn_verified.proofs.Finding.{numbered_length, found_atom, found_membrane, head_finds, head_enters, head_looks, head_looks_at_all, found_parts}
 use Rattle.lmn_guards.proofs.AcceptedLemmas.{in_order as rule_order}

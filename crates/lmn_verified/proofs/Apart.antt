@@ -18,10 +18,10 @@ use Rattle.lmn_verified.specs.HeadCodes.{HeadCodeTellsApart, HeadCodeTellsMembra
 use Rattle.lmn_verified.proofs.Finding.{each_two_numbered, found_atom, found_membrane, head_finds, head_enters}
 
 -- a test that passes in a part of code passes in the whole
-any_front : (test : Instr → Bool) (xs ys : List Instr) → list_any test xs ≡ true → list_any test (xs ++ ys) ≡ true
+pub any_front : (test : Instr → Bool) (xs ys : List Instr) → list_any test xs ≡ true → list_any test (xs ++ ys) ≡ true
 any_front test xs ys h = list_any-append test xs ys ∙ ap (λ b. b || list_any test ys) h
 
-any_back : (test : Instr → Bool) (xs ys : List Instr) → list_any test ys ≡ true → list_any test (xs ++ ys) ≡ true
+pub any_back : (test : Instr → Bool) (xs ys : List Instr) → list_any test ys ≡ true → list_any test (xs ++ ys) ≡ true
 any_back test xs ys h = list_any-append test xs ys ∙ ap (λ b. list_any test xs || b) h ∙ last (list_any test xs)
   where
     last : (b : Bool) → (b || true) ≡ true

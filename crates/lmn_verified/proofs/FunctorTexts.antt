@@ -9,7 +9,6 @@ use Rattle.std.proofs.lemmas.Bool.{leb-true}
 use Rattle.std.proofs.lemmas.Fmt.{decimal_injective, decimal_is_IsNumeral, decimal_nonempty, signed_decimal_injective}
 use Rattle.std.proofs.lemmas.List.{append_cancel_left, append_cancel_right}
 use Rattle.std.proofs.lemmas.Str.Parse.{digit_from_value}
-use lib.Signed.{mag}
 use Rattle.lmn_base.proofs.Lists.{head_is, tail_is, one_number}
 use Rattle.lmn_base.proofs.Truth.{and_true}
 use Rattle.lmn_base.specs.declared.functor.Functor.{Functor}

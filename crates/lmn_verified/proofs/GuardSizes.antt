@@ -3,7 +3,6 @@ use Rattle.std.proofs.Common.{◌≡◌, ◌≤◌, ◌+◌, ℕ, true, List, []
 use Rattle.std.specs.Prelude.{sum_by}
 use Rattle.std.proofs.lemmas.List.Sums.{sum_by-cons}
 use Rattle.lmn_base.specs.RuleCodes.{condition_tokens, expression_tokens}
-use Rattle.lmn_base.specs.declared.guard.Arith.TheVariants as arithmetic
 use Rattle.lmn_base.specs.declared.guard.Cmp.{Cmp}
 use Rattle.lmn_base.specs.declared.guard.Cmp.TheVariants as cmp
 use Rattle.lmn_base.specs.declared.guard.Cond.{Cond}

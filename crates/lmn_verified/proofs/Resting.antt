@@ -113,7 +113,8 @@ AllNew a es = AllByRecursion (λ (e : NewPort × ℕ). is_made a e.0 ≡ true) e
 abbrev AllOld : ℕ → List (AtomPort × ℕ) → Type 0
 AllOld a es = AllByRecursion (λ (e : AtomPort × ℕ). nat_lt e.0.atom a ≡ true) es
 
-ends_all : {P : Type 0} (Q : P → Type 0) (m : ℕ → ℕ) (z : ℕ) (es : List (P × ℕ)) → AllByRecursion (λ (e : P × ℕ). Q e.0) es → AllByRecursion Q (ends_of_class m z es)
+-- what holds of all holds of the ends of a class
+pub ends_all : {P : Type 0} (Q : P → Type 0) (m : ℕ → ℕ) (z : ℕ) (es : List (P × ℕ)) → AllByRecursion (λ (e : P × ℕ). Q e.0) es → AllByRecursion Q (ends_of_class m z es)
 ends_all Q m z [] h = tt
 ends_all Q m z (e ∷ es) h = by (m e.1 == z) (ends_all Q m z es h.1)
   where
@@ -168,7 +169,8 @@ all_new a0 a c (Rest of closed inside ∷ xs) l = all_new a0 a c xs l
 all_new a0 a c (Rule rule inside ∷ xs) l = all_new a0 a c xs l
 all_new a0 a c (Rules of inside ∷ xs) l = all_new a0 a c xs l
 
-all_from_each : {A : Type 0} (Q : A → Type 0) (xs : List A) → ((x : A) → IsOneOf x xs → Q x) → AllByRecursion Q xs
+-- what holds of each holds of all
+pub all_from_each : {A : Type 0} (Q : A → Type 0) (xs : List A) → ((x : A) → IsOneOf x xs → Q x) → AllByRecursion Q xs
 all_from_each Q [] h = tt
 all_from_each Q (x ∷ xs) h = (h x (inl refl), all_from_each Q xs (λ y i. h y (inr i)))
 

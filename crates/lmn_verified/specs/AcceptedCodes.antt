@@ -1,32 +1,19 @@
--- What the code of each accepted rule is verified for.
-use Rattle.std.specs.Prelude.{ℕ, ◌≡◌, ◌<◌, ◌≤◌, ◌+◌, ◌++◌, true, List, length, drop, All}
-use Rattle.std.specs.List.{list_all}
+-- The code of each accepted rule is verified.
+use Rattle.std.specs.Prelude.{ℕ, ◌<◌, List, length, All}
+use Rattle.std.specs.List.{AllByRecursion}
 use Rattle.lmn_base.specs.Levels.{rules_of}
 use Rattle.lmn_base.specs.declared.rule.RuleTree.{RuleTree}
 use Rattle.lmn_guards.specs.declared.plan.GuardPlan.{GuardPlan}
 use Rattle.lmn_instr.specs.declared.instr.Code.{Code}
 use Rattle.lmn_compile.specs.Compiled.{IsCompiled}
 use Rattle.lmn_compile_body.specs.Accepted.{IsCompilable}
-use Rattle.lmn_verify.specs.Verified.{in_order, at_first, atoms_found, membranes_found, parts_found, gets_integer, takes_out, held, makes_and_ties}
+use Rattle.lmn_strategy.specs.Turns.{IsTableCode}
+use Rattle.lmn_verify.specs.Verified.{IsVerified}
 
--- What of `IsVerified` the code has besides that of each head.
---   order      it sets registers in the order of their numbers, and reads none that isn't set
---   integers   GETINT is of an integer
---   few        the head finds at most 128 atoms and membranes
---   taken      the body takes out all that the head holds
-pub record IsVerifiedFor (code : Code) : Type 0 where
-  pub order : in_order at_first (code.head ++ code.body) ≡ true
-  pub integers : list_all (gets_integer (parts_found code.head)) code.head ≡ true
-  pub few : length (atoms_found code.head) + length (membranes_found code.head) ≤ 128
-  pub taken : takes_out (held code) code.body ≡ true
+-- The code of each accepted rule is verified where there are k rules, if those that are written in its body are among them.
+abbrev pub AcceptedIsVerified : Type 0
+AcceptedIsVerified = (table : List RuleTree) (r : RuleTree) (plan : GuardPlan) (code : Code) (k : ℕ) → IsCompilable table r plan → IsCompiled r plan code → All (λ j. j < k) (rules_of r.body) → IsVerified code k
 
--- The code of each accepted rule is verified for these.
-abbrev pub AcceptedIsVerifiedFor : Type 0
-AcceptedIsVerifiedFor = (table : List RuleTree) (r : RuleTree) (plan : GuardPlan) (code : Code) → IsCompilable table r plan → IsCompiled r plan code → IsVerifiedFor code
-
--- Behind what it takes out, the body of each accepted rule makes, moves and copies, then drops, then ties, and ends, where the rules
--- that are written in it are among k rules.
-abbrev pub AcceptedBodiesRest : Type 0
-AcceptedBodiesRest =
-    (table : List RuleTree) (r : RuleTree) (plan : GuardPlan) (code : Code) (k : ℕ) → IsCompilable table r plan → IsCompiled r plan code → All (λ j. j < k) (rules_of r.body)
-    → makes_and_ties (1 + length (membranes_found code.head)) k (length (atoms_found code.head)) (drop (length (held code)) code.body) ≡ true
+-- So each code of a table of rules is verified where there are as many.
+abbrev pub TablesAreVerified : Type 0
+TablesAreVerified = (codes : List Code) → IsTableCode codes → AllByRecursion (λ c. IsVerified c (length codes)) codes

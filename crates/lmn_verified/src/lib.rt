@@ -2,7 +2,7 @@
 //! accepted rule.
 #![tactic(auto)]
 
-ghost use Rattle.lmn_verified.specs.AcceptedCodes.{AcceptedBodiesRest, AcceptedIsVerifiedFor};
+ghost use Rattle.lmn_verified.specs.AcceptedCodes.{AcceptedIsVerified, TablesAreVerified};
 ghost use Rattle.lmn_verified.specs.HeadCodes.{HeadCodeFindsFirst, HeadCodeIsHead, HeadCodeLooks, HeadCodeTellsApart, HeadCodeTellsMembranesApart};
 ghost use Rattle.lmn_verified.specs.OneReading.{ListedCodesAreOne, ListedCodesAreRead, VerifiedIsNotRefused};
 
@@ -30,13 +30,11 @@ pub fn head_code_is_head()
     ensures apart_membranes { HeadCodeTellsMembranesApart }
 {}
 
-/// The code of each accepted rule sets registers in the order of their numbers and reads none that isn't set; GETINT is of an
-/// integer; its head finds at most 128 atoms and membranes, and its body takes out all that the head holds. Then it makes, moves and
-/// copies into membranes that stay and out of removed ones, drops rests of these, ties ports that are made and ports of the head,
-/// and ends.
-pub fn accepted_is_verified_for()
-    ensures most { AcceptedIsVerifiedFor }
-    ensures rest { AcceptedBodiesRest }
+/// The code of each accepted rule is verified, where the rules that are written in its body are among those that there are. So each
+/// code of a table of rules is.
+pub fn accepted_is_verified()
+    ensures accepted { AcceptedIsVerified }
+    ensures tables { TablesAreVerified }
 {
     accepted_heads();
     accepted_bodies();

@@ -1,0 +1,29 @@
+-- What is asked of a heap, from the root on.
+use Rattle.std.proofs.Common.{ℕ, ◌≡◌, ◌<◌, List, length, sym, subst, ◌∙◌, arith}
+use Rattle.lmn_base.specs.Lists.{In}
+use Rattle.lmn_base.proofs.Lists.{plus_nothing}
+use Rattle.lmn_heap.specs.Heap.{Heap, rules_in}
+use Rattle.lmn_heap.specs.Sound.{Forest, Valid, IsTree, flat}
+use Rattle.lmn_heap.proofs.Common.{in_at}
+use Rattle.lmn_heap.proofs.Trees.{in_here}
+use Rattle.lmn_instr.specs.declared.instr.Code.{Code}
+use Rattle.lmn_strategy.specs.Choosing.{IsFirstIn, asked}
+use Rattle.lmn_strategy.proofs.Chosen.{some_membrane}
+use Rattle.lmn_coded.specs.Turning.{SomeIn}
+
+-- the root is among the membranes of a valid heap
+pub root_counts : (h : Heap) → Valid h → (many : ℕ) → ((f : Forest) → IsTree h f → many ≡ length (flat f)) → 0 < many
+root_counts h v many law =
+    let counted = law v.tree.0 v.tree.1 in
+    let some = some_membrane h v.tree.0 v.tree.1 in
+    omega (arith, counted, some)
+
+-- the code of a rule that is chosen succeeds
+pub chosen_succeeds : (h : Heap) (codes : List Code) (f : Forest) (m place k : ℕ) → IsFirstIn h codes (asked 0 f) m place k → SomeIn h codes (flat f)
+chosen_succeeds h codes f m place k c = record {
+  membrane = m;
+  among = subst (In m) (sym c.order ∙ plus_nothing (flat f)) (in_here m c.earlier c.later);
+  rule = k;
+  stands = in_at (rules_in h m) place k c.rule.stands;
+  succeeds = c.rule.succeeds;
+}

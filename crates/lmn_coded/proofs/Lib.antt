@@ -1,0 +1,12 @@
+pub mod Halts
+mod Asking
+mod Endings
+mod Lines
+mod Halting
+mod Countings
+mod Turned
+mod Driven
+mod Small
+mod Matches
+mod Costs
+mod Exact

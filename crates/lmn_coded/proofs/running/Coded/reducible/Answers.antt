@@ -1,0 +1,22 @@
+use Rattle.std.proofs.Common.{◌≡◌, length, subst}
+use Rattle.lmn_heap.specs.Sound.{Forest, IsTree, flat}
+use Rattle.lmn_strategy.specs.Choosing.{IsFirstIn, NoneIn, asked}
+use Rattle.lmn_coded.proofs.Asking.{chosen_succeeds, root_counts}
+use Rattle.lmn_coded.proofs.running.Coded.reducible.Goals as goal
+
+pub search-requires-clause-from : goal.search-requires-clause-from
+search-requires-clause-from g c =
+    root_counts (g.S.LinkStore.heap c.args.self.now.machine.store) c.requires.run.turn.valid c.membranes-many.result
+    (subst (λ s. (f : Forest) → IsTree (g.S.LinkStore.heap s) f → c.membranes-many.result ≡ length (flat f)) c.store.ensures c.membranes-many.ensures)
+
+pub returns-in-Some-clause-yes : goal.returns-in-Some-clause-yes
+returns-in-Some-clause-yes g c _ f tree =
+    let h = g.S.LinkStore.heap c.args.self.now.machine.store in
+    let found = c.in-Some.field-0 in
+    let m = g.S.LinkStore.mem_id found.membrane in
+    chosen_succeeds h c.args.self.now.codes f m found.place found.rule
+    (subst (λ xs. IsFirstIn h xs (asked 0 f) m found.place found.rule) c.as_slice.ensures (c.in-Some.ensures.first f tree))
+
+pub returns-in-None-clause-no : goal.returns-in-None-clause-no
+returns-in-None-clause-no g c _ f tree =
+    subst (λ xs. NoneIn (g.S.LinkStore.heap c.args.self.now.machine.store) xs (flat f)) c.as_slice.ensures (c.in-None.ensures.first f tree)

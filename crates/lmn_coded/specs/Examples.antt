@@ -1,0 +1,48 @@
+-- Small runs: of no codes over a heap without rules, `{a(X)}, b(X)`, and of code that succeeds everywhere and changes nothing, over the
+-- root alone with one rule.
+use Rattle.std.specs.Prelude.{ℕ, ◌+◌, List, [], ◌∷◌, ◌++◌, Option, Some, false, codes}
+use Rattle.lmn_heap.specs.Heap.{Heap, finished, lone_root, rule_added}
+use Rattle.lmn_heap.specs.Examples.{across}
+use Rattle.lmn_congruence.specs.Rules.{Name}
+use Rattle.lmn_instr.specs.declared.instr.Code.{Code}
+use Rattle.lmn_instr.specs.declared.instr.Instr.TheVariants.{Commit, Proceed}
+use Rattle.lmn_strategy.specs.declared.turning.Turn.TheVariants.{Full}
+use Rattle.lmn_folded_printer.specs.Lines.{IsHeapLine}
+use Rattle.lmn_drive.specs.declared.driving.RunEnd.TheVariants as end
+use Rattle.lmn_coded.specs.Turning.{CodedCanTurn}
+use Rattle.lmn_coded.specs.Counting.{CountsRun}
+use Rattle.lmn_coded.specs.Runs.{CodedInput, CodedRun, CodedTurn, Executed, IsReducible}
+
+-- code that succeeds everywhere and changes nothing
+abbrev pub idle : Code
+idle = record { head = Commit ∷ []; body = Proceed ∷ [] }
+
+-- the root alone, with the rule 0
+abbrev pub ruled : Heap
+ruled = rule_added lone_root 0 0
+
+-- Without codes a turn can be made over the root alone, and not where a rule stands in it.
+abbrev pub NoCodesCanTurn : Type 0
+NoCodesCanTurn = CodedCanTurn lone_root [] 0 × (CodedCanTurn ruled [] 0 → ⊥)
+
+-- Where one item is allowed a turn of the idle code commits, and where none is it doesn't: it is full. Without codes no turn commits.
+abbrev pub IdleCodeCommits : Type 0
+IdleCodeCommits = CodedRun (idle ∷ []) 1 ruled 1 (finished ruled) × CodedTurn (idle ∷ []) 0 ruled Full ruled
+    × ((size n : ℕ) (h h' : Heap) → CodedRun [] size h (n + 1) h' → ⊥)
+
+-- It is what succeeds, where nothing does without codes.
+abbrev pub IdleCodeSucceeds : Type 0
+IdleCodeSucceeds = IsReducible (idle ∷ []) ruled × (IsReducible [] ruled → ⊥)
+
+-- Over the root alone no rule is asked: a count stands, and doesn't rise by one.
+abbrev pub NoRuleIsAsked : Type 0
+NoRuleIsAsked = CountsRun [] 0 lone_root 0 5 5 × (CountsRun [] 0 lone_root 0 5 6 → ⊥)
+
+abbrev pub no_codes : List Name → ℕ → CodedInput
+no_codes names budget = record { names = names; table = []; codes = []; budget = budget; size = 3; first = across }
+
+-- A run without codes ends at once, since no code succeeds, and not since its budget is done.
+abbrev pub NoCodesAreExecuted : Type 0
+NoCodesAreExecuted = (names : List Name) (budget : ℕ) (line : List ℕ) → IsHeapLine false names [] across line →
+    Executed (no_codes names budget) 0 across end.Irreducible (Some []) (Some (line ++ codes "% irreducible after 0\n"))
+    × ((n : ℕ) (h : Heap) (old new : Option (List ℕ)) → Executed (no_codes names budget) n h end.Budget old new → ⊥)

@@ -1,0 +1,7 @@
+pub mod Turning
+pub mod Lending
+pub mod Runs
+pub mod Counting
+pub mod Steps
+pub mod Laws
+pub mod Examples
