@@ -27,3 +27,7 @@ mod Emptied
 mod AcceptedEmptied
 mod Accepted
 mod Whole
+mod WholeCodes
+mod PlainLines
+mod Compiled
+mod ListingExamples

@@ -3,11 +3,16 @@
 #![tactic(auto)]
 
 ghost use Rattle.lmn_verified.specs.AcceptedCodes.{AcceptedIsVerified, TablesAreVerified};
+ghost use Rattle.lmn_verified.specs.CompiledListings.{CompiledAreListed, CompiledAreRead, CompiledIsNotRefused};
 ghost use Rattle.lmn_verified.specs.HeadCodes.{HeadCodeFindsFirst, HeadCodeIsHead, HeadCodeLooks, HeadCodeTellsApart, HeadCodeTellsMembranesApart};
+ghost use Rattle.lmn_verified.specs.Kept.{VerifiedIsWhole};
+ghost use Rattle.lmn_verified.specs.ListedTables.{TablesAreListed, VerifiedAreListed};
+ghost use Rattle.lmn_verified.specs.ListingExamples.{ListingExamples};
 ghost use Rattle.lmn_verified.specs.OneReading.{ListedCodesAreOne, ListedCodesAreRead, VerifiedIsNotRefused};
 
 use lmn_compile_body::accepted_bodies;
 use lmn_compile_head::accepted_heads;
+use lmn_listing::codes_have_names;
 use lmn_matching::{accepted_in_order, accepted_sets_items};
 use lmn_strategy::bodies_are_ready;
 
@@ -42,3 +47,30 @@ pub fn accepted_is_verified()
     accepted_sets_items();
     bodies_are_ready();
 }
+
+/// Verified code of which a listing keeps all numbers is a head and a body that can be listed. So verified codes, as those of a table
+/// of accepted rules are, have a listing that is read, with names of at most 255 bytes that have no line feed.
+pub fn verified_are_listed()
+    ensures whole { VerifiedIsWhole }
+    ensures listed { VerifiedAreListed }
+    ensures tables { TablesAreListed }
+{
+    accepted_is_verified();
+}
+
+/// What is written of compiled rules are the listings of their codes. So the codes that are read of it are theirs, and it isn't refused.
+pub fn compiled_are_listed()
+    ensures listed { CompiledAreListed }
+    ensures read { CompiledAreRead }
+    ensures refused { CompiledIsNotRefused }
+{
+    codes_have_names();
+    listed_codes_are_one();
+    accepted_is_verified();
+    verified_are_listed();
+}
+
+/// Codes of which a listing keeps all numbers, names that stand in a line, and some that don't.
+pub fn listing_examples()
+    ensures { ListingExamples }
+{}
