@@ -95,7 +95,7 @@ module _ (behind : AcceptedAreNamedBehind) (program script : List ℕ) (names : 
     debugged_ended session.Failed old new before after d same rose = ((d.0, (the_session, d.1), d.2), rose refl)
 
 -- a program whose process has too many items is refused
-pub large_refused : (p : Pair) (texts : Option (List ℕ → Option (List ℕ))) (program : List ℕ) (names : List Name) (plain : Plain) (plans : List GuardPlan) (k : ℕ) → p.kind ≡ Debug → Accepts program names plain plans
+pub large_refused : (p : Pair) (texts : Option (List ℕ → Option (List ℕ))) (program : List ℕ) (names : List Name) (plain : Plain) (plans : List GuardPlan) (k : ℕ) → most_items_of_pair p.kind ≡ Some session_size → Accepts program names plain plans
     → IsToldAnd (told_under texts p.file) (λ found. found ≡ program) → CanBeLoaded plain plans → LoadCauses plain session_size (Size k) → (x : Option (List ℕ)) (count : Faults) (f g : List ℕ → ℕ)
     → RequestEnded (to_pair p) (Refused (at_start 50)) texts x x count count f g
 large_refused p texts program names plain plans k kind a told can causes x count f g =
@@ -104,4 +104,4 @@ large_refused p texts program names plain plans k kind a told can causes x count
     let more : session_size < item_count_of_region (solid_of names plain s.0) = omega (arith, large.0, items_kept names plain.rules s.0) in
     let is_large : IsTooLarge (Some session_size) names plain = (solid_of names plain s.0, solids_of_plains names plain s.0 can.made s.1, more) in
     let P : List ℕ → Type 0 = λ bytes. IsRefusal (most_items_of_pair p.kind) bytes (at_start 50) in
-    pair_refused p (at_start 50) texts x count f g (told_and P (told_under texts p.file) program told (rw kind (too_large names plain plans a is_large refl))) refl
+    pair_refused p (at_start 50) texts x count f g (told_and P (told_under texts p.file) program told (subst (λ size. IsRefusal size program (at_start 50)) (sym kind) (too_large names plain plans a is_large refl))) refl

@@ -69,10 +69,10 @@ written_is true first_lines last_line word =
 written_is false first_lines last_line word = ap (λ xs. xs ++ end_line word (length first_lines)) (sym (append-nil last_line))
 
 module _ (alloc : Global) (laws : Laws) (w : RunSettings)
-    (text : List ℕ) (names : List Name) (plain : Plain) (plans : List GuardPlan) (a : Accepts text names plain plans) (s : Solid) (i : IsSolidOf plain s) (few : item_count s ≤ w.size) where
-  -- what the engine is given
+    (text : List ℕ) (names : List Name) (plain : Plain) (plans : List GuardPlan) (a : Accepts text names plain plans) (s : Solid) (i : IsSolidOf plain s) (few : item_count s ≤ w.size) (by : List Name) where
+  -- what the engine is given, with a list of names
   abbrev g : Driven
-  g = driven names plain.rules w.size (record { trace = w.trace; folded = w.folded; budget = w.budget }) (chosen w.order) (solid_of names plain s)
+  g = driven by plain.rules w.size (record { trace = w.trace; folded = w.folded; budget = w.budget }) (chosen w.order) (solid_of names plain s)
 
   well : IsWellMade plain
   well = let read = a.accepted in well_made text names plain read.reads read.outside

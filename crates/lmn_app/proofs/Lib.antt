@@ -11,11 +11,13 @@ mod BoundLemmas
 mod CheckLemmas
 mod PairLemmas
 mod DebugLemmas
+mod ExecLemmas
 mod OneBound
 mod OneCheck
 mod DemoLemmas
 mod TaskLemmas
 mod OneListing
+mod OneExecution
 mod SmallTexts
 mod SmallBounds
 mod SmallRuns

@@ -5,14 +5,15 @@ use Rattle.lmn_congruence.specs.Rules.{Name}
 use Rattle.lmn_guards.specs.declared.plan.GuardPlan.{GuardPlan}
 use Rattle.lmn_io.specs.Counts.{Faults}
 use Rattle.lmn_words.specs.declared.command.PairKind.{PairKind}
-use Rattle.lmn_words.specs.declared.command.PairKind.TheVariants.{Bound, Check, Debug}
+use Rattle.lmn_words.specs.declared.command.PairKind.TheVariants.{Bound, Check, Debug, Exec}
 use Rattle.lmn_words.specs.Forms.{Pair, to_pair}
 use Rattle.lmn_app.specs.declared.ending.Ending.{Ending}
 use Rattle.lmn_app.specs.declared.ending.Ending.TheVariants.{Done, Budget, Refused, Words, ReadFault, WriteFault, NoMemory, Full, SecondRefused}
 use Rattle.lmn_app.specs.Debugs.{session_size}
+use Rattle.lmn_app.specs.Executions.{executed_size}
 use Rattle.lmn_app.specs.Outcomes.{RequestEnded}
 use Rattle.lmn_app.specs.Pairs.{HasProgram, IsSecondRefusal, IsWritten, Writes, most_items_of_pair, second_wrong}
-use Rattle.lmn_app.specs.Runnings.{EndsByLine, EndsDebugged}
+use Rattle.lmn_app.specs.Runnings.{EndsByLine, EndsDebugged, EndsExecuted}
 use Rattle.lmn_app.specs.SecondTexts.{second_bytes}
 use Rattle.lmn_app.specs.Texts.{Accepts, Fits, IsAccepted}
 use Rattle.lmn_app.specs.Writing.{IsToldAnd, told_under}
@@ -36,6 +37,10 @@ module _ (p : Pair) (texts : Option (List ℕ → Option (List ℕ))) (program :
   -- and of `debug`, where its process fits
   abbrev pub has_session : p.kind ≡ Debug → Fits (Some session_size) names plain → HasProgram p texts
   has_session is fits = accepted_for Debug is (names, plain, plans, a, fits)
+
+  -- and of `exec`
+  abbrev pub has_execution : p.kind ≡ Exec → Fits (Some executed_size) names plain → HasProgram p texts
+  has_execution is fits = accepted_for Exec is (names, plain, plans, a, fits)
 
 -- ---- how a call ends that has both texts
 
@@ -83,6 +88,7 @@ module _ (p : Pair) (texts : Option (List ℕ → Option (List ℕ))) (of : HasP
       counts = h.3;
     }
     debug_ended kind (SecondRefused Check r) h = absurd h
+    debug_ended kind (SecondRefused Exec r) h = absurd h
     debug_ended kind (SecondRefused Bound r) h = absurd h
     debug_ended kind NoMemory h =
         record { cause = tt; output = elim h.0 [ inl same ↦ inl same | inr some ↦ inr (record { writes = writes_so NoMemory some.0 (rw kind some.1); took = some.2 }) ]; counts = h.1 }
@@ -91,3 +97,29 @@ module _ (p : Pair) (texts : Option (List ℕ → Option (List ℕ))) (of : HasP
     debug_ended kind Words h = absurd h
     debug_ended kind ReadFault h = absurd h
     debug_ended kind Full h = absurd h
+
+    -- and one that runs it by a listing
+    pub exec_ended : p.kind ≡ Exec → (e : Ending) → EndsExecuted of.program second e old new before after → RequestEnded (to_pair p) e texts old new before after f g
+    unfolding writes_so
+    exec_ended kind Done h = record { cause = tt; output = record { writes = writes_so Done h.0.0 (rw kind h.0.1); took = h.0.2 }; counts = h.1 }
+    exec_ended kind Budget h = record { cause = tt; output = record { writes = writes_so Budget h.0.0 (rw kind h.0.1); took = h.0.2 }; counts = h.1 }
+    exec_ended kind Full h = record { cause = tt; output = record { writes = writes_so Full h.0.0 (rw kind h.0.1); took = h.0.2 }; counts = h.1 }
+    exec_ended kind WriteFault h = record { cause = tt; output = record { writes = writes_so WriteFault h.0.0 (rw kind h.0.1); took = h.0.2 }; counts = h.1 }
+    exec_ended kind NoMemory h =
+        record { cause = tt; output = elim h.0 [ inl same ↦ inl same | inr some ↦ inr (record { writes = writes_so NoMemory some.0 (rw kind some.1); took = some.2 }) ]; counts = h.1 }
+    exec_ended kind (SecondRefused Exec r) h = record {
+      cause = record {
+        same = sym kind;
+        of = of;
+        refused = told_and (λ bytes. IsSecondRefusal p.kind of.program bytes r) (told_under texts p.second) second told (second_wrong short (rw kind h.0));
+        code = rw kind h.1;
+      };
+      output = h.2;
+      counts = h.3;
+    }
+    exec_ended kind (SecondRefused Check r) h = absurd h
+    exec_ended kind (SecondRefused Debug r) h = absurd h
+    exec_ended kind (SecondRefused Bound r) h = absurd h
+    exec_ended kind (Refused r) h = absurd h
+    exec_ended kind Words h = absurd h
+    exec_ended kind ReadFault h = absurd h

@@ -7,7 +7,7 @@ use Rattle.lmn_io.proofs.TakingLemmas.{no_put}
 use Rattle.lmn_io.specs.Texts.{ShelfAsked, asked_once_more}
 use Rattle.lmn_reading.specs.Codes.{IsCode}
 use Rattle.lmn_words.specs.declared.command.PairKind.{PairKind}
-use Rattle.lmn_words.specs.declared.command.PairKind.TheVariants.{Bound, Check, Debug}
+use Rattle.lmn_words.specs.declared.command.PairKind.TheVariants.{Bound, Check, Debug, Exec}
 use Rattle.lmn_words.specs.Forms.{Pair, Request, Run, to_run, to_compile, to_demo, to_pair}
 use Rattle.lmn_app.specs.declared.ending.Ending.{Ending}
 use Rattle.lmn_app.specs.declared.ending.Ending.TheVariants.{Done, Budget, Refused, Words, ReadFault, WriteFault, NoMemory, Full, SecondRefused}
@@ -40,6 +40,7 @@ rose_earlier a b c le h = omega (arith, le, h)
 pub second_high : (kind : PairKind) → (8 ≤ second_status kind) × (second_status kind ≤ 11)
 second_high Check = (omega arith, omega arith)
 second_high Debug = (omega arith, omega arith)
+second_high Exec = (omega arith, omega arith)
 second_high Bound = (omega arith, omega arith)
 
 -- ---- a task as a request
@@ -91,6 +92,15 @@ module _ (texts : Option (List ℕ → Option (List ℕ))) (oo on : Option (List
   written_answers Check NoMemory program second written status five is h = absurd h
   written_answers Check Full program second written status five is h = absurd h
   written_answers Check (SecondRefused k r) program second written status five is h = absurd h
+  written_answers Exec Done program second written status five is h = inl is
+  written_answers Exec Budget program second written status five is h = inr (inl is)
+  written_answers Exec Full program second written status five is h = inr (inr (inl is))
+  written_answers Exec NoMemory program second written status five is h = inr (inr (inr (inr is)))
+  written_answers Exec WriteFault program second written status five is h = absurd (five is)
+  written_answers Exec (Refused r) program second written status five is h = absurd h
+  written_answers Exec Words program second written status five is h = absurd h
+  written_answers Exec ReadFault program second written status five is h = absurd h
+  written_answers Exec (SecondRefused k r) program second written status five is h = absurd h
   written_answers Bound Done program second written status five is h = inl is
   written_answers Bound WriteFault program second written status five is h = absurd (five is)
   written_answers Bound Budget program second written status five is h = absurd h
@@ -104,11 +114,13 @@ module _ (texts : Option (List ℕ → Option (List ℕ))) (oo on : Option (List
   memory_answers : (kind : PairKind) (status : ℕ) → status ≡ 6 → PairAnswers kind status
   memory_answers Check status is = inr (inr is)
   memory_answers Debug status is = inr (inr is)
+  memory_answers Exec status is = inr (inr (inr (inr is)))
   memory_answers Bound status is = inr (inr is)
 
   second_answers : (kind : PairKind) (status : ℕ) → status ≡ second_status kind → PairAnswers kind status
   second_answers Check status is = inr (inl is)
   second_answers Debug status is = inr (inl is)
+  second_answers Exec status is = inr (inr (inr (inl is)))
   second_answers Bound status is = inr (inl is)
 
   module _ (status : ℕ) (eo en : Option (List ℕ)) (eb ea : Faults) where
@@ -249,6 +261,7 @@ pair_unread p (SecondRefused kind r) texts x n f g h = absurd h
 long_is_code : (kind : PairKind) → IsSecondCode kind (long_code kind)
 long_is_code Check = inl refl
 long_is_code Debug = inl refl
+long_is_code Exec = inl refl
 long_is_code Bound = inl refl
 
 -- the second text is too long

@@ -9,6 +9,7 @@ pub mod Checks
 pub mod DebugExamples
 pub mod DebugLaws
 pub mod Debugs
+pub mod Executions
 pub mod Requests
 pub mod Runnings
 pub mod Runs
@@ -19,6 +20,7 @@ pub mod Texts
 pub mod Writing
 pub mod ListingLaws
 pub mod BoundLaws
+pub mod ExecLaws
 pub mod CheckLaws
 pub mod BoundExamples
 pub mod CheckExamples

@@ -3,7 +3,7 @@ use Rattle.std.specs.Prelude.{◌≡◌, ◌<◌, ◌≤◌, ◌⊎◌, ℕ, Lis
 use Rattle.lmn_base.specs.declared.refusal.Refusal.{Refusal}
 use Rattle.lmn_io.specs.Taking.{Takes, TakesPrefix}
 use Rattle.lmn_words.specs.declared.command.PairKind.{PairKind}
-use Rattle.lmn_words.specs.declared.command.PairKind.TheVariants.{Bound, Check, Debug}
+use Rattle.lmn_words.specs.declared.command.PairKind.TheVariants.{Bound, Check, Debug, Exec}
 use Rattle.lmn_script.specs.Scripts.{IsFirstWrong}
 use Rattle.lmn_words.specs.Forms.{Pair}
 use Rattle.lmn_app.specs.declared.ending.Ending.{Ending}
@@ -11,6 +11,7 @@ use Rattle.lmn_app.specs.declared.ending.Ending.TheVariants.{Done, WriteFault}
 use Rattle.lmn_app.specs.Bounds.{IsBounded, IsWrongWeights}
 use Rattle.lmn_app.specs.Checks.{IsCheckedLine, IsWrongTraceOf}
 use Rattle.lmn_app.specs.Debugs.{IsDebugged, session_size}
+use Rattle.lmn_app.specs.Executions.{IsExecutedAs, IsWrongListing, executed_size}
 use Rattle.lmn_app.specs.SecondTexts.{IsSecondCode, long_code, second_bytes}
 use Rattle.lmn_app.specs.Texts.{IsAccepted, at_start}
 use Rattle.lmn_app.specs.Writing.{IsToldAnd, told_under}
@@ -19,12 +20,14 @@ use Rattle.lmn_app.specs.Writing.{IsToldAnd, told_under}
 abbrev pub most_items_of_pair : PairKind → Option ℕ
 most_items_of_pair Check = None
 most_items_of_pair Debug = Some session_size
+most_items_of_pair Exec = Some executed_size
 most_items_of_pair Bound = None
 
 -- what is wrong in a second text beside a program, and where
 abbrev pub IsWrong : PairKind → List ℕ → List ℕ → Refusal → Type 0
 IsWrong Check program trace refusal = IsWrongTraceOf program trace refusal
 IsWrong Debug program script refusal = IsFirstWrong script refusal
+IsWrong Exec program listing refusal = IsWrongListing program listing refusal
 IsWrong Bound program weights refusal = IsWrongWeights program weights refusal
 
 -- what is written of both where a command ends so; where `out` fails, what was due
@@ -33,6 +36,7 @@ IsWritten Check Done program trace written = IsCheckedLine program trace written
 IsWritten Check WriteFault program trace written = IsCheckedLine program trace written
 IsWritten Check _ program trace written = ⊥
 IsWritten Debug ending program script written = IsDebugged ending program script written
+IsWritten Exec ending program listing written = IsExecutedAs ending program listing written
 IsWritten Bound Done program weights written = IsBounded program weights written
 IsWritten Bound WriteFault program weights written = IsBounded program weights written
 IsWritten Bound _ program weights written = ⊥
@@ -41,6 +45,7 @@ IsWritten Bound _ program weights written = ⊥
 abbrev pub PairAnswers : PairKind → ℕ → Type 0
 PairAnswers Check status = (status ≡ 0) ⊎ (status ≡ 8) ⊎ (status ≡ 6)
 PairAnswers Debug status = (status ≡ 0) ⊎ (status ≡ 9) ⊎ (status ≡ 6)
+PairAnswers Exec status = (status ≡ 0) ⊎ (status ≡ 1) ⊎ (status ≡ 7) ⊎ (status ≡ 10) ⊎ (status ≡ 6)
 PairAnswers Bound status = (status ≡ 0) ⊎ (status ≡ 11) ⊎ (status ≡ 6)
 
 -- ---- of all commands

@@ -1,17 +1,21 @@
--- How a call ends whose run or whose orders ended so, without a program, and that writes a line of one or debugs it. Contracts of this crate's own functions alone cite these words.
+-- How a call ends whose run or whose orders ended so, without a program, and that writes a line of one, debugs it or runs it by a listing. Contracts of this crate's own functions alone cite these words.
 use Rattle.std.specs.Prelude.{◌≡◌, ◌<◌, ◌⊎◌, ⊤, ℕ, List, Option, length}
 use Rattle.lmn_io.specs.Taking.{Takes, TakesPrefix}
 use Rattle.lmn_words.specs.declared.command.PairKind.{PairKind}
-use Rattle.lmn_words.specs.declared.command.PairKind.TheVariants.{Debug}
+use Rattle.lmn_words.specs.declared.command.PairKind.TheVariants.{Debug, Exec}
+use Rattle.lmn_coded.specs.Runs.{CodedInput, Executed}
 use Rattle.lmn_debugging.specs.declared.debugging.DebugEnd.{DebugEnd}
 use Rattle.lmn_debugging.specs.declared.debugging.DebugEnd.TheVariants as session
 use Rattle.lmn_drive.specs.declared.driving.RunEnd.{RunEnd}
 use Rattle.lmn_drive.specs.declared.driving.RunEnd.TheVariants as run
 use Rattle.lmn_app.specs.declared.ending.Ending.{Ending}
 use Rattle.lmn_app.specs.declared.ending.Ending.TheVariants.{Done, Budget, Refused, ReadFault, WriteFault, NoMemory, Full, SecondRefused}
+use Rattle.lmn_heap.specs.Heap.{Heap}
+use Rattle.lmn_heap.specs.Sound.{Valid}
 use Rattle.lmn_io.specs.Counts.{FailedLast, Faults, NoneFailed, Rose}
 use Rattle.lmn_script.specs.Scripts.{IsFirstWrong}
 use Rattle.lmn_app.specs.Debugs.{IsDebugged}
+use Rattle.lmn_app.specs.Executions.{IsExecutedAs, IsWrongListing}
 use Rattle.lmn_app.specs.Pairs.{IsWritten, IsWrong}
 use Rattle.lmn_app.specs.SecondTexts.{IsSecondCode}
 use Rattle.lmn_app.specs.Texts.{at_start, text_bytes}
@@ -55,3 +59,21 @@ EndsDebugged program script NoMemory old new before after =
     ((new ≡ old) ⊎ ((written : List ℕ) × IsDebugged NoMemory program script written × Takes written old new)) × NoneFailed before after
 EndsDebugged program script (SecondRefused Debug r) old new before after = IsFirstWrong script r × IsSecondCode Debug r.code × (new ≡ old) × NoneFailed before after
 EndsDebugged program script _ old new before after = ⊥
+
+-- A run of codes ends a call so, with what `out` took and counts: it wasn't begun for want of memory, or it ended so.
+pub data CodesRun (g : CodedInput) (ending : Ending) (old new : Option (List ℕ)) (before after : Faults) : Type 0 where
+  not_begun : ending ≡ NoMemory → new ≡ old → NoneFailed before after → CodesRun g ending old new before after
+  run_ended : (end : RunEnd) (commits : ℕ) (last : Heap) → ending ≡ ended_as end → Valid last → Executed g commits last end old new
+      → (¬ (end ≡ run.Failed) → NoneFailed before after) → (end ≡ run.Failed → FailedLast before after) → CodesRun g ending old new before after
+
+-- A call that runs a program by the codes of a listing ends so, with what `out` took and counts: all of the run was written, or a part of
+-- it, or none for want of memory; or something is wrong in the listing.
+abbrev pub EndsExecuted : List ℕ → List ℕ → Ending → Option (List ℕ) → Option (List ℕ) → Faults → Faults → Type 0
+EndsExecuted program listing Done old new before after = ((written : List ℕ) × IsExecutedAs Done program listing written × Takes written old new) × NoneFailed before after
+EndsExecuted program listing Budget old new before after = ((written : List ℕ) × IsExecutedAs Budget program listing written × Takes written old new) × NoneFailed before after
+EndsExecuted program listing Full old new before after = ((written : List ℕ) × IsExecutedAs Full program listing written × Takes written old new) × NoneFailed before after
+EndsExecuted program listing WriteFault old new before after = ((written : List ℕ) × IsExecutedAs WriteFault program listing written × TakesPrefix written old new) × FailedLast before after
+EndsExecuted program listing NoMemory old new before after =
+    ((new ≡ old) ⊎ ((written : List ℕ) × IsExecutedAs NoMemory program listing written × Takes written old new)) × NoneFailed before after
+EndsExecuted program listing (SecondRefused Exec r) old new before after = IsWrongListing program listing r × IsSecondCode Exec r.code × (new ≡ old) × NoneFailed before after
+EndsExecuted program listing _ old new before after = ⊥

@@ -52,7 +52,7 @@ pub(crate) fn bound_by<O: Sink>(
 }
 
 /// No name stands twice in a list.
-fn stand_once(names: &Names)
+pub(crate) fn stand_once(names: &Names)
     ensures { IsNames names.now }
 {
     names.len();

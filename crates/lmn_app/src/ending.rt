@@ -23,7 +23,7 @@ pub enum Ending {
     NoMemory,
     /// The next commit would leave too many items, and all was written.
     Full,
-    /// The second text is refused, as a trace, a script or weights are.
+    /// The second text is refused, as a trace, a script, a listing or weights are.
     SecondRefused(PairKind, Refusal),
 }
 
@@ -32,7 +32,8 @@ impl Ending {
     ghost use Rattle.lmn_app.specs.Endings.{status_of};
 
     /// The status of the program: 0 for done, 1 for the budget, 2 for a refused text, 3 for the words,
-    /// 4 for a read fault, 5 for a write fault, 6 for want of memory, 7 for too many items, 8 for a trace, 9 for a script, 11 for weights.
+    /// 4 for a read fault, 5 for a write fault, 6 for want of memory, 7 for too many items, 8 for a trace, 9 for a script, 10 for a listing,
+    /// 11 for weights.
     pub fn status(self) -> u8
         ensures { result ≡ status_of self }
     {
@@ -57,6 +58,7 @@ fn second_status(kind: PairKind) -> u8
     match kind {
         PairKind::Check => 8,
         PairKind::Debug => 9,
+        PairKind::Exec => 10,
         PairKind::Bound => 11,
     }
 }

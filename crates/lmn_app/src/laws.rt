@@ -7,6 +7,7 @@ ghost use Rattle.lmn_app.specs.CheckExamples.{NothingIsWrong, SmallTextIsChecked
 ghost use Rattle.lmn_app.specs.CheckLaws.{CheckedNotWrong, OneCount, OneWrongTrace, RunsAreChecked};
 ghost use Rattle.lmn_app.specs.DebugExamples.{SmallTextIsDebugged, SmallTextIsNotDebuggedSo};
 ghost use Rattle.lmn_app.specs.DebugLaws.{OneWrongScript, SessionNotRefused, SessionOrRefused};
+ghost use Rattle.lmn_app.specs.ExecLaws.{CompiledRunsAsRun};
 ghost use Rattle.lmn_app.specs.Demos.{SomeDemo};
 ghost use Rattle.lmn_app.specs.DemoLaws.{DemoIsFoldedRun};
 ghost use Rattle.lmn_app.specs.ListingLaws.{OneListing};
@@ -14,11 +15,16 @@ ghost use Rattle.lmn_app.specs.NameExamples.{SomeNames};
 ghost use Rattle.lmn_app.specs.TextExamples.{SmallTextHasItsTrace, SmallTextIsAccepted, SmallTextRuns};
 ghost use Rattle.lmn_app.specs.Texts.{AcceptedOrRefused, OneRefusal, RefusedNotAccepted};
 
-use lmn_accepted::accepted_texts;
+use lmn_accepted::{accepted_texts, accepted_texts_can_be_loaded};
 use lmn_bounding::weights_bound_commits;
+use lmn_bridge::solids_are_regions;
+use lmn_coded::tables_run_as_rules;
+use lmn_loading::loading_settles;
 use lmn_receipt::{chains_are_commits, traces_are_chains, traces_are_one_of};
-use lmn_runs::{plains_are_printable, short_run_prints};
+use lmn_runs::{plains_are_printable, short_run_prints, traces_are_runs};
 use lmn_script::{orders_are_once, scripts_are_decided};
+use lmn_turn::plains_are_tables;
+use lmn_verified::compiled_are_listed;
 use lmn_weight::{plains_weigh_alike, weights_are_read_once, weights_are_told_or_wrong};
 
 /// A text that is refused isn't accepted, and it has one refusal at most.
@@ -138,4 +144,19 @@ pub fn small_text_is_debugged()
     ensures not_so { SmallTextIsNotDebuggedSo }
 {
     orders_are_once();
+}
+
+/// What is written of a run by the listing of a program, whose rules can be listed, is what `run` writes of the program with no option.
+pub fn compiled_runs_as_run()
+    ensures { CompiledRunsAsRun }
+{
+    accepted_texts();
+    plains_are_printable();
+    traces_are_runs();
+    accepted_texts_can_be_loaded();
+    loading_settles();
+    plains_are_tables();
+    solids_are_regions();
+    tables_run_as_rules();
+    compiled_are_listed();
 }

@@ -8,6 +8,7 @@ mod conclusion;
 mod debugging;
 mod demo;
 mod ending;
+mod executing;
 pub mod laws;
 mod pairing;
 mod running;

@@ -12,6 +12,7 @@ use crate::bounding::bound_by;
 use crate::checking::check_by;
 use crate::debugging::debug_by;
 use crate::ending::Ending;
+use crate::executing::exec_by;
 use lmn_base::{Names, Pos, Refusal, Rows};
 use lmn_io::{FetchFault, Fetched, Shelf, Sink};
 use lmn_reading::Accepted;
@@ -37,6 +38,7 @@ pub(crate) fn act_on_pair<F: Shelf, O: Sink>(
     match words.kind {
         PairKind::Check => check_on(alloc, words, accepted, names, shelf, out),
         PairKind::Debug => debug_by(alloc, words, accepted, names, shelf, out),
+        PairKind::Exec => exec_by(alloc, words, accepted, names, shelf, out),
         PairKind::Bound => bound_on(alloc, words, accepted, names, shelf, out),
     }
 }
@@ -111,6 +113,7 @@ fn second_bytes(kind: PairKind) -> u64
     match kind {
         PairKind::Check => 67_108_864,
         PairKind::Debug => 65_536,
+        PairKind::Exec => 67_108_864,
         PairKind::Bound => 65_536,
     }
 }
@@ -122,6 +125,7 @@ fn too_long(kind: PairKind) -> Refusal
     let code = match kind {
         PairKind::Check => 60,
         PairKind::Debug => 70,
+        PairKind::Exec => 80,
         PairKind::Bound => 84,
     };
     Refusal {

@@ -123,7 +123,7 @@ fn run_in<S: LinkStore + Drop, O: Sink, L: Ledger>(
 }
 
 /// How a call ends whose run ended so.
-fn ending_of(end: RunEnd) -> Ending
+pub(crate) fn ending_of(end: RunEnd) -> Ending
     ensures { result ≡ ended_as end }
 {
     match end {

@@ -80,7 +80,8 @@ pub fn lmn_main<F: Shelf, O: Sink, E: Sink>(
     ensures not_accepted { InForm words.now → Asked words.now (λ c. IfTold (told_of c (F.told shelf.old)) (λ text.
         ¬ (IsAccepted (most_items_of c) text) → (result ≡ 2) ⊎ (result ≡ 4) ⊎ (result ≡ 5) ⊎ (result ≡ 6))) }
 
-    // A status above 7 comes where the second text of an accepted program is refused: 8 for a trace, 9 for a script, 11 for weights.
+    // A status above 7 comes where the second text of an accepted program is refused: 8 for a trace, 9 for a script, 10 for a listing, 11
+    // for weights.
     ensures second { 8 ≤ result → Asked words.now (λ c. (kind : PairKind) × (refusal : Refusal) × (result ≡ second_status kind)
         × RefusesSecondOf c (F.told shelf.old) kind refusal × Takes (second_line refusal) (E.told err.old) (E.told err.new)) }
 

@@ -605,6 +605,7 @@ pair_stops : (k : PairKind) → Stops (pair_word k)
 unfolding clap_on_literals
 pair_stops kind.Check = (refl, refl)
 pair_stops kind.Debug = (refl, refl)
+pair_stops kind.Exec = (refl, refl)
 pair_stops kind.Bound = (refl, refl)
 
 top_walked : (n : Text) (words : List CommandWord) → Stops n → walk top.top.rules (names_of top) nothing_held (n ∷ words) ≡ stopped_at n words
@@ -635,6 +636,7 @@ pair_entered : (k : PairKind) (words : List CommandWord) → (is_some (entered t
     × (entered top (Some (pair_word k, words)) ≡ Some (pair_word k, rows_after (two_rules k) [] words))
 pair_entered kind.Check words = (refl, (λ e. e), refl)
 pair_entered kind.Debug words = (refl, (λ e. e), refl)
+pair_entered kind.Exec words = (refl, (λ e. e), refl)
 pair_entered kind.Bound words = (refl, (λ e. e), refl)
 
 pair_taken : (k : PairKind) (first last : CommandWord) → IsFileName first → IsFileName last → (pair : Pair) → k ≡ pair.kind → first ≡ standing_first pair.kind pair.file pair.second

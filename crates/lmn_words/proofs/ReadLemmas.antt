@@ -275,36 +275,42 @@ pair_told : (w : CommandWord) (k : PairKind) → pair_named w ≡ Some k → w �
 pair_told w k e =
     if_some (bytes_eq w (codes "check")) _ _ k e (λ t s. is_bytes w _ t ∙ ap pair_word (same_Some kind.Check k s)) (λ f e.
     if_some (bytes_eq w (codes "debug")) _ _ k e (λ t s. is_bytes w _ t ∙ ap pair_word (same_Some kind.Debug k s)) (λ f e.
+    if_some (bytes_eq w (codes "exec")) _ _ k e (λ t s. is_bytes w _ t ∙ ap pair_word (same_Some kind.Exec k s)) (λ f e.
     if_some (bytes_eq w (codes "bound")) _ _ k e (λ t s. is_bytes w _ t ∙ ap pair_word (same_Some kind.Bound k s)) (λ f e.
-    absurd (none-some k e))))
+    absurd (none-some k e)))))
 
 -- the word of a command is read as that command
 pub pair_word_read : (k : PairKind) → pair_named (pair_word k) ≡ Some k
 pair_word_read kind.Check = refl
 pair_word_read kind.Debug = refl
+pair_word_read kind.Exec = refl
 pair_word_read kind.Bound = refl
 
 -- the kind and the files of a pair in order
 in_order_asks : (k : PairKind) (first last : CommandWord) → IsFileName first → IsFileName last → AsksPair (first ∷ last ∷ []) (pair_in_order k first last)
 in_order_asks kind.Check first last f l = (refl, f, l)
 in_order_asks kind.Debug first last f l = (refl, f, l)
+in_order_asks kind.Exec first last f l = (refl, l, f)
 in_order_asks kind.Bound first last f l = (refl, f, l)
 
 in_order_kind : (k : PairKind) (first last : CommandWord) → (pair_in_order k first last).kind ≡ k
 in_order_kind kind.Check first last = refl
 in_order_kind kind.Debug first last = refl
+in_order_kind kind.Exec first last = refl
 in_order_kind kind.Bound first last = refl
 
 -- the words of a pair, in their order, are that pair
 pub order_undone : (k : PairKind) (file second : CommandWord) → pair_in_order k (standing_first k file second) (standing_last k file second) ≡ record { kind = k; file = file; second = second }
 order_undone kind.Check file second = refl
 order_undone kind.Debug file second = refl
+order_undone kind.Exec file second = refl
 order_undone kind.Bound file second = refl
 
 -- both words of a pair are names of files
 pub standing_names : (k : PairKind) (file second : CommandWord) → IsFileName file → IsFileName second → IsFileName (standing_first k file second) × IsFileName (standing_last k file second)
 standing_names kind.Check file second f s = (f, s)
 standing_names kind.Debug file second f s = (f, s)
+standing_names kind.Exec file second f s = (s, f)
 standing_names kind.Bound file second f s = (f, s)
 
 pair_read_told : (words : List CommandWord) (k : PairKind) (p : Pair) → pair_read words k ≡ Some p → (p.kind ≡ k) × AsksPair words p
@@ -378,6 +384,7 @@ demo_first w words e = ap (λ v. request_read (v ∷ words)) e
 pair_behind : (k : PairKind) (words : List CommandWord) → request_read (pair_word k ∷ words) ≡ option_map to_pair (pair_read words k)
 pair_behind kind.Check words = refl
 pair_behind kind.Debug words = refl
+pair_behind kind.Exec words = refl
 pair_behind kind.Bound words = refl
 
 pair_first : (w : CommandWord) (k : PairKind) (words : List CommandWord) → w ≡ pair_word k → request_read (w ∷ words) ≡ option_map to_pair (pair_read words k)

@@ -141,17 +141,20 @@ pub data Request : Type 0 where
 abbrev pub pair_word : PairKind → CommandWord
 pair_word kind.Check = codes "check"
 pair_word kind.Debug = codes "debug"
+pair_word kind.Exec = codes "exec"
 pair_word kind.Bound = codes "bound"
 
--- Of two words the one that stands first, and the one that stands last: the program stands first.
+-- Of two words the one that stands first, and the one that stands last: the program stands first, but for `exec` last.
 abbrev pub standing_first : PairKind → CommandWord → CommandWord → CommandWord
 standing_first kind.Check file second = file
 standing_first kind.Debug file second = file
+standing_first kind.Exec file second = second
 standing_first kind.Bound file second = file
 
 abbrev pub standing_last : PairKind → CommandWord → CommandWord → CommandWord
 standing_last kind.Check file second = second
 standing_last kind.Debug file second = second
+standing_last kind.Exec file second = file
 standing_last kind.Bound file second = second
 
 -- the words behind `run` name one file, and settings that give these values

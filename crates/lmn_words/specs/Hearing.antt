@@ -155,12 +155,14 @@ demo_read (word ∷ more ∷ words) = None
 abbrev pub pair_named : CommandWord → Option PairKind
 pair_named word = if bytes_eq word (codes "check") then Some kind.Check
     else if bytes_eq word (codes "debug") then Some kind.Debug
+    else if bytes_eq word (codes "exec") then Some kind.Exec
     else if bytes_eq word (codes "bound") then Some kind.Bound else None
 
 -- what two words ask for, in their order
 abbrev pub pair_in_order : PairKind → CommandWord → CommandWord → Pair
 pair_in_order kind.Check first last = record { kind = kind.Check; file = first; second = last }
 pair_in_order kind.Debug first last = record { kind = kind.Debug; file = first; second = last }
+pair_in_order kind.Exec first last = record { kind = kind.Exec; file = last; second = first }
 pair_in_order kind.Bound first last = record { kind = kind.Bound; file = first; second = last }
 
 -- two words name files

@@ -44,8 +44,8 @@ abbrev pub with_settings : Shape → Shape
 with_settings top = record top { no_binary_name = true; disable_help_flag = true; disable_help_subcommand = true; subcommand_required = true }
 
 abbrev pub whole_line : App
-whole_line = with_subcommand (with_subcommand (with_subcommand (with_subcommand (with_subcommand (with_subcommand (on_top with_settings (new_app (codes "lmn"))) run_line.top) compile_line.top)
-    demo_line.top) (pair_line (codes "check")).top) (pair_line (codes "debug")).top) (pair_line (codes "bound")).top
+whole_line = with_subcommand (with_subcommand (with_subcommand (with_subcommand (with_subcommand (with_subcommand (with_subcommand (on_top with_settings (new_app (codes "lmn"))) run_line.top) compile_line.top)
+    demo_line.top) (pair_line (codes "check")).top) (pair_line (codes "debug")).top) (pair_line (codes "exec")).top) (pair_line (codes "bound")).top
 
 -- a command is a line, in which no argument is global
 abbrev pub IsLineOfCommand : Command → App → Type 0

@@ -20,6 +20,8 @@ pub enum PairKind {
     Check,
     /// `debug`: a session over the program, by a script of orders.
     Debug,
+    /// `exec`: a run of the program by the codes of a listing.
+    Exec,
     /// `bound`: how many commits the program has at most, by weights.
     Bound,
 }
@@ -47,6 +49,7 @@ impl PairKind {
         match self {
             PairKind::Check => "check",
             PairKind::Debug => "debug",
+            PairKind::Exec => "exec",
             PairKind::Bound => "bound",
         }
     }
@@ -58,12 +61,13 @@ impl PairKind {
         match word {
             "check" => Some(PairKind::Check),
             "debug" => Some(PairKind::Debug),
+            "exec" => Some(PairKind::Exec),
             "bound" => Some(PairKind::Bound),
             _ => None,
         }
     }
 
-    /// What the command is asked for by two words, of which the program's stands first.
+    /// What the command is asked for by two words. The program's stands first, but for `exec` last.
     pub(crate) fn of_words<'w>(self, first: &'w str, last: &'w str) -> PairWords<'w>
         ensures { pair_of result ≡ pair_in_order self first.entry.now last.entry.now }
     {
@@ -72,6 +76,11 @@ impl PairKind {
                 kind: self,
                 file: first,
                 second: last,
+            },
+            PairKind::Exec => PairWords {
+                kind: self,
+                file: last,
+                second: first,
             },
         }
     }

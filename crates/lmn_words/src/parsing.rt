@@ -67,6 +67,7 @@ fn whole_line<'w>(alloc: Global) -> Result<clap::Command<'w>, AllocError>
         .subcommand(demo_line(alloc)?)?
         .subcommand(pair_line(alloc, "check")?)?
         .subcommand(pair_line(alloc, "debug")?)?
+        .subcommand(pair_line(alloc, "exec")?)?
         .subcommand(pair_line(alloc, "bound")?)
 }
 

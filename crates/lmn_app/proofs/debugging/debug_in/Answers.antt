@@ -1,8 +1,9 @@
-use Rattle.std.proofs.Common.{inr, subst, sym}
+use Rattle.std.proofs.Common.{ap, inr, subst, sym}
 use Rattle.lmn_loading.specs.Loaded.{LoadCauses}
 use Rattle.lmn_schedule.specs.Held.{CanBeLoaded}
 use Rattle.lmn_words.specs.Forms.{pair_of}
 use Rattle.lmn_app.specs.Debugs.{session_size}
+use Rattle.lmn_app.specs.Pairs.{most_items_of_pair}
 use Rattle.lmn_app.specs.Runnings.{EndsDebugged}
 use Rattle.lmn_app.proofs.DebugLemmas.{large_refused, loaded_program}
 use Rattle.lmn_app.proofs.PairLemmas.{debug_ended}
@@ -56,4 +57,4 @@ returns-in-Err-Size-clause-ended g c =
     let a = c.requires.accepted.1 in
     let can = c.accepted_texts_can_be_loaded.ensures.loaded program names read.plain read.plans a.named a.accepted in
     let causes = subst (LoadCauses read.plain session_size) c.in-Err-Size.field-0-is c.in-Err-Size.ensures.fault in
-    large_refused (pair_of c.args.words) _ program names read.plain read.plans c.in-Err-Size.field-0-0 c.requires.kind a c.requires.accepted.2 can causes _ _ _ _
+    large_refused (pair_of c.args.words) _ program names read.plain read.plans c.in-Err-Size.field-0-0 (ap most_items_of_pair c.requires.kind) a c.requires.accepted.2 can causes _ _ _ _

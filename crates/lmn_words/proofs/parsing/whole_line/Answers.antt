@@ -11,4 +11,5 @@ returns c =
     let demo = command_more _ _ _ _ _ c.in_ok-subcommand-3.ensures compile c.in_ok-demo_line.ensures in
     let check = command_more _ _ _ _ _ c.in_ok-subcommand-4.ensures demo c.in_ok-pair_line.ensures in
     let debug = command_more _ _ _ _ _ c.in_ok-subcommand-5.ensures check c.in_ok-pair_line-2.ensures in
-    IfOk-weaker c.subcommand-6.result _ _ (λ line adds. command_more _ _ line _ _ adds debug c.in_ok-pair_line-3.ensures) c.subcommand-6.ensures
+    let exec = command_more _ _ _ _ _ c.in_ok-subcommand-6.ensures debug c.in_ok-pair_line-3.ensures in
+    IfOk-weaker c.subcommand-7.result _ _ (λ line adds. command_more _ _ line _ _ adds exec c.in_ok-pair_line-4.ensures) c.subcommand-7.ensures

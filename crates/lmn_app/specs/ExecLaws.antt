@@ -1,0 +1,32 @@
+-- What `exec` does by the listing that `compile` writes is what `run` does.
+use Rattle.std.specs.Prelude.{◌≡◌, ℕ, List, [], Some, true, false}
+use Rattle.std.specs.declared.alloc.Global.{Global}
+use Rattle.lmn_order.specs.declared.order.Order.TheVariants as order
+use Rattle.lmn_verified.specs.CompiledListings.{CanBeListed}
+use Rattle.lmn_app.specs.declared.ending.Ending.{Ending}
+use Rattle.lmn_app.specs.declared.ending.Ending.TheVariants.{Done, Budget, Full, NoMemory}
+use Rattle.lmn_app.specs.declared.task.RunSettings.{RunSettings}
+use Rattle.lmn_app.specs.declared.task.Task.TheVariants as task
+use Rattle.lmn_app.specs.Executions.{IsExecuted, executed_budget, executed_size}
+use Rattle.lmn_app.specs.Outcomes.{Output}
+use Rattle.lmn_app.specs.Writing.{IsListing}
+use Rattle.lmn_drive.specs.declared.driving.RunEnd.{RunEnd}
+use Rattle.lmn_drive.specs.declared.driving.RunEnd.TheVariants as run
+
+-- what `run` is given with no option
+abbrev pub run_by_default : RunSettings
+run_by_default = record { trace = false; folded = false; budget = executed_budget; size = executed_size; order = order.First }
+
+-- how `run` ends that ended so
+abbrev pub EndsAs : RunEnd → Ending → Type 0
+EndsAs run.Irreducible ending = ending ≡ Done
+EndsAs run.Budget ending = ending ≡ Budget
+EndsAs run.Full ending = ending ≡ Full
+EndsAs run.NoMemory ending = ending ≡ NoMemory
+EndsAs run.Failed ending = ⊥
+
+-- Where the listing is that of the program, whose rules can be listed, what is written by it is what `run` writes of the program, with the
+-- same ending. A box in a condition belongs to an allocator, so one is given.
+abbrev pub CompiledRunsAsRun : Type 0
+CompiledRunsAsRun = (alloc : Global) (program listing written : List ℕ) (end : RunEnd) (ending : Ending) → EndsAs end ending → IsListing program listing → (x : IsExecuted program listing end written) →
+    (let of = x.of in CanBeListed of.names of.plain of.plans) → Output (task.Run run_by_default) ending (Some (Some program)) (Some []) (Some written)
