@@ -1,11 +1,10 @@
 -- What runs a program by the codes of a listing.
-use Rattle.std.proofs.Common.{◌≡◌, ◌≤◌, ◌<◌, ◌*◌, ◌^◌, ◌-◌, ℕ, List, [], Option, Some, length, slice_get, refl, sym, subst, inl, inr, arith}
+use Rattle.std.proofs.Common.{◌≡◌, ◌≤◌, ◌<◌, ℕ, List, Option, length, refl, sym, subst, inl, inr, arith}
 use Rattle.std.specs.List.{AllByRecursion}
 use Rattle.lmn_accepted.proofs.PlanKinds.{at_index}
 use Rattle.lmn_base.specs.declared.refusal.Refusal.{Refusal}
 use Rattle.lmn_base.specs.declared.rule.Plain.{Plain}
 use Rattle.lmn_base.specs.declared.solid.Solid.{Solid}
-use Rattle.lmn_base.specs.Names.{IsNames}
 use Rattle.lmn_base.specs.Solids.{item_count}
 use Rattle.lmn_base.specs.WellMade.{IsWellMade}
 use Rattle.lmn_coded.specs.Runs.{CodedInput, Executed, halt_end}

@@ -1,5 +1,5 @@
 -- What `exec` does by the listing that `compile` writes is what `run` does.
-use Rattle.std.specs.Prelude.{◌≡◌, ℕ, List, [], Some, true, false}
+use Rattle.std.specs.Prelude.{◌≡◌, ℕ, List, [], Some, false}
 use Rattle.std.specs.declared.alloc.Global.{Global}
 use Rattle.lmn_order.specs.declared.order.Order.TheVariants as order
 use Rattle.lmn_verified.specs.CompiledListings.{CanBeListed}

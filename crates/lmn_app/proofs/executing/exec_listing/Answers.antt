@@ -1,4 +1,4 @@
-use Rattle.std.proofs.Common.{List, ℕ, subst}
+use Rattle.std.proofs.Common.{subst}
 use Rattle.std.specs.List.{AllByRecursion}
 use Rattle.lmn_verify.specs.Listings.{AreListed, IsRefusedListing}
 use Rattle.lmn_verify.specs.Verified.{IsVerified}
