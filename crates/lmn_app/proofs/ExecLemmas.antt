@@ -26,6 +26,7 @@ use Rattle.lmn_io.specs.Taking.{Takes, TakesPrefix}
 use Rattle.lmn_io.proofs.TakingLemmas.{no_put}
 use Rattle.lmn_loading.specs.Laws.{LoadedRules}
 use Rattle.lmn_loading.specs.Loaded.{IsLoaded}
+use Rattle.lmn_strategy.specs.Quieting.{AllAwake}
 use Rattle.lmn_runnable.specs.Laws.{VerifiedAreRunnable}
 use Rattle.lmn_runs.specs.Laws.{solid_of}
 use Rattle.lmn_verify.specs.Listings.{AreListed, IsRefusedListing, not_a_listing, not_verified}
@@ -56,17 +57,18 @@ stored_program p texts program told names plain plans a kind made h l few =
 -- ---- turns by codes
 
 -- verified codes of a listing can turn a store that is loaded
-pub codes_can_turn : LoadedRules → VerifiedAreRunnable → (plain : Plain) (h : Heap) → IsWellMade plain → IsLoaded plain h → (later : List Name) (codes : List Code) (listing : List ℕ)
+pub codes_can_turn : LoadedRules → VerifiedAreRunnable → (plain : Plain) (h : Heap) → IsWellMade plain → IsLoaded plain h → AllAwake h → (later : List Name) (codes : List Code) (listing : List ℕ)
     → AreListed (length plain.rules) later codes listing → AllByRecursion (λ code. IsVerified code (length plain.rules)) codes → CodedCanTurn h codes executed_size
-codes_can_turn law runs plain h made l later codes listing are verified = record {
+codes_can_turn law runs plain h made l awake later codes listing are verified = record {
   turn = record { valid = l.valid; unmarked = l.unmarked; of_table = λ m n i. subst (λ k. n < k) (sym are.many) (law plain h made l m n i) };
+  awake = awake;
   runnable = runs codes (λ n code is. subst (IsVerified code) (sym are.many) (at_index (λ c. IsVerified c (length plain.rules)) codes n code verified is));
   small = omega arith;
 }
 
 -- ---- how a call ends
 
-module _ (program listing : List ℕ) (of : ReadsCodes program listing) (first : Heap) (loaded : IsLoaded of.plain first) (few : (s : Solid) → IsSolidOf of.plain s → item_count s ≤ executed_size) where
+module _ (program listing : List ℕ) (of : ReadsCodes program listing) (first : Heap) (loaded : IsLoaded of.plain first) (awake : AllAwake first) (few : (s : Solid) → IsSolidOf of.plain s → item_count s ≤ executed_size) where
   abbrev input : CodedInput
   input = coded_input of.later of.plain of.codes first
 
@@ -80,6 +82,7 @@ module _ (program listing : List ℕ) (of : ReadsCodes program listing) (first :
           of = of;
           first = first;
           loaded = loaded;
+          awake = awake;
           few = few;
           commits = n;
           last = last;
@@ -104,6 +107,7 @@ module _ (program listing : List ℕ) (of : ReadsCodes program listing) (first :
             of = of;
             first = first;
             loaded = loaded;
+            awake = awake;
             few = few;
             commits = n;
             last = last;

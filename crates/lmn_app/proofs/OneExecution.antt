@@ -86,7 +86,7 @@ compiled_runs_as_run g alloc program listing written end ending ends is x can =
     g.read of.names of.plain of.plans (3 * length listing) of.later of.codes can once.once adds (subst (AreListed (length of.plain.rules) of.later of.codes) same are) in
     let compiled : AreCompiled of.plain.rules of.plans of.codes =
     subst (AreCompiled of.plain.rules of.plans) codes (codes_compiled of.plain.rules of.plans (ap length codes ∙ are.many)) in
-    let turn = can_run g.rules of.plain of.plans of.codes x.first executed_size load.made load.plans_are x.loaded compiled (omega arith) in
+    let turn = can_run g.rules of.plain of.plans of.codes x.first executed_size load.made load.plans_are x.loaded compiled (omega arith) x.awake in
     let input = coded_input of.later of.plain of.codes x.first in
     let drove = g.codes input held.solid turn holds x.commits x.last end (Some []) (Some written) x.valid x.ran in
     let s = solid_with_region of.names of.plain load.made held.solid (subst (λ t. SolidOf t held.solid) named.1 held.of_plain) holds.numbered in

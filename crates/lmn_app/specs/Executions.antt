@@ -17,6 +17,7 @@ use Rattle.lmn_heap.specs.Heap.{Heap}
 use Rattle.lmn_heap.specs.Sound.{Valid}
 use Rattle.lmn_instr.specs.declared.instr.Code.{Code}
 use Rattle.lmn_loading.specs.Loaded.{IsLoaded}
+use Rattle.lmn_strategy.specs.Quieting.{AllAwake}
 use Rattle.lmn_verify.specs.Listings.{AreListed, IsRefusedListing}
 use Rattle.lmn_verify.specs.Verified.{IsVerified}
 use Rattle.lmn_app.specs.declared.ending.Ending.{Ending}
@@ -49,12 +50,13 @@ abbrev pub coded_input : List Name → Plain → List Code → Heap → CodedInp
 coded_input names plain codes first = record { names = names; table = plain.rules; codes = codes; budget = executed_budget; size = executed_size; first = first }
 
 -- A run of the codes of a listing that ended so, and what is written of it. It begins with a heap that holds the solid of the program's
--- plain, which has few enough items; turns by the codes lead from there, in
--- which the root is asked first (`Executed`), and leave a valid heap.
+-- plain, which has few enough items, and in which each membrane is awake; turns by the codes lead from there, in which the root is asked
+-- first (`Executed`), and leave a valid heap.
 pub record IsExecuted (program listing : List ℕ) (end : RunEnd) (written : List ℕ) : Type 0 where
   pub of : ReadsCodes program listing
   pub first : Heap
   pub loaded : IsLoaded of.plain first
+  pub awake : AllAwake first
   pub few : (s : Solid) → IsSolidOf of.plain s → item_count s ≤ executed_size
   pub commits : ℕ
   pub last : Heap

@@ -1,9 +1,13 @@
-ghost use Rattle.std.specs.Prelude.{◌≡◌, ◌≤◌, ◌<◌, ◌⊎◌, ◌^◌, ℕ, List, option_map, length};
+ghost use Rattle.std.specs.Prelude.{◌≡◌, ◌≤◌, ◌<◌, ◌⊎◌, ◌^◌, ℕ, IfErr, List, OnOk, option_map, length};
+ghost use Rattle.lmn_base.specs.Levels.{links_of};
+ghost use Rattle.lmn_base.specs.Links.{EachTwice};
+ghost use Rattle.lmn_base.specs.WellMade.{IsWellMade};
 ghost use Rattle.lmn_base.specs.Solids.{item_count};
 ghost use Rattle.lmn_base.specs.declared.solid.Solid.{Solid};
 ghost use Rattle.lmn_congruence.specs.SolidsOfPlains.{IsSolidOf};
 ghost use Rattle.lmn_io.specs.Texts.{asked_once_more};
-ghost use Rattle.lmn_loading.specs.Loaded.{IsEmpty, IsLoaded};
+ghost use Rattle.lmn_loading.specs.Loaded.{IsEmpty, IsLoaded, LoadCauses};
+ghost use Rattle.lmn_strategy.specs.Quieting.{AllAwake};
 ghost use Rattle.lmn_words.specs.Forms.{pair_of, to_pair};
 ghost use Rattle.lmn_coded.specs.Turning.{CodedCanTurn};
 ghost use Rattle.lmn_app.specs.Executions.{coded_input, executed_size};
@@ -19,7 +23,7 @@ use crate::ending::Ending;
 use crate::pairing::fetch_second;
 use crate::running::{TOO_LARGE, ending_of};
 use lmn_accepted::accepted_texts_can_be_loaded;
-use lmn_base::{Names, NoMemory, Rows, TextFault};
+use lmn_base::{Names, NoMemory, Plain, Rows, TextFault};
 use lmn_coded::{Coded, execute};
 use lmn_instr::Code;
 use lmn_io::{Shelf, Sink};
@@ -27,6 +31,7 @@ use lmn_loading::{LoadFault, load, loading_settles};
 use lmn_machine::Steps;
 use lmn_reading::Accepted;
 use lmn_runnable::verified_is_runnable;
+use lmn_schedule::rouse_all;
 use lmn_store::LinkStore;
 use lmn_verify::read;
 use lmn_web_store::WebStore;
@@ -86,7 +91,7 @@ fn exec_in<S: LinkStore + Drop, F: Shelf, O: Sink>(
 {
     accepted_texts_can_be_loaded();
     let mut store = store;
-    match load(alloc, &accepted.plain, &mut store, SIZE) {
+    match load_awake(alloc, &accepted.plain, &mut store) {
         Ok(()) => match fetch_second(alloc, words, shelf) {
             Ok(listing) => exec_listing(alloc, accepted, names, store, listing.as_slice(), out),
             Err(ending) => ending,
@@ -94,6 +99,21 @@ fn exec_in<S: LinkStore + Drop, F: Shelf, O: Sink>(
         Err(LoadFault::Size(_)) => Ending::Refused(TOO_LARGE),
         Err(LoadFault::NoMemory) => Ending::NoMemory,
     }
+}
+
+/// Puts the process of a plain into an empty store, each of whose membranes is awake then.
+fn load_awake<S: LinkStore>(alloc: Global, plain: &Plain, store: &mut S) -> Result<(), LoadFault>
+    requires plain { IsWellMade plain.now }
+    requires closed { EachTwice (links_of plain.now.top) }
+    requires store { IsEmpty (S.heap store.old) }
+    ensures loaded { OnOk result (IsLoaded plain.now (S.heap store.new)) }
+    ensures awake { OnOk result (AllAwake (S.heap store.new)) }
+    ensures fits { OnOk result ((s : Solid) → IsSolidOf plain.now s → item_count s ≤ executed_size) }
+    ensures fault { IfErr result (λ fault. LoadCauses plain.now executed_size fault) }
+{
+    load(alloc, plain, store, SIZE)?;
+    rouse_all(store);
+    Ok(())
 }
 
 /// Reads the codes of a listing, and runs a store by them that holds the process of an accepted program.
@@ -110,6 +130,7 @@ fn exec_listing<S: LinkStore + Drop, O: Sink>(
     requires room { length names.old ≤ 2 ^ 31 }
     requires short { length listing.now ≤ 67108864 }
     requires loaded { IsLoaded accepted.now.plain (S.heap store) }
+    requires awake { AllAwake (S.heap store) }
     requires fits { (s : Solid) → IsSolidOf accepted.now.plain s → item_count s ≤ executed_size }
     ensures { (program : List ℕ) → Accepts program names.old accepted.now.plain accepted.now.plans →
         EndsExecuted program listing.now result (O.told out.old) (O.told out.new) (O.faults out.old) (O.faults out.new) }

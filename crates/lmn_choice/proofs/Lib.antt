@@ -9,6 +9,7 @@ pub mod RestsHeld
 pub mod Choices
 pub mod Asked
 pub mod Items
+pub mod MarkedHeaps
 pub mod Spares
 pub mod ExampleHeaps
 pub mod Choosers

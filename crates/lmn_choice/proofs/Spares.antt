@@ -1,40 +1,37 @@
--- Room for more rules is no part of what is read.
-use Rattle.std.proofs.Common.{ℕ, ◌≡◌, ◌<◌, List, [], ◌∷◌, ◌++◌, map, Option, Some, None, IsSome, refl, sym, ap, subst, ◌∙◌, inl, inr}
+-- Room for more rules is no part of what is read, and marks of membranes are none.
+use Rattle.std.proofs.Common.{ℕ, ◌≡◌, ◌<◌, List, [], ◌∷◌, ◌++◌, map, Some, None, refl, sym, ap, subst, ◌∙◌, inl, inr}
 use Rattle.std.specs.Prelude.{slice_index_or, length}
 use Rattle.std.specs.Option.{option_map}
-use Rattle.lmn_heap.specs.Heap.{Heap, HeapMem, atoms_by, mems_by, rules_by, atoms_in, partners_of, mem_with_spare, mems_in, rules_in}
+use Rattle.lmn_heap.specs.Heap.{Heap, atoms_in, partners_of, mems_in, rules_in}
 use Rattle.lmn_heap.specs.Lists.{Distinct}
 use Rattle.lmn_heap.specs.Solid.{solid_atom_at, solid_atoms_at, IsNaming}
 use Rattle.lmn_heap.specs.Sound.{Forest, bare, mem, flat, Forms, IsTree}
 use Rattle.lmn_heap.proofs.Groves.{forms_frame}
-use Rattle.lmn_body.specs.Stopping.{SameButSpares}
+use Rattle.lmn_base.specs.declared.rule.RuleTree.{RuleTree}
+use Rattle.lmn_heap.specs.Sound.{Valid}
+use Rattle.lmn_sleep.proofs.Marks.{ReadAlike, read_alike}
+use Rattle.lmn_commit.proofs.Woken.{valid_but_marks}
+use Rattle.lmn_strategy.proofs.Rightly.{spares_alike}
+use Rattle.lmn_choice.proofs.MarkedHeaps.{sound_but_marks}
 use Rattle.lmn_congruence.specs.Regions.{region, region_and}
 use Rattle.lmn_congruence.specs.Translation.{solid_atom_of}
 use Rattle.lmn_bridge.specs.HeapRegions.{HeapReading, atoms_at, regions_at}
-use Rattle.lmn_choice.specs.Laws.{SparesAreNotRead}
-use Rattle.lmn_choice.specs.Turns.{tree_over, heap_region}
+use Rattle.lmn_choice.specs.Laws.{MarksAreNotRead, SparesAreNotRead}
+use Rattle.lmn_choice.specs.Turns.{IsReadWith, tree_over, heap_region}
 use Rattle.lmn_base.specs.Lists.{In}
 
--- a membrane with other room has the same lists
-same_lists : (o : Option HeapMem) (k : ℕ) → (atoms_by (option_map (mem_with_spare k) o) ≡ atoms_by o) × (mems_by (option_map (mem_with_spare k) o) ≡ mems_by o) × (rules_by (option_map (mem_with_spare k) o) ≡ rules_by o)
-same_lists None k = (refl, refl, refl)
-same_lists (Some x) k = (refl, refl, refl)
-
-there_before : (o : Option HeapMem) (k : ℕ) → IsSome (option_map (mem_with_spare k) o) → IsSome o
-there_before None k i = absurd (cc)
-there_before (Some x) k i = refl
-
-module _ (h t : Heap) (same : SameButSpares h t) where
+module _ (h t : Heap) (same : ReadAlike h t) where
   atoms_same : (m : ℕ) → atoms_in t m ≡ atoms_in h m
-  atoms_same m = let u = same.mems m in ap atoms_by u.1 ∙ (same_lists (h.mems m) u.0).0
+  atoms_same m = same.lists m
 
   mems_same : (m : ℕ) → mems_in t m ≡ mems_in h m
-  mems_same m = let u = same.mems m in ap mems_by u.1 ∙ (same_lists (h.mems m) u.0).1
+  mems_same m = same.inner m
 
   rules_same : (m : ℕ) → rules_in t m ≡ rules_in h m
-  rules_same m = let u = same.mems m in ap rules_by u.1 ∙ (same_lists (h.mems m) u.0).2
+  rules_same m = same.rules m
 
-  atoms_of_same : (name : ℕ → ℕ → ℕ) (xs : List ℕ) → solid_atoms_at t name xs ≡ solid_atoms_at h name xs
+  -- atoms are the same atoms of a solid,
+  pub atoms_of_same : (name : ℕ → ℕ → ℕ) (xs : List ℕ) → solid_atoms_at t name xs ≡ solid_atoms_at h name xs
   atoms_of_same name [] = refl
   atoms_of_same name (x ∷ xs) = let a : solid_atom_at name x (t.atoms x) ≡ solid_atom_at name x (h.atoms x) = ap (solid_atom_at name x) (same.atoms x) in let b = atoms_of_same name xs in λ i. a i ++ b i
 
@@ -63,7 +60,8 @@ module _ (h t : Heap) (same : SameButSpares h t) where
   links_after : (a i : ℕ) (b j : ℕ) → slice_index_or (partners_of (h.atoms a)) i None ≡ Some (b, j) → slice_index_or (partners_of (t.atoms a)) i None ≡ Some (b, j)
   links_after a i b j e = subst (λ x. slice_index_or (partners_of x) i None ≡ Some (b, j)) (sym (same.atoms a)) e
 
-  naming_same : (name : ℕ → ℕ → ℕ) → IsNaming h name → IsNaming t name
+  -- and names of links name the same
+  pub naming_same : (name : ℕ → ℕ → ℕ) → IsNaming h name → IsNaming t name
   naming_same name n = record {
     joined = λ a i b j e. n.joined a i b j (links_before a i b j e);
     apart = λ a i b j p q e. elim (n.apart a i b j (subst (λ x. i < length (partners_of x)) (same.atoms a) p) (subst (λ x. j < length (partners_of x)) (same.atoms b) q) e) [
@@ -76,12 +74,12 @@ module _ (h t : Heap) (same : SameButSpares h t) where
   tree_same inner tr = record {
     forms = subst (λ z. Forms t (mem z inner bare) (z ∷ [])) (sym same.root) (forms_frame h t (tree_over h inner) (h.root ∷ []) (λ m p. mems_same m) tr.forms);
     once = subst (λ z. Distinct (flat (mem z inner bare))) (sym same.root) tr.once;
-    all = λ m i. subst (λ z. In m (flat (mem z inner bare))) (sym same.root) (tr.all m (let u = same.mems m in there_before (h.mems m) u.0 (subst (λ o. IsSome o) u.1 i)));
+    all = λ m i. subst (λ z. In m (flat (mem z inner bare))) (sym same.root) (tr.all m (same.there m i));
   }
 
--- room for more rules is no part of what is read
-pub spares_are_not_read : SparesAreNotRead
-spares_are_not_read h t r inner table same valid w = (
+-- so what is read alike has the same region
+pub read_same : (h h' : Heap) (r : HeapReading) (inner : Forest) (table : List RuleTree) → ReadAlike h h' → Valid h' → IsReadWith h r inner table → IsReadWith h' r inner table × (heap_region h' r inner ≡ heap_region h r inner)
+read_same h t r inner table same valid w = (
   record {
     read = record {
       valid = valid;
@@ -94,3 +92,11 @@ spares_are_not_read h t r inner table same valid w = (
   },
   region_same h t same r inner,
 )
+
+-- room for more rules is no part of what is read
+pub spares_are_not_read : SparesAreNotRead
+spares_are_not_read h t r inner table same valid w = read_same h t r inner table (spares_alike h t same) valid w
+
+-- and marks of membranes are none
+pub marks_are_not_read : MarksAreNotRead
+marks_are_not_read h t r inner table same sound w = read_same h t r inner table (read_alike h t same) (valid_but_marks h t same w.read.valid (sound_but_marks h t same w.read.valid.sound)) w

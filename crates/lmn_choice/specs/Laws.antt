@@ -7,6 +7,7 @@ use Rattle.lmn_heap.specs.Sound.{Forest, IsTree, Valid}
 use Rattle.lmn_instr.specs.declared.instr.Code.{Code}
 use Rattle.lmn_body.specs.Running.{Registers, RunsBody}
 use Rattle.lmn_body.specs.Stopping.{SameButSpares}
+use Rattle.lmn_sleep.specs.Quiet.{SameButMarks}
 use Rattle.lmn_machine.specs.Costs.{Leaves}
 use Rattle.lmn_congruence.specs.Regions.{Region, item_count_of_region}
 use Rattle.lmn_reduction.specs.Commits.{Irreducible}
@@ -98,6 +99,11 @@ RulesAreAskedAlike = (table : List RuleTree) (plans : List GuardPlan) (codes : L
 -- Room for more rules is no part of what is read: a heap that differs in it alone is read alike, and has the same region.
 abbrev pub SparesAreNotRead : Type 0
 SparesAreNotRead = (h h' : Heap) (r : HeapReading) (inner : Forest) (table : List RuleTree) → SameButSpares h h' → Valid h' → IsReadWith h r inner table →
+    IsReadWith h' r inner table × (heap_region h' r inner ≡ heap_region h r inner)
+
+-- Nor are marks of membranes.
+abbrev pub MarksAreNotRead : Type 0
+MarksAreNotRead = (h h' : Heap) (r : HeapReading) (inner : Forest) (table : List RuleTree) → SameButMarks h h' → Valid h → IsReadWith h r inner table →
     IsReadWith h' r inner table × (heap_region h' r inner ≡ heap_region h r inner)
 
 -- Where a chooser gives the number of the membrane that is asked first, by the number of commits and that of membranes, a next

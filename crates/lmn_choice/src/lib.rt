@@ -5,7 +5,7 @@
 #![tactic(auto)]
 
 ghost use Rattle.lmn_choice.specs.Examples.{AcrossHasTwoPaths, AcrossIsReadWith};
-ghost use Rattle.lmn_choice.specs.Laws.{ChoicesAgree, ChoicesAlike, CostsAreItems, CostsAreTold, HeapsAreNumbered, MembranesAreNumberedAlike, NothingEmbeds, RulesAreAskedAlike, SparesAreNotRead, TurnsAreAlike, TurnsAreOfChooser};
+ghost use Rattle.lmn_choice.specs.Laws.{ChoicesAgree, ChoicesAlike, CostsAreItems, CostsAreTold, HeapsAreNumbered, MarksAreNotRead, MembranesAreNumberedAlike, NothingEmbeds, RulesAreAskedAlike, SparesAreNotRead, TurnsAreAlike, TurnsAreOfChooser};
 
 use lmn_adequacy::{
     embeddings_fire, firings_commit, matching_is_exact, next_is_one, numbering_is_one,
@@ -109,6 +109,11 @@ pub fn rules_are_asked_alike()
 /// A heap that differs from another in its room for more rules alone, as one does where memory was wanting, is read alike.
 pub fn spares_are_not_read()
     ensures { SparesAreNotRead }
+{}
+
+/// A heap that differs from another in the marks of its membranes alone is read alike.
+pub fn marks_are_not_read()
+    ensures { MarksAreNotRead }
 {}
 
 /// Where a chooser tells which membrane is asked first, a next region that is numbered comes by a turn of the strategy (`Turn`),

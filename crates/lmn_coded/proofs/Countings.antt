@@ -4,10 +4,12 @@ use Rattle.lmn_heap.specs.Heap.{Heap}
 use Rattle.lmn_heap.specs.Sound.{Valid}
 use Rattle.lmn_instr.specs.declared.instr.Code.{Code}
 use Rattle.lmn_strategy.specs.Counting.{CountsAsked}
+use Rattle.lmn_strategy.specs.Quieting.{AllAwake}
 use Rattle.lmn_strategy.proofs.Counts.{rises_both, rises_none}
 use Rattle.lmn_strategy.specs.declared.turning.Turn.TheVariants.{Committed}
 use Rattle.lmn_coded.specs.Runs.{CodedTurn}
 use Rattle.lmn_coded.specs.Counting.{CountsRun, CountsTurns, more_asked, none_asked}
+use Rattle.lmn_coded.proofs.Awake.{counts_whole}
 
 module _ (codes : List Code) (size : ℕ) (first : Heap) where
   -- before the first turn,
@@ -15,15 +17,15 @@ module _ (codes : List Code) (size : ℕ) (first : Heap) where
   counts_none s = record { rules = 0; asks = none_asked; rises = rises_none 0 s }
 
   -- by one turn more,
-  pub counts_more : (n : ℕ) (h h' : Heap) (s t u : ℕ) → CountsTurns codes size first n h s t → CodedTurn codes size h Committed h' → CountsAsked h codes 0 t u → CountsTurns codes size first (n + 1) h' s u
-  counts_more n h h' s t u c turn asked =
-      let more = asked turn.tree turn.is_tree in
-      record { rules = c.rules + more.rules; asks = more_asked c.asks turn more.asks; rises = rises_both c.rules more.rules s t u c.rises (record { rises = more.counts.rises; within = more.counts.within }) }
+  pub counts_more : (n : ℕ) (h h' : Heap) (s t u : ℕ) → AllAwake h → CountsTurns codes size first n h s t → CodedTurn codes size h Committed h' → CountsAsked h codes 0 t u → CountsTurns codes size first (n + 1) h' s u
+  counts_more n h h' s t u all c turn asked =
+      let more = counts_whole h codes all t u asked turn.tree turn.is_tree in
+      record { rules = c.rules + more.rules; asks = more_asked c.asks turn more.asks; rises = rises_both c.rules more.rules s t u c.rises more.rises }
 
   -- and where the last heap is asked
-  pub counts_last : (n : ℕ) (h : Heap) (s t u : ℕ) → Valid h → CountsTurns codes size first n h s t → CountsAsked h codes 0 t u → CountsRun codes size first n s u
-  counts_last n h s t u v c asked =
-      let more = asked v.tree.0 v.tree.1 in
+  pub counts_last : (n : ℕ) (h : Heap) (s t u : ℕ) → Valid h → AllAwake h → CountsTurns codes size first n h s t → CountsAsked h codes 0 t u → CountsRun codes size first n s u
+  counts_last n h s t u v all c asked =
+      let more = counts_whole h codes all t u asked v.tree.0 v.tree.1 in
       record {
         last = h;
         before = c.rules;
@@ -32,5 +34,5 @@ module _ (codes : List Code) (size : ℕ) (first : Heap) where
         is_tree = v.tree.1;
         at_last = more.rules;
         asks_last = more.asks;
-        rises = rises_both c.rules more.rules s t u c.rises (record { rises = more.counts.rises; within = more.counts.within });
+        rises = rises_both c.rules more.rules s t u c.rises more.rises;
       }

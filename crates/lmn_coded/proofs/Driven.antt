@@ -6,7 +6,7 @@ use Rattle.lmn_heap.proofs.Calls.{one_tree}
 use Rattle.lmn_io.specs.Taking.{Takes, TakesPrefix}
 use Rattle.lmn_io.proofs.TakingLemmas.{takes_nothing}
 use Rattle.lmn_congruence.specs.Regions.{Region}
-use Rattle.lmn_choice.specs.Laws.{NothingEmbeds, TurnsAreAlike, SparesAreNotRead, TurnsAreOfChooser}
+use Rattle.lmn_choice.specs.Laws.{MarksAreNotRead, NothingEmbeds, TurnsAreAlike, SparesAreNotRead, TurnsAreOfChooser}
 use Rattle.lmn_choice.specs.Turns.{HaveCodes, tree_over}
 use Rattle.lmn_strategy.specs.Turns.{IsTurn}
 use Rattle.lmn_strategy.specs.declared.turning.Turn.{Turn}
@@ -27,7 +27,7 @@ use Rattle.lmn_coded.specs.Laws.{TablesRunAsRules, given_by_codes}
 use Rattle.lmn_coded.proofs.Halting.{last_line, last_valid}
 use Rattle.lmn_coded.proofs.Turned.{committed, done, embeds, full, no_memory}
 
-module _ (alike : TurnsAreAlike) (of_chooser : TurnsAreOfChooser) (spares : SparesAreNotRead) (law : NothingEmbeds) (lines : OneHeapLine)
+module _ (alike : TurnsAreAlike) (of_chooser : TurnsAreOfChooser) (spares : SparesAreNotRead) (marks : MarksAreNotRead) (law : NothingEmbeds) (lines : OneHeapLine)
     (g : CodedInput) (S : Region) (can : EngineCanTurn g.first g.table g.codes g.size) (held : HoldsRegion g.names g.table g.first S) where
   abbrev input : RunInput
   input = given_by_codes g S
@@ -51,7 +51,7 @@ module _ (alike : TurnsAreAlike) (of_chooser : TurnsAreOfChooser) (spares : Spar
       let o = before.ran.holds in
       let below : m < g.budget = omega (arith, within) in
       going_more input m k h' old old before below
-      (committed g.names g.table can.plans g.codes have m g.size k before.ran.last o alike of_chooser h' (over_tree k before.ran.last o answer.Committed h' t)) old (nothing old)
+      (committed g.names g.table can.plans g.codes have m g.size k before.ran.last o alike of_chooser marks h' (over_tree k before.ran.last o answer.Committed h' t)) old (nothing old)
 
   module _ (n : ℕ) (last h' : Heap) (old new : Option (List ℕ)) (v : Valid h') (line : List ℕ) (is_line : IsHeapLine false g.names g.table last line) (run : CodedRun g.codes g.size g.first n last) (before : (l : List ℕ) → IsHeapLine false g.names g.table h' l → IsHeapLine false g.names g.table last l) where
     -- the text is the line that was written, and the end line
@@ -105,9 +105,9 @@ module _ (alike : TurnsAreAlike) (of_chooser : TurnsAreOfChooser) (spares : Spar
         )
 
 -- what is executed of the codes is a run of the rules
-pub tables_run_as_rules : TurnsAreAlike → TurnsAreOfChooser → SparesAreNotRead → NothingEmbeds → OneHeapLine → TablesRunAsRules
-tables_run_as_rules alike of_chooser spares law lines g S can held n h' end old new v x =
-    let both = ends alike of_chooser spares law lines g S can held n x.halted.last h' old new v x.line x.is_line x.halted.run
+pub tables_run_as_rules : TurnsAreAlike → TurnsAreOfChooser → SparesAreNotRead → MarksAreNotRead → NothingEmbeds → OneHeapLine → TablesRunAsRules
+tables_run_as_rules alike of_chooser spares marks law lines g S can held n h' end old new v x =
+    let both = ends alike of_chooser spares marks law lines g S can held n x.halted.last h' old new v x.line x.is_line x.halted.run
     (λ l is. last_line g.codes g.budget g.size n x.halted.last x.why h' g.names g.table l x.halted.halts is) x.why x.halted.halts in
     elim x.wrote [
       | inl w ↦ subst (λ e. Drove (given_by_codes g S) n h' e old new) (sym w.0) (both.0 w.1)

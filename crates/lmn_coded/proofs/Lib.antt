@@ -1,5 +1,6 @@
 pub mod Halts
 mod Asking
+mod Awake
 mod Endings
 mod Lines
 mod Halting

@@ -1,13 +1,13 @@
 -- The runs of the examples.
 use Rattle.std.specs.Prelude.{pos}
-use Rattle.std.specs.Option.{option_map}
+use Rattle.std.specs.Option.{option_and_then, option_map}
 use Rattle.std.proofs.Common.{ℕ, List, length, ◌≡◌, ◌≢◌, ◌⊎◌, ◌+◌, [], ◌∷◌, Option, Some, None, IsSome, false, refl, sym, ap, subst, ◌∙◌, inl, inr, arith}
 use Rattle.std.specs.Fmt.{digits}
 use Rattle.std.proofs.lemmas.Bool.{cases_eq}
 use Rattle.lmn_base.specs.Lists.{In}
 use Rattle.lmn_base.proofs.Lists.{none_is_not}
 use Rattle.lmn_base.proofs.Numbers.{not_equal}
-use Rattle.lmn_heap.specs.Heap.{Heap, HeapMem, IsInPlace, IsMem, finished, gone, lone_root, mem_place_of, rules_by, rules_in, top}
+use Rattle.lmn_heap.specs.Heap.{Heap, HeapMem, IsInPlace, IsMem, discarded, finished, gone, lone_root, mem_mark_by, mem_mark_of, mem_place_of, mem_unless_gone, mem_unless_waiting, mem_with_spare, rules_by, rules_in, top}
 use Rattle.lmn_heap.specs.Examples.{across}
 use Rattle.lmn_heap.specs.Sound.{IsTree, Valid, bare, mem, flat, item_count_in}
 use Rattle.lmn_heap.proofs.Calls.{finished_is_valid, keeps_sound, one_tree}
@@ -15,8 +15,11 @@ use Rattle.lmn_heap.proofs.Lone.{is_root, lone_valid}
 use Rattle.lmn_heap.proofs.ExampleProofs.{across_is_valid}
 use Rattle.lmn_instr.specs.Running.{IsFirstSuccess, Succeeds}
 use Rattle.lmn_body.specs.Running.{Registers}
+use Rattle.lmn_commit.specs.Waking.{Commits}
+use Rattle.lmn_commit.proofs.Rousing.{no_marks}
 use Rattle.lmn_machine.specs.Costs.{Leaves}
 use Rattle.lmn_strategy.specs.Choosing.{CodeSucceeds, IsFirstIn, asked}
+use Rattle.lmn_strategy.specs.Quieting.{AllAwake}
 use Rattle.lmn_strategy.specs.Turns.{Chooses, HoldsRestsOf, IsAnswer}
 use Rattle.lmn_strategy.specs.declared.turning.Turn.{Turn}
 use Rattle.lmn_strategy.specs.declared.turning.Turn.TheVariants.{Committed, Full}
@@ -48,14 +51,22 @@ no_rule m k i = elim (cases_eq m 0) [
   | inr d ↦ subst (λ z. In k (rules_by z)) (none_there m d) i
 ]
 
+lone_awake : AllAwake lone_root
+lone_awake m = elim (cases_eq m 0) [
+  | inl e ↦ ap (mem_mark_of lone_root) e
+  | inr d ↦ ap mem_mark_by (none_there m d)
+]
+
 pub no_codes_can_turn : NoCodesCanTurn
 no_codes_can_turn = (
   record {
     turn = record { valid = lone_valid; unmarked = λ a i. refl; of_table = λ m k i. absurd (no_rule m k i) };
+    awake = lone_awake;
     runnable = λ n code e. absurd (cc e);
     small = omega arith;
   },
   (λ c. let below = c.turn.of_table 0 0 (inl refl) in omega (arith, below)),
+  (λ c. let awake = c.awake 0 in omega (arith, awake)),
 )
 
 -- no rule is asked of the root alone
@@ -205,9 +216,47 @@ chooses size answer h' answered = record {
   answered = answered;
 }
 
+-- no membrane of it sleeps, before and after
+ruled_awake : AllAwake ruled
+ruled_awake m = elim (the_cases m) [ inl e ↦ ap (mem_mark_of ruled) e | inr e ↦ ap mem_mark_by e ]
+
+finished_awake : AllAwake (finished ruled)
+finished_awake m = elim (the_cases m) [
+  | inl e ↦ ap (mem_mark_of (finished ruled)) e
+  | inr e ↦ ap (λ o. mem_mark_by (option_and_then mem_unless_gone o)) e
+]
+
+-- its code is committed
+commits : Commits ruled registers idle.body (finished ruled)
+commits = record {
+  prepared = ruled;
+  prepares = (ruled, refl, refl);
+  makes = record { root = refl; atoms = λ a. refl; mems = same; new_atoms = refl; new_mems = refl };
+  after = finished ruled;
+  does = (finished ruled, refl, refl);
+  alike = no_marks (finished ruled);
+  wakes = record {
+    stood = λ x i. stood x i;
+    woken = λ x y j r a. finished_awake x;
+    others = λ x i. inl (finished_awake x ∙ sym (ruled_awake x));
+  };
+}
+  where
+    same : (m : ℕ) → (k : ℕ) × ((discarded ruled).mems m ≡ option_map (mem_with_spare k) (ruled.mems m))
+    same m = elim (the_cases m) [
+      | inl e ↦ (0, subst (λ z. (discarded ruled).mems z ≡ option_map (mem_with_spare 0) (ruled.mems z)) (sym e) refl)
+      | inr e ↦ (0, ap (λ o. option_and_then mem_unless_waiting o) e ∙ sym (ap (option_map (mem_with_spare 0)) e))
+    ]
+
+    stood : (x : ℕ) → IsMem (finished ruled) x → IsMem ruled x
+    stood x i = elim (the_cases x) [
+      | inl e ↦ subst (IsMem ruled) (sym e) refl
+      | inr e ↦ absurd (none_is_not ((finished ruled).mems x) (ap (option_and_then mem_unless_gone) e) i)
+    ]
+
 pub idle_code_commits : IdleCodeCommits
 idle_code_commits = (
-  turned {n = 0} begun (record { tree = mem 0 bare bare; is_tree = ruled_tree; turn = chooses 1 Committed (finished ruled) (omega arith, (ruled, (ruled, refl, refl), (finished ruled, refl, refl))) }) finished_valid,
+  turned {n = 0} begun (record { tree = mem 0 bare bare; is_tree = ruled_tree; turn = chooses 1 Committed (finished ruled) (omega arith, commits) }) finished_valid,
   record { tree = mem 0 bare bare; is_tree = ruled_tree; turn = chooses 0 Full ruled (omega arith, refl) },
   (λ size n h h' run. let e = no_run size h (n + 1) h' run in omega (arith, e)),
 )

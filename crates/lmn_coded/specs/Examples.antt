@@ -1,7 +1,7 @@
 -- Small runs: of no codes over a heap without rules, `{a(X)}, b(X)`, and of code that succeeds everywhere and changes nothing, over the
 -- root alone with one rule.
 use Rattle.std.specs.Prelude.{ℕ, ◌+◌, List, [], ◌∷◌, ◌++◌, Option, Some, false, codes}
-use Rattle.lmn_heap.specs.Heap.{Heap, finished, lone_root, rule_added}
+use Rattle.lmn_heap.specs.Heap.{Heap, finished, lone_root, mem_marked, rule_added}
 use Rattle.lmn_heap.specs.Examples.{across}
 use Rattle.lmn_congruence.specs.Rules.{Name}
 use Rattle.lmn_instr.specs.declared.instr.Code.{Code}
@@ -21,9 +21,9 @@ idle = record { head = Commit ∷ []; body = Proceed ∷ [] }
 abbrev pub ruled : Heap
 ruled = rule_added lone_root 0 0
 
--- Without codes a turn can be made over the root alone, and not where a rule stands in it.
+-- Without codes a turn can be made over the root alone, and not where a rule stands in it, nor where it sleeps.
 abbrev pub NoCodesCanTurn : Type 0
-NoCodesCanTurn = CodedCanTurn lone_root [] 0 × (CodedCanTurn ruled [] 0 → ⊥)
+NoCodesCanTurn = CodedCanTurn lone_root [] 0 × (CodedCanTurn ruled [] 0 → ⊥) × (CodedCanTurn (mem_marked lone_root 0 1) [] 0 → ⊥)
 
 -- Where one item is allowed a turn of the idle code commits, and where none is it doesn't: it is full. Without codes no turn commits.
 abbrev pub IdleCodeCommits : Type 0

@@ -2,7 +2,9 @@
 ghost use Rattle.lmn_coded.specs.Examples.{IdleCodeCommits, IdleCodeSucceeds, NoCodesAreExecuted, NoCodesCanTurn, NoRuleIsAsked};
 ghost use Rattle.lmn_coded.specs.Laws.{HaltsAreExact, TablesRunAsRules, TurnsAreExact};
 
-use lmn_choice::{nothing_embeds, spares_are_not_read, turns_are_alike, turns_are_of_chooser};
+use lmn_choice::{
+    marks_are_not_read, nothing_embeds, spares_are_not_read, turns_are_alike, turns_are_of_chooser,
+};
 use lmn_folded_printer::heaps_have_one_line;
 
 /// What is executed of the codes of a table of rules, from a heap that holds a solid, is a run of the rules in which the root is
@@ -14,6 +16,7 @@ pub fn tables_run_as_rules()
     turns_are_alike();
     turns_are_of_chooser();
     spares_are_not_read();
+    marks_are_not_read();
     heaps_have_one_line();
 }
 

@@ -4,8 +4,8 @@ ghost use Rattle.lmn_heap.specs.Sound.{Forest, IsTree, flat};
 ghost use Rattle.lmn_strategy.specs.Choosing.{NoneIn};
 ghost use Rattle.lmn_strategy.specs.Counting.{CountsAsked};
 ghost use Rattle.lmn_strategy.specs.Turns.{IsTurn};
-ghost use Rattle.lmn_schedule.specs.Turning.{KeepsHeap, counted};
-ghost use Rattle.lmn_coded.specs.Turning.{CodedCanTurn, SomeIn};
+ghost use Rattle.lmn_schedule.specs.Turning.{counted};
+ghost use Rattle.lmn_coded.specs.Turning.{CodedCanTurn, KeepsWhole, SomeIn};
 ghost use Rattle.lmn_coded.specs.Lending.{coded_lends_store};
 
 use lmn_base::{NoMemory, Rows};
@@ -55,7 +55,7 @@ impl<S: LinkStore> Coded<S> {
         requires run { CodedCanTurn (S.heap self.old.machine.store) self.old.codes self.old.size }
         requires commits { self.old.commits < 2 ^ 63 }
         ensures turned { (f : Forest) → IsTree (S.heap self.old.machine.store) f → IsTurn (S.heap self.old.machine.store) self.old.codes f 0 self.old.size result (S.heap self.new.machine.store) }
-        ensures kept { KeepsHeap result (S.heap self.old.machine.store) (S.heap self.new.machine.store) }
+        ensures kept { KeepsWhole result (S.heap self.old.machine.store) (S.heap self.new.machine.store) }
         ensures again { CodedCanTurn (S.heap self.new.machine.store) self.old.codes self.old.size }
         ensures steps { CountsAsked (S.heap self.old.machine.store) self.old.codes 0 steps.old steps.new }
         ensures keeps { self.new ≡ record self.old { machine = self.new.machine; commits = self.old.commits + counted result } }
@@ -68,6 +68,7 @@ impl<S: LinkStore> Coded<S> {
             0,
             many,
             self.size,
+            false,
             steps,
         );
         if answer == Turn::Committed {
@@ -87,7 +88,14 @@ impl<S: LinkStore> Coded<S> {
         ensures steps { CountsAsked (S.heap self.old.machine.store) self.old.codes 0 steps.old steps.new }
     {
         let many = membranes(self.machine.store());
-        match search(&mut self.machine, self.codes.as_slice(), 0, many, steps) {
+        match search(
+            &mut self.machine,
+            self.codes.as_slice(),
+            0,
+            many,
+            false,
+            steps,
+        ) {
             Some(_) => true,
             None => false,
         }

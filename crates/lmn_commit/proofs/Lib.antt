@@ -15,3 +15,10 @@ pub mod OwnCopies
 pub mod RestMaking
 pub mod Later
 pub mod RestCopying
+pub mod Frames
+pub mod Remarked
+pub mod Rousing
+pub mod Rouses
+pub mod Woken
+pub mod Touched
+pub mod Roused

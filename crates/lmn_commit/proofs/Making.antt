@@ -1,5 +1,5 @@
 -- What an instruction makes, and code that is prepared by it.
-use Rattle.std.proofs.Common.{ℕ, zero, suc, ℤ, ◌≡◌, ◌≢◌, ◌==◌, ◌≤◌, ◌+◌, inl, inr, Bool, true, false, cond, List, [], ◌∷◌, ◌++◌, Option, Some, None, IsSome, refl, arith, ap, sym, subst, length, ◌∙◌}
+use Rattle.std.proofs.Common.{ℕ, zero, suc, ℤ, ◌≡◌, ◌≢◌, ◌==◌, ◌≤◌, ◌+◌, inl, inr, Bool, true, false, cond, List, [], ◌∷◌, ◌++◌, Option, Some, None, IsSome, refl, arith, ap, sym, subst, length, map, replicate, ◌∙◌}
 use Rattle.std.proofs.lemmas.Bool.{cases_eq, eqb-true}
 use Rattle.std.specs.Option.{option_map}
 use Rattle.std.specs.Prelude.{slice_get, pos}
@@ -18,7 +18,8 @@ use Rattle.lmn_commit.proofs.RestOf.{rest_beside}
 use Rattle.lmn_commit.proofs.Codes.{get_either, all_use_more, use_one_more, reads_uses, needed_more}
 use Rattle.lmn_commit.proofs.Waiting.{makes_nothing, makes_on, still_copied, none_there}
 use Rattle.lmn_base.proofs.Lists.{get_front, get_last, plus_nothing as nothing_more}
-use Rattle.std.proofs.lemmas.List.{length_push}
+use Rattle.std.proofs.lemmas.List.{length_push, length-map, length-replicate}
+use Rattle.std.proofs.lemmas.Option.{same_Some}
 
 some_altered : {X : Type 0} (f : ℕ → Option X) (n m : ℕ) (v : X) → IsSome (f m) → IsSome (alter f n (λ _. Some v) m)
 some_altered {X} f n m v e = by (m == n)
@@ -63,6 +64,26 @@ one_sized {A} ps es p xs l w = record {
     both (z ∷ qs) (f ∷ fs) c h zero q ys a b = h zero q ys a b
     both (z ∷ qs) (f ∷ fs) c h (suc k) q ys a b = both qs fs (omega (arith, c)) (λ j. h (suc j)) k q ys a b
 
+abbrev number_or : {X : Type 0} → (X → ℕ) → Option X → ℕ
+number_or f None = 0
+number_or f (Some x) = f x
+
+abbrev port_or : {A : Type 0} → (A → ℕ) → Option (A × ℕ) → ℕ × ℕ
+port_or atom None = (0, 0)
+port_or atom (Some p) = port_id atom p
+
+abbrev root_or : {A : Type 0} → (A → ℕ) → Option (PartCopy A) → ℕ × ℕ
+root_or atom None = (0, 0)
+root_or atom (Some p) = port_id atom p.root
+
+abbrev list_or : Option (List ℕ) → List ℕ
+list_or None = []
+list_or (Some xs) = xs
+
+abbrev integer_or : Option ℤ → ℤ
+integer_or None = pos 0
+integer_or (Some z) = z
+
 module _ {A M : Type 0} (atom : A → ℕ) (membrane : M → ℕ) where
   pub grows_none : (g : SetRegisters A M) → Grows g g
   grows_none g = record { atoms = λ i a e. e; membranes = λ i m e. e; parts = refl; integers = refl; copies = λ i p e. e }
@@ -80,57 +101,61 @@ module _ {A M : Type 0} (atom : A → ℕ) (membrane : M → ℕ) where
     copies = λ i x e. a.copies i x (u.copies i x e);
   }
 
+  -- Registers with the values of those that are set, whose copies have these atoms, and with these rests.
+  abbrev registers_with : SetRegisters A M → List (List ℕ) → (ℕ → List ℕ) → (ℕ → List ℕ) → Registers
+  registers_with g copied left_atoms left_membranes = record {
+    head = record {
+      images = record {
+        atom = λ k. number_or atom (slice_get g.atoms k);
+        membrane = λ k. number_or membrane (slice_get g.membranes k);
+        part = λ k. port_or atom (slice_get g.parts k);
+      };
+      integer = λ k. integer_or (slice_get g.integers k);
+    };
+    copy = λ k. root_or atom (slice_get g.copies k);
+    copied = λ k. list_or (slice_get copied k);
+    left_atoms = left_atoms;
+    left_membranes = left_membranes;
+  }
+
+  agrees_with : (g : SetRegisters A M) (copied : List (List ℕ)) (left_atoms left_membranes : ℕ → List ℕ) → AreSized g.copies copied → AgreesWithCopies atom membrane g (registers_with g copied left_atoms left_membranes)
+  agrees_with g copied left_atoms left_membranes sized = record {
+    atoms = λ k a e. ap (number_or atom) e;
+    membranes = λ k m e. ap (number_or membrane) e;
+    parts = λ k p e. ap (port_or atom) e;
+    integers = λ k z e. ap integer_or e;
+    copies = λ k p e. (ap (root_or atom) e, (let x = get_too g.copies copied (sym sized.count) k p e in ap (λ xs. length (list_or xs)) x.1 ∙ sized.sizes k p x.0 e x.1));
+  }
+
+  -- There are registers that agree with those that are set.
+  pub some_agree : (g : SetRegisters A M) → (r : Registers) × AgreesWithCopies atom membrane g r
+  some_agree g =
+      let copied = map (λ p. replicate p.atoms 0) g.copies in
+      let sized : AreSized g.copies copied = record { count = length-map g.copies (λ p. replicate p.atoms 0); sizes = sizes g.copies } in
+      (registers_with g copied (λ k. []) (λ k. []), agrees_with g copied (λ k. []) (λ k. []) sized)
+    where
+      sizes : (cs : List (PartCopy A)) (k : ℕ) (p : PartCopy A) (atoms : List ℕ) → slice_get cs k ≡ Some p → slice_get (map (λ p. replicate p.atoms 0) cs) k ≡ Some atoms → length atoms ≡ p.atoms
+      sizes [] k p atoms e f = absurd (cc)
+      sizes (c ∷ cs) zero p atoms e f =
+          let a : replicate c.atoms 0 ≡ atoms = same_Some (replicate c.atoms 0) atoms f in
+          let b : c ≡ p = same_Some c p e in
+          ap length (sym a) ∙ length-replicate c.atoms 0 ∙ ap (λ x. x.atoms) b
+      sizes (c ∷ cs) (suc k) p atoms e f = sizes cs k p atoms e f
+
   -- There are such registers, whose copies have given atoms, with the rests besides registers of a valid heap.
   pub some_registers : (g : SetRegisters A M) (copied : List (List ℕ)) → AreSized g.copies copied → (h : Heap) → Valid h → (head : SetRegisters A M) → (r : Registers) × AgreesWithCopies atom membrane g r × HasCopies r copied × HasRests atom membrane h head r
-  some_registers g copied sized h valid head = (
-    record {
-      head = record {
-        images = record {
-          atom = λ k. number atom (slice_get g.atoms k);
-          membrane = λ k. number membrane (slice_get g.membranes k);
-          part = λ k. port (slice_get g.parts k);
-        };
-        integer = λ k. integer (slice_get g.integers k);
-      };
-      copy = λ k. root (slice_get g.copies k);
-      copied = λ k. atoms (slice_get copied k);
-      left_atoms = λ k. (rest (slice_get head.membranes k)).0;
-      left_membranes = λ k. (rest (slice_get head.membranes k)).1;
-    },
-    record {
-      atoms = λ k a e. ap (number atom) e;
-      membranes = λ k m e. ap (number membrane) e;
-      parts = λ k p e. ap port e;
-      integers = λ k z e. ap integer e;
-      copies = λ k p e. (ap root e, (let x = get_too g.copies copied (sym sized.count) k p e in ap (λ xs. length (atoms xs)) x.1 ∙ sized.sizes k p x.0 e x.1));
-    },
-    λ k xs e. ap atoms e,
-    λ k m e. subst (λ (o : Option M). IsRestBeside atom membrane h head (membrane m) (rest o).0 (rest o).1) (sym e) (rest_beside atom membrane h valid head (membrane m)).2,
-  )
+  some_registers g copied sized h valid head =
+      let left_atoms : ℕ → List ℕ = (λ k. (rest (slice_get head.membranes k)).0) in
+      let left_membranes : ℕ → List ℕ = (λ k. (rest (slice_get head.membranes k)).1) in (
+        registers_with g copied left_atoms left_membranes,
+        agrees_with g copied left_atoms left_membranes sized,
+        λ k xs e. ap list_or e,
+        λ k m e. subst (λ (o : Option M). IsRestBeside atom membrane h head (membrane m) (rest o).0 (rest o).1) (sym e) (rest_beside atom membrane h valid head (membrane m)).2,
+      )
     where
       rest : Option M → List ℕ × List ℕ
       rest None = ([], [])
       rest (Some m) = (let w = rest_beside atom membrane h valid head (membrane m) in (w.0, w.1))
-
-      number : {X : Type 0} → (X → ℕ) → Option X → ℕ
-      number f None = 0
-      number f (Some x) = f x
-
-      port : Option (A × ℕ) → ℕ × ℕ
-      port None = (0, 0)
-      port (Some p) = port_id atom p
-
-      root : Option (PartCopy A) → ℕ × ℕ
-      root None = (0, 0)
-      root (Some p) = port_id atom p.root
-
-      atoms : Option (List ℕ) → List ℕ
-      atoms None = []
-      atoms (Some xs) = xs
-
-      integer : Option ℤ → ℤ
-      integer None = pos 0
-      integer (Some z) = z
 
   -- An atom is made.
   module _ (s t : Heap) (g k : SetRegisters A M) (before : List Instr) (i : Instr) (f : Functor) (held : AreHeld atom membrane s g) (made : AtomIsMade {A = A} {M = M} atom s t g k f) where

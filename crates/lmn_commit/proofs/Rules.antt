@@ -296,7 +296,7 @@ stood h s e a p = by (s.atoms a) p (e.atoms a)
     by (Some x) q f = sym (not_gone x.place q x refl) ∙ f
 
 -- an atom that stood before is there
-stays_there : (h s : Heap) → SameButSpares h (discarded s) → (a : ℕ) → IsSome (h.atoms a) → s.atoms a ≡ h.atoms a
+pub stays_there : (h s : Heap) → SameButSpares h (discarded s) → (a : ℕ) → IsSome (h.atoms a) → s.atoms a ≡ h.atoms a
 stays_there h s e a p = by (s.atoms a) (e.atoms a)
   where
     kept : (x : HeapAtom) (q : Place) → x.place ≡ q → unless_waiting x ≡ h.atoms a → Some x ≡ h.atoms a

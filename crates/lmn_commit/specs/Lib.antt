@@ -4,3 +4,5 @@ pub mod Preparing
 pub mod Committing
 pub mod Matched
 pub mod Orders
+pub mod Waking
+pub mod Touching

@@ -1,5 +1,5 @@
 -- When code can be committed, be it that of the body of a rule or not.
-use Rattle.std.specs.Prelude.{ℕ, ◌≤◌, List}
+use Rattle.std.specs.Prelude.{ℕ, ◌<◌, ◌≤◌, List, length}
 use Rattle.lmn_heap.specs.Heap.{Heap, IsMemInPlace, discarded, rules_in, spare_of, Unmarked}
 use Rattle.lmn_heap.specs.Sound.{Valid}
 use Rattle.lmn_solid.specs.declared.items.HeadItem.{HeadItem}
@@ -22,10 +22,12 @@ abbrev pub CanBeCommitted : Registers → List Instr → Heap → Type 0
 CanBeCommitted r code h = (s : Heap) → Prepares r code h s → SameButSpares h (discarded s) → ((x : ℕ) → needed r (rules_in h) code x ≤ spare_of s x) →
     Runs r code s × ((t : Heap) → DoesAll r code s t → Valid t)
 
--- From a valid heap without marks the code can be committed with what the registers hold.
+-- From a valid heap without marks the code can be committed with what the registers hold. The first of their membranes is the one in
+-- which the head was matched.
 pub record IsMatched {A M : Type 0} (atom : A → ℕ) (membrane : M → ℕ) (h : Heap) (g : SetRegisters A M) (code : List Instr) : Type 0 where
   pub valid : Valid h
   pub unmarked : Unmarked h
+  pub own : 0 < length g.membranes
   pub commits : (r : Registers) → AgreesWithCopies atom membrane g r → HasRests atom membrane h g r → CanBeCommitted r code h
 
 -- The code is prepared, after it was matched.

@@ -1,6 +1,6 @@
 //! Does what the code of a body does, when all that it makes is made.
 ghost use Rattle.std.specs.Prelude.{◌≡◌, ◌<◌, ◌++◌, ℕ, List, length, map};
-ghost use Rattle.lmn_body.specs.Running.{Registers, DoesAll, Does, RunsBody, all_placed, old_port, new_port};
+ghost use Rattle.lmn_body.specs.Running.{Registers, DoesAll, Does, all_placed, old_port, new_port};
 ghost use Rattle.lmn_heap.specs.Heap.{IsMemInPlace, port_id, Unmarked};
 ghost use Rattle.lmn_body.specs.Conditions.{Can};
 ghost use Rattle.lmn_commit.specs.Registers.{AgreesWithCopies, HasCopies, HasRests};
@@ -8,8 +8,10 @@ ghost use Rattle.lmn_commit.specs.Preparing.{AllUse, Uses, UsesPort};
 ghost use Rattle.lmn_commit.specs.Committing.{Runs, Stands};
 ghost use Rattle.lmn_commit.specs.Matched.{IsPrepared};
 ghost use Rattle.lmn_heap.specs.Sound.{Valid};
+ghost use Rattle.lmn_commit.specs.Waking.{Commits};
 
 use crate::splicing::{relink, unify};
+use crate::waking::wake;
 use lmn_ground::{drop_cells, place_cells, take_part};
 use lmn_instr::{AtomPort, Instr, NewPort};
 use lmn_registers::SetRegisters;
@@ -129,13 +131,17 @@ fn run_all<S: LinkStore>(store: &mut S, code: &[Instr], set: &SetRegisters<S::At
 
 /// Does what code does, after it was matched and prepared: a rule is fired. The code may be that of a rule or not; what is
 /// asked of it is that its instructions can be run one after the other and leave a valid store. It takes no memory and can't
-/// fail, and leaves a valid store without marks.
+/// fail, and leaves a valid store in which every mark of an atom is 0. What the code rouses is awake then, with all that is round
+/// it, and each other membrane keeps its mark.
 pub fn commit<S: LinkStore>(store: &mut S, code: &[Instr], set: &SetRegisters<S::Atom, S::Mem>)
     requires { IsPrepared S.atom_id S.mem_id (S.heap store.old) set.now code.now }
     ensures fires { (p : IsPrepared S.atom_id S.mem_id (S.heap store.old) set.now code.now) (r : Registers) → AgreesWithCopies S.atom_id S.mem_id set.now r → HasCopies r p.prepared.copied → HasRests S.atom_id S.mem_id p.before p.matched_by r →
-        RunsBody r code.now p.before (S.heap store.new) }
+        Commits p.before r code.now (S.heap store.new) }
     ensures valid { Valid (S.heap store.new) }
     ensures unmarked { Unmarked (S.heap store.new) }
 {
+    let _before = store.root();
+    wake(store, code, set);
     run_all(store, code, set);
+    let _after = store.root();
 }

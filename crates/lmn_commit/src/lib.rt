@@ -9,8 +9,9 @@ mod laws;
 mod marking;
 mod preparing;
 mod splicing;
+mod waking;
 
 pub use committing::commit;
-pub use laws::{bodies_are_in_order, bodies_can_be_committed};
+pub use laws::{bodies_are_in_order, bodies_can_be_committed, rules_wake_touched};
 pub use marking::{mark_taken, set_own};
 pub use preparing::prepare;

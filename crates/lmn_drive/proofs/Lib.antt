@@ -7,3 +7,5 @@ pub mod Writings
 pub mod Answering
 pub mod ExampleTexts
 pub mod OneText
+mod Asked
+pub mod ExampleRuns

@@ -3,3 +3,5 @@ pub mod Driving
 pub mod Answers
 pub mod Laws
 pub mod Examples
+pub mod Asking
+pub mod AskingOn

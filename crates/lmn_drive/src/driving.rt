@@ -1,5 +1,6 @@
 ghost use Rattle.std.specs.Prelude.{◌≡◌, ◌<◌, ◌≤◌, ◌-◌, ◌^◌, ℕ, List, Option, IfOk, OnOk, OnErr, MatchResult};
 ghost use Rattle.lmn_congruence.specs.Regions.{Region};
+ghost use Rattle.lmn_heap.specs.Heap.{Heap};
 ghost use Rattle.lmn_io.specs.Counts.{FailedLast, NoneFailed};
 ghost use Rattle.lmn_io.specs.Writing.{Writes, WritesText};
 ghost use Rattle.lmn_adequacy.specs.Runs.{Chooser};
@@ -9,6 +10,8 @@ ghost use Rattle.lmn_schedule.specs.Turning.{Gives};
 ghost use Rattle.lmn_folded_printer.specs.Lines.{IsHeapLine};
 ghost use Rattle.lmn_runs.specs.Runs.{end_line};
 ghost use Rattle.lmn_drive.specs.Answers.{BrokeByAnswers, DroveByAnswers, GoingByAnswers, StepsOnByAnswers, StoppedByAnswers};
+ghost use Rattle.lmn_drive.specs.Asking.{AsksFew};
+ghost use Rattle.lmn_drive.specs.AskingOn.{AskedSoFar, AsksOn};
 ghost use Rattle.lmn_drive.specs.Driving.{Broke, Concludes, CountsCommit, Drove, Going, IsRestOf, IsTracedLineOf, StepsOn, Stopped, given_by_engine, stop_end, stop_word};
 
 use itoa::Buffer;
@@ -60,7 +63,8 @@ enum Stop {
 /// with a trace the line of each process, else that of the last one, and then why it stopped and after how many commits.
 /// `plain` is that of the engine.
 ///
-/// With every answer but `Failed` all of this was written, and with `Failed` a prefix of it, and nothing more was put.
+/// With every answer but `Failed` all of this was written, and with `Failed` a prefix of it, and nothing more was put. No more rules are
+/// asked than stand, in all processes of the run together, in membranes that are awake.
 pub fn drive<S: LinkStore, F: Fn(u64, u64) -> u64, O: Sink, L: Ledger>(
     alloc: Global,
     engine: &mut Engine<'_, S, F>,
@@ -80,6 +84,7 @@ pub fn drive<S: LinkStore, F: Fn(u64, u64) -> u64, O: Sink, L: Ledger>(
     ensures answered { (solid : Region) → HoldsRegion names.now plain.now.rules (S.heap engine.old.machine.store) solid →
         DroveByAnswers (F.post engine.old.chooser.f) (λ c. given_by_engine names.now plain.now.rules engine.old.size options.now c solid)
         engine.new.commits (S.heap engine.new.machine.store) result (O.told out.old) (O.told out.new) steps.old steps.new }
+    ensures asks { AsksFew (F.post engine.old.chooser.f) plain.now.rules engine.old.codes engine.old.size (S.heap engine.old.machine.store) engine.new.commits (S.heap engine.new.machine.store) steps.old steps.new }
     ensures again { EngineCanTurn (S.heap engine.new.machine.store) plain.now.rules engine.old.codes engine.old.size }
     ensures keeps { engine.new ≡ record engine.old { machine = engine.new.machine; commits = engine.new.commits } }
     ensures same { ¬ (result ≡ RunEnd.Failed) → NoneFailed (O.faults out.old) (O.faults out.new) }
@@ -113,6 +118,7 @@ fn run<S: LinkStore, F: Fn(u64, u64) -> u64, O: Sink, L: Ledger>(
     ensures answered { (solid : Region) → HoldsRegion names.now plain.now.rules (S.heap engine.old.machine.store) solid → MatchResult result
         (λ stop. StoppedByAnswers (F.post engine.old.chooser.f) (λ c. given_by_engine names.now plain.now.rules engine.old.size options.now c solid) engine.new.commits (S.heap engine.new.machine.store) stop (O.told out.old) (O.told out.new) steps.old steps.new)
         (λ failed. BrokeByAnswers (F.post engine.old.chooser.f) (λ c. given_by_engine names.now plain.now.rules engine.old.size options.now c solid) engine.new.commits (S.heap engine.new.machine.store) (O.told out.old) (O.told out.new) steps.old steps.new) }
+    ensures asks { AsksFew (F.post engine.old.chooser.f) plain.now.rules engine.old.codes engine.old.size (S.heap engine.old.machine.store) engine.new.commits (S.heap engine.new.machine.store) steps.old steps.new }
     ensures again { EngineCanTurn (S.heap engine.new.machine.store) plain.now.rules engine.old.codes engine.old.size }
     ensures keeps { engine.new ≡ record engine.old { machine = engine.new.machine; commits = engine.new.commits } }
     ensures same { OnOk result (NoneFailed (O.faults out.old) (O.faults out.new)) }
@@ -155,6 +161,10 @@ fn step<S: LinkStore, F: Fn(u64, u64) -> u64, O: Sink, L: Ledger>(
         GoingByAnswers (F.post engine.old.chooser.f) (λ c. given_by_engine names.now plain.now.rules engine.old.size options.now c solid) engine.old.commits (S.heap engine.old.machine.store) told (O.told out.old) begun steps.old → MatchResult result
         (StepsOnByAnswers (F.post engine.old.chooser.f) (λ c. given_by_engine names.now plain.now.rules engine.old.size options.now c solid) engine.new.commits (S.heap engine.new.machine.store) told (O.told out.new) begun steps.new)
         (λ failed. BrokeByAnswers (F.post engine.old.chooser.f) (λ c. given_by_engine names.now plain.now.rules engine.old.size options.now c solid) engine.new.commits (S.heap engine.new.machine.store) told (O.told out.new) begun steps.new) }
+    ensures asks { (h0 : Heap) (begun : ℕ) →
+        AskedSoFar (F.post engine.old.chooser.f) plain.now.rules engine.old.codes engine.old.size h0 engine.old.commits (S.heap engine.old.machine.store) begun steps.old → MatchResult result
+        (AsksOn (F.post engine.old.chooser.f) plain.now.rules engine.old.codes engine.old.size h0 engine.new.commits (S.heap engine.new.machine.store) begun steps.new)
+        (λ failed. AsksFew (F.post engine.old.chooser.f) plain.now.rules engine.old.codes engine.old.size h0 engine.new.commits (S.heap engine.new.machine.store) begun steps.new) }
     ensures again { EngineCanTurn (S.heap engine.new.machine.store) plain.now.rules engine.old.codes engine.old.size }
     ensures keeps { engine.new ≡ record engine.old { machine = engine.new.machine; commits = engine.new.commits } }
     ensures counts { IfOk result (λ stop. CountsCommit stop engine.old.commits engine.new.commits) }

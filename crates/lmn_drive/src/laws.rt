@@ -1,5 +1,5 @@
 //! Laws of runs and of their texts, and examples: each the contract of an empty function.
-ghost use Rattle.lmn_drive.specs.Examples.{FoldedRunIsWritten, FullRunIsWritten};
+ghost use Rattle.lmn_drive.specs.Examples.{AwakeMayBeAsked, FoldedRunIsWritten, FullRunIsWritten, SleepersAreNotAsked};
 ghost use Rattle.lmn_drive.specs.Laws.{AnswersAreExact, TextsAreOne};
 
 /// Where the trace ends, the answer names this end, and where it goes on the answer is `NoMemory`, unless it is `Failed`.
@@ -23,4 +23,15 @@ pub fn full_run_is_written()
 #[tactic(auto, using(crate::proofs::ExampleTexts::folded_run_is_written))]
 pub fn folded_run_is_written()
     ensures { FoldedRunIsWritten }
+{}
+
+/// Without a commit as many rules may be asked as stand in the membranes that are awake.
+#[tactic(auto, using(crate::proofs::ExampleRuns::awake_may_be_asked))]
+pub fn awake_may_be_asked()
+    ensures { AwakeMayBeAsked }
+{}
+
+/// Where all membranes sleep no rule is asked without a commit.
+pub fn sleepers_are_not_asked()
+    ensures { SleepersAreNotAsked }
 {}

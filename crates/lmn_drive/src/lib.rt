@@ -5,4 +5,7 @@ mod driving;
 mod laws;
 
 pub use driving::{RunEnd, RunOptions, drive};
-pub use laws::{answers_are_exact, folded_run_is_written, full_run_is_written, texts_are_one};
+pub use laws::{
+    answers_are_exact, awake_may_be_asked, folded_run_is_written, full_run_is_written,
+    sleepers_are_not_asked, texts_are_one,
+};

@@ -2,11 +2,12 @@ ghost use Rattle.std.specs.Prelude.{◌≡◌, ◌+◌, [], length, IfOk, OnErr,
 ghost use Rattle.lmn_heap.specs.Heap.{IsMem, Unmarked};
 ghost use Rattle.lmn_heap.specs.Sound.{Valid};
 ghost use Rattle.lmn_instr.specs.Running.{HeadRegisters, Succeeds, IsFirstSuccess};
-ghost use Rattle.lmn_body.specs.Running.{Registers as BodyRegisters, RunsBody};
+ghost use Rattle.lmn_body.specs.Running.{Registers as BodyRegisters};
 ghost use Rattle.lmn_body.specs.Stopping.{SameButSpares};
 ghost use Rattle.lmn_commit.specs.Registers.{AgreesWithCopies as BodyAgrees, HasCopies, HasRests};
 ghost use Rattle.lmn_commit.specs.Preparing.{BodyInOrder, CanCopyRests, Prepared};
 ghost use Rattle.lmn_commit.specs.Matched.{IsPrepared};
+ghost use Rattle.lmn_commit.specs.Waking.{Commits};
 ghost use Rattle.lmn_registers.specs.Agreeing.{Agrees};
 ghost use Rattle.lmn_machine.specs.Searching.{AreAllSet, AreHeldWhole, HeadInOrder};
 ghost use Rattle.std.specs.Borrow.{sem};
@@ -104,11 +105,12 @@ impl<S: LinkStore> Machine<S> {
         prepare(alloc, &mut self.store, code.body.as_slice(), &mut self.set)
     }
 
-    /// Does what the body of a code does, after it was prepared: the rule is fired. It takes no memory and can't fail.
+    /// Does what the body of a code does, after it was prepared: the rule is fired. What the code rouses is awake then, with all
+    /// that is round it, and each other membrane keeps its mark. It takes no memory and can't fail.
     pub fn commit(&mut self, code: &Code)
         requires { IsPrepared S.atom_id S.mem_id (S.heap self.old.store) self.old.set code.now.body }
         ensures fires { (p : IsPrepared S.atom_id S.mem_id (S.heap self.old.store) self.old.set code.now.body) (r : BodyRegisters) → BodyAgrees S.atom_id S.mem_id self.old.set r → HasCopies r p.prepared.copied → HasRests S.atom_id S.mem_id p.before p.matched_by r →
-            RunsBody r code.now.body p.before (S.heap self.new.store) }
+            Commits p.before r code.now.body (S.heap self.new.store) }
         ensures valid { Valid (S.heap self.new.store) }
         ensures unmarked { Unmarked (S.heap self.new.store) }
         ensures registers { self.new.set ≡ self.old.set }

@@ -172,7 +172,37 @@ const DEFAULTS: [Default; 16] = [
 
 const TWO_MEMBRANES: &[u8] = b"{a. a :- b.}. {c. c :- d.}.";
 
-const OPTIONS: [Row; 8] = [
+const OPTIONS: [Row; 10] = [
+    // A membrane that sleeps isn't woken by what fires beside it,
+    Row {
+        text: b"{x. y :- z.}. a. a :- a.",
+        asked: Asked::Listed(&[1, 1, 1, 1, 1]),
+        trace: false,
+        budget: 5,
+        size: SIZE,
+        ran: Ran {
+            loaded: 5,
+            commits: 5,
+            left: 5,
+            end: RunEnd::Budget,
+        },
+        lines: b"a. {x, (y :- z)}. (a :- a).\n% budget after 5\n",
+    },
+    // and is by what joins a link in it otherwise.
+    Row {
+        text: b"{d(X). e(Y). d(Z), e(Z) :- f.}, a(X), b(Y). a(X), b(Y) :- X=Y.",
+        asked: Asked::Listed(&[1, 1, 1]),
+        trace: false,
+        budget: BUDGET,
+        size: SIZE,
+        ran: Ran {
+            loaded: 7,
+            commits: 2,
+            left: 4,
+            end: RunEnd::Irreducible,
+        },
+        lines: b"{f, (d(L0), e(L0) :- f)}. (a(L0), b(L1) :- L0 = L1).\n% irreducible after 2\n",
+    },
     Row {
         text: b"a. a :- a.",
         asked: Asked::By(Order::First),

@@ -1,6 +1,7 @@
 mod Named
 pub mod Loaded
-mod Turned
+pub mod Turned
 pub mod Counted
 mod Holding
+pub mod AllWake
 pub mod Common

@@ -1,5 +1,5 @@
 -- What an engine holds when it is loaded.
-use Rattle.std.proofs.Common.{ℕ, ◌≡◌, ◌<◌, ◌-◌, ◌^◌, List, map, length, slice_get, Some, refl, sym, ap, subst, ◌∙◌}
+use Rattle.std.proofs.Common.{ℕ, ◌≡◌, ◌<◌, ◌-◌, ◌^◌, List, map, length, slice_get, Some, refl, sym, ap, subst, ◌∙◌, arith}
 use Rattle.std.proofs.lemmas.List.Elements.{All-weaker}
 use Rattle.lmn_base.specs.declared.rule.Plain.{Plain}
 use Rattle.lmn_base.specs.declared.rule.RuleTree.{RuleTree}
@@ -22,6 +22,7 @@ use Rattle.lmn_loading.specs.Loaded.{IsLoaded}
 use Rattle.lmn_loading.specs.Laws.{LoadedRules, LoadingSettles}
 use Rattle.lmn_turn.specs.Commits.{PlainsAreTables}
 use Rattle.lmn_compile.specs.Compiled.{AreWhole, AreCompiled}
+use Rattle.lmn_strategy.specs.Quieting.{AllAwake}
 use Rattle.lmn_schedule.specs.Held.{AreNames, EngineCanTurn, HoldsSolid, reading_by}
 use Rattle.lmn_schedule.proofs.Named.{loaded_named}
 use Rattle.lmn_base.proofs.Lists.{get_there as get_some, all_of_right}
@@ -30,14 +31,15 @@ use Rattle.lmn_adequacy.proofs.PlainSolids.{printed}
 use Rattle.lmn_congruence.specs.Regions as solid
 
 -- an engine over a store that is loaded can turn
-pub can_run : LoadedRules → (p : Plain) (plans : List GuardPlan) (codes : List Code) (h : Heap) (size : ℕ) → IsWellMade p → AreWhole p.rules plans → IsLoaded p h → AreCompiled p.rules plans codes → size < 2 ^ 64 - 1 →
+pub can_run : LoadedRules → (p : Plain) (plans : List GuardPlan) (codes : List Code) (h : Heap) (size : ℕ) → IsWellMade p → AreWhole p.rules plans → IsLoaded p h → AreCompiled p.rules plans codes → size < 2 ^ 64 - 1 → AllAwake h →
     EngineCanTurn h p.rules codes size
-can_run law p plans codes h size well whole l compiled small = record {
+can_run law p plans codes h size well whole l compiled small awake = record {
   turn = record {
     valid = l.valid;
     unmarked = l.unmarked;
     of_table = λ m n i. subst (λ k. n < k) (sym compiled.many) (law p h well l m n i);
   };
+  sleeps = record { low = λ m. (let z = awake m in omega (arith, z)); none = λ m e. absurd (let z = awake m in omega (arith, z, e)) };
   plans = plans;
   whole = whole;
   compiled = compiled;

@@ -6,7 +6,7 @@ use Rattle.lmn_congruence.specs.Rules.{Name}
 use Rattle.lmn_heap.specs.Heap.{Heap}
 use Rattle.lmn_heap.specs.Sound.{Forest, IsTree, flat}
 use Rattle.lmn_instr.specs.declared.instr.Code.{Code}
-use Rattle.lmn_strategy.specs.Counting.{CountsAsked, CountsUpTo, rule_count}
+use Rattle.lmn_strategy.specs.Counting.{CountsAsked, RisesWithin, rule_count}
 use Rattle.lmn_adequacy.specs.Choice.{asked_paths}
 use Rattle.lmn_choice.specs.Counting.{AsksRulesOf}
 use Rattle.lmn_schedule.specs.Held.{EngineCanTurn, HoldsRegion}
@@ -25,12 +25,11 @@ abbrev pub RulesAreCounted : Type 0
 RulesAreCounted = (names : List Name) (table : List RuleTree) (h : Heap) (S : Region) → HoldsRegion names table h S →
     (f : Forest) × IsTree h f × (rule_count h (flat f) ≡ rule_count_of_region S)
 
--- A count of attempts rises by the rules that are asked of a solid at most, where its membranes are asked from a number on; and where one is
--- asked, by one at least.
+-- A count of attempts rises by the rules that are asked of a solid at most, where its membranes are asked from a number on.
 pub record CountsAskedOf (S : Region) (from old new : ℕ) : Type 0 where
   pub rules : ℕ
   pub asks : AsksRulesOf S (asked_paths from S) rules
-  pub counts : CountsUpTo rules old new
+  pub counts : RisesWithin rules old new
 
 -- What is counted on a heap that an engine can turn is counted of the solid that it holds.
 abbrev pub CountsAreAlike : Type 0

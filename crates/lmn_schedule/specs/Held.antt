@@ -23,12 +23,14 @@ use Rattle.lmn_bridge.specs.HeapRegions.{HeapReading, region_at}
 use Rattle.lmn_bridge.specs.Premises.{IsRead, IsRule, HasRules}
 use Rattle.lmn_turn.specs.Commits.{IsTable}
 use Rattle.lmn_strategy.specs.Choosing.{CanTurn}
+use Rattle.lmn_strategy.specs.Quieting.{SleepsRightly}
 use Rattle.lmn_compile.specs.Compiled.{AreWhole, AreCompiled}
 
--- What a turn asks: of the heap; that the codes are those of the table, of whose rules each stands in bodies with rules of the
--- table alone; and that no number of items is beyond the size for want of bits.
+-- What a turn asks: of the heap; that no membrane sleeps in which the code of a rule succeeds; that the codes are those of the table, of
+-- whose rules each stands in bodies with rules of the table alone; and that no number of items is beyond the size for want of bits.
 pub record EngineCanTurn (h : Heap) (table : List RuleTree) (codes : List Code) (size : ℕ) : Type 0 where
   pub turn : CanTurn h (length codes)
+  pub sleeps : SleepsRightly h codes
   pub plans : List GuardPlan
   pub whole : AreWhole table plans
   pub compiled : AreCompiled table plans codes

@@ -1,4 +1,4 @@
-ghost use Rattle.std.specs.Prelude.{[], ◌≡◌, ◌<◌, ◌≤◌, ◌+◌, ◌-◌, ◌^◌, List, IfOk, IfErr, OnOk, IsTrue, IsFalse};
+ghost use Rattle.std.specs.Prelude.{[], ◌≡◌, ◌<◌, ◌≤◌, ◌+◌, ◌-◌, ◌^◌, List, length, IfOk, IfErr, OnOk, IsTrue, IsFalse};
 ghost use Rattle.std.specs.Borrow.{sem};
 ghost use mir.Syntax.{named};
 ghost use Rattle.lmn_base.specs.declared.solid.Solid.{Solid};
@@ -7,6 +7,7 @@ ghost use Rattle.lmn_congruence.specs.Rules.{Name};
 ghost use Rattle.lmn_congruence.specs.SolidsOfPlains.{IsSolidOf};
 ghost use Rattle.lmn_heap.specs.Sound.{Forest, IsTree, AllInPlace, flat, item_count_in};
 ghost use Rattle.lmn_loading.specs.Loaded.{IsEmpty, IsLoaded, LoadCauses};
+ghost use Rattle.lmn_strategy.specs.Quieting.{AllAwake};
 ghost use Rattle.lmn_schedule.specs.Held.{AreNames, CanBeLoaded, EngineCanTurn, HoldsRegion, HoldsSolid};
 ghost use Rattle.lmn_schedule.specs.Turning.{Gives, IsDone, IsTurned, IsTurnedByAnswer, KeepsHeap, counted};
 ghost use Rattle.lmn_strategy.specs.Counting.{CountsAsked};
@@ -16,11 +17,12 @@ ghost use Rattle.lmn_order.specs.Answers.{AnswersBelow};
 ghost use Rattle.lmn_congruence.specs.Regions.{Region};
 ghost use Rattle.lmn_schedule.specs.Lending.{engine_lends_store};
 
+use crate::rousing::rouse_all;
 use lmn_base::{NoMemory, Plain, Rows};
 use lmn_bridge::solids_are_regions;
 use lmn_choice::{
-    membranes_are_numbered_alike, nothing_embeds, spares_are_not_read, turns_are_alike,
-    turns_are_of_chooser,
+    marks_are_not_read, membranes_are_numbered_alike, nothing_embeds, spares_are_not_read,
+    turns_are_alike, turns_are_of_chooser,
 };
 use lmn_compile::compiled;
 use lmn_guards::GuardPlan;
@@ -29,7 +31,7 @@ use lmn_loading::{LoadFault, load, loading_settles};
 use lmn_machine::{Machine, Steps};
 use lmn_order::Chooser;
 use lmn_store::LinkStore;
-use lmn_strategy::{Turn, membranes, search, tables_are_runnable, take_turn};
+use lmn_strategy::{Turn, membranes, search, tables_are_quiet, tables_are_runnable, take_turn};
 use lmn_turn::plains_are_tables;
 use std::alloc::Global;
 use std::sync::ledger::Ledger;
@@ -48,7 +50,7 @@ pub struct Engine<'p, S: LinkStore, F> {
 
 impl<'p, S: LinkStore + Drop, F: Fn(u64, u64) -> u64 + Drop> Engine<'p, S, F> {
     /// Loads the process of an accepted plain into a new store, where at most `size` items are allowed. `plans` has the plan of
-    /// each rule, by its number. The chooser says which membrane is asked first in each turn.
+    /// each rule, by its number. The chooser says which membrane is asked first in each turn. Every membrane is awake.
     ///
     /// # Errors
     ///
@@ -66,6 +68,7 @@ impl<'p, S: LinkStore + Drop, F: Fn(u64, u64) -> u64 + Drop> Engine<'p, S, F> {
         requires size { size < 2 ^ 64 - 1 }
         ensures holds { IfOk result (λ e. (names : List Name) → AreNames names plain.now → HoldsSolid names plain.now (S.heap e.machine.store)) }
         ensures run { IfOk result (λ e. EngineCanTurn (S.heap e.machine.store) plain.now.rules e.codes e.size) }
+        ensures awake { IfOk result (λ e. AllAwake (S.heap e.machine.store)) }
         ensures keeps { IfOk result (λ e. (e.plain.now ≡ plain.now) × (e.chooser ≡ chooser) × (e.size ≡ size) × (e.commits ≡ 0)) }
         ensures fits { OnOk result ((s : Solid) → IsSolidOf plain.now s → item_count s ≤ size) }
         ensures fault { IfErr result (λ fault. LoadCauses plain.now size fault) }
@@ -75,6 +78,7 @@ impl<'p, S: LinkStore + Drop, F: Fn(u64, u64) -> u64 + Drop> Engine<'p, S, F> {
         solids_are_regions();
         let mut store = store;
         load(alloc, plain, &mut store, size)?;
+        rouse_all(&mut store);
         match Engine::over(alloc, plain, plans, store, chooser, size) {
             Ok(engine) => Ok(engine),
             Err(NoMemory) => Err(LoadFault::NoMemory),
@@ -92,6 +96,7 @@ impl<'p, S: LinkStore + Drop, F: Fn(u64, u64) -> u64 + Drop> Engine<'p, S, F> {
     ) -> Result<Engine<'p, S, F>, NoMemory>
         requires plain { CanBeLoaded plain.now plans.now }
         requires store { IsLoaded plain.now (S.heap store) }
+        requires awake { AllAwake (S.heap store) }
         requires size { size < 2 ^ 64 - 1 }
         ensures store { IfOk result (λ e. e.machine.store ≡ store) }
         ensures run { IfOk result (λ e. EngineCanTurn (S.heap e.machine.store) plain.now.rules e.codes e.size) }
@@ -111,7 +116,9 @@ impl<'p, S: LinkStore + Drop, F: Fn(u64, u64) -> u64 + Drop> Engine<'p, S, F> {
 
 impl<'p, S: LinkStore, F: Fn(u64, u64) -> u64> Engine<'p, S, F> {
     /// One turn: the rule that the strategy chooses fires, at its least match, unless more items would be left than are allowed.
-    /// With another answer than `Committed` the solid is as it was. The steps rise by the rules of the membranes asked at most.
+    /// With another answer than `Committed` the solid is as it was. Membranes that sleep aren't asked, and one that is asked in vain falls
+    /// asleep, until something in it or below it is made, removed, moved or joined otherwise. The steps rise by the rules of the awake
+    /// membranes asked at most.
     pub fn turn<L: Ledger>(&mut self, alloc: Global, steps: &mut Steps<L>) -> Turn
         requires run { EngineCanTurn (S.heap self.old.machine.store) self.old.plain.now.rules self.old.codes self.old.size }
         requires chooser { AnswersBelow F.pre F.post self.old.chooser.f }
@@ -124,10 +131,12 @@ impl<'p, S: LinkStore, F: Fn(u64, u64) -> u64> Engine<'p, S, F> {
         ensures keeps { self.new ≡ record self.old { machine = self.new.machine; commits = self.old.commits + counted result } }
     {
         tables_are_runnable();
+        tables_are_quiet();
         membranes_are_numbered_alike();
         turns_are_alike();
         turns_are_of_chooser();
         spares_are_not_read();
+        marks_are_not_read();
         let many = membranes(self.machine.store());
         let from = self.chooser.pick(self.commits, many);
         let answer = take_turn(
@@ -137,6 +146,7 @@ impl<'p, S: LinkStore, F: Fn(u64, u64) -> u64> Engine<'p, S, F> {
             from,
             many,
             self.size,
+            true,
             steps,
         );
         if answer == Turn::Committed {
@@ -145,8 +155,8 @@ impl<'p, S: LinkStore, F: Fn(u64, u64) -> u64> Engine<'p, S, F> {
         answer
     }
 
-    /// Whether some rule of some membrane has a match. It takes no memory and changes nothing. The steps rise by the rules of the
-    /// membranes asked at most, the root first.
+    /// Whether some rule of some membrane has a match. Membranes that sleep aren't asked. It takes no memory and changes nothing. The steps
+    /// rise by the rules of the awake membranes asked at most, the root first.
     pub fn reducible<L: Ledger>(&mut self, steps: &mut Steps<L>) -> bool
         requires run { EngineCanTurn (S.heap self.old.machine.store) self.old.plain.now.rules self.old.codes self.old.size }
         ensures yes { IsTrue result → (names : List Name) (solid : Region) → HoldsRegion names self.old.plain.now.rules (S.heap self.old.machine.store) solid → HasEmbedding solid }
@@ -159,7 +169,14 @@ impl<'p, S: LinkStore, F: Fn(u64, u64) -> u64> Engine<'p, S, F> {
         nothing_embeds();
         turns_are_alike();
         let many = membranes(self.machine.store());
-        match search(&mut self.machine, self.codes.as_slice(), 0, many, steps) {
+        match search(
+            &mut self.machine,
+            self.codes.as_slice(),
+            0,
+            many,
+            false,
+            steps,
+        ) {
             Some(_) => true,
             None => false,
         }

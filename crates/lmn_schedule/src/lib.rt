@@ -3,8 +3,10 @@
 
 mod engine;
 mod laws;
+mod rousing;
 
 pub use engine::Engine;
 pub use laws::{counts_are_alike, heaps_hold_solids, rules_are_counted};
 pub use lmn_loading::LoadFault;
 pub use lmn_strategy::Turn;
+pub use rousing::rouse_all;

@@ -1,7 +1,7 @@
 -- What is known while rules are asked, and membranes.
-use Rattle.std.proofs.Common.{ℕ, zero, suc, ◌≡◌, ◌<◌, ◌≤◌, ◌+◌, ◌-◌, List, [], ◌∷◌, ◌++◌, length, Option, Some, None, inl, inr, refl, sym, ap, subst, ◌∙◌, arith}
-use Rattle.std.specs.Prelude.{slice_get, take, drop, slice_index_or, MatchOption}
-use Rattle.std.proofs.lemmas.List.{append_assoc, length-drop}
+use Rattle.std.proofs.Common.{ℕ, suc, ◌≡◌, ◌<◌, ◌≤◌, ◌+◌, ◌-◌, List, [], ◌∷◌, ◌++◌, length, Some, None, inl, inr, refl, sym, ap, subst, ◌∙◌, arith}
+use Rattle.std.specs.Prelude.{slice_get, take, drop, slice_index_or}
+use Rattle.std.proofs.lemmas.List.{length-drop}
 use Rattle.std.proofs.lemmas.Option.{slice_get_within, slice_get-get_or}
 use Rattle.lmn_heap.specs.Heap.{Heap, rules_in}
 use Rattle.lmn_heap.specs.Sound.{Forest, IsTree, flat}
@@ -9,8 +9,8 @@ use Rattle.lmn_instr.specs.declared.instr.Code.{Code}
 use Rattle.lmn_instr.specs.Running.{HeadRegisters, Succeeds}
 use Rattle.lmn_machine.proofs.Besides.{known, known_agrees}
 use Rattle.lmn_registers.specs.declared.registers.SetRegisters.{SetRegisters}
-use Rattle.lmn_strategy.specs.Choosing.{CodeSucceeds, NoneOf, NoneIn, IsFirstRule, IsFirstIn, HasFound, asked}
-use Rattle.lmn_strategy.proofs.Numbers.{get_drop, take_one_more, take_farther, take_no_more, take_whole, root_number}
+use Rattle.lmn_strategy.specs.Choosing.{CodeSucceeds, NoneOf, NoneIn, HasFound}
+use Rattle.lmn_strategy.proofs.Numbers.{get_drop, take_one_more, take_no_more, take_whole, root_number}
 use Rattle.lmn_base.specs.Lists.{In}
 use Rattle.lmn_base.proofs.Lists.{in_either}
 
@@ -58,47 +58,6 @@ module _ (h : Heap) (codes : List Code) where
   -- where the list ends
   pub none_in_end : (xs : List ℕ) (i a b : ℕ) → a ≤ b → slice_get xs (i + a) ≡ None → NoneIn h codes (take a (drop i xs)) → NoneIn h codes (take b (drop i xs))
   none_in_end xs i a b l e none = subst (NoneIn h codes) (sym (take_no_more (drop i xs) a b l (get_drop xs i a ∙ e))) none
-
-  -- the first membrane of which a rule succeeds
-  pub first_in : (xs : List ℕ) (i a b m place n : ℕ) → a < b → slice_get xs (i + a) ≡ Some m → NoneIn h codes (take a (drop i xs)) → IsFirstRule h codes m place n → IsFirstIn h codes (take b (drop i xs)) m place n
-  first_in xs i a b m place n l e none first =
-      let r = take_farther (drop i xs) a b m l (get_drop xs i a ∙ e) in
-      record { earlier = take a (drop i xs); later = r.0; order = r.1; none = none; rule = first }
-
-  -- the first of some is the first of them and others
-  pub first_before : (ms ns : List ℕ) (m place n : ℕ) → IsFirstIn h codes ms m place n → IsFirstIn h codes (ms ++ ns) m place n
-  first_before ms ns m place n f = record {
-    earlier = f.earlier;
-    later = f.later ++ ns;
-    order = ap (λ z. z ++ ns) f.order ∙ append_assoc f.earlier (m ∷ f.later) ns;
-    none = f.none;
-    rule = f.rule;
-  }
-
-  pub first_behind : (ms ns : List ℕ) (m place n : ℕ) → NoneIn h codes ms → IsFirstIn h codes ns m place n → IsFirstIn h codes (ms ++ ns) m place n
-  first_behind ms ns m place n none f = record {
-    earlier = ms ++ f.earlier;
-    later = f.later;
-    order = ap (λ z. ms ++ z) f.order ∙ sym (append_assoc ms f.earlier (m ∷ f.later));
-    none = none_in_both ms f.earlier none f.none;
-    rule = f.rule;
-  }
-
-  -- all membranes are asked
-  pub all_asked : (xs : List ℕ) (i : ℕ) → NoneIn h codes (drop i xs) → NoneIn h codes (take i xs) → NoneIn h codes xs
-  all_asked xs i a b = subst (NoneIn h codes) (take_and_drop xs i) (none_in_both (take i xs) (drop i xs) b a)
-    where
-      take_and_drop : (xs : List ℕ) (i : ℕ) → take i xs ++ drop i xs ≡ xs
-      take_and_drop xs zero = refl
-      take_and_drop [] (suc i) = refl
-      take_and_drop (x ∷ xs) (suc i) = ap (λ z. x ∷ z) (take_and_drop xs i)
-
-  -- None of those from a number on has a rule that succeeds, and the others are asked.
-  pub asked_behind : {C : Type 0} (m place n : C → ℕ) (f : Forest) (from : ℕ) (r : Option C) → NoneIn h codes (drop from (flat f)) →
-      MatchOption r (NoneIn h codes (take from (flat f))) (λ c. IsFirstIn h codes (take from (flat f)) (m c) (place c) (n c)) →
-      MatchOption r (NoneIn h codes (flat f)) (λ c. IsFirstIn h codes (asked from f) (m c) (place c) (n c))
-  asked_behind m place n f from None none rest = all_asked (flat f) from none rest
-  asked_behind m place n f from (Some c) none rest = first_behind (drop from (flat f)) (take from (flat f)) (m c) (place c) (n c) none rest
 
 -- from a number on, all
 pub take_rest : (xs : List ℕ) (i many : ℕ) → many ≡ length xs → take (many - i) (drop i xs) ≡ drop i xs

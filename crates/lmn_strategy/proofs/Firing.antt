@@ -9,7 +9,7 @@ use Rattle.lmn_heap.specs.Heap.{Heap, HeapMem, IsMem, rules_by, rules_in, port_i
 use Rattle.lmn_heap.specs.Sound.{Forest, Valid}
 use Rattle.lmn_instr.specs.declared.instr.Code.{Code}
 use Rattle.lmn_instr.specs.Running.{HeadRegisters, IsFirstSuccess, atoms_set, membranes_set}
-use Rattle.lmn_body.specs.Running.{Registers, RunsBody}
+use Rattle.lmn_body.specs.Running.{Registers}
 use Rattle.lmn_body.specs.Stopping.{SameButSpares}
 use Rattle.lmn_registers.specs.Agreeing.{Agrees}
 use Rattle.lmn_registers.specs.declared.registers.SetRegisters.{SetRegisters}
@@ -17,13 +17,15 @@ use Rattle.lmn_commit.specs.Matched.{IsPrepared}
 use Rattle.lmn_commit.specs.Preparing.{BodyInOrder, Prepared}
 use Rattle.lmn_commit.specs.Registers.{HasCopies, HasRests, AreSized, Grows}
 use Rattle.lmn_commit.specs.Registers as body
+use Rattle.lmn_commit.specs.Waking.{Commits}
+use Rattle.lmn_sleep.proofs.Marks.{read_alike}
 use Rattle.lmn_machine.specs.Costs.{IsTold, Leaves}
 use Rattle.lmn_machine.specs.Searching.{AreAllSet, parts_set, integers_set}
 use Rattle.lmn_machine.proofs.Besides.{known, known_agrees}
 use Rattle.lmn_strategy.specs.declared.turning.Turn.{Turn}
 use Rattle.lmn_strategy.specs.declared.turning.Turn.TheVariants.{Committed, Irreducible, Full, NoMemory}
 use Rattle.lmn_strategy.specs.Choosing.{CanTurn, IsFirstIn, IsFirstRule, HasFound, asked}
-use Rattle.lmn_strategy.specs.Turns.{AreRunnable, IsAnswer, Chooses, IsTurn, CanFire, AnswersMatch, Loads}
+use Rattle.lmn_strategy.specs.Turns.{AreRunnable, IsAnswer, Chooses, CanFire, AnswersMatch, Loads}
 use Rattle.lmn_strategy.proofs.KeptRules.{AllRules, rules_kept}
 use Rattle.lmn_strategy.proofs.RestsHeld.{holds_by_code, rest_by_code, rests_held}
 use Rattle.lmn_base.proofs.Lists.{value_or, get_there as there}
@@ -73,14 +75,15 @@ agrees_before atom membrane g k grows s a = record {
 -- ---- a head is matched
 
 -- a membrane in which a rule stands is there
-ruled_mem : (h : Heap) (m i n : ℕ) → slice_get (rules_in h m) i ≡ Some n → IsMem h m
+pub ruled_mem : (h : Heap) (m i n : ℕ) → slice_get (rules_in h m) i ≡ Some n → IsMem h m
 ruled_mem h m i n e = by (h.mems m) e
   where
     by : (o : Option HeapMem) → slice_get (rules_by o) i ≡ Some n → IsSome o
     by None e = absurd (cc)
     by (Some y) e = refl
 
-one_code : (codes : List Code) (n : ℕ) (a b : Code) → slice_get codes n ≡ Some a → slice_get codes n ≡ Some b → a ≡ b
+-- a number has one code
+pub one_code : (codes : List Code) (n : ℕ) (a b : Code) → slice_get codes n ≡ Some a → slice_get codes n ≡ Some b → a ≡ b
 one_code codes n a b e f = let u : Some a ≡ Some b = sym e ∙ f in cc
 
 -- what a search has found can fire
@@ -101,6 +104,7 @@ can_fire atom membrane h codes run rules can m place n g first found code is =
       matched = record {
         valid = can.valid;
         unmarked = can.unmarked;
+        own = (let l = set.membranes in omega (arith, l));
         commits = λ s a rests. r.commits h m s can.valid placed (is_first s.head (agrees s a)) (holds_by_code atom membrane h g code.head set s (agrees s a) rests);
       };
       rests = λ at k x e.
@@ -168,7 +172,7 @@ module _ {A M : Type 0} (atom : A → ℕ) (membrane : M → ℕ) (h : Heap) (g 
 
   -- it is committed
   pub fires_all : (t h' : Heap) (k : SetRegisters A M) (p : Prepared atom membrane h t g k code.body) → size < 2 ^ 64 - 1 → cost ≤ size →
-      ((q : IsPrepared atom membrane t k code.body) (r : Registers) → body.AgreesWithCopies atom membrane k r → HasCopies r q.prepared.copied → HasRests atom membrane q.before q.matched_by r → RunsBody r code.body q.before h') → AnswersMatch atom membrane h g code size Committed h'
+      ((q : IsPrepared atom membrane t k code.body) (r : Registers) → body.AgreesWithCopies atom membrane k r → HasCopies r q.prepared.copied → HasRests atom membrane q.before q.matched_by r → Commits q.before r code.body h') → AnswersMatch atom membrane h g code size Committed h'
   fires_all t h' k p small l runs =
       let s = body_known atom membrane k p.copied lists in
       let a = agrees_before atom membrane g k p.grows s.head (known_agrees atom membrane k) in
@@ -190,7 +194,8 @@ prepared_as atom membrane h h1 t g g1 k code e d p = subst (λ x. Prepared atom 
 -- ---- the turn
 
 module _ {A M : Type 0} (atom : A → ℕ) (membrane : M → ℕ) (h : Heap) (codes : List Code) (m place n size : ℕ) (g : SetRegisters A M) (found : HasFound atom membrane h codes m n g) (code : Code) (is : slice_get codes n ≡ Some code) where
-  chooses : (f : Forest) (from : ℕ) → IsFirstIn h codes (asked from f) m place n → (answer : Turn) (h' : Heap) → AnswersMatch atom membrane h g code size answer h' → Chooses h codes (asked from f) size answer h'
+  -- what fires is the answer to a rule that is chosen
+  abbrev pub chooses : (f : Forest) (from : ℕ) → IsFirstIn h codes (asked from f) m place n → (answer : Turn) (h' : Heap) → AnswersMatch atom membrane h g code size answer h' → Chooses h codes (asked from f) size answer h'
   chooses f from first answer h' fires = record {
     membrane = m;
     place = place;
@@ -206,20 +211,16 @@ module _ {A M : Type 0} (atom : A → ℕ) (membrane : M → ℕ) (h : Heap) (co
     answered = fires.answered;
   }
 
-  -- what fires is a turn
-  pub turned : (f : Forest) (from : ℕ) → IsFirstIn h codes (asked from f) m place n → (answer : Turn) (h' : Heap) → AnswersMatch atom membrane h g code size answer h' → IsTurn h codes f from size answer h'
-  turned f from first Committed h' fires = chooses f from first Committed h' fires
-  turned f from first Irreducible h' fires = absurd fires.answered
-  turned f from first Full h' fires = chooses f from first Full h' fires
-  turned f from first NoMemory h' fires = chooses f from first NoMemory h' fires
-
   same_rules : (k : ℕ) (o u : Option HeapMem) → u ≡ option_map (mem_with_spare k) o → (j : ℕ) → In j (rules_by u) → In j (rules_by o)
   same_rules k None u e j i = absurd (subst (λ z. In j (rules_by z)) e i)
   same_rules k (Some y) u e j i = subst (λ z. In j (rules_by z)) e i
 
   -- the rules in membranes are of the table again
   rules_again : (P : ℕ → Type 0) (s : Registers) (left : ℕ) (answer : Turn) (h' : Heap) → AllByRecursion (Loads P) code.body → IsAnswer h s code.body left size answer h' → AllRules P h.mems → AllRules P h'.mems
-  rules_again P s left Committed h' loads answered all = rules_kept P s code.body h h' loads answered.1 all
+  rules_again P s left Committed h' loads answered all =
+      let c = answered.1 in
+      let kept = rules_kept P s code.body h c.after loads (c.prepared, c.prepares, c.does) all in
+      λ x k i. kept x k (subst (In k) ((read_alike c.after h' c.alike).rules x) i)
   rules_again P s left Irreducible h' loads answered all = absurd answered
   rules_again P s left Full h' loads answered all = subst (λ (z : Heap). AllRules P z.mems) (sym answered.1) all
   rules_again P s left NoMemory h' loads answered all = λ x k i. let w = answered.1.mems x in all x k (same_rules w.0 (h.mems x) (h'.mems x) w.1 k i)

@@ -12,3 +12,8 @@ pub mod RestsFound
 pub mod RestsHeld
 pub mod Runnable
 pub mod Firing
+pub mod Lulling
+pub mod Awake
+pub mod QuietCodes
+pub mod Rightly
+pub mod SmallMarks

@@ -30,14 +30,15 @@ use Rattle.lmn_strategy.proofs.BodyInstructions.{Copies, code_copies, code_loads
 use Rattle.lmn_strategy.proofs.RestsFound.{closed_of_rule, rests_of_rule}
 
 -- a code is that of a rule of its table, with its plan
-record HasRule (codes : List Code) (t : IsTableCode codes) (n : ℕ) (code : Code) : Type 0 where
-  rule : RuleTree
-  plan : GuardPlan
-  stands : slice_get t.table n ≡ Some rule
-  whole : IsCompilable t.table rule plan
-  compiled : IsCompiled rule plan code
+pub record HasRule (codes : List Code) (t : IsTableCode codes) (n : ℕ) (code : Code) : Type 0 where
+  pub rule : RuleTree
+  pub plan : GuardPlan
+  pub stands : slice_get t.table n ≡ Some rule
+  pub whole : IsCompilable t.table rule plan
+  pub compiled : IsCompiled rule plan code
 
-has_rule : (codes : List Code) (t : IsTableCode codes) (n : ℕ) (code : Code) → slice_get codes n ≡ Some code → HasRule codes t n code
+-- the code of a table is that of a rule
+pub has_rule : (codes : List Code) (t : IsTableCode codes) (n : ℕ) (code : Code) → slice_get codes n ≡ Some code → HasRule codes t n code
 has_rule codes t n code e =
     let l = slice_get_within codes n code e in
     let rule = there t.table n (let m = t.compiled.many in omega (arith, l, m)) in

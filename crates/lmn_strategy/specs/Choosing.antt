@@ -1,6 +1,7 @@
 -- Which rule the strategy chooses on a heap, by the code of the rules.
-use Rattle.std.specs.Prelude.{ℕ, ◌≡◌, ◌<◌, List, ◌∷◌, ◌++◌, [], Some, slice_get, take, drop}
-use Rattle.lmn_heap.specs.Heap.{Heap, rules_in, Unmarked}
+use Rattle.std.specs.Prelude.{ℕ, ◌≡◌, ◌<◌, Bool, true, false, List, ◌∷◌, ◌++◌, [], Some, slice_get, take, drop}
+use Rattle.lmn_heap.specs.Heap.{Heap, rules_in, mem_mark_of, mem_marked, Unmarked}
+use Rattle.lmn_sleep.specs.Quiet.{SameButMarks}
 use Rattle.lmn_heap.specs.Sound.{Forest, Valid, flat}
 use Rattle.lmn_instr.specs.declared.instr.Code.{Code}
 use Rattle.lmn_instr.specs.Running.{HeadRegisters, Succeeds, IsFirstSuccess}
@@ -60,3 +61,19 @@ pub record HasFound {A M : Type 0} (atom : A → ℕ) (membrane : M → ℕ) (h 
   pub set : AreAllSet g code.head
   pub copies : g.copies ≡ []
   pub first : (r : HeadRegisters) → Agrees atom membrane g r → IsFirstSuccess h code.head m r
+
+-- From h to k these membranes fall asleep, or sleep on. All else is as it was.
+pub record FallAsleep (h k : Heap) (ms : List ℕ) : Type 0 where
+  pub alike : SameButMarks h k
+  pub asleep : (m : ℕ) → In m ms → mem_mark_of k m ≡ 1
+  pub others : (m : ℕ) → (In m ms → ⊥) → mem_mark_of k m ≡ mem_mark_of h m
+
+-- they do so if they may
+abbrev pub Lulls : Bool → Heap → Heap → List ℕ → Type 0
+Lulls true h k ms = FallAsleep h k ms
+Lulls false h k ms = k ≡ h
+
+-- one membrane falls asleep if it may
+abbrev pub Lulled : Bool → Heap → Heap → ℕ → Type 0
+Lulled true h k m = k ≡ mem_marked h m 1
+Lulled false h k m = k ≡ h

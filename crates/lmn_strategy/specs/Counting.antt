@@ -1,6 +1,6 @@
 -- How far a search counts its attempts.
-use Rattle.std.specs.Prelude.{ℕ, ◌<◌, ◌≤◌, ◌+◌, List, [], ◌∷◌, length}
-use Rattle.lmn_heap.specs.Heap.{Heap, rules_in}
+use Rattle.std.specs.Prelude.{ℕ, ◌<◌, ◌≤◌, ◌+◌, ◌==◌, if◌then◌else◌, List, [], ◌∷◌, length}
+use Rattle.lmn_heap.specs.Heap.{Heap, mem_mark_of, rules_in}
 use Rattle.lmn_heap.specs.Sound.{Forest, IsTree}
 use Rattle.lmn_instr.specs.declared.instr.Code.{Code}
 use Rattle.lmn_strategy.specs.Choosing.{IsFirstRule, NoneOf, asked}
@@ -34,6 +34,11 @@ pub record CountsAmong (h : Heap) (codes : List Code) (ms : List ℕ) (old new :
   pub asks : AsksRules h codes ms rules
   pub counts : CountsUpTo rules old new
 
--- So it does where all membranes of a heap are asked, from the one with a number in preorder on.
+-- those of these membranes that are awake
+abbrev pub awake_of : Heap → List ℕ → List ℕ
+awake_of h [] = []
+awake_of h (m ∷ ms) = if mem_mark_of h m == 0 then m ∷ awake_of h ms else awake_of h ms
+
+-- So it does where all membranes of a heap that are awake are asked, from the one with a number in preorder on.
 abbrev pub CountsAsked : Heap → List Code → ℕ → ℕ → ℕ → Type 0
-CountsAsked h codes from old new = (f : Forest) → IsTree h f → CountsAmong h codes (asked from f) old new
+CountsAsked h codes from old new = (f : Forest) → IsTree h f → CountsAmong h codes (awake_of h (asked from f)) old new

@@ -1,3 +1,5 @@
 pub mod Choosing
 pub mod Counting
 pub mod Turns
+pub mod Quieting
+pub mod Examples

@@ -14,7 +14,7 @@ use Rattle.lmn_instr.specs.declared.instr.Instr.{Instr}
 use Rattle.lmn_instr.specs.declared.instr.Instr.TheVariants.{CopyCells, LoadRule}
 use Rattle.lmn_instr.specs.Running.{HeadRegisters, IsFirstSuccess, atoms_set, membranes_set}
 use Rattle.lmn_compile_body.specs.Accepted.{IsCompilable}
-use Rattle.lmn_body.specs.Running.{Registers, RunsBody}
+use Rattle.lmn_body.specs.Running.{Registers}
 use Rattle.lmn_body.specs.Stopping.{SameButSpares}
 use Rattle.lmn_parts.specs.Rests.{IsRest, NoneLeaves}
 use Rattle.lmn_parts.specs.Walks.{is_in}
@@ -24,12 +24,13 @@ use Rattle.lmn_registers.specs.declared.registers.SetRegisters.{SetRegisters}
 use Rattle.lmn_commit.specs.Matched.{IsMatched, CanBeCommitted}
 use Rattle.lmn_commit.specs.Preparing.{BodyInOrder, CanCopyRests}
 use Rattle.lmn_commit.specs.Registers.{HasRests}
+use Rattle.lmn_commit.specs.Waking.{Commits}
 use Rattle.lmn_machine.specs.Costs.{IsTold, Leaves}
 use Rattle.lmn_machine.specs.Searching.{AreHeldWhole, HeadInOrder, parts_set, integers_set}
 use Rattle.lmn_strategy.specs.declared.turning.Turn.{Turn}
 use Rattle.lmn_strategy.specs.declared.turning.Turn.TheVariants.{Committed, Irreducible, Full, NoMemory}
 use Rattle.lmn_compile.specs.Compiled.{AreWhole, IsCompiled, AreCompiled}
-use Rattle.lmn_strategy.specs.Choosing.{NoneIn, IsFirstIn, asked}
+use Rattle.lmn_strategy.specs.Choosing.{NoneIn, IsFirstIn, Lulls, asked}
 
 -- The code of a table of rules: each is whole with its plan, and the rules in its body are of the table.
 pub record IsTableCode (codes : List Code) : Type 0 where
@@ -56,9 +57,9 @@ abbrev pub HoldsRestsOf : Heap → List Instr → Registers → Type 0
 HoldsRestsOf h code r = (m : ℕ) → m < 1 + membranes_set code → IsRestOf h code r.head m (r.left_atoms m) (r.left_membranes m)
 
 -- The answer to a rule that is chosen, whose commit with these registers would leave n items, where there may be `size`:
--- the heap is h' then.
+-- the heap is h' then. Where the rule fires, what its code rouses is awake, and marks of membranes are no part of the rest.
 abbrev pub IsAnswer : Heap → Registers → List Instr → ℕ → ℕ → Turn → Heap → Type 0
-IsAnswer h s body n size Committed h' = (n ≤ size) × RunsBody s body h h'
+IsAnswer h s body n size Committed h' = (n ≤ size) × Commits h s body h'
 IsAnswer h s body n size Irreducible h' = ⊥
 IsAnswer h s body n size Full h' = (size < n) × (h' ≡ h)
 IsAnswer h s body n size NoMemory h' = (n ≤ size) × SameButSpares h h'
@@ -78,6 +79,17 @@ pub record Chooses (h : Heap) (codes : List Code) (ms : List ℕ) (size : ℕ) (
   pub left : ℕ
   pub leaves : Leaves h registers code.body left
   pub answered : IsAnswer h registers code.body left size answer h'
+
+-- What one rule chosen does where the membranes that were asked before in vain fall asleep, if they may, which leaves the heap s.
+abbrev pub ChoosesAwake : Bool → Heap → List Code → List ℕ → ℕ → Turn → Heap → Type 0
+ChoosesAwake sleep h codes ms size answer h' = (s : Heap) × (t : Chooses s codes ms size answer h') × Lulls sleep h s t.chosen.earlier
+
+-- What a turn does with the membranes that are awake.
+abbrev pub IsAwakeTurn : Bool → Heap → List Code → Forest → ℕ → ℕ → Turn → Heap → Type 0
+IsAwakeTurn sleep h codes f from size Committed h' = ChoosesAwake sleep h codes (asked from f) size Committed h'
+IsAwakeTurn sleep h codes f from size Irreducible h' = NoneIn h codes (flat f) × Lulls sleep h h' (flat f)
+IsAwakeTurn sleep h codes f from size Full h' = ChoosesAwake sleep h codes (asked from f) size Full h'
+IsAwakeTurn sleep h codes f from size NoMemory h' = ChoosesAwake sleep h codes (asked from f) size NoMemory h'
 
 -- What a turn does on the heap h with this tree, where the membrane with a number is asked first: the heap is h' then.
 abbrev pub IsTurn : Heap → List Code → Forest → ℕ → ℕ → Turn → Heap → Type 0

@@ -2,12 +2,14 @@
 //! chosen, and a turn.
 #![tactic(auto)]
 
+mod examples;
 mod preorder;
 mod ready;
 mod strategy;
 mod turning;
 
+pub use examples::{asleep_by_mark, marks_are_low, nothing_is_turned, sleepers_are_passed};
 pub use preorder::{membrane_at, membranes, next_membrane};
-pub use ready::{bodies_are_ready, tables_are_runnable};
+pub use ready::{bodies_are_ready, commits_sleep_rightly, tables_are_quiet, tables_are_runnable};
 pub use strategy::{Choice, search};
 pub use turning::{Turn, take_turn};

@@ -1,11 +1,13 @@
 //! Laws of the code of accepted rules.
+ghost use Rattle.lmn_strategy.specs.Quieting.{CommitsSleepRightly, TablesAreQuiet};
 ghost use Rattle.lmn_strategy.specs.Turns.{BodiesAreReady, TablesAreRunnable};
 
-use lmn_commit::{bodies_are_in_order, bodies_can_be_committed};
+use lmn_commit::{bodies_are_in_order, bodies_can_be_committed, rules_wake_touched};
 use lmn_compile_body::accepted_bodies;
 use lmn_compile_head::{accepted_heads, accepted_least};
 use lmn_cost::commits_cost_what_is_told;
 use lmn_matching::{accepted_in_order, accepted_sets_items};
+use lmn_sleep::quiet_stays_matchless;
 
 /// After the head of an accepted rule has set its registers, the body can be prepared, and what is read to tell its cost
 /// is set.
@@ -30,3 +32,20 @@ pub fn tables_are_runnable()
     accepted_least();
     commits_cost_what_is_told();
 }
+
+/// A membrane may sleep in which no rule of such a table has a match, until it is touched.
+pub fn tables_are_quiet()
+    ensures { TablesAreQuiet }
+{
+    accepted_sets_items();
+    accepted_bodies();
+    accepted_heads();
+    accepted_least();
+    quiet_stays_matchless();
+    rules_wake_touched();
+}
+
+/// After a commit no membrane is asleep in which the code of a rule succeeds, where so it was before.
+pub fn commits_sleep_rightly()
+    ensures { CommitsSleepRightly }
+{}

@@ -1,9 +1,10 @@
 //! The search of the strategy: the first membrane that is asked and has a rule that succeeds, and its first such rule.
-ghost use Rattle.std.specs.Prelude.{◌≡◌, ◌<◌, ◌+◌, IsTrue, IsFalse, IfSome, MatchOption, length, take, drop};
-ghost use Rattle.lmn_heap.specs.Heap.{IsMem, rules_in};
+ghost use Rattle.std.specs.Prelude.{◌≡◌, ◌<◌, ◌+◌, [], ◌∷◌, IsTrue, IsFalse, IfSome, MatchOption, length, take, drop};
+ghost use Rattle.lmn_heap.specs.Heap.{IsMem, mem_mark_of, rules_in};
 ghost use Rattle.lmn_heap.specs.Sound.{Forest, IsTree, flat};
-ghost use Rattle.lmn_strategy.specs.Choosing.{AllInOrder, CanTurn, CodeSucceeds, NoneOf, NoneIn, IsFirstRule, IsFirstIn, HasFound, asked};
-ghost use Rattle.lmn_strategy.specs.Counting.{CountsAmong, CountsAsked, CountsUpTo};
+ghost use Rattle.lmn_strategy.specs.Choosing.{AllInOrder, CanTurn, CodeSucceeds, NoneOf, NoneIn, IsFirstRule, IsFirstIn, HasFound, Lulled, Lulls, asked};
+ghost use Rattle.lmn_strategy.specs.Quieting.{SleepsRightly};
+ghost use Rattle.lmn_strategy.specs.Counting.{CountsAmong, CountsAsked, CountsUpTo, awake_of};
 
 use crate::preorder::{membrane_at, next_membrane};
 use lmn_instr::Code;
@@ -74,29 +75,90 @@ fn first_rule<S: LinkStore, L: Ledger>(
     None
 }
 
-/// Asks so many membranes in preorder, from one on, which has the number `from`.
+/// Whether a membrane sleeps.
+fn is_asleep<S: LinkStore>(store: &S, membrane: S::Mem) -> bool
+    requires { IsMem (S.heap store.now) (S.mem_id membrane) }
+    ensures asleep { IsTrue result → 0 < mem_mark_of (S.heap store.now) (S.mem_id membrane) }
+    ensures awake { IsFalse result → mem_mark_of (S.heap store.now) (S.mem_id membrane) ≡ 0 }
+{
+    store.mem_mark(membrane) > 0
+}
+
+/// A membrane falls asleep if it may.
+fn lull<S: LinkStore>(machine: &mut Machine<S>, membrane: S::Mem, sleep: bool)
+    requires { IsMem (S.heap machine.old.store) (S.mem_id membrane) }
+    ensures lulled { Lulled sleep (S.heap machine.old.store) (S.heap machine.new.store) (S.mem_id membrane) }
+    ensures registers { machine.new.set ≡ machine.old.set }
+{
+    if sleep {
+        machine.store_mut().set_mem_mark(membrane, 1);
+    }
+}
+
+/// The first rule of a membrane whose code succeeds, where it is awake. Where none does it falls asleep, if it may. The
+/// registers then hold the first success of the code.
+fn ask<S: LinkStore, L: Ledger>(
+    machine: &mut Machine<S>,
+    codes: &[Code],
+    membrane: S::Mem,
+    sleep: bool,
+    steps: &mut Steps<L>,
+) -> Option<Choice<S::Mem>>
+    requires turn { CanTurn (S.heap machine.old.store) (length codes.now) }
+    requires sleeps { SleepsRightly (S.heap machine.old.store) codes.now }
+    requires order { AllInOrder codes.now }
+    requires membrane { IsMem (S.heap machine.old.store) (S.mem_id membrane) }
+    ensures turn { CanTurn (S.heap machine.new.store) (length codes.now) }
+    ensures sleeps { SleepsRightly (S.heap machine.new.store) codes.now }
+    ensures lulls { MatchOption result
+        (Lulls sleep (S.heap machine.old.store) (S.heap machine.new.store) (S.mem_id membrane ∷ []))
+        (λ c. S.heap machine.new.store ≡ S.heap machine.old.store) }
+    ensures first { MatchOption result
+        (NoneOf (S.heap machine.old.store) codes.now (S.mem_id membrane) (rules_in (S.heap machine.old.store) (S.mem_id membrane)))
+        (λ c. IsFirstRule (S.heap machine.old.store) codes.now (S.mem_id c.membrane) c.place c.rule) }
+    ensures membrane { IfSome result (λ c. c.membrane ≡ membrane) }
+    ensures found { IfSome result (λ c. HasFound S.atom_id S.mem_id (S.heap machine.new.store) codes.now (S.mem_id c.membrane) c.rule machine.new.set) }
+    ensures steps { CountsAmong (S.heap machine.old.store) codes.now (awake_of (S.heap machine.old.store) (S.mem_id membrane ∷ [])) steps.old steps.new }
+{
+    if is_asleep(machine.store(), membrane) {
+        return None;
+    }
+    match first_rule(machine, codes, membrane, steps) {
+        Some(choice) => Some(choice),
+        None => {
+            lull(machine, membrane, sleep);
+            None
+        }
+    }
+}
+
+/// Asks so many membranes in preorder, from one on, which has the number `from`. Those that are asked in vain fall asleep, if
+/// they may.
 fn first_of_some<S: LinkStore, L: Ledger>(
     machine: &mut Machine<S>,
     codes: &[Code],
     from: u64,
     count: u64,
+    sleep: bool,
     steps: &mut Steps<L>,
 ) -> Option<Choice<S::Mem>>
     requires turn { CanTurn (S.heap machine.old.store) (length codes.now) }
+    requires sleeps { SleepsRightly (S.heap machine.old.store) codes.now }
     requires order { AllInOrder codes.now }
     requires from { (f : Forest) → IsTree (S.heap machine.old.store) f → from < length (flat f) }
-    ensures same { S.heap machine.new.store ≡ S.heap machine.old.store }
+    ensures turn { CanTurn (S.heap machine.new.store) (length codes.now) }
+    ensures sleeps { SleepsRightly (S.heap machine.new.store) codes.now }
     ensures first { (f : Forest) → IsTree (S.heap machine.old.store) f → MatchOption result
-        (NoneIn (S.heap machine.old.store) codes.now (take count (drop from (flat f))))
-        (λ c. IsFirstIn (S.heap machine.old.store) codes.now (take count (drop from (flat f))) (S.mem_id c.membrane) c.place c.rule) }
-    ensures found { IfSome result (λ c. HasFound S.atom_id S.mem_id (S.heap machine.old.store) codes.now (S.mem_id c.membrane) c.rule machine.new.set) }
-    ensures steps { (f : Forest) → IsTree (S.heap machine.old.store) f → CountsAmong (S.heap machine.old.store) codes.now (take count (drop from (flat f))) steps.old steps.new }
+        (NoneIn (S.heap machine.old.store) codes.now (take count (drop from (flat f))) × Lulls sleep (S.heap machine.old.store) (S.heap machine.new.store) (take count (drop from (flat f))))
+        (λ c. (i : IsFirstIn (S.heap machine.old.store) codes.now (take count (drop from (flat f))) (S.mem_id c.membrane) c.place c.rule) × Lulls sleep (S.heap machine.old.store) (S.heap machine.new.store) i.earlier) }
+    ensures found { IfSome result (λ c. HasFound S.atom_id S.mem_id (S.heap machine.new.store) codes.now (S.mem_id c.membrane) c.rule machine.new.set) }
+    ensures steps { (f : Forest) → IsTree (S.heap machine.old.store) f → CountsAmong (S.heap machine.old.store) codes.now (awake_of (S.heap machine.old.store) (take count (drop from (flat f)))) steps.old steps.new }
 {
     let start = membrane_at(machine.store(), from);
     let mut at = Some(start);
     for asked in 0..count {
         match at {
-            Some(membrane) => match first_rule(machine, codes, membrane, steps) {
+            Some(membrane) => match ask(machine, codes, membrane, sleep, steps) {
                 Some(choice) => return Some(choice),
                 None => at = next_membrane(machine.store(), membrane),
             },
@@ -107,28 +169,32 @@ fn first_of_some<S: LinkStore, L: Ledger>(
 }
 
 /// What the strategy chooses, where the membrane with the number `from` in preorder is asked first and there are `many`
-/// membranes. It takes no memory, and the store is left as it was. The registers then hold the first success of the code. The
-/// steps rise by the rules of the membranes asked at most: those up to the rule that is chosen, or all where none is.
+/// membranes. A membrane that sleeps isn't asked, and one that is asked in vain falls asleep, if it may. It takes no memory, and
+/// else the store is left as it was. The registers then hold the first success of the code. The steps rise by the rules of the
+/// awake membranes asked at most: those up to the rule that is chosen, or all where none is.
 pub fn search<S: LinkStore, L: Ledger>(
     machine: &mut Machine<S>,
     codes: &[Code],
     from: u64,
     many: u64,
+    sleep: bool,
     steps: &mut Steps<L>,
 ) -> Option<Choice<S::Mem>>
     requires turn { CanTurn (S.heap machine.old.store) (length codes.now) }
+    requires sleeps { SleepsRightly (S.heap machine.old.store) codes.now }
     requires order { AllInOrder codes.now }
     requires many { (f : Forest) → IsTree (S.heap machine.old.store) f → many ≡ length (flat f) }
     requires from { from < many }
-    ensures same { S.heap machine.new.store ≡ S.heap machine.old.store }
+    ensures turn { CanTurn (S.heap machine.new.store) (length codes.now) }
+    ensures sleeps { SleepsRightly (S.heap machine.new.store) codes.now }
     ensures first { (f : Forest) → IsTree (S.heap machine.old.store) f → MatchOption result
-        (NoneIn (S.heap machine.old.store) codes.now (flat f))
-        (λ c. IsFirstIn (S.heap machine.old.store) codes.now (asked from f) (S.mem_id c.membrane) c.place c.rule) }
-    ensures found { IfSome result (λ c. HasFound S.atom_id S.mem_id (S.heap machine.old.store) codes.now (S.mem_id c.membrane) c.rule machine.new.set) }
+        (NoneIn (S.heap machine.old.store) codes.now (flat f) × Lulls sleep (S.heap machine.old.store) (S.heap machine.new.store) (flat f))
+        (λ c. (i : IsFirstIn (S.heap machine.old.store) codes.now (asked from f) (S.mem_id c.membrane) c.place c.rule) × Lulls sleep (S.heap machine.old.store) (S.heap machine.new.store) i.earlier) }
+    ensures found { IfSome result (λ c. HasFound S.atom_id S.mem_id (S.heap machine.new.store) codes.now (S.mem_id c.membrane) c.rule machine.new.set) }
     ensures steps { CountsAsked (S.heap machine.old.store) codes.now from steps.old steps.new }
 {
-    match first_of_some(machine, codes, from, many - from, steps) {
+    match first_of_some(machine, codes, from, many - from, sleep, steps) {
         Some(choice) => Some(choice),
-        None => first_of_some(machine, codes, 0, from, steps),
+        None => first_of_some(machine, codes, 0, from, sleep, steps),
     }
 }

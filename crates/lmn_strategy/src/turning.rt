@@ -1,9 +1,10 @@
 //! One turn: what the strategy chooses is prepared and committed, where the store may have that many items.
-ghost use Rattle.std.specs.Prelude.{◌≡◌, ◌<◌, ◌-◌, ◌^◌, length};
+ghost use Rattle.std.specs.Prelude.{◌≡◌, ◌<◌, IsFalse, ◌≤◌, ◌+◌, ◌-◌, ◌^◌, length};
 ghost use Rattle.lmn_heap.specs.Sound.{Forest, IsTree, Valid, flat};
 ghost use Rattle.lmn_strategy.specs.Choosing.{CanTurn};
 ghost use Rattle.lmn_strategy.specs.Counting.{CountsAsked};
-ghost use Rattle.lmn_strategy.specs.Turns.{CanFire, AnswersMatch, AreRunnable, IsTurn};
+ghost use Rattle.lmn_strategy.specs.Quieting.{AllAwake, AreQuiet, SleepsRightly};
+ghost use Rattle.lmn_strategy.specs.Turns.{CanFire, AnswersMatch, AreRunnable, IsAwakeTurn};
 ghost use Rattle.lmn_heap.specs.Heap.{Unmarked};
 
 use crate::strategy::search;
@@ -48,8 +49,9 @@ fn fire<S: LinkStore>(alloc: Global, machine: &mut Machine<S>, code: &Code, size
 
 /// One turn. `codes` has the code of each rule of the table, by its number, and it can be run. There are `many` membranes, and the one with
 /// the number `from` in preorder is asked first. The first rule that has a match fires at its first match, unless more than
-/// `size` items would be left, the root not counted. With another answer than `Committed` the store is as it was, but for
-/// room for rules at `NoMemory`. The steps rise by the rules of the membranes asked at most.
+/// `size` items would be left, the root not counted. A membrane that sleeps isn't asked, and where membranes may sleep one that is asked in
+/// vain falls asleep. With another answer than `Committed` the store is else as it was, but for room for rules at `NoMemory`. The steps
+/// rise by the rules of the awake membranes asked at most.
 pub fn take_turn<S: LinkStore, L: Ledger>(
     alloc: Global,
     machine: &mut Machine<S>,
@@ -57,18 +59,22 @@ pub fn take_turn<S: LinkStore, L: Ledger>(
     from: u64,
     many: u64,
     size: u64,
+    sleep: bool,
     steps: &mut Steps<L>,
 ) -> Turn
     requires turn { CanTurn (S.heap machine.old.store) (length codes.now) }
+    requires sleeps { SleepsRightly (S.heap machine.old.store) codes.now }
     requires codes { AreRunnable codes.now }
     requires many { (f : Forest) → IsTree (S.heap machine.old.store) f → many ≡ length (flat f) }
     requires from { from < many }
     requires size { size < 2 ^ 64 - 1 }
-    ensures turned { (f : Forest) → IsTree (S.heap machine.old.store) f → IsTurn (S.heap machine.old.store) codes.now f from size result (S.heap machine.new.store) }
+    ensures turned { (f : Forest) → IsTree (S.heap machine.old.store) f → IsAwakeTurn sleep (S.heap machine.old.store) codes.now f from size result (S.heap machine.new.store) }
     ensures again { CanTurn (S.heap machine.new.store) (length codes.now) }
+    ensures sleeps { AreQuiet codes.now → SleepsRightly (S.heap machine.new.store) codes.now }
+    ensures awake { IsFalse sleep → AllAwake (S.heap machine.old.store) → AllAwake (S.heap machine.new.store) }
     ensures steps { CountsAsked (S.heap machine.old.store) codes.now from steps.old steps.new }
 {
-    match search(machine, codes, from, many, steps) {
+    match search(machine, codes, from, many, sleep, steps) {
         Some(choice) => fire(alloc, machine, &codes[choice.rule as usize], size),
         None => Turn::Irreducible,
     }

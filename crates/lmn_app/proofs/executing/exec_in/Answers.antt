@@ -9,15 +9,15 @@ use Rattle.lmn_app.proofs.ExecLemmas.{stored_program}
 use Rattle.lmn_app.proofs.PairLemmas.{exec_ended}
 use Rattle.lmn_app.proofs.executing.exec_in.Goals as goal
 
-pub load-requires-clause-plain : goal.load-requires-clause-plain
-load-requires-clause-plain g c =
+pub load_awake-requires-clause-plain : goal.load_awake-requires-clause-plain
+load_awake-requires-clause-plain g c =
     let read = c.args.accepted.now in
     let a = c.requires.accepted.1 in
     let can = c.accepted_texts_can_be_loaded.ensures.loaded c.requires.accepted.0 c.args.names.now read.plain read.plans a.named a.accepted in
     can.made
 
-pub load-requires-clause-closed : goal.load-requires-clause-closed
-load-requires-clause-closed g c =
+pub load_awake-requires-clause-closed : goal.load_awake-requires-clause-closed
+load_awake-requires-clause-closed g c =
     let read = c.args.accepted.now in
     let a = c.requires.accepted.1 in
     let can = c.accepted_texts_can_be_loaded.ensures.loaded c.requires.accepted.0 c.args.names.now read.plain read.plans a.named a.accepted in

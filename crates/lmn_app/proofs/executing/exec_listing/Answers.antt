@@ -12,7 +12,7 @@ exec_codes-requires-clause-run g c =
     let a = c.requires.accepted.1 in
     let can = c.accepted_texts_can_be_loaded.ensures.loaded c.requires.accepted.0 c.args.names.now read.plain read.plans a.named a.accepted in
     let many = c.len-rules.ensures in
-    codes_can_turn c.loading_settles.ensures.rules c.verified_is_runnable.ensures.all read.plain (g.S.LinkStore.heap c.args.store) can.made c.requires.loaded c.read.new.names c.in-Ok.codes c.args.listing.now
+    codes_can_turn c.loading_settles.ensures.rules c.verified_is_runnable.ensures.all read.plain (g.S.LinkStore.heap c.args.store) can.made c.requires.loaded c.requires.awake c.read.new.names c.in-Ok.codes c.args.listing.now
     (subst (λ n. AreListed n c.read.new.names c.in-Ok.codes c.args.listing.now) many c.in-Ok.ensures.listed)
     (subst (λ n. AllByRecursion (λ code. IsVerified code n) c.in-Ok.codes) many c.in-Ok.ensures.verified)
 
@@ -33,7 +33,7 @@ returns-in-Ok g c = λ program a.
       verified = subst (λ n. AllByRecursion (λ code. IsVerified code n) c.in-Ok.codes) many c.in-Ok.ensures.verified;
     } in
     let l = c.requires.loaded in
-    codes_ended program c.args.listing.now of (g.S.LinkStore.heap c.args.store) l c.requires.fits _ _ _ _ c.exec_codes.result c.exec_codes.ensures
+    codes_ended program c.args.listing.now of (g.S.LinkStore.heap c.args.store) l c.requires.awake c.requires.fits _ _ _ _ c.exec_codes.result c.exec_codes.ensures
 
 pub returns-in-Err-Refused : goal.returns-in-Err-Refused
 returns-in-Err-Refused g c = λ program a.

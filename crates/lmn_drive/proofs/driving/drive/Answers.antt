@@ -1,5 +1,7 @@
 use Rattle.std.proofs.Common.{ℕ, ◌≡◌, sym, subst}
 use Rattle.lmn_io.proofs.TakingLemmas.{none_more, none_then_last}
+use Rattle.lmn_heap.proofs.Common.{moved}
+use Rattle.lmn_drive.specs.Asking.{AsksFew}
 use Rattle.lmn_drive.specs.Answers.{DroveByAnswers, StoppedByAnswers}
 use Rattle.lmn_drive.specs.Driving.{Drove, Stopped, given_by_engine}
 use Rattle.lmn_drive.proofs.Answered.{broken_by, concluded_by}
@@ -55,3 +57,8 @@ pub returns-in-Err-clause-answered : goal.returns-in-Err-clause-answered
 returns-in-Err-clause-answered g c solid held =
     broken_by (λ t m r. g.F.Fn.post c.args.engine.now.chooser.f (t, (m, tt)) r) c.args.names.now c.args.plain.now.rules c.args.engine.now.size c.args.options.now solid c.run.new.engine.commits
     (g.S.LinkStore.heap c.run.new.engine.machine.store) (g.O.Sink.told c.args.out.now) (g.O.Sink.told c.run.new.out) c.args.steps.now c.run.new.steps (c.in-Err.ensures.answered solid held)
+
+pub returns-in-Ok-clause-asks : goal.returns-in-Ok-clause-asks
+returns-in-Ok-clause-asks g c =
+    moved (λ n h. AsksFew (λ t m r. g.F.Fn.post c.args.engine.now.chooser.f (t, (m, tt)) r) c.args.plain.now.rules c.args.engine.now.codes c.args.engine.now.size (g.S.LinkStore.heap c.args.engine.now.machine.store) n h c.args.steps.now c.run.new.steps)
+    (λ i. (c.conclude.ensures.keeps i).commits) c.conclude.ensures.kept c.run.ensures.asks

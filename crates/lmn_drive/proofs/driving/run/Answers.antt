@@ -5,8 +5,12 @@ use Rattle.lmn_order.specs.Answers.{AnswersBelow}
 use Rattle.lmn_schedule.specs.Turning.{Gives}
 use Rattle.lmn_drive.specs.Driving.{Broke, CountsCommit, RunInput, Going, StepsOn, Stopped, given_by_engine}
 use Rattle.lmn_adequacy.specs.Runs.{Chooser}
+use Rattle.lmn_drive.specs.Asking.{AsksFew}
+use Rattle.lmn_drive.specs.AskingOn.{AskedSoFar, AsksOn}
 use Rattle.lmn_drive.specs.Answers.{BrokeByAnswers, GoingByAnswers, StepsOnByAnswers, StoppedByAnswers}
 use Rattle.lmn_drive.specs.declared.driving.Stop.TheVariants as stop
+use Rattle.lmn_strategy.specs.Counting.{CountsAsked}
+use Rattle.lmn_drive.proofs.Asked.{asked_all, asked_none, asked_still, carried_codes}
 use Rattle.lmn_drive.proofs.Answered.{carried, first_broke, first_going, irreducible_stops, reducible_stops}
 use Rattle.lmn_drive.proofs.Goings.{broke_first, going_first, stops_budget, stops_done}
 use Rattle.lmn_drive.proofs.Writings.{at_err}
@@ -57,6 +61,8 @@ loop-init g c =
       answered = λ solid held. moved (λ n h. GoingByAnswers (λ t m r. g.F.Fn.post c.args.engine.now.chooser.f (t, (m, tt)) r) (λ k. given_by_engine names table c.args.engine.now.size options k solid) n h told new c.args.steps.now c.args.steps.now)
           (λ i. (wrote i).commits) c.write_traced.ensures.kept
           (first_going (λ t m r. g.F.Fn.post c.args.engine.now.chooser.f (t, (m, tt)) r) names table c.args.engine.now.size options solid c.args.engine.now.commits h told new c.args.steps.now c.requires.commits held (λ bytes is. c.in_ok-write_traced.ensures.writes.took bytes is));
+      asks = moved (λ n h'. AskedSoFar (λ t m r. g.F.Fn.post c.args.engine.now.chooser.f (t, (m, tt)) r) table c.args.engine.now.codes c.args.engine.now.size h n h' c.args.steps.now c.args.steps.now) ((λ i. (wrote i).commits) ∙ c.requires.commits) c.write_traced.ensures.kept
+          (asked_none (λ t m r. g.F.Fn.post c.args.engine.now.chooser.f (t, (m, tt)) r) table c.args.engine.now.codes c.args.engine.now.size h c.args.steps.now);
     }
 
 pub step-requires-clause-run : goal.step-requires-clause-run
@@ -157,6 +163,18 @@ loop-preserved g c =
           chooser size
           (subst (StepsOnByAnswers (λ t m r. g.F.Fn.post c.loop.engine.chooser.f (t, (m, tt)) r) (λ k. given_by_engine names table c.loop.engine.size options k solid) c.step.new.engine.commits (g.S.LinkStore.heap c.step.new.engine.machine.store) told (g.O.Sink.told c.step.new.out) c.args.steps.now c.step.new.steps)
           c.in_default.is (c.in_ok-stop.ensures.answered solid told c.args.steps.now below going)));
+      asks = (
+          let table = c.args.plain.now.rules in
+          let h0 = g.S.LinkStore.heap c.args.engine.now.machine.store in
+          let size : c.loop.engine.size ≡ c.args.engine.now.size = λ i. (c.loop.invariant.keeps i).size in
+          let codes : c.loop.engine.codes ≡ c.args.engine.now.codes = λ i. (c.loop.invariant.keeps i).codes in
+          let chooser : c.loop.engine.chooser.f ≡ c.args.engine.now.chooser.f = λ i. (c.loop.invariant.keeps i).chooser.f in
+          let so_far = carried_codes (λ f codes n. AskedSoFar (λ t m r. g.F.Fn.post f (t, (m, tt)) r) table codes n h0 c.loop.engine.commits (g.S.LinkStore.heap c.loop.engine.machine.store) c.args.steps.now c.loop.steps)
+          (sym chooser) (sym codes) (sym size) c.loop.invariant.asks in
+          carried_codes (λ f codes n. AskedSoFar (λ t m r. g.F.Fn.post f (t, (m, tt)) r) table codes n h0 c.step.new.engine.commits (g.S.LinkStore.heap c.step.new.engine.machine.store) c.args.steps.now c.step.new.steps)
+          chooser codes size
+          (subst (AsksOn (λ t m r. g.F.Fn.post c.loop.engine.chooser.f (t, (m, tt)) r) table c.loop.engine.codes c.loop.engine.size h0 c.step.new.engine.commits (g.S.LinkStore.heap c.step.new.engine.machine.store) c.args.steps.now c.step.new.steps)
+          c.in_default.is (c.in_ok-stop.ensures.asks h0 c.args.steps.now so_far)));
     }
 
 pub reducible-requires : goal.reducible-requires
@@ -317,3 +335,66 @@ returns-else-reducible-clause-answered g c solid held =
     let holds = subst (λ T. HoldsRegion names T h S) (sym rules) b.going.ran.holds in
     moved (λ n h. StoppedByAnswers may input n h stop.Irreducible told new c.args.steps.now c.reducible.new.steps) {h' = h'} (λ i. (c.reducible.ensures.keeps i).commits) refl
     (irreducible_stops may names table c.args.engine.now.size options solid c.loop.engine.commits h h' told new c.args.steps.now c.loop.steps c.reducible.new.steps b counts c.reducible.ensures.same (c.reducible.ensures.no c.if-reducible.false names S holds))
+
+pub returns-in_err-write_traced-clause-asks : goal.returns-in_err-write_traced-clause-asks
+returns-in_err-write_traced-clause-asks g c =
+    let table = c.args.plain.now.rules in
+    let codes = c.args.engine.now.codes in
+    let size = c.args.engine.now.size in
+    let may : ℕ → ℕ → ℕ → Type 0 = λ t m r. g.F.Fn.post c.args.engine.now.chooser.f (t, (m, tt)) r in
+    let h = g.S.LinkStore.heap c.args.engine.now.machine.store in
+    let s = c.args.steps.now in
+    moved (λ n h'. AsksFew may table codes size h n h' s s) ((λ i. (c.write_traced.ensures.keeps i).commits) ∙ c.requires.commits) c.write_traced.ensures.kept
+    (asked_all may table codes size h 0 h s s c.requires.run.turn.valid (asked_none may table codes size h s))
+
+pub returns-in_err-stop-clause-asks : goal.returns-in_err-stop-clause-asks
+returns-in_err-stop-clause-asks g c =
+    let table = c.args.plain.now.rules in
+    let h0 = g.S.LinkStore.heap c.args.engine.now.machine.store in
+    let size : c.loop.engine.size ≡ c.args.engine.now.size = λ i. (c.loop.invariant.keeps i).size in
+    let codes : c.loop.engine.codes ≡ c.args.engine.now.codes = λ i. (c.loop.invariant.keeps i).codes in
+    let chooser : c.loop.engine.chooser.f ≡ c.args.engine.now.chooser.f = λ i. (c.loop.invariant.keeps i).chooser.f in
+    let so_far = carried_codes (λ f codes n. AskedSoFar (λ t m r. g.F.Fn.post f (t, (m, tt)) r) table codes n h0 c.loop.engine.commits (g.S.LinkStore.heap c.loop.engine.machine.store) c.args.steps.now c.loop.steps)
+    (sym chooser) (sym codes) (sym size) c.loop.invariant.asks in
+    carried_codes (λ f codes n. AsksFew (λ t m r. g.F.Fn.post f (t, (m, tt)) r) table codes n h0 c.step.new.engine.commits (g.S.LinkStore.heap c.step.new.engine.machine.store) c.args.steps.now c.step.new.steps)
+    chooser codes size (c.in_err-stop.ensures.asks h0 c.args.steps.now so_far)
+
+pub returns-in-Some-clause-asks : goal.returns-in-Some-clause-asks
+returns-in-Some-clause-asks g c =
+    let table = c.args.plain.now.rules in
+    let h0 = g.S.LinkStore.heap c.args.engine.now.machine.store in
+    let size : c.loop.engine.size ≡ c.args.engine.now.size = λ i. (c.loop.invariant.keeps i).size in
+    let codes : c.loop.engine.codes ≡ c.args.engine.now.codes = λ i. (c.loop.invariant.keeps i).codes in
+    let chooser : c.loop.engine.chooser.f ≡ c.args.engine.now.chooser.f = λ i. (c.loop.invariant.keeps i).chooser.f in
+    let so_far = carried_codes (λ f codes n. AskedSoFar (λ t m r. g.F.Fn.post f (t, (m, tt)) r) table codes n h0 c.loop.engine.commits (g.S.LinkStore.heap c.loop.engine.machine.store) c.args.steps.now c.loop.steps)
+    (sym chooser) (sym codes) (sym size) c.loop.invariant.asks in
+    carried_codes (λ f codes n. AsksFew (λ t m r. g.F.Fn.post f (t, (m, tt)) r) table codes n h0 c.step.new.engine.commits (g.S.LinkStore.heap c.step.new.engine.machine.store) c.args.steps.now c.step.new.steps)
+    chooser codes size
+    (subst (AsksOn (λ t m r. g.F.Fn.post c.loop.engine.chooser.f (t, (m, tt)) r) table c.loop.engine.codes c.loop.engine.size h0 c.step.new.engine.commits (g.S.LinkStore.heap c.step.new.engine.machine.store) c.args.steps.now c.step.new.steps)
+    c.in-Some.is (c.in_ok-stop.ensures.asks h0 c.args.steps.now so_far))
+
+pub returns-then-reducible-clause-asks : goal.returns-then-reducible-clause-asks
+returns-then-reducible-clause-asks g c =
+    let table = c.args.plain.now.rules in
+    let codes = c.args.engine.now.codes in
+    let size = c.args.engine.now.size in
+    let may : ℕ → ℕ → ℕ → Type 0 = λ t m r. g.F.Fn.post c.args.engine.now.chooser.f (t, (m, tt)) r in
+    let h0 = g.S.LinkStore.heap c.args.engine.now.machine.store in
+    let h = g.S.LinkStore.heap c.loop.engine.machine.store in
+    let h' = g.S.LinkStore.heap c.reducible.new.self.machine.store in
+    let few = subst (λ k. CountsAsked h k 0 c.loop.steps c.reducible.new.steps) (λ i. (c.loop.invariant.keeps i).codes) c.reducible.ensures.steps in
+    moved (λ n k. AsksFew may table codes size h0 n k c.args.steps.now c.reducible.new.steps) {h' = h'} (λ i. (c.reducible.ensures.keeps i).commits) refl
+    (asked_still may table codes size h0 c.loop.engine.commits h c.args.steps.now c.loop.steps c.reducible.new.steps c.loop.invariant.run.turn.valid c.loop.invariant.asks h' c.reducible.ensures.same few)
+
+pub returns-else-reducible-clause-asks : goal.returns-else-reducible-clause-asks
+returns-else-reducible-clause-asks g c =
+    let table = c.args.plain.now.rules in
+    let codes = c.args.engine.now.codes in
+    let size = c.args.engine.now.size in
+    let may : ℕ → ℕ → ℕ → Type 0 = λ t m r. g.F.Fn.post c.args.engine.now.chooser.f (t, (m, tt)) r in
+    let h0 = g.S.LinkStore.heap c.args.engine.now.machine.store in
+    let h = g.S.LinkStore.heap c.loop.engine.machine.store in
+    let h' = g.S.LinkStore.heap c.reducible.new.self.machine.store in
+    let few = subst (λ k. CountsAsked h k 0 c.loop.steps c.reducible.new.steps) (λ i. (c.loop.invariant.keeps i).codes) c.reducible.ensures.steps in
+    moved (λ n k. AsksFew may table codes size h0 n k c.args.steps.now c.reducible.new.steps) {h' = h'} (λ i. (c.reducible.ensures.keeps i).commits) refl
+    (asked_still may table codes size h0 c.loop.engine.commits h c.args.steps.now c.loop.steps c.reducible.new.steps c.loop.invariant.run.turn.valid c.loop.invariant.asks h' c.reducible.ensures.same few)

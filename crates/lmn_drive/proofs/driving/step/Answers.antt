@@ -1,12 +1,15 @@
-use Rattle.std.proofs.Common.{ℕ, refl, sym, subst, ◌∙◌}
+use Rattle.std.proofs.Common.{ℕ, ◌+◌, refl, sym, subst, ◌∙◌}
 use Rattle.lmn_schedule.specs.Held.{EngineCanTurn, HoldsRegion}
 use Rattle.lmn_strategy.specs.declared.turning.Turn.TheVariants as answer
 use Rattle.lmn_schedule.specs.Turning.{IsTurned, IsTurnedByAnswer}
 use Rattle.lmn_io.proofs.TakingLemmas.{no_put}
 use Rattle.lmn_adequacy.specs.Runs.{Chooser}
 use Rattle.lmn_drive.specs.Driving.{Broke, RunInput, Going, Stopped, given_by_engine}
+use Rattle.lmn_drive.specs.Asking.{AsksFew}
+use Rattle.lmn_drive.specs.AskingOn.{AskedSoFar}
 use Rattle.lmn_drive.specs.Answers.{BrokeByAnswers, GoingByAnswers, StoppedByAnswers}
 use Rattle.lmn_drive.specs.declared.driving.Stop.TheVariants as stop
+use Rattle.lmn_drive.proofs.Asked.{asked_all, asked_last, asked_more, asks_once}
 use Rattle.lmn_drive.proofs.Answered.{by_answer, commits_and_breaks, commits_on, full_by, irreducible_by, no_memory_by}
 use Rattle.lmn_drive.proofs.Goings.{broke_more, going_more, none_more, stops_full, stops_irreducible, stops_no_memory}
 use Rattle.lmn_drive.proofs.Writings.{at_err}
@@ -249,3 +252,87 @@ returns-in-NoMemory-clause-answered g c solid told begun below b =
     let counted = c.turn.new.steps in
     moved (λ n h. StoppedByAnswers may input n h stop.NoMemory told old begun counted) {h' = h'} ((λ i. (c.in-NoMemory.ensures.keeps i).commits) ∙ none_more commits) refl
     (no_memory_by may names table size options solid commits h h' told old begun c.args.steps.now counted b below t)
+
+pub returns-in_err-write_traced-in-Committed-clause-asks : goal.returns-in_err-write_traced-in-Committed-clause-asks
+returns-in_err-write_traced-in-Committed-clause-asks g c h0 begun a =
+    let table = c.args.plain.now.rules in
+    let codes = c.args.engine.now.codes in
+    let size = c.args.engine.now.size in
+    let commits = c.args.engine.now.commits in
+    let may : ℕ → ℕ → ℕ → Type 0 = λ t m r. g.F.Fn.post c.args.engine.now.chooser.f (t, (m, tt)) r in
+    let h = g.S.LinkStore.heap c.args.engine.now.machine.store in
+    let h' = g.S.LinkStore.heap c.turn.new.self.machine.store in
+    let was = c.args.steps.now in
+    let counted = c.turn.new.steps in
+    let chosen = subst (λ T. IsTurnedByAnswer may T codes size commits h answer.Committed h' was counted) (λ i. (c.requires.plain i).rules) c.in-Committed.ensures.chosen in
+    let once = asks_once may table codes size commits h answer.Committed h' was counted chosen in
+    let more = asked_more may table codes size h0 commits h begun was counted c.requires.run.turn.valid a h' once in
+    at_err _ c.from_residual.result _ _ c.from_residual.ensures.1
+    (moved (λ n h. AsksFew may table codes size h0 n h begun counted) (λ i. (c.write_traced.ensures.keeps i).commits) c.write_traced.ensures.kept
+    (moved (λ n h. AsksFew may table codes size h0 n h begun counted) {h' = h'} (λ i. (c.in-Committed.ensures.keeps i).commits) refl
+    (asked_all may table codes size h0 (commits + 1) h' begun counted c.turn.ensures.again.turn.valid more)))
+
+pub returns-in_ok-write_traced-in-Committed-clause-asks : goal.returns-in_ok-write_traced-in-Committed-clause-asks
+returns-in_ok-write_traced-in-Committed-clause-asks g c h0 begun a =
+    let table = c.args.plain.now.rules in
+    let codes = c.args.engine.now.codes in
+    let size = c.args.engine.now.size in
+    let commits = c.args.engine.now.commits in
+    let may : ℕ → ℕ → ℕ → Type 0 = λ t m r. g.F.Fn.post c.args.engine.now.chooser.f (t, (m, tt)) r in
+    let h = g.S.LinkStore.heap c.args.engine.now.machine.store in
+    let h' = g.S.LinkStore.heap c.turn.new.self.machine.store in
+    let was = c.args.steps.now in
+    let counted = c.turn.new.steps in
+    let chosen = subst (λ T. IsTurnedByAnswer may T codes size commits h answer.Committed h' was counted) (λ i. (c.requires.plain i).rules) c.in-Committed.ensures.chosen in
+    let once = asks_once may table codes size commits h answer.Committed h' was counted chosen in
+    moved (λ n h. AskedSoFar may table codes size h0 n h begun counted) (λ i. (c.write_traced.ensures.keeps i).commits) c.write_traced.ensures.kept
+    (moved (λ n h. AskedSoFar may table codes size h0 n h begun counted) {h' = h'} (λ i. (c.in-Committed.ensures.keeps i).commits) refl
+    (asked_more may table codes size h0 commits h begun was counted c.requires.run.turn.valid a h' once))
+
+pub returns-in-Irreducible-clause-asks : goal.returns-in-Irreducible-clause-asks
+returns-in-Irreducible-clause-asks g c h0 begun a =
+    let table = c.args.plain.now.rules in
+    let codes = c.args.engine.now.codes in
+    let size = c.args.engine.now.size in
+    let commits = c.args.engine.now.commits in
+    let may : ℕ → ℕ → ℕ → Type 0 = λ t m r. g.F.Fn.post c.args.engine.now.chooser.f (t, (m, tt)) r in
+    let h = g.S.LinkStore.heap c.args.engine.now.machine.store in
+    let h' = g.S.LinkStore.heap c.turn.new.self.machine.store in
+    let was = c.args.steps.now in
+    let counted = c.turn.new.steps in
+    let chosen = subst (λ T. IsTurnedByAnswer may T codes size commits h answer.Irreducible h' was counted) (λ i. (c.requires.plain i).rules) c.in-Irreducible.ensures.chosen in
+    let once = asks_once may table codes size commits h answer.Irreducible h' was counted chosen in
+    moved (λ n h. AsksFew may table codes size h0 n h begun counted) {h' = h'} ((λ i. (c.in-Irreducible.ensures.keeps i).commits) ∙ none_more commits) refl
+    (asked_last may table codes size h0 commits h begun was counted c.requires.run.turn.valid a answer.Irreducible h' refl once)
+
+pub returns-in-Full-clause-asks : goal.returns-in-Full-clause-asks
+returns-in-Full-clause-asks g c h0 begun a =
+    let table = c.args.plain.now.rules in
+    let codes = c.args.engine.now.codes in
+    let size = c.args.engine.now.size in
+    let commits = c.args.engine.now.commits in
+    let may : ℕ → ℕ → ℕ → Type 0 = λ t m r. g.F.Fn.post c.args.engine.now.chooser.f (t, (m, tt)) r in
+    let h = g.S.LinkStore.heap c.args.engine.now.machine.store in
+    let h' = g.S.LinkStore.heap c.turn.new.self.machine.store in
+    let was = c.args.steps.now in
+    let counted = c.turn.new.steps in
+    let chosen = subst (λ T. IsTurnedByAnswer may T codes size commits h answer.Full h' was counted) (λ i. (c.requires.plain i).rules) c.in-Full.ensures.chosen in
+    let once = asks_once may table codes size commits h answer.Full h' was counted chosen in
+    moved (λ n h. AsksFew may table codes size h0 n h begun counted) {h' = h'} ((λ i. (c.in-Full.ensures.keeps i).commits) ∙ none_more commits) refl
+    (asked_last may table codes size h0 commits h begun was counted c.requires.run.turn.valid a answer.Full h' refl once)
+
+pub returns-in-NoMemory-clause-asks : goal.returns-in-NoMemory-clause-asks
+returns-in-NoMemory-clause-asks g c h0 begun a =
+    let table = c.args.plain.now.rules in
+    let codes = c.args.engine.now.codes in
+    let size = c.args.engine.now.size in
+    let commits = c.args.engine.now.commits in
+    let may : ℕ → ℕ → ℕ → Type 0 = λ t m r. g.F.Fn.post c.args.engine.now.chooser.f (t, (m, tt)) r in
+    let h = g.S.LinkStore.heap c.args.engine.now.machine.store in
+    let h' = g.S.LinkStore.heap c.turn.new.self.machine.store in
+    let was = c.args.steps.now in
+    let counted = c.turn.new.steps in
+    let chosen = subst (λ T. IsTurnedByAnswer may T codes size commits h answer.NoMemory h' was counted) (λ i. (c.requires.plain i).rules) c.in-NoMemory.ensures.chosen in
+    let once = asks_once may table codes size commits h answer.NoMemory h' was counted chosen in
+    moved (λ n h. AsksFew may table codes size h0 n h begun counted) {h' = h'} ((λ i. (c.in-NoMemory.ensures.keeps i).commits) ∙ none_more commits) refl
+    (asked_last may table codes size h0 commits h begun was counted c.requires.run.turn.valid a answer.NoMemory h' refl once)

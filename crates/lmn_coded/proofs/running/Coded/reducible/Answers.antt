@@ -1,7 +1,9 @@
-use Rattle.std.proofs.Common.{◌≡◌, length, subst}
+use Rattle.std.proofs.Common.{◌≡◌, length, subst, sym}
 use Rattle.lmn_heap.specs.Sound.{Forest, IsTree, flat}
 use Rattle.lmn_strategy.specs.Choosing.{IsFirstIn, NoneIn, asked}
+use Rattle.lmn_strategy.specs.Quieting.{SleepsRightly}
 use Rattle.lmn_coded.proofs.Asking.{chosen_succeeds, root_counts}
+use Rattle.lmn_coded.proofs.Awake.{awake_rightly}
 use Rattle.lmn_coded.proofs.running.Coded.reducible.Goals as goal
 
 pub search-requires-clause-from : goal.search-requires-clause-from
@@ -15,8 +17,19 @@ returns-in-Some-clause-yes g c _ f tree =
     let found = c.in-Some.field-0 in
     let m = g.S.LinkStore.mem_id found.membrane in
     chosen_succeeds h c.args.self.now.codes f m found.place found.rule
-    (subst (λ xs. IsFirstIn h xs (asked 0 f) m found.place found.rule) c.as_slice.ensures (c.in-Some.ensures.first f tree))
+    (subst (λ xs. IsFirstIn h xs (asked 0 f) m found.place found.rule) c.as_slice.ensures (c.in-Some.ensures.first f tree).0)
 
 pub returns-in-None-clause-no : goal.returns-in-None-clause-no
 returns-in-None-clause-no g c _ f tree =
-    subst (λ xs. NoneIn (g.S.LinkStore.heap c.args.self.now.machine.store) xs (flat f)) c.as_slice.ensures (c.in-None.ensures.first f tree)
+    subst (λ xs. NoneIn (g.S.LinkStore.heap c.args.self.now.machine.store) xs (flat f)) c.as_slice.ensures (c.in-None.ensures.first f tree).0
+
+pub search-requires-clause-sleeps : goal.search-requires-clause-sleeps
+search-requires-clause-sleeps g c =
+    let h = g.S.LinkStore.heap c.args.self.now.machine.store in
+    subst (SleepsRightly h) (sym c.as_slice.ensures) (awake_rightly h c.args.self.now.codes c.requires.run.awake)
+
+pub returns-in-Some-clause-same : goal.returns-in-Some-clause-same
+returns-in-Some-clause-same g c = let t = c.requires.run.turn.valid.tree in (c.in-Some.ensures.first t.0 t.1).1
+
+pub returns-in-None-clause-same : goal.returns-in-None-clause-same
+returns-in-None-clause-same g c = let t = c.requires.run.turn.valid.tree in (c.in-None.ensures.first t.0 t.1).1

@@ -1,0 +1,43 @@
+use Rattle.std.proofs.Common.{refl}
+use Rattle.lmn_sleep.proofs.Marks.{read_alike}
+use Rattle.lmn_commit.proofs.Codes.{read_at, used_at}
+use Rattle.lmn_commit.proofs.Rousing.{deep_alike, awake_still, awake_now, marks_on}
+use Rattle.lmn_commit.proofs.Rouses.{roused_first, roused_more, roused_all, held_alike}
+use Rattle.lmn_commit.proofs.Making.{some_agree}
+use Rattle.lmn_commit.proofs.waking.wake.Goals as goal
+
+pub loop-i-init : goal.loop-i-init
+loop-i-init g c = record {
+  so = roused_first g.S.LinkStore.atom_id g.S.LinkStore.mem_id c.args.set.now (g.S.LinkStore.heap c.args.store.now) (g.S.LinkStore.heap c.wake_round.new.store) c.at-top.result c.at-top.ensures c.wake_round.ensures;
+  alike = c.wake_round.ensures.alike;
+  awake = awake_now _ (g.S.LinkStore.heap c.args.store.now) (g.S.LinkStore.heap c.wake_round.new.store) (g.S.LinkStore.mem_id c.at-top.result) c.wake_round.ensures refl;
+}
+
+pub wake_for-requires-clause-deep : goal.wake_for-requires-clause-deep
+wake_for-requires-clause-deep g c = deep_alike (g.S.LinkStore.heap c.args.store.now) (g.S.LinkStore.heap c.loop-i.store) (read_alike (g.S.LinkStore.heap c.args.store.now) (g.S.LinkStore.heap c.loop-i.store) c.loop-i.invariant.alike) c.requires.deep
+
+pub wake_for-requires-clause-held : goal.wake_for-requires-clause-held
+wake_for-requires-clause-held g c = held_alike g.S.LinkStore.atom_id g.S.LinkStore.mem_id c.args.set.now (g.S.LinkStore.heap c.args.store.now) (g.S.LinkStore.heap c.loop-i.store) (read_alike (g.S.LinkStore.heap c.args.store.now) (g.S.LinkStore.heap c.loop-i.store) c.loop-i.invariant.alike) c.requires.held
+
+pub wake_for-requires-clause-uses : goal.wake_for-requires-clause-uses
+wake_for-requires-clause-uses g c = used_at _ _ _ _ c.loop-i.i c.args.code.now c.index-code-i.result c.requires.uses (read_at c.args.code.now c.loop-i.i c.index-code-i.result c.loop-i-test.true c.index-code-i.is)
+
+pub wake_for-requires-clause-top : goal.wake_for-requires-clause-top
+wake_for-requires-clause-top g c = (read_alike (g.S.LinkStore.heap c.args.store.now) (g.S.LinkStore.heap c.loop-i.store) c.loop-i.invariant.alike).stays (g.S.LinkStore.mem_id c.at-top.result) (c.requires.held.membranes 0 c.at-top.result c.at-top.ensures)
+
+pub wake_for-requires-clause-awake : goal.wake_for-requires-clause-awake
+wake_for-requires-clause-awake g c = c.loop-i.invariant.awake
+
+pub loop-i-preserved : goal.loop-i-preserved
+loop-i-preserved g c =
+    let some = some_agree g.S.LinkStore.atom_id g.S.LinkStore.mem_id c.args.set.now in
+    let woke = c.wake_for.ensures some.0 some.1 in
+    record {
+      so = roused_more g.S.LinkStore.atom_id g.S.LinkStore.mem_id c.args.set.now (g.S.LinkStore.heap c.args.store.now) c.args.code.now c.loop-i.i c.index-code-i.result (g.S.LinkStore.heap c.loop-i.store) (g.S.LinkStore.heap c.wake_for.new.store)
+          (read_at c.args.code.now c.loop-i.i c.index-code-i.result c.loop-i-test.true c.index-code-i.is) c.loop-i.invariant.so c.wake_for.ensures;
+      alike = marks_on (g.S.LinkStore.heap c.args.store.now) (g.S.LinkStore.heap c.loop-i.store) (g.S.LinkStore.heap c.wake_for.new.store) c.loop-i.invariant.alike woke.alike;
+      awake = awake_still _ (g.S.LinkStore.heap c.loop-i.store) (g.S.LinkStore.heap c.wake_for.new.store) (g.S.LinkStore.mem_id c.at-top.result) woke c.loop-i.invariant.awake;
+    }
+
+pub returns : goal.returns
+returns g c = roused_all g.S.LinkStore.atom_id g.S.LinkStore.mem_id c.args.set.now (g.S.LinkStore.heap c.args.store.now) c.args.code.now c.loop-i.i (g.S.LinkStore.heap c.loop-i.store) c.loop-i-test.false c.loop-i.invariant.so

@@ -1,0 +1,135 @@
+//! Wakes the membranes that a commit touches, and those round them.
+ghost use Rattle.std.specs.Prelude.{◌<◌, ℕ, length};
+ghost use Rattle.lmn_body.specs.Running.{Registers};
+ghost use Rattle.lmn_heap.specs.Heap.{IsAtom, IsMem, arity_of};
+ghost use Rattle.lmn_commit.specs.Registers.{AgreesWithCopies, AreHeld};
+ghost use Rattle.lmn_commit.specs.Preparing.{AllUse, Uses};
+ghost use Rattle.lmn_commit.specs.Waking.{AllDeep, Is, IsAwakeRound, IsHome, IsHomeBeside, IsPartnerHome, IsRoused, Rouses, WakesAbove};
+
+use lmn_instr::Instr;
+use lmn_registers::SetRegisters;
+use lmn_store::LinkStore;
+
+/// A membrane wakes, and each one round it.
+fn wake_round<S: LinkStore>(store: &mut S, membrane: S::Mem)
+    requires deep { AllDeep (S.heap store.old) }
+    requires membrane { IsMem (S.heap store.old) (S.mem_id membrane) }
+    ensures { WakesAbove (Is (S.mem_id membrane)) (S.heap store.old) (S.heap store.new) }
+{
+    let _root = store.root();
+    let mut at = membrane;
+    for step in 0..u64::MAX {
+        store.set_mem_mark(at, 0);
+        match store.parent(at) {
+            Some(parent) => at = parent,
+            None => return,
+        }
+    }
+}
+
+/// A membrane wakes, and each one round it below `top`. That one is awake, and so is each one round it.
+fn wake_below<S: LinkStore>(store: &mut S, membrane: S::Mem, top: S::Mem)
+    requires deep { AllDeep (S.heap store.old) }
+    requires membrane { IsMem (S.heap store.old) (S.mem_id membrane) }
+    requires top { IsMem (S.heap store.old) (S.mem_id top) }
+    requires awake { IsAwakeRound (S.heap store.old) (S.mem_id top) }
+    ensures { WakesAbove (Is (S.mem_id membrane)) (S.heap store.old) (S.heap store.new) }
+{
+    let _root = store.root();
+    let mut at = membrane;
+    for step in 0..u64::MAX {
+        if store.same_mem(at, top) {
+            return;
+        }
+        store.set_mem_mark(at, 0);
+        match store.parent(at) {
+            Some(parent) => at = parent,
+            None => return,
+        }
+    }
+}
+
+/// The home of an atom wakes, if it has one.
+fn wake_home<S: LinkStore>(store: &mut S, atom: S::Atom, top: S::Mem)
+    requires deep { AllDeep (S.heap store.old) }
+    requires atom { IsAtom (S.heap store.old) (S.atom_id atom) }
+    requires top { IsMem (S.heap store.old) (S.mem_id top) }
+    requires awake { IsAwakeRound (S.heap store.old) (S.mem_id top) }
+    ensures { WakesAbove (IsHome (S.heap store.old) (S.atom_id atom)) (S.heap store.old) (S.heap store.new) }
+{
+    let _root = store.root();
+    match store.home(atom) {
+        Some(home) => wake_below(store, home, top),
+        None => {}
+    }
+}
+
+/// The home of the atom wakes that is joined to a port.
+fn wake_partner<S: LinkStore>(store: &mut S, atom: S::Atom, port: u8, top: S::Mem)
+    requires deep { AllDeep (S.heap store.old) }
+    requires atom { IsAtom (S.heap store.old) (S.atom_id atom) }
+    requires port { port < arity_of (S.heap store.old) (S.atom_id atom) }
+    requires top { IsMem (S.heap store.old) (S.mem_id top) }
+    requires awake { IsAwakeRound (S.heap store.old) (S.mem_id top) }
+    ensures { WakesAbove (IsPartnerHome (S.heap store.old) (S.atom_id atom) port) (S.heap store.old) (S.heap store.new) }
+{
+    match store.partner(atom, port) {
+        Some(other) => wake_home(store, other.0, top),
+        None => {}
+    }
+}
+
+/// The home of an atom wakes, and those of the atoms that are joined to it.
+fn wake_beside<S: LinkStore>(store: &mut S, atom: S::Atom, top: S::Mem)
+    requires deep { AllDeep (S.heap store.old) }
+    requires atom { IsAtom (S.heap store.old) (S.atom_id atom) }
+    requires top { IsMem (S.heap store.old) (S.mem_id top) }
+    requires awake { IsAwakeRound (S.heap store.old) (S.mem_id top) }
+    ensures { WakesAbove (IsHomeBeside (S.heap store.old) (S.atom_id atom) (arity_of (S.heap store.old) (S.atom_id atom))) (S.heap store.old) (S.heap store.new) }
+{
+    let _root = store.root();
+    let arity = store.functor(atom).arity;
+    wake_home(store, atom, top);
+    for port in 0..arity {
+        wake_partner(store, atom, port, top);
+    }
+}
+
+/// What an instruction touches by taking it away wakes.
+fn wake_for<S: LinkStore>(
+    store: &mut S,
+    instr: &Instr,
+    set: &SetRegisters<S::Atom, S::Mem>,
+    top: S::Mem,
+)
+    requires deep { AllDeep (S.heap store.old) }
+    requires held { AreHeld S.atom_id S.mem_id (S.heap store.old) set.now }
+    requires uses { Uses (length set.now.atoms) (length set.now.membranes) (length set.now.parts) (length set.now.copies) instr.now }
+    requires top { IsMem (S.heap store.old) (S.mem_id top) }
+    requires awake { IsAwakeRound (S.heap store.old) (S.mem_id top) }
+    ensures { (r : Registers) → AgreesWithCopies S.atom_id S.mem_id set.now r → WakesAbove (Rouses (S.heap store.old) r instr.now) (S.heap store.old) (S.heap store.new) }
+{
+    match instr {
+        Instr::RemoveAtom { atom } => wake_beside(store, set.atoms.at(*atom as usize), top),
+        Instr::RemoveMem { membrane } => {
+            wake_below(store, set.membranes.at(*membrane as usize), top);
+        }
+        _ => {}
+    }
+}
+
+/// What the code of a body touches wakes: the membrane of the rule, those that the code takes away, the homes of the atoms that
+/// it takes away and of those that are joined to them, and each membrane round one of these.
+pub(crate) fn wake<S: LinkStore>(store: &mut S, code: &[Instr], set: &SetRegisters<S::Atom, S::Mem>)
+    requires deep { AllDeep (S.heap store.old) }
+    requires held { AreHeld S.atom_id S.mem_id (S.heap store.old) set.now }
+    requires uses { AllUse (length set.now.atoms) (length set.now.membranes) (length set.now.parts) (length set.now.copies) code.now }
+    requires some { 0 < length set.now.membranes }
+    ensures { (r : Registers) → AgreesWithCopies S.atom_id S.mem_id set.now r → WakesAbove (IsRoused (S.heap store.old) r code.now) (S.heap store.old) (S.heap store.new) }
+{
+    let top = set.membranes.at(0);
+    wake_round(store, top);
+    for i in 0..code.len() {
+        wake_for(store, &code[i], set, top);
+    }
+}

@@ -1,0 +1,25 @@
+//! All membranes of a store are woken.
+ghost use Rattle.std.specs.Prelude.{◌≡◌};
+ghost use Rattle.lmn_heap.specs.Sound.{Valid};
+ghost use Rattle.lmn_sleep.specs.Quiet.{SameButMarks};
+ghost use Rattle.lmn_strategy.specs.Quieting.{AllAwake};
+
+use lmn_store::LinkStore;
+use lmn_strategy::next_membrane;
+
+/// Each membrane wakes. The store is else as it was.
+pub fn rouse_all<S: LinkStore>(store: &mut S)
+    requires { Valid (S.heap store.old) }
+    ensures alike { SameButMarks (S.heap store.old) (S.heap store.new) }
+    ensures awake { AllAwake (S.heap store.new) }
+{
+    // There are fewer membranes than that, so the loop ends at a return.
+    let mut at = store.root();
+    for counted in 0..u64::MAX {
+        store.set_mem_mark(at, 0);
+        match next_membrane(store, at) {
+            Some(next) => at = next,
+            None => return,
+        }
+    }
+}

@@ -1,0 +1,5 @@
+pub mod Guards
+pub mod Staying
+pub mod Marks
+pub mod Lasting
+pub mod SmallHeaps
