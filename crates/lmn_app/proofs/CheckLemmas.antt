@@ -20,6 +20,7 @@ use Rattle.lmn_next.specs.Searching.{CanSearch, IsSolidBy}
 use Rattle.lmn_receipt.specs.Chains.{Continued, IsChain, IsWrongTrace, begun, continued, line_of_solid, no_end_line, no_first_line, no_next_line}
 use Rattle.lmn_receipt.specs.Laws.{ChainsAreCommits, ContinuesByCommit, IsAcceptedSolid}
 use Rattle.lmn_reduction.proofs.Plains.{plain_settles}
+use Rattle.lmn_listable.proofs.ReadPlains.{plain_read}
 use Rattle.lmn_runs.specs.Laws.{IsPrintable, solid_of}
 use Rattle.lmn_runs.specs.Runs.{IsLineOf}
 use Rattle.lmn_runs.specs.Texts.{PlainsArePrintable}
@@ -33,7 +34,6 @@ use Rattle.lmn_app.specs.Runnings.{EndsByLine}
 use Rattle.lmn_app.specs.SecondTexts.{IsSecondCode}
 use Rattle.lmn_app.specs.Texts.{Accepts}
 use Rattle.lmn_app.proofs.PlainRegions.{region_is_numbered, solid_with_region}
-use Rattle.lmn_app.proofs.ReadPlains.{plain_read}
 
 -- ---- what is asked of an accepted program and its solid
 
@@ -66,7 +66,7 @@ solid_accepted names plain printable s is =
 module _ (laws : AcceptedTexts) (printables : PlainsArePrintable) (program : List ℕ) where
   -- runs of an accepted program can be printed
   pub printable_of : (names : List Name) (plain : Plain) (plans : List GuardPlan) → Accepts program names plain plans → IsPrintable names plain
-  printable_of names plain plans a = printables program names plain (plain_read laws program names plain plans a)
+  printable_of names plain plans a = printables program names plain (plain_read laws program names plain plans a.named a.accepted)
 
   -- the solid that the program's code makes
   pub solid_made : (names : List Name) (plain : Plain) (plans : List GuardPlan) → Accepts program names plain plans → (s : Solid) → IsSolidOf plain s

@@ -1,6 +1,5 @@
 mod PlainRegions
 mod TextLemmas
-mod ReadPlains
 mod RunLemmas
 mod OutcomeLemmas
 mod RequestLemmas

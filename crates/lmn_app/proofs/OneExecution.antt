@@ -16,6 +16,7 @@ use Rattle.lmn_drive.specs.Driving.{Drove}
 use Rattle.lmn_guards.specs.declared.plan.GuardPlan.{GuardPlan}
 use Rattle.lmn_instr.specs.declared.instr.Code.{Code}
 use Rattle.lmn_listing.specs.Listings.{rule_code, rule_codes, rule_listings}
+use Rattle.lmn_listable.specs.Laws.{AcceptedCanBeListed}
 use Rattle.lmn_loading.specs.Laws.{LoadedRules, LoadingSettles}
 use Rattle.lmn_schedule.specs.Held.{AreNames}
 use Rattle.lmn_schedule.proofs.Loaded.{can_run, holds_solid}
@@ -43,6 +44,7 @@ pub record Grounds : Type 0 where
   pub alike : SolidsAreRegions
   pub codes : TablesRunAsRules
   pub read : CompiledAreRead
+  pub listed : AcceptedCanBeListed
 
 -- the code of a rule with its plan
 code_at : (table : List RuleTree) (plans : List GuardPlan) (k : ℕ) (r : RuleTree) (plan : GuardPlan) (code : Code) → slice_get table k ≡ Some r → slice_get plans k ≡ Some plan
@@ -67,11 +69,13 @@ as_ended run.Failed P ending e h = absurd e
 
 -- what is written by a listing of the program is what a run of it writes
 pub compiled_runs_as_run : Grounds → CompiledRunsAsRun
-compiled_runs_as_run g alloc program listing written end ending ends is x can =
+compiled_runs_as_run g alloc program listing written end ending ends is x =
     let laws = g.laws in
     let of = x.of in
     let a = of.accepted in
     let adds = of.adds in
+    let short = a.short in
+    let can = g.listed program of.names of.plain of.plans (omega (arith, short)) a.named a.accepted in
     let once = of.once in
     let are = of.are in
     let named = subst (λ xs. AreNames xs of.plain × (top_of xs of.plain ≡ top_of of.names of.plain)) (sym adds.are)

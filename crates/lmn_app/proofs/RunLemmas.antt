@@ -7,12 +7,12 @@ use Rattle.lmn_congruence.specs.Translation.{top_of}
 use Rattle.lmn_congruence.proofs.SolidsOfPlains.{solids_of_plains}
 use Rattle.lmn_reduction.proofs.Plains.{plain_settles}
 use Rattle.lmn_adequacy.specs.Runs.{Trace}
+use Rattle.lmn_listable.proofs.ReadPlains.{plain_read}
 use Rattle.lmn_runs.specs.Laws.{TracesAreRuns, solid_of}
 use Rattle.lmn_runs.specs.Runs.{Given, Prints, Stop, StopsBy, StopsSo}
 use Rattle.lmn_app.specs.Runs.{IsRun, IsTraceOf}
 use Rattle.lmn_runs.specs.Texts.{PlainsArePrintable}
 use Rattle.lmn_app.proofs.PlainRegions.{solid_with_region}
-use Rattle.lmn_app.proofs.ReadPlains.{plain_read}
 
 -- the laws that a run of a text takes
 pub record Laws : Type 0 where
@@ -25,7 +25,7 @@ pub trace_is_run : Laws → Global → (g : Given) (text : List ℕ) (lines : Li
     (why : Stop) → StopsSo g n t.last why → IsRun g.trace g.folded g.budget text lines why n
 trace_is_run laws alloc g text lines n t why stops =
     let a = t.accepted in
-    let printable = laws.printable text t.names t.plain (plain_read laws.accepted text t.names t.plain t.plans a) in
+    let printable = laws.printable text t.names t.plain (plain_read laws.accepted text t.names t.plain t.plans a.named a.accepted) in
     let s = solid_with_region t.names t.plain printable.made t.solid t.of_plain t.numbered in
     let trace = subst (λ S. Trace g.chooser g.budget g.size S t.before t.last) s.2 t.trace in
     let run = laws.runs alloc g t.names t.plain s.0 printable s.1 t.before t.last trace in

@@ -2,7 +2,6 @@
 use Rattle.std.specs.Prelude.{◌≡◌, ℕ, List, [], Some, false}
 use Rattle.std.specs.declared.alloc.Global.{Global}
 use Rattle.lmn_order.specs.declared.order.Order.TheVariants as order
-use Rattle.lmn_verified.specs.CompiledListings.{CanBeListed}
 use Rattle.lmn_app.specs.declared.ending.Ending.{Ending}
 use Rattle.lmn_app.specs.declared.ending.Ending.TheVariants.{Done, Budget, Full, NoMemory}
 use Rattle.lmn_app.specs.declared.task.RunSettings.{RunSettings}
@@ -25,8 +24,8 @@ EndsAs run.Full ending = ending ≡ Full
 EndsAs run.NoMemory ending = ending ≡ NoMemory
 EndsAs run.Failed ending = ⊥
 
--- Where the listing is that of the program, whose rules can be listed, what is written by it is what `run` writes of the program, with the
--- same ending. A box in a condition belongs to an allocator, so one is given.
+-- Where the listing is that of the program, what is written by it is what `run` writes of the program, with the same ending. A box in a
+-- condition belongs to an allocator, so one is given.
 abbrev pub CompiledRunsAsRun : Type 0
-CompiledRunsAsRun = (alloc : Global) (program listing written : List ℕ) (end : RunEnd) (ending : Ending) → EndsAs end ending → IsListing program listing → (x : IsExecuted program listing end written) →
-    (let of = x.of in CanBeListed of.names of.plain of.plans) → Output (task.Run run_by_default) ending (Some (Some program)) (Some []) (Some written)
+CompiledRunsAsRun = (alloc : Global) (program listing written : List ℕ) (end : RunEnd) (ending : Ending) → EndsAs end ending → IsListing program listing → IsExecuted program listing end written →
+    Output (task.Run run_by_default) ending (Some (Some program)) (Some []) (Some written)

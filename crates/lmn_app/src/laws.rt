@@ -19,6 +19,7 @@ use lmn_accepted::{accepted_texts, accepted_texts_can_be_loaded};
 use lmn_bounding::weights_bound_commits;
 use lmn_bridge::solids_are_regions;
 use lmn_coded::tables_run_as_rules;
+use lmn_listable::accepted_can_be_listed;
 use lmn_loading::loading_settles;
 use lmn_receipt::{chains_are_commits, traces_are_chains, traces_are_one_of};
 use lmn_runs::{plains_are_printable, short_run_prints, traces_are_runs};
@@ -146,7 +147,7 @@ pub fn small_text_is_debugged()
     orders_are_once();
 }
 
-/// What is written of a run by the listing of a program, whose rules can be listed, is what `run` writes of the program with no option.
+/// What is written of a run by the listing of a program is what `run` writes of the program with no option.
 pub fn compiled_runs_as_run()
     ensures { CompiledRunsAsRun }
 {
@@ -159,4 +160,5 @@ pub fn compiled_runs_as_run()
     solids_are_regions();
     tables_run_as_rules();
     compiled_are_listed();
+    accepted_can_be_listed();
 }

@@ -14,5 +14,6 @@ returns c =
       alike = c.solids_are_regions.ensures;
       codes = c.tables_run_as_rules.ensures;
       read = listed.read;
+      listed = c.accepted_can_be_listed.ensures;
     } in
     compiled_runs_as_run grounds

@@ -12,7 +12,7 @@ use Rattle.lmn_lexer.specs.declared.token.Kind.{Kind}
 use Rattle.lmn_lexer.specs.declared.token.Kind.TheVariants as kind
 use Rattle.lmn_reading.proofs.ListedNames.{HoldsNames, names_held}
 use Rattle.lmn_runs.specs.Texts.{HasName, IsPlainRead}
-use Rattle.lmn_app.specs.Texts.{Accepts}
+use Rattle.lmn_reading.specs.Texts.{IsAcceptedAs, LeavesNames}
 use Rattle.lmn_accepted.proofs.FirstNames.{first_are_names}
 
 named_kind : (k : Kind) → HasName k → has_name k ≡ true
@@ -23,14 +23,14 @@ named_kind kind.Context h = refl
 named_kind kind.RuleCtx h = refl
 named_kind _ h = absurd h
 
-module _ (accepted_texts : AcceptedTexts) (text : List ℕ) (names : List Name) (plain : Plain) (plans : List GuardPlan) (a : Accepts text names plain plans) where
+module _ (accepted_texts : AcceptedTexts) (text : List ℕ) (names : List Name) (plain : Plain) (plans : List GuardPlan) (left : LeavesNames text first_names names) (r : IsAcceptedAs text names plain plans) where
+  -- its plain is read so that runs of it can be printed
   pub plain_read : IsPlainRead text names plain
   plain_read =
-      let r = a.accepted in
       let reads = r.reads in
-      let named = accepted_texts.named text first_names names plain plans first_are_names a.named r in
+      let named = accepted_texts.named text first_names names plain plans first_are_names left r in
       let P : List Name → Type 0 = HoldsNames text reads.tokens in
-      let held = subst P (sym (a.named reads.tokens reads.tree reads.right reads.reads reads.within)) (names_held text reads.tokens first_names first_are_names) in
+      let held = subst P (sym (left reads.tokens reads.tree reads.right reads.reads reads.within)) (names_held text reads.tokens first_names first_are_names) in
       let reading : HeapReading = record { name = λ m i. 0; names = names; rule = numbered_rule names plain.rules } in
       record {
         tokens = reads.tokens;
@@ -41,5 +41,5 @@ module _ (accepted_texts : AcceptedTexts) (text : List ℕ) (names : List Name) 
         made = accepted_texts.made text names plain plans r;
         named = named;
         holds = record { cell = held.cell; empty = held.empty; plus = held.plus; equals = held.equals; token = λ p t e h. held.token p t e (named_kind t.kind h) };
-        accepted = λ k t e. let rule = accepted_texts.tree text first_names names plain plans first_are_names a.named r reading refl k t e in rule.accepted;
+        accepted = λ k t e. let rule = accepted_texts.tree text first_names names plain plans first_are_names left r reading refl k t e in rule.accepted;
       }
