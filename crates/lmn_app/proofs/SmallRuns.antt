@@ -46,6 +46,7 @@ use Rattle.lmn_app.specs.TextExamples.{SmallTextHasItsTrace, SmallTextRuns, Trac
 use Rattle.lmn_app.specs.Texts.{Accepts}
 use Rattle.lmn_accepted.proofs.FirstNames.{first_are_names}
 use Rattle.lmn_app.proofs.SmallTexts.{reads, small_text_is_accepted}
+use Rattle.lmn_runs.proofs.ExampleLines.{many_lines}
 
 -- the solids of its trace
 abbrev pub first : Region
@@ -131,11 +132,6 @@ of_last {folded = folded} {names = names} {Q = Q} (next_line {lines = lines} lin
 
 end_alone : ShortRunPrints → Global → LastLine false small_names (region_process first) 1 (region_process last) (small_end ∷ [])
 end_alone printed alloc = record { commits = step_after no_step short_trace_ends.1; line = small_end; alone = refl; of = of_last (both_lines printed alloc) }
-
--- each commit has a line
-many_lines : {folded : Bool} {names : List Name} {P Q : Process} {n : ℕ} {lines : List (List ℕ)} → AllLines folded names P n Q lines → length lines ≡ n + 1
-many_lines (first_line line h) = refl
-many_lines (next_line {lines = lines} line h c g) = omega (arith, many_lines h, length-append lines (line ∷ []))
 
 -- without a commit the last process is the first
 none_done : {folded : Bool} {names : List Name} {P Q : Process} {n : ℕ} {lines : List (List ℕ)} → AllLines folded names P n Q lines → n ≡ 0 → Q ≡ P

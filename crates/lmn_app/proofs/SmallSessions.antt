@@ -25,6 +25,7 @@ use Rattle.lmn_app.specs.Debugs.{IsSession, session_size}
 use Rattle.lmn_app.specs.TextExamples.{no_plan, small_names, small_plain, small_text}
 use Rattle.lmn_app.proofs.SmallRuns.{first, last, more_allowed, nothing_left, small_named, small_solid}
 use Rattle.lmn_app.proofs.SmallTexts.{small_text_is_accepted}
+use Rattle.lmn_debugging.proofs.ExampleOrders.{none_before as none_obeyed}
 
 -- ---- a session
 
@@ -101,10 +102,6 @@ one_step names = record {
 only_one : {A : Type 0} (xs : List A) (x y : A) → xs ++ x ∷ [] ≡ y ∷ [] → (xs ≡ []) × (x ≡ y)
 only_one [] x y e = (refl, head_is e)
 only_one (z ∷ zs) x y e = absurd (let many = ap length e in omega (arith, many, length-append zs (x ∷ [])))
-
-none_obeyed : {names : List Name} {g : Course} {orders : List Order} {lines : List (List ℕ)} {t : ℕ} → ObeysAll names g orders lines t → orders ≡ [] → (lines ≡ []) × (t ≡ 0)
-none_obeyed begun e = (refl, refl)
-none_obeyed (obeyed {orders = orders} {order = order} all this) e = absurd (let many = ap length e in omega (arith, many, length-append orders (order ∷ [])))
 
 -- one order is obeyed at the beginning
 one_obeyed : {names : List Name} {g : Course} {orders : List Order} {lines : List (List ℕ)} {t : ℕ} → ObeysAll names g orders lines t → (order : Order) → orders ≡ order ∷ []

@@ -321,3 +321,8 @@ same_behind i xs ys d e = sym (at_zero ys) ∙ ap (λ l. get_or l 0 d) e ∙ at_
 -- the sum over a list with one more in front
 pub sum_cons : {X : Type 0} (f : X → ℕ) (x : X) (xs : List X) → sum (map f (x ∷ xs)) ≡ f x + sum (map f xs)
 sum_cons f x xs = sum-map f (x ∷ xs) ∙ sum_by-cons f x xs ∙ ap (λ n. f x + n) (sym (sum-map f xs))
+
+pub read_or : (xs : List ℕ) (n a : ℕ) → slice_get xs n ≡ Some a → slice_index_or xs n 0 ≡ a
+read_or [] n a e = absurd (cc)
+read_or (x ∷ xs) zero a e = same_Some _ _ e
+read_or (x ∷ xs) (suc n) a e = read_or xs n a e

@@ -1,8 +1,8 @@
 -- General lemmas on numbers.
 use Rattle.lmn_base.proofs.Truth.{Decided}
-use Rattle.std.proofs.Common.{suc, zero, ℕ, ◌+◌, arith, true, ◌==◌, ◌≡◌, inl, inr, ◌<◌, ◌∙◌, ◌≤◌, ◌⊎◌, ◌≢◌, false, Bool, refl, nat_le, replicate, subst, sym, ap, []}
+use Rattle.std.proofs.Common.{suc, zero, ℕ, ◌+◌, arith, true, ◌==◌, ◌≡◌, inl, inr, ◌<◌, ◌∙◌, ◌≤◌, ◌⊎◌, ◌≢◌, false, Bool, refl, nat_le, replicate, subst, sym, ap, [], ◌-◌}
 use Rattle.std.proofs.Math.Nat.{min-eq_left, min_comm}
-use Rattle.std.proofs.lemmas.Bool.{cases_lt, eqb-true, cases_eq}
+use Rattle.std.proofs.lemmas.Bool.{cases_lt, eqb-true, cases_eq, ltb-true}
 use Rattle.std.proofs.lemmas.Bool.Decides.{nat_tests, leb_tells}
 use Rattle.std.specs.Prelude.{min, nat_lt, slice_index_or, if◌then◌else◌, take}
 
@@ -180,3 +180,18 @@ take_none (suc k) = refl
 -- one is not zero
 pub one_is_not_zero : ◌≢◌ {A = ℕ} 1 0
 one_is_not_zero = omega arith
+
+pub is_less : (m n : ℕ) → nat_lt m n ≡ true → m < n
+is_less m n e = ltb-true m n e
+
+pub lower : (n m : ℕ) → n < m → nat_lt n m ≡ true
+lower n m h = grind arith
+
+pub split_at : (s a : ℕ) → s ≤ a → (j : ℕ) × (a ≡ s + j)
+split_at s a l = (a - s, omega (arith, l))
+
+pub not_lower : (n m : ℕ) → m ≤ n → nat_lt n m ≡ false
+not_lower n m h = grind arith
+
+pub none_more : (n : ℕ) → n + 0 ≡ n
+none_more n = omega arith

@@ -80,3 +80,7 @@ test_same false false f g = refl
 pub if_no : {X : Type 0} (t : Bool) (x y : X) → t ≡ false → (if t then x else y) ≡ y
 if_no true x y e = absurd cc
 if_no false x y e = refl
+
+pub never : (a : Bool) → (a ≡ true → ⊥) → a ≡ false
+never true h = absurd (h refl)
+never false h = refl

@@ -221,7 +221,7 @@ in_often x (y ∷ xs) (inr i) = by (one_if_same x y) (places x xs) (in_often x x
     by a n h = omega arith
 
 -- a link that stands at typed contexts stands at some one
-typed_some : (x : ℕ) (ts : List heads.HeadTyped) → 1 ≤ times x (map (λ (t : heads.HeadTyped). t.link) ts) → (g : ℕ) × (t : heads.HeadTyped) × (slice_get ts g ≡ Some t) × (t.link ≡ x)
+pub typed_some : (x : ℕ) (ts : List heads.HeadTyped) → 1 ≤ times x (map (λ (t : heads.HeadTyped). t.link) ts) → (g : ℕ) × (t : heads.HeadTyped) × (slice_get ts g ≡ Some t) × (t.link ≡ x)
 typed_some x [] h = absurd (off h)
   where
     off : 1 ≤ 0 → ⊥

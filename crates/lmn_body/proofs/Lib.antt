@@ -55,3 +55,4 @@ pub mod Numbered
 mod Worked
 mod ExampleCopy
 pub mod Meant
+pub mod Common

@@ -33,7 +33,7 @@ use Rattle.lmn_heap.proofs.Common.{decide_in}
 use Rattle.lmn_heap.proofs.Listing.{alter_at as altered_at, alter_away as altered_away}
 use Rattle.lmn_base.specs.Lists.{In}
 
-some_kept : (o : Option HeapMem) (n : ℕ) → IsSome o → IsSome (option_map (mem_with_spare n) o)
+pub some_kept : (o : Option HeapMem) (n : ℕ) → IsSome o → IsSome (option_map (mem_with_spare n) o)
 some_kept None n i = absurd (cc)
 some_kept (Some x) n i = refl
 

@@ -26,7 +26,7 @@ RestsOfRule = (table : List RuleTree) (rule : RuleTree) (plan : GuardPlan) → I
     IsFirstSuccess h (rule_head_code rule plan) m s.head → HoldsRestsOf h (rule_head_code rule plan) s → HoldsRests h s (head_items rule plan)
 
 -- two maps that agree on some rising numbers have the same images of them
-mapped_alike : (f g : ℕ → ℕ) (x n : ℕ) → ((k : ℕ) → k < x + n → f k ≡ g k) → map f (rising x n) ≡ map g (rising x n)
+pub mapped_alike : (f g : ℕ → ℕ) (x n : ℕ) → ((k : ℕ) → k < x + n → f k ≡ g k) → map f (rising x n) ≡ map g (rising x n)
 mapped_alike f g x zero same = refl
 mapped_alike f g x (suc n) same =
     let here = same x (omega arith) in

@@ -10,13 +10,7 @@ use Rattle.lmn_instr.specs.declared.instr.Code.{Code}
 use Rattle.lmn_strategy.specs.Choosing.{IsFirstIn, asked}
 use Rattle.lmn_strategy.proofs.Chosen.{some_membrane}
 use Rattle.lmn_coded.specs.Turning.{SomeIn}
-
--- the root is among the membranes of a valid heap
-pub root_counts : (h : Heap) → Valid h → (many : ℕ) → ((f : Forest) → IsTree h f → many ≡ length (flat f)) → 0 < many
-root_counts h v many law =
-    let counted = law v.tree.0 v.tree.1 in
-    let some = some_membrane h v.tree.0 v.tree.1 in
-    omega (arith, counted, some)
+use Rattle.lmn_schedule.proofs.Turned.{some_membrane as root_counts}
 
 -- the code of a rule that is chosen succeeds
 pub chosen_succeeds : (h : Heap) (codes : List Code) (f : Forest) (m place k : ℕ) → IsFirstIn h codes (asked 0 f) m place k → SomeIn h codes (flat f)

@@ -21,19 +21,10 @@ use Rattle.lmn_machine.specs.Costs.{AddsItems, InAll, IsRestSize, IsSize, IsTold
 use Rattle.lmn_machine.specs.Searching.{parts_set}
 use Rattle.lmn_strategy.specs.Turns.{HoldsRestsOf, IsBesideCode, IsRestOf}
 use Rattle.lmn_coded.proofs.Matches.{Alike}
+use Rattle.lmn_choice.proofs.RestsHeld.{mapped_alike}
+use Rattle.lmn_commit.proofs.Owning.{keep_same as keep_alike}
 
 -- ---- lists
-
-keep_alike : (f g : ℕ → Bool) (xs : List ℕ) → ((x : ℕ) → In x xs → f x ≡ g x) → keep f xs ≡ keep g xs
-keep_alike f g [] same = refl
-keep_alike f g (x ∷ xs) same = let here = same x (inl refl) in let rest = keep_alike f g xs (λ y i. same y (inr i)) in rw (here, rest) refl
-
-mapped_alike : (f g : ℕ → ℕ) (x n : ℕ) → ((k : ℕ) → k < x + n → f k ≡ g k) → map f (rising x n) ≡ map g (rising x n)
-mapped_alike f g x zero same = refl
-mapped_alike f g x (suc n) same =
-    let here = same x (omega arith) in
-    let rest = mapped_alike f g (suc x) n (λ k l. same k (omega (arith, l))) in
-    λ i. here i ∷ rest i
 
 -- a part has one size
 size_one : (h : Heap) (p : Port) (n k : ℕ) → IsSize h p n → IsSize h p k → n ≡ k

@@ -11,15 +11,12 @@ use Rattle.lmn_heap.specs.Sound.{Forest, bare, mem, Forms, IsTree}
 use Rattle.lmn_heap.proofs.Groves.{forms_frame}
 use Rattle.lmn_body.specs.Stopping.{SameButSpares}
 use Rattle.lmn_folded_printer.specs.Lines.{IsHeapLine}
+use Rattle.lmn_choice.proofs.Makings.{some_kept as there_after}
 
 -- a membrane with other room has the same lists
 same_lists : (o : Option HeapMem) (k : ℕ) → (atoms_by (option_map (mem_with_spare k) o) ≡ atoms_by o) × (mems_by (option_map (mem_with_spare k) o) ≡ mems_by o) × (rules_by (option_map (mem_with_spare k) o) ≡ rules_by o)
 same_lists None k = (refl, refl, refl)
 same_lists (Some x) k = (refl, refl, refl)
-
-there_after : (o : Option HeapMem) (k : ℕ) → IsSome o → IsSome (option_map (mem_with_spare k) o)
-there_after None k i = absurd (cc i)
-there_after (Some x) k i = refl
 
 module _ (h t : Heap) (same : SameButSpares h t) where
   atoms_same : (m : ℕ) → atoms_in h m ≡ atoms_in t m

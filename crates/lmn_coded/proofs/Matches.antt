@@ -18,6 +18,7 @@ use Rattle.lmn_instr.specs.declared.instr.Instr.TheVariants.{FindAtom, Deref, An
 use Rattle.lmn_instr.specs.Running.{AllHold, HeadRegisters, HeadSize, IsFirstSuccess, atoms_set, choices, membranes_set, port_of, size_of_head}
 use Rattle.lmn_machine.specs.Searching.{HeadInOrder, parts_set}
 use Rattle.lmn_strategy.specs.Choosing.{IsFirstIn, IsFirstRule, NoneIn, NoneOf}
+use Rattle.lmn_compile_head.proofs.Only.{neither_after}
 
 -- ---- the rule that is chosen
 
@@ -106,16 +107,6 @@ module _ (h : Heap) (c : HeadSize) (r s : HeadRegisters) where
   alike_all (Div x y z ∷ is) a m g v A M G sa sm sg o u w e k = alike_all is a m g (v + 1) A M G sa sm sg o.1 u.1 w.1 e k
   alike_all (Mod x y z ∷ is) a m g v A M G sa sm sg o u w e k = alike_all is a m g (v + 1) A M G sa sm sg o.1 u.1 w.1 e k
   alike_all (_ ∷ is) a m g v A M G sa sm sg o u w e k = alike_all is a m g v A M G sa sm sg o.1 u.1 w.1 e k
-
--- two lists of which neither is after the other are the same
-neither_after : (ps qs : List ℕ) → ListNotAfter ps qs → ListNotAfter qs ps → ps ≡ qs
-neither_after [] [] s t = refl
-neither_after [] (q ∷ qs) s t = absurd t
-neither_after (p ∷ ps) [] s t = absurd s
-neither_after (p ∷ ps) (q ∷ qs) (inl s) (inl t) = absurd (omega (arith, s, t))
-neither_after (p ∷ ps) (q ∷ qs) (inl s) (inr t) = absurd (let e = t.0 in omega (arith, s, e))
-neither_after (p ∷ ps) (q ∷ qs) (inr s) (inl t) = absurd (let e = s.0 in omega (arith, t, e))
-neither_after (p ∷ ps) (q ∷ qs) (inr s) (inr t) = let e = s.0 in let r = neither_after ps qs s.1 t.1 in rw (e, r) refl
 
 -- so all registers are the same that head code sets in order
 pub one_match : (h : Heap) (code : List Instr) (m : ℕ) (r s : HeadRegisters) → HeadInOrder 0 1 0 0 code → IsFirstSuccess h code m r → IsFirstSuccess h code m s → Alike r s (atoms_set code) (1 + membranes_set code) (parts_set code)

@@ -14,6 +14,9 @@ use Rattle.lmn_body.specs.Running.{Registers, Prepares, DoesAll, Makes, Does, al
 use Rattle.lmn_body.specs.Tied.{tied}
 use Rattle.lmn_body.proofs.RestsMade.{joined_lines}
 use Rattle.lmn_body.proofs.RestMems.{like_mems}
+use Rattle.lmn_body.proofs.Common.{placed_root, tied_root}
+use Rattle.lmn_heap.proofs.Common.{taken_root}
+use Rattle.lmn_parts.proofs.Common.{copies_root, mems_taken_root}
 
 -- each membrane that is there was there, with the same mark
 abbrev pub Kept : (ℕ → Option HeapMem) → (ℕ → Option HeapMem) → Type 0
@@ -222,36 +225,6 @@ made_awake r (i ∷ is) s t w = marked_on s.mems w.0.mems t.mems (makes r i s w.
 
 -- ---- the root stays
 
-tied_root : (t : Tie Port) (s : Heap) → (tied s t).root ≡ s.root
-tied_root (newlink p q) s = refl
-tied_root (relink p o) s = by (link_of s o.0 o.1)
-  where
-    by : (x : Option (ℕ × ℕ)) → (joined_to s p.0 p.1 x).root ≡ s.root
-    by None = refl
-    by (Some c) = refl
-tied_root (unify g o) s = by (link_of s g.0 g.1) (link_of s o.0 o.1)
-  where
-    cut : (t : Bool) (c d : ℕ × ℕ) → (cond t s (joined s c.0 c.1 d.0 d.1)).root ≡ s.root
-    cut true c d = refl
-    cut false c d = refl
-
-    by : (x y : Option (ℕ × ℕ)) → (joined_both s o.0 o.1 x y).root ≡ s.root
-    by None y = refl
-    by (Some c) None = refl
-    by (Some c) (Some d) = cut ((c.0 == o.0) && (c.1 == o.1)) c d
-
-taken_root : (ns : List ℕ) (s : Heap) → (taken_all s ns).root ≡ s.root
-taken_root [] s = refl
-taken_root (a ∷ ns) s = taken_root ns (taken s a)
-
-placed_root : (es : List (ℕ × ℕ)) (s : Heap) → (all_placed s es).root ≡ s.root
-placed_root [] s = refl
-placed_root (e ∷ es) s = placed_root es (placed s e.0 e.1)
-
-copies_root : (copy : ℕ → ℕ) (n : ℕ) (xs : List ℕ) (s : Heap) → (atoms_placed copy s n xs).root ≡ s.root
-copies_root copy n [] s = refl
-copies_root copy n (a ∷ xs) s = copies_root copy n xs (placed s n (copy a))
-
 membranes_root : (copy_mem copy : ℕ → ℕ) (ms : List ℕ) (s : Heap) → (membranes_placed copy_mem copy s ms).root ≡ s.root
 membranes_root copy_mem copy [] s = refl
 membranes_root copy_mem copy (m ∷ ms) s =
@@ -261,10 +234,6 @@ membranes_root copy_mem copy (m ∷ ms) s =
 rest_placed_root : (s : Heap) (m n : ℕ) (atoms ms copies new_ms : List ℕ) → (rest_placed s m n atoms ms copies new_ms).root ≡ s.root
 rest_placed_root s m n atoms ms copies new_ms =
     membranes_root (answer (m ∷ ms) (n ∷ new_ms)) (answer atoms copies) ms (atoms_placed (answer atoms copies) s n (atoms_in s m)) ∙ copies_root (answer atoms copies) n (atoms_in s m) s
-
-mems_taken_root : (ms : List ℕ) (s : Heap) → (all_mems_taken s ms).root ≡ s.root
-mems_taken_root [] s = refl
-mems_taken_root (m ∷ ms) s = mems_taken_root ms (heap.taken_mem s m)
 
 root_of : (s u t : Heap) → t ≡ u → u.root ≡ s.root → t.root ≡ s.root
 root_of s u t e q = ap (λ (z : Heap). z.root) e ∙ q

@@ -9,7 +9,7 @@ use Rattle.lmn_base.proofs.Lists.{get_there}
 use Rattle.lmn_heap.specs.Heap.{Heap, HeapAtom, IsMem, IsAtom, IsMemInPlace, home_by, home_of, link_of, partners_of, mem_mark_of}
 use Rattle.lmn_heap.specs.Sound.{Valid}
 use Rattle.lmn_heap.specs.Conditions.{Above}
-use Rattle.lmn_heap.proofs.Common.{home_placed, linked_atom, in_place_atom}
+use Rattle.lmn_heap.proofs.Common.{home_placed, linked_atom, in_place_atom, in_map as to_image}
 use Rattle.lmn_solid.specs.declared.items.HeadItem.{HeadItem}
 use Rattle.lmn_solid.specs.Heads.{HeadMembrane, atoms_of, membranes_of, typed_contexts_of}
 use Rattle.lmn_solid.specs.Embeddings.{Lies}
@@ -39,6 +39,7 @@ use Rattle.lmn_commit.proofs.Rules.{stays_there}
 use Rattle.lmn_commit.proofs.Touched.{IsRoot, of_rule, of_mem, of_atom, of_partner, is_quiet, none_touched}
 use Rattle.lmn_sleep.specs.Quiet.{IsQuiet, Wakes}
 use Rattle.lmn_sleep.proofs.Marks.{ReadAlike, read_alike, alike_back}
+use Rattle.lmn_base.proofs.Common.{of_map as of_image}
 
 -- ---- what code rouses
 
@@ -121,16 +122,6 @@ links_rouse_none s r m news olds (z ∷ zs) y w =
     ]
 
 -- ---- lists of images
-
-of_image : (f : ℕ → ℕ) (x : ℕ) (ns : List ℕ) → In x (map f ns) → (n : ℕ) × In n ns × (f n ≡ x)
-of_image f x [] i = absurd i
-of_image f x (n ∷ ns) (inl e) = (n, inl refl, e)
-of_image f x (n ∷ ns) (inr i) = let q = of_image f x ns i in (q.0, inr q.1, q.2)
-
-to_image : (f : ℕ → ℕ) (n : ℕ) (ns : List ℕ) → In n ns → In (f n) (map f ns)
-to_image f n (m ∷ ns) (inl e) = inl (ap f e)
-to_image f n (m ∷ ns) (inr i) = inr (to_image f n ns i)
-to_image f n [] i = absurd i
 
 in_rising_from : (n a k : ℕ) → a ≤ k → k < a + n → In k (rising a n)
 in_rising_from zero a k l u = absurd (omega (arith, l, u))

@@ -47,7 +47,7 @@ mark_one h k m v e = subst (SameButMarks h) (sym e) (record { root = refl; atoms
     by x false None = (0, refl)
     by x false (Some y) = (y.mark, refl)
 
-marked_there : (h : Heap) (m v : ℕ) → IsMem h m → mem_mark_of (mem_marked h m v) m ≡ v
+pub marked_there : (h : Heap) (m v : ℕ) → IsMem h m → mem_mark_of (mem_marked h m v) m ≡ v
 marked_there h m v i = rw (eq_self m) (by (h.mems m) i)
   where
     eq_self : (n : ℕ) → (n == n) ≡ true
@@ -57,7 +57,7 @@ marked_there h m v i = rw (eq_self m) (by (h.mems m) i)
     by None i = absurd (cc)
     by (Some x) i = refl
 
-marked_away : (h : Heap) (m v x : ℕ) → (x ≡ m → ⊥) → mem_mark_of (mem_marked h m v) x ≡ mem_mark_of h x
+pub marked_away : (h : Heap) (m v x : ℕ) → (x ≡ m → ⊥) → mem_mark_of (mem_marked h m v) x ≡ mem_mark_of h x
 marked_away h m v x d = rw (not_equal x m d) refl
 
 -- ---- ways up

@@ -41,12 +41,9 @@ use Rattle.lmn_body.proofs.Committing.{in_withouts_of}
 use Rattle.lmn_body.proofs.Held.{Held}
 use Rattle.lmn_body.proofs.RestGrowing.{given_none, in_given}
 use Rattle.lmn_sleep.specs.Quiet.{IsQuiet, IsUntouched}
+use Rattle.lmn_heap.proofs.Groves.{without_absent as without_no}
 
 -- ---- lists
-
-without_no : (a : ℕ) (xs : List ℕ) → (In a xs → ⊥) → without a xs ≡ xs
-without_no a [] n = refl
-without_no a (x ∷ xs) n = rw (not_equal x a (λ e. n (inl e))) (ap (λ ys. x ∷ ys) (without_no a xs (λ i. n (inr i))))
 
 withouts_no : (ns xs : List ℕ) → ((a : ℕ) → In a ns → In a xs → ⊥) → without_all ns xs ≡ xs
 withouts_no [] xs n = refl
@@ -183,7 +180,7 @@ below_or_not (suc i) (suc n) = elim (below_or_not i n) [ inl l ↦ inl (omega (a
 -- ---- where an added membrane comes from
 
 -- an added membrane is made, or was left of one that moves
-mems_moved : (r : Registers) (qs : RestCopies) (left left_mems : ℕ → List ℕ) (m : ℕ) (body : List BodyItem) → AreAsLong r qs body → AreWholeRests r left left_mems body → (x b : ℕ) → In b (added_mems r qs left_mems m body x) → In b (made_mems r qs m body) ⊎ ((k : ℕ) × In k (moved_mems r body) × In b (left_mems k))
+pub mems_moved : (r : Registers) (qs : RestCopies) (left left_mems : ℕ → List ℕ) (m : ℕ) (body : List BodyItem) → AreAsLong r qs body → AreWholeRests r left left_mems body → (x b : ℕ) → In b (added_mems r qs left_mems m body x) → In b (made_mems r qs m body) ⊎ ((k : ℕ) × In k (moved_mems r body) × In b (left_mems k))
 mems_moved r qs left left_mems m [] lo wh x b i = absurd i
 mems_moved r qs left left_mems m (Atom functor links inside ∷ xs) lo wh x b i = mems_moved r qs left left_mems m xs lo wh x b i
 mems_moved r qs left left_mems m (Connector l l' ∷ xs) lo wh x b i = mems_moved r qs left left_mems m xs lo wh x b i

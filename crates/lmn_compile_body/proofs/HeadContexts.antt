@@ -561,7 +561,7 @@ names_inner pick l none = ap (head_names pick 0 1) (head_out l) ∙ ap (λ us. n
 
 -- ---- the membranes that have contexts
 
-membranes_append : (is ks : List HeadItem) → membranes_of (is ++ ks) ≡ membranes_of is ++ membranes_of ks
+pub membranes_append : (is ks : List HeadItem) → membranes_of (is ++ ks) ≡ membranes_of is ++ membranes_of ks
 membranes_append [] ks = refl
 membranes_append (i ∷ is) ks = ap (λ ms. membrane_of i ++ ms) (membranes_append is ks) ∙ sym (append_assoc (membrane_of i) (membranes_of is) (membranes_of ks))
 

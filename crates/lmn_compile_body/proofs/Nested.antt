@@ -46,6 +46,7 @@ use Rattle.lmn_congruence.proofs.Counts.{one_if_equal as one_same}
 use Rattle.lmn_splice.proofs.Common.{in_append, in_back, in_front}
 use Rattle.lmn_base.specs.Names.{context_names}
 use Rattle.lmn_solid.proofs.HeadTrees as trees
+use Rattle.lmn_solid.proofs.Common.{typed_there}
 
 -- ---- what is found in a list
 
@@ -122,16 +123,6 @@ all_back P xs ys h = All-from_recursion P ys (go xs (recursion_from_All P (xs ++
     go : (xs : List Leaf) → AllByRecursion P (xs ++ ys) → AllByRecursion P ys
     go [] h = h
     go (x ∷ xs) h = go xs h.1
-
--- the number of a name among typed contexts is that of one of them
-typed_there : (ts : List HeadTyped) (n x g : ℕ) → typed_number ts n x ≡ Some g → (i : ℕ) × (t : HeadTyped) × (g ≡ n + i) × (slice_get ts i ≡ Some t)
-typed_there [] n x g e = absurd (cc)
-typed_there (t ∷ ts) n x g e = by (t.name == x) e (typed_there ts (n + 1) x g)
-  where
-    by : (b : Bool) → (if b then Some n else typed_number ts (n + 1) x) ≡ Some g → (typed_number ts (n + 1) x ≡ Some g → (i : ℕ) × (u : HeadTyped) × (g ≡ (n + 1) + i) × (slice_get ts i ≡ Some u))
-        → (i : ℕ) × (u : HeadTyped) × (g ≡ n + i) × (slice_get (t ∷ ts) i ≡ Some u)
-    by true e later = let s : n ≡ g = (cc) in (0, t, omega (arith, s), refl)
-    by false e later = let w = later e in (suc w.0, w.1, (let k = w.2 in omega (arith, k)), w.3)
 
 module _ (heads : AcceptedHeads) (table : List RuleTree) (r : RuleTree) (plan : GuardPlan) (whole : IsCompilable table r plan) where
   abbrev entries : List (ℕ × ℕ)

@@ -37,7 +37,7 @@ use Rattle.lmn_body.proofs.Nesting as nesting
 use Rattle.lmn_ground.proofs.GroundLaws.{part_atoms}
 use Rattle.lmn_machine.specs.Costs.{IsSize, AddsItems, InAll}
 use Rattle.lmn_cost.proofs.Totals.{total_is_sum, total_same, total_none, total_ones, total_plus, total_part, total_three, total_five, total_withouts, all_out}
-use Rattle.lmn_cost.proofs.Sums.{IsAllLeft, making_adds, moved_from, moved_once}
+use Rattle.lmn_cost.proofs.Sums.{IsAllLeft, making_adds, moved_once}
 use Rattle.lmn_base.specs.Graphs.{Port}
 use Rattle.lmn_heap.specs.Lists.{without_all}
 use Rattle.lmn_base.proofs.Lists.{weigh as total, weigh_append, in_either}
@@ -45,6 +45,7 @@ use Rattle.lmn_heap.proofs.Common.{decide_in, all_more as without_both}
 use Rattle.lmn_heap.proofs.Listing.{listed_mem as listed_some, distinct_without_all}
 use Rattle.lmn_base.specs.Lists.{In}
 use Rattle.lmn_parts.proofs.Common.{keep_all as all_kept}
+use Rattle.lmn_commit.proofs.Touched.{mems_moved as moved_from}
 
 -- what `finish` leaves of a membrane
 

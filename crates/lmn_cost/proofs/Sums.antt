@@ -33,6 +33,7 @@ use Rattle.lmn_base.proofs.Lists.{weigh as total, weigh_append, in_either}
 use Rattle.lmn_base.proofs.Numbers.{not_equal as apart_test}
 use Rattle.lmn_base.specs.Lists.{In}
 use Rattle.lmn_base.proofs.Common.{of_map}
+use Rattle.lmn_commit.proofs.Touched.{mems_moved as moved_from}
 
 -- one part and then another
 pub both_sums : (P : Instr → ℕ → Type 0) (xs ys : List Instr) (m n : ℕ) → InAll P xs m → InAll P ys n → InAll P (xs ++ ys) (m + n)
@@ -278,34 +279,6 @@ module _ (h : Heap) (r : Registers) (left : ℕ → List ℕ) (ks : List ℕ) (E
       let f = atoms_first inner (rules_in h (r.head.images.membrane of)) (added_rules r q (rules_in h) xs) g.1 in
       let e = on.2 in
       (length (rules_in h (r.head.images.membrane of)) + on.0, (length (rules_in h (r.head.images.membrane of)), on.0, (refl, on.1, refl)), omega arith)
-
--- an added membrane is made, or was left of one whose content moves
-pub moved_from : (r : Registers) (q : RestCopies) (left left_mems : ℕ → List ℕ) (m : ℕ) (body : List BodyItem) → AreAsLong r q body → AreWholeRests r left left_mems body → (x b : ℕ) → In b (added_mems r q left_mems m body x)
-    → In b (made_mems r q m body) ⊎ ((k : ℕ) × In k (moved_mems r body) × In b (left_mems k))
-moved_from r q left left_mems m [] long whole x b i = absurd i
-moved_from r q left left_mems m (Atom functor links inside ∷ xs) long whole x b i = moved_from r q left left_mems m xs long whole x b i
-moved_from r q left left_mems m (Connector l l' ∷ xs) long whole x b i = moved_from r q left left_mems m xs long whole x b i
-moved_from r q left left_mems m (Copy part link inside ∷ xs) long whole x b i = moved_from r q left left_mems m xs long whole x b i
-moved_from r q left left_mems m (Bound integer link inside ∷ xs) long whole x b i = moved_from r q left left_mems m xs long whole x b i
-moved_from r q left left_mems m (Membrane inside ∷ xs) long whole x b i = elim (in_either b (if_inside r x inside (r.head.images.membrane m ∷ [])) (added_mems r q left_mems (m + 1) xs x) i) [
-  | inl j ↦ elim (in_if r x inside (r.head.images.membrane m ∷ []) b j) [ inl e ↦ inl (inl e) | inr v ↦ absurd v ]
-  | inr j ↦ elim (moved_from r q left left_mems (m + 1) xs long whole x b j) [ inl v ↦ inl (inr v) | inr v ↦ inr v ]
-]
-moved_from r q left left_mems m (Rest of false inside ∷ xs) long whole x b i = elim (in_either b (if_inside r x inside (left_mems (r.head.images.membrane of))) (added_mems r q left_mems m xs x) i) [
-  | inl j ↦ inr (r.head.images.membrane of, inl refl, in_if r x inside (left_mems (r.head.images.membrane of)) b j)
-  | inr j ↦ elim (moved_from r q left left_mems m xs long whole x b j) [ inl v ↦ inl v | inr v ↦ inr (v.0, inr v.1, v.2) ]
-]
-moved_from r q left left_mems m (Rest of true inside ∷ xs) long whole x b i =
-    let p = q 0 in
-    let G = given (λ k. map (copied_membrane r of p) (left_mems k)) (copied_into r of inside p) (rest_membranes r of) x in
-    elim (in_either b G (added_mems r (later q) left_mems m xs x) i) [
-      | inl j ↦ (let w = in_given (λ k. map (copied_membrane r of p) (left_mems k)) (copied_into r of inside p) (rest_membranes r of) x b j in
-          let v = of_map (copied_membrane r of p) b (left_mems w.0) w.3 in
-          inl (in_left b p.membranes (made_mems r (later q) m xs) (subst (λ z. In z p.membranes) v.2 (answer_in (r.left_membranes of) p.membranes v.0 (long_enough long.0.1) ((whole of (inl refl)).into_mems w.0 v.0 w.1 v.1)))))
-      | inr j ↦ elim (moved_from r (later q) left left_mems m xs long.1 (λ o i. whole o (inr i)) x b j) [ inl v ↦ inl (in_right b p.membranes (made_mems r (later q) m xs) v) | inr v ↦ inr v ]
-    ]
-moved_from r q left left_mems m (Rule rule inside ∷ xs) long whole x b i = moved_from r q left left_mems m xs long whole x b i
-moved_from r q left left_mems m (Rules of inside ∷ xs) long whole x b i = moved_from r q left left_mems m xs long whole x b i
 
 -- the membranes that move are different
 pub moved_once : (r : Registers) (ks : List ℕ) (E : ℕ → Type 0) (body : List BodyItem) → Goes r ks E body → Distinct (moved_mems r body)

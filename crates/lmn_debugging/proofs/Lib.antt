@@ -2,4 +2,4 @@ pub mod NewStores
 pub mod Obeyings
 mod TraceParts
 mod OneOutcome
-mod ExampleOrders
+pub mod ExampleOrders

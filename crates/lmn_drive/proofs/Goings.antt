@@ -22,14 +22,11 @@ use Rattle.lmn_drive.proofs.Writings.{rest_held, traced_held}
 use Rattle.lmn_drive.proofs.Texts.{all_taken, front_taken, line_begun, line_taken, part_taken}
 use Rattle.lmn_runs.specs.Runs.{end_word}
 use Rattle.lmn_schedule.proofs.Common.{closed_held}
+use Rattle.lmn_base.proofs.Numbers.{none_more}
 
 -- what a turn answers at the last solid of a run
 abbrev pub Answers : {g : RunInput} {n : ℕ} {h : Heap} → Ran g n h → Turn → Heap → Type 0
 Answers {g} {n} r a h' = IsTurned g.names g.table g.chooser g.size n r.last a h'
-
--- with none more it is the same
-pub none_more : (n : ℕ) → n + 0 ≡ n
-none_more n = omega arith
 
 module _ (g : RunInput) (n : ℕ) (h : Heap) where
   -- the same run, where the heap holds its last solid too

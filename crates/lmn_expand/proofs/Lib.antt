@@ -1,4 +1,4 @@
-mod EachLemmas
+pub mod EachLemmas
 mod BuiltLemmas
 mod GrowingLemmas
 mod ScopeLemmas

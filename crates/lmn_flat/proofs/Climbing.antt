@@ -9,7 +9,7 @@ use Rattle.lmn_heap.specs.Conditions.{Above}
 use Rattle.lmn_flat.specs.declared.flat.Flat.{Flat}
 use Rattle.lmn_flat.specs.declared.tables.FlatMembrane.{FlatMembrane}
 use Rattle.lmn_flat.specs.Flats.{IsWithin, heap_membrane, heap_of}
-use Rattle.lmn_flat.proofs.Preorder.{split_at}
+use Rattle.lmn_base.proofs.Numbers.{split_at}
 
 table_parent : (o : Option FlatMembrane) (m p : ℕ) → option_and_then (λ (x : HeapMem). home_by x.place) (option_map (heap_membrane m) o) ≡ Some p → (k : ℕ) × (m ≡ suc k) × (x : FlatMembrane) × (o ≡ Some x) × (x.parent ≡ p)
 table_parent None m p e = absurd (cc e)

@@ -8,7 +8,7 @@ use Rattle.std.proofs.lemmas.Option.{slice_get-map}
 use Rattle.lmn_base.specs.Lists.{In}
 use Rattle.lmn_base.specs.declared.solid.SolidAtom.{SolidAtom}
 use Rattle.lmn_base.proofs.Lists.{get_below, get_either, get_front, get_last, get_there}
-use Rattle.lmn_base.proofs.Numbers.{three_ways}
+use Rattle.lmn_base.proofs.Numbers.{three_ways, split_at}
 use Rattle.lmn_heap.specs.Lists.{Distinct}
 use Rattle.lmn_heap.specs.Sound.{Forest, bare, mem, flat}
 use Rattle.lmn_heap.proofs.ListLemmas.{each_of}
@@ -56,9 +56,6 @@ pub got_mapped : {A B : Type 0} (f : A → B) (xs : List A) (k : ℕ) (y : B) �
 got_mapped f [] k y e = absurd (cc e)
 got_mapped f (x ∷ xs) zero y e = (x, refl, cc e)
 got_mapped f (x ∷ xs) (suc k) y e = got_mapped f xs k y e
-
-pub split_at : (s a : ℕ) → s ≤ a → (j : ℕ) × (a ≡ s + j)
-split_at s a l = (a - s, omega (arith, l))
 
 -- ---- atoms and their homes
 

@@ -14,7 +14,7 @@ use Rattle.lmn_base.specs.Lists.{In}
 use Rattle.lmn_base.specs.Links.{EachTwice, NumbersLinks}
 use Rattle.lmn_base.specs.Solids.{IsSolid, atoms_of_region, connector, links_of_region}
 use Rattle.lmn_base.proofs.Lists.{get_below, get_there, link_within as linked_below}
-use Rattle.lmn_base.proofs.Numbers.{equal_itself, equal_when, three_ways}
+use Rattle.lmn_base.proofs.Numbers.{equal_itself, equal_when, three_ways, split_at}
 use Rattle.lmn_base.proofs.Truth.{and_true}
 use Rattle.lmn_heap.specs.Heap.{HeapAtom, HeapMem, Place, top, within, waiting, IsMem, arity_of, atoms_by, atoms_in, functor_of, home_by, link_of, marks_of, mem_place_of, mems_by, mems_in, partners_of, place_of, rules_by, rules_in}
 use Rattle.lmn_heap.specs.Lists.{Distinct}
@@ -37,7 +37,7 @@ use Rattle.lmn_flat.specs.Building as built
 use Rattle.lmn_flat.proofs.Ends.{HasLink, Joined, joined_at}
 use Rattle.lmn_flat.proofs.Kids.{children_picks, forms_are, heads_are, in_picks, kids_alike, kids_are, parent_at, picks, picks_in, picks_once, Kids}
 use Rattle.lmn_flat.proofs.Partners.{atom_ports, joined_to}
-use Rattle.lmn_flat.proofs.Preorder.{Fine, Stands, count, fine_whole, forest, forest_flat, grows_same, in_range, range_both, range_distinct, split_at, stands_visited, visited_atoms, visited_membranes}
+use Rattle.lmn_flat.proofs.Preorder.{Fine, Stands, count, fine_whole, forest, forest_flat, grows_same, in_range, range_both, range_distinct, stands_visited, visited_atoms, visited_membranes}
 use Rattle.lmn_flat.proofs.Regions.{links_whole, plain, plain_whole, rolled, rolls, same_first, solid_row}
 use Rattle.lmn_flat.proofs.Steps.{Filled, filled_at, filled_from, trees_apart}
 

@@ -5,7 +5,7 @@ use Rattle.lmn_grammar.specs.Scan.{Opened, Arguments, Terms, Group, Last, Equals
 use Rattle.lmn_lexer.specs.declared.token.Kind.{Kind}
 use Rattle.lmn_lexer.specs.declared.token.Kind.TheVariants.{Name, Quoted, Mod, Int, LParen, RParen, LBracket, RBracket, LBrace, RBrace, Comma, Equal}
 use Rattle.lmn_base.proofs.Lists.{plus_nothing}
-use Rattle.lmn_base.proofs.Numbers.{test_at_most as at_most}
+use Rattle.lmn_base.proofs.Numbers.{test_at_most as at_most, is_less as is_lower, lower}
 use Rattle.lmn_base.proofs.Truth.{and_true, either_true as or_true, false_not_true as clash}
 use Rattle.lmn_grammar.proofs.Theory.{cons_same}
 use Rattle.std.proofs.lemmas.Bool.{and_from, or_right, or_left}
@@ -509,13 +509,6 @@ term_scan (behind_equal u) = ap limit_here (scan_more u Equal)
 term_scan {u} (in_arguments d) = inside_term (scan u).last (scan u).opened (ap limit_in (arguments_scan d))
 term_scan {u} (in_list f {n = n} {inside = w} b) =
     inside_term (scan u).last (scan u).opened (ap (λ s. limit_in s.opened) (scan_append scan_at_start f (LBracket ∷ w)) ∙ ap limit_in (balanced_scan b (scan_after (scan f) LBracket)))
-
--- Too many arguments.
-lower : (n m : ℕ) → n < m → nat_lt n m ≡ true
-lower n m h = grind arith
-
-is_lower : (n m : ℕ) → nat_lt n m ≡ true → n < m
-is_lower n m h = grind arith
 
 is_at_most : (n m : ℕ) → nat_le n m ≡ true → n ≤ m
 is_at_most n m h = grind arith

@@ -29,7 +29,7 @@ use Rattle.lmn_base.specs.WellMade.{IsLinkedRule}
 use Rattle.lmn_base.proofs.Lists.{contains_first, contains_behind}
 use Rattle.lmn_base.proofs.Numbers.{equal_when, not_equal}
 use Rattle.lmn_base.proofs.RowLemmas.{Nowhere, no_rows}
-use Rattle.lmn_base.proofs.Truth.{and_true}
+use Rattle.lmn_base.proofs.Truth.{and_true, never}
 use Rattle.lmn_guards.specs.Accepted.{IsAcceptedRule, IsInOrder}
 use Rattle.lmn_guards.specs.GuardCodes.{rows_of_conditions, rows_of_typed, type_of, untyped, unheld, holds}
 
@@ -88,10 +88,6 @@ nowhere_unless b p e = ap (λ t. cond t [] (p ∷ [])) e
 not_both : (a b : Bool) → (a ≡ true → b ≡ false) → (a && b) ≡ false
 not_both true b h = h refl
 not_both false b h = refl
-
-never : (a : Bool) → (a ≡ true → ⊥) → a ≡ false
-never true h = absurd (h refl)
-never false h = refl
 
 bare_is : (f : Form) → is_bare f ≡ true → f ≡ Bare
 bare_is Bare e = refl

@@ -2,7 +2,7 @@
 use Rattle.lmn_base.specs.Lists.{In}
 use Rattle.lmn_base.specs.declared.functor.Functor.{Functor}
 use Rattle.lmn_heap.proofs.Listing.{alter_keeps}
-use Rattle.lmn_heap.specs.Heap.{Heap, HeapAtom, home_by, home_of, place_of, within, IsAtom, arity_of, partners_of, IsInPlace, HeapMem, IsMem, IsMemInPlace, IsTopOrWithin, Place, gone, top, waiting, atoms_by, linked, cleared, marks_of, with_link, rules_by, alter, mem_with_atoms, link_of, functor_of, atoms_in, after, from}
+use Rattle.lmn_heap.specs.Heap.{Heap, HeapAtom, home_by, home_of, place_of, within, IsAtom, arity_of, partners_of, IsInPlace, HeapMem, IsMem, IsMemInPlace, IsTopOrWithin, Place, gone, top, waiting, atoms_by, linked, cleared, marks_of, with_link, rules_by, alter, mem_with_atoms, link_of, functor_of, atoms_in, after, from, taken, taken_all}
 use Rattle.lmn_heap.specs.Lists.{without, without_all}
 use Rattle.lmn_heap.specs.Solid.{links_from}
 use Rattle.lmn_heap.specs.Sound.{Valid, Listed}
@@ -226,3 +226,19 @@ arity_linked i p (Some x) = length-set x.links i p
 -- what holds of a number and a heap holds of equal ones
 pub moved : (P : ℕ → Heap → Type 0) {n n' : ℕ} {h h' : Heap} → n' ≡ n → h' ≡ h → P n h → P n' h'
 moved P {n} {n'} {h} {h'} e d p = subst (λ k. P n' k) (sym d) (subst (λ k. P k h) (sym e) p)
+
+pub taken_root : (ns : List ℕ) (s : Heap) → (taken_all s ns).root ≡ s.root
+taken_root [] s = refl
+taken_root (a ∷ ns) s = taken_root ns (taken s a)
+
+pub placed_is_mem : (o : Option HeapMem) → IsSome (option_and_then (λ x. home_by x.place) o) → IsSome o
+placed_is_mem None i = absurd (let u : IsSome {T = ℕ} None = i in cc)
+placed_is_mem (Some x) i = refl
+
+pub in_after : (x w : ℕ) (xs : List ℕ) → In w (after x xs) → In w xs
+in_after x w [] i = i
+in_after x w (y ∷ ys) i = by (y == x) (λ j. in_after x w ys j) i
+  where
+    by : (b : Bool) → (In w (after x ys) → In w ys) → In w (cond b ys (after x ys)) → In w (y ∷ ys)
+    by true rest j = inr j
+    by false rest j = inr (rest j)

@@ -9,9 +9,9 @@ use Rattle.lmn_heap.proofs.ListLemmas.{each_in, in_left}
 use Rattle.lmn_printer.specs.Numbers.{printed_atoms}
 use Rattle.lmn_printer.proofs.OrderLemmas.{behind_atom, printed_all, printed_once, printed_in}
 use Rattle.lmn_base.proofs.Numbers.{not_equal as apart_test, same_or_not as number_cases}
-use Rattle.lmn_lists.proofs.TableLemmas.{in_after as after_in}
 use Rattle.lmn_base.specs.Lists.{In}
 use Rattle.lmn_base.proofs.Lists.{in_either}
+use Rattle.lmn_heap.proofs.Common.{in_after as after_in}
 
 -- what stands behind the first
 pub after_here : (x a : ℕ) (xs : List ℕ) → x ≡ a → after a (x ∷ xs) ≡ xs

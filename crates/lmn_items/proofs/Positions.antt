@@ -3,10 +3,9 @@ use Rattle.std.proofs.Common.{◌≡◌, ◌≢◌, ℕ, zero, suc, ◌<◌, Lis
 use Rattle.std.proofs.lemmas.Option.{none-some, same_Some}
 use Rattle.lmn_heap.specs.Lists.{Distinct, after}
 use Rattle.lmn_heap.proofs.ListLemmas.{each_in}
-use Rattle.lmn_heap.proofs.Common.{in_at}
+use Rattle.lmn_heap.proofs.Common.{in_at, in_after}
 use Rattle.lmn_items.proofs.Orders.{after_here, after_there}
 use Rattle.lmn_base.specs.Lists.{In}
-use Rattle.lmn_lists.proofs.TableLemmas.{in_after}
 
 -- an atom has one position
 pub one_position : (xs : List ℕ) (p q a : ℕ) → Distinct xs → slice_get xs p ≡ Some a → slice_get xs q ≡ Some a → p ≡ q

@@ -17,6 +17,7 @@ use Rattle.lmn_base.specs.declared.rule.Plain.{Plain}
 use Rattle.lmn_parser.specs.Trees.{IsProgram}
 use Rattle.lmn_plain.specs.Plains.{EachPair, IsPlainOf}
 use Rattle.lmn_plain.proofs.FewItems.{guard_on}
+use Rattle.lmn_expand.proofs.EachLemmas.{each_length as as_many}
 
 joined : (xs ys : List ExpandedRule) → length (xs ++ ys) ≡ length xs + length ys
 joined xs ys = length-append xs ys
@@ -160,13 +161,6 @@ module _ (words : List Word) (places : List Pos) {ts : List Token} where
         let e = term_few g pos (1 ∷ way) (made (1 ∷ way)) (k + length y.table) in
         let s = joined y.table (expanded_term words places pos (1 ∷ way) (made (1 ∷ way)) t (k + length y.table)).table in
         omega arith
-
--- as many rules as the expansion has
-as_many : {A B : Type 0} (R : A → B → Type 0) (xs : List A) (ys : List B) → EachPair R xs ys → length ys ≡ length xs
-as_many R [] [] h = refl
-as_many R [] (y ∷ ys) h = absurd h
-as_many R (x ∷ xs) [] h = absurd h
-as_many R (x ∷ xs) (y ∷ ys) h = let e = as_many R xs ys h.1 in omega (arith, e)
 
 -- the plain of a text has no more rules than the text has tokens
 pub few_rules : (tokens : List Token) (words : List Word) (places : List Pos) (names : List tree.Name) (t : Clauses) (p : Plain) → IsProgram tokens t

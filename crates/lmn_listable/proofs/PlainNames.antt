@@ -24,6 +24,7 @@ use Rattle.lmn_plain.proofs.LabelWords.{quoted_name}
 use Rattle.lmn_verify.specs.Lines.{HasNo}
 use Rattle.lmn_verify.proofs.Places.{has_no_by_test}
 use Rattle.lmn_verified.specs.ListedTables.{ArePlainNames}
+use Rattle.lmn_base.proofs.Numbers.{at_most_by_not as at_most}
 
 -- a name that stands in a line
 abbrev IsPlainName : List ℕ → Type 0
@@ -59,9 +60,6 @@ quoted_no_feed : {inside name : List ℕ} → Quotes inside name → HasNo 10 na
 quoted_no_feed nothing = tt
 quoted_no_feed (quote q) = ((λ e. absurd (omega (arith, e))), quoted_no_feed q)
 quoted_no_feed (byte {b = b} h q) = (quotable_no_feed b h, quoted_no_feed q)
-
-at_most : (m n : ℕ) → (n < m → ⊥) → m ≤ n
-at_most m n h = omega (arith, h)
 
 -- what a word spells that has a name
 spelled_plain : (minus : Bool) (k : Kind) (bytes after : List ℕ) → Spells minus k bytes → ((code : ℕ) → TokenFault k bytes after code → ⊥) → has_name k ≡ true → IsPlainName (name_spelled k bytes)

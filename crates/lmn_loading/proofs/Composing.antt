@@ -23,7 +23,7 @@ use Rattle.lmn_heap.proofs.Calls.{stands_some as standing_is_mem}
 use Rattle.lmn_splice.proofs.Common.{in_append as either_in, in_back as right_in, in_front as left_in, links_append, ports_append, distinct_append}
 use Rattle.lmn_heap.proofs.ListLemmas as lemmas
 use Rattle.lmn_base.specs.Lists.{In}
-use Rattle.lmn_heap.proofs.Common.{listed_atom as listed_is_atom}
+use Rattle.lmn_heap.proofs.Common.{listed_atom as listed_is_atom, placed_is_mem}
 
 -- Lists
 
@@ -63,11 +63,6 @@ beside_second bare g k i = i
 beside_second (mem m x r) g k i = inr (lemmas.in_right k (flat x) (flat (beside r g)) (beside_second r g k i))
 
 -- Items
-
--- what stands in a membrane is one
-pub placed_is_mem : (o : Option HeapMem) → IsSome (option_and_then (λ x. home_by x.place) o) → IsSome o
-placed_is_mem None i = absurd (let u : IsSome {T = ℕ} None = i in cc)
-placed_is_mem (Some x) i = refl
 
 -- the atoms of a list, in two heaps
 pub atoms_frame : (s t : Heap) (name : ℕ → ℕ → ℕ) (xs : List ℕ) → ((a : ℕ) → In a xs → t.atoms a ≡ s.atoms a) → solid_atoms_at t name xs ≡ solid_atoms_at s name xs

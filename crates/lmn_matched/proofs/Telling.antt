@@ -47,13 +47,9 @@ use Rattle.lmn_fire.specs.declared.matched.Part.{Part}
 use Rattle.lmn_heap.proofs.Common.{is_atom_at, linked_atom}
 use Rattle.lmn_matched.specs.Matched.{IsPartAt, IsPartOfName, names_of}
 use Rattle.lmn_matched.specs.Pieces.{AreParts, imaged, images_from}
+use Rattle.lmn_search.proofs.WalkingLemmas.{reached_atom}
 
 -- ---- images
-
--- what is reached is an atom
-reached_atom : (h : Heap) (root : Port) (a : ℕ) → Valid h → IsAtom h root.0 → Reached (atom_map h) root a → IsAtom h a
-reached_atom h root a v r at_root = r
-reached_atom h root a v r (across {a = b} {i = i} {j = j} q d e) = linked_atom h a j (v.sound.paired.back b i a j e)
 
 images_in : {A : Type 0} (images : List ℕ) (n : ℕ) (xs : List A) (a : ℕ) → In a (images_from images n xs) → (k : ℕ) × (k < length xs) × (slice_index_or images (n + k) 0 ≡ a)
 images_in images n [] a i = absurd i

@@ -37,28 +37,11 @@ use Rattle.lmn_bridge.proofs.HeadTrees.{level_tree}
 use Rattle.lmn_bridge.proofs.KindConditions.{guard_known, heads_are, same_number, typed_known}
 use Rattle.lmn_bridge.proofs.TypeConditions.{among_named, has_number}
 use Rattle.lmn_bridge.proofs.WholeGuards.{KnownIn}
-use Rattle.lmn_turn.proofs.BoundIntegers.{typed_among}
+use Rattle.lmn_turn.proofs.BoundIntegers.{typed_among, among_either, no_side}
 use Rattle.lmn_search.specs.Binding.{after_all, bound_unless}
 
 not_both : (o : Option ℕ) → o ≡ None → (k : ℕ) × (o ≡ Some k) → ⊥
 not_both o e k = none_is_not o e (subst IsSome (sym k.1) refl)
-
-among_either : {A : Type 0} {p q : A} {ps : List A} → Among p (q ∷ ps) → (p ≡ q) ⊎ Among p ps
-among_either at_head = inl refl
-among_either (further k) = inr k
-
--- a condition that isn't `=` has no left side
-no_side : (names : List tree.Name) (n : ℕ) (us : List CtxUse) (cs : List tree.Condition) → left_sides (kind_of names n us ∷ cs) ≡ left_sides cs
-no_side names n [] cs = refl
-no_side names n (u ∷ (w ∷ us)) cs = refl
-no_side names n (u ∷ []) cs = by _ _ _
-  where
-    by : (b1 b2 b3 : Bool) → left_sides (cond b1 (tree.is_kind tree.int (name_of names u.name)) (cond b2 (tree.is_kind tree.unary (name_of names u.name))
-        (cond b3 (tree.is_kind tree.grounded (name_of names u.name)) (tree.unknown (name_of names n) (name_of names u.name ∷ [])))) ∷ cs) ≡ left_sides cs
-    by true b2 b3 = refl
-    by false true b3 = refl
-    by false false true = refl
-    by false false false = refl
 
 module _ (h : Heap) (r : HeapReading) (read : IsRead h r) (x : ℕ) (kx : HasNames r.names (x ∷ [])) where
   -- the name is bound, or will be

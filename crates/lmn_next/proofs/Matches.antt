@@ -79,6 +79,7 @@ use Rattle.lmn_next.specs.Choosing.{LiesLeast}
 use Rattle.lmn_next.specs.Firing.{HasMatch, MatchesAreOfEmbeddings, TellsIntegers}
 use Rattle.lmn_next.proofs.BoundValues.{body_name_is_bound, integer_bound}
 use Rattle.lmn_next.proofs.Rests.{in_parts, in_taken, of_taken}
+use Rattle.lmn_turn.proofs.TurnsNext.{same_region}
 
 -- ---- lists
 
@@ -109,9 +110,6 @@ never_there x (y ∷ xs) o = ap (λ b. (cond b 1 0) + times x xs) (not_equal y x
 -- the name of an entry is one of the names
 named_in : (x y : ℕ) (es : List (ℕ × ℕ)) → IsOneOf {A = ℕ × ℕ} (x, y) es → In x (names_of es)
 named_in x y es i = of_heap_in x (names_of es) (in_map (λ (e : ℕ × ℕ). e.0) (x, y) es i)
-
-same_region : {xs ys : List SolidAtom} {ms ns : Regions} {rs ss : List tree.Rule} → region xs ms rs ≡ region ys ns ss → (xs ≡ ys) × (ms ≡ ns)
-same_region e = (cc, cc)
 
 -- ---- what is taken
 

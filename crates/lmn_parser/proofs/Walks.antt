@@ -20,7 +20,7 @@ use Rattle.lmn_parser.specs.TreeLaws.{FittingIsWithin, Shallow}
 use Rattle.lmn_parser.proofs.Fitting.{behind_token, times_is, plus_is, joined}
 use Rattle.lmn_parser.proofs.TreeWords.{drop_all, next_to}
 use Rattle.lmn_base.proofs.Lists.{plus_nothing}
-use Rattle.lmn_base.proofs.Numbers.{test_at_most as at_most}
+use Rattle.lmn_base.proofs.Numbers.{test_at_most as at_most, not_lower}
 use Rattle.lmn_base.proofs.Truth.{false_not_true as clash}
 use Rattle.std.proofs.lemmas.Bool.{and_left, and_right}
 
@@ -48,9 +48,6 @@ none_of_two false b g h e = clash (sym h ∙ e)
 
 below : (n m : ℕ) → m < n → nat_le n m ≡ false
 below n m h = grind arith
-
-not_lower : (n m : ℕ) → m ≤ n → nat_lt n m ≡ false
-not_lower n m h = grind arith
 
 -- one token more
 step : (ks : List Kind) → Shallow ks → {p : ℕ} {s : Scan} (k : Kind) → Walk ks p s → slice_get ks p ≡ Some k → Allowed s k → Walk ks (p + 1) (scan_after s k)

@@ -2,11 +2,12 @@
 use Rattle.lmn_base.specs.Lists.{In}
 use Rattle.lmn_base.specs.declared.functor.Functor.{Functor}
 use Rattle.lmn_heap.proofs.Listing.{alter_at, alter_away}
-use Rattle.lmn_heap.specs.Heap.{Heap, new_atom}
+use Rattle.lmn_heap.specs.Heap.{Heap, new_atom, placed}
 use Rattle.lmn_parts.specs.Copies.{made_as}
-use Rattle.lmn_parts.specs.Rests.{keep}
+use Rattle.lmn_parts.specs.Rests.{keep, all_mems_taken, atoms_placed}
 use Rattle.lmn_parts.specs.Walks.{HasPort, port_range}
 use Rattle.std.proofs.Common.{Option, Some, subst, sym, ℕ, ◌≡◌, None, refl, ◌≢◌, List, inl, inr, suc, zero, ◌+◌, [], ap, true, ◌∷◌, ◌++◌, ◌⊎◌}
+use Rattle.lmn_heap.specs.Heap as heap
 
 pub as_here : (s : Heap) (y : ℕ) (f : Functor) (o : Option Functor) → o ≡ Some f → (made_as s y o).atoms y ≡ Some (new_atom f)
 as_here s y f o e = subst (λ (q : Option Functor). (made_as s y q).atoms y ≡ Some (new_atom f)) (sym e) (alter_at s.atoms y (λ _. Some (new_atom f)))
@@ -28,3 +29,11 @@ pub either_port : (a i n : ℕ) (ps : List (ℕ × ℕ)) (p : ℕ × ℕ) → Ha
 either_port a i zero ps p h = inr h
 either_port a i (suc n) ps p (inl e) = inl (inl e)
 either_port a i (suc n) ps p (inr h) = elim (either_port a (i + 1) n ps p h) [ inl k ↦ inl (inr k) | inr k ↦ inr k ]
+
+pub mems_taken_root : (ms : List ℕ) (s : Heap) → (all_mems_taken s ms).root ≡ s.root
+mems_taken_root [] s = refl
+mems_taken_root (m ∷ ms) s = mems_taken_root ms (heap.taken_mem s m)
+
+pub copies_root : (copy : ℕ → ℕ) (n : ℕ) (xs : List ℕ) (s : Heap) → (atoms_placed copy s n xs).root ≡ s.root
+copies_root copy n [] s = refl
+copies_root copy n (a ∷ xs) s = copies_root copy n xs (placed s n (copy a))

@@ -9,9 +9,9 @@ use Rattle.lmn_base.specs.Lists.{In}
 use Rattle.lmn_base.specs.declared.rule.RuleTree.{RuleTree}
 use Rattle.lmn_guards.specs.declared.plan.GuardPlan.{GuardPlan}
 use Rattle.lmn_heap.specs.Heap.{Heap, rules_in}
-use Rattle.lmn_flat.proofs.Preorder.{split_at}
 use Rattle.lmn_next.specs.Choosing.{NoneOf}
 use Rattle.lmn_plain_search.specs.Turns.{AskedAt, NoneBefore}
+use Rattle.lmn_base.proofs.Numbers.{split_at}
 
 -- ---- a list that is turned
 

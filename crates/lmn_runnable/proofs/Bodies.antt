@@ -17,6 +17,7 @@ use Rattle.lmn_verify.specs.declared.words.Operand.TheVariants.{Atom, Membrane, 
 use Rattle.lmn_verify.specs.Verified.{drops, drops_and_ties, is_empty, is_proceed, makes, makes_and_ties, registers_held, removes, takes_out, ties, ties_and_ends}
 use Rattle.lmn_runnable.specs.Flat.{connected, made_item}
 use Rattle.lmn_runnable.proofs.InOrder.{as_many}
+use Rattle.lmn_verify.proofs.Common.{proceed_is}
 
 -- ---- what is taken out
 
@@ -91,10 +92,6 @@ pub record Sections (h k n : ℕ) (is : List Instr) : Type 0 where
   pub makes_all : list_all (makes h k) made ≡ true
   pub drops_all : list_all (drops h) dropped ≡ true
   pub ties_all : list_all (ties n) tied ≡ true
-
-proceed_is : (i : Instr) → is_proceed i ≡ true → i ≡ Proceed
-proceed_is Proceed e = refl
-proceed_is _ e = absurd (true≢false (sym e))
 
 nothing_is : (is : List Instr) → is_empty is ≡ true → is ≡ []
 nothing_is [] e = refl

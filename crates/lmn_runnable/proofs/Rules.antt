@@ -6,8 +6,8 @@ use Rattle.std.proofs.lemmas.Bool.{cases_eq, eqb-true, leb-true, ltb-true}
 use Rattle.std.proofs.lemmas.List.{length-map}
 use Rattle.lmn_base.specs.Solids.{connector}
 use Rattle.lmn_base.proofs.Lists.{get_there}
-use Rattle.lmn_base.proofs.Numbers.{equal_itself}
-use Rattle.lmn_base.proofs.Truth.{and_true, either_true, first_true, second_true, not_true}
+use Rattle.lmn_base.proofs.Numbers.{equal_itself, none_more as plus_zero}
+use Rattle.lmn_base.proofs.Truth.{and_true, either_true, first_true, second_true, not_true, never as is_false}
 use Rattle.lmn_heap.specs.Functors.{same_functor}
 use Rattle.lmn_heap.proofs.WithFunctor.{functor_same}
 use Rattle.lmn_splice.specs.Classes.{rising}
@@ -101,9 +101,6 @@ is_move _ = false
 abbrev moved_or : ℕ → Instr → ℕ
 moved_or x (MoveCells m n) = m
 moved_or x _ = x
-
-plus_zero : (m : ℕ) → m + 0 ≡ m
-plus_zero m = omega arith
 
 -- a membrane that is moved here isn't moved again, where it is moved once
 twice : (x y : ℕ) (is : List Instr) → passing (moves x) (MoveCells x y ∷ is) ≤ 1 → passing (moves x) is ≢ 0 → ⊥
@@ -232,10 +229,6 @@ dropped_tests code x t =
     let y = and_true (is_closed code.head x) (c && d) w.1 in
     let z = and_true c d y.1 in
     (w.0, y.0, z.0, z.1)
-
-is_false : (b : Bool) → (b ≡ true → ⊥) → b ≡ false
-is_false true f = absurd (f refl)
-is_false false f = refl
 
 module _ (code : Code) (k : ℕ) (v : IsVerified code k) where
   abbrev count : ℕ

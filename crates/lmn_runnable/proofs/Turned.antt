@@ -19,6 +19,7 @@ use Rattle.lmn_body.specs.Running.{Registers, Does, DoesAll, new_port, old_port}
 use Rattle.lmn_body.specs.Conditions.{Can}
 use Rattle.lmn_commit.specs.Committing.{Runs, Stands}
 use Rattle.lmn_runnable.proofs.Exchanged.{EachTie, IsTurned, SameTie, is_tie}
+use Rattle.lmn_body.proofs.HeapTies.{apart_ports}
 
 -- ---- changes at two places
 
@@ -82,9 +83,6 @@ joined_swap s p q d =
     let f = cleared (cleared s.atoms (link_of s p.0 p.1)) (link_of s q.0 q.1) in
     let same : (c : ℕ) → f c ≡ cleared (cleared s.atoms (link_of s q.0 q.1)) (link_of s p.0 p.1) c = cleared_swap s.atoms (link_of s p.0 p.1) (link_of s q.0 q.1) in
     λ t. record s { atoms = λ c. ((λ u. linked (linked (λ x. same x u) p.0 p.1 (Some q)) q.0 q.1 (Some p) c) ∙ linked_swap (cleared (cleared s.atoms (link_of s q.0 q.1)) (link_of s p.0 p.1)) p.0 p.1 (Some q) q.0 q.1 (Some p) d c) t }
-
-apart_ports : (p q : Port) → p ≢ q → (p.0 ≡ q.0) × (p.1 ≡ q.1) → ⊥
-apart_ports p q d w = d (λ t. (w.0 t, w.1 t))
 
 -- Partners agree after two ports were joined.
 paired_joined : (s : Heap) (p q : Port) → p.1 < arity_of s p.0 → q.1 < arity_of s q.0 → p ≢ q → Paired s → Paired (joined s p.0 p.1 q.0 q.1)

@@ -7,4 +7,4 @@ mod SpelledParts
 mod SpelledRules
 mod RightWords
 mod Printable
-mod ExampleLines
+pub mod ExampleLines

@@ -12,11 +12,11 @@ use Rattle.lmn_heap.specs.Solid.{solid_atoms_at, regions_of}
 use Rattle.lmn_loading.specs.Loaded.{IsLoaded}
 use Rattle.lmn_sleep.specs.Quiet.{SameButMarks}
 use Rattle.lmn_sleep.proofs.Marks.{ReadAlike, read_alike}
-use Rattle.lmn_commit.proofs.Rousing.{no_marks, marks_on, mark_one}
+use Rattle.lmn_commit.proofs.Rousing.{no_marks, marks_on, mark_one, marked_away, marked_there}
 use Rattle.lmn_commit.proofs.Woken.{valid_but_marks, marks_unmarked}
 use Rattle.lmn_choice.proofs.MarkedHeaps.{sound_but_marks}
 use Rattle.lmn_choice.proofs.Spares.{atoms_of_same, naming_same}
-use Rattle.lmn_strategy.proofs.Lulling.{tree_alike, marked_there, marked_away}
+use Rattle.lmn_strategy.proofs.Lulling.{tree_alike}
 use Rattle.lmn_strategy.proofs.Numbers.{HasNumber, root_number, number_next, number_mem, last_number, take_one_more, take_whole}
 use Rattle.lmn_strategy.specs.Quieting.{AllAwake}
 

@@ -6,7 +6,7 @@ use Rattle.std.proofs.lemmas.Option.{same_Some}
 use Rattle.lmn_base.specs.declared.guard.Cond.{Cond}
 use Rattle.lmn_base.specs.Lists.{In}
 use Rattle.lmn_base.specs.Graphs.{Port, Reached, StandsWhole}
-use Rattle.lmn_base.proofs.Lists.{get_below, get_front, get_last, get_there, get_index}
+use Rattle.lmn_base.proofs.Lists.{get_below, get_front, get_last, get_there, get_index, read_or}
 use Rattle.lmn_base.proofs.Numbers.{below_next2}
 use Rattle.lmn_bridge.proofs.PartLists.{all_of_part, part_list}
 use Rattle.lmn_heap.specs.Heap.{Heap, link_of, atoms_in, mems_in}
@@ -31,7 +31,7 @@ use Rattle.lmn_search.specs.declared.head.MembraneItem.{MembraneItem}
 use Rattle.lmn_search.specs.declared.head.TypedItem.{TypedItem}
 use Rattle.lmn_search.specs.declared.parts.Part.{Part}
 use Rattle.lmn_search.specs.declared.placed.Placed.{Placed}
-use Rattle.lmn_search.proofs.EmbeddingLemmas.{atoms_long, mapped, membranes_long, read_or, unmapped}
+use Rattle.lmn_search.proofs.EmbeddingLemmas.{atoms_long, mapped, membranes_long, unmapped}
 use Rattle.lmn_search.proofs.LyingLemmas.{named_same, outermost_same, times_same}
 use Rattle.lmn_bridge.proofs.OutOf.{in_index as in_at, index_in as item_in}
 use Rattle.lmn_compile_head.proofs.Nesting.{atoms_inside as atoms_within, membranes_inside as membranes_within}

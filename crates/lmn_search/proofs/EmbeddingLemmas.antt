@@ -5,7 +5,7 @@ use Rattle.std.proofs.lemmas.List.{length_push}
 use Rattle.std.proofs.lemmas.Option.{same_Some, slice_get-map}
 use Rattle.lmn_base.specs.Lists.{In}
 use Rattle.lmn_base.specs.Graphs.{Port}
-use Rattle.lmn_base.proofs.Lists.{get_front, get_last, get_index}
+use Rattle.lmn_base.proofs.Lists.{get_front, get_last, get_index, read_or}
 use Rattle.lmn_heap.specs.Heap.{Heap, functor_of, link_of, atoms_in, mems_in}
 use Rattle.lmn_solid.specs.declared.items.HeadItem.{HeadItem}
 use Rattle.lmn_solid.specs.declared.items.HeadItem.TheVariants.{Atom, Typed, Membrane}
@@ -24,11 +24,6 @@ abbrev pub images_by : Placed → (ℕ → Port) → Images
 images_by q part = record { atom = λ n. slice_index_or q.atoms n 0; membrane = membrane_at q.home q.membranes; part = part }
 
 -- ---- lists
-
-pub read_or : (xs : List ℕ) (n a : ℕ) → slice_get xs n ≡ Some a → slice_index_or xs n 0 ≡ a
-read_or [] n a e = absurd (cc)
-read_or (x ∷ xs) zero a e = same_Some _ _ e
-read_or (x ∷ xs) (suc n) a e = read_or xs n a e
 
 -- what is read from a mapped list
 pub mapped : {A B : Type 0} (f : A → B) (xs : List A) (ys : List B) (n : ℕ) (x : A) → ys ≡ map f xs → slice_get xs n ≡ Some x → slice_get ys n ≡ Some (f x)

@@ -11,7 +11,7 @@ use Rattle.lmn_search.specs.declared.head.TypedItem.{TypedItem}
 use Rattle.lmn_search.specs.declared.head.Head.{Head}
 use Rattle.lmn_search.specs.declared.placed.Placed.{Placed}
 use Rattle.lmn_search.specs.declared.parts.Part.{Part}
-use Rattle.lmn_search.proofs.EmbeddingLemmas.{read_or as index_is}
+use Rattle.lmn_base.proofs.Lists.{read_or as index_is}
 
 -- as many places as numbers
 abbrev nones : ℕ → List (Option ℕ)

@@ -1,5 +1,5 @@
 mod MarkLemmas
-mod WalkingLemmas
+pub mod WalkingLemmas
 mod PairingLemmas
 mod WholeLemmas
 mod KnowingLemmas

@@ -13,6 +13,7 @@ use Rattle.lmn_heap.specs.Heap.{Heap}
 use Rattle.lmn_heap.specs.Graphs.{atom_map}
 use Rattle.lmn_solid.specs.Heads.{HeadTyped}
 use Rattle.lmn_solid.specs.Guards.{Meaning, IsOfKindAt, KindHolds, TypeHolds, EqualHolds, HoldsOnHeap, integer_of_functor, integer_named, integer_or, bind, with_part, kind_named, part_alone, context_alone, typed_number}
+use Rattle.lmn_solid.proofs.Common.{typed_there}
 
 -- The part that is entered at a port is the same on both maps.
 pub record Alike (m n : AtomMap) (p : Port) : Type 0 where
@@ -44,16 +45,6 @@ graph_alike m n x y u v g = record {
       ));
   root = g.root;
 }
-
--- the number of a typed context is that of one of the list
-pub typed_there : (ts : List HeadTyped) (k x n : ℕ) → typed_number ts k x ≡ Some n → (i : ℕ) × (t : HeadTyped) × (n ≡ k + i) × (slice_get ts i ≡ Some t)
-typed_there [] k x n e = absurd (cc)
-typed_there (t ∷ ts) k x n e = by (t.name == x) e (typed_there ts (k + 1) x n)
-  where
-    by : (b : Bool) → cond b (Some k) (typed_number ts (k + 1) x) ≡ Some n → (typed_number ts (k + 1) x ≡ Some n → (i : ℕ) × (u : HeadTyped) × (n ≡ (k + 1) + i) × (slice_get ts i ≡ Some u)) →
-        (i : ℕ) × (u : HeadTyped) × (n ≡ k + i) × (slice_get (t ∷ ts) i ≡ Some u)
-    by true q later = (0, t, (let z = same_Some k n q in omega (arith, z)), refl)
-    by false q later = let r = later q in (suc r.0, r.1, (let z = r.2 in omega (arith, z)), r.3)
 
 module _ (h t : Heap) where
   -- what a meaning gives is alike in both heaps

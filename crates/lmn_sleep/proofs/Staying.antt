@@ -6,7 +6,7 @@ use Rattle.lmn_base.proofs.Lists.{get_there}
 use Rattle.std.specs.Option.{option_map}
 use Rattle.lmn_solid.specs.Guards.{IsOfKindAt, integer_of_functor, typed_number}
 use Rattle.lmn_solid.specs.Heads.{times, links_of_head}
-use Rattle.lmn_sleep.proofs.Guards.{Alike, AllAlike, guard_alike, typed_there}
+use Rattle.lmn_sleep.proofs.Guards.{Alike, AllAlike, guard_alike}
 use Rattle.lmn_base.specs.declared.guard.Cond.{Cond}
 use Rattle.lmn_base.specs.Graphs.{Reached, at_root, across, StandsWhole, Port}
 use Rattle.lmn_base.specs.Lists.{In}
@@ -23,6 +23,7 @@ use Rattle.lmn_solid.specs.declared.items.HeadItem.{HeadItem}
 use Rattle.lmn_solid.specs.Heads.{HeadAtom, HeadTyped, HeadMembrane, typed_contexts_of, membranes_of, inside_of, outermost_by, outermost}
 use Rattle.lmn_solid.specs.Embeddings.{Images, Embeds, Lies, HasAtom, HasTyped, HasMembrane, IsPartOf, IsInRest, StandsWithin, partner, meaning}
 use Rattle.lmn_sleep.specs.Quiet.{IsQuiet, IsUntouched}
+use Rattle.lmn_solid.proofs.Common.{typed_there}
 
 -- Each item of a head stands in the membrane of the rule or in one of the head that came before.
 pub record IsNested (items : List HeadItem) : Type 0 where

@@ -16,7 +16,7 @@ use Rattle.lmn_heap.proofs.Groves.{forms_frame}
 use Rattle.lmn_instr.specs.declared.instr.Code.{Code}
 use Rattle.lmn_sleep.specs.Quiet.{SameButMarks}
 use Rattle.lmn_sleep.proofs.Marks.{ReadAlike, read_alike, alike_back, succeeds_alike}
-use Rattle.lmn_commit.proofs.Rousing.{no_marks, marks_on, mark_one}
+use Rattle.lmn_commit.proofs.Rousing.{no_marks, marks_on, mark_one, marked_away, marked_there}
 use Rattle.lmn_commit.proofs.Woken.{valid_but_marks, marks_unmarked}
 use Rattle.lmn_strategy.proofs.Numbers.{get_drop, take_farther}
 use Rattle.lmn_strategy.specs.Choosing.{CanTurn, CodeSucceeds, NoneOf, NoneIn, IsFirstRule, IsFirstIn, FallAsleep, Lulls, Lulled, asked}
@@ -109,18 +109,6 @@ lulls_as false h k xs ys to back w = w
 pub lulls_alike : (b : Bool) (h k : Heap) (ms : List ℕ) → Lulls b h k ms → SameButMarks h k
 lulls_alike true h k ms w = w.alike
 lulls_alike false h k ms w = subst (SameButMarks h) (sym w) (no_marks h)
-
--- the mark of a membrane is read as it was set
-pub marked_there : (h : Heap) (m v : ℕ) → IsMem h m → mem_mark_of (mem_marked h m v) m ≡ v
-marked_there h m v i = rw (eq-eqb m m refl) (by (h.mems m) i)
-  where
-    by : (o : Option HeapMem) → IsSome o → mem_mark_by (option_map (mem_with_mark v) o) ≡ v
-    by None i = absurd (cc)
-    by (Some x) i = refl
-
--- and that of another is as it was
-pub marked_away : (h : Heap) (m v x : ℕ) → (x ≡ m → ⊥) → mem_mark_of (mem_marked h m v) x ≡ mem_mark_of h x
-marked_away h m v x d = rw (not_equal x m d) refl
 
 -- a membrane of which no code succeeds falls asleep
 pub falls_one : (h : Heap) (m : ℕ) → IsMem h m → FallAsleep h (mem_marked h m 1) (m ∷ [])

@@ -3,7 +3,8 @@ use Rattle.std.proofs.Common.{inl, refl, arith}
 use Rattle.lmn_heap.specs.Heap.{mem_marked}
 use Rattle.lmn_strategy.specs.Examples.{AsleepByMark, MarksAreLow, NothingIsTurned, SleepersArePassed}
 use Rattle.lmn_strategy.proofs.Awake.{asleep_one, awake_one}
-use Rattle.lmn_strategy.proofs.Lulling.{falls_one, marked_there}
+use Rattle.lmn_strategy.proofs.Lulling.{falls_one}
+use Rattle.lmn_commit.proofs.Rousing.{marked_there}
 
 pub sleepers_are_passed : SleepersArePassed
 sleepers_are_passed h m i = (awake_one (mem_marked h m 0) m (marked_there h m 0 i), asleep_one (mem_marked h m 1) m (marked_there h m 1 i))

@@ -56,12 +56,12 @@ one_value Is f (of_operation {o = o} a b d r) (of_operation a' b' d' r') = λ i.
 
 -- ---- names
 
-among_either : {A : Type 0} {p q : A} {ps : List A} → Among p (q ∷ ps) → (p ≡ q) ⊎ Among p ps
+pub among_either : {A : Type 0} {p q : A} {ps : List A} → Among p (q ∷ ps) → (p ≡ q) ⊎ Among p ps
 among_either at_head = inl refl
 among_either (further k) = inr k
 
 -- a condition that isn't `=` has no left side
-no_side : (names : List tree.Name) (n : ℕ) (us : List CtxUse) (cs : List tree.Condition) → left_sides (kind_of names n us ∷ cs) ≡ left_sides cs
+pub no_side : (names : List tree.Name) (n : ℕ) (us : List CtxUse) (cs : List tree.Condition) → left_sides (kind_of names n us ∷ cs) ≡ left_sides cs
 no_side names n [] cs = refl
 no_side names n (u ∷ (w ∷ us)) cs = refl
 no_side names n (u ∷ []) cs = by _ _ _

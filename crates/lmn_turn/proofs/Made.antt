@@ -13,16 +13,11 @@ use Rattle.lmn_body.proofs.RestsMade.{joined_lines}
 use Rattle.lmn_parts.specs.Copies.{answer, made_like, ports_of}
 use Rattle.lmn_parts.specs.Rests.{made_roomy, rest_copied, atoms_placed, membrane_placed, membranes_placed, copy_round, rest_placed, all_mems_taken}
 use Rattle.lmn_base.specs.Graphs.{Port}
+use Rattle.lmn_body.proofs.Common.{placed_root, tied_root}
+use Rattle.lmn_heap.proofs.Common.{taken_root}
+use Rattle.lmn_parts.proofs.Common.{copies_root, mems_taken_root}
 
 -- ---- the root
-
-taken_root : (ns : List ℕ) (s : Heap) → (taken_all s ns).root ≡ s.root
-taken_root [] s = refl
-taken_root (a ∷ ns) s = taken_root ns (taken s a)
-
-placed_root : (es : List (ℕ × ℕ)) (s : Heap) → (all_placed s es).root ≡ s.root
-placed_root [] s = refl
-placed_root (e ∷ es) s = placed_root es (placed s e.0 e.1)
 
 to_root : (s : Heap) (a i : ℕ) (o : Option (ℕ × ℕ)) → (joined_to s a i o).root ≡ s.root
 to_root s a i None = refl
@@ -37,11 +32,6 @@ both_root s b j (Some c) (Some d) = by ((c.0 == b) && (c.1 == j))
     by true = refl
     by false = refl
 
-tied_root : (t : Tie Port) (s : Heap) → (tied s t).root ≡ s.root
-tied_root (newlink p q) s = refl
-tied_root (relink p o) s = to_root s p.0 p.1 (link_of s o.0 o.1)
-tied_root (unify g o) s = both_root s o.0 o.1 (link_of s g.0 g.1) (link_of s o.0 o.1)
-
 -- a rest is copied, placed and dropped beside it
 roomy_root : (es : List (ℕ × ℕ)) (s : Heap) → (made_roomy s es).root ≡ s.root
 roomy_root [] s = refl
@@ -53,10 +43,6 @@ rest_made_root s xs ys rooms =
     let like = made_like t xs ys in
     (joined_lines (answer xs ys) like (ports_of like xs)).3 ∙ (like_mems xs ys t).2 ∙ roomy_root rooms s
 
-copies_root : (copy : ℕ → ℕ) (n : ℕ) (xs : List ℕ) (s : Heap) → (atoms_placed copy s n xs).root ≡ s.root
-copies_root copy n [] s = refl
-copies_root copy n (a ∷ xs) s = copies_root copy n xs (placed s n (copy a))
-
 membranes_root : (copy_mem copy : ℕ → ℕ) (ms : List ℕ) (s : Heap) → (membranes_placed copy_mem copy s ms).root ≡ s.root
 membranes_root copy_mem copy [] s = refl
 membranes_root copy_mem copy (m ∷ ms) s =
@@ -66,10 +52,6 @@ membranes_root copy_mem copy (m ∷ ms) s =
 rest_placed_root : (s : Heap) (m n : ℕ) (atoms ms copies new_ms : List ℕ) → (rest_placed s m n atoms ms copies new_ms).root ≡ s.root
 rest_placed_root s m n atoms ms copies new_ms =
     membranes_root (answer (m ∷ ms) (n ∷ new_ms)) (answer atoms copies) ms (atoms_placed (answer atoms copies) s n (atoms_in s m)) ∙ copies_root (answer atoms copies) n (atoms_in s m) s
-
-mems_taken_root : (ms : List ℕ) (s : Heap) → (all_mems_taken s ms).root ≡ s.root
-mems_taken_root [] s = refl
-mems_taken_root (m ∷ ms) s = mems_taken_root ms (taken_mem s m)
 
 makes_root : (r : Registers) (i : Instr) (s t : Heap) → Makes r i s t → t.root ≡ s.root
 makes_root r (RemoveAtom a) s t w = ap (λ z. z.root) w

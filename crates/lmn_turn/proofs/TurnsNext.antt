@@ -86,7 +86,7 @@ use Rattle.lmn_base.specs.Lists.{In}
 use Rattle.lmn_base.proofs.Numbers.{below_or_from}
 use Rattle.lmn_base.proofs.Lists.{plus_nothing}
 
-same_region : {as' bs : List solid.SolidAtom} {is js : Regions} {rs ss : List tree.Rule} → region as' is rs ≡ region bs js ss → (as' ≡ bs) × (is ≡ js)
+pub same_region : {as' bs : List solid.SolidAtom} {is js : Regions} {rs ss : List tree.Rule} → region as' is rs ≡ region bs js ss → (as' ≡ bs) × (is ≡ js)
 same_region e = (cc, cc)
 
 -- an open use of a context is among those that are open

@@ -3,7 +3,7 @@ use Rattle.std.proofs.Common.{◌≡◌, ◌<◌, ◌+◌, ℕ, zero, suc, true,
 use Rattle.std.specs.Prelude.{Some, slice_get, slice_index_or, nat_lt, filter_map}
 use Rattle.std.proofs.lemmas.Bool.{lt-ltb}
 use Rattle.std.proofs.lemmas.List.{append_assoc}
-use Rattle.lmn_base.proofs.Lists.{plus_nothing, get_front}
+use Rattle.lmn_base.proofs.Lists.{plus_nothing, get_front, read_or as index_is}
 use Rattle.lmn_base.specs.declared.guard.Cond.{Cond}
 use Rattle.lmn_solid.specs.declared.items.HeadItem.{HeadItem}
 use Rattle.lmn_solid.specs.Heads.{HeadAtom, atoms_of, membranes_of}
@@ -82,12 +82,6 @@ arities_are head guard body n =
     ∙ ap (λ t. t ++ made_arities body) (found_arities 0 (atoms_of head))
 
 -- ---- which ports an atom has
-
--- what stands at a number is read there
-pub index_is : (xs : List ℕ) (k v : ℕ) → slice_get xs k ≡ Some v → slice_index_or xs k 0 ≡ v
-index_is [] k v e = absurd (cc)
-index_is (x ∷ xs) zero v e = cc
-index_is (x ∷ xs) (suc k) v e = index_is xs k v e
 
 -- the port i is one of the atom in register a, by how many ports atoms have
 abbrev pub IsPortOf : List ℕ → ℕ → ℕ → Type 0

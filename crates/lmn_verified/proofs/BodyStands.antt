@@ -31,6 +31,7 @@ use Rattle.lmn_verify.specs.Verified.{places}
 use Rattle.lmn_verified.proofs.Counting.{counted, stands, stands_append, stands_none, none_both}
 use Rattle.lmn_verified.proofs.HeadCounts.{links_at}
 use Rattle.lmn_verified.proofs.Resting.{all_from_each}
+use Rattle.lmn_body.proofs.Firing.{typed_some as typed_found}
 
 -- ---- ends of classes
 
@@ -217,16 +218,6 @@ once_count x xs (o ∷ os) = elim (cases_eq x o.link) [
     other true false z h = omega (arith, z, h)
     other false true z h = omega (arith, z, h)
     other false false z h = h
-
-typed_found : (x : ℕ) (ts : List HeadTyped) → 1 ≤ times x (map (λ (t : HeadTyped). t.link) ts) → (n : ℕ) × (t : HeadTyped) × (slice_get ts n ≡ Some t) × (t.link ≡ x)
-typed_found x [] l = absurd (omega (arith, l))
-typed_found x (t ∷ ts) l = by (t.link == x) refl (typed_found x ts)
-  where
-    by : (b : Bool) → (t.link == x) ≡ b → (1 ≤ times x (map (λ (t : HeadTyped). t.link) ts) → (n : ℕ) × (u : HeadTyped) × (slice_get ts n ≡ Some u) × (u.link ≡ x)) → (n : ℕ) × (u : HeadTyped) × (slice_get (t ∷ ts) n ≡ Some u) × (u.link ≡ x)
-    by true e later = (0, t, refl, eqb-true t.link x e)
-    by false e later =
-        let no : ◌≡◌ {A = ℕ} (if t.link == x then 1 else 0) 0 = ap (λ b. if b then 1 else 0) e in
-        let w = later (omega (arith, l, no)) in (suc w.0, w.1, w.2, w.3)
 
 module _ (head : List HeadItem) (body : List BodyItem) (n : ℕ) (rule : AtomRule head body n) where
   abbrev pub news : List (NewPort × ℕ)

@@ -21,13 +21,9 @@ use Rattle.lmn_body.specs.Rules.{rests}
 use Rattle.lmn_body.proofs.Contexts.{each_open, body_has}
 use Rattle.lmn_body.proofs.Numbered.{leaves_none}
 use Rattle.lmn_compile_head.proofs.HeadLeaves.{all_membranes}
-use Rattle.lmn_compile_body.proofs.HeadContexts.{untyped, heads_names, head_names, names_are, head_out, inner_of}
+use Rattle.lmn_compile_body.proofs.HeadContexts.{untyped, heads_names, head_names, names_are, head_out, inner_of, membranes_append as both_membranes}
 
 -- ---- lists
-
-both_membranes : (is ks : List HeadItem) → membranes_of (is ++ ks) ≡ membranes_of is ++ membranes_of ks
-both_membranes [] ks = refl
-both_membranes (i ∷ is) ks = ap (λ ms. membrane_of i ++ ms) (both_membranes is ks) ∙ sym (append_assoc (membrane_of i) (membranes_of is) (membranes_of ks))
 
 get_behind : (xs ys : List HeadMembrane) (j k : ℕ) (b : HeadMembrane) → j ≡ length xs + k → slice_get ys k ≡ Some b → slice_get (xs ++ ys) j ≡ Some b
 get_behind [] ys j k b q e = let same : k ≡ j = omega (arith, q) in subst (λ n. slice_get ys n ≡ Some b) same e

@@ -6,7 +6,7 @@ use Rattle.std.proofs.lemmas.Bool.{eq-eqb, eqb-true, cases_lt}
 use Rattle.std.proofs.lemmas.List.Folds.{list_all-append}
 use Rattle.std.proofs.lemmas.Option.{same_Some}
 use Rattle.lmn_base.proofs.Lists.{map_append, get_there, get_below}
-use Rattle.lmn_base.proofs.Numbers.{equal_itself, not_equal, same_or_not}
+use Rattle.lmn_base.proofs.Numbers.{equal_itself, not_equal, same_or_not, split_at as gap}
 use Rattle.lmn_base.specs.Graphs.{Port}
 use Rattle.lmn_base.specs.declared.guard.Cond.{Cond}
 use Rattle.lmn_solid.specs.declared.items.HeadItem.{HeadItem}
@@ -272,11 +272,6 @@ all_ports test a (n ∷ ns) h =
     let here = all_rising test (λ i. new.Atom (port_of_register a i)) 0 n (λ j l k. subst (λ b. test (new.Atom (port_of_register b j)) ≡ true) start (h 0 n j refl (omega (arith, k)))) in
     let rest = all_ports test (a + 1) ns (λ k v j e l. let next : a + suc k ≡ (a + 1) + k = omega arith in subst (λ b. test (new.Atom (port_of_register b j)) ≡ true) next (h (suc k) v j e l)) in
     list_all-append test (map (λ i. new.Atom (port_of_register a i)) (rising 0 n)) (ports_of_registers (a + 1) ns) ∙ (λ i. here i && rest i)
-
-gap : (n k : ℕ) → n ≤ k → (d : ℕ) × (k ≡ n + d)
-gap zero k l = (k, omega arith)
-gap (suc n) zero l = absurd (omega (arith, l))
-gap (suc n) (suc k) l = let w = gap n k (omega (arith, l)) in let e = w.1 in (w.0, omega (arith, e))
 
 in_one : (s k b : ℕ) → s + 1 ≡ k → k ≤ 2 → b ≡ (if k == 1 then 1 else 0) → s + b ≡ 1
 in_one s k b e l f = by (same_or_not k 1)

@@ -5,7 +5,7 @@ use Rattle.std.specs.List.{list_all, AllByRecursion}
 use Rattle.std.proofs.lemmas.Bool.{ltb-true}
 use Rattle.std.proofs.lemmas.List.Folds.{list_all-append}
 use Rattle.lmn_base.proofs.Lists.{all_left, all_right, all_append}
-use Rattle.lmn_base.proofs.Numbers.{equal_when}
+use Rattle.lmn_base.proofs.Numbers.{equal_when, is_less}
 use Rattle.lmn_base.proofs.Truth.{and_true}
 use Rattle.lmn_instr.specs.declared.instr.AtomPort.{AtomPort}
 use Rattle.lmn_instr.specs.declared.instr.NewPort.{NewPort}
@@ -27,9 +27,7 @@ use Rattle.lmn_verify.specs.Listings.{IsBlock}
 use Rattle.lmn_verify.specs.Verified.{IsVerified, sets_register, is_next, is_set, with_one, uses_in_order, after_one, after, in_order, at_first, found_behind, found_first, atoms_found, membranes_found, is_of_head, is_empty, is_commit, is_proceed, is_head, arity_made, arities, port_of_register, named_ports, has_port, removes, takes_out, held, makes, ties, ties_and_ends, drops_and_ties, makes_and_ties}
 use Rattle.lmn_verify.specs.Verified as verified
 use Rattle.lmn_verified.specs.Kept.{IsKept, AreKept, IsKeptCode, VerifiedIsWhole}
-
-is_less : (m n : ℕ) → nat_lt m n ≡ true → m < n
-is_less m n e = ltb-true m n e
+use Rattle.lmn_verify.proofs.Common.{proceed_is}
 
 -- ---- registers
 
@@ -282,10 +280,6 @@ of_head _ e = absurd (true≢false (sym e))
 commit_is : (i : Instr) → is_commit i ≡ true → i ≡ Commit
 commit_is Commit e = refl
 commit_is _ e = absurd (true≢false (sym e))
-
-proceed_is : (i : Instr) → is_proceed i ≡ true → i ≡ Proceed
-proceed_is Proceed e = refl
-proceed_is _ e = absurd (true≢false (sym e))
 
 head_ends : (is : List Instr) → is_head is ≡ true → Ends true Commit is
 head_ends [] e = absurd (true≢false (sym e))

@@ -9,3 +9,4 @@ pub mod Deciding
 pub mod ReachingLemmas
 pub mod CodeLemmas
 pub mod Exclusion
+pub mod Common

@@ -14,6 +14,7 @@ use Rattle.lmn_cells.specs.Runs.{put_before}
 use Rattle.lmn_cells.proofs.CellRows.{if_yes}
 use Rattle.lmn_web.specs.Classes.{key_in, is_key, of_class, put_at, ClassBecomes}
 use Rattle.lmn_web.proofs.Reclassing.{key_same, key_true, in_filter}
+use Rattle.lmn_heap.proofs.Common.{in_after}
 
 -- two tests that agree on a list
 pub filter_same : (s t : ℕ → Bool) (xs : List ℕ) → ((x : ℕ) → In x xs → s x ≡ t x) → filter s xs ≡ filter t xs
@@ -84,14 +85,6 @@ before_end test c a (x ∷ xs) e i none = by (x == a) refl (before_end test c a 
         | inr k ↦ filter_no test x (put_before c a xs) k ∙ r ∙ ap (λ us. us ++ c ∷ []) (sym (filter_no test x xs k))
       ])
     ]
-
-in_after : (a z : ℕ) (xs : List ℕ) → In z (after a xs) → In z xs
-in_after a z [] i = i
-in_after a z (x ∷ xs) i = by (x == a) (in_after a z xs) i
-  where
-    by : (t : Bool) → (In z (after a xs) → In z xs) → In z (if t then xs else after a xs) → In z (x ∷ xs)
-    by true rest j = inr j
-    by false rest j = inr (rest j)
 
 -- where one does
 before_other : (test : ℕ → Bool) (c a d : ℕ) (xs : List ℕ) → test c ≡ true → Distinct xs → In a xs → d ∷ after d (filter test xs) ≡ filter test (from (Some a) xs) → filter test (put_before c a xs) ≡ put_before c d (filter test xs)

@@ -249,7 +249,7 @@ apart_more f ys l x e m n k j d = let a = apart_lists f ys l m n k j d in record
 
 -- A list is no longer than the table of all cells
 
-distinct_map : (idx : ℕ → ℕ) (xs : List ℕ) → Distinct xs → ((a b : ℕ) → In a xs → In b xs → idx a ≡ idx b → a ≡ b) → Distinct (map idx xs)
+pub distinct_map : (idx : ℕ → ℕ) (xs : List ℕ) → Distinct xs → ((a b : ℕ) → In a xs → In b xs → idx a ≡ idx b → a ≡ b) → Distinct (map idx xs)
 distinct_map idx [] d one = tt
 distinct_map idx (x ∷ xs) d one = (
   each_of _ (map idx xs) (λ y i e. let r = in_map idx y xs i in each_in (λ u. x ≢ u) xs r.0 d.0 r.1 (one x r.0 (inl refl) (inr r.1) (e ∙ sym r.2))),

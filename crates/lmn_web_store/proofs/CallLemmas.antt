@@ -14,15 +14,12 @@ use Rattle.lmn_web_store.specs.WebHeaps.{Posts, place_at, atoms_of, mems_of, hea
 use Rattle.lmn_web_store.specs.WebStores.{IsStored}
 use Rattle.lmn_web_store.proofs.ReadLemmas.{stands_in, named_back, no_post, atom_there, mem_there, home_is, parent_is, atoms_is, mems_is, some_home}
 use Rattle.lmn_web_store.proofs.SoundLemmas.{Formed, link_is, arity_same, linked_there, lists_are}
+use Rattle.lmn_heap.proofs.Common.{placed_is_mem as parent_some}
 
 -- what is read of an item with a home is read of an item
 home_some : (o : Option HeapAtom) → IsSome (option_and_then (λ x. home_by x.place) o) → IsSome o
 home_some None s = absurd (cc)
 home_some (Some x) s = refl
-
-parent_some : (o : Option HeapMem) → IsSome (option_and_then (λ x. home_by x.place) o) → IsSome o
-parent_some None s = absurd (cc)
-parent_some (Some x) s = refl
 
 module _ (p : Posts) (t : List (Option RuleList)) (w : ℕ → Option WebCell) (k : IsStored p t w) (l : StandOnce w) where
   abbrev H : Heap

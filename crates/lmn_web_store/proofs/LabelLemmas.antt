@@ -4,14 +4,8 @@ use Rattle.std.specs.Prelude.{pos, negsuc, nat_lt}
 use Rattle.std.proofs.lemmas.Bool.Decides.{nat_tests}
 use Rattle.std.proofs.Math.Nat.{mul-div_cancel}
 use Rattle.lmn_base.specs.declared.functor.Label.TheVariants.{Name, Int}
-use Rattle.lmn_base.proofs.Numbers.{below_or_from}
+use Rattle.lmn_base.proofs.Numbers.{below_or_from, lower as below, not_lower as not_below}
 use Rattle.lmn_web_store.specs.Labels.{NEGATIVES, NAMES, label_number, label_by, IsLabelNumber}
-
-below : (m n : ℕ) → m < n → nat_lt m n ≡ true
-below m n h = grind (arith, nat_tests)
-
-not_below : (m n : ℕ) → n ≤ m → nat_lt m n ≡ false
-not_below m n h = grind (arith, nat_tests)
 
 as_positive : (k : ℕ) → k < NEGATIVES → label_by k ≡ Int (pos k)
 as_positive k h = ap (λ b. cond b (Int (pos k)) (cond (nat_lt k NAMES) (Int (negsuc (k - NEGATIVES))) (Name (k / NAMES - 1)))) (below k NEGATIVES h)

@@ -22,20 +22,8 @@ use Rattle.lmn_web_store.proofs.SendLemmas.{kind_same, home_away, source_list, l
 use Rattle.lmn_web_store.proofs.PlaceLemmas.{mem_with_list, more, first_is, in_place_mem, atoms_sent, mems_sent}
 use Rattle.lmn_web_store.proofs.FreeLemmas.{atom_place, mem_place}
 use Rattle.lmn_web_store.proofs.FreeSteps.{shorter}
-
--- places that are sent
-sent_keeps : (m n : ℕ) (P : Place) → (P ≡ within m → ⊥) → sent m n P ≡ P
-sent_keeps m n top d = refl
-sent_keeps m n (within k) d = by (k == m) refl
-  where
-    by : (b : Bool) → (k == m) ≡ b → cond b (within n) (within k) ≡ within k
-    by true e = absurd (d (ap within (eqb-true k m e)))
-    by false e = refl
-sent_keeps m n waiting d = refl
-sent_keeps m n gone d = refl
-
-sent_from : (m n : ℕ) → sent m n (within m) ≡ within n
-sent_from m n = ap (λ b. cond b (within n) (within m)) (eq-eqb m m refl)
+use Rattle.lmn_heap.proofs.MoveListing.{sent_m as sent_from}
+use Rattle.lmn_store.proofs.MovingLemmas.{sent_keeps}
 
 sent_to : (m n : ℕ) → sent m n (within n) ≡ within n
 sent_to m n = by (n == m)

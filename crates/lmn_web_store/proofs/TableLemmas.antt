@@ -22,6 +22,7 @@ use Rattle.lmn_web_store.specs.WebHeaps.{Posts, no_rules, rules_at, place_at, at
 use Rattle.lmn_web_store.specs.WebStores.{IsStored, HasRules}
 use Rattle.lmn_web_store.specs.Tables.{rows, with_these}
 use Rattle.lmn_web_store.proofs.ReadLemmas.{mem_there, mem_is, mems_are}
+use Rattle.lmn_web.proofs.RelistLemmas.{distinct_map}
 
 -- What is there, and what isn't
 
@@ -129,13 +130,6 @@ in_cell p c x = record { atoms = c.atoms; mems = c.membranes; rules = x.rules; s
 
 by_row : (p : Posts) (t : List (Option RuleList)) (c : WebCell) (x : HeapMem) → rows t c.label ≡ Some x → mem_by p t c ≡ in_cell p c x
 by_row p t c x e = λ j. record (in_cell p c x) { rules = (row_rules t c.label ∙ ap rules_by e) j; spare = (row_spare t c.label ∙ ap spare_by e) j }
-
-distinct_map : (idx : ℕ → ℕ) (xs : List ℕ) → Distinct xs → ((a b : ℕ) → In a xs → In b xs → idx a ≡ idx b → a ≡ b) → Distinct (map idx xs)
-distinct_map idx [] d apart = tt
-distinct_map idx (x ∷ xs) d apart = (
-  each_of (λ y. idx x ≢ y) (map idx xs) (λ y i e. let u = of_map idx y xs i in each_in (λ z. x ≢ z) xs u.0 d.0 u.1 (apart x u.0 (inl refl) (inr u.1) (e ∙ sym u.2))),
-  distinct_map idx xs d.1 (λ a b i j e. apart a b (inr i) (inr j) e),
-)
 
 module _ (p : Posts) (t : List (Option RuleList)) (w : ℕ → Option WebCell) (k : IsStored p t w) where
   -- a membrane of the heap has the rules of its label

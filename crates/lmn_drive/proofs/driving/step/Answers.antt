@@ -11,10 +11,11 @@ use Rattle.lmn_drive.specs.Answers.{BrokeByAnswers, GoingByAnswers, StoppedByAns
 use Rattle.lmn_drive.specs.declared.driving.Stop.TheVariants as stop
 use Rattle.lmn_drive.proofs.Asked.{asked_all, asked_last, asked_more, asks_once}
 use Rattle.lmn_drive.proofs.Answered.{by_answer, commits_and_breaks, commits_on, full_by, irreducible_by, no_memory_by}
-use Rattle.lmn_drive.proofs.Goings.{broke_more, going_more, none_more, stops_full, stops_irreducible, stops_no_memory}
+use Rattle.lmn_drive.proofs.Goings.{broke_more, going_more, stops_full, stops_irreducible, stops_no_memory}
 use Rattle.lmn_drive.proofs.Writings.{at_err}
 use Rattle.lmn_drive.proofs.driving.step.Goals as goal
 use Rattle.lmn_heap.proofs.Common.{moved}
+use Rattle.lmn_base.proofs.Numbers.{none_more}
 
 pub returns-in_err-write_traced-in-Committed-clause-goes : goal.returns-in_err-write_traced-in-Committed-clause-goes
 returns-in_err-write_traced-in-Committed-clause-goes g c k gives solid told below s =

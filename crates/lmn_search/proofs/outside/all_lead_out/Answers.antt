@@ -4,7 +4,7 @@ use Rattle.lmn_heap.proofs.Common.{in_at}
 use Rattle.lmn_search.specs.Placing.{AtomLeadsOut}
 use Rattle.lmn_search.specs.declared.head.AtomItem.{AtomItem}
 use Rattle.lmn_search.proofs.OutsideLemmas.{each_more, each_all}
-use Rattle.lmn_search.proofs.EmbeddingLemmas.{read_or as index_is}
+use Rattle.lmn_base.proofs.Lists.{read_or as index_is}
 use Rattle.lmn_search.proofs.PairingLemmas.{port_differs}
 use Rattle.lmn_search.proofs.outside.all_lead_out.Goals as goal
 

@@ -2,9 +2,10 @@ use Rattle.std.proofs.Common.{◌≡◌, length, subst, sym}
 use Rattle.lmn_heap.specs.Sound.{Forest, IsTree, flat}
 use Rattle.lmn_strategy.specs.Choosing.{IsFirstIn, NoneIn, asked}
 use Rattle.lmn_strategy.specs.Quieting.{SleepsRightly}
-use Rattle.lmn_coded.proofs.Asking.{chosen_succeeds, root_counts}
+use Rattle.lmn_coded.proofs.Asking.{chosen_succeeds}
 use Rattle.lmn_coded.proofs.Awake.{awake_rightly}
 use Rattle.lmn_coded.proofs.running.Coded.reducible.Goals as goal
+use Rattle.lmn_schedule.proofs.Turned.{some_membrane as root_counts}
 
 pub search-requires-clause-from : goal.search-requires-clause-from
 search-requires-clause-from g c =

@@ -3,9 +3,9 @@ use Rattle.lmn_heap.specs.Sound.{Forest, IsTree, flat}
 use Rattle.lmn_strategy.specs.Choosing.{CanTurn}
 use Rattle.lmn_strategy.specs.Quieting.{SleepsRightly}
 use Rattle.lmn_strategy.specs.Turns.{AreRunnable, IsAwakeTurn}
-use Rattle.lmn_coded.proofs.Asking.{root_counts}
 use Rattle.lmn_coded.proofs.Awake.{awake_rightly, awake_turn, turn_keeps}
 use Rattle.lmn_coded.proofs.running.Coded.turn.Goals as goal
+use Rattle.lmn_schedule.proofs.Turned.{some_membrane as root_counts}
 
 pub take_turn-answer-requires-clause-codes : goal.take_turn-answer-requires-clause-codes
 take_turn-answer-requires-clause-codes g c = subst AreRunnable (sym c.as_slice.ensures) c.requires.run.runnable
