@@ -12,6 +12,7 @@ use Rattle.lmn_base.specs.declared.refusal.TextFault.{TextFault}
 use Rattle.lmn_base.specs.declared.refusal.TextFault.TheVariants.{Refused, NoMemory}
 use Rattle.lmn_base.proofs.Lists.{all_append}
 use Rattle.lmn_instr.specs.declared.instr.Code.{Code}
+use Rattle.lmn_instr.specs.declared.instr.Instr.{Instr}
 use Rattle.lmn_instr.specs.Listings.{line, code_listing, HasCode}
 use Rattle.lmn_functors.specs.Reading.{AddsNames}
 use Rattle.lmn_verify.specs.Verified.{IsVerified}
@@ -20,7 +21,7 @@ use Rattle.lmn_verify.specs.Listings.{IsWholeCode, HasPlainLines, AreListed, IsF
 use Rattle.lmn_verify.specs.Reaching.{Reached, IsLineEnd, IsEnded, IsReadCode, AreReadCodes, IsRefusedLine}
 use Rattle.lmn_functors.proofs.NameLemmas.{adds_both, adds_none, adds_more as adds_fewer}
 use Rattle.lmn_verify.proofs.LineLemmas.{more_instrs}
-use Rattle.lmn_verify.proofs.ReachingLemmas.{reached_first, reached_more, reached_wrong, refusal_of, whole_where}
+use Rattle.lmn_verify.proofs.ReachingLemmas.{reached_first, reached_more, reached_wrong, refusal_of, puts_on, whole_where}
 
 abbrev rule_line : ℕ → List ℕ
 rule_line j = codes "rule " ++ (decimal j ++ codes "\n")
@@ -42,6 +43,17 @@ rule_forth listing text j from end e is same = behind (end - from) refl (same �
     behind : (k : ℕ) → end - from ≡ k → rule_line j ≡ take (end - from) (drop from listing) → from < end
     behind zero k t = absurd (let none : rule_line j ≡ [] = t ∙ ap (λ m. take m (drop from listing)) k in cc)
     behind (suc m) k t = omega arith
+
+-- the names that are put behind it,
+pub head_puts : (listing : List ℕ) (before names : List (List ℕ)) (from end : ℕ) → IsLineEnd listing from end → AddsNames (3 * (length listing - end)) before names → AddsNames (3 * (length listing - from)) before names
+head_puts listing before names from end e g = let back = e.back in adds_fewer (3 * (length listing - end)) (3 * (length listing - from)) before names (omega arith) g
+
+-- with those that are put behind the head
+pub body_puts : (listing : List ℕ) (before middle later : List (List ℕ)) (from first end at ln : ℕ) (instrs : List Instr) → IsLineEnd listing from end → IsEnded true listing before middle end first at ln instrs
+    → AddsNames (3 * (length listing - at)) middle later → AddsNames (3 * (length listing - from)) before later
+body_puts listing before middle later from first end at ln instrs e h g =
+    let few = h.read.few in
+    head_puts listing before later from end e (puts_on listing before middle later end at (omega arith) h.read.within h.read.puts g)
 
 -- another line stands there
 pub rule_wrong : (n : ℕ) (listing text : List ℕ) (j from first end : ℕ) → IsLineEnd listing from end → text ≡ take (end - from) (drop from listing) → (rule_line j ≡ text → ⊥)
@@ -158,6 +170,17 @@ codes_more n listing before names later j at ln at2 ln2 cs c r l h =
       plain = all_append (HasPlainLines later) cs (c ∷ []) (old.2 r.plain) (h.plain, tt);
       reached = h.reached n (subst (Reached n listing at ln) (due_here n j l) r.reached);
     }
+
+-- the names that are put, with those of the code that comes next
+pub codes_put : (n : ℕ) (listing : List ℕ) (before names later : List (List ℕ)) (j at ln : ℕ) (cs : List Code) → AreReadCodes n listing before names j at ln cs → AddsNames (3 * (length listing - at)) names later
+    → AddsNames (3 * length listing) before later
+codes_put n listing before names later j at ln cs r g =
+    let within = r.within in
+    adds_fewer (3 * at + 3 * (length listing - at)) (3 * length listing) before later (omega arith) (adds_both (3 * at) (3 * (length listing - at)) before names later r.puts g)
+
+-- or without
+pub all_put : (n : ℕ) (listing : List ℕ) (before names : List (List ℕ)) (j at ln : ℕ) (cs : List Code) → AreReadCodes n listing before names j at ln cs → AddsNames (3 * length listing) before names
+all_put n listing before names j at ln cs r = let within = r.within in adds_fewer (3 * at) (3 * length listing) before names (omega arith) r.puts
 
 -- something stands behind them
 pub something_behind : (n : ℕ) (listing : List ℕ) (before names : List (List ℕ)) (at ln : ℕ) (cs : List Code) → AreReadCodes n listing before names n at ln cs → at < length listing → IsRefusedLine n listing (refusal_of ln)

@@ -360,6 +360,23 @@ ended_more b listing before names later from first at ln end instrs i r g h o = 
   reached = λ n j s. subst (Reached n listing end (ln + 1)) (ap (λ l. due_behind n (due_in b j) (line later l)) o ∙ goes_out b n j later) (one_more b listing later n j at ln end i h (r.reached n j s));
 }
 
+-- the names that are put up to a place are at most those that are put up to the end,
+pub puts_fewer : (listing : List ℕ) (before names : List (List ℕ)) (from at : ℕ) → at ≤ length listing → AddsNames (3 * (at - from)) before names → AddsNames (3 * (length listing - from)) before names
+puts_fewer listing before names from at l g = adds_fewer (3 * (at - from)) (3 * (length listing - from)) before names (omega arith) g
+
+-- with those that are put from there on
+pub puts_on : (listing : List ℕ) (before names later : List (List ℕ)) (from at : ℕ) → from ≤ at → at ≤ length listing → AddsNames (3 * (at - from)) before names → AddsNames (3 * (length listing - at)) names later
+    → AddsNames (3 * (length listing - from)) before later
+puts_on listing before names later from at f l g h =
+    adds_fewer (3 * (at - from) + 3 * (length listing - at)) (3 * (length listing - from)) before later (omega arith) (adds_both (3 * (at - from)) (3 * (length listing - at)) before names later g h)
+
+-- or with those of a line that begins there
+pub begun_puts : (b : Bool) (listing : List ℕ) (before names later : List (List ℕ)) (from first at ln : ℕ) (instrs : List Instr) → IsBegun b listing before names from first at ln instrs → at < length listing
+    → AddsNames 3 names later → AddsNames (3 * (length listing - from)) before later
+begun_puts b listing before names later from first at ln instrs r l g =
+    let few = r.read.few in
+    puts_on listing before names later from at (omega arith) (omega arith) r.read.puts (adds_fewer 3 (3 * (length listing - at)) names later (omega arith) g)
+
 abbrev pub refusal_of : ℕ → Refusal
 refusal_of ln = record { code = 81; pos = record { line = ln; column = 1 } }
 

@@ -149,6 +149,7 @@ fn read_block(
     requires short { length listing.now < 2 ^ 32 }
     requires line { first ≤ from + 1 }
     requires room { length names.old + 3 * (length listing.now - from) < 2 ^ 32 }
+    ensures names { AddsNames (3 * (length listing.now - from)) names.old names.new }
     ensures block { IfOk result (λ b. IsEnded in_head listing.now names.old names.new from first b.at b.line b.instrs) }
     ensures refused { IfErr result (λ e. IfRefused e (λ r. (n j : ℕ) → Reached n listing.now from first (due_in in_head j) → IsRefusedLine n listing.now r)) }
 {
@@ -185,6 +186,7 @@ fn read_code(
     requires short { length listing.now < 2 ^ 32 }
     requires line { first ≤ from + 1 }
     requires room { length names.old + 3 * (length listing.now - from) < 2 ^ 32 }
+    ensures names { AddsNames (3 * (length listing.now - from)) names.old names.new }
     ensures code { IfOk result (λ c. IsReadCode listing.now names.old names.new number from first c.at c.line c.code) }
     ensures refused { IfErr result (λ e. IfRefused e (λ r. (n : ℕ) → Reached n listing.now from first (rule number) → IsRefusedLine n listing.now r)) }
 {
@@ -215,7 +217,7 @@ fn read_codes(
     requires room { length names.old + 3 * length listing.now < 2 ^ 32 }
     ensures listed { IfOk result (λ codes. AreListed rules names.new codes listing.now) }
     ensures few { IfOk result (λ codes. lines_of_all codes ≤ length listing.now) }
-    ensures names { IfOk result (λ codes. AddsNames (3 * length listing.now) names.old names.new) }
+    ensures names { AddsNames (3 * length listing.now) names.old names.new }
     ensures refused { IfErr result (λ e. IfRefused e (IsRefusedLine rules listing.now)) }
 {
     let mut codes = Rows::new(alloc);
@@ -274,7 +276,7 @@ pub fn read(
     requires room { length names.old ≤ 2 ^ 31 }
     ensures listed { IfOk result (λ codes. AreListed rules names.new codes listing.now) }
     ensures verified { IfOk result (λ codes. AllByRecursion (λ c. IsVerified c rules) codes) }
-    ensures names { IfOk result (λ codes. AddsNames (3 * length listing.now) names.old names.new) }
+    ensures names { AddsNames (3 * length listing.now) names.old names.new }
     ensures refused { IfErr result (λ e. IfRefused e (λ r. IsRefusedListing rules names.new listing.now r.code r.pos.line × (r.pos.column ≡ 1))) }
 {
     let codes = read_codes(alloc, listing, rules, names)?;
