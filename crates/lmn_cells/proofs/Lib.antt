@@ -11,6 +11,7 @@ pub mod PortLemmas
 pub mod Pairing
 pub mod FillLemmas
 pub mod MadeLemmas
+pub mod StackLemmas
 pub mod RunLemmas
 pub mod LineLemmas
 pub mod InsertLemmas

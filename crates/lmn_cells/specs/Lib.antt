@@ -1,5 +1,6 @@
 pub mod Rows
 pub mod Owned
+pub mod Stacks
 pub mod Cells
 pub mod CellIds
 pub mod Ports

@@ -8,6 +8,7 @@ ghost use Rattle.lmn_cells.specs.CellIds.{cell_id, IsLink, led_by};
 
 use crate::filling::{FIRST_PORT, LINKS, PORT_WORDS, fill};
 use crate::handle::Cell;
+use crate::kept::Kept;
 use crate::rows::{Rows, is_nowhere, nowhere};
 use std::alloc::{AllocError, Global};
 use std::marker::Model;
@@ -19,9 +20,11 @@ const PORT: usize = 1;
 
 const MARK: usize = 2;
 
-/// The cells, and the handle of the heap that they are from.
+/// The cells, and the handle of the heap that they are from. The blocks of freed cells with at most three ports are kept
+/// and used again, so that of cells with as many ports there are never more blocks than lived at once.
 pub struct Cells {
     rows: Rows,
+    kept: Kept,
     alloc: Global,
 }
 
@@ -44,6 +47,7 @@ impl Cells {
     {
         Cells {
             rows: Rows::new(),
+            kept: Kept::new(),
             alloc,
         }
     }
@@ -52,8 +56,9 @@ impl Cells {
     pub fn end(self)
         requires { (b : ℕ) → cells_by self b ≡ None }
     {
-        let Cells { rows, alloc: _ } = self;
+        let Cells { rows, kept, alloc } = self;
         rows.end();
+        kept.end(&alloc);
     }
 
     /// A new cell in which nothing is set.
@@ -63,7 +68,7 @@ impl Cells {
             (λ c. (cells_by self.old (cell_id c) ≡ None) × (cells_by self.new ≡ alter (cells_by self.old) (cell_id c) (λ _. Some (blank_cell ports))))
             (λ _. cells_by self.new ≡ cells_by self.old) }
     {
-        match self.rows.make(&self.alloc, FIRST_PORT + ports * PORT_WORDS) {
+        match self.kept.make(&mut self.rows, &self.alloc, ports) {
             Ok(at) => {
                 fill(&mut self.rows, at, ports);
                 Ok(Cell { at })
@@ -78,8 +83,7 @@ impl Cells {
         requires ports { length (ports_of (cells_by self.old (cell_id c))) ≡ ports }
         ensures { cells_by self.new ≡ alter (cells_by self.old) (cell_id c) (λ _. None) }
     {
-        self.rows
-            .free(&self.alloc, c.at, FIRST_PORT + ports * PORT_WORDS);
+        self.kept.keep(&mut self.rows, &self.alloc, c.at, ports);
     }
 
     /// Each cell has eight links.

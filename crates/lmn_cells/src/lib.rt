@@ -4,6 +4,8 @@
 pub mod cell;
 mod filling;
 pub mod handle;
+mod kept;
 pub mod lists;
 pub mod ports;
 mod rows;
+mod spares;

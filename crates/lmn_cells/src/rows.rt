@@ -54,6 +54,13 @@ impl Rows {
         unsafe { alloc.deallocate(at, count * 8, 8) }
     }
 
+    /// A row goes over to another owner, and nothing is known of its words any more.
+    pub fn give(&mut self, other: &mut Rows, at: *mut u8)
+        requires { IsStart at × (0 < length (items_in self.old.rows (block_of at))) }
+        ensures { (self.new.rows ≡ without_row (block_of at) self.old.rows) × (items_in self.new.rows (block_of at) ≡ []) × (items_in other.old.rows (block_of at) ≡ [])
+            × (other.new.rows ≡ row (block_of at) (replicate (length (items_in self.old.rows (block_of at))) blank) ∷ other.old.rows) }
+    {}
+
     /// The pointer in a word.
     pub fn link(&self, at: *mut u8, k: usize) -> *mut u8
         requires { IsStart at × (k < 2 ^ 32) × ((p : Ptr) × (slice_index_or (items_in self.now.rows (block_of at)) k blank ≡ link p)) }
