@@ -16,3 +16,7 @@ pub mod RulePairs
 pub mod MovePairs
 pub mod NewPair
 pub mod CheckLemmas
+pub mod Numbers
+pub mod Climbs
+pub mod NextAwake
+pub mod AwakeExamples

@@ -1,5 +1,5 @@
 -- How many slots of a table are taken.
-use Rattle.std.proofs.Common.{ℕ, zero, suc, ◌≡◌, ◌≢◌, ◌+◌, ◌↔◌, List, [], ◌∷◌, length, Option, Some, None, IsSome, refl, arith, ap, sym, subst, inl, inr}
+use Rattle.std.proofs.Common.{ℕ, zero, suc, ◌≡◌, ◌≢◌, ◌+◌, ◌↔◌, List, [], ◌∷◌, length, Option, Some, None, IsSome, refl, arith, subst, inl, inr}
 use Rattle.std.specs.Prelude.{cond, is_some, count_by, slice_index_or}
 use Rattle.std.proofs.lemmas.List.Sums.{sum_by-cons}
 use Rattle.lmn_base.specs.Lists.{In}
