@@ -1,5 +1,5 @@
 -- Code, instruction by instruction: which registers it uses, and how many rules it needs room for.
-use Rattle.std.proofs.Common.{ℕ, zero, suc, ◌≡◌, ◌<◌, ◌≤◌, ◌+◌, List, [], ◌∷◌, ◌++◌, ◌⊎◌, inl, inr, Some, arith, ap, sym, subst, length, take, get_or, ◌∙◌}
+use Rattle.std.proofs.Common.{ℕ, zero, suc, ◌≡◌, ◌<◌, ◌≤◌, ◌+◌, List, [], ◌∷◌, ◌++◌, ◌⊎◌, inl, inr, Some, arith, ap, sym, subst, length, take, ◌∙◌}
 use Rattle.std.specs.Prelude.{slice_get}
 use Rattle.lmn_instr.specs.declared.instr.NewPort.{NewPort}
 use Rattle.lmn_instr.specs.declared.instr.NewPort.TheVariants as new
@@ -9,12 +9,6 @@ use Rattle.lmn_body.specs.Running.{Registers}
 use Rattle.lmn_commit.specs.Preparing.{Uses, UsesPort, AllUse, UsesInOrder, needed, needed_by, atoms_made, membranes_made, copies_made}
 
 -- Lists
-
--- what is read below the length is what stands there
-pub read_at : {A : Type 0} (xs : List A) (i : ℕ) (x : A) → i < length xs → x ≡ get_or xs i x → slice_get xs i ≡ Some x
-read_at [] i x l e = absurd (omega arith)
-read_at (z ∷ xs) zero x l e = ap (λ w. Some w) (sym e)
-read_at (z ∷ xs) (suc i) x l e = read_at xs i x (omega arith) e
 
 take_suc : {A : Type 0} (k : ℕ) (xs : List A) (x : A) → slice_get xs k ≡ Some x → take (suc k) xs ≡ take k xs ++ x ∷ []
 take_suc k [] x e = absurd (cc)

@@ -13,6 +13,7 @@ ghost use Rattle.lmn_commit.specs.Waking.{Commits};
 use crate::splicing::{relink, unify};
 use crate::waking::wake;
 use lmn_ground::{drop_cells, place_cells, take_part};
+use lmn_codes::Instrs;
 use lmn_instr::{AtomPort, Instr, NewPort};
 use lmn_registers::SetRegisters;
 use lmn_store::LinkStore;
@@ -117,7 +118,7 @@ fn run<S: LinkStore>(store: &mut S, instr: &Instr, set: &SetRegisters<S::Atom, S
 }
 
 /// Does what code does, one instruction after the other.
-fn run_all<S: LinkStore>(store: &mut S, code: &[Instr], set: &SetRegisters<S::Atom, S::Mem>)
+fn run_all<S: LinkStore>(store: &mut S, code: &Instrs<'_>, set: &SetRegisters<S::Atom, S::Mem>)
     requires unmarked { Unmarked (S.heap store.old) }
     requires uses { AllUse (length set.now.atoms) (length set.now.membranes) (length set.now.parts) (length set.now.copies) code.now }
     requires runs { (r : Registers) × AgreesWithCopies S.atom_id S.mem_id set.now r × Runs r code.now (S.heap store.old) }
@@ -125,7 +126,7 @@ fn run_all<S: LinkStore>(store: &mut S, code: &[Instr], set: &SetRegisters<S::At
     ensures unmarked { Unmarked (S.heap store.new) }
 {
     for i in 0..code.len() {
-        run(store, &code[i], set);
+        run(store, code.at(i), set);
     }
 }
 
@@ -133,7 +134,7 @@ fn run_all<S: LinkStore>(store: &mut S, code: &[Instr], set: &SetRegisters<S::At
 /// asked of it is that its instructions can be run one after the other and leave a valid store. It takes no memory and can't
 /// fail, and leaves a valid store in which every mark of an atom is 0. What the code rouses is awake then, with all that is round
 /// it, and each other membrane keeps its mark.
-pub fn commit<S: LinkStore>(store: &mut S, code: &[Instr], set: &SetRegisters<S::Atom, S::Mem>)
+pub fn commit<S: LinkStore>(store: &mut S, code: &Instrs<'_>, set: &SetRegisters<S::Atom, S::Mem>)
     requires { IsPrepared S.atom_id S.mem_id (S.heap store.old) set.now code.now }
     ensures fires { (p : IsPrepared S.atom_id S.mem_id (S.heap store.old) set.now code.now) (r : Registers) → AgreesWithCopies S.atom_id S.mem_id set.now r → HasCopies r p.prepared.copied → HasRests S.atom_id S.mem_id p.before p.matched_by r →
         Commits p.before r code.now (S.heap store.new) }

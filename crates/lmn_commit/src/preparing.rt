@@ -11,6 +11,7 @@ ghost use Rattle.lmn_registers.specs.declared.stack.TheConstants.{ROOM};
 use crate::marking::mark_taken;
 use lmn_base::{Functor, Label, NoMemory};
 use lmn_ground::{copy_cells, copy_counted};
+use lmn_codes::Instrs;
 use lmn_instr::Instr;
 use lmn_registers::{PartCopy, SetRegisters};
 use lmn_store::LinkStore;
@@ -102,7 +103,7 @@ fn rules_added<S: LinkStore>(
 /// How many rules the first instructions of code add to a membrane; none where that is too many for any store.
 fn rules_needed<S: LinkStore>(
     store: &S,
-    code: &[Instr],
+    code: &Instrs<'_>,
     upto: usize,
     set: &SetRegisters<S::Atom, S::Mem>,
     membrane: S::Mem,
@@ -115,7 +116,7 @@ fn rules_needed<S: LinkStore>(
 {
     let mut count: u64 = 0;
     for i in 0..upto {
-        count = count.checked_add(rules_added(store, &code[i], set, membrane))?;
+        count = count.checked_add(rules_added(store, code.at(i), set, membrane))?;
     }
     Some(count)
 }
@@ -124,7 +125,7 @@ fn rules_needed<S: LinkStore>(
 fn reserve<S: LinkStore>(
     alloc: Global,
     store: &mut S,
-    code: &[Instr],
+    code: &Instrs<'_>,
     at: usize,
     set: &SetRegisters<S::Atom, S::Mem>,
     membrane: S::Mem,
@@ -136,6 +137,7 @@ fn reserve<S: LinkStore>(
     ensures ok { OnOk result (RoomIsMade S.atom_id S.mem_id (S.heap store.old) (S.heap store.new) set.now (take (at + 1) code.now) (S.mem_id membrane)) }
     ensures makes { OnlyMakes (S.heap store.old) (S.heap store.new) }
 {
+    let _code = code.len();
     match rules_needed(store, code, at + 1, set, membrane) {
         Some(count) => store.reserve_rules(alloc, membrane, count),
         None => Err(NoMemory),
@@ -170,7 +172,7 @@ fn copy_rest<S: LinkStore>(
 fn make<S: LinkStore>(
     alloc: Global,
     store: &mut S,
-    code: &[Instr],
+    code: &Instrs<'_>,
     at: usize,
     instr: &Instr,
     set: &mut SetRegisters<S::Atom, S::Mem>,
@@ -219,7 +221,7 @@ fn make<S: LinkStore>(
 fn make_all<S: LinkStore>(
     alloc: Global,
     store: &mut S,
-    code: &[Instr],
+    code: &Instrs<'_>,
     set: &mut SetRegisters<S::Atom, S::Mem>,
 ) -> Result<(), NoMemory>
     requires valid { Valid (S.heap store.old) }
@@ -234,7 +236,7 @@ fn make_all<S: LinkStore>(
     ensures makes { OnlyMakes (S.heap store.old) (S.heap store.new) }
 {
     for i in 0..code.len() {
-        make(alloc, store, code, i, &code[i], set)?;
+        make(alloc, store, code, i, code.at(i), set)?;
     }
     Ok(())
 }
@@ -245,7 +247,7 @@ fn make_all<S: LinkStore>(
 pub fn prepare<S: LinkStore>(
     alloc: Global,
     store: &mut S,
-    code: &[Instr],
+    code: &Instrs<'_>,
     set: &mut SetRegisters<S::Atom, S::Mem>,
 ) -> Result<(), NoMemory>
     requires valid { Valid (S.heap store.old) }

@@ -6,6 +6,7 @@ ghost use Rattle.lmn_commit.specs.Registers.{AgreesWithCopies, AreHeld};
 ghost use Rattle.lmn_commit.specs.Preparing.{AllUse, Uses};
 ghost use Rattle.lmn_commit.specs.Waking.{AllDeep, Is, IsAwakeRound, IsHome, IsHomeBeside, IsPartnerHome, IsRoused, Rouses, WakesAbove};
 
+use lmn_codes::Instrs;
 use lmn_instr::Instr;
 use lmn_registers::SetRegisters;
 use lmn_store::LinkStore;
@@ -120,7 +121,7 @@ fn wake_for<S: LinkStore>(
 
 /// What the code of a body touches wakes: the membrane of the rule, those that the code takes away, the homes of the atoms that
 /// it takes away and of those that are joined to them, and each membrane round one of these.
-pub(crate) fn wake<S: LinkStore>(store: &mut S, code: &[Instr], set: &SetRegisters<S::Atom, S::Mem>)
+pub(crate) fn wake<S: LinkStore>(store: &mut S, code: &Instrs<'_>, set: &SetRegisters<S::Atom, S::Mem>)
     requires deep { AllDeep (S.heap store.old) }
     requires held { AreHeld S.atom_id S.mem_id (S.heap store.old) set.now }
     requires uses { AllUse (length set.now.atoms) (length set.now.membranes) (length set.now.parts) (length set.now.copies) code.now }
@@ -130,6 +131,6 @@ pub(crate) fn wake<S: LinkStore>(store: &mut S, code: &[Instr], set: &SetRegiste
     let top = set.membranes.at(0);
     wake_round(store, top);
     for i in 0..code.len() {
-        wake_for(store, &code[i], set, top);
+        wake_for(store, code.at(i), set, top);
     }
 }

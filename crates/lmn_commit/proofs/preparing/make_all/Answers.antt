@@ -1,6 +1,6 @@
 use Rattle.std.proofs.Common.{◌+◌, take, drop, subst, sym, ap, length, ◌∷◌, inl}
 use Rattle.lmn_commit.specs.Preparing.{Prepared, BodyInOrder}
-use Rattle.lmn_commit.proofs.Codes.{read_at, take_get}
+use Rattle.lmn_commit.proofs.Codes.{take_get}
 use Rattle.lmn_commit.proofs.Making.{prepared_nothing, prepared_more, in_order_next, still_copies}
 use Rattle.lmn_commit.proofs.Waiting.{makes_on}
 use Rattle.lmn_commit.proofs.Later.{apart_more, still_at_home, still_copied_rests, still_holds}
@@ -10,7 +10,7 @@ use Rattle.lmn_base.proofs.Lists.{drop_get}
 
 pub make-requires-clause-reads : goal.make-requires-clause-reads
 make-requires-clause-reads g c =
-    let ahead = drop_get c.loop-i.i c.args.code.now c.index-code-i.result (read_at c.args.code.now c.loop-i.i c.index-code-i.result c.loop-i-test.true c.index-code-i.is) in
+    let ahead = drop_get c.loop-i.i c.args.code.now c.at.result.now c.at.ensures in
     (subst (λ is. BodyInOrder (length c.loop-i.set.atoms) (length c.loop-i.set.membranes) (length c.loop-i.set.parts) (length c.loop-i.set.integers) (length c.loop-i.set.copies) is) ahead c.loop-i.invariant.order).0
 
 pub loop-i-init : goal.loop-i-init
@@ -21,7 +21,7 @@ loop-i-init g c = record {
 }
 
 pub make-requires-clause-at : goal.make-requires-clause-at
-make-requires-clause-at g c = read_at c.args.code.now c.loop-i.i c.index-code-i.result c.loop-i-test.true c.index-code-i.is
+make-requires-clause-at g c = c.at.ensures
 
 pub make-requires-clause-unmarked : goal.make-requires-clause-unmarked
 make-requires-clause-unmarked g c = c.loop-i.invariant.done.makes.unmarked c.requires.unmarked
@@ -34,23 +34,23 @@ pub make-requires-clause-homes : goal.make-requires-clause-homes
 make-requires-clause-homes g c = still_at_home g.S.LinkStore.atom_id g.S.LinkStore.mem_id (g.S.LinkStore.heap c.args.store.now) (g.S.LinkStore.heap c.loop-i.store) c.requires.valid c.loop-i.invariant.done.makes (c.loop-i.invariant.done.makes.rest (g.S.LinkStore.heap c.args.store.now) (itself (g.S.LinkStore.heap c.args.store.now) c.requires.valid).1) c.args.set.now c.loop-i.set c.loop-i.invariant.done.grows c.loop-i.invariant.apart c.requires.parts c.requires.homes
 
 pub make-requires-clause-rest : goal.make-requires-clause-rest
-make-requires-clause-rest g c = still_copied_rests g.S.LinkStore.atom_id g.S.LinkStore.mem_id (g.S.LinkStore.heap c.args.store.now) (g.S.LinkStore.heap c.loop-i.store) c.requires.valid c.loop-i.invariant.done.makes (c.loop-i.invariant.done.makes.rest (g.S.LinkStore.heap c.args.store.now) (itself (g.S.LinkStore.heap c.args.store.now) c.requires.valid).1) c.args.set.now c.loop-i.set c.loop-i.invariant.done.grows c.loop-i.invariant.apart c.requires.parts c.requires.held c.args.code.now c.loop-i.i c.index-code-i.result (read_at c.args.code.now c.loop-i.i c.index-code-i.result c.loop-i-test.true c.index-code-i.is) c.requires.rests
+make-requires-clause-rest g c = still_copied_rests g.S.LinkStore.atom_id g.S.LinkStore.mem_id (g.S.LinkStore.heap c.args.store.now) (g.S.LinkStore.heap c.loop-i.store) c.requires.valid c.loop-i.invariant.done.makes (c.loop-i.invariant.done.makes.rest (g.S.LinkStore.heap c.args.store.now) (itself (g.S.LinkStore.heap c.args.store.now) c.requires.valid).1) c.args.set.now c.loop-i.set c.loop-i.invariant.done.grows c.loop-i.invariant.apart c.requires.parts c.requires.held c.args.code.now c.loop-i.i c.at.result.now c.at.ensures c.requires.rests
 
 pub returns-in_err-make-clause-makes : goal.returns-in_err-make-clause-makes
 returns-in_err-make-clause-makes g c = makes_on (g.S.LinkStore.heap c.args.store.now) (g.S.LinkStore.heap c.loop-i.store) (g.S.LinkStore.heap c.make.new.store) c.loop-i.invariant.done.makes c.make.ensures.makes
 
 pub loop-i-preserved : goal.loop-i-preserved
 loop-i-preserved g c =
-    let here = read_at c.args.code.now c.loop-i.i c.index-code-i.result c.loop-i-test.true c.index-code-i.is in
-    let ahead = drop_get c.loop-i.i c.args.code.now c.index-code-i.result here in
-    let order : BodyInOrder (length c.loop-i.set.atoms) (length c.loop-i.set.membranes) (length c.loop-i.set.parts) (length c.loop-i.set.integers) (length c.loop-i.set.copies) (c.index-code-i.result ∷ drop (c.loop-i.i + 1) c.args.code.now) =
+    let here = c.at.ensures in
+    let ahead = drop_get c.loop-i.i c.args.code.now c.at.result.now here in
+    let order : BodyInOrder (length c.loop-i.set.atoms) (length c.loop-i.set.membranes) (length c.loop-i.set.parts) (length c.loop-i.set.integers) (length c.loop-i.set.copies) (c.at.result.now ∷ drop (c.loop-i.i + 1) c.args.code.now) =
     subst (λ is. BodyInOrder (length c.loop-i.set.atoms) (length c.loop-i.set.membranes) (length c.loop-i.set.parts) (length c.loop-i.set.integers) (length c.loop-i.set.copies) is) ahead c.loop-i.invariant.order in
     let made = c.in_ok-make.ensures.ok in
     record {
-      done = subst (λ is. Prepared g.S.LinkStore.atom_id g.S.LinkStore.mem_id (g.S.LinkStore.heap c.args.store.now) (g.S.LinkStore.heap c.make.new.store) c.args.set.now c.make.new.set is) (sym (take_get c.loop-i.i c.args.code.now c.index-code-i.result here))
-          (prepared_more g.S.LinkStore.atom_id g.S.LinkStore.mem_id (g.S.LinkStore.heap c.args.store.now) (g.S.LinkStore.heap c.loop-i.store) (g.S.LinkStore.heap c.make.new.store) c.args.set.now c.loop-i.set c.make.new.set (take c.loop-i.i c.args.code.now) c.index-code-i.result (length c.loop-i.set.integers)
+      done = subst (λ is. Prepared g.S.LinkStore.atom_id g.S.LinkStore.mem_id (g.S.LinkStore.heap c.args.store.now) (g.S.LinkStore.heap c.make.new.store) c.args.set.now c.make.new.set is) (sym (take_get c.loop-i.i c.args.code.now c.at.result.now here))
+          (prepared_more g.S.LinkStore.atom_id g.S.LinkStore.mem_id (g.S.LinkStore.heap c.args.store.now) (g.S.LinkStore.heap c.loop-i.store) (g.S.LinkStore.heap c.make.new.store) c.args.set.now c.loop-i.set c.make.new.set (take c.loop-i.i c.args.code.now) c.at.result.now (length c.loop-i.set.integers)
           c.loop-i.invariant.done made c.make.ensures.makes
-          (still_holds g.S.LinkStore.atom_id g.S.LinkStore.mem_id (g.S.LinkStore.heap c.args.store.now) (g.S.LinkStore.heap c.loop-i.store) c.requires.valid c.loop-i.invariant.done.makes (c.loop-i.invariant.done.makes.rest (g.S.LinkStore.heap c.args.store.now) (itself (g.S.LinkStore.heap c.args.store.now) c.requires.valid).1) c.args.set.now c.loop-i.set c.loop-i.invariant.done.grows c.loop-i.invariant.apart c.requires.parts c.requires.held c.args.code.now c.loop-i.i c.index-code-i.result here c.requires.rests) order.0);
+          (still_holds g.S.LinkStore.atom_id g.S.LinkStore.mem_id (g.S.LinkStore.heap c.args.store.now) (g.S.LinkStore.heap c.loop-i.store) c.requires.valid c.loop-i.invariant.done.makes (c.loop-i.invariant.done.makes.rest (g.S.LinkStore.heap c.args.store.now) (itself (g.S.LinkStore.heap c.args.store.now) c.requires.valid).1) c.args.set.now c.loop-i.set c.loop-i.invariant.done.grows c.loop-i.invariant.apart c.requires.parts c.requires.held c.args.code.now c.loop-i.i c.at.result.now here c.requires.rests) order.0);
       apart = apart_more g.S.LinkStore.atom_id g.S.LinkStore.mem_id (g.S.LinkStore.heap c.args.store.now) (g.S.LinkStore.heap c.loop-i.store) c.requires.valid c.loop-i.invariant.done.makes (c.loop-i.invariant.done.makes.rest (g.S.LinkStore.heap c.args.store.now) (itself (g.S.LinkStore.heap c.args.store.now) c.requires.valid).1) c.args.set.now c.loop-i.set c.loop-i.invariant.done.grows c.loop-i.invariant.apart c.requires.parts c.make.new.set made.new_atoms made.new_membranes;
-      order = in_order_next g.S.LinkStore.atom_id g.S.LinkStore.mem_id c.loop-i.set c.make.new.set c.index-code-i.result (drop (c.loop-i.i + 1) c.args.code.now) made.atoms made.membranes made.grows.parts made.grows.integers made.copies order;
+      order = in_order_next g.S.LinkStore.atom_id g.S.LinkStore.mem_id c.loop-i.set c.make.new.set c.at.result.now (drop (c.loop-i.i + 1) c.args.code.now) made.atoms made.membranes made.grows.parts made.grows.integers made.copies order;
     }

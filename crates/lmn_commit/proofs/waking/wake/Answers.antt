@@ -1,6 +1,6 @@
-use Rattle.std.proofs.Common.{refl}
+use Rattle.std.proofs.Common.{arith, refl}
 use Rattle.lmn_sleep.proofs.Marks.{read_alike}
-use Rattle.lmn_commit.proofs.Codes.{read_at, used_at}
+use Rattle.lmn_commit.proofs.Codes.{used_at}
 use Rattle.lmn_commit.proofs.Rousing.{deep_alike, awake_still, awake_now, marks_on}
 use Rattle.lmn_commit.proofs.Rouses.{roused_first, roused_more, roused_all, held_alike}
 use Rattle.lmn_commit.proofs.Making.{some_agree}
@@ -20,7 +20,7 @@ pub wake_for-requires-clause-held : goal.wake_for-requires-clause-held
 wake_for-requires-clause-held g c = held_alike g.S.LinkStore.atom_id g.S.LinkStore.mem_id c.args.set.now (g.S.LinkStore.heap c.args.store.now) (g.S.LinkStore.heap c.loop-i.store) (read_alike (g.S.LinkStore.heap c.args.store.now) (g.S.LinkStore.heap c.loop-i.store) c.loop-i.invariant.alike) c.requires.held
 
 pub wake_for-requires-clause-uses : goal.wake_for-requires-clause-uses
-wake_for-requires-clause-uses g c = used_at _ _ _ _ c.loop-i.i c.args.code.now c.index-code-i.result c.requires.uses (read_at c.args.code.now c.loop-i.i c.index-code-i.result c.loop-i-test.true c.index-code-i.is)
+wake_for-requires-clause-uses g c = used_at _ _ _ _ c.loop-i.i c.args.code.now c.at.result.now c.requires.uses c.at.ensures
 
 pub wake_for-requires-clause-top : goal.wake_for-requires-clause-top
 wake_for-requires-clause-top g c = (read_alike (g.S.LinkStore.heap c.args.store.now) (g.S.LinkStore.heap c.loop-i.store) c.loop-i.invariant.alike).stays (g.S.LinkStore.mem_id c.at-top.result) (c.requires.held.membranes 0 c.at-top.result c.at-top.ensures)
@@ -33,11 +33,11 @@ loop-i-preserved g c =
     let some = some_agree g.S.LinkStore.atom_id g.S.LinkStore.mem_id c.args.set.now in
     let woke = c.wake_for.ensures some.0 some.1 in
     record {
-      so = roused_more g.S.LinkStore.atom_id g.S.LinkStore.mem_id c.args.set.now (g.S.LinkStore.heap c.args.store.now) c.args.code.now c.loop-i.i c.index-code-i.result (g.S.LinkStore.heap c.loop-i.store) (g.S.LinkStore.heap c.wake_for.new.store)
-          (read_at c.args.code.now c.loop-i.i c.index-code-i.result c.loop-i-test.true c.index-code-i.is) c.loop-i.invariant.so c.wake_for.ensures;
+      so = roused_more g.S.LinkStore.atom_id g.S.LinkStore.mem_id c.args.set.now (g.S.LinkStore.heap c.args.store.now) c.args.code.now c.loop-i.i c.at.result.now (g.S.LinkStore.heap c.loop-i.store) (g.S.LinkStore.heap c.wake_for.new.store)
+          c.at.ensures c.loop-i.invariant.so c.wake_for.ensures;
       alike = marks_on (g.S.LinkStore.heap c.args.store.now) (g.S.LinkStore.heap c.loop-i.store) (g.S.LinkStore.heap c.wake_for.new.store) c.loop-i.invariant.alike woke.alike;
       awake = awake_still _ (g.S.LinkStore.heap c.loop-i.store) (g.S.LinkStore.heap c.wake_for.new.store) (g.S.LinkStore.mem_id c.at-top.result) woke c.loop-i.invariant.awake;
     }
 
 pub returns : goal.returns
-returns g c = roused_all g.S.LinkStore.atom_id g.S.LinkStore.mem_id c.args.set.now (g.S.LinkStore.heap c.args.store.now) c.args.code.now c.loop-i.i (g.S.LinkStore.heap c.loop-i.store) c.loop-i-test.false c.loop-i.invariant.so
+returns g c = roused_all g.S.LinkStore.atom_id g.S.LinkStore.mem_id c.args.set.now (g.S.LinkStore.heap c.args.store.now) c.args.code.now c.loop-i.i (g.S.LinkStore.heap c.loop-i.store) (let e = c.len-i-end.ensures in let f = c.loop-i-test.false in omega (arith, e, f)) c.loop-i.invariant.so

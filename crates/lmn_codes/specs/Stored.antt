@@ -1,0 +1,16 @@
+-- Only contracts of private functions cite this file: codes by the numbers of their instructions.
+use Rattle.std.specs.Prelude.{List, [], ◌∷◌}
+use Rattle.lmn_instr.specs.declared.instr.Code.{Code}
+use Rattle.lmn_instr.specs.declared.instr.Instr.{Instr}
+use Rattle.lmn_codes.specs.declared.codes.Numbered.{Numbered}
+use Rattle.lmn_codes.specs.Pools.{AreThere, picked}
+
+-- the codes with these numbers
+abbrev pub stored_codes : List Instr → List Numbered → List Code
+stored_codes pool [] = []
+stored_codes pool (c ∷ cs) = record { head = picked pool c.head; body = picked pool c.body } ∷ stored_codes pool cs
+
+-- the pool has all instructions of the codes
+abbrev pub AreStored : List Instr → List Numbered → Type 0
+AreStored pool [] = Unit {0}
+AreStored pool (c ∷ cs) = (AreThere pool c.head × AreThere pool c.body) × AreStored pool cs
