@@ -1,5 +1,5 @@
 //! Instructions that stand in a pool, by their numbers.
-ghost use Rattle.std.specs.Prelude.{◌≡◌, ◌<◌, length, slice_get, Some};
+ghost use Rattle.std.specs.Prelude.{◌≡◌, ◌<◌, ◌^◌, length, slice_get, Some};
 ghost use Rattle.lmn_codes.specs.Pools.{AreThere, picked};
 
 use lmn_instr::Instr;
@@ -32,10 +32,11 @@ impl<'c> Instrs<'c> {
         Instrs { pool, numbers }
     }
 
-    /// The number of instructions.
+    /// The number of instructions, which is below 2^63.
     #[inline(always)]
     pub fn len(&self) -> usize
-        ensures { result ≡ length self.now }
+        ensures len { result ≡ length self.now }
+        ensures few { result < 2 ^ 63 }
     {
         self.numbers.len()
     }

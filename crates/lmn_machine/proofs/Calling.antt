@@ -1,9 +1,9 @@
 -- The code ahead.
-use Rattle.std.proofs.Common.{ℕ, ℤ, zero, suc, ◌≡◌, ◌<◌, ◌≤◌, ◌+◌, List, [], ◌∷◌, ◌++◌, Option, Some, None, refl, arith, ap, sym, subst, length, take, drop, get_or, ◌∙◌}
+use Rattle.std.proofs.Common.{ℕ, ℤ, zero, suc, ◌≡◌, ◌<◌, ◌≤◌, ◌+◌, List, [], ◌∷◌, ◌++◌, Option, Some, None, refl, arith, ap, sym, subst, length, take, drop, ◌∙◌}
 use Rattle.std.specs.Prelude.{slice_get, IfSome}
 use Rattle.lmn_base.specs.declared.functor.Functor.{Functor}
 use Rattle.lmn_instr.specs.declared.instr.Instr.{Instr}
-use Rattle.lmn_instr.specs.declared.instr.Instr.TheVariants.{FindAtom, AnyMem}
+use Rattle.lmn_instr.specs.declared.instr.Instr.TheVariants.{FindAtom, Deref, AnyMem, IsInt, IsUnary, IsGround, NAtoms, IsClosed, EqGround, NeqGround, GetInt, Const, Add, Sub, Mul, Div, Mod}
 use Rattle.lmn_machine.specs.Searching.{HeadInOrder, ChoosesNone, Extends}
 use Rattle.std.specs.Option.{option_map}
 use Rattle.lmn_heap.specs.Lists.{from, after}
@@ -13,17 +13,10 @@ use Rattle.lmn_registers.specs.declared.registers.PartCopy.{PartCopy}
 use Rattle.lmn_registers.specs.declared.registers.SetRegisters.{SetRegisters}
 use Rattle.lmn_registers.specs.declared.stack.TheConstants.{ROOM}
 use Rattle.lmn_machine.proofs.Choosing.{with_atom, with_membrane}
-use Rattle.lmn_base.proofs.Lists.{drop_get}
 
--- what is read below the length is what stands there
-pub read_at : {A : Type 0} (xs : List A) (i : ℕ) (x y : A) → i < length xs → x ≡ get_or xs i x → x ≡ y → slice_get xs i ≡ Some y
-read_at [] i x y l e s = absurd (omega arith)
-read_at (z ∷ xs) zero x y l e s = ap (λ w. Some w) (sym e ∙ s)
-read_at (z ∷ xs) (suc i) x y l e s = read_at xs i x y (omega arith) e s
-
--- and what is left begins with it
-pub drop_at : {A : Type 0} (xs : List A) (i : ℕ) (x y : A) → i < length xs → x ≡ get_or xs i x → x ≡ y → drop i xs ≡ y ∷ drop (i + 1) xs
-drop_at xs i x y l e s = drop_get i xs y (read_at xs i x y l e s)
+-- what stands at a place, by another name
+pub read_at : {A : Type 0} (xs : List A) (i : ℕ) (x y : A) → slice_get xs i ≡ Some x → x ≡ y → slice_get xs i ≡ Some y
+read_at xs i x y e s = e ∙ ap (λ w. Some w) s
 
 -- nothing is left behind the last
 pub drop_none : {A : Type 0} (xs : List A) (i : ℕ) → length xs ≤ i → drop i xs ≡ []
@@ -35,6 +28,27 @@ drop_none (x ∷ xs) (suc i) l = drop_none xs i (omega arith)
 -- what the order of the registers says of the instruction ahead
 pub atom_ahead : (a m g v x y : ℕ) (f : Functor) (left is : List Instr) → left ≡ FindAtom x y f ∷ is → HeadInOrder a m g v left → ((x ≡ a) × (y < m) × (a < ROOM) × (g ≡ 0)) × HeadInOrder (a + 1) m g v is
 atom_ahead a m g v x y f left is e o = subst (λ k. HeadInOrder a m g v k) e o
+
+-- code in order is so in its first instruction
+pub order_first : (i : Instr) (a m g v : ℕ) (is : List Instr) → HeadInOrder a m g v (i ∷ is) → HeadInOrder a m g v (i ∷ [])
+order_first (FindAtom x y f) a m g v is o = (o.0, tt)
+order_first (Deref x p k) a m g v is o = (o.0, tt)
+order_first (AnyMem x y) a m g v is o = (o.0, tt)
+order_first (IsInt x p y) a m g v is o = ((o.0.0, refl), tt)
+order_first (IsUnary x p y) a m g v is o = ((o.0.0, refl), tt)
+order_first (IsGround x p y) a m g v is o = ((o.0.0, refl), tt)
+order_first (NAtoms x n gs) a m g v is o = (o.0, tt)
+order_first (IsClosed x gs) a m g v is o = ((o.0.0, o.0.1, refl, refl), tt)
+order_first (EqGround x y) a m g v is o = (o.0, tt)
+order_first (NeqGround x y) a m g v is o = (o.0, tt)
+order_first (GetInt x y) a m g v is o = (o.0, tt)
+order_first (Const x z) a m g v is o = (o.0, tt)
+order_first (Add x y z) a m g v is o = (o.0, tt)
+order_first (Sub x y z) a m g v is o = (o.0, tt)
+order_first (Mul x y z) a m g v is o = (o.0, tt)
+order_first (Div x y z) a m g v is o = (o.0, tt)
+order_first (Mod x y z) a m g v is o = (o.0, tt)
+order_first _ a m g v is o = (o.0, tt)
 
 -- an instruction that chooses a membrane sets the next register
 pub membrane_ahead : (a m g v x y : ℕ) (left is : List Instr) → left ≡ AnyMem x y ∷ is → HeadInOrder a m g v left → ((x ≡ m) × (y < m) × (m < ROOM)) × HeadInOrder a (m + 1) g v is

@@ -13,6 +13,7 @@ ghost use Rattle.lmn_base.specs.Lists.{In};
 
 use crate::checks;
 use lmn_base::Functor;
+use lmn_codes::Instrs;
 use lmn_instr::{AtomPort, Instr};
 use lmn_registers::SetRegisters;
 use lmn_store::LinkStore;
@@ -61,7 +62,7 @@ fn refutes<S: LinkStore>(
 /// Whether an instruction of code, where there is one, fails with an atom in the register that it tests.
 fn is_refuted<S: LinkStore>(
     store: &S,
-    code: &[Instr],
+    code: &Instrs<'_>,
     at: usize,
     register: usize,
     a: S::Atom,
@@ -72,7 +73,7 @@ fn is_refuted<S: LinkStore>(
     ensures { IsTrue result → (c : HeadSize) (k : ℕ) (s : HeadRegisters) → k ≤ at → Agrees S.atom_id S.mem_id set.now s → s.images.atom register ≡ S.atom_id a → AllHold (S.heap store.now) c s (drop k code.now) → ⊥ }
 {
     if at < code.len() {
-        refutes(store, &code[at], register, a, set)
+        refutes(store, code.at(at), register, a, set)
     } else {
         false
     }
@@ -81,7 +82,7 @@ fn is_refuted<S: LinkStore>(
 /// Whether a port leads to the given port of an atom with which the two instructions ahead may hold.
 fn may_lead<S: LinkStore>(
     store: &S,
-    code: &[Instr],
+    code: &Instrs<'_>,
     at: usize,
     a: S::Atom,
     from: AtomPort,
@@ -95,6 +96,7 @@ fn may_lead<S: LinkStore>(
     ensures { IsFalse result → (c : HeadSize) (k : ℕ) (s : HeadRegisters) → k ≤ at → Agrees S.atom_id S.mem_id set.now s → s.images.atom from.atom ≡ S.atom_id a → InstructionHolds (S.heap store.now) c s (Deref register from port) →
         AllHold (S.heap store.now) c s (drop k code.now) → ⊥ }
 {
+    let _code = code.len();
     match checks::end(store, a, from.port) {
         Some((b, entered)) => {
             if entered != port {
@@ -113,7 +115,7 @@ fn may_lead<S: LinkStore>(
 #[inline(always)]
 fn atom_fits<S: LinkStore>(
     store: &S,
-    code: &[Instr],
+    code: &Instrs<'_>,
     at: usize,
     a: S::Atom,
     set: &SetRegisters<S::Atom, S::Mem>,
@@ -125,7 +127,7 @@ fn atom_fits<S: LinkStore>(
     if at >= code.len() {
         return true;
     }
-    match &code[at] {
+    match code.at(at) {
         Instr::Deref { atom, from, port } => {
             if from.atom as usize != set.atoms.len() {
                 return true;
@@ -141,7 +143,7 @@ fn atom_fits<S: LinkStore>(
 #[inline(always)]
 pub fn fitting_atom<S: LinkStore>(
     store: &S,
-    code: &[Instr],
+    code: &Instrs<'_>,
     at: usize,
     place: S::Mem,
     functor: Functor,
@@ -199,7 +201,7 @@ fn looks_in_vain<S: LinkStore>(
 /// is chosen before.
 fn is_hopeless<S: LinkStore>(
     store: &S,
-    code: &[Instr],
+    code: &Instrs<'_>,
     at: usize,
     set: &SetRegisters<S::Atom, S::Mem>,
 ) -> bool
@@ -207,7 +209,7 @@ fn is_hopeless<S: LinkStore>(
     ensures { IsTrue result → (c : HeadSize) (s : HeadRegisters) → Agrees S.atom_id S.mem_id set.now s → AllHold (S.heap store.now) c s (drop at code.now) → ⊥ }
 {
     for i in at..code.len() {
-        if looks_in_vain(store, &code[i], set) {
+        if looks_in_vain(store, code.at(i), set) {
             return true;
         }
     }
@@ -218,7 +220,7 @@ fn is_hopeless<S: LinkStore>(
 /// which it failed. Where the code is to be asked whether it is hopeless and is, there is none.
 pub fn further_atom<S: LinkStore>(
     store: &S,
-    code: &[Instr],
+    code: &Instrs<'_>,
     at: usize,
     place: S::Mem,
     functor: Functor,
@@ -245,7 +247,7 @@ pub fn further_atom<S: LinkStore>(
 }
 
 /// The functor of the first atom that code looks for in the membrane of a register.
-pub fn asked(code: &[Instr], at: usize, register: usize) -> Option<Functor>
+pub fn asked(code: &Instrs<'_>, at: usize, register: usize) -> Option<Functor>
     ensures { IfSome result (λ f. AsksFor code.now at register f) }
 {
     for i in at..code.len() {
@@ -253,7 +255,7 @@ pub fn asked(code: &[Instr], at: usize, register: usize) -> Option<Functor>
             membrane,
             functor,
             ..
-        } = &code[i]
+        } = code.at(i)
         {
             if *membrane as usize == register {
                 return Some(*functor);
@@ -302,13 +304,13 @@ pub fn fitting_membrane<S: LinkStore>(
 }
 
 /// Whether code asks at a place whether an atom register stands in a membrane register.
-fn asks_home(code: &[Instr], at: usize, atom: u16, register: usize) -> bool
+fn asks_home(code: &Instrs<'_>, at: usize, atom: u16, register: usize) -> bool
     ensures { IsTrue result → slice_get code.now at ≡ Some (InMem atom register) }
 {
     if at >= code.len() {
         return false;
     }
-    match &code[at] {
+    match code.at(at) {
         Instr::InMem {
             atom: tested,
             membrane,
@@ -321,7 +323,7 @@ fn asks_home(code: &[Instr], at: usize, atom: u16, register: usize) -> bool
 /// a register.
 fn guest_at<S: LinkStore>(
     store: &S,
-    code: &[Instr],
+    code: &Instrs<'_>,
     at: usize,
     register: usize,
     set: &SetRegisters<S::Atom, S::Mem>,
@@ -331,7 +333,8 @@ fn guest_at<S: LinkStore>(
     ensures there { IfSome result (λ a. IsAtom (S.heap store.now) (S.atom_id a)) }
     ensures guest { IfSome result (λ a. (k : ℕ) → k ≤ at → IsGuest S.atom_id S.mem_id (S.heap store.now) set.now (drop k code.now) register (S.atom_id a)) }
 {
-    match &code[at] {
+    let _code = code.len();
+    match code.at(at) {
         Instr::Deref { atom, from, .. } => {
             if from.atom as usize >= set.atoms.len() {
                 return None;
@@ -352,7 +355,7 @@ fn guest_at<S: LinkStore>(
 /// is set.
 pub fn guest<S: LinkStore>(
     store: &S,
-    code: &[Instr],
+    code: &Instrs<'_>,
     at: usize,
     register: usize,
     set: &SetRegisters<S::Atom, S::Mem>,

@@ -12,8 +12,9 @@ ghost use Rattle.lmn_machine.specs.Costs.{AddsItems, IsSize, IsTold, Leaves, Tak
 
 use crate::machine::Machine;
 use crate::rests::rest_items;
+use lmn_codes::{CodeView, Instrs};
 use lmn_ground::size_of;
-use lmn_instr::{Code, Instr};
+use lmn_instr::Instr;
 use lmn_registers::SetRegisters;
 use lmn_store::LinkStore;
 
@@ -136,7 +137,7 @@ fn taken<S: LinkStore>(
 fn items_left<S: LinkStore>(
     store: &mut S,
     set: &SetRegisters<S::Atom, S::Mem>,
-    body: &[Instr],
+    body: &Instrs<'_>,
 ) -> u64
     requires valid { Valid (S.heap store.old) }
     requires unmarked { Unmarked (S.heap store.old) }
@@ -149,8 +150,8 @@ fn items_left<S: LinkStore>(
     let mut all_taken: u128 = 0;
     let mut kept: Option<Counted> = None;
     for i in 0..body.len() {
-        all_added += u128::from(added(store, set, &body[i], &mut kept));
-        all_taken += taken(store, set, &body[i], &mut kept);
+        all_added += u128::from(added(store, set, body.at(i), &mut kept));
+        all_taken += taken(store, set, body.at(i), &mut kept);
     }
     capped(store.items(), all_added, all_taken)
 }
@@ -171,7 +172,7 @@ fn capped(items: u64, added: u128, taken: u128) -> u64
 impl<S: LinkStore> Machine<S> {
     /// The number of items that the commit with a code leaves, or 2^64 - 1 where that is more. The registers hold a match
     /// of its head. It takes no memory, and the store is left as it was.
-    pub fn cost(&mut self, code: &Code) -> u64
+    pub fn cost(&mut self, code: &CodeView<'_>) -> u64
         requires valid { Valid (S.heap self.old.store) }
         requires unmarked { Unmarked (S.heap self.old.store) }
         requires held { AreHeldWhole S.atom_id S.mem_id (S.heap self.old.store) self.old.set }
@@ -180,6 +181,6 @@ impl<S: LinkStore> Machine<S> {
         ensures registers { self.new.set ≡ self.old.set }
         ensures left { (r : Registers) (n : ℕ) → Agrees S.atom_id S.mem_id self.old.set r.head → HasRests S.atom_id S.mem_id (S.heap self.old.store) self.old.set r → Leaves (S.heap self.old.store) r code.now.body n → result ≡ min n (2 ^ 64 - 1) }
     {
-        items_left(&mut self.store, &self.set, code.body.as_slice())
+        items_left(&mut self.store, &self.set, code.body())
     }
 }

@@ -6,14 +6,14 @@ ghost use Rattle.lmn_registers.specs.Agreeing.{Agrees};
 ghost use Rattle.lmn_machine.specs.Searching.{AreAllSet, AreHeldWhole, HeadInOrder};
 
 use crate::search;
-use lmn_instr::Instr;
+use lmn_codes::Instrs;
 use lmn_registers::SetRegisters;
 use lmn_store::LinkStore;
 
 /// Looks for the first success of head code in a membrane: the registers then hold it. It takes no memory.
 pub(crate) fn find<S: LinkStore>(
     store: &mut S,
-    code: &[Instr],
+    code: &Instrs<'_>,
     membrane: S::Mem,
     set: &mut SetRegisters<S::Atom, S::Mem>,
 ) -> bool

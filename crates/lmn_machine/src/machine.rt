@@ -16,8 +16,8 @@ ghost use Rattle.lmn_machine.specs.Lending.{lends_store};
 use crate::counting::Steps;
 use crate::finding;
 use lmn_base::NoMemory;
+use lmn_codes::CodeView;
 use lmn_commit::{commit, prepare};
-use lmn_instr::Code;
 use lmn_registers::SetRegisters;
 use lmn_store::LinkStore;
 use std::alloc::Global;
@@ -65,7 +65,7 @@ impl<S: LinkStore> Machine<S> {
 
     /// Looks for the first success of the head of a code in a membrane, and counts one step. True says that the registers hold
     /// it, and false that there is none. It takes no memory, and the store is left as it was.
-    pub fn find<L: Ledger>(&mut self, code: &Code, membrane: S::Mem, steps: &mut Steps<L>) -> bool
+    pub fn find<L: Ledger>(&mut self, code: &CodeView<'_>, membrane: S::Mem, steps: &mut Steps<L>) -> bool
         requires valid { Valid (S.heap self.old.store) }
         requires unmarked { Unmarked (S.heap self.old.store) }
         requires membrane { IsMem (S.heap self.old.store) (S.mem_id membrane) }
@@ -81,7 +81,7 @@ impl<S: LinkStore> Machine<S> {
         steps.tick();
         finding::find(
             &mut self.store,
-            code.head.as_slice(),
+            code.head(),
             membrane,
             &mut self.set,
         )
@@ -89,7 +89,7 @@ impl<S: LinkStore> Machine<S> {
 
     /// Makes all that the body of a code makes, detached, after the head was found: then `commit` can't fail. Want of
     /// memory leaves the store as it was, but for room for rules.
-    pub fn prepare(&mut self, alloc: Global, code: &Code) -> Result<(), NoMemory>
+    pub fn prepare(&mut self, alloc: Global, code: &CodeView<'_>) -> Result<(), NoMemory>
         requires valid { Valid (S.heap self.old.store) }
         requires unmarked { Unmarked (S.heap self.old.store) }
         requires held { AreHeldWhole S.atom_id S.mem_id (S.heap self.old.store) self.old.set }
@@ -102,12 +102,12 @@ impl<S: LinkStore> Machine<S> {
         ensures unmarked { Unmarked (S.heap self.new.store) }
     {
         let _root = self.store.root();
-        prepare(alloc, &mut self.store, code.body.as_slice(), &mut self.set)
+        prepare(alloc, &mut self.store, code.body(), &mut self.set)
     }
 
     /// Does what the body of a code does, after it was prepared: the rule is fired. What the code rouses is awake then, with all
     /// that is round it, and each other membrane keeps its mark. It takes no memory and can't fail.
-    pub fn commit(&mut self, code: &Code)
+    pub fn commit(&mut self, code: &CodeView<'_>)
         requires { IsPrepared S.atom_id S.mem_id (S.heap self.old.store) self.old.set code.now.body }
         ensures fires { (p : IsPrepared S.atom_id S.mem_id (S.heap self.old.store) self.old.set code.now.body) (r : BodyRegisters) → BodyAgrees S.atom_id S.mem_id self.old.set r → HasCopies r p.prepared.copied → HasRests S.atom_id S.mem_id p.before p.matched_by r →
             Commits p.before r code.now.body (S.heap self.new.store) }
@@ -115,6 +115,6 @@ impl<S: LinkStore> Machine<S> {
         ensures unmarked { Unmarked (S.heap self.new.store) }
         ensures registers { self.new.set ≡ self.old.set }
     {
-        commit(&mut self.store, code.body.as_slice(), &self.set);
+        commit(&mut self.store, code.body(), &self.set);
     }
 }

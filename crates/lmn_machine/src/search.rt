@@ -9,6 +9,7 @@ ghost use Rattle.lmn_heap.specs.Functors.{with_functor};
 
 use crate::{ahead, steps};
 use lmn_base::Functor;
+use lmn_codes::Instrs;
 use lmn_instr::Instr;
 use lmn_registers::SetRegisters;
 use lmn_store::LinkStore;
@@ -17,7 +18,7 @@ use lmn_store::LinkStore;
 #[cycle(search)]
 pub fn search<S: LinkStore>(
     store: &mut S,
-    code: &[Instr],
+    code: &Instrs<'_>,
     at: usize,
     set: &mut SetRegisters<S::Atom, S::Mem>,
 ) -> bool
@@ -30,7 +31,7 @@ pub fn search<S: LinkStore>(
     ensures searched { Searched S.atom_id S.mem_id (S.heap store.old) set.old set.new result (drop at code.now) }
 {
     for i in at..code.len() {
-        match &code[i] {
+        match code.at(i) {
             Instr::FindAtom {
                 membrane,
                 functor,
@@ -58,7 +59,7 @@ pub fn search<S: LinkStore>(
 #[inline(always)]
 fn search_atom<S: LinkStore>(
     store: &mut S,
-    code: &[Instr],
+    code: &Instrs<'_>,
     at: usize,
     place: S::Mem,
     functor: Functor,
@@ -82,7 +83,7 @@ fn search_atom<S: LinkStore>(
 #[cycle(search)]
 fn search_atoms<S: LinkStore>(
     store: &mut S,
-    code: &[Instr],
+    code: &Instrs<'_>,
     at: usize,
     place: S::Mem,
     first: S::Atom,
@@ -125,7 +126,7 @@ fn search_atoms<S: LinkStore>(
 #[inline(always)]
 fn search_membrane<S: LinkStore>(
     store: &mut S,
-    code: &[Instr],
+    code: &Instrs<'_>,
     at: usize,
     place: S::Mem,
     set: &mut SetRegisters<S::Atom, S::Mem>,
@@ -138,6 +139,7 @@ fn search_membrane<S: LinkStore>(
     ensures same { S.heap store.new ≡ S.heap store.old }
     ensures searched { Searched S.atom_id S.mem_id (S.heap store.old) set.old set.new result (drop at code.now) }
 {
+    let _code = code.len();
     let register = set.membranes.len();
     match ahead::guest(store, code, at + 1, register, set) {
         Some(guest) => search_home(store, code, at, place, guest, set),
@@ -149,7 +151,7 @@ fn search_membrane<S: LinkStore>(
 #[cycle(search)]
 fn search_home<S: LinkStore>(
     store: &mut S,
-    code: &[Instr],
+    code: &Instrs<'_>,
     at: usize,
     place: S::Mem,
     guest: S::Atom,
@@ -187,7 +189,7 @@ fn search_home<S: LinkStore>(
 #[cycle(search)]
 fn search_membranes<S: LinkStore>(
     store: &mut S,
-    code: &[Instr],
+    code: &Instrs<'_>,
     at: usize,
     place: S::Mem,
     set: &mut SetRegisters<S::Atom, S::Mem>,

@@ -40,4 +40,4 @@ loop-i-preserved g c =
     }
 
 pub returns : goal.returns
-returns g c = roused_all g.S.LinkStore.atom_id g.S.LinkStore.mem_id c.args.set.now (g.S.LinkStore.heap c.args.store.now) c.args.code.now c.loop-i.i (g.S.LinkStore.heap c.loop-i.store) (let e = c.len-i-end.ensures in let f = c.loop-i-test.false in omega (arith, e, f)) c.loop-i.invariant.so
+returns g c = roused_all g.S.LinkStore.atom_id g.S.LinkStore.mem_id c.args.set.now (g.S.LinkStore.heap c.args.store.now) c.args.code.now c.loop-i.i (g.S.LinkStore.heap c.loop-i.store) (let e = c.len-i-end.ensures.len in let f = c.loop-i-test.false in omega (arith, e, f)) c.loop-i.invariant.so

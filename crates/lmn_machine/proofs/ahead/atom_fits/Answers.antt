@@ -7,12 +7,12 @@ use Rattle.lmn_machine.proofs.ahead.atom_fits.Goals as goal
 
 pub returns-else-from-len : goal.returns-else-from-len
 returns-else-from-len g c = λ r b s t e w.
-    (let here = read_at c.args.code.now c.args.at c.index-code-at.result (Deref c.in-Deref.atom c.in-Deref.from c.in-Deref.port) c.if-at-code.false c.index-code-at.is c.in-Deref.is in
+    (let here = read_at c.args.code.now c.args.at c.at.result.now (Deref c.in-Deref.atom c.in-Deref.from c.in-Deref.port) c.at.ensures c.in-Deref.is in
     let d = hold_behind (g.S.LinkStore.heap c.args.store.now) b s c.args.code.now c.args.at c.args.at (Deref c.in-Deref.atom c.in-Deref.from c.in-Deref.port) (omega arith) here w in
-    c.may_lead.ensures r b c.args.at s (omega arith) t (ap (λ n. s.images.atom n) (c.if-from-len.false ∙ c.len.ensures) ∙ e) d w)
+    c.may_lead.ensures r b c.args.at s (omega arith) t (ap (λ n. s.images.atom n) (c.if-from-len.false ∙ c.len-in-Deref.ensures) ∙ e) d w)
 
 pub returns-in_default : goal.returns-in_default
 returns-in_default g c = λ r b s t e w.
-    (let here = read_at c.args.code.now c.args.at c.index-code-at.result c.index-code-at.result c.if-at-code.false c.index-code-at.is refl in
+    (let here = c.at.ensures in
     c.refutes.ensures (not_false c.refutes.result r) b s t (ap (λ n. s.images.atom n) c.len-in_default.ensures ∙ e)
-    (hold_behind (g.S.LinkStore.heap c.args.store.now) b s c.args.code.now c.args.at c.args.at c.index-code-at.result (omega arith) here w))
+    (hold_behind (g.S.LinkStore.heap c.args.store.now) b s c.args.code.now c.args.at c.args.at c.at.result.now (omega arith) here w))

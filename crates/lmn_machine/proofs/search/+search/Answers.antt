@@ -14,14 +14,14 @@ use Rattle.lmn_machine.specs.Searching.{AreHeldWhole, HeadInOrder, Searched, Ste
 use Rattle.lmn_registers.specs.declared.stack.TheConstants.{ROOM}
 use Rattle.lmn_machine.proofs.Stepping.{Passed, extends_on, passed_one, failed, passed_all, passed_search}
 use Rattle.lmn_machine.proofs.Choosing.{AtomsLeft, MembranesLeft, with_atom, with_membrane, extends_atom, extends_membrane, atoms_first, atoms_next, atoms_none, atoms_found, membranes_first, membranes_next, membranes_none, membranes_found, held_atom, held_membrane}
-use Rattle.lmn_machine.proofs.Calling.{read_at, drop_at, drop_none, no_choice, if_both, none_is, one_more, one_membrane_more, taken_back, having_atoms, having_membranes, next_same, next_mem_same, atom_ahead, membrane_ahead}
+use Rattle.lmn_machine.proofs.Calling.{read_at, drop_none, no_choice, order_first, if_both, none_is, one_more, one_membrane_more, taken_back, having_atoms, having_membranes, next_same, next_mem_same, atom_ahead, membrane_ahead}
 use Rattle.lmn_machine.proofs.search.+search.Goals as goal
 use Rattle.lmn_base.proofs.Lists.{drop_get}
 use Rattle.std.proofs.lemmas.List.{length_push}
 
 pub search-search_atom-requires : goal.search-search_atom-requires
 search-search_atom-requires g t c κs within =
-    let here = read_at c.args.code.now c.loop-i.i c.index-code-i.result (FindAtom c.in-FindAtom.atom c.in-FindAtom.membrane c.in-FindAtom.functor) c.loop-i-test.true c.index-code-i.is c.in-FindAtom.is in
+    let here = read_at c.args.code.now c.loop-i.i c.at.result.now (FindAtom c.in-FindAtom.atom c.in-FindAtom.membrane c.in-FindAtom.functor) c.at.ensures c.in-FindAtom.is in
     let ahead = atom_ahead (length c.loop-i.set.atoms) (length c.loop-i.set.membranes) (length c.loop-i.set.parts) (length c.loop-i.set.integers) c.in-FindAtom.atom c.in-FindAtom.membrane c.in-FindAtom.functor (drop c.loop-i.i c.args.code.now) (drop (c.loop-i.i + 1) c.args.code.now)
     (drop_get c.loop-i.i c.args.code.now (FindAtom c.in-FindAtom.atom c.in-FindAtom.membrane c.in-FindAtom.functor) here) c.loop-i.invariant.passed.order in (
       search rules,
@@ -54,7 +54,7 @@ search-returns-in-FindAtom-clause-searched g t c =
 
 pub search-search_membrane-requires : goal.search-search_membrane-requires
 search-search_membrane-requires g t c κs within =
-    let here = read_at c.args.code.now c.loop-i.i c.index-code-i.result (AnyMem c.in-AnyMem.membrane c.in-AnyMem.inside) c.loop-i-test.true c.index-code-i.is c.in-AnyMem.is in
+    let here = read_at c.args.code.now c.loop-i.i c.at.result.now (AnyMem c.in-AnyMem.membrane c.in-AnyMem.inside) c.at.ensures c.in-AnyMem.is in
     let ahead = membrane_ahead (length c.loop-i.set.atoms) (length c.loop-i.set.membranes) (length c.loop-i.set.parts) (length c.loop-i.set.integers) c.in-AnyMem.membrane c.in-AnyMem.inside (drop c.loop-i.i c.args.code.now) (drop (c.loop-i.i + 1) c.args.code.now)
     (drop_get c.loop-i.i c.args.code.now (AnyMem c.in-AnyMem.membrane c.in-AnyMem.inside) here) c.loop-i.invariant.passed.order in (
       search rules,
@@ -87,26 +87,26 @@ search-returns-in-AnyMem-clause-searched g t c =
 
 pub search-returns-then-not-step-clause-searched : goal.search-returns-then-not-step-clause-searched
 search-returns-then-not-step-clause-searched g t c =
-    let ahead = drop_at c.args.code.now c.loop-i.i c.index-code-i.result c.index-code-i.result c.loop-i-test.true c.index-code-i.is refl in
-    failed g.S.LinkStore.atom_id g.S.LinkStore.mem_id (g.S.LinkStore.heap c.args.store.now) c.args.set.now c.loop-i.set c.step.new.set (drop c.args.at c.args.code.now) (drop (c.loop-i.i + 1) c.args.code.now) c.index-code-i.result
+    let ahead = drop_get c.loop-i.i c.args.code.now c.at.result.now c.at.ensures in
+    failed g.S.LinkStore.atom_id g.S.LinkStore.mem_id (g.S.LinkStore.heap c.args.store.now) c.args.set.now c.loop-i.set c.step.new.set (drop c.args.at c.args.code.now) (drop (c.loop-i.i + 1) c.args.code.now) c.at.result.now
     (subst (λ left. Passed g.S.LinkStore.atom_id g.S.LinkStore.mem_id (g.S.LinkStore.heap c.args.store.now) c.args.set.now c.loop-i.set (drop c.args.at c.args.code.now) left) ahead c.loop-i.invariant.passed)
-    (subst (λ b. Stepped g.S.LinkStore.atom_id g.S.LinkStore.mem_id (g.S.LinkStore.heap c.args.store.now) c.loop-i.set c.step.new.set b c.index-code-i.result) c.if-not-step.true
-    (subst (λ h. Stepped g.S.LinkStore.atom_id g.S.LinkStore.mem_id h c.loop-i.set c.step.new.set c.step.result c.index-code-i.result) c.loop-i.invariant.same c.step.ensures.stepped))
+    (subst (λ b. Stepped g.S.LinkStore.atom_id g.S.LinkStore.mem_id (g.S.LinkStore.heap c.args.store.now) c.loop-i.set c.step.new.set b c.at.result.now) c.if-not-step.true
+    (subst (λ h. Stepped g.S.LinkStore.atom_id g.S.LinkStore.mem_id h c.loop-i.set c.step.new.set c.step.result c.at.result.now) c.loop-i.invariant.same c.step.ensures.stepped))
 
 pub search-loop-i-preserved : goal.search-loop-i-preserved
 search-loop-i-preserved g t c =
-    let ahead = drop_at c.args.code.now c.loop-i.i c.index-code-i.result c.index-code-i.result c.loop-i-test.true c.index-code-i.is refl in record {
+    let ahead = drop_get c.loop-i.i c.args.code.now c.at.result.now c.at.ensures in record {
       same = c.step.ensures.same ∙ c.loop-i.invariant.same;
-      passed = passed_one g.S.LinkStore.atom_id g.S.LinkStore.mem_id (g.S.LinkStore.heap c.args.store.now) c.args.set.now c.loop-i.set c.step.new.set (drop c.args.at c.args.code.now) (drop (c.loop-i.i + 1) c.args.code.now) c.index-code-i.result
-          (no_choice c.index-code-i.result c.in_default.not-FindAtom c.in_default.not-AnyMem)
+      passed = passed_one g.S.LinkStore.atom_id g.S.LinkStore.mem_id (g.S.LinkStore.heap c.args.store.now) c.args.set.now c.loop-i.set c.step.new.set (drop c.args.at c.args.code.now) (drop (c.loop-i.i + 1) c.args.code.now) c.at.result.now
+          (no_choice c.at.result.now c.in_default.not-FindAtom c.in_default.not-AnyMem)
           (subst (λ left. Passed g.S.LinkStore.atom_id g.S.LinkStore.mem_id (g.S.LinkStore.heap c.args.store.now) c.args.set.now c.loop-i.set (drop c.args.at c.args.code.now) left) ahead c.loop-i.invariant.passed)
-          (subst (λ b. Stepped g.S.LinkStore.atom_id g.S.LinkStore.mem_id (g.S.LinkStore.heap c.args.store.now) c.loop-i.set c.step.new.set b c.index-code-i.result) c.if-not-step.false
-          (subst (λ h. Stepped g.S.LinkStore.atom_id g.S.LinkStore.mem_id h c.loop-i.set c.step.new.set c.step.result c.index-code-i.result) c.loop-i.invariant.same c.step.ensures.stepped));
+          (subst (λ b. Stepped g.S.LinkStore.atom_id g.S.LinkStore.mem_id (g.S.LinkStore.heap c.args.store.now) c.loop-i.set c.step.new.set b c.at.result.now) c.if-not-step.false
+          (subst (λ h. Stepped g.S.LinkStore.atom_id g.S.LinkStore.mem_id h c.loop-i.set c.step.new.set c.step.result c.at.result.now) c.loop-i.invariant.same c.step.ensures.stepped));
     }
 
 pub search-returns-clause-searched : goal.search-returns-clause-searched
 search-returns-clause-searched g t c =
-    let nothing = drop_none c.args.code.now c.loop-i.i (omega arith) in
+    let nothing = drop_none c.args.code.now c.loop-i.i (let past = c.loop-i-test.false in let end = c.len-i-end.ensures.len in omega (arith, past, end)) in
     passed_all g.S.LinkStore.atom_id g.S.LinkStore.mem_id (g.S.LinkStore.heap c.args.store.now) c.args.set.now c.loop-i.set (drop c.args.at c.args.code.now)
     (subst (λ left. Passed g.S.LinkStore.atom_id g.S.LinkStore.mem_id (g.S.LinkStore.heap c.args.store.now) c.args.set.now c.loop-i.set (drop c.args.at c.args.code.now) left) nothing c.loop-i.invariant.passed)
 
@@ -418,3 +418,28 @@ pub search_membranes-returns-clause-searched : goal.search_membranes-returns-cla
 search_membranes-returns-clause-searched g t c =
     let left = subst (λ o. MembranesLeft g.S.LinkStore.atom_id g.S.LinkStore.mem_id (g.S.LinkStore.heap c.args.store.now) c.args.set.now (drop c.args.at c.args.code.now) c.args.place o) (none_is c.loop-candidate.candidate c.in_default.not-Some) c.loop-candidate.invariant.left in
     subst (λ k. Searched g.S.LinkStore.atom_id g.S.LinkStore.mem_id (g.S.LinkStore.heap c.args.store.now) c.args.set.now k false (drop c.args.at c.args.code.now)) (sym c.loop-candidate.invariant.set) (membranes_none g.S.LinkStore.atom_id g.S.LinkStore.mem_id (g.S.LinkStore.heap c.args.store.now) c.args.set.now (drop c.args.at c.args.code.now) c.args.place c.requires.held left)
+
+pub search-at-place-requires : goal.search-at-place-requires
+search-at-place-requires g t c =
+    let here = read_at c.args.code.now c.loop-i.i c.at.result.now (FindAtom c.in-FindAtom.atom c.in-FindAtom.membrane c.in-FindAtom.functor) c.at.ensures c.in-FindAtom.is in
+    let ahead = atom_ahead (length c.loop-i.set.atoms) (length c.loop-i.set.membranes) (length c.loop-i.set.parts) (length c.loop-i.set.integers) c.in-FindAtom.atom c.in-FindAtom.membrane c.in-FindAtom.functor (drop c.loop-i.i c.args.code.now) (drop (c.loop-i.i + 1) c.args.code.now)
+    (drop_get c.loop-i.i c.args.code.now (FindAtom c.in-FindAtom.atom c.in-FindAtom.membrane c.in-FindAtom.functor) here) c.loop-i.invariant.passed.order in
+    ahead.0.1
+
+pub search-at-place-requires-in-AnyMem : goal.search-at-place-requires-in-AnyMem
+search-at-place-requires-in-AnyMem g t c =
+    let here = read_at c.args.code.now c.loop-i.i c.at.result.now (AnyMem c.in-AnyMem.membrane c.in-AnyMem.inside) c.at.ensures c.in-AnyMem.is in
+    let ahead = membrane_ahead (length c.loop-i.set.atoms) (length c.loop-i.set.membranes) (length c.loop-i.set.parts) (length c.loop-i.set.integers) c.in-AnyMem.membrane c.in-AnyMem.inside (drop c.loop-i.i c.args.code.now) (drop (c.loop-i.i + 1) c.args.code.now)
+    (drop_get c.loop-i.i c.args.code.now (AnyMem c.in-AnyMem.membrane c.in-AnyMem.inside) here) c.loop-i.invariant.passed.order in
+    ahead.0.1
+
+pub search-step-requires : goal.search-step-requires
+search-step-requires g t c =
+    let ahead = drop_get c.loop-i.i c.args.code.now c.at.result.now c.at.ensures in record {
+      valid = subst (λ h. Valid h) (sym c.loop-i.invariant.same) c.requires.valid;
+      unmarked = subst (λ h. Unmarked h) (sym c.loop-i.invariant.same) c.requires.unmarked;
+      held = subst (λ h. AreHeldWhole g.S.LinkStore.atom_id g.S.LinkStore.mem_id h c.loop-i.set) (sym c.loop-i.invariant.same) c.loop-i.invariant.passed.held;
+      order = order_first c.at.result.now (length c.loop-i.set.atoms) (length c.loop-i.set.membranes) (length c.loop-i.set.parts) (length c.loop-i.set.integers) (drop (c.loop-i.i + 1) c.args.code.now)
+          (subst (λ left. HeadInOrder (length c.loop-i.set.atoms) (length c.loop-i.set.membranes) (length c.loop-i.set.parts) (length c.loop-i.set.integers) left) ahead c.loop-i.invariant.passed.order);
+      no_choice = no_choice c.at.result.now c.in_default.not-FindAtom c.in_default.not-AnyMem;
+    }
