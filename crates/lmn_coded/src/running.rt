@@ -9,6 +9,7 @@ ghost use Rattle.lmn_coded.specs.Turning.{CodedCanTurn, KeepsWhole, SomeIn};
 ghost use Rattle.lmn_coded.specs.Lending.{coded_lends_store};
 
 use lmn_base::{NoMemory, Rows};
+use lmn_codes::Codes;
 use lmn_instr::Code;
 use lmn_machine::{Machine, Steps};
 use lmn_store::LinkStore;
@@ -19,7 +20,7 @@ use std::sync::ledger::Ledger;
 /// A process in a store, with codes that make it react: the code with a number is run where the rule with this number stands.
 #[derive(Drop)]
 pub struct Coded<S: LinkStore> {
-    codes: Rows<Code>,
+    codes: Codes,
     machine: Machine<S>,
     /// The most items that a commit may leave.
     size: u64,
@@ -39,7 +40,7 @@ impl<S: LinkStore + Drop> Coded<S> {
         ensures keeps { IfOk result (λ c. (c.machine.store ≡ store) × (c.codes ≡ codes) × (c.size ≡ size) × (c.commits ≡ 0)) }
     {
         Ok(Coded {
-            codes,
+            codes: Codes::from_rows(alloc, codes)?,
             machine: Machine::new(alloc, store)?,
             size,
             commits: 0,
@@ -64,7 +65,7 @@ impl<S: LinkStore> Coded<S> {
         let answer = take_turn(
             alloc,
             &mut self.machine,
-            self.codes.as_slice(),
+            &self.codes,
             0,
             many,
             self.size,
@@ -90,7 +91,7 @@ impl<S: LinkStore> Coded<S> {
         let many = membranes(self.machine.store());
         match search(
             &mut self.machine,
-            self.codes.as_slice(),
+            &self.codes,
             0,
             many,
             false,

@@ -6,6 +6,7 @@ use lmn_instr::Instr;
 use std::marker::Model;
 
 /// Instructions of a code, one behind the other. Contracts see their list.
+#[derive(Drop)]
 pub struct Instrs<'c> {
     pool: &'c [Instr],
     numbers: &'c [u32],
@@ -70,6 +71,7 @@ fn instr_at(pool: &[Instr], number: u32) -> &Instr
 }
 
 /// The code of a rule. Contracts see it as such.
+#[derive(Drop)]
 pub struct CodeView<'c> {
     head: Instrs<'c>,
     body: Instrs<'c>,

@@ -3,6 +3,7 @@ ghost use Rattle.lmn_compile.specs.Compiled.{AreWhole, AreCompiled, IsCompiled};
 ghost use Rattle.lmn_compile_body.specs.Accepted.{HasBodyRoom};
 
 use lmn_base::{NoMemory, Plain, Rows, RuleTree};
+use lmn_codes::Codes;
 use lmn_compile_body::{accepted_bodies, body};
 use lmn_compile_head::head;
 use lmn_guards::GuardPlan;
@@ -33,6 +34,23 @@ pub fn compiled(alloc: Global, plain: &Plain, plans: &[GuardPlan]) -> Result<Row
     let mut codes = Rows::new(alloc);
     for k in 0..plain.rules.len() {
         codes.push(rule_code(alloc, plain.rules.at(k), &plans[k])?)?;
+    }
+    Ok(codes)
+}
+
+/// What `compiled` gives, in a store of codes. One code at a time stands beside it.
+///
+/// # Errors
+///
+/// `NoMemory` at want of memory.
+pub fn stored(alloc: Global, plain: &Plain, plans: &[GuardPlan]) -> Result<Codes, NoMemory>
+    requires { AreWhole plain.now.rules plans.now }
+    ensures { IfOk result (λ codes. AreCompiled plain.now.rules plans.now codes) }
+{
+    accepted_bodies();
+    let mut codes = Codes::new(alloc);
+    for k in 0..plain.rules.len() {
+        codes.push(alloc, rule_code(alloc, plain.rules.at(k), &plans[k])?)?;
     }
     Ok(codes)
 }

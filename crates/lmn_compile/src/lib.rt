@@ -3,4 +3,4 @@
 
 mod compiling;
 
-pub use compiling::compiled;
+pub use compiling::{compiled, stored};

@@ -18,15 +18,15 @@ ghost use Rattle.lmn_congruence.specs.Regions.{Region};
 ghost use Rattle.lmn_schedule.specs.Lending.{engine_lends_store};
 
 use crate::rousing::rouse_all;
-use lmn_base::{NoMemory, Plain, Rows};
+use lmn_base::{NoMemory, Plain};
 use lmn_bridge::solids_are_regions;
 use lmn_choice::{
     marks_are_not_read, membranes_are_numbered_alike, nothing_embeds, spares_are_not_read,
     turns_are_alike, turns_are_of_chooser,
 };
-use lmn_compile::compiled;
+use lmn_codes::Codes;
+use lmn_compile::stored;
 use lmn_guards::GuardPlan;
-use lmn_instr::Code;
 use lmn_loading::{LoadFault, load, loading_settles};
 use lmn_machine::{Machine, Steps};
 use lmn_order::Chooser;
@@ -40,7 +40,7 @@ use std::sync::ledger::Ledger;
 #[derive(Drop)]
 pub struct Engine<'p, S: LinkStore, F> {
     plain: &'p Plain,
-    codes: Rows<Code>,
+    codes: Codes,
     machine: Machine<S>,
     chooser: Chooser<F>,
     /// The most items that a commit may leave.
@@ -105,7 +105,7 @@ impl<'p, S: LinkStore + Drop, F: Fn(u64, u64) -> u64 + Drop> Engine<'p, S, F> {
         loading_settles();
         Ok(Engine {
             plain,
-            codes: compiled(alloc, plain, plans)?,
+            codes: stored(alloc, plain, plans)?,
             machine: Machine::new(alloc, store)?,
             chooser,
             size,
@@ -142,7 +142,7 @@ impl<'p, S: LinkStore, F: Fn(u64, u64) -> u64> Engine<'p, S, F> {
         let answer = take_turn(
             alloc,
             &mut self.machine,
-            self.codes.as_slice(),
+            &self.codes,
             from,
             many,
             self.size,
@@ -171,7 +171,7 @@ impl<'p, S: LinkStore, F: Fn(u64, u64) -> u64> Engine<'p, S, F> {
         let many = membranes(self.machine.store());
         match search(
             &mut self.machine,
-            self.codes.as_slice(),
+            &self.codes,
             0,
             many,
             false,

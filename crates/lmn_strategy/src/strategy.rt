@@ -7,7 +7,7 @@ ghost use Rattle.lmn_strategy.specs.Quieting.{SleepsRightly};
 ghost use Rattle.lmn_strategy.specs.Counting.{CountsAmong, CountsAsked, CountsUpTo, awake_of};
 
 use crate::preorder::{membrane_at, next_membrane};
-use lmn_instr::Code;
+use lmn_codes::Codes;
 use lmn_machine::{Machine, Steps};
 use lmn_store::LinkStore;
 use std::sync::ledger::Ledger;
@@ -26,7 +26,7 @@ pub struct Choice<M> {
 /// Whether the code of the head of a rule succeeds in a membrane. The registers then hold its first success.
 fn succeeds<S: LinkStore, L: Ledger>(
     machine: &mut Machine<S>,
-    codes: &[Code],
+    codes: &Codes,
     membrane: S::Mem,
     rule: u32,
     steps: &mut Steps<L>,
@@ -40,13 +40,14 @@ fn succeeds<S: LinkStore, L: Ledger>(
     ensures none { IsFalse result → CodeSucceeds (S.heap machine.old.store) codes.now (S.mem_id membrane) rule → ⊥ }
     ensures steps { steps.new ≡ steps.old + 1 }
 {
-    machine.find(&codes[rule as usize], membrane, steps)
+    let code = codes.code(rule);
+    machine.find(&code, membrane, steps)
 }
 
 /// The first rule of a membrane whose code succeeds. The registers then hold its first success.
 fn first_rule<S: LinkStore, L: Ledger>(
     machine: &mut Machine<S>,
-    codes: &[Code],
+    codes: &Codes,
     membrane: S::Mem,
     steps: &mut Steps<L>,
 ) -> Option<Choice<S::Mem>>
@@ -99,7 +100,7 @@ fn lull<S: LinkStore>(machine: &mut Machine<S>, membrane: S::Mem, sleep: bool)
 /// registers then hold the first success of the code.
 fn ask<S: LinkStore, L: Ledger>(
     machine: &mut Machine<S>,
-    codes: &[Code],
+    codes: &Codes,
     membrane: S::Mem,
     sleep: bool,
     steps: &mut Steps<L>,
@@ -136,7 +137,7 @@ fn ask<S: LinkStore, L: Ledger>(
 /// they may.
 fn first_of_some<S: LinkStore, L: Ledger>(
     machine: &mut Machine<S>,
-    codes: &[Code],
+    codes: &Codes,
     from: u64,
     count: u64,
     sleep: bool,
@@ -174,7 +175,7 @@ fn first_of_some<S: LinkStore, L: Ledger>(
 /// awake membranes asked at most: those up to the rule that is chosen, or all where none is.
 pub fn search<S: LinkStore, L: Ledger>(
     machine: &mut Machine<S>,
-    codes: &[Code],
+    codes: &Codes,
     from: u64,
     many: u64,
     sleep: bool,

@@ -8,7 +8,7 @@ ghost use Rattle.lmn_strategy.specs.Turns.{CanFire, AnswersMatch, AreRunnable, I
 ghost use Rattle.lmn_heap.specs.Heap.{Unmarked};
 
 use crate::strategy::search;
-use lmn_instr::Code;
+use lmn_codes::{CodeView, Codes};
 use lmn_machine::{Machine, Steps};
 use lmn_store::LinkStore;
 use std::alloc::Global;
@@ -28,7 +28,7 @@ pub enum Turn {
 }
 
 /// Lets the rule of a code fire whose head was found, where its commit leaves at most `size` items.
-fn fire<S: LinkStore>(alloc: Global, machine: &mut Machine<S>, code: &Code, size: u64) -> Turn
+fn fire<S: LinkStore>(alloc: Global, machine: &mut Machine<S>, code: &CodeView<'_>, size: u64) -> Turn
     requires fire { CanFire S.atom_id S.mem_id (S.heap machine.old.store) machine.old.set code.now }
     requires size { size < 2 ^ 64 - 1 }
     ensures fires { AnswersMatch S.atom_id S.mem_id (S.heap machine.old.store) machine.old.set code.now size result (S.heap machine.new.store) }
@@ -55,7 +55,7 @@ fn fire<S: LinkStore>(alloc: Global, machine: &mut Machine<S>, code: &Code, size
 pub fn take_turn<S: LinkStore, L: Ledger>(
     alloc: Global,
     machine: &mut Machine<S>,
-    codes: &[Code],
+    codes: &Codes,
     from: u64,
     many: u64,
     size: u64,
@@ -75,7 +75,10 @@ pub fn take_turn<S: LinkStore, L: Ledger>(
     ensures steps { CountsAsked (S.heap machine.old.store) codes.now from steps.old steps.new }
 {
     match search(machine, codes, from, many, sleep, steps) {
-        Some(choice) => fire(alloc, machine, &codes[choice.rule as usize], size),
+        Some(choice) => {
+            let code = codes.code(choice.rule);
+            fire(alloc, machine, &code, size)
+        }
         None => Turn::Irreducible,
     }
 }

@@ -1,5 +1,4 @@
-use Rattle.std.proofs.Common.{refl, length}
-use Rattle.std.proofs.lemmas.Option.{slice_get_within, slice_get_read}
+use Rattle.std.proofs.Common.{length}
 use Rattle.lmn_sleep.proofs.Marks.{read_alike}
 use Rattle.lmn_strategy.proofs.Firing.{can_again, can_fire}
 use Rattle.lmn_strategy.proofs.Lulling.{first_in_alike, lulls_alike}
@@ -18,10 +17,10 @@ fire-requires-clause-fire g c =
     let m = g.S.LinkStore.mem_id c.in-Some.choice.membrane in
     let n = c.in-Some.choice.rule in
     let codes = c.args.codes.now in
-    let code = c.index-codes-choice.result in
+    let code = c.code-code.result in
     let found = c.in-Some.ensures.found in
     let tree = c.requires.turn.valid.tree in
-    let is = slice_get_read codes (length codes) n code refl (slice_get_within codes n found.code found.is) c.index-codes-choice.is in
+    let is = c.code-code.ensures in
     let first = c.in-Some.ensures.first tree.0 tree.1 in
     can_fire g.S.LinkStore.atom_id g.S.LinkStore.mem_id k codes c.requires.codes (length codes) c.in-Some.ensures.turn m c.in-Some.choice.place n c.search.new.machine.set
     (first_in_alike h k codes (read_alike h k (lulls_alike c.args.sleep h k first.0.earlier first.1)) (asked c.args.from tree.0) m c.in-Some.choice.place n first.0).rule found code is
@@ -32,9 +31,9 @@ returns-in-Some-clause-turned g c = λ f t.
     let k = g.S.LinkStore.heap c.search.new.machine.store in
     let n = c.in-Some.choice.rule in
     let codes = c.args.codes.now in
-    let code = c.index-codes-choice.result in
+    let code = c.code-code.result in
     let found = c.in-Some.ensures.found in
-    let is = slice_get_read codes (length codes) n code refl (slice_get_within codes n found.code found.is) c.index-codes-choice.is in
+    let is = c.code-code.ensures in
     let first = c.in-Some.ensures.first f t in
     awake_turn g.S.LinkStore.atom_id g.S.LinkStore.mem_id h k codes (g.S.LinkStore.mem_id c.in-Some.choice.membrane) c.in-Some.choice.place n c.args.size c.search.new.machine.set found code is c.args.sleep f c.args.from first.0 first.1
     c.fire.result (g.S.LinkStore.heap c.fire.new.machine.store) c.fire.ensures.fires)
@@ -44,9 +43,9 @@ returns-in-Some-clause-again g c =
     let k = g.S.LinkStore.heap c.search.new.machine.store in
     let n = c.in-Some.choice.rule in
     let codes = c.args.codes.now in
-    let code = c.index-codes-choice.result in
+    let code = c.code-code.result in
     let found = c.in-Some.ensures.found in
-    let is = slice_get_read codes (length codes) n code refl (slice_get_within codes n found.code found.is) c.index-codes-choice.is in
+    let is = c.code-code.ensures in
     can_again g.S.LinkStore.atom_id g.S.LinkStore.mem_id k codes (g.S.LinkStore.mem_id c.in-Some.choice.membrane) c.in-Some.choice.place n c.args.size c.search.new.machine.set found code is
     c.requires.codes c.in-Some.ensures.turn c.fire.result (g.S.LinkStore.heap c.fire.new.machine.store) c.fire.ensures.fires c.fire.ensures.valid c.fire.ensures.unmarked
 
@@ -56,9 +55,9 @@ returns-in-Some-clause-sleeps g c = λ quiet.
     let k = g.S.LinkStore.heap c.search.new.machine.store in
     let n = c.in-Some.choice.rule in
     let codes = c.args.codes.now in
-    let code = c.index-codes-choice.result in
+    let code = c.code-code.result in
     let found = c.in-Some.ensures.found in
-    let is = slice_get_read codes (length codes) n code refl (slice_get_within codes n found.code found.is) c.index-codes-choice.is in
+    let is = c.code-code.ensures in
     let tree = c.requires.turn.valid.tree in
     let first = c.in-Some.ensures.first tree.0 tree.1 in
     let chosen = chooses_awake g.S.LinkStore.atom_id g.S.LinkStore.mem_id h k codes (g.S.LinkStore.mem_id c.in-Some.choice.membrane) c.in-Some.choice.place n c.args.size c.search.new.machine.set found code is c.args.sleep tree.0 c.args.from first.0 first.1
@@ -72,7 +71,7 @@ returns-in-Some-clause-awake g c = λ never all.
     let tree = c.requires.turn.valid.tree in
     let first = c.in-Some.ensures.first tree.0 tree.1 in
     let fires = c.fire.ensures.fires in
-    answers_awake k (g.S.LinkStore.heap c.fire.new.machine.store) fires.registers c.index-codes-choice.result.body fires.left c.args.size c.fire.result fires.answered
+    answers_awake k (g.S.LinkStore.heap c.fire.new.machine.store) fires.registers c.code-code.result.body fires.left c.args.size c.fire.result fires.answered
     (lulls_awake c.args.sleep h k first.0.earlier never first.1 all))
 
 pub returns-in-None-clause-turned : goal.returns-in-None-clause-turned

@@ -1,4 +1,4 @@
-use Rattle.std.proofs.Common.{◌≡◌, length, subst, sym}
+use Rattle.std.proofs.Common.{refl, ◌≡◌, length, subst, sym}
 use Rattle.lmn_heap.specs.Sound.{Forest, IsTree, flat}
 use Rattle.lmn_strategy.specs.Choosing.{IsFirstIn, NoneIn, asked}
 use Rattle.lmn_strategy.specs.Quieting.{SleepsRightly}
@@ -18,16 +18,16 @@ returns-in-Some-clause-yes g c _ f tree =
     let found = c.in-Some.field-0 in
     let m = g.S.LinkStore.mem_id found.membrane in
     chosen_succeeds h c.args.self.now.codes f m found.place found.rule
-    (subst (λ xs. IsFirstIn h xs (asked 0 f) m found.place found.rule) c.as_slice.ensures (c.in-Some.ensures.first f tree).0)
+    (subst (λ xs. IsFirstIn h xs (asked 0 f) m found.place found.rule) refl (c.in-Some.ensures.first f tree).0)
 
 pub returns-in-None-clause-no : goal.returns-in-None-clause-no
 returns-in-None-clause-no g c _ f tree =
-    subst (λ xs. NoneIn (g.S.LinkStore.heap c.args.self.now.machine.store) xs (flat f)) c.as_slice.ensures (c.in-None.ensures.first f tree).0
+    subst (λ xs. NoneIn (g.S.LinkStore.heap c.args.self.now.machine.store) xs (flat f)) refl (c.in-None.ensures.first f tree).0
 
 pub search-requires-clause-sleeps : goal.search-requires-clause-sleeps
 search-requires-clause-sleeps g c =
     let h = g.S.LinkStore.heap c.args.self.now.machine.store in
-    subst (SleepsRightly h) (sym c.as_slice.ensures) (awake_rightly h c.args.self.now.codes c.requires.run.awake)
+    subst (SleepsRightly h) refl (awake_rightly h c.args.self.now.codes c.requires.run.awake)
 
 pub returns-in-Some-clause-same : goal.returns-in-Some-clause-same
 returns-in-Some-clause-same g c = let t = c.requires.run.turn.valid.tree in (c.in-Some.ensures.first t.0 t.1).1

@@ -8,7 +8,7 @@ use Rattle.lmn_coded.proofs.running.Coded.turn.Goals as goal
 use Rattle.lmn_schedule.proofs.Turned.{some_membrane as root_counts}
 
 pub take_turn-answer-requires-clause-codes : goal.take_turn-answer-requires-clause-codes
-take_turn-answer-requires-clause-codes g c = subst AreRunnable (sym c.as_slice.ensures) c.requires.run.runnable
+take_turn-answer-requires-clause-codes g c = subst AreRunnable refl c.requires.run.runnable
 
 pub take_turn-answer-requires-clause-from : goal.take_turn-answer-requires-clause-from
 take_turn-answer-requires-clause-from g c =
@@ -19,14 +19,14 @@ take_turn-answer-requires-clause-from g c =
 pub take_turn-answer-requires-clause-sleeps : goal.take_turn-answer-requires-clause-sleeps
 take_turn-answer-requires-clause-sleeps g c =
     let h = g.S.LinkStore.heap c.args.self.now.machine.store in
-    subst (SleepsRightly h) (sym c.as_slice.ensures) (awake_rightly h c.args.self.now.codes c.requires.run.awake)
+    subst (SleepsRightly h) refl (awake_rightly h c.args.self.now.codes c.requires.run.awake)
 
 pub returns-then-eq-clause-turned : goal.returns-then-eq-clause-turned
 returns-then-eq-clause-turned g c f tree =
     let h = g.S.LinkStore.heap c.args.self.now.machine.store in
     let h' = g.S.LinkStore.heap c.take_turn-answer.new.machine.store in
     awake_turn h c.args.self.now.codes f c.args.self.now.size c.take_turn-answer.result h'
-    (subst (λ xs. IsAwakeTurn false h xs f 0 c.args.self.now.size c.take_turn-answer.result h') c.as_slice.ensures (c.take_turn-answer.ensures.turned f tree))
+    (subst (λ xs. IsAwakeTurn false h xs f 0 c.args.self.now.size c.take_turn-answer.result h') refl (c.take_turn-answer.ensures.turned f tree))
 
 pub returns-then-eq-clause-kept : goal.returns-then-eq-clause-kept
 returns-then-eq-clause-kept g c =
@@ -35,11 +35,11 @@ returns-then-eq-clause-kept g c =
     let t = c.requires.run.turn.valid.tree in
     turn_keeps h c.args.self.now.codes t.0 c.args.self.now.size c.take_turn-answer.result h'
     (awake_turn h c.args.self.now.codes t.0 c.args.self.now.size c.take_turn-answer.result h'
-    (subst (λ xs. IsAwakeTurn false h xs t.0 0 c.args.self.now.size c.take_turn-answer.result h') c.as_slice.ensures (c.take_turn-answer.ensures.turned t.0 t.1)))
+    (subst (λ xs. IsAwakeTurn false h xs t.0 0 c.args.self.now.size c.take_turn-answer.result h') refl (c.take_turn-answer.ensures.turned t.0 t.1)))
 
 pub returns-then-eq-clause-again : goal.returns-then-eq-clause-again
 returns-then-eq-clause-again g c = record {
-  turn = subst (λ xs. CanTurn (g.S.LinkStore.heap c.take_turn-answer.new.machine.store) (length xs)) c.as_slice.ensures c.take_turn-answer.ensures.again;
+  turn = subst (λ xs. CanTurn (g.S.LinkStore.heap c.take_turn-answer.new.machine.store) (length xs)) refl c.take_turn-answer.ensures.again;
   awake = c.take_turn-answer.ensures.awake refl c.requires.run.awake;
   runnable = c.requires.run.runnable;
   small = c.requires.run.small;
@@ -50,7 +50,7 @@ returns-else-eq-clause-turned g c f tree =
     let h = g.S.LinkStore.heap c.args.self.now.machine.store in
     let h' = g.S.LinkStore.heap c.take_turn-answer.new.machine.store in
     awake_turn h c.args.self.now.codes f c.args.self.now.size c.take_turn-answer.result h'
-    (subst (λ xs. IsAwakeTurn false h xs f 0 c.args.self.now.size c.take_turn-answer.result h') c.as_slice.ensures (c.take_turn-answer.ensures.turned f tree))
+    (subst (λ xs. IsAwakeTurn false h xs f 0 c.args.self.now.size c.take_turn-answer.result h') refl (c.take_turn-answer.ensures.turned f tree))
 
 pub returns-else-eq-clause-kept : goal.returns-else-eq-clause-kept
 returns-else-eq-clause-kept g c =
@@ -59,11 +59,11 @@ returns-else-eq-clause-kept g c =
     let t = c.requires.run.turn.valid.tree in
     turn_keeps h c.args.self.now.codes t.0 c.args.self.now.size c.take_turn-answer.result h'
     (awake_turn h c.args.self.now.codes t.0 c.args.self.now.size c.take_turn-answer.result h'
-    (subst (λ xs. IsAwakeTurn false h xs t.0 0 c.args.self.now.size c.take_turn-answer.result h') c.as_slice.ensures (c.take_turn-answer.ensures.turned t.0 t.1)))
+    (subst (λ xs. IsAwakeTurn false h xs t.0 0 c.args.self.now.size c.take_turn-answer.result h') refl (c.take_turn-answer.ensures.turned t.0 t.1)))
 
 pub returns-else-eq-clause-again : goal.returns-else-eq-clause-again
 returns-else-eq-clause-again g c = record {
-  turn = subst (λ xs. CanTurn (g.S.LinkStore.heap c.take_turn-answer.new.machine.store) (length xs)) c.as_slice.ensures c.take_turn-answer.ensures.again;
+  turn = subst (λ xs. CanTurn (g.S.LinkStore.heap c.take_turn-answer.new.machine.store) (length xs)) refl c.take_turn-answer.ensures.again;
   awake = c.take_turn-answer.ensures.awake refl c.requires.run.awake;
   runnable = c.requires.run.runnable;
   small = c.requires.run.small;

@@ -1,4 +1,4 @@
-use Rattle.std.proofs.Common.{◌≡◌, length, subst, sym}
+use Rattle.std.proofs.Common.{refl, ◌≡◌, length, subst, sym}
 use Rattle.lmn_choice.specs.Turns.{HaveCodes, tree_over}
 use Rattle.lmn_heap.specs.Sound.{Forest, IsTree, flat}
 use Rattle.lmn_strategy.specs.Choosing.{AllInOrder, IsFirstIn, NoneIn, asked}
@@ -13,7 +13,7 @@ search-requires-clause-from g c =
 
 pub search-requires-clause-order : goal.search-requires-clause-order
 search-requires-clause-order g c =
-    subst AllInOrder (sym c.as_slice.ensures) (λ n code e. (c.tables_are_runnable.ensures c.args.self.now.codes (record {
+    subst AllInOrder refl (λ n code e. (c.tables_are_runnable.ensures c.args.self.now.codes (record {
       table = c.args.self.now.plain.now.rules;
       plans = c.requires.run.plans;
       whole = c.requires.run.whole;
@@ -26,20 +26,20 @@ returns-in-Some-clause-yes g c _ names solid o =
     let h = g.S.LinkStore.heap c.args.self.now.machine.store in
     let have : HaveCodes c.args.self.now.plain.now.rules c.requires.run.plans c.args.self.now.codes = record { whole = c.requires.run.whole; compiled = c.requires.run.compiled } in
     embeds names c.args.self.now.plain.now.rules (λ t m. 0) 0 0 c.requires.run.plans c.args.self.now.codes c.nothing_embeds.ensures have h solid o (g.S.LinkStore.mem_id c.in-Some.field-0.membrane) c.in-Some.field-0.place c.in-Some.field-0.rule
-    (subst (λ xs. IsFirstIn h xs (asked 0 (tree_over h o.inner)) (g.S.LinkStore.mem_id c.in-Some.field-0.membrane) c.in-Some.field-0.place c.in-Some.field-0.rule) c.as_slice.ensures (c.in-Some.ensures.first (tree_over h o.inner) o.tree).0)
+    (subst (λ xs. IsFirstIn h xs (asked 0 (tree_over h o.inner)) (g.S.LinkStore.mem_id c.in-Some.field-0.membrane) c.in-Some.field-0.place c.in-Some.field-0.rule) refl (c.in-Some.ensures.first (tree_over h o.inner) o.tree).0)
 
 pub returns-in-None-clause-no : goal.returns-in-None-clause-no
 returns-in-None-clause-no g c _ names solid o =
     let h = g.S.LinkStore.heap c.args.self.now.machine.store in
     let have : HaveCodes c.args.self.now.plain.now.rules c.requires.run.plans c.args.self.now.codes = record { whole = c.requires.run.whole; compiled = c.requires.run.compiled } in
     done names c.args.self.now.plain.now.rules (λ t m. 0) 0 0 c.requires.run.plans c.args.self.now.codes c.turns_are_alike.ensures have h solid o
-    (subst (λ xs. NoneIn h xs (flat (tree_over h o.inner))) c.as_slice.ensures (c.in-None.ensures.first (tree_over h o.inner) o.tree).0)
+    (subst (λ xs. NoneIn h xs (flat (tree_over h o.inner))) refl (c.in-None.ensures.first (tree_over h o.inner) o.tree).0)
 
 pub returns-in-Some-clause-steps : goal.returns-in-Some-clause-steps
-returns-in-Some-clause-steps g c = subst (λ xs. CountsAsked (g.S.LinkStore.heap c.args.self.now.machine.store) xs 0 c.args.steps.now c.search.new.steps) c.as_slice.ensures c.search.ensures.steps
+returns-in-Some-clause-steps g c = subst (λ xs. CountsAsked (g.S.LinkStore.heap c.args.self.now.machine.store) xs 0 c.args.steps.now c.search.new.steps) refl c.search.ensures.steps
 
 pub returns-in-None-clause-steps : goal.returns-in-None-clause-steps
-returns-in-None-clause-steps g c = subst (λ xs. CountsAsked (g.S.LinkStore.heap c.args.self.now.machine.store) xs 0 c.args.steps.now c.search.new.steps) c.as_slice.ensures c.search.ensures.steps
+returns-in-None-clause-steps g c = subst (λ xs. CountsAsked (g.S.LinkStore.heap c.args.self.now.machine.store) xs 0 c.args.steps.now c.search.new.steps) refl c.search.ensures.steps
 
 pub returns-in-Some-clause-same : goal.returns-in-Some-clause-same
 returns-in-Some-clause-same g c = let t = c.requires.run.turn.valid.tree in (c.in-Some.ensures.first t.0 t.1).1

@@ -15,7 +15,7 @@ pick-from-requires-clause-some g c =
 
 pub take_turn-answer-requires-clause-codes : goal.take_turn-answer-requires-clause-codes
 take_turn-answer-requires-clause-codes g c =
-    subst AreRunnable (sym c.as_slice.ensures) (c.tables_are_runnable.ensures c.args.self.now.codes (record {
+    subst AreRunnable refl (c.tables_are_runnable.ensures c.args.self.now.codes (record {
       table = c.args.self.now.plain.now.rules;
       plans = c.requires.run.plans;
       whole = c.requires.run.whole;
@@ -35,7 +35,7 @@ returns-then-eq-clause-turned g c k gives names solid o =
     c.turns_are_alike.ensures c.turns_are_of_chooser.ensures c.spares_are_not_read.ensures c.marks_are_not_read.ensures have h c.requires.run.turn.valid solid o c.pick-from.result
     (subst (λ n. c.pick-from.result ≡ k c.args.self.now.commits n) (counts f o.tree) first)
     c.take_turn-answer.result (g.S.LinkStore.heap c.take_turn-answer.new.machine.store) c.take_turn-answer.ensures.again.valid
-    (subst (λ xs. IsAwakeTurn true h xs f c.pick-from.result c.args.self.now.size c.take_turn-answer.result (g.S.LinkStore.heap c.take_turn-answer.new.machine.store)) c.as_slice.ensures (c.take_turn-answer.ensures.turned f o.tree))
+    (subst (λ xs. IsAwakeTurn true h xs f c.pick-from.result c.args.self.now.size c.take_turn-answer.result (g.S.LinkStore.heap c.take_turn-answer.new.machine.store)) refl (c.take_turn-answer.ensures.turned f o.tree))
 
 pub returns-else-eq-clause-turned : goal.returns-else-eq-clause-turned
 returns-else-eq-clause-turned g c k gives names solid o =
@@ -49,7 +49,7 @@ returns-else-eq-clause-turned g c k gives names solid o =
     c.turns_are_alike.ensures c.turns_are_of_chooser.ensures c.spares_are_not_read.ensures c.marks_are_not_read.ensures have h c.requires.run.turn.valid solid o c.pick-from.result
     (subst (λ n. c.pick-from.result ≡ k c.args.self.now.commits n) (counts f o.tree) first)
     c.take_turn-answer.result (g.S.LinkStore.heap c.take_turn-answer.new.machine.store) c.take_turn-answer.ensures.again.valid
-    (subst (λ xs. IsAwakeTurn true h xs f c.pick-from.result c.args.self.now.size c.take_turn-answer.result (g.S.LinkStore.heap c.take_turn-answer.new.machine.store)) c.as_slice.ensures (c.take_turn-answer.ensures.turned f o.tree))
+    (subst (λ xs. IsAwakeTurn true h xs f c.pick-from.result c.args.self.now.size c.take_turn-answer.result (g.S.LinkStore.heap c.take_turn-answer.new.machine.store)) refl (c.take_turn-answer.ensures.turned f o.tree))
 
 pub returns-then-eq-clause-chosen : goal.returns-then-eq-clause-chosen
 returns-then-eq-clause-chosen g c =
@@ -65,13 +65,13 @@ returns-then-eq-clause-chosen g c =
     let have : HaveCodes table c.requires.run.plans codes = record { whole = c.requires.run.whole; compiled = c.requires.run.compiled } in
     record {
       from = from;
-      counts = subst (λ xs. CountsAsked h xs from c.args.steps.now c.take_turn-answer.new.steps) c.as_slice.ensures c.take_turn-answer.ensures.steps;
-      flags = λ f t. subst (λ xs. IsAwakeTurn true h xs f from size answer h') c.as_slice.ensures (c.take_turn-answer.ensures.turned f t);
+      counts = subst (λ xs. CountsAsked h xs from c.args.steps.now c.take_turn-answer.new.steps) refl c.take_turn-answer.ensures.steps;
+      flags = λ f t. subst (λ xs. IsAwakeTurn true h xs f from size answer h') refl (c.take_turn-answer.ensures.turned f t);
       turned = λ names solid o. (
         subst (λ n. g.F.Fn.post c.args.self.now.chooser.f (commits, (n, tt)) from) (many (tree_over h o.inner) o.tree ∙ sym (as_many_paths c.membranes_are_numbered_alike.ensures names table h solid o)) c.pick-from.ensures.answer,
         turned names table (λ commits membranes. from) commits size c.requires.run.plans codes
             c.turns_are_alike.ensures c.turns_are_of_chooser.ensures c.spares_are_not_read.ensures c.marks_are_not_read.ensures have h c.requires.run.turn.valid solid o from refl answer h' c.take_turn-answer.ensures.again.valid
-            (subst (λ xs. IsAwakeTurn true h xs (tree_over h o.inner) from size answer h') c.as_slice.ensures (c.take_turn-answer.ensures.turned (tree_over h o.inner) o.tree)),
+            (subst (λ xs. IsAwakeTurn true h xs (tree_over h o.inner) from size answer h') refl (c.take_turn-answer.ensures.turned (tree_over h o.inner) o.tree)),
       );
     }
 
@@ -89,13 +89,13 @@ returns-else-eq-clause-chosen g c =
     let have : HaveCodes table c.requires.run.plans codes = record { whole = c.requires.run.whole; compiled = c.requires.run.compiled } in
     record {
       from = from;
-      counts = subst (λ xs. CountsAsked h xs from c.args.steps.now c.take_turn-answer.new.steps) c.as_slice.ensures c.take_turn-answer.ensures.steps;
-      flags = λ f t. subst (λ xs. IsAwakeTurn true h xs f from size answer h') c.as_slice.ensures (c.take_turn-answer.ensures.turned f t);
+      counts = subst (λ xs. CountsAsked h xs from c.args.steps.now c.take_turn-answer.new.steps) refl c.take_turn-answer.ensures.steps;
+      flags = λ f t. subst (λ xs. IsAwakeTurn true h xs f from size answer h') refl (c.take_turn-answer.ensures.turned f t);
       turned = λ names solid o. (
         subst (λ n. g.F.Fn.post c.args.self.now.chooser.f (commits, (n, tt)) from) (many (tree_over h o.inner) o.tree ∙ sym (as_many_paths c.membranes_are_numbered_alike.ensures names table h solid o)) c.pick-from.ensures.answer,
         turned names table (λ commits membranes. from) commits size c.requires.run.plans codes
             c.turns_are_alike.ensures c.turns_are_of_chooser.ensures c.spares_are_not_read.ensures c.marks_are_not_read.ensures have h c.requires.run.turn.valid solid o from refl answer h' c.take_turn-answer.ensures.again.valid
-            (subst (λ xs. IsAwakeTurn true h xs (tree_over h o.inner) from size answer h') c.as_slice.ensures (c.take_turn-answer.ensures.turned (tree_over h o.inner) o.tree)),
+            (subst (λ xs. IsAwakeTurn true h xs (tree_over h o.inner) from size answer h') refl (c.take_turn-answer.ensures.turned (tree_over h o.inner) o.tree)),
       );
     }
 
@@ -104,14 +104,14 @@ returns-then-eq-clause-kept g c =
     let h = g.S.LinkStore.heap c.args.self.now.machine.store in
     let tree = c.requires.run.turn.valid.tree in
     kept_heap h (g.S.LinkStore.heap c.take_turn-answer.new.machine.store) c.args.self.now.codes tree.0 c.pick-from.result c.args.self.now.size c.take_turn-answer.result
-    (subst (λ xs. IsAwakeTurn true h xs tree.0 c.pick-from.result c.args.self.now.size c.take_turn-answer.result (g.S.LinkStore.heap c.take_turn-answer.new.machine.store)) c.as_slice.ensures (c.take_turn-answer.ensures.turned tree.0 tree.1))
+    (subst (λ xs. IsAwakeTurn true h xs tree.0 c.pick-from.result c.args.self.now.size c.take_turn-answer.result (g.S.LinkStore.heap c.take_turn-answer.new.machine.store)) refl (c.take_turn-answer.ensures.turned tree.0 tree.1))
 
 pub returns-else-eq-clause-kept : goal.returns-else-eq-clause-kept
 returns-else-eq-clause-kept g c =
     let h = g.S.LinkStore.heap c.args.self.now.machine.store in
     let tree = c.requires.run.turn.valid.tree in
     kept_heap h (g.S.LinkStore.heap c.take_turn-answer.new.machine.store) c.args.self.now.codes tree.0 c.pick-from.result c.args.self.now.size c.take_turn-answer.result
-    (subst (λ xs. IsAwakeTurn true h xs tree.0 c.pick-from.result c.args.self.now.size c.take_turn-answer.result (g.S.LinkStore.heap c.take_turn-answer.new.machine.store)) c.as_slice.ensures (c.take_turn-answer.ensures.turned tree.0 tree.1))
+    (subst (λ xs. IsAwakeTurn true h xs tree.0 c.pick-from.result c.args.self.now.size c.take_turn-answer.result (g.S.LinkStore.heap c.take_turn-answer.new.machine.store)) refl (c.take_turn-answer.ensures.turned tree.0 tree.1))
 
 pub returns-then-eq-clause-again : goal.returns-then-eq-clause-again
 returns-then-eq-clause-again g c =
@@ -125,8 +125,8 @@ returns-then-eq-clause-again g c =
       inner = c.requires.run.inner;
     }) in
     record {
-      turn = subst (λ xs. CanTurn h' (length xs)) c.as_slice.ensures c.take_turn-answer.ensures.again;
-      sleeps = subst (SleepsRightly h') c.as_slice.ensures (c.take_turn-answer.ensures.sleeps (subst AreQuiet (sym c.as_slice.ensures) quiet));
+      turn = subst (λ xs. CanTurn h' (length xs)) refl c.take_turn-answer.ensures.again;
+      sleeps = subst (SleepsRightly h') refl (c.take_turn-answer.ensures.sleeps (subst AreQuiet refl quiet));
       plans = c.requires.run.plans;
       whole = c.requires.run.whole;
       compiled = c.requires.run.compiled;
@@ -146,8 +146,8 @@ returns-else-eq-clause-again g c =
       inner = c.requires.run.inner;
     }) in
     record {
-      turn = subst (λ xs. CanTurn h' (length xs)) c.as_slice.ensures c.take_turn-answer.ensures.again;
-      sleeps = subst (SleepsRightly h') c.as_slice.ensures (c.take_turn-answer.ensures.sleeps (subst AreQuiet (sym c.as_slice.ensures) quiet));
+      turn = subst (λ xs. CanTurn h' (length xs)) refl c.take_turn-answer.ensures.again;
+      sleeps = subst (SleepsRightly h') refl (c.take_turn-answer.ensures.sleeps (subst AreQuiet refl quiet));
       plans = c.requires.run.plans;
       whole = c.requires.run.whole;
       compiled = c.requires.run.compiled;
