@@ -1,8 +1,8 @@
 -- How a walk goes on from port to port.
-use Rattle.std.proofs.Common.{◌≡◌, ◌≢◌, ◌⊎◌, ℕ, zero, suc, ◌+◌, ◌-◌, ◌<◌, ◌==◌, ◌&&◌, Bool, true, false, cond, List, [], ◌∷◌, ◌++◌, length, Option, Some, None, IsSome, refl, sym, ap, subst, ◌∙◌, inl, inr, arith, length-append}
+use Rattle.std.proofs.Common.{◌≡◌, ◌≢◌, ◌⊎◌, ℕ, zero, suc, ◌+◌, ◌-◌, ◌<◌, ◌==◌, ◌&&◌, Bool, true, false, cond, List, [], ◌∷◌, ◌++◌, length, Option, Some, None, IsSome, refl, sym, ap, subst, ◌∙◌, inl, inr, arith, length-append, add-one}
 use Rattle.std.proofs.lemmas.Bool.{eq-eqb, eqb-true}
 use Rattle.std.specs.Option.{option_and_then}
-use Rattle.lmn_ground.specs.Marks.{way, back, ports_behind, OnWay, Sought}
+use Rattle.lmn_ground.specs.Marks.{way, back, entry_port, ports_behind, OnWay, Sought}
 use Rattle.lmn_parts.specs.Walks.{port_range, neighbour, HasPort, Net, ports_from, kept, is_port, Walk, passes}
 use Rattle.lmn_base.proofs.Numbers.{not_equal as apart_test}
 use Rattle.lmn_base.specs.Lists.{In}
@@ -128,6 +128,25 @@ module _ (n : Net) (marks : ℕ → ℕ) (root : ℕ × ℕ) (depth a i : ℕ) w
 
   pub backs : (d : ℕ) → depth ≡ suc d → OnWay n marks root depth a → (back n marks a).1 < n.arity (back n marks a).0
   backs d e w = let v = subst (λ (z : ℕ). OnWay n marks root z a) e w in v.2
+
+-- an atom with one port is gone through when it is entered
+pub sought_leaf : (n : Net) (marks : ℕ → ℕ) (root : ℕ × ℕ) (depth deep b a i : ℕ) → deep ≡ depth + 1 → OnWay n marks root deep b → n.arity b ≡ 1 → back n marks b ≡ (a, i) → marks a ≢ 0
+    → Sought n marks root deep b 0 depth a (i + 1)
+sought_leaf n marks root depth deep b a i e w one is high =
+    subst (λ (z : ℕ). Sought n marks root z b 0 depth a (i + 1)) (sym (e ∙ add-one depth)) (by (subst (λ (z : ℕ). OnWay n marks root z b) (e ∙ add-one depth) w))
+  where
+    at_first : (k : ℕ) (p : ℕ × ℕ) → k < 1 → n.link b k ≡ Some p → n.link b 0 ≡ Some p
+    at_first zero p l f = f
+    at_first (suc k) p l f = absurd (omega (arith, l))
+
+    by : OnWay n marks root (suc depth) b → Sought n marks root (suc depth) b 0 depth a (i + 1)
+    by v =
+        let link : n.link b 0 ≡ Some (back n marks b) = at_first (entry_port (marks b)) (back n marks b) (subst (λ (z : ℕ). entry_port (marks b) < z) one v.1) v.0 in
+        let low : 0 < n.arity b = subst (λ (z : ℕ). 0 < z) (sym one) (omega arith) in
+        let on = sought_marked n marks root (suc depth) b 0 (suc depth) b 0 (back n marks b).0 (back n marks b).1 (sought_none n marks root (suc depth) b 0 v) low link v.2
+        (subst (λ (p : ℕ × ℕ). marks p.0 ≢ 0) (sym is) high) in
+        subst (λ (p : ℕ × ℕ). Sought n marks root (suc depth) b 0 depth p.0 (p.1 + 1)) is
+        (sought_back n marks root (suc depth) b 0 (suc depth) depth b 1 refl on (sym one))
 
 -- what is still to be gone through, in numbers
 abbrev pub weight : Net → (ℕ → ℕ) → ℕ → ℕ → ℕ → ℕ

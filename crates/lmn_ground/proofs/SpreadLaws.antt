@@ -426,6 +426,31 @@ entered before now to root home seen depth a i b j count e t sound clean low lin
     subst (λ (s : Heap). Spreading before s root home (seen ++ b ∷ []) (depth + 1) b 0 (count + 1)) (sym e)
     (spreading_enter before root home now seen depth a i b j count t sound low link back port small other fresh z f)
 
+-- an atom with a port has it when another atom is marked
+pub port_after : (now to : Heap) (b k m a i : ℕ) → to ≡ marked now b k m → i < arity_of now a → i < arity_of to a
+port_after now to b k m a i e l = subst (λ (n : Net). i < n.arity a) (sym (ap net e ∙ net_marked now b k m)) l
+
+-- and is there
+pub there_beside : (now to : Heap) (b k m a i : ℕ) → to ≡ marked now b k m → i < arity_of now a → IsAtom to a
+there_beside now to b k m a i e l = with_port to a (let h = port_after now to b k m a i e l in omega (arith, h))
+
+-- from an atom that was entered the walk goes back to the port from which it was
+pub entered_back : (now to : Heap) (a i b j count : ℕ) → to ≡ marked now b 0 (512 + 256 * count + j) → Sound now → link_of now b j ≡ Some (a, i) → j < arity_of now b → j < 256
+    → back (net to) (first_marks to) b ≡ (a, i)
+entered_back now to a i b j count e sound link port small =
+    let here : first_marks to b ≡ 512 + 256 * count + j = ap (λ (s : Heap). first_marks s b) e ∙ mark_here now b (512 + 256 * count + j) (marks_there now b sound (omega (arith, port))) in
+    ap (λ (n : Net). back n (first_marks to) b) (ap net e ∙ net_marked now b 0 (512 + 256 * count + j))
+    ∙ ap (λ (k : ℕ). or_zero (link_of now b k)) (ap entry_port here ∙ entry_is count j small) ∙ ap or_zero link
+
+-- an atom on the way is marked
+pub way_marked : (before now : Heap) (root : ℕ × ℕ) (home : Option ℕ) (seen : List ℕ) (depth a i count : ℕ) → Spreading before now root home seen depth a i count → first_marks now a ≢ 0
+way_marked before now root home seen depth a i count t z = let h = t.on a (t.way_seen a (top_in (net before) (first_marks now) depth a)) in absurd (omega (arith, h, z))
+
+-- and is when another one is marked
+pub way_stays : (now to : Heap) (a b k : ℕ) → to ≡ marked now b 0 k → first_marks now a ≢ 0 → first_marks now b ≡ 0 → first_marks to a ≢ 0
+way_stays now to a b k e high fresh z =
+    high (sym (mark_away now b k a (λ s. high (ap (first_marks now) s ∙ fresh))) ∙ sym (ap (λ (s : Heap). first_marks s a) e) ∙ z)
+
 -- a reached atom has a port
 pub reached_port : (s : Heap) (root : ℕ × ℕ) → Sound s → root.1 < arity_of s root.0 → (a : ℕ) → Reached (atom_map s) root a → 0 < arity_of s a
 reached_port s root h l a at_root = omega arith

@@ -5,7 +5,7 @@ ghost use Rattle.lmn_ground.specs.Spread.{CleanPart, IsWhole};
 ghost use Rattle.lmn_ground.specs.Copies.{NumbersAtoms, Gathered, unmarked_all};
 ghost use Rattle.lmn_parts.specs.Copies.{AllAtoms};
 
-use crate::seek::{Stand, arity, seek};
+use crate::seek::{Stand, arity, go_down, seek};
 use crate::spread::mark_entry;
 use lmn_base::{NoMemory, Rows};
 use lmn_store::LinkStore;
@@ -42,11 +42,12 @@ pub fn gather<S: LinkStore>(
             Some((b, j)) => {
                 atoms.push(b)?;
                 mark_entry(store, b, j, count);
-                at = Stand {
+                let down = Stand {
                     atom: b,
                     port: 0,
                     depth: at.depth + 1,
                 };
+                at = go_down(store, root, at, down);
                 count += 1;
             }
             None => unreachable!(),

@@ -1,5 +1,5 @@
 //! A walk goes on to the next port that has to be looked at.
-ghost use Rattle.std.specs.Prelude.{◌≡◌, ◌<◌, ◌≤◌, ◌+◌, ◌↔◌, ◌^◌, IsTrue};
+ghost use Rattle.std.specs.Prelude.{◌≡◌, ◌≢◌, ◌<◌, ◌≤◌, ◌+◌, ◌↔◌, ◌^◌, IsTrue};
 ghost use Rattle.lmn_heap.specs.Heap.{IsAtom, arity_of};
 ghost use Rattle.lmn_heap.specs.Sound.{Sound, AtMost};
 ghost use Rattle.lmn_parts.specs.Walks.{net};
@@ -96,5 +96,37 @@ pub fn seek<S: LinkStore>(store: &S, root: (S::Atom, u8), from: Stand<S::Atom>) 
                 None => return at,
             }
         }
+    }
+}
+
+/// Where a walk goes on that stood at `from` and has entered the atom of `down` from there: at the first port of the atom, or
+/// behind `from`, where the atom has no port but that by which it was entered.
+#[inline(always)]
+pub fn go_down<S: LinkStore>(
+    store: &S,
+    root: (S::Atom, u8),
+    from: Stand<S::Atom>,
+    down: Stand<S::Atom>,
+) -> Stand<S::Atom>
+    requires from { IsAtom (S.heap store.now) (S.atom_id from.atom) }
+    requires port { from.port < arity_of (S.heap store.now) (S.atom_id from.atom) }
+    requires marked { first_marks (S.heap store.now) (S.atom_id from.atom) ≢ 0 }
+    requires atom { IsAtom (S.heap store.now) (S.atom_id down.atom) }
+    requires first { down.port ≡ 0 }
+    requires depth { down.depth ≡ from.depth + 1 }
+    requires way { OnWay (net (S.heap store.now)) (first_marks (S.heap store.now)) (S.atom_id root.0, root.1) down.depth (S.atom_id down.atom) }
+    requires back { back (net (S.heap store.now)) (first_marks (S.heap store.now)) (S.atom_id down.atom) ≡ (S.atom_id from.atom, from.port) }
+    ensures atom { IsAtom (S.heap store.now) (S.atom_id result.atom) }
+    ensures inside { result.port ≤ arity_of (S.heap store.now) (S.atom_id result.atom) }
+    ensures sought { Sought (net (S.heap store.now)) (first_marks (S.heap store.now)) (S.atom_id root.0, root.1) down.depth (S.atom_id down.atom) down.port result.depth (S.atom_id result.atom) result.port }
+{
+    let _arity = arity(store, from.atom);
+    if arity(store, down.atom) == 1 {
+        Stand {
+            port: from.port + 1,
+            ..from
+        }
+    } else {
+        down
     }
 }

@@ -4,7 +4,7 @@ ghost use Rattle.std.specs.Option.{option_map};
 ghost use Rattle.lmn_heap.specs.Heap.{IsAtom, IsMem, arity_of, home_of, marked, own_mark};
 ghost use Rattle.lmn_ground.specs.Spread.{AtomFits, CleanPart, IsWhole, Spread};
 
-use crate::seek::{Stand, arity, seek};
+use crate::seek::{Stand, arity, go_down, seek};
 use lmn_store::LinkStore;
 
 /// Whether the own mark of an atom isn't 1.
@@ -80,11 +80,12 @@ pub fn spread<S: LinkStore>(store: &mut S, root: (S::Atom, u8), home: Option<S::
                     return (count, false);
                 }
                 mark_entry(store, b, j, count);
-                at = Stand {
+                let down = Stand {
                     atom: b,
                     port: 0,
                     depth: at.depth + 1,
                 };
+                at = go_down(store, root, at, down);
                 count += 1;
             }
             None => return (count, false),

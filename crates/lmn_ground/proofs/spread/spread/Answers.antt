@@ -2,7 +2,7 @@ use Rattle.std.proofs.Common.{[], ◌∷◌, rules, ◌<◌, ◌≤◌, ◌+◌,
 use Rattle.std.specs.Option.{option_map}
 use Rattle.lmn_heap.specs.Heap.{Heap, IsAtom, IsMem, arity_of}
 use Rattle.lmn_ground.specs.Spread.{Spreading}
-use Rattle.lmn_ground.proofs.SpreadLaws.{spreading_first, spreading_on, entered, there_after, spread_some, spread_all, part_fits, unfit, unjoined, few_next, way_now, fits_before, first_there}
+use Rattle.lmn_ground.proofs.SpreadLaws.{spreading_first, spreading_on, entered, entered_back, there_after, there_beside, port_after, way_marked, way_stays, spread_some, spread_all, part_fits, unfit, unjoined, few_next, way_now, fits_before, first_there}
 use Rattle.lmn_ground.proofs.spread.spread.Goals as goal
 
 less : (n m : ℕ) → n + 1 ≤ m → m - (n + 1) < m - n
@@ -56,21 +56,45 @@ loop-at-smaller g c =
     let h : c.loop-at.count + 1 ≤ 2 ^ 48 = few_next _ _ _ _ _ _ _ _ _ _ (2 ^ 48) t c.arity.ensures.few c.in-Some.ensures.there.0 (c.seek-at.ensures.halts.fresh _ _ c.in-Some.ensures.link) in
     less c.loop-at.count (2 ^ 48) h
 
+pub go_down-at-requires-clause-from : goal.go_down-at-requires-clause-from
+go_down-at-requires-clause-from g c =
+    let l : c.seek-at.result.port < arity_of (g.S.LinkStore.heap c.loop-at.store) (g.S.LinkStore.atom_id c.seek-at.result.atom) = let h = c.seek-at.ensures.halts.inside in omega (arith, h) in
+    there_beside _ _ _ _ _ _ _ c.mark_entry.ensures.marked l
+
+pub go_down-at-requires-clause-port : goal.go_down-at-requires-clause-port
+go_down-at-requires-clause-port g c =
+    let l : c.seek-at.result.port < arity_of (g.S.LinkStore.heap c.loop-at.store) (g.S.LinkStore.atom_id c.seek-at.result.atom) = let h = c.seek-at.ensures.halts.inside in omega (arith, h) in
+    port_after _ _ _ _ _ _ _ c.mark_entry.ensures.marked l
+
+pub go_down-at-requires-clause-marked : goal.go_down-at-requires-clause-marked
+go_down-at-requires-clause-marked g c =
+    let t = spreading_on _ _ _ _ _ _ _ _ _ _ _ _ c.loop-at.invariant.walk.1 c.seek-at.ensures.sought c.seek-at.ensures.halts.inside in
+    way_stays _ _ _ _ _ c.mark_entry.ensures.marked (way_marked _ _ _ _ _ _ _ _ _ t) (c.seek-at.ensures.halts.fresh _ _ c.in-Some.ensures.link)
+
+pub go_down-at-requires-clause-atom : goal.go_down-at-requires-clause-atom
+go_down-at-requires-clause-atom g c = there_after _ _ _ _ _ _ c.mark_entry.ensures.marked c.in-Some.ensures.there.1
+
+pub go_down-at-requires-clause-way : goal.go_down-at-requires-clause-way
+go_down-at-requires-clause-way g c =
+    let t = spreading_on _ _ _ _ _ _ _ _ _ _ _ _ c.loop-at.invariant.walk.1 c.seek-at.ensures.sought c.seek-at.ensures.halts.inside in
+    let l : c.seek-at.result.port < arity_of (g.S.LinkStore.heap c.loop-at.store) (g.S.LinkStore.atom_id c.seek-at.result.atom) = let h = c.seek-at.ensures.halts.inside in omega (arith, h) in
+    way_now _ _ _ _ _ _ _ _ _ (entered _ _ _ _ _ _ _ _ _ _ _ _ c.mark_entry.ensures.marked t c.arity.ensures.sound c.requires.clean l c.in-Some.ensures.link c.in-Some.ensures.back c.in-Some.ensures.there.1 c.mark_entry.ensures.small
+    (c.seek-at.ensures.halts.apart l) (c.seek-at.ensures.halts.fresh _ _ c.in-Some.ensures.link) (c.fits.ensures.0 (search rules)))
+
+pub go_down-at-requires-clause-back : goal.go_down-at-requires-clause-back
+go_down-at-requires-clause-back g c =
+    entered_back _ _ _ _ _ _ c.loop-at.count c.mark_entry.ensures.marked c.arity.ensures.sound c.in-Some.ensures.back c.in-Some.ensures.there.1 c.mark_entry.ensures.small
+
 pub loop-at-preserved : goal.loop-at-preserved
 loop-at-preserved g c =
-    let id = g.S.LinkStore.atom_id in
-    let now = g.S.LinkStore.heap c.loop-at.store in
     let t = spreading_on _ _ _ _ _ _ _ _ _ _ _ _ c.loop-at.invariant.walk.1 c.seek-at.ensures.sought c.seek-at.ensures.halts.inside in
     let l : c.seek-at.result.port < arity_of (g.S.LinkStore.heap c.loop-at.store) (g.S.LinkStore.atom_id c.seek-at.result.atom) = let h = c.seek-at.ensures.halts.inside in omega (arith, h) in
     let fresh = c.seek-at.ensures.halts.fresh _ _ c.in-Some.ensures.link in
-    let p = c.in-Some.ensures.there.1 in
+    let in_walk = entered _ _ _ _ _ _ _ _ _ _ _ _ c.mark_entry.ensures.marked t c.arity.ensures.sound c.requires.clean l c.in-Some.ensures.link c.in-Some.ensures.back c.in-Some.ensures.there.1 c.mark_entry.ensures.small
+    (c.seek-at.ensures.halts.apart l) fresh (c.fits.ensures.0 (search rules)) in
     record {
-      atom = there_after _ _ _ _ _ _ c.mark_entry.ensures.marked p;
-      walk = (
-        _,
-        entered _ _ _ _ _ _ _ _ _ _ _ _ c.mark_entry.ensures.marked t c.arity.ensures.sound c.requires.clean l c.in-Some.ensures.link c.in-Some.ensures.back p c.mark_entry.ensures.small
-            (c.seek-at.ensures.halts.apart l) fresh (c.fits.ensures.0 (search rules)),
-      );
+      atom = c.go_down-at.ensures.atom;
+      walk = (_, spreading_on _ _ _ _ _ _ _ _ _ _ _ _ in_walk c.go_down-at.ensures.sought c.go_down-at.ensures.inside);
       mem = subst (λ (s : Heap). IfSome c.args.home (λ m. IsMem s (g.S.LinkStore.mem_id m))) (sym c.mark_entry.ensures.marked) c.loop-at.invariant.mem;
       bound = few_next _ _ _ _ _ _ _ _ _ _ (2 ^ 48) t c.arity.ensures.few c.in-Some.ensures.there.0 fresh;
     }
