@@ -11,6 +11,7 @@ pub mod FollowLaws
 pub mod CompareLaws
 pub mod ApartLaws
 pub mod JoinLaws
+pub mod JoinAgain
 pub mod CopyLaws
 pub mod GatherLaws
 pub mod PaintedLaws

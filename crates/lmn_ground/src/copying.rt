@@ -72,8 +72,12 @@ fn join_port<S: LinkStore>(
     if is_same_port(store, (a, i), root) {
         return;
     }
+    let c = copy_of(store, atoms, copies, a);
+    // The copy of a port is joined when the first of the two ports is met.
+    if store.partner(c, i).is_some() {
+        return;
+    }
     if let Some((b, j)) = store.partner(a, i) {
-        let c = copy_of(store, atoms, copies, a);
         let d = copy_of(store, atoms, copies, b);
         store.join(c, i, d, j);
     }
