@@ -7,7 +7,6 @@ ghost use Rattle.lmn_debug.specs.Counts.{count_in};
 
 use lmn_base::Functor;
 use lmn_store::LinkStore;
-use lmn_strategy::next_membrane;
 
 /// How many atoms of a membrane have the functor.
 fn count_of_membrane<S: LinkStore>(store: &S, membrane: S::Mem, functor: Functor) -> u64
@@ -37,7 +36,7 @@ pub fn count_atoms<S: LinkStore>(store: &S, functor: Functor) -> u64
     let mut total = 0;
     for _ in 0..u64::MAX {
         total += count_of_membrane(store, at, functor);
-        match next_membrane(store, at) {
+        match store.next_membrane(at) {
             Some(next) => at = next,
             None => return total,
         }

@@ -17,7 +17,8 @@ use Rattle.lmn_commit.proofs.Woken.{valid_but_marks, marks_unmarked}
 use Rattle.lmn_choice.proofs.MarkedHeaps.{sound_but_marks}
 use Rattle.lmn_choice.proofs.Spares.{atoms_of_same, naming_same}
 use Rattle.lmn_strategy.proofs.Lulling.{tree_alike}
-use Rattle.lmn_strategy.proofs.Numbers.{HasNumber, root_number, number_next, number_mem, last_number, take_one_more, take_whole}
+use Rattle.lmn_store.proofs.Numbers.{HasNumber, root_number, number_next, number_mem, last_number}
+use Rattle.lmn_strategy.proofs.Numbers.{take_one_more, take_whole}
 use Rattle.lmn_strategy.specs.Quieting.{AllAwake}
 
 -- Of the membranes in preorder the first ones are awake; the next is `at`.

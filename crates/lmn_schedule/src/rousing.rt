@@ -5,7 +5,6 @@ ghost use Rattle.lmn_sleep.specs.Quiet.{SameButMarks};
 ghost use Rattle.lmn_strategy.specs.Quieting.{AllAwake};
 
 use lmn_store::LinkStore;
-use lmn_strategy::next_membrane;
 
 /// Each membrane wakes. The store is else as it was.
 pub fn rouse_all<S: LinkStore>(store: &mut S)
@@ -17,7 +16,7 @@ pub fn rouse_all<S: LinkStore>(store: &mut S)
     let mut at = store.root();
     for counted in 0..u64::MAX {
         store.set_mem_mark(at, 0);
-        match next_membrane(store, at) {
+        match store.next_membrane(at) {
             Some(next) => at = next,
             None => return,
         }

@@ -17,7 +17,6 @@ use Rattle.lmn_strategy.specs.Counting.{AsksRules, CountsAmong, CountsUpTo, asks
 use Rattle.lmn_strategy.specs.Quieting.{SleepsRightly}
 use Rattle.lmn_strategy.proofs.Counts.{asks_before, asks_behind, awake_both, counts_both, counts_none}
 use Rattle.lmn_strategy.proofs.Lulling.{first_rule_alike, lulls_alike, none_here_back, none_of_back}
-use Rattle.lmn_strategy.proofs.Numbers.{get_drop, take_one_more}
 
 -- ---- those that are awake
 
@@ -91,10 +90,6 @@ asks_alike h k codes same ms n (asks_all {m = m} {ms = rest} {n = j} none more) 
 asks_alike h k codes same ms n (asks_until {m = m} {ms = rest} {place = place} {k = i} first) =
     asks_until (first_rule_alike k h codes (alike_back h k same) m place i (λ ns. none_of_back h k codes same m ns) first)
 
--- no membrane is asked
-pub counts_asleep : (h : Heap) (codes : List Code) (m a : ℕ) → mem_mark_of h m ≡ 1 → CountsAmong h codes (awake_of h (m ∷ [])) a a
-counts_asleep h codes m a e = subst (λ ms. CountsAmong h codes ms a a) (sym (asleep_one h m e)) (record { rules = 0; asks = asks_none; counts = counts_none a })
-
 -- one is asked in vain
 pub counts_in_vain : (h : Heap) (codes : List Code) (m a b : ℕ) → mem_mark_of h m ≡ 0 → NoneOf h codes m (rules_in h m) → CountsUpTo (length (rules_in h m)) a b → CountsAmong h codes (awake_of h (m ∷ [])) a b
 counts_in_vain h codes m a b e none c =
@@ -138,10 +133,3 @@ first_there h codes xs ys m place n f e = subst (In m) (sym f.order ∙ e) (in_h
 -- of a list without repeats nothing behind a number is before it
 pub turned_apart : (xs : List ℕ) (i m : ℕ) → Distinct xs → In m (drop i xs) → In m (take i xs) → ⊥
 turned_apart xs i m d a b = apart (take i xs) (drop i xs) m m (subst Distinct (sym (take-append-drop i xs)) d) b a refl
-
--- and the next isn't among those before it
-pub next_apart : (xs : List ℕ) (i a m : ℕ) → Distinct xs → slice_get xs (i + a) ≡ Some m → (x : ℕ) → In x (take a (drop i xs)) → In x (m ∷ []) → ⊥
-next_apart xs i a m d e x here last =
-    let rest = distinct_right (take i xs) (drop i xs) (subst Distinct (sym (take-append-drop i xs)) d) in
-    let more = distinct_left (take (suc a) (drop i xs)) (drop (suc a) (drop i xs)) (subst Distinct (sym (take-append-drop (suc a) (drop i xs))) rest) in
-    apart (take a (drop i xs)) (m ∷ []) x x (subst Distinct (take_one_more (drop i xs) a m (get_drop xs i a ∙ e)) more) here last refl

@@ -9,8 +9,10 @@ use Rattle.lmn_instr.specs.declared.instr.Code.{Code}
 use Rattle.lmn_instr.specs.Running.{HeadRegisters, Succeeds}
 use Rattle.lmn_machine.proofs.Besides.{known, known_agrees}
 use Rattle.lmn_registers.specs.declared.registers.SetRegisters.{SetRegisters}
-use Rattle.lmn_strategy.specs.Choosing.{CodeSucceeds, NoneOf, NoneIn, HasFound}
-use Rattle.lmn_strategy.proofs.Numbers.{get_drop, take_one_more, take_no_more, take_whole, root_number}
+use Rattle.lmn_strategy.specs.Between.{between}
+use Rattle.lmn_strategy.specs.Choosing.{CodeSucceeds, NoneOf, HasFound}
+use Rattle.lmn_store.proofs.Numbers.{root_number}
+use Rattle.lmn_strategy.proofs.Numbers.{take_one_more, take_whole}
 use Rattle.lmn_base.specs.Lists.{In}
 use Rattle.lmn_base.proofs.Lists.{in_either}
 
@@ -44,23 +46,12 @@ none_of_more h codes m i n xs e none fails = λ k p s. elim (in_either k (take i
 pub none_of_all : (h : Heap) (codes : List Code) (m i : ℕ) (xs : List ℕ) → length xs ≤ i → NoneOf h codes m (take i xs) → NoneOf h codes m xs
 none_of_all h codes m i xs l none = subst (NoneOf h codes m) (take_whole xs i l) none
 
-module _ (h : Heap) (codes : List Code) where
-  none_in_both : (ms ns : List ℕ) → NoneIn h codes ms → NoneIn h codes ns → NoneIn h codes (ms ++ ns)
-  none_in_both ms ns a b = λ m p. elim (in_either m ms ns p) [ inl q ↦ a m q | inr q ↦ b m q ]
-
-  -- one membrane more
-  pub none_in_more : (xs : List ℕ) (i a m : ℕ) → slice_get xs (i + a) ≡ Some m → NoneIn h codes (take a (drop i xs)) → NoneOf h codes m (rules_in h m) → NoneIn h codes (take (a + 1) (drop i xs))
-  none_in_more xs i a m e none last =
-      let one : take (a + 1) (drop i xs) ≡ take a (drop i xs) ++ (m ∷ []) = ap (λ z. take z (drop i xs)) (let z : a + 1 ≡ suc a = omega arith in z) ∙ take_one_more (drop i xs) a m (get_drop xs i a ∙ e) in
-      subst (NoneIn h codes) (sym one)
-      (none_in_both (take a (drop i xs)) (m ∷ []) none (λ k p. subst (λ z. NoneOf h codes z (rules_in h z)) (in_one k m p) last))
-
-  -- where the list ends
-  pub none_in_end : (xs : List ℕ) (i a b : ℕ) → a ≤ b → slice_get xs (i + a) ≡ None → NoneIn h codes (take a (drop i xs)) → NoneIn h codes (take b (drop i xs))
-  none_in_end xs i a b l e none = subst (NoneIn h codes) (sym (take_no_more (drop i xs) a b l (get_drop xs i a ∙ e))) none
+-- up to a number
+pub take_first : (xs : List ℕ) (i : ℕ) → between 0 i xs ≡ take i xs
+take_first xs i = ap (λ n. take n xs) (let z : i - 0 ≡ i = omega arith in z)
 
 -- from a number on, all
-pub take_rest : (xs : List ℕ) (i many : ℕ) → many ≡ length xs → take (many - i) (drop i xs) ≡ drop i xs
+pub take_rest : (xs : List ℕ) (i many : ℕ) → many ≡ length xs → between i many xs ≡ drop i xs
 take_rest xs i many e = take_whole (drop i xs) (many - i) (let l = length-drop i xs in omega (arith, l, e))
 
 -- the root is a membrane

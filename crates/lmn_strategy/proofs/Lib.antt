@@ -1,5 +1,4 @@
 pub mod Numbers
-pub mod Climbs
 pub mod Chosen
 pub mod Counts
 pub mod KeptRules
@@ -14,6 +13,7 @@ pub mod Runnable
 pub mod Firing
 pub mod Lulling
 pub mod Awake
+pub mod Passing
 pub mod QuietCodes
 pub mod Rightly
 pub mod SmallMarks

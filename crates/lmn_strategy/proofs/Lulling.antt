@@ -18,7 +18,6 @@ use Rattle.lmn_sleep.specs.Quiet.{SameButMarks}
 use Rattle.lmn_sleep.proofs.Marks.{ReadAlike, read_alike, alike_back, succeeds_alike}
 use Rattle.lmn_commit.proofs.Rousing.{no_marks, marks_on, mark_one, marked_away, marked_there}
 use Rattle.lmn_commit.proofs.Woken.{valid_but_marks, marks_unmarked}
-use Rattle.lmn_strategy.proofs.Numbers.{get_drop, take_farther}
 use Rattle.lmn_strategy.specs.Choosing.{CanTurn, CodeSucceeds, NoneOf, NoneIn, IsFirstRule, IsFirstIn, FallAsleep, Lulls, Lulled, asked}
 use Rattle.lmn_strategy.specs.Quieting.{SleepsRightly}
 
@@ -123,11 +122,6 @@ pub lulled_one : (b : Bool) (h k : Heap) (m : ℕ) → IsMem h m → Lulled b h 
 lulled_one true h k m i e = subst (λ z. FallAsleep h z (m ∷ [])) (sym e) (falls_one h m i)
 lulled_one false h k m i e = e
 
--- one that sleeps sleeps on
-pub sleeps_on : (b : Bool) (h : Heap) (m : ℕ) → mem_mark_of h m ≡ 1 → Lulls b h h (m ∷ [])
-sleeps_on true h m e = record { alike = no_marks h; asleep = λ x j. elim j [ inl q ↦ subst (λ z. mem_mark_of h z ≡ 1) q e | inr v ↦ absurd v ]; others = λ x o. refl }
-sleeps_on false h m e = refl
-
 can_turn_alike : (h k : Heap) (n : ℕ) → SameButMarks h k → Sound k → CanTurn h n → CanTurn k n
 can_turn_alike h k n e sound can =
     let same = read_alike h k e in
@@ -151,10 +145,6 @@ falls_rightly h k codes m w none s = record {
 pub lulled_rightly : (b : Bool) (h k : Heap) (codes : List Code) (m : ℕ) → IsMem h m → Lulled b h k m → NoneOf h codes m (rules_in h m) → SleepsRightly h codes → SleepsRightly k codes
 lulled_rightly true h k codes m i e none s = falls_rightly h k codes m (lulled_one true h k m i e) none s
 lulled_rightly false h k codes m i e none s = subst (λ z. SleepsRightly z codes) (sym e) s
-
--- a membrane whose mark isn't 0 sleeps
-pub is_asleep : (h : Heap) (codes : List Code) (m : ℕ) → SleepsRightly h codes → 0 < mem_mark_of h m → mem_mark_of h m ≡ 1
-is_asleep h codes m s l = let low = s.low m in omega (arith, l, low)
 
 -- ---- both parts of what is asked
 
@@ -200,10 +190,3 @@ first_then id place n h k l codes b f i (Some c) none lulls rest =
       },
       lulls_on b h k l (drop i (flat f)) rest.0.earlier lulls rest.1,
     )
-
--- the first membrane of which a rule succeeds, and those before it that fell asleep
-pub first_found : (h k : Heap) (codes : List Code) (b : Bool) (xs : List ℕ) (i a n m place j : ℕ) → a < n → slice_get xs (i + a) ≡ Some m → NoneIn h codes (take a (drop i xs)) → IsFirstRule h codes m place j → Lulls b h k (take a (drop i xs)) →
-    (q : IsFirstIn h codes (take n (drop i xs)) m place j) × Lulls b h k q.earlier
-first_found h k codes b xs i a n m place j l e none first lulls =
-    let r = take_farther (drop i xs) a n m l (get_drop xs i a ∙ e) in
-    (record { earlier = take a (drop i xs); later = r.0; order = r.1; none = none; rule = first }, lulls)

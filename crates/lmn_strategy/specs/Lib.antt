@@ -3,3 +3,4 @@ pub mod Counting
 pub mod Turns
 pub mod Quieting
 pub mod Examples
+pub mod Between

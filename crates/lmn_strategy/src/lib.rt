@@ -1,15 +1,12 @@
-//! The strategy on a heap: the walk over the membranes of a store in preorder, the rule that is
-//! chosen, and a turn.
+//! The strategy on a heap: the rule that is chosen, and a turn.
 #![tactic(auto)]
 
 mod examples;
-mod preorder;
 mod ready;
 mod strategy;
 mod turning;
 
 pub use examples::{asleep_by_mark, marks_are_low, nothing_is_turned, sleepers_are_passed};
-pub use preorder::{membrane_at, membranes, next_membrane};
 pub use ready::{bodies_are_ready, commits_sleep_rightly, tables_are_quiet, tables_are_runnable};
-pub use strategy::{Choice, search};
+pub use strategy::{Choice, membranes, search};
 pub use turning::{Turn, take_turn};

@@ -1,12 +1,13 @@
 //! The search of the strategy: the first membrane that is asked and has a rule that succeeds, and its first such rule.
-ghost use Rattle.std.specs.Prelude.{◌≡◌, ◌<◌, ◌+◌, [], ◌∷◌, IsTrue, IsFalse, IfSome, MatchOption, length, take, drop};
+ghost use Rattle.std.specs.Prelude.{◌≡◌, ◌<◌, ◌≤◌, ◌+◌, [], ◌∷◌, IsTrue, IsFalse, IfSome, MatchOption, length};
 ghost use Rattle.lmn_heap.specs.Heap.{IsMem, mem_mark_of, rules_in};
-ghost use Rattle.lmn_heap.specs.Sound.{Forest, IsTree, flat};
+ghost use Rattle.lmn_store.specs.Awake.{IsNextAwake, NoneAwake};
+ghost use Rattle.lmn_heap.specs.Sound.{Forest, IsTree, Valid, flat};
 ghost use Rattle.lmn_strategy.specs.Choosing.{AllInOrder, CanTurn, CodeSucceeds, NoneOf, NoneIn, IsFirstRule, IsFirstIn, HasFound, Lulled, Lulls, asked};
+ghost use Rattle.lmn_strategy.specs.Between.{between};
 ghost use Rattle.lmn_strategy.specs.Quieting.{SleepsRightly};
 ghost use Rattle.lmn_strategy.specs.Counting.{CountsAmong, CountsAsked, CountsUpTo, awake_of};
 
-use crate::preorder::{membrane_at, next_membrane};
 use lmn_codes::Codes;
 use lmn_machine::{Machine, Steps};
 use lmn_store::LinkStore;
@@ -76,15 +77,6 @@ fn first_rule<S: LinkStore, L: Ledger>(
     None
 }
 
-/// Whether a membrane sleeps.
-fn is_asleep<S: LinkStore>(store: &S, membrane: S::Mem) -> bool
-    requires { IsMem (S.heap store.now) (S.mem_id membrane) }
-    ensures asleep { IsTrue result → 0 < mem_mark_of (S.heap store.now) (S.mem_id membrane) }
-    ensures awake { IsFalse result → mem_mark_of (S.heap store.now) (S.mem_id membrane) ≡ 0 }
-{
-    store.mem_mark(membrane) > 0
-}
-
 /// A membrane falls asleep if it may.
 fn lull<S: LinkStore>(machine: &mut Machine<S>, membrane: S::Mem, sleep: bool)
     requires { IsMem (S.heap machine.old.store) (S.mem_id membrane) }
@@ -96,8 +88,8 @@ fn lull<S: LinkStore>(machine: &mut Machine<S>, membrane: S::Mem, sleep: bool)
     }
 }
 
-/// The first rule of a membrane whose code succeeds, where it is awake. Where none does it falls asleep, if it may. The
-/// registers then hold the first success of the code.
+/// The first rule of a membrane that is awake whose code succeeds. Where none does it falls asleep, if it may. The registers
+/// then hold the first success of the code.
 fn ask<S: LinkStore, L: Ledger>(
     machine: &mut Machine<S>,
     codes: &Codes,
@@ -109,6 +101,7 @@ fn ask<S: LinkStore, L: Ledger>(
     requires sleeps { SleepsRightly (S.heap machine.old.store) codes.now }
     requires order { AllInOrder codes.now }
     requires membrane { IsMem (S.heap machine.old.store) (S.mem_id membrane) }
+    requires awake { mem_mark_of (S.heap machine.old.store) (S.mem_id membrane) ≡ 0 }
     ensures turn { CanTurn (S.heap machine.new.store) (length codes.now) }
     ensures sleeps { SleepsRightly (S.heap machine.new.store) codes.now }
     ensures lulls { MatchOption result
@@ -121,9 +114,6 @@ fn ask<S: LinkStore, L: Ledger>(
     ensures found { IfSome result (λ c. HasFound S.atom_id S.mem_id (S.heap machine.new.store) codes.now (S.mem_id c.membrane) c.rule machine.new.set) }
     ensures steps { CountsAmong (S.heap machine.old.store) codes.now (awake_of (S.heap machine.old.store) (S.mem_id membrane ∷ [])) steps.old steps.new }
 {
-    if is_asleep(machine.store(), membrane) {
-        return None;
-    }
     match first_rule(machine, codes, membrane, steps) {
         Some(choice) => Some(choice),
         None => {
@@ -133,40 +123,72 @@ fn ask<S: LinkStore, L: Ledger>(
     }
 }
 
-/// Asks so many membranes in preorder, from one on, which has the number `from`. Those that are asked in vain fall asleep, if
-/// they may.
+/// A membrane that is awake, with its number in preorder.
+#[derive(Clone, Copy)]
+struct Awake<M> {
+    number: u64,
+    membrane: M,
+}
+
+/// The first membrane that is awake of those with a number of at least `at` and less than `until` in preorder.
+fn next_awake<S: LinkStore>(machine: &mut Machine<S>, at: u64, until: u64) -> Option<Awake<S::Mem>>
+    requires { Valid (S.heap machine.old.store) }
+    ensures same { S.heap machine.new.store ≡ S.heap machine.old.store }
+    ensures next { (f : Forest) → IsTree (S.heap machine.old.store) f → MatchOption result
+        (NoneAwake (S.heap machine.old.store) (flat f) at until)
+        (λ a. IsNextAwake (S.heap machine.old.store) (flat f) at a.number (S.mem_id a.membrane)) }
+    ensures within { IfSome result (λ a. a.number < until) }
+{
+    match machine.store_mut().awake_from(at) {
+        Some((number, membrane)) => {
+            if number < until {
+                Some(Awake { number, membrane })
+            } else {
+                None
+            }
+        }
+        None => None,
+    }
+}
+
+/// Asks the membranes that are awake, of those with a number of at least `from` and less than `until` in preorder, one after
+/// the other. Those that are asked in vain fall asleep, if they may.
 fn first_of_some<S: LinkStore, L: Ledger>(
     machine: &mut Machine<S>,
     codes: &Codes,
     from: u64,
-    count: u64,
+    until: u64,
     sleep: bool,
     steps: &mut Steps<L>,
 ) -> Option<Choice<S::Mem>>
     requires turn { CanTurn (S.heap machine.old.store) (length codes.now) }
     requires sleeps { SleepsRightly (S.heap machine.old.store) codes.now }
     requires order { AllInOrder codes.now }
-    requires from { (f : Forest) → IsTree (S.heap machine.old.store) f → from < length (flat f) }
+    requires ordered { from ≤ until }
     ensures turn { CanTurn (S.heap machine.new.store) (length codes.now) }
     ensures sleeps { SleepsRightly (S.heap machine.new.store) codes.now }
     ensures first { (f : Forest) → IsTree (S.heap machine.old.store) f → MatchOption result
-        (NoneIn (S.heap machine.old.store) codes.now (take count (drop from (flat f))) × Lulls sleep (S.heap machine.old.store) (S.heap machine.new.store) (take count (drop from (flat f))))
-        (λ c. (i : IsFirstIn (S.heap machine.old.store) codes.now (take count (drop from (flat f))) (S.mem_id c.membrane) c.place c.rule) × Lulls sleep (S.heap machine.old.store) (S.heap machine.new.store) i.earlier) }
+        (NoneIn (S.heap machine.old.store) codes.now (between from until (flat f)) × Lulls sleep (S.heap machine.old.store) (S.heap machine.new.store) (between from until (flat f)))
+        (λ c. (i : IsFirstIn (S.heap machine.old.store) codes.now (between from until (flat f)) (S.mem_id c.membrane) c.place c.rule) × Lulls sleep (S.heap machine.old.store) (S.heap machine.new.store) i.earlier) }
     ensures found { IfSome result (λ c. HasFound S.atom_id S.mem_id (S.heap machine.new.store) codes.now (S.mem_id c.membrane) c.rule machine.new.set) }
-    ensures steps { (f : Forest) → IsTree (S.heap machine.old.store) f → CountsAmong (S.heap machine.old.store) codes.now (awake_of (S.heap machine.old.store) (take count (drop from (flat f)))) steps.old steps.new }
+    ensures steps { (f : Forest) → IsTree (S.heap machine.old.store) f → CountsAmong (S.heap machine.old.store) codes.now (awake_of (S.heap machine.old.store) (between from until (flat f))) steps.old steps.new }
 {
-    let start = membrane_at(machine.store(), from);
-    let mut at = Some(start);
-    for asked in 0..count {
-        match at {
-            Some(membrane) => match ask(machine, codes, membrane, sleep, steps) {
-                Some(choice) => return Some(choice),
-                None => at = next_membrane(machine.store(), membrane),
-            },
-            None => return None,
+    let mut at = from;
+    while let Some(next) = next_awake(machine, at, until) {
+        match ask(machine, codes, next.membrane, sleep, steps) {
+            Some(choice) => return Some(choice),
+            None => at = next.number + 1,
         }
     }
     None
+}
+
+/// How many membranes there are, the root among them.
+pub fn membranes<S: LinkStore>(store: &S) -> u64
+    requires valid { Valid (S.heap store.now) }
+    ensures { (f : Forest) → IsTree (S.heap store.now) f → result ≡ length (flat f) }
+{
+    store.membranes()
 }
 
 /// What the strategy chooses, where the membrane with the number `from` in preorder is asked first and there are `many`
@@ -194,7 +216,7 @@ pub fn search<S: LinkStore, L: Ledger>(
     ensures found { IfSome result (λ c. HasFound S.atom_id S.mem_id (S.heap machine.new.store) codes.now (S.mem_id c.membrane) c.rule machine.new.set) }
     ensures steps { CountsAsked (S.heap machine.old.store) codes.now from steps.old steps.new }
 {
-    match first_of_some(machine, codes, from, many - from, sleep, steps) {
+    match first_of_some(machine, codes, from, many, sleep, steps) {
         Some(choice) => Some(choice),
         None => first_of_some(machine, codes, 0, from, sleep, steps),
     }

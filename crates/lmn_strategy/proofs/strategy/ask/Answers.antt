@@ -1,34 +1,10 @@
-use Rattle.std.proofs.Common.{◌≡◌, ◌<◌, length, sym, subst}
-use Rattle.lmn_heap.specs.Heap.{IsMem, mem_mark_of}
+use Rattle.std.proofs.Common.{length, sym, subst}
+use Rattle.lmn_heap.specs.Heap.{IsMem}
 use Rattle.lmn_strategy.specs.Choosing.{CanTurn, HasFound, IsFirstRule, Lulled}
 use Rattle.lmn_strategy.specs.Quieting.{SleepsRightly}
-use Rattle.lmn_strategy.proofs.Awake.{counts_asleep, counts_in_vain, counts_one}
-use Rattle.lmn_strategy.proofs.Lulling.{is_asleep, lulled_one, lulled_rightly, lulled_turn, sleeps_on}
+use Rattle.lmn_strategy.proofs.Awake.{counts_in_vain, counts_one}
+use Rattle.lmn_strategy.proofs.Lulling.{lulled_one, lulled_rightly, lulled_turn}
 use Rattle.lmn_strategy.proofs.strategy.ask.Goals as goal
-
-pub is_asleep-requires : goal.is_asleep-requires
-is_asleep-requires g c = subst (λ s. IsMem (g.S.LinkStore.heap s) (g.S.LinkStore.mem_id c.args.membrane)) (sym c.store.ensures) c.requires.membrane
-
-pub returns-then-is_asleep-clause-lulls : goal.returns-then-is_asleep-clause-lulls
-returns-then-is_asleep-clause-lulls g c =
-    let h = g.S.LinkStore.heap c.args.machine.now.store in
-    let m = g.S.LinkStore.mem_id c.args.membrane in
-    let some = subst (λ s. 0 < mem_mark_of (g.S.LinkStore.heap s) m) c.store.ensures (c.is_asleep.ensures.asleep c.if-is_asleep.true) in
-    sleeps_on c.args.sleep h m (is_asleep h c.args.codes.now m c.requires.sleeps some)
-
-pub returns-then-is_asleep-clause-first : goal.returns-then-is_asleep-clause-first
-returns-then-is_asleep-clause-first g c =
-    let h = g.S.LinkStore.heap c.args.machine.now.store in
-    let m = g.S.LinkStore.mem_id c.args.membrane in
-    let some = subst (λ s. 0 < mem_mark_of (g.S.LinkStore.heap s) m) c.store.ensures (c.is_asleep.ensures.asleep c.if-is_asleep.true) in
-    c.requires.sleeps.none m (is_asleep h c.args.codes.now m c.requires.sleeps some)
-
-pub returns-then-is_asleep-clause-steps : goal.returns-then-is_asleep-clause-steps
-returns-then-is_asleep-clause-steps g c =
-    let h = g.S.LinkStore.heap c.args.machine.now.store in
-    let m = g.S.LinkStore.mem_id c.args.membrane in
-    let some = subst (λ s. 0 < mem_mark_of (g.S.LinkStore.heap s) m) c.store.ensures (c.is_asleep.ensures.asleep c.if-is_asleep.true) in
-    counts_asleep h c.args.codes.now m c.args.steps.now (is_asleep h c.args.codes.now m c.requires.sleeps some)
 
 pub returns-in-Some-clause-sleeps : goal.returns-in-Some-clause-sleeps
 returns-in-Some-clause-sleeps g c = subst (λ h. SleepsRightly h c.args.codes.now) (sym c.in-Some.ensures.same) c.requires.sleeps
@@ -45,8 +21,7 @@ returns-in-Some-clause-steps g c =
     let h = g.S.LinkStore.heap c.args.machine.now.store in
     let m = g.S.LinkStore.mem_id c.args.membrane in
     let choice = c.in-Some.choice in
-    let awake = subst (λ s. mem_mark_of (g.S.LinkStore.heap s) m ≡ 0) c.store.ensures (c.is_asleep.ensures.awake c.if-is_asleep.false) in
-    counts_one h c.args.codes.now m choice.place choice.rule c.args.steps.now c.first_rule.new.steps awake
+    counts_one h c.args.codes.now m choice.place choice.rule c.args.steps.now c.first_rule.new.steps c.requires.awake
     (subst (λ x. IsFirstRule h c.args.codes.now (g.S.LinkStore.mem_id x) choice.place choice.rule) c.in-Some.ensures.membrane c.in-Some.ensures.first) c.in-Some.ensures.steps
 
 pub lull-requires : goal.lull-requires
@@ -75,5 +50,4 @@ pub returns-in-None-clause-steps : goal.returns-in-None-clause-steps
 returns-in-None-clause-steps g c =
     let h = g.S.LinkStore.heap c.args.machine.now.store in
     let m = g.S.LinkStore.mem_id c.args.membrane in
-    let awake = subst (λ s. mem_mark_of (g.S.LinkStore.heap s) m ≡ 0) c.store.ensures (c.is_asleep.ensures.awake c.if-is_asleep.false) in
-    counts_in_vain h c.args.codes.now m c.args.steps.now c.first_rule.new.steps awake c.in-None.ensures.first c.in-None.ensures.steps
+    counts_in_vain h c.args.codes.now m c.args.steps.now c.first_rule.new.steps c.requires.awake c.in-None.ensures.first c.in-None.ensures.steps
