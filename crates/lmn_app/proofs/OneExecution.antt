@@ -21,11 +21,11 @@ use Rattle.lmn_loading.specs.Laws.{LoadedRules, LoadingSettles}
 use Rattle.lmn_schedule.specs.Held.{AreNames}
 use Rattle.lmn_schedule.proofs.Loaded.{can_run, holds_solid}
 use Rattle.lmn_turn.specs.Commits.{PlainsAreTables}
-use Rattle.lmn_verified.specs.CompiledListings.{CompiledAreRead}
-use Rattle.lmn_verify.specs.Listings.{AreListed}
+use Rattle.lmn_verified.specs.CompiledListings.{CompiledAreRead, CompiledIsNotRefused}
+use Rattle.lmn_verify.specs.Listings.{AreListed, IsRefusedListing}
 use Rattle.lmn_app.specs.declared.ending.Ending.{Ending}
 use Rattle.lmn_app.specs.declared.task.Task.TheVariants as task
-use Rattle.lmn_app.specs.ExecLaws.{CompiledRunsAsRun, EndsAs, run_by_default}
+use Rattle.lmn_app.specs.ExecLaws.{CompiledIsNotWrong, CompiledRunsAsRun, EndsAs, run_by_default}
 use Rattle.lmn_app.specs.Executions.{coded_input, executed_size}
 use Rattle.lmn_app.specs.Outcomes.{Output}
 use Rattle.lmn_app.specs.Runnings.{ended_as}
@@ -97,3 +97,14 @@ compiled_runs_as_run g alloc program listing written end ending ends is x =
     as_ended end (λ e. Output (task.Run run_by_default) e (Some (Some program)) (Some []) (Some written)) ending ends
     (driven_output alloc laws run_by_default program of.names of.plain of.plans a s.0 s.1 (x.few s.0 s.1) of.later x.commits x.last end (Some []) (Some written)
     (subst (λ S. Drove (given_by_codes input S) x.commits x.last end (Some []) (Some written)) s.2 drove))
+
+-- and that listing isn't refused
+pub compiled_is_not_wrong : Grounds → CompiledIsNotRefused → CompiledIsNotWrong
+compiled_is_not_wrong g refused program listing refusal is x =
+    let a = x.accepted in
+    let short = a.short in
+    let can = g.listed program x.names x.plain x.plans (omega (arith, short)) a.named a.accepted in
+    let same : listing ≡ rule_listings x.names x.plain.rules x.plans =
+    one_listing program listing (rule_listings x.names x.plain.rules x.plans) is (record { names = x.names; plain = x.plain; plans = x.plans; accepted = a; is = refl }) in
+    refused x.names x.plain x.plans (3 * length listing) x.later refusal.code refusal.pos.line can x.once.once x.adds
+    (subst (λ text. IsRefusedListing (length x.plain.rules) x.later text refusal.code refusal.pos.line) same x.wrong)

@@ -1,12 +1,13 @@
 -- What `exec` does by the listing that `compile` writes is what `run` does.
 use Rattle.std.specs.Prelude.{◌≡◌, ℕ, List, [], Some, false}
 use Rattle.std.specs.declared.alloc.Global.{Global}
+use Rattle.lmn_base.specs.declared.refusal.Refusal.{Refusal}
 use Rattle.lmn_order.specs.declared.order.Order.TheVariants as order
 use Rattle.lmn_app.specs.declared.ending.Ending.{Ending}
 use Rattle.lmn_app.specs.declared.ending.Ending.TheVariants.{Done, Budget, Full, NoMemory}
 use Rattle.lmn_app.specs.declared.task.RunSettings.{RunSettings}
 use Rattle.lmn_app.specs.declared.task.Task.TheVariants as task
-use Rattle.lmn_app.specs.Executions.{IsExecuted, executed_budget, executed_size}
+use Rattle.lmn_app.specs.Executions.{IsExecuted, IsWrongListing, executed_budget, executed_size}
 use Rattle.lmn_app.specs.Outcomes.{Output}
 use Rattle.lmn_app.specs.Writing.{IsListing}
 use Rattle.lmn_drive.specs.declared.driving.RunEnd.{RunEnd}
@@ -29,3 +30,7 @@ EndsAs run.Failed ending = ⊥
 abbrev pub CompiledRunsAsRun : Type 0
 CompiledRunsAsRun = (alloc : Global) (program listing written : List ℕ) (end : RunEnd) (ending : Ending) → EndsAs end ending → IsListing program listing → IsExecuted program listing end written →
     Output (task.Run run_by_default) ending (Some (Some program)) (Some []) (Some written)
+
+-- And that listing isn't refused.
+abbrev pub CompiledIsNotWrong : Type 0
+CompiledIsNotWrong = (program listing : List ℕ) (refusal : Refusal) → IsListing program listing → IsWrongListing program listing refusal → ⊥

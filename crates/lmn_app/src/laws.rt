@@ -7,7 +7,7 @@ ghost use Rattle.lmn_app.specs.CheckExamples.{NothingIsWrong, SmallTextIsChecked
 ghost use Rattle.lmn_app.specs.CheckLaws.{CheckedNotWrong, OneCount, OneWrongTrace, RunsAreChecked};
 ghost use Rattle.lmn_app.specs.DebugExamples.{SmallTextIsDebugged, SmallTextIsNotDebuggedSo};
 ghost use Rattle.lmn_app.specs.DebugLaws.{OneWrongScript, SessionNotRefused, SessionOrRefused};
-ghost use Rattle.lmn_app.specs.ExecLaws.{CompiledRunsAsRun};
+ghost use Rattle.lmn_app.specs.ExecLaws.{CompiledIsNotWrong, CompiledRunsAsRun};
 ghost use Rattle.lmn_app.specs.Demos.{SomeDemo};
 ghost use Rattle.lmn_app.specs.DemoLaws.{DemoIsFoldedRun};
 ghost use Rattle.lmn_app.specs.ListingLaws.{OneListing};
@@ -148,8 +148,10 @@ pub fn small_text_is_debugged()
 }
 
 /// What is written of a run by the listing of a program is what `run` writes of the program with no option.
+/// That listing isn't refused.
 pub fn compiled_runs_as_run()
-    ensures { CompiledRunsAsRun }
+    ensures run { CompiledRunsAsRun }
+    ensures refused { CompiledIsNotWrong }
 {
     accepted_texts();
     plains_are_printable();

@@ -47,6 +47,7 @@ returns-in-Err-Refused g c = λ program a.
       plans = read.plans;
       accepted = a;
       later = c.read.new.names;
+      adds = c.in-Err-Refused.ensures.names;
       once = c.stand_once-in-Err-Refused.ensures;
       wrong = subst (λ n. IsRefusedListing n c.read.new.names c.args.listing.now r.code r.pos.line) many wrong.0;
       first = wrong.1;

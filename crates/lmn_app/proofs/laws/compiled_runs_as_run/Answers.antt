@@ -1,4 +1,4 @@
-use Rattle.lmn_app.proofs.OneExecution.{Grounds, compiled_runs_as_run}
+use Rattle.lmn_app.proofs.OneExecution.{Grounds, compiled_is_not_wrong, compiled_runs_as_run}
 use Rattle.lmn_app.proofs.laws.compiled_runs_as_run.Goals as goal
 
 pub returns : goal.returns
@@ -16,4 +16,4 @@ returns c =
       read = listed.read;
       listed = c.accepted_can_be_listed.ensures;
     } in
-    compiled_runs_as_run grounds
+    record { run = compiled_runs_as_run grounds; refused = compiled_is_not_wrong grounds listed.refused }
