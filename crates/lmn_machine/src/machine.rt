@@ -56,6 +56,13 @@ impl<S: LinkStore> Machine<S> {
         &mut self.store
     }
 
+    /// The store, with its solid and its marks as they are. It takes no memory.
+    pub fn into_store(self) -> S
+        ensures { result ≡ self.store }
+    {
+        self.store
+    }
+
     /// The registers that are set.
     pub fn registers(&self) -> &SetRegisters<S::Atom, S::Mem>
         ensures { result.now ≡ self.now.set }
