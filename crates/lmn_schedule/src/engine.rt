@@ -197,6 +197,13 @@ impl<'p, S: LinkStore, F: Fn(u64, u64) -> u64> Engine<'p, S, F> {
         self.machine.store().items()
     }
 
+    /// The store, with its solid and its marks as they are. It takes no memory.
+    pub fn into_store(self) -> S
+        ensures { result ≡ self.machine.store }
+    {
+        self.machine.into_store()
+    }
+
     /// The store, to be changed. The engine then holds it as it was left.
     pub fn store(&mut self) -> &mut S
         ensures* writes_back { sem 𝓛 (engine_lends_store (record { mir = named 0; lft = [] }) S.row F.row S.Atom.row S.Mem.row self.entry result) }
