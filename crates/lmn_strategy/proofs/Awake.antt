@@ -1,6 +1,6 @@
 -- How far attempts are counted while the membranes that are awake are asked.
 use Rattle.std.proofs.Common.{ℕ, zero, suc, ◌≡◌, ◌+◌, ◌==◌, Bool, true, false, List, [], ◌∷◌, ◌++◌, length, inl, inr, refl, sym, ap, subst, ◌∙◌, arith}
-use Rattle.std.specs.Prelude.{if◌then◌else◌, slice_get, take, drop, Some}
+use Rattle.std.specs.Prelude.{if◌then◌else◌, take, drop}
 use Rattle.std.proofs.lemmas.Bool.{eq-eqb}
 use Rattle.std.proofs.lemmas.List.{take-append-drop}
 use Rattle.lmn_base.specs.Lists.{In}
@@ -8,14 +8,14 @@ use Rattle.lmn_base.proofs.Numbers.{not_equal}
 use Rattle.lmn_heap.specs.Heap.{Heap, mem_mark_of, rules_in}
 use Rattle.lmn_heap.specs.Lists.{Distinct}
 use Rattle.lmn_heap.proofs.Common.{in_at}
-use Rattle.lmn_heap.proofs.ListLemmas.{apart, distinct_left, distinct_right}
+use Rattle.lmn_heap.proofs.ListLemmas.{apart}
 use Rattle.lmn_heap.proofs.Trees.{in_here}
 use Rattle.lmn_instr.specs.declared.instr.Code.{Code}
 use Rattle.lmn_sleep.proofs.Marks.{ReadAlike, read_alike, alike_back}
 use Rattle.lmn_strategy.specs.Choosing.{IsFirstIn, IsFirstRule, Lulls, NoneIn, NoneOf}
 use Rattle.lmn_strategy.specs.Counting.{AsksRules, CountsAmong, CountsUpTo, asks_all, asks_none, asks_until, awake_of}
 use Rattle.lmn_strategy.specs.Quieting.{SleepsRightly}
-use Rattle.lmn_strategy.proofs.Counts.{asks_before, asks_behind, awake_both, counts_both, counts_none}
+use Rattle.lmn_strategy.proofs.Counts.{asks_before, asks_behind, awake_both, counts_both}
 use Rattle.lmn_strategy.proofs.Lulling.{first_rule_alike, lulls_alike, none_here_back, none_of_back}
 
 -- ---- those that are awake

@@ -1,13 +1,11 @@
 -- Membranes that fall asleep.
-use Rattle.std.proofs.Common.{ℕ, ◌≡◌, ◌<◌, ◌+◌, Bool, true, false, List, [], ◌∷◌, ◌++◌, Option, Some, None, IsSome, inl, inr, refl, sym, ap, subst, ◌∙◌, arith}
+use Rattle.std.proofs.Common.{ℕ, ◌≡◌, Bool, true, false, List, [], ◌∷◌, ◌++◌, Option, Some, None, inl, inr, refl, sym, ap, subst, ◌∙◌, arith}
 use Rattle.std.specs.Prelude.{slice_get, take, drop, MatchOption}
-use Rattle.std.specs.Option.{option_map}
-use Rattle.std.proofs.lemmas.Bool.{cases_eq, eq-eqb}
+use Rattle.std.proofs.lemmas.Bool.{cases_eq}
 use Rattle.std.proofs.lemmas.List.{append_assoc, take-append-drop}
 use Rattle.lmn_base.specs.Lists.{In}
 use Rattle.lmn_base.proofs.Lists.{in_either}
-use Rattle.lmn_base.proofs.Numbers.{not_equal}
-use Rattle.lmn_heap.specs.Heap.{Heap, HeapMem, IsMem, mem_mark_by, mem_with_mark, rules_in, mem_mark_of, mem_marked}
+use Rattle.lmn_heap.specs.Heap.{Heap, IsMem, rules_in, mem_mark_of, mem_marked}
 use Rattle.lmn_heap.specs.Sound.{Forest, flat, Forms, IsTree, Sound}
 use Rattle.lmn_heap.proofs.Calls.{keeps_sound}
 use Rattle.lmn_heap.proofs.Common.{decide_in}

@@ -1,5 +1,5 @@
 -- Parts of lists by numbers.
-use Rattle.std.proofs.Common.{ℕ, zero, suc, ◌≡◌, ◌<◌, ◌≤◌, ◌+◌, List, [], ◌∷◌, ◌++◌, length, Some, None, sym, ap, ◌∙◌, refl, arith}
+use Rattle.std.proofs.Common.{ℕ, zero, suc, ◌≡◌, ◌≤◌, ◌+◌, List, [], ◌∷◌, ◌++◌, length, Some, ap, ◌∙◌, refl, arith}
 use Rattle.std.specs.Prelude.{slice_get, take, drop}
 use Rattle.lmn_base.proofs.Numbers.{take_none}
 

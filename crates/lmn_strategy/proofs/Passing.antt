@@ -1,11 +1,11 @@
 -- Membranes that are asked in vain, or sleep, one after the other.
-use Rattle.std.proofs.Common.{ℕ, zero, suc, ◌≡◌, ◌<◌, ◌≤◌, ◌+◌, ◌-◌, Bool, true, false, List, [], ◌∷◌, ◌++◌, Some, None, inl, inr, refl, sym, ap, subst, ◌∙◌, arith}
-use Rattle.std.specs.Prelude.{slice_get, take, drop, if◌then◌else◌}
+use Rattle.std.proofs.Common.{ℕ, zero, suc, ◌≡◌, ◌<◌, ◌≤◌, ◌+◌, ◌-◌, Bool, true, false, List, [], ◌∷◌, ◌++◌, Some, inl, inr, refl, sym, ap, subst, ◌∙◌, arith}
+use Rattle.std.specs.Prelude.{slice_get, take, drop}
 use Rattle.std.proofs.Math.Seq.{take-add}
 use Rattle.std.proofs.lemmas.List.{append_assoc, drop-drop, take-append-drop}
 use Rattle.lmn_base.specs.Lists.{In}
 use Rattle.lmn_base.proofs.Lists.{in_either}
-use Rattle.lmn_store.specs.Awake.{IsNextAwake, NoneAwake}
+use Rattle.lmn_store.specs.Awake.{NoneAwake}
 use Rattle.lmn_heap.specs.Heap.{Heap, mem_mark_of, rules_in}
 use Rattle.lmn_heap.specs.Lists.{Distinct}
 use Rattle.lmn_heap.proofs.ListLemmas.{in_left, in_right}
@@ -118,9 +118,9 @@ module _ (b : Bool) (codes : List Code) where
     pub passed_sleepers : (k k' : Heap) (at n a c : ℕ) → from ≤ at → at ≤ n → k' ≡ k → SleepsRightly k codes → NoneAwake k xs at n →
         Passed b h k codes (between from at xs) a c → Passed b h k' codes (between from n xs) a c
     passed_sleepers k k' at n a c low high e s none p = subst (λ z. Passed b h z codes (between from n xs) a c) (sym e) (
-      subst (λ ys. Passed b h k codes ys a c) (sym (between_on xs from at n low high))
-      (passed_on h k k (between from at xs) (between at n xs) a c c (between_apart xs from at n once low) p
-      (passed_asleep k (between at n xs) c s (all_asleep k xs at n s none))))
+        subst (λ ys. Passed b h k codes ys a c) (sym (between_on xs from at n low high))
+        (passed_on h k k (between from at xs) (between at n xs) a c c (between_apart xs from at n once low) p
+        (passed_asleep k (between at n xs) c s (all_asleep k xs at n s none))))
 
     -- one that is asked in vain is passed
     pub passed_vain : (k l : Heap) (n m a c d : ℕ) → from ≤ n → slice_get xs n ≡ Some m → Passed b h k codes (between from n xs) a c →

@@ -1,8 +1,8 @@
 //! The search of the strategy: the first membrane that is asked and has a rule that succeeds, and its first such rule.
 ghost use Rattle.std.specs.Prelude.{◌≡◌, ◌<◌, ◌≤◌, ◌+◌, [], ◌∷◌, IsTrue, IsFalse, IfSome, MatchOption, length};
 ghost use Rattle.lmn_heap.specs.Heap.{IsMem, mem_mark_of, rules_in};
-ghost use Rattle.lmn_store.specs.Awake.{IsNextAwake, NoneAwake};
 ghost use Rattle.lmn_heap.specs.Sound.{Forest, IsTree, Valid, flat};
+ghost use Rattle.lmn_store.specs.Awake.{IsNextAwake, NoneAwake};
 ghost use Rattle.lmn_strategy.specs.Choosing.{AllInOrder, CanTurn, CodeSucceeds, NoneOf, NoneIn, IsFirstRule, IsFirstIn, HasFound, Lulled, Lulls, asked};
 ghost use Rattle.lmn_strategy.specs.Between.{between};
 ghost use Rattle.lmn_strategy.specs.Quieting.{SleepsRightly};

@@ -1,4 +1,4 @@
-use Rattle.std.proofs.Common.{◌≡◌, ◌+◌, [], ◌∷◌, Some, length, sym, subst, arith}
+use Rattle.std.proofs.Common.{◌≡◌, [], ◌∷◌, Some, length, sym, subst, arith}
 use Rattle.std.specs.Prelude.{slice_get}
 use Rattle.lmn_heap.specs.Heap.{IsMem, mem_mark_of}
 use Rattle.lmn_heap.specs.Sound.{flat}
@@ -51,7 +51,7 @@ returns-in-Some-ask-clause-first g c = λ f t.
     let now = c.loop-next.invariant in
     let next = c.in-Some.ensures.next f (tree_alike h k now.alike f t) in
     let passed = passed_sleepers c.args.sleep codes h (flat f) t.once c.args.from k i c.loop-next.at c.in-Some.next.number c.args.steps.now c.loop-next.steps
-        now.low next.least c.in-Some.ensures.same now.sleeps next.none (now.passed f t) in
+    now.low next.least c.in-Some.ensures.same now.sleeps next.none (now.passed f t) in
     passed_found c.args.sleep codes h (flat f) t.once c.args.from i (g.S.LinkStore.heap c.ask.new.machine.store) c.in-Some.next.number (g.S.LinkStore.mem_id choice.membrane) choice.place choice.rule c.args.until c.args.steps.now c.loop-next.steps
     (let l = now.low in let s = next.least in omega (arith, l, s)) c.in-Some.ensures.within
     (subst (λ x. slice_get (flat f) c.in-Some.next.number ≡ Some (g.S.LinkStore.mem_id x)) (sym c.in-Some-ask.ensures.membrane) next.is)
@@ -68,7 +68,7 @@ returns-in-Some-ask-clause-steps g c = λ f t.
     let now = c.loop-next.invariant in
     let next = c.in-Some.ensures.next f (tree_alike h k now.alike f t) in
     let passed = passed_sleepers c.args.sleep codes h (flat f) t.once c.args.from k i c.loop-next.at c.in-Some.next.number c.args.steps.now c.loop-next.steps
-        now.low next.least c.in-Some.ensures.same now.sleeps next.none (now.passed f t) in
+    now.low next.least c.in-Some.ensures.same now.sleeps next.none (now.passed f t) in
     passed_counts c.args.sleep codes h (flat f) t.once c.args.from i c.in-Some.next.number m choice.place choice.rule c.args.until c.args.steps.now c.loop-next.steps c.ask.new.steps
     (let l = now.low in let s = next.least in omega (arith, l, s)) c.in-Some.ensures.within next.is c.requires.sleeps passed
     (subst (λ x. IsFirstRule i codes (g.S.LinkStore.mem_id x) choice.place choice.rule) c.in-Some-ask.ensures.membrane c.in-Some-ask.ensures.first)
@@ -119,7 +119,7 @@ returns-clause-first g c = λ f t.
     let k = g.S.LinkStore.heap c.loop-next.machine.store in
     let now = c.loop-next.invariant in
     let passed = passed_sleepers c.args.sleep c.args.codes.now h (flat f) t.once c.args.from k (g.S.LinkStore.heap c.next_awake.new.machine.store) c.loop-next.at c.args.until c.args.steps.now c.loop-next.steps
-        now.low now.high c.in_default.ensures.same now.sleeps (c.in_default.ensures.next f (tree_alike h k now.alike f t)) (now.passed f t) in
+    now.low now.high c.in_default.ensures.same now.sleeps (c.in_default.ensures.next f (tree_alike h k now.alike f t)) (now.passed f t) in
     (passed.none, passed.lulls))
 
 pub returns-clause-steps : goal.returns-clause-steps

@@ -50,7 +50,7 @@ returns-in-None-clause-first g c = λ f t.
     first_then (λ x. g.S.LinkStore.mem_id x.membrane) (λ x. x.place) (λ x. x.rule) h k l c.args.codes.now c.args.sleep f c.args.from c.first_of_some-in-None.result
     (subst (NoneIn h c.args.codes.now) e one.0) lulls
     (subst (λ ms. MatchOption c.first_of_some-in-None.result (NoneIn k c.args.codes.now ms × Lulls c.args.sleep k l ms)
-            (λ x. (q : IsFirstIn k c.args.codes.now ms (g.S.LinkStore.mem_id x.membrane) x.place x.rule) × Lulls c.args.sleep k l q.earlier))
+    (λ x. (q : IsFirstIn k c.args.codes.now ms (g.S.LinkStore.mem_id x.membrane) x.place x.rule) × Lulls c.args.sleep k l q.earlier))
     (take_first (flat f) c.args.from) (c.first_of_some-in-None.ensures.first f (tree_alike h k (lulls_alike c.args.sleep h k (drop c.args.from (flat f)) lulls) f t))))
 
 pub returns-in-None-clause-steps : goal.returns-in-None-clause-steps
