@@ -199,7 +199,7 @@ impl<'p, S: LinkStore, F: Fn(u64, u64) -> u64> Engine<'p, S, F> {
 
     /// The store, with its solid and its marks as they are. It takes no memory.
     pub fn into_store(self) -> S
-        ensures { result ≡ self.machine.store }
+        ensures { result ≡ self.entry.machine.store }
     {
         self.machine.into_store()
     }
