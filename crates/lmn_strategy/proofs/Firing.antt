@@ -1,10 +1,9 @@
 -- From the match of a head to the heap after its body.
-use Rattle.std.proofs.Common.{ℕ, zero, suc, ◌≡◌, ◌<◌, ◌≤◌, ◌+◌, ◌-◌, ◌^◌, List, [], length, Option, Some, None, IsSome, refl, sym, ap, subst, ◌∙◌, inl, inr, arith}
-use Rattle.std.specs.Prelude.{slice_get, min, ◌⊎◌}
+use Rattle.std.proofs.Common.{ℕ, zero, suc, ◌≡◌, ◌<◌, ◌≤◌, ◌+◌, ◌-◌, ◌^◌, List, [], length, Option, Some, None, IsSome, Bool, refl, sym, ap, subst, ◌∙◌, inl, inr, arith}
+use Rattle.std.specs.Prelude.{slice_get, IsTrue, ◌⊎◌, ◌↔◌}
 use Rattle.std.specs.Option.{option_map}
 use Rattle.std.specs.List.{AllByRecursion}
 use Rattle.std.proofs.lemmas.Option.{slice_get_within}
-use Rattle.std.proofs.Math.Nat.{min-le_left, le-min}
 use Rattle.lmn_heap.specs.Heap.{Heap, HeapMem, IsMem, rules_by, rules_in, port_id, mem_with_spare, Unmarked}
 use Rattle.lmn_heap.specs.Sound.{Forest, Valid}
 use Rattle.lmn_instr.specs.declared.instr.Code.{Code}
@@ -125,13 +124,14 @@ can_fire atom membrane h codes run rules can m place n g first found code is =
 
 -- ---- the three ends
 
-le_or_less : (m n : ℕ) → (m ≤ n) ⊎ (n < m)
+-- one number is at most another, or above it
+pub le_or_less : (m n : ℕ) → (m ≤ n) ⊎ (n < m)
 le_or_less zero n = inl (omega arith)
 le_or_less (suc m) zero = inr (omega arith)
 le_or_less (suc m) (suc n) = elim (le_or_less m n) [ inl a ↦ inl (omega (arith, a)) | inr b ↦ inr (omega (arith, b)) ]
 
-module _ {A M : Type 0} (atom : A → ℕ) (membrane : M → ℕ) (h : Heap) (g : SetRegisters A M) (code : Code) (can : CanFire atom membrane h g code) (size cost : ℕ)
-    (left : (s : Registers) (n : ℕ) → Agrees atom membrane g s.head → HasRests atom membrane h g s → Leaves h s code.body n → cost ≡ min n (2 ^ 64 - 1)) where
+module _ {A M : Type 0} (atom : A → ℕ) (membrane : M → ℕ) (h : Heap) (g : SetRegisters A M) (code : Code) (can : CanFire atom membrane h g code) (size : ℕ) (fits : Bool)
+    (few : (s : Registers) (n : ℕ) → Agrees atom membrane g s.head → HasRests atom membrane h g s → Leaves h s code.body n → IsTrue fits ↔ (n ≤ size)) where
   -- the rests besides the registers
   abbrev lists : ℕ → List ℕ × List ℕ
   lists k = (rests_held atom membrane h can.matched.valid g can.held k).0
@@ -139,41 +139,35 @@ module _ {A M : Type 0} (atom : A → ℕ) (membrane : M → ℕ) (h : Heap) (g 
   has_lists : (s : Registers) → ((k : ℕ) → s.left_atoms k ≡ (lists k).0) → ((k : ℕ) → s.left_membranes k ≡ (lists k).1) → HasRests atom membrane h g s
   has_lists s e d k m i = rw (e k, d k) ((rests_held atom membrane h can.matched.valid g can.held k).1 m i)
 
-  few_left : (n : ℕ) → size < 2 ^ 64 - 1 → cost ≡ min n (2 ^ 64 - 1) → cost ≤ size → n ≤ size
-  few_left n small e c = elim (le_or_less n size) [
-    | inl a ↦ a
-    | inr b ↦ (let k : size + 1 ≤ min n (2 ^ 64 - 1) = le-min (omega (arith, b)) (omega (arith, small)) in absurd (omega (arith, k, e, c)))
-  ]
-
-  many_left : (n : ℕ) → cost ≡ min n (2 ^ 64 - 1) → size < cost → size < n
-  many_left n e c = let l = min-le_left n (2 ^ 64 - 1) in omega (arith, l, e, c)
+  many_left : (n : ℕ) → (n ≤ size → ⊥) → size < n
+  many_left n above = elim (le_or_less n size) [ inl a ↦ absurd (above a) | inr b ↦ b ]
 
   -- too many items would be left
-  pub fires_full : (h' : Heap) → h' ≡ h → size < cost → AnswersMatch atom membrane h g code size Full h'
+  pub fires_full : (h' : Heap) → h' ≡ h → (IsTrue fits → ⊥) → AnswersMatch atom membrane h g code size Full h'
   fires_full h' e l =
       let s = body_known atom membrane g [] lists in
       let a = known_agrees atom membrane g in
       let rests = has_lists s (λ k. refl) (λ k. refl) in
       let n = can.some s a rests in
-      record { registers = s; agrees = a; rests = rests; left = n.0; leaves = n.1; answered = (many_left n.0 (left s n.0 a rests n.1) l, e) }
+      record { registers = s; agrees = a; rests = rests; left = n.0; leaves = n.1; answered = (many_left n.0 (λ k. l ((few s n.0 a rests n.1).1 k)), e) }
 
   -- there is no memory
-  pub fires_not : (h' : Heap) → size < 2 ^ 64 - 1 → cost ≤ size → SameButSpares h h' → AnswersMatch atom membrane h g code size NoMemory h'
-  fires_not h' small l same =
+  pub fires_not : (h' : Heap) → IsTrue fits → SameButSpares h h' → AnswersMatch atom membrane h g code size NoMemory h'
+  fires_not h' l same =
       let s = body_known atom membrane g [] lists in
       let a = known_agrees atom membrane g in
       let rests = has_lists s (λ k. refl) (λ k. refl) in
       let n = can.some s a rests in
-      record { registers = s; agrees = a; rests = rests; left = n.0; leaves = n.1; answered = (few_left n.0 small (left s n.0 a rests n.1) l, same) }
+      record { registers = s; agrees = a; rests = rests; left = n.0; leaves = n.1; answered = ((few s n.0 a rests n.1).0 l, same) }
 
   -- the body is prepared
   abbrev is_prepared : (t : Heap) (k : SetRegisters A M) → Prepared atom membrane h t g k code.body → IsPrepared atom membrane t k code.body
   is_prepared t k p = record { before = h; matched_by = g; matched = can.matched; prepared = p }
 
   -- it is committed
-  pub fires_all : (t h' : Heap) (k : SetRegisters A M) (p : Prepared atom membrane h t g k code.body) → size < 2 ^ 64 - 1 → cost ≤ size →
+  pub fires_all : (t h' : Heap) (k : SetRegisters A M) (p : Prepared atom membrane h t g k code.body) → IsTrue fits →
       ((q : IsPrepared atom membrane t k code.body) (r : Registers) → body.AgreesWithCopies atom membrane k r → HasCopies r q.prepared.copied → HasRests atom membrane q.before q.matched_by r → Commits q.before r code.body h') → AnswersMatch atom membrane h g code size Committed h'
-  fires_all t h' k p small l runs =
+  fires_all t h' k p l runs =
       let s = body_known atom membrane k p.copied lists in
       let a = agrees_before atom membrane g k p.grows s.head (known_agrees atom membrane k) in
       let rests = has_lists s (λ i. refl) (λ i. refl) in
@@ -184,7 +178,7 @@ module _ {A M : Type 0} (atom : A → ℕ) (membrane : M → ℕ) (h : Heap) (g 
         rests = rests;
         left = n.0;
         leaves = n.1;
-        answered = (few_left n.0 small (left s n.0 a rests n.1) l, runs (is_prepared t k p) s (body_agrees atom membrane k p.copied lists p.sizes) (known_copies atom membrane k p.copied lists) rests);
+        answered = ((few s n.0 a rests n.1).0 l, runs (is_prepared t k p) s (body_agrees atom membrane k p.copied lists p.sizes) (known_copies atom membrane k p.copied lists) rests);
       }
 
 -- what is prepared over a heap and registers that are as they were

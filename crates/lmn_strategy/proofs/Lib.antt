@@ -11,6 +11,7 @@ pub mod RestsFound
 pub mod RestsHeld
 pub mod Runnable
 pub mod Firing
+pub mod Roomy
 pub mod Lulling
 pub mod Awake
 pub mod Passing

@@ -1,5 +1,9 @@
 //! One turn: what the strategy chooses is prepared and committed, where the store may have that many items.
-ghost use Rattle.std.specs.Prelude.{◌≡◌, ◌<◌, IsFalse, ◌≤◌, ◌+◌, ◌-◌, ◌^◌, length};
+ghost use Rattle.std.specs.Prelude.{◌≡◌, ◌<◌, IsFalse, IsTrue, ◌≤◌, ◌+◌, ◌-◌, ◌*◌, ◌^◌, ◌↔◌, ℕ, length};
+ghost use Rattle.lmn_body.specs.Running.{Registers};
+ghost use Rattle.lmn_commit.specs.Registers.{HasRests};
+ghost use Rattle.lmn_machine.specs.Costs.{Leaves};
+ghost use Rattle.lmn_registers.specs.Agreeing.{Agrees};
 ghost use Rattle.lmn_heap.specs.Sound.{Forest, IsTree, Valid, flat};
 ghost use Rattle.lmn_strategy.specs.Choosing.{CanTurn};
 ghost use Rattle.lmn_strategy.specs.Counting.{CountsAsked};
@@ -27,6 +31,31 @@ pub enum Turn {
     NoMemory,
 }
 
+/// Whether so many items and as many more for each of `many` instructions are at most `size`. The answer is no where the sum is
+/// too large to be told.
+fn is_roomy(items: u64, many: u64, size: u64) -> bool
+    requires { size < 2 ^ 64 - 1 }
+    ensures { IsTrue result → items + many * (items + 1) ≤ size }
+{
+    items.saturating_add(many.saturating_mul(items.saturating_add(1))) <= size
+}
+
+/// Whether the commit with a code leaves at most `size` items. They are counted only where there may be more: an instruction
+/// adds no more items than there are.
+fn leaves_few<S: LinkStore>(machine: &mut Machine<S>, code: &Code, size: u64) -> bool
+    requires fire { CanFire S.atom_id S.mem_id (S.heap machine.old.store) machine.old.set code.now }
+    requires size { size < 2 ^ 64 - 1 }
+    ensures same { S.heap machine.new.store ≡ S.heap machine.old.store }
+    ensures registers { machine.new.set ≡ machine.old.set }
+    ensures few { (r : Registers) (n : ℕ) → Agrees S.atom_id S.mem_id machine.old.set r.head → HasRests S.atom_id S.mem_id (S.heap machine.old.store) machine.old.set r → Leaves (S.heap machine.old.store) r code.now.body n → IsTrue result ↔ (n ≤ size) }
+{
+    let items = machine.store().items();
+    if is_roomy(items, code.body.len() as u64, size) {
+        return true;
+    }
+    machine.cost(code) <= size
+}
+
 /// Lets the rule of a code fire whose head was found, where its commit leaves at most `size` items.
 fn fire<S: LinkStore>(alloc: Global, machine: &mut Machine<S>, code: &CodeView<'_>, size: u64) -> Turn
     requires fire { CanFire S.atom_id S.mem_id (S.heap machine.old.store) machine.old.set code.now }
@@ -35,7 +64,7 @@ fn fire<S: LinkStore>(alloc: Global, machine: &mut Machine<S>, code: &CodeView<'
     ensures valid { Valid (S.heap machine.new.store) }
     ensures unmarked { Unmarked (S.heap machine.new.store) }
 {
-    if machine.cost(code) > size {
+    if !leaves_few(machine, code, size) {
         return Turn::Full;
     }
     match machine.prepare(alloc, code) {
