@@ -80,6 +80,7 @@ impl Web {
     }
 
     /// A new cell: no port has a partner, it stands in no list, its lists are empty, and every mark is 0.
+    #[inline(always)]
     pub fn make(&mut self, label: u128, arity: u8, kind: CellKind) -> Result<Cell, AllocError>
         ensures { MatchResult result
             (λ c. (web_by self.old (cell_id c) ≡ None) × (web_by self.new ≡ alter (web_by self.old) (cell_id c) (λ _. Some (new_cell label arity kind))))
