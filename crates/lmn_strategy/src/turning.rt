@@ -42,7 +42,11 @@ fn is_roomy(items: u64, many: u64, size: u64) -> bool
 
 /// Whether the commit with a code leaves at most `size` items. They are counted only where there may be more: an instruction
 /// adds no more items than there are.
-fn leaves_few<S: LinkStore>(machine: &mut Machine<S>, code: &Code, size: u64) -> bool
+fn leaves_few<S: LinkStore>(
+    machine: &mut Machine<S>,
+    code: &CodeView<'_>,
+    size: u64,
+) -> bool
     requires fire { CanFire S.atom_id S.mem_id (S.heap machine.old.store) machine.old.set code.now }
     requires size { size < 2 ^ 64 - 1 }
     ensures same { S.heap machine.new.store ≡ S.heap machine.old.store }
