@@ -3,7 +3,7 @@ use Rattle.std.proofs.Common.{◌≡◌, ◌≢◌, ℕ, ◌<◌, List, Option, 
 use Rattle.std.specs.Option.{option_map, option_and_then}
 use Rattle.lmn_base.specs.Lists.{In}
 use Rattle.lmn_heap.specs.Lists.{from, after}
-use Rattle.lmn_heap.specs.Heap.{Heap, HeapAtom, HeapMem, home_by, arity_of, link_of, home_of, parent_of, atoms_in, mems_in, IsAtom, IsMem, IsInPlace, IsPlacedMem}
+use Rattle.lmn_heap.specs.Heap.{Heap, HeapAtom, home_by, arity_of, link_of, home_of, parent_of, atoms_in, mems_in, IsAtom, IsMem, IsInPlace, IsPlacedMem}
 use Rattle.lmn_heap.proofs.Trees.{next_in}
 use Rattle.lmn_store.specs.RuleLists.{RuleList}
 use Rattle.lmn_web.specs.declared.kind.CellKind.TheVariants.{Atom, Membrane}

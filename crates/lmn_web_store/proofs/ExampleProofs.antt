@@ -1,7 +1,11 @@
 -- What the heap of a small web has.
-use Rattle.std.proofs.Common.{◌≡◌, List, [], ◌∷◌, ℕ, ap, refl}
+use Rattle.std.proofs.Common.{◌≡◌, true, false, List, [], ◌∷◌, ℕ, Option, Some, None, ap, refl, subst, arith}
 use Rattle.lmn_heap.specs.Heap.{Heap}
-use Rattle.lmn_web_store.specs.Examples.{AtomStands, AtomWaits, PostIsNoMembrane, WaitingIsNotAlone, RootIsAlone, LabelsAreRead, IntegerIsNoName}
+use Rattle.lmn_preorder.specs.Nests.{Nest}
+use Rattle.lmn_web_store.specs.Examples.{AtomStands, AtomWaits, PostIsNoMembrane, WaitingIsNotAlone, RootIsAlone, LabelsAreRead, IntegerIsNoName, one_key, RootIsKey, KeyIsAwake, RootIsIndexed, OtherIsNotIndexed}
+use Rattle.lmn_web_store.specs.Indexes.{IsNestOf}
+use Rattle.lmn_web_store.specs.WebHeaps.{alone}
+use Rattle.lmn_web_store.proofs.IndexLemmas.{index_alone}
 
 pub atom_stands : AtomStands
 atom_stands = (refl, refl)
@@ -23,3 +27,21 @@ labels_are_read = (refl, refl, refl)
 
 pub integer_is_no_name : IntegerIsNoName
 integer_is_no_name e = absurd (cc)
+
+pub root_is_indexed : RootIsIndexed
+root_is_indexed = index_alone (λ (n : Nest). n ≡ one_key) (λ _. 0) 5 refl refl
+
+pub root_is_key : RootIsKey
+root_is_key = let x = root_is_indexed in subst (λ (n : Nest). IsNestOf (λ _. 0) (alone 5) n) x.nested x.agrees
+
+pub key_is_awake : KeyIsAwake
+key_is_awake x = let u : false ≡ true = x.awake 5 refl in absurd (cc)
+
+pub other_is_not_indexed : OtherIsNotIndexed
+other_is_not_indexed x =
+    let u : ◌≡◌ {A = Option ℕ} (Some 6) (Some 5) = x.cells 5 refl in
+    let e : ◌≡◌ {A = ℕ} 6 5 = ap number u in absurd (omega (arith, e))
+  where
+    number : Option ℕ → ℕ
+    number None = 0
+    number (Some n) = n

@@ -18,21 +18,21 @@ use Rattle.lmn_web_store.specs.Frees.{all_parted, Drops, CanFree, Frees}
 use Rattle.lmn_web_store.specs.WebHeaps.{Posts, place_at, no_rules, atom_by, if_atom, if_membrane, atoms_of, mem_by, is_post, mems_of}
 use Rattle.lmn_web_store.specs.WebStores.{IsStored}
 use Rattle.lmn_web_store.proofs.ReadLemmas.{is_none, mem_there, mem_is, kind_there}
-use Rattle.lmn_web_store.proofs.CoreLemmas.{core, home_same, cells_same, stored_same}
+use Rattle.lmn_web_store.proofs.CoreLemmas.{label_same as core_label, core, home_same, cells_same, stored_same}
 use Rattle.lmn_web_store.proofs.LinkLemmas.{Links, same_links, both_links, atoms_linked, linked_links, cleared_links}
 use Rattle.lmn_web_store.proofs.SendLemmas.{atom_of, mem_of, list_atom, list_label, list_kind, list_ports, list_there, list_home, list_at_kind, list_at_other, home_ports, out_self, out_there, out_homeless, home_cells, out_source, out_kept, home_some}
 use Rattle.lmn_web_store.proofs.PlaceLemmas.{alter_same}
-use Rattle.lmn_web_store.proofs.TableLemmas.{post_waits, post_goes, mems_post}
+use Rattle.lmn_web_store.proofs.TableLemmas.{labelled_there, post_waits, post_goes, mems_post}
 use Rattle.lmn_base.proofs.Numbers.{below_or_from}
 
 -- nothing is freed
 pub frees_none : (p : Posts) (l : ℕ) (t : List (Option RuleList)) (w : ℕ → Option WebCell) → Frees p l t w t w
-frees_none p l t w = record { atoms = λ u r y. refl; mems = λ u r y. refl; others = λ k d. refl }
+frees_none p l t w = record { atoms = λ u r y. refl; mems = λ u r y. refl; others = λ k d. refl; labels = λ y i e. e }
 
 -- some and then some more
 pub frees_both : (p : Posts) (l : ℕ) (t : List (Option RuleList)) (w : ℕ → Option WebCell) (g : List (Option RuleList)) (v : ℕ → Option WebCell) (h : List (Option RuleList)) (u : ℕ → Option WebCell)
     → Frees p l t w g v → Frees p l g v h u → Frees p l t w h u
-frees_both p l t w g v h u a b = record { atoms = λ f r y. b.atoms f r y ∙ a.atoms f r y; mems = λ f r y. b.mems f r y ∙ a.mems f r y; others = λ k d. b.others k d ∙ a.others k d }
+frees_both p l t w g v h u a b = record { atoms = λ f r y. b.atoms f r y ∙ a.atoms f r y; mems = λ f r y. b.mems f r y ∙ a.mems f r y; others = λ k d. b.others k d ∙ a.others k d; labels = λ y i e. a.labels y i (b.labels y i e) }
 
 -- what stands where all is removed
 freed_none : {X : Type 0} (place : X → Place) (u : X → Option X) (P : Place) → Removes place u P → (o : Option X) → ((x : X) → o ≡ Some x → place x ≡ P) → option_and_then u o ≡ None
@@ -155,6 +155,7 @@ module _ (p : Posts) (l : ℕ) (t : List (Option RuleList)) (n m s : ℕ) where
       ];
       mems = λ u r y. ap (λ (f : ℕ → Option HeapMem). option_and_then u (f y)) k.mems;
       others = λ j d. cells_same w v k.cores p.waiting j;
+      labels = λ y j e. sym (core_label w v k.cores y) ∙ e;
     },
   )
     where
@@ -380,6 +381,7 @@ module _ (w v : ℕ → Option WebCell) (l x : ℕ) (d : Drops w v l x) where
         | inr q ↦ ap (option_and_then u) (alter_away (mems_of p t w) x (λ _. None) y q)
       ];
       others = λ j q. cells_rest p.waiting j (no_post_x p.waiting (inr (inl refl))) (λ e. q (sym e));
+      labels = λ y i e. sym (label_rest y (not_x y (labelled_there (v y) i e))) ∙ e;
     }
 
     -- an atom less

@@ -1,7 +1,6 @@
 -- Numbers of labels, there and back.
-use Rattle.std.proofs.Common.{◌≡◌, ℕ, ◌+◌, ◌-◌, ◌*◌, ◌/◌, ◌<◌, ◌≤◌, true, false, cond, sym, ap, ◌∙◌, inl, inr, arith}
+use Rattle.std.proofs.Common.{◌≡◌, ℕ, ◌+◌, ◌-◌, ◌*◌, ◌/◌, ◌<◌, ◌≤◌, cond, sym, ap, ◌∙◌, inl, inr, arith}
 use Rattle.std.specs.Prelude.{pos, negsuc, nat_lt}
-use Rattle.std.proofs.lemmas.Bool.Decides.{nat_tests}
 use Rattle.std.proofs.Math.Nat.{mul-div_cancel}
 use Rattle.lmn_base.specs.declared.functor.Label.TheVariants.{Name, Int}
 use Rattle.lmn_base.proofs.Numbers.{below_or_from, lower as below, not_lower as not_below}

@@ -20,3 +20,8 @@ pub mod FreeLemmas
 pub mod FreeSteps
 pub mod EndLemmas
 pub mod MoveLemmas
+pub mod MemLists
+pub mod NestLemmas
+pub mod IndexLemmas
+pub mod FreedIndex
+pub mod AwakeLemmas

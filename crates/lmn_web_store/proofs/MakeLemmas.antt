@@ -17,6 +17,7 @@ use Rattle.lmn_web.specs.Webs.{WebCell, web_kind, kind_at, home_at, arity_at, ce
 use Rattle.lmn_web_store.specs.Labels.{IsLabelNumber, label_by}
 use Rattle.lmn_web_store.specs.WebHeaps.{Posts, no_rules, rules_at, atom_by, if_atom, if_membrane, atoms_of, mem_by, is_post, mems_of, heap_by}
 use Rattle.lmn_web_store.specs.WebStores.{IsStored}
+use Rattle.lmn_web_store.specs.Indexes.{key_of}
 use Rattle.lmn_web_store.proofs.ReadLemmas.{waits_in, mem_there, mem_is, mems_are, kind_there}
 use Rattle.lmn_web_store.proofs.TableLemmas.{atoms_none, mems_none, mems_post, mems_with, post_waits}
 use Rattle.lmn_web_store.proofs.SendLemmas.{list_kind, list_home, list_ports, list_label, list_there, list_at_kind, list_at_other}
@@ -27,6 +28,12 @@ pub record Made (p : Posts) (v w : ℕ → Option WebCell) (c : ℕ) (K : CellKi
   pub here : w c ≡ Some (with_home (Some p.waiting) (new_cell l n K))
   pub line : w p.waiting ≡ option_map (with_list K (cells_in v p.waiting K ++ c ∷ [])) (v p.waiting)
   pub others : (x : ℕ) → x ≢ c → x ≢ p.waiting → w x ≡ v x
+
+-- membranes that were there keep their keys
+pub made_key : (p : Posts) (v w : ℕ → Option WebCell) (c : ℕ) (K : CellKind) (l n : ℕ) → Made p v w c K l n → (t : List (Option RuleList)) (m : ℕ) → IsSome (mems_of p t v m) → key_of w m ≡ key_of v m
+made_key p v w c K l n d t m i =
+    let j = mem_there p t v m i in
+    ap (λ (o : Option WebCell). unwrap_or (option_map (λ x. x.label) o) 0) (d.others m (λ e. (let z : IsSome {T = WebCell} None = subst (λ (o : Option WebCell). IsSome o) (ap v e ∙ d.fresh) j.0 in absurd (cc))) j.2)
 
 -- `make` and then `add_last` make one
 pub made_line : (p : Posts) (v u w : ℕ → Option WebCell) (c : ℕ) (K : CellKind) (l n : ℕ) → v c ≡ None → p.waiting ≢ c → u ≡ alter v c (λ _. Some (new_cell l n K)) → w ≡ added_last u p.waiting c → Made p v w c K l n

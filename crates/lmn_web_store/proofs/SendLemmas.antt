@@ -245,7 +245,8 @@ module _ (w v : ℕ → Option WebCell) (m n x : ℕ) (s : Sends w v m n x) wher
   pub kind_same : (y : ℕ) → kind_at v y ≡ kind_at w y
   kind_same = frame web_kind home_kind list_kind
 
-  label_same : (y : ℕ) → web_label v y ≡ web_label w y
+  -- labels stay
+  pub label_same : (y : ℕ) → web_label v y ≡ web_label w y
   label_same = frame (λ (o : Option WebCell). option_map (λ (c : WebCell). c.label) o) home_label list_label
 
   arity_same : (y : ℕ) → arity_at v y ≡ arity_at w y

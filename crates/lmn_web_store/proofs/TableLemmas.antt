@@ -7,10 +7,8 @@ use Rattle.lmn_heap.specs.Heap.{HeapMem, alter, rules_by, spare_by, rules_in, sp
 use Rattle.lmn_base.specs.Lists.{In}
 use Rattle.lmn_base.proofs.Common.{of_map}
 use Rattle.lmn_base.proofs.Lists.{some_is, length_mapped}
-use Rattle.lmn_heap.specs.Lists.{Distinct}
 use Rattle.lmn_heap.specs.Sound.{Sound, Forest, IsTree, flat}
 use Rattle.lmn_heap.proofs.Common.{in_map}
-use Rattle.lmn_heap.proofs.ListLemmas.{each_in, each_of}
 use Rattle.lmn_heap.proofs.Listing.{alter_at, alter_away}
 use Rattle.lmn_heap.proofs.Trees.{is_mem}
 use Rattle.lmn_store.proofs.SlotLemmas.{slots_taken}

@@ -1,11 +1,13 @@
 -- A small web with the posts of a store, and what its heap has.
-use Rattle.std.specs.Prelude.{◌≡◌, ℕ, pos, negsuc, [], ◌∷◌, Option, Some, None}
+use Rattle.std.specs.Prelude.{◌≡◌, ℕ, false, pos, negsuc, [], ◌∷◌, Option, Some, None}
 use Rattle.lmn_base.specs.declared.functor.Label.TheVariants.{Name, Int}
 use Rattle.lmn_heap.specs.Heap.{Heap, top, alter, home_of, mem_place_of, atoms_in}
+use Rattle.lmn_preorder.specs.Nests.{Nest, empty_nest, with_awake, with_key}
 use Rattle.lmn_web.specs.declared.kind.CellKind.TheVariants.{Atom, Membrane}
 use Rattle.lmn_web.specs.Webs.{WebCell, new_cell, added_last}
 use Rattle.lmn_web_store.specs.Labels.{label_number, label_by}
 use Rattle.lmn_web_store.specs.WebHeaps.{Posts, no_rules, heap_by, alone}
+use Rattle.lmn_web_store.specs.Indexes.{IsNestOf, IsIndexed}
 
 -- 0 is the root, 1 holds what waits, 2 what is gone
 abbrev pub three_posts : Posts
@@ -45,3 +47,23 @@ LabelsAreRead = (label_by (label_number (Name 7)) ≡ Name 7) × (label_by (labe
 -- the integer 7 isn't the name 7
 abbrev pub IntegerIsNoName : Type 0
 IntegerIsNoName = label_by (label_number (Int (pos 7))) ≡ Name 7 → ⊥
+
+-- a key that is awake, with nothing in it
+abbrev pub one_key : Nest
+one_key = with_key 0 empty_nest
+
+-- which is the nest of a root alone
+abbrev pub RootIsKey : Type 0
+RootIsKey = IsNestOf (λ _. 0) (alone 5) one_key
+
+-- asleep it isn't, since a new membrane's mark is 0
+abbrev pub KeyIsAwake : Type 0
+KeyIsAwake = IsNestOf (λ _. 0) (alone 5) (with_awake 0 false one_key) → ⊥
+
+-- what holds this nest, and a list with the root, index the root alone
+abbrev pub RootIsIndexed : Type 0
+RootIsIndexed = IsIndexed (λ n. n ≡ one_key) (5 ∷ []) (λ _. 0) (alone 5)
+
+-- a list with another membrane doesn't
+abbrev pub OtherIsNotIndexed : Type 0
+OtherIsNotIndexed = IsIndexed (λ n. n ≡ one_key) (6 ∷ []) (λ _. 0) (alone 5) → ⊥

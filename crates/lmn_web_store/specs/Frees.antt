@@ -6,7 +6,7 @@ use Rattle.lmn_heap.specs.Lists.{without}
 use Rattle.lmn_store.specs.RuleLists.{RuleList}
 use Rattle.lmn_store.specs.Kept.{HasCounts, Removes}
 use Rattle.lmn_web.specs.declared.kind.CellKind.{CellKind}
-use Rattle.lmn_web.specs.Webs.{WebCell, kind_at, home_at, partner_at, cells_in, with_list, parted}
+use Rattle.lmn_web.specs.Webs.{WebCell, kind_at, home_at, partner_at, cells_in, web_label, with_list, parted}
 use Rattle.lmn_web_store.specs.WebHeaps.{Posts, place_at, atoms_of, mems_of}
 use Rattle.lmn_web_store.specs.WebStores.{IsStored}
 
@@ -35,3 +35,4 @@ pub record Frees (p : Posts) (l : ℕ) (t : List (Option RuleList)) (w : ℕ →
   pub atoms : (u : HeapAtom → Option HeapAtom) → Removes (λ (x : HeapAtom). x.place) u (place_at p (Some l)) → (y : ℕ) → option_and_then u (atoms_of p v y) ≡ option_and_then u (atoms_of p w y)
   pub mems : (u : HeapMem → Option HeapMem) → Removes (λ (x : HeapMem). x.place) u (place_at p (Some l)) → (y : ℕ) → option_and_then u (mems_of p g v y) ≡ option_and_then u (mems_of p t w y)
   pub others : (k : CellKind) → l ≢ p.waiting → cells_in v p.waiting k ≡ cells_in w p.waiting k
+  pub labels : (y i : ℕ) → web_label v y ≡ Some i → web_label w y ≡ Some i

@@ -1,5 +1,5 @@
 -- Words of the invariant of a store over a web.
-use Rattle.std.specs.Prelude.{◌≡◌, ◌≢◌, ◌↔◌, ◌⊎◌, ℕ, List, [], Option, Some, None, IsSome, slice_index_or}
+use Rattle.std.specs.Prelude.{◌≡◌, ◌≢◌, ◌↔◌, ◌⊎◌, ℕ, List, [], Option, Some, None, IsSome, map, slice_index_or}
 use Rattle.lmn_store.specs.RuleLists.{RuleList}
 use Rattle.lmn_store.specs.Kept.{HasCounts}
 use Rattle.lmn_cells.specs.CellIds.{cell_id}
@@ -7,7 +7,9 @@ use Rattle.lmn_web.specs.declared.kind.CellKind.{CellKind}
 use Rattle.lmn_web.specs.declared.kind.CellKind.TheVariants.{Atom, Membrane}
 use Rattle.lmn_web.specs.Webs.{WebCell, kind_at, home_at, arity_at, cells_in, web_label, web_by}
 use Rattle.lmn_web_store.specs.Labels.{IsLabelNumber}
-use Rattle.lmn_web_store.specs.WebHeaps.{Posts, KeptWeb, atoms_of, mems_of}
+use Rattle.lmn_preorder.specs.Indexed.{IsNested}
+use Rattle.lmn_web_store.specs.WebHeaps.{Posts, KeptWeb, heap_of, atoms_of, mems_of}
+use Rattle.lmn_web_store.specs.Indexes.{IsIndexed, key_of}
 use Rattle.lmn_web_store.specs.declared.web_store.WebStore.TheInside.{Inside}
 
 -- the membrane m has rules at this place of the table
@@ -38,5 +40,7 @@ pub record AlwaysStored (k : KeptWeb) (n m s : ℕ) : Type 0 where
 abbrev pub kept_by : Inside → KeptWeb
 kept_by s = record { web = s.web; table = s.rules.slots; posts = record { root = cell_id s.root; waiting = cell_id s.waiting; gone = cell_id s.gone } }
 
-abbrev pub IsKept : Inside → Type 0
-IsKept s = AlwaysStored (kept_by s) s.atom_count s.mem_count s.spare_count
+-- what is kept without the index, and the index
+pub record IsKept (s : Inside) : Type 0 where
+  pub store : AlwaysStored (kept_by s) s.atom_count s.mem_count s.spare_count
+  pub index : IsIndexed (IsNested s.index) (map cell_id s.mems.items) (key_of (web_by s.web)) (heap_of (kept_by s))

@@ -1,5 +1,5 @@
 //! What the heap of a small web has. Each law is the contract of a function with an empty body.
-ghost use Rattle.lmn_web_store.specs.Examples.{AtomStands, AtomWaits, IntegerIsNoName, LabelsAreRead, PostIsNoMembrane, RootIsAlone, WaitingIsNotAlone};
+ghost use Rattle.lmn_web_store.specs.Examples.{AtomStands, AtomWaits, IntegerIsNoName, KeyIsAwake, LabelsAreRead, OtherIsNotIndexed, PostIsNoMembrane, RootIsAlone, RootIsIndexed, RootIsKey, WaitingIsNotAlone};
 
 /// An atom in the list of the root stands there.
 #[tactic(auto, using(crate::proofs::ExampleProofs::atom_stands))]
@@ -41,4 +41,28 @@ pub fn labels_are_read()
 #[tactic(auto, using(crate::proofs::ExampleProofs::integer_is_no_name))]
 pub fn integer_is_no_name()
     ensures { IntegerIsNoName }
+{}
+
+/// A root alone is a key in which nothing stands.
+#[tactic(auto, using(crate::proofs::ExampleProofs::root_is_key))]
+pub fn root_is_key()
+    ensures { RootIsKey }
+{}
+
+/// It is awake.
+#[tactic(auto, using(crate::proofs::ExampleProofs::key_is_awake))]
+pub fn key_is_awake()
+    ensures { KeyIsAwake }
+{}
+
+/// It is indexed by what has its key and its number.
+#[tactic(auto, using(crate::proofs::ExampleProofs::root_is_indexed))]
+pub fn root_is_indexed()
+    ensures { RootIsIndexed }
+{}
+
+/// A list with another number doesn't index it.
+#[tactic(auto, using(crate::proofs::ExampleProofs::other_is_not_indexed))]
+pub fn other_is_not_indexed()
+    ensures { OtherIsNotIndexed }
 {}

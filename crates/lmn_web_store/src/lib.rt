@@ -3,6 +3,7 @@
 
 pub mod examples;
 mod freeing;
+mod indexing;
 mod labels;
 mod rules;
 mod sending;

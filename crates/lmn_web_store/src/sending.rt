@@ -3,7 +3,7 @@ ghost use Rattle.std.specs.Prelude.{◌≡◌, ◌≢◌, ℕ, List, [], Option,
 ghost use Rattle.lmn_heap.specs.Heap.{moved_all};
 ghost use Rattle.lmn_store.specs.RuleLists.{RuleList};
 ghost use Rattle.lmn_cells.specs.CellIds.{cell_id};
-ghost use Rattle.lmn_web.specs.Webs.{web_by, home_at, kind_at, cells_in};
+ghost use Rattle.lmn_web.specs.Webs.{web_by, web_label, home_at, kind_at, cells_in};
 ghost use Rattle.lmn_web.specs.declared.kind.CellKind.TheVariants.{Membrane};
 ghost use Rattle.lmn_web.specs.declared.kind.CellKind.{CellKind as Kind};
 ghost use Rattle.lmn_web_store.specs.WebHeaps.{Posts, heap_by};
@@ -32,6 +32,7 @@ pub fn send_all(web: &mut Web, source: Cell, home: Cell, kind: CellKind)
         (moved_all (heap_by p t (web_by web.new)) (cell_id source) (cell_id home) ≡ moved_all (heap_by p t (web_by web.old)) (cell_id source) (cell_id home)) }
     ensures none { cells_in (web_by web.new) (cell_id source) kind ≡ [] }
     ensures others { (k : Kind) → k ≢ kind → cells_in (web_by web.new) (cell_id source) k ≡ cells_in (web_by web.old) (cell_id source) k }
+    ensures labels { (y : ℕ) → web_label (web_by web.new) y ≡ web_label (web_by web.old) y }
 {
     while let Some(c) = web.first(source, kind) {
         web.listed();

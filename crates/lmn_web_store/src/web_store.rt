@@ -1,19 +1,23 @@
 //! A store over a web.
-ghost use Rattle.std.specs.Prelude.{◌≡◌, IfOk, IfSome, IsSome};
+ghost use Rattle.std.specs.Prelude.{◌≡◌, IfOk, IfSome, IsSome, map};
 ghost use Rattle.std.specs.Option.{option_map};
-ghost use Rattle.lmn_heap.specs.Heap.{home_by, IsMem};
+ghost use Rattle.lmn_heap.specs.Heap.{home_by, mems_in, IsMem};
 ghost use Rattle.lmn_heap.specs.Sound.{Valid};
 ghost use Rattle.lmn_cells.specs.CellIds.{cell_id};
 ghost use Rattle.lmn_web.specs.Webs.{web_by};
 ghost use Rattle.lmn_web_store.specs.WebHeaps.{alone, heap_of, place_at};
+ghost use Rattle.lmn_preorder.specs.Nests.{IsOneOf};
 ghost use Rattle.lmn_web_store.specs.WebStores.{HasRules};
+ghost use Rattle.lmn_web_store.specs.Indexes.{key_of};
 
 use crate::freeing::{free_atoms, free_mems};
+use crate::indexing::{hold, wake};
 use crate::labels::{label_of, number_of};
 use crate::rules::Rules;
 use crate::sending::{send, send_all};
 use crate::table;
 use lmn_base::{Functor, NoMemory};
+use lmn_preorder::Preorder;
 use lmn_store::LinkStore;
 use lmn_web::{Cell, CellKind, Web};
 use slab::Slab;
@@ -28,8 +32,12 @@ const BOUND: u64 = 281_474_976_710_656;
 #[derive(Drop)]
 pub struct WebStore {
     web: Web,
-    // The rules of membranes. The label of a membrane is the place of its own.
+    // The rules of membranes. The label of a membrane is the place of its own, and the key by which the index knows it.
     rules: Slab<Rules>,
+    // The membrane of each key.
+    mems: Vec<Cell>,
+    // Which membranes stand in which, and which are awake, by their keys.
+    index: Preorder,
     root: Cell,
     waiting: Cell,
     gone: Cell,
@@ -59,15 +67,22 @@ impl WebStore {
     {
         let mut web = Web::new(alloc);
         let mut rules = Slab::new(alloc);
+        let mut mems = Vec::new(alloc);
+        let mut index = Preorder::new(alloc);
         let key = rules.insert(Rules::new(alloc))?;
+        index.add(key)?;
+        mems.reserve(1)?;
         let waiting = web.make(0, 0, CellKind::Membrane)?;
         let gone = web.make(0, 0, CellKind::Membrane)?;
         let root = web.make(key as u128, 0, CellKind::Membrane)?;
+        mems.push_reserved(root);
         web.listed();
         web.paired();
         Ok(WebStore {
             web,
             rules,
+            mems,
+            index,
             root,
             waiting,
             gone,
@@ -100,6 +115,18 @@ impl WebStore {
         ensures { HasRules self.now.table (web_by self.now.web) (cell_id m) result }
     {
         table::place_of_rules(&self.web, &self.rules, m)
+    }
+
+    // The key of a membrane that stands in this one, if one does.
+    fn key_inside(&self, m: Cell) -> Option<usize>
+        requires { IsMem (heap_of self.now) (cell_id m) }
+        ensures { IsOneOf result (map (key_of (web_by self.now.web)) (mems_in (heap_of self.now) (cell_id m))) }
+    {
+        self.web.listed();
+        match self.web.first(m, CellKind::Membrane) {
+            None => None,
+            Some(n) => Some(self.place_of_rules(n)),
+        }
     }
 }
 
@@ -206,6 +233,16 @@ impl LinkStore for WebStore {
         self.rules.len() as u64
     }
 
+    fn awake_from(&mut self, start: u64) -> Option<(u64, Cell)> {
+        self.web.listed();
+        self.web.paired();
+        let top = self.place_of_rules(self.root);
+        match self.index.awake_from(top, start) {
+            None => None,
+            Some((number, key)) => Some((number, self.mems[key])),
+        }
+    }
+
     fn items(&self) -> u64 {
         self.web.listed();
         self.web.paired();
@@ -230,13 +267,18 @@ impl LinkStore for WebStore {
     }
 
     fn set_mem_mark(&mut self, m: Cell, v: u64) {
+        let key = self.place_of_rules(m);
+        let was = self.web.mark(m, 0) == 0;
         self.web.set_mark(m, 0, v);
+        wake(&mut self.index, key, was, v == 0);
     }
 
     fn make_atom(&mut self, alloc: Global, f: Functor) -> Result<Cell, NoMemory> {
         if self.atom_count + self.mem_count + self.spare_count >= BOUND {
             return Err(NoMemory);
         }
+        self.web.listed();
+        self.web.paired();
         let a = self.web.make(number_of(f.label), f.arity, CellKind::Atom)?;
         self.web.add_last(self.waiting, a);
         self.atom_count += 1;
@@ -249,8 +291,17 @@ impl LinkStore for WebStore {
         }
         self.rules.reserve(1)?;
         let place = self.rules.vacant_key();
+        // The slab gives its keys one after the other, so none is left out here.
+        if place > self.mems.len() {
+            return Err(NoMemory);
+        }
+        self.mems.reserve(1)?;
+        self.web.listed();
+        self.web.paired();
+        self.index.add(place)?;
         let m = self.web.make(place as u128, 0, CellKind::Membrane)?;
         self.rules.insert_reserved(Rules::new(alloc));
+        hold(&mut self.mems, place, m);
         self.web.add_last(self.waiting, m);
         self.mem_count += 1;
         Ok(m)
@@ -293,8 +344,12 @@ impl LinkStore for WebStore {
 
     fn place_mem(&mut self, m: Cell) -> Cell {
         self.web.listed();
+        self.web.paired();
         let n = self.web.first(self.waiting, CellKind::Membrane).unwrap();
+        let parent = self.place_of_rules(m);
+        let child = self.place_of_rules(n);
         send(&mut self.web, m, n);
+        self.index.put_last(parent, child);
         n
     }
 
@@ -305,12 +360,23 @@ impl LinkStore for WebStore {
 
     fn take_mem(&mut self, m: Cell) {
         self.web.listed();
+        self.web.paired();
+        let home = self.web.home(m).unwrap();
+        let parent = self.place_of_rules(home);
+        let child = self.place_of_rules(m);
         send(&mut self.web, self.gone, m);
+        self.index.take(parent, child);
     }
 
     fn move_all(&mut self, m: Cell, n: Cell) {
+        self.web.listed();
+        self.web.paired();
+        let source = self.place_of_rules(m);
+        let target = self.place_of_rules(n);
+        let one = self.key_inside(m);
         send_all(&mut self.web, m, n, CellKind::Atom);
         send_all(&mut self.web, m, n, CellKind::Membrane);
+        self.index.move_inside(source, target, one);
         self.web.listed();
     }
 

@@ -5,10 +5,11 @@ use Rattle.lmn_cells.specs.CellIds.{cell_id}
 use Rattle.lmn_web.specs.Webs.{web_by, cells_in}
 use Rattle.lmn_web_store.proofs.ReadLemmas.{kind_there}
 use Rattle.lmn_web_store.proofs.MoveLemmas.{first_home, first_differs, first_elsewhere, sent_can, sent_fewer, sent_other, sent_same}
+use Rattle.lmn_web_store.proofs.SendLemmas.{label_same}
 use Rattle.lmn_web_store.proofs.sending.send_all.Goals as goal
 
 pub loop-c-init : goal.loop-c-init
-loop-c-init c = record { sent = λ p t a b d h. (h, refl); others = λ k e. refl }
+loop-c-init c = record { sent = λ p t a b d h. (h, refl); others = λ k e. refl; labels = λ y. refl }
 
 pub first-requires : goal.first-requires
 first-requires c =
@@ -60,6 +61,7 @@ loop-c-preserved c =
           let i = c.loop-c.invariant.sent p t a b d at in
           (sent_can p t w m n a b d i.0 c.listed.ensures c.args.kind x first v s, sent_same p t w m n a b d i.0 c.listed.ensures c.args.kind x first v s ∙ i.1);
       others = λ k e. sent_other r.0 r.1 w m n r.2 r.3 r.4 h c.listed.ensures c.args.kind x first v s k e ∙ c.loop-c.invariant.others k e;
+      labels = λ y. label_same w v m n x s y ∙ c.loop-c.invariant.labels y;
     }
 
 pub returns-clause-sent : goal.returns-clause-sent
@@ -72,3 +74,6 @@ returns-clause-none c =
 
 pub returns-clause-others : goal.returns-clause-others
 returns-clause-others c = c.loop-c.invariant.others
+
+pub returns-clause-labels : goal.returns-clause-labels
+returns-clause-labels c = c.loop-c.invariant.labels

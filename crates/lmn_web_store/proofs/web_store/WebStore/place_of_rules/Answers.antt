@@ -13,11 +13,11 @@ place_of_rules-requires c =
     let m = cell_id c.args.m in
     let k = kept_by c.self.inside in
     let i = mem_there k.posts k.table (web_by k.web) m (subst (λ (z : KeptWeb). IsMem (heap_of z) m) (sym c.self.view_is) c.requires) in
-    c.self.invariant.stored.rules m i.1 i.2 i.3
+    c.self.invariant.store.stored.rules m i.1 i.2 i.3
 
 pub returns : goal.returns
 returns c =
     let m = cell_id c.args.m in
     let k = kept_by c.self.inside in
     subst (λ (z : KeptWeb). HasRules z.table (web_by z.web) m c.place_of_rules.result) c.self.view_is
-    (has_rules k.posts k.table (web_by k.web) c.self.invariant.stored m c.place_of_rules.result (subst (λ (z : KeptWeb). IsMem (heap_of z) m) (sym c.self.view_is) c.requires) c.place_of_rules.ensures)
+    (has_rules k.posts k.table (web_by k.web) c.self.invariant.store.stored m c.place_of_rules.result (subst (λ (z : KeptWeb). IsMem (heap_of z) m) (sym c.self.view_is) c.requires) c.place_of_rules.ensures)

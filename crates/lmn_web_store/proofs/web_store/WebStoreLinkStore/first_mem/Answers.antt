@@ -11,10 +11,10 @@ pub returns-clause-list : goal.returns-clause-list
 returns-clause-list c =
     let m = cell_id c.args.m in
     subst (λ (z : KeptWeb). from (option_map cell_id c.first.result) (mems_in (heap_of z) m) ≡ mems_in (heap_of z) m) c.self.view_is
-    (first_mem_list _ _ _ c.self.invariant.stored c.listed.ensures cell_id c.first.result m (subst (λ (z : KeptWeb). IsMem (heap_of z) m) (sym c.self.view_is) c.requires) c.first.ensures.list)
+    (first_mem_list _ _ _ c.self.invariant.store.stored c.listed.ensures cell_id c.first.result m (subst (λ (z : KeptWeb). IsMem (heap_of z) m) (sym c.self.view_is) c.requires) c.first.ensures.list)
 
 pub returns-clause-parent : goal.returns-clause-parent
 returns-clause-parent c =
     let m = cell_id c.args.m in
     subst (λ (z : KeptWeb). IfSome c.first.result (λ n. parent_of (heap_of z) (cell_id n) ≡ Some m)) c.self.view_is
-    (first_mem_parent _ _ _ c.self.invariant.stored c.listed.ensures cell_id c.first.result m (subst (λ (z : KeptWeb). IsMem (heap_of z) m) (sym c.self.view_is) c.requires) c.first.ensures.list)
+    (first_mem_parent _ _ _ c.self.invariant.store.stored c.listed.ensures cell_id c.first.result m (subst (λ (z : KeptWeb). IsMem (heap_of z) m) (sym c.self.view_is) c.requires) c.first.ensures.list)

@@ -22,7 +22,7 @@ returns-clause-list c =
     let list = subst (λ n. from (option_map cell_id c.first_with.result) (with_label v n f.arity (cells_in v m Atom)) ≡ with_label v n f.arity (cells_in v m Atom)) c.number_of.ensures.number c.first_with.ensures.list in
     let s = subst (λ (z : KeptWeb). IsMem (heap_of z) m) (sym c.self.view_is) c.requires in
     subst (λ (z : KeptWeb). from (option_map cell_id c.first_with.result) (with_functor (heap_of z) f (atoms_in (heap_of z) m)) ≡ with_functor (heap_of z) f (atoms_in (heap_of z) m)) c.self.view_is
-    (first_with_list k.posts k.table v c.self.invariant.stored c.listed.ensures f back cell_id c.first_with.result m s list)
+    (first_with_list k.posts k.table v c.self.invariant.store.stored c.listed.ensures f back cell_id c.first_with.result m s list)
 
 pub returns-clause-functor : goal.returns-clause-functor
 returns-clause-functor c =
@@ -34,7 +34,7 @@ returns-clause-functor c =
     let list = subst (λ n. from (option_map cell_id c.first_with.result) (with_label v n f.arity (cells_in v m Atom)) ≡ with_label v n f.arity (cells_in v m Atom)) c.number_of.ensures.number c.first_with.ensures.list in
     let s = subst (λ (z : KeptWeb). IsMem (heap_of z) m) (sym c.self.view_is) c.requires in
     subst (λ (z : KeptWeb). IfSome c.first_with.result (λ a. functor_of (heap_of z) (cell_id a) ≡ Some f)) c.self.view_is
-    (first_with_functor k.posts k.table v c.self.invariant.stored c.listed.ensures f back cell_id c.first_with.result m s list)
+    (first_with_functor k.posts k.table v c.self.invariant.store.stored c.listed.ensures f back cell_id c.first_with.result m s list)
 
 pub returns-clause-home : goal.returns-clause-home
 returns-clause-home c =
@@ -46,4 +46,4 @@ returns-clause-home c =
     let list = subst (λ n. from (option_map cell_id c.first_with.result) (with_label v n f.arity (cells_in v m Atom)) ≡ with_label v n f.arity (cells_in v m Atom)) c.number_of.ensures.number c.first_with.ensures.list in
     let s = subst (λ (z : KeptWeb). IsMem (heap_of z) m) (sym c.self.view_is) c.requires in
     subst (λ (z : KeptWeb). IfSome c.first_with.result (λ a. home_of (heap_of z) (cell_id a) ≡ Some m)) c.self.view_is
-    (first_with_home k.posts k.table v c.self.invariant.stored c.listed.ensures f back cell_id c.first_with.result m s list)
+    (first_with_home k.posts k.table v c.self.invariant.store.stored c.listed.ensures f back cell_id c.first_with.result m s list)

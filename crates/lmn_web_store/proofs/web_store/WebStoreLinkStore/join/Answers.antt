@@ -7,6 +7,11 @@ use Rattle.lmn_web_store.specs.WebHeaps.{KeptWeb, heap_of}
 use Rattle.lmn_web_store.specs.WebStores.{kept_by}
 use Rattle.lmn_web_store.proofs.ReadLemmas.{atom_there, arity_is}
 use Rattle.lmn_web_store.proofs.SoundLemmas.{web_formed}
+use Rattle.lmn_web_store.proofs.IndexLemmas.{index_kept, key_by}
+use Rattle.lmn_web_store.proofs.MemLists.{seen_by}
+use Rattle.lmn_web_store.proofs.CoreLemmas.{label_same}
+use Rattle.lmn_heap.specs.Heap.{Heap}
+use Rattle.lmn_web.specs.Webs.{web_label}
 use Rattle.lmn_web_store.proofs.web_store.WebStoreLinkStore.join.Goals as goal
 use Rattle.lmn_heap.specs.Heap.{joined}
 use Rattle.lmn_web.specs.Webs.{WebCell}
@@ -40,10 +45,14 @@ invariant_of-self c =
     let v = web_by k.web in
     let e = c.join.ensures in
     let links = joined_links k.posts k.table v (cell_id c.args.a) c.args.i (cell_id c.args.b) c.args.j in
+    let t = ap (λ (f : ℕ → Option WebCell). heap_by k.posts k.table f) e ∙ joined_heap k.posts k.table v (cell_id c.args.a) c.args.i (cell_id c.args.b) c.args.j c.self.invariant.store.stored c.listed.ensures c.paired.ensures (web_formed (cells_by k.web)) in
     record {
-      stored = subst (λ (f : ℕ → Option WebCell). IsStored k.posts k.table f) (sym e) (stored_same v _ links.cores k.posts k.table c.self.invariant.stored);
-      counts = subst (λ (f : ℕ → Option WebCell). HasCounts (atoms_of k.posts f) (mems_of k.posts k.table f) c.self.inside.atom_count c.self.inside.mem_count c.self.inside.spare_count) (sym e)
-          (links.counts _ _ _ c.self.invariant.counts);
+      store = record {
+        stored = subst (λ (f : ℕ → Option WebCell). IsStored k.posts k.table f) (sym e) (stored_same v _ links.cores k.posts k.table c.self.invariant.store.stored);
+        counts = subst (λ (f : ℕ → Option WebCell). HasCounts (atoms_of k.posts f) (mems_of k.posts k.table f) c.self.inside.atom_count c.self.inside.mem_count c.self.inside.spare_count) (sym e)
+            (links.counts _ _ _ c.self.invariant.store.counts);
+      };
+      index = index_kept _ _ _ _ c.self.invariant.index _ _ (λ m. key_by v (web_by c.join.new.self) m (ap (λ (f : ℕ → Option WebCell). web_label f m) e ∙ label_same v _ links.cores m)) (λ m. ap (λ (h : Heap). seen_by (h.mems m)) t);
     }
 
 pub returns : goal.returns
@@ -51,5 +60,5 @@ returns c =
     let k = kept_by c.self.inside in
     let v = web_by k.web in
     ap (λ (f : ℕ → Option WebCell). heap_by k.posts k.table f) c.join.ensures
-    ∙ joined_heap k.posts k.table v (cell_id c.args.a) c.args.i (cell_id c.args.b) c.args.j c.self.invariant.stored c.listed.ensures c.paired.ensures (web_formed (cells_by c.self.inside.web))
+    ∙ joined_heap k.posts k.table v (cell_id c.args.a) c.args.i (cell_id c.args.b) c.args.j c.self.invariant.store.stored c.listed.ensures c.paired.ensures (web_formed (cells_by c.self.inside.web))
     ∙ ap (λ (z : KeptWeb). joined (heap_of z) (cell_id c.args.a) c.args.i (cell_id c.args.b) c.args.j) c.self.view_is

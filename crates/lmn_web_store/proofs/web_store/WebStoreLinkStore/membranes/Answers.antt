@@ -11,6 +11,6 @@ use Rattle.lmn_web_store.proofs.web_store.WebStoreLinkStore.membranes.Goals as g
 pub returns : goal.returns
 returns c f t =
     let k = kept_by c.self.inside in
-    let inv = c.self.invariant.stored in
+    let inv = c.self.invariant.store.stored in
     c.len.ensures ∙ mems_counted k.posts k.table (web_by k.web) inv (heap_sound k.posts k.table (web_by k.web) inv c.listed.ensures c.paired.ensures (web_formed (cells_by k.web))) f
     (subst (λ (z : KeptWeb). IsTree (heap_of z) f) (sym c.self.view_is) t)

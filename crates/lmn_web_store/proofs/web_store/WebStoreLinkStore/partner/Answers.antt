@@ -22,16 +22,16 @@ pub returns-clause-link : goal.returns-clause-link
 returns-clause-link c =
     let a = cell_id c.args.a in
     subst (λ (z : KeptWeb). link_of (heap_of z) a c.args.port ≡ option_map port_id c.partner.result) c.self.view_is
-    (partner_link _ _ _ c.self.invariant.stored c.listed.ensures c.paired.ensures (web_formed (cells_by c.self.inside.web)) _ a c.args.port c.partner.ensures)
+    (partner_link _ _ _ c.self.invariant.store.stored c.listed.ensures c.paired.ensures (web_formed (cells_by c.self.inside.web)) _ a c.args.port c.partner.ensures)
 
 pub returns-clause-there : goal.returns-clause-there
 returns-clause-there c =
     let a = cell_id c.args.a in
     subst (λ (z : KeptWeb). IfSome c.partner.result (λ q. IsAtom (heap_of z) (cell_id q.0) × (q.1 < arity_of (heap_of z) (cell_id q.0)))) c.self.view_is
-    (partner_there _ _ _ c.self.invariant.stored c.listed.ensures c.paired.ensures (web_formed (cells_by c.self.inside.web)) cell_id c.partner.result a c.args.port c.partner.ensures)
+    (partner_there _ _ _ c.self.invariant.store.stored c.listed.ensures c.paired.ensures (web_formed (cells_by c.self.inside.web)) cell_id c.partner.result a c.args.port c.partner.ensures)
 
 pub returns-clause-back : goal.returns-clause-back
 returns-clause-back c =
     let a = cell_id c.args.a in
     subst (λ (z : KeptWeb). IfSome c.partner.result (λ q. link_of (heap_of z) (cell_id q.0) q.1 ≡ Some (a, c.args.port))) c.self.view_is
-    (partner_back _ _ _ c.self.invariant.stored c.listed.ensures c.paired.ensures (web_formed (cells_by c.self.inside.web)) cell_id c.partner.result a c.args.port c.partner.ensures)
+    (partner_back _ _ _ c.self.invariant.store.stored c.listed.ensures c.paired.ensures (web_formed (cells_by c.self.inside.web)) cell_id c.partner.result a c.args.port c.partner.ensures)

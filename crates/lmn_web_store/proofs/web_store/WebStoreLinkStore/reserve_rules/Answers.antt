@@ -5,6 +5,10 @@ use Rattle.lmn_web.specs.Webs.{web_by}
 use Rattle.lmn_web_store.specs.WebHeaps.{KeptWeb, heap_of}
 use Rattle.lmn_web_store.specs.WebStores.{kept_by, HasRules}
 use Rattle.lmn_web_store.proofs.RulingLemmas.{room_kept, room_is, room_stored, room_heap, room_now, room_counts}
+use Rattle.lmn_web_store.proofs.IndexLemmas.{index_kept}
+use Rattle.lmn_web_store.proofs.MemLists.{seen_by, seen_reserved}
+use Rattle.lmn_heap.specs.Heap.{Heap}
+use Rattle.std.proofs.Common.{refl}
 use Rattle.lmn_web_store.proofs.web_store.WebStoreLinkStore.reserve_rules.Goals as goal
 
 pub index-requires : goal.index-requires
@@ -18,11 +22,15 @@ invariant_of-self-2 c =
     let h = subst (λ (z : KeptWeb). HasRules z.table (web_by z.web) m c.place_of_rules-place.result) (sym c.self.view_is) c.place_of_rules-place.ensures in
     let low = c.if-n-spare-2.false in
     let more = c.if-n-spare.false in
-    let bound = c.self.invariant.counts.bound in
-    let is = room_is k.posts k.table (web_by k.web) c.self.invariant.stored m c.place_of_rules-place.result s h c.index.result.now c.index.ensures ∙ sym c.spare-spare.ensures in
+    let bound = c.self.invariant.store.counts.bound in
+    let is = room_is k.posts k.table (web_by k.web) c.self.invariant.store.stored m c.place_of_rules-place.result s h c.index.result.now c.index.ensures ∙ sym c.spare-spare.ensures in
+    let t = room_heap k.posts k.table (web_by k.web) c.self.invariant.store.stored m c.place_of_rules-place.result s h _ _ _ c.self.invariant.store.counts _ c.args.n c.in_ok-reserve.ensures.ok in
     record {
-      stored = room_stored k.posts k.table (web_by k.web) c.self.invariant.stored m c.place_of_rules-place.result s h _ _ _ c.self.invariant.counts _ c.args.n c.in_ok-reserve.ensures.ok;
-      counts = room_counts k.posts k.table (web_by k.web) c.self.invariant.stored m c.place_of_rules-place.result s h _ _ _ c.self.invariant.counts _ c.args.n c.in_ok-reserve.ensures.ok c.spare-spare.result is (omega (arith, more)) (omega (arith, low, more, bound));
+      store = record {
+        stored = room_stored k.posts k.table (web_by k.web) c.self.invariant.store.stored m c.place_of_rules-place.result s h _ _ _ c.self.invariant.store.counts _ c.args.n c.in_ok-reserve.ensures.ok;
+        counts = room_counts k.posts k.table (web_by k.web) c.self.invariant.store.stored m c.place_of_rules-place.result s h _ _ _ c.self.invariant.store.counts _ c.args.n c.in_ok-reserve.ensures.ok c.spare-spare.result is (omega (arith, more)) (omega (arith, low, more, bound));
+      };
+      index = index_kept _ _ _ _ c.self.invariant.index _ _ (λ m. refl) (λ y. ap (λ (u : Heap). seen_by (u.mems y)) t ∙ seen_reserved (heap_of k) m c.args.n y);
     }
 
 pub returns-clause-least : goal.returns-clause-least
@@ -31,7 +39,7 @@ returns-clause-least c =
     let k = kept_by c.self.inside in
     let s = subst (λ (z : KeptWeb). IsMem (heap_of z) m) (sym c.self.view_is) c.requires in
     let h = subst (λ (z : KeptWeb). HasRules z.table (web_by z.web) m c.place_of_rules-place.result) (sym c.self.view_is) c.place_of_rules-place.ensures in
-    subst (λ j. c.args.n ≤ j) (sym (room_now k.posts k.table (web_by k.web) c.self.invariant.stored m c.place_of_rules-place.result s h _ _ _ c.self.invariant.counts _ c.args.n c.in_ok-reserve.ensures.ok)) (omega arith)
+    subst (λ j. c.args.n ≤ j) (sym (room_now k.posts k.table (web_by k.web) c.self.invariant.store.stored m c.place_of_rules-place.result s h _ _ _ c.self.invariant.store.counts _ c.args.n c.in_ok-reserve.ensures.ok)) (omega arith)
 
 pub returns-clause-ok : goal.returns-clause-ok
 returns-clause-ok c =
@@ -39,8 +47,8 @@ returns-clause-ok c =
     let k = kept_by c.self.inside in
     let s = subst (λ (z : KeptWeb). IsMem (heap_of z) m) (sym c.self.view_is) c.requires in
     let h = subst (λ (z : KeptWeb). HasRules z.table (web_by z.web) m c.place_of_rules-place.result) (sym c.self.view_is) c.place_of_rules-place.ensures in
-    room_heap k.posts k.table (web_by k.web) c.self.invariant.stored m c.place_of_rules-place.result s h _ _ _ c.self.invariant.counts _ c.args.n c.in_ok-reserve.ensures.ok
-    ∙ ap (λ (z : KeptWeb). reserved (heap_of z) m c.args.n) c.self.view_is ∙ ap (reserved (heap_of c.args.self.now) m) (sym (room_now k.posts k.table (web_by k.web) c.self.invariant.stored m c.place_of_rules-place.result s h _ _ _ c.self.invariant.counts _ c.args.n c.in_ok-reserve.ensures.ok))
+    room_heap k.posts k.table (web_by k.web) c.self.invariant.store.stored m c.place_of_rules-place.result s h _ _ _ c.self.invariant.store.counts _ c.args.n c.in_ok-reserve.ensures.ok
+    ∙ ap (λ (z : KeptWeb). reserved (heap_of z) m c.args.n) c.self.view_is ∙ ap (reserved (heap_of c.args.self.now) m) (sym (room_now k.posts k.table (web_by k.web) c.self.invariant.store.stored m c.place_of_rules-place.result s h _ _ _ c.self.invariant.store.counts _ c.args.n c.in_ok-reserve.ensures.ok))
 
 pub returns-then-n-spare-clause-ok : goal.returns-then-n-spare-clause-ok
 returns-then-n-spare-clause-ok c = room_kept (heap_of c.args.self.now) (cell_id c.args.m)

@@ -9,7 +9,7 @@ use Rattle.lmn_web_store.proofs.SoundLemmas.{heap_sound, web_formed}
 use Rattle.lmn_web_store.proofs.web_store.WebStoreLinkStore.root.Goals as goal
 
 pub returns-clause-sound : goal.returns-clause-sound
-returns-clause-sound c = subst (λ (z : KeptWeb). Sound (heap_of z)) c.self.view_is (heap_sound _ _ _ c.self.invariant.stored c.listed.ensures c.paired.ensures (web_formed (cells_by c.self.inside.web)))
+returns-clause-sound c = subst (λ (z : KeptWeb). Sound (heap_of z)) c.self.view_is (heap_sound _ _ _ c.self.invariant.store.stored c.listed.ensures c.paired.ensures (web_formed (cells_by c.self.inside.web)))
 
 pub returns-clause-few : goal.returns-clause-few
-returns-clause-few c = subst (λ (z : KeptWeb). AtMost BOUND (heap_of z)) c.self.view_is (at_most (heap_of (kept_by c.self.inside)) _ _ _ c.self.invariant.counts)
+returns-clause-few c = subst (λ (z : KeptWeb). AtMost BOUND (heap_of z)) c.self.view_is (at_most (heap_of (kept_by c.self.inside)) _ _ _ c.self.invariant.store.counts)

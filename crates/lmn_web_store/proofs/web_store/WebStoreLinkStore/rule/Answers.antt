@@ -16,7 +16,7 @@ at-requires c =
     let m = cell_id c.args.m in
     let k = kept_by c.self.inside in
     let h = subst (λ (z : KeptWeb). HasRules z.table (web_by z.web) m c.place_of_rules-place.result) (sym c.self.view_is) c.place_of_rules-place.ensures in
-    subst (λ (xs : List ℕ). c.args.i < length xs) (numbers_are k.posts k.table (web_by k.web) c.self.invariant.stored m c.place_of_rules-place.result (subst (λ (z : KeptWeb). IsMem (heap_of z) m) (sym c.self.view_is) c.requires.mem) h c.index.result.now c.index.ensures)
+    subst (λ (xs : List ℕ). c.args.i < length xs) (numbers_are k.posts k.table (web_by k.web) c.self.invariant.store.stored m c.place_of_rules-place.result (subst (λ (z : KeptWeb). IsMem (heap_of z) m) (sym c.self.view_is) c.requires.mem) h c.index.result.now c.index.ensures)
     (subst (λ (z : KeptWeb). c.args.i < length (rules_in (heap_of z) m)) (sym c.self.view_is) c.requires.below)
 
 pub returns : goal.returns
@@ -25,4 +25,4 @@ returns c =
     let k = kept_by c.self.inside in
     let h = subst (λ (z : KeptWeb). HasRules z.table (web_by z.web) m c.place_of_rules-place.result) (sym c.self.view_is) c.place_of_rules-place.ensures in
     subst (λ (z : KeptWeb). slice_index_or (rules_in (heap_of z) m) c.args.i 0 ≡ c.at.result) c.self.view_is
-    (ap (λ (xs : List ℕ). slice_index_or xs c.args.i 0) (numbers_are k.posts k.table (web_by k.web) c.self.invariant.stored m c.place_of_rules-place.result (subst (λ (z : KeptWeb). IsMem (heap_of z) m) (sym c.self.view_is) c.requires.mem) h c.index.result.now c.index.ensures) ∙ c.at.ensures)
+    (ap (λ (xs : List ℕ). slice_index_or xs c.args.i 0) (numbers_are k.posts k.table (web_by k.web) c.self.invariant.store.stored m c.place_of_rules-place.result (subst (λ (z : KeptWeb). IsMem (heap_of z) m) (sym c.self.view_is) c.requires.mem) h c.index.result.now c.index.ensures) ∙ c.at.ensures)

@@ -16,4 +16,4 @@ returns c =
     let k = kept_by c.self.inside in
     let h = subst (λ (z : KeptWeb). HasRules z.table (web_by z.web) m c.place_of_rules-place.result) (sym c.self.view_is) c.place_of_rules-place.ensures in
     subst (λ (z : KeptWeb). c.len.result ≡ length (rules_in (heap_of z) m)) c.self.view_is
-    (c.len.ensures ∙ ap length (sym (numbers_are k.posts k.table (web_by k.web) c.self.invariant.stored m c.place_of_rules-place.result (subst (λ (z : KeptWeb). IsMem (heap_of z) m) (sym c.self.view_is) c.requires) h c.index.result.now c.index.ensures)))
+    (c.len.ensures ∙ ap length (sym (numbers_are k.posts k.table (web_by k.web) c.self.invariant.store.stored m c.place_of_rules-place.result (subst (λ (z : KeptWeb). IsMem (heap_of z) m) (sym c.self.view_is) c.requires) h c.index.result.now c.index.ensures)))

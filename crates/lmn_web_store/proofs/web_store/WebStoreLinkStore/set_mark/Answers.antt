@@ -5,6 +5,11 @@ use Rattle.lmn_web.specs.Webs.{web_by}
 use Rattle.lmn_web_store.specs.WebHeaps.{KeptWeb, heap_of}
 use Rattle.lmn_web_store.specs.WebStores.{kept_by}
 use Rattle.lmn_web_store.proofs.ReadLemmas.{atom_there, arity_is}
+use Rattle.lmn_web_store.proofs.IndexLemmas.{index_kept, key_by}
+use Rattle.lmn_web_store.proofs.MemLists.{seen_by}
+use Rattle.lmn_web_store.proofs.CoreLemmas.{label_same}
+use Rattle.lmn_heap.specs.Heap.{Heap}
+use Rattle.lmn_web.specs.Webs.{web_label}
 use Rattle.lmn_web_store.proofs.web_store.WebStoreLinkStore.set_mark.Goals as goal
 use Rattle.lmn_heap.specs.Heap.{marked}
 use Rattle.lmn_web.specs.Webs.{WebCell}
@@ -29,9 +34,13 @@ invariant_of-self c =
     let v = web_by k.web in
     let i = atom_there k.posts k.table v a (subst (λ (z : KeptWeb). IsAtom (heap_of z) a) (sym c.self.view_is) c.requires.atom) in
     let e = c.set_mark.ensures in
+    let t = ap (λ (f : ℕ → Option WebCell). heap_by k.posts k.table f) e ∙ marked_heap k.posts k.table v a c.args.slot c.args.v i.1 in
     record {
-      stored = subst (λ (f : ℕ → Option WebCell). IsStored k.posts k.table f) (sym e) (stored_same v _ (core_same k.posts k.table v a c.args.slot c.args.v) k.posts k.table c.self.invariant.stored);
-      counts = subst (λ (f : ℕ → Option WebCell). HasCounts (atoms_of k.posts f) (mems_of k.posts k.table f) c.self.inside.atom_count c.self.inside.mem_count c.self.inside.spare_count) (sym e) (marked_counts k.posts k.table v a c.args.slot c.args.v i.1 _ _ _ c.self.invariant.counts);
+      store = record {
+        stored = subst (λ (f : ℕ → Option WebCell). IsStored k.posts k.table f) (sym e) (stored_same v _ (core_same k.posts k.table v a c.args.slot c.args.v) k.posts k.table c.self.invariant.store.stored);
+        counts = subst (λ (f : ℕ → Option WebCell). HasCounts (atoms_of k.posts f) (mems_of k.posts k.table f) c.self.inside.atom_count c.self.inside.mem_count c.self.inside.spare_count) (sym e) (marked_counts k.posts k.table v a c.args.slot c.args.v i.1 _ _ _ c.self.invariant.store.counts);
+      };
+      index = index_kept _ _ _ _ c.self.invariant.index _ _ (λ m. key_by v (web_by c.set_mark.new.self) m (ap (λ (f : ℕ → Option WebCell). web_label f m) e ∙ label_same v _ (core_same k.posts k.table v a c.args.slot c.args.v) m)) (λ m. ap (λ (h : Heap). seen_by (h.mems m)) t);
     }
 
 pub returns : goal.returns
