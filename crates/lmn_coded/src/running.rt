@@ -89,14 +89,7 @@ impl<S: LinkStore> Coded<S> {
         ensures steps { CountsAsked (S.heap self.old.machine.store) self.old.codes 0 steps.old steps.new }
     {
         let many = membranes(self.machine.store());
-        match search(
-            &mut self.machine,
-            &self.codes,
-            0,
-            many,
-            false,
-            steps,
-        ) {
+        match search(&mut self.machine, &self.codes, 0, many, false, steps) {
             Some(_) => true,
             None => false,
         }

@@ -83,7 +83,6 @@ keeps_picked p q k ns t =
     let s = keeps_selected p q k ns (picked p ns) (there_selected p ns t) in
     (selected q ns (picked p ns) s, selected_there q ns (picked p ns) s)
 
-
 -- codes are there, and are what they were, where each number means what it meant
 pub keeps_stored : (p q : List Instr) → Keeps p q → (cs : List Numbered) → AreStored p cs → (stored_codes q cs ≡ stored_codes p cs) × AreStored q cs
 keeps_stored p q k [] t = (refl, tt)

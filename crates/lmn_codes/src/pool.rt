@@ -207,7 +207,11 @@ impl Pool {
     }
 
     /// Puts instructions, and answers their numbers.
-    pub(crate) fn put_all(&mut self, alloc: Global, instrs: Rows<Instr>) -> Result<Rows<u32>, NoMemory>
+    pub(crate) fn put_all(
+        &mut self,
+        alloc: Global,
+        instrs: Rows<Instr>,
+    ) -> Result<Rows<u32>, NoMemory>
         ensures ok { IfOk result (λ numbers. Selects self.new numbers instrs) }
         ensures keeps { Keeps self.old self.new }
     {

@@ -12,8 +12,8 @@ ghost use Rattle.lmn_commit.specs.Waking.{Commits};
 
 use crate::splicing::{relink, unify};
 use crate::waking::wake;
-use lmn_ground::{drop_cells, place_cells, take_part};
 use lmn_codes::Instrs;
+use lmn_ground::{drop_cells, place_cells, take_part};
 use lmn_instr::{AtomPort, Instr, NewPort};
 use lmn_registers::SetRegisters;
 use lmn_store::LinkStore;

@@ -10,8 +10,8 @@ ghost use Rattle.lmn_registers.specs.declared.stack.TheConstants.{ROOM};
 
 use crate::marking::mark_taken;
 use lmn_base::{Functor, Label, NoMemory};
-use lmn_ground::{copy_cells, copy_counted};
 use lmn_codes::Instrs;
+use lmn_ground::{copy_cells, copy_counted};
 use lmn_instr::Instr;
 use lmn_registers::{PartCopy, SetRegisters};
 use lmn_store::LinkStore;

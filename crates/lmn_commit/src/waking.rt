@@ -121,7 +121,11 @@ fn wake_for<S: LinkStore>(
 
 /// What the code of a body touches wakes: the membrane of the rule, those that the code takes away, the homes of the atoms that
 /// it takes away and of those that are joined to them, and each membrane round one of these.
-pub(crate) fn wake<S: LinkStore>(store: &mut S, code: &Instrs<'_>, set: &SetRegisters<S::Atom, S::Mem>)
+pub(crate) fn wake<S: LinkStore>(
+    store: &mut S,
+    code: &Instrs<'_>,
+    set: &SetRegisters<S::Atom, S::Mem>,
+)
     requires deep { AllDeep (S.heap store.old) }
     requires held { AreHeld S.atom_id S.mem_id (S.heap store.old) set.now }
     requires uses { AllUse (length set.now.atoms) (length set.now.membranes) (length set.now.parts) (length set.now.copies) code.now }

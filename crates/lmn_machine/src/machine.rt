@@ -72,7 +72,12 @@ impl<S: LinkStore> Machine<S> {
 
     /// Looks for the first success of the head of a code in a membrane, and counts one step. True says that the registers hold
     /// it, and false that there is none. It takes no memory, and the store is left as it was.
-    pub fn find<L: Ledger>(&mut self, code: &CodeView<'_>, membrane: S::Mem, steps: &mut Steps<L>) -> bool
+    pub fn find<L: Ledger>(
+        &mut self,
+        code: &CodeView<'_>,
+        membrane: S::Mem,
+        steps: &mut Steps<L>,
+    ) -> bool
         requires valid { Valid (S.heap self.old.store) }
         requires unmarked { Unmarked (S.heap self.old.store) }
         requires membrane { IsMem (S.heap self.old.store) (S.mem_id membrane) }
@@ -86,12 +91,7 @@ impl<S: LinkStore> Machine<S> {
         ensures none { IsFalse result → (r : HeadRegisters) → Succeeds (S.heap self.old.store) code.now.head (S.mem_id membrane) r → ⊥ }
     {
         steps.tick();
-        finding::find(
-            &mut self.store,
-            code.head(),
-            membrane,
-            &mut self.set,
-        )
+        finding::find(&mut self.store, code.head(), membrane, &mut self.set)
     }
 
     /// Makes all that the body of a code makes, detached, after the head was found: then `commit` can't fail. Want of

@@ -169,14 +169,7 @@ impl<'p, S: LinkStore, F: Fn(u64, u64) -> u64> Engine<'p, S, F> {
         nothing_embeds();
         turns_are_alike();
         let many = membranes(self.machine.store());
-        match search(
-            &mut self.machine,
-            &self.codes,
-            0,
-            many,
-            false,
-            steps,
-        ) {
+        match search(&mut self.machine, &self.codes, 0, many, false, steps) {
             Some(_) => true,
             None => false,
         }

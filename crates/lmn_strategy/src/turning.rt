@@ -42,11 +42,7 @@ fn is_roomy(items: u64, many: u64, size: u64) -> bool
 
 /// Whether the commit with a code leaves at most `size` items. They are counted only where there may be more: an instruction
 /// adds no more items than there are.
-fn leaves_few<S: LinkStore>(
-    machine: &mut Machine<S>,
-    code: &CodeView<'_>,
-    size: u64,
-) -> bool
+fn leaves_few<S: LinkStore>(machine: &mut Machine<S>, code: &CodeView<'_>, size: u64) -> bool
     requires fire { CanFire S.atom_id S.mem_id (S.heap machine.old.store) machine.old.set code.now }
     requires size { size < 2 ^ 64 - 1 }
     ensures same { S.heap machine.new.store ≡ S.heap machine.old.store }
@@ -61,7 +57,12 @@ fn leaves_few<S: LinkStore>(
 }
 
 /// Lets the rule of a code fire whose head was found, where its commit leaves at most `size` items.
-fn fire<S: LinkStore>(alloc: Global, machine: &mut Machine<S>, code: &CodeView<'_>, size: u64) -> Turn
+fn fire<S: LinkStore>(
+    alloc: Global,
+    machine: &mut Machine<S>,
+    code: &CodeView<'_>,
+    size: u64,
+) -> Turn
     requires fire { CanFire S.atom_id S.mem_id (S.heap machine.old.store) machine.old.set code.now }
     requires size { size < 2 ^ 64 - 1 }
     ensures fires { AnswersMatch S.atom_id S.mem_id (S.heap machine.old.store) machine.old.set code.now size result (S.heap machine.new.store) }
