@@ -50,7 +50,7 @@ fn leaves_few<S: LinkStore>(machine: &mut Machine<S>, code: &CodeView<'_>, size:
     ensures few { (r : Registers) (n : ℕ) → Agrees S.atom_id S.mem_id machine.old.set r.head → HasRests S.atom_id S.mem_id (S.heap machine.old.store) machine.old.set r → Leaves (S.heap machine.old.store) r code.now.body n → IsTrue result ↔ (n ≤ size) }
 {
     let items = machine.store().items();
-    if is_roomy(items, code.body.len() as u64, size) {
+    if is_roomy(items, code.body().len() as u64, size) {
         return true;
     }
     machine.cost(code) <= size
