@@ -18,6 +18,7 @@ use lmn_store::LinkStore;
 use std::alloc::Global;
 
 /// Makes an atom, which goes into the next register.
+#[inline(always)]
 fn make_atom<S: LinkStore>(
     alloc: Global,
     store: &mut S,

@@ -31,6 +31,7 @@ pub fn end<S: LinkStore>(store: &S, a: S::Atom, port: u8) -> Option<(S::Atom, u8
 }
 
 /// Whether an atom has a functor.
+#[inline(always)]
 pub fn has_functor<S: LinkStore>(store: &S, a: S::Atom, functor: Functor) -> bool
     requires { IsAtom (S.heap store.now) (S.atom_id a) }
     ensures { IsTrue result ↔ (functor_of (S.heap store.now) (S.atom_id a) ≡ Some functor) }

@@ -192,6 +192,7 @@ impl LinkStore for WebStore {
         self.web.next(a)
     }
 
+    #[inline(always)]
     fn first_with(&self, m: Cell, f: Functor) -> Option<Cell> {
         self.web.listed();
         self.web.first_with(m, number_of(f.label), f.arity)
@@ -273,6 +274,7 @@ impl LinkStore for WebStore {
         wake(&mut self.index, key, was, v == 0);
     }
 
+    #[inline(always)]
     fn make_atom(&mut self, alloc: Global, f: Functor) -> Result<Cell, NoMemory> {
         if self.atom_count + self.mem_count + self.spare_count >= BOUND {
             return Err(NoMemory);
