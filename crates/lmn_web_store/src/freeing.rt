@@ -15,6 +15,7 @@ use lmn_web::{Cell, CellKind, Web};
 use slab::Slab;
 
 /// The atoms in a line are freed.
+#[inline(always)]
 pub fn free_atoms(web: &mut Web, line: Cell, count: &mut u64)
     requires { (p : Posts) × (t : List (Option RuleList)) × (m : ℕ) × (s : ℕ) × CanFree p (cell_id line) t (web_by web.old) count.old m s }
     ensures freed { (p : Posts) (t : List (Option RuleList)) (m s : ℕ) → CanFree p (cell_id line) t (web_by web.old) count.old m s →
@@ -30,6 +31,7 @@ pub fn free_atoms(web: &mut Web, line: Cell, count: &mut u64)
 }
 
 /// The membranes in a line are freed, with their rules.
+#[inline(always)]
 pub fn free_mems(
     web: &mut Web,
     rules: &mut Slab<Rules>,

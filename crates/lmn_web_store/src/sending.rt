@@ -12,6 +12,7 @@ ghost use Rattle.lmn_web_store.specs.Sends.{Sends, CanSend};
 use lmn_web::{Cell, CellKind, Web};
 
 /// The cell leaves its list and goes to the end of another membrane's list of its kind.
+#[inline(always)]
 pub fn send(web: &mut Web, home: Cell, c: Cell)
     requires listed { IsSome (home_at (web_by web.old) (cell_id c)) }
     requires membrane { kind_at (web_by web.old) (cell_id home) ≡ Membrane }
