@@ -3,6 +3,7 @@ use Rattle.std.proofs.Common.{◌≡◌, ◌≢◌, ◌⊎◌, ℕ, zero, suc, �
 use Rattle.std.proofs.lemmas.Bool.{eq-eqb, eqb-true}
 use Rattle.std.specs.Option.{option_and_then}
 use Rattle.lmn_ground.specs.Marks.{way, back, entry_port, ports_behind, OnWay, Sought}
+pub use Rattle.lmn_ground.specs.Marks.{weight}
 use Rattle.lmn_parts.specs.Walks.{port_range, neighbour, HasPort, Net, ports_from, kept, is_port, Walk, passes}
 use Rattle.lmn_base.proofs.Numbers.{not_equal as apart_test}
 use Rattle.lmn_base.specs.Lists.{In}
@@ -147,10 +148,6 @@ sought_leaf n marks root depth deep b a i e w one is high =
         (subst (λ (p : ℕ × ℕ). marks p.0 ≢ 0) (sym is) high) in
         subst (λ (p : ℕ × ℕ). Sought n marks root (suc depth) b 0 depth p.0 (p.1 + 1)) is
         (sought_back n marks root (suc depth) b 0 (suc depth) depth b 1 refl on (sym one))
-
--- what is still to be gone through, in numbers
-abbrev pub weight : Net → (ℕ → ℕ) → ℕ → ℕ → ℕ → ℕ
-weight n marks depth a i = length (ports_behind n marks depth a) + depth + (n.arity a - i)
 
 -- one port further leaves less to go through
 pub weight_past : (n : Net) (marks : ℕ → ℕ) (depth a i : ℕ) → i < n.arity a → weight n marks depth a (i + 1) < weight n marks depth a i

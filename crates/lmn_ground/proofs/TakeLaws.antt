@@ -7,11 +7,11 @@ use Rattle.lmn_heap.specs.Graphs.{atom_map}
 use Rattle.lmn_ground.proofs.WipeLaws.{b_reached}
 use Rattle.lmn_heap.specs.Heap.{link_of, Heap, HeapAtom, Distinct, IsAtom, IsInPlace, alter, gone, home_by, with_place, with_mark, partners_of, marks_of, marked, taken, atom_out, arity_of, home_of, taken_all}
 use Rattle.lmn_heap.proofs.Listing.{alter_at, alter_away}
-use Rattle.lmn_ground.specs.Marks.{first_place, paint, painted, first_marks, way, ports_ahead, OnWay}
+use Rattle.lmn_ground.specs.Marks.{back, first_place, paint, painted, first_marks, way, ports_ahead, OnWay}
 use Rattle.lmn_ground.specs.Spread.{Spread, Wiping}
 use Rattle.lmn_parts.proofs.WalkLaws.{determined, kept_seen}
 use Rattle.lmn_ground.proofs.SoughtLaws.{no_port_left, weight}
-use Rattle.lmn_ground.proofs.PaintLaws.{net_painted}
+use Rattle.lmn_ground.proofs.PaintLaws.{net_painted, with_port}
 use Rattle.lmn_ground.proofs.PaintedAt.{paint_home}
 use Rattle.lmn_parts.specs.Walks.{neighbour, is_port, Net, net, is_in, Walk, ends}
 use Rattle.lmn_heap.proofs.Common.{decide_in as in_or_not}
@@ -182,3 +182,15 @@ pub taken_too : (before0 : Heap) (root : ℕ × ℕ) (seen met : List ℕ) (mid 
 taken_too before0 root seen met mid to b d c k l e w =
     subst (λ (s : Heap). Wiping s to root seen (met ++ b ∷ []) d c k l) (sym (taken_snoc before0 met b))
     (subst (λ (s : Heap). Wiping (taken (taken_all before0 met) b) s root seen (met ++ b ∷ []) d c k l) (sym e) (wiping_taken (taken_all before0 met) mid root seen (met ++ b ∷ []) d c k l b w))
+
+-- taking leaves the way back
+pub back_taken : (mid to : Heap) (b x : ℕ) (p : ℕ × ℕ) → to ≡ taken mid b → back (net mid) (first_marks mid) x ≡ p → back (net to) (first_marks to) x ≡ p
+back_taken mid to b x p e h =
+    ap (λ (s : Heap). back (net s) (first_marks s) x) e ∙ ap (λ (n : Net). back n (first_marks (taken mid b)) x) (net_taken mid b) ∙ ap (λ (v : ℕ → ℕ). back (net mid) v x) (firsts_taken mid b) ∙ h
+
+-- and the ports
+pub taken_port : (mid to : Heap) (b a i : ℕ) → to ≡ taken mid b → i < arity_of mid a → i < arity_of to a
+taken_port mid to b a i e l = subst (λ (n : Net). i < n.arity a) (sym (ap net e ∙ net_taken mid b)) l
+
+pub taken_port_there : (mid to : Heap) (b a i : ℕ) → to ≡ taken mid b → i < arity_of mid a → IsAtom to a
+taken_port_there mid to b a i e l = with_port to a (let h = taken_port mid to b a i e l in omega (arith, h))

@@ -1,5 +1,5 @@
 -- The second walk, which takes the marks back.
-use Rattle.std.proofs.Common.{◌≡◌, ◌≢◌, ℕ, suc, ◌+◌, ◌-◌, ◌*◌, ◌<◌, ◌≤◌, Bool, true, false, List, [], ◌∷◌, ◌++◌, length, Option, Some, None, refl, sym, ap, subst, ◌∙◌, inl, inr, arith, length-append, add-one}
+use Rattle.std.proofs.Common.{◌≡◌, ◌≢◌, ℕ, zero, suc, ◌+◌, ◌-◌, ◌*◌, ◌<◌, ◌≤◌, Bool, true, false, List, [], ◌∷◌, ◌++◌, length, Option, Some, None, refl, sym, ap, subst, ◌∙◌, inl, inr, arith, length-append, add-one}
 use Rattle.std.proofs.lemmas.Bool.{cases_eq}
 use Rattle.lmn_base.specs.Graphs.{Reached, across}
 use Rattle.lmn_heap.specs.Graphs.{atom_map}
@@ -7,10 +7,10 @@ use Rattle.lmn_heap.specs.Heap.{Heap, Distinct, alter, marked, arity_of, link_of
 use Rattle.lmn_heap.specs.Sound.{Sound}
 use Rattle.lmn_heap.proofs.ListLemmas.{in_left, each_in, each_of}
 use Rattle.lmn_heap.proofs.Listing.{alter_at}
-use Rattle.lmn_ground.specs.Marks.{first_place, first_marks, entry_port, back, way, ports_behind, ports_ahead, OnWay}
+use Rattle.lmn_ground.specs.Marks.{first_place, first_marks, entry_port, or_zero, back, way, ports_behind, ports_ahead, OnWay}
 use Rattle.lmn_ground.specs.Spread.{Spread, Wiping}
 use Rattle.lmn_parts.proofs.WalkLaws.{in_last, determined, kept_seen, longer, past, found}
-use Rattle.lmn_ground.proofs.SoughtLaws.{top_in, port_left, no_port_left, next_root, next_none, next_link, weight, weight_back, length-ports}
+use Rattle.lmn_ground.proofs.SoughtLaws.{top_in, port_left, no_port_left, next_root, next_none, next_link, weight, weight_back, weight_past, length-ports}
 use Rattle.lmn_ground.proofs.PaintLaws.{net_painted, painted_marked, painted_cleared, way_same, behind_same, on_way_same, mark_here, mark_away, net_marked}
 use Rattle.lmn_ground.proofs.PaintedAt.{painted_none}
 use Rattle.lmn_ground.proofs.SpreadLaws.{not_root, next_in, next_to, marks_there, alter_zero, way_enter, ahead_enter, ahead_here, on_way_enter, behind_enter}
@@ -344,3 +344,41 @@ module _ (before now : Heap) (root : ℕ × ℕ) (seen met : List ℕ) (depth a 
       subst (λ (x : ℕ). left * 256 + weight (net to) (first_marks to) d x j < left * 256 + weight (net now) (first_marks now) depth a i) (sym number)
       (subst (λ (x : ℕ). left * 256 + weight (net to) (first_marks to) d (back (net now) (first_marks now) a).0 x < left * 256 + weight (net now) (first_marks now) depth a i) (sym port)
       (heavier left _ _ (lighter_leave before root now seen met depth a i left t to d made depth_is)))
+
+-- from an atom that was entered anew the walk goes back to the port from which it was
+pub wiped_back : (now to : Heap) (a i b j : ℕ) → to ≡ marked now b 0 (256 + j) → Sound now → link_of now b j ≡ Some (a, i) → j < arity_of now b → j < 256 → back (net to) (first_marks to) b ≡ (a, i)
+wiped_back now to a i b j e sound link port small =
+    let here : first_marks to b ≡ 256 + j = ap (λ (s : Heap). first_marks s b) e ∙ mark_here now b (256 + j) (marks_there now b sound (omega (arith, port))) in
+    ap (λ (n : Net). back n (first_marks to) b) (ap net e ∙ net_marked now b 0 (256 + j))
+    ∙ ap (λ (k : ℕ). or_zero (link_of now b k)) (ap entry_port here ∙ entry_wiped j small) ∙ ap or_zero link
+
+-- An atom with one port is left when it is entered.
+module _ (before now to : Heap) (root : ℕ × ℕ) (seen met : List ℕ) (deep depth b a i left : ℕ) (t : Wiping before now root seen met deep b 0 left) (sound : Sound now) (made : to ≡ marked now b 0 0)
+    (one : arity_of now b ≡ 1) (is : back (net now) (first_marks now) b ≡ (a, i)) (depth_is : deep ≡ depth + 1) where
+  leaf_past : Wiping before now root seen met deep b 1 left
+  leaf_past = wiping_past before root now seen met deep b 0 left t (subst (λ (k : ℕ). 0 < k) (sym one) (omega arith)) low
+    where
+      at_first : (k : ℕ) (p : ℕ × ℕ) → k < 1 → link_of now b k ≡ Some p → link_of now b 0 ≡ Some p
+      at_first zero p l f = f
+      at_first (suc k) p l f = absurd (omega (arith, l))
+
+      below : Wiping before now root seen met (suc depth) b 0 left → first_marks now (back (net now) (first_marks now) b).0 < 512
+      below u = u.low (back (net now) (first_marks now) b).0
+          (subst (λ (n : Net). In (back n (first_marks now) b).0 met) (sym (ap net u.is ∙ net_painted before u.marks))
+          (u.way_met (back (net before) (first_marks now) b).0 (inr (top_in (net before) (first_marks now) depth (back (net before) (first_marks now) b).0))))
+
+      low : (x y : ℕ) → link_of now b 0 ≡ Some (x, y) → is_port (b, 0) root ≡ false → first_marks now x < 512
+      low x y e o =
+          let w : OnWay (net now) (first_marks now) root (suc depth) b = subst (λ (z : ℕ). OnWay (net now) (first_marks now) root z b) (depth_is ∙ add-one depth) (wipe_way before root now seen met deep b 0 left t) in
+          let link = at_first (entry_port (first_marks now b)) (back (net now) (first_marks now) b) (subst (λ (z : ℕ). entry_port (first_marks now b) < z) one w.1) w.0 in
+          let same : (back (net now) (first_marks now) b).0 ≡ x = ap (λ (q : Option (ℕ × ℕ)). (or_zero q).0) (sym link ∙ e) in
+          subst (λ (z : ℕ). first_marks now z < 512) same (below (subst (λ (z : ℕ). Wiping before now root seen met z b 0 left) (depth_is ∙ add-one depth) t))
+
+  pub leaf_left : Wiping before to root seen met depth a (i + 1) left
+  leaf_left = left_to before now root seen met deep b 1 left to depth a (i + 1) (sym (ap (λ (p : ℕ × ℕ). p.0) is)) (ap (λ (p : ℕ × ℕ). p.1 + 1) (sym is)) made depth_is leaf_past sound (sym one)
+
+  pub leaf_lighter : weight (net to) (first_marks to) depth a (i + 1) ≤ weight (net now) (first_marks now) deep b 0
+  leaf_lighter =
+      let l = left_lighter before now root seen met deep b 1 left to depth a (i + 1) (sym (ap (λ (p : ℕ × ℕ). p.0) is)) (ap (λ (p : ℕ × ℕ). p.1 + 1) (sym is)) made depth_is leaf_past in
+      let w = weight_past (net now) (first_marks now) deep b 0 (subst (λ (k : ℕ). 0 < k) (sym one) (omega arith)) in
+      omega (arith, l, w)

@@ -1,5 +1,5 @@
 -- Walks that are kept in the first marks of atoms.
-use Rattle.std.specs.Prelude.{ℕ, zero, suc, ◌≡◌, ◌≢◌, ◌⊎◌, ◌<◌, ◌≤◌, ◌+◌, ◌%◌, Bool, false, List, [], ◌∷◌, ◌++◌, Option, Some, None, IsSome}
+use Rattle.std.specs.Prelude.{ℕ, zero, suc, ◌≡◌, ◌≢◌, ◌⊎◌, ◌<◌, ◌≤◌, ◌+◌, ◌-◌, ◌%◌, Bool, false, List, [], ◌∷◌, ◌++◌, Option, Some, None, IsSome, length}
 use Rattle.std.specs.Option.{option_map}
 use Rattle.lmn_heap.specs.Heap.{Heap, HeapAtom, with_mark, mark_of, Distinct}
 use Rattle.lmn_parts.specs.Walks.{neighbour, HasPort, Net, ports_from, is_port, Walk}
@@ -62,6 +62,10 @@ OnWay n marks root (suc depth) a =
 -- the ports that are still to be gone through, from port i of the atom a on
 abbrev pub ports_ahead : Net → (ℕ → ℕ) → ℕ → ℕ → ℕ → List (ℕ × ℕ)
 ports_ahead n marks depth a i = ports_from n a i ++ ports_behind n marks depth a
+
+-- how much is still to be gone through: the ports, and the steps back
+abbrev pub weight : Net → (ℕ → ℕ) → ℕ → ℕ → ℕ → ℕ
+weight n marks depth a i = length (ports_behind n marks depth a) + depth + (n.arity a - i)
 
 -- From port i of the atom a a walk has gone on to port j of the atom b, and met no atom that isn't marked.
 pub record Sought (n : Net) (marks : ℕ → ℕ) (root : ℕ × ℕ) (depth a i deep b j : ℕ) : Type 0 where

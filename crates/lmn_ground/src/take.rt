@@ -5,7 +5,7 @@ ghost use Rattle.lmn_ground.specs.Spread.{Spread};
 ghost use Rattle.lmn_base.specs.Lists.{In};
 
 use crate::seek::{Stand, arity};
-use crate::wipe::{enter, leave, marked_end};
+use crate::wipe::{enter, leave, leave_leaf, marked_end};
 use lmn_store::LinkStore;
 
 /// Takes back the marks of a walk, and takes its atoms out of their lists.
@@ -36,11 +36,12 @@ pub fn take_marked<S: LinkStore>(store: &mut S, root: (S::Atom, u8), count: u64)
                     enter(store, b, j);
                     store.take_atom(b);
                     left -= 1;
-                    at = Stand {
+                    let down = Stand {
                         atom: b,
                         port: 0,
                         depth: at.depth + 1,
                     };
+                    at = leave_leaf(store, root, at, down);
                 }
                 None => at = Stand {
                     port: at.port + 1,

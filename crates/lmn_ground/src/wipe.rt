@@ -1,10 +1,10 @@
 //! The walk that takes the marks back.
-ghost use Rattle.std.specs.Prelude.{◌≡◌, ◌<◌, ◌≤◌, ◌+◌, ℕ, Bool, false, Some, IfSome};
+ghost use Rattle.std.specs.Prelude.{◌≡◌, ◌<◌, ◌≤◌, ◌+◌, ℕ, Bool, List, false, Some, IfSome};
 ghost use Rattle.lmn_heap.specs.Heap.{Heap, IsAtom, arity_of, link_of, marked};
 ghost use Rattle.lmn_heap.specs.Sound.{Sound};
 ghost use Rattle.lmn_parts.specs.Walks.{is_port, net};
-ghost use Rattle.lmn_ground.specs.Marks.{OnWay, back, first_marks};
-ghost use Rattle.lmn_ground.specs.Spread.{Spread};
+ghost use Rattle.lmn_ground.specs.Marks.{OnWay, back, first_marks, weight};
+ghost use Rattle.lmn_ground.specs.Spread.{Spread, Wiping};
 
 use crate::seek::{Stand, arity, go_back, is_root};
 use lmn_store::LinkStore;
@@ -69,6 +69,39 @@ pub fn leave<S: LinkStore>(store: &mut S, root: (S::Atom, u8), at: Stand<S::Atom
     to
 }
 
+/// Where a second walk goes on that stood at `from` and has entered the atom of `down` anew from there: at the first port of the
+/// atom, or behind `from`, where the atom has no port but that by which it was entered. Then its mark is taken back.
+#[inline(always)]
+pub fn leave_leaf<S: LinkStore>(
+    store: &mut S,
+    root: (S::Atom, u8),
+    from: Stand<S::Atom>,
+    down: Stand<S::Atom>,
+) -> Stand<S::Atom>
+    requires from { IsAtom (S.heap store.old) (S.atom_id from.atom) }
+    requires port { from.port < arity_of (S.heap store.old) (S.atom_id from.atom) }
+    requires atom { IsAtom (S.heap store.old) (S.atom_id down.atom) }
+    requires first { down.port ≡ 0 }
+    requires depth { down.depth ≡ from.depth + 1 }
+    requires back { back (net (S.heap store.old)) (first_marks (S.heap store.old)) (S.atom_id down.atom) ≡ (S.atom_id from.atom, from.port) }
+    ensures atom { IsAtom (S.heap store.new) (S.atom_id result.atom) }
+    ensures walk { (before : Heap) (seen met : List ℕ) (left : ℕ) → Wiping before (S.heap store.old) (S.atom_id root.0, root.1) seen met down.depth (S.atom_id down.atom) down.port left
+        → Wiping before (S.heap store.new) (S.atom_id root.0, root.1) seen met result.depth (S.atom_id result.atom) result.port left }
+    ensures lighter { (before : Heap) (seen met : List ℕ) (left : ℕ) → Wiping before (S.heap store.old) (S.atom_id root.0, root.1) seen met down.depth (S.atom_id down.atom) down.port left
+        → weight (net (S.heap store.new)) (first_marks (S.heap store.new)) result.depth (S.atom_id result.atom) result.port ≤ weight (net (S.heap store.old)) (first_marks (S.heap store.old)) down.depth (S.atom_id down.atom) down.port }
+{
+    let _arity = arity(store, from.atom);
+    if arity(store, down.atom) == 1 {
+        store.set_mark(down.atom, 0, 0);
+        Stand {
+            port: from.port + 1,
+            ..from
+        }
+    } else {
+        down
+    }
+}
+
 /// Takes back the marks of a walk.
 pub fn wipe<S: LinkStore>(store: &mut S, root: (S::Atom, u8), count: u64)
     requires atom { IsAtom (S.heap store.old) (S.atom_id root.0) }
@@ -95,11 +128,12 @@ pub fn wipe<S: LinkStore>(store: &mut S, root: (S::Atom, u8), count: u64)
                 Some((b, j)) => {
                     enter(store, b, j);
                     left -= 1;
-                    at = Stand {
+                    let down = Stand {
                         atom: b,
                         port: 0,
                         depth: at.depth + 1,
                     };
+                    at = leave_leaf(store, root, at, down);
                 }
                 None => at = Stand {
                     port: at.port + 1,

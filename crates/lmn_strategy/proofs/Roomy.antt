@@ -1,16 +1,15 @@
 -- A commit adds at most as many items for each instruction of its body as there are.
-use Rattle.std.proofs.Common.{ℕ, zero, suc, ◌≡◌, ◌≢◌, ◌<◌, ◌≤◌, ◌+◌, ◌-◌, ◌*◌, ◌^◌, Bool, true, false, List, [], ◌∷◌, ◌++◌, length, map, Option, Some, None, IsSome, refl, sym, ap, subst, ◌∙◌, inl, inr, arith, length-append, if◌then◌else◌}
-use Rattle.std.specs.Prelude.{sum, min, slice_get, ◌⊎◌, ◌↔◌}
+use Rattle.std.proofs.Common.{ℕ, suc, ◌≡◌, ◌≢◌, ◌<◌, ◌≤◌, ◌+◌, ◌-◌, ◌*◌, ◌^◌, Bool, true, false, List, [], ◌∷◌, ◌++◌, length, map, Option, Some, None, IsSome, refl, sym, ap, subst, inl, inr, arith, length-append, if◌then◌else◌}
+use Rattle.std.specs.Prelude.{sum, min, ◌↔◌}
 use Rattle.std.specs.List.{AllByRecursion}
 use Rattle.std.proofs.Math.Nat.{min-le_left, le-min}
-use Rattle.std.specs.Option.{option_and_then}
 use Rattle.lmn_base.specs.Graphs.{Reached, at_root, across}
 use Rattle.lmn_base.specs.Lists.{In}
 use Rattle.lmn_base.proofs.Lists.{sum_cons, get_there as there}
-use Rattle.lmn_heap.specs.Heap.{Heap, HeapMem, Distinct, IsMem, IsAtom, atoms_by, atoms_in, rules_by, rules_in, home_of, link_of, within}
+use Rattle.lmn_heap.specs.Heap.{Heap, HeapMem, IsMem, IsAtom, atoms_by, atoms_in, rules_by, rules_in, home_of}
 use Rattle.lmn_heap.specs.Sound.{Forest, bare, mem, flat, Forms, IsTree, Valid, item_count_in}
 use Rattle.lmn_heap.specs.Graphs.{atom_map}
-use Rattle.lmn_heap.proofs.ListLemmas.{in_left, in_right, each_of}
+use Rattle.lmn_heap.proofs.ListLemmas.{each_of}
 use Rattle.lmn_heap.proofs.Listing.{home_is}
 use Rattle.lmn_heap.proofs.Pigeonholes.{not_longer}
 use Rattle.lmn_heap.proofs.Replacing.{port_within}
@@ -19,14 +18,13 @@ use Rattle.lmn_ground.proofs.MeasureLaws.{not_heavier}
 use Rattle.lmn_ground.proofs.PaintLaws.{with_port}
 use Rattle.lmn_instr.specs.declared.instr.Instr.{Instr}
 use Rattle.lmn_instr.specs.declared.instr.Instr.TheVariants.{NewAtom, NewInt, NewMem, CopyGround, CopyCells, LoadRule, CopyRules}
-use Rattle.lmn_registers.specs.Agreeing.{Agrees}
 use Rattle.lmn_registers.specs.declared.registers.SetRegisters.{SetRegisters}
 use Rattle.lmn_body.specs.Running.{Registers}
 use Rattle.lmn_body.proofs.Dropping.{of_atoms}
 use Rattle.lmn_commit.specs.Registers.{AreMembraneHandles, HasRests}
 use Rattle.lmn_commit.proofs.Later.{rest_mem}
 use Rattle.lmn_strategy.proofs.Firing.{le_or_less}
-use Rattle.lmn_machine.specs.Costs.{AddsItems, InAll, IsRestSize, IsSize, IsTold, Leaves}
+use Rattle.lmn_machine.specs.Costs.{AddsItems, InAll, IsSize, IsTold, Leaves}
 
 -- ---- lists
 

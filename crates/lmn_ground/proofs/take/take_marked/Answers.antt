@@ -3,9 +3,9 @@ use Rattle.lmn_heap.specs.Heap.{arity_of}
 use Rattle.lmn_parts.specs.Walks.{net}
 use Rattle.lmn_ground.specs.Marks.{first_marks}
 use Rattle.lmn_ground.proofs.SoughtLaws.{weight_past}
-use Rattle.lmn_ground.proofs.SpreadLaws.{there_after}
-use Rattle.lmn_ground.proofs.WipeLaws.{wiping_first, wiping_past, wiping_enter, wiping_last, some_left, some_count, wipe_way, wipe_here, wipe_deep, left_to, left_lighter, lighter_enter, heavier}
-use Rattle.lmn_ground.proofs.TakeLaws.{still_placed, all_taken, taken_too, lighter_taken, there_taken, first_taken, root_placed, root_seen}
+use Rattle.lmn_ground.proofs.SpreadLaws.{there_after, port_after}
+use Rattle.lmn_ground.proofs.WipeLaws.{wiping_first, wiping_past, wiping_enter, wiping_last, some_left, some_count, wipe_way, wipe_here, wipe_deep, left_to, left_lighter, lighter_enter, heavier, wiped_back}
+use Rattle.lmn_ground.proofs.TakeLaws.{back_taken, taken_port, taken_port_there, still_placed, all_taken, taken_too, lighter_taken, there_taken, first_taken, root_placed, root_seen}
 use Rattle.lmn_ground.proofs.take.take_marked.Goals as goal
 
 pub overflow_sub-left : goal.overflow_sub-left
@@ -51,8 +51,8 @@ overflow_sub-left-in-Some g c =
     let e = c.in-Some.ensures in
     some_left _ _ _ _ _ _ _ _ _ t _ _ (omega (arith, h)) e.link e.there e.apart e.high
 
-pub overflow_add-at : goal.overflow_add-at
-overflow_add-at g c =
+pub overflow_add-down : goal.overflow_add-down
+overflow_add-down g c =
     let s = c.requires.spread.2 in
     let h = wipe_deep _ _ _ _ _ _ _ _ _ (c.loop-at.invariant.walk _ _ s).1 in
     let k = s.counted in
@@ -64,31 +64,53 @@ take_atom-requires-in-Some g c =
     let e = c.in-Some.ensures in
     still_placed _ _ _ _ _ _ _ _ _ (c.loop-at.invariant.walk _ _ c.requires.spread.2).1 _ _ _ c.enter-in-Some.ensures.marked e.link e.apart e.high c.requires.spread.3
 
+pub leave_leaf-at-requires-clause-from : goal.leave_leaf-at-requires-clause-from
+leave_leaf-at-requires-clause-from g c =
+    let h = wipe_here _ _ _ _ _ _ _ _ _ (c.loop-at.invariant.walk _ _ c.requires.spread.2).1 in
+    let l : c.loop-at.at.port < arity_of (g.S.LinkStore.heap c.loop-at.store) (g.S.LinkStore.atom_id c.loop-at.at.atom) = omega (arith, h) in
+    taken_port_there _ _ _ _ _ c.take_atom-in-Some.ensures (port_after _ _ _ _ _ _ _ c.enter-in-Some.ensures.marked l)
+
+pub leave_leaf-at-requires-clause-port : goal.leave_leaf-at-requires-clause-port
+leave_leaf-at-requires-clause-port g c =
+    let h = wipe_here _ _ _ _ _ _ _ _ _ (c.loop-at.invariant.walk _ _ c.requires.spread.2).1 in
+    let l : c.loop-at.at.port < arity_of (g.S.LinkStore.heap c.loop-at.store) (g.S.LinkStore.atom_id c.loop-at.at.atom) = omega (arith, h) in
+    taken_port _ _ _ _ _ c.take_atom-in-Some.ensures (port_after _ _ _ _ _ _ _ c.enter-in-Some.ensures.marked l)
+
+pub leave_leaf-at-requires-clause-atom : goal.leave_leaf-at-requires-clause-atom
+leave_leaf-at-requires-clause-atom g c = there_taken _ _ _ c.take_atom-in-Some.ensures (there_after _ _ _ _ _ _ c.enter-in-Some.ensures.marked c.in-Some.ensures.there)
+
+pub leave_leaf-at-requires-clause-back : goal.leave_leaf-at-requires-clause-back
+leave_leaf-at-requires-clause-back g c =
+    back_taken _ _ _ _ _ c.take_atom-in-Some.ensures (wiped_back _ _ _ _ _ _ c.enter-in-Some.ensures.marked c.arity.ensures.sound c.in-Some.ensures.back c.in-Some.ensures.there c.enter-in-Some.ensures.small)
+
 pub loop-at-smaller-in-Some : goal.loop-at-smaller-in-Some
 loop-at-smaller-in-Some g c =
     let t = (c.loop-at.invariant.walk _ _ c.requires.spread.2).1 in
     let h = wipe_here _ _ _ _ _ _ _ _ _ t in
     let e = c.in-Some.ensures in
     let l : c.loop-at.at.port < arity_of (g.S.LinkStore.heap c.loop-at.store) (g.S.LinkStore.atom_id c.loop-at.at.atom) = omega (arith, h) in
-    lighter_taken _ _ _ _ _ _ _ _ c.take_atom-in-Some.ensures
-    (lighter_enter _ _ _ _ _ _ _ _ _ t _ _ _ c.enter-in-Some.ensures.marked c.arity.ensures.sound l e.back e.there c.enter-in-Some.ensures.small e.small (some_left _ _ _ _ _ _ _ _ _ t _ _ l e.link e.there e.apart e.high) e.high)
+    let k = c.leave_leaf-at.ensures.lighter _ _ _ _ (taken_too _ _ _ _ _ _ _ _ _ _ _ c.take_atom-in-Some.ensures
+    (wiping_enter _ _ _ _ _ _ _ _ _ t _ _ _ c.enter-in-Some.ensures.marked c.arity.ensures.sound l e.link e.back e.there c.enter-in-Some.ensures.small e.apart e.high)) in
+    let m = lighter_taken _ _ _ _ _ _ _ _ c.take_atom-in-Some.ensures
+    (lighter_enter _ _ _ _ _ _ _ _ _ t _ _ _ c.enter-in-Some.ensures.marked c.arity.ensures.sound l e.back e.there c.enter-in-Some.ensures.small e.small (some_left _ _ _ _ _ _ _ _ _ t _ _ l e.link e.there e.apart e.high) e.high) in
+    omega (arith, k, m)
 
 pub loop-at-preserved-in-Some : goal.loop-at-preserved-in-Some
 loop-at-preserved-in-Some g c =
     let h = wipe_here _ _ _ _ _ _ _ _ _ (c.loop-at.invariant.walk _ _ c.requires.spread.2).1 in
-    let e = c.in-Some.ensures in
     let l : c.loop-at.at.port < arity_of (g.S.LinkStore.heap c.loop-at.store) (g.S.LinkStore.atom_id c.loop-at.at.atom) = omega (arith, h) in
+    let e = c.in-Some.ensures in
     record {
-      atom = there_taken _ _ _ c.take_atom-in-Some.ensures (there_after _ _ _ _ _ _ c.enter-in-Some.ensures.marked e.there);
+      atom = c.leave_leaf-at.ensures.atom;
       walk = λ before all t. (
         _,
-        taken_too _ _ _ _ _ _ _ _ _ _ _ c.take_atom-in-Some.ensures
-            (wiping_enter _ _ _ _ _ _ _ _ _ (c.loop-at.invariant.walk before all t).1 _ _ _ c.enter-in-Some.ensures.marked c.arity.ensures.sound l e.link e.back e.there c.enter-in-Some.ensures.small e.apart e.high),
+        c.leave_leaf-at.ensures.walk _ _ _ _ (taken_too _ _ _ _ _ _ _ _ _ _ _ c.take_atom-in-Some.ensures
+            (wiping_enter _ _ _ _ _ _ _ _ _ (c.loop-at.invariant.walk before all t).1 _ _ _ c.enter-in-Some.ensures.marked c.arity.ensures.sound l e.link e.back e.there c.enter-in-Some.ensures.small e.apart e.high)),
       );
     }
 
-pub overflow_add-at-in-None : goal.overflow_add-at-in-None
-overflow_add-at-in-None g c = let h = wipe_here _ _ _ _ _ _ _ _ _ (c.loop-at.invariant.walk _ _ c.requires.spread.2).1 in let r = c.arity.type_inv in omega (arith, h, r)
+pub overflow_add-at : goal.overflow_add-at
+overflow_add-at g c = let h = wipe_here _ _ _ _ _ _ _ _ _ (c.loop-at.invariant.walk _ _ c.requires.spread.2).1 in let r = c.arity.type_inv in omega (arith, h, r)
 
 pub loop-at-smaller : goal.loop-at-smaller
 loop-at-smaller g c =
