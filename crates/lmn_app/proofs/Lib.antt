@@ -21,5 +21,6 @@ mod SmallTexts
 mod SmallBounds
 mod SmallRuns
 mod SmallSessions
+mod SmallExecutions
 mod OneSession
 mod SmallChecks

@@ -1,5 +1,5 @@
 -- The run and the trace of a small text.
-use Rattle.std.proofs.Common.{◌≡◌, ℕ, suc, ◌+◌, ◌≤◌, List, [], ◌∷◌, ◌++◌, length, slice_index_or, refl, sym, ap, ◌∙◌, subst, inl, arith}
+use Rattle.std.proofs.Common.{◌≡◌, ℕ, suc, ◌≤◌, List, [], ◌∷◌, ◌++◌, length, slice_index_or, refl, sym, ap, ◌∙◌, subst, inl, arith}
 use Rattle.std.specs.Prelude.{Bool, codes, true, false}
 use Rattle.std.specs.declared.alloc.Global.{Global}
 use Rattle.std.proofs.lemmas.List.{length-append}
@@ -61,7 +61,8 @@ last = changing (label_b ∷ [])
 rolled : (rule : ℕ → Rule) (l : Level-F base.Level) → level_of small_names rule (roll-Level l) ≡ level_step small_names rule (map-Level base.Level Level (level_of small_names rule) l)
 rolled rule l = fold-roll-Level Level (level_step small_names rule) l
 
-its_rules : rules_from small_names 0 (small_rule ∷ []) ≡ a_makes_b ∷ []
+-- its rules as those of the calculus
+pub its_rules : rules_from small_names 0 (small_rule ∷ []) ≡ a_makes_b ∷ []
 its_rules =
     let head : level_of small_names (λ n. no_such_rule) small_rule.head ≡ only_leaves (atom_leaf label_a [] ∷ []) = rolled (λ n. no_such_rule) _ in
     let body : level_of small_names (λ n. no_such_rule) small_rule.body ≡ only_leaves (atom_leaf label_b [] ∷ []) = rolled (λ n. no_such_rule) _ in

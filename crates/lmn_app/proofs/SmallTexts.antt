@@ -120,7 +120,8 @@ small_tree = its_tree (at_column 4)
 
 -- ---- its plain
 
-no_links : (name column : ℕ) (rules : List ℕ) → links_of (one_atom name column rules) ≡ []
+-- such an atom beside rules has no links
+pub no_links : (name column : ℕ) (rules : List ℕ) → links_of (one_atom name column rules) ≡ []
 no_links name column rules = ap (λ ls. map (λ o. o.link) (flat_map occurrences_of_leaf ls)) (fold-roll-Level (List Leaf) (λ l. l.leaves ++ flat_map (λ inner. inner) l.membranes) _)
 
 is_its_plain : IsPlain small_text small_tokens small_tree small_names small_plain
@@ -155,7 +156,8 @@ reads = record {
 
 -- ---- its rule
 
-leaves_listed : (l : Level-F Level) → leaves_of (roll-Level l) ≡ l.leaves ++ flat_map (λ inner. inner) (map-Level Level (List Leaf) leaves_of l).membranes
+-- the leaves of a level
+pub leaves_listed : (l : Level-F Level) → leaves_of (roll-Level l) ≡ l.leaves ++ flat_map (λ inner. inner) (map-Level Level (List Leaf) leaves_of l).membranes
 leaves_listed l = fold-roll-Level (List Leaf) (λ l. l.leaves ++ flat_map (λ inner. inner) l.membranes) l
 
 abbrev head_items : List Item

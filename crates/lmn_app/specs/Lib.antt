@@ -21,6 +21,7 @@ pub mod Writing
 pub mod ListingLaws
 pub mod BoundLaws
 pub mod ExecLaws
+pub mod ExecExamples
 pub mod CheckLaws
 pub mod BoundExamples
 pub mod CheckExamples

@@ -7,6 +7,7 @@ ghost use Rattle.lmn_app.specs.CheckExamples.{NothingIsWrong, SmallTextIsChecked
 ghost use Rattle.lmn_app.specs.CheckLaws.{CheckedNotWrong, OneCount, OneWrongTrace, RunsAreChecked};
 ghost use Rattle.lmn_app.specs.DebugExamples.{SmallTextIsDebugged, SmallTextIsNotDebuggedSo};
 ghost use Rattle.lmn_app.specs.DebugLaws.{OneWrongScript, SessionNotRefused, SessionOrRefused};
+ghost use Rattle.lmn_app.specs.ExecExamples.{SmallListingIsRead, SmallListingIsWrong, SmallTextIsExecuted, SmallTextIsNotExecutedSo};
 ghost use Rattle.lmn_app.specs.ExecLaws.{CompiledIsNotWrong, CompiledRunsAsRun};
 ghost use Rattle.lmn_app.specs.Demos.{SomeDemo};
 ghost use Rattle.lmn_app.specs.DemoLaws.{DemoIsFoldedRun};
@@ -25,7 +26,8 @@ use lmn_receipt::{chains_are_commits, traces_are_chains, traces_are_one_of};
 use lmn_runs::{plains_are_printable, short_run_prints, traces_are_runs};
 use lmn_script::{orders_are_once, scripts_are_decided};
 use lmn_turn::plains_are_tables;
-use lmn_verified::compiled_are_listed;
+use lmn_verified::{compiled_are_listed, listed_codes_are_one};
+use lmn_verify::laws::listed_lines_stand;
 use lmn_weight::{plains_weigh_alike, weights_are_read_once, weights_are_told_or_wrong};
 
 /// A text that is refused isn't accepted, and it has one refusal at most.
@@ -163,4 +165,16 @@ pub fn compiled_runs_as_run()
     tables_run_as_rules();
     compiled_are_listed();
     accepted_can_be_listed();
+}
+
+/// Beside `a. a :- b.` a listing is read whose code takes an `a` away, and is run to its end after one commit. A listing whose code
+/// leaves the `a` in its place is wrong, and so is nothing at all.
+pub fn small_text_is_executed()
+    ensures read { SmallListingIsRead }
+    ensures wrong { SmallListingIsWrong }
+    ensures executed { SmallTextIsExecuted }
+    ensures not_so { SmallTextIsNotExecutedSo }
+{
+    listed_codes_are_one();
+    listed_lines_stand();
 }

@@ -1,16 +1,14 @@
 -- What is asked of a heap, from the root on.
-use Rattle.std.proofs.Common.{ℕ, ◌≡◌, ◌<◌, List, length, sym, subst, ◌∙◌, arith}
+use Rattle.std.proofs.Common.{ℕ, List, sym, subst, ◌∙◌}
 use Rattle.lmn_base.specs.Lists.{In}
 use Rattle.lmn_base.proofs.Lists.{plus_nothing}
 use Rattle.lmn_heap.specs.Heap.{Heap, rules_in}
-use Rattle.lmn_heap.specs.Sound.{Forest, Valid, IsTree, flat}
+use Rattle.lmn_heap.specs.Sound.{Forest, flat}
 use Rattle.lmn_heap.proofs.Common.{in_at}
 use Rattle.lmn_heap.proofs.Trees.{in_here}
 use Rattle.lmn_instr.specs.declared.instr.Code.{Code}
 use Rattle.lmn_strategy.specs.Choosing.{IsFirstIn, asked}
-use Rattle.lmn_strategy.proofs.Chosen.{some_membrane}
 use Rattle.lmn_coded.specs.Turning.{SomeIn}
-use Rattle.lmn_schedule.proofs.Turned.{some_membrane as root_counts}
 
 -- the code of a rule that is chosen succeeds
 pub chosen_succeeds : (h : Heap) (codes : List Code) (f : Forest) (m place k : ℕ) → IsFirstIn h codes (asked 0 f) m place k → SomeIn h codes (flat f)

@@ -1,9 +1,9 @@
 -- What a turn and a count are where all membranes are awake and none may fall asleep.
-use Rattle.std.proofs.Common.{ℕ, ◌≡◌, List, [], ◌∷◌, true, false, refl, sym, ap, subst, ◌∙◌, arith}
-use Rattle.std.specs.Prelude.{◌==◌, if◌then◌else◌}
+use Rattle.std.proofs.Common.{ℕ, ◌≡◌, List, [], ◌∷◌, false, refl, ap, subst, ◌∙◌, arith}
+use Rattle.std.specs.Prelude.{if◌then◌else◌}
 use Rattle.std.proofs.lemmas.Bool.{eq-eqb}
 use Rattle.lmn_heap.specs.Heap.{Heap, mem_mark_of}
-use Rattle.lmn_heap.specs.Sound.{Forest, IsTree, Valid}
+use Rattle.lmn_heap.specs.Sound.{Forest, IsTree}
 use Rattle.lmn_instr.specs.declared.instr.Code.{Code}
 use Rattle.lmn_strategy.specs.Choosing.{asked}
 use Rattle.lmn_strategy.specs.Counting.{AsksRules, CountsAsked, RisesWithin, awake_of}

@@ -9,7 +9,7 @@ use Rattle.lmn_base.proofs.Numbers.{in_order, same_or_not}
 use Rattle.lmn_compile_head.proofs.Places.{take_slice}
 use Rattle.lmn_heap.specs.Heap.{Heap, atoms_in, mems_in, rules_in}
 use Rattle.lmn_heap.proofs.Common.{in_at}
-use Rattle.lmn_solid.specs.Embeddings.{ListNotAfter, index_of, partner}
+use Rattle.lmn_solid.specs.Embeddings.{index_of, partner}
 use Rattle.lmn_solid.proofs.Common.{same_index}
 use Rattle.lmn_instr.specs.declared.instr.AtomPort.{AtomPort}
 use Rattle.lmn_instr.specs.declared.instr.Code.{Code}
