@@ -2,7 +2,8 @@
 use Rattle.std.specs.Prelude.{◌≢◌, List, ℕ, [], codes}
 use Rattle.lmn_base.specs.declared.refusal.Refusal.{Refusal}
 use Rattle.lmn_drive.specs.declared.driving.RunEnd.TheVariants as run
-use Rattle.lmn_app.specs.Executions.{IsExecuted, IsWrongListing, ReadsCodes}
+use Rattle.lmn_app.specs.declared.ending.Ending.TheVariants.{Done}
+use Rattle.lmn_app.specs.Executions.{IsExecuted, IsExecutedAs, IsWrongListing, ReadsCodes}
 use Rattle.lmn_app.specs.TextExamples.{small_text}
 use Rattle.lmn_app.specs.Texts.{at_start}
 
@@ -28,7 +29,7 @@ SmallListingIsWrong =
 
 -- By the first a run of `a. a :- b.` ends after one commit, with nothing but the rule.
 abbrev pub SmallTextIsExecuted : Type 0
-SmallTextIsExecuted = IsExecuted small_text taking run.Irreducible (codes "(a :- b).\n% irreducible after 1\n")
+SmallTextIsExecuted = IsExecutedAs Done small_text taking (codes "(a :- b).\n% irreducible after 1\n")
 
 -- No run by it ends so without a commit.
 abbrev pub SmallTextIsNotExecutedSo : Type 0
