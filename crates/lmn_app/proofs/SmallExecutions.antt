@@ -237,6 +237,7 @@ none_listed n names (c ∷ cs) l e = (let is = l.are in cc is)
 nothing_not_read : ¬ (ReadsCodes small_text [])
 nothing_not_read r = none_listed (length r.plain.rules) r.later r.codes r.are (one_rule r.names r.plain r.plans r.accepted)
 
+-- a code is read of the first listing alone
 pub small_listing_is_read : ListedCodesAreRead → SmallListingIsRead
 small_listing_is_read read = (taking_read, leaving_not_read read, nothing_not_read)
 
@@ -286,6 +287,7 @@ taking_not_wrong refused refusal x =
     (subst (λ ns. AreListed 1 ns (taking_code ∷ []) taking) (sym names) taking_listed) (taking_verified, tt)
     (subst (λ n. IsRefusedListing n x.later taking refusal.code refusal.pos.line) (one_rule x.names x.plain x.plans x.accepted) x.wrong)
 
+-- the others are wrong, and the first isn't
 pub small_listing_is_wrong : VerifiedIsNotRefused → ListedLinesStand → SmallListingIsWrong
 small_listing_is_wrong refused stand = (leaving_wrong, leaving_stands stand, nothing_wrong, taking_not_wrong refused)
 
@@ -294,12 +296,12 @@ small_listing_is_wrong refused stand = (leaving_wrong, leaving_stands stand, not
 abbrev made : Heap
 made = made_atom lone_root 0 an_a
 
-abbrev bare_root : Heap
-bare_root = placed made 0 0
+abbrev with_a : Heap
+with_a = placed made 0 0
 
 -- an `a` in the root, and the rule
 abbrev first : Heap
-first = rule_added bare_root 0 0
+first = rule_added with_a 0 0
 
 -- the `a` is taken,
 abbrev without_a : Heap
@@ -313,7 +315,7 @@ first_sound : Sound first
 first_sound =
     let one = (keeps_sound lone_root lone_valid.sound).make_atom 0 an_a refl in
     let two = (keeps_sound made one).place_atom 0 0 tt refl in
-    (keeps_sound bare_root two).add_rule 0 0
+    (keeps_sound with_a two).add_rule 0 0
 
 -- what holds of the number 0, and of what names nothing, holds of all
 module _ (h : Heap) (atoms : (x : ℕ) → x ≢ 0 → h.atoms x ≡ None) (mems : (m : ℕ) → m ≢ 0 → h.mems m ≡ None) where
@@ -587,6 +589,7 @@ its_line =
     ∙ ap (λ rs. calculus.region [] calculus.no_region (slice_index_or rs 0 no_such_rule ∷ [])) its_rules in
     (solid_with [], last_has, subst (λ S. IsLine false S (codes "(a :- b).\n")) (sym region) refl)
 
+-- the run by it
 pub small_execution : SmallTextIsExecuted
 unfolding digits
 small_execution = record {
@@ -629,6 +632,7 @@ some_success h name (mem m inner rest) e =
       record { code = taking_code; is = refl; registers = found; succeeds = record { here = refl; all = ((w.1, w.2), (tt, tt)) } },
     )
 
+-- so each run by it that ends as irreducible has a commit
 pub no_run_at_once : ListedCodesAreRead → SmallTextIsNotExecutedSo
 no_run_at_once read written x none =
     let of = x.of in
