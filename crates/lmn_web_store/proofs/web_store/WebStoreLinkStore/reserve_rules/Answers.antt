@@ -1,5 +1,5 @@
 use Rattle.std.proofs.Common.{subst, sym, ap, ◌≤◌, ◌∙◌, arith}
-use Rattle.lmn_heap.specs.Heap.{IsMem, reserved}
+use Rattle.lmn_heap.specs.Heap.{IsMem, spare_of, reserved}
 use Rattle.lmn_cells.specs.CellIds.{cell_id}
 use Rattle.lmn_web.specs.Webs.{web_by}
 use Rattle.lmn_web_store.specs.WebHeaps.{KeptWeb, heap_of}
@@ -52,3 +52,13 @@ returns-clause-ok c =
 
 pub returns-then-n-spare-clause-ok : goal.returns-then-n-spare-clause-ok
 returns-then-n-spare-clause-ok c = room_kept (heap_of c.args.self.now) (cell_id c.args.m)
+
+pub returns-then-n-spare-clause-least : goal.returns-then-n-spare-clause-least
+returns-then-n-spare-clause-least c =
+    let m = cell_id c.args.m in
+    let k = kept_by c.self.inside in
+    let s = subst (λ (z : KeptWeb). IsMem (heap_of z) m) (sym c.self.view_is) c.requires in
+    let h = subst (λ (z : KeptWeb). HasRules z.table (web_by z.web) m c.place_of_rules-place.result) (sym c.self.view_is) c.place_of_rules-place.ensures in
+    let is = room_is k.posts k.table (web_by k.web) c.self.invariant.store.stored m c.place_of_rules-place.result s h c.index.result.now c.index.ensures ∙ sym c.spare-spare.ensures in
+    let low = c.if-n-spare.true in
+    subst (λ (z : KeptWeb). c.args.n ≤ spare_of (heap_of z) m) c.self.view_is (omega (arith, is, low))
