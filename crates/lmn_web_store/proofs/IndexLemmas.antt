@@ -3,7 +3,6 @@ use Rattle.std.proofs.Common.{ℕ, zero, suc, ◌≡◌, ◌≢◌, ◌⊎◌, �
 use Rattle.std.proofs.lemmas.Bool.{cases_eq, eq-eqb, eqb-true, ltb-true}
 use Rattle.std.proofs.lemmas.List.{length-set, length-append}
 use Rattle.std.specs.Prelude.{nat_lt, slice_get, slice_set, unwrap_or}
-use Rattle.std.specs.Option.{option_map}
 use Rattle.lmn_base.specs.Lists.{In}
 use Rattle.lmn_base.proofs.Lists.{get_below, get_front, get_end, get_set}
 use Rattle.lmn_base.proofs.Numbers.{at_most_by_test}
@@ -16,8 +15,8 @@ use Rattle.lmn_preorder.specs.Nests.{Nest, IsTop, IsOneOf, with_awake, with_key,
 use Rattle.lmn_web.specs.Webs.{WebCell, web_label}
 use Rattle.lmn_web_store.specs.Indexes.{IsNestOf, IsIndexed, held, key_of}
 use Rattle.lmn_web_store.specs.WebHeaps.{alone}
-use Rattle.lmn_web_store.proofs.MemLists.{seen_by, change_keeps, out_marks, in_marks, move_marks}
-use Rattle.lmn_web_store.proofs.NestLemmas.{seen_there, nest_same, nest_marked, nest_placed, nest_taken, nest_moved, nest_add, nest_put, nest_take, nest_move, nest_made, nest_fewer, nest_top}
+use Rattle.lmn_web_store.proofs.MemLists.{seen_by, mark_there, out_marks, in_marks, move_marks}
+use Rattle.lmn_web_store.proofs.NestLemmas.{seen_there, awake_away, nest_same, nest_marked, nest_placed, nest_taken, nest_moved, nest_add, nest_put, nest_take, nest_move, nest_made, nest_fewer, nest_top}
 
 -- A list with a number at a key
 
@@ -92,17 +91,9 @@ module _ (holds : Nest → Type 0) (ms : List ℕ) (key : ℕ → ℕ) (h : Heap
     nest = with_awake k (v == 0) x.nest;
     nested = now;
     agrees = subst (λ z. IsNestOf key (mem_marked h m v) (with_awake z (v == 0) x.nest)) e (nest_marked key h x.nest x.agrees own m v i);
-    cells = λ y j. x.cells y (mark_back m v y j);
+    cells = λ y j. x.cells y (sym (mark_there h m v y) ∙ j);
     few = x.few;
   }
-    where
-      there : (o q : Option HeapMem) → option_map (λ (b : HeapMem). b.spare) o ≡ option_map (λ (b : HeapMem). b.spare) q → IsSome o → IsSome q
-      there None q e s = absurd (cc)
-      there (Some b) None e s = absurd (cc)
-      there (Some b) (Some d) e s = refl
-
-      mark_back : (m v y : ℕ) → IsMem (mem_marked h m v) y → IsMem h y
-      mark_back m v y j = there ((mem_marked h m v).mems y) (h.mems y) (change_keeps (λ (o : Option HeapMem). option_map (λ (b : HeapMem). b.spare) o) h.mems m (λ b. record b { mark = v }) (λ b. refl) y) j
 
   module _ (listed : Listed h) where
     -- the key of a membrane that stands in none stands in none
@@ -136,23 +127,13 @@ module _ (holds : Nest → Type 0) (ms : List ℕ) (key : ℕ → ℕ) (h : Heap
       nested = now;
       agrees = record {
         inside = x.agrees.inside;
-        awake = λ m i. awake_off k true (with_keys k) (key m) (free m i) ∙ x.agrees.awake m i;
+        awake = λ m i. awake_away k true x.nest (key m) (free m i) ∙ x.agrees.awake m i;
         others = x.agrees.others;
       };
       cells = x.cells;
       few = more (k == x.nest.keys) refl;
     }
       where
-        with_keys : ℕ → Nest
-        with_keys k = x.nest
-
-        awake_off : (k : ℕ) (b : Bool) (n : Nest) (j : ℕ) → j ≢ k → cond (j == k) b (n.awake j) ≡ n.awake j
-        awake_off k b n j d = by (j == k) refl
-          where
-            by : (c : Bool) → (j == k) ≡ c → cond c b (n.awake j) ≡ n.awake j
-            by true e = absurd (d (eqb-true j k e))
-            by false e = refl
-
         more : (c : Bool) → (k == x.nest.keys) ≡ c → length ms ≤ cond c (suc k) x.nest.keys
         more true e = let f = x.few in let q = eqb-true k x.nest.keys e in omega (arith, f, q)
         more false e = x.few
@@ -242,7 +223,3 @@ key_by v w m e = ap (λ (o : Option ℕ). unwrap_or o 0) e
 
 pub key_is : (w : ℕ → Option WebCell) (m k : ℕ) → web_label w m ≡ Some k → key_of w m ≡ k
 key_is w m k e = ap (λ (o : Option ℕ). unwrap_or o 0) e
-
--- what stands in a membrane is one
-pub members : (h : Heap) → Listed h → (m y : ℕ) → In y (mems_in h m) → IsMem h y
-members h listed m y i = mem_of_place h y (within m) ((listed.mems m y).0 i)

@@ -1,7 +1,7 @@
 -- What the calls on membranes do to lists of membranes.
-use Rattle.std.proofs.Common.{ℕ, ◌≡◌, ◌≢◌, List, [], ◌∷◌, ◌++◌, Option, Some, None, IsSome, refl, sym, ap, subst, ◌∙◌}
+use Rattle.std.proofs.Common.{ℕ, ◌≡◌, ◌≢◌, List, [], ◌∷◌, ◌++◌, Option, Some, None, IsSome, is_some, refl, sym, ap, subst, ◌∙◌}
 use Rattle.std.specs.Option.{option_map}
-use Rattle.lmn_heap.specs.Heap.{Heap, HeapMem, Place, within, gone, alter, mem_with_place, mem_with_mems, mem_with_atoms, mem_with_spare, mem_with_rules, atom_out, home_of, placed, taken, reserved, mem_sent, sent, emptied, filled, mem_out, parent_of, atoms_in, mems_in, mems_by, mem_mark_of, mem_mark_by, IsMem, without, taken_mem, placed_mem, moved_all}
+use Rattle.lmn_heap.specs.Heap.{Heap, HeapMem, Place, within, gone, alter, mem_with_place, mem_with_mems, mem_with_atoms, mem_with_spare, mem_with_mark, mem_marked, mem_with_rules, atom_out, home_of, placed, taken, reserved, mem_sent, sent, emptied, filled, mem_out, parent_of, atoms_in, mems_in, mems_by, mem_mark_of, mem_mark_by, IsMem, without, taken_mem, placed_mem, moved_all}
 use Rattle.lmn_heap.proofs.Listing.{alter_at, alter_away, alter_keeps}
 
 -- One change of one membrane
@@ -45,10 +45,10 @@ pub record SameMarks (h t : Heap) : Type 0 where
   pub back : (y : ℕ) → IsMem t y → IsMem h y
   pub marks : (y : ℕ) → mem_mark_of t y ≡ mem_mark_of h y
 
-mark_there : (o q : Option HeapMem) → marked_by o ≡ marked_by q → IsSome o → IsSome q
-mark_there None q e s = absurd (cc)
-mark_there (Some x) None e s = absurd (cc)
-mark_there (Some x) (Some y) e s = refl
+marked_there : (o q : Option HeapMem) → marked_by o ≡ marked_by q → IsSome o → IsSome q
+marked_there None q e s = absurd (cc)
+marked_there (Some x) None e s = absurd (cc)
+marked_there (Some x) (Some y) e s = refl
 
 mark_same : (o q : Option HeapMem) → marked_by o ≡ marked_by q → mem_mark_by o ≡ mem_mark_by q
 mark_same None None e = refl
@@ -58,10 +58,16 @@ mark_same (Some x) (Some y) e = let s : x.mark ≡ y.mark = (cc) in s
 
 same_marks : (h t : Heap) → ((y : ℕ) → marked_by (t.mems y) ≡ marked_by (h.mems y)) → SameMarks h t
 same_marks h t e = record {
-  there = λ y i. mark_there (h.mems y) (t.mems y) (sym (e y)) i;
-  back = λ y i. mark_there (t.mems y) (h.mems y) (e y) i;
+  there = λ y i. marked_there (h.mems y) (t.mems y) (sym (e y)) i;
+  back = λ y i. marked_there (t.mems y) (h.mems y) (e y) i;
   marks = λ y. mark_same (t.mems y) (h.mems y) (e y);
 }
+
+-- `set_mem_mark`
+
+-- a membrane with another mark is there, and all others are
+pub mark_there : (s : Heap) (m v y : ℕ) → is_some ((mem_marked s m v).mems y) ≡ is_some (s.mems y)
+mark_there s m v = change_keeps (λ (o : Option HeapMem). is_some o) s.mems m (mem_with_mark v) (λ x. refl)
 
 -- `take_mem`
 
@@ -87,7 +93,7 @@ module _ (s : Heap) (m n : ℕ) (is : IsSome (s.mems m)) where
   f1 = alter s.mems n (option_map (mem_with_place (within m)))
 
   is1 : IsSome (f1 m)
-  is1 = mark_there (s.mems m) (f1 m) (sym (change_keeps marked_by s.mems n (mem_with_place (within m)) (λ x. refl) m)) is
+  is1 = marked_there (s.mems m) (f1 m) (sym (change_keeps marked_by s.mems n (mem_with_place (within m)) (λ x. refl) m)) is
 
   -- the list to which it comes
   pub in_at : mems_in (placed_mem s m n) m ≡ mems_in s m ++ n ∷ []

@@ -15,7 +15,7 @@ use Rattle.lmn_heap.proofs.Heights.{parent_is, mem_of_place}
 use Rattle.lmn_heap.proofs.Listing.{alter_at, alter_away}
 use Rattle.lmn_preorder.specs.Nests.{Nest, IsTop, IsWithin, itself, deeper, IsOneOf, with_inside, with_awake, with_key, put, taken_from, moved, CanAdd, CanPut, CanTake, CanMove}
 use Rattle.lmn_web_store.specs.Indexes.{IsNestOf}
-use Rattle.lmn_web_store.proofs.MemLists.{SameMarks, Seen, seen_by, change_keeps, out_at, out_away, out_marks, in_at, in_away, in_marks, move_at, move_from, move_away, move_marks}
+use Rattle.lmn_web_store.proofs.MemLists.{SameMarks, Seen, mark_there, seen_by, change_keeps, out_at, out_away, out_marks, in_at, in_away, in_marks, move_at, move_from, move_away, move_marks}
 
 -- Reading a nest
 
@@ -28,7 +28,8 @@ inside_away p ks n k d = rw (not_equal k p d) refl
 awake_at : (k : ℕ) (b : Bool) (n : Nest) → (with_awake k b n).awake k ≡ b
 awake_at k b n = rw (eq-eqb k k refl) refl
 
-awake_away : (k : ℕ) (b : Bool) (n : Nest) (j : ℕ) → j ≢ k → (with_awake k b n).awake j ≡ n.awake j
+-- other keys are awake as they were
+pub awake_away : (k : ℕ) (b : Bool) (n : Nest) (j : ℕ) → j ≢ k → (with_awake k b n).awake j ≡ n.awake j
 awake_away k b n j d = rw (not_equal j k d) refl
 
 -- a key that is awake as it was is awake as it was
@@ -77,12 +78,16 @@ map_same : (f g : ℕ → ℕ) (xs : List ℕ) → ((y : ℕ) → In y xs → f 
 map_same f g [] e = refl
 map_same f g (x ∷ xs) e = λ i. e x (inl refl) i ∷ map_same f g xs (λ y j. e y (inr j)) i
 
+-- what stands in a membrane is one
+pub members : (h : Heap) → Listed h → (m y : ℕ) → In y (mems_in h m) → IsMem h y
+members h listed m y i = mem_of_place h y (within m) ((listed.mems m y).0 i)
+
 -- A heap that has the same membranes, with other keys or the same, has the same nest.
 pub nest_same : (key new : ℕ → ℕ) (h t : Heap) (n : Nest) → ((m : ℕ) → seen_by (t.mems m) ≡ seen_by (h.mems m)) → ((m : ℕ) → IsMem h m → new m ≡ key m) → ((m y : ℕ) → In y (mems_in h m) → new y ≡ key y)
     → IsNestOf key h n → IsNestOf new t n
-nest_same key new h t n same own members a = record {
+nest_same key new h t n same own inner a = record {
   inside = λ m i. let j = seen_there (t.mems m) (h.mems m) (same m) i in
-      ap n.inside (own m j) ∙ a.inside m j ∙ sym (map_same new key (mems_in h m) (members m)) ∙ sym (ap (λ xs. map new xs) (list_by_seen (t.mems m) ∙ ap list_seen (same m) ∙ sym (list_by_seen (h.mems m))));
+      ap n.inside (own m j) ∙ a.inside m j ∙ sym (map_same new key (mems_in h m) (inner m)) ∙ sym (ap (λ xs. map new xs) (list_by_seen (t.mems m) ∙ ap list_seen (same m) ∙ sym (list_by_seen (h.mems m))));
   awake = λ m i. let j = seen_there (t.mems m) (h.mems m) (same m) i in
       ap n.awake (own m j) ∙ a.awake m j ∙ ap (λ v. v == 0) (sym (mark_by_seen (t.mems m) ∙ ap mark_seen (same m) ∙ sym (mark_by_seen (h.mems m))));
   others = λ k f. a.others k (λ m j e. f m (seen_there (h.mems m) (t.mems m) (sym (same m)) j) (own m j ∙ e));
@@ -105,24 +110,16 @@ module _ (key : ℕ → ℕ) (h : Heap) (n : Nest) (a : IsNestOf key h n) (own :
   nest_marked m v i =
       let t = mem_marked h m v in
       let lists : (y : ℕ) → mems_in t y ≡ mems_in h y = change_keeps mems_by h.mems m (mem_with_mark v) (λ x. refl) in
-      let back : (y : ℕ) → IsMem t y → IsMem h y = λ y j. there (t.mems y) (h.mems y) (change_keeps known h.mems m (mem_with_mark v) (λ x. refl) y) j in
+      let back : (y : ℕ) → IsMem t y → IsMem h y = λ y j. sym (mark_there h m v y) ∙ j in
       record {
         inside = λ y j. a.inside y (back y j) ∙ ap (λ xs. map key xs) (sym (lists y));
         awake = λ y j. elim (cases_eq y m) [
           | inl e ↦ subst (λ z. (with_awake (key m) (v == 0) n).awake (key z) ≡ (mem_mark_of t z == 0)) (sym e) (awake_at (key m) (v == 0) n ∙ ap (λ u. u == 0) (sym (ap mem_mark_by (alter_at h.mems m (option_map (mem_with_mark v))) ∙ now (h.mems m) i)))
           | inr d ↦ awake_away (key m) (v == 0) n (key y) (λ e. d (own y m (back y j) i e)) ∙ a.awake y (back y j) ∙ ap (λ u. u == 0) (sym (ap mem_mark_by (alter_away h.mems m (option_map (mem_with_mark v)) y d)))
         ];
-        others = λ k f. a.others k (λ y j. f y (there (h.mems y) (t.mems y) (sym (change_keeps known h.mems m (mem_with_mark v) (λ x. refl) y)) j));
+        others = λ k f. a.others k (λ y j. f y (mark_there h m v y ∙ j));
       }
     where
-      known : Option HeapMem → Option ℕ
-      known o = option_map (λ (x : HeapMem). x.spare) o
-
-      there : (o q : Option HeapMem) → option_map (λ (x : HeapMem). x.spare) o ≡ option_map (λ (x : HeapMem). x.spare) q → IsSome o → IsSome q
-      there None q e s = absurd (cc)
-      there (Some x) None e s = absurd (cc)
-      there (Some x) (Some y) e s = refl
-
       now : (o : Option HeapMem) → IsSome o → mem_mark_by (option_map (mem_with_mark v) o) ≡ v
       now None s = absurd (cc)
       now (Some x) s = refl
@@ -132,15 +129,11 @@ module _ (key : ℕ → ℕ) (h : Heap) (n : Nest) (a : IsNestOf key h n) (own :
   nest_placed m x i = one_list (placed_mem h m x) (in_marks h m x i) m i (n.inside (key m) ++ key x ∷ [])
       (ap (λ ks. ks ++ key x ∷ []) (a.inside m i) ∙ sym (map_append key (mems_in h m) (x ∷ [])) ∙ ap (λ xs. map key xs) (sym (in_at h m x i))) (in_away h m x i)
 
-  -- what stands in a membrane is one
-  member : Listed h → (m y : ℕ) → In y (mems_in h m) → IsMem h y
-  member listed m y i = mem_of_place h y (within m) ((listed.mems m y).0 i)
-
   module _ (listed : Listed h) where
     -- `take_mem`
     pub nest_taken : (p x : ℕ) → parent_of h x ≡ Some p → IsMem h p → IsMem h x → IsNestOf key (taken_mem h x) (taken_from (key p) (key x) n)
     nest_taken p x e i j = one_list (taken_mem h x) (out_marks h x) p i (without (key x) (n.inside (key p)))
-        (ap (λ ks. without (key x) ks) (a.inside p i) ∙ sym (without_mapped key x (mems_in h p) (λ y q f. own y x (member listed p y q) j f)) ∙ ap (λ xs. map key xs) (sym (out_at h x p e i))) (out_away h x p e)
+        (ap (λ ks. without (key x) ks) (a.inside p i) ∙ sym (without_mapped key x (mems_in h p) (λ y q f. own y x (members h listed p y q) j f)) ∙ ap (λ xs. map key xs) (sym (out_at h x p e i))) (out_away h x p e)
 
     -- a key in which another stands is that of the membrane in which that one's stands
     inside_of : (p k : ℕ) → In k (n.inside p) → ((y : ℕ) → IsMem h y → key y ≡ p → (z : ℕ) → In z (mems_in h y) → key z ≡ k → ⊥) → ⊥
@@ -151,11 +144,11 @@ module _ (key : ℕ → ℕ) (h : Heap) (n : Nest) (a : IsNestOf key h n) (own :
 
     -- a membrane that stands in none has a key that stands in none
     pub nest_top : (x : ℕ) → IsMem h x → ((y : ℕ) → In x (mems_in h y) → ⊥) → IsTop n (key x)
-    nest_top x i alone p j = inside_of p (key x) j (λ y q e z l f. alone y (subst (λ u. In u (mems_in h y)) (own z x (member listed y z l) i f) l))
+    nest_top x i alone p j = inside_of p (key x) j (λ y q e z l f. alone y (subst (λ u. In u (mems_in h y)) (own z x (members h listed y z l) i f) l))
 
     -- the key of no membrane may come
     pub nest_add : (k : ℕ) → k ≤ n.keys → ((m : ℕ) → IsMem h m → key m ≢ k) → CanAdd n k
-    nest_add k next free = record { next = next; bare = a.others k free; top = λ p j. inside_of p k j (λ y q e z l f. free z (member listed y z l) f) }
+    nest_add k next free = record { next = next; bare = a.others k free; top = λ p j. inside_of p k j (λ y q e z l f. free z (members h listed y z l) f) }
 
     -- an empty membrane that stands in none may be put into another
     pub nest_put : (m x : ℕ) → IsMem h m → IsMem h x → x ≢ m → mems_in h x ≡ [] → ((y : ℕ) → In x (mems_in h y) → ⊥) → key m < n.keys → key x < n.keys → CanPut n (key m) (key x)
@@ -177,7 +170,7 @@ module _ (key : ℕ → ℕ) (h : Heap) (n : Nest) (a : IsNestOf key h n) (own :
     within_no : (m : ℕ) → IsMem h m → (j : ℕ) → IsWithin n.inside (key m) j → (y : ℕ) → IsMem h y → key y ≡ j → ((k : ℕ) → Above h k m y → ⊥) → ⊥
     within_no m i _ itself y q e never = never 0 (own y m q i e)
     within_no m i _ (deeper p j w l) y q e never = inside_of p j l (λ z s f u v g.
-        let same : u ≡ y = own u y (member listed z u v) q (g ∙ sym e) in
+        let same : u ≡ y = own u y (members h listed z u v) q (g ∙ sym e) in
         within_no m i p w z s f (λ k up. never (suc k) (z, parent_is h listed y z (subst (λ x. In x (mems_in h z)) same v), up)))
 
     pub nest_move : (m q : ℕ) (one : Option ℕ) → IsMem h m → IsMem h q → IsOutside h q m → IsOneOf one (map key (mems_in h m)) → key m < n.keys → key q < n.keys → CanMove n (key m) (key q) one
@@ -222,7 +215,7 @@ module _ (key : ℕ → ℕ) (h : Heap) (n : Nest) (a : IsNestOf key h n) (own :
   nest_made listed new c k fresh free at names = record {
     inside = λ m i. elim (cases_eq m c) [
       | inl e ↦ subst (λ z. n.inside (new z) ≡ map new (mems_in t z)) (sym e) (ap n.inside at ∙ a.others k free ∙ sym (ap (λ xs. map new xs) (ap mems_by at_c)))
-      | inr d ↦ (let j = was m d i in ap n.inside (names m d j) ∙ a.inside m j ∙ sym (map_same new key (mems_in h m) (λ y l. names y (apart m y l) (member listed m y l))) ∙ sym (ap (λ xs. map new xs) (ap mems_by (away m d))))
+      | inr d ↦ (let j = was m d i in ap n.inside (names m d j) ∙ a.inside m j ∙ sym (map_same new key (mems_in h m) (λ y l. names y (apart m y l) (members h listed m y l))) ∙ sym (ap (λ xs. map new xs) (ap mems_by (away m d))))
     ];
     awake = λ m i. elim (cases_eq m c) [
       | inl e ↦ subst (λ z. cond (new z == k) true (n.awake (new z)) ≡ (mem_mark_of t z == 0)) (sym e) (ap (λ b. cond b true (n.awake (new c))) (eq-eqb (new c) k at) ∙ ap (λ v. v == 0) (sym (ap mem_mark_by at_c)))
@@ -248,7 +241,7 @@ module _ (key : ℕ → ℕ) (h : Heap) (n : Nest) (a : IsNestOf key h n) (own :
       old m j e = let u : IsSome {T = HeapMem} None = subst (λ (o : Option HeapMem). IsSome o) (ap h.mems e ∙ fresh) j in absurd (cc)
 
       apart : (m y : ℕ) → In y (mems_in h m) → y ≢ c
-      apart m y l = old y (member listed m y l)
+      apart m y l = old y (members h listed m y l)
 
   -- `finish` and `discard`: what is freed is empty
   pub nest_fewer : (new : ℕ → ℕ) (t : Heap) → ((m : ℕ) → IsMem t m → t.mems m ≡ h.mems m) → ((m : ℕ) → IsMem h m → IsMem t m ⊎ (mems_in h m ≡ [])) → ((m : ℕ) → IsMem t m → new m ≡ key m) → ((m y : ℕ) → IsMem t m → In y (mems_in t m) → new y ≡ key y)

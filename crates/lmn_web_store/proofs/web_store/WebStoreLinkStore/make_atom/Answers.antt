@@ -16,7 +16,8 @@ use Rattle.lmn_web_store.specs.Indexes.{key_of}
 use Rattle.lmn_web_store.proofs.SoundLemmas.{heap_sound, web_formed}
 use Rattle.lmn_web_store.proofs.MemLists.{seen_by}
 use Rattle.lmn_web_store.proofs.MakeLemmas.{made_key}
-use Rattle.lmn_web_store.proofs.IndexLemmas.{index_by, index_same, key_by, members}
+use Rattle.lmn_web_store.proofs.IndexLemmas.{index_by, index_same, key_by}
+use Rattle.lmn_web_store.proofs.NestLemmas.{members}
 use Rattle.lmn_web_store.proofs.web_store.WebStoreLinkStore.make_atom.Goals as goal
 
 pub add_last-requires-clause-there : goal.add_last-requires-clause-there
