@@ -3,6 +3,7 @@ ghost use Rattle.std.specs.Prelude.{◌≡◌, ◌<◌, IfOk};
 ghost use Rattle.lmn_machine.specs.Searching.{HeadInOrder};
 
 use lmn_base::{NoMemory, Rows};
+use lmn_codes::Codes;
 use lmn_instr::{Code, Instr};
 use lmn_machine::{Machine, Steps};
 use lmn_store::{LinkStore, SlabStore};
@@ -28,11 +29,14 @@ fn search_once<L: Ledger>(alloc: Global, blank: Blank) -> Result<bool, NoMemory>
     requires parts { blank.parts ≡ L.parts }
     requires some { 0 < blank.parts }
 {
-    let empty = empty_head(alloc)?;
+    let code = empty_head(alloc)?;
+    let mut codes = Codes::new(alloc);
+    codes.push(alloc, code)?;
     let store = SlabStore::new(alloc)?;
     let root = store.root();
     let mut machine = Machine::new(alloc, store)?;
     let mut steps = Steps::<L>::new(blank);
+    let empty = codes.code(0);
     Ok(machine.find(&empty, root, &mut steps))
 }
 

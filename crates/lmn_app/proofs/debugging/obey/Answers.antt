@@ -4,6 +4,7 @@ use Rattle.lmn_debugging.specs.Debugged.{Debugged}
 use Rattle.lmn_order.specs.declared.order.Order.TheVariants.{First}
 use Rattle.lmn_order.specs.Orders.{chosen}
 use Rattle.lmn_schedule.specs.Held.{CanBeLoaded}
+use Rattle.lmn_script.specs.Asked.{AreAskedWith}
 use Rattle.lmn_app.specs.Debugs.{session_size}
 use Rattle.lmn_app.specs.Runnings.{EndsDebugged}
 use Rattle.lmn_app.proofs.DebugLemmas.{debugged_ended, named_later}
@@ -14,6 +15,9 @@ debug-end-requires-clause-plain g c =
     let read = c.args.accepted.now in
     let a = c.requires.accepted.1 in
     subst (CanBeLoaded read.plain) (sym c.as_slice.ensures) (c.accepted_texts_can_be_loaded.ensures.loaded c.requires.accepted.0 c.args.names.now read.plain read.plans a.named a.accepted)
+
+pub debug-end-requires-clause-orders : goal.debug-end-requires-clause-orders
+debug-end-requires-clause-orders g c = subst (λ orders. AreAskedWith c.read_script.new.names orders) (sym c.as_slice-in-Ok.ensures) c.in-Ok.ensures.asked
 
 pub returns-in-Ok : goal.returns-in-Ok
 returns-in-Ok g c = λ program a.
