@@ -1,5 +1,5 @@
 -- What the links of classes tell of the web.
-use Rattle.std.proofs.Common.{◌≡◌, ◌==◌, ◌&&◌, ◌+◌, ◌^◌, ◌<◌, ◌≤◌, ℕ, List, length, get_or, Option, Some, None, IsSome, refl, sym, ap, subst, ◌∙◌, arith}
+use Rattle.std.proofs.Common.{◌≡◌, ◌==◌, ◌&&◌, ◌+◌, ◌^◌, ◌<◌, ◌≤◌, true, ℕ, List, length, get_or, Option, Some, None, IsSome, refl, sym, ap, subst, ◌∙◌, arith}
 use Rattle.std.proofs.lemmas.List.{length-map}
 use Rattle.std.specs.Option.{option_map}
 use Rattle.lmn_base.specs.Lists.{In}
@@ -10,8 +10,8 @@ use Rattle.lmn_cells.specs.Ports.{partner_by}
 use Rattle.lmn_cells.specs.Runs.{RunsThrough, link_in}
 use Rattle.lmn_web.specs.declared.kind.CellKind.TheVariants.{Atom}
 use Rattle.lmn_web.specs.Webs.{web_cell, web_of, list_in, cells_in, number_in, count_number, label_by, web_label, label_class, is_classed, with_class, partners_of, ARITY, HIGH, LOW}
-use Rattle.lmn_web.specs.Indexes.{cell_kind, IsClassedWeb}
-use Rattle.lmn_web.specs.Classes.{CLASS_NEXT, CLASS_LAST, LEADERS, class_node, key_in, is_key, of_class, ArePeers, AreClassed, class_place}
+use Rattle.lmn_web.specs.Indexes.{IsClassedWeb}
+use Rattle.lmn_web.specs.Classes.{CLASS_NEXT, CLASS_LAST, files, class_node, key_in, is_key, of_class, AreClassed, class_place}
 use Rattle.lmn_web.proofs.ListedLemmas.{run_begins, run_goes_on, list_same, cell_of}
 use Rattle.lmn_web.proofs.Reclassing.{key_same, key_true, filter_in, leader_in, class_none}
 use Rattle.lmn_web.proofs.ClassRuns.{distinct_filter}
@@ -50,11 +50,11 @@ class_goes_on f m xs ls c once x i =
     (distinct_filter (λ a. is_key (key_in f a) q) xs once) (filter_in (λ a. is_key (key_in f a) q) x xs i (key_same q))
 
 -- the first atoms of the classes of a membrane may be gone over
-pub may_find : (f : ℕ → Option HeldCell) (all : List ℕ) → IsClassedWeb f all → (m : ℕ) → (cell_kind f m ≡ Atom → ⊥) → (ls : List ℕ) × ArePeers f (link_in f m LEADERS) ls × (length ls ≤ number_in f m (count_number Atom) + 1)
+pub may_find : (f : ℕ → Option HeldCell) (all : List ℕ) → IsClassedWeb f all → (m : ℕ) → files f m Atom ≡ true → (ls : List ℕ) × AreClassed f m (list_in f m Atom) ls × (length ls ≤ number_in f m (count_number Atom) + 1)
 may_find f all w m d =
     let o = w.classed.classes m d in
     let few = not_longer o.0 (list_in f m Atom) o.1.once o.1.inside in let count = w.web.listed.count m Atom in
-    (o.0, o.1.peers, omega (arith, few, count))
+    (o.0, o.1, omega (arith, few, count))
 
 -- the label of a cell tells its class
 pub key_by_label : (f : ℕ → Option HeldCell) (all : List ℕ) → IsClassedWeb f all → (a label : ℕ) → web_label (web_of f) a ≡ Some label → key_in f a ≡ (label_class label, length (partners_of (web_of f a)))

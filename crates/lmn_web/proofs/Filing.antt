@@ -1,6 +1,6 @@
 -- The classes of a web stay, and follow its lists.
-use Rattle.std.proofs.Common.{◌≡◌, ◌≢◌, ◌+◌, ◌<◌, ◌≤◌, ◌^◌, ◌++◌, ℕ, List, [], ◌∷◌, length, get_or, Option, Some, None, IsSome, refl, sym, ap, subst, ◌∙◌, inl, inr, arith}
-use Rattle.std.proofs.lemmas.Bool.{cases_eq}
+use Rattle.std.proofs.Common.{◌≡◌, ◌≢◌, ◌==◌, ◌+◌, ◌<◌, ◌≤◌, ◌^◌, ◌++◌, Bool, true, false, ℕ, List, [], ◌∷◌, length, get_or, Option, Some, None, IsSome, refl, sym, ap, subst, ◌∙◌, inl, inr, arith}
+use Rattle.std.proofs.lemmas.Bool.{cases_eq, eqb-true}
 use Rattle.std.specs.Option.{option_map}
 use Rattle.lmn_base.specs.Lists.{In}
 use Rattle.lmn_heap.specs.Heap.{alter}
@@ -15,15 +15,29 @@ use Rattle.lmn_cells.proofs.InsertLemmas.{length_put}
 use Rattle.lmn_cells.proofs.RunLemmas.{frame}
 use Rattle.lmn_web.specs.declared.kind.CellKind.{CellKind}
 use Rattle.lmn_web.specs.declared.kind.CellKind.TheVariants.{Atom, Membrane}
-use Rattle.lmn_web.specs.Kinds.{kind_by}
+use Rattle.lmn_web.specs.Kinds.{FILED, kind_by}
 use Rattle.lmn_web.specs.Webs.{list_in, list_link, count_number, number_in, ARITY, KIND, HIGH, LOW}
 use Rattle.lmn_web.specs.Indexes.{described, cell_kind, IsListed, IsWeb, IsClassed, IsClassedWeb}
-use Rattle.lmn_web.specs.Classes.{CLASS_NEXT, CLASS_PREV, CLASS_LAST, PEER, LEADERS, AllButLinks, class_node, key_in, is_key, of_class, ArePeers, AreClassed, MayFile, MayEnter, MayLeave, ClassBecomes, Touches, Refiled, FiledAs, put_at}
+use Rattle.lmn_web.specs.Classes.{CLASS_NEXT, CLASS_PREV, CLASS_LAST, PEER, LEADERS, AllButLinks, files, class_node, key_in, is_key, of_class, ArePeers, AreClassed, MayFile, MayEnter, MayLeave, ClassBecomes, Touches, Refiled, FiledAs, put_at}
 use Rattle.lmn_web.proofs.ListedLemmas.{same_lists, lists_same, cell_of}
 use Rattle.lmn_web.proofs.WebLemmas.{Told, told, made_web, made_lists, no_list}
 use Rattle.lmn_web.proofs.RelistLemmas.{Core, Relists, relists_web, in_none, new, new_lists, each, kind_is, there, m_there, core_of, back, core_rest}
 use Rattle.lmn_web.proofs.Reclassing.{in_filter}
 use Rattle.lmn_web.proofs.FilterLemmas.{filter_same, one_before, place_in}
+
+-- Where atoms are filed
+
+pub not_true : false ≡ true → ⊥
+not_true e = cc
+
+-- what is filed is an atom
+pub filed_atom : (f : ℕ → Option HeldCell) (m : ℕ) (k : CellKind) → files f m k ≡ true → k ≡ Atom
+filed_atom f m Atom e = refl
+filed_atom f m Membrane e = absurd (not_true e)
+
+-- in a membrane
+pub files_inside : (f : ℕ → Option HeldCell) (m : ℕ) → files f m Atom ≡ true → cell_kind f m ≡ Atom → ⊥
+files_inside f m e s = let n = eqb-true (number_in f m KIND) FILED e in let z : Membrane ≡ Atom = ap kind_by (sym n) ∙ s in cc
 
 -- Classes stay
 
@@ -60,17 +74,17 @@ pub classed_self : (f : ℕ → Option HeldCell) (ys : ℕ → CellKind → List
 classed_self f ys l c = subst (λ (z : ℕ → CellKind → List ℕ). IsClassed f z) (sym (same_lists f ys l)) c
 
 -- a change that leaves links, classes and halves of labels
-pub classed_links : (f g : ℕ → Option HeldCell) (ys : ℕ → CellKind → List ℕ) → ((b k : ℕ) → link_in g b k ≡ link_in f b k) → ((b : ℕ) → key_in g b ≡ key_in f b) → ((b : ℕ) → number_in g b LOW ≡ number_in f b LOW) → ((b : ℕ) → cell_kind g b ≡ cell_kind f b)
+pub classed_links : (f g : ℕ → Option HeldCell) (ys : ℕ → CellKind → List ℕ) → ((b k : ℕ) → link_in g b k ≡ link_in f b k) → ((b : ℕ) → key_in g b ≡ key_in f b) → ((b : ℕ) → number_in g b LOW ≡ number_in f b LOW) → ((b : ℕ) → number_in g b KIND ≡ number_in f b KIND)
     → ((b : ℕ) → IsSome (f b) → IsSome (g b)) → IsClassed f ys → IsClassed g ys
 classed_links f g ys link key low kind stay c = record {
-  classes = λ m d. let o = c.classes m (λ e. d (kind m ∙ e)) in (o.0, class_kept f g m (ys m Atom) o.0 (λ x i. key x) (λ x k i a b. link x k) (λ x i t. stay x t) (link m LEADERS) o.1);
+  classes = λ m d. let o = c.classes m (ap (λ n. n == FILED) (sym (kind m)) ∙ d) in (o.0, class_kept f g m (ys m Atom) o.0 (λ x i. key x) (λ x k i a b. link x k) (λ x i t. stay x t) (link m LEADERS) o.1);
   low = λ b. subst (λ n. n < 2 ^ 64) (sym (low b)) (c.low b);
 }
 
 -- one of ports and marks does
 pub classed_told : (f g : ℕ → Option HeldCell) (ys : ℕ → CellKind → List ℕ) → ((b : ℕ) → told (g b) ≡ told (f b)) → IsClassed f ys → IsClassed g ys
 classed_told f g ys same c = classed_links f g ys (λ b k. ap (λ (t : Told). get_or t.listing.links k None) (same b)) (λ b t. ((same b t).high, (same b t).arity)) (λ b. ap (λ (t : Told). t.low) (same b))
-    (λ b. ap (λ (t : Told). kind_by t.listing.kind) (same b)) (λ b t. ap (λ (t : Told). t.listing.there) (same b) ∙ t) c
+    (λ b. ap (λ (t : Told). t.listing.kind) (same b)) (λ b t. ap (λ (t : Told). t.listing.there) (same b) ∙ t) c
 
 -- so it leaves a web
 pub same_classed : (f g : ℕ → Option HeldCell) (all : List ℕ) → IsClassedWeb f all → ((b : ℕ) → told (g b) ≡ told (f b)) → IsWeb g all → IsClassedWeb g all
@@ -85,7 +99,7 @@ pub classed_beside : (f g : ℕ → Option HeldCell) (a : ℕ) (ys : ℕ → Cel
 classed_beside f g a ys away out none head small c = record {
   classes = λ m d. elim (cases_eq m a) [
     | inl e ↦ ([], subst (λ z. AreClassed g z (ys z Atom) []) (sym e) (subst (λ us. AreClassed g a us []) (sym (none Atom)) bare))
-    | inr n ↦ (let o = c.classes m (λ e. d (ap (λ (o : Option HeldCell). kind_by (get_or (numbers_of o) KIND 0)) (away m n) ∙ e)) in (
+    | inr n ↦ (let o = c.classes m (ap (λ (o : Option HeldCell). get_or (numbers_of o) KIND 0 == FILED) (sym (away m n)) ∙ d) in (
       o.0,
       class_kept f g m (ys m Atom) o.0
           (λ x i t. (get_or (numbers_of (other m x i t)) HIGH 0, get_or (numbers_of (other m x i t)) ARITY 0))
@@ -110,7 +124,7 @@ classed_beside f g a ys away out none head small c = record {
 pub empty_classed : (f : ℕ → Option HeldCell) (all : List ℕ) → f ≡ (λ _. None) → IsWeb f all → IsClassedWeb f all
 empty_classed f all none w = record {
   web = w;
-  classed = subst (λ (g : ℕ → Option HeldCell). IsClassed g (list_in g)) (sym none) record { classes = λ m d. absurd (d refl); low = λ b. omega arith };
+  classed = subst (λ (g : ℕ → Option HeldCell). IsClassed g (list_in g)) (sym none) record { classes = λ m d. absurd (not_true d); low = λ b. omega arith };
 }
 
 -- a new cell has no class
@@ -213,6 +227,14 @@ low_core : (o : Option HeldCell) → get_or (numbers_of o) LOW 0 ≡ low_by_core
 low_core None = refl
 low_core (Some c) = refl
 
+abbrev number_by_core : Option Core → ℕ
+number_by_core None = 0
+number_by_core (Some q) = q.kind
+
+number_core : (o : Option HeldCell) → get_or (numbers_of o) KIND 0 ≡ number_by_core (core_of o)
+number_core None = refl
+number_core (Some c) = refl
+
 module _ (f F : ℕ → Option HeldCell) (all : List ℕ) (w : IsClassedWeb f all) (m x : ℕ) (h : Option ℕ) (xs : List ℕ) (r : Relists f F (list_in f) m x h xs) (leaves : Leaves f F m) where
   abbrev own : List ℕ
   own = list_in f m (cell_kind f x)
@@ -234,26 +256,35 @@ module _ (f F : ℕ → Option HeldCell) (all : List ℕ) (w : IsClassedWeb f al
   low_still : (b : ℕ) → number_in F b LOW ≡ number_in f b LOW
   low_still b = low_core (F b) ∙ ap low_by_core (r.cores b) ∙ sym (low_core (f b))
 
+  -- and a membrane files as it did
+  files_still : (n : ℕ) → files F n Atom ≡ files f n Atom
+  files_still n = ap (λ k. k == FILED) (number_core (F n) ∙ ap number_by_core (r.cores n) ∙ sym (number_core (f n)))
+
   -- the lists as they were have their classes
-  pub still_classed : (n : ℕ) → (cell_kind f n ≡ Atom → ⊥) → (ls : List ℕ) × AreClassed F n (list_in f n Atom) ls
+  pub still_classed : (n : ℕ) → files f n Atom ≡ true → (ls : List ℕ) × AreClassed F n (list_in f n Atom) ls
   still_classed n d =
       let o = w.classed.classes n d in
       (o.0, class_kept f F n (list_in f n Atom) o.0 (λ z i. key_still z) (λ z k i a b. leaves z k a (λ e. absurd (no_m n z i e))) (λ z i t. there f F (list_in f) w.web.listed m x h xs r z t) (leaves n LEADERS (omega arith) (λ _. refl)) o.1)
 
-  -- the first atoms of its classes
+  -- the first atoms of the classes of the membrane, where it files them
+  abbrev leaders_by : (b : Bool) → files f m Atom ≡ b → (ls : List ℕ) × (b ≡ true → AreClassed F m (list_in f m Atom) ls)
+  leaders_by true e = let o = still_classed m e in (o.0, λ _. o.1)
+  leaders_by false e = ([], λ t. absurd (not_true t))
+
   abbrev pub leaders : List ℕ
-  leaders = (still_classed m r.membrane).0
+  leaders = (leaders_by (files f m Atom) refl).0
 
   -- an atom may be filed
-  may_file : cell_kind f x ≡ Atom → IsSome (f x) → length own ≤ length xs + 1 → MayFile F m x own leaders
-  may_file atom t long =
-      let o = still_classed m r.membrane in let l = w.web.listed.line m Atom r.membrane in
+  may_file : files f m (cell_kind f x) ≡ true → IsSome (f x) → length own ≤ length xs + 1 → MayFile F m x own leaders
+  may_file filed t long =
+      let atom = filed_atom f m (cell_kind f x) filed in
+      let classed : AreClassed F m (list_in f m Atom) leaders = (leaders_by (files f m Atom) refl).1 (ap (files f m) (sym atom) ∙ filed) in let l = w.web.listed.line m Atom r.membrane in
       let stay : (z : ℕ) → IsSome (f z) → IsSome (F z) = λ z s. there f F (list_in f) w.web.listed m x h xs r z s in
       let count : number_in F m (count_number Atom) ≡ length xs = subst (λ k. number_in F m (count_number k) ≡ length xs) atom r.count_at in
-      let few = not_longer o.0 (list_in f m Atom) o.1.once o.1.inside in
+      let few = not_longer leaders (list_in f m Atom) classed.once classed.inside in
       let within : length (list_in f m Atom) ≤ length xs + 1 = subst (λ k. length (list_in f m k) ≤ length xs + 1) atom long in
       subst (λ k. MayFile F m x (list_in f m k) leaders) (sym atom) record {
-        classed = o.1;
+        classed = classed;
         once = l.once;
         alive = λ z i. stay z (cell_of f (list_in f) w.web.listed m z Atom i).0;
         short = omega (arith, few, within, count);
@@ -264,28 +295,29 @@ module _ (f F : ℕ → Option HeldCell) (all : List ℕ) (w : IsClassedWeb f al
       }
 
   -- an atom that came into a list may be filed in its class
-  pub may_enter : (place : Option ℕ) → cell_kind f x ≡ Atom → IsSome (f x) → length own ≤ length xs + 1 → (In x own → ⊥) → ((d : ℕ) → place ≡ Some d → In d own × (key_in F d ≡ key_in F x)) → ClassBecomes F (key_in F x) own (put_at x place (of_class F (key_in F x) own)) xs
+  pub may_enter : (place : Option ℕ) → files f m (cell_kind f x) ≡ true → IsSome (f x) → length own ≤ length xs + 1 → (In x own → ⊥) → ((d : ℕ) → place ≡ Some d → In d own × (key_in F d ≡ key_in F x)) → ClassBecomes F (key_in F x) own (put_at x place (of_class F (key_in F x) own)) xs
       → MayEnter F m x place own leaders xs
-  may_enter place atom t long fresh inside one = record { may = may_file atom t long; fresh = fresh; inside = inside; one = one }
+  may_enter place filed t long fresh inside one = record { may = may_file filed t long; fresh = fresh; inside = inside; one = one }
 
   -- and one that left may leave its class
-  pub may_leave : cell_kind f x ≡ Atom → IsSome (f x) → length own ≤ length xs + 1 → In x own → ClassBecomes F (key_in F x) own (without x (of_class F (key_in F x) own)) xs → MayLeave F m x own leaders xs
-  may_leave atom t long inside one = record { may = may_file atom t long; inside = inside; one = one }
+  pub may_leave : files f m (cell_kind f x) ≡ true → IsSome (f x) → length own ≤ length xs + 1 → In x own → ClassBecomes F (key_in F x) own (without x (of_class F (key_in F x) own)) xs → MayLeave F m x own leaders xs
+  may_leave filed t long inside one = record { may = may_file filed t long; inside = inside; one = one }
 
   -- the classes of a list are as they were
   pub class_still : (p : ℕ × ℕ) (us : List ℕ) → of_class F p us ≡ of_class f p us
   class_still p us = filter_same (λ a. is_key (key_in F a) p) (λ a. is_key (key_in f a) p) us (λ z i. ap (λ q. is_key q p) (key_still z))
 
   -- one that came before another, by the first of its class from there on
-  pub may_before : (a : ℕ) (place : Option ℕ) → put_before x a own ≡ xs → cell_kind f x ≡ Atom → IsSome (f x) → link_in f x HOME ≡ None → In a own
+  pub may_before : (a : ℕ) (place : Option ℕ) → put_before x a own ≡ xs → files f m (cell_kind f x) ≡ true → IsSome (f x) → link_in f x HOME ≡ None → In a own
       → from place (of_class f (key_in f x) (list_in f m Atom)) ≡ of_class f (key_in f x) (from (Some a) (list_in f m Atom)) → MayEnter F m x place own leaders xs
-  may_before a place is atom t free i found =
+  may_before a place is filed t free i found =
+      let atom = filed_atom f m (cell_kind f x) filed in
       let k = cell_kind f x in let q = key_in f x in
       let found_own : from place (of_class f q own) ≡ of_class f q (from (Some a) own) = subst (λ j. from place (of_class f q (list_in f m j)) ≡ of_class f q (from (Some a) (list_in f m j))) (sym atom) found in
       let still : (us : List ℕ) → of_class F (key_in F x) us ≡ of_class f q us = λ us. class_still (key_in F x) us ∙ ap (λ p. of_class f p us) (key_still x) in
       let found_then : from place (of_class F (key_in F x) own) ≡ of_class F (key_in F x) (from (Some a) own) = ap (from place) (still own) ∙ found_own ∙ sym (still (from (Some a) own)) in
       let once : Distinct own = subst (λ j. Distinct (list_in f m j)) (sym atom) (w.web.listed.line m Atom r.membrane).once in
-      may_enter place atom t (let e = length_put x a own i in let g = ap (λ (us : List ℕ). length us) is in omega (arith, e, g)) (in_none f (list_in f) w.web.listed x free m k)
+      may_enter place filed t (let e = length_put x a own i in let g = ap (λ (us : List ℕ). length us) is in omega (arith, e, g)) (in_none f (list_in f) w.web.listed x free m k)
       (λ d s. let n = place_in f q a place own i found_own d s in (n.0, key_still d ∙ n.1 ∙ sym (key_still x)))
       (subst (λ us. ClassBecomes F (key_in F x) own (put_at x place (of_class F (key_in F x) own)) us) is (one_before F x a place own once i found_then))
 
@@ -322,22 +354,22 @@ module _ (f F : ℕ → Option HeldCell) (all : List ℕ) (w : IsClassedWeb f al
     }
 
     -- and the classes of all other membranes
-    others_classed : (n : ℕ) → n ≢ m → (cell_kind f n ≡ Atom → ⊥) → ((z : ℕ) → In z (list_in f n Atom) → In z zs → ⊥) → (ls : List ℕ) × AreClassed G n (list_in f n Atom) ls
+    others_classed : (n : ℕ) → n ≢ m → files f n Atom ≡ true → ((z : ℕ) → In z (list_in f n Atom) → In z zs → ⊥) → (ls : List ℕ) × AreClassed G n (list_in f n Atom) ls
     others_classed n d c apart =
         let o = still_classed n c in (
           o.0,
           class_kept F G n (list_in f n Atom) o.0 (λ z i u. (get_or (t.rests z u).numbers HIGH 0, get_or (t.rests z u).numbers ARITY 0)) (λ z k i a b. t.away z k (apart z i) (λ e. absurd (no_m n z i e)))
-              (λ z i s. ap (λ (u : AllButLinks). u.there) (t.rests z) ∙ s) (link_stays n LEADERS c (λ e. absurd (d e))) o.1,
+              (λ z i s. ap (λ (u : AllButLinks). u.there) (t.rests z) ∙ s) (link_stays n LEADERS (files_inside f n c) (λ e. absurd (d e))) o.1,
         )
 
     low_touched : (b : ℕ) → number_in G b LOW < 2 ^ 64
     low_touched b = subst (λ n. n < 2 ^ 64) (sym (ap (λ (u : AllButLinks). get_or u.numbers LOW 0) (t.rests b) ∙ low_still b)) (w.classed.low b)
 
-  -- a change of a list of membranes leaves all classes
-  membrane_classed : cell_kind f x ≡ Membrane → IsClassed F lists
-  membrane_classed e = record {
-    classes = λ n d. each f F (list_in f) w.web.listed m x h xs r (λ n j us. j ≡ Atom → (cell_kind F n ≡ Atom → ⊥) → (ls : List ℕ) × AreClassed F n us ls)
-        (λ s. absurd (let z : Atom ≡ Membrane = sym s ∙ e in cc)) (λ n j _ s c. subst (λ i. (ls : List ℕ) × AreClassed F n (list_in f n i) ls) (sym s) (still_classed n (λ a. c (kind_is f F (list_in f) w.web.listed m x h xs r n ∙ a)))) n Atom refl d;
+  -- a change of a list in which nothing is filed leaves all classes
+  unfiled_classed : files f m (cell_kind f x) ≡ false → IsClassed F lists
+  unfiled_classed e = record {
+    classes = λ n d. each f F (list_in f) w.web.listed m x h xs r (λ n j us. j ≡ Atom → files F n Atom ≡ true → (ls : List ℕ) × AreClassed F n us ls)
+        (λ s c. absurd (let z : true ≡ false = sym c ∙ files_still m ∙ ap (files f m) (sym s) ∙ e in cc)) (λ n j _ s c. subst (λ i. (ls : List ℕ) × AreClassed F n (list_in f n i) ls) (sym s) (still_classed n (sym (files_still n) ∙ c))) n Atom refl d;
     low = λ b. subst (λ n. n < 2 ^ 64) (sym (low_still b)) (w.classed.low b);
   }
 
@@ -345,31 +377,31 @@ module _ (f F : ℕ → Option HeldCell) (all : List ℕ) (w : IsClassedWeb f al
   atom_classed : (G : ℕ → Option HeldCell) (zs : List ℕ) (p : ℕ × ℕ) → cell_kind f x ≡ Atom → (filed : Refiled F G m zs p xs) → (atoms : (z : ℕ) → In z zs → cell_kind F z ≡ Atom) → ((n z : ℕ) → n ≢ m → In z (list_in f n Atom) → In z zs → ⊥)
       → IsClassed G lists
   atom_classed G zs p e filed atoms apart = record {
-    classes = λ n d. each f F (list_in f) w.web.listed m x h xs r (λ n j us. j ≡ Atom → (cell_kind F n ≡ Atom → ⊥) → (ls : List ℕ) × AreClassed G n us ls)
+    classes = λ n d. each f F (list_in f) w.web.listed m x h xs r (λ n j us. j ≡ Atom → files F n Atom ≡ true → (ls : List ℕ) × AreClassed G n us ls)
         (λ s c. (filed.leaders, filed.classed)) (λ n j away s c. subst (λ i. (ls : List ℕ) × AreClassed G n (list_in f n i) ls) (sym s)
         (let other : n ≢ m = λ q. away q (s ∙ sym e) in
-        others_classed G zs p filed.touches atoms n other (λ a. c (kind_is f F (list_in f) w.web.listed m x h xs r n ∙ a)) (λ z i k. apart n z other i k))) n Atom refl
-        (λ a. d (ap (λ (u : AllButLinks). kind_by (get_or u.numbers KIND 0)) (filed.touches.rests n) ∙ a));
+        others_classed G zs p filed.touches atoms n other (sym (files_still n) ∙ c) (λ z i k. apart n z other i k))) n Atom refl
+        (ap (λ (u : AllButLinks). get_or u.numbers KIND 0 == FILED) (sym (filed.touches.rests n)) ∙ d);
     low = low_touched G zs p filed.touches atoms;
   }
 
   module _ (G : ℕ → Option HeldCell) (zs : List ℕ) (p : ℕ × ℕ) (atoms : cell_kind f x ≡ Atom → (z : ℕ) → In z zs → cell_kind F z ≡ Atom) (apart : cell_kind f x ≡ Atom → (n z : ℕ) → n ≢ m → In z (list_in f n Atom) → In z zs → ⊥) where
     -- the list is another
-    filed_relists : (k : CellKind) → k ≡ cell_kind f x → FiledAs k F G m zs p xs → Relists f G (list_in f) m x h xs
-    filed_relists Atom e filed = touched_relists G zs p filed.touches (atoms (sym e))
-    filed_relists Membrane e same = subst (λ (u : ℕ → Option HeldCell). Relists f u (list_in f) m x h xs) (sym same) r
+    filed_relists : (b : Bool) → b ≡ files f m (cell_kind f x) → FiledAs b F G m zs p xs → Relists f G (list_in f) m x h xs
+    filed_relists true e filed = touched_relists G zs p filed.touches (atoms (filed_atom f m (cell_kind f x) (sym e)))
+    filed_relists false e same = subst (λ (u : ℕ → Option HeldCell). Relists f u (list_in f) m x h xs) (sym same) r
 
-    filed_lists : (k : CellKind) → k ≡ cell_kind f x → FiledAs k F G m zs p xs → IsClassed G lists
-    filed_lists Atom e filed = atom_classed G zs p (sym e) filed (atoms (sym e)) (apart (sym e))
-    filed_lists Membrane e same = subst (λ (u : ℕ → Option HeldCell). IsClassed u lists) (sym same) (membrane_classed (sym e))
+    filed_lists : (b : Bool) → b ≡ files f m (cell_kind f x) → FiledAs b F G m zs p xs → IsClassed G lists
+    filed_lists true e filed = let atom = filed_atom f m (cell_kind f x) (sym e) in atom_classed G zs p atom filed (atoms atom) (apart atom)
+    filed_lists false e same = subst (λ (u : ℕ → Option HeldCell). IsClassed u lists) (sym same) (unfiled_classed (sym e))
 
     -- and its classes follow
-    filed_web : (k : CellKind) → k ≡ cell_kind f x → FiledAs k F G m zs p xs → IsClassedWeb G all
-    filed_web k e filed =
-        let v = filed_relists k e filed in
+    filed_web : (b : Bool) → b ≡ files f m (cell_kind f x) → FiledAs b F G m zs p xs → IsClassedWeb G all
+    filed_web b e filed =
+        let v = filed_relists b e filed in
         record {
           web = relists_web f G all w.web m x h xs v;
-          classed = classed_self G lists (new_lists f G (list_in f) w.web.listed m x h xs v) (filed_lists k e filed);
+          classed = classed_self G lists (new_lists f G (list_in f) w.web.listed m x h xs v) (filed_lists b e filed);
         }
 
   -- The three calls
@@ -391,17 +423,17 @@ module _ (f F : ℕ → Option HeldCell) (all : List ℕ) (w : IsClassedWeb f al
   more_apart free n z d i (inr k) = own_apart n z d i k
 
   -- a cell that came into a list and its class leaves a web
-  pub entered_web : (G : ℕ → Option HeldCell) (k : CellKind) (p : ℕ × ℕ) → k ≡ cell_kind f x → link_in f x HOME ≡ None → FiledAs k F G m (x ∷ own) p xs → IsClassedWeb G all
-  entered_web G k p e free filed = filed_web G (x ∷ own) p more_atoms (λ _. more_apart free) k e filed
+  pub entered_web : (G : ℕ → Option HeldCell) (b : Bool) (p : ℕ × ℕ) → b ≡ files f m (cell_kind f x) → link_in f x HOME ≡ None → FiledAs b F G m (x ∷ own) p xs → IsClassedWeb G all
+  entered_web G b p e free filed = filed_web G (x ∷ own) p more_atoms (λ _. more_apart free) b e filed
 
   -- in which the list is another
-  pub entered_list : (G : ℕ → Option HeldCell) (k : CellKind) (p : ℕ × ℕ) → k ≡ cell_kind f x → link_in f x HOME ≡ None → FiledAs k F G m (x ∷ own) p xs → Relists f G (list_in f) m x h xs
-  entered_list G k p e free filed = filed_relists G (x ∷ own) p more_atoms (λ _. more_apart free) k e filed
+  pub entered_list : (G : ℕ → Option HeldCell) (b : Bool) (p : ℕ × ℕ) → b ≡ files f m (cell_kind f x) → link_in f x HOME ≡ None → FiledAs b F G m (x ∷ own) p xs → Relists f G (list_in f) m x h xs
+  entered_list G b p e free filed = filed_relists G (x ∷ own) p more_atoms (λ _. more_apart free) b e filed
 
   -- so does one that left both
-  pub left_web : (G : ℕ → Option HeldCell) (k : CellKind) (p : ℕ × ℕ) → k ≡ cell_kind f x → FiledAs k F G m own p xs → IsClassedWeb G all
-  left_web G k p e filed = filed_web G own p own_atom (λ _. own_apart) k e filed
+  pub left_web : (G : ℕ → Option HeldCell) (b : Bool) (p : ℕ × ℕ) → b ≡ files f m (cell_kind f x) → FiledAs b F G m own p xs → IsClassedWeb G all
+  left_web G b p e filed = filed_web G own p own_atom (λ _. own_apart) b e filed
 
   -- and the list is another
-  pub left_list : (G : ℕ → Option HeldCell) (k : CellKind) (p : ℕ × ℕ) → k ≡ cell_kind f x → FiledAs k F G m own p xs → Relists f G (list_in f) m x h xs
-  left_list G k p e filed = filed_relists G own p own_atom (λ _. own_apart) k e filed
+  pub left_list : (G : ℕ → Option HeldCell) (b : Bool) (p : ℕ × ℕ) → b ≡ files f m (cell_kind f x) → FiledAs b F G m own p xs → Relists f G (list_in f) m x h xs
+  left_list G b p e filed = filed_relists G own p own_atom (λ _. own_apart) b e filed

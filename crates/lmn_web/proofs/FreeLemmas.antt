@@ -224,7 +224,7 @@ module _ (f : ℕ → Option HeldCell) (all : List ℕ) (w : IsWeb f all) (a : �
     freed_classed c = classed_self H (list_in f) h_lists
         (classed_beside G H a (list_in f) h_away (λ m k j. in_none f (list_in f) w.listed a homeless m k j) empty (ap (λ (o : Option HeldCell). get_or (links_of o) LEADERS None) h_at) (subst (λ (o : Option HeldCell). get_or (numbers_of o) LOW 0 < 2 ^ 64) (sym h_at) (omega arith))
         (classed_links f G (list_in f) (λ b k. ap (λ (u : Kept). get_or u.listing.links k None) (kept_all b)) (λ b t. ((kept_all b t).high, (kept_all b t).arity)) (λ b. ap (λ (u : Kept). u.low) (kept_all b))
-        (λ b. ap (λ (u : Kept). kind_by u.listing.kind) (kept_all b)) (λ b t. there_all b ∙ t) c))
+        (λ b. ap (λ (u : Kept). u.listing.kind) (kept_all b)) (λ b t. there_all b ∙ t) c))
 
     -- and all but that cell stay
     pub freed_is : web_of H ≡ alter (web_of f) a (λ _. None)

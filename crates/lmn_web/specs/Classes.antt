@@ -1,14 +1,15 @@
--- Words of private functions: the atoms of a membrane that have one class, which is the high half of their labels and how many ports they have, are linked one behind the other.
-use Rattle.std.specs.Prelude.{◌≡◌, ◌≢◌, ◌==◌, ◌&&◌, ◌<◌, ◌≤◌, ◌+◌, ◌++◌, Bool, false, ℕ, List, [], ◌∷◌, length, filter, Option, Some, None, IsSome, is_some, if◌then◌else◌}
+-- Words of private functions: the atoms of a membrane that files them and that have one class, which is the high half of their labels and how many ports they have, are linked one behind the other.
+use Rattle.std.specs.Prelude.{◌≡◌, ◌≢◌, ◌==◌, ◌&&◌, ◌<◌, ◌≤◌, ◌+◌, ◌++◌, Bool, true, false, ℕ, List, [], ◌∷◌, length, filter, Option, Some, None, IsSome, is_some, if◌then◌else◌}
 use Rattle.lmn_base.specs.Lists.{In}
 use Rattle.lmn_heap.specs.Lists.{Distinct, without}
 use Rattle.std.specs.Option.{option_map}
 use Rattle.lmn_heap.specs.Heap.{alter}
 use Rattle.lmn_cells.specs.Cells.{HeldPort, HeldCell, links_of, numbers_of, ports_of, with_link}
 use Rattle.lmn_cells.specs.Runs.{Node, RunsThrough, link_in, put_before}
-use Rattle.lmn_web.specs.Webs.{number_in, count_number, ARITY, HIGH}
+use Rattle.lmn_web.specs.Webs.{number_in, count_number, ARITY, HIGH, KIND}
 use Rattle.lmn_web.specs.declared.kind.CellKind.{CellKind}
 use Rattle.lmn_web.specs.declared.kind.CellKind.TheVariants.{Atom, Membrane}
+use Rattle.lmn_web.specs.Kinds.{FILED}
 
 -- the links of an atom to the next and the previous one of its class, and, of the first one of a class, to the first one of another class and to the last one of its own
 abbrev pub CLASS_NEXT : ℕ
@@ -29,6 +30,11 @@ LEADERS = 7
 
 abbrev pub class_node : (ℕ → Option HeldCell) → ℕ → Node
 class_node f a = record { prev = link_in f a CLASS_PREV; next = link_in f a CLASS_NEXT }
+
+-- what comes into the list of a kind of a membrane is filed by class
+abbrev pub files : (ℕ → Option HeldCell) → ℕ → CellKind → Bool
+files f m Atom = number_in f m KIND == FILED
+files f m Membrane = false
 
 -- the class of an atom
 abbrev pub key_in : (ℕ → Option HeldCell) → ℕ → ℕ × ℕ
@@ -163,7 +169,7 @@ pub record MayLeave (f : ℕ → Option HeldCell) (m c : ℕ) (xs ls xs' : List 
   pub inside : In c xs
   pub one : ClassBecomes f (key_in f c) xs (without c (of_class f (key_in f c) xs)) xs'
 
--- as filing leaves the cells: nothing changes for a membrane
-abbrev pub FiledAs : CellKind → (ℕ → Option HeldCell) → (ℕ → Option HeldCell) → ℕ → List ℕ → ℕ × ℕ → List ℕ → Type 0
-FiledAs Atom f g m xs p xs' = Refiled f g m xs p xs'
-FiledAs Membrane f g m xs p xs' = g ≡ f
+-- the cells after filing, or without it
+abbrev pub FiledAs : Bool → (ℕ → Option HeldCell) → (ℕ → Option HeldCell) → ℕ → List ℕ → ℕ × ℕ → List ℕ → Type 0
+FiledAs true f g m xs p xs' = Refiled f g m xs p xs'
+FiledAs false f g m xs p xs' = g ≡ f

@@ -1,5 +1,5 @@
 -- Words of the invariant of a web, and of private functions: how its cells are listed and indexed.
-use Rattle.std.specs.Prelude.{◌≡◌, ◌↔◌, ℕ, ◌<◌, ◌^◌, List, [], length, Option, Some, None, IsSome, slice_get}
+use Rattle.std.specs.Prelude.{◌≡◌, ◌↔◌, true, ℕ, ◌<◌, ◌^◌, List, [], length, Option, Some, None, IsSome, slice_get}
 use Rattle.std.specs.Option.{option_map}
 use Rattle.lmn_base.specs.Lists.{In}
 use Rattle.lmn_heap.specs.Heap.{alter}
@@ -9,7 +9,7 @@ use Rattle.lmn_cells.specs.Runs.{HOME, link_in, Line}
 use Rattle.lmn_web.specs.declared.kind.CellKind.{CellKind}
 use Rattle.lmn_web.specs.declared.kind.CellKind.TheVariants.{Atom}
 use Rattle.lmn_web.specs.Kinds.{kind_by}
-use Rattle.lmn_web.specs.Classes.{AreClassed}
+use Rattle.lmn_web.specs.Classes.{files, AreClassed}
 use Rattle.lmn_web.specs.Webs.{INDEX, ARITY, KIND, HIGH, LOW, number_in, count_number, list_link, list_in}
 
 -- a cell with these numbers
@@ -43,9 +43,9 @@ pub record IsWeb (f : ℕ → Option HeldCell) (all : List ℕ) : Type 0 where
   pub paired : Paired f
   pub listed : IsListed f (list_in f)
 
--- the atoms of each membrane are linked by class, and the lower half of each label is below 2 ^ 64
+-- the atoms of each membrane that files them are linked by class, and the lower half of each label is below 2 ^ 64
 pub record IsClassed (f : ℕ → Option HeldCell) (lists : ℕ → CellKind → List ℕ) : Type 0 where
-  pub classes : (m : ℕ) → (cell_kind f m ≡ Atom → ⊥) → (ls : List ℕ) × AreClassed f m (lists m Atom) ls
+  pub classes : (m : ℕ) → files f m Atom ≡ true → (ls : List ℕ) × AreClassed f m (lists m Atom) ls
   pub low : (b : ℕ) → number_in f b LOW < 2 ^ 64
 
 -- a web whose atoms are linked by class

@@ -1,5 +1,5 @@
-//! The atoms of a membrane by class: the high half of a label, and how many ports.
-ghost use Rattle.std.specs.Prelude.{◌≡◌, ◌≢◌, ◌≤◌, ◌+◌, ◌++◌, ◌∷◌, [], ℕ, List, None, Some, IfSome, IsSome, length};
+//! The atoms of a membrane that files them by class: the high half of a label, and how many ports.
+ghost use Rattle.std.specs.Prelude.{◌≡◌, ◌≢◌, ◌≤◌, ◌+◌, ◌++◌, ◌∷◌, [], ℕ, List, None, Some, IfSome, IsSome, length, true};
 ghost use Rattle.std.specs.Option.{option_map};
 ghost use Rattle.lmn_base.specs.Lists.{In};
 ghost use Rattle.lmn_cells.specs.Cells.{cells_by};
@@ -8,9 +8,9 @@ ghost use Rattle.lmn_heap.specs.Lists.{after, from, without};
 ghost use Rattle.lmn_cells.specs.Runs.{Line, link_in, put_before};
 ghost use Rattle.lmn_web.specs.declared.kind.CellKind.TheVariants.{Atom};
 ghost use Rattle.lmn_web.specs.Webs.{number_in, count_number, list_in};
-ghost use Rattle.lmn_web.specs.Classes.{ArePeers, Refiled, FiledAs, MayEnter, MayFile, MayLeave, ClassBecomes, begun, closed, is_key, key_in, led, lengthened, passed, class_place, put_between, put_first, of_class, shortened};
+ghost use Rattle.lmn_web.specs.Classes.{AreClassed, ArePeers, Refiled, FiledAs, MayEnter, MayFile, MayLeave, ClassBecomes, begun, closed, files, is_key, key_in, led, lengthened, passed, class_place, put_between, put_first, of_class, shortened};
 
-use crate::kind::CellKind;
+use crate::kind::{CellKind, FILED};
 use lmn_cells::cell::Cells;
 use lmn_cells::handle::Cell;
 
@@ -19,11 +19,16 @@ const ARITY: usize = 1;
 
 const HIGH: usize = 3;
 
-// The link of an atom to the next one of its list.
+// The number by which a cell tells its kind.
+const KIND: usize = 2;
+
+// The link of an atom to the next one of its list, and of a membrane to the first of its atoms.
 const NEXT: usize = 1;
 
-/// The link of an atom to the next one of its class.
-pub const CLASS_NEXT: usize = 3;
+const ATOMS: usize = 3;
+
+// The link of an atom to the next one of its class.
+const CLASS_NEXT: usize = 3;
 
 // The links of an atom to the previous one of its class, and of the first one of a class to the first one of the next
 // class, and to the last one of its own.
@@ -36,16 +41,27 @@ const CLASS_LAST: usize = 6;
 // The link of a membrane to the first atom of a class.
 const LEADERS: usize = 7;
 
-/// The first atom of a class in a membrane, and the first one of the class before it in the chain.
+// The first atom of a class in a membrane, and the first one of the class before it in the chain.
 #[derive(Clone, Copy)]
-pub struct Leader {
-    /// None where the class comes first. Where there is no such class, the last one of the chain.
-    pub before: Option<Cell>,
-    /// None where the membrane has no atom of the class.
-    pub leader: Option<Cell>,
+struct Leader {
+    // None where the class comes first. Where there is no such class, the last one of the chain.
+    before: Option<Cell>,
+    // None where the membrane has no atom of the class.
+    leader: Option<Cell>,
 }
 
-/// Whether an atom has a class.
+/// Whether what comes into the list of a kind of a membrane is filed: an atom is, unless the membrane files none.
+pub fn is_filed(cells: &Cells, m: Cell, kind: CellKind) -> bool
+    requires { IsSome (cells_by cells.now (cell_id m)) }
+    ensures { result ≡ files (cells_by cells.now) (cell_id m) kind }
+{
+    match kind {
+        CellKind::Atom => cells.number(m, KIND) == FILED,
+        CellKind::Membrane => false,
+    }
+}
+
+// Whether an atom has a class.
 fn has_class(cells: &Cells, c: Cell, high: u64, arity: u64) -> bool
     requires { IsSome (cells_by cells.now (cell_id c)) }
     ensures { result ≡ is_key (key_in (cells_by cells.now) (cell_id c)) (high, arity) }
@@ -53,8 +69,8 @@ fn has_class(cells: &Cells, c: Cell, high: u64, arity: u64) -> bool
     cells.number(c, HIGH) == high && cells.number(c, ARITY) == arity
 }
 
-/// Where a membrane has the first atom of a class.
-pub fn find(cells: &Cells, m: Cell, high: u64, arity: u64) -> Leader
+// Where a membrane has the first atom of a class.
+fn find(cells: &Cells, m: Cell, high: u64, arity: u64) -> Leader
     requires there { IsSome (cells_by cells.now (cell_id m)) }
     requires peers { (ls : List ℕ) × ArePeers (cells_by cells.now) (link_in (cells_by cells.now) (cell_id m) 7) ls × (length ls ≤ number_in (cells_by cells.now) (cell_id m) (count_number Atom) + 1) }
     ensures { (ls : List ℕ) → ArePeers (cells_by cells.now) (link_in (cells_by cells.now) (cell_id m) 7) ls →
@@ -78,14 +94,14 @@ pub fn find(cells: &Cells, m: Cell, high: u64, arity: u64) -> Leader
     }
 }
 
-// The first atom of a class from one of a membrane's list on.
-fn seek(cells: &Cells, m: Cell, start: Cell, high: u64, arity: u64) -> Option<Cell>
+// The first atom of a class from one of a membrane's list on, if there is one.
+fn seek(cells: &Cells, m: Cell, start: Option<Cell>, high: u64, arity: u64) -> Option<Cell>
     requires line { Line (cells_by cells.now) (cell_id m) 3 (list_in (cells_by cells.now) (cell_id m) Atom) }
-    requires start { In (cell_id start) (list_in (cells_by cells.now) (cell_id m) Atom) }
+    requires start { IfSome start (λ c. In (cell_id c) (list_in (cells_by cells.now) (cell_id m) Atom)) }
     ensures { let f = cells_by cells.now in let all = list_in f (cell_id m) Atom in
-        from (option_map cell_id result) (of_class f (high, arity) all) ≡ of_class f (high, arity) (from (Some (cell_id start)) all) }
+        from (option_map cell_id result) (of_class f (high, arity) all) ≡ of_class f (high, arity) (from (option_map cell_id start) all) }
 {
-    let mut at = Some(start);
+    let mut at = start;
     while let Some(c) = at {
         if has_class(cells, c, high, arity) {
             return Some(c);
@@ -95,23 +111,59 @@ fn seek(cells: &Cells, m: Cell, start: Cell, high: u64, arity: u64) -> Option<Ce
     None
 }
 
-/// The first atom of the class of `c` from another atom of a membrane's list on. None where no atom is asked for.
-pub fn place_from(cells: &Cells, m: Cell, kind: CellKind, start: Cell, c: Cell) -> Option<Cell>
-    requires there { IsSome (cells_by cells.now (cell_id c)) }
-    requires line { kind ≡ Atom → Line (cells_by cells.now) (cell_id m) 3 (list_in (cells_by cells.now) (cell_id m) Atom) }
-    requires start { kind ≡ Atom → In (cell_id start) (list_in (cells_by cells.now) (cell_id m) Atom) }
-    ensures { kind ≡ Atom → let f = cells_by cells.now in let all = list_in f (cell_id m) Atom in
-        from (option_map cell_id result) (of_class f (key_in f (cell_id c)) all) ≡ of_class f (key_in f (cell_id c)) (from (Some (cell_id start)) all) }
+/// The first atom of a class in a membrane.
+pub fn first_in(cells: &Cells, m: Cell, high: u64, arity: u64) -> Option<Cell>
+    requires there { IsSome (cells_by cells.now (cell_id m)) }
+    requires line { Line (cells_by cells.now) (cell_id m) 3 (list_in (cells_by cells.now) (cell_id m) Atom) }
+    requires classes { files (cells_by cells.now) (cell_id m) Atom ≡ true → (ls : List ℕ) × AreClassed (cells_by cells.now) (cell_id m) (list_in (cells_by cells.now) (cell_id m) Atom) ls × (length ls ≤ number_in (cells_by cells.now) (cell_id m) (count_number Atom) + 1) }
+    ensures { let f = cells_by cells.now in let own = of_class f (high, arity) (list_in f (cell_id m) Atom) in from (option_map cell_id result) own ≡ own }
 {
-    match kind {
-        CellKind::Atom => seek(
+    if is_filed(cells, m, CellKind::Atom) {
+        find(cells, m, high, arity).leader
+    } else {
+        seek(cells, m, cells.link(m, ATOMS), high, arity)
+    }
+}
+
+/// The next atom of the class of one in a membrane.
+pub fn next_in(cells: &Cells, m: Cell, c: Cell) -> Option<Cell>
+    requires there { IsSome (cells_by cells.now (cell_id m)) }
+    requires line { Line (cells_by cells.now) (cell_id m) 3 (list_in (cells_by cells.now) (cell_id m) Atom) }
+    requires inside { In (cell_id c) (list_in (cells_by cells.now) (cell_id m) Atom) }
+    requires classes { files (cells_by cells.now) (cell_id m) Atom ≡ true → (ls : List ℕ) × AreClassed (cells_by cells.now) (cell_id m) (list_in (cells_by cells.now) (cell_id m) Atom) ls }
+    ensures { let f = cells_by cells.now in let own = of_class f (key_in f (cell_id c)) (list_in f (cell_id m) Atom) in from (option_map cell_id result) own ≡ after (cell_id c) own }
+{
+    if is_filed(cells, m, CellKind::Atom) {
+        cells.link(c, CLASS_NEXT)
+    } else {
+        seek(
             cells,
             m,
-            start,
+            cells.link(c, NEXT),
             cells.number(c, HIGH),
             cells.number(c, ARITY),
-        ),
-        CellKind::Membrane => None,
+        )
+    }
+}
+
+/// The first atom of the class of `c` from another atom of a membrane's list on. None where nothing is to be filed.
+pub fn place_from(cells: &Cells, m: Cell, filed: bool, start: Cell, c: Cell) -> Option<Cell>
+    requires there { IsSome (cells_by cells.now (cell_id c)) }
+    requires line { filed ≡ true → Line (cells_by cells.now) (cell_id m) 3 (list_in (cells_by cells.now) (cell_id m) Atom) }
+    requires start { filed ≡ true → In (cell_id start) (list_in (cells_by cells.now) (cell_id m) Atom) }
+    ensures { filed ≡ true → let f = cells_by cells.now in let all = list_in f (cell_id m) Atom in
+        from (option_map cell_id result) (of_class f (key_in f (cell_id c)) all) ≡ of_class f (key_in f (cell_id c)) (from (Some (cell_id start)) all) }
+{
+    if filed {
+        seek(
+            cells,
+            m,
+            Some(start),
+            cells.number(c, HIGH),
+            cells.number(c, ARITY),
+        )
+    } else {
+        None
     }
 }
 
@@ -320,30 +372,28 @@ pub fn unfile(cells: &mut Cells, m: Cell, c: Cell)
     }
 }
 
-/// What came into a list of a membrane is filed: an atom comes directly before another one of its class, or behind all
-/// of them. A membrane has no class.
-pub fn enter_class(cells: &mut Cells, m: Cell, kind: CellKind, place: Option<Cell>, c: Cell)
-    requires { kind ≡ Atom → (xs ls xs' : List ℕ) × MayEnter (cells_by cells.old) (cell_id m) (cell_id c) (option_map cell_id place) xs ls xs' }
-    ensures { (xs ls xs' : List ℕ) → (kind ≡ Atom → MayEnter (cells_by cells.old) (cell_id m) (cell_id c) (option_map cell_id place) xs ls xs') →
-        FiledAs kind (cells_by cells.old) (cells_by cells.new) (cell_id m) (cell_id c ∷ xs) (key_in (cells_by cells.old) (cell_id c)) xs' }
+/// What came into a list of a membrane is filed, where it is to be: it comes directly before another one of its class,
+/// or behind all of them.
+pub fn enter_class(cells: &mut Cells, m: Cell, filed: bool, place: Option<Cell>, c: Cell)
+    requires { filed ≡ true → (xs ls xs' : List ℕ) × MayEnter (cells_by cells.old) (cell_id m) (cell_id c) (option_map cell_id place) xs ls xs' }
+    ensures { (xs ls xs' : List ℕ) → (filed ≡ true → MayEnter (cells_by cells.old) (cell_id m) (cell_id c) (option_map cell_id place) xs ls xs') →
+        FiledAs filed (cells_by cells.old) (cells_by cells.new) (cell_id m) (cell_id c ∷ xs) (key_in (cells_by cells.old) (cell_id c)) xs' }
 {
-    match kind {
-        CellKind::Atom => match place {
+    if filed {
+        match place {
             None => file_last(cells, m, c),
             Some(d) => file_before(cells, m, d, c),
-        },
-        CellKind::Membrane => {}
+        }
     }
 }
 
-/// What left a list of a membrane leaves its class, where it is an atom.
-pub fn leave_class(cells: &mut Cells, m: Cell, kind: CellKind, c: Cell)
-    requires { kind ≡ Atom → (xs ls xs' : List ℕ) × MayLeave (cells_by cells.old) (cell_id m) (cell_id c) xs ls xs' }
-    ensures { (xs ls xs' : List ℕ) → (kind ≡ Atom → MayLeave (cells_by cells.old) (cell_id m) (cell_id c) xs ls xs') →
-        FiledAs kind (cells_by cells.old) (cells_by cells.new) (cell_id m) xs (key_in (cells_by cells.old) (cell_id c)) xs' }
+/// What left a list of a membrane leaves its class, where it is filed.
+pub fn leave_class(cells: &mut Cells, m: Cell, filed: bool, c: Cell)
+    requires { filed ≡ true → (xs ls xs' : List ℕ) × MayLeave (cells_by cells.old) (cell_id m) (cell_id c) xs ls xs' }
+    ensures { (xs ls xs' : List ℕ) → (filed ≡ true → MayLeave (cells_by cells.old) (cell_id m) (cell_id c) xs ls xs') →
+        FiledAs filed (cells_by cells.old) (cells_by cells.new) (cell_id m) xs (key_in (cells_by cells.old) (cell_id c)) xs' }
 {
-    match kind {
-        CellKind::Atom => unfile(cells, m, c),
-        CellKind::Membrane => {}
+    if filed {
+        unfile(cells, m, c);
     }
 }

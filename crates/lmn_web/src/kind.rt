@@ -12,13 +12,19 @@ pub enum CellKind {
     Membrane,
 }
 
-/// The number by which a cell tells its kind.
+/// The number by which a cell tells that it is a membrane whose atoms are filed by class.
+pub const FILED: u64 = 1;
+
+/// The number of a membrane whose atoms aren't.
+pub const UNFILED: u64 = 2;
+
+/// The number by which a cell tells its kind. The atoms of a membrane are filed.
 pub fn number_of(kind: CellKind) -> u64
     ensures { kind_by result ≡ kind }
 {
     match kind {
         CellKind::Atom => 0,
-        CellKind::Membrane => 1,
+        CellKind::Membrane => FILED,
     }
 }
 

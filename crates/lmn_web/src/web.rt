@@ -8,11 +8,12 @@ ghost use Rattle.lmn_cells.specs.Cells.{cells_by};
 ghost use Rattle.lmn_cells.specs.CellIds.{cell_id, port_id};
 ghost use Rattle.lmn_cells.specs.Ports.{IsSamePort};
 ghost use Rattle.lmn_web.specs.Webs.{web_by, partner_at, arity_at, kind_at, home_at, cells_in, partners_of, marks_of, new_cell, with_mark, joined, parted, added_last, added_before, unlinked, web_label, is_labelled, with_label, label_class, with_class, IsPaired, IsLoose, StandOnce};
+ghost use Rattle.lmn_web.specs.Kinds.{kind_by};
 ghost use Rattle.lmn_web.specs.Indexes.{described, reindexed, IsIndexed};
 ghost use Rattle.lmn_web.specs.declared.kind.CellKind.TheVariants.{Atom, Membrane};
 
-use crate::classes::{CLASS_NEXT, enter_class, find, leave_class, place_from};
-use crate::kind::{CellKind, count_place, first_link, kind_of, number_of};
+use crate::classes::{enter_class, first_in, is_filed, leave_class, next_in, place_from};
+use crate::kind::{CellKind, UNFILED, count_place, first_link, kind_of, number_of};
 use lmn_cells::cell::Cells;
 use lmn_cells::handle::Cell;
 use lmn_cells::{lists, ports};
@@ -86,20 +87,32 @@ impl Web {
             (λ c. (web_by self.old (cell_id c) ≡ None) × (web_by self.new ≡ alter (web_by self.old) (cell_id c) (λ _. Some (new_cell label arity kind))))
             (λ _. web_by self.new ≡ web_by self.old) }
     {
+        self.make_by(label, arity, number_of(kind))
+    }
+
+    /// A new membrane that doesn't file its atoms by class: they come and go in fewer steps, and those of a class are looked
+    /// for along its list.
+    pub fn make_unfiled(&mut self, label: u128) -> Result<Cell, AllocError>
+        ensures { MatchResult result
+            (λ c. (web_by self.old (cell_id c) ≡ None) × (web_by self.new ≡ alter (web_by self.old) (cell_id c) (λ _. Some (new_cell label 0 Membrane))))
+            (λ _. web_by self.new ≡ web_by self.old) }
+    {
+        self.make_by(label, 0, UNFILED)
+    }
+
+    // A new cell that tells its kind by this number.
+    #[inline(always)]
+    fn make_by(&mut self, label: u128, arity: u8, kind: u64) -> Result<Cell, AllocError>
+        ensures { MatchResult result
+            (λ c. (web_by self.old (cell_id c) ≡ None) × (web_by self.new ≡ alter (web_by self.old) (cell_id c) (λ _. Some (new_cell label arity (kind_by kind)))))
+            (λ _. web_by self.new ≡ web_by self.old) }
+    {
         self.all.reserve(1)?;
         let c = self.cells.make(arity as usize)?;
         let index = self.all.len() as u64;
         let high = (label / WHOLE) as u64;
         let low = (label % WHOLE) as u64;
-        describe(
-            &mut self.cells,
-            c,
-            index,
-            arity as u64,
-            number_of(kind),
-            high,
-            low,
-        );
+        describe(&mut self.cells, c, index, arity as u64, kind, high, low);
         self.all.push_reserved(c);
         Ok(c)
     }
@@ -230,7 +243,7 @@ impl Web {
     {
         match self.kind(home) {
             CellKind::Atom => None,
-            CellKind::Membrane => find(&self.cells, home, class, arity as u64).leader,
+            CellKind::Membrane => first_in(&self.cells, home, class, arity as u64),
         }
     }
 
@@ -242,7 +255,10 @@ impl Web {
             let all = with_class (web_by self.now) (label_class label) (arity_at (web_by self.now) (cell_id c)) (cells_in (web_by self.now) m Atom) in from (option_map cell_id result) all ≡ after (cell_id c) all }
         ensures there { (m : ℕ) → home_at (web_by self.now) (cell_id c) ≡ Some m → IfSome result (λ d. In (cell_id d) (cells_in (web_by self.now) m Atom)) }
     {
-        self.cells.link(c, CLASS_NEXT)
+        match self.home(c) {
+            Some(home) => next_in(&self.cells, home, c),
+            None => None,
+        }
     }
 
     /// The first atom of a membrane with this label and so many ports.
@@ -316,10 +332,11 @@ impl Web {
         ensures { web_by self.new ≡ added_last (web_by self.old) (cell_id home) (cell_id c) }
     {
         let kind = kind_of(self.cells.number(c, KIND));
+        let filed = is_filed(&self.cells, home, kind);
         lists::append(&mut self.cells, home, first_link(kind), c);
         let count = self.cells.number(home, count_place(kind));
         self.cells.set_number(home, count_place(kind), count + 1);
-        enter_class(&mut self.cells, home, kind, None, c);
+        enter_class(&mut self.cells, home, filed, None, c);
     }
 
     /// The cell goes directly before another one of its kind.
@@ -333,11 +350,12 @@ impl Web {
     {
         if let Some(home) = self.cells.link(after, HOME) {
             let kind = kind_of(self.cells.number(c, KIND));
-            let place = place_from(&self.cells, home, kind, after, c);
+            let filed = is_filed(&self.cells, home, kind);
+            let place = place_from(&self.cells, home, filed, after, c);
             lists::insert(&mut self.cells, home, first_link(kind), after, c);
             let count = self.cells.number(home, count_place(kind));
             self.cells.set_number(home, count_place(kind), count + 1);
-            enter_class(&mut self.cells, home, kind, place, c);
+            enter_class(&mut self.cells, home, filed, place, c);
         }
     }
 
@@ -348,10 +366,11 @@ impl Web {
     {
         if let Some(home) = self.cells.link(c, HOME) {
             let kind = kind_of(self.cells.number(c, KIND));
+            let filed = is_filed(&self.cells, home, kind);
             lists::unlink(&mut self.cells, home, first_link(kind), c);
             let count = self.cells.number(home, count_place(kind));
             self.cells.set_number(home, count_place(kind), count - 1);
-            leave_class(&mut self.cells, home, kind, c);
+            leave_class(&mut self.cells, home, filed, c);
         }
     }
 

@@ -1,4 +1,4 @@
-use Rattle.std.proofs.Common.{Some, length}
+use Rattle.std.proofs.Common.{length}
 use Rattle.std.specs.Option.{option_map}
 use Rattle.lmn_heap.specs.Lists.{from}
 use Rattle.lmn_cells.specs.Cells.{cells_by}
@@ -12,7 +12,7 @@ use Rattle.lmn_web.proofs.classes.seek.Given as goal
 abbrev pub invariant-loop-at : goal.invariant-loop-at
 invariant-loop-at l =
     let f = cells_by l.cells in
-    Seeks (λ a. is_key (key_in f a) (l.high, l.arity)) (list_in f (cell_id l.fn.m) Atom) (Some (cell_id l.fn.start)) (option_map cell_id l.at)
+    Seeks (λ a. is_key (key_in f a) (l.high, l.arity)) (list_in f (cell_id l.fn.m) Atom) (option_map cell_id l.fn.start) (option_map cell_id l.at)
 
 abbrev pub decreases-loop-at : goal.decreases-loop-at
 decreases-loop-at l = length (from (option_map cell_id l.at) (list_in (cells_by l.cells) (cell_id l.fn.m) Atom))

@@ -1,4 +1,4 @@
-use Rattle.std.proofs.Common.{◌≡◌, List, Some, IsSome, sym, ap, subst, ◌∙◌}
+use Rattle.std.proofs.Common.{◌≡◌, List, Some, sym, ap, subst, ◌∙◌}
 use Rattle.std.specs.Option.{option_map}
 use Rattle.lmn_base.specs.Lists.{In}
 use Rattle.lmn_heap.specs.Lists.{from, after}
@@ -11,43 +11,55 @@ use Rattle.lmn_web.specs.declared.kind.CellKind.TheVariants.{Atom}
 use Rattle.lmn_web.specs.Webs.{web_by, web_of, cells_in, list_in, home_at, kind_at, arity_at, web_label, label_class, with_class}
 use Rattle.lmn_web.specs.Indexes.{cell_kind}
 use Rattle.lmn_web.specs.Classes.{is_key, key_in, of_class}
-use Rattle.lmn_web.proofs.ListedLemmas.{home_same, kind_same, list_same, own_line, some_home, if_some}
+use Rattle.lmn_web.proofs.ListedLemmas.{home_same, kind_same, list_same, own_line, if_some}
 use Rattle.lmn_web.proofs.Reclassing.{in_filter}
-use Rattle.lmn_web.proofs.ClassReads.{class_list, class_goes_on, key_by_label}
+use Rattle.lmn_web.proofs.ClassReads.{class_list, key_by_label}
 use Rattle.lmn_web.proofs.web.Web.next_of_class.Goals as goal
 
-pub link-requires-clause-there : goal.link-requires-clause-there
-link-requires-clause-there c =
-    let f = cells_by c.self.inside.cells in let x = cell_id c.args.c in
-    some_home f (list_in f) x (subst (λ (z : List Row). IsSome (home_at (web_by z) x)) (sym c.self.view_is) c.requires.home)
+pub next_in-requires-clause-there : goal.next_in-requires-clause-there
+next_in-requires-clause-there c =
+    let f = cells_by c.self.inside.cells in let x = cell_id c.args.c in let W = c.self.invariant in let n = cell_id c.in-Some.home in
+    let home : link_in f x HOME ≡ Some n = sym (home_same f (list_in f) x) ∙ ap (λ (z : List Row). home_at (web_by z) x) c.self.view_is ∙ c.home.ensures ∙ ap (option_map cell_id) c.in-Some.is in
+    (W.web.listed.homes n x home).0
 
-pub returns-clause-list : goal.returns-clause-list
-returns-clause-list c m label at named =
-    let f = cells_by c.self.inside.cells in let x = cell_id c.args.c in let W = c.self.invariant in let r = option_map cell_id c.link.result in
-    let home : link_in f x HOME ≡ Some m = sym (home_same f (list_in f) x) ∙ ap (λ (z : List Row). home_at (web_by z) x) c.self.view_is ∙ at in
+pub next_in-requires-clause-line : goal.next_in-requires-clause-line
+next_in-requires-clause-line c =
+    let f = cells_by c.self.inside.cells in let x = cell_id c.args.c in let W = c.self.invariant in let n = cell_id c.in-Some.home in
+    let home : link_in f x HOME ≡ Some n = sym (home_same f (list_in f) x) ∙ ap (λ (z : List Row). home_at (web_by z) x) c.self.view_is ∙ c.home.ensures ∙ ap (option_map cell_id) c.in-Some.is in
     let atom : cell_kind f x ≡ Atom = sym (kind_same f (list_in f) x) ∙ ap (λ (z : List Row). kind_at (web_by z) x) c.self.view_is ∙ c.requires.atom in
-    let h = W.web.listed.homes m x home in let cells = list_in f m Atom in
-    let among : In x cells = subst (λ k. In x (list_in f m k)) atom h.1 in
-    let line = own_line f (list_in f) W.web.listed m x Atom among in
-    let membrane : cell_kind f m ≡ Atom → ⊥ = λ s. (let z = subst (λ us. In x us) (W.web.listed.bare m Atom s) among in z) in
-    let o = W.classed.classes m membrane in
-    let on : from r (of_class f (key_in f x) cells) ≡ after x (of_class f (key_in f x) cells) = subst (λ u. from u (of_class f (key_in f x) cells) ≡ after x (of_class f (key_in f x) cells)) c.link.ensures (class_goes_on f m cells o.0 o.1 line.once x among) in
+    let among : In x (list_in f n Atom) = subst (λ k. In x (list_in f n k)) atom (W.web.listed.homes n x home).1 in
+    own_line f (list_in f) W.web.listed n x Atom among
+
+pub next_in-requires-clause-inside : goal.next_in-requires-clause-inside
+next_in-requires-clause-inside c =
+    let f = cells_by c.self.inside.cells in let x = cell_id c.args.c in let W = c.self.invariant in let n = cell_id c.in-Some.home in
+    let home : link_in f x HOME ≡ Some n = sym (home_same f (list_in f) x) ∙ ap (λ (z : List Row). home_at (web_by z) x) c.self.view_is ∙ c.home.ensures ∙ ap (option_map cell_id) c.in-Some.is in
+    let atom : cell_kind f x ≡ Atom = sym (kind_same f (list_in f) x) ∙ ap (λ (z : List Row). kind_at (web_by z) x) c.self.view_is ∙ c.requires.atom in
+    let among : In x (list_in f n Atom) = subst (λ k. In x (list_in f n k)) atom (W.web.listed.homes n x home).1 in
+    among
+
+pub next_in-requires-clause-classes : goal.next_in-requires-clause-classes
+next_in-requires-clause-classes c sure = c.self.invariant.classed.classes (cell_id c.in-Some.home) sure
+
+pub returns-in-Some-clause-list : goal.returns-in-Some-clause-list
+returns-in-Some-clause-list c m label at named =
+    let f = cells_by c.self.inside.cells in let x = cell_id c.args.c in let W = c.self.invariant in let n = cell_id c.in-Some.home in let r = option_map cell_id c.next_in.result in
+    let own : home_at (web_by c.args.self.now) x ≡ Some n = c.home.ensures ∙ ap (option_map cell_id) c.in-Some.is in
+    let same : n ≡ m = let e : Some n ≡ Some m = sym own ∙ at in cc in
+    let cells = list_in f m Atom in
+    let on : from r (of_class f (key_in f x) cells) ≡ after x (of_class f (key_in f x) cells) = subst (λ n. from r (of_class f (key_in f x) (list_in f n Atom)) ≡ after x (of_class f (key_in f x) (list_in f n Atom))) same c.next_in.ensures in
     let w = web_of f in
     let key = key_by_label f _ W x label (ap (λ (z : List Row). web_label (web_by z) x) c.self.view_is ∙ named) in
     subst (λ (z : List Row). from r (with_class (web_by z) (label_class label) (arity_at (web_by z) x) (cells_in (web_by z) m Atom)) ≡ after x (with_class (web_by z) (label_class label) (arity_at (web_by z) x) (cells_in (web_by z) m Atom))) c.self.view_is
     (subst (λ us. from r us ≡ after x us) (sym (class_list f _ W m (label_class label) (arity_at w x))) (subst (λ p. from r (of_class f p cells) ≡ after x (of_class f p cells)) key on))
 
-pub returns-clause-there : goal.returns-clause-there
-returns-clause-there c m at =
-    let f = cells_by c.self.inside.cells in let x = cell_id c.args.c in let W = c.self.invariant in let r = option_map cell_id c.link.result in
-    let home : link_in f x HOME ≡ Some m = sym (home_same f (list_in f) x) ∙ ap (λ (z : List Row). home_at (web_by z) x) c.self.view_is ∙ at in
-    let atom : cell_kind f x ≡ Atom = sym (kind_same f (list_in f) x) ∙ ap (λ (z : List Row). kind_at (web_by z) x) c.self.view_is ∙ c.requires.atom in
-    let h = W.web.listed.homes m x home in let cells = list_in f m Atom in
-    let among : In x cells = subst (λ k. In x (list_in f m k)) atom h.1 in
-    let line = own_line f (list_in f) W.web.listed m x Atom among in
-    let membrane : cell_kind f m ≡ Atom → ⊥ = λ s. (let z = subst (λ us. In x us) (W.web.listed.bare m Atom s) among in z) in
-    let o = W.classed.classes m membrane in
-    let on : from r (of_class f (key_in f x) cells) ≡ after x (of_class f (key_in f x) cells) = subst (λ u. from u (of_class f (key_in f x) cells) ≡ after x (of_class f (key_in f x) cells)) c.link.ensures (class_goes_on f m cells o.0 o.1 line.once x among) in
-    if_some cell_id c.link.result (λ q. In q (cells_in (web_by c.args.self.now) m Atom)) (λ q e.
+pub returns-in-Some-clause-there : goal.returns-in-Some-clause-there
+returns-in-Some-clause-there c m at =
+    let f = cells_by c.self.inside.cells in let x = cell_id c.args.c in let W = c.self.invariant in let n = cell_id c.in-Some.home in let r = option_map cell_id c.next_in.result in
+    let own : home_at (web_by c.args.self.now) x ≡ Some n = c.home.ensures ∙ ap (option_map cell_id) c.in-Some.is in
+    let same : n ≡ m = let e : Some n ≡ Some m = sym own ∙ at in cc in
+    let cells = list_in f m Atom in
+    let on : from r (of_class f (key_in f x) cells) ≡ after x (of_class f (key_in f x) cells) = subst (λ n. from r (of_class f (key_in f x) (list_in f n Atom)) ≡ after x (of_class f (key_in f x) (list_in f n Atom))) same c.next_in.ensures in
+    if_some cell_id c.next_in.result (λ q. In q (cells_in (web_by c.args.self.now) m Atom)) (λ q e.
     subst (λ (z : List Row). In q (cells_in (web_by z) m Atom)) c.self.view_is (subst (λ us. In q us) (sym (list_same f (list_in f) W.web.listed m Atom))
     (in_filter (λ a. is_key (key_in f a) (key_in f x)) q cells (next_in x q (of_class f (key_in f x) cells) (ap (λ u. from u (of_class f (key_in f x) cells)) (sym e) ∙ on))).0))

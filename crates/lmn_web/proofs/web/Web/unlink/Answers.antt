@@ -1,4 +1,4 @@
-use Rattle.std.proofs.Common.{◌≡◌, ◌-◌, List, Some, None, IsSome, refl, sym, ap, subst, ◌∙◌, arith}
+use Rattle.std.proofs.Common.{◌≡◌, true, ◌-◌, List, Some, None, IsSome, refl, sym, ap, subst, ◌∙◌, arith}
 use Rattle.std.specs.Option.{option_map}
 use Rattle.lmn_base.specs.Lists.{In}
 use Rattle.lmn_heap.specs.Lists.{without}
@@ -6,13 +6,12 @@ use Rattle.lmn_cells.specs.Rows.{Row}
 use Rattle.lmn_cells.specs.Cells.{cells_by}
 use Rattle.lmn_cells.specs.CellIds.{cell_id}
 use Rattle.lmn_cells.specs.Runs.{HOME, link_in, Line, IsHome}
-use Rattle.lmn_web.specs.declared.kind.CellKind.TheVariants.{Atom}
 use Rattle.lmn_web.specs.Kinds.{kind_by}
 use Rattle.lmn_web.specs.Webs.{web_by, list_in, list_link, count_number, number_in, home_at, unlinked}
 use Rattle.lmn_web.specs.Indexes.{cell_kind}
 use Rattle.lmn_web.proofs.ListedLemmas.{own_line, cell_of, home_same, link_behind, link_below, some_home}
 use Rattle.lmn_web.proofs.RelistLemmas.{unlinked_there, unlinked_some, unlinks, length_without, relists_is, without_is}
-use Rattle.lmn_web.specs.Classes.{key_in, MayLeave}
+use Rattle.lmn_web.specs.Classes.{files, key_in, MayLeave}
 use Rattle.lmn_web.proofs.FilterLemmas.{one_without}
 use Rattle.lmn_web.proofs.Filing.{Leaves, unlinks_left, leaders, may_leave, left_web, left_list}
 use Rattle.lmn_web.proofs.web.Web.unlink.Goals as goal
@@ -26,6 +25,12 @@ pub number-requires-clause-there : goal.number-requires-clause-there
 number-requires-clause-there c =
     let f = cells_by c.self.inside.cells in let x = cell_id c.args.c in
     some_home f (list_in f) x (subst (λ (z : List Row). IsSome (home_at (web_by z) x)) (sym c.self.view_is) c.requires)
+
+pub is_filed-filed-requires : goal.is_filed-filed-requires
+is_filed-filed-requires c =
+    let f = cells_by c.self.inside.cells in let m = cell_id c.in-Some.home in let x = cell_id c.args.c in let w = c.self.invariant.web in
+    let home : link_in f x HOME ≡ Some m = c.link.ensures ∙ ap (option_map cell_id) c.in-Some.is in
+    (w.listed.homes m x home).0
 
 pub unlink-requires-clause-home : goal.unlink-requires-clause-home
 unlink-requires-clause-home c =
@@ -66,48 +71,51 @@ overflow_sub-count c =
     omega (arith, some)
 
 pub leave_class-requires : goal.leave_class-requires
-leave_class-requires c atom =
+leave_class-requires c sure =
     let f = cells_by c.self.inside.cells in let m = cell_id c.in-Some.home in let x = cell_id c.args.c in let W = c.self.invariant in let w = W.web in
     let home : link_in f x HOME ≡ Some m = c.link.ensures ∙ ap (option_map cell_id) c.in-Some.is in
     let kind : c.kind_of-kind.result ≡ cell_kind f x = c.kind_of-kind.ensures ∙ ap kind_by c.number.ensures in
+    let filed : c.is_filed-filed.result ≡ files f m (cell_kind f x) = c.is_filed-filed.ensures ∙ ap (files f m) kind in
     let own = list_in f m (cell_kind f x) in let F = cells_by c.set_number.new.self in let xs = without x own in
     let r = unlinks f (cells_by c.unlink.new.cells) F _ w m x c.first_link.result c.count_place.result c.count_place-in-Some.result c.number-count.result home (c.first_link.ensures ∙ ap list_link kind) (c.count_place.ensures ∙ ap count_number kind) (c.count_place-in-Some.ensures ∙ ap count_number kind) c.number-count.ensures
     (c.unlink.ensures.unlinked, c.unlink.ensures.list, c.unlink.ensures.others) c.set_number.ensures in
     let leaves : Leaves f F m = unlinks_left f (cells_by c.unlink.new.cells) F m c.first_link.result x c.count_place-in-Some.result (c.number-count.result - 1) (cell_kind f x) (c.first_link.ensures ∙ ap list_link kind) c.unlink.ensures.unlinked c.set_number.ensures in
     let in_own : In x own = (w.listed.homes m x home).1 in
     let first = leaders f F _ W m x None xs r leaves in
-    let may : c.kind_of-kind.result ≡ Atom → MayLeave F m x own first xs = λ atom.
-    may_leave f F _ W m x None xs r leaves (sym kind ∙ atom) (cell_of f (list_in f) w.listed m x (cell_kind f x) in_own).0 (let e = length_without x own in_own in omega (arith, e)) in_own (one_without F x own) in
-    (own, first, xs, may atom)
+    let may : c.is_filed-filed.result ≡ true → MayLeave F m x own first xs = λ sure.
+    may_leave f F _ W m x None xs r leaves (sym filed ∙ sure) (cell_of f (list_in f) w.listed m x (cell_kind f x) in_own).0 (let e = length_without x own in_own in omega (arith, e)) in_own (one_without F x own) in
+    (own, first, xs, may sure)
 
 pub invariant_of-self : goal.invariant_of-self
 invariant_of-self c =
     let f = cells_by c.self.inside.cells in let m = cell_id c.in-Some.home in let x = cell_id c.args.c in let W = c.self.invariant in let w = W.web in
     let home : link_in f x HOME ≡ Some m = c.link.ensures ∙ ap (option_map cell_id) c.in-Some.is in
     let kind : c.kind_of-kind.result ≡ cell_kind f x = c.kind_of-kind.ensures ∙ ap kind_by c.number.ensures in
+    let filed : c.is_filed-filed.result ≡ files f m (cell_kind f x) = c.is_filed-filed.ensures ∙ ap (files f m) kind in
     let own = list_in f m (cell_kind f x) in let F = cells_by c.set_number.new.self in let xs = without x own in
     let r = unlinks f (cells_by c.unlink.new.cells) F _ w m x c.first_link.result c.count_place.result c.count_place-in-Some.result c.number-count.result home (c.first_link.ensures ∙ ap list_link kind) (c.count_place.ensures ∙ ap count_number kind) (c.count_place-in-Some.ensures ∙ ap count_number kind) c.number-count.ensures
     (c.unlink.ensures.unlinked, c.unlink.ensures.list, c.unlink.ensures.others) c.set_number.ensures in
     let leaves : Leaves f F m = unlinks_left f (cells_by c.unlink.new.cells) F m c.first_link.result x c.count_place-in-Some.result (c.number-count.result - 1) (cell_kind f x) (c.first_link.ensures ∙ ap list_link kind) c.unlink.ensures.unlinked c.set_number.ensures in
     let in_own : In x own = (w.listed.homes m x home).1 in
     let first = leaders f F _ W m x None xs r leaves in
-    let may : c.kind_of-kind.result ≡ Atom → MayLeave F m x own first xs = λ atom.
-    may_leave f F _ W m x None xs r leaves (sym kind ∙ atom) (cell_of f (list_in f) w.listed m x (cell_kind f x) in_own).0 (let e = length_without x own in_own in omega (arith, e)) in_own (one_without F x own) in
-    left_web f F _ W m x None xs r leaves (cells_by c.leave_class.new.cells) c.kind_of-kind.result (key_in F x) kind (c.leave_class.ensures own first xs may)
+    let may : c.is_filed-filed.result ≡ true → MayLeave F m x own first xs = λ sure.
+    may_leave f F _ W m x None xs r leaves (sym filed ∙ sure) (cell_of f (list_in f) w.listed m x (cell_kind f x) in_own).0 (let e = length_without x own in_own in omega (arith, e)) in_own (one_without F x own) in
+    left_web f F _ W m x None xs r leaves (cells_by c.leave_class.new.cells) c.is_filed-filed.result (key_in F x) filed (c.leave_class.ensures own first xs may)
 
 pub returns-in-Some : goal.returns-in-Some
 returns-in-Some c n at =
     let f = cells_by c.self.inside.cells in let m = cell_id c.in-Some.home in let x = cell_id c.args.c in let W = c.self.invariant in let w = W.web in
     let home : link_in f x HOME ≡ Some m = c.link.ensures ∙ ap (option_map cell_id) c.in-Some.is in
     let kind : c.kind_of-kind.result ≡ cell_kind f x = c.kind_of-kind.ensures ∙ ap kind_by c.number.ensures in
+    let filed : c.is_filed-filed.result ≡ files f m (cell_kind f x) = c.is_filed-filed.ensures ∙ ap (files f m) kind in
     let own = list_in f m (cell_kind f x) in let F = cells_by c.set_number.new.self in let xs = without x own in
     let r = unlinks f (cells_by c.unlink.new.cells) F _ w m x c.first_link.result c.count_place.result c.count_place-in-Some.result c.number-count.result home (c.first_link.ensures ∙ ap list_link kind) (c.count_place.ensures ∙ ap count_number kind) (c.count_place-in-Some.ensures ∙ ap count_number kind) c.number-count.ensures
     (c.unlink.ensures.unlinked, c.unlink.ensures.list, c.unlink.ensures.others) c.set_number.ensures in
     let leaves : Leaves f F m = unlinks_left f (cells_by c.unlink.new.cells) F m c.first_link.result x c.count_place-in-Some.result (c.number-count.result - 1) (cell_kind f x) (c.first_link.ensures ∙ ap list_link kind) c.unlink.ensures.unlinked c.set_number.ensures in
     let in_own : In x own = (w.listed.homes m x home).1 in
     let first = leaders f F _ W m x None xs r leaves in
-    let may : c.kind_of-kind.result ≡ Atom → MayLeave F m x own first xs = λ atom.
-    may_leave f F _ W m x None xs r leaves (sym kind ∙ atom) (cell_of f (list_in f) w.listed m x (cell_kind f x) in_own).0 (let e = length_without x own in_own in omega (arith, e)) in_own (one_without F x own) in
+    let may : c.is_filed-filed.result ≡ true → MayLeave F m x own first xs = λ sure.
+    may_leave f F _ W m x None xs r leaves (sym filed ∙ sure) (cell_of f (list_in f) w.listed m x (cell_kind f x) in_own).0 (let e = length_without x own in_own in omega (arith, e)) in_own (one_without F x own) in
     let same : n ≡ m = let e : Some n ≡ Some m = sym at ∙ ap (λ (z : List Row). home_at (web_by z) x) (sym c.self.view_is) ∙ home_same f (list_in f) x ∙ home in cc in
-    relists_is f (cells_by c.leave_class.new.cells) _ w m x None xs (left_list f F _ W m x None xs r leaves (cells_by c.leave_class.new.cells) c.kind_of-kind.result (key_in F x) kind (c.leave_class.ensures own first xs may))
+    relists_is f (cells_by c.leave_class.new.cells) _ w m x None xs (left_list f F _ W m x None xs r leaves (cells_by c.leave_class.new.cells) c.is_filed-filed.result (key_in F x) filed (c.leave_class.ensures own first xs may))
     ∙ without_is f (list_in f) w.listed m x ∙ (λ t. unlinked (web_by (c.self.view_is t)) (sym same t) x)

@@ -1,0 +1,34 @@
+use Rattle.std.proofs.Common.{◌≡◌, ℕ, sym, ap, subst, ◌∙◌}
+use Rattle.std.specs.Option.{option_map}
+use Rattle.lmn_base.specs.Lists.{In}
+use Rattle.lmn_heap.specs.Lists.{from}
+use Rattle.lmn_cells.specs.Cells.{cells_by}
+use Rattle.lmn_cells.specs.CellIds.{cell_id}
+use Rattle.lmn_cells.specs.Runs.{link_in}
+use Rattle.lmn_web.specs.declared.kind.CellKind.TheVariants.{Atom}
+use Rattle.lmn_web.specs.Webs.{list_in}
+use Rattle.lmn_web.specs.Classes.{of_class}
+use Rattle.lmn_web.proofs.ListedLemmas.{begins_list, from_in, if_some}
+use Rattle.lmn_web.proofs.ClassReads.{class_begins}
+use Rattle.lmn_web.proofs.classes.first_in.Goals as goal
+
+pub find-requires-clause-peers : goal.find-requires-clause-peers
+find-requires-clause-peers c =
+    let o = c.requires.classes (sym c.is_filed.ensures ∙ c.if-is_filed.true) in (o.0, o.1.peers, o.2)
+
+pub returns-then-is_filed : goal.returns-then-is_filed
+returns-then-is_filed c =
+    let f = cells_by c.args.cells.now in let m = cell_id c.args.m in let p : ℕ × ℕ = (c.args.high, c.args.arity) in
+    let o = c.requires.classes (sym c.is_filed.ensures ∙ c.if-is_filed.true) in
+    class_begins f m (list_in f m Atom) o.0 o.1 p (option_map cell_id c.find.result.leader) (sym (c.find.ensures o.0 o.1.peers).1)
+
+pub seek-requires-clause-start : goal.seek-requires-clause-start
+seek-requires-clause-start c =
+    let f = cells_by c.args.cells.now in let m = cell_id c.args.m in let all = list_in f m Atom in
+    if_some cell_id c.link.result (λ q. In q all) (λ q e. from_in (link_in f m 3) all (begins_list f m 3 all c.requires.line) q (c.link.ensures ∙ e))
+
+pub returns-else-is_filed : goal.returns-else-is_filed
+returns-else-is_filed c =
+    let f = cells_by c.args.cells.now in let m = cell_id c.args.m in let all = list_in f m Atom in let p : ℕ × ℕ = (c.args.high, c.args.arity) in
+    let begins : from (option_map cell_id c.link.result) all ≡ all = subst (λ o. from o all ≡ all) c.link.ensures (begins_list f m 3 all c.requires.line) in
+    c.seek.ensures ∙ ap (of_class f p) begins

@@ -1,0 +1,47 @@
+use Rattle.std.proofs.Common.{◌≡◌, ℕ, sym, ap, subst, ◌∙◌}
+use Rattle.std.specs.Option.{option_map}
+use Rattle.lmn_heap.specs.Lists.{from, after}
+use Rattle.lmn_heap.proofs.ListLemmas.{each_in}
+use Rattle.lmn_cells.specs.Cells.{cells_by}
+use Rattle.lmn_cells.specs.CellIds.{cell_id}
+use Rattle.lmn_web.specs.declared.kind.CellKind.TheVariants.{Atom}
+use Rattle.lmn_web.specs.Webs.{list_in}
+use Rattle.lmn_web.specs.Classes.{key_in, is_key, of_class}
+use Rattle.lmn_web.proofs.ListedLemmas.{goes_on}
+use Rattle.lmn_web.proofs.SeekLemmas.{filter_after, next_some}
+use Rattle.lmn_web.proofs.Reclassing.{key_same}
+use Rattle.lmn_web.proofs.ClassReads.{class_goes_on}
+use Rattle.lmn_web.proofs.classes.next_in.Goals as goal
+
+pub link-requires-clause-there : goal.link-requires-clause-there
+link-requires-clause-there c = (each_in _ _ (cell_id c.args.c) c.requires.line.cells c.requires.inside).0
+
+pub link-requires-else-is_filed-clause-there : goal.link-requires-else-is_filed-clause-there
+link-requires-else-is_filed-clause-there c = (each_in _ _ (cell_id c.args.c) c.requires.line.cells c.requires.inside).0
+
+pub number-requires-clause-there : goal.number-requires-clause-there
+number-requires-clause-there c = (each_in _ _ (cell_id c.args.c) c.requires.line.cells c.requires.inside).0
+
+pub number-requires-else-is_filed-clause-there : goal.number-requires-else-is_filed-clause-there
+number-requires-else-is_filed-clause-there c = (each_in _ _ (cell_id c.args.c) c.requires.line.cells c.requires.inside).0
+
+pub returns-then-is_filed : goal.returns-then-is_filed
+returns-then-is_filed c =
+    let f = cells_by c.args.cells.now in let m = cell_id c.args.m in let x = cell_id c.args.c in let own = of_class f (key_in f x) (list_in f m Atom) in
+    let o = c.requires.classes (sym c.is_filed.ensures ∙ c.if-is_filed.true) in
+    subst (λ u. from u own ≡ after x own) c.link.ensures (class_goes_on f m (list_in f m Atom) o.0 o.1 c.requires.line.once x c.requires.inside)
+
+pub seek-requires-clause-start : goal.seek-requires-clause-start
+seek-requires-clause-start c =
+    let f = cells_by c.args.cells.now in let m = cell_id c.args.m in let x = cell_id c.args.c in let all = list_in f m Atom in
+    let on : from (option_map cell_id c.link-else-is_filed.result) all ≡ after x all = ap (λ o. from o all) (sym c.link-else-is_filed.ensures) ∙ goes_on f m 3 x all c.requires.line c.requires.inside in
+    next_some cell_id c.link-else-is_filed.result x all on
+
+pub returns-else-is_filed : goal.returns-else-is_filed
+returns-else-is_filed c =
+    let f = cells_by c.args.cells.now in let m = cell_id c.args.m in let x = cell_id c.args.c in let all = list_in f m Atom in
+    let on : from (option_map cell_id c.link-else-is_filed.result) all ≡ after x all = ap (λ o. from o all) (sym c.link-else-is_filed.ensures) ∙ goes_on f m 3 x all c.requires.line c.requires.inside in
+    let q : ℕ × ℕ = (c.number.result, c.number-else-is_filed.result) in let key : q ≡ key_in f x = λ t. (c.number.ensures t, c.number-else-is_filed.ensures t) in
+    let p = key_in f x in let r = option_map cell_id c.seek.result in
+    let found : from r (of_class f p all) ≡ of_class f p (from (option_map cell_id c.link-else-is_filed.result) all) = subst (λ k. from r (of_class f k all) ≡ of_class f k (from (option_map cell_id c.link-else-is_filed.result) all)) key c.seek.ensures in
+    found ∙ ap (of_class f p) on ∙ sym (filter_after (λ a. is_key (key_in f a) p) x all (key_same p))
