@@ -28,7 +28,7 @@ use std::marker::Model;
 const BOUND: u64 = 281_474_976_710_656;
 
 /// A store that keeps its items in a web: atoms and membranes are cells, and what is detached or taken stands in
-/// the lists of a cell of its own.
+/// the lists of a cell of its own, which doesn't file atoms by class.
 #[derive(Drop)]
 pub struct WebStore {
     web: Web,
@@ -72,8 +72,8 @@ impl WebStore {
         let key = rules.insert(Rules::new(alloc))?;
         index.add(key)?;
         mems.reserve(1)?;
-        let waiting = web.make(0, 0, CellKind::Membrane)?;
-        let gone = web.make(0, 0, CellKind::Membrane)?;
+        let waiting = web.make_unfiled(0)?;
+        let gone = web.make_unfiled(0)?;
         let root = web.make(key as u128, 0, CellKind::Membrane)?;
         mems.push_reserved(root);
         web.listed();
