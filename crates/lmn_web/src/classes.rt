@@ -374,6 +374,7 @@ pub fn unfile(cells: &mut Cells, m: Cell, c: Cell)
 
 /// What came into a list of a membrane is filed, where it is to be: it comes directly before another one of its class,
 /// or behind all of them.
+#[inline(always)]
 pub fn enter_class(cells: &mut Cells, m: Cell, filed: bool, place: Option<Cell>, c: Cell)
     requires { filed ≡ true → (xs ls xs' : List ℕ) × MayEnter (cells_by cells.old) (cell_id m) (cell_id c) (option_map cell_id place) xs ls xs' }
     ensures { (xs ls xs' : List ℕ) → (filed ≡ true → MayEnter (cells_by cells.old) (cell_id m) (cell_id c) (option_map cell_id place) xs ls xs') →
@@ -388,6 +389,7 @@ pub fn enter_class(cells: &mut Cells, m: Cell, filed: bool, place: Option<Cell>,
 }
 
 /// What left a list of a membrane leaves its class, where it is filed.
+#[inline(always)]
 pub fn leave_class(cells: &mut Cells, m: Cell, filed: bool, c: Cell)
     requires { filed ≡ true → (xs ls xs' : List ℕ) × MayLeave (cells_by cells.old) (cell_id m) (cell_id c) xs ls xs' }
     ensures { (xs ls xs' : List ℕ) → (filed ≡ true → MayLeave (cells_by cells.old) (cell_id m) (cell_id c) xs ls xs') →

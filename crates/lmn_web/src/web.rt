@@ -323,15 +323,16 @@ impl Web {
         self.cells.number(home, count_place(kind))
     }
 
-    /// The cell goes to the end of the list of its kind.
-    pub fn add_last(&mut self, home: Cell, c: Cell)
+    /// The cell, which is of this kind, goes to the end of the list of its kind.
+    #[inline(always)]
+    pub fn add_last(&mut self, home: Cell, kind: CellKind, c: Cell)
         requires there { IsSome (web_by self.old (cell_id c)) }
+        requires kind { kind_at (web_by self.old) (cell_id c) ≡ kind }
         requires homeless { home_at (web_by self.old) (cell_id c) ≡ None }
         requires membrane { kind_at (web_by self.old) (cell_id home) ≡ Membrane }
         requires differ { cell_id c ≢ cell_id home }
         ensures { web_by self.new ≡ added_last (web_by self.old) (cell_id home) (cell_id c) }
     {
-        let kind = kind_of(self.cells.number(c, KIND));
         let filed = is_filed(&self.cells, home, kind);
         lists::append(&mut self.cells, home, first_link(kind), c);
         let count = self.cells.number(home, count_place(kind));
@@ -359,13 +360,14 @@ impl Web {
         }
     }
 
-    /// The cell leaves its list.
-    pub fn unlink(&mut self, c: Cell)
-        requires { IsSome (home_at (web_by self.old) (cell_id c)) }
+    /// The cell, which is of this kind, leaves its list.
+    #[inline(always)]
+    pub fn unlink(&mut self, kind: CellKind, c: Cell)
+        requires listed { IsSome (home_at (web_by self.old) (cell_id c)) }
+        requires kind { kind_at (web_by self.old) (cell_id c) ≡ kind }
         ensures { (m : ℕ) → home_at (web_by self.old) (cell_id c) ≡ Some m → web_by self.new ≡ unlinked (web_by self.old) m (cell_id c) }
     {
         if let Some(home) = self.cells.link(c, HOME) {
-            let kind = kind_of(self.cells.number(c, KIND));
             let filed = is_filed(&self.cells, home, kind);
             lists::unlink(&mut self.cells, home, first_link(kind), c);
             let count = self.cells.number(home, count_place(kind));

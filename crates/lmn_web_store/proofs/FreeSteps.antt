@@ -73,7 +73,8 @@ module _ (p : Posts) (l : ℕ) (t : List (Option RuleList)) (w : ℕ → Option 
       pub split_home : home_at u x ≡ Some l
       split_home = home_same w u cores x ∙ atom_home
 
-      split_kind : kind_at u x ≡ Atom
+      -- and is an atom
+      pub split_kind : kind_at u x ≡ Atom
       split_kind = kind_same w u cores x ∙ (first_is w o l x Atom first).1
 
       -- no port has a partner then

@@ -72,6 +72,9 @@ module _ (v u : ℕ → Option WebCell) (c l n : ℕ) (K : CellKind) (none : v c
   pub new_homeless : home_at u c ≡ None
   new_homeless = ap web.home_of new_at
 
+  pub new_kind : kind_at u c ≡ K
+  new_kind = ap web_kind new_at
+
   pub new_apart : (x : ℕ) → kind_at v x ≡ Membrane → c ≢ x
   new_apart x e q = let s : IsSome {T = WebCell} None = subst (λ (o : Option WebCell). IsSome o) (ap v (sym q) ∙ none) (kind_there (v x) e) in absurd (cc)
 

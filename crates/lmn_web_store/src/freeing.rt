@@ -2,7 +2,7 @@
 ghost use Rattle.std.specs.Prelude.{◌≡◌, ◌≢◌, ℕ, List, [], Option, Some, None, IsSome};
 ghost use Rattle.lmn_store.specs.RuleLists.{RuleList};
 ghost use Rattle.lmn_cells.specs.CellIds.{cell_id};
-ghost use Rattle.lmn_web.specs.Webs.{web_by, web_label, home_at, partner_at, arity_at, cells_in};
+ghost use Rattle.lmn_web.specs.Webs.{web_by, web_label, home_at, kind_at, partner_at, arity_at, cells_in};
 ghost use Rattle.lmn_web.specs.declared.kind.CellKind.{CellKind as Kind};
 ghost use Rattle.lmn_web.specs.declared.kind.CellKind.TheVariants.{Atom, Membrane};
 ghost use Rattle.lmn_web_store.specs.WebHeaps.{Posts};
@@ -25,7 +25,7 @@ pub fn free_atoms(web: &mut Web, line: Cell, count: &mut u64)
     while let Some(a) = web.first(line, CellKind::Atom) {
         web.listed();
         split_all(web, a);
-        free_cell(web, a);
+        free_cell(web, CellKind::Atom, a);
         *count -= 1;
     }
 }
@@ -48,7 +48,7 @@ pub fn free_mems(
     while let Some(m) = web.first(line, CellKind::Membrane) {
         web.listed();
         let place = place_of_rules(web, rules, m);
-        free_cell(web, m);
+        free_cell(web, CellKind::Membrane, m);
         let freed = rules.remove(place);
         *count = *count - 1 - freed.len();
         *spare -= freed.spare();
@@ -66,9 +66,10 @@ fn split_all(web: &mut Web, a: Cell)
     }
 }
 
-// The cell leaves its list and is freed.
-fn free_cell(web: &mut Web, c: Cell)
+// The cell, which is of this kind, leaves its list and is freed.
+fn free_cell(web: &mut Web, kind: CellKind, c: Cell)
     requires listed { IsSome (home_at (web_by web.old) (cell_id c)) }
+    requires kind { kind_at (web_by web.old) (cell_id c) ≡ kind }
     requires alone { (i : ℕ) → partner_at (web_by web.old) (cell_id c) i ≡ None }
     requires empty { (k : Kind) → cells_in (web_by web.old) (cell_id c) k ≡ [] }
     ensures drops { (m : ℕ) → home_at (web_by web.old) (cell_id c) ≡ Some m → Drops (web_by web.old) (web_by web.new) m (cell_id c) }
@@ -76,6 +77,6 @@ fn free_cell(web: &mut Web, c: Cell)
 {
     web.listed();
     web.paired();
-    web.unlink(c);
+    web.unlink(kind, c);
     web.free(c);
 }

@@ -11,18 +11,19 @@ ghost use Rattle.lmn_web_store.specs.Sends.{Sends, CanSend};
 
 use lmn_web::{Cell, CellKind, Web};
 
-/// The cell leaves its list and goes to the end of another membrane's list of its kind.
+/// The cell, which is of this kind, leaves its list and goes to the end of another membrane's list of its kind.
 #[inline(always)]
-pub fn send(web: &mut Web, home: Cell, c: Cell)
+pub fn send(web: &mut Web, home: Cell, kind: CellKind, c: Cell)
     requires listed { IsSome (home_at (web_by web.old) (cell_id c)) }
+    requires kind { kind_at (web_by web.old) (cell_id c) ≡ kind }
     requires membrane { kind_at (web_by web.old) (cell_id home) ≡ Membrane }
     requires differ { cell_id c ≢ cell_id home }
     requires elsewhere { home_at (web_by web.old) (cell_id c) ≢ Some (cell_id home) }
     ensures { (m : ℕ) → home_at (web_by web.old) (cell_id c) ≡ Some m → Sends (web_by web.old) (web_by web.new) m (cell_id home) (cell_id c) }
 {
     web.listed();
-    web.unlink(c);
-    web.add_last(home, c);
+    web.unlink(kind, c);
+    web.add_last(home, kind, c);
 }
 
 /// All cells of a kind in a membrane go to the end of another one's list, in their order.
@@ -37,6 +38,6 @@ pub fn send_all(web: &mut Web, source: Cell, home: Cell, kind: CellKind)
 {
     while let Some(c) = web.first(source, kind) {
         web.listed();
-        send(web, home, c);
+        send(web, home, kind, c);
     }
 }

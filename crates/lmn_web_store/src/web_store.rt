@@ -282,7 +282,7 @@ impl LinkStore for WebStore {
         self.web.listed();
         self.web.paired();
         let a = self.web.make(number_of(f.label), f.arity, CellKind::Atom)?;
-        self.web.add_last(self.waiting, a);
+        self.web.add_last(self.waiting, CellKind::Atom, a);
         self.atom_count += 1;
         Ok(a)
     }
@@ -304,7 +304,7 @@ impl LinkStore for WebStore {
         let m = self.web.make(place as u128, 0, CellKind::Membrane)?;
         self.rules.insert_reserved(Rules::new(alloc));
         hold(&mut self.mems, place, m);
-        self.web.add_last(self.waiting, m);
+        self.web.add_last(self.waiting, CellKind::Membrane, m);
         self.mem_count += 1;
         Ok(m)
     }
@@ -340,7 +340,7 @@ impl LinkStore for WebStore {
     fn place_atom(&mut self, m: Cell) -> Cell {
         self.web.listed();
         let a = self.web.first(self.waiting, CellKind::Atom).unwrap();
-        send(&mut self.web, m, a);
+        send(&mut self.web, m, CellKind::Atom, a);
         a
     }
 
@@ -350,14 +350,14 @@ impl LinkStore for WebStore {
         let n = self.web.first(self.waiting, CellKind::Membrane).unwrap();
         let parent = self.place_of_rules(m);
         let child = self.place_of_rules(n);
-        send(&mut self.web, m, n);
+        send(&mut self.web, m, CellKind::Membrane, n);
         self.index.put_last(parent, child);
         n
     }
 
     fn take_atom(&mut self, a: Cell) {
         self.web.listed();
-        send(&mut self.web, self.gone, a);
+        send(&mut self.web, self.gone, CellKind::Atom, a);
     }
 
     fn take_mem(&mut self, m: Cell) {
@@ -366,7 +366,7 @@ impl LinkStore for WebStore {
         let home = self.web.home(m).unwrap();
         let parent = self.place_of_rules(home);
         let child = self.place_of_rules(m);
-        send(&mut self.web, self.gone, m);
+        send(&mut self.web, self.gone, CellKind::Membrane, m);
         self.index.take(parent, child);
     }
 

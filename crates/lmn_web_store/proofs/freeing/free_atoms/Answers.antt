@@ -5,7 +5,7 @@ use Rattle.lmn_cells.specs.CellIds.{cell_id}
 use Rattle.lmn_web.specs.Webs.{web_by, cells_in}
 use Rattle.lmn_web.specs.declared.kind.CellKind.TheVariants.{Atom}
 use Rattle.lmn_web_store.proofs.FreeLemmas.{frees_none, frees_both}
-use Rattle.lmn_web_store.proofs.FreeSteps.{line_is, atom_is, atom_counted, split_home, split_alone, split_empty, atom_step, atom_fewer}
+use Rattle.lmn_web_store.proofs.FreeSteps.{line_is, atom_is, atom_counted, split_home, split_kind, split_alone, split_empty, atom_step, atom_fewer}
 use Rattle.lmn_web_store.proofs.freeing.free_atoms.Goals as goal
 
 pub loop-a-init : goal.loop-a-init
@@ -31,6 +31,14 @@ free_cell-requires-clause-listed c =
     let first : from (Some x) (cells_in w l Atom) ≡ cells_in w l Atom = c.in-Some.ensures.list in
     let u = web_by c.split_all.new.web in
     subst (λ (o : Option ℕ). IsSome o) (sym (split_home p l t w c.loop-a.count m s h c.listed.ensures x first u u c.split_all.ensures)) refl
+
+pub free_cell-requires-clause-kind : goal.free_cell-requires-clause-kind
+free_cell-requires-clause-kind c =
+    let r = c.requires in let p = r.0 in let t = r.1 in let m = r.2 in let s = r.3 in let l = cell_id c.args.line in let w = web_by c.loop-a.web in let x = cell_id c.in-Some.a in
+    let h = (c.loop-a.invariant p t m s r.4).0 in
+    let first : from (Some x) (cells_in w l Atom) ≡ cells_in w l Atom = c.in-Some.ensures.list in
+    let u = web_by c.split_all.new.web in
+    split_kind p l t w c.loop-a.count m s h c.listed.ensures x first u u c.split_all.ensures
 
 pub free_cell-requires-clause-alone : goal.free_cell-requires-clause-alone
 free_cell-requires-clause-alone c =

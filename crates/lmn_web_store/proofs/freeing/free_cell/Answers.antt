@@ -7,8 +7,11 @@ use Rattle.lmn_web_store.proofs.FreeLemmas.{some_none, drops, loose}
 use Rattle.lmn_web_store.proofs.freeing.free_cell.Goals as goal
 use Rattle.lmn_base.proofs.Lists.{some_is}
 
-pub unlink-requires : goal.unlink-requires
-unlink-requires c = c.requires.listed
+pub unlink-requires-clause-listed : goal.unlink-requires-clause-listed
+unlink-requires-clause-listed c = c.requires.listed
+
+pub unlink-requires-clause-kind : goal.unlink-requires-clause-kind
+unlink-requires-clause-kind c = c.requires.kind
 
 pub free-requires : goal.free-requires
 free-requires c =

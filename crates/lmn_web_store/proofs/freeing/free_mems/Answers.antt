@@ -6,6 +6,7 @@ use Rattle.lmn_web.specs.Webs.{web_by, cells_in}
 use Rattle.lmn_web.specs.declared.kind.CellKind.TheVariants.{Membrane}
 use Rattle.lmn_web_store.proofs.FreeLemmas.{frees_none, frees_both}
 use Rattle.lmn_web_store.proofs.FreeSteps.{line_is, mem_home, mem_rules, mem_alone, mem_empty, key_there, mem_counted, spare_counted, mem_step, mem_fewer, atoms_left}
+use Rattle.lmn_web_store.proofs.PlaceLemmas.{first_is}
 use Rattle.lmn_web_store.proofs.freeing.free_mems.Goals as goal
 
 pub loop-m-init : goal.loop-m-init
@@ -29,6 +30,13 @@ free_cell-requires-clause-listed c =
     let h = (c.loop-m.invariant.freed p n r.2).0 in
     let first : from (Some x) (cells_in w l Membrane) ≡ cells_in w l Membrane = c.in-Some.ensures.list in
     subst (λ (o : Option ℕ). IsSome o) (sym (mem_home p l t w n k s h c.listed.ensures x first)) refl
+
+pub free_cell-requires-clause-kind : goal.free_cell-requires-clause-kind
+free_cell-requires-clause-kind c =
+    let r = c.requires in let p = r.0 in let n = r.1 in let l = cell_id c.args.line in let t = c.loop-m.rules.slots in let w = web_by c.loop-m.web in let k = c.loop-m.count in let s = c.loop-m.spare in let x = cell_id c.in-Some.m in
+    let h = (c.loop-m.invariant.freed p n r.2).0 in
+    let first : from (Some x) (cells_in w l Membrane) ≡ cells_in w l Membrane = c.in-Some.ensures.list in
+    (first_is w c.listed.ensures l x Membrane first).1
 
 pub free_cell-requires-clause-alone : goal.free_cell-requires-clause-alone
 free_cell-requires-clause-alone c =

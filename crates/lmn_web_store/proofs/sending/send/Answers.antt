@@ -17,6 +17,12 @@ add_last-requires-clause-homeless c =
     let h = some_is (home_at w x) c.requires.listed in
     ap (λ (f : ℕ → Option WebCell). home_at f x) (c.unlink.ensures h.0 h.1) ∙ out_homeless w h.0 0 x (c.listed.ensures.homes h.0 x (kind_at w x) (c.listed.ensures.listed h.0 x h.1)).2
 
+pub add_last-requires-clause-kind : goal.add_last-requires-clause-kind
+add_last-requires-clause-kind c =
+    let w = web_by c.args.web.now in let x = cell_id c.args.c in
+    let h = some_is (home_at w x) c.requires.listed in
+    ap (λ (f : ℕ → Option WebCell). kind_at f x) (c.unlink.ensures h.0 h.1) ∙ out_kinds w h.0 0 x x ∙ c.requires.kind
+
 pub add_last-requires-clause-membrane : goal.add_last-requires-clause-membrane
 add_last-requires-clause-membrane c =
     let w = web_by c.args.web.now in let x = cell_id c.args.c in

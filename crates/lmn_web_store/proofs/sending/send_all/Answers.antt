@@ -5,6 +5,7 @@ use Rattle.lmn_cells.specs.CellIds.{cell_id}
 use Rattle.lmn_web.specs.Webs.{web_by, cells_in}
 use Rattle.lmn_web_store.proofs.ReadLemmas.{kind_there}
 use Rattle.lmn_web_store.proofs.MoveLemmas.{first_home, first_differs, first_elsewhere, sent_can, sent_fewer, sent_other, sent_same}
+use Rattle.lmn_web_store.proofs.PlaceLemmas.{first_is}
 use Rattle.lmn_web_store.proofs.SendLemmas.{label_same}
 use Rattle.lmn_web_store.proofs.sending.send_all.Goals as goal
 
@@ -27,6 +28,13 @@ pub send-requires-clause-membrane : goal.send-requires-clause-membrane
 send-requires-clause-membrane c =
     let r = c.requires in
     (c.loop-c.invariant.sent r.0 r.1 r.2 r.3 r.4 r.5).0.target
+
+pub send-requires-clause-kind : goal.send-requires-clause-kind
+send-requires-clause-kind c =
+    let r = c.requires in let w = web_by c.loop-c.web in let m = cell_id c.args.source in let n = cell_id c.args.home in let x = cell_id c.in-Some.c in
+    let h = (c.loop-c.invariant.sent r.0 r.1 r.2 r.3 r.4 r.5).0 in
+    let first : from (Some x) (cells_in w m c.args.kind) ≡ cells_in w m c.args.kind = c.in-Some.ensures.list in
+    (first_is w c.listed.ensures m x c.args.kind first).1
 
 pub send-requires-clause-differ : goal.send-requires-clause-differ
 send-requires-clause-differ c =

@@ -5,10 +5,9 @@ use Rattle.lmn_cells.specs.Rows.{Row}
 use Rattle.lmn_cells.specs.Cells.{cells_by}
 use Rattle.lmn_cells.specs.CellIds.{cell_id}
 use Rattle.lmn_cells.specs.Runs.{Line, IsHome}
-use Rattle.lmn_web.specs.Kinds.{kind_by}
-use Rattle.lmn_web.specs.Webs.{web_by, list_in, list_link, count_number, number_in, added_last}
+use Rattle.lmn_web.specs.Webs.{web_by, kind_at, list_in, list_link, count_number, number_in, added_last}
 use Rattle.lmn_web.specs.Indexes.{cell_kind}
-use Rattle.lmn_web.proofs.ListedLemmas.{link_behind, link_below}
+use Rattle.lmn_web.proofs.ListedLemmas.{kind_same, link_behind, link_below}
 use Rattle.lmn_web.proofs.RelistLemmas.{enters_last, appended_there, appended_fits, appends, relists_is, membrane_there, in_none, last_is}
 use Rattle.lmn_web.specs.Classes.{files, key_in, MayEnter}
 use Rattle.lmn_web.proofs.FilterLemmas.{one_last}
@@ -25,20 +24,20 @@ pub append-requires-clause-home : goal.append-requires-clause-home
 append-requires-clause-home c =
     let f = cells_by c.self.inside.cells in let m = cell_id c.args.home in let x = cell_id c.args.c in let w = c.self.invariant.web in
     let enters = enters_last c.self.inside.cells c.args.self.now c.self.view_is m x c.requires.there c.requires.homeless c.requires.membrane c.requires.differ in
-    subst (λ e. IsHome f m e) (sym c.first_link.ensures) record { there = membrane_there f m enters.membrane; behind = link_behind c.kind_of-kind.result; below = link_below c.kind_of-kind.result }
+    subst (λ e. IsHome f m e) (sym c.first_link.ensures) record { there = membrane_there f m enters.membrane; behind = link_behind c.args.kind; below = link_below c.args.kind }
 
 pub append-requires-clause-list : goal.append-requires-clause-list
 append-requires-clause-list c =
     let f = cells_by c.self.inside.cells in let m = cell_id c.args.home in let x = cell_id c.args.c in let w = c.self.invariant.web in
     let enters = enters_last c.self.inside.cells c.args.self.now c.self.view_is m x c.requires.there c.requires.homeless c.requires.membrane c.requires.differ in
-    let k = c.kind_of-kind.result in
+    let k = c.args.kind in
     (list_in f m k, subst (λ e. Line f m e (list_in f m k)) (sym c.first_link.ensures) (w.listed.line m k enters.membrane), in_none f (list_in f) w.listed x enters.free m k)
 
 pub number-count-requires-clause-there : goal.number-count-requires-clause-there
 number-count-requires-clause-there c =
     let f = cells_by c.self.inside.cells in let m = cell_id c.args.home in let x = cell_id c.args.c in let w = c.self.invariant.web in
     let enters = enters_last c.self.inside.cells c.args.self.now c.self.view_is m x c.requires.there c.requires.homeless c.requires.membrane c.requires.differ in
-    let kind : c.kind_of-kind.result ≡ cell_kind f x = c.kind_of-kind.ensures ∙ ap kind_by c.number.ensures in
+    let kind : c.args.kind ≡ cell_kind f x = sym c.requires.kind ∙ ap (λ (z : List Row). kind_at (web_by z) x) (sym c.self.view_is) ∙ kind_same f (list_in f) x in
     let p = count_number (cell_kind f x) in
     appended_there f (cells_by c.append.new.cells) (cells_by c.append.new.cells) _ w m x c.first_link.result p p (number_in (cells_by c.append.new.cells) m p) enters (c.first_link.ensures ∙ ap list_link kind) refl refl refl (c.append.ensures.appended, c.append.ensures.list, c.append.ensures.others)
 
@@ -46,7 +45,7 @@ pub set_number-requires-clause-there : goal.set_number-requires-clause-there
 set_number-requires-clause-there c =
     let f = cells_by c.self.inside.cells in let m = cell_id c.args.home in let x = cell_id c.args.c in let w = c.self.invariant.web in
     let enters = enters_last c.self.inside.cells c.args.self.now c.self.view_is m x c.requires.there c.requires.homeless c.requires.membrane c.requires.differ in
-    let kind : c.kind_of-kind.result ≡ cell_kind f x = c.kind_of-kind.ensures ∙ ap kind_by c.number.ensures in
+    let kind : c.args.kind ≡ cell_kind f x = sym c.requires.kind ∙ ap (λ (z : List Row). kind_at (web_by z) x) (sym c.self.view_is) ∙ kind_same f (list_in f) x in
     let p = count_number (cell_kind f x) in
     appended_there f (cells_by c.append.new.cells) (cells_by c.append.new.cells) _ w m x c.first_link.result p p (number_in (cells_by c.append.new.cells) m p) enters (c.first_link.ensures ∙ ap list_link kind) refl refl refl (c.append.ensures.appended, c.append.ensures.list, c.append.ensures.others)
 
@@ -54,7 +53,7 @@ pub overflow_add-count : goal.overflow_add-count
 overflow_add-count c =
     let f = cells_by c.self.inside.cells in let m = cell_id c.args.home in let x = cell_id c.args.c in let w = c.self.invariant.web in
     let enters = enters_last c.self.inside.cells c.args.self.now c.self.view_is m x c.requires.there c.requires.homeless c.requires.membrane c.requires.differ in
-    let kind : c.kind_of-kind.result ≡ cell_kind f x = c.kind_of-kind.ensures ∙ ap kind_by c.number.ensures in
+    let kind : c.args.kind ≡ cell_kind f x = sym c.requires.kind ∙ ap (λ (z : List Row). kind_at (web_by z) x) (sym c.self.view_is) ∙ kind_same f (list_in f) x in
     let fits = appended_fits f (cells_by c.append.new.cells) (cells_by c.append.new.cells) (map cell_id c.self.inside.all.items) w m x c.first_link.result c.count_place.result c.count_place.result c.number-count.result enters (c.first_link.ensures ∙ ap list_link kind) (c.count_place.ensures ∙ ap count_number kind) (c.count_place.ensures ∙ ap count_number kind) c.number-count.ensures
     (c.append.ensures.appended, c.append.ensures.list, c.append.ensures.others) in
     let same = length-map c.self.inside.all.items cell_id in let len = c.self.inside.all.ok.0 in let room = c.self.inside.all.ok.1 in let small = c.self.inside.all.small in
@@ -64,7 +63,7 @@ pub enter_class-requires : goal.enter_class-requires
 enter_class-requires c sure =
     let f = cells_by c.self.inside.cells in let m = cell_id c.args.home in let x = cell_id c.args.c in let W = c.self.invariant in let w = W.web in
     let enters = enters_last c.self.inside.cells c.args.self.now c.self.view_is m x c.requires.there c.requires.homeless c.requires.membrane c.requires.differ in
-    let kind : c.kind_of-kind.result ≡ cell_kind f x = c.kind_of-kind.ensures ∙ ap kind_by c.number.ensures in
+    let kind : c.args.kind ≡ cell_kind f x = sym c.requires.kind ∙ ap (λ (z : List Row). kind_at (web_by z) x) (sym c.self.view_is) ∙ kind_same f (list_in f) x in
     let filed : c.is_filed-filed.result ≡ files f m (cell_kind f x) = c.is_filed-filed.ensures ∙ ap (files f m) kind in
     let own = list_in f m (cell_kind f x) in let F = cells_by c.set_number.new.self in let xs = own ++ x ∷ [] in
     let r = appends f (cells_by c.append.new.cells) F _ w m x c.first_link.result c.count_place.result c.count_place-2.result c.number-count.result enters (c.first_link.ensures ∙ ap list_link kind) (c.count_place.ensures ∙ ap count_number kind) (c.count_place-2.ensures ∙ ap count_number kind) c.number-count.ensures
@@ -80,7 +79,7 @@ pub invariant_of-self : goal.invariant_of-self
 invariant_of-self c =
     let f = cells_by c.self.inside.cells in let m = cell_id c.args.home in let x = cell_id c.args.c in let W = c.self.invariant in let w = W.web in
     let enters = enters_last c.self.inside.cells c.args.self.now c.self.view_is m x c.requires.there c.requires.homeless c.requires.membrane c.requires.differ in
-    let kind : c.kind_of-kind.result ≡ cell_kind f x = c.kind_of-kind.ensures ∙ ap kind_by c.number.ensures in
+    let kind : c.args.kind ≡ cell_kind f x = sym c.requires.kind ∙ ap (λ (z : List Row). kind_at (web_by z) x) (sym c.self.view_is) ∙ kind_same f (list_in f) x in
     let filed : c.is_filed-filed.result ≡ files f m (cell_kind f x) = c.is_filed-filed.ensures ∙ ap (files f m) kind in
     let own = list_in f m (cell_kind f x) in let F = cells_by c.set_number.new.self in let xs = own ++ x ∷ [] in
     let r = appends f (cells_by c.append.new.cells) F _ w m x c.first_link.result c.count_place.result c.count_place-2.result c.number-count.result enters (c.first_link.ensures ∙ ap list_link kind) (c.count_place.ensures ∙ ap count_number kind) (c.count_place-2.ensures ∙ ap count_number kind) c.number-count.ensures
@@ -96,7 +95,7 @@ pub returns : goal.returns
 returns c =
     let f = cells_by c.self.inside.cells in let m = cell_id c.args.home in let x = cell_id c.args.c in let W = c.self.invariant in let w = W.web in
     let enters = enters_last c.self.inside.cells c.args.self.now c.self.view_is m x c.requires.there c.requires.homeless c.requires.membrane c.requires.differ in
-    let kind : c.kind_of-kind.result ≡ cell_kind f x = c.kind_of-kind.ensures ∙ ap kind_by c.number.ensures in
+    let kind : c.args.kind ≡ cell_kind f x = sym c.requires.kind ∙ ap (λ (z : List Row). kind_at (web_by z) x) (sym c.self.view_is) ∙ kind_same f (list_in f) x in
     let filed : c.is_filed-filed.result ≡ files f m (cell_kind f x) = c.is_filed-filed.ensures ∙ ap (files f m) kind in
     let own = list_in f m (cell_kind f x) in let F = cells_by c.set_number.new.self in let xs = own ++ x ∷ [] in
     let r = appends f (cells_by c.append.new.cells) F _ w m x c.first_link.result c.count_place.result c.count_place-2.result c.number-count.result enters (c.first_link.ensures ∙ ap list_link kind) (c.count_place.ensures ∙ ap count_number kind) (c.count_place-2.ensures ∙ ap count_number kind) c.number-count.ensures

@@ -6,10 +6,9 @@ use Rattle.lmn_cells.specs.Rows.{Row}
 use Rattle.lmn_cells.specs.Cells.{cells_by}
 use Rattle.lmn_cells.specs.CellIds.{cell_id}
 use Rattle.lmn_cells.specs.Runs.{HOME, link_in, Line, IsHome}
-use Rattle.lmn_web.specs.Kinds.{kind_by}
-use Rattle.lmn_web.specs.Webs.{web_by, list_in, list_link, count_number, number_in, home_at, unlinked}
+use Rattle.lmn_web.specs.Webs.{web_by, kind_at, list_in, list_link, count_number, number_in, home_at, unlinked}
 use Rattle.lmn_web.specs.Indexes.{cell_kind}
-use Rattle.lmn_web.proofs.ListedLemmas.{own_line, cell_of, home_same, link_behind, link_below, some_home}
+use Rattle.lmn_web.proofs.ListedLemmas.{kind_same, own_line, cell_of, home_same, link_behind, link_below, some_home}
 use Rattle.lmn_web.proofs.RelistLemmas.{unlinked_there, unlinked_some, unlinks, length_without, relists_is, without_is}
 use Rattle.lmn_web.specs.Classes.{files, key_in, MayLeave}
 use Rattle.lmn_web.proofs.FilterLemmas.{one_without}
@@ -19,12 +18,7 @@ use Rattle.lmn_web.proofs.web.Web.unlink.Goals as goal
 pub link-requires-clause-there : goal.link-requires-clause-there
 link-requires-clause-there c =
     let f = cells_by c.self.inside.cells in let x = cell_id c.args.c in
-    some_home f (list_in f) x (subst (λ (z : List Row). IsSome (home_at (web_by z) x)) (sym c.self.view_is) c.requires)
-
-pub number-requires-clause-there : goal.number-requires-clause-there
-number-requires-clause-there c =
-    let f = cells_by c.self.inside.cells in let x = cell_id c.args.c in
-    some_home f (list_in f) x (subst (λ (z : List Row). IsSome (home_at (web_by z) x)) (sym c.self.view_is) c.requires)
+    some_home f (list_in f) x (subst (λ (z : List Row). IsSome (home_at (web_by z) x)) (sym c.self.view_is) c.requires.listed)
 
 pub is_filed-filed-requires : goal.is_filed-filed-requires
 is_filed-filed-requires c =
@@ -36,13 +30,13 @@ pub unlink-requires-clause-home : goal.unlink-requires-clause-home
 unlink-requires-clause-home c =
     let f = cells_by c.self.inside.cells in let m = cell_id c.in-Some.home in let x = cell_id c.args.c in let w = c.self.invariant.web in
     let home : link_in f x HOME ≡ Some m = c.link.ensures ∙ ap (option_map cell_id) c.in-Some.is in
-    subst (λ e. IsHome f m e) (sym c.first_link.ensures) record { there = (w.listed.homes m x home).0; behind = link_behind c.kind_of-kind.result; below = link_below c.kind_of-kind.result }
+    subst (λ e. IsHome f m e) (sym c.first_link.ensures) record { there = (w.listed.homes m x home).0; behind = link_behind c.args.kind; below = link_below c.args.kind }
 
 pub unlink-requires-clause-list : goal.unlink-requires-clause-list
 unlink-requires-clause-list c =
     let f = cells_by c.self.inside.cells in let m = cell_id c.in-Some.home in let x = cell_id c.args.c in let w = c.self.invariant.web in
     let home : link_in f x HOME ≡ Some m = c.link.ensures ∙ ap (option_map cell_id) c.in-Some.is in
-    let kind : c.kind_of-kind.result ≡ cell_kind f x = c.kind_of-kind.ensures ∙ ap kind_by c.number.ensures in
+    let kind : c.args.kind ≡ cell_kind f x = sym c.requires.kind ∙ ap (λ (z : List Row). kind_at (web_by z) x) (sym c.self.view_is) ∙ kind_same f (list_in f) x in
     let h = w.listed.homes m x home in
     (list_in f m (cell_kind f x), subst (λ e. Line f m e (list_in f m (cell_kind f x))) (sym (c.first_link.ensures ∙ ap list_link kind)) (own_line f (list_in f) w.listed m x (cell_kind f x) h.1), h.1)
 
@@ -50,7 +44,7 @@ pub number-count-requires-clause-there : goal.number-count-requires-clause-there
 number-count-requires-clause-there c =
     let f = cells_by c.self.inside.cells in let m = cell_id c.in-Some.home in let x = cell_id c.args.c in let w = c.self.invariant.web in
     let home : link_in f x HOME ≡ Some m = c.link.ensures ∙ ap (option_map cell_id) c.in-Some.is in
-    let kind : c.kind_of-kind.result ≡ cell_kind f x = c.kind_of-kind.ensures ∙ ap kind_by c.number.ensures in
+    let kind : c.args.kind ≡ cell_kind f x = sym c.requires.kind ∙ ap (λ (z : List Row). kind_at (web_by z) x) (sym c.self.view_is) ∙ kind_same f (list_in f) x in
     let p = count_number (cell_kind f x) in
     unlinked_there f (cells_by c.unlink.new.cells) (cells_by c.unlink.new.cells) _ w m x c.first_link.result p p (number_in (cells_by c.unlink.new.cells) m p) home (c.first_link.ensures ∙ ap list_link kind) refl refl refl (c.unlink.ensures.unlinked, c.unlink.ensures.list, c.unlink.ensures.others)
 
@@ -58,7 +52,7 @@ pub set_number-requires-clause-there : goal.set_number-requires-clause-there
 set_number-requires-clause-there c =
     let f = cells_by c.self.inside.cells in let m = cell_id c.in-Some.home in let x = cell_id c.args.c in let w = c.self.invariant.web in
     let home : link_in f x HOME ≡ Some m = c.link.ensures ∙ ap (option_map cell_id) c.in-Some.is in
-    let kind : c.kind_of-kind.result ≡ cell_kind f x = c.kind_of-kind.ensures ∙ ap kind_by c.number.ensures in
+    let kind : c.args.kind ≡ cell_kind f x = sym c.requires.kind ∙ ap (λ (z : List Row). kind_at (web_by z) x) (sym c.self.view_is) ∙ kind_same f (list_in f) x in
     let p = count_number (cell_kind f x) in
     unlinked_there f (cells_by c.unlink.new.cells) (cells_by c.unlink.new.cells) _ w m x c.first_link.result p p (number_in (cells_by c.unlink.new.cells) m p) home (c.first_link.ensures ∙ ap list_link kind) refl refl refl (c.unlink.ensures.unlinked, c.unlink.ensures.list, c.unlink.ensures.others)
 
@@ -66,7 +60,7 @@ pub overflow_sub-count : goal.overflow_sub-count
 overflow_sub-count c =
     let f = cells_by c.self.inside.cells in let m = cell_id c.in-Some.home in let x = cell_id c.args.c in let w = c.self.invariant.web in
     let home : link_in f x HOME ≡ Some m = c.link.ensures ∙ ap (option_map cell_id) c.in-Some.is in
-    let kind : c.kind_of-kind.result ≡ cell_kind f x = c.kind_of-kind.ensures ∙ ap kind_by c.number.ensures in
+    let kind : c.args.kind ≡ cell_kind f x = sym c.requires.kind ∙ ap (λ (z : List Row). kind_at (web_by z) x) (sym c.self.view_is) ∙ kind_same f (list_in f) x in
     let some = unlinked_some f (cells_by c.unlink.new.cells) (cells_by c.unlink.new.cells) _ w m x c.first_link.result c.count_place.result c.count_place.result c.number-count.result home (c.first_link.ensures ∙ ap list_link kind) (c.count_place.ensures ∙ ap count_number kind) (c.count_place.ensures ∙ ap count_number kind) c.number-count.ensures (c.unlink.ensures.unlinked, c.unlink.ensures.list, c.unlink.ensures.others) in
     omega (arith, some)
 
@@ -74,7 +68,7 @@ pub leave_class-requires : goal.leave_class-requires
 leave_class-requires c sure =
     let f = cells_by c.self.inside.cells in let m = cell_id c.in-Some.home in let x = cell_id c.args.c in let W = c.self.invariant in let w = W.web in
     let home : link_in f x HOME ≡ Some m = c.link.ensures ∙ ap (option_map cell_id) c.in-Some.is in
-    let kind : c.kind_of-kind.result ≡ cell_kind f x = c.kind_of-kind.ensures ∙ ap kind_by c.number.ensures in
+    let kind : c.args.kind ≡ cell_kind f x = sym c.requires.kind ∙ ap (λ (z : List Row). kind_at (web_by z) x) (sym c.self.view_is) ∙ kind_same f (list_in f) x in
     let filed : c.is_filed-filed.result ≡ files f m (cell_kind f x) = c.is_filed-filed.ensures ∙ ap (files f m) kind in
     let own = list_in f m (cell_kind f x) in let F = cells_by c.set_number.new.self in let xs = without x own in
     let r = unlinks f (cells_by c.unlink.new.cells) F _ w m x c.first_link.result c.count_place.result c.count_place-in-Some.result c.number-count.result home (c.first_link.ensures ∙ ap list_link kind) (c.count_place.ensures ∙ ap count_number kind) (c.count_place-in-Some.ensures ∙ ap count_number kind) c.number-count.ensures
@@ -90,7 +84,7 @@ pub invariant_of-self : goal.invariant_of-self
 invariant_of-self c =
     let f = cells_by c.self.inside.cells in let m = cell_id c.in-Some.home in let x = cell_id c.args.c in let W = c.self.invariant in let w = W.web in
     let home : link_in f x HOME ≡ Some m = c.link.ensures ∙ ap (option_map cell_id) c.in-Some.is in
-    let kind : c.kind_of-kind.result ≡ cell_kind f x = c.kind_of-kind.ensures ∙ ap kind_by c.number.ensures in
+    let kind : c.args.kind ≡ cell_kind f x = sym c.requires.kind ∙ ap (λ (z : List Row). kind_at (web_by z) x) (sym c.self.view_is) ∙ kind_same f (list_in f) x in
     let filed : c.is_filed-filed.result ≡ files f m (cell_kind f x) = c.is_filed-filed.ensures ∙ ap (files f m) kind in
     let own = list_in f m (cell_kind f x) in let F = cells_by c.set_number.new.self in let xs = without x own in
     let r = unlinks f (cells_by c.unlink.new.cells) F _ w m x c.first_link.result c.count_place.result c.count_place-in-Some.result c.number-count.result home (c.first_link.ensures ∙ ap list_link kind) (c.count_place.ensures ∙ ap count_number kind) (c.count_place-in-Some.ensures ∙ ap count_number kind) c.number-count.ensures
@@ -106,7 +100,7 @@ pub returns-in-Some : goal.returns-in-Some
 returns-in-Some c n at =
     let f = cells_by c.self.inside.cells in let m = cell_id c.in-Some.home in let x = cell_id c.args.c in let W = c.self.invariant in let w = W.web in
     let home : link_in f x HOME ≡ Some m = c.link.ensures ∙ ap (option_map cell_id) c.in-Some.is in
-    let kind : c.kind_of-kind.result ≡ cell_kind f x = c.kind_of-kind.ensures ∙ ap kind_by c.number.ensures in
+    let kind : c.args.kind ≡ cell_kind f x = sym c.requires.kind ∙ ap (λ (z : List Row). kind_at (web_by z) x) (sym c.self.view_is) ∙ kind_same f (list_in f) x in
     let filed : c.is_filed-filed.result ≡ files f m (cell_kind f x) = c.is_filed-filed.ensures ∙ ap (files f m) kind in
     let own = list_in f m (cell_kind f x) in let F = cells_by c.set_number.new.self in let xs = without x own in
     let r = unlinks f (cells_by c.unlink.new.cells) F _ w m x c.first_link.result c.count_place.result c.count_place-in-Some.result c.number-count.result home (c.first_link.ensures ∙ ap list_link kind) (c.count_place.ensures ∙ ap count_number kind) (c.count_place-in-Some.ensures ∙ ap count_number kind) c.number-count.ensures

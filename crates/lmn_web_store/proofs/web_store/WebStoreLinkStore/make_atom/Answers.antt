@@ -8,7 +8,7 @@ use Rattle.lmn_web.specs.declared.kind.CellKind.TheVariants.{Atom}
 use Rattle.lmn_web.specs.Webs.{WebCell, web_by}
 use Rattle.lmn_web_store.specs.WebHeaps.{KeptWeb, heap_of, heap_by, atoms_of, mems_of}
 use Rattle.lmn_web_store.specs.WebStores.{IsStored, kept_by}
-use Rattle.lmn_web_store.proofs.MakeLemmas.{new_there, new_homeless, new_apart, old_kind, made_line, atom_stored, made_atom_heap, made_atom_counts}
+use Rattle.lmn_web_store.proofs.MakeLemmas.{new_there, new_kind, new_homeless, new_apart, old_kind, made_line, atom_stored, made_atom_heap, made_atom_counts}
 use Rattle.lmn_heap.specs.Heap.{Heap}
 use Rattle.lmn_cells.specs.Cells.{cells_by}
 use Rattle.lmn_web.specs.Webs.{web_label}
@@ -19,6 +19,18 @@ use Rattle.lmn_web_store.proofs.MakeLemmas.{made_key}
 use Rattle.lmn_web_store.proofs.IndexLemmas.{index_by, index_same, key_by}
 use Rattle.lmn_web_store.proofs.NestLemmas.{members}
 use Rattle.lmn_web_store.proofs.web_store.WebStoreLinkStore.make_atom.Goals as goal
+
+pub add_last-requires-clause-kind : goal.add_last-requires-clause-kind
+add_last-requires-clause-kind c =
+    let k = kept_by c.self.inside in
+    let p = k.posts in
+    let v = web_by k.web in
+    let inv = c.self.invariant.store.stored in
+    let a = cell_id c.in_ok-a.a in
+    let u = web_by c.make.new.self in
+    let none = c.in_ok-a.ensures.0 in
+    let make = c.in_ok-a.ensures.1 in
+    new_kind v u a _ _ _ none make
 
 pub add_last-requires-clause-there : goal.add_last-requires-clause-there
 add_last-requires-clause-there c =

@@ -10,7 +10,7 @@ use Rattle.lmn_web.specs.declared.kind.CellKind.TheVariants.{Membrane}
 use Rattle.lmn_web.specs.Webs.{WebCell, web_by}
 use Rattle.lmn_web_store.specs.WebHeaps.{KeptWeb, heap_of, heap_by, atoms_of, mems_of}
 use Rattle.lmn_web_store.specs.WebStores.{IsStored, kept_by}
-use Rattle.lmn_web_store.proofs.MakeLemmas.{new_there, new_homeless, new_apart, old_kind, made_line, mem_stored, made_mem_heap, made_mem_counts}
+use Rattle.lmn_web_store.proofs.MakeLemmas.{new_there, new_kind, new_homeless, new_apart, old_kind, made_line, mem_stored, made_mem_heap, made_mem_counts}
 use Rattle.std.proofs.Common.{◌≤◌, map, length, refl}
 use Rattle.std.proofs.lemmas.List.{length-map}
 use Rattle.std.specs.Option.{option_map}
@@ -86,6 +86,20 @@ returns-in_err-m-clause-err c =
     let inv = c.self.invariant.store.stored in
     let same = ap (λ (s : Slab RuleList). s.slots) c.reserve.ensures.rest_kept in
     on_err _ _ (ap (λ (f : ℕ → Option WebCell). heap_by p c.reserve.new.self.slots f) c.in_err-m.ensures ∙ ap (λ (t : List (Option RuleList)). heap_by p t v) same ∙ ap (λ (z : KeptWeb). heap_of z) c.self.view_is)
+
+pub add_last-requires-clause-kind : goal.add_last-requires-clause-kind
+add_last-requires-clause-kind c =
+    let k = kept_by c.self.inside in
+    let p = k.posts in
+    let v = web_by k.web in
+    let inv = c.self.invariant.store.stored in
+    let same = ap (λ (s : Slab RuleList). s.slots) c.reserve.ensures.rest_kept in
+    let l = c.vacant_key-place.result in
+    let m = cell_id c.in_ok-m.m in
+    let u = web_by c.make.new.self in
+    let none = c.in_ok-m.ensures.0 in
+    let make = c.in_ok-m.ensures.1 in
+    new_kind v u m _ 0 _ none make
 
 pub add_last-requires-clause-there : goal.add_last-requires-clause-there
 add_last-requires-clause-there c =

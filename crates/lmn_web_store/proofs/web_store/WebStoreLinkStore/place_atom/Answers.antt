@@ -34,6 +34,13 @@ send-requires-clause-membrane c =
     let q = placing k.posts k.table w c.self.invariant.store.stored c.listed.ensures Atom x n first (subst (λ (z : KeptWeb). IsMemInPlace (heap_of z) n) (sym c.self.view_is) c.requires.mem) in
     q.membrane
 
+pub send-requires-clause-kind : goal.send-requires-clause-kind
+send-requires-clause-kind c =
+    let k = kept_by c.self.inside in let w = web_by k.web in let x = cell_id c.unwrap-a.result in let n = cell_id c.args.m in
+    let first : from (Some x) (cells_in w k.posts.waiting Atom) ≡ cells_in w k.posts.waiting Atom = subst (λ o. from (option_map cell_id o) (cells_in w k.posts.waiting Atom) ≡ cells_in w k.posts.waiting Atom) c.unwrap-a.ensures c.first.ensures.list in
+    let q = placing k.posts k.table w c.self.invariant.store.stored c.listed.ensures Atom x n first (subst (λ (z : KeptWeb). IsMemInPlace (heap_of z) n) (sym c.self.view_is) c.requires.mem) in
+    q.kind
+
 pub send-requires-clause-differ : goal.send-requires-clause-differ
 send-requires-clause-differ c =
     let k = kept_by c.self.inside in let w = web_by k.web in let x = cell_id c.unwrap-a.result in let n = cell_id c.args.m in

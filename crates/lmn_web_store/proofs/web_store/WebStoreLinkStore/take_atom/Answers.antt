@@ -14,6 +14,13 @@ use Rattle.lmn_heap.specs.Heap.{Heap}
 use Rattle.lmn_web_store.proofs.web_store.WebStoreLinkStore.take_atom.Goals as goal
 use Rattle.lmn_base.proofs.Lists.{some_is}
 
+pub send-requires-clause-kind : goal.send-requires-clause-kind
+send-requires-clause-kind c =
+    let k = kept_by c.self.inside in let w = web_by k.web in let x = cell_id c.args.a in
+    let h = some_is (home_of (heap_by k.posts k.table w) x) (subst (λ (z : KeptWeb). IsInPlace (heap_of z) x) (sym c.self.view_is) c.requires) in
+    let i = in_place k.posts k.table w c.self.invariant.store.stored c.listed.ensures x h.0 h.1 in
+    i.0
+
 pub send-requires-clause-listed : goal.send-requires-clause-listed
 send-requires-clause-listed c =
     let k = kept_by c.self.inside in let w = web_by k.web in let x = cell_id c.args.a in

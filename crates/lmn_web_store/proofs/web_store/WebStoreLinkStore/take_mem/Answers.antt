@@ -21,6 +21,13 @@ use Rattle.lmn_web_store.proofs.IndexLemmas.{index_by, index_take, index_taken, 
 use Rattle.lmn_web_store.proofs.web_store.WebStoreLinkStore.take_mem.Goals as goal
 use Rattle.lmn_base.proofs.Lists.{some_is}
 
+pub send-requires-clause-kind : goal.send-requires-clause-kind
+send-requires-clause-kind c =
+    let k = kept_by c.self.inside in let w = web_by k.web in let x = cell_id c.args.m in
+    let h = some_is (parent_of (heap_by k.posts k.table w) x) (subst (λ (z : KeptWeb). IsPlacedMem (heap_of z) x) (sym c.self.view_is) c.requires) in
+    let i = mem_in_place k.posts k.table w c.self.invariant.store.stored c.listed.ensures x h.0 h.1 in
+    i.0
+
 pub send-requires-clause-listed : goal.send-requires-clause-listed
 send-requires-clause-listed c =
     let k = kept_by c.self.inside in let w = web_by k.web in let x = cell_id c.args.m in
