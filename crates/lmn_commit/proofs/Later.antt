@@ -21,7 +21,7 @@ use Rattle.lmn_commit.specs.Preparing.{AreAtHome, CanCopy, CanCopyRest, CanCopyR
 use Rattle.lmn_commit.proofs.Owning.{of_handles, keep_same}
 use Rattle.lmn_commit.proofs.RestOf.{rest_beside}
 use Rattle.lmn_commit.proofs.Waiting.{none_there, reached, reached_later}
-use Rattle.lmn_heap.proofs.Common.{listed_atom}
+use Rattle.lmn_heap.proofs.Common.{listed_atom, listed_mem}
 
 -- what stands in a membrane that doesn't wait
 kept_mem : (k : ℕ) (o p : Option HeapMem) → option_and_then mem_unless_waiting o ≡ option_map (mem_with_spare k) p → IsSome p → (atoms_by o ≡ atoms_by p) × (mems_by o ≡ mems_by p)
@@ -37,14 +37,6 @@ kept_mem k (Some x) (Some y) e i = by x.place refl e
     by (within m) d f = let z : mem_unless_waiting x ≡ Some x = rw d refl in same (sym z ∙ f)
     by waiting d f = let z : mem_unless_waiting x ≡ None = rw d refl in let w : None ≡ Some (mem_with_spare k y) = sym z ∙ f in absurd (cc)
     by gone d f = let z : mem_unless_waiting x ≡ Some x = rw d refl in same (sym z ∙ f)
-
--- what stands in a list is a membrane
-listed_mem : (s : Heap) → Listed s → (m n : ℕ) → In n (mems_in s m) → IsMem s n
-listed_mem s listed m n i = by (s.mems n) ((listed.mems m n).0 i)
-  where
-    by : (o : Option HeapMem) → option_map (λ x. x.place) o ≡ Some (within m) → IsSome o
-    by None e = absurd (cc)
-    by (Some x) e = refl
 
 -- a forest is of membranes
 forest_mems : (s : Heap) → Listed s → (f : Forest) (ms : List ℕ) → Forms s f ms → ((n : ℕ) → In n ms → IsMem s n) → (n : ℕ) → In n (flat f) → IsMem s n

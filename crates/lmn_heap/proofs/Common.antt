@@ -2,7 +2,7 @@
 use Rattle.lmn_base.specs.Lists.{In}
 use Rattle.lmn_base.specs.declared.functor.Functor.{Functor}
 use Rattle.lmn_heap.proofs.Listing.{alter_keeps}
-use Rattle.lmn_heap.specs.Heap.{Heap, HeapAtom, home_by, home_of, place_of, within, IsAtom, arity_of, partners_of, IsInPlace, HeapMem, IsMem, IsMemInPlace, IsTopOrWithin, Place, gone, top, waiting, atoms_by, linked, cleared, marks_of, with_link, rules_by, alter, mem_with_atoms, link_of, functor_of, atoms_in, after, from, taken, taken_all}
+use Rattle.lmn_heap.specs.Heap.{Heap, HeapAtom, home_by, home_of, place_of, within, IsAtom, arity_of, partners_of, IsInPlace, HeapMem, IsMem, IsMemInPlace, IsTopOrWithin, Place, gone, top, waiting, atoms_by, linked, cleared, marks_of, with_link, rules_by, alter, mem_with_atoms, link_of, functor_of, atoms_in, after, from, taken, taken_all, mems_in}
 use Rattle.lmn_heap.specs.Lists.{without, without_all}
 use Rattle.lmn_heap.specs.Solid.{links_from}
 use Rattle.lmn_heap.specs.Sound.{Valid, Listed}
@@ -242,3 +242,10 @@ in_after x w (y ∷ ys) i = by (y == x) (λ j. in_after x w ys j) i
     by : (b : Bool) → (In w (after x ys) → In w ys) → In w (cond b ys (after x ys)) → In w (y ∷ ys)
     by true rest j = inr j
     by false rest j = inr (rest j)
+
+pub listed_mem : (s : Heap) → Listed s → (m n : ℕ) → In n (mems_in s m) → IsMem s n
+listed_mem s listed m n i = by (s.mems n) ((listed.mems m n).0 i)
+  where
+    by : (o : Option HeapMem) → option_map (λ x. x.place) o ≡ Some (within m) → IsSome o
+    by None e = absurd (cc)
+    by (Some x) e = refl

@@ -24,11 +24,9 @@ use Rattle.lmn_web.proofs.WebLemmas.{Told, told, made_web, made_lists, no_list}
 use Rattle.lmn_web.proofs.RelistLemmas.{Core, Relists, relists_web, in_none, new, new_lists, each, kind_is, there, m_there, core_of, back, core_rest}
 use Rattle.lmn_web.proofs.Reclassing.{in_filter}
 use Rattle.lmn_web.proofs.FilterLemmas.{filter_same, one_before, place_in}
+use Rattle.lmn_base.proofs.Truth.{false_not_true as not_true}
 
 -- Where atoms are filed
-
-pub not_true : false ≡ true → ⊥
-not_true e = cc
 
 -- what is filed is an atom
 pub filed_atom : (f : ℕ → Option HeldCell) (m : ℕ) (k : CellKind) → files f m k ≡ true → k ≡ Atom

@@ -5,7 +5,7 @@ use Rattle.std.proofs.lemmas.Option.{slice_get-map}
 use Rattle.std.specs.Prelude.{slice_get}
 use Rattle.std.specs.Option.{option_map}
 use Rattle.lmn_base.specs.Lists.{In}
-use Rattle.lmn_base.proofs.Lists.{get_below}
+use Rattle.lmn_base.proofs.Lists.{get_below, get_map as image_of}
 use Rattle.lmn_heap.specs.Heap.{Heap, IsMem, top, within, mems_in, mem_mark_of}
 use Rattle.lmn_heap.specs.Sound.{Sound, Forest, IsTree, flat}
 use Rattle.lmn_heap.proofs.Common.{in_at}
@@ -24,9 +24,6 @@ image_at key ms i k e = by (slice_get ms i) refl (sym (slice_get-map key ms i) �
     by : (o : Option ℕ) → slice_get ms i ≡ o → option_map key o ≡ Some k → (m : ℕ) × (slice_get ms i ≡ Some m) × (key m ≡ k)
     by None f q = absurd (cc)
     by (Some m) f q = (m, f, (cc))
-
-image_of : (key : ℕ → ℕ) (ms : List ℕ) (i m : ℕ) → slice_get ms i ≡ Some m → slice_get (map key ms) i ≡ Some (key m)
-image_of key ms i m e = slice_get-map key ms i ∙ ap (option_map key) e
 
 module _ (holds : Nest → Type 0) (cells : List ℕ) (key : ℕ → ℕ) (h : Heap) (x : IsIndexed holds cells key h) (sound : Sound h) where
   -- the root is a key that stands in no other

@@ -3,27 +3,22 @@ use Rattle.std.proofs.Common.{ℕ, suc, ◌≡◌, ◌≢◌, ◌⊎◌, ◌≤�
 use Rattle.std.proofs.lemmas.Bool.{cases_eq, eq-eqb, eqb-true}
 use Rattle.std.specs.Option.{option_map}
 use Rattle.lmn_base.specs.Lists.{In}
-use Rattle.lmn_base.proofs.Common.{of_map}
+use Rattle.lmn_base.proofs.Common.{of_map, map_same}
 use Rattle.lmn_base.proofs.Lists.{map_append}
 use Rattle.lmn_base.proofs.Numbers.{not_equal}
 use Rattle.lmn_base.proofs.Truth.{never_both}
 use Rattle.lmn_heap.specs.Heap.{Heap, HeapMem, within, IsMem, mems_in, mems_by, mem_mark_of, mem_mark_by, mem_marked, mem_with_mark, new_mem, made_mem, parent_of, without, placed_mem, taken_mem, moved_all}
 use Rattle.lmn_heap.specs.Sound.{Listed}
 use Rattle.lmn_heap.specs.Conditions.{Above, IsOutside}
-use Rattle.lmn_heap.proofs.Common.{in_map}
+use Rattle.lmn_heap.proofs.Common.{in_map, listed_mem as members}
 use Rattle.lmn_heap.proofs.Heights.{parent_is, mem_of_place}
 use Rattle.lmn_heap.proofs.Listing.{alter_at, alter_away}
 use Rattle.lmn_preorder.specs.Nests.{Nest, IsTop, IsWithin, itself, deeper, IsOneOf, with_inside, with_awake, with_key, put, taken_from, moved, CanAdd, CanPut, CanTake, CanMove}
 use Rattle.lmn_web_store.specs.Indexes.{IsNestOf}
 use Rattle.lmn_web_store.proofs.MemLists.{SameMarks, Seen, mark_there, seen_by, change_keeps, out_at, out_away, out_marks, in_at, in_away, in_marks, move_at, move_from, move_away, move_marks}
+use Rattle.lmn_preorder.proofs.Nesting.{with_other as inside_away, with_there as inside_at}
 
 -- Reading a nest
-
-inside_at : (p : ℕ) (ks : List ℕ) (n : Nest) → (with_inside p ks n).inside p ≡ ks
-inside_at p ks n = rw (eq-eqb p p refl) refl
-
-inside_away : (p : ℕ) (ks : List ℕ) (n : Nest) (k : ℕ) → k ≢ p → (with_inside p ks n).inside k ≡ n.inside k
-inside_away p ks n k d = rw (not_equal k p d) refl
 
 awake_at : (k : ℕ) (b : Bool) (n : Nest) → (with_awake k b n).awake k ≡ b
 awake_at k b n = rw (eq-eqb k k refl) refl
@@ -73,14 +68,6 @@ list_by_seen (Some x) = refl
 mark_by_seen : (o : Option HeapMem) → mem_mark_by o ≡ mark_seen (seen_by o)
 mark_by_seen None = refl
 mark_by_seen (Some x) = refl
-
-map_same : (f g : ℕ → ℕ) (xs : List ℕ) → ((y : ℕ) → In y xs → f y ≡ g y) → map f xs ≡ map g xs
-map_same f g [] e = refl
-map_same f g (x ∷ xs) e = λ i. e x (inl refl) i ∷ map_same f g xs (λ y j. e y (inr j)) i
-
--- what stands in a membrane is one
-pub members : (h : Heap) → Listed h → (m y : ℕ) → In y (mems_in h m) → IsMem h y
-members h listed m y i = mem_of_place h y (within m) ((listed.mems m y).0 i)
 
 -- A heap that has the same membranes, with other keys or the same, has the same nest.
 pub nest_same : (key new : ℕ → ℕ) (h t : Heap) (n : Nest) → ((m : ℕ) → seen_by (t.mems m) ≡ seen_by (h.mems m)) → ((m : ℕ) → IsMem h m → new m ≡ key m) → ((m y : ℕ) → In y (mems_in h m) → new y ≡ key y)

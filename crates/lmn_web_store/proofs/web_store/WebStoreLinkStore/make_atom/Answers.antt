@@ -17,8 +17,8 @@ use Rattle.lmn_web_store.proofs.SoundLemmas.{heap_sound, web_formed}
 use Rattle.lmn_web_store.proofs.MemLists.{seen_by}
 use Rattle.lmn_web_store.proofs.MakeLemmas.{made_key}
 use Rattle.lmn_web_store.proofs.IndexLemmas.{index_by, index_same, key_by}
-use Rattle.lmn_web_store.proofs.NestLemmas.{members}
 use Rattle.lmn_web_store.proofs.web_store.WebStoreLinkStore.make_atom.Goals as goal
+use Rattle.lmn_heap.proofs.Common.{listed_mem as members}
 
 pub add_last-requires-clause-kind : goal.add_last-requires-clause-kind
 add_last-requires-clause-kind c =
