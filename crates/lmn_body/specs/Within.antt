@@ -23,7 +23,8 @@ use Rattle.lmn_parts.specs.Rests.{IsRest}
 use Rattle.lmn_parts.specs.Copies.{answer, moved}
 use Rattle.lmn_body.specs.Added.{added_atoms, added_mems, added_rules, made_mems}
 use Rattle.lmn_body.specs.RestCopies.{RestCopy, RestCopies, later, rest_membranes, copied_atom, copied_into, given, AreAsLong, AreRestsCopied}
-use Rattle.lmn_body.specs.Fired.{linked_by}
+use Rattle.lmn_body.specs.Fired.{images_of, linked_by}
+use Rattle.lmn_body.specs.Rules.{PartAtoms}
 use Rattle.lmn_heap.specs.Solid.{solid_atoms_at}
 use Rattle.lmn_base.specs.Graphs.{Reached, Port}
 use Rattle.lmn_heap.specs.Graphs.{atom_map}
@@ -109,6 +110,15 @@ pub record FiresWithin (h : Heap) (c : Port → ℕ) (r : Registers) (head : Lis
   pub mems : (x : ℕ) → (In x (removed_mems r head) → ⊥) → mems_in h' x ≡
       without_all (membrane_images r head) (mems_in h x) ++ added_mems r rests (λ k. without_all (membrane_images r head) (mems_in h k)) (1 + length (heads.membranes_of head)) body x
   pub rules : (x : ℕ) → (In x (removed_mems r head) → ⊥) → rules_in h' x ≡ rules_in h x ++ added_rules r rests (rules_in h) body x
+
+-- A flat rule fires on h with these registers, and leaves h'. What it takes are the images of its atoms and the atoms of its parts.
+pub record FiresFlat (head : List HeadItem) (body : List BodyItem) (r : Registers) (h h' : Heap) : Type 0 where
+  pub name : Port → ℕ
+  pub named : Names h name
+  pub parts : List ℕ
+  pub are : PartAtoms h head r.head.images parts
+  pub fires : FiresWithin h name r head body (images_of r head ++ parts) h'
+  pub root : h'.root ≡ h.root
 
 -- The atoms of a solid that a body adds to membrane x: those that it makes, with their links of the rule, those of its copies, of
 -- which the next has the number c, what is left of the membranes whose open contexts stand in x, and copies of rests. `rest`

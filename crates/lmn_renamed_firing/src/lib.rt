@@ -1,0 +1,9 @@
+//! Firings of one rule on heaps that are one but for numbers.
+#![tactic(auto)]
+
+ghost use Rattle.lmn_renamed_firing.specs.Laws.{FiringsAreRenamed};
+
+/// A flat rule that fires at one match of two heaps that are one with other numbers leaves heaps that are so.
+pub fn firings_are_renamed()
+    ensures { FiringsAreRenamed }
+{}
