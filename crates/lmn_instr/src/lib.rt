@@ -10,4 +10,4 @@ mod listing;
 mod words;
 
 pub use instr::{AtomPort, Code, Instr, NewPort};
-pub use listing::list;
+pub use listing::{add_line, list};

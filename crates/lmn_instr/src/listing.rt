@@ -51,8 +51,8 @@ fn add_lines<O: Sink>(buffer: &mut LineBuffer, out: &mut O, names: &Names, code:
     }
 }
 
-/// Adds the line of an instruction.
-fn add_line<O: Sink>(buffer: &mut LineBuffer, out: &mut O, names: &Names, instr: &Instr)
+/// Adds the line of an instruction. The list of names has those of its functors. It takes no memory.
+pub fn add_line<O: Sink>(buffer: &mut LineBuffer, out: &mut O, names: &Names, instr: &Instr)
     requires { HasInstr names.now instr.now }
     ensures { Adds (line names.now instr.now) (output buffer.old (O.told out.old) (O.faults out.old)) (output buffer.new (O.told out.new) (O.faults out.new)) }
 {
