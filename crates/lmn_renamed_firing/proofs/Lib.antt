@@ -6,3 +6,7 @@ pub mod Agreeing
 pub mod Standing
 pub mod Twins
 pub mod Aligned
+pub mod Fresh
+pub mod Ends
+pub mod Fusing
+pub mod Firings
