@@ -7,6 +7,8 @@ pub mod Standing
 pub mod Twins
 pub mod Aligned
 pub mod Fresh
+pub mod Pairs
 pub mod Ends
+pub mod Others
 pub mod Fusing
 pub mod Firings
