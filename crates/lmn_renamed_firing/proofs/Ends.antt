@@ -1,5 +1,5 @@
 -- The ports at which the links of a firing end: those of atoms that stay, new ones, and old ones that the head leaves.
-use Rattle.std.proofs.Common.{ℕ, zero, suc, ◌+◌, ◌<◌, ◌≤◌, ◌≡◌, ◌≢◌, ◌⊎◌, ◌==◌, Bool, true, false, cond, List, [], ◌∷◌, ◌++◌, map, length, Option, Some, None, IsSome, refl, sym, ap, subst, ◌∙◌, inl, inr, arith}
+use Rattle.std.proofs.Common.{ℕ, zero, suc, ◌+◌, ◌<◌, ◌≤◌, ◌≡◌, ◌≢◌, ◌⊎◌, ◌==◌, Bool, true, false, cond, List, [], ◌∷◌, ◌++◌, map, length, Option, Some, refl, sym, ap, subst, ◌∙◌, inl, inr, arith}
 use Rattle.std.proofs.lemmas.Bool.{cases_eq, cases_lt, eq-eqb, eqb-true}
 use Rattle.std.specs.Prelude.{slice_get}
 use Rattle.lmn_base.specs.Graphs.{Reached, at_root, across, Port}
@@ -40,7 +40,7 @@ use Rattle.lmn_body.proofs.BodyPorts.{body_count, heap_append, heap_in, of_heap,
 use Rattle.lmn_body.proofs.Coding.{at_heap}
 use Rattle.lmn_body.proofs.Finishing.{in_place_listed}
 use Rattle.lmn_body.proofs.Firing.{RestsHold, heap_in_of, in_often, of_heap_in, rising_below, typed_some}
-use Rattle.lmn_body.proofs.HeadPorts.{at_atoms_in, at_atoms_once, in_at_atoms, in_map, of_map, of_once_in, once_in_of, other_port, times_one}
+use Rattle.lmn_body.proofs.HeadPorts.{at_atoms_in, at_atoms_once, in_at_atoms, in_map, of_map, of_once_in, once_in_of, other_port}
 
 -- a port of an atom in place that isn't taken nor dropped
 abbrev pub Stays : Heap → List ℕ → List ℕ → Port → Type 0
@@ -406,8 +406,8 @@ module _ (h : Heap) (valid : Valid h) (head : List HeadItem) (body : List BodyIt
         let number : w.0.port.0 ≡ b.k = b.number ∙ zero_plus b.k in
         let has' : HasLink head x (b.k, w.0.port.1) = (b.atom, b.is, b.link ∙ ap (λ z. Some z) w.2) in
         let differ : ◌≢◌ {A = Port} (k, i) (b.k, w.0.port.1) = λ g. w.3 ((λ t. (number t, w.0.port.1)) ∙ sym g) in
-        let join = em.joined x (k, i) (b.k, w.0.port.1) has has' differ in
-        more (live_once p l b.k w.0.port.1 x has' (same_some p (r.head.images.atom b.k, w.0.port.1) (sym e ∙ join))))
+        let join : ◌≡◌ {A = Option Port} (Some p) (Some (r.head.images.atom b.k, w.0.port.1)) = sym e ∙ em.joined x (k, i) (b.k, w.0.port.1) has has' differ in
+        more (live_once p l b.k w.0.port.1 x has' (same_some p (r.head.images.atom b.k, w.0.port.1) join)))
   ]
     where
       two : (u v w : ℕ) → u ≡ v + w → w < 1 → u ≢ 1 → 1 ≤ v → 2 ≤ v

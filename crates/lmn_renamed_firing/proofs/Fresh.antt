@@ -1,5 +1,5 @@
 -- Numbers that are as others on what is there, and take what is made to what is made.
-use Rattle.std.proofs.Common.{◌≡◌, ◌≢◌, ◌∙◌, ◌==◌, ℕ, suc, if◌then◌else◌, List, [], ◌∷◌, length, map, refl, sym, ap, subst, inl, inr, arith}
+use Rattle.std.proofs.Common.{◌≡◌, ◌≢◌, ◌∙◌, ◌==◌, ℕ, if◌then◌else◌, List, [], ◌∷◌, length, map, refl, sym, ap, subst, inl, inr, arith}
 use Rattle.std.proofs.lemmas.Bool.{cases_eq}
 use Rattle.lmn_base.specs.Lists.{In}
 use Rattle.lmn_base.proofs.Common.{map_same}

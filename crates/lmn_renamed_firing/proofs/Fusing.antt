@@ -1,11 +1,11 @@
 -- The links of two firings of one rule: two ports are joined in the one where their images are in the other.
-use Rattle.std.proofs.Common.{ℕ, true, ◌+◌, ◌<◌, ◌≤◌, ◌≡◌, ◌≢◌, ◌⊎◌, List, ◌++◌, map, length, Option, Some, None, IsSome, refl, sym, ap, subst, ◌∙◌, inl, inr, arith}
+use Rattle.std.proofs.Common.{ℕ, true, ◌+◌, ◌<◌, ◌≤◌, ◌≡◌, ◌⊎◌, List, ◌++◌, length, Option, Some, None, IsSome, refl, sym, ap, subst, ◌∙◌, inl, inr, arith}
 use Rattle.std.specs.Option.{option_and_then, option_map}
 use Rattle.std.specs.Prelude.{slice_index_or}
 use Rattle.lmn_base.specs.Graphs.{Port}
 use Rattle.lmn_base.specs.Lists.{In}
 use Rattle.lmn_base.proofs.Common.{port_cases, port_number, port_of_number}
-use Rattle.lmn_heap.specs.Heap.{Heap, HeapAtom, IsInPlace, IsMemInPlace, arity_of, home_by, partners_of}
+use Rattle.lmn_heap.specs.Heap.{Heap, HeapAtom, IsMemInPlace, arity_of, home_by, partners_of}
 use Rattle.lmn_heap.specs.Sound.{Valid}
 use Rattle.lmn_heap.proofs.Common.{in_place_atom}
 use Rattle.lmn_solid.specs.declared.items.HeadItem.{HeadItem}
@@ -21,7 +21,7 @@ use Rattle.lmn_parts.proofs.WalkLaws.{kept_seen}
 use Rattle.lmn_body.specs.declared.items.BodyItem.{BodyItem}
 use Rattle.lmn_body.specs.Fired.{images_of}
 use Rattle.lmn_body.specs.Items.{connectors, new_ports, old_ports}
-use Rattle.lmn_body.specs.Made.{copies_of, new_atoms}
+use Rattle.lmn_body.specs.Made.{new_atoms}
 use Rattle.lmn_body.specs.Names.{StandsPort}
 use Rattle.lmn_body.specs.Rules.{NestedRule}
 use Rattle.lmn_body.specs.Running.{Registers, new_port, old_port}
@@ -35,7 +35,7 @@ use Rattle.lmn_body.proofs.Held.{held}
 use Rattle.lmn_renaming.specs.Renamed.{Renaming, SameButRoom, renamed, renamed_port}
 use Rattle.lmn_renaming.proofs.Reading.{arity_there, home_there, link_kept}
 use Rattle.lmn_renamed_firing.specs.Laws.{SameMatch}
-use Rattle.lmn_renamed_firing.proofs.Ends.{CopiesOwn, IsNew, Live, Raw, Stays, links_twice, live_stands, new_port_atom, new_ports_once, news, old_ports_once, old_register, old_taken, olds, other_lives}
+use Rattle.lmn_renamed_firing.proofs.Ends.{CopiesOwn, Raw, Stays, links_twice, live_stands, new_port_atom, new_ports_once, news, old_ports_once, old_register, old_taken, olds, other_lives}
 use Rattle.lmn_renamed_firing.proofs.Others.{Ends, other_alike}
 
 -- the root port of a copy is one of its atoms
