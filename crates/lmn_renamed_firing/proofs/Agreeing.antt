@@ -1,5 +1,5 @@
 -- Registers and copies of rests that agree on the items of a body, but for numbers, and what a body then adds.
-use Rattle.std.proofs.Common.{◌≡◌, ◌⊎◌, ◌∙◌, ◌+◌, ◌<◌, ◌==◌, ℕ, suc, Bool, true, false, if◌then◌else◌, List, [], ◌∷◌, ◌++◌, length, map, refl, sym, ap, subst, inl, inr, arith, length-append}
+use Rattle.std.proofs.Common.{◌≡◌, ◌∙◌, ◌+◌, ◌<◌, ◌==◌, ℕ, suc, Bool, true, false, if◌then◌else◌, List, [], ◌∷◌, ◌++◌, length, map, refl, sym, ap, subst, inl, inr, arith, length-append}
 use Rattle.lmn_base.specs.Lists.{In}
 use Rattle.lmn_base.proofs.Lists.{head_is, join_maps, length_mapped, map_append, map_itself, tail_is}
 use Rattle.lmn_base.proofs.Numbers.{below_next2}
@@ -12,8 +12,8 @@ use Rattle.lmn_body.specs.Made.{copies_of, new_atoms}
 use Rattle.lmn_body.specs.RestCopies.{AreAsLong, IsAsLong, RestCopies, RestCopy, copied_atom, copied_into, copied_membrane, given, later, rest_membranes}
 use Rattle.lmn_body.specs.Rules.{IsHeadMembrane, StandsIn, WellPlaced, closed_rests}
 use Rattle.lmn_body.specs.Running.{Registers}
-use Rattle.lmn_body.proofs.AddedLemmas.{AreWholeRests, IsWholeRest, long_enough}
-use Rattle.lmn_renaming.specs.Renamed.{Numbering, Renaming}
+use Rattle.lmn_body.proofs.AddedLemmas.{AreWholeRests, long_enough}
+use Rattle.lmn_renaming.specs.Renamed.{Renaming}
 use Rattle.lmn_renaming.proofs.Lists.{cut}
 use Rattle.lmn_renaming.proofs.Numbers.{kept_test}
 use Rattle.lmn_renamed_firing.proofs.Mapped.{answer_there, given_there}
@@ -104,7 +104,7 @@ module _ (p : Renaming) (r s : Registers) where
   agree q t a c k m (Connector l l' ∷ xs) ea em copies lr ls left at old below w = agree q t a c k m xs ea em copies lr ls left at old below w
   agree q t a c k m (Copy part link inside ∷ xs) ea em copies lr ls left at old below w =
       let e = cut (map A (r.copied c)) (s.copied c) (map A (new_atoms r q a (c + 1) xs)) (new_atoms s t a (c + 1) xs)
-          (length_mapped A (r.copied c) ∙ sym (copies (c, part) (inl refl))) (sym (map_append A (r.copied c) (new_atoms r q a (c + 1) xs)) ∙ ea) in
+      (length_mapped A (r.copied c) ∙ sym (copies (c, part) (inl refl))) (sym (map_append A (r.copied c) (new_atoms r q a (c + 1) xs)) ∙ ea) in
       (sym e.0, at inside w.0, agree q t a (c + 1) k m xs e.1 em (λ x j. copies x (inr j)) lr ls left at old below w.1)
   agree q t a c k m (Membrane inside ∷ xs) ea em copies lr ls left at old below w =
       let here : At m = sym (head_is em) in
@@ -118,11 +118,14 @@ module _ (p : Renaming) (r s : Registers) where
   agree q t a c k m (Rest of true inside ∷ xs) ea em copies lr ls left at old below w =
       let l = left of (inl refl) in
       let ia = cut (map A (q 0).atoms) (t 0).atoms (map A (new_atoms r (later q) a c xs)) (new_atoms s (later t) a c xs)
-          (length_mapped A (q 0).atoms ∙ lr.0.0 ∙ sym (ls.0.0 ∙ ap (λ zs. length zs) l.0 ∙ length_mapped A (r.left_atoms of))) (sym (map_append A (q 0).atoms (new_atoms r (later q) a c xs)) ∙ ea) in
+      (length_mapped A (q 0).atoms ∙ lr.0.0 ∙ sym (ls.0.0 ∙ ap (λ zs. length zs) l.0 ∙ length_mapped A (r.left_atoms of))) (sym (map_append A (q 0).atoms (new_atoms r (later q) a c xs)) ∙ ea) in
       let im = cut (map M (q 0).membranes) (t 0).membranes (map M (made_mems r (later q) m xs)) (made_mems s (later t) m xs)
-          (length_mapped M (q 0).membranes ∙ lr.0.1 ∙ sym (ls.0.1 ∙ ap (λ zs. length zs) l.1 ∙ length_mapped M (r.left_membranes of))) (sym (map_append M (q 0).membranes (made_mems r (later q) m xs)) ∙ em) in
-      (old of w.0, at inside w.1, record { left_atoms = l.0; left_membranes = l.1; atoms = sym ia.0; membranes = sym im.0; long = lr.0 },
-      agree (later q) (later t) a c k m xs ia.1 im.1 copies lr.1 ls.1 (λ o j. left o (inr j)) at old below w.2)
+      (length_mapped M (q 0).membranes ∙ lr.0.1 ∙ sym (ls.0.1 ∙ ap (λ zs. length zs) l.1 ∙ length_mapped M (r.left_membranes of))) (sym (map_append M (q 0).membranes (made_mems r (later q) m xs)) ∙ em) in (
+        old of w.0,
+        at inside w.1,
+        record { left_atoms = l.0; left_membranes = l.1; atoms = sym ia.0; membranes = sym im.0; long = lr.0 },
+        agree (later q) (later t) a c k m xs ia.1 im.1 copies lr.1 ls.1 (λ o j. left o (inr j)) at old below w.2,
+      )
   agree q t a c k m (Rule rule inside ∷ xs) ea em copies lr ls left at old below w = (at inside w.0, agree q t a c k m xs ea em copies lr ls left at old below w.1)
   agree q t a c k m (Rules of inside ∷ xs) ea em copies lr ls left at old below w = (old of w.0, at inside w.1, agree q t a c k m xs ea em copies lr ls left at old below w.2)
 

@@ -7,7 +7,7 @@ use Rattle.std.proofs.lemmas.List.{length-map}
 use Rattle.std.proofs.lemmas.Option.{same_Some}
 use Rattle.lmn_base.specs.declared.functor.Functor.{Functor}
 use Rattle.lmn_base.specs.Lists.{In}
-use Rattle.lmn_base.proofs.Lists.{head_is, none_is_not, some_is}
+use Rattle.lmn_base.proofs.Lists.{none_is_not, some_is}
 use Rattle.lmn_heap.specs.Heap.{Heap, HeapAtom, HeapMem, IsAtom, IsMem, Place, Unmarked, arity_of, atoms_by, atoms_in, functor_of, gone, home_by, link_of, marks_of, mem_place_of, mems_by, mems_in, partners_of, place_of, rules_by, rules_in, top, waiting, within}
 use Rattle.lmn_heap.specs.Sound.{Forest, Forms, IsTree, Listed, Valid, flat}
 use Rattle.lmn_heap.proofs.Common.{holds_mem, nothing_in}
@@ -187,11 +187,11 @@ module _ (p : Renaming) (h k : Heap) (vh : Valid h) (vk : Valid k) (uh : Unmarke
       let same_arity : arity_of k (A a) ≡ arity_of h a = other.ports (A a) y.functor fk ∙ sym (one.ports a y.functor fh) in
       let long : length z.links ≡ length y.links = sym arity_k ∙ same_arity ∙ arity_h in
       let each : (i : ℕ) → i < length z.links → slice_index_or z.links i None ≡ option_map (renamed_port A) (slice_index_or y.links i None) =
-          λ i l. (let q = some_is (link_of h a i) (vh.full a i (subst (λ n. i < n) (long ∙ sym arity_h) l)) in
-            sym (ap (λ o. slice_index_or (partners_of o) i None) w.1) ∙ al.links a i q.0.0 q.0.1 q.1 ∙ ap (option_map (renamed_port A)) (sym q.1 ∙ ap (λ o. slice_index_or (partners_of o) i None) e)) in
+      λ i l. (let q = some_is (link_of h a i) (vh.full a i (subst (λ n. i < n) (long ∙ sym arity_h) l)) in
+      sym (ap (λ o. slice_index_or (partners_of o) i None) w.1) ∙ al.links a i q.0.0 q.0.1 q.1 ∙ ap (option_map (renamed_port A)) (sym q.1 ∙ ap (λ o. slice_index_or (partners_of o) i None) e)) in
       let links : z.links ≡ map (option_map (renamed_port A)) y.links = links_alike y.links z.links long each in
       let marks_long : length z.marks ≡ length y.marks =
-          sym (ap (λ o. length (marks_of o)) w.1) ∙ other.marks (A a) is_atom ∙ ap (λ n. n + 1) same_arity ∙ sym (one.marks a stands) ∙ ap (λ o. length (marks_of o)) e in
+      sym (ap (λ o. length (marks_of o)) w.1) ∙ other.marks (A a) is_atom ∙ ap (λ n. n + 1) same_arity ∙ sym (one.marks a stands) ∙ ap (λ o. length (marks_of o)) e in
       let marks : z.marks ≡ y.marks = same_list 0 z.marks y.marks marks_long (λ i l. sym (ap (λ o. slice_index_or (marks_of o) i 0) w.1) ∙ uk (A a) i ∙ sym (uh a i) ∙ ap (λ o. slice_index_or (marks_of o) i 0) e) in
       let s = stands_in h vh a y e in
       let there = (lk.atoms (M s.0) (A a)).0 (subst (In (A a)) (sym (al.atoms s.0 s.2)) (in_there p.atoms a (atoms_in h s.0) s.3)) in

@@ -1,45 +1,44 @@
 -- Firings of one rule at one match of heaps that are one with other numbers.
-use Rattle.std.proofs.Common.{◌≡◌, ◌≢◌, ◌⊎◌, ◌∙◌, ◌+◌, ◌<◌, ℕ, zero, suc, true, List, [], ◌∷◌, ◌++◌, length, map, Option, Some, None, IsSome, refl, sym, ap, subst, inl, inr, arith}
+use Rattle.std.proofs.Common.{◌≡◌, ◌⊎◌, ◌∙◌, ◌+◌, ◌<◌, ℕ, zero, suc, List, ◌++◌, length, map, Option, Some, None, IsSome, refl, sym, ap, subst, inl, inr, arith}
 use Rattle.std.specs.Option.{option_map}
 use Rattle.std.proofs.lemmas.Option.{same_Some}
 use Rattle.lmn_base.specs.declared.functor.Functor.{Functor}
 use Rattle.lmn_base.specs.Graphs.{Port}
 use Rattle.lmn_base.specs.Lists.{In}
 use Rattle.lmn_base.proofs.Lists.{get_there, join_maps, length_mapped, link_within, none_is_not}
-use Rattle.lmn_heap.specs.Heap.{Distinct, Heap, HeapAtom, HeapMem, IsAtom, IsInPlace, IsMem, IsMemInPlace, IsTopOrWithin, Unmarked, arity_of, atoms_in, functor_of, link_of, mems_in, partners_of, rules_in}
+use Rattle.lmn_heap.specs.Heap.{Distinct, Heap, HeapAtom, HeapMem, IsAtom, IsMem, IsMemInPlace, IsTopOrWithin, arity_of, atoms_in, functor_of, link_of, mems_in, partners_of, rules_in}
 use Rattle.lmn_heap.specs.Lists.{without_all}
 use Rattle.lmn_heap.specs.Sound.{Valid}
-use Rattle.lmn_heap.proofs.Common.{atom_with_links, has_functor, in_place_atom, listed_mem}
-use Rattle.lmn_parts.specs.Copies.{answer}
+use Rattle.lmn_heap.proofs.Common.{atom_with_links, has_functor, listed_mem}
 use Rattle.lmn_instr.specs.declared.instr.NewPort.{NewPort}
 use Rattle.lmn_instr.specs.declared.instr.NewPort.TheVariants as new
 use Rattle.lmn_solid.specs.declared.items.HeadItem.{HeadItem}
-use Rattle.lmn_solid.specs.Embeddings.{HasTyped, Lies}
-use Rattle.lmn_solid.specs.Heads.{HeadTyped, atoms_of, membranes_of}
+use Rattle.lmn_solid.specs.Embeddings.{Lies}
+use Rattle.lmn_solid.specs.Heads.{atoms_of, membranes_of}
 use Rattle.lmn_splice.specs.Splice.{IsOneOf}
 use Rattle.lmn_body.specs.declared.items.BodyItem.{BodyItem}
-use Rattle.lmn_body.specs.Added.{added_atoms, added_mems, added_rules, made_mems}
+use Rattle.lmn_body.specs.Added.{added_atoms, added_mems, made_mems}
 use Rattle.lmn_body.specs.Fired.{images_of}
 use Rattle.lmn_body.specs.Items.{new_ports, port_at}
 use Rattle.lmn_body.specs.Made.{copies_of, made_of, new_atoms}
 use Rattle.lmn_body.specs.Names.{StandsPort}
 use Rattle.lmn_body.specs.RestCopies.{AreCopiesIn}
-use Rattle.lmn_body.specs.Rules.{IsHeadMembrane, NestedRule, StandsIn, closed_rests}
+use Rattle.lmn_body.specs.Rules.{NestedRule, closed_rests}
 use Rattle.lmn_body.specs.Running.{Registers, new_port}
 use Rattle.lmn_body.specs.Within.{FiresFlat, FiresWithin, HoldsRests, IsCopyIn, dropped_atoms, membrane_images, removed_mems}
-use Rattle.lmn_renaming.specs.Renamed.{Numbering, Renaming, SameButRoom, renamed, renamed_atom, renamed_mem, renamed_port, with_room}
+use Rattle.lmn_renaming.specs.Renamed.{Renaming, SameButRoom, renamed, renamed_atom, renamed_mem, renamed_port, with_room}
 use Rattle.lmn_renaming.proofs.Numbers.{in_back, one_to_one}
 use Rattle.lmn_renaming.proofs.Reading.{atom_there, mem_there}
 use Rattle.lmn_renamed_firing.specs.Laws.{FiringsAreRenamed, SameMatch}
-use Rattle.lmn_renamed_firing.proofs.Agreeing.{Agree, At, RestAgrees, added_atoms_there, added_mems_there, added_rules_there, agree, copied_agrees, long_atoms, long_mems}
+use Rattle.lmn_renamed_firing.proofs.Agreeing.{Agree, At, added_atoms_there, added_mems_there, added_rules_there, agree, copied_agrees, long_atoms, long_mems}
 use Rattle.lmn_renamed_firing.proofs.Aligned.{Aligned, aligned}
-use Rattle.lmn_renamed_firing.proofs.Ends.{IsNew, Raw}
+use Rattle.lmn_renamed_firing.proofs.Ends.{Raw}
 use Rattle.lmn_renamed_firing.proofs.Fresh.{numbering_beside}
 use Rattle.lmn_renamed_firing.proofs.Fusing.{numbers_alike}
 use Rattle.lmn_renamed_firing.proofs.Matched.{dropped_there, left_there, mems_stay_there, removed_there, stays_there, taken_back, is_taken, taken_in}
 use Rattle.lmn_renamed_firing.proofs.Reading.{functor_is, in_place, renamed_alike, rules_are}
 use Rattle.lmn_renamed_firing.proofs.Standing as standing
-use Rattle.lmn_renamed_firing.proofs.Twins.{CopiedTwin, Inner, RestTwin, Twin, WrittenTwin, copy_functor, copy_port, copy_there, ports_there, rest_functor, rest_port, twin}
+use Rattle.lmn_renamed_firing.proofs.Twins.{Inner, Twin, copy_functor, copy_port, copy_there, ports_there, rest_functor, rest_port, twin}
 use Rattle.lmn_renamed_firing.proofs.Walking.{one_part}
 
 -- what a heap has stands in one with other numbers
@@ -305,11 +304,11 @@ firings_are_renamed head body n nested q h k vh vk alike m stand r s lies rests_
     let N = length (atoms_of head) in
     let K = 1 + length (membranes_of head) in
     let wa = numbering_beside (IsAtom h) q.atoms (new_atoms r F.rests N 0 body) (new_atoms s G.rests N 0 body) F.new_once G.new_once
-        (atoms_long head body n nested h k vh vk m stand r s lies rests_h rests_k h' k' vh' vk' f g q alike match)
-        (λ a i j. none_is_not (h.atoms a) (F.new_fresh a j) i) (λ a i j. none_is_not (k.atoms (q.atoms.to a)) (G.new_fresh (q.atoms.to a) j) (atom_stays q h k alike a i)) in
+    (atoms_long head body n nested h k vh vk m stand r s lies rests_h rests_k h' k' vh' vk' f g q alike match)
+    (λ a i j. none_is_not (h.atoms a) (F.new_fresh a j) i) (λ a i j. none_is_not (k.atoms (q.atoms.to a)) (G.new_fresh (q.atoms.to a) j) (atom_stays q h k alike a i)) in
     let wm = numbering_beside (IsMem h) q.mems (made_mems r F.rests K body) (made_mems s G.rests K body) F.made_once G.made_once
-        (mems_long head body n nested h k vh vk m stand r s lies rests_h rests_k h' k' vh' vk' f g q alike match)
-        (λ a i j. none_is_not (h.mems a) (F.made_fresh a j) i) (λ a i j. none_is_not (k.mems (q.mems.to a)) (G.made_fresh (q.mems.to a) j) (mem_stays q h k alike a i)) in
+    (mems_long head body n nested h k vh vk m stand r s lies rests_h rests_k h' k' vh' vk' f g q alike match)
+    (λ a i j. none_is_not (h.mems a) (F.made_fresh a j) i) (λ a i j. none_is_not (k.mems (q.mems.to a)) (G.made_fresh (q.mems.to a) j) (mem_stays q h k alike a i)) in
     let p : Renaming = record { atoms = wa.0; mems = wm.0 } in
     let alike_p : SameButRoom (renamed p h) k = subst (λ x. SameButRoom x k) (renamed_alike q p h vh.sound wa.1 wm.1) alike in
     let sound = vh.sound in

@@ -1,5 +1,5 @@
 -- The links of two firings of one rule: two ports are joined in the one where their images are in the other.
-use Rattle.std.proofs.Common.{ℕ, true, ◌+◌, ◌<◌, ◌≤◌, ◌≡◌, ◌⊎◌, List, ◌++◌, length, Option, Some, None, IsSome, refl, sym, ap, subst, ◌∙◌, inl, inr, arith}
+use Rattle.std.proofs.Common.{ℕ, true, ◌<◌, ◌≤◌, ◌≡◌, ◌⊎◌, List, ◌++◌, length, Option, Some, None, IsSome, refl, sym, ap, subst, ◌∙◌, inl, inr, arith}
 use Rattle.std.specs.Option.{option_and_then, option_map}
 use Rattle.std.specs.Prelude.{slice_index_or}
 use Rattle.lmn_base.specs.Graphs.{Port}

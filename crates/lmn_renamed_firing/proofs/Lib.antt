@@ -1,14 +1,14 @@
-pub mod Mapped
-pub mod Reading
-pub mod Walking
-pub mod Matched
-pub mod Agreeing
-pub mod Standing
-pub mod Twins
-pub mod Aligned
-pub mod Fresh
-pub mod Pairs
-pub mod Ends
-pub mod Others
-pub mod Fusing
-pub mod Firings
+mod Mapped
+mod Reading
+mod Walking
+mod Matched
+mod Agreeing
+mod Standing
+mod Twins
+mod Aligned
+mod Fresh
+mod Pairs
+mod Ends
+mod Others
+mod Fusing
+mod Firings

@@ -1,5 +1,5 @@
 -- Lists and forests of which the numbers are others.
-use Rattle.std.proofs.Common.{◌≡◌, ◌≢◌, ◌∙◌, ◌==◌, ◌+◌, ◌≤◌, ℕ, suc, Bool, true, false, if◌then◌else◌, not, List, [], ◌∷◌, ◌++◌, Some, length, map, refl, sym, ap, subst, inl, inr, arith}
+use Rattle.std.proofs.Common.{◌≡◌, ◌∙◌, ◌==◌, ◌+◌, ◌≤◌, ℕ, suc, Bool, true, false, if◌then◌else◌, not, List, [], ◌∷◌, ◌++◌, Some, length, map, refl, sym, ap, subst, inl, inr, arith}
 use Rattle.std.specs.Prelude.{slice_get}
 use Rattle.std.proofs.lemmas.Bool.{cases_eq}
 use Rattle.lmn_base.specs.Lists.{In}
@@ -99,7 +99,7 @@ flats_there n h k (mem m i b) (mem y j d) xs same (others, are, into, beside) (m
     let e : n.to m ∷ map n.to others ≡ y ∷ more = sym (ap (map n.to) are) ∙ are' in
     let first : n.to m ≡ y = head_is e in
     let inner = flats_there n h k i j (mems_in h m) (λ z l. same z (inr (in_left z (flat i) (flat b) l))) into
-        (subst (Forms k j) (ap (mems_in k) (sym first) ∙ same m (inl refl)) into') in
+    (subst (Forms k j) (ap (mems_in k) (sym first) ∙ same m (inl refl)) into') in
     let rest = flats_there n h k b d others (λ z l. same z (inr (in_right z (flat i) (flat b) l))) beside (subst (Forms k d) (sym (tail_is e)) beside') in
     (λ t. sym first t ∷ (inner t ++ rest t)) ∙ sym (ap (λ zs. n.to m ∷ zs) (map_append n.to (flat i) (flat b)))
 

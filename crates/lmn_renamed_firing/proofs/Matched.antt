@@ -1,6 +1,6 @@
 -- What one match is in a heap with other numbers: what the head takes, and what is left in membranes with closed contexts.
-use Rattle.std.proofs.Common.{◌≡◌, ◌⊎◌, ◌∙◌, ◌+◌, ◌<◌, ◌≤◌, ℕ, zero, suc, Bool, true, not, List, [], ◌∷◌, ◌++◌, length, map, refl, sym, ap, subst, inl, inr, arith}
-use Rattle.std.specs.Prelude.{slice_get, ◌↔◌, Some}
+use Rattle.std.proofs.Common.{◌≡◌, ◌∙◌, ◌+◌, ◌<◌, ◌≤◌, ℕ, zero, suc, true, not, List, ◌∷◌, ◌++◌, length, map, refl, sym, ap, subst, inl, inr, arith}
+use Rattle.std.specs.Prelude.{slice_get, Some}
 use Rattle.lmn_base.specs.Graphs.{Port, Reached}
 use Rattle.lmn_base.specs.Lists.{In}
 use Rattle.lmn_base.proofs.Common.{of_map}
@@ -11,11 +11,11 @@ use Rattle.lmn_heap.specs.Lists.{without_all}
 use Rattle.lmn_heap.specs.Sound.{Forms, Listed, flat}
 use Rattle.lmn_heap.proofs.Common.{in_map}
 use Rattle.lmn_heap.proofs.ListLemmas.{in_left, in_right}
-use Rattle.lmn_parts.specs.Rests.{IsRest, atoms_of_all, keep}
+use Rattle.lmn_parts.specs.Rests.{atoms_of_all, keep}
 use Rattle.lmn_parts.specs.Walks.{is_in}
 use Rattle.lmn_solid.specs.declared.items.HeadItem.{HeadItem}
-use Rattle.lmn_solid.specs.Embeddings.{HasMembrane, HasTyped}
-use Rattle.lmn_solid.specs.Heads.{HeadMembrane, HeadTyped, atoms_of, membranes_of}
+use Rattle.lmn_solid.specs.Embeddings.{HasMembrane}
+use Rattle.lmn_solid.specs.Heads.{HeadMembrane, atoms_of, membranes_of}
 use Rattle.lmn_splice.specs.Classes.{rising}
 use Rattle.lmn_splice.proofs.EndLemmas.{in_rising}
 use Rattle.lmn_body.specs.declared.items.BodyItem.{BodyItem}
@@ -24,7 +24,7 @@ use Rattle.lmn_body.specs.Rules.{PartAtoms}
 use Rattle.lmn_body.specs.Running.{Registers}
 use Rattle.lmn_body.specs.Within.{HoldsRests, IsTakenAtom, dropped_atoms, dropped_mems, membrane_images, removed_mems}
 use Rattle.lmn_body.proofs.Firing.{heap_in_of, of_heap_in, rising_below}
-use Rattle.lmn_renaming.specs.Renamed.{Renaming, SameButRoom, renamed, renamed_port}
+use Rattle.lmn_renaming.specs.Renamed.{Renaming, SameButRoom, renamed}
 use Rattle.lmn_renaming.proofs.Numbers.{in_back, in_there, one_to_one}
 use Rattle.lmn_renamed_firing.specs.Laws.{SameMatch}
 use Rattle.lmn_renamed_firing.proofs.Mapped.{all_atoms_there, closed_there, flats_there, is_in_there, keep_there, same_truth, without_there}
@@ -94,20 +94,20 @@ module _ (p : Renaming) (h k : Heap) (alike : SameButRoom (renamed p h) k) (head
         let own_atoms : atoms_in k (s.head.images.membrane j) ≡ map A (atoms_in h (r.head.images.membrane j)) = ap (atoms_in k) here ∙ atoms_are p h k alike (r.head.images.membrane j) in
         let own_mems : mems_in k (s.head.images.membrane j) ≡ map M (mems_in h (r.head.images.membrane j)) = ap (mems_in k) here ∙ mems_are p h k alike (r.head.images.membrane j) in
         let tests : (a : ℕ) → In a (atoms_in h (r.head.images.membrane j)) → y.0 (A a) ≡ x.0 a =
-            λ a i. (let there : In (A a) (atoms_in k (s.head.images.membrane j)) = subst (In (A a)) (sym own_atoms) (in_there p.atoms a (atoms_in h (r.head.images.membrane j)) i) in
-              same_truth (y.0 (A a)) (x.0 a)
-              (λ e. (x.1 a i).1 (λ t. (y.1 (A a) there).0 e (taken_there a t)))
-              (λ e. (y.1 (A a) there).1 (λ t. (x.1 a i).0 e (taken_back a t)))) in
+        λ a i. (let there : In (A a) (atoms_in k (s.head.images.membrane j)) = subst (In (A a)) (sym own_atoms) (in_there p.atoms a (atoms_in h (r.head.images.membrane j)) i) in
+        same_truth (y.0 (A a)) (x.0 a)
+        (λ e. (x.1 a i).1 (λ t. (y.1 (A a) there).0 e (taken_there a t)))
+        (λ e. (y.1 (A a) there).1 (λ t. (x.1 a i).0 e (taken_back a t)))) in
         let kept_atoms : keep y.0 (atoms_in k (s.head.images.membrane j)) ≡ map A (keep x.0 (atoms_in h (r.head.images.membrane j))) =
-            ap (keep y.0) own_atoms ∙ keep_there p.atoms x.0 y.0 (atoms_in h (r.head.images.membrane j)) tests in
+        ap (keep y.0) own_atoms ∙ keep_there p.atoms x.0 y.0 (atoms_in h (r.head.images.membrane j)) tests in
         let kept_mems : keep (λ z. not (is_in (membrane_images s head) z)) (mems_in k (s.head.images.membrane j)) ≡ map M (keep (λ z. not (is_in (membrane_images r head) z)) (mems_in h (r.head.images.membrane j))) =
-            ap (keep (λ z. not (is_in (membrane_images s head) z))) own_mems ∙ keep_there p.mems (λ z. not (is_in (membrane_images r head) z)) (λ z. not (is_in (membrane_images s head) z)) (mems_in h (r.head.images.membrane j))
-            (λ z i. ap not (ap (λ zs. is_in zs (M z)) membranes_there ∙ is_in_there p.mems (membrane_images r head) z)) in
+        ap (keep (λ z. not (is_in (membrane_images s head) z))) own_mems ∙ keep_there p.mems (λ z. not (is_in (membrane_images r head) z)) (λ z. not (is_in (membrane_images s head) z)) (mems_in h (r.head.images.membrane j))
+        (λ z i. ap not (ap (λ zs. is_in zs (M z)) membranes_there ∙ is_in_there p.mems (membrane_images r head) z)) in
         let flats : flat iy.forest ≡ map M (flat ix.forest) = flats_there p.mems h k ix.forest iy.forest (keep (λ z. not (is_in (membrane_images r head) z)) (mems_in h (r.head.images.membrane j)))
-            (λ z i. mems_are p h k alike z) ix.forms (subst (λ zs. Forms k iy.forest zs) kept_mems iy.forms) in
+        (λ z i. mems_are p h k alike z) ix.forms (subst (λ zs. Forms k iy.forest zs) kept_mems iy.forms) in
         let membranes : s.left_membranes j ≡ map M (r.left_membranes j) = iy.preorder ∙ flats ∙ sym (ap (map M) ix.preorder) in
         let all : atoms_of_all k (s.left_membranes j) ≡ map A (atoms_of_all h (r.left_membranes j)) =
-            ap (atoms_of_all k) membranes ∙ all_atoms_there A M h k (r.left_membranes j) (λ z i. atoms_are p h k alike z) in
+        ap (atoms_of_all k) membranes ∙ all_atoms_there A M h k (r.left_membranes j) (λ z i. atoms_are p h k alike z) in
         (iy.in_order ∙ join_maps A (keep x.0 (atoms_in h (r.head.images.membrane j))) (atoms_of_all h (r.left_membranes j)) kept_atoms all ∙ sym (ap (map A) ix.in_order), membranes)
 
     has : (j : ℕ) (b : HeadMembrane) → slice_get (membranes_of head) j ≡ Some b → HasMembrane head (1 + j) b

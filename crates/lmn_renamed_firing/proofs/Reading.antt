@@ -1,10 +1,8 @@
 -- What is read of a heap that is one with other numbers, but for room and marks of membranes.
-use Rattle.std.proofs.Common.{◌≡◌, ◌∙◌, ℕ, List, Option, Some, None, IsSome, length, map, refl, sym, ap, subst}
+use Rattle.std.proofs.Common.{◌≡◌, ◌∙◌, ℕ, Option, Some, None, IsSome, length, map, refl, sym, ap, subst}
 use Rattle.std.specs.Prelude.{slice_index_or}
 use Rattle.std.specs.Option.{option_and_then, option_map}
 use Rattle.lmn_base.specs.Graphs.{Reached}
-use Rattle.lmn_base.specs.Lists.{In}
-use Rattle.lmn_base.proofs.Common.{map_same}
 use Rattle.lmn_heap.specs.Graphs.{atom_map}
 use Rattle.lmn_heap.specs.Heap.{Heap, HeapAtom, HeapMem, IsAtom, IsInPlace, IsMem, arity_of, atoms_by, atoms_in, functor_of, home_by, home_of, link_of, mems_by, mems_in, partners_of, rules_by, rules_in}
 use Rattle.lmn_heap.specs.Sound.{Sound}

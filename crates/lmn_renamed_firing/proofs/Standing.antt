@@ -1,13 +1,12 @@
 -- What stands in a heap after a firing: what stood there and wasn't removed, and what the firing made.
-use Rattle.std.proofs.Common.{◌≡◌, ◌⊎◌, ◌∙◌, ◌+◌, ◌<◌, ◌≤◌, ◌==◌, ℕ, suc, Bool, true, false, cond, List, [], ◌∷◌, ◌++◌, length, map, Option, Some, None, IsSome, refl, sym, ap, subst, inl, inr, arith}
+use Rattle.std.proofs.Common.{◌≡◌, ◌⊎◌, ◌∙◌, ◌+◌, ◌<◌, ℕ, true, false, List, [], ◌∷◌, ◌++◌, length, map, Option, Some, None, IsSome, refl, sym, ap, subst, inl, inr, arith}
 use Rattle.std.specs.Option.{option_map}
 use Rattle.lmn_base.specs.declared.functor.Functor.{Functor}
-use Rattle.lmn_base.specs.Graphs.{Port}
 use Rattle.lmn_base.specs.Lists.{In}
 use Rattle.lmn_base.proofs.Common.{of_map}
 use Rattle.lmn_base.proofs.Lists.{in_either, link_within}
 use Rattle.lmn_base.proofs.Numbers.{below_zero_plus}
-use Rattle.lmn_heap.specs.Heap.{Heap, HeapAtom, HeapMem, IsAtom, IsInPlace, IsMem, IsMemInPlace, Place, arity_of, atoms_in, functor_of, link_of, mem_place_of, mems_in, partners_of, top, within}
+use Rattle.lmn_heap.specs.Heap.{Heap, HeapAtom, HeapMem, IsAtom, IsInPlace, IsMem, IsMemInPlace, arity_of, atoms_in, functor_of, mems_in, partners_of, top, within}
 use Rattle.lmn_heap.specs.Lists.{without_all}
 use Rattle.lmn_heap.specs.Sound.{Forest, Forms, Valid, bare, flat, mem}
 use Rattle.lmn_heap.proofs.Common.{has_functor, holds_mem, in_place_atom, listed_mem}
@@ -16,7 +15,6 @@ use Rattle.lmn_parts.specs.Copies.{answer}
 use Rattle.lmn_parts.specs.Walks.{net, neighbour}
 use Rattle.lmn_parts.proofs.AnswerLaws.{answer_in}
 use Rattle.lmn_parts.proofs.WalkLaws.{kept_seen}
-use Rattle.lmn_instr.specs.declared.instr.AtomPort.{AtomPort}
 use Rattle.lmn_instr.specs.declared.instr.NewPort.{NewPort}
 use Rattle.lmn_instr.specs.declared.instr.NewPort.TheVariants as new
 use Rattle.lmn_solid.specs.declared.items.HeadItem.{HeadItem}
@@ -34,7 +32,7 @@ use Rattle.lmn_body.specs.Names.{StandsPort}
 use Rattle.lmn_body.specs.RestCopies.{AreAsLong, RestCopies, copied_into, copied_membrane, given, later, rest_membranes}
 use Rattle.lmn_body.specs.Rules.{NestedRule}
 use Rattle.lmn_body.specs.Running.{Registers, integer_functor, new_port}
-use Rattle.lmn_body.specs.Within.{FiresFlat, FiresWithin, HoldsRests, IsCopyIn, dropped_atoms, dropped_mems, membrane_images, removed_mems}
+use Rattle.lmn_body.specs.Within.{FiresFlat, FiresWithin, HoldsRests, dropped_atoms, dropped_mems, membrane_images, removed_mems}
 use Rattle.lmn_body.proofs.AddedLemmas.{AreWholeRests, comes_from, in_if, long_enough}
 use Rattle.lmn_body.proofs.Below.{removed_is}
 use Rattle.lmn_body.proofs.BodyPorts.{copied_new, written_new}

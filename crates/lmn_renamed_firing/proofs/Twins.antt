@@ -1,14 +1,13 @@
 -- The atoms that two firings of one rule make, side by side: their functors, and the links inside copies.
-use Rattle.std.proofs.Common.{◌≡◌, ◌≢◌, ◌⊎◌, ◌∙◌, ◌+◌, ◌<◌, ◌≤◌, ℕ, zero, suc, true, false, List, [], ◌∷◌, ◌++◌, length, map, Option, Some, None, IsSome, refl, sym, ap, subst, inl, inr, arith}
-use Rattle.std.proofs.lemmas.Option.{same_Some}
+use Rattle.std.proofs.Common.{◌≡◌, ◌⊎◌, ◌∙◌, ◌+◌, ◌<◌, ℕ, zero, suc, true, false, List, [], ◌∷◌, length, map, Some, refl, sym, ap, subst, inl, inr, arith}
 use Rattle.lmn_base.specs.declared.functor.Functor.{Functor}
 use Rattle.lmn_base.specs.Graphs.{Port}
 use Rattle.lmn_base.specs.Lists.{In}
 use Rattle.lmn_base.proofs.Common.{port_cases}
 use Rattle.lmn_base.proofs.Lists.{in_either, some_is}
-use Rattle.lmn_heap.specs.Heap.{Distinct, Heap, IsAtom, arity_of, functor_of, link_of}
+use Rattle.lmn_heap.specs.Heap.{Distinct, Heap, arity_of, functor_of, link_of}
 use Rattle.lmn_heap.specs.Sound.{Valid}
-use Rattle.lmn_parts.specs.Copies.{answer, moved}
+use Rattle.lmn_parts.specs.Copies.{answer}
 use Rattle.lmn_parts.specs.Walks.{net, neighbour}
 use Rattle.lmn_parts.proofs.AnswerLaws.{answer_onto}
 use Rattle.lmn_parts.proofs.WalkLaws.{kept_seen, once}
@@ -75,18 +74,30 @@ module _ (p : Renaming) (h k h' k' : Heap) (r s : Registers) where
       → AreRestsCopied h h' r q body → AreRestsCopied k k' s t body → (y : ℕ) → In y (new_atoms r q a c body) → Twin (made_of r a body) (made_of s a body) (copies_of c body) (new_ports a c body) (closed_rests body) y
   twin q t a c m [] made w ints xr xs' y i = absurd i
   twin q t a c m (Atom functor links inside ∷ xs) made w ints xr xs' y (inl e) =
-      inl (a, functor, e, inl (λ z. (e z, functor)), inl (λ z. ((w.0 ∙ ap A e) z, functor)),
-      λ i b. (let o = ports_of_written a 0 links i (subst (λ n. i < n) (sym made.0.0) b) in
-        let plain : 0 + i ≡ i = omega arith in
-        (o.0, in_front (new.Atom (port_at a i), o.0) (new_ports_from a 0 links) (new_ports (a + 1) c xs) (subst (λ z. IsOneOf {A = NewPort × ℕ} (new.Atom (port_at a z), o.0) (new_ports_from a 0 links)) plain o.1))))
+      inl (
+        a,
+        functor,
+        e,
+        inl (λ z. (e z, functor)),
+        inl (λ z. ((w.0 ∙ ap A e) z, functor)),
+        λ i b. (let o = ports_of_written a 0 links i (subst (λ n. i < n) (sym made.0.0) b) in
+            let plain : 0 + i ≡ i = omega arith in
+            (o.0, in_front (new.Atom (port_at a i), o.0) (new_ports_from a 0 links) (new_ports (a + 1) c xs) (subst (λ z. IsOneOf {A = NewPort × ℕ} (new.Atom (port_at a z), o.0) (new_ports_from a 0 links)) plain o.1))),
+      )
   twin q t a c m (Atom functor links inside ∷ xs) made w ints xr xs' y (inr j) =
       twin_on (made_of r (a + 1) xs) (made_of r a (Atom functor links inside ∷ xs)) (made_of s (a + 1) xs) (made_of s a (Atom functor links inside ∷ xs)) (copies_of c xs) (copies_of c xs)
       (new_ports (a + 1) c xs) (new_ports a c (Atom functor links inside ∷ xs)) (closed_rests xs) (closed_rests xs) y (λ e l. inr l) (λ e l. inr l) (λ e l. l)
       (λ e l. in_back e (new_ports_from a 0 links) (new_ports (a + 1) c xs) l) (λ e l. l) (twin q t (a + 1) c m xs made.1 w.2 (λ v l b o. ints v l b (inr o)) xr xs' y j)
   twin q t a c m (Bound integer link inside ∷ xs) made w ints xr xs' y (inl e) =
       let same = ints integer link inside (inl refl) in
-      inl (a, integer_functor (r.head.integer integer), e, inl (λ z. (e z, integer_functor (r.head.integer integer))), inl (λ z. ((w.0 ∙ ap A e) z, integer_functor (same z))),
-      λ i b. (let zero_port : 0 ≡ i = omega (arith, b) in (link, inl (λ z. (new.Atom (port_at a (zero_port z)), link)))))
+      inl (
+        a,
+        integer_functor (r.head.integer integer),
+        e,
+        inl (λ z. (e z, integer_functor (r.head.integer integer))),
+        inl (λ z. ((w.0 ∙ ap A e) z, integer_functor (same z))),
+        λ i b. (let zero_port : 0 ≡ i = omega (arith, b) in (link, inl (λ z. (new.Atom (port_at a (zero_port z)), link)))),
+      )
   twin q t a c m (Bound integer link inside ∷ xs) made w ints xr xs' y (inr j) =
       twin_on (made_of r (a + 1) xs) (made_of r a (Bound integer link inside ∷ xs)) (made_of s (a + 1) xs) (made_of s a (Bound integer link inside ∷ xs)) (copies_of c xs) (copies_of c xs)
       (new_ports (a + 1) c xs) (new_ports a c (Bound integer link inside ∷ xs)) (closed_rests xs) (closed_rests xs) y (λ e l. inr l) (λ e l. inr l) (λ e l. l)
@@ -182,8 +193,12 @@ module _ (p : Renaming) (h k : Heap) (alike : SameButRoom (renamed p h) k) (vali
               let q = full.0 in
               let one = u.inner a i q.0 q.1 w.1 d full.1 in
               let two = v.inner (P a) i (P q.0) q.1 there (λ e. d (λ z. (one_to_one p.atoms a root.0 (ap (λ (x : Port). x.0) e) z, (e z).1))) (link_kept p h k alike a i q.0 q.1 full.1) in
-              inr (answer u.atoms ys q.0, q.1, ap (λ z. link_of h' z i) (sym w.2) ∙ one.1,
-              ap (λ z. link_of k' (P z) i) (sym w.2) ∙ ap (λ z. link_of k' z i) (sym (answered a w.1)) ∙ two.1 ∙ (λ z. Some (answered q.0 one.0 z, q.1))))
+              inr (
+                answer u.atoms ys q.0,
+                q.1,
+                ap (λ z. link_of h' z i) (sym w.2) ∙ one.1,
+                ap (λ z. link_of k' (P z) i) (sym w.2) ∙ ap (λ z. link_of k' z i) (sym (answered a w.1)) ∙ two.1 ∙ (λ z. Some (answered q.0 one.0 z, q.1)),
+              ))
         ]
 
   -- The copy of a rest.
@@ -203,6 +218,9 @@ module _ (p : Renaming) (h k : Heap) (alike : SameButRoom (renamed p h) k) (vali
         let full = some_is (link_of h a i) (valid.full a i (below a (ap (functor_of h') (sym w.2) ∙ u.functors a w.1))) in
         let q = full.0 in
         let one = u.inner a i q.0 q.1 w.1 full.1 in
-        let two = v.inner (P a) i (P q.0) q.1 (in_there p.atoms a xs w.1) (link_kept p h k alike a i q.0 q.1 full.1) in
-        (answer xs ys q.0, q.1, ap (λ z. link_of h' z i) (sym w.2) ∙ one.1,
-        ap (λ z. link_of k' (P z) i) (sym w.2) ∙ ap (λ z. link_of k' z i) (sym (rest_answered a w.1)) ∙ two.1 ∙ (λ z. Some (rest_answered q.0 one.0 z, q.1)))
+        let two = v.inner (P a) i (P q.0) q.1 (in_there p.atoms a xs w.1) (link_kept p h k alike a i q.0 q.1 full.1) in (
+          answer xs ys q.0,
+          q.1,
+          ap (λ z. link_of h' z i) (sym w.2) ∙ one.1,
+          ap (λ z. link_of k' (P z) i) (sym w.2) ∙ ap (λ z. link_of k' z i) (sym (rest_answered a w.1)) ∙ two.1 ∙ (λ z. Some (rest_answered q.0 one.0 z, q.1)),
+        )

@@ -1,5 +1,5 @@
 -- Walks over parts of which the atoms have other numbers.
-use Rattle.std.proofs.Common.{◌≡◌, ◌≢◌, ◌∙◌, ◌+◌, ◌-◌, ◌==◌, ◌&&◌, ℕ, zero, suc, Bool, true, false, if◌then◌else◌, List, [], ◌∷◌, ◌++◌, Option, Some, None, map, refl, sym, ap, subst}
+use Rattle.std.proofs.Common.{◌≡◌, ◌∙◌, ◌+◌, ◌==◌, ◌&&◌, ℕ, zero, suc, Bool, true, false, if◌then◌else◌, List, [], ◌∷◌, ◌++◌, Option, Some, None, map, refl, sym, ap, subst}
 use Rattle.std.specs.Option.{option_and_then, option_map}
 use Rattle.std.proofs.lemmas.Option.{same_Some}
 use Rattle.lmn_base.specs.Lists.{In}
@@ -33,7 +33,7 @@ module _ (n : Numbering) (arity arity' : ℕ → ℕ) (to to' : ℕ × ℕ → O
   walk_there (finds {seen = seen} {all = all} {ps = ps} {p = p} {b = b} e d w) =
       let same_seen : map n.to (seen ++ b ∷ []) ≡ map n.to seen ++ n.to b ∷ [] = map_append n.to seen (b ∷ []) in
       let same_ports : map (renamed_port n.to) (port_range b 0 (arity b) ++ ps) ≡ port_range (n.to b) 0 (arity' (n.to b)) ++ map (renamed_port n.to) ps =
-          ports_append n.to (port_range b 0 (arity b)) ps ∙ ap (λ qs. qs ++ map (renamed_port n.to) ps) (range_there n.to b 0 (arity b) ∙ ap (port_range (n.to b) 0) (sym (arities b))) in
+      ports_append n.to (port_range b 0 (arity b)) ps ∙ ap (λ qs. qs ++ map (renamed_port n.to) ps) (range_there n.to b 0 (arity b) ∙ ap (port_range (n.to b) 0) (sym (arities b))) in
       finds (goes p ∙ ap (option_map n.to) e) (λ i. d (subst (λ z. In z seen) (n.there b) (in_back n (n.to b) seen i)))
       (subst (λ qs. Walk arity' to' (map n.to seen ++ n.to b ∷ []) qs (map n.to all)) same_ports (subst (λ xs. Walk arity' to' xs (map (renamed_port n.to) (port_range b 0 (arity b) ++ ps)) (map n.to all)) same_seen (walk_there w)))
 
@@ -55,7 +55,7 @@ module _ (p : Renaming) (h k : Heap) (alike : SameButRoom (renamed p h) k) where
   pub part_there : (root : ℕ × ℕ) (all : List ℕ) → IsPartInDepth h root all → IsPartInDepth k (renamed_port A root) (map A all)
   part_there root all w =
       let start : map (renamed_port A) (port_range root.0 0 (arity_of h root.0)) ≡ port_range (A root.0) 0 (arity_of k (A root.0)) =
-          range_there A root.0 0 (arity_of h root.0) ∙ ap (port_range (A root.0) 0) (sym (arity_is p h k alike root.0)) in
+      range_there A root.0 0 (arity_of h root.0) ∙ ap (port_range (A root.0) 0) (sym (arity_is p h k alike root.0)) in
       subst (λ qs. Walk (arity_of k) (neighbour (net k) (renamed_port A root) (λ _. true)) (A root.0 ∷ []) qs (map A all)) start
       (walk_there p.atoms (arity_of h) (arity_of k) (neighbour (net h) root (λ _. true)) (neighbour (net k) (renamed_port A root) (λ _. true)) (arity_is p h k alike) (neighbour_there root) w)
 
