@@ -32,7 +32,7 @@ pub(crate) fn compile<O: Sink>(
     if codes.len() >= 1 << 32 {
         return Ending::NoMemory;
     }
-    match list_codes(codes.as_slice(), names, out) {
+    match list_codes(&codes, names, out) {
         Ok(()) => Ending::Done,
         Err(Failed) => Ending::WriteFault,
     }

@@ -10,7 +10,8 @@ use Rattle.lmn_base.specs.declared.rule.RuleTree.{RuleTree}
 use Rattle.lmn_base.specs.Names.{HasNames, level_names, rule_names, plain_names}
 use Rattle.lmn_guards.specs.declared.plan.GuardPlan.{GuardPlan}
 use Rattle.lmn_instr.specs.declared.instr.Code.{Code}
-use Rattle.lmn_instr.specs.Listings.{code_listing, HasCode}
+use Rattle.lmn_instr.specs.declared.instr.Instr.{Instr}
+use Rattle.lmn_instr.specs.Listings.{code_listing, HasCode, HasInstr}
 use Rattle.lmn_io.specs.Counts.{Faults}
 use Rattle.lmn_io.specs.Writing.{WritesText}
 use Rattle.lmn_io.proofs.WritingLemmas.{writes_both, writes_front}
@@ -52,6 +53,12 @@ codes_held names p plans law known =
     let P : ℕ → Type 0 = λ n. n < length names in
     All-from_recursion (HasCode names) (rule_codes p.rules plans)
     (table_held names law p.rules plans (all_back P (level_names p.top) (flat_map rule_names p.rules) (recursion_from_All P (plain_names p) known)))
+
+-- what a list of instructions names is had of each
+pub has_at : (names : List (List ℕ)) (is : List Instr) (k : ℕ) (x : Instr) → slice_get is k ≡ Some x → AllByRecursion (HasInstr names) is → HasInstr names x
+has_at names [] k x e h = absurd (cc)
+has_at names (i ∷ is) zero x e h = subst (HasInstr names) (same_Some i x e) h.0
+has_at names (i ∷ is) (suc k) x e h = has_at names is k x e h.1
 
 -- ---- what is written
 

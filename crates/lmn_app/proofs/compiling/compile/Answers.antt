@@ -17,23 +17,23 @@ pub list_codes-requires-clause-named : goal.list_codes-requires-clause-named
 list_codes-requires-clause-named g c =
     let read = c.args.accepted.now in
     let named = plain_named c.accepted_texts.ensures c.requires.accepted.0 c.args.names.now read.plain read.plans c.requires.accepted.1 in
-    subst (All (HasCode c.args.names.now)) (sym c.as_slice-2.ensures) (c.in-Ok.ensures.named c.args.names.now named.1)
+    c.in-Ok.ensures.named c.args.names.now named.1
 
 pub list_codes-requires-clause-few : goal.list_codes-requires-clause-few
 list_codes-requires-clause-few g c =
-    let few = c.if-len.false in let count = c.len.ensures in subst (λ codes. length codes < 4294967296) (sym c.as_slice-2.ensures) (omega (arith, few, count))
+    let few = c.if-len.false in let count = c.len.ensures in omega (arith, few, count)
 
 pub returns-in-Ok-list_codes : goal.returns-in-Ok-list_codes
 returns-in-Ok-list_codes g c = λ text before after a.
     let read = c.args.accepted.now in
     listed_ended text c.args.names.now read.plain read.plans a _ _ _ _ _ before after
-    (writes_same _ _ _ _ _ _ _ (listing_text c.args.names.now read.plain.rules _ _ _ _ c.as_slice-2.ensures c.in-Ok.ensures.codes c.as_slice.ensures) c.in-Ok-list_codes.ensures)
+    (writes_same _ _ _ _ _ _ _ (listing_text c.args.names.now read.plain.rules _ _ _ _ refl c.in-Ok.ensures.codes c.as_slice.ensures) c.in-Ok-list_codes.ensures)
 
 pub returns : goal.returns
 returns g c = λ text before after a.
     let read = c.args.accepted.now in
     listed_part text c.args.names.now read.plain read.plans a _ _ _ _ _ before after
-    (writes_same _ _ _ _ _ _ _ (listing_text c.args.names.now read.plain.rules _ _ _ _ c.as_slice-2.ensures c.in-Ok.ensures.codes c.as_slice.ensures) c.in-Err.ensures)
+    (writes_same _ _ _ _ _ _ _ (listing_text c.args.names.now read.plain.rules _ _ _ _ refl c.in-Ok.ensures.codes c.as_slice.ensures) c.in-Err.ensures)
 
 pub returns-then-len : goal.returns-then-len
 returns-then-len g c = λ text before after a. memory_ended task.List _ _ _ before after

@@ -6,10 +6,10 @@ use Rattle.lmn_listing.proofs.listing.compile_rules.Goals as goal
 
 pub returns-clause-codes : goal.returns-clause-codes
 returns-clause-codes c =
-    IfOk-weaker c.compiled.result _ _ (λ codes are. codes_are c.args.plain.now.rules c.args.plans.now codes c.requires.many are) c.compiled.ensures
+    IfOk-weaker c.stored.result _ _ (λ codes are. codes_are c.args.plain.now.rules c.args.plans.now codes c.requires.many are) c.stored.ensures
 
 pub returns-clause-named : goal.returns-clause-named
 returns-clause-named c =
-    IfOk-weaker c.compiled.result _ _ (λ codes are. λ names known.
+    IfOk-weaker c.stored.result _ _ (λ codes are. λ names known.
     subst (All (HasCode names)) (sym (codes_are c.args.plain.now.rules c.args.plans.now codes c.requires.many are))
-    (codes_held names c.args.plain.now c.args.plans.now c.codes_have_names.ensures known)) c.compiled.ensures
+    (codes_held names c.args.plain.now c.args.plans.now c.codes_have_names.ensures known)) c.stored.ensures
