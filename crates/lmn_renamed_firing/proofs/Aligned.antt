@@ -134,6 +134,16 @@ module _ (p : Renaming) (h k : Heap) (vh : Valid h) (vk : Valid k) (uh : Unmarke
         (lk.mems (M w.0) (M m)).0 (subst (In (M m)) (sym (al.mems w.0 (has_mems (h.mems w.0) m inside))) (in_there p.mems m (mems_in h w.0) inside)) ∙ ap (λ z. Some (renamed_place M z)) (sym w.1))
   ]
 
+  -- a membrane and the one with the other number
+  mem_same : (m : ℕ) (y z : HeapMem) → h.mems m ≡ Some y → k.mems (M m) ≡ Some z → ◌≡◌ {A = Option HeapMem} (Some z) (Some (with_room z.spare z.mark (renamed_mem A M y)))
+  mem_same m y z e f =
+      let stands : IsMem h m = subst (λ (o : Option HeapMem). IsSome o) (sym e) refl in
+      let atoms : z.atoms ≡ map A y.atoms = sym (ap atoms_by f) ∙ al.atoms m stands ∙ ap (λ o. map A (atoms_by o)) e in
+      let mems : z.mems ≡ map M y.mems = sym (ap mems_by f) ∙ al.mems m stands ∙ ap (λ o. map M (mems_by o)) e in
+      let rules : z.rules ≡ y.rules = sym (ap rules_by f) ∙ al.rules m stands ∙ ap rules_by e in
+      let place : z.place ≡ renamed_place M y.place = same_Some z.place (renamed_place M y.place) (sym (ap (option_map (λ (q : HeapMem). q.place)) f) ∙ place_there m y.place stands (ap (option_map (λ (q : HeapMem). q.place)) e)) in
+      λ i. Some (record { atoms = atoms i; mems = mems i; rules = rules i; spare = z.spare; mark = z.mark; place = place i })
+
   mem_is : (m : ℕ) (o : Option HeapMem) → h.mems m ≡ o → (spare : ℕ) × (mark : ℕ) × (k.mems (M m) ≡ option_map (with_room spare mark) (option_map (renamed_mem A M) o))
   mem_is m None e = (0, 0, none (k.mems (M m)) refl)
     where
@@ -141,14 +151,8 @@ module _ (p : Renaming) (h k : Heap) (vh : Valid h) (vk : Valid k) (uh : Unmarke
       none None f = f
       none (Some y) f = absurd (none_is_not (h.mems m) e (mem_back m (subst (λ (o : Option HeapMem). IsSome o) (sym f) refl)))
   mem_is m (Some y) e =
-      let stands : IsMem h m = subst (λ (o : Option HeapMem). IsSome o) (sym e) refl in
-      let w = some_is (k.mems (M m)) (mem_there m stands) in
-      let z = w.0 in
-      let atoms : z.atoms ≡ map A y.atoms = sym (ap atoms_by w.1) ∙ al.atoms m stands ∙ ap (λ o. map A (atoms_by o)) e in
-      let mems : z.mems ≡ map M y.mems = sym (ap mems_by w.1) ∙ al.mems m stands ∙ ap (λ o. map M (mems_by o)) e in
-      let rules : z.rules ≡ y.rules = sym (ap rules_by w.1) ∙ al.rules m stands ∙ ap rules_by e in
-      let place : z.place ≡ renamed_place M y.place = same_Some z.place (renamed_place M y.place) (sym (ap (option_map (λ (q : HeapMem). q.place)) w.1) ∙ place_there m y.place stands (ap (option_map (λ (q : HeapMem). q.place)) e)) in
-      (z.spare, z.mark, w.1 ∙ (λ i. Some (record { atoms = atoms i; mems = mems i; rules = rules i; spare = z.spare; mark = z.mark; place = place i })))
+      let w = some_is (k.mems (M m)) (mem_there m (subst (λ (o : Option HeapMem). IsSome o) (sym e) refl)) in
+      (w.0.spare, w.0.mark, w.1 ∙ mem_same m y w.0 e w.1)
 
   -- ---- atoms
 
@@ -166,41 +170,45 @@ module _ (p : Renaming) (h k : Heap) (vh : Valid h) (vk : Valid k) (uh : Unmarke
   links_alike : (ls zs : List (Option (ℕ × ℕ))) → length zs ≡ length ls → ((i : ℕ) → i < length zs → slice_index_or zs i None ≡ option_map (renamed_port A) (slice_index_or ls i None)) → zs ≡ map (option_map (renamed_port A)) ls
   links_alike ls zs long each = same_list None zs (map (option_map (renamed_port A)) ls) (long ∙ sym (length-map ls (option_map (renamed_port A)))) (λ i l. each i l ∙ sym (get_or-map (option_map (renamed_port A)) ls i None))
 
+  with_functor : {f : Functor} (o : Option HeapAtom) → option_map (λ (x : HeapAtom). x.functor) o ≡ Some f → IsSome o
+  with_functor None e = absurd (cc e)
+  with_functor (Some y) e = refl
+
+  functor_there : (a : ℕ) (y : HeapAtom) → h.atoms a ≡ Some y → functor_of k (A a) ≡ Some y.functor
+  functor_there a y e = al.functors a (subst (λ (o : Option HeapAtom). IsSome o) (sym e) refl) ∙ ap (option_map (λ (x : HeapAtom). x.functor)) e
+
+  -- an atom and the one with the other number
+  atom_same : (a : ℕ) (y z : HeapAtom) → h.atoms a ≡ Some y → k.atoms (A a) ≡ Some z → ◌≡◌ {A = Option HeapAtom} (Some z) (Some (renamed_atom A M y))
+  atom_same a y z e f =
+      let stands : IsAtom h a = subst (λ (o : Option HeapAtom). IsSome o) (sym e) refl in
+      let is_atom : IsAtom k (A a) = subst (λ (o : Option HeapAtom). IsSome o) (sym f) refl in
+      let one = vh.sound.shaped in
+      let other = vk.sound.shaped in
+      let fk = functor_there a y e in
+      let functor : z.functor ≡ y.functor = same_Some z.functor y.functor (sym (ap (option_map (λ (x : HeapAtom). x.functor)) f) ∙ fk) in
+      let arity_h : arity_of h a ≡ length y.links = ap (λ o. length (partners_of o)) e in
+      let arity_k : arity_of k (A a) ≡ length z.links = ap (λ o. length (partners_of o)) f in
+      let same_arity : arity_of k (A a) ≡ arity_of h a = other.ports (A a) y.functor fk ∙ sym (one.ports a y.functor (ap (option_map (λ (x : HeapAtom). x.functor)) e)) in
+      let long : length z.links ≡ length y.links = sym arity_k ∙ same_arity ∙ arity_h in
+      let each : (i : ℕ) → i < length z.links → slice_index_or z.links i None ≡ option_map (renamed_port A) (slice_index_or y.links i None) =
+      λ i l. (let q = some_is (link_of h a i) (vh.full a i (subst (λ n. i < n) (long ∙ sym arity_h) l)) in
+      sym (ap (λ o. slice_index_or (partners_of o) i None) f) ∙ al.links a i q.0.0 q.0.1 q.1 ∙ ap (option_map (renamed_port A)) (sym q.1 ∙ ap (λ o. slice_index_or (partners_of o) i None) e)) in
+      let links : z.links ≡ map (option_map (renamed_port A)) y.links = links_alike y.links z.links long each in
+      let marks_long : length z.marks ≡ length y.marks =
+      sym (ap (λ o. length (marks_of o)) f) ∙ other.marks (A a) is_atom ∙ ap (λ n. n + 1) same_arity ∙ sym (one.marks a stands) ∙ ap (λ o. length (marks_of o)) e in
+      let marks : z.marks ≡ y.marks = same_list 0 z.marks y.marks marks_long (λ i l. sym (ap (λ o. slice_index_or (marks_of o) i 0) f) ∙ uk (A a) i ∙ sym (uh a i) ∙ ap (λ o. slice_index_or (marks_of o) i 0) e) in
+      let s = stands_in h vh a y e in
+      let there = (lk.atoms (M s.0) (A a)).0 (subst (In (A a)) (sym (al.atoms s.0 s.2)) (in_there p.atoms a (atoms_in h s.0) s.3)) in
+      let place : z.place ≡ renamed_place M y.place = same_Some z.place (within (M s.0)) (sym (ap (option_map (λ (q : HeapAtom). q.place)) f) ∙ there) ∙ ap (renamed_place M) (sym s.1) in
+      λ i. Some (record { functor = functor i; links = links i; marks = marks i; place = place i })
+
   atom_is : (a : ℕ) (o : Option HeapAtom) → h.atoms a ≡ o → k.atoms (A a) ≡ option_map (renamed_atom A M) o
   atom_is a None e = none (k.atoms (A a)) refl
     where
       none : (o : Option HeapAtom) → k.atoms (A a) ≡ o → k.atoms (A a) ≡ None
       none None f = f
       none (Some y) f = absurd (none_is_not (h.atoms a) e (atom_back a y f))
-  atom_is a (Some y) e =
-      let stands : IsAtom h a = subst (λ (o : Option HeapAtom). IsSome o) (sym e) refl in
-      let one = vh.sound.shaped in
-      let other = vk.sound.shaped in
-      let fh : functor_of h a ≡ Some y.functor = ap (option_map (λ (x : HeapAtom). x.functor)) e in
-      let fk : functor_of k (A a) ≡ Some y.functor = al.functors a stands ∙ fh in
-      let is_atom : IsAtom k (A a) = with_functor (k.atoms (A a)) fk in
-      let w = some_is (k.atoms (A a)) is_atom in
-      let z = w.0 in
-      let functor : z.functor ≡ y.functor = same_Some z.functor y.functor (sym (ap (option_map (λ (x : HeapAtom). x.functor)) w.1) ∙ fk) in
-      let arity_h : arity_of h a ≡ length y.links = ap (λ o. length (partners_of o)) e in
-      let arity_k : arity_of k (A a) ≡ length z.links = ap (λ o. length (partners_of o)) w.1 in
-      let same_arity : arity_of k (A a) ≡ arity_of h a = other.ports (A a) y.functor fk ∙ sym (one.ports a y.functor fh) in
-      let long : length z.links ≡ length y.links = sym arity_k ∙ same_arity ∙ arity_h in
-      let each : (i : ℕ) → i < length z.links → slice_index_or z.links i None ≡ option_map (renamed_port A) (slice_index_or y.links i None) =
-      λ i l. (let q = some_is (link_of h a i) (vh.full a i (subst (λ n. i < n) (long ∙ sym arity_h) l)) in
-      sym (ap (λ o. slice_index_or (partners_of o) i None) w.1) ∙ al.links a i q.0.0 q.0.1 q.1 ∙ ap (option_map (renamed_port A)) (sym q.1 ∙ ap (λ o. slice_index_or (partners_of o) i None) e)) in
-      let links : z.links ≡ map (option_map (renamed_port A)) y.links = links_alike y.links z.links long each in
-      let marks_long : length z.marks ≡ length y.marks =
-      sym (ap (λ o. length (marks_of o)) w.1) ∙ other.marks (A a) is_atom ∙ ap (λ n. n + 1) same_arity ∙ sym (one.marks a stands) ∙ ap (λ o. length (marks_of o)) e in
-      let marks : z.marks ≡ y.marks = same_list 0 z.marks y.marks marks_long (λ i l. sym (ap (λ o. slice_index_or (marks_of o) i 0) w.1) ∙ uk (A a) i ∙ sym (uh a i) ∙ ap (λ o. slice_index_or (marks_of o) i 0) e) in
-      let s = stands_in h vh a y e in
-      let there = (lk.atoms (M s.0) (A a)).0 (subst (In (A a)) (sym (al.atoms s.0 s.2)) (in_there p.atoms a (atoms_in h s.0) s.3)) in
-      let place : z.place ≡ renamed_place M y.place = same_Some z.place (within (M s.0)) (sym (ap (option_map (λ (q : HeapAtom). q.place)) w.1) ∙ there) ∙ ap (renamed_place M) (sym s.1) in
-      w.1 ∙ (λ i. Some (record { functor = functor i; links = links i; marks = marks i; place = place i }))
-    where
-      with_functor : {f : Functor} (o : Option HeapAtom) → option_map (λ (x : HeapAtom). x.functor) o ≡ Some f → IsSome o
-      with_functor None e = absurd (cc e)
-      with_functor (Some y) e = refl
+  atom_is a (Some y) e = (let w = some_is (k.atoms (A a)) (with_functor (k.atoms (A a)) (functor_there a y e)) in w.1 ∙ atom_same a y w.0 e w.1)
 
   -- they are one with other numbers
   pub aligned : SameButRoom (renamed p h) k

@@ -12,3 +12,4 @@ mod Ends
 mod Others
 mod Fusing
 mod Firings
+mod Compared

@@ -21,13 +21,6 @@ use Rattle.lmn_body.proofs.Dropping.{not_in, out_of}
 use Rattle.lmn_renaming.specs.Renamed.{Numbering}
 use Rattle.lmn_renaming.proofs.Numbers.{distinct_there, kept_test, one_to_one}
 
--- truth values that are true together are one
-pub same_truth : (x y : Bool) → (x ≡ true → y ≡ true) → (y ≡ true → x ≡ true) → x ≡ y
-same_truth true true f g = refl
-same_truth true false f g = sym (f refl)
-same_truth false true f g = g refl
-same_truth false false f g = refl
-
 module _ (n : Numbering) where
   -- what is in a list
   pub is_in_there : (xs : List ℕ) (a : ℕ) → is_in (map n.to xs) (n.to a) ≡ is_in xs a

@@ -4,6 +4,7 @@ use Rattle.std.specs.Prelude.{slice_get, Some}
 use Rattle.lmn_base.specs.Graphs.{Port, Reached}
 use Rattle.lmn_base.specs.Lists.{In}
 use Rattle.lmn_base.proofs.Common.{of_map}
+use Rattle.lmn_base.proofs.Truth.{test_same}
 use Rattle.lmn_base.proofs.Lists.{get_below, in_either, join_maps}
 use Rattle.lmn_heap.specs.Graphs.{atom_map}
 use Rattle.lmn_heap.specs.Heap.{Heap, atoms_in, mems_in}
@@ -27,7 +28,7 @@ use Rattle.lmn_body.proofs.Firing.{heap_in_of, of_heap_in, rising_below}
 use Rattle.lmn_renaming.specs.Renamed.{Renaming, SameButRoom, renamed}
 use Rattle.lmn_renaming.proofs.Numbers.{in_back, in_there, one_to_one}
 use Rattle.lmn_renamed_firing.specs.Laws.{SameMatch}
-use Rattle.lmn_renamed_firing.proofs.Mapped.{all_atoms_there, closed_there, flats_there, is_in_there, keep_there, same_truth, without_there}
+use Rattle.lmn_renamed_firing.proofs.Mapped.{all_atoms_there, closed_there, flats_there, is_in_there, keep_there, without_there}
 use Rattle.lmn_renamed_firing.proofs.Reading.{atoms_are, mems_are, reached_back, reached_there}
 
 -- images are mapped side by side
@@ -95,7 +96,7 @@ module _ (p : Renaming) (h k : Heap) (alike : SameButRoom (renamed p h) k) (head
         let own_mems : mems_in k (s.head.images.membrane j) ≡ map M (mems_in h (r.head.images.membrane j)) = ap (mems_in k) here ∙ mems_are p h k alike (r.head.images.membrane j) in
         let tests : (a : ℕ) → In a (atoms_in h (r.head.images.membrane j)) → y.0 (A a) ≡ x.0 a =
         λ a i. (let there : In (A a) (atoms_in k (s.head.images.membrane j)) = subst (In (A a)) (sym own_atoms) (in_there p.atoms a (atoms_in h (r.head.images.membrane j)) i) in
-        same_truth (y.0 (A a)) (x.0 a)
+        test_same (y.0 (A a)) (x.0 a)
         (λ e. (x.1 a i).1 (λ t. (y.1 (A a) there).0 e (taken_there a t)))
         (λ e. (y.1 (A a) there).1 (λ t. (x.1 a i).0 e (taken_back a t)))) in
         let kept_atoms : keep y.0 (atoms_in k (s.head.images.membrane j)) ≡ map A (keep x.0 (atoms_in h (r.head.images.membrane j))) =
