@@ -2,7 +2,7 @@ ghost use Rattle.std.specs.Prelude.{IfOk};
 ghost use Rattle.lmn_compile.specs.Compiled.{AreWhole, AreCompiled, IsCompiled};
 ghost use Rattle.lmn_compile_body.specs.Accepted.{HasBodyRoom};
 
-use lmn_base::{NoMemory, Plain, Rows, RuleTree};
+use lmn_base::{NoMemory, Plain, RuleTree};
 use lmn_codes::Codes;
 use lmn_compile_body::{accepted_bodies, body};
 use lmn_compile_head::head;
@@ -21,24 +21,8 @@ fn rule_code(alloc: Global, rule: &RuleTree, plan: &GuardPlan) -> Result<Code, N
     })
 }
 
-/// The code of each rule of a plain, which has the number of its rule. `plans` has the plan of each rule, by its number.
-///
-/// # Errors
-///
-/// `NoMemory` at want of memory.
-pub fn compiled(alloc: Global, plain: &Plain, plans: &[GuardPlan]) -> Result<Rows<Code>, NoMemory>
-    requires { AreWhole plain.now.rules plans.now }
-    ensures { IfOk result (λ codes. AreCompiled plain.now.rules plans.now codes) }
-{
-    accepted_bodies();
-    let mut codes = Rows::new(alloc);
-    for k in 0..plain.rules.len() {
-        codes.push(rule_code(alloc, plain.rules.at(k), &plans[k])?)?;
-    }
-    Ok(codes)
-}
-
-/// What `compiled` gives, in a store of codes. One code at a time stands beside it.
+/// The code of each rule of a plain, which has the number of its rule, in a store of codes. `plans` has the plan of each rule, by
+/// its number. One code at a time stands beside the store.
 ///
 /// # Errors
 ///

@@ -3,4 +3,4 @@
 
 mod compiling;
 
-pub use compiling::{compiled, stored};
+pub use compiling::stored;
