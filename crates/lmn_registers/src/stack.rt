@@ -71,7 +71,7 @@ impl<T: Copy> Stack<T> {
         requires { length self.old < ROOM }
         ensures { self.new ≡ self.old ++ v ∷ [] }
     {
-        self.items.push(v).unwrap();
+        self.items.push_reserved(v);
     }
 
     /// Keeps the first n values.
