@@ -19,6 +19,7 @@ use lmn_registers::SetRegisters;
 use lmn_store::LinkStore;
 
 /// Whether an instruction tests one atom register, and fails with an atom in it.
+#[inline(always)]
 fn refutes<S: LinkStore>(
     store: &S,
     instr: &Instr,

@@ -81,6 +81,7 @@ fn search_atom<S: LinkStore>(
 
 /// Tries the atoms of a membrane with a functor for the next register, of which one is the first.
 #[cycle(search)]
+#[inline(always)]
 fn search_atoms<S: LinkStore>(
     store: &mut S,
     code: &Instrs<'_>,

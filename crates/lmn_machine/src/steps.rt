@@ -12,6 +12,7 @@ use lmn_registers::{ROOM, SetRegisters};
 use lmn_store::LinkStore;
 
 /// Whether a comparison holds of the integers that are set; COMMIT holds.
+#[inline(always)]
 fn compare<A: Copy, M: Copy>(set: &SetRegisters<A, M>, instr: &Instr) -> bool
     requires { Compares (length set.now.integers) instr.now }
     ensures { (atom : A → ℕ) (membrane : M → ℕ) (h : Heap) (c : HeadSize) (s : HeadRegisters) → Agrees atom membrane set.now s → (IsTrue result ↔ InstructionHolds h c s instr.now) }
@@ -47,6 +48,7 @@ fn compare<A: Copy, M: Copy>(set: &SetRegisters<A, M>, instr: &Instr) -> bool
 }
 
 /// Whether a test holds of the registers that are set.
+#[inline(always)]
 fn check<S: LinkStore>(store: &S, set: &SetRegisters<S::Atom, S::Mem>, instr: &Instr) -> bool
     requires valid { Valid (S.heap store.now) }
     requires held { AreHeldWhole S.atom_id S.mem_id (S.heap store.now) set.now }
@@ -167,6 +169,7 @@ pub fn set_part<A: Copy, M: Copy>(set: &mut SetRegisters<A, M>, root: Option<(A,
 }
 
 /// Runs an instruction that sets an integer, or a test.
+#[inline(always)]
 fn compute<S: LinkStore>(store: &S, set: &mut SetRegisters<S::Atom, S::Mem>, instr: &Instr) -> bool
     requires valid { Valid (S.heap store.now) }
     requires held { AreHeldWhole S.atom_id S.mem_id (S.heap store.now) set.old }
@@ -224,6 +227,7 @@ fn compute<S: LinkStore>(store: &S, set: &mut SetRegisters<S::Atom, S::Mem>, ins
 }
 
 /// Runs an instruction that makes no choice.
+#[inline(always)]
 pub fn step<S: LinkStore>(
     store: &mut S,
     set: &mut SetRegisters<S::Atom, S::Mem>,
