@@ -81,6 +81,7 @@ fn is_refuted<S: LinkStore>(
 }
 
 /// Whether a port leads to the given port of an atom with which the two instructions ahead may hold.
+#[inline(always)]
 fn may_lead<S: LinkStore>(
     store: &S,
     code: &Instrs<'_>,
