@@ -1,8 +1,9 @@
 -- The words of a new row are written one after the other.
-use Rattle.std.proofs.Common.{◌≡◌, ℕ, zero, suc, ◌+◌, ◌*◌, ◌<◌, ◌==◌, List, [], ◌∷◌, ◌++◌, length, set, replicate, None, refl, sym, subst, ap, ◌∙◌, inl, inr, arith}
+use Rattle.std.proofs.Common.{◌≡◌, ℕ, zero, suc, ◌+◌, ◌-◌, ◌*◌, ◌<◌, ◌==◌, List, [], ◌∷◌, ◌++◌, length, set, replicate, None, refl, sym, subst, ap, ◌∙◌, inl, inr, arith}
 use Rattle.std.proofs.lemmas.Bool.{cases_eq, eq-eqb}
 use Rattle.lmn_cells.specs.Rows.{Item, blank, number, Row, row, items_in, with_items}
 use Rattle.lmn_cells.specs.Cells.{link_to, cell_items, blank_cell, blank_links, blank_numbers, blank_ports}
+use Rattle.lmn_cells.specs.Fillings.{ports_filled}
 use Rattle.lmn_cells.proofs.CellRows.{items_same, if_yes}
 use Rattle.lmn_base.proofs.Numbers.{not_equal}
 use Rattle.lmn_base.proofs.Truth.{if_no}
@@ -202,9 +203,9 @@ numbers_step old rows rows' b p k d low r = numbers_more old rows rows' b p k d.
 numbers_end : (old rows : List Row) (b p k : ℕ) → k ≡ 8 → NumbersDone old rows b p k → rows ≡ with_items b (blank_links 8 ++ (blank_numbers 8 ++ replicate (p * 3) blank)) old
 numbers_end old rows b p k four d = let e = d.1 in let n : d.0 ≡ p * 3 = omega (arith, e, four) in d.2.are ∙ (λ t. with_items b (blank_links 8 ++ (blank_numbers (four t) ++ replicate (n t) blank)) old)
 
--- at first no port is written
-pub ports_begin : (old : List Row) (b p : ℕ) → items_in old b ≡ blank_links 8 ++ (blank_numbers 8 ++ replicate (p * 3) blank) → PortsDone old old b p 0
-ports_begin old b p e = (p * 3, omega arith, begun old b (blank_links 8 ++ (blank_numbers 8 ++ [])) (p * 3) (omega arith) e)
+-- so many ports are written at first
+pub ports_begin : (old : List Row) (b p j : ℕ) → j < p → items_in old b ≡ ports_filled p j → PortsDone old old b p j
+ports_begin old b p j low e = ((p - j) * 3, omega (arith, low), begun old b (head_ports j) ((p - j) * 3) (omega arith) e)
 
 -- the first word of the next port is one of the row
 pub ports_there : (old rows : List Row) (b p j : ℕ) → PortsDone old rows b p j → j < p → 16 + j * 3 < length (items_in rows b)
@@ -249,7 +250,26 @@ three_more old rows rows' b p j (suc left) e f low r = (left, omega (arith, e), 
 pub third_word : (old rows rows' : List Row) (b p j : ℕ) → TwoDone old rows b p j → j < p → rows' ≡ with_items b (set (items_in rows b) (16 + j * 3 + 2) (number 0)) rows → PortsDone old rows' b p (j + 1)
 third_word old rows rows' b p j d low r = three_more old rows rows' b p j d.0 d.1 d.2 low r
 
-ports_end : (old rows : List Row) (b p j : ℕ) → j ≡ p → PortsDone old rows b p j → rows ≡ with_items b (cell_items (blank_cell p)) old
-ports_end old rows b p j same d =
-    let e = d.1 in let n : d.0 ≡ 0 = omega (arith, e, same) in
-    all_filled old rows b (head_ports p) (subst (λ m. Filled old rows b (head_ports p) m) n (subst (λ m. Filled old rows b (head_ports m) d.0) same d.2))
+-- what is written then
+pub ports_are : (old rows : List Row) (b p j : ℕ) → PortsDone old rows b p j → rows ≡ with_items b (ports_filled p j) old
+ports_are old rows b p j d = let e = d.1 in let n : d.0 ≡ (p - j) * 3 = omega (arith, e) in d.2.are ∙ (λ t. with_items b (head_ports j ++ replicate (n t) blank) old)
+
+-- no port is written
+pub ports_none : (p : ℕ) → blank_links 8 ++ (blank_numbers 8 ++ replicate (p * 3) blank) ≡ ports_filled p 0
+ports_none p = let n : p * 3 ≡ (p - 0) * 3 = omega arith in λ t. blank_links 8 ++ (blank_numbers 8 ++ replicate (n t) blank)
+
+-- all ports are
+pub ports_all : (p j : ℕ) → j ≡ p → ports_filled p j ≡ cell_items (blank_cell p)
+ports_all p j same = let n : (p - j) * 3 ≡ 0 = omega (arith, same) in (λ t. head_ports (same t) ++ replicate (n t) blank) ∙ no_more (head_ports p)
+
+-- one step behind another
+pub then : (old rows rows' : List Row) (b : ℕ) (is js : List Item) → rows ≡ with_items b is old → rows' ≡ with_items b js rows → rows' ≡ with_items b js old
+then old rows rows' b is js e f = f ∙ ap (with_items b js) e ∙ with_twice old b is js
+
+-- the words that were written
+pub written : (old rows : List Row) (b : ℕ) (is : List Item) → 0 < length (items_in old b) → rows ≡ with_items b is old → items_in rows b ≡ is
+written old rows b is there e = ap (λ rs. items_in rs b) e ∙ items_same old b is there
+
+-- there are some
+pub some_words : (old : List Row) (b p j : ℕ) → items_in old b ≡ ports_filled p j → 0 < length (items_in old b)
+some_words old b p j e = subst (λ is. 0 < length is) (sym e) (omega arith)

@@ -1,28 +1,51 @@
-use Rattle.std.proofs.Common.{◌+◌, ◌*◌, ◌∙◌, set, ap, arith}
+use Rattle.std.proofs.Common.{◌≡◌, ◌+◌, ◌<◌, List, length, sym, ap, ◌∙◌}
 use denote.RawPtr.{block_of}
-use Rattle.lmn_cells.specs.Rows.{items_in, with_items, link}
-use Rattle.lmn_cells.proofs.FillLemmas.{ports_begin, ports_there, first_word, second_there, second_word, third_there, third_word}
+use Rattle.lmn_cells.specs.Rows.{Row, items_in, with_items}
+use Rattle.lmn_cells.specs.Cells.{cell_items, blank_cell}
+use Rattle.lmn_cells.specs.Fillings.{ports_filled}
+use Rattle.lmn_cells.proofs.FillLemmas.{with_same, then, written, some_words, ports_none, ports_all}
 use Rattle.lmn_cells.proofs.filling.fill_ports.Goals as goal
 
-pub loop-j-init : goal.loop-j-init
-loop-j-init c = ports_begin c.args.rows.now.rows (block_of c.args.at) c.args.ports c.requires.words
+pub returns-then-ports-eq0 : goal.returns-then-ports-eq0
+returns-then-ports-eq0 c =
+    let old = c.args.rows.now.rows in let b = block_of c.args.at in let p = c.args.ports in
+    sym (with_same old b) ∙ ap (λ is. with_items b is old) (c.requires.words ∙ ports_none p ∙ ports_all p 0 (sym c.if-ports-eq0.true))
 
-pub set_link-requires : goal.set_link-requires
-set_link-requires c =
-    let old = c.args.rows.now.rows in let rows = c.loop-j.rows.rows in let b = block_of c.args.at in let p = c.args.ports in let j = c.loop-j.j in let low = c.loop-j-test.true in let few = c.requires.few in
-    (c.requires.start, omega (arith, low, few), ports_there old rows b p j c.loop-j.invariant low)
+pub fill_port-requires-clause-words : goal.fill_port-requires-clause-words
+fill_port-requires-clause-words c = c.requires.words ∙ ports_none c.args.ports
 
-pub set_number-requires : goal.set_number-requires
-set_number-requires c =
-    let old = c.args.rows.now.rows in let rows = c.loop-j.rows.rows in let b = block_of c.args.at in let p = c.args.ports in let j = c.loop-j.j in let low = c.loop-j-test.true in let few = c.requires.few in
-    (c.requires.start, omega (arith, low, few), second_there old c.set_link.new.self.rows b p j (first_word old rows c.set_link.new.self.rows b p j c.loop-j.invariant low (c.set_link.ensures ∙ ap (λ q. with_items b (set (items_in rows b) (16 + j * 3) (link q)) rows) c.nowhere.ensures)) low)
+pub returns-then-ports-eq1 : goal.returns-then-ports-eq1
+returns-then-ports-eq1 c =
+    let old = c.args.rows.now.rows in let b = block_of c.args.at in let p = c.args.ports in
+    c.fill_port.ensures ∙ ap (λ is. with_items b is old) (ports_all p 1 (sym c.if-ports-eq1.true))
 
-pub set_number-requires-in-loop-j : goal.set_number-requires-in-loop-j
-set_number-requires-in-loop-j c =
-    let old = c.args.rows.now.rows in let rows = c.loop-j.rows.rows in let b = block_of c.args.at in let p = c.args.ports in let j = c.loop-j.j in let low = c.loop-j-test.true in let few = c.requires.few in
-    (c.requires.start, omega (arith, low, few), third_there old c.set_number.new.self.rows b p j (second_word old c.set_link.new.self.rows c.set_number.new.self.rows b p j (first_word old rows c.set_link.new.self.rows b p j c.loop-j.invariant low (c.set_link.ensures ∙ ap (λ q. with_items b (set (items_in rows b) (16 + j * 3) (link q)) rows) c.nowhere.ensures)) low c.set_number.ensures) low)
+pub fill_port-requires-2-clause-words : goal.fill_port-requires-2-clause-words
+fill_port-requires-2-clause-words c =
+    let old = c.args.rows.now.rows in let b = block_of c.args.at in let p = c.args.ports in
+    written old c.fill_port.new.rows.rows b (ports_filled p 1) (some_words old b p 0 (c.requires.words ∙ ports_none p)) c.fill_port.ensures
 
-pub loop-j-preserved : goal.loop-j-preserved
-loop-j-preserved c =
-    let old = c.args.rows.now.rows in let rows = c.loop-j.rows.rows in let b = block_of c.args.at in let p = c.args.ports in let j = c.loop-j.j in let low = c.loop-j-test.true in let few = c.requires.few in
-    third_word old c.set_number.new.self.rows c.set_number-in-loop-j.new.self.rows b p j (second_word old c.set_link.new.self.rows c.set_number.new.self.rows b p j (first_word old rows c.set_link.new.self.rows b p j c.loop-j.invariant low (c.set_link.ensures ∙ ap (λ q. with_items b (set (items_in rows b) (16 + j * 3) (link q)) rows) c.nowhere.ensures)) low c.set_number.ensures) low c.set_number-in-loop-j.ensures
+pub returns-then-ports-eq2 : goal.returns-then-ports-eq2
+returns-then-ports-eq2 c =
+    let old = c.args.rows.now.rows in let b = block_of c.args.at in let p = c.args.ports in
+    then old c.fill_port.new.rows.rows c.fill_port-2.new.rows.rows b (ports_filled p 1) (ports_filled p 2) c.fill_port.ensures c.fill_port-2.ensures
+    ∙ ap (λ is. with_items b is old) (ports_all p 2 (sym c.if-ports-eq2.true))
+
+pub fill_port-requires-3-clause-words : goal.fill_port-requires-3-clause-words
+fill_port-requires-3-clause-words c =
+    let old = c.args.rows.now.rows in let b = block_of c.args.at in let p = c.args.ports in
+    written old c.fill_port-2.new.rows.rows b (ports_filled p 2) (some_words old b p 0 (c.requires.words ∙ ports_none p))
+    (then old c.fill_port.new.rows.rows c.fill_port-2.new.rows.rows b (ports_filled p 1) (ports_filled p 2) c.fill_port.ensures c.fill_port-2.ensures)
+
+pub fill_from-requires-clause-words : goal.fill_from-requires-clause-words
+fill_from-requires-clause-words c =
+    let old = c.args.rows.now.rows in let b = block_of c.args.at in let p = c.args.ports in
+    let two = then old c.fill_port.new.rows.rows c.fill_port-2.new.rows.rows b (ports_filled p 1) (ports_filled p 2) c.fill_port.ensures c.fill_port-2.ensures in
+    written old c.fill_port-3.new.rows.rows b (ports_filled p 3) (some_words old b p 0 (c.requires.words ∙ ports_none p))
+    (then old c.fill_port-2.new.rows.rows c.fill_port-3.new.rows.rows b (ports_filled p 2) (ports_filled p 3) two c.fill_port-3.ensures)
+
+pub returns : goal.returns
+returns c =
+    let old = c.args.rows.now.rows in let b = block_of c.args.at in let p = c.args.ports in
+    let two = then old c.fill_port.new.rows.rows c.fill_port-2.new.rows.rows b (ports_filled p 1) (ports_filled p 2) c.fill_port.ensures c.fill_port-2.ensures in
+    let three = then old c.fill_port-2.new.rows.rows c.fill_port-3.new.rows.rows b (ports_filled p 2) (ports_filled p 3) two c.fill_port-3.ensures in
+    then old c.fill_port-3.new.rows.rows c.fill_from.new.rows.rows b (ports_filled p 3) (cell_items (blank_cell p)) three c.fill_from.ensures
