@@ -13,18 +13,12 @@ use Rattle.lmn_cells.specs.Runs.{HOME, link_in}
 use Rattle.lmn_web.specs.declared.kind.CellKind.{CellKind}
 use Rattle.lmn_web.specs.Kinds.{kind_by}
 use Rattle.lmn_web.specs.Webs.{web_cell, web_with, web_of, list_in, list_link, count_number, number_in, label_by, IsLoose, INDEX, ARITY, KIND, HIGH, LOW, OWN}
-use Rattle.lmn_web.specs.Indexes.{reindexed, IsListed, IsWeb, IsClassed}
+use Rattle.lmn_web.specs.Indexes.{reindexed, unindexed, IsListed, IsWeb, IsClassed, IsTable, Swapped}
 use Rattle.lmn_web.specs.Classes.{LEADERS}
 use Rattle.lmn_web.proofs.ListedLemmas.{Listing, listing, lists_same, listed_self, listed_beside, web_self, home_same, list_same}
-use Rattle.lmn_web.proofs.WebLemmas.{some_back, partner_same}
+use Rattle.lmn_web.proofs.WebLemmas.{some_back, partner_same, set_twice}
 use Rattle.lmn_web.proofs.RelistLemmas.{in_none}
 use Rattle.lmn_web.proofs.Filing.{classed_self, classed_beside, classed_links}
-
--- the last element of a list takes the place of one that goes
-pub record Swapped (all rest : List ℕ) (i : ℕ) : Type 0 where
-  pub shorter : length rest + 1 ≡ length all
-  pub taken : i + 1 < length all → slice_get rest i ≡ slice_get all (length all - 1)
-  pub others : (k : ℕ) → k ≢ i → k + 1 < length all → slice_get rest k ≡ slice_get all k
 
 -- as the call on a vector says it
 pub swapped_by : {X : Type 0} (id : X → ℕ) (old new : List X) (i len : ℕ) (x : X) → len ≡ length old → length new + 1 ≡ len → ((d : X) → i + 1 < len → get_or new i d ≡ get_or old (len - 1) d)
@@ -39,6 +33,10 @@ swapped_by {X} id old new i len x same less taken others = record {
   where
     at : (ys : List X) (k : ℕ) → k < length ys → slice_get (map id ys) k ≡ Some (id (get_or ys k x))
     at ys k l = slice_get-map id ys k ∙ ap (option_map id) (slice_get-get_or ys k x l)
+
+-- the table of a web
+pub web_table : (f : ℕ → Option HeldCell) (all : List ℕ) → IsWeb f all → IsTable f all
+web_table f all w = record { indexed = w.indexed; arity = w.arity; numbers = w.numbers }
 
 -- what of a cell its index leaves
 pub record Kept : Type 0 where
@@ -75,7 +73,7 @@ web_by_index i lists (Some c) =
       marks = map (λ (p : HeldPort). p.mark) c.ports ++ far OWN (omega arith) t ∷ [];
     }
 
-module _ (f : ℕ → Option HeldCell) (all : List ℕ) (w : IsWeb f all) (a : ℕ) (there : IsSome (f a)) (rest : List ℕ) (i : ℕ) (at : i ≡ number_in f a INDEX) (swapped : Swapped all rest i) (moved : Option ℕ) (is : slice_get rest i ≡ moved) where
+module _ (f : ℕ → Option HeldCell) (all : List ℕ) (w : IsTable f all) (a : ℕ) (there : IsSome (f a)) (rest : List ℕ) (i : ℕ) (at : i ≡ number_in f a INDEX) (swapped : Swapped all rest i) (moved : Option ℕ) (is : slice_get rest i ≡ moved) where
   a_at : slice_get all i ≡ Some a
   a_at = (w.indexed a i).1 (there, sym at)
 
@@ -183,7 +181,35 @@ module _ (f : ℕ → Option HeldCell) (all : List ℕ) (w : IsWeb f all) (a : �
         ])
   ]
 
-  module _ (alone : (k : ℕ) → partner_in f a k ≡ None) (homeless : link_in f a HOME ≡ None) (empty : (k : CellKind) → list_in f a k ≡ []) where
+  -- the table is one of what is left
+  pub freed_table : IsTable H rest
+  freed_table = record {
+    indexed = λ b j. (
+      λ e. let x = goes b j e in (subst (λ (o : Option HeldCell). IsSome o) (sym (h_away b x.0)) x.1, ap (λ (o : Option HeldCell). get_or (numbers_of o) INDEX 0) (h_away b x.0) ∙ x.2),
+      λ e. each (λ m o. IsSome o → get_or (numbers_of o) INDEX 0 ≡ j → slice_get rest j ≡ Some m) (λ t. absurd cc) (λ m d t n. comes m j d t n) b e.0 e.1,
+    );
+    arity = each (λ m o. IsSome o → get_or (numbers_of o) ARITY 0 ≡ length (ports_of o)) (λ t. absurd cc)
+        (λ m d t. ap (λ (k : Kept). k.arity) (kept_all m) ∙ w.arity m (sym (there_all m) ∙ t) ∙ sym (ap (λ (k : Kept). length k.ports) (kept_all m)));
+    numbers = each (λ m o. IsSome o → length (numbers_of o) ≡ 8) (λ t. absurd cc) (λ m d t. ap (λ (k : Kept). k.numbers) (kept_all m) ∙ w.numbers m (sym (there_all m) ∙ t));
+  }
+
+  -- the cell is gone
+  pub freed_gone : H a ≡ None
+  freed_gone = h_at
+
+  -- and of all others the index alone may be another
+  pub freed_others : (b : ℕ) → b ≢ a → unindexed (H b) ≡ unindexed (f b)
+  freed_others b d = ap unindexed (h_away b d) ∙ by moved
+    where
+      twice : (o : Option HeldCell) → unindexed (option_map (with_number INDEX i) o) ≡ unindexed o
+      twice None = refl
+      twice (Some c) = ap (λ ns. Some record c { numbers = ns }) (set_twice c.numbers INDEX i 0)
+
+      by : (o : Option ℕ) → unindexed (reindexed f i o b) ≡ unindexed (f b)
+      by None = refl
+      by (Some q) = alter_keeps f q (option_map (with_number INDEX i)) unindexed twice b
+
+  module _ (W : IsWeb f all) (alone : (k : ℕ) → partner_in f a k ≡ None) (homeless : link_in f a HOME ≡ None) (empty : (k : CellKind) → list_in f a k ≡ []) where
     partner_g : (b k : ℕ) → partner_in G b k ≡ partner_in f b k
     partner_g b k = ap (λ (u : Kept). partner_by (get_or u.ports k record { to = None; port = 0; mark = 0 })) (kept_all b)
 
@@ -192,29 +218,25 @@ module _ (f : ℕ → Option HeldCell) (all : List ℕ) (w : IsWeb f all) (a : �
 
     -- the other end is no port of the cell that goes
     other_end : (b k c j : ℕ) → partner_in f b k ≡ Some (c, j) → c ≢ a
-    other_end b k c j e s = let z : ◌≡◌ {A = Option (ℕ × ℕ)} None (Some (b, k)) = sym (alone j) ∙ ap (λ u. partner_in f u j) (sym s) ∙ w.paired.back b k c j e in absurd cc
+    other_end b k c j e s = let z : ◌≡◌ {A = Option (ℕ × ℕ)} None (Some (b, k)) = sym (alone j) ∙ ap (λ u. partner_in f u j) (sym s) ∙ W.paired.back b k c j e in absurd cc
 
     h_lists : IsListed H (list_in f)
-    h_lists = listed_beside G H a (list_in f) (lists_same f G (λ b. ap (λ (k : Kept). k.listing) (kept_all b)) (list_in f) w.listed) h_away (λ m k j. in_none f (list_in f) w.listed a homeless m k j) empty
+    h_lists = listed_beside G H a (list_in f) (lists_same f G (λ b. ap (λ (k : Kept). k.listing) (kept_all b)) (list_in f) W.listed) h_away (λ m k j. in_none f (list_in f) W.listed a homeless m k j) empty
         (λ k. (ap (λ (o : Option HeldCell). get_or (links_of o) (list_link k) None) h_at, ap (λ (o : Option HeldCell). get_or (links_of o) (list_link k + 1) None) h_at))
         (λ k. ap (λ (o : Option HeldCell). get_or (numbers_of o) (count_number k) 0) h_at) (ap (λ (o : Option HeldCell). get_or (links_of o) HOME None) h_at)
 
     -- the others are a web
     pub freed_web : IsWeb H rest
     freed_web = record {
-      indexed = λ b j. (
-        λ e. let x = goes b j e in (subst (λ (o : Option HeldCell). IsSome o) (sym (h_away b x.0)) x.1, ap (λ (o : Option HeldCell). get_or (numbers_of o) INDEX 0) (h_away b x.0) ∙ x.2),
-        λ e. each (λ m o. IsSome o → get_or (numbers_of o) INDEX 0 ≡ j → slice_get rest j ≡ Some m) (λ t. absurd cc) (λ m d t n. comes m j d t n) b e.0 e.1,
-      );
-      arity = each (λ m o. IsSome o → get_or (numbers_of o) ARITY 0 ≡ length (ports_of o)) (λ t. absurd cc)
-          (λ m d t. ap (λ (k : Kept). k.arity) (kept_all m) ∙ w.arity m (sym (there_all m) ∙ t) ∙ sym (ap (λ (k : Kept). length k.ports) (kept_all m)));
-      few = each (λ m o. length (ports_of o) < 256) (omega arith) (λ m d. subst (λ n. n < 256) (sym (ap (λ (k : Kept). length k.ports) (kept_all m))) (w.few m));
-      numbers = each (λ m o. IsSome o → length (numbers_of o) ≡ 8) (λ t. absurd cc) (λ m d t. ap (λ (k : Kept). k.numbers) (kept_all m) ∙ w.numbers m (sym (there_all m) ∙ t));
+      indexed = freed_table.indexed;
+      arity = freed_table.arity;
+      few = each (λ m o. length (ports_of o) < 256) (omega arith) (λ m d. subst (λ n. n < 256) (sym (ap (λ (k : Kept). length k.ports) (kept_all m))) (W.few m));
+      numbers = freed_table.numbers;
       reaches = λ b k c j e. let p = (partner_h b k c j e).1 in
-          subst (λ (o : Option HeldCell). j < length (ports_of o)) (sym (h_away c (other_end b k c j p))) (subst (λ n. j < n) (sym (ap (λ (u : Kept). length u.ports) (kept_all c))) (w.reaches b k c j p));
+          subst (λ (o : Option HeldCell). j < length (ports_of o)) (sym (h_away c (other_end b k c j p))) (subst (λ n. j < n) (sym (ap (λ (u : Kept). length u.ports) (kept_all c))) (W.reaches b k c j p));
       paired = record {
-        back = λ b k c j e. let p = (partner_h b k c j e).1 in ap (λ (o : Option HeldCell). partner_by (port_of o j)) (h_away c (other_end b k c j p)) ∙ partner_g c j ∙ w.paired.back b k c j p;
-        apart = λ b k e. w.paired.apart b k (partner_h b k b k e).1;
+        back = λ b k c j e. let p = (partner_h b k c j e).1 in ap (λ (o : Option HeldCell). partner_by (port_of o j)) (h_away c (other_end b k c j p)) ∙ partner_g c j ∙ W.paired.back b k c j p;
+        apart = λ b k e. W.paired.apart b k (partner_h b k b k e).1;
       };
       listed = listed_self H (list_in f) h_lists;
     }
@@ -222,7 +244,7 @@ module _ (f : ℕ → Option HeldCell) (all : List ℕ) (w : IsWeb f all) (a : �
     -- with the classes that they had
     pub freed_classed : IsClassed f (list_in f) → IsClassed H (list_in H)
     freed_classed c = classed_self H (list_in f) h_lists
-        (classed_beside G H a (list_in f) h_away (λ m k j. in_none f (list_in f) w.listed a homeless m k j) empty (ap (λ (o : Option HeldCell). get_or (links_of o) LEADERS None) h_at) (subst (λ (o : Option HeldCell). get_or (numbers_of o) LOW 0 < 2 ^ 64) (sym h_at) (omega arith))
+        (classed_beside G H a (list_in f) h_away (λ m k j. in_none f (list_in f) W.listed a homeless m k j) empty (ap (λ (o : Option HeldCell). get_or (links_of o) LEADERS None) h_at) (subst (λ (o : Option HeldCell). get_or (numbers_of o) LOW 0 < 2 ^ 64) (sym h_at) (omega arith))
         (classed_links f G (list_in f) (λ b k. ap (λ (u : Kept). get_or u.listing.links k None) (kept_all b)) (λ b t. ((kept_all b t).high, (kept_all b t).arity)) (λ b. ap (λ (u : Kept). u.low) (kept_all b))
         (λ b. ap (λ (u : Kept). u.listing.kind) (kept_all b)) (λ b t. there_all b ∙ t) c))
 

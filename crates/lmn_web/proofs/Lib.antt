@@ -2,6 +2,7 @@ pub mod ListedLemmas
 pub mod WebLemmas
 pub mod RelistLemmas
 pub mod FreeLemmas
+pub mod EmptyLemmas
 pub mod SeekLemmas
 pub mod ClassLemmas
 pub mod Reclassing

@@ -23,7 +23,8 @@ use Rattle.lmn_base.proofs.Lists.{get_end}
 
 -- Lists
 
-set_twice : {X : Type 0} (xs : List X) (i : ℕ) (u v : X) → set (set xs i u) i v ≡ set xs i v
+-- an element is another, and then another
+pub set_twice : {X : Type 0} (xs : List X) (i : ℕ) (u v : X) → set (set xs i u) i v ≡ set xs i v
 set_twice [] i u v = refl
 set_twice (x ∷ xs) zero u v = refl
 set_twice (x ∷ xs) (suc i) u v = ap (λ ys. x ∷ ys) (set_twice xs i u v)
@@ -364,6 +365,21 @@ pub five_steps : (f one two three four five : ℕ → Option HeldCell) (a : ℕ)
 five_steps f one two three four five a p q r s t e1 e2 e3 e4 e5 =
     e5 ∙ ap (λ (g : ℕ → Option HeldCell). alter g a (option_map t)) (e4 ∙ ap (λ (g : ℕ → Option HeldCell). alter g a (option_map s)) (e3 ∙ ap (λ (g : ℕ → Option HeldCell). alter g a (option_map r))
     (e2 ∙ ap (λ (g : ℕ → Option HeldCell). alter g a (option_map q)) e1 ∙ alter_twice f a p q) ∙ alter_twice f a (λ c. q (p c)) r) ∙ alter_twice f a (λ c. r (q (p c))) s) ∙ alter_twice f a (λ c. s (r (q (p c)))) t
+
+-- four changes of one cell
+pub four_steps : (f one two three four : ℕ → Option HeldCell) (a : ℕ) (p q r s : HeldCell → HeldCell)
+    → one ≡ alter f a (option_map p) → two ≡ alter one a (option_map q) → three ≡ alter two a (option_map r) → four ≡ alter three a (option_map s) → four ≡ alter f a (option_map (λ c. s (r (q (p c)))))
+four_steps f one two three four a p q r s e1 e2 e3 e4 =
+    e4 ∙ ap (λ (g : ℕ → Option HeldCell). alter g a (option_map s)) (e3 ∙ ap (λ (g : ℕ → Option HeldCell). alter g a (option_map r)) (e2 ∙ ap (λ (g : ℕ → Option HeldCell). alter g a (option_map q)) e1 ∙ alter_twice f a p q) ∙ alter_twice f a (λ c. q (p c)) r)
+    ∙ alter_twice f a (λ c. r (q (p c))) s
+
+-- a cell that changes stays there
+pub stays_some : (f g : ℕ → Option HeldCell) (a : ℕ) (p : HeldCell → HeldCell) → g ≡ alter f a (option_map p) → IsSome (f a) → IsSome (g a)
+stays_some f g a p e there = subst (λ (h : ℕ → Option HeldCell). IsSome (h a)) (sym e) (subst (λ (o : Option HeldCell). IsSome o) (sym (alter_at f a (option_map p))) (by (f a) there))
+  where
+    by : (o : Option HeldCell) → IsSome o → IsSome (option_map p o)
+    by None t = absurd cc
+    by (Some c) t = refl
 
 -- a cell that is there stays there
 pub still_some : (f g : ℕ → Option HeldCell) (a k n : ℕ) → g ≡ alter f a (option_map (with_number k n)) → IsSome (f a) → IsSome (g a)

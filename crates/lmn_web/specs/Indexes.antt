@@ -1,15 +1,15 @@
 -- Words of the invariant of a web, and of private functions: how its cells are listed and indexed.
-use Rattle.std.specs.Prelude.{◌≡◌, ◌↔◌, true, ℕ, ◌<◌, ◌^◌, List, [], length, Option, Some, None, IsSome, slice_get}
+use Rattle.std.specs.Prelude.{◌≡◌, ◌≢◌, ◌↔◌, true, ℕ, ◌+◌, ◌-◌, ◌<◌, ◌^◌, List, [], ◌∷◌, length, Option, Some, None, IsSome, slice_get}
 use Rattle.std.specs.Option.{option_map}
 use Rattle.lmn_base.specs.Lists.{In}
 use Rattle.lmn_heap.specs.Heap.{alter}
-use Rattle.lmn_cells.specs.Cells.{HeldCell, numbers_of, ports_of, with_number}
+use Rattle.lmn_cells.specs.Cells.{HeldCell, numbers_of, ports_of, with_link, with_number}
 use Rattle.lmn_cells.specs.Ports.{Reaches, Paired}
-use Rattle.lmn_cells.specs.Runs.{HOME, link_in, Line}
+use Rattle.lmn_cells.specs.Runs.{HOME, NEXT, link_in, Line}
 use Rattle.lmn_web.specs.declared.kind.CellKind.{CellKind}
 use Rattle.lmn_web.specs.declared.kind.CellKind.TheVariants.{Atom}
 use Rattle.lmn_web.specs.Kinds.{kind_by}
-use Rattle.lmn_web.specs.Classes.{files, AreClassed}
+use Rattle.lmn_web.specs.Classes.{LEADERS, files, AreClassed}
 use Rattle.lmn_web.specs.Webs.{INDEX, ARITY, KIND, HIGH, LOW, number_in, count_number, list_link, list_in}
 
 -- a cell with these numbers
@@ -57,3 +57,33 @@ pub record IsClassedWeb (f : ℕ → Option HeldCell) (all : List ℕ) : Type 0 
 pub record IsIndexed (f : ℕ → Option HeldCell) (all : List ℕ) : Type 0 where
   pub indexed : (b i : ℕ) → (slice_get all i ≡ Some b) ↔ (IsSome (f b) × (number_in f b INDEX ≡ i))
   pub arity : (b : ℕ) → IsSome (f b) → number_in f b ARITY ≡ length (ports_of (f b))
+
+-- The table has each cell at its index. A cell tells how many ports it has, and has all its numbers.
+pub record IsTable (f : ℕ → Option HeldCell) (all : List ℕ) : Type 0 where
+  pub indexed : (b i : ℕ) → (slice_get all i ≡ Some b) ↔ (IsSome (f b) × (number_in f b INDEX ≡ i))
+  pub arity : (b : ℕ) → IsSome (f b) → number_in f b ARITY ≡ length (ports_of (f b))
+  pub numbers : (b : ℕ) → IsSome (f b) → length (numbers_of (f b)) ≡ 8
+
+-- the last element of a list takes the place of one that goes
+pub record Swapped (all rest : List ℕ) (i : ℕ) : Type 0 where
+  pub shorter : length rest + 1 ≡ length all
+  pub taken : i + 1 < length all → slice_get rest i ≡ slice_get all (length all - 1)
+  pub others : (k : ℕ) → k ≢ i → k + 1 < length all → slice_get rest k ≡ slice_get all k
+
+-- these cells, each linked to the next one of its list
+abbrev pub AreLinked : (ℕ → Option HeldCell) → Option ℕ → List ℕ → Type 0
+AreLinked f first [] = first ≡ None
+AreLinked f first (x ∷ xs) = (first ≡ Some x) × IsSome (f x) × AreLinked f (link_in f x NEXT) xs
+
+-- a cell but for its index
+abbrev pub unindexed : Option HeldCell → Option HeldCell
+unindexed o = option_map (with_number INDEX 0) o
+
+-- g is f without the cells of a list, and others may have another index
+pub record Without (f g : ℕ → Option HeldCell) (xs : List ℕ) : Type 0 where
+  pub gone : (b : ℕ) → In b xs → g b ≡ None
+  pub others : (b : ℕ) → (In b xs → ⊥) → unindexed (g b) ≡ unindexed (f b)
+
+-- a membrane with no atom
+abbrev pub bare_atoms : HeldCell → HeldCell
+bare_atoms c = with_number (count_number Atom) 0 (with_link LEADERS None (with_link (list_link Atom + 1) None (with_link (list_link Atom) None c)))

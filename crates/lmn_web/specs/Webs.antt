@@ -161,6 +161,12 @@ added_before w m a x = relisted w m x (Some m) (put_before x a (cells_in w m (ki
 abbrev pub unlinked : (ℕ → Option WebCell) → ℕ → ℕ → ℕ → Option WebCell
 unlinked w m x = relisted w m x None (without x (cells_in w m (kind_at w x)))
 
+-- v is w without the atoms of m
+pub record WithoutAtoms (w v : ℕ → Option WebCell) (m : ℕ) : Type 0 where
+  pub gone : (a : ℕ) → In a (cells_in w m Atom) → v a ≡ None
+  pub others : (b : ℕ) → (In b (cells_in w m Atom) → ⊥) → b ≢ m → v b ≡ w b
+  pub home : v m ≡ option_map (with_list Atom []) (w m)
+
 -- How cells stand for that
 
 -- the places of the numbers of a cell

@@ -38,8 +38,8 @@ const PEER: usize = 5;
 
 const CLASS_LAST: usize = 6;
 
-// The link of a membrane to the first atom of a class.
-const LEADERS: usize = 7;
+/// The link of a membrane to the first atom of a class.
+pub const LEADERS: usize = 7;
 
 // The first atom of a class in a membrane, and the first one of the class before it in the chain.
 #[derive(Clone, Copy)]

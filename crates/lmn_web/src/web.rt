@@ -1,18 +1,18 @@
 //! The calls of a web.
-ghost use Rattle.std.specs.Prelude.{◌≡◌, ◌≢◌, ◌==◌, ℕ, ◌+◌, ◌^◌, ◌<◌, ◌≤◌, IfSome, IsSome, None, Some, MatchResult, length, map, slice_get, slice_index_or};
+ghost use Rattle.std.specs.Prelude.{◌≡◌, ◌≢◌, ◌==◌, ℕ, ◌+◌, ◌^◌, ◌<◌, ◌≤◌, IfSome, IsSome, List, None, Some, MatchResult, length, map, slice_get, slice_index_or};
 ghost use Rattle.std.specs.Option.{option_map};
 ghost use Rattle.lmn_base.specs.Lists.{In};
 ghost use Rattle.lmn_heap.specs.Heap.{alter};
-ghost use Rattle.lmn_heap.specs.Lists.{after, from};
+ghost use Rattle.lmn_heap.specs.Lists.{Distinct, after, from};
 ghost use Rattle.lmn_cells.specs.Cells.{cells_by};
 ghost use Rattle.lmn_cells.specs.CellIds.{cell_id, port_id};
 ghost use Rattle.lmn_cells.specs.Ports.{IsSamePort};
-ghost use Rattle.lmn_web.specs.Webs.{web_by, partner_at, arity_at, kind_at, home_at, cells_in, partners_of, marks_of, new_cell, with_mark, joined, parted, added_last, added_before, unlinked, web_label, is_labelled, with_label, label_class, with_class, IsPaired, IsLoose, StandOnce};
+ghost use Rattle.lmn_web.specs.Webs.{web_by, partner_at, arity_at, kind_at, home_at, cells_in, number_in, partners_of, marks_of, new_cell, with_mark, joined, parted, added_last, added_before, unlinked, web_label, is_labelled, with_label, label_class, with_class, IsPaired, IsLoose, StandOnce, WithoutAtoms};
 ghost use Rattle.lmn_web.specs.Kinds.{kind_by};
-ghost use Rattle.lmn_web.specs.Indexes.{described, reindexed, IsIndexed};
+ghost use Rattle.lmn_web.specs.Indexes.{described, reindexed, bare_atoms, AreLinked, IsIndexed, IsTable, Swapped, Without};
 ghost use Rattle.lmn_web.specs.declared.kind.CellKind.TheVariants.{Atom, Membrane};
 
-use crate::classes::{enter_class, first_in, is_filed, leave_class, next_in, place_from};
+use crate::classes::{LEADERS, enter_class, first_in, is_filed, leave_class, next_in, place_from};
 use crate::kind::{CellKind, UNFILED, count_place, first_link, kind_of, number_of};
 use lmn_cells::cell::Cells;
 use lmn_cells::handle::Cell;
@@ -122,11 +122,19 @@ impl Web {
         requires { IsLoose (web_by self.old) (cell_id c) }
         ensures { web_by self.new ≡ alter (web_by self.old) (cell_id c) (λ _. None) }
     {
-        let index = self.cells.number(c, INDEX) as usize;
-        let ports = self.cells.number(c, ARITY) as usize;
-        self.all.swap_remove(index);
-        reindex(&mut self.cells, self.all.as_slice(), index);
-        self.cells.free(c, ports);
+        release(&mut self.cells, &mut self.all, c);
+    }
+
+    /// The atoms of a membrane are freed, where each is joined to nothing but others of them.
+    #[inline(always)]
+    pub fn free_atoms(&mut self, home: Cell)
+        requires membrane { kind_at (web_by self.old) (cell_id home) ≡ Membrane }
+        requires closed { (a i b j : ℕ) → In a (cells_in (web_by self.old) (cell_id home) Atom) → partner_at (web_by self.old) a i ≡ Some (b, j) → In b (cells_in (web_by self.old) (cell_id home) Atom) }
+        ensures { WithoutAtoms (web_by self.old) (web_by self.new) (cell_id home) }
+    {
+        let first = self.cells.link(home, first_link(CellKind::Atom));
+        release_all(&mut self.cells, &mut self.all, first);
+        forget_atoms(&mut self.cells, home);
     }
 
     /// The label that the cell was made with.
@@ -423,6 +431,48 @@ fn reindex(cells: &mut Cells, all: &[Cell], index: usize)
     if let Some(&moved) = all.get(index) {
         cells.set_number(moved, INDEX, index as u64);
     }
+}
+
+// The cell leaves the table, and is freed.
+fn release(cells: &mut Cells, all: &mut Vec<Cell>, c: Cell)
+    requires table { IsTable (cells_by cells.old) (map cell_id all.old.items) }
+    requires there { IsSome (cells_by cells.old (cell_id c)) }
+    ensures cells { let i = number_in (cells_by cells.old) (cell_id c) 0 in
+        cells_by cells.new ≡ alter (reindexed (cells_by cells.old) i (slice_get (map cell_id all.new.items) i)) (cell_id c) (λ _. None) }
+    ensures table { Swapped (map cell_id all.old.items) (map cell_id all.new.items) (number_in (cells_by cells.old) (cell_id c) 0) }
+{
+    let index = cells.number(c, INDEX) as usize;
+    let ports = cells.number(c, ARITY) as usize;
+    all.swap_remove(index);
+    reindex(cells, all.as_slice(), index);
+    cells.free(c, ports);
+}
+
+// The cells of a list from one on are freed, and nothing else is written.
+fn release_all(cells: &mut Cells, all: &mut Vec<Cell>, first: Option<Cell>)
+    requires table { IsTable (cells_by cells.old) (map cell_id all.old.items) }
+    requires linked { (xs : List ℕ) × AreLinked (cells_by cells.old) (option_map cell_id first) xs × Distinct xs }
+    ensures table { IsTable (cells_by cells.new) (map cell_id all.new.items) }
+    ensures freed { (xs : List ℕ) → AreLinked (cells_by cells.old) (option_map cell_id first) xs → Distinct xs → Without (cells_by cells.old) (cells_by cells.new) xs }
+{
+    let mut at = first;
+    while let Some(c) = at {
+        let next = cells.link(c, NEXT);
+        release(cells, all, c);
+        at = next;
+    }
+}
+
+// The list of the atoms of a membrane has no cell, nor has a class.
+fn forget_atoms(cells: &mut Cells, m: Cell)
+    requires { IsSome (cells_by cells.old (cell_id m)) }
+    ensures { cells_by cells.new ≡ alter (cells_by cells.old) (cell_id m) (option_map bare_atoms) }
+{
+    let first = first_link(CellKind::Atom);
+    cells.set_link(m, first, None);
+    cells.set_link(m, first + 1, None);
+    cells.set_link(m, LEADERS, None);
+    cells.set_number(m, count_place(CellKind::Atom), 0);
 }
 
 // Every cell is freed.

@@ -1,0 +1,29 @@
+use Rattle.std.proofs.Common.{◌≡◌, ◌+◌, ℕ, Option, None, IsSome, ◌∙◌}
+use Rattle.std.specs.Option.{option_map}
+use Rattle.lmn_heap.specs.Heap.{alter}
+use Rattle.lmn_cells.specs.Cells.{HeldCell, cells_by, with_link, with_number}
+use Rattle.lmn_cells.specs.CellIds.{cell_id}
+use Rattle.lmn_web.specs.Classes.{LEADERS}
+use Rattle.lmn_web.proofs.WebLemmas.{four_steps, stays_some}
+use Rattle.lmn_web.proofs.web.forget_atoms.Goals as goal
+
+pub set_link-requires-2-clause-there : goal.set_link-requires-2-clause-there
+set_link-requires-2-clause-there c = stays_some _ _ (cell_id c.args.m) (with_link c.first_link-first.result None) c.set_link.ensures c.requires
+
+pub set_link-requires-3-clause-there : goal.set_link-requires-3-clause-there
+set_link-requires-3-clause-there c =
+    stays_some _ _ (cell_id c.args.m) (with_link (c.first_link-first.result + 1) None) c.set_link-2.ensures (stays_some _ _ (cell_id c.args.m) (with_link c.first_link-first.result None) c.set_link.ensures c.requires)
+
+pub set_number-requires-clause-there : goal.set_number-requires-clause-there
+set_number-requires-clause-there c =
+    stays_some _ _ (cell_id c.args.m) (with_link LEADERS None) c.set_link-3.ensures
+    (stays_some _ _ (cell_id c.args.m) (with_link (c.first_link-first.result + 1) None) c.set_link-2.ensures (stays_some _ _ (cell_id c.args.m) (with_link c.first_link-first.result None) c.set_link.ensures c.requires))
+
+pub returns : goal.returns
+returns c =
+    let f = cells_by c.args.cells.now in let m = cell_id c.args.m in
+    four_steps f (cells_by c.set_link.new.self) (cells_by c.set_link-2.new.self) (cells_by c.set_link-3.new.self) (cells_by c.set_number.new.self) m (with_link 3 None) (with_link 4 None) (with_link LEADERS None) (with_number 6 0)
+    (c.set_link.ensures ∙ (λ t. alter f m (option_map (with_link (c.first_link-first.ensures t) None))))
+    (c.set_link-2.ensures ∙ (λ t. alter (cells_by c.set_link.new.self) m (option_map (with_link (c.first_link-first.ensures t + 1) None))))
+    c.set_link-3.ensures
+    (c.set_number.ensures ∙ (λ t. alter (cells_by c.set_link-3.new.self) m (option_map (with_number (c.count_place.ensures t) 0))))
