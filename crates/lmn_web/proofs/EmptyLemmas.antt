@@ -1,5 +1,5 @@
 -- The atoms of a membrane are freed, all at once: what is left is a web.
-use Rattle.std.proofs.Common.{◌≡◌, ◌≢◌, ◌⊎◌, ◌↔◌, ℕ, zero, suc, ◌+◌, ◌==◌, ◌<◌, ◌^◌, Bool, true, List, [], ◌∷◌, ◌++◌, length, map, get_or, set, Option, Some, None, IsSome, is_some, slice_get, refl, sym, ap, subst, ◌∙◌, inl, inr, arith, length-set, get_or-set_same, get_or-set_other}
+use Rattle.std.proofs.Common.{◌≡◌, ◌≢◌, ◌↔◌, ℕ, zero, suc, ◌+◌, ◌==◌, ◌<◌, ◌^◌, true, List, [], ◌∷◌, ◌++◌, length, map, get_or, set, Option, Some, None, IsSome, is_some, slice_get, refl, sym, ap, subst, ◌∙◌, inl, inr, arith, length-set, get_or-set_other}
 use Rattle.std.proofs.lemmas.Bool.{cases_eq}
 use Rattle.std.specs.Option.{option_map}
 use Rattle.lmn_base.specs.Lists.{In}
@@ -8,7 +8,7 @@ use Rattle.lmn_heap.specs.Lists.{Distinct}
 use Rattle.lmn_heap.proofs.Common.{decide_in}
 use Rattle.lmn_heap.proofs.ListLemmas.{each_in, each_of}
 use Rattle.lmn_heap.proofs.Listing.{alter_at, alter_away, alter_keeps}
-use Rattle.lmn_cells.specs.Cells.{HeldPort, HeldCell, links_of, numbers_of, ports_of, port_of, with_number}
+use Rattle.lmn_cells.specs.Cells.{HeldPort, HeldCell, links_of, numbers_of, ports_of, port_of}
 use Rattle.lmn_cells.specs.Ports.{partner_by, partner_in}
 use Rattle.lmn_cells.specs.Runs.{RunsThrough, HOME, NEXT, PREV, node_in, link_in, Line}
 use Rattle.lmn_cells.proofs.RunLemmas.{frame}
@@ -76,9 +76,11 @@ linked_none f (y ∷ ys) l = absurd (let e : ◌≡◌ {A = Option ℕ} None (So
 pub linked_kept : (f g : ℕ → Option HeldCell) (first : Option ℕ) (xs : List ℕ) → ((b : ℕ) → In b xs → unindexed (g b) ≡ unindexed (f b)) → AreLinked f first xs → AreLinked g first xs
 linked_kept f g first [] same l = l
 linked_kept f g first (x ∷ xs) same l =
-    let e = same x (inl refl) in
-    (l.0, un_same (λ o. is_some o) un_there (g x) (f x) e ∙ l.1,
-      subst (λ o. AreLinked g o xs) (sym (un_same (λ o. get_or (links_of o) NEXT None) (λ o. ap (λ us. get_or us NEXT None) (un_links o)) (g x) (f x) e)) (linked_kept f g (link_in f x NEXT) xs (λ b i. same b (inr i)) l.2))
+    let e = same x (inl refl) in (
+      l.0,
+      un_same (λ o. is_some o) un_there (g x) (f x) e ∙ l.1,
+      subst (λ o. AreLinked g o xs) (sym (un_same (λ o. get_or (links_of o) NEXT None) (λ o. ap (λ us. get_or us NEXT None) (un_links o)) (g x) (f x) e)) (linked_kept f g (link_in f x NEXT) xs (λ b i. same b (inr i)) l.2),
+    )
 
 -- a list is linked so
 pub run_linked : (f : ℕ → Option HeldCell) (before first : Option ℕ) (xs : List ℕ) (last : Option ℕ) → ((x : ℕ) → In x xs → IsSome (f x)) → RunsThrough (node_in f) before first xs last None → AreLinked f first xs

@@ -7,7 +7,7 @@ use Rattle.lmn_heap.specs.Lists.{Distinct}
 use Rattle.lmn_web.specs.declared.kind.CellKind.{CellKind}
 use Rattle.lmn_web.specs.declared.kind.CellKind.TheVariants.{Atom, Membrane}
 use Rattle.lmn_web.specs.Webs.{WebCell, home_of, web_kind, cells_of, home_at, kind_at, cells_in, partner_at, unlinked}
-use Rattle.lmn_web.specs.Examples.{two_listed, SecondIsLast, SecondIsFirst, FirstIsGone, BothAreListed, LostAreNotListed, GoneIsLoose, ListedIsNotLoose, OneHasLabel, NoneHasTwoPorts, BothAreOfOneClass, NoneIsOfAnotherClass}
+use Rattle.lmn_web.specs.Examples.{two_listed, emptied, SecondIsLast, SecondIsFirst, FirstIsGone, BothAreListed, LostAreNotListed, GoneIsLoose, ListedIsNotLoose, BothAreGone, StillThereIsNotGone, OneHasLabel, NoneHasTwoPorts, BothAreOfOneClass, NoneIsOfAnotherClass}
 
 -- a cell that was added last stands at the end
 pub second_is_last : SecondIsLast
@@ -90,6 +90,22 @@ gone_is_loose = record { there = refl; alone = alone; homeless = refl; empty = e
 -- one that is in a list may not
 pub listed_is_not_loose : ListedIsNotLoose
 listed_is_not_loose l = let e : ◌≡◌ {A = Option ℕ} (Some 0) None = l.homeless in absurd cc
+
+-- both atoms of the membrane are freed
+pub both_are_gone : BothAreGone
+both_are_gone = record { gone = gone; others = others; home = refl }
+  where
+    gone : (a : ℕ) → In a (cells_in two_listed 0 Atom) → emptied a ≡ None
+    gone a (inl e) = subst (λ z. emptied z ≡ None) e refl
+    gone a (inr (inl e)) = subst (λ z. emptied z ≡ None) e refl
+    gone a (inr (inr i)) = absurd i
+
+    others : (b : ℕ) → (In b (cells_in two_listed 0 Atom) → ⊥) → b ≢ 0 → emptied b ≡ two_listed b
+    others b n d = rw (not_equal b 0 d, not_equal b 1 (λ e. n (inl (sym e))), not_equal b 2 (λ e. n (inr (inl (sym e))))) refl
+
+-- where nothing changes they are there
+pub still_there_is_not_gone : StillThereIsNotGone
+still_there_is_not_gone w = let e = w.gone 1 (inl refl) in absurd cc
 
 -- one of two atoms has a label
 pub one_has_label : OneHasLabel

@@ -3,7 +3,7 @@ use Rattle.std.specs.Prelude.{◌≡◌, ℕ, [], ◌∷◌, Option, Some, None}
 use Rattle.std.specs.Option.{option_map}
 use Rattle.lmn_heap.specs.Heap.{alter}
 use Rattle.lmn_web.specs.declared.kind.CellKind.TheVariants.{Atom, Membrane}
-use Rattle.lmn_web.specs.Webs.{WebCell, new_cell, with_list, cells_in, home_at, added_last, added_before, unlinked, with_label, with_class, IsLoose, StandOnce}
+use Rattle.lmn_web.specs.Webs.{WebCell, new_cell, with_list, cells_in, home_at, added_last, added_before, unlinked, with_label, with_class, IsLoose, StandOnce, WithoutAtoms}
 
 -- the membrane 0, and the atoms 1 and 2 in no list
 abbrev pub unlisted : ℕ → Option WebCell
@@ -39,6 +39,18 @@ GoneIsLoose = IsLoose (unlinked two_listed 0 1) 1
 -- one in a list may not
 abbrev pub ListedIsNotLoose : Type 0
 ListedIsNotLoose = IsLoose two_listed 1 → ⊥
+
+-- the membrane alone
+abbrev pub emptied : ℕ → Option WebCell
+emptied = alter (λ _. None) 0 (λ _. Some (new_cell 0 0 Membrane))
+
+-- both atoms are freed, and the membrane stays
+abbrev pub BothAreGone : Type 0
+BothAreGone = WithoutAtoms two_listed emptied 0
+
+-- where nothing changes they aren't
+abbrev pub StillThereIsNotGone : Type 0
+StillThereIsNotGone = WithoutAtoms two_listed two_listed 0 → ⊥
 
 -- of two atoms one has a label
 abbrev pub OneHasLabel : Type 0

@@ -1,5 +1,5 @@
 //! What holds of a small web. Each law is the contract of a function with an empty body.
-ghost use Rattle.lmn_web.specs.Examples.{BothAreListed, BothAreOfOneClass, FirstIsGone, GoneIsLoose, ListedIsNotLoose, LostAreNotListed, NoneHasTwoPorts, NoneIsOfAnotherClass, OneHasLabel, SecondIsFirst, SecondIsLast};
+ghost use Rattle.lmn_web.specs.Examples.{BothAreGone, BothAreListed, BothAreOfOneClass, FirstIsGone, GoneIsLoose, ListedIsNotLoose, LostAreNotListed, NoneHasTwoPorts, NoneIsOfAnotherClass, OneHasLabel, SecondIsFirst, SecondIsLast, StillThereIsNotGone};
 
 /// A cell that was added last stands at the end.
 #[tactic(auto, using(crate::proofs::ExampleProofs::second_is_last))]
@@ -41,6 +41,18 @@ pub fn gone_is_loose()
 #[tactic(auto, using(crate::proofs::ExampleProofs::listed_is_not_loose))]
 pub fn listed_is_not_loose()
     ensures { ListedIsNotLoose }
+{}
+
+/// The atoms of a membrane are freed, and the membrane stays.
+#[tactic(auto, using(crate::proofs::ExampleProofs::both_are_gone))]
+pub fn both_are_gone()
+    ensures { BothAreGone }
+{}
+
+/// Where nothing changes they aren't freed.
+#[tactic(auto, using(crate::proofs::ExampleProofs::still_there_is_not_gone))]
+pub fn still_there_is_not_gone()
+    ensures { StillThereIsNotGone }
 {}
 
 /// One of two atoms has a label.

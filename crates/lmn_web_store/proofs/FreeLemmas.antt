@@ -1,29 +1,25 @@
 -- What stands in a line is freed, cell by cell: what is left, and that it may be freed further.
-use Rattle.std.proofs.Common.{◌≡◌, ◌≢◌, ◌⊎◌, ℕ, zero, suc, ◌-◌, ◌<◌, Bool, true, false, cond, List, [], ◌∷◌, length, Option, Some, None, IsSome, is_some, refl, sym, ap, subst, ◌∙◌, inl, inr, arith}
-use Rattle.std.proofs.lemmas.List.{get_or_past}
-use Rattle.std.specs.Prelude.{slice_index_or, slice_set, unwrap_or}
+use Rattle.std.proofs.Common.{◌≡◌, ◌≢◌, ◌⊎◌, ℕ, ◌-◌, Bool, true, false, cond, List, [], length, Option, Some, None, IsSome, is_some, refl, sym, ap, subst, ◌∙◌, inl, inr, arith}
+use Rattle.std.specs.Prelude.{slice_index_or, unwrap_or}
 use Rattle.std.proofs.lemmas.Bool.{cases_eq}
 use Rattle.std.specs.Option.{option_map, option_and_then}
-use Rattle.lmn_heap.specs.Heap.{HeapAtom, HeapMem, Place, alter, with_link}
+use Rattle.lmn_heap.specs.Heap.{HeapAtom, HeapMem, Place, alter}
 use Rattle.lmn_heap.specs.Lists.{without}
 use Rattle.lmn_heap.proofs.Listing.{alter_at, alter_away}
 use Rattle.lmn_store.specs.RuleLists.{RuleList}
-use Rattle.lmn_store.specs.Kept.{HasCounts, Removes, one, with_rules}
+use Rattle.lmn_store.specs.Kept.{HasCounts, Removes, with_rules}
 use Rattle.lmn_store.proofs.CensusLemmas.{census_drop}
 use Rattle.lmn_web.specs.declared.kind.CellKind.{CellKind}
 use Rattle.lmn_web.specs.declared.kind.CellKind.TheVariants.{Atom, Membrane}
 use Rattle.lmn_web.specs.Webs as web
 use Rattle.lmn_web.specs.Webs.{WebCell, web_kind, kind_at, home_at, arity_at, partner_at, cells_in, cells_of, web_label, with_partner, with_list, linked, cleared, parted, unlinked, IsLoose}
-use Rattle.lmn_web_store.specs.Frees.{all_parted, Drops, CanFree, Frees}
+use Rattle.lmn_web_store.specs.Frees.{Drops, CanFree, Frees}
 use Rattle.lmn_web_store.specs.WebHeaps.{Posts, place_at, no_rules, atom_by, if_atom, if_membrane, atoms_of, mem_by, is_post, mems_of}
 use Rattle.lmn_web_store.specs.WebStores.{IsStored}
 use Rattle.lmn_web_store.proofs.ReadLemmas.{is_none, mem_there, mem_is, kind_there}
-use Rattle.lmn_web_store.proofs.CoreLemmas.{label_same as core_label, core, home_same, cells_same, stored_same}
-use Rattle.lmn_web_store.proofs.LinkLemmas.{Links, same_links, both_links, atoms_linked, linked_links, cleared_links}
 use Rattle.lmn_web_store.proofs.SendLemmas.{atom_of, mem_of, list_atom, list_label, list_kind, list_ports, list_there, list_home, list_at_kind, list_at_other, home_ports, out_self, out_there, out_homeless, home_cells, out_source, out_kept, home_some}
 use Rattle.lmn_web_store.proofs.PlaceLemmas.{alter_same}
 use Rattle.lmn_web_store.proofs.TableLemmas.{labelled_there, post_waits, post_goes, mems_post}
-use Rattle.lmn_base.proofs.Numbers.{below_or_from}
 
 -- nothing is freed
 pub frees_none : (p : Posts) (l : ℕ) (t : List (Option RuleList)) (w : ℕ → Option WebCell) → Frees p l t w t w
@@ -35,7 +31,7 @@ pub frees_both : (p : Posts) (l : ℕ) (t : List (Option RuleList)) (w : ℕ →
 frees_both p l t w g v h u a b = record { atoms = λ f r y. b.atoms f r y ∙ a.atoms f r y; mems = λ f r y. b.mems f r y ∙ a.mems f r y; others = λ k d. b.others k d ∙ a.others k d; labels = λ y i e. a.labels y i (b.labels y i e) }
 
 -- what stands where all is removed
-freed_none : {X : Type 0} (place : X → Place) (u : X → Option X) (P : Place) → Removes place u P → (o : Option X) → ((x : X) → o ≡ Some x → place x ≡ P) → option_and_then u o ≡ None
+pub freed_none : {X : Type 0} (place : X → Place) (u : X → Option X) (P : Place) → Removes place u P → (o : Option X) → ((x : X) → o ≡ Some x → place x ≡ P) → option_and_then u o ≡ None
 freed_none place u P r None h = refl
 freed_none place u P r (Some x) h = (r x).0 (h x refl)
 
@@ -58,138 +54,6 @@ module _ (p : Posts) (t : List (Option RuleList)) where
       kinds : (j : CellKind) → if_membrane j (mem_by p t c) ≡ Some x → x.place ≡ place_at p c.home
       kinds Atom e = absurd (cc)
       kinds Membrane e = let s : mem_by p t c ≡ x = (cc) in subst (λ (z : HeapMem). z.place ≡ place_at p c.home) s refl
-
--- Ports are split
-
-set_none : (xs : List (Option (ℕ × ℕ))) (i j : ℕ) (z : ℕ × ℕ) → slice_index_or (slice_set xs i None) j None ≡ Some z → slice_index_or xs j None ≡ Some z
-set_none [] i j z e = e
-set_none (x ∷ xs) zero zero z e = absurd (cc)
-set_none (x ∷ xs) zero (suc j) z e = e
-set_none (x ∷ xs) (suc i) zero z e = e
-set_none (x ∷ xs) (suc i) (suc j) z e = set_none xs i j z e
-
-set_at : (xs : List (Option (ℕ × ℕ))) (i : ℕ) → slice_index_or (slice_set xs i None) i None ≡ None
-set_at [] i = refl
-set_at (x ∷ xs) zero = refl
-set_at (x ∷ xs) (suc i) = set_at xs i
-
-none_less : (o q : Option (ℕ × ℕ)) → ((z : ℕ × ℕ) → o ≡ Some z → q ≡ Some z) → q ≡ None → o ≡ None
-none_less None q h e = refl
-none_less (Some z) q h e = let f : Some z ≡ None = sym (h z refl) ∙ e in absurd (cc)
-
-module _ (w : ℕ → Option WebCell) (a i : ℕ) where
-  linked_less : (y j : ℕ) (z : ℕ × ℕ) → partner_at (linked w a i None) y j ≡ Some z → partner_at w y j ≡ Some z
-  linked_less y j z e = elim (cases_eq y a) [
-    | inl q ↦ subst (λ u. partner_at w u j ≡ Some z) (sym q)
-        (by (w a) (sym (ap (λ (o : Option WebCell). slice_index_or (web.partners_of o) j None) (alter_at w a (option_map (with_partner i None)))) ∙ subst (λ u. partner_at (linked w a i None) u j ≡ Some z) q e))
-    | inr d ↦ sym (ap (λ (o : Option WebCell). slice_index_or (web.partners_of o) j None) (alter_away w a (option_map (with_partner i None)) y d)) ∙ e
-  ]
-    where
-      by : (o : Option WebCell) → slice_index_or (web.partners_of (option_map (with_partner i None) o)) j None ≡ Some z → slice_index_or (web.partners_of o) j None ≡ Some z
-      by None e = e
-      by (Some c) e = set_none c.partners i j z e
-
-  linked_at : partner_at (linked w a i None) a i ≡ None
-  linked_at = ap (λ (o : Option WebCell). slice_index_or (web.partners_of o) i None) (alter_at w a (option_map (with_partner i None))) ∙ by (w a)
-    where
-      by : (o : Option WebCell) → slice_index_or (web.partners_of (option_map (with_partner i None) o)) i None ≡ None
-      by None = refl
-      by (Some c) = set_at c.partners i
-
-cleared_less : (w : ℕ → Option WebCell) (o : Option (ℕ × ℕ)) (y j : ℕ) (z : ℕ × ℕ) → partner_at (cleared w o) y j ≡ Some z → partner_at w y j ≡ Some z
-cleared_less w None y j z e = e
-cleared_less w (Some q) y j z e = linked_less w q.0 q.1 y j z e
-
-parted_less : (w : ℕ → Option WebCell) (a i y j : ℕ) (z : ℕ × ℕ) → partner_at (parted w a i) y j ≡ Some z → partner_at w y j ≡ Some z
-parted_less w a i y j z e = cleared_less w (partner_at w a i) y j z (linked_less (cleared w (partner_at w a i)) a i y j z e)
-
-module _ (w : ℕ → Option WebCell) (a : ℕ) where
-  all_less : (k y j : ℕ) (z : ℕ × ℕ) → partner_at (all_parted w a k) y j ≡ Some z → partner_at w y j ≡ Some z
-  all_less zero y j z e = e
-  all_less (suc k) y j z e = all_less k y j z (parted_less (all_parted w a k) a k y j z e)
-
-  all_cut : (k i : ℕ) → i < k → partner_at (all_parted w a k) a i ≡ None
-  all_cut zero i h = absurd (omega (arith, h))
-  all_cut (suc k) i h = elim (cases_eq i k) [
-    | inl e ↦ subst (λ z. partner_at (all_parted w a (suc k)) a z ≡ None) (sym e) (linked_at (cleared (all_parted w a k) (partner_at (all_parted w a k) a k)) a k)
-    | inr d ↦ none_less _ _ (parted_less (all_parted w a k) a k a i) (all_cut k i (omega (arith, h, d)))
-  ]
-
-  -- no port of a has a partner then
-  pub all_alone : (i : ℕ) → partner_at (all_parted w a (arity_at w a)) a i ≡ None
-  all_alone i = elim (below_or_from i (arity_at w a)) [
-    | inl h ↦ all_cut (arity_at w a) i h
-    | inr h ↦ none_less _ _ (all_less (arity_at w a) a i) (get_or_past (web.partners_of (w a)) i None h)
-  ]
-
-module _ (p : Posts) (t : List (Option RuleList)) where
-  parted_links : (w : ℕ → Option WebCell) (a i : ℕ) → Links p t w (parted w a i)
-  parted_links w a i = both_links p t w (cleared w (partner_at w a i)) (parted w a i) (cleared_links p t w (partner_at w a i)) (linked_links p t (cleared w (partner_at w a i)) a i None)
-
-  all_links : (w : ℕ → Option WebCell) (a k : ℕ) → Links p t w (all_parted w a k)
-  all_links w a zero = same_links p t w
-  all_links w a (suc k) = both_links p t w (all_parted w a k) (all_parted w a (suc k)) (all_links w a k) (parted_links (all_parted w a k) a k)
-
-no_posts : Posts
-no_posts = record { root = 0; waiting = 0; gone = 0 }
-
--- splitting leaves all but partners
-pub all_cores : (w : ℕ → Option WebCell) (a k x : ℕ) → option_map core (all_parted w a k x) ≡ option_map core (w x)
-all_cores w a k x = let l = all_links no_posts [] w a k in l.cores x
-
-module _ (p : Posts) (l : ℕ) (t : List (Option RuleList)) (n m s : ℕ) where
-  linked_free : (w : ℕ → Option WebCell) → CanFree p l t w n m s → (a i : ℕ) → home_at w a ≡ Some l → CanFree p l t (linked w a i None) n m s × Frees p l t w t (linked w a i None)
-  linked_free w c a i home = (
-    record {
-      line = c.line;
-      stored = stored_same w v k.cores p t c.stored;
-      counts = k.counts n m s c.counts;
-      closed = λ y j b q h e. home_same w v k.cores b ∙ c.closed y j b q (sym (home_same w v k.cores y) ∙ h) (linked_less w a i y j (b, q) e);
-      empty = λ y j h. cells_same w v k.cores y j ∙ c.empty y j (sym (home_same w v k.cores y) ∙ h);
-    },
-    record {
-      atoms = λ u r y. ap (λ (f : ℕ → Option HeapAtom). option_and_then u (f y)) (atoms_linked p t w a i None) ∙ elim (cases_eq y a) [
-        | inl e ↦ subst (λ z. option_and_then u (alter (atoms_of p w) a (option_map (with_link i None)) z) ≡ option_and_then u (atoms_of p w z)) (sym e)
-            (ap (option_and_then u) (alter_at (atoms_of p w) a (option_map (with_link i None))) ∙ cut u r (atoms_of p w a) at ∙ sym (freed_none (λ (x : HeapAtom). x.place) u (place_at p (Some l)) r (atoms_of p w a) at))
-        | inr d ↦ ap (option_and_then u) (alter_away (atoms_of p w) a (option_map (with_link i None)) y d)
-      ];
-      mems = λ u r y. ap (λ (f : ℕ → Option HeapMem). option_and_then u (f y)) k.mems;
-      others = λ j d. cells_same w v k.cores p.waiting j;
-      labels = λ y j e. sym (core_label w v k.cores y) ∙ e;
-    },
-  )
-    where
-      v : ℕ → Option WebCell
-      v = linked w a i None
-
-      k : Links p t w (linked w a i None)
-      k = linked_links p t w a i None
-
-      at : (x : HeapAtom) → atoms_of p w a ≡ Some x → x.place ≡ place_at p (Some l)
-      at x e = atom_place p t (w a) x e ∙ ap (place_at p) home
-
-      cut : (u : HeapAtom → Option HeapAtom) → Removes (λ (x : HeapAtom). x.place) u (place_at p (Some l)) → (o : Option HeapAtom) → ((x : HeapAtom) → o ≡ Some x → x.place ≡ place_at p (Some l)) → option_and_then u (option_map (with_link i None) o) ≡ None
-      cut u r None h = refl
-      cut u r (Some x) h = (r (with_link i None x)).0 (h x refl)
-
-  parted_free : (w : ℕ → Option WebCell) → CanFree p l t w n m s → (a i : ℕ) → home_at w a ≡ Some l → CanFree p l t (parted w a i) n m s × Frees p l t w t (parted w a i)
-  parted_free w c a i home = by (partner_at w a i) refl
-    where
-      by : (o : Option (ℕ × ℕ)) → partner_at w a i ≡ o → CanFree p l t (linked (cleared w o) a i None) n m s × Frees p l t w t (linked (cleared w o) a i None)
-      by None e = linked_free w c a i home
-      by (Some z) e =
-          let b = linked_free w c z.0 z.1 (c.closed a i z.0 z.1 home e) in
-          let k = linked_links p t w z.0 z.1 None in
-          let d = linked_free (linked w z.0 z.1 None) b.0 a i (home_same w (linked w z.0 z.1 None) k.cores a ∙ home) in
-          (d.0, frees_both p l t w t (linked w z.0 z.1 None) t (linked (linked w z.0 z.1 None) a i None) b.1 d.1)
-
-  -- all ports of what stands in the line
-  pub all_free : (w : ℕ → Option WebCell) → CanFree p l t w n m s → (a : ℕ) → home_at w a ≡ Some l → (k : ℕ) → CanFree p l t (all_parted w a k) n m s × Frees p l t w t (all_parted w a k)
-  all_free w c a home zero = (c, frees_none p l t w)
-  all_free w c a home (suc k) =
-      let r = all_free w c a home k in
-      let d = parted_free (all_parted w a k) r.0 a k (home_same w (all_parted w a k) (all_cores w a k) a ∙ home) in
-      (d.0, frees_both p l t w t (all_parted w a k) t (all_parted w a (suc k)) r.1 d.1)
 
 -- A cell goes
 
@@ -383,15 +247,6 @@ module _ (w v : ℕ → Option WebCell) (l x : ℕ) (d : Drops w v l x) where
       others = λ j q. cells_rest p.waiting j (no_post_x p.waiting (inr (inl refl))) (λ e. q (sym e));
       labels = λ y i e. sym (label_rest y (not_x y (labelled_there (v y) i e))) ∙ e;
     }
-
-    -- an atom less
-    pub atom_freed : (a : HeapAtom) → atoms_of p w x ≡ Some a → mems_of p t w x ≡ None → CanFree p l g v (n - 1) m s
-    atom_freed a e none = dropped_free (n - 1) m s (subst (λ f. HasCounts f (mems_of p g v) (n - 1) m s) (sym atoms_dropped) (subst (λ f. HasCounts (alter (atoms_of p w) x (λ _. None)) f (n - 1) m s) (sym (mems_dropped ∙ alter_same (mems_of p t w) x (λ _. None) (sym none))) (record {
-      atom_census = census_drop one (atoms_of p w) n x a e c.counts.atom_census;
-      mem_census = c.counts.mem_census;
-      spare_census = c.counts.spare_census;
-      bound = (let b = c.counts.bound in omega (arith, b));
-    })))
 
     -- a membrane less, with its rules
     pub mem_freed : (b : HeapMem) → mems_of p t w x ≡ Some b → atoms_of p w x ≡ None → CanFree p l g v n (m - with_rules b) (s - b.spare)

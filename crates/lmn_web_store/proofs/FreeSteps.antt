@@ -1,27 +1,25 @@
--- One atom or one membrane of a line is freed.
+-- One membrane of a line is freed.
 use Rattle.std.proofs.Common.{◌≡◌, ◌≢◌, ℕ, zero, suc, ◌+◌, ◌-◌, ◌<◌, ◌≤◌, List, [], ◌∷◌, length, Option, Some, None, IsSome, refl, sym, ap, subst, ◌∙◌, inl, inr, arith}
 use Rattle.std.proofs.lemmas.List.{get_or_past, get_or-set_other}
 use Rattle.std.specs.Prelude.{slice_index_or, slice_set, unwrap_or}
 use Rattle.std.proofs.lemmas.Bool.{cases_eq, eq-eqb}
 use Rattle.std.specs.Option.{option_map}
-use Rattle.lmn_heap.specs.Heap.{HeapAtom, HeapMem}
+use Rattle.lmn_heap.specs.Heap.{HeapMem}
 use Rattle.lmn_heap.specs.Lists.{without, after, from}
 use Rattle.lmn_store.specs.RuleLists.{RuleList}
-use Rattle.lmn_store.specs.Kept.{one, with_rules}
+use Rattle.lmn_store.specs.Kept.{with_rules}
 use Rattle.lmn_store.proofs.CensusLemmas.{census_less}
 use Rattle.lmn_web.specs.declared.kind.CellKind.{CellKind}
 use Rattle.lmn_web.specs.declared.kind.CellKind.TheVariants.{Atom, Membrane}
 use Rattle.lmn_web.specs.Webs as web
 use Rattle.lmn_web.specs.Webs.{WebCell, web_kind, kind_at, home_at, arity_at, partner_at, cells_in, web_label, StandOnce}
-use Rattle.lmn_web_store.specs.Frees.{all_parted, Drops, CanFree, Frees}
-use Rattle.lmn_web_store.specs.WebHeaps.{Posts, no_rules, atom_by, if_atom, atoms_of, mem_by, mems_of}
+use Rattle.lmn_web_store.specs.Frees.{Drops, CanFree, Frees}
+use Rattle.lmn_web_store.specs.WebHeaps.{Posts, no_rules, mem_by, mems_of}
 use Rattle.lmn_web_store.specs.WebStores.{HasRules}
 use Rattle.lmn_web_store.proofs.ReadLemmas.{mems_are, mem_is, kind_there}
-use Rattle.lmn_web_store.proofs.CoreLemmas.{core, home_same, kind_same, cells_same}
-use Rattle.lmn_web_store.proofs.SendLemmas.{atom_of, home_some}
 use Rattle.lmn_web_store.proofs.PlaceLemmas.{first_is}
-use Rattle.lmn_web_store.proofs.FreeLemmas.{frees_both, all_cores, all_alone, all_free, list_rest, other_rest, atom_freed, mem_freed, dropped_frees}
-use Rattle.lmn_web_store.proofs.TableLemmas.{atoms_none, mems_none}
+use Rattle.lmn_web_store.proofs.FreeLemmas.{list_rest, other_rest, mem_freed, dropped_frees}
+use Rattle.lmn_web_store.proofs.TableLemmas.{atoms_none}
 
 -- without its first a list is shorter
 pub shorter : (x : ℕ) (us : List ℕ) → from (Some x) us ≡ us → length (without x us) < length us
@@ -43,69 +41,6 @@ module _ (p : Posts) (l : ℕ) (t : List (Option RuleList)) (w : ℕ → Option 
   -- so it is there
   pub line_is : IsSome (w l)
   line_is = kind_there (w l) line_kind
-
-  -- An atom
-  module _ (o : StandOnce w) (x : ℕ) (first : from (Some x) (cells_in w l Atom) ≡ cells_in w l Atom) where
-    -- the first atom of the line stands in it
-    pub atom_home : home_at w x ≡ Some l
-    atom_home = (first_is w o l x Atom first).0
-
-    -- and is there
-    pub atom_is : IsSome (w x)
-    atom_is = home_some (w x) (subst (λ (h : Option ℕ). IsSome h) (sym atom_home) refl)
-
-    item : (u : ℕ → Option WebCell) → kind_at u x ≡ Atom → IsSome (u x) → (a : HeapAtom) × (atoms_of p u x ≡ Some a)
-    item u k i = by (u x) k i
-      where
-        by : (q : Option WebCell) → web_kind q ≡ Atom → IsSome q → (a : HeapAtom) × (atom_of p t q ≡ Some a)
-        by None k i = absurd (cc)
-        by (Some d) k i = (atom_by p d, ap (λ j. if_atom j (atom_by p d)) k)
-
-    -- it is counted
-    pub atom_counted : 1 ≤ n
-    atom_counted = let a = item w (first_is w o l x Atom first).1 atom_is in census_less one (atoms_of p w) n x a.0 a.1 c.counts.atom_census
-
-    module _ (u v : ℕ → Option WebCell) (e : u ≡ all_parted w x (arity_at w x)) where
-      cores : (y : ℕ) → option_map core (u y) ≡ option_map core (w y)
-      cores y = ap (λ (f : ℕ → Option WebCell). option_map core (f y)) e ∙ all_cores w x (arity_at w x) y
-
-      -- it still stands in the line when its ports are split
-      pub split_home : home_at u x ≡ Some l
-      split_home = home_same w u cores x ∙ atom_home
-
-      -- and is an atom
-      pub split_kind : kind_at u x ≡ Atom
-      split_kind = kind_same w u cores x ∙ (first_is w o l x Atom first).1
-
-      -- no port has a partner then
-      pub split_alone : (i : ℕ) → partner_at u x i ≡ None
-      split_alone i = ap (λ (f : ℕ → Option WebCell). partner_at f x i) e ∙ all_alone w x i
-
-      split_free : CanFree p l t u n m s × Frees p l t w t u
-      split_free = subst (λ (f : ℕ → Option WebCell). CanFree p l t f n m s × Frees p l t w t f) (sym e) (all_free p l t n m s w c x atom_home (arity_at w x))
-
-      -- and nothing stands in it
-      pub split_empty : (k : CellKind) → cells_in u x k ≡ []
-      split_empty k = split_free.0.empty x k split_home
-
-      module _ (d : Drops u v l x) (strange : (a i b j : ℕ) → partner_at u a i ≡ Some (b, j) → b ≢ x) where
-        no_row : (i : ℕ) → IsSome (slice_index_or t i None) → IsSome (slice_index_or t i None) × (kind_at u x ≡ Membrane → web_label u x ≡ Some i → ⊥)
-        no_row i q = (q, λ k _. (let z : Atom ≡ Membrane = sym split_kind ∙ k in absurd (cc)))
-
-        -- what is left when it is freed
-        pub atom_step : CanFree p l t v (n - 1) m s × Frees p l t w t v
-        atom_step =
-            let a = item u split_kind (home_some (u x) (subst (λ (h : Option ℕ). IsSome h) (sym split_home) refl)) in (
-              atom_freed u v l x d p t t n m s split_free.0 split_home strange (λ y i q r f. refl) no_row a.0 a.1 (mems_none p t u x split_kind),
-              frees_both p l t w t u t v split_free.1 (dropped_frees u v l x d p t t n m s split_free.0 split_home strange (λ y i q r f. refl) no_row),
-            )
-
-        -- the line is shorter then
-        pub atom_fewer : length (cells_in v l Atom) < length (cells_in w l Atom)
-        atom_fewer =
-            let there : IsSome (u l) = kind_there (u l) (kind_same w u cores l ∙ line_kind) in
-            let list : cells_in v l Atom ≡ without x (cells_in w l Atom) = subst (λ k. cells_in v l k ≡ without x (cells_in u l k)) split_kind (list_rest u v l x d there) ∙ ap (without x) (cells_same w u cores l Atom) in
-            subst (λ us. length us < length (cells_in w l Atom)) (sym list) (shorter x (cells_in w l Atom) first)
 
   -- A membrane
   module _ (o : StandOnce w) (x : ℕ) (first : from (Some x) (cells_in w l Membrane) ≡ cells_in w l Membrane) where

@@ -18,6 +18,7 @@ pub mod SendLemmas
 pub mod PlaceLemmas
 pub mod FreeLemmas
 pub mod FreeSteps
+pub mod FreeAtoms
 pub mod EndLemmas
 pub mod MoveLemmas
 pub mod MemLists

@@ -7,11 +7,11 @@ use Rattle.lmn_base.proofs.Common.{of_map, map_same}
 use Rattle.lmn_base.proofs.Lists.{map_append}
 use Rattle.lmn_base.proofs.Numbers.{not_equal}
 use Rattle.lmn_base.proofs.Truth.{never_both}
-use Rattle.lmn_heap.specs.Heap.{Heap, HeapMem, within, IsMem, mems_in, mems_by, mem_mark_of, mem_mark_by, mem_marked, mem_with_mark, new_mem, made_mem, parent_of, without, placed_mem, taken_mem, moved_all}
+use Rattle.lmn_heap.specs.Heap.{Heap, HeapMem, IsMem, mems_in, mems_by, mem_mark_of, mem_mark_by, mem_marked, mem_with_mark, new_mem, made_mem, parent_of, without, placed_mem, taken_mem, moved_all}
 use Rattle.lmn_heap.specs.Sound.{Listed}
 use Rattle.lmn_heap.specs.Conditions.{Above, IsOutside}
 use Rattle.lmn_heap.proofs.Common.{in_map, listed_mem as members}
-use Rattle.lmn_heap.proofs.Heights.{parent_is, mem_of_place}
+use Rattle.lmn_heap.proofs.Heights.{parent_is}
 use Rattle.lmn_heap.proofs.Listing.{alter_at, alter_away}
 use Rattle.lmn_preorder.specs.Nests.{Nest, IsTop, IsWithin, itself, deeper, IsOneOf, with_inside, with_awake, with_key, put, taken_from, moved, CanAdd, CanPut, CanTake, CanMove}
 use Rattle.lmn_web_store.specs.Indexes.{IsNestOf}

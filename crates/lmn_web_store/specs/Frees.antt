@@ -1,19 +1,14 @@
 -- Words of private functions: what stands in the line of what waits, or of what is gone, is freed.
-use Rattle.std.specs.Prelude.{◌≡◌, ◌≢◌, ◌⊎◌, ℕ, zero, suc, List, [], Option, Some, None}
+use Rattle.std.specs.Prelude.{◌≡◌, ◌≢◌, ◌⊎◌, ℕ, List, [], Option, Some, None}
 use Rattle.std.specs.Option.{option_map, option_and_then}
 use Rattle.lmn_heap.specs.Heap.{HeapAtom, HeapMem}
 use Rattle.lmn_heap.specs.Lists.{without}
 use Rattle.lmn_store.specs.RuleLists.{RuleList}
 use Rattle.lmn_store.specs.Kept.{HasCounts, Removes}
 use Rattle.lmn_web.specs.declared.kind.CellKind.{CellKind}
-use Rattle.lmn_web.specs.Webs.{WebCell, kind_at, home_at, partner_at, cells_in, web_label, with_list, parted}
+use Rattle.lmn_web.specs.Webs.{WebCell, kind_at, home_at, partner_at, cells_in, web_label, with_list}
 use Rattle.lmn_web_store.specs.WebHeaps.{Posts, place_at, atoms_of, mems_of}
 use Rattle.lmn_web_store.specs.WebStores.{IsStored}
-
--- the first n ports of a have no partner
-abbrev pub all_parted : (ℕ → Option WebCell) → ℕ → ℕ → ℕ → Option WebCell
-all_parted w a zero = w
-all_parted w a (suc n) = parted (all_parted w a n) a n
 
 -- v is w without x, which stood in a list of m
 pub record Drops (w v : ℕ → Option WebCell) (m x : ℕ) : Type 0 where

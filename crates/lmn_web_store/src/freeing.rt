@@ -7,7 +7,7 @@ ghost use Rattle.lmn_web.specs.declared.kind.CellKind.{CellKind as Kind};
 ghost use Rattle.lmn_web.specs.declared.kind.CellKind.TheVariants.{Atom, Membrane};
 ghost use Rattle.lmn_web_store.specs.WebHeaps.{Posts};
 ghost use Rattle.lmn_web_store.specs.WebStores.{HasRules};
-ghost use Rattle.lmn_web_store.specs.Frees.{all_parted, Drops, CanFree, Frees};
+ghost use Rattle.lmn_web_store.specs.Frees.{Drops, CanFree, Frees};
 
 use crate::rules::Rules;
 use crate::table::place_of_rules;
@@ -22,12 +22,10 @@ pub fn free_atoms(web: &mut Web, line: Cell, count: &mut u64)
         CanFree p (cell_id line) t (web_by web.new) count.new m s × Frees p (cell_id line) t (web_by web.old) t (web_by web.new) }
     ensures none { cells_in (web_by web.new) (cell_id line) Atom ≡ [] }
 {
-    while let Some(a) = web.first(line, CellKind::Atom) {
-        web.listed();
-        split_all(web, a);
-        free_cell(web, CellKind::Atom, a);
-        *count -= 1;
-    }
+    web.listed();
+    web.paired();
+    *count -= web.count(line, CellKind::Atom);
+    web.free_atoms(line);
 }
 
 /// The membranes in a line are freed, with their rules.
@@ -52,17 +50,6 @@ pub fn free_mems(
         let freed = rules.remove(place);
         *count = *count - 1 - freed.len();
         *spare -= freed.spare();
-    }
-}
-
-// No port of the cell has a partner then.
-fn split_all(web: &mut Web, a: Cell)
-    requires { IsSome (web_by web.old (cell_id a)) }
-    ensures { web_by web.new ≡ all_parted (web_by web.old) (cell_id a) (arity_at (web_by web.old) (cell_id a)) }
-{
-    let ports = web.arity(a);
-    for port in 0..ports {
-        web.split(a, port);
     }
 }
 

@@ -1,4 +1,4 @@
-use Rattle.std.proofs.Common.{◌≡◌, ◌+◌, sym, ap, ◌∙◌, arith}
+use Rattle.std.proofs.Common.{◌+◌, sym, ap, ◌∙◌, arith}
 use denote.RawPtr.{block_of}
 use Rattle.lmn_cells.specs.Rows.{with_items}
 use Rattle.lmn_cells.specs.Fillings.{ports_filled}

@@ -1,6 +1,6 @@
-use Rattle.std.proofs.Common.{◌≡◌, ◌+◌, ◌*◌, ◌∙◌, List, set, ap, arith}
+use Rattle.std.proofs.Common.{◌+◌, ◌*◌, ◌∙◌, set, ap, arith}
 use denote.RawPtr.{block_of}
-use Rattle.lmn_cells.specs.Rows.{Row, items_in, with_items, link}
+use Rattle.lmn_cells.specs.Rows.{items_in, with_items, link}
 use Rattle.lmn_cells.proofs.FillLemmas.{ports_begin, ports_there, first_word, second_there, second_word, third_there, third_word, ports_are}
 use Rattle.lmn_cells.proofs.filling.fill_port.Goals as goal
 

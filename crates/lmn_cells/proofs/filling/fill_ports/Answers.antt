@@ -1,6 +1,6 @@
-use Rattle.std.proofs.Common.{◌≡◌, ◌+◌, ◌<◌, List, length, sym, ap, ◌∙◌}
+use Rattle.std.proofs.Common.{sym, ap, ◌∙◌}
 use denote.RawPtr.{block_of}
-use Rattle.lmn_cells.specs.Rows.{Row, items_in, with_items}
+use Rattle.lmn_cells.specs.Rows.{with_items}
 use Rattle.lmn_cells.specs.Cells.{cell_items, blank_cell}
 use Rattle.lmn_cells.specs.Fillings.{ports_filled}
 use Rattle.lmn_cells.proofs.FillLemmas.{with_same, then, written, some_words, ports_none, ports_all}

@@ -1,4 +1,4 @@
-use Rattle.std.proofs.Common.{◌≡◌, ◌≢◌, ℕ, List, [], ◌∷◌, ◌+◌, Option, Some, None, IsSome, refl, sym, ap, subst, ◌∙◌, map, arith}
+use Rattle.std.proofs.Common.{◌≡◌, ◌≢◌, ℕ, ◌∷◌, Option, None, IsSome, refl, sym, ap, subst, ◌∙◌, map}
 use Rattle.lmn_base.specs.Lists.{In}
 use Rattle.std.specs.List.{slice_get}
 use Rattle.std.specs.Option.{option_map}
