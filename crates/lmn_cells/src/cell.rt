@@ -62,6 +62,7 @@ impl Cells {
     }
 
     /// A new cell in which nothing is set.
+    #[inline(always)]
     pub fn make(&mut self, ports: usize) -> Result<Cell, AllocError>
         requires { ports < 2 ^ 16 }
         ensures { MatchResult result

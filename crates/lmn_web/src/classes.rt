@@ -354,6 +354,7 @@ fn unfile_first(cells: &mut Cells, m: Cell, c: Cell, next: Option<Cell>)
 }
 
 /// An atom leaves its class.
+#[inline(always)]
 pub fn unfile(cells: &mut Cells, m: Cell, c: Cell)
     requires { (xs ls : List ℕ) × MayFile (cells_by cells.old) (cell_id m) (cell_id c) xs ls × In (cell_id c) xs }
     ensures { (xs ls xs' : List ℕ) → MayFile (cells_by cells.old) (cell_id m) (cell_id c) xs ls → In (cell_id c) xs →

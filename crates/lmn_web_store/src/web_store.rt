@@ -337,6 +337,7 @@ impl LinkStore for WebStore {
         self.web.listed();
     }
 
+    #[inline(always)]
     fn place_atom(&mut self, m: Cell) -> Cell {
         self.web.listed();
         let a = self.web.first(self.waiting, CellKind::Atom).unwrap();
@@ -355,6 +356,7 @@ impl LinkStore for WebStore {
         n
     }
 
+    #[inline(always)]
     fn take_atom(&mut self, a: Cell) {
         self.web.listed();
         send(&mut self.web, self.gone, CellKind::Atom, a);
