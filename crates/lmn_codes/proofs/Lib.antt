@@ -1,1 +1,3 @@
+pub mod ExampleCodes
+pub mod Extents
 pub mod Picking

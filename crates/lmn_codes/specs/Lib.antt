@@ -1,2 +1,4 @@
+pub mod Examples
+pub mod Extents
 pub mod Pools
 pub mod Stored

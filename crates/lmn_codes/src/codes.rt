@@ -1,6 +1,7 @@
 //! The codes of rules.
 ghost use Rattle.std.specs.Prelude.{◌≡◌, [], ◌∷◌, ◌++◌, ◌<◌, length, slice_get, Some, IfOk, OnOk, OnErr};
 
+use crate::extent::Extent;
 use crate::instrs::{CodeView, Instrs};
 use crate::pool::Pool;
 use lmn_base::{NoMemory, Rows};
@@ -8,11 +9,13 @@ use lmn_instr::Code;
 use std::alloc::Global;
 use std::marker::Model;
 
-/// A code by the numbers of its instructions in the pool.
+/// A code by the numbers of its instructions in the pool, with what is told of its head and of its body.
 #[derive(Drop)]
 struct Numbered {
     head: Rows<u32>,
+    head_extent: Extent,
     body: Rows<u32>,
+    body_extent: Extent,
 }
 
 /// Codes by their numbers, from 0 on. Instructions that only tell two registers apart stand in memory once, however many codes have them.
@@ -72,9 +75,16 @@ impl Codes {
         ensures err { OnErr result (self.new ≡ self.old) }
     {
         let Code { head, body } = code;
+        let head_extent = Extent::of(head.as_slice());
+        let body_extent = Extent::of(body.as_slice());
         let head = self.pool.put_all(alloc, head)?;
         let body = self.pool.put_all(alloc, body)?;
-        self.codes.push(Numbered { head, body })?;
+        self.codes.push(Numbered {
+            head,
+            head_extent,
+            body,
+            body_extent,
+        })?;
         Ok(())
     }
 
@@ -92,8 +102,8 @@ impl Codes {
     {
         let code = self.codes.at(rule as usize);
         CodeView::new(
-            Instrs::new(self.pool.instrs(), code.head.as_slice()),
-            Instrs::new(self.pool.instrs(), code.body.as_slice()),
+            Instrs::new(self.pool.instrs(), code.head.as_slice(), &code.head_extent),
+            Instrs::new(self.pool.instrs(), code.body.as_slice(), &code.body_extent),
         )
     }
 }

@@ -2,8 +2,11 @@
 #![tactic(auto)]
 
 mod codes;
+mod examples;
+mod extent;
 mod instrs;
 mod pool;
 
 pub use codes::Codes;
+pub use examples::{making_begins, removals_end};
 pub use instrs::{CodeView, Instrs};
