@@ -14,6 +14,7 @@ pub mod Inside
 pub mod OwnCopies
 pub mod RestMaking
 pub mod Later
+pub mod Skipping
 pub mod RestCopying
 pub mod Frames
 pub mod Remarked

@@ -10,6 +10,7 @@ use Rattle.lmn_heap.specs.Sound.{Sound}
 use Rattle.lmn_heap.proofs.Replacing.{port_within}
 use Rattle.lmn_instr.specs.declared.instr.Instr.{Instr}
 use Rattle.lmn_instr.specs.declared.instr.Instr.TheVariants.{RemoveAtom, RemoveMem}
+use Rattle.lmn_codes.specs.Extents.{NoneFrom, Removes}
 use Rattle.lmn_body.specs.Running.{Registers}
 use Rattle.lmn_registers.specs.declared.registers.SetRegisters.{SetRegisters}
 use Rattle.lmn_sleep.proofs.Marks.{ReadAlike, read_alike}
@@ -129,6 +130,30 @@ some_end h r [] i y (inr q) = absurd q
 some_end h r (x ∷ xs) i y (inl q) = inl (inl q)
 some_end h r (x ∷ xs) i y (inr q) = elim (some_end h r xs i y q) [ inl e ↦ inl (inr e) | inr e ↦ inr e ]
 
+rouses_removes : (h : Heap) (r : Registers) (i : Instr) (y : ℕ) → Rouses h r i y → Removes i
+rouses_removes h r (RemoveAtom a) y q = tt
+rouses_removes h r (RemoveMem m) y q = tt
+rouses_removes h r _ y q = absurd q
+
+none_rouse : (h : Heap) (r : Registers) (xs : List Instr) → NoneFrom Removes 0 xs → (y : ℕ) → SomeRouses h r xs y → ⊥
+none_rouse h r [] none y q = q
+none_rouse h r (x ∷ xs) none y (inl q) = none 0 x (omega arith) refl (rouses_removes h r x y q)
+none_rouse h r (x ∷ xs) none y (inr q) = none_rouse h r xs (λ i z l e. none (suc i) z (omega arith) e) y q
+
+-- what code rouses is roused before the place from which on none takes something away by itself
+some_within : (h : Heap) (r : Registers) (xs : List Instr) (n : ℕ) → NoneFrom Removes n xs → (y : ℕ) → SomeRouses h r xs y → SomeRouses h r (take n xs) y
+some_within h r [] n none y q = absurd q
+some_within h r (x ∷ xs) zero none y q = absurd (none_rouse h r (x ∷ xs) none y q)
+some_within h r (x ∷ xs) (suc n) none y (inl q) = inl q
+some_within h r (x ∷ xs) (suc n) none y (inr q) = inr (some_within h r xs n (λ i z l e. none (suc i) z (omega (arith, l)) e) y q)
+
+some_whole : (h : Heap) (r : Registers) (xs : List Instr) (n : ℕ) (y : ℕ) → SomeRouses h r (take n xs) y → SomeRouses h r xs y
+some_whole h r [] zero y q = q
+some_whole h r [] (suc n) y q = q
+some_whole h r (x ∷ xs) zero y q = absurd q
+some_whole h r (x ∷ xs) (suc n) y (inl q) = inl q
+some_whole h r (x ∷ xs) (suc n) y (inr q) = inr (some_whole h r xs n y q)
+
 some_front : (h : Heap) (r : Registers) (xs : List Instr) (i : Instr) (y : ℕ) → SomeRouses h r xs y → SomeRouses h r (xs ++ i ∷ []) y
 some_front h r (x ∷ xs) i y (inl q) = inl q
 some_front h r (x ∷ xs) i y (inr q) = inr (some_front h r xs i y q)
@@ -143,7 +168,8 @@ take_more [] n i e = absurd (cc)
 take_more (x ∷ xs) zero i e = let s : x ≡ i = (cc) in ap (λ z. z ∷ []) s
 take_more (x ∷ xs) (suc n) i e = ap (λ z. x ∷ z) (take_more xs n i e)
 
-take_all : (xs : List Instr) (n : ℕ) → length xs ≤ n → take n xs ≡ xs
+-- as many as there are, or more, are all
+pub take_all : (xs : List Instr) (n : ℕ) → length xs ≤ n → take n xs ≡ xs
 take_all [] zero l = refl
 take_all [] (suc n) l = refl
 take_all (x ∷ xs) zero l = absurd (omega (arith, l))
@@ -176,8 +202,13 @@ module _ {A M : Type 0} (atom : A → ℕ) (membrane : M → ℕ) (set : SetRegi
       ])
       (wakes_on (IsRoused h r (take n code)) (Rouses k r i) h k l w (step r u)))
 
-  pub roused_all : (code : List Instr) (n : ℕ) (k : Heap) → length code ≤ n → RousedSoFar (take n code) k → RousedSoFar code k
-  roused_all code n k l so r u = subst (λ is. WakesAbove (IsRoused h r is) h k) (take_all code n l) (so r u)
+  -- code rouses what it does up to a place at which and behind which none takes something away by itself
+  pub roused_front : (code : List Instr) (n i : ℕ) (k : Heap) → n ≤ i → NoneFrom Removes n code → RousedSoFar (take i code) k → RousedSoFar code k
+  roused_front code n i k l none so r u =
+      wakes_as (IsRoused h r (take i code)) (IsRoused h r code) h k
+      (λ y p. elim p [ inl q ↦ inl q | inr q ↦ inr (some_whole h r code i y q) ])
+      (λ y p. elim p [ inl q ↦ inl q | inr q ↦ inr (some_within h r code i (λ j x m e. none j x (omega (arith, l, m)) e) y q) ])
+      (so r u)
 
   -- what is held in registers is so still
   pub held_alike : (k : Heap) → ReadAlike h k → AreHeld atom membrane h set → AreHeld atom membrane k set

@@ -236,7 +236,9 @@ fn make_all<S: LinkStore>(
     ensures ok { OnOk result (Prepared S.atom_id S.mem_id (S.heap store.old) (S.heap store.new) set.old set.new code.now) }
     ensures makes { OnlyMakes (S.heap store.old) (S.heap store.new) }
 {
-    for i in 0..code.len() {
+    let first = code.first_made();
+    let last = code.last_made();
+    for i in first..last {
         make(alloc, store, code, i, code.at(i), set)?;
     }
     Ok(())

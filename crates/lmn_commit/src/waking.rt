@@ -29,7 +29,7 @@ fn wake_round<S: LinkStore>(store: &mut S, membrane: S::Mem)
 }
 
 /// A membrane wakes, and each one round it below `top`. That one is awake, and so is each one round it.
-fn wake_below<S: LinkStore>(store: &mut S, membrane: S::Mem, top: S::Mem)
+fn wake_up_to<S: LinkStore>(store: &mut S, membrane: S::Mem, top: S::Mem)
     requires deep { AllDeep (S.heap store.old) }
     requires membrane { IsMem (S.heap store.old) (S.mem_id membrane) }
     requires top { IsMem (S.heap store.old) (S.mem_id top) }
@@ -48,6 +48,21 @@ fn wake_below<S: LinkStore>(store: &mut S, membrane: S::Mem, top: S::Mem)
             None => return,
         }
     }
+}
+
+/// A membrane wakes, and each one round it. `top` is awake, and so is each one round it. Mostly the membrane is this one.
+#[inline(always)]
+fn wake_below<S: LinkStore>(store: &mut S, membrane: S::Mem, top: S::Mem)
+    requires deep { AllDeep (S.heap store.old) }
+    requires membrane { IsMem (S.heap store.old) (S.mem_id membrane) }
+    requires top { IsMem (S.heap store.old) (S.mem_id top) }
+    requires awake { IsAwakeRound (S.heap store.old) (S.mem_id top) }
+    ensures { WakesAbove (Is (S.mem_id membrane)) (S.heap store.old) (S.heap store.new) }
+{
+    if store.same_mem(membrane, top) {
+        return;
+    }
+    wake_up_to(store, membrane, top);
 }
 
 /// The home of an atom wakes, if it has one.
@@ -134,7 +149,7 @@ pub(crate) fn wake<S: LinkStore>(
 {
     let top = set.membranes.at(0);
     wake_round(store, top);
-    for i in 0..code.len() {
+    for i in 0..code.removals() {
         wake_for(store, code.at(i), set, top);
     }
 }

@@ -2,7 +2,7 @@ use Rattle.std.proofs.Common.{arith, refl}
 use Rattle.lmn_sleep.proofs.Marks.{read_alike}
 use Rattle.lmn_commit.proofs.Codes.{used_at}
 use Rattle.lmn_commit.proofs.Rousing.{deep_alike, awake_still, awake_now, marks_on}
-use Rattle.lmn_commit.proofs.Rouses.{roused_first, roused_more, roused_all, held_alike}
+use Rattle.lmn_commit.proofs.Rouses.{roused_first, roused_more, roused_front, held_alike}
 use Rattle.lmn_commit.proofs.Making.{some_agree}
 use Rattle.lmn_commit.proofs.waking.wake.Goals as goal
 
@@ -39,5 +39,13 @@ loop-i-preserved g c =
       awake = awake_still _ (g.S.LinkStore.heap c.loop-i.store) (g.S.LinkStore.heap c.wake_for.new.store) (g.S.LinkStore.mem_id c.at-top.result) woke c.loop-i.invariant.awake;
     }
 
+pub at-requires : goal.at-requires
+at-requires g c =
+    let before = c.loop-i-test.true in
+    let few = c.removals-i-end.ensures.within in
+    omega (arith, before, few)
+
 pub returns : goal.returns
-returns g c = roused_all g.S.LinkStore.atom_id g.S.LinkStore.mem_id c.args.set.now (g.S.LinkStore.heap c.args.store.now) c.args.code.now c.loop-i.i (g.S.LinkStore.heap c.loop-i.store) (let e = c.len-i-end.ensures.len in let f = c.loop-i-test.false in omega (arith, e, f)) c.loop-i.invariant.so
+returns g c =
+    let past = c.loop-i-test.false in
+    roused_front g.S.LinkStore.atom_id g.S.LinkStore.mem_id c.args.set.now (g.S.LinkStore.heap c.args.store.now) c.args.code.now c.removals-i-end.result c.loop-i.i (g.S.LinkStore.heap c.loop-i.store) (omega (arith, past)) c.removals-i-end.ensures.none c.loop-i.invariant.so

@@ -1,5 +1,5 @@
 use Rattle.lmn_commit.proofs.Rousing.{Climbing}
-use Rattle.lmn_commit.proofs.waking.wake_below.Given as goal
+use Rattle.lmn_commit.proofs.waking.wake_up_to.Given as goal
 
 abbrev pub invariant-loop-step : goal.invariant-loop-step
 invariant-loop-step g l = record {
