@@ -82,6 +82,14 @@ answer_at id v k (x ∷ xs) (z ∷ ys) b y n i e = elim (cases_eq x b) [
       answer_at id v (suc k) xs ys b y n.1 (rest_in x b xs i d) g ∙ sym (answer_on x (id z) xs (map id ys) b d)
 ]
 
+-- the copy of an atom stands where the atom stands
+pub copy_at : {A : Type 0} (id : A → ℕ) (xs ys : List A) (k : ℕ) (x y : A) → Distinct (map id xs) → slice_get xs k ≡ Some x → slice_get ys k ≡ Some y → id y ≡ answer (map id xs) (map id ys) (id x)
+copy_at id [] ys k x y d e f = absurd (cc)
+copy_at id (a ∷ xs) [] k x y d e f = absurd (cc)
+copy_at id (a ∷ xs) (b ∷ ys) zero x y d e f = let g : a ≡ x = (cc) in let h : b ≡ y = (cc) in ap id (sym h) ∙ sym (answer_here (id a) (id b) (map id xs) (map id ys) (id x) (ap id g))
+copy_at id (a ∷ xs) (b ∷ ys) (suc k) x y d e f =
+    copy_at id xs ys k x y d.1 e f ∙ sym (answer_on (id a) (id b) (map id xs) (map id ys) (id x) (each_in (λ z. id a ≢ z) (map id xs) (id x) d.0 (member id xs k x e)))
+
 number_high : (v : ℕ → ℕ) (k b : ℕ) (xs : List ℕ) → Numbered v k xs → In b xs → v b / 256 - k < length xs
 number_high v k b [] n i = absurd i
 number_high v k b (x ∷ xs) n (inl e) = let m : v b / 256 ≡ k = ap (λ (w : ℕ). v w / 256) (sym e) ∙ n.0 in omega (arith, m)

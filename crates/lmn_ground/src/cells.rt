@@ -12,10 +12,11 @@ ghost use Rattle.lmn_ground.specs.Rests.{AreMembranes, AreTwins, IsLeft};
 ghost use Rattle.lmn_ground.specs.Spread.{Numbered};
 
 use crate::copying::{join_copies, make_copies};
+use crate::found::Found;
 use crate::gather::clear;
 use crate::rest::{first_membrane, first_rest, next_membrane, next_rest};
 use crate::seek::arity;
-use lmn_base::{NoMemory, Rows};
+use lmn_base::NoMemory;
 use lmn_store::LinkStore;
 use std::alloc::Global;
 
@@ -24,7 +25,7 @@ fn gather_membranes<S: LinkStore>(
     store: &S,
     mem: S::Mem,
     out: &[S::Mem],
-    membranes: &mut Rows<S::Mem>,
+    membranes: &mut Found<S::Mem>,
 ) -> Result<(), NoMemory>
     requires mem { IsMem (S.heap store.now) (S.mem_id mem) }
     requires out { AreMembranes (S.heap store.now) (map S.mem_id out.now) }
@@ -46,7 +47,7 @@ fn gather_atoms<S: LinkStore>(
     store: &S,
     mem: S::Mem,
     out: &[S::Mem],
-    atoms: &mut Rows<S::Atom>,
+    atoms: &mut Found<S::Atom>,
 ) -> Result<(), NoMemory>
     requires mem { IsMem (S.heap store.now) (S.mem_id mem) }
     requires out { AreMembranes (S.heap store.now) (map S.mem_id out.now) }
@@ -67,7 +68,7 @@ fn gather_atoms<S: LinkStore>(
 fn make_membranes<S: LinkStore>(
     alloc: Global,
     store: &mut S,
-    membranes: &Rows<S::Mem>,
+    membranes: &Found<S::Mem>,
 ) -> Result<(), NoMemory>
     requires there { AreMembranes (S.heap store.old) (map S.mem_id membranes.now) }
     ensures some { (rooms : List (ℕ × ℕ)) × AreNewMembranes (S.heap store.old) (map (λ e. e.0) rooms) × (S.heap store.new ≡ made_roomy (S.heap store.old) rooms) }
@@ -83,7 +84,7 @@ fn make_membranes<S: LinkStore>(
 }
 
 /// Marks atoms with their numbers.
-fn number<S: LinkStore>(store: &mut S, atoms: &Rows<S::Atom>)
+fn number<S: LinkStore>(store: &mut S, atoms: &Found<S::Atom>)
     requires there { AllAtoms (S.heap store.old) (map S.atom_id atoms.now) }
     requires once { Distinct (map S.atom_id atoms.now) }
     requires clean { (x : ℕ) → In x (map S.atom_id atoms.now) → first_marks (S.heap store.old) x ≡ 0 }
@@ -101,7 +102,7 @@ fn number<S: LinkStore>(store: &mut S, atoms: &Rows<S::Atom>)
 fn copy_numbered<S: LinkStore>(
     alloc: Global,
     store: &mut S,
-    atoms: &Rows<S::Atom>,
+    atoms: &Found<S::Atom>,
 ) -> Result<(), NoMemory>
     requires there { AllAtoms (S.heap store.old) (map S.atom_id atoms.now) }
     requires once { Distinct (map S.atom_id atoms.now) }
@@ -114,7 +115,7 @@ fn copy_numbered<S: LinkStore>(
     ensures err { OnErr result ((ys : List ℕ) × Made (S.heap store.old) (S.heap store.new) (map S.atom_id atoms.now) ys) }
 {
     let _sound = store.root();
-    let mut copies = Rows::new(alloc);
+    let mut copies = Found::new(alloc);
     make_copies(alloc, store, atoms, &mut copies)?;
     let _made = store.root();
     // No port is this one, so the copy of each port is joined.
@@ -128,7 +129,7 @@ fn copy_numbered<S: LinkStore>(
 fn copy_atoms<S: LinkStore>(
     alloc: Global,
     store: &mut S,
-    atoms: &Rows<S::Atom>,
+    atoms: &Found<S::Atom>,
 ) -> Result<(), NoMemory>
     requires there { AllAtoms (S.heap store.old) (map S.atom_id atoms.now) }
     requires once { Distinct (map S.atom_id atoms.now) }
@@ -165,9 +166,9 @@ pub fn copy_cells<S: LinkStore>(
     ensures err { OnErr result ((atoms membranes : List ℕ) → IsLeft (S.heap store.old) (S.mem_id mem) (map S.mem_id out.now) atoms membranes → RestRemains (S.heap store.old) (S.heap store.new) atoms) }
 {
     let _root = store.root();
-    let mut membranes = Rows::new(alloc);
+    let mut membranes = Found::new(alloc);
     gather_membranes(store, mem, out, &mut membranes)?;
-    let mut atoms = Rows::new(alloc);
+    let mut atoms = Found::new(alloc);
     gather_atoms(store, mem, out, &mut atoms)?;
     make_membranes(alloc, store, &membranes)?;
     if atoms.len() == 0 {

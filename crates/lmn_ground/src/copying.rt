@@ -10,9 +10,10 @@ ghost use Rattle.lmn_parts.specs.Walks.{port_range};
 ghost use Rattle.lmn_base.specs.Lists.{In};
 
 use crate::equality::is_same_port;
+use crate::found::Found;
 use crate::gather::{clear, gather};
 use crate::seek::arity;
-use lmn_base::{NoMemory, Rows};
+use lmn_base::NoMemory;
 use lmn_store::LinkStore;
 use std::alloc::Global;
 
@@ -20,8 +21,8 @@ use std::alloc::Global;
 pub fn make_copies<S: LinkStore>(
     alloc: Global,
     store: &mut S,
-    atoms: &Rows<S::Atom>,
-    copies: &mut Rows<S::Atom>,
+    atoms: &Found<S::Atom>,
+    copies: &mut Found<S::Atom>,
 ) -> Result<(), NoMemory>
     requires there { AllAtoms (S.heap store.old) (map S.atom_id atoms.now) }
     requires empty { copies.old ≡ [] }
@@ -29,6 +30,7 @@ pub fn make_copies<S: LinkStore>(
     ensures all { OnOk result (Made (S.heap store.old) (S.heap store.new) (map S.atom_id atoms.now) (map S.atom_id copies.new)) }
     ensures long { OnOk result (length copies.new ≡ length atoms.now) }
 {
+    copies.reserve(atoms.len());
     for i in 0..atoms.len() {
         let functor = store.functor(*atoms.at(i));
         let copy = store.make_atom(alloc, functor)?;
@@ -40,8 +42,8 @@ pub fn make_copies<S: LinkStore>(
 /// The copy of an atom, by the number in its mark.
 fn copy_of<S: LinkStore>(
     store: &S,
-    atoms: &Rows<S::Atom>,
-    copies: &Rows<S::Atom>,
+    atoms: &Found<S::Atom>,
+    copies: &Found<S::Atom>,
     a: S::Atom,
 ) -> S::Atom
     requires atom { IsAtom (S.heap store.now) (S.atom_id a) }
@@ -54,25 +56,26 @@ fn copy_of<S: LinkStore>(
     *copies.at(number as usize)
 }
 
-/// Joins the copy of a port to the copy of its partner.
+/// Joins the copy `c` of an atom at a port to the copy of the port's partner.
 fn join_port<S: LinkStore>(
     store: &mut S,
     root: (S::Atom, u8),
-    atoms: &Rows<S::Atom>,
-    copies: &Rows<S::Atom>,
+    atoms: &Found<S::Atom>,
+    copies: &Found<S::Atom>,
     a: S::Atom,
+    c: S::Atom,
     i: u8,
 )
     requires copying { Copying (S.heap store.old) (S.atom_id root.0, root.1) (map S.atom_id atoms.now) (map S.atom_id copies.now) }
     requires numbers { Numbered (first_marks (S.heap store.old)) 2 (map S.atom_id atoms.now) }
     requires among { In (S.atom_id a) (map S.atom_id atoms.now) }
+    requires copy { S.atom_id c ≡ answer (map S.atom_id atoms.now) (map S.atom_id copies.now) (S.atom_id a) }
     requires port { i < arity_of (S.heap store.old) (S.atom_id a) }
     ensures { S.heap store.new ≡ joined_like (answer (map S.atom_id atoms.now) (map S.atom_id copies.now)) (S.atom_id root.0, root.1) (S.heap store.old) (S.atom_id a, i) }
 {
     if is_same_port(store, (a, i), root) {
         return;
     }
-    let c = copy_of(store, atoms, copies, a);
     // The copy of a port is joined when the first of the two ports is met.
     if store.partner(c, i).is_some() {
         return;
@@ -83,21 +86,23 @@ fn join_port<S: LinkStore>(
     }
 }
 
-/// Joins the copies of an atom's ports.
+/// Joins the copies of an atom's ports, which are those of its copy `c`.
 fn join_ports<S: LinkStore>(
     store: &mut S,
     root: (S::Atom, u8),
-    atoms: &Rows<S::Atom>,
-    copies: &Rows<S::Atom>,
+    atoms: &Found<S::Atom>,
+    copies: &Found<S::Atom>,
     a: S::Atom,
+    c: S::Atom,
 )
     requires copying { Copying (S.heap store.old) (S.atom_id root.0, root.1) (map S.atom_id atoms.now) (map S.atom_id copies.now) }
     requires numbers { Numbered (first_marks (S.heap store.old)) 2 (map S.atom_id atoms.now) }
     requires among { In (S.atom_id a) (map S.atom_id atoms.now) }
+    requires copy { S.atom_id c ≡ answer (map S.atom_id atoms.now) (map S.atom_id copies.now) (S.atom_id a) }
     ensures { S.heap store.new ≡ all_joined (answer (map S.atom_id atoms.now) (map S.atom_id copies.now)) (S.atom_id root.0, root.1) (S.heap store.old) (port_range (S.atom_id a) 0 (arity_of (S.heap store.old) (S.atom_id a))) }
 {
     for i in 0..arity(store, a) {
-        join_port(store, root, atoms, copies, a, i);
+        join_port(store, root, atoms, copies, a, c, i);
     }
 }
 
@@ -105,15 +110,15 @@ fn join_ports<S: LinkStore>(
 pub fn join_copies<S: LinkStore>(
     store: &mut S,
     root: (S::Atom, u8),
-    atoms: &Rows<S::Atom>,
-    copies: &Rows<S::Atom>,
+    atoms: &Found<S::Atom>,
+    copies: &Found<S::Atom>,
 )
     requires copying { Copying (S.heap store.old) (S.atom_id root.0, root.1) (map S.atom_id atoms.now) (map S.atom_id copies.now) }
     requires numbers { Numbered (first_marks (S.heap store.old)) 2 (map S.atom_id atoms.now) }
     ensures { S.heap store.new ≡ all_joined (answer (map S.atom_id atoms.now) (map S.atom_id copies.now)) (S.atom_id root.0, root.1) (S.heap store.old) (ports_of (S.heap store.old) (map S.atom_id atoms.now)) }
 {
     for k in 0..atoms.len() {
-        join_ports(store, root, atoms, copies, *atoms.at(k));
+        join_ports(store, root, atoms, copies, *atoms.at(k), *copies.at(k));
     }
 }
 
@@ -122,7 +127,7 @@ fn copy_marked<S: LinkStore>(
     alloc: Global,
     store: &mut S,
     root: (S::Atom, u8),
-    atoms: &mut Rows<S::Atom>,
+    atoms: &mut Found<S::Atom>,
 ) -> Result<S::Atom, NoMemory>
     requires atom { IsAtom (S.heap store.old) (S.atom_id root.0) }
     requires port { root.1 < arity_of (S.heap store.old) (S.atom_id root.0) }
@@ -137,7 +142,7 @@ fn copy_marked<S: LinkStore>(
 {
     let _arity = arity(store, root.0);
     gather(store, root, atoms)?;
-    let mut copies = Rows::new(alloc);
+    let mut copies = Found::new(alloc);
     let _sound = store.root();
     make_copies(alloc, store, atoms, &mut copies)?;
     let _joined = store.root();
@@ -175,6 +180,9 @@ pub struct CountedCopy<A> {
     pub atoms: u64,
 }
 
+/// For how many atoms of a part room is asked at first.
+const FEW: usize = 64;
+
 /// Copies a part, as `copy` does, and tells how many atoms it has.
 pub fn copy_counted<S: LinkStore>(
     alloc: Global,
@@ -199,7 +207,8 @@ pub fn copy_counted<S: LinkStore>(
             atoms: 1,
         });
     }
-    let mut atoms = Rows::new(alloc);
+    let mut atoms = Found::new(alloc);
+    atoms.reserve(FEW);
     let copied = copy_marked(alloc, store, root, &mut atoms);
     clear(store, &atoms);
     Ok(CountedCopy {

@@ -5,16 +5,17 @@ ghost use Rattle.lmn_ground.specs.Spread.{CleanPart, IsWhole};
 ghost use Rattle.lmn_ground.specs.Copies.{NumbersAtoms, Gathered, unmarked_all};
 ghost use Rattle.lmn_parts.specs.Copies.{AllAtoms};
 
+use crate::found::Found;
 use crate::seek::{Stand, arity, go_down, seek};
 use crate::spread::mark_entry;
-use lmn_base::{NoMemory, Rows};
+use lmn_base::NoMemory;
 use lmn_store::LinkStore;
 
 /// Lists the atoms of a part as a walk finds them, and marks each with its number.
 pub fn gather<S: LinkStore>(
     store: &mut S,
     root: (S::Atom, u8),
-    atoms: &mut Rows<S::Atom>,
+    atoms: &mut Found<S::Atom>,
 ) -> Result<(), NoMemory>
     requires atom { IsAtom (S.heap store.old) (S.atom_id root.0) }
     requires port { root.1 < arity_of (S.heap store.old) (S.atom_id root.0) }
@@ -56,7 +57,7 @@ pub fn gather<S: LinkStore>(
 }
 
 /// Takes back the first marks of these atoms.
-pub fn clear<S: LinkStore>(store: &mut S, atoms: &Rows<S::Atom>)
+pub fn clear<S: LinkStore>(store: &mut S, atoms: &Found<S::Atom>)
     requires there { AllAtoms (S.heap store.old) (map S.atom_id atoms.now) }
     ensures { S.heap store.new ≡ unmarked_all (S.heap store.old) (map S.atom_id atoms.now) }
 {

@@ -7,6 +7,7 @@ mod compare;
 mod copying;
 mod equality;
 mod examples;
+mod found;
 mod gather;
 mod measuring;
 mod painting;

@@ -1,12 +1,15 @@
 use Rattle.std.proofs.Common.{◌∙◌, map}
 use Rattle.lmn_heap.specs.Heap.{arity_of}
 use Rattle.lmn_parts.specs.Copies.{answer}
-use Rattle.lmn_ground.proofs.CopyLaws.{member, ports_copying, ports_numbers, ports_arity, ports_done}
+use Rattle.lmn_ground.proofs.CopyLaws.{member, copy_at, ports_copying, ports_numbers, ports_arity, ports_done}
 use Rattle.lmn_ground.proofs.copying.join_copies.Goals as goal
 use Rattle.lmn_parts.specs.Walks.{port_range}
 
 pub join_ports-requires-clause-among : goal.join_ports-requires-clause-among
 join_ports-requires-clause-among g c = member g.S.LinkStore.atom_id c.args.atoms.now _ _ c.at.ensures
+
+pub join_ports-requires-clause-copy : goal.join_ports-requires-clause-copy
+join_ports-requires-clause-copy g c = copy_at g.S.LinkStore.atom_id c.args.atoms.now c.args.copies.now c.loop-k.k _ _ c.loop-k.invariant.copying.once c.at.ensures c.at-in-loop-k.ensures
 
 pub loop-k-preserved : goal.loop-k-preserved
 loop-k-preserved g c =
