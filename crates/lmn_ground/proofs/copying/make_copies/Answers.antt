@@ -1,11 +1,12 @@
+use Rattle.std.proofs.Common.{◌∙◌}
 use Rattle.lmn_ground.proofs.CopyLaws.{member, made_first, made_more, made_next, made_keeps, none_long, one_longer}
 use Rattle.lmn_ground.proofs.copying.make_copies.Goals as goal
 
 pub loop-i-init : goal.loop-i-init
 loop-i-init g c = record {
   there = c.requires.there;
-  made = made_first g.S.LinkStore.atom_id _ _ c.args.copies.now c.requires.empty;
-  long = none_long c.args.copies.now c.requires.empty;
+  made = made_first g.S.LinkStore.atom_id _ _ c.reserve.new.self (c.reserve.ensures ∙ c.requires.empty);
+  long = none_long c.reserve.new.self (c.reserve.ensures ∙ c.requires.empty);
 }
 
 pub functor-functor-requires : goal.functor-functor-requires
