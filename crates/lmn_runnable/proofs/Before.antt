@@ -1,4 +1,4 @@
--- Partners agree before what ties in the code of a body is run.
+-- What holds before what drops, and before what ties, in the code of a body is run.
 use Rattle.std.proofs.Common.{ℕ, ◌+◌, ◌≡◌, List, ◌++◌, map, length, sym, ap, subst, ◌∙◌, true, false}
 use Rattle.lmn_base.specs.Lists.{In}
 use Rattle.lmn_base.proofs.Lists.{get_below, get_there as get_some}
@@ -10,13 +10,15 @@ use Rattle.lmn_heap.proofs.Listing.{same_paired}
 use Rattle.lmn_solid.specs.declared.items.HeadItem.{HeadItem}
 use Rattle.lmn_solid.specs.Heads.{HeadMembrane, atoms_of as head_atoms, typed_contexts_of, membranes_of}
 use Rattle.lmn_solid.specs.Embeddings.{Lies, HasMembrane}
-use Rattle.lmn_splice.specs.Classes.{rising}
+use Rattle.lmn_splice.specs.Classes.{class_of, rising}
 use Rattle.lmn_splice.proofs.EndLemmas.{in_rising, rising_distinct}
 use Rattle.lmn_instr.specs.declared.instr.Instr.TheVariants.{RemoveAtom, RemovePart, RemoveMem}
 use Rattle.lmn_body.specs.declared.items.BodyItem.{BodyItem}
 use Rattle.lmn_body.specs.Added.{moved_mems}
-use Rattle.lmn_body.specs.Code.{removals, making, body_code, drops}
+use Rattle.lmn_body.specs.Code.{removals, making, body_code, drops, links_code}
+use Rattle.lmn_body.specs.Conditions.{CanRun}
 use Rattle.lmn_body.specs.Fired.{images_of}
+use Rattle.lmn_body.specs.Items.{connectors, new_ports, old_ports}
 use Rattle.lmn_body.specs.Rules.{NestedRule, PartAtoms}
 use Rattle.lmn_body.specs.Running.{Registers, Prepares, DoesAll}
 use Rattle.lmn_body.specs.Tied.{partners}
@@ -30,11 +32,13 @@ use Rattle.lmn_body.proofs.Parts.{parts_commit, taken_append, taken_links}
 use Rattle.lmn_body.proofs.Places.{goes_body, moved_are, nests_body}
 use Rattle.lmn_body.proofs.Removing.{all_taken_mems, commits_taken_mems}
 use Rattle.lmn_body.proofs.Nesting as nesting
+use Rattle.lmn_runnable.proofs.TiesCan.{ties_can}
 
--- In a heap that comes by taking out, making and dropping partners agree, where the body was prepared.
-pub paired_before_ties : (head : List HeadItem) (body : List BodyItem) (n : ℕ) → NestedRule head body n → (r : Registers) (h : Heap) → Valid h → (m : ℕ) → Lies h head m r.head.images → HoldsRests h r head → IsMemInPlace h m →
-    (s : Heap) → Prepares r (body_code head body n) h s → (u : Heap) → DoesAll r (removals head ++ (making (length (head_atoms head)) (1 + length (membranes_of head)) 0 body ++ drops 1 (membranes_of head))) s u → Paired u
-paired_before_ties head body n nested r h valid m em rests stand s prepares u does =
+-- In a heap that comes by taking out, making and dropping partners agree, and what ties can be run, where the body was prepared.
+pub before_ties : (head : List HeadItem) (body : List BodyItem) (n : ℕ) → NestedRule head body n → (r : Registers) (h : Heap) → Valid h → (m : ℕ) → Lies h head m r.head.images → HoldsRests h r head → IsMemInPlace h m →
+    (s : Heap) → Prepares r (body_code head body n) h s → (u : Heap) → DoesAll r (removals head ++ (making (length (head_atoms head)) (1 + length (membranes_of head)) 0 body ++ drops 1 (membranes_of head))) s u →
+    Paired u × CanRun r (links_code (class_of (connectors body)) (new_ports (length (head_atoms head)) 0 body) (old_ports head) (rising 0 n)) u
+before_ties head body n nested r h valid m em rests stand s prepares u does =
     let numbers = links_have_numbers h valid in
     let c = numbers.0 in
     let names = numbers.1 in
@@ -77,9 +81,11 @@ paired_before_ties head body n nested r h valid m em rests stand s prepares u do
     (λ of k i j l. open_from_rest h valid head body n m r nested em stand rests ps parts_are c names of k i j l) nested.placed in
     let nests = nests_body h valid head m r qs em stand head_nests body pr.mems.fresh (dropped_mems r head) (λ x i. hs.removed_mem x (in_right x (membrane_images r head) (dropped_mems r head) i))
     (λ x i. hs.removed_later x (in_right x (membrane_images r head) (dropped_mems r head) i)) (λ of i x j. rest_dropped h valid head body n m r nested em stand rests ps parts_are c names of i x j)
-    (λ of k i j l. open_from_rest h valid head body n m r nested em stand rests ps parts_are c names of k i j l) nested.placed in
-    same_paired s u (nesting.links_t4 h valid head body n m r qs rule' em stand d all.names goes contexts ps parts_are hs s pr nests listed ce.0 run u ce.2)
-    (nesting.paired_s h valid head body n m r qs rule' em stand d all.names goes contexts ps parts_are hs s pr nests listed)
+    (λ of k i j l. open_from_rest h valid head body n m r nested em stand rests ps parts_are c names of k i j l) nested.placed in (
+      same_paired s u (nesting.links_t4 h valid head body n m r qs rule' em stand d all.names goes contexts ps parts_are hs s pr nests listed ce.0 run u ce.2)
+          (nesting.paired_s h valid head body n m r qs rule' em stand d all.names goes contexts ps parts_are hs s pr nests listed),
+      ties_can h valid head body n m r qs rule' em stand d all.names goes contexts ps parts_are hs s pr nests listed ce.0 run u ce.2,
+    )
 
 -- In a heap that comes by taking out and making lists and places agree, where the body was prepared.
 pub listed_before_drops : (head : List HeadItem) (body : List BodyItem) (n : ℕ) → NestedRule head body n → (r : Registers) (h : Heap) → Valid h → (m : ℕ) → Lies h head m r.head.images → HoldsRests h r head → IsMemInPlace h m →

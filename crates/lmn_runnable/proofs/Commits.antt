@@ -19,7 +19,7 @@ use Rattle.lmn_instr.specs.declared.instr.Instr.{Instr}
 use Rattle.lmn_instr.specs.declared.instr.Instr.TheVariants.{DropCells, NewLink, Relink, Unify, Proceed}
 use Rattle.lmn_verify.specs.Verified.{IsVerified, drops, membranes_found}
 use Rattle.lmn_runnable.specs.Flat.{flat_body, flat_head, link_count}
-use Rattle.lmn_runnable.proofs.Before.{paired_before_ties}
+use Rattle.lmn_runnable.proofs.Before.{before_ties}
 use Rattle.lmn_runnable.proofs.Exchanged.{EachTie, IsTurned, SameTie, is_tie}
 use Rattle.lmn_runnable.proofs.Linking.{is_nested}
 use Rattle.lmn_runnable.proofs.Shape.{HasShape, made_code, shape, taken_code, ties_code}
@@ -178,12 +178,13 @@ module _ (code : Code) (k : ℕ) (v : IsVerified code k) (h : Heap) (valid : Val
   -- What is dropped does the same in both orders.
   pub record DropsSame (w : Heap) : Type 0 where
     pub runs : Runs r D w → Runs r S.dropped w
-    pub does : Runs r D w → (u : Heap) → DoesAll r S.dropped w u → DoesAll r D w u
+    pub does : (u : Heap) → DoesAll r S.dropped w u → DoesAll r D w u
 
   tied_all : list_all is_tie (ties_code code k v) ≡ true
   tied_all = each_ties S.tied (ties_code code k v) S.same_ties S.ties_all
 
-  prepared : (s : Heap) → Prepares r code.body h s → Prepares r B h s
+  -- What the body of the code makes, that of the flat rule does.
+  pub prepared : (s : Heap) → Prepares r code.body h s → Prepares r B h s
   prepared s p =
       let a = prepares_append r (taken_code code k v) (made_code code k v ++ (S.dropped ++ (S.tied ++ P))) h s (subst (λ l. Prepares r l h s) S.whole p) in
       let b = prepares_append r (made_code code k v) (S.dropped ++ (S.tied ++ P)) a.0 s a.2 in
@@ -231,32 +232,28 @@ module _ (code : Code) (k : ℕ) (v : IsVerified code k) (h : Heap) (valid : Val
         let c = runs_split r D (L ++ P) n (b.1 n dn) in
         let both = same s p n (does_join r T M s t n dt dn) in
         runs_join r S.dropped (S.tied ++ P) n (both.runs c.0) (λ u du.
-        let dd = both.does c.0 u du in
-        let paired = paired_before_ties (flat_head code) (flat_body code) (link_count code) (is_nested code k v) r h valid m lies rests place s p u (does_join r T (M ++ D) s t u dt (does_join r M D t n u dn dd)) in
-        ties_run r S.tied L P u S.same_ties S.ties_all paired (c.1 u dd)))))
+        let dd = both.does u du in
+        let ties = before_ties (flat_head code) (flat_body code) (link_count code) (is_nested code k v) r h valid m lies rests place s p u (does_join r T (M ++ D) s t u dt (does_join r M D t n u dn dd)) in
+        ties_run r S.tied L P u S.same_ties S.ties_all ties.0 (c.1 u dd)))))
 
-    -- And it does the same.
-    does_too : (s t : Heap) → Prepares r B h s → Runs r B s → DoesAll r code.body s t → DoesAll r B s t
-    does_too s t p w d =
+    -- And it does the same, whatever room its membranes have for rules.
+    pub does_too : (s t : Heap) → Prepares r B h s → DoesAll r code.body s t → DoesAll r B s t
+    does_too s t p d =
         let T = taken_code code k v in
         let M = made_code code k v in
         let L = ties_code code k v in
-        let a = runs_split r T (M ++ (D ++ (L ++ P))) s w in
         let da = commits_append r T (M ++ (S.dropped ++ (S.tied ++ P))) s t (subst (λ l. DoesAll r l s t) S.whole d) in
-        let b = runs_split r M (D ++ (L ++ P)) da.0 (a.1 da.0 da.1) in
         let db = commits_append r M (S.dropped ++ (S.tied ++ P)) da.0 t da.2 in
-        let c = runs_split r D (L ++ P) db.0 (b.1 db.0 db.1) in
         let dc = commits_append r S.dropped (S.tied ++ P) db.0 t db.2 in
-        let both = same s p db.0 (does_join r T M s da.0 db.0 da.1 db.1) in
-        let dd = both.does c.0 dc.0 dc.1 in
-        let paired = paired_before_ties (flat_head code) (flat_body code) (link_count code) (is_nested code k v) r h valid m lies rests place s p dc.0 (does_join r T (M ++ D) s da.0 dc.0 da.1 (does_join r M D da.0 db.0 dc.0 db.1 dd)) in
-        does_join r T (M ++ (D ++ (L ++ P))) s da.0 t da.1 (does_join r M (D ++ (L ++ P)) da.0 db.0 t db.1 (does_join r D (L ++ P) db.0 dc.0 t dd (ties_do r S.tied L P dc.0 t S.same_ties S.ties_all paired (c.1 dc.0 dd) dc.2)))
+        let dd = (same s p db.0 (does_join r T M s da.0 db.0 da.1 db.1)).does dc.0 dc.1 in
+        let ties = before_ties (flat_head code) (flat_body code) (link_count code) (is_nested code k v) r h valid m lies rests place s p dc.0 (does_join r T (M ++ D) s da.0 dc.0 da.1 (does_join r M D da.0 db.0 dc.0 db.1 dd)) in
+        does_join r T (M ++ (D ++ (L ++ P))) s da.0 t da.1 (does_join r M (D ++ (L ++ P)) da.0 db.0 t db.1 (does_join r D (L ++ P) db.0 dc.0 t dd (ties_do r S.tied L P dc.0 t S.same_ties S.ties_all ties.0 ties.1 dc.2)))
 
     pub commits : BodiesCanBeCommitted → CanBeCommitted r code.body h
     commits law s p spares room =
         let q = prepared s p in
         let w = law (flat_head code) (flat_body code) (link_count code) (is_nested code k v) h valid m place r lies rests s q spares (λ x. subst (λ n. n ≤ spare_of s x) (sym (same_need x)) (room x)) in
-        (runs_too s q w.0, λ t d. w.1 t (does_too s t q w.0 d))
+        (runs_too s q w.0, λ t d. w.1 t (does_too s t q d))
 
   -- ---- the cost
 

@@ -1,9 +1,9 @@
 mod Listed
 mod InOrder
-mod Ready
+pub mod Ready
 mod Finds
 mod Links
-mod Items
+pub mod Items
 mod Heads
 mod Rules
 mod Twice
@@ -16,10 +16,14 @@ mod Ties
 mod Tied
 mod Exchanged
 mod Turned
+mod TiesCan
 mod Before
 mod Shape
 mod Commits
 mod Drops
 mod Dropped
 mod Runnable
+mod Fires
+pub mod Unmarked
+pub mod Integers
 mod FlatRules

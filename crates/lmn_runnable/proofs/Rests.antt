@@ -18,7 +18,7 @@ use Rattle.lmn_runnable.proofs.Ready.{membranes_counted}
 use Rattle.lmn_runnable.proofs.Rules.{copied_rest, head_nests, inside_head}
 
 -- the head sets a register for each item of the flat head
-sets_items : (code : Code) (k : ℕ) → IsVerified code k → SetsItems code.head (flat_head code)
+pub sets_items : (code : Code) (k : ℕ) → IsVerified code k → SetsItems code.head (flat_head code)
 sets_items code k v = record {
   atoms = sym (atom_count code ∙ atoms_counted code.head v.looked_at);
   membranes = sym (membrane_count code ∙ membranes_counted code.head);

@@ -45,12 +45,12 @@ module _ (code : Code) (k : ℕ) (v : IsVerified code k) (h : Heap) (valid : Val
   closed n i = let w = closed_number code k v n i in record { membrane = w.0; has = w.1; closed = w.2 }
 
   -- What is dropped does the same in the order of the code and in rising order.
-  same : (s : Heap) → Prepares r (B code k v h valid m place r lie rests) h s → (w : Heap) → DoesAll r (taken_code code k v ++ made_code code k v) s w → DropsSame code k v h valid m place r lie rests w
+  pub same : (s : Heap) → Prepares r (B code k v h valid m place r lie rests) h s → (w : Heap) → DoesAll r (taken_code code k v ++ made_code code k v) s w → DropsSame code k v h valid m place r lie rests w
   same s p w d =
       let listed = listed_before_drops (flat_head code) (flat_body code) (link_count code) (is_nested code k v) r h valid m lie rests place s p w d in
       record {
         runs = λ u. subst (λ l. Runs r l w) (sym (dropped_is code k v)) (runs_any r w listed Closed apart once (js code k v) (ks code k v) (js_distinct code k v) (ks_distinct code k v) closed (there code k v) (back code k v) (subst (λ l. Runs r l w) (rising_is code k v) u));
-        does = λ u t e. subst (λ l. DoesAll r l w t) (sym (rising_is code k v)) (does_any r w listed Closed apart once (js code k v) (ks code k v) (js_distinct code k v) (ks_distinct code k v) closed (there code k v) (back code k v) (subst (λ l. Runs r l w) (rising_is code k v) u) t
+        does = λ t e. subst (λ l. DoesAll r l w t) (sym (rising_is code k v)) (does_any r w listed Closed apart once (js code k v) (ks code k v) (js_distinct code k v) (ks_distinct code k v) closed (there code k v) (back code k v) t
             (subst (λ l. DoesAll r l w t) (dropped_is code k v) e));
       }
 

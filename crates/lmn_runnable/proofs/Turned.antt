@@ -16,7 +16,7 @@ use Rattle.lmn_splice.proofs.Joining.{same_some}
 use Rattle.lmn_instr.specs.declared.instr.Instr.{Instr}
 use Rattle.lmn_instr.specs.declared.instr.Instr.TheVariants.{NewLink, Relink, Unify}
 use Rattle.lmn_body.specs.Running.{Registers, Does, DoesAll, new_port, old_port}
-use Rattle.lmn_body.specs.Conditions.{Can}
+use Rattle.lmn_body.specs.Conditions.{Can, CanRun}
 use Rattle.lmn_commit.specs.Committing.{Runs, Stands}
 use Rattle.lmn_runnable.proofs.Exchanged.{EachTie, IsTurned, SameTie, is_tie}
 use Rattle.lmn_body.proofs.HeapTies.{apart_ports}
@@ -200,11 +200,11 @@ module _ (r : Registers) where
       )
 
   -- And they do the same.
-  pub ties_do : (is js rest : List Instr) (s u : Heap) → EachTie is js → list_all is_tie is ≡ true → Paired s → Runs r (js ++ rest) s → DoesAll r (is ++ rest) s u → DoesAll r (js ++ rest) s u
+  pub ties_do : (is js rest : List Instr) (s u : Heap) → EachTie is js → list_all is_tie is ≡ true → Paired s → CanRun r js s → DoesAll r (is ++ rest) s u → DoesAll r (js ++ rest) s u
   ties_do [] [] rest s u e t h w d = d
   ties_do [] (j ∷ js) rest s u e t h w d = absurd e
   ties_do (i ∷ is) [] rest s u e t h w d = absurd e
   ties_do (i ∷ is) (j ∷ js) rest s u e t h w d =
       let a = and_true (is_tie i) (list_all is_tie is) t in
       let f = same_does i j s d.0 e.0 h w.0 d.1 in
-      (d.0, f, ties_do is js rest d.0 u e.1 a.1 (paired_after j s d.0 (same_tie i j a.0 e.0) h w.0 f) (w.2 d.0 f) d.2)
+      (d.0, f, ties_do is js rest d.0 u e.1 a.1 (paired_after j s d.0 (same_tie i j a.0 e.0) h w.0 f) (w.1 d.0 f) d.2)

@@ -1,17 +1,23 @@
 -- What verified code can do.
 use Rattle.std.specs.Prelude.{ℕ, ◌≡◌, ◌<◌, ◌+◌, List, Some, length, slice_get}
 use Rattle.std.specs.List.{AllByRecursion}
-use Rattle.lmn_heap.specs.Heap.{Heap, IsMemInPlace}
+use Rattle.lmn_heap.specs.Heap.{Heap, IsMemInPlace, Unmarked}
 use Rattle.lmn_heap.specs.Sound.{Valid}
 use Rattle.lmn_solid.specs.Embeddings.{Lies}
 use Rattle.lmn_instr.specs.declared.instr.Code.{Code}
+use Rattle.lmn_instr.specs.declared.instr.Instr.{Instr}
 use Rattle.lmn_instr.specs.declared.instr.Instr.TheVariants.{CopyCells}
 use Rattle.lmn_instr.specs.Running.{HeadRegisters, IsFirstSuccess, Succeeds, membranes_set}
 use Rattle.lmn_parts.specs.Rests.{NoneLeaves}
+use Rattle.lmn_body.specs.declared.items.BodyItem.TheVariants.{Bound}
 use Rattle.lmn_body.specs.Rules.{NestedRule}
 use Rattle.lmn_body.specs.Running.{Registers}
-use Rattle.lmn_body.specs.Within.{HoldsRests}
-use Rattle.lmn_machine.specs.Searching.{HeadInOrder}
+use Rattle.lmn_body.specs.Within.{FiresFlat, HoldsRests}
+use Rattle.lmn_commit.specs.Waking.{Commits}
+use Rattle.lmn_machine.specs.Searching.{HeadInOrder, integers_set, parts_set}
+use Rattle.lmn_matching.specs.AcceptedCode.{SetsItems}
+use Rattle.lmn_sleep.specs.Quiet.{SameButMarks}
+use Rattle.lmn_splice.specs.Splice.{IsOneOf}
 use Rattle.lmn_verify.specs.Verified.{IsVerified}
 use Rattle.lmn_strategy.specs.Turns.{AreRunnable, HoldsRestsOf, IsReadyCode, IsRestOf, IsRunnable, Loads}
 use Rattle.lmn_runnable.specs.Flat.{flat_head, flat_body, link_count}
@@ -52,3 +58,28 @@ VerifiedHoldsRests = (code : Code) (k : ℕ) → IsVerified code k → (h : Heap
 -- Its flat head and body are a rule.
 abbrev pub VerifiedIsRule : Type 0
 VerifiedIsRule = (code : Code) (k : ℕ) → IsVerified code k → NestedRule (flat_head code) (flat_body code) (link_count code)
+
+-- Where its body is committed at the first success of its head, its flat rule fires, and what it leaves is valid. That is the heap
+-- after but for marks of membranes, of which no rule speaks.
+abbrev pub VerifiedFires : Type 0
+VerifiedFires = (code : Code) (k : ℕ) → IsVerified code k → (h : Heap) (m : ℕ) (r : Registers) → Valid h → IsMemInPlace h m →
+    IsFirstSuccess h code.head m r.head → HoldsRestsOf h code.head r → (z : Heap) → Commits h r code.body z →
+    (t : Heap) × SameButMarks t z × Valid t × FiresFlat (flat_head code) (flat_body code) r h t
+
+-- No mark of an atom comes where code is committed.
+abbrev pub CommitsStayUnmarked : Type 0
+CommitsStayUnmarked = (h : Heap) (r : Registers) (code : List Instr) (z : Heap) → Commits h r code z → Unmarked h → Unmarked z
+
+-- The head of code sets a register for each item of its flat head, and each integer that its flat body names.
+pub record SetsFlat (code : Code) : Type 0 where
+  pub items : SetsItems code.head (flat_head code)
+  pub integers : (v link inside : ℕ) → IsOneOf (Bound v link inside) (flat_body code) → v < integers_set code.head
+
+-- So does that of verified code.
+abbrev pub VerifiedSetsFlat : Type 0
+VerifiedSetsFlat = (code : Code) (k : ℕ) → IsVerified code k → SetsFlat code
+
+-- Where head code succeeds with registers that hold the same parts, they hold the same integers.
+abbrev pub IntegersAreOne : Type 0
+IntegersAreOne = (code : List Instr) → HeadInOrder 0 1 0 0 code → (h : Heap) (m : ℕ) (r s : HeadRegisters) → Succeeds h code m r → Succeeds h code m s →
+    ((g : ℕ) → g < parts_set code → r.images.part g ≡ s.images.part g) → (v : ℕ) → v < integers_set code → r.integer v ≡ s.integer v

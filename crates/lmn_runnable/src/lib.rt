@@ -2,7 +2,7 @@
 #![tactic(auto)]
 
 ghost use Rattle.lmn_runnable.specs.FlatExamples.{FlatExamples};
-ghost use Rattle.lmn_runnable.specs.Laws.{VerifiedAreRunnable, VerifiedCopiesClosed, VerifiedHeadsLie, VerifiedHoldsRests, VerifiedIsInOrder, VerifiedIsRule, VerifiedIsRunnable};
+ghost use Rattle.lmn_runnable.specs.Laws.{CommitsStayUnmarked, IntegersAreOne, VerifiedAreRunnable, VerifiedCopiesClosed, VerifiedFires, VerifiedHeadsLie, VerifiedHoldsRests, VerifiedIsInOrder, VerifiedIsRule, VerifiedIsRunnable, VerifiedSetsFlat};
 
 use lmn_commit::bodies_can_be_committed;
 use lmn_cost::bodies_cost_what_is_told;
@@ -39,6 +39,27 @@ pub fn verified_is_runnable()
     bodies_can_be_committed();
     bodies_cost_what_is_told();
 }
+
+/// Verified code that is committed where its head first succeeds fires its flat rule: the links, the functors and the lists of each
+/// membrane are those of the firing, and the heap is valid.
+pub fn verified_fires()
+    ensures { VerifiedFires }
+{}
+
+/// Where code is committed on a heap of which each mark of an atom is 0, each mark of an atom is 0.
+pub fn commits_stay_unmarked()
+    ensures { CommitsStayUnmarked }
+{}
+
+/// The head of verified code sets a register for each item of its flat head, and each integer that its flat body names.
+pub fn verified_sets_flat()
+    ensures { VerifiedSetsFlat }
+{}
+
+/// Where head code succeeds with registers that hold the same parts, they hold the same integers.
+pub fn integers_are_one()
+    ensures { IntegersAreOne }
+{}
 
 /// The flat rules of small codes: with UNIFY, a membrane that is counted, one whose rest is moved, and typed contexts.
 pub fn flat_examples()
