@@ -13,10 +13,10 @@ NAMES = 2 ^ 64
 abbrev pub label_number : Label → ℕ
 label_number (Name n) = (n + 1) * NAMES
 label_number (Int (pos k)) = k
-label_number (Int (negsuc k)) = NEGATIVES + k
+label_number (Int (negsuc k)) = NAMES - 1 - k
 
 abbrev pub label_by : ℕ → Label
-label_by n = if nat_lt n NEGATIVES then Int (pos n) else if nat_lt n NAMES then Int (negsuc (n - NEGATIVES)) else Name (n / NAMES - 1)
+label_by n = if nat_lt n NEGATIVES then Int (pos n) else if nat_lt n NAMES then Int (negsuc (NAMES - 1 - n)) else Name (n / NAMES - 1)
 
 -- that of an integer of 64 bits, or of a name of 32 bits
 abbrev pub IsLabelNumber : ℕ → Type 0
