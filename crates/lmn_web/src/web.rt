@@ -63,6 +63,7 @@ impl Model for Web {
 }
 
 impl Drop for Web {
+    #[inline(never)]
     fn drop(self) {
         let Web { cells, all } = self;
         free_all(cells, all);
