@@ -7,8 +7,9 @@ use Rattle.lmn_solid.specs.declared.items.HeadItem.TheVariants as head
 use Rattle.lmn_body.specs.declared.items.BodyItem.TheVariants as body
 use Rattle.lmn_instr.specs.declared.instr.Code.{Code}
 use Rattle.lmn_instr.specs.declared.instr.Instr.TheVariants.{GetInt, MoveCells, Proceed, Unify}
-use Rattle.lmn_verify.specs.VerifiedExamples.{at, both_made, by_link, computed, counted, followed, functor, opened, relinked}
+use Rattle.lmn_verify.specs.VerifiedExamples.{at, both_made, by_link, code, computed, counted, followed, functor, opened, relinked}
 use Rattle.lmn_runnable.specs.Flat.{flat_body, flat_head, link_count}
+use Rattle.lmn_runnable.specs.Laws.{SetsFlat}
 
 -- `a(X, Z), b(Y, X) :- .`, with Z and Y joined by UNIFY: DEREF is at place 1 and UNIFY at place 7
 abbrev pub unified : Code
@@ -36,6 +37,7 @@ added = computed (GetInt 1 0) both_made
 --   open_             one whose rest is moved has an open context
 --   rest              which stands in the body
 --   parts, bound      a typed context and the port before it have one link, and so have two new ports
+--   set, unset        the head sets the integer that the body names, and without it the integer isn't set
 pub record FlatExamples : Type 0 where
   pub ends : flat_head unified ≡ unified_head 15
   pub connected : flat_body unified ≡ body.Connector 14 15 ∷ []
@@ -48,3 +50,5 @@ pub record FlatExamples : Type 0 where
   pub parts : flat_head added ≡
       head.Atom (functor name_p 1) (4 ∷ []) 0 ∷ (head.Atom (functor name_q 1) (6 ∷ []) 0 ∷ (head.Typed 0 kind.Int 4 0 ∷ (head.Typed 1 kind.Ground 6 0 ∷ [])))
   pub bound : flat_body added ≡ body.Atom (functor name_p 1) (28 ∷ []) 0 ∷ (body.Bound 2 28 0 ∷ [])
+  pub set : SetsFlat added
+  pub unset : SetsFlat (code [] added.body) → ⊥
