@@ -284,6 +284,29 @@ pub fn step<S: LinkStore>(
             let place = set.membranes.at(*membrane as usize);
             rests::is_closed(store, set, place, parts.as_slice())
         }
+        // Each of these is an arm of its own, so that one jump leads to what it does.
+        Instr::GetInt { .. } => compute(store, set, instr),
+        Instr::Const { .. } => compute(store, set, instr),
+        Instr::Add { .. } => compute(store, set, instr),
+        Instr::Sub { .. } => compute(store, set, instr),
+        Instr::Mul { .. } => compute(store, set, instr),
+        Instr::Div { .. } => compute(store, set, instr),
+        Instr::Mod { .. } => compute(store, set, instr),
+        Instr::Func { .. } => compute(store, set, instr),
+        Instr::InMem { .. } => compute(store, set, instr),
+        Instr::NeqAtom { .. } => compute(store, set, instr),
+        Instr::Joined { .. } => compute(store, set, instr),
+        Instr::NeqMem { .. } => compute(store, set, instr),
+        Instr::NMems { .. } => compute(store, set, instr),
+        Instr::NoRules { .. } => compute(store, set, instr),
+        Instr::NotIn { .. } => compute(store, set, instr),
+        Instr::Lt { .. } => compute(store, set, instr),
+        Instr::Le { .. } => compute(store, set, instr),
+        Instr::Gt { .. } => compute(store, set, instr),
+        Instr::Ge { .. } => compute(store, set, instr),
+        Instr::Eq { .. } => compute(store, set, instr),
+        Instr::Ne { .. } => compute(store, set, instr),
+        Instr::Commit => compute(store, set, instr),
         _ => compute(store, set, instr),
     }
 }
