@@ -38,8 +38,8 @@ pub returns-in-NeqGround-clause-stepped : goal.returns-in-NeqGround-clause-stepp
 returns-in-NeqGround-clause-stepped g c =
     differ_stepped g.S.LinkStore.atom_id g.S.LinkStore.mem_id (g.S.LinkStore.heap c.args.store.now) c.args.set.now c.are_different.result c.args.instr.now _ _ _ _ c.in-NeqGround.is c.requires.held c.at-root-in-NeqGround.ensures c.at-other_root-in-NeqGround.ensures c.are_different.ensures.different
 
-pub compute-in_default-requires-clause-no_part : goal.compute-in_default-requires-clause-no_part
-compute-in_default-requires-clause-no_part g c = asks_no_part c.args.instr.now c.requires.no_choice c.in_default.not-Deref c.in_default.not-IsInt c.in_default.not-IsUnary c.in_default.not-IsGround c.in_default.not-EqGround c.in_default.not-NeqGround c.in_default.not-NAtoms c.in_default.not-IsClosed
+pub compute-requires-in_default-clause-no_part : goal.compute-requires-in_default-clause-no_part
+compute-requires-in_default-clause-no_part g c = asks_no_part c.args.instr.now c.requires.no_choice c.in_default.not-Deref c.in_default.not-IsInt c.in_default.not-IsUnary c.in_default.not-IsGround c.in_default.not-EqGround c.in_default.not-NeqGround c.in_default.not-NAtoms c.in_default.not-IsClosed
 
 pub returns-in-NAtoms-clause-stepped : goal.returns-in-NAtoms-clause-stepped
 returns-in-NAtoms-clause-stepped g c =
