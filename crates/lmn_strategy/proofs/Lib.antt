@@ -18,3 +18,4 @@ pub mod Passing
 pub mod QuietCodes
 pub mod Rightly
 pub mod SmallMarks
+pub mod Rooted

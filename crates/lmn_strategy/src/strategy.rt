@@ -130,6 +130,24 @@ struct Awake<M> {
     membrane: M,
 }
 
+/// The first membrane that is awake, with its number, of those with a number of at least `at` in preorder. The root has 0.
+#[tactic(auto, using(crate::proofs::Rooted::root_mem, crate::proofs::Rooted::root_next))]
+fn awake_from<S: LinkStore>(store: &mut S, at: u64) -> Option<(u64, S::Mem)>
+    requires { Valid (S.heap store.old) }
+    ensures same { S.heap store.new ≡ S.heap store.old }
+    ensures next { (f : Forest) → IsTree (S.heap store.old) f → MatchOption result
+        (NoneAwake (S.heap store.old) (flat f) at (length (flat f)))
+        (λ r. IsNextAwake (S.heap store.old) (flat f) at r.0 (S.mem_id r.1)) }
+{
+    if at == 0 {
+        let root = store.root();
+        if store.mem_mark(root) == 0 {
+            return Some((0, root));
+        }
+    }
+    store.awake_from(at)
+}
+
 /// The first membrane that is awake of those with a number of at least `at` and less than `until` in preorder.
 fn next_awake<S: LinkStore>(machine: &mut Machine<S>, at: u64, until: u64) -> Option<Awake<S::Mem>>
     requires { Valid (S.heap machine.old.store) }
@@ -139,7 +157,7 @@ fn next_awake<S: LinkStore>(machine: &mut Machine<S>, at: u64, until: u64) -> Op
         (λ a. IsNextAwake (S.heap machine.old.store) (flat f) at a.number (S.mem_id a.membrane)) }
     ensures within { IfSome result (λ a. a.number < until) }
 {
-    match machine.store_mut().awake_from(at) {
+    match awake_from(machine.store_mut(), at) {
         Some((number, membrane)) => {
             if number < until {
                 Some(Awake { number, membrane })
