@@ -11,3 +11,8 @@ mod Small
 mod Matches
 mod Costs
 mod Exact
+mod SameBut
+mod Carried
+mod Choosing
+mod OneStep
+mod OneRun

@@ -1,11 +1,17 @@
 //! Laws of runs of codes, and small examples: each the contract of a function that at most names other laws.
 ghost use Rattle.lmn_coded.specs.Examples.{IdleCodeCommits, IdleCodeSucceeds, NoCodesAreExecuted, NoCodesCanTurn, NoRuleIsAsked};
-ghost use Rattle.lmn_coded.specs.Laws.{HaltsAreExact, TablesRunAsRules, TurnsAreExact};
+ghost use Rattle.lmn_coded.specs.Laws.{HaltsAreExact, RunsAreOne, TablesRunAsRules, TurnsAreExact};
 
 use lmn_choice::{
     marks_are_not_read, nothing_embeds, spares_are_not_read, turns_are_alike, turns_are_of_chooser,
 };
 use lmn_folded_printer::heaps_have_one_line;
+use lmn_renamed_firing::firings_are_renamed;
+use lmn_runnable::{
+    commits_stay_unmarked, integers_are_one, verified_fires, verified_heads_lie,
+    verified_is_in_order, verified_is_rule, verified_is_runnable, verified_rests,
+    verified_sets_flat,
+};
 
 /// What is executed of the codes of a table of rules, from a heap that holds a solid, is a run of the rules in which the root is
 /// asked first.
@@ -29,6 +35,23 @@ pub fn turns_are_exact()
 pub fn halts_are_exact()
     ensures { HaltsAreExact }
 {}
+
+/// Two runs of verified codes from heaps of one solid that came to their ends have one count of commits, one end and one text.
+pub fn runs_are_one()
+    ensures { RunsAreOne }
+{
+    verified_fires();
+    firings_are_renamed();
+    verified_is_in_order();
+    verified_heads_lie();
+    verified_rests();
+    verified_is_rule();
+    verified_sets_flat();
+    integers_are_one();
+    commits_stay_unmarked();
+    verified_is_runnable();
+    heaps_have_one_line();
+}
 
 /// What a turn asks, without codes: of the root alone, and of the root with a rule.
 pub fn no_codes_can_turn()
