@@ -17,6 +17,7 @@ mod DemoLemmas
 mod TaskLemmas
 mod OneListing
 mod OneExecution
+mod OneOutput
 mod SmallTexts
 mod SmallBounds
 mod SmallRuns

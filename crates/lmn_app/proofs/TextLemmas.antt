@@ -73,7 +73,7 @@ accepted_at text names others p ps h k a = let P : List Name → Type 0 = λ ns.
 -- ---- sizes
 
 -- plains with one top have one solid
-moved_solid : (p q : Plain) (s : Solid) → p.top ≡ q.top → IsSolidOf p s → IsSolidOf q s
+pub moved_solid : (p q : Plain) (s : Solid) → p.top ≡ q.top → IsSolidOf p s → IsSolidOf q s
 moved_solid p q s e i =
     let P : Level → Type 0 = λ l. EachTwice (links_of l) in
     let Q : Level → Type 0 = λ l. All (JoinsLeaf i.to) (leaves_of l) in
@@ -90,7 +90,8 @@ fits_not (Some size) names others p q well also e (S, i, l) (T, j, m) =
     let as_many : item_count s.0 ≡ item_count t.0 = ap item_count same in
     omega (arith, l, m, s.2, t.2, as_many)
 
-made : {text : List ℕ} {names : List Name} {p : Plain} {ps : List GuardPlan} → IsAcceptedAs text names p ps → IsWellMade p
+-- and an accepted plain is well made
+pub made : {text : List ℕ} {names : List Name} {p : Plain} {ps : List GuardPlan} → IsAcceptedAs text names p ps → IsWellMade p
 made {text} {names} {p} a = well_made text names p a.reads a.outside
 
 fits_or_not : (size : Option ℕ) (names : List Name) (p : Plain) → IsWellMade p → EachTwice (links_of p.top) → Fits size names p ⊎ IsTooLarge size names p

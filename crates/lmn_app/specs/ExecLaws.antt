@@ -1,7 +1,8 @@
--- What `exec` does by the listing that `compile` writes is what `run` does.
+-- What `exec` does by the listing that `compile` writes is what `run` does, and what it does by any listing is one.
 use Rattle.std.specs.Prelude.{◌≡◌, ℕ, List, [], Some, false}
 use Rattle.std.specs.declared.alloc.Global.{Global}
 use Rattle.lmn_base.specs.declared.refusal.Refusal.{Refusal}
+use Rattle.lmn_coded.specs.Laws.{CameToEnd}
 use Rattle.lmn_order.specs.declared.order.Order.TheVariants as order
 use Rattle.lmn_app.specs.declared.ending.Ending.{Ending}
 use Rattle.lmn_app.specs.declared.ending.Ending.TheVariants.{Done, Budget, Full, NoMemory}
@@ -34,3 +35,10 @@ CompiledRunsAsRun = (alloc : Global) (program listing written : List ℕ) (end :
 -- And that listing isn't refused.
 abbrev pub CompiledIsNotWrong : Type 0
 CompiledIsNotWrong = (program listing : List ℕ) (refusal : Refusal) → IsListing program listing → IsWrongListing program listing refusal → ⊥
+
+-- Two executions of one listing beside one program have as many commits, one end and one text, where both came to their end, and where the
+-- names that stand in the listing alone are numbered alike. How a store numbers what it makes doesn't show. Of executions that number those
+-- names otherwise nothing is said.
+abbrev pub OneOutput : Type 0
+OneOutput = (program listing written other : List ℕ) (end last : RunEnd) → CameToEnd end → CameToEnd last →
+    (x : IsExecuted program listing end written) (y : IsExecuted program listing last other) → x.of.later ≡ y.of.later → (x.commits ≡ y.commits) × (end ≡ last) × (written ≡ other)

@@ -8,7 +8,7 @@ ghost use Rattle.lmn_app.specs.CheckLaws.{CheckedNotWrong, OneCount, OneWrongTra
 ghost use Rattle.lmn_app.specs.DebugExamples.{SmallTextIsDebugged, SmallTextIsNotDebuggedSo};
 ghost use Rattle.lmn_app.specs.DebugLaws.{OneWrongScript, SessionNotRefused, SessionOrRefused};
 ghost use Rattle.lmn_app.specs.ExecExamples.{SmallListingIsRead, SmallListingIsWrong, SmallTextIsExecuted, SmallTextIsNotExecutedSo};
-ghost use Rattle.lmn_app.specs.ExecLaws.{CompiledIsNotWrong, CompiledRunsAsRun};
+ghost use Rattle.lmn_app.specs.ExecLaws.{CompiledIsNotWrong, CompiledRunsAsRun, OneOutput};
 ghost use Rattle.lmn_app.specs.Demos.{SomeDemo};
 ghost use Rattle.lmn_app.specs.DemoLaws.{DemoIsFoldedRun};
 ghost use Rattle.lmn_app.specs.ListingLaws.{OneListing};
@@ -19,7 +19,7 @@ ghost use Rattle.lmn_app.specs.Texts.{AcceptedOrRefused, OneRefusal, RefusedNotA
 use lmn_accepted::{accepted_texts, accepted_texts_can_be_loaded};
 use lmn_bounding::weights_bound_commits;
 use lmn_bridge::solids_are_regions;
-use lmn_coded::tables_run_as_rules;
+use lmn_coded::{runs_are_one, tables_run_as_rules};
 use lmn_listable::accepted_can_be_listed;
 use lmn_loading::loading_settles;
 use lmn_receipt::{chains_are_commits, traces_are_chains, traces_are_one_of};
@@ -165,6 +165,16 @@ pub fn compiled_runs_as_run()
     tables_run_as_rules();
     compiled_are_listed();
     accepted_can_be_listed();
+}
+
+/// Two executions of one listing beside one program that came to their ends, and number its names alike, have one count of commits, one
+/// end and one text.
+pub fn executions_are_one()
+    ensures { OneOutput }
+{
+    accepted_can_be_listed();
+    listed_codes_are_one();
+    runs_are_one();
 }
 
 /// Beside `a. a :- b.` a listing is read whose code takes an `a` away, and is run to its end after one commit. A listing whose code
