@@ -10,7 +10,7 @@ use Rattle.lmn_base.specs.declared.guard.Expr.{Expr}
 use Rattle.lmn_base.specs.declared.guard.Expr.TheFolds.{fold-roll-Expr}
 use Rattle.lmn_base.specs.declared.guard.Expr.TheOpen as step
 use Rattle.lmn_base.specs.declared.rule.RuleTree.{RuleTree}
-use Rattle.lmn_coded.specs.Laws.{AreVerified, CameToEnd, IsValidHeapOf, RunsAreOne}
+use Rattle.lmn_coded.specs.Laws.{AreVerified, IsValidHeapOf, RunsAreOne}
 use Rattle.lmn_coded.specs.Runs.{Executed}
 use Rattle.lmn_congruence.specs.Rules as tree
 use Rattle.lmn_congruence.specs.Rules.{Name}
@@ -30,8 +30,8 @@ use Rattle.lmn_verified.specs.OneReading.{ListedCodesAreOne}
 use Rattle.lmn_verify.specs.Listings.{AreListed}
 use Rattle.lmn_verify.specs.Verified.{IsVerified}
 use Rattle.lmn_app.specs.ExecLaws.{OneOutput}
-use Rattle.lmn_app.specs.Executions.{IsExecuted, coded_input, executed_budget, executed_size}
-use Rattle.lmn_app.proofs.TextLemmas.{accepted_at, made, moved_solid, one_list}
+use Rattle.lmn_app.specs.Executions.{coded_input, executed_budget, executed_size}
+use Rattle.lmn_app.proofs.TextLemmas.{accepted_at, made, moved_solid}
 
 -- ---- rules that are the same but for addresses, as trees
 

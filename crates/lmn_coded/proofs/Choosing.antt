@@ -1,5 +1,5 @@
 -- What a turn of codes chooses on a heap with other numbers.
-use Rattle.std.proofs.Common.{◌≡◌, ◌∙◌, ◌<◌, ◌≤◌, ℕ, List, [], ◌∷◌, ◌++◌, Option, Some, None, map, refl, sym, ap, subst}
+use Rattle.std.proofs.Common.{◌≡◌, ◌∙◌, ℕ, List, [], ◌∷◌, ◌++◌, Option, Some, None, map, refl, sym, ap, subst}
 use Rattle.std.specs.Prelude.{slice_get, take}
 use Rattle.std.specs.Option.{option_map}
 use Rattle.std.proofs.lemmas.List.{map-append}
@@ -11,8 +11,8 @@ use Rattle.lmn_body.specs.Running.{Registers}
 use Rattle.lmn_body.specs.Stopping.{SameButSpares}
 use Rattle.lmn_instr.specs.declared.instr.Code.{Code}
 use Rattle.lmn_instr.specs.declared.instr.Instr.{Instr}
-use Rattle.lmn_instr.specs.Running.{HeadRegisters, IsFirstSuccess, Succeeds}
-use Rattle.lmn_strategy.specs.Choosing.{CodeSucceeds, IsFirstIn, IsFirstRule, NoneIn, NoneOf, asked}
+use Rattle.lmn_instr.specs.Running.{HeadRegisters, IsFirstSuccess}
+use Rattle.lmn_strategy.specs.Choosing.{CodeSucceeds, IsFirstIn, IsFirstRule, NoneIn, asked}
 use Rattle.lmn_strategy.specs.Turns.{AreRunnable, Chooses, IsAnswer, IsTurn}
 use Rattle.lmn_strategy.specs.declared.turning.Turn.{Turn}
 use Rattle.lmn_strategy.specs.declared.turning.Turn.TheVariants.{Committed, Full, Irreducible, NoMemory}
@@ -26,7 +26,6 @@ use Rattle.lmn_coded.specs.declared.executing.Halt.{Halt}
 use Rattle.lmn_coded.specs.declared.executing.Halt.TheVariants as halt
 use Rattle.lmn_coded.specs.Laws.{but_for_memory}
 use Rattle.lmn_coded.specs.Runs.{CodedTurn, HaltsBy, IsReducible}
-use Rattle.lmn_coded.specs.Turning.{SomeIn}
 use Rattle.lmn_coded.proofs.Carried.{flat_there, leaves_there, renamed_registers, rests_there, tree_there}
 use Rattle.lmn_coded.proofs.Exact.{halts_are_exact, turns_are_exact}
 use Rattle.lmn_coded.proofs.SameBut.{Reads, reads, same_back}

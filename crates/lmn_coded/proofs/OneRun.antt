@@ -1,17 +1,11 @@
 -- Runs of verified codes from heaps of one solid have one output.
-use Rattle.std.proofs.Common.{◌≡◌, ◌∙◌, ◌<◌, ◌≤◌, ◌+◌, ◌++◌, ℕ, List, [], Option, Some, None, false, refl, sym, ap, subst, inl, inr, arith}
+use Rattle.std.proofs.Common.{◌≡◌, ◌∙◌, ◌<◌, ◌≤◌, ◌+◌, ◌++◌, ℕ, List, Option, Some, None, false, sym, ap, subst, inl, inr, arith}
 use Rattle.lmn_base.proofs.Numbers.{in_order}
-use Rattle.lmn_base.specs.declared.rule.RuleTree.{RuleTree}
-use Rattle.lmn_base.specs.declared.solid.Solid.{Solid}
-use Rattle.lmn_congruence.specs.Rules.{Name}
 use Rattle.lmn_heap.specs.Heap.{Heap}
-use Rattle.lmn_heap.specs.Sound.{Valid}
 use Rattle.lmn_io.specs.Taking.{Takes}
 use Rattle.lmn_instr.specs.declared.instr.Code.{Code}
 use Rattle.lmn_drive.specs.declared.driving.RunEnd.{RunEnd}
-use Rattle.lmn_drive.specs.declared.driving.RunEnd.TheVariants as run
 use Rattle.lmn_folded_printer.specs.Laws.{OneHeapLine}
-use Rattle.lmn_folded_printer.specs.Lines.{IsHeapLine}
 use Rattle.lmn_runs.specs.Runs.{end_line}
 use Rattle.lmn_runnable.specs.Laws.{VerifiedAreRunnable}
 use Rattle.lmn_strategy.specs.Turns.{AreRunnable}
@@ -21,8 +15,8 @@ use Rattle.lmn_renaming.proofs.Alike.{one_solid_is_renamed}
 use Rattle.lmn_renaming.proofs.Heads.{renamed_again}
 use Rattle.lmn_coded.specs.declared.executing.Halt.{Halt}
 use Rattle.lmn_coded.specs.declared.executing.Halt.TheVariants as halt
-use Rattle.lmn_coded.specs.Laws.{AreVerified, CameToEnd, IsValidHeapOf, RunsAreOne}
-use Rattle.lmn_coded.specs.Runs.{CodedInput, CodedRun, CodedTurn, Executed, HaltsBy, Wrote, begun, halt_end, halt_word, turned}
+use Rattle.lmn_coded.specs.Laws.{AreVerified, CameToEnd, RunsAreOne}
+use Rattle.lmn_coded.specs.Runs.{CodedRun, CodedTurn, HaltsBy, Wrote, begun, halt_end, halt_word, turned}
 use Rattle.lmn_coded.proofs.Choosing.{halts_alike, turns_alike}
 use Rattle.lmn_coded.proofs.OneStep.{AreOne, Grounds, one_turn}
 use Rattle.lmn_coded.proofs.SameBut.{same_back, same_renamed, solid_there}

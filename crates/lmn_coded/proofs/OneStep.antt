@@ -3,8 +3,8 @@ use Rattle.std.proofs.Common.{◌≡◌, ◌∙◌, ◌<◌, ◌+◌, ℕ, List,
 use Rattle.std.specs.Prelude.{slice_get, slice_index_or}
 use Rattle.std.proofs.lemmas.Option.{same_Some}
 use Rattle.lmn_base.proofs.Lists.{get_below}
-use Rattle.lmn_heap.specs.Heap.{Heap, HeapAtom, HeapMem, IsMem, IsMemInPlace, Unmarked, marks_of, rules_by, rules_in}
-use Rattle.lmn_heap.specs.Sound.{Forest, IsTree, Valid}
+use Rattle.lmn_heap.specs.Heap.{Heap, HeapAtom, HeapMem, IsMemInPlace, Unmarked, marks_of, rules_by, rules_in}
+use Rattle.lmn_heap.specs.Sound.{Valid}
 use Rattle.lmn_heap.proofs.Calls.{one_tree}
 use Rattle.lmn_heap.proofs.Common.{mem_stands}
 use Rattle.lmn_sleep.specs.Quiet.{SameButMarks}
@@ -21,7 +21,7 @@ use Rattle.lmn_renaming.specs.Registers.{renamed_head}
 use Rattle.lmn_renaming.specs.Renamed.{Renaming, SameButRoom, renamed}
 use Rattle.lmn_renaming.proofs.Solids.{renamed_forest}
 use Rattle.lmn_strategy.specs.Choosing.{IsFirstIn, asked}
-use Rattle.lmn_strategy.specs.Turns.{Chooses, HoldsRestsOf, IsTurn}
+use Rattle.lmn_strategy.specs.Turns.{Chooses, HoldsRestsOf}
 use Rattle.lmn_strategy.specs.declared.turning.Turn.TheVariants.{Committed}
 use Rattle.lmn_coded.specs.Laws.{AreVerified}
 use Rattle.lmn_coded.specs.Runs.{CodedTurn}

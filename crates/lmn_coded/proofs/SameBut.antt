@@ -2,15 +2,13 @@
 use Rattle.std.proofs.Common.{◌≡◌, ◌∙◌, ℕ, List, [], ◌∷◌, ◌++◌, Option, Some, None, IsSome, map, refl, sym, ap, subst}
 use Rattle.std.specs.Option.{option_map}
 use Rattle.lmn_base.specs.Graphs.{Port, Reached}
-use Rattle.lmn_base.specs.Lists.{In}
 use Rattle.lmn_base.specs.declared.solid.Region.TheViews.{roll-Region}
 use Rattle.lmn_base.specs.declared.solid.Solid.{Solid}
 use Rattle.lmn_heap.specs.Graphs.{atom_map}
-use Rattle.lmn_heap.specs.Heap.{Heap, HeapMem, IsMem, atoms_by, atoms_in, mems_by, mems_in, rules_by, rules_in}
+use Rattle.lmn_heap.specs.Heap.{Heap, HeapMem, IsMem, atoms_by, atoms_in, mem_with_mark, mems_by, mems_in, rules_by, rules_in}
 use Rattle.lmn_heap.specs.Solid.{HasSolid, IsNaming, regions_of, solid_atom_at, solid_atoms_at}
-use Rattle.lmn_heap.specs.Sound.{Forest, Forms, IsTree, bare, flat, mem}
+use Rattle.lmn_heap.specs.Sound.{Forest, Forms, IsTree, bare, mem}
 use Rattle.lmn_sleep.specs.Quiet.{SameButMarks}
-use Rattle.lmn_heap.specs.Heap.{mem_with_mark}
 use Rattle.lmn_renaming.specs.Renamed.{Renaming, SameButRoom, renamed, renamed_atom, renamed_mem, renamed_port, with_room}
 use Rattle.lmn_renaming.proofs.Parts.{reached_back, reached_there}
 use Rattle.lmn_renaming.proofs.Reading.{atoms_there, mems_there, rules_there}
