@@ -1,5 +1,5 @@
 -- Runs of verified codes from heaps of one solid have one output.
-use Rattle.std.proofs.Common.{◌≡◌, ◌∙◌, ◌<◌, ◌≤◌, ◌+◌, ◌++◌, ℕ, List, Option, Some, None, false, sym, ap, subst, inl, inr, arith}
+use Rattle.std.proofs.Common.{◌≡◌, ◌∙◌, ◌<◌, ◌≤◌, ◌++◌, ℕ, List, Option, Some, None, false, sym, ap, subst, inl, inr, arith}
 use Rattle.lmn_base.proofs.Numbers.{in_order}
 use Rattle.lmn_heap.specs.Heap.{Heap}
 use Rattle.lmn_io.specs.Taking.{Takes}

@@ -1,4 +1,4 @@
-use Rattle.std.proofs.Common.{refl, ◌≡◌, length, subst, sym}
+use Rattle.std.proofs.Common.{refl, ◌≡◌, length, subst}
 use Rattle.lmn_heap.specs.Sound.{Forest, IsTree, flat}
 use Rattle.lmn_strategy.specs.Choosing.{IsFirstIn, NoneIn, asked}
 use Rattle.lmn_strategy.specs.Quieting.{SleepsRightly}

@@ -1,4 +1,4 @@
-use Rattle.std.proofs.Common.{◌≡◌, arith, false, length, refl, subst, sym}
+use Rattle.std.proofs.Common.{◌≡◌, arith, false, length, refl, subst}
 use Rattle.lmn_heap.specs.Sound.{Forest, IsTree, flat}
 use Rattle.lmn_strategy.specs.Choosing.{CanTurn}
 use Rattle.lmn_strategy.specs.Quieting.{SleepsRightly}
