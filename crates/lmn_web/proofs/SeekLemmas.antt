@@ -1,14 +1,17 @@
 -- The atoms of a list that have one label.
-use Rattle.std.proofs.Common.{◌≡◌, ◌==◌, ◌&&◌, ◌<◌, ℕ, length, subst, arith, Bool, true, false, cond, List, [], ◌∷◌, Option, Some, None, IfSome, IsSome, refl, sym, ap, ◌∙◌, inl, inr}
+use Rattle.std.proofs.Common.{◌≡◌, ◌==◌, ◌&&◌, ◌<◌, ◌%◌, ◌^◌, ℕ, length, subst, arith, Bool, true, false, cond, List, [], ◌∷◌, Option, Some, None, IfSome, IsSome, refl, sym, ap, ◌∙◌, inl, inr}
 use Rattle.std.proofs.lemmas.Bool.{eq-eqb, eqb-true}
 use Rattle.std.specs.Option.{option_map}
 use Rattle.std.specs.List.{filter}
 use Rattle.std.specs.Prelude.{unwrap_or}
 use Rattle.lmn_base.specs.Lists.{In}
-use Rattle.lmn_base.proofs.Truth.{and_true, bool_cases}
+use Rattle.std.specs.Prelude.{slice_index_or}
+use Rattle.std.proofs.lemmas.Option.{same_Some}
+use Rattle.lmn_base.proofs.Truth.{and_true, bool_cases, test_same}
 use Rattle.lmn_heap.specs.Lists.{from, after}
 use Rattle.lmn_heap.proofs.Trees.{next_in}
-use Rattle.lmn_web.specs.Webs.{WebCell, home_at, home_of, web_label, arity_at, is_labelled, with_label, label_class, is_classed, with_class}
+use Rattle.lmn_cells.specs.Cells.{HeldCell, numbers_of}
+use Rattle.lmn_web.specs.Webs.{HIGH, LOW, WebCell, home_at, home_of, web_label, arity_at, is_labelled, label_by, list_in, number_in, with_label, label_class, is_classed, with_class, web_cell, web_of}
 
 -- what stands behind an element that passes the test, of those that pass
 pub filter_after : (test : ℕ → Bool) (a : ℕ) (xs : List ℕ) → test a ≡ true → after a (filter test xs) ≡ filter test (after a xs)
@@ -41,6 +44,32 @@ class_here w a class n e = let both = and_true (unwrap_or (option_map (λ k. lab
     by : (o : Option ℕ) → unwrap_or (option_map (λ k. label_class k == class) o) false ≡ true → arity_at w a ≡ n → (l : ℕ) × (o ≡ Some l) × (label_class l ≡ class) × (arity_at w a ≡ n)
     by None t s = absurd cc
     by (Some l) t s = (l, refl, eqb-true (label_class l) class t, s)
+
+-- of labels of one class the lower halves tell one from another
+half_tells : (high low label : ℕ) → low < 2 ^ 64 → label_class (label_by high low) ≡ label_class label → (low == label % 2 ^ 64) ≡ (label_by high low == label)
+half_tells high low label small same =
+    test_same (low == label % 2 ^ 64) (label_by high low == label)
+    (λ e. let d = eqb-true low (label % 2 ^ 64) e in eq-eqb (label_by high low) label (omega (arith, small, same, d)))
+    (λ e. let d = eqb-true (label_by high low) label e in eq-eqb low (label % 2 ^ 64) (omega (arith, small, same, d)))
+
+-- so a cell of the class of a label has it where its lower half is that of the label
+pub label_by_half : (f : ℕ → Option HeldCell) (a l label n low : ℕ) → number_in f a LOW ≡ low → low < 2 ^ 64 → web_label (web_of f) a ≡ Some l → label_class l ≡ label_class label
+    → arity_at (web_of f) a ≡ n → (low == label % 2 ^ 64) ≡ is_labelled (web_of f) label n a
+label_by_half f a l label n low e small here same ports =
+    by (f a) e here ∙ (λ t. unwrap_or (option_map (λ k. k == label) (web_label (web_of f) a)) false && sym (eq-eqb (arity_at (web_of f) a) n ports) t)
+  where
+    right : (b : Bool) → b ≡ (b && true)
+    right true = refl
+    right false = refl
+
+    by : (o : Option HeldCell) → slice_index_or (numbers_of o) LOW 0 ≡ low → option_map (λ c. c.label) (option_map (web_cell (list_in f a)) o) ≡ Some l
+        → (low == label % 2 ^ 64) ≡ (unwrap_or (option_map (λ k. k == label) (option_map (λ c. c.label) (option_map (web_cell (list_in f a)) o))) false && true)
+    by None d h = absurd cc
+    by (Some x) d h =
+        let high = slice_index_or x.numbers HIGH 0 in
+        let is : label_by high (slice_index_or x.numbers LOW 0) ≡ l = same_Some _ _ h in
+        let at : label_by high low ≡ l = ap (label_by high) (sym d) ∙ is in
+        half_tells high low label small (ap label_class at ∙ same) ∙ ap (λ k. label_by high k == label) (sym d) ∙ right (label_by high (slice_index_or x.numbers LOW 0) == label)
 
 -- a label is of its class
 label_in_class : (w : ℕ → Option WebCell) (a label n : ℕ) → is_labelled w label n a ≡ true → is_classed w (label_class label) n a ≡ true

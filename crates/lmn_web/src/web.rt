@@ -109,8 +109,8 @@ impl Web {
             (λ _. web_by self.new ≡ web_by self.old) }
     {
         self.all.reserve(1)?;
-        let c = self.cells.make(arity as usize)?;
         let index = self.all.len() as u64;
+        let c = self.cells.make(arity as usize)?;
         let high = (label / WHOLE) as u64;
         let low = (label % WHOLE) as u64;
         describe(&mut self.cells, c, index, arity as u64, kind, high, low);
@@ -298,12 +298,12 @@ impl Web {
         }
     }
 
-    // Whether the cell has this label and so many ports.
-    fn has_label(&self, c: Cell, label: u128, arity: u8) -> bool
+    // Whether the cell has a label, if it has the class of that.
+    fn has_label(&self, c: Cell, label: u128) -> bool
         requires { IsSome (web_by self.now (cell_id c)) }
-        ensures { result ≡ is_labelled (web_by self.now) label arity (cell_id c) }
+        ensures { (l n : ℕ) → web_label (web_by self.now) (cell_id c) ≡ Some l → label_class l ≡ label_class label → arity_at (web_by self.now) (cell_id c) ≡ n → result ≡ is_labelled (web_by self.now) label n (cell_id c) }
     {
-        self.label(c) == label && self.arity(c) == arity
+        self.cells.number(c, LOW) == (label % WHOLE) as u64
     }
 
     // The first atom with this label and so many ports, from an atom of its class on.
@@ -316,7 +316,7 @@ impl Web {
         self.listed();
         let mut at = start;
         while let Some(c) = at {
-            if self.has_label(c, label, arity) {
+            if self.has_label(c, label) {
                 return Some(c);
             }
             at = self.next_of_class(c);

@@ -38,7 +38,8 @@ returns-then-has_label-clause-list c =
     let w = web_by c.args.self.now in let m = cell_id c.args.home in let a = cell_id c.in-Some.c in let cells = cells_in w m Atom in let class = label_class c.args.label in let all = with_class w class c.args.arity cells in
     let s : Seeks (is_labelled w c.args.label c.args.arity) all (option_map cell_id c.args.start) (Some a) = rw c.in-Some.is at c.loop-at.invariant in
     let among = in_filter (is_classed w class c.args.arity) a cells (s.there a refl) in
-    seeks_found _ all _ a s (sym c.has_label.ensures ∙ c.if-has_label.true)
+    let k = class_here w a class c.args.arity among.1 in
+    seeks_found _ all _ a s (sym (c.has_label.ensures k.0 c.args.arity k.1 k.2 k.3) ∙ c.if-has_label.true)
 
 pub returns-then-has_label-clause-there : goal.returns-then-has_label-clause-there
 returns-then-has_label-clause-there c =
@@ -55,7 +56,7 @@ loop-at-smaller c =
     let h = c.listed.ensures.homes m a Atom among.0 in let k = class_here w a class c.args.arity among.1 in let r = option_map cell_id c.next_of_class-at.result in
     let next : from r all ≡ after a all = subst (λ q. from r (with_class w q c.args.arity cells) ≡ after a (with_class w q c.args.arity cells)) k.2
     (subst (λ n. from r (with_class w (label_class k.0) n cells) ≡ after a (with_class w (label_class k.0) n cells)) k.3 (c.next_of_class-at.ensures.list m k.0 h.0 k.1)) in
-    subst (λ o. length (from r all) < length (from (option_map cell_id o) all)) (sym c.in-Some.is) (seeks_next _ all _ _ a s (sym c.has_label.ensures ∙ c.if-has_label.false) next).1
+    subst (λ o. length (from r all) < length (from (option_map cell_id o) all)) (sym c.in-Some.is) (seeks_next _ all _ _ a s (sym (c.has_label.ensures k.0 c.args.arity k.1 k.2 k.3) ∙ c.if-has_label.false) next).1
 
 pub loop-at-preserved : goal.loop-at-preserved
 loop-at-preserved c =
@@ -65,7 +66,7 @@ loop-at-preserved c =
     let h = c.listed.ensures.homes m a Atom among.0 in let k = class_here w a class c.args.arity among.1 in let r = option_map cell_id c.next_of_class-at.result in
     let next : from r all ≡ after a all = subst (λ q. from r (with_class w q c.args.arity cells) ≡ after a (with_class w q c.args.arity cells)) k.2
     (subst (λ n. from r (with_class w (label_class k.0) n cells) ≡ after a (with_class w (label_class k.0) n cells)) k.3 (c.next_of_class-at.ensures.list m k.0 h.0 k.1)) in
-    (seeks_next _ all _ _ a s (sym c.has_label.ensures ∙ c.if-has_label.false) next).0
+    (seeks_next _ all _ _ a s (sym (c.has_label.ensures k.0 c.args.arity k.1 k.2 k.3) ∙ c.if-has_label.false) next).0
 
 pub returns-clause-list : goal.returns-clause-list
 returns-clause-list c =
