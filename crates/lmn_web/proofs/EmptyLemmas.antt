@@ -1,5 +1,5 @@
 -- The atoms of a membrane are freed, all at once: what is left is a web.
-use Rattle.std.proofs.Common.{◌≡◌, ◌≢◌, ◌↔◌, ℕ, zero, suc, ◌+◌, ◌==◌, ◌<◌, ◌^◌, true, List, [], ◌∷◌, ◌++◌, length, map, get_or, set, Option, Some, None, IsSome, is_some, slice_get, refl, sym, ap, subst, ◌∙◌, inl, inr, arith, length-set, get_or-set_other}
+use Rattle.std.proofs.Common.{◌≡◌, ◌≢◌, ◌↔◌, ℕ, zero, suc, ◌+◌, ◌==◌, ◌<◌, ◌^◌, true, List, [], ◌∷◌, length, map, get_or, set, Option, Some, None, IsSome, is_some, slice_get, refl, sym, ap, subst, ◌∙◌, inl, inr, arith, length-set, get_or-set_other}
 use Rattle.std.proofs.lemmas.Bool.{cases_eq}
 use Rattle.std.specs.Option.{option_map}
 use Rattle.lmn_base.specs.Lists.{In}
@@ -15,7 +15,7 @@ use Rattle.lmn_cells.proofs.RunLemmas.{frame}
 use Rattle.lmn_web.specs.declared.kind.CellKind.{CellKind}
 use Rattle.lmn_web.specs.declared.kind.CellKind.TheVariants.{Atom, Membrane}
 use Rattle.lmn_web.specs.Kinds.{FILED, kind_by}
-use Rattle.lmn_web.specs.Webs.{WebCell, WithoutAtoms, web_cell, web_of, cells_in, partner_at, list_in, list_link, count_number, number_in, label_by, with_list, INDEX, ARITY, KIND, HIGH, LOW, OWN}
+use Rattle.lmn_web.specs.Webs.{WebCell, WithoutAtoms, web_cell, web_of, cells_in, partner_at, list_in, list_link, count_number, number_in, label_by, with_list, INDEX, ARITY, KIND, HIGH, LOW, FIRST_MARK}
 use Rattle.lmn_web.specs.Indexes.{unindexed, bare_atoms, cell_kind, AreLinked, IsListed, IsWeb, IsClassed, IsTable, Without}
 use Rattle.lmn_web.specs.Classes.{LEADERS, AreClassed}
 use Rattle.lmn_web.proofs.ListedLemmas.{cell_of, list_same, listed_self, web_self}
@@ -252,12 +252,12 @@ cell_same lists None None t p n l = refl
 cell_same lists None (Some d) t p n l = absurd cc
 cell_same lists (Some c) None t p n l = absurd cc
 cell_same lists (Some c) (Some d) t p n l =
-    let high = n HIGH (omega arith) (λ e. absurd (omega (arith, e))) in let low = n LOW (omega arith) (λ e. absurd (omega (arith, e))) in let kind = n KIND (omega arith) (λ e. absurd (omega (arith, e))) in let own = n OWN (omega arith) (λ e. absurd (omega (arith, e))) in
+    let high = n HIGH (omega arith) (λ e. absurd (omega (arith, e))) in let low = n LOW (omega arith) (λ e. absurd (omega (arith, e))) in let kind = n KIND (omega arith) (λ e. absurd (omega (arith, e))) in let own = n FIRST_MARK (omega arith) (λ e. absurd (omega (arith, e))) in
     λ i. Some record {
       label = label_by (high i) (low i);
       kind = kind_by (kind i);
       partners = map partner_by (p i);
-      marks = map (λ (x : HeldPort). x.mark) (p i) ++ own i ∷ [];
+      marks = own i ∷ map (λ (x : HeldPort). x.mark) (p i);
       home = l i;
       atoms = lists Atom;
       membranes = lists Membrane;

@@ -1,5 +1,5 @@
 -- A cell is freed: the last of the table takes its place.
-use Rattle.std.proofs.Common.{◌≡◌, ◌≢◌, ◌⊎◌, ℕ, ◌+◌, ◌-◌, ◌<◌, ◌^◌, List, [], ◌∷◌, length, ◌++◌, map, get_or, set, Option, Some, None, IsSome, is_some, refl, sym, ap, subst, ◌∙◌, inl, inr, arith, length-set, get_or-set_same, get_or-set_other}
+use Rattle.std.proofs.Common.{◌≡◌, ◌≢◌, ◌⊎◌, ℕ, ◌+◌, ◌-◌, ◌<◌, ◌^◌, List, [], ◌∷◌, length, map, get_or, set, Option, Some, None, IsSome, is_some, refl, sym, ap, subst, ◌∙◌, inl, inr, arith, length-set, get_or-set_same, get_or-set_other}
 use Rattle.std.proofs.lemmas.Bool.{cases_eq}
 use Rattle.std.proofs.lemmas.List.{length-map}
 use Rattle.std.proofs.lemmas.Option.{slice_get_within, slice_get-map, slice_get-get_or}
@@ -12,7 +12,7 @@ use Rattle.lmn_cells.specs.Ports.{partner_by, partner_in}
 use Rattle.lmn_cells.specs.Runs.{HOME, link_in}
 use Rattle.lmn_web.specs.declared.kind.CellKind.{CellKind}
 use Rattle.lmn_web.specs.Kinds.{kind_by}
-use Rattle.lmn_web.specs.Webs.{web_cell, web_with, web_of, list_in, list_link, count_number, number_in, label_by, IsLoose, INDEX, ARITY, KIND, HIGH, LOW, OWN}
+use Rattle.lmn_web.specs.Webs.{web_cell, web_with, web_of, list_in, list_link, count_number, number_in, label_by, IsLoose, INDEX, ARITY, KIND, HIGH, LOW, FIRST_MARK}
 use Rattle.lmn_web.specs.Indexes.{reindexed, unindexed, IsListed, IsWeb, IsClassed, IsTable, Swapped}
 use Rattle.lmn_web.specs.Classes.{LEADERS}
 use Rattle.lmn_web.proofs.ListedLemmas.{Listing, listing, lists_same, listed_self, listed_beside, web_self, home_same, list_same}
@@ -70,7 +70,7 @@ web_by_index i lists (Some c) =
     λ t. Some record (web_cell lists c) {
       label = label_by (far HIGH (omega arith) t) (far LOW (omega arith) t);
       kind = kind_by (far KIND (omega arith) t);
-      marks = map (λ (p : HeldPort). p.mark) c.ports ++ far OWN (omega arith) t ∷ [];
+      marks = far FIRST_MARK (omega arith) t ∷ map (λ (p : HeldPort). p.mark) c.ports;
     }
 
 module _ (f : ℕ → Option HeldCell) (all : List ℕ) (w : IsTable f all) (a : ℕ) (there : IsSome (f a)) (rest : List ℕ) (i : ℕ) (at : i ≡ number_in f a INDEX) (swapped : Swapped all rest i) (moved : Option ℕ) (is : slice_get rest i ≡ moved) where

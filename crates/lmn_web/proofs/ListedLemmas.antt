@@ -13,7 +13,7 @@ use Rattle.lmn_cells.proofs.LineLemmas.{behind_there}
 use Rattle.lmn_web.specs.declared.kind.CellKind.{CellKind}
 use Rattle.lmn_web.specs.declared.kind.CellKind.TheVariants.{Atom, Membrane}
 use Rattle.lmn_web.specs.Kinds.{kind_by}
-use Rattle.lmn_web.specs.Webs.{WebCell, web_cell, web_with, web_of, kind_at, home_at, home_of, cells_in, cells_of, walked, list_in, number_in, count_number, list_link, StandOnce, KIND, OWN}
+use Rattle.lmn_web.specs.Webs.{WebCell, web_cell, web_with, web_of, kind_at, home_at, home_of, cells_in, cells_of, walked, list_in, number_in, count_number, list_link, StandOnce, KIND, FIRST_MARK}
 use Rattle.lmn_web.specs.Indexes.{cell_kind, IsListed}
 
 -- Kinds
@@ -48,7 +48,7 @@ count_below Atom = omega arith
 count_below Membrane = omega arith
 
 -- it is no other number's
-pub count_behind : (k : CellKind) → OWN < count_number k
+pub count_behind : (k : CellKind) → FIRST_MARK < count_number k
 count_behind Atom = omega arith
 count_behind Membrane = omega arith
 

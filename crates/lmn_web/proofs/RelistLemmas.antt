@@ -21,7 +21,7 @@ use Rattle.lmn_web.specs.declared.kind.CellKind.{CellKind}
 use Rattle.lmn_web.specs.declared.kind.CellKind.TheVariants.{Atom, Membrane}
 use Rattle.lmn_web.specs.Kinds.{kind_by}
 use Rattle.lmn_web.specs.Webs as web
-use Rattle.lmn_web.specs.Webs.{WebCell, web_cell, web_with, web_of, web_by, kind_at, cells_in, list_in, number_in, count_number, list_link, label_by, with_home, with_list, relisted, added_last, added_before, INDEX, ARITY, KIND, HIGH, LOW, OWN}
+use Rattle.lmn_web.specs.Webs.{WebCell, web_cell, web_with, web_of, web_by, kind_at, cells_in, list_in, number_in, count_number, list_link, label_by, with_home, with_list, relisted, added_last, added_before, INDEX, ARITY, KIND, HIGH, LOW, FIRST_MARK}
 use Rattle.lmn_web.specs.Classes.{AllButLinks, all_but_links}
 use Rattle.lmn_web.specs.Indexes.{cell_kind, IsListed, IsWeb}
 use Rattle.lmn_web.proofs.ListedLemmas.{kind_cases, link_behind, links_apart, count_behind, counts_apart, count_below, line_same, listed_self, web_self, home_same, kind_same, list_same, own_line, cell_of}
@@ -42,7 +42,7 @@ pub record Core : Type 0 where
 
 -- the core of a cell
 abbrev pub core : HeldCell → Core
-core c = record { index = get_or c.numbers INDEX 0; arity = get_or c.numbers ARITY 0; kind = get_or c.numbers KIND 0; high = get_or c.numbers HIGH 0; low = get_or c.numbers LOW 0; own = get_or c.numbers OWN 0; numbers = length c.numbers; ports = c.ports }
+core c = record { index = get_or c.numbers INDEX 0; arity = get_or c.numbers ARITY 0; kind = get_or c.numbers KIND 0; high = get_or c.numbers HIGH 0; low = get_or c.numbers LOW 0; own = get_or c.numbers FIRST_MARK 0; numbers = length c.numbers; ports = c.ports }
 
 -- the core of a cell, or none
 abbrev pub core_of : Option HeldCell → Option Core
@@ -50,7 +50,7 @@ core_of o = option_map core o
 
 -- a cell of the web by its core, its home and its lists
 abbrev cell_by : Core → Option ℕ → (CellKind → List ℕ) → WebCell
-cell_by q h lists = record { label = label_by q.high q.low; kind = kind_by q.kind; partners = map partner_by q.ports; marks = map (λ (p : HeldPort). p.mark) q.ports ++ q.own ∷ []; home = h; atoms = lists Atom; membranes = lists Membrane }
+cell_by q h lists = record { label = label_by q.high q.low; kind = kind_by q.kind; partners = map partner_by q.ports; marks = q.own ∷ map (λ (p : HeldPort). p.mark) q.ports; home = h; atoms = lists Atom; membranes = lists Membrane }
 
 core_there : (o : Option HeldCell) → is_some o ≡ is_some (core_of o)
 core_there None = refl
@@ -332,7 +332,7 @@ no_home f m e x =
 
 -- the core by what links leave
 abbrev pub back : AllButLinks → Option Core
-back r = if r.there then Some record { index = get_or r.numbers INDEX 0; arity = get_or r.numbers ARITY 0; kind = get_or r.numbers KIND 0; high = get_or r.numbers HIGH 0; low = get_or r.numbers LOW 0; own = get_or r.numbers OWN 0; numbers = length r.numbers; ports = r.ports } else None
+back r = if r.there then Some record { index = get_or r.numbers INDEX 0; arity = get_or r.numbers ARITY 0; kind = get_or r.numbers KIND 0; high = get_or r.numbers HIGH 0; low = get_or r.numbers LOW 0; own = get_or r.numbers FIRST_MARK 0; numbers = length r.numbers; ports = r.ports } else None
 
 -- links leave the core
 pub core_rest : (o : Option HeldCell) → core_of o ≡ back (all_but_links o)
@@ -343,14 +343,14 @@ core_rest (Some c) = refl
 core_count : (j : CellKind) (n : ℕ) (o : Option HeldCell) → core_of (option_map (with_number (count_number j) n) o) ≡ core_of o
 core_count j n None = refl
 core_count j n (Some c) =
-    let far : (i : ℕ) → i ≤ OWN → get_or (set c.numbers (count_number j) n) i 0 ≡ get_or c.numbers i 0 = λ i low. get_or-set_other c.numbers (count_number j) i n 0 (λ e. let b = count_behind j in absurd (omega (arith, b, low, e))) in
+    let far : (i : ℕ) → i ≤ FIRST_MARK → get_or (set c.numbers (count_number j) n) i 0 ≡ get_or c.numbers i 0 = λ i low. get_or-set_other c.numbers (count_number j) i n 0 (λ e. let b = count_behind j in absurd (omega (arith, b, low, e))) in
     λ t. Some record {
       index = far INDEX (omega arith) t;
       arity = far ARITY (omega arith) t;
       kind = far KIND (omega arith) t;
       high = far HIGH (omega arith) t;
       low = far LOW (omega arith) t;
-      own = far OWN (omega arith) t;
+      own = far FIRST_MARK (omega arith) t;
       numbers = length-set c.numbers (count_number j) n t;
       ports = c.ports;
     }

@@ -13,7 +13,7 @@ use Rattle.lmn_cells.specs.Ports as cell
 use Rattle.lmn_cells.specs.Ports.{IsPort, Reaches, Paired, partner_by, partner_in}
 use Rattle.lmn_cells.proofs.PortLemmas.{cleared_ports, linked_ports}
 use Rattle.lmn_cells.specs.Runs.{HOME}
-use Rattle.lmn_web.specs.Webs.{WebCell, partners_of, web_cell, web_with, web_of, list_in, list_link, count_number, partner_at, arity_at, new_cell, with_partner, with_mark, linked, cleared, joined, parted, IsPaired, INDEX, ARITY, KIND, HIGH, LOW, OWN, number_in, label_by}
+use Rattle.lmn_web.specs.Webs.{WebCell, partners_of, marks_of, web_cell, web_with, web_of, list_in, list_link, count_number, partner_at, arity_at, new_cell, with_partner, with_mark, linked, cleared, joined, parted, IsPaired, INDEX, ARITY, KIND, HIGH, LOW, FIRST_MARK, number_in, label_by}
 use Rattle.lmn_web.specs.Indexes.{described, IsListed, IsWeb, IsIndexed}
 use Rattle.lmn_web.proofs.ListedLemmas.{Listing, listing, lists_same, listed_self, listed_beside, web_self, cell_of}
 use Rattle.lmn_web.specs.Kinds.{kind_by}
@@ -28,15 +28,6 @@ pub set_twice : {X : Type 0} (xs : List X) (i : ℕ) (u v : X) → set (set xs i
 set_twice [] i u v = refl
 set_twice (x ∷ xs) zero u v = refl
 set_twice (x ∷ xs) (suc i) u v = ap (λ ys. x ∷ ys) (set_twice xs i u v)
-
-set_front : (xs : List ℕ) (y v i : ℕ) → i < length xs → set (xs ++ y ∷ []) i v ≡ set xs i v ++ y ∷ []
-set_front [] y v i l = absurd (omega (arith, l))
-set_front (x ∷ xs) y v zero l = refl
-set_front (x ∷ xs) y v (suc i) l = ap (λ zs. x ∷ zs) (set_front xs y v i (omega (arith, l)))
-
-set_back : (xs : List ℕ) (y v i : ℕ) → i ≡ length xs → set (xs ++ y ∷ []) i v ≡ xs ++ v ∷ []
-set_back [] y v i e = subst (λ k. set (y ∷ []) k v ≡ v ∷ []) (sym e) refl
-set_back (x ∷ xs) y v i e = subst (λ k. set (x ∷ (xs ++ y ∷ [])) k v ≡ x ∷ (xs ++ v ∷ [])) (sym e) (ap (λ zs. x ∷ zs) (set_back xs y v (length xs) refl))
 
 -- the other end of a port of a list
 get_mapped : (ps : List HeldPort) (i : ℕ) → get_or (map partner_by ps) i None ≡ partner_by (get_or ps i no_port)
@@ -74,6 +65,27 @@ arity_same f ys a = by (f a)
 pub port_back : (f : ℕ → Option HeldCell) (ys : ℕ → CellKind → List ℕ) (a i : ℕ) → i < arity_at (web_with f ys) a → IsPort f a i
 port_back f ys a i l = subst (λ n. i < n) (arity_same f ys a) l
 
+-- the first mark of a cell, in the cells and in the web
+pub first_mark_same : (f : ℕ → Option HeldCell) (ys : ℕ → CellKind → List ℕ) (a : ℕ) → get_or (marks_of (web_with f ys a)) 0 0 ≡ get_or (numbers_of (f a)) FIRST_MARK 0
+first_mark_same f ys a = by (f a)
+  where
+    by : (o : Option HeldCell) → get_or (marks_of (option_map (web_cell (ys a)) o)) 0 0 ≡ get_or (numbers_of o) FIRST_MARK 0
+    by None = refl
+    by (Some c) = refl
+
+-- a further one
+pub next_mark_same : (f : ℕ → Option HeldCell) (ys : ℕ → CellKind → List ℕ) (a i : ℕ) → get_or (marks_of (web_with f ys a)) (suc i) 0 ≡ (port_of (f a) i).mark
+next_mark_same f ys a i = by (f a)
+  where
+    marks : (ps : List HeldPort) (k : ℕ) → get_or (map (λ (p : HeldPort). p.mark) ps) k 0 ≡ (get_or ps k no_port).mark
+    marks [] k = refl
+    marks (p ∷ ps) zero = refl
+    marks (p ∷ ps) (suc k) = marks ps k
+
+    by : (o : Option HeldCell) → get_or (marks_of (option_map (web_cell (ys a)) o)) (suc i) 0 ≡ (port_of o i).mark
+    by None = refl
+    by (Some c) = marks c.ports i
+
 -- Changes
 
 -- a change of a cell is a change of what it stands for
@@ -98,7 +110,7 @@ parts c ps qs ms ns p m = λ t. record c { partners = p t; marks = m t }
 
 none_cell : (lists : CellKind → List ℕ) (i : ℕ) (c : HeldCell) → web_cell lists (cell.with_partner i None c) ≡ with_partner i None (web_cell lists c)
 none_cell lists i c = let q : HeldPort = record (get_or c.ports i no_port) { to = None } in
-    parts (web_cell lists c) _ _ _ _ (map-set partner_by c.ports i q) (ap (λ ms. ms ++ get_or c.numbers OWN 0 ∷ []) (map-set_same (λ (p : HeldPort). p.mark) c.ports i q no_port refl))
+    parts (web_cell lists c) _ _ _ _ (map-set partner_by c.ports i q) (ap (λ ms. get_or c.numbers FIRST_MARK 0 ∷ ms) (map-set_same (λ (p : HeldPort). p.mark) c.ports i q no_port refl))
 
 some_cell : (lists : CellKind → List ℕ) (i : ℕ) (p : ℕ × ℕ) (c : HeldCell) → i < length c.ports → web_cell lists (cell.with_partner i (Some p) c) ≡ with_partner i (Some p) (web_cell lists c)
 some_cell lists i p c l =
@@ -106,7 +118,7 @@ some_cell lists i p c l =
     let there : get_or one i no_port ≡ q = get_or-set_same c.ports i q no_port l in
     parts (web_cell lists c) _ _ _ _
     (map-set partner_by one i r ∙ ap (λ (z : HeldPort). set (map partner_by one) i (partner_by (record z { port = p.1 }))) there ∙ ap (λ ps. set ps i (Some p)) (map-set partner_by c.ports i q) ∙ set_twice (map partner_by c.ports) i (partner_by q) (Some p))
-    (ap (λ ms. ms ++ get_or c.numbers OWN 0 ∷ []) (map-set_same (λ (z : HeldPort). z.mark) one i r no_port refl ∙ map-set_same (λ (z : HeldPort). z.mark) c.ports i q no_port refl))
+    (ap (λ ms. get_or c.numbers FIRST_MARK 0 ∷ ms) (map-set_same (λ (z : HeldPort). z.mark) one i r no_port refl ∙ map-set_same (λ (z : HeldPort). z.mark) c.ports i q no_port refl))
 
 linked_none : (f : ℕ → Option HeldCell) (ys : ℕ → CellKind → List ℕ) (a i : ℕ) → web_with (cell.linked f a i None) ys ≡ linked (web_with f ys) a i None
 linked_none f ys a i = commutes f ys a (cell.with_partner i None) (with_partner i None) (λ c e. none_cell (ys a) i c)
@@ -133,23 +145,20 @@ parted_web f ys a i =
     linked_none (cell.cleared f (partner_in f a i)) ys a i
     ∙ ap (λ (w : ℕ → Option WebCell). linked w a i None) (cleared_web f ys (partner_in f a i) ∙ sym (ap (cleared (web_with f ys)) (partner_same f ys a i)))
 
--- the mark of a port
-pub port_mark_web : (f : ℕ → Option HeldCell) (ys : ℕ → CellKind → List ℕ) (a i v : ℕ) → IsPort f a i → web_with (alter f a (option_map (with_port_mark i v))) ys ≡ alter (web_with f ys) a (option_map (with_mark i v))
-port_mark_web f ys a i v l = commutes f ys a (with_port_mark i v) (with_mark i v) (λ c e.
+-- the mark that stands with a port is the one behind it
+pub port_mark_web : (f : ℕ → Option HeldCell) (ys : ℕ → CellKind → List ℕ) (a i v : ℕ) → web_with (alter f a (option_map (with_port_mark i v))) ys ≡ alter (web_with f ys) a (option_map (with_mark (suc i) v))
+port_mark_web f ys a i v = commutes f ys a (with_port_mark i v) (with_mark (suc i) v) (λ c e.
     let q : HeldPort = record (get_or c.ports i no_port) { mark = v } in
     parts (web_cell (ys a) c) _ _ _ _ (map-set_same partner_by c.ports i q no_port refl)
-    (ap (λ ms. ms ++ get_or c.numbers OWN 0 ∷ []) (map-set (λ (p : HeldPort). p.mark) c.ports i q)
-    ∙ sym (set_front (map (λ (p : HeldPort). p.mark) c.ports) (get_or c.numbers OWN 0) v i (subst (λ n. i < n) (sym (length-map c.ports (λ (p : HeldPort). p.mark))) (subst (λ (o : Option HeldCell). i < length (ports_of o)) e l)))))
+    (ap (λ ms. get_or c.numbers FIRST_MARK 0 ∷ ms) (map-set (λ (p : HeldPort). p.mark) c.ports i q)))
 
--- a cell's own mark
-pub own_mark_web : (f : ℕ → Option HeldCell) (ys : ℕ → CellKind → List ℕ) (a i v : ℕ) → length (numbers_of (f a)) ≡ 8 → i ≡ length (ports_of (f a)) → web_with (alter f a (option_map (with_number OWN v))) ys ≡ alter (web_with f ys) a (option_map (with_mark i v))
-own_mark_web f ys a i v n last = commutes f ys a (with_number OWN v) (with_mark i v) (λ c e.
+-- the first mark of a cell
+pub own_mark_web : (f : ℕ → Option HeldCell) (ys : ℕ → CellKind → List ℕ) (a v : ℕ) → length (numbers_of (f a)) ≡ 8 → web_with (alter f a (option_map (with_number FIRST_MARK v))) ys ≡ alter (web_with f ys) a (option_map (with_mark 0 v))
+own_mark_web f ys a v n = commutes f ys a (with_number FIRST_MARK v) (with_mark 0 v) (λ c e.
     let ns = c.numbers in let seven : length ns ≡ 8 = subst (λ (o : Option HeldCell). length (numbers_of o) ≡ 8) e n in
-    let other : (k : ℕ) → k ≢ OWN → get_or (set ns OWN v) k 0 ≡ get_or ns k 0 = λ k d. get_or-set_other ns OWN k v 0 d in
-    let at : i ≡ length c.ports = subst (λ (o : Option HeldCell). i ≡ length (ports_of o)) e last in
+    let other : (k : ℕ) → k ≢ FIRST_MARK → get_or (set ns FIRST_MARK v) k 0 ≡ get_or ns k 0 = λ k d. get_or-set_other ns FIRST_MARK k v 0 d in
     let ms = map (λ (p : HeldPort). p.mark) c.ports in
-    let new : ms ++ get_or (set ns OWN v) OWN 0 ∷ [] ≡ set (ms ++ get_or ns OWN 0 ∷ []) i v =
-    ap (λ k. ms ++ k ∷ []) (get_or-set_same ns OWN v 0 (omega (arith, seven))) ∙ sym (set_back ms (get_or ns OWN 0) v i (at ∙ sym (length-map c.ports (λ (p : HeldPort). p.mark)))) in
+    let new : get_or (set ns FIRST_MARK v) FIRST_MARK 0 ∷ ms ≡ v ∷ ms = ap (λ k. k ∷ ms) (get_or-set_same ns FIRST_MARK v 0 (omega (arith, seven))) in
     λ t. record {
       label = label_by (other HIGH (λ z. absurd (omega (arith, z))) t) (other LOW (λ z. absurd (omega (arith, z))) t);
       kind = kind_by (other KIND (λ z. absurd (omega (arith, z))) t);
@@ -254,21 +263,21 @@ told_mark f a i v b = alter_keeps f a (option_map (with_port_mark i v)) told cou
     counts (Some c) = λ t. record (told (Some c)) { ports = length-set c.ports i (record (get_or c.ports i no_port) { mark = v }) t }
 
 -- and a cell's own
-pub told_own : (f : ℕ → Option HeldCell) (a v b : ℕ) → told (alter f a (option_map (with_number OWN v)) b) ≡ told (f b)
-told_own f a v b = alter_keeps f a (option_map (with_number OWN v)) told counts b
+pub told_own : (f : ℕ → Option HeldCell) (a v b : ℕ) → told (alter f a (option_map (with_number FIRST_MARK v)) b) ≡ told (f b)
+told_own f a v b = alter_keeps f a (option_map (with_number FIRST_MARK v)) told counts b
   where
-    counts : (o : Option HeldCell) → told (option_map (with_number OWN v) o) ≡ told o
+    counts : (o : Option HeldCell) → told (option_map (with_number FIRST_MARK v) o) ≡ told o
     counts None = refl
     counts (Some c) = λ t. record (told (Some c)) {
-      index = get_or-set_other c.numbers OWN INDEX v 0 (λ z. absurd (omega (arith, z))) t;
-      arity = get_or-set_other c.numbers OWN ARITY v 0 (λ z. absurd (omega (arith, z))) t;
-      numbers = length-set c.numbers OWN v t;
-      high = get_or-set_other c.numbers OWN HIGH v 0 (λ z. absurd (omega (arith, z))) t;
-      low = get_or-set_other c.numbers OWN LOW v 0 (λ z. absurd (omega (arith, z))) t;
+      index = get_or-set_other c.numbers FIRST_MARK INDEX v 0 (λ z. absurd (omega (arith, z))) t;
+      arity = get_or-set_other c.numbers FIRST_MARK ARITY v 0 (λ z. absurd (omega (arith, z))) t;
+      numbers = length-set c.numbers FIRST_MARK v t;
+      high = get_or-set_other c.numbers FIRST_MARK HIGH v 0 (λ z. absurd (omega (arith, z))) t;
+      low = get_or-set_other c.numbers FIRST_MARK LOW v 0 (λ z. absurd (omega (arith, z))) t;
       listing = record (listing (Some c)) {
-        kind = get_or-set_other c.numbers OWN KIND v 0 (λ z. absurd (omega (arith, z))) t;
-        atoms = get_or-set_other c.numbers OWN 6 v 0 (λ z. absurd (omega (arith, z))) t;
-        membranes = get_or-set_other c.numbers OWN 7 v 0 (λ z. absurd (omega (arith, z))) t;
+        kind = get_or-set_other c.numbers FIRST_MARK KIND v 0 (λ z. absurd (omega (arith, z))) t;
+        atoms = get_or-set_other c.numbers FIRST_MARK 6 v 0 (λ z. absurd (omega (arith, z))) t;
+        membranes = get_or-set_other c.numbers FIRST_MARK 7 v 0 (λ z. absurd (omega (arith, z))) t;
       };
     }
 
@@ -289,19 +298,19 @@ pub mark_keeps : (f g : ℕ → Option HeldCell) (all : List ℕ) (a i v : ℕ) 
 mark_keeps f g all a i v w e = ap web_of e ∙ web_keeps f (alter f a (option_map (with_port_mark i v))) all w (told_mark f a i v)
 
 -- and so does its own mark
-pub own_mark_keeps : (f : ℕ → Option HeldCell) (all : List ℕ) (a v : ℕ) → IsWeb f all → IsWeb (alter f a (option_map (with_number OWN v))) all
+pub own_mark_keeps : (f : ℕ → Option HeldCell) (all : List ℕ) (a v : ℕ) → IsWeb f all → IsWeb (alter f a (option_map (with_number FIRST_MARK v))) all
 own_mark_keeps f all a v w =
-    let g = alter f a (option_map (with_number OWN v)) in
-    let s : (b k : ℕ) → partner_in g b k ≡ partner_in f b k = λ b k. alter_keeps f a (option_map (with_number OWN v)) (λ o. partner_by (port_of o k)) (partners k) b in
+    let g = alter f a (option_map (with_number FIRST_MARK v)) in
+    let s : (b k : ℕ) → partner_in g b k ≡ partner_in f b k = λ b k. alter_keeps f a (option_map (with_number FIRST_MARK v)) (λ o. partner_by (port_of o k)) (partners k) b in
     same_web f g all w (told_own f a v) (reaches_same f g s (λ b. ap (λ (k : Told). k.ports) (told_own f a v b)) w.reaches) (paired_same f g s w.paired)
   where
-    partners : (k : ℕ) (o : Option HeldCell) → partner_by (port_of (option_map (with_number OWN v) o) k) ≡ partner_by (port_of o k)
+    partners : (k : ℕ) (o : Option HeldCell) → partner_by (port_of (option_map (with_number FIRST_MARK v) o) k) ≡ partner_by (port_of o k)
     partners k None = refl
     partners k (Some c) = refl
 
 -- with its lists
-pub own_keeps : (f g : ℕ → Option HeldCell) (all : List ℕ) (a v : ℕ) → IsWeb f all → g ≡ alter f a (option_map (with_number OWN v)) → web_of g ≡ web_with (alter f a (option_map (with_number OWN v))) (list_in f)
-own_keeps f g all a v w e = ap web_of e ∙ web_keeps f (alter f a (option_map (with_number OWN v))) all w (told_own f a v)
+pub own_keeps : (f g : ℕ → Option HeldCell) (all : List ℕ) (a v : ℕ) → IsWeb f all → g ≡ alter f a (option_map (with_number FIRST_MARK v)) → web_of g ≡ web_with (alter f a (option_map (with_number FIRST_MARK v))) (list_in f)
+own_keeps f g all a v w e = ap web_of e ∙ web_keeps f (alter f a (option_map (with_number FIRST_MARK v))) all w (told_own f a v)
 
 -- no cell, no index
 pub empty_web : (f : ℕ → Option HeldCell) (all : List ℕ) → f ≡ (λ _. None) → all ≡ [] → IsWeb f all
@@ -418,10 +427,14 @@ mapped_marks : (n : ℕ) → map (λ (p : HeldPort). p.mark) (replicate n no_por
 mapped_marks zero = refl
 mapped_marks (suc n) = ap (λ ms. 0 ∷ ms) (mapped_marks n)
 
+mark_last : (n : ℕ) → ◌≡◌ {A = List ℕ} (0 ∷ replicate n 0) (replicate n 0 ++ 0 ∷ [])
+mark_last zero = refl
+mark_last (suc n) = ap (λ ms. 0 ∷ ms) (mark_last n)
+
 -- a new cell stands for a new cell of the web
 pub new_web : (lists : CellKind → List ℕ) (l n i k h low : ℕ) (kind : CellKind) → ((j : CellKind) → lists j ≡ []) → label_by h low ≡ l → kind_by k ≡ kind → web_cell lists (described i n k h low (blank_cell n)) ≡ new_cell l n kind
 new_web lists l n i k h low kind none el ek =
-    λ t. record { label = el t; kind = ek t; partners = mapped_none n t; marks = ap (λ ms. ms ++ 0 ∷ []) (mapped_marks n) t; home = None; atoms = none Atom t; membranes = none Membrane t }
+    λ t. record { label = el t; kind = ek t; partners = mapped_none n t; marks = (ap (λ ms. 0 ∷ ms) (mapped_marks n) ∙ mark_last n) t; home = None; atoms = none Atom t; membranes = none Membrane t }
 
 -- a cell that was made and described is one change
 pub made_once : (f one g : ℕ → Option HeldCell) (a : ℕ) (c : HeldCell) (h : HeldCell → HeldCell) → one ≡ alter f a (λ _. Some c) → g ≡ alter one a (option_map h) → g ≡ alter f a (λ _. Some (h c))

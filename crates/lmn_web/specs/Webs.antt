@@ -185,8 +185,8 @@ HIGH = 3
 abbrev pub LOW : ℕ
 LOW = 4
 
-abbrev pub OWN : ℕ
-OWN = 5
+abbrev pub FIRST_MARK : ℕ
+FIRST_MARK = 5
 
 -- the numbers that say how long the two lists are
 abbrev pub count_number : CellKind → ℕ
@@ -205,13 +205,13 @@ number_in f b k = slice_index_or (numbers_of (f b)) k 0
 abbrev pub label_by : ℕ → ℕ → ℕ
 label_by high low = high * 2 ^ 64 + low
 
--- what a cell with these lists stands for
+-- what a cell with these lists stands for; its first mark is a number, and each further one stands with the port before its own
 abbrev pub web_cell : (CellKind → List ℕ) → HeldCell → WebCell
 web_cell lists c = record {
   label = label_by (slice_index_or c.numbers HIGH 0) (slice_index_or c.numbers LOW 0);
   kind = kind_by (slice_index_or c.numbers KIND 0);
   partners = map partner_by c.ports;
-  marks = map (λ (p : HeldPort). p.mark) c.ports ++ slice_index_or c.numbers OWN 0 ∷ [];
+  marks = slice_index_or c.numbers FIRST_MARK 0 ∷ map (λ (p : HeldPort). p.mark) c.ports;
   home = slice_index_or c.links HOME None;
   atoms = lists Atom;
   membranes = lists Membrane;

@@ -25,7 +25,8 @@ const HOME: usize = 0;
 
 const NEXT: usize = 1;
 
-// The numbers of a cell, besides the lengths of its two lists.
+// The numbers of a cell, besides the lengths of its two lists. Its first mark is one of them, and each further mark stands with
+// the port before its own: so the first one, which is asked most, stands at one place.
 const INDEX: usize = 0;
 
 const ARITY: usize = 1;
@@ -36,7 +37,7 @@ const HIGH: usize = 3;
 
 const LOW: usize = 4;
 
-const OWN: usize = 5;
+const FIRST_MARK: usize = 5;
 
 // The first number that doesn't fit into half a label.
 const WHOLE: u128 = 0x1_0000_0000_0000_0000;
@@ -391,10 +392,10 @@ impl Web {
         requires slot { slot ≤ arity_at (web_by self.now) (cell_id c) }
         ensures { result ≡ slice_index_or (marks_of (web_by self.now (cell_id c))) slot 0 }
     {
-        if (slot as u64) < self.cells.number(c, ARITY) {
-            self.cells.mark(c, slot as usize)
+        if slot == 0 {
+            self.cells.number(c, FIRST_MARK)
         } else {
-            self.cells.number(c, OWN)
+            self.cells.mark(c, slot as usize - 1)
         }
     }
 
@@ -404,10 +405,10 @@ impl Web {
         requires slot { slot ≤ arity_at (web_by self.old) (cell_id c) }
         ensures { web_by self.new ≡ alter (web_by self.old) (cell_id c) (option_map (with_mark slot v)) }
     {
-        if (slot as u64) < self.cells.number(c, ARITY) {
-            self.cells.set_mark(c, slot as usize, v)
+        if slot == 0 {
+            self.cells.set_number(c, FIRST_MARK, v)
         } else {
-            self.cells.set_number(c, OWN, v)
+            self.cells.set_mark(c, slot as usize - 1, v)
         }
     }
 }

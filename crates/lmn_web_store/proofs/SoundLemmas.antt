@@ -1,5 +1,5 @@
 -- What holds of the heap of a store over a web at every moment.
-use Rattle.std.proofs.Common.{◌≡◌, ◌≢◌, ◌⊎◌, ℕ, ◌+◌, Bool, true, false, cond, List, [], ◌∷◌, length, map, Option, Some, None, IsSome, refl, sym, ap, subst, ◌∙◌, inl, inr, arith, length-append}
+use Rattle.std.proofs.Common.{◌≡◌, ◌≢◌, ◌⊎◌, ℕ, ◌+◌, Bool, true, false, cond, List, [], ◌∷◌, length, map, Option, Some, None, IsSome, refl, sym, ap, subst, ◌∙◌, inl, inr, arith}
 use Rattle.std.proofs.lemmas.List.{length-map}
 use Rattle.std.specs.Prelude.{slice_index_or}
 use Rattle.std.specs.Option.{option_map, option_and_then}
@@ -29,9 +29,8 @@ web_formed f a s = by (f a) s
     by : (o : Option HeldCell) → IsSome (option_map (web_cell (list_in f a)) o) → length (web.marks_of (option_map (web_cell (list_in f a)) o)) ≡ length (web.partners_of (option_map (web_cell (list_in f a)) o)) + 1
     by None s = absurd (cc)
     by (Some c) s =
-        let a = length-append (map (λ (p : HeldPort). p.mark) c.ports) (slice_index_or c.numbers web.OWN 0 ∷ []) in
         let b = length-map c.ports (λ (p : HeldPort). p.mark) in
-        let d = length-map c.ports partner_by in omega (arith, a, b, d)
+        let d = length-map c.ports partner_by in omega (arith, b, d)
 
 -- a port with a partner is a port
 pub port_some : (xs : List (Option (ℕ × ℕ))) (i : ℕ) (q : ℕ × ℕ) → slice_index_or xs i None ≡ Some q → length xs ≡ 0 → ⊥
