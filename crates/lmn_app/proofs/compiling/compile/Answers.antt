@@ -1,5 +1,4 @@
-use Rattle.std.proofs.Common.{All, length, ◌<◌, arith, sym, subst}
-use Rattle.lmn_instr.specs.Listings.{HasCode}
+use Rattle.std.proofs.Common.{arith, refl, sym, subst}
 use Rattle.lmn_io.proofs.WritingLemmas.{writes_same}
 use Rattle.lmn_compile.specs.Compiled.{AreWhole}
 use Rattle.lmn_app.specs.declared.task.Task.TheVariants as task
