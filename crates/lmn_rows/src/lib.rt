@@ -1,13 +1,10 @@
-//! Tests alone: stores, code, levels and rules that are made by hand, texts that an engine runs, and calls of the crates below
-//! that no command line reaches.
+//! Tests alone: stores, levels and rules that are made by hand, and calls of the crates below that no command line reaches.
 #![tactic(auto)]
 
 #[cfg(test)]
 mod by_hand;
 #[cfg(test)]
 mod choosers;
-#[cfg(test)]
-mod code;
 #[cfg(test)]
 mod codes_read;
 #[cfg(test)]
@@ -30,8 +27,6 @@ mod plans;
 mod reading;
 #[cfg(test)]
 mod rule_forms;
-#[cfg(test)]
-mod runs;
 #[cfg(test)]
 mod tokens;
 #[cfg(test)]

@@ -4,7 +4,7 @@ use Rattle.lmn_heap.specs.Heap.{lone_root}
 use Rattle.lmn_loading.specs.Loaded.{IsEmpty}
 use Rattle.lmn_schedule.specs.Held.{CanBeLoaded}
 use Rattle.lmn_store.specs.Kept.{heap_of}
-use Rattle.lmn_rows.proofs.runs.run_driven.Goals as goal
+use Rattle.lmn_run_rows.proofs.runs.run_driven.Goals as goal
 
 pub load-requires-clause-plain : goal.load-requires-clause-plain
 load-requires-clause-plain g c = subst (CanBeLoaded c.args.accepted.now.plain) (sym c.as_slice.ensures) c.requires.accepted

@@ -2,7 +2,7 @@ use Rattle.std.proofs.Common.{subst, sym}
 use Rattle.lmn_order.specs.Answers.{AnswersBelow}
 use Rattle.lmn_schedule.specs.Held.{EngineCanTurn}
 use Rattle.lmn_store.specs.Kept.{heap_of}
-use Rattle.lmn_rows.proofs.runs.is_reducible.Goals as goal
+use Rattle.lmn_run_rows.proofs.runs.is_reducible.Goals as goal
 
 pub returns-clause-run : goal.returns-clause-run
 returns-clause-run g c =

@@ -1,6 +1,6 @@
 use Rattle.std.proofs.Common.{refl, sym, subst}
 use Rattle.lmn_store.specs.Kept.{heap_of}
-use Rattle.lmn_rows.proofs.code.search_once.Goals as goal
+use Rattle.lmn_run_rows.proofs.code.search_once.Goals as goal
 use Rattle.lmn_heap.specs.Heap.{Unmarked}
 
 pub find-requires-clause-unmarked : goal.find-requires-clause-unmarked

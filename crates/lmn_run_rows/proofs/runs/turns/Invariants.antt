@@ -1,7 +1,7 @@
 use Rattle.lmn_order.specs.Answers.{AnswersBelow}
 use Rattle.lmn_schedule.specs.Held.{EngineCanTurn}
 use Rattle.lmn_store.specs.Kept.{heap_of}
-use Rattle.lmn_rows.proofs.runs.turns.Given as goal
+use Rattle.lmn_run_rows.proofs.runs.turns.Given as goal
 
 abbrev pub invariant-loop : goal.invariant-loop
 invariant-loop g l = record {
