@@ -20,6 +20,7 @@ pub mod Frames
 pub mod Remarked
 pub mod Rousing
 pub mod Rouses
+pub mod Only
 pub mod Woken
 pub mod Touched
 pub mod Roused

@@ -15,8 +15,8 @@ use Rattle.lmn_body.specs.Running.{Registers}
 use Rattle.lmn_registers.specs.declared.registers.SetRegisters.{SetRegisters}
 use Rattle.lmn_sleep.proofs.Marks.{ReadAlike, read_alike}
 use Rattle.lmn_commit.specs.Registers.{AgreesWithCopies, AreHeld}
-use Rattle.lmn_commit.specs.Waking.{WakesAbove, IsAwakeRound, Is, IsHome, IsPartnerHome, IsHomeBeside, Rouses, SomeRouses, IsRoused}
-use Rattle.lmn_commit.proofs.Rousing.{wakes_as, wakes_on, wakes_none, awake_now}
+use Rattle.lmn_commit.specs.Waking.{WakesAbove, Is, IsHome, IsPartnerHome, IsHomeBeside, Rouses, SomeRouses, IsRoused}
+use Rattle.lmn_commit.proofs.Rousing.{wakes_as, wakes_on, wakes_none}
 
 -- ---- homes
 
@@ -217,7 +217,3 @@ module _ {A M : Type 0} (atom : A → ℕ) (membrane : M → ℕ) (set : SetRegi
     membranes = λ n m e. same.stays (membrane m) (held.membranes n m e);
     parts = λ n p e. atom_alike h k same (atom p.0) (held.parts n p e);
   }
-
-  -- the membrane of the rule is awake, with all that are round it
-  pub top_awake : (code : List Instr) (k : Heap) (m : M) → slice_get set.membranes 0 ≡ Some m → (r : Registers) → AgreesWithCopies atom membrane set r → RousedSoFar code k → IsAwakeRound k (membrane m)
-  top_awake code k m e r u so = awake_now (IsRoused h r code) h k (membrane m) (so r u) (inl (sym (u.membranes 0 m e)))

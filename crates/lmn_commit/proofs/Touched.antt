@@ -7,7 +7,7 @@ use Rattle.std.proofs.lemmas.Option.{slice_get_within}
 use Rattle.lmn_base.proofs.Common.{of_map}
 use Rattle.lmn_base.specs.Graphs.{Reached, at_root, across, Port}
 use Rattle.lmn_base.specs.Lists.{In}
-use Rattle.lmn_base.proofs.Lists.{in_either, get_there}
+use Rattle.lmn_base.proofs.Lists.{in_either}
 use Rattle.lmn_base.proofs.Numbers.{not_equal}
 use Rattle.lmn_heap.specs.Heap as heap
 use Rattle.lmn_heap.specs.Heap.{Heap, HeapAtom, HeapMem, IsAtom, IsMem, IsInPlace, within, atoms_in, mems_in, rules_in, functor_of, link_of, home_of, parent_of, arity_of, partners_of, without}
@@ -21,8 +21,8 @@ use Rattle.lmn_heap.proofs.ListLemmas.{in_left, in_right}
 use Rattle.lmn_heap.proofs.Heights.{parent_is, parent_place, mem_of_place, has_parent, depth_of}
 use Rattle.lmn_heap.proofs.Replacing.{port_within}
 use Rattle.lmn_solid.specs.declared.items.HeadItem.{HeadItem}
-use Rattle.lmn_solid.specs.Heads.{HeadAtom, HeadTyped, atoms_of, membranes_of}
-use Rattle.lmn_solid.specs.Embeddings.{Lies, HasAtom, HasTyped}
+use Rattle.lmn_solid.specs.Heads.{HeadTyped, atoms_of, membranes_of}
+use Rattle.lmn_solid.specs.Embeddings.{Lies, HasTyped}
 use Rattle.lmn_splice.specs.Classes.{rising}
 use Rattle.lmn_splice.specs.Splice.{of_solid}
 use Rattle.lmn_parts.proofs.AnswerLaws.{answer_in}
@@ -243,12 +243,6 @@ module _ (h t : Heap) (vh : Valid h) (vt : Valid t) (head : List HeadItem) (body
 
   one_home : (a x y : ℕ) → home_of h a ≡ Some x → home_of h a ≡ Some y → x ≡ y
   one_home a x y e f = let z : Some x ≡ Some y = sym e ∙ f in cc
-
-  head_atom : (n : ℕ) → n < N → (a : HeadAtom) × HasAtom head n a
-  head_atom n l = get_there (atoms_of head) n l
-
-  atom_home : (n : ℕ) → n < N → (x : ℕ) × (home_of h (r.head.images.atom n) ≡ Some x)
-  atom_home n l = let a = head_atom n l in (r.head.images.membrane a.0.inside, home_at (r.head.images.atom n) (r.head.images.membrane a.0.inside) (em.atoms_placed n a.0 a.1))
 
   image_number : (a : ℕ) → In a (images_of r head) → (n : ℕ) × (n < N) × (r.head.images.atom n ≡ a)
   image_number a i = let w = image_is r.head.images.atom N 0 a i in let l = w.1 in (w.0, omega (arith, l), w.2)

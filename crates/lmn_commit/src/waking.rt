@@ -1,7 +1,8 @@
 //! Wakes the membranes that a commit touches, and those round them.
-ghost use Rattle.std.specs.Prelude.{◌<◌, ℕ, length};
+ghost use Rattle.std.specs.Prelude.{◌<◌, ◌≡◌, ◌⊎◌, ℕ, [], IsTrue, length};
 ghost use Rattle.lmn_body.specs.Running.{Registers};
-ghost use Rattle.lmn_heap.specs.Heap.{IsAtom, IsMem, arity_of};
+ghost use Rattle.lmn_heap.specs.Conditions.{Above};
+ghost use Rattle.lmn_heap.specs.Heap.{IsAtom, IsMem, arity_of, mem_mark_of, mems_in};
 ghost use Rattle.lmn_commit.specs.Registers.{AgreesWithCopies, AreHeld};
 ghost use Rattle.lmn_commit.specs.Preparing.{AllUse, Uses};
 ghost use Rattle.lmn_commit.specs.Waking.{AllDeep, Is, IsAwakeRound, IsHome, IsHomeBeside, IsPartnerHome, IsRoused, Rouses, WakesAbove};
@@ -134,8 +135,19 @@ fn wake_for<S: LinkStore>(
     }
 }
 
+/// Whether a membrane is the root, and no membrane stands in it.
+#[inline(always)]
+fn is_only<S: LinkStore>(store: &S, membrane: S::Mem) -> bool
+    requires { IsMem (S.heap store.now) (S.mem_id membrane) }
+    ensures { IsTrue result → (S.mem_id membrane ≡ (S.heap store.now).root) × (mems_in (S.heap store.now) (S.mem_id membrane) ≡ []) }
+{
+    let root = store.root();
+    store.same_mem(membrane, root) && store.mems(membrane) == 0
+}
+
 /// What the code of a body touches wakes: the membrane of the rule, those that the code takes away, the homes of the atoms that
-/// it takes away and of those that are joined to them, and each membrane round one of these.
+/// it takes away and of those that are joined to them, and each membrane round one of these. What doesn't stand in the root at any
+/// depth is awake. So nothing else can sleep where the root stands alone.
 pub(crate) fn wake<S: LinkStore>(
     store: &mut S,
     code: &Instrs<'_>,
@@ -145,9 +157,15 @@ pub(crate) fn wake<S: LinkStore>(
     requires held { AreHeld S.atom_id S.mem_id (S.heap store.old) set.now }
     requires uses { AllUse (length set.now.atoms) (length set.now.membranes) (length set.now.parts) (length set.now.copies) code.now }
     requires some { 0 < length set.now.membranes }
+    requires others { (x : ℕ) → (mem_mark_of (S.heap store.old) x ≡ 0) ⊎ ((k : ℕ) × Above (S.heap store.old) k (S.heap store.old).root x) }
     ensures { (r : Registers) → AgreesWithCopies S.atom_id S.mem_id set.now r → WakesAbove (IsRoused (S.heap store.old) r code.now) (S.heap store.old) (S.heap store.new) }
 {
     let top = set.membranes.at(0);
+    let _root = store.root();
+    if is_only(store, top) {
+        store.set_mem_mark(top, 0);
+        return;
+    }
     wake_round(store, top);
     for i in 0..code.removals() {
         wake_for(store, code.at(i), set, top);

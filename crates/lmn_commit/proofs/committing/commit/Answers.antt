@@ -3,7 +3,9 @@ use Rattle.lmn_heap.specs.Heap.{Heap, mem_mark_of}
 use Rattle.lmn_body.specs.Running.{DoesAll}
 use Rattle.lmn_commit.specs.Committing.{Runs}
 use Rattle.lmn_sleep.specs.Quiet.{SameButMarks}
+use Rattle.lmn_commit.proofs.Frames.{made_awake}
 use Rattle.lmn_commit.proofs.Making.{some_registers}
+use Rattle.lmn_commit.proofs.Only.{others_awake}
 use Rattle.lmn_commit.proofs.Remarked.{runs_so, does_all_so}
 use Rattle.lmn_commit.proofs.Rousing.{all_deep}
 use Rattle.lmn_commit.proofs.Rules.{prepared_runs, prepares, fires_valid, itself}
@@ -23,6 +25,14 @@ wake-requires-clause-uses g c = c.requires.prepared.uses
 
 pub wake-requires-clause-some : goal.wake-requires-clause-some
 wake-requires-clause-some g c = own_set g.S.LinkStore.atom_id g.S.LinkStore.mem_id (g.S.LinkStore.heap c.args.store.now) c.args.set.now c.args.code.now c.requires
+
+pub wake-requires-clause-others : goal.wake-requires-clause-others
+wake-requires-clause-others g c =
+    let p = c.requires in
+    let s = g.S.LinkStore.heap c.args.store.now in
+    let r = some_registers g.S.LinkStore.atom_id g.S.LinkStore.mem_id c.args.set.now p.prepared.copied p.prepared.sizes p.before p.matched.valid p.matched_by in
+    let makes = prepares g.S.LinkStore.atom_id g.S.LinkStore.mem_id s c.args.set.now c.args.code.now p r.0 r.1 r.2 r.3 in
+    others_awake p.before s p.matched.valid (p.prepared.makes.rest p.before (itself p.before p.matched.valid).1) (made_awake r.0 c.args.code.now p.before s makes)
 
 pub run_all-requires-clause-unmarked : goal.run_all-requires-clause-unmarked
 run_all-requires-clause-unmarked g c =

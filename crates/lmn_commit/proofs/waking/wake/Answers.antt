@@ -4,6 +4,7 @@ use Rattle.lmn_commit.proofs.Codes.{used_at}
 use Rattle.lmn_commit.proofs.Rousing.{deep_alike, awake_still, awake_now, marks_on}
 use Rattle.lmn_commit.proofs.Rouses.{roused_first, roused_more, roused_front, held_alike}
 use Rattle.lmn_commit.proofs.Making.{some_agree}
+use Rattle.lmn_commit.proofs.Only.{only_wakes}
 use Rattle.lmn_commit.proofs.waking.wake.Goals as goal
 
 pub loop-i-init : goal.loop-i-init
@@ -49,3 +50,8 @@ pub returns : goal.returns
 returns g c =
     let past = c.loop-i-test.false in
     roused_front g.S.LinkStore.atom_id g.S.LinkStore.mem_id c.args.set.now (g.S.LinkStore.heap c.args.store.now) c.args.code.now c.removals-i-end.result c.loop-i.i (g.S.LinkStore.heap c.loop-i.store) (omega (arith, past)) c.removals-i-end.ensures.none c.loop-i.invariant.so
+
+pub returns-then-is_only : goal.returns-then-is_only
+returns-then-is_only g c = λ r u.
+    (let alone = c.is_only.ensures c.if-is_only.true in
+    only_wakes g.S.LinkStore.atom_id g.S.LinkStore.mem_id c.args.set.now (g.S.LinkStore.heap c.args.store.now) (g.S.LinkStore.heap c.set_mem_mark.new.self) c.args.code.now c.at-top.result c.root-root.ensures.sound c.at-top.ensures alone.0 alone.1 c.requires.others c.set_mem_mark.ensures r u)
