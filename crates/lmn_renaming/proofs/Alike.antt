@@ -1,7 +1,6 @@
 -- Two heaps that have one solid are one with other numbers.
 use Rattle.std.proofs.Common.{◌≡◌, ◌⊎◌, ◌∙◌, ◌+◌, ◌<◌, ℕ, zero, suc, List, [], ◌∷◌, Option, Some, None, IsSome, length, map, refl, sym, ap, subst, inl, inr, arith}
 use Rattle.std.specs.Prelude.{slice_index_or}
-use Rattle.std.specs.List.{AllByRecursion}
 use Rattle.std.specs.Option.{option_and_then, option_map}
 use Rattle.std.proofs.Math.ListN.{get_or-map}
 use Rattle.std.proofs.lemmas.List.{length-map}
@@ -12,7 +11,7 @@ use Rattle.lmn_base.proofs.Lists.{head_is, link_within, some_is}
 use Rattle.lmn_heap.specs.Heap.{Heap, HeapAtom, HeapMem, IsAtom, IsMem, Place, Unmarked, arity_of, atoms_by, atoms_in, gone, home_by, link_of, marks_of, mem_place_of, mems_by, mems_in, partners_of, place_of, rules_by, top, waiting, within}
 use Rattle.lmn_heap.specs.Solid.{HasSolid, links_from}
 use Rattle.lmn_heap.specs.Sound.{Forest, IsTree, Listed, Valid, flat}
-use Rattle.lmn_heap.proofs.Common.{is_atom_at, nothing_in}
+use Rattle.lmn_heap.proofs.Common.{is_atom_at, listed_atom, nothing_in}
 use Rattle.lmn_heap.proofs.Items.{place_some}
 use Rattle.lmn_heap.proofs.ListLemmas.{each_of}
 use Rattle.lmn_heap.proofs.Trees.{is_mem, parent_by}
@@ -25,10 +24,8 @@ use Rattle.lmn_renaming.proofs.Numbers.{in_back, in_there}
 -- ---- a valid heap
 
 module _ (s : Heap) (v : Valid s) where
-  atoms_stand : (m : ℕ) → AllByRecursion (IsAtom s) (atoms_in s m)
-  atoms_stand m = (let l = v.sound in let listed = l.listed in each_of (IsAtom s) (atoms_in s m) (λ a i. place_some (s.atoms a) (within m) ((listed.atoms m a).0 i)))
-
-  place_of_atom : (a : ℕ) (x : HeapAtom) → s.atoms a ≡ Some x → (m : ℕ) × (x.place ≡ within m)
+  -- an atom stands in a membrane
+  pub place_of_atom : (a : ℕ) (x : HeapAtom) → s.atoms a ≡ Some x → (m : ℕ) × (x.place ≡ within m)
   place_of_atom a x e =
       let settled = v.settled in
       by x.place (subst (λ (o : Option HeapAtom). IsSome (option_and_then (λ (y : HeapAtom). home_by y.place) o)) e (settled.atoms a (subst (λ (o : Option HeapAtom). IsSome o) (sym e) refl)))
@@ -54,7 +51,8 @@ module _ (s : Heap) (v : Valid s) where
       has_atoms None i = absurd i
       has_atoms (Some x) i = refl
 
-  none_new : s.new_atoms ≡ []
+  -- no atom is new
+  pub none_new : s.new_atoms ≡ []
   none_new = nothing_in s.new_atoms (λ b i. (let sound = v.sound in let listed = sound.listed in by b ((listed.new_atoms b).0 i)))
     where
       by : (b : ℕ) → place_of s b ≡ Some waiting → ⊥
@@ -64,7 +62,8 @@ module _ (s : Heap) (v : Valid s) where
           let same : within p.0 ≡ waiting = same_Some (within p.0) waiting (sym (ap (option_map (λ (y : HeapAtom). y.place)) w.1 ∙ ap (λ q. Some q) p.1) ∙ e) in
           cc same
 
-  mem_settled : (m : ℕ) (p : Place) → IsMem s m → mem_place_of s m ≡ Some p → (p ≡ top) ⊎ ((q : ℕ) × (p ≡ within q))
+  -- a membrane is the root, or stands in one
+  pub mem_settled : (m : ℕ) (p : Place) → IsMem s m → mem_place_of s m ≡ Some p → (p ≡ top) ⊎ ((q : ℕ) × (p ≡ within q))
   mem_settled m p i e = (let settled = v.settled in elim (settled.mems m i) [
     | inl t ↦ inl (same_Some p top (sym e ∙ t))
     | inr h ↦ inr (by p (subst (λ (o : Option ℕ). IsSome o) (parent_by s m p e) h))
@@ -76,7 +75,8 @@ module _ (s : Heap) (v : Valid s) where
       by waiting i = absurd (cc i)
       by gone i = absurd (cc i)
 
-  none_new_mems : s.new_mems ≡ []
+  -- no membrane is new
+  pub none_new_mems : s.new_mems ≡ []
   none_new_mems = nothing_in s.new_mems (λ m i. (let sound = v.sound in let listed = sound.listed in by m ((listed.new_mems m).0 i)))
     where
       is_some : (o : Option HeapMem) → option_map (λ (y : HeapMem). y.place) o ≡ Some waiting → IsSome o
@@ -105,7 +105,7 @@ module _ (h k : Heap) (x : Solid) (vh : Valid h) (vk : Valid k) (uh : Unmarked h
   Match = SameAtom h k sh.name sk.name
 
   same : Same h k sh.name sk.name sh.forest sk.forest
-  same = same_of h k sh.name sk.name sh.forest sk.forest (λ m i. atoms_stand h vh m) (λ m i. atoms_stand k vk m) (sh.root ∙ sym sk.root)
+  same = same_of h k sh.name sk.name sh.forest sk.forest (λ m i. each_of (IsAtom h) (atoms_in h m) (listed_atom h vh.sound.listed m)) (λ m i. each_of (IsAtom k) (atoms_in k m) (listed_atom k vk.sound.listed m)) (sh.root ∙ sym sk.root)
 
   two : Two Match (atoms_of h sh.forest) (atoms_of k sk.forest)
   two = atoms_two h k sh.name sk.name sh.forest sk.forest same

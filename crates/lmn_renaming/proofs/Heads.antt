@@ -60,16 +60,6 @@ module _ (r : Renaming) where
     new_mems = list_again r.mems.to r.mems.back r.mems.there s.new_mems i;
   }
 
-  head_again : (g : HeadRegisters) → renamed_head (inverse r) (renamed_head r g) ≡ g
-  head_again g = λ i. record {
-    images = record {
-      atom = λ k. r.atoms.there (g.images.atom k) i;
-      membrane = λ k. r.mems.there (g.images.membrane k) i;
-      part = λ k. (r.atoms.there (g.images.part k).0 i, (g.images.part k).1);
-    };
-    integer = g.integer;
-  }
-
 -- ---- one instruction
 
 module _ (r : Renaming) (s : Heap) (n : HeadSize) (g : HeadRegisters) where

@@ -9,3 +9,4 @@ pub mod Matching
 pub mod Alike
 pub mod Composed
 pub mod Room
+mod Compared

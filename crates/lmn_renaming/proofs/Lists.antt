@@ -3,6 +3,7 @@ use Rattle.std.proofs.Common.{◌≡◌, ◌≢◌, ◌∙◌, ◌==◌, ◌<◌
 use Rattle.std.specs.Prelude.{slice_index_or}
 use Rattle.std.proofs.lemmas.Bool.{cases_eq}
 use Rattle.lmn_base.specs.Lists.{In}
+use Rattle.lmn_base.proofs.Common.{map_same}
 use Rattle.lmn_base.proofs.Lists.{head_is, tail_is}
 use Rattle.lmn_base.proofs.Numbers.{chosen_elsewhere, chosen_there}
 use Rattle.lmn_heap.specs.Heap.{Distinct}
@@ -12,10 +13,11 @@ use Rattle.lmn_renaming.proofs.Numbers.{in_there, one_to_one}
 
 -- ---- a swap of two numbers
 
-swapped : ℕ → ℕ → ℕ → ℕ
+-- y for x, x for y, and any other as it is
+pub swapped : ℕ → ℕ → ℕ → ℕ
 swapped x y z = if z == x then y else (if z == y then x else z)
 
-swap_first : (x y : ℕ) → swapped x y x ≡ y
+pub swap_first : (x y : ℕ) → swapped x y x ≡ y
 unfolding swapped
 swap_first x y = chosen_there x y (if x == y then x else x) x refl
 
@@ -26,11 +28,12 @@ swap_second x y = elim (cases_eq y x) [
   | inr d ↦ chosen_elsewhere x y (if y == y then x else y) y d ∙ chosen_there y x y y refl
 ]
 
-swap_else : (x y z : ℕ) → z ≢ x → z ≢ y → swapped x y z ≡ z
+pub swap_else : (x y z : ℕ) → z ≢ x → z ≢ y → swapped x y z ≡ z
 unfolding swapped
 swap_else x y z d e = chosen_elsewhere x y (if z == y then x else z) z d ∙ chosen_elsewhere y x z z e
 
-swap_again : (x y z : ℕ) → swapped x y (swapped x y z) ≡ z
+-- two swaps are none
+pub swap_again : (x y z : ℕ) → swapped x y (swapped x y z) ≡ z
 swap_again x y z = elim (cases_eq z x) [
   | inl e ↦ ap (λ w. swapped x y (swapped x y w)) e ∙ ap (swapped x y) (swap_first x y) ∙ swap_second x y ∙ sym e
   | inr d ↦ elim (cases_eq z y) [
@@ -39,7 +42,8 @@ swap_again x y z = elim (cases_eq z x) [
   ]
 ]
 
-swapping : Numbering → ℕ → ℕ → Numbering
+-- numbers that are then swapped
+unfoldable pub swapping : Numbering → ℕ → ℕ → Numbering
 swapping n x y = record {
   to = λ z. swapped x y (n.to z);
   back = λ z. n.back (swapped x y z);
@@ -48,10 +52,6 @@ swapping n x y = record {
 }
 
 -- ---- numbers that take one list to another
-
-map_kept : (f g : ℕ → ℕ) (xs : List ℕ) → ((z : ℕ) → In z xs → g z ≡ f z) → map g xs ≡ map f xs
-map_kept f g [] h = refl
-map_kept f g (x ∷ xs) h = λ i. h x (inl refl) i ∷ map_kept f g xs (λ z j. h z (inr j)) i
 
 pub numbering_of : (xs ys : List ℕ) → Distinct xs → Distinct ys → length xs ≡ length ys → (n : Numbering) × (map n.to xs ≡ ys)
 unfolding swapping
@@ -65,7 +65,7 @@ numbering_of (x ∷ xs) (y ∷ ys) d e l =
     let kept : (z : ℕ) → In z xs → swapped (n.to x) y (n.to z) ≡ n.to z = λ z i. swap_else (n.to x) y (n.to z)
     (λ same. each_in (λ b. x ≢ b) xs z d.0 i (sym (one_to_one n z x same)))
     (λ same. each_in (λ b. y ≢ b) ys (n.to z) e.0 (there z i) (sym same)) in
-    (swapping n (n.to x) y, (λ i. swap_first (n.to x) y i ∷ (map_kept n.to (λ z. swapped (n.to x) y (n.to z)) xs kept ∙ w.1) i))
+    (swapping n (n.to x) y, (λ i. swap_first (n.to x) y i ∷ (map_same (λ z. swapped (n.to x) y (n.to z)) n.to xs kept ∙ w.1) i))
 
 -- ---- lists side by side
 
@@ -93,13 +93,6 @@ two_at R f [] ys h e a i = absurd i
 two_at R f (x ∷ xs) [] h e a i = absurd h
 two_at R f (x ∷ xs) (y ∷ ys) h e a (inl same) = subst (λ z. R z (f z)) same (subst (R x) (sym (head_is e)) h.0)
 two_at R f (x ∷ xs) (y ∷ ys) h e a (inr i) = two_at R f xs ys h.1 (tail_is e) a i
-
--- fronts that are as long are the same
-pub cut : (xs ys us vs : List ℕ) → length xs ≡ length ys → xs ++ us ≡ ys ++ vs → (xs ≡ ys) × (us ≡ vs)
-cut [] [] us vs l e = (refl, e)
-cut [] (y ∷ ys) us vs l e = absurd (omega (arith, l))
-cut (x ∷ xs) [] us vs l e = absurd (omega (arith, l))
-cut (x ∷ xs) (y ∷ ys) us vs l e = let w = cut xs ys us vs (omega (arith, l)) (tail_is e) in ((λ i. head_is e i ∷ w.0 i), w.1)
 
 -- lists that are as long and have the same at each place are one
 pub same_list : {X : Type 0} (d : X) (xs ys : List X) → length xs ≡ length ys → ((i : ℕ) → i < length xs → slice_index_or xs i d ≡ slice_index_or ys i d) → xs ≡ ys

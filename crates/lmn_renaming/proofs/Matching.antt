@@ -14,7 +14,8 @@ use Rattle.lmn_heap.specs.Solid.{links_from, regions_of, solid_atom_at, solid_at
 use Rattle.lmn_heap.specs.Sound.{Forest, Forms, Listed, bare, flat, mem}
 use Rattle.lmn_heap.proofs.Depths.{both_distinct}
 use Rattle.lmn_heap.proofs.ListLemmas.{distinct_left, distinct_right, apart, each_in, in_left, in_right}
-use Rattle.lmn_renaming.proofs.Lists.{Two, cut, two_both, two_long}
+use Rattle.lmn_lexer.proofs.Determined.{same_front}
+use Rattle.lmn_renaming.proofs.Lists.{Two, two_both, two_long}
 
 -- the atoms of the membranes of a forest
 abbrev pub atoms_of : Heap → Forest → List ℕ
@@ -136,11 +137,9 @@ module _ (h k : Heap) (u v : ℕ → ℕ → ℕ) where
     each_mem (mem m i r) bare ms ns s a e F G = absurd s
     each_mem (mem m i r) (mem n j q) ms ns s a e F G =
         let is = head_is e in
-        let flats = cut (map M (flat i)) (flat j) (map M (flat r)) (flat q) (length_mapped M (flat i) ∙ flats_long i j s.2) (sym (map-append M (flat i) (flat r)) ∙ tail_is e) in
-        let here = cut (map A (atoms_in h m)) (atoms_in k n) (map A (atoms_of h i ++ atoms_of h r)) (atoms_of k j ++ atoms_of k q)
-        (length_mapped A (atoms_in h m) ∙ two_long SameAtom (atoms_in h m) (atoms_in k n) s.0) (sym (map-append A (atoms_in h m) (atoms_of h i ++ atoms_of h r)) ∙ a) in
-        let others = cut (map A (atoms_of h i)) (atoms_of k j) (map A (atoms_of h r)) (atoms_of k q)
-        (length_mapped A (atoms_of h i) ∙ two_long SameAtom (atoms_of h i) (atoms_of k j) (atoms_two i j s.2)) (sym (map-append A (atoms_of h i) (atoms_of h r)) ∙ here.1) in
+        let flats = same_front {xs = map M (flat i)} {ys = map M (flat r)} {us = flat j} {vs = flat q} (sym (map-append M (flat i) (flat r)) ∙ tail_is e) (length_mapped M (flat i) ∙ flats_long i j s.2) in
+        let here = same_front {xs = map A (atoms_in h m)} {ys = map A (atoms_of h i ++ atoms_of h r)} {us = atoms_in k n} {vs = atoms_of k j ++ atoms_of k q} (sym (map-append A (atoms_in h m) (atoms_of h i ++ atoms_of h r)) ∙ a) (length_mapped A (atoms_in h m) ∙ two_long SameAtom (atoms_in h m) (atoms_in k n) s.0) in
+        let others = same_front {xs = map A (atoms_of h i)} {ys = map A (atoms_of h r)} {us = atoms_of k j} {vs = atoms_of k q} (sym (map-append A (atoms_of h i) (atoms_of h r)) ∙ here.1) (length_mapped A (atoms_of h i) ∙ two_long SameAtom (atoms_of h i) (atoms_of k j) (atoms_two i j s.2)) in
         let inner = each_mem i j (mems_in h m) (mems_in k n) s.2 others.0 flats.0 F.2 G.2 in
         let rest = each_mem r q F.0 G.0 s.3 others.1 flats.1 F.3 G.3 in
         let this : SameMem m = record { atoms = ap (atoms_in k) is ∙ sym here.0; rules = ap (rules_in k) is ∙ sym s.1; mems = ap (mems_in k) is ∙ inner.0 } in (

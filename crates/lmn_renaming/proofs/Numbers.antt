@@ -2,14 +2,11 @@
 use Rattle.std.proofs.Common.{◌≡◌, ◌≢◌, ◌∙◌, ◌==◌, ℕ, Bool, true, false, if◌then◌else◌, List, [], ◌∷◌, Option, Some, None, map, refl, sym, ap, inl, inr}
 use Rattle.std.specs.List.{AllByRecursion}
 use Rattle.std.specs.Option.{option_map}
-use Rattle.std.proofs.lemmas.Bool.{cases_eq}
-use Rattle.lmn_base.proofs.Numbers.{equal_itself, not_equal}
+use Rattle.std.proofs.lemmas.Bool.{cases_eq, eq-eqb}
+use Rattle.lmn_base.proofs.Numbers.{not_equal}
 use Rattle.lmn_base.specs.Lists.{In}
 use Rattle.lmn_heap.specs.Heap.{Distinct, after, alter, without}
 use Rattle.lmn_renaming.specs.Renamed.{Numbering}
-
-equal_test : (x y : ℕ) → x ≡ y → (x == y) ≡ true
-equal_test x y e = ap (λ z. z == y) e ∙ equal_itself y
 
 -- a change of one that is chosen, seen through a function
 chosen : {X Y : Type 0} (F : X → Y) (u : X → X) (v : Y → Y) → ((x : X) → F (u x) ≡ v (F x)) → (t : Bool) (x : X) → F (if t then u x else x) ≡ (if t then v (F x) else F x)
@@ -25,7 +22,7 @@ module _ (n : Numbering) where
   -- a number that comes by the way back is asked as the other number
   pub same_test : (j a : ℕ) → (n.back j == a) ≡ (j == n.to a)
   same_test j a = elim (cases_eq j (n.to a)) [
-    | inl e ↦ equal_test (n.back j) a (ap n.back e ∙ n.there a) ∙ sym (equal_test j (n.to a) e)
+    | inl e ↦ eq-eqb (n.back j) a (ap n.back e ∙ n.there a) ∙ sym (eq-eqb j (n.to a) e)
     | inr d ↦ not_equal (n.back j) a (λ e. d (sym (n.again j) ∙ ap n.to e)) ∙ sym (not_equal j (n.to a) d)
   ]
 

@@ -17,7 +17,8 @@ abbrev pub renamed_forest : (ℕ → ℕ) → Forest → Forest
 renamed_forest to bare = bare
 renamed_forest to (mem m inner rest) = mem (to m) (renamed_forest to inner) (renamed_forest to rest)
 
-flat_there : (to : ℕ → ℕ) (f : Forest) → flat (renamed_forest to f) ≡ map to (flat f)
+-- the membranes of the forest with the other numbers
+pub flat_there : (to : ℕ → ℕ) (f : Forest) → flat (renamed_forest to f) ≡ map to (flat f)
 flat_there to bare = refl
 flat_there to (mem m inner rest) = ap (λ xs. to m ∷ xs) ((λ i. flat_there to inner i ++ flat_there to rest i) ∙ sym (map-append to (flat inner) (flat rest)))
 

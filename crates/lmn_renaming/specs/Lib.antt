@@ -1,3 +1,4 @@
 pub mod Renamed
 pub mod Laws
 pub mod Registers
+pub mod Examples

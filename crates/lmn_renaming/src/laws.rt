@@ -1,5 +1,6 @@
 //! The laws of renaming.
 
+ghost use Rattle.lmn_renaming.specs.Examples.{RenamingsCompare};
 ghost use Rattle.lmn_renaming.specs.Laws.{CallsAreRenamed, CallsKeepRoom, FixedIsSame, HeadsAreRenamed, HeadsReadNoRoom, OneSolidIsRenamed, RenamedTwice, SolidsAreRenamed};
 
 /// What a call makes of a renamed heap is what it makes of the heap, renamed.
@@ -32,4 +33,9 @@ pub fn renamings_compose()
 pub fn room_is_apart()
     ensures calls { CallsKeepRoom }
     ensures heads { HeadsReadNoRoom }
+{}
+
+/// Two heaps of one atom are one with 0 and 1 exchanged but for room, and not with the numbers as they are, and what takes each number to 0 is no numbering.
+pub fn renamings_compare()
+    ensures { RenamingsCompare }
 {}
