@@ -19,7 +19,7 @@ use Rattle.lmn_folded_read.specs.Apart.{TermApart, link_apart, atom_apart, Terms
 use Rattle.lmn_folded_same.specs.Whole as whole
 use Rattle.lmn_folded_same.specs.Whole.{TermWhole, link_whole, atom_whole, TermsWhole, none_whole, more_whole, ItemsWhole, items_whole, FoldedWhole, folded_whole, MembranesWhole, no_membranes, membranes_whole}
 use Rattle.lmn_folded_same.specs.Named.{AtomNamed, RegionNamed, RegionsNamed, OneToOneNames, FoldedLinksAreNamed}
-use Rattle.lmn_base.proofs.Numbers.{not_equal as apart_false, same_or_not as same_or_apart}
+use Rattle.lmn_base.proofs.Numbers.{equal_itself, not_equal as apart_false, same_or_not as same_or_apart}
 use Rattle.lmn_congruence.proofs.TranslatedLinks.{no_link_in_rules as no_rule_links, places_append}
 use Rattle.lmn_congruence.proofs.Common.{among_left, among_right, places_among, among_places}
 use Rattle.lmn_base.specs.declared.refusal.Pos.{Pos}
@@ -51,10 +51,6 @@ if_false : (b : Bool) (a c : Link) → b ≡ false → (if b then a else c) ≡ 
 if_false true a c e = absurd (cc)
 if_false false a c e = refl
 
--- equal numbers pass the test
-pub equal_true : (x y : ℕ) → x ≡ y → (x == y) ≡ true
-equal_true x y e = grind arith
-
 look_none : (t : Table) (x : ℕ) (d : Link) → places x (firsts t) ≡ 0 → look_up t x d ≡ d
 look_none [] x d e = refl
 look_none (f ∷ t) x d e = go (same_or_apart x f.0) (look_none t x d)
@@ -70,7 +66,7 @@ stands_once [] e a = elim a [ ]
 
 look_there : (t : Table) (e : ℕ × Link) (d : Link) → Among e t → places e.0 (firsts t) ≤ 1 → look_up t e.0 d ≡ e.1
 look_there [] e d a l = elim a [ ]
-look_there (f ∷ t) e d at_head l = if_true (e.0 == e.0) e.1 (look_up t e.0 d) (equal_true e.0 e.0 refl)
+look_there (f ∷ t) e d at_head l = if_true (e.0 == e.0) e.1 (look_up t e.0 d) (equal_itself e.0)
 look_there (f ∷ t) e d (further a) l = go (same_or_apart e.0 f.0) (look_there t e d a)
   where
     go : (e.0 ≡ f.0) ⊎ (e.0 ≢ f.0) → (places e.0 (firsts t) ≤ 1 → look_up t e.0 d ≡ e.1) → look_up (f ∷ t) e.0 d ≡ e.1
