@@ -14,7 +14,7 @@ use Rattle.lmn_body.specs.Rules.{IsHeadMembrane, StandsIn, WellPlaced, closed_re
 use Rattle.lmn_body.specs.Running.{Registers}
 use Rattle.lmn_body.proofs.AddedLemmas.{AreWholeRests, long_enough}
 use Rattle.lmn_renaming.specs.Renamed.{Renaming}
-use Rattle.lmn_renaming.proofs.Lists.{cut}
+use Rattle.lmn_lexer.proofs.Determined.{same_front}
 use Rattle.lmn_renaming.proofs.Numbers.{kept_test}
 use Rattle.lmn_renamed_firing.proofs.Mapped.{answer_there, given_there}
 
@@ -103,8 +103,7 @@ module _ (p : Renaming) (r s : Registers) where
       (sym (head_is ea), at inside w.0, agree q t (a + 1) c k m xs (tail_is ea) em copies lr ls left at old below w.1)
   agree q t a c k m (Connector l l' ∷ xs) ea em copies lr ls left at old below w = agree q t a c k m xs ea em copies lr ls left at old below w
   agree q t a c k m (Copy part link inside ∷ xs) ea em copies lr ls left at old below w =
-      let e = cut (map A (r.copied c)) (s.copied c) (map A (new_atoms r q a (c + 1) xs)) (new_atoms s t a (c + 1) xs)
-      (length_mapped A (r.copied c) ∙ sym (copies (c, part) (inl refl))) (sym (map_append A (r.copied c) (new_atoms r q a (c + 1) xs)) ∙ ea) in
+      let e = same_front {xs = map A (r.copied c)} {ys = map A (new_atoms r q a (c + 1) xs)} {us = s.copied c} {vs = new_atoms s t a (c + 1) xs} (sym (map_append A (r.copied c) (new_atoms r q a (c + 1) xs)) ∙ ea) (length_mapped A (r.copied c) ∙ sym (copies (c, part) (inl refl))) in
       (sym e.0, at inside w.0, agree q t a (c + 1) k m xs e.1 em (λ x j. copies x (inr j)) lr ls left at old below w.1)
   agree q t a c k m (Membrane inside ∷ xs) ea em copies lr ls left at old below w =
       let here : At m = sym (head_is em) in
@@ -117,10 +116,8 @@ module _ (p : Renaming) (r s : Registers) where
       (old of w.0, at inside w.2, agree q t a c k m xs ea em copies lr ls left at old below w.3)
   agree q t a c k m (Rest of true inside ∷ xs) ea em copies lr ls left at old below w =
       let l = left of (inl refl) in
-      let ia = cut (map A (q 0).atoms) (t 0).atoms (map A (new_atoms r (later q) a c xs)) (new_atoms s (later t) a c xs)
-      (length_mapped A (q 0).atoms ∙ lr.0.0 ∙ sym (ls.0.0 ∙ ap (λ zs. length zs) l.0 ∙ length_mapped A (r.left_atoms of))) (sym (map_append A (q 0).atoms (new_atoms r (later q) a c xs)) ∙ ea) in
-      let im = cut (map M (q 0).membranes) (t 0).membranes (map M (made_mems r (later q) m xs)) (made_mems s (later t) m xs)
-      (length_mapped M (q 0).membranes ∙ lr.0.1 ∙ sym (ls.0.1 ∙ ap (λ zs. length zs) l.1 ∙ length_mapped M (r.left_membranes of))) (sym (map_append M (q 0).membranes (made_mems r (later q) m xs)) ∙ em) in (
+      let ia = same_front {xs = map A (q 0).atoms} {ys = map A (new_atoms r (later q) a c xs)} {us = (t 0).atoms} {vs = new_atoms s (later t) a c xs} (sym (map_append A (q 0).atoms (new_atoms r (later q) a c xs)) ∙ ea) (length_mapped A (q 0).atoms ∙ lr.0.0 ∙ sym (ls.0.0 ∙ ap (λ zs. length zs) l.0 ∙ length_mapped A (r.left_atoms of))) in
+      let im = same_front {xs = map M (q 0).membranes} {ys = map M (made_mems r (later q) m xs)} {us = (t 0).membranes} {vs = made_mems s (later t) m xs} (sym (map_append M (q 0).membranes (made_mems r (later q) m xs)) ∙ em) (length_mapped M (q 0).membranes ∙ lr.0.1 ∙ sym (ls.0.1 ∙ ap (λ zs. length zs) l.1 ∙ length_mapped M (r.left_membranes of))) in (
         old of w.0,
         at inside w.1,
         record { left_atoms = l.0; left_membranes = l.1; atoms = sym ia.0; membranes = sym im.0; long = lr.0 },

@@ -1,19 +1,20 @@
 -- Two heaps between commits of which all lists, functors and links are one with other numbers are one with other numbers.
-use Rattle.std.proofs.Common.{◌≡◌, ◌⊎◌, ◌∙◌, ◌+◌, ◌<◌, ℕ, List, [], ◌∷◌, Option, Some, None, IsSome, length, map, refl, sym, ap, subst, inl, inr}
+use Rattle.std.proofs.Common.{◌≡◌, ◌∙◌, ◌+◌, ◌<◌, ℕ, List, [], ◌∷◌, Option, Some, None, IsSome, length, map, refl, sym, ap, subst, inl, inr}
 use Rattle.std.specs.Prelude.{slice_index_or}
-use Rattle.std.specs.Option.{option_and_then, option_map}
+use Rattle.std.specs.Option.{option_map}
 use Rattle.std.proofs.Math.ListN.{get_or-map}
 use Rattle.std.proofs.lemmas.List.{length-map}
 use Rattle.std.proofs.lemmas.Option.{same_Some}
 use Rattle.lmn_base.specs.declared.functor.Functor.{Functor}
 use Rattle.lmn_base.specs.Lists.{In}
 use Rattle.lmn_base.proofs.Lists.{none_is_not, some_is}
-use Rattle.lmn_heap.specs.Heap.{Heap, HeapAtom, HeapMem, IsAtom, IsMem, Place, Unmarked, arity_of, atoms_by, atoms_in, functor_of, gone, home_by, link_of, marks_of, mem_place_of, mems_by, mems_in, partners_of, place_of, rules_by, rules_in, top, waiting, within}
+use Rattle.lmn_heap.specs.Heap.{Heap, HeapAtom, HeapMem, IsAtom, IsMem, Place, Unmarked, arity_of, atoms_by, atoms_in, functor_of, link_of, marks_of, mem_place_of, mems_by, mems_in, partners_of, rules_by, rules_in, within}
 use Rattle.lmn_heap.specs.Sound.{Forest, Forms, IsTree, Listed, Valid, flat}
-use Rattle.lmn_heap.proofs.Common.{holds_mem, nothing_in}
+use Rattle.lmn_heap.proofs.Common.{holds_mem}
 use Rattle.lmn_heap.proofs.Items.{place_some}
-use Rattle.lmn_heap.proofs.Trees.{is_mem, parent_by}
+use Rattle.lmn_heap.proofs.Trees.{is_mem}
 use Rattle.lmn_renaming.specs.Renamed.{Renaming, SameButRoom, renamed, renamed_atom, renamed_mem, renamed_place, renamed_port, with_room}
+use Rattle.lmn_renaming.proofs.Alike.{mem_settled, none_new, none_new_mems, place_of_atom}
 use Rattle.lmn_renaming.proofs.Lists.{same_list}
 use Rattle.lmn_renaming.proofs.Numbers.{in_back, in_there}
 use Rattle.lmn_renamed_firing.proofs.Mapped.{flats_there}
@@ -21,57 +22,14 @@ use Rattle.lmn_renamed_firing.proofs.Mapped.{flats_there}
 -- ---- a heap between commits
 
 module _ (s : Heap) (v : Valid s) where
-  atom_place : (a : ℕ) (x : HeapAtom) → s.atoms a ≡ Some x → (m : ℕ) × (x.place ≡ within m)
-  atom_place a x e =
-      let settled = v.settled in
-      by x.place (subst (λ (o : Option HeapAtom). IsSome (option_and_then (λ (y : HeapAtom). home_by y.place) o)) e (settled.atoms a (subst (λ (o : Option HeapAtom). IsSome o) (sym e) refl)))
-    where
-      by : (p : Place) → IsSome (home_by p) → (m : ℕ) × (p ≡ within m)
-      by top i = absurd (cc i)
-      by (within m) i = (m, refl)
-      by waiting i = absurd (cc i)
-      by gone i = absurd (cc i)
-
   -- the membrane in which an atom stands
   stands_in : (a : ℕ) (x : HeapAtom) → s.atoms a ≡ Some x → (m : ℕ) × (x.place ≡ within m) × IsMem s m × In a (atoms_in s m)
   stands_in a x e =
-      let w = atom_place a x e in
+      let w = place_of_atom s v a x e in
       let sound = v.sound in
       let listed = sound.listed in
       let there = (listed.atoms w.0 a).1 (ap (option_map (λ (y : HeapAtom). y.place)) e ∙ ap (λ q. Some q) w.1) in
       (w.0, w.1, holds_mem (s.mems w.0) a there, there)
-
-  no_new : s.new_atoms ≡ []
-  no_new = nothing_in s.new_atoms (λ b i. (let sound = v.sound in let listed = sound.listed in by b ((listed.new_atoms b).0 i)))
-    where
-      by : (b : ℕ) → place_of s b ≡ Some waiting → ⊥
-      by b e =
-          let w = some_is (s.atoms b) (place_some (s.atoms b) waiting e) in
-          let p = atom_place b w.0 w.1 in
-          let same : within p.0 ≡ waiting = same_Some (within p.0) waiting (sym (ap (option_map (λ (y : HeapAtom). y.place)) w.1 ∙ ap (λ q. Some q) p.1) ∙ e) in
-          cc same
-
-  mem_place : (m : ℕ) (p : Place) → IsMem s m → mem_place_of s m ≡ Some p → (p ≡ top) ⊎ ((q : ℕ) × (p ≡ within q))
-  mem_place m p i e = (let settled = v.settled in elim (settled.mems m i) [
-    | inl t ↦ inl (same_Some p top (sym e ∙ t))
-    | inr h ↦ inr (by p (subst (λ (o : Option ℕ). IsSome o) (parent_by s m p e) h))
-  ])
-    where
-      by : (p : Place) → IsSome (home_by p) → (q : ℕ) × (p ≡ within q)
-      by top i = absurd (cc i)
-      by (within m) i = (m, refl)
-      by waiting i = absurd (cc i)
-      by gone i = absurd (cc i)
-
-  no_new_mems : s.new_mems ≡ []
-  no_new_mems = nothing_in s.new_mems (λ m i. (let sound = v.sound in let listed = sound.listed in by m ((listed.new_mems m).0 i)))
-    where
-      is_some : (o : Option HeapMem) → option_map (λ (y : HeapMem). y.place) o ≡ Some waiting → IsSome o
-      is_some None e = absurd (cc e)
-      is_some (Some y) e = refl
-
-      by : (m : ℕ) → mem_place_of s m ≡ Some waiting → ⊥
-      by m e = elim (mem_place m waiting (is_some (s.mems m) e) e) [ inl x ↦ cc x | inr x ↦ (let y = x.1 in cc y) ]
 
 -- What is asked: the root, and of each membrane and atom of the first heap what the second has at the other number.
 pub record Aligned (p : Renaming) (h k : Heap) : Type 0 where
@@ -127,7 +85,7 @@ module _ (p : Renaming) (h k : Heap) (vh : Valid h) (vk : Valid k) (uh : Unmarke
   has_mems (Some y) m i = refl
 
   place_there : (m : ℕ) (q : Place) → IsMem h m → mem_place_of h m ≡ Some q → mem_place_of k (M m) ≡ Some (renamed_place M q)
-  place_there m q i e = elim (mem_place h vh m q i e) [
+  place_there m q i e = elim (mem_settled h vh m q i e) [
     | inl t ↦ (let root = (lh.root m).0 (e ∙ ap (λ z. Some z) t) in (lk.root (M m)).1 (ap M root ∙ sym al.root) ∙ ap (λ z. Some (renamed_place M z)) (sym t))
     | inr w ↦ (
         let inside = (lh.mems w.0 m).1 (e ∙ ap (λ z. Some z) w.1) in
@@ -216,6 +174,6 @@ module _ (p : Renaming) (h k : Heap) (vh : Valid h) (vk : Valid k) (uh : Unmarke
     root = al.root;
     atoms = λ a. ap k.atoms (sym (p.atoms.again a)) ∙ atom_is (p.atoms.back a) (h.atoms (p.atoms.back a)) refl;
     mems = λ m. (let w = mem_is (p.mems.back m) (h.mems (p.mems.back m)) refl in (w.0, w.1, ap k.mems (sym (p.mems.again m)) ∙ w.2));
-    new_atoms = no_new k vk ∙ sym (ap (map A) (no_new h vh));
-    new_mems = no_new_mems k vk ∙ sym (ap (map M) (no_new_mems h vh));
+    new_atoms = none_new k vk ∙ sym (ap (map A) (none_new h vh));
+    new_mems = none_new_mems k vk ∙ sym (ap (map M) (none_new_mems h vh));
   }

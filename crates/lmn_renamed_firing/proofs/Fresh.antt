@@ -1,52 +1,12 @@
 -- Numbers that are as others on what is there, and take what is made to what is made.
-use Rattle.std.proofs.Common.{◌≡◌, ◌≢◌, ◌∙◌, ◌==◌, ℕ, if◌then◌else◌, List, [], ◌∷◌, length, map, refl, sym, ap, subst, inl, inr, arith}
-use Rattle.std.proofs.lemmas.Bool.{cases_eq}
+use Rattle.std.proofs.Common.{◌≡◌, ◌≢◌, ◌∙◌, ℕ, List, [], ◌∷◌, length, map, refl, sym, subst, inl, inr, arith}
 use Rattle.lmn_base.specs.Lists.{In}
 use Rattle.lmn_base.proofs.Common.{map_same}
-use Rattle.lmn_base.proofs.Numbers.{chosen_elsewhere, chosen_there}
 use Rattle.lmn_heap.specs.Heap.{Distinct}
 use Rattle.lmn_heap.proofs.ListLemmas.{each_in}
 use Rattle.lmn_renaming.specs.Renamed.{Numbering}
+use Rattle.lmn_renaming.proofs.Lists.{swap_else, swap_first, swapped, swapping}
 use Rattle.lmn_renaming.proofs.Numbers.{in_there, one_to_one}
-
--- ---- a swap of two numbers
-
-swapped : ℕ → ℕ → ℕ → ℕ
-swapped x y z = if z == x then y else (if z == y then x else z)
-
-swap_first : (x y : ℕ) → swapped x y x ≡ y
-unfolding swapped
-swap_first x y = chosen_there x y (if x == y then x else x) x refl
-
-swap_second : (x y : ℕ) → swapped x y y ≡ x
-unfolding swapped
-swap_second x y = elim (cases_eq y x) [
-  | inl e ↦ chosen_there x y (if y == y then x else y) y e ∙ e
-  | inr d ↦ chosen_elsewhere x y (if y == y then x else y) y d ∙ chosen_there y x y y refl
-]
-
-swap_else : (x y z : ℕ) → z ≢ x → z ≢ y → swapped x y z ≡ z
-unfolding swapped
-swap_else x y z d e = chosen_elsewhere x y (if z == y then x else z) z d ∙ chosen_elsewhere y x z z e
-
-swap_again : (x y z : ℕ) → swapped x y (swapped x y z) ≡ z
-swap_again x y z = elim (cases_eq z x) [
-  | inl e ↦ ap (λ w. swapped x y (swapped x y w)) e ∙ ap (swapped x y) (swap_first x y) ∙ swap_second x y ∙ sym e
-  | inr d ↦ elim (cases_eq z y) [
-    | inl e ↦ ap (λ w. swapped x y (swapped x y w)) e ∙ ap (swapped x y) (swap_second x y) ∙ swap_first x y ∙ sym e
-    | inr f ↦ ap (swapped x y) (swap_else x y z d f) ∙ swap_else x y z d f
-  ]
-]
-
-swapping : Numbering → ℕ → ℕ → Numbering
-swapping n x y = record {
-  to = λ z. swapped x y (n.to z);
-  back = λ z. n.back (swapped x y z);
-  there = λ z. ap n.back (swap_again x y (n.to z)) ∙ n.there z;
-  again = λ z. ap (swapped x y) (n.again (swapped x y z)) ∙ swap_again x y z;
-}
-
--- ---- other numbers for what is made
 
 -- Numbers that are q on the old ones, and take one list to another, which share nothing with the old ones.
 pub numbering_beside : (old : ℕ → Type 0) (q : Numbering) (xs ys : List ℕ) → Distinct xs → Distinct ys → length xs ≡ length ys

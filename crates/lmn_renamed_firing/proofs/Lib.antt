@@ -1,4 +1,4 @@
-mod Mapped
+pub mod Mapped
 mod Reading
 mod Walking
 mod Matched

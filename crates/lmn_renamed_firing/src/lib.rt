@@ -1,7 +1,7 @@
 //! Firings of one rule on heaps that are one but for numbers.
 #![tactic(auto)]
 
-ghost use Rattle.lmn_renamed_firing.specs.Examples.{MatchesCompare};
+ghost use Rattle.lmn_renamed_firing.specs.Examples.{FlatRuleFires, MatchesCompare};
 ghost use Rattle.lmn_renamed_firing.specs.Laws.{FiringsAreRenamed};
 
 /// A flat rule that fires at one match of two heaps that are one with other numbers leaves heaps that are so.
@@ -12,4 +12,9 @@ pub fn firings_are_renamed()
 /// Registers hold one match where they hold its images with the other numbers, and not where they hold another atom.
 pub fn matches_compare()
     ensures { MatchesCompare }
+{}
+
+/// A flat rule that replaces one atom by another fires on a heap of one atom, and doesn't leave it as it was.
+pub fn flat_rule_fires()
+    ensures { FlatRuleFires }
 {}
