@@ -1,5 +1,5 @@
 -- What a match leaves in its membranes, and what its commit costs, with other numbers.
-use Rattle.std.proofs.Common.{◌≡◌, ◌∙◌, ◌+◌, ℕ, Bool, true, false, not, if◌then◌else◌, List, [], ◌∷◌, ◌++◌, length, map, refl, sym, ap, subst}
+use Rattle.std.proofs.Common.{◌≡◌, ◌∙◌, ◌+◌, ℕ, Bool, not, List, [], ◌∷◌, ◌++◌, length, map, refl, sym, ap, subst}
 use Rattle.std.specs.Prelude.{sum}
 use Rattle.std.proofs.lemmas.List.{length-map, map-append}
 use Rattle.lmn_base.specs.Graphs.{Port, Reached}
@@ -19,30 +19,11 @@ use Rattle.lmn_body.specs.Running.{Registers}
 use Rattle.lmn_machine.specs.Costs.{AddsItems, InAll, IsRestSize, IsSize, Leaves, TakesItems}
 use Rattle.lmn_strategy.specs.Turns.{HoldsRestsOf, IsBesideCode, IsRestOf}
 use Rattle.lmn_renaming.specs.Registers.{renamed_head}
-use Rattle.lmn_renaming.specs.Renamed.{Numbering, Renaming, renamed_port}
-use Rattle.lmn_renaming.proofs.Numbers.{distinct_there, in_back, in_there, kept_test}
-use Rattle.lmn_renaming.proofs.Solids.{renamed_forest}
+use Rattle.lmn_renaming.specs.Renamed.{Renaming, renamed_port}
+use Rattle.lmn_renaming.proofs.Numbers.{distinct_there, in_back, in_there}
+use Rattle.lmn_renaming.proofs.Solids.{flat_there, renamed_forest}
+use Rattle.lmn_renamed_firing.proofs.Mapped.{is_in_there, keep_there}
 use Rattle.lmn_coded.proofs.SameBut.{Reads}
-
--- ---- lists
-
-pub flat_there : (to : ℕ → ℕ) (f : Forest) → flat (renamed_forest to f) ≡ map to (flat f)
-flat_there to bare = refl
-flat_there to (mem m inner rest) = ap (λ xs. to m ∷ xs) ((λ i. flat_there to inner i ++ flat_there to rest i) ∙ sym (map-append to (flat inner) (flat rest)))
-
-module _ (n : Numbering) where
-  -- of the other numbers those are kept of which the numbers were
-  keep_there : (test other : ℕ → Bool) → ((x : ℕ) → other (n.to x) ≡ test x) → (xs : List ℕ) → keep other (map n.to xs) ≡ map n.to (keep test xs)
-  keep_there test other e [] = refl
-  keep_there test other e (x ∷ xs) = (λ i. if e x i then n.to x ∷ keep_there test other e xs i else keep_there test other e xs i) ∙ by (test x)
-    where
-      by : (t : Bool) → (if t then n.to x ∷ map n.to (keep test xs) else map n.to (keep test xs)) ≡ map n.to (if t then x ∷ keep test xs else keep test xs)
-      by true = refl
-      by false = refl
-
-  is_in_there : (xs : List ℕ) (a : ℕ) → is_in (map n.to xs) (n.to a) ≡ is_in xs a
-  is_in_there [] a = refl
-  is_in_there (x ∷ xs) a = λ i. if sym (kept_test n x a) i then true else is_in_there xs a i
 
 -- the registers with the other numbers, and the rests
 abbrev pub renamed_registers : Renaming → Registers → Registers
@@ -120,9 +101,9 @@ module _ (q : Renaming) (h k : Heap) (x : Reads q h k) where
         let rest : IsRest h at left out atoms membranes = u.2 in
         let same : (z : ℕ) → other (M z) ≡ out z =
         λ z. ap (λ ls. not (is_in ls (M z))) (sym (map_twice M s.images.membrane ms)) ∙ ap not (is_in_there q.mems (map s.images.membrane ms) z) in
-        let kept : keep other (mems_in k (M at)) ≡ map M (keep out (mems_in h at)) = ap (keep other) (x.mems at) ∙ keep_there q.mems out other same (mems_in h at) in
+        let kept : keep other (mems_in k (M at)) ≡ map M (keep out (mems_in h at)) = ap (keep other) (x.mems at) ∙ keep_there q.mems out other (mems_in h at) (λ z i. same z) in
         let own : keep (λ z. left (B z)) (atoms_in k (M at)) ≡ map A (keep left (atoms_in h at)) =
-        ap (keep (λ z. left (B z))) (x.atoms at) ∙ keep_there q.atoms left (λ z. left (B z)) (λ z. ap left (q.atoms.there z)) (atoms_in h at) in (
+        ap (keep (λ z. left (B z))) (x.atoms at) ∙ keep_there q.atoms left (λ z. left (B z)) (atoms_in h at) (λ z i. ap left (q.atoms.there z)) in (
           λ z. left (B z),
           λ a i. (let w = u.1 (B a) (in_back q.atoms a (atoms_in h at) (subst (In a) (x.atoms at) i)) in ((λ e. beside_there a (w.0 e)), (λ b. w.1 (beside_back a b)))),
           record {

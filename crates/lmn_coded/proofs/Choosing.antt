@@ -21,12 +21,12 @@ use Rattle.lmn_renaming.specs.Renamed.{Renaming, SameButRoom, inverse, renamed}
 use Rattle.lmn_renaming.proofs.Heads.{first_there, succeeds_back, succeeds_there}
 use Rattle.lmn_renaming.proofs.Numbers.{in_back, in_there}
 use Rattle.lmn_renaming.proofs.Room.{heads_read_no_room}
-use Rattle.lmn_renaming.proofs.Solids.{renamed_forest}
+use Rattle.lmn_renaming.proofs.Solids.{flat_there, renamed_forest}
 use Rattle.lmn_coded.specs.declared.executing.Halt.{Halt}
 use Rattle.lmn_coded.specs.declared.executing.Halt.TheVariants as halt
 use Rattle.lmn_coded.specs.Laws.{but_for_memory}
 use Rattle.lmn_coded.specs.Runs.{CodedTurn, HaltsBy, IsReducible}
-use Rattle.lmn_coded.proofs.Carried.{flat_there, leaves_there, renamed_registers, rests_there, tree_there}
+use Rattle.lmn_coded.proofs.Carried.{leaves_there, renamed_registers, rests_there, tree_there}
 use Rattle.lmn_coded.proofs.Exact.{halts_are_exact, turns_are_exact}
 use Rattle.lmn_coded.proofs.SameBut.{Reads, reads, same_back}
 

@@ -1,33 +1,19 @@
 -- How a run of codes stops.
-use Rattle.std.proofs.Common.{ℕ, ◌≡◌, ◌<◌, List, Some, arith, false, subst}
+use Rattle.std.proofs.Common.{ℕ, ◌≡◌, List, arith, false, subst}
 use Rattle.lmn_heap.specs.Heap.{Heap}
 use Rattle.lmn_heap.specs.Sound.{Forest, IsTree, Valid, flat}
 use Rattle.lmn_instr.specs.declared.instr.Code.{Code}
 use Rattle.lmn_strategy.specs.Choosing.{NoneIn}
 use Rattle.lmn_coded.specs.declared.executing.Halt.{Halt}
 use Rattle.lmn_coded.specs.declared.executing.Halt.TheVariants as halt
-use Rattle.lmn_coded.specs.Turning.{SomeIn}
 use Rattle.lmn_coded.specs.Runs.{CodedRun, HaltedRun, HaltsBy, begun, turned}
-use Rattle.lmn_coded.specs.Steps.{MakesStep}
 use Rattle.lmn_coded.proofs.Lines.{line_before}
 use Rattle.lmn_base.specs.declared.rule.RuleTree.{RuleTree}
 use Rattle.lmn_congruence.specs.Rules.{Name}
 use Rattle.lmn_folded_printer.specs.Lines.{IsHeapLine}
 
 module _ (codes : List Code) (budget size : ℕ) (first : Heap) (n : ℕ) (h : Heap) (run : CodedRun codes size first n h) where
-  -- by a turn that doesn't commit,
-  pub halts_by_turn : (why : Halt) (h' : Heap) → n < budget → MakesStep codes size h (Some why) h' → HaltedRun codes budget size first n why h'
-  halts_by_turn halt.Irreducible h' below t = record { last = h; run = run; halts = (omega (arith, below), t) }
-  halts_by_turn halt.Budget h' below t = absurd t
-  halts_by_turn halt.Full h' below t = record { last = h; run = run; halts = (below, t) }
-  halts_by_turn halt.NoMemory h' below t = record { last = h; run = run; halts = (below, t) }
-
-  -- or at the end of the budget, where some code succeeds,
-  pub halts_by_budget : Valid h → (h' : Heap) → n ≡ budget → h' ≡ h → ((f : Forest) → IsTree h f → SomeIn h codes (flat f)) → HaltedRun codes budget size first n halt.Budget h'
-  halts_by_budget v h' done same some =
-      record { last = h; run = run; halts = (done, record { tree = v.tree.0; is_tree = v.tree.1; some = some v.tree.0 v.tree.1 }, same) }
-
-  -- and where none does
+  -- at the end of the budget, where no code succeeds
   pub halts_at_end : Valid h → (h' : Heap) → n ≡ budget → h' ≡ h → ((f : Forest) → IsTree h f → NoneIn h codes (flat f)) → HaltedRun codes budget size first n halt.Irreducible h'
   halts_at_end v h' done same none =
       record { last = h; run = run; halts = (omega (arith, done), record { tree = v.tree.0; is_tree = v.tree.1; turn = (none v.tree.0 v.tree.1, same) }) }

@@ -16,3 +16,4 @@ mod Carried
 mod Choosing
 mod OneStep
 mod OneRun
+mod Compared

@@ -2,15 +2,19 @@
 -- root alone with one rule.
 use Rattle.std.specs.Prelude.{ℕ, ◌+◌, List, [], ◌∷◌, ◌++◌, Option, Some, false, codes}
 use Rattle.lmn_heap.specs.Heap.{Heap, finished, lone_root, mem_marked, rule_added}
-use Rattle.lmn_heap.specs.Examples.{across}
+use Rattle.lmn_base.specs.declared.solid.Solid.{Solid}
+use Rattle.lmn_base.specs.SmallTexts.{name_a, name_b}
+use Rattle.lmn_heap.specs.Examples.{across, across_solid, loose}
 use Rattle.lmn_congruence.specs.Rules.{Name}
 use Rattle.lmn_instr.specs.declared.instr.Code.{Code}
-use Rattle.lmn_instr.specs.declared.instr.Instr.TheVariants.{Commit, Proceed}
+use Rattle.lmn_instr.specs.declared.instr.Instr.TheVariants.{Commit, FindAtom, Proceed, RemoveAtom}
+use Rattle.lmn_verify.specs.VerifiedExamples.{apart, code, functor, one_made, two_atoms}
 use Rattle.lmn_strategy.specs.declared.turning.Turn.TheVariants.{Full}
 use Rattle.lmn_folded_printer.specs.Lines.{IsHeapLine}
 use Rattle.lmn_drive.specs.declared.driving.RunEnd.TheVariants as end
 use Rattle.lmn_coded.specs.Turning.{CodedCanTurn}
 use Rattle.lmn_coded.specs.Counting.{CountsRun}
+use Rattle.lmn_coded.specs.Laws.{AreVerified, CameToEnd, IsValidHeapOf}
 use Rattle.lmn_coded.specs.Runs.{CodedInput, CodedRun, CodedTurn, Executed, IsReducible}
 
 -- code that succeeds everywhere and changes nothing
@@ -46,3 +50,28 @@ abbrev pub NoCodesAreExecuted : Type 0
 NoCodesAreExecuted = (names : List Name) (budget : ℕ) (line : List ℕ) → IsHeapLine false names [] across line →
     Executed (no_codes names budget) 0 across end.Irreducible (Some []) (Some (line ++ codes "% irreducible after 0\n"))
     × ((n : ℕ) (h : Heap) (old new : Option (List ℕ)) → Executed (no_codes names budget) n h end.Budget old new → ⊥)
+
+-- `a, a :- b.`
+abbrev pub replaced : Code
+replaced = two_atoms apart (one_made (functor name_b 0))
+
+-- code that finds an atom in a membrane that isn't set
+abbrev pub unset : Code
+unset = code (FindAtom 0 1 (functor name_a 0) ∷ (Commit ∷ [])) (RemoveAtom 0 ∷ (Proceed ∷ []))
+
+-- What two runs that are one ask.
+--   ended        a run that stopped since no code succeeds came to its end
+--   no_memory    one that stopped for want of memory didn't
+--   failed       nor did one of which a put failed
+--   heap         `{a(X)}, b(X)` is a heap of its solid
+--   loose_ports  and where the ports aren't joined it is a heap of no solid
+--   verified     the code of `a, a :- b.` is verified
+--   not_set      and code whose membrane isn't set isn't
+pub record RunExamples : Type 0 where
+  pub ended : CameToEnd end.Irreducible
+  pub no_memory : CameToEnd end.NoMemory → ⊥
+  pub failed : CameToEnd end.Failed → ⊥
+  pub heap : IsValidHeapOf across across_solid
+  pub loose_ports : (x : Solid) → IsValidHeapOf loose x → ⊥
+  pub verified : AreVerified (replaced ∷ [])
+  pub not_set : AreVerified (unset ∷ []) → ⊥

@@ -1,5 +1,5 @@
 //! Laws of runs of codes, and small examples: each the contract of a function that at most names other laws.
-ghost use Rattle.lmn_coded.specs.Examples.{IdleCodeCommits, IdleCodeSucceeds, NoCodesAreExecuted, NoCodesCanTurn, NoRuleIsAsked};
+ghost use Rattle.lmn_coded.specs.Examples.{IdleCodeCommits, IdleCodeSucceeds, NoCodesAreExecuted, NoCodesCanTurn, NoRuleIsAsked, RunExamples};
 ghost use Rattle.lmn_coded.specs.Laws.{HaltsAreExact, RunsAreOne, TablesRunAsRules, TurnsAreExact};
 
 use lmn_choice::{
@@ -12,6 +12,7 @@ use lmn_runnable::{
     verified_is_in_order, verified_is_rule, verified_is_runnable, verified_rests,
     verified_sets_flat,
 };
+use lmn_verify::laws::verified_examples;
 
 /// What is executed of the codes of a table of rules, from a heap that holds a solid, is a run of the rules in which the root is
 /// asked first.
@@ -77,3 +78,10 @@ pub fn no_rule_is_asked()
 pub fn no_codes_are_executed()
     ensures { NoCodesAreExecuted }
 {}
+
+/// What two runs that are one ask: ends, heaps and codes that are so, and ones that aren't.
+pub fn run_examples()
+    ensures { RunExamples }
+{
+    verified_examples();
+}
