@@ -1,4 +1,5 @@
 pub mod Stepping
+pub mod Telling
 pub mod Candidates
 pub mod Choosing
 pub mod Fitting

@@ -3,10 +3,12 @@ ghost use Rattle.lmn_heap.specs.Lists.{from};
 ghost use Rattle.lmn_heap.specs.Sound.{Valid};
 ghost use Rattle.lmn_instr.specs.declared.instr.Instr.TheVariants.{FindAtom, AnyMem};
 ghost use Rattle.lmn_machine.specs.Searching.{AreHeldWhole, HeadInOrder, Searched};
+ghost use Rattle.lmn_machine.specs.Outcomes.{ChoosesAtoms, ChoosesMembranes};
 ghost use Rattle.lmn_machine.specs.Asking.{IsGuest};
 ghost use Rattle.lmn_heap.specs.Heap.{IsAtom, Unmarked, atoms_in, functor_of, home_of};
 ghost use Rattle.lmn_heap.specs.Functors.{with_functor};
 
+use crate::steps::Outcome;
 use crate::{ahead, steps};
 use lmn_base::Functor;
 use lmn_codes::Instrs;
@@ -31,27 +33,75 @@ pub fn search<S: LinkStore>(
     ensures searched { Searched S.atom_id S.mem_id (S.heap store.old) set.old set.new result (drop at code.now) }
 {
     for i in at..code.len() {
-        match code.at(i) {
-            Instr::FindAtom {
-                membrane,
-                functor,
-                ..
-            } => {
-                let place = set.membranes.at(*membrane as usize);
-                return search_atom(store, code, i, place, *functor, set);
-            }
-            Instr::AnyMem { inside, .. } => {
-                let place = set.membranes.at(*inside as usize);
-                return search_membrane(store, code, i, place, set);
-            }
-            instr => {
-                if !steps::step(store, set, instr) {
-                    return false;
-                }
-            }
+        let instr = code.at(i);
+        match steps::step(store, set, instr) {
+            Outcome::Holds => {}
+            Outcome::Fails => return false,
+            Outcome::ChoosesAtom => return choose_atom(store, code, i, instr, set),
+            Outcome::ChoosesMembrane => return choose_membrane(store, code, i, instr, set),
         }
     }
     true
+}
+
+/// Tries the candidates of a FINDATOM.
+#[cycle(search)]
+#[inline(always)]
+fn choose_atom<S: LinkStore>(
+    store: &mut S,
+    code: &Instrs<'_>,
+    at: usize,
+    instr: &Instr,
+    set: &mut SetRegisters<S::Atom, S::Mem>,
+) -> bool
+    requires valid { Valid (S.heap store.old) }
+    requires unmarked { Unmarked (S.heap store.old) }
+    requires held { AreHeldWhole S.atom_id S.mem_id (S.heap store.old) set.old }
+    requires at { slice_get code.now at ≡ Some instr.now }
+    requires choice { ChoosesAtoms instr.now }
+    requires order { HeadInOrder (length set.old.atoms) (length set.old.membranes) (length set.old.parts) (length set.old.integers) (drop at code.now) }
+    ensures same { S.heap store.new ≡ S.heap store.old }
+    ensures searched { Searched S.atom_id S.mem_id (S.heap store.old) set.old set.new result (drop at code.now) }
+{
+    match instr {
+        Instr::FindAtom {
+            membrane,
+            functor,
+            ..
+        } => {
+            let place = set.membranes.at(*membrane as usize);
+            search_atom(store, code, at, place, *functor, set)
+        }
+        _ => false,
+    }
+}
+
+/// Tries the candidates of an ANYMEM.
+#[cycle(search)]
+#[inline(always)]
+fn choose_membrane<S: LinkStore>(
+    store: &mut S,
+    code: &Instrs<'_>,
+    at: usize,
+    instr: &Instr,
+    set: &mut SetRegisters<S::Atom, S::Mem>,
+) -> bool
+    requires valid { Valid (S.heap store.old) }
+    requires unmarked { Unmarked (S.heap store.old) }
+    requires held { AreHeldWhole S.atom_id S.mem_id (S.heap store.old) set.old }
+    requires at { slice_get code.now at ≡ Some instr.now }
+    requires choice { ChoosesMembranes instr.now }
+    requires order { HeadInOrder (length set.old.atoms) (length set.old.membranes) (length set.old.parts) (length set.old.integers) (drop at code.now) }
+    ensures same { S.heap store.new ≡ S.heap store.old }
+    ensures searched { Searched S.atom_id S.mem_id (S.heap store.old) set.old set.new result (drop at code.now) }
+{
+    match instr {
+        Instr::AnyMem { inside, .. } => {
+            let place = set.membranes.at(*inside as usize);
+            search_membrane(store, code, at, place, set)
+        }
+        _ => false,
+    }
 }
 
 /// Chooses the atom for the next register among those of a membrane with a functor.

@@ -3,7 +3,8 @@ ghost use Rattle.lmn_heap.specs.Sound.{Valid};
 ghost use Rattle.lmn_instr.specs.Running.{HeadRegisters, HeadSize, InstructionHolds};
 ghost use Rattle.lmn_heap.specs.Heap.{Heap, Unmarked};
 ghost use Rattle.lmn_registers.specs.Agreeing.{Agrees};
-ghost use Rattle.lmn_machine.specs.Searching.{AreHeldWhole, AsksNoPart, Compares, Extends, TestsSetRegisters, HeadInOrder, ChoosesNone, HasGiven, HasGivenPart, Stepped};
+ghost use Rattle.lmn_machine.specs.Searching.{AreHeldWhole, AsksNoPart, Compares, Extends, TestsSetRegisters, HeadInOrder, HasGiven, HasGivenPart, Stepped};
+ghost use Rattle.lmn_machine.specs.Outcomes.{HasOutcome, Tells};
 ghost use Rattle.lmn_instr.specs.declared.instr.Instr.TheVariants.{Deref};
 
 use crate::{checks, integers, others, parts, rests, whole};
@@ -226,51 +227,89 @@ fn compute<S: LinkStore>(store: &S, set: &mut SetRegisters<S::Atom, S::Mem>, ins
     }
 }
 
-/// Runs an instruction that makes no choice.
+/// What became of an instruction.
+#[derive(Clone, Copy)]
+pub enum Outcome {
+    /// It holds, and what it sets is set.
+    Holds,
+    /// It doesn't hold.
+    Fails,
+    /// It chooses an atom: it wasn't run.
+    ChoosesAtom,
+    /// It chooses a membrane: it wasn't run.
+    ChoosesMembrane,
+}
+
+/// The outcome of an instruction without a choice.
+#[inline(always)]
+fn outcome_of(holds: bool) -> Outcome
+    ensures { Tells result holds }
+{
+    if holds {
+        Outcome::Holds
+    } else {
+        Outcome::Fails
+    }
+}
+
+/// Runs an instruction that sets an integer, or a test.
+#[inline(always)]
+fn run<S: LinkStore>(store: &S, set: &mut SetRegisters<S::Atom, S::Mem>, instr: &Instr) -> Outcome
+    requires valid { Valid (S.heap store.now) }
+    requires held { AreHeldWhole S.atom_id S.mem_id (S.heap store.now) set.old }
+    requires order { HeadInOrder (length set.old.atoms) (length set.old.membranes) (length set.old.parts) (length set.old.integers) (instr.now ∷ []) }
+    requires no_part { AsksNoPart instr.now }
+    ensures { HasOutcome S.atom_id S.mem_id (S.heap store.now) set.old set.new result instr.now }
+{
+    outcome_of(compute(store, set, instr))
+}
+
+/// Runs an instruction, unless it makes a choice.
 #[inline(always)]
 pub fn step<S: LinkStore>(
     store: &mut S,
     set: &mut SetRegisters<S::Atom, S::Mem>,
     instr: &Instr,
-) -> bool
+) -> Outcome
     requires valid { Valid (S.heap store.old) }
     requires unmarked { Unmarked (S.heap store.old) }
     requires held { AreHeldWhole S.atom_id S.mem_id (S.heap store.old) set.old }
     requires order { HeadInOrder (length set.old.atoms) (length set.old.membranes) (length set.old.parts) (length set.old.integers) (instr.now ∷ []) }
-    requires no_choice { ChoosesNone instr.now }
     ensures same { S.heap store.new ≡ S.heap store.old }
-    ensures stepped { Stepped S.atom_id S.mem_id (S.heap store.old) set.old set.new result instr.now }
+    ensures stepped { HasOutcome S.atom_id S.mem_id (S.heap store.old) set.old set.new result instr.now }
 {
     match instr {
-        Instr::Deref { from, port, .. } => follow(store, set, *from, *port),
+        Instr::FindAtom { .. } => Outcome::ChoosesAtom,
+        Instr::AnyMem { .. } => Outcome::ChoosesMembrane,
+        Instr::Deref { from, port, .. } => outcome_of(follow(store, set, *from, *port)),
         Instr::IsInt { port, membrane, .. } => {
             let from = set.atoms.at(port.atom as usize);
             let place = set.membranes.at(*membrane as usize);
             let end = parts::lone_end(store, from, port.port, place, &set.atoms);
             let root = parts::integer_root(store, end);
-            set_part(set, root)
+            outcome_of(set_part(set, root))
         }
         Instr::IsUnary { port, membrane, .. } => {
             let from = set.atoms.at(port.atom as usize);
             let place = set.membranes.at(*membrane as usize);
             let root = parts::lone_end(store, from, port.port, place, &set.atoms);
-            set_part(set, root)
+            outcome_of(set_part(set, root))
         }
         Instr::IsGround { port, membrane, .. } => {
             let from = set.atoms.at(port.atom as usize);
             let place = set.membranes.at(*membrane as usize);
             let root = whole::whole_end(store, from, port.port, place, &set.atoms);
-            set_part(set, root)
+            outcome_of(set_part(set, root))
         }
         Instr::EqGround { part, other } => {
             let root = set.parts.at(*part as usize);
             let other_root = set.parts.at(*other as usize);
-            whole::are_equal(store, root, other_root)
+            outcome_of(whole::are_equal(store, root, other_root))
         }
         Instr::NeqGround { part, other } => {
             let root = set.parts.at(*part as usize);
             let other_root = set.parts.at(*other as usize);
-            whole::are_different(store, root, other_root)
+            outcome_of(whole::are_different(store, root, other_root))
         }
         Instr::NAtoms {
             membrane,
@@ -278,35 +317,35 @@ pub fn step<S: LinkStore>(
             parts,
         } => {
             let place = set.membranes.at(*membrane as usize);
-            others::has_others(store, set, place, parts.as_slice(), *count)
+            outcome_of(others::has_others(store, set, place, parts.as_slice(), *count))
         }
         Instr::IsClosed { membrane, parts } => {
             let place = set.membranes.at(*membrane as usize);
-            rests::is_closed(store, set, place, parts.as_slice())
+            outcome_of(rests::is_closed(store, set, place, parts.as_slice()))
         }
         // Each of these is an arm of its own, so that one jump leads to what it does.
-        Instr::GetInt { .. } => compute(store, set, instr),
-        Instr::Const { .. } => compute(store, set, instr),
-        Instr::Add { .. } => compute(store, set, instr),
-        Instr::Sub { .. } => compute(store, set, instr),
-        Instr::Mul { .. } => compute(store, set, instr),
-        Instr::Div { .. } => compute(store, set, instr),
-        Instr::Mod { .. } => compute(store, set, instr),
-        Instr::Func { .. } => compute(store, set, instr),
-        Instr::InMem { .. } => compute(store, set, instr),
-        Instr::NeqAtom { .. } => compute(store, set, instr),
-        Instr::Joined { .. } => compute(store, set, instr),
-        Instr::NeqMem { .. } => compute(store, set, instr),
-        Instr::NMems { .. } => compute(store, set, instr),
-        Instr::NoRules { .. } => compute(store, set, instr),
-        Instr::NotIn { .. } => compute(store, set, instr),
-        Instr::Lt { .. } => compute(store, set, instr),
-        Instr::Le { .. } => compute(store, set, instr),
-        Instr::Gt { .. } => compute(store, set, instr),
-        Instr::Ge { .. } => compute(store, set, instr),
-        Instr::Eq { .. } => compute(store, set, instr),
-        Instr::Ne { .. } => compute(store, set, instr),
-        Instr::Commit => compute(store, set, instr),
-        _ => compute(store, set, instr),
+        Instr::GetInt { .. } => run(store, set, instr),
+        Instr::Const { .. } => run(store, set, instr),
+        Instr::Add { .. } => run(store, set, instr),
+        Instr::Sub { .. } => run(store, set, instr),
+        Instr::Mul { .. } => run(store, set, instr),
+        Instr::Div { .. } => run(store, set, instr),
+        Instr::Mod { .. } => run(store, set, instr),
+        Instr::Func { .. } => run(store, set, instr),
+        Instr::InMem { .. } => run(store, set, instr),
+        Instr::NeqAtom { .. } => run(store, set, instr),
+        Instr::Joined { .. } => run(store, set, instr),
+        Instr::NeqMem { .. } => run(store, set, instr),
+        Instr::NMems { .. } => run(store, set, instr),
+        Instr::NoRules { .. } => run(store, set, instr),
+        Instr::NotIn { .. } => run(store, set, instr),
+        Instr::Lt { .. } => run(store, set, instr),
+        Instr::Le { .. } => run(store, set, instr),
+        Instr::Gt { .. } => run(store, set, instr),
+        Instr::Ge { .. } => run(store, set, instr),
+        Instr::Eq { .. } => run(store, set, instr),
+        Instr::Ne { .. } => run(store, set, instr),
+        Instr::Commit => run(store, set, instr),
+        _ => run(store, set, instr),
     }
 }

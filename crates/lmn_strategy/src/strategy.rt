@@ -25,6 +25,7 @@ pub struct Choice<M> {
 }
 
 /// Whether the code of the head of a rule succeeds in a membrane. The registers then hold its first success.
+#[inline(always)]
 fn succeeds<S: LinkStore, L: Ledger>(
     machine: &mut Machine<S>,
     codes: &Codes,
@@ -46,6 +47,7 @@ fn succeeds<S: LinkStore, L: Ledger>(
 }
 
 /// The first rule of a membrane whose code succeeds. The registers then hold its first success.
+#[inline(always)]
 fn first_rule<S: LinkStore, L: Ledger>(
     machine: &mut Machine<S>,
     codes: &Codes,
@@ -90,6 +92,7 @@ fn lull<S: LinkStore>(machine: &mut Machine<S>, membrane: S::Mem, sleep: bool)
 
 /// The first rule of a membrane that is awake whose code succeeds. Where none does it falls asleep, if it may. The registers
 /// then hold the first success of the code.
+#[inline(always)]
 fn ask<S: LinkStore, L: Ledger>(
     machine: &mut Machine<S>,
     codes: &Codes,
@@ -131,6 +134,7 @@ struct Awake<M> {
 }
 
 /// The first membrane that is awake, with its number, of those with a number of at least `at` in preorder. The root has 0.
+#[inline(always)]
 #[tactic(auto, using(crate::proofs::Rooted::root_mem, crate::proofs::Rooted::root_next))]
 fn awake_from<S: LinkStore>(store: &mut S, at: u64) -> Option<(u64, S::Mem)>
     requires { Valid (S.heap store.old) }
@@ -149,6 +153,7 @@ fn awake_from<S: LinkStore>(store: &mut S, at: u64) -> Option<(u64, S::Mem)>
 }
 
 /// The first membrane that is awake of those with a number of at least `at` and less than `until` in preorder.
+#[inline(always)]
 fn next_awake<S: LinkStore>(machine: &mut Machine<S>, at: u64, until: u64) -> Option<Awake<S::Mem>>
     requires { Valid (S.heap machine.old.store) }
     ensures same { S.heap machine.new.store ≡ S.heap machine.old.store }
@@ -171,6 +176,7 @@ fn next_awake<S: LinkStore>(machine: &mut Machine<S>, at: u64, until: u64) -> Op
 
 /// Asks the membranes that are awake, of those with a number of at least `from` and less than `until` in preorder, one after
 /// the other. Those that are asked in vain fall asleep, if they may.
+#[inline(always)]
 fn first_of_some<S: LinkStore, L: Ledger>(
     machine: &mut Machine<S>,
     codes: &Codes,
@@ -201,6 +207,28 @@ fn first_of_some<S: LinkStore, L: Ledger>(
     None
 }
 
+/// Asks so those with a number of less than `until`, in a call of its own: a turn that begins with the root asks none of them.
+fn first_of_earlier<S: LinkStore, L: Ledger>(
+    machine: &mut Machine<S>,
+    codes: &Codes,
+    until: u64,
+    sleep: bool,
+    steps: &mut Steps<L>,
+) -> Option<Choice<S::Mem>>
+    requires turn { CanTurn (S.heap machine.old.store) (length codes.now) }
+    requires sleeps { SleepsRightly (S.heap machine.old.store) codes.now }
+    requires order { AllInOrder codes.now }
+    ensures turn { CanTurn (S.heap machine.new.store) (length codes.now) }
+    ensures sleeps { SleepsRightly (S.heap machine.new.store) codes.now }
+    ensures first { (f : Forest) → IsTree (S.heap machine.old.store) f → MatchOption result
+        (NoneIn (S.heap machine.old.store) codes.now (between 0 until (flat f)) × Lulls sleep (S.heap machine.old.store) (S.heap machine.new.store) (between 0 until (flat f)))
+        (λ c. (i : IsFirstIn (S.heap machine.old.store) codes.now (between 0 until (flat f)) (S.mem_id c.membrane) c.place c.rule) × Lulls sleep (S.heap machine.old.store) (S.heap machine.new.store) i.earlier) }
+    ensures found { IfSome result (λ c. HasFound S.atom_id S.mem_id (S.heap machine.new.store) codes.now (S.mem_id c.membrane) c.rule machine.new.set) }
+    ensures steps { (f : Forest) → IsTree (S.heap machine.old.store) f → CountsAmong (S.heap machine.old.store) codes.now (awake_of (S.heap machine.old.store) (between 0 until (flat f))) steps.old steps.new }
+{
+    first_of_some(machine, codes, 0, until, sleep, steps)
+}
+
 /// How many membranes there are, the root among them.
 pub fn membranes<S: LinkStore>(store: &S) -> u64
     requires valid { Valid (S.heap store.now) }
@@ -213,6 +241,7 @@ pub fn membranes<S: LinkStore>(store: &S) -> u64
 /// membranes. A membrane that sleeps isn't asked, and one that is asked in vain falls asleep, if it may. It takes no memory, and
 /// else the store is left as it was. The registers then hold the first success of the code. The steps rise by the rules of the
 /// awake membranes asked at most: those up to the rule that is chosen, or all where none is.
+#[inline(always)]
 pub fn search<S: LinkStore, L: Ledger>(
     machine: &mut Machine<S>,
     codes: &Codes,
@@ -236,6 +265,6 @@ pub fn search<S: LinkStore, L: Ledger>(
 {
     match first_of_some(machine, codes, from, many, sleep, steps) {
         Some(choice) => Some(choice),
-        None => first_of_some(machine, codes, 0, from, sleep, steps),
+        None => first_of_earlier(machine, codes, from, sleep, steps),
     }
 }

@@ -57,6 +57,7 @@ fn leaves_few<S: LinkStore>(machine: &mut Machine<S>, code: &CodeView<'_>, size:
 }
 
 /// Lets the rule of a code fire whose head was found, where its commit leaves at most `size` items.
+#[inline(always)]
 fn fire<S: LinkStore>(
     alloc: Global,
     machine: &mut Machine<S>,

@@ -1,4 +1,4 @@
-use Rattle.std.proofs.Common.{ap, arith, refl, ◌∙◌}
+use Rattle.std.proofs.Common.{ap, arith, ◌∙◌}
 use Rattle.lmn_base.proofs.Truth.{not_false}
 use Rattle.lmn_instr.specs.declared.instr.Instr.TheVariants.{Deref}
 use Rattle.lmn_machine.proofs.Fitting.{hold_behind}

@@ -12,96 +12,105 @@ use Rattle.lmn_instr.specs.declared.instr.Instr.TheVariants.{FindAtom, AnyMem}
 use Rattle.lmn_heap.specs.Sound.{Valid}
 use Rattle.lmn_machine.specs.Searching.{AreHeldWhole, HeadInOrder, Searched, Stepped}
 use Rattle.lmn_registers.specs.declared.stack.TheConstants.{ROOM}
+use Rattle.lmn_machine.proofs.Telling.{atoms_chosen, membranes_chosen}
 use Rattle.lmn_machine.proofs.Stepping.{Passed, extends_on, passed_one, failed, passed_all, passed_search}
 use Rattle.lmn_machine.proofs.Choosing.{AtomsLeft, MembranesLeft, with_atom, with_membrane, extends_atom, extends_membrane, atoms_first, atoms_next, atoms_none, atoms_found, membranes_first, membranes_next, membranes_none, membranes_found, held_atom, held_membrane}
-use Rattle.lmn_machine.proofs.Calling.{read_at, drop_none, no_choice, order_first, if_both, none_is, one_more, one_membrane_more, taken_back, having_atoms, having_membranes, next_same, next_mem_same, atom_ahead, membrane_ahead}
+use Rattle.lmn_machine.proofs.Calling.{read_at, drop_none, order_first, if_both, none_is, one_more, one_membrane_more, taken_back, having_atoms, having_membranes, next_same, next_mem_same, atom_ahead, membrane_ahead}
 use Rattle.lmn_machine.proofs.search.+search.Goals as goal
 use Rattle.lmn_base.proofs.Lists.{drop_get}
 use Rattle.std.proofs.lemmas.List.{length_push}
 
-pub search-search_atom-requires : goal.search-search_atom-requires
-search-search_atom-requires g t c κs within =
-    let here = read_at c.args.code.now c.loop-i.i c.at.result.now (FindAtom c.in-FindAtom.atom c.in-FindAtom.membrane c.in-FindAtom.functor) c.at.ensures c.in-FindAtom.is in
-    let ahead = atom_ahead (length c.loop-i.set.atoms) (length c.loop-i.set.membranes) (length c.loop-i.set.parts) (length c.loop-i.set.integers) c.in-FindAtom.atom c.in-FindAtom.membrane c.in-FindAtom.functor (drop c.loop-i.i c.args.code.now) (drop (c.loop-i.i + 1) c.args.code.now)
-    (drop_get c.loop-i.i c.args.code.now (FindAtom c.in-FindAtom.atom c.in-FindAtom.membrane c.in-FindAtom.functor) here) c.loop-i.invariant.passed.order in (
+pub search-choose_atom-requires : goal.search-choose_atom-requires
+search-choose_atom-requires g t c κs within = (
+  search rules,
+  (
+    search rules,
+    (
       search rules,
       (
         search rules,
         (
-          search rules,
+          subst (λ h. Valid h) (sym (c.in-ChoosesAtom.ensures.same ∙ c.loop-i.invariant.same)) c.requires.valid,
           (
-            search rules,
+            subst (λ h. Unmarked h) (sym (c.in-ChoosesAtom.ensures.same ∙ c.loop-i.invariant.same)) c.requires.unmarked,
             (
-              subst (λ h. Valid h) (sym c.loop-i.invariant.same) c.requires.valid,
+              subst (λ k. AreHeldWhole g.S.LinkStore.atom_id g.S.LinkStore.mem_id (g.S.LinkStore.heap c.step.new.store) k) (sym c.in-ChoosesAtom.ensures.stepped.0)
+                  (subst (λ h. AreHeldWhole g.S.LinkStore.atom_id g.S.LinkStore.mem_id h c.loop-i.set) (sym (c.in-ChoosesAtom.ensures.same ∙ c.loop-i.invariant.same)) c.loop-i.invariant.passed.held),
               (
-                subst (λ h. Unmarked h) (sym c.loop-i.invariant.same) c.requires.unmarked,
+                c.at-instr.ensures,
                 (
-                  subst (λ h. AreHeldWhole g.S.LinkStore.atom_id g.S.LinkStore.mem_id h c.loop-i.set) (sym c.loop-i.invariant.same) c.loop-i.invariant.passed.held,
-                  ((c.in-FindAtom.membrane, here ∙ ap (λ x. Some (FindAtom x c.in-FindAtom.membrane c.in-FindAtom.functor)) ahead.0.0, c.at-place.ensures), c.loop-i.invariant.passed.order),
+                  c.in-ChoosesAtom.ensures.stepped.1,
+                  subst (λ k. HeadInOrder (length k.atoms) (length k.membranes) (length k.parts) (length k.integers) (drop c.loop-i.i c.args.code.now)) (sym c.in-ChoosesAtom.ensures.stepped.0) c.loop-i.invariant.passed.order,
                 ),
               ),
             ),
           ),
         ),
       ),
-    )
+    ),
+  ),
+)
 
-pub search-returns-in-FindAtom-clause-searched : goal.search-returns-in-FindAtom-clause-searched
-search-returns-in-FindAtom-clause-searched g t c =
-    passed_search g.S.LinkStore.atom_id g.S.LinkStore.mem_id (g.S.LinkStore.heap c.args.store.now) c.args.set.now c.loop-i.set c.search_atom.new.set (drop c.args.at c.args.code.now) (drop c.loop-i.i c.args.code.now)
-    c.search_atom.result c.loop-i.invariant.passed
-    (subst (λ h. Searched g.S.LinkStore.atom_id g.S.LinkStore.mem_id h c.loop-i.set c.search_atom.new.set c.search_atom.result (drop c.loop-i.i c.args.code.now)) c.loop-i.invariant.same c.search_atom.ensures.searched)
-
-pub search-search_membrane-requires : goal.search-search_membrane-requires
-search-search_membrane-requires g t c κs within =
-    let here = read_at c.args.code.now c.loop-i.i c.at.result.now (AnyMem c.in-AnyMem.membrane c.in-AnyMem.inside) c.at.ensures c.in-AnyMem.is in
-    let ahead = membrane_ahead (length c.loop-i.set.atoms) (length c.loop-i.set.membranes) (length c.loop-i.set.parts) (length c.loop-i.set.integers) c.in-AnyMem.membrane c.in-AnyMem.inside (drop c.loop-i.i c.args.code.now) (drop (c.loop-i.i + 1) c.args.code.now)
-    (drop_get c.loop-i.i c.args.code.now (AnyMem c.in-AnyMem.membrane c.in-AnyMem.inside) here) c.loop-i.invariant.passed.order in (
+pub search-choose_membrane-requires : goal.search-choose_membrane-requires
+search-choose_membrane-requires g t c κs within = (
+  search rules,
+  (
+    search rules,
+    (
       search rules,
       (
         search rules,
         (
-          search rules,
+          subst (λ h. Valid h) (sym (c.in-ChoosesMembrane.ensures.same ∙ c.loop-i.invariant.same)) c.requires.valid,
           (
-            search rules,
+            subst (λ h. Unmarked h) (sym (c.in-ChoosesMembrane.ensures.same ∙ c.loop-i.invariant.same)) c.requires.unmarked,
             (
-              subst (λ h. Valid h) (sym c.loop-i.invariant.same) c.requires.valid,
+              subst (λ k. AreHeldWhole g.S.LinkStore.atom_id g.S.LinkStore.mem_id (g.S.LinkStore.heap c.step.new.store) k) (sym c.in-ChoosesMembrane.ensures.stepped.0)
+                  (subst (λ h. AreHeldWhole g.S.LinkStore.atom_id g.S.LinkStore.mem_id h c.loop-i.set) (sym (c.in-ChoosesMembrane.ensures.same ∙ c.loop-i.invariant.same)) c.loop-i.invariant.passed.held),
               (
-                subst (λ h. Unmarked h) (sym c.loop-i.invariant.same) c.requires.unmarked,
+                c.at-instr.ensures,
                 (
-                  subst (λ h. AreHeldWhole g.S.LinkStore.atom_id g.S.LinkStore.mem_id h c.loop-i.set) (sym c.loop-i.invariant.same) c.loop-i.invariant.passed.held,
-                  ((c.in-AnyMem.inside, here ∙ ap (λ x. Some (AnyMem x c.in-AnyMem.inside)) ahead.0.0, c.at-place-in-AnyMem.ensures), c.loop-i.invariant.passed.order),
+                  c.in-ChoosesMembrane.ensures.stepped.1,
+                  subst (λ k. HeadInOrder (length k.atoms) (length k.membranes) (length k.parts) (length k.integers) (drop c.loop-i.i c.args.code.now)) (sym c.in-ChoosesMembrane.ensures.stepped.0) c.loop-i.invariant.passed.order,
                 ),
               ),
             ),
           ),
         ),
       ),
-    )
+    ),
+  ),
+)
 
-pub search-returns-in-AnyMem-clause-searched : goal.search-returns-in-AnyMem-clause-searched
-search-returns-in-AnyMem-clause-searched g t c =
-    passed_search g.S.LinkStore.atom_id g.S.LinkStore.mem_id (g.S.LinkStore.heap c.args.store.now) c.args.set.now c.loop-i.set c.search_membrane.new.set (drop c.args.at c.args.code.now) (drop c.loop-i.i c.args.code.now)
-    c.search_membrane.result c.loop-i.invariant.passed
-    (subst (λ h. Searched g.S.LinkStore.atom_id g.S.LinkStore.mem_id h c.loop-i.set c.search_membrane.new.set c.search_membrane.result (drop c.loop-i.i c.args.code.now)) c.loop-i.invariant.same c.search_membrane.ensures.searched)
+pub search-returns-in-ChoosesAtom-clause-searched : goal.search-returns-in-ChoosesAtom-clause-searched
+search-returns-in-ChoosesAtom-clause-searched g t c =
+    passed_search g.S.LinkStore.atom_id g.S.LinkStore.mem_id (g.S.LinkStore.heap c.args.store.now) c.args.set.now c.loop-i.set c.choose_atom.new.set (drop c.args.at c.args.code.now) (drop c.loop-i.i c.args.code.now)
+    c.choose_atom.result c.loop-i.invariant.passed
+    (subst (λ k. Searched g.S.LinkStore.atom_id g.S.LinkStore.mem_id (g.S.LinkStore.heap c.args.store.now) k c.choose_atom.new.set c.choose_atom.result (drop c.loop-i.i c.args.code.now)) c.in-ChoosesAtom.ensures.stepped.0
+    (subst (λ h. Searched g.S.LinkStore.atom_id g.S.LinkStore.mem_id h c.step.new.set c.choose_atom.new.set c.choose_atom.result (drop c.loop-i.i c.args.code.now)) (c.in-ChoosesAtom.ensures.same ∙ c.loop-i.invariant.same) c.choose_atom.ensures.searched))
 
-pub search-returns-then-not-step-clause-searched : goal.search-returns-then-not-step-clause-searched
-search-returns-then-not-step-clause-searched g t c =
-    let ahead = drop_get c.loop-i.i c.args.code.now c.at.result.now c.at.ensures in
-    failed g.S.LinkStore.atom_id g.S.LinkStore.mem_id (g.S.LinkStore.heap c.args.store.now) c.args.set.now c.loop-i.set c.step.new.set (drop c.args.at c.args.code.now) (drop (c.loop-i.i + 1) c.args.code.now) c.at.result.now
+pub search-returns-in-ChoosesMembrane-clause-searched : goal.search-returns-in-ChoosesMembrane-clause-searched
+search-returns-in-ChoosesMembrane-clause-searched g t c =
+    passed_search g.S.LinkStore.atom_id g.S.LinkStore.mem_id (g.S.LinkStore.heap c.args.store.now) c.args.set.now c.loop-i.set c.choose_membrane.new.set (drop c.args.at c.args.code.now) (drop c.loop-i.i c.args.code.now)
+    c.choose_membrane.result c.loop-i.invariant.passed
+    (subst (λ k. Searched g.S.LinkStore.atom_id g.S.LinkStore.mem_id (g.S.LinkStore.heap c.args.store.now) k c.choose_membrane.new.set c.choose_membrane.result (drop c.loop-i.i c.args.code.now)) c.in-ChoosesMembrane.ensures.stepped.0
+    (subst (λ h. Searched g.S.LinkStore.atom_id g.S.LinkStore.mem_id h c.step.new.set c.choose_membrane.new.set c.choose_membrane.result (drop c.loop-i.i c.args.code.now)) (c.in-ChoosesMembrane.ensures.same ∙ c.loop-i.invariant.same) c.choose_membrane.ensures.searched))
+
+pub search-returns-in-Fails-clause-searched : goal.search-returns-in-Fails-clause-searched
+search-returns-in-Fails-clause-searched g t c =
+    let ahead = drop_get c.loop-i.i c.args.code.now c.at-instr.result.now c.at-instr.ensures in
+    failed g.S.LinkStore.atom_id g.S.LinkStore.mem_id (g.S.LinkStore.heap c.args.store.now) c.args.set.now c.loop-i.set c.step.new.set (drop c.args.at c.args.code.now) (drop (c.loop-i.i + 1) c.args.code.now) c.at-instr.result.now
     (subst (λ left. Passed g.S.LinkStore.atom_id g.S.LinkStore.mem_id (g.S.LinkStore.heap c.args.store.now) c.args.set.now c.loop-i.set (drop c.args.at c.args.code.now) left) ahead c.loop-i.invariant.passed)
-    (subst (λ b. Stepped g.S.LinkStore.atom_id g.S.LinkStore.mem_id (g.S.LinkStore.heap c.args.store.now) c.loop-i.set c.step.new.set b c.at.result.now) c.if-not-step.true
-    (subst (λ h. Stepped g.S.LinkStore.atom_id g.S.LinkStore.mem_id h c.loop-i.set c.step.new.set c.step.result c.at.result.now) c.loop-i.invariant.same c.step.ensures.stepped))
+    (subst (λ h. Stepped g.S.LinkStore.atom_id g.S.LinkStore.mem_id h c.loop-i.set c.step.new.set false c.at-instr.result.now) c.loop-i.invariant.same c.in-Fails.ensures.stepped)
 
 pub search-loop-i-preserved : goal.search-loop-i-preserved
 search-loop-i-preserved g t c =
-    let ahead = drop_get c.loop-i.i c.args.code.now c.at.result.now c.at.ensures in record {
-      same = c.step.ensures.same ∙ c.loop-i.invariant.same;
-      passed = passed_one g.S.LinkStore.atom_id g.S.LinkStore.mem_id (g.S.LinkStore.heap c.args.store.now) c.args.set.now c.loop-i.set c.step.new.set (drop c.args.at c.args.code.now) (drop (c.loop-i.i + 1) c.args.code.now) c.at.result.now
-          (no_choice c.at.result.now c.in_default.not-FindAtom c.in_default.not-AnyMem)
+    let ahead = drop_get c.loop-i.i c.args.code.now c.at-instr.result.now c.at-instr.ensures in record {
+      same = c.in-Holds.ensures.same ∙ c.loop-i.invariant.same;
+      passed = passed_one g.S.LinkStore.atom_id g.S.LinkStore.mem_id (g.S.LinkStore.heap c.args.store.now) c.args.set.now c.loop-i.set c.step.new.set (drop c.args.at c.args.code.now) (drop (c.loop-i.i + 1) c.args.code.now) c.at-instr.result.now
+          c.in-Holds.ensures.stepped.0
           (subst (λ left. Passed g.S.LinkStore.atom_id g.S.LinkStore.mem_id (g.S.LinkStore.heap c.args.store.now) c.args.set.now c.loop-i.set (drop c.args.at c.args.code.now) left) ahead c.loop-i.invariant.passed)
-          (subst (λ b. Stepped g.S.LinkStore.atom_id g.S.LinkStore.mem_id (g.S.LinkStore.heap c.args.store.now) c.loop-i.set c.step.new.set b c.at.result.now) c.if-not-step.false
-          (subst (λ h. Stepped g.S.LinkStore.atom_id g.S.LinkStore.mem_id h c.loop-i.set c.step.new.set c.step.result c.at.result.now) c.loop-i.invariant.same c.step.ensures.stepped));
+          (subst (λ h. Stepped g.S.LinkStore.atom_id g.S.LinkStore.mem_id h c.loop-i.set c.step.new.set true c.at-instr.result.now) c.loop-i.invariant.same c.in-Holds.ensures.stepped.1);
     }
 
 pub search-returns-clause-searched : goal.search-returns-clause-searched
@@ -109,6 +118,80 @@ search-returns-clause-searched g t c =
     let nothing = drop_none c.args.code.now c.loop-i.i (let past = c.loop-i-test.false in let end = c.len-i-end.ensures.len in omega (arith, past, end)) in
     passed_all g.S.LinkStore.atom_id g.S.LinkStore.mem_id (g.S.LinkStore.heap c.args.store.now) c.args.set.now c.loop-i.set (drop c.args.at c.args.code.now)
     (subst (λ left. Passed g.S.LinkStore.atom_id g.S.LinkStore.mem_id (g.S.LinkStore.heap c.args.store.now) c.args.set.now c.loop-i.set (drop c.args.at c.args.code.now) left) nothing c.loop-i.invariant.passed)
+
+pub choose_atom-search_atom-requires : goal.choose_atom-search_atom-requires
+choose_atom-search_atom-requires g t c κs within =
+    let here = read_at c.args.code.now c.args.at c.args.instr.now (FindAtom c.in-FindAtom.atom c.in-FindAtom.membrane c.in-FindAtom.functor) c.requires.at c.in-FindAtom.is in
+    let ahead = atom_ahead (length c.args.set.now.atoms) (length c.args.set.now.membranes) (length c.args.set.now.parts) (length c.args.set.now.integers) c.in-FindAtom.atom c.in-FindAtom.membrane c.in-FindAtom.functor (drop c.args.at c.args.code.now) (drop (c.args.at + 1) c.args.code.now)
+    (drop_get c.args.at c.args.code.now (FindAtom c.in-FindAtom.atom c.in-FindAtom.membrane c.in-FindAtom.functor) here) c.requires.order in (
+      search rules,
+      (
+        search rules,
+        (
+          search rules,
+          (
+            search rules,
+            (
+              c.requires.valid,
+              (
+                c.requires.unmarked,
+                (
+                  c.requires.held,
+                  ((c.in-FindAtom.membrane, here ∙ ap (λ x. Some (FindAtom x c.in-FindAtom.membrane c.in-FindAtom.functor)) ahead.0.0, c.at-place.ensures), c.requires.order),
+                ),
+              ),
+            ),
+          ),
+        ),
+      ),
+    )
+
+pub choose_membrane-search_membrane-requires : goal.choose_membrane-search_membrane-requires
+choose_membrane-search_membrane-requires g t c κs within =
+    let here = read_at c.args.code.now c.args.at c.args.instr.now (AnyMem c.in-AnyMem.membrane c.in-AnyMem.inside) c.requires.at c.in-AnyMem.is in
+    let ahead = membrane_ahead (length c.args.set.now.atoms) (length c.args.set.now.membranes) (length c.args.set.now.parts) (length c.args.set.now.integers) c.in-AnyMem.membrane c.in-AnyMem.inside (drop c.args.at c.args.code.now) (drop (c.args.at + 1) c.args.code.now)
+    (drop_get c.args.at c.args.code.now (AnyMem c.in-AnyMem.membrane c.in-AnyMem.inside) here) c.requires.order in (
+      search rules,
+      (
+        search rules,
+        (
+          search rules,
+          (
+            search rules,
+            (
+              c.requires.valid,
+              (
+                c.requires.unmarked,
+                (
+                  c.requires.held,
+                  ((c.in-AnyMem.inside, here ∙ ap (λ x. Some (AnyMem x c.in-AnyMem.inside)) ahead.0.0, c.at-place.ensures), c.requires.order),
+                ),
+              ),
+            ),
+          ),
+        ),
+      ),
+    )
+
+pub choose_atom-at-place-requires : goal.choose_atom-at-place-requires
+choose_atom-at-place-requires g t c =
+    let here = read_at c.args.code.now c.args.at c.args.instr.now (FindAtom c.in-FindAtom.atom c.in-FindAtom.membrane c.in-FindAtom.functor) c.requires.at c.in-FindAtom.is in
+    let ahead = atom_ahead (length c.args.set.now.atoms) (length c.args.set.now.membranes) (length c.args.set.now.parts) (length c.args.set.now.integers) c.in-FindAtom.atom c.in-FindAtom.membrane c.in-FindAtom.functor (drop c.args.at c.args.code.now) (drop (c.args.at + 1) c.args.code.now)
+    (drop_get c.args.at c.args.code.now (FindAtom c.in-FindAtom.atom c.in-FindAtom.membrane c.in-FindAtom.functor) here) c.requires.order in
+    ahead.0.1
+
+pub choose_membrane-at-place-requires : goal.choose_membrane-at-place-requires
+choose_membrane-at-place-requires g t c =
+    let here = read_at c.args.code.now c.args.at c.args.instr.now (AnyMem c.in-AnyMem.membrane c.in-AnyMem.inside) c.requires.at c.in-AnyMem.is in
+    let ahead = membrane_ahead (length c.args.set.now.atoms) (length c.args.set.now.membranes) (length c.args.set.now.parts) (length c.args.set.now.integers) c.in-AnyMem.membrane c.in-AnyMem.inside (drop c.args.at c.args.code.now) (drop (c.args.at + 1) c.args.code.now)
+    (drop_get c.args.at c.args.code.now (AnyMem c.in-AnyMem.membrane c.in-AnyMem.inside) here) c.requires.order in
+    ahead.0.1
+
+pub choose_atom-returns-in_default-clause-searched : goal.choose_atom-returns-in_default-clause-searched
+choose_atom-returns-in_default-clause-searched g t c = absurd (atoms_chosen c.args.instr.now c.in_default.not-FindAtom c.requires.choice)
+
+pub choose_membrane-returns-in_default-clause-searched : goal.choose_membrane-returns-in_default-clause-searched
+choose_membrane-returns-in_default-clause-searched g t c = absurd (membranes_chosen c.args.instr.now c.in_default.not-AnyMem c.requires.choice)
 
 pub search_atom-returns-in-None-clause-searched : goal.search_atom-returns-in-None-clause-searched
 search_atom-returns-in-None-clause-searched g t c =
@@ -419,27 +502,12 @@ search_membranes-returns-clause-searched g t c =
     let left = subst (λ o. MembranesLeft g.S.LinkStore.atom_id g.S.LinkStore.mem_id (g.S.LinkStore.heap c.args.store.now) c.args.set.now (drop c.args.at c.args.code.now) c.args.place o) (none_is c.loop-candidate.candidate c.in_default.not-Some) c.loop-candidate.invariant.left in
     subst (λ k. Searched g.S.LinkStore.atom_id g.S.LinkStore.mem_id (g.S.LinkStore.heap c.args.store.now) c.args.set.now k false (drop c.args.at c.args.code.now)) (sym c.loop-candidate.invariant.set) (membranes_none g.S.LinkStore.atom_id g.S.LinkStore.mem_id (g.S.LinkStore.heap c.args.store.now) c.args.set.now (drop c.args.at c.args.code.now) c.args.place c.requires.held left)
 
-pub search-at-place-requires : goal.search-at-place-requires
-search-at-place-requires g t c =
-    let here = read_at c.args.code.now c.loop-i.i c.at.result.now (FindAtom c.in-FindAtom.atom c.in-FindAtom.membrane c.in-FindAtom.functor) c.at.ensures c.in-FindAtom.is in
-    let ahead = atom_ahead (length c.loop-i.set.atoms) (length c.loop-i.set.membranes) (length c.loop-i.set.parts) (length c.loop-i.set.integers) c.in-FindAtom.atom c.in-FindAtom.membrane c.in-FindAtom.functor (drop c.loop-i.i c.args.code.now) (drop (c.loop-i.i + 1) c.args.code.now)
-    (drop_get c.loop-i.i c.args.code.now (FindAtom c.in-FindAtom.atom c.in-FindAtom.membrane c.in-FindAtom.functor) here) c.loop-i.invariant.passed.order in
-    ahead.0.1
-
-pub search-at-place-requires-in-AnyMem : goal.search-at-place-requires-in-AnyMem
-search-at-place-requires-in-AnyMem g t c =
-    let here = read_at c.args.code.now c.loop-i.i c.at.result.now (AnyMem c.in-AnyMem.membrane c.in-AnyMem.inside) c.at.ensures c.in-AnyMem.is in
-    let ahead = membrane_ahead (length c.loop-i.set.atoms) (length c.loop-i.set.membranes) (length c.loop-i.set.parts) (length c.loop-i.set.integers) c.in-AnyMem.membrane c.in-AnyMem.inside (drop c.loop-i.i c.args.code.now) (drop (c.loop-i.i + 1) c.args.code.now)
-    (drop_get c.loop-i.i c.args.code.now (AnyMem c.in-AnyMem.membrane c.in-AnyMem.inside) here) c.loop-i.invariant.passed.order in
-    ahead.0.1
-
 pub search-step-requires : goal.search-step-requires
 search-step-requires g t c =
-    let ahead = drop_get c.loop-i.i c.args.code.now c.at.result.now c.at.ensures in record {
+    let ahead = drop_get c.loop-i.i c.args.code.now c.at-instr.result.now c.at-instr.ensures in record {
       valid = subst (λ h. Valid h) (sym c.loop-i.invariant.same) c.requires.valid;
       unmarked = subst (λ h. Unmarked h) (sym c.loop-i.invariant.same) c.requires.unmarked;
       held = subst (λ h. AreHeldWhole g.S.LinkStore.atom_id g.S.LinkStore.mem_id h c.loop-i.set) (sym c.loop-i.invariant.same) c.loop-i.invariant.passed.held;
-      order = order_first c.at.result.now (length c.loop-i.set.atoms) (length c.loop-i.set.membranes) (length c.loop-i.set.parts) (length c.loop-i.set.integers) (drop (c.loop-i.i + 1) c.args.code.now)
+      order = order_first c.at-instr.result.now (length c.loop-i.set.atoms) (length c.loop-i.set.membranes) (length c.loop-i.set.parts) (length c.loop-i.set.integers) (drop (c.loop-i.i + 1) c.args.code.now)
           (subst (λ left. HeadInOrder (length c.loop-i.set.atoms) (length c.loop-i.set.membranes) (length c.loop-i.set.parts) (length c.loop-i.set.integers) left) ahead c.loop-i.invariant.passed.order);
-      no_choice = no_choice c.at.result.now c.in_default.not-FindAtom c.in_default.not-AnyMem;
     }

@@ -1,3 +1,8 @@
+use Rattle.std.proofs.Common.{refl, subst, sym}
+use Rattle.lmn_machine.specs.Searching.{ChoosesNone}
+use Rattle.lmn_machine.specs.Outcomes.{ChoosesAtoms, ChoosesMembranes}
+use Rattle.lmn_machine.proofs.Calling.{no_choice}
+use Rattle.lmn_machine.proofs.Telling.{told}
 use Rattle.lmn_machine.proofs.Stepping.{deref_stepped, asks_no_part}
 use Rattle.lmn_machine.proofs.Lone.{unary_stepped, int_stepped}
 use Rattle.lmn_machine.proofs.Contexts.{ground_stepped, equal_stepped, differ_stepped, others_stepped, closed_stepped}
@@ -5,24 +10,28 @@ use Rattle.lmn_machine.proofs.steps.step.Goals as goal
 
 pub returns-in-Deref-clause-stepped : goal.returns-in-Deref-clause-stepped
 returns-in-Deref-clause-stepped g c =
-    deref_stepped g.S.LinkStore.atom_id g.S.LinkStore.mem_id (g.S.LinkStore.heap c.args.store.now) c.args.set.now c.follow.new.set c.follow.result c.args.instr.now _ _ _ c.in-Deref.is c.requires.order
-    c.follow.ensures.held c.follow.ensures.extends c.follow.ensures.atoms c.follow.ensures.membranes c.follow.ensures.parts c.follow.ensures.integers c.follow.ensures.holds c.follow.ensures.only
+    told g.S.LinkStore.atom_id g.S.LinkStore.mem_id (g.S.LinkStore.heap c.args.store.now) c.args.set.now c.follow.new.set c.follow.result c.outcome_of.result c.args.instr.now (subst ChoosesNone (sym c.in-Deref.is) tt) c.outcome_of.ensures
+    (deref_stepped g.S.LinkStore.atom_id g.S.LinkStore.mem_id (g.S.LinkStore.heap c.args.store.now) c.args.set.now c.follow.new.set c.follow.result c.args.instr.now _ _ _ c.in-Deref.is c.requires.order
+    c.follow.ensures.held c.follow.ensures.extends c.follow.ensures.atoms c.follow.ensures.membranes c.follow.ensures.parts c.follow.ensures.integers c.follow.ensures.holds c.follow.ensures.only)
 
 pub returns-in-IsInt-clause-stepped : goal.returns-in-IsInt-clause-stepped
 returns-in-IsInt-clause-stepped g c =
-    int_stepped g.S.LinkStore.atom_id g.S.LinkStore.mem_id (g.S.LinkStore.heap c.args.store.now) c.requires.valid.sound c.args.set.now c.set_part.new.set c.set_part.result c.args.instr.now _ _ _ _ _ c.lone_end-end.result c.integer_root-root.result c.in-IsInt.is c.requires.order c.requires.held
+    told g.S.LinkStore.atom_id g.S.LinkStore.mem_id (g.S.LinkStore.heap c.args.store.now) c.args.set.now c.set_part.new.set c.set_part.result c.outcome_of-in-IsInt.result c.args.instr.now (subst ChoosesNone (sym c.in-IsInt.is) tt) c.outcome_of-in-IsInt.ensures
+    (int_stepped g.S.LinkStore.atom_id g.S.LinkStore.mem_id (g.S.LinkStore.heap c.args.store.now) c.requires.valid.sound c.args.set.now c.set_part.new.set c.set_part.result c.args.instr.now _ _ _ _ _ c.lone_end-end.result c.integer_root-root.result c.in-IsInt.is c.requires.order c.requires.held
     c.at-from.ensures c.at-place.ensures c.integer_root-root.ensures.there (record { ends = c.lone_end-end.ensures.end; lone = c.lone_end-end.ensures.lone; only = c.lone_end-end.ensures.only })
-    (record { is_end = c.integer_root-root.ensures.root; integer = c.integer_root-root.ensures.integer; only = c.integer_root-root.ensures.only }) c.set_part.ensures
+    (record { is_end = c.integer_root-root.ensures.root; integer = c.integer_root-root.ensures.integer; only = c.integer_root-root.ensures.only }) c.set_part.ensures)
 
 pub returns-in-IsUnary-clause-stepped : goal.returns-in-IsUnary-clause-stepped
 returns-in-IsUnary-clause-stepped g c =
-    unary_stepped g.S.LinkStore.atom_id g.S.LinkStore.mem_id (g.S.LinkStore.heap c.args.store.now) c.requires.valid.sound c.args.set.now c.set_part-in-IsUnary.new.set c.set_part-in-IsUnary.result c.args.instr.now _ _ _ _ _ c.lone_end-root.result c.in-IsUnary.is c.requires.order c.requires.held
-    c.at-from-in-IsUnary.ensures c.at-place-in-IsUnary.ensures c.lone_end-root.ensures.there (record { ends = c.lone_end-root.ensures.end; lone = c.lone_end-root.ensures.lone; only = c.lone_end-root.ensures.only }) c.set_part-in-IsUnary.ensures
+    told g.S.LinkStore.atom_id g.S.LinkStore.mem_id (g.S.LinkStore.heap c.args.store.now) c.args.set.now c.set_part-in-IsUnary.new.set c.set_part-in-IsUnary.result c.outcome_of-in-IsUnary.result c.args.instr.now (subst ChoosesNone (sym c.in-IsUnary.is) tt) c.outcome_of-in-IsUnary.ensures
+    (unary_stepped g.S.LinkStore.atom_id g.S.LinkStore.mem_id (g.S.LinkStore.heap c.args.store.now) c.requires.valid.sound c.args.set.now c.set_part-in-IsUnary.new.set c.set_part-in-IsUnary.result c.args.instr.now _ _ _ _ _ c.lone_end-root.result c.in-IsUnary.is c.requires.order c.requires.held
+    c.at-from-in-IsUnary.ensures c.at-place-in-IsUnary.ensures c.lone_end-root.ensures.there (record { ends = c.lone_end-root.ensures.end; lone = c.lone_end-root.ensures.lone; only = c.lone_end-root.ensures.only }) c.set_part-in-IsUnary.ensures)
 
 pub returns-in-IsGround-clause-stepped : goal.returns-in-IsGround-clause-stepped
 returns-in-IsGround-clause-stepped g c =
-    ground_stepped g.S.LinkStore.atom_id g.S.LinkStore.mem_id (g.S.LinkStore.heap c.args.store.now) c.requires.valid.sound c.args.set.now c.set_part-in-IsGround.new.set c.set_part-in-IsGround.result c.args.instr.now _ _ _ _ _ c.whole_end-root.result c.in-IsGround.is c.requires.order c.requires.held
-    c.at-from-in-IsGround.ensures c.at-place-in-IsGround.ensures c.whole_end-root.ensures.there (record { ends = c.whole_end-root.ensures.end; whole = c.whole_end-root.ensures.whole; only = c.whole_end-root.ensures.only }) c.set_part-in-IsGround.ensures
+    told g.S.LinkStore.atom_id g.S.LinkStore.mem_id (g.S.LinkStore.heap c.args.store.now) c.args.set.now c.set_part-in-IsGround.new.set c.set_part-in-IsGround.result c.outcome_of-in-IsGround.result c.args.instr.now (subst ChoosesNone (sym c.in-IsGround.is) tt) c.outcome_of-in-IsGround.ensures
+    (ground_stepped g.S.LinkStore.atom_id g.S.LinkStore.mem_id (g.S.LinkStore.heap c.args.store.now) c.requires.valid.sound c.args.set.now c.set_part-in-IsGround.new.set c.set_part-in-IsGround.result c.args.instr.now _ _ _ _ _ c.whole_end-root.result c.in-IsGround.is c.requires.order c.requires.held
+    c.at-from-in-IsGround.ensures c.at-place-in-IsGround.ensures c.whole_end-root.ensures.there (record { ends = c.whole_end-root.ensures.end; whole = c.whole_end-root.ensures.whole; only = c.whole_end-root.ensures.only }) c.set_part-in-IsGround.ensures)
 
 pub are_equal-requires-clause-held : goal.are_equal-requires-clause-held
 are_equal-requires-clause-held g c = (c.args.set.now.atoms, c.requires.held.whole _ _ c.at-root.ensures, c.requires.held.whole _ _ c.at-other_root.ensures)
@@ -32,21 +41,31 @@ are_different-requires-clause-held g c = (c.args.set.now.atoms, c.requires.held.
 
 pub returns-in-EqGround-clause-stepped : goal.returns-in-EqGround-clause-stepped
 returns-in-EqGround-clause-stepped g c =
-    equal_stepped g.S.LinkStore.atom_id g.S.LinkStore.mem_id (g.S.LinkStore.heap c.args.store.now) c.args.set.now c.are_equal.result c.args.instr.now _ _ _ _ c.in-EqGround.is c.requires.held c.at-root.ensures c.at-other_root.ensures c.are_equal.ensures.equal
+    told g.S.LinkStore.atom_id g.S.LinkStore.mem_id (g.S.LinkStore.heap c.args.store.now) c.args.set.now c.args.set.now c.are_equal.result c.outcome_of-in-EqGround.result c.args.instr.now (subst ChoosesNone (sym c.in-EqGround.is) tt) c.outcome_of-in-EqGround.ensures
+    (equal_stepped g.S.LinkStore.atom_id g.S.LinkStore.mem_id (g.S.LinkStore.heap c.args.store.now) c.args.set.now c.are_equal.result c.args.instr.now _ _ _ _ c.in-EqGround.is c.requires.held c.at-root.ensures c.at-other_root.ensures c.are_equal.ensures.equal)
 
 pub returns-in-NeqGround-clause-stepped : goal.returns-in-NeqGround-clause-stepped
 returns-in-NeqGround-clause-stepped g c =
-    differ_stepped g.S.LinkStore.atom_id g.S.LinkStore.mem_id (g.S.LinkStore.heap c.args.store.now) c.args.set.now c.are_different.result c.args.instr.now _ _ _ _ c.in-NeqGround.is c.requires.held c.at-root-in-NeqGround.ensures c.at-other_root-in-NeqGround.ensures c.are_different.ensures.different
+    told g.S.LinkStore.atom_id g.S.LinkStore.mem_id (g.S.LinkStore.heap c.args.store.now) c.args.set.now c.args.set.now c.are_different.result c.outcome_of-in-NeqGround.result c.args.instr.now (subst ChoosesNone (sym c.in-NeqGround.is) tt) c.outcome_of-in-NeqGround.ensures
+    (differ_stepped g.S.LinkStore.atom_id g.S.LinkStore.mem_id (g.S.LinkStore.heap c.args.store.now) c.args.set.now c.are_different.result c.args.instr.now _ _ _ _ c.in-NeqGround.is c.requires.held c.at-root-in-NeqGround.ensures c.at-other_root-in-NeqGround.ensures c.are_different.ensures.different)
 
-pub compute-requires-in_default-clause-no_part : goal.compute-requires-in_default-clause-no_part
-compute-requires-in_default-clause-no_part g c = asks_no_part c.args.instr.now c.requires.no_choice c.in_default.not-Deref c.in_default.not-IsInt c.in_default.not-IsUnary c.in_default.not-IsGround c.in_default.not-EqGround c.in_default.not-NeqGround c.in_default.not-NAtoms c.in_default.not-IsClosed
+pub run-requires-in_default-clause-no_part : goal.run-requires-in_default-clause-no_part
+run-requires-in_default-clause-no_part g c = asks_no_part c.args.instr.now (no_choice c.args.instr.now c.in_default.not-FindAtom c.in_default.not-AnyMem) c.in_default.not-Deref c.in_default.not-IsInt c.in_default.not-IsUnary c.in_default.not-IsGround c.in_default.not-EqGround c.in_default.not-NeqGround c.in_default.not-NAtoms c.in_default.not-IsClosed
 
 pub returns-in-NAtoms-clause-stepped : goal.returns-in-NAtoms-clause-stepped
 returns-in-NAtoms-clause-stepped g c =
-    others_stepped g.S.LinkStore.atom_id g.S.LinkStore.mem_id (g.S.LinkStore.heap c.args.store.now) c.args.set.now c.has_others.result c.args.instr.now _ _ _ c.as_slice.result.now _ c.in-NAtoms.is c.as_slice.ensures c.requires.held c.at-place-in-NAtoms.ensures
-    (λ s a. c.has_others.ensures.others s (record { atoms = a.atoms; membranes = a.membranes; parts = a.parts; integers = a.integers }))
+    told g.S.LinkStore.atom_id g.S.LinkStore.mem_id (g.S.LinkStore.heap c.args.store.now) c.args.set.now c.args.set.now c.has_others.result c.outcome_of-in-NAtoms.result c.args.instr.now (subst ChoosesNone (sym c.in-NAtoms.is) tt) c.outcome_of-in-NAtoms.ensures
+    (others_stepped g.S.LinkStore.atom_id g.S.LinkStore.mem_id (g.S.LinkStore.heap c.args.store.now) c.args.set.now c.has_others.result c.args.instr.now _ _ _ c.as_slice.result.now _ c.in-NAtoms.is c.as_slice.ensures c.requires.held c.at-place-in-NAtoms.ensures
+    (λ s a. c.has_others.ensures.others s (record { atoms = a.atoms; membranes = a.membranes; parts = a.parts; integers = a.integers })))
 
 pub returns-in-IsClosed-clause-stepped : goal.returns-in-IsClosed-clause-stepped
 returns-in-IsClosed-clause-stepped g c =
-    closed_stepped g.S.LinkStore.atom_id g.S.LinkStore.mem_id (g.S.LinkStore.heap c.args.store.now) c.args.set.now c.is_closed.result c.args.instr.now _ _ c.as_slice-in-IsClosed.result.now _ c.in-IsClosed.is c.as_slice-in-IsClosed.ensures c.requires.held c.at-place-in-IsClosed.ensures
-    (λ d s y n k a. c.is_closed.ensures.closed d s y n k (record { atoms = a.atoms; membranes = a.membranes; parts = a.parts; integers = a.integers }))
+    told g.S.LinkStore.atom_id g.S.LinkStore.mem_id (g.S.LinkStore.heap c.args.store.now) c.args.set.now c.args.set.now c.is_closed.result c.outcome_of-in-IsClosed.result c.args.instr.now (subst ChoosesNone (sym c.in-IsClosed.is) tt) c.outcome_of-in-IsClosed.ensures
+    (closed_stepped g.S.LinkStore.atom_id g.S.LinkStore.mem_id (g.S.LinkStore.heap c.args.store.now) c.args.set.now c.is_closed.result c.args.instr.now _ _ c.as_slice-in-IsClosed.result.now _ c.in-IsClosed.is c.as_slice-in-IsClosed.ensures c.requires.held c.at-place-in-IsClosed.ensures
+    (λ d s y n k a. c.is_closed.ensures.closed d s y n k (record { atoms = a.atoms; membranes = a.membranes; parts = a.parts; integers = a.integers })))
+
+pub returns-in-FindAtom-clause-stepped : goal.returns-in-FindAtom-clause-stepped
+returns-in-FindAtom-clause-stepped g c = (refl, subst ChoosesAtoms (sym c.in-FindAtom.is) tt)
+
+pub returns-in-AnyMem-clause-stepped : goal.returns-in-AnyMem-clause-stepped
+returns-in-AnyMem-clause-stepped g c = (refl, subst ChoosesMembranes (sym c.in-AnyMem.is) tt)

@@ -15,11 +15,8 @@ first_of_some-requires-clause-order g c = c.requires.order
 pub first_of_some-requires-clause-ordered : goal.first_of_some-requires-clause-ordered
 first_of_some-requires-clause-ordered g c = let l = c.requires.from in omega (arith, l)
 
-pub first_of_some-requires-in-None-clause-order : goal.first_of_some-requires-in-None-clause-order
-first_of_some-requires-in-None-clause-order g c = c.requires.order
-
-pub first_of_some-requires-in-None-clause-ordered : goal.first_of_some-requires-in-None-clause-ordered
-first_of_some-requires-in-None-clause-ordered g c = omega arith
+pub first_of_earlier-requires-clause-order : goal.first_of_earlier-requires-clause-order
+first_of_earlier-requires-clause-order g c = c.requires.order
 
 pub returns-in-Some-clause-first : goal.returns-in-Some-clause-first
 returns-in-Some-clause-first g c = λ f t.
@@ -43,15 +40,15 @@ pub returns-in-None-clause-first : goal.returns-in-None-clause-first
 returns-in-None-clause-first g c = λ f t.
     (let h = g.S.LinkStore.heap c.args.machine.now.store in
     let k = g.S.LinkStore.heap c.first_of_some.new.machine.store in
-    let l = g.S.LinkStore.heap c.first_of_some-in-None.new.machine.store in
+    let l = g.S.LinkStore.heap c.first_of_earlier.new.machine.store in
     let e = take_rest (flat f) c.args.from c.args.many (c.requires.many f t) in
     let one = c.in-None.ensures.first f t in
     let lulls = subst (Lulls c.args.sleep h k) e one.1 in
-    first_then (λ x. g.S.LinkStore.mem_id x.membrane) (λ x. x.place) (λ x. x.rule) h k l c.args.codes.now c.args.sleep f c.args.from c.first_of_some-in-None.result
+    first_then (λ x. g.S.LinkStore.mem_id x.membrane) (λ x. x.place) (λ x. x.rule) h k l c.args.codes.now c.args.sleep f c.args.from c.first_of_earlier.result
     (subst (NoneIn h c.args.codes.now) e one.0) lulls
-    (subst (λ ms. MatchOption c.first_of_some-in-None.result (NoneIn k c.args.codes.now ms × Lulls c.args.sleep k l ms)
+    (subst (λ ms. MatchOption c.first_of_earlier.result (NoneIn k c.args.codes.now ms × Lulls c.args.sleep k l ms)
     (λ x. (q : IsFirstIn k c.args.codes.now ms (g.S.LinkStore.mem_id x.membrane) x.place x.rule) × Lulls c.args.sleep k l q.earlier))
-    (take_first (flat f) c.args.from) (c.first_of_some-in-None.ensures.first f (tree_alike h k (lulls_alike c.args.sleep h k (drop c.args.from (flat f)) lulls) f t))))
+    (take_first (flat f) c.args.from) (c.first_of_earlier.ensures.first f (tree_alike h k (lulls_alike c.args.sleep h k (drop c.args.from (flat f)) lulls) f t))))
 
 pub returns-in-None-clause-steps : goal.returns-in-None-clause-steps
 returns-in-None-clause-steps g c = λ f t.
@@ -61,8 +58,8 @@ returns-in-None-clause-steps g c = λ f t.
     let e = take_rest (flat f) c.args.from c.args.many (c.requires.many f t) in
     let one = c.in-None.ensures.first f t in
     let lulls = subst (Lulls c.args.sleep h k) e one.1 in
-    counts_next c.args.sleep h k codes (drop c.args.from (flat f)) (take c.args.from (flat f)) (asked c.args.from f) c.args.steps.now c.first_of_some.new.steps c.first_of_some-in-None.new.steps lulls refl
+    counts_next c.args.sleep h k codes (drop c.args.from (flat f)) (take c.args.from (flat f)) (asked c.args.from f) c.args.steps.now c.first_of_some.new.steps c.first_of_earlier.new.steps lulls refl
     (λ m i j. turned_apart (flat f) c.args.from m t.once i j) (subst (NoneIn h codes) e one.0)
     (subst (λ xs. CountsAmong h codes (awake_of h xs) c.args.steps.now c.first_of_some.new.steps) e (c.in-None.ensures.steps f t))
-    (subst (λ xs. CountsAmong k codes (awake_of k xs) c.first_of_some.new.steps c.first_of_some-in-None.new.steps) (take_first (flat f) c.args.from)
-    (c.first_of_some-in-None.ensures.steps f (tree_alike h k (lulls_alike c.args.sleep h k (drop c.args.from (flat f)) lulls) f t))))
+    (subst (λ xs. CountsAmong k codes (awake_of k xs) c.first_of_some.new.steps c.first_of_earlier.new.steps) (take_first (flat f) c.args.from)
+    (c.first_of_earlier.ensures.steps f (tree_alike h k (lulls_alike c.args.sleep h k (drop c.args.from (flat f)) lulls) f t))))

@@ -1,0 +1,33 @@
+-- What became of an instruction, as the contracts of private functions say it.
+use Rattle.std.specs.Prelude.{ℕ, Bool, true, false, ◌≡◌}
+use Rattle.lmn_heap.specs.Heap.{Heap}
+use Rattle.lmn_instr.specs.declared.instr.Instr.{Instr}
+use Rattle.lmn_instr.specs.declared.instr.Instr.TheVariants.{FindAtom, AnyMem}
+use Rattle.lmn_registers.specs.declared.registers.SetRegisters.{SetRegisters}
+use Rattle.lmn_machine.specs.Searching.{ChoosesNone, Stepped}
+use Rattle.lmn_machine.specs.declared.steps.Outcome.{Outcome}
+use Rattle.lmn_machine.specs.declared.steps.Outcome.TheVariants.{Holds, Fails, ChoosesAtom, ChoosesMembrane}
+
+-- the outcome of an instruction without a choice: whether it holds
+abbrev pub Tells : Outcome → Bool → Type 0
+Tells Holds holds = holds ≡ true
+Tells Fails holds = holds ≡ false
+Tells ChoosesAtom holds = ⊥
+Tells ChoosesMembrane holds = ⊥
+
+-- FINDATOM
+abbrev pub ChoosesAtoms : Instr → Type 0
+ChoosesAtoms (FindAtom x y f) = Unit {0}
+ChoosesAtoms _ = ⊥
+
+-- ANYMEM
+abbrev pub ChoosesMembranes : Instr → Type 0
+ChoosesMembranes (AnyMem x y) = Unit {0}
+ChoosesMembranes _ = ⊥
+
+-- An instruction without a choice was run, and one with a choice left the registers as they were.
+abbrev pub HasOutcome : {A M : Type 0} → (A → ℕ) → (M → ℕ) → Heap → SetRegisters A M → SetRegisters A M → Outcome → Instr → Type 0
+HasOutcome atom membrane h g k Holds i = ChoosesNone i × Stepped atom membrane h g k true i
+HasOutcome atom membrane h g k Fails i = Stepped atom membrane h g k false i
+HasOutcome atom membrane h g k ChoosesAtom i = (k ≡ g) × ChoosesAtoms i
+HasOutcome atom membrane h g k ChoosesMembrane i = (k ≡ g) × ChoosesMembranes i
