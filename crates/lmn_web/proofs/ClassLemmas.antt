@@ -1,88 +1,291 @@
--- Atoms by class.
-use Rattle.std.proofs.Common.{◌≡◌, ◌≤◌, ◌<◌, ℕ, zero, suc, true, false, List, [], ◌∷◌, length, Option, Some, None, IsSome, refl, sym, ap, subst, ◌∙◌, arith}
-use Rattle.lmn_cells.specs.Cells.{HeldCell}
+-- Walks in the tree of the first atoms of the classes of a membrane.
+use Rattle.std.proofs.Common.{◌≡◌, ◌==◌, ◌≤◌, ◌<◌, ◌+◌, ◌/◌, ℕ, zero, suc, Bool, true, false, List, [], ◌∷◌, if◌then◌else◌, length, length-append, map, Option, Some, None, IsSome, is_some, refl, sym, ap, subst, ◌∙◌, inl, inr, arith}
+use Rattle.std.proofs.lemmas.Bool.{eqb-true}
+use Rattle.std.proofs.lemmas.List.{length-map}
+use Rattle.lmn_base.specs.Lists.{In}
+use Rattle.lmn_base.proofs.Lists.{in_either}
+use Rattle.lmn_base.proofs.Truth.{if_no}
+use Rattle.lmn_heap.proofs.Pigeonholes.{not_longer}
+use Rattle.lmn_cells.specs.Rows.{Row, items_in}
+use Rattle.lmn_cells.specs.Cells.{HeldCell, cell_by, cells_by}
 use Rattle.lmn_cells.specs.Runs.{link_in}
 use Rattle.lmn_cells.proofs.CellRows.{if_yes}
-use Rattle.lmn_base.proofs.Truth.{if_no}
-use Rattle.lmn_web.specs.Webs.{walked}
-use Rattle.lmn_web.specs.Classes.{PEER, ArePeers, is_key, key_in, ClassPlace, class_place}
+use Rattle.lmn_web.specs.Classes.{EVEN, ODD, LEADERS, ClassTree, Bare, Fork, ClassPlace, Hung, leaders, top, IsTree, IsSorted, rest_at, is_odd, is_key, key_in, class_place, place_in, lowest, lowest_below}
+use Rattle.lmn_web.proofs.ClassTrees.{sorted_once}
 
--- the peers from one on
-pub walked_peers : (f : ℕ → Option HeldCell) (n : ℕ) (first : Option ℕ) (ls : List ℕ) → ArePeers f first ls → length ls ≤ n → walked (λ a. link_in f a PEER) n first ≡ ls
-walked_peers f n first [] p l = subst (λ o. walked (λ a. link_in f a PEER) n o ≡ []) (sym p) (none n)
+-- How many cells a tree has
+
+abbrev pub size : ClassTree → ℕ
+size Bare = 0
+size (Fork l a b) = suc (size a + size b)
+
+-- how many hang there, down to a depth
+abbrev pub bulk : (ℕ → Option HeldCell) → ℕ → Option ℕ → ℕ
+bulk f zero o = 0
+bulk f (suc n) None = 0
+bulk f (suc n) (Some a) = suc (bulk f n (link_in f a EVEN) + bulk f n (link_in f a ODD))
+
+-- that is how many the tree has
+pub bulk_is : (f : ℕ → Option HeldCell) (n : ℕ) (first : Option ℕ) (t : ClassTree) → IsTree f first t → size t ≤ n → bulk f n first ≡ size t
+bulk_is f n first Bare q l = subst (λ o. bulk f n o ≡ 0) (sym q) (none n)
   where
-    none : (k : ℕ) → walked (λ a. link_in f a PEER) k None ≡ []
+    none : (k : ℕ) → bulk f k None ≡ 0
     none zero = refl
     none (suc k) = refl
-walked_peers f zero first (x ∷ ls) p l = absurd (omega (arith, l))
-walked_peers f (suc n) first (x ∷ ls) p l = subst (λ o. walked (λ a. link_in f a PEER) (suc n) o ≡ x ∷ ls) (sym p.0) (ap (λ us. x ∷ us) (walked_peers f n (link_in f x PEER) ls p.2 (omega (arith, l))))
+bulk_is f zero first (Fork x a b) q l = absurd (omega (arith, l))
+bulk_is f (suc n) first (Fork x a b) q l =
+    subst (λ o. bulk f (suc n) o ≡ suc (size a + size b)) (sym q.0) (λ i. suc (bulk_is f n (link_in f x EVEN) a q.2 (omega (arith, l)) i + bulk_is f n (link_in f x ODD) b q.3 (omega (arith, l)) i))
 
--- one list of peers
-pub same_peers : (f : ℕ → Option HeldCell) (first : Option ℕ) (ls ks : List ℕ) → ArePeers f first ls → ArePeers f first ks → ls ≡ ks
-same_peers f first [] [] p q = refl
-same_peers f first [] (k ∷ ks) p q = absurd (let e : None ≡ Some k = sym p ∙ q.0 in cc)
-same_peers f first (l ∷ ls) [] p q = absurd (let e : None ≡ Some l = sym q ∙ p.0 in cc)
-same_peers f first (l ∷ ls) (k ∷ ks) p q =
-    let e : Some l ≡ Some k = sym p.0 ∙ q.0 in let s : l ≡ k = cc in
-    (λ t. s t ∷ same_peers f (link_in f k PEER) ls ks (subst (λ z. ArePeers f (link_in f z PEER) ls) s p.2) q.2 t)
+size_leaders : (t : ClassTree) → length (leaders t) ≡ size t
+size_leaders Bare = refl
+size_leaders (Fork l a b) = ap suc (length-append (leaders a) (leaders b) ∙ (λ i. size_leaders a i + size_leaders b i))
+
+-- its cells are there
+tree_alive : (f : ℕ → Option HeldCell) (first : Option ℕ) (t : ClassTree) → IsTree f first t → (l : ℕ) → In l (leaders t) → IsSome (f l)
+tree_alive f first Bare q l i = absurd i
+tree_alive f first (Fork x a b) q l (inl e) = subst (λ z. IsSome (f z)) e q.1
+tree_alive f first (Fork x a b) q l (inr i) = elim (in_either l (leaders a) (leaders b) i) [ inl j ↦ tree_alive f (link_in f x EVEN) a q.2 l j | inr j ↦ tree_alive f (link_in f x ODD) b q.3 l j ]
+
+-- a cell that is there has a row
+row_in : (rows : List Row) (b : ℕ) → IsSome (cells_by rows b) → In b (map (λ (r : Row). r.at) rows)
+row_in [] b s = absurd cc
+row_in (r ∷ rows) b s = by (r.at == b) refl (λ q. row_in rows b q) s
+  where
+    by : (t : Bool) → (r.at == b) ≡ t → (IsSome (cells_by rows b) → In b (map (λ (r : Row). r.at) rows)) → IsSome (cell_by (if t then r.items else items_in rows b)) → In b (r.at ∷ map (λ (r : Row). r.at) rows)
+    by true e rest q = inl (eqb-true r.at b e)
+    by false e rest q = inr (rest q)
+
+-- so there are no more than rows
+pub tree_small : (rows : List Row) (first : Option ℕ) (d : ℕ) (t : ClassTree) → IsTree (cells_by rows) first t → IsSorted (cells_by rows) d t → size t ≤ length rows
+tree_small rows first d t q s =
+    let few = not_longer (leaders t) (map (λ (r : Row). r.at) rows) (sorted_once (cells_by rows) d t s) (λ l i. row_in rows l (tree_alive (cells_by rows) first t q l i)) in
+    let long = length-map rows (λ (r : Row). r.at) in let all = size_leaders t in omega (arith, few, long, all)
+
+-- one tree hangs at a link
+pub same_trees : (f : ℕ → Option HeldCell) (first : Option ℕ) (t u : ClassTree) → IsTree f first t → IsTree f first u → t ≡ u
+same_trees f first Bare Bare q r = refl
+same_trees f first Bare (Fork l a b) q r = absurd (let e : None ≡ Some l = sym q ∙ r.0 in cc)
+same_trees f first (Fork l a b) Bare q r = absurd (let e : None ≡ Some l = sym r ∙ q.0 in cc)
+same_trees f first (Fork l a b) (Fork k x y) q r =
+    let e : Some l ≡ Some k = sym q.0 ∙ r.0 in let s : l ≡ k = cc in
+    (λ i. Fork (s i) (same_trees f (link_in f k EVEN) a x (subst (λ z. IsTree f (link_in f z EVEN) a) s q.2) r.2 i) (same_trees f (link_in f k ODD) b y (subst (λ z. IsTree f (link_in f z ODD) b) s q.3) r.3 i))
+
+-- and begins with what hangs there
+pub top_is : (f : ℕ → Option HeldCell) (first : Option ℕ) (t : ClassTree) → IsTree f first t → first ≡ top t
+top_is f first Bare q = q
+top_is f first (Fork l a b) q = q.0
+
+-- Looking for a class
 
 -- What is left of a search: from here on it gives what it gives from the start.
-pub record Left (f : ℕ → Option HeldCell) (p : ℕ × ℕ) (start : Option ℕ) (n : ℕ) (before at : Option ℕ) : Type 0 where
-  pub rest : List ℕ
-  pub peers : ArePeers f at rest
-  pub short : length rest ≤ n
-  pub same : (ls : List ℕ) → ArePeers f start ls → class_place f p before rest ≡ class_place f p None ls
+pub record Left (f : ℕ → Option HeldCell) (p : ℕ × ℕ) (m n holder link rest : ℕ) (at : Option ℕ) : Type 0 where
+  pub depth : ℕ
+  pub tree : ClassTree
+  pub hangs : IsTree f at tree
+  pub short : size tree ≤ n
+  pub digits : rest ≡ rest_at p.0 depth
+  pub same : (t : ClassTree) → IsTree f (link_in f m LEADERS) t → class_place f p holder link depth tree ≡ place_in f p m t
 
 -- at the start
-pub left_all : (f : ℕ → Option HeldCell) (p : ℕ × ℕ) (start : Option ℕ) (n : ℕ) (ls : List ℕ) → ArePeers f start ls → length ls ≤ n → Left f p start n None start
-left_all f p start n ls q l = record { rest = ls; peers = q; short = l; same = λ ks r. ap (class_place f p None) (same_peers f start ls ks q r) }
+pub left_all : (f : ℕ → Option HeldCell) (p : ℕ × ℕ) (m n : ℕ) (t : ClassTree) → IsTree f (link_in f m LEADERS) t → size t ≤ n → Left f p m n m LEADERS p.0 (link_in f m LEADERS)
+left_all f p m n t q l = record { depth = 0; tree = t; hangs = q; short = l; digits = refl; same = λ u r. ap (place_in f p m) (same_trees f (link_in f m LEADERS) t u q r) }
+
+-- the side on which a search goes on
+abbrev pub side_of : ℕ → ℕ
+side_of rest = if is_odd rest then ODD else EVEN
 
 -- a cell that is passed
-pub left_next : (f : ℕ → Option HeldCell) (p : ℕ × ℕ) (start : Option ℕ) (n : ℕ) (before : Option ℕ) (c : ℕ) → Left f p start n before (Some c) → is_key (key_in f c) p ≡ false
-    → Left f p start n (Some c) (link_in f c PEER) × (length (walked (λ a. link_in f a PEER) n (link_in f c PEER)) < length (walked (λ a. link_in f a PEER) n (Some c)))
-left_next f p start n before c l other_class = by l.rest l.peers l.short l.same
+pub left_next : (f : ℕ → Option HeldCell) (p : ℕ × ℕ) (m n holder link rest c : ℕ) → Left f p m n holder link rest (Some c) → is_key (key_in f c) p ≡ false
+    → Left f p m n c (side_of rest) (rest / 2) (link_in f c (side_of rest)) × (bulk f n (link_in f c (side_of rest)) < bulk f n (Some c))
+left_next f p m n holder link rest c left other_class = by left.tree left.hangs left.short left.same
   where
-    by : (rest : List ℕ) → ArePeers f (Some c) rest → length rest ≤ n → ((ls : List ℕ) → ArePeers f start ls → class_place f p before rest ≡ class_place f p None ls)
-        → Left f p start n (Some c) (link_in f c PEER) × (length (walked (λ a. link_in f a PEER) n (link_in f c PEER)) < length (walked (λ a. link_in f a PEER) n (Some c)))
-    by [] q s same = absurd cc
-    by (x ∷ rest) q s same =
-        let e : ◌≡◌ {A = Option ℕ} (Some c) (Some x) = q.0 in let z : x ≡ c = cc in
-        let peers : ArePeers f (link_in f c PEER) rest = subst (λ u. ArePeers f (link_in f u PEER) rest) z q.2 in (
-          record {
-            rest = rest;
-            peers = peers;
-            short = omega (arith, s);
-            same = λ ls r. sym (if_no (is_key (key_in f x) p) _ (class_place f p (Some x) rest) (ap (λ u. is_key (key_in f u) p) z ∙ other_class) ∙ ap (λ u. class_place f p (Some u) rest) z) ∙ same ls r;
-          },
-          subst (λ us. length us < length (walked (λ a. link_in f a PEER) n (Some c))) (sym (walked_peers f n (link_in f c PEER) rest peers (omega (arith, s))))
-              (subst (λ us. length rest < length us) (sym (walked_peers f n (Some c) (x ∷ rest) q s)) (omega arith)),
+    by : (t : ClassTree) → IsTree f (Some c) t → size t ≤ n → ((u : ClassTree) → IsTree f (link_in f m LEADERS) u → class_place f p holder link left.depth t ≡ place_in f p m u)
+        → Left f p m n c (side_of rest) (rest / 2) (link_in f c (side_of rest)) × (bulk f n (link_in f c (side_of rest)) < bulk f n (Some c))
+    by Bare q short same = absurd (let e : ◌≡◌ {A = Option ℕ} (Some c) None = q in cc)
+    by (Fork x a b) q short same = go (is_odd rest) refl
+      where
+        s : x ≡ c
+        s = let e : ◌≡◌ {A = Option ℕ} (Some c) (Some x) = q.0 in cc
+
+        here : is_key (key_in f x) p ≡ false
+        here = ap (λ z. is_key (key_in f z) p) s ∙ other_class
+
+        whole : bulk f n (Some c) ≡ suc (size a + size b)
+        whole = bulk_is f n (Some c) (Fork x a b) q short
+
+        even : IsTree f (link_in f c EVEN) a
+        even = subst (λ z. IsTree f (link_in f z EVEN) a) s q.2
+
+        odd : IsTree f (link_in f c ODD) b
+        odd = subst (λ z. IsTree f (link_in f z ODD) b) s q.3
+
+        side : (o : Bool) → is_odd rest ≡ o → is_odd (rest_at p.0 left.depth) ≡ o
+        side o e = ap is_odd (sym left.digits) ∙ e
+
+        on : (o : Bool) → is_odd rest ≡ o → (u : ClassTree) → IsTree f (link_in f m LEADERS) u → (if o then class_place f p c ODD (suc left.depth) b else class_place f p c EVEN (suc left.depth) a) ≡ place_in f p m u
+        on o e u r =
+            subst (λ z. (if o then class_place f p z ODD (suc left.depth) b else class_place f p z EVEN (suc left.depth) a) ≡ place_in f p m u) s
+            (subst (λ y. (if y then class_place f p x ODD (suc left.depth) b else class_place f p x EVEN (suc left.depth) a) ≡ place_in f p m u) (side o e)
+            (sym (if_no (is_key (key_in f x) p) (record { holder = holder; link = link; depth = left.depth; tree = Fork x a b }) (if is_odd (rest_at p.0 left.depth) then class_place f p x ODD (suc left.depth) b else class_place f p x EVEN (suc left.depth) a) here) ∙ same u r))
+
+        go : (o : Bool) → is_odd rest ≡ o → Left f p m n c (side_of rest) (rest / 2) (link_in f c (side_of rest)) × (bulk f n (link_in f c (side_of rest)) < bulk f n (Some c))
+        go true e = subst (λ y. Left f p m n c (if y then ODD else EVEN) (rest / 2) (link_in f c (if y then ODD else EVEN)) × (bulk f n (link_in f c (if y then ODD else EVEN)) < bulk f n (Some c))) (sym e) (
+          record { depth = suc left.depth; tree = b; hangs = odd; short = omega (arith, short); digits = ap (λ z. z / 2) left.digits; same = on true e },
+          (let part = bulk_is f n (link_in f c ODD) b odd (omega (arith, short)) in omega (arith, part, whole)),
+        )
+        go false e = subst (λ y. Left f p m n c (if y then ODD else EVEN) (rest / 2) (link_in f c (if y then ODD else EVEN)) × (bulk f n (link_in f c (if y then ODD else EVEN)) < bulk f n (Some c))) (sym e) (
+          record { depth = suc left.depth; tree = a; hangs = even; short = omega (arith, short); digits = ap (λ z. z / 2) left.digits; same = on false e },
+          (let part = bulk_is f n (link_in f c EVEN) a even (omega (arith, short)) in omega (arith, part, whole)),
         )
 
+-- where a search ends
+abbrev pub EndsAt : (ℕ → Option HeldCell) → ℕ × ℕ → ℕ → ℕ → ℕ → Option ℕ → Type 0
+EndsAt f p m holder link at = (t : ClassTree) → IsTree f (link_in f m LEADERS) t → let w = place_in f p m t in (holder ≡ w.holder) × (link ≡ w.link) × (at ≡ top w.tree)
+
 -- one that is found
-pub left_found : (f : ℕ → Option HeldCell) (p : ℕ × ℕ) (start : Option ℕ) (n : ℕ) (before : Option ℕ) (c : ℕ) → Left f p start n before (Some c) → is_key (key_in f c) p ≡ true
-    → (ls : List ℕ) → ArePeers f start ls → (before ≡ (class_place f p None ls).before) × (Some c ≡ (class_place f p None ls).leader)
-left_found f p start n before c l this_class ls r = by l.rest l.peers (l.same ls r)
+pub left_found : (f : ℕ → Option HeldCell) (p : ℕ × ℕ) (m n holder link rest c : ℕ) → Left f p m n holder link rest (Some c) → is_key (key_in f c) p ≡ true → EndsAt f p m holder link (Some c)
+left_found f p m n holder link rest c left this_class u r = by left.tree left.hangs (left.same u r)
   where
-    by : (rest : List ℕ) → ArePeers f (Some c) rest → class_place f p before rest ≡ class_place f p None ls → (before ≡ (class_place f p None ls).before) × (Some c ≡ (class_place f p None ls).leader)
-    by [] q same = absurd cc
-    by (x ∷ rest) q same =
+    by : (t : ClassTree) → IsTree f (Some c) t → class_place f p holder link left.depth t ≡ place_in f p m u → (holder ≡ (place_in f p m u).holder) × (link ≡ (place_in f p m u).link) × (Some c ≡ top (place_in f p m u).tree)
+    by Bare q same = absurd (let e : ◌≡◌ {A = Option ℕ} (Some c) None = q in cc)
+    by (Fork x a b) q same =
         let e : ◌≡◌ {A = Option ℕ} (Some c) (Some x) = q.0 in let z : x ≡ c = cc in
-        let w : record { before = before; leader = Some x } ≡ class_place f p None ls = sym (if_yes (is_key (key_in f x) p) _ (class_place f p (Some x) rest) (ap (λ u. is_key (key_in f u) p) z ∙ this_class)) ∙ same in
-        (ap (λ (u : ClassPlace). u.before) w, e ∙ ap (λ (u : ClassPlace). u.leader) w)
+        let w : record { holder = holder; link = link; depth = left.depth; tree = Fork x a b } ≡ place_in f p m u =
+        sym (if_yes (is_key (key_in f x) p) (record { holder = holder; link = link; depth = left.depth; tree = Fork x a b }) (if is_odd (rest_at p.0 left.depth) then class_place f p x ODD (suc left.depth) b else class_place f p x EVEN (suc left.depth) a) (ap (λ y. is_key (key_in f y) p) z ∙ this_class)) ∙ same in
+        (ap (λ (y : ClassPlace). y.holder) w, ap (λ (y : ClassPlace). y.link) w, e ∙ ap (λ (y : ClassPlace). top y.tree) w)
 
 -- none is
-pub left_none : (f : ℕ → Option HeldCell) (p : ℕ × ℕ) (start : Option ℕ) (n : ℕ) (before : Option ℕ) → Left f p start n before None
-    → (ls : List ℕ) → ArePeers f start ls → (before ≡ (class_place f p None ls).before) × (None ≡ (class_place f p None ls).leader)
-left_none f p start n before l ls r = by l.rest l.peers (l.same ls r)
+pub left_none : (f : ℕ → Option HeldCell) (p : ℕ × ℕ) (m n holder link rest : ℕ) → Left f p m n holder link rest None → EndsAt f p m holder link None
+left_none f p m n holder link rest left u r = by left.tree left.hangs (left.same u r)
   where
-    by : (rest : List ℕ) → ArePeers f None rest → class_place f p before rest ≡ class_place f p None ls → (before ≡ (class_place f p None ls).before) × (None ≡ (class_place f p None ls).leader)
-    by [] q same = (ap (λ (u : ClassPlace). u.before) same, ap (λ (u : ClassPlace). u.leader) same)
-    by (x ∷ rest) q same = absurd (let e : ◌≡◌ {A = Option ℕ} None (Some x) = q.0 in cc)
+    by : (t : ClassTree) → IsTree f None t → class_place f p holder link left.depth t ≡ place_in f p m u → (holder ≡ (place_in f p m u).holder) × (link ≡ (place_in f p m u).link) × (None ≡ top (place_in f p m u).tree)
+    by Bare q same = (ap (λ (y : ClassPlace). y.holder) same, ap (λ (y : ClassPlace). y.link) same, ap (λ (y : ClassPlace). top y.tree) same)
+    by (Fork x a b) q same = absurd (let e : ◌≡◌ {A = Option ℕ} None (Some x) = q.0 in cc)
+
+-- what hangs somewhere is there
+pub hung_there : (f : ℕ → Option HeldCell) (c : ℕ) (t : ClassTree) → IsTree f (Some c) t → IsSome (f c)
+hung_there f c Bare q = absurd (let e : ◌≡◌ {A = Option ℕ} (Some c) None = q in cc)
+hung_there f c (Fork x a b) q = let e : ◌≡◌ {A = Option ℕ} (Some c) (Some x) = q.0 in let z : x ≡ c = cc in subst (λ u. IsSome (f u)) z q.1
 
 -- the next to be looked at is there
-pub left_there : (f : ℕ → Option HeldCell) (p : ℕ × ℕ) (start : Option ℕ) (n : ℕ) (before : Option ℕ) (c : ℕ) → Left f p start n before (Some c) → IsSome (f c)
-left_there f p start n before c l = by l.rest l.peers
+pub left_there : (f : ℕ → Option HeldCell) (p : ℕ × ℕ) (m n holder link rest c : ℕ) → Left f p m n holder link rest (Some c) → IsSome (f c)
+left_there f p m n holder link rest c left = hung_there f c left.tree left.hangs
+
+-- Looking for one with none below it
+
+-- the first of two trees that has a cell, and its side
+abbrev pub nearer : ClassTree → ClassTree → ClassTree
+nearer Bare b = b
+nearer (Fork l x y) b = Fork l x y
+
+abbrev pub near_side : ClassTree → ℕ
+near_side Bare = ODD
+near_side (Fork l x y) = EVEN
+
+-- what is found from there on, behind what was found so far
+abbrev pub found_in : Hung → ℕ → ℕ → ClassTree → Hung
+found_in last h k Bare = last
+found_in last h k (Fork l x y) = lowest h k (Fork l x y)
+
+-- what hangs on it is found
+nearer_hangs : (f : ℕ → Option HeldCell) (c : ℕ) (a b : ClassTree) → IsTree f (link_in f c EVEN) a → IsTree f (link_in f c ODD) b → IsTree f (link_in f c (near_side a)) (nearer a b) × (near_side a ≡ (if is_some (link_in f c EVEN) then EVEN else ODD))
+nearer_hangs f c Bare b q r = (r, ap (λ (o : Option ℕ). if is_some o then EVEN else ODD) (sym q))
+nearer_hangs f c (Fork l x y) b q r = (q, ap (λ (o : Option ℕ). if is_some o then EVEN else ODD) (sym q.0))
+
+nearer_size : (a b : ClassTree) → size (nearer a b) ≤ size a + size b
+nearer_size Bare b = omega arith
+nearer_size (Fork l x y) b = omega arith
+
+-- a step down
+lowest_step : (h k l : ℕ) (a b : ClassTree) → lowest h k (Fork l a b) ≡ found_in (record { holder = h; link = k; leader = Some l }) l (near_side a) (nearer a b)
+lowest_step h k l Bare Bare = refl
+lowest_step h k l Bare (Fork r x y) = refl
+lowest_step h k l (Fork r x y) b = refl
+
+-- the first one
+lowest_first : (c : ℕ) (a b : ClassTree) → found_in (record { holder = c; link = near_side a; leader = top (nearer a b) }) c (near_side a) (nearer a b) ≡ lowest_below c a b
+lowest_first c Bare Bare = refl
+lowest_first c Bare (Fork r x y) = refl
+lowest_first c (Fork r x y) b = refl
+
+-- it is there, and so is what holds it
+hung_lowest : (f : ℕ → Option HeldCell) (h k : ℕ) (t : ClassTree) → IsTree f (link_in f h k) t → IsSome (f h) → k < 8 → (l : ℕ) → (lowest h k t).leader ≡ Some l → IsSome (f l) × IsSome (f (lowest h k t).holder) × ((lowest h k t).link < 8)
+hung_lowest f h k Bare q s small l e = absurd cc
+hung_lowest f h k (Fork r Bare Bare) q s small l e = (subst (λ z. IsSome (f z)) (let w : r ≡ l = cc in w) q.1, s, small)
+hung_lowest f h k (Fork r Bare (Fork x y z)) q s small l e = hung_lowest f r ODD (Fork x y z) q.3 q.1 (omega arith) l e
+hung_lowest f h k (Fork r (Fork x y z) b) q s small l e = hung_lowest f r EVEN (Fork x y z) q.2 q.1 (omega arith) l e
+
+pub lowest_there : (f : ℕ → Option HeldCell) (c : ℕ) (a b : ClassTree) → IsTree f (link_in f c EVEN) a → IsTree f (link_in f c ODD) b → IsSome (f c) → (l : ℕ) → (lowest_below c a b).leader ≡ Some l → IsSome (f l) × IsSome (f (lowest_below c a b).holder) × ((lowest_below c a b).link < 8)
+lowest_there f c Bare b q r s l e = hung_lowest f c ODD b r s (omega arith) l e
+lowest_there f c (Fork x y z) b q r s l e = hung_lowest f c EVEN (Fork x y z) q s (omega arith) l e
+
+-- What is left of it: from here on it gives what it gives from the start.
+pub record Down (f : ℕ → Option HeldCell) (c n : ℕ) (last next : Hung) : Type 0 where
+  pub tree : ClassTree
+  pub hangs : IsTree f next.leader tree
+  pub short : size tree ≤ n
+  pub same : (a b : ClassTree) → IsTree f (link_in f c EVEN) a → IsTree f (link_in f c ODD) b → found_in last next.holder next.link tree ≡ lowest_below c a b
+
+-- what hangs below a cell, as it is read
+pub record Below (f : ℕ → Option HeldCell) (c : ℕ) (w : Hung) : Type 0 where
+  pub holder : w.holder ≡ c
+  pub link : w.link ≡ (if is_some (link_in f c EVEN) then EVEN else ODD)
+  pub leader : w.leader ≡ link_in f c w.link
+
+-- it is the nearer one
+below_is : (f : ℕ → Option HeldCell) (c : ℕ) (w : Hung) (a b : ClassTree) → Below f c w → IsTree f (link_in f c EVEN) a → IsTree f (link_in f c ODD) b → w ≡ record { holder = c; link = near_side a; leader = top (nearer a b) }
+below_is f c w a b r q s =
+    let n = nearer_hangs f c a b q s in let side : w.link ≡ near_side a = r.link ∙ sym n.1 in
+    λ i. record { holder = r.holder i; link = side i; leader = (r.leader ∙ ap (link_in f c) side ∙ top_is f (link_in f c (near_side a)) (nearer a b) n.0) i }
+
+-- at the start
+pub down_all : (f : ℕ → Option HeldCell) (c n : ℕ) (a b : ClassTree) → IsTree f (link_in f c EVEN) a → IsTree f (link_in f c ODD) b → size a ≤ n → size b ≤ n → (w : Hung) → Below f c w → Down f c n w w
+down_all f c n a b q r la lb w below =
+    subst (λ (y : Hung). Down f c n y y) (sym (below_is f c w a b below q r)) record {
+      tree = nearer a b;
+      hangs = subst (λ o. IsTree f o (nearer a b)) (top_is f (link_in f c (near_side a)) (nearer a b) (nearer_hangs f c a b q r).0) (nearer_hangs f c a b q r).0;
+      short = by a la;
+      same = λ x y s t. lowest_first c a b ∙ (λ i. lowest_below c (same_trees f (link_in f c EVEN) a x q s i) (same_trees f (link_in f c ODD) b y r t i));
+    }
   where
-    by : (rest : List ℕ) → ArePeers f (Some c) rest → IsSome (f c)
-    by [] q = absurd cc
-    by (x ∷ rest) q = let e : ◌≡◌ {A = Option ℕ} (Some c) (Some x) = q.0 in let z : x ≡ c = cc in subst (λ u. IsSome (f u)) z q.1
+    by : (x : ClassTree) → size x ≤ n → size (nearer x b) ≤ n
+    by Bare l = lb
+    by (Fork l x y) k = k
+
+-- a step
+pub down_next : (f : ℕ → Option HeldCell) (c n d : ℕ) (last next w : Hung) → Down f c n last next → next.leader ≡ Some d → Below f d w → Down f c n next w × (bulk f n w.leader < bulk f n next.leader)
+down_next f c n d last next w down is below = by down.tree (subst (λ o. IsTree f o down.tree) is down.hangs) down.short down.same
+  where
+    by : (t : ClassTree) → IsTree f (Some d) t → size t ≤ n → ((a b : ClassTree) → IsTree f (link_in f c EVEN) a → IsTree f (link_in f c ODD) b → found_in last next.holder next.link t ≡ lowest_below c a b) → Down f c n next w × (bulk f n w.leader < bulk f n next.leader)
+    by Bare q short same = absurd (let e : ◌≡◌ {A = Option ℕ} (Some d) None = q in cc)
+    by (Fork x a b) q short same =
+        let e : ◌≡◌ {A = Option ℕ} (Some d) (Some x) = q.0 in let s : x ≡ d = cc in
+        let even : IsTree f (link_in f d EVEN) a = subst (λ z. IsTree f (link_in f z EVEN) a) s q.2 in
+        let odd : IsTree f (link_in f d ODD) b = subst (λ z. IsTree f (link_in f z ODD) b) s q.3 in
+        let hangs = nearer_hangs f d a b even odd in
+        let top_there : IsTree f (top (nearer a b)) (nearer a b) = subst (λ o. IsTree f o (nearer a b)) (top_is f (link_in f d (near_side a)) (nearer a b) hangs.0) hangs.0 in
+        let few = nearer_size a b in
+        let whole : bulk f n next.leader ≡ suc (size a + size b) = ap (bulk f n) is ∙ bulk_is f n (Some d) (Fork x a b) q short in
+        let part : bulk f n (top (nearer a b)) ≡ size (nearer a b) = bulk_is f n (top (nearer a b)) (nearer a b) top_there (omega (arith, few, short)) in
+        let now : next ≡ record { holder = next.holder; link = next.link; leader = Some x } = (λ i. record { holder = next.holder; link = next.link; leader = (is ∙ e) i }) in
+        subst (λ (y : Hung). Down f c n next y × (bulk f n y.leader < bulk f n next.leader)) (sym (below_is f d w a b below even odd)) (
+          record {
+            tree = nearer a b;
+            hangs = top_there;
+            short = omega (arith, few, short);
+            same = λ y z u v. (λ i. found_in (now i) (sym s i) (near_side a) (nearer a b)) ∙ sym (lowest_step next.holder next.link x a b) ∙ same y z u v;
+          },
+          omega (arith, few, part, whole),
+        )
+
+-- its end
+pub down_none : (f : ℕ → Option HeldCell) (c n : ℕ) (last next : Hung) → Down f c n last next → next.leader ≡ None → (a b : ClassTree) → IsTree f (link_in f c EVEN) a → IsTree f (link_in f c ODD) b → last ≡ lowest_below c a b
+down_none f c n last next down is a b q r = by down.tree (subst (λ o. IsTree f o down.tree) is down.hangs) (down.same a b q r)
+  where
+    by : (t : ClassTree) → IsTree f None t → found_in last next.holder next.link t ≡ lowest_below c a b → last ≡ lowest_below c a b
+    by Bare s same = same
+    by (Fork x y z) s same = absurd (let e : ◌≡◌ {A = Option ℕ} None (Some x) = s.0 in cc)
+
+-- the next to be looked at is there
+pub down_there : (f : ℕ → Option HeldCell) (c n d : ℕ) (last next : Hung) → Down f c n last next → next.leader ≡ Some d → IsSome (f d)
+down_there f c n d last next down is = hung_there f d down.tree (subst (λ o. IsTree f o down.tree) is down.hangs)

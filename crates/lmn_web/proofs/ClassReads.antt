@@ -1,19 +1,19 @@
 -- What the links of classes tell of the web.
-use Rattle.std.proofs.Common.{◌≡◌, ◌==◌, ◌&&◌, ◌+◌, ◌^◌, ◌<◌, ◌≤◌, true, ℕ, List, length, get_or, Option, Some, None, IsSome, refl, sym, ap, subst, ◌∙◌, arith}
+use Rattle.std.proofs.Common.{◌≡◌, ◌==◌, ◌&&◌, ◌^◌, ◌<◌, ℕ, List, length, get_or, Option, Some, None, IsSome, refl, sym, ap, subst, ◌∙◌, arith}
 use Rattle.std.proofs.lemmas.List.{length-map}
 use Rattle.std.specs.Option.{option_map}
 use Rattle.lmn_base.specs.Lists.{In}
 use Rattle.lmn_heap.specs.Lists.{Distinct, from, after}
-use Rattle.lmn_heap.proofs.Pigeonholes.{not_longer}
 use Rattle.lmn_cells.specs.Cells.{HeldCell, numbers_of, ports_of}
 use Rattle.lmn_cells.specs.Ports.{partner_by}
 use Rattle.lmn_cells.specs.Runs.{RunsThrough, link_in}
 use Rattle.lmn_web.specs.declared.kind.CellKind.TheVariants.{Atom}
-use Rattle.lmn_web.specs.Webs.{web_cell, web_of, list_in, cells_in, number_in, count_number, label_by, web_label, label_class, is_classed, with_class, partners_of, ARITY, HIGH, LOW}
+use Rattle.lmn_web.specs.Webs.{web_cell, web_of, list_in, cells_in, label_by, web_label, label_class, is_classed, with_class, partners_of, ARITY, HIGH, LOW}
 use Rattle.lmn_web.specs.Indexes.{IsClassedWeb}
-use Rattle.lmn_web.specs.Classes.{CLASS_NEXT, CLASS_LAST, files, class_node, key_in, is_key, of_class, AreClassed, class_place}
+use Rattle.lmn_web.specs.Classes.{CLASS_NEXT, CLASS_LAST, class_node, key_in, is_key, of_class, ClassTree, top, AreClassed, place_in}
 use Rattle.lmn_web.proofs.ListedLemmas.{run_begins, run_goes_on, list_same, cell_of}
-use Rattle.lmn_web.proofs.Reclassing.{key_same, key_true, filter_in, leader_in, class_none}
+use Rattle.lmn_web.proofs.Reclassing.{key_same, key_true, filter_in}
+use Rattle.lmn_web.proofs.ClassPlaces.{leader_in, class_none}
 use Rattle.lmn_web.proofs.ClassRuns.{distinct_filter}
 use Rattle.lmn_web.proofs.FilterLemmas.{filter_same}
 
@@ -35,26 +35,19 @@ class_list f all w m class n = ap (with_class (web_of f) class n) (list_same f (
     ∙ filter_same (is_classed (web_of f) class n) (λ a. is_key (key_in f a) (class, n)) (list_in f m Atom) (λ x i. class_test f all w x class n (cell_of f (list_in f) w.web.listed m x Atom i).0)
 
 -- where a class begins
-pub class_begins : (f : ℕ → Option HeldCell) (m : ℕ) (xs ls : List ℕ) → AreClassed f m xs ls → (p : ℕ × ℕ) (o : Option ℕ) → (class_place f p None ls).leader ≡ o → from o (of_class f p xs) ≡ of_class f p xs
-class_begins f m xs ls c p None e = sym (class_none f m xs ls c p e)
-class_begins f m xs ls c p (Some l) e =
-    let i = leader_in f p None ls l e in
+pub class_begins : (f : ℕ → Option HeldCell) (m : ℕ) (xs : List ℕ) (t : ClassTree) → AreClassed f m xs t → (In m xs → ⊥) → (p : ℕ × ℕ) (o : Option ℕ) → top (place_in f p m t).tree ≡ o → from o (of_class f p xs) ≡ of_class f p xs
+class_begins f m xs t c no_m p None e = sym (class_none f m xs t c no_m p e)
+class_begins f m xs t c no_m p (Some l) e =
+    let i = leader_in f m xs t c no_m p l e in
     subst (λ q. from (Some l) (of_class f q xs) ≡ of_class f q xs) (key_true (key_in f l) p i.1) (run_begins (class_node f) None (Some l) (of_class f (key_in f l) xs) (link_in f l CLASS_LAST) (c.runs l i.0))
 
 -- and goes on
-pub class_goes_on : (f : ℕ → Option HeldCell) (m : ℕ) (xs ls : List ℕ) → AreClassed f m xs ls → Distinct xs → (x : ℕ) → In x xs → from (link_in f x CLASS_NEXT) (of_class f (key_in f x) xs) ≡ after x (of_class f (key_in f x) xs)
-class_goes_on f m xs ls c once x i =
+pub class_goes_on : (f : ℕ → Option HeldCell) (m : ℕ) (xs : List ℕ) (t : ClassTree) → AreClassed f m xs t → Distinct xs → (x : ℕ) → In x xs → from (link_in f x CLASS_NEXT) (of_class f (key_in f x) xs) ≡ after x (of_class f (key_in f x) xs)
+class_goes_on f m xs t c once x i =
     let l = c.every x i in let q = key_in f x in
     run_goes_on (class_node f) (Some l.0) (link_in f l.0 CLASS_LAST) x (of_class f q xs)
     (subst (λ p. RunsThrough (class_node f) None (Some l.0) (of_class f p xs) (link_in f l.0 CLASS_LAST) None) l.2 (c.runs l.0 l.1))
     (distinct_filter (λ a. is_key (key_in f a) q) xs once) (filter_in (λ a. is_key (key_in f a) q) x xs i (key_same q))
-
--- the first atoms of the classes of a membrane may be gone over
-pub may_find : (f : ℕ → Option HeldCell) (all : List ℕ) → IsClassedWeb f all → (m : ℕ) → files f m Atom ≡ true → (ls : List ℕ) × AreClassed f m (list_in f m Atom) ls × (length ls ≤ number_in f m (count_number Atom) + 1)
-may_find f all w m d =
-    let o = w.classed.classes m d in
-    let few = not_longer o.0 (list_in f m Atom) o.1.once o.1.inside in let count = w.web.listed.count m Atom in
-    (o.0, o.1, omega (arith, few, count))
 
 -- the label of a cell tells its class
 pub key_by_label : (f : ℕ → Option HeldCell) (all : List ℕ) → IsClassedWeb f all → (a label : ℕ) → web_label (web_of f) a ≡ Some label → key_in f a ≡ (label_class label, length (partners_of (web_of f a)))

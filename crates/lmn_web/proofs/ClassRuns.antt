@@ -1,18 +1,20 @@
 -- What each write to the links of classes does to the classes of a membrane.
-use Rattle.std.proofs.Common.{◌≡◌, ◌≢◌, ◌<◌, ℕ, Bool, true, false, cond, List, [], ◌∷◌, ◌++◌, length, Option, Some, None, IsSome, refl, sym, ap, subst, ◌∙◌, inl, inr, arith}
+use Rattle.std.proofs.Common.{◌≡◌, ◌≢◌, ◌⊎◌, ℕ, suc, Bool, true, false, cond, List, [], ◌∷◌, ◌++◌, length, Option, Some, None, IsSome, refl, sym, ap, subst, ◌∙◌, inl, inr, arith}
 use Rattle.std.specs.List.{filter}
 use Rattle.lmn_base.specs.Lists.{In}
 use Rattle.lmn_base.proofs.Truth.{bool_cases}
 use Rattle.lmn_base.proofs.Lists.{in_either}
 use Rattle.lmn_heap.specs.Lists.{Distinct}
-use Rattle.lmn_heap.proofs.ListLemmas.{each_in, each_of, in_left, in_right, distinct_right, apart}
+use Rattle.lmn_heap.proofs.ListLemmas.{each_in, each_of, in_left, in_right, apart}
 use Rattle.lmn_cells.specs.Cells.{HeldCell, links_of, HaveLinks}
 use Rattle.lmn_cells.specs.Runs.{Node, RunsThrough, link_in}
-use Rattle.lmn_cells.proofs.LineLemmas.{link_same, link_other}
+use Rattle.lmn_cells.proofs.LineLemmas.{link_other}
 use Rattle.lmn_cells.proofs.RunLemmas.{Left, Joined, Between, begins, ends, joins, leaves, inserts, split, before_in, after_in}
-use Rattle.lmn_web.specs.Classes.{Touches, CLASS_NEXT, CLASS_PREV, CLASS_LAST, PEER, LEADERS, class_node, key_in, is_key, of_class, ArePeers, AreClassed, class_place, link_written, led, begun, lengthened, put_between, put_first, closed, shortened, passed}
-use Rattle.lmn_web.proofs.Reclassing.{key_same, key_true, in_filter, Reclasses, reclassed, leader_in, leader_none, peers_frame}
-use Rattle.lmn_web.proofs.ClassWrites.{length_kept, touches_none, touches_own, touches_peer, touches_head, touches_led, touches_keys, touches_there, led_other, Stands, stands, peers_split, chain_turned, last_or_in, led_at, led_none, led_away, in_mid, distinct_swap, distinct_drop}
+use Rattle.lmn_web.specs.Classes.{Touches, CLASS_NEXT, CLASS_PREV, CLASS_LAST, EVEN, ODD, LEADERS, ClassTree, Bare, Fork, leaders, top, ClassPlace, IsTree, IsSorted, is_odd, rest_at, class_node, key_in, is_key, of_class, AreClassed, place_in, link_written, taken_over, begun, lengthened, put_between, put_first, closed, shortened, passed, dropped}
+use Rattle.lmn_web.proofs.Reclassing.{key_same, key_true, in_filter, reclassed}
+use Rattle.lmn_web.proofs.ClassTrees.{Holds, Hole, tree_frame, sorted_apart, below_differs, sides_apart, beside_not}
+use Rattle.lmn_web.proofs.ClassWrites.{kept, length_kept, touches_none, touches_own, touches_tree, touches_keys, touches_there}
+use Rattle.lmn_web.proofs.ClassPlaces.{link_at, link_far, link_by, bare_of, sorted_top, holds_small, holds_there, holds_more, touches_taken, at, outer_in, tree_in, holds_atoms, link_small, place_far, taken_place, leader_in, fill_stay, fill_were, fill_sorted, fill_heads, taken_tree}
 
 -- a list by a test has no repeat where the list has none
 pub distinct_filter : (test : ℕ → Bool) (xs : List ℕ) → Distinct xs → Distinct (filter test xs)
@@ -23,17 +25,14 @@ distinct_filter test (x ∷ xs) d = by (test x) (distinct_filter test xs d.1)
     by true r = (each_of _ (filter test xs) (λ z i. each_in (λ w. x ≢ w) xs z d.0 (in_filter test z xs i).0), r)
     by false r = r
 
--- a link that was just written
-pub link_at : (f : ℕ → Option HeldCell) (a k : ℕ) (v : Option ℕ) → length (links_of (f a)) ≡ 8 → k < 8 → link_in (link_written f a k v) a k ≡ v
-link_at f a k v e l = link_same f a k v (omega (arith, e, l))
-
--- another link
-pub link_far : (f : ℕ → Option HeldCell) (a k : ℕ) (v : Option ℕ) (b j : ℕ) → j ≢ k → link_in (link_written f a k v) b j ≡ link_in f b j
-link_far f a k v b j d = link_other f a k v b j (λ e _. d e)
-
--- a link of another cell
-pub link_by : (f : ℕ → Option HeldCell) (a k : ℕ) (v : Option ℕ) (b j : ℕ) → b ≢ a → link_in (link_written f a k v) b j ≡ link_in f b j
-link_by f a k v b j d = link_other f a k v b j (λ _ e. d e)
+-- no link to other classes is one of a class
+not_side : (j : ℕ) → (j ≡ EVEN) ⊎ (j ≡ ODD) → (j ≡ CLASS_NEXT) ⊎ ((j ≡ CLASS_PREV) ⊎ (j ≡ CLASS_LAST)) → ⊥
+not_side j (inl e) (inl s) = absurd (omega (arith, e, s))
+not_side j (inr e) (inl s) = absurd (omega (arith, e, s))
+not_side j (inl e) (inr (inl s)) = absurd (omega (arith, e, s))
+not_side j (inr e) (inr (inl s)) = absurd (omega (arith, e, s))
+not_side j (inl e) (inr (inr s)) = absurd (omega (arith, e, s))
+not_side j (inr e) (inr (inr s)) = absurd (omega (arith, e, s))
 
 -- what stands before a cell of a run stands in its front part
 pub prev_in : (h : ℕ → Node) (first : Option ℕ) (us : List ℕ) (d : ℕ) (vs : List ℕ) (last : Option ℕ) → RunsThrough h None first (us ++ (d ∷ vs)) last None → (q : ℕ) → (h d).prev ≡ Some q → In q us
@@ -43,12 +42,15 @@ prev_in h first us d vs last r q e = let s = split h None first us (d ∷ vs) la
 pub next_in_run : (h : ℕ → Node) (first : Option ℕ) (us : List ℕ) (d : ℕ) (vs : List ℕ) (last : Option ℕ) → RunsThrough h None first (us ++ (d ∷ vs)) last None → (q : ℕ) → (h d).next ≡ Some q → In q vs
 next_in_run h first us d vs last r q e = let s = split h None first us (d ∷ vs) last None r in after_in h (Some d) (h d).next vs last q s.3.2 e
 
-module _ (f : ℕ → Option HeldCell) (m c : ℕ) (xs ls : List ℕ) (have : HaveLinks f) (old : AreClassed f m xs ls) (alive : (z : ℕ) → In z xs → IsSome (f z)) (distinct : Distinct xs) (there_m : IsSome (f m)) (there_c : IsSome (f c)) (no_m : In m xs → ⊥) (not_m : c ≢ m) where
+module _ (f : ℕ → Option HeldCell) (m c : ℕ) (xs : List ℕ) (t : ClassTree) (have : HaveLinks f) (old : AreClassed f m xs t) (alive : (z : ℕ) → In z xs → IsSome (f z)) (distinct : Distinct xs) (there_m : IsSome (f m)) (there_c : IsSome (f c)) (no_m : In m xs → ⊥) (not_m : c ≢ m) where
   abbrev p : ℕ × ℕ
   p = key_in f c
 
   abbrev zs : List ℕ
   zs = of_class f p xs
+
+  abbrev ls : List ℕ
+  ls = leaders t
 
   zs_in : (z : ℕ) → In z zs → In z xs × (is_key (key_in f z) p ≡ true)
   zs_in z i = in_filter (λ a. is_key (key_in f a) p) z xs i
@@ -61,11 +63,17 @@ module _ (f : ℕ → Option HeldCell) (m c : ℕ) (xs ls : List ℕ) (have : Ha
   lead_key l i e = subst (λ q. RunsThrough (class_node f) None (Some l) (of_class f q xs) (link_in f l CLASS_LAST) None) (key_true (key_in f l) p e) (old.runs l i)
 
   lead_one : (j l : ℕ) → In j ls → In l ls → is_key (key_in f j) p ≡ true → is_key (key_in f l) p ≡ true → j ≡ l
-  lead_one j l a b s t = old.apart j l a b (key_true (key_in f j) p s ∙ sym (key_true (key_in f l) p t))
+  lead_one j l a b d e = sorted_apart f 0 t old.sorted j l a b (key_true (key_in f j) p d ∙ sym (key_true (key_in f l) p e))
 
   -- A class begins
 
-  module _ (xs' : List ℕ) (lists : (q : ℕ × ℕ) → is_key q p ≡ false → of_class f q xs' ≡ of_class f q xs) (alone : of_class f p xs' ≡ c ∷ []) (fresh : In c xs → ⊥) (none : (class_place f p None ls).leader ≡ None) where
+  module _ (xs' : List ℕ) (lists : (q : ℕ × ℕ) → is_key q p ≡ false → of_class f q xs' ≡ of_class f q xs) (alone : of_class f p xs' ≡ c ∷ []) (fresh : In c xs → ⊥) (none : top (place_in f p m t).tree ≡ None) where
+    abbrev hb : ℕ
+    hb = (place_in f p m t).holder
+
+    abbrev kb : ℕ
+    kb = (place_in f p m t).link
+
     abbrev b1 : ℕ → Option HeldCell
     b1 = link_written f c CLASS_NEXT None
 
@@ -76,15 +84,24 @@ module _ (f : ℕ → Option HeldCell) (m c : ℕ) (xs ls : List ℕ) (have : Ha
     b3 = link_written b2 c CLASS_LAST (Some c)
 
     abbrev b4 : ℕ → Option HeldCell
-    b4 = link_written b3 c PEER (link_in f m LEADERS)
+    b4 = link_written b3 c EVEN None
 
     abbrev b5 : ℕ → Option HeldCell
-    b5 = begun f m c
+    b5 = link_written b4 c ODD None
+
+    abbrev b6 : ℕ → Option HeldCell
+    b6 = begun f hb kb c
+
+    touches_b5 : Touches f b5 m (c ∷ xs) p
+    touches_b5 = touches_tree f b4 m (c ∷ xs) p (touches_tree f b3 m (c ∷ xs) p (touches_own f b2 m (c ∷ xs) p (touches_own f b1 m (c ∷ xs) p (touches_own f f m (c ∷ xs) p (touches_none f m (c ∷ xs) p)
+        c CLASS_NEXT None (inl refl) (key_same p) (omega arith)) c CLASS_PREV None (inl refl) (key_same p) (omega arith)) c CLASS_LAST (Some c) (inl refl) (key_same p) (omega arith)) c EVEN None (inr (inl refl, inl refl))) c ODD None (inr (inl refl, inr refl))
 
     -- what is left as it was
-    pub begun_touches : Touches f b5 m (c ∷ xs) p
-    begun_touches = touches_head f b4 m (c ∷ xs) p (touches_peer f b3 m (c ∷ xs) p (touches_own f b2 m (c ∷ xs) p (touches_own f b1 m (c ∷ xs) p (touches_own f f m (c ∷ xs) p (touches_none f m (c ∷ xs) p)
-        c CLASS_NEXT None (inl refl) (key_same p) (omega arith)) c CLASS_PREV None (inl refl) (key_same p) (omega arith)) c CLASS_LAST (Some c) (inl refl) (key_same p) (omega arith)) c (link_in f m LEADERS) (inl refl)) (Some c)
+    pub begun_touches : Touches f b6 m (c ∷ xs) p
+    begun_touches = touches_tree f b5 m (c ∷ xs) p touches_b5 hb kb (Some c) (holds_more m xs (c ∷ xs) hb kb (λ z i. inr i) (holds_atoms f m xs t old no_m p))
+
+    there_b : (z : ℕ) → IsSome (f z) → IsSome (b6 z)
+    there_b z e = touches_there f b6 m (c ∷ xs) p begun_touches z e
 
     len1 : length (links_of (b1 c)) ≡ 8
     len1 = length_kept f c CLASS_NEXT None c ∙ have c there_c
@@ -95,54 +112,67 @@ module _ (f : ℕ → Option HeldCell) (m c : ℕ) (xs ls : List ℕ) (have : Ha
     len3 : length (links_of (b3 c)) ≡ 8
     len3 = length_kept b2 c CLASS_LAST (Some c) c ∙ len2
 
-    len4 : length (links_of (b4 m)) ≡ 8
-    len4 = length_kept b3 c PEER (link_in f m LEADERS) m ∙ length_kept b2 c CLASS_LAST (Some c) m ∙ length_kept b1 c CLASS_PREV None m ∙ length_kept f c CLASS_NEXT None m ∙ have m there_m
+    len4 : length (links_of (b4 c)) ≡ 8
+    len4 = length_kept b3 c EVEN None c ∙ len3
 
-    far : (i j : ℕ) → Type 0
-    far i j = i ≢ j
+    to_b3 : (j : ℕ) → j ≢ EVEN → j ≢ ODD → link_in b6 c j ≡ link_in b3 c j
+    to_b3 j x y = place_far f m xs t old no_m p b5 (Some c) c j x y ∙ link_far b4 c ODD None c j y ∙ link_far b3 c EVEN None c j x
 
-    c_next : link_in b5 c CLASS_NEXT ≡ None
-    c_next = link_far b4 m LEADERS (Some c) c CLASS_NEXT (λ e. absurd (omega (arith, e))) ∙ link_far b3 c PEER (link_in f m LEADERS) c CLASS_NEXT (λ e. absurd (omega (arith, e))) ∙ link_far b2 c CLASS_LAST (Some c) c CLASS_NEXT (λ e. absurd (omega (arith, e)))
-        ∙ link_far b1 c CLASS_PREV None c CLASS_NEXT (λ e. absurd (omega (arith, e))) ∙ link_at f c CLASS_NEXT None (have c there_c) (omega arith)
+    c_next : link_in b6 c CLASS_NEXT ≡ None
+    c_next = to_b3 CLASS_NEXT (λ e. absurd (omega (arith, e))) (λ e. absurd (omega (arith, e))) ∙ link_far b2 c CLASS_LAST (Some c) c CLASS_NEXT (λ e. absurd (omega (arith, e))) ∙ link_far b1 c CLASS_PREV None c CLASS_NEXT (λ e. absurd (omega (arith, e)))
+        ∙ link_at f c CLASS_NEXT None (have c there_c) (omega arith)
 
-    c_prev : link_in b5 c CLASS_PREV ≡ None
-    c_prev = link_far b4 m LEADERS (Some c) c CLASS_PREV (λ e. absurd (omega (arith, e))) ∙ link_far b3 c PEER (link_in f m LEADERS) c CLASS_PREV (λ e. absurd (omega (arith, e))) ∙ link_far b2 c CLASS_LAST (Some c) c CLASS_PREV (λ e. absurd (omega (arith, e)))
-        ∙ link_at b1 c CLASS_PREV None len1 (omega arith)
+    c_prev : link_in b6 c CLASS_PREV ≡ None
+    c_prev = to_b3 CLASS_PREV (λ e. absurd (omega (arith, e))) (λ e. absurd (omega (arith, e))) ∙ link_far b2 c CLASS_LAST (Some c) c CLASS_PREV (λ e. absurd (omega (arith, e))) ∙ link_at b1 c CLASS_PREV None len1 (omega arith)
 
-    c_last : link_in b5 c CLASS_LAST ≡ Some c
-    c_last = link_far b4 m LEADERS (Some c) c CLASS_LAST (λ e. absurd (omega (arith, e))) ∙ link_far b3 c PEER (link_in f m LEADERS) c CLASS_LAST (λ e. absurd (omega (arith, e))) ∙ link_at b2 c CLASS_LAST (Some c) len2 (omega arith)
+    c_last : link_in b6 c CLASS_LAST ≡ Some c
+    c_last = to_b3 CLASS_LAST (λ e. absurd (omega (arith, e))) (λ e. absurd (omega (arith, e))) ∙ link_at b2 c CLASS_LAST (Some c) len2 (omega arith)
 
-    c_peer : link_in b5 c PEER ≡ link_in f m LEADERS
-    c_peer = link_far b4 m LEADERS (Some c) c PEER (λ e. absurd (omega (arith, e))) ∙ link_at b3 c PEER (link_in f m LEADERS) len3 (omega arith)
+    no_outer : In c (at f m xs t old no_m p).hole.outer → ⊥
+    no_outer i = fresh (old.inside c (outer_in f m xs t old no_m p c i))
 
-    not_leader : In c ls → ⊥
-    not_leader i = fresh (old.inside c i)
+    c_held : c ≢ hb
+    c_held e = elim (at f m xs t old no_m p).hole.holds [ inl s ↦ not_m (e ∙ s.0) | inr i ↦ no_outer (subst (λ z. In z (at f m xs t old no_m p).hole.outer) (sym e) i.0) ]
 
-    begun_reclasses : Reclasses f b5 m xs ls p xs' (c ∷ ls) (Some c)
-    begun_reclasses = record {
-      keys = touches_keys f b5 m (c ∷ xs) p begun_touches;
+    c_even : link_in b6 c EVEN ≡ None
+    c_even = link_by b5 hb kb (Some c) c EVEN c_held ∙ link_far b4 c ODD None c EVEN (λ e. absurd (omega (arith, e))) ∙ link_at b3 c EVEN None len3 (omega arith)
+
+    c_odd : link_in b6 c ODD ≡ None
+    c_odd = link_by b5 hb kb (Some c) c ODD c_held ∙ link_at b4 c ODD None len4 (omega arith)
+
+    h_there : IsSome (f hb)
+    h_there = holds_there f m xs hb kb (holds_atoms f m xs t old no_m p) there_m alive
+
+    begun_tree : IsTree b6 (link_in b6 m LEADERS) ((at f m xs t old no_m p).hole.fill (Fork c Bare Bare))
+    begun_tree = (at f m xs t old no_m p).hole.turned b6 (Fork c Bare Bare) there_b away old.tree (link_at b5 hb kb (Some c) (touches_b5.lengths hb ∙ have hb h_there) (link_small f m xs t old no_m p), there_b c there_c, c_even, c_odd)
+      where
+        away : (b j : ℕ) → Holds m LEADERS (at f m xs t old no_m p).hole.outer b j → (b ≡ hb → j ≡ kb → ⊥) → link_in b6 b j ≡ link_in f b j
+        away b j o n =
+            let d : b ≢ c = (λ e. elim o [ inl s ↦ not_m (sym e ∙ s.0) | inr i ↦ no_outer (subst (λ z. In z (at f m xs t old no_m p).hole.outer) e i.0) ]) in
+            link_other b5 hb kb (Some c) b j (λ s e. n e s) ∙ link_by b4 c ODD None b j d ∙ link_by b3 c EVEN None b j d ∙ link_by b2 c CLASS_LAST (Some c) b j d ∙ link_by b1 c CLASS_PREV None b j d ∙ link_by f c CLASS_NEXT None b j d
+
+    none_there : (z : ℕ) → In z (leaders (place_in f p m t).tree) → ⊥
+    none_there z i = subst (λ u. In z (leaders u)) (bare_of (place_in f p m t).tree none) i
+
+    no_other : (z : ℕ) → is_key (key_in f z) p ≡ false → In z (c ∷ []) → ⊥
+    no_other z e i = elim i [ inl s ↦ (let w : true ≡ false = sym (key_same p) ∙ ap (λ u. is_key (key_in f u) p) s ∙ e in absurd cc) | inr j ↦ j ]
+
+    -- the classes then
+    pub begun_classed : AreClassed b6 m xs' ((at f m xs t old no_m p).hole.fill (Fork c Bare Bare))
+    begun_classed = reclassed f b6 m xs t old p xs' ((at f m xs t old no_m p).hole.fill (Fork c Bare Bare)) (Some c) record {
+      keys = touches_keys f b6 m (c ∷ xs) p begun_touches;
       lists = lists;
       nodes = λ z _ e. begun_touches.nodes z e;
       lasts = λ l _ e. begun_touches.lasts l e;
-      peers = (
-        link_at b4 m LEADERS (Some c) len4 (omega arith),
-        touches_there f b5 m (c ∷ xs) p begun_touches c there_c,
-        subst (λ o. ArePeers b5 o ls) (sym c_peer) (peers_frame f b5 (link_in f m LEADERS) ls (λ l i. link_far b4 m LEADERS (Some c) l PEER (λ e. absurd (omega (arith, e)))
-            ∙ link_by b3 c PEER (link_in f m LEADERS) l PEER (λ s. not_leader (subst (λ u. In u ls) s i)) ∙ link_far b2 c CLASS_LAST (Some c) l PEER (λ e. absurd (omega (arith, e))) ∙ link_far b1 c CLASS_PREV None l PEER (λ e. absurd (omega (arith, e)))
-            ∙ link_far f c CLASS_NEXT None l PEER (λ e. absurd (omega (arith, e)))) (touches_there f b5 m (c ∷ xs) p begun_touches) old.peers),
-      );
-      once = (each_of _ ls (λ l i s. not_leader (subst (λ u. In u ls) (sym s) i)), old.once);
-      stay = λ l i _. inr i;
-      were = λ l i e. elim i [ inl s ↦ absurd (let w : true ≡ false = sym (key_same p) ∙ ap (λ u. is_key (key_in f u) p) s ∙ e in cc) | inr j ↦ j ];
-      heads = λ l i e. elim i [ inl s ↦ ap Some s | inr j ↦ absurd (let w : true ≡ false = sym e ∙ leader_none f p None ls none l j in cc) ];
-      headed = λ l e. (let s : c ≡ l = cc in (inl s, ap (λ u. is_key (key_in f u) p) (sym s) ∙ key_same p));
-      run = λ l e. (let s : c ≡ l = cc in subst (λ us. RunsThrough (class_node b5) None (Some l) us (link_in b5 l CLASS_LAST) None) (sym alone) (ap Some (sym s), c_prev, (c_next, ap (λ u. link_in b5 u CLASS_LAST) (sym s) ∙ c_last)));
+      tree = begun_tree;
+      sorted = fill_sorted f m xs t old no_m p (Fork c Bare Bare) (λ z _ i. absurd (none_there z i)) (λ z e i. absurd (no_other z e i)) (λ k i. absurd i, λ k i. absurd i, tt, tt);
+      stay = fill_stay f m xs t old no_m p (Fork c Bare Bare) (λ z _ i. absurd (none_there z i)) (λ z e i. absurd (no_other z e i));
+      were = fill_were f m xs t old no_m p (Fork c Bare Bare) (λ z _ i. absurd (none_there z i)) (λ z e i. absurd (no_other z e i));
+      heads = fill_heads f m xs t old no_m p (Fork c Bare Bare) (Some c) (λ z e i. elim i [ inl s ↦ ap Some s | inr j ↦ absurd j ]);
+      headed = λ l e. (let s : c ≡ l = cc in ((at f m xs t old no_m p).hole.ins (Fork c Bare Bare) l (inl s), ap (λ u. is_key (key_in f u) p) (sym s) ∙ key_same p));
+      run = λ l e. (let s : c ≡ l = cc in subst (λ us. RunsThrough (class_node b6) None (Some l) us (link_in b6 l CLASS_LAST) None) (sym alone) (ap Some (sym s), c_prev, (c_next, ap (λ u. link_in b6 u CLASS_LAST) (sym s) ∙ c_last)));
       none = λ e. absurd cc;
     }
-
-    -- the classes then
-    pub begun_classed : AreClassed b5 m xs' (c ∷ ls)
-    begun_classed = reclassed f b5 m xs ls old p xs' (c ∷ ls) (Some c) begun_reclasses
 
   -- A class gets longer
 
@@ -167,9 +197,6 @@ module _ (f : ℕ → Option HeldCell) (m c : ℕ) (xs ls : List ℕ) (have : Ha
 
     not_q : c ≢ q
     not_q e = fresh (subst (λ u. In u xs) (sym e) (zs_in q q_in).0)
-
-    not_l : c ≢ l
-    not_l e = fresh (subst (λ u. In u xs) (sym e) (old.inside l in_l))
 
     -- what is left as it was
     pub longer_touches : Touches f l4 m (c ∷ xs) p
@@ -200,15 +227,15 @@ module _ (f : ℕ → Option HeldCell) (m c : ℕ) (xs ls : List ℕ) (have : Ha
     }
 
     -- the classes then
-    pub longer_classed : AreClassed l4 m xs' ls
-    longer_classed = reclassed f l4 m xs ls old p xs' ls (Some l) record {
+    pub longer_classed : AreClassed l4 m xs' t
+    longer_classed = reclassed f l4 m xs t old p xs' t (Some l) record {
       keys = touches_keys f l4 m (c ∷ xs) p longer_touches;
       lists = lists;
       nodes = λ z _ e. longer_touches.nodes z e;
       lasts = λ k _ e. longer_touches.lasts k e;
-      peers = subst (λ o. ArePeers l4 o ls) (sym (same m LEADERS (λ e. absurd (omega (arith, e))) (λ e. absurd (omega (arith, e))) (λ e. absurd (omega (arith, e)))))
-          (peers_frame f l4 (link_in f m LEADERS) ls (λ k i. same k PEER (λ e. absurd (omega (arith, e))) (λ e. absurd (omega (arith, e))) (λ e. absurd (omega (arith, e)))) (touches_there f l4 m (c ∷ xs) p longer_touches) old.peers);
-      once = old.once;
+      tree = subst (λ o. IsTree l4 o t) (sym (same m LEADERS (λ e. absurd (omega (arith, e))) (λ e. absurd (omega (arith, e))) (λ e. absurd (omega (arith, e)))))
+          (tree_frame f l4 (link_in f m LEADERS) t (λ k i. (same k EVEN (λ e. absurd (omega (arith, e))) (λ e. absurd (omega (arith, e))) (λ e. absurd (omega (arith, e))), same k ODD (λ e. absurd (omega (arith, e))) (λ e. absurd (omega (arith, e))) (λ e. absurd (omega (arith, e))))) (touches_there f l4 m (c ∷ xs) p longer_touches) old.tree);
+      sorted = old.sorted;
       stay = λ k i _. i;
       were = λ k i _. i;
       heads = λ k i e. ap Some (lead_one l k in_l i key_l e);
@@ -289,15 +316,15 @@ module _ (f : ℕ → Option HeldCell) (m c : ℕ) (xs ls : List ℕ) (have : Ha
     }
 
     -- the classes then
-    pub inside_classed : AreClassed i4 m xs' ls
-    inside_classed = reclassed f i4 m xs ls old p xs' ls (Some l) record {
+    pub inside_classed : AreClassed i4 m xs' t
+    inside_classed = reclassed f i4 m xs t old p xs' t (Some l) record {
       keys = touches_keys f i4 m (c ∷ xs) p inside_touches;
       lists = lists;
       nodes = λ z _ e. inside_touches.nodes z e;
       lasts = λ k _ e. inside_touches.lasts k e;
-      peers = subst (λ o. ArePeers i4 o ls) (sym (same m LEADERS (λ e. absurd (omega (arith, e))) (λ e. absurd (omega (arith, e)))))
-          (peers_frame f i4 (link_in f m LEADERS) ls (λ k i. same k PEER (λ e. absurd (omega (arith, e))) (λ e. absurd (omega (arith, e)))) (touches_there f i4 m (c ∷ xs) p inside_touches) old.peers);
-      once = old.once;
+      tree = subst (λ o. IsTree i4 o t) (sym (same m LEADERS (λ e. absurd (omega (arith, e))) (λ e. absurd (omega (arith, e)))))
+          (tree_frame f i4 (link_in f m LEADERS) t (λ k i. (same k EVEN (λ e. absurd (omega (arith, e))) (λ e. absurd (omega (arith, e))), same k ODD (λ e. absurd (omega (arith, e))) (λ e. absurd (omega (arith, e))))) (touches_there f i4 m (c ∷ xs) p inside_touches) old.tree);
+      sorted = old.sorted;
       stay = λ k i _. i;
       were = λ k i _. i;
       heads = λ k i e. ap Some (lead_one l k in_l i key_l e);
@@ -358,15 +385,15 @@ module _ (f : ℕ → Option HeldCell) (m c : ℕ) (xs ls : List ℕ) (have : Ha
     }
 
     -- the classes then
-    pub closed_classed : AreClassed e2 m xs' ls
-    closed_classed = reclassed f e2 m xs ls old p xs' ls (Some l) record {
+    pub closed_classed : AreClassed e2 m xs' t
+    closed_classed = reclassed f e2 m xs t old p xs' t (Some l) record {
       keys = touches_keys f e2 m xs p closed_touches;
       lists = lists;
       nodes = λ z _ e. closed_touches.nodes z e;
       lasts = λ k _ e. closed_touches.lasts k e;
-      peers = subst (λ o. ArePeers e2 o ls) (sym (same m LEADERS (λ e. absurd (omega (arith, e))) (λ e. absurd (omega (arith, e)))))
-          (peers_frame f e2 (link_in f m LEADERS) ls (λ k i. same k PEER (λ e. absurd (omega (arith, e))) (λ e. absurd (omega (arith, e)))) (touches_there f e2 m xs p closed_touches) old.peers);
-      once = old.once;
+      tree = subst (λ o. IsTree e2 o t) (sym (same m LEADERS (λ e. absurd (omega (arith, e))) (λ e. absurd (omega (arith, e)))))
+          (tree_frame f e2 (link_in f m LEADERS) t (λ k i. (same k EVEN (λ e. absurd (omega (arith, e))) (λ e. absurd (omega (arith, e))), same k ODD (λ e. absurd (omega (arith, e))) (λ e. absurd (omega (arith, e))))) (touches_there f e2 m xs p closed_touches) old.tree);
+      sorted = old.sorted;
       stay = λ k i _. i;
       were = λ k i _. i;
       heads = λ k i e. ap Some (lead_one l k in_l i key_l e);
@@ -419,15 +446,15 @@ module _ (f : ℕ → Option HeldCell) (m c : ℕ) (xs ls : List ℕ) (have : Ha
     }
 
     -- the classes then
-    pub shortened_classed : AreClassed s2 m xs' ls
-    shortened_classed = reclassed f s2 m xs ls old p xs' ls (Some l) record {
+    pub shortened_classed : AreClassed s2 m xs' t
+    shortened_classed = reclassed f s2 m xs t old p xs' t (Some l) record {
       keys = touches_keys f s2 m xs p shortened_touches;
       lists = lists;
       nodes = λ z _ e. shortened_touches.nodes z e;
       lasts = λ k _ e. shortened_touches.lasts k e;
-      peers = subst (λ o. ArePeers s2 o ls) (sym (same m LEADERS (λ e. absurd (omega (arith, e))) (λ e. absurd (omega (arith, e)))))
-          (peers_frame f s2 (link_in f m LEADERS) ls (λ k i. same k PEER (λ e. absurd (omega (arith, e))) (λ e. absurd (omega (arith, e)))) (touches_there f s2 m xs p shortened_touches) old.peers);
-      once = old.once;
+      tree = subst (λ o. IsTree s2 o t) (sym (same m LEADERS (λ e. absurd (omega (arith, e))) (λ e. absurd (omega (arith, e)))))
+          (tree_frame f s2 (link_in f m LEADERS) t (λ k i. (same k EVEN (λ e. absurd (omega (arith, e))) (λ e. absurd (omega (arith, e))), same k ODD (λ e. absurd (omega (arith, e))) (λ e. absurd (omega (arith, e))))) (touches_there f s2 m xs p shortened_touches) old.tree);
+      sorted = old.sorted;
       stay = λ k i _. i;
       were = λ k i _. i;
       heads = λ k i e. ap Some (lead_one l k in_l i key_l e);
@@ -447,48 +474,82 @@ module _ (f : ℕ → Option HeldCell) (m c : ℕ) (xs ls : List ℕ) (have : Ha
         nothing [] = refl
         nothing (w ∷ ws) = ap (λ us. w ∷ us) (nothing ws)
 
-  -- The leader changes
+  -- The first of a class changes
 
-  module _ (x : ℕ) (lead : (class_place f p None ls).leader ≡ Some x) where
-    abbrev pub bef : Option ℕ
-    bef = (class_place f p None ls).before
-
-    abbrev pub at_x : Stands f p ls bef x
-    at_x = stands f p ls x lead
+  module _ (x : ℕ) (pa pb : ClassTree) (is_x : (place_in f p m t).tree ≡ Fork x pa pb) where
+    lead : top (place_in f p m t).tree ≡ Some x
+    lead = ap top is_x
 
     x_ls : In x ls × (is_key (key_in f x) p ≡ true)
-    x_ls = leader_in f p None ls x lead
+    x_ls = leader_in f m xs t old no_m p x lead
 
-    once_x : Distinct (at_x.us ++ (x ∷ at_x.vs))
-    once_x = subst Distinct at_x.is old.once
+    -- what hangs where it stands
+    part_x : IsTree f (link_in f (place_in f p m t).holder (place_in f p m t).link) (Fork x pa pb)
+    part_x = subst (λ u. IsTree f (link_in f (place_in f p m t).holder (place_in f p m t).link) u) is_x ((at f m xs t old no_m p).hole.part old.tree)
 
-    to_ls : (z : ℕ) → In z (at_x.us ++ (x ∷ at_x.vs)) → In z ls
-    to_ls z i = subst (λ us. In z us) (sym at_x.is) i
+    sorted_x : IsSorted f (place_in f p m t).depth (Fork x pa pb)
+    sorted_x = subst (λ u. IsSorted f (place_in f p m t).depth u) is_x (at f m xs t old no_m p).hole.sorted
 
-    bef_us : (b : ℕ) → bef ≡ Some b → In b at_x.us
-    bef_us b e = last_or_in at_x.us b (sym at_x.last ∙ e)
+    -- and below it
+    in_x : (z : ℕ) → In z (x ∷ (leaders pa ++ leaders pb)) → In z (leaders (place_in f p m t).tree)
+    in_x z i = subst (λ u. In z (leaders u)) (sym is_x) i
 
-    bef_xs : (b : ℕ) → bef ≡ Some b → In b xs
-    bef_xs b e = old.inside b (to_ls b (in_left b at_x.us (x ∷ at_x.vs) (bef_us b e)))
+    of_x : (z : ℕ) → In z (leaders (place_in f p m t).tree) → In z (x ∷ (leaders pa ++ leaders pb))
+    of_x z i = subst (λ u. In z (leaders u)) is_x i
 
-    -- the one before isn't behind
-    bef_not : (b : ℕ) → In b at_x.vs → bef ≢ Some b
-    bef_not b i e = apart at_x.us (x ∷ at_x.vs) b b once_x (bef_us b e) (inr i) refl
+    -- has other classes
+    below_x : (z : ℕ) → In z (leaders pa ++ leaders pb) → is_key (key_in f z) p ≡ false
+    below_x z i = ap (is_key (key_in f z)) (sym (key_true (key_in f x) p x_ls.1)) ∙ below_differs f x (place_in f p m t).depth pa pb sorted_x z i
 
-    rest_peers : ArePeers f (link_in f x PEER) at_x.vs
-    rest_peers = (peers_split f (link_in f m LEADERS) at_x.us x at_x.vs (subst (λ us. ArePeers f (link_in f m LEADERS) us) at_x.is old.peers)).2
+    there_x : IsSome (f (place_in f p m t).holder)
+    there_x = holds_there f m xs (place_in f p m t).holder (place_in f p m t).link (holds_atoms f m xs t old no_m p) there_m alive
 
     -- a leader of another class is another leader
     other_lead : (z : ℕ) → is_key (key_in f z) p ≡ false → x ≡ z → ⊥
-    other_lead z e s = let w : true ≡ false = sym x_ls.1 ∙ ap (λ u. is_key (key_in f u) p) s ∙ e in cc
+    other_lead z e s = let w : true ≡ false = sym x_ls.1 ∙ ap (λ u. is_key (key_in f u) p) s ∙ e in absurd cc
 
     -- one of the same class is this one
     same_lead : (z : ℕ) → In z ls → is_key (key_in f z) p ≡ true → x ≡ z
     same_lead z i e = lead_one x z x_ls.0 i x_ls.1 e
 
+    -- Another one of the class leads
+
+    module _ (n : ℕ) (key_n : is_key (key_in f n) p ≡ true) (new : In n ls → ⊥) (n_there : IsSome (f n)) (n_not : n ≢ m) (g : ℕ → Option HeldCell) (there_g : (z : ℕ) → IsSome (f z) → IsSome (g z)) (long_g : (z : ℕ) → IsSome (f z) → length (links_of (g z)) ≡ 8)
+        (agree : (b j : ℕ) → (j ≡ EVEN) ⊎ (j ≡ ODD) → link_in g b j ≡ link_in f b j) where
+      abbrev then_x : ClassTree
+      then_x = (at f m xs t old no_m p).hole.fill (Fork n pa pb)
+
+      sub_n : (z : ℕ) → is_key (key_in f z) p ≡ false → In z (leaders (place_in f p m t).tree) → In z (n ∷ (leaders pa ++ leaders pb))
+      sub_n z e i = elim (of_x z i) [ inl s ↦ absurd (other_lead z e s) | inr j ↦ inr j ]
+
+      sup_n : (z : ℕ) → is_key (key_in f z) p ≡ false → In z (n ∷ (leaders pa ++ leaders pb)) → In z (leaders (place_in f p m t).tree)
+      sup_n z e i = elim i [ inl s ↦ (let w : true ≡ false = sym key_n ∙ ap (λ u. is_key (key_in f u) p) s ∙ e in absurd cc) | inr j ↦ in_x z (inr j) ]
+
+      pub lead_tree : IsTree (taken_over g (place_in f p m t).holder (place_in f p m t).link x n) (link_in (taken_over g (place_in f p m t).holder (place_in f p m t).link x n) m LEADERS) then_x
+      lead_tree = taken_tree f m xs t old no_m p g x n pa pb there_g long_g
+          (λ b j o. agree b j (elim o [ inl s ↦ inr s.1 | inr i ↦ i.1 ]))
+          (subst (λ o. IsTree g o pa) (sym (agree x EVEN (inl refl))) (tree_frame f g (link_in f x EVEN) pa (λ z i. (agree z EVEN (inl refl), agree z ODD (inr refl))) there_g part_x.2))
+          (subst (λ o. IsTree g o pb) (sym (agree x ODD (inr refl))) (tree_frame f g (link_in f x ODD) pb (λ z i. (agree z EVEN (inl refl), agree z ODD (inr refl))) there_g part_x.3))
+          (λ z i. in_x z (inr i)) n_there n_not (λ i. new (outer_in f m xs t old no_m p n i)) (λ i. new (tree_in f m xs t old no_m p n (in_x n (inr i)))) there_x
+
+      pub lead_sorted : IsSorted f 0 then_x
+      lead_sorted = fill_sorted f m xs t old no_m p (Fork n pa pb) sub_n sup_n (sorted_top f (place_in f p m t).depth x n pa pb (key_true (key_in f x) p x_ls.1 ∙ sym (key_true (key_in f n) p key_n)) sorted_x)
+
+      pub lead_stay : (l : ℕ) → In l ls → is_key (key_in f l) p ≡ false → In l (leaders then_x)
+      lead_stay = fill_stay f m xs t old no_m p (Fork n pa pb) sub_n sup_n
+
+      pub lead_were : (l : ℕ) → In l (leaders then_x) → is_key (key_in f l) p ≡ false → In l ls
+      lead_were = fill_were f m xs t old no_m p (Fork n pa pb) sub_n sup_n
+
+      pub lead_heads : (l : ℕ) → In l (leaders then_x) → is_key (key_in f l) p ≡ true → Some n ≡ Some l
+      lead_heads = fill_heads f m xs t old no_m p (Fork n pa pb) (Some n) (λ z e i. elim i [ inl s ↦ ap Some s | inr j ↦ absurd (let w : true ≡ false = sym e ∙ below_x z j in cc) ])
+
+      pub lead_headed : (l : ℕ) → Some n ≡ Some l → In l (leaders then_x) × (is_key (key_in f l) p ≡ true)
+      lead_headed l e = let s : n ≡ l = cc in ((at f m xs t old no_m p).hole.ins (Fork n pa pb) l (inl s), ap (λ u. is_key (key_in f u) p) (sym s) ∙ key_n)
+
   -- An atom comes before the first of its class
 
-  module _ (xs' vs : List ℕ) (d : ℕ) (lists : (r : ℕ × ℕ) → is_key r p ≡ false → of_class f r xs' ≡ of_class f r xs) (cut : zs ≡ d ∷ vs) (inside : of_class f p xs' ≡ c ∷ d ∷ vs) (fresh : In c xs → ⊥) (lead : (class_place f p None ls).leader ≡ Some d) where
+  module _ (xs' vs : List ℕ) (d : ℕ) (lists : (r : ℕ × ℕ) → is_key r p ≡ false → of_class f r xs' ≡ of_class f r xs) (cut : zs ≡ d ∷ vs) (inside : of_class f p xs' ≡ c ∷ d ∷ vs) (fresh : In c xs → ⊥) (pa pb : ClassTree) (is_x : (place_in f p m t).tree ≡ Fork d pa pb) where
     abbrev h1 : ℕ → Option HeldCell
     h1 = link_written f c CLASS_NEXT (Some d)
 
@@ -501,17 +562,11 @@ module _ (f : ℕ → Option HeldCell) (m c : ℕ) (xs ls : List ℕ) (have : Ha
     abbrev h4 : ℕ → Option HeldCell
     h4 = link_written h3 c CLASS_LAST (link_in f d CLASS_LAST)
 
-    abbrev h5 : ℕ → Option HeldCell
-    h5 = link_written h4 c PEER (link_in f d PEER)
-
     abbrev h6 : ℕ → Option HeldCell
-    h6 = put_first f m (bef d lead) d c
+    h6 = put_first f (place_in f p m t).holder (place_in f p m t).link d c
 
     d_ls : In d ls × (is_key (key_in f d) p ≡ true)
-    d_ls = x_ls d lead
-
-    abbrev pub s_d : Stands f p ls (bef d lead) d
-    s_d = at_x d lead
+    d_ls = x_ls d pa pb is_x
 
     not_d : c ≢ d
     not_d e = fresh (subst (λ u. In u xs) (sym e) (old.inside d d_ls.0))
@@ -525,24 +580,21 @@ module _ (f : ℕ → Option HeldCell) (m c : ℕ) (xs ls : List ℕ) (have : Ha
     once_d : Distinct (d ∷ vs)
     once_d = subst Distinct cut zs_once
 
-    touches_5 : Touches f h5 m (c ∷ xs) p
-    touches_5 = touches_peer f h4 m (c ∷ xs) p (touches_own f h3 m (c ∷ xs) p (touches_own f h2 m (c ∷ xs) p (touches_own f h1 m (c ∷ xs) p (touches_own f f m (c ∷ xs) p (touches_none f m (c ∷ xs) p)
+    touches_4 : Touches f h4 m (c ∷ xs) p
+    touches_4 = touches_own f h3 m (c ∷ xs) p (touches_own f h2 m (c ∷ xs) p (touches_own f h1 m (c ∷ xs) p (touches_own f f m (c ∷ xs) p (touches_none f m (c ∷ xs) p)
         c CLASS_NEXT (Some d) (inl refl) (key_same p) (omega arith)) c CLASS_PREV None (inl refl) (key_same p) (omega arith)) d CLASS_PREV (Some c) (inr (old.inside d d_ls.0)) d_ls.1 (omega arith))
-        c CLASS_LAST (link_in f d CLASS_LAST) (inl refl) (key_same p) (omega arith)) c (link_in f d PEER) (inl refl)
+        c CLASS_LAST (link_in f d CLASS_LAST) (inl refl) (key_same p) (omega arith)
 
     -- what is left as it was
     pub first_touches : Touches f h6 m (c ∷ xs) p
-    first_touches = touches_led f h5 m (c ∷ xs) p touches_5 (bef d lead) (Some c) (λ b e. inr (bef_xs d lead b e))
+    first_touches = touches_taken f h4 m (c ∷ xs) p touches_4 (place_in f p m t).holder (place_in f p m t).link d c (inl refl) (holds_more m xs (c ∷ xs) (place_in f p m t).holder (place_in f p m t).link (λ z i. inr i) (holds_atoms f m xs t old no_m p))
 
     long_3 : (z : ℕ) → IsSome (f z) → length (links_of (h3 z)) ≡ 8
-    long_3 z t = length_kept h2 d CLASS_PREV (Some c) z ∙ length_kept h1 c CLASS_PREV None z ∙ length_kept f c CLASS_NEXT (Some d) z ∙ have z t
-
-    long_5 : (z : ℕ) → IsSome (f z) → length (links_of (h5 z)) ≡ 8
-    long_5 z t = touches_5.lengths z ∙ have z t
+    long_3 z s = length_kept h2 d CLASS_PREV (Some c) z ∙ length_kept h1 c CLASS_PREV None z ∙ length_kept f c CLASS_NEXT (Some d) z ∙ have z s
 
     -- to the third step
-    down : (b j : ℕ) → j ≢ PEER → j ≢ LEADERS → j ≢ CLASS_LAST → link_in h6 b j ≡ link_in h3 b j
-    down b j x y z = led_other h5 m (bef d lead) (Some c) b j (λ e. absurd (x e)) y ∙ link_far h4 c PEER (link_in f d PEER) b j x ∙ link_far h3 c CLASS_LAST (link_in f d CLASS_LAST) b j z
+    down : (b j : ℕ) → j ≢ EVEN → j ≢ ODD → j ≢ CLASS_LAST → link_in h6 b j ≡ link_in h3 b j
+    down b j x y z = taken_place f m xs t old no_m p h4 d c b j x y ∙ link_far h3 c CLASS_LAST (link_in f d CLASS_LAST) b j z
 
     d_prev6 : (b : ℕ) → b ≢ c → b ≢ d → link_in h6 b CLASS_PREV ≡ link_in f b CLASS_PREV
     d_prev6 b n w = down b CLASS_PREV (λ e. absurd (omega (arith, e))) (λ e. absurd (omega (arith, e))) (λ e. absurd (omega (arith, e))) ∙ link_by h2 d CLASS_PREV (Some c) b CLASS_PREV w ∙ link_by h1 c CLASS_PREV None b CLASS_PREV n ∙ link_by f c CLASS_NEXT (Some d) b CLASS_PREV n
@@ -566,58 +618,30 @@ module _ (f : ℕ → Option HeldCell) (m c : ℕ) (xs ls : List ℕ) (have : Ha
     }
 
     c_last6 : link_in h6 c CLASS_LAST ≡ link_in f d CLASS_LAST
-    c_last6 = led_other h5 m (bef d lead) (Some c) c CLASS_LAST (λ e. absurd (omega (arith, e))) (λ e. absurd (omega (arith, e))) ∙ link_far h4 c PEER (link_in f d PEER) c CLASS_LAST (λ e. absurd (omega (arith, e))) ∙ link_at h3 c CLASS_LAST (link_in f d CLASS_LAST) (long_3 c there_c) (omega arith)
+    c_last6 = taken_place f m xs t old no_m p h4 d c c CLASS_LAST (λ e. absurd (omega (arith, e))) (λ e. absurd (omega (arith, e))) ∙ link_at h3 c CLASS_LAST (link_in f d CLASS_LAST) (long_3 c there_c) (omega arith)
 
-    peer6 : (b : ℕ) → b ≢ c → bef d lead ≢ Some b → link_in h6 b PEER ≡ link_in f b PEER
-    peer6 b n w = led_other h5 m (bef d lead) (Some c) b PEER (λ _ e. w e) (λ e. absurd (omega (arith, e))) ∙ link_by h4 c PEER (link_in f d PEER) b PEER n ∙ link_far h3 c CLASS_LAST (link_in f d CLASS_LAST) b PEER (λ e. absurd (omega (arith, e)))
-        ∙ link_far h2 d CLASS_PREV (Some c) b PEER (λ e. absurd (omega (arith, e))) ∙ link_far h1 c CLASS_PREV None b PEER (λ e. absurd (omega (arith, e))) ∙ link_far f c CLASS_NEXT (Some d) b PEER (λ e. absurd (omega (arith, e)))
+    there4 : (b : ℕ) → IsSome (f b) → IsSome (h4 b)
+    there4 b s = touches_there f h4 m (c ∷ xs) p touches_4 b s
 
-    bef_not_c : bef d lead ≢ Some c
-    bef_not_c e = no_c (to_ls d lead c (in_left c s_d.us (d ∷ s_d.vs) (bef_us d lead c e)))
+    long_4 : (z : ℕ) → IsSome (f z) → length (links_of (h4 z)) ≡ 8
+    long_4 z s = touches_4.lengths z ∙ have z s
 
-    c_peer6 : link_in h6 c PEER ≡ link_in f d PEER
-    c_peer6 = led_other h5 m (bef d lead) (Some c) c PEER (λ _ e. bef_not_c e) (λ e. absurd (omega (arith, e))) ∙ link_at h4 c PEER (link_in f d PEER) (length_kept h3 c CLASS_LAST (link_in f d CLASS_LAST) c ∙ long_3 c there_c) (omega arith)
-
-    head6 : link_in h5 m LEADERS ≡ link_in f m LEADERS
-    head6 = link_far h4 c PEER (link_in f d PEER) m LEADERS (λ e. absurd (omega (arith, e))) ∙ link_far h3 c CLASS_LAST (link_in f d CLASS_LAST) m LEADERS (λ e. absurd (omega (arith, e))) ∙ link_far h2 d CLASS_PREV (Some c) m LEADERS (λ e. absurd (omega (arith, e)))
-        ∙ link_far h1 c CLASS_PREV None m LEADERS (λ e. absurd (omega (arith, e))) ∙ link_far f c CLASS_NEXT (Some d) m LEADERS (λ e. absurd (omega (arith, e)))
-
-    no_vs : (l : ℕ) → In l s_d.vs → l ≢ c
-    no_vs l i s = no_c (to_ls d lead c (in_right c s_d.us (d ∷ s_d.vs) (inr (subst (λ u. In u s_d.vs) s i))))
-
-    no_us : (l : ℕ) → In l s_d.us → l ≢ c
-    no_us l i s = no_c (to_ls d lead c (in_left c s_d.us (d ∷ s_d.vs) (subst (λ u. In u s_d.us) s i)))
-
-    there6 : (b : ℕ) → IsSome (f b) → IsSome (h6 b)
-    there6 b t = touches_there f h6 m (c ∷ xs) p first_touches b t
+    agree4 : (b j : ℕ) → (j ≡ EVEN) ⊎ (j ≡ ODD) → link_in h4 b j ≡ link_in f b j
+    agree4 b j o = link_far h3 c CLASS_LAST (link_in f d CLASS_LAST) b j (λ e. not_side j o (inr (inr e))) ∙ link_far h2 d CLASS_PREV (Some c) b j (λ e. not_side j o (inr (inl e))) ∙ link_far h1 c CLASS_PREV None b j (λ e. not_side j o (inr (inl e))) ∙ link_far f c CLASS_NEXT (Some d) b j (λ e. not_side j o (inl e))
 
     -- the classes then
-    pub first_classed : AreClassed h6 m xs' (s_d.us ++ (c ∷ s_d.vs))
-    first_classed = reclassed f h6 m xs ls old p xs' (s_d.us ++ (c ∷ s_d.vs)) (Some c) record {
+    pub first_classed : AreClassed h6 m xs' ((at f m xs t old no_m p).hole.fill (Fork c pa pb))
+    first_classed = reclassed f h6 m xs t old p xs' ((at f m xs t old no_m p).hole.fill (Fork c pa pb)) (Some c) record {
       keys = touches_keys f h6 m (c ∷ xs) p first_touches;
       lists = lists;
       nodes = λ z _ e. first_touches.nodes z e;
       lasts = λ k _ e. first_touches.lasts k e;
-      peers = chain_turned f h6 m p ls (bef d lead) d (Some c) (c ∷ s_d.vs) s_d old.peers old.once there6 (λ l i n. peer6 l (no_us l i) n) (λ l e. led_at h5 m (bef d lead) (Some c) l e (long_5 l (alive l (bef_xs d lead l e)))) (λ e. led_none h5 m (bef d lead) (Some c) e (long_5 m there_m))
-          (λ l e. led_away h5 m (bef d lead) (Some c) l e ∙ head6)
-          (refl, there6 c there_c, subst (λ o. ArePeers h6 o s_d.vs) (sym c_peer6) (peers_frame f h6 (link_in f d PEER) s_d.vs (λ l i. peer6 l (no_vs l i) (bef_not d lead l i)) there6 (rest_peers d lead)));
-      once = distinct_swap s_d.us d c s_d.vs (once_x d lead) (λ i. no_c (to_ls d lead c i));
-      stay = λ l i e. elim (in_mid l s_d.us d s_d.vs (subst (λ us. In l us) s_d.is i)) [
-        | inl j ↦ in_left l s_d.us (c ∷ s_d.vs) j
-        | inr k ↦ elim k [ inl s ↦ absurd (other_lead d lead l e s) | inr j ↦ in_right l s_d.us (c ∷ s_d.vs) (inr j) ]
-      ];
-      were = λ l i e. elim (in_mid l s_d.us c s_d.vs i) [
-        | inl j ↦ to_ls d lead l (in_left l s_d.us (d ∷ s_d.vs) j)
-        | inr k ↦ elim k [ inl s ↦ absurd (let w : true ≡ false = sym (key_same p) ∙ ap (λ u. is_key (key_in f u) p) s ∙ e in cc) | inr j ↦ to_ls d lead l (in_right l s_d.us (d ∷ s_d.vs) (inr j)) ]
-      ];
-      heads = λ l i e. elim (in_mid l s_d.us c s_d.vs i) [
-        | inl j ↦ absurd (apart s_d.us (d ∷ s_d.vs) l d (once_x d lead) j (inl refl) (sym (same_lead d lead l (to_ls d lead l (in_left l s_d.us (d ∷ s_d.vs) j)) e)))
-        | inr k ↦ elim k [
-          | inl s ↦ ap Some s
-          | inr j ↦ absurd (each_in (λ u. d ≢ u) s_d.vs l (distinct_right s_d.us (d ∷ s_d.vs) (once_x d lead)).0 j (same_lead d lead l (to_ls d lead l (in_right l s_d.us (d ∷ s_d.vs) (inr j))) e))
-        ]
-      ];
-      headed = λ l e. (let s : c ≡ l = cc in (subst (λ u. In u (s_d.us ++ (c ∷ s_d.vs))) s (in_right c s_d.us (c ∷ s_d.vs) (inl refl)), ap (λ u. is_key (key_in f u) p) (sym s) ∙ key_same p));
+      tree = lead_tree d pa pb is_x c (key_same p) no_c there_c not_m h4 there4 long_4 agree4;
+      sorted = lead_sorted d pa pb is_x c (key_same p) no_c there_c not_m h4 there4 long_4 agree4;
+      stay = lead_stay d pa pb is_x c (key_same p) no_c there_c not_m h4 there4 long_4 agree4;
+      were = lead_were d pa pb is_x c (key_same p) no_c there_c not_m h4 there4 long_4 agree4;
+      heads = lead_heads d pa pb is_x c (key_same p) no_c there_c not_m h4 there4 long_4 agree4;
+      headed = lead_headed d pa pb is_x c (key_same p) no_c there_c not_m h4 there4 long_4 agree4;
       run = λ l e. (let s : c ≡ l = cc in subst (λ ws. RunsThrough (class_node h6) None (Some l) ws (link_in h6 l CLASS_LAST) None) (sym inside) (subst (λ u. RunsThrough (class_node h6) None (Some u) (c ∷ d ∷ vs) (link_in h6 u CLASS_LAST) None) s
           (subst (λ o. RunsThrough (class_node h6) None (Some c) (c ∷ d ∷ vs) o None) (sym c_last6)
           (subst (λ o. RunsThrough (class_node h6) None (begins (Some d) o (Some c)) (c ∷ d ∷ vs) (link_in f d CLASS_LAST) None) run_d.1
@@ -627,53 +651,49 @@ module _ (f : ℕ → Option HeldCell) (m c : ℕ) (xs ls : List ℕ) (have : Ha
 
   -- The first of a class leaves, and the next one leads
 
-  module _ (xs' vs : List ℕ) (nx : ℕ) (lists : (r : ℕ × ℕ) → is_key r p ≡ false → of_class f r xs' ≡ of_class f r xs) (cut : zs ≡ c ∷ nx ∷ vs) (inside : of_class f p xs' ≡ nx ∷ vs) (lead : (class_place f p None ls).leader ≡ Some c) where
+  module _ (xs' vs : List ℕ) (nx : ℕ) (lists : (r : ℕ × ℕ) → is_key r p ≡ false → of_class f r xs' ≡ of_class f r xs) (cut : zs ≡ c ∷ nx ∷ vs) (inside : of_class f p xs' ≡ nx ∷ vs) (pa pb : ClassTree) (is_x : (place_in f p m t).tree ≡ Fork c pa pb) where
     abbrev g1 : ℕ → Option HeldCell
     g1 = link_written f nx CLASS_PREV None
 
     abbrev g2 : ℕ → Option HeldCell
     g2 = link_written g1 nx CLASS_LAST (link_in f c CLASS_LAST)
 
-    abbrev g3 : ℕ → Option HeldCell
-    g3 = link_written g2 nx PEER (link_in f c PEER)
-
     abbrev g4 : ℕ → Option HeldCell
-    g4 = passed f m (bef c lead) c nx
-
-    abbrev pub s_c : Stands f p ls (bef c lead) c
-    s_c = at_x c lead
+    g4 = passed f (place_in f p m t).holder (place_in f p m t).link c nx
 
     nx_zs : In nx zs
     nx_zs = subst (λ ws. In nx ws) (sym cut) (inr (inl refl))
+
+    key_nx : is_key (key_in f nx) p ≡ true
+    key_nx = (zs_in nx nx_zs).1
 
     once_g : Distinct (c ∷ nx ∷ vs)
     once_g = subst Distinct cut zs_once
 
     run_g : RunsThrough (class_node f) None (Some c) (c ∷ nx ∷ vs) (link_in f c CLASS_LAST) None
-    run_g = subst (λ ws. RunsThrough (class_node f) None (Some c) ws (link_in f c CLASS_LAST) None) cut (lead_key c (x_ls c lead).0 (x_ls c lead).1)
+    run_g = subst (λ ws. RunsThrough (class_node f) None (Some c) ws (link_in f c CLASS_LAST) None) cut (lead_key c (x_ls c pa pb is_x).0 (x_ls c pa pb is_x).1)
 
     next_g : link_in f c CLASS_NEXT ≡ Some nx
     next_g = run_g.2.0
 
     no_nx : In nx ls → ⊥
-    no_nx i = each_in (λ u. c ≢ u) (nx ∷ vs) nx once_g.0 (inl refl) (same_lead c lead nx i (zs_in nx nx_zs).1)
+    no_nx i = each_in (λ u. c ≢ u) (nx ∷ vs) nx once_g.0 (inl refl) (same_lead c pa pb is_x nx i key_nx)
 
-    touches_3 : Touches f g3 m xs p
-    touches_3 = touches_peer f g2 m xs p (touches_own f g1 m xs p (touches_own f f m xs p (touches_none f m xs p) nx CLASS_PREV None (zs_in nx nx_zs).0 (zs_in nx nx_zs).1 (omega arith)) nx CLASS_LAST (link_in f c CLASS_LAST) (zs_in nx nx_zs).0 (zs_in nx nx_zs).1 (omega arith))
-        nx (link_in f c PEER) (zs_in nx nx_zs).0
+    nx_not_m : nx ≢ m
+    nx_not_m e = no_m (subst (λ u. In u xs) e (zs_in nx nx_zs).0)
+
+    touches_2 : Touches f g2 m xs p
+    touches_2 = touches_own f g1 m xs p (touches_own f f m xs p (touches_none f m xs p) nx CLASS_PREV None (zs_in nx nx_zs).0 key_nx (omega arith)) nx CLASS_LAST (link_in f c CLASS_LAST) (zs_in nx nx_zs).0 key_nx (omega arith)
 
     -- what is left as it was
     pub passed_touches : Touches f g4 m xs p
-    passed_touches = touches_led f g3 m xs p touches_3 (bef c lead) (Some nx) (λ b e. bef_xs c lead b e)
-
-    long_g : (z : ℕ) → IsSome (f z) → length (links_of (g3 z)) ≡ 8
-    long_g z t = touches_3.lengths z ∙ have z t
+    passed_touches = touches_taken f g2 m xs p touches_2 (place_in f p m t).holder (place_in f p m t).link c nx (zs_in nx nx_zs).0 (holds_atoms f m xs t old no_m p)
 
     there_nx : IsSome (f nx)
     there_nx = alive nx (zs_in nx nx_zs).0
 
-    down_g : (b j : ℕ) → j ≢ PEER → j ≢ LEADERS → j ≢ CLASS_LAST → link_in g4 b j ≡ link_in g1 b j
-    down_g b j x y z = led_other g3 m (bef c lead) (Some nx) b j (λ e. absurd (x e)) y ∙ link_far g2 nx PEER (link_in f c PEER) b j x ∙ link_far g1 nx CLASS_LAST (link_in f c CLASS_LAST) b j z
+    down_g : (b j : ℕ) → j ≢ EVEN → j ≢ ODD → j ≢ CLASS_LAST → link_in g4 b j ≡ link_in g1 b j
+    down_g b j x y z = taken_place f m xs t old no_m p g2 c nx b j x y ∙ link_far g1 nx CLASS_LAST (link_in f c CLASS_LAST) b j z
 
     g_next : (b : ℕ) → link_in g4 b CLASS_NEXT ≡ link_in f b CLASS_NEXT
     g_next b = down_g b CLASS_NEXT (λ e. absurd (omega (arith, e))) (λ e. absurd (omega (arith, e))) (λ e. absurd (omega (arith, e))) ∙ link_far f nx CLASS_PREV None b CLASS_NEXT (λ e. absurd (omega (arith, e)))
@@ -689,56 +709,30 @@ module _ (f : ℕ → Option HeldCell) (m c : ℕ) (xs ls : List ℕ) (have : Ha
     }
 
     last_g : link_in g4 nx CLASS_LAST ≡ link_in f c CLASS_LAST
-    last_g = led_other g3 m (bef c lead) (Some nx) nx CLASS_LAST (λ e. absurd (omega (arith, e))) (λ e. absurd (omega (arith, e))) ∙ link_far g2 nx PEER (link_in f c PEER) nx CLASS_LAST (λ e. absurd (omega (arith, e)))
-        ∙ link_at g1 nx CLASS_LAST (link_in f c CLASS_LAST) (length_kept f nx CLASS_PREV None nx ∙ have nx there_nx) (omega arith)
+    last_g = taken_place f m xs t old no_m p g2 c nx nx CLASS_LAST (λ e. absurd (omega (arith, e))) (λ e. absurd (omega (arith, e))) ∙ link_at g1 nx CLASS_LAST (link_in f c CLASS_LAST) (length_kept f nx CLASS_PREV None nx ∙ have nx there_nx) (omega arith)
 
-    peer_g : (b : ℕ) → b ≢ nx → bef c lead ≢ Some b → link_in g4 b PEER ≡ link_in f b PEER
-    peer_g b n w = led_other g3 m (bef c lead) (Some nx) b PEER (λ _ e. w e) (λ e. absurd (omega (arith, e))) ∙ link_by g2 nx PEER (link_in f c PEER) b PEER n ∙ link_far g1 nx CLASS_LAST (link_in f c CLASS_LAST) b PEER (λ e. absurd (omega (arith, e)))
-        ∙ link_far f nx CLASS_PREV None b PEER (λ e. absurd (omega (arith, e)))
+    there_g2 : (b : ℕ) → IsSome (f b) → IsSome (g2 b)
+    there_g2 b s = touches_there f g2 m xs p touches_2 b s
 
-    peer_nx : link_in g4 nx PEER ≡ link_in f c PEER
-    peer_nx = led_other g3 m (bef c lead) (Some nx) nx PEER (λ _ e. no_nx (to_ls c lead nx (in_left nx s_c.us (c ∷ s_c.vs) (bef_us c lead nx e)))) (λ e. absurd (omega (arith, e)))
-        ∙ link_at g2 nx PEER (link_in f c PEER) (length_kept g1 nx CLASS_LAST (link_in f c CLASS_LAST) nx ∙ length_kept f nx CLASS_PREV None nx ∙ have nx there_nx) (omega arith)
+    long_g2 : (z : ℕ) → IsSome (f z) → length (links_of (g2 z)) ≡ 8
+    long_g2 z s = touches_2.lengths z ∙ have z s
 
-    head_g : link_in g3 m LEADERS ≡ link_in f m LEADERS
-    head_g = link_far g2 nx PEER (link_in f c PEER) m LEADERS (λ e. absurd (omega (arith, e))) ∙ link_far g1 nx CLASS_LAST (link_in f c CLASS_LAST) m LEADERS (λ e. absurd (omega (arith, e))) ∙ link_far f nx CLASS_PREV None m LEADERS (λ e. absurd (omega (arith, e)))
-
-    no_front : (l : ℕ) → In l s_c.us → l ≢ nx
-    no_front l i s = no_nx (to_ls c lead nx (in_left nx s_c.us (c ∷ s_c.vs) (subst (λ u. In u s_c.us) s i)))
-
-    no_back : (l : ℕ) → In l s_c.vs → l ≢ nx
-    no_back l i s = no_nx (to_ls c lead nx (in_right nx s_c.us (c ∷ s_c.vs) (inr (subst (λ u. In u s_c.vs) s i))))
-
-    there_g : (b : ℕ) → IsSome (f b) → IsSome (g4 b)
-    there_g b t = touches_there f g4 m xs p passed_touches b t
+    agree_g : (b j : ℕ) → (j ≡ EVEN) ⊎ (j ≡ ODD) → link_in g2 b j ≡ link_in f b j
+    agree_g b j o = link_far g1 nx CLASS_LAST (link_in f c CLASS_LAST) b j (λ e. not_side j o (inr (inr e))) ∙ link_far f nx CLASS_PREV None b j (λ e. not_side j o (inr (inl e)))
 
     -- the classes then
-    pub passed_classed : AreClassed g4 m xs' (s_c.us ++ (nx ∷ s_c.vs))
-    passed_classed = reclassed f g4 m xs ls old p xs' (s_c.us ++ (nx ∷ s_c.vs)) (Some nx) record {
+    pub passed_classed : AreClassed g4 m xs' ((at f m xs t old no_m p).hole.fill (Fork nx pa pb))
+    passed_classed = reclassed f g4 m xs t old p xs' ((at f m xs t old no_m p).hole.fill (Fork nx pa pb)) (Some nx) record {
       keys = touches_keys f g4 m xs p passed_touches;
       lists = lists;
       nodes = λ z _ e. passed_touches.nodes z e;
       lasts = λ k _ e. passed_touches.lasts k e;
-      peers = chain_turned f g4 m p ls (bef c lead) c (Some nx) (nx ∷ s_c.vs) s_c old.peers old.once there_g (λ l i n. peer_g l (no_front l i) n) (λ l e. led_at g3 m (bef c lead) (Some nx) l e (long_g l (alive l (bef_xs c lead l e)))) (λ e. led_none g3 m (bef c lead) (Some nx) e (long_g m there_m))
-          (λ l e. led_away g3 m (bef c lead) (Some nx) l e ∙ head_g)
-          (refl, there_g nx there_nx, subst (λ o. ArePeers g4 o s_c.vs) (sym peer_nx) (peers_frame f g4 (link_in f c PEER) s_c.vs (λ l i. peer_g l (no_back l i) (bef_not c lead l i)) there_g (rest_peers c lead)));
-      once = distinct_swap s_c.us c nx s_c.vs (once_x c lead) (λ i. no_nx (to_ls c lead nx i));
-      stay = λ l i e. elim (in_mid l s_c.us c s_c.vs (subst (λ us. In l us) s_c.is i)) [
-        | inl j ↦ in_left l s_c.us (nx ∷ s_c.vs) j
-        | inr k ↦ elim k [ inl s ↦ absurd (other_lead c lead l e s) | inr j ↦ in_right l s_c.us (nx ∷ s_c.vs) (inr j) ]
-      ];
-      were = λ l i e. elim (in_mid l s_c.us nx s_c.vs i) [
-        | inl j ↦ to_ls c lead l (in_left l s_c.us (c ∷ s_c.vs) j)
-        | inr k ↦ elim k [ inl s ↦ absurd (let w : true ≡ false = sym (zs_in nx nx_zs).1 ∙ ap (λ u. is_key (key_in f u) p) s ∙ e in cc) | inr j ↦ to_ls c lead l (in_right l s_c.us (c ∷ s_c.vs) (inr j)) ]
-      ];
-      heads = λ l i e. elim (in_mid l s_c.us nx s_c.vs i) [
-        | inl j ↦ absurd (apart s_c.us (c ∷ s_c.vs) l c (once_x c lead) j (inl refl) (sym (same_lead c lead l (to_ls c lead l (in_left l s_c.us (c ∷ s_c.vs) j)) e)))
-        | inr k ↦ elim k [
-          | inl s ↦ ap Some s
-          | inr j ↦ absurd (each_in (λ u. c ≢ u) s_c.vs l (distinct_right s_c.us (c ∷ s_c.vs) (once_x c lead)).0 j (same_lead c lead l (to_ls c lead l (in_right l s_c.us (c ∷ s_c.vs) (inr j))) e))
-        ]
-      ];
-      headed = λ l e. (let s : nx ≡ l = cc in (subst (λ u. In u (s_c.us ++ (nx ∷ s_c.vs))) s (in_right nx s_c.us (nx ∷ s_c.vs) (inl refl)), ap (λ u. is_key (key_in f u) p) (sym s) ∙ (zs_in nx nx_zs).1));
+      tree = lead_tree c pa pb is_x nx key_nx no_nx there_nx nx_not_m g2 there_g2 long_g2 agree_g;
+      sorted = lead_sorted c pa pb is_x nx key_nx no_nx there_nx nx_not_m g2 there_g2 long_g2 agree_g;
+      stay = lead_stay c pa pb is_x nx key_nx no_nx there_nx nx_not_m g2 there_g2 long_g2 agree_g;
+      were = lead_were c pa pb is_x nx key_nx no_nx there_nx nx_not_m g2 there_g2 long_g2 agree_g;
+      heads = lead_heads c pa pb is_x nx key_nx no_nx there_nx nx_not_m g2 there_g2 long_g2 agree_g;
+      headed = lead_headed c pa pb is_x nx key_nx no_nx there_nx nx_not_m g2 there_g2 long_g2 agree_g;
       run = λ l e. (let s : nx ≡ l = cc in subst (λ ws. RunsThrough (class_node g4) None (Some l) ws (link_in g4 l CLASS_LAST) None) (sym inside) (subst (λ u. RunsThrough (class_node g4) None (Some u) (nx ∷ vs) (link_in g4 u CLASS_LAST) None) s
           (subst (λ o. RunsThrough (class_node g4) None (Some nx) (nx ∷ vs) o None) (sym last_g)
           (subst (λ o. RunsThrough (class_node g4) None (begins (Some c) o (Some nx)) (nx ∷ vs) (ends (link_in f c CLASS_LAST) (Some nx) o) None) run_g.1
@@ -749,49 +743,269 @@ module _ (f : ℕ → Option HeldCell) (m c : ℕ) (xs ls : List ℕ) (have : Ha
 
   -- The only one of a class leaves
 
-  module _ (xs' : List ℕ) (lists : (r : ℕ × ℕ) → is_key r p ≡ false → of_class f r xs' ≡ of_class f r xs) (inside : of_class f p xs' ≡ []) (lead : (class_place f p None ls).leader ≡ Some c) where
-    abbrev k1 : ℕ → Option HeldCell
-    k1 = led f m (bef c lead) (link_in f c PEER)
+  module _ (xs' : List ℕ) (lists : (r : ℕ × ℕ) → is_key r p ≡ false → of_class f r xs' ≡ of_class f r xs) (inside : of_class f p xs' ≡ []) (pa pb : ClassTree) (is_x : (place_in f p m t).tree ≡ Fork c pa pb) where
+    abbrev hk : ℕ
+    hk = (place_in f p m t).holder
 
-    abbrev pub s_k : Stands f p ls (bef c lead) c
-    s_k = at_x c lead
+    abbrev kk : ℕ
+    kk = (place_in f p m t).link
 
-    -- what is left as it was
-    pub dropped_touches : Touches f k1 m xs p
-    dropped_touches = touches_led f f m xs p (touches_none f m xs p) (bef c lead) (link_in f c PEER) (λ b e. bef_xs c lead b e)
+    -- another tree there, with the same cells but the first of the class
+    module _ (g : ℕ → Option HeldCell) (touched : Touches f g m xs p) (u : ClassTree) (sub : (z : ℕ) → In z (leaders pa ++ leaders pb) → In z (leaders u)) (sup : (z : ℕ) → In z (leaders u) → In z (leaders pa ++ leaders pb))
+        (tree : IsTree g (link_in g m LEADERS) ((at f m xs t old no_m p).hole.fill u)) (sorted : IsSorted f (place_in f p m t).depth u) where
+      sub_k : (z : ℕ) → is_key (key_in f z) p ≡ false → In z (leaders (place_in f p m t).tree) → In z (leaders u)
+      sub_k z e i = elim (of_x c pa pb is_x z i) [ inl s ↦ absurd (other_lead c pa pb is_x z e s) | inr j ↦ sub z j ]
 
-    peer_k : (b : ℕ) → bef c lead ≢ Some b → link_in k1 b PEER ≡ link_in f b PEER
-    peer_k b w = led_other f m (bef c lead) (link_in f c PEER) b PEER (λ _ e. w e) (λ e. absurd (omega (arith, e)))
+      sup_k : (z : ℕ) → is_key (key_in f z) p ≡ false → In z (leaders u) → In z (leaders (place_in f p m t).tree)
+      sup_k z e i = in_x c pa pb is_x z (inr (sup z i))
 
-    there_k : (b : ℕ) → IsSome (f b) → IsSome (k1 b)
-    there_k b t = touches_there f k1 m xs p dropped_touches b t
+      gone_classed : AreClassed g m xs' ((at f m xs t old no_m p).hole.fill u)
+      gone_classed = reclassed f g m xs t old p xs' ((at f m xs t old no_m p).hole.fill u) None record {
+        keys = touches_keys f g m xs p touched;
+        lists = lists;
+        nodes = λ z _ e. touched.nodes z e;
+        lasts = λ k _ e. touched.lasts k e;
+        tree = tree;
+        sorted = fill_sorted f m xs t old no_m p u sub_k sup_k sorted;
+        stay = fill_stay f m xs t old no_m p u sub_k sup_k;
+        were = fill_were f m xs t old no_m p u sub_k sup_k;
+        heads = fill_heads f m xs t old no_m p u None (λ z e i. absurd (let w : true ≡ false = sym e ∙ below_x c pa pb is_x z (sup z i) in cc));
+        headed = λ l e. absurd cc;
+        run = λ l e. absurd cc;
+        none = λ e. inside;
+      }
 
-    no_lead : (l : ℕ) → In l (s_k.us ++ s_k.vs) → In l ls × (is_key (key_in f l) p ≡ false)
-    no_lead l i = elim (in_either l s_k.us s_k.vs i) [
-      | inl j ↦ (let w = to_ls c lead l (in_left l s_k.us (c ∷ s_k.vs) j) in (w, by l w (λ e. apart s_k.us (c ∷ s_k.vs) l c (once_x c lead) j (inl refl) (sym e))))
-      | inr j ↦ (let w = to_ls c lead l (in_right l s_k.us (c ∷ s_k.vs) (inr j)) in (w, by l w (λ e. each_in (λ u. c ≢ u) s_k.vs l (distinct_right s_k.us (c ∷ s_k.vs) (once_x c lead)).0 j e)))
-    ]
-      where
-        by : (l : ℕ) → In l ls → (c ≡ l → ⊥) → is_key (key_in f l) p ≡ false
-        by l w n = elim (bool_cases (is_key (key_in f l) p)) [ inl t ↦ absurd (n (same_lead c lead l w t)) | inr t ↦ t ]
+    -- the cells of the tree are those of a list of atoms
+    below_xs : (z : ℕ) → In z (leaders pa ++ leaders pb) → In z xs
+    below_xs z i = old.inside z (tree_in f m xs t old no_m p z (in_x c pa pb is_x z (inr i)))
 
-    -- the classes then
-    pub dropped_classed : AreClassed k1 m xs' (s_k.us ++ s_k.vs)
-    dropped_classed = reclassed f k1 m xs ls old p xs' (s_k.us ++ s_k.vs) None record {
-      keys = touches_keys f k1 m xs p dropped_touches;
-      lists = lists;
-      nodes = λ z _ e. dropped_touches.nodes z e;
-      lasts = λ k _ e. dropped_touches.lasts k e;
-      peers = chain_turned f k1 m p ls (bef c lead) c (link_in f c PEER) s_k.vs s_k old.peers old.once there_k (λ l i n. peer_k l n) (λ l e. led_at f m (bef c lead) (link_in f c PEER) l e (have l (alive l (bef_xs c lead l e)))) (λ e. led_none f m (bef c lead) (link_in f c PEER) e (have m there_m))
-          (λ l e. led_away f m (bef c lead) (link_in f c PEER) l e) (peers_frame f k1 (link_in f c PEER) s_k.vs (λ l i. peer_k l (bef_not c lead l i)) there_k (rest_peers c lead));
-      once = distinct_drop s_k.us c s_k.vs (once_x c lead);
-      stay = λ l i e. elim (in_mid l s_k.us c s_k.vs (subst (λ us. In l us) s_k.is i)) [
-        | inl j ↦ in_left l s_k.us s_k.vs j
-        | inr k ↦ elim k [ inl s ↦ absurd (other_lead c lead l e s) | inr j ↦ in_right l s_k.us s_k.vs j ]
-      ];
-      were = λ l i e. (no_lead l i).0;
-      heads = λ l i e. absurd (let w : true ≡ false = sym e ∙ (no_lead l i).1 in cc);
-      headed = λ l e. absurd cc;
-      run = λ l e. absurd cc;
-      none = λ e. inside;
-    }
+    below_outer : (z : ℕ) → In z (leaders pa ++ leaders pb) → In z (at f m xs t old no_m p).hole.outer → ⊥
+    below_outer z i o = (at f m xs t old no_m p).hole.apart z o (in_x c pa pb is_x z (inr i))
+
+    -- None is below it
+
+    module _ (bare : leaders pa ++ leaders pb ≡ []) where
+      abbrev k1 : ℕ → Option HeldCell
+      k1 = link_written f hk kk None
+
+      touches_k1 : Touches f k1 m xs p
+      touches_k1 = touches_tree f f m xs p (touches_none f m xs p) hk kk None (holds_atoms f m xs t old no_m p)
+
+      k1_tree : IsTree k1 (link_in k1 m LEADERS) ((at f m xs t old no_m p).hole.fill Bare)
+      k1_tree = (at f m xs t old no_m p).hole.turned k1 Bare (λ z s. touches_there f k1 m xs p touches_k1 z s) (λ b j o n. link_other f hk kk None b j (λ s e. n e s)) old.tree (link_at f hk kk None (have hk (there_x c pa pb is_x)) (link_small f m xs t old no_m p))
+
+      pub bare_touches : Touches f k1 m xs p
+      bare_touches = touches_k1
+
+      pub bare_classed : AreClassed k1 m xs' ((at f m xs t old no_m p).hole.fill Bare)
+      bare_classed = gone_classed k1 touches_k1 Bare (λ z i. subst (λ us. In z us) bare i) (λ z i. absurd i) k1_tree tt
+
+    -- One that is below it takes its place
+
+    module _ (lh lk l : ℕ) (a b : ClassTree) (below : (z : ℕ) → In z (leaders a ++ leaders b) → In z (leaders pa ++ leaders pb)) (all : (z : ℕ) → In z (leaders pa ++ leaders pb) → In z (l ∷ (leaders a ++ leaders b)))
+        (leaf : In l (leaders pa ++ leaders pb)) (gone : In l (leaders a ++ leaders b) → ⊥) (holds : Holds m LEADERS (c ∷ (leaders pa ++ leaders pb)) lh lk) (not_top : lh ≢ m)
+        (even : IsTree (link_written f lh lk None) (link_in (link_written f lh lk None) c EVEN) a) (odd : IsTree (link_written f lh lk None) (link_in (link_written f lh lk None) c ODD) b) (sorted : IsSorted f (place_in f p m t).depth (Fork l a b)) where
+      abbrev k2 : ℕ → Option HeldCell
+      k2 = link_written f lh lk None
+
+      abbrev k3 : ℕ → Option HeldCell
+      k3 = taken_over k2 hk kk c l
+
+      c_xs : In c xs
+      c_xs = old.inside c (x_ls c pa pb is_x).0
+
+      holds_xs : Holds m LEADERS xs lh lk
+      holds_xs = holds_more m (c ∷ (leaders pa ++ leaders pb)) xs lh lk (λ z i. elim i [ inl s ↦ subst (λ y. In y xs) s c_xs | inr j ↦ below_xs z j ]) holds
+
+      touches_k2 : Touches f k2 m xs p
+      touches_k2 = touches_tree f f m xs p (touches_none f m xs p) lh lk None holds_xs
+
+      pub leaf_touches : Touches f k3 m xs p
+      leaf_touches = touches_taken f k2 m xs p touches_k2 hk kk c l (below_xs l leaf) (holds_atoms f m xs t old no_m p)
+
+      -- the cells outside keep their links
+      outside : (z j : ℕ) → Holds m LEADERS (at f m xs t old no_m p).hole.outer z j → link_in k2 z j ≡ link_in f z j
+      outside z j o = link_by f lh lk None z j (λ e. elim o [
+        | inl s ↦ not_top (sym e ∙ s.0)
+        | inr i ↦ elim holds [
+          | inl s ↦ not_top s.0
+          | inr q ↦ elim q.0 [
+            | inl s ↦ (at f m xs t old no_m p).hole.apart z i.0 (in_x c pa pb is_x z (inl (s ∙ sym e)))
+            | inr y ↦ below_outer z (subst (λ w. In w (leaders pa ++ leaders pb)) (sym e) y) i.0
+          ]
+        ]
+      ])
+
+      pub leaf_classed : AreClassed k3 m xs' ((at f m xs t old no_m p).hole.fill (Fork l a b))
+      leaf_classed = gone_classed k3 leaf_touches (Fork l a b) all (λ z i. elim i [ inl s ↦ subst (λ y. In y (leaders pa ++ leaders pb)) s leaf | inr j ↦ below z j ])
+          (taken_tree f m xs t old no_m p k2 c l a b (λ z s. touches_there f k2 m xs p touches_k2 z s) (λ z s. touches_k2.lengths z ∙ have z s) outside even odd (λ z i. in_x c pa pb is_x z (inr (below z i))) (alive l (below_xs l leaf))
+          (λ e. no_m (subst (λ y. In y xs) e (below_xs l leaf))) (below_outer l leaf) gone (there_x c pa pb is_x)) sorted
+
+    -- That one hangs on one of the two sides
+
+    abbrev dd : ℕ
+    dd = (place_in f p m t).depth
+
+    -- on the even one
+    module _ (l : ℕ) (w : ClassPlace) (hole : Hole f (λ z. false) c EVEN (suc dd) pa w) (alone : w.tree ≡ Fork l Bare Bare) where
+      abbrev pruned : ClassTree
+      pruned = hole.fill Bare
+
+      leaf_n : In l (leaders w.tree)
+      leaf_n = subst (λ u. In l (leaders u)) (sym alone) (inl refl)
+
+      leaf_near : In l (leaders pa)
+      leaf_near = subst (λ u. In l (leaders u)) hole.is (hole.ins w.tree l leaf_n)
+
+      out_near : (z : ℕ) → In z hole.outer → In z (leaders pa)
+      out_near z i = subst (λ u. In z (leaders u)) hole.is (hole.outs w.tree z i)
+
+      below_n : (z : ℕ) → In z (leaders pruned) → In z (leaders pa)
+      below_n z i = elim (hole.parts Bare z i) [ inl o ↦ out_near z o | inr j ↦ absurd j ]
+
+      all_n : (z : ℕ) → In z (leaders pa) → (l ≡ z) ⊎ In z (leaders pruned)
+      all_n z i = elim (hole.parts w.tree z (subst (λ u. In z (leaders u)) (sym hole.is) i)) [ inl o ↦ inr (hole.outs Bare z o) | inr j ↦ elim (subst (λ u. In z (leaders u)) alone j) [ inl s ↦ inl s | inr y ↦ absurd y ] ]
+
+      gone_n : In l (leaders pruned) → ⊥
+      gone_n i = elim (hole.parts Bare l i) [ inl o ↦ hole.apart l o leaf_n | inr j ↦ j ]
+
+      -- where it hangs
+      holder_n : (c ≡ w.holder) ⊎ In w.holder (leaders pa)
+      holder_n = elim hole.holds [ inl e ↦ inl (sym e.0) | inr o ↦ inr (out_near w.holder o.0) ]
+
+      holds_n : Holds m LEADERS (c ∷ (leaders pa ++ leaders pb)) w.holder w.link
+      holds_n = elim hole.holds [ inl e ↦ inr (inl (sym e.0), inl e.1) | inr o ↦ inr (inr (in_left w.holder (leaders pa) (leaders pb) (out_near w.holder o.0)), o.1) ]
+
+      not_m_n : w.holder ≢ m
+      not_m_n e = elim holder_n [ inl s ↦ not_m (s ∙ e) | inr i ↦ no_m (subst (λ y. In y xs) e (below_xs w.holder (in_left w.holder (leaders pa) (leaders pb) i))) ]
+
+      there_n : IsSome (f w.holder)
+      there_n = elim holder_n [ inl s ↦ subst (λ y. IsSome (f y)) s there_c | inr i ↦ alive w.holder (below_xs w.holder (in_left w.holder (leaders pa) (leaders pb) i)) ]
+
+      stays_n : (z : ℕ) → IsSome (f z) → IsSome (link_written f w.holder w.link None z)
+      stays_n z s = kept f (link_written f w.holder w.link None) w.holder w.link None z refl s
+
+      near_tree : IsTree (link_written f w.holder w.link None) (link_in (link_written f w.holder w.link None) c EVEN) pruned
+      near_tree = hole.turned (link_written f w.holder w.link None) Bare stays_n (λ b j o n. link_other f w.holder w.link None b j (λ s e. n e s)) (part_x c pa pb is_x).2 (link_at f w.holder w.link None (have w.holder there_n) (holds_small m (c ∷ (leaders pa ++ leaders pb)) w.holder w.link holds_n))
+
+      far_away : (z : ℕ) → In z (leaders pb) → z ≢ w.holder
+      far_away z i e = elim holder_n [ inl s ↦ beside_not f c dd true (leaders pb) (sorted_x c pa pb is_x).1 (subst (λ y. In y (leaders pb)) (e ∙ sym s) i) | inr y ↦ sides_apart f c dd (leaders pa) (leaders pb) (sorted_x c pa pb is_x).0 (sorted_x c pa pb is_x).1 z (subst (λ u. In u (leaders pa)) (sym e) y) i ]
+
+      far_tree : IsTree (link_written f w.holder w.link None) (link_in (link_written f w.holder w.link None) c ODD) pb
+      far_tree = subst (λ o. IsTree (link_written f w.holder w.link None) o pb)
+          (sym (link_other f w.holder w.link None c ODD (λ s e. elim hole.holds [ inl x ↦ absurd (let y : ODD ≡ EVEN = s ∙ x.1 in omega (arith, y)) | inr o ↦ beside_not f c dd false (leaders pa) (sorted_x c pa pb is_x).0 (subst (λ y. In y (leaders pa)) (sym e) (out_near w.holder o.0)) ])))
+          (tree_frame f (link_written f w.holder w.link None) (link_in f c ODD) pb (λ z i. (link_by f w.holder w.link None z EVEN (far_away z i), link_by f w.holder w.link None z ODD (far_away z i))) stays_n (part_x c pa pb is_x).3)
+
+      differs : (z : ℕ) → In z (leaders pruned) → is_key (key_in f z) (key_in f l) ≡ false
+      differs z i = elim (bool_cases (is_key (key_in f z) (key_in f l))) [
+        | inl e ↦ absurd (gone_n (subst (λ y. In y (leaders pruned)) (sorted_apart f (suc dd) pa (sorted_x c pa pb is_x).2 z l (below_n z i) leaf_near (key_true (key_in f z) (key_in f l) e)) i))
+        | inr e ↦ e
+      ]
+
+      far_differs : (z : ℕ) → In z (leaders pb) → is_key (key_in f z) (key_in f l) ≡ false
+      far_differs z i = elim (bool_cases (is_key (key_in f z) (key_in f l))) [
+        | inl e ↦ absurd (let n : true ≡ false = sym ((sorted_x c pa pb is_x).1 z i).1 ∙ ap (λ (q : ℕ × ℕ). is_odd (rest_at q.0 dd)) (key_true (key_in f z) (key_in f l) e) ∙ ((sorted_x c pa pb is_x).0 l leaf_near).1 in cc)
+        | inr e ↦ e
+      ]
+
+      w_sorted : IsSorted f (suc dd) pruned
+      w_sorted = hole.filled Bare tt (λ z i. absurd i)
+
+      leaf_or : (z : ℕ) → In z (leaders pa ++ leaders pb) → In z (l ∷ (leaders pruned ++ leaders pb))
+      leaf_or z i = elim (in_either z (leaders pa) (leaders pb) i) [ inl y ↦ elim (all_n z y) [ inl s ↦ inl s | inr o ↦ inr (in_left z (leaders pruned) (leaders pb) o) ] | inr y ↦ inr (in_right z (leaders pruned) (leaders pb) y) ]
+
+      below_or : (z : ℕ) → In z (leaders pruned ++ leaders pb) → In z (leaders pa ++ leaders pb)
+      below_or z i = elim (in_either z (leaders pruned) (leaders pb) i) [ inl y ↦ in_left z (leaders pa) (leaders pb) (below_n z y) | inr y ↦ in_right z (leaders pa) (leaders pb) y ]
+
+      gone_or : In l (leaders pruned ++ leaders pb) → ⊥
+      gone_or i = elim (in_either l (leaders pruned) (leaders pb) i) [ inl y ↦ gone_n y | inr y ↦ sides_apart f c dd (leaders pa) (leaders pb) (sorted_x c pa pb is_x).0 (sorted_x c pa pb is_x).1 l leaf_near y ]
+
+      -- what is left as it was
+      pub even_touches : Touches f (dropped f hk kk c w.holder w.link (Some l)) m xs p
+      even_touches = leaf_touches w.holder w.link l pruned pb below_or leaf_or (in_left l (leaders pa) (leaders pb) leaf_near) gone_or holds_n not_m_n near_tree far_tree ((λ z i. (differs z i, ((sorted_x c pa pb is_x).0 z (below_n z i)).1)), (λ z i. (far_differs z i, ((sorted_x c pa pb is_x).1 z i).1)), w_sorted, (sorted_x c pa pb is_x).3)
+
+      -- the classes then
+      pub even_classed : AreClassed (dropped f hk kk c w.holder w.link (Some l)) m xs' ((at f m xs t old no_m p).hole.fill (Fork l pruned pb))
+      even_classed = leaf_classed w.holder w.link l pruned pb below_or leaf_or (in_left l (leaders pa) (leaders pb) leaf_near) gone_or holds_n not_m_n near_tree far_tree ((λ z i. (differs z i, ((sorted_x c pa pb is_x).0 z (below_n z i)).1)), (λ z i. (far_differs z i, ((sorted_x c pa pb is_x).1 z i).1)), w_sorted, (sorted_x c pa pb is_x).3)
+
+    -- on the odd one
+    module _ (l : ℕ) (w : ClassPlace) (hole : Hole f (λ z. false) c ODD (suc dd) pb w) (alone : w.tree ≡ Fork l Bare Bare) where
+      abbrev pruned_odd : ClassTree
+      pruned_odd = hole.fill Bare
+
+      leaf_n_odd : In l (leaders w.tree)
+      leaf_n_odd = subst (λ u. In l (leaders u)) (sym alone) (inl refl)
+
+      leaf_near_odd : In l (leaders pb)
+      leaf_near_odd = subst (λ u. In l (leaders u)) hole.is (hole.ins w.tree l leaf_n_odd)
+
+      out_near_odd : (z : ℕ) → In z hole.outer → In z (leaders pb)
+      out_near_odd z i = subst (λ u. In z (leaders u)) hole.is (hole.outs w.tree z i)
+
+      below_n_odd : (z : ℕ) → In z (leaders pruned_odd) → In z (leaders pb)
+      below_n_odd z i = elim (hole.parts Bare z i) [ inl o ↦ out_near_odd z o | inr j ↦ absurd j ]
+
+      all_n_odd : (z : ℕ) → In z (leaders pb) → (l ≡ z) ⊎ In z (leaders pruned_odd)
+      all_n_odd z i = elim (hole.parts w.tree z (subst (λ u. In z (leaders u)) (sym hole.is) i)) [ inl o ↦ inr (hole.outs Bare z o) | inr j ↦ elim (subst (λ u. In z (leaders u)) alone j) [ inl s ↦ inl s | inr y ↦ absurd y ] ]
+
+      gone_n_odd : In l (leaders pruned_odd) → ⊥
+      gone_n_odd i = elim (hole.parts Bare l i) [ inl o ↦ hole.apart l o leaf_n_odd | inr j ↦ j ]
+
+      -- where it hangs
+      holder_n_odd : (c ≡ w.holder) ⊎ In w.holder (leaders pb)
+      holder_n_odd = elim hole.holds [ inl e ↦ inl (sym e.0) | inr o ↦ inr (out_near_odd w.holder o.0) ]
+
+      holds_n_odd : Holds m LEADERS (c ∷ (leaders pa ++ leaders pb)) w.holder w.link
+      holds_n_odd = elim hole.holds [ inl e ↦ inr (inl (sym e.0), inr e.1) | inr o ↦ inr (inr (in_right w.holder (leaders pa) (leaders pb) (out_near_odd w.holder o.0)), o.1) ]
+
+      not_m_n_odd : w.holder ≢ m
+      not_m_n_odd e = elim holder_n_odd [ inl s ↦ not_m (s ∙ e) | inr i ↦ no_m (subst (λ y. In y xs) e (below_xs w.holder (in_right w.holder (leaders pa) (leaders pb) i))) ]
+
+      there_n_odd : IsSome (f w.holder)
+      there_n_odd = elim holder_n_odd [ inl s ↦ subst (λ y. IsSome (f y)) s there_c | inr i ↦ alive w.holder (below_xs w.holder (in_right w.holder (leaders pa) (leaders pb) i)) ]
+
+      stays_n_odd : (z : ℕ) → IsSome (f z) → IsSome (link_written f w.holder w.link None z)
+      stays_n_odd z s = kept f (link_written f w.holder w.link None) w.holder w.link None z refl s
+
+      near_tree_odd : IsTree (link_written f w.holder w.link None) (link_in (link_written f w.holder w.link None) c ODD) pruned_odd
+      near_tree_odd = hole.turned (link_written f w.holder w.link None) Bare stays_n_odd (λ b j o n. link_other f w.holder w.link None b j (λ s e. n e s)) (part_x c pa pb is_x).3 (link_at f w.holder w.link None (have w.holder there_n_odd) (holds_small m (c ∷ (leaders pa ++ leaders pb)) w.holder w.link holds_n_odd))
+
+      far_away_odd : (z : ℕ) → In z (leaders pa) → z ≢ w.holder
+      far_away_odd z i e = elim holder_n_odd [ inl s ↦ beside_not f c dd false (leaders pa) (sorted_x c pa pb is_x).0 (subst (λ y. In y (leaders pa)) (e ∙ sym s) i) | inr y ↦ sides_apart f c dd (leaders pa) (leaders pb) (sorted_x c pa pb is_x).0 (sorted_x c pa pb is_x).1 z i (subst (λ u. In u (leaders pb)) (sym e) y) ]
+
+      far_tree_odd : IsTree (link_written f w.holder w.link None) (link_in (link_written f w.holder w.link None) c EVEN) pa
+      far_tree_odd = subst (λ o. IsTree (link_written f w.holder w.link None) o pa)
+          (sym (link_other f w.holder w.link None c EVEN (λ s e. elim hole.holds [ inl x ↦ absurd (let y : EVEN ≡ ODD = s ∙ x.1 in omega (arith, y)) | inr o ↦ beside_not f c dd true (leaders pb) (sorted_x c pa pb is_x).1 (subst (λ y. In y (leaders pb)) (sym e) (out_near_odd w.holder o.0)) ])))
+          (tree_frame f (link_written f w.holder w.link None) (link_in f c EVEN) pa (λ z i. (link_by f w.holder w.link None z EVEN (far_away_odd z i), link_by f w.holder w.link None z ODD (far_away_odd z i))) stays_n_odd (part_x c pa pb is_x).2)
+
+      differs_odd : (z : ℕ) → In z (leaders pruned_odd) → is_key (key_in f z) (key_in f l) ≡ false
+      differs_odd z i = elim (bool_cases (is_key (key_in f z) (key_in f l))) [
+        | inl e ↦ absurd (gone_n_odd (subst (λ y. In y (leaders pruned_odd)) (sorted_apart f (suc dd) pb (sorted_x c pa pb is_x).3 z l (below_n_odd z i) leaf_near_odd (key_true (key_in f z) (key_in f l) e)) i))
+        | inr e ↦ e
+      ]
+
+      far_differs_odd : (z : ℕ) → In z (leaders pa) → is_key (key_in f z) (key_in f l) ≡ false
+      far_differs_odd z i = elim (bool_cases (is_key (key_in f z) (key_in f l))) [
+        | inl e ↦ absurd (let n : false ≡ true = sym ((sorted_x c pa pb is_x).0 z i).1 ∙ ap (λ (q : ℕ × ℕ). is_odd (rest_at q.0 dd)) (key_true (key_in f z) (key_in f l) e) ∙ ((sorted_x c pa pb is_x).1 l leaf_near_odd).1 in cc)
+        | inr e ↦ e
+      ]
+
+      w_sorted_odd : IsSorted f (suc dd) pruned_odd
+      w_sorted_odd = hole.filled Bare tt (λ z i. absurd i)
+
+      leaf_or_odd : (z : ℕ) → In z (leaders pa ++ leaders pb) → In z (l ∷ (leaders pa ++ leaders pruned_odd))
+      leaf_or_odd z i = elim (in_either z (leaders pa) (leaders pb) i) [ inl y ↦ inr (in_left z (leaders pa) (leaders pruned_odd) y) | inr y ↦ elim (all_n_odd z y) [ inl s ↦ inl s | inr o ↦ inr (in_right z (leaders pa) (leaders pruned_odd) o) ] ]
+
+      below_or_odd : (z : ℕ) → In z (leaders pa ++ leaders pruned_odd) → In z (leaders pa ++ leaders pb)
+      below_or_odd z i = elim (in_either z (leaders pa) (leaders pruned_odd) i) [ inl y ↦ in_left z (leaders pa) (leaders pb) y | inr y ↦ in_right z (leaders pa) (leaders pb) (below_n_odd z y) ]
+
+      gone_or_odd : In l (leaders pa ++ leaders pruned_odd) → ⊥
+      gone_or_odd i = elim (in_either l (leaders pa) (leaders pruned_odd) i) [ inl y ↦ sides_apart f c dd (leaders pa) (leaders pb) (sorted_x c pa pb is_x).0 (sorted_x c pa pb is_x).1 l y leaf_near_odd | inr y ↦ gone_n_odd y ]
+
+      -- what is left as it was
+      pub odd_touches : Touches f (dropped f hk kk c w.holder w.link (Some l)) m xs p
+      odd_touches = leaf_touches w.holder w.link l pa pruned_odd below_or_odd leaf_or_odd (in_right l (leaders pa) (leaders pb) leaf_near_odd) gone_or_odd holds_n_odd not_m_n_odd far_tree_odd near_tree_odd ((λ z i. (far_differs_odd z i, ((sorted_x c pa pb is_x).0 z i).1)), (λ z i. (differs_odd z i, ((sorted_x c pa pb is_x).1 z (below_n_odd z i)).1)), (sorted_x c pa pb is_x).2, w_sorted_odd)
+
+      -- the classes then
+      pub odd_classed : AreClassed (dropped f hk kk c w.holder w.link (Some l)) m xs' ((at f m xs t old no_m p).hole.fill (Fork l pa pruned_odd))
+      odd_classed = leaf_classed w.holder w.link l pa pruned_odd below_or_odd leaf_or_odd (in_right l (leaders pa) (leaders pb) leaf_near_odd) gone_or_odd holds_n_odd not_m_n_odd far_tree_odd near_tree_odd ((λ z i. (far_differs_odd z i, ((sorted_x c pa pb is_x).0 z i).1)), (λ z i. (differs_odd z i, ((sorted_x c pa pb is_x).1 z (below_n_odd z i)).1)), (sorted_x c pa pb is_x).2, w_sorted_odd)

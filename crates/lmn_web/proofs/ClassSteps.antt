@@ -1,5 +1,5 @@
 -- The calls that file an atom by its class.
-use Rattle.std.proofs.Common.{◌≡◌, ℕ, true, List, [], ◌∷◌, ◌++◌, Option, Some, None, IsSome, refl, sym, ap, subst, ◌∙◌, inr}
+use Rattle.std.proofs.Common.{◌≡◌, ◌<◌, ℕ, suc, true, false, List, [], ◌∷◌, ◌++◌, Option, Some, None, IsSome, refl, sym, ap, subst, ◌∙◌, inr}
 use Rattle.lmn_base.specs.Lists.{In}
 use Rattle.lmn_base.proofs.Lists.{plus_nothing}
 use Rattle.lmn_heap.specs.Lists.{Distinct, without}
@@ -8,20 +8,21 @@ use Rattle.lmn_cells.specs.Cells.{HeldCell, HaveLinks}
 use Rattle.lmn_cells.specs.Runs.{Node, RunsThrough, link_in, put_before}
 use Rattle.lmn_cells.proofs.RunLemmas.{before_in, split, last_in as last_of_run}
 use Rattle.lmn_cells.proofs.InsertLemmas.{put_at}
-use Rattle.lmn_web.specs.Classes.{CLASS_NEXT, CLASS_PREV, CLASS_LAST, PEER, class_node, key_in, is_key, of_class, class_place, led, begun, lengthened, put_between, put_first, closed, shortened, passed, MayFile, ClassBecomes, Refiled}
-use Rattle.lmn_web.proofs.Reclassing.{key_same, key_true, in_filter, filter_in, leader_in, class_none}
-use Rattle.lmn_web.proofs.ClassWrites.{stands, last_or_in}
-use Rattle.lmn_web.proofs.ClassRuns.{inside_classed, inside_touches, first_classed, first_touches, prev_in, next_in_run, closed_classed, closed_touches, shortened_classed, shortened_touches, passed_classed, passed_touches, dropped_classed, dropped_touches, distinct_filter, begun_classed, begun_touches, longer_classed, longer_touches}
+use Rattle.lmn_web.specs.Classes.{CLASS_NEXT, CLASS_PREV, CLASS_LAST, EVEN, ODD, ClassTree, Bare, Fork, Hung, leaders, top, IsTree, IsSorted, lowest_below, class_node, key_in, is_key, of_class, place_in, begun, lengthened, put_between, put_first, closed, shortened, passed, dropped, MayFile, ClassBecomes, Refiled}
+use Rattle.lmn_web.proofs.Reclassing.{key_same, key_true, in_filter, filter_in}
+use Rattle.lmn_web.proofs.ClassTrees.{beside_not, some_lowest}
+use Rattle.lmn_web.proofs.ClassPlaces.{at, fork_of, holds_there, holds_atoms, link_small, leader_in, class_none}
+use Rattle.lmn_web.proofs.ClassRuns.{inside_classed, inside_touches, first_classed, first_touches, prev_in, next_in_run, closed_classed, closed_touches, shortened_classed, shortened_touches, passed_classed, passed_touches, bare_classed, bare_touches, even_classed, even_touches, odd_classed, odd_touches, distinct_filter, begun_classed, begun_touches, longer_classed, longer_touches}
 
 -- the first one of a class that is found, with the run of the class
-pub record Leads (f : ℕ → Option HeldCell) (xs ls : List ℕ) (p : ℕ × ℕ) (l : ℕ) : Type 0 where
-  pub inside : In l ls
+pub record Leads (f : ℕ → Option HeldCell) (xs : List ℕ) (t : ClassTree) (p : ℕ × ℕ) (l : ℕ) : Type 0 where
+  pub inside : In l (leaders t)
   pub key : is_key (key_in f l) p ≡ true
   pub alive : IsSome (f l)
   pub run : RunsThrough (class_node f) None (Some l) (of_class f p xs) (link_in f l CLASS_LAST) None
 
-pub leads : (f : ℕ → Option HeldCell) (m c : ℕ) (xs ls : List ℕ) → MayFile f m c xs ls → (p : ℕ × ℕ) (l : ℕ) → (class_place f p None ls).leader ≡ Some l → Leads f xs ls p l
-leads f m c xs ls a p l e = let w = leader_in f p None ls l e in record {
+pub leads : (f : ℕ → Option HeldCell) (m c : ℕ) (xs : List ℕ) (t : ClassTree) → MayFile f m c xs t → (p : ℕ × ℕ) (l : ℕ) → top (place_in f p m t).tree ≡ Some l → Leads f xs t p l
+leads f m c xs t a p l e = let w = leader_in f m xs t a.classed a.no_m p l e in record {
   inside = w.0;
   key = w.1;
   alive = a.alive l (a.classed.inside l w.0);
@@ -29,14 +30,14 @@ leads f m c xs ls a p l e = let w = leader_in f p None ls l e in record {
 }
 
 -- its last one is there
-pub last_alive : (f : ℕ → Option HeldCell) (m c : ℕ) (xs ls : List ℕ) → MayFile f m c xs ls → (p : ℕ × ℕ) (l : ℕ) → (class_place f p None ls).leader ≡ Some l → (q : ℕ) → link_in f l CLASS_LAST ≡ Some q → IsSome (f q)
-last_alive f m c xs ls a p l e q s =
-    let w = leads f m c xs ls a p l e in
+pub last_alive : (f : ℕ → Option HeldCell) (m c : ℕ) (xs : List ℕ) (t : ClassTree) → MayFile f m c xs t → (p : ℕ × ℕ) (l : ℕ) → top (place_in f p m t).tree ≡ Some l → (q : ℕ) → link_in f l CLASS_LAST ≡ Some q → IsSome (f q)
+last_alive f m c xs t a p l e q s =
+    let w = leads f m c xs t a p l e in
     a.alive q (in_filter (λ z. is_key (key_in f z) p) q xs (before_in (class_node f) (Some l) (of_class f p xs) (link_in f l CLASS_LAST) None q w.run s)).0
 
 -- and there is one
-pub last_some : (f : ℕ → Option HeldCell) (m c : ℕ) (xs ls : List ℕ) → MayFile f m c xs ls → (p : ℕ × ℕ) (l : ℕ) → (class_place f p None ls).leader ≡ Some l → link_in f l CLASS_LAST ≡ None → ⊥
-last_some f m c xs ls a p l e s = let w = leads f m c xs ls a p l e in by (of_class f p xs) (subst (λ o. RunsThrough (class_node f) None (Some l) (of_class f p xs) o None) s w.run)
+pub last_some : (f : ℕ → Option HeldCell) (m c : ℕ) (xs : List ℕ) (t : ClassTree) → MayFile f m c xs t → (p : ℕ × ℕ) (l : ℕ) → top (place_in f p m t).tree ≡ Some l → link_in f l CLASS_LAST ≡ None → ⊥
+last_some f m c xs t a p l e s = let w = leads f m c xs t a p l e in by (of_class f p xs) (subst (λ o. RunsThrough (class_node f) None (Some l) (of_class f p xs) o None) s w.run)
   where
     no_last : (n : ℕ → Node) (b first : Option ℕ) (z : ℕ) (zs : List ℕ) → RunsThrough n b first (z ∷ zs) None None → ⊥
     no_last n b first z [] r = let e : ◌≡◌ {A = Option ℕ} None (Some z) = r.2.1 in absurd cc
@@ -47,59 +48,63 @@ last_some f m c xs ls a p l e s = let w = leads f m c xs ls a p l e in by (of_cl
     by (z ∷ zs) r = no_last (class_node f) None (Some l) z zs r
 
 -- an atom begins a class
-pub filed_begun : (f : ℕ → Option HeldCell) → HaveLinks f → (m c : ℕ) (xs ls xs' : List ℕ) → MayFile f m c xs ls → (In c xs → ⊥) → ClassBecomes f (key_in f c) xs (of_class f (key_in f c) xs ++ c ∷ []) xs' → (class_place f (key_in f c) None ls).leader ≡ None
-    → Refiled f (begun f m c) m (c ∷ xs) (key_in f c) xs'
-filed_begun f have m c xs ls xs' a fresh one none =
-    let alone : of_class f (key_in f c) xs' ≡ c ∷ [] = one.own ∙ ap (λ (us : List ℕ). us ++ c ∷ []) (class_none f m xs ls a.classed (key_in f c) none) in
+pub filed_begun : (f : ℕ → Option HeldCell) → HaveLinks f → (m c : ℕ) (xs : List ℕ) (t : ClassTree) (xs' : List ℕ) → MayFile f m c xs t → (In c xs → ⊥) → ClassBecomes f (key_in f c) xs (of_class f (key_in f c) xs ++ c ∷ []) xs' → top (place_in f (key_in f c) m t).tree ≡ None
+    → Refiled f (begun f (place_in f (key_in f c) m t).holder (place_in f (key_in f c) m t).link c) m (c ∷ xs) (key_in f c) xs'
+filed_begun f have m c xs t xs' a fresh one none =
+    let alone : of_class f (key_in f c) xs' ≡ c ∷ [] = one.own ∙ ap (λ (us : List ℕ). us ++ c ∷ []) (class_none f m xs t a.classed a.no_m (key_in f c) none) in
     record {
-      touches = begun_touches f m c xs ls have a.classed a.alive a.once a.there_m a.there_c a.no_m a.not_m xs' one.others alone fresh none;
-      leaders = c ∷ ls;
-      classed = begun_classed f m c xs ls have a.classed a.alive a.once a.there_m a.there_c a.no_m a.not_m xs' one.others alone fresh none;
+      touches = begun_touches f m c xs t have a.classed a.alive a.once a.there_m a.there_c a.no_m a.not_m xs' one.others alone fresh none;
+      tree = _;
+      classed = begun_classed f m c xs t have a.classed a.alive a.once a.there_m a.there_c a.no_m a.not_m xs' one.others alone fresh none;
     }
 
 -- or stands at its end
-pub filed_longer : (f : ℕ → Option HeldCell) → HaveLinks f → (m c : ℕ) (xs ls xs' : List ℕ) → MayFile f m c xs ls → (In c xs → ⊥) → ClassBecomes f (key_in f c) xs (of_class f (key_in f c) xs ++ c ∷ []) xs' → (l q : ℕ) → (class_place f (key_in f c) None ls).leader ≡ Some l
+pub filed_longer : (f : ℕ → Option HeldCell) → HaveLinks f → (m c : ℕ) (xs : List ℕ) (t : ClassTree) (xs' : List ℕ) → MayFile f m c xs t → (In c xs → ⊥) → ClassBecomes f (key_in f c) xs (of_class f (key_in f c) xs ++ c ∷ []) xs' → (l q : ℕ) → top (place_in f (key_in f c) m t).tree ≡ Some l
     → link_in f l CLASS_LAST ≡ Some q → Refiled f (lengthened f l q c) m (c ∷ xs) (key_in f c) xs'
-filed_longer f have m c xs ls xs' a fresh one l q e s =
-    let w = leads f m c xs ls a (key_in f c) l e in
+filed_longer f have m c xs t xs' a fresh one l q e s =
+    let w = leads f m c xs t a (key_in f c) l e in
     record {
-      touches = longer_touches f m c xs ls have a.classed a.alive a.once a.there_m a.there_c a.no_m a.not_m xs' l q one.others one.own fresh w.inside w.key s;
-      leaders = ls;
-      classed = longer_classed f m c xs ls have a.classed a.alive a.once a.there_m a.there_c a.no_m a.not_m xs' l q one.others one.own fresh w.inside w.key s;
+      touches = longer_touches f m c xs t have a.classed a.alive a.once a.there_m a.there_c a.no_m a.not_m xs' l q one.others one.own fresh w.inside w.key s;
+      tree = t;
+      classed = longer_classed f m c xs t have a.classed a.alive a.once a.there_m a.there_c a.no_m a.not_m xs' l q one.others one.own fresh w.inside w.key s;
     }
 
 -- An atom that is filed
 
 -- its class has a first one
-pub lead_is : (f : ℕ → Option HeldCell) (m c : ℕ) (xs ls : List ℕ) → MayFile f m c xs ls → In c xs → (l : ℕ) × ((class_place f (key_in f c) None ls).leader ≡ Some l)
-lead_is f m c xs ls a i = by (class_place f (key_in f c) None ls).leader refl
+pub lead_is : (f : ℕ → Option HeldCell) (m c : ℕ) (xs : List ℕ) (t : ClassTree) → MayFile f m c xs t → In c xs → (l : ℕ) × (top (place_in f (key_in f c) m t).tree ≡ Some l)
+lead_is f m c xs t a i = by (top (place_in f (key_in f c) m t).tree) refl
   where
-    by : (o : Option ℕ) → (class_place f (key_in f c) None ls).leader ≡ o → (l : ℕ) × ((class_place f (key_in f c) None ls).leader ≡ Some l)
-    by None e = absurd (subst (λ us. In c us) (class_none f m xs ls a.classed (key_in f c) e) (filter_in (λ z. is_key (key_in f z) (key_in f c)) c xs i (key_same (key_in f c))))
+    by : (o : Option ℕ) → top (place_in f (key_in f c) m t).tree ≡ o → (l : ℕ) × (top (place_in f (key_in f c) m t).tree ≡ Some l)
+    by None e = absurd (subst (λ us. In c us) (class_none f m xs t a.classed a.no_m (key_in f c) e) (filter_in (λ z. is_key (key_in f z) (key_in f c)) c xs i (key_same (key_in f c))))
     by (Some l) e = (l, e)
 
--- what comes before it in the chain is there
-pub before_alive : (f : ℕ → Option HeldCell) (m c : ℕ) (xs ls : List ℕ) → MayFile f m c xs ls → (p : ℕ × ℕ) (l b : ℕ) → (class_place f p None ls).leader ≡ Some l → (class_place f p None ls).before ≡ Some b → IsSome (f b)
-before_alive f m c xs ls a p l b e s =
-    let w = stands f p ls l e in
-    a.alive b (a.classed.inside b (subst (λ us. In b us) (sym w.is) (in_left b w.us (l ∷ w.vs) (last_or_in w.us b (sym w.last ∙ s)))))
+-- where it hangs
+
+-- at a cell that is there
+pub holder_alive : (f : ℕ → Option HeldCell) (m c : ℕ) (xs : List ℕ) (t : ClassTree) → MayFile f m c xs t → (p : ℕ × ℕ) → IsSome (f (place_in f p m t).holder)
+holder_alive f m c xs t a p = holds_there f m xs (place_in f p m t).holder (place_in f p m t).link (holds_atoms f m xs t a.classed a.no_m p) a.there_m a.alive
+
+-- and at one of its links
+pub holder_link : (f : ℕ → Option HeldCell) (m c : ℕ) (xs : List ℕ) (t : ClassTree) → MayFile f m c xs t → (p : ℕ × ℕ) → (place_in f p m t).link < 8
+holder_link f m c xs t a p = link_small f m xs t a.classed a.no_m p
 
 -- where it stands in its class
-pub record Among (f : ℕ → Option HeldCell) (xs ls : List ℕ) (c : ℕ) : Type 0 where
+pub record Among (f : ℕ → Option HeldCell) (m : ℕ) (xs : List ℕ) (t : ClassTree) (c : ℕ) : Type 0 where
   pub us : List ℕ
   pub vs : List ℕ
   pub is : of_class f (key_in f c) xs ≡ us ++ (c ∷ vs)
   pub once : Distinct (us ++ (c ∷ vs))
   pub l : ℕ
-  pub lead : (class_place f (key_in f c) None ls).leader ≡ Some l
-  pub leads : Leads f xs ls (key_in f c) l
+  pub lead : top (place_in f (key_in f c) m t).tree ≡ Some l
+  pub leads : Leads f xs t (key_in f c) l
   pub run : RunsThrough (class_node f) None (Some l) (us ++ (c ∷ vs)) (link_in f l CLASS_LAST) None
 
-pub among : (f : ℕ → Option HeldCell) (m c : ℕ) (xs ls : List ℕ) → MayFile f m c xs ls → In c xs → Among f xs ls c
-among f m c xs ls a i =
+pub among : (f : ℕ → Option HeldCell) (m c : ℕ) (xs : List ℕ) (t : ClassTree) → MayFile f m c xs t → In c xs → Among f m xs t c
+among f m c xs t a i =
     let s = in_split c (of_class f (key_in f c) xs) (filter_in (λ z. is_key (key_in f z) (key_in f c)) c xs i (key_same (key_in f c))) in
-    let l = lead_is f m c xs ls a i in
-    let w = leads f m c xs ls a (key_in f c) l.0 l.1 in
+    let l = lead_is f m c xs t a i in
+    let w = leads f m c xs t a (key_in f c) l.0 l.1 in
     record {
       us = s.0;
       vs = s.1;
@@ -112,16 +117,16 @@ among f m c xs ls a i =
     }
 
 -- an atom of its class is there
-pub class_alive : (f : ℕ → Option HeldCell) (m c : ℕ) (xs ls : List ℕ) → MayFile f m c xs ls → (w : Among f xs ls c) → (z : ℕ) → In z (w.us ++ (c ∷ w.vs)) → IsSome (f z)
-class_alive f m c xs ls a w z i = a.alive z (in_filter (λ y. is_key (key_in f y) (key_in f c)) z xs (subst (λ us. In z us) (sym w.is) i)).0
+pub class_alive : (f : ℕ → Option HeldCell) (m c : ℕ) (xs : List ℕ) (t : ClassTree) → MayFile f m c xs t → (w : Among f m xs t c) → (z : ℕ) → In z (w.us ++ (c ∷ w.vs)) → IsSome (f z)
+class_alive f m c xs t a w z i = a.alive z (in_filter (λ y. is_key (key_in f y) (key_in f c)) z xs (subst (λ us. In z us) (sym w.is) i)).0
 
 -- what stands before it is there
-pub prev_alive : (f : ℕ → Option HeldCell) (m c : ℕ) (xs ls : List ℕ) → MayFile f m c xs ls → In c xs → (q : ℕ) → link_in f c CLASS_PREV ≡ Some q → IsSome (f q)
-prev_alive f m c xs ls a i q e = let w = among f m c xs ls a i in class_alive f m c xs ls a w q (in_left q w.us (c ∷ w.vs) (prev_in (class_node f) (Some w.l) w.us c w.vs (link_in f w.l CLASS_LAST) w.run q e))
+pub prev_alive : (f : ℕ → Option HeldCell) (m c : ℕ) (xs : List ℕ) (t : ClassTree) → MayFile f m c xs t → In c xs → (q : ℕ) → link_in f c CLASS_PREV ≡ Some q → IsSome (f q)
+prev_alive f m c xs t a i q e = let w = among f m c xs t a i in class_alive f m c xs t a w q (in_left q w.us (c ∷ w.vs) (prev_in (class_node f) (Some w.l) w.us c w.vs (link_in f w.l CLASS_LAST) w.run q e))
 
 -- and what stands behind it
-pub next_alive : (f : ℕ → Option HeldCell) (m c : ℕ) (xs ls : List ℕ) → MayFile f m c xs ls → In c xs → (q : ℕ) → link_in f c CLASS_NEXT ≡ Some q → IsSome (f q)
-next_alive f m c xs ls a i q e = let w = among f m c xs ls a i in class_alive f m c xs ls a w q (in_right q w.us (c ∷ w.vs) (inr (next_in_run (class_node f) (Some w.l) w.us c w.vs (link_in f w.l CLASS_LAST) w.run q e)))
+pub next_alive : (f : ℕ → Option HeldCell) (m c : ℕ) (xs : List ℕ) (t : ClassTree) → MayFile f m c xs t → In c xs → (q : ℕ) → link_in f c CLASS_NEXT ≡ Some q → IsSome (f q)
+next_alive f m c xs t a i q e = let w = among f m c xs t a i in class_alive f m c xs t a w q (in_right q w.us (c ∷ w.vs) (inr (next_in_run (class_node f) (Some w.l) w.us c w.vs (link_in f w.l CLASS_LAST) w.run q e)))
 
 -- with none before it it is the first
 no_front : (h : ℕ → Node) (first : Option ℕ) (us : List ℕ) (d : ℕ) (vs : List ℕ) (last : Option ℕ) → RunsThrough h None first (us ++ (d ∷ vs)) last None → (h d).prev ≡ None → us ≡ []
@@ -139,108 +144,144 @@ back_is h first us d vs last r o e = by vs (split h None first us (d ∷ vs) las
     by (y ∷ ws) q = (λ s. absurd (let z : ◌≡◌ {A = Option ℕ} (Some y) None = sym q.0 ∙ e ∙ s in cc), λ n s. (ws, let z : ◌≡◌ {A = Option ℕ} (Some y) (Some n) = sym q.0 ∙ e ∙ s in let r : y ≡ n = cc in ap (λ u. u ∷ ws) r))
 
 -- it leaves from between two
-pub filed_closed : (f : ℕ → Option HeldCell) → HaveLinks f → (m c : ℕ) (xs ls xs' : List ℕ) → MayFile f m c xs ls → In c xs → ClassBecomes f (key_in f c) xs (without c (of_class f (key_in f c) xs)) xs' → (pr nx : ℕ) → link_in f c CLASS_PREV ≡ Some pr → link_in f c CLASS_NEXT ≡ Some nx
+pub filed_closed : (f : ℕ → Option HeldCell) → HaveLinks f → (m c : ℕ) (xs : List ℕ) (t : ClassTree) (xs' : List ℕ) → MayFile f m c xs t → In c xs → ClassBecomes f (key_in f c) xs (without c (of_class f (key_in f c) xs)) xs' → (pr nx : ℕ) → link_in f c CLASS_PREV ≡ Some pr → link_in f c CLASS_NEXT ≡ Some nx
     → Refiled f (closed f pr nx) m xs (key_in f c) xs'
-filed_closed f have m c xs ls xs' a i one pr nx prev next =
-    let w = among f m c xs ls a i in let inside = one.own ∙ ap (without c) w.is ∙ without_at w.us c w.vs w.once in
+filed_closed f have m c xs t xs' a i one pr nx prev next =
+    let w = among f m c xs t a i in let inside = one.own ∙ ap (without c) w.is ∙ without_at w.us c w.vs w.once in
     record {
-      touches = closed_touches f m c xs ls have a.classed a.alive a.once a.there_m a.there_c a.no_m a.not_m xs' w.us w.vs w.l pr nx one.others w.is inside w.leads.inside w.leads.key prev next;
-      leaders = ls;
-      classed = closed_classed f m c xs ls have a.classed a.alive a.once a.there_m a.there_c a.no_m a.not_m xs' w.us w.vs w.l pr nx one.others w.is inside w.leads.inside w.leads.key prev next;
+      touches = closed_touches f m c xs t have a.classed a.alive a.once a.there_m a.there_c a.no_m a.not_m xs' w.us w.vs w.l pr nx one.others w.is inside w.leads.inside w.leads.key prev next;
+      tree = t;
+      classed = closed_classed f m c xs t have a.classed a.alive a.once a.there_m a.there_c a.no_m a.not_m xs' w.us w.vs w.l pr nx one.others w.is inside w.leads.inside w.leads.key prev next;
     }
 
 -- or from the end
-pub filed_shortened : (f : ℕ → Option HeldCell) → HaveLinks f → (m c : ℕ) (xs ls xs' : List ℕ) → MayFile f m c xs ls → In c xs → ClassBecomes f (key_in f c) xs (without c (of_class f (key_in f c) xs)) xs' → (l pr : ℕ) → (class_place f (key_in f c) None ls).leader ≡ Some l
+pub filed_shortened : (f : ℕ → Option HeldCell) → HaveLinks f → (m c : ℕ) (xs : List ℕ) (t : ClassTree) (xs' : List ℕ) → MayFile f m c xs t → In c xs → ClassBecomes f (key_in f c) xs (without c (of_class f (key_in f c) xs)) xs' → (l pr : ℕ) → top (place_in f (key_in f c) m t).tree ≡ Some l
     → link_in f c CLASS_PREV ≡ Some pr → link_in f c CLASS_NEXT ≡ None → Refiled f (shortened f l pr) m xs (key_in f c) xs'
-filed_shortened f have m c xs ls xs' a i one l pr lead prev next =
-    let w = among f m c xs ls a i in let u = leads f m c xs ls a (key_in f c) l lead in
+filed_shortened f have m c xs t xs' a i one l pr lead prev next =
+    let w = among f m c xs t a i in let u = leads f m c xs t a (key_in f c) l lead in
     let none : w.vs ≡ [] = (back_is (class_node f) (Some w.l) w.us c w.vs (link_in f w.l CLASS_LAST) w.run None next).0 refl in
     let cut : of_class f (key_in f c) xs ≡ w.us ++ c ∷ [] = w.is ∙ ap (λ us. w.us ++ (c ∷ us)) none in
     let inside : of_class f (key_in f c) xs' ≡ w.us = one.own ∙ ap (without c) w.is ∙ without_at w.us c w.vs w.once ∙ ap (λ us. w.us ++ us) none ∙ plus_nothing w.us in
     record {
-      touches = shortened_touches f m c xs ls have a.classed a.alive a.once a.there_m a.there_c a.no_m a.not_m xs' w.us l pr one.others cut inside u.inside u.key prev next;
-      leaders = ls;
-      classed = shortened_classed f m c xs ls have a.classed a.alive a.once a.there_m a.there_c a.no_m a.not_m xs' w.us l pr one.others cut inside u.inside u.key prev next;
+      touches = shortened_touches f m c xs t have a.classed a.alive a.once a.there_m a.there_c a.no_m a.not_m xs' w.us l pr one.others cut inside u.inside u.key prev next;
+      tree = t;
+      classed = shortened_classed f m c xs t have a.classed a.alive a.once a.there_m a.there_c a.no_m a.not_m xs' w.us l pr one.others cut inside u.inside u.key prev next;
     }
 
 -- the first one of a class has none before it
-front_is : (f : ℕ → Option HeldCell) (m c : ℕ) (xs ls : List ℕ) (w : Among f xs ls c) → link_in f c CLASS_PREV ≡ None → (of_class f (key_in f c) xs ≡ c ∷ w.vs) × ((class_place f (key_in f c) None ls).leader ≡ Some c)
-front_is f m c xs ls w prev =
+front_is : (f : ℕ → Option HeldCell) (m c : ℕ) (xs : List ℕ) (t : ClassTree) (w : Among f m xs t c) → link_in f c CLASS_PREV ≡ None → (of_class f (key_in f c) xs ≡ c ∷ w.vs) × (top (place_in f (key_in f c) m t).tree ≡ Some c)
+front_is f m c xs t w prev =
     let none : w.us ≡ [] = no_front (class_node f) (Some w.l) w.us c w.vs (link_in f w.l CLASS_LAST) w.run prev in
     let r : RunsThrough (class_node f) None (Some w.l) (c ∷ w.vs) (link_in f w.l CLASS_LAST) None = subst (λ us. RunsThrough (class_node f) None (Some w.l) (us ++ (c ∷ w.vs)) (link_in f w.l CLASS_LAST) None) none w.run in
     (w.is ∙ ap (λ us. us ++ (c ∷ w.vs)) none, w.lead ∙ r.0)
 
 -- it is found
-pub leads_itself : (f : ℕ → Option HeldCell) (m c : ℕ) (xs ls : List ℕ) → MayFile f m c xs ls → In c xs → link_in f c CLASS_PREV ≡ None → (class_place f (key_in f c) None ls).leader ≡ Some c
-leads_itself f m c xs ls a i prev = (front_is f m c xs ls (among f m c xs ls a i) prev).1
+pub leads_itself : (f : ℕ → Option HeldCell) (m c : ℕ) (xs : List ℕ) (t : ClassTree) → MayFile f m c xs t → In c xs → link_in f c CLASS_PREV ≡ None → top (place_in f (key_in f c) m t).tree ≡ Some c
+leads_itself f m c xs t a i prev = (front_is f m c xs t (among f m c xs t a i) prev).1
 
 -- it leaves, and the next one leads
-pub filed_passed : (f : ℕ → Option HeldCell) → HaveLinks f → (m c : ℕ) (xs ls xs' : List ℕ) → MayFile f m c xs ls → In c xs → ClassBecomes f (key_in f c) xs (without c (of_class f (key_in f c) xs)) xs' → (nx : ℕ) → link_in f c CLASS_PREV ≡ None → link_in f c CLASS_NEXT ≡ Some nx
-    → Refiled f (passed f m (class_place f (key_in f c) None ls).before c nx) m xs (key_in f c) xs'
-filed_passed f have m c xs ls xs' a i one nx prev next =
-    let w = among f m c xs ls a i in let u = front_is f m c xs ls w prev in
+pub filed_passed : (f : ℕ → Option HeldCell) → HaveLinks f → (m c : ℕ) (xs : List ℕ) (t : ClassTree) (xs' : List ℕ) → MayFile f m c xs t → In c xs → ClassBecomes f (key_in f c) xs (without c (of_class f (key_in f c) xs)) xs' → (nx : ℕ) → link_in f c CLASS_PREV ≡ None → link_in f c CLASS_NEXT ≡ Some nx
+    → Refiled f (passed f (place_in f (key_in f c) m t).holder (place_in f (key_in f c) m t).link c nx) m xs (key_in f c) xs'
+filed_passed f have m c xs t xs' a i one nx prev next =
+    let w = among f m c xs t a i in let u = front_is f m c xs t w prev in
     let b = (back_is (class_node f) (Some w.l) w.us c w.vs (link_in f w.l CLASS_LAST) w.run (Some nx) next).1 nx refl in
     let cut : of_class f (key_in f c) xs ≡ c ∷ nx ∷ b.0 = u.0 ∙ ap (λ us. c ∷ us) b.1 in
+    let k = fork_of (place_in f (key_in f c) m t).tree c u.1 in
     let inside : of_class f (key_in f c) xs' ≡ nx ∷ b.0 = one.own ∙ ap (without c) cut ∙ without_at [] c (nx ∷ b.0) (subst Distinct (sym w.is ∙ cut) w.once) in
     record {
-      touches = passed_touches f m c xs ls have a.classed a.alive a.once a.there_m a.there_c a.no_m a.not_m xs' b.0 nx one.others cut inside u.1;
-      leaders = _;
-      classed = passed_classed f m c xs ls have a.classed a.alive a.once a.there_m a.there_c a.no_m a.not_m xs' b.0 nx one.others cut inside u.1;
+      touches = passed_touches f m c xs t have a.classed a.alive a.once a.there_m a.there_c a.no_m a.not_m xs' b.0 nx one.others cut inside k.0 k.1 k.2;
+      tree = _;
+      classed = passed_classed f m c xs t have a.classed a.alive a.once a.there_m a.there_c a.no_m a.not_m xs' b.0 nx one.others cut inside k.0 k.1 k.2;
     }
 
--- or its class is gone
-pub filed_dropped : (f : ℕ → Option HeldCell) → HaveLinks f → (m c : ℕ) (xs ls xs' : List ℕ) → MayFile f m c xs ls → In c xs → ClassBecomes f (key_in f c) xs (without c (of_class f (key_in f c) xs)) xs' → link_in f c CLASS_PREV ≡ None → link_in f c CLASS_NEXT ≡ None
-    → Refiled f (led f m (class_place f (key_in f c) None ls).before (link_in f c PEER)) m xs (key_in f c) xs'
-filed_dropped f have m c xs ls xs' a i one prev next =
-    let w = among f m c xs ls a i in let u = front_is f m c xs ls w prev in
-    let none : w.vs ≡ [] = (back_is (class_node f) (Some w.l) w.us c w.vs (link_in f w.l CLASS_LAST) w.run None next).0 refl in
-    let cut : of_class f (key_in f c) xs ≡ c ∷ [] = u.0 ∙ ap (λ us. c ∷ us) none in
-    let inside : of_class f (key_in f c) xs' ≡ [] = one.own ∙ ap (without c) cut ∙ without_at [] c [] (subst Distinct (sym w.is ∙ cut) w.once) in
-    record {
-      touches = dropped_touches f m c xs ls have a.classed a.alive a.once a.there_m a.there_c a.no_m a.not_m xs' one.others inside u.1;
-      leaders = _;
-      classed = dropped_classed f m c xs ls have a.classed a.alive a.once a.there_m a.there_c a.no_m a.not_m xs' one.others inside u.1;
+-- the tree from there on
+pub begins_tree : (f : ℕ → Option HeldCell) (m c : ℕ) (xs : List ℕ) (t : ClassTree) → MayFile f m c xs t → In c xs → link_in f c CLASS_PREV ≡ None → (a : ClassTree) × (b : ClassTree) × ((place_in f (key_in f c) m t).tree ≡ Fork c a b)
+begins_tree f m c xs t a i prev = fork_of (place_in f (key_in f c) m t).tree c (leads_itself f m c xs t a i prev)
+
+-- below it
+pub below_is : (f : ℕ → Option HeldCell) (m c : ℕ) (xs : List ℕ) (t : ClassTree) → MayFile f m c xs t → (x : ℕ) (a b : ClassTree) → (place_in f (key_in f c) m t).tree ≡ Fork x a b → IsTree f (link_in f x EVEN) a × IsTree f (link_in f x ODD) b × (d : ℕ) × IsSorted f d a × IsSorted f d b
+below_is f m c xs t may x a b is =
+    let w = place_in f (key_in f c) m t in let h = (at f m xs t may.classed may.no_m (key_in f c)).hole in
+    let n : IsTree f (link_in f w.holder w.link) (Fork x a b) = subst (λ u. IsTree f (link_in f w.holder w.link) u) is (h.part may.classed.tree) in
+    let s : IsSorted f w.depth (Fork x a b) = subst (λ u. IsSorted f w.depth u) is h.sorted in
+    (n.2, n.3, suc w.depth, s.2, s.3)
+
+-- or its class is gone, and one from below it, if there is one, takes its place
+pub filed_dropped : (f : ℕ → Option HeldCell) → HaveLinks f → (m c : ℕ) (xs : List ℕ) (t : ClassTree) (xs' : List ℕ) → MayFile f m c xs t → In c xs → ClassBecomes f (key_in f c) xs (without c (of_class f (key_in f c) xs)) xs' → link_in f c CLASS_PREV ≡ None → link_in f c CLASS_NEXT ≡ None
+    → (l r : ClassTree) → (place_in f (key_in f c) m t).tree ≡ Fork c l r
+    → Refiled f (dropped f (place_in f (key_in f c) m t).holder (place_in f (key_in f c) m t).link c (lowest_below c l r).holder (lowest_below c l r).link (lowest_below c l r).leader) m xs (key_in f c) xs'
+filed_dropped f have m c xs t xs' a i one prev next l r is = by l r is
+  where
+    inside : of_class f (key_in f c) xs' ≡ []
+    inside =
+        let w = among f m c xs t a i in let u = front_is f m c xs t w prev in
+        let none : w.vs ≡ [] = (back_is (class_node f) (Some w.l) w.us c w.vs (link_in f w.l CLASS_LAST) w.run None next).0 refl in
+        let cut : of_class f (key_in f c) xs ≡ c ∷ [] = u.0 ∙ ap (λ us. c ∷ us) none in
+        one.own ∙ ap (without c) cut ∙ without_at [] c [] (subst Distinct (sym w.is ∙ cut) w.once)
+
+    by : (l r : ClassTree) → (place_in f (key_in f c) m t).tree ≡ Fork c l r
+        → Refiled f (dropped f (place_in f (key_in f c) m t).holder (place_in f (key_in f c) m t).link c (lowest_below c l r).holder (lowest_below c l r).link (lowest_below c l r).leader) m xs (key_in f c) xs'
+    by Bare Bare is = record {
+      touches = bare_touches f m c xs t have a.classed a.alive a.once a.there_m a.there_c a.no_m a.not_m xs' one.others inside Bare Bare is refl;
+      tree = _;
+      classed = bare_classed f m c xs t have a.classed a.alive a.once a.there_m a.there_c a.no_m a.not_m xs' one.others inside Bare Bare is refl;
     }
+    by Bare (Fork q u v) is =
+        let s : IsSorted f (place_in f (key_in f c) m t).depth (Fork c Bare (Fork q u v)) = subst (λ y. IsSorted f (place_in f (key_in f c) m t).depth y) is (at f m xs t a.classed a.no_m (key_in f c)).hole.sorted in
+        let w = some_lowest f c ODD (suc (place_in f (key_in f c) m t).depth) (Fork q u v) s.3 (beside_not f c (place_in f (key_in f c) m t).depth true (leaders (Fork q u v)) s.1) q refl in
+        subst (λ (y : Hung). Refiled f (dropped f (place_in f (key_in f c) m t).holder (place_in f (key_in f c) m t).link c y.holder y.link y.leader) m xs (key_in f c) xs') (sym w.1.is) record {
+          touches = odd_touches f m c xs t have a.classed a.alive a.once a.there_m a.there_c a.no_m a.not_m xs' one.others inside Bare (Fork q u v) is w.0 w.1.place w.1.hole w.1.alone;
+          tree = _;
+          classed = odd_classed f m c xs t have a.classed a.alive a.once a.there_m a.there_c a.no_m a.not_m xs' one.others inside Bare (Fork q u v) is w.0 w.1.place w.1.hole w.1.alone;
+        }
+    by (Fork q u v) r is =
+        let s : IsSorted f (place_in f (key_in f c) m t).depth (Fork c (Fork q u v) r) = subst (λ y. IsSorted f (place_in f (key_in f c) m t).depth y) is (at f m xs t a.classed a.no_m (key_in f c)).hole.sorted in
+        let w = some_lowest f c EVEN (suc (place_in f (key_in f c) m t).depth) (Fork q u v) s.2 (beside_not f c (place_in f (key_in f c) m t).depth false (leaders (Fork q u v)) s.0) q refl in
+        subst (λ (y : Hung). Refiled f (dropped f (place_in f (key_in f c) m t).holder (place_in f (key_in f c) m t).link c y.holder y.link y.leader) m xs (key_in f c) xs') (sym w.1.is) record {
+          touches = even_touches f m c xs t have a.classed a.alive a.once a.there_m a.there_c a.no_m a.not_m xs' one.others inside (Fork q u v) r is w.0 w.1.place w.1.hole w.1.alone;
+          tree = _;
+          classed = even_classed f m c xs t have a.classed a.alive a.once a.there_m a.there_c a.no_m a.not_m xs' one.others inside (Fork q u v) r is w.0 w.1.place w.1.hole w.1.alone;
+        }
 
 -- An atom comes before another of its class
 
 -- the other one may be asked for too
-may_other : (f : ℕ → Option HeldCell) (m c : ℕ) (xs ls : List ℕ) → MayFile f m c xs ls → (d : ℕ) → In d xs → MayFile f m d xs ls
-may_other f m c xs ls a d i = record { classed = a.classed; once = a.once; alive = a.alive; short = a.short; there_m = a.there_m; there_c = a.alive d i; no_m = a.no_m; not_m = λ e. a.no_m (subst (λ u. In u xs) e i) }
+may_other : (f : ℕ → Option HeldCell) (m c : ℕ) (xs : List ℕ) (t : ClassTree) → MayFile f m c xs t → (d : ℕ) → In d xs → MayFile f m d xs t
+may_other f m c xs t a d i = record { classed = a.classed; once = a.once; alive = a.alive; there_m = a.there_m; there_c = a.alive d i; no_m = a.no_m; not_m = λ e. a.no_m (subst (λ u. In u xs) e i) }
 
 -- what stands before the other is there
-pub prev_other : (f : ℕ → Option HeldCell) (m c : ℕ) (xs ls : List ℕ) → MayFile f m c xs ls → (d : ℕ) → In d xs → (q : ℕ) → link_in f d CLASS_PREV ≡ Some q → IsSome (f q)
-prev_other f m c xs ls a d i q e = prev_alive f m d xs ls (may_other f m c xs ls a d i) i q e
+pub prev_other : (f : ℕ → Option HeldCell) (m c : ℕ) (xs : List ℕ) (t : ClassTree) → MayFile f m c xs t → (d : ℕ) → In d xs → (q : ℕ) → link_in f d CLASS_PREV ≡ Some q → IsSome (f q)
+prev_other f m c xs t a d i q e = prev_alive f m d xs t (may_other f m c xs t a d i) i q e
 
 -- with none before it it is found
-pub leads_other : (f : ℕ → Option HeldCell) (m c : ℕ) (xs ls : List ℕ) → MayFile f m c xs ls → (d : ℕ) → In d xs → key_in f d ≡ key_in f c → link_in f d CLASS_PREV ≡ None → (class_place f (key_in f c) None ls).leader ≡ Some d
-leads_other f m c xs ls a d i k e = subst (λ p. (class_place f p None ls).leader ≡ Some d) k (leads_itself f m d xs ls (may_other f m c xs ls a d i) i e)
+pub leads_other : (f : ℕ → Option HeldCell) (m c : ℕ) (xs : List ℕ) (t : ClassTree) → MayFile f m c xs t → (d : ℕ) → In d xs → key_in f d ≡ key_in f c → link_in f d CLASS_PREV ≡ None → top (place_in f (key_in f c) m t).tree ≡ Some d
+leads_other f m c xs t a d i k e = subst (λ p. top (place_in f p m t).tree ≡ Some d) k (leads_itself f m d xs t (may_other f m c xs t a d i) i e)
 
 -- between two
-pub filed_inside : (f : ℕ → Option HeldCell) → HaveLinks f → (m c : ℕ) (xs ls xs' : List ℕ) → MayFile f m c xs ls → (In c xs → ⊥) → (d : ℕ) → In d xs → key_in f d ≡ key_in f c → ClassBecomes f (key_in f c) xs (put_before c d (of_class f (key_in f c) xs)) xs'
+pub filed_inside : (f : ℕ → Option HeldCell) → HaveLinks f → (m c : ℕ) (xs : List ℕ) (t : ClassTree) (xs' : List ℕ) → MayFile f m c xs t → (In c xs → ⊥) → (d : ℕ) → In d xs → key_in f d ≡ key_in f c → ClassBecomes f (key_in f c) xs (put_before c d (of_class f (key_in f c) xs)) xs'
     → (pr : ℕ) → link_in f d CLASS_PREV ≡ Some pr → Refiled f (put_between f pr d c) m (c ∷ xs) (key_in f c) xs'
-filed_inside f have m c xs ls xs' a fresh d i k one pr prev =
-    let w = among f m d xs ls (may_other f m c xs ls a d i) i in
+filed_inside f have m c xs t xs' a fresh d i k one pr prev =
+    let w = among f m d xs t (may_other f m c xs t a d i) i in
     let cut : of_class f (key_in f c) xs ≡ w.us ++ (d ∷ w.vs) = ap (λ p. of_class f p xs) (sym k) ∙ w.is in
     let inside : of_class f (key_in f c) xs' ≡ w.us ++ (c ∷ d ∷ w.vs) = one.own ∙ ap (put_before c d) cut ∙ put_at c w.us d w.vs w.once in
     let key_l : is_key (key_in f w.l) (key_in f c) ≡ true = subst (λ p. is_key (key_in f w.l) p ≡ true) k w.leads.key in
     record {
-      touches = inside_touches f m c xs ls have a.classed a.alive a.once a.there_m a.there_c a.no_m a.not_m xs' w.us w.vs w.l pr d one.others cut inside fresh w.leads.inside key_l prev;
-      leaders = ls;
-      classed = inside_classed f m c xs ls have a.classed a.alive a.once a.there_m a.there_c a.no_m a.not_m xs' w.us w.vs w.l pr d one.others cut inside fresh w.leads.inside key_l prev;
+      touches = inside_touches f m c xs t have a.classed a.alive a.once a.there_m a.there_c a.no_m a.not_m xs' w.us w.vs w.l pr d one.others cut inside fresh w.leads.inside key_l prev;
+      tree = t;
+      classed = inside_classed f m c xs t have a.classed a.alive a.once a.there_m a.there_c a.no_m a.not_m xs' w.us w.vs w.l pr d one.others cut inside fresh w.leads.inside key_l prev;
     }
 
 -- before the first
-pub filed_first : (f : ℕ → Option HeldCell) → HaveLinks f → (m c : ℕ) (xs ls xs' : List ℕ) → MayFile f m c xs ls → (In c xs → ⊥) → (d : ℕ) → In d xs → key_in f d ≡ key_in f c → ClassBecomes f (key_in f c) xs (put_before c d (of_class f (key_in f c) xs)) xs'
-    → link_in f d CLASS_PREV ≡ None → Refiled f (put_first f m (class_place f (key_in f c) None ls).before d c) m (c ∷ xs) (key_in f c) xs'
-filed_first f have m c xs ls xs' a fresh d i k one prev =
-    let b = may_other f m c xs ls a d i in let w = among f m d xs ls b i in let u = front_is f m d xs ls w prev in
+pub filed_first : (f : ℕ → Option HeldCell) → HaveLinks f → (m c : ℕ) (xs : List ℕ) (t : ClassTree) (xs' : List ℕ) → MayFile f m c xs t → (In c xs → ⊥) → (d : ℕ) → In d xs → key_in f d ≡ key_in f c → ClassBecomes f (key_in f c) xs (put_before c d (of_class f (key_in f c) xs)) xs'
+    → link_in f d CLASS_PREV ≡ None → Refiled f (put_first f (place_in f (key_in f c) m t).holder (place_in f (key_in f c) m t).link d c) m (c ∷ xs) (key_in f c) xs'
+filed_first f have m c xs t xs' a fresh d i k one prev =
+    let b = may_other f m c xs t a d i in let w = among f m d xs t b i in let u = front_is f m d xs t w prev in
     let cut : of_class f (key_in f c) xs ≡ d ∷ w.vs = ap (λ p. of_class f p xs) (sym k) ∙ u.0 in
     let once : Distinct (d ∷ w.vs) = subst Distinct (sym w.is ∙ u.0) w.once in
     let inside : of_class f (key_in f c) xs' ≡ c ∷ d ∷ w.vs = one.own ∙ ap (put_before c d) cut ∙ put_at c [] d w.vs once in
-    let lead = leads_other f m c xs ls a d i k prev in
+    let y = fork_of (place_in f (key_in f c) m t).tree d (leads_other f m c xs t a d i k prev) in
     record {
-      touches = first_touches f m c xs ls have a.classed a.alive a.once a.there_m a.there_c a.no_m a.not_m xs' w.vs d one.others cut inside fresh lead;
-      leaders = _;
-      classed = first_classed f m c xs ls have a.classed a.alive a.once a.there_m a.there_c a.no_m a.not_m xs' w.vs d one.others cut inside fresh lead;
+      touches = first_touches f m c xs t have a.classed a.alive a.once a.there_m a.there_c a.no_m a.not_m xs' w.vs d one.others cut inside fresh y.0 y.1 y.2;
+      tree = _;
+      classed = first_classed f m c xs t have a.classed a.alive a.once a.there_m a.there_c a.no_m a.not_m xs' w.vs d one.others cut inside fresh y.0 y.1 y.2;
     }

@@ -17,7 +17,7 @@ use Rattle.lmn_web.specs.declared.kind.CellKind.TheVariants.{Atom, Membrane}
 use Rattle.lmn_web.specs.Kinds.{FILED, kind_by}
 use Rattle.lmn_web.specs.Webs.{WebCell, WithoutAtoms, web_cell, web_of, cells_in, partner_at, list_in, list_link, count_number, number_in, label_by, with_list, INDEX, ARITY, KIND, HIGH, LOW, FIRST_MARK}
 use Rattle.lmn_web.specs.Indexes.{unindexed, bare_atoms, cell_kind, AreLinked, IsListed, IsWeb, IsClassed, IsTable, Without}
-use Rattle.lmn_web.specs.Classes.{LEADERS, AreClassed}
+use Rattle.lmn_web.specs.Classes.{LEADERS, Bare, AreClassed}
 use Rattle.lmn_web.proofs.ListedLemmas.{cell_of, list_same, listed_self, web_self}
 use Rattle.lmn_web.proofs.WebLemmas.{Account, account, partner_same}
 use Rattle.lmn_web.proofs.RelistLemmas.{put_list}
@@ -39,11 +39,6 @@ un_ports (Some c) = refl
 pub un_there : (o : Option HeldCell) → is_some (unindexed o) ≡ is_some o
 un_there None = refl
 un_there (Some c) = refl
-
--- how many numbers it has
-pub un_count : (o : Option HeldCell) → length (numbers_of (unindexed o)) ≡ length (numbers_of o)
-un_count None = refl
-un_count (Some c) = length-set c.numbers INDEX 0
 
 -- its other numbers
 pub un_number : (o : Option HeldCell) (k : ℕ) → INDEX < k → get_or (numbers_of (unindexed o)) k 0 ≡ get_or (numbers_of o) k 0
@@ -384,7 +379,7 @@ module _ (f h : ℕ → Option HeldCell) (all rest : List ℕ) (W : IsWeb f all)
     pub empty_classed : IsClassed f (list_in f) → IsClassed h (list_in h)
     empty_classed c = classed_self h lists empty_lists record {
       classes = λ n d. elim (cases_eq n m) [
-        | inl s ↦ ([], subst (λ z. AreClassed h z (lists z Atom) []) (sym s) (subst (λ (u : CellKind → List ℕ). AreClassed h m (u Atom) []) (sym (alter_at (list_in f) m (put_list Atom []))) none))
+        | inl s ↦ (Bare, subst (λ z. AreClassed h z (lists z Atom) Bare) (sym s) (subst (λ (u : CellKind → List ℕ). AreClassed h m (u Atom) Bare) (sym (alter_at (list_in f) m (put_list Atom []))) none))
         | inr o ↦ (let miss : In n xs → ⊥ = (λ i. files_inside h n d (kind_is n ∙ is_atom n i)) in
             let q = c.classes n (ap (λ k. k == FILED) (sym (e.numbers n KIND miss (omega arith) (λ s. absurd (o s)))) ∙ d) in
             let out : (x : ℕ) → In x (list_in f n Atom) → In x xs → ⊥ = (λ x i. stays n Atom x (λ s _. o s) i) in
@@ -393,7 +388,7 @@ module _ (f h : ℕ → Option HeldCell) (all rest : List ℕ) (W : IsWeb f all)
               subst (λ (u : CellKind → List ℕ). AreClassed h n (u Atom) q.0) (sym (alter_away (list_in f) m (put_list Atom []) n o))
                   (class_kept f h n (list_in f n Atom) q.0
                   (λ x i t. (e.numbers x HIGH (out x i) (omega arith) (λ s. absurd (not_m x i s)) t, e.numbers x ARITY (out x i) (omega arith) (λ s. absurd (not_m x i s)) t))
-                  (λ x k i _ _. e.links x k (out x i) (λ s. absurd (not_m x i s)))
+                  (λ x k i _. e.links x k (out x i) (λ s. absurd (not_m x i s)))
                   (λ x i t. e.there x (out x i) ∙ t)
                   (e.links n LEADERS miss (λ s. absurd (o s))) q.1),
             ))
@@ -404,5 +399,5 @@ module _ (f h : ℕ → Option HeldCell) (all rest : List ℕ) (W : IsWeb f all)
       ];
     }
       where
-        none : AreClassed h m [] []
-        none = record { peers = e.leaders; once = tt; inside = λ l i. i; apart = λ j k p q s. absurd p; every = λ x i. absurd i; runs = λ l i. absurd i }
+        none : AreClassed h m [] Bare
+        none = record { tree = e.leaders; sorted = tt; inside = λ l i. i; every = λ x i. absurd i; runs = λ l i. absurd i }

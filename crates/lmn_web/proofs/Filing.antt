@@ -7,22 +7,21 @@ use Rattle.lmn_heap.specs.Heap.{alter}
 use Rattle.lmn_heap.specs.Lists.{Distinct, from, without}
 use Rattle.lmn_heap.proofs.Listing.{alter_at, alter_away}
 use Rattle.lmn_heap.proofs.ListLemmas.{each_in, each_of}
-use Rattle.lmn_heap.proofs.Pigeonholes.{not_longer}
 use Rattle.lmn_cells.specs.Cells.{HeldCell, blank_cell, links_of, numbers_of, with_link, with_number}
 use Rattle.lmn_cells.specs.Runs.{HOME, NEXT, PREV, RunsThrough, node_in, link_in, Line, put_before, with_next, with_prev, appended, inserted, unlinked}
 use Rattle.lmn_cells.proofs.LineLemmas.{keeps, link_other}
-use Rattle.lmn_cells.proofs.InsertLemmas.{length_put}
 use Rattle.lmn_cells.proofs.RunLemmas.{frame}
 use Rattle.lmn_web.specs.declared.kind.CellKind.{CellKind}
 use Rattle.lmn_web.specs.declared.kind.CellKind.TheVariants.{Atom, Membrane}
 use Rattle.lmn_web.specs.Kinds.{FILED, kind_by}
 use Rattle.lmn_web.specs.Webs.{list_in, list_link, count_number, number_in, ARITY, KIND, HIGH, LOW}
 use Rattle.lmn_web.specs.Indexes.{described, cell_kind, IsListed, IsWeb, IsClassed, IsClassedWeb}
-use Rattle.lmn_web.specs.Classes.{CLASS_NEXT, CLASS_PREV, CLASS_LAST, PEER, LEADERS, AllButLinks, files, class_node, key_in, is_key, of_class, ArePeers, AreClassed, MayFile, MayEnter, MayLeave, ClassBecomes, Touches, Refiled, FiledAs, put_at}
+use Rattle.lmn_web.specs.Classes.{CLASS_NEXT, CLASS_PREV, CLASS_LAST, EVEN, ODD, LEADERS, AllButLinks, ClassTree, Bare, IsTree, files, class_node, key_in, is_key, of_class, AreClassed, MayFile, MayEnter, MayLeave, ClassBecomes, Touches, Refiled, FiledAs, put_at}
 use Rattle.lmn_web.proofs.ListedLemmas.{same_lists, lists_same, cell_of}
 use Rattle.lmn_web.proofs.WebLemmas.{Told, told, made_web, made_lists, no_list}
 use Rattle.lmn_web.proofs.RelistLemmas.{Core, Relists, relists_web, in_none, new, new_lists, each, kind_is, there, m_there, core_of, back, core_rest}
-use Rattle.lmn_web.proofs.Reclassing.{in_filter}
+use Rattle.lmn_web.proofs.Reclassing.{in_filter, sorted_keys}
+use Rattle.lmn_web.proofs.ClassTrees.{tree_kept}
 use Rattle.lmn_web.proofs.FilterLemmas.{filter_same, one_before, place_in}
 use Rattle.lmn_base.proofs.Truth.{false_not_true as not_true}
 
@@ -40,31 +39,24 @@ files_inside f m e s = let n = eqb-true (number_in f m KIND) FILED e in let z : 
 -- Classes stay
 
 -- where the links of its atoms to each other, and its own to the first class, are as they were
-module _ (f g : ℕ → Option HeldCell) (m : ℕ) (xs ls : List ℕ) (keys : (x : ℕ) → In x xs → key_in g x ≡ key_in f x) (links : (x k : ℕ) → In x xs → PREV < k → k < LEADERS → link_in g x k ≡ link_in f x k)
+module _ (f g : ℕ → Option HeldCell) (m : ℕ) (xs : List ℕ) (t : ClassTree) (keys : (x : ℕ) → In x xs → key_in g x ≡ key_in f x) (links : (x k : ℕ) → In x xs → PREV < k → link_in g x k ≡ link_in f x k)
     (stay : (x : ℕ) → In x xs → IsSome (f x) → IsSome (g x)) (head : link_in g m LEADERS ≡ link_in f m LEADERS) where
   list_kept : (p : ℕ × ℕ) → of_class g p xs ≡ of_class f p xs
   list_kept p = filter_same (λ a. is_key (key_in g a) p) (λ a. is_key (key_in f a) p) xs (λ x i. ap (λ q. is_key q p) (keys x i))
 
-  peers_kept : (first : Option ℕ) (ks : List ℕ) → ((k : ℕ) → In k ks → In k xs) → ArePeers f first ks → ArePeers g first ks
-  peers_kept first [] inside q = q
-  peers_kept first (k ∷ ks) inside q =
-      let i = inside k (inl refl) in
-      (q.0, stay k i q.1, subst (λ o. ArePeers g o ks) (sym (links k PEER i (omega arith) (omega arith))) (peers_kept (link_in f k PEER) ks (λ j o. inside j (inr o)) q.2))
-
   -- a membrane keeps its classes
-  pub class_kept : AreClassed f m xs ls → AreClassed g m xs ls
+  pub class_kept : AreClassed f m xs t → AreClassed g m xs t
   class_kept c = record {
-    peers = subst (λ o. ArePeers g o ls) (sym head) (peers_kept (link_in f m LEADERS) ls c.inside c.peers);
-    once = c.once;
+    tree = subst (λ o. IsTree g o t) (sym head) (tree_kept f g (link_in f m LEADERS) t (λ l i. (links l EVEN (c.inside l i) (omega arith), links l ODD (c.inside l i) (omega arith))) (λ l i. stay l (c.inside l i)) c.tree);
+    sorted = sorted_keys f g 0 t (λ l i. keys l (c.inside l i)) c.sorted;
     inside = c.inside;
-    apart = λ j k a b e. c.apart j k a b (sym (keys j (c.inside j a)) ∙ e ∙ keys k (c.inside k b));
     every = λ x i. let o = c.every x i in (o.0, o.1, keys o.0 (c.inside o.0 o.1) ∙ o.2 ∙ sym (keys x i));
     runs = λ l i. let q = key_in f l in let il = c.inside l i in
         subst (λ r. RunsThrough (class_node g) None (Some l) (of_class g r xs) (link_in g l CLASS_LAST) None) (sym (keys l il))
         (subst (λ us. RunsThrough (class_node g) None (Some l) us (link_in g l CLASS_LAST) None) (sym (list_kept q))
-        (subst (λ o. RunsThrough (class_node g) None (Some l) (of_class f q xs) o None) (sym (links l CLASS_LAST il (omega arith) (omega arith)))
+        (subst (λ o. RunsThrough (class_node g) None (Some l) (of_class f q xs) o None) (sym (links l CLASS_LAST il (omega arith)))
         (frame (class_node f) (class_node g) None (Some l) (of_class f q xs) (link_in f l CLASS_LAST) None
-        (each_of _ (of_class f q xs) (λ z j. let w = (in_filter (λ a. is_key (key_in f a) q) z xs j).0 in λ t. record { prev = links z CLASS_PREV w (omega arith) (omega arith) t; next = links z CLASS_NEXT w (omega arith) (omega arith) t })) (c.runs l i))));
+        (each_of _ (of_class f q xs) (λ z j. let w = (in_filter (λ a. is_key (key_in f a) q) z xs j).0 in λ u. record { prev = links z CLASS_PREV w (omega arith) u; next = links z CLASS_NEXT w (omega arith) u })) (c.runs l i))));
   }
 
 -- the classes of the lists that the cells tell
@@ -75,7 +67,7 @@ classed_self f ys l c = subst (λ (z : ℕ → CellKind → List ℕ). IsClassed
 pub classed_links : (f g : ℕ → Option HeldCell) (ys : ℕ → CellKind → List ℕ) → ((b k : ℕ) → link_in g b k ≡ link_in f b k) → ((b : ℕ) → key_in g b ≡ key_in f b) → ((b : ℕ) → number_in g b LOW ≡ number_in f b LOW) → ((b : ℕ) → number_in g b KIND ≡ number_in f b KIND)
     → ((b : ℕ) → IsSome (f b) → IsSome (g b)) → IsClassed f ys → IsClassed g ys
 classed_links f g ys link key low kind stay c = record {
-  classes = λ m d. let o = c.classes m (ap (λ n. n == FILED) (sym (kind m)) ∙ d) in (o.0, class_kept f g m (ys m Atom) o.0 (λ x i. key x) (λ x k i a b. link x k) (λ x i t. stay x t) (link m LEADERS) o.1);
+  classes = λ m d. let o = c.classes m (ap (λ n. n == FILED) (sym (kind m)) ∙ d) in (o.0, class_kept f g m (ys m Atom) o.0 (λ x i. key x) (λ x k i a. link x k) (λ x i t. stay x t) (link m LEADERS) o.1);
   low = λ b. subst (λ n. n < 2 ^ 64) (sym (low b)) (c.low b);
 }
 
@@ -96,12 +88,12 @@ pub classed_beside : (f g : ℕ → Option HeldCell) (a : ℕ) (ys : ℕ → Cel
     → IsClassed f ys → IsClassed g ys
 classed_beside f g a ys away out none head small c = record {
   classes = λ m d. elim (cases_eq m a) [
-    | inl e ↦ ([], subst (λ z. AreClassed g z (ys z Atom) []) (sym e) (subst (λ us. AreClassed g a us []) (sym (none Atom)) bare))
+    | inl e ↦ (Bare, subst (λ z. AreClassed g z (ys z Atom) Bare) (sym e) (subst (λ us. AreClassed g a us Bare) (sym (none Atom)) bare))
     | inr n ↦ (let o = c.classes m (ap (λ (o : Option HeldCell). get_or (numbers_of o) KIND 0 == FILED) (sym (away m n)) ∙ d) in (
       o.0,
       class_kept f g m (ys m Atom) o.0
           (λ x i t. (get_or (numbers_of (other m x i t)) HIGH 0, get_or (numbers_of (other m x i t)) ARITY 0))
-          (λ x k i _ _. ap (λ (o : Option HeldCell). get_or (links_of o) k None) (other m x i))
+          (λ x k i _. ap (λ (o : Option HeldCell). get_or (links_of o) k None) (other m x i))
           (λ x i t. subst (λ (o : Option HeldCell). IsSome o) (sym (other m x i)) t)
           (ap (λ (o : Option HeldCell). get_or (links_of o) LEADERS None) (away m n)) o.1,
     ))
@@ -115,8 +107,8 @@ classed_beside f g a ys away out none head small c = record {
     other : (m x : ℕ) → In x (ys m Atom) → g x ≡ f x
     other m x i = away x (λ e. out m Atom (subst (λ u. In u (ys m Atom)) e i))
 
-    bare : AreClassed g a [] []
-    bare = record { peers = head; once = tt; inside = λ l i. i; apart = λ j k p q e. absurd p; every = λ x i. absurd i; runs = λ l i. absurd i }
+    bare : AreClassed g a [] Bare
+    bare = record { tree = head; sorted = tt; inside = λ l i. i; every = λ x i. absurd i; runs = λ l i. absurd i }
 
 -- no cell, no class
 pub empty_classed : (f : ℕ → Option HeldCell) (all : List ℕ) → f ≡ (λ _. None) → IsWeb f all → IsClassedWeb f all
@@ -259,33 +251,28 @@ module _ (f F : ℕ → Option HeldCell) (all : List ℕ) (w : IsClassedWeb f al
   files_still n = ap (λ k. k == FILED) (number_core (F n) ∙ ap number_by_core (r.cores n) ∙ sym (number_core (f n)))
 
   -- the lists as they were have their classes
-  pub still_classed : (n : ℕ) → files f n Atom ≡ true → (ls : List ℕ) × AreClassed F n (list_in f n Atom) ls
+  pub still_classed : (n : ℕ) → files f n Atom ≡ true → (t : ClassTree) × AreClassed F n (list_in f n Atom) t
   still_classed n d =
       let o = w.classed.classes n d in
-      (o.0, class_kept f F n (list_in f n Atom) o.0 (λ z i. key_still z) (λ z k i a b. leaves z k a (λ e. absurd (no_m n z i e))) (λ z i t. there f F (list_in f) w.web.listed m x h xs r z t) (leaves n LEADERS (omega arith) (λ _. refl)) o.1)
+      (o.0, class_kept f F n (list_in f n Atom) o.0 (λ z i. key_still z) (λ z k i a. leaves z k a (λ e. absurd (no_m n z i e))) (λ z i t. there f F (list_in f) w.web.listed m x h xs r z t) (leaves n LEADERS (omega arith) (λ _. refl)) o.1)
 
-  -- the first atoms of the classes of the membrane, where it files them
-  abbrev leaders_by : (b : Bool) → files f m Atom ≡ b → (ls : List ℕ) × (b ≡ true → AreClassed F m (list_in f m Atom) ls)
-  leaders_by true e = let o = still_classed m e in (o.0, λ _. o.1)
-  leaders_by false e = ([], λ t. absurd (not_true t))
+  -- the classes of the membrane, where it files them
+  abbrev tree_by : (b : Bool) → files f m Atom ≡ b → (t : ClassTree) × (b ≡ true → AreClassed F m (list_in f m Atom) t)
+  tree_by true e = let o = still_classed m e in (o.0, λ _. o.1)
+  tree_by false e = (Bare, λ t. absurd (not_true t))
 
-  abbrev pub leaders : List ℕ
-  leaders = (leaders_by (files f m Atom) refl).0
+  abbrev pub tree : ClassTree
+  tree = (tree_by (files f m Atom) refl).0
 
   -- an atom may be filed
-  may_file : files f m (cell_kind f x) ≡ true → IsSome (f x) → length own ≤ length xs + 1 → MayFile F m x own leaders
-  may_file filed t long =
+  may_file : files f m (cell_kind f x) ≡ true → IsSome (f x) → MayFile F m x own tree
+  may_file filed t =
       let atom = filed_atom f m (cell_kind f x) filed in
-      let classed : AreClassed F m (list_in f m Atom) leaders = (leaders_by (files f m Atom) refl).1 (ap (files f m) (sym atom) ∙ filed) in let l = w.web.listed.line m Atom r.membrane in
       let stay : (z : ℕ) → IsSome (f z) → IsSome (F z) = λ z s. there f F (list_in f) w.web.listed m x h xs r z s in
-      let count : number_in F m (count_number Atom) ≡ length xs = subst (λ k. number_in F m (count_number k) ≡ length xs) atom r.count_at in
-      let few = not_longer leaders (list_in f m Atom) classed.once classed.inside in
-      let within : length (list_in f m Atom) ≤ length xs + 1 = subst (λ k. length (list_in f m k) ≤ length xs + 1) atom long in
-      subst (λ k. MayFile F m x (list_in f m k) leaders) (sym atom) record {
-        classed = classed;
-        once = l.once;
+      subst (λ k. MayFile F m x (list_in f m k) tree) (sym atom) record {
+        classed = (tree_by (files f m Atom) refl).1 (ap (files f m) (sym atom) ∙ filed);
+        once = (w.web.listed.line m Atom r.membrane).once;
         alive = λ z i. stay z (cell_of f (list_in f) w.web.listed m z Atom i).0;
-        short = omega (arith, few, within, count);
         there_m = stay m (m_there f F (list_in f) w.web.listed m x h xs r);
         there_c = stay x t;
         no_m = λ i. no_m m m i refl;
@@ -293,13 +280,13 @@ module _ (f F : ℕ → Option HeldCell) (all : List ℕ) (w : IsClassedWeb f al
       }
 
   -- an atom that came into a list may be filed in its class
-  pub may_enter : (place : Option ℕ) → files f m (cell_kind f x) ≡ true → IsSome (f x) → length own ≤ length xs + 1 → (In x own → ⊥) → ((d : ℕ) → place ≡ Some d → In d own × (key_in F d ≡ key_in F x)) → ClassBecomes F (key_in F x) own (put_at x place (of_class F (key_in F x) own)) xs
-      → MayEnter F m x place own leaders xs
-  may_enter place filed t long fresh inside one = record { may = may_file filed t long; fresh = fresh; inside = inside; one = one }
+  pub may_enter : (place : Option ℕ) → files f m (cell_kind f x) ≡ true → IsSome (f x) → (In x own → ⊥) → ((d : ℕ) → place ≡ Some d → In d own × (key_in F d ≡ key_in F x)) → ClassBecomes F (key_in F x) own (put_at x place (of_class F (key_in F x) own)) xs
+      → MayEnter F m x place own tree xs
+  may_enter place filed t fresh inside one = record { may = may_file filed t; fresh = fresh; inside = inside; one = one }
 
   -- and one that left may leave its class
-  pub may_leave : files f m (cell_kind f x) ≡ true → IsSome (f x) → length own ≤ length xs + 1 → In x own → ClassBecomes F (key_in F x) own (without x (of_class F (key_in F x) own)) xs → MayLeave F m x own leaders xs
-  may_leave filed t long inside one = record { may = may_file filed t long; inside = inside; one = one }
+  pub may_leave : files f m (cell_kind f x) ≡ true → IsSome (f x) → In x own → ClassBecomes F (key_in F x) own (without x (of_class F (key_in F x) own)) xs → MayLeave F m x own tree xs
+  may_leave filed t inside one = record { may = may_file filed t; inside = inside; one = one }
 
   -- the classes of a list are as they were
   pub class_still : (p : ℕ × ℕ) (us : List ℕ) → of_class F p us ≡ of_class f p us
@@ -307,7 +294,7 @@ module _ (f F : ℕ → Option HeldCell) (all : List ℕ) (w : IsClassedWeb f al
 
   -- one that came before another, by the first of its class from there on
   pub may_before : (a : ℕ) (place : Option ℕ) → put_before x a own ≡ xs → files f m (cell_kind f x) ≡ true → IsSome (f x) → link_in f x HOME ≡ None → In a own
-      → from place (of_class f (key_in f x) (list_in f m Atom)) ≡ of_class f (key_in f x) (from (Some a) (list_in f m Atom)) → MayEnter F m x place own leaders xs
+      → from place (of_class f (key_in f x) (list_in f m Atom)) ≡ of_class f (key_in f x) (from (Some a) (list_in f m Atom)) → MayEnter F m x place own tree xs
   may_before a place is filed t free i found =
       let atom = filed_atom f m (cell_kind f x) filed in
       let k = cell_kind f x in let q = key_in f x in
@@ -315,7 +302,7 @@ module _ (f F : ℕ → Option HeldCell) (all : List ℕ) (w : IsClassedWeb f al
       let still : (us : List ℕ) → of_class F (key_in F x) us ≡ of_class f q us = λ us. class_still (key_in F x) us ∙ ap (λ p. of_class f p us) (key_still x) in
       let found_then : from place (of_class F (key_in F x) own) ≡ of_class F (key_in F x) (from (Some a) own) = ap (from place) (still own) ∙ found_own ∙ sym (still (from (Some a) own)) in
       let once : Distinct own = subst (λ j. Distinct (list_in f m j)) (sym atom) (w.web.listed.line m Atom r.membrane).once in
-      may_enter place filed t (let e = length_put x a own i in let g = ap (λ (us : List ℕ). length us) is in omega (arith, e, g)) (in_none f (list_in f) w.web.listed x free m k)
+      may_enter place filed t (in_none f (list_in f) w.web.listed x free m k)
       (λ d s. let n = place_in f q a place own i found_own d s in (n.0, key_still d ∙ n.1 ∙ sym (key_still x)))
       (subst (λ us. ClassBecomes F (key_in F x) own (put_at x place (of_class F (key_in F x) own)) us) is (one_before F x a place own once i found_then))
 
@@ -352,11 +339,11 @@ module _ (f F : ℕ → Option HeldCell) (all : List ℕ) (w : IsClassedWeb f al
     }
 
     -- and the classes of all other membranes
-    others_classed : (n : ℕ) → n ≢ m → files f n Atom ≡ true → ((z : ℕ) → In z (list_in f n Atom) → In z zs → ⊥) → (ls : List ℕ) × AreClassed G n (list_in f n Atom) ls
+    others_classed : (n : ℕ) → n ≢ m → files f n Atom ≡ true → ((z : ℕ) → In z (list_in f n Atom) → In z zs → ⊥) → (t : ClassTree) × AreClassed G n (list_in f n Atom) t
     others_classed n d c apart =
         let o = still_classed n c in (
           o.0,
-          class_kept F G n (list_in f n Atom) o.0 (λ z i u. (get_or (t.rests z u).numbers HIGH 0, get_or (t.rests z u).numbers ARITY 0)) (λ z k i a b. t.away z k (apart z i) (λ e. absurd (no_m n z i e)))
+          class_kept F G n (list_in f n Atom) o.0 (λ z i u. (get_or (t.rests z u).numbers HIGH 0, get_or (t.rests z u).numbers ARITY 0)) (λ z k i a. t.away z k (apart z i) (λ e. absurd (no_m n z i e)))
               (λ z i s. ap (λ (u : AllButLinks). u.there) (t.rests z) ∙ s) (link_stays n LEADERS (files_inside f n c) (λ e. absurd (d e))) o.1,
         )
 
@@ -366,8 +353,8 @@ module _ (f F : ℕ → Option HeldCell) (all : List ℕ) (w : IsClassedWeb f al
   -- a change of a list in which nothing is filed leaves all classes
   unfiled_classed : files f m (cell_kind f x) ≡ false → IsClassed F lists
   unfiled_classed e = record {
-    classes = λ n d. each f F (list_in f) w.web.listed m x h xs r (λ n j us. j ≡ Atom → files F n Atom ≡ true → (ls : List ℕ) × AreClassed F n us ls)
-        (λ s c. absurd (let z : true ≡ false = sym c ∙ files_still m ∙ ap (files f m) (sym s) ∙ e in cc)) (λ n j _ s c. subst (λ i. (ls : List ℕ) × AreClassed F n (list_in f n i) ls) (sym s) (still_classed n (sym (files_still n) ∙ c))) n Atom refl d;
+    classes = λ n d. each f F (list_in f) w.web.listed m x h xs r (λ n j us. j ≡ Atom → files F n Atom ≡ true → (t : ClassTree) × AreClassed F n us t)
+        (λ s c. absurd (let z : true ≡ false = sym c ∙ files_still m ∙ ap (files f m) (sym s) ∙ e in cc)) (λ n j _ s c. subst (λ i. (t : ClassTree) × AreClassed F n (list_in f n i) t) (sym s) (still_classed n (sym (files_still n) ∙ c))) n Atom refl d;
     low = λ b. subst (λ n. n < 2 ^ 64) (sym (low_still b)) (w.classed.low b);
   }
 
@@ -375,8 +362,8 @@ module _ (f F : ℕ → Option HeldCell) (all : List ℕ) (w : IsClassedWeb f al
   atom_classed : (G : ℕ → Option HeldCell) (zs : List ℕ) (p : ℕ × ℕ) → cell_kind f x ≡ Atom → (filed : Refiled F G m zs p xs) → (atoms : (z : ℕ) → In z zs → cell_kind F z ≡ Atom) → ((n z : ℕ) → n ≢ m → In z (list_in f n Atom) → In z zs → ⊥)
       → IsClassed G lists
   atom_classed G zs p e filed atoms apart = record {
-    classes = λ n d. each f F (list_in f) w.web.listed m x h xs r (λ n j us. j ≡ Atom → files F n Atom ≡ true → (ls : List ℕ) × AreClassed G n us ls)
-        (λ s c. (filed.leaders, filed.classed)) (λ n j away s c. subst (λ i. (ls : List ℕ) × AreClassed G n (list_in f n i) ls) (sym s)
+    classes = λ n d. each f F (list_in f) w.web.listed m x h xs r (λ n j us. j ≡ Atom → files F n Atom ≡ true → (t : ClassTree) × AreClassed G n us t)
+        (λ s c. (filed.tree, filed.classed)) (λ n j away s c. subst (λ i. (t : ClassTree) × AreClassed G n (list_in f n i) t) (sym s)
         (let other : n ≢ m = λ q. away q (s ∙ sym e) in
         others_classed G zs p filed.touches atoms n other (sym (files_still n) ∙ c) (λ z i k. apart n z other i k))) n Atom refl
         (ap (λ (u : AllButLinks). get_or u.numbers KIND 0 == FILED) (sym (filed.touches.rests n)) ∙ d);

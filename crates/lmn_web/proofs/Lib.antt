@@ -12,4 +12,6 @@ pub mod Filing
 pub mod ClassReads
 pub mod ClassRuns
 pub mod ClassSteps
+pub mod ClassTrees
+pub mod ClassPlaces
 pub mod ExampleProofs

@@ -142,9 +142,6 @@ module _ (f g : ℕ → Option HeldCell) (same : (b : ℕ) → listing (g b) ≡
   count_is b Atom = ap (λ (o : Listing). o.atoms) (same b)
   count_is b Membrane = ap (λ (o : Listing). o.membranes) (same b)
 
-  there_back : (b : ℕ) → IsSome (g b) → IsSome (f b)
-  there_back b t = sym (ap (λ (o : Listing). o.there) (same b)) ∙ t
-
   -- the lists are as they were
   pub lists_same : (ys : ℕ → CellKind → List ℕ) → IsListed f ys → IsListed g ys
   lists_same ys l = record {

@@ -13,7 +13,7 @@ use Rattle.lmn_cells.specs.Ports as cell
 use Rattle.lmn_cells.specs.Ports.{IsPort, Reaches, Paired, partner_by, partner_in}
 use Rattle.lmn_cells.proofs.PortLemmas.{cleared_ports, linked_ports}
 use Rattle.lmn_cells.specs.Runs.{HOME}
-use Rattle.lmn_web.specs.Webs.{WebCell, partners_of, marks_of, web_cell, web_with, web_of, list_in, list_link, count_number, partner_at, arity_at, new_cell, with_partner, with_mark, linked, cleared, joined, parted, IsPaired, INDEX, ARITY, KIND, HIGH, LOW, FIRST_MARK, number_in, label_by}
+use Rattle.lmn_web.specs.Webs.{WebCell, partners_of, web_cell, web_with, web_of, list_in, list_link, count_number, partner_at, arity_at, new_cell, with_partner, with_mark, linked, cleared, joined, parted, IsPaired, INDEX, ARITY, KIND, HIGH, LOW, FIRST_MARK, number_in, label_by}
 use Rattle.lmn_web.specs.Indexes.{described, IsListed, IsWeb, IsIndexed}
 use Rattle.lmn_web.proofs.ListedLemmas.{Listing, listing, lists_same, listed_self, listed_beside, web_self, cell_of}
 use Rattle.lmn_web.specs.Kinds.{kind_by}
@@ -64,27 +64,6 @@ arity_same f ys a = by (f a)
 -- a port of the web is one of the cells
 pub port_back : (f : ℕ → Option HeldCell) (ys : ℕ → CellKind → List ℕ) (a i : ℕ) → i < arity_at (web_with f ys) a → IsPort f a i
 port_back f ys a i l = subst (λ n. i < n) (arity_same f ys a) l
-
--- the first mark of a cell, in the cells and in the web
-pub first_mark_same : (f : ℕ → Option HeldCell) (ys : ℕ → CellKind → List ℕ) (a : ℕ) → get_or (marks_of (web_with f ys a)) 0 0 ≡ get_or (numbers_of (f a)) FIRST_MARK 0
-first_mark_same f ys a = by (f a)
-  where
-    by : (o : Option HeldCell) → get_or (marks_of (option_map (web_cell (ys a)) o)) 0 0 ≡ get_or (numbers_of o) FIRST_MARK 0
-    by None = refl
-    by (Some c) = refl
-
--- a further one
-pub next_mark_same : (f : ℕ → Option HeldCell) (ys : ℕ → CellKind → List ℕ) (a i : ℕ) → get_or (marks_of (web_with f ys a)) (suc i) 0 ≡ (port_of (f a) i).mark
-next_mark_same f ys a i = by (f a)
-  where
-    marks : (ps : List HeldPort) (k : ℕ) → get_or (map (λ (p : HeldPort). p.mark) ps) k 0 ≡ (get_or ps k no_port).mark
-    marks [] k = refl
-    marks (p ∷ ps) zero = refl
-    marks (p ∷ ps) (suc k) = marks ps k
-
-    by : (o : Option HeldCell) → get_or (marks_of (option_map (web_cell (ys a)) o)) (suc i) 0 ≡ (port_of o i).mark
-    by None = refl
-    by (Some c) = marks c.ports i
 
 -- Changes
 

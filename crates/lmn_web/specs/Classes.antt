@@ -1,28 +1,32 @@
 -- Words of private functions: the atoms of a membrane that files them and that have one class, which is the high half of their labels and how many ports they have, are linked one behind the other.
-use Rattle.std.specs.Prelude.{◌≡◌, ◌≢◌, ◌==◌, ◌&&◌, ◌<◌, ◌≤◌, ◌+◌, ◌++◌, Bool, true, false, ℕ, List, [], ◌∷◌, length, filter, Option, Some, None, IsSome, is_some, if◌then◌else◌}
+use Rattle.std.specs.Prelude.{◌≡◌, ◌≢◌, ◌==◌, ◌&&◌, ◌<◌, ◌/◌, ◌%◌, ◌++◌, Bool, true, false, ℕ, zero, suc, List, [], ◌∷◌, length, filter, Option, Some, None, IsSome, is_some, if◌then◌else◌}
 use Rattle.lmn_base.specs.Lists.{In}
 use Rattle.lmn_heap.specs.Lists.{Distinct, without}
 use Rattle.std.specs.Option.{option_map}
 use Rattle.lmn_heap.specs.Heap.{alter}
 use Rattle.lmn_cells.specs.Cells.{HeldPort, HeldCell, links_of, numbers_of, ports_of, with_link}
 use Rattle.lmn_cells.specs.Runs.{Node, RunsThrough, link_in, put_before}
-use Rattle.lmn_web.specs.Webs.{number_in, count_number, ARITY, HIGH, KIND}
+use Rattle.lmn_web.specs.Webs.{number_in, ARITY, HIGH, KIND}
 use Rattle.lmn_web.specs.declared.kind.CellKind.{CellKind}
 use Rattle.lmn_web.specs.declared.kind.CellKind.TheVariants.{Atom, Membrane}
 use Rattle.lmn_web.specs.Kinds.{FILED}
 
--- the links of an atom to the next and the previous one of its class, and, of the first one of a class, to the first one of another class and to the last one of its own
+-- the links of an atom to the next and the previous one of its class, and, of the first one of a class, to the last one of it
 abbrev pub CLASS_NEXT : ℕ
 CLASS_NEXT = 3
 
 abbrev pub CLASS_PREV : ℕ
 CLASS_PREV = 4
 
-abbrev pub PEER : ℕ
-PEER = 5
-
 abbrev pub CLASS_LAST : ℕ
 CLASS_LAST = 6
+
+-- the links of the first one of a class to those of other classes, on its even and on its odd side
+abbrev pub EVEN : ℕ
+EVEN = 5
+
+abbrev pub ODD : ℕ
+ODD = 7
 
 -- the link of a membrane to the first atom of a class
 abbrev pub LEADERS : ℕ
@@ -47,28 +51,86 @@ is_key p q = (p.0 == q.0) && (p.1 == q.1)
 abbrev pub of_class : (ℕ → Option HeldCell) → ℕ × ℕ → List ℕ → List ℕ
 of_class f p xs = filter (λ a. is_key (key_in f a) p) xs
 
--- these cells, each linked to the next
-abbrev pub ArePeers : (ℕ → Option HeldCell) → Option ℕ → List ℕ → Type 0
-ArePeers f first [] = first ≡ None
-ArePeers f first (l ∷ ls) = (first ≡ Some l) × IsSome (f l) × ArePeers f (link_in f l PEER) ls
+-- The tree of the first atoms of the classes
 
--- ls are the first atoms of the classes of m, whose atoms are xs
-pub record AreClassed (f : ℕ → Option HeldCell) (m : ℕ) (xs ls : List ℕ) : Type 0 where
-  pub peers : ArePeers f (link_in f m LEADERS) ls
-  pub once : Distinct ls
-  pub inside : (l : ℕ) → In l ls → In l xs
-  pub apart : (j k : ℕ) → In j ls → In k ls → key_in f j ≡ key_in f k → j ≡ k
-  pub every : (x : ℕ) → In x xs → (l : ℕ) × In l ls × (key_in f l ≡ key_in f x)
-  pub runs : (l : ℕ) → In l ls → RunsThrough (class_node f) None (Some l) (of_class f (key_in f l) xs) (link_in f l CLASS_LAST) None
+-- a first atom, with those below it on its even and on its odd side, or none
+pub data ClassTree : Type 0 where
+  Bare : ClassTree
+  Fork : ℕ → ClassTree → ClassTree → ClassTree
 
--- the first of a list with this class, and the one before it, or the last of the list
+abbrev pub leaders : ClassTree → List ℕ
+leaders Bare = []
+leaders (Fork l a b) = l ∷ (leaders a ++ leaders b)
+
+abbrev pub top : ClassTree → Option ℕ
+top Bare = None
+top (Fork l a b) = Some l
+
+-- the cells of a tree, each linked to the ones below it
+abbrev pub IsTree : (ℕ → Option HeldCell) → Option ℕ → ClassTree → Type 0
+IsTree f first Bare = first ≡ None
+IsTree f first (Fork l a b) = (first ≡ Some l) × IsSome (f l) × IsTree f (link_in f l EVEN) a × IsTree f (link_in f l ODD) b
+
+-- what of a number is left at a depth
+abbrev pub rest_at : ℕ → ℕ → ℕ
+rest_at n zero = n
+rest_at n (suc d) = rest_at n d / 2
+
+-- the side to which it goes from there
+abbrev pub is_odd : ℕ → Bool
+is_odd n = n % 2 == 1
+
+-- at a depth these have another class than l, and the upper half of their labels goes to this side
+abbrev pub AreBeside : (ℕ → Option HeldCell) → ℕ → ℕ → Bool → List ℕ → Type 0
+AreBeside f l d odd ks = (k : ℕ) → In k ks → (is_key (key_in f k) (key_in f l) ≡ false) × (is_odd (rest_at (key_in f k).0 d) ≡ odd)
+
+-- no class stands twice in a tree, and each on the sides to which it goes
+abbrev pub IsSorted : (ℕ → Option HeldCell) → ℕ → ClassTree → Type 0
+IsSorted f d Bare = Unit {0}
+IsSorted f d (Fork l a b) = AreBeside f l d false (leaders a) × AreBeside f l d true (leaders b) × IsSorted f (suc d) a × IsSorted f (suc d) b
+
+-- t has the first atoms of the classes of m, whose atoms are xs
+pub record AreClassed (f : ℕ → Option HeldCell) (m : ℕ) (xs : List ℕ) (t : ClassTree) : Type 0 where
+  pub tree : IsTree f (link_in f m LEADERS) t
+  pub sorted : IsSorted f 0 t
+  pub inside : (l : ℕ) → In l (leaders t) → In l xs
+  pub every : (x : ℕ) → In x xs → (l : ℕ) × In l (leaders t) × (key_in f l ≡ key_in f x)
+  pub runs : (l : ℕ) → In l (leaders t) → RunsThrough (class_node f) None (Some l) (of_class f (key_in f l) xs) (link_in f l CLASS_LAST) None
+
+-- where a class stands or is missing: the cell and the link at which it hangs, the depth, and the tree from there on
 pub record ClassPlace : Type 0 where
-  pub before : Option ℕ
+  pub holder : ℕ
+  pub link : ℕ
+  pub depth : ℕ
+  pub tree : ClassTree
+
+-- where a class is looked for in a tree at a link of a cell
+abbrev pub class_place : (ℕ → Option HeldCell) → ℕ × ℕ → ℕ → ℕ → ℕ → ClassTree → ClassPlace
+class_place f p h k d Bare = record { holder = h; link = k; depth = d; tree = Bare }
+class_place f p h k d (Fork l a b) =
+    if is_key (key_in f l) p then record { holder = h; link = k; depth = d; tree = Fork l a b } else if is_odd (rest_at p.0 d) then class_place f p l ODD (suc d) b else class_place f p l EVEN (suc d) a
+
+-- in a membrane
+abbrev pub place_in : (ℕ → Option HeldCell) → ℕ × ℕ → ℕ → ClassTree → ClassPlace
+place_in f p m t = class_place f p m LEADERS 0 t
+
+-- a first atom, and where it hangs
+pub record Hung : Type 0 where
+  pub holder : ℕ
+  pub link : ℕ
   pub leader : Option ℕ
 
-abbrev pub class_place : (ℕ → Option HeldCell) → ℕ × ℕ → Option ℕ → List ℕ → ClassPlace
-class_place f p before [] = record { before = before; leader = None }
-class_place f p before (l ∷ ls) = if is_key (key_in f l) p then record { before = before; leader = Some l } else class_place f p (Some l) ls
+-- one of a tree with none below it
+abbrev pub lowest : ℕ → ℕ → ClassTree → Hung
+lowest h k Bare = record { holder = h; link = k; leader = None }
+lowest h k (Fork l Bare Bare) = record { holder = h; link = k; leader = Some l }
+lowest h k (Fork l Bare (Fork r x y)) = lowest l ODD (Fork r x y)
+lowest h k (Fork l (Fork r x y) b) = lowest l EVEN (Fork r x y)
+
+-- one of the two trees below c, if there is one
+abbrev pub lowest_below : ℕ → ClassTree → ClassTree → Hung
+lowest_below c Bare b = lowest c ODD b
+lowest_below c (Fork r x y) b = lowest c EVEN (Fork r x y)
 
 -- What is written
 
@@ -76,14 +138,13 @@ class_place f p before (l ∷ ls) = if is_key (key_in f l) p then record { befor
 abbrev pub link_written : (ℕ → Option HeldCell) → ℕ → ℕ → Option ℕ → ℕ → Option HeldCell
 link_written f a k v = alter f a (option_map (with_link k v))
 
--- what follows a cell in the chain of leaders, or begins it, is another
-abbrev pub led : (ℕ → Option HeldCell) → ℕ → Option ℕ → Option ℕ → ℕ → Option HeldCell
-led f m None to = link_written f m LEADERS to
-led f m (Some d) to = link_written f d PEER to
+-- n hangs at link k of h, with what hung below c
+abbrev pub taken_over : (ℕ → Option HeldCell) → ℕ → ℕ → ℕ → ℕ → ℕ → Option HeldCell
+taken_over f h k c n = link_written (link_written (link_written f n EVEN (link_in f c EVEN)) n ODD (link_in f c ODD)) h k (Some n)
 
--- c begins a class of its own
-abbrev pub begun : (ℕ → Option HeldCell) → ℕ → ℕ → ℕ → Option HeldCell
-begun f m c = link_written (link_written (link_written (link_written (link_written f c CLASS_NEXT None) c CLASS_PREV None) c CLASS_LAST (Some c)) c PEER (link_in f m LEADERS)) m LEADERS (Some c)
+-- c begins a class of its own, at link k of h
+abbrev pub begun : (ℕ → Option HeldCell) → ℕ → ℕ → ℕ → ℕ → Option HeldCell
+begun f h k c = link_written (link_written (link_written (link_written (link_written (link_written f c CLASS_NEXT None) c CLASS_PREV None) c CLASS_LAST (Some c)) c EVEN None) c ODD None) h k (Some c)
 
 -- c stands behind q, the last one of the class of l
 abbrev pub lengthened : (ℕ → Option HeldCell) → ℕ → ℕ → ℕ → ℕ → Option HeldCell
@@ -94,8 +155,8 @@ abbrev pub put_between : (ℕ → Option HeldCell) → ℕ → ℕ → ℕ → �
 put_between f p d c = link_written (link_written (link_written (link_written f c CLASS_NEXT (Some d)) c CLASS_PREV (Some p)) p CLASS_NEXT (Some c)) d CLASS_PREV (Some c)
 
 -- c leads in the place of d, which stands behind it
-abbrev pub put_first : (ℕ → Option HeldCell) → ℕ → Option ℕ → ℕ → ℕ → ℕ → Option HeldCell
-put_first f m before d c = led (link_written (link_written (link_written (link_written (link_written f c CLASS_NEXT (Some d)) c CLASS_PREV None) d CLASS_PREV (Some c)) c CLASS_LAST (link_in f d CLASS_LAST)) c PEER (link_in f d PEER)) m before (Some c)
+abbrev pub put_first : (ℕ → Option HeldCell) → ℕ → ℕ → ℕ → ℕ → ℕ → Option HeldCell
+put_first f h k d c = taken_over (link_written (link_written (link_written (link_written f c CLASS_NEXT (Some d)) c CLASS_PREV None) d CLASS_PREV (Some c)) c CLASS_LAST (link_in f d CLASS_LAST)) h k d c
 
 -- what stood between p and n has left
 abbrev pub closed : (ℕ → Option HeldCell) → ℕ → ℕ → ℕ → Option HeldCell
@@ -106,8 +167,13 @@ abbrev pub shortened : (ℕ → Option HeldCell) → ℕ → ℕ → ℕ → Opt
 shortened f l p = link_written (link_written f p CLASS_NEXT None) l CLASS_LAST (Some p)
 
 -- n leads in the place of c, which stood before it
-abbrev pub passed : (ℕ → Option HeldCell) → ℕ → Option ℕ → ℕ → ℕ → ℕ → Option HeldCell
-passed f m before c n = led (link_written (link_written (link_written f n CLASS_PREV None) n CLASS_LAST (link_in f c CLASS_LAST)) n PEER (link_in f c PEER)) m before (Some n)
+abbrev pub passed : (ℕ → Option HeldCell) → ℕ → ℕ → ℕ → ℕ → ℕ → Option HeldCell
+passed f h k c n = taken_over (link_written (link_written f n CLASS_PREV None) n CLASS_LAST (link_in f c CLASS_LAST)) h k c n
+
+-- the class of c is gone, and a leader that hung at link j of a, if there is one, hangs in its place
+abbrev pub dropped : (ℕ → Option HeldCell) → ℕ → ℕ → ℕ → ℕ → ℕ → Option ℕ → ℕ → Option HeldCell
+dropped f h k c a j None = link_written f h k None
+dropped f h k c a j (Some l) = taken_over (link_written f a j None) h k c l
 
 -- What the three calls ask and leave
 
@@ -120,12 +186,11 @@ pub record AllButLinks : Type 0 where
 abbrev pub all_but_links : Option HeldCell → AllButLinks
 all_but_links o = record { there = is_some o; numbers = numbers_of o; ports = ports_of o }
 
--- xs are the atoms of m, and ls the first ones of their classes; c is an atom
-pub record MayFile (f : ℕ → Option HeldCell) (m c : ℕ) (xs ls : List ℕ) : Type 0 where
-  pub classed : AreClassed f m xs ls
+-- xs are the atoms of m, and t has the first ones of their classes; c is an atom
+pub record MayFile (f : ℕ → Option HeldCell) (m c : ℕ) (xs : List ℕ) (t : ClassTree) : Type 0 where
+  pub classed : AreClassed f m xs t
   pub once : Distinct xs
   pub alive : (z : ℕ) → In z xs → IsSome (f z)
-  pub short : length ls ≤ number_in f m (count_number Atom) + 1
   pub there_m : IsSome (f m)
   pub there_c : IsSome (f c)
   pub no_m : In m xs → ⊥
@@ -148,8 +213,8 @@ pub record ClassBecomes (f : ℕ → Option HeldCell) (p : ℕ × ℕ) (xs zs xs
 -- the classes are those of a list xs' then
 pub record Refiled (f g : ℕ → Option HeldCell) (m : ℕ) (xs : List ℕ) (p : ℕ × ℕ) (xs' : List ℕ) : Type 0 where
   pub touches : Touches f g m xs p
-  pub leaders : List ℕ
-  pub classed : AreClassed g m xs' leaders
+  pub tree : ClassTree
+  pub classed : AreClassed g m xs' tree
 
 -- a list with c directly before a cell of it, or at its end
 abbrev pub put_at : ℕ → Option ℕ → List ℕ → List ℕ
@@ -157,15 +222,15 @@ put_at c None xs = xs ++ c ∷ []
 put_at c (Some d) xs = put_before c d xs
 
 -- c, which isn't filed, may come before a cell of its class, or to the end of it, so that the atoms of m are xs'
-pub record MayEnter (f : ℕ → Option HeldCell) (m c : ℕ) (place : Option ℕ) (xs ls xs' : List ℕ) : Type 0 where
-  pub may : MayFile f m c xs ls
+pub record MayEnter (f : ℕ → Option HeldCell) (m c : ℕ) (place : Option ℕ) (xs : List ℕ) (t : ClassTree) (xs' : List ℕ) : Type 0 where
+  pub may : MayFile f m c xs t
   pub fresh : In c xs → ⊥
   pub inside : (d : ℕ) → place ≡ Some d → In d xs × (key_in f d ≡ key_in f c)
   pub one : ClassBecomes f (key_in f c) xs (put_at c place (of_class f (key_in f c) xs)) xs'
 
 -- c, which is filed, may leave its class, so that the atoms of m are xs'
-pub record MayLeave (f : ℕ → Option HeldCell) (m c : ℕ) (xs ls xs' : List ℕ) : Type 0 where
-  pub may : MayFile f m c xs ls
+pub record MayLeave (f : ℕ → Option HeldCell) (m c : ℕ) (xs : List ℕ) (t : ClassTree) (xs' : List ℕ) : Type 0 where
+  pub may : MayFile f m c xs t
   pub inside : In c xs
   pub one : ClassBecomes f (key_in f c) xs (without c (of_class f (key_in f c) xs)) xs'
 

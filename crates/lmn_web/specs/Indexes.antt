@@ -9,7 +9,7 @@ use Rattle.lmn_cells.specs.Runs.{HOME, NEXT, link_in, Line}
 use Rattle.lmn_web.specs.declared.kind.CellKind.{CellKind}
 use Rattle.lmn_web.specs.declared.kind.CellKind.TheVariants.{Atom}
 use Rattle.lmn_web.specs.Kinds.{kind_by}
-use Rattle.lmn_web.specs.Classes.{LEADERS, files, AreClassed}
+use Rattle.lmn_web.specs.Classes.{LEADERS, files, ClassTree, AreClassed}
 use Rattle.lmn_web.specs.Webs.{INDEX, ARITY, KIND, HIGH, LOW, number_in, count_number, list_link, list_in}
 
 -- a cell with these numbers
@@ -45,7 +45,7 @@ pub record IsWeb (f : ℕ → Option HeldCell) (all : List ℕ) : Type 0 where
 
 -- the atoms of each membrane that files them are linked by class, and the lower half of each label is below 2 ^ 64
 pub record IsClassed (f : ℕ → Option HeldCell) (lists : ℕ → CellKind → List ℕ) : Type 0 where
-  pub classes : (m : ℕ) → files f m Atom ≡ true → (ls : List ℕ) × AreClassed f m (lists m Atom) ls
+  pub classes : (m : ℕ) → files f m Atom ≡ true → (t : ClassTree) × AreClassed f m (lists m Atom) t
   pub low : (b : ℕ) → number_in f b LOW < 2 ^ 64
 
 -- a web whose atoms are linked by class

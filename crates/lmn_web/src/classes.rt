@@ -1,5 +1,5 @@
 //! The atoms of a membrane that files them by class: the high half of a label, and how many ports.
-ghost use Rattle.std.specs.Prelude.{◌≡◌, ◌≢◌, ◌≤◌, ◌+◌, ◌++◌, ◌∷◌, [], ℕ, List, None, Some, IfSome, IsSome, length, true};
+ghost use Rattle.std.specs.Prelude.{◌≡◌, ◌<◌, ◌++◌, ◌∷◌, [], ℕ, List, None, Some, IfSome, IsSome, is_some, if◌then◌else◌, true};
 ghost use Rattle.std.specs.Option.{option_map};
 ghost use Rattle.lmn_base.specs.Lists.{In};
 ghost use Rattle.lmn_cells.specs.Cells.{cells_by};
@@ -7,8 +7,8 @@ ghost use Rattle.lmn_cells.specs.CellIds.{cell_id};
 ghost use Rattle.lmn_heap.specs.Lists.{after, from, without};
 ghost use Rattle.lmn_cells.specs.Runs.{Line, link_in, put_before};
 ghost use Rattle.lmn_web.specs.declared.kind.CellKind.TheVariants.{Atom};
-ghost use Rattle.lmn_web.specs.Webs.{number_in, count_number, list_in};
-ghost use Rattle.lmn_web.specs.Classes.{AreClassed, ArePeers, Refiled, FiledAs, MayEnter, MayFile, MayLeave, ClassBecomes, begun, closed, files, is_key, key_in, led, lengthened, passed, class_place, put_between, put_first, of_class, shortened};
+ghost use Rattle.lmn_web.specs.Webs.{list_in};
+ghost use Rattle.lmn_web.specs.Classes.{ClassTree, AreClassed, IsTree, IsSorted, Refiled, FiledAs, MayEnter, MayFile, MayLeave, ClassBecomes, begun, closed, dropped, files, is_key, is_odd, key_in, lengthened, lowest_below, passed, place_in, put_between, put_first, of_class, shortened, taken_over, top};
 
 use crate::kind::{CellKind, FILED};
 use lmn_cells::cell::Cells;
@@ -30,23 +30,25 @@ const ATOMS: usize = 3;
 // The link of an atom to the next one of its class.
 const CLASS_NEXT: usize = 3;
 
-// The links of an atom to the previous one of its class, and of the first one of a class to the first one of the next
-// class, and to the last one of its own.
+// The links of an atom to the previous one of its class, and of the first one of a class to the last one of it.
 const CLASS_PREV: usize = 4;
 
-const PEER: usize = 5;
-
 const CLASS_LAST: usize = 6;
+
+// The links of the first one of a class to those of other classes, on its even and on its odd side.
+const EVEN: usize = 5;
+
+const ODD: usize = 7;
 
 /// The link of a membrane to the first atom of a class.
 pub const LEADERS: usize = 7;
 
-// The first atom of a class in a membrane, and the first one of the class before it in the chain.
+// A place in the tree of the first atoms of the classes: what hangs at a link of the membrane, or of the first atom above.
 #[derive(Clone, Copy)]
-struct Leader {
-    // None where the class comes first. Where there is no such class, the last one of the chain.
-    before: Option<Cell>,
-    // None where the membrane has no atom of the class.
+struct Place {
+    holder: Cell,
+    link: usize,
+    // None where nothing hangs.
     leader: Option<Cell>,
 }
 
@@ -69,29 +71,82 @@ fn has_class(cells: &Cells, c: Cell, high: u64, arity: u64) -> bool
     cells.number(c, HIGH) == high && cells.number(c, ARITY) == arity
 }
 
-// Where a membrane has the first atom of a class.
-fn find(cells: &Cells, m: Cell, high: u64, arity: u64) -> Leader
-    requires there { IsSome (cells_by cells.now (cell_id m)) }
-    requires peers { (ls : List ℕ) × ArePeers (cells_by cells.now) (link_in (cells_by cells.now) (cell_id m) 7) ls × (length ls ≤ number_in (cells_by cells.now) (cell_id m) (count_number Atom) + 1) }
-    ensures { (ls : List ℕ) → ArePeers (cells_by cells.now) (link_in (cells_by cells.now) (cell_id m) 7) ls →
-        (option_map cell_id result.before ≡ (class_place (cells_by cells.now) (high, arity) None ls).before) × (option_map cell_id result.leader ≡ (class_place (cells_by cells.now) (high, arity) None ls).leader) }
+// The link of a first atom on the side to which a number goes.
+fn side(rest: u64) -> usize
+    ensures { result ≡ (if is_odd rest then 7 else 5) }
 {
-    let mut before = None;
+    if rest % 2 == 1 { ODD } else { EVEN }
+}
+
+// Where a membrane has the first atom of a class, or would have it.
+fn find(cells: &Cells, m: Cell, high: u64, arity: u64) -> Place
+    requires there { IsSome (cells_by cells.now (cell_id m)) }
+    requires tree { (t : ClassTree) × IsTree (cells_by cells.now) (link_in (cells_by cells.now) (cell_id m) 7) t × IsSorted (cells_by cells.now) 0 t }
+    ensures { (t : ClassTree) → IsTree (cells_by cells.now) (link_in (cells_by cells.now) (cell_id m) 7) t →
+        let w = place_in (cells_by cells.now) (high, arity) (cell_id m) t in (cell_id result.holder ≡ w.holder) × (result.link ≡ w.link) × (option_map cell_id result.leader ≡ top w.tree) }
+{
+    let mut holder = m;
+    let mut link = LEADERS;
+    let mut rest = high;
     let mut at = cells.link(m, LEADERS);
     while let Some(c) = at {
         if has_class(cells, c, high, arity) {
-            return Leader {
-                before,
+            return Place {
+                holder,
+                link,
                 leader: Some(c),
             };
         }
-        before = Some(c);
-        at = cells.link(c, PEER);
+        holder = c;
+        link = side(rest);
+        rest /= 2;
+        at = cells.link(c, link);
     }
-    Leader {
-        before,
+    Place {
+        holder,
+        link,
         leader: None,
     }
+}
+
+// What hangs below a first atom, on the odd side only where nothing does on the even one.
+fn below(cells: &Cells, c: Cell) -> Place
+    requires there { IsSome (cells_by cells.now (cell_id c)) }
+    ensures holder { result.holder ≡ c }
+    ensures link { result.link ≡ (if is_some (link_in (cells_by cells.now) (cell_id c) 5) then 5 else 7) }
+    ensures leader { option_map cell_id result.leader ≡ link_in (cells_by cells.now) (cell_id c) result.link }
+{
+    let even = cells.link(c, EVEN);
+    if even.is_some() {
+        Place {
+            holder: c,
+            link: EVEN,
+            leader: even,
+        }
+    } else {
+        Place {
+            holder: c,
+            link: ODD,
+            leader: cells.link(c, ODD),
+        }
+    }
+}
+
+// A first atom that has none below it, from those below another. None where that one has none.
+fn lowest(cells: &Cells, c: Cell) -> Place
+    requires there { IsSome (cells_by cells.now (cell_id c)) }
+    requires tree { (a b : ClassTree) × IsTree (cells_by cells.now) (link_in (cells_by cells.now) (cell_id c) 5) a × IsTree (cells_by cells.now) (link_in (cells_by cells.now) (cell_id c) 7) b
+        × (d : ℕ) × IsSorted (cells_by cells.now) d a × IsSorted (cells_by cells.now) d b }
+    ensures { (a b : ClassTree) → IsTree (cells_by cells.now) (link_in (cells_by cells.now) (cell_id c) 5) a → IsTree (cells_by cells.now) (link_in (cells_by cells.now) (cell_id c) 7) b →
+        let w = lowest_below (cell_id c) a b in (cell_id result.holder ≡ w.holder) × (result.link ≡ w.link) × (option_map cell_id result.leader ≡ w.leader) }
+{
+    let mut place = below(cells, c);
+    let mut next = place;
+    while let Some(d) = next.leader {
+        place = next;
+        next = below(cells, d);
+    }
+    place
 }
 
 // The first atom of a class from one of a membrane's list on, if there is one.
@@ -115,7 +170,7 @@ fn seek(cells: &Cells, m: Cell, start: Option<Cell>, high: u64, arity: u64) -> O
 pub fn first_in(cells: &Cells, m: Cell, high: u64, arity: u64) -> Option<Cell>
     requires there { IsSome (cells_by cells.now (cell_id m)) }
     requires line { Line (cells_by cells.now) (cell_id m) 3 (list_in (cells_by cells.now) (cell_id m) Atom) }
-    requires classes { files (cells_by cells.now) (cell_id m) Atom ≡ true → (ls : List ℕ) × AreClassed (cells_by cells.now) (cell_id m) (list_in (cells_by cells.now) (cell_id m) Atom) ls × (length ls ≤ number_in (cells_by cells.now) (cell_id m) (count_number Atom) + 1) }
+    requires classes { files (cells_by cells.now) (cell_id m) Atom ≡ true → (t : ClassTree) × AreClassed (cells_by cells.now) (cell_id m) (list_in (cells_by cells.now) (cell_id m) Atom) t }
     ensures { let f = cells_by cells.now in let own = of_class f (high, arity) (list_in f (cell_id m) Atom) in from (option_map cell_id result) own ≡ own }
 {
     if is_filed(cells, m, CellKind::Atom) {
@@ -130,7 +185,7 @@ pub fn next_in(cells: &Cells, m: Cell, c: Cell) -> Option<Cell>
     requires there { IsSome (cells_by cells.now (cell_id m)) }
     requires line { Line (cells_by cells.now) (cell_id m) 3 (list_in (cells_by cells.now) (cell_id m) Atom) }
     requires inside { In (cell_id c) (list_in (cells_by cells.now) (cell_id m) Atom) }
-    requires classes { files (cells_by cells.now) (cell_id m) Atom ≡ true → (ls : List ℕ) × AreClassed (cells_by cells.now) (cell_id m) (list_in (cells_by cells.now) (cell_id m) Atom) ls }
+    requires classes { files (cells_by cells.now) (cell_id m) Atom ≡ true → (t : ClassTree) × AreClassed (cells_by cells.now) (cell_id m) (list_in (cells_by cells.now) (cell_id m) Atom) t }
     ensures { let f = cells_by cells.now in let own = of_class f (key_in f (cell_id c)) (list_in f (cell_id m) Atom) in from (option_map cell_id result) own ≡ after (cell_id c) own }
 {
     if is_filed(cells, m, CellKind::Atom) {
@@ -167,30 +222,34 @@ pub fn place_from(cells: &Cells, m: Cell, filed: bool, start: Cell, c: Cell) -> 
     }
 }
 
-// What follows an atom in the chain of leaders, or begins it, is another.
-fn set_leader(cells: &mut Cells, m: Cell, before: Option<Cell>, to: Option<Cell>)
-    requires there { IsSome (cells_by cells.old (cell_id m)) }
-    requires before { IfSome before (λ d. IsSome (cells_by cells.old (cell_id d))) }
-    ensures { cells_by cells.new ≡ led (cells_by cells.old) (cell_id m) (option_map cell_id before) (option_map cell_id to) }
+// An atom hangs at a link, with what hung below another.
+fn take_over(cells: &mut Cells, holder: Cell, link: usize, from: Cell, to: Cell)
+    requires holder { IsSome (cells_by cells.old (cell_id holder)) }
+    requires link { link < 8 }
+    requires from { IsSome (cells_by cells.old (cell_id from)) }
+    requires to { IsSome (cells_by cells.old (cell_id to)) }
+    ensures { cells_by cells.new ≡ taken_over (cells_by cells.old) (cell_id holder) link (cell_id from) (cell_id to) }
 {
-    match before {
-        None => cells.set_link(m, LEADERS, to),
-        Some(d) => cells.set_link(d, PEER, to),
-    }
+    let even = cells.link(from, EVEN);
+    let odd = cells.link(from, ODD);
+    cells.set_link(to, EVEN, even);
+    cells.set_link(to, ODD, odd);
+    cells.set_link(holder, link, Some(to));
 }
 
 // An atom begins a class.
-fn begin(cells: &mut Cells, m: Cell, c: Cell)
-    requires m { IsSome (cells_by cells.old (cell_id m)) }
+fn begin(cells: &mut Cells, holder: Cell, link: usize, c: Cell)
+    requires holder { IsSome (cells_by cells.old (cell_id holder)) }
+    requires link { link < 8 }
     requires c { IsSome (cells_by cells.old (cell_id c)) }
-    ensures { cells_by cells.new ≡ begun (cells_by cells.old) (cell_id m) (cell_id c) }
+    ensures { cells_by cells.new ≡ begun (cells_by cells.old) (cell_id holder) link (cell_id c) }
 {
-    let first = cells.link(m, LEADERS);
     cells.set_link(c, CLASS_NEXT, None);
     cells.set_link(c, CLASS_PREV, None);
     cells.set_link(c, CLASS_LAST, Some(c));
-    cells.set_link(c, PEER, first);
-    cells.set_link(m, LEADERS, Some(c));
+    cells.set_link(c, EVEN, None);
+    cells.set_link(c, ODD, None);
+    cells.set_link(holder, link, Some(c));
 }
 
 // An atom goes behind the last one of a class.
@@ -220,21 +279,19 @@ fn put_inside(cells: &mut Cells, prev: Cell, next: Cell, c: Cell)
 }
 
 // An atom goes before the first one of its class.
-fn put_leader(cells: &mut Cells, m: Cell, before: Option<Cell>, leader: Cell, c: Cell)
-    requires m { IsSome (cells_by cells.old (cell_id m)) }
-    requires before { IfSome before (λ d. IsSome (cells_by cells.old (cell_id d))) }
+fn put_leader(cells: &mut Cells, holder: Cell, link: usize, leader: Cell, c: Cell)
+    requires holder { IsSome (cells_by cells.old (cell_id holder)) }
+    requires link { link < 8 }
     requires leader { IsSome (cells_by cells.old (cell_id leader)) }
     requires c { IsSome (cells_by cells.old (cell_id c)) }
-    ensures { cells_by cells.new ≡ put_first (cells_by cells.old) (cell_id m) (option_map cell_id before) (cell_id leader) (cell_id c) }
+    ensures { cells_by cells.new ≡ put_first (cells_by cells.old) (cell_id holder) link (cell_id leader) (cell_id c) }
 {
     let last = cells.link(leader, CLASS_LAST);
-    let peer = cells.link(leader, PEER);
     cells.set_link(c, CLASS_NEXT, Some(leader));
     cells.set_link(c, CLASS_PREV, None);
     cells.set_link(leader, CLASS_PREV, Some(c));
     cells.set_link(c, CLASS_LAST, last);
-    cells.set_link(c, PEER, peer);
-    set_leader(cells, m, before, Some(c));
+    take_over(cells, holder, link, leader, c);
 }
 
 // What stood between two atoms of a class leaves.
@@ -258,25 +315,40 @@ fn shorten(cells: &mut Cells, leader: Cell, prev: Cell)
 }
 
 // The first one of a class leaves, and the next one leads.
-fn pass(cells: &mut Cells, m: Cell, before: Option<Cell>, c: Cell, next: Cell)
-    requires m { IsSome (cells_by cells.old (cell_id m)) }
-    requires before { IfSome before (λ d. IsSome (cells_by cells.old (cell_id d))) }
+fn pass(cells: &mut Cells, holder: Cell, link: usize, c: Cell, next: Cell)
+    requires holder { IsSome (cells_by cells.old (cell_id holder)) }
+    requires link { link < 8 }
     requires c { IsSome (cells_by cells.old (cell_id c)) }
     requires next { IsSome (cells_by cells.old (cell_id next)) }
-    ensures { cells_by cells.new ≡ passed (cells_by cells.old) (cell_id m) (option_map cell_id before) (cell_id c) (cell_id next) }
+    ensures { cells_by cells.new ≡ passed (cells_by cells.old) (cell_id holder) link (cell_id c) (cell_id next) }
 {
     let last = cells.link(c, CLASS_LAST);
-    let peer = cells.link(c, PEER);
     cells.set_link(next, CLASS_PREV, None);
     cells.set_link(next, CLASS_LAST, last);
-    cells.set_link(next, PEER, peer);
-    set_leader(cells, m, before, Some(next));
+    take_over(cells, holder, link, c, next);
+}
+
+// The only one of a class leaves. One with none below it, if there is one below the class, takes its place.
+fn drop_class(cells: &mut Cells, holder: Cell, link: usize, c: Cell, leaf: Place)
+    requires holder { IsSome (cells_by cells.old (cell_id holder)) }
+    requires link { link < 8 }
+    requires c { IsSome (cells_by cells.old (cell_id c)) }
+    requires leaf { IfSome leaf.leader (λ l. IsSome (cells_by cells.old (cell_id l)) × IsSome (cells_by cells.old (cell_id leaf.holder)) × (leaf.link < 8)) }
+    ensures { cells_by cells.new ≡ dropped (cells_by cells.old) (cell_id holder) link (cell_id c) (cell_id leaf.holder) leaf.link (option_map cell_id leaf.leader) }
+{
+    match leaf.leader {
+        None => cells.set_link(holder, link, None),
+        Some(l) => {
+            cells.set_link(leaf.holder, leaf.link, None);
+            take_over(cells, holder, link, c, l);
+        }
+    }
 }
 
 /// An atom is the last one of its class.
 pub fn file_last(cells: &mut Cells, m: Cell, c: Cell)
-    requires { (xs ls : List ℕ) × MayFile (cells_by cells.old) (cell_id m) (cell_id c) xs ls }
-    ensures { (xs ls xs' : List ℕ) → MayFile (cells_by cells.old) (cell_id m) (cell_id c) xs ls → (In (cell_id c) xs → ⊥) →
+    requires { (xs : List ℕ) × (t : ClassTree) × MayFile (cells_by cells.old) (cell_id m) (cell_id c) xs t }
+    ensures { (xs : List ℕ) (t : ClassTree) (xs' : List ℕ) → MayFile (cells_by cells.old) (cell_id m) (cell_id c) xs t → (In (cell_id c) xs → ⊥) →
         ClassBecomes (cells_by cells.old) (key_in (cells_by cells.old) (cell_id c)) xs (of_class (cells_by cells.old) (key_in (cells_by cells.old) (cell_id c)) xs ++ cell_id c ∷ []) xs' →
         Refiled (cells_by cells.old) (cells_by cells.new) (cell_id m) (cell_id c ∷ xs) (key_in (cells_by cells.old) (cell_id c)) xs' }
 {
@@ -285,7 +357,7 @@ pub fn file_last(cells: &mut Cells, m: Cell, c: Cell)
     let arity = cells.number(c, ARITY);
     let found = find(cells, m, high, arity);
     match found.leader {
-        None => begin(cells, m, c),
+        None => begin(cells, found.holder, found.link, c),
         Some(leader) => {
             if let Some(last) = cells.link(leader, CLASS_LAST) {
                 lengthen(cells, leader, last, c);
@@ -296,8 +368,8 @@ pub fn file_last(cells: &mut Cells, m: Cell, c: Cell)
 
 /// An atom stands directly before another one of its class.
 pub fn file_before(cells: &mut Cells, m: Cell, d: Cell, c: Cell)
-    requires { (xs ls : List ℕ) × MayFile (cells_by cells.old) (cell_id m) (cell_id c) xs ls × In (cell_id d) xs × (key_in (cells_by cells.old) (cell_id d) ≡ key_in (cells_by cells.old) (cell_id c)) }
-    ensures { (xs ls xs' : List ℕ) → MayFile (cells_by cells.old) (cell_id m) (cell_id c) xs ls → (In (cell_id c) xs → ⊥) → In (cell_id d) xs →
+    requires { (xs : List ℕ) × (t : ClassTree) × MayFile (cells_by cells.old) (cell_id m) (cell_id c) xs t × In (cell_id d) xs × (key_in (cells_by cells.old) (cell_id d) ≡ key_in (cells_by cells.old) (cell_id c)) }
+    ensures { (xs : List ℕ) (t : ClassTree) (xs' : List ℕ) → MayFile (cells_by cells.old) (cell_id m) (cell_id c) xs t → (In (cell_id c) xs → ⊥) → In (cell_id d) xs →
         ClassBecomes (cells_by cells.old) (key_in (cells_by cells.old) (cell_id c)) xs (put_before (cell_id c) (cell_id d) (of_class (cells_by cells.old) (key_in (cells_by cells.old) (cell_id c)) xs)) xs' →
         Refiled (cells_by cells.old) (cells_by cells.new) (cell_id m) (cell_id c ∷ xs) (key_in (cells_by cells.old) (cell_id c)) xs' }
 {
@@ -308,17 +380,17 @@ pub fn file_before(cells: &mut Cells, m: Cell, d: Cell, c: Cell)
             let high = cells.number(c, HIGH);
             let arity = cells.number(c, ARITY);
             let found = find(cells, m, high, arity);
-            put_leader(cells, m, found.before, d, c);
+            put_leader(cells, found.holder, found.link, d, c);
         }
     }
 }
 
 // The last one of a class leaves it.
 fn unfile_last(cells: &mut Cells, m: Cell, c: Cell, prev: Cell)
-    requires classes { (xs ls : List ℕ) × MayFile (cells_by cells.old) (cell_id m) (cell_id c) xs ls × In (cell_id c) xs }
+    requires classes { (xs : List ℕ) × (t : ClassTree) × MayFile (cells_by cells.old) (cell_id m) (cell_id c) xs t × In (cell_id c) xs }
     requires prev { link_in (cells_by cells.old) (cell_id c) 4 ≡ Some (cell_id prev) }
     requires next { link_in (cells_by cells.old) (cell_id c) 3 ≡ None }
-    ensures { (xs ls xs' : List ℕ) → MayFile (cells_by cells.old) (cell_id m) (cell_id c) xs ls → In (cell_id c) xs →
+    ensures { (xs : List ℕ) (t : ClassTree) (xs' : List ℕ) → MayFile (cells_by cells.old) (cell_id m) (cell_id c) xs t → In (cell_id c) xs →
         ClassBecomes (cells_by cells.old) (key_in (cells_by cells.old) (cell_id c)) xs (without (cell_id c) (of_class (cells_by cells.old) (key_in (cells_by cells.old) (cell_id c)) xs)) xs' →
         Refiled (cells_by cells.old) (cells_by cells.new) (cell_id m) xs (key_in (cells_by cells.old) (cell_id c)) xs' }
 {
@@ -333,10 +405,10 @@ fn unfile_last(cells: &mut Cells, m: Cell, c: Cell, prev: Cell)
 
 // The first one of a class leaves it.
 fn unfile_first(cells: &mut Cells, m: Cell, c: Cell, next: Option<Cell>)
-    requires classes { (xs ls : List ℕ) × MayFile (cells_by cells.old) (cell_id m) (cell_id c) xs ls × In (cell_id c) xs }
+    requires classes { (xs : List ℕ) × (t : ClassTree) × MayFile (cells_by cells.old) (cell_id m) (cell_id c) xs t × In (cell_id c) xs }
     requires prev { link_in (cells_by cells.old) (cell_id c) 4 ≡ None }
     requires next { link_in (cells_by cells.old) (cell_id c) 3 ≡ option_map cell_id next }
-    ensures { (xs ls xs' : List ℕ) → MayFile (cells_by cells.old) (cell_id m) (cell_id c) xs ls → In (cell_id c) xs →
+    ensures { (xs : List ℕ) (t : ClassTree) (xs' : List ℕ) → MayFile (cells_by cells.old) (cell_id m) (cell_id c) xs t → In (cell_id c) xs →
         ClassBecomes (cells_by cells.old) (key_in (cells_by cells.old) (cell_id c)) xs (without (cell_id c) (of_class (cells_by cells.old) (key_in (cells_by cells.old) (cell_id c)) xs)) xs' →
         Refiled (cells_by cells.old) (cells_by cells.new) (cell_id m) xs (key_in (cells_by cells.old) (cell_id c)) xs' }
 {
@@ -345,10 +417,10 @@ fn unfile_first(cells: &mut Cells, m: Cell, c: Cell, next: Option<Cell>)
     let arity = cells.number(c, ARITY);
     let found = find(cells, m, high, arity);
     match next {
-        Some(n) => pass(cells, m, found.before, c, n),
+        Some(n) => pass(cells, found.holder, found.link, c, n),
         None => {
-            let peer = cells.link(c, PEER);
-            set_leader(cells, m, found.before, peer);
+            let leaf = lowest(cells, c);
+            drop_class(cells, found.holder, found.link, c, leaf);
         }
     }
 }
@@ -356,8 +428,8 @@ fn unfile_first(cells: &mut Cells, m: Cell, c: Cell, next: Option<Cell>)
 /// An atom leaves its class.
 #[inline(always)]
 pub fn unfile(cells: &mut Cells, m: Cell, c: Cell)
-    requires { (xs ls : List ℕ) × MayFile (cells_by cells.old) (cell_id m) (cell_id c) xs ls × In (cell_id c) xs }
-    ensures { (xs ls xs' : List ℕ) → MayFile (cells_by cells.old) (cell_id m) (cell_id c) xs ls → In (cell_id c) xs →
+    requires { (xs : List ℕ) × (t : ClassTree) × MayFile (cells_by cells.old) (cell_id m) (cell_id c) xs t × In (cell_id c) xs }
+    ensures { (xs : List ℕ) (t : ClassTree) (xs' : List ℕ) → MayFile (cells_by cells.old) (cell_id m) (cell_id c) xs t → In (cell_id c) xs →
         ClassBecomes (cells_by cells.old) (key_in (cells_by cells.old) (cell_id c)) xs (without (cell_id c) (of_class (cells_by cells.old) (key_in (cells_by cells.old) (cell_id c)) xs)) xs' →
         Refiled (cells_by cells.old) (cells_by cells.new) (cell_id m) xs (key_in (cells_by cells.old) (cell_id c)) xs' }
 {
@@ -377,8 +449,8 @@ pub fn unfile(cells: &mut Cells, m: Cell, c: Cell)
 /// or behind all of them.
 #[inline(always)]
 pub fn enter_class(cells: &mut Cells, m: Cell, filed: bool, place: Option<Cell>, c: Cell)
-    requires { filed ≡ true → (xs ls xs' : List ℕ) × MayEnter (cells_by cells.old) (cell_id m) (cell_id c) (option_map cell_id place) xs ls xs' }
-    ensures { (xs ls xs' : List ℕ) → (filed ≡ true → MayEnter (cells_by cells.old) (cell_id m) (cell_id c) (option_map cell_id place) xs ls xs') →
+    requires { filed ≡ true → (xs : List ℕ) × (t : ClassTree) × (xs' : List ℕ) × MayEnter (cells_by cells.old) (cell_id m) (cell_id c) (option_map cell_id place) xs t xs' }
+    ensures { (xs : List ℕ) (t : ClassTree) (xs' : List ℕ) → (filed ≡ true → MayEnter (cells_by cells.old) (cell_id m) (cell_id c) (option_map cell_id place) xs t xs') →
         FiledAs filed (cells_by cells.old) (cells_by cells.new) (cell_id m) (cell_id c ∷ xs) (key_in (cells_by cells.old) (cell_id c)) xs' }
 {
     if filed {
@@ -392,8 +464,8 @@ pub fn enter_class(cells: &mut Cells, m: Cell, filed: bool, place: Option<Cell>,
 /// What left a list of a membrane leaves its class, where it is filed.
 #[inline(always)]
 pub fn leave_class(cells: &mut Cells, m: Cell, filed: bool, c: Cell)
-    requires { filed ≡ true → (xs ls xs' : List ℕ) × MayLeave (cells_by cells.old) (cell_id m) (cell_id c) xs ls xs' }
-    ensures { (xs ls xs' : List ℕ) → (filed ≡ true → MayLeave (cells_by cells.old) (cell_id m) (cell_id c) xs ls xs') →
+    requires { filed ≡ true → (xs : List ℕ) × (t : ClassTree) × (xs' : List ℕ) × MayLeave (cells_by cells.old) (cell_id m) (cell_id c) xs t xs' }
+    ensures { (xs : List ℕ) (t : ClassTree) (xs' : List ℕ) → (filed ≡ true → MayLeave (cells_by cells.old) (cell_id m) (cell_id c) xs t xs') →
         FiledAs filed (cells_by cells.old) (cells_by cells.new) (cell_id m) xs (key_in (cells_by cells.old) (cell_id c)) xs' }
 {
     if filed {

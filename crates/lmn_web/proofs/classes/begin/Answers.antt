@@ -1,8 +1,7 @@
-use Rattle.std.proofs.Common.{◌∙◌, sym, ap, ℕ, Option, Some, None}
-use Rattle.std.specs.Option.{option_map}
-use Rattle.lmn_cells.specs.Cells.{HeldCell, cells_by}
+use Rattle.std.proofs.Common.{◌∙◌, ap, ℕ, Option, Some, None}
+use Rattle.lmn_cells.specs.Cells.{HeldCell}
 use Rattle.lmn_cells.specs.CellIds.{cell_id}
-use Rattle.lmn_web.specs.Classes.{CLASS_NEXT, CLASS_PREV, CLASS_LAST, PEER, LEADERS, link_written}
+use Rattle.lmn_web.specs.Classes.{CLASS_PREV, CLASS_LAST, EVEN, ODD, link_written}
 use Rattle.lmn_web.proofs.ClassWrites.{kept}
 use Rattle.lmn_web.proofs.classes.begin.Goals as goal
 
@@ -20,8 +19,12 @@ set_link-requires-4-clause-there c =
 
 pub set_link-requires-5-clause-there : goal.set_link-requires-5-clause-there
 set_link-requires-5-clause-there c =
-    kept _ _ _ _ _ (cell_id c.args.m) c.set_link-4.ensures (kept _ _ _ _ _ (cell_id c.args.m) c.set_link-3.ensures (kept _ _ _ _ _ (cell_id c.args.m) c.set_link-2.ensures (kept _ _ _ _ _ (cell_id c.args.m) c.set_link.ensures (c.requires.m))))
+    kept _ _ _ _ _ (cell_id c.args.c) c.set_link-4.ensures (kept _ _ _ _ _ (cell_id c.args.c) c.set_link-3.ensures (kept _ _ _ _ _ (cell_id c.args.c) c.set_link-2.ensures (kept _ _ _ _ _ (cell_id c.args.c) c.set_link.ensures (c.requires.c))))
+
+pub set_link-requires-6-clause-there : goal.set_link-requires-6-clause-there
+set_link-requires-6-clause-there c =
+    kept _ _ _ _ _ (cell_id c.args.holder) c.set_link-5.ensures (kept _ _ _ _ _ (cell_id c.args.holder) c.set_link-4.ensures (kept _ _ _ _ _ (cell_id c.args.holder) c.set_link-3.ensures (kept _ _ _ _ _ (cell_id c.args.holder) c.set_link-2.ensures (kept _ _ _ _ _ (cell_id c.args.holder) c.set_link.ensures (c.requires.holder)))))
 
 pub returns : goal.returns
 returns c =
-    c.set_link-5.ensures ∙ ap (λ (h : ℕ → Option HeldCell). link_written h (cell_id c.args.m) LEADERS (Some (cell_id c.args.c))) (c.set_link-4.ensures ∙ ap (λ (h : ℕ → Option HeldCell). link_written h (cell_id c.args.c) PEER (option_map cell_id c.link-first.result)) (c.set_link-3.ensures ∙ ap (λ (h : ℕ → Option HeldCell). link_written h (cell_id c.args.c) CLASS_LAST (Some (cell_id c.args.c))) (c.set_link-2.ensures ∙ ap (λ (h : ℕ → Option HeldCell). link_written h (cell_id c.args.c) CLASS_PREV None) (c.set_link.ensures)))) ∙ sym (λ t. (link_written (link_written (link_written (link_written (link_written (cells_by c.args.cells.now) (cell_id c.args.c) CLASS_NEXT None) (cell_id c.args.c) CLASS_PREV None) (cell_id c.args.c) CLASS_LAST (Some (cell_id c.args.c))) (cell_id c.args.c) PEER (c.link-first.ensures t)) (cell_id c.args.m) LEADERS (Some (cell_id c.args.c))))
+    c.set_link-6.ensures ∙ ap (λ (h : ℕ → Option HeldCell). link_written h (cell_id c.args.holder) c.args.link (Some (cell_id c.args.c))) (c.set_link-5.ensures ∙ ap (λ (h : ℕ → Option HeldCell). link_written h (cell_id c.args.c) ODD None) (c.set_link-4.ensures ∙ ap (λ (h : ℕ → Option HeldCell). link_written h (cell_id c.args.c) EVEN None) (c.set_link-3.ensures ∙ ap (λ (h : ℕ → Option HeldCell). link_written h (cell_id c.args.c) CLASS_LAST (Some (cell_id c.args.c))) (c.set_link-2.ensures ∙ ap (λ (h : ℕ → Option HeldCell). link_written h (cell_id c.args.c) CLASS_PREV None) (c.set_link.ensures)))))

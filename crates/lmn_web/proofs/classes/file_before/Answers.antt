@@ -1,10 +1,9 @@
-use Rattle.std.proofs.Common.{◌≡◌, ℕ, ◌∷◌, Option, None, IsSome, sym, ap, subst, ◌∙◌}
+use Rattle.std.proofs.Common.{◌≡◌, ◌<◌, ℕ, ◌∷◌, Option, IsSome, sym, ap, subst, ◌∙◌}
 use Rattle.std.specs.Option.{option_map}
 use Rattle.lmn_cells.specs.Cells.{HeldCell, cells_by}
 use Rattle.lmn_cells.specs.CellIds.{cell_id}
-use Rattle.lmn_web.specs.Classes.{key_in, class_place, put_first, Refiled}
-use Rattle.lmn_web.proofs.ListedLemmas.{if_some}
-use Rattle.lmn_web.proofs.ClassSteps.{filed_inside, filed_first, before_alive, leads_other, prev_other}
+use Rattle.lmn_web.specs.Classes.{key_in, place_in, put_first, Refiled}
+use Rattle.lmn_web.proofs.ClassSteps.{filed_inside, filed_first, holder_alive, holder_link, prev_other}
 use Rattle.lmn_web.proofs.classes.file_before.Goals as goal
 
 pub link-requires-clause-there : goal.link-requires-clause-there
@@ -14,9 +13,8 @@ link-requires-clause-there c =
 pub put_inside-requires-clause-prev : goal.put_inside-requires-clause-prev
 put_inside-requires-clause-prev c =
     let f = cells_by c.args.cells.now in let m = cell_id c.args.m in let x = cell_id c.args.c in let p = key_in f x in
-    let d = cell_id c.args.d in
-    let r = c.requires in let ls = r.1 in let a = r.2 in
-    prev_other f m x r.0 ls a d r.3 (cell_id c.in-Some.prev) (c.link.ensures ∙ ap (option_map cell_id) c.in-Some.is)
+    let r = c.requires in let t = r.1 in let a = r.2 in
+    prev_other f m x r.0 t a (cell_id c.args.d) r.3 (cell_id c.in-Some.prev) (c.link.ensures ∙ ap (option_map cell_id) c.in-Some.is)
 
 pub put_inside-requires-clause-next : goal.put_inside-requires-clause-next
 put_inside-requires-clause-next c =
@@ -32,18 +30,25 @@ number-high-requires-clause-there c = c.requires.2.there_c
 pub number-arity-requires-clause-there : goal.number-arity-requires-clause-there
 number-arity-requires-clause-there c = c.requires.2.there_c
 
-pub put_leader-requires-clause-m : goal.put_leader-requires-clause-m
-put_leader-requires-clause-m c =
-    c.requires.2.there_m
-
-pub put_leader-requires-clause-before : goal.put_leader-requires-clause-before
-put_leader-requires-clause-before c =
+pub put_leader-requires-clause-holder : goal.put_leader-requires-clause-holder
+put_leader-requires-clause-holder c =
     let f = cells_by c.args.cells.now in let m = cell_id c.args.m in let x = cell_id c.args.c in let p = key_in f x in
-    let d = cell_id c.args.d in
-    let kp : ◌≡◌ {A = ℕ × ℕ} (c.number-high.result, c.number-arity.result) p = λ t. (c.number-high.ensures t, c.number-arity.ensures t) in
-    let r = c.requires in let ls = r.1 in let a = r.2 in
-    let bef : option_map cell_id c.find-found.result.before ≡ (class_place f p None ls).before = (c.find-found.ensures ls a.classed.peers).0 ∙ ap (λ q. (class_place f q None ls).before) kp in
-    if_some cell_id c.find-found.result.before (λ q. IsSome (f q)) (λ q e. before_alive f m x r.0 ls a p d q (leads_other f m x r.0 ls a d r.3 r.4 (c.link.ensures ∙ ap (option_map cell_id) c.in-None.is)) (sym bef ∙ e))
+    let kp : ◌≡◌ {A = ℕ × ℕ} (c.number-high.result, c.number-arity.result) p = λ i. (c.number-high.ensures i, c.number-arity.ensures i) in
+    let r = c.requires in let t = r.1 in let a = r.2 in
+    let found = c.find-found.ensures t a.classed.tree in
+    let hold : cell_id c.find-found.result.holder ≡ (place_in f p m t).holder = found.0 ∙ ap (λ q. (place_in f q m t).holder) kp in
+    let link : c.find-found.result.link ≡ (place_in f p m t).link = found.1 ∙ ap (λ q. (place_in f q m t).link) kp in
+    subst (λ z. IsSome (f z)) (sym hold) (holder_alive f m x r.0 t a p)
+
+pub put_leader-requires-clause-link : goal.put_leader-requires-clause-link
+put_leader-requires-clause-link c =
+    let f = cells_by c.args.cells.now in let m = cell_id c.args.m in let x = cell_id c.args.c in let p = key_in f x in
+    let kp : ◌≡◌ {A = ℕ × ℕ} (c.number-high.result, c.number-arity.result) p = λ i. (c.number-high.ensures i, c.number-arity.ensures i) in
+    let r = c.requires in let t = r.1 in let a = r.2 in
+    let found = c.find-found.ensures t a.classed.tree in
+    let hold : cell_id c.find-found.result.holder ≡ (place_in f p m t).holder = found.0 ∙ ap (λ q. (place_in f q m t).holder) kp in
+    let link : c.find-found.result.link ≡ (place_in f p m t).link = found.1 ∙ ap (λ q. (place_in f q m t).link) kp in
+    subst (λ k. k < 8) (sym link) (holder_link f m x r.0 t a p)
 
 pub put_leader-requires-clause-leader : goal.put_leader-requires-clause-leader
 put_leader-requires-clause-leader c =
@@ -54,15 +59,16 @@ put_leader-requires-clause-c c =
     c.requires.2.there_c
 
 pub returns-in-Some : goal.returns-in-Some
-returns-in-Some c xs ls xs' a fresh i one =
+returns-in-Some c xs t xs' a fresh i one =
     let f = cells_by c.args.cells.now in let m = cell_id c.args.m in let x = cell_id c.args.c in let p = key_in f x in
-    let d = cell_id c.args.d in
-    subst (λ (g : ℕ → Option HeldCell). Refiled f g m (x ∷ xs) p xs') (sym c.put_inside.ensures) (filed_inside f c.whole.ensures m x xs ls xs' a fresh d i c.requires.4 one (cell_id c.in-Some.prev) (c.link.ensures ∙ ap (option_map cell_id) c.in-Some.is))
+    subst (λ (g : ℕ → Option HeldCell). Refiled f g m (x ∷ xs) p xs') (sym c.put_inside.ensures) (filed_inside f c.whole.ensures m x xs t xs' a fresh (cell_id c.args.d) i c.requires.4 one (cell_id c.in-Some.prev) (c.link.ensures ∙ ap (option_map cell_id) c.in-Some.is))
 
 pub returns-in-None : goal.returns-in-None
-returns-in-None c xs ls xs' a fresh i one =
+returns-in-None c xs t xs' a fresh i one =
     let f = cells_by c.args.cells.now in let m = cell_id c.args.m in let x = cell_id c.args.c in let p = key_in f x in
     let d = cell_id c.args.d in
-    let kp : ◌≡◌ {A = ℕ × ℕ} (c.number-high.result, c.number-arity.result) p = λ t. (c.number-high.ensures t, c.number-arity.ensures t) in
-    let bef : option_map cell_id c.find-found.result.before ≡ (class_place f p None ls).before = (c.find-found.ensures ls a.classed.peers).0 ∙ ap (λ q. (class_place f q None ls).before) kp in
-    subst (λ (g : ℕ → Option HeldCell). Refiled f g m (x ∷ xs) p xs') (sym (c.put_leader.ensures ∙ ap (λ b. put_first f m b d x) bef)) (filed_first f c.whole.ensures m x xs ls xs' a fresh d i c.requires.4 one (c.link.ensures ∙ ap (option_map cell_id) c.in-None.is))
+    let kp : ◌≡◌ {A = ℕ × ℕ} (c.number-high.result, c.number-arity.result) p = λ i. (c.number-high.ensures i, c.number-arity.ensures i) in
+    let found = c.find-found.ensures t a.classed.tree in
+    let hold : cell_id c.find-found.result.holder ≡ (place_in f p m t).holder = found.0 ∙ ap (λ q. (place_in f q m t).holder) kp in
+    let link : c.find-found.result.link ≡ (place_in f p m t).link = found.1 ∙ ap (λ q. (place_in f q m t).link) kp in
+    subst (λ (g : ℕ → Option HeldCell). Refiled f g m (x ∷ xs) p xs') (sym (c.put_leader.ensures ∙ (λ y. put_first f (hold y) (link y) d x))) (filed_first f c.whole.ensures m x xs t xs' a fresh d i c.requires.4 one (c.link.ensures ∙ ap (option_map cell_id) c.in-None.is))

@@ -1,27 +1,28 @@
-use Rattle.std.proofs.Common.{◌∙◌, sym, ap, ℕ, Option, Some, None}
+use Rattle.std.proofs.Common.{◌∙◌, sym, ap, ℕ, Option, None}
 use Rattle.std.specs.Option.{option_map}
 use Rattle.lmn_cells.specs.Cells.{HeldCell, cells_by}
 use Rattle.lmn_cells.specs.CellIds.{cell_id}
-use Rattle.lmn_web.specs.Classes.{CLASS_PREV, CLASS_LAST, PEER, link_written, led}
-use Rattle.lmn_web.proofs.ClassWrites.{kept, kept_some}
+use Rattle.lmn_web.specs.Classes.{CLASS_PREV, CLASS_LAST, link_written, taken_over}
+use Rattle.lmn_web.proofs.ClassWrites.{kept}
 use Rattle.lmn_web.proofs.classes.pass.Goals as goal
 
 pub set_link-requires-2-clause-there : goal.set_link-requires-2-clause-there
 set_link-requires-2-clause-there c =
     kept _ _ _ _ _ (cell_id c.args.next) c.set_link.ensures (c.requires.next)
 
-pub set_link-requires-3-clause-there : goal.set_link-requires-3-clause-there
-set_link-requires-3-clause-there c =
+pub take_over-requires-clause-holder : goal.take_over-requires-clause-holder
+take_over-requires-clause-holder c =
+    kept _ _ _ _ _ (cell_id c.args.holder) c.set_link-2.ensures (kept _ _ _ _ _ (cell_id c.args.holder) c.set_link.ensures (c.requires.holder))
+
+pub take_over-requires-clause-from : goal.take_over-requires-clause-from
+take_over-requires-clause-from c =
+    kept _ _ _ _ _ (cell_id c.args.c) c.set_link-2.ensures (kept _ _ _ _ _ (cell_id c.args.c) c.set_link.ensures (c.requires.c))
+
+pub take_over-requires-clause-to : goal.take_over-requires-clause-to
+take_over-requires-clause-to c =
     kept _ _ _ _ _ (cell_id c.args.next) c.set_link-2.ensures (kept _ _ _ _ _ (cell_id c.args.next) c.set_link.ensures (c.requires.next))
-
-pub set_leader-requires-clause-there : goal.set_leader-requires-clause-there
-set_leader-requires-clause-there c =
-    kept _ _ _ _ _ (cell_id c.args.m) c.set_link-3.ensures (kept _ _ _ _ _ (cell_id c.args.m) c.set_link-2.ensures (kept _ _ _ _ _ (cell_id c.args.m) c.set_link.ensures (c.requires.m)))
-
-pub set_leader-requires-clause-before : goal.set_leader-requires-clause-before
-set_leader-requires-clause-before c =
-    kept_some _ _ _ _ _ c.args.before cell_id c.set_link-3.ensures (kept_some _ _ _ _ _ c.args.before cell_id c.set_link-2.ensures (kept_some _ _ _ _ _ c.args.before cell_id c.set_link.ensures (c.requires.before)))
 
 pub returns : goal.returns
 returns c =
-    c.set_leader.ensures ∙ ap (λ (h : ℕ → Option HeldCell). led h (cell_id c.args.m) (option_map cell_id c.args.before) (Some (cell_id c.args.next))) (c.set_link-3.ensures ∙ ap (λ (h : ℕ → Option HeldCell). link_written h (cell_id c.args.next) PEER (option_map cell_id c.link-peer.result)) (c.set_link-2.ensures ∙ ap (λ (h : ℕ → Option HeldCell). link_written h (cell_id c.args.next) CLASS_LAST (option_map cell_id c.link-last.result)) (c.set_link.ensures))) ∙ sym (λ t. (led (link_written (link_written (link_written (cells_by c.args.cells.now) (cell_id c.args.next) CLASS_PREV None) (cell_id c.args.next) CLASS_LAST (c.link-last.ensures t)) (cell_id c.args.next) PEER (c.link-peer.ensures t)) (cell_id c.args.m) (option_map cell_id c.args.before) (Some (cell_id c.args.next))))
+    c.take_over.ensures ∙ ap (λ (h : ℕ → Option HeldCell). taken_over h (cell_id c.args.holder) c.args.link (cell_id c.args.c) (cell_id c.args.next)) (c.set_link-2.ensures ∙ ap (λ (h : ℕ → Option HeldCell). link_written h (cell_id c.args.next) CLASS_LAST (option_map cell_id c.link-last.result)) (c.set_link.ensures))
+    ∙ sym (λ t. taken_over (link_written (link_written (cells_by c.args.cells.now) (cell_id c.args.next) CLASS_PREV None) (cell_id c.args.next) CLASS_LAST (c.link-last.ensures t)) (cell_id c.args.holder) c.args.link (cell_id c.args.c) (cell_id c.args.next))

@@ -14,7 +14,7 @@ use Rattle.lmn_web.proofs.ListedLemmas.{own_line, home_same, link_behind, link_b
 use Rattle.lmn_web.proofs.RelistLemmas.{enters_before, before_among, inserted_there, inserted_fits, inserts, relists_is, in_none, before_is}
 use Rattle.lmn_web.proofs.WebLemmas.{some_back}
 use Rattle.lmn_web.specs.Classes.{files, key_in, MayEnter}
-use Rattle.lmn_web.proofs.Filing.{Leaves, filed_atom, inserts_left, leaders, may_before, entered_web, entered_list}
+use Rattle.lmn_web.proofs.Filing.{Leaves, filed_atom, inserts_left, tree, may_before, entered_web, entered_list}
 use Rattle.lmn_web.proofs.web.Web.add_before.Goals as goal
 
 pub insert-requires-clause-home : goal.insert-requires-clause-home
@@ -109,7 +109,7 @@ enter_class-requires c sure =
     let r = inserts f (cells_by c.insert.new.cells) F _ w m x c.first_link.result c.count_place.result c.count_place-in-Some.result c.number-count.result enters (c.first_link.ensures ∙ ap list_link kind) (c.count_place.ensures ∙ ap count_number kind) (c.count_place-in-Some.ensures ∙ ap count_number kind) c.number-count.ensures
     a among (c.insert.ensures.inserted, c.insert.ensures.list, c.insert.ensures.others) c.set_number.ensures in
     let leaves : Leaves f F m = inserts_left f (cells_by c.insert.new.cells) F m c.first_link.result a x c.count_place-in-Some.result (c.number-count.result + 1) (cell_kind f x) (c.first_link.ensures ∙ ap list_link kind) c.insert.ensures.inserted c.set_number.ensures in
-    let first = leaders f F _ W m x (Some m) xs r leaves in let place = option_map cell_id c.place_from-place.result in
+    let first = tree f F _ W m x (Some m) xs r leaves in let place = option_map cell_id c.place_from-place.result in
     let may : c.is_filed-filed.result ≡ true → MayEnter F m x place own first xs = λ sure.
     may_before f F _ W m x (Some m) xs r leaves a place refl (sym filed ∙ sure) enters.there enters.free among (c.place_from-place.ensures sure) in
     (own, first, xs, may sure)
@@ -126,7 +126,7 @@ invariant_of-self c =
     let r = inserts f (cells_by c.insert.new.cells) F _ w m x c.first_link.result c.count_place.result c.count_place-in-Some.result c.number-count.result enters (c.first_link.ensures ∙ ap list_link kind) (c.count_place.ensures ∙ ap count_number kind) (c.count_place-in-Some.ensures ∙ ap count_number kind) c.number-count.ensures
     a among (c.insert.ensures.inserted, c.insert.ensures.list, c.insert.ensures.others) c.set_number.ensures in
     let leaves : Leaves f F m = inserts_left f (cells_by c.insert.new.cells) F m c.first_link.result a x c.count_place-in-Some.result (c.number-count.result + 1) (cell_kind f x) (c.first_link.ensures ∙ ap list_link kind) c.insert.ensures.inserted c.set_number.ensures in
-    let first = leaders f F _ W m x (Some m) xs r leaves in let place = option_map cell_id c.place_from-place.result in
+    let first = tree f F _ W m x (Some m) xs r leaves in let place = option_map cell_id c.place_from-place.result in
     let may : c.is_filed-filed.result ≡ true → MayEnter F m x place own first xs = λ sure.
     may_before f F _ W m x (Some m) xs r leaves a place refl (sym filed ∙ sure) enters.there enters.free among (c.place_from-place.ensures sure) in
     entered_web f F _ W m x (Some m) xs r leaves (cells_by c.enter_class.new.cells) c.is_filed-filed.result (key_in F x) filed enters.free (c.enter_class.ensures own first xs may)
@@ -143,7 +143,7 @@ returns-in-Some c n at =
     let r = inserts f (cells_by c.insert.new.cells) F _ w m x c.first_link.result c.count_place.result c.count_place-in-Some.result c.number-count.result enters (c.first_link.ensures ∙ ap list_link kind) (c.count_place.ensures ∙ ap count_number kind) (c.count_place-in-Some.ensures ∙ ap count_number kind) c.number-count.ensures
     a among (c.insert.ensures.inserted, c.insert.ensures.list, c.insert.ensures.others) c.set_number.ensures in
     let leaves : Leaves f F m = inserts_left f (cells_by c.insert.new.cells) F m c.first_link.result a x c.count_place-in-Some.result (c.number-count.result + 1) (cell_kind f x) (c.first_link.ensures ∙ ap list_link kind) c.insert.ensures.inserted c.set_number.ensures in
-    let first = leaders f F _ W m x (Some m) xs r leaves in let place = option_map cell_id c.place_from-place.result in
+    let first = tree f F _ W m x (Some m) xs r leaves in let place = option_map cell_id c.place_from-place.result in
     let may : c.is_filed-filed.result ≡ true → MayEnter F m x place own first xs = λ sure.
     may_before f F _ W m x (Some m) xs r leaves a place refl (sym filed ∙ sure) enters.there enters.free among (c.place_from-place.ensures sure) in
     let same : n ≡ m = let e : Some n ≡ Some m = sym at ∙ ap (λ (z : List Row). home_at (web_by z) a) (sym c.self.view_is) ∙ home_same f (list_in f) a ∙ home in cc in

@@ -1,5 +1,5 @@
 use Rattle.std.proofs.Common.{◌≡◌, true, ◌+◌, ◌++◌, None, ◌∷◌, [], List, Some, refl, sym, ap, subst, ◌∙◌, map, arith}
-use Rattle.std.proofs.lemmas.List.{length-map, length-append}
+use Rattle.std.proofs.lemmas.List.{length-map}
 use Rattle.lmn_base.specs.Lists.{In}
 use Rattle.lmn_cells.specs.Rows.{Row}
 use Rattle.lmn_cells.specs.Cells.{cells_by}
@@ -11,7 +11,7 @@ use Rattle.lmn_web.proofs.ListedLemmas.{kind_same, link_behind, link_below}
 use Rattle.lmn_web.proofs.RelistLemmas.{enters_last, appended_there, appended_fits, appends, relists_is, membrane_there, in_none, last_is}
 use Rattle.lmn_web.specs.Classes.{files, key_in, MayEnter}
 use Rattle.lmn_web.proofs.FilterLemmas.{one_last}
-use Rattle.lmn_web.proofs.Filing.{Leaves, appends_left, leaders, may_enter, entered_web, entered_list}
+use Rattle.lmn_web.proofs.Filing.{Leaves, appends_left, tree, may_enter, entered_web, entered_list}
 use Rattle.lmn_web.proofs.web.Web.add_last.Goals as goal
 
 pub is_filed-filed-requires : goal.is_filed-filed-requires
@@ -70,9 +70,9 @@ enter_class-requires c sure =
     (c.append.ensures.appended, c.append.ensures.list, c.append.ensures.others) c.set_number.ensures in
     let leaves : Leaves f F m = appends_left f (cells_by c.append.new.cells) F m c.first_link.result x c.count_place-2.result (c.number-count.result + 1) (cell_kind f x) (c.first_link.ensures ∙ ap list_link kind) c.append.ensures.appended c.set_number.ensures in
     let out : In x own → ⊥ = in_none f (list_in f) w.listed x enters.free m (cell_kind f x) in
-    let first = leaders f F _ W m x (Some m) xs r leaves in
+    let first = tree f F _ W m x (Some m) xs r leaves in
     let may : c.is_filed-filed.result ≡ true → MayEnter F m x None own first xs = λ sure.
-    may_enter f F _ W m x (Some m) xs r leaves None (sym filed ∙ sure) enters.there (let e = length-append own (x ∷ []) in omega (arith, e)) out (λ d e. absurd cc) (one_last F x own) in
+    may_enter f F _ W m x (Some m) xs r leaves None (sym filed ∙ sure) enters.there out (λ d e. absurd cc) (one_last F x own) in
     (own, first, xs, may sure)
 
 pub invariant_of-self : goal.invariant_of-self
@@ -86,9 +86,9 @@ invariant_of-self c =
     (c.append.ensures.appended, c.append.ensures.list, c.append.ensures.others) c.set_number.ensures in
     let leaves : Leaves f F m = appends_left f (cells_by c.append.new.cells) F m c.first_link.result x c.count_place-2.result (c.number-count.result + 1) (cell_kind f x) (c.first_link.ensures ∙ ap list_link kind) c.append.ensures.appended c.set_number.ensures in
     let out : In x own → ⊥ = in_none f (list_in f) w.listed x enters.free m (cell_kind f x) in
-    let first = leaders f F _ W m x (Some m) xs r leaves in
+    let first = tree f F _ W m x (Some m) xs r leaves in
     let may : c.is_filed-filed.result ≡ true → MayEnter F m x None own first xs = λ sure.
-    may_enter f F _ W m x (Some m) xs r leaves None (sym filed ∙ sure) enters.there (let e = length-append own (x ∷ []) in omega (arith, e)) out (λ d e. absurd cc) (one_last F x own) in
+    may_enter f F _ W m x (Some m) xs r leaves None (sym filed ∙ sure) enters.there out (λ d e. absurd cc) (one_last F x own) in
     entered_web f F _ W m x (Some m) xs r leaves (cells_by c.enter_class.new.cells) c.is_filed-filed.result (key_in F x) filed enters.free (c.enter_class.ensures own first xs may)
 
 pub returns : goal.returns
@@ -102,8 +102,8 @@ returns c =
     (c.append.ensures.appended, c.append.ensures.list, c.append.ensures.others) c.set_number.ensures in
     let leaves : Leaves f F m = appends_left f (cells_by c.append.new.cells) F m c.first_link.result x c.count_place-2.result (c.number-count.result + 1) (cell_kind f x) (c.first_link.ensures ∙ ap list_link kind) c.append.ensures.appended c.set_number.ensures in
     let out : In x own → ⊥ = in_none f (list_in f) w.listed x enters.free m (cell_kind f x) in
-    let first = leaders f F _ W m x (Some m) xs r leaves in
+    let first = tree f F _ W m x (Some m) xs r leaves in
     let may : c.is_filed-filed.result ≡ true → MayEnter F m x None own first xs = λ sure.
-    may_enter f F _ W m x (Some m) xs r leaves None (sym filed ∙ sure) enters.there (let e = length-append own (x ∷ []) in omega (arith, e)) out (λ d e. absurd cc) (one_last F x own) in
+    may_enter f F _ W m x (Some m) xs r leaves None (sym filed ∙ sure) enters.there out (λ d e. absurd cc) (one_last F x own) in
     relists_is f (cells_by c.enter_class.new.cells) _ w m x (Some m) xs (entered_list f F _ W m x (Some m) xs r leaves (cells_by c.enter_class.new.cells) c.is_filed-filed.result (key_in F x) filed enters.free (c.enter_class.ensures own first xs may))
     ∙ last_is f (list_in f) w.listed m x ∙ ap (λ (z : List Row). added_last (web_by z) m x) c.self.view_is

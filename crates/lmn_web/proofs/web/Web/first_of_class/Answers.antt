@@ -11,13 +11,11 @@ use Rattle.lmn_web.specs.Indexes.{cell_kind}
 use Rattle.lmn_web.specs.Classes.{of_class}
 use Rattle.lmn_web.proofs.ListedLemmas.{kind_told, no_atom_by, web_listed, from_in, if_some}
 use Rattle.lmn_web.proofs.Reclassing.{in_filter}
-use Rattle.lmn_web.proofs.ClassReads.{class_list, may_find}
+use Rattle.lmn_web.proofs.ClassReads.{class_list}
 use Rattle.lmn_web.proofs.web.Web.first_of_class.Goals as goal
 
 pub first_in-requires-clause-classes : goal.first_in-requires-clause-classes
-first_in-requires-clause-classes c sure =
-    let f = cells_by c.self.inside.cells in let m = cell_id c.args.home in let W = c.self.invariant in
-    may_find f _ W m sure
+first_in-requires-clause-classes c sure = c.self.invariant.classed.classes (cell_id c.args.home) sure
 
 pub first_in-requires-clause-line : goal.first_in-requires-clause-line
 first_in-requires-clause-line c =

@@ -9,10 +9,10 @@ use Rattle.lmn_cells.specs.Runs.{HOME, link_in, Line, IsHome}
 use Rattle.lmn_web.specs.Webs.{web_by, kind_at, list_in, list_link, count_number, number_in, home_at, unlinked}
 use Rattle.lmn_web.specs.Indexes.{cell_kind}
 use Rattle.lmn_web.proofs.ListedLemmas.{kind_same, own_line, cell_of, home_same, link_behind, link_below, some_home}
-use Rattle.lmn_web.proofs.RelistLemmas.{unlinked_there, unlinked_some, unlinks, length_without, relists_is, without_is}
+use Rattle.lmn_web.proofs.RelistLemmas.{unlinked_there, unlinked_some, unlinks, relists_is, without_is}
 use Rattle.lmn_web.specs.Classes.{files, key_in, MayLeave}
 use Rattle.lmn_web.proofs.FilterLemmas.{one_without}
-use Rattle.lmn_web.proofs.Filing.{Leaves, unlinks_left, leaders, may_leave, left_web, left_list}
+use Rattle.lmn_web.proofs.Filing.{Leaves, unlinks_left, tree, may_leave, left_web, left_list}
 use Rattle.lmn_web.proofs.web.Web.unlink.Goals as goal
 
 pub link-requires-clause-there : goal.link-requires-clause-there
@@ -75,9 +75,9 @@ leave_class-requires c sure =
     (c.unlink.ensures.unlinked, c.unlink.ensures.list, c.unlink.ensures.others) c.set_number.ensures in
     let leaves : Leaves f F m = unlinks_left f (cells_by c.unlink.new.cells) F m c.first_link.result x c.count_place-in-Some.result (c.number-count.result - 1) (cell_kind f x) (c.first_link.ensures ∙ ap list_link kind) c.unlink.ensures.unlinked c.set_number.ensures in
     let in_own : In x own = (w.listed.homes m x home).1 in
-    let first = leaders f F _ W m x None xs r leaves in
+    let first = tree f F _ W m x None xs r leaves in
     let may : c.is_filed-filed.result ≡ true → MayLeave F m x own first xs = λ sure.
-    may_leave f F _ W m x None xs r leaves (sym filed ∙ sure) (cell_of f (list_in f) w.listed m x (cell_kind f x) in_own).0 (let e = length_without x own in_own in omega (arith, e)) in_own (one_without F x own) in
+    may_leave f F _ W m x None xs r leaves (sym filed ∙ sure) (cell_of f (list_in f) w.listed m x (cell_kind f x) in_own).0 in_own (one_without F x own) in
     (own, first, xs, may sure)
 
 pub invariant_of-self : goal.invariant_of-self
@@ -91,9 +91,9 @@ invariant_of-self c =
     (c.unlink.ensures.unlinked, c.unlink.ensures.list, c.unlink.ensures.others) c.set_number.ensures in
     let leaves : Leaves f F m = unlinks_left f (cells_by c.unlink.new.cells) F m c.first_link.result x c.count_place-in-Some.result (c.number-count.result - 1) (cell_kind f x) (c.first_link.ensures ∙ ap list_link kind) c.unlink.ensures.unlinked c.set_number.ensures in
     let in_own : In x own = (w.listed.homes m x home).1 in
-    let first = leaders f F _ W m x None xs r leaves in
+    let first = tree f F _ W m x None xs r leaves in
     let may : c.is_filed-filed.result ≡ true → MayLeave F m x own first xs = λ sure.
-    may_leave f F _ W m x None xs r leaves (sym filed ∙ sure) (cell_of f (list_in f) w.listed m x (cell_kind f x) in_own).0 (let e = length_without x own in_own in omega (arith, e)) in_own (one_without F x own) in
+    may_leave f F _ W m x None xs r leaves (sym filed ∙ sure) (cell_of f (list_in f) w.listed m x (cell_kind f x) in_own).0 in_own (one_without F x own) in
     left_web f F _ W m x None xs r leaves (cells_by c.leave_class.new.cells) c.is_filed-filed.result (key_in F x) filed (c.leave_class.ensures own first xs may)
 
 pub returns-in-Some : goal.returns-in-Some
@@ -107,9 +107,9 @@ returns-in-Some c n at =
     (c.unlink.ensures.unlinked, c.unlink.ensures.list, c.unlink.ensures.others) c.set_number.ensures in
     let leaves : Leaves f F m = unlinks_left f (cells_by c.unlink.new.cells) F m c.first_link.result x c.count_place-in-Some.result (c.number-count.result - 1) (cell_kind f x) (c.first_link.ensures ∙ ap list_link kind) c.unlink.ensures.unlinked c.set_number.ensures in
     let in_own : In x own = (w.listed.homes m x home).1 in
-    let first = leaders f F _ W m x None xs r leaves in
+    let first = tree f F _ W m x None xs r leaves in
     let may : c.is_filed-filed.result ≡ true → MayLeave F m x own first xs = λ sure.
-    may_leave f F _ W m x None xs r leaves (sym filed ∙ sure) (cell_of f (list_in f) w.listed m x (cell_kind f x) in_own).0 (let e = length_without x own in_own in omega (arith, e)) in_own (one_without F x own) in
+    may_leave f F _ W m x None xs r leaves (sym filed ∙ sure) (cell_of f (list_in f) w.listed m x (cell_kind f x) in_own).0 in_own (one_without F x own) in
     let same : n ≡ m = let e : Some n ≡ Some m = sym at ∙ ap (λ (z : List Row). home_at (web_by z) x) (sym c.self.view_is) ∙ home_same f (list_in f) x ∙ home in cc in
     relists_is f (cells_by c.leave_class.new.cells) _ w m x None xs (left_list f F _ W m x None xs r leaves (cells_by c.leave_class.new.cells) c.is_filed-filed.result (key_in F x) filed (c.leave_class.ensures own first xs may))
     ∙ without_is f (list_in f) w.listed m x ∙ (λ t. unlinked (web_by (c.self.view_is t)) (sym same t) x)
