@@ -134,9 +134,6 @@ module _ (flat : Flat) (names : List Name) (rule : ℕ → tree.Rule) (F R : ℕ
     as_other : (b : Bool) (o : RawRegion) → b ≡ false → cond b made o ≡ o
     as_other b o e = ap (λ c. cond c made o) e
 
-    as_home : (b : Bool) (o : RawRegion) → b ≡ true → cond b made o ≡ made
-    as_home b o e = ap (λ c. cond c made o) e
-
     -- a forest in which it doesn't fire
     untouched : (f : Forest) → (In home (members f) → ⊥) → fired_regions flat home made f ≡ raws_at flat (Shifted 0) f
     untouched bare o = refl

@@ -21,7 +21,7 @@ use Rattle.lmn_parts.specs.Walks.{is_in}
 use Rattle.lmn_settle.specs.Raw.{RawRegion, RawRegions, no_raw, raw, raw_and, size, size_in, laid, laid_in}
 use Rattle.lmn_settle.specs.declared.settling.RawMembrane.{RawMembrane}
 use Rattle.lmn_fire.specs.Making.{AreThere, LeftForms, LevelMade, after_membranes, context_membranes, context_next, context_writing, left_of, home_region, home_row, level_made, level_region, level_row, made_membranes, raws_append, raws_at}
-use Rattle.lmn_fire.proofs.Waiting.{length_laid, length_laid_in}
+use Rattle.lmn_settle.proofs.LaidParts.{laid_size, laid_in_size}
 
 -- what is left of a list was in it
 in_left_by : (x a : ℕ) (xs ys : List ℕ) (b : Bool) → (In a ys → In a xs) → In a (cond b ys (x ∷ ys)) → In a (x ∷ xs)
@@ -53,7 +53,7 @@ laid_append around n (raw_and m ms) ns =
 pub more_laid : (rows rows' all : List RawMembrane) (around : ℕ) (ms ns : RawRegions) → rows' ≡ rows ++ laid_in around (length rows) ms →
     rows ++ laid_in around (length rows) (raws_append ms ns) ≡ all → rows' ++ laid_in around (length rows') ns ≡ all
 more_laid rows rows' all around ms ns is e =
-    let n : length (rows ++ laid_in around (length rows) ms) ≡ length rows + size_in ms = length-append rows (laid_in around (length rows) ms) ∙ ap (λ k. length rows + k) (length_laid_in around (length rows) ms) in
+    let n : length (rows ++ laid_in around (length rows) ms) ≡ length rows + size_in ms = length-append rows (laid_in around (length rows) ms) ∙ ap (λ k. length rows + k) (laid_in_size around (length rows) ms) in
     ap (λ zs. zs ++ laid_in around (length zs) ns) is
     ∙ ap (λ k. (rows ++ laid_in around (length rows) ms) ++ laid_in around k ns) n
     ∙ append_assoc rows (laid_in around (length rows) ms) (laid_in around (length rows + size_in ms) ns)
@@ -75,7 +75,7 @@ region_laid rows rows' rows'' around number xs ms rs is one more =
 pub one_laid : (rows rows' all : List RawMembrane) (around : ℕ) (m : RawRegion) (ms ns : RawRegions) → rows' ≡ rows ++ laid around (length rows) m →
     rows ++ laid_in around (length rows) (raws_append (raw_and m ms) ns) ≡ all → rows' ++ laid_in around (length rows') (raws_append ms ns) ≡ all
 one_laid rows rows' all around m ms ns is e =
-    let n : length (rows ++ laid around (length rows) m) ≡ length rows + size m = length-append rows (laid around (length rows) m) ∙ ap (λ k. length rows + k) (length_laid around (length rows) m) in
+    let n : length (rows ++ laid around (length rows) m) ≡ length rows + size m = length-append rows (laid around (length rows) m) ∙ ap (λ k. length rows + k) (laid_size around (length rows) m) in
     ap (λ zs. zs ++ laid_in around (length zs) (raws_append ms ns)) is
     ∙ ap (λ k. (rows ++ laid around (length rows) m) ++ laid_in around k (raws_append ms ns)) n
     ∙ append_assoc rows (laid around (length rows) m) (laid_in around (length rows + size m) (raws_append ms ns))

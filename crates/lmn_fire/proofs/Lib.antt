@@ -14,7 +14,6 @@ pub mod FineLevels
 pub mod SpelledLaw
 mod ClosesAbove
 mod LinksUnder
-mod PartLinks
 mod Ranges
 mod Known
 mod Leaving

@@ -86,9 +86,6 @@ made_as names f ys e = by f.label f.arity ys e
     by (label.Int z) n ys e = inr (refl, λ zs q. plain_atom (same_functor (record { label = label.Int z; arity = n }) connector) (record { label = label.Int z; arity = n }) zs refl)
 
 module _ (flat : Flat) (t : Match) (names : List Name) (rule : ℕ → tree.Rule) (R : ℕ) (c : Contents) (below : (a i : ℕ) → link_at flat a i < t.links) where
-  abbrev v : ℕ → ℕ
-  v = raw_link t.links R
-
   abbrev reading : HeapReading
   reading = record { name = link_at flat; names = names; rule = rule }
 

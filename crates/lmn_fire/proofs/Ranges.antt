@@ -28,7 +28,7 @@ use Rattle.lmn_adequacy.proofs.Exposing.{Source, found, missing, source}
 use Rattle.lmn_adequacy.proofs.InOrder.{contents_plain, contexts_both, held, level_images_of, level_listed, listed, listed_both, made_process, raw_joined, together_both}
 use Rattle.lmn_adequacy.proofs.RawProcesses.{head_wires}
 use Rattle.lmn_adequacy.proofs.Skeleton.{level_skeleton, places_even}
-use Rattle.lmn_fire.proofs.PartLinks.{part_links_twice, part_root_once}
+use Rattle.lmn_turn.proofs.PartLinks.{part_links_twice, part_root_once}
 use Rattle.lmn_splice.specs.Splice.{of_rule, of_solid}
 use Rattle.lmn_base.proofs.Numbers.{same_or_not}
 use Rattle.lmn_congruence.proofs.TranslatedLinks.{no_link_in_rules as no_link_rules}

@@ -15,7 +15,7 @@ use Rattle.lmn_adequacy.specs.Next.{kept_atoms, kept_level, kept_membranes}
 use Rattle.lmn_heap.specs.Heap.{HeapAtom, atoms_in, rules_in}
 use Rattle.lmn_heap.specs.Solid.{links_from, solid_atom_at, solid_atoms_at}
 use Rattle.lmn_heap.specs.Sound.{Forest, bare, mem}
-use Rattle.lmn_bridge.specs.HeapRegions.{HeapReading, atoms_at, regions_at}
+use Rattle.lmn_bridge.specs.HeapRegions.{atoms_at, regions_at}
 use Rattle.lmn_settle.specs.Raw.{RawRegion, RawRegions, no_raw, raw, raw_and, settled, settled_all, settled_atom}
 use Rattle.lmn_splice.specs.Splice.{of_solid}
 use Rattle.lmn_flat.specs.Flats.{heap_of, link_at}
@@ -89,9 +89,6 @@ kept_fused (x ∷ xs) = λ i. record { label = x.label; links = map_twice (λ z.
 -- ---- the solid
 
 module _ (flat : Flat) (names : List Name) (rule : ℕ → Rule) (limit : ℕ) (below : (a i : ℕ) → link_at flat a i < limit) (v g : ℕ → ℕ) (w : Writing) (same : (y : ℕ) → y < limit → v (written w y) ≡ g y) where
-  abbrev reading : HeapReading
-  reading = record { name = link_at flat; names = names; rule = rule }
-
   links_read : (a i n : ℕ) → map v (map (written w) (links_from (link_at flat) a i n)) ≡ map g (links_from (link_at flat) a i n)
   links_read a i zero = refl
   links_read a i (suc n) = λ j. same (link_at flat a i) (below a i) j ∷ links_read a (i + 1) n j

@@ -1,14 +1,14 @@
 -- A solid to which a raw region is settled has its rules, and its atoms with other links.
 use Rattle.std.proofs.Common.{ℕ, ◌≡◌, ◌<◌, All, List, [], ◌∷◌, ◌++◌, length, map, refl, sym, ap, subst, ◌∙◌}
 use Rattle.std.specs.List.{flat_map}
-use Rattle.std.proofs.lemmas.List.{map-append}
 use Rattle.lmn_base.specs.Names.{HasNames, label_names}
-use Rattle.lmn_base.specs.Solids.{atoms_of_region, atoms_step, rules_step}
+use Rattle.lmn_base.specs.Solids.{atoms_of_region, rules_step}
 use Rattle.lmn_base.specs.declared.solid.Region.TheFolds.{fold-Region, fold-roll-Region}
 use Rattle.lmn_base.specs.declared.solid.SolidAtom.{SolidAtom}
-use Rattle.lmn_settle.specs.Raw.{RawRegion, RawRegions, no_raw, raw, raw_and, raw_atoms, raw_atoms_in, settled, settled_all, settled_atom}
+use Rattle.lmn_settle.specs.Raw.{RawRegion, RawRegions, no_raw, raw, raw_and, raw_atoms, settled, settled_all, settled_atom}
 use Rattle.lmn_fire.specs.Laws.{SettledSolidsKeep}
 use Rattle.lmn_fire.specs.Spelled.{raw_rules, raw_rules_in}
+use Rattle.lmn_settle.proofs.SettledLinks.{atoms_settled}
 
 mutual
   rules_settled : (v : ℕ → ℕ) (r : RawRegion) → fold-Region (List ℕ) rules_step (settled v r) ≡ raw_rules r
@@ -17,16 +17,6 @@ mutual
   rules_settled_in : (v : ℕ → ℕ) (ms : RawRegions) → flat_map (λ inner. inner) (map (fold-Region (List ℕ) rules_step) (settled_all v ms)) ≡ raw_rules_in ms
   rules_settled_in v no_raw = refl
   rules_settled_in v (raw_and m ms) = λ i. rules_settled v m i ++ rules_settled_in v ms i
-
-mutual
-  atoms_settled : (v : ℕ → ℕ) (r : RawRegion) → atoms_of_region (settled v r) ≡ map (settled_atom v) (raw_atoms r)
-  atoms_settled v (raw xs ms rs) =
-      fold-roll-Region (List SolidAtom) atoms_step (record { atoms = map (settled_atom v) xs; membranes = settled_all v ms; rules = rs }) ∙ ap (λ z. map (settled_atom v) xs ++ z) (atoms_settled_in v ms)
-      ∙ sym (map-append (settled_atom v) xs (raw_atoms_in ms))
-
-  atoms_settled_in : (v : ℕ → ℕ) (ms : RawRegions) → flat_map (λ inner. inner) (map atoms_of_region (settled_all v ms)) ≡ map (settled_atom v) (raw_atoms_in ms)
-  atoms_settled_in v no_raw = refl
-  atoms_settled_in v (raw_and m ms) = (λ i. atoms_settled v m i ++ atoms_settled_in v ms i) ∙ sym (map-append (settled_atom v) (raw_atoms m) (raw_atoms_in ms))
 
 names_settled : (v : ℕ → ℕ) (xs : List SolidAtom) → flat_map (λ (a : SolidAtom). label_names a.functor.label) (map (settled_atom v) xs) ≡ flat_map (λ (a : SolidAtom). label_names a.functor.label) xs
 names_settled v [] = refl

@@ -6,6 +6,7 @@ use Rattle.lmn_settle.specs.Raw.{RawRegion, RawRegions, no_raw, raw, raw_and, si
 use Rattle.lmn_settle.specs.declared.settling.RawMembrane.{RawMembrane}
 use Rattle.lmn_base.specs.declared.solid.SolidAtom.{SolidAtom}
 use Rattle.lmn_fire.specs.Making.{Stand, pending, pending_size}
+use Rattle.lmn_settle.proofs.LaidParts.{laid_size}
 
 size_both : (ws vs : List (RawRegion × ℕ)) → pending_size (ws ++ vs) ≡ pending_size ws + pending_size vs
 size_both [] vs = omega arith
@@ -47,25 +48,12 @@ pending_top ws m around n =
     let e : n + pending_size ((m, around) ∷ []) ≡ n + size m = omega arith in
     pending_both ws ((m, around) ∷ []) n ∙ (λ i. pending_one m around n i ++ pending ws (e i))
 
--- and so are regions
-pub length_laid_in : (around n : ℕ) (ms : RawRegions) → length (laid_in around n ms) ≡ size_in ms
-length_laid_in around n no_raw = refl
-length_laid_in around n (raw_and (raw xs is rs) ms) =
-    let a = length-append (laid around n (raw xs is rs)) (laid_in around (n + size (raw xs is rs)) ms) in
-    let b = length_laid_in n (suc n) is in
-    let c = length_laid_in around (n + size (raw xs is rs)) ms in
-    omega (arith, a, b, c)
-
--- a region is as many rows
-pub length_laid : (around n : ℕ) (m : RawRegion) → length (laid around n m) ≡ size m
-length_laid around n (raw xs ms rs) = ap suc (length_laid_in n (suc n) ms)
-
 module _ (rows : List RawMembrane) (ws : List (RawRegion × ℕ)) (around : ℕ) where
   -- a region that was on top stands in the table
   pub laid_whole : (m : RawRegion) (all : List RawMembrane) → rows ++ pending (ws ++ (m, around) ∷ []) (length rows) ≡ all →
       (rows ++ laid around (length rows) m) ++ pending ws (length (rows ++ laid around (length rows) m)) ≡ all
   laid_whole m all e =
-      let n : length (rows ++ laid around (length rows) m) ≡ length rows + size m = length-append rows (laid around (length rows) m) ∙ ap (λ k. length rows + k) (length_laid around (length rows) m) in
+      let n : length (rows ++ laid around (length rows) m) ≡ length rows + size m = length-append rows (laid around (length rows) m) ∙ ap (λ k. length rows + k) (laid_size around (length rows) m) in
       ap (λ k. (rows ++ laid around (length rows) m) ++ pending ws k) n
       ∙ append_assoc rows (laid around (length rows) m) (pending ws (length rows + size m))
       ∙ ap (λ ys. rows ++ ys) (sym (pending_top ws m around (length rows)))

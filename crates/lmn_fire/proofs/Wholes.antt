@@ -2,7 +2,7 @@
 use Rattle.std.proofs.Common.{ℕ, ◌≡◌, List, [], ◌∷◌, ◌++◌, length, refl, sym, ap, subst, ◌∙◌, inl, inr}
 use Rattle.std.specs.List.{AllByRecursion}
 use Rattle.lmn_base.specs.Lists.{In}
-use Rattle.lmn_base.proofs.Lists.{all_append, plus_nothing}
+use Rattle.lmn_base.proofs.Lists.{all_append}
 use Rattle.lmn_heap.specs.Heap.{Heap, IsAtom, IsMem, atoms_in, mems_in, rules_in}
 use Rattle.lmn_heap.specs.Sound.{Forest, bare, mem, Forms, Valid}
 use Rattle.lmn_heap.proofs.ListLemmas.{each_in}
@@ -13,7 +13,7 @@ use Rattle.lmn_flat.specs.Flats.{heap_of}
 use Rattle.lmn_flat.specs.declared.flat.Flat.{Flat}
 use Rattle.lmn_fire.specs.declared.writing.Writing.{Writing}
 use Rattle.lmn_fire.specs.Making.{Stand, entered, lone, pending, raws_at, written_atoms}
-use Rattle.lmn_fire.proofs.Waiting.{LastStands, entered_pending, entered_regions, laid_lone, last_stands, none_stand, stand_both}
+use Rattle.lmn_fire.proofs.Waiting.{LastStands, entered_pending, entered_regions, laid_lone, last_stands, stand_both}
 
 -- a membrane on the stack is there, and so are those that are put on it
 pub entered_there : (h : Heap) (around : ℕ) (ms : List ℕ) → ((m : ℕ) → In m ms → IsMem h m) → AllByRecursion (λ e. IsMem h e.0) (entered around ms)
@@ -56,11 +56,6 @@ module _ (flat : Flat) (w : Writing) where
     subst (λ z. Stand IsWhole z (entered_regions around (raws_at flat w f))) (sym is) (entered_stand around f ms F),
     ap (λ ys. rows ++ ys) (entered_pending around (raws_at flat w f) (length rows)),
   )
-
-  pub ends : (rows all : List RawMembrane) (es : List (ℕ × ℕ)) → es ≡ [] → Waits rows es all → rows ≡ all
-  ends rows all es is u =
-      let none = none_stand IsWhole u.0 (subst (λ z. Stand IsWhole z u.0) is u.1) in
-      sym (plus_nothing rows) ∙ ap (λ ws. rows ++ pending ws (length rows)) (sym none) ∙ u.2
 
   pub goes_on : (rows rows' all : List RawMembrane) (es es' es'' : List (ℕ × ℕ)) (m around n : ℕ) → es ≡ es' ++ (m, around) ∷ [] → n ≡ length rows → rows' ≡ rows ++ lone flat w around m ∷ [] →
       es'' ≡ es' ++ entered n (mems_in (heap_of flat) m) → Waits rows es all → Waits rows' es'' all
