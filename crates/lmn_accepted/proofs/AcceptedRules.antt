@@ -41,7 +41,7 @@ use Rattle.lmn_accepted.proofs.PlanKinds.{leaf_name}
 use Rattle.lmn_accepted.proofs.Items.{untyped_name, bare_name, closed_name, typed_name, rule_context_name, rule_number, own_seconds, all_seconds, gathered_in, rules_are, contexts_are, rule_contexts_are, typed_are}
 use Rattle.lmn_accepted.proofs.Trees.{name_in, contexts_named, open_named, closed_named, rule_contexts_named, typed_named, no_rules_stand, IsPlainLeaf, typed_link, atom_links, LevelIs, level_is, few_in}
 use Rattle.lmn_base.proofs.Lists.{all_append, all_left as all_front, all_right as all_back, two_empty, all_of_left}
-use Rattle.lmn_congruence.proofs.Common.{among_left, among_right}
+use Rattle.lmn_congruence.proofs.Common.{among_left, among_right, among_map}
 use Rattle.lmn_bridge.proofs.HeadTrees.{tree_of, level_tree}
 use Rattle.lmn_reading.proofs.NamedPlains.{Below, AllBelow}
 use Rattle.lmn_base.specs.declared.item.Form.TheVariants as form
@@ -52,15 +52,10 @@ use Rattle.lmn_congruence.specs.Rules as tree
 
 -- ---- lists
 
-among_by : {A B : Type 0} (f : A → B) (x : A) (xs : List A) → Among x xs → Among (f x) (map f xs)
-among_by f x [] a = elim a [ ]
-among_by f x (y ∷ xs) at_head = at_head
-among_by f x (y ∷ xs) (further a) = further (among_by f x xs a)
-
 -- what differs by a part of it differs
 once_by : {A B : Type 0} (f : A → B) (xs : List A) → EachOnce (map f xs) → EachOnce xs
 once_by f [] h = tt
-once_by f (x ∷ xs) h = ((λ a. h.0 (among_by f x xs a)), once_by f xs h.1)
+once_by f (x ∷ xs) h = ((λ a. h.0 (among_map f a)), once_by f xs h.1)
 
 -- ---- names that are known
 

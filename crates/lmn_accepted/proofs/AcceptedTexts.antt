@@ -32,7 +32,8 @@ use Rattle.lmn_accepted.proofs.PlanKinds.{at_index, plan_types}
 use Rattle.lmn_accepted.specs.Rules.{HasRule, AcceptedTexts}
 use Rattle.lmn_base.proofs.Lists.{all_of_left, all_of_right}
 
-each_at : (rs : List RuleTree) (plans : List GuardPlan) (k : ℕ) (r : RuleTree) (plan : GuardPlan) → EachPair IsPlan rs plans → slice_get rs k ≡ Some r → slice_get plans k ≡ Some plan → IsPlan r plan
+-- the plan at a place is that of the rule there
+pub each_at : (rs : List RuleTree) (plans : List GuardPlan) (k : ℕ) (r : RuleTree) (plan : GuardPlan) → EachPair IsPlan rs plans → slice_get rs k ≡ Some r → slice_get plans k ≡ Some plan → IsPlan r plan
 each_at [] [] zero r plan h e f = absurd (cc)
 each_at [] [] (suc k) r plan h e f = absurd (cc)
 each_at [] (q ∷ qs) k r plan h e f = absurd h

@@ -8,7 +8,7 @@ pub mod InTurns
 pub mod Types
 pub mod Counts
 pub mod AcceptedRules
-mod AcceptedTexts
+pub mod AcceptedTexts
 mod NumbersBack
 mod HeldLevels
 mod SameTrees

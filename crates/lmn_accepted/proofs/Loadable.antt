@@ -15,7 +15,7 @@ use Rattle.lmn_accepted.specs.Rules.{AcceptedTexts}
 use Rattle.lmn_accepted.proofs.FirstNames.{first_are_names}
 
 -- as many plans as rules, where each rule has its plan
-as_many : (rs : List RuleTree) (plans : List GuardPlan) → EachPair IsPlan rs plans → length plans ≡ length rs
+pub as_many : (rs : List RuleTree) (plans : List GuardPlan) → EachPair IsPlan rs plans → length plans ≡ length rs
 as_many [] [] h = refl
 as_many [] (q ∷ qs) h = absurd h
 as_many (r ∷ rs) [] h = absurd h

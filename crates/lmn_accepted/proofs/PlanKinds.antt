@@ -34,7 +34,8 @@ abbrev pub leaf_name : Leaf → List ℕ
 leaf_name (leaf.Atom f os p) = []
 leaf_name (leaf.Typed n o p) = n ∷ []
 
-abbrev names_in : List (List Leaf) → List ℕ
+-- the names of typed contexts, membrane by membrane
+abbrev pub names_in : List (List Leaf) → List ℕ
 names_in lss = flat_map (λ ls. flat_map leaf_name ls) lss
 
 -- ---- the uses of a plan
