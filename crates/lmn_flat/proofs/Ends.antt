@@ -309,7 +309,8 @@ lone_all x a (y ∷ ys) = subst Lone (sym (places_both x (entries a 0 y.links) (
 
 -- ---- each link twice
 
-abbrev counted : ℕ → List ℕ → ℕ
+-- how often a number stands in a list, one after another
+abbrev pub counted : ℕ → List ℕ → ℕ
 counted x [] = 0
 counted x (y ∷ ys) = cond (x == y) (1 + counted x ys) (counted x ys)
 

@@ -29,6 +29,7 @@ use Rattle.lmn_flat.specs.Building as built
 use Rattle.lmn_flat.specs.Examples.{AcrossHasItsTables, BothOutsideIsNotAcross, InnerIsLeft, InnerIsWithin, OnePortTwiceIsNoLink, a_in, b_in, holds}
 use Rattle.lmn_flat.proofs.Climbing.{above_at_most}
 use Rattle.lmn_flat.proofs.Whole.{is_flat}
+use Rattle.lmn_flat.proofs.Ends.{counted}
 
 abbrev a_inside : Region-F Region
 a_inside = record { atoms = record { functor = functor_a; links = 0 ∷ [] } ∷ []; membranes = []; rules = [] }
@@ -48,13 +49,9 @@ atoms_are =
 links_are : links_of_region across_solid.root ≡ 0 ∷ 0 ∷ []
 links_are = ap (flat_map (λ a. a.links)) atoms_are
 
-abbrev tally : ℕ → List ℕ → ℕ
-tally x [] = 0
-tally x (y ∷ ys) = cond (x == y) (1 + tally x ys) (tally x ys)
-
 zero_twice : EachTwice (0 ∷ 0 ∷ [])
 zero_twice x =
-    subst (λ n. (n ≡ 0) ⊎ (n ≡ 2)) (is_count_by (tally x) (λ y. x == y) refl (λ y ys. refl) (0 ∷ 0 ∷ [])) (by_test (x == 0))
+    subst (λ n. (n ≡ 0) ⊎ (n ≡ 2)) (is_count_by (counted x) (λ y. x == y) refl (λ y ys. refl) (0 ∷ 0 ∷ [])) (by_test (x == 0))
   where
     by_test : (b : Bool) → (cond b (1 + cond b (1 + 0) 0) (cond b (1 + 0) 0) ≡ 0) ⊎ (cond b (1 + cond b (1 + 0) 0) (cond b (1 + 0) 0) ≡ 2)
     by_test true = inr refl

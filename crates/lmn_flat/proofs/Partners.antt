@@ -9,12 +9,7 @@ use Rattle.lmn_flat.specs.declared.tables.FlatAtom.{FlatAtom}
 use Rattle.lmn_flat.specs.declared.tables.Port.{Port}
 use Rattle.lmn_flat.specs.Tables.{links_by, no_port}
 use Rattle.lmn_flat.specs.Flats.{heap_atom, heap_of, link_at, other_than, partner_by, partners_from, port_by}
-
--- what a list has at a place in it, whatever stands for what isn't there
-pub index_any : {A : Type 0} (xs : List A) (k : ℕ) (d e : A) → k < length xs → slice_index_or xs k d ≡ slice_index_or xs k e
-index_any [] k d e l = absurd (omega (arith, l))
-index_any (x ∷ xs) zero d e l = refl
-index_any (x ∷ xs) (suc k) d e l = index_any xs k d e (omega (arith, l))
+use Rattle.lmn_base.proofs.Lists.{read_as}
 
 ports_counted : (ports : List Port) (a i : ℕ) (xs : List ℕ) → length (partners_from ports a i xs) ≡ length xs
 ports_counted ports a i [] = refl
@@ -47,8 +42,8 @@ module _ (ports : List Port) (a i link : ℕ) (p : Port) (here : 2 * link + 1 < 
   -- a port that is the first one of its link is joined to the second one
   pub second_port : (q : Port) → q ≡ slice_index_or ports (2 * link + 1) q → ((p.atom == a) && (p.index == i)) ≡ true → partner_by ports a i link ≡ port_by q
   second_port q second test =
-      let e = index_any ports (2 * link) no_port p (omega (arith, here)) ∙ sym first in
-      let d = index_any ports (2 * link + 1) no_port q here ∙ sym second in
+      let e = read_as ports (2 * link) no_port p (omega (arith, here)) ∙ sym first in
+      let d = read_as ports (2 * link + 1) no_port q here ∙ sym second in
       ap (λ r. other_than a i r (slice_index_or ports (2 * link + 1) no_port)) e
       ∙ ap (λ r. other_than a i p r) d
       ∙ ap (λ b. if b then port_by q else port_by p) test
@@ -56,7 +51,7 @@ module _ (ports : List Port) (a i link : ℕ) (p : Port) (here : 2 * link + 1 < 
   -- any other port is joined to the first one
   pub first_port : ((p.atom == a) && (p.index == i)) ≡ false → partner_by ports a i link ≡ port_by p
   first_port test =
-      let e = index_any ports (2 * link) no_port p (omega (arith, here)) ∙ sym first in
+      let e = read_as ports (2 * link) no_port p (omega (arith, here)) ∙ sym first in
       ap (λ r. other_than a i r (slice_index_or ports (2 * link + 1) no_port)) e
       ∙ ap (λ b. if b then port_by (slice_index_or ports (2 * link + 1) no_port) else port_by p) test
 
