@@ -1,5 +1,5 @@
 -- A name of a body that stands for no part of the head has the integer to which the guard binds it.
-use Rattle.std.proofs.Common.{ℕ, ◌≡◌, ◌<◌, ◌⊎◌, List, [], ◌∷◌, ◌++◌, map, length, Bool, true, false, cond, Option, Some, None, All, refl, sym, ap, subst, ◌∙◌, inl, inr, arith}
+use Rattle.std.proofs.Common.{ℕ, ◌≡◌, ◌<◌, ◌⊎◌, List, [], ◌∷◌, ◌++◌, map, length, Option, Some, None, All, refl, sym, ap, subst, ◌∙◌, inl, inr, arith}
 use Rattle.std.specs.Prelude.{ℤ, Contains, IsSome}
 use Rattle.std.specs.List.{flat_map}
 use Rattle.std.specs.Option.{option_map}
@@ -25,9 +25,9 @@ use Rattle.lmn_solid.specs.Flattening.{items_of_head}
 use Rattle.lmn_solid.specs.Guards.{EqualHolds, HoldsOnHeap, Meaning, bind, context_alone, integer_named, integer_or, part_alone, typed_number}
 use Rattle.lmn_solid.specs.Heads.{HeadTyped, typed_contexts_of}
 use Rattle.lmn_solid.proofs.HeadTrees.{head_at, same_leaves}
-use Rattle.lmn_congruence.specs.Orders.{Among, at_head, further}
+use Rattle.lmn_congruence.specs.Orders.{Among}
 use Rattle.lmn_congruence.specs.Rules as tree
-use Rattle.lmn_congruence.specs.Translation.{condition_of, kind_of, name_of, rule_tree}
+use Rattle.lmn_congruence.specs.Translation.{condition_of, name_of, rule_tree}
 use Rattle.lmn_reduction.specs.Firing.{typed_contexts}
 use Rattle.lmn_adequacy.specs.Accepted.{left_sides}
 use Rattle.lmn_firing.specs.Bound.{bound_all, bound_by}

@@ -1,5 +1,5 @@
 -- The rules in the membranes of a solid's tables are rules of the solid.
-use Rattle.std.proofs.Common.{ℕ, ◌≡◌, ◌<◌, List, [], ◌∷◌, ◌++◌, length, map, Option, Some, None, inl, inr, refl, sym, subst}
+use Rattle.std.proofs.Common.{ℕ, ◌≡◌, ◌<◌, List, [], ◌++◌, length, map, Option, Some, None, inl, inr, refl, sym, subst}
 use Rattle.std.specs.Prelude.{IsSome}
 use Rattle.std.specs.List.{AllByRecursion, flat_map}
 use Rattle.std.proofs.lemmas.List.Elements.{recursion_from_All}
@@ -12,11 +12,7 @@ use Rattle.lmn_heap.specs.Solid.{regions_of, solid_atoms_at}
 use Rattle.lmn_heap.specs.Sound.{Forest, bare, mem, flat as members}
 use Rattle.lmn_flat.specs.Flats.{heap_of, link_at}
 use Rattle.lmn_next.specs.Settling.{FlatsHaveRules}
-
-each : (P : ℕ → Type 0) (ks : List ℕ) → AllByRecursion P ks → (k : ℕ) → In k ks → P k
-each P [] f k i = absurd i
-each P (x ∷ ks) f k (inl e) = subst P e f.0
-each P (x ∷ ks) f k (inr i) = each P ks f.1 k i
+use Rattle.lmn_heap.proofs.ListLemmas.{each_in}
 
 -- what holds of the rules of a forest holds of those of each of its membranes
 rules_there : (P : ℕ → Type 0) (h : Heap) (name : ℕ → ℕ → ℕ) (f : Forest) → AllByRecursion P (flat_map (λ inner. inner) (map (fold-Region (List ℕ) rules_step) (regions_of h name f))) → (m : ℕ) → In m (members f) → AllByRecursion P (rules_in h m)
@@ -47,4 +43,4 @@ flats_have_rules table s flat is has m k i = by ((heap_of flat).mems m) refl
     by (Some x) e =
         let there : IsMem (heap_of flat) m = subst IsSome (sym e) refl in
         let whole = subst (λ z. AllByRecursion (λ k. k < length table) (flat_map (λ inner. inner) (map (fold-Region (List ℕ) rules_step) z))) (sym is.root) all in
-        each (λ k. k < length table) (rules_in (heap_of flat) m) (rules_there (λ k. k < length table) (heap_of flat) (link_at flat) (mem 0 is.inner bare) whole m (is.tree.all m there)) k i
+        each_in (λ k. k < length table) (rules_in (heap_of flat) m) k (rules_there (λ k. k < length table) (heap_of flat) (link_at flat) (mem 0 is.inner bare) whole m (is.tree.all m there)) i

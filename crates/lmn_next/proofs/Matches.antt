@@ -1,10 +1,10 @@
 -- A match of the least images of a rule is one of the embedding at these images.
 use Rattle.std.proofs.Common.{ℕ, zero, suc, ◌≡◌, ◌≢◌, ◌<◌, ◌≤◌, ◌+◌, ◌⊎◌, cond, List, [], ◌∷◌, ◌++◌, map, length, Option, Some, None, inl, inr, refl, sym, ap, subst, ◌∙◌, arith}
-use Rattle.std.specs.Prelude.{◌↔◌, Contains, flat_map}
+use Rattle.std.specs.Prelude.{◌↔◌, Contains, flat_map, slice_index_or}
 use Rattle.std.specs.List.{AllByRecursion}
 use Rattle.std.specs.Option.{option_map}
 use Rattle.std.proofs.lemmas.List.{map-append}
-use Rattle.std.proofs.lemmas.List.Elements.{recursion_from_All}
+use Rattle.std.proofs.lemmas.List.Elements.{recursion_from_All, All-contains_itself}
 use Rattle.lmn_base.specs.declared.level.CtxUse.{CtxUse}
 use Rattle.lmn_base.specs.declared.level.Leaf.{Leaf}
 use Rattle.lmn_base.specs.declared.level.Leaf.TheVariants.{Atom, Typed}
@@ -16,7 +16,7 @@ use Rattle.lmn_base.specs.Levels.{contexts_of, leaves_of, links_of, occurrences_
 use Rattle.lmn_base.specs.LinkUses.{IsTableOf}
 use Rattle.lmn_base.specs.Lists.{In}
 use Rattle.lmn_base.specs.WellMade.{FitsArity}
-use Rattle.lmn_base.proofs.Lists.{all_of_right, contains_behind, contains_first, get_below, get_there as get_some}
+use Rattle.lmn_base.proofs.Lists.{all_of_right, get_below, get_there as get_some}
 use Rattle.lmn_base.proofs.Numbers.{not_equal}
 use Rattle.lmn_guards.specs.declared.plan.GuardPlan.{GuardPlan}
 use Rattle.lmn_heap.specs.Graphs.{atom_map}
@@ -51,7 +51,7 @@ use Rattle.lmn_body.proofs.Firing.{heap_in_of, of_heap_in, rising_below}
 use Rattle.lmn_body.proofs.HeadPorts.{in_map, of_map}
 use Rattle.lmn_body.proofs.Numbered.{contexts_of_heads}
 use Rattle.lmn_congruence.specs.LinkedRules.{level_occurrences}
-use Rattle.lmn_congruence.specs.Regions.{Region, Regions, SolidAtom, region}
+use Rattle.lmn_congruence.specs.Regions.{Region, region}
 use Rattle.lmn_congruence.specs.Rules as tree
 use Rattle.lmn_congruence.specs.Rules.{Name}
 use Rattle.lmn_congruence.specs.Translation.{context_tree, name_of, rule_tree}
@@ -96,11 +96,6 @@ each_once (x ∷ xs) =
         λ a. ((λ i. elim i [ inl e ↦ inl e | inr j ↦ inr ((w.2 a).0 j) ]), (λ i. elim i [ inl e ↦ inl e | inr j ↦ inr ((w.2 a).1 j) ])),
       )
     ]
-
--- what holds of each element of a list
-each_contained : {X : Type 0} (P : X → Type 0) (xs : List X) → ((x : X) → Contains xs x → P x) → AllByRecursion P xs
-each_contained P [] f = tt
-each_contained P (x ∷ xs) f = (f x (contains_first x xs), each_contained P xs (λ y c. f y (contains_behind x xs y c)))
 
 -- a link that doesn't stand in a list stands there no time
 never_there : (x : ℕ) (xs : List ℕ) → (IsOneOf x xs → ⊥) → times x xs ≡ 0
@@ -312,9 +307,9 @@ module _ (heads : AcceptedHeads) (nested : AcceptedNested) (leave : HeadsLeave) 
     below = is.links;
     fits = record {
       leaves_fit = leaves_fit flat r t c (length rule.links) (leaves_of rule.body) (recursion_from_All FitsArity (leaves_of rule.body) (all_of_right FitsArity (leaves_of rule.head) (leaves_of rule.body) is_rule.well_made.arities))
-          (body_low rule is_rule.well_made.table) (each_contained (Means flat r t c (length rule.links)) (leaves_of rule.body) means_leaf);
-      contexts_fit = each_contained (ContextFits flat r t c left.0) (contexts_of rule.body) context_fits;
-      rule_contexts_fit = each_contained (RuleContextFits flat r t c) (rule_contexts_of rule.body) rule_context_fits;
+          (body_low rule is_rule.well_made.table) (recursion_from_All (Means flat r t c (length rule.links)) (leaves_of rule.body) (λ k d l. means_leaf (slice_index_or (leaves_of rule.body) k d) (All-contains_itself (leaves_of rule.body) k d l)));
+      contexts_fit = recursion_from_All (ContextFits flat r t c left.0) (contexts_of rule.body) (λ k d l. context_fits (slice_index_or (contexts_of rule.body) k d) (All-contains_itself (contexts_of rule.body) k d l));
+      rule_contexts_fit = recursion_from_All (RuleContextFits flat r t c) (rule_contexts_of rule.body) (λ k d l. rule_context_fits (slice_index_or (rule_contexts_of rule.body) k d) (All-contains_itself (rule_contexts_of rule.body) k d l));
     };
     rest = left.2 t.home (subst (IsMem h) (sym is.home) there) lies.embeds.rest (subst (λ z. IsLeft h r taken (membrane_images s items) z lies.embeds.rest) (sym is.home) both.1);
     bounded = bounded;
