@@ -1,3 +1,5 @@
 pub mod QuotedLemmas
 pub mod NameLemmas
 pub mod Common
+pub mod NameTexts
+pub mod NameOrder

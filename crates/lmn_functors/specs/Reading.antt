@@ -4,6 +4,7 @@ use Rattle.std.specs.List.{AllByRecursion}
 use Rattle.std.specs.Fmt.{decimal, signed_decimal}
 use Rattle.lmn_base.specs.declared.functor.Label.{Label}
 use Rattle.lmn_base.specs.declared.functor.Label.TheVariants.{Name, Int}
+use Rattle.lmn_base.specs.Links.{Numbers}
 use Rattle.lmn_lexer.specs.NameText.{name_text}
 
 -- an integer of 64 bits
@@ -30,6 +31,11 @@ pub record AddsNames (n : ℕ) (before later : List (List ℕ)) : Type 0 where
   pub more : List (List ℕ)
   pub are : later ≡ before ++ more
   pub few : length more ≤ n
+
+-- Names are put in order, one after the other: each of these numbers is that of a name which was held then, or the next one, and a name
+-- was put. So many names are held at the end as stand in the later list, and none was put besides.
+abbrev pub NumbersNames : List (List ℕ) → List ℕ → List (List ℕ) → Type 0
+NumbersNames before ns later = Numbers (length before) ns (length later)
 
 -- no byte of a text is a `/`
 abbrev pub HasNoSlash : List ℕ → Type 0

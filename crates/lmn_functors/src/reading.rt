@@ -6,7 +6,8 @@ ghost use Rattle.lmn_lexer.specs.NameText.{quoted_byte, quoted, name_text};
 ghost use Rattle.lmn_lexer.specs.Spelling.{is_bare_name, goes_on};
 ghost use Rattle.lmn_instr.specs.Labels.{HasLabel, listed_label_text};
 ghost use Rattle.lmn_instr.specs.Listings.{functor_text};
-ghost use Rattle.lmn_functors.specs.Reading.{IsIn64Bits, IsLabelText, IsFunctorText, AddsNames, HasNoSlash, IsShortLabel};
+ghost use Rattle.lmn_base.specs.Names.{label_names};
+ghost use Rattle.lmn_functors.specs.Reading.{IsIn64Bits, IsLabelText, IsFunctorText, AddsNames, HasNoSlash, IsShortLabel, NumbersNames};
 
 use arrayvec::ArrayVec;
 use itoa::Buffer;
@@ -169,6 +170,7 @@ fn put_name(name: &[u8], names: &mut Names) -> Result<Label, NoMemory>
     requires room { length names.old < 2 ^ 32 }
     ensures label { IfOk result (λ label. HasLabel names.new label × (listed_label_text names.new label ≡ name_text name.now)) }
     ensures short { IfOk result (λ label. IsShortLabel names.new label) }
+    ensures order { IfOk result (λ label. NumbersNames names.old (label_names label) names.new) }
     ensures names { AddsNames 1 names.old names.new }
     ensures err { OnErr result (names.new ≡ names.old) }
 {
@@ -180,6 +182,8 @@ fn read_name(text: &[u8], names: &mut Names) -> Result<Option<Label>, NoMemory>
     requires { length names.old < 2 ^ 32 }
     ensures some { IfOk result (λ found. IfSome found (λ label. HasLabel names.new label × (listed_label_text names.new label ≡ text.now))) }
     ensures short { IfOk result (λ found. IfSome found (λ label. IsShortLabel names.new label)) }
+    ensures order { IfOk result (λ found. IfSome found (λ label. NumbersNames names.old (label_names label) names.new)) }
+    ensures kept { IfOk result (λ found. IfNone found (names.new ≡ names.old)) }
     ensures none { IfOk result (λ found. IfNone found ((name : List ℕ) → length name ≤ 255 → name_text name ≡ text.now → ⊥)) }
     ensures names { AddsNames 1 names.old names.new }
     ensures err { OnErr result (names.new ≡ names.old) }
@@ -206,6 +210,8 @@ fn read_label(text: &[u8], names: &mut Names) -> Result<Option<Label>, NoMemory>
     requires { length names.old < 2 ^ 32 }
     ensures some { IfOk result (λ found. IfSome found (λ label. HasLabel names.new label × (listed_label_text names.new label ≡ text.now))) }
     ensures short { IfOk result (λ found. IfSome found (λ label. IsShortLabel names.new label)) }
+    ensures order { IfOk result (λ found. IfSome found (λ label. NumbersNames names.old (label_names label) names.new)) }
+    ensures kept { IfOk result (λ found. IfNone found (names.new ≡ names.old)) }
     ensures none { IfOk result (λ found. IfNone found (IsLabelText text.now → ⊥)) }
     ensures names { AddsNames 1 names.old names.new }
     ensures err { OnErr result (names.new ≡ names.old) }
@@ -231,8 +237,8 @@ fn last_slash(text: &[u8]) -> Option<usize>
     None
 }
 
-/// The functor of which this is the text in a listing: its label, a `/` and its arity. A name that is new is put, and at
-/// most one is.
+/// The functor of which this is the text in a listing: its label, a `/` and its arity. A name that is new is put, which has
+/// the next number then, and at most one is; where the text is that of no functor, none is.
 ///
 /// # Errors
 ///
@@ -241,6 +247,8 @@ pub fn read_functor(text: &[u8], names: &mut Names) -> Result<Option<Functor>, N
     requires { length names.old < 2 ^ 32 }
     ensures some { IfOk result (λ found. IfSome found (λ functor. HasLabel names.new functor.label × (functor_text names.new functor ≡ text.now))) }
     ensures short { IfOk result (λ found. IfSome found (λ functor. IsShortLabel names.new functor.label)) }
+    ensures order { IfOk result (λ found. IfSome found (λ functor. NumbersNames names.old (label_names functor.label) names.new)) }
+    ensures kept { IfOk result (λ found. IfNone found (names.new ≡ names.old)) }
     ensures none { IfOk result (λ found. IfNone found (IsFunctorText text.now → ⊥)) }
     ensures names { AddsNames 1 names.old names.new }
     ensures err { OnErr result (names.new ≡ names.old) }
