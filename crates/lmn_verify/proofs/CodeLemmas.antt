@@ -4,6 +4,7 @@ use Rattle.std.specs.Prelude.{codes, slice_get, Some, Result, Ok, Err, IfErr, Is
 use Rattle.std.specs.List.{AllByRecursion, flat_map}
 use Rattle.std.specs.Fmt.{decimal}
 use Rattle.std.proofs.lemmas.List.{append_assoc, append-nil, length_push, take-append-drop, length-take-le, drop_all, take_more, take_all, drop-drop}
+use Rattle.std.proofs.lemmas.List.Concat.{flat_map-append}
 use Rattle.std.proofs.lemmas.Bool.{lt-ltb, le-ltb}
 use Rattle.std.proofs.lemmas.Option.{slice_get-get_or}
 use Rattle.lmn_base.specs.Refusals.{IfRefused}
@@ -14,16 +15,18 @@ use Rattle.lmn_base.proofs.Lists.{all_append}
 use Rattle.lmn_instr.specs.declared.instr.Code.{Code}
 use Rattle.lmn_instr.specs.declared.instr.Instr.{Instr}
 use Rattle.lmn_instr.specs.Listings.{line, code_listing, HasCode}
-use Rattle.lmn_functors.specs.Reading.{AddsNames}
+use Rattle.lmn_functors.specs.Reading.{AddsNames, NumbersNames}
+use Rattle.lmn_verify.specs.Operands.{code_names}
 use Rattle.lmn_verify.specs.Verified.{IsVerified}
 use Rattle.lmn_verify.specs.Lines.{rule, head, nothing, due_rule, IsWholeLine}
 use Rattle.lmn_verify.specs.Listings.{IsWholeCode, HasPlainLines, AreListed, IsFirstUnverified, lines_of, lines_of_all, listings_from}
 use Rattle.lmn_verify.specs.Reaching.{Reached, IsLineEnd, IsEnded, IsReadCode, AreReadCodes, IsRefusedLine}
-use Rattle.lmn_functors.proofs.NameLemmas.{adds_both, adds_none, adds_more as adds_fewer}
+use Rattle.lmn_functors.proofs.NameLemmas.{adds_both, adds_none, adds_more as adds_fewer, numbers_both, numbers_same}
 use Rattle.lmn_verify.proofs.LineLemmas.{more_instrs}
 use Rattle.lmn_verify.proofs.ReachingLemmas.{reached_first, reached_more, reached_wrong, refusal_of, puts_on, whole_where}
 
-abbrev rule_line : ℕ → List ℕ
+-- the first line of the listing of rule j
+abbrev pub rule_line : ℕ → List ℕ
 rule_line j = codes "rule " ++ (decimal j ++ codes "\n")
 
 -- ---- the listing of one code
@@ -81,6 +84,7 @@ code_read listing text before middle later j from first end at ln at2 ln2 code e
       count = omega arith;
       few = omega arith;
       puts = adds_fewer (3 * (at - end) + 3 * (at2 - at)) (3 * (at2 - from)) before later size (adds_both (3 * (at - end)) (3 * (at2 - at)) before middle later h.read.puts b.read.puts);
+      order = numbers_both h.read.order b.read.order;
       text =
           let heads = flat_map (line later) code.head in
           let bodies = flat_map (line later) code.body in
@@ -135,6 +139,7 @@ none_read n listing names = record {
   count = refl;
   few = omega arith;
   puts = adds_none 0 names;
+  order = numbers_same names names refl;
   text = refl;
   whole = tt;
   named = tt;
@@ -161,6 +166,10 @@ codes_more n listing before names later j at ln at2 ln2 cs c r l h =
       count = omega arith;
       few = omega arith;
       puts = adds_fewer (3 * at + 3 * (at2 - at)) (3 * at2) before later three (adds_both (3 * at) (3 * (at2 - at)) before names later r.puts h.puts);
+      order =
+          let pushed : flat_map code_names (cs ++ c ∷ []) ≡ flat_map code_names cs ++ code_names c =
+          flat_map-append code_names cs (c ∷ []) ∙ ap (λ ns. flat_map code_names cs ++ ns) (append-nil (code_names c)) in
+          subst (λ ns. NumbersNames before ns later) (sym pushed) (numbers_both r.order h.order);
       text =
           let here : j ≡ 0 + length cs = omega arith in
           ap (λ t. t ++ drop at2 listing) (listings_push later 0 j cs c here) ∙ append_assoc (listings_from later 0 cs) (code_listing later c j) (drop at2 listing)

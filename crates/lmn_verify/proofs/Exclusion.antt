@@ -17,7 +17,7 @@ use Rattle.lmn_verify.specs.ListingLaws.{ListedLinesStand, WrongLineIsOne}
 use Rattle.lmn_verify.specs.Reaching.{due_in, due_out, last_of}
 use Rattle.lmn_verify.proofs.Places.{has_no_decimal}
 use Rattle.lmn_verify.proofs.ReachingLemmas.{stays, goes_out, stands_in}
-use Rattle.lmn_verify.proofs.CodeLemmas.{due_here, due_none}
+use Rattle.lmn_verify.proofs.CodeLemmas.{due_here, due_none, rule_line}
 use Rattle.lmn_base.proofs.Numbers.{no_feed}
 
 -- ---- whole lines
@@ -100,11 +100,8 @@ block_stands b n j ns is block plain =
 
 -- ---- the lines of listings
 
-abbrev rule_line : ℕ → List ℕ
-rule_line k = codes "rule " ++ (decimal k ++ codes "\n")
-
 -- the lines of the listings of codes, of which the first has this number
-abbrev all_lines : List (List ℕ) → ℕ → List Code → List (List ℕ)
+abbrev pub all_lines : List (List ℕ) → ℕ → List Code → List (List ℕ)
 all_lines ns k [] = []
 all_lines ns k (c ∷ cs) = rule_line k ∷ (map (line ns) c.head ++ (map (line ns) c.body ++ all_lines ns (k + 1) cs))
 
@@ -116,7 +113,8 @@ pub joined_map : (ns : List (List ℕ)) (is : List Instr) → joined_lines (map 
 joined_map ns [] = refl
 joined_map ns (i ∷ is) = ap (λ t. line ns i ++ t) (joined_map ns is)
 
-text_is : (ns : List (List ℕ)) (k : ℕ) (cs : List Code) → listings_from ns k cs ≡ joined_lines (all_lines ns k cs)
+-- listings are the lines of their codes, joined,
+pub text_is : (ns : List (List ℕ)) (k : ℕ) (cs : List Code) → listings_from ns k cs ≡ joined_lines (all_lines ns k cs)
 text_is ns k [] = refl
 text_is ns k (c ∷ cs) =
     let heads = flat_map (line ns) c.head in
@@ -138,7 +136,8 @@ rule_whole k l = (
   refl,
 )
 
-all_whole : (ns : List (List ℕ)) (k : ℕ) (cs : List Code) → k + length cs < 2 ^ 64 → AllByRecursion (HasPlainLines ns) cs → AllByRecursion IsWholeLine (all_lines ns k cs)
+-- and each of these is a whole line
+pub all_whole : (ns : List (List ℕ)) (k : ℕ) (cs : List Code) → k + length cs < 2 ^ 64 → AllByRecursion (HasPlainLines ns) cs → AllByRecursion IsWholeLine (all_lines ns k cs)
 all_whole ns k [] l h = tt
 all_whole ns k (c ∷ cs) l h = (
   rule_whole k (omega (arith, l)),

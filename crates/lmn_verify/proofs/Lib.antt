@@ -10,3 +10,4 @@ pub mod ReachingLemmas
 pub mod CodeLemmas
 pub mod Exclusion
 pub mod Common
+pub mod NameExamples

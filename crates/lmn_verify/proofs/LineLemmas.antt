@@ -1,5 +1,5 @@
 -- The operands of a line, and the line.
-use Rattle.std.proofs.Common.{◌≡◌, ◌+◌, ◌⊎◌, inl, inr, ℕ, Bool, true, false, List, [], ◌∷◌, ◌++◌, map, length, drop, take, refl, sym, ap, ◌∙◌, subst, arith}
+use Rattle.std.proofs.Common.{◌≡◌, ◌≢◌, ◌+◌, ◌⊎◌, inl, inr, ℕ, Bool, true, false, List, [], ◌∷◌, ◌++◌, map, length, drop, take, refl, sym, ap, ◌∙◌, subst, arith}
 use Rattle.std.specs.Prelude.{codes, slice_index_or, Option, Some, None, Result, Ok, Err, IfOk, IfSome, IfNone}
 use Rattle.std.specs.List.{AllByRecursion, flat_map}
 use Rattle.std.specs.Fmt.{decimal}
@@ -17,17 +17,17 @@ use Rattle.lmn_instr.specs.Words.{mnemonic}
 use Rattle.lmn_verify.specs.Operands.{operands}
 use Rattle.lmn_instr.specs.Listings.{line, HasInstr}
 use Rattle.lmn_verify.proofs.Listed.{same_line, has_instr, has_operands}
-use Rattle.lmn_verify.specs.Operands.{HasOperands, instr_text, operand_text, operands_text, HasOperand}
-use Rattle.lmn_functors.specs.Reading.{AddsNames, IsShortLabel}
-use Rattle.lmn_functors.proofs.NameLemmas.{adds_both}
+use Rattle.lmn_verify.specs.Operands.{HasOperands, instr_names, instr_text, operand_names, operand_text, operands_text, HasOperand}
+use Rattle.lmn_functors.specs.Reading.{AddsNames, IsShortLabel, NumbersNames}
+use Rattle.lmn_functors.proofs.NameLemmas.{adds_both, numbers_both}
 use Rattle.lmn_verify.specs.declared.opcode.Opcode.{Opcode}
 use Rattle.lmn_verify.specs.declared.opcode.Kind.{Kind}
 use Rattle.lmn_verify.specs.declared.opcode.Kind.TheVariants as kind
 use Rattle.lmn_verify.specs.declared.opcode.Form.{Form}
-use Rattle.lmn_verify.specs.Opcodes.{opcode_name, opcode_of, is_in_head, form_of, FitsForm, FitsSome, in_form, some_operand}
+use Rattle.lmn_verify.specs.Opcodes.{opcode_name, opcode_of, is_in_head, form_of, FitsForm, FitsKind, FitsSome, in_form, some_operand}
 use Rattle.lmn_verify.specs.Lines.{IsShortOperand, HasShortNames, FitsInstr, IsLine, IsPlaceOf, IsWholeLine}
 use Rattle.lmn_verify.specs.Listings.{HasPlainLine}
-use Rattle.lmn_verify.specs.Taking.{IsBehind, Follows, one_text, some_text, HasSome, ShortSome, parts_text, AllSmall}
+use Rattle.lmn_verify.specs.Taking.{IsBehind, Follows, FollowsKind, one_text, some_names, some_text, HasSome, ShortSome, parts_text, AllSmall}
 use Rattle.lmn_verify.proofs.Places.{has_no_by_test, cut_there}
 use Rattle.lmn_verify.proofs.OperandLemmas.{parts_behind}
 use Rattle.lmn_verify.proofs.OpcodeLemmas.{mnemonic_is, no_space, is_functor, EndsWithFunctor, functor_ends}
@@ -228,9 +228,64 @@ instr_read op f a b c x y z gs text r s t i e g h one two three last o are =
 pub three_more : (a b c d : List (List ℕ)) → AddsNames 1 a b → AddsNames 1 b c → AddsNames 1 c d → AddsNames 3 a d
 three_more a b c d g h k = adds_both 2 1 a c d (adds_both 1 1 a b c g h) k
 
+-- what holds of each operand that was taken
+pub each_taken : {T : Type 0} (r : Option T) (P Q : T → Type 0) → IfSome r P → ((t : T) → P t → Q t) → IfSome r Q
+each_taken None P Q h f = tt
+each_taken (Some t) P Q h f = f t h
+
+-- behind an operand of a kind without names nothing stands, or a space first
+pub plain_behind : (k : Kind) (rest : List ℕ) → k ≢ kind.Functor → FollowsKind k rest → IsBehind rest
+plain_behind kind.Functor rest n b = absurd (n refl)
+plain_behind _ rest n b = b
+
+-- ---- the names of what is read
+
+-- an operand of a kind without names has none
+pub nameless : (k : Kind) (o : Operand) → k ≢ kind.Functor → FitsKind k o → operand_names o ≡ []
+nameless kind.Atom (operand.Atom x) n h = refl
+nameless kind.Membrane (operand.Membrane x) n h = refl
+nameless kind.Part (operand.Part x) n h = refl
+nameless kind.Integer (operand.Integer x) n h = refl
+nameless kind.Copy (operand.Copy x) n h = refl
+nameless kind.Port (operand.Port x) n h = refl
+nameless kind.NewPort (operand.Port x) n h = refl
+nameless kind.NewPort (operand.Copy x) n h = refl
+nameless kind.Functor o n h = absurd (n refl)
+nameless kind.Index (operand.Number x) n h = refl
+nameless kind.Count (operand.Number x) n h = refl
+nameless kind.Rule (operand.Number x) n h = refl
+nameless kind.Constant (operand.Constant x) n h = refl
+nameless _ _ n h = absurd h
+
+names_of_some : (k : Option Kind) (o : Operand) → flat_map operand_names (some_operand k o) ≡ some_names k o
+names_of_some None o = refl
+names_of_some (Some k) o = append-nil (operand_names o)
+
+names_of_parts : (gs : List ℕ) → flat_map operand_names (map operand.Part gs) ≡ []
+names_of_parts [] = refl
+names_of_parts (g ∷ gs) = names_of_parts gs
+
+-- the names of the operands of a form
+pub names_of_form : (f : Form) (x y z : Operand) (gs : List ℕ) → flat_map operand_names (in_form f x y z gs) ≡ some_names f.first x ++ (some_names f.second y ++ some_names f.third z)
+names_of_form f x y z gs =
+    let a = some_operand f.first x in
+    let b = some_operand f.second y in
+    let c = some_operand f.third z in
+    let d = map operand.Part gs in
+    let last : flat_map operand_names (c ++ d) ≡ some_names f.third z = flat_map-append operand_names c d ∙ (λ k. names_of_some f.third z k ++ names_of_parts gs k) ∙ append-nil (some_names f.third z) in
+    flat_map-append operand_names a (b ++ (c ++ d)) ∙ (λ i. names_of_some f.first x i ++ (flat_map-append operand_names b (c ++ d) ∙ (λ j. names_of_some f.second y j ++ last j)) i)
+
+-- the names of an instruction that was read are put in their order
+pub instr_in_order : (op : Opcode) (f : Form) (a b c d : List (List ℕ)) (x y z : Operand) (gs : List ℕ) (i : Instr) → f ≡ form_of op → operands i ≡ in_form (form_of op) x y z gs
+    → NumbersNames a (some_names f.first x) b → NumbersNames b (some_names f.second y) c → NumbersNames c (some_names f.third z) d → NumbersNames a (instr_names i) d
+instr_in_order op f a b c d x y z gs i e are g h k =
+    let whole : operands i ≡ in_form f x y z gs = are ∙ ap (λ w. in_form w x y z gs) (sym e) in
+    subst (λ ns. NumbersNames a ns d) (sym (ap (flat_map operand_names) whole ∙ names_of_form f x y z gs)) (numbers_both g (numbers_both h k))
+
 -- ---- the line
 
-operands_behind : (ns : List (List ℕ)) (os : List Operand) → (operands_text ns os ≡ []) ⊎ ((more : List ℕ) × (operands_text ns os ≡ 32 ∷ more))
+-- the text of operands is empty, or begins with a space
+pub operands_behind : (ns : List (List ℕ)) (os : List Operand) → (operands_text ns os ≡ []) ⊎ ((more : List ℕ) × (operands_text ns os ≡ 32 ∷ more))
 operands_behind ns [] = inl refl
 operands_behind ns (o ∷ os) = inr (operand_text ns o ++ operands_text ns os, refl)
 

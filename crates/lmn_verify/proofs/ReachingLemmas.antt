@@ -13,13 +13,13 @@ use Rattle.lmn_instr.specs.declared.instr.Instr.TheVariants as instr
 use Rattle.lmn_instr.specs.Words.{mnemonic}
 use Rattle.lmn_verify.specs.Operands.{operands}
 use Rattle.lmn_instr.specs.Listings.{line, HasInstr}
-use Rattle.lmn_verify.specs.Operands.{operands_text}
-use Rattle.lmn_functors.specs.Reading.{AddsNames}
+use Rattle.lmn_verify.specs.Operands.{instr_names, operands_text}
+use Rattle.lmn_functors.specs.Reading.{AddsNames, NumbersNames}
 use Rattle.lmn_verify.specs.Opcodes.{opcode_of, is_in_head}
 use Rattle.lmn_verify.specs.declared.opcode.Opcode.TheVariants as opcode
 use Rattle.lmn_verify.specs.Lines.{Due, head, body, nothing, due_rule, due_behind, StandsAs, Stand, HasNo, IsPlaceOf, IsLine, HasShortNames, FitsInstr, IsWholeLine, joined_lines, first_line, IsWrongLine}
 use Rattle.lmn_verify.specs.Reaching.{Reached, IsLineEnd, IsReadAt, AreRead, IsBegun, IsEnded, IsRefusedLine, due_in, due_out, last_of}
-use Rattle.lmn_functors.proofs.NameLemmas.{adds_both, adds_none, adds_more as adds_fewer}
+use Rattle.lmn_functors.proofs.NameLemmas.{adds_both, adds_none, adds_more as adds_fewer, numbers_both, numbers_same}
 use Rattle.lmn_verify.proofs.Listed.{same_line}
 use Rattle.lmn_verify.proofs.LineLemmas.{more_instrs}
 
@@ -302,6 +302,7 @@ none_begun b listing names from first l = record {
     count = omega arith;
     few = omega arith;
     puts = adds_fewer 0 (3 * (from - from)) names names (omega arith) (adds_none 0 names);
+    order = numbers_same names names refl;
     text = refl;
     of = tt;
     named = tt;
@@ -311,9 +312,13 @@ none_begun b listing names from first l = record {
   reached = λ n j r. r;
 }
 
+-- the names of instructions and of one more
+pushed_names : (instrs : List Instr) (i : Instr) → flat_map instr_names (instrs ++ i ∷ []) ≡ flat_map instr_names instrs ++ instr_names i
+pushed_names instrs i = flat_map-append instr_names instrs (i ∷ []) ∙ ap (λ ns. flat_map instr_names instrs ++ ns) (append-nil (instr_names i))
+
 read_more : (b : Bool) (listing : List ℕ) (before names later : List (List ℕ)) (from first at ln end : ℕ) (instrs : List Instr) (i : Instr) → AreRead b listing before names from first at ln instrs
-    → AddsNames 3 names later → IsReadAt b later listing at i end → AreRead b listing before later from first end (ln + 1) (instrs ++ i ∷ [])
-read_more b listing before names later from first at ln end instrs i r g h =
+    → AddsNames 3 names later → NumbersNames names (instr_names i) later → IsReadAt b later listing at i end → AreRead b listing before later from first end (ln + 1) (instrs ++ i ∷ [])
+read_more b listing before names later from first at ln end instrs i r g w h =
     let size = length_push instrs i in
     let count = r.count in
     let few = r.few in
@@ -326,6 +331,7 @@ read_more b listing before names later from first at ln end instrs i r g h =
       count = omega arith;
       few = omega arith;
       puts = adds_fewer (3 * (at - from) + 3) (3 * (end - from)) before later three (adds_both (3 * (at - from)) 3 before names later r.puts g);
+      order = subst (λ ns. NumbersNames before ns later) (sym (pushed_names instrs i)) (numbers_both r.order w);
       text =
           let cut : drop at listing ≡ line later i ++ drop end listing =
           sym (take-append-drop (end - at) (drop at listing)) ∙ (λ j. sym h.text j ++ (drop-drop (end - at) at listing ∙ ap (λ m. drop m listing) both) j) in
@@ -344,18 +350,18 @@ one_more b listing names n j at ln end i h r =
 
 -- one instruction more, which doesn't end them
 pub begun_more : (b : Bool) (listing : List ℕ) (before names later : List (List ℕ)) (from first at ln end : ℕ) (instrs : List Instr) (i : Instr) → IsBegun b listing before names from first at ln instrs
-    → AddsNames 3 names later → IsReadAt b later listing at i end → (opcode_of i ≡ opcode_of (last_of b) → ⊥) → IsBegun b listing before later from first end (ln + 1) (instrs ++ i ∷ [])
-begun_more b listing before names later from first at ln end instrs i r g h o = record {
-  read = read_more b listing before names later from first at ln end instrs i r.read g h;
+    → AddsNames 3 names later → NumbersNames names (instr_names i) later → IsReadAt b later listing at i end → (opcode_of i ≡ opcode_of (last_of b) → ⊥) → IsBegun b listing before later from first end (ln + 1) (instrs ++ i ∷ [])
+begun_more b listing before names later from first at ln end instrs i r g w h o = record {
+  read = read_more b listing before names later from first at ln end instrs i r.read g w h;
   others = all_append _ instrs (i ∷ []) r.others (o, tt);
   reached = λ n j s. subst (Reached n listing end (ln + 1)) (stays b n j later i o) (one_more b listing later n j at ln end i h (r.reached n j s));
 }
 
 -- and one that does
 pub ended_more : (b : Bool) (listing : List ℕ) (before names later : List (List ℕ)) (from first at ln end : ℕ) (instrs : List Instr) (i : Instr) → IsBegun b listing before names from first at ln instrs
-    → AddsNames 3 names later → IsReadAt b later listing at i end → i ≡ last_of b → IsEnded b listing before later from first end (ln + 1) (instrs ++ i ∷ [])
-ended_more b listing before names later from first at ln end instrs i r g h o = record {
-  read = read_more b listing before names later from first at ln end instrs i r.read g h;
+    → AddsNames 3 names later → NumbersNames names (instr_names i) later → IsReadAt b later listing at i end → i ≡ last_of b → IsEnded b listing before later from first end (ln + 1) (instrs ++ i ∷ [])
+ended_more b listing before names later from first at ln end instrs i r g w h o = record {
+  read = read_more b listing before names later from first at ln end instrs i r.read g w h;
   block = record { front = instrs; are = ap (λ l. instrs ++ l ∷ []) o; of = r.read.of; others = r.others };
   reached = λ n j s. subst (Reached n listing end (ln + 1)) (ap (λ l. due_behind n (due_in b j) (line later l)) o ∙ goes_out b n j later) (one_more b listing later n j at ln end i h (r.reached n j s));
 }

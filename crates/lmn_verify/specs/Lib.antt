@@ -8,3 +8,4 @@ pub mod Passing
 pub mod Listings
 pub mod Reaching
 pub mod ListingLaws
+pub mod NameExamples

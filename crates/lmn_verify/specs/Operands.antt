@@ -2,6 +2,8 @@
 use Rattle.std.specs.Prelude.{ℕ, List, [], ◌∷◌, ◌++◌, map, codes, option_to_list}
 use Rattle.std.specs.Fmt.{decimal, signed_decimal}
 use Rattle.std.specs.List.{flat_map, AllByRecursion}
+use Rattle.lmn_base.specs.Names.{label_names}
+use Rattle.lmn_instr.specs.declared.instr.Code.{Code}
 use Rattle.lmn_instr.specs.declared.instr.Instr.{Instr}
 use Rattle.lmn_instr.specs.declared.instr.Instr.TheVariants.{FindAtom, Deref, Func, InMem, NeqAtom, Joined, NotIn, AnyMem, NeqMem, IsInt, IsUnary, IsGround, NAtoms, NMems, NoRules, IsClosed, EqGround, NeqGround, GetInt, Const, Add, Sub, Mul, Div, Mod, Lt, Le, Gt, Ge, Eq, Ne, Commit, RemoveAtom, RemovePart, RemoveMem, NewAtom, NewInt, NewMem, CopyGround, MoveCells, CopyCells, LoadRule, CopyRules, DropCells, NewLink, Relink, Unify, Proceed}
 use Rattle.lmn_instr.specs.declared.instr.NewPort.{NewPort}
@@ -100,3 +102,14 @@ HasOperand names _ = Unit {0}
 
 abbrev pub HasOperands : List (List ℕ) → Instr → Type 0
 HasOperands names i = AllByRecursion (HasOperand names) (operands i)
+
+-- the numbers of the names of an operand, of an instruction and of code, in the order in which they stand in its listing
+abbrev pub operand_names : Operand → List ℕ
+operand_names (Of f) = label_names f.label
+operand_names _ = []
+
+abbrev pub instr_names : Instr → List ℕ
+instr_names i = flat_map operand_names (operands i)
+
+abbrev pub code_names : Code → List ℕ
+code_names code = flat_map instr_names code.head ++ flat_map instr_names code.body

@@ -6,7 +6,8 @@ use Rattle.lmn_instr.specs.declared.instr.Code.{Code}
 use Rattle.lmn_instr.specs.declared.instr.Instr.{Instr}
 use Rattle.lmn_instr.specs.declared.instr.Instr.TheVariants.{Commit, Proceed}
 use Rattle.lmn_instr.specs.Listings.{line, code_listing, HasInstr, HasCode}
-use Rattle.lmn_functors.specs.Reading.{AddsNames}
+use Rattle.lmn_functors.specs.Reading.{AddsNames, NumbersNames}
+use Rattle.lmn_verify.specs.Operands.{instr_names, code_names}
 use Rattle.lmn_verify.specs.Opcodes.{opcode_of, is_in_head}
 use Rattle.lmn_verify.specs.Lines.{Due, rule, head, body, due_rule, Stand, HasNo, IsWholeLine, IsWrongLine, HasShortNames, FitsInstr, joined_lines, first_line}
 use Rattle.lmn_verify.specs.Listings.{IsBlock, IsWholeCode, HasPlainLine, HasPlainLines, lines_of, lines_of_all, listings_from}
@@ -61,6 +62,7 @@ pub record AreRead (in_head : Bool) (listing : List ℕ) (before names : List (L
   pub count : line_number ≡ first + length instrs
   pub few : from + length instrs ≤ at
   pub puts : AddsNames (3 * (at - from)) before names
+  pub order : NumbersNames before (flat_map instr_names instrs) names
   pub text : drop from listing ≡ flat_map (line names) instrs ++ drop at listing
   pub of : AllByRecursion (λ i. (is_in_head (opcode_of i) ≡ in_head) × FitsInstr i) instrs
   pub named : AllByRecursion (HasInstr names) instrs
@@ -84,6 +86,7 @@ pub record IsReadCode (listing : List ℕ) (before names : List (List ℕ)) (j f
   pub count : line_number ≡ first + lines_of code
   pub few : from + lines_of code ≤ at
   pub puts : AddsNames (3 * (at - from)) before names
+  pub order : NumbersNames before (code_names code) names
   pub text : drop from listing ≡ code_listing names code j ++ drop at listing
   pub whole : IsWholeCode code
   pub named : HasCode names code
@@ -103,6 +106,7 @@ pub record AreReadCodes (n : ℕ) (listing : List ℕ) (before names : List (Lis
   pub count : line_number ≡ 1 + lines_of_all codes
   pub few : lines_of_all codes ≤ at
   pub puts : AddsNames (3 * at) before names
+  pub order : NumbersNames before (flat_map code_names codes) names
   pub text : listings_from names 0 codes ++ drop at listing ≡ listing
   pub whole : AllByRecursion IsWholeCode codes
   pub named : AllByRecursion (HasCode names) codes

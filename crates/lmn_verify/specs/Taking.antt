@@ -3,7 +3,7 @@ use Rattle.std.specs.Prelude.{ℕ, ◌≡◌, ◌<◌, ◌^◌, ◌⊎◌, List,
 use Rattle.std.specs.List.{AllByRecursion}
 use Rattle.lmn_verify.specs.declared.words.Operand.{Operand}
 use Rattle.lmn_verify.specs.declared.words.Operand.TheVariants as operand
-use Rattle.lmn_verify.specs.Operands.{operand_text, operands_text, HasOperand}
+use Rattle.lmn_verify.specs.Operands.{operand_names, operand_text, operands_text, HasOperand}
 use Rattle.lmn_verify.specs.Lines.{IsShortOperand}
 use Rattle.lmn_verify.specs.declared.opcode.Kind.{Kind}
 use Rattle.lmn_verify.specs.declared.opcode.Kind.TheVariants as kind
@@ -29,6 +29,10 @@ one_text ns o = codes " " ++ operand_text ns o
 abbrev pub some_text : List (List ℕ) → Option Kind → Operand → List ℕ
 some_text ns None o = []
 some_text ns (Some k) o = one_text ns o
+
+abbrev pub some_names : Option Kind → Operand → List ℕ
+some_names None o = []
+some_names (Some k) o = operand_names o
 
 abbrev pub HasSome : List (List ℕ) → Option Kind → Operand → Type 0
 HasSome ns None o = Unit {0}

@@ -1,6 +1,7 @@
 //! The laws of verified code.
 
 ghost use Rattle.lmn_verify.specs.ListingLaws.{ListedLinesStand, WrongLineIsOne};
+ghost use Rattle.lmn_verify.specs.NameExamples.{CodeNamesExamples};
 ghost use Rattle.lmn_verify.specs.VerifiedExamples.{VerifiedExamples};
 
 /// Some codes are verified, and some that break one clause each aren't.
@@ -17,4 +18,9 @@ pub fn listed_lines_stand()
 /// A text has at most one line that is the first that doesn't stand in its place.
 pub fn wrong_line_is_one()
     ensures { WrongLineIsOne }
+{}
+
+/// The names of some code, in the order of its listing.
+pub fn code_names_examples()
+    ensures { CodeNamesExamples }
 {}

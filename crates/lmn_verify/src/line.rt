@@ -1,16 +1,16 @@
 //! Reads the line of an instruction.
 ghost use Rattle.std.specs.Prelude.{ℕ, List, ◌≡◌, ◌≢◌, ◌<◌, ◌+◌, ◌^◌, ◌++◌, [], IfSome, IfNone, IfOk, OnErr, IsSomeAnd, codes, length, true, false, Bool};
-ghost use Rattle.lmn_functors.specs.Reading.{AddsNames};
+ghost use Rattle.lmn_functors.specs.Reading.{AddsNames, NumbersNames};
 ghost use Rattle.lmn_instr.specs.Listings.{HasInstr, line as line_of};
 ghost use Rattle.lmn_verify.specs.Operands.{instr_text, HasOperands, operand_text, operands_text, HasOperand};
-ghost use Rattle.lmn_verify.specs.Operands.{operands};
+ghost use Rattle.lmn_verify.specs.Operands.{operands, operand_names, instr_names};
 ghost use Rattle.lmn_instr.specs.declared.instr.Instr.{Instr as TheInstr};
 ghost use Rattle.lmn_verify.specs.declared.words.Operand.{Operand as TheOperand};
 ghost use Rattle.lmn_verify.specs.declared.words.Operand.TheVariants as ops;
 ghost use Rattle.lmn_verify.specs.declared.opcode.Kind.TheVariants as kinds;
 ghost use Rattle.lmn_verify.specs.Opcodes.{FitsKind, FitsSome, FitsForm, form_of, opcode_of, is_in_head};
 ghost use Rattle.lmn_verify.specs.Lines.{IsShortOperand, HasShortNames, FitsInstr, IsLine};
-ghost use Rattle.lmn_verify.specs.Taking.{IsBehind, FollowsKind, Follows, one_text, some_text, HasSome, ShortSome, parts_text, AllSmall};
+ghost use Rattle.lmn_verify.specs.Taking.{IsBehind, FollowsKind, Follows, one_text, some_names, some_text, HasSome, ShortSome, parts_text, AllSmall};
 
 use crate::building::build;
 use crate::opcode::{Kind, Opcode};
@@ -33,6 +33,7 @@ fn take_plain(kind: Kind, text: &[u8]) -> Option<Taken>
     requires { kind ≢ kinds.Functor }
     ensures some { IfSome result (λ t. FitsKind kind t.operand × ((ns : List (List ℕ)) → HasOperand ns t.operand × IsShortOperand ns t.operand × (one_text ns t.operand ++ t.rest.now ≡ text.now))) }
     ensures only { (o : TheOperand) (ns : List (List ℕ)) (rest : List ℕ) → FitsKind kind o → IsBehind rest → one_text ns o ++ rest ≡ text.now → IsSomeAnd result (λ t. t.rest.now ≡ rest) }
+    ensures nameless { IfSome result (λ t. operand_names t.operand ≡ []) }
 {
     match text.strip_prefix(b" ".as_slice()) {
         Some(behind) => {
@@ -54,6 +55,7 @@ fn take_functor<'t>(text: &'t [u8], names: &mut Names) -> Result<Option<Taken<'t
     requires { length names.old < 2 ^ 32 }
     ensures some { IfOk result (λ found. IfSome found (λ t. FitsKind kinds.Functor t.operand × HasOperand names.new t.operand × IsShortOperand names.new t.operand × (one_text names.new t.operand ++ t.rest.now ≡ text.now))) }
     ensures only { IfOk result (λ found. (o : TheOperand) (ns : List (List ℕ)) → FitsKind kinds.Functor o → IsShortOperand ns o → one_text ns o ≡ text.now → IsSomeAnd found (λ t. t.rest.now ≡ [])) }
+    ensures order { IfOk result (λ found. IfSome found (λ t. NumbersNames names.old (operand_names t.operand) names.new)) }
     ensures names { AddsNames 1 names.old names.new }
 {
     match text.strip_prefix(b" ".as_slice()) {
@@ -77,6 +79,7 @@ fn take_kind<'t>(
     requires { length names.old < 2 ^ 32 }
     ensures some { IfOk result (λ found. IfSome found (λ t. FitsKind kind t.operand × HasOperand names.new t.operand × IsShortOperand names.new t.operand × (one_text names.new t.operand ++ t.rest.now ≡ text.now))) }
     ensures only { IfOk result (λ found. (o : TheOperand) (ns : List (List ℕ)) (rest : List ℕ) → FitsKind kind o → IsShortOperand ns o → FollowsKind kind rest → one_text ns o ++ rest ≡ text.now → IsSomeAnd found (λ t. t.rest.now ≡ rest)) }
+    ensures order { IfOk result (λ found. IfSome found (λ t. NumbersNames names.old (operand_names t.operand) names.new)) }
     ensures names { AddsNames 1 names.old names.new }
 {
     match kind {
@@ -94,6 +97,7 @@ fn take_operand<'t>(
     requires { length names.old < 2 ^ 32 }
     ensures some { IfOk result (λ found. IfSome found (λ t. FitsSome kind t.operand × HasSome names.new kind t.operand × ShortSome names.new kind t.operand × (some_text names.new kind t.operand ++ t.rest.now ≡ text.now))) }
     ensures only { IfOk result (λ found. (o : TheOperand) (ns : List (List ℕ)) (rest : List ℕ) → FitsSome kind o → ShortSome ns kind o → Follows kind rest → some_text ns kind o ++ rest ≡ text.now → IsSomeAnd found (λ t. t.rest.now ≡ rest)) }
+    ensures order { IfOk result (λ found. IfSome found (λ t. NumbersNames names.old (some_names kind t.operand) names.new)) }
     ensures names { AddsNames 1 names.old names.new }
 {
     match kind {
@@ -160,6 +164,7 @@ fn read_operands(
     requires { length names.old + 3 < 2 ^ 32 }
     ensures some { IfOk result (λ found. IfSome found (λ i. (opcode_of i ≡ opcode) × FitsInstr i × HasOperands names.new i × HasShortNames names.new i × (operands_text names.new (operands i) ≡ text.now))) }
     ensures none { IfOk result (λ found. IfNone found ((i : TheInstr) (ns : List (List ℕ)) → opcode_of i ≡ opcode → FitsInstr i → HasShortNames ns i → operands_text ns (operands i) ≡ text.now → ⊥)) }
+    ensures order { IfOk result (λ found. IfSome found (λ i. NumbersNames names.old (instr_names i) names.new)) }
     ensures names { AddsNames 3 names.old names.new }
 {
     let form = opcode.form();
@@ -181,7 +186,8 @@ fn read_operands(
     }
 }
 
-/// The instruction of a head, or of a body, of which this is the line. At most three new names are put.
+/// The instruction of a head, or of a body, of which this is the line. At most three new names are put, and where the line is one
+/// they have the next numbers in the order in which they stand in it.
 ///
 /// # Errors
 ///
@@ -195,6 +201,7 @@ pub fn read_line(
     requires { length names.old + 3 < 2 ^ 32 }
     ensures some { IfOk result (λ found. IfSome found (λ i. (is_in_head (opcode_of i) ≡ in_head) × FitsInstr i × HasInstr names.new i × HasShortNames names.new i × (line_of names.new i ≡ line.now))) }
     ensures none { IfOk result (λ found. IfNone found (IsLine in_head line.now → ⊥)) }
+    ensures order { IfOk result (λ found. IfSome found (λ i. NumbersNames names.old (instr_names i) names.new)) }
     ensures names { AddsNames 3 names.old names.new }
 {
     read_instr(alloc, in_head, line, names)
@@ -210,6 +217,7 @@ fn read_instr(
     requires { length names.old + 3 < 2 ^ 32 }
     ensures some { IfOk result (λ found. IfSome found (λ i. (is_in_head (opcode_of i) ≡ in_head) × FitsInstr i × HasOperands names.new i × HasShortNames names.new i × (instr_text names.new i ≡ line.now))) }
     ensures none { IfOk result (λ found. IfNone found (IsLine in_head line.now → ⊥)) }
+    ensures order { IfOk result (λ found. IfSome found (λ i. NumbersNames names.old (instr_names i) names.new)) }
     ensures names { AddsNames 3 names.old names.new }
 {
     let text = match inside_line(line) {

@@ -1,11 +1,12 @@
 //! Reads the listings of the codes of rules.
 ghost use Rattle.std.specs.Prelude.{ℕ, List, ◌≡◌, ◌<◌, ◌≤◌, ◌+◌, ◌-◌, ◌*◌, ◌^◌, ◌++◌, true, false, length, drop, take, codes, IfOk, IfErr, IfSome, IfNone};
-ghost use Rattle.std.specs.List.{AllByRecursion};
+ghost use Rattle.std.specs.List.{AllByRecursion, flat_map};
 ghost use Rattle.std.specs.Fmt.{decimal};
 ghost use Rattle.lmn_base.specs.Refusals.{IfRefused};
 ghost use Rattle.lmn_base.specs.declared.refusal.TextFault.TheVariants as fault;
 ghost use Rattle.lmn_verify.specs.Opcodes.{opcode_of};
-ghost use Rattle.lmn_functors.specs.Reading.{AddsNames};
+ghost use Rattle.lmn_functors.specs.Reading.{AddsNames, NumbersNames};
+ghost use Rattle.lmn_verify.specs.Operands.{instr_names, code_names};
 ghost use Rattle.lmn_verify.specs.Lines.{IsLine, rule, first_line};
 ghost use Rattle.lmn_verify.specs.Listings.{AreListed, IsFirstUnverified, IsRefusedListing, lines_of, lines_of_all};
 ghost use Rattle.lmn_verify.specs.Reaching.{IsLineEnd, IsReadAt, IsEnded, IsReadCode, Reached, IsRefusedLine, last_of, due_in};
@@ -127,6 +128,7 @@ fn read_at(
     requires room { length names.old + 3 < 2 ^ 32 }
     ensures some { IfOk result (λ found. IfSome found (λ l. IsReadAt in_head names.new listing.now at l.instr l.end)) }
     ensures none { IfOk result (λ found. IfNone found (IsLine in_head (first_line (drop at listing.now)) → ⊥)) }
+    ensures order { IfOk result (λ found. IfSome found (λ l. NumbersNames names.old (instr_names l.instr) names.new)) }
     ensures names { AddsNames 3 names.old names.new }
 {
     let end = line_end(listing, at);
@@ -217,6 +219,7 @@ fn read_codes(
     requires room { length names.old + 3 * length listing.now < 2 ^ 32 }
     ensures listed { IfOk result (λ codes. AreListed rules names.new codes listing.now) }
     ensures few { IfOk result (λ codes. lines_of_all codes ≤ length listing.now) }
+    ensures order { IfOk result (λ codes. NumbersNames names.old (flat_map code_names codes) names.new) }
     ensures names { AddsNames (3 * length listing.now) names.old names.new }
     ensures refused { IfErr result (λ e. IfRefused e (IsRefusedLine rules listing.now)) }
 {
@@ -260,7 +263,7 @@ fn first_unverified(alloc: Global, codes: &[Code], rules: u32) -> Result<Option<
 }
 
 /// Reads the listings of the codes of so many rules, numbered from 0 on and one behind the other. Each code is verified.
-/// New names are put.
+/// New names are put; where codes are read, in the order in which they stand in the listing.
 ///
 /// # Errors
 ///
@@ -276,6 +279,7 @@ pub fn read(
     requires room { length names.old ≤ 2 ^ 31 }
     ensures listed { IfOk result (λ codes. AreListed rules names.new codes listing.now) }
     ensures verified { IfOk result (λ codes. AllByRecursion (λ c. IsVerified c rules) codes) }
+    ensures order { IfOk result (λ codes. NumbersNames names.old (flat_map code_names codes) names.new) }
     ensures names { AddsNames (3 * length listing.now) names.old names.new }
     ensures refused { IfErr result (λ e. IfRefused e (λ r. IsRefusedListing rules names.new listing.now r.code r.pos.line × (r.pos.column ≡ 1))) }
 {

@@ -1,5 +1,5 @@
 use Rattle.std.proofs.Common.{sym}
-use Rattle.lmn_verify.proofs.LineLemmas.{formed, first_follows, second_follows, third_follows, behind_first, behind_second, instr_read, three_more}
+use Rattle.lmn_verify.proofs.LineLemmas.{formed, first_follows, second_follows, third_follows, behind_first, behind_second, instr_in_order, instr_read, three_more}
 use Rattle.lmn_verify.proofs.line.read_operands.Goals as goal
 
 pub returns-in-None-clause-none : goal.returns-in-None-clause-none
@@ -61,3 +61,10 @@ returns-in-None-4-clause-none c = λ i ns o h short e.
 
 pub returns-in-None-4-clause-names : goal.returns-in-None-4-clause-names
 returns-in-None-4-clause-names c = three_more _ _ _ _ c.in_ok-taken.ensures.names c.in_ok-taken-2.ensures.names c.in_ok-taken-3.ensures.names
+
+pub returns-in-Some-4-clause-order : goal.returns-in-Some-4-clause-order
+returns-in-Some-4-clause-order c =
+    let one = rw c.in-Some.is at c.in_ok-taken.ensures.order in
+    let two = rw c.in-Some-2.is at c.in_ok-taken-2.ensures.order in
+    let three = rw c.in-Some-3.is at c.in_ok-taken-3.ensures.order in
+    instr_in_order c.args.opcode c.form-form.result _ _ _ _ _ _ _ _ c.build.result c.form-form.ensures c.build.ensures.operands one two three

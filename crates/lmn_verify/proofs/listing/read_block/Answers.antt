@@ -3,22 +3,27 @@ use Rattle.lmn_base.specs.declared.refusal.TextFault.{TextFault}
 use Rattle.lmn_base.specs.Refusals.{IfRefused}
 use Rattle.lmn_instr.specs.declared.instr.Instr.{Instr}
 use Rattle.lmn_verify.specs.Reaching.{IsBegun, IsEnded, IsRefusedLine, Reached, due_in}
-use Rattle.lmn_verify.proofs.ReachingLemmas.{begun_more, ended_more, begun_wrong, nothing_stands}
+use Rattle.lmn_verify.proofs.ReachingLemmas.{begun_more, ended_more, begun_wrong, none_begun, nothing_stands}
 use Rattle.lmn_verify.proofs.listing.read_block.Goals as goal
+
+pub loop-at-init : goal.loop-at-init
+loop-at-init c =
+    subst (λ (xs : List Instr). IsBegun c.args.in_head c.args.listing.now c.args.names.now c.args.names.now c.args.from c.args.first c.args.from c.args.first xs) (sym c.new-instrs.ensures)
+    (none_begun c.args.in_head c.args.listing.now c.args.names.now c.args.from c.args.first c.requires.within)
 
 pub returns-then-last-clause-block : goal.returns-then-last-clause-block
 returns-then-last-clause-block c =
     let some = rw c.in-Some.is at c.in_ok-next.ensures.some in
     subst (λ (xs : List Instr). IsEnded c.args.in_head c.args.listing.now c.args.names.now c.read_at.new.names c.args.from c.args.first c.in-Some.next.end (c.loop-at.line + 1) xs) (sym c.in_ok-push-in-Some.ensures.ok)
     (ended_more c.args.in_head c.args.listing.now c.args.names.now c.loop-at.names c.read_at.new.names c.args.from c.args.first c.loop-at.at c.loop-at.line c.in-Some.next.end c.loop-at.instrs c.in-Some.next.instr
-    c.loop-at.invariant c.in_ok-next.ensures.names some (c.ends-last.ensures.yes c.if-last.true))
+    c.loop-at.invariant c.in_ok-next.ensures.names (rw c.in-Some.is at c.in_ok-next.ensures.order) some (c.ends-last.ensures.yes c.if-last.true))
 
 pub loop-at-preserved : goal.loop-at-preserved
 loop-at-preserved c =
     let some = rw c.in-Some.is at c.in_ok-next.ensures.some in
     subst (λ (xs : List Instr). IsBegun c.args.in_head c.args.listing.now c.args.names.now c.read_at.new.names c.args.from c.args.first c.in-Some.next.end (c.loop-at.line + 1) xs) (sym c.in_ok-push-in-Some.ensures.ok)
     (begun_more c.args.in_head c.args.listing.now c.args.names.now c.loop-at.names c.read_at.new.names c.args.from c.args.first c.loop-at.at c.loop-at.line c.in-Some.next.end c.loop-at.instrs c.in-Some.next.instr
-    c.loop-at.invariant c.in_ok-next.ensures.names some (c.ends-last.ensures.no c.if-last.false))
+    c.loop-at.invariant c.in_ok-next.ensures.names (rw c.in-Some.is at c.in_ok-next.ensures.order) some (c.ends-last.ensures.no c.if-last.false))
 
 pub returns-in-None-clause-refused : goal.returns-in-None-clause-refused
 returns-in-None-clause-refused c =

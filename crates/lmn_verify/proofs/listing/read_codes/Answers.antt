@@ -1,8 +1,11 @@
 use Rattle.std.proofs.Common.{◌+◌, List, sym, subst}
 use Rattle.lmn_instr.specs.declared.instr.Code.{Code}
 use Rattle.lmn_verify.specs.Reaching.{AreReadCodes}
-use Rattle.lmn_verify.proofs.CodeLemmas.{codes_more}
+use Rattle.lmn_verify.proofs.CodeLemmas.{codes_more, none_read}
 use Rattle.lmn_verify.proofs.listing.read_codes.Goals as goal
+
+pub loop-number-init : goal.loop-number-init
+loop-number-init c = subst (λ (xs : List Code). AreReadCodes c.args.rules c.args.listing.now c.args.names.now c.args.names.now 0 0 1 xs) (sym c.new-codes.ensures) (none_read c.args.rules c.args.listing.now c.args.names.now)
 
 pub loop-number-preserved : goal.loop-number-preserved
 loop-number-preserved c =
