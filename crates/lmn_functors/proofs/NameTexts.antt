@@ -71,7 +71,7 @@ integer_begins (pos n) h = digits (decimal n) (decimal_nonempty n (omega (arith,
 integer_begins (negsuc n) h = (45, _, refl, inl refl)
 
 -- so no name has the text of an integer
-name_no_integer : (name : List ℕ) (z : ℤ) → IsIn64Bits z → name_text name ≡ signed_decimal z → ⊥
+pub name_no_integer : (name : List ℕ) (z : ℤ) → IsIn64Bits z → name_text name ≡ signed_decimal z → ⊥
 name_no_integer name z h e =
     let a = name_begins name in
     let b = integer_begins z h in
