@@ -1,8 +1,6 @@
 -- The plans of rules that were accepted.
-use Rattle.std.proofs.Common.{ℕ, zero, suc, ◌≡◌, ◌<◌, List, [], ◌∷◌, ◌++◌, Some, length, take, refl, sym, ap, subst, ◌+◌, ◌∙◌, arith}
-use Rattle.std.specs.Prelude.{slice_get}
+use Rattle.std.proofs.Common.{ℕ, ◌≡◌, ◌<◌, List, [], ◌∷◌, ◌++◌, length, take, sym, ap, subst, ◌+◌, ◌∙◌, arith}
 use Rattle.std.proofs.lemmas.List.{take_more}
-use Rattle.std.proofs.lemmas.Option.{same_Some}
 use Rattle.std.proofs.Math.ListN.{get_or}
 use Rattle.lmn_base.proofs.Lists.{get_below, get_there as get_some}
 use Rattle.lmn_base.specs.declared.rule.Plain.{Plain}
@@ -13,20 +11,8 @@ use Rattle.lmn_congruence.specs.Rules.{Name}
 use Rattle.lmn_plain.specs.Plains.{EachPair}
 use Rattle.lmn_compile_body.specs.Accepted.{IsCompilable}
 use Rattle.lmn_next.specs.Searching.{CanSearch}
-
-as_many : (rs : List RuleTree) (plans : List GuardPlan) → EachPair IsPlan rs plans → length plans ≡ length rs
-as_many [] [] h = refl
-as_many [] (q ∷ qs) h = absurd h
-as_many (r ∷ rs) [] h = absurd h
-as_many (r ∷ rs) (q ∷ qs) h = omega (arith, as_many rs qs h.1)
-
-plan_at : (rs : List RuleTree) (plans : List GuardPlan) (k : ℕ) (r : RuleTree) (plan : GuardPlan) → EachPair IsPlan rs plans → slice_get rs k ≡ Some r → slice_get plans k ≡ Some plan → IsPlan r plan
-plan_at [] [] zero r plan h e f = absurd (cc)
-plan_at [] [] (suc k) r plan h e f = absurd (cc)
-plan_at [] (q ∷ qs) k r plan h e f = absurd h
-plan_at (s ∷ rs) [] k r plan h e f = absurd h
-plan_at (s ∷ rs) (q ∷ qs) zero r plan h e f = subst (λ z. IsPlan z plan) (same_Some s r e) (subst (IsPlan s) (same_Some q plan f) h.0)
-plan_at (s ∷ rs) (q ∷ qs) (suc k) r plan h e f = plan_at rs qs k r plan h.1 e f
+use Rattle.lmn_accepted.proofs.Loadable.{as_many}
+use Rattle.lmn_accepted.proofs.AcceptedTexts.{each_at}
 
 -- one rule with its plan more
 planned_more : (rs : List RuleTree) (plans : List GuardPlan) (r : RuleTree) (plan : GuardPlan) → EachPair IsPlan rs plans → IsPlan r plan → EachPair IsPlan (rs ++ r ∷ []) (plans ++ plan ∷ [])
@@ -47,7 +33,7 @@ by_made_plans names plain plans made can are = record {
         let old = get_some plans k (omega (arith, l, many)) in
         let is : IsCompilable plain.rules r old.0 = can.whole.whole k r old.0 e old.1 in
         record {
-          ready = record { accepted = is.ready.accepted; made = is.ready.made; few_links = is.ready.few_links; planned = plan_at plain.rules made k r q are e f };
+          ready = record { accepted = is.ready.accepted; made = is.ready.made; few_links = is.ready.few_links; planned = each_at plain.rules made k r q are e f };
           few_links = is.few_links;
         };
   };
