@@ -38,7 +38,7 @@ use Rattle.lmn_accepted.proofs.Expressions.{in_either, there_used, use_known, us
 use Rattle.lmn_accepted.proofs.InTurns.{rows_apart}
 use Rattle.lmn_accepted.proofs.Items.{typed_name, untyped_name}
 use Rattle.lmn_accepted.proofs.Listed.{N, alone, among_name, how_often_here, how_often_later, number_among}
-use Rattle.lmn_accepted.proofs.PlanKinds.{leaf_name}
+use Rattle.lmn_accepted.proofs.PlanKinds.{leaf_name, names_in}
 use Rattle.lmn_accepted.proofs.Types.{AllTyped, condition_typed, typed_use_there}
 use Rattle.lmn_weight.specs.Lowered.{MakesInt, has_type, in_value, is_bound as bound_here, on_left, on_right}
 
@@ -68,16 +68,12 @@ all_among f [] k e = elim k [ ]
 
 -- ---- the uses of a plan
 
--- the names of typed contexts, membrane by membrane
-abbrev pub names_by : List (List Leaf) → List ℕ
-names_by lss = flat_map (λ ls. flat_map leaf_name ls) lss
-
 module _ (top : Level) (guard : List Cond) where
   abbrev uses : ℕ → List (List Leaf) → List TypedUse
   uses number lss = numbered_uses (typed_use top guard) number lss
 
   -- a use has the type of its name, which stands among those of the leaves
-  pub right_use : (u : TypedUse) (number : ℕ) (lss : List (List Leaf)) → Among u (uses number lss) → (type_of top guard u.name ≡ Some u.kind) × (1 ≤ how_often u.name (names_by lss))
+  pub right_use : (u : TypedUse) (number : ℕ) (lss : List (List Leaf)) → Among u (uses number lss) → (type_of top guard u.name ≡ Some u.kind) × (1 ≤ how_often u.name (names_in lss))
   right_use u number [] k = elim k [ ]
   right_use u number (ls ∷ lss) k = go (among_apart (flat_map (typed_use top guard number) ls) (uses (number + 1) lss) k) (right_use u (number + 1) lss)
     where
@@ -99,16 +95,16 @@ module _ (top : Level) (guard : List Cond) where
           either (inr h) rest = let r = rest h in let l = how_often_later u.name n (flat_map leaf_name ls) in let m = r.1 in (r.0, omega (arith, m, l))
 
       go : Among u (flat_map (typed_use top guard number) ls) ⊎ Among u (uses (number + 1) lss)
-          → (Among u (uses (number + 1) lss) → (type_of top guard u.name ≡ Some u.kind) × (1 ≤ how_often u.name (names_by lss))) → (type_of top guard u.name ≡ Some u.kind) × (1 ≤ how_often u.name (flat_map leaf_name ls ++ names_by lss))
-      go (inl h) rest = let r = leaves ls h in let b = how_often_both u.name (flat_map leaf_name ls) (names_by lss) in let m = r.1 in (r.0, omega (arith, m, b))
-      go (inr h) rest = let r = rest h in let b = how_often_both u.name (flat_map leaf_name ls) (names_by lss) in let m = r.1 in (r.0, omega (arith, m, b))
+          → (Among u (uses (number + 1) lss) → (type_of top guard u.name ≡ Some u.kind) × (1 ≤ how_often u.name (names_in lss))) → (type_of top guard u.name ≡ Some u.kind) × (1 ≤ how_often u.name (flat_map leaf_name ls ++ names_in lss))
+      go (inl h) rest = let r = leaves ls h in let b = how_often_both u.name (flat_map leaf_name ls) (names_in lss) in let m = r.1 in (r.0, omega (arith, m, b))
+      go (inr h) rest = let r = rest h in let b = how_often_both u.name (flat_map leaf_name ls) (names_in lss) in let m = r.1 in (r.0, omega (arith, m, b))
 
   -- a name that stands in some uses with a type
   abbrev pub UsedAs : ℕ → TypeKind → List TypedUse → Type 0
   UsedAs n t us = (u : TypedUse) × Among u us × (u.name ≡ n) × (u.kind ≡ t)
 
   -- a typed context of the head whose name has a type is used with it
-  pub used_as : (n : ℕ) (t : TypeKind) → type_of top guard n ≡ Some t → (number : ℕ) (lss : List (List Leaf)) → 1 ≤ how_often n (names_by lss) → UsedAs n t (uses number lss)
+  pub used_as : (n : ℕ) (t : TypeKind) → type_of top guard n ≡ Some t → (number : ℕ) (lss : List (List Leaf)) → 1 ≤ how_often n (names_in lss) → UsedAs n t (uses number lss)
   used_as n t is number [] h = absurd (omega (arith, h))
   used_as n t is number (ls ∷ lss) h = go (how_often n (flat_map leaf_name ls)) refl (used_as n t is (number + 1) lss)
     where
@@ -125,10 +121,10 @@ module _ (top : Level) (guard : List Cond) where
               subst (λ (o : Option TypeKind). UsedAs n t (with_type m number o ++ flat_map (typed_use top guard number) ls)) (sym told) (record { name = m; kind = t; depth = number }, at_head, same, refl)
           by false e h rest = let r = rest h in (r.0, among_right (with_type m number (type_of top guard m)) r.1, r.2, r.3)
 
-      go : (k : ℕ) → how_often n (flat_map leaf_name ls) ≡ k → (1 ≤ how_often n (names_by lss) → UsedAs n t (uses (number + 1) lss)) → UsedAs n t (flat_map (typed_use top guard number) ls ++ uses (number + 1) lss)
+      go : (k : ℕ) → how_often n (flat_map leaf_name ls) ≡ k → (1 ≤ how_often n (names_in lss) → UsedAs n t (uses (number + 1) lss)) → UsedAs n t (flat_map (typed_use top guard number) ls ++ uses (number + 1) lss)
       go (suc k) e rest = let r = leaves ls (omega (arith, e)) in (r.0, among_left (uses (number + 1) lss) r.1, r.2, r.3)
       go zero e rest =
-          let both = how_often_both n (flat_map leaf_name ls) (names_by lss) in
+          let both = how_often_both n (flat_map leaf_name ls) (names_in lss) in
           let r = rest (omega (arith, h, both, e)) in
           (r.0, among_right (flat_map (typed_use top guard number) ls) r.1, r.2, r.3)
 

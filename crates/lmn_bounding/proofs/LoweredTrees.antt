@@ -41,13 +41,13 @@ use Rattle.lmn_solid.proofs.HeadTrees.{Head, Heads, head, head_and, head_at, hea
 use Rattle.lmn_accepted.proofs.Counts.{closed_known, guard_typed, typed_in_head, typed_known}
 use Rattle.lmn_accepted.proofs.Items.{closed_name, closed_own, closed_use, typed_are, typed_name}
 use Rattle.lmn_accepted.proofs.Listed.{N, alone, each_once, how_often_later, known_one, some_of}
-use Rattle.lmn_accepted.proofs.PlanKinds.{leaf_name}
+use Rattle.lmn_accepted.proofs.PlanKinds.{leaf_name, names_in}
 use Rattle.lmn_accepted.proofs.Trees.{closed_named, typed_named}
 use Rattle.lmn_accepted.proofs.Types.{left_used_there}
 use Rattle.lmn_weight.specs.Lowered.{Lowered, MakesInt, StandsForInt, other_contexts}
 use Rattle.lmn_weight.specs.declared.weights.Weights.{Weights}
 use Rattle.lmn_weight.specs.Plains as plain
-use Rattle.lmn_bounding.proofs.Integers.{all_among, all_asked_made, among_any, any_among, bindings, bound_known, bound_made, lefts_bound, made_int, names_by, right_use, used_as}
+use Rattle.lmn_bounding.proofs.Integers.{all_among, all_asked_made, among_any, any_among, bindings, bound_known, bound_made, lefts_bound, made_int, right_use, used_as}
 use Rattle.lmn_bounding.proofs.WeightsAgree.{IsFit, level_agrees, number_in, number_is, number_named, weighing}
 
 -- ---- how often contexts stand in a level
@@ -173,10 +173,10 @@ closed_there n (u ∷ us) h = go u.closed refl (how_often_both n (closed_use u) 
 -- ---- names by membranes
 
 mutual
-  membranes_named : (h : Head) → names_by (head_membranes h) ≡ flat_map leaf_name (head_leaves h)
+  membranes_named : (h : Head) → names_in (head_membranes h) ≡ flat_map leaf_name (head_leaves h)
   membranes_named (head leaves hs cs rcs rs) = ap (λ ns. flat_map leaf_name leaves ++ ns) (all_membranes_named hs) ∙ sym (flat_map-append leaf_name leaves (heads_leaves hs))
 
-  all_membranes_named : (hs : Heads) → names_by (heads_membranes hs) ≡ flat_map leaf_name (heads_leaves hs)
+  all_membranes_named : (hs : Heads) → names_in (heads_membranes hs) ≡ flat_map leaf_name (heads_leaves hs)
   all_membranes_named no_head = refl
   all_membranes_named (head_and h hs) =
       flat_map-append (λ ls. flat_map leaf_name ls) (head_membranes h) (heads_membranes hs) ∙ (λ i. membranes_named h i ++ all_membranes_named hs i) ∙ sym (flat_map-append leaf_name (head_leaves h) (heads_leaves hs))
@@ -184,8 +184,8 @@ mutual
 typed_items : (l : Level) → flat_map leaf_name (leaves_of l) ≡ flat_map typed_name (items_of l)
 typed_items l = typed_are l ∙ ap (flat_map typed_name) (sym (same_uses l))
 
-by_membranes : (l : Level) → names_by (leaves_by_membrane l) ≡ flat_map typed_name (items_of l)
-by_membranes l = ap names_by (same_membranes l) ∙ membranes_named (head_at l) ∙ ap (flat_map leaf_name) (sym (same_leaves l)) ∙ typed_items l
+by_membranes : (l : Level) → names_in (leaves_by_membrane l) ≡ flat_map typed_name (items_of l)
+by_membranes l = ap names_in (same_membranes l) ∙ membranes_named (head_at l) ∙ ap (flat_map leaf_name) (sym (same_leaves l)) ∙ typed_items l
 
 -- ---- names that are known
 
