@@ -1,5 +1,5 @@
 -- What each write to the links of classes does to the classes of a membrane.
-use Rattle.std.proofs.Common.{◌≡◌, ◌≢◌, ◌⊎◌, ℕ, suc, Bool, true, false, cond, List, [], ◌∷◌, ◌++◌, length, Option, Some, None, IsSome, refl, sym, ap, subst, ◌∙◌, inl, inr, arith}
+use Rattle.std.proofs.Common.{◌≡◌, ◌≢◌, ◌⊎◌, ℕ, suc, Bool, true, false, not, cond, List, [], ◌∷◌, ◌++◌, length, Option, Some, None, IsSome, refl, sym, ap, subst, ◌∙◌, inl, inr, arith}
 use Rattle.std.specs.List.{filter}
 use Rattle.lmn_base.specs.Lists.{In}
 use Rattle.lmn_base.proofs.Truth.{bool_cases}
@@ -10,9 +10,9 @@ use Rattle.lmn_cells.specs.Cells.{HeldCell, links_of, HaveLinks}
 use Rattle.lmn_cells.specs.Runs.{Node, RunsThrough, link_in}
 use Rattle.lmn_cells.proofs.LineLemmas.{link_other}
 use Rattle.lmn_cells.proofs.RunLemmas.{Left, Joined, Between, begins, ends, joins, leaves, inserts, split, before_in, after_in}
-use Rattle.lmn_web.specs.Classes.{Touches, CLASS_NEXT, CLASS_PREV, CLASS_LAST, EVEN, ODD, LEADERS, ClassTree, Bare, Fork, leaders, top, ClassPlace, IsTree, IsSorted, is_odd, rest_at, class_node, key_in, is_key, of_class, AreClassed, place_in, link_written, taken_over, begun, lengthened, put_between, put_first, closed, shortened, passed, dropped}
+use Rattle.lmn_web.specs.Classes.{Touches, CLASS_NEXT, CLASS_PREV, CLASS_LAST, EVEN, ODD, LEADERS, ClassTree, Bare, Fork, leaders, top, ClassPlace, IsTree, AreBeside, IsSorted, is_odd, rest_at, class_node, key_in, is_key, of_class, AreClassed, place_in, link_written, taken_over, begun, lengthened, put_between, put_first, closed, shortened, passed, dropped}
 use Rattle.lmn_web.proofs.Reclassing.{key_same, key_true, in_filter, reclassed}
-use Rattle.lmn_web.proofs.ClassTrees.{Holds, Hole, tree_frame, sorted_apart, below_differs, sides_apart, beside_not}
+use Rattle.lmn_web.proofs.ClassTrees.{Holds, Hole, forked, side, side_is, sides_differ, not_both, in_forked, top_forked, forked_sorted, sorted_forked, forked_tree, key_differs, tree_frame, sorted_apart, below_differs, beside_not}
 use Rattle.lmn_web.proofs.ClassWrites.{kept, length_kept, touches_none, touches_own, touches_tree, touches_keys, touches_there}
 use Rattle.lmn_web.proofs.ClassPlaces.{link_at, link_far, link_by, bare_of, sorted_top, holds_small, holds_there, holds_more, touches_taken, at, outer_in, tree_in, holds_atoms, link_small, place_far, taken_place, leader_in, fill_stay, fill_were, fill_sorted, fill_heads, taken_tree}
 
@@ -841,171 +841,130 @@ module _ (f : ℕ → Option HeldCell) (m c : ℕ) (xs : List ℕ) (t : ClassTre
           (taken_tree f m xs t old no_m p k2 c l a b (λ z s. touches_there f k2 m xs p touches_k2 z s) (λ z s. touches_k2.lengths z ∙ have z s) outside even odd (λ z i. in_x c pa pb is_x z (inr (below z i))) (alive l (below_xs l leaf))
           (λ e. no_m (subst (λ y. In y xs) e (below_xs l leaf))) (below_outer l leaf) gone (there_x c pa pb is_x)) sorted
 
-    -- That one hangs on one of the two sides
+  -- That one hangs on one of its two sides, near
 
-    abbrev dd : ℕ
-    dd = (place_in f p m t).depth
+  module _ (xs' : List ℕ) (lists : (r : ℕ × ℕ) → is_key r p ≡ false → of_class f r xs' ≡ of_class f r xs) (inside : of_class f p xs' ≡ []) (odd : Bool) (near far : ClassTree) (is_x : (place_in f p m t).tree ≡ forked odd c near far)
+      (l : ℕ) (w : ClassPlace) (hole : Hole f (λ z. false) c (side odd) (suc (place_in f p m t).depth) near w) (alone : w.tree ≡ Fork l Bare Bare) where
+    abbrev hn : ℕ
+    hn = (place_in f p m t).holder
 
-    -- on the even one
-    module _ (l : ℕ) (w : ClassPlace) (hole : Hole f (λ z. false) c EVEN (suc dd) pa w) (alone : w.tree ≡ Fork l Bare Bare) where
-      abbrev pruned : ClassTree
-      pruned = hole.fill Bare
+    abbrev kn : ℕ
+    kn = (place_in f p m t).link
 
-      leaf_n : In l (leaders w.tree)
-      leaf_n = subst (λ u. In l (leaders u)) (sym alone) (inl refl)
+    abbrev dn : ℕ
+    dn = (place_in f p m t).depth
 
-      leaf_near : In l (leaders pa)
-      leaf_near = subst (λ u. In l (leaders u)) hole.is (hole.ins w.tree l leaf_n)
+    -- without it
+    abbrev pruned : ClassTree
+    pruned = hole.fill Bare
 
-      out_near : (z : ℕ) → In z hole.outer → In z (leaders pa)
-      out_near z i = subst (λ u. In z (leaders u)) hole.is (hole.outs w.tree z i)
+    abbrev cut_n : ℕ → Option HeldCell
+    cut_n = link_written f w.holder w.link None
 
-      below_n : (z : ℕ) → In z (leaders pruned) → In z (leaders pa)
-      below_n z i = elim (hole.parts Bare z i) [ inl o ↦ out_near z o | inr j ↦ absurd j ]
+    sides : AreBeside f c dn odd (leaders near) × AreBeside f c dn (not odd) (leaders far) × IsSorted f (suc dn) near × IsSorted f (suc dn) far
+    sides = forked_sorted f dn odd c near far (subst (λ u. IsSorted f dn u) is_x (at f m xs t old no_m p).hole.sorted)
 
-      all_n : (z : ℕ) → In z (leaders pa) → (l ≡ z) ⊎ In z (leaders pruned)
-      all_n z i = elim (hole.parts w.tree z (subst (λ u. In z (leaders u)) (sym hole.is) i)) [ inl o ↦ inr (hole.outs Bare z o) | inr j ↦ elim (subst (λ u. In z (leaders u)) alone j) [ inl s ↦ inl s | inr y ↦ absurd y ] ]
+    trees : (link_in f hn kn ≡ Some c) × IsSome (f c) × IsTree f (link_in f c (side odd)) near × IsTree f (link_in f c (side (not odd))) far
+    trees = forked_tree f (link_in f hn kn) odd c near far (subst (λ u. IsTree f (link_in f hn kn) u) is_x ((at f m xs t old no_m p).hole.part old.tree))
 
-      gone_n : In l (leaders pruned) → ⊥
-      gone_n i = elim (hole.parts Bare l i) [ inl o ↦ hole.apart l o leaf_n | inr j ↦ j ]
+    leaf_n : In l (leaders w.tree)
+    leaf_n = subst (λ u. In l (leaders u)) (sym alone) (inl refl)
 
-      -- where it hangs
-      holder_n : (c ≡ w.holder) ⊎ In w.holder (leaders pa)
-      holder_n = elim hole.holds [ inl e ↦ inl (sym e.0) | inr o ↦ inr (out_near w.holder o.0) ]
+    leaf_near : In l (leaders near)
+    leaf_near = subst (λ u. In l (leaders u)) hole.is (hole.ins w.tree l leaf_n)
 
-      holds_n : Holds m LEADERS (c ∷ (leaders pa ++ leaders pb)) w.holder w.link
-      holds_n = elim hole.holds [ inl e ↦ inr (inl (sym e.0), inl e.1) | inr o ↦ inr (inr (in_left w.holder (leaders pa) (leaders pb) (out_near w.holder o.0)), o.1) ]
+    out_near : (z : ℕ) → In z hole.outer → In z (leaders near)
+    out_near z i = subst (λ u. In z (leaders u)) hole.is (hole.outs w.tree z i)
 
-      not_m_n : w.holder ≢ m
-      not_m_n e = elim holder_n [ inl s ↦ not_m (s ∙ e) | inr i ↦ no_m (subst (λ y. In y xs) e (below_xs w.holder (in_left w.holder (leaders pa) (leaders pb) i))) ]
+    below_n : (z : ℕ) → In z (leaders pruned) → In z (leaders near)
+    below_n z i = elim (hole.parts Bare z i) [ inl o ↦ out_near z o | inr j ↦ absurd j ]
 
-      there_n : IsSome (f w.holder)
-      there_n = elim holder_n [ inl s ↦ subst (λ y. IsSome (f y)) s there_c | inr i ↦ alive w.holder (below_xs w.holder (in_left w.holder (leaders pa) (leaders pb) i)) ]
+    all_n : (z : ℕ) → In z (leaders near) → (l ≡ z) ⊎ In z (leaders pruned)
+    all_n z i = elim (hole.parts w.tree z (subst (λ u. In z (leaders u)) (sym hole.is) i)) [ inl o ↦ inr (hole.outs Bare z o) | inr j ↦ elim (subst (λ u. In z (leaders u)) alone j) [ inl s ↦ inl s | inr y ↦ absurd y ] ]
 
-      stays_n : (z : ℕ) → IsSome (f z) → IsSome (link_written f w.holder w.link None z)
-      stays_n z s = kept f (link_written f w.holder w.link None) w.holder w.link None z refl s
+    gone_n : In l (leaders pruned) → ⊥
+    gone_n i = elim (hole.parts Bare l i) [ inl o ↦ hole.apart l o leaf_n | inr j ↦ j ]
 
-      near_tree : IsTree (link_written f w.holder w.link None) (link_in (link_written f w.holder w.link None) c EVEN) pruned
-      near_tree = hole.turned (link_written f w.holder w.link None) Bare stays_n (λ b j o n. link_other f w.holder w.link None b j (λ s e. n e s)) (part_x c pa pb is_x).2 (link_at f w.holder w.link None (have w.holder there_n) (holds_small m (c ∷ (leaders pa ++ leaders pb)) w.holder w.link holds_n))
+    both : (z : ℕ) → In z (leaders near) → In z (leaders far) → ⊥
+    both z i j = not_both odd (sym (sides.0 z i).1 ∙ (sides.1 z j).1)
 
-      far_away : (z : ℕ) → In z (leaders pb) → z ≢ w.holder
-      far_away z i e = elim holder_n [ inl s ↦ beside_not f c dd true (leaders pb) (sorted_x c pa pb is_x).1 (subst (λ y. In y (leaders pb)) (e ∙ sym s) i) | inr y ↦ sides_apart f c dd (leaders pa) (leaders pb) (sorted_x c pa pb is_x).0 (sorted_x c pa pb is_x).1 z (subst (λ u. In u (leaders pa)) (sym e) y) i ]
+    -- where it hangs
+    holder_n : (c ≡ w.holder) ⊎ In w.holder (leaders near)
+    holder_n = elim hole.holds [ inl e ↦ inl (sym e.0) | inr o ↦ inr (out_near w.holder o.0) ]
 
-      far_tree : IsTree (link_written f w.holder w.link None) (link_in (link_written f w.holder w.link None) c ODD) pb
-      far_tree = subst (λ o. IsTree (link_written f w.holder w.link None) o pb)
-          (sym (link_other f w.holder w.link None c ODD (λ s e. elim hole.holds [ inl x ↦ absurd (let y : ODD ≡ EVEN = s ∙ x.1 in omega (arith, y)) | inr o ↦ beside_not f c dd false (leaders pa) (sorted_x c pa pb is_x).0 (subst (λ y. In y (leaders pa)) (sym e) (out_near w.holder o.0)) ])))
-          (tree_frame f (link_written f w.holder w.link None) (link_in f c ODD) pb (λ z i. (link_by f w.holder w.link None z EVEN (far_away z i), link_by f w.holder w.link None z ODD (far_away z i))) stays_n (part_x c pa pb is_x).3)
+    near_xs : (z : ℕ) → In z (leaders near) → In z xs
+    near_xs z i = old.inside z (tree_in f m xs t old no_m p z (subst (λ u. In z (leaders u)) (sym is_x) (in_forked odd c near far z (inr (inl i)))))
 
-      differs : (z : ℕ) → In z (leaders pruned) → is_key (key_in f z) (key_in f l) ≡ false
-      differs z i = elim (bool_cases (is_key (key_in f z) (key_in f l))) [
-        | inl e ↦ absurd (gone_n (subst (λ y. In y (leaders pruned)) (sorted_apart f (suc dd) pa (sorted_x c pa pb is_x).2 z l (below_n z i) leaf_near (key_true (key_in f z) (key_in f l) e)) i))
-        | inr e ↦ e
-      ]
+    holder_xs : In w.holder xs
+    holder_xs = elim holder_n [ inl s ↦ subst (λ y. In y xs) s (old.inside c (leader_in f m xs t old no_m p c (ap top is_x ∙ top_forked odd c near far)).0) | inr i ↦ near_xs w.holder i ]
 
-      far_differs : (z : ℕ) → In z (leaders pb) → is_key (key_in f z) (key_in f l) ≡ false
-      far_differs z i = elim (bool_cases (is_key (key_in f z) (key_in f l))) [
-        | inl e ↦ absurd (let n : true ≡ false = sym ((sorted_x c pa pb is_x).1 z i).1 ∙ ap (λ (q : ℕ × ℕ). is_odd (rest_at q.0 dd)) (key_true (key_in f z) (key_in f l) e) ∙ ((sorted_x c pa pb is_x).0 l leaf_near).1 in cc)
-        | inr e ↦ e
-      ]
+    holds_n : Holds m LEADERS (leaders (forked odd c near far)) w.holder w.link
+    holds_n = elim hole.holds [ inl e ↦ inr (in_forked odd c near far w.holder (inl (sym e.0)), side_is odd w.link e.1) | inr o ↦ inr (in_forked odd c near far w.holder (inr (inl (out_near w.holder o.0))), o.1) ]
 
-      w_sorted : IsSorted f (suc dd) pruned
-      w_sorted = hole.filled Bare tt (λ z i. absurd i)
+    stays_n : (z : ℕ) → IsSome (f z) → IsSome (cut_n z)
+    stays_n z s = kept f cut_n w.holder w.link None z refl s
 
-      leaf_or : (z : ℕ) → In z (leaders pa ++ leaders pb) → In z (l ∷ (leaders pruned ++ leaders pb))
-      leaf_or z i = elim (in_either z (leaders pa) (leaders pb) i) [ inl y ↦ elim (all_n z y) [ inl s ↦ inl s | inr o ↦ inr (in_left z (leaders pruned) (leaders pb) o) ] | inr y ↦ inr (in_right z (leaders pruned) (leaders pb) y) ]
+    far_away : (z : ℕ) → In z (leaders far) → z ≢ w.holder
+    far_away z i e = elim holder_n [ inl s ↦ beside_not f c dn (not odd) (leaders far) sides.1 (subst (λ y. In y (leaders far)) (e ∙ sym s) i) | inr y ↦ both z (subst (λ u. In u (leaders near)) (sym e) y) i ]
 
-      below_or : (z : ℕ) → In z (leaders pruned ++ leaders pb) → In z (leaders pa ++ leaders pb)
-      below_or z i = elim (in_either z (leaders pruned) (leaders pb) i) [ inl y ↦ in_left z (leaders pa) (leaders pb) (below_n z y) | inr y ↦ in_right z (leaders pa) (leaders pb) y ]
+    -- the two sides without it
+    near_tree : IsTree cut_n (link_in cut_n c (side odd)) pruned
+    near_tree = hole.turned cut_n Bare stays_n (λ b j o n. link_other f w.holder w.link None b j (λ s e. n e s)) trees.2
+        (link_at f w.holder w.link None (have w.holder (alive w.holder holder_xs)) (holds_small m (leaders (forked odd c near far)) w.holder w.link holds_n))
 
-      gone_or : In l (leaders pruned ++ leaders pb) → ⊥
-      gone_or i = elim (in_either l (leaders pruned) (leaders pb) i) [ inl y ↦ gone_n y | inr y ↦ sides_apart f c dd (leaders pa) (leaders pb) (sorted_x c pa pb is_x).0 (sorted_x c pa pb is_x).1 l leaf_near y ]
+    far_tree : IsTree cut_n (link_in cut_n c (side (not odd))) far
+    far_tree = subst (λ o. IsTree cut_n o far)
+        (sym (link_other f w.holder w.link None c (side (not odd)) (λ s e. elim hole.holds [ inl x ↦ sides_differ odd (s ∙ x.1) | inr o ↦ beside_not f c dn odd (leaders near) sides.0 (subst (λ y. In y (leaders near)) (sym e) (out_near w.holder o.0)) ])))
+        (tree_frame f cut_n (link_in f c (side (not odd))) far (λ z i. (link_by f w.holder w.link None z EVEN (far_away z i), link_by f w.holder w.link None z ODD (far_away z i))) stays_n trees.3)
 
-      -- what is left as it was
-      pub even_touches : Touches f (dropped f hk kk c w.holder w.link (Some l)) m xs p
-      even_touches = leaf_touches w.holder w.link l pruned pb below_or leaf_or (in_left l (leaders pa) (leaders pb) leaf_near) gone_or holds_n not_m_n near_tree far_tree ((λ z i. (differs z i, ((sorted_x c pa pb is_x).0 z (below_n z i)).1)), (λ z i. (far_differs z i, ((sorted_x c pa pb is_x).1 z i).1)), w_sorted, (sorted_x c pa pb is_x).3)
+    -- they have other classes
+    differs : (z : ℕ) → In z (leaders pruned) → is_key (key_in f z) (key_in f l) ≡ false
+    differs z i = key_differs (key_in f z) (key_in f l) (λ e. gone_n (subst (λ y. In y (leaders pruned)) (sorted_apart f (suc dn) near sides.2 z l (below_n z i) leaf_near e) i))
 
-      -- the classes then
-      pub even_classed : AreClassed (dropped f hk kk c w.holder w.link (Some l)) m xs' ((at f m xs t old no_m p).hole.fill (Fork l pruned pb))
-      even_classed = leaf_classed w.holder w.link l pruned pb below_or leaf_or (in_left l (leaders pa) (leaders pb) leaf_near) gone_or holds_n not_m_n near_tree far_tree ((λ z i. (differs z i, ((sorted_x c pa pb is_x).0 z (below_n z i)).1)), (λ z i. (far_differs z i, ((sorted_x c pa pb is_x).1 z i).1)), w_sorted, (sorted_x c pa pb is_x).3)
+    far_differs : (z : ℕ) → In z (leaders far) → is_key (key_in f z) (key_in f l) ≡ false
+    far_differs z i = key_differs (key_in f z) (key_in f l) (λ e. not_both odd (sym (sides.0 l leaf_near).1 ∙ ap (λ (q : ℕ × ℕ). is_odd (rest_at q.0 dn)) (sym e) ∙ (sides.1 z i).1))
 
-    -- on the odd one
-    module _ (l : ℕ) (w : ClassPlace) (hole : Hole f (λ z. false) c ODD (suc dd) pb w) (alone : w.tree ≡ Fork l Bare Bare) where
-      abbrev pruned_odd : ClassTree
-      pruned_odd = hole.fill Bare
+    side_sorted : IsSorted f dn (forked odd l pruned far)
+    side_sorted = sorted_forked f dn odd l pruned far (λ z i. (differs z i, (sides.0 z (below_n z i)).1), λ z i. (far_differs z i, (sides.1 z i).1), hole.filled Bare tt (λ z i. absurd i), sides.3)
 
-      leaf_n_odd : In l (leaders w.tree)
-      leaf_n_odd = subst (λ u. In l (leaders u)) (sym alone) (inl refl)
+    not_m_n : w.holder ≢ m
+    not_m_n e = no_m (subst (λ y. In y xs) e holder_xs)
 
-      leaf_near_odd : In l (leaders pb)
-      leaf_near_odd = subst (λ u. In l (leaders u)) hole.is (hole.ins w.tree l leaf_n_odd)
-
-      out_near_odd : (z : ℕ) → In z hole.outer → In z (leaders pb)
-      out_near_odd z i = subst (λ u. In z (leaders u)) hole.is (hole.outs w.tree z i)
-
-      below_n_odd : (z : ℕ) → In z (leaders pruned_odd) → In z (leaders pb)
-      below_n_odd z i = elim (hole.parts Bare z i) [ inl o ↦ out_near_odd z o | inr j ↦ absurd j ]
-
-      all_n_odd : (z : ℕ) → In z (leaders pb) → (l ≡ z) ⊎ In z (leaders pruned_odd)
-      all_n_odd z i = elim (hole.parts w.tree z (subst (λ u. In z (leaders u)) (sym hole.is) i)) [ inl o ↦ inr (hole.outs Bare z o) | inr j ↦ elim (subst (λ u. In z (leaders u)) alone j) [ inl s ↦ inl s | inr y ↦ absurd y ] ]
-
-      gone_n_odd : In l (leaders pruned_odd) → ⊥
-      gone_n_odd i = elim (hole.parts Bare l i) [ inl o ↦ hole.apart l o leaf_n_odd | inr j ↦ j ]
-
-      -- where it hangs
-      holder_n_odd : (c ≡ w.holder) ⊎ In w.holder (leaders pb)
-      holder_n_odd = elim hole.holds [ inl e ↦ inl (sym e.0) | inr o ↦ inr (out_near_odd w.holder o.0) ]
-
-      holds_n_odd : Holds m LEADERS (c ∷ (leaders pa ++ leaders pb)) w.holder w.link
-      holds_n_odd = elim hole.holds [ inl e ↦ inr (inl (sym e.0), inr e.1) | inr o ↦ inr (inr (in_right w.holder (leaders pa) (leaders pb) (out_near_odd w.holder o.0)), o.1) ]
-
-      not_m_n_odd : w.holder ≢ m
-      not_m_n_odd e = elim holder_n_odd [ inl s ↦ not_m (s ∙ e) | inr i ↦ no_m (subst (λ y. In y xs) e (below_xs w.holder (in_right w.holder (leaders pa) (leaders pb) i))) ]
-
-      there_n_odd : IsSome (f w.holder)
-      there_n_odd = elim holder_n_odd [ inl s ↦ subst (λ y. IsSome (f y)) s there_c | inr i ↦ alive w.holder (below_xs w.holder (in_right w.holder (leaders pa) (leaders pb) i)) ]
-
-      stays_n_odd : (z : ℕ) → IsSome (f z) → IsSome (link_written f w.holder w.link None z)
-      stays_n_odd z s = kept f (link_written f w.holder w.link None) w.holder w.link None z refl s
-
-      near_tree_odd : IsTree (link_written f w.holder w.link None) (link_in (link_written f w.holder w.link None) c ODD) pruned_odd
-      near_tree_odd = hole.turned (link_written f w.holder w.link None) Bare stays_n_odd (λ b j o n. link_other f w.holder w.link None b j (λ s e. n e s)) (part_x c pa pb is_x).3 (link_at f w.holder w.link None (have w.holder there_n_odd) (holds_small m (c ∷ (leaders pa ++ leaders pb)) w.holder w.link holds_n_odd))
-
-      far_away_odd : (z : ℕ) → In z (leaders pa) → z ≢ w.holder
-      far_away_odd z i e = elim holder_n_odd [ inl s ↦ beside_not f c dd false (leaders pa) (sorted_x c pa pb is_x).0 (subst (λ y. In y (leaders pa)) (e ∙ sym s) i) | inr y ↦ sides_apart f c dd (leaders pa) (leaders pb) (sorted_x c pa pb is_x).0 (sorted_x c pa pb is_x).1 z i (subst (λ u. In u (leaders pb)) (sym e) y) ]
-
-      far_tree_odd : IsTree (link_written f w.holder w.link None) (link_in (link_written f w.holder w.link None) c EVEN) pa
-      far_tree_odd = subst (λ o. IsTree (link_written f w.holder w.link None) o pa)
-          (sym (link_other f w.holder w.link None c EVEN (λ s e. elim hole.holds [ inl x ↦ absurd (let y : EVEN ≡ ODD = s ∙ x.1 in omega (arith, y)) | inr o ↦ beside_not f c dd true (leaders pb) (sorted_x c pa pb is_x).1 (subst (λ y. In y (leaders pb)) (sym e) (out_near_odd w.holder o.0)) ])))
-          (tree_frame f (link_written f w.holder w.link None) (link_in f c EVEN) pa (λ z i. (link_by f w.holder w.link None z EVEN (far_away_odd z i), link_by f w.holder w.link None z ODD (far_away_odd z i))) stays_n_odd (part_x c pa pb is_x).2)
-
-      differs_odd : (z : ℕ) → In z (leaders pruned_odd) → is_key (key_in f z) (key_in f l) ≡ false
-      differs_odd z i = elim (bool_cases (is_key (key_in f z) (key_in f l))) [
-        | inl e ↦ absurd (gone_n_odd (subst (λ y. In y (leaders pruned_odd)) (sorted_apart f (suc dd) pb (sorted_x c pa pb is_x).3 z l (below_n_odd z i) leaf_near_odd (key_true (key_in f z) (key_in f l) e)) i))
-        | inr e ↦ e
-      ]
-
-      far_differs_odd : (z : ℕ) → In z (leaders pa) → is_key (key_in f z) (key_in f l) ≡ false
-      far_differs_odd z i = elim (bool_cases (is_key (key_in f z) (key_in f l))) [
-        | inl e ↦ absurd (let n : false ≡ true = sym ((sorted_x c pa pb is_x).0 z i).1 ∙ ap (λ (q : ℕ × ℕ). is_odd (rest_at q.0 dd)) (key_true (key_in f z) (key_in f l) e) ∙ ((sorted_x c pa pb is_x).1 l leaf_near_odd).1 in cc)
-        | inr e ↦ e
-      ]
-
-      w_sorted_odd : IsSorted f (suc dd) pruned_odd
-      w_sorted_odd = hole.filled Bare tt (λ z i. absurd i)
-
-      leaf_or_odd : (z : ℕ) → In z (leaders pa ++ leaders pb) → In z (l ∷ (leaders pa ++ leaders pruned_odd))
-      leaf_or_odd z i = elim (in_either z (leaders pa) (leaders pb) i) [ inl y ↦ inr (in_left z (leaders pa) (leaders pruned_odd) y) | inr y ↦ elim (all_n_odd z y) [ inl s ↦ inl s | inr o ↦ inr (in_right z (leaders pa) (leaders pruned_odd) o) ] ]
-
-      below_or_odd : (z : ℕ) → In z (leaders pa ++ leaders pruned_odd) → In z (leaders pa ++ leaders pb)
-      below_or_odd z i = elim (in_either z (leaders pa) (leaders pruned_odd) i) [ inl y ↦ in_left z (leaders pa) (leaders pb) y | inr y ↦ in_right z (leaders pa) (leaders pb) (below_n_odd z y) ]
-
-      gone_or_odd : In l (leaders pa ++ leaders pruned_odd) → ⊥
-      gone_or_odd i = elim (in_either l (leaders pa) (leaders pruned_odd) i) [ inl y ↦ sides_apart f c dd (leaders pa) (leaders pb) (sorted_x c pa pb is_x).0 (sorted_x c pa pb is_x).1 l y leaf_near_odd | inr y ↦ gone_n_odd y ]
-
-      -- what is left as it was
-      pub odd_touches : Touches f (dropped f hk kk c w.holder w.link (Some l)) m xs p
-      odd_touches = leaf_touches w.holder w.link l pa pruned_odd below_or_odd leaf_or_odd (in_right l (leaders pa) (leaders pb) leaf_near_odd) gone_or_odd holds_n_odd not_m_n_odd far_tree_odd near_tree_odd ((λ z i. (far_differs_odd z i, ((sorted_x c pa pb is_x).0 z i).1)), (λ z i. (differs_odd z i, ((sorted_x c pa pb is_x).1 z (below_n_odd z i)).1)), (sorted_x c pa pb is_x).2, w_sorted_odd)
-
-      -- the classes then
-      pub odd_classed : AreClassed (dropped f hk kk c w.holder w.link (Some l)) m xs' ((at f m xs t old no_m p).hole.fill (Fork l pa pruned_odd))
-      odd_classed = leaf_classed w.holder w.link l pa pruned_odd below_or_odd leaf_or_odd (in_right l (leaders pa) (leaders pb) leaf_near_odd) gone_or_odd holds_n_odd not_m_n_odd far_tree_odd near_tree_odd ((λ z i. (far_differs_odd z i, ((sorted_x c pa pb is_x).0 z i).1)), (λ z i. (differs_odd z i, ((sorted_x c pa pb is_x).1 z (below_n_odd z i)).1)), (sorted_x c pa pb is_x).2, w_sorted_odd)
+  -- with its sides as they hang
+  pub side_filed : (xs' : List ℕ) (lists : (r : ℕ × ℕ) → is_key r p ≡ false → of_class f r xs' ≡ of_class f r xs) (inside : of_class f p xs' ≡ []) (odd : Bool) (near far : ClassTree) (is_x : (place_in f p m t).tree ≡ forked odd c near far)
+      (l : ℕ) (w : ClassPlace) (hole : Hole f (λ z. false) c (side odd) (suc (place_in f p m t).depth) near w) (alone : w.tree ≡ Fork l Bare Bare)
+      → Touches f (dropped f (place_in f p m t).holder (place_in f p m t).link c w.holder w.link (Some l)) m xs p × (u : ClassTree) × AreClassed (dropped f (place_in f p m t).holder (place_in f p m t).link c w.holder w.link (Some l)) m xs' u
+  side_filed xs' lists inside false near far is_x l w hole alone = (
+    leaf_touches xs' lists inside near far is_x w.holder w.link l (hole.fill Bare) far
+      (λ z i. elim (in_either z (leaders (hole.fill Bare)) (leaders far) i) [ inl y ↦ in_left z (leaders near) (leaders far) (below_n xs' lists inside false near far is_x l w hole alone z y) | inr y ↦ in_right z (leaders near) (leaders far) y ])
+      (λ z i. elim (in_either z (leaders near) (leaders far) i) [ inl y ↦ elim (all_n xs' lists inside false near far is_x l w hole alone z y) [ inl s ↦ inl s | inr o ↦ inr (in_left z (leaders (hole.fill Bare)) (leaders far) o) ] | inr y ↦ inr (in_right z (leaders (hole.fill Bare)) (leaders far) y) ])
+      (in_left l (leaders near) (leaders far) (leaf_near xs' lists inside false near far is_x l w hole alone))
+      (λ i. elim (in_either l (leaders (hole.fill Bare)) (leaders far) i) [ inl y ↦ gone_n xs' lists inside false near far is_x l w hole alone y | inr y ↦ both xs' lists inside false near far is_x l w hole alone l (leaf_near xs' lists inside false near far is_x l w hole alone) y ])
+      (holds_n xs' lists inside false near far is_x l w hole alone) (not_m_n xs' lists inside false near far is_x l w hole alone)
+      (near_tree xs' lists inside false near far is_x l w hole alone) (far_tree xs' lists inside false near far is_x l w hole alone) (side_sorted xs' lists inside false near far is_x l w hole alone),
+    _,
+    leaf_classed xs' lists inside near far is_x w.holder w.link l (hole.fill Bare) far
+      (λ z i. elim (in_either z (leaders (hole.fill Bare)) (leaders far) i) [ inl y ↦ in_left z (leaders near) (leaders far) (below_n xs' lists inside false near far is_x l w hole alone z y) | inr y ↦ in_right z (leaders near) (leaders far) y ])
+      (λ z i. elim (in_either z (leaders near) (leaders far) i) [ inl y ↦ elim (all_n xs' lists inside false near far is_x l w hole alone z y) [ inl s ↦ inl s | inr o ↦ inr (in_left z (leaders (hole.fill Bare)) (leaders far) o) ] | inr y ↦ inr (in_right z (leaders (hole.fill Bare)) (leaders far) y) ])
+      (in_left l (leaders near) (leaders far) (leaf_near xs' lists inside false near far is_x l w hole alone))
+      (λ i. elim (in_either l (leaders (hole.fill Bare)) (leaders far) i) [ inl y ↦ gone_n xs' lists inside false near far is_x l w hole alone y | inr y ↦ both xs' lists inside false near far is_x l w hole alone l (leaf_near xs' lists inside false near far is_x l w hole alone) y ])
+      (holds_n xs' lists inside false near far is_x l w hole alone) (not_m_n xs' lists inside false near far is_x l w hole alone)
+      (near_tree xs' lists inside false near far is_x l w hole alone) (far_tree xs' lists inside false near far is_x l w hole alone) (side_sorted xs' lists inside false near far is_x l w hole alone),
+  )
+  side_filed xs' lists inside true near far is_x l w hole alone = (
+    leaf_touches xs' lists inside far near is_x w.holder w.link l far (hole.fill Bare)
+      (λ z i. elim (in_either z (leaders far) (leaders (hole.fill Bare)) i) [ inl y ↦ in_left z (leaders far) (leaders near) y | inr y ↦ in_right z (leaders far) (leaders near) (below_n xs' lists inside true near far is_x l w hole alone z y) ])
+      (λ z i. elim (in_either z (leaders far) (leaders near) i) [ inl y ↦ inr (in_left z (leaders far) (leaders (hole.fill Bare)) y) | inr y ↦ elim (all_n xs' lists inside true near far is_x l w hole alone z y) [ inl s ↦ inl s | inr o ↦ inr (in_right z (leaders far) (leaders (hole.fill Bare)) o) ] ])
+      (in_right l (leaders far) (leaders near) (leaf_near xs' lists inside true near far is_x l w hole alone))
+      (λ i. elim (in_either l (leaders far) (leaders (hole.fill Bare)) i) [ inl y ↦ both xs' lists inside true near far is_x l w hole alone l (leaf_near xs' lists inside true near far is_x l w hole alone) y | inr y ↦ gone_n xs' lists inside true near far is_x l w hole alone y ])
+      (holds_n xs' lists inside true near far is_x l w hole alone) (not_m_n xs' lists inside true near far is_x l w hole alone)
+      (far_tree xs' lists inside true near far is_x l w hole alone) (near_tree xs' lists inside true near far is_x l w hole alone) (side_sorted xs' lists inside true near far is_x l w hole alone),
+    _,
+    leaf_classed xs' lists inside far near is_x w.holder w.link l far (hole.fill Bare)
+      (λ z i. elim (in_either z (leaders far) (leaders (hole.fill Bare)) i) [ inl y ↦ in_left z (leaders far) (leaders near) y | inr y ↦ in_right z (leaders far) (leaders near) (below_n xs' lists inside true near far is_x l w hole alone z y) ])
+      (λ z i. elim (in_either z (leaders far) (leaders near) i) [ inl y ↦ inr (in_left z (leaders far) (leaders (hole.fill Bare)) y) | inr y ↦ elim (all_n xs' lists inside true near far is_x l w hole alone z y) [ inl s ↦ inl s | inr o ↦ inr (in_right z (leaders far) (leaders (hole.fill Bare)) o) ] ])
+      (in_right l (leaders far) (leaders near) (leaf_near xs' lists inside true near far is_x l w hole alone))
+      (λ i. elim (in_either l (leaders far) (leaders (hole.fill Bare)) i) [ inl y ↦ both xs' lists inside true near far is_x l w hole alone l (leaf_near xs' lists inside true near far is_x l w hole alone) y | inr y ↦ gone_n xs' lists inside true near far is_x l w hole alone y ])
+      (holds_n xs' lists inside true near far is_x l w hole alone) (not_m_n xs' lists inside true near far is_x l w hole alone)
+      (far_tree xs' lists inside true near far is_x l w hole alone) (near_tree xs' lists inside true near far is_x l w hole alone) (side_sorted xs' lists inside true near far is_x l w hole alone),
+  )

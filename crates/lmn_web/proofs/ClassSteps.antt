@@ -12,7 +12,7 @@ use Rattle.lmn_web.specs.Classes.{CLASS_NEXT, CLASS_PREV, CLASS_LAST, EVEN, ODD,
 use Rattle.lmn_web.proofs.Reclassing.{key_same, key_true, in_filter, filter_in}
 use Rattle.lmn_web.proofs.ClassTrees.{beside_not, some_lowest}
 use Rattle.lmn_web.proofs.ClassPlaces.{at, fork_of, holds_there, holds_atoms, link_small, leader_in, class_none}
-use Rattle.lmn_web.proofs.ClassRuns.{inside_classed, inside_touches, first_classed, first_touches, prev_in, next_in_run, closed_classed, closed_touches, shortened_classed, shortened_touches, passed_classed, passed_touches, bare_classed, bare_touches, even_classed, even_touches, odd_classed, odd_touches, distinct_filter, begun_classed, begun_touches, longer_classed, longer_touches}
+use Rattle.lmn_web.proofs.ClassRuns.{inside_classed, inside_touches, first_classed, first_touches, prev_in, next_in_run, closed_classed, closed_touches, shortened_classed, shortened_touches, passed_classed, passed_touches, bare_classed, bare_touches, side_filed, distinct_filter, begun_classed, begun_touches, longer_classed, longer_touches}
 
 -- the first one of a class that is found, with the run of the class
 pub record Leads (f : ℕ → Option HeldCell) (xs : List ℕ) (t : ClassTree) (p : ℕ × ℕ) (l : ℕ) : Type 0 where
@@ -227,21 +227,17 @@ filed_dropped f have m c xs t xs' a i one prev next l r is = by l r is
       classed = bare_classed f m c xs t have a.classed a.alive a.once a.there_m a.there_c a.no_m a.not_m xs' one.others inside Bare Bare is refl;
     }
     by Bare (Fork q u v) is =
-        let s : IsSorted f (place_in f (key_in f c) m t).depth (Fork c Bare (Fork q u v)) = subst (λ y. IsSorted f (place_in f (key_in f c) m t).depth y) is (at f m xs t a.classed a.no_m (key_in f c)).hole.sorted in
-        let w = some_lowest f c ODD (suc (place_in f (key_in f c) m t).depth) (Fork q u v) s.3 (beside_not f c (place_in f (key_in f c) m t).depth true (leaders (Fork q u v)) s.1) q refl in
-        subst (λ (y : Hung). Refiled f (dropped f (place_in f (key_in f c) m t).holder (place_in f (key_in f c) m t).link c y.holder y.link y.leader) m xs (key_in f c) xs') (sym w.1.is) record {
-          touches = odd_touches f m c xs t have a.classed a.alive a.once a.there_m a.there_c a.no_m a.not_m xs' one.others inside Bare (Fork q u v) is w.0 w.1.place w.1.hole w.1.alone;
-          tree = _;
-          classed = odd_classed f m c xs t have a.classed a.alive a.once a.there_m a.there_c a.no_m a.not_m xs' one.others inside Bare (Fork q u v) is w.0 w.1.place w.1.hole w.1.alone;
-        }
+        let d = (place_in f (key_in f c) m t).depth in
+        let s : IsSorted f d (Fork c Bare (Fork q u v)) = subst (λ y. IsSorted f d y) is (at f m xs t a.classed a.no_m (key_in f c)).hole.sorted in
+        let w = some_lowest f c ODD (suc d) (Fork q u v) s.3 (beside_not f c d true (leaders (Fork q u v)) s.1) q refl in
+        let filed = side_filed f m c xs t have a.classed a.alive a.once a.there_m a.there_c a.no_m a.not_m xs' one.others inside true (Fork q u v) Bare is w.0 w.1.place w.1.hole w.1.alone in
+        subst (λ (y : Hung). Refiled f (dropped f (place_in f (key_in f c) m t).holder (place_in f (key_in f c) m t).link c y.holder y.link y.leader) m xs (key_in f c) xs') (sym w.1.is) record { touches = filed.0; tree = filed.1; classed = filed.2 }
     by (Fork q u v) r is =
-        let s : IsSorted f (place_in f (key_in f c) m t).depth (Fork c (Fork q u v) r) = subst (λ y. IsSorted f (place_in f (key_in f c) m t).depth y) is (at f m xs t a.classed a.no_m (key_in f c)).hole.sorted in
-        let w = some_lowest f c EVEN (suc (place_in f (key_in f c) m t).depth) (Fork q u v) s.2 (beside_not f c (place_in f (key_in f c) m t).depth false (leaders (Fork q u v)) s.0) q refl in
-        subst (λ (y : Hung). Refiled f (dropped f (place_in f (key_in f c) m t).holder (place_in f (key_in f c) m t).link c y.holder y.link y.leader) m xs (key_in f c) xs') (sym w.1.is) record {
-          touches = even_touches f m c xs t have a.classed a.alive a.once a.there_m a.there_c a.no_m a.not_m xs' one.others inside (Fork q u v) r is w.0 w.1.place w.1.hole w.1.alone;
-          tree = _;
-          classed = even_classed f m c xs t have a.classed a.alive a.once a.there_m a.there_c a.no_m a.not_m xs' one.others inside (Fork q u v) r is w.0 w.1.place w.1.hole w.1.alone;
-        }
+        let d = (place_in f (key_in f c) m t).depth in
+        let s : IsSorted f d (Fork c (Fork q u v) r) = subst (λ y. IsSorted f d y) is (at f m xs t a.classed a.no_m (key_in f c)).hole.sorted in
+        let w = some_lowest f c EVEN (suc d) (Fork q u v) s.2 (beside_not f c d false (leaders (Fork q u v)) s.0) q refl in
+        let filed = side_filed f m c xs t have a.classed a.alive a.once a.there_m a.there_c a.no_m a.not_m xs' one.others inside false (Fork q u v) r is w.0 w.1.place w.1.hole w.1.alone in
+        subst (λ (y : Hung). Refiled f (dropped f (place_in f (key_in f c) m t).holder (place_in f (key_in f c) m t).link c y.holder y.link y.leader) m xs (key_in f c) xs') (sym w.1.is) record { touches = filed.0; tree = filed.1; classed = filed.2 }
 
 -- An atom comes before another of its class
 

@@ -1,5 +1,5 @@
 -- The tree of the first atoms of the classes of a membrane.
-use Rattle.std.proofs.Common.{◌≡◌, ◌⊎◌, ℕ, suc, Bool, true, false, List, [], ◌∷◌, ◌++◌, if◌then◌else◌, Option, Some, IsSome, refl, sym, ap, subst, ◌∙◌, inl, inr, arith}
+use Rattle.std.proofs.Common.{◌≡◌, ◌⊎◌, ℕ, suc, Bool, true, false, not, List, [], ◌∷◌, ◌++◌, if◌then◌else◌, Option, Some, IsSome, refl, sym, ap, subst, ◌∙◌, inl, inr, arith}
 use Rattle.lmn_base.specs.Lists.{In}
 use Rattle.lmn_base.proofs.Lists.{in_either}
 use Rattle.lmn_base.proofs.Truth.{bool_cases}
@@ -17,12 +17,8 @@ use Rattle.lmn_web.proofs.Reclassing.{key_same, key_true}
 pub beside_not : (f : ℕ → Option HeldCell) (l d : ℕ) (odd : Bool) (ks : List ℕ) → AreBeside f l d odd ks → In l ks → ⊥
 beside_not f l d odd ks h i = let w : true ≡ false = sym (key_same (key_in f l)) ∙ (h l i).0 in absurd cc
 
--- nothing stands on both sides
-pub sides_apart : (f : ℕ → Option HeldCell) (l d : ℕ) (us vs : List ℕ) → AreBeside f l d false us → AreBeside f l d true vs → (z : ℕ) → In z us → In z vs → ⊥
-sides_apart f l d us bs s t z i j = let w : false ≡ true = sym (s z i).1 ∙ (t z j).1 in absurd cc
-
 -- two classes that differ
-key_differs : (p q : ℕ × ℕ) → (p ≡ q → ⊥) → is_key p q ≡ false
+pub key_differs : (p q : ℕ × ℕ) → (p ≡ q → ⊥) → is_key p q ≡ false
 key_differs p q d = elim (bool_cases (is_key p q)) [ inl e ↦ absurd (d (key_true p q e)) | inr e ↦ e ]
 
 -- each first atom stands once
@@ -33,7 +29,7 @@ sorted_once f d (Fork l a b) s = (
     | inl j ↦ beside_not f l d false (leaders a) s.0 (subst (λ u. In u (leaders a)) (sym e) j)
     | inr j ↦ beside_not f l d true (leaders b) s.1 (subst (λ u. In u (leaders b)) (sym e) j)
   ]),
-  both_distinct (leaders a) (leaders b) (sorted_once f (suc d) a s.2) (sorted_once f (suc d) b s.3) (sides_apart f l d (leaders a) (leaders b) s.0 s.1),
+  both_distinct (leaders a) (leaders b) (sorted_once f (suc d) a s.2) (sorted_once f (suc d) b s.3) (λ z i j. let w : false ≡ true = sym (s.0 z i).1 ∙ (s.1 z j).1 in absurd cc),
 )
 
 -- none below another has its class
@@ -73,6 +69,67 @@ tree_kept f g first (Fork l a b) same there q =
 -- where all cells stay
 pub tree_frame : (f g : ℕ → Option HeldCell) (first : Option ℕ) (t : ClassTree) → ((l : ℕ) → In l (leaders t) → (link_in g l EVEN ≡ link_in f l EVEN) × (link_in g l ODD ≡ link_in f l ODD)) → ((b : ℕ) → IsSome (f b) → IsSome (g b)) → IsTree f first t → IsTree g first t
 tree_frame f g first t same there q = tree_kept f g first t same (λ l _. there l) q
+
+-- A tree by its sides
+
+-- a cell with u on this side, and v on the other
+abbrev pub forked : Bool → ℕ → ClassTree → ClassTree → ClassTree
+forked false l u v = Fork l u v
+forked true l u v = Fork l v u
+
+abbrev pub side : Bool → ℕ
+side false = EVEN
+side true = ODD
+
+pub side_is : (odd : Bool) (j : ℕ) → j ≡ side odd → (j ≡ EVEN) ⊎ (j ≡ ODD)
+side_is false j e = inl e
+side_is true j e = inr e
+
+pub sides_differ : (odd : Bool) → side (not odd) ≡ side odd → ⊥
+sides_differ false e = absurd (omega (arith, e))
+sides_differ true e = absurd (omega (arith, e))
+
+pub not_both : (odd : Bool) → odd ≡ not odd → ⊥
+not_both false e = absurd cc
+not_both true e = absurd cc
+
+-- what it has
+pub of_forked : (odd : Bool) (l : ℕ) (u v : ClassTree) (z : ℕ) → In z (leaders (forked odd l u v)) → (l ≡ z) ⊎ (In z (leaders u) ⊎ In z (leaders v))
+of_forked false l u v z (inl e) = inl e
+of_forked false l u v z (inr i) = inr (in_either z (leaders u) (leaders v) i)
+of_forked true l u v z (inl e) = inl e
+of_forked true l u v z (inr i) = inr (elim (in_either z (leaders v) (leaders u) i) [ inl j ↦ inr j | inr j ↦ inl j ])
+
+pub in_forked : (odd : Bool) (l : ℕ) (u v : ClassTree) (z : ℕ) → (l ≡ z) ⊎ (In z (leaders u) ⊎ In z (leaders v)) → In z (leaders (forked odd l u v))
+in_forked false l u v z (inl e) = inl e
+in_forked false l u v z (inr (inl i)) = inr (in_left z (leaders u) (leaders v) i)
+in_forked false l u v z (inr (inr i)) = inr (in_right z (leaders u) (leaders v) i)
+in_forked true l u v z (inl e) = inl e
+in_forked true l u v z (inr (inl i)) = inr (in_right z (leaders v) (leaders u) i)
+in_forked true l u v z (inr (inr i)) = inr (in_left z (leaders v) (leaders u) i)
+
+-- with what it begins
+pub top_forked : (odd : Bool) (l : ℕ) (u v : ClassTree) → top (forked odd l u v) ≡ Some l
+top_forked false l u v = refl
+top_forked true l u v = refl
+
+-- how it is sorted
+pub forked_sorted : (f : ℕ → Option HeldCell) (d : ℕ) (odd : Bool) (l : ℕ) (u v : ClassTree) → IsSorted f d (forked odd l u v) → AreBeside f l d odd (leaders u) × AreBeside f l d (not odd) (leaders v) × IsSorted f (suc d) u × IsSorted f (suc d) v
+forked_sorted f d false l u v s = s
+forked_sorted f d true l u v s = (s.1, s.0, s.3, s.2)
+
+pub sorted_forked : (f : ℕ → Option HeldCell) (d : ℕ) (odd : Bool) (l : ℕ) (u v : ClassTree) → AreBeside f l d odd (leaders u) × AreBeside f l d (not odd) (leaders v) × IsSorted f (suc d) u × IsSorted f (suc d) v → IsSorted f d (forked odd l u v)
+sorted_forked f d false l u v s = s
+sorted_forked f d true l u v s = (s.1, s.0, s.3, s.2)
+
+-- and how it hangs
+pub forked_tree : (f : ℕ → Option HeldCell) (first : Option ℕ) (odd : Bool) (l : ℕ) (u v : ClassTree) → IsTree f first (forked odd l u v) → (first ≡ Some l) × IsSome (f l) × IsTree f (link_in f l (side odd)) u × IsTree f (link_in f l (side (not odd))) v
+forked_tree f first false l u v q = q
+forked_tree f first true l u v q = (q.0, q.1, q.3, q.2)
+
+pub tree_forked : (f : ℕ → Option HeldCell) (first : Option ℕ) (odd : Bool) (l : ℕ) (u v : ClassTree) → (first ≡ Some l) × IsSome (f l) × IsTree f (link_in f l (side odd)) u × IsTree f (link_in f l (side (not odd))) v → IsTree f first (forked odd l u v)
+tree_forked f first false l u v q = q
+tree_forked f first true l u v q = (q.0, q.1, q.3, q.2)
 
 -- A tree with a hole
 
@@ -115,144 +172,84 @@ hole_here f test h k d t s = record {
   filled = λ u r c. r;
 }
 
--- one of its sides
-module _ (f : ℕ → Option HeldCell) (test : ℕ → Bool) (h k d l : ℕ) (a b : ClassTree) (w : ClassPlace) (s : IsSorted f d (Fork l a b)) (no_h : In h (leaders (Fork l a b)) → ⊥) where
-  -- a part of the even side
-  pub hole_even : ((z : ℕ) → test z ≡ true → (is_key (key_in f z) (key_in f l) ≡ false) × (is_odd (rest_at (key_in f z).0 d) ≡ false)) → Hole f test l EVEN (suc d) a w → Hole f test h k d (Fork l a b) w
-  hole_even comes r = record {
-    outer = l ∷ (r.outer ++ leaders b);
-    fill = λ u. Fork l (r.fill u) b;
-    is = ap (λ u. Fork l u b) r.is;
-    parts = λ u z i. elim i [ inl e ↦ inl (inl e) | inr j ↦ elim (in_either z (leaders (r.fill u)) (leaders b) j) [ inl x ↦ elim (r.parts u z x) [ inl y ↦ inl (inr (in_left z r.outer (leaders b) y)) | inr y ↦ inr y ] | inr x ↦ inl (inr (in_right z r.outer (leaders b) x)) ] ];
-    outs = λ u z i. elim i [ inl e ↦ inl e | inr j ↦ elim (in_either z r.outer (leaders b) j) [ inl x ↦ inr (in_left z (leaders (r.fill u)) (leaders b) (r.outs u z x)) | inr x ↦ inr (in_right z (leaders (r.fill u)) (leaders b) x) ] ];
-    ins = λ u z i. inr (in_left z (leaders (r.fill u)) (leaders b) (r.ins u z i));
-    others = λ z i. elim i [ inl e ↦ other z (λ t. let n : true ≡ false = sym (key_same (key_in f l)) ∙ ap (λ y. is_key (key_in f y) (key_in f l)) e ∙ (comes z t).0 in cc) | inr j ↦ elim (in_either z r.outer (leaders b) j) [ inl x ↦ r.others z x | inr x ↦ other z (λ t. let n : false ≡ true = sym (comes z t).1 ∙ (s.1 z x).1 in cc) ] ];
-    apart = λ z i o. elim i [ inl e ↦ not_near (subst (λ y. In y (leaders a)) (sym e) (near_part z o)) | inr j ↦ elim (in_either z r.outer (leaders b) j) [ inl x ↦ r.apart z x o | inr x ↦ both z (near_part z o) x ] ];
-    holds = elim r.holds [ inl e ↦ inr (inl (sym e.0), inl e.1) | inr o ↦ inr (inr (in_left w.holder r.outer (leaders b) o.0), o.1) ];
-    part = λ q. r.part q.2;
+-- one of its sides, near, is cut again; the other one, far, stays
+module _ (f : ℕ → Option HeldCell) (test : ℕ → Bool) (h k d l : ℕ) (odd : Bool) (near far : ClassTree) (w : ClassPlace) (s : IsSorted f d (forked odd l near far)) (no_h : In h (leaders (forked odd l near far)) → ⊥) where
+  sides : AreBeside f l d odd (leaders near) × AreBeside f l d (not odd) (leaders far) × IsSorted f (suc d) near × IsSorted f (suc d) far
+  sides = forked_sorted f d odd l near far s
+
+  pub hole_side : ((z : ℕ) → test z ≡ true → (is_key (key_in f z) (key_in f l) ≡ false) × (is_odd (rest_at (key_in f z).0 d) ≡ odd)) → Hole f test l (side odd) (suc d) near w → Hole f test h k d (forked odd l near far) w
+  hole_side comes r = record {
+    outer = l ∷ (r.outer ++ leaders far);
+    fill = λ u. forked odd l (r.fill u) far;
+    is = ap (λ u. forked odd l u far) r.is;
+    parts = λ u z i. elim (of_forked odd l (r.fill u) far z i) [
+      | inl e ↦ inl (inl e)
+      | inr j ↦ elim j [ inl x ↦ elim (r.parts u z x) [ inl y ↦ inl (inr (in_left z r.outer (leaders far) y)) | inr y ↦ inr y ] | inr x ↦ inl (inr (in_right z r.outer (leaders far) x)) ]
+    ];
+    outs = λ u z i. in_forked odd l (r.fill u) far z (elim i [ inl e ↦ inl e | inr j ↦ inr (elim (in_either z r.outer (leaders far) j) [ inl x ↦ inl (r.outs u z x) | inr x ↦ inr x ]) ]);
+    ins = λ u z i. in_forked odd l (r.fill u) far z (inr (inl (r.ins u z i)));
+    others = λ z i. elim i [
+      | inl e ↦ other z (λ t. let n : true ≡ false = sym (key_same (key_in f l)) ∙ ap (λ y. is_key (key_in f y) (key_in f l)) e ∙ (comes z t).0 in cc)
+      | inr j ↦ elim (in_either z r.outer (leaders far) j) [ inl x ↦ r.others z x | inr x ↦ other z (λ t. not_both odd (sym (comes z t).1 ∙ (sides.1 z x).1)) ]
+    ];
+    apart = λ z i o. elim i [
+      | inl e ↦ not_near (subst (λ y. In y (leaders near)) (sym e) (near_part z o))
+      | inr j ↦ elim (in_either z r.outer (leaders far) j) [ inl x ↦ r.apart z x o | inr x ↦ both z (near_part z o) x ]
+    ];
+    holds = elim r.holds [ inl e ↦ inr (inl (sym e.0), side_is odd w.link e.1) | inr o ↦ inr (inr (in_left w.holder r.outer (leaders far) o.0), o.1) ];
+    part = λ q. r.part (forked_tree f (link_in f h k) odd l near far q).2;
     sorted = r.sorted;
-    turned = λ g u there away q v. turn g u there away q v;
-    filled = λ u v c. (
-      (λ z i. elim (r.parts u z i) [
-        | inl x ↦ s.0 z (near_out z x)
-        | inr x ↦ elim (c z x) [ inl e ↦ comes z e | inr y ↦ s.0 z (near_part z y) ]
-      ]),
-      s.1,
+    turned = λ g u there away q v. turn g u there away (forked_tree f (link_in f h k) odd l near far q) v;
+    filled = λ u v c. sorted_forked f d odd l (r.fill u) far (
+      λ z i. elim (r.parts u z i) [ inl x ↦ sides.0 z (near_out z x) | inr x ↦ elim (c z x) [ inl e ↦ comes z e | inr y ↦ sides.0 z (near_part z y) ] ],
+      sides.1,
       r.filled u v c,
-      s.3,
+      sides.3,
     );
   }
     where
       other : (z : ℕ) → (test z ≡ true → ⊥) → test z ≡ false
       other z n = elim (bool_cases (test z)) [ inl e ↦ absurd (n e) | inr e ↦ e ]
 
-      near_part : (z : ℕ) → In z (leaders w.tree) → In z (leaders a)
+      near_part : (z : ℕ) → In z (leaders w.tree) → In z (leaders near)
       near_part z i = subst (λ u. In z (leaders u)) r.is (r.ins w.tree z i)
 
-      near_out : (z : ℕ) → In z r.outer → In z (leaders a)
+      near_out : (z : ℕ) → In z r.outer → In z (leaders near)
       near_out z i = subst (λ u. In z (leaders u)) r.is (r.outs w.tree z i)
 
-      not_near : In l (leaders a) → ⊥
-      not_near i = beside_not f l d false (leaders a) s.0 i
+      not_near : In l (leaders near) → ⊥
+      not_near i = beside_not f l d odd (leaders near) sides.0 i
 
-      both : (z : ℕ) → In z (leaders a) → In z (leaders b) → ⊥
-      both z i j = sides_apart f l d (leaders a) (leaders b) s.0 s.1 z i j
+      both : (z : ℕ) → In z (leaders near) → In z (leaders far) → ⊥
+      both z i j = not_both odd (sym (sides.0 z i).1 ∙ (sides.1 z j).1)
 
       -- where the part hangs
-      holder_in : (l ≡ w.holder) ⊎ In w.holder (leaders a)
+      holder_in : (l ≡ w.holder) ⊎ In w.holder (leaders near)
       holder_in = elim r.holds [ inl e ↦ inl (sym e.0) | inr o ↦ inr (near_out w.holder o.0) ]
 
       top_away : h ≡ w.holder → ⊥
-      top_away e = no_h (elim holder_in [ inl x ↦ inl (x ∙ sym e) | inr x ↦ inr (subst (λ y. In y (leaders a ++ leaders b)) (sym e) (in_left w.holder (leaders a) (leaders b) x)) ])
+      top_away e = no_h (in_forked odd l near far h (elim holder_in [ inl x ↦ inl (x ∙ sym e) | inr x ↦ inr (inl (subst (λ y. In y (leaders near)) (sym e) x)) ]))
 
-      side_away : l ≡ w.holder → ODD ≡ w.link → ⊥
-      side_away e n = elim r.holds [ inl x ↦ absurd (let y : ODD ≡ EVEN = n ∙ x.1 in omega (arith, y)) | inr o ↦ not_near (subst (λ y. In y (leaders a)) (sym e) (near_out w.holder o.0)) ]
+      side_away : l ≡ w.holder → side (not odd) ≡ w.link → ⊥
+      side_away e n = elim r.holds [ inl x ↦ sides_differ odd (n ∙ x.1) | inr o ↦ not_near (subst (λ y. In y (leaders near)) (sym e) (near_out w.holder o.0)) ]
 
-      far_away : (z : ℕ) → In z (leaders b) → z ≡ w.holder → ⊥
+      far_away : (z : ℕ) → In z (leaders far) → z ≡ w.holder → ⊥
       far_away z i e = elim holder_in [
-        | inl x ↦ beside_not f l d true (leaders b) s.1 (subst (λ y. In y (leaders b)) (e ∙ sym x) i)
-        | inr x ↦ both z (subst (λ y. In y (leaders a)) (sym e) x) i
+        | inl x ↦ beside_not f l d (not odd) (leaders far) sides.1 (subst (λ y. In y (leaders far)) (e ∙ sym x) i)
+        | inr x ↦ both z (subst (λ y. In y (leaders near)) (sym e) x) i
       ]
 
-      lift : (c j : ℕ) → Holds l EVEN r.outer c j → Holds h k (l ∷ (r.outer ++ leaders b)) c j
-      lift c j o = elim o [ inl e ↦ inr (inl (sym e.0), inl e.1) | inr i ↦ inr (inr (in_left c r.outer (leaders b) i.0), i.1) ]
+      lift : (c j : ℕ) → Holds l (side odd) r.outer c j → Holds h k (l ∷ (r.outer ++ leaders far)) c j
+      lift c j o = elim o [ inl e ↦ inr (inl (sym e.0), side_is odd j e.1) | inr i ↦ inr (inr (in_left c r.outer (leaders far) i.0), i.1) ]
 
-      turn : (g : ℕ → Option HeldCell) (u : ClassTree) → ((c : ℕ) → IsSome (f c) → IsSome (g c)) → ((c j : ℕ) → Holds h k (l ∷ (r.outer ++ leaders b)) c j → (c ≡ w.holder → j ≡ w.link → ⊥) → link_in g c j ≡ link_in f c j)
-          → IsTree f (link_in f h k) (Fork l a b) → IsTree g (link_in g w.holder w.link) u → IsTree g (link_in g h k) (Fork l (r.fill u) b)
-      turn g u there away q v = (
-        away h k (inl (refl, refl)) (λ e _. top_away e) ∙ q.0,
-        there l q.1,
-        r.turned g u there (λ c j o n. away c j (lift c j o) n) q.2 v,
-        subst (λ o. IsTree g o b) (sym (away l ODD (inr (inl refl, inr refl)) side_away)) (tree_frame f g (link_in f l ODD) b (λ z i. (away z EVEN (inr (inr (in_right z r.outer (leaders b) i), inl refl)) (λ e _. far_away z i e), away z ODD (inr (inr (in_right z r.outer (leaders b) i), inr refl)) (λ e _. far_away z i e))) there q.3),
-      )
-
-  -- a part of the odd side
-  pub hole_odd : ((z : ℕ) → test z ≡ true → (is_key (key_in f z) (key_in f l) ≡ false) × (is_odd (rest_at (key_in f z).0 d) ≡ true)) → Hole f test l ODD (suc d) b w → Hole f test h k d (Fork l a b) w
-  hole_odd comes r = record {
-    outer = l ∷ (r.outer ++ leaders a);
-    fill = λ u. Fork l a (r.fill u);
-    is = ap (λ u. Fork l a u) r.is;
-    parts = λ u z i. elim i [ inl e ↦ inl (inl e) | inr j ↦ elim (in_either z (leaders a) (leaders (r.fill u)) j) [ inl x ↦ inl (inr (in_right z r.outer (leaders a) x)) | inr x ↦ elim (r.parts u z x) [ inl y ↦ inl (inr (in_left z r.outer (leaders a) y)) | inr y ↦ inr y ] ] ];
-    outs = λ u z i. elim i [ inl e ↦ inl e | inr j ↦ elim (in_either z r.outer (leaders a) j) [ inl x ↦ inr (in_right z (leaders a) (leaders (r.fill u)) (r.outs u z x)) | inr x ↦ inr (in_left z (leaders a) (leaders (r.fill u)) x) ] ];
-    ins = λ u z i. inr (in_right z (leaders a) (leaders (r.fill u)) (r.ins u z i));
-    others = λ z i. elim i [ inl e ↦ other z (λ t. let n : true ≡ false = sym (key_same (key_in f l)) ∙ ap (λ y. is_key (key_in f y) (key_in f l)) e ∙ (comes z t).0 in cc) | inr j ↦ elim (in_either z r.outer (leaders a) j) [ inl x ↦ r.others z x | inr x ↦ other z (λ t. let n : true ≡ false = sym (comes z t).1 ∙ (s.0 z x).1 in cc) ] ];
-    apart = λ z i o. elim i [ inl e ↦ not_near (subst (λ y. In y (leaders b)) (sym e) (near_part z o)) | inr j ↦ elim (in_either z r.outer (leaders a) j) [ inl x ↦ r.apart z x o | inr x ↦ both z (near_part z o) x ] ];
-    holds = elim r.holds [ inl e ↦ inr (inl (sym e.0), inr e.1) | inr o ↦ inr (inr (in_left w.holder r.outer (leaders a) o.0), o.1) ];
-    part = λ q. r.part q.3;
-    sorted = r.sorted;
-    turned = λ g u there away q v. turn g u there away q v;
-    filled = λ u v c. (
-      s.0,
-      (λ z i. elim (r.parts u z i) [
-        | inl x ↦ s.1 z (near_out z x)
-        | inr x ↦ elim (c z x) [ inl e ↦ comes z e | inr y ↦ s.1 z (near_part z y) ]
-      ]),
-      s.2,
-      r.filled u v c,
-    );
-  }
-    where
-      other : (z : ℕ) → (test z ≡ true → ⊥) → test z ≡ false
-      other z n = elim (bool_cases (test z)) [ inl e ↦ absurd (n e) | inr e ↦ e ]
-
-      near_part : (z : ℕ) → In z (leaders w.tree) → In z (leaders b)
-      near_part z i = subst (λ u. In z (leaders u)) r.is (r.ins w.tree z i)
-
-      near_out : (z : ℕ) → In z r.outer → In z (leaders b)
-      near_out z i = subst (λ u. In z (leaders u)) r.is (r.outs w.tree z i)
-
-      not_near : In l (leaders b) → ⊥
-      not_near i = beside_not f l d true (leaders b) s.1 i
-
-      both : (z : ℕ) → In z (leaders b) → In z (leaders a) → ⊥
-      both z i j = sides_apart f l d (leaders a) (leaders b) s.0 s.1 z j i
-
-      -- where the part hangs
-      holder_in : (l ≡ w.holder) ⊎ In w.holder (leaders b)
-      holder_in = elim r.holds [ inl e ↦ inl (sym e.0) | inr o ↦ inr (near_out w.holder o.0) ]
-
-      top_away : h ≡ w.holder → ⊥
-      top_away e = no_h (elim holder_in [ inl x ↦ inl (x ∙ sym e) | inr x ↦ inr (subst (λ y. In y (leaders a ++ leaders b)) (sym e) (in_right w.holder (leaders a) (leaders b) x)) ])
-
-      side_away : l ≡ w.holder → EVEN ≡ w.link → ⊥
-      side_away e n = elim r.holds [ inl x ↦ absurd (let y : EVEN ≡ ODD = n ∙ x.1 in omega (arith, y)) | inr o ↦ not_near (subst (λ y. In y (leaders b)) (sym e) (near_out w.holder o.0)) ]
-
-      far_away : (z : ℕ) → In z (leaders a) → z ≡ w.holder → ⊥
-      far_away z i e = elim holder_in [
-        | inl x ↦ beside_not f l d false (leaders a) s.0 (subst (λ y. In y (leaders a)) (e ∙ sym x) i)
-        | inr x ↦ both z (subst (λ y. In y (leaders b)) (sym e) x) i
-      ]
-
-      lift : (c j : ℕ) → Holds l ODD r.outer c j → Holds h k (l ∷ (r.outer ++ leaders a)) c j
-      lift c j o = elim o [ inl e ↦ inr (inl (sym e.0), inr e.1) | inr i ↦ inr (inr (in_left c r.outer (leaders a) i.0), i.1) ]
-
-      turn : (g : ℕ → Option HeldCell) (u : ClassTree) → ((c : ℕ) → IsSome (f c) → IsSome (g c)) → ((c j : ℕ) → Holds h k (l ∷ (r.outer ++ leaders a)) c j → (c ≡ w.holder → j ≡ w.link → ⊥) → link_in g c j ≡ link_in f c j)
-          → IsTree f (link_in f h k) (Fork l a b) → IsTree g (link_in g w.holder w.link) u → IsTree g (link_in g h k) (Fork l a (r.fill u))
-      turn g u there away q v = (
-        away h k (inl (refl, refl)) (λ e _. top_away e) ∙ q.0,
-        there l q.1,
-        subst (λ o. IsTree g o a) (sym (away l EVEN (inr (inl refl, inl refl)) side_away)) (tree_frame f g (link_in f l EVEN) a (λ z i. (away z EVEN (inr (inr (in_right z r.outer (leaders a) i), inl refl)) (λ e _. far_away z i e), away z ODD (inr (inr (in_right z r.outer (leaders a) i), inr refl)) (λ e _. far_away z i e))) there q.2),
-        r.turned g u there (λ c j o n. away c j (lift c j o) n) q.3 v,
+      turn : (g : ℕ → Option HeldCell) (u : ClassTree) → ((c : ℕ) → IsSome (f c) → IsSome (g c)) → ((c j : ℕ) → Holds h k (l ∷ (r.outer ++ leaders far)) c j → (c ≡ w.holder → j ≡ w.link → ⊥) → link_in g c j ≡ link_in f c j)
+          → (link_in f h k ≡ Some l) × IsSome (f l) × IsTree f (link_in f l (side odd)) near × IsTree f (link_in f l (side (not odd))) far → IsTree g (link_in g w.holder w.link) u → IsTree g (link_in g h k) (forked odd l (r.fill u) far)
+      turn g u there away q v = tree_forked g (link_in g h k) odd l (r.fill u) far (
+          away h k (inl (refl, refl)) (λ e _. top_away e) ∙ q.0,
+          there l q.1,
+          r.turned g u there (λ c j o n. away c j (lift c j o) n) q.2 v,
+          subst (λ o. IsTree g o far) (sym (away l (side (not odd)) (inr (inl refl, side_is (not odd) (side (not odd)) refl)) side_away))
+              (tree_frame f g (link_in f l (side (not odd))) far (λ z i. (away z EVEN (inr (inr (in_right z r.outer (leaders far) i), inl refl)) (λ e _. far_away z i e), away z ODD (inr (inr (in_right z r.outer (leaders far) i), inr refl)) (λ e _. far_away z i e))) there q.3),
       )
 
 -- Where a class is looked for
@@ -277,8 +274,8 @@ placed f p h k d (Fork l a b) s no_h =
     by : (x : Bool) → is_key (key_in f l) p ≡ x → (y : Bool) → is_odd (rest_at p.0 d) ≡ y → Placed f p l EVEN (suc d) a (class_place f p l EVEN (suc d) a) → Placed f p l ODD (suc d) b (class_place f p l ODD (suc d) b)
         → Placed f p h k d (Fork l a b) (if x then record { holder = h; link = k; depth = d; tree = Fork l a b } else if y then class_place f p l ODD (suc d) b else class_place f p l EVEN (suc d) a)
     by true e y o r q = record { hole = hole_here f (λ z. is_key (key_in f z) p) h k d (Fork l a b) s; own = λ j n. let w : l ≡ j = cc in ap (λ z. is_key (key_in f z) p) (sym w) ∙ e }
-    by false e true o r q = record { hole = hole_odd f (λ z. is_key (key_in f z) p) h k d l a b (class_place f p l ODD (suc d) b) s no_h (comes true e o) q.hole; own = q.own }
-    by false e false o r q = record { hole = hole_even f (λ z. is_key (key_in f z) p) h k d l a b (class_place f p l EVEN (suc d) a) s no_h (comes false e o) r.hole; own = r.own }
+    by false e true o r q = record { hole = hole_side f (λ z. is_key (key_in f z) p) h k d l true b a (class_place f p l ODD (suc d) b) s no_h (comes true e o) q.hole; own = q.own }
+    by false e false o r q = record { hole = hole_side f (λ z. is_key (key_in f z) p) h k d l false a b (class_place f p l EVEN (suc d) a) s no_h (comes false e o) r.hole; own = r.own }
 
 -- One with none below it
 
@@ -294,7 +291,7 @@ some_lowest f h k d Bare s no_h r e = absurd cc
 some_lowest f h k d (Fork r Bare Bare) s no_h z e = (r, record { place = record { holder = h; link = k; depth = d; tree = Fork r Bare Bare }; hole = hole_here f (λ z. false) h k d (Fork r Bare Bare) s; alone = refl; is = refl })
 some_lowest f h k d (Fork r Bare (Fork q u v)) s no_h z e =
     let w = some_lowest f r ODD (suc d) (Fork q u v) s.3 (beside_not f r d true (leaders (Fork q u v)) s.1) q refl in
-    (w.0, record { place = w.1.place; hole = hole_odd f (λ z. false) h k d r Bare (Fork q u v) w.1.place s no_h (λ z e. absurd cc) w.1.hole; alone = w.1.alone; is = w.1.is })
+    (w.0, record { place = w.1.place; hole = hole_side f (λ z. false) h k d r true (Fork q u v) Bare w.1.place s no_h (λ z e. absurd cc) w.1.hole; alone = w.1.alone; is = w.1.is })
 some_lowest f h k d (Fork r (Fork q u v) b) s no_h z e =
     let w = some_lowest f r EVEN (suc d) (Fork q u v) s.2 (beside_not f r d false (leaders (Fork q u v)) s.0) q refl in
-    (w.0, record { place = w.1.place; hole = hole_even f (λ z. false) h k d r (Fork q u v) b w.1.place s no_h (λ z e. absurd cc) w.1.hole; alone = w.1.alone; is = w.1.is })
+    (w.0, record { place = w.1.place; hole = hole_side f (λ z. false) h k d r false (Fork q u v) b w.1.place s no_h (λ z e. absurd cc) w.1.hole; alone = w.1.alone; is = w.1.is })
