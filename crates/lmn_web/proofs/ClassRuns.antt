@@ -2,7 +2,6 @@
 use Rattle.std.proofs.Common.{◌≡◌, ◌≢◌, ◌⊎◌, ℕ, suc, Bool, true, false, not, cond, List, [], ◌∷◌, ◌++◌, length, Option, Some, None, IsSome, refl, sym, ap, subst, ◌∙◌, inl, inr, arith}
 use Rattle.std.specs.List.{filter}
 use Rattle.lmn_base.specs.Lists.{In}
-use Rattle.lmn_base.proofs.Truth.{bool_cases}
 use Rattle.lmn_base.proofs.Lists.{in_either}
 use Rattle.lmn_heap.specs.Lists.{Distinct}
 use Rattle.lmn_heap.proofs.ListLemmas.{each_in, each_of, in_left, in_right, apart}
@@ -936,35 +935,35 @@ module _ (f : ℕ → Option HeldCell) (m c : ℕ) (xs : List ℕ) (t : ClassTre
       → Touches f (dropped f (place_in f p m t).holder (place_in f p m t).link c w.holder w.link (Some l)) m xs p × (u : ClassTree) × AreClassed (dropped f (place_in f p m t).holder (place_in f p m t).link c w.holder w.link (Some l)) m xs' u
   side_filed xs' lists inside false near far is_x l w hole alone = (
     leaf_touches xs' lists inside near far is_x w.holder w.link l (hole.fill Bare) far
-      (λ z i. elim (in_either z (leaders (hole.fill Bare)) (leaders far) i) [ inl y ↦ in_left z (leaders near) (leaders far) (below_n xs' lists inside false near far is_x l w hole alone z y) | inr y ↦ in_right z (leaders near) (leaders far) y ])
-      (λ z i. elim (in_either z (leaders near) (leaders far) i) [ inl y ↦ elim (all_n xs' lists inside false near far is_x l w hole alone z y) [ inl s ↦ inl s | inr o ↦ inr (in_left z (leaders (hole.fill Bare)) (leaders far) o) ] | inr y ↦ inr (in_right z (leaders (hole.fill Bare)) (leaders far) y) ])
-      (in_left l (leaders near) (leaders far) (leaf_near xs' lists inside false near far is_x l w hole alone))
-      (λ i. elim (in_either l (leaders (hole.fill Bare)) (leaders far) i) [ inl y ↦ gone_n xs' lists inside false near far is_x l w hole alone y | inr y ↦ both xs' lists inside false near far is_x l w hole alone l (leaf_near xs' lists inside false near far is_x l w hole alone) y ])
-      (holds_n xs' lists inside false near far is_x l w hole alone) (not_m_n xs' lists inside false near far is_x l w hole alone)
-      (near_tree xs' lists inside false near far is_x l w hole alone) (far_tree xs' lists inside false near far is_x l w hole alone) (side_sorted xs' lists inside false near far is_x l w hole alone),
+        (λ z i. elim (in_either z (leaders (hole.fill Bare)) (leaders far) i) [ inl y ↦ in_left z (leaders near) (leaders far) (below_n xs' lists inside false near far is_x l w hole alone z y) | inr y ↦ in_right z (leaders near) (leaders far) y ])
+        (λ z i. elim (in_either z (leaders near) (leaders far) i) [ inl y ↦ elim (all_n xs' lists inside false near far is_x l w hole alone z y) [ inl s ↦ inl s | inr o ↦ inr (in_left z (leaders (hole.fill Bare)) (leaders far) o) ] | inr y ↦ inr (in_right z (leaders (hole.fill Bare)) (leaders far) y) ])
+        (in_left l (leaders near) (leaders far) (leaf_near xs' lists inside false near far is_x l w hole alone))
+        (λ i. elim (in_either l (leaders (hole.fill Bare)) (leaders far) i) [ inl y ↦ gone_n xs' lists inside false near far is_x l w hole alone y | inr y ↦ both xs' lists inside false near far is_x l w hole alone l (leaf_near xs' lists inside false near far is_x l w hole alone) y ])
+        (holds_n xs' lists inside false near far is_x l w hole alone) (not_m_n xs' lists inside false near far is_x l w hole alone)
+        (near_tree xs' lists inside false near far is_x l w hole alone) (far_tree xs' lists inside false near far is_x l w hole alone) (side_sorted xs' lists inside false near far is_x l w hole alone),
     _,
     leaf_classed xs' lists inside near far is_x w.holder w.link l (hole.fill Bare) far
-      (λ z i. elim (in_either z (leaders (hole.fill Bare)) (leaders far) i) [ inl y ↦ in_left z (leaders near) (leaders far) (below_n xs' lists inside false near far is_x l w hole alone z y) | inr y ↦ in_right z (leaders near) (leaders far) y ])
-      (λ z i. elim (in_either z (leaders near) (leaders far) i) [ inl y ↦ elim (all_n xs' lists inside false near far is_x l w hole alone z y) [ inl s ↦ inl s | inr o ↦ inr (in_left z (leaders (hole.fill Bare)) (leaders far) o) ] | inr y ↦ inr (in_right z (leaders (hole.fill Bare)) (leaders far) y) ])
-      (in_left l (leaders near) (leaders far) (leaf_near xs' lists inside false near far is_x l w hole alone))
-      (λ i. elim (in_either l (leaders (hole.fill Bare)) (leaders far) i) [ inl y ↦ gone_n xs' lists inside false near far is_x l w hole alone y | inr y ↦ both xs' lists inside false near far is_x l w hole alone l (leaf_near xs' lists inside false near far is_x l w hole alone) y ])
-      (holds_n xs' lists inside false near far is_x l w hole alone) (not_m_n xs' lists inside false near far is_x l w hole alone)
-      (near_tree xs' lists inside false near far is_x l w hole alone) (far_tree xs' lists inside false near far is_x l w hole alone) (side_sorted xs' lists inside false near far is_x l w hole alone),
+        (λ z i. elim (in_either z (leaders (hole.fill Bare)) (leaders far) i) [ inl y ↦ in_left z (leaders near) (leaders far) (below_n xs' lists inside false near far is_x l w hole alone z y) | inr y ↦ in_right z (leaders near) (leaders far) y ])
+        (λ z i. elim (in_either z (leaders near) (leaders far) i) [ inl y ↦ elim (all_n xs' lists inside false near far is_x l w hole alone z y) [ inl s ↦ inl s | inr o ↦ inr (in_left z (leaders (hole.fill Bare)) (leaders far) o) ] | inr y ↦ inr (in_right z (leaders (hole.fill Bare)) (leaders far) y) ])
+        (in_left l (leaders near) (leaders far) (leaf_near xs' lists inside false near far is_x l w hole alone))
+        (λ i. elim (in_either l (leaders (hole.fill Bare)) (leaders far) i) [ inl y ↦ gone_n xs' lists inside false near far is_x l w hole alone y | inr y ↦ both xs' lists inside false near far is_x l w hole alone l (leaf_near xs' lists inside false near far is_x l w hole alone) y ])
+        (holds_n xs' lists inside false near far is_x l w hole alone) (not_m_n xs' lists inside false near far is_x l w hole alone)
+        (near_tree xs' lists inside false near far is_x l w hole alone) (far_tree xs' lists inside false near far is_x l w hole alone) (side_sorted xs' lists inside false near far is_x l w hole alone),
   )
   side_filed xs' lists inside true near far is_x l w hole alone = (
     leaf_touches xs' lists inside far near is_x w.holder w.link l far (hole.fill Bare)
-      (λ z i. elim (in_either z (leaders far) (leaders (hole.fill Bare)) i) [ inl y ↦ in_left z (leaders far) (leaders near) y | inr y ↦ in_right z (leaders far) (leaders near) (below_n xs' lists inside true near far is_x l w hole alone z y) ])
-      (λ z i. elim (in_either z (leaders far) (leaders near) i) [ inl y ↦ inr (in_left z (leaders far) (leaders (hole.fill Bare)) y) | inr y ↦ elim (all_n xs' lists inside true near far is_x l w hole alone z y) [ inl s ↦ inl s | inr o ↦ inr (in_right z (leaders far) (leaders (hole.fill Bare)) o) ] ])
-      (in_right l (leaders far) (leaders near) (leaf_near xs' lists inside true near far is_x l w hole alone))
-      (λ i. elim (in_either l (leaders far) (leaders (hole.fill Bare)) i) [ inl y ↦ both xs' lists inside true near far is_x l w hole alone l (leaf_near xs' lists inside true near far is_x l w hole alone) y | inr y ↦ gone_n xs' lists inside true near far is_x l w hole alone y ])
-      (holds_n xs' lists inside true near far is_x l w hole alone) (not_m_n xs' lists inside true near far is_x l w hole alone)
-      (far_tree xs' lists inside true near far is_x l w hole alone) (near_tree xs' lists inside true near far is_x l w hole alone) (side_sorted xs' lists inside true near far is_x l w hole alone),
+        (λ z i. elim (in_either z (leaders far) (leaders (hole.fill Bare)) i) [ inl y ↦ in_left z (leaders far) (leaders near) y | inr y ↦ in_right z (leaders far) (leaders near) (below_n xs' lists inside true near far is_x l w hole alone z y) ])
+        (λ z i. elim (in_either z (leaders far) (leaders near) i) [ inl y ↦ inr (in_left z (leaders far) (leaders (hole.fill Bare)) y) | inr y ↦ elim (all_n xs' lists inside true near far is_x l w hole alone z y) [ inl s ↦ inl s | inr o ↦ inr (in_right z (leaders far) (leaders (hole.fill Bare)) o) ] ])
+        (in_right l (leaders far) (leaders near) (leaf_near xs' lists inside true near far is_x l w hole alone))
+        (λ i. elim (in_either l (leaders far) (leaders (hole.fill Bare)) i) [ inl y ↦ both xs' lists inside true near far is_x l w hole alone l (leaf_near xs' lists inside true near far is_x l w hole alone) y | inr y ↦ gone_n xs' lists inside true near far is_x l w hole alone y ])
+        (holds_n xs' lists inside true near far is_x l w hole alone) (not_m_n xs' lists inside true near far is_x l w hole alone)
+        (far_tree xs' lists inside true near far is_x l w hole alone) (near_tree xs' lists inside true near far is_x l w hole alone) (side_sorted xs' lists inside true near far is_x l w hole alone),
     _,
     leaf_classed xs' lists inside far near is_x w.holder w.link l far (hole.fill Bare)
-      (λ z i. elim (in_either z (leaders far) (leaders (hole.fill Bare)) i) [ inl y ↦ in_left z (leaders far) (leaders near) y | inr y ↦ in_right z (leaders far) (leaders near) (below_n xs' lists inside true near far is_x l w hole alone z y) ])
-      (λ z i. elim (in_either z (leaders far) (leaders near) i) [ inl y ↦ inr (in_left z (leaders far) (leaders (hole.fill Bare)) y) | inr y ↦ elim (all_n xs' lists inside true near far is_x l w hole alone z y) [ inl s ↦ inl s | inr o ↦ inr (in_right z (leaders far) (leaders (hole.fill Bare)) o) ] ])
-      (in_right l (leaders far) (leaders near) (leaf_near xs' lists inside true near far is_x l w hole alone))
-      (λ i. elim (in_either l (leaders far) (leaders (hole.fill Bare)) i) [ inl y ↦ both xs' lists inside true near far is_x l w hole alone l (leaf_near xs' lists inside true near far is_x l w hole alone) y | inr y ↦ gone_n xs' lists inside true near far is_x l w hole alone y ])
-      (holds_n xs' lists inside true near far is_x l w hole alone) (not_m_n xs' lists inside true near far is_x l w hole alone)
-      (far_tree xs' lists inside true near far is_x l w hole alone) (near_tree xs' lists inside true near far is_x l w hole alone) (side_sorted xs' lists inside true near far is_x l w hole alone),
+        (λ z i. elim (in_either z (leaders far) (leaders (hole.fill Bare)) i) [ inl y ↦ in_left z (leaders far) (leaders near) y | inr y ↦ in_right z (leaders far) (leaders near) (below_n xs' lists inside true near far is_x l w hole alone z y) ])
+        (λ z i. elim (in_either z (leaders far) (leaders near) i) [ inl y ↦ inr (in_left z (leaders far) (leaders (hole.fill Bare)) y) | inr y ↦ elim (all_n xs' lists inside true near far is_x l w hole alone z y) [ inl s ↦ inl s | inr o ↦ inr (in_right z (leaders far) (leaders (hole.fill Bare)) o) ] ])
+        (in_right l (leaders far) (leaders near) (leaf_near xs' lists inside true near far is_x l w hole alone))
+        (λ i. elim (in_either l (leaders far) (leaders (hole.fill Bare)) i) [ inl y ↦ both xs' lists inside true near far is_x l w hole alone l (leaf_near xs' lists inside true near far is_x l w hole alone) y | inr y ↦ gone_n xs' lists inside true near far is_x l w hole alone y ])
+        (holds_n xs' lists inside true near far is_x l w hole alone) (not_m_n xs' lists inside true near far is_x l w hole alone)
+        (far_tree xs' lists inside true near far is_x l w hole alone) (near_tree xs' lists inside true near far is_x l w hole alone) (side_sorted xs' lists inside true near far is_x l w hole alone),
   )

@@ -245,11 +245,11 @@ module _ (f : ℕ → Option HeldCell) (test : ℕ → Bool) (h k d l : ℕ) (od
       turn : (g : ℕ → Option HeldCell) (u : ClassTree) → ((c : ℕ) → IsSome (f c) → IsSome (g c)) → ((c j : ℕ) → Holds h k (l ∷ (r.outer ++ leaders far)) c j → (c ≡ w.holder → j ≡ w.link → ⊥) → link_in g c j ≡ link_in f c j)
           → (link_in f h k ≡ Some l) × IsSome (f l) × IsTree f (link_in f l (side odd)) near × IsTree f (link_in f l (side (not odd))) far → IsTree g (link_in g w.holder w.link) u → IsTree g (link_in g h k) (forked odd l (r.fill u) far)
       turn g u there away q v = tree_forked g (link_in g h k) odd l (r.fill u) far (
-          away h k (inl (refl, refl)) (λ e _. top_away e) ∙ q.0,
-          there l q.1,
-          r.turned g u there (λ c j o n. away c j (lift c j o) n) q.2 v,
-          subst (λ o. IsTree g o far) (sym (away l (side (not odd)) (inr (inl refl, side_is (not odd) (side (not odd)) refl)) side_away))
-              (tree_frame f g (link_in f l (side (not odd))) far (λ z i. (away z EVEN (inr (inr (in_right z r.outer (leaders far) i), inl refl)) (λ e _. far_away z i e), away z ODD (inr (inr (in_right z r.outer (leaders far) i), inr refl)) (λ e _. far_away z i e))) there q.3),
+        away h k (inl (refl, refl)) (λ e _. top_away e) ∙ q.0,
+        there l q.1,
+        r.turned g u there (λ c j o n. away c j (lift c j o) n) q.2 v,
+        subst (λ o. IsTree g o far) (sym (away l (side (not odd)) (inr (inl refl, side_is (not odd) (side (not odd)) refl)) side_away))
+            (tree_frame f g (link_in f l (side (not odd))) far (λ z i. (away z EVEN (inr (inr (in_right z r.outer (leaders far) i), inl refl)) (λ e _. far_away z i e), away z ODD (inr (inr (in_right z r.outer (leaders far) i), inr refl)) (λ e _. far_away z i e))) there q.3),
       )
 
 -- Where a class is looked for

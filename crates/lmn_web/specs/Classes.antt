@@ -19,11 +19,11 @@ abbrev pub CLASS_PREV : ℕ
 CLASS_PREV = 4
 
 abbrev pub CLASS_LAST : ℕ
-CLASS_LAST = 6
+CLASS_LAST = 5
 
 -- the links of the first one of a class to those of other classes, on its even and on its odd side
 abbrev pub EVEN : ℕ
-EVEN = 5
+EVEN = 6
 
 abbrev pub ODD : ℕ
 ODD = 7

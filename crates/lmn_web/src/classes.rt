@@ -33,10 +33,10 @@ const CLASS_NEXT: usize = 3;
 // The links of an atom to the previous one of its class, and of the first one of a class to the last one of it.
 const CLASS_PREV: usize = 4;
 
-const CLASS_LAST: usize = 6;
+const CLASS_LAST: usize = 5;
 
 // The links of the first one of a class to those of other classes, on its even and on its odd side.
-const EVEN: usize = 5;
+const EVEN: usize = 6;
 
 const ODD: usize = 7;
 
@@ -73,7 +73,7 @@ fn has_class(cells: &Cells, c: Cell, high: u64, arity: u64) -> bool
 
 // The link of a first atom on the side to which a number goes.
 fn side(rest: u64) -> usize
-    ensures { result ≡ (if is_odd rest then 7 else 5) }
+    ensures { result ≡ (if is_odd rest then 7 else 6) }
 {
     if rest % 2 == 1 { ODD } else { EVEN }
 }
@@ -113,7 +113,7 @@ fn find(cells: &Cells, m: Cell, high: u64, arity: u64) -> Place
 fn below(cells: &Cells, c: Cell) -> Place
     requires there { IsSome (cells_by cells.now (cell_id c)) }
     ensures holder { result.holder ≡ c }
-    ensures link { result.link ≡ (if is_some (link_in (cells_by cells.now) (cell_id c) 5) then 5 else 7) }
+    ensures link { result.link ≡ (if is_some (link_in (cells_by cells.now) (cell_id c) 6) then 6 else 7) }
     ensures leader { option_map cell_id result.leader ≡ link_in (cells_by cells.now) (cell_id c) result.link }
 {
     let even = cells.link(c, EVEN);
@@ -135,9 +135,9 @@ fn below(cells: &Cells, c: Cell) -> Place
 // A first atom that has none below it, from those below another. None where that one has none.
 fn lowest(cells: &Cells, c: Cell) -> Place
     requires there { IsSome (cells_by cells.now (cell_id c)) }
-    requires tree { (a b : ClassTree) × IsTree (cells_by cells.now) (link_in (cells_by cells.now) (cell_id c) 5) a × IsTree (cells_by cells.now) (link_in (cells_by cells.now) (cell_id c) 7) b
+    requires tree { (a b : ClassTree) × IsTree (cells_by cells.now) (link_in (cells_by cells.now) (cell_id c) 6) a × IsTree (cells_by cells.now) (link_in (cells_by cells.now) (cell_id c) 7) b
         × (d : ℕ) × IsSorted (cells_by cells.now) d a × IsSorted (cells_by cells.now) d b }
-    ensures { (a b : ClassTree) → IsTree (cells_by cells.now) (link_in (cells_by cells.now) (cell_id c) 5) a → IsTree (cells_by cells.now) (link_in (cells_by cells.now) (cell_id c) 7) b →
+    ensures { (a b : ClassTree) → IsTree (cells_by cells.now) (link_in (cells_by cells.now) (cell_id c) 6) a → IsTree (cells_by cells.now) (link_in (cells_by cells.now) (cell_id c) 7) b →
         let w = lowest_below (cell_id c) a b in (cell_id result.holder ≡ w.holder) × (result.link ≡ w.link) × (option_map cell_id result.leader ≡ w.leader) }
 {
     let mut place = below(cells, c);
