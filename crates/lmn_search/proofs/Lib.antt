@@ -14,6 +14,7 @@ mod FulfillingLemmas
 mod SearchLemmas
 mod ChoosingLemmas
 mod EmbeddingLemmas
+mod AheadLemmas
 mod LyingLemmas
 mod BackLemmas
 mod LeastLemmas

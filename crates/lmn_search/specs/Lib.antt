@@ -10,4 +10,5 @@ pub mod Closing
 pub mod Holding
 pub mod Meeting
 pub mod Choosing
+pub mod Ahead
 pub mod Finding

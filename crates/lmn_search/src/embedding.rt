@@ -11,6 +11,7 @@ ghost use Rattle.lmn_search.specs.Binding.{after_all};
 ghost use Rattle.lmn_search.specs.Finding.{images};
 ghost use Rattle.lmn_search.specs.Holding.{HasRoom};
 
+use crate::ahead::holds_functors;
 use crate::head::Head;
 use crate::known::Known;
 use crate::meeting::Fulfilled;
@@ -99,6 +100,9 @@ pub fn least(
     ensures known { IfOk result (λ o. IfSome o (λ found. (x : ℕ) →
         integer_named (heap_of flat.now) (after_all (heap_of flat.now) (meaning items.now (images membrane found)) guard.now) x ≡ value_beside found.names.items found.values.items x)) }
 {
+    if !holds_functors(flat, 0, membrane, items) {
+        return Ok(None);
+    }
     let head = Head::of(alloc, items)?;
     let mut placed = Placed {
         home: membrane,

@@ -1,6 +1,7 @@
 //! The least embedding of a rule's head by plain search over the tables of a solid: no store, no machine, no code.
 #![tactic(auto)]
 
+mod ahead;
 mod below;
 mod closed;
 mod embedding;

@@ -7,6 +7,7 @@ ghost use Rattle.lmn_flat.specs.Flats.{heap_of};
 ghost use Rattle.lmn_search.specs.Choosing.{Allowed, Answers, AnswersAmong, AnswersWith, IsSearchable, Sits, with_atom, with_membrane};
 ghost use Rattle.lmn_search.specs.Holding.{HasRoom};
 
+use crate::ahead::holds_functors;
 use crate::fits::links_fit;
 use crate::head::Head;
 use crate::meeting::{Fulfilled, fulfil};
@@ -112,7 +113,7 @@ fn try_atoms(
     Ok(None)
 }
 
-/// Goes on with a membrane for the next image, where it is none yet.
+/// Goes on with a membrane for the next image, where it is none yet and holds the functors of the items that stand in it.
 #[cycle(search)]
 fn try_membrane(
     alloc: Global,
@@ -132,6 +133,9 @@ fn try_membrane(
     ensures answers { IfOk result (AnswersWith (heap_of flat.now) head.now guard.now rest.now (In membrane placed.old.membranes → ⊥) (with_membrane placed.old membrane) placed.old placed.new) }
 {
     if has(placed.membranes.as_slice(), membrane) {
+        return Ok(None);
+    }
+    if !holds_functors(flat, placed.membranes.len() + 1, membrane, rest) {
         return Ok(None);
     }
     placed.membranes.push(membrane)?;

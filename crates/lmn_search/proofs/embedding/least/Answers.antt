@@ -2,6 +2,8 @@ use Rattle.std.proofs.Common.{sym, subst}
 use Rattle.lmn_flat.specs.Flats.{heap_of}
 use Rattle.lmn_search.specs.Choosing.{Answers, Sits}
 use Rattle.lmn_search.specs.declared.placed.Placed.{Placed}
+use Rattle.lmn_search.proofs.AheadLemmas.{embeds_ahead}
+use Rattle.lmn_search.proofs.PairingLemmas.{port_differs}
 use Rattle.lmn_search.proofs.LeastLemmas.{integers, is_least, nothing, searchable, sits_first, started}
 use Rattle.lmn_search.proofs.embedding.least.Goals as goal
 
@@ -25,3 +27,6 @@ returns-in-Some-clause-known c =
 
 pub returns-clause-none : goal.returns-clause-none
 returns-clause-none c = λ e. nothing (heap_of c.args.flat.now) c.requires.valid c.args.items.now c.in_ok-head.head c.in_ok-head.ensures c.requires.head c.args.guard.now c.args.membrane c.search.new.placed c.in_ok-fulfilled.field-0 c.in-None.is (subst (λ (z : Placed). Answers (heap_of c.args.flat.now) c.in_ok-head.head c.args.guard.now c.args.items.now z c.search.new.placed c.in_ok-fulfilled.field-0) (started c.args.membrane c.new.result c.new-2.result c.new.ensures c.new-2.ensures) c.in_ok-fulfilled.ensures.answers)
+
+pub returns-then-not-holds_functors-clause-none : goal.returns-then-not-holds_functors-clause-none
+returns-then-not-holds_functors-clause-none c = λ e f g. port_differs c.holds_functors.ensures.1 c.if-not-holds_functors.true (embeds_ahead (heap_of c.args.flat.now) c.args.items.now c.args.guard.now c.args.membrane f g)

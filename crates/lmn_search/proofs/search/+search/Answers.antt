@@ -7,6 +7,7 @@ use Rattle.lmn_search.specs.Choosing.{Allowed, Sits, with_atom, with_membrane}
 use Rattle.lmn_search.specs.Placing.{outermost_in}
 use Rattle.lmn_search.specs.declared.placed.Placed.{Placed}
 use Rattle.lmn_search.proofs.BelowLemmas.{inner_mem}
+use Rattle.lmn_search.proofs.AheadLemmas.{home_there, passed_over}
 use Rattle.lmn_search.proofs.ChoosingLemmas.{answers_atom, answers_membrane, answers_typed, atom_back, before_there, begins_with, end_atoms, end_membranes, ends, left_so, made_there, membrane_back, membrane_there, none_all, not_allowed, nothing_left, one_failed, one_found, rest_long, room_for, sits_atom, sits_membrane, sits_typed, with_found, with_none}
 use Rattle.lmn_search.proofs.OutsideLemmas.{atom_listed}
 use Rattle.lmn_search.proofs.PairingLemmas.{port_differs}
@@ -169,3 +170,10 @@ try_atom-place_atom-requires-clause-atoms t c = before_there (heap_of c.args.fla
 
 pub try_atom-place_atom-requires-clause-few : goal.try_atom-place_atom-requires-clause-few
 try_atom-place_atom-requires-clause-few t c = room_for (heap_of c.args.flat.now) c.args.head.now c.args.rest.now c.args.placed.now c.args.atom c.requires.sits
+
+pub try_membrane-holds_functors-requires-clause-membrane : goal.try_membrane-holds_functors-requires-clause-membrane
+try_membrane-holds_functors-requires-clause-membrane t c = home_there (heap_of c.args.flat.now) c.args.head.now c.args.rest.now c.args.placed.now c.args.membrane c.requires.sits
+
+pub try_membrane-returns-then-not-holds_functors-clause-answers : goal.try_membrane-returns-then-not-holds_functors-clause-answers
+try_membrane-returns-then-not-holds_functors-clause-answers t c =
+    passed_over (heap_of c.args.flat.now) c.args.head.now c.args.guard.now c.args.rest.now c.args.placed.now c.args.membrane c.len.result (In c.args.membrane c.args.placed.now.membranes → ⊥) c.requires.sits c.len.ensures (port_differs c.holds_functors.ensures.1 c.if-not-holds_functors.true)
