@@ -1,8 +1,8 @@
 -- Two executions of one listing beside one program have one output.
-use Rattle.std.proofs.Common.{◌≡◌, ◌∙◌, ◌+◌, ◌-◌, ℕ, suc, List, [], ◌∷◌, Option, Some, false, length, map, refl, sym, ap, subst, arith}
+use Rattle.std.proofs.Common.{◌≡◌, ◌∙◌, ◌+◌, ◌-◌, ◌*◌, ℕ, suc, List, [], ◌∷◌, Option, Some, false, length, map, refl, sym, ap, subst, arith}
 use Rattle.std.specs.Prelude.{slice_index_or}
 use Rattle.std.proofs.lemmas.Option.{same_Some}
-use Rattle.std.specs.List.{AllByRecursion}
+use Rattle.std.specs.List.{AllByRecursion, flat_map}
 use Rattle.lmn_accepted.proofs.PlanKinds.{at_index}
 use Rattle.lmn_adequacy.proofs.PlainSolids.{solid_of_plain_is_one}
 use Rattle.lmn_base.specs.declared.guard.Cond.{Cond}
@@ -26,12 +26,14 @@ use Rattle.lmn_listable.specs.Laws.{AcceptedCanBeListed}
 use Rattle.lmn_plain.specs.Plains.{EachPair}
 use Rattle.lmn_plain.specs.SamePlains.{SameCond, SameExpr, SameRule, same_comparison, same_condition, same_context, same_equation, same_integer, same_operation}
 use Rattle.lmn_reading.proofs.OneRead.{one_acceptance}
-use Rattle.lmn_verified.specs.OneReading.{ListedCodesAreOne}
+use Rattle.lmn_functors.specs.Reading.{AddsNames, NumbersNames}
+use Rattle.lmn_verified.specs.OneReading.{ListedCodesAreOne, ListedNamesAreOne}
 use Rattle.lmn_verify.specs.Listings.{AreListed}
+use Rattle.lmn_verify.specs.Operands.{code_names}
 use Rattle.lmn_verify.specs.Verified.{IsVerified}
 use Rattle.lmn_app.specs.ExecLaws.{OneOutput}
 use Rattle.lmn_app.specs.Executions.{coded_input, executed_budget, executed_size}
-use Rattle.lmn_app.proofs.TextLemmas.{accepted_at, made, moved_solid}
+use Rattle.lmn_app.proofs.TextLemmas.{accepted_at, made, moved_solid, one_list}
 
 -- ---- rules that are the same but for addresses, as trees
 
@@ -99,20 +101,22 @@ same_executed names rs ss same codes budget size n first h end old new x = (let 
 pub record Grounds : Type 0 where
   pub listed : AcceptedCanBeListed
   pub codes : ListedCodesAreOne
+  pub names : ListedNamesAreOne
   pub runs : RunsAreOne
 
 all_verified : (k : ℕ) (codes : List Code) → length codes ≡ k → AllByRecursion (λ code. IsVerified code k) codes → AreVerified codes
 all_verified k codes many all n code is = subst (IsVerified code) (sym many) (at_index (λ c. IsVerified c k) codes n code all is)
 
--- two executions of one listing beside one program have one output, where the names of its codes have the same numbers
+-- two executions of one listing beside one program have one output
 pub one_output : Grounds → OneOutput
-one_output on program listing written other end last c d x y names =
+one_output on program listing written other end last c d x y =
     let of = x.of in
     let also = y.of in
     let a = of.accepted in
     let b = also.accepted in
     let short = a.short in
     let once = of.once in
+    let again = also.once in
     let are = of.are in
     let loaded = x.loaded in
     let reloaded = y.loaded in
@@ -120,8 +124,12 @@ one_output on program listing written other end last c d x y names =
     let one = one_acceptance program also.names of.plain also.plain of.plans also.plans (accepted_at program of.names also.names of.plain of.plans a.named b.named a.accepted) b.accepted in
     let plain = one.plain in
     let many : length also.plain.rules ≡ length of.plain.rules = sym (as_many of.plain.rules also.plain.rules plain.rules) in
-    let listed : AreListed (length of.plain.rules) of.later also.codes listing =
-    subst (λ ns. AreListed (length of.plain.rules) ns also.codes listing) (sym names) (subst (λ k. AreListed k also.later also.codes listing) many also.are) in
+    let told : AreListed (length of.plain.rules) also.later also.codes listing = subst (λ k. AreListed k also.later also.codes listing) many also.are in
+    let begun : also.names ≡ of.names = one_list program also.names of.names also.plain b.named a.named b.accepted.reads in
+    let names : of.later ≡ also.later =
+    on.names (length of.plain.rules) (3 * length listing) (3 * length listing) of.names of.later also.later of.codes also.codes listing can.few once.once again.once of.adds
+    (subst (λ ns. AddsNames (3 * length listing) ns also.later) begun also.adds) of.order (subst (λ ns. NumbersNames ns (flat_map code_names also.codes) also.later) begun also.order) are told in
+    let listed : AreListed (length of.plain.rules) of.later also.codes listing = subst (λ ns. AreListed (length of.plain.rules) ns also.codes listing) (sym names) told in
     let codes : also.codes ≡ of.codes = on.codes (length of.plain.rules) of.later also.codes of.codes listing can.few once.once listed are in
     let solid : reloaded.solid ≡ loaded.solid =
     solid_of_plain_is_one of.plain reloaded.solid loaded.solid (made a.accepted) (moved_solid also.plain of.plain reloaded.solid (sym plain.top) reloaded.of_plain) loaded.of_plain in

@@ -20,7 +20,7 @@ use Rattle.lmn_base.specs.declared.solid.Region.TheViews.{out-roll-Region, roll-
 use Rattle.lmn_base.specs.declared.solid.Solid.{Solid}
 use Rattle.lmn_base.specs.declared.solid.SolidAtom.{SolidAtom}
 use Rattle.lmn_base.specs.Levels.{leaves_of}
-use Rattle.lmn_base.specs.Links.{EachTwice, NumbersLinks, no_more}
+use Rattle.lmn_base.specs.Links.{EachTwice, NumbersLinks, known, no_more}
 use Rattle.lmn_base.specs.Lists.{In}
 use Rattle.lmn_base.specs.Solids.{atoms_of_region, atoms_step, connector, item_count, items_step, links_of_region}
 use Rattle.lmn_base.proofs.Lists.{head_is}
@@ -209,6 +209,7 @@ taking_read = record {
   adds = record { more = []; are = refl; few = omega arith };
   once = small_named;
   codes = taking_code ∷ [];
+  order = known (omega arith) no_more;
   are = taking_listed;
   verified = (taking_verified, tt);
 }

@@ -36,9 +36,8 @@ CompiledRunsAsRun = (alloc : Global) (program listing written : List ℕ) (end :
 abbrev pub CompiledIsNotWrong : Type 0
 CompiledIsNotWrong = (program listing : List ℕ) (refusal : Refusal) → IsListing program listing → IsWrongListing program listing refusal → ⊥
 
--- Two executions of one listing beside one program have as many commits, one end and one text, where both came to their end, and where the
--- names that stand in the listing alone are numbered alike. How a store numbers what it makes doesn't show. Of executions that number those
--- names otherwise nothing is said.
+-- Two executions of one listing beside one program have as many commits, one end and one text, where both came to their end. How a store
+-- numbers what it makes doesn't show, and program and listing determine the list of names.
 abbrev pub OneOutput : Type 0
 OneOutput = (program listing written other : List ℕ) (end last : RunEnd) → CameToEnd end → CameToEnd last →
-    (x : IsExecuted program listing end written) (y : IsExecuted program listing last other) → x.of.later ≡ y.of.later → (x.commits ≡ y.commits) × (end ≡ last) × (written ≡ other)
+    (x : IsExecuted program listing end written) (y : IsExecuted program listing last other) → (x.commits ≡ y.commits) × (end ≡ last) × (written ≡ other)

@@ -1,6 +1,6 @@
 -- What `exec` does with a listing beside a program.
 use Rattle.std.specs.Prelude.{◌≡◌, ◌≤◌, ◌*◌, ℕ, List, [], Some, length}
-use Rattle.std.specs.List.{AllByRecursion}
+use Rattle.std.specs.List.{AllByRecursion, flat_map}
 use Rattle.lmn_base.specs.declared.refusal.Refusal.{Refusal}
 use Rattle.lmn_base.specs.declared.rule.Plain.{Plain}
 use Rattle.lmn_base.specs.Names.{IsNames}
@@ -11,7 +11,7 @@ use Rattle.lmn_congruence.specs.Rules.{Name}
 use Rattle.lmn_congruence.specs.SolidsOfPlains.{IsSolidOf}
 use Rattle.lmn_drive.specs.declared.driving.RunEnd.{RunEnd}
 use Rattle.lmn_drive.specs.declared.driving.RunEnd.TheVariants as run
-use Rattle.lmn_functors.specs.Reading.{AddsNames}
+use Rattle.lmn_functors.specs.Reading.{AddsNames, NumbersNames}
 use Rattle.lmn_guards.specs.declared.plan.GuardPlan.{GuardPlan}
 use Rattle.lmn_heap.specs.Heap.{Heap}
 use Rattle.lmn_heap.specs.Sound.{Valid}
@@ -19,6 +19,7 @@ use Rattle.lmn_instr.specs.declared.instr.Code.{Code}
 use Rattle.lmn_loading.specs.Loaded.{IsLoaded}
 use Rattle.lmn_strategy.specs.Quieting.{AllAwake}
 use Rattle.lmn_verify.specs.Listings.{AreListed, IsRefusedListing}
+use Rattle.lmn_verify.specs.Operands.{code_names}
 use Rattle.lmn_verify.specs.Verified.{IsVerified}
 use Rattle.lmn_app.specs.declared.ending.Ending.{Ending}
 use Rattle.lmn_app.specs.declared.ending.Ending.TheVariants.{Done, Budget, WriteFault, NoMemory, Full}
@@ -32,7 +33,8 @@ abbrev pub executed_budget : ℕ
 executed_budget = 1000000
 
 -- A program that is accepted, and codes of which the text is the listings: one for each of its rules, by their numbers. Each code is
--- verified, whatever rule it is of. The names of the codes stand in the list of the program or behind it.
+-- verified, whatever rule it is of. The names of the codes stand in the list of the program or behind it, in the order in which the listing
+-- has them first, and no others do.
 pub record ReadsCodes (program listing : List ℕ) : Type 0 where
   pub names : List Name
   pub plain : Plain
@@ -42,6 +44,7 @@ pub record ReadsCodes (program listing : List ℕ) : Type 0 where
   pub adds : AddsNames (3 * length listing) names later
   pub once : IsNames later
   pub codes : List Code
+  pub order : NumbersNames names (flat_map code_names codes) later
   pub are : AreListed (length plain.rules) later codes listing
   pub verified : AllByRecursion (λ code. IsVerified code (length plain.rules)) codes
 

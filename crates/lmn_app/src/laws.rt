@@ -167,8 +167,7 @@ pub fn compiled_runs_as_run()
     accepted_can_be_listed();
 }
 
-/// Two executions of one listing beside one program that came to their ends, and number its names alike, have one count of commits, one
-/// end and one text.
+/// Two executions of one listing beside one program that came to their ends have one count of commits, one end and one text.
 pub fn executions_are_one()
     ensures { OneOutput }
 {

@@ -23,7 +23,8 @@ use Rattle.lmn_lines.proofs.LineLemmas.{last_split, no_space_within}
 use Rattle.lmn_lines.specs.Lines.{HasNoSpace, IsOneLine, joined, number_written}
 use Rattle.lmn_script.proofs.Cuts.{last_all, lines_of, with_last}
 use Rattle.lmn_script.proofs.LineLemmas.{FrontForm, back_front, front_form, line_unnumbered, line_unsplit, operator_spaceless, step_front, until_front, until_no_back, until_no_step}
-use Rattle.lmn_script.proofs.OneOrder.{name_once, quoted_once, short}
+use Rattle.lmn_functors.proofs.NameTexts.{one_name}
+use Rattle.lmn_script.proofs.OneOrder.{quoted_once, short}
 use Rattle.lmn_script.specs.Scripts.{AreLines, HasForm, IsFirstWrong, IsNumbered, MayStand, cmp_text, of_back, of_show, of_step, of_until}
 use Rattle.lmn_lexer.proofs.Common.{bare_or_quoted as written, text_bare, text_quoted}
 use Rattle.lmn_lines.proofs.Common.{joined_first}
@@ -184,7 +185,7 @@ label_decided text = go (integer_decided text) (named_decided text)
     go (inr no_integer) (inl (name, e)) = by (below_or_from 255 (length name))
       where
         refused : 255 < length name → IsLabelText text → ⊥
-        refused l (inl (other, k, f)) = (let same = ap length (name_once name other (e ∙ sym f)) in omega (arith, same, k, l))
+        refused l (inl (other, k, f)) = (let same = ap length (one_name name other (e ∙ sym f)) in omega (arith, same, k, l))
         refused l (inr z) = no_integer z
 
         by : (255 < length name) ⊎ (length name ≤ 255) → Decided (IsLabelText text)

@@ -1,31 +1,24 @@
 -- One line orders one thing.
-use Rattle.std.proofs.Common.{ℕ, ℤ, pos, negsuc, suc, ◌≡◌, ◌≢◌, ◌≤◌, ◌<◌, ◌^◌, ◌⊎◌, inl, inr, Bool, true, false, List, [], ◌∷◌, ◌++◌, Some, AllPairs, codes, length, refl, sym, ap, subst, ◌∙◌, arith, if◌then◌else◌}
-use Rattle.std.specs.Prelude.{bytes_eq, nat_le, slice_index_or}
-use Rattle.std.proofs.lemmas.Bool.{leb-true}
-use Rattle.std.specs.Char.{is_ascii_lowercase}
-use Rattle.std.specs.Fmt.{decimal, signed_decimal}
-use Rattle.std.specs.List.{find, flat_map, list_all}
-use Rattle.std.specs.Str.Parse.{AllDigits}
-use Rattle.std.proofs.lemmas.Fmt.{decimal_injective, decimal_is_IsNumeral, signed_decimal_injective}
+use Rattle.std.proofs.Common.{ℕ, ◌≡◌, ◌≢◌, ◌≤◌, List, [], ◌∷◌, ◌++◌, Some, AllPairs, codes, refl, sym, ap, subst, ◌∙◌, arith}
+use Rattle.std.specs.Prelude.{bytes_eq, slice_index_or}
+use Rattle.std.specs.Fmt.{decimal}
+use Rattle.std.specs.List.{find, flat_map}
+use Rattle.std.proofs.lemmas.Fmt.{decimal_injective, signed_decimal_injective}
 use Rattle.std.proofs.lemmas.List.{append_cancel_left, append_cancel_right}
 use Rattle.std.proofs.lemmas.Option.{same_Some}
-use Rattle.std.proofs.lemmas.Str.Parse.{digit_from_value}
-use lib.Signed.{mag}
-use Rattle.lmn_base.proofs.Lists.{head_is, tail_is, last_one as ends_alike}
-use Rattle.lmn_base.proofs.Numbers.{three_ways}
-use Rattle.lmn_base.proofs.Truth.{and_true}
+use Rattle.lmn_base.proofs.Lists.{one_number, tail_is, last_one as ends_alike}
 use Rattle.lmn_base.specs.declared.functor.Functor.{Functor}
 use Rattle.lmn_base.specs.declared.functor.Label.{Label}
 use Rattle.lmn_base.specs.declared.functor.Label.TheVariants.{Int, Name}
 use Rattle.lmn_base.specs.declared.guard.Cmp.{Cmp}
 use Rattle.lmn_base.specs.declared.guard.Cmp.TheVariants.{Eq, Ge, Gt, Le, Lt, Ne}
-use Rattle.lmn_functors.proofs.QuotedLemmas.{first_of_name, no_slash_decimal}
+use Rattle.lmn_functors.proofs.Common.{size_of}
+use Rattle.lmn_functors.proofs.NameTexts.{name_no_integer, one_name, quoted_one}
+use Rattle.lmn_functors.proofs.QuotedLemmas.{no_slash_decimal}
 use Rattle.lmn_functors.proofs.QuotedLemmas as slashes
-use Rattle.lmn_functors.specs.Reading.{IsIn64Bits}
 use Rattle.lmn_instr.specs.Labels.{listed_label_text}
 use Rattle.lmn_instr.specs.Listings.{functor_text}
-use Rattle.lmn_lexer.specs.NameText.{name_text, quoted, quoted_byte}
-use Rattle.lmn_lexer.specs.Spelling.{goes_on, is_bare_name}
+use Rattle.lmn_lexer.specs.NameText.{quoted, quoted_byte}
 use Rattle.lmn_script.proofs.Cuts.{lines_once}
 use Rattle.lmn_script.proofs.LineLemmas.{numbered_no_show, numbered_once, order_form, step_no_back, until_no_back, until_no_step, until_once}
 use Rattle.lmn_script.specs.Scripts.{AreOrdersOf, IsNumbered, IsOrder, IsUntil, IsWritable, HasForm, of_back, of_show, of_step, of_until, Says, an_empty_line, cmp_text, one_order, says_nothing}
@@ -49,89 +42,16 @@ operator_once a b e = same_Some a b (sym (found a) ∙ ap (λ t. find (λ o. byt
 
 -- ---- functors
 
--- no two names are written alike between quotes
-pub undoubled_once : (a b : List ℕ) → flat_map quoted_byte a ≡ flat_map quoted_byte b → a ≡ b
-undoubled_once [] [] e = refl
-undoubled_once [] (y ∷ ys) e = absurd (let f = first_of_name_of y ys in let z : [] ≡ y ∷ f.0 = e ∙ f.1 in cc)
-  where
-    first_of_name_of : (y : ℕ) (ys : List ℕ) → (rest : List ℕ) × (flat_map quoted_byte (y ∷ ys) ≡ y ∷ rest)
-    first_of_name_of y ys = let q = slashes.quoted_begins y in (q.0 ++ flat_map quoted_byte ys, ap (λ t. t ++ flat_map quoted_byte ys) q.1)
-undoubled_once (x ∷ xs) b e =
-    let q = slashes.quoted_begins x in
-    let f = first_of_name b (q.0 ++ flat_map quoted_byte xs) x (sym e ∙ ap (λ t. t ++ flat_map quoted_byte xs) q.1) in
-    let rest : quoted_byte x ++ flat_map quoted_byte xs ≡ quoted_byte x ++ flat_map quoted_byte f.0 = ap (λ t. t ++ flat_map quoted_byte xs) q.1 ∙ sym f.2 in
-    ap (λ t. x ∷ t) (undoubled_once xs f.0 (append_cancel_left (quoted_byte x) (flat_map quoted_byte xs) (flat_map quoted_byte f.0) rest)) ∙ sym f.1
-
--- nor with the quotes
+-- no two names are written alike in quotes
 pub quoted_once : (a b : List ℕ) → quoted a ≡ quoted b → a ≡ b
-quoted_once a b e = undoubled_once a b (append_cancel_right (flat_map quoted_byte a) (flat_map quoted_byte b) (codes "'") (tail_is e))
-
--- what stands in quotes isn't bare
-pub quoted_not_bare : (a b : List ℕ) → quoted a ≡ b → is_bare_name b ≡ true → ⊥
-quoted_not_bare a b e h = no_letter (subst (λ t. is_bare_name t ≡ true) (sym e) h)
-  where
-    no_letter : is_bare_name (quoted a) ≡ true → ⊥
-    no_letter k = let z : is_ascii_lowercase 39 ≡ true = (and_true (is_ascii_lowercase 39) (list_all goes_on (flat_map quoted_byte a ++ codes "'")) k).0 in absurd (cc)
-
--- no two names are written alike
-pub name_once : (a b : List ℕ) → name_text a ≡ name_text b → a ≡ b
-name_once a b e = go (is_bare_name a) (is_bare_name b) refl refl e
-  where
-    go : (s t : Bool) → is_bare_name a ≡ s → is_bare_name b ≡ t → (if s then a else quoted a) ≡ (if t then b else quoted b) → a ≡ b
-    go true true h k e = e
-    go true false h k e = absurd (quoted_not_bare b a (sym e) h)
-    go false true h k e = absurd (quoted_not_bare a b e k)
-    go false false h k e = quoted_once a b e
-
--- an integer begins with a digit or `-`
-pub integer_begins : (z : ℤ) → IsIn64Bits z → (b : ℕ) × (rest : List ℕ) × (signed_decimal z ≡ b ∷ rest) × (b ≡ 45 ⊎ ((48 ≤ b) × (b ≤ 57)))
-integer_begins (pos n) h = go (decimal n) refl (decimal_is_IsNumeral n (omega (arith, h))).0.0 (decimal_is_IsNumeral n (omega (arith, h))).0.1
-  where
-    go : (ds : List ℕ) → decimal n ≡ ds → 0 < length (decimal n) → AllDigits 10 (decimal n) → (b : ℕ) × (rest : List ℕ) × (decimal n ≡ b ∷ rest) × (b ≡ 45 ⊎ ((48 ≤ b) × (b ≤ 57)))
-    go [] e l d = absurd (let z = ap length e in omega (arith, z, l))
-    go (b ∷ rest) e l d = let all : AllDigits 10 (b ∷ rest) = subst (AllDigits 10) e d in let r = digit_from_value b all.0 in (b, rest, e, inr (r.0, r.1))
-integer_begins (negsuc n) h = (45, decimal (suc n), refl, inl refl)
-
--- so it isn't a name
-pub integer_no_name : (z : ℤ) (name : List ℕ) → IsIn64Bits z → name_text name ≡ signed_decimal z → ⊥
-integer_no_name z name h e = go (is_bare_name name) refl e (integer_begins z h)
-  where
-    no_letter : (b : ℕ) → (b ≡ 45 ⊎ ((48 ≤ b) × (b ≤ 57))) → is_ascii_lowercase b ≡ true → ⊥
-    no_letter b digit k = by digit (leb-true 97 b (and_true (nat_le 97 b) (nat_le b 122) k).0)
-      where
-        by : (b ≡ 45 ⊎ ((48 ≤ b) × (b ≤ 57))) → 97 ≤ b → ⊥
-        by (inl same) l = omega (arith, same, l)
-        by (inr r) l = omega (arith, r.1, l)
-
-    no_quote : (b : ℕ) → (b ≡ 45 ⊎ ((48 ≤ b) × (b ≤ 57))) → 39 ≡ b → ⊥
-    no_quote b (inl same) q = omega (arith, same, q)
-    no_quote b (inr r) q = omega (arith, r.0, q)
-
-    go : (s : Bool) → is_bare_name name ≡ s → (if s then name else quoted name) ≡ signed_decimal z → ((b : ℕ) × (rest : List ℕ) × (signed_decimal z ≡ b ∷ rest) × (b ≡ 45 ⊎ ((48 ≤ b) × (b ≤ 57)))) → ⊥
-    go true k f (b, rest, same, digit) =
-        let bare : is_bare_name (b ∷ rest) ≡ true = subst (λ t. is_bare_name t ≡ true) (f ∙ same) k in
-        no_letter b digit (and_true (is_ascii_lowercase b) (list_all goes_on rest) bare).0
-    go false k f (b, rest, same, digit) = no_quote b digit (head_is (f ∙ same))
-
--- a list of which no two names are alike has each at one place
-place_once : (names : List (List ℕ)) (m n : ℕ) → AllPairs (λ a b. a ≢ b) names → m < length names → n < length names → slice_index_or names m [] ≡ slice_index_or names n [] → m ≡ n
-place_once names m n once h k e = go (three_ways m n)
-  where
-    go : (m < n) ⊎ ((m ≡ n) ⊎ (n < m)) → m ≡ n
-    go (inl l) = absurd (once m n [] l k e)
-    go (inr (inl same)) = same
-    go (inr (inr l)) = absurd (once n m [] l h (sym e))
+quoted_once a b e = quoted_one a b (append_cancel_right (flat_map quoted_byte a) (flat_map quoted_byte b) (codes "'") (tail_is e))
 
 -- no two labels are written alike
 pub label_once : (names : List (List ℕ)) (x y : Label) → AllPairs (λ a b. a ≢ b) names → IsWritable names x → IsWritable names y → listed_label_text names x ≡ listed_label_text names y → x ≡ y
-label_once names (Name m) (Name n) once h k e = ap Name (place_once names m n once h.0 k.0 (name_once (slice_index_or names m []) (slice_index_or names n []) e))
-label_once names (Name m) (Int z) once h k e = absurd (integer_no_name z (slice_index_or names m []) k e)
-label_once names (Int z) (Name n) once h k e = absurd (integer_no_name z (slice_index_or names n []) h (sym e))
-label_once names (Int y) (Int z) once h k e = ap Int (signed_decimal_injective y z (small y h) (small z k) e)
-  where
-    small : (z : ℤ) → IsIn64Bits z → mag z < 2 ^ 63
-    small (pos n) h = h
-    small (negsuc n) h = h
+label_once names (Name m) (Name n) once h k e = ap Name (one_number names once m n h.0 k.0 (one_name (slice_index_or names m []) (slice_index_or names n []) e))
+label_once names (Name m) (Int z) once h k e = absurd (name_no_integer (slice_index_or names m []) z k e)
+label_once names (Int z) (Name n) once h k e = absurd (name_no_integer (slice_index_or names n []) z h (sym e))
+label_once names (Int y) (Int z) once h k e = ap Int (signed_decimal_injective y z (size_of y h) (size_of z k) e)
 
 -- no two functors are
 pub functor_once : (names : List (List ℕ)) (f g : Functor) → AllPairs (λ a b. a ≢ b) names → IsWritable names f.label → f.arity ≤ 255 → IsWritable names g.label → g.arity ≤ 255 → functor_text names f ≡ functor_text names g → f ≡ g

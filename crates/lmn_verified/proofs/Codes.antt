@@ -6,8 +6,7 @@ use Rattle.std.proofs.lemmas.Option.{same_Some}
 use Rattle.lmn_instr.specs.declared.instr.Code.{Code}
 use Rattle.lmn_verify.specs.Verified.{IsVerified}
 use Rattle.lmn_verify.specs.Listings.{not_a_listing, not_verified}
-use Rattle.lmn_verify.proofs.Exclusion.{listed_lines_stand}
-use Rattle.lmn_verified.proofs.WholeLines.{all_lines, text_is, all_whole}
+use Rattle.lmn_verify.proofs.Exclusion.{all_lines, all_whole, listed_lines_stand, text_is}
 use Rattle.lmn_verified.specs.OneReading.{ListedCodesAreOne, ListedCodesAreRead, VerifiedIsNotRefused}
 use Rattle.lmn_verified.proofs.Lines.{one_codes, joined_one}
 use Rattle.lmn_verify.proofs.CodeLemmas.{more_codes}

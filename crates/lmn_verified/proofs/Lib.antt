@@ -1,9 +1,9 @@
 mod FunctorTexts
 mod Instrs
 mod Operands
-mod WholeLines
 mod Lines
 mod Codes
+mod NamesInOrder
 mod HeadShapes
 mod Finding
 mod Apart

@@ -22,17 +22,17 @@ use Rattle.lmn_verify.specs.Taking.{HasSome, ShortSome}
 use Rattle.lmn_verify.proofs.Listed.{same_line, has_operands}
 use Rattle.lmn_verify.proofs.Places.{has_no_by_test}
 use Rattle.lmn_verify.proofs.OpcodeLemmas.{mnemonic_is, no_space, one_name}
-use Rattle.lmn_verify.proofs.LineLemmas.{form_text, IsFormed, first_follows, second_follows, third_follows}
-use Rattle.lmn_verified.proofs.WholeLines.{operands_behind, all_lines}
+use Rattle.lmn_verify.proofs.LineLemmas.{form_text, operands_behind, IsFormed, first_follows, second_follows, third_follows}
 use Rattle.lmn_verified.proofs.Instrs.{one_instr}
 use Rattle.lmn_verified.proofs.Operands.{one_cut, one_some, one_parts}
-use Rattle.lmn_verify.proofs.Exclusion.{not_empty, whole_first}
+use Rattle.lmn_verify.proofs.Exclusion.{all_lines, not_empty, whole_first}
 
 some_named : (ns : List (List ℕ)) (k : Option Kind) (o : Operand) → AllByRecursion (HasOperand ns) (some_operand k o) → HasSome ns k o
 some_named ns None o h = tt
 some_named ns (Some k) o h = h.0
 
-some_short : (ns : List (List ℕ)) (k : Option Kind) (o : Operand) → AllByRecursion (IsShortOperand ns) (some_operand k o) → ShortSome ns k o
+-- so is the name of the operand that a form has there
+pub some_short : (ns : List (List ℕ)) (k : Option Kind) (o : Operand) → AllByRecursion (IsShortOperand ns) (some_operand k o) → ShortSome ns k o
 some_short ns None o h = tt
 some_short ns (Some k) o h = h.0
 
@@ -43,12 +43,13 @@ pub record IsPlain (names : List (List ℕ)) (i : Instr) : Type 0 where
   pub short : HasShortNames names i
 
 -- operands of a form, with all names, which are short
-record AreOf (names : List (List ℕ)) (f : Form) (x y z : Operand) (gs : List ℕ) : Type 0 where
-  fits : FitsForm f x y z gs
-  named : AllByRecursion (HasOperand names) (in_form f x y z gs)
-  short : AllByRecursion (IsShortOperand names) (in_form f x y z gs)
+pub record AreOf (names : List (List ℕ)) (f : Form) (x y z : Operand) (gs : List ℕ) : Type 0 where
+  pub fits : FitsForm f x y z gs
+  pub named : AllByRecursion (HasOperand names) (in_form f x y z gs)
+  pub short : AllByRecursion (IsShortOperand names) (in_form f x y z gs)
 
-abbrev formed : (names : List (List ℕ)) (f : Form) (x y z : Operand) (gs : List ℕ) (text : List ℕ) → AreOf names f x y z gs → operands_text names (in_form f x y z gs) ≡ text → IsFormed f text
+-- so their text is one of this form
+abbrev pub formed : (names : List (List ℕ)) (f : Form) (x y z : Operand) (gs : List ℕ) (text : List ℕ) → AreOf names f x y z gs → operands_text names (in_form f x y z gs) ≡ text → IsFormed f text
 formed names f x y z gs text h e =
     let later = all_right (IsShortOperand names) (some_operand f.first x) _ h.short in
     let last = all_right (IsShortOperand names) (some_operand f.second y) _ later in
@@ -64,6 +65,20 @@ formed names f x y z gs text h e =
       fits = h.fits;
       is = sym (form_text names f x y z gs) ∙ e;
     }
+
+-- Instructions with one line have one name, and operands with one text, whatever the lists of names.
+pub one_opcode : (ns ms : List (List ℕ)) (i j : Instr) → line ns i ≡ line ms j → (opcode_of i ≡ opcode_of j) × (operands_text ns (operands i) ≡ operands_text ms (operands j))
+one_opcode ns ms i j e =
+    let mine = operands_text ns (operands i) in
+    let yours = operands_text ms (operands j) in
+    let whole : instr_text ns i ≡ instr_text ms j = same_line ns i ∙ e ∙ sym (same_line ms j) in
+    let inner : mnemonic i ++ mine ≡ mnemonic j ++ yours =
+    append_cancel_right (mnemonic i ++ mine) (mnemonic j ++ yours) (codes "\n") (append_assoc (mnemonic i) mine (codes "\n") ∙ tail_is (tail_is whole) ∙ sym (append_assoc (mnemonic j) yours (codes "\n"))) in
+    let named : opcode_name (opcode_of i) ++ mine ≡ opcode_name (opcode_of j) ++ yours = ap (λ m. m ++ mine) (sym (mnemonic_is i)) ∙ inner ∙ ap (λ m. m ++ yours) (mnemonic_is j) in
+    let cut = one_cut 32 (opcode_name (opcode_of i)) (opcode_name (opcode_of j)) mine yours
+    (has_no_by_test 32 (opcode_name (opcode_of i)) (no_space (opcode_of i))) (has_no_by_test 32 (opcode_name (opcode_of j)) (no_space (opcode_of j)))
+    (operands_behind ns (operands i)) (operands_behind ms (operands j)) named in
+    (one_name (opcode_of i) (opcode_of j) cut.0, cut.1)
 
 module _ (names : List (List ℕ)) (once : AllPairs (λ m n. m ≢ n) names) where
   named_first : (f : Form) (x y z : Operand) (gs : List ℕ) → AllByRecursion (HasOperand names) (in_form f x y z gs) → HasSome names f.first x × HasSome names f.second y × HasSome names f.third z
@@ -122,21 +137,12 @@ module _ (names : List (List ℕ)) (once : AllPairs (λ m n. m ≢ n) names) whe
   -- instructions with one line are one
   one_line : (i j : Instr) → IsPlain names i → IsPlain names j → line names i ≡ line names j → i ≡ j
   one_line i j a b e =
-      let mine = operands_text names (operands i) in
-      let yours = operands_text names (operands j) in
-      let whole : instr_text names i ≡ instr_text names j = same_line names i ∙ e ∙ sym (same_line names j) in
-      let inner : mnemonic i ++ mine ≡ mnemonic j ++ yours =
-      append_cancel_right (mnemonic i ++ mine) (mnemonic j ++ yours) (codes "\n") (append_assoc (mnemonic i) mine (codes "\n") ∙ tail_is (tail_is whole) ∙ sym (append_assoc (mnemonic j) yours (codes "\n"))) in
-      let named : opcode_name (opcode_of i) ++ mine ≡ opcode_name (opcode_of j) ++ yours = ap (λ m. m ++ mine) (sym (mnemonic_is i)) ∙ inner ∙ ap (λ m. m ++ yours) (mnemonic_is j) in
-      let cut = one_cut 32 (opcode_name (opcode_of i)) (opcode_name (opcode_of j)) mine yours
-      (has_no_by_test 32 (opcode_name (opcode_of i)) (no_space (opcode_of i))) (has_no_by_test 32 (opcode_name (opcode_of j)) (no_space (opcode_of j)))
-      (operands_behind names (operands i)) (operands_behind names (operands j)) named in
-      let op : opcode_of i ≡ opcode_of j = one_name (opcode_of i) (opcode_of j) cut.0 in
-      one_instr i j op (same_operands i j op a b cut.1)
+      let cut = one_opcode names names i j e in
+      one_instr i j cut.0 (same_operands i j cut.0 a b cut.1)
 
   -- ---- heads and bodies
 
-  plain_last : (b : Bool) → IsPlain names (last_of b)
+  pub plain_last : (b : Bool) → IsPlain names (last_of b)
   plain_last true = record { fits = record { first = operand.Number 0; second = operand.Number 0; third = operand.Number 0; parts = []; fits = record { first = tt; second = tt; third = tt; few = λ e. refl; parts = tt }; are = refl }; named = tt; short = tt }
   plain_last false = record { fits = record { first = operand.Number 0; second = operand.Number 0; third = operand.Number 0; parts = []; fits = record { first = tt; second = tt; third = tt; few = λ e. refl; parts = tt }; are = refl }; named = tt; short = tt }
 
@@ -155,12 +161,14 @@ module _ (names : List (List ℕ)) (once : AllPairs (λ m n. m ≢ n) names) whe
   plains b [] of named plain = tt
   plains b (i ∷ is) of named plain = (record { fits = of.0.1; named = named.0; short = plain.0.0 }, plains b is of.1 named.1 plain.1)
 
-  front_plain : (b : Bool) (xs : List Instr) (x : IsBlock b (last_of b) xs) → AllByRecursion (HasInstr names) xs → AllByRecursion (HasPlainLine names) xs → AllByRecursion (IsPlain names) x.front
+  -- what is known of the instructions before the last
+  pub front_plain : (b : Bool) (xs : List Instr) (x : IsBlock b (last_of b) xs) → AllByRecursion (HasInstr names) xs → AllByRecursion (HasPlainLine names) xs → AllByRecursion (IsPlain names) x.front
   front_plain b xs x named plain =
       plains b x.front x.of (all_left (HasInstr names) x.front (last_of b ∷ []) (subst (AllByRecursion (HasInstr names)) x.are named))
       (all_left (HasPlainLine names) x.front (last_of b ∷ []) (subst (AllByRecursion (HasPlainLine names)) x.are plain))
 
-  block_lines : (b : Bool) (xs : List Instr) (r : List (List ℕ)) (x : IsBlock b (last_of b) xs) → map (line names) xs ++ r ≡ map (line names) x.front ++ (line names (last_of b) ∷ r)
+  -- the lines of a head or of a body: those before the last, and that
+  pub block_lines : (b : Bool) (xs : List Instr) (r : List (List ℕ)) (x : IsBlock b (last_of b) xs) → map (line names) xs ++ r ≡ map (line names) x.front ++ (line names (last_of b) ∷ r)
   block_lines b xs r x =
       ap (λ z. map (line names) z ++ r) x.are ∙ ap (λ t. t ++ r) (map_append (line names) x.front (last_of b ∷ [])) ∙ append_assoc (map (line names) x.front) (line names (last_of b) ∷ []) r
 

@@ -85,13 +85,33 @@ is_new_port (operand.Port p) h = inl (p, omega (arith, h.0), omega (arith, h.1),
 is_new_port (operand.Copy c) h = inr (c, omega (arith, h), refl)
 is_new_port _ h = absurd h
 
-is_functor_of : (o : Operand) → FitsKind kind.Functor o → (f : Functor) × FitsLabel f.label × (f.arity < 2 ^ 8) × (o ≡ operand.Functor f)
+-- the functor of an operand
+pub is_functor_of : (o : Operand) → FitsKind kind.Functor o → (f : Functor) × FitsLabel f.label × (f.arity < 2 ^ 8) × (o ≡ operand.Functor f)
 is_functor_of (operand.Functor f) h = (f, h.0, h.1, refl)
 is_functor_of _ h = absurd h
 
 is_constant : (o : Operand) → FitsKind kind.Constant o → (z : ℤ) × IsIn64Bits z × (o ≡ operand.Constant z)
 is_constant (operand.Constant z) h = (z, h, refl)
 is_constant _ h = absurd h
+
+-- ---- operands one behind the other
+
+-- behind a functor nothing stands, and behind any other a space
+pub sort : (k : Kind) → (k ≡ kind.Functor) ⊎ ((k ≢ kind.Functor) × ((r : List ℕ) → FollowsKind k r → IsBehind r))
+sort kind.Functor = inl refl
+sort _ = inr ((λ e. true≢false (sym (ap (λ k. is_functor (Some k)) e))), λ r b. b)
+
+-- so the text of an operand is told apart from what stands behind it, whatever the lists of names
+pub one_behind : (ns ms : List (List ℕ)) (k : Kind) (o p : Operand) (r s : List ℕ) → FitsKind k o → FitsKind k p → FollowsKind k r → FollowsKind k s → operand_text ns o ++ r ≡ operand_text ms p ++ s
+    → (operand_text ns o ≡ operand_text ms p) × (r ≡ s)
+one_behind ns ms k o p r s h g b c e = go (sort k)
+  where
+    go : (k ≡ kind.Functor) ⊎ ((k ≢ kind.Functor) × ((r : List ℕ) → FollowsKind k r → IsBehind r)) → (operand_text ns o ≡ operand_text ms p) × (r ≡ s)
+    go (inl f) =
+        let none : r ≡ [] = subst (λ j. FollowsKind j r) f b in
+        let nothing : s ≡ [] = subst (λ j. FollowsKind j s) f c in
+        (sym (append-nil (operand_text ns o)) ∙ ap (λ t. operand_text ns o ++ t) (sym none) ∙ e ∙ ap (λ t. operand_text ms p ++ t) nothing ∙ append-nil (operand_text ms p), none ∙ sym nothing)
+    go (inr (n, f)) = one_cut 32 (operand_text ns o) (operand_text ms p) r s (operand_no_space k o ns n h) (operand_no_space k p ms n g) (f r b) (f s c) e
 
 module _ (names : List (List ℕ)) (once : AllPairs (λ m n. m ≢ n) names) where
   -- operands that are told by a number
@@ -148,29 +168,11 @@ module _ (names : List (List ℕ)) (once : AllPairs (λ m n. m ≢ n) names) whe
       let y = is_constant p g in
       x.2 ∙ ap operand.Constant (signed_decimal_injective x.0 y.0 (size_of x.0 x.1) (size_of y.0 y.1) (sym (ap (operand_text names) x.2) ∙ e ∙ ap (operand_text names) y.2)) ∙ sym y.2
 
-  -- ---- operands one behind the other
-
-  -- behind a functor nothing stands, and behind any other a space
-  sort : (k : Kind) → (k ≡ kind.Functor) ⊎ ((k ≢ kind.Functor) × ((r : List ℕ) → FollowsKind k r → IsBehind r))
-  sort kind.Functor = inl refl
-  sort _ = inr ((λ e. true≢false (sym (ap (λ k. is_functor (Some k)) e))), λ r b. b)
-
-  one_behind : (k : Kind) (o p : Operand) (r s : List ℕ) → FitsKind k o → FitsKind k p → FollowsKind k r → FollowsKind k s → operand_text names o ++ r ≡ operand_text names p ++ s
-      → (operand_text names o ≡ operand_text names p) × (r ≡ s)
-  one_behind k o p r s h g b c e = go (sort k)
-    where
-      go : (k ≡ kind.Functor) ⊎ ((k ≢ kind.Functor) × ((r : List ℕ) → FollowsKind k r → IsBehind r)) → (operand_text names o ≡ operand_text names p) × (r ≡ s)
-      go (inl f) =
-          let none : r ≡ [] = subst (λ j. FollowsKind j r) f b in
-          let nothing : s ≡ [] = subst (λ j. FollowsKind j s) f c in
-          (sym (append-nil (operand_text names o)) ∙ ap (λ t. operand_text names o ++ t) (sym none) ∙ e ∙ ap (λ t. operand_text names p ++ t) nothing ∙ append-nil (operand_text names p), none ∙ sym nothing)
-      go (inr (n, f)) = one_cut 32 (operand_text names o) (operand_text names p) r s (operand_no_space k o names n h) (operand_no_space k p names n g) (f r b) (f s c) e
-
   pub one_some : (k : Option Kind) (o p : Operand) (r s : List ℕ) → FitsSome k o → FitsSome k p → HasSome names k o → HasSome names k p → ShortSome names k o → ShortSome names k p → Follows k r → Follows k s
       → some_text names k o ++ r ≡ some_text names k p ++ s → (some_operand k o ≡ some_operand k p) × (r ≡ s)
   one_some None o p r s h g ho hp so sp b c e = (refl, e)
   one_some (Some k) o p r s h g ho hp so sp b c e =
-      let cut = one_behind k o p r s h g b c (tail_is e) in
+      let cut = one_behind names names k o p r s h g b c (tail_is e) in
       (ap (λ x. x ∷ []) (one_operand k o p h g ho hp so sp cut.0), cut.1)
 
 -- registers of typed contexts, each behind a space

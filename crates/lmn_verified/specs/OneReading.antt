@@ -1,8 +1,9 @@
 -- A listing is the listing of one list of codes.
 use Rattle.std.specs.Prelude.{ℕ, ◌≡◌, ◌≢◌, ◌<◌, ◌^◌, List, AllPairs}
-use Rattle.std.specs.List.{AllByRecursion}
-use Rattle.lmn_functors.specs.Reading.{AddsNames}
+use Rattle.std.specs.List.{AllByRecursion, flat_map}
+use Rattle.lmn_functors.specs.Reading.{AddsNames, NumbersNames}
 use Rattle.lmn_instr.specs.declared.instr.Code.{Code}
+use Rattle.lmn_verify.specs.Operands.{code_names}
 use Rattle.lmn_verify.specs.Verified.{IsVerified}
 use Rattle.lmn_verify.specs.Listings.{AreListed, IsRefusedListing}
 
@@ -20,6 +21,13 @@ abbrev pub ListedCodesAreRead : Type 0
 ListedCodesAreRead =
     (n k : ℕ) (names later : List (List ℕ)) (cs ds : List Code) (text : List ℕ) → n < 2 ^ 32 → NamesOnce later → AddsNames k names later
     → AreListed n names cs text → AreListed n later ds text → cs ≡ ds
+
+-- And the names are one too, where those of the codes are put in their order behind some that are held.
+abbrev pub ListedNamesAreOne : Type 0
+ListedNamesAreOne =
+    (n k l : ℕ) (names later other : List (List ℕ)) (cs ds : List Code) (text : List ℕ) → n < 2 ^ 32 → NamesOnce later → NamesOnce other
+    → AddsNames k names later → AddsNames l names other → NumbersNames names (flat_map code_names cs) later → NumbersNames names (flat_map code_names ds) other
+    → AreListed n later cs text → AreListed n other ds text → later ≡ other
 
 -- And where each of them is verified the listing isn't refused.
 abbrev pub VerifiedIsNotRefused : Type 0

@@ -8,7 +8,7 @@ ghost use Rattle.lmn_verified.specs.HeadCodes.{HeadCodeFindsFirst, HeadCodeIsHea
 ghost use Rattle.lmn_verified.specs.Kept.{VerifiedIsWhole};
 ghost use Rattle.lmn_verified.specs.ListedTables.{TablesAreListed, VerifiedAreListed};
 ghost use Rattle.lmn_verified.specs.ListingExamples.{ListingExamples};
-ghost use Rattle.lmn_verified.specs.OneReading.{ListedCodesAreOne, ListedCodesAreRead, VerifiedIsNotRefused};
+ghost use Rattle.lmn_verified.specs.OneReading.{ListedCodesAreOne, ListedCodesAreRead, ListedNamesAreOne, VerifiedIsNotRefused};
 
 use lmn_compile_body::accepted_bodies;
 use lmn_compile_head::accepted_heads;
@@ -17,10 +17,12 @@ use lmn_matching::{accepted_in_order, accepted_sets_items};
 use lmn_strategy::bodies_are_ready;
 
 /// Codes that have one listing are one, where no name stands twice in the list, and stay so where names are put. So codes that are
-/// listed are those that are read, and where each is verified the listing isn't refused.
+/// listed are those that are read, and where each is verified the listing isn't refused. Where the names of codes with one listing are
+/// put in their order, the lists of names are one too.
 pub fn listed_codes_are_one()
     ensures one { ListedCodesAreOne }
     ensures read { ListedCodesAreRead }
+    ensures names { ListedNamesAreOne }
     ensures refused { VerifiedIsNotRefused }
 {}
 

@@ -21,7 +21,7 @@ use Rattle.lmn_instr.specs.Listings.{functor_text}
 use Rattle.lmn_lexer.specs.NameText.{name_text, quoted, quoted_byte}
 use Rattle.lmn_lexer.specs.Spelling.{is_bare_name}
 use Rattle.lmn_lines.specs.Lines.{HasNoSpace, IsOneLine, number_written}
-use Rattle.lmn_weight.proofs.FunctorTexts.{quoted_one}
+use Rattle.lmn_functors.proofs.NameTexts.{quoted_one}
 use Rattle.lmn_weight.proofs.LineLemmas.{Reached, item_taken, line_taken, line_unsplit, line_untaken, reached_all, reached_more, reached_start, reached_unended, reached_wrong}
 use Rattle.lmn_weight.specs.declared.told.Told.{Told}
 use Rattle.lmn_weight.specs.declared.weights.Weights.{Weights}

@@ -29,6 +29,7 @@ returns-in-Ok g c = λ program a.
       adds = c.in-Ok.ensures.names;
       once = c.stand_once.ensures;
       codes = c.in-Ok.codes;
+      order = c.in-Ok.ensures.order;
       are = subst (λ n. AreListed n c.read.new.names c.in-Ok.codes c.args.listing.now) many c.in-Ok.ensures.listed;
       verified = subst (λ n. AllByRecursion (λ code. IsVerified code n) c.in-Ok.codes) many c.in-Ok.ensures.verified;
     } in
