@@ -38,7 +38,7 @@ class Item:
     @property
     def is_plain(self):
         """Whether each argument is a link."""
-        return all(piece == ', ' for piece in self.pieces[1:-1]) and (self.pieces[-1] == ')' if self.links else '(' not in self.pieces[0])
+        return all(piece == ', ' for piece in self.pieces[1:-1]) and (self.pieces[-1] == ')' if self.links else '(' not in QUOTED_OR_PARENTHESIS.findall(self.pieces[0]))
 
     def text(self, links):
         """The item with these words for its links."""

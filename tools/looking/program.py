@@ -30,7 +30,7 @@ def program():
 def start(arguments):
     """The running program, whose output is read line by line."""
     try:
-        return subprocess.Popen([program(), 'run', *arguments], stdout=subprocess.PIPE, stderr=subprocess.PIPE, text=True, encoding='utf-8')
+        return subprocess.Popen([program(), 'run', *arguments], stdout=subprocess.PIPE, stderr=subprocess.PIPE, text=True, encoding='utf-8', errors='replace')
     except OSError as why:
         raise Unshowable(f'{program()} is not to be run: {why.strerror}', 70) from None
 
