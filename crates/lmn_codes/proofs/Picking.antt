@@ -1,14 +1,12 @@
 -- Instructions and codes by their numbers in a pool.
-use Rattle.std.proofs.Common.{ℕ, zero, suc, ◌≡◌, ◌<◌, ◌+◌, List, [], ◌∷◌, ◌++◌, Some, None, refl, arith, ap, sym, subst, length, ◌∙◌}
+use Rattle.std.proofs.Common.{ℕ, zero, suc, ◌≡◌, ◌<◌, List, [], ◌∷◌, ◌++◌, Some, refl, ap, sym, subst, length, ◌∙◌}
 use Rattle.std.specs.Prelude.{slice_get, option_to_list}
-use Rattle.lmn_base.proofs.Lists.{get_there, get_below, get_front, get_last}
+use Rattle.lmn_base.proofs.Lists.{get_there, get_below, get_front}
 use Rattle.lmn_instr.specs.declared.instr.Instr.{Instr}
-use Rattle.lmn_instr.specs.declared.instr.Code.{Code}
 use Rattle.lmn_codes.specs.declared.codes.Numbered.{Numbered}
 use Rattle.lmn_codes.specs.Pools.{AreThere, Keeps, Selects, picked}
-use Rattle.lmn_codes.specs.declared.extent.Extent.{Extent}
 use Rattle.lmn_codes.specs.Extents.{HasExtent}
-use Rattle.lmn_codes.specs.Stored.{AreListed, AreStored, stored_codes}
+use Rattle.lmn_codes.specs.Stored.{AreStored, stored_codes}
 
 -- the instructions that the numbers of a pool are those of
 pub selected : (pool : List Instr) (ns : List ℕ) (xs : List Instr) → Selects pool ns xs → picked pool ns ≡ xs
@@ -85,41 +83,34 @@ keeps_picked p q k ns t =
     let s = keeps_selected p q k ns (picked p ns) (there_selected p ns t) in
     (selected q ns (picked p ns) s, selected_there q ns (picked p ns) s)
 
-keeps_listed : (p q : List Instr) → Keeps p q → (ns : List ℕ) (e : Extent) → AreListed p ns e → (picked q ns ≡ picked p ns) × AreListed q ns e
-keeps_listed p q k ns e t =
-    let s = keeps_picked p q k ns t.0 in
-    (s.0, (s.1, subst (λ xs. HasExtent e xs) (sym s.0) t.1))
-
 -- codes are there, and are what they were, where each number means what it meant
 pub keeps_stored : (p q : List Instr) → Keeps p q → (cs : List Numbered) → AreStored p cs → (stored_codes q cs ≡ stored_codes p cs) × AreStored q cs
 keeps_stored p q k [] t = (refl, tt)
 keeps_stored p q k (c ∷ cs) t =
-    let h = keeps_listed p q k c.head c.head_extent t.0.0 in
-    let b = keeps_listed p q k c.body c.body_extent t.0.1 in
+    let h = keeps_picked p q k c.head t.0.0 in
     let more = keeps_stored p q k cs t.1 in
-    (λ i. record { head = h.0 i; body = b.0 i } ∷ more.0 i, ((h.1, b.1), more.1))
+    (λ i. record { head = h.0 i; body = c.body } ∷ more.0 i, ((h.1, t.0.1), more.1))
 
 -- one code more
-pub stored_more : (p : List Instr) (cs : List Numbered) (c : Numbered) (h b : List Instr) → AreStored p cs → Selects p c.head h → Selects p c.body b → HasExtent c.head_extent h → HasExtent c.body_extent b →
-    (stored_codes p (cs ++ c ∷ []) ≡ stored_codes p cs ++ record { head = h; body = b } ∷ []) × AreStored p (cs ++ c ∷ [])
-stored_more p [] c h b t s r u v =
+pub stored_more : (p : List Instr) (cs : List Numbered) (c : Numbered) (h : List Instr) → AreStored p cs → Selects p c.head h → HasExtent c.extent c.body →
+    (stored_codes p (cs ++ c ∷ []) ≡ stored_codes p cs ++ record { head = h; body = c.body } ∷ []) × AreStored p (cs ++ c ∷ [])
+stored_more p [] c h t s u =
     let e = selected p c.head h s in
-    let f = selected p c.body b r in
-    (λ i. record { head = e i; body = f i } ∷ [], (((selected_there p c.head h s, subst (λ xs. HasExtent c.head_extent xs) (sym e) u), (selected_there p c.body b r, subst (λ xs. HasExtent c.body_extent xs) (sym f) v)), tt))
-stored_more p (d ∷ cs) c h b t s r u v =
-    let more = stored_more p cs c h b t.1 s r u v in
-    (ap (λ xs. record { head = picked p d.head; body = picked p d.body } ∷ xs) more.0, (t.0, more.1))
+    (λ i. record { head = e i; body = c.body } ∷ [], ((selected_there p c.head h s, u), tt))
+stored_more p (d ∷ cs) c h t s u =
+    let more = stored_more p cs c h t.1 s u in
+    (ap (λ xs. record { head = picked p d.head; body = d.body } ∷ xs) more.0, (t.0, more.1))
 
 -- there are as many codes as rows of numbers
 pub stored_length : (p : List Instr) (cs : List Numbered) → length cs ≡ length (stored_codes p cs)
 stored_length p [] = refl
 stored_length p (c ∷ cs) = ap (λ n. suc n) (stored_length p cs)
 
--- the code at a place has the instructions with the numbers there, and the pool has these, with what is told of them
+-- the code at a place has the head with the numbers there, the pool has the instructions of it, and the extent is that of its body
 pub stored_at : (p : List Instr) (cs : List Numbered) (i : ℕ) (c : Numbered) → AreStored p cs → slice_get cs i ≡ Some c →
-    (slice_get (stored_codes p cs) i ≡ Some (record { head = picked p c.head; body = picked p c.body })) × AreListed p c.head c.head_extent × AreListed p c.body c.body_extent
+    (slice_get (stored_codes p cs) i ≡ Some (record { head = picked p c.head; body = c.body })) × AreThere p c.head × HasExtent c.extent c.body
 stored_at p [] i c t e = absurd (cc)
 stored_at p (d ∷ cs) zero c t e =
     let same : d ≡ c = cc in
-    (ap (λ x. Some (record { head = picked p x.head; body = picked p x.body })) same, subst (λ x. AreListed p x.head x.head_extent) same t.0.0, subst (λ x. AreListed p x.body x.body_extent) same t.0.1)
+    (ap (λ x. Some (record { head = picked p x.head; body = x.body })) same, subst (λ x. AreThere p x.head) same t.0.0, subst (λ x. HasExtent x.extent x.body) same t.0.1)
 stored_at p (d ∷ cs) (suc i) c t e = stored_at p cs i c t.1 e

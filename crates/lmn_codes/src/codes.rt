@@ -1,24 +1,26 @@
 //! The codes of rules.
 ghost use Rattle.std.specs.Prelude.{◌≡◌, [], ◌∷◌, ◌++◌, ◌<◌, length, slice_get, Some, IfOk, OnOk, OnErr};
 
+use crate::body::Body;
 use crate::extent::Extent;
-use crate::instrs::{CodeView, Instrs};
+use crate::instrs::Instrs;
 use crate::pool::Pool;
+use crate::view::CodeView;
 use lmn_base::{NoMemory, Rows};
-use lmn_instr::Code;
+use lmn_instr::{Code, Instr};
 use std::alloc::Global;
 use std::marker::Model;
 
-/// A code by the numbers of its instructions in the pool, with what is told of its head and of its body.
+/// A code with the numbers of the instructions of its head in the pool, and with what is told of its body.
 #[derive(Drop)]
 struct Numbered {
     head: Rows<u32>,
-    head_extent: Extent,
-    body: Rows<u32>,
-    body_extent: Extent,
+    body: Rows<Instr>,
+    extent: Extent,
 }
 
-/// Codes by their numbers, from 0 on. Instructions that only tell two registers apart stand in memory once, however many codes have them.
+/// Codes by their numbers, from 0 on. Instructions of heads that only tell two registers apart stand in memory once, however many
+/// codes have them.
 /// Contracts see the list of the codes.
 #[derive(Drop)]
 pub struct Codes {
@@ -75,16 +77,9 @@ impl Codes {
         ensures err { OnErr result (self.new ≡ self.old) }
     {
         let Code { head, body } = code;
-        let head_extent = Extent::of(head.as_slice());
-        let body_extent = Extent::of(body.as_slice());
+        let extent = Extent::of(body.as_slice());
         let head = self.pool.put_all(alloc, head)?;
-        let body = self.pool.put_all(alloc, body)?;
-        self.codes.push(Numbered {
-            head,
-            head_extent,
-            body,
-            body_extent,
-        })?;
+        self.codes.push(Numbered { head, body, extent })?;
         Ok(())
     }
 
@@ -102,8 +97,8 @@ impl Codes {
     {
         let code = self.codes.at(rule as usize);
         CodeView::new(
-            Instrs::new(self.pool.instrs(), code.head.as_slice(), &code.head_extent),
-            Instrs::new(self.pool.instrs(), code.body.as_slice(), &code.body_extent),
+            Instrs::new(self.pool.instrs(), code.head.as_slice()),
+            Body::new(code.body.as_slice(), &code.extent),
         )
     }
 }

@@ -1,5 +1,5 @@
 //! Does what the code of a body does, when all that it makes is made.
-ghost use Rattle.std.specs.Prelude.{◌≡◌, ◌<◌, ◌++◌, ℕ, List, length, map};
+ghost use Rattle.std.specs.Prelude.{◌≡◌, ◌<◌, ◌++◌, ℕ, List, Some, length, map, slice_get};
 ghost use Rattle.lmn_body.specs.Running.{Registers, DoesAll, Does, all_placed, old_port, new_port};
 ghost use Rattle.lmn_heap.specs.Heap.{IsMemInPlace, port_id, Unmarked};
 ghost use Rattle.lmn_body.specs.Conditions.{Can};
@@ -12,7 +12,7 @@ ghost use Rattle.lmn_commit.specs.Waking.{Commits};
 
 use crate::splicing::{relink, unify};
 use crate::waking::wake;
-use lmn_codes::Instrs;
+use lmn_codes::Body;
 use lmn_ground::{drop_cells, place_cells, take_part};
 use lmn_instr::{AtomPort, Instr, NewPort};
 use lmn_registers::SetRegisters;
@@ -117,8 +117,18 @@ fn run<S: LinkStore>(store: &mut S, instr: &Instr, set: &SetRegisters<S::Atom, S
     }
 }
 
+/// The instruction at a place.
+#[inline(always)]
+fn at(code: &[Instr], i: usize) -> &Instr
+    requires { i < length code.now }
+    ensures { slice_get code.now i ≡ Some result.now }
+{
+    &code[i]
+}
+
 /// Does what code does, one instruction after the other.
-fn run_all<S: LinkStore>(store: &mut S, code: &Instrs<'_>, set: &SetRegisters<S::Atom, S::Mem>)
+#[inline(always)]
+fn run_each<S: LinkStore>(store: &mut S, code: &[Instr], set: &SetRegisters<S::Atom, S::Mem>)
     requires unmarked { Unmarked (S.heap store.old) }
     requires uses { AllUse (length set.now.atoms) (length set.now.membranes) (length set.now.parts) (length set.now.copies) code.now }
     requires runs { (r : Registers) × AgreesWithCopies S.atom_id S.mem_id set.now r × Runs r code.now (S.heap store.old) }
@@ -126,15 +136,26 @@ fn run_all<S: LinkStore>(store: &mut S, code: &Instrs<'_>, set: &SetRegisters<S:
     ensures unmarked { Unmarked (S.heap store.new) }
 {
     for i in 0..code.len() {
-        run(store, code.at(i), set);
+        run(store, at(code, i), set);
     }
+}
+
+/// Does what code does.
+fn run_all<S: LinkStore>(store: &mut S, code: &Body<'_>, set: &SetRegisters<S::Atom, S::Mem>)
+    requires unmarked { Unmarked (S.heap store.old) }
+    requires uses { AllUse (length set.now.atoms) (length set.now.membranes) (length set.now.parts) (length set.now.copies) code.now }
+    requires runs { (r : Registers) × AgreesWithCopies S.atom_id S.mem_id set.now r × Runs r code.now (S.heap store.old) }
+    ensures commits { (r : Registers) → AgreesWithCopies S.atom_id S.mem_id set.now r → Runs r code.now (S.heap store.old) → DoesAll r code.now (S.heap store.old) (S.heap store.new) }
+    ensures unmarked { Unmarked (S.heap store.new) }
+{
+    run_each(store, code.as_slice(), set);
 }
 
 /// Does what code does, after it was matched and prepared: a rule is fired. The code may be that of a rule or not; what is
 /// asked of it is that its instructions can be run one after the other and leave a valid store. It takes no memory and can't
 /// fail, and leaves a valid store in which every mark of an atom is 0. What the code rouses is awake then, with all that is round
 /// it, and each other membrane keeps its mark.
-pub fn commit<S: LinkStore>(store: &mut S, code: &Instrs<'_>, set: &SetRegisters<S::Atom, S::Mem>)
+pub fn commit<S: LinkStore>(store: &mut S, code: &Body<'_>, set: &SetRegisters<S::Atom, S::Mem>)
     requires { IsPrepared S.atom_id S.mem_id (S.heap store.old) set.now code.now }
     ensures fires { (p : IsPrepared S.atom_id S.mem_id (S.heap store.old) set.now code.now) (r : Registers) → AgreesWithCopies S.atom_id S.mem_id set.now r → HasCopies r p.prepared.copied → HasRests S.atom_id S.mem_id p.before p.matched_by r →
         Commits p.before r code.now (S.heap store.new) }

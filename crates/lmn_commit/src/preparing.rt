@@ -10,7 +10,7 @@ ghost use Rattle.lmn_registers.specs.declared.stack.TheConstants.{ROOM};
 
 use crate::marking::mark_taken;
 use lmn_base::{Functor, Label, NoMemory};
-use lmn_codes::Instrs;
+use lmn_codes::Body;
 use lmn_ground::{copy_cells, copy_counted};
 use lmn_instr::Instr;
 use lmn_registers::{PartCopy, SetRegisters};
@@ -104,7 +104,7 @@ fn rules_added<S: LinkStore>(
 /// How many rules the first instructions of code add to a membrane; none where that is too many for any store.
 fn rules_needed<S: LinkStore>(
     store: &S,
-    code: &Instrs<'_>,
+    code: &Body<'_>,
     upto: usize,
     set: &SetRegisters<S::Atom, S::Mem>,
     membrane: S::Mem,
@@ -126,7 +126,7 @@ fn rules_needed<S: LinkStore>(
 fn reserve<S: LinkStore>(
     alloc: Global,
     store: &mut S,
-    code: &Instrs<'_>,
+    code: &Body<'_>,
     at: usize,
     set: &SetRegisters<S::Atom, S::Mem>,
     membrane: S::Mem,
@@ -173,7 +173,7 @@ fn copy_rest<S: LinkStore>(
 fn make<S: LinkStore>(
     alloc: Global,
     store: &mut S,
-    code: &Instrs<'_>,
+    code: &Body<'_>,
     at: usize,
     instr: &Instr,
     set: &mut SetRegisters<S::Atom, S::Mem>,
@@ -222,7 +222,7 @@ fn make<S: LinkStore>(
 fn make_all<S: LinkStore>(
     alloc: Global,
     store: &mut S,
-    code: &Instrs<'_>,
+    code: &Body<'_>,
     set: &mut SetRegisters<S::Atom, S::Mem>,
 ) -> Result<(), NoMemory>
     requires valid { Valid (S.heap store.old) }
@@ -250,7 +250,7 @@ fn make_all<S: LinkStore>(
 pub fn prepare<S: LinkStore>(
     alloc: Global,
     store: &mut S,
-    code: &Instrs<'_>,
+    code: &Body<'_>,
     set: &mut SetRegisters<S::Atom, S::Mem>,
 ) -> Result<(), NoMemory>
     requires valid { Valid (S.heap store.old) }

@@ -7,7 +7,7 @@ ghost use Rattle.lmn_commit.specs.Registers.{AgreesWithCopies, AreHeld};
 ghost use Rattle.lmn_commit.specs.Preparing.{AllUse, Uses};
 ghost use Rattle.lmn_commit.specs.Waking.{AllDeep, Is, IsAwakeRound, IsHome, IsHomeBeside, IsPartnerHome, IsRoused, Rouses, WakesAbove};
 
-use lmn_codes::Instrs;
+use lmn_codes::Body;
 use lmn_instr::Instr;
 use lmn_registers::SetRegisters;
 use lmn_store::LinkStore;
@@ -150,7 +150,7 @@ fn is_only<S: LinkStore>(store: &S, membrane: S::Mem) -> bool
 /// depth is awake. So nothing else can sleep where the root stands alone.
 pub(crate) fn wake<S: LinkStore>(
     store: &mut S,
-    code: &Instrs<'_>,
+    code: &Body<'_>,
     set: &SetRegisters<S::Atom, S::Mem>,
 )
     requires deep { AllDeep (S.heap store.old) }

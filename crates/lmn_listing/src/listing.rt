@@ -10,7 +10,7 @@ ghost use Rattle.lmn_listing.specs.Listings.{code_listings, rule_codes};
 
 use crate::laws::codes_have_names;
 use lmn_base::{Names, NoMemory, Plain};
-use lmn_codes::{CodeView, Codes, Instrs};
+use lmn_codes::{Body, CodeView, Codes, Instrs};
 use lmn_compile::stored;
 use lmn_guards::GuardPlan;
 use lmn_instr::add_line;
@@ -33,8 +33,18 @@ pub fn compile_rules(alloc: Global, plain: &Plain, plans: &[GuardPlan]) -> Resul
     stored(alloc, plain, plans)
 }
 
-/// Adds the lines of instructions.
-fn add_lines<O: Sink>(buffer: &mut LineBuffer, out: &mut O, names: &Names, code: &Instrs<'_>)
+/// Adds the lines of a head.
+fn add_head_lines<O: Sink>(buffer: &mut LineBuffer, out: &mut O, names: &Names, code: &Instrs<'_>)
+    requires { AllByRecursion (HasInstr names.now) code.now }
+    ensures { Adds (flat_map (line names.now) code.now) (output buffer.old (O.told out.old) (O.faults out.old)) (output buffer.new (O.told out.new) (O.faults out.new)) }
+{
+    for i in 0..code.len() {
+        add_line(buffer, out, names, code.at(i));
+    }
+}
+
+/// Adds the lines of a body.
+fn add_body_lines<O: Sink>(buffer: &mut LineBuffer, out: &mut O, names: &Names, code: &Body<'_>)
     requires { AllByRecursion (HasInstr names.now) code.now }
     ensures { Adds (flat_map (line names.now) code.now) (output buffer.old (O.told out.old) (O.faults out.old)) (output buffer.new (O.told out.new) (O.faults out.new)) }
 {
@@ -57,8 +67,8 @@ fn add_code<O: Sink>(
     buffer.add(out, b"rule ");
     add_number(buffer, out, number as u64);
     buffer.add(out, b"\n");
-    add_lines(buffer, out, names, code.head());
-    add_lines(buffer, out, names, code.body());
+    add_head_lines(buffer, out, names, code.head());
+    add_body_lines(buffer, out, names, code.body());
 }
 
 /// Writes the listing of the code of a rule.

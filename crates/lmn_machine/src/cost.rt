@@ -12,7 +12,7 @@ ghost use Rattle.lmn_machine.specs.Costs.{AddsItems, IsSize, IsTold, Leaves, Tak
 
 use crate::machine::Machine;
 use crate::rests::rest_items;
-use lmn_codes::{CodeView, Instrs};
+use lmn_codes::{Body, CodeView};
 use lmn_ground::size_of;
 use lmn_instr::Instr;
 use lmn_registers::SetRegisters;
@@ -137,7 +137,7 @@ fn taken<S: LinkStore>(
 fn items_left<S: LinkStore>(
     store: &mut S,
     set: &SetRegisters<S::Atom, S::Mem>,
-    body: &Instrs<'_>,
+    body: &Body<'_>,
 ) -> u64
     requires valid { Valid (S.heap store.old) }
     requires unmarked { Unmarked (S.heap store.old) }

@@ -1,26 +1,18 @@
-use Rattle.std.proofs.Common.{drop, ◌+◌}
-use Rattle.lmn_commit.proofs.Codes.{used_at}
-use Rattle.lmn_commit.proofs.Doing.{done_more, can_now}
-use Rattle.lmn_commit.proofs.Marks.{does_unmarked}
+use Rattle.std.proofs.Common.{length, sym, subst}
+use Rattle.lmn_body.specs.Running.{DoesAll}
+use Rattle.lmn_commit.specs.Committing.{Runs}
+use Rattle.lmn_commit.specs.Preparing.{AllUse}
 use Rattle.lmn_commit.proofs.committing.run_all.Goals as goal
-use Rattle.lmn_base.proofs.Lists.{drop_get}
 
-pub run-requires-clause-uses : goal.run-requires-clause-uses
-run-requires-clause-uses g c =
-    let here = c.at.ensures in
-    used_at _ _ _ _ c.loop-i.i c.args.code.now c.at.result.now c.requires.uses here
+pub run_each-requires-clause-uses : goal.run_each-requires-clause-uses
+run_each-requires-clause-uses g c = subst (AllUse (length c.args.set.now.atoms) (length c.args.set.now.membranes) (length c.args.set.now.parts) (length c.args.set.now.copies)) (sym c.as_slice.ensures) c.requires.uses
 
-pub run-requires-clause-can : goal.run-requires-clause-can
-run-requires-clause-can g c =
-    let ahead = drop_get c.loop-i.i c.args.code.now c.at.result.now c.at.ensures in
-    can_now g.S.LinkStore.atom_id g.S.LinkStore.mem_id c.args.set.now c.args.code.now (drop c.loop-i.i c.args.code.now) (drop (c.loop-i.i + 1) c.args.code.now) c.at.result.now (g.S.LinkStore.heap c.args.store.now) (g.S.LinkStore.heap c.loop-i.store) ahead c.loop-i.invariant.done c.requires.runs
+pub run_each-requires-clause-runs : goal.run_each-requires-clause-runs
+run_each-requires-clause-runs g c =
+    let r = c.requires.runs in
+    (r.0, r.1, subst (λ is. Runs r.0 is (g.S.LinkStore.heap c.args.store.now)) (sym c.as_slice.ensures) r.2)
 
-pub loop-i-preserved : goal.loop-i-preserved
-loop-i-preserved g c =
-    let ahead = drop_get c.loop-i.i c.args.code.now c.at.result.now c.at.ensures in
-    let can = can_now g.S.LinkStore.atom_id g.S.LinkStore.mem_id c.args.set.now c.args.code.now (drop c.loop-i.i c.args.code.now) (drop (c.loop-i.i + 1) c.args.code.now) c.at.result.now (g.S.LinkStore.heap c.args.store.now) (g.S.LinkStore.heap c.loop-i.store) ahead c.loop-i.invariant.done c.requires.runs in
-    record {
-      unmarked = does_unmarked can.0 c.at.result.now (g.S.LinkStore.heap c.loop-i.store) (g.S.LinkStore.heap c.run.new.store) (c.run.ensures can.0 can.1 can.2) c.loop-i.invariant.unmarked;
-      done = done_more g.S.LinkStore.atom_id g.S.LinkStore.mem_id c.args.set.now c.args.code.now (drop c.loop-i.i c.args.code.now) (drop (c.loop-i.i + 1) c.args.code.now) c.at.result.now (g.S.LinkStore.heap c.args.store.now) (g.S.LinkStore.heap c.loop-i.store) (g.S.LinkStore.heap c.run.new.store) ahead
-          c.loop-i.invariant.done c.run.ensures;
-    }
+pub returns-clause-commits : goal.returns-clause-commits
+returns-clause-commits g c = λ r u runs.
+    subst (λ is. DoesAll r is (g.S.LinkStore.heap c.args.store.now) (g.S.LinkStore.heap c.run_each.new.store)) c.as_slice.ensures
+    (c.run_each.ensures.commits r u (subst (λ is. Runs r is (g.S.LinkStore.heap c.args.store.now)) (sym c.as_slice.ensures) runs))

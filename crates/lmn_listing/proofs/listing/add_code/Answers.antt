@@ -11,5 +11,5 @@ returns g c =
     (adds_more (decimal c.args.number) _ _ _ _ c.add_number.ensures
     (adds_more (codes "\n") _ _ _ _ c.add-2.ensures
     (adds_more (flat_map (line c.args.names.now) c.args.code.now.head) _ _ _ _
-    (adds_as (ap (flat_map (line c.args.names.now)) c.head.ensures) c.add_lines.ensures)
-    (adds_as (ap (flat_map (line c.args.names.now)) c.body.ensures) c.add_lines-2.ensures))))
+    (adds_as (ap (flat_map (line c.args.names.now)) c.head.ensures) c.add_head_lines.ensures)
+    (adds_as (ap (flat_map (line c.args.names.now)) c.body.ensures) c.add_body_lines.ensures))))

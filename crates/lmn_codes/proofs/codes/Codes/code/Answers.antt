@@ -1,6 +1,6 @@
-use Rattle.std.proofs.Common.{◌≡◌, ◌<◌, length, ap, sym, subst, arith, Some, ◌∙◌}
+use Rattle.std.proofs.Common.{◌≡◌, length, ap, sym, subst, arith, Some, ◌∙◌}
 use Rattle.std.specs.Prelude.{slice_get}
-use Rattle.lmn_codes.specs.Pools.{AreThere, picked}
+use Rattle.lmn_codes.specs.Pools.{picked}
 use Rattle.lmn_codes.proofs.Picking.{stored_length, stored_at}
 use Rattle.lmn_codes.proofs.codes.Codes.code.Goals as goal
 
@@ -18,12 +18,12 @@ new-requires c =
 pub new-requires-2 : goal.new-requires-2
 new-requires-2 c =
     let at = stored_at c.self.inside.pool c.self.inside.codes c.args.rule c.at-code.result.now c.self.invariant c.at-code.ensures in
-    rw (c.instrs-2.ensures, c.as_slice-2.ensures) at.2
+    rw (c.as_slice-2.ensures) at.2
 
 pub returns : goal.returns
 returns c =
     let at = stored_at c.self.inside.pool c.self.inside.codes c.args.rule c.at-code.result.now c.self.invariant c.at-code.ensures in
     let head = c.new.ensures ∙ λ i. picked (c.instrs.ensures i) (c.as_slice.ensures i) in
-    let body = c.new-2.ensures ∙ λ i. picked (c.instrs-2.ensures i) (c.as_slice-2.ensures i) in
+    let body = c.new-2.ensures ∙ c.as_slice-2.ensures in
     subst (λ xs. slice_get xs c.args.rule ≡ Some c.new-3.result) c.self.view_is
     (at.0 ∙ sym (ap (λ x. Some x) (c.new-3.ensures ∙ λ i. record { head = head i; body = body i })))

@@ -1,4 +1,4 @@
-use Rattle.std.proofs.Common.{◌≡◌, length, ap, ◌∙◌}
+use Rattle.std.proofs.Common.{length, ap, ◌∙◌}
 use Rattle.lmn_codes.proofs.Picking.{stored_length}
 use Rattle.lmn_codes.proofs.codes.Codes.len.Goals as goal
 

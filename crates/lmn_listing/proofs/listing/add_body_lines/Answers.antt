@@ -1,10 +1,9 @@
-use Rattle.std.proofs.Common.{ap, sym, subst, ◌≡◌, ◌≤◌, arith, length}
+use Rattle.std.proofs.Common.{ap, sym, arith}
 use Rattle.std.proofs.lemmas.Option.{get_or_from_slice_get}
-use Rattle.std.proofs.lemmas.List.Elements.{All-from_recursion}
 use Rattle.lmn_io.proofs.TakingLemmas.{adds_all, adds_as, adds_next}
-use Rattle.lmn_instr.specs.Listings.{line, HasInstr}
+use Rattle.lmn_instr.specs.Listings.{line}
 use Rattle.lmn_listing.proofs.Listed.{has_at}
-use Rattle.lmn_listing.proofs.listing.add_lines.Goals as goal
+use Rattle.lmn_listing.proofs.listing.add_body_lines.Goals as goal
 
 pub add_line-requires : goal.add_line-requires
 add_line-requires g c = has_at c.args.names.now c.args.code.now c.loop-i.i c.at.result.now c.at.ensures c.requires

@@ -1,6 +1,6 @@
 use Rattle.std.proofs.Common.{drop}
 use Rattle.lmn_commit.proofs.Doing.{Done}
-use Rattle.lmn_commit.proofs.committing.run_all.Given as goal
+use Rattle.lmn_commit.proofs.committing.run_each.Given as goal
 use Rattle.lmn_heap.specs.Heap.{Unmarked}
 
 abbrev pub invariant-loop-i : goal.invariant-loop-i

@@ -2,7 +2,7 @@ use Rattle.std.proofs.Common.{take}
 use Rattle.std.specs.List.{flat_map}
 use Rattle.lmn_io.specs.Gathering.{Adds, output}
 use Rattle.lmn_instr.specs.Listings.{line}
-use Rattle.lmn_listing.proofs.listing.add_lines.Given as goal
+use Rattle.lmn_listing.proofs.listing.add_head_lines.Given as goal
 
 abbrev pub invariant-loop-i : goal.invariant-loop-i
 invariant-loop-i g l =
