@@ -38,6 +38,8 @@ impl BuildHasher for KeyedHash {
 
 /// A list of names by their bytes, each with the number of its place. Contracts see this list. It begins
 /// with the four fixed names, and no name stands twice in it.
+/// The names after the fixed ones stand in a set in the order of insertion, so the number of a name is its place and
+/// four more, and no map to numbers stands beside it.
 #[derive(Drop)]
 pub struct Names {
     alloc: Global,

@@ -81,6 +81,8 @@ impl<T> Rows<T> {
     /// Asks for room for so many items more where it is wanting: for twice as many items as there are, or for these
     /// alone where they are more. So few items take no more memory than they need. Whether the room was given, the push
     /// behind it tells.
+    /// A vector of the library takes room for four at its first push; most lists of a tree have one item, and this
+    /// was most of its memory.
     fn make_room(&mut self, more: usize)
         ensures { self.new ≡ self.old }
     {

@@ -37,6 +37,8 @@ pub struct Solid {
 
 impl Region {
     /// Lets a region go, however deep it is. It takes no memory, and no more stack for a deeper region.
+    /// On the way down the region above is kept in the place of a region's first membrane: a list of work would want
+    /// memory, and could fail with a deep rest in hand.
     pub fn dismantle(self) {
         // What is left hangs below `around`, but for `next`. On the way down a region keeps
         // `around` in the place of its first membrane, which is the last that it gives back.

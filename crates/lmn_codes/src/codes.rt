@@ -22,6 +22,8 @@ struct Numbered {
 /// Codes by their numbers, from 0 on. Instructions of heads that only tell two registers apart stand in memory once, however many
 /// codes have them.
 /// Contracts see the list of the codes.
+/// Whether an instruction stands in the pool is guessed by a table of the two registers, and then looked up: so
+/// nothing has to hold of the table.
 #[derive(Drop)]
 pub struct Codes {
     pool: Pool,

@@ -102,6 +102,8 @@ fn rules_added<S: LinkStore>(
 }
 
 /// How many rules the first instructions of code add to a membrane; none where that is too many for any store.
+/// They are counted anew at each instruction that adds rules: no table is wanted, and the time is quadratic in the
+/// number of these instructions of one body.
 fn rules_needed<S: LinkStore>(
     store: &S,
     code: &Body<'_>,

@@ -32,6 +32,9 @@ pub use number::narrow;
 use std::alloc::Global;
 
 /// The plain of a tree.
+/// Nothing is asked of the tree: where it breaks what trees of the parser keep (a context that spells no name, more
+/// links than an atom or a table can have) the answer is want of memory. No law says yet that this never comes of a
+/// text.
 pub fn flatten(
     alloc: Global,
     text: &[u8],

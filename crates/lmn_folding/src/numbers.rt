@@ -13,6 +13,8 @@ use lmn_store::LinkStore;
 
 /// Gives the printed links of an item, and of the terms in it, that have none their numbers, where so many links have one.
 /// Answers how many have one then.
+/// Room for the numbers is counted by the turns of the walk and not by what it meets, since a heap doesn't bound
+/// arities: at most 255 ports lie between two turns.
 pub fn number_item<S: LinkStore>(store: &mut S, item: S::Atom, count: u64) -> u64
     requires valid { Valid (S.heap store.old) }
     requires atom { IsAtom (S.heap store.old) (S.atom_id item) }

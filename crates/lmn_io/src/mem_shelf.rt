@@ -11,6 +11,7 @@ use std::marker::Model;
 
 /// Texts in memory, of which the fetches with some numbers fail.
 /// Contracts see the texts, the numbers and the counts.
+/// Where a name stands twice its first place counts, so nothing asks that names are distinct.
 #[derive(Drop)]
 pub struct MemShelf {
     names: Rows<Rows<u8>>,

@@ -65,6 +65,7 @@ impl Tokens {
 }
 
 /// A token in 20 bytes. Contracts see the token.
+/// Numbers of 32 bits in place of 64: a text of 2^32 bytes or more is answered by want of memory.
 #[derive(Debug, Drop)]
 pub struct PackedToken {
     kind: Kind,

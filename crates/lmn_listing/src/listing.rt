@@ -24,6 +24,7 @@ use std::alloc::Global;
 /// # Errors
 ///
 /// `NoMemory` at want of memory.
+/// It has no sink, so that nothing is written before all is compiled shows in its type.
 pub fn compile_rules(alloc: Global, plain: &Plain, plans: &[GuardPlan]) -> Result<Codes, NoMemory>
     requires { AreWhole plain.now.rules plans.now }
     ensures codes { IfOk result (λ codes. codes ≡ rule_codes plain.now.rules plans.now) }

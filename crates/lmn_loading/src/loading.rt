@@ -53,6 +53,8 @@ fn put<S: LinkStore>(alloc: Global, plain: &Plain, store: &mut S) -> Result<(), 
 ///
 /// `Size` comes exactly where the process has more items, and then nothing was changed. After `NoMemory` the store may hold
 /// a part of the process, and is to be let go.
+/// It recurses on the nesting of the plain, which a text has no deeper than 200 brackets; its derived drop does too.
+/// Nothing that runs on a store recurses on the depth of membranes.
 pub fn load<S: LinkStore>(
     alloc: Global,
     plain: &Plain,

@@ -201,6 +201,8 @@ fn looks_in_vain<S: LinkStore>(
 
 /// Whether the code ahead looks for an atom in a membrane that is set and holds none with the functor: then it fails, whatever
 /// is chosen before.
+/// It is asked once for each choice, behind the first candidate that failed, so a search that succeeds at its first
+/// candidates pays nothing. Too few atoms of a functor that is there aren't seen.
 fn is_hopeless<S: LinkStore>(
     store: &S,
     code: &Instrs<'_>,

@@ -63,6 +63,9 @@ fn atoms_more<S: LinkStore>(
 }
 
 /// The number of atoms of a membrane that are in none of the listed parts.
+/// It counts down from the atoms of the membrane, so no atom is gone through but those of the parts; a part whose
+/// root stands elsewhere counts nothing, and one that an earlier part is entered at too counts once, so nothing is
+/// asked of the parts but that they are set.
 fn atoms_besides<S: LinkStore>(
     store: &mut S,
     set: &SetRegisters<S::Atom, S::Mem>,

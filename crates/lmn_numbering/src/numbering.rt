@@ -80,6 +80,8 @@ impl Numbering {
         }
     }
 
+    /// Links get their numbers in place, in a pass that takes no memory beside a row from provisional to final numbers; counts
+    /// and places follow in a second one.
     fn number_links(&mut self, links: &mut Rows<Occ>)
         requires valid { IsNumbering self.old }
         requires within { All (λ k. k < length self.old.numbers) (link_numbers links.old) }

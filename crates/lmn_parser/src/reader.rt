@@ -251,6 +251,8 @@ fn items(alloc: Global, tokens: &[PackedToken], at: usize) -> Result<(Rows<Item>
 }
 
 /// A rule or items, and the place behind them.
+/// Behind `:-` a guard is attempted up to its `|`; where that fails a list is read from the same place, and of the
+/// two the one that goes farther counts. An attempt stops at the next `:-`, so no token is gone over more than twice.
 #[cycle(reader)]
 fn clause(alloc: Global, tokens: &[PackedToken], at: usize) -> Result<(Clause, usize), Stop>
     requires place { at ≤ reach (kinds_of tokens.now) }

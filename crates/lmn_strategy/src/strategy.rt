@@ -241,6 +241,8 @@ pub fn membranes<S: LinkStore>(store: &S) -> u64
 /// membranes. A membrane that sleeps isn't asked, and one that is asked in vain falls asleep, if it may. It takes no memory, and
 /// else the store is left as it was. The registers then hold the first success of the code. The steps rise by the rules of the
 /// awake membranes asked at most: those up to the rule that is chosen, or all where none is.
+/// Where membranes may not fall asleep those asked in vain stay awake, so it goes on from the number of a membrane
+/// and not from what is awake; `reducible` asks so, and changes nothing.
 #[inline(always)]
 pub fn search<S: LinkStore, L: Ledger>(
     machine: &mut Machine<S>,

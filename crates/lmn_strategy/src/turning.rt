@@ -87,6 +87,8 @@ fn fire<S: LinkStore>(
 /// `size` items would be left, the root not counted. A membrane that sleeps isn't asked, and where membranes may sleep one that is asked in
 /// vain falls asleep. With another answer than `Committed` the store is else as it was, but for room for rules at `NoMemory`. The steps
 /// rise by the rules of the awake membranes asked at most.
+/// Its name isn't `turn`, since the kit refuses a function and an enum of one module whose names differ in case
+/// alone.
 pub fn take_turn<S: LinkStore, L: Ledger>(
     alloc: Global,
     machine: &mut Machine<S>,

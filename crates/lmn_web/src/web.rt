@@ -164,6 +164,8 @@ impl Web {
     }
 
     /// Whether the two are one cell.
+    /// Indices are compared and no addresses, since pointers into different blocks can't be; so a freed cell's place
+    /// in the table goes to the last cell.
     pub fn same(&self, a: Cell, b: Cell) -> bool
         requires first { IsSome (web_by self.now (cell_id a)) }
         requires second { IsSome (web_by self.now (cell_id b)) }

@@ -26,6 +26,9 @@ struct Entry {
 }
 
 /// The places of the functors of WEIGHTS, by a rising order of what stands there.
+/// It stands on the stack, in 22 KB, and takes no memory; by the list alone two million atoms beside 8,600 lines
+/// would be 18 thousand million comparisons. Places of one functor stand by themselves in rising order, so nothing is
+/// asked of the list.
 pub(crate) type Index = ArrayVec<u16, MOST>;
 
 /// A functor at a place.

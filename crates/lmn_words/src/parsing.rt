@@ -21,6 +21,9 @@ const SIZE: u64 = 16_777_216;
 impl Command<'_> {
     /// What the words of the command line ask for; `None` where they aren't of the form. Memory is taken for words of
     /// the form alone.
+    /// No function `command` stands beside the enum, whose name would differ in case alone. Help, version and the
+    /// program's name are switched off in `clap`, since no word of the form asks for them; defaults stand in the
+    /// code.
     pub fn from_words<'w>(
         alloc: Global,
         words: &'w [String],
