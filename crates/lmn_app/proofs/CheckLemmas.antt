@@ -96,7 +96,7 @@ module _ (laws : AcceptedTexts) (printables : PlainsArePrintable) (program : Lis
     start : Fine of.names of.solid
     start = let s = by_numbers in subst (Fine of.names) (sym s.2) (solid_fine of.names of.plain printable s.0 s.1)
 
-    accepted : IsAcceptedSolid of.solid
+    pub accepted : IsAcceptedSolid of.solid
     accepted = let s = by_numbers in subst IsAcceptedSolid (sym s.2) (solid_accepted of.names of.plain printable s.0 s.1)
 
     module _ (alloc : Global) where

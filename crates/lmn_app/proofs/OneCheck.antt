@@ -26,7 +26,7 @@ use Rattle.lmn_app.proofs.TextLemmas.{accepted_at, one_list}
 
 -- ---- a program has one solid
 
-one_solid : (program : List ℕ) (a b : HasSolid program) → a.solid ≡ b.solid
+pub one_solid : (program : List ℕ) (a b : HasSolid program) → a.solid ≡ b.solid
 one_solid program a b =
     let names : a.names ≡ b.names = one_list program a.names b.names a.plain a.accepted.named b.accepted.named a.accepted.accepted.reads in
     let one = one_acceptance program b.names a.plain b.plain a.plans b.plans (accepted_at program a.names b.names a.plain a.plans a.accepted.named b.accepted.named a.accepted.accepted) b.accepted.accepted in

@@ -12,6 +12,7 @@ pub mod Debugs
 pub mod Executions
 pub mod Requests
 pub mod Runnings
+pub mod RunLaws
 pub mod Runs
 pub mod SecondTexts
 pub mod Seconds

@@ -13,6 +13,7 @@ ghost use Rattle.lmn_app.specs.Demos.{SomeDemo};
 ghost use Rattle.lmn_app.specs.DemoLaws.{DemoIsFoldedRun};
 ghost use Rattle.lmn_app.specs.ListingLaws.{OneListing};
 ghost use Rattle.lmn_app.specs.NameExamples.{SomeNames};
+ghost use Rattle.lmn_app.specs.RunLaws.{EarlierRunFirst, OneRun, OneRunSoFar};
 ghost use Rattle.lmn_app.specs.TextExamples.{SmallTextHasItsTrace, SmallTextIsAccepted, SmallTextRuns};
 ghost use Rattle.lmn_app.specs.Texts.{AcceptedOrRefused, OneRefusal, RefusedNotAccepted};
 
@@ -63,6 +64,17 @@ pub fn small_text_runs()
 pub fn small_text_has_its_trace()
     ensures { SmallTextHasItsTrace }
 {}
+
+/// Two runs of one text with the same options have one end and one output, where both came to their end. After as many commits they
+/// have the same lines, however they stop, and with a trace those of fewer commits come first.
+pub fn runs_of_a_text_are_one()
+    ensures one { OneRun }
+    ensures so_far { OneRunSoFar }
+    ensures first { EarlierRunFirst }
+{
+    accepted_texts();
+    plains_are_printable();
+}
 
 /// A text has one listing at most.
 pub fn listings_are_one()
