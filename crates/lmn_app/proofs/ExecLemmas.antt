@@ -134,13 +134,13 @@ module _ (program listing : List ℕ) (of : ReadsCodes program listing) (first :
       codes_ended e (run_ended end n last is valid x same rose) = subst (λ d. EndsExecuted program listing d old new before after) (sym is) (ended_by end n last valid x same rose)
 
 -- a listing is refused by one of its codes
-listing_code : (n : ℕ) (names : List Name) (listing : List ℕ) (code line : ℕ) → IsRefusedListing n names listing code line → IsSecondCode Exec code
-listing_code n names listing code line (not_a_listing w) = inr (inl refl)
-listing_code n names listing code line (not_verified codes are w) = inr (inr refl)
+listing_code : (n : ℕ) (names later : List Name) (listing : List ℕ) (code line : ℕ) → IsRefusedListing n names later listing code line → IsSecondCode Exec code
+listing_code n names later listing code line (not_a_listing w) = inr (inl refl)
+listing_code n names later listing code line (not_verified codes are order w) = inr (inr refl)
 
 -- something is wrong in the listing
 pub wrong_ended : (program listing : List ℕ) (r : Refusal) (x : Option (List ℕ)) (count : Faults) → IsWrongListing program listing r → EndsExecuted program listing (SecondRefused Exec r) x x count count
-wrong_ended program listing r x count w = let plain = w.plain in (w, listing_code (length plain.rules) w.later listing r.code r.pos.line w.wrong, refl, no_put count)
+wrong_ended program listing r x count w = let plain = w.plain in (w, listing_code (length plain.rules) w.names w.later listing r.code r.pos.line w.wrong, refl, no_put count)
 
 -- a run of these codes over this store is one of what they are
 pub ran_over : (names : List Name) (plain : Plain) (codes others : List Code) (first other : Heap) (size : ℕ) → other ≡ first → others ≡ codes → size ≡ executed_size

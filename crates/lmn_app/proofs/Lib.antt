@@ -18,6 +18,7 @@ mod TaskLemmas
 mod OneListing
 mod OneExecution
 mod OneOutput
+mod OneRefusedListing
 mod OneRun
 mod SmallTexts
 mod SmallBounds

@@ -107,4 +107,4 @@ compiled_is_not_wrong g refused program listing refusal is x =
     let same : listing ≡ rule_listings x.names x.plain.rules x.plans =
     one_listing program listing (rule_listings x.names x.plain.rules x.plans) is (record { names = x.names; plain = x.plain; plans = x.plans; accepted = a; is = refl }) in
     refused x.names x.plain x.plans (3 * length listing) x.later refusal.code refusal.pos.line can x.once.once x.adds
-    (subst (λ text. IsRefusedListing (length x.plain.rules) x.later text refusal.code refusal.pos.line) same x.wrong)
+    (subst (λ text. IsRefusedListing (length x.plain.rules) x.names x.later text refusal.code refusal.pos.line) same x.wrong)

@@ -68,7 +68,7 @@ same_rules names k (r ∷ rs) (s ∷ ss) h =
     λ i. tree.rule_of (level_of names (λ n. slice_index_or (rest i) (n - (k + 1)) no_such_rule) (one.head i)) (conditions i)
     (level_of names (λ n. slice_index_or (rest i) (n - (k + 1)) no_such_rule) (one.body i)) ∷ rest i
 
-as_many : (rs ss : List RuleTree) → EachPair SameRule rs ss → length rs ≡ length ss
+pub as_many : (rs ss : List RuleTree) → EachPair SameRule rs ss → length rs ≡ length ss
 as_many [] [] h = refl
 as_many [] (s ∷ ss) h = absurd h
 as_many (r ∷ rs) [] h = absurd h

@@ -253,14 +253,14 @@ leaving_wrong = record {
   later = small_names;
   adds = record { more = []; are = refl; few = omega arith };
   once = small_named;
-  wrong = not_verified (leaving_code ∷ []) leaving_listed (record { rule = 0; code = leaving_code; is = refl; unverified = leaving_not_verified; earlier = tt; number = refl });
+  wrong = not_verified (leaving_code ∷ []) leaving_listed (known (omega arith) no_more) (record { rule = 0; code = leaving_code; is = refl; unverified = leaving_not_verified; earlier = tt; number = refl });
   first = refl;
 }
 
 -- a listing that is refused by 81 has a wrong line
-by_line : {n code line : ℕ} {names : List Name} {listing : List ℕ} → IsRefusedListing n names listing code line → code ≡ 81 → IsWrongLine n listing line
+by_line : {n code line : ℕ} {names later : List Name} {listing : List ℕ} → IsRefusedListing n names later listing code line → code ≡ 81 → IsWrongLine n listing line
 by_line (not_a_listing w) e = w
-by_line (not_verified cs l f) e = absurd (omega (arith, e))
+by_line (not_verified cs l o f) e = absurd (omega (arith, e))
 
 leaving_stands : ListedLinesStand → ¬ (IsWrongListing small_text leaving (at_start 81))
 leaving_stands stand x =
@@ -286,7 +286,7 @@ taking_not_wrong refused refusal x =
     let once = x.once in
     refused 1 (3 * length taking) x.names x.later (taking_code ∷ []) taking refusal.code refusal.pos.line (omega arith) once.once x.adds
     (subst (λ ns. AreListed 1 ns (taking_code ∷ []) taking) (sym names) taking_listed) (taking_verified, tt)
-    (subst (λ n. IsRefusedListing n x.later taking refusal.code refusal.pos.line) (one_rule x.names x.plain x.plans x.accepted) x.wrong)
+    (subst (λ n. IsRefusedListing n x.names x.later taking refusal.code refusal.pos.line) (one_rule x.names x.plain x.plans x.accepted) x.wrong)
 
 -- the others are wrong, and the first isn't
 pub small_listing_is_wrong : VerifiedIsNotRefused → ListedLinesStand → SmallListingIsWrong

@@ -8,7 +8,7 @@ use Rattle.lmn_app.specs.declared.ending.Ending.{Ending}
 use Rattle.lmn_app.specs.declared.ending.Ending.TheVariants.{Done, Budget, Full, NoMemory}
 use Rattle.lmn_app.specs.declared.task.RunSettings.{RunSettings}
 use Rattle.lmn_app.specs.declared.task.Task.TheVariants as task
-use Rattle.lmn_app.specs.Executions.{IsExecuted, IsWrongListing, executed_budget, executed_size}
+use Rattle.lmn_app.specs.Executions.{IsExecuted, IsWrongListing, ReadsCodes, executed_budget, executed_size}
 use Rattle.lmn_app.specs.Outcomes.{Output}
 use Rattle.lmn_app.specs.Writing.{IsListing}
 use Rattle.lmn_drive.specs.declared.driving.RunEnd.{RunEnd}
@@ -35,6 +35,14 @@ CompiledRunsAsRun = (alloc : Global) (program listing written : List ℕ) (end :
 -- And that listing isn't refused.
 abbrev pub CompiledIsNotWrong : Type 0
 CompiledIsNotWrong = (program listing : List ℕ) (refusal : Refusal) → IsListing program listing → IsWrongListing program listing refusal → ⊥
+
+-- A listing that is read beside a program isn't refused beside it,
+abbrev pub ReadNotRefused : Type 0
+ReadNotRefused = (program listing : List ℕ) (refusal : Refusal) → ReadsCodes program listing → ¬ (IsWrongListing program listing refusal)
+
+-- and it is refused by one code at one place at most.
+abbrev pub OneWrongListing : Type 0
+OneWrongListing = (program listing : List ℕ) (refusal other : Refusal) → IsWrongListing program listing refusal → IsWrongListing program listing other → refusal ≡ other
 
 -- Two executions of one listing beside one program have as many commits, one end and one text, where both came to their end. How a store
 -- numbers what it makes doesn't show, and program and listing determine the list of names.

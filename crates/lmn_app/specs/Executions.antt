@@ -77,7 +77,7 @@ IsExecutedAs _ program listing written = ⊥
 
 -- This is wrong in the listing beside the program, at the first column of a line: by the code 81 the line doesn't stand in its place, or
 -- none stands where one is due; else by 82 the code that it begins isn't verified. The names
--- of the lines stand in the list of the program or behind it.
+-- of the lines stand in the list of the program or behind it; by 82 in the order in which the listing has them first, as where codes are read.
 pub record IsWrongListing (program listing : List ℕ) (refusal : Refusal) : Type 0 where
   pub names : List Name
   pub plain : Plain
@@ -86,5 +86,5 @@ pub record IsWrongListing (program listing : List ℕ) (refusal : Refusal) : Typ
   pub later : List Name
   pub adds : AddsNames (3 * length listing) names later
   pub once : IsNames later
-  pub wrong : IsRefusedListing (length plain.rules) later listing refusal.code refusal.pos.line
+  pub wrong : IsRefusedListing (length plain.rules) names later listing refusal.code refusal.pos.line
   pub first : refusal.pos.column ≡ 1

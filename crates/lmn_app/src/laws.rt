@@ -8,7 +8,7 @@ ghost use Rattle.lmn_app.specs.CheckLaws.{CheckedNotWrong, OneCount, OneWrongTra
 ghost use Rattle.lmn_app.specs.DebugExamples.{SmallTextIsDebugged, SmallTextIsNotDebuggedSo};
 ghost use Rattle.lmn_app.specs.DebugLaws.{OneWrongScript, SessionNotRefused, SessionOrRefused};
 ghost use Rattle.lmn_app.specs.ExecExamples.{SmallListingIsRead, SmallListingIsWrong, SmallTextIsExecuted, SmallTextIsNotExecutedSo};
-ghost use Rattle.lmn_app.specs.ExecLaws.{CompiledIsNotWrong, CompiledRunsAsRun, OneOutput};
+ghost use Rattle.lmn_app.specs.ExecLaws.{CompiledIsNotWrong, CompiledRunsAsRun, OneOutput, OneWrongListing, ReadNotRefused};
 ghost use Rattle.lmn_app.specs.Demos.{SomeDemo};
 ghost use Rattle.lmn_app.specs.DemoLaws.{DemoIsFoldedRun};
 ghost use Rattle.lmn_app.specs.ListingLaws.{OneListing};
@@ -28,7 +28,7 @@ use lmn_runs::{plains_are_printable, short_run_prints, traces_are_runs};
 use lmn_script::{orders_are_once, scripts_are_decided};
 use lmn_turn::plains_are_tables;
 use lmn_verified::{compiled_are_listed, listed_codes_are_one};
-use lmn_verify::laws::listed_lines_stand;
+use lmn_verify::laws::{listed_lines_stand, wrong_line_is_one};
 use lmn_weight::{plains_weigh_alike, weights_are_read_once, weights_are_told_or_wrong};
 
 /// A text that is refused isn't accepted, and it has one refusal at most.
@@ -186,6 +186,17 @@ pub fn executions_are_one()
     accepted_can_be_listed();
     listed_codes_are_one();
     runs_are_one();
+}
+
+/// A listing that is read beside a program isn't refused beside it, and it is refused by one code at one place at most.
+pub fn refused_listings_are_one()
+    ensures apart { ReadNotRefused }
+    ensures refusal { OneWrongListing }
+{
+    accepted_can_be_listed();
+    listed_codes_are_one();
+    listed_lines_stand();
+    wrong_line_is_one();
 }
 
 /// Beside `a. a :- b.` a listing is read whose code takes an `a` away, and is run to its end after one commit. A listing whose code

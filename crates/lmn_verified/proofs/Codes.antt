@@ -32,6 +32,6 @@ all_at P (y ∷ ys) (suc k) x h e = all_at P ys k x h.1 e
 
 pub verified_is_not_refused : VerifiedIsNotRefused
 verified_is_not_refused n k names later cs text code line small once puts a v (not_a_listing w) = listed_lines_stand n names cs text _ small a w
-verified_is_not_refused n k names later cs text code line small once puts a v (not_verified ds b f) =
+verified_is_not_refused n k names later cs text code line small once puts a v (not_verified ds b order f) =
     let same = listed_codes_are_read n k names later cs ds text small once puts a b in
     f.unverified (all_at (λ c. IsVerified c n) ds f.rule f.code (subst (AllByRecursion (λ c. IsVerified c n)) same v) f.is)

@@ -44,4 +44,4 @@ CompiledAreRead =
 abbrev pub CompiledIsNotRefused : Type 0
 CompiledIsNotRefused =
     (names : List (List ℕ)) (p : Plain) (plans : List GuardPlan) (k : ℕ) (later : List (List ℕ)) (code line : ℕ) → CanBeListed names p plans → NamesOnce later → AddsNames k names later
-    → IsRefusedListing (length p.rules) later (rule_listings names p.rules plans) code line → ⊥
+    → IsRefusedListing (length p.rules) names later (rule_listings names p.rules plans) code line → ⊥

@@ -33,4 +33,4 @@ ListedNamesAreOne =
 abbrev pub VerifiedIsNotRefused : Type 0
 VerifiedIsNotRefused =
     (n k : ℕ) (names later : List (List ℕ)) (cs : List Code) (text : List ℕ) (code line : ℕ) → n < 2 ^ 32 → NamesOnce later → AddsNames k names later
-    → AreListed n names cs text → AllByRecursion (λ c. IsVerified c n) cs → IsRefusedListing n later text code line → ⊥
+    → AreListed n names cs text → AllByRecursion (λ c. IsVerified c n) cs → IsRefusedListing n names later text code line → ⊥

@@ -1,10 +1,12 @@
 -- When a text is the listings of verified codes, and why another is refused.
 use Rattle.std.specs.Prelude.{ℕ, ◌≡◌, ◌≢◌, ◌+◌, Bool, true, false, List, [], ◌∷◌, ◌++◌, Some, length, slice_get, take}
-use Rattle.std.specs.List.{AllByRecursion}
+use Rattle.std.specs.List.{AllByRecursion, flat_map}
+use Rattle.lmn_functors.specs.Reading.{NumbersNames}
 use Rattle.lmn_instr.specs.declared.instr.Code.{Code}
 use Rattle.lmn_instr.specs.declared.instr.Instr.{Instr}
 use Rattle.lmn_instr.specs.declared.instr.Instr.TheVariants.{Commit, Proceed}
 use Rattle.lmn_instr.specs.Listings.{line, code_listing, HasCode}
+use Rattle.lmn_verify.specs.Operands.{code_names}
 use Rattle.lmn_verify.specs.Verified.{IsVerified}
 use Rattle.lmn_verify.specs.Opcodes.{opcode_of, is_in_head}
 use Rattle.lmn_verify.specs.Lines.{HasShortNames, FitsInstr, IsWholeLine, IsWrongLine}
@@ -58,8 +60,9 @@ pub record IsFirstUnverified (n : ℕ) (codes : List Code) (k : ℕ) : Type 0 wh
   pub earlier : AllByRecursion (λ c. IsVerified c n) (take rule codes)
   pub number : k ≡ 1 + lines_of_all (take rule codes)
 
--- The text is refused: by 81 at a line that doesn't stand in its place, or by 82 where it is the listings of codes, with these
--- names.
-pub data IsRefusedListing (n : ℕ) (names : List (List ℕ)) (listing : List ℕ) : ℕ → ℕ → Type 0 where
-  not_a_listing : {k : ℕ} → IsWrongLine n listing k → IsRefusedListing n names listing 81 k
-  not_verified : {k : ℕ} (codes : List Code) → AreListed n names codes listing → IsFirstUnverified n codes k → IsRefusedListing n names listing 82 k
+-- The text is refused: by 81 at a line that doesn't stand in its place, or by 82 where it is the listings of codes, whose names were
+-- put behind those before in the order in which they stand in it.
+pub data IsRefusedListing (n : ℕ) (before later : List (List ℕ)) (listing : List ℕ) : ℕ → ℕ → Type 0 where
+  not_a_listing : {k : ℕ} → IsWrongLine n listing k → IsRefusedListing n before later listing 81 k
+  not_verified : {k : ℕ} (codes : List Code) → AreListed n later codes listing → NumbersNames before (flat_map code_names codes) later → IsFirstUnverified n codes k
+      → IsRefusedListing n before later listing 82 k

@@ -263,7 +263,7 @@ fn first_unverified(alloc: Global, codes: &[Code], rules: u32) -> Result<Option<
 }
 
 /// Reads the listings of the codes of so many rules, numbered from 0 on and one behind the other. Each code is verified.
-/// New names are put; where codes are read, in the order in which they stand in the listing.
+/// New names are put; where codes are read, verified or not, in the order in which they stand in the listing.
 ///
 /// # Errors
 ///
@@ -281,7 +281,7 @@ pub fn read(
     ensures verified { IfOk result (λ codes. AllByRecursion (λ c. IsVerified c rules) codes) }
     ensures order { IfOk result (λ codes. NumbersNames names.old (flat_map code_names codes) names.new) }
     ensures names { AddsNames (3 * length listing.now) names.old names.new }
-    ensures refused { IfErr result (λ e. IfRefused e (λ r. IsRefusedListing rules names.new listing.now r.code r.pos.line × (r.pos.column ≡ 1))) }
+    ensures refused { IfErr result (λ e. IfRefused e (λ r. IsRefusedListing rules names.old names.new listing.now r.code r.pos.line × (r.pos.column ≡ 1))) }
 {
     let codes = read_codes(alloc, listing, rules, names)?;
     match first_unverified(alloc, codes.as_slice(), rules)? {

@@ -50,7 +50,7 @@ returns-in-Err-Refused g c = λ program a.
       later = c.read.new.names;
       adds = c.in-Err-Refused.ensures.names;
       once = c.stand_once-in-Err-Refused.ensures;
-      wrong = subst (λ n. IsRefusedListing n c.read.new.names c.args.listing.now r.code r.pos.line) many wrong.0;
+      wrong = subst (λ n. IsRefusedListing n c.args.names.now c.read.new.names c.args.listing.now r.code r.pos.line) many wrong.0;
       first = wrong.1;
     } in
     rw c.in-Err-Refused.field-0-is (wrong_ended program c.args.listing.now r (g.O.Sink.told c.args.out.now) (g.O.Sink.faults c.args.out.now) is)
