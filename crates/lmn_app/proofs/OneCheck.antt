@@ -5,24 +5,30 @@ use Rattle.std.specs.List.{concat}
 use Rattle.std.specs.declared.alloc.Global.{Global}
 use Rattle.lmn_accepted.specs.Rules.{AcceptedTexts}
 use Rattle.lmn_adequacy.proofs.Numbering.{numbered_one}
+use Rattle.lmn_adequacy.proofs.PlainSolids.{solids_of_plains_exist}
+use Rattle.lmn_base.specs.declared.rule.Plain.{Plain}
 use Rattle.lmn_congruence.specs.Plains.{SolidOf}
 use Rattle.lmn_congruence.specs.Regions.{Region}
+use Rattle.lmn_congruence.specs.Rules.{Name}
 use Rattle.lmn_congruence.specs.Translation.{top_of}
+use Rattle.lmn_guards.specs.declared.plan.GuardPlan.{GuardPlan}
+use Rattle.lmn_linkcheck.proofs.LinkedLemmas.{no_fault_is_linked}
 use Rattle.lmn_order.specs.declared.order.Order.{Order}
 use Rattle.lmn_order.specs.declared.order.Order.TheVariants.{First, Turn, Seed}
 use Rattle.lmn_order.specs.Orders.{chosen}
 use Rattle.lmn_reading.proofs.OneRead.{one_acceptance}
 use Rattle.lmn_receipt.specs.Chains.{IsChain, IsWrongTrace, line_of_solid}
-use Rattle.lmn_receipt.specs.Laws.{ChainsAreCommits, ChoosesBelow, ContinuesByCommit, IsOneOf, TracesAreChains, TracesAreOneOf}
+use Rattle.lmn_receipt.specs.Laws.{ChainsAreCommits, ChoosesBelow, ContinuesByCommit, IsOneOf, NoTraceIsNeither, TracesAreChains, TracesAreOneOf}
 use Rattle.lmn_reduction.proofs.OneSolid.{solid_is_one}
 use Rattle.lmn_runs.specs.Runs.{Given, LinesOf, Stop, StopsSo, end_line, printed_solids, word_of_stop}
 use Rattle.lmn_runs.specs.Texts.{PlainsArePrintable}
-use Rattle.lmn_app.specs.CheckLaws.{CheckedNotWrong, OneCount, OneWrongTrace, RunsAreChecked}
+use Rattle.lmn_app.specs.CheckLaws.{CheckedNotWrong, CheckedOrWrong, OneCount, OneWrongTrace, RunsAreChecked}
 use Rattle.lmn_app.specs.Checks.{HasSolid, IsChecked}
 use Rattle.lmn_app.specs.Runs.{IsTraceOf}
 use Rattle.lmn_app.specs.Writing.{given, run_text}
-use Rattle.lmn_app.proofs.CheckLemmas.{by_numbers, chain_checked, printable_of}
-use Rattle.lmn_app.proofs.TextLemmas.{accepted_at, one_list}
+use Rattle.lmn_app.specs.Texts.{Accepts}
+use Rattle.lmn_app.proofs.CheckLemmas.{by_numbers, chain_checked, printable_of, solid_made}
+use Rattle.lmn_app.proofs.TextLemmas.{accepted_at, made, one_list}
 
 -- ---- a program has one solid
 
@@ -76,6 +82,24 @@ module _ (on : Grounds) where
   checked_not_wrong alloc program trace n refusal f w =
       let one = is_one_of alloc program trace w.of in
       one.not_both n refusal (subst (λ S. IsChain S trace n) (one_solid program f.of w.of) f.chain) w.wrong
+
+  -- an accepted program has a solid
+  some_solid : (program : List ℕ) (names : List Name) (plain : Plain) (plans : List GuardPlan) → Accepts program names plain plans → HasSolid program
+  some_solid program names plain plans a =
+      let read = a.accepted in
+      let well = made read in
+      let linked = (no_fault_is_linked plain well).0 read.links in
+      let s = solids_of_plains_exist plain well linked.process in
+      (solid_made on.laws on.printables program names plain plans a s.0 s.1).0
+
+  -- no trace is neither
+  pub checked_or_wrong : NoTraceIsNeither → CheckedOrWrong
+  checked_or_wrong neither alloc program trace (names, plain, plans, a, fits) both =
+      let of = some_solid program names plain plans a in
+      neither of.solid trace (
+        (λ n chain. both.0 n (chain_checked on.laws on.printables program of alloc on.commits on.each trace n chain)),
+        (λ refusal wrong. both.1 refusal (record { of = of; wrong = wrong })),
+      )
 
   -- and it is wrong in one way at most
   pub one_wrong_trace : OneWrongTrace

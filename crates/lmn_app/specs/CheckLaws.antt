@@ -1,10 +1,11 @@
 -- What is said of a trace beside a program is said in one way, and what a run writes of its trace is checked.
-use Rattle.std.specs.Prelude.{◌≡◌, ℕ, List, Option, true, false}
+use Rattle.std.specs.Prelude.{◌≡◌, ℕ, List, Option, None, true, false}
 use Rattle.std.specs.declared.alloc.Global.{Global}
 use Rattle.lmn_base.specs.declared.refusal.Refusal.{Refusal}
 use Rattle.lmn_runs.specs.Runs.{Stop}
 use Rattle.lmn_app.specs.declared.task.RunSettings.{RunSettings}
 use Rattle.lmn_app.specs.Checks.{IsChecked, IsWrongTraceOf}
+use Rattle.lmn_app.specs.Texts.{IsAccepted}
 use Rattle.lmn_app.specs.Writing.{Told, WritesRun, run_text}
 
 -- A trace is one of so many commits of a program at most. A box in a condition belongs to an allocator, so one is given, here and below.
@@ -14,6 +15,11 @@ OneCount = (alloc : Global) (program trace : List ℕ) (n m : ℕ) → IsChecked
 -- it isn't wrong too
 abbrev pub CheckedNotWrong : Type 0
 CheckedNotWrong = (alloc : Global) (program trace : List ℕ) (n : ℕ) (refusal : Refusal) → IsChecked program trace n → ¬ (IsWrongTraceOf program trace refusal)
+
+-- and no trace is neither beside an accepted program: it is one of some number of commits, or it is wrong
+abbrev pub CheckedOrWrong : Type 0
+CheckedOrWrong = (alloc : Global) (program trace : List ℕ) → IsAccepted None program →
+    ¬ (((n : ℕ) → ¬ (IsChecked program trace n)) × ((refusal : Refusal) → ¬ (IsWrongTraceOf program trace refusal)))
 
 -- a trace is wrong at one line at most, and in one way
 abbrev pub OneWrongTrace : Type 0

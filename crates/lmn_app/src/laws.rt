@@ -4,7 +4,7 @@
 ghost use Rattle.lmn_app.specs.BoundExamples.{SmallTextIsBounded, SmallTextIsNotByTwo, SmallTextIsNotLowered};
 ghost use Rattle.lmn_app.specs.BoundLaws.{BoundNotRefused, BoundOrRefused, BoundWhereLowered, OneBound, OneWrongWeights};
 ghost use Rattle.lmn_app.specs.CheckExamples.{NothingIsWrong, SmallTextIsChecked, SmallTextIsNotTwice};
-ghost use Rattle.lmn_app.specs.CheckLaws.{CheckedNotWrong, OneCount, OneWrongTrace, RunsAreChecked};
+ghost use Rattle.lmn_app.specs.CheckLaws.{CheckedNotWrong, CheckedOrWrong, OneCount, OneWrongTrace, RunsAreChecked};
 ghost use Rattle.lmn_app.specs.DebugExamples.{SmallTextIsDebugged, SmallTextIsNotDebuggedSo};
 ghost use Rattle.lmn_app.specs.DebugLaws.{OneWrongScript, SessionNotRefused, SessionOrRefused};
 ghost use Rattle.lmn_app.specs.ExecExamples.{SmallListingIsRead, SmallListingIsWrong, SmallTextIsExecuted, SmallTextIsNotExecutedSo};
@@ -23,7 +23,7 @@ use lmn_bridge::solids_are_regions;
 use lmn_coded::{runs_are_one, tables_run_as_rules};
 use lmn_listable::accepted_can_be_listed;
 use lmn_loading::loading_settles;
-use lmn_receipt::{chains_are_commits, traces_are_chains, traces_are_one_of};
+use lmn_receipt::{chains_are_commits, no_trace_is_neither, traces_are_chains, traces_are_one_of};
 use lmn_runs::{plains_are_printable, short_run_prints, traces_are_runs};
 use lmn_script::{orders_are_once, scripts_are_decided};
 use lmn_turn::plains_are_tables;
@@ -108,6 +108,7 @@ pub fn weights_bound_or_are_refused()
 pub fn traces_are_checked()
     ensures one { OneCount }
     ensures apart { CheckedNotWrong }
+    ensures neither { CheckedOrWrong }
     ensures refusal { OneWrongTrace }
     ensures runs { RunsAreChecked }
 {
@@ -116,6 +117,7 @@ pub fn traces_are_checked()
     chains_are_commits();
     traces_are_chains();
     traces_are_one_of();
+    no_trace_is_neither();
 }
 
 /// The lines of `a. a :- b.` and of what comes of it are a trace of it, of one commit and no more; nothing at all is none.

@@ -4,3 +4,4 @@ mod SmallChains
 mod LineBytes
 mod OneSolid
 mod OneChain
+mod ChainOrWrong

@@ -20,7 +20,7 @@ use Rattle.lmn_base.proofs.Numbers.{below_or_from as below_or}
 
 -- ---- lines
 
-lines_more : (xs : List Region) (y : Region) → concat (map line_of_solid (xs ++ y ∷ [])) ≡ concat (map line_of_solid xs) ++ line_of_solid y
+pub lines_more : (xs : List Region) (y : Region) → concat (map line_of_solid (xs ++ y ∷ [])) ≡ concat (map line_of_solid xs) ++ line_of_solid y
 lines_more [] y = append-nil (line_of_solid y)
 lines_more (x ∷ xs) y =
     ap (λ t. line_of_solid x ++ t) (lines_more xs y) ∙ sym (append_assoc (line_of_solid x) (concat (map line_of_solid xs)) (line_of_solid y))

@@ -61,3 +61,7 @@ pub record IsOneOf (S : Region) (trace : List ℕ) : Type 0 where
 abbrev pub TracesAreOneOf : Type 0
 TracesAreOneOf = (alloc : Global) (names : List Name) (plain : Plain) (s : Solid) → IsPrintable names plain → IsSolidOf plain s →
     (trace : List ℕ) → IsOneOf (solid_of names plain s) trace
+
+-- And no trace is neither: one that isn't a chain from a solid on, of whatever number of commits, is wrong beside it at some line.
+abbrev pub NoTraceIsNeither : Type 0
+NoTraceIsNeither = (S : Region) (trace : List ℕ) → ¬ (((n : ℕ) → ¬ (IsChain S trace n)) × ((refusal : Refusal) → ¬ (IsWrongTrace S trace refusal)))

@@ -1,7 +1,7 @@
 //! The laws of chains.
 
 ghost use Rattle.lmn_receipt.specs.Examples.{Empty, MoreBehind, NoEnd, NoFiring, NothingFires, WrongWord};
-ghost use Rattle.lmn_receipt.specs.Laws.{ChainsAreCommits, ContinuesByCommit, TracesAreChains, TracesAreOneOf};
+ghost use Rattle.lmn_receipt.specs.Laws.{ChainsAreCommits, ContinuesByCommit, NoTraceIsNeither, TracesAreChains, TracesAreOneOf};
 
 /// What is written of a trace that stops is a chain.
 pub fn traces_are_chains()
@@ -24,7 +24,12 @@ pub fn small_chains()
     ensures empty { Empty }
 {}
 
-/// A trace beside the solid of a plain is a chain or wrong, and not both, of so many commits or at one line alone.
+/// A trace beside the solid of a plain isn't a chain and wrong, and is one of so many commits or at one line alone.
 pub fn traces_are_one_of()
     ensures { TracesAreOneOf }
+{}
+
+/// No trace is neither a chain from a solid on nor wrong beside it.
+pub fn no_trace_is_neither()
+    ensures { NoTraceIsNeither }
 {}

@@ -7,5 +7,5 @@ mod next;
 mod walk;
 
 pub use checking::check;
-pub use laws::{chains_are_commits, small_chains, traces_are_chains, traces_are_one_of};
+pub use laws::{chains_are_commits, no_trace_is_neither, small_chains, traces_are_chains, traces_are_one_of};
 pub use next::{NextSolid, NextSolids};
