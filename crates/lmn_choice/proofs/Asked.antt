@@ -26,7 +26,7 @@ use Rattle.lmn_strategy.specs.Counting.{AsksRules, asks_all as code_all, asks_no
 use Rattle.lmn_turn.specs.Turning.{Leads, enters, stays}
 use Rattle.lmn_turn.proofs.PlanTypes.{plan_types}
 use Rattle.lmn_choice.specs.Counting.{AsksRulesOf, asks_all, asks_none, asks_until, rule_count_at, rule_count_below}
-use Rattle.lmn_choice.specs.Laws.{EachWith, RulesAreAskedAlike, each_and, each_none}
+use Rattle.lmn_choice.specs.Laws.{EachWith, NothingEmbedsThere, RulesAreAskedAlike, each_and, each_none}
 use Rattle.lmn_choice.specs.Turns.{HaveCodes, IsReadWith, heap_region}
 use Rattle.lmn_choice.proofs.Codes.{coded, embedded_succeeds}
 use Rattle.lmn_choice.proofs.Lists.{got_front}
@@ -97,3 +97,9 @@ module _ (heads : AcceptedHeads) (embeddings : CodeOfEmbeddings) (alike : Embeds
 pub rules_are_asked_alike : AcceptedHeads → CodeOfEmbeddings → EmbedsAlike → RulesAreAskedAlike
 rules_are_asked_alike heads embeddings alike table plans codes c h r inner w from n asks =
     asks_alike heads embeddings alike table plans codes c h r inner w ((numbered_alike h r inner w.tree).asked from) asks
+
+-- no rule embeds in a membrane of which no rule has a code that succeeds
+pub nothing_embeds_there : AcceptedHeads → CodeOfEmbeddings → EmbedsAlike → NothingEmbedsThere
+nothing_embeds_there heads embeddings alike table plans codes c h r inner w m path leads none k f e =
+    let z = succeeds_there heads embeddings alike table plans codes c h r inner w leads e in
+    none z.0 (got_in (rules_in h m) k z.0 z.1) z.2

@@ -12,13 +12,13 @@ use Rattle.lmn_machine.specs.Costs.{Leaves}
 use Rattle.lmn_congruence.specs.Regions.{Region, item_count_of_region}
 use Rattle.lmn_reduction.specs.Commits.{Irreducible}
 use Rattle.lmn_adequacy.specs.Choice.{NextFrom, paths, asked_paths}
-use Rattle.lmn_adequacy.specs.Embedding.{HasEmbedding}
+use Rattle.lmn_adequacy.specs.Embedding.{EmbedsIn, HasEmbedding}
 use Rattle.lmn_adequacy.specs.Numbered.{IsNumbered}
 use Rattle.lmn_adequacy.specs.Runs.{Chooser, Turn}
 use Rattle.lmn_bridge.specs.HeapRegions.{HeapReading}
 use Rattle.lmn_bridge.specs.Laws.{heap_process}
 use Rattle.lmn_bridge.specs.Premises.{IsRead}
-use Rattle.lmn_strategy.specs.Choosing.{CodeSucceeds, NoneIn, asked as asked_on_heap}
+use Rattle.lmn_strategy.specs.Choosing.{CodeSucceeds, NoneIn, NoneOf, asked as asked_on_heap}
 use Rattle.lmn_strategy.specs.Counting.{AsksRules}
 use Rattle.lmn_turn.specs.Commits.{IsTable}
 use Rattle.lmn_turn.specs.Turning.{Leads, renumbered_reading}
@@ -57,6 +57,12 @@ pub record EndsByCode (codes : List Code) (h : Heap) (r : HeapReading) (inner : 
 abbrev pub NothingEmbeds : Type 0
 NothingEmbeds = (table : List RuleTree) (plans : List GuardPlan) (codes : List Code) → HaveCodes table plans codes →
     (h : Heap) (r : HeapReading) (inner : Forest) → IsReadWith h r inner table → EndsByCode codes h r inner
+
+-- Nor does any rule embed in one membrane, to which a path leads, where no code of its rules succeeds in it.
+abbrev pub NothingEmbedsThere : Type 0
+NothingEmbedsThere = (table : List RuleTree) (plans : List GuardPlan) (codes : List Code) → HaveCodes table plans codes →
+    (h : Heap) (r : HeapReading) (inner : Forest) → IsReadWith h r inner table → (m : ℕ) (path : List ℕ) → Leads h m path h.root → NoneOf h codes m (rules_in h m) →
+    (k : ℕ) (f : List ℕ) → ¬ (EmbedsIn path k f (heap_region h r inner))
 
 -- What is chosen by code is chosen by the calculus,
 abbrev pub ChoicesAlike : Type 0

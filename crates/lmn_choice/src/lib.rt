@@ -5,7 +5,7 @@
 #![tactic(auto)]
 
 ghost use Rattle.lmn_choice.specs.Examples.{AcrossHasTwoPaths, AcrossIsReadWith};
-ghost use Rattle.lmn_choice.specs.Laws.{ChoicesAgree, ChoicesAlike, CostsAreItems, CostsAreTold, HeapsAreNumbered, MarksAreNotRead, MembranesAreNumberedAlike, NothingEmbeds, RulesAreAskedAlike, SparesAreNotRead, TurnsAreAlike, TurnsAreOfChooser};
+ghost use Rattle.lmn_choice.specs.Laws.{ChoicesAgree, ChoicesAlike, CostsAreItems, CostsAreTold, HeapsAreNumbered, MarksAreNotRead, MembranesAreNumberedAlike, NothingEmbeds, NothingEmbedsThere, RulesAreAskedAlike, SparesAreNotRead, TurnsAreAlike, TurnsAreOfChooser};
 
 use lmn_adequacy::{
     embeddings_fire, firings_commit, matching_is_exact, next_is_one, numbering_is_one,
@@ -100,6 +100,15 @@ pub fn heaps_are_numbered()
 /// As many rules are asked by code, until one succeeds, as are asked in the region, until one embeds.
 pub fn rules_are_asked_alike()
     ensures { RulesAreAskedAlike }
+{
+    accepted_heads();
+    code_means_embedding();
+    rules_embed_alike();
+}
+
+/// No rule embeds in a membrane of which no rule has a code that succeeds in it.
+pub fn nothing_embeds_there()
+    ensures { NothingEmbedsThere }
 {
     accepted_heads();
     code_means_embedding();

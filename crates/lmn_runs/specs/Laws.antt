@@ -44,3 +44,11 @@ abbrev pub TracesHaveLines : Type 0
 TracesHaveLines = (g : Given) (S : Region) (before : List Region) (last : Region) → Closed (region_process S) →
     Trace g.chooser g.budget g.size S before last →
     (lines : List (List ℕ)) × PrintedLines g before last lines × ((other : List (List ℕ)) → PrintedLines g before last other → other ≡ lines)
+
+-- A run has one way to stop at a solid after n commits: not two,
+abbrev pub StopIsOne : Type 0
+StopIsOne = (g : Given) (n : ℕ) (S : Region) (why because : Stop) → StopsSo g n S why → StopsSo g n S because → why ≡ because
+
+-- and not none.
+abbrev pub SomeStop : Type 0
+SomeStop = (g : Given) (n : ℕ) (S : Region) → ¬ ((why : Stop) → ¬ (StopsSo g n S why))

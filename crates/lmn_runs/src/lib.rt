@@ -5,7 +5,7 @@
 #![tactic(auto)]
 
 ghost use Rattle.lmn_runs.specs.Examples.{ShortRunPrints};
-ghost use Rattle.lmn_runs.specs.Laws.{TracesAreRuns, TracesHaveLines};
+ghost use Rattle.lmn_runs.specs.Laws.{SomeStop, StopIsOne, TracesAreRuns, TracesHaveLines};
 ghost use Rattle.lmn_runs.specs.Texts.{PlainsArePrintable};
 
 /// The lines of a trace of the solid of a plain are those of a run: each reads back as its process, each next process comes by
@@ -17,6 +17,12 @@ pub fn traces_are_runs()
 /// Each trace has lines, and one line for each solid.
 pub fn traces_have_lines()
     ensures { TracesHaveLines }
+{}
+
+/// A run has one way to stop at a solid, and not two or none.
+pub fn stops_are_one()
+    ensures one { StopIsOne }
+    ensures some { SomeStop }
 {}
 
 /// Runs of the plain that is read of a text can be printed: a text can spell its top and its rules, since its tokens did.

@@ -6,7 +6,7 @@ use Rattle.lmn_congruence.specs.Rules.{Name}
 use Rattle.lmn_heap.specs.Heap.{Heap}
 use Rattle.lmn_heap.specs.Sound.{Forest, IsTree, flat}
 use Rattle.lmn_instr.specs.declared.instr.Code.{Code}
-use Rattle.lmn_strategy.specs.Counting.{CountsAsked, RisesWithin, rule_count}
+use Rattle.lmn_strategy.specs.Counting.{CountsAsked, CountsUpTo, RisesWithin, awake_of, rule_count}
 use Rattle.lmn_adequacy.specs.Choice.{asked_paths}
 use Rattle.lmn_choice.specs.Counting.{AsksRulesOf}
 use Rattle.lmn_schedule.specs.Held.{EngineCanTurn, HoldsRegion}
@@ -35,3 +35,7 @@ pub record CountsAskedOf (S : Region) (from old new : ℕ) : Type 0 where
 abbrev pub CountsAreAlike : Type 0
 CountsAreAlike = (names : List Name) (table : List RuleTree) (h : Heap) (S : Region) (codes : List Code) (size : ℕ) → HoldsRegion names table h S → EngineCanTurn h table codes size →
     (from old new : ℕ) → CountsAsked h codes from old new → CountsAskedOf S from old new
+
+-- What is counted on a heap is at most the number of rules in its membranes that are awake, and one at least where there is such a rule.
+abbrev pub AttemptsAreFew : Type 0
+AttemptsAreFew = (h : Heap) (codes : List Code) (from old new : ℕ) → CountsAsked h codes from old new → (f : Forest) → IsTree h f → CountsUpTo (rule_count h (awake_of h (flat f))) old new

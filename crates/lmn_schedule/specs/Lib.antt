@@ -2,3 +2,4 @@ pub mod Held
 pub mod Lending
 pub mod Turning
 pub mod Counting
+pub mod Sleeping

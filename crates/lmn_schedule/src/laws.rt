@@ -1,9 +1,10 @@
 //! Laws of heaps that an engine can turn.
-ghost use Rattle.lmn_schedule.specs.Counting.{CountsAreAlike, RulesAreCounted};
+ghost use Rattle.lmn_schedule.specs.Counting.{AttemptsAreFew, CountsAreAlike, RulesAreCounted};
 ghost use Rattle.lmn_schedule.specs.Held.{HeapsHoldSolids};
+ghost use Rattle.lmn_schedule.specs.Sleeping.{SleepersDoNotEmbed};
 
 use lmn_bridge::heaps_are_named;
-use lmn_choice::{heaps_are_numbered, rules_are_asked_alike};
+use lmn_choice::{heaps_are_numbered, nothing_embeds_there, rules_are_asked_alike};
 use lmn_turn::plains_are_tables;
 
 /// A heap that an engine can turn holds a solid, where the names of its atoms are known, whoever made it: also after the store
@@ -27,4 +28,16 @@ pub fn counts_are_alike()
     ensures { CountsAreAlike }
 {
     rules_are_asked_alike();
+}
+
+/// `turn` and `reducible` call the matcher at most as often as rules stand in membranes that are awake.
+pub fn attempts_are_few()
+    ensures { AttemptsAreFew }
+{}
+
+/// No rule of a membrane that sleeps embeds in it.
+pub fn sleepers_do_not_embed()
+    ensures { SleepersDoNotEmbed }
+{
+    nothing_embeds_there();
 }

@@ -6,7 +6,10 @@ mod laws;
 mod rousing;
 
 pub use engine::Engine;
-pub use laws::{counts_are_alike, heaps_hold_solids, rules_are_counted};
+pub use laws::{
+    attempts_are_few, counts_are_alike, heaps_hold_solids, rules_are_counted,
+    sleepers_do_not_embed,
+};
 pub use lmn_loading::LoadFault;
 pub use lmn_strategy::Turn;
 pub use rousing::rouse_all;
