@@ -1,8 +1,11 @@
 -- Runs of codes over heaps, and what is written of them.
-use Rattle.std.specs.Prelude.{ℕ, ◌≡◌, ◌<◌, ◌≤◌, ◌+◌, ◌++◌, ◌⊎◌, List, Option, false, codes}
+use Rattle.std.specs.Prelude.{ℕ, ◌≡◌, ◌<◌, ◌≤◌, ◌+◌, ◌++◌, ◌⊎◌, List, Option, codes}
 use Rattle.lmn_base.specs.declared.rule.RuleTree.{RuleTree}
+use Rattle.lmn_base.specs.declared.solid.Solid.{Solid}
 use Rattle.lmn_congruence.specs.Rules.{Name}
+use Rattle.lmn_congruence.specs.Translation.{region_of}
 use Rattle.lmn_heap.specs.Heap.{Heap}
+use Rattle.lmn_heap.specs.Solid.{HasSolid}
 use Rattle.lmn_heap.specs.Sound.{Forest, IsTree, Valid, flat}
 use Rattle.lmn_instr.specs.declared.instr.Code.{Code}
 use Rattle.lmn_io.specs.Taking.{Takes, TakesPrefix}
@@ -11,7 +14,8 @@ use Rattle.lmn_strategy.specs.declared.turning.Turn.{Turn}
 use Rattle.lmn_strategy.specs.declared.turning.Turn.TheVariants as turn
 use Rattle.lmn_adequacy.specs.Runs.{irreducible, budget_done, full}
 use Rattle.lmn_runs.specs.Runs.{end_line, end_word}
-use Rattle.lmn_folded_printer.specs.Lines.{IsHeapLine}
+use Rattle.lmn_plain.specs.SolidLines.{as_level}
+use Rattle.lmn_plain.specs.Words.{line_of}
 use Rattle.lmn_drive.specs.declared.driving.RunEnd.{RunEnd}
 use Rattle.lmn_drive.specs.declared.driving.RunEnd.TheVariants.{Irreducible, Budget, Full, NoMemory, Failed}
 use Rattle.lmn_coded.specs.declared.executing.Halt.{Halt}
@@ -76,11 +80,15 @@ pub record CodedInput : Type 0 where
 abbrev pub Wrote : List ℕ → RunEnd → RunEnd → Option (List ℕ) → Option (List ℕ) → Type 0
 Wrote text due end old new = ((end ≡ due) × Takes text old new) ⊎ ((end ≡ Failed) × TakesPrefix text old new)
 
+-- the plain line of a solid of the heap
+abbrev pub IsPlainLine : List Name → List RuleTree → Heap → List ℕ → Type 0
+IsPlainLine names table h line = (x : Solid) × HasSolid h x × (line ≡ line_of (as_level (region_of names table x)))
+
 -- A run that ended so: why it stopped after n commits, with the heap h', and what the sink took. That is the plain line of the last heap,
 -- and the end line.
 pub record Executed (g : CodedInput) (n : ℕ) (h' : Heap) (end : RunEnd) (old new : Option (List ℕ)) : Type 0 where
   pub why : Halt
   pub halted : HaltedRun g.codes g.budget g.size g.first n why h'
   pub line : List ℕ
-  pub is_line : IsHeapLine false g.names g.table halted.last line
+  pub is_line : IsPlainLine g.names g.table halted.last line
   pub wrote : Wrote (line ++ end_line (halt_word why) n) (halt_end why) end old new

@@ -1,11 +1,12 @@
 -- What a list of orders does, and what is written of it. Nothing here speaks of a store.
-use Rattle.std.specs.Prelude.{ℕ, ◌≡◌, ◌≢◌, ◌-◌, ⊤, List, [], ◌∷◌, ◌++◌, codes, decimal, false}
+use Rattle.std.specs.Prelude.{ℕ, ◌≡◌, ◌≢◌, ◌-◌, ⊤, List, [], ◌∷◌, ◌++◌, codes, decimal}
 use Rattle.std.specs.List.{concat}
 use Rattle.lmn_base.specs.declared.functor.Functor.{Functor}
 use Rattle.lmn_base.specs.declared.guard.Cmp.{Cmp}
 use Rattle.lmn_congruence.specs.Regions.{Region}
 use Rattle.lmn_congruence.specs.Rules.{Name}
-use Rattle.lmn_folded.specs.Lines.{IsLine}
+use Rattle.lmn_plain.specs.SolidLines.{as_level}
+use Rattle.lmn_plain.specs.Words.{line_of}
 use Rattle.lmn_debug.specs.Courses.{Course, IsAt, Stepped, Waited, wish}
 use Rattle.lmn_debug.specs.declared.session.Stop.{Stop}
 use Rattle.lmn_debug.specs.declared.session.Stop.TheVariants.{Done, Irreducible, Full, Met, Limit, NoMemory}
@@ -35,7 +36,7 @@ pub data Obeys (names : List Name) (g : Course) (t : ℕ) : Order → List ℕ �
   went_back : {n : ℕ} → Obeys names g t (Back n) (line_at (t - n) Done) (t - n)
   waited : {f : Functor} {op : Cmp} {n t' : ℕ} {stop : Stop} → stop ≢ NoMemory → Waited names g (wish f op n) t stop t' →
       Obeys names g t (Until f op n) (line_at t' stop) t'
-  shown : {S : Region} {line : List ℕ} → IsAt g t S → IsLine false S line → Obeys names g t Show line t
+  shown : {S : Region} {line : List ℕ} → IsAt g t S → line ≡ line_of (as_level S) → Obeys names g t Show line t
 
 -- Orders one behind the other, the first of them at the number 0: their lines, and the number behind the last.
 pub data ObeysAll (names : List Name) (g : Course) : List Order → List (List ℕ) → ℕ → Type 0 where
