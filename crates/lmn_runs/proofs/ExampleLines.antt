@@ -49,7 +49,6 @@ module _ (alloc : Global) (names : List Name) (is : IsNames names) (a : Contains
       record {
         plain = back.0;
         reads = back.1;
-        is = ap line_of (sym back.2);
         process = sym (same_process S) ∙ ap level_process (sym back.2);
         closed = λ x. inl refl;
       }

@@ -176,7 +176,6 @@ module _ (names : List Name) where
         record {
           plain = back.0;
           reads = back.1;
-          is = ap line_of (sym back.2);
           process = sym (same_process S) ∙ ap level_process (sym back.2);
           closed = f.closed;
         }

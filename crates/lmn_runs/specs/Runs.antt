@@ -5,10 +5,9 @@ use Rattle.lmn_base.specs.declared.rule.Plain.{Plain}
 use Rattle.lmn_congruence.specs.Process.{Process, Closed}
 use Rattle.lmn_congruence.specs.Regions.{Region}
 use Rattle.lmn_congruence.specs.Rules.{Name}
-use Rattle.lmn_congruence.specs.Translation.{plain_process, top_of}
+use Rattle.lmn_congruence.specs.Translation.{plain_process}
 use Rattle.lmn_plain.specs.Plains.{EachPair}
 use Rattle.lmn_plain.specs.Texts.{IsPlainOfText}
-use Rattle.lmn_plain.specs.Words.{line_of}
 use Rattle.lmn_folded.specs.Lines.{IsLine}
 use Rattle.lmn_folded_same.specs.ReadBack.{IsFoldedLineOf}
 use Rattle.lmn_reduction.specs.Chains.{Commits}
@@ -47,11 +46,10 @@ StopsBy budget no_memory n P = (n < budget) × ¬ (Irreducible P)
 -- ---- what is printed, in the calculus
 
 -- P is the process of this line, and it is closed. The line reads, where no limit is asked, as a text with this plain, by a list of
--- names; it is the line of the plain's top.
+-- names.
 pub record IsLineOf (names : List Name) (P : Process) (line : List ℕ) : Type 0 where
   pub plain : Plain
   pub reads : IsPlainOfText line names plain
-  pub is : line ≡ line_of (top_of names plain)
   pub process : P ≡ plain_process names plain
   pub closed : Closed P
 
