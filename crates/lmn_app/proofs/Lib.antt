@@ -23,6 +23,7 @@ mod OneRun
 mod SmallTexts
 mod SmallBounds
 mod SmallRuns
+mod SmallFolded
 mod SmallSessions
 mod SmallExecutions
 mod OneSession

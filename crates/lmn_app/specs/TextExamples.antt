@@ -70,6 +70,11 @@ SmallTextRuns = (alloc : Global) (budget : ℕ) → 1 ≤ budget →
     × IsRun false false budget small_text (small_end ∷ []) (at_end irreducible) 1
     × ((line : List ℕ) (n : ℕ) → ¬ (IsRun true false budget small_text (line ∷ []) (at_end irreducible) n))
 
+-- So are they with `--folded`, where nothing is folded.
+abbrev pub SmallTextRunsFolded : Type 0
+SmallTextRunsFolded = (alloc : Global) (budget : ℕ) → 1 ≤ budget →
+    IsRun true true budget small_text small_lines (at_end irreducible) 1 × IsRun false true budget small_text (small_end ∷ []) (at_end irreducible) 1
+
 -- what such a run is given
 abbrev pub plainly : Bool → ℕ → ℕ → Chooser → Given
 plainly trace budget size chooser = record { trace = trace; folded = false; budget = budget; size = size; chooser = chooser }

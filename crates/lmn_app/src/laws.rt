@@ -14,7 +14,7 @@ ghost use Rattle.lmn_app.specs.DemoLaws.{DemoIsFoldedRun};
 ghost use Rattle.lmn_app.specs.ListingLaws.{OneListing};
 ghost use Rattle.lmn_app.specs.NameExamples.{SomeNames};
 ghost use Rattle.lmn_app.specs.RunLaws.{EarlierRunFirst, OneRun, OneRunSoFar};
-ghost use Rattle.lmn_app.specs.TextExamples.{SmallTextHasItsTrace, SmallTextIsAccepted, SmallTextRuns};
+ghost use Rattle.lmn_app.specs.TextExamples.{SmallTextHasItsTrace, SmallTextIsAccepted, SmallTextRuns, SmallTextRunsFolded};
 ghost use Rattle.lmn_app.specs.Texts.{AcceptedOrRefused, OneRefusal, RefusedNotAccepted};
 
 use lmn_accepted::{accepted_texts, accepted_texts_can_be_loaded};
@@ -58,6 +58,15 @@ pub fn small_text_runs()
     ensures { SmallTextRuns }
 {
     short_run_prints();
+}
+
+/// The lines of its run with `--folded`.
+pub fn small_text_runs_folded()
+    ensures { SmallTextRunsFolded }
+{
+    accepted_texts();
+    plains_are_printable();
+    traces_are_runs();
 }
 
 /// These are the lines of its trace too, whichever membrane is asked first, and no line alone is.
