@@ -22,7 +22,7 @@ use Rattle.lmn_choice.proofs.Numbers.{numbered_alike}
 use Rattle.lmn_flat.specs.declared.flat.Flat.{Flat}
 use Rattle.lmn_flat.specs.Flats.{FlatsAreRead, heap_of, reading_of}
 use Rattle.lmn_flat.proofs.Preorder.{in_range, range_from}
-use Rattle.lmn_plain_search.specs.Turns.{AskedAt, FiresIn, FiringsAreNext, NoneBefore}
+use Rattle.lmn_plain_search.specs.Turns.{AskedAt, EmbedsThere, FiresIn, FiringsAreNext, NoneBefore}
 use Rattle.lmn_next.specs.Asking.{IsSearched}
 use Rattle.lmn_next.specs.Choosing.{IsFirst, NoneIn, numbers_of}
 use Rattle.lmn_next.specs.Laws.{FirstIsChosen, NoneHasEmbedding}
@@ -99,6 +99,28 @@ module _ (reads : FlatsAreRead) (have_rules : FlatsHaveRules) (may_fire : Search
           next = u.fires.next_at;
         }
 
+  -- Where nothing embeds in the membranes below one, and a rule of that one does, the strategy would choose that rule from the root on, so
+  -- something embeds.
+  some_embeds : FirstIsChosen → (m : ℕ) → m < count → NoneBefore plain.rules plans h 0 count m → EmbedsThere names plain plans s flat m → HasEmbedding S
+  some_embeds first_law m l none u =
+      let here : AskedAt 0 count m m = (l, inl (omega arith)) in
+      let root : 0 < count = omega (arith, l) in
+      let x = reached 0 count m m 0 root l here (omega arith) root (omega arith) in
+      let c = first_law plain.rules plans w.can.whole h r inner (read_with names plain plans s flat w reads have_rules may_fire) 0 m u.place u.rule u.plan u.found
+      (record {
+        earlier = take x.turn_there (turned 0 count);
+        later = x.later;
+        order = ap (λ xs. drop 0 xs ++ take 0 xs) in_order ∙ x.order;
+        none = λ y i. let e = x.earlier y i in none e.0 y e.1 e.2;
+        number = u.asked.number;
+        stands = u.asked.stands;
+        before = u.before;
+        rule_is = u.asked.is;
+        plan_is = u.asked.plan_is;
+        least = u.least;
+      }) in
+      subst (λ (z : Region). HasEmbedding z) is_region (record { path = c.path; number = u.place; positions = numbers_of h u.rule u.plan u.found; embeds = c.chosen.embeds })
+
   none_embeds : NoneHasEmbedding → (from : ℕ) → from < count → NoneBefore plain.rules plans h from count count → ¬ (HasEmbedding S)
   none_embeds law from f none e =
       let all : NoneIn plain.rules plans h (preorder (mem 0 inner bare)) = λ m i.
@@ -111,5 +133,6 @@ pub firings_are_next : FirstIsChosen → NoneHasEmbedding → FlatsAreRead → F
 firings_are_next first_law none_law reads have_rules may_fire = record {
   counted = λ names plain plans s flat w count counts. counted reads have_rules may_fire names plain plans s flat w count counts;
   next = λ names plain plans s flat w count counts from turn m f l a none next u k low high within. next_from reads have_rules may_fire names plain plans s flat w count counts first_law from turn m f l a none next u k low high within;
+  embeds = λ names plain plans s flat w count counts m l none u. some_embeds reads have_rules may_fire names plain plans s flat w count counts first_law m l none u;
   none = λ names plain plans s flat w count counts from f none. none_embeds reads have_rules may_fire names plain plans s flat w count counts none_law from f none;
 }

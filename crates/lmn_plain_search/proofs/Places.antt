@@ -23,7 +23,7 @@ use Rattle.lmn_congruence.specs.Rules.{Name}
 use Rattle.lmn_flat.specs.declared.flat.Flat.{Flat}
 use Rattle.lmn_flat.specs.Flats.{heap_of}
 use Rattle.lmn_next.specs.Asking.{Fires, IsAsked, IsSearched}
-use Rattle.lmn_plain_search.specs.Turns.{AskedRules, FiresIn}
+use Rattle.lmn_plain_search.specs.Turns.{AskedRules, EmbedsThere, FiresIn}
 
 -- what is in a front with one element more is in the front, or this element
 in_more : (xs : List ℕ) (i k x : ℕ) → slice_get xs i ≡ Some k → In x (take (suc i) xs) → In x (take i xs) ⊎ (k ≡ x)
@@ -86,6 +86,19 @@ module _ (laws : AskedRules) (names : List Name) (plain : Plain) (plans : List G
     asked = a;
     before = subst (λ z. NoneOf plain.rules plans (heap_of flat) m (take place z)) e none;
     fires = f;
+  }
+
+  -- or it embeds
+  pub embeds_here : (rule : RuleTree) (plan : GuardPlan) → IsAsked names plain plans s flat m place rule plan → NoneOf plain.rules plans (heap_of flat) m (take place xs) → (f : Images) × IsLeast (heap_of flat) (head_items rule plan) rule.guard m f →
+      EmbedsThere names plain plans s flat m
+  embeds_here rule plan a none f = record {
+    place = place;
+    rule = rule;
+    plan = plan;
+    asked = a;
+    before = subst (λ z. NoneOf plain.rules plans (heap_of flat) m (take place z)) e none;
+    found = f.0;
+    least = f.1;
   }
 
   -- and where no rule before it embeds, and it doesn't

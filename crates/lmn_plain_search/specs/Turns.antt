@@ -7,6 +7,7 @@ use Rattle.lmn_base.specs.declared.solid.Solid.{Solid}
 use Rattle.lmn_guards.specs.declared.plan.GuardPlan.{GuardPlan}
 use Rattle.lmn_heap.specs.Heap.{Heap, IsMem, rules_in}
 use Rattle.lmn_heap.specs.Sound.{Valid}
+use Rattle.lmn_solid.specs.Embeddings.{Images, IsLeast}
 use Rattle.lmn_solid.specs.Flattening.{unnumbered}
 use Rattle.lmn_compile_head.specs.Accepted.{head_items}
 use Rattle.lmn_compile_head.specs.Heads.{IsHead, kind_in}
@@ -50,10 +51,21 @@ pub record FiresIn (names : List Name) (plain : Plain) (plans : List GuardPlan) 
   pub before : NoneOf plain.rules plans (heap_of flat) m (take place (rules_in (heap_of flat) m))
   pub fires : Fires names plain s flat m place rule plan next
 
+-- Of the rules of membrane m, one is the first that embeds there, and it lies least at these images.
+pub record EmbedsThere (names : List Name) (plain : Plain) (plans : List GuardPlan) (s : Solid) (flat : Flat) (m : ℕ) : Type 0 where
+  pub place : ℕ
+  pub rule : RuleTree
+  pub plan : GuardPlan
+  pub asked : IsAsked names plain plans s flat m place rule plan
+  pub before : NoneOf plain.rules plans (heap_of flat) m (take place (rules_in (heap_of flat) m))
+  pub found : Images
+  pub least : IsLeast (heap_of flat) (head_items rule plan) rule.guard m found
+
 -- What is known of firings. `count` is how many membranes there are.
 --   counted   as many as paths
 --   next      where nothing embeds in the membranes of earlier turns, and a rule of that of this turn fires, the next solid is that of the
 --             strategy, from each number that is reached
+--   embeds    where nothing embeds in the membranes below one, and a rule of that one does, something embeds
 --   none      where nothing embeds in those of all turns, nothing embeds
 pub record FiringsAreNext : Type 0 where
   pub counted : (names : List Name) (plain : Plain) (plans : List GuardPlan) (s : Solid) (flat : Flat) → IsSearched names plain plans s flat →
@@ -62,6 +74,9 @@ pub record FiringsAreNext : Type 0 where
       (count : ℕ) → ((m : ℕ) → IsMem (heap_of flat) m ↔ (m < count)) → (from turn m : ℕ) → from < count → turn < count → AskedAt from count turn m →
       NoneBefore plain.rules plans (heap_of flat) from count turn → (next : Solid) → FiresIn names plain plans s flat m next →
       (k : ℕ) → from ≤ k → k < count → k ≤ from + turn → NextFrom k (region_of names plain.rules s) (region_of names plain.rules next)
+  pub embeds : (names : List Name) (plain : Plain) (plans : List GuardPlan) (s : Solid) (flat : Flat) → IsSearched names plain plans s flat →
+      (count : ℕ) → ((m : ℕ) → IsMem (heap_of flat) m ↔ (m < count)) → (m : ℕ) → m < count → NoneBefore plain.rules plans (heap_of flat) 0 count m →
+      EmbedsThere names plain plans s flat m → HasEmbedding (region_of names plain.rules s)
   pub none : (names : List Name) (plain : Plain) (plans : List GuardPlan) (s : Solid) (flat : Flat) → IsSearched names plain plans s flat →
       (count : ℕ) → ((m : ℕ) → IsMem (heap_of flat) m ↔ (m < count)) → (from : ℕ) → from < count → NoneBefore plain.rules plans (heap_of flat) from count count →
       ¬ (HasEmbedding (region_of names plain.rules s))

@@ -10,5 +10,5 @@ mod plans;
 mod rules;
 mod searching;
 
-pub use next::{next_from, next_of};
+pub use next::{embeds, next_from, next_of};
 pub use searching::PlainSearch;

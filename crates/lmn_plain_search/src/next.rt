@@ -1,5 +1,5 @@
 //! The next solid.
-ghost use Rattle.std.specs.Prelude.{◌≡◌, ◌<◌, ◌≤◌, ℕ, List, IfOk, IfSome, None, length};
+ghost use Rattle.std.specs.Prelude.{◌≡◌, ◌<◌, ◌≤◌, ℕ, List, IfOk, IfSome, IsFalse, IsTrue, None, length};
 ghost use Rattle.lmn_congruence.specs.Rules.{Name};
 ghost use Rattle.lmn_congruence.specs.Translation.{region_of};
 ghost use Rattle.lmn_adequacy.specs.Choice.{NextFrom, paths};
@@ -13,7 +13,7 @@ ghost use Rattle.lmn_next.specs.Searching.{CanSearch, IsSolidBy};
 use crate::laws::firings_are_next;
 use crate::order::{asked_at, reach_of};
 use crate::plans::plans_of;
-use crate::rules::fire_in;
+use crate::rules::{embeds_in, fire_in};
 use lmn_base::{NoMemory, Plain, Solid};
 use lmn_flat::Flat;
 use lmn_guards::GuardPlan;
@@ -61,6 +61,35 @@ pub fn next_from(
         }
     }
     Ok(None)
+}
+
+/// Whether a rule of some membrane of a solid embeds. No solid is made. `plans` has the plan of each rule.
+///
+/// # Errors
+///
+/// `NoMemory` at want of memory.
+pub fn embeds(
+    alloc: Global,
+    solid: &Solid,
+    plain: &Plain,
+    plans: &[GuardPlan],
+) -> Result<bool, NoMemory>
+    requires { (names : List Name) × CanSearch names plain.now plans.now × IsSolidBy names plain.now solid.now }
+    ensures some { (names : List Name) → CanSearch names plain.now plans.now → IsSolidBy names plain.now solid.now →
+        IfOk result (λ is. IsTrue is → HasEmbedding (region_of names plain.now.rules solid.now)) }
+    ensures none { (names : List Name) → CanSearch names plain.now plans.now → IsSolidBy names plain.now solid.now →
+        IfOk result (λ is. IsFalse is → ¬ (HasEmbedding (region_of names plain.now.rules solid.now))) }
+{
+    firings_are_next();
+    let flat = Flat::of(alloc, solid)?;
+    let mut room = Room::new(alloc, &flat)?;
+    let count = flat.membrane_count();
+    for membrane in 0..count {
+        if embeds_in(alloc, &flat, plain, plans, membrane, &mut room)? {
+            return Ok(true);
+        }
+    }
+    Ok(false)
 }
 
 /// The solid after the firing that the strategy chooses, where membranes are asked from a number on, wrapping round; `None` where no rule

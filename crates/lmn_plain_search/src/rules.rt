@@ -1,5 +1,5 @@
 //! Rules that are asked in a membrane.
-ghost use Rattle.std.specs.Prelude.{◌≡◌, ◌<◌, ℕ, List, IfOk, IfSome, None, Some, length, slice_get, take};
+ghost use Rattle.std.specs.Prelude.{◌≡◌, ◌<◌, ℕ, List, IfOk, IfSome, IsFalse, IsTrue, None, Some, length, slice_get, take};
 ghost use Rattle.lmn_base.specs.declared.rule.Plain.{Plain};
 ghost use Rattle.lmn_base.specs.declared.solid.Solid.{Solid};
 ghost use Rattle.lmn_congruence.specs.Rules.{Name};
@@ -13,7 +13,7 @@ ghost use Rattle.lmn_search.specs.Holding.{HasRoom};
 ghost use Rattle.lmn_next.specs.Choosing.{NoneOf};
 ghost use Rattle.lmn_next.specs.Firing.{TellsIntegers};
 ghost use Rattle.lmn_next.specs.Asking.{Fires, IsAsked, IsSearched};
-ghost use Rattle.lmn_plain_search.specs.Turns.{FiresIn};
+ghost use Rattle.lmn_plain_search.specs.Turns.{EmbedsThere, FiresIn};
 
 use crate::laws::asked_rules;
 use lmn_base::{NoMemory, Plain, Rows, RuleTree, Solid};
@@ -95,6 +95,37 @@ fn fire_rule(
     }
 }
 
+/// Whether a rule embeds in a membrane. It is looked for as where it fires, and no solid is made.
+fn rule_embeds(
+    alloc: Global,
+    flat: &Flat,
+    rule: &RuleTree,
+    plan: &GuardPlan,
+    membrane: usize,
+    room: &mut Room,
+) -> Result<bool, NoMemory>
+    requires asked { (names : List Name) × (plain : Plain) × (plans : List GuardPlan) × (s : Solid) × (place : ℕ) × IsAsked names plain plans s flat.now membrane place rule.now plan.now }
+    requires room { HasRoom (heap_of flat.now) room.old }
+    ensures room { HasRoom (heap_of flat.now) room.new }
+    ensures some { IfOk result (λ is. IsTrue is → (f : Images) × IsLeast (heap_of flat.now) (head_items rule.now plan.now) rule.now.guard membrane f) }
+    ensures none { IfOk result (λ is. IsFalse is → (f : Images) → ¬ (Embeds (heap_of flat.now) (head_items rule.now plan.now) rule.now.guard membrane f)) }
+{
+    asked_rules();
+    let items = flatten(alloc, &rule.head, plan)?;
+    let least = least(
+        alloc,
+        flat,
+        items.as_slice(),
+        rule.guard.as_slice(),
+        membrane,
+        room,
+    )?;
+    match least {
+        None => Ok(false),
+        Some(_found) => Ok(true),
+    }
+}
+
 /// The number of the rule at a place.
 fn rule_at(rules: &[u32], place: usize) -> usize
     requires { place < length rules.now }
@@ -136,4 +167,38 @@ pub(crate) fn fire_in(
         }
     }
     Ok(None)
+}
+
+/// Whether a rule of a membrane embeds there.
+pub(crate) fn embeds_in(
+    alloc: Global,
+    flat: &Flat,
+    plain: &Plain,
+    plans: &[GuardPlan],
+    membrane: usize,
+    room: &mut Room,
+) -> Result<bool, NoMemory>
+    requires searched { (names : List Name) × (s : Solid) × IsSearched names plain.now plans.now s flat.now }
+    requires there { IsMem (heap_of flat.now) membrane }
+    requires room { HasRoom (heap_of flat.now) room.old }
+    ensures room { HasRoom (heap_of flat.now) room.new }
+    ensures some { (names : List Name) (s : Solid) → IsSearched names plain.now plans.now s flat.now → IfOk result (λ is. IsTrue is → EmbedsThere names plain.now plans.now s flat.now membrane) }
+    ensures none { IfOk result (λ is. IsFalse is → NoneOf plain.now.rules plans.now (heap_of flat.now) membrane (rules_in (heap_of flat.now) membrane)) }
+{
+    asked_rules();
+    let rules = flat.rules(membrane);
+    for turn in 0..rules.len() {
+        let number = rule_at(rules, turn);
+        if rule_embeds(
+            alloc,
+            flat,
+            plain.rules.at(number),
+            &plans[number],
+            membrane,
+            room,
+        )? {
+            return Ok(true);
+        }
+    }
+    Ok(false)
 }

@@ -1,5 +1,5 @@
 //! Next solids of the rules of a plain.
-use crate::next::next_from;
+use crate::next::{embeds, next_from};
 use lmn_base::{Names, NoMemory, Plain, Solid};
 use lmn_guards::GuardPlan;
 use lmn_receipt::{NextSolid, NextSolids};
@@ -50,6 +50,10 @@ impl NextSolids for PlainSearch<'_> {
         from: u64,
     ) -> Result<Option<NextSolid>, NoMemory> {
         next_from(alloc, solid, self.plain, self.plans, from)
+    }
+
+    fn embeds(&self, alloc: Global, solid: &Solid) -> Result<bool, NoMemory> {
+        embeds(alloc, solid, self.plain, self.plans)
     }
 
     fn hint(&self, alloc: Global, solid: &Solid, text: &[u8]) -> Result<u64, NoMemory> {

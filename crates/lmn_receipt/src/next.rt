@@ -11,7 +11,7 @@ pub struct NextSolid {
 
 /// What gives next solids and knows lines of solids.
 pub trait NextSolids {
-    ghost use Rattle.std.specs.Prelude.{◌≡◌, ◌<◌, ◌≤◌, ◌++◌, ℕ, List, None, IfOk, IfSome, drop, length};
+    ghost use Rattle.std.specs.Prelude.{◌≡◌, ◌<◌, ◌≤◌, ◌++◌, ℕ, List, None, IsTrue, IsFalse, IfOk, IfSome, drop, length};
     ghost use Rattle.lmn_base.specs.declared.solid.Solid.{Solid};
     ghost use Rattle.lmn_congruence.specs.Regions.{Region};
     ghost use Rattle.lmn_adequacy.specs.Choice.{NextFrom, paths};
@@ -44,6 +44,12 @@ pub trait NextSolids {
         ensures reach { IfOk result (λ found. IfSome found (λ next. (from ≤ next.reach) × (next.reach < length (paths (region self.now solid.now))))) }
         ensures next { IfOk result (λ found. IfSome found (λ next. (k : ℕ) → from ≤ k → k ≤ next.reach → NextFrom k (region self.now solid.now) (region self.now next.solid))) }
         ensures none { IfOk result (λ found. found ≡ None → ¬ (HasEmbedding (region self.now solid.now))) };
+
+    /// Whether a rule of some membrane embeds.
+    fn embeds(&self, alloc: Global, solid: &Solid) -> Result<bool, NoMemory>
+        requires { fits self.now solid.now }
+        ensures some { IfOk result (λ is. IsTrue is → HasEmbedding (region self.now solid.now)) }
+        ensures none { IfOk result (λ is. IsFalse is → ¬ (HasEmbedding (region self.now solid.now))) };
 
     /// Which membrane is worth asking first for a solid whose line a text begins with. Any answer is right.
     fn hint(&self, alloc: Global, solid: &Solid, text: &[u8]) -> Result<u64, NoMemory>

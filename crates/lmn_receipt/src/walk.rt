@@ -59,22 +59,19 @@ fn end<N: NextSolids>(
     requires there { IsEndThere rest.now }
     ensures { IfOk result (IsStep (N.region solids.now) (N.fits solids.now) (N.region solids.now solid.now) rest.now commits) }
 {
-    match solids.next_from(alloc, solid, 0)? {
-        None => {
-            if is_end_line(alloc, rest, b"irreducible", commits)? {
-                Ok(Step::Done)
-            } else {
-                Ok(Step::WrongEnd)
-            }
+    let embeds = solids.embeds(alloc, solid)?;
+    let other = is_other_end(alloc, rest, commits)?;
+    let stuck = is_end_line(alloc, rest, b"irreducible", commits)?;
+    if embeds {
+        if other {
+            Ok(Step::Done)
+        } else {
+            Ok(Step::WrongEnd)
         }
-        Some(next) => {
-            let_go(next);
-            if is_other_end(alloc, rest, commits)? {
-                Ok(Step::Done)
-            } else {
-                Ok(Step::WrongEnd)
-            }
-        }
+    } else if stuck {
+        Ok(Step::Done)
+    } else {
+        Ok(Step::WrongEnd)
     }
 }
 
