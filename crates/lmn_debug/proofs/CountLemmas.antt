@@ -1,11 +1,14 @@
 -- How many atoms have a functor: in a list, in some membranes of a heap, and in its solid.
-use Rattle.std.proofs.Common.{ℕ, suc, ◌≡◌, ◌<◌, ◌≤◌, ◌+◌, ◌^◌, Bool, true, false, cond, List, [], ◌∷◌, ◌++◌, map, length, Option, Some, None, IsSome, refl, sym, ap, subst, ◌∙◌, arith}
-use Rattle.std.specs.Prelude.{slice_get}
+use Rattle.std.proofs.Common.{ℕ, suc, ◌≡◌, ◌<◌, ◌≤◌, ◌+◌, ◌-◌, ◌^◌, ◌⊎◌, inl, inr, Bool, true, false, cond, List, [], ◌∷◌, ◌++◌, map, length, Option, Some, None, IsSome, refl, sym, ap, subst, ◌∙◌, arith}
+use Rattle.std.specs.Prelude.{◌↔◌, slice_get}
 use Rattle.std.specs.List.{AllByRecursion}
 use Rattle.std.specs.Option.{option_map}
 use Rattle.std.proofs.lemmas.List.Elements.{All-append}
 use Rattle.std.proofs.lemmas.List.Sums.{sum-map, sum_by-cons}
 use Rattle.lmn_base.specs.declared.functor.Functor.{Functor}
+use Rattle.lmn_base.specs.declared.guard.Cmp.{Cmp}
+use Rattle.lmn_base.specs.declared.guard.Cmp.TheVariants.{Lt, Le, Gt, Ge, Eq, Ne}
+use Rattle.lmn_base.specs.Lists.{In}
 use Rattle.lmn_base.specs.declared.rule.RuleTree.{RuleTree}
 use Rattle.lmn_base.specs.Names.{HasNames, label_names}
 use Rattle.std.proofs.lemmas.Option.{slice_get_within}
@@ -24,7 +27,8 @@ use Rattle.lmn_bridge.specs.Premises.{IsRead}
 use Rattle.lmn_bridge.proofs.Counting.{list_atoms}
 use Rattle.lmn_bridge.proofs.Pieces.{atom_at, atom_by, atoms_each}
 use Rattle.lmn_schedule.specs.Held.{HoldsRegion, reading_by}
-use Rattle.lmn_debug.specs.Counts.{AreSo, none, one, other, HasFunctor, IsCount, atoms_of, atoms_in_all, count_in}
+use Rattle.lmn_debug.specs.Breaks.{StandsSo}
+use Rattle.lmn_debug.specs.Counts.{AreSo, none, one, other, HasFunctor, IsCapped, IsCount, atoms_of, atoms_in_all, count_in}
 
 -- no more have the functor than there are
 pub with_few : (h : Heap) (f : Functor) (xs : List ℕ) → length (with_functor h f xs) ≤ length xs
@@ -125,7 +129,14 @@ module _ (h : Heap) (r : HeapReading) (read : IsRead h r) (f : Functor) (known :
       (let e : length (with_functor h f (atoms_in h m)) + count_in h f (flat inner) ≡ length (with_functor h f (atoms_in h m)) + count_in h f (flat inner ++ []) = omega (arith, sums) in e)
       (both_so (list_so m) (forest_so inner))
 
--- the number that a walk over the membranes counts is that of the solid
+-- the number in the membranes of a heap is that of the solid,
+pub count_is : (names : List Name) (table : List RuleTree) (h : Heap) (S : Region) (o : HoldsRegion names table h S) (f : Functor) → HasNames names (label_names f.label) →
+    IsCount names f S (count_in h f (flat (mem h.root o.inner bare)))
+count_is names table h S o f known =
+    let r = reading_by names table o.number in
+    subst (λ R. IsCount names f R (count_in h f (flat (mem h.root o.inner bare)))) (sym o.is) (region_so h r o.read f known h.root o.inner)
+
+-- and so is the number that a walk over the membranes counts
 pub count_held : (names : List Name) (table : List RuleTree) (h : Heap) (S : Region) → HoldsRegion names table h S → (f : Functor) → HasNames names (label_names f.label) →
     (n : ℕ) → ((g : Forest) → IsTree h g → n ≡ count_in h f (flat g)) → IsCount names f S n
 count_held names table h S o f known n counts =
@@ -159,3 +170,54 @@ walk_fits h f total here m i items xs e w s n b =
   where
     sums : (total here size a all long i items most : ℕ) → total + (size + a) ≡ all → here ≡ size → i < long → all + long ≤ most → items + 1 ≡ most → items < 2 ^ 64 → total + here < 2 ^ 64
     sums total here size a all long i items most e w s c n b = omega (arith, e, w, s, c, n, b)
+
+-- A walk that goes no further than `most`: one membrane is counted whole, and the number is not reached,
+pub capped_next : (h : Heap) (f : Functor) (total here most m : ℕ) (o : Option ℕ) (xs : List ℕ) → total + count_in h f (from (Some m) xs) ≡ count_in h f xs → total ≤ most →
+    IsCapped (length (with_functor h f (atoms_in h m))) (most - total) here → ¬ (total + here ≡ most) → from o xs ≡ after m xs → (total + here) + count_in h f (from o xs) ≡ count_in h f xs
+capped_next h f total here most m o xs e l c far n = walk_next h f total here m o xs e (elim c.one [ inl s ↦ s | inr s ↦ absurd (far (omega (arith, s, l))) ]) n
+
+-- or it is reached,
+pub capped_full : (h : Heap) (f : Functor) (total here most m : ℕ) (xs : List ℕ) → total + count_in h f (from (Some m) xs) ≡ count_in h f xs →
+    IsCapped (length (with_functor h f (atoms_in h m))) (most - total) here → total + here ≡ most → IsCapped (count_in h f xs) most (total + here)
+capped_full h f total here most m xs e c full =
+    let sum : count_in h f (from (Some m) xs) ≡ length (with_functor h f (atoms_in h m)) + count_in h f (after m xs) = refl in
+    let b = c.below in
+    record { within = omega (arith, full); below = omega (arith, e, sum, b); one = inr full }
+
+-- or all are counted
+pub capped_end : (h : Heap) (f : Functor) (total here most m : ℕ) (xs : List ℕ) → total + count_in h f (from (Some m) xs) ≡ count_in h f xs → total ≤ most →
+    IsCapped (length (with_functor h f (atoms_in h m))) (most - total) here → ¬ (total + here ≡ most) → from None xs ≡ after m xs → IsCapped (count_in h f xs) most (total + here)
+capped_end h f total here most m xs e l c far n =
+    let all = capped_next h f total here most m None xs e l c far n in
+    let w = c.within in
+    record { within = omega (arith, w, l); below = omega (arith, all); one = inl (omega (arith, all)) }
+
+-- no more atoms have the functor than there are items
+pub count_within : (h : Heap) (f : Functor) (g : Forest) (items : ℕ) → IsTree h g → items + 1 ≡ item_count_in h (flat g) → count_in h f (flat g) ≤ items
+count_within h f g items t e =
+    let some = (root_first h g t).0 in
+    let few = count_few h f (flat g) in
+    let l = one_at_least h.root (flat g) some in
+    omega (arith, e, few, l)
+  where
+    one_at_least : (x : ℕ) (xs : List ℕ) → In x xs → 1 ≤ length xs
+    one_at_least x [] p = absurd p
+    one_at_least x (y ∷ ys) p = omega arith
+
+-- counts that are at least a number above n stand alike to n
+pub capped_stands : (op : Cmp) (n k most r : ℕ) → IsCapped k most r → (n < most) ⊎ (most ≡ 2 ^ 64 - 1) → k < 2 ^ 64 → StandsSo op r n ↔ StandsSo op k n
+capped_stands op n k most r c more fits = elim c.one [
+  | inl e ↦ (λ s. subst (λ z. StandsSo op z n) e s, λ s. subst (λ z. StandsSo op z n) (sym e) s)
+  | inr e ↦ elim more [
+    | inl l ↦ (let b = c.below in beyond op n k r (omega (arith, e, l)) (omega (arith, e, l, b)))
+    | inr m ↦ (let b = c.below in let same : r ≡ k = omega (arith, e, m, b, fits) in (λ s. subst (λ z. StandsSo op z n) same s, λ s. subst (λ z. StandsSo op z n) (sym same) s))
+  ]
+]
+  where
+    beyond : (op : Cmp) (n k r : ℕ) → n < r → n < k → StandsSo op r n ↔ StandsSo op k n
+    beyond Lt n k r l m = (λ s. absurd (let t : r < n = s in omega (arith, l, t)), λ s. absurd (let t : k < n = s in omega (arith, m, t)))
+    beyond Le n k r l m = (λ s. absurd (let t : r ≤ n = s in omega (arith, l, t)), λ s. absurd (let t : k ≤ n = s in omega (arith, m, t)))
+    beyond Gt n k r l m = (λ s. m, λ s. l)
+    beyond Ge n k r l m = (λ s. omega (arith, m), λ s. omega (arith, l))
+    beyond Eq n k r l m = (λ s. absurd (let t : r ≡ n = s in omega (arith, l, t)), λ s. absurd (let t : k ≡ n = s in omega (arith, m, t)))
+    beyond Ne n k r l m = (λ s e. omega (arith, m, e), λ s e. omega (arith, l, e))

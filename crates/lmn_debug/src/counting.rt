@@ -1,10 +1,12 @@
 //! How many atoms of a store have a functor. Nothing here takes memory.
-ghost use Rattle.std.specs.Prelude.{◌≡◌, length};
+ghost use Rattle.std.specs.Prelude.{◌≡◌, ◌↔◌, IsTrue, length};
 ghost use Rattle.lmn_heap.specs.Heap.{IsMem, atoms_in};
 ghost use Rattle.lmn_heap.specs.Functors.{with_functor};
 ghost use Rattle.lmn_heap.specs.Sound.{Forest, IsTree, Valid, flat};
-ghost use Rattle.lmn_debug.specs.Counts.{count_in};
+ghost use Rattle.lmn_debug.specs.Breaks.{AnswersSo, StandsSo};
+ghost use Rattle.lmn_debug.specs.Counts.{IsCapped, count_in};
 
+use crate::Break;
 use lmn_base::Functor;
 use lmn_store::LinkStore;
 
@@ -42,4 +44,59 @@ pub fn count_atoms<S: LinkStore>(store: &S, functor: Functor) -> u64
         }
     }
     0
+}
+
+/// How many atoms of a membrane have the functor, or `most` where there are more.
+fn count_some<S: LinkStore>(store: &S, membrane: S::Mem, functor: Functor, most: u64) -> u64
+    requires { IsMem (S.heap store.now) (S.mem_id membrane) }
+    ensures { IsCapped (length (with_functor (S.heap store.now) functor (atoms_in (S.heap store.now) (S.mem_id membrane)))) most result }
+{
+    let mut at = store.first_with(membrane, functor);
+    for seen in 0..most {
+        match at {
+            Some(atom) => at = store.next_with(atom),
+            None => return seen,
+        }
+    }
+    most
+}
+
+/// How many atoms of a store have the functor, at every depth, or `most` where there are more. It goes no further than that.
+fn count_up_to<S: LinkStore>(store: &S, functor: Functor, most: u64) -> u64
+    requires { Valid (S.heap store.now) }
+    ensures { (f : Forest) → IsTree (S.heap store.now) f → IsCapped (count_in (S.heap store.now) functor (flat f)) most result }
+{
+    // There are fewer membranes than that, so the loop ends at a return.
+    let mut at = store.root();
+    let mut total = 0;
+    for _ in 0..u64::MAX {
+        total += count_some(store, at, functor, most - total);
+        if total == most {
+            return total;
+        }
+        match store.next_membrane(at) {
+            Some(next) => at = next,
+            None => return total,
+        }
+    }
+    0
+}
+
+/// Whether the number of atoms with the functor, at every depth, is as a break asks. No more atoms are counted than tell it, and none where
+/// the store has too few items.
+pub fn meets<S: LinkStore, G: Fn(u64) -> bool>(
+    store: &S,
+    functor: Functor,
+    stop: &Break<G>,
+) -> bool
+    requires valid { Valid (S.heap store.now) }
+    requires stop { AnswersSo G.pre G.post stop.now.f stop.now.op stop.now.n }
+    ensures { (f : Forest) → IsTree (S.heap store.now) f → IsTrue result ↔ StandsSo stop.now.op (count_in (S.heap store.now) functor (flat f)) stop.now.n }
+{
+    let items = store.items();
+    if stop.is_beyond(items) {
+        return false;
+    }
+    let most = stop.enough();
+    stop.met(count_up_to(store, functor, most))
 }

@@ -15,7 +15,7 @@ ghost use Rattle.lmn_debug.specs.Sessions.{StandsAt, StandsStepped, StandsWaited
 ghost use Rattle.lmn_debug.specs.Turning.{TurnsTo, Waits, WaitsOn, counted};
 
 use crate::Break;
-use crate::counting::count_atoms;
+use crate::counting::{count_atoms, meets};
 use lmn_base::{Functor, Names, NoMemory, Plain};
 use lmn_folded_printer::print;
 use lmn_io::{Failed, Sink};
@@ -225,7 +225,7 @@ impl<'p, S: LinkStore, F: Fn(u64, u64) -> u64> Session<'p, S, F> {
         ensures again { EngineCanTurn (S.heap self.new.engine.machine.store) self.new.engine.plain.now.rules self.new.engine.codes self.new.engine.size }
         ensures keeps { self.new.engine ≡ record self.old.engine { machine = self.new.engine.machine } }
     {
-        stop.met(self.count(functor))
+        meets(self.engine.store(), functor, stop)
     }
 
     /// One turn: nothing where it commits, and else why it doesn't.

@@ -1,0 +1,15 @@
+use Rattle.std.proofs.Common.{◌≡◌, ◌≤◌, ◌+◌, Some}
+use Rattle.lmn_heap.specs.Heap.{from}
+use Rattle.lmn_heap.specs.Sound.{Forest, IsTree, flat}
+use Rattle.lmn_store.proofs.Numbers.{HasNumber}
+use Rattle.lmn_debug.specs.Counts.{count_in}
+use Rattle.lmn_debug.proofs.counting.count_up_to.Given as goal
+
+abbrev pub invariant-loop : goal.invariant-loop
+invariant-loop g l =
+    let h = g.S.LinkStore.heap l.store in
+    record {
+      number : HasNumber h l.counter (g.S.LinkStore.mem_id l.at);
+      rest : (f : Forest) → IsTree h f → l.total + count_in h l.functor (from (Some (g.S.LinkStore.mem_id l.at)) (flat f)) ≡ count_in h l.functor (flat f);
+      few : l.total ≤ l.most;
+    }
