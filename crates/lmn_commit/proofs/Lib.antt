@@ -3,6 +3,7 @@ pub mod CopyMeaning
 pub mod Waiting
 pub mod Placing
 pub mod Making
+pub mod Counting
 pub mod Marks
 pub mod Doing
 pub mod Rules

@@ -1,5 +1,5 @@
 -- What it means that the code of a body is prepared.
-use Rattle.std.specs.Prelude.{ℕ, ◌≡◌, ◌<◌, ◌≤◌, ◌+◌, ◌⊎◌, ◌==◌, if◌then◌else◌, List, [], ◌∷◌, ◌++◌, None, Some, IsSome, length, slice_get}
+use Rattle.std.specs.Prelude.{ℕ, ◌≡◌, ◌<◌, ◌≤◌, ◌+◌, ◌⊎◌, ◌==◌, if◌then◌else◌, List, [], ◌∷◌, ◌++◌, Option, None, Some, IsSome, length, slice_get}
 use Rattle.lmn_base.specs.declared.functor.Functor.{Functor}
 use Rattle.lmn_base.specs.Graphs.{Reached}
 use Rattle.lmn_heap.specs.Graphs.{atom_map}
@@ -93,6 +93,22 @@ needed_by r rules _ x = 0
 abbrev pub needed : Registers → (ℕ → List ℕ) → List Instr → ℕ → ℕ
 needed r rules [] x = 0
 needed r rules (i ∷ is) x = needed_by r rules i x + needed r rules is x
+
+-- the register of the membrane to which an instruction adds rules, if it adds some
+abbrev pub AddsSo : Instr → Option ℕ → Type 0
+AddsSo (LoadRule m k) o = o ≡ Some m
+AddsSo (CopyRules m n) o = o ≡ Some n
+AddsSo _ o = o ≡ None
+
+-- Code adds so many rules to the membrane in a register, if one is set.
+abbrev pub IsCounted : {A M : Type 0} → (A → ℕ) → (M → ℕ) → Heap → SetRegisters A M → List Instr → (register count : ℕ) → Type 0
+IsCounted {A} {M} atom membrane s g code register count =
+    (r : Registers) (m : M) → AgreesWithCopies atom membrane g r → slice_get g.membranes register ≡ Some m → count ≡ needed r (rules_in s) code (membrane m)
+
+-- What is counted behind an instruction: a membrane that it made has no rules, and else as before.
+abbrev pub IsCountedOn : Instr → (register count next next_count : ℕ) → Type 0
+IsCountedOn (NewMem m n) register count next next_count = (next ≡ m) × (next_count ≡ 0)
+IsCountedOn _ register count next next_count = (next ≡ register) × (next_count ≡ count)
 
 -- A part can be copied: it is entered at a port, each of its other ports is joined, and its root leads out of it.
 pub record CanBeCopied (s : Heap) (root : ℕ × ℕ) : Type 0 where

@@ -1,11 +1,11 @@
 //! Makes all that the code of a body makes.
-ghost use Rattle.std.specs.Prelude.{◌≡◌, ◌<◌, ◌≤◌, ◌+◌, ℕ, [], length, take, slice_get, Some, OnOk, OnErr};
-ghost use Rattle.lmn_heap.specs.Heap.{IsMem, rules_in, Unmarked};
+ghost use Rattle.std.specs.Prelude.{◌≡◌, ◌<◌, ◌≤◌, ◌+◌, ℕ, [], length, take, slice_get, Some, IfOk, OnOk, OnErr};
+ghost use Rattle.lmn_heap.specs.Heap.{IsMem, reserved, rules_in, spare_of, Unmarked};
 ghost use Rattle.lmn_heap.specs.Sound.{Valid};
 ghost use Rattle.lmn_body.specs.Running.{Registers};
 ghost use Rattle.lmn_body.specs.Stopping.{SameButSpares};
 ghost use Rattle.lmn_commit.specs.Registers.{AgreesWithCopies, AreHeld};
-ghost use Rattle.lmn_commit.specs.Preparing.{AllUse, AreAtHome, AtomIsMade, CanBeCopied, CanCopy, CanCopyRest, CanCopyRests, CopyIsMade, HasClosedRest, RestIsMade, MembraneIsMade, OnlyMakes, RoomIsMade, BodyInOrder, IsMade, Prepared, UsesInOrder, Uses, needed, needed_by};
+ghost use Rattle.lmn_commit.specs.Preparing.{AddsSo, AllUse, AreAtHome, AtomIsMade, CanBeCopied, CanCopy, CanCopyRest, CanCopyRests, CopyIsMade, HasClosedRest, RestIsMade, MembraneIsMade, OnlyMakes, BodyInOrder, IsCounted, IsCountedOn, IsMade, Prepared, UsesInOrder, Uses, needed, needed_by};
 ghost use Rattle.lmn_registers.specs.declared.stack.TheConstants.{ROOM};
 
 use crate::marking::mark_taken;
@@ -124,27 +124,112 @@ fn rules_needed<S: LinkStore>(
     Some(count)
 }
 
-/// Makes room in a membrane for all rules that code adds to it, up to the instruction at the given place.
-fn reserve<S: LinkStore>(
-    alloc: Global,
-    store: &mut S,
+/// How many rules code adds to the membrane in a register, as far as it was read.
+#[derive(Clone, Copy)]
+struct Counted {
+    register: usize,
+    count: u64,
+}
+
+/// The register of the membrane to which an instruction adds rules, if it adds some.
+fn added_to(instr: &Instr) -> Option<usize>
+    ensures { AddsSo instr.now result }
+{
+    match instr {
+        Instr::LoadRule { membrane, .. } => Some(*membrane as usize),
+        Instr::CopyRules { to, .. } => Some(*to as usize),
+        _ => None,
+    }
+}
+
+/// How many rules the code before a place adds to a membrane. What was counted for its register isn't counted again.
+fn count_before<S: LinkStore>(
+    store: &S,
     code: &Body<'_>,
     at: usize,
     set: &SetRegisters<S::Atom, S::Mem>,
+    to: usize,
     membrane: S::Mem,
-) -> Result<(), NoMemory>
-    requires held { AreHeld S.atom_id S.mem_id (S.heap store.old) set.now }
-    requires at { at < length code.now }
-    requires uses { AllUse (length set.now.atoms) (length set.now.membranes) (length set.now.parts) (length set.now.copies) (take (at + 1) code.now) }
-    requires membrane { IsMem (S.heap store.old) (S.mem_id membrane) }
-    ensures ok { OnOk result (RoomIsMade S.atom_id S.mem_id (S.heap store.old) (S.heap store.new) set.now (take (at + 1) code.now) (S.mem_id membrane)) }
-    ensures makes { OnlyMakes (S.heap store.old) (S.heap store.new) }
+    counted: Counted,
+) -> Result<u64, NoMemory>
+    requires held { AreHeld S.atom_id S.mem_id (S.heap store.now) set.now }
+    requires at { at ≤ length code.now }
+    requires uses { AllUse (length set.now.atoms) (length set.now.membranes) (length set.now.parts) (length set.now.copies) (take at code.now) }
+    requires membrane { slice_get set.now.membranes to ≡ Some membrane }
+    requires counted { IsCounted S.atom_id S.mem_id (S.heap store.now) set.now (take at code.now) counted.register counted.count }
+    ensures { IfOk result (λ n. (r : Registers) → AgreesWithCopies S.atom_id S.mem_id set.now r → n ≡ needed r (rules_in (S.heap store.now)) (take at code.now) (S.mem_id membrane)) }
 {
-    let _code = code.len();
-    match rules_needed(store, code, at + 1, set, membrane) {
-        Some(count) => store.reserve_rules(alloc, membrane, count),
+    if counted.register == to {
+        return Ok(counted.count);
+    }
+    match rules_needed(store, code, at, set, membrane) {
+        Some(count) => Ok(count),
         None => Err(NoMemory),
     }
+}
+
+/// What is counted with the instruction at a place, too. Rules of one membrane mostly stand together in code, so that most of it is read
+/// once.
+fn count_with<S: LinkStore>(
+    store: &S,
+    code: &Body<'_>,
+    at: usize,
+    instr: &Instr,
+    set: &SetRegisters<S::Atom, S::Mem>,
+    counted: Counted,
+) -> Result<Counted, NoMemory>
+    requires at { slice_get code.now at ≡ Some instr.now }
+    requires held { AreHeld S.atom_id S.mem_id (S.heap store.now) set.now }
+    requires uses { AllUse (length set.now.atoms) (length set.now.membranes) (length set.now.parts) (length set.now.copies) (take at code.now) }
+    requires reads { UsesInOrder (length set.now.atoms) (length set.now.membranes) (length set.now.parts) (length set.now.integers) (length set.now.copies) instr.now }
+    requires counted { IsCounted S.atom_id S.mem_id (S.heap store.now) set.now (take at code.now) counted.register counted.count }
+    ensures counted { IfOk result (λ next. IsCounted S.atom_id S.mem_id (S.heap store.now) set.now (take (at + 1) code.now) next.register next.count) }
+    ensures to { IfOk result (λ next. (to : ℕ) → AddsSo instr.now (Some to) → next.register ≡ to) }
+{
+    let _code = code.len();
+    match added_to(instr) {
+        None => Ok(counted),
+        Some(to) => {
+            let membrane = set.membranes.at(to);
+            let before = count_before(store, code, at, set, to, membrane, counted)?;
+            let added = rules_added(store, instr, set, membrane);
+            match before.checked_add(added) {
+                Some(count) => Ok(Counted {
+                    register: to,
+                    count,
+                }),
+                None => Err(NoMemory),
+            }
+        }
+    }
+}
+
+/// What is counted behind an instruction, when what it makes is made. A membrane that it made has no rules yet.
+fn count_on(instr: &Instr, counted: Counted) -> Counted
+    ensures { IsCountedOn instr.now counted.register counted.count result.register result.count }
+{
+    match instr {
+        Instr::NewMem { membrane, .. } => Counted {
+            register: *membrane as usize,
+            count: 0,
+        },
+        _ => counted,
+    }
+}
+
+/// Makes room in a membrane for so many rules.
+fn reserve<S: LinkStore>(
+    alloc: Global,
+    store: &mut S,
+    membrane: S::Mem,
+    count: u64,
+) -> Result<(), NoMemory>
+    requires { IsMem (S.heap store.old) (S.mem_id membrane) }
+    ensures least { OnOk result (count ≤ spare_of (S.heap store.new) (S.mem_id membrane)) }
+    ensures ok { OnOk result (S.heap store.new ≡ reserved (S.heap store.old) (S.mem_id membrane) (spare_of (S.heap store.new) (S.mem_id membrane))) }
+    ensures makes { OnlyMakes (S.heap store.old) (S.heap store.new) }
+{
+    store.reserve_rules(alloc, membrane, count)
 }
 
 /// Copies what a membrane holds besides the registers; no link leaves it. While it is copied, what is in registers or in
@@ -171,13 +256,14 @@ fn copy_rest<S: LinkStore>(
     copied
 }
 
-/// Makes what the instruction at a place of the code makes.
+/// Makes what the instruction at a place of the code makes. `counted` are the rules that the code up to it adds to its membrane.
 fn make<S: LinkStore>(
     alloc: Global,
     store: &mut S,
     code: &Body<'_>,
     at: usize,
     instr: &Instr,
+    counted: Counted,
     set: &mut SetRegisters<S::Atom, S::Mem>,
 ) -> Result<(), NoMemory>
     requires at { slice_get code.now at ≡ Some instr.now }
@@ -188,6 +274,8 @@ fn make<S: LinkStore>(
     requires parts { CanCopy S.atom_id (S.heap store.old) set.old }
     requires homes { AreAtHome S.atom_id (S.heap store.old) set.old.parts }
     requires rest { CanCopyRest S.atom_id S.mem_id (S.heap store.old) set.old instr.now }
+    requires counted { IsCounted S.atom_id S.mem_id (S.heap store.old) set.old (take (at + 1) code.now) counted.register counted.count }
+    requires to { (to : ℕ) → AddsSo instr.now (Some to) → counted.register ≡ to }
     ensures ok { OnOk result (IsMade S.atom_id S.mem_id (S.heap store.old) (S.heap store.new) set.old set.new (take at code.now) instr.now) }
     ensures makes { OnlyMakes (S.heap store.old) (S.heap store.new) }
 {
@@ -206,11 +294,11 @@ fn make<S: LinkStore>(
         }
         Instr::LoadRule { membrane, .. } => {
             let to = set.membranes.at(*membrane as usize);
-            reserve(alloc, store, code, at, set, to)
+            reserve(alloc, store, to, counted.count)
         }
         Instr::CopyRules { to, .. } => {
             let to = set.membranes.at(*to as usize);
-            reserve(alloc, store, code, at, set, to)
+            reserve(alloc, store, to, counted.count)
         }
         Instr::CopyCells { from, .. } => {
             let from = set.membranes.at(*from as usize);
@@ -240,8 +328,15 @@ fn make_all<S: LinkStore>(
 {
     let first = code.first_made();
     let last = code.last_made();
+    let mut counted = Counted {
+        register: 0,
+        count: 0,
+    };
     for i in first..last {
-        make(alloc, store, code, i, code.at(i), set)?;
+        let instr = code.at(i);
+        let next = count_with(store, code, i, instr, set, counted)?;
+        make(alloc, store, code, i, instr, next, set)?;
+        counted = count_on(instr, next);
     }
     Ok(())
 }

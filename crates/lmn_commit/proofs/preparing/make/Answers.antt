@@ -2,34 +2,21 @@ use Rattle.std.proofs.Common.{◌≡◌, ◌+◌, take, Some, length, ap, w64, r
 use Rattle.std.proofs.lemmas.Result.{on_ok_weaker}
 use Rattle.std.proofs.lemmas.Int.{to_z-of_z}
 use Rattle.lmn_body.specs.Running.{integer_functor}
-use Rattle.lmn_instr.specs.declared.instr.Instr.TheVariants.{LoadRule, CopyRules}
-use Rattle.lmn_commit.specs.Preparing.{AllUse, HasClosedRest, UsesInOrder}
-use Rattle.lmn_commit.proofs.Codes.{take_get, use_one_more}
+use Rattle.lmn_commit.specs.Preparing.{AddsSo, HasClosedRest}
+use Rattle.lmn_commit.proofs.Codes.{take_get}
+use Rattle.lmn_commit.proofs.Counting.{room_to}
 use Rattle.lmn_commit.proofs.Making.{new_atom_made, new_int_made, new_mem_made, copy_made, load_rule_made, copy_rules_made, rest_made, nothing_made}
 use Rattle.lmn_commit.proofs.Waiting.{makes_nothing}
 use Rattle.lmn_commit.proofs.preparing.make.Goals as goal
-use Rattle.lmn_base.proofs.Lists.{get_below}
 
 pub make_copy-requires-clause-part : goal.make_copy-requires-clause-part
 make_copy-requires-clause-part g c = c.requires.parts c.in-CopyGround.part c.at-in-CopyGround.result c.at-in-CopyGround.ensures
 
-pub reserve-requires-clause-at : goal.reserve-requires-clause-at
-reserve-requires-clause-at g c = get_below c.args.code.now c.args.at c.args.instr.now c.requires.at
+pub reserve-requires : goal.reserve-requires
+reserve-requires g c = c.requires.held.membranes c.in-LoadRule.membrane c.at-to.result c.at-to.ensures
 
-pub reserve-requires-in-CopyRules-clause-at : goal.reserve-requires-in-CopyRules-clause-at
-reserve-requires-in-CopyRules-clause-at g c = get_below c.args.code.now c.args.at c.args.instr.now c.requires.at
-
-pub reserve-requires-clause-uses : goal.reserve-requires-clause-uses
-reserve-requires-clause-uses g c =
-    let reads = subst (λ i. UsesInOrder (length c.args.set.now.atoms) (length c.args.set.now.membranes) (length c.args.set.now.parts) (length c.args.set.now.integers) (length c.args.set.now.copies) i) c.in-LoadRule.is c.requires.reads in
-    subst (λ is. AllUse (length c.args.set.now.atoms) (length c.args.set.now.membranes) (length c.args.set.now.parts) (length c.args.set.now.copies) is) (sym (take_get c.args.at c.args.code.now (LoadRule c.in-LoadRule.membrane c.in-LoadRule.rule) (c.requires.at ∙ ap (λ i. Some i) c.in-LoadRule.is)))
-    (use_one_more (length c.args.set.now.atoms) (length c.args.set.now.membranes) (length c.args.set.now.parts) (length c.args.set.now.copies) (take c.args.at c.args.code.now) (LoadRule c.in-LoadRule.membrane c.in-LoadRule.rule) c.requires.uses reads)
-
-pub reserve-requires-in-CopyRules-clause-uses : goal.reserve-requires-in-CopyRules-clause-uses
-reserve-requires-in-CopyRules-clause-uses g c =
-    let reads = subst (λ i. UsesInOrder (length c.args.set.now.atoms) (length c.args.set.now.membranes) (length c.args.set.now.parts) (length c.args.set.now.integers) (length c.args.set.now.copies) i) c.in-CopyRules.is c.requires.reads in
-    subst (λ is. AllUse (length c.args.set.now.atoms) (length c.args.set.now.membranes) (length c.args.set.now.parts) (length c.args.set.now.copies) is) (sym (take_get c.args.at c.args.code.now (CopyRules c.in-CopyRules.from c.in-CopyRules.to) (c.requires.at ∙ ap (λ i. Some i) c.in-CopyRules.is)))
-    (use_one_more (length c.args.set.now.atoms) (length c.args.set.now.membranes) (length c.args.set.now.parts) (length c.args.set.now.copies) (take c.args.at c.args.code.now) (CopyRules c.in-CopyRules.from c.in-CopyRules.to) c.requires.uses reads)
+pub reserve-requires-in-CopyRules : goal.reserve-requires-in-CopyRules
+reserve-requires-in-CopyRules g c = c.requires.held.membranes c.in-CopyRules.to c.at-to-in-CopyRules.result c.at-to-in-CopyRules.ensures
 
 pub returns-in-NewAtom-clause-ok : goal.returns-in-NewAtom-clause-ok
 returns-in-NewAtom-clause-ok g c = on_ok_weaker c.make_atom.result
@@ -52,14 +39,20 @@ returns-in-CopyGround-clause-ok g c = on_ok_weaker c.make_copy.result
     c.in-CopyGround.copy c.in-CopyGround.membrane c.in-CopyGround.part c.at-in-CopyGround.result c.requires.held c.in-CopyGround.is c.at-in-CopyGround.ensures made (length c.args.set.now.integers) (length c.args.set.now.copies) refl c.requires.reads) c.make_copy.ensures.ok
 
 pub returns-in-LoadRule-clause-ok : goal.returns-in-LoadRule-clause-ok
-returns-in-LoadRule-clause-ok g c = on_ok_weaker c.reserve.result
+returns-in-LoadRule-clause-ok g c =
+    let adds : AddsSo c.args.instr.now (Some c.in-LoadRule.membrane) = subst (λ i. AddsSo i (Some c.in-LoadRule.membrane)) (sym c.in-LoadRule.is) refl in
+    room_to g.S.LinkStore.atom_id g.S.LinkStore.mem_id (g.S.LinkStore.heap c.args.store.now) (g.S.LinkStore.heap c.reserve.new.store) c.args.set.now (take (c.args.at + 1) c.args.code.now) c.args.counted.register c.args.counted.count
+    c.in-LoadRule.membrane c.at-to.result c.requires.counted (c.requires.to c.in-LoadRule.membrane adds) c.at-to.ensures c.reserve.result c.reserve.ensures.ok c.reserve.ensures.least
     (λ made. load_rule_made g.S.LinkStore.atom_id g.S.LinkStore.mem_id (g.S.LinkStore.heap c.args.store.now) (g.S.LinkStore.heap c.reserve.new.store) c.args.set.now (take c.args.at c.args.code.now) (take (c.args.at + 1) c.args.code.now) c.args.instr.now
-    c.at-to.result c.in-LoadRule.membrane c.in-LoadRule.rule c.requires.held made (take_get c.args.at c.args.code.now c.args.instr.now c.requires.at) c.in-LoadRule.is c.at-to.ensures) c.reserve.ensures.ok
+    c.at-to.result c.in-LoadRule.membrane c.in-LoadRule.rule c.requires.held made (take_get c.args.at c.args.code.now c.args.instr.now c.requires.at) c.in-LoadRule.is c.at-to.ensures)
 
 pub returns-in-CopyRules-clause-ok : goal.returns-in-CopyRules-clause-ok
-returns-in-CopyRules-clause-ok g c = on_ok_weaker c.reserve-in-CopyRules.result
+returns-in-CopyRules-clause-ok g c =
+    let adds : AddsSo c.args.instr.now (Some c.in-CopyRules.to) = subst (λ i. AddsSo i (Some c.in-CopyRules.to)) (sym c.in-CopyRules.is) refl in
+    room_to g.S.LinkStore.atom_id g.S.LinkStore.mem_id (g.S.LinkStore.heap c.args.store.now) (g.S.LinkStore.heap c.reserve-in-CopyRules.new.store) c.args.set.now (take (c.args.at + 1) c.args.code.now) c.args.counted.register c.args.counted.count
+    c.in-CopyRules.to c.at-to-in-CopyRules.result c.requires.counted (c.requires.to c.in-CopyRules.to adds) c.at-to-in-CopyRules.ensures c.reserve-in-CopyRules.result c.reserve-in-CopyRules.ensures.ok c.reserve-in-CopyRules.ensures.least
     (λ made. copy_rules_made g.S.LinkStore.atom_id g.S.LinkStore.mem_id (g.S.LinkStore.heap c.args.store.now) (g.S.LinkStore.heap c.reserve-in-CopyRules.new.store) c.args.set.now (take c.args.at c.args.code.now) (take (c.args.at + 1) c.args.code.now) c.args.instr.now
-    c.at-to-in-CopyRules.result c.in-CopyRules.from c.in-CopyRules.to c.requires.held made (take_get c.args.at c.args.code.now c.args.instr.now c.requires.at) c.in-CopyRules.is c.at-to-in-CopyRules.ensures) c.reserve-in-CopyRules.ensures.ok
+    c.at-to-in-CopyRules.result c.in-CopyRules.from c.in-CopyRules.to c.requires.held made (take_get c.args.at c.args.code.now c.args.instr.now c.requires.at) c.in-CopyRules.is c.at-to-in-CopyRules.ensures)
 
 pub copy_rest-requires-clause-membrane : goal.copy_rest-requires-clause-membrane
 copy_rest-requires-clause-membrane g c = c.requires.held.membranes c.in-CopyCells.from c.at-from.result c.at-from.ensures
