@@ -66,72 +66,106 @@ fn wake_below<S: LinkStore>(store: &mut S, membrane: S::Mem, top: S::Mem)
     wake_up_to(store, membrane, top);
 }
 
-/// The home of an atom wakes, if it has one.
-fn wake_home<S: LinkStore>(store: &mut S, atom: S::Atom, top: S::Mem)
+/// The home of an atom wakes, if it has one, and is answered; else `near` is. `top` and `near` are awake, and so is each one round them.
+/// Where the home is `near`, nothing is left to be done.
+fn wake_home<S: LinkStore>(store: &mut S, atom: S::Atom, top: S::Mem, near: S::Mem) -> S::Mem
     requires deep { AllDeep (S.heap store.old) }
     requires atom { IsAtom (S.heap store.old) (S.atom_id atom) }
     requires top { IsMem (S.heap store.old) (S.mem_id top) }
     requires awake { IsAwakeRound (S.heap store.old) (S.mem_id top) }
-    ensures { WakesAbove (IsHome (S.heap store.old) (S.atom_id atom)) (S.heap store.old) (S.heap store.new) }
+    requires near { IsMem (S.heap store.old) (S.mem_id near) }
+    requires near_awake { IsAwakeRound (S.heap store.old) (S.mem_id near) }
+    ensures wakes { WakesAbove (IsHome (S.heap store.old) (S.atom_id atom)) (S.heap store.old) (S.heap store.new) }
+    ensures there { IsMem (S.heap store.new) (S.mem_id result) }
+    ensures awake { IsAwakeRound (S.heap store.new) (S.mem_id result) }
 {
     let _root = store.root();
     match store.home(atom) {
-        Some(home) => wake_below(store, home, top),
-        None => {}
+        Some(home) => {
+            if store.same_mem(home, near) {
+                return near;
+            }
+            wake_below(store, home, top);
+            home
+        }
+        None => near,
     }
 }
 
-/// The home of the atom wakes that is joined to a port.
-fn wake_partner<S: LinkStore>(store: &mut S, atom: S::Atom, port: u8, top: S::Mem)
+/// The home of the atom wakes that is joined to a port, and is answered; where there is none, `near` is.
+fn wake_partner<S: LinkStore>(
+    store: &mut S,
+    atom: S::Atom,
+    port: u8,
+    top: S::Mem,
+    near: S::Mem,
+) -> S::Mem
     requires deep { AllDeep (S.heap store.old) }
     requires atom { IsAtom (S.heap store.old) (S.atom_id atom) }
     requires port { port < arity_of (S.heap store.old) (S.atom_id atom) }
     requires top { IsMem (S.heap store.old) (S.mem_id top) }
     requires awake { IsAwakeRound (S.heap store.old) (S.mem_id top) }
-    ensures { WakesAbove (IsPartnerHome (S.heap store.old) (S.atom_id atom) port) (S.heap store.old) (S.heap store.new) }
+    requires near { IsMem (S.heap store.old) (S.mem_id near) }
+    requires near_awake { IsAwakeRound (S.heap store.old) (S.mem_id near) }
+    ensures wakes { WakesAbove (IsPartnerHome (S.heap store.old) (S.atom_id atom) port) (S.heap store.old) (S.heap store.new) }
+    ensures there { IsMem (S.heap store.new) (S.mem_id result) }
+    ensures awake { IsAwakeRound (S.heap store.new) (S.mem_id result) }
 {
     match store.partner(atom, port) {
-        Some(other) => wake_home(store, other.0, top),
-        None => {}
+        Some(other) => wake_home(store, other.0, top, near),
+        None => near,
     }
 }
 
-/// The home of an atom wakes, and those of the atoms that are joined to it.
-fn wake_beside<S: LinkStore>(store: &mut S, atom: S::Atom, top: S::Mem)
+/// The home of an atom wakes, and those of the atoms that are joined to it. The last of these is answered, or else `near`. Partners that
+/// stand together mostly come one after the other, so the way up from their home is gone once.
+fn wake_beside<S: LinkStore>(store: &mut S, atom: S::Atom, top: S::Mem, near: S::Mem) -> S::Mem
     requires deep { AllDeep (S.heap store.old) }
     requires atom { IsAtom (S.heap store.old) (S.atom_id atom) }
     requires top { IsMem (S.heap store.old) (S.mem_id top) }
     requires awake { IsAwakeRound (S.heap store.old) (S.mem_id top) }
-    ensures { WakesAbove (IsHomeBeside (S.heap store.old) (S.atom_id atom) (arity_of (S.heap store.old) (S.atom_id atom))) (S.heap store.old) (S.heap store.new) }
+    requires near { IsMem (S.heap store.old) (S.mem_id near) }
+    requires near_awake { IsAwakeRound (S.heap store.old) (S.mem_id near) }
+    ensures wakes { WakesAbove (IsHomeBeside (S.heap store.old) (S.atom_id atom) (arity_of (S.heap store.old) (S.atom_id atom))) (S.heap store.old) (S.heap store.new) }
+    ensures there { IsMem (S.heap store.new) (S.mem_id result) }
+    ensures awake { IsAwakeRound (S.heap store.new) (S.mem_id result) }
 {
     let _root = store.root();
     let arity = store.functor(atom).arity;
-    wake_home(store, atom, top);
+    let mut last = wake_home(store, atom, top, near);
     for port in 0..arity {
-        wake_partner(store, atom, port, top);
+        last = wake_partner(store, atom, port, top, last);
     }
+    last
 }
 
-/// What an instruction touches by taking it away wakes.
+/// What an instruction touches by taking it away wakes. The last membrane is answered that is so known to be awake, with each one round
+/// it, or else `near`.
 fn wake_for<S: LinkStore>(
     store: &mut S,
     instr: &Instr,
     set: &SetRegisters<S::Atom, S::Mem>,
     top: S::Mem,
-)
+    near: S::Mem,
+) -> S::Mem
     requires deep { AllDeep (S.heap store.old) }
     requires held { AreHeld S.atom_id S.mem_id (S.heap store.old) set.now }
     requires uses { Uses (length set.now.atoms) (length set.now.membranes) (length set.now.parts) (length set.now.copies) instr.now }
     requires top { IsMem (S.heap store.old) (S.mem_id top) }
     requires awake { IsAwakeRound (S.heap store.old) (S.mem_id top) }
-    ensures { (r : Registers) → AgreesWithCopies S.atom_id S.mem_id set.now r → WakesAbove (Rouses (S.heap store.old) r instr.now) (S.heap store.old) (S.heap store.new) }
+    requires near { IsMem (S.heap store.old) (S.mem_id near) }
+    requires near_awake { IsAwakeRound (S.heap store.old) (S.mem_id near) }
+    ensures wakes { (r : Registers) → AgreesWithCopies S.atom_id S.mem_id set.now r → WakesAbove (Rouses (S.heap store.old) r instr.now) (S.heap store.old) (S.heap store.new) }
+    ensures there { IsMem (S.heap store.new) (S.mem_id result) }
+    ensures awake { IsAwakeRound (S.heap store.new) (S.mem_id result) }
 {
     match instr {
-        Instr::RemoveAtom { atom } => wake_beside(store, set.atoms.at(*atom as usize), top),
+        Instr::RemoveAtom { atom } => wake_beside(store, set.atoms.at(*atom as usize), top, near),
         Instr::RemoveMem { membrane } => {
             wake_below(store, set.membranes.at(*membrane as usize), top);
+            near
         }
-        _ => {}
+        _ => near,
     }
 }
 
@@ -169,7 +203,8 @@ pub(crate) fn wake<S: LinkStore>(
         return;
     }
     wake_round(store, top);
+    let mut near = top;
     for i in 0..code.removals() {
-        wake_for(store, code.at(i), set, top);
+        near = wake_for(store, code.at(i), set, top, near);
     }
 }

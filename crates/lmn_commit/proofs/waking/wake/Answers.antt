@@ -12,32 +12,42 @@ loop-i-init g c = record {
   so = roused_first g.S.LinkStore.atom_id g.S.LinkStore.mem_id c.args.set.now (g.S.LinkStore.heap c.args.store.now) (g.S.LinkStore.heap c.wake_round.new.store) c.at-top.result c.at-top.ensures c.wake_round.ensures;
   alike = c.wake_round.ensures.alike;
   awake = awake_now _ (g.S.LinkStore.heap c.args.store.now) (g.S.LinkStore.heap c.wake_round.new.store) (g.S.LinkStore.mem_id c.at-top.result) c.wake_round.ensures refl;
+  near = (read_alike (g.S.LinkStore.heap c.args.store.now) (g.S.LinkStore.heap c.wake_round.new.store) c.wake_round.ensures.alike).stays (g.S.LinkStore.mem_id c.at-top.result) (c.requires.held.membranes 0 c.at-top.result c.at-top.ensures);
+  near_awake = awake_now _ (g.S.LinkStore.heap c.args.store.now) (g.S.LinkStore.heap c.wake_round.new.store) (g.S.LinkStore.mem_id c.at-top.result) c.wake_round.ensures refl;
 }
 
-pub wake_for-requires-clause-deep : goal.wake_for-requires-clause-deep
-wake_for-requires-clause-deep g c = deep_alike (g.S.LinkStore.heap c.args.store.now) (g.S.LinkStore.heap c.loop-i.store) (read_alike (g.S.LinkStore.heap c.args.store.now) (g.S.LinkStore.heap c.loop-i.store) c.loop-i.invariant.alike) c.requires.deep
+pub wake_for-near-requires-clause-deep : goal.wake_for-near-requires-clause-deep
+wake_for-near-requires-clause-deep g c = deep_alike (g.S.LinkStore.heap c.args.store.now) (g.S.LinkStore.heap c.loop-i.store) (read_alike (g.S.LinkStore.heap c.args.store.now) (g.S.LinkStore.heap c.loop-i.store) c.loop-i.invariant.alike) c.requires.deep
 
-pub wake_for-requires-clause-held : goal.wake_for-requires-clause-held
-wake_for-requires-clause-held g c = held_alike g.S.LinkStore.atom_id g.S.LinkStore.mem_id c.args.set.now (g.S.LinkStore.heap c.args.store.now) (g.S.LinkStore.heap c.loop-i.store) (read_alike (g.S.LinkStore.heap c.args.store.now) (g.S.LinkStore.heap c.loop-i.store) c.loop-i.invariant.alike) c.requires.held
+pub wake_for-near-requires-clause-held : goal.wake_for-near-requires-clause-held
+wake_for-near-requires-clause-held g c = held_alike g.S.LinkStore.atom_id g.S.LinkStore.mem_id c.args.set.now (g.S.LinkStore.heap c.args.store.now) (g.S.LinkStore.heap c.loop-i.store) (read_alike (g.S.LinkStore.heap c.args.store.now) (g.S.LinkStore.heap c.loop-i.store) c.loop-i.invariant.alike) c.requires.held
 
-pub wake_for-requires-clause-uses : goal.wake_for-requires-clause-uses
-wake_for-requires-clause-uses g c = used_at _ _ _ _ c.loop-i.i c.args.code.now c.at.result.now c.requires.uses c.at.ensures
+pub wake_for-near-requires-clause-uses : goal.wake_for-near-requires-clause-uses
+wake_for-near-requires-clause-uses g c = used_at _ _ _ _ c.loop-i.i c.args.code.now c.at.result.now c.requires.uses c.at.ensures
 
-pub wake_for-requires-clause-top : goal.wake_for-requires-clause-top
-wake_for-requires-clause-top g c = (read_alike (g.S.LinkStore.heap c.args.store.now) (g.S.LinkStore.heap c.loop-i.store) c.loop-i.invariant.alike).stays (g.S.LinkStore.mem_id c.at-top.result) (c.requires.held.membranes 0 c.at-top.result c.at-top.ensures)
+pub wake_for-near-requires-clause-top : goal.wake_for-near-requires-clause-top
+wake_for-near-requires-clause-top g c = (read_alike (g.S.LinkStore.heap c.args.store.now) (g.S.LinkStore.heap c.loop-i.store) c.loop-i.invariant.alike).stays (g.S.LinkStore.mem_id c.at-top.result) (c.requires.held.membranes 0 c.at-top.result c.at-top.ensures)
 
-pub wake_for-requires-clause-awake : goal.wake_for-requires-clause-awake
-wake_for-requires-clause-awake g c = c.loop-i.invariant.awake
+pub wake_for-near-requires-clause-awake : goal.wake_for-near-requires-clause-awake
+wake_for-near-requires-clause-awake g c = c.loop-i.invariant.awake
+
+pub wake_for-near-requires-clause-near : goal.wake_for-near-requires-clause-near
+wake_for-near-requires-clause-near g c = c.loop-i.invariant.near
+
+pub wake_for-near-requires-clause-near_awake : goal.wake_for-near-requires-clause-near_awake
+wake_for-near-requires-clause-near_awake g c = c.loop-i.invariant.near_awake
 
 pub loop-i-preserved : goal.loop-i-preserved
 loop-i-preserved g c =
     let some = some_agree g.S.LinkStore.atom_id g.S.LinkStore.mem_id c.args.set.now in
-    let woke = c.wake_for.ensures some.0 some.1 in
+    let woke = c.wake_for-near.ensures.wakes some.0 some.1 in
     record {
-      so = roused_more g.S.LinkStore.atom_id g.S.LinkStore.mem_id c.args.set.now (g.S.LinkStore.heap c.args.store.now) c.args.code.now c.loop-i.i c.at.result.now (g.S.LinkStore.heap c.loop-i.store) (g.S.LinkStore.heap c.wake_for.new.store)
-          c.at.ensures c.loop-i.invariant.so c.wake_for.ensures;
-      alike = marks_on (g.S.LinkStore.heap c.args.store.now) (g.S.LinkStore.heap c.loop-i.store) (g.S.LinkStore.heap c.wake_for.new.store) c.loop-i.invariant.alike woke.alike;
-      awake = awake_still _ (g.S.LinkStore.heap c.loop-i.store) (g.S.LinkStore.heap c.wake_for.new.store) (g.S.LinkStore.mem_id c.at-top.result) woke c.loop-i.invariant.awake;
+      so = roused_more g.S.LinkStore.atom_id g.S.LinkStore.mem_id c.args.set.now (g.S.LinkStore.heap c.args.store.now) c.args.code.now c.loop-i.i c.at.result.now (g.S.LinkStore.heap c.loop-i.store) (g.S.LinkStore.heap c.wake_for-near.new.store)
+          c.at.ensures c.loop-i.invariant.so c.wake_for-near.ensures.wakes;
+      alike = marks_on (g.S.LinkStore.heap c.args.store.now) (g.S.LinkStore.heap c.loop-i.store) (g.S.LinkStore.heap c.wake_for-near.new.store) c.loop-i.invariant.alike woke.alike;
+      awake = awake_still _ (g.S.LinkStore.heap c.loop-i.store) (g.S.LinkStore.heap c.wake_for-near.new.store) (g.S.LinkStore.mem_id c.at-top.result) woke c.loop-i.invariant.awake;
+      near = c.wake_for-near.ensures.there;
+      near_awake = c.wake_for-near.ensures.awake;
     }
 
 pub at-requires : goal.at-requires

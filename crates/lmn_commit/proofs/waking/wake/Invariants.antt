@@ -1,4 +1,5 @@
 use Rattle.std.proofs.Common.{take}
+use Rattle.lmn_heap.specs.Heap.{IsMem}
 use Rattle.lmn_sleep.specs.Quiet.{SameButMarks}
 use Rattle.lmn_commit.specs.Waking.{IsAwakeRound}
 use Rattle.lmn_commit.proofs.Rouses.{RousedSoFar}
@@ -9,4 +10,6 @@ invariant-loop-i g l = record {
   so : RousedSoFar g.S.LinkStore.atom_id g.S.LinkStore.mem_id l.set (g.S.LinkStore.heap l.fn.store) (take l.i l.code) (g.S.LinkStore.heap l.store);
   alike : SameButMarks (g.S.LinkStore.heap l.fn.store) (g.S.LinkStore.heap l.store);
   awake : IsAwakeRound (g.S.LinkStore.heap l.store) (g.S.LinkStore.mem_id l.top);
+  near : IsMem (g.S.LinkStore.heap l.store) (g.S.LinkStore.mem_id l.near);
+  near_awake : IsAwakeRound (g.S.LinkStore.heap l.store) (g.S.LinkStore.mem_id l.near);
 }
