@@ -23,16 +23,9 @@ use Rattle.lmn_app.specs.Executions.{IsWrongListing, ReadsCodes}
 use Rattle.lmn_app.specs.Texts.{Accepts}
 use Rattle.lmn_app.proofs.OneOutput.{as_many}
 use Rattle.lmn_app.proofs.TextLemmas.{accepted_at, one_list}
+use Rattle.lmn_base.proofs.Lists.{take_slice as taken_there}
 
 -- ---- the first code that isn't verified
-
--- what stands in a list before some number is among those that are taken
-taken_there : {A : Type 0} (n : ℕ) (xs : List A) (k : ℕ) (x : A) → k < n → slice_get xs k ≡ Some x → slice_get (take n xs) k ≡ Some x
-taken_there zero xs k x l e = absurd (omega (arith, l))
-taken_there (suc n) [] zero x l e = absurd (cc)
-taken_there (suc n) [] (suc k) x l e = absurd (cc)
-taken_there (suc n) (y ∷ ys) zero x l e = e
-taken_there (suc n) (y ∷ ys) (suc k) x l e = taken_there n ys k x (omega (arith, l)) e
 
 module _ (n : ℕ) (cs : List Code) where
   not_before : (j k : ℕ) (f : IsFirstUnverified n cs j) (g : IsFirstUnverified n cs k) → f.rule ≤ g.rule

@@ -71,6 +71,7 @@ use Rattle.lmn_app.specs.TextExamples.{no_plan, one_leaf, small_names, small_pla
 use Rattle.lmn_app.specs.Texts.{Accepts, at_start}
 use Rattle.lmn_app.proofs.SmallRuns.{its_rules, small_named}
 use Rattle.lmn_app.proofs.SmallTexts.{leaves_listed, no_links, reads, small_text_is_accepted}
+use Rattle.lmn_app.proofs.OneOutput.{as_many as same_length}
 
 -- ---- the codes
 
@@ -175,12 +176,6 @@ leaving_listed = record {
 }
 
 -- ---- the text, in whatever way it is accepted
-
-same_length : (rs ss : List RuleTree) → EachPair SameRule rs ss → length rs ≡ length ss
-same_length [] [] h = refl
-same_length [] (s ∷ ss) h = absurd h
-same_length (r ∷ rs) [] h = absurd h
-same_length (r ∷ rs) (s ∷ ss) h = ap suc (same_length rs ss h.1)
 
 module _ (names : List Name) (plain : Plain) (plans : List GuardPlan) (a : Accepts small_text names plain plans) where
   names_are : names ≡ small_names

@@ -177,3 +177,11 @@ of_map f b (x ∷ xs) (inr i) = let w = of_map f b xs i in (w.0, inr w.1, w.2)
 pub map_same : (f g : ℕ → ℕ) (xs : List ℕ) → ((x : ℕ) → In x xs → f x ≡ g x) → map f xs ≡ map g xs
 map_same f g [] e = refl
 map_same f g (x ∷ xs) e = let here = e x (inl refl) in let rest = map_same f g xs (λ y i. e y (inr i)) in λ t. here t ∷ rest t
+
+pub all_met : {n m : ℕ} → Numbers n [] m → n ≡ m
+all_met no_more = refl
+
+pub numbers_both : {n m k : ℕ} {xs ys : List ℕ} → Numbers n xs m → Numbers m ys k → Numbers n (xs ++ ys) k
+numbers_both no_more g = g
+numbers_both (known l h) g = known l (numbers_both h g)
+numbers_both (new h) g = new (numbers_both h g)

@@ -326,3 +326,9 @@ pub read_or : (xs : List ℕ) (n a : ℕ) → slice_get xs n ≡ Some a → slic
 read_or [] n a e = absurd (cc)
 read_or (x ∷ xs) zero a e = same_Some _ _ e
 read_or (x ∷ xs) (suc n) a e = read_or xs n a e
+
+pub take_slice : {A : Type 0} (n : ℕ) (xs : List A) (k : ℕ) (x : A) → k < n → slice_get xs k ≡ Some x → slice_get (take n xs) k ≡ Some x
+take_slice zero xs k x l e = absurd (omega arith)
+take_slice (suc n) [] k x l e = e
+take_slice (suc n) (y ∷ ys) zero x l e = e
+take_slice (suc n) (y ∷ ys) (suc k) x l e = take_slice n ys k x (omega arith) e

@@ -1,5 +1,5 @@
 -- General lemmas on truth values.
-use Rattle.std.proofs.Common.{Bool, false, refl, true, ◌&&◌, ◌≡◌, ◌||◌, inl, inr, ◌⊎◌, not, arith, cond, ℕ, ◌+◌, sym, ◌∙◌, ◌≤◌}
+use Rattle.std.proofs.Common.{Bool, false, refl, true, ◌&&◌, ◌≡◌, ◌||◌, inl, inr, ◌⊎◌, not, arith, cond, ℕ, ◌+◌, sym, ◌∙◌, ◌≤◌, suc, zero, ◌≢◌}
 use Rattle.std.specs.Prelude.{if◌then◌else◌}
 
 -- where both hold together each holds
@@ -84,3 +84,15 @@ if_no false x y e = refl
 pub never : (a : Bool) → (a ≡ true → ⊥) → a ≡ false
 never true h = absurd (h refl)
 never false h = refl
+
+pub total_two : (all a b o l x y : ℕ) (t : Bool) → all ≡ a + (b + o) → a + b ≡ l → o ≡ cond t y 0 → (x ≡ 1 → y ≡ 1) → (t ≡ true → x ≡ 1) → (t ≡ false → x ≢ 1)
+    → (x + l ≡ 0) ⊎ (x + l ≡ 2) → (all ≡ 0) ⊎ (all ≡ 2)
+total_two all a b o l x y true e f g h one other (inl s) = absurd (let z = one refl in off x l z s)
+  where
+    off : (x l : ℕ) → x ≡ 1 → x + l ≡ 0 → ⊥
+    off x l e f = omega arith
+total_two all a b o l x y true e f g h one other (inr s) = inr (let z = one refl in let w = h z in omega arith)
+total_two all a b o l x y false e f g h one other (inl s) = inl (omega arith)
+total_two all a b o l zero y false e f g h one other (inr s) = inr (omega arith)
+total_two all a b o l (suc zero) y false e f g h one other (inr s) = absurd (other refl refl)
+total_two all a b o l (suc (suc x)) y false e f g h one other (inr s) = inl (omega arith)

@@ -57,6 +57,7 @@ use Rattle.lmn_heap.proofs.Common.{decide_in, place_home}
 use Rattle.lmn_solid.proofs.Common.{times_append, times_places as times_often}
 use Rattle.lmn_splice.proofs.Common.{in_append}
 use Rattle.lmn_base.specs.Lists.{In}
+use Rattle.lmn_base.proofs.Truth.{total_two}
 
 -- Numbers from 0 on
 
@@ -183,7 +184,7 @@ plain_made r a (item.Rule rule inside ∷ xs) w e i g = plain_made r a xs w.1 e 
 plain_made r a (item.Rules of inside ∷ xs) w e i g = plain_made r a xs w.1 e i g
 
 -- a link that stands at an occurrence stands at least once
-stands_times : (os : List Occurrence) (o : Occurrence) → IsOneOf o os → 1 ≤ times o.link (map (λ (q : Occurrence). q.link) os)
+pub stands_times : (os : List Occurrence) (o : Occurrence) → IsOneOf o os → 1 ≤ times o.link (map (λ (q : Occurrence). q.link) os)
 stands_times [] o i = absurd i
 stands_times (p ∷ os) o (inl e) = by (cond (p.link == o.link) 1 0) (times o.link (map (λ (q : Occurrence). q.link) os)) (times_one o.link p.link ∙ one_same o.link p.link (sym (ap (λ (q : Occurrence). q.link) e)))
   where
@@ -235,7 +236,7 @@ typed_some x (t ∷ ts) h = elim (cases_eq t.link x) [
     rest : (a n : ℕ) → a ≡ 0 → 1 ≤ a + n → 1 ≤ n
     rest a n e h = omega arith
 
-some_typed : (ts : List heads.HeadTyped) (g : ℕ) (t : heads.HeadTyped) → slice_get ts g ≡ Some t → 1 ≤ times t.link (map (λ (t : heads.HeadTyped). t.link) ts)
+pub some_typed : (ts : List heads.HeadTyped) (g : ℕ) (t : heads.HeadTyped) → slice_get ts g ≡ Some t → 1 ≤ times t.link (map (λ (t : heads.HeadTyped). t.link) ts)
 some_typed [] g t e = absurd (cc)
 some_typed (u ∷ ts) zero t e = let same : u ≡ t = (cc) in by (cond (u.link == t.link) 1 0) (times t.link (map (λ (t : heads.HeadTyped). t.link) ts)) (times_one t.link u.link ∙ one_same t.link u.link (ap (λ (z : heads.HeadTyped). z.link) (sym same)))
   where
@@ -245,19 +246,6 @@ some_typed (u ∷ ts) (suc g) t e = let r = some_typed ts g t e in by (cond (u.l
   where
     by : (a n : ℕ) → 1 ≤ n → 1 ≤ a + n
     by a n h = omega arith
-
--- a link stands twice at the new ports, in connectors and at the ports that the head leaves
-total_two : (all a b o l x y : ℕ) (t : Bool) → all ≡ a + (b + o) → a + b ≡ l → o ≡ cond t y 0 → (x ≡ 1 → y ≡ 1) → (t ≡ true → x ≡ 1) → (t ≡ false → x ≢ 1)
-    → (x + l ≡ 0) ⊎ (x + l ≡ 2) → (all ≡ 0) ⊎ (all ≡ 2)
-total_two all a b o l x y true e f g h one other (inl s) = absurd (let z = one refl in off x l z s)
-  where
-    off : (x l : ℕ) → x ≡ 1 → x + l ≡ 0 → ⊥
-    off x l e f = omega arith
-total_two all a b o l x y true e f g h one other (inr s) = inr (let z = one refl in let w = h z in omega arith)
-total_two all a b o l x y false e f g h one other (inl s) = inl (omega arith)
-total_two all a b o l zero y false e f g h one other (inr s) = inr (omega arith)
-total_two all a b o l (suc zero) y false e f g h one other (inr s) = absurd (other refl refl)
-total_two all a b o l (suc (suc x)) y false e f g h one other (inr s) = inl (omega arith)
 
 -- the ports of the heap at which links stand once are named once
 olds_once : (r : Registers) (N : ℕ) (once : (x y : ℕ) → x < N → y < N → r.head.images.atom x ≡ r.head.images.atom y → x ≡ y) (xs : List ℕ) (os : List Occurrence)

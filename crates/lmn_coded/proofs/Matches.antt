@@ -4,9 +4,8 @@ use Rattle.std.specs.Prelude.{slice_get, take}
 use Rattle.std.proofs.lemmas.Option.{same_Some}
 use Rattle.lmn_base.specs.Graphs.{Port}
 use Rattle.lmn_base.specs.Lists.{In}
-use Rattle.lmn_base.proofs.Lists.{head_is, tail_is}
+use Rattle.lmn_base.proofs.Lists.{head_is, tail_is, take_slice}
 use Rattle.lmn_base.proofs.Numbers.{in_order, same_or_not}
-use Rattle.lmn_compile_head.proofs.Places.{take_slice}
 use Rattle.lmn_heap.specs.Heap.{Heap, atoms_in, mems_in, rules_in}
 use Rattle.lmn_heap.proofs.Common.{in_at}
 use Rattle.lmn_solid.specs.Embeddings.{index_of, partner}

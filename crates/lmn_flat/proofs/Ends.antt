@@ -4,7 +4,7 @@ use Rattle.std.specs.Prelude.{Some, ◌==◌, if◌then◌else◌, count_by, sli
 use Rattle.std.proofs.lemmas.List.{append_assoc, length-append, length-set}
 use Rattle.std.proofs.lemmas.List.Recursion.{is_count_by}
 use Rattle.lmn_base.specs.Links.{EachTwice, Numbers, no_more}
-use Rattle.lmn_base.proofs.Common.{numbers_head}
+use Rattle.lmn_base.proofs.Common.{numbers_head, all_met}
 use Rattle.lmn_base.proofs.Lists.{get_front, plus_nothing, get_set}
 use Rattle.lmn_base.proofs.Numbers.{below_or_from, equal_itself, equal_when, same_or_not, unequal, three_ways}
 use Rattle.lmn_flat.specs.declared.tables.FlatAtom.{FlatAtom}
@@ -154,9 +154,6 @@ told_alike n ps f g e t = record {
 
 shorter : {A : Type 0} (xs ys : List A) → length (xs ++ ys) ≤ 2 → length xs ≤ 2
 shorter xs ys l = omega (arith, l, length-append xs ys)
-
-all_met : {n m : ℕ} → Numbers n [] m → n ≡ m
-all_met no_more = refl
 
 -- the table once all ports are entered, where no link stands more than twice
 pub told_all : (es : List Entry) (n m : ℕ) (ps : List Port) (done : ℕ → List Port) → Numbers n (links_in es) m → Told n ps done → ((x : ℕ) → length (done x ++ places x es) ≤ 2) → Told m (entered_all ps es) (λ x. done x ++ places x es)

@@ -18,6 +18,7 @@ use Rattle.lmn_instr.specs.Listings.{functor_text}
 use Rattle.lmn_lexer.specs.NameText.{name_text}
 use Rattle.lmn_base.specs.Links.{Numbers, no_more, known, new}
 use Rattle.lmn_functors.specs.Reading.{AddsNames, NumbersNames}
+use Rattle.lmn_base.proofs.Common.{numbers_both}
 
 -- none is added
 pub adds_none : (n : ℕ) (names : List (List ℕ)) → AddsNames n names names
@@ -76,12 +77,6 @@ pub adds_more : (m n : ℕ) (before later : List (List ℕ)) → m ≤ n → Add
 adds_more m n before later h a = record { more = a.more; are = a.are; few = (let f = a.few in omega (arith, f, h)) }
 
 -- ---- names in order
-
--- some names are put in order, and then others
-pub numbers_both : {n m k : ℕ} {xs ys : List ℕ} → Numbers n xs m → Numbers m ys k → Numbers n (xs ++ ys) k
-numbers_both no_more g = g
-numbers_both (known l h) g = known l (numbers_both h g)
-numbers_both (new h) g = new (numbers_both h g)
 
 -- no name is put
 pub numbers_same : (names later : List (List ℕ)) → later ≡ names → NumbersNames names [] later

@@ -2,14 +2,11 @@
 use Rattle.std.proofs.Common.{◌≡◌, ◌≢◌, ◌<◌, ◌≤◌, ◌+◌, ◌⊎◌, inl, inr, ℕ, zero, suc, List, [], ◌∷◌, ◌++◌, AllPairs, length, map, take, get_or, refl, sym, ap, ◌∙◌, subst, arith}
 use Rattle.std.specs.Prelude.{codes}
 use Rattle.std.proofs.lemmas.List.{get_or-take, length-append, take-append-le, take_all, take_more_same}
-use Rattle.lmn_base.proofs.Common.{numbers_grow, numbers_head}
+use Rattle.lmn_base.proofs.Common.{numbers_grow, numbers_head, all_met as none_put}
 use Rattle.lmn_base.proofs.Lists.{head_is, tail_is}
 use Rattle.lmn_base.specs.Links.{Numbers, no_more, known, new}
 use Rattle.lmn_functors.specs.NameOrder.{ListsInOrderAreOne, NameOrderExamples}
 use Rattle.lmn_functors.specs.Reading.{AddsNames}
-
-none_put : {n m : ℕ} → Numbers n [] m → n ≡ m
-none_put no_more = refl
 
 abbrev Once : List (List ℕ) → Type 0
 Once names = AllPairs (λ m n. m ≢ n) names

@@ -6,12 +6,7 @@ use Rattle.std.proofs.lemmas.Option.{same_Some}
 use Rattle.lmn_base.specs.Links.{Numbers, no_more, known, new}
 use Rattle.lmn_numbering.specs.declared.numbering.Numbering.{Numbering}
 use Rattle.lmn_numbering.specs.Numberings.{keys_left, HasNumber, IsNumbering, IsNewNumbering, FollowsNumbering, GivesNumbers}
-
--- one list is numbered, and then another
-pub numbers_append : {n m k : ℕ} {xs ys : List ℕ} → Numbers n xs m → Numbers m ys k → Numbers n (xs ++ ys) k
-numbers_append no_more g = g
-numbers_append (known l h) g = known l (numbers_append h g)
-numbers_append (new h) g = new (numbers_append h g)
+use Rattle.lmn_base.proofs.Common.{numbers_both as numbers_append}
 
 -- ---- a table with one more number
 

@@ -39,8 +39,9 @@ use Rattle.lmn_body.specs.Within.{dropped_atoms}
 use Rattle.lmn_body.proofs.BodyPorts.{body_count, heap_append, heap_in, of_heap, once_count}
 use Rattle.lmn_body.proofs.Coding.{at_heap}
 use Rattle.lmn_body.proofs.Finishing.{in_place_listed}
-use Rattle.lmn_body.proofs.Firing.{RestsHold, heap_in_of, in_often, of_heap_in, rising_below, typed_some}
+use Rattle.lmn_body.proofs.Firing.{RestsHold, heap_in_of, in_often, of_heap_in, rising_below, typed_some, some_typed, stands_times}
 use Rattle.lmn_body.proofs.HeadPorts.{at_atoms_in, at_atoms_once, in_at_atoms, in_map, of_map, of_once_in, once_in_of, other_port}
+use Rattle.lmn_base.proofs.Truth.{total_two}
 
 -- a port of an atom in place that isn't taken nor dropped
 abbrev pub Stays : Heap → List ℕ → List ℕ → Port → Type 0
@@ -151,32 +152,6 @@ olds_once r N once xs (o ∷ os) d below = by (times o.link xs == 1) (olds_once 
       w,
     )
     by false w = w
-
--- a link that stands at an occurrence stands at least once
-stands_times : (os : List Occurrence) (o : Occurrence) → IsOneOf o os → 1 ≤ times o.link (map (λ (q : Occurrence). q.link) os)
-stands_times os o i = subst (λ k. 1 ≤ k) (sym (times_often o.link (map (λ (q : Occurrence). q.link) os))) (in_often o.link (map (λ (q : Occurrence). q.link) os) (in_map (λ (q : Occurrence). q.link) o os i))
-
--- and one that stands at a typed context
-some_typed : (ts : List heads.HeadTyped) (g : ℕ) (t : heads.HeadTyped) → slice_get ts g ≡ Some t → 1 ≤ times t.link (map (λ (t : heads.HeadTyped). t.link) ts)
-some_typed ts g t e = subst (λ k. 1 ≤ k) (sym (times_often t.link (map (λ (t : heads.HeadTyped). t.link) ts))) (in_often t.link (map (λ (t : heads.HeadTyped). t.link) ts) (in_map (λ (t : heads.HeadTyped). t.link) t ts (there ts g e)))
-  where
-    there : (ts : List heads.HeadTyped) (g : ℕ) → slice_get ts g ≡ Some t → IsOneOf t ts
-    there [] g e = absurd (cc)
-    there (u ∷ ts) zero e = inl (cc)
-    there (u ∷ ts) (suc g) e = inr (there ts g e)
-
--- a link stands twice at the new ports, in connectors and at the ports that the head leaves
-total_two : (all a b o l x y : ℕ) (t : Bool) → all ≡ a + (b + o) → a + b ≡ l → o ≡ cond t y 0 → (x ≡ 1 → y ≡ 1) → (t ≡ true → x ≡ 1) → (t ≡ false → x ≢ 1)
-    → (x + l ≡ 0) ⊎ (x + l ≡ 2) → (all ≡ 0) ⊎ (all ≡ 2)
-total_two all a b o l x y true e f g h one other (inl s) = absurd (let z = one refl in off x l z s)
-  where
-    off : (x l : ℕ) → x ≡ 1 → x + l ≡ 0 → ⊥
-    off x l e f = omega arith
-total_two all a b o l x y true e f g h one other (inr s) = inr (let z = one refl in let w = h z in omega arith)
-total_two all a b o l x y false e f g h one other (inl s) = inl (omega arith)
-total_two all a b o l zero y false e f g h one other (inr s) = inr (omega arith)
-total_two all a b o l (suc zero) y false e f g h one other (inr s) = absurd (other refl refl)
-total_two all a b o l (suc (suc x)) y false e f g h one other (inr s) = inl (omega arith)
 
 module _ (h : Heap) (valid : Valid h) (head : List HeadItem) (body : List BodyItem) (n m : ℕ) (r : Registers) (rule : AtomRule head body n) (em : Lies h head m r.head.images)
     (ps : List ℕ) (parts : PartAtoms h head r.head.images ps) (ds : List ℕ) (dr : RestsHold h r body (images_of r head ++ ps) ds) where

@@ -12,10 +12,10 @@ use Rattle.lmn_solid.specs.Heads.{HeadAtom, HeadMembrane, atoms_of, membranes_of
 use Rattle.lmn_instr.specs.declared.instr.Instr.{Instr}
 use Rattle.lmn_instr.specs.declared.instr.Instr.TheVariants.{AnyMem, NeqAtom, NeqMem}
 use Rattle.lmn_instr.specs.HeadCode.{entry, found_code, differ_code, ports_code, atom_code, membrane_code, differ_membrane_code, items_code, head_code}
-use Rattle.lmn_compile_head.proofs.Places.{take_slice}
 use Rattle.lmn_verify.specs.Verified.{is_neq_atom, is_neq_membrane, are_apart, are_apart_membranes, each_two}
 use Rattle.lmn_verified.specs.HeadCodes.{HeadCodeTellsApart, HeadCodeTellsMembranesApart}
 use Rattle.lmn_verified.proofs.Finding.{each_two_numbered, found_atom, found_membrane, head_finds, head_enters}
+use Rattle.lmn_base.proofs.Lists.{take_slice}
 
 -- a test that passes in a part of code passes in the whole
 pub any_front : (test : Instr → Bool) (xs ys : List Instr) → list_any test xs ≡ true → list_any test (xs ++ ys) ≡ true

@@ -21,9 +21,10 @@ use Rattle.lmn_verify.specs.Verified.{IsVerified}
 use Rattle.lmn_verify.specs.Lines.{rule, head, nothing, due_rule, IsWholeLine}
 use Rattle.lmn_verify.specs.Listings.{IsWholeCode, HasPlainLines, AreListed, IsFirstUnverified, lines_of, lines_of_all, listings_from}
 use Rattle.lmn_verify.specs.Reaching.{Reached, IsLineEnd, IsEnded, IsReadCode, AreReadCodes, IsRefusedLine}
-use Rattle.lmn_functors.proofs.NameLemmas.{adds_both, adds_none, adds_more as adds_fewer, numbers_both, numbers_same}
+use Rattle.lmn_functors.proofs.NameLemmas.{adds_both, adds_none, adds_more as adds_fewer, numbers_same}
 use Rattle.lmn_verify.proofs.LineLemmas.{more_instrs}
 use Rattle.lmn_verify.proofs.ReachingLemmas.{reached_first, reached_more, reached_wrong, refusal_of, puts_on, whole_where}
+use Rattle.lmn_base.proofs.Common.{numbers_both}
 
 -- the first line of the listing of rule j
 abbrev pub rule_line : ℕ → List ℕ

@@ -19,7 +19,7 @@ use Rattle.lmn_instr.specs.Listings.{line, HasInstr}
 use Rattle.lmn_verify.proofs.Listed.{same_line, has_instr, has_operands}
 use Rattle.lmn_verify.specs.Operands.{HasOperands, instr_names, instr_text, operand_names, operand_text, operands_text, HasOperand}
 use Rattle.lmn_functors.specs.Reading.{AddsNames, IsShortLabel, NumbersNames}
-use Rattle.lmn_functors.proofs.NameLemmas.{adds_both, numbers_both}
+use Rattle.lmn_functors.proofs.NameLemmas.{adds_both}
 use Rattle.lmn_verify.specs.declared.opcode.Opcode.{Opcode}
 use Rattle.lmn_verify.specs.declared.opcode.Kind.{Kind}
 use Rattle.lmn_verify.specs.declared.opcode.Kind.TheVariants as kind
@@ -31,6 +31,7 @@ use Rattle.lmn_verify.specs.Taking.{IsBehind, Follows, FollowsKind, one_text, so
 use Rattle.lmn_verify.proofs.Places.{has_no_by_test, cut_there}
 use Rattle.lmn_verify.proofs.OperandLemmas.{parts_behind}
 use Rattle.lmn_verify.proofs.OpcodeLemmas.{mnemonic_is, no_space, is_functor, EndsWithFunctor, functor_ends}
+use Rattle.lmn_base.proofs.Common.{numbers_both}
 
 -- ---- the text of operands
 

@@ -19,9 +19,10 @@ use Rattle.lmn_verify.specs.Opcodes.{opcode_of, is_in_head}
 use Rattle.lmn_verify.specs.declared.opcode.Opcode.TheVariants as opcode
 use Rattle.lmn_verify.specs.Lines.{Due, head, body, nothing, due_rule, due_behind, StandsAs, Stand, HasNo, IsPlaceOf, IsLine, HasShortNames, FitsInstr, IsWholeLine, joined_lines, first_line, IsWrongLine}
 use Rattle.lmn_verify.specs.Reaching.{Reached, IsLineEnd, IsReadAt, AreRead, IsBegun, IsEnded, IsRefusedLine, due_in, due_out, last_of}
-use Rattle.lmn_functors.proofs.NameLemmas.{adds_both, adds_none, adds_more as adds_fewer, numbers_both, numbers_same}
+use Rattle.lmn_functors.proofs.NameLemmas.{adds_both, adds_none, adds_more as adds_fewer, numbers_same}
 use Rattle.lmn_verify.proofs.Listed.{same_line}
 use Rattle.lmn_verify.proofs.LineLemmas.{more_instrs}
+use Rattle.lmn_base.proofs.Common.{numbers_both}
 
 -- ---- where a line ends
 
