@@ -20,8 +20,8 @@ use Rattle.lmn_adequacy.proofs.Exposing.{Source, found, missing, source}
 use Rattle.lmn_adequacy.proofs.RawProcesses.{made}
 use Rattle.lmn_adequacy.proofs.Skeleton.{copy_map, copy_one, copy_other, copy_root}
 use Rattle.lmn_adequacy.proofs.Wires.{zero_or_two_even}
-use Rattle.lmn_splice.specs.Splice.{of_rule, of_solid}
-use Rattle.lmn_splice.proofs.Fusions.{apart_rule as even_not_odd, solid_once as odd_differs}
+use Rattle.lmn_congruence_splice.specs.Splice.{of_rule, of_solid}
+use Rattle.lmn_congruence_splice.proofs.Fusions.{apart_rule as even_not_odd, solid_once as odd_differs}
 
 -- each link but the root stands in two places, or in none
 abbrev pub Whole : Rooted → Type 0

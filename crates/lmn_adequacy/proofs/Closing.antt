@@ -31,10 +31,10 @@ use Rattle.lmn_adequacy.proofs.Orders.{either}
 use Rattle.lmn_adequacy.proofs.RawProcesses.{head_wires, made}
 use Rattle.lmn_adequacy.proofs.Skeleton.{LevelSkeleton, Parity, even, odd, parity, place}
 use Rattle.lmn_adequacy.proofs.Wires.{IsEven, at_most_two, even_less, even_zero_or_two, places_enough, same_parity, wires_exact, zero_or_two_even}
-use Rattle.lmn_splice.specs.Splice.{of_rule, of_solid}
+use Rattle.lmn_congruence_splice.specs.Splice.{of_rule, of_solid}
 use Rattle.lmn_congruence.proofs.Common.{among_apart as among_append}
 use Rattle.lmn_congruence.proofs.TranslatedLinks.{no_link_in_rules as no_link_rules}
-use Rattle.lmn_splice.proofs.Fusions.{apart_rule as even_not_odd, solid_once as odd_differs}
+use Rattle.lmn_congruence_splice.proofs.Fusions.{apart_rule as even_not_odd, solid_once as odd_differs}
 
 -- ---- the links of the region in an instance of the head
 

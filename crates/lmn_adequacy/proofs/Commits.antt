@@ -29,7 +29,7 @@ use Rattle.lmn_adequacy.proofs.Heads.{Bare, region_there, rule_there}
 use Rattle.lmn_adequacy.proofs.Orders.{region_put}
 use Rattle.lmn_adequacy.proofs.RawProcesses.{FusesTo, NextUpToOrder, Raw, head_wires, made, raw_below, raw_here}
 use Rattle.lmn_adequacy.proofs.Skeleton.{level_skeleton}
-use Rattle.lmn_splice.specs.Splice.{of_solid}
+use Rattle.lmn_congruence_splice.specs.Splice.{of_solid}
 
 -- What a firing that gives the raw process P makes of the process of S, beside O.
 pub record Made (S : Region) (P O : Process) : Type 0 where

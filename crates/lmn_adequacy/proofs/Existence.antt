@@ -26,7 +26,7 @@ use Rattle.lmn_adequacy.proofs.MadeBodies.{level_listed_from}
 use Rattle.lmn_adequacy.proofs.Orders.{r_over, taken_put}
 use Rattle.lmn_adequacy.proofs.RawProcesses.{head_wires}
 use Rattle.lmn_adequacy.proofs.Skeleton.{level_skeleton}
-use Rattle.lmn_splice.specs.Splice.{of_rule, of_solid}
+use Rattle.lmn_congruence_splice.specs.Splice.{of_rule, of_solid}
 
 leaves_bound : (ls : List Leaf) → (n : ℕ) × ((x : ℕ) → n ≤ x → leaves_occurrences x ls ≡ 0)
 leaves_bound [] = (0, λ x b. refl)

@@ -34,8 +34,8 @@ use Rattle.lmn_adequacy.proofs.Orders.{r_over}
 use Rattle.lmn_adequacy.proofs.RawProcesses.{head_wires, made}
 use Rattle.lmn_adequacy.proofs.Skeleton.{LevelSkeleton, Parity, even, odd, parity, place, place_rule, place_solid}
 use Rattle.lmn_adequacy.proofs.Wires.{at_most_two, even_less, once_below, same_parity, wires_exact, wires_join, wires_vanish, zero_or_two_even}
-use Rattle.lmn_splice.specs.Splice.{of_rule, of_solid}
-use Rattle.lmn_splice.proofs.Fusions.{apart_rule as even_not_odd, rule_once as even_differs, solid_once as odd_differs}
+use Rattle.lmn_congruence_splice.specs.Splice.{of_rule, of_solid}
+use Rattle.lmn_congruence_splice.proofs.Fusions.{apart_rule as even_not_odd, rule_once as even_differs, solid_once as odd_differs}
 
 made_proper : (t : Assignment) → Plain t → Proper (made t)
 made_proper t p = record {

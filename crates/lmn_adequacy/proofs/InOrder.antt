@@ -27,8 +27,8 @@ use Rattle.lmn_adequacy.proofs.Skeleton.{at_odd, by_parity}
 use Rattle.lmn_congruence.proofs.Renaming.{occurrences_none, renamed_agree}
 use Rattle.lmn_congruence.specs.Same.{IsRenamed}
 use Rattle.lmn_reduction.proofs.OneSolid.{region_renamed}
-use Rattle.lmn_splice.proofs.Fusions.{solid_once as odd_differs}
-use Rattle.lmn_splice.specs.Splice.{of_rule, of_solid}
+use Rattle.lmn_congruence_splice.proofs.Fusions.{solid_once as odd_differs}
+use Rattle.lmn_congruence_splice.specs.Splice.{of_rule, of_solid}
 use Rattle.lmn_congruence.proofs.Common.{rules_listed}
 use Rattle.lmn_reduction.proofs.Derivations.{alone as r_alone}
 

@@ -26,8 +26,8 @@ use Rattle.lmn_adequacy.proofs.InOrder.{contexts_both, held, level_listed, liste
 use Rattle.lmn_adequacy.proofs.Listing.{listing}
 use Rattle.lmn_adequacy.proofs.SameParts.{part_count}
 use Rattle.lmn_adequacy.proofs.Skeleton.{copy_count, copy_map, copy_one, copy_root, places_even}
-use Rattle.lmn_splice.proofs.Fusions.{apart_rule as even_not_odd, solid_once as odd_differs}
-use Rattle.lmn_splice.specs.Splice.{of_rule, of_solid}
+use Rattle.lmn_congruence_splice.proofs.Fusions.{apart_rule as even_not_odd, solid_once as odd_differs}
+use Rattle.lmn_congruence_splice.specs.Splice.{of_rule, of_solid}
 use Rattle.lmn_congruence.proofs.TranslatedLinks.{no_link_in_rules as no_link_rules}
 use Rattle.lmn_congruence.proofs.Common.{among_left, among_right}
 

@@ -39,8 +39,8 @@ use Rattle.lmn_adequacy.proofs.Skeleton.{at_odd, by_parity, level_skeleton}
 use Rattle.lmn_congruence.proofs.Renaming.{renamed_agree}
 use Rattle.lmn_congruence.proofs.TranslatedLinks.{no_link_in_rules}
 use Rattle.lmn_reduction.proofs.OneSolid.{region_renamed}
-use Rattle.lmn_splice.proofs.Fusions.{solid_once as odd_differs}
-use Rattle.lmn_splice.specs.Splice.{of_rule, of_solid}
+use Rattle.lmn_congruence_splice.proofs.Fusions.{solid_once as odd_differs}
+use Rattle.lmn_congruence_splice.specs.Splice.{of_rule, of_solid}
 use Rattle.lmn_base.proofs.Lists.{map_append as maps_append}
 use Rattle.lmn_base.proofs.Numbers.{left_not_zero, not_one_if_even, one_not_zero as split_sum, right_not_zero, same_or_not, not_zero_if_one}
 use Rattle.lmn_congruence.proofs.Common.{among_left, among_right, places_among}

@@ -11,7 +11,7 @@ use Rattle.lmn_reduction.specs.Assignments.{Assignment}
 use Rattle.lmn_reduction.specs.Instances.{Instance}
 use Rattle.lmn_adequacy.specs.Embedding.{TakenRegion}
 use Rattle.lmn_adequacy.specs.Loose.{EmbedsLoosely}
-use Rattle.lmn_splice.specs.Splice.{of_rule, of_solid}
+use Rattle.lmn_congruence_splice.specs.Splice.{of_rule, of_solid}
 
 -- what the body stands for: each link of the rule is new, and the contexts keep their links
 abbrev pub made : Assignment → Assignment

@@ -24,10 +24,10 @@ use Rattle.lmn_adequacy.proofs.Images.{atoms_plain, no_connector_renamed, no_lin
 use Rattle.lmn_adequacy.proofs.LiteralHeads.{HeadInstances, head_and, head_instance, no_head}
 use Rattle.lmn_adequacy.proofs.Orders.{atoms_joined, merged_shuffle, r_both, r_over, region_put, shuffled_atoms, taken_put}
 use Rattle.lmn_adequacy.proofs.RawProcesses.{made}
-use Rattle.lmn_splice.specs.Splice.{of_rule, of_solid}
+use Rattle.lmn_congruence_splice.specs.Splice.{of_rule, of_solid}
 use Rattle.lmn_base.proofs.Numbers.{same_or_not}
 use Rattle.lmn_congruence.proofs.TranslatedLinks.{no_link_in_rules as no_link_rules}
-use Rattle.lmn_splice.proofs.Fusions.{apart_rule as even_not_odd, rule_once as even_differs, solid_once as odd_differs}
+use Rattle.lmn_congruence_splice.proofs.Fusions.{apart_rule as even_not_odd, rule_once as even_differs, solid_once as odd_differs}
 
 -- ---- even and odd numbers
 

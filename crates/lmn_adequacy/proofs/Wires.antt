@@ -14,9 +14,9 @@ use Rattle.lmn_congruence.proofs.FewestCrossings.{image_count, with_image}
 use Rattle.lmn_congruence.proofs.Totals.{total_one, total_same, total_single, total_zero}
 use Rattle.lmn_adequacy.proofs.RawProcesses.{head_wires}
 use Rattle.lmn_adequacy.proofs.Skeleton.{Parity, even, odd, parity, place, place_rule, place_solid}
-use Rattle.lmn_splice.specs.Splice.{of_rule, of_solid}
+use Rattle.lmn_congruence_splice.specs.Splice.{of_rule, of_solid}
 use Rattle.lmn_base.proofs.Numbers.{same_or_not, below_or_from}
-use Rattle.lmn_splice.proofs.Fusions.{apart_rule as even_not_odd, rule_once as even_differs, solid_once as odd_differs}
+use Rattle.lmn_congruence_splice.proofs.Fusions.{apart_rule as even_not_odd, rule_once as even_differs, solid_once as odd_differs}
 use Rattle.lmn_adequacy.specs.Loose.{Plain}
 
 -- the number is twice some number

@@ -9,7 +9,7 @@ use Rattle.lmn_congruence.specs.Rules.{Context, Label, Leaf, Level, Levels, Name
 use Rattle.lmn_congruence.specs.Same.{IsRenamed}
 use Rattle.lmn_congruence.specs.Translation.{levels, rules as listed_rules}
 use Rattle.lmn_adequacy.specs.Embedding.{Contents, EmbedsAt, IsPart, Taken, TakenRegion, region_of}
-use Rattle.lmn_splice.specs.Splice.{of_rule, of_solid}
+use Rattle.lmn_congruence_splice.specs.Splice.{of_rule, of_solid}
 
 -- ---- what stays
 

@@ -5,11 +5,7 @@
 //! anything when it runs.
 #![tactic(auto)]
 
-ghost use Rattle.lmn_adequacy.specs.Laws.{StepsEmbed, EmbeddingsFire, FiringsCommit, StepsExactly};
-ghost use Rattle.lmn_adequacy.specs.Laws.{IrreducibleExactly, NothingLeft, NextIsOne};
-ghost use Rattle.lmn_adequacy.specs.Laws.{NextIsSolid, ChoiceIsOne, ChoiceIsExact, RenamedNext};
-ghost use Rattle.lmn_adequacy.specs.Laws.{NumberingExists, NumberedIsOne, NumbersInOrder, ImagesStand};
-ghost use Rattle.lmn_adequacy.specs.Laws.{SolidsOfPlainsExist, SolidOfPlainIsOne, TraceIsOne, EndIsOne, TraceCommits, TraceEnds, TraceStops};
+ghost use Rattle.lmn_adequacy.specs.Laws.{StepsEmbed, EmbeddingsFire, FiringsCommit, StepsExactly, IrreducibleExactly, NothingLeft, NextIsOne, NextIsSolid, ChoiceIsOne, ChoiceIsExact, RenamedNext, NumberingExists, NumberedIsOne, NumbersInOrder, ImagesStand, SolidsOfPlainsExist, SolidOfPlainIsOne, TraceIsOne, EndIsOne, TraceCommits, TraceEnds, TraceStops};
 
 pub mod examples;
 

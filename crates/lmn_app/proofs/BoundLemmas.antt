@@ -1,13 +1,13 @@
 -- What bounds a program by weights.
 use Rattle.std.proofs.Common.{◌≡◌, ◌≤◌, ℕ, List, [], Option, Ok, Err, length, refl, sym, ap, subst, inl, inr, arith}
-use Rattle.lmn_accepted.specs.Rules.{AcceptedTexts}
-use Rattle.lmn_accepted.proofs.PlanKinds.{at_index}
+use Rattle.lmn_app_accepted.specs.Rules.{AcceptedTexts}
+use Rattle.lmn_app_accepted.proofs.PlanKinds.{at_index}
 use Rattle.lmn_base.specs.declared.refusal.Refusal.{Refusal}
 use Rattle.lmn_base.specs.declared.rule.Plain.{Plain}
 use Rattle.lmn_base.specs.Names.{IsNames}
-use Rattle.lmn_bounding.specs.Bounding.{IsAcceptedPlain, RulesAreSmall, TopsAreSmall, WeightsBound}
+use Rattle.lmn_weight.specs.Bounding.{IsAcceptedPlain, RulesAreSmall, TopsAreSmall, WeightsBound}
 use Rattle.lmn_congruence.specs.Rules.{Name}
-use Rattle.lmn_functors.specs.Reading.{AddsNames}
+use Rattle.lmn_instr_reading.specs.Reading.{AddsNames}
 use Rattle.lmn_guards.specs.Accepted.{IsAcceptedRule}
 use Rattle.lmn_guards.specs.declared.plan.GuardPlan.{GuardPlan}
 use Rattle.lmn_io.specs.Counts.{Faults}
@@ -16,7 +16,7 @@ use Rattle.lmn_io.proofs.TakingLemmas.{no_put}
 use Rattle.lmn_weight.specs.declared.weights.Weights.{Weights}
 use Rattle.lmn_weight.specs.Lines.{AreWeightsOf, IsFirstWrong}
 use Rattle.lmn_weight.specs.Plains.{EachLowered, IsFirstNotLowered, IsOfSize, level_weight}
-use Rattle.lmn_words.specs.declared.command.PairKind.TheVariants.{Bound}
+use Rattle.lmn_app_words.specs.declared.command.PairKind.TheVariants.{Bound}
 use Rattle.lmn_app.specs.declared.ending.Ending.TheVariants.{Done, WriteFault, SecondRefused}
 use Rattle.lmn_app.specs.Bounds.{IsBound, bad_weight, bound_line, not_lowered}
 use Rattle.lmn_app.specs.Runnings.{EndsByLine}

@@ -1,8 +1,8 @@
 -- What checks a trace beside a program.
 use Rattle.std.proofs.Common.{◌≡◌, ◌∙◌, ℕ, List, Option, Ok, Err, refl, sym, ap, subst, inl, inr}
 use Rattle.std.specs.declared.alloc.Global.{Global}
-use Rattle.lmn_accepted.specs.Rules.{AcceptedTexts}
-use Rattle.lmn_accepted.proofs.Loadable.{loadable, well_named}
+use Rattle.lmn_app_accepted.specs.Rules.{AcceptedTexts}
+use Rattle.lmn_app_accepted.proofs.Loadable.{loadable, well_named}
 use Rattle.lmn_adequacy.specs.Accepted.{Accepted}
 use Rattle.lmn_base.specs.declared.refusal.Refusal.{Refusal}
 use Rattle.lmn_base.specs.declared.rule.Plain.{Plain}
@@ -16,18 +16,18 @@ use Rattle.lmn_guards.specs.declared.plan.GuardPlan.{GuardPlan}
 use Rattle.lmn_io.specs.Counts.{Faults}
 use Rattle.lmn_io.specs.Writing.{WritesText}
 use Rattle.lmn_io.proofs.TakingLemmas.{no_put}
-use Rattle.lmn_next.specs.Searching.{CanSearch, IsSolidBy}
-use Rattle.lmn_receipt.specs.Chains.{Continued, IsChain, IsWrongTrace, begun, continued, line_of_solid, no_end_line, no_first_line, no_next_line}
-use Rattle.lmn_receipt.specs.Laws.{ChainsAreCommits, ContinuesByCommit, IsAcceptedSolid}
+use Rattle.lmn_solid_next.specs.Searching.{CanSearch, IsSolidBy}
+use Rattle.lmn_receipt_chain.specs.Chains.{Continued, IsChain, IsWrongTrace, begun, continued, line_of_solid, no_end_line, no_first_line, no_next_line}
+use Rattle.lmn_receipt_chain.specs.Laws.{ChainsAreCommits, ContinuesByCommit, IsAcceptedSolid}
 use Rattle.lmn_reduction.proofs.Plains.{plain_settles}
-use Rattle.lmn_listable.proofs.ReadPlains.{plain_read}
-use Rattle.lmn_runs.specs.Laws.{IsPrintable, solid_of}
-use Rattle.lmn_runs.specs.Runs.{IsLineOf}
-use Rattle.lmn_runs.specs.Texts.{PlainsArePrintable}
-use Rattle.lmn_runs.proofs.Tables.{solid_has_rules, solid_rules}
-use Rattle.lmn_runs.proofs.TraceRuns.{Fine, next_fine, plain_fine, solid_fine}
-use Rattle.lmn_settle.proofs.PlainSolids.{solid_named}
-use Rattle.lmn_words.specs.declared.command.PairKind.TheVariants.{Check}
+use Rattle.lmn_verify_compiled.proofs.ReadPlains.{plain_read}
+use Rattle.lmn_app_runs.specs.Laws.{IsPrintable, solid_of}
+use Rattle.lmn_app_runs.specs.Runs.{IsLineOf}
+use Rattle.lmn_app_runs.specs.Texts.{PlainsArePrintable}
+use Rattle.lmn_app_runs.proofs.Tables.{solid_has_rules, solid_rules}
+use Rattle.lmn_app_runs.proofs.TraceRuns.{Fine, next_fine, plain_fine, solid_fine}
+use Rattle.lmn_solid_settle.proofs.PlainSolids.{solid_named}
+use Rattle.lmn_app_words.specs.declared.command.PairKind.TheVariants.{Check}
 use Rattle.lmn_app.specs.declared.ending.Ending.TheVariants.{Done, WriteFault, SecondRefused}
 use Rattle.lmn_app.specs.Checks.{HasSolid, IsChecked, checked_line}
 use Rattle.lmn_app.specs.Runnings.{EndsByLine}

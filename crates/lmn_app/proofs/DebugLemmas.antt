@@ -1,6 +1,6 @@
 -- What obeys a script beside a program.
 use Rattle.std.proofs.Common.{◌≡◌, ◌≤◌, ◌<◌, ℕ, List, Option, Some, length, refl, sym, subst, inr, arith}
-use Rattle.lmn_accepted.specs.Loading.{AcceptedAreNamed, AcceptedAreNamedBehind}
+use Rattle.lmn_app_accepted.specs.Loading.{AcceptedAreNamed, AcceptedAreNamedBehind}
 use Rattle.lmn_adequacy.proofs.PlainSolids.{solids_of_plains_exist}
 use Rattle.lmn_base.specs.declared.rule.Plain.{Plain}
 use Rattle.lmn_base.specs.declared.solid.Solid.{Solid}
@@ -14,23 +14,23 @@ use Rattle.lmn_congruence.specs.Translation.{top_of}
 use Rattle.lmn_congruence.proofs.SolidsOfPlains.{solids_of_plains}
 use Rattle.lmn_congruence.proofs.TranslatedItems.{items_kept}
 use Rattle.lmn_debug.specs.Courses.{course}
-use Rattle.lmn_debugging.specs.Debugged.{Debugged}
-use Rattle.lmn_debugging.specs.declared.debugging.DebugEnd.{DebugEnd}
-use Rattle.lmn_debugging.specs.declared.debugging.DebugEnd.TheVariants as session
-use Rattle.lmn_functors.specs.Reading.{AddsNames}
+use Rattle.lmn_debug.specs.Debugged.{Debugged}
+use Rattle.lmn_debug.specs.declared.debugging.DebugEnd.{DebugEnd}
+use Rattle.lmn_debug.specs.declared.debugging.DebugEnd.TheVariants as session
+use Rattle.lmn_instr_reading.specs.Reading.{AddsNames}
 use Rattle.lmn_guards.specs.declared.plan.GuardPlan.{GuardPlan}
-use Rattle.lmn_heap.specs.Heap.{Heap}
+use Rattle.lmn_store_heap.specs.Heap.{Heap}
 use Rattle.lmn_io.specs.Counts.{FailedLast, Faults, NoneFailed}
-use Rattle.lmn_loading.specs.Loaded.{LoadCauses}
-use Rattle.lmn_loading.specs.declared.loading.LoadFault.TheVariants.{Size}
+use Rattle.lmn_schedule_loading.specs.Loaded.{LoadCauses}
+use Rattle.lmn_schedule_loading.specs.declared.loading.LoadFault.TheVariants.{Size}
 use Rattle.lmn_order.specs.declared.order.Order.TheVariants.{First}
 use Rattle.lmn_order.specs.Orders.{chosen}
-use Rattle.lmn_runs.specs.Laws.{solid_of}
+use Rattle.lmn_app_runs.specs.Laws.{solid_of}
 use Rattle.lmn_schedule.specs.Held.{AreNames, CanBeLoaded, HoldsSolid}
-use Rattle.lmn_script.specs.declared.order.Order.{Order}
-use Rattle.lmn_script.specs.Scripts.{AreOrdersOf}
-use Rattle.lmn_words.specs.declared.command.PairKind.TheVariants.{Debug}
-use Rattle.lmn_words.specs.Forms.{Pair, to_pair}
+use Rattle.lmn_debug_script.specs.declared.order.Order.{Order}
+use Rattle.lmn_debug_script.specs.Scripts.{AreOrdersOf}
+use Rattle.lmn_app_words.specs.declared.command.PairKind.TheVariants.{Debug}
+use Rattle.lmn_app_words.specs.Forms.{Pair, to_pair}
 use Rattle.lmn_app.specs.declared.ending.Ending.TheVariants.{Refused}
 use Rattle.lmn_app.specs.Debugs.{IsSession, session_size}
 use Rattle.lmn_app.specs.Outcomes.{RequestEnded}

@@ -4,7 +4,7 @@ use Rattle.std.specs.Prelude.{decimal}
 use Rattle.std.specs.List.{flat_map, range_with_len}
 use Rattle.std.specs.Fmt.{digits}
 use Rattle.std.proofs.lemmas.Fmt.{length-decimal-le}
-use Rattle.lmn_words.proofs.Examples.{folded_run_asked}
+use Rattle.lmn_app_words.proofs.Examples.{folded_run_asked}
 use Rattle.lmn_app.specs.DemoLaws.{DemoIsFoldedRun}
 use Rattle.lmn_app.specs.Demos.{SomeDemo, demo_atom, demo_text}
 use Rattle.lmn_app.specs.Texts.{text_bytes}

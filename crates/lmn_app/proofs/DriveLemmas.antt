@@ -17,21 +17,21 @@ use Rattle.lmn_congruence.specs.SolidsOfPlains.{IsSolidOf}
 use Rattle.lmn_congruence.proofs.SolidsOfPlains.{solids_of_plains}
 use Rattle.lmn_congruence.proofs.TranslatedItems.{items_kept}
 use Rattle.lmn_guards.specs.declared.plan.GuardPlan.{GuardPlan}
-use Rattle.lmn_heap.specs.Heap.{Heap}
+use Rattle.lmn_store_heap.specs.Heap.{Heap}
 use Rattle.lmn_io.specs.Counts.{FailedLast, Faults, NoneFailed}
 use Rattle.lmn_io.proofs.TakingLemmas.{no_put}
 use Rattle.lmn_io.specs.Taking.{Takes, TakesPrefix}
-use Rattle.lmn_loading.specs.Loaded.{LoadCauses}
-use Rattle.lmn_loading.specs.declared.loading.LoadFault.TheVariants.{Size}
+use Rattle.lmn_schedule_loading.specs.Loaded.{LoadCauses}
+use Rattle.lmn_schedule_loading.specs.declared.loading.LoadFault.TheVariants.{Size}
 use Rattle.lmn_order.specs.Orders.{chosen}
 use Rattle.lmn_adequacy.specs.Runs.{End, irreducible, budget_done, full}
-use Rattle.lmn_drive.specs.declared.driving.RunEnd.{RunEnd}
-use Rattle.lmn_drive.specs.declared.driving.RunEnd.TheVariants as run
-use Rattle.lmn_drive.specs.Driving.{Drove, RunInput as Driven, given_by_engine as driven, no_memory as no_memory_word, Ran}
-use Rattle.lmn_drive.specs.Written.{Lines, written}
-use Rattle.lmn_runs.specs.Laws.{solid_of}
-use Rattle.lmn_runs.specs.Runs.{LinesOf, Stop, StopsSo, at_end, no_memory, end_line, printed_solids, word_of_stop, end_word as driven_word}
-use Rattle.lmn_runs.proofs.TraceLines.{lines_count, lines_with}
+use Rattle.lmn_app_drive.specs.declared.driving.RunEnd.{RunEnd}
+use Rattle.lmn_app_drive.specs.declared.driving.RunEnd.TheVariants as run
+use Rattle.lmn_app_drive.specs.Driving.{Drove, RunInput as Driven, given_by_engine as driven, no_memory as no_memory_word, Ran}
+use Rattle.lmn_app_drive.specs.Written.{Lines, written}
+use Rattle.lmn_app_runs.specs.Laws.{solid_of}
+use Rattle.lmn_app_runs.specs.Runs.{LinesOf, Stop, StopsSo, at_end, no_memory, end_line, printed_solids, word_of_stop, end_word as driven_word}
+use Rattle.lmn_app_runs.proofs.TraceLines.{lines_count, lines_with}
 use Rattle.lmn_app.specs.declared.task.RunSettings.{RunSettings}
 use Rattle.lmn_app.specs.declared.task.Task.TheVariants as task
 use Rattle.lmn_app.specs.declared.ending.Ending.TheVariants.{Refused}
@@ -42,7 +42,7 @@ use Rattle.lmn_app.specs.Texts.{Accepts, IsTooLarge, at_start, too_large}
 use Rattle.lmn_app.specs.Writing.{WritesRun, given, run_text}
 use Rattle.lmn_app.proofs.PlainRegions.{region_is_numbered}
 use Rattle.lmn_app.proofs.RunLemmas.{Laws, trace_is_run}
-use Rattle.lmn_reading.proofs.Readings.{well_made}
+use Rattle.lmn_app_reading.proofs.Readings.{well_made}
 
 -- the words of ends are those of runs
 same_word : (e : End) → driven_word e ≡ word_of_stop (at_end e)

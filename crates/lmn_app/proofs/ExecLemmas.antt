@@ -1,38 +1,38 @@
 -- What runs a program by the codes of a listing.
 use Rattle.std.proofs.Common.{◌≡◌, ◌≤◌, ◌<◌, ℕ, List, Option, length, refl, sym, subst, inl, inr, arith}
 use Rattle.std.specs.List.{AllByRecursion}
-use Rattle.lmn_accepted.proofs.PlanKinds.{at_index}
+use Rattle.lmn_app_accepted.proofs.PlanKinds.{at_index}
 use Rattle.lmn_base.specs.declared.refusal.Refusal.{Refusal}
 use Rattle.lmn_base.specs.declared.rule.Plain.{Plain}
 use Rattle.lmn_base.specs.declared.solid.Solid.{Solid}
 use Rattle.lmn_base.specs.Solids.{item_count}
 use Rattle.lmn_base.specs.WellMade.{IsWellMade}
-use Rattle.lmn_coded.specs.Runs.{CodedInput, Executed, halt_end}
-use Rattle.lmn_coded.specs.Turning.{CodedCanTurn}
-use Rattle.lmn_coded.proofs.Halts.{halt_no_failure}
+use Rattle.lmn_verify_coded.specs.Runs.{CodedInput, Executed, halt_end}
+use Rattle.lmn_verify_coded.specs.Turning.{CodedCanTurn}
+use Rattle.lmn_verify_coded.proofs.Halts.{halt_no_failure}
 use Rattle.lmn_congruence.specs.Regions.{item_count_of_region}
 use Rattle.lmn_congruence.specs.Rules.{Name}
 use Rattle.lmn_congruence.specs.SolidsOfPlains.{IsSolidOf}
 use Rattle.lmn_congruence.proofs.SolidsOfPlains.{solids_of_plains}
 use Rattle.lmn_congruence.proofs.TranslatedItems.{items_kept}
-use Rattle.lmn_drive.specs.declared.driving.RunEnd.{RunEnd}
-use Rattle.lmn_drive.specs.declared.driving.RunEnd.TheVariants as run
+use Rattle.lmn_app_drive.specs.declared.driving.RunEnd.{RunEnd}
+use Rattle.lmn_app_drive.specs.declared.driving.RunEnd.TheVariants as run
 use Rattle.lmn_guards.specs.declared.plan.GuardPlan.{GuardPlan}
-use Rattle.lmn_heap.specs.Heap.{Heap}
-use Rattle.lmn_heap.specs.Sound.{Valid}
-use Rattle.lmn_instr.specs.declared.instr.Code.{Code}
+use Rattle.lmn_store_heap.specs.Heap.{Heap}
+use Rattle.lmn_store_heap.specs.Sound.{Valid}
+use Rattle.lmn_instr_code.specs.declared.instr.Code.{Code}
 use Rattle.lmn_io.specs.Counts.{FailedLast, Faults, NoneFailed}
 use Rattle.lmn_io.specs.Taking.{Takes, TakesPrefix}
 use Rattle.lmn_io.proofs.TakingLemmas.{no_put}
-use Rattle.lmn_loading.specs.Laws.{LoadedRules}
-use Rattle.lmn_loading.specs.Loaded.{IsLoaded}
-use Rattle.lmn_strategy.specs.Quieting.{AllAwake}
-use Rattle.lmn_runnable.specs.Laws.{VerifiedAreRunnable}
-use Rattle.lmn_runs.specs.Laws.{solid_of}
-use Rattle.lmn_verify.specs.Listings.{AreListed, IsRefusedListing, not_a_listing, not_verified}
-use Rattle.lmn_verify.specs.Verified.{IsVerified}
-use Rattle.lmn_words.specs.declared.command.PairKind.TheVariants.{Exec}
-use Rattle.lmn_words.specs.Forms.{Pair}
+use Rattle.lmn_schedule_loading.specs.Laws.{LoadedRules}
+use Rattle.lmn_schedule_loading.specs.Loaded.{IsLoaded}
+use Rattle.lmn_schedule_strategy.specs.Quieting.{AllAwake}
+use Rattle.lmn_verify_laws.specs.Laws.{VerifiedAreRunnable}
+use Rattle.lmn_app_runs.specs.Laws.{solid_of}
+use Rattle.lmn_verify_listing.specs.Listings.{AreListed, IsRefusedListing, not_a_listing, not_verified}
+use Rattle.lmn_verify_code.specs.Verified.{IsVerified}
+use Rattle.lmn_app_words.specs.declared.command.PairKind.TheVariants.{Exec}
+use Rattle.lmn_app_words.specs.Forms.{Pair}
 use Rattle.lmn_app.specs.declared.ending.Ending.{Ending}
 use Rattle.lmn_app.specs.declared.ending.Ending.TheVariants.{SecondRefused, WriteFault}
 use Rattle.lmn_app.specs.Executions.{IsExecuted, IsExecutedAs, IsWrongListing, ReadsCodes, coded_input, executed_budget, executed_size}

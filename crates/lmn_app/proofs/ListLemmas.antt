@@ -1,26 +1,26 @@
 -- What the listings of an accepted text leave behind.
 use Rattle.std.proofs.Common.{◌≡◌, ℕ, ◌≤◌, List, length, Option, Some, Ok, Err, refl, ap, ◌∙◌, subst}
-use Rattle.lmn_accepted.specs.Rules.{AcceptedTexts}
+use Rattle.lmn_app_accepted.specs.Rules.{AcceptedTexts}
 use Rattle.lmn_base.specs.declared.refusal.Refusal.{Refusal}
 use Rattle.lmn_base.specs.declared.rule.Plain.{Plain}
 use Rattle.lmn_base.specs.declared.rule.RuleTree.{RuleTree}
 use Rattle.lmn_base.specs.Names.{NamesPlain, first_names}
 use Rattle.lmn_congruence.specs.Rules.{Name}
 use Rattle.lmn_guards.specs.declared.plan.GuardPlan.{GuardPlan}
-use Rattle.lmn_instr.specs.declared.instr.Code.{Code}
+use Rattle.lmn_instr_code.specs.declared.instr.Code.{Code}
 use Rattle.lmn_io.specs.Counts.{Faults}
 use Rattle.lmn_io.specs.Writing.{WritesText}
-use Rattle.lmn_listing.specs.Listings.{code_listings, rule_codes, rule_listings}
-use Rattle.lmn_reading.specs.Texts.{IsAcceptedAs, IsRefusedAs, LeavesNames}
+use Rattle.lmn_compile_listing.specs.Listings.{code_listings, rule_codes, rule_listings}
+use Rattle.lmn_app_reading.specs.Texts.{IsAcceptedAs, IsRefusedAs, LeavesNames}
 use Rattle.lmn_app.specs.declared.task.Task.{Task}
 use Rattle.lmn_app.specs.declared.task.Task.TheVariants as task
 use Rattle.lmn_app.specs.declared.ending.Ending.TheVariants.{Done, Refused, WriteFault}
 use Rattle.lmn_app.specs.Outcomes.{Ended}
 use Rattle.lmn_app.specs.Requests.{most_items}
 use Rattle.lmn_app.specs.Texts.{Accepts, IsRefusal, by_reading, text_bytes}
-use Rattle.lmn_reading.specs.Codes.{IsCode}
+use Rattle.lmn_app_reading.specs.Codes.{IsCode}
 use Rattle.lmn_app.specs.Writing.{IsListing}
-use Rattle.lmn_accepted.proofs.FirstNames.{first_are_names}
+use Rattle.lmn_app_accepted.proofs.FirstNames.{first_are_names}
 use Rattle.lmn_app.proofs.OutcomeLemmas.{refused_ended}
 use Rattle.lmn_app.proofs.TextLemmas.{refusal_code}
 

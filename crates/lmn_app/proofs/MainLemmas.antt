@@ -8,13 +8,13 @@ use Rattle.lmn_io.specs.Taking.{Takes, TakesPrefix}
 use Rattle.lmn_io.proofs.TakingLemmas.{no_put}
 use Rattle.lmn_app.specs.declared.ending.Ending.{Ending}
 use Rattle.lmn_app.specs.declared.ending.Ending.TheVariants.{Done, Budget, Refused, Words, ReadFault, WriteFault, NoMemory, Full, SecondRefused}
-use Rattle.lmn_words.specs.Laws.{OneRequest}
-use Rattle.lmn_words.specs.Forms.{InForm, Request}
-use Rattle.lmn_words.specs.declared.command.PairKind.{PairKind}
-use Rattle.lmn_words.specs.Forms.{Pair, to_run, to_compile, to_demo, to_pair}
+use Rattle.lmn_app_words.specs.Laws.{OneRequest}
+use Rattle.lmn_app_words.specs.Forms.{InForm, Request}
+use Rattle.lmn_app_words.specs.declared.command.PairKind.{PairKind}
+use Rattle.lmn_app_words.specs.Forms.{Pair, to_run, to_compile, to_demo, to_pair}
 use Rattle.lmn_app.specs.Endings.{Concludes, HasLine, line_of_ending, refusal_line, second_line, status_of}
 use Rattle.lmn_app.specs.SecondTexts.{second_status}
-use Rattle.lmn_reading.specs.Codes.{IsCode}
+use Rattle.lmn_app_reading.specs.Codes.{IsCode}
 use Rattle.lmn_app.specs.Outcomes.{AnswersOf, CountsFaults, Output, OutputOf, PairOutput, RefusesSecondOf, RequestEnded}
 use Rattle.lmn_app.specs.Texts.{IsRefusal}
 use Rattle.lmn_app.specs.declared.task.Task.{Task}

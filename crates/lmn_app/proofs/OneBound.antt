@@ -4,22 +4,22 @@ use Rattle.std.specs.Prelude.{IsTrue, nat_lt}
 use Rattle.std.specs.List.{list_all}
 use Rattle.std.proofs.lemmas.Bool.{cases_lt}
 use Rattle.std.proofs.lemmas.Option.{same_Some}
-use Rattle.lmn_accepted.specs.Rules.{AcceptedTexts}
+use Rattle.lmn_app_accepted.specs.Rules.{AcceptedTexts}
 use Rattle.lmn_base.proofs.Lists.{get_below}
 use Rattle.lmn_base.specs.declared.refusal.Refusal.{Refusal}
 use Rattle.lmn_base.specs.declared.rule.Plain.{Plain}
 use Rattle.lmn_base.specs.declared.rule.RuleTree.{RuleTree}
 use Rattle.lmn_base.specs.Names.{IsNames}
 use Rattle.lmn_base.specs.Levels.{contexts_of}
-use Rattle.lmn_bounding.proofs.Bounded.{pair_there}
-use Rattle.lmn_bounding.specs.Bounding.{WeightsBound}
+use Rattle.lmn_weight.proofs.Bounded.{pair_there}
+use Rattle.lmn_weight.specs.Bounding.{WeightsBound}
 use Rattle.lmn_congruence.specs.Rules.{Name}
-use Rattle.lmn_functors.specs.Reading.{AddsNames}
+use Rattle.lmn_instr_reading.specs.Reading.{AddsNames}
 use Rattle.lmn_guards.specs.declared.plan.GuardPlan.{GuardPlan}
-use Rattle.lmn_plain.specs.Plains.{EachPair}
-use Rattle.lmn_plain.specs.SamePlains.{SameRule}
-use Rattle.lmn_reading.specs.Laws.{AreOne}
-use Rattle.lmn_reading.proofs.OneRead.{one_acceptance}
+use Rattle.lmn_flatten_plain.specs.Plains.{EachPair}
+use Rattle.lmn_flatten_plain.specs.SamePlains.{SameRule}
+use Rattle.lmn_app_reading.specs.Laws.{AreOne}
+use Rattle.lmn_app_reading.proofs.OneRead.{one_acceptance}
 use Rattle.lmn_weight.specs.declared.weights.Weights.{Weights}
 use Rattle.lmn_weight.specs.Lines.{AreWeightsOf, IsFirstWrong}
 use Rattle.lmn_weight.specs.OneReading.{AlikeForPlains, OneTelling, OneWrongLine, StandsBehind, ToldNotWrong, ToldOrWrong, WeighPlainAlike}

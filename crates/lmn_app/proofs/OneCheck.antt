@@ -3,7 +3,7 @@ use Rattle.std.proofs.lemmas.Nat.{mod_below}
 use Rattle.std.proofs.Common.{◌≡◌, ◌++◌, ℕ, List, [], ◌∷◌, true, false, map, refl, sym, ap, ◌∙◌, subst}
 use Rattle.std.specs.List.{concat}
 use Rattle.std.specs.declared.alloc.Global.{Global}
-use Rattle.lmn_accepted.specs.Rules.{AcceptedTexts}
+use Rattle.lmn_app_accepted.specs.Rules.{AcceptedTexts}
 use Rattle.lmn_adequacy.proofs.Numbering.{numbered_one}
 use Rattle.lmn_adequacy.proofs.PlainSolids.{solids_of_plains_exist}
 use Rattle.lmn_base.specs.declared.rule.Plain.{Plain}
@@ -16,12 +16,12 @@ use Rattle.lmn_linkcheck.proofs.LinkedLemmas.{no_fault_is_linked}
 use Rattle.lmn_order.specs.declared.order.Order.{Order}
 use Rattle.lmn_order.specs.declared.order.Order.TheVariants.{First, Turn, Seed}
 use Rattle.lmn_order.specs.Orders.{chosen}
-use Rattle.lmn_reading.proofs.OneRead.{one_acceptance}
-use Rattle.lmn_receipt.specs.Chains.{IsChain, IsWrongTrace, line_of_solid}
-use Rattle.lmn_receipt.specs.Laws.{ChainsAreCommits, ChoosesBelow, ContinuesByCommit, IsOneOf, NoTraceIsNeither, TracesAreChains, TracesAreOneOf}
+use Rattle.lmn_app_reading.proofs.OneRead.{one_acceptance}
+use Rattle.lmn_receipt_chain.specs.Chains.{IsChain, IsWrongTrace, line_of_solid}
+use Rattle.lmn_receipt_chain.specs.Laws.{ChainsAreCommits, ChoosesBelow, ContinuesByCommit, IsOneOf, NoTraceIsNeither, TracesAreChains, TracesAreOneOf}
 use Rattle.lmn_reduction.proofs.OneSolid.{solid_is_one}
-use Rattle.lmn_runs.specs.Runs.{Given, LinesOf, Stop, StopsSo, end_line, printed_solids, word_of_stop}
-use Rattle.lmn_runs.specs.Texts.{PlainsArePrintable}
+use Rattle.lmn_app_runs.specs.Runs.{Given, LinesOf, Stop, StopsSo, end_line, printed_solids, word_of_stop}
+use Rattle.lmn_app_runs.specs.Texts.{PlainsArePrintable}
 use Rattle.lmn_app.specs.CheckLaws.{CheckedNotWrong, CheckedOrWrong, OneCount, OneWrongTrace, RunsAreChecked}
 use Rattle.lmn_app.specs.Checks.{HasSolid, IsChecked}
 use Rattle.lmn_app.specs.Runs.{IsTraceOf}

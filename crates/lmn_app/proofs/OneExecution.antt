@@ -1,28 +1,28 @@
 -- A run by the listing that is written of a program is a run of the program.
 use Rattle.std.proofs.Common.{◌≡◌, ◌*◌, ◌∙◌, ℕ, zero, suc, List, [], ◌∷◌, Some, length, slice_get, refl, sym, ap, subst, arith}
 use Rattle.std.proofs.lemmas.Option.{same_Some}
-use Rattle.lmn_accepted.proofs.Loadable.{loadable}
-use Rattle.lmn_accepted.specs.Loading.{AcceptedAreNamedBehind}
+use Rattle.lmn_app_accepted.proofs.Loadable.{loadable}
+use Rattle.lmn_app_accepted.specs.Loading.{AcceptedAreNamedBehind}
 use Rattle.lmn_base.specs.declared.rule.RuleTree.{RuleTree}
 use Rattle.lmn_base.specs.Names.{IsNames}
-use Rattle.lmn_bridge.specs.Laws.{SolidsAreRegions}
-use Rattle.lmn_coded.specs.Laws.{TablesRunAsRules, given_by_codes}
-use Rattle.lmn_compile.specs.Compiled.{AreCompiled}
+use Rattle.lmn_adequacy_heaps.specs.Laws.{SolidsAreRegions}
+use Rattle.lmn_verify_coded.specs.Laws.{TablesRunAsRules, given_by_codes}
+use Rattle.lmn_compile_rules.specs.Compiled.{AreCompiled}
 use Rattle.lmn_congruence.specs.Plains.{SolidOf}
 use Rattle.lmn_congruence.specs.Translation.{top_of}
-use Rattle.lmn_drive.specs.declared.driving.RunEnd.{RunEnd}
-use Rattle.lmn_drive.specs.declared.driving.RunEnd.TheVariants as run
-use Rattle.lmn_drive.specs.Driving.{Drove}
+use Rattle.lmn_app_drive.specs.declared.driving.RunEnd.{RunEnd}
+use Rattle.lmn_app_drive.specs.declared.driving.RunEnd.TheVariants as run
+use Rattle.lmn_app_drive.specs.Driving.{Drove}
 use Rattle.lmn_guards.specs.declared.plan.GuardPlan.{GuardPlan}
-use Rattle.lmn_instr.specs.declared.instr.Code.{Code}
-use Rattle.lmn_listing.specs.Listings.{rule_code, rule_codes, rule_listings}
-use Rattle.lmn_listable.specs.Laws.{AcceptedCanBeListed}
-use Rattle.lmn_loading.specs.Laws.{LoadedRules, LoadingSettles}
+use Rattle.lmn_instr_code.specs.declared.instr.Code.{Code}
+use Rattle.lmn_compile_listing.specs.Listings.{rule_code, rule_codes, rule_listings}
+use Rattle.lmn_verify_compiled.specs.Laws.{AcceptedCanBeListed}
+use Rattle.lmn_schedule_loading.specs.Laws.{LoadedRules, LoadingSettles}
 use Rattle.lmn_schedule.specs.Held.{AreNames}
 use Rattle.lmn_schedule.proofs.Loaded.{can_run, holds_solid}
-use Rattle.lmn_turn.specs.Commits.{PlainsAreTables}
-use Rattle.lmn_verified.specs.CompiledListings.{CompiledAreRead, CompiledIsNotRefused}
-use Rattle.lmn_verify.specs.Listings.{AreListed, IsRefusedListing}
+use Rattle.lmn_adequacy_turns.specs.Commits.{PlainsAreTables}
+use Rattle.lmn_verify_compiled.specs.CompiledListings.{CompiledAreRead, CompiledIsNotRefused}
+use Rattle.lmn_verify_listing.specs.Listings.{AreListed, IsRefusedListing}
 use Rattle.lmn_app.specs.declared.ending.Ending.{Ending}
 use Rattle.lmn_app.specs.declared.task.Task.TheVariants as task
 use Rattle.lmn_app.specs.ExecLaws.{CompiledIsNotWrong, CompiledRunsAsRun, EndsAs, run_by_default}

@@ -5,22 +5,22 @@ use Rattle.lmn_base.specs.declared.guard.Cond.TheVariants as condition
 use Rattle.lmn_base.specs.declared.guard.Expr.{Expr}
 use Rattle.lmn_base.specs.declared.guard.Expr.TheVariants as expr
 use Rattle.lmn_base.specs.declared.rule.RuleTree.{RuleTree}
-use Rattle.lmn_body.specs.Code.{body_code}
-use Rattle.lmn_body.specs.Flattening.{body_items, context_membrane, rule_context_membrane}
+use Rattle.lmn_solid_bodies.specs.Code.{body_code}
+use Rattle.lmn_solid_bodies.specs.Flattening.{body_items, context_membrane, rule_context_membrane}
 use Rattle.lmn_compile_body.specs.Naming.{equal_registers, guard_registers}
 use Rattle.lmn_compile_head.specs.Accepted.{head_items}
 use Rattle.lmn_compile_head.specs.Bindings.{part_numbers}
 use Rattle.lmn_congruence.specs.Rules.{Name}
 use Rattle.lmn_guards.specs.declared.plan.GuardPlan.{GuardPlan}
-use Rattle.lmn_instr.specs.HeadCode.{all_filled_code, bind_register, comparison, differ_parts_code, equal_code, guard_code, items_code, operation_code, part_named, parts_code, value_code}
-use Rattle.lmn_instr.specs.declared.instr.Instr.TheVariants.{Commit}
-use Rattle.lmn_listing.specs.Listings.{code_listings, rule_code, rule_codes}
-use Rattle.lmn_plain.specs.Plains.{EachPair}
-use Rattle.lmn_plain.specs.SamePlains.{SameCond, SameExpr, SameRule, same_comparison, same_condition, same_context, same_equation, same_integer, same_operation}
-use Rattle.lmn_reading.specs.Texts.{IsAcceptedAs}
-use Rattle.lmn_reading.proofs.OneRead.{one_acceptance}
-use Rattle.lmn_solid.specs.Guards.{context_alone, typed_number}
-use Rattle.lmn_solid.specs.Heads.{membranes_of, typed_contexts_of}
+use Rattle.lmn_instr_code.specs.HeadCode.{all_filled_code, bind_register, comparison, differ_parts_code, equal_code, guard_code, items_code, operation_code, part_named, parts_code, value_code}
+use Rattle.lmn_instr_code.specs.declared.instr.Instr.TheVariants.{Commit}
+use Rattle.lmn_compile_listing.specs.Listings.{code_listings, rule_code, rule_codes}
+use Rattle.lmn_flatten_plain.specs.Plains.{EachPair}
+use Rattle.lmn_flatten_plain.specs.SamePlains.{SameCond, SameExpr, SameRule, same_comparison, same_condition, same_context, same_equation, same_integer, same_operation}
+use Rattle.lmn_app_reading.specs.Texts.{IsAcceptedAs}
+use Rattle.lmn_app_reading.proofs.OneRead.{one_acceptance}
+use Rattle.lmn_solid_heads.specs.Guards.{context_alone, typed_number}
+use Rattle.lmn_solid_heads.specs.Heads.{membranes_of, typed_contexts_of}
 use Rattle.lmn_app.specs.ListingLaws.{OneListing}
 
 -- ---- expressions

@@ -3,34 +3,34 @@ use Rattle.std.proofs.Common.{◌≡◌, ◌∙◌, ◌+◌, ◌-◌, ◌*◌, �
 use Rattle.std.specs.Prelude.{slice_index_or}
 use Rattle.std.proofs.lemmas.Option.{same_Some}
 use Rattle.std.specs.List.{AllByRecursion, flat_map}
-use Rattle.lmn_accepted.proofs.PlanKinds.{at_index}
+use Rattle.lmn_app_accepted.proofs.PlanKinds.{at_index}
 use Rattle.lmn_adequacy.proofs.PlainSolids.{solid_of_plain_is_one}
 use Rattle.lmn_base.specs.declared.guard.Cond.{Cond}
 use Rattle.lmn_base.specs.declared.guard.Expr.{Expr}
 use Rattle.lmn_base.specs.declared.guard.Expr.TheFolds.{fold-roll-Expr}
 use Rattle.lmn_base.specs.declared.guard.Expr.TheOpen as step
 use Rattle.lmn_base.specs.declared.rule.RuleTree.{RuleTree}
-use Rattle.lmn_coded.specs.Laws.{AreVerified, IsValidHeapOf, RunsAreOne}
-use Rattle.lmn_coded.specs.Runs.{Executed}
+use Rattle.lmn_verify_coded.specs.Laws.{AreVerified, IsValidHeapOf, RunsAreOne}
+use Rattle.lmn_verify_coded.specs.Runs.{Executed}
 use Rattle.lmn_congruence.specs.Rules as tree
 use Rattle.lmn_congruence.specs.Rules.{Name}
 use Rattle.lmn_congruence.specs.Translation as translated
 use Rattle.lmn_congruence.specs.Translation.{comparison_of, condition_of, expression_of, level_of, name_of, no_such_rule, numbered_region, operator_of, region_of, rules_from}
-use Rattle.lmn_drive.specs.declared.driving.RunEnd.{RunEnd}
-use Rattle.lmn_folded.specs.Lines.{IsLine}
-use Rattle.lmn_folded_printer.specs.Lines.{IsHeapLine}
-use Rattle.lmn_heap.specs.Heap.{Heap}
-use Rattle.lmn_heap.specs.Solid.{HasSolid}
-use Rattle.lmn_instr.specs.declared.instr.Code.{Code}
-use Rattle.lmn_listable.specs.Laws.{AcceptedCanBeListed}
-use Rattle.lmn_plain.specs.Plains.{EachPair}
-use Rattle.lmn_plain.specs.SamePlains.{SameCond, SameExpr, SameRule, same_comparison, same_condition, same_context, same_equation, same_integer, same_operation}
-use Rattle.lmn_reading.proofs.OneRead.{one_acceptance}
-use Rattle.lmn_functors.specs.Reading.{AddsNames, NumbersNames}
-use Rattle.lmn_verified.specs.OneReading.{ListedCodesAreOne, ListedNamesAreOne}
-use Rattle.lmn_verify.specs.Listings.{AreListed}
-use Rattle.lmn_verify.specs.Operands.{code_names}
-use Rattle.lmn_verify.specs.Verified.{IsVerified}
+use Rattle.lmn_app_drive.specs.declared.driving.RunEnd.{RunEnd}
+use Rattle.lmn_print_folded.specs.Lines.{IsLine}
+use Rattle.lmn_print.specs.Lines.{IsHeapLine}
+use Rattle.lmn_store_heap.specs.Heap.{Heap}
+use Rattle.lmn_store_heap.specs.Solid.{HasSolid}
+use Rattle.lmn_instr_code.specs.declared.instr.Code.{Code}
+use Rattle.lmn_verify_compiled.specs.Laws.{AcceptedCanBeListed}
+use Rattle.lmn_flatten_plain.specs.Plains.{EachPair}
+use Rattle.lmn_flatten_plain.specs.SamePlains.{SameCond, SameExpr, SameRule, same_comparison, same_condition, same_context, same_equation, same_integer, same_operation}
+use Rattle.lmn_app_reading.proofs.OneRead.{one_acceptance}
+use Rattle.lmn_instr_reading.specs.Reading.{AddsNames, NumbersNames}
+use Rattle.lmn_verify_compiled.specs.OneReading.{ListedCodesAreOne, ListedNamesAreOne}
+use Rattle.lmn_verify_listing.specs.Listings.{AreListed}
+use Rattle.lmn_verify_code.specs.Operands.{code_names}
+use Rattle.lmn_verify_code.specs.Verified.{IsVerified}
 use Rattle.lmn_app.specs.ExecLaws.{OneOutput}
 use Rattle.lmn_app.specs.Executions.{coded_input, executed_budget, executed_size}
 use Rattle.lmn_app.proofs.TextLemmas.{accepted_at, made, moved_solid, one_list}

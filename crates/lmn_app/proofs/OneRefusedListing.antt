@@ -2,22 +2,22 @@
 use Rattle.std.proofs.Common.{◌≡◌, ◌∙◌, ◌+◌, ◌*◌, ◌<◌, ◌≤◌, ◌^◌, ◌⊎◌, inl, inr, ℕ, zero, suc, List, [], ◌∷◌, Some, length, slice_get, take, refl, sym, ap, subst, arith}
 use Rattle.std.specs.List.{AllByRecursion, flat_map}
 use Rattle.std.proofs.lemmas.Bool.{cases_lt}
-use Rattle.lmn_accepted.proofs.PlanKinds.{at_index}
+use Rattle.lmn_app_accepted.proofs.PlanKinds.{at_index}
 use Rattle.lmn_base.specs.declared.refusal.Refusal.{Refusal}
 use Rattle.lmn_base.specs.declared.rule.Plain.{Plain}
 use Rattle.lmn_base.specs.Names.{IsNames}
 use Rattle.lmn_congruence.specs.Rules.{Name}
-use Rattle.lmn_functors.specs.Reading.{AddsNames, NumbersNames}
+use Rattle.lmn_instr_reading.specs.Reading.{AddsNames, NumbersNames}
 use Rattle.lmn_guards.specs.declared.plan.GuardPlan.{GuardPlan}
-use Rattle.lmn_instr.specs.declared.instr.Code.{Code}
-use Rattle.lmn_listable.specs.Laws.{AcceptedCanBeListed}
-use Rattle.lmn_reading.proofs.OneRead.{one_acceptance}
-use Rattle.lmn_verified.specs.OneReading.{ListedCodesAreOne, ListedNamesAreOne}
-use Rattle.lmn_verify.specs.Lines.{IsWrongLine}
-use Rattle.lmn_verify.specs.ListingLaws.{ListedLinesStand, WrongLineIsOne}
-use Rattle.lmn_verify.specs.Listings.{AreListed, IsFirstUnverified, IsRefusedListing, lines_of_all, not_a_listing, not_verified}
-use Rattle.lmn_verify.specs.Operands.{code_names}
-use Rattle.lmn_verify.specs.Verified.{IsVerified}
+use Rattle.lmn_instr_code.specs.declared.instr.Code.{Code}
+use Rattle.lmn_verify_compiled.specs.Laws.{AcceptedCanBeListed}
+use Rattle.lmn_app_reading.proofs.OneRead.{one_acceptance}
+use Rattle.lmn_verify_compiled.specs.OneReading.{ListedCodesAreOne, ListedNamesAreOne}
+use Rattle.lmn_verify_listing.specs.Lines.{IsWrongLine}
+use Rattle.lmn_verify_listing.specs.ListingLaws.{ListedLinesStand, WrongLineIsOne}
+use Rattle.lmn_verify_listing.specs.Listings.{AreListed, IsFirstUnverified, IsRefusedListing, lines_of_all, not_a_listing, not_verified}
+use Rattle.lmn_verify_code.specs.Operands.{code_names}
+use Rattle.lmn_verify_code.specs.Verified.{IsVerified}
 use Rattle.lmn_app.specs.ExecLaws.{OneWrongListing, ReadNotRefused}
 use Rattle.lmn_app.specs.Executions.{IsWrongListing, ReadsCodes}
 use Rattle.lmn_app.specs.Texts.{Accepts}

@@ -1,16 +1,16 @@
 -- Two runs of one text that are given the same write one text.
 use Rattle.std.proofs.Common.{◌≡◌, ◌∙◌, ◌+◌, ◌≤◌, ◌++◌, ◌⊎◌, inl, inr, ℕ, Bool, true, List, [], ◌∷◌, Option, Some, length, sym, ap, subst, append_assoc, arith}
 use Rattle.std.proofs.lemmas.Option.{same_Some}
-use Rattle.lmn_accepted.specs.Rules.{AcceptedTexts}
+use Rattle.lmn_app_accepted.specs.Rules.{AcceptedTexts}
 use Rattle.lmn_adequacy.specs.Runs.{Chooser, End, Ends, Trace, loaded, turned}
 use Rattle.lmn_adequacy.proofs.Runs.{end_is_one, one_longer, trace_is_one}
 use Rattle.lmn_base.proofs.Lists.{plus_nothing}
 use Rattle.lmn_congruence.specs.Process.{Closed}
 use Rattle.lmn_congruence.specs.Regions.{Region, region_process}
-use Rattle.lmn_receipt.specs.Laws.{IsAcceptedSolid}
-use Rattle.lmn_runs.specs.Runs.{Given, LinesOf, PrintedLines, Stop, StopsSo, at_end, printed_solids}
-use Rattle.lmn_runs.specs.Texts.{PlainsArePrintable}
-use Rattle.lmn_runs.proofs.TraceLines.{one_more_line, traces_have_lines}
+use Rattle.lmn_receipt_chain.specs.Laws.{IsAcceptedSolid}
+use Rattle.lmn_app_runs.specs.Runs.{Given, LinesOf, PrintedLines, Stop, StopsSo, at_end, printed_solids}
+use Rattle.lmn_app_runs.specs.Texts.{PlainsArePrintable}
+use Rattle.lmn_app_runs.proofs.TraceLines.{one_more_line, traces_have_lines}
 use Rattle.lmn_app.specs.declared.task.RunSettings.{RunSettings}
 use Rattle.lmn_app.specs.Checks.{HasSolid}
 use Rattle.lmn_app.specs.RunLaws.{EarlierRunFirst, OneRun, OneRunSoFar}

@@ -1,6 +1,6 @@
 -- A script orders a session over a program, or is refused.
 use Rattle.std.proofs.Common.{◌≤◌, ℕ, List, inl, inr, arith}
-use Rattle.lmn_accepted.specs.Rules.{AcceptedTexts}
+use Rattle.lmn_app_accepted.specs.Rules.{AcceptedTexts}
 use Rattle.lmn_base.specs.declared.rule.Plain.{Plain}
 use Rattle.lmn_base.specs.declared.solid.Solid.{Solid}
 use Rattle.lmn_base.specs.Solids.{item_count}
@@ -9,8 +9,8 @@ use Rattle.lmn_congruence.specs.SolidsOfPlains.{IsSolidOf}
 use Rattle.lmn_congruence.proofs.SolidsOfPlains.{solids_of_plains}
 use Rattle.lmn_congruence.proofs.TranslatedItems.{items_kept}
 use Rattle.lmn_guards.specs.declared.plan.GuardPlan.{GuardPlan}
-use Rattle.lmn_runs.specs.Laws.{solid_of}
-use Rattle.lmn_script.specs.Laws.{HasOrders, SomeOrdersOrWrong}
+use Rattle.lmn_app_runs.specs.Laws.{solid_of}
+use Rattle.lmn_debug_script.specs.Laws.{HasOrders, SomeOrdersOrWrong}
 use Rattle.lmn_app.specs.DebugLaws.{SessionOrRefused}
 use Rattle.lmn_app.specs.Debugs.{IsSession, session_size}
 use Rattle.lmn_app.specs.Texts.{Accepts}

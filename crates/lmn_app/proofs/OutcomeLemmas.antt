@@ -4,14 +4,14 @@ use Rattle.std.proofs.Common.{inl, inr, refl, subst, sym, length}
 use Rattle.lmn_base.specs.declared.refusal.Refusal.{Refusal}
 use Rattle.lmn_io.specs.Counts.{FailedLast, Faults, Rose}
 use Rattle.lmn_io.proofs.TakingLemmas.{no_put}
-use Rattle.lmn_runs.specs.Runs.{Stop}
+use Rattle.lmn_app_runs.specs.Runs.{Stop}
 use Rattle.lmn_app.specs.declared.ending.Ending.{Ending}
 use Rattle.lmn_app.specs.declared.ending.Ending.TheVariants.{Done, Budget, Refused, Words, ReadFault, WriteFault, NoMemory, Full, SecondRefused}
 use Rattle.lmn_app.specs.declared.task.RunSettings.{RunSettings}
 use Rattle.lmn_app.specs.declared.task.Task.{Task}
 use Rattle.lmn_app.specs.declared.task.Task.TheVariants as task
 use Rattle.lmn_app.specs.Endings.{Concludes}
-use Rattle.lmn_reading.specs.Codes.{IsCode}
+use Rattle.lmn_app_reading.specs.Codes.{IsCode}
 use Rattle.lmn_app.specs.Outcomes.{Answers, Causes, Ended, Output}
 use Rattle.lmn_app.specs.Texts.{IsAccepted, IsRefusal, at_start, text_bytes, too_long}
 use Rattle.lmn_app.specs.Requests.{most_items}

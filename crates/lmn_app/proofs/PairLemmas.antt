@@ -4,9 +4,9 @@ use Rattle.lmn_base.specs.declared.rule.Plain.{Plain}
 use Rattle.lmn_congruence.specs.Rules.{Name}
 use Rattle.lmn_guards.specs.declared.plan.GuardPlan.{GuardPlan}
 use Rattle.lmn_io.specs.Counts.{Faults}
-use Rattle.lmn_words.specs.declared.command.PairKind.{PairKind}
-use Rattle.lmn_words.specs.declared.command.PairKind.TheVariants.{Bound, Check, Debug, Exec}
-use Rattle.lmn_words.specs.Forms.{Pair, to_pair}
+use Rattle.lmn_app_words.specs.declared.command.PairKind.{PairKind}
+use Rattle.lmn_app_words.specs.declared.command.PairKind.TheVariants.{Bound, Check, Debug, Exec}
+use Rattle.lmn_app_words.specs.Forms.{Pair, to_pair}
 use Rattle.lmn_app.specs.declared.ending.Ending.{Ending}
 use Rattle.lmn_app.specs.declared.ending.Ending.TheVariants.{Done, Budget, Refused, Words, ReadFault, WriteFault, NoMemory, Full, SecondRefused}
 use Rattle.lmn_app.specs.Debugs.{session_size}

@@ -19,7 +19,7 @@ use Rattle.lmn_reduction.proofs.OneSolid.{solid_is_one}
 use Rattle.lmn_adequacy.specs.Numbered.{IsNumbered}
 use Rattle.lmn_adequacy.proofs.Numbering.{numbered_one}
 use Rattle.lmn_adequacy.proofs.PlainSolids.{printed, solids_of_plains_exist}
-use Rattle.lmn_runs.specs.Laws.{solid_of}
+use Rattle.lmn_app_runs.specs.Laws.{solid_of}
 
 -- a renaming of links keeps the number of items
 mutual

@@ -5,10 +5,10 @@ use Rattle.lmn_base.specs.declared.refusal.Refusal.{Refusal}
 use Rattle.lmn_io.specs.Counts.{FailedLast, Faults, Rose}
 use Rattle.lmn_io.proofs.TakingLemmas.{no_put}
 use Rattle.lmn_io.specs.Texts.{ShelfAsked, asked_once_more}
-use Rattle.lmn_reading.specs.Codes.{IsCode}
-use Rattle.lmn_words.specs.declared.command.PairKind.{PairKind}
-use Rattle.lmn_words.specs.declared.command.PairKind.TheVariants.{Bound, Check, Debug, Exec}
-use Rattle.lmn_words.specs.Forms.{Pair, Request, Run, to_run, to_compile, to_demo, to_pair}
+use Rattle.lmn_app_reading.specs.Codes.{IsCode}
+use Rattle.lmn_app_words.specs.declared.command.PairKind.{PairKind}
+use Rattle.lmn_app_words.specs.declared.command.PairKind.TheVariants.{Bound, Check, Debug, Exec}
+use Rattle.lmn_app_words.specs.Forms.{Pair, Request, Run, to_run, to_compile, to_demo, to_pair}
 use Rattle.lmn_app.specs.declared.ending.Ending.{Ending}
 use Rattle.lmn_app.specs.declared.ending.Ending.TheVariants.{Done, Budget, Refused, Words, ReadFault, WriteFault, NoMemory, Full, SecondRefused}
 use Rattle.lmn_app.specs.declared.task.RunSettings.{RunSettings}

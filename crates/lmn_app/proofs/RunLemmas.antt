@@ -1,17 +1,17 @@
 -- What is printed of the trace of a text is a run of it.
 use Rattle.std.proofs.Common.{ℕ, List, sym, subst}
 use Rattle.std.specs.declared.alloc.Global.{Global}
-use Rattle.lmn_accepted.specs.Rules.{AcceptedTexts}
+use Rattle.lmn_app_accepted.specs.Rules.{AcceptedTexts}
 use Rattle.lmn_congruence.specs.Regions.{region_process}
 use Rattle.lmn_congruence.specs.Translation.{top_of}
 use Rattle.lmn_congruence.proofs.SolidsOfPlains.{solids_of_plains}
 use Rattle.lmn_reduction.proofs.Plains.{plain_settles}
 use Rattle.lmn_adequacy.specs.Runs.{Trace}
-use Rattle.lmn_listable.proofs.ReadPlains.{plain_read}
-use Rattle.lmn_runs.specs.Laws.{TracesAreRuns, solid_of}
-use Rattle.lmn_runs.specs.Runs.{Given, Prints, Stop, StopsBy, StopsSo}
+use Rattle.lmn_verify_compiled.proofs.ReadPlains.{plain_read}
+use Rattle.lmn_app_runs.specs.Laws.{TracesAreRuns, solid_of}
+use Rattle.lmn_app_runs.specs.Runs.{Given, Prints, Stop, StopsBy, StopsSo}
 use Rattle.lmn_app.specs.Runs.{IsRun, IsTraceOf}
-use Rattle.lmn_runs.specs.Texts.{PlainsArePrintable}
+use Rattle.lmn_app_runs.specs.Texts.{PlainsArePrintable}
 use Rattle.lmn_app.proofs.PlainRegions.{solid_with_region}
 
 -- the laws that a run of a text takes

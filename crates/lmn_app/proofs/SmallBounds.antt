@@ -4,7 +4,7 @@ use Rattle.std.specs.Prelude.{nat_lt}
 use Rattle.std.specs.Fmt.{digits}
 use Rattle.std.specs.List.{flat_map, list_all}
 use Rattle.std.proofs.lemmas.Option.{same_Some}
-use Rattle.lmn_accepted.specs.Rules.{AcceptedTexts}
+use Rattle.lmn_app_accepted.specs.Rules.{AcceptedTexts}
 use Rattle.lmn_base.specs.declared.functor.Functor.{Functor}
 use Rattle.lmn_base.specs.declared.functor.Label.TheVariants.{Name as NameLabel}
 use Rattle.lmn_base.specs.declared.level.CtxUse.{CtxUse}
@@ -12,9 +12,9 @@ use Rattle.lmn_base.specs.declared.level.Level.TheFolds.{fold-roll-Level}
 use Rattle.lmn_base.specs.Levels.{contexts_of}
 use Rattle.lmn_base.specs.Names.{IsNames}
 use Rattle.lmn_base.specs.SmallTexts.{at_column}
-use Rattle.lmn_bounding.specs.Bounding.{WeightsBound}
-use Rattle.lmn_functors.proofs.NameLemmas.{adds_none}
-use Rattle.lmn_instr.specs.Listings.{functor_text}
+use Rattle.lmn_weight.specs.Bounding.{WeightsBound}
+use Rattle.lmn_instr_reading.proofs.NameLemmas.{adds_none}
+use Rattle.lmn_instr_code.specs.Listings.{functor_text}
 use Rattle.lmn_weight.specs.declared.weights.Weights.{Weights}
 use Rattle.lmn_weight.specs.Lines.{AreWeightsOf, HasText, line_more, no_line, of_functor}
 use Rattle.lmn_weight.specs.Plains.{EachLowered, IsFirstNotLowered, closed_once, functor_weight, is_lowered, leaf_weight, level_weight, weight_step}

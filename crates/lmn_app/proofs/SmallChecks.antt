@@ -1,10 +1,10 @@
 -- Traces beside a small text.
 use Rattle.std.proofs.Common.{◌≡◌, ◌++◌, ℕ, List, [], ◌∷◌, true, refl, arith}
 use Rattle.lmn_adequacy.specs.Runs.{Chooser, irreducible}
-use Rattle.lmn_plain.specs.SolidLines.{as_level}
-use Rattle.lmn_plain.specs.Words.{text_of, top_pieces}
-use Rattle.lmn_receipt.specs.Chains.{no_first_line}
-use Rattle.lmn_runs.specs.Runs.{at_end}
+use Rattle.lmn_flatten_plain.specs.SolidLines.{as_level}
+use Rattle.lmn_flatten_plain.specs.Words.{text_of, top_pieces}
+use Rattle.lmn_receipt_chain.specs.Chains.{no_first_line}
+use Rattle.lmn_app_runs.specs.Runs.{at_end}
 use Rattle.lmn_app.specs.CheckExamples.{NothingIsWrong, SmallTextIsChecked, SmallTextIsNotTwice, small_trace}
 use Rattle.lmn_app.specs.TextExamples.{TraceEnds, plainly, small_lines, small_text}
 use Rattle.lmn_app.proofs.OneCheck.{Grounds, one_count, trace_checked}

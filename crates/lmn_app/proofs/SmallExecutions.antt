@@ -30,41 +30,41 @@ use Rattle.lmn_congruence.specs.Rules.{Name}
 use Rattle.lmn_congruence.specs.SolidsOfPlains.{IsSolidOf, JoinsLeaf, fused_region, fused_step}
 use Rattle.lmn_congruence.specs.Translation.{no_such_rule, numbered_rule, region_of, region_step}
 use Rattle.lmn_adequacy.specs.ChangeExamples.{changing}
-use Rattle.lmn_folded.specs.Lines.{IsLine}
-use Rattle.lmn_folded_printer.specs.Lines.{IsHeapLine}
+use Rattle.lmn_print_folded.specs.Lines.{IsLine}
+use Rattle.lmn_print.specs.Lines.{IsHeapLine}
 use Rattle.lmn_guards.specs.declared.plan.GuardPlan.{GuardPlan}
-use Rattle.lmn_heap.specs.Heap.{Heap, HeapAtom, HeapMem, IsMem, atoms_by, atoms_in, finished, functor_of, gone, home_by, lone_root, made_atom, marks_of, mem_mark_by, mem_unless_waiting, mem_with_spare, partners_of, placed, rule_added, rules_in, taken, top, unless_waiting}
-use Rattle.lmn_heap.specs.Solid.{HasSolid, regions_of, solid_atom_at, solid_atoms_at}
-use Rattle.lmn_heap.specs.Sound.{Forest, IsTree, Sound, Valid, bare, flat, item_count_in, mem}
-use Rattle.lmn_heap.proofs.Calls.{finished_is_valid, keeps_sound, one_tree}
-use Rattle.lmn_heap.proofs.Lone.{lone_valid}
-use Rattle.lmn_instr.specs.declared.instr.Code.{Code}
-use Rattle.lmn_instr.specs.declared.instr.Instr.{Instr}
-use Rattle.lmn_instr.specs.declared.instr.Instr.TheVariants.{Commit, FindAtom, Proceed, RemoveAtom}
-use Rattle.lmn_instr.specs.Running.{HeadRegisters, Succeeds}
-use Rattle.lmn_body.specs.Running.{Registers}
-use Rattle.lmn_commit.specs.Waking.{Commits}
-use Rattle.lmn_commit.proofs.Rousing.{no_marks}
-use Rattle.lmn_loading.specs.Loaded.{IsLoaded}
+use Rattle.lmn_store_heap.specs.Heap.{Heap, HeapAtom, HeapMem, IsMem, atoms_by, atoms_in, finished, functor_of, gone, home_by, lone_root, made_atom, marks_of, mem_mark_by, mem_unless_waiting, mem_with_spare, partners_of, placed, rule_added, rules_in, taken, top, unless_waiting}
+use Rattle.lmn_store_heap.specs.Solid.{HasSolid, regions_of, solid_atom_at, solid_atoms_at}
+use Rattle.lmn_store_heap.specs.Sound.{Forest, IsTree, Sound, Valid, bare, flat, item_count_in, mem}
+use Rattle.lmn_store_heap.proofs.Calls.{finished_is_valid, keeps_sound, one_tree}
+use Rattle.lmn_store_heap.proofs.Lone.{lone_valid}
+use Rattle.lmn_instr_code.specs.declared.instr.Code.{Code}
+use Rattle.lmn_instr_code.specs.declared.instr.Instr.{Instr}
+use Rattle.lmn_instr_code.specs.declared.instr.Instr.TheVariants.{Commit, FindAtom, Proceed, RemoveAtom}
+use Rattle.lmn_instr_code.specs.Running.{HeadRegisters, Succeeds}
+use Rattle.lmn_solid_bodies.specs.Running.{Registers}
+use Rattle.lmn_machine_commit.specs.Waking.{Commits}
+use Rattle.lmn_machine_commit.proofs.Rousing.{no_marks}
+use Rattle.lmn_schedule_loading.specs.Loaded.{IsLoaded}
 use Rattle.lmn_machine.specs.Costs.{Leaves}
-use Rattle.lmn_plain.specs.Plains.{EachPair}
-use Rattle.lmn_plain.specs.SamePlains.{SamePlain, SameRule}
-use Rattle.lmn_reading.specs.Texts.{IsAcceptedAs}
-use Rattle.lmn_reading.proofs.OneRead.{one_acceptance}
-use Rattle.lmn_strategy.specs.Choosing.{CodeSucceeds}
-use Rattle.lmn_strategy.specs.Quieting.{AllAwake}
-use Rattle.lmn_strategy.specs.Turns.{HoldsRestsOf}
-use Rattle.lmn_strategy.specs.declared.turning.Turn.TheVariants as turn
-use Rattle.lmn_coded.specs.Runs.{CodedTurn, begun, turned}
-use Rattle.lmn_coded.proofs.Halts.{irreducible_at_once, irreducible_is_executed}
-use Rattle.lmn_verify.specs.declared.words.Operand.{Operand}
-use Rattle.lmn_verify.specs.declared.words.Operand.TheVariants as operand
-use Rattle.lmn_verify.specs.Lines.{FitsInstr, IsWrongLine, rule}
-use Rattle.lmn_verify.specs.ListingLaws.{ListedLinesStand}
-use Rattle.lmn_verify.specs.Listings.{AreListed, HasPlainLine, IsBlock, IsRefusedListing, not_a_listing, not_verified}
-use Rattle.lmn_verify.specs.Verified.{IsVerified}
-use Rattle.lmn_verify.proofs.Places.{has_no_by_test}
-use Rattle.lmn_verified.specs.OneReading.{ListedCodesAreRead, VerifiedIsNotRefused}
+use Rattle.lmn_flatten_plain.specs.Plains.{EachPair}
+use Rattle.lmn_flatten_plain.specs.SamePlains.{SamePlain, SameRule}
+use Rattle.lmn_app_reading.specs.Texts.{IsAcceptedAs}
+use Rattle.lmn_app_reading.proofs.OneRead.{one_acceptance}
+use Rattle.lmn_schedule_strategy.specs.Choosing.{CodeSucceeds}
+use Rattle.lmn_schedule_strategy.specs.Quieting.{AllAwake}
+use Rattle.lmn_schedule_strategy.specs.Turns.{HoldsRestsOf}
+use Rattle.lmn_schedule_strategy.specs.declared.turning.Turn.TheVariants as turn
+use Rattle.lmn_verify_coded.specs.Runs.{CodedTurn, begun, turned}
+use Rattle.lmn_verify_coded.proofs.Halts.{irreducible_at_once, irreducible_is_executed}
+use Rattle.lmn_verify_code.specs.declared.words.Operand.{Operand}
+use Rattle.lmn_verify_code.specs.declared.words.Operand.TheVariants as operand
+use Rattle.lmn_verify_listing.specs.Lines.{FitsInstr, IsWrongLine, rule}
+use Rattle.lmn_verify_listing.specs.ListingLaws.{ListedLinesStand}
+use Rattle.lmn_verify_listing.specs.Listings.{AreListed, HasPlainLine, IsBlock, IsRefusedListing, not_a_listing, not_verified}
+use Rattle.lmn_verify_code.specs.Verified.{IsVerified}
+use Rattle.lmn_verify_listing.proofs.Places.{has_no_by_test}
+use Rattle.lmn_verify_compiled.specs.OneReading.{ListedCodesAreRead, VerifiedIsNotRefused}
 use Rattle.lmn_app.specs.ExecExamples.{SmallListingIsRead, SmallListingIsWrong, SmallTextIsExecuted, SmallTextIsNotExecutedSo, leaving, taking}
 use Rattle.lmn_app.specs.Executions.{IsWrongListing, ReadsCodes, coded_input, executed_size}
 use Rattle.lmn_app.specs.TextExamples.{no_plan, one_leaf, small_names, small_plain, small_rule, small_text}

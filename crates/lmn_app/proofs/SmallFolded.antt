@@ -6,10 +6,10 @@ use Rattle.lmn_adequacy.specs.Examples.{root_first}
 use Rattle.lmn_adequacy.specs.Runs.{irreducible, nothing_embeds}
 use Rattle.lmn_adequacy.proofs.ExampleChanges.{short_trace_ends}
 use Rattle.lmn_base.specs.Links.{no_more}
-use Rattle.lmn_folded.specs.Lines.{IsFoldedLine}
-use Rattle.lmn_folded.proofs.Computed.{computed}
+use Rattle.lmn_print_folded.specs.Lines.{IsFoldedLine}
+use Rattle.lmn_print_folded.proofs.Computed.{computed}
 use Rattle.lmn_reduction.specs.Examples.{label_a, label_b}
-use Rattle.lmn_runs.specs.Runs.{Given, PrintedLines, StopsSo, at_end}
+use Rattle.lmn_app_runs.specs.Runs.{Given, PrintedLines, StopsSo, at_end}
 use Rattle.lmn_app.specs.Runs.{IsTraceOf}
 use Rattle.lmn_app.specs.TextExamples.{SmallTextRunsFolded, no_plan, small_end, small_lines, small_names, small_plain, small_text}
 use Rattle.lmn_app.proofs.RunLemmas.{Laws, trace_is_run}

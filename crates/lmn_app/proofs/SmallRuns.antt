@@ -19,13 +19,13 @@ use Rattle.lmn_congruence.specs.Regions.{Region, region_process}
 use Rattle.lmn_congruence.specs.Rules.{Level, Name, Rule, atom_leaf, level, no_level, no_rule, only_leaves, rule_and, rule_of}
 use Rattle.lmn_congruence.specs.Translation.{level_of, level_step, no_such_rule, numbered_rule, plain_process, rules_from, top_of}
 use Rattle.lmn_guards.specs.declared.plan.GuardPlan.{GuardPlan}
-use Rattle.lmn_plain.specs.Plains.{EachPair}
-use Rattle.lmn_folded.specs.Lines.{IsLine}
-use Rattle.lmn_plain.specs.SolidLines.{as_level}
-use Rattle.lmn_plain.proofs.SolidLines.{own_solid}
-use Rattle.lmn_reading.specs.Texts.{IsAcceptedAs}
-use Rattle.lmn_reading.proofs.NamedPlains.{plains_are_named}
-use Rattle.lmn_reading.proofs.OneRead.{one_acceptance}
+use Rattle.lmn_flatten_plain.specs.Plains.{EachPair}
+use Rattle.lmn_print_folded.specs.Lines.{IsLine}
+use Rattle.lmn_flatten_plain.specs.SolidLines.{as_level}
+use Rattle.lmn_flatten_plain.proofs.SolidLines.{own_solid}
+use Rattle.lmn_app_reading.specs.Texts.{IsAcceptedAs}
+use Rattle.lmn_app_reading.proofs.NamedPlains.{plains_are_named}
+use Rattle.lmn_app_reading.proofs.OneRead.{one_acceptance}
 use Rattle.lmn_reduction.specs.Chains.{no_step, step_after}
 use Rattle.lmn_reduction.specs.Commits.{Irreducible, Settles}
 use Rattle.lmn_reduction.specs.Examples.{label_a, label_b}
@@ -39,14 +39,14 @@ use Rattle.lmn_adequacy.specs.Examples.{root_first}
 use Rattle.lmn_adequacy.specs.Runs.{Chooser, Ends, Trace, irreducible, loaded, nothing_embeds, turned}
 use Rattle.lmn_adequacy.proofs.ExampleChanges.{short_trace_ends}
 use Rattle.lmn_adequacy.proofs.Numbering.{numbered_one}
-use Rattle.lmn_runs.specs.Examples.{ShortRunPrints}
-use Rattle.lmn_runs.specs.Runs.{AllLines, IsProcessLine, LastLine, PrintedLines, Prints, at_end, first_line, next_line}
+use Rattle.lmn_app_runs.specs.Examples.{ShortRunPrints}
+use Rattle.lmn_app_runs.specs.Runs.{AllLines, IsProcessLine, LastLine, PrintedLines, Prints, at_end, first_line, next_line}
 use Rattle.lmn_app.specs.Runs.{IsRun}
 use Rattle.lmn_app.specs.TextExamples.{SmallTextHasItsTrace, SmallTextRuns, TraceEnds, no_plan, plainly, small_end, small_lines, small_names, small_plain, small_rule, small_text}
 use Rattle.lmn_app.specs.Texts.{Accepts}
-use Rattle.lmn_accepted.proofs.FirstNames.{first_are_names}
+use Rattle.lmn_app_accepted.proofs.FirstNames.{first_are_names}
 use Rattle.lmn_app.proofs.SmallTexts.{reads, small_text_is_accepted}
-use Rattle.lmn_runs.proofs.ExampleLines.{many_lines}
+use Rattle.lmn_app_runs.proofs.ExampleLines.{many_lines}
 
 -- the solids of its trace
 abbrev pub first : Region

@@ -12,20 +12,20 @@ use Rattle.lmn_congruence.specs.Rules.{Name}
 use Rattle.lmn_debug.specs.Courses.{Course, StepsTo, course}
 use Rattle.lmn_debug.specs.declared.session.Stop.{Stop}
 use Rattle.lmn_debug.specs.declared.session.Stop.TheVariants.{Done, Irreducible, Full, Met, Limit, NoMemory}
-use Rattle.lmn_debugging.specs.Orders.{Obeys, ObeysAll, begun, line_at, obeyed, shown, stepped, went_back}
+use Rattle.lmn_debug.specs.Orders.{Obeys, ObeysAll, begun, line_at, obeyed, shown, stepped, went_back}
 use Rattle.lmn_order.specs.declared.order.Order.TheVariants.{First}
 use Rattle.lmn_order.specs.Orders.{chosen}
-use Rattle.lmn_script.specs.declared.order.Order.{Order}
-use Rattle.lmn_script.specs.declared.order.Order.TheVariants.{Step, Back, Show}
-use Rattle.lmn_script.specs.Laws.{OrdersAreOnce}
-use Rattle.lmn_script.specs.Scripts.{AreOrdersOf, one_order, says_nothing}
-use Rattle.lmn_script.proofs.LineLemmas.{without}
+use Rattle.lmn_debug_script.specs.declared.order.Order.{Order}
+use Rattle.lmn_debug_script.specs.declared.order.Order.TheVariants.{Step, Back, Show}
+use Rattle.lmn_debug_script.specs.Laws.{OrdersAreOnce}
+use Rattle.lmn_debug_script.specs.Scripts.{AreOrdersOf, one_order, says_nothing}
+use Rattle.lmn_debug_script.proofs.LineLemmas.{without}
 use Rattle.lmn_app.specs.DebugExamples.{SmallTextIsDebugged, SmallTextIsNotDebuggedSo}
 use Rattle.lmn_app.specs.Debugs.{IsSession, session_size}
 use Rattle.lmn_app.specs.TextExamples.{no_plan, small_names, small_plain, small_text}
 use Rattle.lmn_app.proofs.SmallRuns.{first, last, more_allowed, nothing_left, small_named, small_solid}
 use Rattle.lmn_app.proofs.SmallTexts.{small_text_is_accepted}
-use Rattle.lmn_debugging.proofs.ExampleOrders.{none_before as none_obeyed}
+use Rattle.lmn_debug.proofs.ExampleOrders.{none_before as none_obeyed}
 
 -- ---- a session
 

@@ -18,15 +18,15 @@ use Rattle.lmn_base.specs.Items.{items_of, leaf_item, number_of_items, own_items
 use Rattle.lmn_base.specs.Levels.{leaves_of, links_of, occurrences_of_leaf}
 use Rattle.lmn_base.specs.Limits.{most_head_items, most_body_items, most_conditions, most_guard_tokens}
 use Rattle.lmn_base.specs.Links.{EachTwice, NumbersLinks, no_more}
-use Rattle.lmn_base.specs.RuleCodes.{bare_again, untyped_place, connector_place, first_with_some, from_nowhere, in_other_form, inner_rule, missing, rule_context_place, head_rows, seconds_by_membrane, size_rows, use_rows, used_again}
+use Rattle.lmn_base_walks.specs.RuleCodes.{bare_again, untyped_place, connector_place, first_with_some, from_nowhere, in_other_form, inner_rule, missing, rule_context_place, head_rows, seconds_by_membrane, size_rows, use_rows, used_again}
 use Rattle.lmn_base.specs.SmallTexts.{at_column}
 use Rattle.lmn_base.specs.WellMade.{IsAtomLeaf, IsWellMade}
-use Rattle.lmn_base.proofs.ItemLemmas.{listed_items}
+use Rattle.lmn_base_walks.proofs.ItemLemmas.{listed_items}
 use Rattle.lmn_base.proofs.Lists.{contains_none}
 use Rattle.lmn_base.proofs.RowLemmas.{Nowhere}
-use Rattle.lmn_expand.specs.NameLists.{names_read}
-use Rattle.lmn_expand.specs.Outside.{outside_rules}
-use Rattle.lmn_grammar.proofs.Scans.{within_scanned}
+use Rattle.lmn_flatten.specs.NameLists.{names_read}
+use Rattle.lmn_flatten.specs.Outside.{outside_rules}
+use Rattle.lmn_parser_grammar.proofs.Scans.{within_scanned}
 use Rattle.lmn_guards.specs.Accepted.{IsAcceptedRule}
 use Rattle.lmn_guards.specs.GuardCodes.{guard_rows, unheld, untyped}
 use Rattle.lmn_guards.specs.Plans.{IsPlan, leaves_by_membrane, numbered_uses, typed_use}
@@ -40,13 +40,13 @@ use Rattle.lmn_lexer.proofs.Building.{blank_off, token_off}
 use Rattle.lmn_lexer.proofs.LaidTexts.{laid_texts_are_cut}
 use Rattle.lmn_lexer.proofs.OneCut.{one_cut}
 use Rattle.lmn_linkcheck.proofs.Tables.{fault_is_told}
-use Rattle.lmn_numbering.specs.Outside.{context_place}
+use Rattle.lmn_flatten_numbers.specs.Outside.{context_place}
 use Rattle.lmn_parser.specs.Syntax.{Clauses}
-use Rattle.lmn_plain.specs.Laws.{IsPlain}
-use Rattle.lmn_plain.proofs.PrintedLines.{plains_are_well_made}
-use Rattle.lmn_plain.proofs.ShortTexts.{arrow, dot, is_its_tree, its_tree, its_words, laid, name_word}
+use Rattle.lmn_flatten_plain.specs.Laws.{IsPlain}
+use Rattle.lmn_flatten_plain.proofs.PrintedLines.{plains_are_well_made}
+use Rattle.lmn_flatten_plain.proofs.ShortTexts.{arrow, dot, is_its_tree, its_tree, its_words, laid, name_word}
 use Rattle.lmn_app.specs.TextExamples.{SmallTextIsAccepted, no_plan, one_atom, one_leaf, small_names, small_plain, small_rule, small_text}
-use Rattle.lmn_reading.specs.Texts.{ReadsAs}
+use Rattle.lmn_app_reading.specs.Texts.{ReadsAs}
 use Rattle.lmn_contexts.proofs.WorkedRows.{counted}
 
 -- ---- its tokens

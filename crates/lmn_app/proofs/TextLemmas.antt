@@ -17,8 +17,8 @@ use Rattle.lmn_congruence.specs.Rules.{Name}
 use Rattle.lmn_congruence.specs.SolidsOfPlains.{IsSolidOf, JoinsLeaf, fused_region}
 use Rattle.lmn_congruence.proofs.SolidsOfPlains.{solids_of_plains}
 use Rattle.lmn_adequacy.proofs.PlainSolids.{solid_of_plain_is_one, solids_of_plains_exist}
-use Rattle.lmn_expand.specs.NameLists.{names_read}
-use Rattle.lmn_grammar.specs.Refusing.{IsRefused as IsRefusedAt}
+use Rattle.lmn_flatten.specs.NameLists.{names_read}
+use Rattle.lmn_parser_grammar.specs.Refusing.{IsRefused as IsRefusedAt}
 use Rattle.lmn_guards.specs.declared.plan.GuardPlan.{GuardPlan}
 use Rattle.lmn_lexer.specs.Laying.{words_of}
 use Rattle.lmn_lexer.specs.declared.token.Kind.{Kind}
@@ -27,14 +27,14 @@ use Rattle.lmn_linkcheck.proofs.LinkedLemmas.{no_fault_is_linked}
 use Rattle.lmn_parser.specs.Parsing.{kinds_of}
 use Rattle.lmn_parser.proofs.OneLanguage.{refused_no_tree}
 use Rattle.lmn_parser.specs.Faults.{AreKindsOfProgram}
-use Rattle.lmn_reading.specs.Laws.{IsAcceptedText}
-use Rattle.lmn_reading.specs.Texts.{IsAcceptedAs, IsRefusedAs, ReadsAs, by_bytes, by_contexts, by_links, by_rules, by_tokens}
-use Rattle.lmn_reading.proofs.AcceptedOrRefused as reading
-use Rattle.lmn_reading.proofs.CodeLemmas.{refusals_have_codes}
-use Rattle.lmn_reading.proofs.OneRead as read
-use Rattle.lmn_reading.proofs.Readings.{well_made}
-use Rattle.lmn_reading.specs.Codes.{IsCode}
-use Rattle.lmn_runs.specs.Laws.{solid_of}
+use Rattle.lmn_app_reading.specs.Laws.{IsAcceptedText}
+use Rattle.lmn_app_reading.specs.Texts.{IsAcceptedAs, IsRefusedAs, ReadsAs, by_bytes, by_contexts, by_links, by_rules, by_tokens}
+use Rattle.lmn_app_reading.proofs.AcceptedOrRefused as reading
+use Rattle.lmn_app_reading.proofs.CodeLemmas.{refusals_have_codes}
+use Rattle.lmn_app_reading.proofs.OneRead as read
+use Rattle.lmn_app_reading.proofs.Readings.{well_made}
+use Rattle.lmn_app_reading.specs.Codes.{IsCode}
+use Rattle.lmn_app_runs.specs.Laws.{solid_of}
 use Rattle.lmn_app.specs.Texts.{Accepts, AcceptedOrRefused, Fits, IsAccepted, IsRefusal, IsTooLarge, NamesText, OneRefusal, RefusedNotAccepted, at_start, by_reading, text_bytes, too_large, too_long}
 use Rattle.lmn_app.proofs.PlainRegions.{solid_with_items}
 

@@ -2,8 +2,8 @@
 use Rattle.std.specs.Prelude.{ℕ, List, []}
 use Rattle.std.specs.declared.alloc.Global.{Global}
 use Rattle.lmn_adequacy.specs.Runs.{irreducible}
-use Rattle.lmn_receipt.specs.Chains.{at_line}
-use Rattle.lmn_runs.specs.Runs.{at_end}
+use Rattle.lmn_receipt_chain.specs.Chains.{at_line}
+use Rattle.lmn_app_runs.specs.Runs.{at_end}
 use Rattle.lmn_app.specs.Checks.{IsChecked, IsWrongTraceOf}
 use Rattle.lmn_app.specs.TextExamples.{small_lines, small_text}
 use Rattle.lmn_app.specs.Writing.{run_text}

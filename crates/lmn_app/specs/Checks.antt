@@ -9,10 +9,10 @@ use Rattle.lmn_congruence.specs.Regions.{Region, region_process}
 use Rattle.lmn_congruence.specs.Rules.{Name}
 use Rattle.lmn_congruence.specs.Translation.{plain_process, top_of}
 use Rattle.lmn_guards.specs.declared.plan.GuardPlan.{GuardPlan}
-use Rattle.lmn_receipt.specs.Chains.{Continued, Continues, IsChain, IsWrongTrace, line_of_solid}
-use Rattle.lmn_receipt.specs.Laws.{IsChainOfCommits}
+use Rattle.lmn_receipt_chain.specs.Chains.{Continued, Continues, IsChain, IsWrongTrace, line_of_solid}
+use Rattle.lmn_receipt_chain.specs.Laws.{IsChainOfCommits}
 use Rattle.lmn_reduction.specs.Commits.{Commit, Settles}
-use Rattle.lmn_runs.specs.Runs.{IsLineOf}
+use Rattle.lmn_app_runs.specs.Runs.{IsLineOf}
 use Rattle.lmn_app.specs.Texts.{Accepts}
 
 -- A program that is accepted, and the solid of its plain, whose links are numbered in printed order.

@@ -1,7 +1,7 @@
 -- A script orders a session over a program, or is refused.
 use Rattle.std.specs.Prelude.{◌≡◌, ◌⊎◌, ℕ, List, Some}
 use Rattle.lmn_base.specs.declared.refusal.Refusal.{Refusal}
-use Rattle.lmn_words.specs.declared.command.PairKind.TheVariants.{Debug}
+use Rattle.lmn_app_words.specs.declared.command.PairKind.TheVariants.{Debug}
 use Rattle.lmn_app.specs.Debugs.{IsSession, session_size}
 use Rattle.lmn_app.specs.Pairs.{IsWrong}
 use Rattle.lmn_app.specs.Texts.{IsAccepted}

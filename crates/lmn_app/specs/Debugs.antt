@@ -5,11 +5,11 @@ use Rattle.lmn_congruence.specs.Plains.{SolidOf}
 use Rattle.lmn_congruence.specs.Regions.{Region, item_count_of_region}
 use Rattle.lmn_congruence.specs.Translation.{top_of}
 use Rattle.lmn_debug.specs.Courses.{course}
-use Rattle.lmn_debugging.specs.Orders.{ObeyedAll, ObeyedSome, ObeyedUpTo}
+use Rattle.lmn_debug.specs.Orders.{ObeyedAll, ObeyedSome, ObeyedUpTo}
 use Rattle.lmn_order.specs.declared.order.Order.TheVariants.{First}
 use Rattle.lmn_order.specs.Orders.{chosen}
-use Rattle.lmn_script.specs.declared.order.Order.{Order}
-use Rattle.lmn_script.specs.Scripts.{AreOrdersOf}
+use Rattle.lmn_debug_script.specs.declared.order.Order.{Order}
+use Rattle.lmn_debug_script.specs.Scripts.{AreOrdersOf}
 use Rattle.lmn_app.specs.declared.ending.Ending.{Ending}
 use Rattle.lmn_app.specs.declared.ending.Ending.TheVariants.{Done, NoMemory, WriteFault}
 use Rattle.lmn_app.specs.Seconds.{ReadsBoth}

@@ -1,6 +1,6 @@
 -- What `demo` does.
 use Rattle.std.specs.Prelude.{◌≡◌, ℕ, List, [], ◌∷◌, codes}
-use Rattle.lmn_words.specs.Forms.{IsFileName, Run, TextsAsk, to_run}
+use Rattle.lmn_app_words.specs.Forms.{IsFileName, Run, TextsAsk, to_run}
 use Rattle.lmn_app.specs.Requests.{folded_run, settings_of}
 
 -- what `demo` does with its text is what the words `run --folded FILE` ask to do with a file

@@ -1,7 +1,7 @@
 -- Listings beside a small text, and a run by one.
 use Rattle.std.specs.Prelude.{◌≢◌, List, ℕ, [], codes}
 use Rattle.lmn_base.specs.declared.refusal.Refusal.{Refusal}
-use Rattle.lmn_drive.specs.declared.driving.RunEnd.TheVariants as run
+use Rattle.lmn_app_drive.specs.declared.driving.RunEnd.TheVariants as run
 use Rattle.lmn_app.specs.declared.ending.Ending.TheVariants.{Done}
 use Rattle.lmn_app.specs.Executions.{IsExecuted, IsExecutedAs, IsWrongListing, ReadsCodes}
 use Rattle.lmn_app.specs.TextExamples.{small_text}

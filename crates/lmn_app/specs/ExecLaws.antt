@@ -2,7 +2,7 @@
 use Rattle.std.specs.Prelude.{◌≡◌, ℕ, List, [], Some, false}
 use Rattle.std.specs.declared.alloc.Global.{Global}
 use Rattle.lmn_base.specs.declared.refusal.Refusal.{Refusal}
-use Rattle.lmn_coded.specs.Laws.{CameToEnd}
+use Rattle.lmn_verify_coded.specs.Laws.{CameToEnd}
 use Rattle.lmn_order.specs.declared.order.Order.TheVariants as order
 use Rattle.lmn_app.specs.declared.ending.Ending.{Ending}
 use Rattle.lmn_app.specs.declared.ending.Ending.TheVariants.{Done, Budget, Full, NoMemory}
@@ -11,8 +11,8 @@ use Rattle.lmn_app.specs.declared.task.Task.TheVariants as task
 use Rattle.lmn_app.specs.Executions.{IsExecuted, IsWrongListing, ReadsCodes, executed_budget, executed_size}
 use Rattle.lmn_app.specs.Outcomes.{Output}
 use Rattle.lmn_app.specs.Writing.{IsListing}
-use Rattle.lmn_drive.specs.declared.driving.RunEnd.{RunEnd}
-use Rattle.lmn_drive.specs.declared.driving.RunEnd.TheVariants as run
+use Rattle.lmn_app_drive.specs.declared.driving.RunEnd.{RunEnd}
+use Rattle.lmn_app_drive.specs.declared.driving.RunEnd.TheVariants as run
 
 -- what `run` is given with no option
 abbrev pub run_by_default : RunSettings

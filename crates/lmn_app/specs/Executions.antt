@@ -5,22 +5,22 @@ use Rattle.lmn_base.specs.declared.refusal.Refusal.{Refusal}
 use Rattle.lmn_base.specs.declared.rule.Plain.{Plain}
 use Rattle.lmn_base.specs.Names.{IsNames}
 use Rattle.lmn_base.specs.Solids.{item_count}
-use Rattle.lmn_coded.specs.Runs.{CodedInput, Executed}
+use Rattle.lmn_verify_coded.specs.Runs.{CodedInput, Executed}
 use Rattle.lmn_base.specs.declared.solid.Solid.{Solid}
 use Rattle.lmn_congruence.specs.Rules.{Name}
 use Rattle.lmn_congruence.specs.SolidsOfPlains.{IsSolidOf}
-use Rattle.lmn_drive.specs.declared.driving.RunEnd.{RunEnd}
-use Rattle.lmn_drive.specs.declared.driving.RunEnd.TheVariants as run
-use Rattle.lmn_functors.specs.Reading.{AddsNames, NumbersNames}
+use Rattle.lmn_app_drive.specs.declared.driving.RunEnd.{RunEnd}
+use Rattle.lmn_app_drive.specs.declared.driving.RunEnd.TheVariants as run
+use Rattle.lmn_instr_reading.specs.Reading.{AddsNames, NumbersNames}
 use Rattle.lmn_guards.specs.declared.plan.GuardPlan.{GuardPlan}
-use Rattle.lmn_heap.specs.Heap.{Heap}
-use Rattle.lmn_heap.specs.Sound.{Valid}
-use Rattle.lmn_instr.specs.declared.instr.Code.{Code}
-use Rattle.lmn_loading.specs.Loaded.{IsLoaded}
-use Rattle.lmn_strategy.specs.Quieting.{AllAwake}
-use Rattle.lmn_verify.specs.Listings.{AreListed, IsRefusedListing}
-use Rattle.lmn_verify.specs.Operands.{code_names}
-use Rattle.lmn_verify.specs.Verified.{IsVerified}
+use Rattle.lmn_store_heap.specs.Heap.{Heap}
+use Rattle.lmn_store_heap.specs.Sound.{Valid}
+use Rattle.lmn_instr_code.specs.declared.instr.Code.{Code}
+use Rattle.lmn_schedule_loading.specs.Loaded.{IsLoaded}
+use Rattle.lmn_schedule_strategy.specs.Quieting.{AllAwake}
+use Rattle.lmn_verify_listing.specs.Listings.{AreListed, IsRefusedListing}
+use Rattle.lmn_verify_code.specs.Operands.{code_names}
+use Rattle.lmn_verify_code.specs.Verified.{IsVerified}
 use Rattle.lmn_app.specs.declared.ending.Ending.{Ending}
 use Rattle.lmn_app.specs.declared.ending.Ending.TheVariants.{Done, Budget, WriteFault, NoMemory, Full}
 use Rattle.lmn_app.specs.Texts.{Accepts}

@@ -1,7 +1,7 @@
 -- The list of names of a small text.
 use Rattle.std.specs.Prelude.{◌≡◌, List, [], ◌∷◌, ◌++◌, codes}
 use Rattle.lmn_base.specs.Names.{first_names}
-use Rattle.lmn_expand.specs.NameLists.{names_read}
+use Rattle.lmn_flatten.specs.NameLists.{names_read}
 use Rattle.lmn_lexer.specs.declared.token.Kind.TheVariants.{Name, Quoted, Link, Int, Context}
 use Rattle.lmn_lexer.specs.Laying.{Word}
 

@@ -2,16 +2,16 @@
 use Rattle.std.specs.Prelude.{◌≡◌, ℕ, ◌⊎◌, ⊤, List, Option, Some}
 use Rattle.lmn_io.specs.Counts.{FailedLast, Faults, NoneFailed, Rose}
 use Rattle.lmn_adequacy.specs.Runs.{irreducible, budget_done, full}
-use Rattle.lmn_runs.specs.Runs.{at_end, no_memory}
+use Rattle.lmn_app_runs.specs.Runs.{at_end, no_memory}
 use Rattle.lmn_app.specs.declared.ending.Ending.{Ending}
 use Rattle.lmn_app.specs.declared.ending.Ending.TheVariants.{Done, Budget, Refused, Words, ReadFault, WriteFault, NoMemory, Full, SecondRefused}
 use Rattle.lmn_app.specs.declared.task.Task.{Task}
 use Rattle.lmn_app.specs.declared.task.Task.TheVariants as task
-use Rattle.lmn_reading.specs.Codes.{IsCode}
+use Rattle.lmn_app_reading.specs.Codes.{IsCode}
 use Rattle.lmn_app.specs.Texts.{IsRefusal}
 use Rattle.lmn_base.specs.declared.refusal.Refusal.{Refusal}
-use Rattle.lmn_words.specs.declared.command.PairKind.{PairKind}
-use Rattle.lmn_words.specs.Forms.{Pair, Request, to_run, to_compile, to_demo, to_pair}
+use Rattle.lmn_app_words.specs.declared.command.PairKind.{PairKind}
+use Rattle.lmn_app_words.specs.Forms.{Pair, Request, to_run, to_compile, to_demo, to_pair}
 use Rattle.lmn_app.specs.Demos.{demo_text}
 use Rattle.lmn_app.specs.Pairs.{PairAnswers, RefusesSecond, WritesAll, WritesPart, most_items_of_pair}
 use Rattle.lmn_app.specs.Requests.{ReadRose, folded_run, most_items, settings_of}

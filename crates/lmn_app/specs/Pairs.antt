@@ -2,10 +2,10 @@
 use Rattle.std.specs.Prelude.{◌≡◌, ◌<◌, ◌≤◌, ◌⊎◌, ℕ, List, Option, None, Some, length}
 use Rattle.lmn_base.specs.declared.refusal.Refusal.{Refusal}
 use Rattle.lmn_io.specs.Taking.{Takes, TakesPrefix}
-use Rattle.lmn_words.specs.declared.command.PairKind.{PairKind}
-use Rattle.lmn_words.specs.declared.command.PairKind.TheVariants.{Bound, Check, Debug, Exec}
-use Rattle.lmn_script.specs.Scripts.{IsFirstWrong}
-use Rattle.lmn_words.specs.Forms.{Pair}
+use Rattle.lmn_app_words.specs.declared.command.PairKind.{PairKind}
+use Rattle.lmn_app_words.specs.declared.command.PairKind.TheVariants.{Bound, Check, Debug, Exec}
+use Rattle.lmn_debug_script.specs.Scripts.{IsFirstWrong}
+use Rattle.lmn_app_words.specs.Forms.{Pair}
 use Rattle.lmn_app.specs.declared.ending.Ending.{Ending}
 use Rattle.lmn_app.specs.declared.ending.Ending.TheVariants.{Done, WriteFault}
 use Rattle.lmn_app.specs.Bounds.{IsBounded, IsWrongWeights}

@@ -1,19 +1,19 @@
 -- How a call ends whose run or whose orders ended so, without a program, and that writes a line of one, debugs it or runs it by a listing. Contracts of this crate's own functions alone cite these words.
 use Rattle.std.specs.Prelude.{◌≡◌, ◌<◌, ◌⊎◌, ⊤, ℕ, List, Option, length}
 use Rattle.lmn_io.specs.Taking.{Takes, TakesPrefix}
-use Rattle.lmn_words.specs.declared.command.PairKind.{PairKind}
-use Rattle.lmn_words.specs.declared.command.PairKind.TheVariants.{Debug, Exec}
-use Rattle.lmn_coded.specs.Runs.{CodedInput, Executed}
-use Rattle.lmn_debugging.specs.declared.debugging.DebugEnd.{DebugEnd}
-use Rattle.lmn_debugging.specs.declared.debugging.DebugEnd.TheVariants as session
-use Rattle.lmn_drive.specs.declared.driving.RunEnd.{RunEnd}
-use Rattle.lmn_drive.specs.declared.driving.RunEnd.TheVariants as run
+use Rattle.lmn_app_words.specs.declared.command.PairKind.{PairKind}
+use Rattle.lmn_app_words.specs.declared.command.PairKind.TheVariants.{Debug, Exec}
+use Rattle.lmn_verify_coded.specs.Runs.{CodedInput, Executed}
+use Rattle.lmn_debug.specs.declared.debugging.DebugEnd.{DebugEnd}
+use Rattle.lmn_debug.specs.declared.debugging.DebugEnd.TheVariants as session
+use Rattle.lmn_app_drive.specs.declared.driving.RunEnd.{RunEnd}
+use Rattle.lmn_app_drive.specs.declared.driving.RunEnd.TheVariants as run
 use Rattle.lmn_app.specs.declared.ending.Ending.{Ending}
 use Rattle.lmn_app.specs.declared.ending.Ending.TheVariants.{Done, Budget, Refused, ReadFault, WriteFault, NoMemory, Full, SecondRefused}
-use Rattle.lmn_heap.specs.Heap.{Heap}
-use Rattle.lmn_heap.specs.Sound.{Valid}
+use Rattle.lmn_store_heap.specs.Heap.{Heap}
+use Rattle.lmn_store_heap.specs.Sound.{Valid}
 use Rattle.lmn_io.specs.Counts.{FailedLast, Faults, NoneFailed, Rose}
-use Rattle.lmn_script.specs.Scripts.{IsFirstWrong}
+use Rattle.lmn_debug_script.specs.Scripts.{IsFirstWrong}
 use Rattle.lmn_app.specs.Debugs.{IsDebugged}
 use Rattle.lmn_app.specs.Executions.{IsExecutedAs, IsWrongListing}
 use Rattle.lmn_app.specs.Pairs.{IsWritten, IsWrong}

@@ -3,7 +3,7 @@ use Rattle.std.specs.Prelude.{ℕ, List, length}
 use Rattle.lmn_base.specs.declared.rule.Plain.{Plain}
 use Rattle.lmn_base.specs.Names.{IsNames}
 use Rattle.lmn_congruence.specs.Rules.{Name}
-use Rattle.lmn_functors.specs.Reading.{AddsNames}
+use Rattle.lmn_instr_reading.specs.Reading.{AddsNames}
 use Rattle.lmn_guards.specs.declared.plan.GuardPlan.{GuardPlan}
 use Rattle.lmn_app.specs.Texts.{Accepts}
 

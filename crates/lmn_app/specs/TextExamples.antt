@@ -13,7 +13,7 @@ use Rattle.lmn_base.specs.SmallTexts.{at_column}
 use Rattle.lmn_congruence.specs.Rules.{Name}
 use Rattle.lmn_guards.specs.declared.plan.GuardPlan.{GuardPlan}
 use Rattle.lmn_adequacy.specs.Runs.{Chooser, irreducible}
-use Rattle.lmn_runs.specs.Runs.{Given, StopsSo, at_end}
+use Rattle.lmn_app_runs.specs.Runs.{Given, StopsSo, at_end}
 use Rattle.lmn_app.specs.Runs.{IsRun, IsTraceOf}
 use Rattle.lmn_app.specs.Texts.{Accepts}
 

@@ -9,7 +9,7 @@ use Rattle.lmn_congruence.specs.Regions.{Region, item_count_of_region}
 use Rattle.lmn_congruence.specs.Rules.{Name}
 use Rattle.lmn_congruence.specs.Translation.{top_of}
 use Rattle.lmn_guards.specs.declared.plan.GuardPlan.{GuardPlan}
-use Rattle.lmn_reading.specs.Texts.{IsAcceptedAs, IsRefusedAs, LeavesNames}
+use Rattle.lmn_app_reading.specs.Texts.{IsAcceptedAs, IsRefusedAs, LeavesNames}
 
 -- the most bytes of a text
 abbrev pub text_bytes : ℕ

@@ -7,13 +7,13 @@ ghost use Rattle.lmn_app.specs.Texts.{Accepts};
 
 use crate::ending::Ending;
 use itoa::Buffer;
-use lmn_accepted::accepted_texts;
+use lmn_app_accepted::accepted_texts;
+use lmn_app_reading::Accepted;
+use lmn_app_words::PairKind;
 use lmn_base::{Names, TextFault};
-use lmn_bounding::{few_items_weigh, weights_bound_commits};
 use lmn_io::{Failed, Sink, put_all};
-use lmn_reading::Accepted;
 use lmn_weight::{bound, read};
-use lmn_words::PairKind;
+use lmn_weight::{few_items_weigh, weights_bound_commits};
 use std::alloc::Global;
 
 /// Writes how many commits an accepted text has at most, by the weights of a second one.

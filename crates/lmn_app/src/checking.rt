@@ -6,15 +6,15 @@ ghost use Rattle.lmn_app.specs.Texts.{Accepts};
 
 use crate::ending::Ending;
 use itoa::Buffer;
-use lmn_accepted::accepted_texts;
+use lmn_app_accepted::accepted_texts;
+use lmn_app_reading::Accepted;
+use lmn_app_runs::plains_are_printable;
+use lmn_app_words::PairKind;
 use lmn_base::{Names, NoMemory, TextFault};
 use lmn_io::{Failed, Sink, put_all};
-use lmn_plain_search::PlainSearch;
-use lmn_reading::Accepted;
-use lmn_receipt::{chains_are_commits, check};
-use lmn_runs::plains_are_printable;
-use lmn_settle::solid_of;
-use lmn_words::PairKind;
+use lmn_receipt_chain::{chains_are_commits, check};
+use lmn_receipt_search::PlainSearch;
+use lmn_solid_settle::solid_of;
 use std::alloc::Global;
 
 /// Writes how many commits a trace has that is one of an accepted text. It is checked over lists: no store, machine or code has a part

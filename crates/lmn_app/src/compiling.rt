@@ -5,11 +5,11 @@ ghost use Rattle.lmn_app.specs.Texts.{Accepts};
 
 use crate::ending::Ending;
 use crate::task::Task;
-use lmn_accepted::accepted_texts;
+use lmn_app_accepted::accepted_texts;
+use lmn_app_reading::Accepted;
 use lmn_base::Names;
+use lmn_compile_listing::{compile_rules, list_codes};
 use lmn_io::{Failed, Sink};
-use lmn_listing::{compile_rules, list_codes};
-use lmn_reading::Accepted;
 use std::alloc::Global;
 
 /// Writes the listing of the code of each rule of an accepted text, by rising number. All rules are compiled before the

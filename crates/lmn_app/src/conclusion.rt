@@ -27,7 +27,7 @@ fn report<E: Sink>(err: &mut E, ending: Ending) -> Result<(), Failed>
     match ending {
         Ending::Done | Ending::Budget | Ending::Full => Ok(()),
         Ending::Refused(refusal) => {
-            report_refusal(err, refusal, lmn_reading::words(refusal.code))
+            report_refusal(err, refusal, lmn_app_reading::words(refusal.code))
         }
         Ending::SecondRefused(_, refusal) => {
             report_refusal(err, refusal, second_words(refusal.code))

@@ -1,8 +1,8 @@
 ghost use Rattle.std.specs.Prelude.{◌≡◌};
 ghost use Rattle.lmn_app.specs.SecondTexts.{second_status};
 
+use lmn_app_words::PairKind;
 use lmn_base::Refusal;
-use lmn_words::PairKind;
 
 /// How a call ends. Each ending has a status and a line on `err`, which may be nothing.
 #[derive(Clone, Copy, Debug, PartialEq, Eq)]

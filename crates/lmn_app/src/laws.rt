@@ -17,18 +17,20 @@ ghost use Rattle.lmn_app.specs.RunLaws.{EarlierRunFirst, OneRun, OneRunSoFar};
 ghost use Rattle.lmn_app.specs.TextExamples.{SmallTextHasItsTrace, SmallTextIsAccepted, SmallTextRuns, SmallTextRunsFolded};
 ghost use Rattle.lmn_app.specs.Texts.{AcceptedOrRefused, OneRefusal, RefusedNotAccepted};
 
-use lmn_accepted::{accepted_texts, accepted_texts_can_be_loaded};
-use lmn_bounding::weights_bound_commits;
-use lmn_bridge::solids_are_regions;
-use lmn_coded::{runs_are_one, tables_run_as_rules};
-use lmn_listable::accepted_can_be_listed;
-use lmn_loading::loading_settles;
-use lmn_receipt::{chains_are_commits, no_trace_is_neither, traces_are_chains, traces_are_one_of};
-use lmn_runs::{plains_are_printable, short_run_prints, traces_are_runs};
-use lmn_script::{orders_are_once, scripts_are_decided};
-use lmn_turn::plains_are_tables;
-use lmn_verified::{compiled_are_listed, listed_codes_are_one};
-use lmn_verify::laws::{listed_lines_stand, wrong_line_is_one};
+use lmn_adequacy_heaps::solids_are_regions;
+use lmn_adequacy_turns::plains_are_tables;
+use lmn_app_accepted::{accepted_texts, accepted_texts_can_be_loaded};
+use lmn_app_runs::{plains_are_printable, short_run_prints, traces_are_runs};
+use lmn_debug_script::{orders_are_once, scripts_are_decided};
+use lmn_receipt_chain::{
+    chains_are_commits, no_trace_is_neither, traces_are_chains, traces_are_one_of,
+};
+use lmn_schedule_loading::loading_settles;
+use lmn_verify_coded::{runs_are_one, tables_run_as_rules};
+use lmn_verify_compiled::accepted_can_be_listed;
+use lmn_verify_compiled::{compiled_are_listed, listed_codes_are_one};
+use lmn_verify_listing::laws::{listed_lines_stand, wrong_line_is_one};
+use lmn_weight::weights_bound_commits;
 use lmn_weight::{plains_weigh_alike, weights_are_read_once, weights_are_told_or_wrong};
 
 /// A text that is refused isn't accepted, and it has one refusal at most.

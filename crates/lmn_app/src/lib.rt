@@ -16,4 +16,6 @@ mod task;
 mod top;
 
 pub use ending::Ending;
+pub use lmn_app_drive::{RunEnd, RunOptions, drive};
+pub use lmn_app_words::in_form;
 pub use top::lmn_main;

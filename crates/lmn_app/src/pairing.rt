@@ -1,7 +1,7 @@
 ghost use Rattle.std.specs.Prelude.{◌≡◌, ◌≤◌, ◌⊎◌, ◌^◌, ℕ, List, Option, option_map, IfErr, IfOk, Some, length};
 ghost use Rattle.lmn_io.specs.Counts.{Faults};
 ghost use Rattle.lmn_io.specs.Texts.{asked_once_more};
-ghost use Rattle.lmn_words.specs.Forms.{pair_of, to_pair};
+ghost use Rattle.lmn_app_words.specs.Forms.{pair_of, to_pair};
 ghost use Rattle.lmn_app.specs.Outcomes.{RequestEnded};
 ghost use Rattle.lmn_app.specs.Pairs.{HasProgram};
 ghost use Rattle.lmn_app.specs.SecondTexts.{long_code, second_bytes};
@@ -13,10 +13,10 @@ use crate::checking::check_by;
 use crate::debugging::debug_by;
 use crate::ending::Ending;
 use crate::executing::exec_by;
+use lmn_app_reading::Accepted;
+use lmn_app_words::{PairKind, PairWords};
 use lmn_base::{Names, Pos, Refusal, Rows};
 use lmn_io::{FetchFault, Fetched, Shelf, Sink};
-use lmn_reading::Accepted;
-use lmn_words::{PairKind, PairWords};
 use std::alloc::Global;
 
 /// Does what a command does with an accepted program and a second text, which it fetches.

@@ -1,5 +1,5 @@
+use lmn_app_words::RunWords;
 use lmn_order::Order;
-use lmn_words::RunWords;
 
 /// What a command does with a text.
 #[derive(Clone, Copy, Debug, PartialEq, Eq)]
@@ -36,7 +36,7 @@ pub(crate) const DEMO: RunSettings = RunSettings {
 
 impl RunSettings {
     ghost use Rattle.std.specs.Prelude.{◌≡◌};
-    ghost use Rattle.lmn_words.specs.Forms.{run_of};
+    ghost use Rattle.lmn_app_words.specs.Forms.{run_of};
     ghost use Rattle.lmn_app.specs.Requests.{settings_of};
 
     /// What a run is given by the words.

@@ -1,9 +1,7 @@
 pub mod HeldNames
 pub mod FirstLemmas
 pub mod RowLemmas
-pub mod ItemLemmas
 pub mod Lists
 pub mod Common
 pub mod Numbers
 pub mod Truth
-pub mod OnePlaces

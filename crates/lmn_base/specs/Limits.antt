@@ -1,4 +1,4 @@
--- The limits of the language that are told of plain types, each by its name. Those of tokens stand in `lmn_grammar`, that of a
+-- The limits of the language that are told of plain types, each by its name. Those of tokens stand in `lmn_parser_grammar`, that of a
 -- whole text in `lmn_app`.
 use Rattle.std.specs.Prelude.{ℕ}
 

@@ -46,7 +46,7 @@ pub enum Item {
 }
 
 /// The item of a leaf.
-pub(crate) fn leaf_item(leaf: &Leaf) -> Item
+pub fn leaf_item(leaf: &Leaf) -> Item
     ensures { result ≡ leaf_item leaf.now }
 {
     match leaf {

@@ -1,5 +1,5 @@
-//! What every layer of the runtime speaks of: rules and processes as they are read, solids as they run,
-//! rows, names by their numbers, places in a text, refusals and want of memory.
+//! What every layer of the runtime speaks of: rules and processes as they are read, solids as they run, rows, names, places,
+//! refusals, want of memory.
 //!
 //! In `specs/` stand what a well made rule and plain are, when a rule is linked, what a solid is, what a list
 //! of names is, and the equality of parts of a process as rooted graphs.
@@ -17,12 +17,10 @@ mod refusal;
 mod rows;
 mod rule;
 mod solid;
-mod uses;
-mod walk;
 
 pub use functor::{CONNECTOR_NAME, Functor, GROUND_NAME, INT_NAME, Label, UNARY_NAME};
 pub use guard::{Arith, Cmp, Cond, Expr};
-pub use item::{Form, FormedUse, Item};
+pub use item::{Form, FormedUse, Item, leaf_item};
 pub use laws::refusals_are_one;
 pub use level::{CtxUse, Leaf, Level, Occ};
 pub use memory::NoMemory;
@@ -32,8 +30,3 @@ pub use refusal::{Pos, Refusal, TextFault, first_refusal, refuse};
 pub use rows::Rows;
 pub use rule::{LinkUse, Plain, RuleTree};
 pub use solid::{Region, Solid, SolidAtom};
-pub use uses::{is_left, is_used, is_used_in_condition, is_used_in_expression};
-pub use walk::{
-    find, find_in_condition, find_in_expression, find_in_guard, find_in_level_itself, find_in_rule,
-    number_of_items,
-};

@@ -4,13 +4,13 @@ use Rattle.std.specs.Prelude.{nat_lt}
 use Rattle.lmn_base.specs.declared.rule.RuleTree.{RuleTree}
 use Rattle.lmn_base.specs.Items.{number_of_items}
 use Rattle.lmn_base.specs.Limits.{most_head_items, most_body_items}
-use Rattle.lmn_base.specs.RuleCodes.{too_large, is_too_large}
+use Rattle.lmn_base_walks.specs.RuleCodes.{too_large, is_too_large}
 use Rattle.lmn_guards.specs.declared.plan.GuardPlan.{GuardPlan}
 use Rattle.lmn_guards.proofs.OrderLemmas.{not_then}
-use Rattle.lmn_solid.specs.Heads.{membranes_of}
+use Rattle.lmn_solid_heads.specs.Heads.{membranes_of}
 use Rattle.lmn_compile_head.specs.Accepted.{head_items, AcceptedHeads}
 use Rattle.lmn_compile_head.specs.Heads.{kind_in}
-use Rattle.lmn_body.proofs.Numbered.{same_size, head_size}
+use Rattle.lmn_solid_bodies.proofs.Numbered.{same_size, head_size}
 use Rattle.lmn_compile_body.specs.Accepted.{rule_body_names, IsCompilable, AcceptedBodies}
 use Rattle.lmn_compile_head.proofs.HeadLeaves as leaves
 use Rattle.lmn_compile_body.proofs.BodyTrees.{items_few, size_few, links_fit, links_many, links_counted}

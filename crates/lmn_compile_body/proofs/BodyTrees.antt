@@ -15,14 +15,14 @@ use Rattle.lmn_base.specs.Levels.{leaves_of, occurrences_of_leaf, links_of}
 use Rattle.lmn_base.specs.Limits.{most_links}
 use Rattle.lmn_base.specs.Links.{Numbers, no_more, known, new, NumbersLinks}
 use Rattle.lmn_base.specs.Solids.{connector}
-use Rattle.lmn_heap.specs.Functors.{same_functor}
-use Rattle.lmn_solid.proofs.HeadTrees.{Head, Heads, head, no_head, head_and, heads, head_at, head_step, size, sizes, head_leaves, heads_leaves, same_leaves, head_number, heads_number, heads_length, same_number}
+use Rattle.lmn_store_heap.specs.Functors.{same_functor}
+use Rattle.lmn_solid_heads.proofs.HeadTrees.{Head, Heads, head, no_head, head_and, heads, head_at, head_step, size, sizes, head_leaves, heads_leaves, same_leaves, head_number, heads_number, heads_length, same_number}
 use Rattle.lmn_compile_head.specs.Tables.{AllBelow, HasFewLinks}
-use Rattle.lmn_body.specs.declared.items.BodyItem.{BodyItem}
-use Rattle.lmn_body.specs.declared.items.BodyItem.TheVariants.{Atom, Connector, Copy, Bound, Membrane, Rest, Rule, Rules}
-use Rattle.lmn_body.specs.Items.{body_links}
-use Rattle.lmn_body.specs.Flattening.{BodyNames, UnnumberedBody, atom_item, typed_item, body_leaf_items, body_membrane_items, context_items, body_rule_items, rule_context_items, flatten_body_step, body_items}
-use Rattle.lmn_body.proofs.BodyLinks.{links_kept}
+use Rattle.lmn_solid_bodies.specs.declared.items.BodyItem.{BodyItem}
+use Rattle.lmn_solid_bodies.specs.declared.items.BodyItem.TheVariants.{Atom, Connector, Copy, Bound, Membrane, Rest, Rule, Rules}
+use Rattle.lmn_solid_bodies.specs.Items.{body_links}
+use Rattle.lmn_solid_bodies.specs.Flattening.{BodyNames, UnnumberedBody, atom_item, typed_item, body_leaf_items, body_membrane_items, context_items, body_rule_items, rule_context_items, flatten_body_step, body_items}
+use Rattle.lmn_solid_bodies.proofs.BodyLinks.{links_kept}
 use Rattle.lmn_compile_body.specs.Naming.{unnumbered_body}
 use Rattle.lmn_compile_body.specs.Tables.{BodyFits, AllFew}
 use Rattle.lmn_base.proofs.Lists.{all_left as all_front, all_right as all_back}

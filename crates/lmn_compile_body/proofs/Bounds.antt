@@ -1,14 +1,14 @@
 -- What the bounds on links of items say of their ports.
 use Rattle.std.proofs.Common.{ℕ, ◌+◌, ◌<◌, ◌==◌, Bool, true, false, List, [], ◌∷◌, ◌++◌}
 use Rattle.std.specs.Prelude.{if◌then◌else◌}
-use Rattle.lmn_solid.specs.declared.items.HeadItem.{HeadItem}
-use Rattle.lmn_solid.specs.declared.items.HeadItem.TheVariants as head
-use Rattle.lmn_solid.specs.Heads.{Occurrence, atoms_of, at_ports, at_atoms, links_of_head, times}
-use Rattle.lmn_body.specs.declared.items.BodyItem.{BodyItem}
-use Rattle.lmn_body.specs.declared.items.BodyItem.TheVariants.{Atom, Connector, Copy, Bound, Membrane, Rest, Rule, Rules}
-use Rattle.lmn_body.specs.Items.{port_at, new_ports_from, new_ports, once_in, old_ports, connectors}
+use Rattle.lmn_solid_heads.specs.declared.items.HeadItem.{HeadItem}
+use Rattle.lmn_solid_heads.specs.declared.items.HeadItem.TheVariants as head
+use Rattle.lmn_solid_heads.specs.Heads.{Occurrence, atoms_of, at_ports, at_atoms, links_of_head, times}
+use Rattle.lmn_solid_bodies.specs.declared.items.BodyItem.{BodyItem}
+use Rattle.lmn_solid_bodies.specs.declared.items.BodyItem.TheVariants.{Atom, Connector, Copy, Bound, Membrane, Rest, Rule, Rules}
+use Rattle.lmn_solid_bodies.specs.Items.{port_at, new_ports_from, new_ports, once_in, old_ports, connectors}
 use Rattle.lmn_compile_head.specs.Tables.{AllBelow, HeadFits}
-use Rattle.lmn_classes.specs.Tables.{PairsBelow, LinksBelow}
+use Rattle.lmn_congruence_classes.specs.Tables.{PairsBelow, LinksBelow}
 use Rattle.lmn_compile_body.specs.Tables.{BodyFits, AllFew}
 
 -- each atom of a body that fits has few links

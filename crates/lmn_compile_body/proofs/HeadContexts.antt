@@ -17,22 +17,22 @@ use Rattle.lmn_base.specs.declared.level.Level.{Level, out-Level}
 use Rattle.lmn_base.specs.declared.level.Level.TheFolds.{fold-Level, fold-roll-Level, ind-Level, fold_out-Level}
 use Rattle.lmn_base.specs.declared.refusal.Pos.{Pos}
 use Rattle.lmn_base.specs.Items.{untyped_form, untyped as written, leaf_item}
-use Rattle.lmn_base.specs.RuleCodes.{bare_use, seconds, behind_the_first, seconds_by_membrane}
+use Rattle.lmn_base_walks.specs.RuleCodes.{bare_use, seconds, behind_the_first, seconds_by_membrane}
 use Rattle.lmn_base.specs.Uses.{use_of}
 use Rattle.lmn_guards.specs.declared.plan.TypeKind.{TypeKind}
-use Rattle.lmn_solid.specs.Heads.{HeadMembrane, membrane_of, membranes_of}
-use Rattle.lmn_solid.specs.Flattening.{leaf_items, has_some}
-use Rattle.lmn_solid.specs.declared.items.HeadItem.{HeadItem}
-use Rattle.lmn_solid.proofs.HeadTrees.{Head, Heads, head, no_head, head_and, heads, head_at, head_step, size, sizes, flat_membranes, head_uses, heads_uses}
-use Rattle.lmn_splice.specs.Splice.{IsOneOf, NoneTwice}
-use Rattle.lmn_body.proofs.Firing.{in_often}
-use Rattle.lmn_body.proofs.HeadPorts.{in_map, of_map as from_map}
-use Rattle.lmn_body.specs.Flattening.{NumberedContexts, names_inside, names_below, numbering, membrane_named, open_uses}
+use Rattle.lmn_solid_heads.specs.Heads.{HeadMembrane, membrane_of, membranes_of}
+use Rattle.lmn_solid_heads.specs.Flattening.{leaf_items, has_some}
+use Rattle.lmn_solid_heads.specs.declared.items.HeadItem.{HeadItem}
+use Rattle.lmn_solid_heads.proofs.HeadTrees.{Head, Heads, head, no_head, head_and, heads, head_at, head_step, size, sizes, flat_membranes, head_uses, heads_uses}
+use Rattle.lmn_congruence_splice.specs.Splice.{IsOneOf, NoneTwice}
+use Rattle.lmn_solid_bodies.proofs.Firing.{in_often}
+use Rattle.lmn_solid_bodies.proofs.HeadPorts.{in_map, of_map as from_map}
+use Rattle.lmn_solid_bodies.specs.Flattening.{NumberedContexts, names_inside, names_below, numbering, membrane_named, open_uses}
 use Rattle.lmn_congruence.specs.Links.{places, one_if_same}
 use Rattle.lmn_congruence.proofs.Counts.{one_if_equal as one_same}
 use Rattle.lmn_congruence.proofs.TranslatedLinks.{places_append as often_append}
-use Rattle.lmn_splice.proofs.Common.{in_append, in_back, in_front}
-use Rattle.lmn_body.proofs.Numbered.{leaves_none}
+use Rattle.lmn_congruence_splice.proofs.Common.{in_append, in_back, in_front}
+use Rattle.lmn_solid_bodies.proofs.Numbered.{leaves_none}
 use Rattle.lmn_compile_head.proofs.HeadLeaves.{all_membranes}
 use Rattle.lmn_base.specs.Names.{context_names}
 

@@ -16,26 +16,26 @@ use Rattle.lmn_base.specs.declared.level.Level.{out-Level}
 use Rattle.lmn_base.specs.declared.rule.RuleTree.{RuleTree}
 use Rattle.lmn_base.specs.Items.{used, untyped_form, untyped as written, leaf_item, own_items, items_of, guard_items, condition_items, rule_items}
 use Rattle.lmn_base.specs.Levels.{leaves_of, links_of, contexts_of, rule_contexts_of}
-use Rattle.lmn_base.specs.RuleCodes.{bare_use, rule_use, is_left_of}
+use Rattle.lmn_base_walks.specs.RuleCodes.{bare_use, rule_use, is_left_of}
 use Rattle.lmn_base.specs.Uses.{use_of, has_use, is_some_place}
 use Rattle.lmn_base.specs.WellMade.{FitsArity}
 use Rattle.lmn_guards.specs.declared.plan.GuardPlan.{GuardPlan}
 use Rattle.lmn_guards.specs.Accepted.{IsInOrder}
 use Rattle.lmn_guards.proofs.AcceptedLemmas.{in_order}
-use Rattle.lmn_solid.specs.Guards.{typed_number}
-use Rattle.lmn_solid.specs.Heads.{HeadTyped, HeadMembrane, typed_contexts_of, membranes_of}
-use Rattle.lmn_solid.specs.Embeddings.{HasTyped, HasMembrane}
-use Rattle.lmn_solid.proofs.HeadTrees.{head_at, same_uses, flat_items, flat_membranes}
-use Rattle.lmn_splice.specs.Splice.{IsOneOf, NoneTwice}
+use Rattle.lmn_solid_heads.specs.Guards.{typed_number}
+use Rattle.lmn_solid_heads.specs.Heads.{HeadTyped, HeadMembrane, typed_contexts_of, membranes_of}
+use Rattle.lmn_solid_heads.specs.Embeddings.{HasTyped, HasMembrane}
+use Rattle.lmn_solid_heads.proofs.HeadTrees.{head_at, same_uses, flat_items, flat_membranes}
+use Rattle.lmn_congruence_splice.specs.Splice.{IsOneOf, NoneTwice}
 use Rattle.lmn_compile_head.specs.Accepted.{head_items, AcceptedHeads}
 use Rattle.lmn_compile_head.specs.Heads.{kind_in}
 use Rattle.lmn_compile_head.specs.Tables.{AllBelow}
-use Rattle.lmn_body.specs.Flattening.{membrane_named, open_uses}
-use Rattle.lmn_body.specs.Rules.{NestedRule, IsHeadMembrane}
-use Rattle.lmn_body.proofs.Firing.{in_often, often_in}
-use Rattle.lmn_body.proofs.HeadPorts.{in_map, of_map as from_map}
-use Rattle.lmn_body.proofs.FlatRules.{flattened_rules}
-use Rattle.lmn_body.proofs.Numbered.{contexts_of_heads, leaves_none}
+use Rattle.lmn_solid_bodies.specs.Flattening.{membrane_named, open_uses}
+use Rattle.lmn_solid_bodies.specs.Rules.{NestedRule, IsHeadMembrane}
+use Rattle.lmn_solid_bodies.proofs.Firing.{in_often, often_in}
+use Rattle.lmn_solid_bodies.proofs.HeadPorts.{in_map, of_map as from_map}
+use Rattle.lmn_solid_bodies.proofs.FlatRules.{flattened_rules}
+use Rattle.lmn_solid_bodies.proofs.Numbered.{contexts_of_heads, leaves_none}
 use Rattle.lmn_compile_body.specs.Naming.{numbered_contexts, numbered_rule_contexts}
 use Rattle.lmn_compile_body.specs.Accepted.{rule_body_names, rule_body_items, IsCompilable, AcceptedNested}
 use Rattle.lmn_compile_body.proofs.BodyTrees.{numbers_below}
@@ -43,10 +43,10 @@ use Rattle.lmn_compile_body.proofs.HeadContexts.{contained, name_at, head_contex
 use Rattle.lmn_congruence.specs.Links.{places}
 use Rattle.lmn_compile_head.proofs.HeadLeaves.{below_back, below_front}
 use Rattle.lmn_congruence.proofs.Counts.{one_if_equal as one_same}
-use Rattle.lmn_splice.proofs.Common.{in_append, in_back, in_front}
+use Rattle.lmn_congruence_splice.proofs.Common.{in_append, in_back, in_front}
 use Rattle.lmn_base.specs.Names.{context_names}
-use Rattle.lmn_solid.proofs.HeadTrees as trees
-use Rattle.lmn_solid.proofs.Common.{typed_there}
+use Rattle.lmn_solid_heads.proofs.HeadTrees as trees
+use Rattle.lmn_solid_heads.proofs.Common.{typed_there}
 
 -- ---- what is found in a list
 

@@ -7,7 +7,7 @@ use Rattle.lmn_base.specs.declared.guard.Cmp.{Cmp}
 use Rattle.lmn_base.specs.declared.guard.Expr.{Expr}
 use Rattle.lmn_base.specs.declared.guard.Cond.{Cond}
 use Rattle.lmn_base.specs.declared.guard.Cond.TheVariants.{Compare, Equal}
-use Rattle.lmn_instr.specs.HeadCode.{value_code, bind_register}
+use Rattle.lmn_instr_code.specs.HeadCode.{value_code, bind_register}
 use Rattle.lmn_compile_body.specs.Naming.{last_register, registers_by, equal_registers, guard_registers}
 
 last_more : (es : List (ℕ × ℕ)) (before x : ℕ) (e : ℕ × ℕ) → last_register (es ++ e ∷ []) before x ≡ (if x == e.0 then e.1 else last_register es before x)

@@ -4,14 +4,14 @@ use Rattle.std.specs.List.{AllByRecursion}
 use Rattle.lmn_base.specs.declared.rule.RuleTree.{RuleTree}
 use Rattle.lmn_base.specs.Levels.{leaves_of}
 use Rattle.lmn_guards.specs.declared.plan.GuardPlan.{GuardPlan}
-use Rattle.lmn_solid.specs.Heads.{membranes_of}
-use Rattle.lmn_instr.specs.declared.instr.Instr.{Instr}
+use Rattle.lmn_solid_heads.specs.Heads.{membranes_of}
+use Rattle.lmn_instr_code.specs.declared.instr.Instr.{Instr}
 use Rattle.lmn_compile_head.specs.Accepted.{head_items, HasRoom, IsReady}
 use Rattle.lmn_compile_head.specs.Tables.{HasFewLinks}
-use Rattle.lmn_body.specs.declared.items.BodyItem.{BodyItem}
-use Rattle.lmn_body.specs.Code.{body_code}
-use Rattle.lmn_body.specs.Flattening.{BodyNames, body_items}
-use Rattle.lmn_body.specs.Rules.{NestedRule}
+use Rattle.lmn_solid_bodies.specs.declared.items.BodyItem.{BodyItem}
+use Rattle.lmn_solid_bodies.specs.Code.{body_code}
+use Rattle.lmn_solid_bodies.specs.Flattening.{BodyNames, body_items}
+use Rattle.lmn_solid_bodies.specs.Rules.{NestedRule}
 use Rattle.lmn_compile_body.specs.Naming.{body_names, unnumbered_body, numbered_contexts, numbered_rule_contexts}
 use Rattle.lmn_compile_body.specs.Tables.{BodyFits}
 

@@ -4,10 +4,10 @@ use Rattle.lmn_base.specs.declared.guard.Cond.{Cond}
 use Rattle.lmn_base.specs.declared.guard.Cond.TheVariants.{Kind, Compare, Equal, Differ}
 use Rattle.lmn_base.specs.declared.level.Level.{Level}
 use Rattle.lmn_base.specs.declared.level.Level.TheFolds.{fold-Level}
-use Rattle.lmn_instr.specs.HeadCode.{value_code, bind_register}
-use Rattle.lmn_solid.specs.declared.items.HeadItem.{HeadItem}
-use Rattle.lmn_body.specs.declared.items.BodyItem.{BodyItem}
-use Rattle.lmn_body.specs.Flattening.{BodyNames, UnnumberedBody, NumberedContexts, numbering, flatten_body_step, context_items, body_rule_items, rule_context_items, membrane_named, context_membrane, rule_context_membrane}
+use Rattle.lmn_instr_code.specs.HeadCode.{value_code, bind_register}
+use Rattle.lmn_solid_heads.specs.declared.items.HeadItem.{HeadItem}
+use Rattle.lmn_solid_bodies.specs.declared.items.BodyItem.{BodyItem}
+use Rattle.lmn_solid_bodies.specs.Flattening.{BodyNames, UnnumberedBody, NumberedContexts, numbering, flatten_body_step, context_items, body_rule_items, rule_context_items, membrane_named, context_membrane, rule_context_membrane}
 use Rattle.lmn_compile_head.specs.Bindings.{part_numbers}
 
 -- the register of a name: that of its last binding in a list of names with their registers, or else `before`

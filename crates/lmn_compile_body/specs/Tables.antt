@@ -2,8 +2,8 @@
 use Rattle.std.specs.Prelude.{ℕ, ◌<◌, ◌≤◌, List, [], ◌∷◌, length}
 use Rattle.lmn_base.specs.Limits.{most_links}
 use Rattle.lmn_compile_head.specs.Tables.{AllBelow}
-use Rattle.lmn_body.specs.declared.items.BodyItem.{BodyItem}
-use Rattle.lmn_body.specs.declared.items.BodyItem.TheVariants.{Atom, Connector, Copy, Bound, Membrane, Rest, Rule, Rules}
+use Rattle.lmn_solid_bodies.specs.declared.items.BodyItem.{BodyItem}
+use Rattle.lmn_solid_bodies.specs.declared.items.BodyItem.TheVariants.{Atom, Connector, Copy, Bound, Membrane, Rest, Rule, Rules}
 
 -- items of a body whose links are below a number, and whose atoms haven't too many
 abbrev pub BodyFits : ℕ → List BodyItem → Type 0

@@ -1,7 +1,7 @@
 ghost use Rattle.std.specs.Prelude.{◌≡◌, ◌+◌, ◌<◌, ◌^◌, length, IfOk};
-ghost use Rattle.lmn_solid.specs.Heads.{membranes_of};
-ghost use Rattle.lmn_body.specs.Code.{body_code};
-ghost use Rattle.lmn_body.specs.Flattening.{body_items};
+ghost use Rattle.lmn_solid_heads.specs.Heads.{membranes_of};
+ghost use Rattle.lmn_solid_bodies.specs.Code.{body_code};
+ghost use Rattle.lmn_solid_bodies.specs.Flattening.{body_items};
 ghost use Rattle.lmn_compile_body.specs.Accepted.{HasBodyRoom, rule_body_code};
 ghost use Rattle.lmn_compile_body.specs.Naming.{body_names, registers_by, guard_registers, unnumbered_body, numbered_contexts, numbered_rule_contexts};
 ghost use Rattle.lmn_compile_head.specs.Tables.{HeadFits};
@@ -15,11 +15,11 @@ use crate::makes::{add_drops, add_making, add_removals, atoms_in, membranes_in};
 use crate::names::{add_contexts, add_rule_contexts};
 use crate::ports::{connectors_of, new_ports_of, old_ports_of};
 use lmn_base::{NoMemory, Rows, RuleTree};
-use lmn_body::BodyItem;
 use lmn_compile_head::flatten;
 use lmn_guards::GuardPlan;
-use lmn_instr::Instr;
-use lmn_solid::HeadItem;
+use lmn_instr_code::Instr;
+use lmn_solid_bodies::BodyItem;
+use lmn_solid_heads::HeadItem;
 use std::alloc::Global;
 
 /// The code of a body with these items, beside a head with these items, where the links of the rule are below `links`.

@@ -1,14 +1,14 @@
 ghost use Rattle.std.specs.Prelude.{◌≡◌, ◌+◌, ◌*◌, ◌<◌, ◌≤◌, ◌∷◌, ◌^◌, List, sum_by, length, IfOk};
 ghost use Rattle.lmn_base.specs.Limits.{most_guard_tokens};
 ghost use Rattle.lmn_base.specs.declared.guard.Cond.{Cond};
-ghost use Rattle.lmn_base.specs.RuleCodes.{condition_tokens, expression_tokens};
-ghost use Rattle.lmn_instr.specs.HeadCode.{value_code};
+ghost use Rattle.lmn_base_walks.specs.RuleCodes.{condition_tokens, expression_tokens};
+ghost use Rattle.lmn_instr_code.specs.HeadCode.{value_code};
 ghost use Rattle.lmn_compile_body.specs.Naming.{registers_by, guard_registers};
 ghost use Rattle.lmn_compile_head.specs.Bindings.{part_numbers};
 
 use crate::names::part_of;
 use lmn_base::{Cond, Expr, NoMemory, Rows};
-use lmn_solid::HeadItem;
+use lmn_solid_heads::HeadItem;
 use std::alloc::Global;
 
 /// The register of a name, from the names that are bound with their registers.

@@ -1,17 +1,17 @@
 ghost use Rattle.std.specs.Prelude.{◌≡◌, ◌+◌, ◌<◌, ◌++◌, ◌^◌, ℕ, List, length, IfOk, OnOk};
 ghost use Rattle.lmn_base.specs.Solids.{connector};
-ghost use Rattle.lmn_heap.specs.Functors.{same_functor};
-ghost use Rattle.lmn_body.specs.Flattening.{body_leaf_items, context_items, body_rule_items, rule_context_items};
-ghost use Rattle.lmn_body.specs.Flattening as flattening;
-ghost use Rattle.lmn_solid.specs.declared.items.HeadItem.{HeadItem};
+ghost use Rattle.lmn_store_heap.specs.Functors.{same_functor};
+ghost use Rattle.lmn_solid_bodies.specs.Flattening.{body_leaf_items, context_items, body_rule_items, rule_context_items};
+ghost use Rattle.lmn_solid_bodies.specs.Flattening as flattening;
+ghost use Rattle.lmn_solid_heads.specs.declared.items.HeadItem.{HeadItem};
 ghost use Rattle.lmn_compile_body.specs.Naming.{names_by, unnumbered_body, tail_items};
 
 use crate::integers::register_of;
 use crate::names::{number_of, part_of};
 use lmn_base::{CONNECTOR_NAME, CtxUse, Functor, Label, Leaf, Level, NoMemory, Rows};
-use lmn_body::BodyItem;
 use lmn_compile_head::numbers;
-use lmn_solid::HeadItem;
+use lmn_solid_bodies::BodyItem;
+use lmn_solid_heads::HeadItem;
 use std::alloc::Global;
 
 /// Whether a functor is that of connectors.

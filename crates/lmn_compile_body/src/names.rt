@@ -1,10 +1,10 @@
 ghost use Rattle.std.specs.Prelude.{◌≡◌, ◌+◌, ◌<◌, ◌++◌, ◌^◌, length, IfOk, OnOk};
-ghost use Rattle.lmn_body.specs.Flattening.{names_inside, membrane_named};
+ghost use Rattle.lmn_solid_bodies.specs.Flattening.{names_inside, membrane_named};
 ghost use Rattle.lmn_compile_body.specs.Naming.{numbered_contexts, numbered_rule_contexts};
 ghost use Rattle.lmn_compile_head.specs.Bindings.{part_numbers};
 
 use lmn_base::{CtxUse, Level, NoMemory, Rows};
-use lmn_solid::HeadItem;
+use lmn_solid_heads::HeadItem;
 
 /// The number that stands beside a name first, or 0.
 pub fn number_of(names: &[(u32, u16)], name: u32) -> u16

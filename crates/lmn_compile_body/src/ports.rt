@@ -1,15 +1,15 @@
 ghost use Rattle.std.specs.Prelude.{◌≡◌, ◌+◌, ◌<◌, ◌≤◌, ◌++◌, ◌^◌, List, [], ◌∷◌, length, IfOk, OnOk};
 ghost use Rattle.lmn_base.specs.Limits.{most_links};
-ghost use Rattle.lmn_solid.specs.Heads.{at_ports, links_of_head};
-ghost use Rattle.lmn_body.specs.Items.{new_ports_from, new_ports, old_ports, once_in, connectors};
+ghost use Rattle.lmn_solid_heads.specs.Heads.{at_ports, links_of_head};
+ghost use Rattle.lmn_solid_bodies.specs.Items.{new_ports_from, new_ports, old_ports, once_in, connectors};
 ghost use Rattle.lmn_compile_head.specs.Tables.{AllBelow, Counts, HeadFits};
 ghost use Rattle.lmn_compile_body.specs.Tables.{AllFew};
 
 use lmn_base::{NoMemory, Rows};
-use lmn_body::BodyItem;
 use lmn_compile_head::times_of;
-use lmn_instr::{AtomPort, NewPort};
-use lmn_solid::HeadItem;
+use lmn_instr_code::{AtomPort, NewPort};
+use lmn_solid_bodies::BodyItem;
+use lmn_solid_heads::HeadItem;
 use std::alloc::Global;
 
 /// The connectors of a body.

@@ -3,17 +3,17 @@ use Rattle.std.proofs.Common.{ℕ, ◌≤◌, List, [], length, sym, subst, arit
 use Rattle.std.specs.Prelude.{sum_by, nat_lt}
 use Rattle.lmn_base.specs.declared.rule.RuleTree.{RuleTree}
 use Rattle.lmn_base.specs.Items.{number_of_items}
-use Rattle.lmn_base.specs.RuleCodes.{too_large, is_too_large, condition_tokens}
+use Rattle.lmn_base_walks.specs.RuleCodes.{too_large, is_too_large, condition_tokens}
 use Rattle.lmn_base.proofs.RowLemmas.{none_before}
 use Rattle.lmn_guards.specs.declared.plan.GuardPlan.{GuardPlan}
 use Rattle.lmn_guards.specs.GuardCodes.{rows_of_conditions, rows_of_typed}
 use Rattle.lmn_guards.proofs.AcceptedLemmas.{in_order}
 use Rattle.lmn_guards.proofs.OrderLemmas.{not_then}
-use Rattle.lmn_heap.specs.Heap.{Heap}
-use Rattle.lmn_heap.specs.Sound.{Valid}
-use Rattle.lmn_solid.specs.Heads.{HeadTyped}
-use Rattle.lmn_solid.specs.Embeddings.{HasTyped, HasLink}
-use Rattle.lmn_solid.specs.Heads as heads
+use Rattle.lmn_store_heap.specs.Heap.{Heap}
+use Rattle.lmn_store_heap.specs.Sound.{Valid}
+use Rattle.lmn_solid_heads.specs.Heads.{HeadTyped}
+use Rattle.lmn_solid_heads.specs.Embeddings.{HasTyped, HasLink}
+use Rattle.lmn_solid_heads.specs.Heads as heads
 use Rattle.lmn_compile_head.specs.Heads.{kind_in, IsHead, IsGuard}
 use Rattle.lmn_compile_head.specs.Laws.{HeadMeetsHeap}
 use Rattle.lmn_compile_head.specs.Accepted.{head_items, HasRoom, IsReady, AcceptedHeads, AcceptedLeast}

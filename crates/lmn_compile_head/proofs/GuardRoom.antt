@@ -3,7 +3,7 @@ use Rattle.std.proofs.Common.{ℕ, zero, suc, ◌≡◌, ◌+◌, ◌<◌, List,
 use Rattle.std.specs.Prelude.{sum_by}
 use Rattle.std.proofs.lemmas.List.Sums.{sum_by-cons}
 use Rattle.lmn_base.specs.declared.guard.Cond.{Cond}
-use Rattle.lmn_base.specs.RuleCodes.{condition_tokens}
+use Rattle.lmn_base_walks.specs.RuleCodes.{condition_tokens}
 
 -- those of one condition, and of the conditions behind it
 pub tokens_next : (guard : List Cond) (i : ℕ) (c : Cond) → i < length guard → c ≡ get_or guard i c

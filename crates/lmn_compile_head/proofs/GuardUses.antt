@@ -22,7 +22,7 @@ use Rattle.lmn_base.specs.Firsts.{NoneApplies}
 use Rattle.lmn_base.specs.Items as base
 use Rattle.lmn_base.specs.Items.{used, rule_items, guard_items, condition_items, expression_items}
 use Rattle.lmn_base.specs.Levels.{leaves_of}
-use Rattle.lmn_base.specs.RuleCodes.{is_left_of}
+use Rattle.lmn_base_walks.specs.RuleCodes.{is_left_of}
 use Rattle.lmn_base.specs.Uses.{is_some_place, use_of}
 use Rattle.lmn_guards.specs.declared.plan.GuardPlan.{GuardPlan}
 use Rattle.lmn_guards.specs.declared.plan.TypeKind.{TypeKind}
@@ -31,10 +31,10 @@ use Rattle.lmn_guards.specs.Accepted.{IsInOrder}
 use Rattle.lmn_guards.specs.GuardCodes.{in_head, is_bound, is_type, unknown, use_of_none, unbound, is_of_head, has_wrong_operands, condition_place, asks, type_of, rows_of_conditions}
 use Rattle.lmn_guards.specs.Plans.{IsPlan}
 use Rattle.lmn_guards.proofs.OrderLemmas.{no_places, not_then, so_else}
-use Rattle.lmn_solid.specs.Flattening.{items_of_head}
-use Rattle.lmn_solid.specs.Guards.{typed_number, context_alone, kind_named}
-use Rattle.lmn_solid.specs.Heads.{HeadTyped, typed_contexts_of}
-use Rattle.lmn_instr.specs.HeadCode.{part_named}
+use Rattle.lmn_solid_heads.specs.Flattening.{items_of_head}
+use Rattle.lmn_solid_heads.specs.Guards.{typed_number, context_alone, kind_named}
+use Rattle.lmn_solid_heads.specs.Heads.{HeadTyped, typed_contexts_of}
+use Rattle.lmn_instr_code.specs.HeadCode.{part_named}
 use Rattle.lmn_compile_head.specs.Heads.{kind_in, UsesKnown, IsNarrower, IsAsked, EqualAllowed, IsGuard}
 use Rattle.lmn_compile_head.proofs.HeadLeaves.{typed_leaf, number_at, number_of_leaf}
 use Rattle.lmn_compile_head.proofs.HeadUses.{contained, leaf_is_used, use_is_leaf}

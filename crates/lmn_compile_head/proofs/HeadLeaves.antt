@@ -17,20 +17,20 @@ use Rattle.lmn_base.specs.declared.level.Leaf.TheVariants as leaf
 use Rattle.lmn_base.specs.declared.level.Level.{Level}
 use Rattle.lmn_base.specs.Levels.{leaves_of, occurrences_of_leaf, links_of}
 use Rattle.lmn_guards.specs.declared.plan.TypeKind.{TypeKind}
-use Rattle.lmn_solid.specs.declared.items.HeadItem.{HeadItem}
-use Rattle.lmn_solid.specs.declared.items.HeadItem.TheVariants.{Atom, Typed, Membrane}
-use Rattle.lmn_solid.specs.Heads.{HeadAtom, HeadTyped, typed_contexts_of, membranes_of, times}
-use Rattle.lmn_solid.specs.Heads as heads
-use Rattle.lmn_solid.specs.Guards.{typed_number}
-use Rattle.lmn_solid.specs.Flattening.{leaf_items, items_of_head, unnumbered}
-use Rattle.lmn_solid.specs.Embeddings.{HasAtom, HasTyped, HasLink}
-use Rattle.lmn_solid.proofs.HeadTrees.{Head, Heads, head, no_head, head_and, size, sizes, flat_items, flat_membranes, items_flat, head_at, head_number, heads_number, heads_length, same_number, same_size}
+use Rattle.lmn_solid_heads.specs.declared.items.HeadItem.{HeadItem}
+use Rattle.lmn_solid_heads.specs.declared.items.HeadItem.TheVariants.{Atom, Typed, Membrane}
+use Rattle.lmn_solid_heads.specs.Heads.{HeadAtom, HeadTyped, typed_contexts_of, membranes_of, times}
+use Rattle.lmn_solid_heads.specs.Heads as heads
+use Rattle.lmn_solid_heads.specs.Guards.{typed_number}
+use Rattle.lmn_solid_heads.specs.Flattening.{leaf_items, items_of_head, unnumbered}
+use Rattle.lmn_solid_heads.specs.Embeddings.{HasAtom, HasTyped, HasLink}
+use Rattle.lmn_solid_heads.proofs.HeadTrees.{Head, Heads, head, no_head, head_and, size, sizes, flat_items, flat_membranes, items_flat, head_at, head_number, heads_number, heads_length, same_number, same_size}
 use Rattle.lmn_compile_head.specs.Heads.{EachInside}
 use Rattle.lmn_compile_head.specs.Tables.{AllBelow, HeadFits, HasFewLinks}
-use Rattle.lmn_solid.proofs.HeadLinks.{bare, bare_items, head_links}
+use Rattle.lmn_solid_heads.proofs.HeadLinks.{bare, bare_items, head_links}
 use Rattle.lmn_base.specs.Graphs.{Port}
 use Rattle.lmn_base.proofs.Lists.{contains_behind as behind}
-use Rattle.lmn_solid.proofs.Common.{times_append}
+use Rattle.lmn_solid_heads.proofs.Common.{times_append}
 
 -- ---- where items stand
 

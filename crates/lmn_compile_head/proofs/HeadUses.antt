@@ -17,7 +17,7 @@ use Rattle.lmn_base.specs.declared.refusal.Pos.{Pos}
 use Rattle.lmn_base.specs.Items.{untyped_form, untyped, leaf_item, items_of}
 use Rattle.lmn_base.specs.Levels.{leaves_of}
 use Rattle.lmn_base.specs.Uses.{is_some_place, use_of, has_use}
-use Rattle.lmn_solid.proofs.HeadTrees.{Head, Heads, head, no_head, head_and, head_at, head_leaves, heads_leaves, same_leaves, head_uses, heads_uses, same_uses}
+use Rattle.lmn_solid_heads.proofs.HeadTrees.{Head, Heads, head, no_head, head_and, head_at, head_leaves, heads_leaves, same_leaves, head_uses, heads_uses, same_uses}
 use Rattle.lmn_base.proofs.Lists.{contains_behind as behind, contains_first as here}
 use Rattle.lmn_guards.proofs.OrderedLemmas.{some_of as there_some}
 

@@ -17,7 +17,7 @@ use Rattle.lmn_guards.specs.declared.plan.TypedUse.{TypedUse}
 use Rattle.lmn_guards.specs.GuardCodes.{asks, type_of}
 use Rattle.lmn_guards.specs.Plans.{with_type, typed_use, leaves_by_membrane, numbered_uses}
 use Rattle.lmn_guards.proofs.PlanLemmas.{numbered_both}
-use Rattle.lmn_solid.proofs.HeadTrees.{Head, Heads, head, no_head, head_and, head_at, head_leaves, heads_leaves, same_leaves, head_membranes, heads_membranes, same_membranes}
+use Rattle.lmn_solid_heads.proofs.HeadTrees.{Head, Heads, head, no_head, head_and, head_at, head_leaves, heads_leaves, same_leaves, head_membranes, heads_membranes, same_membranes}
 use Rattle.lmn_compile_head.specs.Heads.{kind_in, IsNarrower}
 
 -- all uses of a name have a kind, and there is one

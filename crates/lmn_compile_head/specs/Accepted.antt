@@ -4,20 +4,20 @@ use Rattle.std.specs.List.{AllByRecursion}
 use Rattle.lmn_base.specs.declared.rule.RuleTree.{RuleTree}
 use Rattle.lmn_base.specs.Levels.{leaves_of}
 use Rattle.lmn_base.specs.Limits.{most_guard_tokens}
-use Rattle.lmn_base.specs.RuleCodes.{condition_tokens}
+use Rattle.lmn_base_walks.specs.RuleCodes.{condition_tokens}
 use Rattle.lmn_base.specs.WellMade.{IsWellMadeRule}
-use Rattle.lmn_heap.specs.Heap.{Heap}
-use Rattle.lmn_heap.specs.Sound.{Valid}
+use Rattle.lmn_store_heap.specs.Heap.{Heap}
+use Rattle.lmn_store_heap.specs.Sound.{Valid}
 use Rattle.lmn_guards.specs.declared.plan.GuardPlan.{GuardPlan}
 use Rattle.lmn_guards.specs.Accepted.{IsAcceptedRule}
 use Rattle.lmn_guards.specs.Plans.{IsPlan}
-use Rattle.lmn_solid.specs.declared.items.HeadItem.{HeadItem}
-use Rattle.lmn_solid.specs.Embeddings.{Images, Embeds, IsLeast}
-use Rattle.lmn_solid.specs.Flattening.{unnumbered, items_of_head}
-use Rattle.lmn_solid.specs.Heads.{typed_contexts_of}
-use Rattle.lmn_instr.specs.declared.instr.Instr.{Instr}
-use Rattle.lmn_instr.specs.Running.{HeadRegisters, Succeeds, IsFirstSuccess}
-use Rattle.lmn_instr.specs.HeadCode.{head_code}
+use Rattle.lmn_solid_heads.specs.declared.items.HeadItem.{HeadItem}
+use Rattle.lmn_solid_heads.specs.Embeddings.{Images, Embeds, IsLeast}
+use Rattle.lmn_solid_heads.specs.Flattening.{unnumbered, items_of_head}
+use Rattle.lmn_solid_heads.specs.Heads.{typed_contexts_of}
+use Rattle.lmn_instr_code.specs.declared.instr.Instr.{Instr}
+use Rattle.lmn_instr_code.specs.Running.{HeadRegisters, Succeeds, IsFirstSuccess}
+use Rattle.lmn_instr_code.specs.HeadCode.{head_code}
 use Rattle.lmn_compile_head.specs.Heads.{kind_in, IsHead, IsGuard}
 use Rattle.lmn_compile_head.specs.Tables.{HeadFits, HasFewLinks}
 

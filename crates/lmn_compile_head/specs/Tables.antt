@@ -2,14 +2,14 @@
 use Rattle.std.specs.Prelude.{ℕ, ◌≡◌, ◌<◌, ◌≤◌, min, List, [], ◌∷◌, Option, None, length, slice_index_or}
 use Rattle.std.specs.Option.{option_map}
 use Rattle.lmn_base.specs.Limits.{most_links}
-use Rattle.lmn_solid.specs.declared.items.HeadItem.{HeadItem}
-use Rattle.lmn_solid.specs.declared.items.HeadItem.TheVariants.{Atom, Typed, Membrane}
+use Rattle.lmn_solid_heads.specs.declared.items.HeadItem.{HeadItem}
+use Rattle.lmn_solid_heads.specs.declared.items.HeadItem.TheVariants.{Atom, Typed, Membrane}
 use Rattle.lmn_base.specs.declared.functor.Functor.{Functor}
 use Rattle.lmn_base.specs.declared.level.Leaf.{Leaf}
 use Rattle.lmn_base.specs.declared.level.Leaf.TheVariants as leaf
-use Rattle.lmn_solid.specs.Heads.{HeadAtom, Occurrence, links_of_head, times}
-use Rattle.lmn_instr.specs.declared.instr.AtomPort.{AtomPort}
-use Rattle.lmn_instr.specs.HeadCode.{find_port, operand}
+use Rattle.lmn_solid_heads.specs.Heads.{HeadAtom, Occurrence, links_of_head, times}
+use Rattle.lmn_instr_code.specs.declared.instr.AtomPort.{AtomPort}
+use Rattle.lmn_instr_code.specs.HeadCode.{find_port, operand}
 
 -- every number of a list is below another one
 abbrev pub AllBelow : ℕ → List ℕ → Type 0

@@ -1,15 +1,15 @@
 ghost use Rattle.std.specs.Prelude.{◌≡◌, ◌+◌, ◌*◌, ◌<◌, ◌≤◌, sum_by, ◌++◌, ◌^◌, ◌∷◌, List, length, IfOk, OnOk};
 ghost use Rattle.lmn_base.specs.Limits.{most_guard_tokens};
-ghost use Rattle.lmn_instr.specs.HeadCode as code_of;
-ghost use Rattle.lmn_instr.specs.HeadCode.{value_code, guard_code};
+ghost use Rattle.lmn_instr_code.specs.HeadCode as code_of;
+ghost use Rattle.lmn_instr_code.specs.HeadCode.{value_code, guard_code};
 ghost use Rattle.lmn_base.specs.declared.guard.Cond.{Cond};
-ghost use Rattle.lmn_base.specs.RuleCodes.{condition_tokens, expression_tokens};
-ghost use Rattle.lmn_solid.specs.Guards.{context_alone};
+ghost use Rattle.lmn_base_walks.specs.RuleCodes.{condition_tokens, expression_tokens};
+ghost use Rattle.lmn_solid_heads.specs.Guards.{context_alone};
 ghost use Rattle.lmn_compile_head.specs.Bindings.{bound_of, part_numbers};
 
 use lmn_base::{Arith, Cmp, Cond, Expr, NoMemory, Rows};
-use lmn_instr::Instr;
-use lmn_solid::HeadItem;
+use lmn_instr_code::Instr;
+use lmn_solid_heads::HeadItem;
 use std::alloc::Global;
 
 /// A name that a guard has bound, and the register of its integer.

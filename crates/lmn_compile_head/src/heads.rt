@@ -1,7 +1,7 @@
 ghost use Rattle.std.specs.Prelude.{◌≡◌, ◌<◌, ◌≤◌, ◌^◌, length, sum_by, IfOk};
 ghost use Rattle.lmn_base.specs.Limits.{most_guard_tokens};
-ghost use Rattle.lmn_instr.specs.HeadCode.{head_code};
-ghost use Rattle.lmn_base.specs.RuleCodes.{condition_tokens};
+ghost use Rattle.lmn_instr_code.specs.HeadCode.{head_code};
+ghost use Rattle.lmn_base_walks.specs.RuleCodes.{condition_tokens};
 ghost use Rattle.lmn_compile_head.specs.Accepted.{HasRoom, rule_head_code};
 ghost use Rattle.lmn_compile_head.specs.Tables.{HeadFits};
 
@@ -12,8 +12,8 @@ use crate::levels::flatten;
 use crate::tables::times_of;
 use lmn_base::{Cond, NoMemory, Rows, RuleTree};
 use lmn_guards::GuardPlan;
-use lmn_instr::{AtomPort, Instr};
-use lmn_solid::HeadItem;
+use lmn_instr_code::{AtomPort, Instr};
+use lmn_solid_heads::HeadItem;
 use std::alloc::Global;
 
 /// The code of a head with these items, whose links are below `links`, and this guard.

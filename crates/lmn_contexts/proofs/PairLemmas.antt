@@ -9,7 +9,7 @@ use Rattle.lmn_base.specs.declared.level.Level.{Level, out-Level}
 use Rattle.lmn_base.specs.declared.level.Level.TheFolds.{fold_out-Level}
 use Rattle.lmn_base.specs.declared.refusal.Pos.{Pos}
 use Rattle.lmn_base.specs.Firsts.{FirstAt, IsFirst}
-use Rattle.lmn_base.specs.RuleCodes.{seconds, seconds_by_membrane, first_with_some}
+use Rattle.lmn_base_walks.specs.RuleCodes.{seconds, seconds_by_membrane, first_with_some}
 use Rattle.lmn_base.specs.Uses.{is_some_place}
 use Rattle.lmn_base.proofs.RowLemmas.{nowhere}
 

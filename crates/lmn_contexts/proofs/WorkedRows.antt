@@ -18,9 +18,9 @@ use Rattle.lmn_base.specs.declared.refusal.Pos.{Pos}
 use Rattle.lmn_base.specs.declared.rule.RuleTree.{RuleTree}
 use Rattle.lmn_base.specs.Firsts.{NoneApplies}
 use Rattle.lmn_base.specs.Items.{items_of, own_items, leaf_item, untyped, guard_items, number_of_items, number_step}
-use Rattle.lmn_base.specs.RuleCodes.{rule_rows, untyped_place, rule_context_place, connector_place, inner_rule, seconds, seconds_by_membrane, first_with_some, used_again, in_other_form, missing, bare_again, from_nowhere}
+use Rattle.lmn_base_walks.specs.RuleCodes.{rule_rows, untyped_place, rule_context_place, connector_place, inner_rule, seconds, seconds_by_membrane, first_with_some, used_again, in_other_form, missing, bare_again, from_nowhere}
 use Rattle.lmn_base.specs.Limits.{most_head_items, most_body_items, most_conditions, most_guard_tokens}
-use Rattle.lmn_base.proofs.ItemLemmas.{listed_items as listed}
+use Rattle.lmn_base_walks.proofs.ItemLemmas.{listed_items as listed}
 use Rattle.lmn_contexts.specs.Examples.{name_r, context_x, alone, holding, empty, membrane_with_contexts, without_guard, EmptyHead, RuleInHead, ConnectorInHead, ContextAtTop, RuleContextAtTop, TwoInMembrane, OuterPairFirst, TwiceInHead, TwiceInTwoForms, NotInBody, TwiceInBody, NotInHead, RuleContextNotInHead, InTwoForms, closed_at, ClosedAtTop, ClosedCopied, OpenAndClosed, LargestHead, LargestBody, NothingOffends, ClosedStands, many}
 use Rattle.lmn_base.specs.SmallTexts.{at_column, name_a, name_b, name_p, use_at}
 use Rattle.lmn_base.proofs.RowLemmas.{Nowhere}

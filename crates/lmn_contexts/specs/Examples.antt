@@ -10,7 +10,7 @@ use Rattle.lmn_base.specs.declared.level.Level.TheViews.{roll-Level}
 use Rattle.lmn_base.specs.declared.refusal.Pos.{Pos}
 use Rattle.lmn_base.specs.declared.rule.RuleTree.{RuleTree}
 use Rattle.lmn_base.specs.Firsts.{Row, NoneApplies}
-use Rattle.lmn_base.specs.RuleCodes.{too_large, empty_head, rule_in_head, connector_in_head, context_at_top, rule_context_at_top, two_in_membrane, twice_in_head, not_once_in_body, not_in_head, in_two_forms, rule_rows}
+use Rattle.lmn_base_walks.specs.RuleCodes.{too_large, empty_head, rule_in_head, connector_in_head, context_at_top, rule_context_at_top, two_in_membrane, twice_in_head, not_once_in_body, not_in_head, in_two_forms, rule_rows}
 use Rattle.lmn_base.specs.SmallTexts.{name_b, name_a, at_column, name_p, name_q, use_at}
 
 -- The names `a`, `b`, `p`, `q`, `r` and `x` have the numbers 4 to 9.

@@ -1,12 +1,13 @@
 ghost use Rattle.std.specs.Prelude.{◌≡◌, [], ◌∷◌, flat_map, option_map, slice_get};
 ghost use Rattle.lmn_base.specs.declared.level.Level.{out-Level};
 ghost use Rattle.lmn_base.specs.Firsts.{IsFirst, IsFound, AnswersBy};
-ghost use Rattle.lmn_base.specs.RuleCodes.{is_connector_label, is_bare, is_untyped, behind_the_first, seconds, seconds_by_membrane, first_with_some, head_rows};
+ghost use Rattle.lmn_base_walks.specs.RuleCodes.{is_connector_label, is_bare, is_untyped, behind_the_first, seconds, seconds_by_membrane, first_with_some, head_rows};
 
 use lmn_base::{
     CONNECTOR_NAME, CtxUse, Form, Found, Item, Label, Level, Pos, Question, Refusal, RuleTree,
-    find, find_in_level_itself, first_refusal, refuse,
+    first_refusal, refuse,
 };
+use lmn_base_walks::{find, find_in_level_itself};
 
 /// Whether a head has only what may stand in one, and where it may stand.
 pub(crate) fn check_head(table: &[RuleTree], rule: &RuleTree) -> Result<(), Refusal>
@@ -34,7 +35,7 @@ struct InnerRule<'a> {
 }
 
 impl Question for InnerRule<'_> {
-    ghost use Rattle.lmn_base.specs.RuleCodes.{inner_rule};
+    ghost use Rattle.lmn_base_walks.specs.RuleCodes.{inner_rule};
 
     ghost places = { λ q. inner_rule q.table.now };
 
@@ -63,7 +64,7 @@ fn place_in(table: &[RuleTree], number: u32) -> Option<Pos>
 struct Connector;
 
 impl Question for Connector {
-    ghost use Rattle.lmn_base.specs.RuleCodes.{connector_place};
+    ghost use Rattle.lmn_base_walks.specs.RuleCodes.{connector_place};
 
     ghost places = { λ q. connector_place };
 
@@ -98,7 +99,7 @@ fn is_connector_label(label: Label) -> bool
 struct UntypedContext;
 
 impl Question for UntypedContext {
-    ghost use Rattle.lmn_base.specs.RuleCodes.{untyped_place};
+    ghost use Rattle.lmn_base_walks.specs.RuleCodes.{untyped_place};
 
     ghost places = { λ q. untyped_place };
 
@@ -141,7 +142,7 @@ fn is_untyped(form: Form) -> bool
 struct AnyRuleContext;
 
 impl Question for AnyRuleContext {
-    ghost use Rattle.lmn_base.specs.RuleCodes.{rule_context_place};
+    ghost use Rattle.lmn_base_walks.specs.RuleCodes.{rule_context_place};
 
     ghost places = { λ q. rule_context_place };
 

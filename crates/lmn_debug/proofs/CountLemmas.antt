@@ -12,20 +12,20 @@ use Rattle.lmn_base.specs.Lists.{In}
 use Rattle.lmn_base.specs.declared.rule.RuleTree.{RuleTree}
 use Rattle.lmn_base.specs.Names.{HasNames, label_names}
 use Rattle.std.proofs.lemmas.Option.{slice_get_within}
-use Rattle.lmn_heap.proofs.Trees.{root_first}
-use Rattle.lmn_heap.specs.Heap.{Heap, HeapAtom, IsAtom, atoms_in, rules_in, functor_of, from, after}
-use Rattle.lmn_heap.specs.Functors.{same_functor, is_of, with_functor}
-use Rattle.lmn_heap.specs.Sound.{Forest, bare, mem, flat, IsTree, item_count_in}
-use Rattle.lmn_heap.proofs.WithFunctor.{functor_is, functor_same}
-use Rattle.lmn_heap.proofs.Common.{length_numbered}
+use Rattle.lmn_store_heap.proofs.Trees.{root_first}
+use Rattle.lmn_store_heap.specs.Heap.{Heap, HeapAtom, IsAtom, atoms_in, rules_in, functor_of, from, after}
+use Rattle.lmn_store_heap.specs.Functors.{same_functor, is_of, with_functor}
+use Rattle.lmn_store_heap.specs.Sound.{Forest, bare, mem, flat, IsTree, item_count_in}
+use Rattle.lmn_store_heap.proofs.WithFunctor.{functor_is, functor_same}
+use Rattle.lmn_store_heap.proofs.Common.{length_numbered}
 use Rattle.lmn_congruence.specs.Regions.{Region, SolidAtom}
 use Rattle.lmn_congruence.specs.Rules.{Name}
 use Rattle.lmn_congruence.specs.Translation.{label_of}
 use Rattle.lmn_congruence.proofs.TranslatedNames.{labels_apart}
-use Rattle.lmn_bridge.specs.HeapRegions.{HeapReading, atoms_at, regions_at, region_at}
-use Rattle.lmn_bridge.specs.Premises.{IsRead}
-use Rattle.lmn_bridge.proofs.Counting.{list_atoms}
-use Rattle.lmn_bridge.proofs.Pieces.{atom_at, atom_by, atoms_each}
+use Rattle.lmn_adequacy_heaps.specs.HeapRegions.{HeapReading, atoms_at, regions_at, region_at}
+use Rattle.lmn_adequacy_heaps.specs.Premises.{IsRead}
+use Rattle.lmn_adequacy_heaps.proofs.Counting.{list_atoms}
+use Rattle.lmn_adequacy_heaps.proofs.Pieces.{atom_at, atom_by, atoms_each}
 use Rattle.lmn_schedule.specs.Held.{HoldsRegion, reading_by}
 use Rattle.lmn_debug.specs.Breaks.{StandsSo}
 use Rattle.lmn_debug.specs.Counts.{AreSo, none, one, other, HasFunctor, IsCapped, IsCount, atoms_of, atoms_in_all, count_in}

@@ -9,16 +9,16 @@ use Rattle.lmn_base.specs.declared.rule.RuleTree.{RuleTree}
 use Rattle.lmn_base.specs.Levels.{rules_of}
 use Rattle.lmn_base.specs.Lists.{In}
 use Rattle.lmn_base.proofs.Lists.{all_of_left, all_of_right}
-use Rattle.lmn_heap.specs.Heap.{Heap, rules_in}
-use Rattle.lmn_heap.specs.Sound.{Forest, bare, mem}
+use Rattle.lmn_store_heap.specs.Heap.{Heap, rules_in}
+use Rattle.lmn_store_heap.specs.Sound.{Forest, bare, mem}
 use Rattle.lmn_congruence.specs.Regions.{Region}
 use Rattle.lmn_congruence.specs.Rules as tree
 use Rattle.lmn_congruence.specs.Translation.{level_of, level_step, levels, rules}
 use Rattle.lmn_adequacy.specs.Accepted.{Accepted, Throughout, ThroughoutLevel, ThroughoutLevels, ThroughoutRules}
 use Rattle.lmn_adequacy.specs.Embedding.{AllRules, AllRulesIn, EachRule}
-use Rattle.lmn_bridge.specs.HeapRegions.{HeapReading, regions_at}
-use Rattle.lmn_bridge.specs.Premises.{HasRules}
-use Rattle.lmn_turn.specs.Commits.{IsTable}
+use Rattle.lmn_adequacy_heaps.specs.HeapRegions.{HeapReading, regions_at}
+use Rattle.lmn_adequacy_heaps.specs.Premises.{HasRules}
+use Rattle.lmn_adequacy_turns.specs.Commits.{IsTable}
 use Rattle.lmn_schedule.specs.Held.{HoldsRegion, reading_by}
 
 -- ---- a rule that stands in another one is smaller

@@ -4,3 +4,8 @@ mod Exactness
 mod Held
 mod Traces
 pub mod Turns
+pub mod NewStores
+pub mod Obeyings
+mod TraceParts
+mod OneOutcome
+pub mod ExampleOrders

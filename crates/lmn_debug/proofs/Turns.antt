@@ -5,11 +5,11 @@ use Rattle.lmn_congruence.specs.Rules.{Name}
 use Rattle.std.proofs.lemmas.List.{length-append, drop-append-le}
 use Rattle.std.proofs.lemmas.List.Elements.{All-append, All-nil, All-cons}
 use Rattle.lmn_base.specs.declared.rule.RuleTree.{RuleTree}
-use Rattle.lmn_heap.specs.Heap.{Heap}
+use Rattle.lmn_store_heap.specs.Heap.{Heap}
 use Rattle.lmn_congruence.specs.Regions.{Region}
 use Rattle.lmn_adequacy.specs.Runs.{Turn as Chooses, loaded, turned, nothing_embeds, too_many}
-use Rattle.lmn_strategy.specs.declared.turning.Turn.{Turn}
-use Rattle.lmn_strategy.specs.declared.turning.Turn.TheVariants as answer
+use Rattle.lmn_schedule_strategy.specs.declared.turning.Turn.{Turn}
+use Rattle.lmn_schedule_strategy.specs.declared.turning.Turn.TheVariants as answer
 use Rattle.lmn_schedule.specs.Held.{HoldsRegion}
 use Rattle.lmn_schedule.specs.Turning.{IsTurned, counted as commits_of}
 use Rattle.lmn_debug.specs.declared.session.Stop.{Stop}
@@ -20,7 +20,7 @@ use Rattle.lmn_debug.specs.Courses.{Course, StepsTo, WaitsTo, Wish, Meets, Withi
 use Rattle.lmn_debug.specs.Sessions.{StandsAt, StandsStepped, StandsWaited}
 use Rattle.lmn_debug.specs.Turning.{Refuses, TurnsTo, Waits, WaitsOn, counted}
 use Rattle.lmn_debug.proofs.CountLemmas.{so_once}
-use Rattle.lmn_heap.proofs.Common.{moved}
+use Rattle.lmn_store_heap.proofs.Common.{moved}
 
 -- what holds of a table and of a size holds of equal ones
 pub moved_to : (P : List RuleTree → ℕ → Type 0) {T T' : List RuleTree} {z z' : ℕ} → T ≡ T' → z ≡ z' → P T z → P T' z'

@@ -4,8 +4,8 @@ use Rattle.lmn_base.specs.declared.functor.Functor.{Functor}
 use Rattle.lmn_congruence.specs.Regions.{Region, Regions, SolidAtom, region, no_region, region_and}
 use Rattle.lmn_congruence.specs.Rules.{Name}
 use Rattle.lmn_congruence.specs.Translation.{label_of}
-use Rattle.lmn_heap.specs.Heap.{Heap, atoms_in}
-use Rattle.lmn_heap.specs.Functors.{with_functor}
+use Rattle.lmn_store_heap.specs.Heap.{Heap, atoms_in}
+use Rattle.lmn_store_heap.specs.Functors.{with_functor}
 
 -- the atoms of a region, at every depth
 abbrev mutual

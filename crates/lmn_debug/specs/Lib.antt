@@ -5,3 +5,8 @@ pub mod Sessions
 pub mod Turning
 pub mod Laws
 pub mod Examples
+pub mod Orders
+pub mod Debugged
+pub mod Obeying
+pub mod CarryingLaws
+pub mod CarryingExamples

@@ -1,7 +1,7 @@
 -- Where a session stands, and what its calls do.
 use Rattle.std.specs.Prelude.{ℕ, List}
 use Rattle.lmn_base.specs.declared.rule.RuleTree.{RuleTree}
-use Rattle.lmn_heap.specs.Heap.{Heap}
+use Rattle.lmn_store_heap.specs.Heap.{Heap}
 use Rattle.lmn_congruence.specs.Regions.{Region}
 use Rattle.lmn_congruence.specs.Rules.{Name}
 use Rattle.lmn_schedule.specs.Held.{HoldsRegion}

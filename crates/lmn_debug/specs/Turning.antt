@@ -1,7 +1,7 @@
 -- What the turns of a session's calls do. The contracts of private functions alone cite this.
 use Rattle.std.specs.Prelude.{ℕ, ◌≡◌, List, [], ◌∷◌, ◌++◌, Option, Some, None, drop, All}
 use Rattle.lmn_base.specs.declared.rule.RuleTree.{RuleTree}
-use Rattle.lmn_heap.specs.Heap.{Heap}
+use Rattle.lmn_store_heap.specs.Heap.{Heap}
 use Rattle.lmn_congruence.specs.Regions.{Region}
 use Rattle.lmn_congruence.specs.Rules.{Name}
 use Rattle.lmn_adequacy.specs.Runs.{irreducible, full}

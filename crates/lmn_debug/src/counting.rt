@@ -1,14 +1,14 @@
 //! How many atoms of a store have a functor. Nothing here takes memory.
 ghost use Rattle.std.specs.Prelude.{◌≡◌, ◌↔◌, IsTrue, length};
-ghost use Rattle.lmn_heap.specs.Heap.{IsMem, atoms_in};
-ghost use Rattle.lmn_heap.specs.Functors.{with_functor};
-ghost use Rattle.lmn_heap.specs.Sound.{Forest, IsTree, Valid, flat};
+ghost use Rattle.lmn_store_heap.specs.Heap.{IsMem, atoms_in};
+ghost use Rattle.lmn_store_heap.specs.Functors.{with_functor};
+ghost use Rattle.lmn_store_heap.specs.Sound.{Forest, IsTree, Valid, flat};
 ghost use Rattle.lmn_debug.specs.Breaks.{AnswersSo, StandsSo};
 ghost use Rattle.lmn_debug.specs.Counts.{IsCapped, count_in};
 
 use crate::Break;
 use lmn_base::Functor;
-use lmn_store::LinkStore;
+use lmn_store_trait::LinkStore;
 
 /// How many atoms of a membrane have the functor.
 fn count_of_membrane<S: LinkStore>(store: &S, membrane: S::Mem, functor: Functor) -> u64

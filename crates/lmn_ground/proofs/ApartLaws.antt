@@ -2,9 +2,9 @@
 use Rattle.std.proofs.Common.{◌≡◌, ◌≢◌, ℕ, ◌<◌, Bool, true, List, length, None, IsSome, refl, sym, ap, subst, ◌∙◌}
 use Rattle.std.specs.Prelude.{slice_index_or, ◌↔◌}
 use Rattle.lmn_base.specs.Graphs.{AtomMap, Reached, at_root, SameGraph}
-use Rattle.lmn_heap.specs.Heap.{Heap, functor_of, marks_of}
-use Rattle.lmn_heap.specs.Sound.{Sound}
-use Rattle.lmn_heap.specs.Graphs.{atom_map}
+use Rattle.lmn_store_heap.specs.Heap.{Heap, functor_of, marks_of}
+use Rattle.lmn_store_heap.specs.Sound.{Sound}
+use Rattle.lmn_store_heap.specs.Graphs.{atom_map}
 use Rattle.lmn_ground.specs.Marks.{first_place, paint, painted, first_marks}
 use Rattle.lmn_ground.specs.Spread.{IsWhole, Spread, CleanPart}
 use Rattle.lmn_ground.specs.Follow.{Two}
@@ -12,7 +12,7 @@ use Rattle.lmn_ground.proofs.PaintLaws.{net_painted}
 use Rattle.lmn_ground.proofs.PaintedAt.{map_painted}
 use Rattle.lmn_ground.proofs.GroundLaws.{part_atoms}
 use Rattle.lmn_ground.proofs.FollowLaws.{carried}
-use Rattle.lmn_parts.specs.Walks.{IsPartInDepth, Net, net, FoundInside}
+use Rattle.lmn_ground_parts.specs.Walks.{IsPartInDepth, Net, net, FoundInside}
 use Rattle.lmn_base.proofs.Lists.{length_mapped as length_map}
 
 -- a part is equal to itself

@@ -3,15 +3,15 @@ use Rattle.std.proofs.Common.{◌≡◌, ◌≢◌, ◌⊎◌, ◌↔◌, ℕ, z
 use Rattle.std.proofs.lemmas.Bool.{cases_eq}
 use Rattle.std.specs.Option.{option_map}
 use Rattle.std.specs.Prelude.{slice_index_or, slice_set}
-use Rattle.lmn_heap.specs.Heap.{Heap, HeapAtom, HeapMem, IsAtom, IsMem, PortsUnmarked, alter, arity_of, atoms_by, atoms_in, home_of, link_of, mark_of, marked, marks_of, mems_by, mems_in, own_mark, partners_of, with_mark, from, after}
-use Rattle.lmn_heap.specs.Sound.{Sound, AtMost, Forms}
-use Rattle.lmn_heap.proofs.Groves.{forms_frame}
-use Rattle.lmn_heap.proofs.Listing.{alter_at, alter_away}
-use Rattle.lmn_heap.proofs.Replacing.{port_within}
-use Rattle.lmn_heap.proofs.Common.{decide_in}
+use Rattle.lmn_store_heap.specs.Heap.{Heap, HeapAtom, HeapMem, IsAtom, IsMem, PortsUnmarked, alter, arity_of, atoms_by, atoms_in, home_of, link_of, mark_of, marked, marks_of, mems_by, mems_in, own_mark, partners_of, with_mark, from, after}
+use Rattle.lmn_store_heap.specs.Sound.{Sound, AtMost, Forms}
+use Rattle.lmn_store_heap.proofs.Groves.{forms_frame}
+use Rattle.lmn_store_heap.proofs.Listing.{alter_at, alter_away}
+use Rattle.lmn_store_heap.proofs.Replacing.{port_within}
+use Rattle.lmn_store_heap.proofs.Common.{decide_in}
 use Rattle.lmn_base.specs.Lists.{In}
-use Rattle.lmn_parts.specs.Rests.{NoneLeaves, atoms_of_all, keep}
-use Rattle.lmn_parts.specs.Walks.{Net, is_in, net}
+use Rattle.lmn_ground_parts.specs.Rests.{NoneLeaves, atoms_of_all, keep}
+use Rattle.lmn_ground_parts.specs.Walks.{Net, is_in, net}
 use Rattle.lmn_ground.specs.Marks.{first_marks, first_place, paint, painted}
 use Rattle.lmn_ground.specs.Rests.{AreMembranes, IsLeft, port_marked, ports_marked}
 use Rattle.lmn_ground.proofs.PaintLaws.{net_marked, net_painted, painted_cleared, painted_marked}

@@ -1,10 +1,10 @@
 -- Two parts in step: what each step of the comparison needs.
 use Rattle.std.proofs.Common.{◌≡◌, ℕ, suc, ◌+◌, ◌-◌, ◌*◌, ◌/◌, ◌%◌, ◌<◌, ◌≤◌, true, false, List, length, Option, Some, None, sym, ap, subst, ◌∙◌, arith, length-append, add-one, ◌≢◌}
 use Rattle.lmn_base.specs.Graphs.{SameGraph}
-use Rattle.lmn_heap.specs.Heap.{Heap, IsAtom, marked, arity_of, link_of}
-use Rattle.lmn_heap.specs.Sound.{Sound}
-use Rattle.lmn_heap.specs.Graphs.{atom_map}
-use Rattle.lmn_parts.specs.Walks.{Net, net, ports_from, is_port}
+use Rattle.lmn_store_heap.specs.Heap.{Heap, IsAtom, marked, arity_of, link_of}
+use Rattle.lmn_store_heap.specs.Sound.{Sound}
+use Rattle.lmn_store_heap.specs.Graphs.{atom_map}
+use Rattle.lmn_ground_parts.specs.Walks.{Net, net, ports_from, is_port}
 use Rattle.lmn_ground.specs.Marks.{first_marks, entry_port, or_zero, back, way, ports_behind}
 use Rattle.lmn_ground.specs.Spread.{Spread, Spreading}
 use Rattle.lmn_ground.specs.Follow.{Two, Following}

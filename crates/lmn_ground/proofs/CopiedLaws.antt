@@ -6,27 +6,27 @@ use Rattle.std.specs.Result.{IfOk, OnErr}
 use Rattle.std.specs.Prelude.{slice_get, slice_index_or, replicate}
 use Rattle.lmn_base.specs.declared.functor.Functor.{Functor}
 use Rattle.lmn_base.specs.Graphs.{Reached, at_root, across, SameGraph}
-use Rattle.lmn_heap.specs.Heap.{Heap, HeapAtom, waiting, IsAtom, with_link, new_atom, partners_of, marks_of, functor_of, link_of, arity_of, place_of, joined}
-use Rattle.lmn_heap.specs.Conditions.{Alone}
-use Rattle.lmn_heap.specs.Sound.{Paired, Sound}
-use Rattle.lmn_heap.specs.Graphs.{atom_map}
+use Rattle.lmn_store_heap.specs.Heap.{Heap, HeapAtom, waiting, IsAtom, with_link, new_atom, partners_of, marks_of, functor_of, link_of, arity_of, place_of, joined}
+use Rattle.lmn_store_heap.specs.Conditions.{Alone}
+use Rattle.lmn_store_heap.specs.Sound.{Paired, Sound}
+use Rattle.lmn_store_heap.specs.Graphs.{atom_map}
 use Rattle.lmn_ground.specs.Marks.{paint, painted, first_marks}
 use Rattle.lmn_ground.specs.Spread.{IsWhole, Numbered}
 use Rattle.lmn_ground.specs.Copies.{unmarked_all, Remains, NumbersAtoms, Made, Copying, Gathered}
-use Rattle.lmn_parts.specs.Copies.{made_as, made_like, moved, joined_like, all_joined, ports_of, copied, AreNew, AllAtoms, LeadsOut, Beside, Copied, answer}
-use Rattle.lmn_parts.proofs.WalkLaws.{holds_left, holds_right, holds_port}
+use Rattle.lmn_ground_parts.specs.Copies.{made_as, made_like, moved, joined_like, all_joined, ports_of, copied, AreNew, AllAtoms, LeadsOut, Beside, Copied, answer}
+use Rattle.lmn_ground_parts.proofs.WalkLaws.{holds_left, holds_right, holds_port}
 use Rattle.lmn_ground.proofs.PaintLaws.{net_painted, is_painted}
 use Rattle.lmn_ground.proofs.SpreadLaws.{part_reached}
 use Rattle.lmn_ground.proofs.GroundLaws.{part_atoms}
-use Rattle.lmn_parts.proofs.AnswerLaws.{map_answer, answer_here, answer_in, answer_one, answer_onto}
+use Rattle.lmn_ground_parts.proofs.AnswerLaws.{map_answer, answer_here, answer_in, answer_one, answer_onto}
 use Rattle.lmn_ground.proofs.NumberLaws.{begins, numbered_same}
 use Rattle.lmn_ground.proofs.FollowLaws.{walked}
 use Rattle.lmn_ground.proofs.JoinLaws.{like_by, all_view, all_marks, all_copying, all_away, all_joins}
 use Rattle.lmn_ground.proofs.CopyLaws.{length_map, made_away, made_new, made_at, as_there, as_new}
 use Rattle.lmn_ground.proofs.PaintedLaws.{all_painted, ports_painted, made_painted, unmarked_painted}
-use Rattle.lmn_parts.specs.Walks.{port_range, IsPartInDepth, HasPort, Net, net}
-use Rattle.lmn_heap.proofs.Common.{decide_in as in_or_not, no_links, no_port, same_port, has_functor, is_not}
-use Rattle.lmn_heap.proofs.Replacing.{port_within as link_inside}
+use Rattle.lmn_ground_parts.specs.Walks.{port_range, IsPartInDepth, HasPort, Net, net}
+use Rattle.lmn_store_heap.proofs.Common.{decide_in as in_or_not, no_links, no_port, same_port, has_functor, is_not}
+use Rattle.lmn_store_heap.proofs.Replacing.{port_within as link_inside}
 use Rattle.lmn_base.specs.Lists.{In}
 
 abbrev no_mark : ℕ

@@ -5,22 +5,22 @@ use Rattle.std.proofs.lemmas.Option.{slice_get-map, slice_get_within}
 use Rattle.std.specs.Option.{option_map}
 use Rattle.std.specs.Prelude.{slice_get}
 use Rattle.lmn_base.specs.declared.functor.Functor.{Functor}
-use Rattle.lmn_heap.specs.Heap.{Heap, HeapAtom, Distinct, IsAtom, alter, with_mark, new_atom, functor_of, link_of, arity_of, joined, made_atom, marked}
-use Rattle.lmn_heap.proofs.ListLemmas.{each_in}
-use Rattle.lmn_heap.proofs.Listing.{alter_at, alter_away, distinct_snoc}
+use Rattle.lmn_store_heap.specs.Heap.{Heap, HeapAtom, Distinct, IsAtom, alter, with_mark, new_atom, functor_of, link_of, arity_of, joined, made_atom, marked}
+use Rattle.lmn_store_heap.proofs.ListLemmas.{each_in}
+use Rattle.lmn_store_heap.proofs.Listing.{alter_at, alter_away, distinct_snoc}
 use Rattle.lmn_ground.specs.Marks.{first_marks}
 use Rattle.lmn_ground.specs.Spread.{Numbered}
 use Rattle.lmn_ground.specs.Copies.{unmarked_all, Made, Copying}
-use Rattle.lmn_parts.specs.Copies.{made_as, made_like, joined_like, all_joined, ports_of, AreNew, AllAtoms, answer}
-use Rattle.lmn_parts.proofs.AnswerLaws.{answer_here, answer_on}
+use Rattle.lmn_ground_parts.specs.Copies.{made_as, made_like, joined_like, all_joined, ports_of, AreNew, AllAtoms, answer}
+use Rattle.lmn_ground_parts.proofs.AnswerLaws.{answer_here, answer_on}
 use Rattle.lmn_ground.proofs.NumberLaws.{numbered_low, rest_in}
 use Rattle.lmn_ground.proofs.JoinLaws.{like_some, like_copying, like_numbers, like_arity, all_append, all_copying, all_numbers, all_arity, copies_differ}
 use Rattle.lmn_ground.proofs.SoughtLaws.{same_port}
-use Rattle.lmn_parts.specs.Walks.{port_range, is_port}
-use Rattle.lmn_heap.proofs.Common.{in_at, has_functor, is_not}
+use Rattle.lmn_ground_parts.specs.Walks.{port_range, is_port}
+use Rattle.lmn_store_heap.proofs.Common.{in_at, has_functor, is_not}
 use Rattle.lmn_base.specs.Lists.{In}
 use Rattle.lmn_base.proofs.Lists.{in_snoc}
-use Rattle.lmn_parts.proofs.Common.{as_away, as_here, ports_in}
+use Rattle.lmn_ground_parts.proofs.Common.{as_away, as_here, ports_in}
 
 -- lists
 

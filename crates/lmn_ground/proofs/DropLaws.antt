@@ -3,21 +3,21 @@ use Rattle.std.proofs.Common.{◌≡◌, ◌≢◌, ◌⊎◌, ℕ, ◌==◌, no
 use Rattle.std.proofs.lemmas.Bool.{cases_eq, eq-eqb}
 use Rattle.std.specs.Option.{option_map, option_and_then}
 use Rattle.std.specs.Prelude.{IfSome}
-use Rattle.lmn_heap.specs.Heap.{Heap, HeapAtom, HeapMem, gone, home_by, alter, with_place, mem_with_place, mem_with_atoms, mem_with_mems, without, after, from, Distinct, IsMem, home_of, parent_of, atoms_in, mems_in, atoms_by, mems_by, taken, taken_all, taken_mem, atom_out, mem_out}
-use Rattle.lmn_heap.specs.Sound.{Listed}
-use Rattle.lmn_heap.proofs.Common.{decide_in, from_here}
-use Rattle.lmn_heap.proofs.Listing.{alter_at, home_is, without_first}
-use Rattle.lmn_heap.proofs.Heights.{parent_place}
-use Rattle.lmn_heap.proofs.ListLemmas.{each_in}
+use Rattle.lmn_store_heap.specs.Heap.{Heap, HeapAtom, HeapMem, gone, home_by, alter, with_place, mem_with_place, mem_with_atoms, mem_with_mems, without, after, from, Distinct, IsMem, home_of, parent_of, atoms_in, mems_in, atoms_by, mems_by, taken, taken_all, taken_mem, atom_out, mem_out}
+use Rattle.lmn_store_heap.specs.Sound.{Listed}
+use Rattle.lmn_store_heap.proofs.Common.{decide_in, from_here}
+use Rattle.lmn_store_heap.proofs.Listing.{alter_at, home_is, without_first}
+use Rattle.lmn_store_heap.proofs.Heights.{parent_place}
+use Rattle.lmn_store_heap.proofs.ListLemmas.{each_in}
 use Rattle.lmn_base.specs.Lists.{In}
 use Rattle.lmn_base.proofs.Numbers.{not_equal as apart_test}
-use Rattle.lmn_parts.specs.Walks.{is_in}
-use Rattle.lmn_parts.specs.Rests.{keep, all_mems_taken, rest_taken}
-use Rattle.lmn_parts.proofs.AnswerLaws.{is_in_true}
+use Rattle.lmn_ground_parts.specs.Walks.{is_in}
+use Rattle.lmn_ground_parts.specs.Rests.{keep, all_mems_taken, rest_taken}
+use Rattle.lmn_ground_parts.proofs.AnswerLaws.{is_in_true}
 use Rattle.lmn_ground.proofs.PaintLaws.{in_is}
 use Rattle.lmn_ground.proofs.TakeLaws.{home_away}
 use Rattle.lmn_ground.proofs.RestLaws.{keep_in}
-use Rattle.lmn_heap.proofs.Groves.{without_absent as without_out}
+use Rattle.lmn_store_heap.proofs.Groves.{without_absent as without_out}
 
 -- what is not among these
 abbrev pub but : List ℕ → List ℕ → List ℕ

@@ -2,21 +2,21 @@
 use Rattle.std.proofs.Common.{◌≡◌, ◌≢◌, ◌⊎◌, ℕ, suc, ◌+◌, ◌<◌, ◌≤◌, ◌^◌, ◌==◌, not, List, [], ◌∷◌, ◌++◌, length, true, false, Bool, Option, Some, None, refl, sym, ap, subst, ◌∙◌, inl, inr, arith, if◌then◌else◌}
 use Rattle.std.proofs.lemmas.Bool.{eq-eqb}
 use Rattle.std.proofs.lemmas.List.{append_assoc, length-append}
-use Rattle.lmn_heap.specs.Heap.{Heap, Distinct, IsMem, after, from, within, parent_of, atoms_in, mems_in, taken_all, taken_mem, own_mark}
-use Rattle.lmn_heap.specs.Sound.{AtMost, Forest, bare, mem, flat, Forms, Sound}
-use Rattle.lmn_heap.proofs.Common.{decide_in, place_home}
-use Rattle.lmn_heap.proofs.Heights.{parent_is, parent_place}
-use Rattle.lmn_heap.proofs.ListLemmas.{each_in, each_of, in_left, in_right, in_split}
-use Rattle.lmn_heap.proofs.Trees.{At, after_at, after_split, around, find_at, in_here, mem_by, split_at, tail_of}
+use Rattle.lmn_store_heap.specs.Heap.{Heap, Distinct, IsMem, after, from, within, parent_of, atoms_in, mems_in, taken_all, taken_mem, own_mark}
+use Rattle.lmn_store_heap.specs.Sound.{AtMost, Forest, bare, mem, flat, Forms, Sound}
+use Rattle.lmn_store_heap.proofs.Common.{decide_in, place_home}
+use Rattle.lmn_store_heap.proofs.Heights.{parent_is, parent_place}
+use Rattle.lmn_store_heap.proofs.ListLemmas.{each_in, each_of, in_left, in_right, in_split}
+use Rattle.lmn_store_heap.proofs.Trees.{At, after_at, after_split, around, find_at, in_here, mem_by, split_at, tail_of}
 use Rattle.lmn_base.specs.Lists.{In}
 use Rattle.lmn_base.proofs.Lists.{in_either}
 use Rattle.lmn_base.proofs.Numbers.{not_equal as apart_test}
-use Rattle.lmn_parts.specs.Walks.{is_in}
-use Rattle.lmn_parts.specs.Rests.{IsContent, atoms_of_all, keep, rest_taken}
+use Rattle.lmn_ground_parts.specs.Walks.{is_in}
+use Rattle.lmn_ground_parts.specs.Rests.{IsContent, atoms_of_all, keep, rest_taken}
 use Rattle.lmn_ground.specs.Rests.{IsLeft}
 use Rattle.lmn_ground.proofs.RestLaws.{all_in, atoms_once, in_all, keep_distinct, keep_in, rest_found, rest_is}
 use Rattle.lmn_ground.proofs.DropLaws.{all_dropped, atoms_left, but, but_in, but_nothing, but_out, dropped, dropped_none, mem_taken_dropped, mems_left, onto, onto_either, onto_first, onto_second, parent_gone, parent_left, rest_dropped, same_dropped, still_mem}
-use Rattle.lmn_parts.proofs.Common.{keep_all}
+use Rattle.lmn_ground_parts.proofs.Common.{keep_all}
 
 -- a membrane of a list is in the forest of the list
 pub top_in : (s : Heap) (f : Forest) (ls : List ℕ) (k : ℕ) → Forms s f ls → In k ls → In k (flat f)

@@ -2,16 +2,16 @@
 use Rattle.std.proofs.Common.{◌≡◌, ◌⊎◌, ℕ, zero, suc, ◌+◌, ◌<◌, List, [], ◌∷◌, ◌++◌, length, map, Option, Some, None, IsSome, refl, sym, ap, subst, ◌∙◌, inl, inr, arith, ◌≢◌}
 use Rattle.std.proofs.lemmas.Bool.{cases_eq}
 use Rattle.lmn_base.specs.Graphs.{across, SameGraph}
-use Rattle.lmn_heap.specs.Heap.{Heap, arity_of, link_of, functor_of}
-use Rattle.lmn_heap.specs.Sound.{Sound}
-use Rattle.lmn_heap.specs.Graphs.{atom_map}
-use Rattle.lmn_parts.specs.Copies.{moved, answer}
+use Rattle.lmn_store_heap.specs.Heap.{Heap, arity_of, link_of, functor_of}
+use Rattle.lmn_store_heap.specs.Sound.{Sound}
+use Rattle.lmn_store_heap.specs.Graphs.{atom_map}
+use Rattle.lmn_ground_parts.specs.Copies.{moved, answer}
 use Rattle.lmn_ground.specs.Spread.{AreAtoms, IsWhole}
-use Rattle.lmn_parts.proofs.AnswerLaws.{answer_in, answer_one, answer_onto}
-use Rattle.lmn_parts.specs.Walks.{port_range, Walk, ends, passes, finds, HasPort}
+use Rattle.lmn_ground_parts.proofs.AnswerLaws.{answer_in, answer_one, answer_onto}
+use Rattle.lmn_ground_parts.specs.Walks.{port_range, Walk, ends, passes, finds, HasPort}
 use Rattle.lmn_base.specs.Lists.{In}
 use Rattle.lmn_base.proofs.Lists.{in_snoc}
-use Rattle.lmn_heap.proofs.Common.{same_port}
+use Rattle.lmn_store_heap.proofs.Common.{same_port}
 
 -- A map that is one to one on what is reached, and keeps ports and ends, carries one walk to another.
 module _ (arity arity' : ℕ → ℕ) (to to' : ℕ × ℕ → Option ℕ) (f : ℕ → ℕ) (R : ℕ → Type 0)

@@ -4,26 +4,26 @@ use Rattle.std.specs.Option.{option_map}
 use Rattle.std.specs.Prelude.{slice_index_or}
 use Rattle.lmn_base.specs.declared.functor.Functor.{Functor}
 use Rattle.lmn_base.specs.Graphs.{Reached, at_root, across, SameGraph}
-use Rattle.lmn_heap.specs.Heap.{Heap, HeapAtom, marked, arity_of, link_of, functor_of, partners_of}
-use Rattle.lmn_heap.specs.Sound.{Sound}
-use Rattle.lmn_heap.specs.Graphs.{atom_map}
-use Rattle.lmn_heap.proofs.ListLemmas.{in_left}
+use Rattle.lmn_store_heap.specs.Heap.{Heap, HeapAtom, marked, arity_of, link_of, functor_of, partners_of}
+use Rattle.lmn_store_heap.specs.Sound.{Sound}
+use Rattle.lmn_store_heap.specs.Graphs.{atom_map}
+use Rattle.lmn_store_heap.proofs.ListLemmas.{in_left}
 use Rattle.lmn_ground.specs.Marks.{first_place, entry_port, or_zero, back, first_marks, way, ports_behind, ports_ahead, OnWay, Sought}
 use Rattle.lmn_ground.specs.Spread.{IsWhole, Numbered, Spreading, CleanPart, AreAtoms}
 use Rattle.lmn_ground.specs.Follow.{SameEnd, Two, Following}
-use Rattle.lmn_parts.specs.Copies.{moved, answer}
-use Rattle.lmn_parts.proofs.WalkLaws.{determined, kept_seen, longer, past, found, in_last, holds_left, holds_right, holds_port}
+use Rattle.lmn_ground_parts.specs.Copies.{moved, answer}
+use Rattle.lmn_ground_parts.proofs.WalkLaws.{determined, kept_seen, longer, past, found, in_last, holds_left, holds_right, holds_port}
 use Rattle.lmn_ground.proofs.SoughtLaws.{top_in, port_left, next_root, next_none, next_link, not_root_next, same_port, sought_none, sought_root, sought_marked, sought_back, no_port_left}
 use Rattle.lmn_ground.proofs.PaintLaws.{net_painted, mark_away, mark_here}
 use Rattle.lmn_ground.proofs.SpreadLaws.{spreading_first, next_to, not_root, part_reached, way_now, spreading_on, entered, marks_there, entry_is, ahead_enter, ahead_here, nothing_ahead}
 use Rattle.lmn_ground.proofs.GroundLaws.{part_atoms}
 use Rattle.lmn_ground.proofs.EqualLaws.{walk_moved, same_or_not, agree_same}
-use Rattle.lmn_parts.proofs.AnswerLaws.{answer_here, answer_in, answer_one}
+use Rattle.lmn_ground_parts.proofs.AnswerLaws.{answer_here, answer_in, answer_one}
 use Rattle.lmn_ground.proofs.NumberLaws.{begins, numbered_same, answer_grow, answer_new, answer_same, number_of_answer, answer_map, number_next}
-use Rattle.lmn_parts.specs.Walks.{port_range, neighbour, IsPartInDepth, HasPort, Net, net, ports_from, is_port, Walk, ends}
-use Rattle.lmn_heap.proofs.Common.{decide_in as in_or_not, same_port as same_pair}
+use Rattle.lmn_ground_parts.specs.Walks.{port_range, neighbour, IsPartInDepth, HasPort, Net, net, ports_from, is_port, Walk, ends}
+use Rattle.lmn_store_heap.proofs.Common.{decide_in as in_or_not, same_port as same_pair}
 use Rattle.lmn_ground.proofs.PaintedAt.{paint_functor}
-use Rattle.lmn_heap.proofs.Replacing.{port_within as link_inside}
+use Rattle.lmn_store_heap.proofs.Replacing.{port_within as link_inside}
 use Rattle.lmn_base.specs.Lists.{In}
 use Rattle.lmn_base.proofs.Lists.{in_snoc}
 

@@ -1,8 +1,8 @@
 -- The walk that lists the atoms of a part.
 use Rattle.std.proofs.Common.{◌≡◌, ℕ, ◌+◌, ◌*◌, ◌/◌, ◌<◌, ◌≤◌, false, List, [], ◌∷◌, ◌++◌, map, Some, None, refl, sym, ap, subst, ◌∙◌, arith}
-use Rattle.lmn_heap.specs.Heap.{Heap, marked, arity_of, link_of}
-use Rattle.lmn_heap.specs.Sound.{Sound}
-use Rattle.lmn_parts.specs.Walks.{is_port}
+use Rattle.lmn_store_heap.specs.Heap.{Heap, marked, arity_of, link_of}
+use Rattle.lmn_store_heap.specs.Sound.{Sound}
+use Rattle.lmn_ground_parts.specs.Walks.{is_port}
 use Rattle.lmn_ground.specs.Marks.{first_place, first_marks}
 use Rattle.lmn_ground.specs.Spread.{CleanPart, IsWhole, Spreading}
 use Rattle.lmn_ground.specs.Copies.{NumbersAtoms, Gathered}

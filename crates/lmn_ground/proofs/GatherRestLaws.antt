@@ -3,18 +3,18 @@ use Rattle.std.proofs.Common.{◌≡◌, ◌≢◌, ℕ, zero, suc, ◌+◌, ◌
 use Rattle.std.proofs.lemmas.Bool.{cases_eq}
 use Rattle.std.proofs.lemmas.List.{append_assoc}
 use Rattle.std.specs.Option.{option_map}
-use Rattle.lmn_heap.specs.Heap.{Heap, HeapAtom, HeapMem, Distinct, IsAtom, IsMem, PortsUnmarked, alter, after, arity_of, atoms_in, from, made_mem, mark_of, marked, marks_of, mem_with_spare, mems_in, new_mem, own_mark, reserved, rules_by, rules_in, within}
-use Rattle.lmn_heap.specs.Sound.{AtMost, Sound}
-use Rattle.lmn_heap.proofs.Trees.{around, find_at, in_here, mem_by}
-use Rattle.lmn_heap.proofs.Depths.{both_distinct}
-use Rattle.lmn_heap.proofs.ListLemmas.{each_in, in_left, in_right}
-use Rattle.lmn_heap.proofs.Listing.{alter_at, alter_away}
-use Rattle.lmn_heap.proofs.Pigeonholes.{not_longer}
+use Rattle.lmn_store_heap.specs.Heap.{Heap, HeapAtom, HeapMem, Distinct, IsAtom, IsMem, PortsUnmarked, alter, after, arity_of, atoms_in, from, made_mem, mark_of, marked, marks_of, mem_with_spare, mems_in, new_mem, own_mark, reserved, rules_by, rules_in, within}
+use Rattle.lmn_store_heap.specs.Sound.{AtMost, Sound}
+use Rattle.lmn_store_heap.proofs.Trees.{around, find_at, in_here, mem_by}
+use Rattle.lmn_store_heap.proofs.Depths.{both_distinct}
+use Rattle.lmn_store_heap.proofs.ListLemmas.{each_in, in_left, in_right}
+use Rattle.lmn_store_heap.proofs.Listing.{alter_at, alter_away}
+use Rattle.lmn_store_heap.proofs.Pigeonholes.{not_longer}
 use Rattle.lmn_base.specs.Lists.{In}
 use Rattle.lmn_base.proofs.Lists.{in_either, plus_nothing}
-use Rattle.lmn_parts.specs.Copies.{AllAtoms, AreNew, made_like}
-use Rattle.lmn_parts.specs.Rests.{AreNewMembranes, AreRoomsFor, RestCopied, RestRemains, atoms_of_all, joined_copies, keep, made_roomy}
-use Rattle.lmn_parts.specs.Walks.{is_in}
+use Rattle.lmn_ground_parts.specs.Copies.{AllAtoms, AreNew, made_like}
+use Rattle.lmn_ground_parts.specs.Rests.{AreNewMembranes, AreRoomsFor, RestCopied, RestRemains, atoms_of_all, joined_copies, keep, made_roomy}
+use Rattle.lmn_ground_parts.specs.Walks.{is_in}
 use Rattle.lmn_ground.specs.Copies.{NumbersAtoms}
 use Rattle.lmn_ground.specs.Marks.{first_marks, first_place, paint}
 use Rattle.lmn_ground.specs.Spread.{Numbered}

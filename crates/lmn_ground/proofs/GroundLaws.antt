@@ -3,16 +3,16 @@ use Rattle.std.proofs.Common.{◌≡◌, ◌↔◌, ℕ, ◌+◌, ◌<◌, Bool,
 use Rattle.std.specs.Option.{option_map}
 use Rattle.lmn_base.specs.declared.functor.Functor.{Functor}
 use Rattle.lmn_base.specs.Graphs.{Reached, at_root, across}
-use Rattle.lmn_heap.specs.Heap.{Heap, HeapAtom, IsAtom, arity_of, link_of, functor_of}
-use Rattle.lmn_heap.specs.Sound.{Sound}
-use Rattle.lmn_heap.specs.Graphs.{atom_map}
+use Rattle.lmn_store_heap.specs.Heap.{Heap, HeapAtom, IsAtom, arity_of, link_of, functor_of}
+use Rattle.lmn_store_heap.specs.Sound.{Sound}
+use Rattle.lmn_store_heap.specs.Graphs.{atom_map}
 use Rattle.lmn_ground.specs.Spread.{IsWhole, IsGroundIn, Spread, AreAtoms}
-use Rattle.lmn_parts.proofs.WalkLaws.{once, only}
+use Rattle.lmn_ground_parts.proofs.WalkLaws.{once, only}
 use Rattle.lmn_ground.proofs.SoughtLaws.{next_root, next_link, next_none}
 use Rattle.lmn_ground.proofs.PaintLaws.{net_painted, is_painted, with_port}
-use Rattle.lmn_heap.proofs.Pigeonholes.{not_longer}
+use Rattle.lmn_store_heap.proofs.Pigeonholes.{not_longer}
 use Rattle.lmn_ground.proofs.SpreadLaws.{not_root, part_reached}
-use Rattle.lmn_parts.specs.Walks.{port_range, neighbour, IsPartInDepth, HasPort, Net, net, is_port}
+use Rattle.lmn_ground_parts.specs.Walks.{port_range, neighbour, IsPartInDepth, HasPort, Net, net, is_port}
 use Rattle.lmn_base.specs.Lists.{In}
 
 -- the root in the marked heap

@@ -4,12 +4,12 @@ use Rattle.std.proofs.lemmas.Bool.{cases_eq}
 use Rattle.std.specs.Option.{option_map}
 use Rattle.std.specs.Prelude.{slice_index_or, slice_set}
 use Rattle.lmn_base.specs.Lists.{In}
-use Rattle.lmn_heap.specs.Heap.{Heap, HeapAtom, with_link, partners_of, link_of, linked, cleared, joined}
-use Rattle.lmn_heap.proofs.Listing.{alter_at, alter_away}
-use Rattle.lmn_heap.proofs.Ports.{SamePort}
+use Rattle.lmn_store_heap.specs.Heap.{Heap, HeapAtom, with_link, partners_of, link_of, linked, cleared, joined}
+use Rattle.lmn_store_heap.proofs.Listing.{alter_at, alter_away}
+use Rattle.lmn_store_heap.proofs.Ports.{SamePort}
 use Rattle.lmn_ground.specs.Copies.{Copying}
-use Rattle.lmn_parts.specs.Copies.{moved, joined_like, answer}
-use Rattle.lmn_parts.specs.Walks.{is_port}
+use Rattle.lmn_ground_parts.specs.Copies.{moved, joined_like, answer}
+use Rattle.lmn_ground_parts.specs.Walks.{is_port}
 use Rattle.lmn_ground.proofs.JoinLaws.{like_some, copies_differ}
 
 -- ---- places of lists that are set

@@ -3,22 +3,22 @@ use Rattle.std.proofs.Common.{◌≡◌, ◌≢◌, ◌⊎◌, ℕ, ◌<◌, Boo
 use Rattle.std.proofs.lemmas.Bool.{cases_eq}
 use Rattle.std.specs.Option.{option_map}
 use Rattle.std.specs.Prelude.{slice_index_or}
-use Rattle.lmn_heap.specs.Heap.{Heap, HeapAtom, with_link, partners_of, marks_of, mark_of, link_of, arity_of, linked, cleared, joined}
-use Rattle.lmn_heap.specs.Splice.{joined_to}
-use Rattle.lmn_heap.proofs.Listing.{alter_at, alter_away}
-use Rattle.lmn_heap.proofs.Ports.{SamePort, same_port, linked_away, joined_arity, joined_a, joined_b, joined_other, joined_paired}
+use Rattle.lmn_store_heap.specs.Heap.{Heap, HeapAtom, with_link, partners_of, marks_of, mark_of, link_of, arity_of, linked, cleared, joined}
+use Rattle.lmn_store_heap.specs.Splice.{joined_to}
+use Rattle.lmn_store_heap.proofs.Listing.{alter_at, alter_away}
+use Rattle.lmn_store_heap.proofs.Ports.{SamePort, same_port, linked_away, joined_arity, joined_a, joined_b, joined_other, joined_paired}
 use Rattle.lmn_ground.specs.Marks.{first_marks}
 use Rattle.lmn_ground.specs.Spread.{Numbered}
 use Rattle.lmn_ground.specs.Copies.{CopyIsJoined, Copying}
-use Rattle.lmn_parts.specs.Copies.{moved, joined_like, all_joined, answer}
-use Rattle.lmn_parts.proofs.AnswerLaws.{answer_in, answer_one}
+use Rattle.lmn_ground_parts.specs.Copies.{moved, joined_like, all_joined, answer}
+use Rattle.lmn_ground_parts.proofs.AnswerLaws.{answer_in, answer_one}
 use Rattle.lmn_ground.proofs.SoughtLaws.{same_port as is_root_port}
 use Rattle.lmn_ground.proofs.SpreadLaws.{not_root}
 use Rattle.lmn_ground.proofs.NumberLaws.{numbered_same}
-use Rattle.lmn_parts.specs.Walks.{HasPort, is_port}
-use Rattle.lmn_heap.proofs.Replacing.{port_within as link_inside}
+use Rattle.lmn_ground_parts.specs.Walks.{HasPort, is_port}
+use Rattle.lmn_store_heap.proofs.Replacing.{port_within as link_inside}
 use Rattle.lmn_base.specs.Lists.{In}
-use Rattle.lmn_heap.proofs.Common.{same_port as same_pair, arity_linked}
+use Rattle.lmn_store_heap.proofs.Common.{same_port as same_pair, arity_linked}
 
 -- what joining leaves as it is
 module _ {X : Type 0} (view : Option HeapAtom → X) (h : (i : ℕ) (p : Option (ℕ × ℕ)) (o : Option HeapAtom) → view (option_map (with_link i p) o) ≡ view o) where

@@ -5,20 +5,20 @@ use Rattle.std.proofs.lemmas.Bool.Decides.{Decides-eqb}
 use Rattle.lmn_base.specs.declared.functor.Functor.{Functor}
 use Rattle.lmn_base.specs.Graphs.{Reached, SameGraph}
 use Rattle.lmn_base.specs.Lists.{In}
-use Rattle.lmn_heap.specs.Heap.{Heap, HeapAtom, IsAtom, partners_of, arity_of, functor_of, link_of, made_atom}
-use Rattle.lmn_heap.specs.Sound.{Sound}
-use Rattle.lmn_heap.specs.Graphs.{atom_map}
-use Rattle.lmn_parts.specs.Walks.{is_port, neighbour, port_range, HasPort, IsPartInDepth, net}
-use Rattle.lmn_parts.specs.Copies.{made_as, made_like, joined_like, all_joined, copied, answer, AreNew, AllAtoms, LeadsOut, Beside, Copied}
-use Rattle.lmn_parts.proofs.WalkLaws.{all_seen}
+use Rattle.lmn_store_heap.specs.Heap.{Heap, HeapAtom, IsAtom, partners_of, arity_of, functor_of, link_of, made_atom}
+use Rattle.lmn_store_heap.specs.Sound.{Sound}
+use Rattle.lmn_store_heap.specs.Graphs.{atom_map}
+use Rattle.lmn_ground_parts.specs.Walks.{is_port, neighbour, port_range, HasPort, IsPartInDepth, net}
+use Rattle.lmn_ground_parts.specs.Copies.{made_as, made_like, joined_like, all_joined, copied, answer, AreNew, AllAtoms, LeadsOut, Beside, Copied}
+use Rattle.lmn_ground_parts.proofs.WalkLaws.{all_seen}
 use Rattle.lmn_ground.specs.Copies.{Remains}
 use Rattle.lmn_ground.specs.Spread.{AreAtoms, AtomFits, IsWhole}
 use Rattle.lmn_ground.proofs.SoughtLaws.{next_root}
 use Rattle.lmn_ground.proofs.GroundLaws.{part_atoms, one_size}
 use Rattle.lmn_ground.proofs.CopiedLaws.{made_beside, copied_same, answers_are, copied_part, copied_free, copied_beside}
 use Rattle.lmn_ground.proofs.CopyLaws.{made_away}
-use Rattle.lmn_parts.proofs.AnswerLaws.{answer_here}
-use Rattle.lmn_heap.proofs.Common.{is_not}
+use Rattle.lmn_ground_parts.proofs.AnswerLaws.{answer_here}
+use Rattle.lmn_store_heap.proofs.Common.{is_not}
 
 -- where both hold they hold together
 both : (b c : Bool) → b ≡ true → c ≡ true → (b && c) ≡ true

@@ -2,10 +2,10 @@
 use Rattle.std.proofs.Common.{◌≡◌, ◌≢◌, ℕ, ◌+◌, ◌≤◌, ◌^◌, List, [], ◌∷◌, length, map, true, false, Bool, Option, Some, None, refl, sym, ap, ◌∙◌, inl, inr, arith, if◌then◌else◌, ◌==◌}
 use Rattle.std.specs.Prelude.{sum}
 use Rattle.std.proofs.lemmas.Bool.{eq-eqb, eqb-true}
-use Rattle.lmn_heap.specs.Heap.{Heap, Distinct, after, from, without, rules_in}
-use Rattle.lmn_heap.specs.Sound.{AtMost, Sound}
-use Rattle.lmn_heap.proofs.ListLemmas.{each_in, in_without}
-use Rattle.lmn_heap.proofs.Pigeonholes.{not_longer}
+use Rattle.lmn_store_heap.specs.Heap.{Heap, Distinct, after, from, without, rules_in}
+use Rattle.lmn_store_heap.specs.Sound.{AtMost, Sound}
+use Rattle.lmn_store_heap.proofs.ListLemmas.{each_in, in_without}
+use Rattle.lmn_store_heap.proofs.Pigeonholes.{not_longer}
 use Rattle.lmn_base.specs.Lists.{In}
 use Rattle.lmn_ground.specs.Rests.{IsLeft}
 use Rattle.lmn_ground.proofs.RestLaws.{atoms_once}

@@ -4,17 +4,17 @@ use Rattle.std.proofs.lemmas.Bool.{cases_eq}
 use Rattle.std.specs.Option.{option_map}
 use Rattle.std.specs.Prelude.{slice_index_or, slice_set}
 use Rattle.lmn_base.specs.Graphs.{AtomMap, Reached, at_root, across}
-use Rattle.lmn_heap.specs.Graphs.{atom_map}
-use Rattle.lmn_heap.specs.Heap.{Heap, HeapAtom, Distinct, IsAtom, alter, with_mark, marked, marks_of, arity_of}
-use Rattle.lmn_heap.proofs.Listing.{alter_at, alter_away}
-use Rattle.lmn_heap.proofs.Common.{same_atoms}
+use Rattle.lmn_store_heap.specs.Graphs.{atom_map}
+use Rattle.lmn_store_heap.specs.Heap.{Heap, HeapAtom, Distinct, IsAtom, alter, with_mark, marked, marks_of, arity_of}
+use Rattle.lmn_store_heap.proofs.Listing.{alter_at, alter_away}
+use Rattle.lmn_store_heap.proofs.Common.{same_atoms}
 use Rattle.lmn_ground.specs.Marks.{paint, painted, first_marks, way, ports_ahead, OnWay}
 use Rattle.lmn_ground.specs.Spread.{Wiping}
 use Rattle.lmn_ground.specs.Rests.{own_marked}
-use Rattle.lmn_parts.proofs.WalkLaws.{determined}
+use Rattle.lmn_ground_parts.proofs.WalkLaws.{determined}
 use Rattle.lmn_ground.proofs.SoughtLaws.{no_port_left, weight}
 use Rattle.lmn_ground.proofs.PaintLaws.{net_marked, net_painted}
-use Rattle.lmn_parts.specs.Walks.{neighbour, Net, net, is_in, Walk, ends}
+use Rattle.lmn_ground_parts.specs.Walks.{neighbour, Net, net, is_in, Walk, ends}
 use Rattle.lmn_base.specs.Lists.{In}
 
 -- the own mark of one atom is set

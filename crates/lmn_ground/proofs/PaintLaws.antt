@@ -4,11 +4,11 @@ use Rattle.std.proofs.lemmas.Bool.{cases_eq, eqb-true}
 use Rattle.std.proofs.lemmas.List.{get_or-set_same}
 use Rattle.std.specs.Option.{option_map}
 use Rattle.std.specs.Prelude.{slice_set, slice_index_or}
-use Rattle.lmn_heap.specs.Heap.{Heap, HeapAtom, IsAtom, alter, with_mark, marked, partners_of, marks_of, arity_of}
-use Rattle.lmn_heap.proofs.Listing.{alter_at, alter_away}
-use Rattle.lmn_parts.specs.Walks.{Net, net, ports_from, is_in}
+use Rattle.lmn_store_heap.specs.Heap.{Heap, HeapAtom, IsAtom, alter, with_mark, marked, partners_of, marks_of, arity_of}
+use Rattle.lmn_store_heap.proofs.Listing.{alter_at, alter_away}
+use Rattle.lmn_ground_parts.specs.Walks.{Net, net, ports_from, is_in}
 use Rattle.lmn_ground.specs.Marks.{first_place, paint, painted, first_marks, entry_port, or_zero, back, way, ports_behind, OnWay}
-use Rattle.lmn_heap.proofs.Common.{same_atoms as same_painted}
+use Rattle.lmn_store_heap.proofs.Common.{same_atoms as same_painted}
 use Rattle.lmn_ground.proofs.PaintedAt.{paint_links, is_paint}
 use Rattle.lmn_base.specs.Lists.{In}
 

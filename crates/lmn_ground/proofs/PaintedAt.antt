@@ -2,9 +2,9 @@
 use Rattle.std.proofs.Common.{◌≡◌, ℕ, zero, suc, Option, Some, None, IsSome, refl, ap}
 use Rattle.std.specs.Option.{option_map, option_and_then}
 use Rattle.std.specs.Prelude.{slice_index_or}
-use Rattle.lmn_heap.specs.Heap.{Heap, HeapAtom, partners_of, home_by}
-use Rattle.lmn_heap.specs.Graphs.{atom_map}
-use Rattle.lmn_heap.proofs.Common.{same_atoms}
+use Rattle.lmn_store_heap.specs.Heap.{Heap, HeapAtom, partners_of, home_by}
+use Rattle.lmn_store_heap.specs.Graphs.{atom_map}
+use Rattle.lmn_store_heap.proofs.Common.{same_atoms}
 use Rattle.lmn_ground.specs.Marks.{paint_at, painted_at}
 
 module _ (place : HeapAtom → ℕ) where

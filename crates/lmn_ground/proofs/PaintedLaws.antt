@@ -3,15 +3,15 @@ use Rattle.std.proofs.Common.{◌≡◌, ℕ, zero, suc, Bool, true, false, cond
 use Rattle.std.proofs.lemmas.Bool.{cases_eq}
 use Rattle.std.specs.Option.{option_map}
 use Rattle.lmn_base.specs.declared.functor.Functor.{Functor}
-use Rattle.lmn_heap.specs.Heap.{Heap, HeapAtom, alter, with_link, new_atom, functor_of, link_of, arity_of, linked, cleared, joined, made_atom}
-use Rattle.lmn_heap.specs.Splice.{joined_to}
-use Rattle.lmn_heap.proofs.Listing.{alter_at, alter_away}
+use Rattle.lmn_store_heap.specs.Heap.{Heap, HeapAtom, alter, with_link, new_atom, functor_of, link_of, arity_of, linked, cleared, joined, made_atom}
+use Rattle.lmn_store_heap.specs.Splice.{joined_to}
+use Rattle.lmn_store_heap.proofs.Listing.{alter_at, alter_away}
 use Rattle.lmn_ground.specs.Marks.{first_place, paint, painted, first_marks}
 use Rattle.lmn_ground.specs.Copies.{unmarked_all}
-use Rattle.lmn_parts.specs.Copies.{made_as, made_like, moved, joined_like, all_joined, ports_of}
+use Rattle.lmn_ground_parts.specs.Copies.{made_as, made_like, moved, joined_like, all_joined, ports_of}
 use Rattle.lmn_ground.proofs.PaintLaws.{net_painted, painted_cleared}
 use Rattle.lmn_ground.proofs.PaintedAt.{paint_functor, painted_none}
-use Rattle.lmn_parts.specs.Walks.{port_range, Net, is_port}
+use Rattle.lmn_ground_parts.specs.Walks.{port_range, Net, is_port}
 use Rattle.lmn_base.specs.Lists.{In}
 
 -- atoms with first marks

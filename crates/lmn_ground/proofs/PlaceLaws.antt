@@ -1,11 +1,11 @@
 -- Copies that wait are placed.
 use Rattle.std.proofs.Common.{◌≡◌, ◌≢◌, ℕ, zero, suc, ◌+◌, ◌<◌, ◌≤◌, List, [], ◌∷◌, ◌++◌, length, map, drop, Option, Some, None, refl, sym, ap, subst, ◌∙◌, arith}
 use Rattle.std.specs.Option.{option_map, option_and_then}
-use Rattle.lmn_heap.specs.Heap.{Heap, HeapMem, Place, within, alter, after, from, home_by, IsMemInPlace, IsTopOrWithin, atoms_by, atoms_in, rules_in, mem_with_place, mem_with_atoms, mem_with_mems, mem_with_rules, placed, placed_mem, rules_copied}
-use Rattle.lmn_heap.proofs.Listing.{alter_away, alter_keeps}
+use Rattle.lmn_store_heap.specs.Heap.{Heap, HeapMem, Place, within, alter, after, from, home_by, IsMemInPlace, IsTopOrWithin, atoms_by, atoms_in, rules_in, mem_with_place, mem_with_atoms, mem_with_mems, mem_with_rules, placed, placed_mem, rules_copied}
+use Rattle.lmn_store_heap.proofs.Listing.{alter_away, alter_keeps}
 use Rattle.lmn_base.proofs.Lists.{drop_get, get_there, head_is}
-use Rattle.lmn_parts.specs.Rests.{atoms_placed}
-use Rattle.lmn_heap.proofs.Common.{after_first as behind_here}
+use Rattle.lmn_ground_parts.specs.Rests.{atoms_placed}
+use Rattle.lmn_store_heap.proofs.Common.{after_first as behind_here}
 
 -- What placing atoms leaves as it is.
 module _ {X : Type 0} (view : Option HeapMem → X) (same : (f : List ℕ → List ℕ) (o : Option HeapMem) → view (option_map (mem_with_atoms f) o) ≡ view o) where

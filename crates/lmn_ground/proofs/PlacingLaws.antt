@@ -2,26 +2,26 @@
 use Rattle.std.proofs.Common.{◌≡◌, ◌≢◌, ◌⊎◌, ℕ, ◌<◌, ◌≤◌, List, [], ◌∷◌, ◌++◌, length, map, true, Option, Some, None, IsSome, refl, sym, ap, subst, ◌∙◌, inl, inr, arith, slice_get}
 use Rattle.std.proofs.lemmas.List.{append_assoc}
 use Rattle.std.specs.Option.{option_map, option_and_then}
-use Rattle.lmn_heap.specs.Heap.{Heap, HeapMem, within, waiting, alter, after, from, home_by, Distinct, IsMem, IsMemInPlace, IsTopOrWithin, mem_place_of, parent_of, atoms_by, atoms_in, mems_by, mems_in, rules_by, rules_in, spare_by, spare_of, mem_with_place, mem_with_atoms, mem_with_mems, mem_with_rules, placed_mem, rules_copied}
-use Rattle.lmn_heap.specs.Sound.{Forms, Sound}
-use Rattle.lmn_heap.proofs.Calls.{stands_some}
-use Rattle.lmn_heap.proofs.Common.{position, after_first as behind_here}
-use Rattle.lmn_heap.proofs.Groves.{forms_frame}
-use Rattle.lmn_heap.proofs.Heights.{mem_of_place, parent_place}
-use Rattle.lmn_heap.proofs.ListLemmas.{distinct_left, each_of, in_left, in_right}
-use Rattle.lmn_heap.proofs.Listing.{alter_at, alter_away, alter_keeps}
-use Rattle.lmn_heap.proofs.Trees.{tail_of}
+use Rattle.lmn_store_heap.specs.Heap.{Heap, HeapMem, within, waiting, alter, after, from, home_by, Distinct, IsMem, IsMemInPlace, IsTopOrWithin, mem_place_of, parent_of, atoms_by, atoms_in, mems_by, mems_in, rules_by, rules_in, spare_by, spare_of, mem_with_place, mem_with_atoms, mem_with_mems, mem_with_rules, placed_mem, rules_copied}
+use Rattle.lmn_store_heap.specs.Sound.{Forms, Sound}
+use Rattle.lmn_store_heap.proofs.Calls.{stands_some}
+use Rattle.lmn_store_heap.proofs.Common.{position, after_first as behind_here}
+use Rattle.lmn_store_heap.proofs.Groves.{forms_frame}
+use Rattle.lmn_store_heap.proofs.Heights.{mem_of_place, parent_place}
+use Rattle.lmn_store_heap.proofs.ListLemmas.{distinct_left, each_of, in_left, in_right}
+use Rattle.lmn_store_heap.proofs.Listing.{alter_at, alter_away, alter_keeps}
+use Rattle.lmn_store_heap.proofs.Trees.{tail_of}
 use Rattle.lmn_base.specs.Lists.{In}
 use Rattle.lmn_base.proofs.Lists.{get_map, head_is, length_mapped, map_append, map_itself, tail_is}
-use Rattle.lmn_parts.specs.Copies.{answer}
-use Rattle.lmn_parts.specs.Rests.{CopyWaits, IsContent, atoms_of_all, atoms_placed, copy_round, keep, membranes_placed, rest_placed}
-use Rattle.lmn_parts.proofs.AnswerLaws.{answer_here, answer_in, answer_on, answer_one, map_answer}
+use Rattle.lmn_ground_parts.specs.Copies.{answer}
+use Rattle.lmn_ground_parts.specs.Rests.{CopyWaits, IsContent, atoms_of_all, atoms_placed, copy_round, keep, membranes_placed, rest_placed}
+use Rattle.lmn_ground_parts.proofs.AnswerLaws.{answer_here, answer_in, answer_on, answer_one, map_answer}
 use Rattle.lmn_ground.specs.Rests.{AreTwins}
 use Rattle.lmn_ground.proofs.RestLaws.{atoms_once, bare_of}
 use Rattle.lmn_ground.proofs.DroppingLaws.{after_inner, after_top, all_once, is_mem, less_behind, round_of}
 use Rattle.lmn_ground.proofs.TwinLaws.{either_here}
 use Rattle.lmn_ground.proofs.PlaceLaws.{atoms_away, atoms_behind, atoms_keep, atoms_line, atoms_mapped, parent_stays, place_stays}
-use Rattle.lmn_parts.proofs.Common.{keep_all}
+use Rattle.lmn_ground_parts.proofs.Common.{keep_all}
 
 -- A membrane k of the line is placed in c, with the rules of y and copies of atoms.
 abbrev pub copy_placed : Heap → ℕ → ℕ → ℕ → List ℕ → Heap

@@ -3,14 +3,14 @@ use Rattle.std.proofs.Common.{◌≡◌, ℕ, zero, suc, ◌+◌, ◌<◌, false
 use Rattle.std.specs.Option.{option_map}
 use Rattle.std.specs.Prelude.{slice_index_or, OnOk, OnErr, Result, Ok, Err}
 use Rattle.std.proofs.lemmas.List.{length-replicate}
-use Rattle.lmn_heap.specs.Heap.{Heap, HeapAtom, Distinct, IsAtom, arity_of, link_of, marks_of, new_atom, partners_of}
-use Rattle.lmn_heap.specs.Sound.{Paired, Sound}
-use Rattle.lmn_heap.proofs.Replacing.{port_within}
+use Rattle.lmn_store_heap.specs.Heap.{Heap, HeapAtom, Distinct, IsAtom, arity_of, link_of, marks_of, new_atom, partners_of}
+use Rattle.lmn_store_heap.specs.Sound.{Paired, Sound}
+use Rattle.lmn_store_heap.proofs.Replacing.{port_within}
 use Rattle.lmn_base.specs.Lists.{In}
-use Rattle.lmn_parts.specs.Walks.{HasPort, Net, is_port, net, port_range}
-use Rattle.lmn_parts.specs.Copies.{AllAtoms, AreNew, all_joined, answer, joined_like, made_like, ports_of}
-use Rattle.lmn_parts.specs.Rests.{NoneLeaves, all_joined_as, joined_as, joined_copies}
-use Rattle.lmn_parts.proofs.AnswerLaws.{answer_in}
+use Rattle.lmn_ground_parts.specs.Walks.{HasPort, Net, is_port, net, port_range}
+use Rattle.lmn_ground_parts.specs.Copies.{AllAtoms, AreNew, all_joined, answer, joined_like, made_like, ports_of}
+use Rattle.lmn_ground_parts.specs.Rests.{NoneLeaves, all_joined_as, joined_as, joined_copies}
+use Rattle.lmn_ground_parts.proofs.AnswerLaws.{answer_in}
 use Rattle.lmn_ground.specs.Copies.{Copying, Made, NumbersAtoms, unmarked_all}
 use Rattle.lmn_ground.specs.Marks.{first_marks, painted}
 use Rattle.lmn_ground.specs.Spread.{Numbered}
@@ -20,8 +20,8 @@ use Rattle.lmn_ground.proofs.JoinLaws.{all_copying, all_marks}
 use Rattle.lmn_ground.proofs.NumberLaws.{numbered_same}
 use Rattle.lmn_ground.proofs.PaintedLaws.{all_painted, ports_painted, unmarked_painted}
 use Rattle.lmn_ground.proofs.PaintLaws.{net_painted}
-use Rattle.lmn_heap.proofs.Common.{has_functor, is_not}
-use Rattle.lmn_parts.proofs.Common.{either_port}
+use Rattle.lmn_store_heap.proofs.Common.{has_functor, is_not}
+use Rattle.lmn_ground_parts.proofs.Common.{either_port}
 
 -- Joining with a root that is no port is joining without one.
 

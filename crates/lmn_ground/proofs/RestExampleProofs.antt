@@ -2,9 +2,9 @@
 use Rattle.std.proofs.Common.{◌≡◌, ℕ, zero, suc, List, [], ◌∷◌, Some, refl, sym, ap, inl, inr, arith}
 use Rattle.lmn_base.proofs.Lists.{head_is}
 use Rattle.std.proofs.Common.{subst}
-use Rattle.lmn_heap.specs.Heap.{link_of}
-use Rattle.lmn_heap.specs.Sound.{bare, mem}
-use Rattle.lmn_parts.specs.Rests.{NoneLeaves}
+use Rattle.lmn_store_heap.specs.Heap.{link_of}
+use Rattle.lmn_store_heap.specs.Sound.{bare, mem}
+use Rattle.lmn_ground_parts.specs.Rests.{NoneLeaves}
 use Rattle.lmn_ground.specs.RestExamples.{RestsStand, nested}
 
 pub rests_stand : RestsStand

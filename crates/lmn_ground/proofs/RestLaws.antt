@@ -3,21 +3,21 @@ use Rattle.std.proofs.Common.{◌≡◌, ◌≢◌, ◌⊎◌, ℕ, ◌<◌, ◌
 use Rattle.std.proofs.lemmas.List.{append_assoc, length-append}
 use Rattle.std.specs.Option.{option_map}
 use Rattle.std.specs.Prelude.{IfSome}
-use Rattle.lmn_heap.specs.Heap.{Heap, within, parent_of, home_of, atoms_in, mems_in, IsMem, Distinct, from, after}
-use Rattle.lmn_heap.specs.Sound.{Forest, bare, mem, flat, Forms, Sound, AtMost}
-use Rattle.lmn_heap.specs.Trees.{forest_of}
-use Rattle.lmn_heap.proofs.Trees.{At, Left, Round, Inside, around, after_at, after_split, find_at, from_next, in_here, next_in, parent_by, mem_by, split_at, tail_of}
-use Rattle.lmn_heap.proofs.ListLemmas.{each_in, in_left, in_right, in_split}
-use Rattle.lmn_heap.proofs.Listing.{home_is}
-use Rattle.lmn_heap.proofs.Depths.{both_distinct, forest_is as forest_found}
-use Rattle.lmn_heap.proofs.Pigeonholes.{not_longer}
+use Rattle.lmn_store_heap.specs.Heap.{Heap, within, parent_of, home_of, atoms_in, mems_in, IsMem, Distinct, from, after}
+use Rattle.lmn_store_heap.specs.Sound.{Forest, bare, mem, flat, Forms, Sound, AtMost}
+use Rattle.lmn_store_heap.specs.Trees.{forest_of}
+use Rattle.lmn_store_heap.proofs.Trees.{At, Left, Round, Inside, around, after_at, after_split, find_at, from_next, in_here, next_in, parent_by, mem_by, split_at, tail_of}
+use Rattle.lmn_store_heap.proofs.ListLemmas.{each_in, in_left, in_right, in_split}
+use Rattle.lmn_store_heap.proofs.Listing.{home_is}
+use Rattle.lmn_store_heap.proofs.Depths.{both_distinct, forest_is as forest_found}
+use Rattle.lmn_store_heap.proofs.Pigeonholes.{not_longer}
 use Rattle.lmn_base.specs.Lists.{In}
 use Rattle.lmn_base.proofs.Lists.{in_either, plus_nothing}
 use Rattle.std.specs.List.{AllByRecursion}
-use Rattle.lmn_parts.specs.Rests.{IsRest, atoms_of_all, keep}
-use Rattle.lmn_parts.specs.Walks.{is_in}
+use Rattle.lmn_ground_parts.specs.Rests.{IsRest, atoms_of_all, keep}
+use Rattle.lmn_ground_parts.specs.Walks.{is_in}
 use Rattle.lmn_ground.specs.Rests.{IsLeft}
-use Rattle.lmn_heap.proofs.Common.{from_here}
+use Rattle.lmn_store_heap.proofs.Common.{from_here}
 
 -- what is kept of a list is in it, and once
 pub keep_in : (p : ℕ → Bool) (xs : List ℕ) (x : ℕ) → In x (keep p xs) → In x xs

@@ -4,7 +4,7 @@ use Rattle.std.proofs.lemmas.Bool.{eq-eqb, eqb-true}
 use Rattle.std.specs.Option.{option_and_then}
 use Rattle.lmn_ground.specs.Marks.{way, back, entry_port, ports_behind, OnWay, Sought}
 pub use Rattle.lmn_ground.specs.Marks.{weight}
-use Rattle.lmn_parts.specs.Walks.{port_range, neighbour, HasPort, Net, ports_from, kept, is_port, Walk, passes}
+use Rattle.lmn_ground_parts.specs.Walks.{port_range, neighbour, HasPort, Net, ports_from, kept, is_port, Walk, passes}
 use Rattle.lmn_base.proofs.Numbers.{not_equal as apart_test}
 use Rattle.lmn_base.specs.Lists.{In}
 

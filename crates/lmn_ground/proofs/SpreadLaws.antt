@@ -5,24 +5,24 @@ use Rattle.std.proofs.lemmas.List.{get_or-set_other}
 use Rattle.std.specs.Option.{option_and_then}
 use Rattle.std.specs.Prelude.{slice_index_or}
 use Rattle.lmn_base.specs.Graphs.{Reached, at_root, across}
-use Rattle.lmn_heap.specs.Heap.{Heap, HeapAtom, alter, IsAtom, marked, arity_of, link_of, marks_of, mark_of, own_mark, PortsUnmarked}
-use Rattle.lmn_heap.specs.Sound.{Sound, AtMost}
-use Rattle.lmn_heap.specs.Graphs.{atom_map}
-use Rattle.lmn_heap.proofs.ListLemmas.{in_left}
-use Rattle.lmn_heap.proofs.Listing.{alter_away, distinct_snoc}
-use Rattle.lmn_heap.proofs.Pigeonholes.{not_longer}
+use Rattle.lmn_store_heap.specs.Heap.{Heap, HeapAtom, alter, IsAtom, marked, arity_of, link_of, marks_of, mark_of, own_mark, PortsUnmarked}
+use Rattle.lmn_store_heap.specs.Sound.{Sound, AtMost}
+use Rattle.lmn_store_heap.specs.Graphs.{atom_map}
+use Rattle.lmn_store_heap.proofs.ListLemmas.{in_left}
+use Rattle.lmn_store_heap.proofs.Listing.{alter_away, distinct_snoc}
+use Rattle.lmn_store_heap.proofs.Pigeonholes.{not_longer}
 use Rattle.lmn_ground.specs.Marks.{first_place, paint, painted, first_marks, entry_port, or_zero, back, way, ports_behind, ports_ahead, OnWay, Sought}
 use Rattle.lmn_ground.specs.Spread.{Numbered, CleanPart, AtomFits, IsWhole, Spread, Spreading}
-use Rattle.lmn_parts.proofs.WalkLaws.{holds_left, holds_right, holds_port, in_last, all_seen, closed, start_covers, kept_seen}
+use Rattle.lmn_ground_parts.proofs.WalkLaws.{holds_left, holds_right, holds_port, in_last, all_seen, closed, start_covers, kept_seen}
 use Rattle.lmn_ground.proofs.SoughtLaws.{top_in, port_left, no_port_left}
 use Rattle.lmn_ground.proofs.PaintLaws.{net_painted, painted_marked, way_same, behind_same, on_way_same, in_is, mark_here, mark_away, net_marked, with_port, is_painted}
 use Rattle.lmn_ground.proofs.PaintedAt.{paint_home, painted_none}
-use Rattle.lmn_parts.specs.Walks.{port_range, neighbour, IsPartInDepth, HasPort, Net, net, ports_from, kept, is_port, is_in, Walk, ends, finds}
-use Rattle.lmn_heap.proofs.Common.{decide_in as in_or_not}
-use Rattle.lmn_heap.proofs.Replacing.{port_within as link_inside}
+use Rattle.lmn_ground_parts.specs.Walks.{port_range, neighbour, IsPartInDepth, HasPort, Net, net, ports_from, kept, is_port, is_in, Walk, ends, finds}
+use Rattle.lmn_store_heap.proofs.Common.{decide_in as in_or_not}
+use Rattle.lmn_store_heap.proofs.Replacing.{port_within as link_inside}
 use Rattle.lmn_base.specs.Lists.{In}
 use Rattle.lmn_base.proofs.Lists.{in_snoc}
-use Rattle.lmn_parts.proofs.AnswerLaws.{is_in_true}
+use Rattle.lmn_ground_parts.proofs.AnswerLaws.{is_in_true}
 
 -- a neighbour is one of those inside
 pub next_in : (n : Net) (root : ℕ × ℕ) (seen : List ℕ) (p : ℕ × ℕ) (b : ℕ) → neighbour n root (is_in seen) p ≡ Some b → In b seen

@@ -3,18 +3,18 @@ use Rattle.std.proofs.Common.{false, ◌≡◌, ◌≢◌, ℕ, zero, suc, ◌+�
 use Rattle.std.proofs.lemmas.Bool.{cases_eq}
 use Rattle.std.specs.Option.{option_map, option_and_then}
 use Rattle.std.specs.Prelude.{slice_index_or}
-use Rattle.lmn_heap.specs.Graphs.{atom_map}
+use Rattle.lmn_store_heap.specs.Graphs.{atom_map}
 use Rattle.lmn_ground.proofs.WipeLaws.{b_reached}
-use Rattle.lmn_heap.specs.Heap.{link_of, Heap, HeapAtom, Distinct, IsAtom, IsInPlace, alter, gone, home_by, with_place, with_mark, partners_of, marks_of, marked, taken, atom_out, arity_of, home_of, taken_all}
-use Rattle.lmn_heap.proofs.Listing.{alter_at, alter_away}
+use Rattle.lmn_store_heap.specs.Heap.{link_of, Heap, HeapAtom, Distinct, IsAtom, IsInPlace, alter, gone, home_by, with_place, with_mark, partners_of, marks_of, marked, taken, atom_out, arity_of, home_of, taken_all}
+use Rattle.lmn_store_heap.proofs.Listing.{alter_at, alter_away}
 use Rattle.lmn_ground.specs.Marks.{back, first_place, paint, painted, first_marks, way, ports_ahead, OnWay}
 use Rattle.lmn_ground.specs.Spread.{Spread, Wiping}
-use Rattle.lmn_parts.proofs.WalkLaws.{determined, kept_seen}
+use Rattle.lmn_ground_parts.proofs.WalkLaws.{determined, kept_seen}
 use Rattle.lmn_ground.proofs.SoughtLaws.{no_port_left, weight}
 use Rattle.lmn_ground.proofs.PaintLaws.{net_painted, with_port}
 use Rattle.lmn_ground.proofs.PaintedAt.{paint_home}
-use Rattle.lmn_parts.specs.Walks.{neighbour, is_port, Net, net, is_in, Walk, ends}
-use Rattle.lmn_heap.proofs.Common.{decide_in as in_or_not}
+use Rattle.lmn_ground_parts.specs.Walks.{neighbour, is_port, Net, net, is_in, Walk, ends}
+use Rattle.lmn_store_heap.proofs.Common.{decide_in as in_or_not}
 use Rattle.lmn_base.specs.Lists.{In}
 use Rattle.lmn_ground.proofs.OwnLaws.{reached_same}
 

@@ -1,18 +1,18 @@
 -- A walk through what stands in a membrane, with copies beside it.
 use Rattle.std.proofs.Common.{◌≡◌, ◌≢◌, ◌⊎◌, ℕ, ◌<◌, ◌-◌, ◌^◌, List, [], ◌∷◌, length, true, Option, Some, None, refl, sym, ap, subst, ◌∙◌, inl, inr, arith}
 use Rattle.std.proofs.lemmas.Bool.{cases_eq}
-use Rattle.lmn_heap.specs.Heap.{Heap, after, from, parent_of, mems_in}
-use Rattle.lmn_heap.specs.Sound.{AtMost, Sound}
-use Rattle.lmn_heap.proofs.Heights.{parent_place}
-use Rattle.lmn_heap.proofs.ListLemmas.{in_right}
-use Rattle.lmn_heap.proofs.Trees.{Left, tail_of}
+use Rattle.lmn_store_heap.specs.Heap.{Heap, after, from, parent_of, mems_in}
+use Rattle.lmn_store_heap.specs.Sound.{AtMost, Sound}
+use Rattle.lmn_store_heap.proofs.Heights.{parent_place}
+use Rattle.lmn_store_heap.proofs.ListLemmas.{in_right}
+use Rattle.lmn_store_heap.proofs.Trees.{Left, tail_of}
 use Rattle.lmn_base.specs.Lists.{In}
-use Rattle.lmn_parts.specs.Rests.{IsContent, keep}
+use Rattle.lmn_ground_parts.specs.Rests.{IsContent, keep}
 use Rattle.lmn_ground.specs.Rests.{AreTwins}
 use Rattle.lmn_ground.proofs.RestLaws.{bare_of, begins, climbs, enters, first_of_rest, found, found_top}
 use Rattle.lmn_ground.proofs.DroppingLaws.{after_inner, after_top, all_once, behind_few, child_behind, child_in, found_is, less_behind, round_of}
-use Rattle.lmn_heap.proofs.Common.{from_here}
-use Rattle.lmn_parts.proofs.Common.{keep_all}
+use Rattle.lmn_store_heap.proofs.Common.{from_here}
+use Rattle.lmn_ground_parts.proofs.Common.{keep_all}
 
 -- a membrane has one content
 pub content_one : (s : Heap) → Sound s → AtMost (2 ^ 48) s → (m : ℕ) (xs ms ys ns : List ℕ) → IsContent s m xs ms → IsContent s m ys ns → ms ≡ ns

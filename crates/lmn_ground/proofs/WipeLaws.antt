@@ -2,24 +2,24 @@
 use Rattle.std.proofs.Common.{◌≡◌, ◌≢◌, ℕ, zero, suc, ◌+◌, ◌-◌, ◌*◌, ◌<◌, ◌≤◌, Bool, true, false, List, [], ◌∷◌, ◌++◌, length, Option, Some, None, refl, sym, ap, subst, ◌∙◌, inl, inr, arith, length-append, add-one}
 use Rattle.std.proofs.lemmas.Bool.{cases_eq}
 use Rattle.lmn_base.specs.Graphs.{Reached, across}
-use Rattle.lmn_heap.specs.Graphs.{atom_map}
-use Rattle.lmn_heap.specs.Heap.{Heap, Distinct, alter, marked, arity_of, link_of}
-use Rattle.lmn_heap.specs.Sound.{Sound}
-use Rattle.lmn_heap.proofs.ListLemmas.{in_left, each_in, each_of}
-use Rattle.lmn_heap.proofs.Listing.{alter_at}
+use Rattle.lmn_store_heap.specs.Graphs.{atom_map}
+use Rattle.lmn_store_heap.specs.Heap.{Heap, Distinct, alter, marked, arity_of, link_of}
+use Rattle.lmn_store_heap.specs.Sound.{Sound}
+use Rattle.lmn_store_heap.proofs.ListLemmas.{in_left, each_in, each_of}
+use Rattle.lmn_store_heap.proofs.Listing.{alter_at}
 use Rattle.lmn_ground.specs.Marks.{first_place, first_marks, entry_port, or_zero, back, way, ports_behind, ports_ahead, OnWay}
 use Rattle.lmn_ground.specs.Spread.{Spread, Wiping}
-use Rattle.lmn_parts.proofs.WalkLaws.{in_last, determined, kept_seen, longer, past, found}
+use Rattle.lmn_ground_parts.proofs.WalkLaws.{in_last, determined, kept_seen, longer, past, found}
 use Rattle.lmn_ground.proofs.SoughtLaws.{top_in, port_left, no_port_left, next_root, next_none, next_link, weight, weight_back, weight_past, length-ports}
 use Rattle.lmn_ground.proofs.PaintLaws.{net_painted, painted_marked, painted_cleared, way_same, behind_same, on_way_same, mark_here, mark_away, net_marked}
 use Rattle.lmn_ground.proofs.PaintedAt.{painted_none}
 use Rattle.lmn_ground.proofs.SpreadLaws.{not_root, next_in, next_to, marks_there, alter_zero, way_enter, ahead_enter, ahead_here, on_way_enter, behind_enter}
-use Rattle.lmn_parts.specs.Walks.{port_range, neighbour, Net, net, ports_from, is_port, is_in, Walk, ends}
+use Rattle.lmn_ground_parts.specs.Walks.{port_range, neighbour, Net, net, ports_from, is_port, is_in, Walk, ends}
 use Rattle.lmn_ground.proofs.FollowLaws.{to_none}
-use Rattle.lmn_heap.proofs.Common.{decide_in as in_or_not}
+use Rattle.lmn_store_heap.proofs.Common.{decide_in as in_or_not}
 use Rattle.lmn_base.specs.Lists.{In}
 use Rattle.lmn_base.proofs.Lists.{in_snoc}
-use Rattle.lmn_parts.proofs.AnswerLaws.{is_in_true}
+use Rattle.lmn_ground_parts.proofs.AnswerLaws.{is_in_true}
 
 -- a mark that is wiped still tells the port of entry
 pub entry_wiped : (j : ℕ) → j < 256 → entry_port (256 + j) ≡ j

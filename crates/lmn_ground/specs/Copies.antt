@@ -1,12 +1,12 @@
 -- Copies of parts.
 use Rattle.std.specs.Prelude.{ℕ, ◌≡◌, ◌⊎◌, ◌≤◌, List, [], ◌∷◌, Some, None, IsSome, length, ◌≢◌}
 use Rattle.std.specs.Option.{option_map}
-use Rattle.lmn_heap.specs.Heap.{Heap, Distinct, arity_of, link_of, marked}
-use Rattle.lmn_heap.specs.Sound.{Paired}
-use Rattle.lmn_parts.specs.Copies.{made_like, moved, AreNew, AllAtoms, Beside, answer}
+use Rattle.lmn_store_heap.specs.Heap.{Heap, Distinct, arity_of, link_of, marked}
+use Rattle.lmn_store_heap.specs.Sound.{Paired}
+use Rattle.lmn_ground_parts.specs.Copies.{made_like, moved, AreNew, AllAtoms, Beside, answer}
 use Rattle.lmn_ground.specs.Marks.{painted, first_marks}
 use Rattle.lmn_ground.specs.Spread.{Numbered}
-use Rattle.lmn_parts.specs.Walks.{IsPartInDepth}
+use Rattle.lmn_ground_parts.specs.Walks.{IsPartInDepth}
 use Rattle.lmn_base.specs.Lists.{In}
 
 -- Some atoms were made as copies of these, and not joined.

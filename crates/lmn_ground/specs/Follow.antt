@@ -1,12 +1,12 @@
 -- Two parts that are walked in step: the first walk gives numbers to the atoms of y's part; the second goes through x's part and
 -- compares.
 use Rattle.std.specs.Prelude.{ℕ, ◌≡◌, ◌⊎◌, ◌<◌, true, List, Some, None, length}
-use Rattle.lmn_heap.specs.Heap.{Heap, arity_of, link_of, functor_of}
-use Rattle.lmn_heap.specs.Sound.{Sound}
-use Rattle.lmn_parts.specs.Copies.{answer}
+use Rattle.lmn_store_heap.specs.Heap.{Heap, arity_of, link_of, functor_of}
+use Rattle.lmn_store_heap.specs.Sound.{Sound}
+use Rattle.lmn_ground_parts.specs.Copies.{answer}
 use Rattle.lmn_ground.specs.Marks.{first_marks, ports_ahead}
 use Rattle.lmn_ground.specs.Spread.{IsWhole, Numbered, Spreading}
-use Rattle.lmn_parts.specs.Walks.{neighbour, IsPartInDepth, HasPort, net, Walk}
+use Rattle.lmn_ground_parts.specs.Walks.{neighbour, IsPartInDepth, HasPort, net, Walk}
 use Rattle.lmn_base.specs.Lists.{In}
 
 -- a port and its answer lead to a port and its answer

@@ -1,8 +1,8 @@
 -- Walks that are kept in the first marks of atoms.
 use Rattle.std.specs.Prelude.{ℕ, zero, suc, ◌≡◌, ◌≢◌, ◌⊎◌, ◌<◌, ◌≤◌, ◌+◌, ◌-◌, ◌%◌, Bool, false, List, [], ◌∷◌, ◌++◌, Option, Some, None, IsSome, length}
 use Rattle.std.specs.Option.{option_map}
-use Rattle.lmn_heap.specs.Heap.{Heap, HeapAtom, with_mark, mark_of, Distinct}
-use Rattle.lmn_parts.specs.Walks.{neighbour, HasPort, Net, ports_from, is_port, Walk}
+use Rattle.lmn_store_heap.specs.Heap.{Heap, HeapAtom, with_mark, mark_of, Distinct}
+use Rattle.lmn_ground_parts.specs.Walks.{neighbour, HasPort, Net, ports_from, is_port, Walk}
 use Rattle.lmn_base.specs.Lists.{In}
 
 -- the atom with another mark at a place; 0 stands for the one that it has

@@ -2,8 +2,8 @@
 use Rattle.std.specs.Prelude.{[], ◌∷◌}
 use Rattle.lmn_base.specs.declared.functor.Functor.{Functor}
 use Rattle.lmn_base.specs.declared.functor.Label.TheVariants.{Name}
-use Rattle.lmn_heap.specs.Heap.{Heap, lone_root, made_atom, made_mem, placed, placed_mem, joined}
-use Rattle.lmn_parts.specs.Rests.{IsContent, NoneLeaves}
+use Rattle.lmn_store_heap.specs.Heap.{Heap, lone_root, made_atom, made_mem, placed, placed_mem, joined}
+use Rattle.lmn_ground_parts.specs.Rests.{IsContent, NoneLeaves}
 
 -- a functor of arity 1
 abbrev pub unary : Functor

@@ -1,9 +1,9 @@
 -- Rests that are told by marks, and walks over them.
 use Rattle.std.specs.Prelude.{zero, suc, ℕ, ◌≡◌, ◌==◌, not, List, [], ◌∷◌, Some}
 use Rattle.lmn_base.specs.Lists.{In}
-use Rattle.lmn_heap.specs.Heap.{Heap, IsMem, own_mark, marked, arity_of, parent_of}
-use Rattle.lmn_parts.specs.Rests.{IsRest}
-use Rattle.lmn_parts.specs.Walks.{is_in}
+use Rattle.lmn_store_heap.specs.Heap.{Heap, IsMem, own_mark, marked, arity_of, parent_of}
+use Rattle.lmn_ground_parts.specs.Rests.{IsRest}
+use Rattle.lmn_ground_parts.specs.Walks.{is_in}
 
 -- the numbers name membranes
 abbrev pub AreMembranes : Heap → List ℕ → Type 0

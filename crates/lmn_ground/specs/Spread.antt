@@ -1,10 +1,10 @@
 -- What a walk by marks has found, and what it has done to the heap.
 use Rattle.std.specs.Prelude.{suc, ◌/◌, ℕ, ◌≡◌, ◌≢◌, ◌⊎◌, ◌↔◌, ◌<◌, ◌≤◌, ◌+◌, Bool, true, List, [], ◌∷◌, Option, Some, None, IsSome, length}
 use Rattle.lmn_base.specs.Graphs.{Reached, StandsWhole}
-use Rattle.lmn_heap.specs.Heap.{Heap, Distinct, arity_of, link_of, home_of, own_mark}
-use Rattle.lmn_heap.specs.Graphs.{atom_map}
+use Rattle.lmn_store_heap.specs.Heap.{Heap, Distinct, arity_of, link_of, home_of, own_mark}
+use Rattle.lmn_store_heap.specs.Graphs.{atom_map}
 use Rattle.lmn_ground.specs.Marks.{painted, first_marks, way, ports_ahead, OnWay}
-use Rattle.lmn_parts.specs.Walks.{neighbour, IsPartInDepth, HasPort, net, Walk, FoundInside, is_in}
+use Rattle.lmn_ground_parts.specs.Walks.{neighbour, IsPartInDepth, HasPort, net, Walk, FoundInside, is_in}
 use Rattle.lmn_base.specs.Lists.{In}
 
 -- the first mark of each atom of the part is 0

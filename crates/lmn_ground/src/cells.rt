@@ -2,10 +2,10 @@
 ghost use Rattle.std.specs.Prelude.{◌≡◌, ◌≢◌, ◌<◌, ◌≤◌, ℕ, List, [], ◌∷◌, ◌++◌, Some, OnOk, OnErr, IfOk, IfSome, length, map};
 ghost use Rattle.std.specs.Option.{option_map};
 ghost use Rattle.lmn_base.specs.Lists.{In};
-ghost use Rattle.lmn_heap.specs.Conditions.{Alone};
-ghost use Rattle.lmn_heap.specs.Heap.{IsMem, IsMemInPlace, Distinct, PortsUnmarked, after, atoms_in, from, gone, marks_of, mem_place_of, mems_in, own_mark, parent_of, placed_mem, rules_copied, rules_in, spare_of, taken_all};
-ghost use Rattle.lmn_parts.specs.Copies.{AllAtoms, AreNew, made_like};
-ghost use Rattle.lmn_parts.specs.Rests.{AreNewMembranes, AreRoomsFor, CopyWaits, IsContent, NoneLeaves, RestCopied, RestRemains, atoms_placed, joined_copies, made_roomy, rest_placed, rest_taken};
+ghost use Rattle.lmn_store_heap.specs.Conditions.{Alone};
+ghost use Rattle.lmn_store_heap.specs.Heap.{IsMem, IsMemInPlace, Distinct, PortsUnmarked, after, atoms_in, from, gone, marks_of, mem_place_of, mems_in, own_mark, parent_of, placed_mem, rules_copied, rules_in, spare_of, taken_all};
+ghost use Rattle.lmn_ground_parts.specs.Copies.{AllAtoms, AreNew, made_like};
+ghost use Rattle.lmn_ground_parts.specs.Rests.{AreNewMembranes, AreRoomsFor, CopyWaits, IsContent, NoneLeaves, RestCopied, RestRemains, atoms_placed, joined_copies, made_roomy, rest_placed, rest_taken};
 ghost use Rattle.lmn_ground.specs.Copies.{Made, NumbersAtoms};
 ghost use Rattle.lmn_ground.specs.Marks.{first_marks};
 ghost use Rattle.lmn_ground.specs.Rests.{AreMembranes, AreTwins, IsLeft};
@@ -17,7 +17,7 @@ use crate::gather::clear;
 use crate::rest::{first_membrane, first_rest, next_membrane, next_rest};
 use crate::seek::arity;
 use lmn_base::NoMemory;
-use lmn_store::LinkStore;
+use lmn_store_trait::LinkStore;
 use std::alloc::Global;
 
 /// Lists the membranes of a rest.

@@ -1,14 +1,14 @@
 //! Whether a link leaves a rest.
 ghost use Rattle.std.specs.Prelude.{◌≡◌, ◌≢◌, ◌<◌, ◌↔◌, ℕ, List, Some, IsTrue, map};
 ghost use Rattle.lmn_base.specs.Lists.{In};
-ghost use Rattle.lmn_heap.specs.Heap.{IsAtom, IsMem, PortsUnmarked, arity_of, link_of};
-ghost use Rattle.lmn_parts.specs.Rests.{NoneLeaves};
+ghost use Rattle.lmn_store_heap.specs.Heap.{IsAtom, IsMem, PortsUnmarked, arity_of, link_of};
+ghost use Rattle.lmn_ground_parts.specs.Rests.{NoneLeaves};
 ghost use Rattle.lmn_ground.specs.Marks.{first_marks};
 ghost use Rattle.lmn_ground.specs.Rests.{AreMembranes, IsLeft, port_marked, ports_marked};
 
 use crate::rest::{first_rest, next_rest};
 use crate::seek::arity;
-use lmn_store::LinkStore;
+use lmn_store_trait::LinkStore;
 
 /// Sets the first mark of an atom that has a port.
 fn mark_port<S: LinkStore>(store: &mut S, a: S::Atom, v: u64)

@@ -1,8 +1,8 @@
 //! Two parts are compared, walked in step.
 ghost use Rattle.std.specs.Prelude.{◌≡◌, ◌<◌, ◌/◌, ◌↔◌, ℕ, List, Some, None, false, IsTrue, IfSome};
 ghost use Rattle.lmn_base.specs.Graphs.{SameGraph};
-ghost use Rattle.lmn_heap.specs.Graphs.{atom_map};
-ghost use Rattle.lmn_heap.specs.Heap.{IsAtom, arity_of, functor_of, link_of};
+ghost use Rattle.lmn_store_heap.specs.Graphs.{atom_map};
+ghost use Rattle.lmn_store_heap.specs.Heap.{IsAtom, arity_of, functor_of, link_of};
 ghost use Rattle.lmn_ground.specs.Marks.{first_marks};
 ghost use Rattle.lmn_ground.specs.Spread.{CleanPart, Numbered, Spread};
 ghost use Rattle.lmn_ground.specs.Follow.{Two};
@@ -10,7 +10,7 @@ ghost use Rattle.lmn_ground.specs.Follow.{Two};
 use crate::seek::{Stand, arity, is_root};
 use crate::spread::mark_entry;
 use lmn_base::Functor;
-use lmn_store::LinkStore;
+use lmn_store_trait::LinkStore;
 
 /// Whether two functors are one.
 fn same_functor(f: Functor, g: Functor) -> bool

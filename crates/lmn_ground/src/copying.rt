@@ -1,12 +1,12 @@
 //! A part is copied.
 ghost use Rattle.std.specs.Prelude.{◌≡◌, ◌<◌, ℕ, List, [], None, IfOk, OnErr, OnOk, length, map};
-ghost use Rattle.lmn_heap.specs.Conditions.{Alone};
-ghost use Rattle.lmn_heap.specs.Heap.{IsAtom, arity_of, PortsUnmarked};
+ghost use Rattle.lmn_store_heap.specs.Conditions.{Alone};
+ghost use Rattle.lmn_store_heap.specs.Heap.{IsAtom, arity_of, PortsUnmarked};
 ghost use Rattle.lmn_ground.specs.Marks.{first_marks};
 ghost use Rattle.lmn_ground.specs.Spread.{AreAtoms, CleanPart, IsWhole, Numbered};
 ghost use Rattle.lmn_ground.specs.Copies.{Copying, Made, Remains, unmarked_all};
-ghost use Rattle.lmn_parts.specs.Copies.{AllAtoms, Copied, LeadsOut, all_joined, joined_like, ports_of, answer};
-ghost use Rattle.lmn_parts.specs.Walks.{port_range};
+ghost use Rattle.lmn_ground_parts.specs.Copies.{AllAtoms, Copied, LeadsOut, all_joined, joined_like, ports_of, answer};
+ghost use Rattle.lmn_ground_parts.specs.Walks.{port_range};
 ghost use Rattle.lmn_base.specs.Lists.{In};
 
 use crate::equality::is_same_port;
@@ -14,7 +14,7 @@ use crate::found::Found;
 use crate::gather::{clear, gather};
 use crate::seek::arity;
 use lmn_base::NoMemory;
-use lmn_store::LinkStore;
+use lmn_store_trait::LinkStore;
 use std::alloc::Global;
 
 /// Makes an atom for each of the part, with its functor.

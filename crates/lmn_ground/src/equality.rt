@@ -1,19 +1,19 @@
 //! Two parts are equal as rooted graphs.
 ghost use Rattle.std.specs.Prelude.{◌≡◌, ◌⊎◌, ◌<◌, ◌↔◌, ℕ, List, None, IsTrue, length};
 ghost use Rattle.lmn_base.specs.Graphs.{Reached, SameGraph};
-ghost use Rattle.lmn_heap.specs.Graphs.{atom_map};
-ghost use Rattle.lmn_heap.specs.Heap.{IsAtom, arity_of, functor_of, PortsUnmarked};
+ghost use Rattle.lmn_store_heap.specs.Graphs.{atom_map};
+ghost use Rattle.lmn_store_heap.specs.Heap.{IsAtom, arity_of, functor_of, PortsUnmarked};
 ghost use Rattle.lmn_ground.specs.Marks.{first_marks};
 ghost use Rattle.lmn_ground.specs.Spread.{CleanPart, IsWhole, Numbered};
 ghost use Rattle.lmn_ground.specs.Follow.{Two};
-ghost use Rattle.lmn_parts.specs.Walks.{IsPartInDepth};
+ghost use Rattle.lmn_ground_parts.specs.Walks.{IsPartInDepth};
 
 use crate::compare::{are_alike, compare};
 use crate::parts::size_of;
 use crate::seek::arity;
 use crate::spread::spread;
 use crate::wipe::wipe;
-use lmn_store::LinkStore;
+use lmn_store_trait::LinkStore;
 
 /// Whether two ports are one.
 pub fn is_same_port<S: LinkStore>(store: &S, x: (S::Atom, u8), y: (S::Atom, u8)) -> bool

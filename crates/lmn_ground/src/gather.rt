@@ -1,15 +1,15 @@
 //! The walk that lists the atoms of a part.
 ghost use Rattle.std.specs.Prelude.{◌≡◌, ◌<◌, [], map, None, OnOk};
-ghost use Rattle.lmn_heap.specs.Heap.{IsAtom, arity_of};
+ghost use Rattle.lmn_store_heap.specs.Heap.{IsAtom, arity_of};
 ghost use Rattle.lmn_ground.specs.Spread.{CleanPart, IsWhole};
 ghost use Rattle.lmn_ground.specs.Copies.{NumbersAtoms, Gathered, unmarked_all};
-ghost use Rattle.lmn_parts.specs.Copies.{AllAtoms};
+ghost use Rattle.lmn_ground_parts.specs.Copies.{AllAtoms};
 
 use crate::found::Found;
 use crate::seek::{Stand, arity, go_down, seek};
 use crate::spread::mark_entry;
 use lmn_base::NoMemory;
-use lmn_store::LinkStore;
+use lmn_store_trait::LinkStore;
 
 /// Lists the atoms of a part as a walk finds them, and marks each with its number.
 pub fn gather<S: LinkStore>(

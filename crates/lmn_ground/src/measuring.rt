@@ -1,10 +1,10 @@
 //! How many items a rest has.
 ghost use Rattle.std.specs.Prelude.{◌≡◌, ◌+◌, ℕ, List, length, map, sum};
-ghost use Rattle.lmn_heap.specs.Heap.{IsMem, rules_in};
+ghost use Rattle.lmn_store_heap.specs.Heap.{IsMem, rules_in};
 ghost use Rattle.lmn_ground.specs.Rests.{AreMembranes, IsLeft};
 
 use crate::rest::{first_membrane, first_rest, next_membrane, next_rest};
-use lmn_store::LinkStore;
+use lmn_store_trait::LinkStore;
 
 /// How many atoms a rest has.
 fn atoms_left<S: LinkStore>(store: &S, mem: S::Mem, out: &[S::Mem]) -> u64

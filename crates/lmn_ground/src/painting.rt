@@ -1,14 +1,14 @@
 //! The own marks of a part.
 ghost use Rattle.std.specs.Prelude.{◌≡◌, ◌<◌, ℕ, Bool, List, None};
-ghost use Rattle.lmn_heap.specs.Heap.{Heap, IsAtom, PortsUnmarked, arity_of, marked};
+ghost use Rattle.lmn_store_heap.specs.Heap.{Heap, IsAtom, PortsUnmarked, arity_of, marked};
 ghost use Rattle.lmn_ground.specs.Rests.{own_marked};
 ghost use Rattle.lmn_ground.specs.Spread.{IsWhole, Spread};
-ghost use Rattle.lmn_parts.specs.Walks.{IsPartInDepth};
+ghost use Rattle.lmn_ground_parts.specs.Walks.{IsPartInDepth};
 
 use crate::seek::{Stand, arity};
 use crate::spread::spread;
 use crate::wipe::{enter, leave, marked_end};
-use lmn_store::LinkStore;
+use lmn_store_trait::LinkStore;
 
 /// Sets the own mark of an atom.
 pub fn set_own<S: LinkStore>(store: &mut S, a: S::Atom, v: u64)

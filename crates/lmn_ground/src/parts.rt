@@ -1,16 +1,16 @@
 //! What can be asked of a part.
 ghost use Rattle.std.specs.Prelude.{◌≡◌, ◌<◌, ◌↔◌, ℕ, List, None, IsTrue, length};
 ghost use Rattle.lmn_base.specs.Graphs.{Reached};
-ghost use Rattle.lmn_heap.specs.Graphs.{atom_map};
-ghost use Rattle.lmn_heap.specs.Heap.{IsAtom, IsInPlace, IsMem, arity_of, PortsUnmarked, taken_all};
+ghost use Rattle.lmn_store_heap.specs.Graphs.{atom_map};
+ghost use Rattle.lmn_store_heap.specs.Heap.{IsAtom, IsInPlace, IsMem, arity_of, PortsUnmarked, taken_all};
 ghost use Rattle.lmn_ground.specs.Spread.{AreAtoms, IsWhole, IsGroundIn};
-ghost use Rattle.lmn_parts.specs.Walks.{IsPartInDepth};
+ghost use Rattle.lmn_ground_parts.specs.Walks.{IsPartInDepth};
 
 use crate::seek::arity;
 use crate::spread::{fits, spread};
 use crate::take::take_marked;
 use crate::wipe::wipe;
-use lmn_store::LinkStore;
+use lmn_store_trait::LinkStore;
 
 /// Whether the part with this root stands whole in the membrane, and none of its atoms has the own mark 1.
 pub fn is_ground<S: LinkStore>(store: &mut S, root: (S::Atom, u8), mem: S::Mem) -> bool

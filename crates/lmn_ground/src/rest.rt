@@ -3,13 +3,13 @@
 ghost use Rattle.std.specs.Prelude.{◌≡◌, ◌==◌, not, ℕ, List, [], map, Some, IfSome};
 ghost use Rattle.std.specs.Option.{option_map};
 ghost use Rattle.lmn_base.specs.Lists.{In};
-ghost use Rattle.lmn_heap.specs.Heap.{IsAtom, IsMem, IsInPlace, home_of, parent_of, atoms_in, mems_in, from, after, own_mark};
-ghost use Rattle.lmn_parts.specs.Walks.{is_in};
-ghost use Rattle.lmn_parts.specs.Rests.{atoms_of_all, keep};
+ghost use Rattle.lmn_store_heap.specs.Heap.{IsAtom, IsMem, IsInPlace, home_of, parent_of, atoms_in, mems_in, from, after, own_mark};
+ghost use Rattle.lmn_ground_parts.specs.Walks.{is_in};
+ghost use Rattle.lmn_ground_parts.specs.Rests.{atoms_of_all, keep};
 ghost use Rattle.lmn_ground.specs.Rests.{AreMembranes, IsLeft};
 
 use crate::seek::arity;
-use lmn_store::LinkStore;
+use lmn_store_trait::LinkStore;
 
 /// Whether a membrane is among these.
 fn is_among<S: LinkStore>(store: &S, m: S::Mem, out: &[S::Mem]) -> bool

@@ -1,11 +1,11 @@
 //! A walk goes on to the next port that has to be looked at.
 ghost use Rattle.std.specs.Prelude.{◌≡◌, ◌≢◌, ◌<◌, ◌≤◌, ◌+◌, ◌↔◌, ◌^◌, IsTrue};
-ghost use Rattle.lmn_heap.specs.Heap.{IsAtom, arity_of};
-ghost use Rattle.lmn_heap.specs.Sound.{Sound, AtMost};
-ghost use Rattle.lmn_parts.specs.Walks.{net};
+ghost use Rattle.lmn_store_heap.specs.Heap.{IsAtom, arity_of};
+ghost use Rattle.lmn_store_heap.specs.Sound.{Sound, AtMost};
+ghost use Rattle.lmn_ground_parts.specs.Walks.{net};
 ghost use Rattle.lmn_ground.specs.Marks.{first_marks, back, OnWay, Sought, Halts};
 
-use lmn_store::LinkStore;
+use lmn_store_trait::LinkStore;
 
 /// Where a walk stands: at a port of an atom, so many atoms away from the root.
 #[derive(Clone, Copy, Drop)]

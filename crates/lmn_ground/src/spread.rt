@@ -1,11 +1,11 @@
 //! The walk that marks the atoms of a part.
 ghost use Rattle.std.specs.Prelude.{◌≡◌, ◌≢◌, ◌<◌, ◌≤◌, ◌+◌, ◌*◌, ◌^◌, ◌↔◌, IsTrue, IfSome, Some};
 ghost use Rattle.std.specs.Option.{option_map};
-ghost use Rattle.lmn_heap.specs.Heap.{IsAtom, IsMem, arity_of, home_of, marked, own_mark};
+ghost use Rattle.lmn_store_heap.specs.Heap.{IsAtom, IsMem, arity_of, home_of, marked, own_mark};
 ghost use Rattle.lmn_ground.specs.Spread.{AtomFits, CleanPart, IsWhole, Spread};
 
 use crate::seek::{Stand, arity, go_down, seek};
-use lmn_store::LinkStore;
+use lmn_store_trait::LinkStore;
 
 /// Whether the own mark of an atom isn't 1.
 fn is_unmatched<S: LinkStore>(store: &S, a: S::Atom) -> bool

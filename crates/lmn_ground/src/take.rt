@@ -1,12 +1,12 @@
 //! The walk that takes the marks back and the atoms out.
 ghost use Rattle.std.specs.Prelude.{◌≡◌, ◌<◌, ℕ, Bool};
-ghost use Rattle.lmn_heap.specs.Heap.{Heap, IsAtom, IsInPlace, arity_of, taken_all};
+ghost use Rattle.lmn_store_heap.specs.Heap.{Heap, IsAtom, IsInPlace, arity_of, taken_all};
 ghost use Rattle.lmn_ground.specs.Spread.{Spread};
 ghost use Rattle.lmn_base.specs.Lists.{In};
 
 use crate::seek::{Stand, arity};
 use crate::wipe::{enter, leave, leave_leaf, marked_end};
-use lmn_store::LinkStore;
+use lmn_store_trait::LinkStore;
 
 /// Takes back the marks of a walk, and takes its atoms out of their lists.
 pub fn take_marked<S: LinkStore>(store: &mut S, root: (S::Atom, u8), count: u64)

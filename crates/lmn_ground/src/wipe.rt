@@ -1,13 +1,13 @@
 //! The walk that takes the marks back.
 ghost use Rattle.std.specs.Prelude.{◌≡◌, ◌<◌, ◌≤◌, ◌+◌, ℕ, Bool, List, false, Some, IfSome};
-ghost use Rattle.lmn_heap.specs.Heap.{Heap, IsAtom, arity_of, link_of, marked};
-ghost use Rattle.lmn_heap.specs.Sound.{Sound};
-ghost use Rattle.lmn_parts.specs.Walks.{is_port, net};
+ghost use Rattle.lmn_store_heap.specs.Heap.{Heap, IsAtom, arity_of, link_of, marked};
+ghost use Rattle.lmn_store_heap.specs.Sound.{Sound};
+ghost use Rattle.lmn_ground_parts.specs.Walks.{is_port, net};
 ghost use Rattle.lmn_ground.specs.Marks.{OnWay, back, first_marks, weight};
 ghost use Rattle.lmn_ground.specs.Spread.{Spread, Wiping};
 
 use crate::seek::{Stand, arity, go_back, is_root};
-use lmn_store::LinkStore;
+use lmn_store_trait::LinkStore;
 
 /// The other end of a port, where the port isn't the root and the mark there is still that of the first walk.
 pub fn marked_end<S: LinkStore>(

@@ -22,7 +22,7 @@ use Rattle.lmn_base.specs.Firsts.{Row, NoneApplies}
 use Rattle.lmn_base.specs.Items.{own_items, items_of, rule_items, number_of_items}
 use Rattle.lmn_base.specs.Levels.{leaves_of}
 use Rattle.lmn_base.specs.PlaceOrder.{not_after}
-use Rattle.lmn_base.specs.RuleCodes.{rule_rows, size_rows, head_rows, use_rows, is_too_large, too_large, empty_head, rule_in_head, connector_in_head, context_at_top, rule_context_at_top, two_in_membrane, twice_in_head, not_once_in_body, not_in_head, in_two_forms, inner_rule, is_connector_label, connector_place, is_bare, is_untyped, untyped_place, rule_context_place, seconds_by_membrane, first_with_some, use_up_to, rule_use_up_to, used_again, bare_use, bare_use_up_to, missing, bare_again, rule_use, from_nowhere, is_left_of, same_form, other_form_up_to, in_other_form}
+use Rattle.lmn_base_walks.specs.RuleCodes.{rule_rows, size_rows, head_rows, use_rows, is_too_large, too_large, empty_head, rule_in_head, connector_in_head, context_at_top, rule_context_at_top, two_in_membrane, twice_in_head, not_once_in_body, not_in_head, in_two_forms, inner_rule, is_connector_label, connector_place, is_bare, is_untyped, untyped_place, rule_context_place, seconds_by_membrane, first_with_some, use_up_to, rule_use_up_to, used_again, bare_use, bare_use_up_to, missing, bare_again, rule_use, from_nowhere, is_left_of, same_form, other_form_up_to, in_other_form}
 use Rattle.lmn_base.specs.Solids.{connector}
 use Rattle.lmn_base.specs.Uses.{use_of, has_use, is_some_place}
 use Rattle.lmn_base.specs.WellMade.{IsLinkedRule}

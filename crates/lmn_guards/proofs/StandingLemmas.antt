@@ -18,7 +18,7 @@ use Rattle.lmn_base.specs.Firsts.{Row, NoneApplies}
 use Rattle.lmn_base.specs.declared.guard.Expr.TheFolds.{fold-roll-Expr}
 use Rattle.lmn_base.specs.declared.guard.Expr.TheOpen as step
 use Rattle.lmn_base.specs.Items.{expression_items, expression_items_step}
-use Rattle.lmn_base.specs.RuleCodes.{is_left_of, is_too_large, too_large}
+use Rattle.lmn_base_walks.specs.RuleCodes.{is_left_of, is_too_large, too_large}
 use Rattle.lmn_base.proofs.Numbers.{equal_when}
 use Rattle.lmn_base.proofs.RowLemmas.{Nowhere, no_rows, none_before, none_behind}
 use Rattle.lmn_base.proofs.Truth.{and_true, never_both, bool_cases as known_or_not}

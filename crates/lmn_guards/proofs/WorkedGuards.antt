@@ -3,7 +3,7 @@ use Rattle.std.proofs.Common.{ℕ, ℤ, pos, false, ◌≡◌, List, [], ◌∷�
 use Rattle.std.specs.List.{flat_map}
 use Rattle.lmn_base.specs.declared.item.Item.{Item}
 use Rattle.lmn_base.specs.Items.{used, expression_items, expression_items_step, condition_items}
-use Rattle.lmn_base.proofs.ItemLemmas.{listed_items as listed}
+use Rattle.lmn_base_walks.proofs.ItemLemmas.{listed_items as listed}
 use Rattle.lmn_base.specs.declared.guard.Cmp.TheVariants.{Lt}
 use Rattle.lmn_base.specs.declared.guard.Cond.TheVariants.{Compare}
 use Rattle.lmn_base.specs.declared.guard.Expr.TheVariants.{Int as Integer, Ctx}

@@ -8,9 +8,9 @@ use crate::conditions::check_conditions;
 use crate::plan::{GuardPlan, TypedUse};
 use crate::typing::{find_unheld, find_untyped, type_of};
 use lmn_base::{
-    Cond, Leaf, Level, Names, NoMemory, Refusal, Rows, RuleTree, TextFault, first_refusal, is_used,
-    refuse,
+    Cond, Leaf, Level, Names, NoMemory, Refusal, Rows, RuleTree, TextFault, first_refusal, refuse,
 };
+use lmn_base_walks::is_used;
 use std::alloc::Global;
 
 /// What the guard of a rule says of its contexts. The rule is refused by the first of the codes 41, 43 and 42 that applies to

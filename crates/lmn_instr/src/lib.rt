@@ -1,13 +1,5 @@
-//! The instructions of compiled rules, what the code of a head means, which code a head has, and the listing of code.
-//!
-//! The definitions stand in `specs/`.
+//! The instructions of compiled rules: what they are, their listing, and functors read as listings have them.
 #![tactic(auto)]
 
-mod instr;
-mod labels;
-pub mod laws;
-mod listing;
-mod words;
-
-pub use instr::{AtomPort, Code, Instr, NewPort};
-pub use listing::{add_line, list};
+pub use lmn_instr_code::{AtomPort, Code, Instr, NewPort, list};
+pub use lmn_instr_reading::read_functor;

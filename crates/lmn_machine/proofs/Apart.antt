@@ -1,9 +1,9 @@
 -- Two parts that were found are one or have no atom in common.
 use Rattle.std.proofs.Common.{◌≡◌, ◌≢◌, ◌⊎◌, ℕ, List, Option, Some, None, refl, arith, ap, sym, subst, ◌∙◌, inl, inr}
 use Rattle.lmn_base.specs.Graphs.{Reached, at_root, across}
-use Rattle.lmn_heap.specs.Heap.{Heap, arity_of, link_of, port_id, Unmarked}
-use Rattle.lmn_heap.specs.Graphs.{atom_map}
-use Rattle.lmn_heap.specs.Sound.{Sound}
+use Rattle.lmn_store_heap.specs.Heap.{Heap, arity_of, link_of, port_id, Unmarked}
+use Rattle.lmn_store_heap.specs.Graphs.{atom_map}
+use Rattle.lmn_store_heap.specs.Sound.{Sound}
 use Rattle.lmn_ground.specs.Spread.{IsWhole}
 use Rattle.lmn_ground.proofs.GroundLaws.{ground_full}
 use Rattle.lmn_machine.specs.Searching.{IsHeldPart}

@@ -3,22 +3,22 @@ use Rattle.std.proofs.Common.{ℕ, zero, suc, ◌≡◌, ◌≢◌, ◌<◌, ◌
 use Rattle.std.specs.Prelude.{slice_get}
 use Rattle.std.specs.List.{AllByRecursion}
 use Rattle.lmn_base.specs.Graphs.{Reached, at_root}
-use Rattle.lmn_heap.specs.Heap.{Heap, Distinct, atoms_in, home_of, port_id}
-use Rattle.lmn_heap.specs.Lists.{without}
-use Rattle.lmn_heap.specs.Graphs.{atom_map}
-use Rattle.lmn_heap.specs.Sound.{Sound}
-use Rattle.lmn_heap.proofs.ListLemmas.{each_in, in_without}
-use Rattle.lmn_heap.proofs.Listing.{in_without_of, distinct_without, home_is}
-use Rattle.lmn_heap.proofs.Pigeonholes.{length_without, not_longer}
+use Rattle.lmn_store_heap.specs.Heap.{Heap, Distinct, atoms_in, home_of, port_id}
+use Rattle.lmn_store_heap.specs.Lists.{without}
+use Rattle.lmn_store_heap.specs.Graphs.{atom_map}
+use Rattle.lmn_store_heap.specs.Sound.{Sound}
+use Rattle.lmn_store_heap.proofs.ListLemmas.{each_in, in_without}
+use Rattle.lmn_store_heap.proofs.Listing.{in_without_of, distinct_without, home_is}
+use Rattle.lmn_store_heap.proofs.Pigeonholes.{length_without, not_longer}
 use Rattle.lmn_ground.specs.Spread.{AreAtoms}
-use Rattle.lmn_instr.specs.Running.{HeadRegisters, HasOthers, IsInSome}
-use Rattle.lmn_registers.specs.declared.registers.SetRegisters.{SetRegisters}
-use Rattle.lmn_registers.specs.Agreeing.{Agrees}
+use Rattle.lmn_instr_code.specs.Running.{HeadRegisters, HasOthers, IsInSome}
+use Rattle.lmn_machine_registers.specs.declared.registers.SetRegisters.{SetRegisters}
+use Rattle.lmn_machine_registers.specs.Agreeing.{Agrees}
 use Rattle.lmn_machine.specs.Searching.{AreHeldWhole}
 use Rattle.lmn_machine.proofs.Apart.{one_or_apart}
 use Rattle.lmn_base.proofs.Lists.{value_or, get_there}
 use Rattle.lmn_base.proofs.Numbers.{same_or_not as number_cases}
-use Rattle.lmn_heap.proofs.Common.{home_placed}
+use Rattle.lmn_store_heap.proofs.Common.{home_placed}
 use Rattle.lmn_base.specs.Lists.{In}
 
 -- What is left of a list without the elements of another.

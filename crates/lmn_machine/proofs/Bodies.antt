@@ -2,11 +2,11 @@
 use Rattle.std.proofs.Common.{ℕ, ◌≡◌, ◌<◌, Option, Some, None, IsSome, refl, arith, ap, sym, subst, length, ◌∙◌}
 use Rattle.std.specs.Option.{option_map}
 use Rattle.lmn_base.specs.declared.functor.Functor.{Functor}
-use Rattle.lmn_heap.specs.Heap.{Heap, HeapAtom, IsAtom, partners_of, arity_of, port_id}
-use Rattle.lmn_heap.specs.Sound.{Sound}
-use Rattle.lmn_registers.specs.declared.registers.SetRegisters.{SetRegisters}
-use Rattle.lmn_commit.specs.Registers as body
-use Rattle.lmn_commit.specs.Preparing.{AreAtHome, CanBeCopied, CanCopy}
+use Rattle.lmn_store_heap.specs.Heap.{Heap, HeapAtom, IsAtom, partners_of, arity_of, port_id}
+use Rattle.lmn_store_heap.specs.Sound.{Sound}
+use Rattle.lmn_machine_registers.specs.declared.registers.SetRegisters.{SetRegisters}
+use Rattle.lmn_machine_commit.specs.Registers as body
+use Rattle.lmn_machine_commit.specs.Preparing.{AreAtHome, CanBeCopied, CanCopy}
 use Rattle.lmn_machine.specs.Searching.{AreHeldWhole, IsHeldPart}
 
 module _ {A M : Type 0} (atom : A → ℕ) (membrane : M → ℕ) (h : Heap) (g : SetRegisters A M) (held : AreHeldWhole atom membrane h g) where

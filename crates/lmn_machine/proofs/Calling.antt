@@ -2,16 +2,16 @@
 use Rattle.std.proofs.Common.{ℕ, ℤ, zero, suc, ◌≡◌, ◌<◌, ◌≤◌, ◌+◌, List, [], ◌∷◌, ◌++◌, Option, Some, None, refl, arith, ap, subst, length, take, drop, ◌∙◌}
 use Rattle.std.specs.Prelude.{slice_get, IfSome}
 use Rattle.lmn_base.specs.declared.functor.Functor.{Functor}
-use Rattle.lmn_instr.specs.declared.instr.Instr.{Instr}
-use Rattle.lmn_instr.specs.declared.instr.Instr.TheVariants.{FindAtom, Deref, AnyMem, IsInt, IsUnary, IsGround, NAtoms, IsClosed, EqGround, NeqGround, GetInt, Const, Add, Sub, Mul, Div, Mod}
+use Rattle.lmn_instr_code.specs.declared.instr.Instr.{Instr}
+use Rattle.lmn_instr_code.specs.declared.instr.Instr.TheVariants.{FindAtom, Deref, AnyMem, IsInt, IsUnary, IsGround, NAtoms, IsClosed, EqGround, NeqGround, GetInt, Const, Add, Sub, Mul, Div, Mod}
 use Rattle.lmn_machine.specs.Searching.{HeadInOrder, ChoosesNone, Extends}
 use Rattle.std.specs.Option.{option_map}
-use Rattle.lmn_heap.specs.Lists.{from, after}
-use Rattle.lmn_heap.specs.Functors.{with_functor}
-use Rattle.lmn_heap.specs.Heap.{Heap, atoms_in, mems_in, functor_of, home_of, parent_of}
-use Rattle.lmn_registers.specs.declared.registers.PartCopy.{PartCopy}
-use Rattle.lmn_registers.specs.declared.registers.SetRegisters.{SetRegisters}
-use Rattle.lmn_registers.specs.declared.stack.TheConstants.{ROOM}
+use Rattle.lmn_store_heap.specs.Lists.{from, after}
+use Rattle.lmn_store_heap.specs.Functors.{with_functor}
+use Rattle.lmn_store_heap.specs.Heap.{Heap, atoms_in, mems_in, functor_of, home_of, parent_of}
+use Rattle.lmn_machine_registers.specs.declared.registers.PartCopy.{PartCopy}
+use Rattle.lmn_machine_registers.specs.declared.registers.SetRegisters.{SetRegisters}
+use Rattle.lmn_machine_registers.specs.declared.stack.TheConstants.{ROOM}
 use Rattle.lmn_machine.proofs.Choosing.{with_atom, with_membrane}
 
 -- what stands at a place, by another name

@@ -3,22 +3,22 @@ use Rattle.std.proofs.Common.{ℕ, ◌≡◌, ◌+◌, inl, inr, List, [], ◌�
 use Rattle.std.specs.Prelude.{true, false, slice_get, IsSome}
 use Rattle.std.specs.Option.{option_map}
 use Rattle.lmn_base.specs.declared.functor.Functor.{Functor}
-use Rattle.lmn_heap.specs.Lists.{after, from}
-use Rattle.lmn_heap.specs.Heap.{Heap, HeapAtom, IsAtom, IsMem, functor_of, home_of, parent_of, atoms_in, mems_in}
-use Rattle.lmn_heap.specs.Sound.{Listed}
-use Rattle.lmn_heap.specs.Functors.{with_functor}
-use Rattle.lmn_solid.specs.Embeddings.{ListNotAfter, index_of}
-use Rattle.lmn_instr.specs.declared.instr.Instr.{Instr}
-use Rattle.lmn_instr.specs.declared.instr.Instr.TheVariants.{FindAtom, AnyMem}
-use Rattle.lmn_instr.specs.Running.{HeadRegisters, HeadSize, AllHold, atoms_set, membranes_set, choices}
-use Rattle.lmn_registers.specs.declared.registers.SetRegisters.{SetRegisters}
-use Rattle.lmn_registers.specs.Agreeing.{Agrees}
+use Rattle.lmn_store_heap.specs.Lists.{after, from}
+use Rattle.lmn_store_heap.specs.Heap.{Heap, HeapAtom, IsAtom, IsMem, functor_of, home_of, parent_of, atoms_in, mems_in}
+use Rattle.lmn_store_heap.specs.Sound.{Listed}
+use Rattle.lmn_store_heap.specs.Functors.{with_functor}
+use Rattle.lmn_solid_heads.specs.Embeddings.{ListNotAfter, index_of}
+use Rattle.lmn_instr_code.specs.declared.instr.Instr.{Instr}
+use Rattle.lmn_instr_code.specs.declared.instr.Instr.TheVariants.{FindAtom, AnyMem}
+use Rattle.lmn_instr_code.specs.Running.{HeadRegisters, HeadSize, AllHold, atoms_set, membranes_set, choices}
+use Rattle.lmn_machine_registers.specs.declared.registers.SetRegisters.{SetRegisters}
+use Rattle.lmn_machine_registers.specs.Agreeing.{Agrees}
 use Rattle.lmn_machine.specs.Searching.{AreHeldWhole, Extends, SetsAll, Searched, SetsMore}
 use Rattle.lmn_machine.proofs.Stepping.{extends_itself, agrees_before, extends_on}
 use Rattle.lmn_machine.proofs.Candidates.{index_after, index_behind, with_functor_in}
 use Rattle.lmn_base.proofs.Lists.{get_front, get_last, take_whole, get_either}
-use Rattle.lmn_heap.proofs.Heights.{has_parent as mem_there, place_by_parent}
-use Rattle.lmn_heap.proofs.Listing.{home_place as place_by_home}
+use Rattle.lmn_store_heap.proofs.Heights.{has_parent as mem_there, place_by_parent}
+use Rattle.lmn_store_heap.proofs.Listing.{home_place as place_by_home}
 use Rattle.lmn_base.specs.Lists.{In}
 use Rattle.std.proofs.lemmas.List.{length_push}
 

@@ -4,17 +4,17 @@ use Rattle.std.specs.Prelude.{true, Bool, slice_get, IfSome}
 use Rattle.std.specs.Option.{option_map}
 use Rattle.std.proofs.lemmas.Option.{slice_get_within}
 use Rattle.lmn_base.specs.Graphs.{StandsWhole, SameGraph}
-use Rattle.lmn_heap.specs.Heap.{Heap, IsAtom, atoms_in, link_of, port_id}
-use Rattle.lmn_heap.specs.Graphs.{atom_map}
+use Rattle.lmn_store_heap.specs.Heap.{Heap, IsAtom, atoms_in, link_of, port_id}
+use Rattle.lmn_store_heap.specs.Graphs.{atom_map}
 use Rattle.lmn_guards.specs.declared.plan.TypeKind.TheVariants as kind
-use Rattle.lmn_instr.specs.declared.instr.AtomPort.{AtomPort}
-use Rattle.lmn_instr.specs.declared.instr.Instr.{Instr}
-use Rattle.lmn_instr.specs.declared.instr.Instr.TheVariants.{IsGround, NAtoms, IsClosed, EqGround, NeqGround}
-use Rattle.lmn_instr.specs.Running.{HeadRegisters, HeadSize, InstructionHolds, IsContext, HasOthers, IsInSome, IsClosedRest}
-use Rattle.lmn_registers.specs.declared.registers.SetRegisters.{SetRegisters}
-use Rattle.lmn_registers.specs.Agreeing.{Agrees}
+use Rattle.lmn_instr_code.specs.declared.instr.AtomPort.{AtomPort}
+use Rattle.lmn_instr_code.specs.declared.instr.Instr.{Instr}
+use Rattle.lmn_instr_code.specs.declared.instr.Instr.TheVariants.{IsGround, NAtoms, IsClosed, EqGround, NeqGround}
+use Rattle.lmn_instr_code.specs.Running.{HeadRegisters, HeadSize, InstructionHolds, IsContext, HasOthers, IsInSome, IsClosedRest}
+use Rattle.lmn_machine_registers.specs.declared.registers.SetRegisters.{SetRegisters}
+use Rattle.lmn_machine_registers.specs.Agreeing.{Agrees}
 use Rattle.lmn_machine.specs.Searching.{AreHeldWhole, Stepped, HeadInOrder, HasGivenPart, IsWholeApart}
-use Rattle.lmn_heap.specs.Sound.{Sound}
+use Rattle.lmn_store_heap.specs.Sound.{Sound}
 use Rattle.lmn_machine.proofs.Stepping.{SetsSo, extends_itself, nothing_more}
 use Rattle.lmn_machine.proofs.Lone.{GivesPart, part_stepped}
 

@@ -1,11 +1,11 @@
 -- The items that a commit leaves.
 use Rattle.std.proofs.Common.{ℕ, ◌≡◌, ◌+◌, List, [], ◌∷◌, refl, arith, sym, subst, ◌∙◌}
-use Rattle.lmn_heap.specs.Heap.{Heap}
-use Rattle.lmn_heap.specs.Sound.{Forest, IsTree, flat, item_count_in}
-use Rattle.lmn_heap.proofs.Pigeonholes.{not_longer}
-use Rattle.lmn_instr.specs.declared.instr.Instr.{Instr}
-use Rattle.lmn_instr.specs.declared.instr.Instr.TheVariants.{RemoveAtom, RemovePart, RemoveMem, NewAtom, NewInt, NewMem, CopyGround, LoadRule, CopyRules}
-use Rattle.lmn_body.specs.Running.{Registers}
+use Rattle.lmn_store_heap.specs.Heap.{Heap}
+use Rattle.lmn_store_heap.specs.Sound.{Forest, IsTree, flat, item_count_in}
+use Rattle.lmn_store_heap.proofs.Pigeonholes.{not_longer}
+use Rattle.lmn_instr_code.specs.declared.instr.Instr.{Instr}
+use Rattle.lmn_instr_code.specs.declared.instr.Instr.TheVariants.{RemoveAtom, RemovePart, RemoveMem, NewAtom, NewInt, NewMem, CopyGround, LoadRule, CopyRules}
+use Rattle.lmn_solid_bodies.specs.Running.{Registers}
 use Rattle.lmn_machine.specs.Costs.{IsSize, AddsItems, TakesItems, InAll, Leaves}
 
 -- a part has one size

@@ -4,18 +4,18 @@ use Rattle.std.specs.Prelude.{false, slice_get, IfSome}
 use Rattle.std.specs.Option.{option_map}
 use Rattle.lmn_base.specs.declared.functor.Functor.{Functor}
 use Rattle.lmn_base.specs.Lists.{In}
-use Rattle.lmn_heap.specs.Lists.{after, from}
-use Rattle.lmn_heap.specs.Heap.{Heap, link_of, atoms_in, mems_in}
-use Rattle.lmn_heap.specs.Functors.{with_functor}
-use Rattle.lmn_instr.specs.declared.instr.Instr.{Instr}
-use Rattle.lmn_instr.specs.declared.instr.Instr.TheVariants.{FindAtom, AnyMem}
-use Rattle.lmn_instr.specs.declared.instr.AtomPort.{AtomPort}
-use Rattle.lmn_instr.specs.Running.{HeadRegisters, HeadSize, InstructionHolds, AllHold, port_of}
+use Rattle.lmn_store_heap.specs.Lists.{after, from}
+use Rattle.lmn_store_heap.specs.Heap.{Heap, link_of, atoms_in, mems_in}
+use Rattle.lmn_store_heap.specs.Functors.{with_functor}
+use Rattle.lmn_instr_code.specs.declared.instr.Instr.{Instr}
+use Rattle.lmn_instr_code.specs.declared.instr.Instr.TheVariants.{FindAtom, AnyMem}
+use Rattle.lmn_instr_code.specs.declared.instr.AtomPort.{AtomPort}
+use Rattle.lmn_instr_code.specs.Running.{HeadRegisters, HeadSize, InstructionHolds, AllHold, port_of}
 use Rattle.lmn_base.specs.Graphs.{Port}
-use Rattle.lmn_solid.specs.Embeddings.{partner}
+use Rattle.lmn_solid_heads.specs.Embeddings.{partner}
 use Rattle.lmn_machine.proofs.Candidates.{with_functor_in}
-use Rattle.lmn_registers.specs.declared.registers.SetRegisters.{SetRegisters}
-use Rattle.lmn_registers.specs.Agreeing.{Agrees}
+use Rattle.lmn_machine_registers.specs.declared.registers.SetRegisters.{SetRegisters}
+use Rattle.lmn_machine_registers.specs.Agreeing.{Agrees}
 use Rattle.lmn_machine.specs.Searching.{AreHeldWhole, Searched}
 use Rattle.lmn_machine.specs.Asking.{HoldsAsked, AsksFor, IsGuest}
 use Rattle.lmn_machine.proofs.Stepping.{extends_itself}

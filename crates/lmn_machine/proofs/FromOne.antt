@@ -1,11 +1,11 @@
 -- The search from the membrane alone.
 use Rattle.std.proofs.Common.{ℕ, zero, suc, ◌≡◌, List, [], ◌∷◌, Some, refl, arith, ap, ◌∙◌}
 use Rattle.std.specs.Prelude.{Bool, true, false, slice_get}
-use Rattle.lmn_heap.specs.Heap.{Heap}
-use Rattle.lmn_instr.specs.declared.instr.Instr.{Instr}
-use Rattle.lmn_instr.specs.Running.{HeadRegisters, Succeeds, IsFirstSuccess, size_of_head}
-use Rattle.lmn_registers.specs.declared.registers.SetRegisters.{SetRegisters}
-use Rattle.lmn_registers.specs.Agreeing.{Agrees}
+use Rattle.lmn_store_heap.specs.Heap.{Heap}
+use Rattle.lmn_instr_code.specs.declared.instr.Instr.{Instr}
+use Rattle.lmn_instr_code.specs.Running.{HeadRegisters, Succeeds, IsFirstSuccess, size_of_head}
+use Rattle.lmn_machine_registers.specs.declared.registers.SetRegisters.{SetRegisters}
+use Rattle.lmn_machine_registers.specs.Agreeing.{Agrees}
 use Rattle.lmn_machine.specs.Searching.{SetsAll, Searched, AreAllSet}
 use Rattle.lmn_machine.proofs.Stepping.{agrees_before}
 

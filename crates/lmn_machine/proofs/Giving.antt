@@ -3,14 +3,14 @@ use Rattle.std.proofs.Common.{ℕ, ℤ, ◌≡◌, ◌+◌, inl, inr, List, [], 
 use Rattle.std.specs.Prelude.{Bool, true, slice_get}
 use Rattle.std.proofs.lemmas.Int.{to_z-of_z}
 use Rattle.lmn_base.specs.declared.guard.Arith.TheVariants as arithmetic
-use Rattle.lmn_heap.specs.Heap.{Heap, functor_of}
+use Rattle.lmn_store_heap.specs.Heap.{Heap, functor_of}
 use Rattle.lmn_guards.specs.Values.{result_of}
-use Rattle.lmn_solid.specs.Guards.{integer_at, integer_of_functor}
-use Rattle.lmn_instr.specs.declared.instr.Instr.{Instr}
-use Rattle.lmn_instr.specs.declared.instr.Instr.TheVariants.{GetInt, Const, Add, Sub, Mul, Div, Mod}
-use Rattle.lmn_instr.specs.Running.{HeadRegisters, HeadSize, InstructionHolds}
-use Rattle.lmn_registers.specs.declared.registers.SetRegisters.{SetRegisters}
-use Rattle.lmn_registers.specs.Agreeing.{Agrees}
+use Rattle.lmn_solid_heads.specs.Guards.{integer_at, integer_of_functor}
+use Rattle.lmn_instr_code.specs.declared.instr.Instr.{Instr}
+use Rattle.lmn_instr_code.specs.declared.instr.Instr.TheVariants.{GetInt, Const, Add, Sub, Mul, Div, Mod}
+use Rattle.lmn_instr_code.specs.Running.{HeadRegisters, HeadSize, InstructionHolds}
+use Rattle.lmn_machine_registers.specs.declared.registers.SetRegisters.{SetRegisters}
+use Rattle.lmn_machine_registers.specs.Agreeing.{Agrees}
 use Rattle.lmn_machine.specs.Searching.{AreHeldWhole, Extends, Stepped, HeadInOrder, HasGiven}
 use Rattle.lmn_machine.proofs.Stepping.{SetsSo, extends_itself, agrees_before}
 use Rattle.lmn_machine.proofs.Choosing.{take_front}

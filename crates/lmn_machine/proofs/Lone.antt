@@ -8,17 +8,17 @@ use Rattle.std.proofs.lemmas.Bool.Decides.{Decides-eqb}
 use Rattle.lmn_base.specs.declared.functor.Label.{Label}
 use Rattle.lmn_base.specs.declared.functor.Label.TheVariants.{Name, Int as Integer}
 use Rattle.lmn_base.specs.Graphs.{Reached, at_root, across, StandsWhole}
-use Rattle.lmn_heap.specs.Heap.{Heap, IsAtom, functor_of, link_of, partners_of, home_of, port_id}
-use Rattle.lmn_heap.specs.Sound.{Sound}
-use Rattle.lmn_heap.specs.Graphs.{atom_map}
+use Rattle.lmn_store_heap.specs.Heap.{Heap, IsAtom, functor_of, link_of, partners_of, home_of, port_id}
+use Rattle.lmn_store_heap.specs.Sound.{Sound}
+use Rattle.lmn_store_heap.specs.Graphs.{atom_map}
 use Rattle.lmn_guards.specs.declared.plan.TypeKind.TheVariants as kind
-use Rattle.lmn_solid.specs.Guards.{integer_at, integer_by, integer_of_functor, IsUnaryPart}
-use Rattle.lmn_instr.specs.declared.instr.AtomPort.{AtomPort}
-use Rattle.lmn_instr.specs.declared.instr.Instr.{Instr}
-use Rattle.lmn_instr.specs.declared.instr.Instr.TheVariants.{IsInt, IsUnary}
-use Rattle.lmn_instr.specs.Running.{HeadRegisters, HeadSize, InstructionHolds, IsContext, port_of}
-use Rattle.lmn_registers.specs.declared.registers.SetRegisters.{SetRegisters}
-use Rattle.lmn_registers.specs.Agreeing.{Agrees}
+use Rattle.lmn_solid_heads.specs.Guards.{integer_at, integer_by, integer_of_functor, IsUnaryPart}
+use Rattle.lmn_instr_code.specs.declared.instr.AtomPort.{AtomPort}
+use Rattle.lmn_instr_code.specs.declared.instr.Instr.{Instr}
+use Rattle.lmn_instr_code.specs.declared.instr.Instr.TheVariants.{IsInt, IsUnary}
+use Rattle.lmn_instr_code.specs.Running.{HeadRegisters, HeadSize, InstructionHolds, IsContext, port_of}
+use Rattle.lmn_machine_registers.specs.declared.registers.SetRegisters.{SetRegisters}
+use Rattle.lmn_machine_registers.specs.Agreeing.{Agrees}
 use Rattle.lmn_machine.specs.Searching.{AreHeldWhole, Extends, AllSet, Stepped, HeadInOrder, HasGivenPart, AreApart, IsLone, IsWholeApart, IsHeldPart}
 use Rattle.lmn_machine.proofs.Stepping.{SetsSo, extends_itself, agrees_before}
 use Rattle.lmn_machine.proofs.Choosing.{take_front}

@@ -5,19 +5,19 @@ use Rattle.std.proofs.lemmas.List.{get_or-set_same, get_or-set_other}
 use Rattle.std.specs.Option.{option_map}
 use Rattle.std.specs.Prelude.{slice_get, slice_index_or}
 use Rattle.lmn_base.specs.Graphs.{AtomMap, Reached, StandsWhole}
-use Rattle.lmn_heap.specs.Heap.{Heap, HeapAtom, IsAtom, IsMem, alter, with_mark, marked, mark_of, partners_of, marks_of, arity_of, PortsUnmarked, own_mark, Unmarked}
-use Rattle.lmn_heap.specs.Sound.{Sound}
-use Rattle.lmn_heap.specs.Graphs.{atom_map}
-use Rattle.lmn_heap.proofs.Listing.{alter_at, alter_away}
+use Rattle.lmn_store_heap.specs.Heap.{Heap, HeapAtom, IsAtom, IsMem, alter, with_mark, marked, mark_of, partners_of, marks_of, arity_of, PortsUnmarked, own_mark, Unmarked}
+use Rattle.lmn_store_heap.specs.Sound.{Sound}
+use Rattle.lmn_store_heap.specs.Graphs.{atom_map}
+use Rattle.lmn_store_heap.proofs.Listing.{alter_at, alter_away}
 use Rattle.lmn_ground.specs.Spread.{IsGroundIn}
 use Rattle.lmn_ground.specs.Rests.{own_marked}
 use Rattle.lmn_machine.specs.Searching.{IsWholeApart}
-use Rattle.lmn_commit.specs.OwnMarks.{own_place, own_painted}
-use Rattle.lmn_commit.proofs.Owning.{arity_painted, all_at, own_all, in_all, off_all, none, marked_is, of_handles}
+use Rattle.lmn_machine_commit.specs.OwnMarks.{own_place, own_painted}
+use Rattle.lmn_machine_commit.proofs.Owning.{arity_painted, all_at, own_all, in_all, off_all, none, marked_is, of_handles}
 use Rattle.lmn_ground.specs.Marks.{paint_at}
 use Rattle.lmn_ground.proofs.CopyLaws.{member as in_handles}
 use Rattle.lmn_ground.proofs.PaintedAt.{is_paint, map_painted, painted_none}
-use Rattle.lmn_heap.proofs.Common.{decide_in as in_or_not}
+use Rattle.lmn_store_heap.proofs.Common.{decide_in as in_or_not}
 use Rattle.lmn_base.specs.Lists.{In}
 
 -- marks that are taken back

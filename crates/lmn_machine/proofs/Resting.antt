@@ -7,15 +7,15 @@ use Rattle.std.specs.Prelude.{◌⊎◌, ◌↔◌, ◌==◌, not, slice_get, sl
 use Rattle.lmn_base.specs.Graphs.{AtomMap, Port, Reached}
 use Rattle.lmn_base.specs.Lists.{In}
 use Rattle.lmn_base.proofs.Lists.{get_below, get_there, in_either}
-use Rattle.lmn_heap.specs.Heap.{Heap, HeapAtom, within, home_by, IsAtom, IsMem, marks_of, partners_of, mark_of, arity_of, link_of, home_of, atoms_in, mems_in, PortsUnmarked, own_mark, Unmarked}
-use Rattle.lmn_heap.specs.Sound.{Forms, Valid}
-use Rattle.lmn_heap.specs.Graphs.{atom_map}
-use Rattle.lmn_heap.proofs.Common.{decide_in}
-use Rattle.lmn_heap.proofs.Groves.{forms_frame, list_inside}
-use Rattle.lmn_heap.proofs.ListLemmas.{in_left, in_right}
-use Rattle.lmn_heap.proofs.Listing.{home_is}
-use Rattle.lmn_parts.specs.Rests.{keep, atoms_of_all, NoneLeaves}
-use Rattle.lmn_parts.specs.Walks.{is_in, IsPartInDepth}
+use Rattle.lmn_store_heap.specs.Heap.{Heap, HeapAtom, within, home_by, IsAtom, IsMem, marks_of, partners_of, mark_of, arity_of, link_of, home_of, atoms_in, mems_in, PortsUnmarked, own_mark, Unmarked}
+use Rattle.lmn_store_heap.specs.Sound.{Forms, Valid}
+use Rattle.lmn_store_heap.specs.Graphs.{atom_map}
+use Rattle.lmn_store_heap.proofs.Common.{decide_in}
+use Rattle.lmn_store_heap.proofs.Groves.{forms_frame, list_inside}
+use Rattle.lmn_store_heap.proofs.ListLemmas.{in_left, in_right}
+use Rattle.lmn_store_heap.proofs.Listing.{home_is}
+use Rattle.lmn_ground_parts.specs.Rests.{keep, atoms_of_all, NoneLeaves}
+use Rattle.lmn_ground_parts.specs.Walks.{is_in, IsPartInDepth}
 use Rattle.lmn_ground.specs.Marks.{paint_at}
 use Rattle.lmn_ground.specs.Rests.{AreMembranes, IsLeft, own_marked}
 use Rattle.lmn_ground.specs.Spread.{IsWhole}
@@ -24,15 +24,15 @@ use Rattle.lmn_ground.proofs.CopyLaws.{member as in_handles}
 use Rattle.lmn_ground.proofs.DropLaws.{is_out, out_is}
 use Rattle.lmn_ground.proofs.PaintedAt.{painted_none}
 use Rattle.lmn_ground.proofs.RestLaws.{keep_in, all_in, in_all as in_all_of}
-use Rattle.lmn_commit.proofs.RestOf.{rest_of, kept_has, has_kept, root_over, within_forest}
-use Rattle.lmn_solid.specs.Embeddings.{StandsWithin}
-use Rattle.lmn_instr.specs.Running.{HeadRegisters, HeadSize, IsInSome, IsLeftIn, IsClosedRest}
-use Rattle.lmn_registers.specs.declared.registers.SetRegisters.{SetRegisters}
-use Rattle.lmn_registers.specs.Agreeing.{Agrees}
+use Rattle.lmn_machine_commit.proofs.RestOf.{rest_of, kept_has, has_kept, root_over, within_forest}
+use Rattle.lmn_solid_heads.specs.Embeddings.{StandsWithin}
+use Rattle.lmn_instr_code.specs.Running.{HeadRegisters, HeadSize, IsInSome, IsLeftIn, IsClosedRest}
+use Rattle.lmn_machine_registers.specs.declared.registers.SetRegisters.{SetRegisters}
+use Rattle.lmn_machine_registers.specs.Agreeing.{Agrees}
 use Rattle.lmn_machine.specs.Searching.{AreHeldWhole, AreRootPorts}
-use Rattle.lmn_commit.specs.OwnMarks.{own_place, own_painted}
+use Rattle.lmn_machine_commit.specs.OwnMarks.{own_place, own_painted}
 use Rattle.lmn_machine.proofs.Besides.{some_more, more_some, known, known_agrees}
-use Rattle.lmn_commit.proofs.Owning.{arity_painted, all_at, in_all, off_all, none, marked_is, of_handles, same_graph, arity_same, link_same, there_painted, back_painted, mem_painted, clean_painted, full_painted, port_painted, marked_more, are_membranes}
+use Rattle.lmn_machine_commit.proofs.Owning.{arity_painted, all_at, in_all, off_all, none, marked_is, of_handles, same_graph, arity_same, link_same, there_painted, back_painted, mem_painted, clean_painted, full_painted, port_painted, marked_more, are_membranes}
 use Rattle.lmn_base.proofs.Truth.{not_true}
 
 -- which atoms are in parts is told by the graph

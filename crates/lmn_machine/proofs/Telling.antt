@@ -2,10 +2,10 @@
 use Rattle.std.proofs.Common.{ℕ, ◌≡◌, refl, subst}
 use Rattle.std.specs.Prelude.{Bool}
 use Rattle.lmn_base.specs.declared.functor.Functor.{Functor}
-use Rattle.lmn_heap.specs.Heap.{Heap}
-use Rattle.lmn_instr.specs.declared.instr.Instr.{Instr}
-use Rattle.lmn_instr.specs.declared.instr.Instr.TheVariants.{FindAtom, AnyMem}
-use Rattle.lmn_registers.specs.declared.registers.SetRegisters.{SetRegisters}
+use Rattle.lmn_store_heap.specs.Heap.{Heap}
+use Rattle.lmn_instr_code.specs.declared.instr.Instr.{Instr}
+use Rattle.lmn_instr_code.specs.declared.instr.Instr.TheVariants.{FindAtom, AnyMem}
+use Rattle.lmn_machine_registers.specs.declared.registers.SetRegisters.{SetRegisters}
 use Rattle.lmn_machine.specs.Searching.{AsksNoPart, ChoosesNone, Stepped}
 use Rattle.lmn_machine.specs.Outcomes.{ChoosesAtoms, ChoosesMembranes, HasOutcome, Tells}
 use Rattle.lmn_machine.specs.declared.steps.Outcome.{Outcome}

@@ -2,12 +2,12 @@
 use Rattle.std.specs.Prelude.{ℕ, ◌≡◌, ◌≤◌, List, Option, Some, None, slice_get}
 use Rattle.lmn_base.specs.declared.functor.Functor.{Functor}
 use Rattle.lmn_base.specs.Lists.{In}
-use Rattle.lmn_heap.specs.Heap.{Heap, functor_of, atoms_in}
-use Rattle.lmn_instr.specs.declared.instr.Instr.{Instr}
-use Rattle.lmn_instr.specs.declared.instr.Instr.TheVariants.{FindAtom}
-use Rattle.lmn_instr.specs.Running.{HeadRegisters, HeadSize, AllHold}
-use Rattle.lmn_registers.specs.declared.registers.SetRegisters.{SetRegisters}
-use Rattle.lmn_registers.specs.Agreeing.{Agrees}
+use Rattle.lmn_store_heap.specs.Heap.{Heap, functor_of, atoms_in}
+use Rattle.lmn_instr_code.specs.declared.instr.Instr.{Instr}
+use Rattle.lmn_instr_code.specs.declared.instr.Instr.TheVariants.{FindAtom}
+use Rattle.lmn_instr_code.specs.Running.{HeadRegisters, HeadSize, AllHold}
+use Rattle.lmn_machine_registers.specs.declared.registers.SetRegisters.{SetRegisters}
+use Rattle.lmn_machine_registers.specs.Agreeing.{Agrees}
 
 -- a membrane holds an atom with the functor that is asked, if one is
 abbrev pub HoldsAsked : Heap → Option Functor → ℕ → Type 0

@@ -1,11 +1,11 @@
 -- How many items the commit with the code of a body leaves.
 use Rattle.std.specs.Prelude.{ℕ, ◌≡◌, ◌<◌, ◌+◌, List, [], ◌∷◌, length, map, sum}
-use Rattle.lmn_heap.specs.Heap.{Heap, rules_in}
-use Rattle.lmn_heap.specs.Sound.{Forest, IsTree, flat, item_count_in}
+use Rattle.lmn_store_heap.specs.Heap.{Heap, rules_in}
+use Rattle.lmn_store_heap.specs.Sound.{Forest, IsTree, flat, item_count_in}
 use Rattle.lmn_ground.specs.Spread.{AreAtoms}
-use Rattle.lmn_instr.specs.declared.instr.Instr.{Instr}
-use Rattle.lmn_instr.specs.declared.instr.Instr.TheVariants.{RemoveAtom, RemovePart, RemoveMem, NewAtom, NewInt, NewMem, CopyGround, CopyCells, LoadRule, CopyRules, DropCells}
-use Rattle.lmn_body.specs.Running.{Registers}
+use Rattle.lmn_instr_code.specs.declared.instr.Instr.{Instr}
+use Rattle.lmn_instr_code.specs.declared.instr.Instr.TheVariants.{RemoveAtom, RemovePart, RemoveMem, NewAtom, NewInt, NewMem, CopyGround, CopyCells, LoadRule, CopyRules, DropCells}
+use Rattle.lmn_solid_bodies.specs.Running.{Registers}
 
 -- the number of atoms of the part that is entered at a port
 abbrev pub IsSize : Heap → ℕ × ℕ → ℕ → Type 0

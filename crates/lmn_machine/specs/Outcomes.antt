@@ -1,9 +1,9 @@
 -- What became of an instruction, as the contracts of private functions say it.
 use Rattle.std.specs.Prelude.{ℕ, Bool, true, false, ◌≡◌}
-use Rattle.lmn_heap.specs.Heap.{Heap}
-use Rattle.lmn_instr.specs.declared.instr.Instr.{Instr}
-use Rattle.lmn_instr.specs.declared.instr.Instr.TheVariants.{FindAtom, AnyMem}
-use Rattle.lmn_registers.specs.declared.registers.SetRegisters.{SetRegisters}
+use Rattle.lmn_store_heap.specs.Heap.{Heap}
+use Rattle.lmn_instr_code.specs.declared.instr.Instr.{Instr}
+use Rattle.lmn_instr_code.specs.declared.instr.Instr.TheVariants.{FindAtom, AnyMem}
+use Rattle.lmn_machine_registers.specs.declared.registers.SetRegisters.{SetRegisters}
 use Rattle.lmn_machine.specs.Searching.{ChoosesNone, Stepped}
 use Rattle.lmn_machine.specs.declared.steps.Outcome.{Outcome}
 use Rattle.lmn_machine.specs.declared.steps.Outcome.TheVariants.{Holds, Fails, ChoosesAtom, ChoosesMembrane}

@@ -2,18 +2,18 @@
 use Rattle.std.specs.Prelude.{ℕ, ℤ, Bool, true, false, ◌≡◌, ◌<◌, ◌+◌, List, [], ◌∷◌, ◌++◌, Option, Some, None, length, slice_get, take}
 use Rattle.std.specs.List.{AllByRecursion}
 use Rattle.lmn_base.specs.Graphs.{Reached, StandsWhole}
-use Rattle.lmn_heap.specs.Heap.{Heap, IsAtom, port_id, home_of, link_of, arity_of}
-use Rattle.lmn_heap.specs.Graphs.{atom_map}
-use Rattle.lmn_instr.specs.declared.instr.Instr.{Instr}
-use Rattle.lmn_instr.specs.declared.instr.Instr.TheVariants.{FindAtom, Deref, Func, InMem, NeqAtom, Joined, AnyMem, NeqMem, NMems, NoRules, NotIn, IsInt, IsUnary, IsGround, NAtoms, IsClosed, EqGround, NeqGround, GetInt, Const, Add, Sub, Mul, Div, Mod, Lt, Le, Gt, Ge, Eq, Ne, Commit}
-use Rattle.lmn_instr.specs.Running.{HeadRegisters, HeadSize, InstructionHolds, AllHold, atoms_set, membranes_set, choices}
-use Rattle.lmn_solid.specs.Embeddings.{ListNotAfter}
-use Rattle.lmn_solid.specs.Guards.{IsUnaryPart}
-use Rattle.lmn_registers.specs.Agreeing.{Agrees}
-use Rattle.lmn_registers.specs.declared.registers.SetRegisters.{SetRegisters}
-use Rattle.lmn_registers.specs.declared.stack.TheConstants.{ROOM}
-use Rattle.lmn_commit.specs.Preparing.{IsNext}
-use Rattle.lmn_commit.specs.Registers.{AreAtomHandles, AreMembraneHandles, AreRootHandles}
+use Rattle.lmn_store_heap.specs.Heap.{Heap, IsAtom, port_id, home_of, link_of, arity_of}
+use Rattle.lmn_store_heap.specs.Graphs.{atom_map}
+use Rattle.lmn_instr_code.specs.declared.instr.Instr.{Instr}
+use Rattle.lmn_instr_code.specs.declared.instr.Instr.TheVariants.{FindAtom, Deref, Func, InMem, NeqAtom, Joined, AnyMem, NeqMem, NMems, NoRules, NotIn, IsInt, IsUnary, IsGround, NAtoms, IsClosed, EqGround, NeqGround, GetInt, Const, Add, Sub, Mul, Div, Mod, Lt, Le, Gt, Ge, Eq, Ne, Commit}
+use Rattle.lmn_instr_code.specs.Running.{HeadRegisters, HeadSize, InstructionHolds, AllHold, atoms_set, membranes_set, choices}
+use Rattle.lmn_solid_heads.specs.Embeddings.{ListNotAfter}
+use Rattle.lmn_solid_heads.specs.Guards.{IsUnaryPart}
+use Rattle.lmn_machine_registers.specs.Agreeing.{Agrees}
+use Rattle.lmn_machine_registers.specs.declared.registers.SetRegisters.{SetRegisters}
+use Rattle.lmn_machine_registers.specs.declared.stack.TheConstants.{ROOM}
+use Rattle.lmn_machine_commit.specs.Preparing.{IsNext}
+use Rattle.lmn_machine_commit.specs.Registers.{AreAtomHandles, AreMembraneHandles, AreRootHandles}
 
 -- none of these handles is of an atom
 pub record AreApart {A : Type 0} (atom : A → ℕ) (handles : List A) (n : ℕ) : Type 0 where

@@ -1,22 +1,22 @@
 //! Candidates are tested before they are tried, by what the code ahead asks of them.
 ghost use Rattle.std.specs.Prelude.{◌≡◌, ◌≤◌, ◌<◌, ◌+◌, ℕ, Some, IfSome, IsTrue, IsFalse, length, drop, slice_get};
 ghost use Rattle.std.specs.Option.{option_map};
-ghost use Rattle.lmn_heap.specs.Lists.{from};
-ghost use Rattle.lmn_heap.specs.Heap.{IsAtom, IsMem, functor_of, home_of, parent_of, atoms_in, mems_in};
-ghost use Rattle.lmn_heap.specs.Functors.{with_functor};
-ghost use Rattle.lmn_instr.specs.declared.instr.Instr.TheVariants.{Deref, InMem};
-ghost use Rattle.lmn_instr.specs.Running.{HeadRegisters, HeadSize, InstructionHolds, AllHold};
-ghost use Rattle.lmn_registers.specs.Agreeing.{Agrees};
+ghost use Rattle.lmn_store_heap.specs.Lists.{from};
+ghost use Rattle.lmn_store_heap.specs.Heap.{IsAtom, IsMem, functor_of, home_of, parent_of, atoms_in, mems_in};
+ghost use Rattle.lmn_store_heap.specs.Functors.{with_functor};
+ghost use Rattle.lmn_instr_code.specs.declared.instr.Instr.TheVariants.{Deref, InMem};
+ghost use Rattle.lmn_instr_code.specs.Running.{HeadRegisters, HeadSize, InstructionHolds, AllHold};
+ghost use Rattle.lmn_machine_registers.specs.Agreeing.{Agrees};
 ghost use Rattle.lmn_machine.specs.Searching.{AreHeldWhole};
 ghost use Rattle.lmn_machine.specs.Asking.{HoldsAsked, AsksFor, IsGuest};
 ghost use Rattle.lmn_base.specs.Lists.{In};
 
 use crate::checks;
 use lmn_base::Functor;
-use lmn_codes::Instrs;
-use lmn_instr::{AtomPort, Instr};
-use lmn_registers::SetRegisters;
-use lmn_store::LinkStore;
+use lmn_instr_code::{AtomPort, Instr};
+use lmn_instr_pool::Instrs;
+use lmn_machine_registers::SetRegisters;
+use lmn_store_trait::LinkStore;
 
 /// Whether an instruction tests one atom register, and fails with an atom in it.
 #[inline(always)]

@@ -1,12 +1,12 @@
 ghost use Rattle.std.specs.Prelude.{◌≡◌, ◌≢◌, ◌<◌, ◌↔◌, ℕ, Some, [], length, IfSome, IsTrue};
 ghost use Rattle.std.specs.Option.{option_map};
-ghost use Rattle.lmn_heap.specs.Heap.{IsAtom, IsMem, functor_of, link_of, arity_of, port_id, atoms_in, mems_in, rules_in};
-ghost use Rattle.lmn_heap.specs.Sound.{Valid};
-ghost use Rattle.lmn_solid.specs.Embeddings.{StandsWithin};
+ghost use Rattle.lmn_store_heap.specs.Heap.{IsAtom, IsMem, functor_of, link_of, arity_of, port_id, atoms_in, mems_in, rules_in};
+ghost use Rattle.lmn_store_heap.specs.Sound.{Valid};
+ghost use Rattle.lmn_solid_heads.specs.Embeddings.{StandsWithin};
 ghost use Rattle.lmn_base.specs.Lists.{In};
 
 use lmn_base::Functor;
-use lmn_store::LinkStore;
+use lmn_store_trait::LinkStore;
 
 /// Whether two functors are one.
 fn same_functor(f: Functor, g: Functor) -> bool

@@ -1,22 +1,22 @@
 //! How many items a commit leaves.
 ghost use Rattle.std.specs.Prelude.{◌≡◌, ◌<◌, ◌≤◌, ◌+◌, ◌-◌, ◌^◌, ℕ, length, min, IfSome, IsSomeAnd};
 ghost use Rattle.std.specs.List.{AllByRecursion};
-ghost use Rattle.lmn_heap.specs.Heap.{rules_in, Unmarked};
-ghost use Rattle.lmn_heap.specs.Sound.{Valid};
-ghost use Rattle.lmn_instr.specs.Running.{HeadRegisters};
-ghost use Rattle.lmn_body.specs.Running.{Registers};
-ghost use Rattle.lmn_commit.specs.Registers.{HasRests};
-ghost use Rattle.lmn_registers.specs.Agreeing.{Agrees};
+ghost use Rattle.lmn_store_heap.specs.Heap.{rules_in, Unmarked};
+ghost use Rattle.lmn_store_heap.specs.Sound.{Valid};
+ghost use Rattle.lmn_instr_code.specs.Running.{HeadRegisters};
+ghost use Rattle.lmn_solid_bodies.specs.Running.{Registers};
+ghost use Rattle.lmn_machine_commit.specs.Registers.{HasRests};
+ghost use Rattle.lmn_machine_registers.specs.Agreeing.{Agrees};
 ghost use Rattle.lmn_machine.specs.Searching.{AreHeldWhole};
 ghost use Rattle.lmn_machine.specs.Costs.{AddsItems, IsSize, IsTold, Leaves, TakesItems};
 
 use crate::machine::Machine;
 use crate::rests::rest_items;
-use lmn_codes::{Body, CodeView};
 use lmn_ground::size_of;
-use lmn_instr::Instr;
-use lmn_registers::SetRegisters;
-use lmn_store::LinkStore;
+use lmn_instr_code::Instr;
+use lmn_instr_pool::{Body, CodeView};
+use lmn_machine_registers::SetRegisters;
+use lmn_store_trait::LinkStore;
 
 /// How many atoms a typed context has.
 #[derive(Clone, Copy, Drop)]

@@ -1,14 +1,14 @@
 ghost use Rattle.std.specs.Prelude.{◌≡◌, [], IsTrue, IsFalse};
-ghost use Rattle.lmn_heap.specs.Heap.{IsMem, Unmarked};
-ghost use Rattle.lmn_heap.specs.Sound.{Valid};
-ghost use Rattle.lmn_instr.specs.Running.{HeadRegisters, Succeeds, IsFirstSuccess};
-ghost use Rattle.lmn_registers.specs.Agreeing.{Agrees};
+ghost use Rattle.lmn_store_heap.specs.Heap.{IsMem, Unmarked};
+ghost use Rattle.lmn_store_heap.specs.Sound.{Valid};
+ghost use Rattle.lmn_instr_code.specs.Running.{HeadRegisters, Succeeds, IsFirstSuccess};
+ghost use Rattle.lmn_machine_registers.specs.Agreeing.{Agrees};
 ghost use Rattle.lmn_machine.specs.Searching.{AreAllSet, AreHeldWhole, HeadInOrder};
 
 use crate::search;
-use lmn_codes::Instrs;
-use lmn_registers::SetRegisters;
-use lmn_store::LinkStore;
+use lmn_instr_pool::Instrs;
+use lmn_machine_registers::SetRegisters;
+use lmn_store_trait::LinkStore;
 
 /// Looks for the first success of head code in a membrane: the registers then hold it. It takes no memory.
 pub(crate) fn find<S: LinkStore>(

@@ -1,15 +1,15 @@
 //! How many atoms a membrane holds besides those of typed contexts.
 ghost use Rattle.std.specs.Prelude.{◌≡◌, ◌≢◌, ◌<◌, ◌≤◌, ◌+◌, ◌-◌, ◌↔◌, ℕ, Some, IsTrue, IsFalse, length, slice_get, take};
 ghost use Rattle.std.specs.List.{AllByRecursion};
-ghost use Rattle.lmn_heap.specs.Heap.{IsAtom, IsMem, atoms_in, port_id, Unmarked};
-ghost use Rattle.lmn_instr.specs.Running.{HeadRegisters, HasOthers, IsInSome};
-ghost use Rattle.lmn_registers.specs.Agreeing.{Agrees};
+ghost use Rattle.lmn_store_heap.specs.Heap.{IsAtom, IsMem, atoms_in, port_id, Unmarked};
+ghost use Rattle.lmn_instr_code.specs.Running.{HeadRegisters, HasOthers, IsInSome};
+ghost use Rattle.lmn_machine_registers.specs.Agreeing.{Agrees};
 ghost use Rattle.lmn_machine.specs.Searching.{AreHeldWhole};
 
 use crate::checks;
 use lmn_ground::{is_same_port, size_of};
-use lmn_registers::{SetRegisters, Stack};
-use lmn_store::LinkStore;
+use lmn_machine_registers::{SetRegisters, Stack};
+use lmn_store_trait::LinkStore;
 
 /// Whether one of the first n parts that are listed is entered at a port.
 fn is_listed<S: LinkStore>(

@@ -2,21 +2,21 @@
 ghost use Rattle.std.specs.Prelude.{◌≡◌, ◌<◌, ◌+◌, ◌↔◌, ℕ, List, IsSome, IsTrue, length, map, sum};
 ghost use Rattle.std.specs.List.{AllByRecursion};
 ghost use Rattle.lmn_base.specs.Lists.{In};
-ghost use Rattle.lmn_heap.specs.Heap.{Heap, IsMem, Unmarked, arity_of, link_of, rules_in};
-ghost use Rattle.lmn_heap.specs.Sound.{Valid};
-ghost use Rattle.lmn_instr.specs.Running.{HeadRegisters, HeadSize, IsClosedRest, IsInSome};
+ghost use Rattle.lmn_store_heap.specs.Heap.{Heap, IsMem, Unmarked, arity_of, link_of, rules_in};
+ghost use Rattle.lmn_store_heap.specs.Sound.{Valid};
+ghost use Rattle.lmn_instr_code.specs.Running.{HeadRegisters, HeadSize, IsClosedRest, IsInSome};
 ghost use Rattle.lmn_ground.specs.Rests.{own_marked};
-ghost use Rattle.lmn_body.specs.Running.{Registers};
-ghost use Rattle.lmn_registers.specs.Agreeing.{Agrees};
-ghost use Rattle.lmn_commit.specs.OwnMarks.{own_painted};
-ghost use Rattle.lmn_commit.specs.Registers.{HasRests};
+ghost use Rattle.lmn_solid_bodies.specs.Running.{Registers};
+ghost use Rattle.lmn_machine_registers.specs.Agreeing.{Agrees};
+ghost use Rattle.lmn_machine_commit.specs.OwnMarks.{own_painted};
+ghost use Rattle.lmn_machine_commit.specs.Registers.{HasRests};
 ghost use Rattle.lmn_machine.specs.Searching.{AreHeldWhole, AreRootPorts};
 
 use crate::whole::mark_all;
-use lmn_commit::mark_taken;
 use lmn_ground::{closed, items_left, paint};
-use lmn_registers::SetRegisters;
-use lmn_store::LinkStore;
+use lmn_machine_commit::mark_taken;
+use lmn_machine_registers::SetRegisters;
+use lmn_store_trait::LinkStore;
 
 /// Sets the own marks of the atoms of the listed parts.
 fn paint_parts<S: LinkStore>(

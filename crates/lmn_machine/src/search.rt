@@ -1,20 +1,20 @@
 ghost use Rattle.std.specs.Prelude.{◌≡◌, ◌≤◌, ◌+◌, ℕ, length, drop, slice_get, Some};
-ghost use Rattle.lmn_heap.specs.Lists.{from};
-ghost use Rattle.lmn_heap.specs.Sound.{Valid};
-ghost use Rattle.lmn_instr.specs.declared.instr.Instr.TheVariants.{FindAtom, AnyMem};
+ghost use Rattle.lmn_store_heap.specs.Lists.{from};
+ghost use Rattle.lmn_store_heap.specs.Sound.{Valid};
+ghost use Rattle.lmn_instr_code.specs.declared.instr.Instr.TheVariants.{FindAtom, AnyMem};
 ghost use Rattle.lmn_machine.specs.Searching.{AreHeldWhole, HeadInOrder, Searched};
 ghost use Rattle.lmn_machine.specs.Outcomes.{ChoosesAtoms, ChoosesMembranes};
 ghost use Rattle.lmn_machine.specs.Asking.{IsGuest};
-ghost use Rattle.lmn_heap.specs.Heap.{IsAtom, Unmarked, atoms_in, functor_of, home_of};
-ghost use Rattle.lmn_heap.specs.Functors.{with_functor};
+ghost use Rattle.lmn_store_heap.specs.Heap.{IsAtom, Unmarked, atoms_in, functor_of, home_of};
+ghost use Rattle.lmn_store_heap.specs.Functors.{with_functor};
 
 use crate::steps::Outcome;
 use crate::{ahead, steps};
 use lmn_base::Functor;
-use lmn_codes::Instrs;
-use lmn_instr::Instr;
-use lmn_registers::SetRegisters;
-use lmn_store::LinkStore;
+use lmn_instr_code::Instr;
+use lmn_instr_pool::Instrs;
+use lmn_machine_registers::SetRegisters;
+use lmn_store_trait::LinkStore;
 
 /// Runs code from an instruction on, and tries the candidates of its first choice in order.
 #[cycle(search)]

@@ -1,16 +1,16 @@
 ghost use Rattle.std.specs.Prelude.{◌≡◌, ◌<◌, ◌↔◌, ◌+◌, ℕ, [], ◌∷◌, length, IsTrue};
-ghost use Rattle.lmn_heap.specs.Sound.{Valid};
-ghost use Rattle.lmn_instr.specs.Running.{HeadRegisters, HeadSize, InstructionHolds};
-ghost use Rattle.lmn_heap.specs.Heap.{Heap, Unmarked};
-ghost use Rattle.lmn_registers.specs.Agreeing.{Agrees};
+ghost use Rattle.lmn_store_heap.specs.Sound.{Valid};
+ghost use Rattle.lmn_instr_code.specs.Running.{HeadRegisters, HeadSize, InstructionHolds};
+ghost use Rattle.lmn_store_heap.specs.Heap.{Heap, Unmarked};
+ghost use Rattle.lmn_machine_registers.specs.Agreeing.{Agrees};
 ghost use Rattle.lmn_machine.specs.Searching.{AreHeldWhole, AsksNoPart, Compares, Extends, TestsSetRegisters, HeadInOrder, HasGiven, HasGivenPart, Stepped};
 ghost use Rattle.lmn_machine.specs.Outcomes.{HasOutcome, Tells};
-ghost use Rattle.lmn_instr.specs.declared.instr.Instr.TheVariants.{Deref};
+ghost use Rattle.lmn_instr_code.specs.declared.instr.Instr.TheVariants.{Deref};
 
 use crate::{checks, integers, others, parts, rests, whole};
-use lmn_instr::{AtomPort, Instr};
-use lmn_registers::{ROOM, SetRegisters};
-use lmn_store::LinkStore;
+use lmn_instr_code::{AtomPort, Instr};
+use lmn_machine_registers::{ROOM, SetRegisters};
+use lmn_store_trait::LinkStore;
 
 /// Whether a comparison holds of the integers that are set; COMMIT holds.
 #[inline(always)]

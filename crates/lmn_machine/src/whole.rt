@@ -1,18 +1,18 @@
 //! Parts of any number of atoms.
 ghost use Rattle.std.specs.Prelude.{◌≡◌, ◌<◌, ◌↔◌, ℕ, List, Some, IfSome, IsTrue, map};
 ghost use Rattle.std.specs.Option.{option_map};
-ghost use Rattle.lmn_heap.specs.Heap.{IsAtom, IsMem, arity_of, link_of, port_id, Unmarked};
+ghost use Rattle.lmn_store_heap.specs.Heap.{IsAtom, IsMem, arity_of, link_of, port_id, Unmarked};
 ghost use Rattle.lmn_base.specs.Graphs.{SameGraph};
-ghost use Rattle.lmn_heap.specs.Graphs.{atom_map};
+ghost use Rattle.lmn_store_heap.specs.Graphs.{atom_map};
 ghost use Rattle.lmn_ground.specs.Rests.{own_marked};
 ghost use Rattle.lmn_machine.specs.Searching.{IsHeldPart, IsWholeApart};
-ghost use Rattle.lmn_commit.specs.Registers.{AreAtomHandles};
+ghost use Rattle.lmn_machine_commit.specs.Registers.{AreAtomHandles};
 
 use crate::checks;
-use lmn_commit::set_own;
 use lmn_ground::{equal, is_ground};
-use lmn_registers::Stack;
-use lmn_store::LinkStore;
+use lmn_machine_commit::set_own;
+use lmn_machine_registers::Stack;
+use lmn_store_trait::LinkStore;
 
 /// Sets the own marks of the atoms in registers.
 pub fn mark_all<S: LinkStore>(store: &mut S, atoms: &Stack<S::Atom>, mark: u64)

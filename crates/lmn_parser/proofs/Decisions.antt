@@ -1,11 +1,11 @@
 -- What is read where none of several tokens stands.
 use Rattle.std.proofs.Common.{◌≡◌, ℕ, ◌+◌, false, List, [], ◌∷◌, slice_get, Some, refl, sym, ◌∙◌, ap, arith}
-use Rattle.lmn_grammar.specs.Grammar.{Tok, Ref, SumPart, TermPart, fact, item}
-use Rattle.lmn_grammar.specs.Factored.{atom_name}
-use Rattle.lmn_grammar.specs.Reading.{Owed, nexts, stop_at, begins}
+use Rattle.lmn_parser_grammar.specs.Grammar.{Tok, Ref, SumPart, TermPart, fact, item}
+use Rattle.lmn_parser_grammar.specs.Factored.{atom_name}
+use Rattle.lmn_parser_grammar.specs.Reading.{Owed, nexts, stop_at, begins}
 use Rattle.lmn_lexer.specs.declared.token.Kind.{Kind}
 use Rattle.lmn_lexer.specs.declared.token.Kind.TheVariants.{Name, Quoted, Mod, Link, Int, Context, RuleCtx, LParen, RParen, LBracket, LBrace, Plus}
-use Rattle.lmn_grammar.proofs.Stops.{alike, dead_at}
+use Rattle.lmn_parser_grammar.proofs.Stops.{alike, dead_at}
 use Rattle.lmn_base.proofs.Truth.{false_not_true as clash}
 
 -- two tokens on, counted in one step or in two

@@ -6,12 +6,12 @@ use Rattle.std.proofs.lemmas.List.{take-append-drop}
 use Rattle.lmn_base.specs.declared.guard.Arith.{Arith}
 use Rattle.lmn_base.specs.declared.guard.Arith.TheVariants as op
 use Rattle.std.specs.List.{AllByRecursion}
-use Rattle.lmn_grammar.specs.Grammar.{Ref, TermPart, Derives, by}
-use Rattle.lmn_grammar.specs.Limits.{ends_operand, may_be_operator, may_be_atom_name, continues_side, EndsWith, IsOperator, Side, begins, operand, operator, IsAtomName, Balanced, empty, comma, other, InArguments, begun, TermNext, behind_equal, in_arguments, in_list, of_any, of_term, left_of_equal, most_operators, most_arguments, most_term_arguments}
-use Rattle.lmn_grammar.specs.Refusing.{IsWithin}
-use Rattle.lmn_grammar.proofs.Arguments.{balanced_word}
-use Rattle.lmn_grammar.proofs.Counts.{balanced_both, last_is, side_less}
-use Rattle.lmn_grammar.proofs.Theory.{empty_right}
+use Rattle.lmn_parser_grammar.specs.Grammar.{Ref, TermPart, Derives, by}
+use Rattle.lmn_parser_grammar.specs.Limits.{ends_operand, may_be_operator, may_be_atom_name, continues_side, EndsWith, IsOperator, Side, begins, operand, operator, IsAtomName, Balanced, empty, comma, other, InArguments, begun, TermNext, behind_equal, in_arguments, in_list, of_any, of_term, left_of_equal, most_operators, most_arguments, most_term_arguments}
+use Rattle.lmn_parser_grammar.specs.Refusing.{IsWithin}
+use Rattle.lmn_parser_grammar.proofs.Arguments.{balanced_word}
+use Rattle.lmn_parser_grammar.proofs.Counts.{balanced_both, last_is, side_less}
+use Rattle.lmn_parser_grammar.proofs.Theory.{empty_right}
 use Rattle.lmn_lexer.specs.declared.token.Kind.{Kind}
 use Rattle.lmn_lexer.specs.declared.token.Kind.TheVariants.{Name, Quoted, Mod, Int, Context, LParen, RParen, LBracket, LBrace, Comma, Dot, Arrow, AtAt, Bar, Backslash, Equal, Plus, Minus, Star, Slash}
 use Rattle.lmn_lexer.specs.declared.token.Token.{Token}

@@ -1,8 +1,8 @@
 -- Which token a name or the name of an atom is.
 use Rattle.std.proofs.Common.{◌≡◌, ℕ, true, List, Option, Some, None, slice_get, ◌⊎◌, inl, inr, refl}
-use Rattle.lmn_grammar.specs.Grammar.{name}
-use Rattle.lmn_grammar.specs.Factored.{atom_name}
-use Rattle.lmn_grammar.specs.Reading.{begins}
+use Rattle.lmn_parser_grammar.specs.Grammar.{name}
+use Rattle.lmn_parser_grammar.specs.Factored.{atom_name}
+use Rattle.lmn_parser_grammar.specs.Reading.{begins}
 use Rattle.lmn_lexer.specs.declared.token.Kind.{Kind}
 use Rattle.lmn_lexer.specs.declared.token.Kind.TheVariants.{Name, Quoted, Mod, Int}
 use Rattle.lmn_lexer.specs.declared.token.Token.{Token}

@@ -1,8 +1,8 @@
 -- The trees and the grammar have the same programs, and refuse the same.
 use Rattle.std.proofs.Common.{◌≡◌, ℕ, List, [], ◌∷◌, refl, sym, ap, subst}
-use Rattle.lmn_grammar.specs.Grammar.{Derives, program}
-use Rattle.lmn_grammar.specs.Refusing.{IsRefused, IsWithin}
-use Rattle.lmn_grammar.proofs.Refusals.{refused_alike, refused_is_none}
+use Rattle.lmn_parser_grammar.specs.Grammar.{Derives, program}
+use Rattle.lmn_parser_grammar.specs.Refusing.{IsRefused, IsWithin}
+use Rattle.lmn_parser_grammar.proofs.Refusals.{refused_alike, refused_is_none}
 use Rattle.lmn_lexer.specs.declared.token.Kind.{Kind}
 use Rattle.lmn_lexer.specs.declared.token.Token.{Token}
 use Rattle.lmn_parser.specs.Faults.{AreKindsOfProgram}

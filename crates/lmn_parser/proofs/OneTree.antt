@@ -1,10 +1,10 @@
 -- From one place on tokens are one part at most.
 use Rattle.std.proofs.Common.{◌≡◌, ℕ, suc, ◌+◌, true, false, List, ◌∷◌, ◌++◌, drop, slice_get, nat_eq, Option, Some, None, refl, sym, ◌∙◌, ap, subst}
 use Rattle.lmn_base.specs.declared.refusal.Pos.{Pos}
-use Rattle.lmn_grammar.specs.Grammar.{Opt, list as items, guard as conditions}
-use Rattle.lmn_grammar.specs.Reading.{may_follow_clause, is_end}
-use Rattle.lmn_grammar.proofs.Loose.{first_loose, calm_keeps}
-use Rattle.lmn_grammar.proofs.Stops.{drop_here, drop_past}
+use Rattle.lmn_parser_grammar.specs.Grammar.{Opt, list as items, guard as conditions}
+use Rattle.lmn_parser_grammar.specs.Reading.{may_follow_clause, is_end}
+use Rattle.lmn_parser_grammar.proofs.Loose.{first_loose, calm_keeps}
+use Rattle.lmn_parser_grammar.proofs.Stops.{drop_here, drop_past}
 use Rattle.lmn_lexer.specs.declared.token.Kind.{Kind}
 use Rattle.lmn_lexer.specs.declared.token.Kind.TheVariants.{End, RParen, RBracket, RBrace, Comma, Dot, Arrow, AtAt, Bar, Backslash, Equal}
 use Rattle.lmn_lexer.specs.declared.token.Token.{Token}

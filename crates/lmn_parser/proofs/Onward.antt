@@ -1,9 +1,9 @@
 -- What stands before a part is read, and then the part.
 use Rattle.std.proofs.Common.{◌≡◌, ◌≤◌, ℕ, max, arith, List, [], ◌∷◌, ◌∙◌, Result, Ok, Err, IsErrAnd, sym, subst}
-use Rattle.lmn_grammar.specs.Grammar.{Exp, Opt, list}
-use Rattle.lmn_grammar.specs.Factored.{guard_bar}
-use Rattle.lmn_grammar.specs.Reading.{Owed, stop_at, EndsOptList}
-use Rattle.lmn_grammar.proofs.Bodies.{GuardStops, ListStops}
+use Rattle.lmn_parser_grammar.specs.Grammar.{Exp, Opt, list}
+use Rattle.lmn_parser_grammar.specs.Factored.{guard_bar}
+use Rattle.lmn_parser_grammar.specs.Reading.{Owed, stop_at, EndsOptList}
+use Rattle.lmn_parser_grammar.proofs.Bodies.{GuardStops, ListStops}
 use Rattle.lmn_lexer.specs.declared.token.Kind.{Kind}
 use Rattle.lmn_parser.specs.Outcomes.{Stops, ReadsOrStops, reach}
 use Rattle.lmn_parser.specs.declared.stop.Stop.{Stop}

@@ -1,9 +1,9 @@
 -- Places up to a last `End`.
 use Rattle.std.proofs.Common.{◌≡◌, ◌≢◌, ℕ, zero, suc, ◌<◌, ◌≤◌, Bool, true, false, List, [], ◌∷◌, ◌++◌, length, slice_get, get_or, option_map, Some, refl, sym, ◌∙◌, ap, arith, if◌then◌else◌}
-use Rattle.lmn_grammar.specs.Reading.{is_kind}
+use Rattle.lmn_parser_grammar.specs.Reading.{is_kind}
 use Rattle.lmn_lexer.specs.declared.token.Kind.{Kind}
 use Rattle.lmn_lexer.specs.declared.token.Kind.TheVariants.{Context, End}
-use Rattle.lmn_grammar.proofs.Stops.{unlike, same_some as same}
+use Rattle.lmn_parser_grammar.proofs.Stops.{unlike, same_some as same}
 use Rattle.std.proofs.lemmas.Option.{slice_get-map, slice_get-get_or}
 use Rattle.lmn_lexer.specs.declared.token.Token.{Token}
 use Rattle.lmn_parser.specs.Parsing.{kinds_of}

@@ -2,17 +2,17 @@
 use Rattle.std.proofs.Common.{◌≡◌, ℕ, ◌+◌, ◌<◌, ◌≤◌, List, [], ◌∷◌, length, take, slice_get, Some, Result, Ok, Err, IsErrAnd, sym, ◌∙◌, ap, subst, arith, length-append}
 use Rattle.std.proofs.lemmas.List.{take-map, length-map, length-take-le}
 use Rattle.std.proofs.lemmas.Option.{slice_get_within}
-use Rattle.lmn_grammar.specs.Grammar.{Derives, program}
-use Rattle.lmn_grammar.specs.Limits.{Passes}
-use Rattle.lmn_grammar.specs.Reading.{Owed, stop_at}
-use Rattle.lmn_grammar.specs.Refusing.{BeginsProgram, IsRefused, IsWithin}
+use Rattle.lmn_parser_grammar.specs.Grammar.{Derives, program}
+use Rattle.lmn_parser_grammar.specs.Limits.{Passes}
+use Rattle.lmn_parser_grammar.specs.Reading.{Owed, stop_at}
+use Rattle.lmn_parser_grammar.specs.Refusing.{BeginsProgram, IsRefused, IsWithin}
 use Rattle.lmn_lexer.specs.declared.token.Kind.{Kind}
 use Rattle.lmn_lexer.specs.declared.token.Kind.TheVariants.{End}
 use Rattle.lmn_lexer.specs.declared.token.Token.{Token}
 use Rattle.lmn_parser.specs.declared.stop.Stop.{Stop}
 use Rattle.lmn_parser.specs.declared.stop.Stop.TheVariants.{At}
-use Rattle.lmn_grammar.proofs.Ends.{begun_to_end}
-use Rattle.lmn_grammar.proofs.Refusals.{all_begins, refused_plain, refused_before_limit, refused_by_limit, start}
+use Rattle.lmn_parser_grammar.proofs.Ends.{begun_to_end}
+use Rattle.lmn_parser_grammar.proofs.Refusals.{all_begins, refused_plain, refused_before_limit, refused_by_limit, start}
 use Rattle.lmn_parser.specs.Outcomes.{Stops, ReadsWhole, reach}
 use Rattle.lmn_parser.specs.Syntax.{Clauses}
 use Rattle.lmn_parser.specs.Trees.{At as KindAt, IsClauses, IsProgram}

@@ -1,15 +1,15 @@
 -- Which token stands where a part begins, and behind it.
 use Rattle.std.proofs.Common.{◌≡◌, ℕ, ◌+◌, Bool, true, false, List, nat_eq, refl, sym, ◌∙◌, ap, subst, inl, inr}
 use Rattle.std.proofs.lemmas.Bool.{eq-eqb}
-use Rattle.lmn_grammar.specs.Reading.{is_kind, may_follow_clause, is_end}
-use Rattle.lmn_grammar.proofs.Theory.{is_itself}
+use Rattle.lmn_parser_grammar.specs.Reading.{is_kind, may_follow_clause, is_end}
+use Rattle.lmn_parser_grammar.proofs.Theory.{is_itself}
 use Rattle.lmn_lexer.specs.declared.token.Kind.{Kind}
 use Rattle.lmn_lexer.specs.declared.token.Kind.TheVariants.{Name, Quoted, Mod, Link, Int, Context, RuleCtx, End, LParen, RParen, LBracket, RBracket, LBrace, RBrace, Comma, Dot, Arrow, AtAt, Bar, Backslash, Equal, Plus}
 use Rattle.lmn_lexer.specs.declared.token.Token.{Token}
 use Rattle.lmn_parser.specs.Syntax.{Term, Terms, Item, Items, Clause, Clauses}
 use Rattle.lmn_parser.specs.Trees.{At, NameAt, IsClause, named_rule, unnamed_rule, is_process, IsWrittenRule, is_rule, IsHeads, all_taken, some_kept, no_list, some_list, IsList, last_item, more_items, IsItem, is_atom_item, is_membrane_item, is_context_item, is_closed, is_bracketed, is_rule_context, is_plus_link, is_group, is_equation, IsMembrane, in_braces, IsWrittenAtom, with_name, with_integer, no_parentheses, no_arguments, some_arguments, IsTerms, last_term, more_terms, IsTerm, is_link, is_atom, is_context, is_membrane, is_list, IsTermList, empty_list, closed_list, open_list}
 use Rattle.lmn_base.proofs.Truth.{false_not_true as clash}
-use Rattle.lmn_grammar.proofs.Stops.{same_some as some_same}
+use Rattle.lmn_parser_grammar.proofs.Stops.{same_some as some_same}
 
 -- a token has one kind
 pub one_kind : (ts : List Token) (p : ℕ) {k l : Kind} → At ts p k → At ts p l → k ≡ l

@@ -5,9 +5,9 @@ use Rattle.lmn_base.specs.declared.guard.Arith.{Arith}
 use Rattle.lmn_base.specs.declared.guard.Arith.TheVariants as arith
 use Rattle.lmn_base.specs.declared.guard.Cmp.{Cmp}
 use Rattle.lmn_base.specs.declared.guard.Cmp.TheVariants as compare
-use Rattle.lmn_grammar.specs.Grammar.{Exp, Tok, Seq, Alt, Opt, Many, Within, Ref, Bracket, Round, Square, Curly, opener, closer, Part, TermPart, SumPart, ClausePart, ClausesPart, part_expression, Derives, here, both, left, right, without, with, no_more, one_more, inside, by, some_of, more_of, name, arguments, atom, membrane, tlist, term, item, list, fact, product, sum, cmp, cond, guard, body, heads, rule, clause, clauses, program}
-use Rattle.lmn_grammar.specs.Factored.{contexts}
-use Rattle.lmn_grammar.proofs.Stops.{drop_here}
+use Rattle.lmn_parser_grammar.specs.Grammar.{Exp, Tok, Seq, Alt, Opt, Many, Within, Ref, Bracket, Round, Square, Curly, opener, closer, Part, TermPart, SumPart, ClausePart, ClausesPart, part_expression, Derives, here, both, left, right, without, with, no_more, one_more, inside, by, some_of, more_of, name, arguments, atom, membrane, tlist, term, item, list, fact, product, sum, cmp, cond, guard, body, heads, rule, clause, clauses, program}
+use Rattle.lmn_parser_grammar.specs.Factored.{contexts}
+use Rattle.lmn_parser_grammar.proofs.Stops.{drop_here}
 use Rattle.lmn_lexer.specs.declared.token.Kind.{Kind}
 use Rattle.lmn_lexer.specs.declared.token.Kind.TheVariants.{Name, Quoted, Mod, Link, Int, Context, RuleCtx, End, RBracket, Comma, Dot, Arrow, AtAt, Bar, Backslash, Equal, Less, LessEq, Greater, GreaterEq, NumEq, NumNe, Differ, Plus, Minus, Star, Slash}
 use Rattle.lmn_lexer.specs.declared.token.Token.{Token}

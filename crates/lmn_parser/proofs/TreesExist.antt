@@ -6,10 +6,10 @@ use Rattle.lmn_base.specs.declared.guard.Arith.TheVariants as arith
 use Rattle.lmn_base.specs.declared.guard.Cmp.{Cmp}
 use Rattle.lmn_base.specs.declared.guard.Cmp.TheVariants as compare
 use Rattle.lmn_base.specs.declared.refusal.Pos.{Pos}
-use Rattle.lmn_grammar.specs.Grammar as grammar
-use Rattle.lmn_grammar.specs.Grammar.{Exp, Tok, Seq, Alt, Opt, Many, Within, Ref, opener, closer, Part, TermPart, SumPart, ClausePart, ClausesPart, part_expression, Derives, here, both, left, right, without, with, no_more, one_more, inside, by, some_of, name}
-use Rattle.lmn_grammar.specs.Factored.{contexts}
-use Rattle.lmn_grammar.proofs.Spans.{drop_front, front_get}
+use Rattle.lmn_parser_grammar.specs.Grammar as grammar
+use Rattle.lmn_parser_grammar.specs.Grammar.{Exp, Tok, Seq, Alt, Opt, Many, Within, Ref, opener, closer, Part, TermPart, SumPart, ClausePart, ClausesPart, part_expression, Derives, here, both, left, right, without, with, no_more, one_more, inside, by, some_of, name}
+use Rattle.lmn_parser_grammar.specs.Factored.{contexts}
+use Rattle.lmn_parser_grammar.proofs.Spans.{drop_front, front_get}
 use Rattle.lmn_lexer.specs.declared.token.Kind.{Kind}
 use Rattle.lmn_lexer.specs.declared.token.Kind.TheVariants.{Mod, Link, Context, RParen, LBracket, RBracket, Comma, Dot, Arrow, AtAt, Bar, Equal, Differ, Plus, Minus, Star, Slash}
 use Rattle.lmn_lexer.specs.declared.token.Token.{Token}

@@ -4,11 +4,11 @@ use Rattle.std.proofs.lemmas.List.{length-map}
 use Rattle.std.specs.List.{AllByRecursion}
 use Rattle.lmn_base.specs.declared.guard.Cmp.{Cmp}
 use Rattle.lmn_base.specs.declared.guard.Cmp.TheVariants as cmp
-use Rattle.lmn_grammar.specs.Limits.{may_be_operator, empty, one_more, TooDeep, TooManyArguments, most_operators, most_arguments, most_term_arguments}
-use Rattle.lmn_grammar.specs.Refusing.{IsWithin}
-use Rattle.lmn_grammar.specs.Scan.{Opened, Arguments, Terms, Group, Last, Equals, Word, Digits, Closed, Operand, Other, Scan, was_operand, is_operator, limit_in, limit_behind, round_behind, one_more_begun, scan_after, scan, has_too_many, is_full, is_equal}
-use Rattle.lmn_grammar.proofs.Counts.{scan_more, added, added_none, added_one, added_twice, operator_scan, side_scan, many_scan}
-use Rattle.lmn_grammar.proofs.Scans.{within_none, within_more}
+use Rattle.lmn_parser_grammar.specs.Limits.{may_be_operator, empty, one_more, TooDeep, TooManyArguments, most_operators, most_arguments, most_term_arguments}
+use Rattle.lmn_parser_grammar.specs.Refusing.{IsWithin}
+use Rattle.lmn_parser_grammar.specs.Scan.{Opened, Arguments, Terms, Group, Last, Equals, Word, Digits, Closed, Operand, Other, Scan, was_operand, is_operator, limit_in, limit_behind, round_behind, one_more_begun, scan_after, scan, has_too_many, is_full, is_equal}
+use Rattle.lmn_parser_grammar.proofs.Counts.{scan_more, added, added_none, added_one, added_twice, operator_scan, side_scan, many_scan}
+use Rattle.lmn_parser_grammar.proofs.Scans.{within_none, within_more}
 use Rattle.lmn_lexer.specs.declared.token.Kind.{Kind}
 use Rattle.lmn_lexer.specs.declared.token.Kind.TheVariants.{Name, Quoted, Mod, Link, Int, Context, RuleCtx, End, LParen, RParen, LBracket, RBracket, LBrace, RBrace, Comma, Dot, Arrow, AtAt, Bar, Backslash, Equal, Less, LessEq, Greater, GreaterEq, NumEq, NumNe, Differ, Plus, Minus, Star, Slash}
 use Rattle.lmn_lexer.specs.declared.token.Token.{Token}

@@ -2,7 +2,7 @@
 -- operators than it may have.
 use Rattle.std.specs.Prelude.{ℕ, suc, ◌+◌, ◌≤◌, length}
 use Rattle.std.specs.List.{AllByRecursion}
-use Rattle.lmn_grammar.specs.Limits.{most_operators, most_arguments, most_term_arguments}
+use Rattle.lmn_parser_grammar.specs.Limits.{most_operators, most_arguments, most_term_arguments}
 use Rattle.lmn_parser.specs.Syntax.{Expr, integer, value, operation, WrittenCondition, called, compared, equal, different, Term, link, atom, list, list_onto, context, membrane, Terms, no_term, term_and, Item, atom_item, membrane_item, context_item, closed_item, bracketed, rule_context, plus_link, group, equation, Items, no_item, item_and, Clause, process, rule, Clauses, no_clause, clause_and}
 
 abbrev pub number_of_terms : Terms → ℕ

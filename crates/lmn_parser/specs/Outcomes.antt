@@ -1,7 +1,7 @@
 -- What a function of the reader answers. No public contract cites these words.
 use Rattle.std.specs.Prelude.{◌≡◌, ◌<◌, ◌≤◌, ℕ, suc, List, [], ◌∷◌, length, Result, Ok, Err, IfOk, if◌then◌else◌}
-use Rattle.lmn_grammar.specs.Grammar.{Exp, program}
-use Rattle.lmn_grammar.specs.Reading.{Owed, is_kind, stop_at, ReadsTo}
+use Rattle.lmn_parser_grammar.specs.Grammar.{Exp, program}
+use Rattle.lmn_parser_grammar.specs.Reading.{Owed, is_kind, stop_at, ReadsTo}
 use Rattle.lmn_lexer.specs.declared.token.Kind.{Kind}
 use Rattle.lmn_lexer.specs.declared.token.Kind.TheVariants.{End}
 use Rattle.lmn_parser.specs.declared.stop.Stop.{Stop}

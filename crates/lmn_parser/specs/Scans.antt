@@ -1,8 +1,8 @@
 -- What the search for a token that passes a limit knows. No public contract cites these words.
 use Rattle.std.specs.Prelude.{◌≡◌, List, [], ◌∷◌, map, reverse, take, slice_get, Option, Some, None}
-use Rattle.lmn_grammar.specs.Limits.{Passes}
-use Rattle.lmn_grammar.specs.Scan.{Opened, Arguments, Terms, Group, Last, Equals, Word, Digits, Closed, Operand, Other, Scan}
-use Rattle.lmn_grammar.specs.Refusing.{IsWithin}
+use Rattle.lmn_parser_grammar.specs.Limits.{Passes}
+use Rattle.lmn_parser_grammar.specs.Scan.{Opened, Arguments, Terms, Group, Last, Equals, Word, Digits, Closed, Operand, Other, Scan}
+use Rattle.lmn_parser_grammar.specs.Refusing.{IsWithin}
 use Rattle.lmn_lexer.specs.declared.token.Kind.{Kind}
 use Rattle.lmn_parser.specs.declared.limits.Opened as opened
 use Rattle.lmn_parser.specs.declared.limits.Opened.TheVariants as bracket

@@ -1,8 +1,8 @@
 -- The laws of trees.
 use Rattle.std.specs.Prelude.{◌≡◌, ◌+◌, List, ◌++◌}
-use Rattle.lmn_grammar.specs.Grammar.{Derives, program}
-use Rattle.lmn_grammar.specs.Limits.{Open, most_brackets}
-use Rattle.lmn_grammar.specs.Refusing.{IsWithin}
+use Rattle.lmn_parser_grammar.specs.Grammar.{Derives, program}
+use Rattle.lmn_parser_grammar.specs.Limits.{Open, most_brackets}
+use Rattle.lmn_parser_grammar.specs.Refusing.{IsWithin}
 use Rattle.lmn_lexer.specs.declared.token.Kind.{Kind}
 use Rattle.lmn_lexer.specs.declared.token.Token.{Token}
 use Rattle.lmn_parser.specs.Arities.{FitsClauses}

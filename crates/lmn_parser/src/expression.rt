@@ -1,6 +1,6 @@
 ghost use Rattle.std.specs.Prelude.{◌≡◌, ◌≤◌, IfOk};
-ghost use Rattle.lmn_grammar.specs.Grammar.{Ref, SumPart, product, fact};
-ghost use Rattle.lmn_grammar.specs.Reading.{Owed, EndsSum, EndsProduct};
+ghost use Rattle.lmn_parser_grammar.specs.Grammar.{Ref, SumPart, product, fact};
+ghost use Rattle.lmn_parser_grammar.specs.Reading.{Owed, EndsSum, EndsProduct};
 ghost use Rattle.lmn_parser.specs.Parsing.{kinds_of};
 ghost use Rattle.lmn_parser.specs.Outcomes.{GoesForth, ReadsOrStops, reach};
 ghost use Rattle.lmn_parser.specs.Syntax.{expr_of, operation};

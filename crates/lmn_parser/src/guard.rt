@@ -1,7 +1,7 @@
 ghost use Rattle.std.specs.Prelude.{◌≡◌, ℕ, ◌≤◌, ◌+◌, IfOk, []};
-ghost use Rattle.lmn_grammar.specs.Grammar.{Opt, Seq, Ref, SumPart, cmp, cond};
-ghost use Rattle.lmn_grammar.specs.Factored.{contexts, guard_bar};
-ghost use Rattle.lmn_grammar.specs.Reading.{Owed, next, EndsCond, EndsSum};
+ghost use Rattle.lmn_parser_grammar.specs.Grammar.{Opt, Seq, Ref, SumPart, cmp, cond};
+ghost use Rattle.lmn_parser_grammar.specs.Factored.{contexts, guard_bar};
+ghost use Rattle.lmn_parser_grammar.specs.Reading.{Owed, next, EndsCond, EndsSum};
 ghost use Rattle.lmn_parser.specs.Parsing.{kinds_of};
 ghost use Rattle.lmn_parser.specs.Outcomes.{GoesForth, ReadsOrStops, StaysOrGoesForth, reach};
 ghost use Rattle.lmn_parser.specs.Syntax.{condition_of_node, conditions_of};

@@ -1,8 +1,8 @@
 ghost use Rattle.std.specs.Prelude.{◌≡◌, ◌∷◌, [], ◌<◌, length, slice_get, IfOk, Some, None, false};
-ghost use Rattle.lmn_grammar.specs.Limits as limits;
-ghost use Rattle.lmn_grammar.specs.Scan as scanner;
+ghost use Rattle.lmn_parser_grammar.specs.Limits as limits;
+ghost use Rattle.lmn_parser_grammar.specs.Scan as scanner;
 ghost use Rattle.lmn_parser.specs.Scans.{opened_of, last_of, stack_of, scan_of, innermost_of, IsFirstPassing};
-ghost use Rattle.lmn_grammar.specs.Scan.{is_equals_last};
+ghost use Rattle.lmn_parser_grammar.specs.Scan.{is_equals_last};
 ghost use Rattle.lmn_parser.specs.Parsing.{kinds_of};
 
 use lmn_base::{NoMemory, Rows};

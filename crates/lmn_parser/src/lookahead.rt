@@ -1,7 +1,7 @@
 ghost use Rattle.std.specs.Prelude.{◌≡◌, ◌≢◌, ◌<◌, ◌≤◌, ◌↔◌, ◌+◌, IsTrue, IsFalse, true, slice_get, length, IfOk, IfSome, IsSome, Some, is_some};
-ghost use Rattle.lmn_grammar.specs.Grammar.{Ref, Tok, ClausePart, cmp, list, name};
-ghost use Rattle.lmn_grammar.specs.Factored.{atom_name, plus, rule_tail, product_sign};
-ghost use Rattle.lmn_grammar.specs.Reading.{Owed, begins};
+ghost use Rattle.lmn_parser_grammar.specs.Grammar.{Ref, Tok, ClausePart, cmp, list, name};
+ghost use Rattle.lmn_parser_grammar.specs.Factored.{atom_name, plus, rule_tail, product_sign};
+ghost use Rattle.lmn_parser_grammar.specs.Reading.{Owed, begins};
 ghost use Rattle.lmn_parser.specs.Parsing.{kinds_of};
 ghost use Rattle.lmn_parser.specs.Outcomes.{TakesOrStops, reach};
 ghost use Rattle.lmn_parser.specs.Trees.{At, PlusAt, TimesAt, CmpAt};

@@ -1,6 +1,6 @@
 ghost use Rattle.std.specs.Prelude.{◌<◌, length, IfErr, IfOk, OnOk, Some};
-ghost use Rattle.lmn_grammar.specs.Grammar as grammar;
-ghost use Rattle.lmn_grammar.specs.Refusing.{IsRefused, IsWithin};
+ghost use Rattle.lmn_parser_grammar.specs.Grammar as grammar;
+ghost use Rattle.lmn_parser_grammar.specs.Refusing.{IsRefused, IsWithin};
 ghost use Rattle.lmn_parser.specs.Faults.{IsFaultOf, AreKindsOfProgram};
 ghost use Rattle.lmn_parser.specs.Parsing.{kinds_of, EndsWithEnd};
 ghost use Rattle.lmn_parser.specs.Outcomes.{ReadsWhole};

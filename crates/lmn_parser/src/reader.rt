@@ -1,7 +1,7 @@
 ghost use Rattle.std.specs.Prelude.{◌≡◌, ℕ, ◌<◌, ◌≤◌, length, IfOk, slice_get, Some};
-ghost use Rattle.lmn_grammar.specs.Grammar.{Ref, Opt, some_of, TermPart, ClausePart, ClausesPart, arguments, membrane, tlist, item, list, body};
-ghost use Rattle.lmn_grammar.specs.Factored.{right_side, rule_tail};
-ghost use Rattle.lmn_grammar.specs.Reading.{Owed, NoArgs, NoMore, EndsItem, EndsList, EndsOptList, OnlyClosers, OnlyEnds};
+ghost use Rattle.lmn_parser_grammar.specs.Grammar.{Ref, Opt, some_of, TermPart, ClausePart, ClausesPart, arguments, membrane, tlist, item, list, body};
+ghost use Rattle.lmn_parser_grammar.specs.Factored.{right_side, rule_tail};
+ghost use Rattle.lmn_parser_grammar.specs.Reading.{Owed, NoArgs, NoMore, EndsItem, EndsList, EndsOptList, OnlyClosers, OnlyEnds};
 ghost use Rattle.lmn_parser.specs.Parsing.{kinds_of};
 ghost use Rattle.lmn_parser.specs.Outcomes.{GoesForth, ReadsOrStops, StaysOrGoesForth, reach};
 ghost use Rattle.lmn_parser.specs.Syntax.{term_of, terms_of, item_of, items_of_nodes, clause_of, clauses_of, conditions_of};

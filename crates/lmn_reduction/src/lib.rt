@@ -4,11 +4,7 @@
 //! nothing here does anything when it runs.
 #![tactic(auto)]
 
-ghost use Rattle.lmn_reduction.specs.Laws.{StepsAreLinked, SettlingStepsAreLinked};
-ghost use Rattle.lmn_reduction.specs.Laws.{SettledWithoutConnectors, SolidsSettled, ClosedSettles};
-ghost use Rattle.lmn_reduction.specs.Laws.{SettlesOnce, PlainHasSolid, SolidIsOne, PlainSettles};
-ghost use Rattle.lmn_reduction.specs.Laws.{CongruentByOneMap, StepsShowRedexes, KeepsSettled};
-ghost use Rattle.lmn_reduction.specs.Laws.{KeepsSettles, KeepsCommit, KeepsIrreducible, ValuesAgree};
+ghost use Rattle.lmn_reduction.specs.Laws.{StepsAreLinked, SettlingStepsAreLinked, SettledWithoutConnectors, SolidsSettled, ClosedSettles, SettlesOnce, PlainHasSolid, SolidIsOne, PlainSettles, CongruentByOneMap, StepsShowRedexes, KeepsSettled, KeepsSettles, KeepsCommit, KeepsIrreducible, ValuesAgree};
 
 pub mod examples;
 

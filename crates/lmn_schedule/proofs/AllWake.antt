@@ -6,20 +6,20 @@ use Rattle.lmn_base.specs.Lists.{In}
 use Rattle.lmn_base.proofs.Lists.{in_either}
 use Rattle.lmn_base.specs.declared.rule.Plain.{Plain}
 use Rattle.lmn_base.specs.declared.solid.Region.TheViews.{roll-Region}
-use Rattle.lmn_heap.specs.Heap.{Heap, HeapMem, IsMem, atoms_in, mem_mark_by, mem_mark_of, mem_marked, from, after}
-use Rattle.lmn_heap.specs.Sound.{Forest, bare, mem, IsTree, Valid, flat}
-use Rattle.lmn_heap.specs.Solid.{solid_atoms_at, regions_of}
-use Rattle.lmn_loading.specs.Loaded.{IsLoaded}
-use Rattle.lmn_sleep.specs.Quiet.{SameButMarks}
-use Rattle.lmn_sleep.proofs.Marks.{ReadAlike, read_alike}
-use Rattle.lmn_commit.proofs.Rousing.{no_marks, marks_on, mark_one, marked_away, marked_there}
-use Rattle.lmn_commit.proofs.Woken.{valid_but_marks, marks_unmarked}
-use Rattle.lmn_choice.proofs.MarkedHeaps.{sound_but_marks}
-use Rattle.lmn_choice.proofs.Spares.{atoms_of_same, naming_same}
-use Rattle.lmn_strategy.proofs.Lulling.{tree_alike}
-use Rattle.lmn_store.proofs.Numbers.{HasNumber, root_number, number_next, number_mem, last_number}
-use Rattle.lmn_strategy.proofs.Numbers.{take_one_more, take_whole}
-use Rattle.lmn_strategy.specs.Quieting.{AllAwake}
+use Rattle.lmn_store_heap.specs.Heap.{Heap, HeapMem, IsMem, atoms_in, mem_mark_by, mem_mark_of, mem_marked, from, after}
+use Rattle.lmn_store_heap.specs.Sound.{Forest, bare, mem, IsTree, Valid, flat}
+use Rattle.lmn_store_heap.specs.Solid.{solid_atoms_at, regions_of}
+use Rattle.lmn_schedule_loading.specs.Loaded.{IsLoaded}
+use Rattle.lmn_schedule_sleep.specs.Quiet.{SameButMarks}
+use Rattle.lmn_schedule_sleep.proofs.Marks.{ReadAlike, read_alike}
+use Rattle.lmn_machine_commit.proofs.Rousing.{no_marks, marks_on, mark_one, marked_away, marked_there}
+use Rattle.lmn_machine_commit.proofs.Woken.{valid_but_marks, marks_unmarked}
+use Rattle.lmn_adequacy_choices.proofs.MarkedHeaps.{sound_but_marks}
+use Rattle.lmn_adequacy_choices.proofs.Spares.{atoms_of_same, naming_same}
+use Rattle.lmn_schedule_strategy.proofs.Lulling.{tree_alike}
+use Rattle.lmn_store_trait.proofs.Numbers.{HasNumber, root_number, number_next, number_mem, last_number}
+use Rattle.lmn_schedule_strategy.proofs.Numbers.{take_one_more, take_whole}
+use Rattle.lmn_schedule_strategy.specs.Quieting.{AllAwake}
 
 -- Of the membranes in preorder the first ones are awake; the next is `at`.
 pub record Rousing (h k : Heap) (counted at : ℕ) : Type 0 where

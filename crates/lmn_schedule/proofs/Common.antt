@@ -1,9 +1,9 @@
 -- Lemmas that several crates above cite.
 use Rattle.lmn_base.specs.declared.rule.RuleTree.{RuleTree}
-use Rattle.lmn_bridge.proofs.Wholes.{closed_heap}
+use Rattle.lmn_adequacy_heaps.proofs.Wholes.{closed_heap}
 use Rattle.lmn_congruence.specs.Process.{Closed}
 use Rattle.lmn_congruence.specs.Regions.{Region, region_process}
-use Rattle.lmn_heap.specs.Heap.{Heap}
+use Rattle.lmn_store_heap.specs.Heap.{Heap}
 use Rattle.lmn_schedule.specs.Held.{HoldsRegion, reading_by}
 use Rattle.std.proofs.Common.{List, subst, sym}
 use Rattle.lmn_congruence.specs.Rules as tree

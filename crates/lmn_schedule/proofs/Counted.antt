@@ -4,18 +4,18 @@ use Rattle.std.specs.Prelude.{if◌then◌else◌}
 use Rattle.std.proofs.lemmas.Bool.{eq-eqb}
 use Rattle.std.proofs.lemmas.List.{length-map}
 use Rattle.lmn_base.proofs.Numbers.{not_equal}
-use Rattle.lmn_heap.specs.Heap.{Heap, mem_mark_of, rules_in}
-use Rattle.lmn_heap.specs.Sound.{Forest, bare, mem, flat}
-use Rattle.lmn_bridge.specs.HeapRegions.{HeapReading, region_at, regions_at}
+use Rattle.lmn_store_heap.specs.Heap.{Heap, mem_mark_of, rules_in}
+use Rattle.lmn_store_heap.specs.Sound.{Forest, bare, mem, flat}
+use Rattle.lmn_adequacy_heaps.specs.HeapRegions.{HeapReading, region_at, regions_at}
 use Rattle.lmn_adequacy.specs.Choice.{asked_paths}
-use Rattle.lmn_choice.specs.Counting.{AsksRulesOf}
-use Rattle.lmn_choice.specs.Laws.{RulesAreAskedAlike}
-use Rattle.lmn_choice.specs.Turns.{tree_over}
-use Rattle.lmn_instr.specs.declared.instr.Code.{Code}
-use Rattle.lmn_strategy.specs.Choosing.{asked}
-use Rattle.lmn_strategy.specs.Counting.{AsksRules, asks_all, asks_until, awake_of, rule_count}
-use Rattle.lmn_strategy.specs.Quieting.{SleepsRightly}
-use Rattle.lmn_strategy.proofs.Counts.{count_both}
+use Rattle.lmn_adequacy_choices.specs.Counting.{AsksRulesOf}
+use Rattle.lmn_adequacy_choices.specs.Laws.{RulesAreAskedAlike}
+use Rattle.lmn_adequacy_choices.specs.Turns.{tree_over}
+use Rattle.lmn_instr_code.specs.declared.instr.Code.{Code}
+use Rattle.lmn_schedule_strategy.specs.Choosing.{asked}
+use Rattle.lmn_schedule_strategy.specs.Counting.{AsksRules, asks_all, asks_until, awake_of, rule_count}
+use Rattle.lmn_schedule_strategy.specs.Quieting.{SleepsRightly}
+use Rattle.lmn_schedule_strategy.proofs.Counts.{count_both}
 use Rattle.lmn_schedule.specs.Counting.{CountsAreAlike, RulesAreCounted, rule_count_of_region, rule_count_of_regions}
 use Rattle.lmn_schedule.specs.Held.{reading_by}
 

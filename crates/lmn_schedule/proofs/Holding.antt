@@ -2,14 +2,14 @@
 use Rattle.std.proofs.Common.{refl, subst, arith}
 use Rattle.lmn_base.proofs.Lists.{get_there}
 use Rattle.lmn_congruence.proofs.NumberedRules.{rule_has_number}
-use Rattle.lmn_heap.specs.Sound.{IsTree}
-use Rattle.lmn_bridge.specs.Laws.{HeapsAreNamed}
-use Rattle.lmn_bridge.specs.Premises.{IsRead, HasRules}
-use Rattle.lmn_choice.specs.Laws.{HeapsAreNumbered}
-use Rattle.lmn_choice.specs.Turns.{heap_region}
-use Rattle.lmn_turn.specs.Commits.{PlainsAreTables}
-use Rattle.lmn_turn.specs.Turning.{renumbered_reading}
-use Rattle.lmn_turn.proofs.Leavings.{root_tree}
+use Rattle.lmn_store_heap.specs.Sound.{IsTree}
+use Rattle.lmn_adequacy_heaps.specs.Laws.{HeapsAreNamed}
+use Rattle.lmn_adequacy_heaps.specs.Premises.{IsRead, HasRules}
+use Rattle.lmn_adequacy_choices.specs.Laws.{HeapsAreNumbered}
+use Rattle.lmn_adequacy_choices.specs.Turns.{heap_region}
+use Rattle.lmn_adequacy_turns.specs.Commits.{PlainsAreTables}
+use Rattle.lmn_adequacy_turns.specs.Turning.{renumbered_reading}
+use Rattle.lmn_adequacy_turns.proofs.Leavings.{root_tree}
 use Rattle.lmn_schedule.specs.Held.{HeapsHoldSolids, reading_by}
 
 -- its links have numbers, those of printed order, and its rules are of the table

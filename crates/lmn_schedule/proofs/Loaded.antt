@@ -8,25 +8,25 @@ use Rattle.lmn_base.specs.Levels.{rules_of}
 use Rattle.lmn_base.specs.Links.{NumbersLinks}
 use Rattle.lmn_base.specs.WellMade.{IsWellMade}
 use Rattle.lmn_guards.specs.declared.plan.GuardPlan.{GuardPlan}
-use Rattle.lmn_heap.specs.Heap.{Heap}
-use Rattle.lmn_heap.specs.Sound.{bare, mem, IsTree}
-use Rattle.lmn_instr.specs.declared.instr.Code.{Code}
+use Rattle.lmn_store_heap.specs.Heap.{Heap}
+use Rattle.lmn_store_heap.specs.Sound.{bare, mem, IsTree}
+use Rattle.lmn_instr_code.specs.declared.instr.Code.{Code}
 use Rattle.lmn_congruence.specs.Rules.{Name}
 use Rattle.lmn_congruence.specs.Translation.{numbered_rule, region_of, region_step, regions}
 use Rattle.lmn_congruence.proofs.NumberedRules.{rule_has_number}
 use Rattle.lmn_congruence.proofs.SolidsOfPlains.{solids_of_plains}
-use Rattle.lmn_bridge.specs.HeapRegions.{region_at, regions_at}
-use Rattle.lmn_bridge.specs.Laws.{SolidsAreRegions}
-use Rattle.lmn_bridge.specs.Premises.{IsRule}
-use Rattle.lmn_loading.specs.Loaded.{IsLoaded}
-use Rattle.lmn_loading.specs.Laws.{LoadedRules, LoadingSettles}
-use Rattle.lmn_turn.specs.Commits.{PlainsAreTables}
-use Rattle.lmn_compile.specs.Compiled.{AreWhole, AreCompiled}
-use Rattle.lmn_strategy.specs.Quieting.{AllAwake}
+use Rattle.lmn_adequacy_heaps.specs.HeapRegions.{region_at, regions_at}
+use Rattle.lmn_adequacy_heaps.specs.Laws.{SolidsAreRegions}
+use Rattle.lmn_adequacy_heaps.specs.Premises.{IsRule}
+use Rattle.lmn_schedule_loading.specs.Loaded.{IsLoaded}
+use Rattle.lmn_schedule_loading.specs.Laws.{LoadedRules, LoadingSettles}
+use Rattle.lmn_adequacy_turns.specs.Commits.{PlainsAreTables}
+use Rattle.lmn_compile_rules.specs.Compiled.{AreWhole, AreCompiled}
+use Rattle.lmn_schedule_strategy.specs.Quieting.{AllAwake}
 use Rattle.lmn_schedule.specs.Held.{AreNames, EngineCanTurn, HoldsSolid, reading_by}
 use Rattle.lmn_schedule.proofs.Named.{loaded_named}
 use Rattle.lmn_base.proofs.Lists.{get_there as get_some, all_of_right}
-use Rattle.lmn_turn.proofs.Leavings.{root_tree}
+use Rattle.lmn_adequacy_turns.proofs.Leavings.{root_tree}
 use Rattle.lmn_adequacy.proofs.PlainSolids.{printed}
 use Rattle.lmn_congruence.specs.Regions as solid
 

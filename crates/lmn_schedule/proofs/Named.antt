@@ -20,11 +20,11 @@ use Rattle.lmn_base.specs.Solids.{atoms_of_region, atoms_step}
 use Rattle.lmn_base.proofs.Common.{inner_leaves, inner_atoms}
 use Rattle.lmn_congruence.specs.Rules.{Name}
 use Rattle.lmn_congruence.specs.SolidsOfPlains.{fused_leaf, fused_step, fused_region, is_connector}
-use Rattle.lmn_heap.specs.Heap.{Heap, HeapAtom, within, atoms_in, rules_in, Place, top, waiting, gone, functor_of, home_of, place_of, home_by}
-use Rattle.lmn_heap.specs.Solid.{links_from, solid_atom_at, solid_atoms_at as heap_atoms, regions_of}
-use Rattle.lmn_heap.specs.Sound.{Forest, bare, mem, flat, Valid}
-use Rattle.lmn_loading.specs.Loaded.{IsLoaded}
-use Rattle.lmn_heap.proofs.Common.{holds_mem as listed_mem}
+use Rattle.lmn_store_heap.specs.Heap.{Heap, HeapAtom, within, atoms_in, rules_in, Place, top, waiting, gone, functor_of, home_of, place_of, home_by}
+use Rattle.lmn_store_heap.specs.Solid.{links_from, solid_atom_at, solid_atoms_at as heap_atoms, regions_of}
+use Rattle.lmn_store_heap.specs.Sound.{Forest, bare, mem, flat, Valid}
+use Rattle.lmn_schedule_loading.specs.Loaded.{IsLoaded}
+use Rattle.lmn_store_heap.proofs.Common.{holds_mem as listed_mem}
 use Rattle.lmn_base.specs.Lists.{In}
 use Rattle.lmn_base.proofs.Lists.{in_either, all_of_left, all_of_right}
 

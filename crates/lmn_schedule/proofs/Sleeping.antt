@@ -1,7 +1,7 @@
 -- No rule of a membrane that sleeps embeds.
 use Rattle.std.proofs.Common.{subst}
 use Rattle.lmn_adequacy.specs.Embedding.{EmbedsIn}
-use Rattle.lmn_choice.specs.Laws.{NothingEmbedsThere}
+use Rattle.lmn_adequacy_choices.specs.Laws.{NothingEmbedsThere}
 use Rattle.lmn_schedule.specs.Sleeping.{SleepersDoNotEmbed}
 use Rattle.lmn_schedule.specs.Held.{reading_by}
 

@@ -4,10 +4,10 @@ use Rattle.std.specs.Prelude.{slice_get}
 use Rattle.std.proofs.lemmas.Option.{same_Some}
 use Rattle.lmn_base.specs.declared.rule.RuleTree.{RuleTree}
 use Rattle.lmn_guards.specs.declared.plan.GuardPlan.{GuardPlan}
-use Rattle.lmn_heap.specs.Heap.{Heap, rules_in}
-use Rattle.lmn_heap.proofs.Trees.{in_here}
-use Rattle.lmn_heap.specs.Sound.{Forest, bare, mem, Valid, IsTree, flat}
-use Rattle.lmn_instr.specs.declared.instr.Code.{Code}
+use Rattle.lmn_store_heap.specs.Heap.{Heap, rules_in}
+use Rattle.lmn_store_heap.proofs.Trees.{in_here}
+use Rattle.lmn_store_heap.specs.Sound.{Forest, bare, mem, Valid, IsTree, flat}
+use Rattle.lmn_instr_code.specs.declared.instr.Code.{Code}
 use Rattle.lmn_congruence.specs.Regions.{Region, region_process}
 use Rattle.lmn_congruence.specs.Rules.{Name}
 use Rattle.lmn_reduction.specs.Commits.{Commit, Irreducible as NothingLeft}
@@ -15,18 +15,18 @@ use Rattle.lmn_adequacy.specs.Choice.{NextFrom, paths}
 use Rattle.lmn_adequacy.specs.Embedding.{HasEmbedding}
 use Rattle.lmn_adequacy.specs.Numbered.{IsNumbered}
 use Rattle.lmn_adequacy.specs.Runs.{Chooser, Turn as Chosen}
-use Rattle.lmn_body.specs.Running.{RunsBody}
-use Rattle.lmn_turn.specs.Turning.{renumbered_reading}
-use Rattle.lmn_choice.specs.Laws.{MarksAreNotRead, MembranesAreNumberedAlike, NothingEmbeds, TurnsAgree, TurnsAreAlike, SparesAreNotRead, TurnsAreOfChooser}
-use Rattle.lmn_choice.specs.Turns.{HaveCodes, IsChosen, IsReadWith, heap_region, membranes_in_preorder, tree_over}
-use Rattle.lmn_strategy.specs.Choosing.{NoneIn, IsFirstIn, asked}
-use Rattle.lmn_sleep.specs.Quiet.{SameButMarks}
-use Rattle.lmn_strategy.specs.Turns.{Chooses, IsAwakeTurn}
-use Rattle.lmn_strategy.specs.declared.turning.Turn.{Turn}
-use Rattle.lmn_strategy.specs.declared.turning.Turn.TheVariants.{Committed, Irreducible, Full, NoMemory}
+use Rattle.lmn_solid_bodies.specs.Running.{RunsBody}
+use Rattle.lmn_adequacy_turns.specs.Turning.{renumbered_reading}
+use Rattle.lmn_adequacy_choices.specs.Laws.{MarksAreNotRead, MembranesAreNumberedAlike, NothingEmbeds, TurnsAgree, TurnsAreAlike, SparesAreNotRead, TurnsAreOfChooser}
+use Rattle.lmn_adequacy_choices.specs.Turns.{HaveCodes, IsChosen, IsReadWith, heap_region, membranes_in_preorder, tree_over}
+use Rattle.lmn_schedule_strategy.specs.Choosing.{NoneIn, IsFirstIn, asked}
+use Rattle.lmn_schedule_sleep.specs.Quiet.{SameButMarks}
+use Rattle.lmn_schedule_strategy.specs.Turns.{Chooses, IsAwakeTurn}
+use Rattle.lmn_schedule_strategy.specs.declared.turning.Turn.{Turn}
+use Rattle.lmn_schedule_strategy.specs.declared.turning.Turn.TheVariants.{Committed, Irreducible, Full, NoMemory}
 use Rattle.lmn_schedule.specs.Held.{HoldsRegion, reading_by}
 use Rattle.lmn_schedule.specs.Turning.{IsDone, IsTurned, KeepsHeap}
-use Rattle.lmn_turn.proofs.Leavings.{root_tree}
+use Rattle.lmn_adequacy_turns.proofs.Leavings.{root_tree}
 use Rattle.lmn_base.specs.Lists.{In}
 use Rattle.lmn_base.proofs.Lists.{plus_nothing}
 

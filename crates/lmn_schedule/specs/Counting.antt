@@ -3,12 +3,12 @@ use Rattle.std.specs.Prelude.{ℕ, ◌≡◌, ◌+◌, List, length}
 use Rattle.lmn_base.specs.declared.rule.RuleTree.{RuleTree}
 use Rattle.lmn_congruence.specs.Regions.{Region, Regions, region, no_region, region_and}
 use Rattle.lmn_congruence.specs.Rules.{Name}
-use Rattle.lmn_heap.specs.Heap.{Heap}
-use Rattle.lmn_heap.specs.Sound.{Forest, IsTree, flat}
-use Rattle.lmn_instr.specs.declared.instr.Code.{Code}
-use Rattle.lmn_strategy.specs.Counting.{CountsAsked, CountsUpTo, RisesWithin, awake_of, rule_count}
+use Rattle.lmn_store_heap.specs.Heap.{Heap}
+use Rattle.lmn_store_heap.specs.Sound.{Forest, IsTree, flat}
+use Rattle.lmn_instr_code.specs.declared.instr.Code.{Code}
+use Rattle.lmn_schedule_strategy.specs.Counting.{CountsAsked, CountsUpTo, RisesWithin, awake_of, rule_count}
 use Rattle.lmn_adequacy.specs.Choice.{asked_paths}
-use Rattle.lmn_choice.specs.Counting.{AsksRulesOf}
+use Rattle.lmn_adequacy_choices.specs.Counting.{AsksRulesOf}
 use Rattle.lmn_schedule.specs.Held.{EngineCanTurn, HoldsRegion}
 
 abbrev mutual

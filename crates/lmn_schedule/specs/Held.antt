@@ -9,9 +9,9 @@ use Rattle.lmn_base.specs.declared.solid.Solid.{Solid}
 use Rattle.lmn_base.specs.declared.functor.Functor.{Functor}
 use Rattle.lmn_base.specs.Names.{IsNames, HasNames, NamesPlain, label_names}
 use Rattle.lmn_guards.specs.declared.plan.GuardPlan.{GuardPlan}
-use Rattle.lmn_heap.specs.Heap.{Heap, functor_of}
-use Rattle.lmn_heap.specs.Sound.{Forest, bare, mem, IsTree}
-use Rattle.lmn_instr.specs.declared.instr.Code.{Code}
+use Rattle.lmn_store_heap.specs.Heap.{Heap, functor_of}
+use Rattle.lmn_store_heap.specs.Sound.{Forest, bare, mem, IsTree}
+use Rattle.lmn_instr_code.specs.declared.instr.Code.{Code}
 use Rattle.lmn_congruence.specs.Plains.{SolidOf}
 use Rattle.lmn_congruence.specs.Regions.{Region, region_process}
 use Rattle.lmn_congruence.specs.Rules.{Name}
@@ -19,12 +19,12 @@ use Rattle.lmn_congruence.specs.SolidsOfPlains.{IsSolidOf}
 use Rattle.lmn_congruence.specs.Translation.{numbered_rule, plain_process, region_of, top_of}
 use Rattle.lmn_reduction.specs.Commits.{Settles}
 use Rattle.lmn_adequacy.specs.Numbered.{IsNumbered}
-use Rattle.lmn_bridge.specs.HeapRegions.{HeapReading, region_at}
-use Rattle.lmn_bridge.specs.Premises.{IsRead, IsRule, HasRules}
-use Rattle.lmn_turn.specs.Commits.{IsTable}
-use Rattle.lmn_strategy.specs.Choosing.{CanTurn}
-use Rattle.lmn_strategy.specs.Quieting.{SleepsRightly}
-use Rattle.lmn_compile.specs.Compiled.{AreWhole, AreCompiled}
+use Rattle.lmn_adequacy_heaps.specs.HeapRegions.{HeapReading, region_at}
+use Rattle.lmn_adequacy_heaps.specs.Premises.{IsRead, IsRule, HasRules}
+use Rattle.lmn_adequacy_turns.specs.Commits.{IsTable}
+use Rattle.lmn_schedule_strategy.specs.Choosing.{CanTurn}
+use Rattle.lmn_schedule_strategy.specs.Quieting.{SleepsRightly}
+use Rattle.lmn_compile_rules.specs.Compiled.{AreWhole, AreCompiled}
 
 -- What a turn asks: of the heap; that no membrane sleeps in which the code of a rule succeeds; that the codes are those of the table, of
 -- whose rules each stands in bodies with rules of the table alone; and that no number of items is beyond the size for want of bits.

@@ -4,9 +4,9 @@ use Rattle.lmn_base.specs.declared.rule.RuleTree.{RuleTree}
 use Rattle.lmn_congruence.specs.Regions.{Region}
 use Rattle.lmn_congruence.specs.Rules.{Name}
 use Rattle.lmn_adequacy.specs.Embedding.{EmbedsIn}
-use Rattle.lmn_heap.specs.Heap.{Heap, mem_mark_of}
-use Rattle.lmn_instr.specs.declared.instr.Code.{Code}
-use Rattle.lmn_turn.specs.Turning.{Leads}
+use Rattle.lmn_store_heap.specs.Heap.{Heap, mem_mark_of}
+use Rattle.lmn_instr_code.specs.declared.instr.Code.{Code}
+use Rattle.lmn_adequacy_turns.specs.Turning.{Leads}
 use Rattle.lmn_schedule.specs.Held.{EngineCanTurn, HoldsRegion}
 
 -- Where an engine can turn a heap that holds a solid, no rule embeds in a membrane of it that sleeps, to which this path leads: neither

@@ -1,21 +1,21 @@
 -- What a turn of the engine is in the calculus.
 use Rattle.std.specs.Prelude.{ℕ, ◌≡◌, ◌<◌, ◌≤◌, ◌^◌, true, List, length}
 use Rattle.lmn_base.specs.declared.rule.RuleTree.{RuleTree}
-use Rattle.lmn_heap.specs.Heap.{Heap}
+use Rattle.lmn_store_heap.specs.Heap.{Heap}
 use Rattle.lmn_congruence.specs.Regions.{Region, region_process, item_count_of_region}
 use Rattle.lmn_congruence.specs.Rules.{Name}
 use Rattle.lmn_reduction.specs.Commits.{Commit, Irreducible as NothingLeft}
 use Rattle.lmn_adequacy.specs.Choice.{paths}
 use Rattle.lmn_adequacy.specs.Embedding.{HasEmbedding}
 use Rattle.lmn_adequacy.specs.Runs.{Chooser, Turn as Chooses}
-use Rattle.lmn_instr.specs.declared.instr.Code.{Code}
-use Rattle.lmn_heap.specs.Sound.{Forest, IsTree}
-use Rattle.lmn_sleep.specs.Quiet.{SameButMarks}
-use Rattle.lmn_strategy.specs.Counting.{CountsAsked}
-use Rattle.lmn_strategy.specs.Turns.{IsAwakeTurn}
-use Rattle.lmn_strategy.specs.declared.turning.Turn.{Turn}
-use Rattle.lmn_strategy.specs.declared.turning.Turn.TheVariants.{Committed, Irreducible, Full, NoMemory}
-use Rattle.lmn_body.specs.Stopping.{SameButSpares}
+use Rattle.lmn_instr_code.specs.declared.instr.Code.{Code}
+use Rattle.lmn_store_heap.specs.Sound.{Forest, IsTree}
+use Rattle.lmn_schedule_sleep.specs.Quiet.{SameButMarks}
+use Rattle.lmn_schedule_strategy.specs.Counting.{CountsAsked}
+use Rattle.lmn_schedule_strategy.specs.Turns.{IsAwakeTurn}
+use Rattle.lmn_schedule_strategy.specs.declared.turning.Turn.{Turn}
+use Rattle.lmn_schedule_strategy.specs.declared.turning.Turn.TheVariants.{Committed, Irreducible, Full, NoMemory}
+use Rattle.lmn_solid_bodies.specs.Stopping.{SameButSpares}
 use Rattle.lmn_schedule.specs.Held.{HoldsRegion}
 
 -- the function gives what a closure answers, for numbers of 64 bits

@@ -5,12 +5,12 @@ ghost use Rattle.lmn_base.specs.declared.solid.Solid.{Solid};
 ghost use Rattle.lmn_base.specs.Solids.{item_count};
 ghost use Rattle.lmn_congruence.specs.Rules.{Name};
 ghost use Rattle.lmn_congruence.specs.SolidsOfPlains.{IsSolidOf};
-ghost use Rattle.lmn_heap.specs.Sound.{Forest, IsTree, AllInPlace, flat, item_count_in};
-ghost use Rattle.lmn_loading.specs.Loaded.{IsEmpty, IsLoaded, LoadCauses};
-ghost use Rattle.lmn_strategy.specs.Quieting.{AllAwake};
+ghost use Rattle.lmn_store_heap.specs.Sound.{Forest, IsTree, AllInPlace, flat, item_count_in};
+ghost use Rattle.lmn_schedule_loading.specs.Loaded.{IsEmpty, IsLoaded, LoadCauses};
+ghost use Rattle.lmn_schedule_strategy.specs.Quieting.{AllAwake};
 ghost use Rattle.lmn_schedule.specs.Held.{AreNames, CanBeLoaded, EngineCanTurn, HoldsRegion, HoldsSolid};
 ghost use Rattle.lmn_schedule.specs.Turning.{Gives, IsDone, IsTurned, IsTurnedByAnswer, KeepsHeap, counted};
-ghost use Rattle.lmn_strategy.specs.Counting.{CountsAsked};
+ghost use Rattle.lmn_schedule_strategy.specs.Counting.{CountsAsked};
 ghost use Rattle.lmn_adequacy.specs.Embedding.{HasEmbedding};
 ghost use Rattle.lmn_adequacy.specs.Runs.{Chooser as Choosing};
 ghost use Rattle.lmn_order.specs.Answers.{AnswersBelow};
@@ -18,21 +18,23 @@ ghost use Rattle.lmn_congruence.specs.Regions.{Region};
 ghost use Rattle.lmn_schedule.specs.Lending.{engine_lends_store};
 
 use crate::rousing::rouse_all;
-use lmn_base::{NoMemory, Plain};
-use lmn_bridge::solids_are_regions;
-use lmn_choice::{
+use lmn_adequacy_choices::{
     marks_are_not_read, membranes_are_numbered_alike, nothing_embeds, spares_are_not_read,
     turns_are_alike, turns_are_of_chooser,
 };
-use lmn_codes::Codes;
-use lmn_compile::stored;
+use lmn_adequacy_heaps::solids_are_regions;
+use lmn_adequacy_turns::plains_are_tables;
+use lmn_base::{NoMemory, Plain};
+use lmn_compile_rules::stored;
 use lmn_guards::GuardPlan;
-use lmn_loading::{LoadFault, load, loading_settles};
+use lmn_instr_pool::Codes;
 use lmn_machine::{Machine, Steps};
 use lmn_order::Chooser;
-use lmn_store::LinkStore;
-use lmn_strategy::{Turn, membranes, search, tables_are_quiet, tables_are_runnable, take_turn};
-use lmn_turn::plains_are_tables;
+use lmn_schedule_loading::{LoadFault, load, loading_settles};
+use lmn_schedule_strategy::{
+    Turn, membranes, search, tables_are_quiet, tables_are_runnable, take_turn,
+};
+use lmn_store_trait::LinkStore;
 use std::alloc::Global;
 use std::sync::ledger::Ledger;
 

@@ -3,9 +3,9 @@ ghost use Rattle.lmn_schedule.specs.Counting.{AttemptsAreFew, CountsAreAlike, Ru
 ghost use Rattle.lmn_schedule.specs.Held.{HeapsHoldSolids};
 ghost use Rattle.lmn_schedule.specs.Sleeping.{SleepersDoNotEmbed};
 
-use lmn_bridge::heaps_are_named;
-use lmn_choice::{heaps_are_numbered, nothing_embeds_there, rules_are_asked_alike};
-use lmn_turn::plains_are_tables;
+use lmn_adequacy_choices::{heaps_are_numbered, nothing_embeds_there, rules_are_asked_alike};
+use lmn_adequacy_heaps::heaps_are_named;
+use lmn_adequacy_turns::plains_are_tables;
 
 /// A heap that an engine can turn holds a solid, where the names of its atoms are known, whoever made it: also after the store
 /// was lent. So `turn` and `reducible` say something of it.

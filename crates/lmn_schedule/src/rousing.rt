@@ -1,10 +1,10 @@
 //! All membranes of a store are woken.
 ghost use Rattle.std.specs.Prelude.{◌≡◌};
-ghost use Rattle.lmn_heap.specs.Sound.{Valid};
-ghost use Rattle.lmn_sleep.specs.Quiet.{SameButMarks};
-ghost use Rattle.lmn_strategy.specs.Quieting.{AllAwake};
+ghost use Rattle.lmn_store_heap.specs.Sound.{Valid};
+ghost use Rattle.lmn_schedule_sleep.specs.Quiet.{SameButMarks};
+ghost use Rattle.lmn_schedule_strategy.specs.Quieting.{AllAwake};
 
-use lmn_store::LinkStore;
+use lmn_store_trait::LinkStore;
 
 /// Each membrane wakes. The store is else as it was.
 pub fn rouse_all<S: LinkStore>(store: &mut S)

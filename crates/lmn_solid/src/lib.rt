@@ -1,9 +1,4 @@
-//! What it means that the head of a rule lies in a heap, and which of its places is the least.
-//!
-//! The definitions stand in `specs/`. The head of a rule is one flat list of items here, in their order.
+//! The next solid, by plain search over lists.
 #![tactic(auto)]
 
-pub mod examples;
-mod items;
-
-pub use items::HeadItem;
+pub use lmn_receipt_search::next_of;

@@ -5,11 +5,11 @@ use Rattle.std.proofs.lemmas.List.{length-map}
 use Rattle.lmn_base.specs.Lists.{In}
 use Rattle.lmn_base.proofs.Lists.{in_either}
 use Rattle.lmn_base.proofs.Truth.{if_no}
-use Rattle.lmn_heap.proofs.Pigeonholes.{not_longer}
-use Rattle.lmn_cells.specs.Rows.{Row, items_in}
-use Rattle.lmn_cells.specs.Cells.{HeldCell, cell_by, cells_by}
-use Rattle.lmn_cells.specs.Runs.{link_in}
-use Rattle.lmn_cells.proofs.CellRows.{if_yes}
+use Rattle.lmn_store_heap.proofs.Pigeonholes.{not_longer}
+use Rattle.lmn_web_cells.specs.Rows.{Row, items_in}
+use Rattle.lmn_web_cells.specs.Cells.{HeldCell, cell_by, cells_by}
+use Rattle.lmn_web_cells.specs.Runs.{link_in}
+use Rattle.lmn_web_cells.proofs.CellRows.{if_yes}
 use Rattle.lmn_web.specs.Classes.{EVEN, ODD, LEADERS, ClassTree, Bare, Fork, ClassPlace, Hung, leaders, top, IsTree, IsSorted, rest_at, is_odd, is_key, key_in, class_place, place_in, lowest, lowest_below}
 use Rattle.lmn_web.proofs.ClassTrees.{sorted_once}
 

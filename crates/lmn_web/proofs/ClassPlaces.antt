@@ -2,10 +2,10 @@
 use Rattle.std.proofs.Common.{◌≡◌, ◌≢◌, ◌⊎◌, ◌<◌, ℕ, true, false, List, [], ◌∷◌, ◌++◌, length, Option, Some, None, IsSome, refl, sym, ap, subst, ◌∙◌, inl, inr, arith}
 use Rattle.lmn_base.specs.Lists.{In}
 use Rattle.lmn_base.proofs.Truth.{bool_cases}
-use Rattle.lmn_heap.proofs.ListLemmas.{in_left, in_right}
-use Rattle.lmn_cells.specs.Cells.{HeldCell, links_of}
-use Rattle.lmn_cells.specs.Runs.{link_in}
-use Rattle.lmn_cells.proofs.LineLemmas.{link_same, link_other}
+use Rattle.lmn_store_heap.proofs.ListLemmas.{in_left, in_right}
+use Rattle.lmn_web_cells.specs.Cells.{HeldCell, links_of}
+use Rattle.lmn_web_cells.specs.Runs.{link_in}
+use Rattle.lmn_web_cells.proofs.LineLemmas.{link_same, link_other}
 use Rattle.lmn_web.specs.Classes.{Touches, EVEN, ODD, LEADERS, ClassTree, Bare, Fork, leaders, top, IsTree, IsSorted, AreClassed, ClassPlace, place_in, is_odd, rest_at, is_key, key_in, of_class, link_written, taken_over}
 use Rattle.lmn_web.proofs.Reclassing.{in_filter}
 use Rattle.lmn_web.proofs.ClassTrees.{Holds, Placed, placed, tree_frame}

@@ -3,10 +3,10 @@ use Rattle.std.proofs.Common.{◌≡◌, ◌==◌, ◌&&◌, ◌^◌, ◌<◌, �
 use Rattle.std.proofs.lemmas.List.{length-map}
 use Rattle.std.specs.Option.{option_map}
 use Rattle.lmn_base.specs.Lists.{In}
-use Rattle.lmn_heap.specs.Lists.{Distinct, from, after}
-use Rattle.lmn_cells.specs.Cells.{HeldCell, numbers_of, ports_of}
-use Rattle.lmn_cells.specs.Ports.{partner_by}
-use Rattle.lmn_cells.specs.Runs.{RunsThrough, link_in}
+use Rattle.lmn_store_heap.specs.Lists.{Distinct, from, after}
+use Rattle.lmn_web_cells.specs.Cells.{HeldCell, numbers_of, ports_of}
+use Rattle.lmn_web_cells.specs.Ports.{partner_by}
+use Rattle.lmn_web_cells.specs.Runs.{RunsThrough, link_in}
 use Rattle.lmn_web.specs.declared.kind.CellKind.TheVariants.{Atom}
 use Rattle.lmn_web.specs.Webs.{web_cell, web_of, list_in, cells_in, label_by, web_label, label_class, is_classed, with_class, partners_of, ARITY, HIGH, LOW}
 use Rattle.lmn_web.specs.Indexes.{IsClassedWeb}

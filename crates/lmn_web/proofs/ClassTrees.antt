@@ -3,11 +3,11 @@ use Rattle.std.proofs.Common.{◌≡◌, ◌⊎◌, ℕ, suc, Bool, true, false,
 use Rattle.lmn_base.specs.Lists.{In}
 use Rattle.lmn_base.proofs.Lists.{in_either}
 use Rattle.lmn_base.proofs.Truth.{bool_cases}
-use Rattle.lmn_heap.specs.Lists.{Distinct}
-use Rattle.lmn_heap.proofs.ListLemmas.{each_of, in_left, in_right}
-use Rattle.lmn_heap.proofs.Depths.{both_distinct}
-use Rattle.lmn_cells.specs.Cells.{HeldCell}
-use Rattle.lmn_cells.specs.Runs.{link_in}
+use Rattle.lmn_store_heap.specs.Lists.{Distinct}
+use Rattle.lmn_store_heap.proofs.ListLemmas.{each_of, in_left, in_right}
+use Rattle.lmn_store_heap.proofs.Depths.{both_distinct}
+use Rattle.lmn_web_cells.specs.Cells.{HeldCell}
+use Rattle.lmn_web_cells.specs.Runs.{link_in}
 use Rattle.lmn_web.specs.Classes.{EVEN, ODD, ClassTree, Bare, Fork, leaders, top, IsTree, rest_at, is_odd, AreBeside, IsSorted, ClassPlace, class_place, Hung, lowest, is_key, key_in}
 use Rattle.lmn_web.proofs.Reclassing.{key_same, key_true}
 

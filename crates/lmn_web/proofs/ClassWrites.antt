@@ -1,8 +1,8 @@
 -- What is written to the links of classes.
 use Rattle.std.proofs.Common.{◌≡◌, ◌≢◌, ◌<◌, ℕ, true, false, List, length, get_or, Option, IsSome, refl, sym, ap, subst, ◌∙◌, inl, inr, arith}
 use Rattle.lmn_base.specs.Lists.{In}
-use Rattle.lmn_cells.specs.Cells.{HeldCell, links_of, with_link}
-use Rattle.lmn_cells.proofs.LineLemmas.{still_there, link_other, keeps, count_links}
+use Rattle.lmn_web_cells.specs.Cells.{HeldCell, links_of, with_link}
+use Rattle.lmn_web_cells.proofs.LineLemmas.{still_there, link_other, keeps, count_links}
 use Rattle.lmn_web.specs.Webs.{HIGH, ARITY}
 use Rattle.lmn_web.specs.Classes.{AllButLinks, Touches, CLASS_NEXT, CLASS_PREV, CLASS_LAST, LEADERS, key_in, is_key, link_written}
 use Rattle.lmn_web.proofs.ClassTrees.{Holds}

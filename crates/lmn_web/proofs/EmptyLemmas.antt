@@ -3,15 +3,15 @@ use Rattle.std.proofs.Common.{◌≡◌, ◌≢◌, ◌↔◌, ℕ, zero, suc, �
 use Rattle.std.proofs.lemmas.Bool.{cases_eq}
 use Rattle.std.specs.Option.{option_map}
 use Rattle.lmn_base.specs.Lists.{In}
-use Rattle.lmn_heap.specs.Heap.{alter}
-use Rattle.lmn_heap.specs.Lists.{Distinct}
-use Rattle.lmn_heap.proofs.Common.{decide_in}
-use Rattle.lmn_heap.proofs.ListLemmas.{each_in, each_of}
-use Rattle.lmn_heap.proofs.Listing.{alter_at, alter_away, alter_keeps}
-use Rattle.lmn_cells.specs.Cells.{HeldPort, HeldCell, links_of, numbers_of, ports_of, port_of}
-use Rattle.lmn_cells.specs.Ports.{partner_by, partner_in}
-use Rattle.lmn_cells.specs.Runs.{RunsThrough, HOME, NEXT, PREV, node_in, link_in, Line}
-use Rattle.lmn_cells.proofs.RunLemmas.{frame}
+use Rattle.lmn_store_heap.specs.Heap.{alter}
+use Rattle.lmn_store_heap.specs.Lists.{Distinct}
+use Rattle.lmn_store_heap.proofs.Common.{decide_in}
+use Rattle.lmn_store_heap.proofs.ListLemmas.{each_in, each_of}
+use Rattle.lmn_store_heap.proofs.Listing.{alter_at, alter_away, alter_keeps}
+use Rattle.lmn_web_cells.specs.Cells.{HeldPort, HeldCell, links_of, numbers_of, ports_of, port_of}
+use Rattle.lmn_web_cells.specs.Ports.{partner_by, partner_in}
+use Rattle.lmn_web_cells.specs.Runs.{RunsThrough, HOME, NEXT, PREV, node_in, link_in, Line}
+use Rattle.lmn_web_cells.proofs.RunLemmas.{frame}
 use Rattle.lmn_web.specs.declared.kind.CellKind.{CellKind}
 use Rattle.lmn_web.specs.declared.kind.CellKind.TheVariants.{Atom, Membrane}
 use Rattle.lmn_web.specs.Kinds.{FILED, kind_by}

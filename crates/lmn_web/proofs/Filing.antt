@@ -3,14 +3,14 @@ use Rattle.std.proofs.Common.{◌≡◌, ◌≢◌, ◌==◌, ◌+◌, ◌<◌, 
 use Rattle.std.proofs.lemmas.Bool.{cases_eq, eqb-true}
 use Rattle.std.specs.Option.{option_map}
 use Rattle.lmn_base.specs.Lists.{In}
-use Rattle.lmn_heap.specs.Heap.{alter}
-use Rattle.lmn_heap.specs.Lists.{Distinct, from, without}
-use Rattle.lmn_heap.proofs.Listing.{alter_at, alter_away}
-use Rattle.lmn_heap.proofs.ListLemmas.{each_in, each_of}
-use Rattle.lmn_cells.specs.Cells.{HeldCell, blank_cell, links_of, numbers_of, with_link, with_number}
-use Rattle.lmn_cells.specs.Runs.{HOME, NEXT, PREV, RunsThrough, node_in, link_in, Line, put_before, with_next, with_prev, appended, inserted, unlinked}
-use Rattle.lmn_cells.proofs.LineLemmas.{keeps, link_other}
-use Rattle.lmn_cells.proofs.RunLemmas.{frame}
+use Rattle.lmn_store_heap.specs.Heap.{alter}
+use Rattle.lmn_store_heap.specs.Lists.{Distinct, from, without}
+use Rattle.lmn_store_heap.proofs.Listing.{alter_at, alter_away}
+use Rattle.lmn_store_heap.proofs.ListLemmas.{each_in, each_of}
+use Rattle.lmn_web_cells.specs.Cells.{HeldCell, blank_cell, links_of, numbers_of, with_link, with_number}
+use Rattle.lmn_web_cells.specs.Runs.{HOME, NEXT, PREV, RunsThrough, node_in, link_in, Line, put_before, with_next, with_prev, appended, inserted, unlinked}
+use Rattle.lmn_web_cells.proofs.LineLemmas.{keeps, link_other}
+use Rattle.lmn_web_cells.proofs.RunLemmas.{frame}
 use Rattle.lmn_web.specs.declared.kind.CellKind.{CellKind}
 use Rattle.lmn_web.specs.declared.kind.CellKind.TheVariants.{Atom, Membrane}
 use Rattle.lmn_web.specs.Kinds.{FILED, kind_by}

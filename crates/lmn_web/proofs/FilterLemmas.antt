@@ -7,14 +7,14 @@ use Rattle.lmn_base.specs.Lists.{In}
 use Rattle.lmn_base.proofs.Lists.{plus_nothing}
 use Rattle.lmn_base.proofs.Numbers.{not_equal}
 use Rattle.lmn_base.proofs.Truth.{if_no, bool_cases}
-use Rattle.lmn_heap.specs.Lists.{Distinct, from, after, without}
-use Rattle.lmn_heap.proofs.ListLemmas.{each_in}
-use Rattle.lmn_cells.specs.Cells.{HeldCell}
-use Rattle.lmn_cells.specs.Runs.{put_before}
-use Rattle.lmn_cells.proofs.CellRows.{if_yes}
+use Rattle.lmn_store_heap.specs.Lists.{Distinct, from, after, without}
+use Rattle.lmn_store_heap.proofs.ListLemmas.{each_in}
+use Rattle.lmn_web_cells.specs.Cells.{HeldCell}
+use Rattle.lmn_web_cells.specs.Runs.{put_before}
+use Rattle.lmn_web_cells.proofs.CellRows.{if_yes}
 use Rattle.lmn_web.specs.Classes.{key_in, is_key, of_class, put_at, ClassBecomes}
 use Rattle.lmn_web.proofs.Reclassing.{key_same, key_true, in_filter}
-use Rattle.lmn_heap.proofs.Common.{in_after}
+use Rattle.lmn_store_heap.proofs.Common.{in_after}
 
 -- two tests that agree on a list
 pub filter_same : (s t : ℕ → Bool) (xs : List ℕ) → ((x : ℕ) → In x xs → s x ≡ t x) → filter s xs ≡ filter t xs

@@ -5,11 +5,11 @@ use Rattle.std.proofs.lemmas.List.{length-map}
 use Rattle.std.proofs.lemmas.Option.{slice_get_within, slice_get-map, slice_get-get_or}
 use Rattle.std.specs.Option.{option_map}
 use Rattle.std.specs.List.{slice_get}
-use Rattle.lmn_heap.specs.Heap.{alter}
-use Rattle.lmn_heap.proofs.Listing.{alter_at, alter_away, alter_keeps}
-use Rattle.lmn_cells.specs.Cells.{HeldPort, HeldCell, links_of, numbers_of, ports_of, port_of, with_number}
-use Rattle.lmn_cells.specs.Ports.{partner_by, partner_in}
-use Rattle.lmn_cells.specs.Runs.{HOME, link_in}
+use Rattle.lmn_store_heap.specs.Heap.{alter}
+use Rattle.lmn_store_heap.proofs.Listing.{alter_at, alter_away, alter_keeps}
+use Rattle.lmn_web_cells.specs.Cells.{HeldPort, HeldCell, links_of, numbers_of, ports_of, port_of, with_number}
+use Rattle.lmn_web_cells.specs.Ports.{partner_by, partner_in}
+use Rattle.lmn_web_cells.specs.Runs.{HOME, link_in}
 use Rattle.lmn_web.specs.declared.kind.CellKind.{CellKind}
 use Rattle.lmn_web.specs.Kinds.{kind_by}
 use Rattle.lmn_web.specs.Webs.{web_cell, web_with, web_of, list_in, list_link, count_number, number_in, label_by, IsLoose, INDEX, ARITY, KIND, HIGH, LOW, FIRST_MARK}

@@ -3,13 +3,13 @@ use Rattle.std.proofs.Common.{◌≡◌, ◌≢◌, ◌⊎◌, ℕ, suc, ◌+◌
 use Rattle.std.proofs.lemmas.Bool.{cases_eq, eq-eqb}
 use Rattle.std.specs.Option.{option_map}
 use Rattle.lmn_base.specs.Lists.{In}
-use Rattle.lmn_heap.specs.Lists.{Distinct, after, from}
-use Rattle.lmn_heap.proofs.ListLemmas.{each_in, each_of, in_split}
-use Rattle.lmn_heap.proofs.Trees.{after_split, from_next}
-use Rattle.lmn_cells.specs.Cells.{HeldCell, links_of, numbers_of}
-use Rattle.lmn_cells.specs.Runs.{Node, RunsThrough, HOME, NEXT, PREV, node_in, link_in, Line}
-use Rattle.lmn_cells.proofs.RunLemmas.{frame, split}
-use Rattle.lmn_cells.proofs.LineLemmas.{behind_there}
+use Rattle.lmn_store_heap.specs.Lists.{Distinct, after, from}
+use Rattle.lmn_store_heap.proofs.ListLemmas.{each_in, each_of, in_split}
+use Rattle.lmn_store_heap.proofs.Trees.{after_split, from_next}
+use Rattle.lmn_web_cells.specs.Cells.{HeldCell, links_of, numbers_of}
+use Rattle.lmn_web_cells.specs.Runs.{Node, RunsThrough, HOME, NEXT, PREV, node_in, link_in, Line}
+use Rattle.lmn_web_cells.proofs.RunLemmas.{frame, split}
+use Rattle.lmn_web_cells.proofs.LineLemmas.{behind_there}
 use Rattle.lmn_web.specs.declared.kind.CellKind.{CellKind}
 use Rattle.lmn_web.specs.declared.kind.CellKind.TheVariants.{Atom, Membrane}
 use Rattle.lmn_web.specs.Kinds.{kind_by}

@@ -4,10 +4,10 @@ use Rattle.std.proofs.lemmas.Bool.{eq-eqb, eqb-true}
 use Rattle.std.specs.List.{filter}
 use Rattle.lmn_base.specs.Lists.{In}
 use Rattle.lmn_base.proofs.Truth.{bool_cases, and_true}
-use Rattle.lmn_heap.proofs.ListLemmas.{each_of, in_left, in_right}
-use Rattle.lmn_cells.specs.Cells.{HeldCell}
-use Rattle.lmn_cells.specs.Runs.{Node, RunsThrough, link_in}
-use Rattle.lmn_cells.proofs.RunLemmas.{frame}
+use Rattle.lmn_store_heap.proofs.ListLemmas.{each_of, in_left, in_right}
+use Rattle.lmn_web_cells.specs.Cells.{HeldCell}
+use Rattle.lmn_web_cells.specs.Runs.{Node, RunsThrough, link_in}
+use Rattle.lmn_web_cells.proofs.RunLemmas.{frame}
 use Rattle.lmn_web.specs.Classes.{CLASS_LAST, LEADERS, ClassTree, Bare, Fork, leaders, IsTree, AreBeside, IsSorted, rest_at, is_odd, class_node, key_in, is_key, of_class, AreClassed}
 
 -- Tests of classes

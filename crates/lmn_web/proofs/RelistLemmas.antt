@@ -7,16 +7,16 @@ use Rattle.std.specs.Option.{option_map}
 use Rattle.std.specs.List.{slice_get}
 use Rattle.lmn_base.specs.Lists.{In}
 use Rattle.lmn_base.proofs.Lists.{in_either}
-use Rattle.lmn_heap.specs.Heap.{alter}
-use Rattle.lmn_heap.specs.Lists.{Distinct, without}
-use Rattle.lmn_heap.proofs.ListLemmas.{each_in, each_of, in_left, in_right, in_without, short}
-use Rattle.lmn_heap.proofs.Listing.{alter_at, alter_away, in_without_of}
-use Rattle.lmn_cells.specs.Rows.{Row}
-use Rattle.lmn_cells.specs.Cells.{HeldPort, HeldCell, cells_by, links_of, numbers_of, ports_of, port_of, with_link, with_number}
-use Rattle.lmn_cells.specs.Ports.{partner_by, partner_in}
-use Rattle.lmn_cells.specs.Runs.{HOME, NEXT, PREV, link_in, Line, Apart, with_next, with_prev, unlinked, appended, put_before, inserted}
-use Rattle.lmn_cells.proofs.LineLemmas.{keeps, link_other, next_away, prev_away, home_low}
-use Rattle.lmn_cells.proofs.InsertLemmas.{in_put, in_put_old, in_put_new, length_put}
+use Rattle.lmn_store_heap.specs.Heap.{alter}
+use Rattle.lmn_store_heap.specs.Lists.{Distinct, without}
+use Rattle.lmn_store_heap.proofs.ListLemmas.{each_in, each_of, in_left, in_right, in_without, short}
+use Rattle.lmn_store_heap.proofs.Listing.{alter_at, alter_away, in_without_of}
+use Rattle.lmn_web_cells.specs.Rows.{Row}
+use Rattle.lmn_web_cells.specs.Cells.{HeldPort, HeldCell, cells_by, links_of, numbers_of, ports_of, port_of, with_link, with_number}
+use Rattle.lmn_web_cells.specs.Ports.{partner_by, partner_in}
+use Rattle.lmn_web_cells.specs.Runs.{HOME, NEXT, PREV, link_in, Line, Apart, with_next, with_prev, unlinked, appended, put_before, inserted}
+use Rattle.lmn_web_cells.proofs.LineLemmas.{keeps, link_other, next_away, prev_away, home_low}
+use Rattle.lmn_web_cells.proofs.InsertLemmas.{in_put, in_put_old, in_put_new, length_put}
 use Rattle.lmn_web.specs.declared.kind.CellKind.{CellKind}
 use Rattle.lmn_web.specs.declared.kind.CellKind.TheVariants.{Atom, Membrane}
 use Rattle.lmn_web.specs.Kinds.{kind_by}

@@ -6,13 +6,13 @@ use Rattle.std.proofs.lemmas.Option.{slice_get_within}
 use Rattle.std.proofs.Math.Seq.{map-set_same}
 use Rattle.std.specs.Option.{option_map}
 use Rattle.lmn_base.proofs.Numbers.{not_equal}
-use Rattle.lmn_heap.specs.Heap.{alter}
-use Rattle.lmn_heap.proofs.Listing.{alter_at, alter_away, alter_keeps}
-use Rattle.lmn_cells.specs.Cells.{HeldPort, HeldCell, blank_cell, links_of, numbers_of, ports_of, port_of, no_port, with_number, with_mark as with_port_mark}
-use Rattle.lmn_cells.specs.Ports as cell
-use Rattle.lmn_cells.specs.Ports.{IsPort, Reaches, Paired, partner_by, partner_in}
-use Rattle.lmn_cells.proofs.PortLemmas.{cleared_ports, linked_ports}
-use Rattle.lmn_cells.specs.Runs.{HOME}
+use Rattle.lmn_store_heap.specs.Heap.{alter}
+use Rattle.lmn_store_heap.proofs.Listing.{alter_at, alter_away, alter_keeps}
+use Rattle.lmn_web_cells.specs.Cells.{HeldPort, HeldCell, blank_cell, links_of, numbers_of, ports_of, port_of, no_port, with_number, with_mark as with_port_mark}
+use Rattle.lmn_web_cells.specs.Ports as cell
+use Rattle.lmn_web_cells.specs.Ports.{IsPort, Reaches, Paired, partner_by, partner_in}
+use Rattle.lmn_web_cells.proofs.PortLemmas.{cleared_ports, linked_ports}
+use Rattle.lmn_web_cells.specs.Runs.{HOME}
 use Rattle.lmn_web.specs.Webs.{WebCell, partners_of, web_cell, web_with, web_of, list_in, list_link, count_number, partner_at, arity_at, new_cell, with_partner, with_mark, linked, cleared, joined, parted, IsPaired, INDEX, ARITY, KIND, HIGH, LOW, FIRST_MARK, number_in, label_by}
 use Rattle.lmn_web.specs.Indexes.{described, IsListed, IsWeb, IsIndexed}
 use Rattle.lmn_web.proofs.ListedLemmas.{Listing, listing, lists_same, listed_self, listed_beside, web_self, cell_of}

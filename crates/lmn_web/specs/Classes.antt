@@ -1,11 +1,11 @@
 -- Words of private functions: the atoms of a membrane that files them and that have one class, which is the high half of their labels and how many ports they have, are linked one behind the other.
 use Rattle.std.specs.Prelude.{◌≡◌, ◌≢◌, ◌==◌, ◌&&◌, ◌<◌, ◌/◌, ◌%◌, ◌++◌, Bool, true, false, ℕ, zero, suc, List, [], ◌∷◌, length, filter, Option, Some, None, IsSome, is_some, if◌then◌else◌}
 use Rattle.lmn_base.specs.Lists.{In}
-use Rattle.lmn_heap.specs.Lists.{Distinct, without}
+use Rattle.lmn_store_heap.specs.Lists.{Distinct, without}
 use Rattle.std.specs.Option.{option_map}
-use Rattle.lmn_heap.specs.Heap.{alter}
-use Rattle.lmn_cells.specs.Cells.{HeldPort, HeldCell, links_of, numbers_of, ports_of, with_link}
-use Rattle.lmn_cells.specs.Runs.{Node, RunsThrough, link_in, put_before}
+use Rattle.lmn_store_heap.specs.Heap.{alter}
+use Rattle.lmn_web_cells.specs.Cells.{HeldPort, HeldCell, links_of, numbers_of, ports_of, with_link}
+use Rattle.lmn_web_cells.specs.Runs.{Node, RunsThrough, link_in, put_before}
 use Rattle.lmn_web.specs.Webs.{number_in, ARITY, HIGH, KIND}
 use Rattle.lmn_web.specs.declared.kind.CellKind.{CellKind}
 use Rattle.lmn_web.specs.declared.kind.CellKind.TheVariants.{Atom, Membrane}

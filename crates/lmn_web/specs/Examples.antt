@@ -1,7 +1,7 @@
 -- A small web, made by what calls do, and what holds of it.
 use Rattle.std.specs.Prelude.{◌≡◌, ℕ, [], ◌∷◌, Option, Some, None}
 use Rattle.std.specs.Option.{option_map}
-use Rattle.lmn_heap.specs.Heap.{alter}
+use Rattle.lmn_store_heap.specs.Heap.{alter}
 use Rattle.lmn_web.specs.declared.kind.CellKind.TheVariants.{Atom, Membrane}
 use Rattle.lmn_web.specs.Webs.{WebCell, new_cell, with_list, cells_in, home_at, added_last, added_before, unlinked, with_label, with_class, IsLoose, StandOnce, WithoutAtoms}
 

@@ -2,10 +2,10 @@
 use Rattle.std.specs.Prelude.{◌≡◌, ◌≢◌, ◌↔◌, true, ℕ, ◌+◌, ◌-◌, ◌<◌, ◌^◌, List, [], ◌∷◌, length, Option, Some, None, IsSome, slice_get}
 use Rattle.std.specs.Option.{option_map}
 use Rattle.lmn_base.specs.Lists.{In}
-use Rattle.lmn_heap.specs.Heap.{alter}
-use Rattle.lmn_cells.specs.Cells.{HeldCell, numbers_of, ports_of, with_link, with_number}
-use Rattle.lmn_cells.specs.Ports.{Reaches, Paired}
-use Rattle.lmn_cells.specs.Runs.{HOME, NEXT, link_in, Line}
+use Rattle.lmn_store_heap.specs.Heap.{alter}
+use Rattle.lmn_web_cells.specs.Cells.{HeldCell, numbers_of, ports_of, with_link, with_number}
+use Rattle.lmn_web_cells.specs.Ports.{Reaches, Paired}
+use Rattle.lmn_web_cells.specs.Runs.{HOME, NEXT, link_in, Line}
 use Rattle.lmn_web.specs.declared.kind.CellKind.{CellKind}
 use Rattle.lmn_web.specs.declared.kind.CellKind.TheVariants.{Atom}
 use Rattle.lmn_web.specs.Kinds.{kind_by}

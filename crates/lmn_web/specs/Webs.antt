@@ -1,13 +1,13 @@
 -- What a web holds, as its calls see it, and how cells stand for that.
 use Rattle.std.specs.Prelude.{◌≡◌, ◌≢◌, ◌==◌, ◌&&◌, Bool, false, ℕ, zero, suc, ◌+◌, ◌*◌, ◌/◌, ◌^◌, ◌<◌, List, [], ◌∷◌, ◌++◌, length, map, filter, Option, Some, None, IsSome, slice_index_or, slice_set, replicate, unwrap_or}
 use Rattle.std.specs.Option.{option_map}
-use Rattle.lmn_heap.specs.Heap.{alter}
+use Rattle.lmn_store_heap.specs.Heap.{alter}
 use Rattle.lmn_base.specs.Lists.{In}
-use Rattle.lmn_heap.specs.Lists.{Distinct, without}
-use Rattle.lmn_cells.specs.Cells.{HeldPort, HeldCell, cells_by, numbers_of}
-use Rattle.lmn_cells.specs.Ports.{partner_by}
-use Rattle.lmn_cells.specs.Runs.{HOME, NEXT, link_in, put_before}
-use Rattle.lmn_cells.specs.Rows.{Row}
+use Rattle.lmn_store_heap.specs.Lists.{Distinct, without}
+use Rattle.lmn_web_cells.specs.Cells.{HeldPort, HeldCell, cells_by, numbers_of}
+use Rattle.lmn_web_cells.specs.Ports.{partner_by}
+use Rattle.lmn_web_cells.specs.Runs.{HOME, NEXT, link_in, put_before}
+use Rattle.lmn_web_cells.specs.Rows.{Row}
 use Rattle.lmn_web.specs.declared.kind.CellKind.{CellKind}
 use Rattle.lmn_web.specs.declared.kind.CellKind.TheVariants.{Atom, Membrane}
 use Rattle.lmn_web.specs.Kinds.{kind_by}

@@ -2,17 +2,17 @@
 ghost use Rattle.std.specs.Prelude.{◌≡◌, ◌<◌, ◌++◌, ◌∷◌, [], ℕ, List, None, Some, IfSome, IsSome, is_some, if◌then◌else◌, true};
 ghost use Rattle.std.specs.Option.{option_map};
 ghost use Rattle.lmn_base.specs.Lists.{In};
-ghost use Rattle.lmn_cells.specs.Cells.{cells_by};
-ghost use Rattle.lmn_cells.specs.CellIds.{cell_id};
-ghost use Rattle.lmn_heap.specs.Lists.{after, from, without};
-ghost use Rattle.lmn_cells.specs.Runs.{Line, link_in, put_before};
+ghost use Rattle.lmn_web_cells.specs.Cells.{cells_by};
+ghost use Rattle.lmn_web_cells.specs.CellIds.{cell_id};
+ghost use Rattle.lmn_store_heap.specs.Lists.{after, from, without};
+ghost use Rattle.lmn_web_cells.specs.Runs.{Line, link_in, put_before};
 ghost use Rattle.lmn_web.specs.declared.kind.CellKind.TheVariants.{Atom};
 ghost use Rattle.lmn_web.specs.Webs.{list_in};
 ghost use Rattle.lmn_web.specs.Classes.{ClassTree, AreClassed, IsTree, IsSorted, Refiled, FiledAs, MayEnter, MayFile, MayLeave, ClassBecomes, begun, closed, dropped, files, is_key, is_odd, key_in, lengthened, lowest_below, passed, place_in, put_between, put_first, of_class, shortened, taken_over, top};
 
 use crate::kind::{CellKind, FILED};
-use lmn_cells::cell::Cells;
-use lmn_cells::handle::Cell;
+use lmn_web_cells::cell::Cells;
+use lmn_web_cells::handle::Cell;
 
 // The numbers of an atom that say its class.
 const ARITY: usize = 1;

@@ -7,5 +7,5 @@ mod kind;
 mod web;
 
 pub use kind::CellKind;
-pub use lmn_cells::handle::Cell;
+pub use lmn_web_cells::handle::Cell;
 pub use web::Web;

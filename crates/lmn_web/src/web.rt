@@ -2,11 +2,11 @@
 ghost use Rattle.std.specs.Prelude.{◌≡◌, ◌≢◌, ◌==◌, ℕ, ◌+◌, ◌^◌, ◌<◌, ◌≤◌, IfSome, IsSome, List, None, Some, MatchResult, length, map, slice_get, slice_index_or};
 ghost use Rattle.std.specs.Option.{option_map};
 ghost use Rattle.lmn_base.specs.Lists.{In};
-ghost use Rattle.lmn_heap.specs.Heap.{alter};
-ghost use Rattle.lmn_heap.specs.Lists.{Distinct, after, from};
-ghost use Rattle.lmn_cells.specs.Cells.{cells_by};
-ghost use Rattle.lmn_cells.specs.CellIds.{cell_id, port_id};
-ghost use Rattle.lmn_cells.specs.Ports.{IsSamePort};
+ghost use Rattle.lmn_store_heap.specs.Heap.{alter};
+ghost use Rattle.lmn_store_heap.specs.Lists.{Distinct, after, from};
+ghost use Rattle.lmn_web_cells.specs.Cells.{cells_by};
+ghost use Rattle.lmn_web_cells.specs.CellIds.{cell_id, port_id};
+ghost use Rattle.lmn_web_cells.specs.Ports.{IsSamePort};
 ghost use Rattle.lmn_web.specs.Webs.{web_by, partner_at, arity_at, kind_at, home_at, cells_in, number_in, partners_of, marks_of, new_cell, with_mark, joined, parted, added_last, added_before, unlinked, web_label, is_labelled, with_label, label_class, with_class, IsPaired, IsLoose, StandOnce, WithoutAtoms};
 ghost use Rattle.lmn_web.specs.Kinds.{kind_by};
 ghost use Rattle.lmn_web.specs.Indexes.{described, reindexed, bare_atoms, AreLinked, IsIndexed, IsTable, Swapped, Without};
@@ -14,9 +14,9 @@ ghost use Rattle.lmn_web.specs.declared.kind.CellKind.TheVariants.{Atom, Membran
 
 use crate::classes::{LEADERS, enter_class, first_in, is_filed, leave_class, next_in, place_from};
 use crate::kind::{CellKind, UNFILED, count_place, first_link, kind_of, number_of};
-use lmn_cells::cell::Cells;
-use lmn_cells::handle::Cell;
-use lmn_cells::{lists, ports};
+use lmn_web_cells::cell::Cells;
+use lmn_web_cells::handle::Cell;
+use lmn_web_cells::{lists, ports};
 use std::alloc::{AllocError, Global};
 use std::marker::Model;
 
@@ -51,9 +51,9 @@ pub struct Web {
 
 impl Model for Web {
     ghost use Rattle.std.specs.Prelude.{List, map};
-    ghost use Rattle.lmn_cells.specs.Rows.{Row};
-    ghost use Rattle.lmn_cells.specs.Cells.{cells_by};
-    ghost use Rattle.lmn_cells.specs.CellIds.{cell_id};
+    ghost use Rattle.lmn_web_cells.specs.Rows.{Row};
+    ghost use Rattle.lmn_web_cells.specs.Cells.{cells_by};
+    ghost use Rattle.lmn_web_cells.specs.CellIds.{cell_id};
     ghost use Rattle.lmn_web.specs.Indexes.{IsClassedWeb};
 
     ghost Value = { List Row };

@@ -14,7 +14,7 @@ use Rattle.lmn_base.specs.declared.rule.RuleTree.{RuleTree}
 use Rattle.lmn_base.specs.Levels.{contexts_of, leaves_of, rule_contexts_of}
 use Rattle.lmn_base.specs.Names.{condition_names, context_names, label_names, leaf_names, level_names, rule_names}
 use Rattle.lmn_guards.specs.declared.plan.TypedUse.{TypedUse}
-use Rattle.lmn_instr.specs.Labels.{HasLabel}
+use Rattle.lmn_instr_code.specs.Labels.{HasLabel}
 use Rattle.lmn_weight.specs.declared.weights.Weights.{Weights}
 use Rattle.lmn_weight.specs.OneReading.{AlikeForPlains, AreAlike}
 use Rattle.lmn_weight.specs.Plains.{closed_once, leaf_weight, level_weight, stands_for_int, stands_once, weight_step}

@@ -14,7 +14,7 @@ use Rattle.lmn_base.specs.declared.rule.RuleTree.{RuleTree}
 use Rattle.lmn_base.proofs.Numbers.{same_or_not}
 use Rattle.lmn_guards.specs.declared.plan.GuardPlan.{GuardPlan}
 use Rattle.lmn_guards.specs.declared.plan.TypedUse.{TypedUse}
-use Rattle.lmn_heap.specs.Functors.{same_functor}
+use Rattle.lmn_store_heap.specs.Functors.{same_functor}
 use Rattle.lmn_weight.specs.declared.weights.Weights.{Weights}
 use Rattle.lmn_weight.specs.Plains.{is_lowered, leaf_weight, level_weight, listed_weight, weight_step}
 

@@ -8,15 +8,15 @@ use Rattle.lmn_base.proofs.Lists.{one_number}
 use Rattle.lmn_base.specs.declared.functor.Functor.{Functor}
 use Rattle.lmn_base.specs.declared.functor.Label.{Label}
 use Rattle.lmn_base.specs.declared.functor.Label.TheVariants.{Int, Name}
-use Rattle.lmn_functors.proofs.NameLemmas.{has_stays}
-use Rattle.lmn_functors.proofs.NameTexts.{name_no_integer, one_name}
-use Rattle.lmn_functors.proofs.QuotedLemmas.{last_split, no_slash_decimal}
-use Rattle.lmn_functors.specs.Reading.{AddsNames, IsIn64Bits, IsLabelText, IsShortLabel}
-use Rattle.lmn_instr.specs.Labels.{HasLabel, listed_label_text}
-use Rattle.lmn_instr.specs.Listings.{functor_text}
+use Rattle.lmn_instr_reading.proofs.NameLemmas.{has_stays}
+use Rattle.lmn_instr_reading.proofs.NameTexts.{name_no_integer, one_name}
+use Rattle.lmn_instr_reading.proofs.QuotedLemmas.{last_split, no_slash_decimal}
+use Rattle.lmn_instr_reading.specs.Reading.{AddsNames, IsIn64Bits, IsLabelText, IsShortLabel}
+use Rattle.lmn_instr_code.specs.Labels.{HasLabel, listed_label_text}
+use Rattle.lmn_instr_code.specs.Listings.{functor_text}
 use Rattle.lmn_weight.specs.Lines.{HasText, IsIntegerText, IsNarrowLabel, MayBeNamed}
 use Rattle.lmn_weight.specs.Plains.{is_integer, is_integer_label}
-use Rattle.lmn_functors.proofs.Common.{size_of as narrow_size}
+use Rattle.lmn_instr_reading.proofs.Common.{size_of as narrow_size}
 
 -- ---- labels and functors
 

@@ -18,8 +18,8 @@ use Rattle.std.proofs.lemmas.Map.Lookups.{exact_unsigned}
 use Rattle.lmn_base.specs.declared.functor.Functor.{Functor}
 use Rattle.lmn_base.specs.declared.functor.Label.{Label}
 use Rattle.lmn_base.specs.declared.functor.Label.TheVariants.{Int, Name}
-use Rattle.lmn_heap.proofs.WithFunctor.{functor_is, functor_same}
-use Rattle.lmn_heap.specs.Functors.{same_functor}
+use Rattle.lmn_store_heap.proofs.WithFunctor.{functor_is, functor_same}
+use Rattle.lmn_store_heap.specs.Functors.{same_functor}
 use Rattle.lmn_weight.specs.declared.index.Entry.{Entry}
 use Rattle.lmn_weight.specs.Index.{IsFirstPlace, IsIndexOf, IsRising, entry_at, entry_cmp, entry_of, is_at, label_number}
 use Rattle.lmn_weight.specs.Plains.{is_integer_label, listed_weight}

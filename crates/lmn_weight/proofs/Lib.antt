@@ -11,3 +11,9 @@ mod OneTelling
 mod SomeTelling
 mod LineExamples
 pub mod AlikePlains
+mod WeightsAgree
+mod Integers
+mod LoweredTrees
+pub mod Bounded
+mod Sizes
+mod Nothing

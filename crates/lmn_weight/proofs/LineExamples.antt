@@ -11,10 +11,10 @@ use Rattle.std.proofs.lemmas.Slice.Eq.{bytes_eq-Decides}
 use Rattle.lmn_base.specs.declared.functor.Label.{Label}
 use Rattle.lmn_base.specs.declared.functor.Label.TheVariants.{Int, Name}
 use Rattle.lmn_base.specs.Names.{first_names}
-use Rattle.lmn_functors.proofs.QuotedLemmas.{last_split, no_slash_decimal}
-use Rattle.lmn_functors.specs.Reading.{IsFunctorText}
-use Rattle.lmn_instr.specs.Labels.{HasLabel}
-use Rattle.lmn_instr.specs.Listings.{functor_text}
+use Rattle.lmn_instr_reading.proofs.QuotedLemmas.{last_split, no_slash_decimal}
+use Rattle.lmn_instr_reading.specs.Reading.{IsFunctorText}
+use Rattle.lmn_instr_code.specs.Labels.{HasLabel}
+use Rattle.lmn_instr_code.specs.Listings.{functor_text}
 use Rattle.lmn_weight.proofs.OneTelling.{differ, one_saying}
 use Rattle.lmn_weight.specs.declared.told.Told.{Told}
 use Rattle.lmn_weight.specs.LineExamples.{OneFewerDoesNot, OneMoreStandsBehind, OthersAreAlike, SomeHaveText, TheseAreNot, ThreeAreTold, WideHasNoText, WideIsWrong, names_with, small_weights}

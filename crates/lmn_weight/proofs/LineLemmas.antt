@@ -12,13 +12,13 @@ use Rattle.lmn_base.specs.declared.functor.Label.{Label}
 use Rattle.lmn_base.specs.declared.functor.Label.TheVariants.{Int, Name}
 use Rattle.lmn_base.specs.declared.memory.NoMemory.{NoMemory}
 use Rattle.lmn_base.specs.declared.refusal.Refusal.{Refusal}
-use Rattle.lmn_functors.proofs.NameLemmas.{adds_both, adds_more, adds_none, functor_stays}
-use Rattle.lmn_functors.specs.Reading.{AddsNames, IsShortLabel}
-use Rattle.lmn_instr.specs.Labels.{HasLabel, listed_label_text}
-use Rattle.lmn_instr.specs.Listings.{functor_text}
-use Rattle.lmn_lines.proofs.LineLemmas.{joined_more, last_split, no_space_within, split_at, taken_more}
-use Rattle.lmn_lines.proofs.NumberLemmas.{digits_of, no_space, small_number}
-use Rattle.lmn_lines.specs.Lines.{HasNoSpace, IsOneLine, joined, number_written}
+use Rattle.lmn_instr_reading.proofs.NameLemmas.{adds_both, adds_more, adds_none, functor_stays}
+use Rattle.lmn_instr_reading.specs.Reading.{AddsNames, IsShortLabel}
+use Rattle.lmn_instr_code.specs.Labels.{HasLabel, listed_label_text}
+use Rattle.lmn_instr_code.specs.Listings.{functor_text}
+use Rattle.lmn_instr_reading.proofs.LineLemmas.{joined_more, last_split, no_space_within, split_at, taken_more}
+use Rattle.lmn_instr_reading.proofs.NumberLemmas.{digits_of, no_space, small_number}
+use Rattle.lmn_instr_reading.specs.Lines.{HasNoSpace, IsOneLine, joined, number_written}
 use Rattle.lmn_weight.proofs.FunctorTexts.{text_stays}
 use Rattle.lmn_weight.specs.declared.told.Told.{Told}
 use Rattle.lmn_weight.specs.declared.weights.Weights.{Weights}

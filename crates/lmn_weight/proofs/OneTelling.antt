@@ -10,23 +10,23 @@ use Rattle.lmn_base.proofs.Lists.{all_append, all_right, head_is, map_append, no
 use Rattle.lmn_base.specs.declared.functor.Functor.{Functor}
 use Rattle.lmn_base.specs.declared.refusal.Refusal.{Refusal}
 use Rattle.lmn_congruence.specs.SolidsOfPlains.{is_connector}
-use Rattle.lmn_functors.proofs.NameLemmas.{functor_stays}
-use Rattle.lmn_functors.proofs.QuotedLemmas.{no_functor}
-use Rattle.lmn_functors.specs.Reading.{HasNoSlash}
-use Rattle.lmn_heap.proofs.WithFunctor.{functor_is, functor_same}
-use Rattle.lmn_heap.specs.Functors.{same_functor}
-use Rattle.lmn_instr.specs.Labels.{HasLabel, listed_label_text}
-use Rattle.lmn_instr.specs.Listings.{functor_text}
-use Rattle.lmn_lines.proofs.LineLemmas.{last_split}
-use Rattle.lmn_lines.proofs.NumberLemmas.{digits_of, no_space}
-use Rattle.lmn_lines.specs.Lines.{IsOneLine, joined, number_written}
+use Rattle.lmn_instr_reading.proofs.NameLemmas.{functor_stays}
+use Rattle.lmn_instr_reading.proofs.QuotedLemmas.{no_functor}
+use Rattle.lmn_instr_reading.specs.Reading.{HasNoSlash}
+use Rattle.lmn_store_heap.proofs.WithFunctor.{functor_is, functor_same}
+use Rattle.lmn_store_heap.specs.Functors.{same_functor}
+use Rattle.lmn_instr_code.specs.Labels.{HasLabel, listed_label_text}
+use Rattle.lmn_instr_code.specs.Listings.{functor_text}
+use Rattle.lmn_instr_reading.proofs.LineLemmas.{last_split}
+use Rattle.lmn_instr_reading.proofs.NumberLemmas.{digits_of, no_space}
+use Rattle.lmn_instr_reading.specs.Lines.{IsOneLine, joined, number_written}
 use Rattle.lmn_weight.proofs.FunctorTexts.{may_be_named, one_functor, text_before, text_stays}
 use Rattle.lmn_weight.specs.declared.told.Told.{Told}
 use Rattle.lmn_weight.specs.declared.weights.Weights.{Weights}
 use Rattle.lmn_weight.specs.Lines.{AreWeightsOf, HasText, IsFirstWrong, IsNamed, IsTold, IsWeightLine, IsWrong, MayBeNamed, Tell, integers, is_listed, line_more, membranes, no_line, of_functor, or_nothing}
 use Rattle.lmn_weight.specs.OneReading.{AreAlike, OneTelling, OneWrongLine, StandsBehind, ToldNotWrong}
 use Rattle.lmn_weight.specs.Plains.{is_integer, listed_weight}
-use Rattle.lmn_lines.proofs.Common.{feed_within as no_feed_within, joined_first as first_joined}
+use Rattle.lmn_instr_reading.proofs.LinesCommon.{feed_within as no_feed_within, joined_first as first_joined}
 
 -- ---- lines
 

@@ -14,14 +14,14 @@ use Rattle.lmn_base.specs.declared.functor.Functor.{Functor}
 use Rattle.lmn_base.specs.declared.functor.Label.TheVariants.{Int, Name}
 use Rattle.lmn_base.specs.declared.refusal.Refusal.{Refusal}
 use Rattle.lmn_base.specs.Names.{IsNames, first_names}
-use Rattle.lmn_functors.proofs.NameLemmas.{adds_both, adds_more, adds_none}
-use Rattle.lmn_functors.proofs.QuotedLemmas.{last_split, no_functor, no_slash_decimal, quoted_begins, quoted_other, quoted_quote}
-use Rattle.lmn_functors.specs.Reading.{AddsNames, IsFunctorText, IsLabelText}
-use Rattle.lmn_instr.specs.Listings.{functor_text}
+use Rattle.lmn_instr_reading.proofs.NameLemmas.{adds_both, adds_more, adds_none}
+use Rattle.lmn_instr_reading.proofs.QuotedLemmas.{last_split, no_functor, no_slash_decimal, quoted_begins, quoted_other, quoted_quote}
+use Rattle.lmn_instr_reading.specs.Reading.{AddsNames, IsFunctorText, IsLabelText}
+use Rattle.lmn_instr_code.specs.Listings.{functor_text}
 use Rattle.lmn_lexer.specs.NameText.{name_text, quoted, quoted_byte}
 use Rattle.lmn_lexer.specs.Spelling.{is_bare_name}
-use Rattle.lmn_lines.specs.Lines.{HasNoSpace, IsOneLine, number_written}
-use Rattle.lmn_functors.proofs.NameTexts.{quoted_one}
+use Rattle.lmn_instr_reading.specs.Lines.{HasNoSpace, IsOneLine, number_written}
+use Rattle.lmn_instr_reading.proofs.NameTexts.{quoted_one}
 use Rattle.lmn_weight.proofs.LineLemmas.{Reached, item_taken, line_taken, line_unsplit, line_untaken, reached_all, reached_more, reached_start, reached_unended, reached_wrong}
 use Rattle.lmn_weight.specs.declared.told.Told.{Told}
 use Rattle.lmn_weight.specs.declared.weights.Weights.{Weights}

@@ -7,7 +7,7 @@ use Rattle.std.specs.declared.cmp.Ordering.{Ordering}
 use Rattle.lmn_base.specs.declared.functor.Functor.{Functor}
 use Rattle.lmn_base.specs.declared.functor.Label.{Label}
 use Rattle.lmn_base.specs.declared.functor.Label.TheVariants.{Int, Name}
-use Rattle.lmn_heap.specs.Functors.{same_functor}
+use Rattle.lmn_store_heap.specs.Functors.{same_functor}
 use Rattle.lmn_weight.specs.declared.index.Entry.{Entry}
 use Rattle.lmn_weight.specs.Plains.{is_integer_label}
 

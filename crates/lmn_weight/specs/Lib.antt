@@ -6,3 +6,5 @@ pub mod Lines
 pub mod OneReading
 pub mod Index
 pub mod LineExamples
+pub mod Bounding
+pub mod Examples

@@ -6,11 +6,11 @@ use Rattle.lmn_base.specs.declared.functor.Functor.{Functor}
 use Rattle.lmn_base.specs.declared.functor.Label.{Label}
 use Rattle.lmn_base.specs.declared.functor.Label.TheVariants.{Int, Name}
 use Rattle.lmn_base.specs.declared.refusal.Refusal.{Refusal}
-use Rattle.lmn_functors.specs.Reading.{IsFunctorText, IsIn64Bits, IsShortLabel}
-use Rattle.lmn_heap.specs.Functors.{same_functor}
-use Rattle.lmn_instr.specs.Labels.{HasLabel}
-use Rattle.lmn_instr.specs.Listings.{functor_text}
-use Rattle.lmn_lines.specs.Lines.{IsOneLine, joined, number_written}
+use Rattle.lmn_instr_reading.specs.Reading.{IsFunctorText, IsIn64Bits, IsShortLabel}
+use Rattle.lmn_store_heap.specs.Functors.{same_functor}
+use Rattle.lmn_instr_code.specs.Labels.{HasLabel}
+use Rattle.lmn_instr_code.specs.Listings.{functor_text}
+use Rattle.lmn_instr_reading.specs.Lines.{IsOneLine, joined, number_written}
 use Rattle.lmn_weight.specs.declared.told.Told.{Told}
 use Rattle.lmn_weight.specs.declared.weights.Weights.{Weights}
 use Rattle.lmn_weight.specs.Plains.{is_integer}

@@ -5,9 +5,9 @@ use Rattle.lmn_base.specs.declared.refusal.Refusal.{Refusal}
 use Rattle.lmn_base.specs.declared.rule.Plain.{Plain}
 use Rattle.lmn_base.specs.declared.rule.RuleTree.{RuleTree}
 use Rattle.lmn_base.specs.Names.{IsNames, NamesPlain}
-use Rattle.lmn_functors.specs.Reading.{AddsNames}
+use Rattle.lmn_instr_reading.specs.Reading.{AddsNames}
 use Rattle.lmn_guards.specs.declared.plan.GuardPlan.{GuardPlan}
-use Rattle.lmn_instr.specs.Labels.{HasLabel}
+use Rattle.lmn_instr_code.specs.Labels.{HasLabel}
 use Rattle.lmn_weight.specs.declared.weights.Weights.{Weights}
 use Rattle.lmn_weight.specs.Lines.{AreWeightsOf, IsFirstWrong}
 use Rattle.lmn_weight.specs.Plains.{functor_weight, is_lowered, level_weight}

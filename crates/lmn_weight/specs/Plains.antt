@@ -19,7 +19,7 @@ use Rattle.lmn_guards.specs.declared.plan.GuardPlan.{GuardPlan}
 use Rattle.lmn_guards.specs.declared.plan.TypeKind.{TypeKind}
 use Rattle.lmn_guards.specs.declared.plan.TypeKind.TheVariants as kind
 use Rattle.lmn_guards.specs.declared.plan.TypedUse.{TypedUse}
-use Rattle.lmn_heap.specs.Functors.{same_functor}
+use Rattle.lmn_store_heap.specs.Functors.{same_functor}
 use Rattle.lmn_weight.specs.declared.weights.Weights.{Weights}
 
 -- ---- weights

@@ -3,7 +3,7 @@ ghost use Rattle.std.specs.Prelude.{ℕ, List, true, false, ◌≡◌, ◌≤◌
 ghost use Rattle.std.specs.List.{list_all};
 ghost use Rattle.std.specs.Char.{is_ascii_digit};
 ghost use Rattle.lmn_base.specs.Refusals.{IfRefused};
-ghost use Rattle.lmn_functors.specs.Reading.{AddsNames, IsIn64Bits};
+ghost use Rattle.lmn_instr_reading.specs.Reading.{AddsNames, IsIn64Bits};
 ghost use Rattle.lmn_base.specs.declared.refusal.TextFault.TheVariants.{Refused};
 ghost use Rattle.lmn_weight.specs.Lines.{IsNarrow, is_listed, or_nothing};
 ghost use Rattle.lmn_weight.specs.Lines.{AreWeightsOf, IsFirstWrong, TakesFunctor, TakesInt, TakesItem, TakesLine, TakesMembrane};
@@ -12,8 +12,8 @@ ghost use Rattle.lmn_weight.specs.Plains.{AreSmall};
 use crate::told::Told;
 use crate::weights::{Weights, is_integer, same_functor};
 use lmn_base::{Functor, Label, Names, NoMemory, Pos, Refusal, Rows, TextFault};
-use lmn_functors::read_functor;
-use lmn_lines::{last_space, next_feed, number_written};
+use lmn_instr_reading::read_functor;
+use lmn_instr_reading::{last_space, next_feed, number_written};
 use std::alloc::Global;
 
 /// Whether a functor is among these.

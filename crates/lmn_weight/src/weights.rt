@@ -1,7 +1,7 @@
 //! What each kind of atom weighs.
 ghost use Rattle.std.specs.Prelude.{◌≡◌, ◌↔◌, IfSome, IsTrue, length};
 ghost use Rattle.lmn_congruence.specs.SolidsOfPlains as solids;
-ghost use Rattle.lmn_heap.specs.Functors as functors;
+ghost use Rattle.lmn_store_heap.specs.Functors as functors;
 ghost use Rattle.lmn_weight.specs.Index.{IsIndexOf};
 ghost use Rattle.lmn_weight.specs.Plains.{listed_weight, is_integer, functor_weight};
 

@@ -1,5 +1,5 @@
 use Rattle.std.proofs.Common.{ap, ◌∙◌, length, subst}
-use Rattle.lmn_accepted.proofs.Loadable.{rules_whole}
+use Rattle.lmn_app_accepted.proofs.Loadable.{rules_whole}
 use Rattle.lmn_weight.specs.Plains.{EachLowered, IsFirstNotLowered}
 use Rattle.lmn_app.proofs.BoundLemmas.{bad_ended, few_weigh, is_bound, not_lowered_ended, part_ended, written_ended}
 use Rattle.lmn_app.proofs.bounding.bound_by.Goals as goal

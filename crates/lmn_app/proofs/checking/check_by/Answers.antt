@@ -1,6 +1,6 @@
 use Rattle.std.proofs.Common.{◌∙◌, subst, sym}
-use Rattle.lmn_accepted.proofs.Loadable.{loadable}
-use Rattle.lmn_receipt.specs.Laws.{IsAcceptedSolid}
+use Rattle.lmn_app_accepted.proofs.Loadable.{loadable}
+use Rattle.lmn_receipt_chain.specs.Laws.{IsAcceptedSolid}
 use Rattle.lmn_app.proofs.CheckLemmas.{chain_found, checked_ended, checked_part, printable_of, rules_fit, search_fits, search_region, solid_accepted, solid_fits, wrong_found}
 use Rattle.lmn_app.proofs.checking.check_by.Goals as goal
 

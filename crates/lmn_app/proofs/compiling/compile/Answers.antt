@@ -1,10 +1,10 @@
 use Rattle.std.proofs.Common.{arith, refl, sym, subst}
 use Rattle.lmn_io.proofs.WritingLemmas.{writes_same}
-use Rattle.lmn_compile.specs.Compiled.{AreWhole}
+use Rattle.lmn_compile_rules.specs.Compiled.{AreWhole}
 use Rattle.lmn_app.specs.declared.task.Task.TheVariants as task
 use Rattle.lmn_app.proofs.ListLemmas.{listed_ended, listed_part, listing_text, plain_named}
 use Rattle.lmn_app.proofs.OutcomeLemmas.{memory_ended}
-use Rattle.lmn_accepted.proofs.Loadable.{rules_whole}
+use Rattle.lmn_app_accepted.proofs.Loadable.{rules_whole}
 use Rattle.lmn_app.proofs.compiling.compile.Goals as goal
 
 pub compile_rules-requires : goal.compile_rules-requires

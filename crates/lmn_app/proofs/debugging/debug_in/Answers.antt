@@ -1,7 +1,7 @@
 use Rattle.std.proofs.Common.{ap, inr, subst, sym}
-use Rattle.lmn_loading.specs.Loaded.{LoadCauses}
+use Rattle.lmn_schedule_loading.specs.Loaded.{LoadCauses}
 use Rattle.lmn_schedule.specs.Held.{CanBeLoaded}
-use Rattle.lmn_words.specs.Forms.{pair_of}
+use Rattle.lmn_app_words.specs.Forms.{pair_of}
 use Rattle.lmn_app.specs.Debugs.{session_size}
 use Rattle.lmn_app.specs.Pairs.{most_items_of_pair}
 use Rattle.lmn_app.specs.Runnings.{EndsDebugged}

@@ -1,10 +1,10 @@
 use Rattle.std.proofs.Common.{subst, sym}
 use Rattle.lmn_debug.specs.Courses.{course}
-use Rattle.lmn_debugging.specs.Debugged.{Debugged}
+use Rattle.lmn_debug.specs.Debugged.{Debugged}
 use Rattle.lmn_order.specs.declared.order.Order.TheVariants.{First}
 use Rattle.lmn_order.specs.Orders.{chosen}
 use Rattle.lmn_schedule.specs.Held.{CanBeLoaded}
-use Rattle.lmn_script.specs.Asked.{AreAskedWith}
+use Rattle.lmn_debug_script.specs.Asked.{AreAskedWith}
 use Rattle.lmn_app.specs.Debugs.{session_size}
 use Rattle.lmn_app.specs.Runnings.{EndsDebugged}
 use Rattle.lmn_app.proofs.DebugLemmas.{debugged_ended, named_later}

@@ -1,6 +1,6 @@
 use Rattle.std.proofs.Common.{ap, inr, subst}
-use Rattle.lmn_loading.specs.Loaded.{LoadCauses}
-use Rattle.lmn_words.specs.Forms.{pair_of}
+use Rattle.lmn_schedule_loading.specs.Loaded.{LoadCauses}
+use Rattle.lmn_app_words.specs.Forms.{pair_of}
 use Rattle.lmn_app.specs.Executions.{executed_size}
 use Rattle.lmn_app.specs.Pairs.{most_items_of_pair}
 use Rattle.lmn_app.specs.Runnings.{EndsExecuted}

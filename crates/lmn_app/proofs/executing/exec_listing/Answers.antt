@@ -1,7 +1,7 @@
 use Rattle.std.proofs.Common.{subst}
 use Rattle.std.specs.List.{AllByRecursion}
-use Rattle.lmn_verify.specs.Listings.{AreListed, IsRefusedListing}
-use Rattle.lmn_verify.specs.Verified.{IsVerified}
+use Rattle.lmn_verify_listing.specs.Listings.{AreListed, IsRefusedListing}
+use Rattle.lmn_verify_code.specs.Verified.{IsVerified}
 use Rattle.lmn_app.specs.Executions.{IsWrongListing, ReadsCodes}
 use Rattle.lmn_app.proofs.ExecLemmas.{codes_can_turn, codes_ended, wrong_ended}
 use Rattle.lmn_app.proofs.executing.exec_listing.Goals as goal

@@ -1,5 +1,5 @@
 use Rattle.std.proofs.Common.{inr}
-use Rattle.lmn_words.specs.Forms.{pair_of}
+use Rattle.lmn_app_words.specs.Forms.{pair_of}
 use Rattle.lmn_app.proofs.PairLemmas.{has_bound, has_trace}
 use Rattle.lmn_app.proofs.pairing.act_on_pair.Goals as goal
 

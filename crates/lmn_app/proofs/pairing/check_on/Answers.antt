@@ -1,6 +1,6 @@
 use Rattle.std.proofs.Common.{subst, sym}
-use Rattle.lmn_words.specs.declared.command.PairKind.TheVariants.{Check}
-use Rattle.lmn_words.specs.Forms.{pair_of}
+use Rattle.lmn_app_words.specs.declared.command.PairKind.TheVariants.{Check}
+use Rattle.lmn_app_words.specs.Forms.{pair_of}
 use Rattle.lmn_app.specs.Runnings.{EndsByLine}
 use Rattle.lmn_app.proofs.PairLemmas.{has_trace, line_ended}
 use Rattle.lmn_app.proofs.pairing.check_on.Goals as goal

@@ -1,6 +1,6 @@
 use Rattle.std.proofs.Common.{subst, sym}
-use Rattle.lmn_debugging.proofs.NewStores.{alone_is_empty}
-use Rattle.lmn_loading.specs.Loaded.{IsEmpty}
+use Rattle.lmn_debug.proofs.NewStores.{alone_is_empty}
+use Rattle.lmn_schedule_loading.specs.Loaded.{IsEmpty}
 use Rattle.lmn_app.proofs.running.run.Goals as goal
 
 pub run_in-requires-clause-store : goal.run_in-requires-clause-store

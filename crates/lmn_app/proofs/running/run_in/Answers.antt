@@ -1,14 +1,14 @@
 use Rattle.std.proofs.Common.{◌∙◌, ℕ, Some, subst, sym}
 use Rattle.lmn_congruence.specs.Regions.{Region}
-use Rattle.lmn_loading.specs.Loaded.{LoadCauses}
+use Rattle.lmn_schedule_loading.specs.Loaded.{LoadCauses}
 use Rattle.lmn_order.specs.Orders.{chosen}
 use Rattle.lmn_schedule.specs.Held.{CanBeLoaded}
-use Rattle.lmn_drive.specs.Driving.{Drove, given_by_engine}
-use Rattle.lmn_runs.specs.Laws.{solid_of}
+use Rattle.lmn_app_drive.specs.Driving.{Drove, given_by_engine}
+use Rattle.lmn_app_runs.specs.Laws.{solid_of}
 use Rattle.lmn_app.specs.declared.task.Task.TheVariants as task
 use Rattle.lmn_app.specs.Outcomes.{Ended}
 use Rattle.lmn_app.proofs.DriveLemmas.{driven_ended, too_large_ended}
-use Rattle.lmn_accepted.proofs.Loadable.{loadable, well_named}
+use Rattle.lmn_app_accepted.proofs.Loadable.{loadable, well_named}
 use Rattle.lmn_app.proofs.RunLemmas.{Laws}
 use Rattle.lmn_app.proofs.running.run_in.Goals as goal
 

@@ -1,5 +1,5 @@
 use Rattle.std.proofs.Common.{inl, inr, refl, sym, true≢false}
-use Rattle.lmn_words.specs.Forms.{request_of}
+use Rattle.lmn_app_words.specs.Forms.{request_of}
 use Rattle.lmn_app.proofs.RequestLemmas.{request_memory}
 use Rattle.lmn_app.proofs.top.act.Goals as goal
 

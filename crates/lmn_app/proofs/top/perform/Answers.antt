@@ -1,4 +1,4 @@
-use Rattle.lmn_words.specs.Forms.{run_of}
+use Rattle.lmn_app_words.specs.Forms.{run_of}
 use Rattle.lmn_app.proofs.RequestLemmas.{demo_ended, list_ended, run_ended}
 use Rattle.lmn_app.proofs.TaskLemmas.{run_in_range}
 use Rattle.lmn_app.proofs.top.perform.Goals as goal

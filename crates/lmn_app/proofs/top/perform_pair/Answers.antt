@@ -1,5 +1,5 @@
 use Rattle.std.proofs.Common.{inl, length, refl, subst, sym, ◌≤◌, ◌≡◌}
-use Rattle.lmn_words.specs.Forms.{pair_of, to_pair}
+use Rattle.lmn_app_words.specs.Forms.{pair_of, to_pair}
 use Rattle.lmn_app.specs.Texts.{text_bytes}
 use Rattle.lmn_app.specs.Writing.{IsToldAnd, told_under}
 use Rattle.lmn_app.proofs.OutcomeLemmas.{told_here}

@@ -1,6 +1,6 @@
 use Rattle.std.proofs.Common.{arith, ap, length}
-use Rattle.lmn_expand.proofs.GlossaryLemmas.{grown_length}
-use Rattle.lmn_words.specs.Forms.{pair_of, to_pair}
+use Rattle.lmn_flatten.proofs.GlossaryLemmas.{grown_length}
+use Rattle.lmn_app_words.specs.Forms.{pair_of, to_pair}
 use Rattle.lmn_app.specs.Pairs.{most_items_of_pair}
 use Rattle.lmn_app.specs.Texts.{IsRefusal}
 use Rattle.lmn_app.specs.Writing.{told_under}

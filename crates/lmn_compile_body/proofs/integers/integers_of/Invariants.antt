@@ -1,6 +1,6 @@
 use Rattle.std.proofs.Common.{◌≡◌, ◌≤◌, ◌+◌, ◌*◌, drop}
 use Rattle.std.specs.Prelude.{sum_by}
-use Rattle.lmn_base.specs.RuleCodes.{condition_tokens}
+use Rattle.lmn_base_walks.specs.RuleCodes.{condition_tokens}
 use Rattle.lmn_compile_body.specs.Naming.{registers_by, guard_registers}
 use Rattle.lmn_compile_body.proofs.integers.integers_of.Given as goal
 use Rattle.lmn_compile_head.specs.Bindings.{part_numbers}

@@ -1,6 +1,6 @@
 use Rattle.std.proofs.Common.{◌≡◌, ◌≤◌, ◌+◌, ◌++◌, drop}
-use Rattle.lmn_solid.specs.Heads.{membranes_of}
-use Rattle.lmn_body.specs.Code.{drops}
+use Rattle.lmn_solid_heads.specs.Heads.{membranes_of}
+use Rattle.lmn_solid_bodies.specs.Code.{drops}
 use Rattle.lmn_compile_body.proofs.makes.add_drops.Given as goal
 
 abbrev pub invariant-loop-item : goal.invariant-loop-item

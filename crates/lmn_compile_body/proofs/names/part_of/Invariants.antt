@@ -1,6 +1,6 @@
 use Rattle.std.proofs.Common.{◌≡◌, ◌≤◌, drop}
-use Rattle.lmn_solid.specs.Heads.{typed_contexts_of}
-use Rattle.lmn_solid.specs.Guards.{typed_number}
+use Rattle.lmn_solid_heads.specs.Heads.{typed_contexts_of}
+use Rattle.lmn_solid_heads.specs.Guards.{typed_number}
 use Rattle.lmn_compile_body.proofs.names.part_of.Given as goal
 
 abbrev pub invariant-loop-item : goal.invariant-loop-item

@@ -1,7 +1,7 @@
 use Rattle.std.proofs.Common.{◌≡◌, ◌+◌, ◌++◌, drop, length, arith, subst, sym}
-use Rattle.lmn_solid.specs.declared.items.HeadItem.TheVariants.{Atom, Typed, Membrane}
-use Rattle.lmn_solid.specs.Heads.{at_ports, at_atoms, atoms_of, links_of_head}
-use Rattle.lmn_body.specs.Items.{once_in, old_ports}
+use Rattle.lmn_solid_heads.specs.declared.items.HeadItem.TheVariants.{Atom, Typed, Membrane}
+use Rattle.lmn_solid_heads.specs.Heads.{at_ports, at_atoms, atoms_of, links_of_head}
+use Rattle.lmn_solid_bodies.specs.Items.{once_in, old_ports}
 use Rattle.lmn_compile_head.specs.Tables.{HeadFits}
 use Rattle.lmn_compile_body.proofs.Steps.{old_step}
 use Rattle.lmn_compile_body.proofs.ports.add_all_old.Goals as goal

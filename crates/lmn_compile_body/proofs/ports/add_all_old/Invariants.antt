@@ -1,6 +1,6 @@
 use Rattle.std.proofs.Common.{◌≡◌, ◌≤◌, ◌++◌, drop, length}
-use Rattle.lmn_solid.specs.Heads.{at_atoms, atoms_of, links_of_head}
-use Rattle.lmn_body.specs.Items.{once_in, old_ports}
+use Rattle.lmn_solid_heads.specs.Heads.{at_atoms, atoms_of, links_of_head}
+use Rattle.lmn_solid_bodies.specs.Items.{once_in, old_ports}
 use Rattle.lmn_compile_head.specs.Tables.{Counts, HeadFits}
 use Rattle.lmn_compile_body.proofs.ports.add_all_old.Given as goal
 

@@ -1,7 +1,7 @@
 use Rattle.std.proofs.Common.{◌≡◌, ◌++◌, List, drop, length}
-use Rattle.lmn_solid.specs.declared.items.HeadItem.{HeadItem}
-use Rattle.lmn_solid.specs.Heads.{at_ports, links_of_head}
-use Rattle.lmn_body.specs.Items.{once_in}
+use Rattle.lmn_solid_heads.specs.declared.items.HeadItem.{HeadItem}
+use Rattle.lmn_solid_heads.specs.Heads.{at_ports, links_of_head}
+use Rattle.lmn_solid_bodies.specs.Items.{once_in}
 use Rattle.lmn_compile_head.specs.Tables.{AllBelow, Counts}
 use Rattle.lmn_compile_body.proofs.ports.add_old.Given as goal
 

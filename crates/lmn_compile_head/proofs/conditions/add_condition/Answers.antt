@@ -1,5 +1,5 @@
 use Rattle.std.proofs.Common.{◌≡◌, ◌++◌, ◌∷◌, sym, subst, ap, ◌∙◌}
-use Rattle.lmn_instr.specs.HeadCode.{value_code, guard_code}
+use Rattle.lmn_instr_code.specs.HeadCode.{value_code, guard_code}
 use Rattle.lmn_compile_head.specs.declared.conditions.Bound.{Bound}
 use Rattle.lmn_compile_head.specs.Bindings.{bound_of, part_numbers}
 use Rattle.lmn_compile_head.proofs.Bounds.{bound_more, bound_made}

@@ -1,7 +1,7 @@
 use Rattle.std.proofs.Common.{◌≡◌, ◌≤◌, ◌+◌, ◌*◌, ◌++◌, drop}
 use Rattle.std.specs.Prelude.{sum_by}
-use Rattle.lmn_base.specs.RuleCodes.{condition_tokens}
-use Rattle.lmn_instr.specs.HeadCode.{guard_code}
+use Rattle.lmn_base_walks.specs.RuleCodes.{condition_tokens}
+use Rattle.lmn_instr_code.specs.HeadCode.{guard_code}
 use Rattle.lmn_compile_head.specs.Bindings.{bound_of, part_numbers}
 use Rattle.lmn_compile_head.proofs.conditions.add_guard.Given as goal
 

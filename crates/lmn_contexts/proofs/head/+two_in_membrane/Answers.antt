@@ -1,7 +1,7 @@
 use Rattle.std.proofs.Common.{subst, ap, sym, ◌∙◌}
 use Rattle.std.specs.List.{flat_map}
 use Rattle.lmn_base.specs.Firsts.{FirstAt}
-use Rattle.lmn_base.specs.RuleCodes.{seconds_by_membrane, first_with_some}
+use Rattle.lmn_base_walks.specs.RuleCodes.{seconds_by_membrane, first_with_some}
 use Rattle.lmn_contexts.proofs.PairLemmas.{in_one_of, in_none_of}
 use Rattle.lmn_contexts.proofs.head.+two_in_membrane.Goals as goal
 

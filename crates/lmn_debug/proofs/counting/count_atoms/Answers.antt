@@ -1,7 +1,7 @@
 use Rattle.std.proofs.Common.{Some, arith}
-use Rattle.lmn_heap.specs.Sound.{flat}
+use Rattle.lmn_store_heap.specs.Sound.{flat}
 use Rattle.lmn_debug.proofs.CountLemmas.{walk_first, walk_next, walk_fits}
-use Rattle.lmn_store.proofs.Numbers.{root_number, number_next, number_mem, never_ends}
+use Rattle.lmn_store_trait.proofs.Numbers.{root_number, number_next, number_mem, never_ends}
 use Rattle.lmn_debug.proofs.counting.count_atoms.Goals as goal
 
 pub loop-init : goal.loop-init

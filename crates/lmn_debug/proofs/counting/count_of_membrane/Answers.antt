@@ -1,5 +1,5 @@
 use Rattle.std.proofs.Common.{arith}
-use Rattle.lmn_heap.specs.Heap.{atoms_in}
+use Rattle.lmn_store_heap.specs.Heap.{atoms_in}
 use Rattle.lmn_debug.proofs.CountLemmas.{with_few}
 use Rattle.lmn_debug.proofs.counting.count_of_membrane.Goals as goal
 

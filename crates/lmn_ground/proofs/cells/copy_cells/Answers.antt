@@ -3,10 +3,10 @@ use Rattle.lmn_base.specs.Lists.{In}
 use Rattle.std.specs.Prelude.{slice_index_or}
 use Rattle.std.proofs.Common.{◌==◌, not, None, []}
 use Rattle.lmn_base.proofs.Lists.{on_err}
-use Rattle.lmn_heap.specs.Heap.{Heap, HeapAtom, Distinct, IsAtom, marks_of, own_mark, partners_of}
-use Rattle.lmn_parts.specs.Copies.{made_like}
-use Rattle.lmn_parts.specs.Rests.{AreRoomsFor, RestRemains, joined_copies}
-use Rattle.lmn_parts.specs.Walks.{is_in}
+use Rattle.lmn_store_heap.specs.Heap.{Heap, HeapAtom, Distinct, IsAtom, marks_of, own_mark, partners_of}
+use Rattle.lmn_ground_parts.specs.Copies.{made_like}
+use Rattle.lmn_ground_parts.specs.Rests.{AreRoomsFor, RestRemains, joined_copies}
+use Rattle.lmn_ground_parts.specs.Walks.{is_in}
 use Rattle.lmn_ground.specs.Rests.{AreMembranes, IsLeft}
 use Rattle.lmn_ground.proofs.CopyLaws.{length_map}
 use Rattle.lmn_ground.proofs.RestLaws.{atoms_once}

@@ -1,7 +1,7 @@
 use Rattle.std.proofs.Common.{ap, map, refl, subst, sym, ◌∙◌, ◌≡◌, ℕ}
 use Rattle.lmn_base.specs.Lists.{In}
-use Rattle.lmn_heap.specs.Heap.{Heap, arity_of}
-use Rattle.lmn_parts.specs.Copies.{all_joined, answer, ports_of}
+use Rattle.lmn_store_heap.specs.Heap.{Heap, arity_of}
+use Rattle.lmn_ground_parts.specs.Copies.{all_joined, answer, ports_of}
 use Rattle.lmn_ground.specs.Copies.{Copying}
 use Rattle.lmn_ground.specs.Marks.{first_marks}
 use Rattle.lmn_ground.specs.Spread.{Numbered}

@@ -1,6 +1,6 @@
 use Rattle.std.proofs.Common.{◌≡◌, ◌≢◌, None, subst}
-use Rattle.lmn_heap.specs.Heap.{from, mems_in, gone}
-use Rattle.lmn_heap.proofs.Heights.{mem_of_place}
+use Rattle.lmn_store_heap.specs.Heap.{from, mems_in, gone}
+use Rattle.lmn_store_heap.proofs.Heights.{mem_of_place}
 use Rattle.lmn_ground.proofs.DroppingLaws.{Emptied, all_gone, empties, goes_in, goes_out, less_in, less_out, not_out, stands, stands_emptied, stands_outer, starts}
 use Rattle.lmn_ground.proofs.cells.drop_cells.Goals as goal
 

@@ -1,5 +1,5 @@
 use Rattle.std.proofs.Common.{ℕ, List}
-use Rattle.lmn_parts.specs.Rests.{IsContent}
+use Rattle.lmn_ground_parts.specs.Rests.{IsContent}
 use Rattle.lmn_ground.proofs.DroppingLaws.{Dropping, way_left}
 use Rattle.lmn_ground.proofs.cells.drop_cells.Given as goal
 

@@ -3,7 +3,7 @@ use Rattle.std.proofs.lemmas.Option.{slice_get_within}
 use Rattle.lmn_ground.specs.Copies.{NumbersAtoms}
 use Rattle.lmn_ground.specs.Marks.{first_marks}
 use Rattle.lmn_ground.specs.Spread.{Numbered}
-use Rattle.lmn_heap.specs.Heap.{IsAtom}
+use Rattle.lmn_store_heap.specs.Heap.{IsAtom}
 use Rattle.lmn_ground.proofs.CopyLaws.{length_map, marked_there, member}
 use Rattle.lmn_ground.proofs.GatherRestLaws.{Numbering, few_atoms, not_before, numbering_next, numbering_none, take_long, take_next, take_past}
 use Rattle.lmn_ground.proofs.cells.number.Goals as goal

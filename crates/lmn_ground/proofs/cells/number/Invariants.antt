@@ -1,5 +1,5 @@
 use Rattle.std.proofs.Common.{map, take}
-use Rattle.lmn_parts.specs.Copies.{AllAtoms}
+use Rattle.lmn_ground_parts.specs.Copies.{AllAtoms}
 use Rattle.lmn_ground.proofs.GatherRestLaws.{Numbering}
 use Rattle.lmn_ground.proofs.cells.number.Given as goal
 

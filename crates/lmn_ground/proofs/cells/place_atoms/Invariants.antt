@@ -1,5 +1,5 @@
 use Rattle.std.proofs.Common.{◌≡◌, ◌++◌, ℕ, List, length}
-use Rattle.lmn_heap.specs.Heap.{IsMemInPlace, atoms_in}
+use Rattle.lmn_store_heap.specs.Heap.{IsMemInPlace, atoms_in}
 use Rattle.lmn_ground.proofs.PlaceLaws.{LeftToPlace}
 use Rattle.lmn_ground.proofs.cells.place_atoms.Given as goal
 

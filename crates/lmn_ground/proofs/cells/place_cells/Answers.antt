@@ -1,7 +1,7 @@
 use Rattle.std.proofs.Common.{◌≡◌, ◌<◌, ◌∷◌, length, refl, subst, sym, inl}
 use Rattle.std.specs.Option.{option_map}
-use Rattle.lmn_heap.specs.Heap.{after, from}
-use Rattle.lmn_parts.specs.Copies.{answer}
+use Rattle.lmn_store_heap.specs.Heap.{after, from}
+use Rattle.lmn_ground_parts.specs.Copies.{answer}
 use Rattle.lmn_ground.proofs.DroppingLaws.{found_is}
 use Rattle.lmn_ground.proofs.PlacingLaws.{all_placed, atoms_waiting, content_stays, copy_there, fewer, first_line, first_waits, goes_on, next_there, room_there, starts_from, still_there}
 use Rattle.lmn_ground.proofs.cells.place_cells.Goals as goal

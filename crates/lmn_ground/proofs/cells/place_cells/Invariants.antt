@@ -1,6 +1,6 @@
 use Rattle.std.proofs.Common.{ℕ, List, ◌∷◌, [], length}
-use Rattle.lmn_heap.specs.Heap.{after}
-use Rattle.lmn_parts.specs.Rests.{CopyWaits}
+use Rattle.lmn_store_heap.specs.Heap.{after}
+use Rattle.lmn_ground_parts.specs.Rests.{CopyWaits}
 use Rattle.lmn_ground.proofs.RestLaws.{rest_found}
 use Rattle.lmn_ground.proofs.PlacingLaws.{Placing}
 use Rattle.lmn_ground.proofs.cells.place_cells.Given as goal

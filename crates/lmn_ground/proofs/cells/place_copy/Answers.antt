@@ -1,6 +1,6 @@
 use Rattle.std.proofs.Common.{◌≡◌, ◌∙◌, ap, length, sym}
-use Rattle.lmn_heap.specs.Heap.{Heap, atoms_in, placed_mem, rules_copied}
-use Rattle.lmn_parts.specs.Rests.{atoms_placed}
+use Rattle.lmn_store_heap.specs.Heap.{Heap, atoms_in, placed_mem, rules_copied}
+use Rattle.lmn_ground_parts.specs.Rests.{atoms_placed}
 use Rattle.lmn_ground.proofs.PlaceLaws.{atoms_same}
 use Rattle.lmn_ground.proofs.cells.place_copy.Goals as goal
 

@@ -1,6 +1,6 @@
 use Rattle.std.proofs.Common.{◌≡◌, ◌∙◌, Some, refl, ap, subst}
 use Rattle.std.specs.Option.{option_map}
-use Rattle.lmn_heap.specs.Heap.{atoms_in, from, home_of}
+use Rattle.lmn_store_heap.specs.Heap.{atoms_in, from, home_of}
 use Rattle.lmn_base.proofs.Lists.{holds_of_item}
 use Rattle.lmn_ground.proofs.DropLaws.{left_taken, next_first, next_home, next_once}
 use Rattle.lmn_ground.proofs.cells.take_atoms.Goals as goal

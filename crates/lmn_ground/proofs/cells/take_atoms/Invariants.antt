@@ -1,7 +1,7 @@
 use Rattle.std.proofs.Common.{◌≡◌, Some, length}
 use Rattle.std.specs.Prelude.{IfSome}
 use Rattle.std.specs.Option.{option_map}
-use Rattle.lmn_heap.specs.Heap.{Distinct, atoms_in, from, home_of, taken_all}
+use Rattle.lmn_store_heap.specs.Heap.{Distinct, atoms_in, from, home_of, taken_all}
 use Rattle.lmn_ground.proofs.cells.take_atoms.Given as goal
 
 abbrev pub invariant-loop-next : goal.invariant-loop-next

@@ -1,7 +1,7 @@
 use Rattle.std.proofs.Common.{◌≢◌, ◌∙◌, ◌<◌, ◌-◌, ◌∷◌, length, subst, sym}
 use Rattle.lmn_base.specs.Lists.{In}
-use Rattle.lmn_heap.specs.Heap.{after}
-use Rattle.lmn_heap.proofs.Heights.{mem_of_list, parent_place}
+use Rattle.lmn_store_heap.specs.Heap.{after}
+use Rattle.lmn_store_heap.proofs.Heights.{mem_of_list, parent_place}
 use Rattle.lmn_ground.proofs.DroppingLaws.{found_is, is_mem}
 use Rattle.lmn_ground.proofs.TwinLaws.{ahead_in, ahead_next, ahead_none, ahead_starts, ahead_up, content_one, either_here, has_round, nearer, twin_round, twin_up}
 use Rattle.lmn_ground.proofs.cells.twin_behind.Goals as goal

@@ -1,8 +1,8 @@
 use Rattle.std.proofs.Common.{◌≡◌, ◌-◌, ℕ, List, ◌∷◌, [], length}
 use Rattle.lmn_base.specs.Lists.{In}
-use Rattle.lmn_heap.specs.Heap.{IsMem, after}
-use Rattle.lmn_heap.specs.Sound.{Sound}
-use Rattle.lmn_parts.specs.Rests.{IsContent}
+use Rattle.lmn_store_heap.specs.Heap.{IsMem, after}
+use Rattle.lmn_store_heap.specs.Sound.{Sound}
+use Rattle.lmn_ground_parts.specs.Rests.{IsContent}
 use Rattle.lmn_ground.specs.Rests.{AreTwins}
 use Rattle.lmn_ground.proofs.RestLaws.{rest_found}
 use Rattle.lmn_ground.proofs.TwinLaws.{Ahead}

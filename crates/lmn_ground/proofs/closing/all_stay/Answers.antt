@@ -1,5 +1,5 @@
 use Rattle.std.proofs.Common.{arith, refl}
-use Rattle.lmn_heap.proofs.Replacing.{port_within}
+use Rattle.lmn_store_heap.proofs.Replacing.{port_within}
 use Rattle.lmn_ground.proofs.closing.all_stay.Goals as goal
 
 pub returns : goal.returns

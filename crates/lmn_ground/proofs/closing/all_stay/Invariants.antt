@@ -1,5 +1,5 @@
 use Rattle.std.proofs.Common.{◌≡◌, ◌≢◌, ◌<◌, ℕ, Some}
-use Rattle.lmn_heap.specs.Heap.{link_of}
+use Rattle.lmn_store_heap.specs.Heap.{link_of}
 use Rattle.lmn_ground.specs.Marks.{first_marks}
 use Rattle.lmn_ground.proofs.closing.all_stay.Given as goal
 

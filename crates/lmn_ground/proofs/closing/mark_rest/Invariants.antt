@@ -2,7 +2,7 @@ use Rattle.std.proofs.Common.{◌≡◌, ℕ, List, IsSome, length, map}
 use Rattle.std.specs.Prelude.{IfSome}
 use Rattle.std.specs.Option.{option_map}
 use Rattle.lmn_base.specs.Lists.{In}
-use Rattle.lmn_heap.specs.Heap.{from, home_of}
+use Rattle.lmn_store_heap.specs.Heap.{from, home_of}
 use Rattle.lmn_ground.specs.Rests.{IsLeft, ports_marked}
 use Rattle.lmn_ground.proofs.ClosingLaws.{PortMarks, rest_atoms}
 use Rattle.lmn_ground.proofs.closing.mark_rest.Given as goal

@@ -1,7 +1,7 @@
 use Rattle.std.proofs.Common.{ap, map, IsSome, ℕ, List, inl, subst, sym, refl}
 use Rattle.std.specs.Option.{option_map}
-use Rattle.lmn_heap.specs.Heap.{home_of}
-use Rattle.lmn_heap.proofs.Common.{in_place_atom}
+use Rattle.lmn_store_heap.specs.Heap.{home_of}
+use Rattle.lmn_store_heap.proofs.Common.{in_place_atom}
 use Rattle.lmn_base.proofs.Lists.{holds_of_item}
 use Rattle.lmn_base.specs.Lists.{In}
 use Rattle.lmn_ground.specs.Rests.{IsLeft}

@@ -2,7 +2,7 @@ use Rattle.std.proofs.Common.{◌≡◌, ◌≢◌, ◌⊎◌, ℕ, List, Some, 
 use Rattle.std.specs.Prelude.{IfSome}
 use Rattle.std.specs.Option.{option_map}
 use Rattle.lmn_base.specs.Lists.{In}
-use Rattle.lmn_heap.specs.Heap.{from, home_of, link_of}
+use Rattle.lmn_store_heap.specs.Heap.{from, home_of, link_of}
 use Rattle.lmn_ground.specs.Marks.{first_marks}
 use Rattle.lmn_ground.specs.Rests.{IsLeft}
 use Rattle.lmn_ground.proofs.ClosingLaws.{rest_atoms}

@@ -1,6 +1,6 @@
 use Rattle.std.proofs.Common.{rules, ◌≡◌, ◌<◌, ◌+◌, ◌-◌, ◌^◌, arith, sym, ◌∙◌}
-use Rattle.lmn_heap.specs.Heap.{arity_of}
-use Rattle.lmn_parts.specs.Walks.{net}
+use Rattle.lmn_store_heap.specs.Heap.{arity_of}
+use Rattle.lmn_ground_parts.specs.Walks.{net}
 use Rattle.lmn_ground.specs.Marks.{first_marks}
 use Rattle.lmn_ground.proofs.SpreadLaws.{there_after, few_next, not_root}
 use Rattle.lmn_ground.proofs.FollowLaws.{follow_first, follow_root, follow_past, follow_enter, follow_done, both_none, number_differs, next_differs, functor_differs, marked_seen}

@@ -1,5 +1,5 @@
 use Rattle.std.proofs.Common.{subst, sym}
-use Rattle.lmn_parts.specs.Copies.{Copied}
+use Rattle.lmn_ground_parts.specs.Copies.{Copied}
 use Rattle.lmn_ground.proofs.LoneLaws.{lone_copied, remains_nothing}
 use Rattle.lmn_base.proofs.Lists.{on_err}
 use Rattle.lmn_ground.proofs.copying.copy_lone.Goals as goal

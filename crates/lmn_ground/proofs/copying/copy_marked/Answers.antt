@@ -2,7 +2,7 @@ use Rattle.std.proofs.Common.{ℕ, map, sym, subst, arith}
 use Rattle.std.proofs.lemmas.List.{length-map}
 use Rattle.lmn_ground.proofs.GroundLaws.{one_size}
 use Rattle.lmn_ground.specs.Copies.{unmarked_all}
-use Rattle.lmn_parts.specs.Copies.{Copied}
+use Rattle.lmn_ground_parts.specs.Copies.{Copied}
 use Rattle.lmn_ground.proofs.CopyLaws.{map_long}
 use Rattle.lmn_ground.proofs.CopiedLaws.{first_answer, some_first, remains_none, remains_some, made_there, copies_ready, copies_numbered, joined_there, copied_all}
 use Rattle.lmn_ground.proofs.copying.copy_marked.Goals as goal

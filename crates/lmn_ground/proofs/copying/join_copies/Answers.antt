@@ -1,9 +1,9 @@
 use Rattle.std.proofs.Common.{◌∙◌, map}
-use Rattle.lmn_heap.specs.Heap.{arity_of}
-use Rattle.lmn_parts.specs.Copies.{answer}
+use Rattle.lmn_store_heap.specs.Heap.{arity_of}
+use Rattle.lmn_ground_parts.specs.Copies.{answer}
 use Rattle.lmn_ground.proofs.CopyLaws.{member, copy_at, ports_copying, ports_numbers, ports_arity, ports_done}
 use Rattle.lmn_ground.proofs.copying.join_copies.Goals as goal
-use Rattle.lmn_parts.specs.Walks.{port_range}
+use Rattle.lmn_ground_parts.specs.Walks.{port_range}
 
 pub join_ports-requires-clause-among : goal.join_ports-requires-clause-among
 join_ports-requires-clause-among g c = member g.S.LinkStore.atom_id c.args.atoms.now _ _ c.at.ensures

@@ -1,9 +1,9 @@
 use Rattle.std.proofs.Common.{◌≡◌, ℕ, map, drop}
-use Rattle.lmn_heap.specs.Heap.{arity_of}
+use Rattle.lmn_store_heap.specs.Heap.{arity_of}
 use Rattle.lmn_ground.specs.Marks.{first_marks}
 use Rattle.lmn_ground.specs.Spread.{Numbered}
 use Rattle.lmn_ground.specs.Copies.{Copying}
-use Rattle.lmn_parts.specs.Copies.{all_joined, ports_of, answer}
+use Rattle.lmn_ground_parts.specs.Copies.{all_joined, ports_of, answer}
 use Rattle.lmn_ground.proofs.copying.join_copies.Given as goal
 
 abbrev pub invariant-loop-k : goal.invariant-loop-k

@@ -1,6 +1,6 @@
 use Rattle.std.proofs.Common.{rules, ◌≡◌, map, true, Option, Some, None, IsSome, refl, sym, subst}
 use Rattle.std.specs.Option.{option_map, is_some}
-use Rattle.lmn_parts.specs.Copies.{answer}
+use Rattle.lmn_ground_parts.specs.Copies.{answer}
 use Rattle.lmn_ground.proofs.CopyLaws.{other_port, port_differs, port_is_joined}
 use Rattle.lmn_ground.proofs.JoinAgain.{port_again}
 use Rattle.lmn_ground.proofs.copying.join_port.Goals as goal

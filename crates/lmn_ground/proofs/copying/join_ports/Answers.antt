@@ -1,5 +1,5 @@
 use Rattle.std.proofs.Common.{◌∙◌, map}
-use Rattle.lmn_parts.specs.Copies.{answer}
+use Rattle.lmn_ground_parts.specs.Copies.{answer}
 use Rattle.lmn_ground.proofs.CopyLaws.{port_copying, port_numbers, port_arity, port_done}
 use Rattle.lmn_ground.proofs.copying.join_ports.Goals as goal
 

@@ -1,11 +1,11 @@
 use Rattle.std.proofs.Common.{◌≡◌, ◌-◌, map}
-use Rattle.lmn_heap.specs.Heap.{arity_of}
+use Rattle.lmn_store_heap.specs.Heap.{arity_of}
 use Rattle.lmn_ground.specs.Marks.{first_marks}
 use Rattle.lmn_ground.specs.Spread.{Numbered}
 use Rattle.lmn_ground.specs.Copies.{Copying}
-use Rattle.lmn_parts.specs.Copies.{all_joined, answer}
+use Rattle.lmn_ground_parts.specs.Copies.{all_joined, answer}
 use Rattle.lmn_ground.proofs.copying.join_ports.Given as goal
-use Rattle.lmn_parts.specs.Walks.{port_range}
+use Rattle.lmn_ground_parts.specs.Walks.{port_range}
 
 abbrev pub invariant-loop-i : goal.invariant-loop-i
 invariant-loop-i g l = record {

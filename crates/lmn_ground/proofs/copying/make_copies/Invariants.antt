@@ -1,6 +1,6 @@
 use Rattle.std.proofs.Common.{◌≡◌, map, length}
 use Rattle.lmn_ground.specs.Copies.{Made}
-use Rattle.lmn_parts.specs.Copies.{AllAtoms}
+use Rattle.lmn_ground_parts.specs.Copies.{AllAtoms}
 use Rattle.lmn_ground.proofs.copying.make_copies.Given as goal
 
 abbrev pub invariant-loop-i : goal.invariant-loop-i

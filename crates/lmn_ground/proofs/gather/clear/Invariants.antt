@@ -1,6 +1,6 @@
 use Rattle.std.proofs.Common.{◌≡◌, map, drop}
 use Rattle.lmn_ground.specs.Copies.{unmarked_all}
-use Rattle.lmn_parts.specs.Copies.{AllAtoms}
+use Rattle.lmn_ground_parts.specs.Copies.{AllAtoms}
 use Rattle.lmn_ground.proofs.gather.clear.Given as goal
 
 abbrev pub invariant-loop-i : goal.invariant-loop-i

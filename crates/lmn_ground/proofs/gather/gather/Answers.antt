@@ -1,5 +1,5 @@
 use Rattle.std.proofs.Common.{◌<◌, ◌≤◌, ◌+◌, ◌-◌, ℕ, ◌^◌, arith, ◌∙◌, refl}
-use Rattle.lmn_heap.specs.Heap.{arity_of}
+use Rattle.lmn_store_heap.specs.Heap.{arity_of}
 use Rattle.lmn_ground.proofs.SpreadLaws.{spreading_on, entered_back, there_after, there_beside, port_after, way_marked, way_stays, few_next, way_now}
 use Rattle.lmn_ground.proofs.GatherLaws.{gather_first, gather_next, gather_none, gather_some, gather_all, gather_joined}
 use Rattle.lmn_ground.proofs.gather.gather.Goals as goal

@@ -1,5 +1,5 @@
 use Rattle.std.proofs.Common.{None, map, ◌≤◌, ◌-◌, ◌^◌}
-use Rattle.lmn_heap.specs.Heap.{IsAtom}
+use Rattle.lmn_store_heap.specs.Heap.{IsAtom}
 use Rattle.lmn_ground.specs.Spread.{Spreading}
 use Rattle.lmn_ground.proofs.gather.gather.Given as goal
 

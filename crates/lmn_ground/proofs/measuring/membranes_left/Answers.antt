@@ -1,6 +1,6 @@
 use Rattle.std.proofs.Common.{◌+◌, ap, arith, length, map}
 use Rattle.std.specs.Option.{option_map}
-use Rattle.lmn_heap.specs.Heap.{rules_in}
+use Rattle.lmn_store_heap.specs.Heap.{rules_in}
 use Rattle.lmn_ground.specs.Rests.{IsLeft}
 use Rattle.lmn_ground.proofs.RestLaws.{first_is_in, less_left_of, next_is_in, rest_found, rest_is}
 use Rattle.lmn_ground.proofs.MeasureLaws.{few_left, weigh_all, weigh_below, weigh_more, weigh_none}

@@ -1,6 +1,6 @@
 use Rattle.std.proofs.Common.{◌+◌, ◌*◌, ℕ, List, Bool}
-use Rattle.lmn_heap.specs.Heap.{Heap, IsAtom}
-use Rattle.lmn_parts.specs.Walks.{net}
+use Rattle.lmn_store_heap.specs.Heap.{Heap, IsAtom}
+use Rattle.lmn_ground_parts.specs.Walks.{net}
 use Rattle.lmn_ground.specs.Marks.{first_marks}
 use Rattle.lmn_ground.specs.Rests.{own_marked}
 use Rattle.lmn_ground.specs.Spread.{Spread, Wiping}

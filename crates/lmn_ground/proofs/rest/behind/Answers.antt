@@ -1,9 +1,9 @@
 use Rattle.std.proofs.Common.{map, not, ◌==◌, ◌≡◌, ◌≢◌, ◌∙◌, ap, Some, subst, ◌-◌, ◌<◌, length, sym, ℕ, Bool}
 use Rattle.std.specs.Option.{option_map}
-use Rattle.lmn_heap.specs.Heap.{own_mark, parent_of, from, after}
-use Rattle.lmn_heap.proofs.Heights.{mem_of_list, parent_place}
-use Rattle.lmn_parts.specs.Walks.{is_in}
-use Rattle.lmn_parts.specs.Rests.{keep}
+use Rattle.lmn_store_heap.specs.Heap.{own_mark, parent_of, from, after}
+use Rattle.lmn_store_heap.proofs.Heights.{mem_of_list, parent_place}
+use Rattle.lmn_ground_parts.specs.Walks.{is_in}
+use Rattle.lmn_ground_parts.specs.Rests.{keep}
 use Rattle.lmn_ground.proofs.RestLaws.{begins, climbs, found, found_top, lower, not_top, rest_is}
 use Rattle.lmn_ground.proofs.rest.behind.Goals as goal
 

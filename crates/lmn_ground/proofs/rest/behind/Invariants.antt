@@ -1,6 +1,6 @@
 use Rattle.std.proofs.Common.{◌-◌, ℕ, List, length, map}
-use Rattle.lmn_heap.specs.Heap.{IsMem, after}
-use Rattle.lmn_heap.proofs.Trees.{Left}
+use Rattle.lmn_store_heap.specs.Heap.{IsMem, after}
+use Rattle.lmn_store_heap.proofs.Trees.{Left}
 use Rattle.lmn_ground.specs.Rests.{IsLeft}
 use Rattle.lmn_ground.proofs.RestLaws.{rest_found}
 use Rattle.lmn_ground.proofs.rest.behind.Given as goal

@@ -1,9 +1,9 @@
 use Rattle.std.proofs.Common.{◌≡◌, not, map, length, Some}
 use Rattle.std.specs.Prelude.{IfSome}
 use Rattle.std.specs.Option.{option_map}
-use Rattle.lmn_heap.specs.Heap.{parent_of, mems_in, from}
-use Rattle.lmn_parts.specs.Walks.{is_in}
-use Rattle.lmn_parts.specs.Rests.{keep}
+use Rattle.lmn_store_heap.specs.Heap.{parent_of, mems_in, from}
+use Rattle.lmn_ground_parts.specs.Walks.{is_in}
+use Rattle.lmn_ground_parts.specs.Rests.{keep}
 use Rattle.lmn_ground.proofs.rest.first_left.Given as goal
 
 abbrev pub invariant-loop-next : goal.invariant-loop-next

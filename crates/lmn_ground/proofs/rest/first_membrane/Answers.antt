@@ -1,8 +1,8 @@
 use Rattle.std.proofs.Common.{map, not, subst, ◌≡◌}
 use Rattle.std.specs.Option.{option_map}
-use Rattle.lmn_heap.specs.Heap.{own_mark, from}
-use Rattle.lmn_parts.specs.Walks.{is_in}
-use Rattle.lmn_parts.specs.Rests.{keep}
+use Rattle.lmn_store_heap.specs.Heap.{own_mark, from}
+use Rattle.lmn_ground_parts.specs.Walks.{is_in}
+use Rattle.lmn_ground_parts.specs.Rests.{keep}
 use Rattle.std.proofs.Common.{◌==◌}
 use Rattle.lmn_ground.proofs.RestLaws.{first_of_rest}
 use Rattle.lmn_ground.proofs.rest.first_membrane.Goals as goal

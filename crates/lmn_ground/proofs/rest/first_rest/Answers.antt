@@ -1,7 +1,7 @@
 use Rattle.std.proofs.Common.{map, not, ◌==◌}
 use Rattle.std.specs.Option.{option_map}
-use Rattle.lmn_heap.specs.Heap.{own_mark}
-use Rattle.lmn_parts.specs.Walks.{is_in}
+use Rattle.lmn_store_heap.specs.Heap.{own_mark}
+use Rattle.lmn_ground_parts.specs.Walks.{is_in}
 use Rattle.lmn_ground.specs.Rests.{IsLeft}
 use Rattle.lmn_ground.proofs.RestLaws.{first_inner, first_is_in, first_own}
 use Rattle.lmn_ground.proofs.rest.first_rest.Goals as goal

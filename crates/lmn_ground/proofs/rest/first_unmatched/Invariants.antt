@@ -1,8 +1,8 @@
 use Rattle.std.proofs.Common.{◌≡◌, ◌==◌, length, Some}
 use Rattle.std.specs.Prelude.{IfSome}
 use Rattle.std.specs.Option.{option_map}
-use Rattle.lmn_heap.specs.Heap.{home_of, atoms_in, from, own_mark}
-use Rattle.lmn_parts.specs.Rests.{keep}
+use Rattle.lmn_store_heap.specs.Heap.{home_of, atoms_in, from, own_mark}
+use Rattle.lmn_ground_parts.specs.Rests.{keep}
 use Rattle.lmn_ground.proofs.rest.first_unmatched.Given as goal
 
 abbrev pub invariant-loop-next : goal.invariant-loop-next

@@ -1,5 +1,5 @@
 use Rattle.std.proofs.Common.{◌≡◌, map, drop}
-use Rattle.lmn_parts.specs.Walks.{is_in}
+use Rattle.lmn_ground_parts.specs.Walks.{is_in}
 use Rattle.lmn_ground.specs.Rests.{AreMembranes}
 use Rattle.lmn_ground.proofs.rest.is_among.Given as goal
 

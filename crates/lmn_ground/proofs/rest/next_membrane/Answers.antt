@@ -1,6 +1,6 @@
 use Rattle.std.proofs.Common.{map, not, ◌==◌}
-use Rattle.lmn_heap.specs.Heap.{own_mark}
-use Rattle.lmn_parts.specs.Walks.{is_in}
+use Rattle.lmn_store_heap.specs.Heap.{own_mark}
+use Rattle.lmn_ground_parts.specs.Walks.{is_in}
 use Rattle.lmn_ground.proofs.RestLaws.{enters}
 use Rattle.lmn_ground.proofs.rest.next_membrane.Goals as goal
 

@@ -1,7 +1,7 @@
 use Rattle.std.proofs.Common.{map, not, ◌==◌, ◌≡◌, ◌∙◌, ap, Some, ◌≢◌}
 use Rattle.std.specs.Option.{option_map}
-use Rattle.lmn_heap.specs.Heap.{own_mark, home_of}
-use Rattle.lmn_parts.specs.Walks.{is_in}
+use Rattle.lmn_store_heap.specs.Heap.{own_mark, home_of}
+use Rattle.lmn_ground_parts.specs.Walks.{is_in}
 use Rattle.lmn_ground.specs.Rests.{IsLeft}
 use Rattle.lmn_ground.proofs.RestLaws.{first_is_in, home_in_rest, next_inner, next_is_in, next_own, past_inner, past_own}
 use Rattle.lmn_ground.proofs.rest.next_rest.Goals as goal

@@ -1,5 +1,5 @@
 use Rattle.std.proofs.Common.{◌+◌, ℕ, sym, subst, ◌∙◌}
-use Rattle.lmn_parts.specs.Walks.{net}
+use Rattle.lmn_ground_parts.specs.Walks.{net}
 use Rattle.lmn_ground.specs.Marks.{first_marks, Sought}
 use Rattle.lmn_ground.proofs.SoughtLaws.{sought_leaf}
 use Rattle.lmn_ground.proofs.seek.go_down.Goals as goal

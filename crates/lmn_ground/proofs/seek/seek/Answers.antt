@@ -1,5 +1,5 @@
 use Rattle.std.proofs.Common.{rules, ◌≡◌, ◌<◌, ◌≤◌, ℕ, suc, arith, sym, refl, subst, ◌∙◌, add-one}
-use Rattle.lmn_parts.specs.Walks.{net}
+use Rattle.lmn_ground_parts.specs.Walks.{net}
 use Rattle.lmn_ground.specs.Marks.{first_marks, Sought}
 use Rattle.lmn_ground.proofs.SoughtLaws.{weight, weight_back, sought_back, sought_root, sought_marked, root_port, backs}
 use Rattle.lmn_ground.proofs.seek.seek.Goals as goal

@@ -1,6 +1,6 @@
 use Rattle.std.proofs.Common.{[], ◌∷◌, rules, ◌<◌, ◌≤◌, ◌+◌, ◌-◌, ℕ, ◌^◌, IfSome, arith, sym, subst, ◌∙◌}
 use Rattle.std.specs.Option.{option_map}
-use Rattle.lmn_heap.specs.Heap.{Heap, IsAtom, IsMem, arity_of}
+use Rattle.lmn_store_heap.specs.Heap.{Heap, IsAtom, IsMem, arity_of}
 use Rattle.lmn_ground.specs.Spread.{Spreading}
 use Rattle.lmn_ground.proofs.SpreadLaws.{spreading_first, spreading_on, entered, entered_back, there_after, there_beside, port_after, way_marked, way_stays, spread_some, spread_all, part_fits, unfit, unjoined, few_next, way_now, fits_before, first_there}
 use Rattle.lmn_ground.proofs.spread.spread.Goals as goal

@@ -1,6 +1,6 @@
 use Rattle.std.proofs.Common.{◌<◌, arith, ◌∙◌}
-use Rattle.lmn_heap.specs.Heap.{arity_of}
-use Rattle.lmn_parts.specs.Walks.{net}
+use Rattle.lmn_store_heap.specs.Heap.{arity_of}
+use Rattle.lmn_ground_parts.specs.Walks.{net}
 use Rattle.lmn_ground.specs.Marks.{first_marks}
 use Rattle.lmn_ground.proofs.SoughtLaws.{weight_past}
 use Rattle.lmn_ground.proofs.SpreadLaws.{there_after, port_after}

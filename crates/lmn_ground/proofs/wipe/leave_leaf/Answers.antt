@@ -1,5 +1,5 @@
 use Rattle.std.proofs.Common.{ℕ, ◌+◌, ◌≤◌, sym, subst, ◌∙◌}
-use Rattle.lmn_parts.specs.Walks.{net}
+use Rattle.lmn_ground_parts.specs.Walks.{net}
 use Rattle.lmn_ground.specs.Marks.{first_marks, weight}
 use Rattle.lmn_ground.specs.Spread.{Wiping}
 use Rattle.lmn_ground.proofs.SpreadLaws.{there_beside}

@@ -1,6 +1,6 @@
 use Rattle.std.proofs.Common.{ap, arith, ◌∙◌}
 use Rattle.lmn_base.proofs.Truth.{not_false}
-use Rattle.lmn_instr.specs.declared.instr.Instr.TheVariants.{Deref}
+use Rattle.lmn_instr_code.specs.declared.instr.Instr.TheVariants.{Deref}
 use Rattle.lmn_machine.proofs.Fitting.{hold_behind}
 use Rattle.lmn_machine.proofs.Calling.{read_at}
 use Rattle.lmn_machine.proofs.ahead.atom_fits.Goals as goal

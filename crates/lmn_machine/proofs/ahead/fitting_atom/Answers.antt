@@ -2,9 +2,9 @@ use Rattle.std.proofs.Common.{◌≡◌, ◌≤◌, Some, length, subst}
 use Rattle.std.specs.Prelude.{IfSome}
 use Rattle.std.specs.Option.{option_map}
 use Rattle.lmn_base.specs.Lists.{In}
-use Rattle.lmn_heap.specs.Lists.{from}
-use Rattle.lmn_heap.specs.Heap.{functor_of, home_of, atoms_in}
-use Rattle.lmn_heap.specs.Functors.{with_functor}
+use Rattle.lmn_store_heap.specs.Lists.{from}
+use Rattle.lmn_store_heap.specs.Heap.{functor_of, home_of, atoms_in}
+use Rattle.lmn_store_heap.specs.Functors.{with_functor}
 use Rattle.lmn_machine.proofs.Calling.{if_same, none_is}
 use Rattle.lmn_machine.proofs.Fitting.{left_behind, fewer_behind}
 use Rattle.lmn_machine.proofs.ahead.fitting_atom.Goals as goal

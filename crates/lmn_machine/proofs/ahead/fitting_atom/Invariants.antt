@@ -2,11 +2,11 @@ use Rattle.std.proofs.Common.{◌≡◌, ◌≤◌, Some, length, drop}
 use Rattle.std.specs.Prelude.{IfSome}
 use Rattle.std.specs.Option.{option_map}
 use Rattle.lmn_base.specs.Lists.{In}
-use Rattle.lmn_heap.specs.Lists.{from}
-use Rattle.lmn_heap.specs.Heap.{functor_of, home_of, atoms_in}
-use Rattle.lmn_heap.specs.Functors.{with_functor}
-use Rattle.lmn_instr.specs.Running.{HeadRegisters, HeadSize, AllHold}
-use Rattle.lmn_registers.specs.Agreeing.{Agrees}
+use Rattle.lmn_store_heap.specs.Lists.{from}
+use Rattle.lmn_store_heap.specs.Heap.{functor_of, home_of, atoms_in}
+use Rattle.lmn_store_heap.specs.Functors.{with_functor}
+use Rattle.lmn_instr_code.specs.Running.{HeadRegisters, HeadSize, AllHold}
+use Rattle.lmn_machine_registers.specs.Agreeing.{Agrees}
 use Rattle.lmn_machine.proofs.ahead.fitting_atom.Given as goal
 
 abbrev pub invariant-loop-candidate : goal.invariant-loop-candidate

@@ -2,8 +2,8 @@ use Rattle.std.proofs.Common.{◌≡◌, ◌≤◌, Some, length, subst}
 use Rattle.std.specs.Prelude.{IfSome}
 use Rattle.std.specs.Option.{option_map}
 use Rattle.lmn_base.specs.Lists.{In}
-use Rattle.lmn_heap.specs.Lists.{from}
-use Rattle.lmn_heap.specs.Heap.{parent_of, mems_in}
+use Rattle.lmn_store_heap.specs.Lists.{from}
+use Rattle.lmn_store_heap.specs.Heap.{parent_of, mems_in}
 use Rattle.lmn_machine.specs.Asking.{HoldsAsked}
 use Rattle.lmn_machine.proofs.Calling.{if_same}
 use Rattle.lmn_machine.proofs.Fitting.{left_behind, fewer_behind}

@@ -1,7 +1,7 @@
 use Rattle.std.proofs.Common.{ap, arith, subst, ◌+◌}
 use Rattle.lmn_base.specs.Lists.{In}
-use Rattle.lmn_heap.specs.Heap.{atoms_in}
-use Rattle.lmn_instr.specs.declared.instr.Instr.TheVariants.{Deref, InMem}
+use Rattle.lmn_store_heap.specs.Heap.{atoms_in}
+use Rattle.lmn_instr_code.specs.declared.instr.Instr.TheVariants.{Deref, InMem}
 use Rattle.lmn_machine.proofs.Fitting.{hold_behind, led}
 use Rattle.lmn_machine.proofs.Calling.{read_at}
 use Rattle.lmn_machine.proofs.ahead.guest_at.Goals as goal

@@ -1,7 +1,7 @@
 use Rattle.std.proofs.Common.{subst}
 use Rattle.lmn_base.specs.Lists.{In}
-use Rattle.lmn_heap.specs.Heap.{atoms_in}
-use Rattle.lmn_instr.specs.Running.{InstructionHolds}
+use Rattle.lmn_store_heap.specs.Heap.{atoms_in}
+use Rattle.lmn_instr_code.specs.Running.{InstructionHolds}
 use Rattle.lmn_machine.proofs.Fitting.{none_first}
 use Rattle.lmn_machine.proofs.ahead.looks_in_vain.Goals as goal
 

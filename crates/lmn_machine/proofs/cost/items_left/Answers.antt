@@ -1,10 +1,10 @@
 use Rattle.std.proofs.Common.{drop, refl, sym, subst, arith, ◌∙◌, ◌≡◌, ◌+◌}
 use Rattle.std.specs.Prelude.{IfSome}
-use Rattle.lmn_heap.specs.Heap.{Heap}
-use Rattle.lmn_instr.specs.Running.{HeadRegisters}
-use Rattle.lmn_registers.specs.Agreeing.{Agrees}
-use Rattle.lmn_commit.specs.Registers.{HasRests}
-use Rattle.lmn_heap.specs.Sound.{Forest, IsTree, flat, item_count_in}
+use Rattle.lmn_store_heap.specs.Heap.{Heap}
+use Rattle.lmn_instr_code.specs.Running.{HeadRegisters}
+use Rattle.lmn_machine_registers.specs.Agreeing.{Agrees}
+use Rattle.lmn_machine_commit.specs.Registers.{HasRests}
+use Rattle.lmn_store_heap.specs.Sound.{Forest, IsTree, flat, item_count_in}
 use Rattle.lmn_machine.specs.Costs.{AddsItems, IsSize, TakesItems}
 use Rattle.lmn_base.proofs.Lists.{drop_get}
 use Rattle.lmn_machine.proofs.Calling.{drop_none}

@@ -1,9 +1,9 @@
 use Rattle.std.proofs.Common.{◌≡◌, ◌≤◌, ◌*◌, ◌^◌, drop}
 use Rattle.std.specs.Prelude.{IfSome}
-use Rattle.lmn_instr.specs.Running.{HeadRegisters}
-use Rattle.lmn_body.specs.Running.{Registers}
-use Rattle.lmn_commit.specs.Registers.{HasRests}
-use Rattle.lmn_registers.specs.Agreeing.{Agrees}
+use Rattle.lmn_instr_code.specs.Running.{HeadRegisters}
+use Rattle.lmn_solid_bodies.specs.Running.{Registers}
+use Rattle.lmn_machine_commit.specs.Registers.{HasRests}
+use Rattle.lmn_machine_registers.specs.Agreeing.{Agrees}
 use Rattle.lmn_machine.specs.Costs.{AddsItems, IsSize, TakesItems}
 use Rattle.lmn_machine.proofs.Costing.{SoFar}
 use Rattle.lmn_machine.proofs.cost.items_left.Given as goal

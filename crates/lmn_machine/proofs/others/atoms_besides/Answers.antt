@@ -1,6 +1,6 @@
 use Rattle.std.proofs.Common.{refl, subst, take, ◌∙◌}
-use Rattle.lmn_heap.specs.Heap.{atoms_in}
-use Rattle.lmn_instr.specs.Running.{IsInSome}
+use Rattle.lmn_store_heap.specs.Heap.{atoms_in}
+use Rattle.lmn_instr_code.specs.Running.{IsInSome}
 use Rattle.lmn_machine.proofs.Besides.{counts_all, known, known_agrees, Fewer}
 use Rattle.lmn_machine.proofs.others.atoms_besides.Goals as goal
 

@@ -1,7 +1,7 @@
 use Rattle.std.proofs.Common.{◌≡◌, take}
-use Rattle.lmn_heap.specs.Heap.{atoms_in}
-use Rattle.lmn_instr.specs.Running.{HeadRegisters, HasOthers, IsInSome}
-use Rattle.lmn_registers.specs.Agreeing.{Agrees}
+use Rattle.lmn_store_heap.specs.Heap.{atoms_in}
+use Rattle.lmn_instr_code.specs.Running.{HeadRegisters, HasOthers, IsInSome}
+use Rattle.lmn_machine_registers.specs.Agreeing.{Agrees}
 use Rattle.lmn_machine.proofs.others.atoms_besides.Given as goal
 
 abbrev pub invariant-loop-i : goal.invariant-loop-i

@@ -1,7 +1,7 @@
 use Rattle.std.proofs.Common.{subst}
 use Rattle.std.proofs.lemmas.Bool.Decides.{Decides-eqb}
-use Rattle.lmn_heap.specs.Heap.{atoms_in}
-use Rattle.lmn_instr.specs.Running.{HasOthers, IsInSome}
+use Rattle.lmn_store_heap.specs.Heap.{atoms_in}
+use Rattle.lmn_instr_code.specs.Running.{HasOthers, IsInSome}
 use Rattle.lmn_machine.proofs.Besides.{others_count}
 use Rattle.lmn_machine.proofs.others.has_others.Goals as goal
 

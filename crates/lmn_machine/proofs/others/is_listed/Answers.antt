@@ -1,5 +1,5 @@
 use Rattle.std.proofs.Common.{ap, get_or, arith}
-use Rattle.lmn_heap.specs.Heap.{port_id}
+use Rattle.lmn_store_heap.specs.Heap.{port_id}
 use Rattle.lmn_machine.proofs.Besides.{unlisted_next}
 use Rattle.lmn_machine.proofs.others.is_listed.Goals as goal
 use Rattle.std.proofs.lemmas.Option.{slice_get-get_or}

@@ -1,6 +1,6 @@
 use Rattle.std.proofs.Common.{ℕ, ◌≡◌, ◌≢◌, ◌<◌, Some}
 use Rattle.std.specs.Prelude.{slice_get}
-use Rattle.lmn_heap.specs.Heap.{port_id}
+use Rattle.lmn_store_heap.specs.Heap.{port_id}
 use Rattle.lmn_machine.proofs.others.is_listed.Given as goal
 
 abbrev pub invariant-loop-j : goal.invariant-loop-j

@@ -2,11 +2,11 @@ use Rattle.std.proofs.Common.{◌≡◌, ◌++◌, take, ap, get_or, subst, sym,
 use Rattle.std.specs.Prelude.{◌↔◌}
 use Rattle.std.proofs.lemmas.Option.{slice_get-get_or}
 use Rattle.lmn_base.specs.Lists.{In}
-use Rattle.lmn_instr.specs.Running.{IsInSome}
+use Rattle.lmn_instr_code.specs.Running.{IsInSome}
 use Rattle.lmn_ground.specs.Rests.{own_marked}
 use Rattle.lmn_ground.proofs.GatherRestLaws.{take_past}
 use Rattle.lmn_machine.proofs.Resting.{now_atom, now_port, now_clean, now_whole, tells_more}
-use Rattle.lmn_commit.proofs.Owning.{own_append}
+use Rattle.lmn_machine_commit.proofs.Owning.{own_append}
 use Rattle.lmn_machine.proofs.rests.paint_parts.Goals as goal
 
 pub paint-requires-clause-atom : goal.paint-requires-clause-atom

@@ -1,9 +1,9 @@
 use Rattle.std.proofs.Common.{ℕ, ◌≡◌, List, take}
 use Rattle.std.specs.Prelude.{◌↔◌}
 use Rattle.lmn_base.specs.Lists.{In}
-use Rattle.lmn_instr.specs.Running.{HeadRegisters, IsInSome}
+use Rattle.lmn_instr_code.specs.Running.{HeadRegisters, IsInSome}
 use Rattle.lmn_ground.specs.Rests.{own_marked}
-use Rattle.lmn_registers.specs.Agreeing.{Agrees}
+use Rattle.lmn_machine_registers.specs.Agreeing.{Agrees}
 use Rattle.lmn_machine.proofs.rests.paint_parts.Given as goal
 
 abbrev pub invariant-loop-i : goal.invariant-loop-i

@@ -1,8 +1,8 @@
 use Rattle.std.proofs.Common.{◌≡◌, ◌+◌, length, map, subst}
 use Rattle.std.specs.Prelude.{sum}
-use Rattle.lmn_heap.specs.Heap.{Heap, rules_in}
-use Rattle.lmn_commit.proofs.RestCopying.{first_marked, first_parts, is_painted, asked_mem, asked_out, beside_left, goes_on, again_marked, again_held, again_parts, again_mem, last_is}
-use Rattle.lmn_commit.proofs.RestOf.{rest_beside}
+use Rattle.lmn_store_heap.specs.Heap.{Heap, rules_in}
+use Rattle.lmn_machine_commit.proofs.RestCopying.{first_marked, first_parts, is_painted, asked_mem, asked_out, beside_left, goes_on, again_marked, again_held, again_parts, again_mem, last_is}
+use Rattle.lmn_machine_commit.proofs.RestOf.{rest_beside}
 use Rattle.lmn_machine.proofs.Bodies.{held_for_body, parts_can, parts_home}
 use Rattle.lmn_machine.proofs.rests.rest_items.Goals as goal
 

@@ -1,17 +1,17 @@
 use Rattle.std.proofs.Common.{rules, ◌≡◌, ◌<◌, ◌≤◌, ◌+◌, length, drop, Some, None, refl, arith, ap, sym, subst, ◌∙◌}
 use Rattle.std.specs.Option.{option_map}
-use Rattle.lmn_heap.specs.Lists.{from}
-use Rattle.lmn_heap.specs.Functors.{with_functor}
+use Rattle.lmn_store_heap.specs.Lists.{from}
+use Rattle.lmn_store_heap.specs.Functors.{with_functor}
 use Rattle.lmn_machine.specs.Asking.{AsksFor, IsGuest}
 use Rattle.lmn_machine.proofs.Fitting.{AtomsFit, MembranesFit, OnlyOne, atoms_fit, membranes_fit, only_home, only_left, only_fails, smaller}
 use Rattle.std.specs.Prelude.{true, false}
 use Rattle.std.specs.Prelude.{IfSome}
 use Rattle.std.proofs.lemmas.Option.{slice_get_within}
-use Rattle.lmn_heap.specs.Heap.{Heap, functor_of, home_of, parent_of, atoms_in, mems_in, Unmarked}
-use Rattle.lmn_instr.specs.declared.instr.Instr.TheVariants.{FindAtom, AnyMem}
-use Rattle.lmn_heap.specs.Sound.{Valid}
+use Rattle.lmn_store_heap.specs.Heap.{Heap, functor_of, home_of, parent_of, atoms_in, mems_in, Unmarked}
+use Rattle.lmn_instr_code.specs.declared.instr.Instr.TheVariants.{FindAtom, AnyMem}
+use Rattle.lmn_store_heap.specs.Sound.{Valid}
 use Rattle.lmn_machine.specs.Searching.{AreHeldWhole, HeadInOrder, Searched, Stepped}
-use Rattle.lmn_registers.specs.declared.stack.TheConstants.{ROOM}
+use Rattle.lmn_machine_registers.specs.declared.stack.TheConstants.{ROOM}
 use Rattle.lmn_machine.proofs.Telling.{atoms_chosen, membranes_chosen}
 use Rattle.lmn_machine.proofs.Stepping.{Passed, extends_on, passed_one, failed, passed_all, passed_search}
 use Rattle.lmn_machine.proofs.Choosing.{AtomsLeft, MembranesLeft, with_atom, with_membrane, extends_atom, extends_membrane, atoms_first, atoms_next, atoms_none, atoms_found, membranes_first, membranes_next, membranes_none, membranes_found, held_atom, held_membrane}

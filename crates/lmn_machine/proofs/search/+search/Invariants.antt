@@ -1,9 +1,9 @@
 use Rattle.std.proofs.Common.{◌≡◌, ◌+◌, ◌-◌, ◌*◌, length, drop, Some}
 use Rattle.std.specs.Prelude.{IfSome}
 use Rattle.std.specs.Option.{option_map}
-use Rattle.lmn_heap.specs.Lists.{from}
-use Rattle.lmn_heap.specs.Heap.{functor_of, home_of, parent_of, atoms_in, mems_in}
-use Rattle.lmn_heap.specs.Functors.{with_functor}
+use Rattle.lmn_store_heap.specs.Lists.{from}
+use Rattle.lmn_store_heap.specs.Heap.{functor_of, home_of, parent_of, atoms_in, mems_in}
+use Rattle.lmn_store_heap.specs.Functors.{with_functor}
 use Rattle.lmn_machine.proofs.Stepping.{Passed}
 use Rattle.lmn_machine.proofs.Choosing.{AtomsLeft, MembranesLeft}
 use Rattle.lmn_machine.proofs.search.+search.Given as goal

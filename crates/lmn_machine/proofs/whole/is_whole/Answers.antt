@@ -1,5 +1,5 @@
 use Rattle.std.proofs.Common.{map, ◌∙◌, ap, subst, sym}
-use Rattle.lmn_heap.specs.Heap.{IsAtom}
+use Rattle.lmn_store_heap.specs.Heap.{IsAtom}
 use Rattle.lmn_ground.specs.Rests.{own_marked}
 use Rattle.lmn_machine.proofs.Owning.{ground_whole, whole_ground, taken_back_own, there_own, mem_own, port_own, clean_own_all}
 use Rattle.lmn_machine.proofs.whole.is_whole.Goals as goal

@@ -1,5 +1,5 @@
 use Rattle.std.proofs.Common.{◌+◌, drop, map}
-use Rattle.lmn_heap.specs.Heap.{arity_of}
+use Rattle.lmn_store_heap.specs.Heap.{arity_of}
 use Rattle.lmn_ground.specs.Rests.{own_marked}
 use Rattle.lmn_machine.proofs.Owning.{own_next, there_marked}
 use Rattle.lmn_machine.proofs.whole.mark_all.Goals as goal

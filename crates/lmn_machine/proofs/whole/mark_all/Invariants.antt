@@ -1,5 +1,5 @@
 use Rattle.std.proofs.Common.{◌≡◌, drop, map}
-use Rattle.lmn_commit.specs.Registers.{AreAtomHandles}
+use Rattle.lmn_machine_commit.specs.Registers.{AreAtomHandles}
 use Rattle.lmn_ground.specs.Rests.{own_marked}
 use Rattle.lmn_machine.proofs.whole.mark_all.Given as goal
 

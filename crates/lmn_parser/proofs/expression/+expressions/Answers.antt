@@ -1,8 +1,8 @@
 use Rattle.std.proofs.Common.{rules, arith, ◌∷◌, refl, ◌∙◌}
-use Rattle.lmn_grammar.specs.Grammar.{Tok, Many, Ref, SumPart, ◌·◌, fact, product}
-use Rattle.lmn_grammar.specs.Factored.{plus, product_sign}
+use Rattle.lmn_parser_grammar.specs.Grammar.{Tok, Many, Ref, SumPart, ◌·◌, fact, product}
+use Rattle.lmn_parser_grammar.specs.Factored.{plus, product_sign}
 use Rattle.lmn_lexer.specs.declared.token.Kind.TheVariants.{RParen}
-use Rattle.lmn_grammar.proofs.Terms.{fact_int, fact_context, times_more, times_done, plus_more, plus_done, sum_ref, product_parts, ends_product}
+use Rattle.lmn_parser_grammar.proofs.Terms.{fact_int, fact_context, times_more, times_done, plus_more, plus_done, sum_ref, product_parts, ends_product}
 use Rattle.lmn_parser.specs.Parsing.{kinds_of}
 use Rattle.lmn_parser.specs.Trees.{one_product, one_factor}
 use Rattle.lmn_parser.proofs.BuiltExpressions.{factor_integer, factor_value, factor_round, product_times, sum_plus}

@@ -1,8 +1,8 @@
 use Rattle.std.proofs.Common.{◌≡◌, ◌+◌, ◌-◌, ◌*◌, ◌≤◌, ◌<◌, length}
 use Rattle.std.proofs.Common.{[], ◌∷◌}
-use Rattle.lmn_grammar.specs.Grammar.{Ref, Many, ◌·◌, SumPart, fact, product}
-use Rattle.lmn_grammar.specs.Factored.{plus, product_sign}
-use Rattle.lmn_grammar.specs.Reading.{Owed, stop_at, EndsSum, EndsProduct}
+use Rattle.lmn_parser_grammar.specs.Grammar.{Ref, Many, ◌·◌, SumPart, fact, product}
+use Rattle.lmn_parser_grammar.specs.Factored.{plus, product_sign}
+use Rattle.lmn_parser_grammar.specs.Reading.{Owed, stop_at, EndsSum, EndsProduct}
 use Rattle.lmn_parser.specs.Parsing.{kinds_of}
 use Rattle.lmn_parser.specs.Outcomes.{reach}
 use Rattle.lmn_parser.specs.Syntax.{expr_of}

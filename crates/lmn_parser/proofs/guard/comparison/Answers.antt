@@ -1,7 +1,7 @@
 use Rattle.std.proofs.Common.{rules, ◌∷◌, refl, ◌∙◌}
-use Rattle.lmn_grammar.specs.Grammar.{Ref, SumPart, cmp}
-use Rattle.lmn_grammar.proofs.SameLanguage.{seq3}
-use Rattle.lmn_grammar.proofs.Terms.{cmp_taken, cmp_none}
+use Rattle.lmn_parser_grammar.specs.Grammar.{Ref, SumPart, cmp}
+use Rattle.lmn_parser_grammar.proofs.SameLanguage.{seq3}
+use Rattle.lmn_parser_grammar.proofs.Terms.{cmp_taken, cmp_none}
 use Rattle.lmn_parser.specs.Parsing.{kinds_of}
 use Rattle.lmn_parser.specs.Trees.{is_compared}
 use Rattle.lmn_parser.proofs.Onward.{refused}

@@ -1,8 +1,8 @@
 use Rattle.std.proofs.Common.{rules, [], ◌∷◌, sym, ◌∙◌}
-use Rattle.lmn_grammar.specs.Grammar.{Tok, Ref, SumPart, cmp}
+use Rattle.lmn_parser_grammar.specs.Grammar.{Tok, Ref, SumPart, cmp}
 use Rattle.lmn_lexer.specs.declared.token.Kind.TheVariants.{Context}
-use Rattle.lmn_grammar.proofs.SameLanguage.{seq3}
-use Rattle.lmn_grammar.proofs.Terms.{cond_name, cond_binding, cond_differ, cond_comparison}
+use Rattle.lmn_parser_grammar.proofs.SameLanguage.{seq3}
+use Rattle.lmn_parser_grammar.proofs.Terms.{cond_name, cond_binding, cond_differ, cond_comparison}
 use Rattle.lmn_parser.specs.Parsing.{kinds_of}
 use Rattle.lmn_parser.specs.Trees.{is_called, is_equal}
 use Rattle.lmn_parser.proofs.BuiltGuards.{condition_differ}

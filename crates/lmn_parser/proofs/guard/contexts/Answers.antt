@@ -1,9 +1,9 @@
 use Rattle.std.proofs.Common.{rules, arith, ◌+◌, ◌∷◌, refl, ◌∙◌}
-use Rattle.lmn_grammar.specs.Grammar.{Tok, more_of}
+use Rattle.lmn_parser_grammar.specs.Grammar.{Tok, more_of}
 use Rattle.lmn_lexer.specs.declared.token.Kind.TheVariants.{Context, RParen}
-use Rattle.lmn_grammar.proofs.SameLanguage.{seq}
-use Rattle.lmn_grammar.proofs.Choices.{more_taken, more_done}
-use Rattle.lmn_grammar.proofs.Terms.{contexts_some, contexts_none}
+use Rattle.lmn_parser_grammar.proofs.SameLanguage.{seq}
+use Rattle.lmn_parser_grammar.proofs.Choices.{more_taken, more_done}
+use Rattle.lmn_parser_grammar.proofs.Terms.{contexts_some, contexts_none}
 use Rattle.lmn_parser.specs.Parsing.{kinds_of}
 use Rattle.lmn_parser.proofs.BuiltGuards.{contexts_first, contexts_next, no_context, contexts_closed}
 use Rattle.lmn_parser.proofs.Onward.{refused}

@@ -1,7 +1,7 @@
 use Rattle.std.proofs.Common.{◌≡◌, ◌+◌, ◌-◌, ◌≤◌, ◌<◌, length, [], ◌∷◌}
-use Rattle.lmn_grammar.specs.Grammar.{Opt, Tok, more_of}
-use Rattle.lmn_grammar.specs.Factored.{contexts}
-use Rattle.lmn_grammar.specs.Reading.{Owed, stop_at, next}
+use Rattle.lmn_parser_grammar.specs.Grammar.{Opt, Tok, more_of}
+use Rattle.lmn_parser_grammar.specs.Factored.{contexts}
+use Rattle.lmn_parser_grammar.specs.Reading.{Owed, stop_at, next}
 use Rattle.lmn_lexer.specs.declared.token.Kind.TheVariants as kind
 use Rattle.lmn_parser.specs.Parsing.{kinds_of}
 use Rattle.lmn_parser.specs.Outcomes.{reach}

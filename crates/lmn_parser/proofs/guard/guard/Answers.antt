@@ -1,8 +1,8 @@
 use Rattle.std.proofs.Common.{rules, arith, ◌∷◌, refl, ◌∙◌}
-use Rattle.lmn_grammar.specs.Grammar.{Tok, more_of, cond}
+use Rattle.lmn_parser_grammar.specs.Grammar.{Tok, more_of, cond}
 use Rattle.lmn_lexer.specs.declared.token.Kind.TheVariants.{Bar}
-use Rattle.lmn_grammar.proofs.Choices.{more_taken, more_done}
-use Rattle.lmn_grammar.proofs.Terms.{guard_parts, ends_cond}
+use Rattle.lmn_parser_grammar.proofs.Choices.{more_taken, more_done}
+use Rattle.lmn_parser_grammar.proofs.Terms.{guard_parts, ends_cond}
 use Rattle.lmn_parser.specs.Parsing.{kinds_of}
 use Rattle.lmn_parser.proofs.BuiltGuards.{guard_first, guard_next}
 use Rattle.lmn_parser.proofs.Onward.{refused}

@@ -1,9 +1,9 @@
 use Rattle.std.proofs.Common.{rules, ◌≡◌, sym, ◌∙◌, ap, None}
-use Rattle.lmn_grammar.specs.Scan as scanner
+use Rattle.lmn_parser_grammar.specs.Scan as scanner
 use Rattle.lmn_parser.specs.Parsing.{kinds_of}
 use Rattle.lmn_parser.specs.Scans.{scan_of, stack_of}
-use Rattle.lmn_grammar.proofs.Counts.{scan_passes}
-use Rattle.lmn_grammar.proofs.Scans.{within_none, scan_take, within_take}
+use Rattle.lmn_parser_grammar.proofs.Counts.{scan_passes}
+use Rattle.lmn_parser_grammar.proofs.Scans.{within_none, scan_take, within_take}
 use Rattle.lmn_parser.proofs.limits.first_passing.Goals as goal
 
 pub loop-at-init : goal.loop-at-init

@@ -1,6 +1,6 @@
 use Rattle.std.proofs.Common.{◌≡◌, take}
-use Rattle.lmn_grammar.specs.Scan as scanner
-use Rattle.lmn_grammar.specs.Refusing.{IsWithin}
+use Rattle.lmn_parser_grammar.specs.Scan as scanner
+use Rattle.lmn_parser_grammar.specs.Refusing.{IsWithin}
 use Rattle.lmn_parser.specs.Parsing.{kinds_of}
 use Rattle.lmn_parser.specs.Scans.{scan_of}
 use Rattle.lmn_parser.proofs.limits.first_passing.Given as goal

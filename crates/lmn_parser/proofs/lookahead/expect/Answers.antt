@@ -1,5 +1,5 @@
 use Rattle.std.proofs.Common.{rules}
-use Rattle.lmn_grammar.proofs.Stops.{tok_dead, tok_taken}
+use Rattle.lmn_parser_grammar.proofs.Stops.{tok_dead, tok_taken}
 use Rattle.lmn_parser.specs.Parsing.{kinds_of}
 use Rattle.lmn_parser.proofs.lookahead.expect.Goals as goal
 

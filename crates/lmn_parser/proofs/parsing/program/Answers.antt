@@ -1,8 +1,8 @@
 use Rattle.std.proofs.Common.{arith, ◌≡◌, ◌<◌, [], ◌∷◌, length, ◌∙◌}
-use Rattle.lmn_grammar.specs.Grammar.{Tok}
+use Rattle.lmn_parser_grammar.specs.Grammar.{Tok}
 use Rattle.lmn_lexer.specs.declared.token.Kind.TheVariants.{End}
-use Rattle.lmn_grammar.proofs.Clauses.{ends_text, program_parts}
-use Rattle.lmn_grammar.proofs.Stops.{stop_nothing}
+use Rattle.lmn_parser_grammar.proofs.Clauses.{ends_text, program_parts}
+use Rattle.lmn_parser_grammar.proofs.Stops.{stop_nothing}
 use Rattle.lmn_parser.specs.Parsing.{kinds_of}
 use Rattle.lmn_parser.proofs.Places.{before_last}
 use Rattle.lmn_parser.proofs.Programs.{kinds_length, whole_refused, program_read}

@@ -1,14 +1,14 @@
 use Rattle.std.proofs.Common.{rules, arith, ◌+◌, ◌≤◌, ◌<◌, length, [], ◌∷◌, refl, sym, ◌∙◌, ap, max}
-use Rattle.lmn_grammar.specs.Grammar.{Tok, Opt, Ref, Square, Curly, TermPart, ClausesPart, ◌·◌, some_of, more_of, item, rule, body}
-use Rattle.lmn_grammar.specs.Factored.{right_side, arrow, rule_tail, more_clauses}
+use Rattle.lmn_parser_grammar.specs.Grammar.{Tok, Opt, Ref, Square, Curly, TermPart, ClausesPart, ◌·◌, some_of, more_of, item, rule, body}
+use Rattle.lmn_parser_grammar.specs.Factored.{right_side, arrow, rule_tail, more_clauses}
 use Rattle.lmn_lexer.specs.declared.token.Kind.TheVariants.{Link, RParen, RBracket, RBrace, Bar, Arrow, Equal}
-use Rattle.lmn_grammar.proofs.Stops.{advance, dead_here, within_taken}
-use Rattle.lmn_grammar.proofs.SameLanguage.{seq}
-use Rattle.lmn_grammar.proofs.Choices.{opt_some, opt_before, opt_sign_taken, opt_sign_none, sign_taken, more_taken, more_done}
-use Rattle.lmn_grammar.proofs.Items.{atom_taken, item_atom, item_membrane, item_context, item_rule_context, item_plus, item_group, item_link, item_tlist}
-use Rattle.lmn_grammar.proofs.Terms.{term_link, term_atom, term_context, term_membrane, term_tlist, arguments_some, arguments_none, tlist_terms, context_bracket, brackets_link, brackets_empty, context_equal, context_alone}
-use Rattle.lmn_grammar.proofs.Clauses.{closers_opt_list, arrow_opt_list, tail_opt_list, closers_opt_tail, ends_item, ends_left, ends_term, closers_round, ends_curly, closers_more, opt_list_none, opt_list_some, list_parts, tail_backslash, tail_arrow, rule_parts, clause_named, clause_list, clause_tail, list_or_rule, list_ends, clauses_some, clauses_none, more_stop, more_none}
-use Rattle.lmn_grammar.proofs.Bodies.{body_bar, body_guarded, body_stops, body_beyond, body_listed}
+use Rattle.lmn_parser_grammar.proofs.Stops.{advance, dead_here, within_taken}
+use Rattle.lmn_parser_grammar.proofs.SameLanguage.{seq}
+use Rattle.lmn_parser_grammar.proofs.Choices.{opt_some, opt_before, opt_sign_taken, opt_sign_none, sign_taken, more_taken, more_done}
+use Rattle.lmn_parser_grammar.proofs.Items.{atom_taken, item_atom, item_membrane, item_context, item_rule_context, item_plus, item_group, item_link, item_tlist}
+use Rattle.lmn_parser_grammar.proofs.Terms.{term_link, term_atom, term_context, term_membrane, term_tlist, arguments_some, arguments_none, tlist_terms, context_bracket, brackets_link, brackets_empty, context_equal, context_alone}
+use Rattle.lmn_parser_grammar.proofs.Clauses.{closers_opt_list, arrow_opt_list, tail_opt_list, closers_opt_tail, ends_item, ends_left, ends_term, closers_round, ends_curly, closers_more, opt_list_none, opt_list_some, list_parts, tail_backslash, tail_arrow, rule_parts, clause_named, clause_list, clause_tail, list_or_rule, list_ends, clauses_some, clauses_none, more_stop, more_none}
+use Rattle.lmn_parser_grammar.proofs.Bodies.{body_bar, body_guarded, body_stops, body_beyond, body_listed}
 use Rattle.lmn_parser.specs.Parsing.{kinds_of}
 use Rattle.lmn_parser.specs.Outcomes.{reach}
 use Rattle.lmn_parser.proofs.Onward.{onward, refused, guard_stops, list_stops, stop_inside, max_inside}

@@ -1,7 +1,7 @@
 use Rattle.std.proofs.Common.{◌≡◌, ◌+◌, ◌-◌, ◌*◌, ◌≤◌, ◌<◌, length, [], ◌∷◌}
-use Rattle.lmn_grammar.specs.Grammar.{Ref, TermPart, ClausesPart, some_of, more_of, item, list}
-use Rattle.lmn_grammar.specs.Factored.{more_clauses}
-use Rattle.lmn_grammar.specs.Reading.{Owed, stop_at, NoMore, EndsList, OnlyEnds}
+use Rattle.lmn_parser_grammar.specs.Grammar.{Ref, TermPart, ClausesPart, some_of, more_of, item, list}
+use Rattle.lmn_parser_grammar.specs.Factored.{more_clauses}
+use Rattle.lmn_parser_grammar.specs.Reading.{Owed, stop_at, NoMore, EndsList, OnlyEnds}
 use Rattle.lmn_parser.specs.Parsing.{kinds_of}
 use Rattle.lmn_parser.specs.Outcomes.{reach}
 use Rattle.lmn_parser.specs.Syntax.{terms_of, items_of_nodes}

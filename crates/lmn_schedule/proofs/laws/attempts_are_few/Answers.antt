@@ -1,4 +1,4 @@
-use Rattle.lmn_strategy.proofs.Counts.{counts_rules}
+use Rattle.lmn_schedule_strategy.proofs.Counts.{counts_rules}
 use Rattle.lmn_schedule.proofs.laws.attempts_are_few.Goals as goal
 
 pub returns : goal.returns

@@ -1,6 +1,6 @@
 use Rattle.std.proofs.Common.{arith}
-use Rattle.lmn_sleep.proofs.Marks.{read_alike}
-use Rattle.lmn_store.proofs.Numbers.{number_mem, never_ends}
+use Rattle.lmn_schedule_sleep.proofs.Marks.{read_alike}
+use Rattle.lmn_store_trait.proofs.Numbers.{number_mem, never_ends}
 use Rattle.lmn_schedule.proofs.AllWake.{rouse_alike, rouse_begins, rouse_ends, rouse_goes, valid_on}
 use Rattle.lmn_schedule.proofs.rousing.rouse_all.Goals as goal
 

@@ -1,7 +1,7 @@
 use Rattle.std.proofs.Common.{◌∙◌, ◌<◌, sym, ap, subst, ℕ, Option, IfSome, IsSome}
 use Rattle.std.specs.Option.{option_map}
-use Rattle.lmn_cells.specs.Cells.{HeldCell, cells_by}
-use Rattle.lmn_cells.specs.CellIds.{cell_id}
+use Rattle.lmn_web_cells.specs.Cells.{HeldCell, cells_by}
+use Rattle.lmn_web_cells.specs.CellIds.{cell_id}
 use Rattle.lmn_web.specs.Classes.{dropped, taken_over}
 use Rattle.lmn_web.proofs.ClassWrites.{kept}
 use Rattle.lmn_web.proofs.classes.drop_class.Goals as goal

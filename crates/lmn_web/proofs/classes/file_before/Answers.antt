@@ -1,7 +1,7 @@
 use Rattle.std.proofs.Common.{◌≡◌, ◌<◌, ℕ, ◌∷◌, Option, IsSome, sym, ap, subst, ◌∙◌}
 use Rattle.std.specs.Option.{option_map}
-use Rattle.lmn_cells.specs.Cells.{HeldCell, cells_by}
-use Rattle.lmn_cells.specs.CellIds.{cell_id}
+use Rattle.lmn_web_cells.specs.Cells.{HeldCell, cells_by}
+use Rattle.lmn_web_cells.specs.CellIds.{cell_id}
 use Rattle.lmn_web.specs.Classes.{key_in, place_in, put_first, Refiled}
 use Rattle.lmn_web.proofs.ClassSteps.{filed_inside, filed_first, holder_alive, holder_link, prev_other}
 use Rattle.lmn_web.proofs.classes.file_before.Goals as goal

@@ -1,7 +1,7 @@
 use Rattle.std.proofs.Common.{length, ap}
 use Rattle.std.specs.Option.{option_map}
-use Rattle.lmn_cells.specs.Cells.{cells_by}
-use Rattle.lmn_cells.specs.CellIds.{cell_id}
+use Rattle.lmn_web_cells.specs.Cells.{cells_by}
+use Rattle.lmn_web_cells.specs.CellIds.{cell_id}
 use Rattle.lmn_web.specs.Classes.{Hung}
 use Rattle.lmn_web.proofs.ClassLemmas.{tree_small, down_all, down_next, down_none, down_there}
 use Rattle.lmn_web.proofs.classes.lowest.Goals as goal

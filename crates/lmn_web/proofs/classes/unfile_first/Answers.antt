@@ -1,7 +1,7 @@
 use Rattle.std.proofs.Common.{◌≡◌, ◌<◌, ℕ, Option, IsSome, sym, ap, subst, ◌∙◌}
 use Rattle.std.specs.Option.{option_map}
-use Rattle.lmn_cells.specs.Cells.{HeldCell, cells_by}
-use Rattle.lmn_cells.specs.CellIds.{cell_id}
+use Rattle.lmn_web_cells.specs.Cells.{HeldCell, cells_by}
+use Rattle.lmn_web_cells.specs.CellIds.{cell_id}
 use Rattle.lmn_web.specs.Classes.{key_in, place_in, passed, dropped, Refiled}
 use Rattle.lmn_web.proofs.ListedLemmas.{if_some}
 use Rattle.lmn_web.proofs.ClassLemmas.{lowest_there}

@@ -1,7 +1,7 @@
 use Rattle.std.proofs.Common.{◌∷◌, [], sym, ap, subst, ◌∙◌, map}
 use Rattle.std.proofs.lemmas.List.{map-append, nil_from_length}
-use Rattle.lmn_cells.specs.Cells.{cells_by}
-use Rattle.lmn_cells.specs.CellIds.{cell_id}
+use Rattle.lmn_web_cells.specs.Cells.{cells_by}
+use Rattle.lmn_web_cells.specs.CellIds.{cell_id}
 use Rattle.lmn_web.specs.Indexes.{IsIndexed}
 use Rattle.lmn_web.proofs.WebLemmas.{last_there, rest_is, none_left}
 use Rattle.lmn_web.proofs.web.free_all.Goals as goal

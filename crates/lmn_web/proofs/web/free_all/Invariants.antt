@@ -1,6 +1,6 @@
 use Rattle.std.proofs.Common.{map, vec_len}
-use Rattle.lmn_cells.specs.Cells.{cells_by}
-use Rattle.lmn_cells.specs.CellIds.{cell_id}
+use Rattle.lmn_web_cells.specs.Cells.{cells_by}
+use Rattle.lmn_web_cells.specs.CellIds.{cell_id}
 use Rattle.lmn_web.specs.Indexes.{IsIndexed}
 use Rattle.lmn_web.proofs.web.free_all.Given as goal
 

@@ -2,9 +2,9 @@ use Rattle.std.proofs.Common.{◌≡◌, ◌+◌, ℕ, Option, None, IsSome, ref
 use Rattle.std.proofs.lemmas.List.{length-map}
 use Rattle.std.proofs.lemmas.Option.{slice_get_within}
 use Rattle.std.specs.List.{slice_get}
-use Rattle.lmn_heap.specs.Heap.{alter}
-use Rattle.lmn_cells.specs.Cells.{HeldCell, cells_by, ports_of}
-use Rattle.lmn_cells.specs.CellIds.{cell_id}
+use Rattle.lmn_store_heap.specs.Heap.{alter}
+use Rattle.lmn_web_cells.specs.Cells.{HeldCell, cells_by, ports_of}
+use Rattle.lmn_web_cells.specs.CellIds.{cell_id}
 use Rattle.lmn_web.specs.Indexes.{reindexed, Swapped}
 use Rattle.lmn_web.proofs.FreeLemmas.{swapped_by, last_there, there_still, ports_still}
 use Rattle.lmn_web.proofs.web.release.Goals as goal

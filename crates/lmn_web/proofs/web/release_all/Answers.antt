@@ -2,11 +2,11 @@ use Rattle.std.proofs.Common.{◌≡◌, ◌≢◌, ℕ, ◌∷◌, Option, None
 use Rattle.lmn_base.specs.Lists.{In}
 use Rattle.std.specs.List.{slice_get}
 use Rattle.std.specs.Option.{option_map}
-use Rattle.lmn_heap.specs.Heap.{alter}
-use Rattle.lmn_heap.specs.Lists.{Distinct}
-use Rattle.lmn_cells.specs.Cells.{HeldCell, cells_by}
-use Rattle.lmn_cells.specs.CellIds.{cell_id}
-use Rattle.lmn_cells.specs.Runs.{NEXT, link_in}
+use Rattle.lmn_store_heap.specs.Heap.{alter}
+use Rattle.lmn_store_heap.specs.Lists.{Distinct}
+use Rattle.lmn_web_cells.specs.Cells.{HeldCell, cells_by}
+use Rattle.lmn_web_cells.specs.CellIds.{cell_id}
+use Rattle.lmn_web_cells.specs.Runs.{NEXT, link_in}
 use Rattle.lmn_web.specs.Webs.{number_in, INDEX}
 use Rattle.lmn_web.specs.Indexes.{reindexed, unindexed, AreLinked, IsTable, Without}
 use Rattle.lmn_web.proofs.FreeLemmas.{freed_table, freed_gone, freed_others}

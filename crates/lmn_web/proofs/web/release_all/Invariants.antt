@@ -1,8 +1,8 @@
 use Rattle.std.proofs.Common.{ℕ, List, Option, map, vec_len}
 use Rattle.std.specs.Option.{option_map}
-use Rattle.lmn_heap.specs.Lists.{Distinct}
-use Rattle.lmn_cells.specs.Cells.{HeldCell, cells_by}
-use Rattle.lmn_cells.specs.CellIds.{cell_id}
+use Rattle.lmn_store_heap.specs.Lists.{Distinct}
+use Rattle.lmn_web_cells.specs.Cells.{HeldCell, cells_by}
+use Rattle.lmn_web_cells.specs.CellIds.{cell_id}
 use Rattle.lmn_web.specs.Indexes.{AreLinked, IsTable, Without}
 use Rattle.lmn_web.proofs.web.release_all.Given as goal
 

@@ -1,6 +1,6 @@
 use Rattle.std.proofs.Common.{ap, sym, refl, ◌∙◌, ◌+◌}
 use Rattle.std.proofs.lemmas.List.{take_rest}
-use Rattle.lmn_lines.specs.Lines.{number_written}
+use Rattle.lmn_instr_reading.specs.Lines.{number_written}
 use Rattle.lmn_weight.proofs.LineLemmas.{line_taken, line_untaken, line_unsplit}
 use Rattle.lmn_weight.proofs.reading.take_line.Goals as goal
 

@@ -1,5 +1,5 @@
 use Rattle.std.proofs.Common.{◌≡◌, subst}
-use Rattle.lmn_heap.specs.Sound.{Forest, IsTree, flat}
+use Rattle.lmn_store_heap.specs.Sound.{Forest, IsTree, flat}
 use Rattle.lmn_debug.specs.Counts.{count_in}
 use Rattle.lmn_debug.proofs.CountLemmas.{count_held}
 use Rattle.lmn_debug.proofs.session.Session.count.Goals as goal

@@ -1,6 +1,6 @@
 use Rattle.std.proofs.Common.{subst}
 use Rattle.std.specs.Prelude.{◌↔◌, IsTrue}
-use Rattle.lmn_heap.specs.Sound.{Forest, IsTree, bare, flat, mem}
+use Rattle.lmn_store_heap.specs.Sound.{Forest, IsTree, bare, flat, mem}
 use Rattle.lmn_debug.specs.Breaks.{StandsSo}
 use Rattle.lmn_debug.specs.Counts.{count_in}
 use Rattle.lmn_debug.specs.Courses.{wish}

@@ -1,8 +1,8 @@
 use Rattle.std.proofs.Common.{false, ◌∙◌, ap, subst, sym}
-use Rattle.lmn_heap.specs.Heap.{Unmarked}
-use Rattle.lmn_heap.specs.Sound.{Valid}
+use Rattle.lmn_store_heap.specs.Heap.{Unmarked}
+use Rattle.lmn_store_heap.specs.Sound.{Valid}
 use Rattle.lmn_io.specs.Writing.{Writes}
-use Rattle.lmn_folded_printer.specs.Lines.{IsHeapLine}
+use Rattle.lmn_print.specs.Lines.{IsHeapLine}
 use Rattle.lmn_debug.proofs.session.Session.show.Goals as goal
 
 pub print-requires-clause-valid : goal.print-requires-clause-valid

@@ -1,5 +1,5 @@
 use Rattle.std.proofs.Common.{Some, None, sym, subst}
-use Rattle.lmn_strategy.specs.declared.turning.Turn.TheVariants as answer
+use Rattle.lmn_schedule_strategy.specs.declared.turning.Turn.TheVariants as answer
 use Rattle.lmn_debug.specs.declared.session.Stop.TheVariants as stop
 use Rattle.lmn_debug.specs.Courses.{course}
 use Rattle.lmn_debug.specs.Turning.{TurnsTo}

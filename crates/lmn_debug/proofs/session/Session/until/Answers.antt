@@ -8,7 +8,7 @@ use Rattle.lmn_debug.specs.Turning.{Waits, WaitsOn, counted}
 use Rattle.lmn_debug.specs.declared.session.Stop.TheVariants as stop
 use Rattle.lmn_debug.proofs.Turns.{moved_to, waits_first, waits_limit, waits_met}
 use Rattle.lmn_debug.proofs.session.Session.until.Goals as goal
-use Rattle.lmn_heap.proofs.Common.{moved}
+use Rattle.lmn_store_heap.proofs.Common.{moved}
 
 pub loop-init : goal.loop-init
 loop-init g c =

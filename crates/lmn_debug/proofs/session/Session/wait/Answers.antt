@@ -7,7 +7,7 @@ use Rattle.lmn_debug.specs.Turning.{TurnsTo, WaitsOn, counted}
 use Rattle.lmn_debug.specs.declared.session.Stop.TheVariants as stop
 use Rattle.lmn_debug.proofs.Turns.{moved_to, waits_met, waits_one}
 use Rattle.lmn_debug.proofs.session.Session.wait.Goals as goal
-use Rattle.lmn_heap.proofs.Common.{moved}
+use Rattle.lmn_store_heap.proofs.Common.{moved}
 
 pub returns-then-is_met-clause-waits : goal.returns-then-is_met-clause-waits
 returns-then-is_met-clause-waits g c k gives names known first t v l m =

@@ -1,8 +1,8 @@
 use Rattle.std.proofs.Common.{subst}
-use Rattle.lmn_body.specs.Running.{Registers}
-use Rattle.lmn_commit.specs.Registers.{AgreesWithCopies, HasCopies, HasRests}
-use Rattle.lmn_commit.specs.Matched.{IsPrepared}
-use Rattle.lmn_commit.specs.Waking.{Commits}
+use Rattle.lmn_solid_bodies.specs.Running.{Registers}
+use Rattle.lmn_machine_commit.specs.Registers.{AgreesWithCopies, HasCopies, HasRests}
+use Rattle.lmn_machine_commit.specs.Matched.{IsPrepared}
+use Rattle.lmn_machine_commit.specs.Waking.{Commits}
 use Rattle.lmn_machine.proofs.machine.Machine.commit.Goals as goal
 
 pub returns-clause-fires : goal.returns-clause-fires

@@ -1,5 +1,5 @@
 use Rattle.std.proofs.Common.{subst, sym}
-use Rattle.lmn_strategy.specs.Quieting.{AllAwake}
+use Rattle.lmn_schedule_strategy.specs.Quieting.{AllAwake}
 use Rattle.lmn_schedule.specs.Held.{HoldsSolid}
 use Rattle.lmn_schedule.proofs.Loaded.{holds_solid}
 use Rattle.lmn_schedule.proofs.AllWake.{loaded_on}

@@ -1,6 +1,6 @@
 use Rattle.std.proofs.Common.{subst, sym}
-use Rattle.lmn_loading.specs.Loaded.{IsLoaded}
-use Rattle.lmn_strategy.specs.Quieting.{AllAwake}
+use Rattle.lmn_schedule_loading.specs.Loaded.{IsLoaded}
+use Rattle.lmn_schedule_strategy.specs.Quieting.{AllAwake}
 use Rattle.lmn_schedule.proofs.Loaded.{can_run}
 use Rattle.lmn_schedule.proofs.engine.Engine.over.Goals as goal
 

@@ -1,8 +1,8 @@
 use Rattle.std.proofs.Common.{refl, ◌≡◌, length, subst, sym}
-use Rattle.lmn_choice.specs.Turns.{HaveCodes, tree_over}
-use Rattle.lmn_heap.specs.Sound.{Forest, IsTree, flat}
-use Rattle.lmn_strategy.specs.Choosing.{AllInOrder, IsFirstIn, NoneIn, asked}
-use Rattle.lmn_strategy.specs.Counting.{CountsAsked}
+use Rattle.lmn_adequacy_choices.specs.Turns.{HaveCodes, tree_over}
+use Rattle.lmn_store_heap.specs.Sound.{Forest, IsTree, flat}
+use Rattle.lmn_schedule_strategy.specs.Choosing.{AllInOrder, IsFirstIn, NoneIn, asked}
+use Rattle.lmn_schedule_strategy.specs.Counting.{CountsAsked}
 use Rattle.lmn_schedule.proofs.Turned.{done, embeds, some_membrane}
 use Rattle.lmn_schedule.proofs.engine.Engine.reducible.Goals as goal
 

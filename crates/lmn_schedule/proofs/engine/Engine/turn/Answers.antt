@@ -1,10 +1,10 @@
 use Rattle.std.proofs.Common.{◌≡◌, length, true, refl, sym, subst, arith, ◌∙◌}
-use Rattle.lmn_choice.specs.Turns.{HaveCodes, tree_over}
-use Rattle.lmn_heap.specs.Sound.{Forest, IsTree, flat}
-use Rattle.lmn_strategy.specs.Counting.{CountsAsked}
-use Rattle.lmn_strategy.specs.Choosing.{CanTurn}
-use Rattle.lmn_strategy.specs.Quieting.{AreQuiet, SleepsRightly}
-use Rattle.lmn_strategy.specs.Turns.{AreRunnable, IsAwakeTurn}
+use Rattle.lmn_adequacy_choices.specs.Turns.{HaveCodes, tree_over}
+use Rattle.lmn_store_heap.specs.Sound.{Forest, IsTree, flat}
+use Rattle.lmn_schedule_strategy.specs.Counting.{CountsAsked}
+use Rattle.lmn_schedule_strategy.specs.Choosing.{CanTurn}
+use Rattle.lmn_schedule_strategy.specs.Quieting.{AreQuiet, SleepsRightly}
+use Rattle.lmn_schedule_strategy.specs.Turns.{AreRunnable, IsAwakeTurn}
 use Rattle.lmn_schedule.proofs.Turned.{as_many_paths, kept_heap, some_membrane, turned}
 use Rattle.lmn_schedule.proofs.engine.Engine.turn.Goals as goal
 

@@ -1,11 +1,11 @@
 use Rattle.std.proofs.Common.{◌≡◌, List, [], Some, sym, ap, subst, ◌∙◌}
 use Rattle.std.specs.Option.{option_map}
 use Rattle.lmn_base.specs.Lists.{In}
-use Rattle.lmn_heap.specs.Lists.{from}
-use Rattle.lmn_cells.specs.Rows.{Row}
-use Rattle.lmn_cells.specs.Cells.{cells_by}
-use Rattle.lmn_cells.specs.CellIds.{cell_id}
-use Rattle.lmn_cells.specs.Runs.{link_in}
+use Rattle.lmn_store_heap.specs.Lists.{from}
+use Rattle.lmn_web_cells.specs.Rows.{Row}
+use Rattle.lmn_web_cells.specs.Cells.{cells_by}
+use Rattle.lmn_web_cells.specs.CellIds.{cell_id}
+use Rattle.lmn_web_cells.specs.Runs.{link_in}
 use Rattle.lmn_web.specs.Webs.{web_by, cells_in, list_in, list_link, home_at, kind_at}
 use Rattle.lmn_web.proofs.ListedLemmas.{kind_told, no_atom_by, begins_list, list_same, web_listed, from_in, if_some}
 use Rattle.lmn_web.specs.Indexes.{cell_kind}

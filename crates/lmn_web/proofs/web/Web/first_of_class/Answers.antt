@@ -1,10 +1,10 @@
 use Rattle.std.proofs.Common.{◌≡◌, ℕ, List, [], Some, sym, ap, subst, ◌∙◌}
 use Rattle.std.specs.Option.{option_map}
 use Rattle.lmn_base.specs.Lists.{In}
-use Rattle.lmn_heap.specs.Lists.{from}
-use Rattle.lmn_cells.specs.Rows.{Row}
-use Rattle.lmn_cells.specs.Cells.{cells_by}
-use Rattle.lmn_cells.specs.CellIds.{cell_id}
+use Rattle.lmn_store_heap.specs.Lists.{from}
+use Rattle.lmn_web_cells.specs.Rows.{Row}
+use Rattle.lmn_web_cells.specs.Cells.{cells_by}
+use Rattle.lmn_web_cells.specs.CellIds.{cell_id}
 use Rattle.lmn_web.specs.declared.kind.CellKind.TheVariants.{Atom, Membrane}
 use Rattle.lmn_web.specs.Webs.{web_by, cells_in, list_in, kind_at, is_classed, with_class}
 use Rattle.lmn_web.specs.Indexes.{cell_kind}

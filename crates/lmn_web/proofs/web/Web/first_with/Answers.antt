@@ -1,8 +1,8 @@
 use Rattle.std.proofs.Common.{◌≡◌, ap, subst, ◌∙◌}
 use Rattle.std.specs.Option.{option_map}
 use Rattle.lmn_base.specs.Lists.{In}
-use Rattle.lmn_heap.specs.Lists.{from}
-use Rattle.lmn_cells.specs.CellIds.{cell_id}
+use Rattle.lmn_store_heap.specs.Lists.{from}
+use Rattle.lmn_web_cells.specs.CellIds.{cell_id}
 use Rattle.lmn_web.specs.declared.kind.CellKind.TheVariants.{Atom}
 use Rattle.lmn_web.specs.Webs.{web_by, cells_in, with_label, label_class, with_class}
 use Rattle.lmn_web.proofs.ListedLemmas.{from_in, if_some}

@@ -1,9 +1,9 @@
 use Rattle.std.proofs.Common.{ℕ, List, Option, None, IsSome, refl, sym, ap, subst, ◌∙◌, map}
 use Rattle.std.specs.List.{slice_get}
-use Rattle.lmn_heap.specs.Heap.{alter}
-use Rattle.lmn_cells.specs.Rows.{Row}
-use Rattle.lmn_cells.specs.Cells.{HeldCell, cells_by}
-use Rattle.lmn_cells.specs.CellIds.{cell_id}
+use Rattle.lmn_store_heap.specs.Heap.{alter}
+use Rattle.lmn_web_cells.specs.Rows.{Row}
+use Rattle.lmn_web_cells.specs.Cells.{HeldCell, cells_by}
+use Rattle.lmn_web_cells.specs.CellIds.{cell_id}
 use Rattle.lmn_web.specs.Webs.{web_by, web_of, list_in, number_in, IsLoose, INDEX}
 use Rattle.lmn_web.specs.Indexes.{IsClassedWeb}
 use Rattle.lmn_web.proofs.FreeLemmas.{loose_back, web_table, freed_web, freed_classed, freed_is}

@@ -1,12 +1,12 @@
 use Rattle.std.proofs.Common.{◌≡◌, ℕ, List, Option, Some, None, is_some, refl, sym, ap, subst, ◌∙◌, map}
 use Rattle.std.specs.Option.{option_map}
 use Rattle.lmn_base.specs.Lists.{In}
-use Rattle.lmn_heap.specs.Heap.{alter}
-use Rattle.lmn_cells.specs.Rows.{Row}
-use Rattle.lmn_cells.specs.Cells.{HeldCell, cells_by}
-use Rattle.lmn_cells.specs.CellIds.{cell_id}
-use Rattle.lmn_cells.specs.Ports.{partner_in}
-use Rattle.lmn_cells.specs.Runs.{link_in, Line}
+use Rattle.lmn_store_heap.specs.Heap.{alter}
+use Rattle.lmn_web_cells.specs.Rows.{Row}
+use Rattle.lmn_web_cells.specs.Cells.{HeldCell, cells_by}
+use Rattle.lmn_web_cells.specs.CellIds.{cell_id}
+use Rattle.lmn_web_cells.specs.Ports.{partner_in}
+use Rattle.lmn_web_cells.specs.Runs.{link_in, Line}
 use Rattle.lmn_web.specs.declared.kind.CellKind.TheVariants.{Atom, Membrane}
 use Rattle.lmn_web.specs.Webs.{WithoutAtoms, web_by, web_of, kind_at, cells_in, partner_at, list_in}
 use Rattle.lmn_web.specs.Indexes.{bare_atoms, cell_kind, AreLinked, IsTable, Without}

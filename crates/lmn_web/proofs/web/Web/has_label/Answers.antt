@@ -1,7 +1,7 @@
 use Rattle.std.proofs.Common.{ℕ, List, refl, subst, ◌≡◌, ◌∙◌, ◌==◌, ◌%◌, ◌^◌}
-use Rattle.lmn_cells.specs.Rows.{Row}
-use Rattle.lmn_cells.specs.Cells.{cells_by}
-use Rattle.lmn_cells.specs.CellIds.{cell_id}
+use Rattle.lmn_web_cells.specs.Rows.{Row}
+use Rattle.lmn_web_cells.specs.Cells.{cells_by}
+use Rattle.lmn_web_cells.specs.CellIds.{cell_id}
 use Rattle.lmn_web.specs.Webs.{LOW, arity_at, is_labelled, label_class, number_in, web_by, web_label}
 use Rattle.std.proofs.Common.{Some}
 use Rattle.lmn_web.proofs.SeekLemmas.{label_by_half}

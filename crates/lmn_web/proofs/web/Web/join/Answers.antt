@@ -1,7 +1,7 @@
 use Rattle.std.proofs.Common.{◌≡◌, ℕ, ◌<◌, List, Option, sym, ap, subst, ◌∙◌}
-use Rattle.lmn_cells.specs.Rows.{Row}
-use Rattle.lmn_cells.specs.Cells.{HeldCell, cells_by}
-use Rattle.lmn_cells.specs.CellIds.{cell_id}
+use Rattle.lmn_web_cells.specs.Rows.{Row}
+use Rattle.lmn_web_cells.specs.Cells.{HeldCell, cells_by}
+use Rattle.lmn_web_cells.specs.CellIds.{cell_id}
 use Rattle.lmn_web.specs.Webs.{web_by, web_with, list_in, joined, arity_at}
 use Rattle.lmn_web.proofs.WebLemmas.{same_web, web_keeps, told_joined, told, port_back, joined_web}
 use Rattle.lmn_web.proofs.Filing.{same_classed}

@@ -1,6 +1,6 @@
 use Rattle.std.proofs.Common.{List, subst}
-use Rattle.lmn_cells.specs.Rows.{Row}
-use Rattle.lmn_cells.specs.Cells.{cells_by}
+use Rattle.lmn_web_cells.specs.Rows.{Row}
+use Rattle.lmn_web_cells.specs.Cells.{cells_by}
 use Rattle.lmn_web.specs.Webs.{web_by, list_in, StandOnce}
 use Rattle.lmn_web.proofs.ListedLemmas.{web_listed}
 use Rattle.lmn_web.proofs.web.Web.listed.Goals as goal

@@ -1,12 +1,12 @@
 use Rattle.std.proofs.Common.{◌≡◌, ℕ, ◌/◌, ◌%◌, ◌^◌, ◌<◌, ◌++◌, ◌∷◌, [], List, Option, Some, None, IsSome, refl, sym, ap, subst, ◌∙◌, length, map, arith}
 use Rattle.std.proofs.lemmas.List.{length-map, map-append}
-use Rattle.lmn_heap.specs.Heap.{alter}
-use Rattle.lmn_heap.proofs.Listing.{alter_at}
-use Rattle.lmn_cells.specs.Rows.{Row}
-use Rattle.lmn_cells.specs.Cells.{HeldCell, cells_by, blank_cell}
+use Rattle.lmn_store_heap.specs.Heap.{alter}
+use Rattle.lmn_store_heap.proofs.Listing.{alter_at}
+use Rattle.lmn_web_cells.specs.Rows.{Row}
+use Rattle.lmn_web_cells.specs.Cells.{HeldCell, cells_by, blank_cell}
 use Rattle.std.specs.Option.{option_map}
-use Rattle.lmn_cells.specs.CellIds.{cell_id}
-use Rattle.lmn_cells.specs.declared.handle.Cell.{Cell}
+use Rattle.lmn_web_cells.specs.CellIds.{cell_id}
+use Rattle.lmn_web_cells.specs.declared.handle.Cell.{Cell}
 use Rattle.lmn_web.specs.Kinds.{kind_by}
 use Rattle.lmn_web.specs.Webs.{web_by, web_of, web_cell, list_in, new_cell, label_by}
 use Rattle.lmn_web.specs.Indexes.{described, IsClassedWeb}

@@ -1,5 +1,5 @@
 use Rattle.std.proofs.Common.{ap, map}
-use Rattle.lmn_cells.specs.CellIds.{cell_id}
+use Rattle.lmn_web_cells.specs.CellIds.{cell_id}
 use Rattle.lmn_web.specs.Webs.{web_of}
 use Rattle.lmn_web.proofs.WebLemmas.{empty_web}
 use Rattle.lmn_web.proofs.Filing.{empty_classed}

@@ -1,12 +1,12 @@
 use Rattle.std.proofs.Common.{◌≡◌, List, Some, sym, ap, subst, ◌∙◌}
 use Rattle.std.specs.Option.{option_map}
 use Rattle.lmn_base.specs.Lists.{In}
-use Rattle.lmn_heap.specs.Lists.{from, after}
-use Rattle.lmn_heap.proofs.Trees.{next_in}
-use Rattle.lmn_cells.specs.Rows.{Row}
-use Rattle.lmn_cells.specs.Cells.{cells_by}
-use Rattle.lmn_cells.specs.CellIds.{cell_id}
-use Rattle.lmn_cells.specs.Runs.{HOME, link_in}
+use Rattle.lmn_store_heap.specs.Lists.{from, after}
+use Rattle.lmn_store_heap.proofs.Trees.{next_in}
+use Rattle.lmn_web_cells.specs.Rows.{Row}
+use Rattle.lmn_web_cells.specs.Cells.{cells_by}
+use Rattle.lmn_web_cells.specs.CellIds.{cell_id}
+use Rattle.lmn_web_cells.specs.Runs.{HOME, link_in}
 use Rattle.lmn_web.specs.declared.kind.CellKind.TheVariants.{Atom}
 use Rattle.lmn_web.specs.Webs.{web_by, web_of, cells_in, list_in, home_at, kind_at, arity_at, web_label, label_class, with_class}
 use Rattle.lmn_web.specs.Indexes.{cell_kind}

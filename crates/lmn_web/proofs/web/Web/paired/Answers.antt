@@ -1,6 +1,6 @@
 use Rattle.std.proofs.Common.{List, subst}
-use Rattle.lmn_cells.specs.Rows.{Row}
-use Rattle.lmn_cells.specs.Cells.{cells_by}
+use Rattle.lmn_web_cells.specs.Rows.{Row}
+use Rattle.lmn_web_cells.specs.Cells.{cells_by}
 use Rattle.lmn_web.specs.Webs.{web_by, list_in, IsPaired}
 use Rattle.lmn_web.proofs.WebLemmas.{web_paired}
 use Rattle.lmn_web.proofs.web.Web.paired.Goals as goal

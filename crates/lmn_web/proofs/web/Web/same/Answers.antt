@@ -1,7 +1,7 @@
 use Rattle.std.proofs.Common.{◌==◌, ℕ, List, IsSome, sym, subst, ◌∙◌}
-use Rattle.lmn_cells.specs.Rows.{Row}
-use Rattle.lmn_cells.specs.Cells.{cells_by}
-use Rattle.lmn_cells.specs.CellIds.{cell_id}
+use Rattle.lmn_web_cells.specs.Rows.{Row}
+use Rattle.lmn_web_cells.specs.Cells.{cells_by}
+use Rattle.lmn_web_cells.specs.CellIds.{cell_id}
 use Rattle.lmn_web.specs.Webs.{web_by, list_in}
 use Rattle.lmn_web.proofs.WebLemmas.{same_test, some_back}
 use Rattle.lmn_web.proofs.web.Web.same.Goals as goal

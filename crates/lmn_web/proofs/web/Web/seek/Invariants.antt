@@ -1,7 +1,7 @@
 use Rattle.std.proofs.Common.{length}
 use Rattle.std.specs.Option.{option_map}
-use Rattle.lmn_heap.specs.Lists.{from}
-use Rattle.lmn_cells.specs.CellIds.{cell_id}
+use Rattle.lmn_store_heap.specs.Lists.{from}
+use Rattle.lmn_web_cells.specs.CellIds.{cell_id}
 use Rattle.lmn_web.specs.declared.kind.CellKind.TheVariants.{Atom}
 use Rattle.lmn_web.specs.Webs.{web_by, cells_in, is_labelled, label_class, with_class}
 use Rattle.lmn_web.proofs.SeekLemmas.{Seeks}

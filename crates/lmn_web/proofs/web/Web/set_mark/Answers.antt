@@ -1,10 +1,10 @@
 use Rattle.std.proofs.Common.{◌≡◌, ℕ, zero, suc, ◌-◌, List, IsSome, refl, sym, ap, subst, ◌∙◌, map}
-use Rattle.lmn_cells.specs.Rows.{Row}
-use Rattle.lmn_cells.specs.Cells.{cells_by}
-use Rattle.lmn_cells.specs.CellIds.{cell_id}
+use Rattle.lmn_web_cells.specs.Rows.{Row}
+use Rattle.lmn_web_cells.specs.Cells.{cells_by}
+use Rattle.lmn_web_cells.specs.CellIds.{cell_id}
 use Rattle.std.proofs.Common.{arith}
 use Rattle.std.specs.Option.{option_map}
-use Rattle.lmn_heap.specs.Heap.{alter}
+use Rattle.lmn_store_heap.specs.Heap.{alter}
 use Rattle.lmn_web.specs.Webs.{web_by, web_of, list_in, with_mark}
 use Rattle.lmn_web.specs.Indexes.{IsClassedWeb}
 use Rattle.lmn_web.proofs.WebLemmas.{told_mark, told_own, port_mark_keeps, own_mark_keeps, port_mark_web, own_mark_web, mark_keeps, own_keeps, some_back}

@@ -1,5 +1,0 @@
-use Rattle.lmn_next.specs.Searching.{IsSolidBy}
-use Rattle.lmn_alike.proofs.next_solids.after.Given as goal
-
-abbrev pub invariant-loop : goal.invariant-loop
-invariant-loop g l = IsSolidBy l.names l.accepted.plain l.solid

@@ -1,0 +1,88 @@
+-- The table of refusals: the number and the words of each code.
+use Rattle.std.specs.Prelude.{ℕ, ◌≡◌, ◌==◌, List, [], ◌∷◌, Option, Some, None, codes, if◌then◌else◌, IsSome}
+use Rattle.lmn_app_reading.specs.declared.code.Code.{Code}
+use Rattle.lmn_app_reading.specs.declared.code.Code.TheVariants.{TextTooLong, BadByte, NotClosed, IntegerOutOfRange, NameTooLong, FloatingPoint, StringLiteral, InlineCode, Hyperlink, UnexpectedToken, NestingTooDeep, TooManyArguments, LinkOnce, LinkTooOften, LinkOnceInRule, LinkTooOftenInRule, ContextOutsideHeadMembrane, TwoContextsInMembrane, ContextTwiceInHead, ContextNotOnceInBody, ContextNotInHead, RuleContextOutsideHeadMembrane, RuleInHead, ConnectorInHead, EmptyHead, ContextOutsideRule, ContextWithoutType, UnknownGuard, WrongOperands, UnboundContext, RuleTooLarge, ContextInTwoForms, TypedContextNotHeld, ProcessTooLarge}
+
+-- the number of each code, and its words
+abbrev pub code_row : Code → ℕ × List ℕ
+code_row TextTooLong = (1, codes "text too long")
+code_row BadByte = (2, codes "bad byte")
+code_row NotClosed = (3, codes "not closed")
+code_row IntegerOutOfRange = (4, codes "integer out of range")
+code_row NameTooLong = (5, codes "name too long")
+code_row FloatingPoint = (6, codes "floating-point number")
+code_row StringLiteral = (7, codes "string literal")
+code_row InlineCode = (8, codes "inline code")
+code_row Hyperlink = (9, codes "hyperlink")
+code_row UnexpectedToken = (10, codes "unexpected token")
+code_row NestingTooDeep = (11, codes "nesting too deep")
+code_row TooManyArguments = (12, codes "too many arguments")
+code_row LinkOnce = (20, codes "link occurs once")
+code_row LinkTooOften = (21, codes "link occurs too often")
+code_row LinkOnceInRule = (22, codes "link occurs once in rule")
+code_row LinkTooOftenInRule = (23, codes "link occurs too often in rule")
+code_row ContextOutsideHeadMembrane = (30, codes "context outside a head membrane")
+code_row TwoContextsInMembrane = (31, codes "two contexts in one membrane")
+code_row ContextTwiceInHead = (32, codes "context twice in head")
+code_row ContextNotOnceInBody = (33, codes "context not once in body")
+code_row ContextNotInHead = (34, codes "context not in head")
+code_row RuleContextOutsideHeadMembrane = (35, codes "rule context outside a head membrane")
+code_row RuleInHead = (36, codes "rule in head")
+code_row ConnectorInHead = (37, codes "connector in head")
+code_row EmptyHead = (38, codes "empty head")
+code_row ContextOutsideRule = (39, codes "context outside a rule")
+code_row ContextWithoutType = (40, codes "context without type")
+code_row UnknownGuard = (41, codes "unknown guard")
+code_row WrongOperands = (42, codes "wrong operands")
+code_row UnboundContext = (43, codes "unbound context")
+code_row RuleTooLarge = (44, codes "rule too large")
+code_row ContextInTwoForms = (45, codes "context in two forms")
+code_row TypedContextNotHeld = (46, codes "typed context not held")
+code_row ProcessTooLarge = (50, codes "process too large")
+
+-- the number of a code
+abbrev pub code_number : Code → ℕ
+code_number code = (code_row code).0
+
+-- the words of a code
+abbrev pub code_words : Code → List ℕ
+code_words code = (code_row code).1
+
+-- all codes: the law `CodesAreNumbered` says that none is missing
+abbrev pub all_codes : List Code
+all_codes =
+    TextTooLong ∷ BadByte ∷ NotClosed ∷ IntegerOutOfRange ∷ NameTooLong ∷ FloatingPoint ∷ StringLiteral ∷ InlineCode ∷ Hyperlink
+    ∷ UnexpectedToken ∷ NestingTooDeep ∷ TooManyArguments ∷ LinkOnce ∷ LinkTooOften ∷ LinkOnceInRule ∷ LinkTooOftenInRule
+    ∷ ContextOutsideHeadMembrane ∷ TwoContextsInMembrane ∷ ContextTwiceInHead ∷ ContextNotOnceInBody ∷ ContextNotInHead
+    ∷ RuleContextOutsideHeadMembrane ∷ RuleInHead ∷ ConnectorInHead ∷ EmptyHead ∷ ContextOutsideRule ∷ ContextWithoutType ∷ UnknownGuard
+    ∷ WrongOperands ∷ UnboundContext ∷ RuleTooLarge ∷ ContextInTwoForms ∷ TypedContextNotHeld ∷ ProcessTooLarge ∷ []
+
+-- the first of some codes that has a number
+abbrev pub first_numbered : ℕ → List Code → Option Code
+first_numbered n [] = None
+first_numbered n (code ∷ others) = if n == code_number code then Some code else first_numbered n others
+
+-- the code with a number
+abbrev pub code_of : ℕ → Option Code
+code_of n = first_numbered n all_codes
+
+-- a code that refuses a text
+abbrev pub IsCode : ℕ → Type 0
+IsCode code = IsSome (code_of code)
+
+-- the words of a code, where there is one
+abbrev pub words_or_none : Option Code → List ℕ
+words_or_none (Some code) = code_words code
+words_or_none None = []
+
+-- the words of a number
+abbrev pub words_of_number : ℕ → List ℕ
+words_of_number n = words_or_none (code_of n)
+
+-- a code is the one that has its number
+abbrev pub CodesAreNumbered : Type 0
+CodesAreNumbered = (code : Code) → code_of (code_number code) ≡ Some code
+
+-- and a number without a code is that of none
+abbrev pub NumbersAreOfCodes : Type 0
+NumbersAreOfCodes = (number : ℕ) (code : Code) → code_of number ≡ Some code → number ≡ code_number code

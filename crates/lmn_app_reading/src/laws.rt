@@ -1,0 +1,32 @@
+//! The laws of reading: a text is accepted, or it is refused, and in one way.
+
+ghost use Rattle.lmn_app_reading.specs.Codes.{CodesAreNumbered, NumbersAreOfCodes};
+ghost use Rattle.lmn_app_reading.specs.Laws.{ReadingAcceptsOrRefuses, OneAcceptance, ReadingRefusesOnce, PlainsAreNamed, RefusalsHaveCodes, RefusedTextNotAccepted};
+
+/// A text is accepted, or it is refused.
+pub fn texts_are_accepted_or_refused()
+    ensures { ReadingAcceptsOrRefuses }
+{}
+
+/// A text that is refused isn't accepted, and it has one refusal at most.
+pub fn refusals_are_one()
+    ensures accepted { RefusedTextNotAccepted }
+    ensures one { ReadingRefusesOnce }
+{}
+
+/// A text is accepted in one way at most, but for the addresses of boxes in conditions.
+pub fn acceptances_are_one()
+    ensures { OneAcceptance }
+{}
+
+/// A code is the one that has its number, and a text is refused by a code of the table.
+pub fn codes_have_numbers()
+    ensures code { CodesAreNumbered }
+    ensures number { NumbersAreOfCodes }
+    ensures refusal { RefusalsHaveCodes }
+{}
+
+/// The plain of a text has only names of the list that reading leaves.
+pub fn plains_are_named()
+    ensures { PlainsAreNamed }
+{}

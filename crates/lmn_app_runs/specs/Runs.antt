@@ -1,0 +1,106 @@
+-- What a run is, by what it prints: in the calculus, and by the strategy.
+use Rattle.std.specs.Prelude.{ℕ, ◌≡◌, ◌+◌, ◌<◌, ◌≤◌, List, [], ◌∷◌, ◌++◌, Bool, true, false, if◌then◌else◌, codes, decimal}
+use Rattle.std.specs.List.{concat}
+use Rattle.lmn_base.specs.declared.rule.Plain.{Plain}
+use Rattle.lmn_congruence.specs.Process.{Process, Closed}
+use Rattle.lmn_congruence.specs.Regions.{Region}
+use Rattle.lmn_congruence.specs.Rules.{Name}
+use Rattle.lmn_congruence.specs.Translation.{plain_process}
+use Rattle.lmn_flatten_plain.specs.Plains.{EachPair}
+use Rattle.lmn_flatten_plain.specs.Texts.{IsPlainOfText}
+use Rattle.lmn_print_folded.specs.Lines.{IsLine}
+use Rattle.lmn_print_folded_laws.specs.ReadBack.{IsFoldedLineOf}
+use Rattle.lmn_reduction.specs.Chains.{Commits}
+use Rattle.lmn_reduction.specs.Commits.{Commit, Irreducible}
+use Rattle.lmn_adequacy.specs.Runs.{Chooser, End, irreducible, budget_done, full, Ends}
+
+-- ---- why a run stops
+
+-- its trace has come to an end, or memory was wanting where it goes on
+pub data Stop : Type 0 where
+  at_end : End → Stop
+  no_memory : Stop
+
+-- the word of the end line
+abbrev pub end_word : End → List ℕ
+end_word irreducible = codes "irreducible"
+end_word budget_done = codes "budget"
+end_word full = codes "full"
+
+-- the word of the end line, also where memory was wanting
+abbrev pub word_of_stop : Stop → List ℕ
+word_of_stop (at_end e) = end_word e
+word_of_stop no_memory = codes "no memory"
+
+-- the end line: a word, and how many commits were done
+abbrev pub end_line : List ℕ → ℕ → List ℕ
+end_line word commits = concat (codes "% " ∷ word ∷ codes " after " ∷ decimal commits ∷ codes "\n" ∷ [])
+
+-- How a run stops at a process after n commits. With the word irreducible the process is so, and with each other word it isn't.
+abbrev pub StopsBy : ℕ → Stop → ℕ → Process → Type 0
+StopsBy budget (at_end irreducible) n P = (n ≤ budget) × Irreducible P
+StopsBy budget (at_end budget_done) n P = (n ≡ budget) × ¬ (Irreducible P)
+StopsBy budget (at_end full) n P = (n < budget) × ¬ (Irreducible P)
+StopsBy budget no_memory n P = (n < budget) × ¬ (Irreducible P)
+
+-- ---- what is printed, in the calculus
+
+-- P is the process of this line, and it is closed. The line reads, where no limit is asked, as a text with this plain, by a list of
+-- names.
+pub record IsLineOf (names : List Name) (P : Process) (line : List ℕ) : Type 0 where
+  pub plain : Plain
+  pub reads : IsPlainOfText line names plain
+  pub process : P ≡ plain_process names plain
+  pub closed : Closed P
+
+-- The line of a process, in the folded form where that is asked, and else in the plain one. The process of a folded line is P up to
+-- congruence: the atoms of a membrane may stand in another order in it, and its links have other numbers.
+abbrev pub IsProcessLine : Bool → List Name → Process → List ℕ → Type 0
+IsProcessLine true = IsFoldedLineOf
+IsProcessLine false = IsLineOf
+
+-- The lines of processes from P on, and the last process. Each next one comes from the one before it by one commit; n commits in all.
+pub data AllLines (folded : Bool) (names : List Name) (P : Process) : ℕ → Process → List (List ℕ) → Type 0 where
+  first_line : (line : List ℕ) → IsProcessLine folded names P line → AllLines folded names P 0 P (line ∷ [])
+  next_line : {n : ℕ} {Q R : Process} {lines : List (List ℕ)} (line : List ℕ) →
+      AllLines folded names P n Q lines → Commit Q R → IsProcessLine folded names R line → AllLines folded names P (n + 1) R (lines ++ line ∷ [])
+
+-- The line of the last process alone, to which a chain of n commits leads from P.
+pub record LastLine (folded : Bool) (names : List Name) (P : Process) (n : ℕ) (Q : Process) (lines : List (List ℕ)) : Type 0 where
+  pub commits : Commits n P Q
+  pub line : List ℕ
+  pub alone : lines ≡ line ∷ []
+  pub of : IsProcessLine folded names Q line
+
+-- with a trace all lines, and without one the last
+abbrev pub Prints : (trace folded : Bool) → List Name → Process → ℕ → Process → List (List ℕ) → Type 0
+Prints true folded = AllLines folded
+Prints false folded = LastLine folded
+
+-- ---- which of these is printed, by the strategy
+
+-- the solids that are printed: with a trace all, and without one the last
+abbrev pub printed_solids : Bool → List Region → Region → List Region
+printed_solids trace before last = if trace then before ++ last ∷ [] else last ∷ []
+
+-- the lines of solids, one for each
+abbrev pub LinesOf : Bool → List Region → List (List ℕ) → Type 0
+LinesOf folded = EachPair (IsLine folded)
+
+-- What a run is given: whether all lines are printed, and in the folded form, the most commits, the most items, and which membrane is
+-- asked first.
+pub record Given : Type 0 where
+  pub trace : Bool
+  pub folded : Bool
+  pub budget : ℕ
+  pub size : ℕ
+  pub chooser : Chooser
+
+-- the lines that are printed of a trace
+abbrev pub PrintedLines : Given → List Region → Region → List (List ℕ) → Type 0
+PrintedLines g before last = LinesOf g.folded (printed_solids g.trace before last)
+
+-- how the trace stops after its last solid, n commits done
+abbrev pub StopsSo : Given → ℕ → Region → Stop → Type 0
+StopsSo g n S (at_end e) = Ends g.chooser g.budget g.size n S e
+StopsSo g n S no_memory = (e : End) → ¬ (Ends g.chooser g.budget g.size n S e)

@@ -1,0 +1,200 @@
+//! Words of the form as `clap` reads them.
+ghost use Rattle.std.specs.Prelude.{◌≡◌, ◌↔◌, IfOk, false, IfSome, IsSome, OnErr, Some, option_and_then, option_map, unwrap_or};
+ghost use Rattle.clap.specs.Words.{found_of, rows_of, rule_of, subcommand_rows_of};
+ghost use Rattle.lmn_app_words.specs.Forms.{Asks, InForm, IsInRanges, Pair, Request, Run, request_of, run_of, to_pair};
+ghost use Rattle.lmn_app_words.specs.Hearing.{number_written, order_named};
+ghost use Rattle.lmn_app_words.specs.Parsing.{FoundIsRequest, IsLineOfCommand, Tells, compile_line, demo_line, flag_rule, option_rule, pair_line, required_rule, run_line, whole_line};
+
+use crate::command::{Command, PairKind, RunWords};
+use crate::reading::in_form;
+use crate::setting::{OrderName, number};
+use clap::error::ErrorKind;
+use clap::{Arg, ArgAction, ArgMatches};
+use std::alloc::{AllocError, Global};
+
+/// The budget where none is given.
+const BUDGET: u64 = 1_000_000;
+
+/// The size where none is given.
+const SIZE: u64 = 16_777_216;
+
+impl Command<'_> {
+    /// What the words of the command line ask for; `None` where they aren't of the form. Memory is taken for words of
+    /// the form alone.
+    /// No function `command` stands beside the enum, whose name would differ in case alone. Help, version and the
+    /// program's name are switched off in `clap`, since no word of the form asks for them; defaults stand in the
+    /// code.
+    pub fn from_words<'w>(
+        alloc: Global,
+        words: &'w [String],
+    ) -> Result<Option<Command<'w>>, AllocError>
+        ensures form { IfOk result (λ command. IsSome command ↔ InForm words.now) }
+        ensures memory { OnErr result (InForm words.now) }
+        ensures asks { IfOk result (λ found. IfSome found (λ command. Asks words.now (request_of command))) }
+        ensures ranges { IfOk result (λ found. IfSome found (λ command. IsInRanges (request_of command))) }
+    {
+        if !in_form(words) {
+            return Ok(None);
+        }
+        let matches = matches_of(alloc, words)?;
+        Ok(command_of(&matches))
+    }
+}
+
+/// The matches of words of the form. Of the errors of `clap` only want of memory is met.
+fn matches_of<'w>(alloc: Global, words: &'w [String]) -> Result<ArgMatches<'w>, AllocError>
+    requires { InForm words.now }
+    ensures { IfOk result (λ matches. (request : Request) → Asks words.now request → FoundIsRequest (subcommand_rows_of matches) request) }
+{
+    match whole_line(alloc)?.try_get_matches_from(words) {
+        Ok(matches) => Ok(matches),
+        Err(error) => {
+            let kind = error.kind();
+            prove!(kind == ErrorKind::OutOfMemory);
+            Err(AllocError)
+        }
+    }
+}
+
+/// The whole command line.
+fn whole_line<'w>(alloc: Global) -> Result<clap::Command<'w>, AllocError>
+    ensures { IfOk result (λ line. IsLineOfCommand line whole_line) }
+{
+    clap::Command::new(alloc, "lmn")
+        .no_binary_name(true)
+        .disable_help_flag(true)
+        .disable_help_subcommand(true)
+        .subcommand_required(true)
+        .subcommand(run_line(alloc)?)?
+        .subcommand(compile_line(alloc)?)?
+        .subcommand(demo_line(alloc)?)?
+        .subcommand(pair_line(alloc, "check")?)?
+        .subcommand(pair_line(alloc, "debug")?)?
+        .subcommand(pair_line(alloc, "exec")?)?
+        .subcommand(pair_line(alloc, "bound")?)
+}
+
+/// The words of `run`.
+fn run_line<'w>(alloc: Global) -> Result<clap::Command<'w>, AllocError>
+    ensures { IfOk result (λ line. IsLineOfCommand line run_line) }
+{
+    clap::Command::new(alloc, "run")
+        .arg(required(alloc, "file"))?
+        .arg(flag(alloc, "trace"))?
+        .arg(flag(alloc, "folded"))?
+        .arg(option(alloc, "budget"))?
+        .arg(option(alloc, "size"))?
+        .arg(option(alloc, "order"))?
+        .arg(option(alloc, "seed"))
+}
+
+/// The words of `compile`.
+fn compile_line<'w>(alloc: Global) -> Result<clap::Command<'w>, AllocError>
+    ensures { IfOk result (λ line. IsLineOfCommand line compile_line) }
+{
+    clap::Command::new(alloc, "compile").arg(required(alloc, "file"))
+}
+
+/// The words of `demo`.
+fn demo_line<'w>(alloc: Global) -> Result<clap::Command<'w>, AllocError>
+    ensures { IfOk result (λ line. IsLineOfCommand line demo_line) }
+{
+    clap::Command::new(alloc, "demo").arg(required(alloc, "number"))
+}
+
+/// The words of a command with a program and a second text.
+fn pair_line<'w>(alloc: Global, name: &'w str) -> Result<clap::Command<'w>, AllocError>
+    ensures { IfOk result (λ line. IsLineOfCommand line (pair_line name.entry.now)) }
+{
+    clap::Command::new(alloc, name)
+        .arg(required(alloc, "first"))?
+        .arg(required(alloc, "last"))
+}
+
+/// A word that has to stand there.
+fn required<'w>(alloc: Global, name: &'w str) -> Arg<'w>
+    ensures rule { rule_of result ≡ required_rule name.entry.now }
+    ensures local { result.global ≡ false }
+{
+    Arg::new(alloc, name).required(true)
+}
+
+/// An option without a value.
+fn flag<'w>(alloc: Global, name: &'w str) -> Arg<'w>
+    ensures rule { rule_of result ≡ flag_rule name.entry.now }
+    ensures local { result.global ≡ false }
+{
+    Arg::new(alloc, name).long(name).action(ArgAction::SetTrue)
+}
+
+/// An option with a value.
+fn option<'w>(alloc: Global, name: &'w str) -> Arg<'w>
+    ensures rule { rule_of result ≡ option_rule name.entry.now }
+    ensures local { result.global ≡ false }
+{
+    Arg::new(alloc, name).long(name)
+}
+
+/// What matches ask for.
+fn command_of<'w>(matches: &ArgMatches<'w>) -> Option<Command<'w>>
+    ensures { (request : Request) → FoundIsRequest (subcommand_rows_of matches.now) request → option_map request_of result ≡ Some request }
+{
+    let (name, words) = matches.subcommand()?;
+    match name {
+        "run" => Some(Command::Run(run_words(words)?)),
+        "compile" => Some(Command::Compile(words.get_str("file")?)),
+        "demo" => Some(Command::Demo(number(words.get_str("number")?)?)),
+        other => pair_found(other, words),
+    }
+}
+
+/// What the matches of a command with a program and a second text ask for.
+fn pair_found<'w>(name: &str, words: &ArgMatches<'w>) -> Option<Command<'w>>
+    ensures { (pair : Pair) → FoundIsRequest (Some (name.now, rows_of (found_of words.now))) (to_pair pair) → option_map request_of result ≡ Some (to_pair pair) }
+{
+    let kind = PairKind::named(name)?;
+    let first = words.get_str("first")?;
+    let last = words.get_str("last")?;
+    Some(Command::Pair(kind.of_words(first, last)))
+}
+
+/// What the matches of `run` ask for.
+fn run_words<'w>(matches: &ArgMatches<'w>) -> Option<RunWords<'w>>
+    ensures { (run : Run) → Tells (rows_of (found_of matches.now)) run → option_map run_of result ≡ Some run }
+{
+    let file = matches.get_str("file")?;
+    let trace = matches.get_flag("trace");
+    let folded = matches.get_flag("folded");
+    let budget = number_or(matches.get_str("budget"), BUDGET);
+    let size = number_or(matches.get_str("size"), SIZE);
+    let seed = number_or(matches.get_str("seed"), 0);
+    let order = order_or_first(matches.get_str("order")).with_seed(seed);
+    Some(RunWords {
+        file,
+        trace,
+        folded,
+        budget,
+        size,
+        order,
+    })
+}
+
+/// The number that a word writes, or the default.
+fn number_or(word: Option<&str>, default: u64) -> u64
+    ensures { result ≡ unwrap_or (option_and_then number_written (option_map (λ text. text.now) word.entry)) default }
+{
+    match word {
+        Some(word) => number(word).unwrap_or(default),
+        None => default,
+    }
+}
+
+/// The order that a word names, or the first one.
+fn order_or_first(word: Option<&str>) -> OrderName
+    ensures { result ≡ unwrap_or (option_and_then order_named (option_map (λ text. text.now) word.entry)) OrderName.First }
+{
+    match word {
+        Some(word) => OrderName::named(word).unwrap_or(OrderName::First),
+        None => OrderName::First,
+    }
+}

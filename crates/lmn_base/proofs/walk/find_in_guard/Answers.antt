@@ -1,6 +1,0 @@
-use Rattle.lmn_base.specs.Items.{condition_items}
-use Rattle.lmn_base.proofs.ItemLemmas.{found_joined}
-use Rattle.lmn_base.proofs.walk.find_in_guard.Goals as goal
-
-pub returns : goal.returns
-returns g c = found_joined (g.Q.Question.places c.args.question.now) condition_items c.args.guard.now _ _ c.loop-condition-test.false c.loop-condition.invariant

@@ -1,6 +1,0 @@
-use Rattle.lmn_base.specs.Items.{used}
-use Rattle.lmn_base.proofs.FirstLemmas.{found_mapped}
-use Rattle.lmn_base.proofs.walk.in_contexts.Goals as goal
-
-pub returns : goal.returns
-returns g c = found_mapped (g.Q.Question.places c.args.question.now) (used c.args.form) c.args.contexts.now _ _ c.loop-context-test.false c.loop-context.invariant

@@ -1,8 +1,0 @@
-use Rattle.std.proofs.Common.{take}
-use Rattle.std.specs.List.{flat_map}
-use Rattle.lmn_base.specs.Firsts.{IsFound}
-use Rattle.lmn_base.specs.Items.{untyped}
-use Rattle.lmn_base.proofs.walk.in_untyped.Given as goal
-
-abbrev pub invariant-loop-context : goal.invariant-loop-context
-invariant-loop-context g l = IsFound (flat_map (λ x. g.Q.Question.places l.question (untyped x)) (take l.context-index l.contexts)) l.found

@@ -1,0 +1,2 @@
+pub mod RuleCodes
+pub mod LinkCodes

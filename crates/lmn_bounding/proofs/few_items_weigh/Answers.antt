@@ -1,5 +1,0 @@
-use Rattle.lmn_bounding.proofs.Sizes.{small_rules, small_top}
-use Rattle.lmn_bounding.proofs.few_items_weigh.Goals as goal
-
-pub returns : goal.returns
-returns c = record { tops = small_top; rules = small_rules }

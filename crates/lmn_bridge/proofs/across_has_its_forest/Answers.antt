@@ -1,5 +1,0 @@
-use Rattle.lmn_bridge.proofs.ExampleReadings.{across_has_its_forest}
-use Rattle.lmn_bridge.proofs.across_has_its_forest.Goals as goal
-
-pub returns : goal.returns
-returns c = across_has_its_forest

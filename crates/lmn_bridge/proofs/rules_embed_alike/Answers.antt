@@ -1,5 +1,0 @@
-use Rattle.lmn_bridge.proofs.WholeRules.{embeds_alike}
-use Rattle.lmn_bridge.proofs.rules_embed_alike.Goals as goal
-
-pub returns : goal.returns
-returns c = embeds_alike

@@ -1,8 +1,0 @@
-use Rattle.std.proofs.Common.{◌≡◌}
-use denote.RawPtr.{block_of}
-use Rattle.lmn_cells.specs.Rows.{with_items}
-use Rattle.lmn_cells.specs.Fillings.{ports_filled}
-use Rattle.lmn_cells.proofs.filling.fill_from.Given as goal
-
-abbrev pub invariant-loop-j : goal.invariant-loop-j
-invariant-loop-j l = l.rows.rows ≡ with_items (block_of l.at) (ports_filled l.ports l.j) l.fn.rows.rows

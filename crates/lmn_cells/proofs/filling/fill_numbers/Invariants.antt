@@ -1,6 +1,0 @@
-use denote.RawPtr.{block_of}
-use Rattle.lmn_cells.proofs.FillLemmas.{NumbersDone}
-use Rattle.lmn_cells.proofs.filling.fill_numbers.Given as goal
-
-abbrev pub invariant-loop-k : goal.invariant-loop-k
-invariant-loop-k l = NumbersDone l.fn.rows.rows l.rows.rows (block_of l.at) l.ports l.k

@@ -1,8 +1,0 @@
--- Words of private functions: a row that becomes a cell.
-use Rattle.std.specs.Prelude.{ℕ, ◌-◌, ◌*◌, List, ◌++◌, replicate}
-use Rattle.lmn_cells.specs.Rows.{Item, blank}
-use Rattle.lmn_cells.specs.Cells.{blank_links, blank_numbers, blank_ports}
-
--- the words of a cell with so many ports, of which so many are written: links, numbers and the first ports
-abbrev pub ports_filled : ℕ → ℕ → List Item
-ports_filled ports j = blank_links 8 ++ (blank_numbers 8 ++ (blank_ports j ++ replicate ((ports - j) * 3) blank))

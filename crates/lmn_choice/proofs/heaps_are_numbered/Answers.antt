@@ -1,5 +1,0 @@
-use Rattle.lmn_choice.proofs.Renumbering as renumbering
-use Rattle.lmn_choice.proofs.heaps_are_numbered.Goals as goal
-
-pub returns : goal.returns
-returns c = renumbering.heaps_are_numbered c.numbering_is_one.ensures.exists

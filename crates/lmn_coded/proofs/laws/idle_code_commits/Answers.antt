@@ -1,5 +1,0 @@
-use Rattle.lmn_coded.proofs.Small.{idle_code_commits}
-use Rattle.lmn_coded.proofs.laws.idle_code_commits.Goals as goal
-
-pub returns : goal.returns
-returns c = idle_code_commits

@@ -1,5 +1,0 @@
-use Rattle.lmn_coded.proofs.Small.{no_codes_can_turn}
-use Rattle.lmn_coded.proofs.laws.no_codes_can_turn.Goals as goal
-
-pub returns : goal.returns
-returns c = no_codes_can_turn

@@ -1,5 +1,0 @@
-use Rattle.lmn_coded.proofs.Compared.{run_examples}
-use Rattle.lmn_coded.proofs.laws.run_examples.Goals as goal
-
-pub returns : goal.returns
-returns c = run_examples c.verified_examples.ensures

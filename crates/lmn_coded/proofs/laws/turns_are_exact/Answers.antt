@@ -1,5 +1,0 @@
-use Rattle.lmn_coded.proofs.Exact.{turns_are_exact}
-use Rattle.lmn_coded.proofs.laws.turns_are_exact.Goals as goal
-
-pub returns : goal.returns
-returns c = turns_are_exact

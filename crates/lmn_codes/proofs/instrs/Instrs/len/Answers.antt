@@ -1,6 +1,0 @@
-use Rattle.std.proofs.Common.{length, ap, ◌∙◌}
-use Rattle.lmn_codes.proofs.Picking.{picked_length}
-use Rattle.lmn_codes.proofs.instrs.Instrs.len.Goals as goal
-
-pub returns-clause-len : goal.returns-clause-len
-returns-clause-len c = picked_length c.self.inside.pool.now c.self.inside.numbers.now c.self.invariant ∙ ap length c.self.view_is

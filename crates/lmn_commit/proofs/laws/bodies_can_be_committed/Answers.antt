@@ -1,5 +1,0 @@
-use Rattle.lmn_commit.proofs.Rules.{bodies_can_be_committed}
-use Rattle.lmn_commit.proofs.laws.bodies_can_be_committed.Goals as goal
-
-pub returns : goal.returns
-returns c = bodies_can_be_committed

@@ -1,7 +1,0 @@
-use Rattle.std.proofs.Common.{subst, sym}
-use Rattle.lmn_loading.specs.Loaded.{IsEmpty}
-use Rattle.lmn_debugging.proofs.NewStores.{alone_is_empty}
-use Rattle.lmn_debugging.proofs.beginning.Beginning.engine.Goals as goal
-
-pub load-requires-clause-store : goal.load-requires-clause-store
-load-requires-clause-store g c = subst IsEmpty (sym c.in_ok-store.ensures.heap) (alone_is_empty c.in_ok-store.store.posts.root)

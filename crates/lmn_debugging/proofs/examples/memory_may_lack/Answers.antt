@@ -1,5 +1,0 @@
-use Rattle.lmn_debugging.proofs.ExampleOrders.{memory_may_lack}
-use Rattle.lmn_debugging.proofs.examples.memory_may_lack.Goals as goal
-
-pub returns : goal.returns
-returns c = memory_may_lack c.steps_stop.ensures

@@ -1,5 +1,0 @@
-use Rattle.lmn_debugging.proofs.OneOutcome.{back_undoes_step}
-use Rattle.lmn_debugging.proofs.laws.back_undoes_step.Goals as goal
-
-pub returns : goal.returns
-returns c = back_undoes_step

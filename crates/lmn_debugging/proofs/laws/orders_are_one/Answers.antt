@@ -1,5 +1,0 @@
-use Rattle.lmn_debugging.proofs.OneOutcome.{orders_are_one}
-use Rattle.lmn_debugging.proofs.laws.orders_are_one.Goals as goal
-
-pub returns : goal.returns
-returns c = orders_are_one

@@ -1,5 +1,0 @@
-use Rattle.lmn_debugging.proofs.OneOutcome.{writing_is_one}
-use Rattle.lmn_debugging.proofs.laws.writing_is_one.Goals as goal
-
-pub returns : goal.returns
-returns c = writing_is_one

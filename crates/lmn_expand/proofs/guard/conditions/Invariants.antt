@@ -1,8 +1,0 @@
-use Rattle.std.proofs.Common.{take}
-use Rattle.lmn_parser.specs.Syntax.{conditions_of}
-use Rattle.lmn_plain.specs.Plains.{EachPair, IsCond}
-use Rattle.lmn_expand.specs.Glossaries.{Reading, IsGlossary}
-use Rattle.lmn_expand.proofs.guard.conditions.Given as goal
-
-abbrev pub invariant-loop-node : goal.invariant-loop-node
-invariant-loop-node l = (r : Reading) → IsGlossary r l.glossary → EachPair (IsCond r.words r.places r.names) (conditions_of (take l.node-index l.nodes)) l.conditions

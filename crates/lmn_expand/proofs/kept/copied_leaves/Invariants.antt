@@ -1,7 +1,0 @@
-use Rattle.std.proofs.Common.{◌≡◌, take, map}
-use Rattle.lmn_numbering.specs.Renumbered.{renumbered_leaf}
-use Rattle.lmn_expand.specs.Copies.{new_link}
-use Rattle.lmn_expand.proofs.kept.copied_leaves.Given as goal
-
-abbrev pub invariant-loop-leaf : goal.invariant-loop-leaf
-invariant-loop-leaf l = l.new ≡ map (renumbered_leaf (new_link l.links)) (take l.leaf-index l.leaves)

@@ -1,7 +1,0 @@
-use Rattle.std.proofs.Common.{◌≡◌, take, map}
-use Rattle.lmn_numbering.specs.Renumbered.{renumbered_occurrence}
-use Rattle.lmn_expand.specs.Copies.{new_link}
-use Rattle.lmn_expand.proofs.kept.copied_links.Given as goal
-
-abbrev pub invariant-loop-occ : goal.invariant-loop-occ
-invariant-loop-occ l = l.new ≡ map (renumbered_occurrence (new_link l.links)) (take l.occ-index l.old)

@@ -1,5 +1,0 @@
-use Rattle.lmn_bridge.proofs.OutOf.{index_in}
-use Rattle.lmn_fire.proofs.atoms.add_atoms.Goals as goal
-
-pub add_atom-requires-clause-atom : goal.add_atom-requires-clause-atom
-add_atom-requires-clause-atom c = c.requires.numbers _ (index_in c.args.numbers.now c.loop-atom.atom-index c.loop-atom-test.true)

@@ -1,6 +1,0 @@
-use Rattle.std.proofs.Common.{◌≡◌, drop}
-use Rattle.lmn_parts.specs.Walks.{is_in}
-use Rattle.lmn_fire.proofs.atoms.has.Given as goal
-
-abbrev pub invariant-loop-other : goal.invariant-loop-other
-invariant-loop-other l = is_in (drop l.other-index l.numbers) l.number ≡ is_in l.numbers l.number

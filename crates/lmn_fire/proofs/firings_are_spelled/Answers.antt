@@ -1,5 +1,0 @@
-use Rattle.lmn_fire.proofs.SpelledLaw as law
-use Rattle.lmn_fire.proofs.firings_are_spelled.Goals as goal
-
-pub returns : goal.returns
-returns c = law.firings_are_spelled

@@ -1,9 +1,0 @@
-use Rattle.std.proofs.Common.{◌≡◌, drop}
-use Rattle.lmn_fire.specs.Making.{integer_atoms}
-use Rattle.lmn_fire.proofs.leaves.add_integer.Given as goal
-
-abbrev pub invariant-loop-other : goal.invariant-loop-other
-invariant-loop-other l = record {
-  left : integer_atoms (drop l.other-index l.integers) l.name l.link ≡ integer_atoms l.integers l.name l.link;
-  same : l.atoms ≡ l.fn.atoms;
-}

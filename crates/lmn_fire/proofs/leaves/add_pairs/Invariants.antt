@@ -1,6 +1,0 @@
-use Rattle.std.proofs.Common.{◌≡◌, ◌++◌, drop}
-use Rattle.lmn_fire.specs.Making.{pairs_of}
-use Rattle.lmn_fire.proofs.leaves.add_pairs.Given as goal
-
-abbrev pub invariant-loop-leaf : goal.invariant-loop-leaf
-invariant-loop-leaf l = l.connectors ++ pairs_of l.taken (drop l.leaf-index l.leaves) ≡ l.fn.connectors ++ pairs_of l.taken l.leaves

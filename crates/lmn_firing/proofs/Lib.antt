@@ -1,4 +1,0 @@
-pub mod Laws
-pub mod Accepted
-pub mod Bound
-mod BoundExamples

@@ -1,5 +1,0 @@
-use Rattle.lmn_firing.proofs.BoundExamples.{binds_from_left}
-use Rattle.lmn_firing.proofs.guards_bind_from_left.Goals as goal
-
-pub returns : goal.returns
-returns c = binds_from_left

@@ -1,5 +1,0 @@
-use Rattle.lmn_flat.proofs.ExampleTables.{across_has_its_tables}
-use Rattle.lmn_flat.proofs.examples.across_has_its_tables.Goals as goal
-
-pub returns : goal.returns
-returns c = across_has_its_tables

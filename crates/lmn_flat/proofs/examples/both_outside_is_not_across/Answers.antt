@@ -1,5 +1,0 @@
-use Rattle.lmn_flat.proofs.ExampleTables.{both_outside_is_not_across}
-use Rattle.lmn_flat.proofs.examples.both_outside_is_not_across.Goals as goal
-
-pub returns : goal.returns
-returns c = both_outside_is_not_across

@@ -1,5 +1,0 @@
-use Rattle.lmn_flat.proofs.Whole.{flats_have_their_solids}
-use Rattle.lmn_flat.proofs.laws.flats_have_their_solids.Goals as goal
-
-pub returns : goal.returns
-returns c = flats_have_their_solids

@@ -1,5 +1,0 @@
-use Rattle.lmn_folded_read.proofs.FoldedLines.{folded_lines_are_read}
-use Rattle.lmn_folded_read.proofs.laws.folded_lines_are_read.Goals as goal
-
-pub returns : goal.returns
-returns c = folded_lines_are_read

@@ -1,4 +1,0 @@
-//! Folded lines read as what was printed.
-#![tactic(auto)]
-
-pub mod laws;

@@ -1,5 +1,0 @@
-use Rattle.lmn_functors.proofs.NameOrder.{name_order_examples}
-use Rattle.lmn_functors.proofs.laws.name_order_examples.Goals as goal
-
-pub returns : goal.returns
-returns c = name_order_examples

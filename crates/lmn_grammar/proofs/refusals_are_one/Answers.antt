@@ -1,5 +1,0 @@
-use Rattle.lmn_grammar.proofs.Refusals.{one_refusal}
-use Rattle.lmn_grammar.proofs.refusals_are_one.Goals as goal
-
-pub returns : goal.returns
-returns c = one_refusal

@@ -1,5 +1,0 @@
-use Rattle.lmn_heap.proofs.none_inside_itself.Goals as goal
-use Rattle.lmn_heap.proofs.Heights.{valid_no_loop}
-
-pub returns : goal.returns
-returns c = valid_no_loop

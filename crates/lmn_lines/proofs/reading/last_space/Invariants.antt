@@ -1,9 +1,0 @@
-use Rattle.std.proofs.Common.{◌≤◌, length, drop}
-use Rattle.lmn_lines.specs.Lines.{HasNoSpace}
-use Rattle.lmn_lines.proofs.reading.last_space.Given as goal
-
-abbrev pub decreases-loop-at : goal.decreases-loop-at
-decreases-loop-at l = l.at
-
-abbrev pub invariant-loop-at : goal.invariant-loop-at
-invariant-loop-at l = (l.at ≤ length l.line) × HasNoSpace (drop l.at l.line)

@@ -1,0 +1,169 @@
+//! Does what the code of a body does, when all that it makes is made.
+ghost use Rattle.std.specs.Prelude.{◌≡◌, ◌<◌, ◌++◌, ℕ, List, Some, length, map, slice_get};
+ghost use Rattle.lmn_solid_bodies.specs.Running.{Registers, DoesAll, Does, all_placed, old_port, new_port};
+ghost use Rattle.lmn_store_heap.specs.Heap.{IsMemInPlace, port_id, Unmarked};
+ghost use Rattle.lmn_solid_bodies.specs.Conditions.{Can};
+ghost use Rattle.lmn_machine_commit.specs.Registers.{AgreesWithCopies, HasCopies, HasRests};
+ghost use Rattle.lmn_machine_commit.specs.Preparing.{AllUse, Uses, UsesPort};
+ghost use Rattle.lmn_machine_commit.specs.Committing.{Runs, Stands};
+ghost use Rattle.lmn_machine_commit.specs.Matched.{IsPrepared};
+ghost use Rattle.lmn_store_heap.specs.Sound.{Valid};
+ghost use Rattle.lmn_machine_commit.specs.Waking.{Commits};
+
+use crate::splicing::{relink, unify};
+use crate::waking::wake;
+use lmn_ground::{drop_cells, place_cells, take_part};
+use lmn_instr_code::{AtomPort, Instr, NewPort};
+use lmn_instr_pool::Body;
+use lmn_machine_registers::SetRegisters;
+use lmn_store_trait::LinkStore;
+
+/// A port of the atom in a register.
+fn port_of<A: Copy, M: Copy>(set: &SetRegisters<A, M>, port: AtomPort) -> (A, u8)
+    requires { port.atom < length set.now.atoms }
+    ensures { (id : A → ℕ) (membrane : M → ℕ) (r : Registers) → AgreesWithCopies id membrane set.now r → old_port r port ≡ port_id id result }
+{
+    (set.atoms.at(port.atom as usize), port.port)
+}
+
+/// A port of a made atom.
+fn made_port<A: Copy, M: Copy>(set: &SetRegisters<A, M>, port: NewPort) -> (A, u8)
+    requires { UsesPort (length set.now.atoms) (length set.now.copies) port }
+    ensures { (id : A → ℕ) (membrane : M → ℕ) (r : Registers) → AgreesWithCopies id membrane set.now r → new_port r port ≡ port_id id result }
+{
+    match port {
+        NewPort::Atom(p) => port_of(set, p),
+        NewPort::Copy(copy) => set.copies.at(copy as usize).root,
+    }
+}
+
+/// The first atoms that wait go to a membrane, so many of them.
+fn place_atoms<S: LinkStore>(store: &mut S, count: u64, m: S::Mem)
+    requires membrane { IsMemInPlace (S.heap store.old) (S.mem_id m) }
+    requires waiting { (atoms rest : List ℕ) × (length atoms ≡ count) × ((S.heap store.old).new_atoms ≡ atoms ++ rest) }
+    ensures { (atoms rest : List ℕ) → length atoms ≡ count → (S.heap store.old).new_atoms ≡ atoms ++ rest →
+        S.heap store.new ≡ all_placed (S.heap store.old) (map (λ a. (S.mem_id m, a)) atoms) }
+{
+    for i in 0..count {
+        let _atom = store.place_atom(m);
+    }
+}
+
+/// Does what an instruction does.
+fn run<S: LinkStore>(store: &mut S, instr: &Instr, set: &SetRegisters<S::Atom, S::Mem>)
+    requires unmarked { Unmarked (S.heap store.old) }
+    requires uses { Uses (length set.now.atoms) (length set.now.membranes) (length set.now.parts) (length set.now.copies) instr.now }
+    requires can { (r : Registers) × AgreesWithCopies S.atom_id S.mem_id set.now r × Can r instr.now (S.heap store.old) × Stands r instr.now (S.heap store.old) }
+    ensures { (r : Registers) → AgreesWithCopies S.atom_id S.mem_id set.now r → Can r instr.now (S.heap store.old) → Does r instr.now (S.heap store.old) (S.heap store.new) }
+{
+    let _root = store.root();
+    match instr {
+        Instr::RemoveAtom { atom } => store.take_atom(set.atoms.at(*atom as usize)),
+        Instr::RemovePart { part } => take_part(store, set.parts.at(*part as usize)),
+        Instr::RemoveMem { membrane } => store.take_mem(set.membranes.at(*membrane as usize)),
+        Instr::NewAtom { membrane, .. } => {
+            let _atom = store.place_atom(set.membranes.at(*membrane as usize));
+        }
+        Instr::NewInt { membrane, .. } => {
+            let _atom = store.place_atom(set.membranes.at(*membrane as usize));
+        }
+        Instr::NewMem { inside, .. } => {
+            let _membrane = store.place_mem(set.membranes.at(*inside as usize));
+        }
+        Instr::CopyGround { copy, membrane, .. } => {
+            let atoms = set.copies.at(*copy as usize).atoms;
+            place_atoms(store, atoms, set.membranes.at(*membrane as usize));
+        }
+        Instr::MoveCells { from, to } => {
+            store.move_all(
+                set.membranes.at(*from as usize),
+                set.membranes.at(*to as usize),
+            );
+        }
+        Instr::CopyCells { from, to } => {
+            place_cells(
+                store,
+                set.membranes.at(*from as usize),
+                set.membranes.at(*to as usize),
+            );
+        }
+        Instr::DropCells { membrane } => drop_cells(store, set.membranes.at(*membrane as usize)),
+        Instr::LoadRule { membrane, rule } => {
+            store.add_rule(set.membranes.at(*membrane as usize), *rule);
+        }
+        Instr::CopyRules { from, to } => {
+            store.copy_rules(
+                set.membranes.at(*from as usize),
+                set.membranes.at(*to as usize),
+            );
+        }
+        Instr::NewLink { port, other } => {
+            let p = made_port(set, *port);
+            let q = made_port(set, *other);
+            store.join(p.0, p.1, q.0, q.1);
+        }
+        Instr::Relink { port, to } => {
+            let p = made_port(set, *port);
+            let q = port_of(set, *to);
+            relink(store, p, q);
+        }
+        Instr::Unify { port, other } => {
+            let p = port_of(set, *port);
+            let q = port_of(set, *other);
+            unify(store, p, q);
+        }
+        Instr::Proceed => store.finish(),
+        _ => unreachable!(),
+    }
+}
+
+/// The instruction at a place.
+#[inline(always)]
+fn at(code: &[Instr], i: usize) -> &Instr
+    requires { i < length code.now }
+    ensures { slice_get code.now i ≡ Some result.now }
+{
+    &code[i]
+}
+
+/// Does what code does, one instruction after the other.
+#[inline(always)]
+fn run_each<S: LinkStore>(store: &mut S, code: &[Instr], set: &SetRegisters<S::Atom, S::Mem>)
+    requires unmarked { Unmarked (S.heap store.old) }
+    requires uses { AllUse (length set.now.atoms) (length set.now.membranes) (length set.now.parts) (length set.now.copies) code.now }
+    requires runs { (r : Registers) × AgreesWithCopies S.atom_id S.mem_id set.now r × Runs r code.now (S.heap store.old) }
+    ensures commits { (r : Registers) → AgreesWithCopies S.atom_id S.mem_id set.now r → Runs r code.now (S.heap store.old) → DoesAll r code.now (S.heap store.old) (S.heap store.new) }
+    ensures unmarked { Unmarked (S.heap store.new) }
+{
+    for i in 0..code.len() {
+        run(store, at(code, i), set);
+    }
+}
+
+/// Does what code does.
+fn run_all<S: LinkStore>(store: &mut S, code: &Body<'_>, set: &SetRegisters<S::Atom, S::Mem>)
+    requires unmarked { Unmarked (S.heap store.old) }
+    requires uses { AllUse (length set.now.atoms) (length set.now.membranes) (length set.now.parts) (length set.now.copies) code.now }
+    requires runs { (r : Registers) × AgreesWithCopies S.atom_id S.mem_id set.now r × Runs r code.now (S.heap store.old) }
+    ensures commits { (r : Registers) → AgreesWithCopies S.atom_id S.mem_id set.now r → Runs r code.now (S.heap store.old) → DoesAll r code.now (S.heap store.old) (S.heap store.new) }
+    ensures unmarked { Unmarked (S.heap store.new) }
+{
+    run_each(store, code.as_slice(), set);
+}
+
+/// Does what code does, after it was matched and prepared: a rule is fired. The code may be that of a rule or not; what is
+/// asked of it is that its instructions can be run one after the other and leave a valid store. It takes no memory and can't
+/// fail, and leaves a valid store in which every mark of an atom is 0. What the code rouses is awake then, with all that is round
+/// it, and each other membrane keeps its mark.
+pub fn commit<S: LinkStore>(store: &mut S, code: &Body<'_>, set: &SetRegisters<S::Atom, S::Mem>)
+    requires { IsPrepared S.atom_id S.mem_id (S.heap store.old) set.now code.now }
+    ensures fires { (p : IsPrepared S.atom_id S.mem_id (S.heap store.old) set.now code.now) (r : Registers) → AgreesWithCopies S.atom_id S.mem_id set.now r → HasCopies r p.prepared.copied → HasRests S.atom_id S.mem_id p.before p.matched_by r →
+        Commits p.before r code.now (S.heap store.new) }
+    ensures valid { Valid (S.heap store.new) }
+    ensures unmarked { Unmarked (S.heap store.new) }
+{
+    let _before = store.root();
+    wake(store, code, set);
+    run_all(store, code, set);
+    let _after = store.root();
+}

@@ -1,0 +1,20 @@
+//! Laws of the code of bodies.
+ghost use Rattle.lmn_machine_commit.specs.Matched.{BodiesCanBeCommitted};
+ghost use Rattle.lmn_machine_commit.specs.Orders.{BodiesAreInOrder};
+ghost use Rattle.lmn_machine_commit.specs.Touching.{RulesWakeTouched};
+
+/// The code of the body of a rule meets the condition of `prepare` on its registers.
+#[tactic(auto, using(crate::proofs::Ordering::bodies_are_in_order))]
+pub fn bodies_are_in_order()
+    ensures { BodiesAreInOrder }
+{}
+
+/// The code of the body of a rule can be committed wherever its head lies.
+pub fn bodies_can_be_committed()
+    ensures { BodiesCanBeCommitted }
+{}
+
+/// The code of the body of a rule that is committed wakes what the rule touches, and nothing else.
+pub fn rules_wake_touched()
+    ensures { RulesWakeTouched }
+{}

@@ -1,0 +1,11 @@
+pub mod GuardOrder
+pub mod Order
+pub mod Counted
+pub mod Accepted
+pub mod Totals
+pub mod Sums
+pub mod Codes
+pub mod Finite
+pub mod Existing
+pub mod Counting
+pub mod Laws

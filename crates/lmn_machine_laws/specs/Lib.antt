@@ -1,0 +1,2 @@
+pub mod AcceptedCode
+pub mod Laws

@@ -1,4 +1,0 @@
-mod Telling
-mod Walking
-mod Wiring
-mod Shown

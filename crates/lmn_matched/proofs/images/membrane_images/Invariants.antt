@@ -1,7 +1,0 @@
-use Rattle.std.proofs.Common.{◌≡◌, ◌++◌, drop, length}
-use Rattle.lmn_solid.specs.Heads.{membranes_of}
-use Rattle.lmn_matched.specs.Pieces.{images_from}
-use Rattle.lmn_matched.proofs.images.membrane_images.Given as goal
-
-abbrev pub invariant-loop-item : goal.invariant-loop-item
-invariant-loop-item l = l.membranes ++ images_from l.images (length l.membranes) (membranes_of (drop l.item-index l.items)) ≡ images_from l.images 0 (membranes_of l.items)

@@ -1,7 +1,0 @@
-use Rattle.std.proofs.Common.{◌≡◌, ◌++◌, drop}
-use Rattle.lmn_search.specs.Placing.{membrane_at}
-use Rattle.lmn_matched.specs.Pieces.{imaged}
-use Rattle.lmn_matched.proofs.names.images_of.Given as goal
-
-abbrev pub invariant-loop-entry : goal.invariant-loop-entry
-invariant-loop-entry l = l.images ++ imaged (membrane_at l.home l.membranes) l.names (drop l.entry-index l.names) ≡ imaged (membrane_at l.home l.membranes) l.names l.names

@@ -1,6 +1,0 @@
-use Rattle.std.proofs.Common.{◌≡◌, drop}
-use Rattle.lmn_body.specs.Flattening.{membrane_named}
-use Rattle.lmn_matched.proofs.names.number_of.Given as goal
-
-abbrev pub invariant-loop-entry : goal.invariant-loop-entry
-invariant-loop-entry l = membrane_named (drop l.entry-index l.names) l.name ≡ membrane_named l.names l.name

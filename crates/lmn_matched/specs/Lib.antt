@@ -1,3 +1,0 @@
-pub mod Matched
-pub mod Pieces
-pub mod Examples

@@ -1,5 +1,0 @@
-use Rattle.lmn_matching.proofs.Accepted.{in_order}
-use Rattle.lmn_matching.proofs.accepted_in_order.Goals as goal
-
-pub returns : goal.returns
-returns c = in_order c.accepted_heads.ensures

@@ -1,5 +1,0 @@
-use Rattle.lmn_matching.proofs.Accepted.{sets_items}
-use Rattle.lmn_matching.proofs.accepted_sets_items.Goals as goal
-
-pub returns : goal.returns
-returns c = sets_items c.accepted_heads.ensures

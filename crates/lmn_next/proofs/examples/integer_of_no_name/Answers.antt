@@ -1,5 +1,0 @@
-use Rattle.lmn_next.proofs.SearchExamples as examples
-use Rattle.lmn_next.proofs.examples.integer_of_no_name.Goals as goal
-
-pub returns : goal.returns
-returns c = examples.integer_of_no_name

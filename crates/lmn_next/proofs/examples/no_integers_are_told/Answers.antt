@@ -1,5 +1,0 @@
-use Rattle.lmn_next.proofs.SearchExamples as examples
-use Rattle.lmn_next.proofs.examples.no_integers_are_told.Goals as goal
-
-pub returns : goal.returns
-returns c = examples.no_integers_are_told

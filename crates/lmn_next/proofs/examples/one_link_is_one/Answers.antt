@@ -1,5 +1,0 @@
-use Rattle.lmn_next.proofs.SearchExamples as examples
-use Rattle.lmn_next.proofs.examples.one_link_is_one.Goals as goal
-
-pub returns : goal.returns
-returns c = examples.one_link_is_one

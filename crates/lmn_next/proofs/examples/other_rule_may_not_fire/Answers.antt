@@ -1,5 +1,0 @@
-use Rattle.lmn_next.proofs.SearchExamples as examples
-use Rattle.lmn_next.proofs.examples.other_rule_may_not_fire.Goals as goal
-
-pub returns : goal.returns
-returns c = examples.other_rule_may_not_fire

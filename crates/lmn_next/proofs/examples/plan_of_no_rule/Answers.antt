@@ -1,5 +1,0 @@
-use Rattle.lmn_next.proofs.SearchExamples as examples
-use Rattle.lmn_next.proofs.examples.plan_of_no_rule.Goals as goal
-
-pub returns : goal.returns
-returns c = examples.plan_of_no_rule

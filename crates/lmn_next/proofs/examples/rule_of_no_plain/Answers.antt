@@ -1,5 +1,0 @@
-use Rattle.lmn_next.proofs.SearchExamples as examples
-use Rattle.lmn_next.proofs.examples.rule_of_no_plain.Goals as goal
-
-pub returns : goal.returns
-returns c = examples.rule_of_no_plain

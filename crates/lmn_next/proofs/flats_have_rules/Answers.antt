@@ -1,5 +1,0 @@
-use Rattle.lmn_next.proofs.FlatRules as law
-use Rattle.lmn_next.proofs.flats_have_rules.Goals as goal
-
-pub returns : goal.returns
-returns c = law.flats_have_rules

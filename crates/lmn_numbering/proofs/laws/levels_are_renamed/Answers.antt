@@ -1,5 +1,0 @@
-use Rattle.lmn_numbering.proofs.Renamed.{renumbered_links, renumbered_twice}
-use Rattle.lmn_numbering.proofs.laws.levels_are_renamed.Goals as goal
-
-pub returns : goal.returns
-returns c = record { twice = renumbered_twice; links = renumbered_links }

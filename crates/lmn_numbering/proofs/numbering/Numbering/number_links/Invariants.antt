@@ -1,7 +1,0 @@
-use Rattle.std.proofs.Common.{[], ◌∷◌}
-use Rattle.lmn_numbering.specs.Renumbered.{renumbered_occurrence}
-use Rattle.lmn_numbering.proofs.LevelSteps.{Renumbers}
-use Rattle.lmn_numbering.proofs.numbering.Numbering.number_links.Given as goal
-
-abbrev pub invariant-loop-i : goal.invariant-loop-i
-invariant-loop-i l = Renumbers renumbered_occurrence (λ o. o.link ∷ []) l.initial.self l.self l.i l.initial.links l.links

@@ -1,5 +1,0 @@
-use Rattle.lmn_plain.proofs.ShortTexts.{short_text_reads}
-use Rattle.lmn_plain.proofs.laws.short_text_reads.Goals as goal
-
-pub returns : goal.returns
-returns c = short_text_reads

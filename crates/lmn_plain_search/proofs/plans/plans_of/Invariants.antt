@@ -1,7 +1,0 @@
-use Rattle.std.proofs.Common.{take}
-use Rattle.lmn_guards.specs.Plans.{IsPlan}
-use Rattle.lmn_plain.specs.Plains.{EachPair}
-use Rattle.lmn_plain_search.proofs.plans.plans_of.Given as goal
-
-abbrev pub invariant-loop-rule : goal.invariant-loop-rule
-invariant-loop-rule l = EachPair IsPlan (take l.rule-index l.rules) l.plans

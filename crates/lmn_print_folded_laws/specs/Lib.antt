@@ -1,0 +1,10 @@
+pub mod Spelled
+pub mod Apart
+pub mod Laws
+pub mod Reordered
+pub mod Whole
+pub mod Named
+pub mod Numbered
+pub mod Lines
+pub mod ReadBack
+pub mod Examples

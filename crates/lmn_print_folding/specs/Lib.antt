@@ -1,0 +1,10 @@
+pub mod Marks
+pub mod Events
+pub mod Printed
+pub mod Laws
+pub mod PrintedExamples
+pub mod Chosen
+pub mod Children
+pub mod MarkedExamples
+pub mod ToldExamples
+pub mod Marking

@@ -1,0 +1,52 @@
+-- How atoms are printed stands in their own marks: 1 and 2 for items, and another number for a term.
+use Rattle.std.specs.Prelude.{ℕ, suc, ◌≡◌, ◌<◌, ◌+◌, ◌-◌, ◌==◌, ◌&&◌, ◌||◌, not, Bool, true, false, if◌then◌else◌, List, [], ◌∷◌, Option, Some, None}
+use Rattle.lmn_store_heap.specs.Heap.{Heap, arity_of, link_of, own_mark}
+
+-- whether an atom is printed as an item
+abbrev pub is_item : Heap → ℕ → Bool
+is_item s a = (own_mark s a == 1) || (own_mark s a == 2)
+
+-- whether a port is the last of an atom that is printed as a term
+abbrev pub is_end_of_term : Heap → ℕ × ℕ → Bool
+is_end_of_term s p = (p.1 + 1 == arity_of s p.0) && not (is_item s p.0)
+
+abbrev pub term_by : Heap → Option (ℕ × ℕ) → Option ℕ
+term_by s None = None
+term_by s (Some p) = if is_end_of_term s p then Some p.0 else None
+
+-- the atom that is printed as a term at a port, if one is
+abbrev pub term_at : Heap → ℕ → ℕ → Option ℕ
+term_at s a i = term_by s (link_of s a i)
+
+-- how many arguments of an atom are printed: a term doesn't print its last
+abbrev pub argument_count : Heap → ℕ → ℕ
+argument_count s a = if is_item s a then arity_of s a else arity_of s a - 1
+
+-- What a walk over the arguments of an item and of the terms in it meets, in printed order: a port that is printed as a link,
+-- a port that is printed as a term, and the end of an atom's arguments.
+pub data Event : Type 0 where
+  meets_link : ℕ → ℕ → Event
+  meets_term : ℕ → ℕ → ℕ → Event
+  leaves : ℕ → Event
+
+-- From port i of the atom a on the walk meets these.
+pub data WalkMeets (s : Heap) : ℕ → ℕ → List Event → Type 0 where
+  link : {a i : ℕ} {es : List Event} → i < argument_count s a → term_at s a i ≡ None → WalkMeets s a (i + 1) es → WalkMeets s a i (meets_link a i ∷ es)
+  term : {a i : ℕ} {es : List Event} (c : ℕ) → i < argument_count s a → term_at s a i ≡ Some c → WalkMeets s c 0 es → WalkMeets s a i (meets_term a i c ∷ es)
+  end_of_term : {a i : ℕ} {es : List Event} (p j : ℕ) → i ≡ argument_count s a → is_item s a ≡ false → 0 < arity_of s a → link_of s a i ≡ Some (p, j)
+      → WalkMeets s p (j + 1) es → WalkMeets s a i (leaves a ∷ es)
+  end_of_item : {a i : ℕ} → i ≡ argument_count s a → is_item s a ≡ true → WalkMeets s a i (leaves a ∷ [])
+
+-- how often a walk turns into a term, or leaves an atom
+abbrev pub turns : List Event → ℕ
+turns [] = 0
+turns (meets_link a i ∷ es) = turns es
+turns (meets_term a i c ∷ es) = suc (turns es)
+turns (leaves a ∷ es) = suc (turns es)
+
+-- the links that are met, by the names of links at ports
+abbrev pub links_met : List Event → (ℕ → ℕ → ℕ) → List ℕ
+links_met [] name = []
+links_met (meets_link a i ∷ es) name = name a i ∷ links_met es name
+links_met (meets_term a i c ∷ es) name = links_met es name
+links_met (leaves a ∷ es) name = links_met es name

@@ -1,5 +1,0 @@
-use Rattle.lmn_printer.proofs.SolidShapes.{heap_solids_are_solids}
-use Rattle.lmn_printer.proofs.laws.heap_solids_are_solids.Goals as goal
-
-pub returns : goal.returns
-returns c = heap_solids_are_solids

@@ -1,9 +1,0 @@
-use Rattle.std.specs.Prelude.{codes, false}
-use Rattle.lmn_io.specs.Gathering.{output}
-use Rattle.lmn_plain.specs.Words.{link_name}
-use Rattle.lmn_printer.proofs.RowLemmas.{InRow}
-use Rattle.lmn_printer.proofs.leaves.add_links.Given as goal
-
-abbrev pub invariant-loop-link : goal.invariant-loop-link
-invariant-loop-link g l =
-    InRow (codes ", ") false (λ x. link_name x.link) l.links l.link-index l.any (output l.initial.buffer (g.O.Sink.told l.initial.out) (g.O.Sink.faults l.initial.out)) (output l.buffer (g.O.Sink.told l.out) (g.O.Sink.faults l.out))

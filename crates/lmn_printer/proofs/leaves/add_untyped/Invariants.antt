@@ -1,9 +1,0 @@
-use Rattle.std.specs.Prelude.{codes}
-use Rattle.lmn_io.specs.Gathering.{output}
-use Rattle.lmn_printer.specs.Parts.{untyped_text}
-use Rattle.lmn_printer.proofs.RowLemmas.{InRow}
-use Rattle.lmn_printer.proofs.leaves.add_untyped.Given as goal
-
-abbrev pub invariant-loop-use_ : goal.invariant-loop-use_
-invariant-loop-use_ g l =
-    InRow (codes ", ") l.before (untyped_text l.names) l.uses l.use_-index l.any (output l.initial.buffer (g.O.Sink.told l.initial.out) (g.O.Sink.faults l.initial.out)) (output l.buffer (g.O.Sink.told l.out) (g.O.Sink.faults l.out))

@@ -1,5 +1,0 @@
-use Rattle.lmn_reading.proofs.OneRead.{one_acceptance}
-use Rattle.lmn_reading.proofs.laws.acceptances_are_one.Goals as goal
-
-pub returns : goal.returns
-returns c = one_acceptance

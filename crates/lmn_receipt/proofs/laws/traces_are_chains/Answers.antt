@@ -1,5 +1,0 @@
-use Rattle.lmn_receipt.proofs.ChainLemmas as chains
-use Rattle.lmn_receipt.proofs.laws.traces_are_chains.Goals as goal
-
-pub returns : goal.returns
-returns c = chains.traces_are_chains

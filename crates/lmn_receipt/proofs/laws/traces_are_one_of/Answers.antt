@@ -1,5 +1,0 @@
-use Rattle.lmn_receipt.proofs.OneChain as one
-use Rattle.lmn_receipt.proofs.laws.traces_are_one_of.Goals as goal
-
-pub returns : goal.returns
-returns c = one.traces_are_one_of

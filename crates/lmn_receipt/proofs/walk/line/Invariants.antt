@@ -1,9 +1,0 @@
-use Rattle.std.proofs.Common.{◌-◌}
-use Rattle.lmn_receipt.proofs.WalkLemmas.{Tried}
-use Rattle.lmn_receipt.proofs.walk.line.Given as goal
-
-abbrev pub invariant-loop-from : goal.invariant-loop-from
-invariant-loop-from g l = Tried (g.N.NextSolids.region l.fn.solids l.fn.solid) l.fn.rest l.from
-
-abbrev pub decreases-loop-from : goal.decreases-loop-from
-decreases-loop-from g l = l.count - l.from

@@ -1,0 +1,61 @@
+-- What is a chain of `a.`, and what isn't.
+use Rattle.std.proofs.Common.{◌≡◌, ◌∙◌, ℕ, List, [], ◌++◌, codes, length, inl, inr, refl, ap, arith}
+use Rattle.std.specs.Fmt.{digits}
+use Rattle.lmn_congruence.specs.Regions.{Region, SolidAtom, no_region, region}
+use Rattle.lmn_adequacy.specs.Embedding.{EmbedsIn, HasEmbedding, embeds_below, embeds_here}
+use Rattle.lmn_app_runs.specs.Runs.{end_line}
+use Rattle.lmn_receipt_chain.specs.Chains.{BeginsChain, Continues, IsEndWord, begun, no_end_line, no_first_line, no_next_line}
+use Rattle.lmn_receipt_chain.specs.Examples.{Empty, MoreBehind, NoEnd, NoFiring, NothingFires, WrongWord, one_atom}
+
+inert : {path f : List ℕ} {k : ℕ} {xs : List SolidAtom} → EmbedsIn path k f (region xs no_region []) → ⊥
+inert (embeds_here k e) = elim k [ ]
+inert (embeds_below k e) = elim k [ ]
+
+-- nothing embeds in a solid without rules and membranes
+nothing_embeds_there : ¬ (HasEmbedding one_atom)
+nothing_embeds_there h = inert h.embeds
+
+-- and nothing continues it
+nothing_continues : (S' : Region) → Continues one_atom S' → ⊥
+nothing_continues S' c = let n = c.next in inert n.chosen.embeds
+
+begins_there : (rest : List ℕ) → BeginsChain one_atom (codes "a.\n" ++ rest) [] one_atom rest
+begins_there rest = record { solids = begun; is = refl }
+
+pub nothing_fires : NothingFires
+unfolding digits
+nothing_fires = record {
+  before = [];
+  last = one_atom;
+  word = codes "irreducible";
+  begins = begins_there (codes "% irreducible after 0\n");
+  ends = inl (refl, nothing_embeds_there);
+  count = refl;
+}
+
+-- the end line that is due is the one alone
+only_word : (word rest : List ℕ) → IsEndWord one_atom word → rest ≡ end_line word 0 → rest ≡ codes "% irreducible after 0\n"
+unfolding digits
+only_word word rest (inl h) is = is ∙ ap (λ w. end_line w 0) h.0
+only_word word rest (inr h) is = absurd (h.1 nothing_embeds_there)
+
+wrong_length : (rest : List ℕ) → (length rest ≡ 22 → ⊥) → (word : List ℕ) → IsEndWord one_atom word → rest ≡ end_line word 0 → ⊥
+wrong_length rest differs word h is = differs (ap length (only_word word rest h is))
+
+pub wrong_word : WrongWord
+wrong_word = no_end_line [] one_atom (codes "% budget after 0\n") (begins_there (codes "% budget after 0\n")) refl (wrong_length (codes "% budget after 0\n") (λ l. omega (arith, l))) refl
+
+pub no_end : NoEnd
+no_end = no_end_line [] one_atom [] (begins_there []) tt (wrong_length [] (λ l. omega (arith, l))) refl
+
+pub more_behind : MoreBehind
+more_behind =
+    no_end_line [] one_atom (codes "% irreducible after 0\n\n") (begins_there (codes "% irreducible after 0\n\n")) refl (wrong_length (codes "% irreducible after 0\n\n") (λ l. omega (arith, l))) refl
+
+pub no_firing : NoFiring
+no_firing =
+    let rest : List ℕ = codes "b.\n% irreducible after 1\n" in
+    no_next_line [] one_atom rest (begins_there rest) (λ e. omega (arith, e)) (λ S' more c is. nothing_continues S' c) refl
+
+pub empty : Empty
+empty = no_first_line (λ rest is. let short = ap length is in omega (arith, short)) refl

@@ -1,0 +1,181 @@
+-- How a trace is gone through.
+use Rattle.std.proofs.Common.{◌≡◌, ◌∙◌, ℕ, ◌+◌, ◌<◌, ◌≤◌, ◌⊎◌, ◌↔◌, Bool, true, false, ◌||◌, List, [], ◌∷◌, ◌++◌, codes, drop, length, map, inl, inr, refl, sym, ap, subst, arith, append_assoc, append-nil}
+use Rattle.std.specs.Prelude.{IsTrue}
+use Rattle.std.specs.List.{concat}
+use Rattle.std.proofs.lemmas.List.{drop-drop, length-drop}
+use Rattle.lmn_base.specs.declared.solid.Solid.{Solid}
+use Rattle.lmn_congruence.specs.Regions.{Region}
+use Rattle.lmn_adequacy.specs.Choice.{NextFrom, paths}
+use Rattle.lmn_adequacy.specs.Embedding.{HasEmbedding}
+use Rattle.lmn_adequacy.specs.Numbered.{IsNumbered}
+use Rattle.lmn_adequacy.proofs.Results.{one_choice, one_numbering}
+use Rattle.lmn_receipt_chain.specs.declared.walk.Step.TheVariants.{More}
+use Rattle.lmn_app_runs.specs.Runs.{end_line}
+use Rattle.lmn_receipt_chain.specs.Chains.{BeginsChain, Continues, IsChain, IsEndThere, IsEndWord, IsProcessThere, IsWrongTrace, at_line, begun, continued, no_first_line, no_end_line, line_of_solid, no_next_line}
+use Rattle.lmn_receipt_chain.specs.Laws.{IsAcceptedSolid}
+use Rattle.lmn_receipt_chain.specs.Steps.{IsOtherEnd, IsStep, NoEndIsDue, NothingFits}
+use Rattle.lmn_adequacy.proofs.Runs.{embeds_in, one_longer}
+use Rattle.lmn_receipt_chain.proofs.ChainLemmas.{accepted_of, sound_next}
+use Rattle.lmn_base.proofs.Numbers.{below_or_from as below_or}
+
+-- ---- lines
+
+pub lines_more : (xs : List Region) (y : Region) → concat (map line_of_solid (xs ++ y ∷ [])) ≡ concat (map line_of_solid xs) ++ line_of_solid y
+lines_more [] y = append-nil (line_of_solid y)
+lines_more (x ∷ xs) y =
+    ap (λ t. line_of_solid x ++ t) (lines_more xs y) ∙ sym (append_assoc (line_of_solid x) (concat (map line_of_solid xs)) (line_of_solid y))
+
+-- So far: the trace begins with the lines of n + 1 solids, of which this is the last, and their bytes are so many.
+pub record Stands (S : Region) (trace : List ℕ) (last : Region) (at n : ℕ) : Type 0 where
+  pub before : List Region
+  pub begins : BeginsChain S trace before last (drop at trace)
+  pub count : length before ≡ n
+  pub short : at ≤ length trace
+  pub fewer : n < at
+
+-- behind the first line
+pub stands_first : (S : Region) (trace : List ℕ) (len : ℕ) → 0 < len → len ≤ length trace → trace ≡ line_of_solid S ++ drop len trace → Stands S trace S len 0
+stands_first S trace len some short is = record {
+  before = [];
+  begins = record { solids = begun; is = is ∙ ap (λ t. t ++ drop len trace) (sym (append-nil (line_of_solid S))) };
+  count = refl;
+  short = short;
+  fewer = some;
+}
+
+-- and behind one more
+pub stands_more : (S : Region) (trace : List ℕ) (last next : Region) (at n len : ℕ) → Stands S trace last at n → Continues last next → 0 < len → len ≤ length (drop at trace)
+    → drop at trace ≡ line_of_solid next ++ drop len (drop at trace) → Stands S trace next (at + len) (n + 1)
+stands_more S trace last next at n len h c some short is =
+    let begins = h.begins in
+    let lines = concat (map line_of_solid (h.before ++ last ∷ [])) in
+    let rest = drop len (drop at trace) in
+    let far : rest ≡ drop (at + len) trace = drop-drop len at trace in
+    let left = length-drop at trace in
+    let P : List ℕ → Type 0 = λ r. trace ≡ concat (map line_of_solid ((h.before ++ last ∷ []) ++ next ∷ [])) ++ r in
+    record {
+      before = h.before ++ last ∷ [];
+      begins = record {
+        solids = continued begins.solids c;
+        is = subst P far (
+            begins.is ∙ ap (λ r. lines ++ r) is ∙ sym (append_assoc lines (line_of_solid next) rest)
+            ∙ ap (λ t. t ++ rest) (sym (lines_more (h.before ++ last ∷ []) next))
+            );
+      };
+      count = one_longer h.before last ∙ ap (λ k. k + 1) h.count;
+      short = omega (arith, short, left, h.short);
+      fewer = omega (arith, h.fewer, some);
+    }
+
+-- so far, and what is asked of a solid holds of the last one
+pub record Walked (region : Solid → Region) (asked : Solid → Type 0) (first solid : Solid) (trace : List ℕ) (at n : ℕ) : Type 0 where
+  pub fits : asked solid
+  pub sound : IsAcceptedSolid (region solid)
+  pub stands : Stands (region first) trace (region solid) at n
+
+-- behind the line of a solid that continues it
+pub walked_more : (region : Solid → Region) (fits : Solid → Type 0) (first solid : Solid) (trace rest : List ℕ) (at n m len : ℕ) (next : Solid) → Walked region fits first solid trace at n
+    → rest ≡ drop at trace → IsStep region fits (region solid) rest m (More next len) → Walked region fits first next trace (at + len) (n + 1)
+walked_more region fits first solid trace rest at n m len next w same h =
+    let k : IsStep region fits (region solid) (drop at trace) m (More next len) = subst (λ r. IsStep region fits (region solid) r m (More next len)) same h in
+    record { fits = k.0; sound = sound_next w.sound k.1; stands = stands_more (region first) trace (region solid) (region next) at n len w.stands k.1 k.2 k.3 k.4 }
+
+-- ---- what a step is for the whole trace
+
+-- behind the end line that is due, with nothing behind it, the trace is a chain
+pub chain_done : (S : Region) (trace : List ℕ) (last : Region) (at n : ℕ) → Stands S trace last at n → (word : List ℕ) × IsEndWord last word × (drop at trace ≡ end_line word n) → IsChain S trace n
+chain_done S trace last at n h (word, ends, is) =
+    let begins = h.begins in
+    record {
+      before = h.before;
+      last = last;
+      word = word;
+      begins = record { solids = begins.solids; is = begins.is ∙ ap (λ r. concat (map line_of_solid (h.before ++ last ∷ [])) ++ r) is };
+      ends = ends;
+      count = h.count;
+    }
+
+-- what is wrong: a first line that isn't that of the solid,
+pub wrong_first : (S : Region) (trace : List ℕ) → ((rest : List ℕ) → trace ≡ line_of_solid S ++ rest → ⊥) → IsWrongTrace S trace (at_line 61 1)
+wrong_first S trace none = no_first_line none refl
+
+-- a line of no solid that continues the last one,
+pub wrong_line : (S : Region) (trace : List ℕ) (last : Region) (at n : ℕ) → Stands S trace last at n → IsProcessThere (drop at trace) × NothingFits last (drop at trace) → IsWrongTrace S trace (at_line 61 (n + 2))
+wrong_line S trace last at n h k = no_next_line h.before last (drop at trace) h.begins k.0 k.1 (ap (λ m. at_line 61 (m + 2)) (sym h.count))
+
+-- and an end that isn't the one that is due
+pub wrong_end : (S : Region) (trace : List ℕ) (last : Region) (at n : ℕ) → Stands S trace last at n → IsEndThere (drop at trace) × NoEndIsDue last (drop at trace) n → IsWrongTrace S trace (at_line 62 (n + 2))
+wrong_end S trace last at n h k =
+    no_end_line h.before last (drop at trace) h.begins k.0 (λ word ends is. k.1 word ends (is ∙ ap (end_line word) h.count)) (ap (λ m. at_line 62 (m + 2)) (sym h.count))
+
+-- ---- candidates
+
+-- a solid has one next solid for each number
+pub one_next : (S : Region) → IsAcceptedSolid S → (k : ℕ) (A B : Region) → NextFrom k S A → IsNumbered A → NextFrom k S B → IsNumbered B → A ≡ B
+one_next S s k A B a i b j = one_numbering A B (one_choice k S A B s.closed (accepted_of S s) a b) i j
+
+-- no solid that is next from a number below this one has its line at the beginning of the rest
+abbrev pub Tried : Region → List ℕ → ℕ → Type 0
+Tried S rest from = (k : ℕ) → k < from → (S' : Region) (more : List ℕ) → NextFrom k S S' → IsNumbered S' → rest ≡ line_of_solid S' ++ more → ⊥
+
+-- none was tried,
+pub tried_none : (S : Region) (rest : List ℕ) → Tried S rest 0
+tried_none S rest k l = absurd (omega (arith, l))
+
+-- those up to the reach of one whose line isn't there have been tried with it,
+pub tried_more : (S : Region) (rest : List ℕ) (from reach : ℕ) (next : Region) → IsAcceptedSolid S → Tried S rest from → IsNumbered next
+    → ((k : ℕ) → from ≤ k → k ≤ reach → NextFrom k S next) → ((more : List ℕ) → rest ≡ line_of_solid next ++ more → ⊥) → Tried S rest (reach + 1)
+tried_more S rest from reach next s old numbered same none k l S' more n i is = elim (below_or k from) [
+  | inl lower ↦ old k lower S' more n i is
+  | inr high ↦ let here = same k high (omega (arith, l)) in none more (is ∙ ap (λ R. line_of_solid R ++ more) (one_next S s k S' next n i here numbered))
+]
+
+-- and where all were tried nothing fits
+pub all_tried : (S : Region) (rest : List ℕ) (from count : ℕ) → count ≡ length (paths S) → (from < count → ⊥) → Tried S rest from → NothingFits S rest
+all_tried S rest from count is out tried S' more c at = let l = c.one_of_them in tried c.from (omega (arith, is, out, l)) S' more c.next c.numbered at
+
+-- nor where nothing embeds
+pub nothing_fits : (S : Region) (rest : List ℕ) → (HasEmbedding S → ⊥) → NothingFits S rest
+nothing_fits S rest none S' more c at = none (embeds_in c.next)
+
+-- one that is found continues the solid
+pub found_continues : (S next : Region) (from reach : ℕ) → (from ≤ reach) × (reach < length (paths S)) → IsNumbered next → ((k : ℕ) → from ≤ k → k ≤ reach → NextFrom k S next) → Continues S next
+found_continues S next from reach l numbered same = record { from = from; one_of_them = omega (arith, l.0, l.1); next = same from (omega arith) (l.0); numbered = numbered }
+
+-- ---- ends
+
+-- where nothing embeds one end line is due
+pub stuck_done : (S : Region) (rest : List ℕ) (n : ℕ) → (HasEmbedding S → ⊥) → rest ≡ end_line (codes "irreducible") n → (word : List ℕ) × IsEndWord S word × (rest ≡ end_line word n)
+stuck_done S rest n none is = (codes "irreducible", inl (refl, none), is)
+
+-- and no other one is
+pub stuck_wrong : (S : Region) (rest : List ℕ) (n : ℕ) → (HasEmbedding S → ⊥) → (rest ≡ end_line (codes "irreducible") n → ⊥) → NoEndIsDue S rest n
+stuck_wrong S rest n none differs word (inl h) is = differs (is ∙ ap (λ w. end_line w n) h.0)
+stuck_wrong S rest n none differs word (inr h) is = h.1 none
+
+-- and where something embeds three are
+pub other_done : (S : Region) (rest : List ℕ) (n : ℕ) → HasEmbedding S → IsOtherEnd rest n → (word : List ℕ) × IsEndWord S word × (rest ≡ end_line word n)
+other_done S rest n some (inl is) = (codes "budget", inr (inl refl, λ none. none some), is)
+other_done S rest n some (inr (inl is)) = (codes "full", inr (inr (inl refl), λ none. none some), is)
+other_done S rest n some (inr (inr is)) = (codes "no memory", inr (inr (inr refl), λ none. none some), is)
+
+-- and the word irreducible isn't
+pub other_wrong : (S : Region) (rest : List ℕ) (n : ℕ) → HasEmbedding S → (IsOtherEnd rest n → ⊥) → NoEndIsDue S rest n
+other_wrong S rest n some differs word (inl h) is = h.1 some
+other_wrong S rest n some differs word (inr (inl e, h)) is = differs (inl (is ∙ ap (λ w. end_line w n) e))
+other_wrong S rest n some differs word (inr (inr (inl e), h)) is = differs (inr (inl (is ∙ ap (λ w. end_line w n) e)))
+other_wrong S rest n some differs word (inr (inr (inr e), h)) is = differs (inr (inr (is ∙ ap (λ w. end_line w n) e)))
+
+-- three tests for one
+pub three_tests : {A B C : Type 0} (a b c : Bool) → IsTrue a ↔ A → IsTrue b ↔ B → IsTrue c ↔ C → IsTrue (a || (b || c)) ↔ (A ⊎ B ⊎ C)
+three_tests true b c f g h = ((λ t. inl (f.0 refl)), (λ x. refl))
+three_tests false true c f g h = ((λ t. inr (inl (g.0 refl))), (λ x. refl))
+three_tests false false c f g h = (
+  (λ t. inr (inr (h.0 t))),
+  λ x.
+      elim x [
+        | inl a ↦ absurd (let no = f.1 a in cc)
+        | inr (inl b) ↦ absurd (let no = g.1 b in cc)
+        | inr (inr c) ↦ h.1 c
+      ],
+)

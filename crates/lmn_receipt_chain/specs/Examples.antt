@@ -1,0 +1,32 @@
+-- Small chains.
+use Rattle.std.specs.Prelude.{[], ◌∷◌, codes}
+use Rattle.lmn_congruence.specs.Regions.{Region, no_region, region}
+use Rattle.lmn_congruence.specs.Rules.{named}
+use Rattle.lmn_receipt_chain.specs.Chains.{IsChain, IsWrongTrace, at_line}
+
+-- the solid of `a.`
+abbrev pub one_atom : Region
+one_atom = region (record { label = named (codes "a"); links = [] } ∷ []) no_region []
+
+-- without a rule its trace is its line and the end
+abbrev pub NothingFires : Type 0
+NothingFires = IsChain one_atom (codes "a.\n% irreducible after 0\n") 0
+
+-- another word at the end is wrong,
+abbrev pub WrongWord : Type 0
+WrongWord = IsWrongTrace one_atom (codes "a.\n% budget after 0\n") (at_line 62 2)
+
+-- and so is a trace without an end line, or with something behind it;
+abbrev pub NoEnd : Type 0
+NoEnd = IsWrongTrace one_atom (codes "a.\n") (at_line 62 2)
+
+abbrev pub MoreBehind : Type 0
+MoreBehind = IsWrongTrace one_atom (codes "a.\n% irreducible after 0\n\n") (at_line 62 2)
+
+-- another line behind it is that of no firing,
+abbrev pub NoFiring : Type 0
+NoFiring = IsWrongTrace one_atom (codes "a.\nb.\n% irreducible after 1\n") (at_line 61 2)
+
+-- and a trace that is empty begins with no line.
+abbrev pub Empty : Type 0
+Empty = IsWrongTrace one_atom [] (at_line 61 1)

@@ -1,0 +1,86 @@
+ghost use Rattle.std.specs.Prelude.{◌≡◌, ◌≤◌, MatchResult, drop, length};
+ghost use Rattle.lmn_base.specs.Refusals.{IfRefused};
+ghost use Rattle.lmn_base.specs.declared.refusal.TextFault.{TextFault};
+ghost use Rattle.lmn_receipt_chain.specs.Chains.{IsChain, IsWrongTrace, at_line};
+ghost use Rattle.lmn_receipt_chain.specs.Laws.{IsAcceptedSolid};
+
+use crate::next::NextSolids;
+use crate::walk::{Step, take_step};
+use lmn_base::{Pos, Refusal, Solid, TextFault};
+use std::alloc::Global;
+use std::mem;
+
+/// Whether a trace is a chain of firings from a solid on: the number of its commits.
+///
+/// # Errors
+///
+/// A refusal by 61 where a line is that of no next solid, by 62 where the end is wrong, at the first line that is so. Want of
+/// memory at any time.
+pub fn check<N: NextSolids>(
+    alloc: Global,
+    solids: &N,
+    first: Solid,
+    trace: &[u8],
+) -> Result<u64, TextFault>
+    requires fits { N.fits solids.now first }
+    requires sound { IsAcceptedSolid (N.region solids.now first) }
+    ensures { MatchResult result
+        (IsChain (N.region solids.now first) trace.now)
+        (λ fault. IfRefused fault (IsWrongTrace (N.region solids.now first) trace.now)) }
+{
+    let mut solid = first;
+    let result = walk(alloc, solids, &mut solid, trace);
+    solid.root.dismantle();
+    result
+}
+
+/// Goes through a trace; the solid is each time the one whose line was met last.
+fn walk<N: NextSolids>(
+    alloc: Global,
+    solids: &N,
+    solid: &mut Solid,
+    trace: &[u8],
+) -> Result<u64, TextFault>
+    requires fits { N.fits solids.now solid.old }
+    requires sound { IsAcceptedSolid (N.region solids.now solid.old) }
+    ensures { MatchResult result
+        (IsChain (N.region solids.now solid.old) trace.now)
+        (λ fault. IfRefused fault (IsWrongTrace (N.region solids.now solid.old) trace.now)) }
+{
+    let Some(first) = solids.front(alloc, solid, trace)? else {
+        return Err(refused(61, 1));
+    };
+    let mut at = first;
+    let mut commits = 0u64;
+    loop {
+        match take_step(alloc, solids, solid, behind(trace, at), commits)? {
+            Step::More(next, len) => {
+                let before = mem::replace(solid, next);
+                before.root.dismantle();
+                at += len;
+                commits += 1;
+            }
+            Step::Done => return Ok(commits),
+            Step::WrongLine => return Err(refused(61, commits + 2)),
+            Step::WrongEnd => return Err(refused(62, commits + 2)),
+        }
+    }
+}
+
+/// What stands behind a place of a text.
+fn behind(text: &[u8], at: usize) -> &[u8]
+    requires { at ≤ length text.now }
+    ensures { result.now ≡ drop at text.now }
+{
+    &text[at..]
+}
+
+/// A refusal at the beginning of a line.
+fn refused(code: u8, line: u64) -> TextFault
+    ensures { result ≡ TextFault.Refused (at_line code line) }
+{
+    TextFault::Refused(Refusal {
+        code,
+        pos: Pos { line, column: 1 },
+    })
+}

@@ -1,0 +1,35 @@
+//! The laws of chains.
+
+ghost use Rattle.lmn_receipt_chain.specs.Examples.{Empty, MoreBehind, NoEnd, NoFiring, NothingFires, WrongWord};
+ghost use Rattle.lmn_receipt_chain.specs.Laws.{ChainsAreCommits, ContinuesByCommit, NoTraceIsNeither, TracesAreChains, TracesAreOneOf};
+
+/// What is written of a trace that stops is a chain.
+pub fn traces_are_chains()
+    ensures { TracesAreChains }
+{}
+
+/// A chain is one of commits of the calculus, and its word is true.
+pub fn chains_are_commits()
+    ensures each { ContinuesByCommit }
+    ensures all { ChainsAreCommits }
+{}
+
+/// What is a chain of `a.`, and what isn't.
+pub fn small_chains()
+    ensures chain { NothingFires }
+    ensures word { WrongWord }
+    ensures end { NoEnd }
+    ensures more { MoreBehind }
+    ensures firing { NoFiring }
+    ensures empty { Empty }
+{}
+
+/// A trace beside the solid of a plain isn't a chain and wrong, and is one of so many commits or at one line alone.
+pub fn traces_are_one_of()
+    ensures { TracesAreOneOf }
+{}
+
+/// No trace is neither a chain from a solid on nor wrong beside it.
+pub fn no_trace_is_neither()
+    ensures { NoTraceIsNeither }
+{}

@@ -1,0 +1,13 @@
+//! Whether a trace is one of a program: chains of firings, checked over lists.
+#![tactic(auto)]
+
+mod checking;
+mod laws;
+mod next;
+mod walk;
+
+pub use checking::check;
+pub use laws::{
+    chains_are_commits, no_trace_is_neither, small_chains, traces_are_chains, traces_are_one_of,
+};
+pub use next::{NextSolid, NextSolids};

@@ -1,0 +1,181 @@
+ghost use Rattle.std.specs.Prelude.{◌≡◌, ◌<◌, ◌↔◌, ℕ, IfOk, IfSome, IsTrue, length};
+ghost use Rattle.lmn_adequacy.specs.Choice.{paths};
+ghost use Rattle.lmn_app_runs.specs.Runs.{end_line};
+ghost use Rattle.lmn_receipt_chain.specs.Chains.{IsEndThere, IsProcessThere};
+ghost use Rattle.lmn_receipt_chain.specs.Steps.{IsOtherEnd, IsStep};
+ghost use Rattle.lmn_receipt_chain.specs.Laws.{IsAcceptedSolid};
+
+use crate::next::{NextSolid, NextSolids};
+use itoa::Buffer;
+use lmn_base::{NoMemory, Solid};
+use std::alloc::{AllocError, Global};
+
+/// What is found behind the line of a solid.
+#[derive(Drop)]
+pub(crate) enum Step {
+    /// The line of a solid that continues it, and the length of that line.
+    More(Solid, usize),
+    /// The end line.
+    Done,
+    /// A line that is wrong.
+    WrongLine,
+    /// An end that is wrong.
+    WrongEnd,
+}
+
+/// What is found behind the line of a solid, so many commits done.
+pub(crate) fn take_step<N: NextSolids>(
+    alloc: Global,
+    solids: &N,
+    solid: &Solid,
+    rest: &[u8],
+    commits: u64,
+) -> Result<Step, NoMemory>
+    requires fits { N.fits solids.now solid.now }
+    requires sound { IsAcceptedSolid (N.region solids.now solid.now) }
+    ensures { IfOk result (IsStep (N.region solids.now) (N.fits solids.now) (N.region solids.now solid.now) rest.now commits) }
+{
+    match rest {
+        [] => end(alloc, solids, solid, rest, commits),
+        [first, ..] => {
+            if *first == b'%' {
+                end(alloc, solids, solid, rest, commits)
+            } else {
+                line(alloc, solids, solid, rest)
+            }
+        }
+    }
+}
+
+/// What an end is.
+fn end<N: NextSolids>(
+    alloc: Global,
+    solids: &N,
+    solid: &Solid,
+    rest: &[u8],
+    commits: u64,
+) -> Result<Step, NoMemory>
+    requires fits { N.fits solids.now solid.now }
+    requires there { IsEndThere rest.now }
+    ensures { IfOk result (IsStep (N.region solids.now) (N.fits solids.now) (N.region solids.now solid.now) rest.now commits) }
+{
+    let embeds = solids.embeds(alloc, solid)?;
+    let other = is_other_end(alloc, rest, commits)?;
+    let stuck = is_end_line(alloc, rest, b"irreducible", commits)?;
+    if embeds {
+        if other {
+            Ok(Step::Done)
+        } else {
+            Ok(Step::WrongEnd)
+        }
+    } else if stuck {
+        Ok(Step::Done)
+    } else {
+        Ok(Step::WrongEnd)
+    }
+}
+
+/// Lets a solid go, however deep it is.
+fn let_go(next: NextSolid) {
+    next.solid.root.dismantle();
+}
+
+/// Whether a text is an end line where a firing is possible.
+fn is_other_end(alloc: Global, rest: &[u8], commits: u64) -> Result<bool, NoMemory>
+    ensures { IfOk result (λ is. IsTrue is ↔ IsOtherEnd rest.now commits) }
+{
+    let budget = is_end_line(alloc, rest, b"budget", commits)?;
+    let full = is_end_line(alloc, rest, b"full", commits)?;
+    let memory = is_end_line(alloc, rest, b"no memory", commits)?;
+    Ok(budget || full || memory)
+}
+
+/// Whether a text is the end line with a word.
+fn is_end_line(alloc: Global, text: &[u8], word: &[u8], commits: u64) -> Result<bool, NoMemory>
+    ensures { IfOk result (λ is. IsTrue is ↔ (text.now ≡ end_line word.now commits)) }
+{
+    match end_line(alloc, word, commits) {
+        Ok(line) => Ok(line.as_slice() == text),
+        Err(AllocError) => Err(NoMemory),
+    }
+}
+
+/// The end line with a word.
+fn end_line(alloc: Global, word: &[u8], commits: u64) -> Result<Vec<u8>, AllocError>
+    ensures { IfOk result (λ line. line.items ≡ end_line word.now commits) }
+{
+    let mut line = Vec::new(alloc);
+    line.extend_from_slice(b"% ")?;
+    line.extend_from_slice(word)?;
+    line.extend_from_slice(b" after ")?;
+    line.extend_from_slice(Buffer::new().format(commits).as_bytes())?;
+    line.extend_from_slice(b"\n")?;
+    Ok(line)
+}
+
+/// The next solid from one number of a membrane, where its line fits.
+fn try_hint<N: NextSolids>(
+    alloc: Global,
+    solids: &N,
+    solid: &Solid,
+    rest: &[u8],
+    hint: u64,
+) -> Result<Option<Step>, NoMemory>
+    requires fits { N.fits solids.now solid.now }
+    requires hint { hint < length (paths (N.region solids.now solid.now)) }
+    ensures { (commits : ℕ) → IfOk result (λ found. IfSome found (IsStep (N.region solids.now) (N.fits solids.now) (N.region solids.now solid.now) rest.now commits)) }
+{
+    match solids.next_from(alloc, solid, hint)? {
+        None => Ok(None),
+        Some(next) => match solids.front(alloc, &next.solid, rest) {
+            Ok(Some(len)) => Ok(Some(Step::More(next.solid, len))),
+            Ok(None) => {
+                let_go(next);
+                Ok(None)
+            }
+            Err(NoMemory) => {
+                let_go(next);
+                Err(NoMemory)
+            }
+        },
+    }
+}
+
+/// What a process line is: that of a choice that fits, or wrong.
+fn line<N: NextSolids>(
+    alloc: Global,
+    solids: &N,
+    solid: &Solid,
+    rest: &[u8],
+) -> Result<Step, NoMemory>
+    requires fits { N.fits solids.now solid.now }
+    requires sound { IsAcceptedSolid (N.region solids.now solid.now) }
+    requires there { IsProcessThere rest.now }
+    ensures { (commits : ℕ) → IfOk result (IsStep (N.region solids.now) (N.fits solids.now) (N.region solids.now solid.now) rest.now commits) }
+{
+    let count = solids.membranes(alloc, solid)?;
+    let hint = solids.hint(alloc, solid, rest)?;
+    if hint < count {
+        if let Some(found) = try_hint(alloc, solids, solid, rest, hint)? {
+            return Ok(found);
+        }
+    }
+    let mut from = 0u64;
+    while from < count {
+        match solids.next_from(alloc, solid, from)? {
+            None => return Ok(Step::WrongLine),
+            Some(next) => match solids.front(alloc, &next.solid, rest) {
+                Ok(Some(len)) => return Ok(Step::More(next.solid, len)),
+                Ok(None) => {
+                    from = next.reach + 1;
+                    let_go(next);
+                }
+                Err(NoMemory) => {
+                    let_go(next);
+                    return Err(NoMemory);
+                }
+            },
+        }
+    }
+    Ok(Step::WrongLine)
+}

@@ -1,0 +1,82 @@
+-- Membranes in the order in which they are asked, and what is known of rules that are asked there. Contracts of private functions alone
+-- cite these words.
+use Rattle.std.specs.Prelude.{ℕ, ◌≡◌, ◌<◌, ◌≤◌, ◌+◌, ◌^◌, ◌⊎◌, ◌↔◌, List, Some, length, slice_get, take}
+use Rattle.lmn_base.specs.declared.rule.Plain.{Plain}
+use Rattle.lmn_base.specs.declared.rule.RuleTree.{RuleTree}
+use Rattle.lmn_base.specs.declared.solid.Solid.{Solid}
+use Rattle.lmn_guards.specs.declared.plan.GuardPlan.{GuardPlan}
+use Rattle.lmn_store_heap.specs.Heap.{Heap, IsMem, rules_in}
+use Rattle.lmn_store_heap.specs.Sound.{Valid}
+use Rattle.lmn_solid_heads.specs.Embeddings.{Images, IsLeast}
+use Rattle.lmn_solid_heads.specs.Flattening.{unnumbered}
+use Rattle.lmn_compile_head.specs.Accepted.{head_items}
+use Rattle.lmn_compile_head.specs.Heads.{IsHead, kind_in}
+use Rattle.lmn_congruence.specs.Rules.{Name}
+use Rattle.lmn_congruence.specs.Translation.{region_of}
+use Rattle.lmn_adequacy.specs.Choice.{NextFrom, paths}
+use Rattle.lmn_adequacy.specs.Embedding.{HasEmbedding}
+use Rattle.lmn_solid_tables.specs.declared.flat.Flat.{Flat}
+use Rattle.lmn_solid_tables.specs.Flats.{heap_of}
+use Rattle.lmn_solid_next.specs.Choosing.{NoneOf}
+use Rattle.lmn_solid_next.specs.Asking.{Fires, IsAsked, IsSearched}
+
+-- what a search for the least embedding of a rule asks
+pub record CanBeSearched (flat : Flat) (m : ℕ) (rule : RuleTree) (plan : GuardPlan) : Type 0 where
+  pub valid : Valid (heap_of flat)
+  pub there : IsMem (heap_of flat) m
+  pub room : 1 + (unnumbered (kind_in plan.kinds) rule.head).size < 2 ^ 16
+  pub head : IsHead (head_items rule plan)
+
+-- What is known of rules: those of a membrane are of the plain, and one that is asked can be searched for.
+pub record AskedRules : Type 0 where
+  pub known : (names : List Name) (plain : Plain) (plans : List GuardPlan) (s : Solid) (flat : Flat) (m place number : ℕ) →
+      IsSearched names plain plans s flat → slice_get (rules_in (heap_of flat) m) place ≡ Some number → (number < length plain.rules) × (number < length plans)
+  pub searched : (names : List Name) (plain : Plain) (plans : List GuardPlan) (s : Solid) (flat : Flat) (m place : ℕ) (rule : RuleTree) (plan : GuardPlan) →
+      IsAsked names plain plans s flat m place rule plan → CanBeSearched flat m rule plan
+
+-- the membrane that is asked at a turn, of so many, where they are asked from a number on, wrapping round
+abbrev pub AskedAt : (from count turn m : ℕ) → Type 0
+AskedAt from count turn m = (m < count) × ((from + turn ≡ m) ⊎ (from + turn ≡ m + count))
+
+-- no rule embeds in the membranes of the turns before this one
+abbrev pub NoneBefore : List RuleTree → List GuardPlan → Heap → (from count turn : ℕ) → Type 0
+NoneBefore table plans h from count turn = (i m : ℕ) → i < turn → AskedAt from count i m → NoneOf table plans h m (rules_in h m)
+
+-- Of the rules of membrane m, one is the first that embeds there, and it fires.
+pub record FiresIn (names : List Name) (plain : Plain) (plans : List GuardPlan) (s : Solid) (flat : Flat) (m : ℕ) (next : Solid) : Type 0 where
+  pub place : ℕ
+  pub rule : RuleTree
+  pub plan : GuardPlan
+  pub asked : IsAsked names plain plans s flat m place rule plan
+  pub before : NoneOf plain.rules plans (heap_of flat) m (take place (rules_in (heap_of flat) m))
+  pub fires : Fires names plain s flat m place rule plan next
+
+-- Of the rules of membrane m, one is the first that embeds there, and it lies least at these images.
+pub record EmbedsThere (names : List Name) (plain : Plain) (plans : List GuardPlan) (s : Solid) (flat : Flat) (m : ℕ) : Type 0 where
+  pub place : ℕ
+  pub rule : RuleTree
+  pub plan : GuardPlan
+  pub asked : IsAsked names plain plans s flat m place rule plan
+  pub before : NoneOf plain.rules plans (heap_of flat) m (take place (rules_in (heap_of flat) m))
+  pub found : Images
+  pub least : IsLeast (heap_of flat) (head_items rule plan) rule.guard m found
+
+-- What is known of firings. `count` is how many membranes there are.
+--   counted   as many as paths
+--   next      where nothing embeds in the membranes of earlier turns, and a rule of that of this turn fires, the next solid is that of the
+--             strategy, from each number that is reached
+--   embeds    where nothing embeds in the membranes below one, and a rule of that one does, something embeds
+--   none      where nothing embeds in those of all turns, nothing embeds
+pub record FiringsAreNext : Type 0 where
+  pub counted : (names : List Name) (plain : Plain) (plans : List GuardPlan) (s : Solid) (flat : Flat) → IsSearched names plain plans s flat →
+      (count : ℕ) → ((m : ℕ) → IsMem (heap_of flat) m ↔ (m < count)) → length (paths (region_of names plain.rules s)) ≡ count
+  pub next : (names : List Name) (plain : Plain) (plans : List GuardPlan) (s : Solid) (flat : Flat) → IsSearched names plain plans s flat →
+      (count : ℕ) → ((m : ℕ) → IsMem (heap_of flat) m ↔ (m < count)) → (from turn m : ℕ) → from < count → turn < count → AskedAt from count turn m →
+      NoneBefore plain.rules plans (heap_of flat) from count turn → (next : Solid) → FiresIn names plain plans s flat m next →
+      (k : ℕ) → from ≤ k → k < count → k ≤ from + turn → NextFrom k (region_of names plain.rules s) (region_of names plain.rules next)
+  pub embeds : (names : List Name) (plain : Plain) (plans : List GuardPlan) (s : Solid) (flat : Flat) → IsSearched names plain plans s flat →
+      (count : ℕ) → ((m : ℕ) → IsMem (heap_of flat) m ↔ (m < count)) → (m : ℕ) → m < count → NoneBefore plain.rules plans (heap_of flat) 0 count m →
+      EmbedsThere names plain plans s flat m → HasEmbedding (region_of names plain.rules s)
+  pub none : (names : List Name) (plain : Plain) (plans : List GuardPlan) (s : Solid) (flat : Flat) → IsSearched names plain plans s flat →
+      (count : ℕ) → ((m : ℕ) → IsMem (heap_of flat) m ↔ (m < count)) → (from : ℕ) → from < count → NoneBefore plain.rules plans (heap_of flat) from count count →
+      ¬ (HasEmbedding (region_of names plain.rules s))

@@ -1,0 +1,28 @@
+//! What is known of rules that are asked, and of firings.
+ghost use Rattle.lmn_receipt_search.specs.Turns.{AskedRules, FiringsAreNext};
+
+use lmn_compile_head::accepted_heads;
+use lmn_solid_next::{
+    first_is_chosen, flats_have_rules, none_has_embedding, searched_rules_may_fire,
+};
+use lmn_solid_tables::flats_are_read;
+
+/// What a rule that is asked meets.
+pub(crate) fn asked_rules()
+    ensures { AskedRules }
+{
+    accepted_heads();
+    flats_have_rules();
+}
+
+/// The first firing, where membranes are asked from a number on, is the next one of the strategy from that number, and from each after
+/// it that the same membrane is reached from without wrapping round.
+pub(crate) fn firings_are_next()
+    ensures { FiringsAreNext }
+{
+    first_is_chosen();
+    none_has_embedding();
+    flats_are_read();
+    flats_have_rules();
+    searched_rules_may_fire();
+}

@@ -1,0 +1,14 @@
+//! The next solid by plain search over lists: no store, no machine and no code.
+//!
+//! What is asked of a plain and a solid stands in `specs/Searching` of `lmn_solid_next`; of `specs/Turns` private functions speak.
+#![tactic(auto)]
+
+mod laws;
+mod next;
+mod order;
+mod plans;
+mod rules;
+mod searching;
+
+pub use next::{embeds, next_from, next_of};
+pub use searching::PlainSearch;

@@ -1,5 +1,0 @@
-use Rattle.lmn_renaming.proofs.Calls.{calls_are_renamed}
-use Rattle.lmn_renaming.proofs.laws.calls_are_renamed.Goals as goal
-
-pub returns : goal.returns
-returns c = calls_are_renamed

@@ -1,5 +1,0 @@
-use Rattle.lmn_renaming.proofs.Compared.{renamings_compare}
-use Rattle.lmn_renaming.proofs.laws.renamings_compare.Goals as goal
-
-pub returns : goal.returns
-returns c = renamings_compare

@@ -1,5 +1,0 @@
-use Rattle.lmn_renaming.proofs.Solids.{solids_are_renamed}
-use Rattle.lmn_renaming.proofs.laws.solids_are_renamed.Goals as goal
-
-pub returns : goal.returns
-returns c = solids_are_renamed

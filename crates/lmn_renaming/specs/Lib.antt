@@ -1,4 +1,0 @@
-pub mod Renamed
-pub mod Laws
-pub mod Registers
-pub mod Examples

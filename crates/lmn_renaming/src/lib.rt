@@ -1,4 +1,0 @@
-//! Heaps of which the atoms and membranes have other numbers.
-#![tactic(auto)]
-
-pub mod laws;

@@ -1,6 +1,0 @@
-use Rattle.lmn_store.specs.Kept.{heap_of}
-use Rattle.lmn_rows.specs.Made.{IsMadeByHand}
-use Rattle.lmn_rows.proofs.by_hand.walls.Given as goal
-
-abbrev pub invariant-loop-outer : goal.invariant-loop-outer
-invariant-loop-outer g l = IsMadeByHand (heap_of l.store)

@@ -1,7 +1,0 @@
-use Rattle.std.proofs.Common.{refl, sym, subst}
-use Rattle.lmn_store.specs.Kept.{heap_of}
-use Rattle.lmn_run_rows.proofs.code.search_once.Goals as goal
-use Rattle.lmn_heap.specs.Heap.{Unmarked}
-
-pub find-requires-clause-unmarked : goal.find-requires-clause-unmarked
-find-requires-clause-unmarked g c = subst (λ s. Unmarked (heap_of s)) (sym c.in_ok-machine.ensures) (subst (λ h. Unmarked h) (sym c.in_ok-store.ensures.heap) (λ a i. refl))

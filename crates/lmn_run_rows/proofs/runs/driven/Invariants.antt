@@ -1,4 +1,0 @@
-use Rattle.lmn_run_rows.proofs.runs.driven.Given as goal
-
-abbrev pub ghosts-run_driven : goal.ghosts-run_driven
-ghosts-run_driven g a = record { name = a.blank.name; parts = a.blank.parts }

@@ -1,5 +1,0 @@
-use Rattle.lmn_runnable.proofs.Integers.{integers_are_one}
-use Rattle.lmn_runnable.proofs.integers_are_one.Goals as goal
-
-pub returns : goal.returns
-returns c = integers_are_one

@@ -1,5 +1,0 @@
-use Rattle.lmn_runnable.proofs.Heads.{verified_heads_lie}
-use Rattle.lmn_runnable.proofs.verified_heads_lie.Goals as goal
-
-pub returns : goal.returns
-returns c = verified_heads_lie

@@ -1,5 +1,0 @@
-use Rattle.lmn_runnable.proofs.Linking.{verified_is_rule}
-use Rattle.lmn_runnable.proofs.verified_is_rule.Goals as goal
-
-pub returns : goal.returns
-returns c = verified_is_rule

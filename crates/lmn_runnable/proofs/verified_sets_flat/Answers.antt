@@ -1,5 +1,0 @@
-use Rattle.lmn_runnable.proofs.Integers.{verified_sets_flat}
-use Rattle.lmn_runnable.proofs.verified_sets_flat.Goals as goal
-
-pub returns : goal.returns
-returns c = verified_sets_flat

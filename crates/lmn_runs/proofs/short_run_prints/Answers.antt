@@ -1,5 +1,0 @@
-use Rattle.lmn_runs.proofs.ExampleLines.{short_run_prints}
-use Rattle.lmn_runs.proofs.short_run_prints.Goals as goal
-
-pub returns : goal.returns
-returns c = short_run_prints

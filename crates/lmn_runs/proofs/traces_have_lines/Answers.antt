@@ -1,5 +1,0 @@
-use Rattle.lmn_runs.proofs.TraceLines.{traces_have_lines}
-use Rattle.lmn_runs.proofs.traces_have_lines.Goals as goal
-
-pub returns : goal.returns
-returns c = traces_have_lines

@@ -1,6 +1,0 @@
-use Rattle.std.proofs.Common.{◌↔◌, ◌⊎◌, ℕ, take}
-use Rattle.lmn_base.specs.Lists.{In}
-use Rattle.lmn_search.proofs.closed.add_all.Given as goal
-
-abbrev pub invariant-loop-number : goal.invariant-loop-number
-invariant-loop-number l = (a : ℕ) → In a l.list ↔ (In a l.fn.list ⊎ In a (take l.number-index l.numbers))

@@ -1,8 +1,0 @@
-use Rattle.std.proofs.Common.{ℕ, take}
-use Rattle.lmn_base.specs.Lists.{In}
-use Rattle.lmn_flat.specs.Flats.{heap_of}
-use Rattle.lmn_search.specs.Closing.{PortsStay}
-use Rattle.lmn_search.proofs.closed.all_stay.Given as goal
-
-abbrev pub invariant-loop-atom : goal.invariant-loop-atom
-invariant-loop-atom l = (a : ℕ) → In a (take l.atom-index l.atoms) → PortsStay (heap_of l.flat) l.within a

@@ -1,9 +1,0 @@
-use Rattle.std.proofs.Common.{◌≡◌, ◌<◌, ℕ, Some}
-use Rattle.lmn_base.specs.Graphs.{Port}
-use Rattle.lmn_heap.specs.Heap.{link_of}
-use Rattle.lmn_flat.specs.Flats.{heap_of}
-use Rattle.lmn_search.specs.Walking.{IsMarked}
-use Rattle.lmn_search.proofs.closed.ports_stay.Given as goal
-
-abbrev pub invariant-loop-index : goal.invariant-loop-index
-invariant-loop-index l = (i : ℕ) (p : Port) → i < l.index → link_of (heap_of l.flat) l.atom i ≡ Some p → IsMarked l.within p.0

@@ -1,7 +1,0 @@
-use Rattle.std.proofs.Common.{◌<◌, ℕ}
-use Rattle.lmn_flat.specs.Flats.{heap_of}
-use Rattle.lmn_search.specs.Taking.{StandsAt, PortFits}
-use Rattle.lmn_search.proofs.fits.links_fit.Given as goal
-
-abbrev pub invariant-loop-index : goal.invariant-loop-index
-invariant-loop-index l = (i x : ℕ) → i < l.index → StandsAt l.atoms x (l.number, i) → PortFits (heap_of l.flat) l.atoms l.images (l.number, i) x

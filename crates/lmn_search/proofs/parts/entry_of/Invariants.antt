@@ -1,9 +1,0 @@
-use Rattle.std.proofs.Common.{◌≡◌, ◌<◌, ℕ, Some, slice_get, slice_index_or}
-use Rattle.lmn_base.specs.Graphs.{Port}
-use Rattle.lmn_flat.specs.Flats.{heap_of}
-use Rattle.lmn_search.specs.Parting.{LeadsTo}
-use Rattle.lmn_search.specs.declared.head.AtomItem.{AtomItem}
-use Rattle.lmn_search.proofs.parts.entry_of.Given as goal
-
-abbrev pub invariant-loop-number : goal.invariant-loop-number
-invariant-loop-number l = (n : ℕ) (a : AtomItem) → n < l.number → slice_get l.atoms n ≡ Some a → (q : Port) → LeadsTo (heap_of l.flat) a.links l.link (slice_index_or l.images n 0) q → ⊥

@@ -1,5 +1,0 @@
-use Rattle.lmn_sleep.proofs.SmallHeaps as small
-use Rattle.lmn_sleep.proofs.inner_is_touched.Goals as goal
-
-pub returns : goal.returns
-returns c = small.inner_is_touched

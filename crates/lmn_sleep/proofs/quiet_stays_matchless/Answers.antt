@@ -1,5 +1,0 @@
-use Rattle.lmn_sleep.proofs.Lasting as laws
-use Rattle.lmn_sleep.proofs.quiet_stays_matchless.Goals as goal
-
-pub returns : goal.returns
-returns c = laws.quiet_stays_matchless

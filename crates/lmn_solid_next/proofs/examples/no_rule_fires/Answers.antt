@@ -1,0 +1,5 @@
+use Rattle.lmn_solid_next.proofs.SearchExamples as examples
+use Rattle.lmn_solid_next.proofs.examples.no_rule_fires.Goals as goal
+
+pub returns : goal.returns
+returns c = examples.no_rule_fires

@@ -1,0 +1,7 @@
+use Rattle.std.proofs.Common.{◌≡◌, ◌<◌, ℕ, Some, slice_get}
+use Rattle.lmn_store_heap.specs.Heap.{link_of}
+use Rattle.lmn_solid_tables.specs.Flats.{heap_of, port_by}
+use Rattle.lmn_solid_search.proofs.parts.holds_at.Given as goal
+
+abbrev pub invariant-loop-index : goal.invariant-loop-index
+invariant-loop-index l = (j y : ℕ) → j < l.index → slice_get l.links j ≡ Some y → y ≡ l.link → link_of (heap_of l.flat) l.image j ≡ Some (port_by l.entry)

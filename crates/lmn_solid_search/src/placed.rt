@@ -1,0 +1,28 @@
+//! Where the items of a head are placed.
+ghost use Rattle.std.specs.Prelude.{◌≡◌, ◌≤◌, length};
+ghost use Rattle.lmn_solid_search.specs.Placing.{membrane_at};
+
+use lmn_base::Rows;
+
+/// The images of the items of a head.
+#[derive(Drop)]
+pub(crate) struct Placed {
+    /// The membrane in which the rule stands.
+    pub home: usize,
+    pub atoms: Rows<usize>,
+    pub membranes: Rows<usize>,
+}
+
+impl Placed {
+    /// The image of a membrane by its number, 0 for that in which the rule stands.
+    pub(crate) fn membrane(&self, number: usize) -> usize
+        requires { number ≤ length self.now.membranes }
+        ensures { result ≡ membrane_at self.now.home self.now.membranes number }
+    {
+        if number == 0 {
+            self.home
+        } else {
+            *self.membranes.at(number - 1)
+        }
+    }
+}

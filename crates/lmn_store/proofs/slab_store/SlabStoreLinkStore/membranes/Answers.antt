@@ -1,8 +1,0 @@
-use Rattle.std.proofs.Common.{subst, sym, ◌∙◌}
-use Rattle.lmn_heap.specs.Sound.{IsTree}
-use Rattle.lmn_store.specs.Kept.{heap_of}
-use Rattle.lmn_store.proofs.BoundLemmas.{mems_are}
-use Rattle.lmn_store.proofs.slab_store.SlabStoreLinkStore.membranes.Goals as goal
-
-pub returns : goal.returns
-returns c f t = c.len.ensures ∙ mems_are _ _ _ _ c.self.invariant f (subst (λ z. IsTree (heap_of z) f) (sym c.self.view_is) t)

@@ -1,0 +1,40 @@
+use Rattle.std.proofs.Common.{◌∙◌, sym, ap, subst, arith}
+use Rattle.lmn_store_heap.specs.Conditions.{Alone}
+use Rattle.lmn_store_heap.specs.Heap.{unless_waiting, mem_unless_waiting, discarded}
+use Rattle.lmn_store_slab.specs.Kept.{Kept, heap_of}
+use Rattle.lmn_store_slab.proofs.HoldsLemmas.{line_there, mem_line_there}
+use Rattle.lmn_store_slab.proofs.FreedLemmas.{removes_waiting, mem_removes_waiting, discard_pair}
+use Rattle.lmn_store_slab.proofs.slab_store.SlabStoreLinkStore.discard.Goals as goal
+
+pub free_atoms-requires-clause-list : goal.free_atoms-requires-clause-list
+free_atoms-requires-clause-list c = line_there _ _ _ _ c.self.invariant 0 (omega arith)
+
+pub free_mems-requires-clause-list : goal.free_mems-requires-clause-list
+free_mems-requires-clause-list c = mem_line_there _ _ _ _ c.self.invariant 0 (omega arith)
+
+pub invariant_of-self : goal.invariant_of-self
+invariant_of-self c =
+    let a = c.free_atoms.ensures in
+    let m = c.free_mems.ensures in
+    let f1 = a.fewer in
+    let f2 = m.fewer in
+    let f3 = m.less_spare in
+    (discard_pair _ _ _ _ c.self.invariant
+    (record { atoms = c.free_atoms.new.atoms.slots; mems = c.free_mems.new.mems.slots; atom_lists = c.free_atoms.new.lists; mem_lists = c.free_mems.new.lists })
+    _ _ _ a.files m.files a.census m.census m.spares (omega (arith, f1, f2, f3)) (record { lists = a.lengths; size = a.size }) (record { lists = m.lengths; size = m.size })
+    (subst (λ (z : Kept). Alone (heap_of z)) (sym c.self.view_is) c.requires)
+    (a.freed unless_waiting removes_waiting) (m.freed mem_unless_waiting mem_removes_waiting) a.lists m.lists).0
+
+pub returns : goal.returns
+returns c =
+    let a = c.free_atoms.ensures in
+    let m = c.free_mems.ensures in
+    let f1 = a.fewer in
+    let f2 = m.fewer in
+    let f3 = m.less_spare in
+    (discard_pair _ _ _ _ c.self.invariant
+    (record { atoms = c.free_atoms.new.atoms.slots; mems = c.free_mems.new.mems.slots; atom_lists = c.free_atoms.new.lists; mem_lists = c.free_mems.new.lists })
+    _ _ _ a.files m.files a.census m.census m.spares (omega (arith, f1, f2, f3)) (record { lists = a.lengths; size = a.size }) (record { lists = m.lengths; size = m.size })
+    (subst (λ (z : Kept). Alone (heap_of z)) (sym c.self.view_is) c.requires)
+    (a.freed unless_waiting removes_waiting) (m.freed mem_unless_waiting mem_removes_waiting) a.lists m.lists).1
+    ∙ ap (λ (z : Kept). discarded (heap_of z)) c.self.view_is

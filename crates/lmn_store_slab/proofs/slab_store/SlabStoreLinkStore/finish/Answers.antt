@@ -1,0 +1,40 @@
+use Rattle.std.proofs.Common.{◌∙◌, sym, ap, subst, arith}
+use Rattle.lmn_store_heap.specs.Conditions.{Ready}
+use Rattle.lmn_store_heap.specs.Heap.{unless_gone, mem_unless_gone, finished}
+use Rattle.lmn_store_slab.specs.Kept.{Kept, heap_of}
+use Rattle.lmn_store_slab.proofs.HoldsLemmas.{line_there, mem_line_there}
+use Rattle.lmn_store_slab.proofs.FreedLemmas.{removes_gone, mem_removes_gone, finish_pair}
+use Rattle.lmn_store_slab.proofs.slab_store.SlabStoreLinkStore.finish.Goals as goal
+
+pub free_atoms-requires-clause-list : goal.free_atoms-requires-clause-list
+free_atoms-requires-clause-list c = line_there _ _ _ _ c.self.invariant 1 (omega arith)
+
+pub free_mems-requires-clause-list : goal.free_mems-requires-clause-list
+free_mems-requires-clause-list c = mem_line_there _ _ _ _ c.self.invariant 1 (omega arith)
+
+pub invariant_of-self : goal.invariant_of-self
+invariant_of-self c =
+    let a = c.free_atoms.ensures in
+    let m = c.free_mems.ensures in
+    let f1 = a.fewer in
+    let f2 = m.fewer in
+    let f3 = m.less_spare in
+    (finish_pair _ _ _ _ c.self.invariant
+    (record { atoms = c.free_atoms.new.atoms.slots; mems = c.free_mems.new.mems.slots; atom_lists = c.free_atoms.new.lists; mem_lists = c.free_mems.new.lists })
+    _ _ _ a.files m.files a.census m.census m.spares (omega (arith, f1, f2, f3)) (record { lists = a.lengths; size = a.size }) (record { lists = m.lengths; size = m.size })
+    (subst (λ (z : Kept). Ready (heap_of z)) (sym c.self.view_is) c.requires)
+    (a.freed unless_gone removes_gone) (m.freed mem_unless_gone mem_removes_gone) a.lists m.lists).0
+
+pub returns : goal.returns
+returns c =
+    let a = c.free_atoms.ensures in
+    let m = c.free_mems.ensures in
+    let f1 = a.fewer in
+    let f2 = m.fewer in
+    let f3 = m.less_spare in
+    (finish_pair _ _ _ _ c.self.invariant
+    (record { atoms = c.free_atoms.new.atoms.slots; mems = c.free_mems.new.mems.slots; atom_lists = c.free_atoms.new.lists; mem_lists = c.free_mems.new.lists })
+    _ _ _ a.files m.files a.census m.census m.spares (omega (arith, f1, f2, f3)) (record { lists = a.lengths; size = a.size }) (record { lists = m.lengths; size = m.size })
+    (subst (λ (z : Kept). Ready (heap_of z)) (sym c.self.view_is) c.requires)
+    (a.freed unless_gone removes_gone) (m.freed mem_unless_gone mem_removes_gone) a.lists m.lists).1
+    ∙ ap (λ (z : Kept). finished (heap_of z)) c.self.view_is

@@ -1,0 +1,9 @@
+use Rattle.std.proofs.Common.{arith}
+use Rattle.lmn_store_slab.proofs.Growth.{list_sound, list_count, list_added}
+use Rattle.lmn_store_slab.proofs.table.Table.add_list.Goals as goal
+
+pub invariant_of-self-2 : goal.invariant_of-self-2
+invariant_of-self-2 c = rw c.in_ok-push.ensures.items (list_sound _ _ c.self.invariant)
+
+pub returns-clause-ok : goal.returns-clause-ok
+returns-clause-ok c = (let k = list_count _ _ _ c.self.view_is c.self.invariant in let e = c.self.inside.ends.ok.0 in omega arith, rw c.in_ok-push.ensures.items (list_added _ _ _ c.self.view_is c.self.invariant))

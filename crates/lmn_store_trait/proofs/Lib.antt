@@ -1,0 +1,4 @@
+pub mod Numbers
+pub mod Climbs
+pub mod NextAwake
+pub mod AwakeExamples

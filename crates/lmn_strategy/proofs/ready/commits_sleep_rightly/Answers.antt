@@ -1,5 +1,0 @@
-use Rattle.lmn_strategy.proofs.Rightly.{commits_sleep_rightly}
-use Rattle.lmn_strategy.proofs.ready.commits_sleep_rightly.Goals as goal
-
-pub returns : goal.returns
-returns c = commits_sleep_rightly

@@ -1,0 +1,39 @@
+use Rattle.std.proofs.Common.{◌≤◌, ap, arith, length, subst}
+use Rattle.std.proofs.lemmas.Result.{MatchResult-at_ok}
+use Rattle.lmn_app_accepted.proofs.Loadable.{loadable, well_named}
+use Rattle.lmn_base.specs.Refusals.{IfRefused}
+use Rattle.lmn_app_reading.specs.Texts.{IsAcceptedAs, IsRefusedAs, LeavesNames}
+use Rattle.lmn_test_alike.proofs.next_solids.searchable.Goals as goal
+
+pub read-requires : goal.read-requires
+read-requires g c = record { room = let short : length c.args.text.now ≤ 4194304 = search in omega (arith, ap length c.requires, short) }
+
+pub returns-clause-loaded : goal.returns-clause-loaded
+returns-clause-loaded g c =
+    let text = c.args.text.now in
+    let before = c.args.names.now in
+    let after = c.read.new.names in
+    let named = MatchResult-at_ok (λ a. LeavesNames text before after) (λ fault. IfRefused fault (λ refusal. LeavesNames text before after)) c.expect.result c.expect.ensures c.read.ensures.names in
+    let accepted = MatchResult-at_ok (λ a. IsAcceptedAs text after a.plain a.plans) (λ fault. IfRefused fault (IsRefusedAs text after)) c.expect.result c.expect.ensures c.read.ensures.reads in
+    loadable c.accepted_texts.ensures text after c.expect.result.plain c.expect.result.plans (subst (λ names. LeavesNames text names after) c.requires named) accepted
+
+pub returns-clause-searched : goal.returns-clause-searched
+returns-clause-searched g c =
+    let text = c.args.text.now in
+    let before = c.args.names.now in
+    let after = c.read.new.names in
+    let named = MatchResult-at_ok (λ a. LeavesNames text before after) (λ fault. IfRefused fault (λ refusal. LeavesNames text before after)) c.expect.result c.expect.ensures c.read.ensures.names in
+    let accepted = MatchResult-at_ok (λ a. IsAcceptedAs text after a.plain a.plans) (λ fault. IfRefused fault (IsRefusedAs text after)) c.expect.result c.expect.ensures c.read.ensures.reads in
+    let left = subst (λ names. LeavesNames text names after) c.requires named in
+    let can = loadable c.accepted_texts.ensures text after c.expect.result.plain c.expect.result.plans left accepted in
+    let by = well_named c.accepted_texts.ensures text after c.expect.result.plain c.expect.result.plans left accepted in
+    record { made = can.made; whole = can.plans_are; allowed = λ k rule e. (by.rules (λ a i. 0) k rule e).accepted }
+
+pub returns-clause-named : goal.returns-clause-named
+returns-clause-named g c =
+    let text = c.args.text.now in
+    let before = c.args.names.now in
+    let after = c.read.new.names in
+    let named = MatchResult-at_ok (λ a. LeavesNames text before after) (λ fault. IfRefused fault (λ refusal. LeavesNames text before after)) c.expect.result c.expect.ensures c.read.ensures.names in
+    let accepted = MatchResult-at_ok (λ a. IsAcceptedAs text after a.plain a.plans) (λ fault. IfRefused fault (IsRefusedAs text after)) c.expect.result c.expect.ensures c.read.ensures.reads in
+    (well_named c.accepted_texts.ensures text after c.expect.result.plain c.expect.result.plans (subst (λ names. LeavesNames text names after) c.requires named) accepted).known

@@ -1,5 +1,0 @@
-use Rattle.lmn_turn.proofs.TurnsNext.{turn_is_next}
-use Rattle.lmn_turn.proofs.turns_are_next.Goals as goal
-
-pub returns : goal.returns
-returns c = turn_is_next c.accepted_rules_fire.ensures c.accepted_heads.ensures c.accepted_bodies.ensures.nested

@@ -1,5 +1,0 @@
-use Rattle.lmn_turn.proofs.ReadAgain.{turn_is_read}
-use Rattle.lmn_turn.proofs.turns_are_read.Goals as goal
-
-pub returns : goal.returns
-returns c = turn_is_read c.accepted_rules_fire.ensures c.accepted_heads.ensures c.accepted_bodies.ensures.nested

@@ -1,4 +1,0 @@
-pub mod Ends
-pub mod Standing
-pub mod Turning
-pub mod Commits

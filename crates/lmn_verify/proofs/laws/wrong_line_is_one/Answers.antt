@@ -1,5 +1,0 @@
-use Rattle.lmn_verify.proofs.Exclusion.{wrong_line_is_one}
-use Rattle.lmn_verify.proofs.laws.wrong_line_is_one.Goals as goal
-
-pub returns : goal.returns
-returns c = wrong_line_is_one

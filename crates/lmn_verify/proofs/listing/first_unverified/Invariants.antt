@@ -1,5 +1,0 @@
-use Rattle.lmn_verify.proofs.CodeLemmas.{AreVerified}
-use Rattle.lmn_verify.proofs.listing.first_unverified.Given as goal
-
-abbrev pub invariant-loop-code : goal.invariant-loop-code
-invariant-loop-code l = AreVerified l.rules l.codes l.code-index l.line

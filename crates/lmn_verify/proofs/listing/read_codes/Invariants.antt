@@ -1,5 +1,0 @@
-use Rattle.lmn_verify.specs.Reaching.{AreReadCodes}
-use Rattle.lmn_verify.proofs.listing.read_codes.Given as goal
-
-abbrev pub invariant-loop-number : goal.invariant-loop-number
-invariant-loop-number l = AreReadCodes l.rules l.listing l.fn.names l.names l.number l.at l.line l.codes

@@ -1,6 +1,0 @@
-use Rattle.std.proofs.Common.{take}
-use Rattle.lmn_verify.specs.Lines.{HasNo}
-use Rattle.lmn_verify.proofs.operand.place_of.Given as goal
-
-abbrev pub invariant-loop-at : goal.invariant-loop-at
-invariant-loop-at l = HasNo l.byte (take l.at l.text)

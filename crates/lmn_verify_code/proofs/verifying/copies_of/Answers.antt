@@ -1,0 +1,10 @@
+use Rattle.std.proofs.Common.{◌∙◌, rules, tests}
+use Rattle.std.proofs.lemmas.List.Sums.{length-filter}
+use Rattle.std.proofs.lemmas.Iterator.{YieldsList-from_slice}
+use Rattle.std.proofs.lemmas.Iterator.Consumers.{YieldsList-from_filter, count_from_yields_List}
+use Rattle.lmn_verify_code.specs.Verified.{is_copy}
+use Rattle.lmn_verify_code.proofs.verifying.copies_of.Goals as goal
+
+pub returns : goal.returns
+returns c =
+    count_from_yields_List c.filter.result c.count.result c.count.ensures.ran (YieldsList-from_filter _ is_copy (YieldsList-from_slice c.args.body.now cc) c.filter.ensures.closure (λ x b q k. search (rules, tests))) ∙ length-filter is_copy c.args.body.now

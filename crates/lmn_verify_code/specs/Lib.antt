@@ -1,0 +1,5 @@
+pub mod Operands
+pub mod Verified
+pub mod VerifiedExamples
+pub mod Passing
+pub mod NameExamples

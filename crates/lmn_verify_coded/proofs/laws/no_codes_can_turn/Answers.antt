@@ -1,0 +1,5 @@
+use Rattle.lmn_verify_coded.proofs.Small.{no_codes_can_turn}
+use Rattle.lmn_verify_coded.proofs.laws.no_codes_can_turn.Goals as goal
+
+pub returns : goal.returns
+returns c = no_codes_can_turn

@@ -1,0 +1,282 @@
+-- What the tables of names and operands say, name by name.
+use Rattle.std.proofs.Common.{◌≡◌, ◌==◌, Bool, true, false, not, refl, sym, ap, ◌∙◌, true≢false}
+use Rattle.std.specs.Prelude.{Option, Some, None, bytes_eq}
+use Rattle.std.specs.List.{AllByRecursion, list_all, find}
+use Rattle.std.proofs.lemmas.Option.{same_Some}
+use Rattle.lmn_instr_code.specs.declared.instr.Instr.{Instr}
+use Rattle.lmn_instr_code.specs.declared.instr.Instr.TheVariants as instr
+use Rattle.lmn_instr_code.specs.Words.{mnemonic}
+use Rattle.lmn_verify_listing.specs.declared.opcode.Opcode.{Opcode}
+use Rattle.lmn_verify_listing.specs.declared.opcode.Opcode.TheVariants as opcode
+use Rattle.lmn_verify_listing.specs.declared.opcode.TheConstants.{OPCODES}
+use Rattle.lmn_verify_listing.specs.declared.opcode.Kind.{Kind}
+use Rattle.lmn_verify_listing.specs.declared.opcode.Kind.TheVariants as kind
+use Rattle.lmn_verify_listing.specs.declared.opcode.Form.{Form}
+use Rattle.lmn_verify_listing.specs.Opcodes.{opcode_name, opcode_of, form_of}
+
+-- an instruction has the name that its listing writes
+pub mnemonic_is : (i : Instr) → mnemonic i ≡ opcode_name (opcode_of i)
+mnemonic_is (instr.FindAtom _ _ _) = refl
+mnemonic_is (instr.Deref _ _ _) = refl
+mnemonic_is (instr.Func _ _) = refl
+mnemonic_is (instr.InMem _ _) = refl
+mnemonic_is (instr.NeqAtom _ _) = refl
+mnemonic_is (instr.Joined _ _) = refl
+mnemonic_is (instr.NotIn _ _) = refl
+mnemonic_is (instr.AnyMem _ _) = refl
+mnemonic_is (instr.NeqMem _ _) = refl
+mnemonic_is (instr.IsInt _ _ _) = refl
+mnemonic_is (instr.IsUnary _ _ _) = refl
+mnemonic_is (instr.IsGround _ _ _) = refl
+mnemonic_is (instr.NAtoms _ _ _) = refl
+mnemonic_is (instr.NMems _ _) = refl
+mnemonic_is (instr.NoRules _) = refl
+mnemonic_is (instr.IsClosed _ _) = refl
+mnemonic_is (instr.EqGround _ _) = refl
+mnemonic_is (instr.NeqGround _ _) = refl
+mnemonic_is (instr.GetInt _ _) = refl
+mnemonic_is (instr.Const _ _) = refl
+mnemonic_is (instr.Add _ _ _) = refl
+mnemonic_is (instr.Sub _ _ _) = refl
+mnemonic_is (instr.Mul _ _ _) = refl
+mnemonic_is (instr.Div _ _ _) = refl
+mnemonic_is (instr.Mod _ _ _) = refl
+mnemonic_is (instr.Lt _ _) = refl
+mnemonic_is (instr.Le _ _) = refl
+mnemonic_is (instr.Gt _ _) = refl
+mnemonic_is (instr.Ge _ _) = refl
+mnemonic_is (instr.Eq _ _) = refl
+mnemonic_is (instr.Ne _ _) = refl
+mnemonic_is instr.Commit = refl
+mnemonic_is (instr.RemoveAtom _) = refl
+mnemonic_is (instr.RemovePart _) = refl
+mnemonic_is (instr.RemoveMem _) = refl
+mnemonic_is (instr.NewAtom _ _ _) = refl
+mnemonic_is (instr.NewInt _ _ _) = refl
+mnemonic_is (instr.NewMem _ _) = refl
+mnemonic_is (instr.CopyGround _ _ _) = refl
+mnemonic_is (instr.MoveCells _ _) = refl
+mnemonic_is (instr.CopyCells _ _) = refl
+mnemonic_is (instr.LoadRule _ _) = refl
+mnemonic_is (instr.CopyRules _ _) = refl
+mnemonic_is (instr.DropCells _) = refl
+mnemonic_is (instr.NewLink _ _) = refl
+mnemonic_is (instr.Relink _ _) = refl
+mnemonic_is (instr.Unify _ _) = refl
+mnemonic_is instr.Proceed = refl
+
+-- a name has no space
+pub no_space : (op : Opcode) → list_all (λ b. not (b == 32)) (opcode_name op) ≡ true
+no_space opcode.FindAtom = refl
+no_space opcode.Deref = refl
+no_space opcode.Func = refl
+no_space opcode.InMem = refl
+no_space opcode.NeqAtom = refl
+no_space opcode.Joined = refl
+no_space opcode.NotIn = refl
+no_space opcode.AnyMem = refl
+no_space opcode.NeqMem = refl
+no_space opcode.IsInt = refl
+no_space opcode.IsUnary = refl
+no_space opcode.IsGround = refl
+no_space opcode.NAtoms = refl
+no_space opcode.NMems = refl
+no_space opcode.NoRules = refl
+no_space opcode.IsClosed = refl
+no_space opcode.EqGround = refl
+no_space opcode.NeqGround = refl
+no_space opcode.GetInt = refl
+no_space opcode.Const = refl
+no_space opcode.Add = refl
+no_space opcode.Sub = refl
+no_space opcode.Mul = refl
+no_space opcode.Div = refl
+no_space opcode.Mod = refl
+no_space opcode.Lt = refl
+no_space opcode.Le = refl
+no_space opcode.Gt = refl
+no_space opcode.Ge = refl
+no_space opcode.Eq = refl
+no_space opcode.Ne = refl
+no_space opcode.Commit = refl
+no_space opcode.RemoveAtom = refl
+no_space opcode.RemovePart = refl
+no_space opcode.RemoveMem = refl
+no_space opcode.NewAtom = refl
+no_space opcode.NewInt = refl
+no_space opcode.NewMem = refl
+no_space opcode.CopyGround = refl
+no_space opcode.MoveCells = refl
+no_space opcode.CopyCells = refl
+no_space opcode.LoadRule = refl
+no_space opcode.CopyRules = refl
+no_space opcode.DropCells = refl
+no_space opcode.NewLink = refl
+no_space opcode.Relink = refl
+no_space opcode.Unify = refl
+no_space opcode.Proceed = refl
+
+-- what holds of all names of the table holds of each name
+pub each_opcode : (P : Opcode → Type 0) → AllByRecursion P OPCODES → (op : Opcode) → P op
+each_opcode P h opcode.FindAtom = h.0
+each_opcode P h opcode.Deref = h.1.0
+each_opcode P h opcode.Func = h.1.1.0
+each_opcode P h opcode.InMem = h.1.1.1.0
+each_opcode P h opcode.NeqAtom = h.1.1.1.1.0
+each_opcode P h opcode.Joined = h.1.1.1.1.1.0
+each_opcode P h opcode.NotIn = h.1.1.1.1.1.1.0
+each_opcode P h opcode.AnyMem = h.1.1.1.1.1.1.1.0
+each_opcode P h opcode.NeqMem = h.1.1.1.1.1.1.1.1.0
+each_opcode P h opcode.IsInt = h.1.1.1.1.1.1.1.1.1.0
+each_opcode P h opcode.IsUnary = h.1.1.1.1.1.1.1.1.1.1.0
+each_opcode P h opcode.IsGround = h.1.1.1.1.1.1.1.1.1.1.1.0
+each_opcode P h opcode.NAtoms = h.1.1.1.1.1.1.1.1.1.1.1.1.0
+each_opcode P h opcode.NMems = h.1.1.1.1.1.1.1.1.1.1.1.1.1.0
+each_opcode P h opcode.NoRules = h.1.1.1.1.1.1.1.1.1.1.1.1.1.1.0
+each_opcode P h opcode.IsClosed = h.1.1.1.1.1.1.1.1.1.1.1.1.1.1.1.0
+each_opcode P h opcode.EqGround = h.1.1.1.1.1.1.1.1.1.1.1.1.1.1.1.1.0
+each_opcode P h opcode.NeqGround = h.1.1.1.1.1.1.1.1.1.1.1.1.1.1.1.1.1.0
+each_opcode P h opcode.GetInt = h.1.1.1.1.1.1.1.1.1.1.1.1.1.1.1.1.1.1.0
+each_opcode P h opcode.Const = h.1.1.1.1.1.1.1.1.1.1.1.1.1.1.1.1.1.1.1.0
+each_opcode P h opcode.Add = h.1.1.1.1.1.1.1.1.1.1.1.1.1.1.1.1.1.1.1.1.0
+each_opcode P h opcode.Sub = h.1.1.1.1.1.1.1.1.1.1.1.1.1.1.1.1.1.1.1.1.1.0
+each_opcode P h opcode.Mul = h.1.1.1.1.1.1.1.1.1.1.1.1.1.1.1.1.1.1.1.1.1.1.0
+each_opcode P h opcode.Div = h.1.1.1.1.1.1.1.1.1.1.1.1.1.1.1.1.1.1.1.1.1.1.1.0
+each_opcode P h opcode.Mod = h.1.1.1.1.1.1.1.1.1.1.1.1.1.1.1.1.1.1.1.1.1.1.1.1.0
+each_opcode P h opcode.Lt = h.1.1.1.1.1.1.1.1.1.1.1.1.1.1.1.1.1.1.1.1.1.1.1.1.1.0
+each_opcode P h opcode.Le = h.1.1.1.1.1.1.1.1.1.1.1.1.1.1.1.1.1.1.1.1.1.1.1.1.1.1.0
+each_opcode P h opcode.Gt = h.1.1.1.1.1.1.1.1.1.1.1.1.1.1.1.1.1.1.1.1.1.1.1.1.1.1.1.0
+each_opcode P h opcode.Ge = h.1.1.1.1.1.1.1.1.1.1.1.1.1.1.1.1.1.1.1.1.1.1.1.1.1.1.1.1.0
+each_opcode P h opcode.Eq = h.1.1.1.1.1.1.1.1.1.1.1.1.1.1.1.1.1.1.1.1.1.1.1.1.1.1.1.1.1.0
+each_opcode P h opcode.Ne = h.1.1.1.1.1.1.1.1.1.1.1.1.1.1.1.1.1.1.1.1.1.1.1.1.1.1.1.1.1.1.0
+each_opcode P h opcode.Commit = h.1.1.1.1.1.1.1.1.1.1.1.1.1.1.1.1.1.1.1.1.1.1.1.1.1.1.1.1.1.1.1.0
+each_opcode P h opcode.RemoveAtom = h.1.1.1.1.1.1.1.1.1.1.1.1.1.1.1.1.1.1.1.1.1.1.1.1.1.1.1.1.1.1.1.1.0
+each_opcode P h opcode.RemovePart = h.1.1.1.1.1.1.1.1.1.1.1.1.1.1.1.1.1.1.1.1.1.1.1.1.1.1.1.1.1.1.1.1.1.0
+each_opcode P h opcode.RemoveMem = h.1.1.1.1.1.1.1.1.1.1.1.1.1.1.1.1.1.1.1.1.1.1.1.1.1.1.1.1.1.1.1.1.1.1.0
+each_opcode P h opcode.NewAtom = h.1.1.1.1.1.1.1.1.1.1.1.1.1.1.1.1.1.1.1.1.1.1.1.1.1.1.1.1.1.1.1.1.1.1.1.0
+each_opcode P h opcode.NewInt = h.1.1.1.1.1.1.1.1.1.1.1.1.1.1.1.1.1.1.1.1.1.1.1.1.1.1.1.1.1.1.1.1.1.1.1.1.0
+each_opcode P h opcode.NewMem = h.1.1.1.1.1.1.1.1.1.1.1.1.1.1.1.1.1.1.1.1.1.1.1.1.1.1.1.1.1.1.1.1.1.1.1.1.1.0
+each_opcode P h opcode.CopyGround = h.1.1.1.1.1.1.1.1.1.1.1.1.1.1.1.1.1.1.1.1.1.1.1.1.1.1.1.1.1.1.1.1.1.1.1.1.1.1.0
+each_opcode P h opcode.MoveCells = h.1.1.1.1.1.1.1.1.1.1.1.1.1.1.1.1.1.1.1.1.1.1.1.1.1.1.1.1.1.1.1.1.1.1.1.1.1.1.1.0
+each_opcode P h opcode.CopyCells = h.1.1.1.1.1.1.1.1.1.1.1.1.1.1.1.1.1.1.1.1.1.1.1.1.1.1.1.1.1.1.1.1.1.1.1.1.1.1.1.1.0
+each_opcode P h opcode.LoadRule = h.1.1.1.1.1.1.1.1.1.1.1.1.1.1.1.1.1.1.1.1.1.1.1.1.1.1.1.1.1.1.1.1.1.1.1.1.1.1.1.1.1.0
+each_opcode P h opcode.CopyRules = h.1.1.1.1.1.1.1.1.1.1.1.1.1.1.1.1.1.1.1.1.1.1.1.1.1.1.1.1.1.1.1.1.1.1.1.1.1.1.1.1.1.1.0
+each_opcode P h opcode.DropCells = h.1.1.1.1.1.1.1.1.1.1.1.1.1.1.1.1.1.1.1.1.1.1.1.1.1.1.1.1.1.1.1.1.1.1.1.1.1.1.1.1.1.1.1.0
+each_opcode P h opcode.NewLink = h.1.1.1.1.1.1.1.1.1.1.1.1.1.1.1.1.1.1.1.1.1.1.1.1.1.1.1.1.1.1.1.1.1.1.1.1.1.1.1.1.1.1.1.1.0
+each_opcode P h opcode.Relink = h.1.1.1.1.1.1.1.1.1.1.1.1.1.1.1.1.1.1.1.1.1.1.1.1.1.1.1.1.1.1.1.1.1.1.1.1.1.1.1.1.1.1.1.1.1.0
+each_opcode P h opcode.Unify = h.1.1.1.1.1.1.1.1.1.1.1.1.1.1.1.1.1.1.1.1.1.1.1.1.1.1.1.1.1.1.1.1.1.1.1.1.1.1.1.1.1.1.1.1.1.1.0
+each_opcode P h opcode.Proceed = h.1.1.1.1.1.1.1.1.1.1.1.1.1.1.1.1.1.1.1.1.1.1.1.1.1.1.1.1.1.1.1.1.1.1.1.1.1.1.1.1.1.1.1.1.1.1.1.0
+
+abbrev pub is_functor : Option Kind → Bool
+is_functor (Some kind.Functor) = true
+is_functor _ = false
+
+-- what can stand behind a functor
+pub record EndsWithFunctor (f : Form) : Type 0 where
+  pub first : is_functor f.first ≡ false
+  pub second : is_functor f.second ≡ true → (f.third ≡ None) × (f.parts ≡ false)
+  pub third : is_functor f.third ≡ true → f.parts ≡ false
+
+pub functor_ends : (op : Opcode) → EndsWithFunctor (form_of op)
+functor_ends opcode.FindAtom = record { first = refl; second = λ e. absurd (true≢false (sym e)); third = λ e. refl }
+functor_ends opcode.Deref = record { first = refl; second = λ e. absurd (true≢false (sym e)); third = λ e. absurd (true≢false (sym e)) }
+functor_ends opcode.Func = record { first = refl; second = λ e. (refl, refl); third = λ e. absurd (true≢false (sym e)) }
+functor_ends opcode.InMem = record { first = refl; second = λ e. absurd (true≢false (sym e)); third = λ e. absurd (true≢false (sym e)) }
+functor_ends opcode.NeqAtom = record { first = refl; second = λ e. absurd (true≢false (sym e)); third = λ e. absurd (true≢false (sym e)) }
+functor_ends opcode.Joined = record { first = refl; second = λ e. absurd (true≢false (sym e)); third = λ e. absurd (true≢false (sym e)) }
+functor_ends opcode.NotIn = record { first = refl; second = λ e. absurd (true≢false (sym e)); third = λ e. absurd (true≢false (sym e)) }
+functor_ends opcode.AnyMem = record { first = refl; second = λ e. absurd (true≢false (sym e)); third = λ e. absurd (true≢false (sym e)) }
+functor_ends opcode.NeqMem = record { first = refl; second = λ e. absurd (true≢false (sym e)); third = λ e. absurd (true≢false (sym e)) }
+functor_ends opcode.IsInt = record { first = refl; second = λ e. absurd (true≢false (sym e)); third = λ e. absurd (true≢false (sym e)) }
+functor_ends opcode.IsUnary = record { first = refl; second = λ e. absurd (true≢false (sym e)); third = λ e. absurd (true≢false (sym e)) }
+functor_ends opcode.IsGround = record { first = refl; second = λ e. absurd (true≢false (sym e)); third = λ e. absurd (true≢false (sym e)) }
+functor_ends opcode.NAtoms = record { first = refl; second = λ e. absurd (true≢false (sym e)); third = λ e. absurd (true≢false (sym e)) }
+functor_ends opcode.NMems = record { first = refl; second = λ e. absurd (true≢false (sym e)); third = λ e. absurd (true≢false (sym e)) }
+functor_ends opcode.NoRules = record { first = refl; second = λ e. absurd (true≢false (sym e)); third = λ e. absurd (true≢false (sym e)) }
+functor_ends opcode.IsClosed = record { first = refl; second = λ e. absurd (true≢false (sym e)); third = λ e. absurd (true≢false (sym e)) }
+functor_ends opcode.EqGround = record { first = refl; second = λ e. absurd (true≢false (sym e)); third = λ e. absurd (true≢false (sym e)) }
+functor_ends opcode.NeqGround = record { first = refl; second = λ e. absurd (true≢false (sym e)); third = λ e. absurd (true≢false (sym e)) }
+functor_ends opcode.GetInt = record { first = refl; second = λ e. absurd (true≢false (sym e)); third = λ e. absurd (true≢false (sym e)) }
+functor_ends opcode.Const = record { first = refl; second = λ e. absurd (true≢false (sym e)); third = λ e. absurd (true≢false (sym e)) }
+functor_ends opcode.Add = record { first = refl; second = λ e. absurd (true≢false (sym e)); third = λ e. absurd (true≢false (sym e)) }
+functor_ends opcode.Sub = record { first = refl; second = λ e. absurd (true≢false (sym e)); third = λ e. absurd (true≢false (sym e)) }
+functor_ends opcode.Mul = record { first = refl; second = λ e. absurd (true≢false (sym e)); third = λ e. absurd (true≢false (sym e)) }
+functor_ends opcode.Div = record { first = refl; second = λ e. absurd (true≢false (sym e)); third = λ e. absurd (true≢false (sym e)) }
+functor_ends opcode.Mod = record { first = refl; second = λ e. absurd (true≢false (sym e)); third = λ e. absurd (true≢false (sym e)) }
+functor_ends opcode.Lt = record { first = refl; second = λ e. absurd (true≢false (sym e)); third = λ e. absurd (true≢false (sym e)) }
+functor_ends opcode.Le = record { first = refl; second = λ e. absurd (true≢false (sym e)); third = λ e. absurd (true≢false (sym e)) }
+functor_ends opcode.Gt = record { first = refl; second = λ e. absurd (true≢false (sym e)); third = λ e. absurd (true≢false (sym e)) }
+functor_ends opcode.Ge = record { first = refl; second = λ e. absurd (true≢false (sym e)); third = λ e. absurd (true≢false (sym e)) }
+functor_ends opcode.Eq = record { first = refl; second = λ e. absurd (true≢false (sym e)); third = λ e. absurd (true≢false (sym e)) }
+functor_ends opcode.Ne = record { first = refl; second = λ e. absurd (true≢false (sym e)); third = λ e. absurd (true≢false (sym e)) }
+functor_ends opcode.Commit = record { first = refl; second = λ e. absurd (true≢false (sym e)); third = λ e. absurd (true≢false (sym e)) }
+functor_ends opcode.RemoveAtom = record { first = refl; second = λ e. absurd (true≢false (sym e)); third = λ e. absurd (true≢false (sym e)) }
+functor_ends opcode.RemovePart = record { first = refl; second = λ e. absurd (true≢false (sym e)); third = λ e. absurd (true≢false (sym e)) }
+functor_ends opcode.RemoveMem = record { first = refl; second = λ e. absurd (true≢false (sym e)); third = λ e. absurd (true≢false (sym e)) }
+functor_ends opcode.NewAtom = record { first = refl; second = λ e. absurd (true≢false (sym e)); third = λ e. refl }
+functor_ends opcode.NewInt = record { first = refl; second = λ e. absurd (true≢false (sym e)); third = λ e. absurd (true≢false (sym e)) }
+functor_ends opcode.NewMem = record { first = refl; second = λ e. absurd (true≢false (sym e)); third = λ e. absurd (true≢false (sym e)) }
+functor_ends opcode.CopyGround = record { first = refl; second = λ e. absurd (true≢false (sym e)); third = λ e. absurd (true≢false (sym e)) }
+functor_ends opcode.MoveCells = record { first = refl; second = λ e. absurd (true≢false (sym e)); third = λ e. absurd (true≢false (sym e)) }
+functor_ends opcode.CopyCells = record { first = refl; second = λ e. absurd (true≢false (sym e)); third = λ e. absurd (true≢false (sym e)) }
+functor_ends opcode.LoadRule = record { first = refl; second = λ e. absurd (true≢false (sym e)); third = λ e. absurd (true≢false (sym e)) }
+functor_ends opcode.CopyRules = record { first = refl; second = λ e. absurd (true≢false (sym e)); third = λ e. absurd (true≢false (sym e)) }
+functor_ends opcode.DropCells = record { first = refl; second = λ e. absurd (true≢false (sym e)); third = λ e. absurd (true≢false (sym e)) }
+functor_ends opcode.NewLink = record { first = refl; second = λ e. absurd (true≢false (sym e)); third = λ e. absurd (true≢false (sym e)) }
+functor_ends opcode.Relink = record { first = refl; second = λ e. absurd (true≢false (sym e)); third = λ e. absurd (true≢false (sym e)) }
+functor_ends opcode.Unify = record { first = refl; second = λ e. absurd (true≢false (sym e)); third = λ e. absurd (true≢false (sym e)) }
+functor_ends opcode.Proceed = record { first = refl; second = λ e. absurd (true≢false (sym e)); third = λ e. absurd (true≢false (sym e)) }
+
+-- a name is that of one instruction alone
+found : (op : Opcode) → find (λ p. bytes_eq (opcode_name p) (opcode_name op)) OPCODES ≡ Some op
+found opcode.FindAtom = refl
+found opcode.Deref = refl
+found opcode.Func = refl
+found opcode.InMem = refl
+found opcode.NeqAtom = refl
+found opcode.Joined = refl
+found opcode.NotIn = refl
+found opcode.AnyMem = refl
+found opcode.NeqMem = refl
+found opcode.IsInt = refl
+found opcode.IsUnary = refl
+found opcode.IsGround = refl
+found opcode.NAtoms = refl
+found opcode.NMems = refl
+found opcode.NoRules = refl
+found opcode.IsClosed = refl
+found opcode.EqGround = refl
+found opcode.NeqGround = refl
+found opcode.GetInt = refl
+found opcode.Const = refl
+found opcode.Add = refl
+found opcode.Sub = refl
+found opcode.Mul = refl
+found opcode.Div = refl
+found opcode.Mod = refl
+found opcode.Lt = refl
+found opcode.Le = refl
+found opcode.Gt = refl
+found opcode.Ge = refl
+found opcode.Eq = refl
+found opcode.Ne = refl
+found opcode.Commit = refl
+found opcode.RemoveAtom = refl
+found opcode.RemovePart = refl
+found opcode.RemoveMem = refl
+found opcode.NewAtom = refl
+found opcode.NewInt = refl
+found opcode.NewMem = refl
+found opcode.CopyGround = refl
+found opcode.MoveCells = refl
+found opcode.CopyCells = refl
+found opcode.LoadRule = refl
+found opcode.CopyRules = refl
+found opcode.DropCells = refl
+found opcode.NewLink = refl
+found opcode.Relink = refl
+found opcode.Unify = refl
+found opcode.Proceed = refl
+
+pub one_name : (a b : Opcode) → opcode_name a ≡ opcode_name b → a ≡ b
+one_name a b e = same_Some a b (sym (found a) ∙ ap (λ n. find (λ p. bytes_eq (opcode_name p) n) OPCODES) e ∙ found b)

@@ -1,0 +1,6 @@
+pub mod Opcodes
+pub mod Lines
+pub mod Taking
+pub mod Listings
+pub mod Reaching
+pub mod ListingLaws

@@ -1,0 +1,16 @@
+//! Reads listings of the codes of rules, exactly as they are written.
+//!
+//! The definitions stand in `specs/`.
+#![tactic(auto)]
+
+mod building;
+pub mod laws;
+mod line;
+mod listing;
+mod opcode;
+mod operand;
+
+pub use building::build;
+pub use line::read_line;
+pub use listing::read;
+pub use opcode::{Form, Kind, Opcode};

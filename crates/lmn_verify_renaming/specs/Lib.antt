@@ -1,0 +1,6 @@
+pub mod Renamed
+pub mod Laws
+pub mod Registers
+pub mod Examples
+pub mod FiringLaws
+pub mod FiringExamples

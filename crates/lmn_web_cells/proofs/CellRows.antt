@@ -1,0 +1,247 @@
+-- Rows that are cells: one of them is read, and changed.
+use Rattle.std.proofs.Common.{◌≡◌, ℕ, suc, ◌+◌, ◌*◌, ◌<◌, ◌^◌, ◌==◌, Bool, true, false, List, [], ◌∷◌, ◌++◌, length, get_or, set, Option, Some, None, IsSome, if◌then◌else◌, refl, sym, subst, ap, ◌∙◌, inl, inr, arith, length-set}
+use Rattle.std.proofs.lemmas.Bool.{cases_eq, eq-eqb}
+use Rattle.std.specs.Option.{option_map}
+use denote.RawPtr.{Ptr, null_ptr}
+use Rattle.lmn_web_cells.specs.Rows.{Item, blank, link, number, Row, row, items_in, with_items}
+use Rattle.lmn_web_cells.specs.Cells.{HeldPort, HeldCell, pointer_to, link_to, link_items, number_items, port_items, cell_items, cell_by, cells_by, IsShaped, IsLaid, AreLaid, HaveLinks, links_of, numbers_of, ports_of, no_port, with_link, with_number, with_to, with_port, with_mark}
+use Rattle.lmn_store_heap.specs.Heap.{alter}
+use Rattle.lmn_store_heap.proofs.Listing.{alter_at, alter_away}
+use Rattle.lmn_web_cells.specs.CellIds.{IsLink, led_by}
+use Rattle.lmn_base.proofs.Numbers.{not_equal}
+use Rattle.lmn_web_cells.proofs.CellWords.{link_at, number_at, past_links, set_link_at, set_number_at, set_past_links, cell_back, ports_at, set_ports_at, port_word_at, set_to_at, set_port_at, set_mark_at}
+use Rattle.lmn_base.proofs.Truth.{if_no}
+
+-- a cell that is there, with its words
+pub record Found (rows : List Row) (b : ℕ) : Type 0 where
+  pub cell : HeldCell
+  pub shaped : IsShaped cell
+  pub words : items_in rows b ≡ cell_items cell
+  pub is : cells_by rows b ≡ Some cell
+
+none_there : (o : Option HeldCell) → o ≡ None → IsSome o → ⊥
+none_there None e t = absurd cc
+none_there (Some x) e t = absurd cc
+
+-- the cell in a block of laid rows
+pub found : (rows : List Row) (b : ℕ) → AreLaid rows → IsSome (cells_by rows b) → Found rows b
+found rows b laid there = elim (laid b) [
+  | inl e ↦ absurd (none_there (cells_by rows b) (ap cell_by e) there)
+  | inr s ↦ record { cell = s.0; shaped = s.1; words = s.2; is = ap cell_by s.2 ∙ cell_back s.0 s.1 }
+]
+
+-- each cell has eight links
+pub have_links : (rows : List Row) → AreLaid rows → HaveLinks (cells_by rows)
+have_links rows laid a there = let f = found rows a laid there in ap (λ (o : Option HeldCell). length (links_of o)) f.is ∙ f.shaped.links
+
+-- Links
+
+-- a word that leads somewhere
+pub word_is : (rows : List Row) (b k : ℕ) (laid : AreLaid rows) (there : IsSome (cells_by rows b)) → k < 8
+    → get_or (items_in rows b) k blank ≡ link_to (get_or (links_of (cells_by rows b)) k None)
+word_is rows b k laid there low =
+    let f = found rows b laid there in
+    ap (λ is. get_or is k blank) f.words ∙ link_at f.cell.links k (number_items f.cell.numbers ++ port_items f.cell.ports) (subst (λ n. k < n) (sym f.shaped.links) low)
+    ∙ ap (λ (o : Option HeldCell). link_to (get_or (links_of o) k None)) (sym f.is)
+
+-- the pointer in a word, if it is one
+abbrev pointer_in : Item → Ptr
+pointer_in None = null_ptr
+pointer_in (Some (None, n)) = null_ptr
+pointer_in (Some (Some p, n)) = p
+
+-- the pointer to a cell, or to nowhere, is a link
+pub is_link : (x : Option ℕ) → IsLink (pointer_to x)
+is_link None = inl refl
+is_link (Some b) = inr refl
+
+-- it leads there
+pub leads : (x : Option ℕ) → led_by (pointer_to x) ≡ x
+leads None = refl
+leads (Some b) = refl
+
+-- the pointer that was read from a word
+pub pointer_read : (i : Item) (x : Option ℕ) (p : Ptr) → i ≡ link_to x → i ≡ link p → p ≡ pointer_to x
+pointer_read i x p e r = ap pointer_in (sym r ∙ e)
+
+-- the number that was read
+abbrev number_in : Item → ℕ
+number_in None = 0
+number_in (Some (p, n)) = n
+
+-- a word is one number
+pub number_read : (i : Item) (m n : ℕ) → i ≡ number m → i ≡ number n → n ≡ m
+number_read i m n e r = ap number_in (sym r ∙ e)
+
+-- Numbers
+
+six : (k : ℕ) → k < 8 → 8 + k < 16
+six k l = omega (arith, l)
+
+-- the word of a number of a cell
+pub number_is : (rows : List Row) (b k : ℕ) (laid : AreLaid rows) (there : IsSome (cells_by rows b)) → k < 8
+    → get_or (items_in rows b) (8 + k) blank ≡ number (get_or (numbers_of (cells_by rows b)) k 0)
+number_is rows b k laid there low =
+    let f = found rows b laid there in
+    ap (λ is. get_or is (8 + k) blank) f.words ∙ past_links f.cell.links 8 k (number_items f.cell.numbers ++ port_items f.cell.ports) f.shaped.links
+    ∙ number_at f.cell.numbers k (port_items f.cell.ports) (subst (λ n. k < n) (sym f.shaped.numbers) low)
+    ∙ ap (λ (o : Option HeldCell). number (get_or (numbers_of o) k 0)) (sym f.is)
+
+-- Ports
+
+-- the word that says where a port leads
+pub to_is : (rows : List Row) (b j : ℕ) (laid : AreLaid rows) (there : IsSome (cells_by rows b)) → j < length (ports_of (cells_by rows b))
+    → get_or (items_in rows b) (16 + (j * 3 + 0)) blank ≡ link_to (get_or (ports_of (cells_by rows b)) j no_port).to
+to_is rows b j laid there low =
+    let f = found rows b laid there in
+    ap (λ is. get_or is (16 + (j * 3 + 0)) blank) f.words ∙ ports_at f.cell f.shaped (j * 3 + 0) ∙ port_word_at f.cell.ports j 0 (omega arith) (subst (λ (o : Option HeldCell). j < length (ports_of o)) f.is low)
+    ∙ ap (λ (o : Option HeldCell). link_to (get_or (ports_of o) j no_port).to) (sym f.is)
+
+-- the word of the port there
+pub port_is : (rows : List Row) (b j : ℕ) (laid : AreLaid rows) (there : IsSome (cells_by rows b)) → j < length (ports_of (cells_by rows b))
+    → get_or (items_in rows b) (16 + (j * 3 + 1)) blank ≡ number (get_or (ports_of (cells_by rows b)) j no_port).port
+port_is rows b j laid there low =
+    let f = found rows b laid there in
+    ap (λ is. get_or is (16 + (j * 3 + 1)) blank) f.words ∙ ports_at f.cell f.shaped (j * 3 + 1) ∙ port_word_at f.cell.ports j 1 (omega arith) (subst (λ (o : Option HeldCell). j < length (ports_of o)) f.is low)
+    ∙ ap (λ (o : Option HeldCell). number (get_or (ports_of o) j no_port).port) (sym f.is)
+
+-- the word of the mark of a port
+pub mark_is : (rows : List Row) (b j : ℕ) (laid : AreLaid rows) (there : IsSome (cells_by rows b)) → j < length (ports_of (cells_by rows b))
+    → get_or (items_in rows b) (16 + (j * 3 + 2)) blank ≡ number (get_or (ports_of (cells_by rows b)) j no_port).mark
+mark_is rows b j laid there low =
+    let f = found rows b laid there in
+    ap (λ is. get_or is (16 + (j * 3 + 2)) blank) f.words ∙ ports_at f.cell f.shaped (j * 3 + 2) ∙ port_word_at f.cell.ports j 2 (omega arith) (subst (λ (o : Option HeldCell). j < length (ports_of o)) f.is low)
+    ∙ ap (λ (o : Option HeldCell). number (get_or (ports_of o) j no_port).mark) (sym f.is)
+
+-- fewer than 2 ^ 16 ports, and their words are below 2 ^ 32
+pub low_port : (rows : List Row) (b j : ℕ) (laid : AreLaid rows) (there : IsSome (cells_by rows b)) → j < length (ports_of (cells_by rows b)) → j < 2 ^ 16
+low_port rows b j laid there low = let f = found rows b laid there in let few = f.shaped.few in let l = subst (λ (o : Option HeldCell). j < length (ports_of o)) f.is low in omega (arith, few, l)
+
+-- Changing a row
+
+-- a choice whose test is true
+pub if_yes : {X : Type 0} (t : Bool) (x y : X) → t ≡ true → (if t then x else y) ≡ x
+if_yes true x y e = refl
+if_yes false x y e = absurd cc
+
+-- the words that a block was given
+pub items_same : (rs : List Row) (b : ℕ) (is : List Item) → 0 < length (items_in rs b) → items_in (with_items b is rs) b ≡ is
+items_same [] b is l = absurd (omega (arith, l))
+items_same (r ∷ rs) b is l = elim (cases_eq r.at b) [
+  | inl e ↦ ap (λ xs. items_in xs b) (if_yes (r.at == b) (row r.at is ∷ rs) (r ∷ with_items b is rs) (eq-eqb r.at b e)) ∙ if_yes (r.at == b) is (items_in rs b) (eq-eqb r.at b e)
+  | inr d ↦ ap (λ xs. items_in xs b) (if_no (r.at == b) (row r.at is ∷ rs) (r ∷ with_items b is rs) (not_equal r.at b d)) ∙ if_no (r.at == b) r.items (items_in (with_items b is rs) b) (not_equal r.at b d)
+      ∙ items_same rs b is (subst (λ xs. 0 < length xs) (if_no (r.at == b) r.items (items_in rs b) (not_equal r.at b d)) l)
+]
+
+items_away : (rs : List Row) (b : ℕ) (is : List Item) (j : ℕ) → (j ≡ b → ⊥) → items_in (with_items b is rs) j ≡ items_in rs j
+items_away [] b is j d = refl
+items_away (r ∷ rs) b is j d = elim (cases_eq r.at b) [
+  | inl e ↦ ap (λ xs. items_in xs j) (if_yes (r.at == b) (row r.at is ∷ rs) (r ∷ with_items b is rs) (eq-eqb r.at b e))
+      ∙ if_no (r.at == j) is (items_in rs j) (not_equal r.at j (λ z. d (sym z ∙ e))) ∙ sym (if_no (r.at == j) r.items (items_in rs j) (not_equal r.at j (λ z. d (sym z ∙ e))))
+  | inr n ↦ ap (λ xs. items_in xs j) (if_no (r.at == b) (row r.at is ∷ rs) (r ∷ with_items b is rs) (not_equal r.at b n)) ∙ ap (λ xs. if r.at == j then r.items else xs) (items_away rs b is j d)
+]
+
+-- what a row is after one word of it was written
+pub record Changed (rows : List Row) (b k : ℕ) (i : Item) (g : HeldCell → HeldCell) : Type 0 where
+  pub laid : AreLaid (with_items b (set (items_in rows b) k i) rows)
+  pub cells : cells_by (with_items b (set (items_in rows b) k i) rows) ≡ alter (cells_by rows) b (option_map g)
+
+-- how many words a cell has
+
+count_links : (ls : List (Option ℕ)) (rest : List Item) → length (link_items ls ++ rest) ≡ length ls + length rest
+count_links [] rest = omega arith
+count_links (x ∷ ls) rest = let r = count_links ls rest in omega (arith, r)
+
+count_numbers : (ns : List ℕ) (rest : List Item) → length (number_items ns ++ rest) ≡ length ns + length rest
+count_numbers [] rest = omega arith
+count_numbers (x ∷ ns) rest = let r = count_numbers ns rest in omega (arith, r)
+
+count_ports : (ps : List HeldPort) → length (port_items ps) ≡ length ps * 3
+count_ports [] = refl
+count_ports (p ∷ ps) = let r = count_ports ps in omega (arith, r)
+
+-- how many words a cell has
+pub word_count : (c : HeldCell) → IsShaped c → length (cell_items c) ≡ 16 + length c.ports * 3
+word_count c s =
+    let a = count_links c.links (number_items c.numbers ++ port_items c.ports) in let b = count_numbers c.numbers (port_items c.ports) in let d = count_ports c.ports in
+    let e = s.links in let f = s.numbers in omega (arith, a, b, d, e, f)
+
+-- a cell has its links and numbers
+pub words_there : (rows : List Row) (b : ℕ) → AreLaid rows → IsSome (cells_by rows b) → 16 < suc (length (items_in rows b))
+words_there rows b laid there = let f = found rows b laid there in subst (λ is. 16 < suc (length is)) (sym f.words) (let n = word_count f.cell f.shaped in omega (arith, n))
+
+-- a cell has the words of its ports
+pub port_words_there : (rows : List Row) (b j w : ℕ) → AreLaid rows → IsSome (cells_by rows b) → j < length (ports_of (cells_by rows b)) → w < 3 → 16 + (j * 3 + w) < length (items_in rows b)
+port_words_there rows b j w laid there low h =
+    let f = found rows b laid there in let l : j < length f.cell.ports = subst (λ (o : Option HeldCell). j < length (ports_of o)) f.is low in
+    subst (λ is. 16 + (j * 3 + w) < length is) (sym f.words) (let n = word_count f.cell f.shaped in omega (arith, n, l, h))
+
+-- one word of a cell is written: what the rows stand for then
+pub changes : (rows : List Row) (b k : ℕ) (i : Item) (g : HeldCell → HeldCell) (laid : AreLaid rows) (there : IsSome (cells_by rows b))
+    → ((c : HeldCell) → IsShaped c → cells_by rows b ≡ Some c → (set (cell_items c) k i ≡ cell_items (g c)) × IsShaped (g c))
+    → Changed rows b k i g
+changes rows b k i g laid there by =
+    let f = found rows b laid there in let some = words_there rows b laid there in
+    let new : List Item = set (items_in rows b) k i in
+    let at = items_same rows b new (omega (arith, some)) in
+    let step = by f.cell f.shaped f.is in
+    let words : new ≡ cell_items (g f.cell) = ap (λ is. set is k i) f.words ∙ step.0 in
+    let laid' : AreLaid (with_items b new rows) = λ j. elim (cases_eq j b) [
+      | inl e ↦ inr (g f.cell, step.1, ap (λ m. items_in (with_items b new rows) m) e ∙ at ∙ words)
+      | inr d ↦ subst IsLaid (sym (items_away rows b new j d)) (laid j)
+    ] in
+    let cells' : (j : ℕ) → cells_by (with_items b new rows) j ≡ alter (cells_by rows) b (option_map g) j = λ j. elim (cases_eq j b) [
+      | inl e ↦ ap (λ m. cells_by (with_items b new rows) m) e ∙ ap cell_by (at ∙ words) ∙ cell_back (g f.cell) step.1
+          ∙ sym (ap (λ m. alter (cells_by rows) b (option_map g) m) e ∙ alter_at (cells_by rows) b (option_map g) ∙ ap (option_map g) f.is)
+      | inr d ↦ ap cell_by (items_away rows b new j d) ∙ sym (alter_away (cells_by rows) b (option_map g) j d)
+    ] in
+    record { laid = laid'; cells = λ t j. cells' j t }
+
+-- a link
+pub link_changes : (rows : List Row) (b k : ℕ) (x : Option ℕ) (laid : AreLaid rows) (there : IsSome (cells_by rows b)) → k < 8 → Changed rows b k (link_to x) (with_link k x)
+link_changes rows b k x laid there low = changes rows b k (link_to x) (with_link k x) laid there
+    (λ c s e. (
+      set_link_at c.links k x (number_items c.numbers ++ port_items c.ports) (subst (λ n. k < n) (sym s.links) low),
+      record { links = length-set c.links k x ∙ s.links; numbers = s.numbers; few = s.few },
+    ))
+
+-- a number
+pub number_changes : (rows : List Row) (b k n : ℕ) (laid : AreLaid rows) (there : IsSome (cells_by rows b)) → k < 8 → Changed rows b (8 + k) (number n) (with_number k n)
+number_changes rows b k n laid there low = changes rows b (8 + k) (number n) (with_number k n) laid there
+    (λ c s e. (
+      set_past_links c.links 8 k (number n) (number_items c.numbers ++ port_items c.ports) s.links ∙ ap (λ is. link_items c.links ++ is) (set_number_at c.numbers k n (port_items c.ports) (subst (λ m. k < m) (sym s.numbers) low)),
+      record { links = s.links; numbers = length-set c.numbers k n ∙ s.numbers; few = s.few },
+    ))
+
+-- where a port leads
+pub to_changes : (rows : List Row) (b j : ℕ) (x : Option ℕ) (laid : AreLaid rows) (there : IsSome (cells_by rows b)) → j < length (ports_of (cells_by rows b)) → Changed rows b (16 + (j * 3 + 0)) (link_to x) (with_to j x)
+to_changes rows b j x laid there low = changes rows b (16 + (j * 3 + 0)) (link_to x) (with_to j x) laid there
+    (λ c s e. (
+      set_ports_at c s (j * 3 + 0) (link_to x) ∙ ap (λ is. link_items c.links ++ (number_items c.numbers ++ is)) (set_to_at c.ports j x (subst (λ (o : Option HeldCell). j < length (ports_of o)) e low)),
+      record { links = s.links; numbers = s.numbers; few = subst (λ n. n < 2 ^ 16) (sym (length-set c.ports j _)) s.few },
+    ))
+
+-- the number of the port there
+pub port_changes : (rows : List Row) (b j n : ℕ) (laid : AreLaid rows) (there : IsSome (cells_by rows b)) → j < length (ports_of (cells_by rows b)) → Changed rows b (16 + (j * 3 + 1)) (number n) (with_port j n)
+port_changes rows b j n laid there low = changes rows b (16 + (j * 3 + 1)) (number n) (with_port j n) laid there
+    (λ c s e. (
+      set_ports_at c s (j * 3 + 1) (number n) ∙ ap (λ is. link_items c.links ++ (number_items c.numbers ++ is)) (set_port_at c.ports j n (subst (λ (o : Option HeldCell). j < length (ports_of o)) e low)),
+      record { links = s.links; numbers = s.numbers; few = subst (λ m. m < 2 ^ 16) (sym (length-set c.ports j _)) s.few },
+    ))
+
+-- the mark of a port
+pub mark_changes : (rows : List Row) (b j n : ℕ) (laid : AreLaid rows) (there : IsSome (cells_by rows b)) → j < length (ports_of (cells_by rows b)) → Changed rows b (16 + (j * 3 + 2)) (number n) (with_mark j n)
+mark_changes rows b j n laid there low = changes rows b (16 + (j * 3 + 2)) (number n) (with_mark j n) laid there
+    (λ c s e. (
+      set_ports_at c s (j * 3 + 2) (number n) ∙ ap (λ is. link_items c.links ++ (number_items c.numbers ++ is)) (set_mark_at c.ports j n (subst (λ (o : Option HeldCell). j < length (ports_of o)) e low)),
+      record { links = s.links; numbers = s.numbers; few = subst (λ m. m < 2 ^ 16) (sym (length-set c.ports j _)) s.few },
+    ))
+
+-- what holds after a word was written, as the row's call says it
+pub laid_after : (rows rows' : List Row) (b k : ℕ) (i i' : Item) (g : HeldCell → HeldCell) → Changed rows b k i g → i' ≡ i → rows' ≡ with_items b (set (items_in rows b) k i') rows → AreLaid rows'
+laid_after rows rows' b k i i' g c e r = subst AreLaid (sym (r ∙ ap (λ z. with_items b (set (items_in rows b) k z) rows) e)) c.laid
+
+-- the cells after one word was written
+pub cells_after : (rows rows' : List Row) (b k : ℕ) (i i' : Item) (g : HeldCell → HeldCell) → Changed rows b k i g → i' ≡ i → rows' ≡ with_items b (set (items_in rows b) k i') rows
+    → cells_by rows' ≡ alter (cells_by rows) b (option_map g)
+cells_after rows rows' b k i i' g c e r = ap (λ (z : List Row). cells_by z) (r ∙ ap (λ z. with_items b (set (items_in rows b) k z) rows) e) ∙ c.cells

@@ -1,0 +1,275 @@
+-- The words of a new row are written one after the other.
+use Rattle.std.proofs.Common.{◌≡◌, ℕ, zero, suc, ◌+◌, ◌-◌, ◌*◌, ◌<◌, ◌==◌, List, [], ◌∷◌, ◌++◌, length, set, replicate, None, refl, sym, subst, ap, ◌∙◌, inl, inr, arith}
+use Rattle.std.proofs.lemmas.Bool.{cases_eq, eq-eqb}
+use Rattle.lmn_web_cells.specs.Rows.{Item, blank, number, Row, row, items_in, with_items}
+use Rattle.lmn_web_cells.specs.Cells.{link_to, cell_items, blank_cell, blank_links, blank_numbers, blank_ports}
+use Rattle.lmn_web_cells.specs.Fillings.{ports_filled}
+use Rattle.lmn_web_cells.proofs.CellRows.{items_same, if_yes}
+use Rattle.lmn_base.proofs.Numbers.{not_equal}
+use Rattle.lmn_base.proofs.Truth.{if_no}
+
+-- a row is written twice
+pub with_twice : (rs : List Row) (b : ℕ) (is js : List Item) → with_items b js (with_items b is rs) ≡ with_items b js rs
+with_twice [] b is js = refl
+with_twice (r ∷ rs) b is js = elim (cases_eq r.at b) [
+  | inl e ↦ ap (with_items b js) (if_yes (r.at == b) (row r.at is ∷ rs) (r ∷ with_items b is rs) (eq-eqb r.at b e)) ∙ if_yes (r.at == b) (row r.at js ∷ rs) (row r.at is ∷ with_items b js rs) (eq-eqb r.at b e)
+      ∙ sym (if_yes (r.at == b) (row r.at js ∷ rs) (r ∷ with_items b js rs) (eq-eqb r.at b e))
+  | inr d ↦ ap (with_items b js) (if_no (r.at == b) (row r.at is ∷ rs) (r ∷ with_items b is rs) (not_equal r.at b d)) ∙ if_no (r.at == b) (row r.at js ∷ with_items b is rs) (r ∷ with_items b js (with_items b is rs)) (not_equal r.at b d)
+      ∙ ap (λ xs. r ∷ xs) (with_twice rs b is js) ∙ sym (if_no (r.at == b) (row r.at js ∷ rs) (r ∷ with_items b js rs) (not_equal r.at b d))
+]
+
+-- a row with the words that it has
+pub with_same : (rs : List Row) (b : ℕ) → with_items b (items_in rs b) rs ≡ rs
+with_same [] b = refl
+with_same (r ∷ rs) b = elim (cases_eq r.at b) [
+  | inl e ↦ if_yes (r.at == b) (row r.at (items_in (r ∷ rs) b) ∷ rs) (r ∷ with_items b (items_in (r ∷ rs) b) rs) (eq-eqb r.at b e)
+      ∙ ap (λ is. row r.at is ∷ rs) (if_yes (r.at == b) r.items (items_in rs b) (eq-eqb r.at b e))
+  | inr d ↦ if_no (r.at == b) (row r.at (items_in (r ∷ rs) b) ∷ rs) (r ∷ with_items b (items_in (r ∷ rs) b) rs) (not_equal r.at b d)
+      ∙ ap (λ is. r ∷ with_items b is rs) (if_no (r.at == b) r.items (items_in rs b) (not_equal r.at b d)) ∙ ap (λ xs. r ∷ xs) (with_same rs b)
+]
+
+-- so far these words are written, and so many are left
+pub record Filled (old rows : List Row) (b : ℕ) (done : List Item) (left : ℕ) : Type 0 where
+  pub there : 0 < length (items_in old b)
+  pub are : rows ≡ with_items b (done ++ replicate left blank) old
+
+filled_items : (old rows : List Row) (b : ℕ) (done : List Item) (left : ℕ) → Filled old rows b done left → items_in rows b ≡ done ++ replicate left blank
+filled_items old rows b done left f = ap (λ rs. items_in rs b) f.are ∙ items_same old b (done ++ replicate left blank) f.there
+
+set_next : (done rest : List Item) (i j : Item) (k : ℕ) → k ≡ length done → set (done ++ i ∷ rest) k j ≡ (done ++ j ∷ []) ++ rest
+set_next [] rest i j k e = ap (λ n. set (i ∷ rest) n j) e
+set_next (x ∷ done) rest i j zero e = absurd (omega (arith, e))
+set_next (x ∷ done) rest i j (suc k) e = ap (λ is. x ∷ is) (set_next done rest i j k (omega (arith, e)))
+
+count_blanks : (done : List Item) (left : ℕ) → length (done ++ replicate left blank) ≡ length done + left
+count_blanks [] zero = refl
+count_blanks [] (suc left) = let r = count_blanks [] left in omega (arith, r)
+count_blanks (x ∷ done) left = let r = count_blanks done left in omega (arith, r)
+
+next_there : (old rows : List Row) (b : ℕ) (done : List Item) (left k : ℕ) → Filled old rows b done left → k ≡ length done → 0 < left → k < length (items_in rows b)
+next_there old rows b done left k f e l = subst (λ is. k < length is) (sym (filled_items old rows b done left f)) (let n = count_blanks done left in omega (arith, n, e, l))
+
+-- one more
+pub next : (old rows rows' : List Row) (b : ℕ) (done : List Item) (left k : ℕ) (i : Item) → Filled old rows b done (suc left) → k ≡ length done
+    → rows' ≡ with_items b (set (items_in rows b) k i) rows → Filled old rows' b (done ++ i ∷ []) left
+next old rows rows' b done left k i f e r = record {
+  there = f.there;
+  are = r ∙ ap (λ is. with_items b is rows) (ap (λ is. set is k i) (filled_items old rows b done (suc left) f) ∙ set_next done (replicate left blank) blank i k e)
+      ∙ ap (with_items b ((done ++ i ∷ []) ++ replicate left blank)) f.are ∙ with_twice old b (done ++ replicate (suc left) blank) ((done ++ i ∷ []) ++ replicate left blank);
+}
+
+-- how many words are done, and what one more is
+
+-- how many words links have
+pub count_links : (n : ℕ) → length (blank_links n) ≡ n
+count_links zero = refl
+count_links (suc n) = ap suc (count_links n)
+
+more_links : (n : ℕ) → blank_links n ++ link_to None ∷ [] ≡ blank_links (suc n)
+more_links zero = refl
+more_links (suc n) = ap (λ is. link_to None ∷ is) (more_links n)
+
+-- how many words numbers have
+pub count_numbers : (n : ℕ) → length (blank_numbers n) ≡ n
+count_numbers zero = refl
+count_numbers (suc n) = ap suc (count_numbers n)
+
+more_numbers : (n : ℕ) → blank_numbers n ++ number 0 ∷ [] ≡ blank_numbers (suc n)
+more_numbers zero = refl
+more_numbers (suc n) = ap (λ is. number 0 ∷ is) (more_numbers n)
+
+-- how many words ports have
+pub count_ports : (n : ℕ) → length (blank_ports n) ≡ n * 3
+count_ports zero = refl
+count_ports (suc n) = let r = count_ports n in omega (arith, r)
+
+more_ports : (n : ℕ) → ((blank_ports n ++ link_to None ∷ []) ++ number 0 ∷ []) ++ number 0 ∷ [] ≡ blank_ports (suc n)
+more_ports zero = refl
+more_ports (suc n) = ap (λ is. link_to None ∷ number 0 ∷ number 0 ∷ is) (more_ports n)
+
+-- a step of each loop, with the words written out
+
+-- one more link is written
+pub links_next : (old rows rows' : List Row) (b k left : ℕ) → Filled old rows b (blank_links k) (suc left) → rows' ≡ with_items b (set (items_in rows b) k (link_to None)) rows → Filled old rows' b (blank_links (suc k)) left
+links_next old rows rows' b k left f r = subst (λ done. Filled old rows' b done left) (more_links k) (next old rows rows' b (blank_links k) left k (link_to None) f (sym (count_links k)) r)
+
+abbrev head_numbers : ℕ → List Item
+head_numbers k = blank_links 8 ++ blank_numbers k
+
+numbers_next : (old rows rows' : List Row) (b k left : ℕ) → Filled old rows b (head_numbers k) (suc left) → rows' ≡ with_items b (set (items_in rows b) (8 + k) (number 0)) rows → Filled old rows' b (head_numbers (suc k)) left
+numbers_next old rows rows' b k left f r = subst (λ done. Filled old rows' b (blank_links 8 ++ done) left) (more_numbers k) (next old rows rows' b (head_numbers k) left (8 + k) (number 0) f (let n = count_numbers k in omega (arith, n)) r)
+
+abbrev head_ports : ℕ → List Item
+head_ports j = blank_links 8 ++ (blank_numbers 8 ++ blank_ports j)
+
+count_head : (j : ℕ) → length (head_ports j) ≡ 16 + j * 3
+count_head j = let n = count_ports j in omega (arith, n)
+
+abbrev head_one : ℕ → List Item
+head_one j = head_ports j ++ link_to None ∷ []
+
+abbrev head_two : ℕ → List Item
+head_two j = head_one j ++ number 0 ∷ []
+
+count_more : (xs : List Item) (i : Item) → length (xs ++ i ∷ []) ≡ suc (length xs)
+count_more [] i = refl
+count_more (x ∷ xs) i = ap suc (count_more xs i)
+
+count_one : (j : ℕ) → length (head_one j) ≡ 16 + j * 3 + 1
+count_one j = let a = count_more (head_ports j) (link_to None) in let b = count_head j in omega (arith, a, b)
+
+count_two : (j : ℕ) → length (head_two j) ≡ 16 + j * 3 + 2
+count_two j = let a = count_more (head_one j) (number 0) in let b = count_one j in omega (arith, a, b)
+
+ports_one : (old rows rows' : List Row) (b j left : ℕ) → Filled old rows b (head_ports j) (suc left) → rows' ≡ with_items b (set (items_in rows b) (16 + j * 3) (link_to None)) rows → Filled old rows' b (head_one j) left
+ports_one old rows rows' b j left f r = next old rows rows' b (head_ports j) left (16 + j * 3) (link_to None) f (sym (count_head j)) r
+
+ports_two : (old rows rows' : List Row) (b j left : ℕ) → Filled old rows b (head_one j) (suc left) → rows' ≡ with_items b (set (items_in rows b) (16 + j * 3 + 1) (number 0)) rows → Filled old rows' b (head_two j) left
+ports_two old rows rows' b j left f r = next old rows rows' b (head_one j) left (16 + j * 3 + 1) (number 0) f (sym (count_one j)) r
+
+ports_three : (old rows rows' : List Row) (b j left : ℕ) → Filled old rows b (head_two j) (suc left) → rows' ≡ with_items b (set (items_in rows b) (16 + j * 3 + 2) (number 0)) rows → Filled old rows' b (head_ports (suc j)) left
+ports_three old rows rows' b j left f r =
+    subst (λ done. Filled old rows' b (blank_links 8 ++ (blank_numbers 8 ++ done)) left) (more_ports j) (next old rows rows' b (head_two j) left (16 + j * 3 + 2) (number 0) f (sym (count_two j)) r)
+
+-- nothing is left
+no_more : (xs : List Item) → xs ++ [] ≡ xs
+no_more [] = refl
+no_more (x ∷ xs) = ap (λ ys. x ∷ ys) (no_more xs)
+
+begun : (old : List Row) (b : ℕ) (done : List Item) (left : ℕ) → 0 < length done + left → items_in old b ≡ done ++ replicate left blank → Filled old old b done left
+begun old b done left l e = record {
+  there = subst (λ is. 0 < length is) (sym e) (let n = count_blanks done left in omega (arith, n, l));
+  are = sym (with_same old b) ∙ ap (λ is. with_items b is old) e;
+}
+
+all_filled : (old rows : List Row) (b : ℕ) (done : List Item) → Filled old rows b done 0 → rows ≡ with_items b done old
+all_filled old rows b done f = f.are ∙ ap (λ is. with_items b is old) (no_more done)
+
+-- The invariants of the three loops
+
+-- so many links of a new row are written
+abbrev pub LinksDone : List Row → List Row → ℕ → ℕ → ℕ → Type 0
+LinksDone old rows b p k = (left : ℕ) × (left + k ≡ 16 + p * 3) × Filled old rows b (blank_links k) left
+
+-- the links and so many numbers are written
+abbrev pub NumbersDone : List Row → List Row → ℕ → ℕ → ℕ → Type 0
+NumbersDone old rows b p k = (left : ℕ) × (left + k ≡ 8 + p * 3) × Filled old rows b (blank_links 8 ++ blank_numbers k) left
+
+-- the links, the numbers and so many ports are written
+abbrev pub PortsDone : List Row → List Row → ℕ → ℕ → ℕ → Type 0
+PortsDone old rows b p j = (left : ℕ) × (left + j * 3 ≡ p * 3) × Filled old rows b (blank_links 8 ++ (blank_numbers 8 ++ blank_ports j)) left
+
+plus_one : (k : ℕ) → suc k ≡ k + 1
+plus_one k = omega arith
+
+-- at first no link is written
+pub links_begin : (old : List Row) (b p : ℕ) → items_in old b ≡ replicate (16 + p * 3) blank → LinksDone old old b p 0
+links_begin old b p e = (16 + p * 3, omega arith, begun old b [] (16 + p * 3) (omega arith) e)
+
+-- the next link is a word of the row
+pub links_there : (old rows : List Row) (b p k : ℕ) → LinksDone old rows b p k → k < 8 → k < length (items_in rows b)
+links_there old rows b p k d low = let e = d.1 in next_there old rows b (blank_links k) d.0 k d.2 (sym (count_links k)) (omega (arith, e, low))
+
+links_more : (old rows rows' : List Row) (b p k left : ℕ) → left + k ≡ 16 + p * 3 → Filled old rows b (blank_links k) left → k < 8 → rows' ≡ with_items b (set (items_in rows b) k (link_to None)) rows → LinksDone old rows' b p (k + 1)
+links_more old rows rows' b p k zero e f low r = absurd (omega (arith, e, low))
+links_more old rows rows' b p k (suc left) e f low r = (left, omega (arith, e), subst (λ n. Filled old rows' b (blank_links n) left) (plus_one k) (links_next old rows rows' b k left f r))
+
+-- one more link is written
+pub links_step : (old rows rows' : List Row) (b p k : ℕ) → LinksDone old rows b p k → k < 8 → rows' ≡ with_items b (set (items_in rows b) k (link_to None)) rows → LinksDone old rows' b p (k + 1)
+links_step old rows rows' b p k d low r = links_more old rows rows' b p k d.0 d.1 d.2 low r
+
+links_end : (old rows : List Row) (b p k : ℕ) → k ≡ 8 → LinksDone old rows b p k → rows ≡ with_items b (blank_links 8 ++ replicate (8 + p * 3) blank) old
+links_end old rows b p k six d = let e = d.1 in let n : d.0 ≡ 8 + p * 3 = omega (arith, e, six) in d.2.are ∙ (λ t. with_items b (blank_links (six t) ++ replicate (n t) blank) old)
+
+-- at first no number is written
+pub numbers_begin : (old : List Row) (b p : ℕ) → items_in old b ≡ blank_links 8 ++ replicate (8 + p * 3) blank → NumbersDone old old b p 0
+numbers_begin old b p e = (8 + p * 3, omega arith, begun old b (blank_links 8) (8 + p * 3) (omega arith) e)
+
+six_more : (k : ℕ) → length (blank_links 8 ++ blank_numbers k) ≡ 8 + k
+six_more k = let n = count_numbers k in omega (arith, n)
+
+-- the next number is a word of the row
+pub numbers_there : (old rows : List Row) (b p k : ℕ) → NumbersDone old rows b p k → k < 8 → 8 + k < length (items_in rows b)
+numbers_there old rows b p k d low = let e = d.1 in next_there old rows b (blank_links 8 ++ blank_numbers k) d.0 (8 + k) d.2 (sym (six_more k)) (omega (arith, e, low))
+
+numbers_more : (old rows rows' : List Row) (b p k left : ℕ) → left + k ≡ 8 + p * 3 → Filled old rows b (blank_links 8 ++ blank_numbers k) left → k < 8 → rows' ≡ with_items b (set (items_in rows b) (8 + k) (number 0)) rows → NumbersDone old rows' b p (k + 1)
+numbers_more old rows rows' b p k zero e f low r = absurd (omega (arith, e, low))
+numbers_more old rows rows' b p k (suc left) e f low r = (left, omega (arith, e), subst (λ n. Filled old rows' b (blank_links 8 ++ blank_numbers n) left) (plus_one k) (numbers_next old rows rows' b k left f r))
+
+-- one more number is written
+pub numbers_step : (old rows rows' : List Row) (b p k : ℕ) → NumbersDone old rows b p k → k < 8 → rows' ≡ with_items b (set (items_in rows b) (8 + k) (number 0)) rows → NumbersDone old rows' b p (k + 1)
+numbers_step old rows rows' b p k d low r = numbers_more old rows rows' b p k d.0 d.1 d.2 low r
+
+numbers_end : (old rows : List Row) (b p k : ℕ) → k ≡ 8 → NumbersDone old rows b p k → rows ≡ with_items b (blank_links 8 ++ (blank_numbers 8 ++ replicate (p * 3) blank)) old
+numbers_end old rows b p k four d = let e = d.1 in let n : d.0 ≡ p * 3 = omega (arith, e, four) in d.2.are ∙ (λ t. with_items b (blank_links 8 ++ (blank_numbers (four t) ++ replicate (n t) blank)) old)
+
+-- so many ports are written at first
+pub ports_begin : (old : List Row) (b p j : ℕ) → j < p → items_in old b ≡ ports_filled p j → PortsDone old old b p j
+ports_begin old b p j low e = ((p - j) * 3, omega (arith, low), begun old b (head_ports j) ((p - j) * 3) (omega arith) e)
+
+-- the first word of the next port is one of the row
+pub ports_there : (old rows : List Row) (b p j : ℕ) → PortsDone old rows b p j → j < p → 16 + j * 3 < length (items_in rows b)
+ports_there old rows b p j d low = let e = d.1 in next_there old rows b (head_ports j) d.0 (16 + j * 3) d.2 (sym (count_head j)) (omega (arith, e, low))
+
+-- the same after one and two of the three
+abbrev pub OneDone : List Row → List Row → ℕ → ℕ → ℕ → Type 0
+OneDone old rows b p j = (left : ℕ) × (left + j * 3 + 1 ≡ p * 3) × Filled old rows b (head_one j) left
+
+abbrev TwoDone : List Row → List Row → ℕ → ℕ → ℕ → Type 0
+TwoDone old rows b p j = (left : ℕ) × (left + j * 3 + 2 ≡ p * 3) × Filled old rows b (head_two j) left
+
+one_more : (old rows rows' : List Row) (b p j left : ℕ) → left + j * 3 ≡ p * 3 → Filled old rows b (head_ports j) left → j < p → rows' ≡ with_items b (set (items_in rows b) (16 + j * 3) (link_to None)) rows → OneDone old rows' b p j
+one_more old rows rows' b p j zero e f low r = absurd (omega (arith, e, low))
+one_more old rows rows' b p j (suc left) e f low r = (left, omega (arith, e), ports_one old rows rows' b j left f r)
+
+-- the first word of a port is written
+pub first_word : (old rows rows' : List Row) (b p j : ℕ) → PortsDone old rows b p j → j < p → rows' ≡ with_items b (set (items_in rows b) (16 + j * 3) (link_to None)) rows → OneDone old rows' b p j
+first_word old rows rows' b p j d low r = one_more old rows rows' b p j d.0 d.1 d.2 low r
+
+-- its second word is one of the row
+pub second_there : (old rows : List Row) (b p j : ℕ) → OneDone old rows b p j → j < p → 16 + j * 3 + 1 < length (items_in rows b)
+second_there old rows b p j d low = let e = d.1 in next_there old rows b (head_one j) d.0 (16 + j * 3 + 1) d.2 (sym (count_one j)) (omega (arith, e, low))
+
+two_more : (old rows rows' : List Row) (b p j left : ℕ) → left + j * 3 + 1 ≡ p * 3 → Filled old rows b (head_one j) left → j < p → rows' ≡ with_items b (set (items_in rows b) (16 + j * 3 + 1) (number 0)) rows → TwoDone old rows' b p j
+two_more old rows rows' b p j zero e f low r = absurd (omega (arith, e, low))
+two_more old rows rows' b p j (suc left) e f low r = (left, omega (arith, e), ports_two old rows rows' b j left f r)
+
+-- its second word is written
+pub second_word : (old rows rows' : List Row) (b p j : ℕ) → OneDone old rows b p j → j < p → rows' ≡ with_items b (set (items_in rows b) (16 + j * 3 + 1) (number 0)) rows → TwoDone old rows' b p j
+second_word old rows rows' b p j d low r = two_more old rows rows' b p j d.0 d.1 d.2 low r
+
+-- its third word is one of the row
+pub third_there : (old rows : List Row) (b p j : ℕ) → TwoDone old rows b p j → j < p → 16 + j * 3 + 2 < length (items_in rows b)
+third_there old rows b p j d low = let e = d.1 in next_there old rows b (head_two j) d.0 (16 + j * 3 + 2) d.2 (sym (count_two j)) (omega (arith, e, low))
+
+three_more : (old rows rows' : List Row) (b p j left : ℕ) → left + j * 3 + 2 ≡ p * 3 → Filled old rows b (head_two j) left → j < p → rows' ≡ with_items b (set (items_in rows b) (16 + j * 3 + 2) (number 0)) rows → PortsDone old rows' b p (j + 1)
+three_more old rows rows' b p j zero e f low r = absurd (omega (arith, e, low))
+three_more old rows rows' b p j (suc left) e f low r = (left, omega (arith, e), subst (λ n. Filled old rows' b (head_ports n) left) (plus_one j) (ports_three old rows rows' b j left f r))
+
+-- its third word is written: one more port
+pub third_word : (old rows rows' : List Row) (b p j : ℕ) → TwoDone old rows b p j → j < p → rows' ≡ with_items b (set (items_in rows b) (16 + j * 3 + 2) (number 0)) rows → PortsDone old rows' b p (j + 1)
+third_word old rows rows' b p j d low r = three_more old rows rows' b p j d.0 d.1 d.2 low r
+
+-- what is written then
+pub ports_are : (old rows : List Row) (b p j : ℕ) → PortsDone old rows b p j → rows ≡ with_items b (ports_filled p j) old
+ports_are old rows b p j d = let e = d.1 in let n : d.0 ≡ (p - j) * 3 = omega (arith, e) in d.2.are ∙ (λ t. with_items b (head_ports j ++ replicate (n t) blank) old)
+
+-- no port is written
+pub ports_none : (p : ℕ) → blank_links 8 ++ (blank_numbers 8 ++ replicate (p * 3) blank) ≡ ports_filled p 0
+ports_none p = let n : p * 3 ≡ (p - 0) * 3 = omega arith in λ t. blank_links 8 ++ (blank_numbers 8 ++ replicate (n t) blank)
+
+-- all ports are
+pub ports_all : (p j : ℕ) → j ≡ p → ports_filled p j ≡ cell_items (blank_cell p)
+ports_all p j same = let n : (p - j) * 3 ≡ 0 = omega (arith, same) in (λ t. head_ports (same t) ++ replicate (n t) blank) ∙ no_more (head_ports p)
+
+-- one step behind another
+pub then : (old rows rows' : List Row) (b : ℕ) (is js : List Item) → rows ≡ with_items b is old → rows' ≡ with_items b js rows → rows' ≡ with_items b js old
+then old rows rows' b is js e f = f ∙ ap (with_items b js) e ∙ with_twice old b is js
+
+-- the words that were written
+pub written : (old rows : List Row) (b : ℕ) (is : List Item) → 0 < length (items_in old b) → rows ≡ with_items b is old → items_in rows b ≡ is
+written old rows b is there e = ap (λ rs. items_in rs b) e ∙ items_same old b is there
+
+-- there are some
+pub some_words : (old : List Row) (b p j : ℕ) → items_in old b ≡ ports_filled p j → 0 < length (items_in old b)
+some_words old b p j e = subst (λ is. 0 < length is) (sym e) (omega arith)

@@ -1,0 +1,12 @@
+use Rattle.std.proofs.Common.{◌∙◌, sym, ap}
+use Rattle.std.specs.Option.{option_map}
+use Rattle.lmn_web_cells.specs.Cells.{cells_by}
+use Rattle.lmn_web_cells.specs.CellIds.{cell_id}
+use Rattle.lmn_web_cells.specs.Runs.{with_prev}
+use Rattle.lmn_web_cells.proofs.lists.set_prev.Goals as goal
+
+pub returns-in-None : goal.returns-in-None
+returns-in-None c = c.set_link.ensures ∙ ap (λ o. with_prev (cells_by c.args.cells.now) (cell_id c.args.m) c.args.e (option_map cell_id o) (option_map cell_id c.args.prev)) (sym c.in-None.is)
+
+pub returns-in-Some : goal.returns-in-Some
+returns-in-Some c = c.set_link-in-Some.ensures ∙ ap (λ o. with_prev (cells_by c.args.cells.now) (cell_id c.args.m) c.args.e (option_map cell_id o) (option_map cell_id c.args.prev)) (sym c.in-Some.is)

@@ -1,0 +1,151 @@
+-- Cells: what the words of a row stand for.
+use Rattle.std.specs.Prelude.{◌≡◌, ◌⊎◌, ℕ, zero, suc, ◌<◌, ◌^◌, List, [], ◌∷◌, ◌++◌, length, drop, Option, Some, None, IsSome, slice_index_or, slice_set, replicate}
+use denote.RawPtr.{Ptr, block_ptr, null_ptr}
+use Rattle.lmn_web_cells.specs.Rows.{Item, link, number, Row, items_in}
+
+-- a port: the cell to which it leads, the port there, and a mark
+pub record HeldPort : Type 0 where
+  pub to : Option ℕ
+  pub port : ℕ
+  pub mark : ℕ
+
+-- a cell: eight links, eight numbers, and its ports
+pub record HeldCell : Type 0 where
+  pub links : List (Option ℕ)
+  pub numbers : List ℕ
+  pub ports : List HeldPort
+
+-- The words of a cell
+
+-- the pointer to the cell of a number, or to nowhere
+abbrev pub pointer_to : Option ℕ → Ptr
+pointer_to None = null_ptr
+pointer_to (Some b) = block_ptr b 0
+
+-- a word that leads there
+abbrev pub link_to : Option ℕ → Item
+link_to x = link (pointer_to x)
+
+abbrev pub link_items : List (Option ℕ) → List Item
+link_items [] = []
+link_items (x ∷ xs) = link_to x ∷ link_items xs
+
+abbrev pub number_items : List ℕ → List Item
+number_items [] = []
+number_items (n ∷ ns) = number n ∷ number_items ns
+
+-- three words for each port
+abbrev pub port_items : List HeldPort → List Item
+port_items [] = []
+port_items (p ∷ ps) = link_to p.to ∷ number p.port ∷ number p.mark ∷ port_items ps
+
+abbrev pub cell_items : HeldCell → List Item
+cell_items c = link_items c.links ++ (number_items c.numbers ++ port_items c.ports)
+
+-- Reading the words
+
+-- the cell to which a word leads
+abbrev pub led_to : Item → Option ℕ
+led_to None = None
+led_to (Some (None, n)) = None
+led_to (Some (Some null_ptr, n)) = None
+led_to (Some (Some (block_ptr b o), n)) = Some b
+
+abbrev pub number_by : Item → ℕ
+number_by None = 0
+number_by (Some (p, n)) = n
+
+abbrev pub first_links : ℕ → List Item → List (Option ℕ)
+first_links zero is = []
+first_links (suc n) [] = []
+first_links (suc n) (i ∷ is) = led_to i ∷ first_links n is
+
+abbrev pub first_numbers : ℕ → List Item → List ℕ
+first_numbers zero is = []
+first_numbers (suc n) [] = []
+first_numbers (suc n) (i ∷ is) = number_by i ∷ first_numbers n is
+
+abbrev pub ports_by : List Item → List HeldPort
+ports_by [] = []
+ports_by (i ∷ []) = []
+ports_by (i ∷ j ∷ []) = []
+ports_by (i ∷ j ∷ k ∷ is) = record { to = led_to i; port = number_by j; mark = number_by k } ∷ ports_by is
+
+abbrev pub cell_by : List Item → Option HeldCell
+cell_by [] = None
+cell_by (i ∷ is) = Some record { links = first_links 8 (i ∷ is); numbers = first_numbers 8 (drop 8 (i ∷ is)); ports = ports_by (drop 16 (i ∷ is)) }
+
+-- the cell of each number
+abbrev pub cells_by : List Row → ℕ → Option HeldCell
+cells_by rows b = cell_by (items_in rows b)
+
+-- a cell has as many links and numbers as all cells, and fewer than 2 ^ 16 ports
+pub record IsShaped (c : HeldCell) : Type 0 where
+  pub links : length c.links ≡ 8
+  pub numbers : length c.numbers ≡ 8
+  pub few : length c.ports < 2 ^ 16
+
+-- words are those of a cell, or there are none
+abbrev pub IsLaid : List Item → Type 0
+IsLaid is = (is ≡ []) ⊎ ((c : HeldCell) × IsShaped c × (is ≡ cell_items c))
+
+abbrev pub AreLaid : List Row → Type 0
+AreLaid rows = (b : ℕ) → IsLaid (items_in rows b)
+
+-- Parts of a cell, where there is one
+
+abbrev pub links_of : Option HeldCell → List (Option ℕ)
+links_of None = []
+links_of (Some c) = c.links
+
+abbrev pub numbers_of : Option HeldCell → List ℕ
+numbers_of None = []
+numbers_of (Some c) = c.numbers
+
+abbrev pub ports_of : Option HeldCell → List HeldPort
+ports_of None = []
+ports_of (Some c) = c.ports
+
+abbrev pub no_port : HeldPort
+no_port = record { to = None; port = 0; mark = 0 }
+
+abbrev pub port_of : Option HeldCell → ℕ → HeldPort
+port_of c j = slice_index_or (ports_of c) j no_port
+
+-- Changes of a cell
+
+abbrev pub with_link : ℕ → Option ℕ → HeldCell → HeldCell
+with_link k x c = record c { links = slice_set c.links k x }
+
+abbrev pub with_number : ℕ → ℕ → HeldCell → HeldCell
+with_number k n c = record c { numbers = slice_set c.numbers k n }
+
+-- a port leads elsewhere
+abbrev pub with_to : ℕ → Option ℕ → HeldCell → HeldCell
+with_to j x c = record c { ports = slice_set c.ports j (record (slice_index_or c.ports j no_port) { to = x }) }
+
+-- the number of the port there
+abbrev pub with_port : ℕ → ℕ → HeldCell → HeldCell
+with_port j n c = record c { ports = slice_set c.ports j (record (slice_index_or c.ports j no_port) { port = n }) }
+
+-- the mark of a port
+abbrev pub with_mark : ℕ → ℕ → HeldCell → HeldCell
+with_mark j n c = record c { ports = slice_set c.ports j (record (slice_index_or c.ports j no_port) { mark = n }) }
+
+-- a cell in which nothing is set
+abbrev pub blank_cell : ℕ → HeldCell
+blank_cell ports = record { links = replicate 8 None; numbers = replicate 8 0; ports = replicate ports no_port }
+
+-- the words of so many links that lead nowhere, of numbers that are 0, and of ports in which nothing is set
+abbrev pub blank_links : ℕ → List Item
+blank_links n = link_items (replicate n None)
+
+abbrev pub blank_numbers : ℕ → List Item
+blank_numbers n = number_items (replicate n 0)
+
+abbrev pub blank_ports : ℕ → List Item
+blank_ports n = port_items (replicate n no_port)
+
+-- each cell that is there has eight links
+abbrev pub HaveLinks : (ℕ → Option HeldCell) → Type 0
+HaveLinks f = (a : ℕ) → IsSome (f a) → length (links_of (f a)) ≡ 8

@@ -1,0 +1,56 @@
+-- What the owner of rows owns and lends.
+use Rattle.std.specs.Prelude.{ℕ, ◌+◌, List, [], ◌∷◌, length, Some, None}
+use base.Fraction.{full_share}
+use base.Fml.{Lft, Fml, ftrue, fsep, froom}
+use mir.Syntax.{Ty, w64, ty_int, ty_array}
+use denote.RawPtr.{Ptr, RawPtr, block_ptr}
+use denote.Builtin.{u64}
+use denote.Memory.{part_at}
+use denote.Sharing.{nothing, beside}
+use denote.Struct.Lending.{lent_at}
+use Rattle.std.specs.declared.alloc.Global.{Global}
+use Rattle.std.specs.contracts.impls.GlobalAllocator.TheImpl.{ghosts}
+use Rattle.lmn_web_cells.specs.Rows.{Item, Row}
+
+-- a word
+abbrev pub word : Ty
+word = ty_int w64
+
+abbrev pub item_own : Item → ℕ → ℕ → Fml
+item_own None b e = froom word b e
+item_own (Some (Some p, n)) b e = part_at RawPtr full_share p b e
+item_own (Some (None, n)) b e = part_at u64 full_share n b e
+
+-- words side by side
+abbrev pub items_own : List Item → ℕ → ℕ → Fml
+items_own [] b e = ftrue
+items_own (i ∷ is) b e = fsep (item_own i b e) (items_own is b (e + 8))
+
+-- a handle of the heap: they are all the same
+abbrev pub heap : Global
+heap = record { memory = record { seal = tt } }
+
+-- the right to free a block that the heap gave for a value of a type
+abbrev pub may_free : Ty → Ptr → Fml
+may_free = ghosts.dealloc_token heap
+
+-- a row, with the right to free its block
+abbrev pub row_own : Row → Fml
+row_own r = fsep (items_own r.items r.at 0) (may_free (ty_array word (length r.items)) (block_ptr r.at 0))
+
+abbrev pub rows_own : List Row → Fml
+rows_own [] = ftrue
+rows_own (r ∷ rs) = fsep (row_own r) (rows_own rs)
+
+abbrev pub item_lent : Item → ℕ → ℕ → Lft → Fml
+item_lent None b e = nothing
+item_lent (Some (Some p, n)) b e = lent_at RawPtr (block_ptr b e) p
+item_lent (Some (None, n)) b e = lent_at u64 (block_ptr b e) n
+
+abbrev pub items_lent : List Item → ℕ → ℕ → Lft → Fml
+items_lent [] b e = nothing
+items_lent (i ∷ is) b e = beside (item_lent i b e) (items_lent is b (e + 8))
+
+abbrev pub rows_lent : List Row → Lft → Fml
+rows_lent [] = nothing
+rows_lent (r ∷ rs) = beside (items_lent r.items r.at 0) (rows_lent rs)

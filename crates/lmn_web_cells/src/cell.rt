@@ -1,0 +1,211 @@
+//! Cells: rows with eight links, eight numbers and three words for each port.
+ghost use Rattle.std.specs.Prelude.{◌≡◌, ℕ, ◌+◌, ◌*◌, ◌^◌, ◌<◌, ◌∷◌, length, IsSome, None, Some, MatchResult, slice_index_or};
+ghost use Rattle.std.specs.Option.{option_map};
+ghost use denote.RawPtr.{block_of};
+ghost use Rattle.lmn_web_cells.specs.Cells.{cells_by, links_of, numbers_of, ports_of, port_of, with_link, with_number, with_to, with_port, with_mark, pointer_to, blank_cell, HaveLinks};
+ghost use Rattle.lmn_store_heap.specs.Heap.{alter};
+ghost use Rattle.lmn_web_cells.specs.CellIds.{cell_id, IsLink, led_by};
+
+use crate::filling::{FIRST_PORT, LINKS, PORT_WORDS, fill};
+use crate::handle::Cell;
+use crate::kept::Kept;
+use crate::rows::{Rows, is_nowhere, nowhere};
+use std::alloc::{AllocError, Global};
+use std::marker::Model;
+
+// Where the words of a port stand among them.
+const TO: usize = 0;
+
+const PORT: usize = 1;
+
+const MARK: usize = 2;
+
+/// The cells, and the handle of the heap that they are from. The blocks of freed cells with at most three ports are kept
+/// and used again, so that of cells with as many ports there are never more blocks than lived at once.
+pub struct Cells {
+    rows: Rows,
+    kept: Kept,
+    alloc: Global,
+}
+
+impl Model for Cells {
+    ghost use Rattle.std.specs.Prelude.{List};
+    ghost use Rattle.lmn_web_cells.specs.Rows.{Row};
+    ghost use Rattle.lmn_web_cells.specs.Cells.{AreLaid};
+
+    ghost Value = { List Row };
+
+    ghost view = { λ s. s.rows.rows };
+
+    ghost invariant = { λ s. AreLaid s.rows.rows };
+}
+
+impl Cells {
+    /// No cell.
+    pub fn new(alloc: Global) -> Cells
+        ensures { cells_by result ≡ (λ _. None) }
+    {
+        Cells {
+            rows: Rows::new(),
+            kept: Kept::new(),
+            alloc,
+        }
+    }
+
+    /// The last cell was freed.
+    pub fn end(self)
+        requires { (b : ℕ) → cells_by self b ≡ None }
+    {
+        let Cells { rows, kept, alloc } = self;
+        rows.end();
+        kept.end(&alloc);
+    }
+
+    /// A new cell in which nothing is set.
+    #[inline(always)]
+    pub fn make(&mut self, ports: usize) -> Result<Cell, AllocError>
+        requires { ports < 2 ^ 16 }
+        ensures { MatchResult result
+            (λ c. (cells_by self.old (cell_id c) ≡ None) × (cells_by self.new ≡ alter (cells_by self.old) (cell_id c) (λ _. Some (blank_cell ports))))
+            (λ _. cells_by self.new ≡ cells_by self.old) }
+    {
+        match self.kept.make(&mut self.rows, &self.alloc, ports) {
+            Ok(at) => {
+                fill(&mut self.rows, at, ports);
+                Ok(Cell { at })
+            }
+            Err(error) => Err(error),
+        }
+    }
+
+    /// The cell doesn't live any more.
+    pub fn free(&mut self, c: Cell, ports: usize)
+        requires there { IsSome (cells_by self.old (cell_id c)) }
+        requires ports { length (ports_of (cells_by self.old (cell_id c))) ≡ ports }
+        ensures { cells_by self.new ≡ alter (cells_by self.old) (cell_id c) (λ _. None) }
+    {
+        self.kept.keep(&mut self.rows, &self.alloc, c.at, ports);
+    }
+
+    /// Each cell has eight links.
+    pub fn whole(&self)
+        ensures { HaveLinks (cells_by self.now) }
+    {
+        let _ = &self.alloc;
+    }
+
+    /// The cell to which a link leads.
+    pub fn link(&self, c: Cell, k: usize) -> Option<Cell>
+        requires there { IsSome (cells_by self.now (cell_id c)) }
+        requires below { k < 8 }
+        ensures { slice_index_or (links_of (cells_by self.now (cell_id c))) k None ≡ option_map cell_id result }
+    {
+        cell_from(self.rows.link(c.at, k))
+    }
+
+    /// A link leads elsewhere.
+    pub fn set_link(&mut self, c: Cell, k: usize, to: Option<Cell>)
+        requires there { IsSome (cells_by self.old (cell_id c)) }
+        requires below { k < 8 }
+        ensures { cells_by self.new ≡ alter (cells_by self.old) (cell_id c) (option_map (with_link k (option_map cell_id to))) }
+    {
+        self.rows.set_link(c.at, k, pointer_of(to));
+    }
+
+    /// A number of a cell.
+    pub fn number(&self, c: Cell, k: usize) -> u64
+        requires there { IsSome (cells_by self.now (cell_id c)) }
+        requires below { k < 8 }
+        ensures { result ≡ slice_index_or (numbers_of (cells_by self.now (cell_id c))) k 0 }
+    {
+        self.rows.number(c.at, LINKS + k)
+    }
+
+    /// A number of a cell is another.
+    pub fn set_number(&mut self, c: Cell, k: usize, n: u64)
+        requires there { IsSome (cells_by self.old (cell_id c)) }
+        requires below { k < 8 }
+        ensures { cells_by self.new ≡ alter (cells_by self.old) (cell_id c) (option_map (with_number k n)) }
+    {
+        self.rows.set_number(c.at, LINKS + k, n);
+    }
+
+    /// The cell to which a port leads.
+    pub fn to(&self, c: Cell, j: usize) -> Option<Cell>
+        requires there { IsSome (cells_by self.now (cell_id c)) }
+        requires below { j < length (ports_of (cells_by self.now (cell_id c))) }
+        ensures { (port_of (cells_by self.now (cell_id c)) j).to ≡ option_map cell_id result }
+    {
+        cell_from(self.rows.link(c.at, FIRST_PORT + (j * PORT_WORDS + TO)))
+    }
+
+    /// A port leads elsewhere.
+    pub fn set_to(&mut self, c: Cell, j: usize, to: Option<Cell>)
+        requires there { IsSome (cells_by self.old (cell_id c)) }
+        requires below { j < length (ports_of (cells_by self.old (cell_id c))) }
+        ensures { cells_by self.new ≡ alter (cells_by self.old) (cell_id c) (option_map (with_to j (option_map cell_id to))) }
+    {
+        self.rows
+            .set_link(c.at, FIRST_PORT + (j * PORT_WORDS + TO), pointer_of(to));
+    }
+
+    /// The number of the port to which a port leads.
+    pub fn port(&self, c: Cell, j: usize) -> u64
+        requires there { IsSome (cells_by self.now (cell_id c)) }
+        requires below { j < length (ports_of (cells_by self.now (cell_id c))) }
+        ensures { result ≡ (port_of (cells_by self.now (cell_id c)) j).port }
+    {
+        self.rows.number(c.at, FIRST_PORT + (j * PORT_WORDS + PORT))
+    }
+
+    /// The number of the port to which a port leads is another.
+    pub fn set_port(&mut self, c: Cell, j: usize, n: u64)
+        requires there { IsSome (cells_by self.old (cell_id c)) }
+        requires below { j < length (ports_of (cells_by self.old (cell_id c))) }
+        ensures { cells_by self.new ≡ alter (cells_by self.old) (cell_id c) (option_map (with_port j n)) }
+    {
+        self.rows
+            .set_number(c.at, FIRST_PORT + (j * PORT_WORDS + PORT), n);
+    }
+
+    /// The mark of a port.
+    pub fn mark(&self, c: Cell, j: usize) -> u64
+        requires there { IsSome (cells_by self.now (cell_id c)) }
+        requires below { j < length (ports_of (cells_by self.now (cell_id c))) }
+        ensures { result ≡ (port_of (cells_by self.now (cell_id c)) j).mark }
+    {
+        self.rows.number(c.at, FIRST_PORT + (j * PORT_WORDS + MARK))
+    }
+
+    /// The mark of a port is another.
+    pub fn set_mark(&mut self, c: Cell, j: usize, n: u64)
+        requires there { IsSome (cells_by self.old (cell_id c)) }
+        requires below { j < length (ports_of (cells_by self.old (cell_id c))) }
+        ensures { cells_by self.new ≡ alter (cells_by self.old) (cell_id c) (option_map (with_mark j n)) }
+    {
+        self.rows
+            .set_number(c.at, FIRST_PORT + (j * PORT_WORDS + MARK), n);
+    }
+}
+
+/// The pointer to a cell, or to nowhere.
+fn pointer_of(to: Option<Cell>) -> *mut u8
+    ensures { result ≡ pointer_to (option_map cell_id to) }
+{
+    match to {
+        None => nowhere(),
+        Some(c) => c.at,
+    }
+}
+
+/// The cell at a pointer.
+fn cell_from(at: *mut u8) -> Option<Cell>
+    requires { IsLink at }
+    ensures { option_map cell_id result ≡ led_by at }
+{
+    if is_nowhere(at) {
+        None
+    } else {
+        Some(Cell { at })
+    }
+}

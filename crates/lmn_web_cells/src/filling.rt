@@ -1,0 +1,104 @@
+//! The words of a new row are written, so that it is a cell.
+ghost use Rattle.std.specs.Prelude.{◌≡◌, ◌+◌, ◌*◌, ◌^◌, ◌<◌, ◌≤◌, ◌++◌, replicate};
+ghost use denote.RawPtr.{block_of};
+ghost use Rattle.lmn_web_cells.specs.Rows.{IsStart, blank, items_in, with_items};
+ghost use Rattle.lmn_web_cells.specs.Fillings.{ports_filled};
+ghost use Rattle.lmn_web_cells.specs.Cells.{link_items, number_items, cell_items, blank_cell, blank_links, blank_numbers};
+
+use crate::rows::{Rows, nowhere};
+
+/// How many links a cell has.
+pub const LINKS: usize = 8;
+
+const NUMBERS: usize = 8;
+
+/// The word at which the ports begin.
+pub const FIRST_PORT: usize = 16;
+
+/// How many words a port has.
+pub const PORT_WORDS: usize = 3;
+
+// Each link leads nowhere.
+fn fill_links(rows: &mut Rows, at: *mut u8, ports: usize)
+    requires start { IsStart at }
+    requires few { ports < 2 ^ 16 }
+    requires words { items_in rows.old.rows (block_of at) ≡ replicate (16 + ports * 3) blank }
+    ensures { rows.new.rows ≡ with_items (block_of at) (blank_links 8 ++ replicate (8 + ports * 3) blank) rows.old.rows }
+{
+    for k in 0..LINKS {
+        rows.set_link(at, k, nowhere());
+    }
+}
+
+// Each number is 0.
+fn fill_numbers(rows: &mut Rows, at: *mut u8, ports: usize)
+    requires start { IsStart at }
+    requires few { ports < 2 ^ 16 }
+    requires words { items_in rows.old.rows (block_of at) ≡ blank_links 8 ++ replicate (8 + ports * 3) blank }
+    ensures { rows.new.rows ≡ with_items (block_of at) (blank_links 8 ++ (blank_numbers 8 ++ replicate (ports * 3) blank)) rows.old.rows }
+{
+    for k in 0..NUMBERS {
+        rows.set_number(at, LINKS + k, 0);
+    }
+}
+
+// One more port leads nowhere.
+#[inline(always)]
+fn fill_port(rows: &mut Rows, at: *mut u8, ports: usize, j: usize)
+    requires start { IsStart at }
+    requires few { ports < 2 ^ 16 }
+    requires below { j < ports }
+    requires words { items_in rows.old.rows (block_of at) ≡ ports_filled ports j }
+    ensures { rows.new.rows ≡ with_items (block_of at) (ports_filled ports (j + 1)) rows.old.rows }
+{
+    rows.set_link(at, FIRST_PORT + j * PORT_WORDS, nowhere());
+    rows.set_number(at, FIRST_PORT + j * PORT_WORDS + 1, 0);
+    rows.set_number(at, FIRST_PORT + j * PORT_WORDS + 2, 0);
+}
+
+// No port from this one on leads anywhere.
+fn fill_from(rows: &mut Rows, at: *mut u8, ports: usize, first: usize)
+    requires start { IsStart at }
+    requires few { ports < 2 ^ 16 }
+    requires below { first ≤ ports }
+    requires words { items_in rows.old.rows (block_of at) ≡ ports_filled ports first }
+    ensures { rows.new.rows ≡ with_items (block_of at) (cell_items (blank_cell ports)) rows.old.rows }
+{
+    for j in first..ports {
+        fill_port(rows, at, ports, j);
+    }
+}
+
+// No port leads anywhere. Most cells have at most three, and those are written without a loop.
+fn fill_ports(rows: &mut Rows, at: *mut u8, ports: usize)
+    requires start { IsStart at }
+    requires few { ports < 2 ^ 16 }
+    requires words { items_in rows.old.rows (block_of at) ≡ blank_links 8 ++ (blank_numbers 8 ++ replicate (ports * 3) blank) }
+    ensures { rows.new.rows ≡ with_items (block_of at) (cell_items (blank_cell ports)) rows.old.rows }
+{
+    if ports == 0 {
+        return;
+    }
+    fill_port(rows, at, ports, 0);
+    if ports == 1 {
+        return;
+    }
+    fill_port(rows, at, ports, 1);
+    if ports == 2 {
+        return;
+    }
+    fill_port(rows, at, ports, 2);
+    fill_from(rows, at, ports, 3);
+}
+
+/// A new row becomes a cell in which nothing is set.
+pub fn fill(rows: &mut Rows, at: *mut u8, ports: usize)
+    requires start { IsStart at }
+    requires few { ports < 2 ^ 16 }
+    requires words { items_in rows.old.rows (block_of at) ≡ replicate (16 + ports * 3) blank }
+    ensures { rows.new.rows ≡ with_items (block_of at) (cell_items (blank_cell ports)) rows.old.rows }
+{
+    fill_links(rows, at, ports);
+    fill_numbers(rows, at, ports);
+    fill_ports(rows, at, ports);
+}

@@ -1,0 +1,100 @@
+//! The rows of freed cells with few ports, kept for the next ones with as many.
+ghost use Rattle.std.specs.Prelude.{◌≡◌, ◌+◌, ◌*◌, ◌^◌, ◌<◌, ◌∷◌, [], length, replicate, MatchOption, MatchResult};
+ghost use denote.RawPtr.{block_of};
+ghost use Rattle.lmn_web_cells.specs.Rows.{row, items_in, without_row, blank, IsStart};
+
+use crate::filling::{FIRST_PORT, PORT_WORDS};
+use crate::rows::Rows;
+use crate::spares::Spares;
+use std::alloc::{AllocError, Global};
+use std::marker::Model;
+
+/// Rows by the number of ports that their cells had: none, one, two or three. Those of cells with more aren't kept.
+pub struct Kept {
+    none: Spares,
+    one: Spares,
+    two: Spares,
+    three: Spares,
+}
+
+impl Model for Kept {
+    ghost use Rattle.std.specs.Prelude.{◌≡◌, ℕ, List, ◌∷◌, []};
+
+    ghost Value = { List ℕ };
+
+    ghost view = { λ k. k.none ∷ k.one ∷ k.two ∷ k.three ∷ [] };
+
+    ghost invariant = { λ k. (k.none ≡ 16) × (k.one ≡ 19) × (k.two ≡ 22) × (k.three ≡ 25) };
+}
+
+impl Kept {
+    /// No row.
+    pub fn new() -> Kept {
+        Kept {
+            none: Spares::new(FIRST_PORT),
+            one: Spares::new(FIRST_PORT + PORT_WORDS),
+            two: Spares::new(FIRST_PORT + 2 * PORT_WORDS),
+            three: Spares::new(FIRST_PORT + 3 * PORT_WORDS),
+        }
+    }
+
+    // A kept row for a cell with so many ports, if there is one.
+    fn take(&mut self, rows: &mut Rows, ports: usize) -> Option<*mut u8>
+        ensures { MatchOption result (rows.new.rows ≡ rows.old.rows)
+            (λ p. IsStart p × (items_in rows.old.rows (block_of p) ≡ []) × (rows.new.rows ≡ row (block_of p) (replicate (16 + ports * 3) blank) ∷ rows.old.rows)) }
+    {
+        match ports {
+            0 => self.none.take(rows),
+            1 => self.one.take(rows),
+            2 => self.two.take(rows),
+            3 => self.three.take(rows),
+            _ => None,
+        }
+    }
+
+    /// A row for a cell with so many ports: one that was kept, or a new one.
+    pub fn make(
+        &mut self,
+        rows: &mut Rows,
+        alloc: &Global,
+        ports: usize,
+    ) -> Result<*mut u8, AllocError>
+        requires { ports < 2 ^ 16 }
+        ensures { MatchResult result
+            (λ p. IsStart p × (items_in rows.old.rows (block_of p) ≡ []) × (rows.new.rows ≡ row (block_of p) (replicate (16 + ports * 3) blank) ∷ rows.old.rows))
+            (λ _. rows.new.rows ≡ rows.old.rows) }
+    {
+        match self.take(rows, ports) {
+            Some(at) => Ok(at),
+            None => rows.make(alloc, FIRST_PORT + ports * PORT_WORDS),
+        }
+    }
+
+    /// The row of a cell with so many ports is kept, or freed where it had more than three.
+    pub fn keep(&mut self, rows: &mut Rows, alloc: &Global, at: *mut u8, ports: usize)
+        requires { IsStart at × (ports < 2 ^ 16) × (length (items_in rows.old.rows (block_of at)) ≡ 16 + ports * 3) }
+        ensures { (rows.new.rows ≡ without_row (block_of at) rows.old.rows) × (items_in rows.new.rows (block_of at) ≡ []) }
+    {
+        match ports {
+            0 => self.none.keep(rows, at),
+            1 => self.one.keep(rows, at),
+            2 => self.two.keep(rows, at),
+            3 => self.three.keep(rows, at),
+            _ => rows.free(alloc, at, FIRST_PORT + ports * PORT_WORDS),
+        }
+    }
+
+    /// All rows that are kept are freed.
+    pub fn end(self, alloc: &Global) {
+        let Kept {
+            none,
+            one,
+            two,
+            three,
+        } = self;
+        none.end(alloc);
+        one.end(alloc);
+        two.end(alloc);
+        three.end(alloc);
+    }
+}

@@ -1,5 +1,0 @@
-use Rattle.lmn_words.proofs.Examples.{folded_run_asked}
-use Rattle.lmn_words.proofs.laws.folded_run.Goals as goal
-
-pub returns : goal.returns
-returns c = folded_run_asked
