@@ -131,13 +131,12 @@ module _ (laws : AcceptedTexts) (printables : PlainsArePrintable) where
   one_run s text e d out other w v =
       let t = trace_at s text (at_end e) (Some []) (Some out) w in
       let u = trace_at s text (at_end d) (Some []) (Some other) v in
-      let one = ended laws printables (given s) text w.lines v.lines w.commits v.commits t.0 u.0 e d t.1 u.1 in
-      (
+      let one = ended laws printables (given s) text w.lines v.lines w.commits v.commits t.0 u.0 e d t.1 u.1 in (
         one.0,
         one.1,
         same_Some out (run_text w.lines (at_end e) w.commits) w.took
-        ∙ (λ i. run_text (one.2 i) (at_end (one.1 i)) (one.0 i))
-        ∙ sym (same_Some other (run_text v.lines (at_end d) v.commits) v.took),
+            ∙ (λ i. run_text (one.2 i) (at_end (one.1 i)) (one.0 i))
+            ∙ sym (same_Some other (run_text v.lines (at_end d) v.commits) v.took),
       )
 
   -- after as many commits they have the same lines

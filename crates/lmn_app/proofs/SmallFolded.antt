@@ -65,8 +65,7 @@ folded_trace room are =
 pub small_text_runs_folded : Laws → SmallTextRunsFolded
 small_text_runs_folded laws alloc budget room =
     let all = folded_trace {trace = true} room (first_folded, (last_folded, tt)) in
-    let end = folded_trace {trace = false} room (last_folded, tt) in
-    (
+    let end = folded_trace {trace = false} room (last_folded, tt) in (
       trace_is_run laws alloc (folding true budget) small_text small_lines 1 all.0 (at_end irreducible) all.1,
       trace_is_run laws alloc (folding false budget) small_text (small_end ∷ []) 1 end.0 (at_end irreducible) end.1,
     )

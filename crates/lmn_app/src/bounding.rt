@@ -12,8 +12,7 @@ use lmn_app_reading::Accepted;
 use lmn_app_words::PairKind;
 use lmn_base::{Names, TextFault};
 use lmn_io::{Failed, Sink, put_all};
-use lmn_weight::{bound, read};
-use lmn_weight::{few_items_weigh, weights_bound_commits};
+use lmn_weight::{bound, few_items_weigh, read, weights_bound_commits};
 use std::alloc::Global;
 
 /// Writes how many commits an accepted text has at most, by the weights of a second one.

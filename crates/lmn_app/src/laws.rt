@@ -27,11 +27,11 @@ use lmn_receipt_chain::{
 };
 use lmn_schedule_loading::loading_settles;
 use lmn_verify_coded::{runs_are_one, tables_run_as_rules};
-use lmn_verify_compiled::accepted_can_be_listed;
-use lmn_verify_compiled::{compiled_are_listed, listed_codes_are_one};
+use lmn_verify_compiled::{accepted_can_be_listed, compiled_are_listed, listed_codes_are_one};
 use lmn_verify_listing::laws::{listed_lines_stand, wrong_line_is_one};
-use lmn_weight::weights_bound_commits;
-use lmn_weight::{plains_weigh_alike, weights_are_read_once, weights_are_told_or_wrong};
+use lmn_weight::{
+    plains_weigh_alike, weights_are_read_once, weights_are_told_or_wrong, weights_bound_commits,
+};
 
 /// A text that is refused isn't accepted, and it has one refusal at most.
 pub fn refusals_are_one()

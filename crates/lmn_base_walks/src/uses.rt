@@ -5,11 +5,7 @@ ghost use Rattle.lmn_base_walks.specs.RuleCodes.{is_left_of};
 ghost use Rattle.lmn_base.specs.Uses.{has_use};
 
 use crate::walk::{find, find_in_condition, find_in_expression};
-use lmn_base::Item;
-use lmn_base::Level;
-use lmn_base::Pos;
-use lmn_base::{Cond, Expr};
-use lmn_base::{Found, Question};
+use lmn_base::{Cond, Expr, Found, Item, Level, Pos, Question};
 
 /// Asks for the uses of a context with a name.
 #[derive(Clone, Copy)]

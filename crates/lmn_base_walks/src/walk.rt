@@ -3,11 +3,9 @@ ghost use Rattle.lmn_base.specs.declared.level.Level.{out-Level};
 ghost use Rattle.lmn_base.specs.Firsts.{IsFound};
 ghost use Rattle.lmn_base.specs.Items.{used, untyped_form, untyped, leaf_item, own_items, items_of, expression_items, condition_items, guard_items, rule_items, number_of_items};
 
-use lmn_base::RuleTree;
-use lmn_base::{Cond, Expr};
-use lmn_base::{CtxUse, Leaf, Level};
-use lmn_base::{Form, FormedUse, Item, leaf_item};
-use lmn_base::{Found, Question};
+use lmn_base::{
+    Cond, CtxUse, Expr, Form, FormedUse, Found, Item, Leaf, Level, Question, RuleTree, leaf_item,
+};
 
 /// What a question finds in a level, at every depth.
 pub fn find<Q: Question>(question: &Q, level: &Level) -> Found

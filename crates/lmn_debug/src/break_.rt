@@ -26,7 +26,11 @@ impl<G: Fn(u64) -> bool> Break<G> {
     pub(crate) fn enough(&self) -> u64
         ensures { (self.now.n < result) ⊎ (result ≡ 2 ^ 64 - 1) }
     {
-        if self.n < u64::MAX { self.n + 1 } else { u64::MAX }
+        if self.n < u64::MAX {
+            self.n + 1
+        } else {
+            u64::MAX
+        }
     }
 
     /// Whether it is known that no count up to this one stands so.

@@ -84,11 +84,7 @@ fn count_up_to<S: LinkStore>(store: &S, functor: Functor, most: u64) -> u64
 
 /// Whether the number of atoms with the functor, at every depth, is as a break asks. No more atoms are counted than tell it, and none where
 /// the store has too few items.
-pub fn meets<S: LinkStore, G: Fn(u64) -> bool>(
-    store: &S,
-    functor: Functor,
-    stop: &Break<G>,
-) -> bool
+pub fn meets<S: LinkStore, G: Fn(u64) -> bool>(store: &S, functor: Functor, stop: &Break<G>) -> bool
     requires valid { Valid (S.heap store.now) }
     requires stop { AnswersSo G.pre G.post stop.now.f stop.now.op stop.now.n }
     ensures { (f : Forest) → IsTree (S.heap store.now) f → IsTrue result ↔ StandsSo stop.now.op (count_in (S.heap store.now) functor (flat f)) stop.now.n }

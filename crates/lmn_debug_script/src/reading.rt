@@ -12,8 +12,7 @@ ghost use Rattle.lmn_debug_script.specs.Scripts.{AreOrdersOf, IsFirstWrong, IsNu
 
 use crate::order::Order;
 use lmn_base::{Cmp, Names, NoMemory, Pos, Refusal, Rows, TextFault};
-use lmn_instr_reading::read_functor;
-use lmn_instr_reading::{last_space, next_feed, number_written};
+use lmn_instr_reading::{last_space, next_feed, number_written, read_functor};
 use std::alloc::Global;
 
 /// All operators.

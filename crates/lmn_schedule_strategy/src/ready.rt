@@ -5,8 +5,7 @@ ghost use Rattle.lmn_schedule_strategy.specs.Turns.{BodiesAreReady, TablesAreRun
 use lmn_compile_body::accepted_bodies;
 use lmn_compile_head::{accepted_heads, accepted_least};
 use lmn_machine_commit::{bodies_are_in_order, bodies_can_be_committed, rules_wake_touched};
-use lmn_machine_laws::commits_cost_what_is_told;
-use lmn_machine_laws::{accepted_in_order, accepted_sets_items};
+use lmn_machine_laws::{accepted_in_order, accepted_sets_items, commits_cost_what_is_told};
 use lmn_schedule_sleep::quiet_stays_matchless;
 
 /// After the head of an accepted rule has set its registers, the body can be prepared, and what is read to tell its cost

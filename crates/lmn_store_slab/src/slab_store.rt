@@ -4,14 +4,13 @@ ghost use Rattle.lmn_store_heap.specs.Heap.{lone_root};
 ghost use Rattle.lmn_store_heap.specs.Sound.{Valid};
 ghost use Rattle.lmn_store_slab.specs.Kept.{heap_of};
 
-use crate::Lists;
 use crate::cell::{AtomCell, MemCell};
-use crate::cells;
 use crate::freeing::{free_atoms, free_mems};
 use crate::growth::{cover, cover_list};
 use crate::moving::{append_rules, move_atoms, move_mems};
 use crate::rules::Rules;
 use crate::seek::seek;
+use crate::{Lists, cells};
 use lmn_base::{Functor, NoMemory};
 use lmn_store_trait::LinkStore;
 use slab::Slab;

@@ -12,8 +12,7 @@ ghost use Rattle.lmn_weight.specs.Plains.{AreSmall};
 use crate::told::Told;
 use crate::weights::{Weights, is_integer, same_functor};
 use lmn_base::{Functor, Label, Names, NoMemory, Pos, Refusal, Rows, TextFault};
-use lmn_instr_reading::read_functor;
-use lmn_instr_reading::{last_space, next_feed, number_written};
+use lmn_instr_reading::{last_space, next_feed, number_written, read_functor};
 use std::alloc::Global;
 
 /// Whether a functor is among these.

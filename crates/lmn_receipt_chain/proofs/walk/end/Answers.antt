@@ -17,7 +17,7 @@ pub returns-else-other : goal.returns-else-other
 returns-else-other g c = (
   c.requires.there,
   other_wrong (g.N.NextSolids.region c.args.solids.now c.args.solid.now) c.args.rest.now c.args.commits (c.in_ok-embeds.ensures.some c.if-embeds.true)
-  (λ is. not_both c.in_ok-other.other c.if-other.false (c.in_ok-other.ensures.1 is)),
+      (λ is. not_both c.in_ok-other.other c.if-other.false (c.in_ok-other.ensures.1 is)),
 )
 
 pub returns-then-stuck : goal.returns-then-stuck
@@ -29,5 +29,5 @@ pub returns-else-stuck : goal.returns-else-stuck
 returns-else-stuck g c = (
   c.requires.there,
   stuck_wrong (g.N.NextSolids.region c.args.solids.now c.args.solid.now) c.args.rest.now c.args.commits (c.in_ok-embeds.ensures.none c.if-embeds.false)
-  (λ is. not_both c.in_ok-stuck.stuck c.if-stuck.false (c.in_ok-stuck.ensures.1 is)),
+      (λ is. not_both c.in_ok-stuck.stuck c.if-stuck.false (c.in_ok-stuck.ensures.1 is)),
 )
