@@ -55,10 +55,6 @@ module _ (t : Assignment) (p : Plain t) where
   abbrev pub context_places : ℕ → List Name → ℕ
   context_places L ps = occurrences L (together (map (λ q. t.context_of (open_context q)) ps))
 
-  pub context_places_append : (L : ℕ) (ps qs : List Name) → context_places L (ps ++ qs) ≡ context_places L ps + context_places L qs
-  context_places_append L [] qs = omega arith
-  context_places_append L (q ∷ ps) qs = omega (arith, context_places_append L ps qs)
-
   pub context_places_put : (L : ℕ) {q : Name} {ps qs : List Name} → Put q ps qs → context_places L qs ≡ occurrences L (t.context_of (open_context q)) + context_places L ps
   context_places_put L here = refl
   context_places_put L (there k) = omega (arith, context_places_put L k)

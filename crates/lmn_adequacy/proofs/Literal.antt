@@ -1,5 +1,5 @@
 -- An embedding gives its contexts the lists that they stand for, in their order.
-use Rattle.std.proofs.Common.{ℕ, List, map, refl, sym, subst, subst₂, inl, inr, arith, ◌≡◌, ◌≢◌, ◌⊎◌, [], ◌∷◌, ◌++◌, ◌∙◌}
+use Rattle.std.proofs.Common.{ℕ, List, map, refl, sym, subst, subst₂, inl, inr, arith, ◌≡◌, ◌⊎◌, [], ◌∷◌, ◌++◌, ◌∙◌}
 use Rattle.lmn_congruence.specs.Orders.{Among, Shuffle, at_head, further, EachOnce}
 use Rattle.lmn_congruence.specs.Process.{Closed, Process, atom, connector, membrane, nothing, pair, rule, together}
 use Rattle.lmn_congruence.specs.Regions.{Region, Regions, SolidAtom, atom_process, no_region, region, region_and, region_process, regions_processes}

@@ -1,11 +1,11 @@
 -- An instance of a head in which each context stands once is one in which each closed context stands for the very process
 -- that is there, and for no copy of it.
-use Rattle.std.proofs.Common.{ℕ, List, cond, eqb, map, refl, sym, ap, subst, inl, inr, arith, ◌≤◌, ◌≡◌, ◌≢◌, ◌⊎◌, [], ◌∷◌, ◌++◌, ◌∙◌}
+use Rattle.std.proofs.Common.{ℕ, List, cond, eqb, map, refl, sym, ap, subst, inl, arith, ◌≤◌, ◌≡◌, ◌⊎◌, [], ◌∷◌, ◌++◌, ◌∙◌}
 use Rattle.lmn_base.proofs.Lists.{map_append}
 use Rattle.lmn_congruence.specs.Fused.{Joins, fused}
 use Rattle.lmn_congruence.specs.Orders.{Among, EachOnce, at_head, further}
 use Rattle.lmn_congruence.specs.Process.{Closed, Free, Linked, OneToOneOn, Process, atom, connector, membrane, nothing, occurrences, pair, renamed, rule, together}
-use Rattle.lmn_congruence.specs.Rules.{Context, Leaf, Level, Levels, Name, Rules, Rule, closed_context, level, level_and, no_level, open_context, rules_list}
+use Rattle.lmn_congruence.specs.Rules.{Context, Leaf, Level, Levels, Name, Rules, closed_context, level, level_and, no_level, open_context, rules_list}
 use Rattle.lmn_reduction.specs.Assignments.{Assignment, NoRuleAtTop, Proper}
 use Rattle.lmn_reduction.specs.Instances.{ContextInstances, Instance, IsClosedCopy, LeafInstances, MembraneInstances, context_and, instance, leaf_and, membrane_and, no_context, no_leaf, no_membrane, of_atom, of_closed, of_connector, of_open, of_typed, rules_of_contexts}
 use Rattle.lmn_congruence.proofs.Common.{among_apart as among_append, among_left, among_right}
@@ -14,7 +14,7 @@ use Rattle.lmn_congruence.proofs.FewestCrossings.{free_image, with_image}
 use Rattle.lmn_congruence.proofs.LinkMaps.{closed_linked}
 use Rattle.lmn_congruence.proofs.Renaming.{occurrences_image, occurrences_none, renamed_id}
 use Rattle.lmn_congruence.proofs.Totals.{total_zero}
-use Rattle.lmn_congruence.specs.FreeLinks.{link_bound, one_if_free, one_if_once, sum_below}
+use Rattle.lmn_congruence.specs.FreeLinks.{link_bound, one_if_free, one_if_once}
 use Rattle.lmn_adequacy.specs.Accepted.{all_contexts, contexts_in}
 use Rattle.lmn_adequacy.specs.Loose.{filling}
 use Rattle.lmn_adequacy.proofs.Exposing.{Source, found, missing, source}

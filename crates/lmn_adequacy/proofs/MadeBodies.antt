@@ -7,7 +7,7 @@ use Rattle.lmn_congruence.specs.Orders.{Among, at_head, further}
 use Rattle.lmn_congruence.specs.Plains.{leaf_process}
 use Rattle.lmn_congruence.specs.Process.{OneToOneOn, occurrences, renamed, together}
 use Rattle.lmn_congruence.specs.Rules.{Context, Leaf, Level, Levels, Name, Rule, atom_leaf, closed_context, connector_leaf, level, level_and, no_level, open_context, rules_list, typed_leaf}
-use Rattle.lmn_congruence.specs.Regions.{Region, Regions, SolidAtom, region, region_process}
+use Rattle.lmn_congruence.specs.Regions.{Regions, SolidAtom, region, region_process}
 use Rattle.lmn_congruence.specs.Same.{renamed_atom, renamed_regions}
 use Rattle.lmn_congruence.specs.Translation.{levels, rules as listed_rules}
 use Rattle.lmn_reduction.specs.Assignments.{Assignment}

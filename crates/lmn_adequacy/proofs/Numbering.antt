@@ -6,7 +6,7 @@ use Rattle.lmn_congruence.specs.Fused.{Joins}
 use Rattle.lmn_congruence.specs.Links.{places}
 use Rattle.lmn_congruence.specs.Orders.{Among, at_head, further}
 use Rattle.lmn_congruence.specs.Plains.{SolidOf, level_process}
-use Rattle.lmn_congruence.specs.Process.{Closed, OneToOneOn, Process, atom, connector, membrane, nothing, occurrences, pair, renamed, rule, together}
+use Rattle.lmn_congruence.specs.Process.{Closed, OneToOneOn, Process, atom, connector, membrane, nothing, occurrences, pair, rule, together}
 use Rattle.lmn_congruence.specs.Regions.{Region, Regions, SolidAtom, no_region, region, region_and, region_process, regions_processes}
 use Rattle.lmn_congruence.specs.Rules.{Level}
 use Rattle.lmn_congruence.specs.Same.{IsRenamed, renamed_atom, renamed_region, renamed_regions}

@@ -1,6 +1,6 @@
 -- Small solids, and their next ones.
 use Rattle.std.specs.Prelude.{List, [], ◌∷◌}
-use Rattle.lmn_congruence.specs.Rules.{Name, Context, open_context, Label, named, atom_leaf, level, no_level, Rule, rule_of, no_rule, only_leaves}
+use Rattle.lmn_congruence.specs.Rules.{Context, open_context, Label, named, atom_leaf, level, no_level, Rule, rule_of, no_rule, only_leaves}
 use Rattle.lmn_congruence.specs.Regions.{SolidAtom, Region, region, no_region, region_and, solid_atom_with}
 use Rattle.lmn_reduction.specs.Examples.{label_a, label_b, label_c, int, one_membrane_level, join_in_c, join_from_membrane, add_up, double_rules, tie_ends, double_part}
 use Rattle.lmn_adequacy.specs.Accepted.{Accepted}

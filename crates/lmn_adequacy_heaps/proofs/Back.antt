@@ -35,7 +35,7 @@ use Rattle.lmn_adequacy_heaps.proofs.Walking.{Walk, walk_split, walk_join, atoms
 use Rattle.lmn_adequacy_heaps.proofs.Weighing.{left_grown, weigh_out, weigh_left}
 use Rattle.lmn_adequacy_heaps.proofs.Rests.{LeftApart, none_leaves, tops_taken}
 use Rattle.lmn_adequacy_heaps.proofs.PartsOut.{PartsOut, parts_none, parts_typed, flattened, flattened_left, flattened_right, out_rest, merged_first, merged_second}
-use Rattle.lmn_adequacy_heaps.proofs.Forests.{tops, Grown, taken_top, taken_grown, taken_others, taken_before, find_in, some_of, within_tree, each_tree, home_in}
+use Rattle.lmn_adequacy_heaps.proofs.Forests.{tops, Grown, taken_top, taken_grown, taken_before, find_in, some_of, within_tree, each_tree, home_in}
 use Rattle.lmn_store_heap.proofs.Heights.{parent_is}
 use Rattle.lmn_adequacy_heaps.proofs.Ports.{port_named, Outer, outer_top, outer_in, outermost_is}
 use Rattle.lmn_adequacy_heaps.proofs.Laying.{only_atom, AtomLies, MembraneLies, NoneLeaves, TypedLies, Below, all_atoms, all_parts, all_membranes, total}

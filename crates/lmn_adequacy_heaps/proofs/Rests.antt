@@ -24,7 +24,6 @@ use Rattle.lmn_adequacy_heaps.proofs.Weighing.{weigh_out}
 use Rattle.lmn_adequacy_heaps.proofs.Ports.{find_place, port_named}
 use Rattle.lmn_congruence.proofs.TranslatedLinks.{places_append as places_both}
 use Rattle.lmn_base.proofs.Lists.{in_either, weigh, weigh_append}
-use Rattle.lmn_base.specs.Graphs.{Port}
 use Rattle.lmn_base.specs.Lists.{In}
 use Rattle.std.specs.List.{AllByRecursion}
 

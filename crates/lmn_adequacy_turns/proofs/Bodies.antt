@@ -149,10 +149,6 @@ module _ (h h' : Heap) (r r' : HeapReading) (s : Registers) (bn : BodyNames) (c 
   LeavesAgree k (leaf.Atom f os p ∷ ls) = (length os ≡ f.arity) × LeavesAgree k ls
   LeavesAgree k (leaf.Typed n o p ∷ ls) = TypedAgrees (bn.part n) k n o.link × LeavesAgree (next_copy (bn.part n) k) ls
 
-  -- the link that a link of a rest has in copy number `count`
-  abbrev pub own_link : ℕ → ℕ → ℕ
-  own_link count y = limit + code (of_solid count) y
-
   -- an open context stands for what is left of its membrane
   pub record ContextAgrees (u : CtxUse) : Type 0 where
     pub atoms : map (renamed_atom (λ z. to (of_solid z))) (c.atoms_of (tree.open_context (name_of r.names u.name))) ≡ map (solid_atom_of r.names) (left (at s (bn.context u.name)))

@@ -1,36 +1,19 @@
 -- Code of a body leaves the root where it is.
-use Rattle.std.proofs.Common.{ℕ, ◌≡◌, Bool, true, false, List, [], ◌∷◌, map, Option, Some, None, refl, ap, ◌∙◌}
-use Rattle.std.specs.Prelude.{◌==◌, ◌&&◌, cond}
-use Rattle.lmn_store_heap.specs.Heap.{Heap, link_of, parent_of, atoms_in, made_mem, reserved, taken, taken_mem, placed, placed_mem, rules_copied, joined, taken_all}
-use Rattle.lmn_store_heap.specs.Splice.{joined_to, joined_both}
-use Rattle.lmn_congruence_splice.specs.Ties.{Tie, newlink, relink, unify}
+use Rattle.std.proofs.Common.{ℕ, ◌≡◌, List, [], ◌∷◌, map, refl, ap, ◌∙◌}
+use Rattle.lmn_store_heap.specs.Heap.{Heap, parent_of, atoms_in, made_mem, reserved, placed_mem, rules_copied, taken_all}
+use Rattle.lmn_congruence_splice.specs.Ties.{relink, unify}
 use Rattle.lmn_instr_code.specs.declared.instr.Instr.{Instr}
 use Rattle.lmn_instr_code.specs.declared.instr.Instr.TheVariants.{RemoveAtom, RemovePart, RemoveMem, NewAtom, NewInt, NewMem, CopyGround, MoveCells, CopyCells, LoadRule, CopyRules, DropCells, NewLink, Relink, Unify, Proceed}
-use Rattle.lmn_solid_bodies.specs.Running.{Registers, Prepares, DoesAll, RunsBody, Makes, Does, all_placed, new_port, old_port}
-use Rattle.lmn_solid_bodies.specs.Tied.{tied}
+use Rattle.lmn_solid_bodies.specs.Running.{Registers, Prepares, DoesAll, RunsBody, Makes, Does, new_port, old_port}
 use Rattle.lmn_solid_bodies.proofs.RestMems.{like_mems}
 use Rattle.lmn_solid_bodies.proofs.RestsMade.{joined_lines}
 use Rattle.lmn_ground_parts.specs.Copies.{answer, made_like, ports_of}
-use Rattle.lmn_ground_parts.specs.Rests.{made_roomy, rest_copied, atoms_placed, membrane_placed, membranes_placed, copy_round, rest_placed, all_mems_taken}
-use Rattle.lmn_base.specs.Graphs.{Port}
+use Rattle.lmn_ground_parts.specs.Rests.{made_roomy, rest_copied, atoms_placed, membrane_placed, membranes_placed, copy_round, rest_placed}
 use Rattle.lmn_solid_bodies.proofs.Common.{placed_root, tied_root}
 use Rattle.lmn_store_heap.proofs.Common.{taken_root}
 use Rattle.lmn_ground_parts.proofs.Common.{copies_root, mems_taken_root}
 
 -- ---- the root
-
-to_root : (s : Heap) (a i : ℕ) (o : Option (ℕ × ℕ)) → (joined_to s a i o).root ≡ s.root
-to_root s a i None = refl
-to_root s a i (Some c) = refl
-
-both_root : (s : Heap) (b j : ℕ) (o u : Option (ℕ × ℕ)) → (joined_both s b j o u).root ≡ s.root
-both_root s b j None u = refl
-both_root s b j (Some c) None = refl
-both_root s b j (Some c) (Some d) = by ((c.0 == b) && (c.1 == j))
-  where
-    by : (t : Bool) → (cond t s (joined s c.0 c.1 d.0 d.1)).root ≡ s.root
-    by true = refl
-    by false = refl
 
 -- a rest is copied, placed and dropped beside it
 roomy_root : (es : List (ℕ × ℕ)) (s : Heap) → (made_roomy s es).root ≡ s.root

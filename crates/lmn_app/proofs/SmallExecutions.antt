@@ -12,7 +12,6 @@ use Rattle.lmn_base.specs.declared.functor.Label.TheVariants.{Name as NameLabel}
 use Rattle.lmn_base.specs.declared.level.Level.TheFolds.{fold-roll-Level}
 use Rattle.lmn_base.specs.declared.refusal.Refusal.{Refusal}
 use Rattle.lmn_base.specs.declared.rule.Plain.{Plain}
-use Rattle.lmn_base.specs.declared.rule.RuleTree.{RuleTree}
 use Rattle.lmn_base.specs.declared.solid.Region.{Region, out-Region}
 use Rattle.lmn_base.specs.declared.solid.Region.TheFolds.{fold-roll-Region}
 use Rattle.lmn_base.specs.declared.solid.Region.TheOpen.{Region-F}
@@ -47,8 +46,7 @@ use Rattle.lmn_machine_commit.specs.Waking.{Commits}
 use Rattle.lmn_machine_commit.proofs.Rousing.{no_marks}
 use Rattle.lmn_schedule_loading.specs.Loaded.{IsLoaded}
 use Rattle.lmn_machine.specs.Costs.{Leaves}
-use Rattle.lmn_flatten_plain.specs.Plains.{EachPair}
-use Rattle.lmn_flatten_plain.specs.SamePlains.{SamePlain, SameRule}
+use Rattle.lmn_flatten_plain.specs.SamePlains.{SamePlain}
 use Rattle.lmn_app_reading.specs.Texts.{IsAcceptedAs}
 use Rattle.lmn_app_reading.proofs.OneRead.{one_acceptance}
 use Rattle.lmn_schedule_strategy.specs.Choosing.{CodeSucceeds}

@@ -1,5 +1,5 @@
 -- The run of a small text in the folded form.
-use Rattle.std.proofs.Common.{◌≡◌, ◌≤◌, ℕ, List, [], ◌∷◌, refl, arith}
+use Rattle.std.proofs.Common.{◌≤◌, ℕ, List, [], ◌∷◌, refl, arith}
 use Rattle.std.specs.Prelude.{Bool, codes, true, false}
 use Rattle.lmn_adequacy.specs.ChangeExamples.{changing}
 use Rattle.lmn_adequacy.specs.Examples.{root_first}

@@ -1,8 +1,8 @@
 -- What is asked in a run, turn by turn.
-use Rattle.std.proofs.Common.{ℕ, ◌≡◌, ◌+◌, List, inl, inr, refl, sym, subst, ◌∙◌}
+use Rattle.std.proofs.Common.{ℕ, ◌≡◌, ◌+◌, List, inl, inr, refl, subst}
 use Rattle.lmn_base.specs.declared.rule.RuleTree.{RuleTree}
 use Rattle.lmn_store_heap.specs.Heap.{Heap}
-use Rattle.lmn_store_heap.specs.Sound.{IsTree, Valid}
+use Rattle.lmn_store_heap.specs.Sound.{Valid}
 use Rattle.lmn_instr_code.specs.declared.instr.Code.{Code}
 use Rattle.lmn_schedule_strategy.proofs.Counts.{counts_rules, rises_both, rises_none}
 use Rattle.lmn_schedule_strategy.specs.Counting.{CountsAsked, RisesWithin}

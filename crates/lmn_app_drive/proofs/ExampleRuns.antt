@@ -1,13 +1,13 @@
 -- How many rules are asked in runs without commits.
-use Rattle.std.proofs.Common.{ℕ, ◌≡◌, ◌+◌, ◌==◌, if◌then◌else◌, List, [], ◌∷◌, inl, inr, refl, sym, ap, subst, ◌∙◌, arith}
+use Rattle.std.proofs.Common.{ℕ, ◌≡◌, ◌==◌, if◌then◌else◌, List, [], ◌∷◌, inl, inr, refl, ap, subst, ◌∙◌, arith}
 use Rattle.lmn_base.specs.Lists.{In}
 use Rattle.lmn_base.proofs.Numbers.{not_equal}
 use Rattle.lmn_base.specs.declared.rule.RuleTree.{RuleTree}
 use Rattle.lmn_store_heap.specs.Heap.{Heap, mem_mark_of}
-use Rattle.lmn_store_heap.specs.Sound.{Forest, IsTree, flat}
+use Rattle.lmn_store_heap.specs.Sound.{IsTree, flat}
 use Rattle.lmn_instr_code.specs.declared.instr.Code.{Code}
 use Rattle.lmn_schedule_strategy.specs.Counting.{awake_of, rule_count}
-use Rattle.lmn_app_drive.specs.Asking.{AsksFew, AwakeRun, awake_rules, starts, turns_on}
+use Rattle.lmn_app_drive.specs.Asking.{AwakeRun, awake_rules, starts, turns_on}
 use Rattle.lmn_app_drive.specs.Examples.{AwakeMayBeAsked, SleepersAreNotAsked}
 
 -- as many are asked as may be

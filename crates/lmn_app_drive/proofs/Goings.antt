@@ -1,5 +1,5 @@
 -- How a run goes on, stops and fails. Each exit of the code is one of these.
-use Rattle.std.proofs.Common.{ℕ, ◌≡◌, ◌<◌, ◌+◌, List, [], ◌∷◌, ◌++◌, length, Option, refl, sym, ap, subst, ◌∙◌, arith}
+use Rattle.std.proofs.Common.{ℕ, ◌≡◌, ◌<◌, ◌+◌, List, [], ◌∷◌, ◌++◌, length, Option, refl, sym, ap, subst, ◌∙◌}
 use Rattle.std.proofs.lemmas.List.{length-append}
 use Rattle.lmn_store_heap.specs.Heap.{Heap}
 use Rattle.lmn_io.specs.Taking.{Takes, TakesPrefix}
@@ -22,7 +22,6 @@ use Rattle.lmn_app_drive.proofs.Writings.{rest_held, traced_held}
 use Rattle.lmn_app_drive.proofs.Texts.{all_taken, front_taken, line_begun, line_taken, part_taken}
 use Rattle.lmn_app_runs.specs.Runs.{end_word}
 use Rattle.lmn_schedule.proofs.Common.{closed_held}
-use Rattle.lmn_base.proofs.Numbers.{none_more}
 
 -- what a turn answers at the last solid of a run
 abbrev pub Answers : {g : RunInput} {n : ℕ} {h : Heap} → Ran g n h → Turn → Heap → Type 0

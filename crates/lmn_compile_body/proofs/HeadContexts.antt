@@ -6,7 +6,7 @@ use Rattle.std.proofs.lemmas.Bool.{cases_eq}
 use Rattle.std.proofs.lemmas.Bool.Decides.{Decides-eqb}
 use Rattle.std.proofs.lemmas.List.{append_assoc, length-append, map-append}
 use Rattle.std.proofs.lemmas.List.Sums.{sum_by-cons}
-use Rattle.lmn_base.specs.declared.item.Form.TheVariants.{Bare, Typed}
+use Rattle.lmn_base.specs.declared.item.Form.TheVariants.{Typed}
 use Rattle.lmn_base.specs.declared.item.FormedUse.{FormedUse}
 use Rattle.lmn_base.specs.declared.item.Item.{Item}
 use Rattle.lmn_base.specs.declared.item.Item.TheVariants as item

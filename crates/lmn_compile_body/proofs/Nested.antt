@@ -6,7 +6,7 @@ use Rattle.std.proofs.lemmas.List.Elements.{recursion_from_All, All-from_recursi
 use Rattle.std.proofs.lemmas.Bool.Decides.{Decides-eqb}
 use Rattle.lmn_base.specs.declared.guard.Cond.{Cond}
 use Rattle.lmn_base.specs.declared.guard.Cond.TheVariants.{Kind, Compare, Equal, Differ}
-use Rattle.lmn_base.specs.declared.item.Form.TheVariants.{Bare, Typed}
+use Rattle.lmn_base.specs.declared.item.Form.TheVariants.{Typed}
 use Rattle.lmn_base.specs.declared.item.FormedUse.{FormedUse}
 use Rattle.lmn_base.specs.declared.item.Item.{Item}
 use Rattle.lmn_base.specs.declared.item.Item.TheVariants.{Atom, Context, RuleContext, Rule}
@@ -22,7 +22,6 @@ use Rattle.lmn_base.specs.WellMade.{FitsArity}
 use Rattle.lmn_guards.specs.declared.plan.GuardPlan.{GuardPlan}
 use Rattle.lmn_guards.specs.Accepted.{IsInOrder}
 use Rattle.lmn_guards.proofs.AcceptedLemmas.{in_order}
-use Rattle.lmn_solid_heads.specs.Guards.{typed_number}
 use Rattle.lmn_solid_heads.specs.Heads.{HeadTyped, HeadMembrane, typed_contexts_of, membranes_of}
 use Rattle.lmn_solid_heads.specs.Embeddings.{HasTyped, HasMembrane}
 use Rattle.lmn_solid_heads.proofs.HeadTrees.{head_at, same_uses, flat_items, flat_membranes}
@@ -39,7 +38,7 @@ use Rattle.lmn_solid_bodies.proofs.Numbered.{contexts_of_heads, leaves_none}
 use Rattle.lmn_compile_body.specs.Naming.{numbered_contexts, numbered_rule_contexts}
 use Rattle.lmn_compile_body.specs.Accepted.{rule_body_names, rule_body_items, IsCompilable, AcceptedNested}
 use Rattle.lmn_compile_body.proofs.BodyTrees.{numbers_below}
-use Rattle.lmn_compile_body.proofs.HeadContexts.{contained, name_at, head_contexts, heads_contexts, distinct_map, names_are, head_names, heads_names, in_range, one_each, named_there, one_entry, untyped, of_rules, firsts, not_both, has_name, has_rule_name, same_contexts, context_used, rule_context_used, names_few, bare_often, inner_of, head_out, one_context, names_inner, held_at, name_used}
+use Rattle.lmn_compile_body.proofs.HeadContexts.{contained, name_at, head_contexts, heads_contexts, distinct_map, names_are, head_names, heads_names, in_range, one_each, named_there, one_entry, untyped, of_rules, firsts, not_both, has_name, has_rule_name, same_contexts, context_used, rule_context_used, names_few, bare_often, inner_of, head_out, one_context, names_inner, held_at}
 use Rattle.lmn_congruence.specs.Links.{places}
 use Rattle.lmn_compile_head.proofs.HeadLeaves.{below_back, below_front}
 use Rattle.lmn_congruence.proofs.Counts.{one_if_equal as one_same}

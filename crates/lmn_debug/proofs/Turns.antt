@@ -20,7 +20,6 @@ use Rattle.lmn_debug.specs.Courses.{Course, StepsTo, WaitsTo, Wish, Meets, Withi
 use Rattle.lmn_debug.specs.Sessions.{StandsAt, StandsStepped, StandsWaited}
 use Rattle.lmn_debug.specs.Turning.{Refuses, TurnsTo, Waits, WaitsOn, counted}
 use Rattle.lmn_debug.proofs.CountLemmas.{so_once}
-use Rattle.lmn_store_heap.proofs.Common.{moved}
 
 -- what holds of a table and of a size holds of equal ones
 pub moved_to : (P : List RuleTree → ℕ → Type 0) {T T' : List RuleTree} {z z' : ℕ} → T ≡ T' → z ≡ z' → P T z → P T' z'
@@ -128,10 +127,6 @@ module _ (names : List Name) (table : List RuleTree) (g : Course) where
     -- all turns are taken, and the solid doesn't meet it
     pub waits_limit : (t t' : ℕ) (h : Heap) (v : Waits names table g w t t' h) → t' ≡ t + most_turns → ¬ (Meets names w v.stands.solid) → StandsWaited names table g w t stop.Limit t' h
     waits_limit t t' h v e unmet = waited_by t t' h stop.Limit v.stands v.none_before (e, unmet)
-
-    -- a heap that is the same
-    pub waits_same : (t t' k : ℕ) (h h' : Heap) → Waits names table g w t t' h → k ≡ t' → h' ≡ h → Waits names table g w t k h'
-    waits_same t t' k h h' v e d = moved (λ n i. Waits names table g w t n i) e d v
 
     -- a turn where the solid doesn't meet it
     pub waits_one : (t t' k : ℕ) (h h' : Heap) (v : Waits names table g w t t' h) → t ≤ t' → t' < t + most_turns → ¬ (Meets names w v.stands.solid) → (o : Option Stop) → TurnsTo names table g v.stands.solid v.stands.is.before o k h' → k ≡ t' + counted o → WaitsOn names table g w t o k h'

@@ -97,10 +97,6 @@ less_left o o' n xs s f = let a = ap length f in let b = ap (λ z. length (from 
 pub less_left_of : (all ms : List ℕ) (o o' : Option ℕ) (n : ℕ) → all ≡ ms → o ≡ Some n → from o' ms ≡ after n ms → length (from o' all) < length (from o all)
 less_left_of all ms o o' n e s f = subst (λ zs. length (from o' zs) < length (from o zs)) (sym e) (less_left o o' n ms s f)
 
--- nothing is kept of nothing
-pub none_kept : (p : ℕ → Bool) (o : Option ℕ) (xs all : List ℕ) → o ≡ None → keep p (from o xs) ≡ all → [] ≡ all
-none_kept p o xs all s e = ap (λ z. keep p (from z xs)) (sym s) ∙ e
-
 -- the next one is in the list
 pub next_is_in : {M : Type 0} (id : M → ℕ) (P : List ℕ → List ℕ → Type 0) (m : ℕ) (o : Option M) → ((xs ms : List ℕ) → P xs ms → from (option_map id o) ms ≡ after m ms)
     → IfSome o (λ n. (xs ms : List ℕ) → P xs ms → In (id n) ms)

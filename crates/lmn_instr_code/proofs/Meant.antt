@@ -2,7 +2,7 @@
 use Rattle.std.proofs.Common.{ℕ, ◌≡◌, ◌≢◌, ◌⊎◌, [], ◌∷◌, refl, sym, subst, inl, inr, ◌∙◌, arith}
 use Rattle.lmn_store_heap.specs.Heap.{atoms_in}
 use Rattle.lmn_solid_heads.specs.Embeddings.{ListNotAfter, index_of}
-use Rattle.lmn_instr_code.specs.Running.{HeadRegisters, Succeeds, IsFirstSuccess, choices}
+use Rattle.lmn_instr_code.specs.Running.{HeadRegisters, Succeeds, choices}
 use Rattle.lmn_instr_code.specs.Meant.{HeadCodeIsMeant, holding, two_atoms, two_different}
 use Rattle.lmn_base.specs.Lists.{In}
 use Rattle.lmn_base.proofs.Numbers.{one_is_not_zero as one_not_zero}

@@ -1,7 +1,7 @@
 -- Instructions and codes by their numbers in a pool.
 use Rattle.std.proofs.Common.{ℕ, zero, suc, ◌≡◌, ◌<◌, List, [], ◌∷◌, ◌++◌, Some, refl, ap, sym, subst, length, ◌∙◌}
 use Rattle.std.specs.Prelude.{slice_get, option_to_list}
-use Rattle.lmn_base.proofs.Lists.{get_there, get_below, get_front}
+use Rattle.lmn_base.proofs.Lists.{get_there, get_below}
 use Rattle.lmn_instr_code.specs.declared.instr.Instr.{Instr}
 use Rattle.lmn_instr_pool.specs.declared.codes.Numbered.{Numbered}
 use Rattle.lmn_instr_pool.specs.Pools.{AreThere, Keeps, Selects, picked}
@@ -69,10 +69,6 @@ pub there_at : (pool : List Instr) (ns : List ℕ) (i n : ℕ) → AreThere pool
 there_at pool [] i n t e = absurd (cc)
 there_at pool (m ∷ ns) zero n t e = let same : m ≡ n = cc in subst (λ k. k < length pool) same t.0
 there_at pool (m ∷ ns) (suc i) n t e = there_at pool ns i n t.1 e
-
--- a number means what it meant behind a put
-pub keeps_put : (pool : List Instr) (x : Instr) → Keeps pool (pool ++ x ∷ [])
-keeps_put pool x = λ n y e. get_front pool (x ∷ []) n y e
 
 -- two puts keep what each keeps
 pub keeps_on : (p q r : List Instr) → Keeps p q → Keeps q r → Keeps p r

@@ -18,7 +18,6 @@ use Rattle.lmn_instr_code.specs.Listings.{functor_text}
 use Rattle.lmn_lexer.specs.NameText.{name_text}
 use Rattle.lmn_base.specs.Links.{Numbers, no_more, known, new}
 use Rattle.lmn_instr_reading.specs.Reading.{AddsNames, NumbersNames}
-use Rattle.lmn_base.proofs.Common.{numbers_both}
 
 -- none is added
 pub adds_none : (n : ℕ) (names : List (List ℕ)) → AddsNames n names names

@@ -1,7 +1,6 @@
 -- Lists of names that go on from one list.
-use Rattle.std.proofs.Common.{◌≡◌, ◌≢◌, ◌<◌, ◌≤◌, ◌+◌, ◌⊎◌, inl, inr, ℕ, zero, suc, List, [], ◌∷◌, ◌++◌, AllPairs, length, map, take, get_or, refl, sym, ap, ◌∙◌, subst, arith}
-use Rattle.std.specs.Prelude.{codes}
-use Rattle.std.proofs.lemmas.List.{get_or-take, length-append, take-append-le, take_all, take_more_same}
+use Rattle.std.proofs.Common.{◌≡◌, ◌≢◌, ◌<◌, ◌+◌, ◌⊎◌, inl, inr, ℕ, suc, List, [], ◌∷◌, AllPairs, length, map, take, get_or, sym, ap, ◌∙◌, subst, arith}
+use Rattle.std.proofs.lemmas.List.{get_or-take, take-append-le, take_all, take_more_same}
 use Rattle.lmn_base.proofs.Common.{numbers_grow, numbers_head, all_met as none_put}
 use Rattle.lmn_base.proofs.Lists.{head_is, tail_is}
 use Rattle.lmn_base.specs.Links.{Numbers, no_more, known, new}

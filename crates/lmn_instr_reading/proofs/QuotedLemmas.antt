@@ -5,7 +5,7 @@ use Rattle.std.specs.List.{flat_map}
 use Rattle.std.specs.Fmt.{decimal}
 use Rattle.std.specs.Str.Parse.{AllDigits}
 use Rattle.std.proofs.lemmas.Bool.Decides.{Decides-eqb}
-use Rattle.std.proofs.lemmas.List.{append_assoc, append-nil, drop_more, drop_all, take-append-drop, length-drop, append_cancel_left, append_cancel_right, length-append, length_push}
+use Rattle.std.proofs.lemmas.List.{append_assoc, append-nil, drop_more, drop_all, take-append-drop, length-drop, append_cancel_left, append_cancel_right, length_push}
 use Rattle.std.proofs.lemmas.List.Concat.{flat_map-append}
 use Rattle.std.proofs.lemmas.Fmt.{decimal_is_IsNumeral}
 use Rattle.std.proofs.lemmas.Str.Parse.{digit_from_value}
@@ -48,9 +48,6 @@ pub record Undoubled (inside : List ℕ) (at : ℕ) (name : List ℕ) : Type 0 w
   pub front : flat_map quoted_byte name ≡ take at inside
   pub rest : (whole : List ℕ) → flat_map quoted_byte whole ≡ inside → (more : List ℕ) × (whole ≡ name ++ more) × (flat_map quoted_byte more ≡ drop at inside)
 
-pub undoubled_none : (inside : List ℕ) → Undoubled inside 0 []
-undoubled_none inside = record { within = omega arith; few = omega arith; front = refl; rest = λ whole e. (whole, refl, e) }
-
 -- one byte more
 pub undoubled_more : (inside : List ℕ) (at width : ℕ) (name : List ℕ) (b : ℕ) → Undoubled inside at name → at < length inside → b ≡ get_or inside at 0
     → drop at inside ≡ quoted_byte b ++ drop (at + width) inside → at + width ≤ length inside → length name < 255 → Undoubled inside (at + width) (name ++ b ∷ [])
@@ -84,15 +81,6 @@ undoubled_all inside at name whole u l e =
     none : (more : List ℕ) → flat_map quoted_byte more ≡ [] → more ≡ []
     none [] h = refl
     none (x ∷ xs) h = absurd (let q = (quoted_begins x).1 in let z = ap (λ t. t ++ flat_map quoted_byte xs) (sym q) ∙ h in cc)
-
--- what is left begins with a byte
-pub undoubled_left : (inside : List ℕ) (at : ℕ) (name whole : List ℕ) → Undoubled inside at name → at < length inside → flat_map quoted_byte whole ≡ inside → length name < length whole
-undoubled_left inside at name whole u l e =
-    let r = u.rest whole e in
-    let f = first_of_name r.0 (drop (at + 1) inside) (get_or inside at 0) (r.2 ∙ drop_more inside at 0 l) in
-    let size : length whole ≡ length (name ++ get_or inside at 0 ∷ f.0) = ap length (r.1 ∙ ap (λ t. name ++ t) f.1) in
-    let two = length-append name (get_or inside at 0 ∷ f.0) in
-    omega arith
 
 -- no name goes on with a quote that stands once
 pub no_lone_quote : (inside name : List ℕ) (at : ℕ) → at < length inside → get_or inside at 0 ≡ 39 → ((at + 1 < length inside) → get_or inside (at + 1) 0 ≢ 39) → flat_map quoted_byte name ≡ drop at inside → ⊥

@@ -4,7 +4,7 @@ use Rattle.std.specs.List.{flat_map}
 use Rattle.std.proofs.Common.{ap, ◌∙◌, append_assoc, append-nil, sym, refl, subst, get_or, arith}
 use Rattle.std.proofs.lemmas.List.{take_all, take_more}
 use Rattle.std.proofs.lemmas.List.Concat.{flat_map-append}
-use Rattle.lmn_io.specs.Counts.{FailedLast, Faults, NoneFailed, Rose, one_more}
+use Rattle.lmn_io.specs.Counts.{FailedLast, Faults, NoneFailed, one_more}
 use Rattle.lmn_io.specs.Taking.{Takes, TakesPrefix, Gathers}
 use Rattle.lmn_io.specs.Gathering.{SinkState, AddsWhere, Adds}
 
@@ -96,10 +96,6 @@ none_more f g h first later = (later.0 ∙ first.0, let l = first.1 in let m = l
 -- no put failed, and then the last did
 pub none_then_last : (f g h : Faults) → NoneFailed f g → FailedLast g h → FailedLast f h
 none_then_last f g h first last = last ∙ ap (λ n. record { count = one_more n; since = 0 }) first.0
-
--- where the last put failed the count rose
-pub last_rose : (f g : Faults) → FailedLast f g → Rose f.count g.count
-last_rose f g last = let e : g.count ≡ one_more f.count = ap (λ h. h.count) last in omega (arith, e)
 
 -- what a sink has taken, piece by piece, and what it counts
 pub ruleset taking = (prefix_more, nothing_taken, takes_nothing, takes_more, prefix_after, gathers_more, gathers_takes, gathers_prefix, gathers_part, no_put, none_more, none_then_last)

@@ -1,10 +1,10 @@
 -- How many rules code adds to the membrane in a register, counted instruction by instruction.
-use Rattle.std.proofs.Common.{ℕ, zero, suc, ◌≡◌, ◌≢◌, ◌==◌, ◌<◌, ◌≤◌, ◌+◌, ◌⊎◌, inl, inr, cond, List, [], ◌∷◌, ◌++◌, Option, Some, None, IsSome, Result, Ok, Err, refl, arith, ap, sym, subst, length, take, ◌∙◌}
+use Rattle.std.proofs.Common.{ℕ, zero, suc, ◌≡◌, ◌≢◌, ◌<◌, ◌≤◌, ◌+◌, ◌⊎◌, inl, inr, cond, List, [], ◌∷◌, ◌++◌, Option, Some, None, IsSome, Result, Ok, Err, refl, arith, ap, sym, subst, length, take, ◌∙◌}
 use Rattle.std.specs.Prelude.{slice_get, OnOk}
 use Rattle.std.proofs.lemmas.Option.{same_Some}
 use Rattle.lmn_base.proofs.Lists.{get_below, get_there}
 use Rattle.lmn_base.proofs.Numbers.{not_equal}
-use Rattle.lmn_store_heap.specs.Heap.{Heap, HeapMem, IsMem, reserved, rules_in, spare_of}
+use Rattle.lmn_store_heap.specs.Heap.{Heap, HeapMem, reserved, rules_in, spare_of}
 use Rattle.lmn_instr_code.specs.declared.instr.Instr.{Instr}
 use Rattle.lmn_instr_code.specs.declared.instr.Instr.TheVariants.{NewMem, LoadRule, CopyRules}
 use Rattle.lmn_instr_pool.specs.Extents.{Makes, NoneBefore}

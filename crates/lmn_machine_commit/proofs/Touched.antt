@@ -10,7 +10,7 @@ use Rattle.lmn_base.specs.Lists.{In}
 use Rattle.lmn_base.proofs.Lists.{in_either}
 use Rattle.lmn_base.proofs.Numbers.{not_equal}
 use Rattle.lmn_store_heap.specs.Heap as heap
-use Rattle.lmn_store_heap.specs.Heap.{Heap, HeapAtom, HeapMem, IsAtom, IsMem, IsInPlace, within, atoms_in, mems_in, rules_in, functor_of, link_of, home_of, parent_of, arity_of, partners_of, without}
+use Rattle.lmn_store_heap.specs.Heap.{Heap, HeapAtom, HeapMem, IsAtom, IsMem, IsInPlace, within, atoms_in, mems_in, rules_in, functor_of, link_of, home_of, parent_of, arity_of, partners_of}
 use Rattle.lmn_store_heap.specs.Lists.{without_all}
 use Rattle.lmn_store_heap.specs.Sound.{Valid}
 use Rattle.lmn_store_heap.specs.Conditions.{Above}

@@ -1,5 +1,5 @@
 -- What the instructions of a body add and take, part by part.
-use Rattle.std.proofs.Common.{ℕ, ◌+◌, ◌≡◌, ◌==◌, ◌⊎◌, Bool, true, false, cond, List, [], ◌∷◌, ◌++◌, map, length, refl, sym, ap, subst, ◌∙◌, inl, inr, arith, length-append}
+use Rattle.std.proofs.Common.{ℕ, ◌+◌, ◌≡◌, ◌==◌, Bool, true, false, cond, List, [], ◌∷◌, ◌++◌, map, length, refl, sym, ap, subst, ◌∙◌, inl, inr, arith, length-append}
 use Rattle.std.specs.Prelude.{if◌then◌else◌, sum}
 use Rattle.std.proofs.lemmas.List.{length-map}
 use Rattle.lmn_store_heap.specs.Heap.{Heap, rules_in}
@@ -17,23 +17,20 @@ use Rattle.lmn_solid_bodies.specs.declared.items.BodyItem.TheVariants.{Atom, Con
 use Rattle.lmn_solid_bodies.specs.Code.{making, drops, link_code, links_code}
 use Rattle.lmn_solid_bodies.specs.Made.{copies_of}
 use Rattle.lmn_solid_bodies.specs.Running.{Registers}
-use Rattle.lmn_solid_bodies.specs.Added.{if_inside, added_atoms, added_mems, added_rules, source_mems, moved_mems, made_mems}
-use Rattle.lmn_solid_bodies.specs.RestCopies.{RestCopies, later, rest_membranes, copied_atom, copied_membrane, copied_into, given, AreAsLong}
+use Rattle.lmn_solid_bodies.specs.Added.{if_inside, added_atoms, added_rules, source_mems, moved_mems, made_mems}
+use Rattle.lmn_solid_bodies.specs.RestCopies.{RestCopies, later, rest_membranes, copied_atom, copied_into, given, AreAsLong}
 use Rattle.lmn_solid_bodies.specs.Rules.{Goes, closed_rests}
 use Rattle.lmn_solid_bodies.specs.Within.{left_of_closed}
-use Rattle.lmn_solid_bodies.proofs.AddedLemmas.{AreWholeRests, in_if, long_enough}
+use Rattle.lmn_solid_bodies.proofs.AddedLemmas.{long_enough}
 use Rattle.lmn_solid_bodies.proofs.MakingParts.{moved_source}
-use Rattle.lmn_solid_bodies.proofs.RestGrowing.{in_given}
 use Rattle.lmn_machine.specs.Costs.{IsSize, AddsItems, TakesItems, InAll}
 use Rattle.lmn_machine_laws.proofs.Totals.{total_is_sum, total_same, total_plus, total_none, total_ones}
 use Rattle.lmn_store_heap.specs.Lists.{Distinct}
 use Rattle.lmn_store_heap.proofs.ListLemmas.{each_in, each_of, in_left, in_right}
 use Rattle.std.proofs.lemmas.Bool.{eq-eqb}
-use Rattle.lmn_base.proofs.Lists.{weigh as total, weigh_append, in_either}
+use Rattle.lmn_base.proofs.Lists.{weigh as total, weigh_append}
 use Rattle.lmn_base.proofs.Numbers.{not_equal as apart_test}
 use Rattle.lmn_base.specs.Lists.{In}
-use Rattle.lmn_base.proofs.Common.{of_map}
-use Rattle.lmn_machine_commit.proofs.Touched.{mems_moved as moved_from}
 
 -- one part and then another
 pub both_sums : (P : Instr → ℕ → Type 0) (xs ys : List Instr) (m n : ℕ) → InAll P xs m → InAll P ys n → InAll P (xs ++ ys) (m + n)

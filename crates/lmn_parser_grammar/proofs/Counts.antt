@@ -1,5 +1,5 @@
 -- What passes a limit by counts is what the scan finds, both ways.
-use Rattle.std.proofs.Common.{◌≡◌, ℕ, zero, suc, ◌+◌, ◌≤◌, ◌<◌, Bool, true, false, ◌&&◌, ◌||◌, if◌then◌else◌, nat_le, nat_lt, List, [], ◌∷◌, ◌++◌, length, Option, Some, None, refl, sym, ◌∙◌, ap, arith, subst, ◌⊎◌, inl, inr, append_assoc}
+use Rattle.std.proofs.Common.{◌≡◌, ℕ, zero, suc, ◌+◌, ◌≤◌, ◌<◌, Bool, true, false, ◌&&◌, ◌||◌, if◌then◌else◌, nat_le, List, [], ◌∷◌, ◌++◌, length, Option, Some, None, refl, sym, ◌∙◌, ap, arith, subst, ◌⊎◌, inl, inr, append_assoc}
 use Rattle.lmn_parser_grammar.specs.Limits.{is_opener, is_closer, is_comma, may_be_operator, may_be_atom_name, ends_operand, continues_side, EndsWith, IsOperator, IsAtomName, Balanced, empty, comma, other, closed, Open, none, one_more, Side, begins, operand, operator, TooDeep, InArguments, begun, TermNext, behind_equal, in_arguments, in_list, TooManyArguments, of_any, of_term, left_of_equal, Passes, PassesNone, most_brackets, most_operators, most_arguments, most_term_arguments}
 use Rattle.lmn_parser_grammar.specs.Scan.{Opened, Arguments, Terms, Group, Last, Equals, Word, Digits, Closed, Operand, Other, Scan, scan_at_start, was_operand, is_operator, limit_in, limit_behind, limit_here, round_behind, one_more_begun, without_first, opened_after, closed_by_round, last_after, scan_after, scan_from, scan, is_too_deep, has_too_many, is_full, is_equal, passes, is_equals_last}
 use Rattle.lmn_lexer.specs.declared.token.Kind.{Kind}

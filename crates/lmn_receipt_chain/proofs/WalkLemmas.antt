@@ -1,6 +1,5 @@
 -- How a trace is gone through.
-use Rattle.std.proofs.Common.{◌≡◌, ◌∙◌, ℕ, ◌+◌, ◌<◌, ◌≤◌, ◌⊎◌, ◌↔◌, Bool, true, false, ◌||◌, List, [], ◌∷◌, ◌++◌, codes, drop, length, map, inl, inr, refl, sym, ap, subst, arith, append_assoc, append-nil}
-use Rattle.std.specs.Prelude.{IsTrue}
+use Rattle.std.proofs.Common.{◌≡◌, ◌∙◌, ℕ, ◌+◌, ◌<◌, ◌≤◌, List, [], ◌∷◌, ◌++◌, codes, drop, length, map, inl, inr, refl, sym, ap, subst, arith, append_assoc, append-nil}
 use Rattle.std.specs.List.{concat}
 use Rattle.std.proofs.lemmas.List.{drop-drop, length-drop}
 use Rattle.lmn_base.specs.declared.solid.Solid.{Solid}
@@ -11,10 +10,10 @@ use Rattle.lmn_adequacy.specs.Numbered.{IsNumbered}
 use Rattle.lmn_adequacy.proofs.Results.{one_choice, one_numbering}
 use Rattle.lmn_receipt_chain.specs.declared.walk.Step.TheVariants.{More}
 use Rattle.lmn_app_runs.specs.Runs.{end_line}
-use Rattle.lmn_receipt_chain.specs.Chains.{BeginsChain, Continues, IsChain, IsEndThere, IsEndWord, IsProcessThere, IsWrongTrace, at_line, begun, continued, no_first_line, no_end_line, line_of_solid, no_next_line}
+use Rattle.lmn_receipt_chain.specs.Chains.{BeginsChain, Continues, IsEndThere, IsEndWord, IsProcessThere, IsWrongTrace, at_line, begun, continued, no_end_line, line_of_solid, no_next_line}
 use Rattle.lmn_receipt_chain.specs.Laws.{IsAcceptedSolid}
 use Rattle.lmn_receipt_chain.specs.Steps.{IsOtherEnd, IsStep, NoEndIsDue, NothingFits}
-use Rattle.lmn_adequacy.proofs.Runs.{embeds_in, one_longer}
+use Rattle.lmn_adequacy.proofs.Runs.{one_longer}
 use Rattle.lmn_receipt_chain.proofs.ChainLemmas.{accepted_of, sound_next}
 use Rattle.lmn_base.proofs.Numbers.{below_or_from as below_or}
 
@@ -82,23 +81,6 @@ walked_more region fits first solid trace rest at n m len next w same h =
 
 -- ---- what a step is for the whole trace
 
--- behind the end line that is due, with nothing behind it, the trace is a chain
-pub chain_done : (S : Region) (trace : List ℕ) (last : Region) (at n : ℕ) → Stands S trace last at n → (word : List ℕ) × IsEndWord last word × (drop at trace ≡ end_line word n) → IsChain S trace n
-chain_done S trace last at n h (word, ends, is) =
-    let begins = h.begins in
-    record {
-      before = h.before;
-      last = last;
-      word = word;
-      begins = record { solids = begins.solids; is = begins.is ∙ ap (λ r. concat (map line_of_solid (h.before ++ last ∷ [])) ++ r) is };
-      ends = ends;
-      count = h.count;
-    }
-
--- what is wrong: a first line that isn't that of the solid,
-pub wrong_first : (S : Region) (trace : List ℕ) → ((rest : List ℕ) → trace ≡ line_of_solid S ++ rest → ⊥) → IsWrongTrace S trace (at_line 61 1)
-wrong_first S trace none = no_first_line none refl
-
 -- a line of no solid that continues the last one,
 pub wrong_line : (S : Region) (trace : List ℕ) (last : Region) (at n : ℕ) → Stands S trace last at n → IsProcessThere (drop at trace) × NothingFits last (drop at trace) → IsWrongTrace S trace (at_line 61 (n + 2))
 wrong_line S trace last at n h k = no_next_line h.before last (drop at trace) h.begins k.0 k.1 (ap (λ m. at_line 61 (m + 2)) (sym h.count))
@@ -118,10 +100,6 @@ one_next S s k A B a i b j = one_numbering A B (one_choice k S A B s.closed (acc
 abbrev pub Tried : Region → List ℕ → ℕ → Type 0
 Tried S rest from = (k : ℕ) → k < from → (S' : Region) (more : List ℕ) → NextFrom k S S' → IsNumbered S' → rest ≡ line_of_solid S' ++ more → ⊥
 
--- none was tried,
-pub tried_none : (S : Region) (rest : List ℕ) → Tried S rest 0
-tried_none S rest k l = absurd (omega (arith, l))
-
 -- those up to the reach of one whose line isn't there have been tried with it,
 pub tried_more : (S : Region) (rest : List ℕ) (from reach : ℕ) (next : Region) → IsAcceptedSolid S → Tried S rest from → IsNumbered next
     → ((k : ℕ) → from ≤ k → k ≤ reach → NextFrom k S next) → ((more : List ℕ) → rest ≡ line_of_solid next ++ more → ⊥) → Tried S rest (reach + 1)
@@ -133,14 +111,6 @@ tried_more S rest from reach next s old numbered same none k l S' more n i is = 
 -- and where all were tried nothing fits
 pub all_tried : (S : Region) (rest : List ℕ) (from count : ℕ) → count ≡ length (paths S) → (from < count → ⊥) → Tried S rest from → NothingFits S rest
 all_tried S rest from count is out tried S' more c at = let l = c.one_of_them in tried c.from (omega (arith, is, out, l)) S' more c.next c.numbered at
-
--- nor where nothing embeds
-pub nothing_fits : (S : Region) (rest : List ℕ) → (HasEmbedding S → ⊥) → NothingFits S rest
-nothing_fits S rest none S' more c at = none (embeds_in c.next)
-
--- one that is found continues the solid
-pub found_continues : (S next : Region) (from reach : ℕ) → (from ≤ reach) × (reach < length (paths S)) → IsNumbered next → ((k : ℕ) → from ≤ k → k ≤ reach → NextFrom k S next) → Continues S next
-found_continues S next from reach l numbered same = record { from = from; one_of_them = omega (arith, l.0, l.1); next = same from (omega arith) (l.0); numbered = numbered }
 
 -- ---- ends
 
@@ -165,17 +135,3 @@ other_wrong S rest n some differs word (inl h) is = h.1 some
 other_wrong S rest n some differs word (inr (inl e, h)) is = differs (inl (is ∙ ap (λ w. end_line w n) e))
 other_wrong S rest n some differs word (inr (inr (inl e), h)) is = differs (inr (inl (is ∙ ap (λ w. end_line w n) e)))
 other_wrong S rest n some differs word (inr (inr (inr e), h)) is = differs (inr (inr (is ∙ ap (λ w. end_line w n) e)))
-
--- three tests for one
-pub three_tests : {A B C : Type 0} (a b c : Bool) → IsTrue a ↔ A → IsTrue b ↔ B → IsTrue c ↔ C → IsTrue (a || (b || c)) ↔ (A ⊎ B ⊎ C)
-three_tests true b c f g h = ((λ t. inl (f.0 refl)), (λ x. refl))
-three_tests false true c f g h = ((λ t. inr (inl (g.0 refl))), (λ x. refl))
-three_tests false false c f g h = (
-  (λ t. inr (inr (h.0 t))),
-  λ x.
-      elim x [
-        | inl a ↦ absurd (let no = f.1 a in cc)
-        | inr (inl b) ↦ absurd (let no = g.1 b in cc)
-        | inr (inr c) ↦ h.1 c
-      ],
-)

@@ -1,6 +1,6 @@
 -- Parts that are alike on two maps of atoms, and guards that hold for them.
-use Rattle.std.proofs.Common.{ℕ, suc, ◌≡◌, ◌+◌, ◌==◌, Bool, true, false, cond, List, [], ◌∷◌, Option, Some, None, refl, sym, ap, subst, ◌∙◌, arith}
-use Rattle.std.specs.Prelude.{slice_get, ℤ}
+use Rattle.std.proofs.Common.{ℕ, ◌≡◌, List, [], ◌∷◌, Option, Some, None, refl, sym, ap, subst, ◌∙◌}
+use Rattle.std.specs.Prelude.{ℤ}
 use Rattle.std.proofs.lemmas.Option.{same_Some}
 use Rattle.lmn_base.specs.declared.guard.Cond.{Cond}
 use Rattle.lmn_base.specs.declared.guard.Cond.TheVariants.{Kind, Compare, Equal, Differ}
@@ -11,9 +11,7 @@ use Rattle.lmn_guards.specs.declared.plan.TypeKind.{TypeKind}
 use Rattle.lmn_guards.specs.declared.plan.TypeKind.TheVariants.{Int, Unary, Ground}
 use Rattle.lmn_store_heap.specs.Heap.{Heap}
 use Rattle.lmn_store_heap.specs.Graphs.{atom_map}
-use Rattle.lmn_solid_heads.specs.Heads.{HeadTyped}
-use Rattle.lmn_solid_heads.specs.Guards.{Meaning, IsOfKindAt, KindHolds, TypeHolds, EqualHolds, HoldsOnHeap, integer_of_functor, integer_named, integer_or, bind, with_part, kind_named, part_alone, context_alone, typed_number}
-use Rattle.lmn_solid_heads.proofs.Common.{typed_there}
+use Rattle.lmn_solid_heads.specs.Guards.{Meaning, IsOfKindAt, KindHolds, TypeHolds, EqualHolds, HoldsOnHeap, integer_of_functor, integer_named, integer_or, bind, with_part, kind_named, part_alone, context_alone}
 
 -- The part that is entered at a port is the same on both maps.
 pub record Alike (m n : AtomMap) (p : Port) : Type 0 where

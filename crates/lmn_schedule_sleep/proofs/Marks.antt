@@ -11,11 +11,11 @@ use Rattle.lmn_store_heap.specs.Heap.{Heap, HeapMem, HeapAtom, IsMem, atoms_by, 
 use Rattle.lmn_store_heap.specs.Conditions.{Above}
 use Rattle.lmn_store_heap.specs.Graphs.{atom_map}
 use Rattle.lmn_solid_heads.specs.Guards.{IsOfKindAt, integer_of_functor}
-use Rattle.lmn_solid_heads.specs.Embeddings.{StandsWithin, index_of, ListNotAfter}
+use Rattle.lmn_solid_heads.specs.Embeddings.{StandsWithin}
 use Rattle.lmn_instr_code.specs.declared.instr.AtomPort.{AtomPort}
 use Rattle.lmn_instr_code.specs.declared.instr.Instr.{Instr}
 use Rattle.lmn_instr_code.specs.declared.instr.Instr.TheVariants.{FindAtom, Deref, Func, InMem, NeqAtom, Joined, NotIn, AnyMem, NeqMem, IsInt, IsUnary, IsGround, NAtoms, NMems, NoRules, IsClosed, EqGround, NeqGround, GetInt, Const, Add, Sub, Mul, Div, Mod, Lt, Le, Gt, Ge, Eq, Ne, Commit}
-use Rattle.lmn_instr_code.specs.Running.{HeadRegisters, HeadSize, IsContext, IsLeftIn, IsInSome, HasOthers, InstructionHolds, AllHold, size_of_head, choices, port_of, Succeeds, IsFirstSuccess}
+use Rattle.lmn_instr_code.specs.Running.{HeadRegisters, HeadSize, IsContext, IsLeftIn, IsInSome, HasOthers, InstructionHolds, AllHold, size_of_head, port_of, Succeeds}
 use Rattle.lmn_schedule_sleep.specs.Quiet.{SameButMarks}
 
 -- Two heaps are read alike: the same atoms stand in the same lists.
@@ -194,18 +194,3 @@ module _ (h t : Heap) (same : ReadAlike h t) where
   -- code succeeds in the one where it does in the other
   pub succeeds_alike : (code : List Instr) (m : ℕ) (r : HeadRegisters) → Succeeds h code m r → Succeeds t code m r
   succeeds_alike code m r w = record { here = w.here; all = all_hold_alike (size_of_head code) r code w.all }
-
-  pub choices_alike : (r : HeadRegisters) (is : List Instr) → choices t r is ≡ choices h r is
-  choices_alike r [] = refl
-  choices_alike r (FindAtom a m f ∷ is) = let rest = choices_alike r is in λ i. index_of (r.images.atom a) (same.lists (r.images.membrane m) i) ∷ rest i
-  choices_alike r (AnyMem m k ∷ is) = let rest = choices_alike r is in λ i. index_of (r.images.membrane m) (same.inner (r.images.membrane k) i) ∷ rest i
-  choices_alike r (_ ∷ is) = choices_alike r is
-
--- and so does its first success
-pub first_alike : (h t : Heap) → ReadAlike h t → (code : List Instr) (m : ℕ) (r : HeadRegisters) → IsFirstSuccess h code m r → IsFirstSuccess t code m r
-first_alike h t same code m r w = record {
-  succeeds = succeeds_alike h t same code m r w.succeeds;
-  first = λ s u.
-      subst (λ xs. ListNotAfter xs (choices t s code)) (sym (choices_alike h t same r code))
-      (subst (ListNotAfter (choices h r code)) (sym (choices_alike h t same s code)) (w.first s (succeeds_alike t h (alike_back h t same) code m s u)));
-}

@@ -1,17 +1,15 @@
 -- What is known while rules are asked, and membranes.
-use Rattle.std.proofs.Common.{ℕ, suc, ◌≡◌, ◌<◌, ◌≤◌, ◌+◌, ◌-◌, List, [], ◌∷◌, length, Some, inl, inr, refl, sym, ap, subst, ◌∙◌, arith}
+use Rattle.std.proofs.Common.{ℕ, suc, ◌≡◌, ◌<◌, ◌≤◌, ◌+◌, ◌-◌, List, [], ◌∷◌, length, Some, inl, inr, sym, ap, subst, ◌∙◌, arith}
 use Rattle.std.specs.Prelude.{slice_get, take, drop, slice_index_or}
 use Rattle.std.proofs.lemmas.List.{length-drop}
-use Rattle.std.proofs.lemmas.Option.{slice_get_within, slice_get-get_or}
+use Rattle.std.proofs.lemmas.Option.{slice_get-get_or}
 use Rattle.lmn_store_heap.specs.Heap.{Heap, rules_in}
-use Rattle.lmn_store_heap.specs.Sound.{Forest, IsTree, flat}
 use Rattle.lmn_instr_code.specs.declared.instr.Code.{Code}
 use Rattle.lmn_instr_code.specs.Running.{HeadRegisters, Succeeds}
 use Rattle.lmn_machine.proofs.Besides.{known, known_agrees}
 use Rattle.lmn_machine_registers.specs.declared.registers.SetRegisters.{SetRegisters}
 use Rattle.lmn_schedule_strategy.specs.Between.{between}
 use Rattle.lmn_schedule_strategy.specs.Choosing.{CodeSucceeds, NoneOf, HasFound}
-use Rattle.lmn_store_trait.proofs.Numbers.{root_number}
 use Rattle.lmn_schedule_strategy.proofs.Numbers.{take_one_more, take_whole}
 use Rattle.lmn_base.specs.Lists.{In}
 use Rattle.lmn_base.proofs.Lists.{in_either}
@@ -53,10 +51,6 @@ take_first xs i = ap (λ n. take n xs) (let z : i - 0 ≡ i = omega arith in z)
 -- from a number on, all
 pub take_rest : (xs : List ℕ) (i many : ℕ) → many ≡ length xs → between i many xs ≡ drop i xs
 take_rest xs i many e = take_whole (drop i xs) (many - i) (let l = length-drop i xs in omega (arith, l, e))
-
--- the root is a membrane
-pub some_membrane : (h : Heap) (f : Forest) → IsTree h f → 0 < length (flat f)
-some_membrane h f t = slice_get_within (flat f) 0 h.root (root_number h h.root refl f t)
 
 -- A rule is read at a place below the number of rules that were counted, and the heap is the same each time.
 pub rule_below : (h j k : Heap) (m place many : ℕ) → j ≡ h → k ≡ h → many ≡ length (rules_in j m) → place < many → place < length (rules_in k m)

@@ -5,8 +5,8 @@ use Rattle.lmn_store_heap.proofs.ListLemmas.{in_left, in_right}
 use Rattle.lmn_solid_bodies.specs.declared.items.BodyItem.{BodyItem}
 use Rattle.lmn_solid_bodies.specs.declared.items.BodyItem.TheVariants.{Atom, Connector, Copy, Bound, Membrane, Rest, Rule, Rules}
 use Rattle.lmn_solid_bodies.specs.Running.{Registers}
-use Rattle.lmn_solid_bodies.specs.Added.{if_inside, added_atoms, added_mems, made_mems, moved_mems}
-use Rattle.lmn_solid_bodies.specs.RestCopies.{RestCopies, later, rest_membranes, copied_atom, copied_membrane, copied_into, given, AreAsLong}
+use Rattle.lmn_solid_bodies.specs.Added.{if_inside, added_atoms, made_mems, moved_mems}
+use Rattle.lmn_solid_bodies.specs.RestCopies.{RestCopies, later, rest_membranes, copied_atom, copied_into, given, AreAsLong}
 use Rattle.lmn_solid_bodies.specs.Made.{new_atoms}
 use Rattle.lmn_solid_bodies.specs.Rules.{Goes, closed_rests}
 use Rattle.lmn_base.specs.Lists.{In}
@@ -82,33 +82,6 @@ comes_from r qs left left_mems a c (Rest of true inside ∷ xs) lo wh x b i =
     ]
 comes_from r qs left left_mems a c (Rule rule inside ∷ xs) lo wh x b i = comes_from r qs left left_mems a c xs lo wh x b i
 comes_from r qs left left_mems a c (Rules of inside ∷ xs) lo wh x b i = comes_from r qs left left_mems a c xs lo wh x b i
-
--- an added membrane is made, or was left of another
-pub mems_come_from : (r : Registers) (qs : RestCopies) (left left_mems : ℕ → List ℕ) (m : ℕ) (body : List BodyItem) → AreAsLong r qs body → AreWholeRests r left left_mems body → (x b : ℕ) → In b (added_mems r qs left_mems m body x) → In b (made_mems r qs m body) ⊎ ((k : ℕ) × In b (left_mems k))
-mems_come_from r qs left left_mems m [] lo wh x b i = absurd i
-mems_come_from r qs left left_mems m (Atom functor links inside ∷ xs) lo wh x b i = mems_come_from r qs left left_mems m xs lo wh x b i
-mems_come_from r qs left left_mems m (Connector l l' ∷ xs) lo wh x b i = mems_come_from r qs left left_mems m xs lo wh x b i
-mems_come_from r qs left left_mems m (Copy part link inside ∷ xs) lo wh x b i = mems_come_from r qs left left_mems m xs lo wh x b i
-mems_come_from r qs left left_mems m (Bound integer link inside ∷ xs) lo wh x b i = mems_come_from r qs left left_mems m xs lo wh x b i
-mems_come_from r qs left left_mems m (Membrane inside ∷ xs) lo wh x b i = elim (in_either b (if_inside r x inside (r.head.images.membrane m ∷ [])) (added_mems r qs left_mems (m + 1) xs x) i) [
-  | inl j ↦ elim (in_if r x inside (r.head.images.membrane m ∷ []) b j) [ inl e ↦ inl (inl e) | inr v ↦ absurd v ]
-  | inr j ↦ elim (mems_come_from r qs left left_mems (m + 1) xs lo wh x b j) [ inl v ↦ inl (inr v) | inr v ↦ inr v ]
-]
-mems_come_from r qs left left_mems m (Rest of false inside ∷ xs) lo wh x b i = elim (in_either b (if_inside r x inside (left_mems (r.head.images.membrane of))) (added_mems r qs left_mems m xs x) i) [
-  | inl j ↦ inr (r.head.images.membrane of, in_if r x inside (left_mems (r.head.images.membrane of)) b j)
-  | inr j ↦ mems_come_from r qs left left_mems m xs lo wh x b j
-]
-mems_come_from r qs left left_mems m (Rest of true inside ∷ xs) lo wh x b i =
-    let p = qs 0 in
-    let G = given (λ k. map (copied_membrane r of p) (left_mems k)) (copied_into r of inside p) (rest_membranes r of) x in
-    elim (in_either b G (added_mems r (later qs) left_mems m xs x) i) [
-      | inl j ↦ (let w = in_given (λ k. map (copied_membrane r of p) (left_mems k)) (copied_into r of inside p) (rest_membranes r of) x b j in
-          let v = of_map (copied_membrane r of p) b (left_mems w.0) w.3 in
-          inl (in_left b p.membranes (made_mems r (later qs) m xs) (subst (λ z. In z p.membranes) v.2 (answer_in (r.left_membranes of) p.membranes v.0 (long_enough lo.0.1) ((wh of (inl refl)).into_mems w.0 v.0 w.1 v.1)))))
-      | inr j ↦ elim (mems_come_from r (later qs) left left_mems m xs lo.1 (λ o m. wh o (inr m)) x b j) [ inl v ↦ inl (in_right b p.membranes (made_mems r (later qs) m xs) v) | inr v ↦ inr v ]
-    ]
-mems_come_from r qs left left_mems m (Rule rule inside ∷ xs) lo wh x b i = mems_come_from r qs left left_mems m xs lo wh x b i
-mems_come_from r qs left left_mems m (Rules of inside ∷ xs) lo wh x b i = mems_come_from r qs left left_mems m xs lo wh x b i
 
 -- some membrane that isn't removed gets the atom
 abbrev pub Arrives : Registers → RestCopies → (ℕ → List ℕ) → List ℕ → ℕ → ℕ → List BodyItem → ℕ → Type 0

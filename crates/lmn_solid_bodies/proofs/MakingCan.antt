@@ -65,9 +65,6 @@ not_waiting s x i e = subst IsTopOrWithin e i
 same_in_place : (s t : Heap) (x : ℕ) → mem_place_of t x ≡ mem_place_of s x → IsMemInPlace s x → IsMemInPlace t x
 same_in_place s t x e i = subst IsTopOrWithin (sym e) i
 
-gone_waiting : (s : Heap) (x : ℕ) → mem_place_of s x ≡ Some gone → mem_place_of s x ≡ Some waiting → ⊥
-gone_waiting s x e f = let w : Some gone ≡ Some waiting = sym e ∙ f in absurd (cc)
-
 sent_stands : (m n : ℕ) (o : Option Place) → IsTopOrWithin o → IsTopOrWithin (sent_at m n o)
 sent_stands m n None i = absurd i
 sent_stands m n (Some top) i = tt

@@ -3,7 +3,7 @@ use Rattle.std.proofs.Common.{ℕ, false, ◌+◌, ◌≡◌, ◌≢◌, ◌⊎�
 use Rattle.std.proofs.lemmas.Bool.{cases_eq, eq-eqb}
 use Rattle.std.proofs.lemmas.List.{append_assoc}
 use Rattle.lmn_store_heap.specs.Heap as heap
-use Rattle.lmn_store_heap.specs.Heap.{Heap, HeapAtom, HeapMem, waiting, gone, functor_of, arity_of, mem_place_of, parent_of, atoms_by, mems_by, IsMem, IsMemInPlace, Distinct, placed, placed_mem, moved_all, taken_mem}
+use Rattle.lmn_store_heap.specs.Heap.{Heap, waiting, mem_place_of, parent_of, Distinct, placed, placed_mem, moved_all, taken_mem}
 use Rattle.lmn_store_heap.specs.Sound.{Listed}
 use Rattle.lmn_store_heap.proofs.ListLemmas.{each_in}
 use Rattle.lmn_store_heap.proofs.Listing.{made_listed, placed_listed, same_mem_place}

@@ -164,10 +164,6 @@ grown_said ks s t na nm na' nm' A M R A' M' R' g ea em a m r = record {
   mem_line = λ rest e. g.mem_line rest (e ∙ ap (λ zs. zs ++ rest) (sym em));
 }
 
--- nothing is moved
-no_moved : (x : ℕ) → In x [] → ⊥
-no_moved x i = i
-
 module _ (ks : List ℕ) (copy cm : ℕ → ℕ) where
   -- what is asked of the membranes whose copies are to be placed: they don't change, and their copies and those of the ones round
   -- them may get items

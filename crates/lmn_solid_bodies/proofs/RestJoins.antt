@@ -352,7 +352,3 @@ functor_linked i p (Some x) = refl
 pub place_linked : (i : ℕ) (p : Option (ℕ × ℕ)) (o : Option HeapAtom) → option_map (λ (x : HeapAtom). x.place) (option_map (with_link i p) o) ≡ option_map (λ (x : HeapAtom). x.place) o
 place_linked i p None = refl
 place_linked i p (Some x) = refl
-
-pub some_linked : (i : ℕ) (p : Option (ℕ × ℕ)) (o : Option HeapAtom) → IsSome (option_map (with_link i p) o) ≡ IsSome o
-some_linked i p None = refl
-some_linked i p (Some x) = refl

@@ -3,7 +3,7 @@ use Rattle.std.proofs.Common.{ℕ, ◌≡◌, ◌≢◌, List, [], ◌∷◌, �
 use Rattle.std.proofs.lemmas.List.{append_assoc}
 use Rattle.std.specs.Option.{option_map}
 use Rattle.lmn_store_heap.specs.Heap as heap
-use Rattle.lmn_store_heap.specs.Heap.{Heap, HeapMem, within, waiting, alter, mem_with_atoms, mem_with_mems, mem_with_place, mem_with_rules, mem_place_of, parent_of, atoms_in, mems_in, rules_in, placed, placed_mem, rules_copied}
+use Rattle.lmn_store_heap.specs.Heap.{Heap, within, waiting, alter, mem_with_mems, mem_with_place, mem_with_rules, mem_place_of, parent_of, atoms_in, mems_in, rules_in, placed, placed_mem, rules_copied}
 use Rattle.lmn_store_heap.specs.Sound.{Listed, Forest, bare, mem, flat, Forms}
 use Rattle.lmn_store_heap.proofs.ListLemmas.{in_left, in_right}
 use Rattle.lmn_store_heap.proofs.Listing.{placed_listed, same_mem_place}
@@ -39,10 +39,6 @@ atoms_settle n (a ∷ xs) s rest e is wait h =
 abbrev Rounds : Heap → List ℕ → List ℕ → Type 0
 Rounds s done [] = Unit {0}
 Rounds s done (k ∷ zs) = ((p : ℕ) × (parent_of s k ≡ Some p) × In p done) × Rounds s (k ∷ done) zs
-
-rounds_more : (s : Heap) (done more zs : List ℕ) → ((x : ℕ) → In x done → In x more) → Rounds s done zs → Rounds s more zs
-rounds_more s done more [] sub w = tt
-rounds_more s done more (k ∷ zs) sub w = ((w.0.0, w.0.1, sub w.0.0 w.0.2), rounds_more s (k ∷ done) (k ∷ more) zs (λ x i. elim i [ inl e ↦ inl e | inr j ↦ inr (sub x j) ]) w.1)
 
 rounds_as : (s t : Heap) (done zs : List ℕ) → ((k : ℕ) → In k zs → parent_of t k ≡ parent_of s k) → Rounds s done zs → Rounds t done zs
 rounds_as s t done [] e w = tt

@@ -1,14 +1,12 @@
 -- The atoms of the copy of a rest in the solid.
-use Rattle.std.proofs.Common.{ℕ, true, false, ◌+◌, ◌<◌, ◌≤◌, ◌≡◌, List, [], ◌∷◌, ◌++◌, map, length, Option, Some, None, IsSome, refl, sym, ap, subst, ◌∙◌, inl, inr, arith}
+use Rattle.std.proofs.Common.{ℕ, true, false, ◌+◌, ◌<◌, ◌≤◌, ◌≡◌, List, [], ◌∷◌, ◌++◌, length, Option, Some, None, IsSome, refl, sym, ap, subst, ◌∙◌, inl, inr, arith}
 use Rattle.std.specs.Option.{option_map, option_and_then}
 use Rattle.lmn_base.specs.declared.functor.Functor.{Functor}
 use Rattle.lmn_base.specs.Graphs.{Port}
 use Rattle.lmn_base.specs.Lists.{In}
 use Rattle.lmn_store_heap.specs.Heap.{Heap, HeapAtom, Distinct, functor_of, arity_of, IsAtom, IsInPlace, atoms_in, home_by}
 use Rattle.lmn_store_heap.specs.Sound.{Valid}
-use Rattle.lmn_store_heap.specs.Solid.{solid_atoms_at}
 use Rattle.lmn_store_heap.specs.Lists.{without_all}
-use Rattle.lmn_store_heap.proofs.Common.{is_atom_at}
 use Rattle.lmn_store_heap.proofs.ListLemmas.{in_left, in_right, distinct_left, distinct_right}
 use Rattle.lmn_ground_parts.specs.Copies.{answer, moved, ports_of}
 use Rattle.lmn_ground_parts.proofs.AnswerLaws.{answer_in, answer_one}
@@ -19,7 +17,7 @@ use Rattle.lmn_solid_bodies.specs.declared.items.BodyItem.TheVariants.{Atom, Con
 use Rattle.lmn_solid_bodies.specs.Running.{Registers}
 use Rattle.lmn_solid_bodies.specs.Tied.{partners}
 use Rattle.lmn_solid_heads.specs.Heads.{atoms_of}
-use Rattle.lmn_solid_bodies.specs.Fired.{linked_by, images_of}
+use Rattle.lmn_solid_bodies.specs.Fired.{images_of}
 use Rattle.lmn_solid_bodies.specs.Made.{new_atoms}
 use Rattle.lmn_solid_bodies.specs.Names.{StandsPort, Names}
 use Rattle.lmn_solid_bodies.specs.RestCopies.{RestCopies, later, rest_membranes, AreCopiesIn, AreRestsCopied}

@@ -7,7 +7,7 @@ use Rattle.std.proofs.lemmas.Bool.{cases_lt, eqb-true}
 use Rattle.std.proofs.lemmas.Bool.Decides.{nat_tests}
 use Rattle.std.proofs.lemmas.List.{append-nil, append_assoc, drop_all, get_or_past}
 use Rattle.std.proofs.Math.Nat.{le-max_left, le-max_right}
-use Rattle.lmn_base.specs.Graphs.{Port, Reached, across, at_root}
+use Rattle.lmn_base.specs.Graphs.{Port, Reached}
 use Rattle.lmn_base.specs.Lists.{In}
 use Rattle.lmn_base.proofs.Lists.{get_there, in_either}
 use Rattle.lmn_base.proofs.Numbers.{equal_itself}
@@ -44,7 +44,7 @@ use Rattle.lmn_solid_tables.specs.declared.flat.Flat.{Flat}
 use Rattle.lmn_solid_firing.specs.Making.{AreThere, HasAtoms}
 use Rattle.lmn_solid_firing.specs.Meant.{integer_named, part_named}
 use Rattle.lmn_solid_firing.specs.declared.match_.Part.{Part}
-use Rattle.lmn_store_heap.proofs.Common.{is_atom_at, linked_atom}
+use Rattle.lmn_store_heap.proofs.Common.{is_atom_at}
 use Rattle.lmn_solid_firing.specs.Matched.{IsPartAt, IsPartOfName, names_of}
 use Rattle.lmn_solid_firing.specs.Pieces.{AreParts, imaged, images_from}
 use Rattle.lmn_solid_search.proofs.WalkingLemmas.{reached_atom}

@@ -37,14 +37,6 @@ pub port_pushed : (a i n : ℕ) (former now : List Place) (old : List Port) (p :
 port_pushed a i n former now old p is of pos low d =
     ap stacked is ∙ stacked_more former p ∙ (λ j. of j ∷ d j) ∙ sym (ap (λ ps. ps ++ old) (range_before a i n pos low))
 
--- all ports of an atom are on the stack
-pub all_pushed : (a i n : ℕ) (ps : List Port) (old : List Port) → i ≡ 0 → ps ≡ port_range a i (n - i) ++ old → ps ≡ port_range a 0 n ++ old
-all_pushed a i n ps old e d = let g : n - i ≡ n = omega (arith, e) in d ∙ ap (λ k. port_range a i k ++ old) g ∙ ap (λ k. port_range a k n ++ old) e
-
--- no port of an atom is on the stack yet
-pub none_pushed : (a n : ℕ) (old : List Port) → old ≡ port_range a n (n - n) ++ old
-none_pushed a n old = let e : n - n ≡ 0 = omega arith in ap (λ k. port_range a n k ++ old) (sym e)
-
 -- ---- marks
 
 -- what is marked after one mark more
@@ -89,10 +81,6 @@ tells_more h round marks marks' atoms atoms' b t l e g = subst (λ (xs : List �
     | inr s ↦ t.none_later a n s
   ];
 }))
-
--- behind a round the next one may begin
-pub round_ends : (h : Heap) (round : ℕ) (marks atoms : List ℕ) → Tells h round marks atoms → Before h (round + 1) marks
-round_ends h round marks atoms t = (t.places, λ a n e. (let l = t.none_later a n e in omega (arith, l)))
 
 -- ---- steps of a walk
 

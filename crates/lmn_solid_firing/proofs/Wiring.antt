@@ -43,29 +43,6 @@ times_split flat images items x =
 
 -- ---- rounds of loops
 
--- an end more of an atom
-pub end_added : (flat : Flat) (a i : ℕ) (former now old es : List (ℕ × ℕ)) (xs ys : List ℕ) (x y : ℕ) → now ≡ former ++ (x, y) ∷ [] → ys ≡ x ∷ xs → y ≡ link_at flat a i →
-    former ++ ends_at flat a i ys ≡ old ++ es → now ++ ends_at flat a (i + 1) xs ≡ old ++ es
-end_added flat a i former now old es xs ys x y is more at d =
-    let g : i + 1 ≡ suc i = omega arith in
-    ap (λ k. now ++ ends_at flat a k xs) g
-    ∙ ap (λ zs. zs ++ ends_at flat a (suc i) xs) is
-    ∙ append_assoc former ((x, y) ∷ []) (ends_at flat a (suc i) xs)
-    ∙ ap (λ z. former ++ (x, z) ∷ ends_at flat a (suc i) xs) at
-    ∙ sym (ap (λ zs. former ++ ends_at flat a i zs) more)
-    ∙ d
-
--- the ends of an atom more
-pub atom_ended : (flat : Flat) (images : List ℕ) (n m : ℕ) (former now es : List (ℕ × ℕ)) (a : HeadAtom) (as' : List HeadAtom) (b : ℕ) (links : List ℕ) → now ≡ former ++ ends_at flat b 0 links → links ≡ a.links → b ≡ slice_index_or images n 0 → m ≡ n + 1 →
-    former ++ ends_from flat images n (a ∷ as') ≡ es → now ++ ends_from flat images m as' ≡ es
-atom_ended flat images n m former now es a as' b links is ls at next d =
-    let g : m ≡ suc n = omega (arith, next) in
-    ap (λ k. now ++ ends_from flat images k as') g
-    ∙ ap (λ zs. zs ++ ends_from flat images (suc n) as') is
-    ∙ append_assoc former (ends_at flat b 0 links) (ends_from flat images (suc n) as')
-    ∙ (λ i. former ++ (ends_at flat (at i) 0 (ls i) ++ ends_from flat images (suc n) as'))
-    ∙ d
-
 -- a wire more
 pub wire_added : (F : ℕ) (ends : List (ℕ × ℕ)) (typed : List ℕ) (n k : ℕ) (former now whole : List (ℕ × ℕ)) → now ≡ former ++ wire F ends typed k → 0 < n → k ≡ n - 1 →
     former ++ wires F ends typed n ≡ whole → now ++ wires F ends typed (n - 1) ≡ whole

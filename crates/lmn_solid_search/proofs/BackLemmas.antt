@@ -55,10 +55,6 @@ outer_less (suc fuel) ms k n = by (inside_of ms k == 0) (outer_less fuel ms (ins
     by true r l = omega arith
     by false r l = omega (arith, r, l)
 
-atom_or : Option HeadAtom → ℕ
-atom_or None = 0
-atom_or (Some a) = a.inside
-
 typed_or : Option HeadTyped → ℕ
 typed_or None = 0
 typed_or (Some t) = t.inside

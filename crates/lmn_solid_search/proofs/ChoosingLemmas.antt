@@ -70,10 +70,6 @@ get_early (y ∷ ys) j zero b e l = absurd (omega (arith, l))
 get_early (y ∷ ys) zero (suc i) b e l = inl (same_Some _ _ e)
 get_early (y ∷ ys) (suc j) (suc i) b e l = inr (get_early ys j i b e (omega (arith, l)))
 
-none_taken : (a : ℕ) (cs : List ℕ) → In a (take 0 cs) → ⊥
-none_taken a [] i = i
-none_taken a (c ∷ cs) i = i
-
 -- ---- the choices for one item, in their order
 
 module _ (h : Heap) (head : Head) (guard : List Cond) (xs : List HeadItem) (May : ℕ → Type 0) (next : ℕ → Placed) (choices : List ℕ) (p : Placed) where
@@ -83,9 +79,6 @@ module _ (h : Heap) (head : Head) (guard : List Cond) (xs : List HeadItem) (May 
 
   abbrev pub NoneOf : ℕ → Type 0
   NoneOf i = (a : ℕ) → In a (take i choices) → Fails a
-
-  pub none_first : NoneOf 0
-  none_first a i = absurd (none_taken a choices i)
 
   pub none_more : (i a : ℕ) → i < length choices → slice_index_or choices i 0 ≡ a → Fails a → NoneOf i → NoneOf (i + 1)
   none_more i a l e f none = all_so_far Fails choices i l (subst Fails (sym e) f) none

@@ -48,10 +48,6 @@ first_holds h s (Equal left right pos) cs = by (s.part_of left.name) (part_alone
     by None q None = ((λ r. absurd r), λ r. absurd r.0)
     by None q (Some z) = ((λ r. (tt, r)), λ r. r.1)
 
--- nothing was asked at first
-pub guarding_first : (h : Heap) (s : Meaning) (guard : List Cond) (k : Known) → Knows h k s → Guarding h s guard k 0
-guarding_first h s guard k w = record { now = s; known = w; left = ((λ p. p), λ p. p); bound = refl }
-
 module _ (h : Heap) (s : Meaning) (guard : List Cond) (k : Known) (i : ℕ) (c : Cond) (at : slice_get guard i ≡ Some c) (g : Guarding h s guard k i) where
   rest : drop i guard ≡ c ∷ drop (i + 1) guard
   rest = drop_get i guard c at
@@ -68,18 +64,9 @@ module _ (h : Heap) (s : Meaning) (guard : List Cond) (k : Known) (i : ℕ) (c :
     bound = ap (after_all h g.now) (sym rest) ∙ g.bound;
   }
 
-  -- or doesn't
-  pub guarding_fails : ((t : Meaning) → Knows h k t → Holds h t c → ⊥) → HoldsOnHeap h s guard → ⊥
-  guarding_fails fails p = fails g.now g.known ((first_holds h g.now c (drop (i + 1) guard)).0 (subst (HoldsOnHeap h g.now) rest (g.left.1 p))).0
-
 -- in the end all were asked
 nothing_left : {A : Type 0} (xs : List A) (i : ℕ) → length xs < suc i → drop i xs ≡ []
 nothing_left [] zero l = refl
 nothing_left [] (suc i) l = refl
 nothing_left (x ∷ xs) zero l = absurd (omega (arith, l))
 nothing_left (x ∷ xs) (suc i) l = nothing_left xs i (omega (arith, l))
-
-pub guarding_done : (h : Heap) (s : Meaning) (guard : List Cond) (k : Known) (i : ℕ) → length guard < suc i → Guarding h s guard k i → HoldsOnHeap h s guard × Knows h k (after_all h s guard)
-guarding_done h s guard k i l g =
-    let e = nothing_left guard i l in
-    (g.left.0 (subst (HoldsOnHeap h g.now) (sym e) tt), subst (Knows h k) (sym (ap (after_all h g.now) e) ∙ g.bound) g.known)

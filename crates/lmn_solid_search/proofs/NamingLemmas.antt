@@ -1,18 +1,16 @@
 -- What the names of typed contexts stand for.
-use Rattle.std.proofs.Common.{◌≡◌, ◌≢◌, ◌∙◌, ◌⊎◌, ◌==◌, ℕ, ℤ, zero, suc, ◌+◌, ◌≤◌, List, [], ◌∷◌, ◌++◌, length, slice_get, drop, option_and_then, Option, Some, None, Result, Ok, Err, OnOk, is_some, Bool, true, false, if◌then◌else◌, refl, sym, ap, subst, inl, inr, arith, rules}
+use Rattle.std.proofs.Common.{◌≡◌, ◌≢◌, ◌∙◌, ◌⊎◌, ◌==◌, ℕ, ℤ, suc, List, [], ◌∷◌, ◌++◌, option_and_then, Option, Some, None, Result, Ok, Err, OnOk, is_some, Bool, true, false, if◌then◌else◌, refl, sym, ap, subst, inl, inr, rules}
 use Rattle.std.specs.Option.{option_map}
 use Rattle.std.proofs.lemmas.Bool.{cases_eq}
 use Rattle.std.proofs.lemmas.Option.{same_Some}
 use Rattle.lmn_base.specs.Graphs.{Port}
-use Rattle.lmn_base.proofs.Lists.{drop_get}
 use Rattle.lmn_base.proofs.Numbers.{equal_itself, unequal}
 use Rattle.lmn_guards.specs.Values.{value_beside}
 use Rattle.lmn_store_heap.specs.Heap.{Heap, IsAtom}
-use Rattle.lmn_solid_heads.specs.Guards.{integer_at, integer_or}
+use Rattle.lmn_solid_heads.specs.Guards.{integer_at}
 use Rattle.lmn_solid_tables.specs.Flats.{port_by}
-use Rattle.lmn_solid_search.specs.Knowing.{AreParts, Knows, KnowsIntegers, or_else, part_named}
+use Rattle.lmn_solid_search.specs.Knowing.{AreParts, KnowsIntegers, or_else, part_named}
 use Rattle.lmn_solid_search.specs.Parting.{AreEntered, first_named}
-use Rattle.lmn_solid_search.specs.Meeting.{named_meaning}
 use Rattle.lmn_solid_search.specs.declared.head.TypedItem.{TypedItem}
 use Rattle.lmn_solid_search.specs.declared.known.Known.{Known}
 use Rattle.lmn_solid_search.specs.declared.known.Named.{Named}
@@ -70,33 +68,6 @@ module _ (h : Heap) (k k' : Known) (n : Named) (parts : k'.parts ≡ k.parts ++ 
           (w n.name ∙ ap (option_and_then (integer_at h)) free ∙ e ∙ sym (ap (option_and_then (integer_at h)) at_name))
       by (inr apart) = w x ∙ sym (ap (option_and_then (integer_at h)) (elsewhere x apart))
 
--- one typed context more
-pub first_more : (typed : List TypedItem) (parts : List Part) (n : ℕ) (t : TypedItem) (q : Part) (name : ℕ) (entry : Rattle.lmn_solid_tables.specs.declared.tables.Port.Port) (old new all : ℕ → Option Port) → slice_get typed n ≡ Some t → slice_get parts n ≡ Some q → name ≡ t.name → entry ≡ q.entry
-    → ((x : ℕ) → new x ≡ or_else (old x) (if name == x then Some (port_by entry) else None)) → ((x : ℕ) → or_else (old x) (first_named (drop n typed) (drop n parts) x) ≡ all x)
-    → (x : ℕ) → or_else (new x) (first_named (drop (n + 1) typed) (drop (n + 1) parts) x) ≡ all x
-first_more typed parts n t q name entry old new all at at' is is' more h x =
-    ap (λ (o : Option Port). or_else o (first_named (drop (n + 1) typed) (drop (n + 1) parts) x)) (more x)
-    ∙ by (old x) (name == x) (first_named (drop (n + 1) typed) (drop (n + 1) parts) x)
-    ∙ (λ i. or_else (old x) (if is i == x then Some (port_by (is' i)) else first_named (drop (n + 1) typed) (drop (n + 1) parts) x))
-    ∙ (λ i. or_else (old x) (first_named (sym (drop_get n typed t at) i) (sym (drop_get n parts q at') i) x)) ∙ h x
-  where
-    by : (o : Option Port) (b : Bool) (r : Option Port) → or_else (or_else o (if b then Some (port_by entry) else None)) r ≡ or_else o (if b then Some (port_by entry) else r)
-    by None true r = refl
-    by None false r = refl
-    by (Some p) b r = refl
-
-first_past : (typed : List TypedItem) (parts : List Part) (n : ℕ) (x : ℕ) → length typed ≤ n → first_named (drop n typed) (drop n parts) x ≡ None
-first_past typed parts n x l = ap (λ ts. first_named ts (drop n parts) x) (nothing typed n l)
-  where
-    nothing : (ts : List TypedItem) (k : ℕ) → length ts ≤ k → drop k ts ≡ []
-    nothing [] zero m = refl
-    nothing [] (suc k) m = refl
-    nothing (u ∷ ts) zero m = absurd (omega (arith, m))
-    nothing (u ∷ ts) (suc k) m = nothing ts k (omega (arith, m))
-
-pub first_all : (typed : List TypedItem) (parts : List Part) (n : ℕ) (old all : ℕ → Option Port) → length typed ≤ n → ((x : ℕ) → or_else (old x) (first_named (drop n typed) (drop n parts) x) ≡ all x) → (x : ℕ) → old x ≡ all x
-first_all typed parts n old all l h x = sym (or_none (old x)) ∙ ap (or_else (old x)) (sym (first_past typed parts n x l)) ∙ h x
-
 -- on success
 pub both_ok : {T E P : Type 0} (r : Result T E) → P → OnOk r P
 both_ok (Ok x) p = p
@@ -107,17 +78,6 @@ two_ok (Ok x) f p q = f p q
 two_ok (Err x) f p q = tt
 
 -- ---- what is known of the parts of typed contexts
-
--- a table of them tells what their names stand for
-pub knows_named : (h : Heap) (k : Known) (typed typed' : List TypedItem) (parts : List Part) → typed' ≡ typed → ((x : ℕ) → part_named k.parts x ≡ first_named typed' parts x) → KnowsIntegers h k → Knows h k (named_meaning typed parts)
-knows_named h k typed typed' parts e p i = record {
-  part = λ x. sym (p x ∙ ap (λ ts. first_named ts parts x) e);
-  integer = λ x. by (first_named typed parts x) ∙ sym (i x ∙ ap (option_and_then (integer_at h)) (p x ∙ ap (λ ts. first_named ts parts x) e));
-}
-  where
-    by : (o : Option Port) → integer_or h o None ≡ option_and_then (integer_at h) o
-    by None = refl
-    by (Some q) = refl
 
 -- each is entered at an atom
 pub named_atoms : (h : Heap) (k : Known) (typed : List TypedItem) (parts : List Part) → ((x : ℕ) → part_named k.parts x ≡ first_named typed parts x) → AreEntered h parts → AreParts h k.parts

@@ -47,18 +47,9 @@ inner_there [] j d low = absurd (omega (arith, low))
 inner_there (m ∷ ns) zero d low = refl
 inner_there (m ∷ ns) (suc j) d low = inner_there ns j d (omega (arith, low))
 
-inner_past : (ns : List MembraneItem) (j : ℕ) → length ns ≤ j → 0 ≡ slice_index_or (map (λ m. m.inside) ns) j 0
-inner_past [] j low = refl
-inner_past (m ∷ ns) zero low = absurd (omega (arith, low))
-inner_past (m ∷ ns) (suc j) low = inner_past ns j (omega (arith, low))
-
 pub inside_there : (ms : List MembraneItem) (k j : ℕ) (d : MembraneItem) → k ≢ 0 → j ≡ k - 1 → j < length ms → (get_or ms j d).inside ≡ inside_in ms k
 inside_there ms zero j d n e l = absurd (n refl)
 inside_there ms (suc k) j d n e l = let same : j ≡ k = omega (arith, e) in inner_there ms j d l ∙ ap (λ i. inside_in ms (suc i)) same
-
-pub inside_past : (ms : List MembraneItem) (k j : ℕ) → k ≢ 0 → j ≡ k - 1 → length ms ≤ j → 0 ≡ inside_in ms k
-inside_past ms zero j n e l = absurd (n refl)
-inside_past ms (suc k) j n e l = let same : j ≡ k = omega (arith, e) in inner_past ms j l ∙ ap (λ i. inside_in ms (suc i)) same
 
 pub outer_more : (ms : List MembraneItem) (fuel rest k around top : ℕ) → fuel ≡ rest + 1 → around ≡ inside_in ms k → around ≢ 0 → outermost_from fuel ms k ≡ top → outermost_from rest ms around ≡ top
 outer_more ms zero rest k around top e is n h = absurd (omega (arith, e))
@@ -169,14 +160,6 @@ mark_more marks marks' marks'' xs i low place is h a = (
     before : a ≢ slice_index_or xs i 0 → (IsMarked marks a ⊎ In a (take (i + 1) xs)) → IsMarked marks a ⊎ In a (take i xs)
     before apart (inl old) = inl old
     before apart (inr k) = elim (in_longer a xs i low k) [ inl j ↦ inr j | inr e ↦ absurd (apart (sym e)) ]
-
-pub none_marked : (marks : List (Option ℕ)) (xs : List ℕ) (a : ℕ) → (IsMarked marks a → IsMarked marks a ⊎ In a (take 0 xs)) × ((IsMarked marks a ⊎ In a (take 0 xs)) → IsMarked marks a)
-none_marked marks xs a = ((λ k. inl k), λ j. by xs j)
-  where
-    by : (ys : List ℕ) → (IsMarked marks a ⊎ In a (take 0 ys)) → IsMarked marks a
-    by ys (inl k) = k
-    by [] (inr k) = absurd k
-    by (y ∷ ys) (inr k) = absurd k
 
 -- what stands in a membrane is an atom
 pub atom_listed : (h : Heap) (m a : ℕ) → Valid h → In a (atoms_in h m) → IsAtom h a

@@ -221,8 +221,6 @@ one_arity h a b v e i = by (functor_of h a) refl (there (h.atoms a) refl i)
     by o g (f, is) = v.sound.shaped.ports b f (e ∙ is) ∙ sym (v.sound.shaped.ports a f is)
 
 module _ (h : Heap) (x y : Port) (v : Valid h) where
-  private_map : Type 0
-  private_map = SameGraph (atom_map h) x (atom_map h) y
 
   kept_agree : (p q : Pairs) → ((n a b : ℕ) → IsPair p n a b → IsPair q n a b) → (a b i : ℕ) → Agree h x y p a b i → Agree h x y q a b i
   kept_agree p q front a b i (inl e) = inl e
@@ -282,14 +280,6 @@ module _ (h : Heap) (x y : Port) (v : Valid h) where
         let s : ◌≡◌ {A = ℕ × ℕ} (b, i) (g.to x.0, x.1) = λ m. (z m, w' m) in
         d (s ∙ g.root)
 
-    pub right_root : ◌≢◌ {A = ℕ × ℕ} (a, i) x → ◌≡◌ {A = ℕ × ℕ} (b, i) y → SameGraph (atom_map h) x (atom_map h) y → ⊥
-    right_root d e g =
-        let s : ◌≡◌ {A = ℕ × ℕ} (b, i) (g.to x.0, x.1) = e ∙ sym g.root in
-        let u : g.to a ≡ g.to x.0 = image g ∙ ap (λ (r : ℕ × ℕ). r.0) s in
-        let z : a ≡ x.0 = g.one_to_one a x.0 reached at_root u in
-        let w' : i ≡ x.1 = ap (λ (r : ℕ × ℕ). r.1) s in
-        d (λ m. (z m, w' m))
-
     module _ (to from : ℕ × ℕ) (apart : ◌≢◌ {A = ℕ × ℕ} (a, i) x) (apart' : ◌≢◌ {A = ℕ × ℕ} (b, i) y) (link : link_of h a i ≡ Some to) (link' : link_of h b i ≡ Some from) where
       reached_to : Reached (atom_map h) x to.0
       reached_to = across reached apart link
@@ -343,10 +333,6 @@ comparing_first h x y p t first only = record {
   like = λ g n a b i. ap g.to (only n a b i).0 ∙ ap (λ (r : ℕ × ℕ). r.0) g.root ∙ sym (only n a b i).1;
 }
 
--- it comes to a pair whose functors agree,
-pub comparing_pair : (h : Heap) (x y : Port) (p : Pairs) (k a b : ℕ) → functor_of h b ≡ functor_of h a → IsPair p k a b → Comparing h x y p k → ComparingAt h x y p k a b 0
-comparing_pair h x y p k a b e is w = record { comparing = w; at = is; functor = e; before = λ j l. absurd (omega (arith, l)) }
-
 -- and leaves it where all ports agree
 pub pair_compared : (h : Heap) (x y : Port) (p : Pairs) (k a b i n : ℕ) → n ≡ arity_of h a → n ≤ i → ComparingAt h x y p k a b i → Comparing h x y p (k + 1)
 pair_compared h x y p k a b i n e l w = record {
@@ -385,9 +371,6 @@ module _ (h : Heap) (x y : Port) (v : Valid h) (p : Pairs) (k : ℕ) (w : Compar
 
   pair_right : (b : ℕ) → In b p.rights → (n : ℕ) × (a : ℕ) × IsPair p n a b
   pair_right b i = let n = position p.rights b i in let a = other_left p n.0 b w.twins n.1 in (n.0, a.0, (a.1, n.1))
-
-  same_arity : (n a b i : ℕ) → IsPair p n a b → i < arity_of h a → arity_of h b ≡ arity_of h a
-  same_arity n a b i is l = one_arity h a b v (w.functors n a b (low n a b is) is) (is_atom_at h a i l)
 
   same_arity' : (n a b i : ℕ) → IsPair p n a b → i < arity_of h b → arity_of h a ≡ arity_of h b
   same_arity' n a b i is l = one_arity h b a v (sym (w.functors n a b (low n a b is) is)) (is_atom_at h b i l)

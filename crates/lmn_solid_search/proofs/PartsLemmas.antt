@@ -7,11 +7,9 @@ use Rattle.lmn_base.specs.Graphs.{Port}
 use Rattle.lmn_base.proofs.Lists.{get_either}
 use Rattle.lmn_store_heap.specs.Heap.{Heap, IsAtom}
 use Rattle.lmn_store_heap.specs.Sound.{Valid}
-use Rattle.lmn_solid_tables.specs.Flats.{port_by}
-use Rattle.lmn_solid_search.specs.Walking.{IsMarked, StandsApart}
+use Rattle.lmn_solid_search.specs.Walking.{IsMarked}
 use Rattle.lmn_solid_search.specs.Taking.{StandsAt}
-use Rattle.lmn_solid_search.specs.Placing.{membrane_at}
-use Rattle.lmn_solid_search.specs.Parting.{LeadsTo, IsEntry, IsPart, IsTaken, AreTaken, AtomsAre, IsMine, TellMine}
+use Rattle.lmn_solid_search.specs.Parting.{LeadsTo, IsPart, IsTaken, AreTaken, IsMine, TellMine}
 use Rattle.lmn_solid_search.specs.declared.head.AtomItem.{AtomItem}
 use Rattle.lmn_solid_search.specs.declared.head.TypedItem.{TypedItem}
 use Rattle.lmn_solid_search.specs.declared.placed.Placed.{Placed}
@@ -25,10 +23,6 @@ Found h atoms images x q = (n : ℕ) × (a : AtomItem) × (slice_get atoms n ≡
 pub entry_there : (h : Heap) (atoms : List AtomItem) (images : List ℕ) (x : ℕ) (q : Port) → Valid h → Found h atoms images x q → IsAtom h q.0
 entry_there h atoms images x q v (n, a, at, (j, e, link)) = linked_to h (slice_index_or images n 0) j q v link
 
--- there is one entry,
-pub one_entry : (h : Heap) (atoms : List AtomItem) (p : Placed) (t : TypedItem) (q r : Port) → Found h atoms p.atoms t.link q → IsPart h atoms p t r → IsPart h atoms p t q
-one_entry h atoms p t q r (n, a, at, (j, e, link)) part = subst (IsPart h atoms p t) (same_Some _ _ (sym (part.0.0 n a at j t.link e refl) ∙ link)) part
-
 -- and some, where a link holds the context
 pub no_entry : (h : Heap) (atoms : List AtomItem) (p : Placed) (t : TypedItem) (r : Port) → ((n : ℕ) (a : AtomItem) → slice_get atoms n ≡ Some a → (q : Port) → LeadsTo h a.links t.link (slice_index_or p.atoms n 0) q → ⊥) → ((q : Port) × StandsAt atoms t.link q) → IsPart h atoms p t r → ⊥
 no_entry h atoms p t r none (q, (a, at, e)) part = none q.0 a at r (q.1, e, part.0.0 q.0 a at q.1 t.link e refl)
@@ -38,18 +32,6 @@ pub no_entry_at : (h : Heap) (atoms atoms' : List AtomItem) (images : List ℕ) 
 no_entry_at h atoms atoms' images p t r e g none = no_entry h atoms p t r
     (subst (λ (as' : List AtomItem). (n : ℕ) (a : AtomItem) → slice_get as' n ≡ Some a → (q : Port) → LeadsTo h a.links t.link (slice_index_or p.atoms n 0) q → ⊥) e
     (subst (λ (xs : List ℕ). (n : ℕ) (a : AtomItem) → slice_get atoms' n ≡ Some a → (q : Port) → LeadsTo h a.links t.link (slice_index_or xs n 0) q → ⊥) g none))
-
-pub found_at : (h : Heap) (atoms atoms' : List AtomItem) (images images' : List ℕ) (x : ℕ) (q : Port) → atoms' ≡ atoms → images' ≡ images → Found h atoms' images' x q → Found h atoms images x q
-found_at h atoms atoms' images images' x q e g f = subst (λ (as' : List AtomItem). Found h as' images x q) e (subst (λ (xs : List ℕ). Found h atoms' xs x q) g f)
-
--- what is taken is the part
-pub is_taken : (h : Heap) (atoms : List AtomItem) (p : Placed) (t : TypedItem) (home : ℕ) (entry : Rattle.lmn_solid_tables.specs.declared.tables.Port.Port) (part : Part) → IsEntry h atoms p.atoms t (port_by entry) → home ≡ membrane_at p.home p.membranes t.inside
-    → (StandsApart h (port_by entry) home p.atoms × (part.entry ≡ entry) × AtomsAre h part) → IsTaken h atoms p t part
-is_taken h atoms p t home entry part e is (apart, same, are) =
-    (subst (λ (q : Port). IsPart h atoms p t q) (ap port_by (sym same)) (e, subst (λ (m : ℕ). StandsApart h (port_by entry) m p.atoms) is apart), are)
-
-pub not_taken : (h : Heap) (atoms : List AtomItem) (p : Placed) (t : TypedItem) (home : ℕ) (q r : Port) → home ≡ membrane_at p.home p.membranes t.inside → Found h atoms p.atoms t.link q → (StandsApart h q home p.atoms → ⊥) → IsPart h atoms p t r → ⊥
-not_taken h atoms p t home q r is found apart part = apart (subst (λ (m : ℕ). StandsApart h q m p.atoms) (sym is) (one_entry h atoms p t q r found part).1)
 
 -- one part more
 pub taken_more : (h : Heap) (atoms : List AtomItem) (p : Placed) (typed : List TypedItem) (parts parts' : List Part) (n : ℕ) (t : TypedItem) (part : Part) → slice_get typed n ≡ Some t → parts' ≡ parts ++ part ∷ [] → IsTaken h atoms p t part

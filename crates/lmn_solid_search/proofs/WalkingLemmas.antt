@@ -12,7 +12,7 @@ use Rattle.lmn_store_heap.specs.Graphs.{atom_map}
 use Rattle.lmn_store_heap.proofs.Common.{in_at, position, linked_atom}
 use Rattle.lmn_store_heap.proofs.ListLemmas.{in_left, in_right}
 use Rattle.lmn_store_heap.proofs.Replacing.{port_within}
-use Rattle.lmn_solid_search.specs.Walking.{IsMarked, unmarked, Tells, Notes, Walking, WalkingAt, HasPlaces, Leads, Gathering, GatheringAt, IsGathered}
+use Rattle.lmn_solid_search.specs.Walking.{IsMarked, unmarked, Tells, Notes, Walking, WalkingAt, Leads, Gathering, GatheringAt, IsGathered}
 
 pub get_set_away : {A : Type 0} (xs : List A) (p q : ℕ) (v : A) → q ≢ p → slice_get (slice_set xs p v) q ≡ slice_get xs q
 get_set_away [] p q v d = refl
@@ -165,10 +165,6 @@ module _ (S R : ℕ → Type 0) (Next : ℕ → ℕ → ℕ → Type 0) where
     ];
   }
 
-  -- it comes to one of them
-  pub coming : (marks : List (Option ℕ)) (xs : List ℕ) (k a : ℕ) → slice_get xs k ≡ Some a → Walking S R Next marks xs k → WalkingAt S R Next marks xs k a 0
-  coming marks xs k a g w = record { walking = w; at = g; before = λ j b l h. absurd (omega (arith, l)) }
-
   -- and has gone all its ways
   pub leaving : (marks : List (Option ℕ)) (xs : List ℕ) (k a n : ℕ) → ((i b : ℕ) → Next a i b → i < n) → WalkingAt S R Next marks xs k a n → Walking S R Next marks xs (k + 1)
   leaving marks xs k a n few w = record {
@@ -248,20 +244,9 @@ pub all_followed : (h : Heap) (root : Port) (marks : List (Option ℕ)) (xs : Li
 all_followed h root marks xs k a n e = leaving (λ a. root.0 ≡ a) (Reached (atom_map h) root) (Leads h root) marks xs k a n
     (λ i b next. (let l = port_within h a i (b, next.1.0) next.1.1 in omega (arith, e, l)))
 
-pub one_followed : (h : Heap) (root : Port) (marks : List (Option ℕ)) (xs : List ℕ) (k a : ℕ) → slice_get xs k ≡ Some a → Gathering h root marks xs k → GatheringAt h root marks xs k a 0
-one_followed h root = coming (λ a. root.0 ≡ a) (Reached (atom_map h) root) (Leads h root)
-
 pub part_begun : (h : Heap) (root : Port) (marks marks' marks'' : List (Option ℕ)) (xs ys : List ℕ) → marks' ≡ blank marks → xs ≡ [] → Notes marks' xs root.0 marks'' ys → Gathering h root marks'' ys 0
 part_begun h root marks marks' marks'' xs ys e list n = setting_out (λ a. root.0 ≡ a) (Reached (atom_map h) root) (Leads h root) marks' marks'' ys root.0
     (tells_nothing marks marks' e) (subst (λ (zs : List ℕ). Notes marks' zs root.0 marks'' ys) list n) at_root (λ a s. s)
-
--- a list isn't longer than the marks
-pub list_fits : (marks : List (Option ℕ)) (xs : List ℕ) → Tells marks xs → length xs ≤ length marks
-list_fits marks xs t = let n = t.total in omega (arith, n)
-
--- places stay places
-pub places_stay : (h : Heap) (marks marks' : List (Option ℕ)) → length marks' ≡ length marks → HasPlaces h marks → HasPlaces h marks'
-places_stay h marks marks' e p = λ a i. (let l = p a i in omega (arith, l, e))
 
 -- a loop over the ports has gone all ways
 pub followed_so_far : (h : Heap) (root : Port) (marks : List (Option ℕ)) (xs : List ℕ) (k a i n : ℕ) → n ≡ arity_of h a → i ≤ n → n ≤ i → GatheringAt h root marks xs k a i → Gathering h root marks xs (k + 1)

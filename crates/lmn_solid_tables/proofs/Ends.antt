@@ -3,7 +3,7 @@ use Rattle.std.proofs.Common.{ℕ, zero, suc, Bool, true, false, cond, ◌≡◌
 use Rattle.std.specs.Prelude.{Some, ◌==◌, if◌then◌else◌, count_by, slice_get, slice_set}
 use Rattle.std.proofs.lemmas.List.{append_assoc, length-append, length-set}
 use Rattle.std.proofs.lemmas.List.Recursion.{is_count_by}
-use Rattle.lmn_base.specs.Links.{EachTwice, Numbers, no_more}
+use Rattle.lmn_base.specs.Links.{EachTwice, Numbers}
 use Rattle.lmn_base.proofs.Common.{numbers_head, all_met}
 use Rattle.lmn_base.proofs.Lists.{get_front, plus_nothing, get_set}
 use Rattle.lmn_base.proofs.Numbers.{below_or_from, equal_itself, equal_when, same_or_not, unequal, three_ways}

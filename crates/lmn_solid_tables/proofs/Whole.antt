@@ -21,7 +21,7 @@ use Rattle.lmn_store_heap.specs.Lists.{Distinct}
 use Rattle.lmn_store_heap.specs.Solid.{IsNaming, regions_of}
 use Rattle.lmn_adequacy_heaps.proofs.SolidRegions.{solids_are_regions}
 use Rattle.lmn_store_heap.specs.Sound as sound
-use Rattle.lmn_store_heap.specs.Sound.{Forest, IsTree, Listed, Paired, Shaped, Valid, bare, mem}
+use Rattle.lmn_store_heap.specs.Sound.{IsTree, Listed, Paired, Shaped, Valid, bare, mem}
 use Rattle.lmn_store_heap.proofs.Common.{same_port}
 use Rattle.lmn_congruence.specs.Regions.{no_region}
 use Rattle.lmn_congruence.specs.Translation.{numbered_region, numbered_rule, region_of, regions}

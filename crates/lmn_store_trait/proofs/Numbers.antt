@@ -62,10 +62,6 @@ number_mem h i m v n =
     let c = cut_at (flat f) i m (n f v.tree.1) in
     is_mem h v.sound f v.tree.1 m (subst (In m) (sym c.is) (in_here m c.before c.rest))
 
--- a membrane with a number below that of all has one behind it
-pub not_last : (h : Heap) (i k : ℕ) → ((f : Forest) → IsTree h f → k < length (flat f)) → i < k → (f : Forest) → IsTree h f → slice_get (flat f) (i + 1) ≡ None → {A : Type 0} → A
-not_last h i k few l f t e = let p = is_past (flat f) (i + 1) e in let q = few f t in absurd (omega (arith, l, p, q))
-
 -- the last one has the number of all but one
 pub last_number : (h : Heap) (i m : ℕ) → HasNumber h i m → (f : Forest) → IsTree h f → slice_get (flat f) (i + 1) ≡ None → i + 1 ≡ length (flat f)
 last_number h i m n f t e = let p = is_past (flat f) (i + 1) e in let q = slice_get_within (flat f) i m (n f t) in omega (arith, p, q)

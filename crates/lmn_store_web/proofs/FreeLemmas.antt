@@ -12,7 +12,7 @@ use Rattle.lmn_store_slab.proofs.CensusLemmas.{census_drop}
 use Rattle.lmn_web.specs.declared.kind.CellKind.{CellKind}
 use Rattle.lmn_web.specs.declared.kind.CellKind.TheVariants.{Atom, Membrane}
 use Rattle.lmn_web.specs.Webs as web
-use Rattle.lmn_web.specs.Webs.{WebCell, web_kind, kind_at, home_at, arity_at, partner_at, cells_in, cells_of, web_label, with_partner, with_list, linked, cleared, parted, unlinked, IsLoose}
+use Rattle.lmn_web.specs.Webs.{WebCell, web_kind, kind_at, home_at, partner_at, cells_in, cells_of, web_label, with_list, unlinked, IsLoose}
 use Rattle.lmn_store_web.specs.Frees.{Drops, CanFree, Frees}
 use Rattle.lmn_store_web.specs.WebHeaps.{Posts, place_at, no_rules, atom_by, if_atom, if_membrane, atoms_of, mem_by, is_post, mems_of}
 use Rattle.lmn_store_web.specs.WebStores.{IsStored}

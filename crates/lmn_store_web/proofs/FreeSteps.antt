@@ -12,7 +12,7 @@ use Rattle.lmn_store_slab.proofs.CensusLemmas.{census_less}
 use Rattle.lmn_web.specs.declared.kind.CellKind.{CellKind}
 use Rattle.lmn_web.specs.declared.kind.CellKind.TheVariants.{Atom, Membrane}
 use Rattle.lmn_web.specs.Webs as web
-use Rattle.lmn_web.specs.Webs.{WebCell, web_kind, kind_at, home_at, arity_at, partner_at, cells_in, web_label, StandOnce}
+use Rattle.lmn_web.specs.Webs.{WebCell, kind_at, home_at, partner_at, cells_in, web_label, StandOnce}
 use Rattle.lmn_store_web.specs.Frees.{Drops, CanFree, Frees}
 use Rattle.lmn_store_web.specs.WebHeaps.{Posts, no_rules, mem_by, mems_of}
 use Rattle.lmn_store_web.specs.WebStores.{HasRules}

@@ -2,7 +2,7 @@
 use Rattle.std.proofs.Common.{◌≡◌, ℕ, ◌==◌, Bool, true, false, cond, List, Option, Some, None, refl, sym, ap, subst, ◌∙◌, length-set}
 use Rattle.std.specs.Option.{option_map, option_and_then}
 use Rattle.lmn_store_heap.specs.Heap as heap
-use Rattle.lmn_store_heap.specs.Heap.{Heap, HeapAtom, HeapMem, alter, mem_marked, mem_with_mark, with_link}
+use Rattle.lmn_store_heap.specs.Heap.{with_link}
 use Rattle.lmn_store_heap.proofs.Listing.{alter_keeps}
 use Rattle.lmn_store_slab.specs.RuleLists.{RuleList}
 use Rattle.lmn_store_slab.specs.Kept.{HasCounts, one}
@@ -10,7 +10,7 @@ use Rattle.lmn_store_slab.proofs.CensusLemmas.{census_alter}
 use Rattle.lmn_web.specs.declared.kind.CellKind.{CellKind}
 use Rattle.lmn_web.specs.declared.kind.CellKind.TheVariants.{Atom, Membrane}
 use Rattle.lmn_web.specs.Webs as web
-use Rattle.lmn_web.specs.Webs.{WebCell, web_kind, kind_at, partner_at, with_partner, StandOnce, IsPaired}
+use Rattle.lmn_web.specs.Webs.{WebCell, partner_at, with_partner, StandOnce, IsPaired}
 use Rattle.lmn_store_web.specs.WebHeaps.{Posts, atom_by, if_atom, if_membrane, atoms_of, mem_by, is_post, mems_of, heap_by}
 use Rattle.lmn_store_web.specs.WebStores.{IsStored}
 use Rattle.lmn_store_web.proofs.SoundLemmas.{Formed, link_is}

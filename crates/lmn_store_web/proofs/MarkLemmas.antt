@@ -3,7 +3,7 @@ use Rattle.std.proofs.Common.{◌≡◌, ℕ, ◌==◌, Bool, true, false, cond,
 use Rattle.std.specs.Option.{option_map, option_and_then}
 use Rattle.std.proofs.lemmas.Bool.{eqb-true}
 use Rattle.lmn_store_heap.specs.Heap as heap
-use Rattle.lmn_store_heap.specs.Heap.{Heap, HeapAtom, HeapMem, alter, marked, mem_marked, mem_with_mark}
+use Rattle.lmn_store_heap.specs.Heap.{HeapMem, alter, marked}
 use Rattle.lmn_store_heap.proofs.Listing.{alter_keeps}
 use Rattle.lmn_store_slab.specs.RuleLists.{RuleList}
 use Rattle.lmn_store_slab.specs.Kept.{HasCounts, one}

@@ -5,7 +5,7 @@ use Rattle.std.proofs.lemmas.List.{append_assoc, append-nil}
 use Rattle.std.specs.Option.{option_map}
 use Rattle.lmn_base.specs.Lists.{In}
 use Rattle.lmn_store_heap.specs.Heap as heap
-use Rattle.lmn_store_heap.specs.Heap.{Heap, HeapAtom, HeapMem, Place, top, within, waiting, gone, alter, with_place, mem_with_place, mem_place_of, parent_of, home_by, atoms_in, mems_in, IsMemInPlace, sent, atom_sent, mem_sent, emptied, filled, moved_all}
+use Rattle.lmn_store_heap.specs.Heap.{Heap, HeapAtom, HeapMem, Place, within, waiting, gone, alter, with_place, mem_with_place, mem_place_of, home_by, atoms_in, mems_in, IsMemInPlace, sent, atom_sent, mem_sent, emptied, filled, moved_all}
 use Rattle.lmn_store_heap.specs.Lists.{without, from}
 use Rattle.lmn_store_heap.specs.Conditions.{IsOutside}
 use Rattle.lmn_store_heap.proofs.Listing.{alter_at, alter_away, without_first}

@@ -6,12 +6,12 @@ use Rattle.std.specs.Option.{option_map, option_and_then}
 use Rattle.lmn_base.proofs.Numbers.{not_equal}
 use Rattle.lmn_base.specs.declared.functor.Functor.{Functor}
 use Rattle.lmn_store_heap.specs.Heap as heap
-use Rattle.lmn_store_heap.specs.Heap.{Heap, HeapAtom, HeapMem, Place, top, within, waiting, gone, home_by, functor_of, arity_of, link_of, mark_of, mem_mark_of, mem_mark_by, place_of, mem_place_of, home_of, parent_of, atoms_in, mems_in, atoms_by, mems_by}
+use Rattle.lmn_store_heap.specs.Heap.{Heap, HeapAtom, HeapMem, Place, top, within, waiting, gone, home_by, functor_of, arity_of, mark_of, mem_mark_of, mem_mark_by, place_of, mem_place_of, home_of, parent_of, atoms_in, mems_in, atoms_by, mems_by}
 use Rattle.lmn_store_slab.specs.RuleLists.{RuleList}
 use Rattle.lmn_web.specs.declared.kind.CellKind.{CellKind}
 use Rattle.lmn_web.specs.declared.kind.CellKind.TheVariants.{Atom, Membrane}
 use Rattle.lmn_web.specs.Webs as web
-use Rattle.lmn_web.specs.Webs.{WebCell, web_kind, kind_at, home_at, arity_at, partner_at, cells_in, cells_of, web_label}
+use Rattle.lmn_web.specs.Webs.{WebCell, web_kind, kind_at, home_at, arity_at, cells_in, cells_of, web_label}
 use Rattle.lmn_store_web.specs.Labels.{label_by}
 use Rattle.lmn_store_web.specs.WebHeaps.{Posts, place_at, atom_by, if_atom, if_membrane, atoms_of, mem_by, is_post, mems_of, heap_by}
 use Rattle.lmn_base.proofs.Truth.{never_both}

@@ -12,7 +12,7 @@ use Rattle.lmn_store_slab.proofs.CensusLemmas.{census_same}
 use Rattle.lmn_web.specs.declared.kind.CellKind.{CellKind}
 use Rattle.lmn_web.specs.declared.kind.CellKind.TheVariants.{Atom, Membrane}
 use Rattle.lmn_web.specs.Webs as web
-use Rattle.lmn_web.specs.Webs.{WebCell, web_kind, kind_at, home_at, arity_at, cells_in, cells_of, web_label, with_home, with_list, unlinked, added_last, StandOnce}
+use Rattle.lmn_web.specs.Webs.{WebCell, web_kind, kind_at, home_at, arity_at, cells_in, cells_of, web_label, with_home, with_list, unlinked, added_last}
 use Rattle.lmn_web.proofs.ListedLemmas.{kind_cases}
 use Rattle.lmn_store_web.specs.Sends.{Sends}
 use Rattle.lmn_store_web.specs.WebHeaps.{Posts, atom_by, if_atom, if_membrane, atoms_of, mem_by, is_post, mems_of}
@@ -270,10 +270,6 @@ module _ (w v : ℕ → Option WebCell) (m n x : ℕ) (s : Sends w v m n x) wher
   -- the list that x leaves
   pub source_list : IsSome (w m) → cells_in v m k ≡ without x (cells_in w m k)
   source_list i = ap (λ (o : Option WebCell). cells_of o k) s.source ∙ list_at_kind k (without x (cells_in w m k)) (w m) i
-
-  -- the list to which it comes
-  pub target_list : IsSome (w n) → cells_in v n k ≡ cells_in w n k ++ x ∷ []
-  target_list i = ap (λ (o : Option WebCell). cells_of o k) s.target ∙ list_at_kind k (cells_in w n k ++ x ∷ []) (w n) i
 
   -- all others
   pub lists_away : (y : ℕ) (j : CellKind) → (y ≡ m → j ≡ k → ⊥) → (y ≡ n → j ≡ k → ⊥) → cells_in v y j ≡ cells_in w y j

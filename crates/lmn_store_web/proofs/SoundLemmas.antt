@@ -6,7 +6,7 @@ use Rattle.std.specs.Option.{option_map, option_and_then}
 use Rattle.lmn_base.specs.Lists.{In}
 use Rattle.lmn_base.specs.declared.functor.Functor.{Functor}
 use Rattle.lmn_store_heap.specs.Heap as heap
-use Rattle.lmn_store_heap.specs.Heap.{Heap, HeapAtom, HeapMem, Place, top, within, waiting, gone, functor_of, arity_of, link_of, place_of, mem_place_of, home_by, home_of, parent_of, atoms_in, mems_in, atoms_by, mems_by, IsAtom, IsMem, Distinct}
+use Rattle.lmn_store_heap.specs.Heap.{Heap, HeapAtom, HeapMem, Place, top, within, waiting, gone, arity_of, link_of, place_of, mem_place_of, home_of, atoms_in, mems_in, atoms_by, mems_by, IsAtom, IsMem, Distinct}
 use Rattle.lmn_store_heap.specs.Sound.{Paired, Listed, Shaped, Sound}
 use Rattle.lmn_store_slab.specs.RuleLists.{RuleList}
 use Rattle.lmn_web_cells.specs.Cells.{HeldPort, HeldCell}

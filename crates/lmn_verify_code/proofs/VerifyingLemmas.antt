@@ -84,9 +84,6 @@ rising_more k n l =
     let next : suc k ≡ k + 1 = omega arith in
     ap (rising k) one ∙ ap (λ m. k ∷ rising m (n - (k + 1))) next
 
-pub rising_all : (k n : ℕ) → n - k ≡ 0 → rising k (n - k) ≡ []
-rising_all k n e = ap (rising k) e
-
 -- ---- both parts of a code
 
 pub both_in_order : (d : RegisterCounts) (head body : List Instr) (c : RegisterCounts) (r : Option RegisterCounts) → d ≡ at_first → in_order d head ≡ true → c ≡ after_all d head

@@ -1,8 +1,7 @@
 -- How often ports stand in the code of a body: each as often as among the ports that are tied.
 use Rattle.std.proofs.Common.{◌≡◌, ◌≢◌, ◌≤◌, ◌<◌, ◌+◌, ◌⊎◌, ◌==◌, ℕ, zero, suc, Bool, true, false, if◌then◌else◌, List, [], ◌∷◌, ◌++◌, length, map, inl, inr, refl, sym, ap, ◌∙◌, subst, arith}
-use Rattle.std.specs.Prelude.{Some, slice_get}
 use Rattle.std.specs.List.{AllByRecursion}
-use Rattle.std.proofs.lemmas.Bool.{cases_eq, eq-eqb, eqb-true, cases_lt}
+use Rattle.std.proofs.lemmas.Bool.{cases_eq, eq-eqb, cases_lt}
 use Rattle.lmn_base.proofs.Lists.{map_append}
 use Rattle.lmn_base.proofs.Numbers.{not_equal, same_or_not}
 use Rattle.lmn_congruence.specs.Links.{one_if_same, places as often}

@@ -1,5 +1,5 @@
 -- A tree has no more rules, at every depth, than tokens.
-use Rattle.std.proofs.Common.{◌≡◌, ℕ, suc, ◌+◌, ◌≤◌, List, [], ◌∷◌, ◌++◌, length, refl, arith}
+use Rattle.std.proofs.Common.{◌≡◌, ℕ, suc, ◌+◌, ◌≤◌, List, [], ◌∷◌, ◌++◌, length, arith}
 use Rattle.std.specs.Prelude.{codes}
 use Rattle.std.proofs.lemmas.List.{length-append}
 use Rattle.lmn_base.specs.declared.refusal.Pos.{Pos}
@@ -15,7 +15,7 @@ use Rattle.lmn_flatten_plain.specs.Expansion.{link_used, last_link, argument, ex
 use Rattle.lmn_flatten_plain.specs.Meanings.{place_at}
 use Rattle.lmn_base.specs.declared.rule.Plain.{Plain}
 use Rattle.lmn_parser.specs.Trees.{IsProgram}
-use Rattle.lmn_flatten_plain.specs.Plains.{EachPair, IsPlainOf}
+use Rattle.lmn_flatten_plain.specs.Plains.{IsPlainOf}
 use Rattle.lmn_flatten_plain.proofs.FewItems.{guard_on}
 use Rattle.lmn_flatten.proofs.EachLemmas.{each_length as as_many}
 

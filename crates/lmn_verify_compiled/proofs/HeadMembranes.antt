@@ -2,15 +2,13 @@
 use Rattle.std.proofs.Common.{◌≡◌, ◌+◌, ◌==◌, ℕ, zero, suc, Bool, true, false, if◌then◌else◌, List, [], ◌∷◌, ◌++◌, length, inl, inr, refl, sym, ap, ◌∙◌, subst, arith}
 use Rattle.std.specs.Prelude.{Some, slice_get}
 use Rattle.std.specs.List.{list_any, AllByRecursion}
-use Rattle.std.proofs.lemmas.List.{append_assoc}
 use Rattle.std.proofs.lemmas.Option.{same_Some}
 use Rattle.std.proofs.lemmas.Bool.{eqb-true}
 use Rattle.lmn_base.proofs.Lists.{get_front, all_append}
 use Rattle.lmn_base.specs.declared.level.CtxUse.{CtxUse}
 use Rattle.lmn_base.specs.declared.level.Level.{Level, out-Level}
 use Rattle.lmn_guards.specs.declared.plan.TypeKind.{TypeKind}
-use Rattle.lmn_solid_heads.specs.declared.items.HeadItem.{HeadItem}
-use Rattle.lmn_solid_heads.specs.Heads.{HeadMembrane, membrane_of, membranes_of}
+use Rattle.lmn_solid_heads.specs.Heads.{HeadMembrane, membranes_of}
 use Rattle.lmn_solid_heads.specs.Embeddings.{HasMembrane}
 use Rattle.lmn_solid_heads.specs.Flattening.{leaf_items, has_some, items_of_head}
 use Rattle.lmn_solid_heads.proofs.HeadTrees.{Head, Heads, head, no_head, head_and, head_at, sizes, flat_items, flat_membranes, items_flat}

@@ -22,7 +22,6 @@ use Rattle.lmn_verify_listing.specs.declared.opcode.Kind.{Kind}
 use Rattle.lmn_verify_listing.specs.declared.opcode.Kind.TheVariants as kind
 use Rattle.lmn_verify_listing.specs.declared.opcode.Opcode.{Opcode}
 use Rattle.lmn_verify_code.specs.declared.words.Operand.{Operand}
-use Rattle.lmn_verify_code.specs.declared.words.Operand.TheVariants as operand
 use Rattle.lmn_verify_listing.specs.Lines.{IsShortOperand}
 use Rattle.lmn_verify_listing.specs.Listings.{HasPlainLine, HasPlainLines, IsBlock, IsWholeCode}
 use Rattle.lmn_verify_listing.specs.Opcodes.{FitsForm, FitsKind, FitsLabel, FitsSome, form_of, in_form, opcode_of}

@@ -24,7 +24,7 @@ use Rattle.lmn_solid_bodies.specs.Items.{new_ports, new_ports_from, old_ports, c
 use Rattle.lmn_solid_bodies.specs.Rules.{NestedRule, WellPlaced, StandsIn, IsHeadMembrane}
 use Rattle.lmn_solid_bodies.proofs.HeadPorts.{once_in_of, at_atoms_in}
 use Rattle.lmn_schedule_strategy.proofs.BodyInstructions.{HasRules}
-use Rattle.lmn_verify_code.specs.Verified.{is_open, is_removed, is_made, makes, makes_and_ties, drops_and_ties, ties_and_ends, ties}
+use Rattle.lmn_verify_code.specs.Verified.{is_open, is_removed, is_made, makes, makes_and_ties, drops_and_ties, ties_and_ends}
 use Rattle.lmn_verify_code.specs.Verified as verified
 use Rattle.lmn_verify_compiled.proofs.BodyShapes.{makes_none, dropped, tied}
 use Rattle.lmn_verify_code.proofs.Deciding.{length_rising as rising_length}

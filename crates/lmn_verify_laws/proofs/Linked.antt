@@ -32,15 +32,6 @@ cond_sum : (b : Bool) (n : ℕ) → cond b (1 + n) n ≡ one_if b + n
 cond_sum true n = refl
 cond_sum false n = omega arith
 
-same_sides : (p q : NewPort) → same_port p q ≡ same_port q p
-same_sides p q = by (same_port p q) (same_port q p) refl refl
-  where
-    by : (b c : Bool) → same_port p q ≡ b → same_port q p ≡ c → b ≡ c
-    by true true e f = refl
-    by false false e f = refl
-    by true false e f = sym (port_itself p) ∙ ap (λ z. same_port z p) (port_is p q e) ∙ f
-    by false true e f = sym (sym (port_itself q) ∙ ap (λ z. same_port z q) (port_is q p f) ∙ e)
-
 -- a list without the first of the ports that are this
 abbrev without : NewPort → List NewPort → List NewPort
 without p [] = []
@@ -59,9 +50,6 @@ without_counts p (y ∷ ys) d q = by (same_port p y) refl d (without_counts p ys
         let a = cond_sum (same_port q y) (passing (same_port q) ys) in
         let b = cond_sum (same_port q y) (passing (same_port q) (without p ys)) in
         omega (arith, u, a, b)
-
-hit : ℕ → ℕ → ℕ
-hit k x = if k == x then 1 else 0
 
 module _ (f : NewPort → ℕ) (x : ℕ) where
   without_times : (p : NewPort) (ys : List NewPort) → passing (same_port p) ys ≢ 0 → times x (map f ys) ≡ (if f p == x then 1 else 0) + times x (map f (without p ys))

@@ -45,9 +45,6 @@ module _ (x k n : ℕ) (p q r : ℕ) (later : Counted x (k + 2) n ((p + q) + r))
   clear : x < k + 2 → (p ≡ 0) × (q ≡ 0) × (r ≡ 0)
   clear l = let e = later.before l in (omega (arith, e), omega (arith, e), omega (arith, e))
 
-  same_behind : k + (suc n + suc n) ≤ x → (k + 2) + (n + n) ≤ x
-  same_behind l = omega (arith, l)
-
   none_more : Counted x k (suc n) ((p + q) + r)
   none_more = record { before = λ l. later.before (omega (arith, l)); behind = λ l. later.behind (omega (arith, l)); twice = later.twice }
 

@@ -3,7 +3,7 @@ use Rattle.std.proofs.Common.{◌≡◌, ◌<◌, ◌≤◌, ◌+◌, ◌-◌, �
 use Rattle.std.specs.Prelude.{codes, slice_get, Some, Result, Ok, Err, IfErr, IsErrAnd}
 use Rattle.std.specs.List.{AllByRecursion, flat_map}
 use Rattle.std.specs.Fmt.{decimal}
-use Rattle.std.proofs.lemmas.List.{append_assoc, append-nil, length_push, take-append-drop, length-take-le, drop_all, take_more, take_all, drop-drop}
+use Rattle.std.proofs.lemmas.List.{append_assoc, append-nil, length_push, take-append-drop, take_more, drop-drop}
 use Rattle.std.proofs.lemmas.List.Concat.{flat_map-append}
 use Rattle.std.proofs.lemmas.Bool.{lt-ltb, le-ltb}
 use Rattle.std.proofs.lemmas.Option.{slice_get-get_or}
@@ -13,17 +13,16 @@ use Rattle.lmn_base.specs.declared.refusal.TextFault.{TextFault}
 use Rattle.lmn_base.specs.declared.refusal.TextFault.TheVariants.{Refused, NoMemory}
 use Rattle.lmn_base.proofs.Lists.{all_append}
 use Rattle.lmn_instr_code.specs.declared.instr.Code.{Code}
-use Rattle.lmn_instr_code.specs.declared.instr.Instr.{Instr}
 use Rattle.lmn_instr_code.specs.Listings.{line, code_listing, HasCode}
 use Rattle.lmn_instr_reading.specs.Reading.{AddsNames, NumbersNames}
 use Rattle.lmn_verify_code.specs.Operands.{code_names}
 use Rattle.lmn_verify_code.specs.Verified.{IsVerified}
 use Rattle.lmn_verify_listing.specs.Lines.{rule, head, nothing, due_rule, IsWholeLine}
-use Rattle.lmn_verify_listing.specs.Listings.{IsWholeCode, HasPlainLines, AreListed, IsFirstUnverified, lines_of, lines_of_all, listings_from}
-use Rattle.lmn_verify_listing.specs.Reaching.{Reached, IsLineEnd, IsEnded, IsReadCode, AreReadCodes, IsRefusedLine}
+use Rattle.lmn_verify_listing.specs.Listings.{IsWholeCode, HasPlainLines, lines_of, lines_of_all, listings_from}
+use Rattle.lmn_verify_listing.specs.Reaching.{Reached, IsLineEnd, IsEnded, IsReadCode, AreReadCodes}
 use Rattle.lmn_instr_reading.proofs.NameLemmas.{adds_both, adds_none, adds_more as adds_fewer, numbers_same}
 use Rattle.lmn_verify_listing.proofs.LineLemmas.{more_instrs}
-use Rattle.lmn_verify_listing.proofs.ReachingLemmas.{reached_first, reached_more, reached_wrong, refusal_of, puts_on, whole_where}
+use Rattle.lmn_verify_listing.proofs.ReachingLemmas.{reached_first, reached_more, whole_where}
 use Rattle.lmn_base.proofs.Common.{numbers_both}
 
 -- the first line of the listing of rule j
@@ -47,26 +46,6 @@ rule_forth listing text j from end e is same = behind (end - from) refl (same �
     behind : (k : ℕ) → end - from ≡ k → rule_line j ≡ take (end - from) (drop from listing) → from < end
     behind zero k t = absurd (let none : rule_line j ≡ [] = t ∙ ap (λ m. take m (drop from listing)) k in cc)
     behind (suc m) k t = omega arith
-
--- the names that are put behind it,
-pub head_puts : (listing : List ℕ) (before names : List (List ℕ)) (from end : ℕ) → IsLineEnd listing from end → AddsNames (3 * (length listing - end)) before names → AddsNames (3 * (length listing - from)) before names
-head_puts listing before names from end e g = let back = e.back in adds_fewer (3 * (length listing - end)) (3 * (length listing - from)) before names (omega arith) g
-
--- with those that are put behind the head
-pub body_puts : (listing : List ℕ) (before middle later : List (List ℕ)) (from first end at ln : ℕ) (instrs : List Instr) → IsLineEnd listing from end → IsEnded true listing before middle end first at ln instrs
-    → AddsNames (3 * (length listing - at)) middle later → AddsNames (3 * (length listing - from)) before later
-body_puts listing before middle later from first end at ln instrs e h g =
-    let few = h.read.few in
-    head_puts listing before later from end e (puts_on listing before middle later end at (omega arith) h.read.within h.read.puts g)
-
--- another line stands there
-pub rule_wrong : (n : ℕ) (listing text : List ℕ) (j from first end : ℕ) → IsLineEnd listing from end → text ≡ take (end - from) (drop from listing) → (rule_line j ≡ text → ⊥)
-    → Reached n listing from first (rule j) → IsRefusedLine n listing (refusal_of first)
-rule_wrong n listing text j from first end e is other r = record {
-  code = refl;
-  wrong = reached_wrong n listing from first (rule j) r (λ s. other (s ∙ sym (is ∙ e.line))) (λ d. absurd (cc));
-  column = refl;
-}
 
 -- the listing of a code is read
 pub code_read : (listing text : List ℕ) (before middle later : List (List ℕ)) (j from first end at ln at2 ln2 : ℕ) (code : Code) → IsLineEnd listing from end → text ≡ take (end - from) (drop from listing) → rule_line j ≡ text
@@ -181,41 +160,6 @@ codes_more n listing before names later j at ln at2 ln2 cs c r l h =
       reached = h.reached n (subst (Reached n listing at ln) (due_here n j l) r.reached);
     }
 
--- the names that are put, with those of the code that comes next
-pub codes_put : (n : ℕ) (listing : List ℕ) (before names later : List (List ℕ)) (j at ln : ℕ) (cs : List Code) → AreReadCodes n listing before names j at ln cs → AddsNames (3 * (length listing - at)) names later
-    → AddsNames (3 * length listing) before later
-codes_put n listing before names later j at ln cs r g =
-    let within = r.within in
-    adds_fewer (3 * at + 3 * (length listing - at)) (3 * length listing) before later (omega arith) (adds_both (3 * at) (3 * (length listing - at)) before names later r.puts g)
-
--- or without
-pub all_put : (n : ℕ) (listing : List ℕ) (before names : List (List ℕ)) (j at ln : ℕ) (cs : List Code) → AreReadCodes n listing before names j at ln cs → AddsNames (3 * length listing) before names
-all_put n listing before names j at ln cs r = let within = r.within in adds_fewer (3 * at) (3 * length listing) before names (omega arith) r.puts
-
--- something stands behind them
-pub something_behind : (n : ℕ) (listing : List ℕ) (before names : List (List ℕ)) (at ln : ℕ) (cs : List Code) → AreReadCodes n listing before names n at ln cs → at < length listing → IsRefusedLine n listing (refusal_of ln)
-something_behind n listing before names at ln cs r l = record {
-  code = refl;
-  wrong = reached_wrong n listing at ln nothing (subst (Reached n listing at ln) (due_none n) r.reached) (λ s. s) (λ e none. left (drop at listing) refl none);
-  column = refl;
-}
-  where
-    left : (xs : List ℕ) → drop at listing ≡ xs → xs ≡ [] → ⊥
-    left xs e none =
-        let both : length listing ≡ length (take at listing) = ap length (sym (take-append-drop at listing) ∙ ap (λ t. take at listing ++ t) (e ∙ none) ∙ append-nil (take at listing)) in
-        let front = length-take-le at listing r.within in
-        omega (arith, l, both, front)
-
--- nothing does
-pub all_operands : (n : ℕ) (listing : List ℕ) (before names : List (List ℕ)) (at ln : ℕ) (cs : List Code) → AreReadCodes n listing before names n at ln cs → length listing ≤ at → AreListed n names cs listing
-all_operands n listing before names at ln cs r l = record {
-  many = r.many;
-  whole = r.whole;
-  named = r.named;
-  plain = r.plain;
-  are = sym (append-nil (listings_from names 0 cs)) ∙ ap (λ t. listings_from names 0 cs ++ t) (sym (drop_all at listing l)) ∙ r.text;
-}
-
 -- ---- which isn't verified
 
 -- how many lines some of the codes have, and one more
@@ -236,9 +180,6 @@ pub record AreVerified (n : ℕ) (cs : List Code) (k ln : ℕ) : Type 0 where
   pub line : ln ≡ 1 + lines_of_all (take k cs)
   pub verified : AllByRecursion (λ c. IsVerified c n) (take k cs)
 
-pub none_verified : (n : ℕ) (cs : List Code) → AreVerified n cs 0 1
-none_verified n cs = record { line = refl; verified = tt }
-
 -- one more
 pub verified_more : (n : ℕ) (cs : List Code) (k ln more : ℕ) (c : Code) → AreVerified n cs k ln → k < length cs → c ≡ get_or cs k c → IsVerified c n → more ≡ lines_of c → AreVerified n cs (k + 1) (ln + more)
 verified_more n cs k ln more c h l e v m =
@@ -249,14 +190,6 @@ verified_more n cs k ln more c h l e v m =
       line = omega arith;
       verified = subst (AllByRecursion (λ x. IsVerified x n)) (sym next) (all_append (λ x. IsVerified x n) (take k cs) (c ∷ []) h.verified (v, tt));
     }
-
--- one that isn't
-pub first_is : (n : ℕ) (cs : List Code) (k ln : ℕ) (c : Code) → AreVerified n cs k ln → k < length cs → c ≡ get_or cs k c → (IsVerified c n → ⊥) → IsFirstUnverified n cs ln
-first_is n cs k ln c h l e v = record { rule = k; code = c; is = code_at cs k c l e; unverified = v; earlier = h.verified; number = h.line }
-
--- all are
-pub all_verified : (n : ℕ) (cs : List Code) (k ln : ℕ) → AreVerified n cs k ln → length cs ≤ k → AllByRecursion (λ c. IsVerified c n) cs
-all_verified n cs k ln h l = subst (AllByRecursion (λ c. IsVerified c n)) (take_all k cs l) h.verified
 
 -- the lines so far are few
 pub few_lines : (n : ℕ) (cs : List Code) (k ln : ℕ) (c : Code) → AreVerified n cs k ln → k < length cs → c ≡ get_or cs k c → ln + lines_of c ≤ 1 + lines_of_all cs

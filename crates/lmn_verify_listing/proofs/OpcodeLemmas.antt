@@ -1,7 +1,7 @@
 -- What the tables of names and operands say, name by name.
 use Rattle.std.proofs.Common.{◌≡◌, ◌==◌, Bool, true, false, not, refl, sym, ap, ◌∙◌, true≢false}
 use Rattle.std.specs.Prelude.{Option, Some, None, bytes_eq}
-use Rattle.std.specs.List.{AllByRecursion, list_all, find}
+use Rattle.std.specs.List.{list_all, find}
 use Rattle.std.proofs.lemmas.Option.{same_Some}
 use Rattle.lmn_instr_code.specs.declared.instr.Instr.{Instr}
 use Rattle.lmn_instr_code.specs.declared.instr.Instr.TheVariants as instr
@@ -115,57 +115,6 @@ no_space opcode.NewLink = refl
 no_space opcode.Relink = refl
 no_space opcode.Unify = refl
 no_space opcode.Proceed = refl
-
--- what holds of all names of the table holds of each name
-pub each_opcode : (P : Opcode → Type 0) → AllByRecursion P OPCODES → (op : Opcode) → P op
-each_opcode P h opcode.FindAtom = h.0
-each_opcode P h opcode.Deref = h.1.0
-each_opcode P h opcode.Func = h.1.1.0
-each_opcode P h opcode.InMem = h.1.1.1.0
-each_opcode P h opcode.NeqAtom = h.1.1.1.1.0
-each_opcode P h opcode.Joined = h.1.1.1.1.1.0
-each_opcode P h opcode.NotIn = h.1.1.1.1.1.1.0
-each_opcode P h opcode.AnyMem = h.1.1.1.1.1.1.1.0
-each_opcode P h opcode.NeqMem = h.1.1.1.1.1.1.1.1.0
-each_opcode P h opcode.IsInt = h.1.1.1.1.1.1.1.1.1.0
-each_opcode P h opcode.IsUnary = h.1.1.1.1.1.1.1.1.1.1.0
-each_opcode P h opcode.IsGround = h.1.1.1.1.1.1.1.1.1.1.1.0
-each_opcode P h opcode.NAtoms = h.1.1.1.1.1.1.1.1.1.1.1.1.0
-each_opcode P h opcode.NMems = h.1.1.1.1.1.1.1.1.1.1.1.1.1.0
-each_opcode P h opcode.NoRules = h.1.1.1.1.1.1.1.1.1.1.1.1.1.1.0
-each_opcode P h opcode.IsClosed = h.1.1.1.1.1.1.1.1.1.1.1.1.1.1.1.0
-each_opcode P h opcode.EqGround = h.1.1.1.1.1.1.1.1.1.1.1.1.1.1.1.1.0
-each_opcode P h opcode.NeqGround = h.1.1.1.1.1.1.1.1.1.1.1.1.1.1.1.1.1.0
-each_opcode P h opcode.GetInt = h.1.1.1.1.1.1.1.1.1.1.1.1.1.1.1.1.1.1.0
-each_opcode P h opcode.Const = h.1.1.1.1.1.1.1.1.1.1.1.1.1.1.1.1.1.1.1.0
-each_opcode P h opcode.Add = h.1.1.1.1.1.1.1.1.1.1.1.1.1.1.1.1.1.1.1.1.0
-each_opcode P h opcode.Sub = h.1.1.1.1.1.1.1.1.1.1.1.1.1.1.1.1.1.1.1.1.1.0
-each_opcode P h opcode.Mul = h.1.1.1.1.1.1.1.1.1.1.1.1.1.1.1.1.1.1.1.1.1.1.0
-each_opcode P h opcode.Div = h.1.1.1.1.1.1.1.1.1.1.1.1.1.1.1.1.1.1.1.1.1.1.1.0
-each_opcode P h opcode.Mod = h.1.1.1.1.1.1.1.1.1.1.1.1.1.1.1.1.1.1.1.1.1.1.1.1.0
-each_opcode P h opcode.Lt = h.1.1.1.1.1.1.1.1.1.1.1.1.1.1.1.1.1.1.1.1.1.1.1.1.1.0
-each_opcode P h opcode.Le = h.1.1.1.1.1.1.1.1.1.1.1.1.1.1.1.1.1.1.1.1.1.1.1.1.1.1.0
-each_opcode P h opcode.Gt = h.1.1.1.1.1.1.1.1.1.1.1.1.1.1.1.1.1.1.1.1.1.1.1.1.1.1.1.0
-each_opcode P h opcode.Ge = h.1.1.1.1.1.1.1.1.1.1.1.1.1.1.1.1.1.1.1.1.1.1.1.1.1.1.1.1.0
-each_opcode P h opcode.Eq = h.1.1.1.1.1.1.1.1.1.1.1.1.1.1.1.1.1.1.1.1.1.1.1.1.1.1.1.1.1.0
-each_opcode P h opcode.Ne = h.1.1.1.1.1.1.1.1.1.1.1.1.1.1.1.1.1.1.1.1.1.1.1.1.1.1.1.1.1.1.0
-each_opcode P h opcode.Commit = h.1.1.1.1.1.1.1.1.1.1.1.1.1.1.1.1.1.1.1.1.1.1.1.1.1.1.1.1.1.1.1.0
-each_opcode P h opcode.RemoveAtom = h.1.1.1.1.1.1.1.1.1.1.1.1.1.1.1.1.1.1.1.1.1.1.1.1.1.1.1.1.1.1.1.1.0
-each_opcode P h opcode.RemovePart = h.1.1.1.1.1.1.1.1.1.1.1.1.1.1.1.1.1.1.1.1.1.1.1.1.1.1.1.1.1.1.1.1.1.0
-each_opcode P h opcode.RemoveMem = h.1.1.1.1.1.1.1.1.1.1.1.1.1.1.1.1.1.1.1.1.1.1.1.1.1.1.1.1.1.1.1.1.1.1.0
-each_opcode P h opcode.NewAtom = h.1.1.1.1.1.1.1.1.1.1.1.1.1.1.1.1.1.1.1.1.1.1.1.1.1.1.1.1.1.1.1.1.1.1.1.0
-each_opcode P h opcode.NewInt = h.1.1.1.1.1.1.1.1.1.1.1.1.1.1.1.1.1.1.1.1.1.1.1.1.1.1.1.1.1.1.1.1.1.1.1.1.0
-each_opcode P h opcode.NewMem = h.1.1.1.1.1.1.1.1.1.1.1.1.1.1.1.1.1.1.1.1.1.1.1.1.1.1.1.1.1.1.1.1.1.1.1.1.1.0
-each_opcode P h opcode.CopyGround = h.1.1.1.1.1.1.1.1.1.1.1.1.1.1.1.1.1.1.1.1.1.1.1.1.1.1.1.1.1.1.1.1.1.1.1.1.1.1.0
-each_opcode P h opcode.MoveCells = h.1.1.1.1.1.1.1.1.1.1.1.1.1.1.1.1.1.1.1.1.1.1.1.1.1.1.1.1.1.1.1.1.1.1.1.1.1.1.1.0
-each_opcode P h opcode.CopyCells = h.1.1.1.1.1.1.1.1.1.1.1.1.1.1.1.1.1.1.1.1.1.1.1.1.1.1.1.1.1.1.1.1.1.1.1.1.1.1.1.1.0
-each_opcode P h opcode.LoadRule = h.1.1.1.1.1.1.1.1.1.1.1.1.1.1.1.1.1.1.1.1.1.1.1.1.1.1.1.1.1.1.1.1.1.1.1.1.1.1.1.1.1.0
-each_opcode P h opcode.CopyRules = h.1.1.1.1.1.1.1.1.1.1.1.1.1.1.1.1.1.1.1.1.1.1.1.1.1.1.1.1.1.1.1.1.1.1.1.1.1.1.1.1.1.1.0
-each_opcode P h opcode.DropCells = h.1.1.1.1.1.1.1.1.1.1.1.1.1.1.1.1.1.1.1.1.1.1.1.1.1.1.1.1.1.1.1.1.1.1.1.1.1.1.1.1.1.1.1.0
-each_opcode P h opcode.NewLink = h.1.1.1.1.1.1.1.1.1.1.1.1.1.1.1.1.1.1.1.1.1.1.1.1.1.1.1.1.1.1.1.1.1.1.1.1.1.1.1.1.1.1.1.1.0
-each_opcode P h opcode.Relink = h.1.1.1.1.1.1.1.1.1.1.1.1.1.1.1.1.1.1.1.1.1.1.1.1.1.1.1.1.1.1.1.1.1.1.1.1.1.1.1.1.1.1.1.1.1.0
-each_opcode P h opcode.Unify = h.1.1.1.1.1.1.1.1.1.1.1.1.1.1.1.1.1.1.1.1.1.1.1.1.1.1.1.1.1.1.1.1.1.1.1.1.1.1.1.1.1.1.1.1.1.1.0
-each_opcode P h opcode.Proceed = h.1.1.1.1.1.1.1.1.1.1.1.1.1.1.1.1.1.1.1.1.1.1.1.1.1.1.1.1.1.1.1.1.1.1.1.1.1.1.1.1.1.1.1.1.1.1.1.0
 
 abbrev pub is_functor : Option Kind → Bool
 is_functor (Some kind.Functor) = true

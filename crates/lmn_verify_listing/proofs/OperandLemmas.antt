@@ -133,9 +133,6 @@ pub record Parted (text parts rest : List ℕ) : Type 0 where
   pub front : parts_text parts ++ rest ≡ text
   pub left : (gs : List ℕ) → AllSmall gs → parts_text gs ≡ text → (more : List ℕ) × AllSmall more × (parts_text more ≡ rest)
 
-pub parted_none : (text : List ℕ) → Parted text [] text
-parted_none text = record { small = tt; front = refl; left = λ gs h e. (gs, h, e) }
-
 -- what is left isn't nothing, so it begins with one
 pub parted_first : (text parts rest : List ℕ) → Parted text parts rest → rest ≢ [] → (gs : List ℕ) → AllSmall gs → parts_text gs ≡ text
     → (g : ℕ) × (more : List ℕ) × (g < 2 ^ 16) × AllSmall more × (one_text [] (operand.Part g) ++ parts_text more ≡ rest)
@@ -158,9 +155,6 @@ parted_more text parts rest later r p small e only = record {
       let f = parted_first text parts rest p (λ n. (let z = e ∙ n in cc)) gs h whole in
       (f.1, f.3, sym (only (operand.Part f.0) [] (parts_text f.1) f.2 (parts_behind f.1) f.4));
 }
-
-pub parted_all : (text parts rest : List ℕ) → Parted text parts rest → rest ≡ [] → AllSmall parts × (parts_text parts ≡ text)
-parted_all text parts rest p e = (p.small, sym (append-nil (parts_text parts)) ∙ ap (λ r. parts_text parts ++ r) (sym e) ∙ p.front)
 
 -- no register has the empty text
 pub no_parts : (gs : List ℕ) → parts_text gs ≡ [] → gs ≡ []

@@ -1,21 +1,15 @@
 -- Places of bytes in texts, and texts that have none of a byte.
-use Rattle.std.proofs.Common.{◌≡◌, ◌≢◌, ◌<◌, ◌≤◌, ◌+◌, ◌^◌, ◌⊎◌, inl, inr, ◌==◌, not, zero, suc, ℕ, ℤ, pos, negsuc, true, List, [], ◌∷◌, ◌++◌, length, get_or, drop, take, refl, sym, ap, ◌∙◌, subst, arith, true≢false}
+use Rattle.std.proofs.Common.{◌≡◌, ◌≢◌, ◌<◌, ◌≤◌, ◌+◌, ◌^◌, ◌⊎◌, inl, inr, ◌==◌, not, zero, suc, ℕ, ℤ, pos, negsuc, true, List, [], ◌∷◌, ◌++◌, length, get_or, drop, take, refl, sym, ap, ◌∙◌, arith, true≢false}
 use Rattle.std.specs.List.{list_all}
 use Rattle.std.specs.Fmt.{decimal, signed_decimal}
 use Rattle.std.specs.Str.Parse.{AllDigits}
 use Rattle.std.proofs.lemmas.Bool.{and_parts, cases_lt}
 use Rattle.std.proofs.lemmas.Bool.Decides.{Decides-eqb}
-use Rattle.std.proofs.lemmas.List.{take_more, length-append, length-take-le, get_or_append_left, get_or-take, get_or_at, take_at, drop_at}
+use Rattle.std.proofs.lemmas.List.{length-append, length-take-le, get_or_append_left, get_or-take, get_or_at, take_at, drop_at}
 use Rattle.std.proofs.lemmas.Fmt.{decimal_is_IsNumeral}
 use Rattle.std.proofs.lemmas.Str.Parse.{digit_from_value}
-use Rattle.lmn_base.proofs.Lists.{all_append}
 use Rattle.lmn_instr_reading.specs.Reading.{IsIn64Bits}
 use Rattle.lmn_verify_listing.specs.Lines.{HasNo, IsPlaceOf}
-
--- one byte more
-pub has_no_more : (byte : ℕ) (text : List ℕ) (at : ℕ) → at < length text → HasNo byte (take at text) → get_or text at 0 ≢ byte → HasNo byte (take (at + 1) text)
-has_no_more byte text at l h n =
-    subst (HasNo byte) (sym (take_more text at 0 l)) (all_append (λ b. b ≢ byte) (take at text) (get_or text at 0 ∷ []) h (n, tt))
 
 -- of a text without a byte none is it
 pub has_no_at : (byte : ℕ) (text : List ℕ) (k : ℕ) → HasNo byte text → k < length text → get_or text k 0 ≢ byte

@@ -3,7 +3,7 @@ use Rattle.std.proofs.Common.{◌≡◌, ◌≢◌, ◌<◌, ◌≤◌, ◌+◌,
 use Rattle.std.specs.Prelude.{codes, bytes_eq}
 use Rattle.std.specs.List.{flat_map}
 use Rattle.std.proofs.lemmas.Bool.Decides.{Decides-eqb}
-use Rattle.std.proofs.lemmas.List.{append_assoc, append-nil, length_push, length-append, length-drop, take-append-drop, drop_all, take_more, take_all, drop-drop}
+use Rattle.std.proofs.lemmas.List.{append_assoc, append-nil, length_push, length-drop, take-append-drop, drop_all, take_more, take_all, drop-drop}
 use Rattle.std.proofs.lemmas.List.Concat.{flat_map-append}
 use Rattle.std.proofs.Math.Seq.{take-add}
 use Rattle.lmn_base.specs.declared.refusal.Refusal.{Refusal}
@@ -286,14 +286,7 @@ read_at_is b names listing text at i end e is h =
     behind zero k t = absurd (let none : line names i ≡ [] = t ∙ ap (λ m. take m (drop at listing)) k in cc)
     behind (suc m) k t = omega arith
 
--- a line that isn't one
-pub read_none : (b : Bool) (listing text : List ℕ) (at end : ℕ) → IsLineEnd listing at end → text ≡ take (end - at) (drop at listing) → (IsLine b text → ⊥) → IsLine b (first_line (drop at listing)) → ⊥
-read_none b listing text at end e is none l = none (subst (IsLine b) (sym (is ∙ e.line)) l)
-
 -- ---- heads and bodies
-
-pub adds_length : (n : ℕ) (a b : List (List ℕ)) → AddsNames n a b → length b ≤ length a + n
-adds_length n a b g = let few = g.few in let size = ap length g.are ∙ length-append a g.more in omega arith
 
 -- nothing is read yet
 pub none_begun : (b : Bool) (listing : List ℕ) (names : List (List ℕ)) (from first : ℕ) → from ≤ length listing → IsBegun b listing names names from first from first []
@@ -367,22 +360,11 @@ ended_more b listing before names later from first at ln end instrs i r g w h o 
   reached = λ n j s. subst (Reached n listing end (ln + 1)) (ap (λ l. due_behind n (due_in b j) (line later l)) o ∙ goes_out b n j later) (one_more b listing later n j at ln end i h (r.reached n j s));
 }
 
--- the names that are put up to a place are at most those that are put up to the end,
-pub puts_fewer : (listing : List ℕ) (before names : List (List ℕ)) (from at : ℕ) → at ≤ length listing → AddsNames (3 * (at - from)) before names → AddsNames (3 * (length listing - from)) before names
-puts_fewer listing before names from at l g = adds_fewer (3 * (at - from)) (3 * (length listing - from)) before names (omega arith) g
-
 -- with those that are put from there on
 pub puts_on : (listing : List ℕ) (before names later : List (List ℕ)) (from at : ℕ) → from ≤ at → at ≤ length listing → AddsNames (3 * (at - from)) before names → AddsNames (3 * (length listing - at)) names later
     → AddsNames (3 * (length listing - from)) before later
 puts_on listing before names later from at f l g h =
     adds_fewer (3 * (at - from) + 3 * (length listing - at)) (3 * (length listing - from)) before later (omega arith) (adds_both (3 * (at - from)) (3 * (length listing - at)) before names later g h)
-
--- or with those of a line that begins there
-pub begun_puts : (b : Bool) (listing : List ℕ) (before names later : List (List ℕ)) (from first at ln : ℕ) (instrs : List Instr) → IsBegun b listing before names from first at ln instrs → at < length listing
-    → AddsNames 3 names later → AddsNames (3 * (length listing - from)) before later
-begun_puts b listing before names later from first at ln instrs r l g =
-    let few = r.read.few in
-    puts_on listing before names later from at (omega arith) (omega arith) r.read.puts (adds_fewer 3 (3 * (length listing - at)) names later (omega arith) g)
 
 abbrev pub refusal_of : ℕ → Refusal
 refusal_of ln = record { code = 81; pos = record { line = ln; column = 1 } }

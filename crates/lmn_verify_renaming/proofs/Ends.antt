@@ -1,5 +1,5 @@
 -- The ports at which the links of a firing end: those of atoms that stay, new ones, and old ones that the head leaves.
-use Rattle.std.proofs.Common.{ℕ, zero, suc, ◌+◌, ◌<◌, ◌≤◌, ◌≡◌, ◌≢◌, ◌⊎◌, ◌==◌, Bool, true, false, cond, List, [], ◌∷◌, ◌++◌, map, length, Option, Some, refl, sym, ap, subst, ◌∙◌, inl, inr, arith}
+use Rattle.std.proofs.Common.{ℕ, ◌+◌, ◌<◌, ◌≤◌, ◌≡◌, ◌≢◌, ◌⊎◌, ◌==◌, Bool, true, false, cond, List, [], ◌∷◌, ◌++◌, map, length, Option, Some, refl, sym, ap, subst, ◌∙◌, inl, inr, arith}
 use Rattle.std.proofs.lemmas.Bool.{cases_eq, cases_lt, eq-eqb, eqb-true}
 use Rattle.std.specs.Prelude.{slice_get}
 use Rattle.lmn_base.specs.Graphs.{Reached, at_root, across, Port}
@@ -39,7 +39,7 @@ use Rattle.lmn_solid_bodies.specs.Within.{dropped_atoms}
 use Rattle.lmn_solid_bodies.proofs.BodyPorts.{body_count, heap_append, heap_in, of_heap, once_count}
 use Rattle.lmn_solid_bodies.proofs.Coding.{at_heap}
 use Rattle.lmn_solid_bodies.proofs.Finishing.{in_place_listed}
-use Rattle.lmn_solid_bodies.proofs.Firing.{RestsHold, heap_in_of, in_often, of_heap_in, rising_below, typed_some, some_typed, stands_times}
+use Rattle.lmn_solid_bodies.proofs.Firing.{RestsHold, heap_in_of, of_heap_in, rising_below, typed_some, some_typed, stands_times}
 use Rattle.lmn_solid_bodies.proofs.HeadPorts.{at_atoms_in, at_atoms_once, in_at_atoms, in_map, of_map, of_once_in, once_in_of, other_port}
 use Rattle.lmn_base.proofs.Truth.{total_two}
 

@@ -252,14 +252,6 @@ list_same f ys l a k = by (f a) refl k
     by (Some c) e Atom = refl
     by (Some c) e Membrane = refl
 
--- what has a home is there
-pub home_there : (f : ℕ → Option HeldCell) (a m : ℕ) → link_in f a HOME ≡ Some m → IsSome (f a)
-home_there f a m e = by (f a) e
-  where
-    by : (o : Option HeldCell) → get_or (links_of o) HOME None ≡ Some m → IsSome o
-    by None h = absurd cc
-    by (Some c) h = refl
-
 -- a list in which a cell stands is linked
 pub own_line : (f : ℕ → Option HeldCell) (ys : ℕ → CellKind → List ℕ) → IsListed f ys → (m x : ℕ) (k : CellKind) → In x (ys m k) → Line f m (list_link k) (ys m k)
 own_line f ys l m x k i = l.line m k (λ e. subst (λ us. In x us) (l.bare m k e) i)

@@ -75,9 +75,6 @@ number_read i m n e r = ap number_in (sym r ∙ e)
 
 -- Numbers
 
-six : (k : ℕ) → k < 8 → 8 + k < 16
-six k l = omega (arith, l)
-
 -- the word of a number of a cell
 pub number_is : (rows : List Row) (b k : ℕ) (laid : AreLaid rows) (there : IsSome (cells_by rows b)) → k < 8
     → get_or (items_in rows b) (8 + k) blank ≡ number (get_or (numbers_of (cells_by rows b)) k 0)

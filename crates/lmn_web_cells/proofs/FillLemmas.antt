@@ -142,9 +142,6 @@ begun old b done left l e = record {
   are = sym (with_same old b) ∙ ap (λ is. with_items b is old) e;
 }
 
-all_filled : (old rows : List Row) (b : ℕ) (done : List Item) → Filled old rows b done 0 → rows ≡ with_items b done old
-all_filled old rows b done f = f.are ∙ ap (λ is. with_items b is old) (no_more done)
-
 -- The invariants of the three loops
 
 -- so many links of a new row are written
@@ -178,9 +175,6 @@ links_more old rows rows' b p k (suc left) e f low r = (left, omega (arith, e), 
 pub links_step : (old rows rows' : List Row) (b p k : ℕ) → LinksDone old rows b p k → k < 8 → rows' ≡ with_items b (set (items_in rows b) k (link_to None)) rows → LinksDone old rows' b p (k + 1)
 links_step old rows rows' b p k d low r = links_more old rows rows' b p k d.0 d.1 d.2 low r
 
-links_end : (old rows : List Row) (b p k : ℕ) → k ≡ 8 → LinksDone old rows b p k → rows ≡ with_items b (blank_links 8 ++ replicate (8 + p * 3) blank) old
-links_end old rows b p k six d = let e = d.1 in let n : d.0 ≡ 8 + p * 3 = omega (arith, e, six) in d.2.are ∙ (λ t. with_items b (blank_links (six t) ++ replicate (n t) blank) old)
-
 -- at first no number is written
 pub numbers_begin : (old : List Row) (b p : ℕ) → items_in old b ≡ blank_links 8 ++ replicate (8 + p * 3) blank → NumbersDone old old b p 0
 numbers_begin old b p e = (8 + p * 3, omega arith, begun old b (blank_links 8) (8 + p * 3) (omega arith) e)
@@ -199,9 +193,6 @@ numbers_more old rows rows' b p k (suc left) e f low r = (left, omega (arith, e)
 -- one more number is written
 pub numbers_step : (old rows rows' : List Row) (b p k : ℕ) → NumbersDone old rows b p k → k < 8 → rows' ≡ with_items b (set (items_in rows b) (8 + k) (number 0)) rows → NumbersDone old rows' b p (k + 1)
 numbers_step old rows rows' b p k d low r = numbers_more old rows rows' b p k d.0 d.1 d.2 low r
-
-numbers_end : (old rows : List Row) (b p k : ℕ) → k ≡ 8 → NumbersDone old rows b p k → rows ≡ with_items b (blank_links 8 ++ (blank_numbers 8 ++ replicate (p * 3) blank)) old
-numbers_end old rows b p k four d = let e = d.1 in let n : d.0 ≡ p * 3 = omega (arith, e, four) in d.2.are ∙ (λ t. with_items b (blank_links 8 ++ (blank_numbers (four t) ++ replicate (n t) blank)) old)
 
 -- so many ports are written at first
 pub ports_begin : (old : List Row) (b p j : ℕ) → j < p → items_in old b ≡ ports_filled p j → PortsDone old old b p j

@@ -51,9 +51,6 @@ count_alter f a g h k = elim (cases_eq k a) [
 pub to_ports : (f : ℕ → Option HeldCell) (a i : ℕ) (x : Option ℕ) (k j : ℕ) → IsPort f k j → IsPort (alter f a (option_map (with_to i x))) k j
 to_ports f a i x k j l = subst (λ n. j < n) (sym (count_alter f a (option_map (with_to i x)) (count_to i x) k)) l
 
-linked_count : (f : ℕ → Option HeldCell) (a i : ℕ) (p : Option (ℕ × ℕ)) (k : ℕ) → length (ports_of (linked f a i p k)) ≡ length (ports_of (f k))
-linked_count f a i p k = count_alter f a (option_map (with_partner i p)) (count_partner i p) k
-
 -- a partner leaves each port a port
 pub linked_ports : (f : ℕ → Option HeldCell) (a i : ℕ) (p : Option (ℕ × ℕ)) (k j : ℕ) → IsPort f k j → IsPort (linked f a i p) k j
 linked_ports f a i p k j l = subst (λ n. j < n) (sym (count_alter f a (option_map (with_partner i p)) (count_partner i p) k)) l

@@ -36,10 +36,10 @@ use Rattle.lmn_app_reading.proofs.NamedPlains.{AllBelow}
 use Rattle.lmn_app_accepted.proofs.Counts.{use_count}
 use Rattle.lmn_app_accepted.proofs.Expressions.{in_either, there_used, use_known, used_names, used_there}
 use Rattle.lmn_app_accepted.proofs.InTurns.{rows_apart}
-use Rattle.lmn_app_accepted.proofs.Items.{typed_name, untyped_name}
+use Rattle.lmn_app_accepted.proofs.Items.{typed_name}
 use Rattle.lmn_app_accepted.proofs.Listed.{N, alone, among_name, how_often_here, how_often_later, number_among}
 use Rattle.lmn_app_accepted.proofs.PlanKinds.{leaf_name, names_in}
-use Rattle.lmn_app_accepted.proofs.Types.{AllTyped, condition_typed, typed_use_there}
+use Rattle.lmn_app_accepted.proofs.Types.{condition_typed, typed_use_there}
 use Rattle.lmn_weight.specs.Lowered.{MakesInt, has_type, in_value, is_bound as bound_here, on_left, on_right}
 
 -- ---- tests of lists
@@ -135,10 +135,6 @@ has_typed n xs h = some (flat_map (use_of n) xs) (let c = use_count n xs in omeg
     some : (ps : List Pos) → 1 ≤ length ps → is_some_place ps ≡ true
     some [] l = absurd (omega (arith, l))
     some (p ∷ ps) l = refl
-
-untyped_none : (xs : List Item) → AllTyped xs → flat_map untyped_name xs ≡ []
-untyped_none [] h = refl
-untyped_none (x ∷ xs) h = let u = h.0 in subst (λ y. flat_map untyped_name (y ∷ xs) ≡ []) (sym u.1) (untyped_none xs h.1)
 
 -- ---- what conditions bind
 

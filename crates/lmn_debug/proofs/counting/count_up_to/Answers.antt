@@ -1,4 +1,4 @@
-use Rattle.std.proofs.Common.{Some, None, arith}
+use Rattle.std.proofs.Common.{Some, arith}
 use Rattle.lmn_store_heap.specs.Sound.{flat}
 use Rattle.lmn_debug.proofs.CountLemmas.{capped_end, capped_full, capped_next, walk_first}
 use Rattle.lmn_store_trait.proofs.Numbers.{root_number, number_next, number_mem, never_ends}

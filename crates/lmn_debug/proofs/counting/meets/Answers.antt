@@ -1,4 +1,4 @@
-use Rattle.std.proofs.Common.{◌∙◌, arith}
+use Rattle.std.proofs.Common.{arith}
 use Rattle.lmn_store_heap.specs.Sound.{flat}
 use Rattle.lmn_debug.specs.Counts.{count_in}
 use Rattle.lmn_debug.proofs.CountLemmas.{capped_stands, count_within}

@@ -1,4 +1,4 @@
-use Rattle.std.proofs.Common.{◌≡◌, List, [], ◌++◌, ℕ, Bool, true, false, sym, ap, ◌∙◌, if◌then◌else◌, codes}
+use Rattle.std.proofs.Common.{[], ◌++◌, true, false, sym, ap, ◌∙◌, if◌then◌else◌, codes}
 use Rattle.std.proofs.lemmas.List.{append-nil}
 use Rattle.lmn_io.proofs.TakingLemmas.{adds_as, adds_more}
 use Rattle.lmn_print_plain.specs.Parts.{context_text}

@@ -1,4 +1,4 @@
-use Rattle.std.proofs.Common.{refl, ◌≡◌, length, subst, sym}
+use Rattle.std.proofs.Common.{refl, ◌≡◌, length, subst}
 use Rattle.lmn_adequacy_choices.specs.Turns.{HaveCodes, tree_over}
 use Rattle.lmn_store_heap.specs.Sound.{Forest, IsTree, flat}
 use Rattle.lmn_schedule_strategy.specs.Choosing.{AllInOrder, IsFirstIn, NoneIn, asked}
