@@ -10,6 +10,7 @@ mod mem_sink;
 mod out_sink;
 mod shelf;
 mod sink;
+mod taken;
 
 pub use file_shelf::FileShelf;
 pub use laws::asked_again_is_told;

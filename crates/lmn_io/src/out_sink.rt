@@ -1,27 +1,31 @@
-ghost use Rattle.std.specs.Prelude.{◌≡◌, ◌≤◌, ℕ, None, length};
+ghost use Rattle.std.specs.Prelude.{◌≡◌, ◌≤◌, ℕ, [], Some, length};
 
 use crate::sink::{Failed, Sink};
+use crate::taken::Taken;
 use std::io::{self, Write};
 
 /// How often in a row a write is tried that is interrupted each time, before it counts as failed.
 const TRIES: usize = 1000;
 
-/// A sink over a writer. It tells no bytes. Each error of the writer counts, and so does a write that takes nothing;
-/// a write that is interrupted is tried again.
+/// A sink over a writer. It tells the bytes that the writer said it took. Each error of the writer counts, and so does a write that takes
+/// nothing; a write that is interrupted is tried again.
 #[derive(Drop)]
 pub struct OutSink<W: Write + Drop> {
     writer: W,
+    taken: Taken,
     failures: u64,
     since: u64,
 }
 
 impl<W: Write + Drop> OutSink<W> {
-    /// A sink over a writer, which has counted no fault.
+    /// A sink over a writer, which has taken no byte and counted no fault.
     pub fn new(writer: W) -> OutSink<W>
-        ensures { ⟦<OutSink<W> as Sink>⟧.faults result ≡ record { count = 0; since = 0 } }
+        ensures told { ⟦<OutSink<W> as Sink>⟧.told result ≡ Some [] }
+        ensures faults { ⟦<OutSink<W> as Sink>⟧.faults result ≡ record { count = 0; since = 0 } }
     {
         OutSink {
             writer,
+            taken: Taken::new(),
             failures: 0,
             since: 0,
         }
@@ -43,7 +47,7 @@ fn write_some<W: Write>(writer: &mut W, rest: &[u8]) -> usize
 }
 
 impl<W: Write + Drop> Sink for OutSink<W> {
-    ghost told = { λ _. None };
+    ghost told = { λ s. Some s.taken.bytes };
 
     ghost faults = { λ s. record { count = s.failures; since = s.since } };
 
@@ -56,6 +60,7 @@ impl<W: Write + Drop> Sink for OutSink<W> {
                 self.since = 0;
                 return Err(Failed);
             }
+            self.taken.note(&rest[..count]);
             rest = &rest[count..];
         }
         self.since = self.since.saturating_add(1);
