@@ -1,10 +1,10 @@
 -- What follows from how a request ended.
-use Rattle.std.specs.Prelude.{◌≡◌, ◌<◌, ◌≤◌, ℕ, ◌⊎◌, List, Option, Some, IfSome, IsSomeAnd, option_map}
+use Rattle.std.specs.Prelude.{◌≡◌, ◌<◌, ◌≤◌, ℕ, ◌⊎◌, List, Option, Some, IfSome, IsSomeAnd}
 use Rattle.std.proofs.Common.{inl, inr, refl, subst, sym, ap, ◌∙◌, length, arith}
 use Rattle.lmn_base.specs.declared.refusal.Refusal.{Refusal}
 use Rattle.lmn_io.specs.Counts.{FailedLast, Faults, Rose}
 use Rattle.lmn_io.proofs.TakingLemmas.{no_put}
-use Rattle.lmn_io.specs.Texts.{ShelfAsked, asked_once_more}
+use Rattle.lmn_io.specs.Texts.{Fetch}
 use Rattle.lmn_app_reading.specs.Codes.{IsCode}
 use Rattle.lmn_app_words.specs.declared.command.PairKind.{PairKind}
 use Rattle.lmn_app_words.specs.declared.command.PairKind.TheVariants.{Bound, Check, Debug, Exec}
@@ -17,7 +17,7 @@ use Rattle.lmn_app.specs.Demos.{demo_text}
 use Rattle.lmn_app.specs.Endings.{Concludes, status_of}
 use Rattle.lmn_app.specs.Outcomes.{AnswersOf, CausesOf, Ended, PairCauses, RefusesSecondOf, RequestEnded}
 use Rattle.lmn_app.specs.Pairs.{HasProgram, IsSecondRefusal, IsWritten, PairAnswers, Writes, most_items_of_pair, second_long}
-use Rattle.lmn_app.specs.Requests.{Fetches, ReadRose, asked_program, folded_run, most_items_of, settings_of, told_of}
+use Rattle.lmn_app.specs.Requests.{Fetches, ReadRose, asked_program, asked_second, folded_run, most_items_of, settings_of, told_of}
 use Rattle.lmn_app.specs.Runnings.{EndsUnread}
 use Rattle.lmn_app.specs.SecondTexts.{IsSecondCode, long_code, second_bytes, second_status}
 use Rattle.lmn_app.specs.Texts.{IsAccepted, IsRefusal, at_start}
@@ -279,10 +279,10 @@ second_too_long p kind r texts x n f g same is h of = record {
 }
 
 -- the shelf was asked for the program, and then for the second text where the command asked for it
-pub asked_both : (p : Pair) (texts mid_texts : Option (List ℕ → Option (List ℕ))) (before mid after : Option ShelfAsked) (f g : List ℕ → ℕ) → mid_texts ≡ texts → mid ≡ asked_program before
-    → (after ≡ mid) ⊎ ((after ≡ option_map (asked_once_more (second_bytes p.kind)) mid) × HasProgram p mid_texts) → Fetches (to_pair p) texts before after f g
+pub asked_both : (p : Pair) (texts mid_texts : Option (List ℕ → Option (List ℕ))) (before mid after : Option (List Fetch)) (f g : List ℕ → ℕ) → mid_texts ≡ texts → mid ≡ asked_program p.file before
+    → (after ≡ mid) ⊎ ((after ≡ asked_second p mid) × HasProgram p mid_texts) → Fetches (to_pair p) texts before after f g
 asked_both p texts mid_texts before mid after f g same first (inl is) = inl (is ∙ first)
-asked_both p texts mid_texts before mid after f g same first (inr (is, has)) = inr (is ∙ ap (option_map (asked_once_more (second_bytes p.kind))) first, subst (HasProgram p) same has)
+asked_both p texts mid_texts before mid after f g same first (inr (is, has)) = inr (is ∙ ap (asked_second p) first, subst (HasProgram p) same has)
 
 -- what the shelf tells is what it told
 pub request_texts : (c : Request) (e : Ending) (texts mid_texts : Option (List ℕ → Option (List ℕ))) (oo on : Option (List ℕ)) (ob oa : Faults) (f g : List ℕ → ℕ) → mid_texts ≡ texts

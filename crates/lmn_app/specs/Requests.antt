@@ -3,9 +3,9 @@ use Rattle.std.specs.Prelude.{◌≡◌, ◌<◌, ◌≤◌, ◌-◌, ◌⊎◌,
 use Rattle.std.specs.declared.string.String.{String}
 use Rattle.std.specs.declared.alloc.Global.{Global}
 use Rattle.lmn_io.specs.Counts.{Rose}
-use Rattle.lmn_io.specs.Texts.{ShelfAsked, asked_once_more}
+use Rattle.lmn_io.specs.Texts.{Fetch, asked_once_more}
 use Rattle.lmn_order.specs.declared.order.Order.TheVariants as order
-use Rattle.lmn_app_words.specs.Forms.{Asks, Request, Run, to_run, to_compile, to_demo, to_pair}
+use Rattle.lmn_app_words.specs.Forms.{Asks, Pair, Request, Run, to_run, to_compile, to_demo, to_pair}
 use Rattle.lmn_app.specs.declared.task.RunSettings.{RunSettings}
 use Rattle.lmn_app.specs.declared.task.Task.{Task}
 use Rattle.lmn_app.specs.declared.task.Task.TheVariants as task
@@ -35,18 +35,22 @@ ReadRose (to_compile file) faults after = Rose (faults file) (after file)
 ReadRose (to_demo n) faults after = ⊥
 ReadRose (to_pair pair) faults after = Rose (faults pair.file) (after pair.file) ⊎ Rose (faults pair.second) (after pair.second)
 
--- the shelf was asked for a program once
-abbrev pub asked_program : Option ShelfAsked → Option ShelfAsked
-asked_program = option_map (asked_once_more text_bytes)
+-- the shelf was asked for the program of a file once more
+abbrev pub asked_program : List ℕ → Option (List Fetch) → Option (List Fetch)
+asked_program file = option_map (asked_once_more file text_bytes)
+
+-- and for the second text of a command
+abbrev pub asked_second : Pair → Option (List Fetch) → Option (List Fetch)
+asked_second pair = option_map (asked_once_more pair.second (second_bytes pair.kind))
 
 -- What the shelf was asked for: the program once, where its file is named; and behind it the second text where there is one and the
 -- program is accepted. Where no file is named it wasn't asked, and no count of it changed.
-abbrev pub Fetches : Request → Option (List ℕ → Option (List ℕ)) → Option ShelfAsked → Option ShelfAsked → (List ℕ → ℕ) → (List ℕ → ℕ) → Type 0
-Fetches (to_run run) texts before after faults faults_after = after ≡ asked_program before
-Fetches (to_compile file) texts before after faults faults_after = after ≡ asked_program before
+abbrev pub Fetches : Request → Option (List ℕ → Option (List ℕ)) → Option (List Fetch) → Option (List Fetch) → (List ℕ → ℕ) → (List ℕ → ℕ) → Type 0
+Fetches (to_run run) texts before after faults faults_after = after ≡ asked_program run.file before
+Fetches (to_compile file) texts before after faults faults_after = after ≡ asked_program file before
 Fetches (to_demo n) texts before after faults faults_after = (after ≡ before) × ((name : List ℕ) → faults_after name ≡ faults name)
 Fetches (to_pair pair) texts before after faults faults_after =
-    (after ≡ asked_program before) ⊎ ((after ≡ option_map (asked_once_more (second_bytes pair.kind)) (asked_program before)) × HasProgram pair texts)
+    (after ≡ asked_program pair.file before) ⊎ ((after ≡ asked_second pair (asked_program pair.file before)) × HasProgram pair texts)
 
 -- ---- to do what
 

@@ -1,9 +1,8 @@
-ghost use Rattle.std.specs.Prelude.{◌≡◌, ◌≤◌, ◌<◌, ◌+◌, ◌⊎◌, ◌^◌, ℕ, List, option_map, length};
+ghost use Rattle.std.specs.Prelude.{◌≡◌, ◌≤◌, ◌<◌, ◌+◌, ◌⊎◌, ◌^◌, ℕ, List, length};
 ghost use Rattle.lmn_base.specs.Solids.{item_count};
 ghost use Rattle.lmn_base.specs.declared.solid.Solid.{Solid};
 ghost use Rattle.lmn_congruence.specs.Rules.{Name};
 ghost use Rattle.lmn_congruence.specs.SolidsOfPlains.{IsSolidOf};
-ghost use Rattle.lmn_io.specs.Texts.{asked_once_more};
 ghost use Rattle.lmn_schedule_loading.specs.Loaded.{IsEmpty};
 ghost use Rattle.lmn_order.specs.Answers.{AnswersBelow};
 ghost use Rattle.lmn_order.specs.Orders.{chosen};
@@ -14,8 +13,8 @@ ghost use Rattle.lmn_app_words.specs.Forms.{pair_of, to_pair};
 ghost use Rattle.lmn_app.specs.Debugs.{session_size};
 ghost use Rattle.lmn_app.specs.Outcomes.{RequestEnded};
 ghost use Rattle.lmn_app.specs.Pairs.{HasProgram};
+ghost use Rattle.lmn_app.specs.Requests.{asked_second};
 ghost use Rattle.lmn_app.specs.Runnings.{EndsDebugged, obeyed_as};
-ghost use Rattle.lmn_app.specs.SecondTexts.{second_bytes};
 ghost use Rattle.lmn_app.specs.Texts.{Accepts};
 ghost use Rattle.lmn_app.specs.Writing.{IsToldAnd, told_under};
 
@@ -55,7 +54,7 @@ pub(crate) fn debug_by<F: Shelf, O: Sink>(
         × IsToldAnd (told_under (F.told shelf.old) (pair_of words).file) (λ found. found ≡ program) }
     requires room { length names.old ≤ 2 ^ 31 }
     ensures asked { (F.asked shelf.new ≡ F.asked shelf.old)
-        ⊎ ((F.asked shelf.new ≡ option_map (asked_once_more (second_bytes (pair_of words.entry).kind)) (F.asked shelf.old)) × HasProgram (pair_of words.entry) (F.told shelf.old)) }
+        ⊎ ((F.asked shelf.new ≡ asked_second (pair_of words.entry) (F.asked shelf.old)) × HasProgram (pair_of words.entry) (F.told shelf.old)) }
     ensures ended { RequestEnded (to_pair (pair_of words.entry)) result (F.told shelf.old) (O.told out.old) (O.told out.new) (O.faults out.old) (O.faults out.new) (F.faults shelf.old) (F.faults shelf.new) }
 {
     loading_settles();
@@ -94,7 +93,7 @@ fn debug_in<F: Shelf, O: Sink, L: Ledger>(
     requires parts { blank.parts ≡ L.parts }
     requires some { 0 < blank.parts }
     ensures asked { (F.asked shelf.new ≡ F.asked shelf.old)
-        ⊎ ((F.asked shelf.new ≡ option_map (asked_once_more (second_bytes (pair_of words.entry).kind)) (F.asked shelf.old)) × HasProgram (pair_of words.entry) (F.told shelf.old)) }
+        ⊎ ((F.asked shelf.new ≡ asked_second (pair_of words.entry) (F.asked shelf.old)) × HasProgram (pair_of words.entry) (F.told shelf.old)) }
     ensures ended { RequestEnded (to_pair (pair_of words.entry)) result (F.told shelf.old) (O.told out.old) (O.told out.new) (O.faults out.old) (O.faults out.new) (F.faults shelf.old) (F.faults shelf.new) }
 {
     accepted_texts_can_be_loaded();

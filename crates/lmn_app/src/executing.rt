@@ -1,11 +1,10 @@
-ghost use Rattle.std.specs.Prelude.{◌≡◌, ◌≤◌, ◌<◌, ◌⊎◌, ◌^◌, ℕ, IfErr, List, OnOk, option_map, length};
+ghost use Rattle.std.specs.Prelude.{◌≡◌, ◌≤◌, ◌<◌, ◌⊎◌, ◌^◌, ℕ, IfErr, List, OnOk, length};
 ghost use Rattle.lmn_base.specs.Levels.{links_of};
 ghost use Rattle.lmn_base.specs.Links.{EachTwice};
 ghost use Rattle.lmn_base.specs.WellMade.{IsWellMade};
 ghost use Rattle.lmn_base.specs.Solids.{item_count};
 ghost use Rattle.lmn_base.specs.declared.solid.Solid.{Solid};
 ghost use Rattle.lmn_congruence.specs.SolidsOfPlains.{IsSolidOf};
-ghost use Rattle.lmn_io.specs.Texts.{asked_once_more};
 ghost use Rattle.lmn_schedule_loading.specs.Loaded.{IsEmpty, IsLoaded, LoadCauses};
 ghost use Rattle.lmn_schedule_strategy.specs.Quieting.{AllAwake};
 ghost use Rattle.lmn_app_words.specs.Forms.{pair_of, to_pair};
@@ -13,8 +12,8 @@ ghost use Rattle.lmn_verify_coded.specs.Turning.{CodedCanTurn};
 ghost use Rattle.lmn_app.specs.Executions.{coded_input, executed_size};
 ghost use Rattle.lmn_app.specs.Outcomes.{RequestEnded};
 ghost use Rattle.lmn_app.specs.Pairs.{HasProgram};
+ghost use Rattle.lmn_app.specs.Requests.{asked_second};
 ghost use Rattle.lmn_app.specs.Runnings.{CodesRun, EndsExecuted};
-ghost use Rattle.lmn_app.specs.SecondTexts.{second_bytes};
 ghost use Rattle.lmn_app.specs.Texts.{Accepts};
 ghost use Rattle.lmn_app.specs.Writing.{IsToldAnd, told_under};
 
@@ -60,7 +59,7 @@ pub(crate) fn exec_by<F: Shelf, O: Sink>(
         × IsToldAnd (told_under (F.told shelf.old) (pair_of words).file) (λ found. found ≡ program) }
     requires room { length names.old ≤ 2 ^ 31 }
     ensures asked { (F.asked shelf.new ≡ F.asked shelf.old)
-        ⊎ ((F.asked shelf.new ≡ option_map (asked_once_more (second_bytes (pair_of words.entry).kind)) (F.asked shelf.old)) × HasProgram (pair_of words.entry) (F.told shelf.old)) }
+        ⊎ ((F.asked shelf.new ≡ asked_second (pair_of words.entry) (F.asked shelf.old)) × HasProgram (pair_of words.entry) (F.told shelf.old)) }
     ensures ended { RequestEnded (to_pair (pair_of words.entry)) result (F.told shelf.old) (O.told out.old) (O.told out.new) (O.faults out.old) (O.faults out.new) (F.faults shelf.old) (F.faults shelf.new) }
 {
     loading_settles();
@@ -86,7 +85,7 @@ fn exec_in<S: LinkStore + Drop, F: Shelf, O: Sink>(
     requires room { length names.old ≤ 2 ^ 31 }
     requires store { IsEmpty (S.heap store) }
     ensures asked { (F.asked shelf.new ≡ F.asked shelf.old)
-        ⊎ ((F.asked shelf.new ≡ option_map (asked_once_more (second_bytes (pair_of words.entry).kind)) (F.asked shelf.old)) × HasProgram (pair_of words.entry) (F.told shelf.old)) }
+        ⊎ ((F.asked shelf.new ≡ asked_second (pair_of words.entry) (F.asked shelf.old)) × HasProgram (pair_of words.entry) (F.told shelf.old)) }
     ensures ended { RequestEnded (to_pair (pair_of words.entry)) result (F.told shelf.old) (O.told out.old) (O.told out.new) (O.faults out.old) (O.faults out.new) (F.faults shelf.old) (F.faults shelf.new) }
 {
     accepted_texts_can_be_loaded();

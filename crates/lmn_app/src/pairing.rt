@@ -1,9 +1,9 @@
-ghost use Rattle.std.specs.Prelude.{◌≡◌, ◌≤◌, ◌⊎◌, ◌^◌, ℕ, List, Option, option_map, IfErr, IfOk, Some, length};
+ghost use Rattle.std.specs.Prelude.{◌≡◌, ◌≤◌, ◌⊎◌, ◌^◌, ℕ, List, Option, IfErr, IfOk, Some, length};
 ghost use Rattle.lmn_io.specs.Counts.{Faults};
-ghost use Rattle.lmn_io.specs.Texts.{asked_once_more};
 ghost use Rattle.lmn_app_words.specs.Forms.{pair_of, to_pair};
 ghost use Rattle.lmn_app.specs.Outcomes.{RequestEnded};
 ghost use Rattle.lmn_app.specs.Pairs.{HasProgram};
+ghost use Rattle.lmn_app.specs.Requests.{asked_second};
 ghost use Rattle.lmn_app.specs.SecondTexts.{long_code, second_bytes};
 ghost use Rattle.lmn_app.specs.Texts.{Accepts, at_start};
 ghost use Rattle.lmn_app.specs.Writing.{IsToldAnd, told_under};
@@ -32,7 +32,7 @@ pub(crate) fn act_on_pair<F: Shelf, O: Sink>(
         × IsToldAnd (told_under (F.told shelf.old) (pair_of words).file) (λ found. found ≡ program) }
     requires room { length names.old ≤ 2 ^ 31 }
     ensures asked { (F.asked shelf.new ≡ F.asked shelf.old)
-        ⊎ ((F.asked shelf.new ≡ option_map (asked_once_more (second_bytes (pair_of words.entry).kind)) (F.asked shelf.old)) × HasProgram (pair_of words.entry) (F.told shelf.old)) }
+        ⊎ ((F.asked shelf.new ≡ asked_second (pair_of words.entry) (F.asked shelf.old)) × HasProgram (pair_of words.entry) (F.told shelf.old)) }
     ensures ended { RequestEnded (to_pair (pair_of words.entry)) result (F.told shelf.old) (O.told out.old) (O.told out.new) (O.faults out.old) (O.faults out.new) (F.faults shelf.old) (F.faults shelf.new) }
 {
     match words.kind {
@@ -55,7 +55,7 @@ fn check_on<F: Shelf, O: Sink>(
     requires kind { words.kind ≡ PairKind.Check }
     requires accepted { (program : List ℕ) × Accepts program names.now accepted.now.plain accepted.now.plans
         × IsToldAnd (told_under (F.told shelf.old) (pair_of words).file) (λ found. found ≡ program) }
-    ensures asked { F.asked shelf.new ≡ option_map (asked_once_more (second_bytes (pair_of words.entry).kind)) (F.asked shelf.old) }
+    ensures asked { F.asked shelf.new ≡ asked_second (pair_of words.entry) (F.asked shelf.old) }
     ensures ended { RequestEnded (to_pair (pair_of words.entry)) result (F.told shelf.old) (O.told out.old) (O.told out.new) (O.faults out.old) (O.faults out.new) (F.faults shelf.old) (F.faults shelf.new) }
 {
     match fetch_second(alloc, words, shelf) {
@@ -77,7 +77,7 @@ fn bound_on<F: Shelf, O: Sink>(
     requires accepted { (program : List ℕ) × Accepts program names.old accepted.now.plain accepted.now.plans
         × IsToldAnd (told_under (F.told shelf.old) (pair_of words).file) (λ found. found ≡ program) }
     requires room { length names.old ≤ 2 ^ 31 }
-    ensures asked { F.asked shelf.new ≡ option_map (asked_once_more (second_bytes (pair_of words.entry).kind)) (F.asked shelf.old) }
+    ensures asked { F.asked shelf.new ≡ asked_second (pair_of words.entry) (F.asked shelf.old) }
     ensures ended { RequestEnded (to_pair (pair_of words.entry)) result (F.told shelf.old) (O.told out.old) (O.told out.new) (O.faults out.old) (O.faults out.new) (F.faults shelf.old) (F.faults shelf.new) }
 {
     match fetch_second(alloc, words, shelf) {
@@ -92,7 +92,7 @@ pub(crate) fn fetch_second<F: Shelf>(
     words: PairWords<'_>,
     shelf: &mut F,
 ) -> Result<Rows<u8>, Ending>
-    ensures asked { F.asked shelf.new ≡ option_map (asked_once_more (second_bytes (pair_of words.entry).kind)) (F.asked shelf.old) }
+    ensures asked { F.asked shelf.new ≡ asked_second (pair_of words.entry) (F.asked shelf.old) }
     ensures short { IfOk result (λ text. length text ≤ second_bytes (pair_of words.entry).kind) }
     ensures told { IfOk result (λ text. IsToldAnd (told_under (F.told shelf.old) (pair_of words.entry).second) (λ found. found ≡ text)) }
     ensures fault { IfErr result (λ ending. (took : Option (List ℕ)) (count : Faults) → HasProgram (pair_of words.entry) (F.told shelf.old) →

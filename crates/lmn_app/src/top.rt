@@ -1,15 +1,14 @@
-ghost use Rattle.std.specs.Prelude.{◌≡◌, ◌≤◌, ◌⊎◌, ℕ, IfErr, IfOk, List, Option, option_map, Some, codes, length};
+ghost use Rattle.std.specs.Prelude.{◌≡◌, ◌≤◌, ◌⊎◌, ℕ, IfErr, IfOk, List, Option, Some, codes, length};
 ghost use Rattle.lmn_io.specs.Counts.{FailedLast, Faults, NoneBehindFailed, NoneFailed, Rose};
-ghost use Rattle.lmn_io.specs.Texts.{asked_once_more};
 ghost use Rattle.lmn_io.specs.Taking.{Takes, TakesPrefix};
 ghost use Rattle.lmn_base.specs.declared.refusal.Refusal.{Refusal};
 ghost use Rattle.lmn_app.specs.Demos.{demo_text};
-ghost use Rattle.lmn_app.specs.Requests.{Asked, Fetches, IsInRange, ReadRose, folded_run, most_items_of, told_of};
+ghost use Rattle.lmn_app.specs.Requests.{Asked, Fetches, IsInRange, ReadRose, asked_program, asked_second, folded_run, most_items_of, told_of};
 ghost use Rattle.lmn_app_words.specs.declared.command.PairKind.{PairKind};
 ghost use Rattle.lmn_app_words.specs.Forms.{InForm, IsInRanges, pair_of, request_of, to_pair};
 ghost use Rattle.lmn_app.specs.Endings.{HasLine, line_of_ending, refusal_line, second_line};
 ghost use Rattle.lmn_app.specs.Pairs.{HasProgram};
-ghost use Rattle.lmn_app.specs.SecondTexts.{second_bytes, second_status};
+ghost use Rattle.lmn_app.specs.SecondTexts.{second_status};
 ghost use Rattle.lmn_app_reading.specs.Codes.{IsCode};
 ghost use Rattle.lmn_app.specs.Outcomes.{AnswersOf, Ended, OutputOf, RefusesSecondOf, RequestEnded};
 ghost use Rattle.lmn_app.specs.Runnings.{EndsUnread};
@@ -57,7 +56,8 @@ pub fn lmn_main<F: Shelf, O: Sink, E: Sink>(
     ensures form { ¬ (InForm words.now) → (result ≡ 3) ⊎ ((result ≡ 5) × FailedLast (E.faults err.old) (E.faults err.new)) }
 
     // For the file of a program that the words name the shelf is asked once, for at most 4,194,304 bytes, or not at all where
-    // memory was wanting for the words. For a second text it is asked behind it, once, and only where the program is accepted.
+    // memory was wanting for the words. For the second text that they name it is asked behind it, once, and only where the program is
+    // accepted.
     // Where they name no file, or aren't of the form, it isn't asked, and no count of it changes.
     ensures asked { InForm words.now → Asked words.now (λ c. Fetches c (F.told shelf.old) (F.asked shelf.old) (F.asked shelf.new) (F.faults shelf.old) (F.faults shelf.new))
         ⊎ ((F.asked shelf.new ≡ F.asked shelf.old) × ((result ≡ 6) ⊎ ((result ≡ 5) × FailedLast (E.faults err.old) (E.faults err.new)))) }
@@ -166,7 +166,7 @@ fn perform_file<F: Shelf, O: Sink>(
     out: &mut O,
 ) -> Ending
     requires range { IsInRange task }
-    ensures asked { F.asked shelf.new ≡ option_map (asked_once_more text_bytes) (F.asked shelf.old) }
+    ensures asked { F.asked shelf.new ≡ asked_program name.now (F.asked shelf.old) }
     ensures ended { Ended task result (told_under (F.told shelf.old) name.now) (O.told out.old) (O.told out.new) (O.faults out.old) (O.faults out.new) (F.faults shelf.old name.now) (F.faults shelf.new name.now) }
 {
     match fetch(alloc, name, shelf) {
@@ -213,7 +213,7 @@ fn perform_pair_on<F: Shelf, O: Sink>(
     requires short { length text.now ≤ text_bytes }
     requires told { IsToldAnd (told_under (F.told shelf.old) (pair_of words).file) (λ found. found ≡ text.now) }
     ensures asked { (F.asked shelf.new ≡ F.asked shelf.old)
-        ⊎ ((F.asked shelf.new ≡ option_map (asked_once_more (second_bytes (pair_of words.entry).kind)) (F.asked shelf.old)) × HasProgram (pair_of words.entry) (F.told shelf.old)) }
+        ⊎ ((F.asked shelf.new ≡ asked_second (pair_of words.entry) (F.asked shelf.old)) × HasProgram (pair_of words.entry) (F.told shelf.old)) }
     ensures ended { RequestEnded (to_pair (pair_of words.entry)) result (F.told shelf.old) (O.told out.old) (O.told out.new) (O.faults out.old) (O.faults out.new) (F.faults shelf.old) (F.faults shelf.new) }
 {
     let mut names = Names::with_key(alloc, &Sha256::digest(text));
@@ -226,7 +226,7 @@ fn perform_pair_on<F: Shelf, O: Sink>(
 
 /// The text of a file, or how a call ends without one.
 fn fetch<F: Shelf>(alloc: Global, name: &str, shelf: &mut F) -> Result<Rows<u8>, Ending>
-    ensures asked { F.asked shelf.new ≡ option_map (asked_once_more text_bytes) (F.asked shelf.old) }
+    ensures asked { F.asked shelf.new ≡ asked_program name.now (F.asked shelf.old) }
     ensures same { F.told shelf.new ≡ F.told shelf.old }
     ensures later { (other : List ℕ) → F.faults shelf.old other ≤ F.faults shelf.new other }
     ensures text { IfOk result (λ text. IsTextOf (told_under (F.told shelf.old) name.now) text) }

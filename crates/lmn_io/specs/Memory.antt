@@ -1,22 +1,18 @@
 -- What is seen of a shelf and of a sink in memory.
 use Rattle.std.specs.Prelude.{◌≡◌, ℕ, ◌+◌, ◌<◌, ◌⊎◌, List, length, Option, None, is_some, if◌then◌else◌, Contains}
 use Rattle.lmn_io.specs.Counts.{Faults}
-use Rattle.lmn_io.specs.Texts.{ShelfAsked, text_named}
+use Rattle.lmn_io.specs.Texts.{Fetch, text_named}
 
--- The texts beside their names; the numbers of the calls that fail, how many calls were made, the most bytes that one
--- would take, how many failed by their number, and how many failed at all.
+-- The texts beside their names; the numbers of the calls that fail, how many calls were made, what was asked for, how many failed by
+-- their number, and how many failed at all.
 pub record MemoryShelf : Type 0 where
   pub names : List (List ℕ)
   pub texts : List (List ℕ)
   pub failing : List ℕ
   pub calls : ℕ
-  pub most : ℕ
+  pub asked : List Fetch
   pub listed : ℕ
   pub all : ℕ
-
--- what was asked for
-abbrev pub asked_of : MemoryShelf → ShelfAsked
-asked_of t = record { fetches = t.calls; most = t.most }
 
 -- the text under a name
 abbrev pub text_in : MemoryShelf → List ℕ → Option (List ℕ)

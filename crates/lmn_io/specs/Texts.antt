@@ -1,7 +1,6 @@
 -- What a shelf tells of its texts, if it tells them, and what a fetch may answer.
-use Rattle.std.specs.Prelude.{◌≡◌, ℕ, ◌<◌, ◌≤◌, max, List, [], ◌∷◌, length, Option, Some, None, IfSome, IsSomeAnd, if◌then◌else◌}
+use Rattle.std.specs.Prelude.{◌≡◌, ℕ, ◌<◌, ◌≤◌, List, [], ◌∷◌, ◌++◌, length, Option, Some, None, IfSome, IsSomeAnd, if◌then◌else◌}
 use Rattle.std.specs.Str.{bytes_eq}
-use Rattle.lmn_io.specs.Counts.{one_more}
 use Rattle.lmn_io.specs.declared.shelf.Fetched.{Fetched}
 use Rattle.lmn_io.specs.declared.shelf.Fetched.TheVariants.{Whole, TooLong}
 
@@ -10,14 +9,14 @@ abbrev pub IsFetched : Option (List ℕ → Option (List ℕ)) → List ℕ → 
 IsFetched told name most (Whole bytes) = (length bytes ≤ most) × IfSome told (λ text. text name ≡ Some bytes)
 IsFetched told name most TooLong = IfSome told (λ text. IsSomeAnd (text name) (λ bytes. most < length bytes))
 
--- what a shelf was asked for: how many fetches, and the most bytes that one of them would take
-pub record ShelfAsked : Type 0 where
-  pub fetches : ℕ
+-- a shelf was asked for the text under this name, if it has at most so many bytes
+pub record Fetch : Type 0 where
+  pub name : List ℕ
   pub most : ℕ
 
--- and with one fetch more, which would take so many bytes at most
-abbrev pub asked_once_more : ℕ → ShelfAsked → ShelfAsked
-asked_once_more most asked = record { fetches = one_more asked.fetches; most = max asked.most most }
+-- and for this one behind the others
+abbrev pub asked_once_more : List ℕ → ℕ → List Fetch → List Fetch
+asked_once_more name most asked = asked ++ (record { name = name; most = most } ∷ [])
 
 -- the text beside the first place where the name stands
 abbrev pub text_named : List (List ℕ) → List (List ℕ) → List ℕ → Option (List ℕ)

@@ -1,6 +1,7 @@
-ghost use Rattle.std.specs.Prelude.{◌≡◌, ℕ, List, None, ◌≤◌, length, IfOk};
+ghost use Rattle.std.specs.Prelude.{◌≡◌, ℕ, List, [], None, Some, ◌≤◌, length, IfOk};
 ghost use Rattle.lmn_io.specs.Texts.{IsFetched};
 
+use crate::fetches::Fetches;
 use crate::shelf::{FetchFault, Fetched, Shelf};
 use lmn_base::Rows;
 use std::alloc::Global;
@@ -8,19 +9,26 @@ use std::io::Read;
 use std::rt::Files;
 use std::{fs, io};
 
-/// Files, read through the runtime that the shelf is lent. It tells no bytes and not what it was asked for, and its one count is that of every name.
+/// Files, read through the runtime that the shelf is lent. It tells no bytes. It tells what it was asked for, and its one count is
+/// that of every name.
 #[derive(Drop)]
 pub struct FileShelf<'a, R: Files> {
     rt: &'a R,
+    asked: Fetches,
     failures: u64,
 }
 
 impl<'a, R: Files> FileShelf<'a, R> {
-    /// A shelf over the files of a runtime, which has counted no fault of any name.
+    /// A shelf over the files of a runtime, which was asked for nothing and has counted no fault of any name.
     pub fn new(rt: &'a R) -> FileShelf<'a, R>
-        ensures { (name : List ℕ) → ⟦<FileShelf<'a, R> as Shelf>⟧.faults result name ≡ 0 }
+        ensures asked { ⟦<FileShelf<'a, R> as Shelf>⟧.asked result ≡ Some [] }
+        ensures faults { (name : List ℕ) → ⟦<FileShelf<'a, R> as Shelf>⟧.faults result name ≡ 0 }
     {
-        FileShelf { rt, failures: 0 }
+        FileShelf {
+            rt,
+            asked: Fetches::new(),
+            failures: 0,
+        }
     }
 }
 
@@ -53,9 +61,10 @@ impl<R: Files> Shelf for FileShelf<'_, R> {
 
     ghost faults = { λ s _. s.failures };
 
-    ghost asked = { λ _. None };
+    ghost asked = { λ s. Some s.asked.all };
 
     fn fetch(&mut self, alloc: Global, name: &str, most: u64) -> Result<Fetched, FetchFault> {
+        self.asked.note(name.as_bytes(), most);
         let answer = read_file(self.rt, alloc, name, most);
         if let Err(FetchFault::Failed) = answer {
             self.failures = self.failures.saturating_add(1);

@@ -1,6 +1,7 @@
 //! Where texts come from and where output goes.
 #![tactic(auto)]
 
+mod fetches;
 mod file_shelf;
 mod kept;
 mod laws;

@@ -1,9 +1,10 @@
-ghost use Rattle.std.specs.Prelude.{◌≡◌, ◌≤◌, ◌↔◌, ℕ, max, List, Some, None, option_map, Contains, length, IfOk, IsErrOf};
+ghost use Rattle.std.specs.Prelude.{◌≡◌, ◌≤◌, ◌↔◌, ℕ, List, [], Some, None, option_map, Contains, length, IfOk, IsErrOf};
 ghost use Rattle.std.specs.Option.{option_copied};
 ghost use Rattle.lmn_io.specs.Counts.{Rose, one_more};
 ghost use Rattle.lmn_io.specs.Texts.{text_named, IsFetched, asked_once_more};
-ghost use Rattle.lmn_io.specs.Memory.{MemoryShelf, asked_of, text_in, faults_in, FetchFails};
+ghost use Rattle.lmn_io.specs.Memory.{MemoryShelf, text_in, faults_in, FetchFails};
 
+use crate::fetches::Fetches;
 use crate::shelf::{FetchFault, Fetched, Shelf};
 use lmn_base::Rows;
 use std::alloc::{AllocError, Global};
@@ -18,7 +19,7 @@ pub struct MemShelf {
     texts: Rows<Rows<u8>>,
     failing: Rows<u64>,
     calls: u64,
-    most: u64,
+    asked: Fetches,
     listed: u64,
     all: u64,
 }
@@ -26,7 +27,7 @@ pub struct MemShelf {
 impl Model for MemShelf {
     ghost Value = { MemoryShelf };
 
-    ghost view = { λ s. record { names = s.names; texts = s.texts; failing = s.failing; calls = s.calls; most = s.most; listed = s.listed; all = s.all } };
+    ghost view = { λ s. record { names = s.names; texts = s.texts; failing = s.failing; calls = s.calls; asked = s.asked.all; listed = s.listed; all = s.all } };
 
     ghost invariant = { λ s. length s.names ≡ length s.texts };
 }
@@ -59,14 +60,14 @@ impl MemShelf {
         failing: Rows<u64>,
     ) -> MemShelf
         requires { length names ≡ length texts }
-        ensures { result ≡ record { names = names; texts = texts; failing = failing; calls = 0; most = 0; listed = 0; all = 0 } }
+        ensures { result ≡ record { names = names; texts = texts; failing = failing; calls = 0; asked = []; listed = 0; all = 0 } }
     {
         MemShelf {
             names,
             texts,
             failing,
             calls: 0,
-            most: 0,
+            asked: Fetches::new(),
             listed: 0,
             all: 0,
         }
@@ -78,23 +79,23 @@ impl Shelf for MemShelf {
 
     ghost faults = { λ s name. faults_in s name };
 
-    ghost asked = { λ s. Some (asked_of s) };
+    ghost asked = { λ s. Some s.asked };
 
     /// A fetch fails exactly where its number is listed or there is no such name.
     fn fetch(&mut self, alloc: Global, name: &str, most: u64) -> Result<Fetched, FetchFault>
         ensures same { Some (text_in self.new) ≡ Some (text_in self.old) }
         ensures later { (other : List ℕ) → faults_in self.old other ≤ faults_in self.new other }
-        ensures asked { Some (asked_of self.new) ≡ option_map (asked_once_more most) (Some (asked_of self.old)) }
+        ensures asked { Some self.new.asked ≡ option_map (asked_once_more name.now most) (Some self.old.asked) }
         ensures fetched { IfOk result (λ f. IsFetched (Some (text_in self.old)) name.now most f) }
         ensures rose { IsErrOf result FetchFault.Failed → Rose (faults_in self.old name.now) (faults_in self.new name.now) }
         ensures fails { IsErrOf result FetchFault.Failed ↔ FetchFails self.old name.now }
-        ensures met { ¬ (FetchFails self.old name.now) → self.new ≡ record self.old { calls = one_more self.old.calls; most = max self.old.most most } }
-        ensures listed { Contains self.old.failing self.old.calls → self.new ≡ record self.old { calls = one_more self.old.calls; most = max self.old.most most; listed = one_more self.old.listed; all = one_more self.old.all } }
-        ensures missing { ¬ (Contains self.old.failing self.old.calls) → text_in self.old name.now ≡ None → self.new ≡ record self.old { calls = one_more self.old.calls; most = max self.old.most most; all = one_more self.old.all } }
+        ensures met { ¬ (FetchFails self.old name.now) → self.new ≡ record self.old { calls = one_more self.old.calls; asked = asked_once_more name.now most self.old.asked } }
+        ensures listed { Contains self.old.failing self.old.calls → self.new ≡ record self.old { calls = one_more self.old.calls; asked = asked_once_more name.now most self.old.asked; listed = one_more self.old.listed; all = one_more self.old.all } }
+        ensures missing { ¬ (Contains self.old.failing self.old.calls) → text_in self.old name.now ≡ None → self.new ≡ record self.old { calls = one_more self.old.calls; asked = asked_once_more name.now most self.old.asked; all = one_more self.old.all } }
     {
         let call = self.calls;
         self.calls = call.saturating_add(1);
-        self.most = self.most.max(most);
+        self.asked.note(name.as_bytes(), most);
         if self.failing.as_slice().contains(&call) {
             self.listed = self.listed.saturating_add(1);
             self.all = self.all.saturating_add(1);

@@ -26,14 +26,14 @@ pub enum FetchFault {
 pub trait Shelf {
     ghost use Rattle.std.specs.Prelude.{◌≡◌, ◌≤◌, ℕ, List, Option, option_map, IfOk, IsErrOf};
     ghost use Rattle.lmn_io.specs.Counts.{Rose};
-    ghost use Rattle.lmn_io.specs.Texts.{ShelfAsked, IsFetched, asked_once_more};
+    ghost use Rattle.lmn_io.specs.Texts.{Fetch, IsFetched, asked_once_more};
 
     /// The bytes under each name, where the shelf tells them.
     ghost told: { Self → Option (List ℕ → Option (List ℕ)) };
     /// The count of faults of each name.
     ghost faults: { Self → List ℕ → ℕ };
-    /// What the shelf was asked for, where it tells it.
-    ghost asked: { Self → Option ShelfAsked };
+    /// The fetches that the shelf was asked for, one behind the other, where it tells them.
+    ghost asked: { Self → Option (List Fetch) };
 
     /// The text under a name, if it has at most `most` bytes.
     ///
@@ -43,7 +43,7 @@ pub trait Shelf {
     fn fetch(&mut self, alloc: Global, name: &str, most: u64) -> Result<Fetched, FetchFault>
         ensures same { told self.new ≡ told self.old }
         ensures later { (other : List ℕ) → faults self.old other ≤ faults self.new other }
-        ensures asked { asked self.new ≡ option_map (asked_once_more most) (asked self.old) }
+        ensures asked { asked self.new ≡ option_map (asked_once_more name.now most) (asked self.old) }
         ensures fetched { IfOk result (λ f. IsFetched (told self.old) name.now most f) }
         ensures rose { IsErrOf result FetchFault.Failed → Rose (faults self.old name.now) (faults self.new name.now) };
 }
