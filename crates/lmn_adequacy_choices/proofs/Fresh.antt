@@ -12,8 +12,8 @@ use Rattle.lmn_solid_heads.specs.Embeddings.{Embeds, HasAtom, HasMembrane, Image
 use Rattle.lmn_compile_head.specs.Heads.{EachInside, IsHead}
 use Rattle.lmn_compile_head.proofs.Nesting.{atoms_nested, membranes_nested}
 use Rattle.lmn_base.proofs.Lists.{get_below}
-use Rattle.lmn_machine_laws.proofs.Order.{outer_less, typed_nested}
 use Rattle.lmn_base.specs.Lists.{In}
+use Rattle.lmn_compile_head.proofs.Common.{outer_less, typed_inside as typed_nested}
 
 -- ---- numbers
 

@@ -20,3 +20,4 @@ pub mod Makings
 pub mod Fresh
 pub mod Costs
 pub mod Full
+pub mod Common

@@ -37,15 +37,9 @@ use Rattle.lmn_base.proofs.Lists.{weigh, weigh_append}
 use Rattle.lmn_base.proofs.Numbers.{not_equal as apart_test}
 use Rattle.lmn_base.specs.Lists.{In}
 use Rattle.lmn_store_heap.proofs.Common.{all_more}
+use Rattle.lmn_solid_heads.proofs.Common.{without_none as all_absent}
 
 -- ---- lists
-
--- what isn't there takes nothing out
-pub all_absent : (bs xs : List ℕ) → ((b : ℕ) → In b bs → In b xs → ⊥) → without_all bs xs ≡ xs
-all_absent [] xs d = refl
-all_absent (b ∷ bs) xs d =
-    let e = without_absent b xs (λ p. d b (inl refl) p) in
-    ap (without_all bs) e ∙ all_absent bs xs (λ c p q. d c (inr p) q)
 
 -- the place of a tree in a forest
 taken_place : {n m : ℕ} {i f f' : Forest} → TakenTree n m i f f' → Distinct (tops f) → (n ≡ index_of m (tops f)) × (tops f' ≡ without m (tops f))

@@ -9,7 +9,7 @@ use Rattle.lmn_solid_bodies.proofs.RestMems.{like_mems}
 use Rattle.lmn_solid_bodies.proofs.RestsMade.{joined_lines}
 use Rattle.lmn_ground_parts.specs.Copies.{answer, made_like, ports_of}
 use Rattle.lmn_ground_parts.specs.Rests.{made_roomy, rest_copied, atoms_placed, membrane_placed, membranes_placed, copy_round, rest_placed}
-use Rattle.lmn_solid_bodies.proofs.Common.{placed_root, tied_root}
+use Rattle.lmn_solid_bodies.proofs.Common.{placed_root, tied_root, commits_root, does_root, membranes_root, rest_placed_root}
 use Rattle.lmn_store_heap.proofs.Common.{taken_root}
 use Rattle.lmn_ground_parts.proofs.Common.{copies_root, mems_taken_root}
 
@@ -25,16 +25,6 @@ rest_made_root s xs ys rooms =
     let t = made_roomy s rooms in
     let like = made_like t xs ys in
     (joined_lines (answer xs ys) like (ports_of like xs)).3 ∙ (like_mems xs ys t).2 ∙ roomy_root rooms s
-
-membranes_root : (copy_mem copy : ℕ → ℕ) (ms : List ℕ) (s : Heap) → (membranes_placed copy_mem copy s ms).root ≡ s.root
-membranes_root copy_mem copy [] s = refl
-membranes_root copy_mem copy (m ∷ ms) s =
-    membranes_root copy_mem copy ms (membrane_placed copy_mem copy s m)
-    ∙ copies_root copy (copy_mem m) (atoms_in s m) (rules_copied (placed_mem s (copy_round copy_mem (parent_of s m)) (copy_mem m)) m (copy_mem m))
-
-rest_placed_root : (s : Heap) (m n : ℕ) (atoms ms copies new_ms : List ℕ) → (rest_placed s m n atoms ms copies new_ms).root ≡ s.root
-rest_placed_root s m n atoms ms copies new_ms =
-    membranes_root (answer (m ∷ ms) (n ∷ new_ms)) (answer atoms copies) ms (atoms_placed (answer atoms copies) s n (atoms_in s m)) ∙ copies_root (answer atoms copies) n (atoms_in s m) s
 
 makes_root : (r : Registers) (i : Instr) (s t : Heap) → Makes r i s t → t.root ≡ s.root
 makes_root r (RemoveAtom a) s t w = ap (λ z. z.root) w
@@ -55,32 +45,9 @@ makes_root r (Unify g h) s t w = ap (λ z. z.root) w
 makes_root r Proceed s t w = ap (λ z. z.root) w
 makes_root r _ s t w = absurd w
 
-does_root : (r : Registers) (i : Instr) (s t : Heap) → Does r i s t → t.root ≡ s.root
-does_root r (RemoveAtom a) s t w = ap (λ z. z.root) w
-does_root r (RemovePart g) s t w = ap (λ z. z.root) w.3 ∙ taken_root w.0 s
-does_root r (RemoveMem m) s t w = ap (λ z. z.root) w
-does_root r (NewAtom a m f) s t w = ap (λ z. z.root) w.1
-does_root r (NewInt a m v) s t w = ap (λ z. z.root) w.1
-does_root r (NewMem m n) s t w = ap (λ z. z.root) w.1
-does_root r (CopyGround c m g) s t w = ap (λ z. z.root) w.2 ∙ placed_root (map (λ a. (r.head.images.membrane m, a)) (r.copied c)) s
-does_root r (MoveCells m n) s t w = ap (λ z. z.root) w
-does_root r (CopyCells m n) s t w = ap (λ z. z.root) w.3 ∙ rest_placed_root s (r.head.images.membrane m) (r.head.images.membrane n) (r.left_atoms m) (r.left_membranes m) w.0 w.1
-does_root r (DropCells m) s t w = ap (λ z. z.root) w.1 ∙ (mems_taken_root (r.left_membranes m) (taken_all s (r.left_atoms m)) ∙ taken_root (r.left_atoms m) s)
-does_root r (LoadRule m k) s t w = ap (λ z. z.root) w
-does_root r (CopyRules m n) s t w = ap (λ z. z.root) w
-does_root r (NewLink p q) s t w = ap (λ z. z.root) w
-does_root r (Relink p h) s t w = ap (λ z. z.root) w ∙ tied_root (relink (new_port r p) (old_port r h)) s
-does_root r (Unify g h) s t w = ap (λ z. z.root) w ∙ tied_root (unify (old_port r g) (old_port r h)) s
-does_root r Proceed s t w = ap (λ z. z.root) w
-does_root r _ s t w = absurd w
-
 prepares_root : (r : Registers) (is : List Instr) (s t : Heap) → Prepares r is s t → t.root ≡ s.root
 prepares_root r [] s t w = ap (λ z. z.root) w
 prepares_root r (i ∷ is) s t w = prepares_root r is w.0 t w.2 ∙ makes_root r i s w.0 w.1
-
-commits_root : (r : Registers) (is : List Instr) (s t : Heap) → DoesAll r is s t → t.root ≡ s.root
-commits_root r [] s t w = ap (λ z. z.root) w
-commits_root r (i ∷ is) s t w = commits_root r is w.0 t w.2 ∙ does_root r i s w.0 w.1
 
 -- code of a body leaves the root where it is
 pub root_stays : (r : Registers) (code : List Instr) (s t : Heap) → RunsBody r code s t → t.root ≡ s.root

@@ -55,12 +55,12 @@ use Rattle.lmn_adequacy_turns.proofs.Connectors.{level_joins, wires_join, leaves
 use Rattle.lmn_base.specs.Graphs.{Port}
 use Rattle.lmn_congruence_splice.specs.Splice.{of_rule, of_solid}
 use Rattle.lmn_base.proofs.Lists.{map_twice, none_is_not, plus_nothing}
-use Rattle.lmn_adequacy_heaps.proofs.Numbering.{all_absent as withouts_absent}
 use Rattle.lmn_congruence.proofs.Common.{rules_join, rules_listed}
 use Rattle.lmn_adequacy.specs.Accepted.{Accepted}
 use Rattle.lmn_adequacy_heaps.proofs.HeadTrees.{tree_of}
 use Rattle.lmn_base.specs.Lists.{In}
 use Rattle.lmn_base.proofs.Lists.{in_either}
+use Rattle.lmn_solid_heads.proofs.Common.{without_none as withouts_absent}
 
 -- The atoms of each membrane after a firing, copies included: what is left, then what is added, raw links at their images by a map.
 abbrev pub FiredTo : (h : Heap) (c : Port → ℕ) (s : Registers) (q : RestCopies) (head : List HeadItem) (body : List BodyItem) (taken : List ℕ) (h' : Heap) (name : ℕ → ℕ → ℕ) (to : ℕ → ℕ) (copy : ℕ → List SolidAtom) → Type 0

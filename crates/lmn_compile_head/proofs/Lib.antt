@@ -19,3 +19,4 @@ pub mod PlanKinds
 mod GuardUses
 mod AcceptedHeads
 pub mod GuardRoom
+pub mod Common

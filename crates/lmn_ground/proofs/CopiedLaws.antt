@@ -22,12 +22,13 @@ use Rattle.lmn_ground_parts.proofs.AnswerLaws.{map_answer, answer_here, answer_i
 use Rattle.lmn_ground.proofs.NumberLaws.{begins, numbered_same}
 use Rattle.lmn_ground.proofs.FollowLaws.{walked}
 use Rattle.lmn_ground.proofs.JoinLaws.{like_by, all_view, all_marks, all_copying, all_away, all_joins}
-use Rattle.lmn_ground.proofs.CopyLaws.{length_map, made_away, made_new, made_at, as_there, as_new}
+use Rattle.lmn_ground.proofs.CopyLaws.{length_map, made_new}
 use Rattle.lmn_ground.proofs.PaintedLaws.{all_painted, ports_painted, made_painted, unmarked_painted}
 use Rattle.lmn_ground_parts.specs.Walks.{port_range, IsPartInDepth, HasPort, Net, net}
 use Rattle.lmn_store_heap.proofs.Common.{decide_in as in_or_not, no_links, no_port, same_port, has_functor, is_not}
 use Rattle.lmn_store_heap.proofs.Replacing.{port_within as link_inside}
 use Rattle.lmn_base.specs.Lists.{In}
+use Rattle.lmn_ground_parts.proofs.Common.{made_at, made_away, one_new as as_new, one_there as as_there, port_in}
 
 abbrev no_mark : ℕ
 no_mark = 0
@@ -175,13 +176,6 @@ module _ (s u : Heap) (root : ℕ × ℕ) (xs ys : List ℕ) (sound : Sound s) (
         ));
     joined = λ a i k. inl (link_new (answer xs ys a) i (answer_in xs ys a (omega (arith, long)) k));
   }
-
--- all ports of these atoms
-port_in : (s : Heap) (xs : List ℕ) (a i : ℕ) → In a xs → i < arity_of s a → HasPort (a, i) (ports_of s xs)
-port_in s [] a i k l = absurd k
-port_in s (x ∷ xs) a i (inl e) l = holds_left (a, i) (port_range x 0 (arity_of s x)) (ports_of s xs)
-    (subst (λ (z : ℕ). HasPort (z, i) (port_range x 0 (arity_of s x))) e (holds_port x 0 (arity_of s x) i (omega arith) (let m : i < arity_of s x = subst (λ (z : ℕ). i < arity_of s z) (sym e) l in omega (arith, m))))
-port_in s (x ∷ xs) a i (inr k) l = holds_right (a, i) (port_range x 0 (arity_of s x)) (ports_of s xs) (port_in s xs a i k l)
 
 ports_within : (all : List ℕ) (x i n : ℕ) (ps : List (ℕ × ℕ)) (p : ℕ × ℕ) → In x all → (HasPort p ps → In p.0 all) → HasPort p (port_range x i n ++ ps) → In p.0 all
 ports_within all x i zero ps p x_in h k = h k

@@ -20,7 +20,7 @@ use Rattle.lmn_ground_parts.specs.Walks.{port_range, is_port}
 use Rattle.lmn_store_heap.proofs.Common.{in_at, has_functor, is_not}
 use Rattle.lmn_base.specs.Lists.{In}
 use Rattle.lmn_base.proofs.Lists.{in_snoc}
-use Rattle.lmn_ground_parts.proofs.Common.{as_away, as_here, ports_in}
+use Rattle.lmn_ground_parts.proofs.Common.{as_away, as_here, ports_in, made_at, made_away, not_again, one_new as as_new, one_there as as_there}
 
 -- lists
 
@@ -120,24 +120,6 @@ pub made_nil : (s : Heap) (xs : List ℕ) → s ≡ made_like s xs []
 made_nil s [] = refl
 made_nil s (x ∷ xs) = refl
 
--- other atoms stay when copies are made
-pub made_away : (s : Heap) (xs ys : List ℕ) (c : ℕ) → (In c ys → ⊥) → (made_like s xs ys).atoms c ≡ s.atoms c
-made_away s [] ys c n = refl
-made_away s (x ∷ xs) [] c n = refl
-made_away s (x ∷ xs) (y ∷ ys) c n =
-    made_away (made_as s y (functor_of s x)) xs ys c (λ k. n (inr k)) ∙ as_away s y c (functor_of s x) (λ e. n (inl (sym e)))
-
--- what holds of the others when one atom is made
-pub as_there : (s : Heap) (y : ℕ) (o : Option Functor) (xs : List ℕ) → AllAtoms s xs → s.atoms y ≡ None → AllAtoms (made_as s y o) xs
-as_there s y o xs h none x i = subst (λ (q : Option HeapAtom). IsSome q) (sym (as_away s y x o (is_not s x y (h x i) none))) (h x i)
-
--- the others are still new when one is made
-pub as_new : (s : Heap) (y : ℕ) (o : Option Functor) (ys : List ℕ) → AreNew s (y ∷ ys) → AreNew (made_as s y o) ys
-as_new s y o ys h = (h.0.1, λ z i. as_away s y z o (λ e. each_in (λ (w : ℕ). y ≢ w) ys z h.0.0 i (sym e)) ∙ h.1 z (inr i))
-
-not_again : (y : ℕ) (ys : List ℕ) → Distinct (y ∷ ys) → In y ys → ⊥
-not_again y ys d i = each_in (λ (w : ℕ). y ≢ w) ys y d.0 i refl
-
 -- each of the numbers names a new atom
 pub made_new : (s : Heap) (xs ys : List ℕ) (y : ℕ) → AllAtoms s xs → AreNew s ys → length ys ≤ length xs → In y ys → (f : Functor) × ((made_like s xs ys).atoms y ≡ Some (new_atom f))
 made_new s [] [] y h n l i = absurd i
@@ -151,24 +133,6 @@ made_new s (x ∷ xs) (z ∷ ys) y h n l (inl e) =
     )
 made_new s (x ∷ xs) (z ∷ ys) y h n l (inr i) =
     made_new (made_as s z (functor_of s x)) xs ys y (as_there s z (functor_of s x) xs (λ w k. h w (inr k)) (n.1 z (inl refl))) (as_new s z (functor_of s x) ys n) (omega (arith, l)) i
-
--- the copy of an atom is a new atom with its functor
-pub made_at : (s : Heap) (xs ys : List ℕ) (a : ℕ) → AllAtoms s xs → AreNew s ys → Distinct xs → length ys ≡ length xs → In a xs
-    → (made_like s xs ys).atoms (answer xs ys a) ≡ option_map new_atom (functor_of s a)
-made_at s [] ys a h n d l i = absurd i
-made_at s (x ∷ xs) [] a h n d l i = absurd (omega arith)
-made_at s (x ∷ xs) (y ∷ ys) a h n d l i = elim (cases_eq x a) [
-  | inl e ↦
-      let f = has_functor s x (h x (inl refl)) in
-      subst (λ (w : ℕ). (made_like (made_as s y (functor_of s x)) xs ys).atoms w ≡ option_map new_atom (functor_of s a)) (sym (answer_here x y xs ys a e))
-      (made_away (made_as s y (functor_of s x)) xs ys y (not_again y ys n.0) ∙ as_here s y f.0 (functor_of s x) f.1
-      ∙ ap (option_map new_atom) (sym f.1 ∙ ap (functor_of s) e))
-  | inr p ↦
-      let a_in : In a xs = rest_in x a xs i p in
-      subst (λ (w : ℕ). (made_like (made_as s y (functor_of s x)) xs ys).atoms w ≡ option_map new_atom (functor_of s a)) (sym (answer_on x y xs ys a p))
-      (made_at (made_as s y (functor_of s x)) xs ys a (as_there s y (functor_of s x) xs (λ w k. h w (inr k)) (n.1 y (inl refl))) (as_new s y (functor_of s x) ys n) d.1 (omega (arith, l)) a_in
-      ∙ ap (λ (o : Option HeapAtom). option_map new_atom (option_map (λ (t : HeapAtom). t.functor) o)) (as_away s y a (functor_of s x) (is_not s a y (h a i) (n.1 y (inl refl)))))
-]
 
 made_snoc : (s : Heap) (xs ys : List ℕ) (x b : ℕ) (f : Functor) → slice_get xs (length ys) ≡ Some x → functor_of (made_like s xs ys) x ≡ Some f
     → made_atom (made_like s xs ys) b f ≡ made_like s xs (ys ++ b ∷ [])

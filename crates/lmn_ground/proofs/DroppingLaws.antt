@@ -16,16 +16,7 @@ use Rattle.lmn_ground_parts.specs.Rests.{IsContent, atoms_of_all, keep, rest_tak
 use Rattle.lmn_ground.specs.Rests.{IsLeft}
 use Rattle.lmn_ground.proofs.RestLaws.{all_in, atoms_once, in_all, keep_distinct, keep_in, rest_found, rest_is}
 use Rattle.lmn_ground.proofs.DropLaws.{all_dropped, atoms_left, but, but_in, but_nothing, but_out, dropped, dropped_none, mem_taken_dropped, mems_left, onto, onto_either, onto_first, onto_second, parent_gone, parent_left, rest_dropped, same_dropped, still_mem}
-use Rattle.lmn_ground_parts.proofs.Common.{keep_all}
-
--- a membrane of a list is in the forest of the list
-pub top_in : (s : Heap) (f : Forest) (ls : List ℕ) (k : ℕ) → Forms s f ls → In k ls → In k (flat f)
-top_in s bare ls k F i = subst (In k) F i
-top_in s (mem n inner rest) ls k F i = by (subst (In k) F.1 i) (top_in s rest F.0 k F.3)
-  where
-    by : In k (n ∷ F.0) → (In k F.0 → In k (flat rest)) → In k (n ∷ (flat inner ++ flat rest))
-    by (inl e) f = inl e
-    by (inr j) f = inr (in_right k (flat inner) (flat rest) (f j))
+use Rattle.lmn_ground_parts.proofs.Common.{keep_all, top_in}
 
 -- what is behind one that is behind another is less
 pub less_behind : (n k : ℕ) (xs : List ℕ) → Distinct xs → In k (after n xs) → length (after k xs) < length (after n xs)

@@ -19,6 +19,7 @@ use Rattle.lmn_ground_parts.specs.Walks.{HasPort, is_port}
 use Rattle.lmn_store_heap.proofs.Replacing.{port_within as link_inside}
 use Rattle.lmn_base.specs.Lists.{In}
 use Rattle.lmn_store_heap.proofs.Common.{same_port as same_pair, arity_linked}
+use Rattle.lmn_ground_parts.proofs.Common.{cleared_away, joined_away}
 
 -- what joining leaves as it is
 module _ {X : Type 0} (view : Option HeapAtom → X) (h : (i : ℕ) (p : Option (ℕ × ℕ)) (o : Option HeapAtom) → view (option_map (with_link i p) o) ≡ view o) where
@@ -56,17 +57,6 @@ pub all_view : {X : Type 0} (view : Option HeapAtom → X) → ((i : ℕ) (p : O
 all_view view h f root s [] c = refl
 all_view view h f root s (p ∷ ps) c = all_view view h f root (joined_like f root s p) ps c
     ∙ like_by f root s p (λ t. view (t.atoms c) ≡ view (s.atoms c)) (λ _. refl) (λ b j e g. joined_view view h s (f p.0) p.1 (f b) j c)
-
-cleared_away : (f : ℕ → Option HeapAtom) (q : Option (ℕ × ℕ)) (c : ℕ) → ((p : ℕ × ℕ) → q ≡ Some p → c ≢ p.0) → cleared f q c ≡ f c
-cleared_away f None c h = refl
-cleared_away f (Some q) c h = linked_away f q.0 q.1 None c (h q refl)
-
-joined_away : (s : Heap) (a i b j c : ℕ) → c ≢ a → c ≢ b → ((p : ℕ × ℕ) → link_of s a i ≡ Some p → c ≢ p.0) → ((p : ℕ × ℕ) → link_of s b j ≡ Some p → c ≢ p.0)
-    → (joined s a i b j).atoms c ≡ s.atoms c
-joined_away s a i b j c na nb ha hb =
-    linked_away (linked (cleared (cleared s.atoms (link_of s a i)) (link_of s b j)) a i (Some (b, j))) b j (Some (a, i)) c nb
-    ∙ linked_away (cleared (cleared s.atoms (link_of s a i)) (link_of s b j)) a i (Some (b, j)) c na
-    ∙ cleared_away (cleared s.atoms (link_of s a i)) (link_of s b j) c hb ∙ cleared_away s.atoms (link_of s a i) c ha
 
 module _ (s : Heap) (root : ℕ × ℕ) (xs ys : List ℕ) (t : Copying s root xs ys) where
   pub copy_in : (x : ℕ) → In x xs → In (answer xs ys x) ys

@@ -16,9 +16,9 @@ use Rattle.lmn_ground.specs.Spread.{AreAtoms, AtomFits, IsWhole}
 use Rattle.lmn_ground.proofs.SoughtLaws.{next_root}
 use Rattle.lmn_ground.proofs.GroundLaws.{part_atoms, one_size}
 use Rattle.lmn_ground.proofs.CopiedLaws.{made_beside, copied_same, answers_are, copied_part, copied_free, copied_beside}
-use Rattle.lmn_ground.proofs.CopyLaws.{made_away}
 use Rattle.lmn_ground_parts.proofs.AnswerLaws.{answer_here}
 use Rattle.lmn_store_heap.proofs.Common.{is_not}
+use Rattle.lmn_ground_parts.proofs.Common.{made_away}
 
 -- where both hold they hold together
 both : (b c : Bool) → b ≡ true → c ≡ true → (b && c) ≡ true

@@ -14,14 +14,14 @@ use Rattle.lmn_ground_parts.proofs.AnswerLaws.{answer_in}
 use Rattle.lmn_ground.specs.Copies.{Copying, Made, NumbersAtoms, unmarked_all}
 use Rattle.lmn_ground.specs.Marks.{first_marks, painted}
 use Rattle.lmn_ground.specs.Spread.{Numbered}
-use Rattle.lmn_ground.proofs.CopyLaws.{made_at, made_away, made_new, other_port}
+use Rattle.lmn_ground.proofs.CopyLaws.{made_new, other_port}
 use Rattle.lmn_ground.proofs.CopiedLaws.{link_at, made_is, numbers_net, old_marks, ports_of_in}
 use Rattle.lmn_ground.proofs.JoinLaws.{all_copying, all_marks}
 use Rattle.lmn_ground.proofs.NumberLaws.{numbered_same}
 use Rattle.lmn_ground.proofs.PaintedLaws.{all_painted, ports_painted, unmarked_painted}
 use Rattle.lmn_ground.proofs.PaintLaws.{net_painted}
 use Rattle.lmn_store_heap.proofs.Common.{has_functor, is_not}
-use Rattle.lmn_ground_parts.proofs.Common.{either_port}
+use Rattle.lmn_ground_parts.proofs.Common.{either_port, made_at, made_away}
 
 -- Joining with a root that is no port is joining without one.
 

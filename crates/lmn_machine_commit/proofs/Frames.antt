@@ -14,7 +14,7 @@ use Rattle.lmn_solid_bodies.specs.Running.{Registers, Prepares, DoesAll, Makes, 
 use Rattle.lmn_solid_bodies.specs.Tied.{tied}
 use Rattle.lmn_solid_bodies.proofs.RestsMade.{joined_lines}
 use Rattle.lmn_solid_bodies.proofs.RestMems.{like_mems}
-use Rattle.lmn_solid_bodies.proofs.Common.{placed_root, tied_root}
+use Rattle.lmn_solid_bodies.proofs.Common.{placed_root, tied_root, commits_root as root_stays, does_root, membranes_root, rest_placed_root}
 use Rattle.lmn_store_heap.proofs.Common.{taken_root}
 use Rattle.lmn_ground_parts.proofs.Common.{copies_root, mems_taken_root}
 
@@ -225,39 +225,5 @@ made_awake r (i ∷ is) s t w = marked_on s.mems w.0.mems t.mems (makes r i s w.
 
 -- ---- the root stays
 
-membranes_root : (copy_mem copy : ℕ → ℕ) (ms : List ℕ) (s : Heap) → (membranes_placed copy_mem copy s ms).root ≡ s.root
-membranes_root copy_mem copy [] s = refl
-membranes_root copy_mem copy (m ∷ ms) s =
-    membranes_root copy_mem copy ms (membrane_placed copy_mem copy s m)
-    ∙ copies_root copy (copy_mem m) (atoms_in s m) (heap.rules_copied (heap.placed_mem s (copy_round copy_mem (parent_of s m)) (copy_mem m)) m (copy_mem m))
-
-rest_placed_root : (s : Heap) (m n : ℕ) (atoms ms copies new_ms : List ℕ) → (rest_placed s m n atoms ms copies new_ms).root ≡ s.root
-rest_placed_root s m n atoms ms copies new_ms =
-    membranes_root (answer (m ∷ ms) (n ∷ new_ms)) (answer atoms copies) ms (atoms_placed (answer atoms copies) s n (atoms_in s m)) ∙ copies_root (answer atoms copies) n (atoms_in s m) s
-
 root_of : (s u t : Heap) → t ≡ u → u.root ≡ s.root → t.root ≡ s.root
 root_of s u t e q = ap (λ (z : Heap). z.root) e ∙ q
-
-does_root : (r : Registers) (i : Instr) (s t : Heap) → Does r i s t → t.root ≡ s.root
-does_root r (RemoveAtom a) s t w = root_of s _ t w refl
-does_root r (RemovePart g) s t w = root_of s _ t w.3 (taken_root w.0 s)
-does_root r (RemoveMem m) s t w = root_of s _ t w refl
-does_root r (NewAtom a m f) s t w = root_of s _ t w.1 refl
-does_root r (NewInt a m v) s t w = root_of s _ t w.1 refl
-does_root r (NewMem m n) s t w = root_of s _ t w.1 refl
-does_root r (CopyGround c m g) s t w = root_of s _ t w.2 (placed_root (map (λ a. (r.head.images.membrane m, a)) (r.copied c)) s)
-does_root r (MoveCells m n) s t w = root_of s _ t w refl
-does_root r (CopyCells m n) s t w = root_of s _ t w.3 (rest_placed_root s (r.head.images.membrane m) (r.head.images.membrane n) (r.left_atoms m) (r.left_membranes m) w.0 w.1)
-does_root r (DropCells m) s t w = root_of s _ t w.1 (mems_taken_root (r.left_membranes m) (taken_all s (r.left_atoms m)) ∙ taken_root (r.left_atoms m) s)
-does_root r (LoadRule m k) s t w = root_of s _ t w refl
-does_root r (CopyRules m n) s t w = root_of s _ t w refl
-does_root r (NewLink p q) s t w = root_of s _ t w refl
-does_root r (Relink p h) s t w = root_of s _ t w (tied_root (relink (new_port r p) (old_port r h)) s)
-does_root r (Unify g h) s t w = root_of s _ t w (tied_root (unify (old_port r g) (old_port r h)) s)
-does_root r Proceed s t w = root_of s _ t w refl
-does_root r _ s t w = absurd w
-
--- code of a body that is committed leaves the root where it is
-pub root_stays : (r : Registers) (is : List Instr) (s t : Heap) → DoesAll r is s t → t.root ≡ s.root
-root_stays r [] s t w = ap (λ (z : Heap). z.root) w
-root_stays r (i ∷ is) s t w = root_stays r is w.0 t w.2 ∙ does_root r i s w.0 w.1

@@ -11,13 +11,13 @@ use Rattle.lmn_store_heap.proofs.Common.{decide_in}
 use Rattle.lmn_ground_parts.specs.Copies.{AllAtoms, AreNew, Beside, answer, made_as, made_like, ports_of}
 use Rattle.lmn_ground_parts.specs.Rests.{AreNewMembranes, NoneLeaves, RestCopied, RestRemains, made_roomy}
 use Rattle.lmn_ground.proofs.CopiedLaws.{made_beside}
-use Rattle.lmn_ground.proofs.CopyLaws.{as_new}
 use Rattle.lmn_solid_bodies.proofs.RestJoins.{all_view}
 use Rattle.lmn_solid_bodies.proofs.RestsMade.{brings_rest, joined_lines, roomy_atoms}
 use Rattle.lmn_solid_bodies.proofs.RestMems.{like_mems, new_on, rest_mems, rest_same_mems, roomy_mems}
 use Rattle.lmn_machine_commit.specs.Preparing.{OnlyMakes}
 use Rattle.lmn_machine_commit.proofs.Waiting.{beside_makes, makes_atom, makes_mem, makes_nothing, makes_on, makes_room}
 use Rattle.lmn_ground.proofs.JoinLaws.{marks_linked}
+use Rattle.lmn_ground_parts.proofs.Common.{one_new as as_new}
 
 -- membranes that are made, each with room
 makes_roomy : (rooms : List (ℕ × ℕ)) (s : Heap) → AreNewMembranes s (map (λ e. e.0) rooms) → OnlyMakes s (made_roomy s rooms)

@@ -33,13 +33,14 @@ use Rattle.lmn_solid_bodies.proofs.Numbering.{links_have_numbers}
 use Rattle.lmn_store_heap.proofs.ListLemmas.{in_left}
 use Rattle.lmn_machine_commit.specs.Touching.{RulesWakeTouched}
 use Rattle.lmn_machine_commit.specs.Waking.{Commits, IsRoused, SomeRouses, Rouses}
-use Rattle.lmn_machine_commit.proofs.Frames.{made_awake, root_stays}
+use Rattle.lmn_machine_commit.proofs.Frames.{made_awake}
 use Rattle.lmn_machine_commit.proofs.Rousing.{above_prepared, above_before, same_mark, home_mem}
 use Rattle.lmn_machine_commit.proofs.Rules.{stays_there}
 use Rattle.lmn_machine_commit.proofs.Touched.{IsRoot, of_rule, of_mem, of_atom, of_partner, is_quiet, none_touched}
 use Rattle.lmn_schedule_sleep.specs.Quiet.{IsQuiet, Wakes}
 use Rattle.lmn_schedule_sleep.proofs.Marks.{ReadAlike, read_alike, alike_back}
 use Rattle.lmn_base.proofs.Common.{of_map as of_image}
+use Rattle.lmn_solid_bodies.proofs.Common.{commits_root as root_stays}
 
 -- ---- what code rouses
 

@@ -16,6 +16,7 @@ use Rattle.lmn_schedule_sleep.specs.Quiet.{SameButMarks}
 use Rattle.lmn_schedule_sleep.proofs.Marks.{ReadAlike, read_alike, alike_back, above_alike}
 use Rattle.lmn_solid_bodies.specs.Stopping.{SameButSpares}
 use Rattle.lmn_machine_commit.specs.Waking.{HasTop, AllDeep, WakesAbove, IsAwakeRound, Is}
+use Rattle.lmn_ground_parts.proofs.Common.{parent_mem}
 
 -- ---- heaps that differ in marks alone
 
@@ -73,9 +74,6 @@ home_mem h s a y e = holds_mem_at (h.mems y) a ((s.listed.atoms y a).1 (home_is 
     holds_mem_at : (o : Option HeapMem) (a : ℕ) → In a (atoms_by o) → IsSome o
     holds_mem_at None a i = absurd i
     holds_mem_at (Some x) a i = refl
-
-pub parent_mem : (h : Heap) → Sound h → (n p : ℕ) → parent_of h n ≡ Some p → IsMem h p
-parent_mem h s n p e = mem_of_list h p n ((s.listed.mems p n).1 (parent_place h n p e))
 
 -- a way up that is longer than there are steps
 pub too_long : (h : Heap) (m at k : ℕ) → HasTop h m → 2 ^ 64 - 1 ≤ k → Above h k at m → {X : Type 0} → X

@@ -42,14 +42,10 @@ use Rattle.lmn_solid_bodies.proofs.Held.{Held}
 use Rattle.lmn_solid_bodies.proofs.RestGrowing.{given_none, in_given}
 use Rattle.lmn_schedule_sleep.specs.Quiet.{IsQuiet, IsUntouched}
 use Rattle.lmn_store_heap.proofs.Groves.{without_absent as without_no}
+use Rattle.lmn_solid_bodies.proofs.Common.{mems_moved}
+use Rattle.lmn_solid_heads.proofs.Common.{without_none as withouts_no}
 
 -- ---- lists
-
-withouts_no : (ns xs : List ℕ) → ((a : ℕ) → In a ns → In a xs → ⊥) → without_all ns xs ≡ xs
-withouts_no [] xs n = refl
-withouts_no (a ∷ ns) xs n =
-    let one = without_no a xs (n a (inl refl)) in
-    ap (without_all ns) one ∙ withouts_no ns xs (λ b i. n b (inr i))
 
 nothing_more : (xs ys : List ℕ) → ys ≡ [] → xs ++ ys ≡ xs
 nothing_more [] ys e = e
@@ -178,33 +174,6 @@ below_or_not zero (suc n) = inl (omega arith)
 below_or_not (suc i) (suc n) = elim (below_or_not i n) [ inl l ↦ inl (omega (arith, l)) | inr o ↦ inr (λ l. o (omega (arith, l))) ]
 
 -- ---- where an added membrane comes from
-
--- an added membrane is made, or was left of one that moves
-pub mems_moved : (r : Registers) (qs : RestCopies) (left left_mems : ℕ → List ℕ) (m : ℕ) (body : List BodyItem) → AreAsLong r qs body → AreWholeRests r left left_mems body → (x b : ℕ) → In b (added_mems r qs left_mems m body x) → In b (made_mems r qs m body) ⊎ ((k : ℕ) × In k (moved_mems r body) × In b (left_mems k))
-mems_moved r qs left left_mems m [] lo wh x b i = absurd i
-mems_moved r qs left left_mems m (Atom functor links inside ∷ xs) lo wh x b i = mems_moved r qs left left_mems m xs lo wh x b i
-mems_moved r qs left left_mems m (Connector l l' ∷ xs) lo wh x b i = mems_moved r qs left left_mems m xs lo wh x b i
-mems_moved r qs left left_mems m (Copy part link inside ∷ xs) lo wh x b i = mems_moved r qs left left_mems m xs lo wh x b i
-mems_moved r qs left left_mems m (Bound integer link inside ∷ xs) lo wh x b i = mems_moved r qs left left_mems m xs lo wh x b i
-mems_moved r qs left left_mems m (Membrane inside ∷ xs) lo wh x b i = elim (in_either b (if_inside r x inside (r.head.images.membrane m ∷ [])) (added_mems r qs left_mems (m + 1) xs x) i) [
-  | inl j ↦ elim (in_if r x inside (r.head.images.membrane m ∷ []) b j) [ inl e ↦ inl (inl e) | inr v ↦ absurd v ]
-  | inr j ↦ elim (mems_moved r qs left left_mems (m + 1) xs lo wh x b j) [ inl v ↦ inl (inr v) | inr v ↦ inr v ]
-]
-mems_moved r qs left left_mems m (Rest of false inside ∷ xs) lo wh x b i = elim (in_either b (if_inside r x inside (left_mems (r.head.images.membrane of))) (added_mems r qs left_mems m xs x) i) [
-  | inl j ↦ inr (r.head.images.membrane of, inl refl, in_if r x inside (left_mems (r.head.images.membrane of)) b j)
-  | inr j ↦ elim (mems_moved r qs left left_mems m xs lo wh x b j) [ inl v ↦ inl v | inr v ↦ inr (v.0, inr v.1, v.2) ]
-]
-mems_moved r qs left left_mems m (Rest of true inside ∷ xs) lo wh x b i =
-    let p = qs 0 in
-    let G = given (λ k. map (copied_membrane r of p) (left_mems k)) (copied_into r of inside p) (rest_membranes r of) x in
-    elim (in_either b G (added_mems r (later qs) left_mems m xs x) i) [
-      | inl j ↦ (let w = in_given (λ k. map (copied_membrane r of p) (left_mems k)) (copied_into r of inside p) (rest_membranes r of) x b j in
-          let v = of_map (copied_membrane r of p) b (left_mems w.0) w.3 in
-          inl (in_left b p.membranes (made_mems r (later qs) m xs) (subst (λ z. In z p.membranes) v.2 (answer_in (r.left_membranes of) p.membranes v.0 (long_enough lo.0.1) ((wh of (inl refl)).into_mems w.0 v.0 w.1 v.1)))))
-      | inr j ↦ elim (mems_moved r (later qs) left left_mems m xs lo.1 (λ o m. wh o (inr m)) x b j) [ inl v ↦ inl (in_right b p.membranes (made_mems r (later qs) m xs) v) | inr v ↦ inr v ]
-    ]
-mems_moved r qs left left_mems m (Rule rule inside ∷ xs) lo wh x b i = mems_moved r qs left left_mems m xs lo wh x b i
-mems_moved r qs left left_mems m (Rules of inside ∷ xs) lo wh x b i = mems_moved r qs left left_mems m xs lo wh x b i
 
 -- ---- a firing
 

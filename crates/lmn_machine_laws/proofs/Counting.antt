@@ -26,7 +26,6 @@ use Rattle.lmn_solid_bodies.proofs.Below.{removed_is}
 use Rattle.lmn_solid_bodies.proofs.Committing.{in_withouts_of}
 use Rattle.lmn_solid_bodies.proofs.Finishing.{within_of}
 use Rattle.lmn_solid_bodies.proofs.Firing.{ns_once, taken_in_place}
-use Rattle.lmn_solid_bodies.proofs.Contents.{without_none}
 use Rattle.lmn_solid_bodies.proofs.Growing.{some_there}
 use Rattle.lmn_solid_bodies.proofs.HeapTies.{SameItems}
 use Rattle.lmn_solid_bodies.proofs.Held.{Held, HoldsRest}
@@ -45,7 +44,8 @@ use Rattle.lmn_store_heap.proofs.Common.{decide_in, all_more as without_both}
 use Rattle.lmn_store_heap.proofs.Listing.{listed_mem as listed_some, distinct_without_all}
 use Rattle.lmn_base.specs.Lists.{In}
 use Rattle.lmn_ground_parts.proofs.Common.{keep_all as all_kept}
-use Rattle.lmn_machine_commit.proofs.Touched.{mems_moved as moved_from}
+use Rattle.lmn_solid_bodies.proofs.Common.{mems_moved as moved_from}
+use Rattle.lmn_solid_heads.proofs.Common.{without_none}
 
 -- what `finish` leaves of a membrane
 

@@ -29,6 +29,7 @@ use Rattle.lmn_machine.specs.Searching.{TestsSetRegisters, HeadInOrder}
 use Rattle.lmn_base.specs.Graphs.{Port}
 use Rattle.lmn_base.proofs.Truth.{if_at_most as outer_if}
 use Rattle.lmn_base.proofs.Lists.{get_taken}
+use Rattle.lmn_compile_head.proofs.Common.{above_less, inside_less, outer_less, typed_inside as typed_nested}
 
 -- Code before any typed context is set.
 
@@ -126,38 +127,9 @@ reads_unless a m g false xs r = r
 
 -- the membranes round a membrane have lesser numbers
 
--- the membrane in which another stands has no higher number
-pub inside_less : (ms : List HeadMembrane) (i k : ℕ) → ((j : ℕ) (b : HeadMembrane) → slice_get ms j ≡ Some b → b.inside ≤ i + j) → slice_index_or (map (λ b. b.inside) ms) k 0 ≤ i + k
-inside_less [] i k n = omega arith
-inside_less (b ∷ ms) i zero n = n 0 b refl
-inside_less (b ∷ ms) i (suc k) n =
-    let r = inside_less ms (i + 1) k (λ j c e. let l = n (suc j) c e in omega (arith, l)) in omega (arith, r)
-
--- and neither has the one round it
-pub above_less : (ms : List HeadMembrane) (k : ℕ) → ((j : ℕ) (b : HeadMembrane) → slice_get ms j ≡ Some b → b.inside ≤ j) → inside_of ms k ≤ k
-above_less ms zero n = omega arith
-above_less ms (suc k) n = let r = inside_less ms 0 k (λ j b e. let l = n j b e in omega (arith, l)) in omega (arith, r)
-
--- the outermost membrane round a membrane of a head has no higher number
-pub outer_less : (fuel : ℕ) (ms : List HeadMembrane) (k : ℕ) → ((j : ℕ) (b : HeadMembrane) → slice_get ms j ≡ Some b → b.inside ≤ j) → outermost_by fuel ms k ≤ k
-outer_less zero ms k n = omega arith
-outer_less (suc fuel) ms k n = outer_if k (outermost_by fuel ms (inside_of ms k)) (inside_of ms k == 0) (let a = outer_less fuel ms (inside_of ms k) n in let b = above_less ms k n in omega (arith, a, b))
-
 abbrev typed_inside_or : Option HeadTyped → ℕ
 typed_inside_or None = 0
 typed_inside_or (Some t) = t.inside
-
--- a typed context stands in an earlier membrane
-pub typed_nested : (i : ℕ) (xs : List HeadItem) → EachInside i xs → (j : ℕ) (t : HeadTyped) → slice_get (typed_contexts_of xs) j ≡ Some t → t.inside ≤ i + length (membranes_of xs)
-typed_nested i [] n j t e = absurd (cc)
-typed_nested i (Atom f ls m ∷ xs) n j t e = typed_nested i xs n.1 j t e
-typed_nested i (Typed p k l m ∷ xs) n zero t e =
-    let here : m ≤ i = n.0 in
-    let same : ◌≡◌ {A = Option HeadTyped} (Some (record { name = p; kind = k; link = l; inside = m })) (Some t) = e in
-    let at : m ≡ t.inside = ap (λ o. typed_inside_or o) same in
-    omega (arith, here, at)
-typed_nested i (Typed p k l m ∷ xs) n (suc j) t e = typed_nested i xs n.1 j t e
-typed_nested i (Membrane m c1 cl c2 ∷ xs) n j t e = let k = typed_nested (i + 1) xs n.1 j t e in omega (arith, k)
 
 -- the typed contexts that are written in a membrane have numbers below that of all
 inside_if : (b : Bool) (n g : ℕ) (gs : List ℕ) → n < g → AllByRecursion (λ j. j < g) gs → AllByRecursion (λ j. j < g) ((if b then n ∷ [] else []) ++ gs)

@@ -16,10 +16,7 @@ use Rattle.lmn_print_plain.specs.Numbers.{printed_atoms}
 use Rattle.lmn_store_heap.proofs.Common.{holds_mem as mem_with_atom}
 use Rattle.lmn_base.specs.Lists.{In}
 use Rattle.lmn_base.proofs.Lists.{in_either}
-
--- the membrane round one is there
-pub parent_there : (s : Heap) → Sound s → (m p : ℕ) → parent_of s m ≡ Some p → IsMem s p
-parent_there s sound m p e = mem_of_list s p m ((sound.listed.mems p m).1 (parent_place s m p e))
+use Rattle.lmn_ground_parts.proofs.Common.{parent_mem as parent_there}
 
 -- the tree is that of the heap
 pub tree_there : (s : Heap) → Sound s → AtMost (2 ^ 48) s → (f : Forest) → IsTree s f → IsTree s (tree_of s)

@@ -8,17 +8,7 @@ use Rattle.lmn_compile_head.specs.Heads.{EachInside, IsHead}
 use Rattle.lmn_compile_head.proofs.Nesting.{membranes_nested, atoms_nested}
 use Rattle.lmn_schedule_sleep.specs.Laws.{QuietStaysMatchless}
 use Rattle.lmn_schedule_sleep.proofs.Staying.{IsNested, embedding_stood}
-
-abbrev inside_or : Option HeadTyped → ℕ
-inside_or None = 0
-inside_or (Some t) = t.inside
-
-typed_inside : (i : ℕ) (xs : List HeadItem) → EachInside i xs → (j : ℕ) (t : HeadTyped) → slice_get (typed_contexts_of xs) j ≡ Some t → t.inside ≤ i + length (membranes_of xs)
-typed_inside i [] n j t e = absurd (cc)
-typed_inside i (Atom f ls m ∷ xs) n j t e = typed_inside i xs n.1 j t e
-typed_inside i (Typed p k l m ∷ xs) n zero t e = let l : m ≤ i = n.0 in let q : m ≡ t.inside = ap (λ o. inside_or o) e in omega arith
-typed_inside i (Typed p k l m ∷ xs) n (suc j) t e = typed_inside i xs n.1 j t e
-typed_inside i (Membrane m c1 c2 c3 ∷ xs) n j t e = let k = typed_inside (i + 1) xs n.1 j t e in omega (arith, k)
+use Rattle.lmn_compile_head.proofs.Common.{inside_or, typed_inside}
 
 -- the items of a head are nested
 pub head_nested : (items : List HeadItem) → IsHead items → IsNested items

@@ -21,11 +21,7 @@ use Rattle.lmn_solid_bodies.proofs.Removing.{Shrunk, InOneList, MemInOneList}
 use Rattle.lmn_base.specs.Lists.{In}
 use Rattle.lmn_base.proofs.Numbers.{not_equal}
 use Rattle.lmn_ground_parts.proofs.Common.{keep_all}
-
--- nothing is taken from a list that has none of it
-pub without_none : (ns xs : List ℕ) → ((a : ℕ) → In a ns → In a xs → ⊥) → without_all ns xs ≡ xs
-without_none [] xs d = refl
-without_none (n ∷ ns) xs d = ap (without_all ns) (absent n xs (d n (inl refl))) ∙ without_none ns xs (λ a i. d a (inr i))
+use Rattle.lmn_solid_heads.proofs.Common.{without_none}
 
 without_all_here : (ns : List ℕ) (x : ℕ) (xs : List ℕ) → (In x xs → ⊥) → In x ns → without_all ns (x ∷ xs) ≡ without_all ns xs
 without_all_here [] x xs o i = absurd i

@@ -13,7 +13,7 @@ use Rattle.lmn_store_heap.proofs.Common.{place_home}
 use Rattle.lmn_ground_parts.specs.Walks.{is_in}
 use Rattle.lmn_ground_parts.specs.Rests.{IsRest, IsContent, NoneLeaves, atoms_of_all, keep}
 use Rattle.lmn_store_heap.specs.Lists.{without_all}
-use Rattle.lmn_solid_bodies.proofs.Contents.{content_rest, keep_without, without_none}
+use Rattle.lmn_solid_bodies.proofs.Contents.{content_rest, keep_without}
 use Rattle.lmn_ground_parts.proofs.AnswerLaws.{is_in_true}
 use Rattle.lmn_solid_heads.specs.declared.items.HeadItem.{HeadItem}
 use Rattle.lmn_solid_heads.specs.Heads.{HeadMembrane, atoms_of, membranes_of}
@@ -27,11 +27,13 @@ use Rattle.lmn_solid_bodies.proofs.Below.{preorder, later, below_home, removed_i
 use Rattle.lmn_store_heap.proofs.Trees.{find_at, split_at, around}
 use Rattle.lmn_store_heap.proofs.Groves.{list_inside}
 use Rattle.lmn_solid_bodies.proofs.Finishing.{within_of, in_place_listed}
-use Rattle.lmn_solid_bodies.proofs.RestGrowing.{stands_round, child_of_forest, root_of_forest}
+use Rattle.lmn_solid_bodies.proofs.RestGrowing.{stands_round, child_of_forest}
 use Rattle.lmn_solid_bodies.proofs.RestsMade.{IsClosed}
 use Rattle.lmn_base.specs.Graphs.{Port}
 use Rattle.lmn_base.specs.Lists.{In}
 use Rattle.lmn_base.proofs.Lists.{in_either, get_below, get_there as get_some}
+use Rattle.lmn_ground_parts.proofs.Common.{top_in as root_of_forest}
+use Rattle.lmn_solid_heads.proofs.Common.{without_none}
 
 -- ---- lists
 

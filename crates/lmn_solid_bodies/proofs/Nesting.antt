@@ -46,7 +46,6 @@ use Rattle.lmn_solid_bodies.proofs.MakingParts.{GrownBy, Made, making_grows, sam
 use Rattle.lmn_solid_bodies.proofs.Removing.{Shrunk, InOneList, MemInOneList, all_taken_mems, shrunk_atoms, shrunk_mems, shrunk_after, taken_places, place_parent, taken_mems_wait}
 use Rattle.lmn_solid_bodies.proofs.Held.{Held, HoldsRest}
 use Rattle.lmn_solid_bodies.proofs.Drops.{drops_shrink}
-use Rattle.lmn_solid_bodies.proofs.Contents.{without_none}
 use Rattle.lmn_solid_bodies.proofs.Preparing.{Brought, AllPrepared}
 use Rattle.lmn_solid_bodies.proofs.AddedLemmas.{comes_from, new_arrives, moved_arrives}
 use Rattle.lmn_base.specs.Graphs.{Port}
@@ -55,6 +54,7 @@ use Rattle.lmn_store_heap.proofs.Common.{decide_in, place_home}
 use Rattle.lmn_solid_bodies.specs.Code.{making, drops}
 use Rattle.lmn_base.specs.Lists.{In}
 use Rattle.lmn_base.proofs.Lists.{in_either, plus_nothing}
+use Rattle.lmn_solid_heads.proofs.Common.{without_none}
 
 without_nil : (ns : List ℕ) → without_all ns [] ≡ []
 without_nil [] = refl

@@ -15,7 +15,7 @@ use Rattle.lmn_solid_bodies.proofs.Growing.{Grown, grown_none, grown_after, grow
 use Rattle.lmn_base.specs.Lists.{In}
 use Rattle.lmn_base.proofs.Lists.{in_either, plus_nothing}
 use Rattle.lmn_base.proofs.Common.{map_same}
-use Rattle.lmn_ground_parts.proofs.Common.{keep_all}
+use Rattle.lmn_ground_parts.proofs.Common.{keep_all, top_in as root_of_forest}
 
 -- ---- what some membranes give
 
@@ -266,14 +266,6 @@ child_of_forest s (mem m inner rest) roots q k (others, are, forms_in, forms_res
 child_of_forest s (mem m inner rest) roots q k (others, are, forms_in, forms_rest) (inr i) j = elim (in_either q (flat inner) (flat rest) i) [
   | inl l ↦ inr (in_left k (flat inner) (flat rest) (child_of_forest s inner (mems_in s m) q k forms_in l j))
   | inr l ↦ inr (in_right k (flat inner) (flat rest) (child_of_forest s rest others q k forms_rest l j))
-]
-
--- the roots are of it
-pub root_of_forest : (s : Heap) (f : Forest) (roots : List ℕ) (k : ℕ) → Forms s f roots → In k roots → In k (flat f)
-root_of_forest s bare roots k forms i = subst (In k) forms i
-root_of_forest s (mem m inner rest) roots k (others, are, forms_in, forms_rest) i = elim (subst (In k) are i) [
-  | inl e ↦ inl e
-  | inr l ↦ inr (in_right k (flat inner) (flat rest) (root_of_forest s rest others k forms_rest l))
 ]
 
 all_copies : (s : Heap) (copy : ℕ → ℕ) (ks : List ℕ) → copies_in s copy ks ≡ map copy (atoms_of_all s ks)

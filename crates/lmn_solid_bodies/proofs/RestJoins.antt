@@ -18,7 +18,7 @@ use Rattle.lmn_ground_parts.specs.Copies.{AllAtoms, AreNew, made_as, made_like, 
 use Rattle.lmn_ground_parts.specs.Rests.{joined_as, all_joined_as}
 use Rattle.lmn_ground_parts.proofs.AnswerLaws.{answer_in, answer_one, answer_here, answer_on}
 use Rattle.lmn_base.specs.Lists.{In}
-use Rattle.lmn_ground_parts.proofs.Common.{as_away as one_away, as_here as one_here, either_port, ports_in as range_in}
+use Rattle.lmn_ground_parts.proofs.Common.{as_away as one_away, as_here as one_here, either_port, ports_in as range_in, cleared_away, joined_away, made_at, made_away, not_again, one_new, one_there, port_in as port_of}
 
 -- ---- what joining leaves as it is
 
@@ -55,17 +55,6 @@ as_by f s p P same step = by (link_of s p.0 p.1) refl
     by : (o : Option (ℕ × ℕ)) → link_of s p.0 p.1 ≡ o → P (joined_to s (f p.0) p.1 (option_map (moved f) o))
     by None g = same g
     by (Some q) g = step q.0 q.1 g
-
-cleared_away : (f : ℕ → Option HeapAtom) (q : Option (ℕ × ℕ)) (c : ℕ) → ((p : ℕ × ℕ) → q ≡ Some p → c ≢ p.0) → cleared f q c ≡ f c
-cleared_away f None c h = refl
-cleared_away f (Some q) c h = linked_away f q.0 q.1 None c (h q refl)
-
-joined_away : (s : Heap) (a i b j c : ℕ) → c ≢ a → c ≢ b → ((p : ℕ × ℕ) → link_of s a i ≡ Some p → c ≢ p.0) → ((p : ℕ × ℕ) → link_of s b j ≡ Some p → c ≢ p.0)
-    → (joined s a i b j).atoms c ≡ s.atoms c
-joined_away s a i b j c na nb ha hb =
-    linked_away (linked (cleared (cleared s.atoms (link_of s a i)) (link_of s b j)) a i (Some (b, j))) b j (Some (a, i)) c nb
-    ∙ linked_away (cleared (cleared s.atoms (link_of s a i)) (link_of s b j)) a i (Some (b, j)) c na
-    ∙ cleared_away (cleared s.atoms (link_of s a i)) (link_of s b j) c hb ∙ cleared_away s.atoms (link_of s a i) c ha
 
 -- ---- ports of copies
 
@@ -277,55 +266,7 @@ back_port : (ps qs : List (ℕ × ℕ)) (p : ℕ × ℕ) → HasPort p qs → Ha
 back_port [] qs p k = k
 back_port (x ∷ ps) qs p k = inr (back_port ps qs p k)
 
-pub port_of : (s : Heap) (zs : List ℕ) (a i : ℕ) → In a zs → i < arity_of s a → HasPort (a, i) (ports_of s zs)
-port_of s [] a i j l = absurd j
-port_of s (z ∷ zs) a i (inl e) l =
-    front_port (port_range z 0 (arity_of s z)) (ports_of s zs) (a, i)
-    (subst (λ w. HasPort (w, i) (port_range z 0 (arity_of s z))) e (subst (λ w. HasPort (z, w) (port_range z 0 (arity_of s z))) (plain i) (in_range z 0 (arity_of s z) i (zero_less i (arity_of s z) (subst (λ w. i < arity_of s w) (sym e) l)))))
-  where
-    plain : (i : ℕ) → 0 + i ≡ i
-    plain i = omega arith
-
-    zero_less : (i n : ℕ) → i < n → 0 + i < 0 + n
-    zero_less i n l = omega arith
-port_of s (z ∷ zs) a i (inr j) l = back_port (port_range z 0 (arity_of s z)) (ports_of s zs) (a, i) (port_of s zs a i j l)
-
 -- ---- copies are made
-
--- other atoms stay when copies are made
-pub made_away : (s : Heap) (xs ys : List ℕ) (c : ℕ) → (In c ys → ⊥) → (made_like s xs ys).atoms c ≡ s.atoms c
-made_away s [] ys c n = refl
-made_away s (x ∷ xs) [] c n = refl
-made_away s (x ∷ xs) (y ∷ ys) c n = made_away (made_as s y (functor_of s x)) xs ys c (λ k. n (inr k)) ∙ one_away s y c (functor_of s x) (λ e. n (inl (sym e)))
-
-one_there : (s : Heap) (y : ℕ) (o : Option Functor) (xs : List ℕ) → AllAtoms s xs → s.atoms y ≡ None → AllAtoms (made_as s y o) xs
-one_there s y o xs h none x i = subst (λ (q : Option HeapAtom). IsSome q) (sym (one_away s y x o (is_not s x y (h x i) none))) (h x i)
-
-one_new : (s : Heap) (y : ℕ) (o : Option Functor) (ys : List ℕ) → AreNew s (y ∷ ys) → AreNew (made_as s y o) ys
-one_new s y o ys h = (h.0.1, λ z i. one_away s y z o (λ e. each_in (λ (w : ℕ). y ≢ w) ys z h.0.0 i (sym e)) ∙ h.1 z (inr i))
-
-not_again : (y : ℕ) (ys : List ℕ) → Distinct (y ∷ ys) → In y ys → ⊥
-not_again y ys d i = each_in (λ (w : ℕ). y ≢ w) ys y d.0 i refl
-
--- the copy of an atom is a new atom with its functor
-pub made_at : (s : Heap) (xs ys : List ℕ) (a : ℕ) → AllAtoms s xs → AreNew s ys → Distinct xs → length ys ≡ length xs → In a xs → (made_like s xs ys).atoms (answer xs ys a) ≡ option_map new_atom (functor_of s a)
-made_at s [] ys a h n d l i = absurd i
-made_at s (x ∷ xs) [] a h n d l i = absurd (omega arith)
-made_at s (x ∷ xs) (y ∷ ys) a h n d l i = elim (cases_eq x a) [
-  | inl e ↦
-      let f = has_functor s x (h x (inl refl)) in
-      subst (λ (w : ℕ). (made_like (made_as s y (functor_of s x)) xs ys).atoms w ≡ option_map new_atom (functor_of s a)) (sym (answer_here x y xs ys a e))
-      (made_away (made_as s y (functor_of s x)) xs ys y (not_again y ys n.0) ∙ one_here s y f.0 (functor_of s x) f.1 ∙ ap (option_map new_atom) (sym f.1 ∙ ap (functor_of s) e))
-  | inr p ↦
-      let a_in : In a xs = rest i p in
-      subst (λ (w : ℕ). (made_like (made_as s y (functor_of s x)) xs ys).atoms w ≡ option_map new_atom (functor_of s a)) (sym (answer_on x y xs ys a p))
-      (made_at (made_as s y (functor_of s x)) xs ys a (one_there s y (functor_of s x) xs (λ w k. h w (inr k)) (n.1 y (inl refl))) (one_new s y (functor_of s x) ys n) d.1 (omega (arith, l)) a_in
-      ∙ ap (λ (o : Option HeapAtom). option_map new_atom (option_map (λ (t : HeapAtom). t.functor) o)) (one_away s y a (functor_of s x) (is_not s a y (h a i) (n.1 y (inl refl)))))
-]
-  where
-    rest : In a (x ∷ xs) → (x ≡ a → ⊥) → In a xs
-    rest (inl e) d = absurd (d e)
-    rest (inr k) d = k
 
 -- the line gets them, and membranes stay
 pub made_line : (s : Heap) (xs ys : List ℕ) → AllAtoms s xs → AreNew s ys → length ys ≡ length xs → (made_like s xs ys).new_atoms ≡ s.new_atoms ++ ys

@@ -20,9 +20,10 @@ use Rattle.lmn_solid_bodies.specs.Running.{Registers}
 use Rattle.lmn_solid_bodies.specs.RestCopies.{RestCopies, later, AreCopiesIn}
 use Rattle.lmn_solid_bodies.specs.Tied.{partners}
 use Rattle.lmn_solid_bodies.proofs.Brought.{Brings, Old, brought_old, link_at, made_shapes}
-use Rattle.lmn_solid_bodies.proofs.RestJoins.{Copying, all_view, all_copying, all_away, all_joins, ports_in, port_of, made_away, made_at, made_line, functor_linked, place_linked}
+use Rattle.lmn_solid_bodies.proofs.RestJoins.{Copying, all_view, all_copying, all_away, all_joins, ports_in, made_line, functor_linked, place_linked}
 use Rattle.lmn_base.specs.Graphs.{Port}
 use Rattle.lmn_base.specs.Lists.{In}
+use Rattle.lmn_ground_parts.proofs.Common.{made_at, made_away, port_in as port_of}
 
 -- Some atoms of h have copies in s. Each port of a copy has its partner among the copies.
 pub record HasRestCopy (h s : Heap) (atoms copies : List ℕ) : Type 0 where

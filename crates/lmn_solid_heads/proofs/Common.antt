@@ -6,7 +6,9 @@ use Rattle.lmn_congruence.specs.Links.{places}
 use Rattle.lmn_solid_heads.specs.Embeddings.{index_of}
 use Rattle.lmn_solid_heads.specs.Guards.{typed_number}
 use Rattle.lmn_solid_heads.specs.Heads.{times, at_ports, HeadTyped}
-use Rattle.std.proofs.Common.{List, [], arith, ℕ, ◌++◌, ◌+◌, ◌∷◌, ◌≡◌, ap, map, refl, inl, inr, sym, suc, Some, cond}
+use Rattle.lmn_store_heap.proofs.Groves.{without_absent as absent}
+use Rattle.lmn_store_heap.specs.Lists.{without_all}
+use Rattle.std.proofs.Common.{List, [], arith, ℕ, ◌++◌, ◌+◌, ◌∷◌, ◌≡◌, ap, map, refl, inl, inr, sym, suc, Some, cond, ◌∙◌}
 use Rattle.std.proofs.lemmas.Bool.{cases_eq, eq-eqb}
 use Rattle.std.proofs.lemmas.Bool.Decides.{Decides-eqb}
 use Rattle.std.proofs.lemmas.Option.{same_Some}
@@ -52,3 +54,8 @@ typed_there (t ∷ ts) k x n e = by (t.name == x) e (typed_there ts (k + 1) x n)
         (i : ℕ) × (u : HeadTyped) × (n ≡ k + i) × (slice_get (t ∷ ts) i ≡ Some u)
     by true q later = (0, t, (let z = same_Some k n q in omega (arith, z)), refl)
     by false q later = let r = later q in (suc r.0, r.1, (let z = r.2 in omega (arith, z)), r.3)
+
+-- nothing is taken from a list that has none of it
+pub without_none : (ns xs : List ℕ) → ((a : ℕ) → In a ns → In a xs → ⊥) → without_all ns xs ≡ xs
+without_none [] xs d = refl
+without_none (n ∷ ns) xs d = ap (without_all ns) (absent n xs (d n (inl refl))) ∙ without_none ns xs (λ a i. d a (inr i))

@@ -80,6 +80,7 @@ use Rattle.lmn_solid_next.specs.Firing.{HasMatch, MatchesAreOfEmbeddings, TellsI
 use Rattle.lmn_solid_next.proofs.BoundValues.{body_name_is_bound, integer_bound}
 use Rattle.lmn_solid_next.proofs.Rests.{in_parts, in_taken, of_taken}
 use Rattle.lmn_adequacy_turns.proofs.TurnsNext.{same_region}
+use Rattle.lmn_adequacy_choices.proofs.Common.{never_there}
 
 -- ---- lists
 
@@ -96,11 +97,6 @@ each_once (x ∷ xs) =
         λ a. ((λ i. elim i [ inl e ↦ inl e | inr j ↦ inr ((w.2 a).0 j) ]), (λ i. elim i [ inl e ↦ inl e | inr j ↦ inr ((w.2 a).1 j) ])),
       )
     ]
-
--- a link that doesn't stand in a list stands there no time
-never_there : (x : ℕ) (xs : List ℕ) → (IsOneOf x xs → ⊥) → times x xs ≡ 0
-never_there x [] o = refl
-never_there x (y ∷ xs) o = ap (λ b. (cond b 1 0) + times x xs) (not_equal y x (λ e. o (inl e))) ∙ (let rest = never_there x xs (λ i. o (inr i)) in omega (arith, rest))
 
 -- the name of an entry is one of the names
 named_in : (x y : ℕ) (es : List (ℕ × ℕ)) → IsOneOf {A = ℕ × ℕ} (x, y) es → In x (names_of es)

@@ -35,39 +35,10 @@ use Rattle.lmn_solid_search.proofs.EmbeddingLemmas.{atoms_long, mapped, membrane
 use Rattle.lmn_solid_search.proofs.LyingLemmas.{named_same, outermost_same, times_same}
 use Rattle.lmn_adequacy_heaps.proofs.OutOf.{in_index as in_at, index_in as item_in}
 use Rattle.lmn_compile_head.proofs.Nesting.{atoms_inside as atoms_within, membranes_inside as membranes_within}
+use Rattle.lmn_compile_head.proofs.Common.{above_less, outer_less, typed_inside as typed_within}
 
 -- ---- items nest
 
-inside_less : (ms : List HeadMembrane) (i k : ℕ) → ((j : ℕ) (b : HeadMembrane) → slice_get ms j ≡ Some b → b.inside ≤ i + j) → slice_index_or (map (λ m. m.inside) ms) k 0 ≤ i + k
-inside_less [] i k n = omega arith
-inside_less (m ∷ ms) i zero n = let l = n 0 m refl in omega (arith, l)
-inside_less (m ∷ ms) i (suc k) n = let r = inside_less ms (i + 1) k (λ j b e. let l = n (suc j) b e in omega (arith, l)) in omega (arith, r)
-
-above_less : (ms : List HeadMembrane) (k : ℕ) → ((j : ℕ) (b : HeadMembrane) → slice_get ms j ≡ Some b → b.inside ≤ j) → inside_of ms k ≤ k
-above_less ms zero n = omega arith
-above_less ms (suc k) n = let r = inside_less ms 0 k (λ j b e. let l = n j b e in omega (arith, l)) in omega (arith, r)
-
-outer_less : (fuel : ℕ) (ms : List HeadMembrane) (k : ℕ) → ((j : ℕ) (b : HeadMembrane) → slice_get ms j ≡ Some b → b.inside ≤ j) → outermost_by fuel ms k ≤ k
-outer_less zero ms k n = omega arith
-outer_less (suc fuel) ms k n = by (inside_of ms k == 0) (outer_less fuel ms (inside_of ms k) n) (above_less ms k n)
-  where
-    by : (v : Bool) → outermost_by fuel ms (inside_of ms k) ≤ inside_of ms k → inside_of ms k ≤ k → (if v then k else outermost_by fuel ms (inside_of ms k)) ≤ k
-    by true r l = omega arith
-    by false r l = omega (arith, r, l)
-
-typed_or : Option HeadTyped → ℕ
-typed_or None = 0
-typed_or (Some t) = t.inside
-
-pub typed_within : (i : ℕ) (xs : List HeadItem) → EachInside i xs → (j : ℕ) (t : HeadTyped) → slice_get (typed_contexts_of xs) j ≡ Some t → t.inside ≤ i + length (membranes_of xs)
-unfolding typed_or
-typed_within i [] n j t e = absurd (cc)
-typed_within i (Atom functor links inside ∷ xs) n j t e = typed_within i xs n.1 j t e
-typed_within i (Typed name kind link inside ∷ xs) n zero t e =
-    let here : inside ≤ i = n.0 in
-    let is : inside ≡ t.inside = ap typed_or e in omega (arith, here, is)
-typed_within i (Typed name kind link inside ∷ xs) n (suc j) t e = typed_within i xs n.1 j t e
-typed_within i (Membrane inside has_context has_closed_context has_rule_context ∷ xs) n j t e = let r = typed_within (i + 1) xs n.1 j t e in omega (arith, r)
 
 pub outer_within : (items : List HeadItem) → EachInside 0 items → (k : ℕ) → outermost (membranes_of items) k ≤ k
 outer_within items n k = outer_less (length (membranes_of items)) (membranes_of items) k (λ j b e. let l = membranes_within 0 items n j b e in omega (arith, l))

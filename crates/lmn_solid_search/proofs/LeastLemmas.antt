@@ -22,11 +22,12 @@ use Rattle.lmn_solid_search.specs.declared.head.TypedItem.{TypedItem}
 use Rattle.lmn_solid_search.specs.declared.embedding.Found.{Found}
 use Rattle.lmn_solid_search.specs.declared.meeting.Fulfilled.{Fulfilled}
 use Rattle.lmn_solid_search.specs.declared.placed.Placed.{Placed}
-use Rattle.lmn_solid_search.proofs.BackLemmas.{can_be, choice, choice_places, outer_within, placement, typed_within}
+use Rattle.lmn_solid_search.proofs.BackLemmas.{can_be, choice, choice_places, outer_within, placement}
 use Rattle.lmn_solid_search.proofs.EmbeddingLemmas.{images_by, keeps_on, mapped, places_are, unmapped}
 use Rattle.lmn_solid_search.proofs.FulfillingLemmas.{entries, ports_are}
 use Rattle.lmn_solid_search.proofs.LyingLemmas.{embeds, meaning_same, outermost_same, times_same}
 use Rattle.lmn_compile_head.proofs.Nesting.{atoms_inside as atoms_within}
+use Rattle.lmn_compile_head.proofs.Common.{typed_inside as typed_within}
 
 -- ---- at the start
 

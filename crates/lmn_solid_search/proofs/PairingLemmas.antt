@@ -221,7 +221,6 @@ one_arity h a b v e i = by (functor_of h a) refl (there (h.atoms a) refl i)
     by o g (f, is) = v.sound.shaped.ports b f (e ∙ is) ∙ sym (v.sound.shaped.ports a f is)
 
 module _ (h : Heap) (x y : Port) (v : Valid h) where
-
   kept_agree : (p q : Pairs) → ((n a b : ℕ) → IsPair p n a b → IsPair q n a b) → (a b i : ℕ) → Agree h x y p a b i → Agree h x y q a b i
   kept_agree p q front a b i (inl e) = inl e
   kept_agree p q front a b i (inr (d, d', (j, c, e, n, l, l', is))) = inr (d, d', (j, c, e, n, l, l', front n c e is))

@@ -34,6 +34,7 @@ use Rattle.lmn_verify_compiled.proofs.BodyShapes.{makes_none, removed, dropped, 
 use Rattle.lmn_verify_compiled.proofs.Finding.{numbered, all_numbered, found_atom, found_membrane, found_part, found_parts, head_finds, head_enters, head_looks}
 use Rattle.lmn_verify_compiled.proofs.Apart.{any_front, any_back}
 use Rattle.lmn_verify_compiled.proofs.Counting.{counted, counted_is, counted_append}
+use Rattle.lmn_adequacy_choices.proofs.Common.{never_there as not_in}
 
 -- ---- counts
 
@@ -54,13 +55,6 @@ one_passes t xs e = eq-eqb (count_by t xs) 1 (sym (counted_is t xs) ∙ e)
 
 both_none : (t : Instr → Bool) (xs ys : List Instr) → counted t xs ≡ 0 → counted t ys ≡ 0 → counted t (xs ++ ys) ≡ 0
 both_none t xs ys h g = let e = counted_append t xs ys in omega (arith, e, h, g)
-
-not_in : (x : ℕ) (ys : List ℕ) → (IsOneOf x ys → ⊥) → times x ys ≡ 0
-not_in x [] h = refl
-not_in x (y ∷ ys) h =
-    let here : ◌≡◌ {A = ℕ} (if y == x then 1 else 0) 0 = ap (λ b. if b then 1 else 0) (not_equal y x (λ e. h (inl e))) in
-    let rest = not_in x ys (λ i. h (inr i)) in
-    omega (arith, here, rest)
 
 once_in_list : (x : ℕ) (ys : List ℕ) → NoneTwice ys → IsOneOf x ys → times x ys ≡ 1
 once_in_list x [] d i = absurd i

@@ -2,7 +2,6 @@
 use Rattle.std.proofs.Common.{◌∙◌}
 use Rattle.lmn_solid_bodies.proofs.Laws.{body_fires_within}
 use Rattle.lmn_solid_bodies.proofs.Numbering.{links_have_numbers}
-use Rattle.lmn_machine_commit.proofs.Frames.{root_stays}
 use Rattle.lmn_verify_laws.specs.Flat.{flat_body, flat_head, link_count}
 use Rattle.lmn_verify_laws.specs.Laws.{VerifiedFires}
 use Rattle.lmn_verify_laws.proofs.Commits.{does_too, prepared}
@@ -10,6 +9,7 @@ use Rattle.lmn_verify_laws.proofs.Heads.{lies}
 use Rattle.lmn_verify_laws.proofs.Linking.{is_nested}
 use Rattle.lmn_verify_laws.proofs.Rests.{verified_holds_rests}
 use Rattle.lmn_verify_laws.proofs.Runnable.{same}
+use Rattle.lmn_solid_bodies.proofs.Common.{commits_root as root_stays}
 
 -- Its body does what that of the flat rule does, which fires the rule, and the root stays.
 pub verified_fires : VerifiedFires

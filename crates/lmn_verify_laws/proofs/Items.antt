@@ -153,7 +153,6 @@ number_or (Some p) = p.part
 -- ---- verified code
 
 module _ (code : Code) (k : ℕ) (v : IsVerified code k) where
-
   -- all that the head finds, by its numbers
   pub all_found : Found (atoms_set code.head) (1 + membranes_set code.head) (parts_set code.head) 0 1 0 code.head
   all_found =

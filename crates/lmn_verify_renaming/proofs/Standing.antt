@@ -40,36 +40,9 @@ use Rattle.lmn_solid_bodies.proofs.Committing.{in_withouts_of}
 use Rattle.lmn_solid_bodies.proofs.Finishing.{in_place_listed, within_of}
 use Rattle.lmn_solid_bodies.proofs.Held.{Held, held}
 use Rattle.lmn_solid_bodies.proofs.RestGrowing.{in_given}
+use Rattle.lmn_solid_bodies.proofs.Common.{mems_moved as mems_come}
 
 -- ---- what a body adds
-
--- an added membrane is made, or was left of one that moves
-mems_come : (r : Registers) (qs : RestCopies) (left left_mems : ℕ → List ℕ) (m : ℕ) (body : List BodyItem) → AreAsLong r qs body → AreWholeRests r left left_mems body → (x b : ℕ) → In b (added_mems r qs left_mems m body x)
-    → In b (made_mems r qs m body) ⊎ ((k : ℕ) × In k (moved_mems r body) × In b (left_mems k))
-mems_come r qs left lm m [] lo wh x b i = absurd i
-mems_come r qs left lm m (Atom functor links inside ∷ xs) lo wh x b i = mems_come r qs left lm m xs lo wh x b i
-mems_come r qs left lm m (Bound integer link inside ∷ xs) lo wh x b i = mems_come r qs left lm m xs lo wh x b i
-mems_come r qs left lm m (Connector l l' ∷ xs) lo wh x b i = mems_come r qs left lm m xs lo wh x b i
-mems_come r qs left lm m (Copy part link inside ∷ xs) lo wh x b i = mems_come r qs left lm m xs lo wh x b i
-mems_come r qs left lm m (Membrane inside ∷ xs) lo wh x b i = elim (in_either b (if_inside r x inside (r.head.images.membrane m ∷ [])) (added_mems r qs lm (m + 1) xs x) i) [
-  | inl j ↦ elim (in_if r x inside (r.head.images.membrane m ∷ []) b j) [ inl e ↦ inl (inl e) | inr v ↦ absurd v ]
-  | inr j ↦ elim (mems_come r qs left lm (m + 1) xs lo wh x b j) [ inl v ↦ inl (inr v) | inr v ↦ inr v ]
-]
-mems_come r qs left lm m (Rest of false inside ∷ xs) lo wh x b i = elim (in_either b (if_inside r x inside (lm (r.head.images.membrane of))) (added_mems r qs lm m xs x) i) [
-  | inl j ↦ inr (r.head.images.membrane of, inl refl, in_if r x inside (lm (r.head.images.membrane of)) b j)
-  | inr j ↦ elim (mems_come r qs left lm m xs lo wh x b j) [ inl v ↦ inl v | inr v ↦ inr (v.0, inr v.1, v.2) ]
-]
-mems_come r qs left lm m (Rest of true inside ∷ xs) lo wh x b i =
-    let p = qs 0 in
-    let G = given (λ k. map (copied_membrane r of p) (lm k)) (copied_into r of inside p) (rest_membranes r of) x in
-    elim (in_either b G (added_mems r (later qs) lm m xs x) i) [
-      | inl j ↦ (let w = in_given (λ k. map (copied_membrane r of p) (lm k)) (copied_into r of inside p) (rest_membranes r of) x b j in
-          let v = of_map (copied_membrane r of p) b (lm w.0) w.3 in
-          inl (in_left b p.membranes (made_mems r (later qs) m xs) (subst (λ z. In z p.membranes) v.2 (answer_in (r.left_membranes of) p.membranes v.0 (long_enough lo.0.1) ((wh of (inl refl)).into_mems w.0 v.0 w.1 v.1)))))
-      | inr j ↦ elim (mems_come r (later qs) left lm m xs lo.1 (λ o l. wh o (inr l)) x b j) [ inl v ↦ inl (in_right b p.membranes (made_mems r (later qs) m xs) v) | inr v ↦ inr v ]
-    ]
-mems_come r qs left lm m (Rule rule inside ∷ xs) lo wh x b i = mems_come r qs left lm m xs lo wh x b i
-mems_come r qs left lm m (Rules of inside ∷ xs) lo wh x b i = mems_come r qs left lm m xs lo wh x b i
 
 -- ---- new ports
 

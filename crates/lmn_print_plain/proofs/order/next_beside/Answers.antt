@@ -1,6 +1,7 @@
 use Rattle.lmn_store_heap.proofs.Trees.{begins, climbs, ends, found}
-use Rattle.lmn_print_plain.proofs.OrderLemmas.{climbs_lower, parent_there}
+use Rattle.lmn_print_plain.proofs.OrderLemmas.{climbs_lower}
 use Rattle.lmn_print_plain.proofs.order.next_beside.Goals as goal
+use Rattle.lmn_ground_parts.proofs.Common.{parent_mem as parent_there}
 
 pub loop-parent-init : goal.loop-parent-init
 loop-parent-init g c = record {
