@@ -18,7 +18,7 @@ use Rattle.lmn_app.specs.declared.ending.Ending.TheVariants.{Done, Refused, Writ
 use Rattle.lmn_app.specs.Outcomes.{Ended}
 use Rattle.lmn_app.specs.Requests.{most_items}
 use Rattle.lmn_app.specs.Texts.{Accepts, IsRefusal, by_reading, text_bytes}
-use Rattle.lmn_app_reading.specs.Codes.{IsCode}
+use Rattle.lmn_base.specs.Codes.{IsCode}
 use Rattle.lmn_app.specs.Writing.{IsListing}
 use Rattle.lmn_app_accepted.proofs.FirstNames.{first_are_names}
 use Rattle.lmn_app.proofs.OutcomeLemmas.{refused_ended}

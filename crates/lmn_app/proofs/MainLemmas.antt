@@ -14,7 +14,7 @@ use Rattle.lmn_app_words.specs.declared.command.PairKind.{PairKind}
 use Rattle.lmn_app_words.specs.Forms.{Pair, to_run, to_compile, to_demo, to_pair}
 use Rattle.lmn_app.specs.Endings.{Concludes, HasLine, line_of_ending, refusal_line, second_line, status_of}
 use Rattle.lmn_app.specs.SecondTexts.{second_status}
-use Rattle.lmn_app_reading.specs.Codes.{IsCode}
+use Rattle.lmn_base.specs.Codes.{IsCode}
 use Rattle.lmn_app.specs.Outcomes.{AnswersOf, CountsFaults, Output, OutputOf, PairOutput, RefusesSecondOf, RequestEnded}
 use Rattle.lmn_app.specs.Texts.{IsRefusal}
 use Rattle.lmn_app.specs.declared.task.Task.{Task}

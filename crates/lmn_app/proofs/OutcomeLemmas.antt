@@ -11,7 +11,7 @@ use Rattle.lmn_app.specs.declared.task.RunSettings.{RunSettings}
 use Rattle.lmn_app.specs.declared.task.Task.{Task}
 use Rattle.lmn_app.specs.declared.task.Task.TheVariants as task
 use Rattle.lmn_app.specs.Endings.{Concludes}
-use Rattle.lmn_app_reading.specs.Codes.{IsCode}
+use Rattle.lmn_base.specs.Codes.{IsCode}
 use Rattle.lmn_app.specs.Outcomes.{Answers, Causes, Ended, Output}
 use Rattle.lmn_app.specs.Texts.{IsAccepted, IsRefusal, at_start, text_bytes, too_long}
 use Rattle.lmn_app.specs.Requests.{most_items}

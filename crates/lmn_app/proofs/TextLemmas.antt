@@ -33,7 +33,7 @@ use Rattle.lmn_app_reading.proofs.AcceptedOrRefused as reading
 use Rattle.lmn_app_reading.proofs.CodeLemmas.{refusals_have_codes}
 use Rattle.lmn_app_reading.proofs.OneRead as read
 use Rattle.lmn_app_reading.proofs.Readings.{well_made}
-use Rattle.lmn_app_reading.specs.Codes.{IsCode}
+use Rattle.lmn_base.specs.Codes.{IsCode}
 use Rattle.lmn_app_runs.specs.Laws.{solid_of}
 use Rattle.lmn_app.specs.Texts.{Accepts, AcceptedOrRefused, Fits, IsAccepted, IsRefusal, IsTooLarge, NamesText, OneRefusal, RefusedNotAccepted, at_start, by_reading, text_bytes, too_large, too_long}
 use Rattle.lmn_app.proofs.PlainRegions.{solid_with_items}

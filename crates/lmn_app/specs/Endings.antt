@@ -7,7 +7,7 @@ use Rattle.lmn_app.specs.declared.ending.Ending.TheVariants.{Done, Budget, Refus
 use Rattle.lmn_app.specs.SecondTexts.{second_status, second_words}
 use Rattle.lmn_io.specs.Counts.{FailedLast, Faults, NoneFailed}
 use Rattle.lmn_io.specs.Taking.{Takes, TakesPrefix}
-use Rattle.lmn_app_reading.specs.Codes.{words_of_number}
+use Rattle.lmn_base.specs.Codes.{words_of_number}
 
 -- the status of each ending
 abbrev pub status_of : Ending → ℕ

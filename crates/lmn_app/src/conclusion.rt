@@ -5,7 +5,7 @@ ghost use Rattle.lmn_app.specs.SecondTexts.{second_words};
 
 use crate::ending::Ending;
 use itoa::Buffer;
-use lmn_base::Refusal;
+use lmn_base::{Refusal, words_of_code};
 use lmn_io::{Failed, Sink, put_all};
 
 /// Puts the line of an ending into `err`, if it has one, and answers its status, or 5 where `err` fails.
@@ -26,9 +26,7 @@ fn report<E: Sink>(err: &mut E, ending: Ending) -> Result<(), Failed>
 {
     match ending {
         Ending::Done | Ending::Budget | Ending::Full => Ok(()),
-        Ending::Refused(refusal) => {
-            report_refusal(err, refusal, lmn_app_reading::words(refusal.code))
-        }
+        Ending::Refused(refusal) => { report_refusal(err, refusal, words_of_code(refusal.code)) }
         Ending::SecondRefused(_, refusal) => {
             report_refusal(err, refusal, second_words(refusal.code))
         }

@@ -9,7 +9,7 @@ ghost use Rattle.lmn_app_words.specs.Forms.{InForm, IsInRanges, pair_of, request
 ghost use Rattle.lmn_app.specs.Endings.{HasLine, line_of_ending, refusal_line, second_line};
 ghost use Rattle.lmn_app.specs.Pairs.{HasProgram};
 ghost use Rattle.lmn_app.specs.SecondTexts.{second_status};
-ghost use Rattle.lmn_app_reading.specs.Codes.{IsCode};
+ghost use Rattle.lmn_base.specs.Codes.{IsCode};
 ghost use Rattle.lmn_app.specs.Outcomes.{AnswersOf, Ended, OutputOf, RefusesSecondOf, RequestEnded};
 ghost use Rattle.lmn_app.specs.Runnings.{EndsUnread};
 ghost use Rattle.lmn_app.specs.Texts.{IsAccepted, IsRefusal, text_bytes};

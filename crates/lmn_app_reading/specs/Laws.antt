@@ -1,14 +1,14 @@
 -- The laws of reading.
-use Rattle.std.specs.Prelude.{ℕ, ◌≡◌, ◌⊎◌, List, IsSome}
+use Rattle.std.specs.Prelude.{ℕ, ◌≡◌, ◌⊎◌, List}
 use Rattle.std.specs.declared.alloc.Global.{Global}
 use Rattle.lmn_base.specs.declared.refusal.Refusal.{Refusal}
 use Rattle.lmn_base.specs.declared.rule.Plain.{Plain}
+use Rattle.lmn_base.specs.Codes.{IsCode}
 use Rattle.lmn_base.specs.Names.{IsNames, NamesPlain, plain_names}
 use Rattle.lmn_congruence.specs.Rules.{Name}
 use Rattle.lmn_congruence.specs.Translation.{top_of}
 use Rattle.lmn_guards.specs.declared.plan.GuardPlan.{GuardPlan}
 use Rattle.lmn_flatten_plain.specs.SamePlains.{SamePlain}
-use Rattle.lmn_app_reading.specs.Codes.{code_of}
 use Rattle.lmn_app_reading.specs.Texts.{IsAcceptedAs, IsRefusedAs, LeavesNames, ReadsAs, rows_of_rules}
 
 -- a text is accepted, with the numbers of a list of names
@@ -45,7 +45,7 @@ OneAcceptance = (text : List ℕ) (names : List Name) (p q : Plain) (plans other
 
 -- a text is refused by a code of the table
 abbrev pub RefusalsHaveCodes : Type 0
-RefusalsHaveCodes = (text : List ℕ) (names : List Name) (refusal : Refusal) → IsRefusedAs text names refusal → IsSome (code_of refusal.code)
+RefusalsHaveCodes = (text : List ℕ) (names : List Name) (refusal : Refusal) → IsRefusedAs text names refusal → IsCode refusal.code
 
 -- The plain that is read of a text has only names of the list that reading leaves.
 abbrev pub PlainsAreNamed : Type 0

@@ -1,6 +1,5 @@
 //! The laws of reading: a text is accepted, or it is refused, and in one way.
 
-ghost use Rattle.lmn_app_reading.specs.Codes.{CodesAreNumbered, NumbersAreOfCodes};
 ghost use Rattle.lmn_app_reading.specs.Laws.{ReadingAcceptsOrRefuses, OneAcceptance, ReadingRefusesOnce, PlainsAreNamed, RefusalsHaveCodes, RefusedTextNotAccepted};
 
 /// A text is accepted, or it is refused.
@@ -19,11 +18,9 @@ pub fn acceptances_are_one()
     ensures { OneAcceptance }
 {}
 
-/// A code is the one that has its number, and a text is refused by a code of the table.
-pub fn codes_have_numbers()
-    ensures code { CodesAreNumbered }
-    ensures number { NumbersAreOfCodes }
-    ensures refusal { RefusalsHaveCodes }
+/// A text is refused by a code of the table.
+pub fn refusals_have_codes()
+    ensures { RefusalsHaveCodes }
 {}
 
 /// The plain of a text has only names of the list that reading leaves.

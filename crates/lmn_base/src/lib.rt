@@ -5,6 +5,7 @@
 //! of names is, and the equality of parts of a process as rooted graphs.
 #![tactic(auto)]
 
+mod code;
 mod functor;
 mod guard;
 mod item;
@@ -18,10 +19,11 @@ mod rows;
 mod rule;
 mod solid;
 
+pub use code::{RefusalCode, words_of_code};
 pub use functor::{CONNECTOR_NAME, Functor, GROUND_NAME, INT_NAME, Label, UNARY_NAME};
 pub use guard::{Arith, Cmp, Cond, Expr};
 pub use item::{Form, FormedUse, Item, leaf_item};
-pub use laws::refusals_are_one;
+pub use laws::{codes_have_numbers, refusals_are_one};
 pub use level::{CtxUse, Leaf, Level, Occ};
 pub use memory::NoMemory;
 pub use names::Names;

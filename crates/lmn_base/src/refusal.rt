@@ -2,7 +2,9 @@ ghost use Rattle.std.specs.Prelude.{◌≡◌, List, [], ◌∷◌, ◌++◌};
 ghost use Rattle.lmn_base.specs.declared.refusal.Pos.{Pos};
 ghost use Rattle.lmn_base.specs.Firsts.{IsFirst, Row, AnswersBy};
 ghost use Rattle.lmn_base.specs.PlaceOrder.{not_after};
+ghost use Rattle.lmn_base.specs.Codes.{code_number};
 
+use crate::code::RefusalCode;
 use crate::memory::NoMemory;
 
 /// A place in a text.
@@ -64,11 +66,11 @@ impl From<NoMemory> for TextFault {
 }
 
 /// Refuses by a code at the first place where it applies, if it applies anywhere.
-pub fn refuse(code: u8, first: Option<Pos>) -> Result<(), Refusal>
-    ensures { (ps : List Pos) → IsFirst ps first → AnswersBy (record { code = code; places = ps } ∷ []) result }
+pub fn refuse(code: RefusalCode, first: Option<Pos>) -> Result<(), Refusal>
+    ensures { (ps : List Pos) → IsFirst ps first → AnswersBy (record { code = code_number code; places = ps } ∷ []) result }
 {
     match first {
-        Some(pos) => Err(Refusal { code, pos }),
+        Some(pos) => Err(code.at(pos)),
         None => Ok(()),
     }
 }

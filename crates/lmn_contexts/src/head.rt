@@ -4,8 +4,8 @@ ghost use Rattle.lmn_base.specs.Firsts.{IsFirst, IsFound, AnswersBy};
 ghost use Rattle.lmn_base_walks.specs.RuleCodes.{is_connector_label, is_bare, is_untyped, behind_the_first, seconds, seconds_by_membrane, first_with_some, head_rows};
 
 use lmn_base::{
-    CONNECTOR_NAME, CtxUse, Form, Found, Item, Label, Level, Pos, Question, Refusal, RuleTree,
-    first_refusal, refuse,
+    CONNECTOR_NAME, CtxUse, Form, Found, Item, Label, Level, Pos, Question, Refusal, RefusalCode,
+    RuleTree, first_refusal, refuse,
 };
 use lmn_base_walks::{find, find_in_level_itself};
 
@@ -14,11 +14,20 @@ pub(crate) fn check_head(table: &[RuleTree], rule: &RuleTree) -> Result<(), Refu
     ensures { AnswersBy (head_rows table.now rule.now) result }
 {
     let head = &rule.head;
-    let inner_rule = refuse(36, find(&InnerRule { table }, head).first);
-    let connector = refuse(37, find(&Connector, head).first);
-    let context = refuse(30, find_in_level_itself(&UntypedContext, head).first);
-    let rule_context = refuse(35, find_in_level_itself(&AnyRuleContext, head).first);
-    let two = refuse(31, two_in_membrane(head));
+    let inner_rule = refuse(
+        RefusalCode::RuleInHead,
+        find(&InnerRule { table }, head).first,
+    );
+    let connector = refuse(RefusalCode::ConnectorInHead, find(&Connector, head).first);
+    let context = refuse(
+        RefusalCode::ContextOutsideHeadMembrane,
+        find_in_level_itself(&UntypedContext, head).first,
+    );
+    let rule_context = refuse(
+        RefusalCode::RuleContextOutsideHeadMembrane,
+        find_in_level_itself(&AnyRuleContext, head).first,
+    );
+    let two = refuse(RefusalCode::TwoContextsInMembrane, two_in_membrane(head));
     first_refusal(
         inner_rule,
         first_refusal(

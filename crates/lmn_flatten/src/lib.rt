@@ -24,7 +24,7 @@ mod walk;
 
 use crate::glossary::Glossary;
 use crate::walk::expanded;
-use lmn_base::{Names, Plain, TextFault, refuse};
+use lmn_base::{Names, Plain, RefusalCode, TextFault, refuse};
 use lmn_flatten_numbers::first_outside;
 use lmn_lexer::Tokens;
 use lmn_parser::Tree;
@@ -55,7 +55,7 @@ pub fn flatten(
 {
     let glossary = Glossary::read(alloc, text, tokens, names)?;
     let plain = expanded(glossary, tree)?;
-    match refuse(39, first_outside(&plain.top)) {
+    match refuse(RefusalCode::ContextOutsideRule, first_outside(&plain.top)) {
         Ok(()) => Ok(plain),
         Err(refusal) => Err(TextFault::Refused(refusal)),
     }

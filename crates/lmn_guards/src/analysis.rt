@@ -8,7 +8,8 @@ use crate::conditions::check_conditions;
 use crate::plan::{GuardPlan, TypedUse};
 use crate::typing::{find_unheld, find_untyped, type_of};
 use lmn_base::{
-    Cond, Leaf, Level, Names, NoMemory, Refusal, Rows, RuleTree, TextFault, first_refusal, refuse,
+    Cond, Leaf, Level, Names, NoMemory, Refusal, RefusalCode, Rows, RuleTree, TextFault,
+    first_refusal, refuse,
 };
 use lmn_base_walks::is_used;
 use std::alloc::Global;
@@ -43,9 +44,9 @@ fn check_typed(rule: &RuleTree) -> Result<(), Refusal>
     ensures { AnswersBy (rows_of_typed rule.now) result }
 {
     if let Some(pos) = find_untyped(rule).first {
-        return Err(Refusal { code: 40, pos });
+        return Err(RefusalCode::ContextWithoutType.at(pos));
     }
-    refuse(46, find_unheld(rule).first)
+    refuse(RefusalCode::TypedContextNotHeld, find_unheld(rule).first)
 }
 
 fn plan(alloc: Global, rule: &RuleTree) -> Result<GuardPlan, NoMemory>

@@ -1,10 +1,10 @@
 -- The table of refusals: the number and the words of each code.
-use Rattle.std.specs.Prelude.{ℕ, ◌≡◌, ◌==◌, List, [], ◌∷◌, Option, Some, None, codes, if◌then◌else◌, IsSome}
-use Rattle.lmn_app_reading.specs.declared.code.Code.{Code}
-use Rattle.lmn_app_reading.specs.declared.code.Code.TheVariants.{TextTooLong, BadByte, NotClosed, IntegerOutOfRange, NameTooLong, FloatingPoint, StringLiteral, InlineCode, Hyperlink, UnexpectedToken, NestingTooDeep, TooManyArguments, LinkOnce, LinkTooOften, LinkOnceInRule, LinkTooOftenInRule, ContextOutsideHeadMembrane, TwoContextsInMembrane, ContextTwiceInHead, ContextNotOnceInBody, ContextNotInHead, RuleContextOutsideHeadMembrane, RuleInHead, ConnectorInHead, EmptyHead, ContextOutsideRule, ContextWithoutType, UnknownGuard, WrongOperands, UnboundContext, RuleTooLarge, ContextInTwoForms, TypedContextNotHeld, ProcessTooLarge}
+use Rattle.std.specs.Prelude.{ℕ, ◌≡◌, ◌==◌, List, [], ◌∷◌, ◌++◌, Option, Some, None, codes, if◌then◌else◌, IsSome}
+use Rattle.lmn_base.specs.declared.code.RefusalCode.{RefusalCode}
+use Rattle.lmn_base.specs.declared.code.RefusalCode.TheVariants.{TextTooLong, BadByte, NotClosed, IntegerOutOfRange, NameTooLong, FloatingPoint, StringLiteral, InlineCode, Hyperlink, UnexpectedToken, NestingTooDeep, TooManyArguments, LinkOnce, LinkTooOften, LinkOnceInRule, LinkTooOftenInRule, ContextOutsideHeadMembrane, TwoContextsInMembrane, ContextTwiceInHead, ContextNotOnceInBody, ContextNotInHead, RuleContextOutsideHeadMembrane, RuleInHead, ConnectorInHead, EmptyHead, ContextOutsideRule, ContextWithoutType, UnknownGuard, WrongOperands, UnboundContext, RuleTooLarge, ContextInTwoForms, TypedContextNotHeld, ProcessTooLarge, TraceTooLong, NotAFiring, WrongEnd, ScriptTooLong, UnknownCommand, ListingTooLong, NotAListing, CodeNotVerified, WeightsTooLong, BadWeight, RuleNotLowered}
 
 -- the number of each code, and its words
-abbrev pub code_row : Code → ℕ × List ℕ
+abbrev pub code_row : RefusalCode → ℕ × List ℕ
 code_row TextTooLong = (1, codes "text too long")
 code_row BadByte = (2, codes "bad byte")
 code_row NotClosed = (3, codes "not closed")
@@ -39,39 +39,60 @@ code_row RuleTooLarge = (44, codes "rule too large")
 code_row ContextInTwoForms = (45, codes "context in two forms")
 code_row TypedContextNotHeld = (46, codes "typed context not held")
 code_row ProcessTooLarge = (50, codes "process too large")
+code_row TraceTooLong = (60, codes "trace too long")
+code_row NotAFiring = (61, codes "not a firing of the last process")
+code_row WrongEnd = (62, codes "wrong end")
+code_row ScriptTooLong = (70, codes "script too long")
+code_row UnknownCommand = (71, codes "unknown command")
+code_row ListingTooLong = (80, codes "listing too long")
+code_row NotAListing = (81, codes "not a listing")
+code_row CodeNotVerified = (82, codes "code not verified")
+code_row WeightsTooLong = (84, codes "weights too long")
+code_row BadWeight = (85, codes "bad weight")
+code_row RuleNotLowered = (86, codes "rule not lowered")
 
 -- the number of a code
-abbrev pub code_number : Code → ℕ
+abbrev pub code_number : RefusalCode → ℕ
 code_number code = (code_row code).0
 
 -- the words of a code
-abbrev pub code_words : Code → List ℕ
+abbrev pub code_words : RefusalCode → List ℕ
 code_words code = (code_row code).1
 
--- all codes: the law `CodesAreNumbered` says that none is missing
-abbrev pub all_codes : List Code
-all_codes =
+-- the codes of the text of a program
+abbrev pub text_codes : List RefusalCode
+text_codes =
     TextTooLong ∷ BadByte ∷ NotClosed ∷ IntegerOutOfRange ∷ NameTooLong ∷ FloatingPoint ∷ StringLiteral ∷ InlineCode ∷ Hyperlink
     ∷ UnexpectedToken ∷ NestingTooDeep ∷ TooManyArguments ∷ LinkOnce ∷ LinkTooOften ∷ LinkOnceInRule ∷ LinkTooOftenInRule
     ∷ ContextOutsideHeadMembrane ∷ TwoContextsInMembrane ∷ ContextTwiceInHead ∷ ContextNotOnceInBody ∷ ContextNotInHead
-    ∷ RuleContextOutsideHeadMembrane ∷ RuleInHead ∷ ConnectorInHead ∷ EmptyHead ∷ ContextOutsideRule ∷ ContextWithoutType ∷ UnknownGuard
-    ∷ WrongOperands ∷ UnboundContext ∷ RuleTooLarge ∷ ContextInTwoForms ∷ TypedContextNotHeld ∷ ProcessTooLarge ∷ []
+    ∷ RuleContextOutsideHeadMembrane ∷ RuleInHead ∷ ConnectorInHead ∷ EmptyHead ∷ ContextOutsideRule ∷ ContextWithoutType
+    ∷ UnknownGuard ∷ WrongOperands ∷ UnboundContext ∷ RuleTooLarge ∷ ContextInTwoForms ∷ TypedContextNotHeld ∷ ProcessTooLarge ∷ []
+
+-- the codes of the second texts of commands
+abbrev pub second_codes : List RefusalCode
+second_codes =
+    TraceTooLong ∷ NotAFiring ∷ WrongEnd ∷ ScriptTooLong ∷ UnknownCommand ∷ ListingTooLong ∷ NotAListing ∷ CodeNotVerified
+    ∷ WeightsTooLong ∷ BadWeight ∷ RuleNotLowered ∷ []
+
+-- all codes: the law `CodesAreNumbered` says that none is missing
+abbrev pub all_codes : List RefusalCode
+all_codes = text_codes ++ second_codes
 
 -- the first of some codes that has a number
-abbrev pub first_numbered : ℕ → List Code → Option Code
+abbrev pub first_numbered : ℕ → List RefusalCode → Option RefusalCode
 first_numbered n [] = None
 first_numbered n (code ∷ others) = if n == code_number code then Some code else first_numbered n others
 
 -- the code with a number
-abbrev pub code_of : ℕ → Option Code
+abbrev pub code_of : ℕ → Option RefusalCode
 code_of n = first_numbered n all_codes
 
--- a code that refuses a text
+-- a code that refuses the text of a program
 abbrev pub IsCode : ℕ → Type 0
-IsCode code = IsSome (code_of code)
+IsCode code = IsSome (first_numbered code text_codes)
 
 -- the words of a code, where there is one
-abbrev pub words_or_none : Option Code → List ℕ
+abbrev pub words_or_none : Option RefusalCode → List ℕ
 words_or_none (Some code) = code_words code
 words_or_none None = []
 
@@ -81,8 +102,8 @@ words_of_number n = words_or_none (code_of n)
 
 -- a code is the one that has its number
 abbrev pub CodesAreNumbered : Type 0
-CodesAreNumbered = (code : Code) → code_of (code_number code) ≡ Some code
+CodesAreNumbered = (code : RefusalCode) → code_of (code_number code) ≡ Some code
 
 -- and a number without a code is that of none
 abbrev pub NumbersAreOfCodes : Type 0
-NumbersAreOfCodes = (number : ℕ) (code : Code) → code_of number ≡ Some code → number ≡ code_number code
+NumbersAreOfCodes = (number : ℕ) (code : RefusalCode) → code_of number ≡ Some code → number ≡ code_number code
