@@ -1,6 +1,6 @@
 -- The limits of the language that are told of plain types, each by its name. Those of tokens stand in `lmn_parser_grammar`, that of a
 -- whole text in `lmn_app`.
-use Rattle.std.specs.Prelude.{ℕ}
+use Rattle.std.specs.Prelude.{ℕ, ◌*◌, ◌+◌}
 
 -- the most bytes of a name
 abbrev pub longest_name : ℕ
@@ -23,3 +23,20 @@ most_conditions = 64
 
 abbrev pub most_guard_tokens : ℕ
 most_guard_tokens = 256
+
+-- What code has of registers: each atom and each membrane of a rule one, and the membrane of the rule one more; typed contexts and
+-- their copies no more than items; integers as a guard has tokens, and as many that are computed.
+abbrev pub most_atom_registers : ℕ
+most_atom_registers = most_head_items + most_body_items
+
+abbrev pub most_membrane_registers : ℕ
+most_membrane_registers = most_head_items + most_body_items + 1
+
+abbrev pub most_part_registers : ℕ
+most_part_registers = most_head_items
+
+abbrev pub most_integer_registers : ℕ
+most_integer_registers = 2 * most_guard_tokens
+
+abbrev pub most_copy_registers : ℕ
+most_copy_registers = most_body_items

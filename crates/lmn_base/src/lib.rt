@@ -11,6 +11,7 @@ mod guard;
 mod item;
 mod laws;
 mod level;
+pub mod limits;
 mod memory;
 mod names;
 mod question;

@@ -1,4 +1,5 @@
 -- What a script orders, line by line.
+use Rattle.lmn_base.specs.Limits.{longest_name, most_links}
 use Rattle.std.specs.Prelude.{ℕ, ◌≡◌, ◌≢◌, ◌⊎◌, ◌≤◌, ◌<◌, ◌+◌, List, [], ◌∷◌, ◌++◌, Some, codes, length, slice_index_or}
 use Rattle.std.specs.List.{AllByRecursion}
 use Rattle.lmn_base.specs.declared.functor.Label.{Label}
@@ -38,14 +39,14 @@ pub record IsUntil (line item : List ℕ) (op : Cmp) (n : ℕ) : Type 0 where
 
 -- a label that can be written: a name of the list of at most 255 bytes, or an integer of 64 bits
 abbrev pub IsWritable : List (List ℕ) → Label → Type 0
-IsWritable names (Name n) = (n < length names) × (length (slice_index_or names n []) ≤ 255)
+IsWritable names (Name n) = (n < length names) × (length (slice_index_or names n []) ≤ longest_name)
 IsWritable names (Int z) = IsIn64Bits z
 
 -- a line is this order, where its functor is read by these names
 abbrev pub IsOrder : List (List ℕ) → List ℕ → Order → Type 0
 IsOrder names line (Step n) = IsNumbered (codes "step") line n × (1 ≤ n)
 IsOrder names line (Back n) = IsNumbered (codes "back") line n × (1 ≤ n)
-IsOrder names line (Until f op n) = IsUntil line (functor_text names f) op n × IsWritable names f.label × (f.arity ≤ 255)
+IsOrder names line (Until f op n) = IsUntil line (functor_text names f) op n × IsWritable names f.label × (f.arity ≤ most_links)
 IsOrder names line Show = line ≡ codes "show"
 
 -- a line has the form of an order

@@ -1,4 +1,5 @@
 -- What numbers, integers and functors look like in a listing.
+use Rattle.lmn_base.specs.Limits.{longest_name, most_links}
 use Rattle.std.specs.Prelude.{ℕ, ℤ, pos, negsuc, ◌≡◌, ◌≢◌, ◌<◌, ◌≤◌, ◌^◌, ◌⊎◌, List, [], ◌++◌, codes, length, slice_index_or}
 use Rattle.std.specs.List.{AllByRecursion}
 use Rattle.std.specs.Fmt.{decimal, signed_decimal}
@@ -15,16 +16,16 @@ IsIn64Bits (negsuc n) = n < 2 ^ 63
 -- the text of a name of at most 255 bytes, or of an integer of 64 bits
 abbrev pub IsLabelText : List ℕ → Type 0
 IsLabelText text =
-    ((name : List ℕ) × (length name ≤ 255) × (name_text name ≡ text)) ⊎ ((z : ℤ) × IsIn64Bits z × (signed_decimal z ≡ text))
+    ((name : List ℕ) × (length name ≤ longest_name) × (name_text name ≡ text)) ⊎ ((z : ℤ) × IsIn64Bits z × (signed_decimal z ≡ text))
 
 -- the name of a label has at most 255 bytes
 abbrev pub IsShortLabel : List (List ℕ) → Label → Type 0
-IsShortLabel names (Name n) = length (slice_index_or names n []) ≤ 255
+IsShortLabel names (Name n) = length (slice_index_or names n []) ≤ longest_name
 IsShortLabel names (Int z) = Unit {0}
 
 -- the text of a functor with such a label and an arity of at most 255
 abbrev pub IsFunctorText : List ℕ → Type 0
-IsFunctorText text = (label : List ℕ) × (arity : ℕ) × IsLabelText label × (arity ≤ 255) × (label ++ (codes "/" ++ decimal arity) ≡ text)
+IsFunctorText text = (label : List ℕ) × (arity : ℕ) × IsLabelText label × (arity ≤ most_links) × (label ++ (codes "/" ++ decimal arity) ≡ text)
 
 -- The list has at most n names more, behind all that it had.
 pub record AddsNames (n : ℕ) (before later : List (List ℕ)) : Type 0 where

@@ -1,4 +1,5 @@
 //! Reads numbers, integers and functors that are written exactly as listings write them.
+ghost use Rattle.lmn_base.specs.Limits.{longest_name};
 ghost use Rattle.std.specs.Prelude.{ℕ, ℤ, List, true, false, ◌≡◌, ◌≤◌, ◌<◌, ◌+◌, ◌^◌, ◌++◌, ◌∷◌, length, drop, slice_index, IfSome, IfNone, IfOk, OnErr, IsSomeAnd, Some, codes};
 ghost use Rattle.std.specs.Fmt.{decimal, signed_decimal};
 ghost use Rattle.std.specs.List.{flat_map, list_all};
@@ -11,14 +12,9 @@ ghost use Rattle.lmn_instr_reading.specs.Reading.{IsIn64Bits, IsLabelText, IsFun
 
 use arrayvec::ArrayVec;
 use itoa::Buffer;
+use lmn_base::limits::{LONGEST_NAME, MOST_LINKS};
 use lmn_base::{Functor, Label, Names, NoMemory};
 use std::str;
-
-/// The most bytes of a name.
-const NAME_BYTES: usize = 255;
-
-/// The most ports of an atom.
-const ARITY: u64 = 255;
 
 /// The number that a text writes, if it is the decimal text of one.
 fn number_in(text: &[u8]) -> Option<u64>
@@ -130,9 +126,9 @@ fn width_at(inside: &[u8], at: usize) -> Option<usize>
 }
 
 /// The name of at most 255 bytes that stands between quotes.
-fn undoubled(inside: &[u8]) -> Option<ArrayVec<u8, NAME_BYTES>>
-    ensures some { IfSome result (λ name. (flat_map quoted_byte name.items ≡ inside.now) × (length name.items ≤ 255)) }
-    ensures only { (name : List ℕ) → length name ≤ 255 → flat_map quoted_byte name ≡ inside.now → IsSomeAnd result (λ found. found.items ≡ name) }
+fn undoubled(inside: &[u8]) -> Option<ArrayVec<u8, LONGEST_NAME>>
+    ensures some { IfSome result (λ name. (flat_map quoted_byte name.items ≡ inside.now) × (length name.items ≤ longest_name)) }
+    ensures only { (name : List ℕ) → length name ≤ longest_name → flat_map quoted_byte name ≡ inside.now → IsSomeAnd result (λ found. found.items ≡ name) }
 {
     let mut name = ArrayVec::new();
     let mut at = 0;
@@ -151,9 +147,9 @@ fn undoubled(inside: &[u8]) -> Option<ArrayVec<u8, NAME_BYTES>>
 }
 
 /// The name of at most 255 bytes that is written in quotes.
-fn unquoted(text: &[u8]) -> Option<ArrayVec<u8, NAME_BYTES>>
-    ensures some { IfSome result (λ name. (quoted name.items ≡ text.now) × (length name.items ≤ 255)) }
-    ensures only { (name : List ℕ) → length name ≤ 255 → quoted name ≡ text.now → IsSomeAnd result (λ found. found.items ≡ name) }
+fn unquoted(text: &[u8]) -> Option<ArrayVec<u8, LONGEST_NAME>>
+    ensures some { IfSome result (λ name. (quoted name.items ≡ text.now) × (length name.items ≤ longest_name)) }
+    ensures only { (name : List ℕ) → length name ≤ longest_name → quoted name ≡ text.now → IsSomeAnd result (λ found. found.items ≡ name) }
 {
     match text.strip_prefix(b"'".as_slice()) {
         Some(behind) => match behind.strip_suffix(b"'".as_slice()) {
@@ -166,7 +162,7 @@ fn unquoted(text: &[u8]) -> Option<ArrayVec<u8, NAME_BYTES>>
 
 /// The label of a name.
 fn put_name(name: &[u8], names: &mut Names) -> Result<Label, NoMemory>
-    requires short { length name.now ≤ 255 }
+    requires short { length name.now ≤ longest_name }
     requires room { length names.old < 2 ^ 32 }
     ensures label { IfOk result (λ label. HasLabel names.new label × (listed_label_text names.new label ≡ name_text name.now)) }
     ensures short { IfOk result (λ label. IsShortLabel names.new label) }
@@ -184,12 +180,12 @@ fn read_name(text: &[u8], names: &mut Names) -> Result<Option<Label>, NoMemory>
     ensures short { IfOk result (λ found. IfSome found (λ label. IsShortLabel names.new label)) }
     ensures order { IfOk result (λ found. IfSome found (λ label. NumbersNames names.old (label_names label) names.new)) }
     ensures kept { IfOk result (λ found. IfNone found (names.new ≡ names.old)) }
-    ensures none { IfOk result (λ found. IfNone found ((name : List ℕ) → length name ≤ 255 → name_text name ≡ text.now → ⊥)) }
+    ensures none { IfOk result (λ found. IfNone found ((name : List ℕ) → length name ≤ longest_name → name_text name ≡ text.now → ⊥)) }
     ensures names { AddsNames 1 names.old names.new }
     ensures err { OnErr result (names.new ≡ names.old) }
 {
     if is_bare(text) {
-        if text.len() > NAME_BYTES {
+        if text.len() > LONGEST_NAME {
             return Ok(None);
         }
         return Ok(Some(put_name(text, names)?));
@@ -258,7 +254,7 @@ pub fn read_functor(text: &[u8], names: &mut Names) -> Result<Option<Functor>, N
         None => return Ok(None),
     };
     let (label, rest) = text.split_at(at);
-    match read_number(&rest[1..], ARITY) {
+    match read_number(&rest[1..], MOST_LINKS) {
         Some(arity) => match read_label(label, names)? {
             Some(label) => Ok(Some(Functor {
                 label,

@@ -4,9 +4,7 @@ ghost use Rattle.lmn_lexer.specs.Spelling.{IsQuoted};
 ghost use Rattle.lmn_lexer.specs.Faults.{SpelledInRange, BeginsFraction, TooLong, TokenFault, value_behind};
 
 use crate::token::Kind;
-
-/// The most bytes of a name: `longest_name`.
-const NAME_BYTES: usize = 255;
+use lmn_base::limits::LONGEST_NAME;
 
 /// The code of an integer out of range.
 const OUT_OF_RANGE: u8 = 4;
@@ -92,9 +90,9 @@ fn is_long(kind: Kind, bytes: &[u8]) -> bool
     ensures { IsTrue result ↔ TooLong kind bytes.now }
 {
     match kind {
-        Kind::Name | Kind::Link => bytes.len() > NAME_BYTES,
-        Kind::Context | Kind::RuleCtx => bytes.len() > 1 + NAME_BYTES,
-        Kind::Quoted => quoted_bytes(bytes) > NAME_BYTES,
+        Kind::Name | Kind::Link => bytes.len() > LONGEST_NAME,
+        Kind::Context | Kind::RuleCtx => bytes.len() > 1 + LONGEST_NAME,
+        Kind::Quoted => quoted_bytes(bytes) > LONGEST_NAME,
         _ => false,
     }
 }

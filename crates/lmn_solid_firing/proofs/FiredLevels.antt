@@ -36,7 +36,7 @@ use Rattle.lmn_solid_firing.specs.Meant.{wire_pairs}
 use Rattle.lmn_solid_firing.specs.Spelled.{leaf_connectors, level_connectors, levels_connectors, mapped_pair}
 use Rattle.lmn_solid_firing.proofs.MadeLeaves.{connectors_both}
 use Rattle.lmn_solid_firing.proofs.MadeLevels.{kept_leaves, kept_none, kept_one, levels_connectors_both}
-use Rattle.lmn_solid_firing.proofs.Numbers.{of_kept, of_own, raw_link}
+use Rattle.lmn_solid_firing.proofs.NumberLemmas.{of_kept, of_own, raw_link}
 use Rattle.lmn_solid_firing.proofs.Reading.{Spelt, atoms_read, forest_read, kept_fused, kept_spelt, leaves_fused, level_spelt, read_atom, read_region, read_regions, spelt_both}
 
 -- a membrane with what is in it, of a forest

@@ -32,7 +32,7 @@ use Rattle.lmn_solid_firing.specs.Meant.{wire_pairs}
 use Rattle.lmn_solid_firing.specs.Spelled.{Writes, mapped_pair}
 use Rattle.lmn_solid_firing.proofs.FiredLevels.{FiredAt, home_spelt, root_fires, wires_fused, wires_read}
 use Rattle.lmn_solid_firing.proofs.MadeLevels.{LevelAt, body_spelt}
-use Rattle.lmn_solid_firing.proofs.Numbers.{found_again, number_of, raw_link}
+use Rattle.lmn_solid_firing.proofs.NumberLemmas.{found_again, number_of, raw_link}
 use Rattle.lmn_solid_firing.proofs.LinksUnder.{region_none}
 use Rattle.lmn_solid_firing.proofs.Ranges.{ranged_closes, ranged_made}
 use Rattle.lmn_solid_firing.proofs.Reading.{read_region, settled_read}

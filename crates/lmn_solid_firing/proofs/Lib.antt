@@ -5,7 +5,7 @@ pub mod Laying
 pub mod Links
 pub mod MadeLeaves
 pub mod MadeLevels
-pub mod Numbers
+pub mod NumberLemmas
 pub mod Reading
 pub mod Waiting
 pub mod Wholes

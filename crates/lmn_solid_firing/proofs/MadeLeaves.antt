@@ -37,7 +37,7 @@ use Rattle.lmn_solid_firing.specs.declared.writing.Writing.TheVariants.{Rooted a
 use Rattle.lmn_solid_firing.specs.Making.{body_atom, integer_atoms, leaf_next, leaves_atoms, leaves_next, pair_of, pairs_of, typed_atoms, typed_next, written_atoms}
 use Rattle.lmn_solid_firing.specs.Meant.{LeafFits, MeansPart, integer_named, part_named}
 use Rattle.lmn_solid_firing.specs.Spelled.{leaf_connectors, mapped_pair}
-use Rattle.lmn_solid_firing.proofs.Numbers.{of_copy, of_own, raw_link}
+use Rattle.lmn_solid_firing.proofs.NumberLemmas.{of_copy, of_own, raw_link}
 use Rattle.lmn_solid_firing.proofs.LinksUnder.{atoms_under, renamed_among}
 use Rattle.lmn_solid_firing.proofs.Ranges.{RangedLeaves, ranged_atom, ranged_connector, ranged_copy, ranged_none}
 use Rattle.lmn_solid_firing.proofs.Reading.{atoms_read, leaves_fused, read_atom}

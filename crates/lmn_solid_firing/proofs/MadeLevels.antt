@@ -32,7 +32,7 @@ use Rattle.lmn_solid_firing.specs.Making.{LevelMade, after_membranes, context_at
 use Rattle.lmn_solid_firing.specs.Meant.{BodyFits, ContextFits, LeafFits, RuleContextFits}
 use Rattle.lmn_solid_firing.specs.Spelled.{leaf_connectors, level_connectors, levels_connectors, mapped_pair}
 use Rattle.lmn_solid_firing.proofs.MadeLeaves.{connectors_both, leaves_grow, leaves_spelt}
-use Rattle.lmn_solid_firing.proofs.Numbers.{of_copy, of_kept, raw_link}
+use Rattle.lmn_solid_firing.proofs.NumberLemmas.{of_copy, of_kept, raw_link}
 use Rattle.lmn_solid_firing.proofs.LinksUnder.{region_under}
 use Rattle.lmn_solid_firing.proofs.Ranges.{RangedContexts, RangedLevel, RangedMembranes, ranged_closed, ranged_level, ranged_membrane, ranged_no_context, ranged_no_membrane, ranged_open}
 use Rattle.lmn_solid_firing.proofs.Reading.{Spelt, atoms_read, forest_read, kept_fused, kept_spelt, leaves_fused, level_spelt, read_atom, spelt_both}

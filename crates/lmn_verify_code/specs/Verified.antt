@@ -1,5 +1,6 @@
 -- When the code of a rule may be run, whatever rule it is of: each register is set before it is read, each port is one of
 -- its atom, and what the head takes apart the body puts together again.
+use Rattle.lmn_base.specs.Limits.{most_atom_registers, most_copy_registers, most_head_items, most_integer_registers, most_membrane_registers, most_part_registers}
 use Rattle.std.specs.Prelude.{ℕ, ◌≡◌, ◌≤◌, ◌+◌, ◌==◌, ◌&&◌, ◌||◌, not, nat_lt, nat_le, Bool, true, false, if◌then◌else◌, List, [], ◌∷◌, ◌++◌, length, map, drop, slice_index_or, count_by, Option, Some, None, filter_map}
 use Rattle.std.specs.List.{flat_map, list_all, list_any}
 use Rattle.lmn_base.specs.Solids.{connector}
@@ -44,14 +45,13 @@ sets_register (NewMem _ _) = true
 sets_register (CopyGround _ _ _) = true
 sets_register _ = false
 
--- the register is the next of its kind, and there is one: 1,152 hold atoms, 1,153 membranes, 128 typed contexts,
--- 512 integers and 1,024 copies
+-- the register is the next of its kind, and there is one: there are so many as the limits say
 abbrev pub is_next : RegisterCounts → Operand → Bool
-is_next c (Atom a) = (a == c.atoms) && nat_lt a 1152
-is_next c (Membrane m) = (m == c.membranes) && nat_lt m 1153
-is_next c (Part g) = (g == c.parts) && nat_lt g 128
-is_next c (Integer v) = (v == c.integers) && nat_lt v 512
-is_next c (Copy x) = (x == c.copies) && nat_lt x 1024
+is_next c (Atom a) = (a == c.atoms) && nat_lt a most_atom_registers
+is_next c (Membrane m) = (m == c.membranes) && nat_lt m most_membrane_registers
+is_next c (Part g) = (g == c.parts) && nat_lt g most_part_registers
+is_next c (Integer v) = (v == c.integers) && nat_lt v most_integer_registers
+is_next c (Copy x) = (x == c.copies) && nat_lt x most_copy_registers
 is_next c (Port p) = false
 is_next c (Of f) = false
 is_next c (Number n) = false
@@ -479,7 +479,7 @@ is_emptied code m = nothing_left code m.membrane || (rest_moved code m.membrane 
 --   first            atoms and membranes are found before typed contexts are looked at, anything is counted, and before it
 --                    is asked whether a link leaves a rest
 --   integers         GETINT is of an integer
---   few              the head finds at most 128 atoms and membranes
+--   few              the head finds at most as many atoms and membranes as it may have items
 --   ports            each port that is named is one of its atom
 --   head             it is instructions of a head, and COMMIT ends it and stands once
 --   apart            atoms of one functor in one membrane are told apart
@@ -497,7 +497,7 @@ pub record IsVerified (code : Code) (k : ℕ) : Type 0 where
   pub looked_at : all_looked_at code.head ≡ true
   pub first : finds_first code.head ≡ true
   pub integers : list_all (gets_integer (parts_found code.head)) code.head ≡ true
-  pub few : length (atoms_found code.head) + length (membranes_found code.head) ≤ 128
+  pub few : length (atoms_found code.head) + length (membranes_found code.head) ≤ most_head_items
   pub ports : list_all (λ i. list_all (has_port (arities code)) (named_ports i)) (code.head ++ code.body) ≡ true
   pub head : is_head code.head ≡ true
   pub apart : each_two (are_apart code.head) (atoms_found code.head) ≡ true

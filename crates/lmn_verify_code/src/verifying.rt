@@ -1,4 +1,5 @@
 //! Whether the code of a rule is verified, clause by clause.
+ghost use Rattle.lmn_base.specs.Limits.{most_head_items};
 ghost use Rattle.std.specs.Prelude.{◌≡◌, ◌<◌, ◌≤◌, ◌+◌, ◌^◌, ◌++◌, ◌&&◌, ◌==◌, not, map, length, take, drop, nat_lt, slice_index_or, [], ◌∷◌, true, false, if◌then◌else◌, Bool, count_by, filter_map, option_to_list, IfOk, IfSome, IfNone, Decides};
 ghost use Rattle.std.specs.List.{list_all, list_any, flat_map};
 ghost use Rattle.lmn_verify_code.specs.declared.words.Operand.TheVariants as ops;
@@ -12,6 +13,10 @@ ghost use Rattle.lmn_verify_code.specs.Passing.{head_passes, body_passes, ports_
 use crate::found::{FoundAtom, FoundMembrane, FoundPart, RegisterCounts};
 use crate::tables::{add_all_places, arities, atoms_found, is_copy, membranes_found, parts_found};
 use crate::words::{Operand, Operands, operands_of, sets_register};
+use lmn_base::limits::{
+    MOST_ATOM_REGISTERS, MOST_COPY_REGISTERS, MOST_INTEGER_REGISTERS, MOST_MEMBRANE_REGISTERS,
+    MOST_PART_REGISTERS,
+};
 use lmn_base::{CONNECTOR_NAME, Functor, Label, NoMemory, Rows};
 use lmn_guards::TypeKind;
 use lmn_instr_code::{AtomPort, Code, Instr, NewPort};
@@ -22,11 +27,12 @@ fn is_next(counts: RegisterCounts, operand: Operand) -> bool
     ensures { result ≡ is_next counts operand }
 {
     match operand {
-        Operand::Atom(atom) => atom == counts.atoms && atom < 1152,
-        Operand::Membrane(membrane) => membrane == counts.membranes && membrane < 1153,
-        Operand::Part(part) => part == counts.parts && part < 128,
-        Operand::Integer(integer) => integer == counts.integers && integer < 512,
-        Operand::Copy(copy) => copy == counts.copies && copy < 1024,
+        Operand::Atom(atom) => atom == counts.atoms && atom < MOST_ATOM_REGISTERS,
+        Operand::Membrane(membrane) => membrane == counts.membranes
+            && membrane < MOST_MEMBRANE_REGISTERS,
+        Operand::Part(part) => part == counts.parts && part < MOST_PART_REGISTERS,
+        Operand::Integer(integer) => integer == counts.integers && integer < MOST_INTEGER_REGISTERS,
+        Operand::Copy(copy) => copy == counts.copies && copy < MOST_COPY_REGISTERS,
         Operand::Port(_) => false,
         Operand::Functor(_) => false,
         Operand::Number(_) => false,
@@ -1325,8 +1331,8 @@ fn copies_of(body: &[Instr]) -> usize
 
 /// Whether so few atoms and membranes are found.
 fn are_few(atoms: usize, membranes: usize) -> bool
-    ensures yes { result ≡ true → atoms + membranes ≤ 128 }
-    ensures no { result ≡ false → atoms + membranes ≤ 128 → ⊥ }
+    ensures yes { result ≡ true → atoms + membranes ≤ most_head_items }
+    ensures no { result ≡ false → atoms + membranes ≤ most_head_items → ⊥ }
 {
     atoms <= FOUND && membranes <= FOUND - atoms
 }

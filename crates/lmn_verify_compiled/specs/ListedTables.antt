@@ -1,4 +1,5 @@
 -- Verified codes, as those of a table of rules are, have a listing that is read.
+use Rattle.lmn_base.specs.Limits.{longest_name}
 use Rattle.std.specs.Prelude.{ℕ, ◌≤◌, ◌^◌, List, length}
 use Rattle.std.specs.List.{AllByRecursion}
 use Rattle.lmn_instr_code.specs.declared.instr.Code.{Code}
@@ -11,7 +12,7 @@ use Rattle.lmn_verify_compiled.specs.Kept.{IsKeptCode}
 
 -- Each name of a list has at most 255 bytes, and no line feed.
 abbrev pub ArePlainNames : List (List ℕ) → Type 0
-ArePlainNames names = AllByRecursion (λ name. (length name ≤ 255) × HasNo 10 name) names
+ArePlainNames names = AllByRecursion (λ name. (length name ≤ longest_name) × HasNo 10 name) names
 
 -- Verified codes of which a listing keeps all numbers have a listing, with names that stand in a line.
 abbrev pub VerifiedAreListed : Type 0

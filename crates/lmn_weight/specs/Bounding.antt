@@ -1,4 +1,5 @@
 -- The bound of the commits of a plain by weights.
+use Rattle.lmn_base.specs.Limits.{most_body_items}
 use Rattle.std.specs.Prelude.{ℕ, [], List, ◌≡◌, ◌≤◌, ◌+◌, length}
 use Rattle.std.specs.List.{AllByRecursion}
 use Rattle.lmn_adequacy.specs.Accepted.{Accepted, ThroughoutLevel}
@@ -49,4 +50,4 @@ TopsAreSmall = (text : List ℕ) (names : List Name) (plain : Plain) → ReadsAs
 
 -- and of the head and the body of an accepted rule at most 1,024 do
 abbrev pub RulesAreSmall : Type 0
-RulesAreSmall = (table : List RuleTree) (r : RuleTree) → IsAcceptedRule table r → (weighed_items r.head ≤ 1024) × (weighed_items r.body ≤ 1024)
+RulesAreSmall = (table : List RuleTree) (r : RuleTree) → IsAcceptedRule table r → (weighed_items r.head ≤ most_body_items) × (weighed_items r.body ≤ most_body_items)

@@ -1,4 +1,5 @@
 -- What WEIGHTS says, line by line.
+use Rattle.lmn_base.specs.Limits.{most_links}
 use Rattle.std.specs.Prelude.{ℕ, ℤ, ◌≡◌, ◌≢◌, ◌≤◌, ◌⊎◌, ◌+◌, Bool, true, false, List, [], ◌∷◌, ◌++◌, Option, Some, None, IsSome, codes, length}
 use Rattle.std.specs.Fmt.{decimal, signed_decimal}
 use Rattle.std.specs.List.{AllByRecursion, list_any}
@@ -40,7 +41,7 @@ IsNarrowLabel (Int z) = IsIn64Bits z
 
 -- its integer has 64 bits, and its arity is at most 255
 abbrev pub IsNarrow : Functor → Type 0
-IsNarrow f = IsNarrowLabel f.label × (f.arity ≤ 255)
+IsNarrow f = IsNarrowLabel f.label × (f.arity ≤ most_links)
 
 -- A functor that has a text: the list has its name, which has at most 255 bytes, or its integer has 64 bits; and its arity is at
 -- most 255.

@@ -1,4 +1,5 @@
 -- Weights as they are read, the weight of a level of a plain, and when its rules are lowered.
+use Rattle.lmn_base.specs.Limits.{most_body_items}
 use Rattle.std.specs.Prelude.{ℕ, ◌≡◌, ◌+◌, ◌*◌, ◌^◌, ◌<◌, ◌≤◌, ◌==◌, ◌&&◌, ◌||◌, Bool, true, false, IsTrue, List, [], ◌∷◌, Some, length, map, sum, slice_get, nat_lt, nat_le, if◌then◌else◌}
 use Rattle.std.specs.List.{AllByRecursion, list_any, list_all}
 use Rattle.lmn_base.specs.declared.functor.Functor.{Functor}
@@ -150,4 +151,4 @@ pub record AreSmall (w : Weights) : Type 0 where
 -- the top has at most 2^24 items, and the head and the body of each rule at most 1,024
 pub record IsOfSize (p : Plain) : Type 0 where
   pub top : weighed_items p.top ≤ 2 ^ 24
-  pub rules : (k : ℕ) (r : RuleTree) → slice_get p.rules k ≡ Some r → (weighed_items r.head ≤ 1024) × (weighed_items r.body ≤ 1024)
+  pub rules : (k : ℕ) (r : RuleTree) → slice_get p.rules k ≡ Some r → (weighed_items r.head ≤ most_body_items) × (weighed_items r.body ≤ most_body_items)
