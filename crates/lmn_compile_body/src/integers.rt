@@ -100,7 +100,7 @@ fn note_condition(
     }
 }
 
-/// The names that a guard binds, with the registers that its code sets.
+/// The names that a guard binds, with the registers that its code sets. It goes over the guard as its code does, and makes none.
 pub fn integers_of(
     alloc: Global,
     items: &[HeadItem],

@@ -220,8 +220,8 @@ pub fn copy_counted<S: LinkStore>(
 /// Copies a part whose root has no partner in it. The copy's atoms are detached, in the order in which the part's are
 /// found, and its root has no partner. At want of memory some detached atoms may have been made, which `discard` gives back.
 /// Two lists of handles stand while it runs, so the copy of an atom is found by the number in its mark, in one step.
-/// All atoms are made before any is joined, so after want of memory nothing is joined; each link is joined from both
-/// of its ends, and the second time changes nothing.
+/// All atoms are made before any is joined, so after want of memory nothing is joined; each link is joined once, at the
+/// first of its two ports that is met.
 pub fn copy<S: LinkStore>(
     alloc: Global,
     store: &mut S,

@@ -172,8 +172,7 @@ fn capped(items: u64, added: u128, taken: u128) -> u64
 impl<S: LinkStore> Machine<S> {
     /// The number of items that the commit with a code leaves, or 2^64 - 1 where that is more. The registers hold a match
     /// of its head. It takes no memory, and the store is left as it was.
-    /// The size of the part that was counted last is kept, so a part that a body copies several times is walked once
-    /// for each copy.
+    /// The size of the part that was counted last is kept, so a part that is copied several times in turn is walked once.
     pub fn cost(&mut self, code: &CodeView<'_>) -> u64
         requires valid { Valid (S.heap self.old.store) }
         requires unmarked { Unmarked (S.heap self.old.store) }

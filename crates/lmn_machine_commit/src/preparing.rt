@@ -102,8 +102,7 @@ fn rules_added<S: LinkStore>(
 }
 
 /// How many rules the first instructions of code add to a membrane; none where that is too many for any store.
-/// They are counted anew at each instruction that adds rules: no table is wanted, and the time is quadratic in the
-/// number of these instructions of one body.
+/// No table is wanted: they are counted anew only where an instruction adds rules to another membrane than the one before.
 fn rules_needed<S: LinkStore>(
     store: &S,
     code: &Body<'_>,

@@ -20,6 +20,7 @@ use lmn_print_plain::{add_label, add_link, name_of};
 use lmn_store_trait::LinkStore;
 
 /// Adds an item with the terms in it, where own marks tell the items and the marks of printed ports the numbers of links.
+/// It asks for a derivation of what is printed, since by some marks a walk would go round for ever.
 pub fn add_item<S: LinkStore, O: Sink>(
     buffer: &mut LineBuffer,
     out: &mut O,

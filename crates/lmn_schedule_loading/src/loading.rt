@@ -24,7 +24,8 @@ pub enum LoadFault {
     NoMemory,
 }
 
-/// Puts the process of a plain into an empty store.
+/// Puts the process of a plain into an empty store. Meanwhile the ports of the whole plain stand in one row: no port is
+/// joined before all connectors are known.
 fn put<S: LinkStore>(alloc: Global, plain: &Plain, store: &mut S) -> Result<(), NoMemory>
     requires plain { IsWellMade plain.now }
     requires closed { EachTwice (links_of plain.now.top) }

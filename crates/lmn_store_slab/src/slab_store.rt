@@ -28,7 +28,8 @@ const DETACHED: usize = 0;
 const TAKEN: usize = 1;
 
 /// A store that keeps its items in slabs, and in lists by where they are: one list of what is detached, one of
-/// what is taken, and one for each membrane, of atoms and of membranes alike.
+/// what is taken, and one for each membrane, of atoms and of membranes alike. Its handles are the keys of the slabs: a key
+/// may come again once its item is freed.
 #[derive(Drop)]
 pub struct SlabStore {
     atoms: Slab<AtomCell>,
@@ -139,6 +140,7 @@ impl LinkStore for SlabStore {
         self.atom_lists.next(list, a)
     }
 
+    // The whole list of the membrane is gone through: atoms of one functor have no list of their own.
     fn first_with(&self, m: usize, f: Functor) -> Option<usize> {
         let start = self.atom_lists.first(m + 2);
         seek(&self.atoms, &self.atom_lists, m + 2, start, f)
