@@ -11,7 +11,7 @@ use Rattle.lmn_store_heap.proofs.Listing.{alter_at, alter_away}
 use Rattle.lmn_store_slab.specs.declared.node.Node.{Node}
 use Rattle.lmn_store_slab.specs.declared.node.Ends.{Ends}
 use Rattle.lmn_store_slab.specs.Lines.{HeldLists, list_at, lengths, WellLinked, view_of}
-use Rattle.lmn_store_slab.proofs.Growth.{read_more}
+use Rattle.lmn_store_slab.proofs.GrowthLemmas.{read_more}
 use Rattle.lmn_store_slab.proofs.SoundLemmas.{within}
 use Rattle.lmn_store_slab.proofs.TableLemmas.{list_is, list_within, not_there}
 use Rattle.lmn_base.specs.Lists.{In}

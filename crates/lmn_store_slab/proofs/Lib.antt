@@ -2,7 +2,7 @@ pub mod RunLemmas
 pub mod Moves
 pub mod SoundLemmas
 pub mod TableLemmas
-pub mod Growth
+pub mod GrowthLemmas
 pub mod CountLemmas
 pub mod CellLemmas
 pub mod Files

@@ -1,5 +1,5 @@
 use Rattle.std.proofs.Common.{arith}
-use Rattle.lmn_store_slab.proofs.Growth.{list_sound, list_count, list_added}
+use Rattle.lmn_store_slab.proofs.GrowthLemmas.{list_sound, list_count, list_added}
 use Rattle.lmn_store_slab.proofs.table.Table.add_list.Goals as goal
 
 pub invariant_of-self-2 : goal.invariant_of-self-2

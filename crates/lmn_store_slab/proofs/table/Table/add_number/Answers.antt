@@ -1,5 +1,5 @@
 use Rattle.std.proofs.Common.{arith}
-use Rattle.lmn_store_slab.proofs.Growth.{number_sound, number_count, number_added}
+use Rattle.lmn_store_slab.proofs.GrowthLemmas.{number_sound, number_count, number_added}
 use Rattle.lmn_store_slab.proofs.table.Table.add_number.Goals as goal
 
 pub invariant_of-self-2 : goal.invariant_of-self-2
