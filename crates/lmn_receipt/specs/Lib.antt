@@ -1,0 +1,9 @@
+pub use Rattle.lmn_base.specs.Levels
+pub use Rattle.lmn_base.specs.Links
+pub use Rattle.lmn_base.specs.Refusals
+pub use Rattle.lmn_base.specs.WellMade
+pub use Rattle.lmn_congruence.specs.SolidsOfPlains
+pub use Rattle.lmn_congruence.specs.Translation
+pub use Rattle.lmn_receipt_chain.specs.Chains
+pub use Rattle.lmn_receipt_chain.specs.Laws
+pub use Rattle.lmn_solid_next.specs.Searching

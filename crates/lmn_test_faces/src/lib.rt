@@ -1,0 +1,10 @@
+//! Each public name of a crate that only passes on what others have, called through that crate, with its definitions.
+#![tactic(auto)]
+
+mod codes;
+mod processes;
+mod stores;
+
+pub use codes::{coded, first_code, is_last, listed, read_codes, read_name};
+pub use processes::{commits_of, first_solid, has_next};
+pub use stores::{new_slab, new_web, root_of};
