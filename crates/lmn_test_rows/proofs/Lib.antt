@@ -1,3 +1,2 @@
 mod MadeLemmas
 mod PartLemmas
-mod LinkBounds

@@ -1,0 +1,17 @@
+//! Tests alone: levels and rules that are made by hand, words, orders, listings and failing devices: calls that no command line reaches.
+#![tactic(auto)]
+
+#[cfg(test)]
+mod choosers;
+#[cfg(test)]
+mod codes_read;
+#[cfg(test)]
+mod failing;
+#[cfg(test)]
+mod numbered;
+#[cfg(test)]
+mod plans;
+#[cfg(test)]
+mod rule_forms;
+#[cfg(test)]
+mod words;
