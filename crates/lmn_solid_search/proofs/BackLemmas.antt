@@ -39,7 +39,6 @@ use Rattle.lmn_compile_head.proofs.Common.{above_less, outer_less, typed_inside 
 
 -- ---- items nest
 
-
 pub outer_within : (items : List HeadItem) → EachInside 0 items → (k : ℕ) → outermost (membranes_of items) k ≤ k
 outer_within items n k = outer_less (length (membranes_of items)) (membranes_of items) k (λ j b e. let l = membranes_within 0 items n j b e in omega (arith, l))
 
