@@ -1,5 +1,5 @@
 """Finds the matches of a rule in a membrane, each one or the first, by the rules of the language."""
-from looking.patterns import is_integer, value_of
+from leskvund.patterns import is_integer, value_of
 
 
 class Match:

@@ -3,7 +3,7 @@ from collections import Counter
 from fractions import Fraction
 from math import lcm
 
-from looking.patterns import is_integer
+from leskvund.patterns import is_integer
 
 
 class Unweighable(Exception):

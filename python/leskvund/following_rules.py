@@ -1,9 +1,9 @@
 """Follows a run firing by firing, and tells exactly which rule fired: the next process is foretold and must be the printed one."""
-from looking.firing import copied, fire_in
-from looking.matching import first_match
-from looking.patterns import Rules
-from looking.program import Unshowable
-from looking.regions import Numbers, parts_of, region_of_line
+from leskvund.firing import copied, fire_in
+from leskvund.matching import first_match
+from leskvund.patterns import Rules
+from leskvund.program import Unshowable
+from leskvund.regions import Numbers, parts_of, region_of_line
 
 
 def chooser(order, seed):

@@ -1,7 +1,7 @@
 """Follows items and membranes from one process of a trace to the next: which stayed, which went, which came, which moved."""
 from collections import Counter
 
-from looking.keeping import Listed, kept_items, pairs_of_blocks
+from leskvund.keeping import Listed, kept_items, pairs_of_blocks
 
 
 class Followed:

@@ -2,7 +2,7 @@
 import re
 from collections import Counter
 
-from looking.lines import PLAIN_ATOM, end_of_parentheses, plain_item
+from leskvund.lines import PLAIN_ATOM, end_of_parentheses, plain_item
 
 QUOTED_BRACKET_OR_MARK = re.compile(r"'(?:[^']|'')*'|[(\[{)\]}]| :- ?| \| ?|, ")
 TYPED = re.compile(r'\$(\w+)\[L\d+\]')

@@ -17,9 +17,9 @@ have one name and stand in one membrane the first is taken for all: exchanging t
 
 What the program will print is foretold letter by letter, and must be what it prints.
 """
-from looking.firing import fire_in
-from looking.matching import first_match, matches
-from looking.regions import Atom, Numbers, copied, parts_of
+from leskvund.firing import fire_in
+from leskvund.matching import first_match, matches
+from leskvund.regions import Atom, Numbers, copied, parts_of
 
 
 class Lists:

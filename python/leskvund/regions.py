@@ -1,6 +1,6 @@
 """A process whose atoms and membranes can be taken out, made and joined, as a firing does; read from a printed line and written as one."""
-from looking.lines import read_process
-from looking.patterns import is_integer
+from leskvund.lines import read_process
+from leskvund.patterns import is_integer
 
 
 class Atom:

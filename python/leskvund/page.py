@@ -2,8 +2,8 @@
 import json
 import os
 
-from looking.following import Follower
-from looking.rules import Rules
+from leskvund.following import Follower
+from leskvund.rules import Rules
 
 HERE = os.path.dirname(os.path.realpath(__file__))
 

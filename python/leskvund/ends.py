@@ -1,5 +1,5 @@
 """Tells ends of runs apart: two processes get one sign where only the order of items, links' numbers, or membranes differs."""
-from looking.following import firsts_of, partners_of
+from leskvund.following import firsts_of, partners_of
 
 # With each round an item knows what is one link, or one wall, further away.
 MOST_ROUNDS = 30

@@ -2,9 +2,9 @@
 import collections
 import time
 
-from looking.asking import Questions
-from looking.regions import told
-from looking.sameness import Kinds
+from leskvund.asking import Questions
+from leskvund.regions import told
+from leskvund.sameness import Kinds
 
 
 class Reached:

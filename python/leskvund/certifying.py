@@ -3,7 +3,7 @@ import os
 import subprocess
 import tempfile
 
-from looking.program import Unshowable, program
+from leskvund.program import Unshowable, program
 
 MOST_BYTES = 1 << 19
 MOST_AT_ONCE = 2

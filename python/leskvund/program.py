@@ -4,7 +4,7 @@ import os
 import subprocess
 import sys
 
-from looking.lines import Unreadable, read_trace
+from leskvund.lines import Unreadable, read_trace
 
 TOP = os.path.dirname(os.path.dirname(os.path.dirname(os.path.realpath(__file__))))
 

@@ -2,7 +2,7 @@
 import functools
 import re
 
-from looking.lines import end_of_parentheses
+from leskvund.lines import end_of_parentheses
 
 WORD = re.compile(r"'(?:[^']|'')*'|-?\d+|[a-z]\w*|L\d+|[$@]\w+|:-|=:=|=\\=|=<|>=|\\=|\S")
 INTEGER = re.compile(r'-?\d+')

@@ -1,7 +1,7 @@
 """What a firing makes of a process: the lists in the order that the language fixes, so that a printed line can be foretold."""
 import itertools
 
-from looking.regions import Atom, Region, copied, join
+from leskvund.regions import Atom, Region, copied, join
 
 
 # Links of processes that are read have numbers from 0 on; those that are made here, from -1 downwards, no number twice.

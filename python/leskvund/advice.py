@@ -2,10 +2,10 @@
 import os
 import re
 
-from looking.patterns import Rules, is_integer
-from looking.program import TOP
-from looking.regions import all_rules, region_of_line
-from looking.texts import clauses_of, cut, is_rule, tokens_of
+from leskvund.patterns import Rules, is_integer
+from leskvund.program import TOP
+from leskvund.regions import all_rules, region_of_line
+from leskvund.texts import clauses_of, cut, is_rule, tokens_of
 
 PAGE = os.path.join(TOP, 'docs', 'refusals.md')
 CELL = re.compile(r'(?<!\\)\|')
