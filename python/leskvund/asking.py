@@ -17,62 +17,33 @@ have one name and stand in one membrane the first is taken for all: exchanging t
 
 What the program will print is foretold letter by letter, and must be what it prints.
 """
-from leskvund.firing import fire_in
+from leskvund.firing import AS_THEY_STAND, Firing, Orders
+from leskvund.labels import Layout
 from leskvund.matching import first_match, matches
-from leskvund.regions import Atom, Numbers, copied, parts_of
-
-
-class Lists:
-    """The orders of lists in which a process is copied: of some membranes the atoms, or the membranes in them."""
-
-    def __init__(self):
-        self.orders = {}
-
-    def put(self, region, kind, items):
-        """Sets the order of a list, atoms that can be exchanged being in the order that they had."""
-        places = {}
-        for at, item in enumerate(items):
-            if is_exchangeable(item):
-                places.setdefault(item.functor, []).append(at)
-        if any(len(each) > 1 for each in places.values()):
-            number = {item: at for at, item in enumerate(getattr(region, kind))}
-            for each in places.values():
-                for at, item in zip(each, sorted((items[at] for at in each), key=number.__getitem__)):
-                    items[at] = item
-        self.orders[region, kind] = (items, {item: at for at, item in enumerate(items)})
-
-    def place(self, region, kind, item):
-        """The place of an item in its list."""
-        if (region, kind) not in self.orders:
-            items = getattr(region, kind)
-            self.orders[region, kind] = (items, {each: at for at, each in enumerate(items)})
-        return self.orders[region, kind][1][item]
-
-    def items(self, region, kind):
-        return self.orders[region, kind][0] if (region, kind) in self.orders else getattr(region, kind)
 
 
 def key(item):
-    """What an item has in common with those with which it can be exchanged."""
-    return item.functor if is_exchangeable(item) else item
-
-
-def is_exchangeable(item):
-    """Whether an item is an atom without links."""
-    return getattr(item, 'functor', ('', 1))[1] == 0
+    """What an item has in common with those with which it can be exchanged: atoms without links that have one name."""
+    return item.functor if item.is_free else item
 
 
 class Tree:
-    """The matches of a rule in a membrane as a tree: for each beginning of the images of one the images that go on."""
+    """The matches of a rule in a membrane as a tree: for each beginning of the images of one the images that go on.
+
+    `going` has for each beginning all items of the list that could go on in place of the image, as far as items can be exchanged.
+    """
 
     def __init__(self, rule, matches):
         self.rule, self.matches, self.next, self.membranes = rule, matches, {}, {}
         for match in matches:
             images = tuple(match.images)
-            for at in range(len(images)):
-                self.next.setdefault(images[:at], {})[images[at]] = None
-                self.membranes[images[:at]] = match.membranes
-        self.keys = {begun: set(map(key, images)) for begun, images in self.next.items()}
+            for at, image in enumerate(images):
+                begun = images[:at]
+                if begun in self.next:
+                    self.next[begun][image] = None
+                else:
+                    self.next[begun], self.membranes[begun] = {image: None}, match.membranes
+        self.going = {begun: self.exchangeable(begun, images) for begun, images in self.next.items()}
         self.whole = {tuple(match.images): match for match in matches}
         self.uncovered = dict.fromkeys(self.next)
 
@@ -81,153 +52,208 @@ class Tree:
         item = self.rule.head.items[len(begun)]
         return self.membranes[begun][item.level], 'atoms' if item.functor else 'inner'
 
-    def first(self, lists):
-        """The match that the program takes in an order of lists, if these are all."""
+    def exchangeable(self, begun, images):
+        """The items of a list that are as good as some of them."""
+        going = set(images)
+        for image in images:
+            if image.is_free:
+                going.update(self.list_of(begun)[0].with_functor(image.functor))
+        return going
+
+    def first(self, orders):
+        """The match that the program takes in some orders, if these are all."""
         begun = ()
         while begun not in self.whole:
-            region, kind = self.list_of(begun)
-            begun = (*begun, min(self.next[begun], key=lambda item: lists.place(region, kind, item)))
+            images = self.next[begun]
+            image = next(iter(images))
+            if len(images) > 1:
+                items = orders.items(*self.list_of(begun))
+                image = next(it for it in items if it in images)
+            begun = (*begun, image)
         return self.whole[begun]
 
-    def cover(self, lists, match):
+    def cover(self, orders, match):
         """Notes the places of the tree that are covered where the program takes a match."""
         images = tuple(match.images)
-        for at in range(len(images)):
-            if images[:at] in self.uncovered and self.covers(lists, images[:at], images[at]):
+        for at, image in enumerate(images):
+            if images[:at] in self.uncovered and self.covers(orders, images[:at], image):
                 del self.uncovered[images[:at]]
 
-    def covers(self, lists, begun, image):
+    def covers(self, orders, begun, image):
         """Whether all items but those that go on stand before an image."""
         region, kind = self.list_of(begun)
-        place = lists.place(region, kind, image)
-        goes_on = self.next[begun]
-        return all(it in goes_on or it in begun for it in lists.items(region, kind)[place + 1:] if not is_exchangeable(it) or self.is_next(region, begun, it))
+        items = orders.items(region, kind)
+        behind = set(items[items.index(image) + 1:])
+        behind -= self.next[begun].keys()
+        behind.difference_update(begun)
+        return not behind or all(it.is_free and not self.is_next(region, begun, it) for it in behind)
 
     def is_next(self, region, begun, item):
         """Whether an atom without links is the first of its kind that is left."""
         return next((it for it in region.with_functor(item.functor) if it not in begun), None) is item
 
-    def best_lists(self, match):
-        """Lists in which a match is the first of all, by which most places are covered that aren't yet."""
+    def best_orders(self, match):
+        """Orders in which a match is the first of all, by which most places are covered that aren't yet."""
         images = tuple(match.images)
         wanted = [at for at in range(len(images)) if images[:at] in self.uncovered]
-        best = (-1, self.lists_with_first(match))
+        best = (-1, None)
         for in_turn in (False, True):
-            lists = self.lists_for(match, in_turn)
-            if self.first(lists) is match:
-                best = max(best, (sum(self.covers(lists, images[:at], images[at]) for at in wanted), lists), key=lambda pair: pair[0])
+            orders = self.orders_for(match, in_turn)
+            if self.first(orders) is match:
+                best = max(best, (sum(self.covers(orders, images[:at], images[at]) for at in wanted), orders), key=lambda pair: pair[0])
             if best[0] == len(wanted):
                 break
-        return best[1]
+        return best[1] or self.orders_with_first(match)
 
-    def lists_for(self, match, in_turn):
-        """Lists in which a match is the first of all, and all others that can do so stand before its items.
+    def orders_for(self, match, in_turn):
+        """Orders in which a match is the first of all, and all others that can do so stand before its items.
 
         An item of the match stands as far in front as it can, or `in_turn` behind those of earlier items of the head.
         """
-        lists = Lists()
+        orders = Orders()
         for (region, kind), places in self.places_of(match).items():
-            order, going_on = [], []
+            own, going = [], []
             for place in places:
-                at = len(order) if in_turn else self.place_for(match.images[place], order, going_on)
-                order.insert(at, match.images[place])
-                going_on.insert(at, self.keys[tuple(match.images[:place])])
-            parts = [[] for _ in range(len(order) + 1)]
-            own = set(order)
-            for item in getattr(region, kind):
-                if item not in own:
-                    parts[self.place_for(item, order, going_on)].append(item)
-            items = parts[0]
-            for item, part in zip(order, parts[1:]):
-                items = [*items, item, *part]
-            lists.put(region, kind, items)
-        return lists
+                image = match.images[place]
+                at = len(own) if in_turn else self.place_for(image, going)
+                own.insert(at, image)
+                going.insert(at, self.going[tuple(match.images[:place])])
+            orders.put(region, kind, self.arranged(region, kind, own, going))
+        return orders
 
-    def place_for(self, item, order, going_on):
+    def arranged(self, region, kind, own, going):
+        """A list in which each other item stands as far in front as it can: behind all in whose place it would go on."""
+        mine = set(own)
+        rest = [it for it in getattr(region, kind) if it not in mine]
+        parts = []
+        for image, goes_on in zip(reversed(own), reversed(going)):
+            if mine >= goes_on:
+                parts += [(), (image,)]
+            else:
+                parts += [[it for it in rest if it in goes_on], (image,)]
+                rest = [it for it in rest if it not in goes_on]
+        items = rest
+        for part in reversed(parts):
+            items += part
+        return in_line(region, items)
+
+    def place_for(self, item, going):
         """The first place for an item behind all images in whose place it would go on."""
-        return max((at + 1 for at in range(len(order)) if key(item) in going_on[at]), default=0)
+        return max((at + 1 for at, goes_on in enumerate(going) if item in goes_on), default=0)
 
     def places_of(self, match):
         """For each list in which images of a match stand, their places in the match."""
         places = {}
-        for at in range(len(match.images)):
-            places.setdefault(self.list_of(tuple(match.images[:at])), []).append(at)
+        for at, item in enumerate(self.rule.head.items):
+            places.setdefault((match.membranes[item.level], 'atoms' if item.functor else 'inner'), []).append(at)
         return places
 
-    def lists_with_first(self, match):
-        """Lists that begin with the items of a match."""
-        lists = Lists()
+    def orders_with_first(self, match):
+        """Orders that begin with the items of a match."""
+        orders = Orders()
         for (region, kind), places in self.places_of(match).items():
             own = [match.images[at] for at in places]
-            lists.put(region, kind, own + [it for it in getattr(region, kind) if it not in own])
-        return lists
+            orders.put(region, kind, in_line(region, own + [it for it in getattr(region, kind) if it not in own]))
+        return orders
 
-    def lists_that_cover(self, begun):
-        """Lists in which a beginning comes first, and then what doesn't go on from it."""
-        lists = Lists()
+    def orders_that_cover(self, begun):
+        """Orders in which a beginning comes first, and then what doesn't go on from it."""
+        orders = Orders()
         firsts, last = {}, self.list_of(begun)
         for at in range(len(begun)):
             firsts.setdefault(self.list_of(begun[:at]), []).append(begun[at])
         for region, kind in {**firsts, last: None}:
-            own, goes_on = firsts.get((region, kind), []), self.keys[begun] if (region, kind) == last else ()
+            own, goes_on = firsts.get((region, kind), []), self.going[begun] if (region, kind) == last else ()
             rest = [it for it in getattr(region, kind) if it not in own]
-            lists.put(region, kind, own + [it for it in rest if key(it) not in goes_on] + [it for it in rest if key(it) in goes_on])
-        return lists
+            orders.put(region, kind, in_line(region, own + [it for it in rest if it not in goes_on] + [it for it in rest if it in goes_on]))
+        return orders
 
     def orders(self):
-        """Lists, and the match that the program takes in them, until each match is taken and each place covered."""
+        """Orders, and the match that the program takes in them, until each match is taken and each place covered."""
         for match in self.matches:
-            lists = self.best_lists(match)
-            self.cover(lists, match)
-            yield lists, match
+            orders = self.best_orders(match)
+            self.cover(orders, match)
+            yield orders, match
         while self.uncovered:
             begun = next(iter(self.uncovered))
-            lists = self.lists_that_cover(begun)
-            match = self.first(lists)
-            self.cover(lists, match)
+            orders = self.orders_that_cover(begun)
+            match = self.first(orders)
+            self.cover(orders, match)
             if begun in self.uncovered:
                 raise AssertionError('a place in the tree of matches is not covered')
-            yield lists, match
+            yield orders, match
+
+
+def in_line(region, items):
+    """A list with the atoms that can be exchanged in the order that they had."""
+    free = [it for it in items if it.is_free]
+    if len(free) > 1 and len({it.functor for it in free}) < len(free):
+        left = {functor: iter(region.with_functor(functor)) for functor in {it.functor for it in free}}
+        return [next(left[it.functor]) if it.is_free else it for it in items]
+    return items
 
 
 class Question:
-    """A copy of a process with its rules asked about: the text of it, and what the program is to print of it.
+    """A copy of a process with its rules asked about.
 
-    `rule` and `match` tell the firing, None where it is foretold that there is none. `root` is what becomes of the process;
-    `is_step` says whether this is by a rule of its own.
+    `armed` are the rules that can fire in it, by their membranes; `firing` is what is foretold, None where there is none; `is_step`
+    says whether it is one by a rule of the process.
     """
+    __slots__ = ('root', 'family', 'armed', 'orders', 'firing', 'is_step', 'special')
 
-    def __init__(self, root, family, armed, lists=None, firing=None, is_step=False):
-        self.new = copied(root)
-        self.root, self.family, self.firing, self.is_step = self.new[root], family, firing, is_step
-        for (region, kind), (items, _) in (lists.orders if lists else {}).items():
-            setattr(self.new[region], kind, [self.new[it] for it in items])
-        for region, rules in armed.items():
-            self.arm(self.new[region], rules)
+    def __init__(self, root, family, armed, orders=AS_THEY_STAND, firing=None, is_step=False):
+        self.root, self.family, self.armed, self.orders, self.firing, self.is_step = root, family, armed, orders, firing, is_step
+        self.special = {each for region in (*armed, *orders.atoms, *orders.inner) for each in (region, *region.above())} if root.inner else {root}
 
-    def arm(self, region, rules):
-        """Puts the atom that rules wait for into a membrane, with the rules that wait for it; in those below, rules wait in vain."""
-        for inner in region.below():
-            inner.shown = [rule.quiet for rule in inner.rules]
-        region.shown = [rule.armed for rule in rules]
-        region.atoms = [Atom((self.family.go, 0), []), *region.atoms]
+    def asked(self):
+        """The copy as a form and the links in it, as it stands in the text."""
+        links = []
+        return self.form_of(self.root, False, links), links
 
-    def written(self, numbers):
-        return '{' + ', '.join(parts_of(self.root, numbers, True)) + '}'
+    def wanted(self):
+        """The copy as a form and the links in it, as it is to be printed."""
+        if self.firing is None:
+            return self.asked()
+        links = []
+        return self.form_of_next(self.firing.top, False, links), links
 
-    def texts(self, before, after):
-        """The copy as it stands in the text, and as it is to be printed, links numbered from two numbers on, and the next two."""
-        before, after = Numbers(before), Numbers(after)
-        asked = self.written(before)
-        if self.firing:
-            self.fire(*self.firing)
-        return asked, self.written(after), before.next_base(), after.next_base()
+    def form_of(self, region, is_below, links):
+        """The form of a membrane of the copy; `is_below` where a membrane round it is asked about, so that its rules count."""
+        if region not in self.special:
+            form, more = region.layout.form(is_below)
+            links += more
+            return form
+        armed = self.armed.get(region)
+        atoms = self.orders.atoms.get(region) or region.atoms
+        parts = [it.form for it in atoms] if armed is None else [self.family.go, *[it.form for it in atoms]]
+        for atom in atoms:
+            links += atom.links
+        for inner in self.orders.inner.get(region) or region.inner:
+            parts.append(self.form_of(inner, is_below or armed is not None, links))
+        parts += self.rules_of(armed, region.rules if is_below else ())
+        return '{' + ', '.join(parts) + '}'
 
-    def fire(self, rule, match):
-        """Foretells the firing."""
-        home = self.new[match.membranes[0]]
-        home.atoms = home.atoms[1:]
-        fire_in(self.new, rule, match)
+    def rules_of(self, armed, others):
+        """The texts of the rules of a membrane."""
+        return [rule.quiet_form for rule in others] if armed is None else [rule.armed_form for rule in armed]
+
+    def form_of_next(self, made, is_below, links):
+        """The form of a membrane after the firing."""
+        if isinstance(made, Layout):
+            form, more = made.form(is_below)
+            links += more
+            return form
+        armed = self.armed.get(made.region)
+        atoms, inner = self.firing.lists(made, self.orders)
+        parts = [it.form for it in atoms]
+        for atom in atoms:
+            links += atom.links
+        for each in inner:
+            parts.append(self.form_of_next(each, is_below or armed is not None, links))
+        parts += self.rules_of(armed, made.rules if is_below else ())
+        if armed is not None:
+            parts += [rule.quiet_form for rule in made.added]
+        return '{' + ', '.join(parts) + '}'
 
 
 class Questions:
@@ -249,12 +275,16 @@ class Questions:
         self.hits += [rule for rule, match in others.items() if match]
         without = [rule for rule, each in (*found.items(), *others.items()) if not each]
         for rule, each in found.items():
-            for lists, match in Tree(rule, each).orders() if each else ():
-                yield Question(self.root, self.family, {region: [*without, rule]}, lists, (rule, match), True)
+            firings = {}
+            for orders, match in Tree(rule, each).orders() if each else ():
+                is_step = match not in firings
+                if is_step:
+                    firings[match] = Firing(self.root, rule, match)
+                yield Question(self.root, self.family, {region: [*without, rule]}, orders, firings[match], is_step)
                 without = []
         for rule, match in others.items():
             if match:
-                yield Question(self.root, self.family, {region: [*without, rule]}, None, (rule, match))
+                yield Question(self.root, self.family, {region: [*without, rule]}, AS_THEY_STAND, Firing(self.root, rule, match))
                 without = []
         if without:
             self.silent.setdefault(region.depth(), {})[region] = without

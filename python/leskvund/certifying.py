@@ -7,6 +7,7 @@ from leskvund.program import Unshowable, program
 
 MOST_BYTES = 1 << 19
 MOST_AT_ONCE = 2
+NAMES = []
 
 
 class Batch:
@@ -16,11 +17,22 @@ class Batch:
         self.asked, self.wanted, self.bytes, self.before, self.after, self.firings = [], [], 0, 0, 0, 0
 
     def add(self, question):
-        asked, wanted, self.before, self.after = question.texts(self.before, self.after)
+        asked, self.before = numbered(*question.asked(), self.before)
+        wanted, self.after = numbered(*question.wanted(), self.after)
         self.asked.append(asked)
         self.wanted.append(wanted)
         self.bytes += len(asked) + 3
         self.firings += question.firing is not None
+
+
+def numbered(form, links, base):
+    """A form with its links numbered from a number on as they come, and the next number."""
+    first = dict.fromkeys(links)
+    end = base + len(first)
+    while len(NAMES) < end:
+        NAMES.append(f'L{len(NAMES)}')
+    names = dict(zip(first, NAMES[base:end]))
+    return form % tuple([names[link] for link in links]), end
 
 
 class Certifier:

@@ -1,9 +1,9 @@
 """Follows a run firing by firing, and tells exactly which rule fired: the next process is foretold and must be the printed one."""
-from leskvund.firing import copied, fire_in
+from leskvund.firing import Firing
 from leskvund.matching import first_match
 from leskvund.patterns import Rules
 from leskvund.program import Unshowable
-from leskvund.regions import Numbers, parts_of, region_of_line
+from leskvund.regions import joined, line_of, region_of_line
 
 
 def chooser(order, seed):
@@ -27,14 +27,6 @@ def chosen(root, firing, choose):
     return None
 
 
-def line_of(root):
-    """The plain line of a process."""
-    for region in root.below():
-        region.shown = [rule.text for rule in region.rules]
-    parts = parts_of(root, Numbers(), True)
-    return ' '.join(part + '.' for part in parts)
-
-
 def fired_rules(lines, choose):
     """Of the plain lines of a trace each firing's rule, whether it stands at the root, and the line. It ends with the end line."""
     rules = Rules()
@@ -47,9 +39,7 @@ def fired_rules(lines, choose):
         if found is None:
             raise Unshowable(f'firing {firing + 1}: no rule is found that can fire')
         rule, region, match = found
-        new = copied(root)
-        fire_in(new, rule, match)
-        if line_of(new[root]) != line.rstrip('\n'):
-            raise Unshowable(f'firing {firing + 1}: it is foretold otherwise\n{line_of(new[root])}\n{line}')
+        root = joined(Firing(root, rule, match).layout())
+        if line_of(root) != line.rstrip('\n'):
+            raise Unshowable(f'firing {firing + 1}: it is foretold otherwise\n{line_of(root)}\n{line}')
         yield rule, region.parent is None
-        root = new[root]

@@ -161,12 +161,17 @@ def is_closed(atoms, membranes):
     return all(end[0] in rest for atom in rest for end in atom.ends)
 
 
+def can_match(rule, home):
+    """Whether a membrane has an atom for each functor that a head asks for in it."""
+    return all(map(home.with_functor, rule.needed))
+
+
 def matches(rule, home):
     """The matches of a rule in a membrane."""
-    return Search(rule, home).found
+    return Search(rule, home).found if can_match(rule, home) else []
 
 
 def first_match(rule, home):
     """The match that the program takes, or None."""
-    found = Search(rule, home, True).found
+    found = Search(rule, home, True).found if can_match(rule, home) else []
     return found[0] if found else None

@@ -2,6 +2,7 @@
 import functools
 import re
 
+from leskvund.labels import Labels
 from leskvund.lines import end_of_parentheses
 
 WORD = re.compile(r"'(?:[^']|'')*'|-?\d+|[a-z]\w*|L\d+|[$@]\w+|:-|=:=|=\\=|=<|>=|\\=|\S")
@@ -273,10 +274,18 @@ class Head:
 
 
 class Rule:
-    """A printed rule. `quiet` is its text where it waits for an atom that isn't there, `armed` where it waits for the one that is."""
+    """A printed rule, with a number of its own.
 
-    def __init__(self, text, quiet, armed, family):
-        self.text, self.quiet, self.armed, self.family = text, quiet, armed, family
+    `quiet_form` is its text in parentheses where it waits for an atom that isn't there, `armed_form` where it waits for the one
+    that is, each as a form without links. `entries` are the links of its head, each with an atom and a port at which it stands;
+    `reused` the new links of its body that take over the number of a link that goes, so that firings which don't meddle with
+    each other make one process in any order.
+    """
+
+    def __init__(self, text, number, family):
+        self.text, self.number, self.family = text, number, family
+        waiting = family.waiting(text)
+        self.quiet_form, self.armed_form = (f'({word}, {waiting})'.replace('%', '%%') for word in (family.stop, family.go))
         words = Words(text)
         top = read_level(words, (':-',))
         words.next()
@@ -284,6 +293,27 @@ class Rule:
         self.guard = Guard(words, {name for name, *_ in self.head.typed}) if has_guard(text) else Guard(Words(''), set())
         self.body = read_level(words, (None,))
         self.closed = {name for level in self.head.levels for name, is_closed in level.rests if is_closed}
+        self.needed = {item.functor for item in self.head.items if item.functor and not item.level}
+        self.entries = [(link, *ends[0]) for link, ends in self.head.ports.items()]
+        self.reused = self.links_taken_over()
+        self.holders = {name: (atom, port) for name, _, atom, port in self.head.holders}
+        self.connectors = [leaf[1:] for level in self.body.below() for leaf in level.leaves if leaf[0] == '=']
+
+    def links_taken_over(self):
+        """Pairs of a new link of the body and a link of the head that goes."""
+        made = [link for level in self.body.below() for leaf in level.leaves for link in links_of_leaf(leaf)]
+        going = [link for link in self.head.ports if self.head.counts[link] == 2 and link not in made]
+        return list(zip(dict.fromkeys(link for link in made if link not in self.head.ports), going))
+
+    @functools.cached_property
+    def made_rules(self):
+        """For each level of the body the rules that stand in it as written, by the level."""
+        return {level: [self.family.rule(text) for text in level.rules] for level in self.body.below()}
+
+
+def links_of_leaf(leaf):
+    """The links of a leaf of a level."""
+    return leaf[2] if leaf[0] == 'atom' else leaf[2:] if leaf[0] == 'typed' else leaf[1:]
 
 
 def has_guard(text):
@@ -298,18 +328,18 @@ def has_guard(text):
 
 
 class Rules:
-    """Rules by their texts, and the two atoms that make rules wait, whose names stand in none of them."""
+    """Rules by their texts, the labels of their processes, and the two atoms that make rules wait, whose names stand in none of them."""
 
     def __init__(self, text=''):
-        self.go, self.stop = "'.go.'", "'.stop.'"
+        self.go, self.stop, self.labels, self.rules = "'.go.'", "'.stop.'", Labels(), {}
         while self.go in text or self.stop in text:
             self.go, self.stop = self.go[:-1] + ".'", self.stop[:-1] + ".'"
-        self.rule = functools.lru_cache(maxsize=None)(self.rule)
 
     def rule(self, text):
         """The rule with a text."""
-        waiting = self.waiting(text)
-        return Rule(text, f"{self.stop}, {waiting}", f"{self.go}, {waiting}", self)
+        if text not in self.rules:
+            self.rules[text] = Rule(text, len(self.rules), self)
+        return self.rules[text]
 
     def waiting(self, text):
         """A rule's text in which the rules that it makes wait for what isn't there."""

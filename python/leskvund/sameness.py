@@ -17,14 +17,19 @@ from collections import Counter
 
 
 class Pieces:
-    """The pieces of a process: for each membrane those that stand in it, as lists of atoms and membranes."""
+    """The pieces of a membrane through whose wall no link goes: for it, and for those in it through whose walls links go.
+
+    Membranes that are closed are pieces by themselves, and aren't looked into.
+    """
 
     def __init__(self, root):
-        self.chief, self.regions = {}, list(root.below())
+        self.chief, self.regions = {}, [root]
         depths = {root: 0}
         for region in self.regions:
             for inner in region.inner:
                 depths[inner] = depths[region] + 1
+                if inner.is_open:
+                    self.regions.append(inner)
         for region in self.regions:
             for atom in region.atoms:
                 for end in atom.ends:
@@ -74,27 +79,26 @@ def is_membrane(item):
     return not hasattr(item, 'functor')
 
 
-def walk_text(first):
-    """What a piece of atoms is, written down from one of them by following ports."""
+def walk(first):
+    """What a piece of atoms is, written down from one of them by following ports; and its atoms as they are met."""
     numbers, order, text = {first: 0}, [first], []
     for atom in order:
-        ends = []
+        text.append(atom.form)
         for other, port in atom.ends:
-            if other not in numbers:
-                numbers[other] = len(order)
+            number = numbers.get(other)
+            if number is None:
+                number = numbers[other] = len(order)
                 order.append(other)
-            ends.append((numbers[other], port))
-        text.append((atom.functor, tuple(ends)))
-    return tuple(text)
+            text += number, port
+    return tuple(text), order
 
 
-def text_of_atoms(piece):
-    """The least text of a piece of atoms."""
-    if len(piece) == 1:
-        return walk_text(piece[0])
-    counts = Counter(atom.functor for atom in piece)
-    rarest = min(counts, key=lambda functor: (counts[functor], functor))
-    return min(walk_text(atom) for atom in piece if atom.functor == rarest)
+def rarest_first(atoms):
+    """The atoms of each functor, the rarest functor first."""
+    by_form = {}
+    for atom in atoms:
+        by_form.setdefault(atom.form, []).append(atom)
+    return sorted(by_form.items(), key=lambda pair: (len(pair[1]), pair[0]))
 
 
 class Graph:
@@ -186,12 +190,68 @@ class Graph:
 class Kinds:
     """Gives processes numbers: two have one number exactly where they are one."""
 
-    def __init__(self):
-        self.numbers, self.alike, self.compared = {}, {}, 0
+    def __init__(self, labels):
+        self.labels, self.numbers, self.alike, self.closed, self.compared = labels, {}, {}, {}, 0
 
     def number(self, text):
         """The number of a text."""
         return self.numbers.setdefault(text, len(self.numbers))
+
+    def known(self, written, kind):
+        """The kind of a piece that was met before, written down in just this way, or the one that is made out."""
+        if written not in self.numbers:
+            self.numbers[written] = kind()
+        return self.numbers[written]
+
+    def process(self, root):
+        """The number of a process, or of a membrane through whose wall no link goes."""
+        layout = root.layout.number(self.labels)
+        if layout not in self.closed:
+            kinds = self.kinds_of_pieces(root) if any(inner.is_open for inner in root.inner) else self.kinds_in(root)
+            self.closed[layout] = self.kind_of_membrane(root, kinds)
+        return self.closed[layout]
+
+    def kind_of_membrane(self, region, kinds):
+        """The kind of a membrane by itself: its rules and the pieces in it."""
+        return self.number(('membrane', tuple(sorted([rule.number for rule in region.rules])), tuple(sorted(kinds))))
+
+    def kinds_in(self, region):
+        """The kinds of what is in a membrane in which no link goes through a wall."""
+        kinds, seen = [self.process(inner) for inner in region.inner], set()
+        for _, atoms in rarest_first(region.atoms):
+            for atom in atoms:
+                if atom not in seen:
+                    text, piece = walk(atom)
+                    seen.update(piece)
+                    kinds.append(self.kind_of_atoms(text, piece))
+        return kinds
+
+    def kind_of_atoms(self, text, piece):
+        """The kind of a piece of atoms that was written down from one of them: the least text from one of those of its rarest functor."""
+        return self.known(('walk', text), lambda: self.number(('atoms', min(walk(atom)[0] for atom in rarest_first(piece)[0][1]))))
+
+    def kinds_of_pieces(self, root):
+        """The kinds of what is in a membrane where links go through walls in it."""
+        pieces, inside = Pieces(root), {}
+
+        def kind_of(item):
+            """The kind of an item by itself."""
+            if not is_membrane(item):
+                return self.number(('functor', item.functor))
+            return inside[item] if item.is_open else self.process(item)
+
+        for region in reversed(pieces.regions):
+            kinds = [self.kind_of_piece(piece, kind_of) for piece in pieces.standing[region]]
+            inside[region] = self.kind_of_membrane(region, kinds)
+        return kinds
+
+    def kind_of_piece(self, piece, kind_of):
+        if not any(map(is_membrane, piece)):
+            return self.kind_of_atoms(walk(piece[0])[0], piece)
+        if len(piece) == 1:
+            return kind_of(piece[0])
+        graph = Graph(piece, kind_of)
+        return self.known(('as it stands', tuple(graph.kinds), tuple(graph.parents), tuple(graph.ends)), lambda: self.kind_of_graph(graph))
 
     def kind_of_graph(self, graph):
         """The number of a piece with membranes."""
@@ -206,31 +266,3 @@ class Kinds:
         number = self.number(('graph', text))
         self.alike[way[0]].append((text, way, number))
         return number
-
-    def process(self, root):
-        """The number of a process."""
-        pieces = Pieces(root)
-        inside = {}
-
-        def kind_of(item):
-            """The kind of an item by itself: of a membrane its rules and the pieces in it."""
-            return inside[item] if is_membrane(item) else self.number(('functor', item.functor))
-
-        for region in reversed(pieces.regions):
-            kinds = sorted(self.kind_of_piece(piece, kind_of) for piece in pieces.standing[region])
-            inside[region] = self.number(('membrane', tuple(sorted(rule.text for rule in region.rules)), tuple(kinds)))
-        return inside[root]
-
-    def kind_of_piece(self, piece, kind_of):
-        if not any(is_membrane(item) for item in piece):
-            return self.known(('walk', walk_text(piece[0])), lambda: self.number(('atoms', text_of_atoms(piece))))
-        if len(piece) == 1:
-            return kind_of(piece[0])
-        graph = Graph(piece, kind_of)
-        return self.known(('as it stands', tuple(graph.kinds), tuple(graph.parents), tuple(graph.ends)), lambda: self.kind_of_graph(graph))
-
-    def known(self, written, kind):
-        """The kind of a piece that was met before, written down in just this way, or the one that is made out."""
-        if written not in self.numbers:
-            self.numbers[written] = kind()
-        return self.numbers[written]

@@ -3,8 +3,12 @@ import collections
 import time
 
 from leskvund.asking import Questions
-from leskvund.regions import told
+from leskvund.regions import joined
 from leskvund.sameness import Kinds
+from leskvund.telling import told
+
+# Processes that wait are kept joined, up to so many.
+MOST_JOINED = 2000
 
 
 class Reached:
@@ -15,11 +19,11 @@ class Reached:
     """
 
     def __init__(self):
-        self.told, self.ways, self.firings, self.hits, self.depths, self.asked = [], [], [], [], [], 0
+        self.layouts, self.ways, self.firings, self.hits, self.depths, self.asked = [], [], [], [], [], 0
         self.seconds, self.is_stopped = 0, False
 
-    def add(self, root, way):
-        self.told.append(told(root))
+    def add(self, layout, way):
+        self.layouts.append(layout)
         self.ways.append(way)
         self.firings.append([])
         self.hits.append([])
@@ -28,7 +32,11 @@ class Reached:
     @property
     def is_whole(self):
         """Whether all that can be reached was."""
-        return self.asked == len(self.told)
+        return self.asked == len(self.layouts)
+
+    def told(self, number):
+        """A process as a person reads it."""
+        return told(joined(self.layouts[number]))
 
     def ends(self):
         """The processes that no rule changes."""
@@ -44,28 +52,50 @@ class Reached:
         return back[::-1]
 
 
+class Met:
+    """The processes that were met, by numbers; those that still are to be asked about wait, the nearest first."""
+
+    def __init__(self, family):
+        self.family, self.kinds, self.layouts, self.numbers, self.waiting = family, Kinds(family.labels), {}, {}, collections.deque()
+
+    def number(self, reached, layout_number, layout, way):
+        """The number of a process whose layout is made where it has to be looked at."""
+        found = self.layouts.get(layout_number)
+        if found is None:
+            new = layout()
+            root = joined(new)
+            kind = self.kinds.process(root)
+            found = self.numbers.get(kind)
+            if found is None:
+                found = self.numbers[kind] = len(reached.layouts)
+                reached.add(new, way)
+                self.waiting.append(root if len(self.waiting) < MOST_JOINED else None)
+            self.layouts[layout_number] = found
+        return found
+
+    def next(self, reached):
+        """The next process to be asked about."""
+        return self.waiting.popleft() or joined(reached.layouts[reached.asked])
+
+
 def search(root, family, others, most, certifier, watch):
     """Reaches at most so many processes. `watch` is told how far it is."""
-    reached, kinds, start = Reached(), Kinds(), time.monotonic()
-    numbers, waiting = {kinds.process(root): 0}, collections.deque([root])
-    reached.add(root, None)
+    reached, met, start = Reached(), Met(family), time.monotonic()
+    met.number(reached, root.layout.number(family.labels), lambda: root.layout, None)
     try:
-        while waiting and len(reached.told) <= most:
+        while met.waiting and len(reached.layouts) <= most:
             here = reached.asked
-            asked = Questions(waiting.popleft(), family, others)
+            asked = Questions(met.next(reached), family, others)
+            firings = {}
             for question in asked:
                 certifier.ask(question)
                 if question.is_step:
-                    rule, kind = question.firing[0], kinds.process(question.root)
-                    if kind not in numbers:
-                        numbers[kind] = len(reached.told)
-                        reached.add(question.root, (here, rule))
-                        waiting.append(question.root)
-                    if (rule, numbers[kind]) not in reached.firings[here]:
-                        reached.firings[here].append((rule, numbers[kind]))
+                    firing = question.firing
+                    firings[firing.rule, met.number(reached, firing.number(), firing.layout, (here, firing.rule))] = None
+            reached.firings[here] = list(firings)
             reached.hits[here] = asked.hits
             reached.asked += 1
-            watch(reached, len(waiting), time.monotonic() - start)
+            watch(reached, len(met.waiting), time.monotonic() - start)
     except KeyboardInterrupt:
         reached.is_stopped = True
     certifier.finish()
