@@ -30,11 +30,13 @@ def key(item):
 class Tree:
     """The matches of a rule in a membrane as a tree: for each beginning of the images of one the images that go on.
 
-    `going` has for each beginning all items of the list that could go on in place of the image, as far as items can be exchanged.
+    `lists` has for each beginning the membrane and the kind of the list in which the next image stands, `going` the items of this
+    list that go on, and those that can be exchanged with one.
     """
 
     def __init__(self, rule, matches):
-        self.rule, self.matches, self.next, self.membranes = rule, matches, {}, {}
+        self.matches, self.next, self.lists = matches, {}, {}
+        self.places = [(item.level, 'atoms' if item.functor else 'inner') for item in rule.head.items]
         for match in matches:
             images = tuple(match.images)
             for at, image in enumerate(images):
@@ -42,22 +44,18 @@ class Tree:
                 if begun in self.next:
                     self.next[begun][image] = None
                 else:
-                    self.next[begun], self.membranes[begun] = {image: None}, match.membranes
+                    level, kind = self.places[at]
+                    self.next[begun], self.lists[begun] = {image: None}, (match.membranes[level], kind)
         self.going = {begun: self.exchangeable(begun, images) for begun, images in self.next.items()}
         self.whole = {tuple(match.images): match for match in matches}
         self.uncovered = dict.fromkeys(self.next)
-
-    def list_of(self, begun):
-        """The membrane and the kind of the list in which the next image after a beginning stands."""
-        item = self.rule.head.items[len(begun)]
-        return self.membranes[begun][item.level], 'atoms' if item.functor else 'inner'
 
     def exchangeable(self, begun, images):
         """The items of a list that are as good as some of them."""
         going = set(images)
         for image in images:
             if image.is_free:
-                going.update(self.list_of(begun)[0].with_functor(image.functor))
+                going.update(self.lists[begun][0].with_functor(image.functor))
         return going
 
     def first(self, orders):
@@ -67,57 +65,60 @@ class Tree:
             images = self.next[begun]
             image = next(iter(images))
             if len(images) > 1:
-                items = orders.items(*self.list_of(begun))
+                items = orders.items(*self.lists[begun])
                 image = next(it for it in items if it in images)
             begun = (*begun, image)
         return self.whole[begun]
 
-    def cover(self, orders, match):
-        """Notes the places of the tree that are covered where the program takes a match."""
+    def covered(self, orders, match):
+        """The places of the tree that aren't covered yet and are where the program takes a match in some orders."""
         images = tuple(match.images)
-        for at, image in enumerate(images):
-            if images[:at] in self.uncovered and self.covers(orders, images[:at], image):
-                del self.uncovered[images[:at]]
+        return [images[:at] for at, image in enumerate(images) if images[:at] in self.uncovered and self.covers(orders, images[:at], image)]
 
     def covers(self, orders, begun, image):
         """Whether all items but those that go on stand before an image."""
-        region, kind = self.list_of(begun)
+        region, kind = self.lists[begun]
         items = orders.items(region, kind)
         behind = set(items[items.index(image) + 1:])
-        behind -= self.next[begun].keys()
-        behind.difference_update(begun)
-        return not behind or all(it.is_free and not self.is_next(region, begun, it) for it in behind)
+        behind.difference_update(self.next[begun], begun)
+        return all(it.is_free and not self.is_next(region, begun, it) for it in behind)
 
     def is_next(self, region, begun, item):
         """Whether an atom without links is the first of its kind that is left."""
         return next((it for it in region.with_functor(item.functor) if it not in begun), None) is item
 
     def best_orders(self, match):
-        """Orders in which a match is the first of all, by which most places are covered that aren't yet."""
-        images = tuple(match.images)
-        wanted = [at for at in range(len(images)) if images[:at] in self.uncovered]
-        best = (-1, None)
-        for in_turn in (False, True):
-            orders = self.orders_for(match, in_turn)
+        """Orders in which a match is the first of all, by which most places are covered that aren't yet, and these places."""
+        images, places = tuple(match.images), self.places_of(match.membranes)
+        wanted = sum(images[:at] in self.uncovered for at in range(len(images)))
+        is_open = () in self.uncovered
+        best = None
+        for in_turn in (not is_open, is_open):
+            orders = self.orders_for(match, places, in_turn)
             if self.first(orders) is match:
-                best = max(best, (sum(self.covers(orders, images[:at], images[at]) for at in wanted), orders), key=lambda pair: pair[0])
-            if best[0] == len(wanted):
-                break
-        return best[1] or self.orders_with_first(match)
+                covered = self.covered(orders, match) if wanted else []
+                if best is None or len(covered) > len(best[1]):
+                    best = orders, covered
+                if len(covered) == wanted:
+                    return best
+        if best is None:
+            orders = self.orders_with_first(match, places)
+            best = orders, self.covered(orders, match)
+        return best
 
-    def orders_for(self, match, in_turn):
+    def orders_for(self, match, places, in_turn):
         """Orders in which a match is the first of all, and all others that can do so stand before its items.
 
         An item of the match stands as far in front as it can, or `in_turn` behind those of earlier items of the head.
         """
         orders = Orders()
-        for (region, kind), places in self.places_of(match).items():
+        for (region, kind), numbers in places.items():
             own, going = [], []
-            for place in places:
-                image = match.images[place]
+            for number in numbers:
+                image = match.images[number]
                 at = len(own) if in_turn else self.place_for(image, going)
                 own.insert(at, image)
-                going.insert(at, self.going[tuple(match.images[:place])])
+                going.insert(at, self.going[tuple(match.images[:number])])
             orders.put(region, kind, self.arranged(region, kind, own, going))
         return orders
 
@@ -141,27 +142,27 @@ class Tree:
         """The first place for an item behind all images in whose place it would go on."""
         return max((at + 1 for at, goes_on in enumerate(going) if item in goes_on), default=0)
 
-    def places_of(self, match):
+    def places_of(self, membranes):
         """For each list in which images of a match stand, their places in the match."""
         places = {}
-        for at, item in enumerate(self.rule.head.items):
-            places.setdefault((match.membranes[item.level], 'atoms' if item.functor else 'inner'), []).append(at)
+        for at, (level, kind) in enumerate(self.places):
+            places.setdefault((membranes[level], kind), []).append(at)
         return places
 
-    def orders_with_first(self, match):
+    def orders_with_first(self, match, places):
         """Orders that begin with the items of a match."""
         orders = Orders()
-        for (region, kind), places in self.places_of(match).items():
-            own = [match.images[at] for at in places]
+        for (region, kind), numbers in places.items():
+            own = [match.images[number] for number in numbers]
             orders.put(region, kind, in_line(region, own + [it for it in getattr(region, kind) if it not in own]))
         return orders
 
     def orders_that_cover(self, begun):
         """Orders in which a beginning comes first, and then what doesn't go on from it."""
         orders = Orders()
-        firsts, last = {}, self.list_of(begun)
+        firsts, last = {}, self.lists[begun]
         for at in range(len(begun)):
-            firsts.setdefault(self.list_of(begun[:at]), []).append(begun[at])
+            firsts.setdefault(self.lists[begun[:at]], []).append(begun[at])
         for region, kind in {**firsts, last: None}:
             own, goes_on = firsts.get((region, kind), []), self.going[begun] if (region, kind) == last else ()
             rest = [it for it in getattr(region, kind) if it not in own]
@@ -171,17 +172,22 @@ class Tree:
     def orders(self):
         """Orders, and the match that the program takes in them, until each match is taken and each place covered."""
         for match in self.matches:
-            orders = self.best_orders(match)
-            self.cover(orders, match)
+            orders, covered = self.best_orders(match)
+            self.cover(covered)
             yield orders, match
         while self.uncovered:
             begun = next(iter(self.uncovered))
             orders = self.orders_that_cover(begun)
             match = self.first(orders)
-            self.cover(orders, match)
+            self.cover(self.covered(orders, match))
             if begun in self.uncovered:
                 raise AssertionError('a place in the tree of matches is not covered')
             yield orders, match
+
+    def cover(self, places):
+        """Notes that places of the tree are covered."""
+        for begun in places:
+            del self.uncovered[begun]
 
 
 def in_line(region, items):
@@ -206,19 +212,31 @@ class Question:
         self.special = {each for region in (*armed, *orders.atoms, *orders.inner) for each in (region, *region.above())} if root.inner else {root}
 
     def asked(self):
-        """The copy as a form and the links in it, as it stands in the text."""
-        links = []
-        return self.form_of(self.root, False, links), links
+        """The copy as it stands in the text, with the mark of the family before each number of a link."""
+        return self.text_of(self.root, False)
+
+    def text_of(self, region, is_below):
+        """The text of a membrane of the copy; `is_below` where a membrane round it is asked about, so that its rules count."""
+        if region not in self.special:
+            return region.layout.text(is_below)
+        armed = self.armed.get(region)
+        parts = [it.label.text for it in self.orders.atoms.get(region) or region.atoms]
+        if armed is not None:
+            parts.insert(0, self.family.go)
+        for inner in self.orders.inner.get(region) or region.inner:
+            parts.append(self.text_of(inner, is_below or armed is not None))
+        parts += [rule.quiet for rule in region.rules if is_below] if armed is None else [rule.armed for rule in armed]
+        return '{' + ', '.join(parts) + '}'
 
     def wanted(self):
         """The copy as a form and the links in it, as it is to be printed."""
-        if self.firing is None:
-            return self.asked()
         links = []
+        if self.firing is None:
+            return self.form_of(self.root, False, links), links
         return self.form_of_next(self.firing.top, False, links), links
 
     def form_of(self, region, is_below, links):
-        """The form of a membrane of the copy; `is_below` where a membrane round it is asked about, so that its rules count."""
+        """The form of a membrane of the copy as it stands."""
         if region not in self.special:
             form, more = region.layout.form(is_below)
             links += more

@@ -14,11 +14,11 @@ class Batch:
     """Questions in one text, and what the program is to print of it."""
 
     def __init__(self):
-        self.asked, self.wanted, self.bytes, self.before, self.after, self.firings = [], [], 0, 0, 0, 0
+        self.asked, self.wanted, self.bytes, self.links, self.firings = [], [], 0, 0, 0
 
     def add(self, question):
-        asked, self.before = numbered(*question.asked(), self.before)
-        wanted, self.after = numbered(*question.wanted(), self.after)
+        asked = question.asked().replace(question.family.labels.mark, f'L{len(self.asked)}_')
+        wanted, self.links = numbered(*question.wanted(), self.links)
         self.asked.append(asked)
         self.wanted.append(wanted)
         self.bytes += len(asked) + 3
@@ -32,7 +32,7 @@ def numbered(form, links, base):
     while len(NAMES) < end:
         NAMES.append(f'L{len(NAMES)}')
     names = dict(zip(first, NAMES[base:end]))
-    return form % tuple([names[link] for link in links]), end
+    return form % tuple(map(names.__getitem__, links)), end
 
 
 class Certifier:

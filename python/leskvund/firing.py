@@ -49,21 +49,26 @@ class Firing:
         for made, gone in rule.reused:
             self.links[made] = self.links[gone]
         self.same, self.used, self.uses, self.renamed = {}, None, {}, {}
-        self.unite_links()
-        self.rests = {name: region for level, region in zip(rule.head.levels, match.membranes) for name, _ in level.rests}
-        self.contexts = {name: region.rules for level, region in zip(rule.head.levels, match.membranes) for name in level.rule_contexts}
+        if rule.connectors:
+            self.unite_links()
+        self.rests, self.contexts = {}, {}
+        for level, region in zip(rule.head.levels[1:], match.membranes[1:]):
+            self.rests.update([(name, region) for name, _ in level.rests])
+            self.contexts.update([(name, region.rules) for name in level.rule_contexts])
         home = match.membranes[0]
-        self.changed = {home: Made(home)}
-        self.make(rule.body, self.changed[home])
-        for region in {home, *[atom.home for atom in self.renamed]}:
-            self.change(region)
-        self.top = self.changed[root]
+        self.top = Made(home)
+        self.changed = {home: self.top}
+        self.make(rule.body, self.top)
+        if home is not root or self.renamed:
+            self.change_round([home, *[atom.home for atom in self.renamed]])
 
-    def change(self, region):
-        """A membrane that stays is another one, and those round it."""
-        for each in (region, *region.above()):
-            if each not in self.changed:
-                self.changed[each] = Made(each)
+    def change_round(self, regions):
+        """Membranes that stay are other ones, and those round them."""
+        for region in regions:
+            for each in (region, *region.above()):
+                if each not in self.changed:
+                    self.changed[each] = Made(each)
+        self.top = self.changed[self.root]
 
     def origin(self):
         """By what the links that this firing makes are told from those of others."""
@@ -108,6 +113,14 @@ class Firing:
             elif leaf[0] == 'typed':
                 labels += self.typed(leaf[1], self.link(leaf[2]))
         made.atoms.append(labels)
+        if level.membranes or level.rests:
+            self.make_inner(level, made)
+        if level.rules or level.rule_contexts:
+            made.added = self.rule.made_rules[level] + [rule for name in level.rule_contexts for rule in self.contexts[name]]
+            made.rules = made.rules + made.added
+
+    def make_inner(self, level, made):
+        """Makes the membranes of a level of the body, and puts what its contexts stand for at the ends of the lists."""
         for inner in level.membranes:
             new = Made()
             made.inner.append([new])
@@ -116,8 +129,6 @@ class Firing:
             piece = self.rests[name], self.fresh_links(name)
             made.atoms.append(piece)
             made.inner.append(piece)
-        made.added = self.rule.made_rules[level] + [rule for name in level.rule_contexts for rule in self.contexts[name]]
-        made.rules = made.rules + made.added
 
     def use(self, name):
         """How often a context was used before."""
@@ -151,7 +162,9 @@ class Firing:
         """The atoms and the membranes of a membrane that is made or changed, where the process stood in some orders."""
         atoms, inner = [], []
         for piece in made.atoms:
-            atoms += piece if isinstance(piece, list) else self.kept_atoms(*piece, orders)
+            atoms += piece if type(piece) is list else self.kept_atoms(*piece, orders)
+        if not self.root.inner and len(made.inner) == 1:
+            return atoms, inner
         for piece in made.inner:
             inner += piece if isinstance(piece, list) else self.kept_membranes(*piece, orders)
         return atoms, inner

@@ -4,26 +4,33 @@ Atoms are labels, one object for each functor with links, so that processes shar
 layouts and rules in their order. Neither is changed once it is made.
 """
 
+# Links of processes that are read have numbers below this one, those that are made from it on.
+FIRST_MADE = 1 << 32
+
 
 class Label:
-    """What an atom is: its functor, a name and a number of links, and its links. `form` is its text with `%s` for each link."""
-    __slots__ = ('functor', 'links', 'number', 'form', 'label')
+    """What an atom is: its functor, a name and a number of links, and its links.
 
-    def __init__(self, functor, links, number, form):
-        self.functor, self.links, self.number, self.form, self.label = functor, links, number, form, self
+    `form` is its text with `%s` for each link, `text` the one with a mark before the number of each link.
+    """
+    __slots__ = ('functor', 'links', 'number', 'form', 'text', 'label')
+
+    def __init__(self, functor, links, number, form, text):
+        self.functor, self.links, self.number, self.form, self.text, self.label = functor, links, number, form, text, self
 
 
 class Labels:
-    """The labels of a search, each once, and the numbers of its layouts and links."""
+    """The labels of a search, each once, and the numbers of its layouts and links. `mark` is a letter that stands in no text."""
 
-    def __init__(self):
-        self.known, self.forms, self.layouts, self.links = {}, {}, {}, {}
+    def __init__(self, mark):
+        self.mark, self.known, self.forms, self.layouts, self.links = mark, {}, {}, {}, {}
 
     def label(self, functor, links):
         """The label of a functor with a tuple of links."""
         label = self.known.get((functor, links))
         if label is None:
-            label = self.known[functor, links] = Label(functor, links, len(self.known), self.form(functor))
+            form = self.form(functor)
+            label = self.known[functor, links] = Label(functor, links, len(self.known), form, form % tuple([f'{self.mark}{link}' for link in links]))
         return label
 
     def form(self, functor):
@@ -43,8 +50,7 @@ class Labels:
         """A link that isn't used, the same for the same origin where it can be, so that firings in any order make one process."""
         times = 0
         while True:
-            # Links of processes that are read are numbers from 0 on, those that are made from -1 downwards.
-            link = self.links.setdefault((origin, times), -1 - len(self.links))
+            link = self.links.setdefault((origin, times), FIRST_MADE + len(self.links))
             if link not in used:
                 used.add(link)
                 return link
@@ -56,10 +62,10 @@ class Layout:
 
     `number` is the same for two layouts exactly where they differ in the order of their lists alone.
     """
-    __slots__ = ('labels', 'inner', 'rules', '_number', '_forms')
+    __slots__ = ('labels', 'inner', 'rules', '_number', '_forms', '_texts')
 
     def __init__(self, labels, inner, rules):
-        self.labels, self.inner, self.rules, self._number, self._forms = labels, inner, rules, None, {}
+        self.labels, self.inner, self.rules, self._number, self._forms, self._texts = labels, inner, rules, None, {}, {}
 
     def number(self, known):
         if self._number is None:
@@ -76,6 +82,14 @@ class Layout:
                 links += each
             self._forms[with_rules] = '{' + ', '.join([*[it.form for it in self.labels], *[form for form, _ in inner], *rules]) + '}', links
         return self._forms[with_rules]
+
+    def text(self, with_rules):
+        """The text as an item, a mark before the number of each link, with rules that wait for what isn't there, or without rules."""
+        if with_rules not in self._texts:
+            inner = [it.text(with_rules) for it in self.inner]
+            rules = [rule.quiet for rule in self.rules] if with_rules else []
+            self._texts[with_rules] = '{' + ', '.join([*[it.text for it in self.labels], *inner, *rules]) + '}'
+        return self._texts[with_rules]
 
 
 def content_of(labels, inner, rules):

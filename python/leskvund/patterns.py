@@ -1,5 +1,6 @@
 """Reads a rule as `lmn run` prints it: what its head asks for, what its guard says, what its body makes."""
 import functools
+import itertools
 import re
 
 from leskvund.labels import Labels
@@ -276,8 +277,8 @@ class Head:
 class Rule:
     """A printed rule, with a number of its own.
 
-    `quiet_form` is its text in parentheses where it waits for an atom that isn't there, `armed_form` where it waits for the one
-    that is, each as a form without links. `entries` are the links of its head, each with an atom and a port at which it stands;
+    `quiet` is its text in parentheses where it waits for an atom that isn't there, `armed` where it waits for the one that is, both
+    also as forms. `entries` are the links of its head, each with an atom and a port at which it stands;
     `reused` the new links of its body that take over the number of a link that goes, so that firings which don't meddle with
     each other make one process in any order.
     """
@@ -285,7 +286,8 @@ class Rule:
     def __init__(self, text, number, family):
         self.text, self.number, self.family = text, number, family
         waiting = family.waiting(text)
-        self.quiet_form, self.armed_form = (f'({word}, {waiting})'.replace('%', '%%') for word in (family.stop, family.go))
+        self.quiet, self.armed = (f'({word}, {waiting})' for word in (family.stop, family.go))
+        self.quiet_form, self.armed_form = self.quiet.replace('%', '%%'), self.armed.replace('%', '%%')
         words = Words(text)
         top = read_level(words, (':-',))
         words.next()
@@ -328,10 +330,11 @@ def has_guard(text):
 
 
 class Rules:
-    """Rules by their texts, the labels of their processes, and the two atoms that make rules wait, whose names stand in none of them."""
+    """Rules by their texts, the labels of their processes, and two atoms that make rules wait, whose names stand in none of them."""
 
     def __init__(self, text=''):
-        self.go, self.stop, self.labels, self.rules = "'.go.'", "'.stop.'", Labels(), {}
+        self.go, self.stop, self.rules = "'.go.'", "'.stop.'", {}
+        self.labels = Labels(next(letter for letter in map(chr, itertools.count(1)) if letter not in text))
         while self.go in text or self.stop in text:
             self.go, self.stop = self.go[:-1] + ".'", self.stop[:-1] + ".'"
 

@@ -228,7 +228,11 @@ class Kinds:
 
     def kind_of_atoms(self, text, piece):
         """The kind of a piece of atoms that was written down from one of them: the least text from one of those of its rarest functor."""
-        return self.known(('walk', text), lambda: self.number(('atoms', min(walk(atom)[0] for atom in rarest_first(piece)[0][1]))))
+        if ('walk', text) not in self.numbers:
+            firsts = rarest_first(piece)[0][1]
+            least = text if firsts == piece[:1] else min(walk(atom)[0] for atom in firsts)
+            self.numbers['walk', text] = self.number(('atoms', least))
+        return self.numbers['walk', text]
 
     def kinds_of_pieces(self, root):
         """The kinds of what is in a membrane where links go through walls in it."""

@@ -1,5 +1,7 @@
 """Goes from a process to all that can be reached, each once, the nearest first."""
 import collections
+import contextlib
+import gc
 import time
 
 from leskvund.asking import Questions
@@ -9,6 +11,7 @@ from leskvund.telling import told
 
 # Processes that wait are kept joined, up to so many.
 MOST_JOINED = 2000
+COLLECTED_AT = 50000
 
 
 class Reached:
@@ -78,6 +81,18 @@ class Met:
         return self.waiting.popleft() or joined(reached.layouts[reached.asked])
 
 
+@contextlib.contextmanager
+def seldom_collecting():
+    """What goes round in circles is looked for less often: a search makes many atoms that live long."""
+    before = gc.get_threshold()
+    gc.set_threshold(COLLECTED_AT, *before[1:])
+    try:
+        yield
+    finally:
+        gc.set_threshold(*before)
+
+
+@seldom_collecting()
 def search(root, family, others, most, certifier, watch):
     """Reaches at most so many processes. `watch` is told how far it is."""
     reached, met, start = Reached(), Met(family), time.monotonic()
