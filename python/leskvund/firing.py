@@ -163,8 +163,6 @@ class Firing:
         atoms, inner = [], []
         for piece in made.atoms:
             atoms += piece if type(piece) is list else self.kept_atoms(*piece, orders)
-        if not self.root.inner and len(made.inner) == 1:
-            return atoms, inner
         for piece in made.inner:
             inner += piece if isinstance(piece, list) else self.kept_membranes(*piece, orders)
         return atoms, inner

@@ -10,6 +10,7 @@ from collections import namedtuple
 TOKEN = re.compile(r"'(?:[^']|'')*'|-?\d+|[A-Za-z]\w*|[$@]\w+|:-|=:=|=\\=|=<|>=|\\=|[^\s]")
 INTEGER = re.compile(r'-?\d+')
 SMALLEST, LARGEST = -2 ** 63, 2 ** 63 - 1
+MOST_ITEMS = 16
 
 Rule = namedtuple('Rule', 'text head conditions body')
 Context = namedtuple('Context', 'name link is_closed')
@@ -18,7 +19,7 @@ Part = namedtuple('Part', 'atoms root port')
 
 
 class TooMany(Exception):
-    """More processes can be reached than were asked for."""
+    """More processes can be reached than were asked for, or larger ones."""
 
 
 class Atom:
@@ -471,6 +472,11 @@ def renamed(root):
     return root
 
 
+def size(root):
+    """How many atoms and membranes a process has."""
+    return sum(len(membrane.leaves) + len(membrane.membranes) for membrane in root.all())
+
+
 def shape(membrane):
     """What a process is without its links: processes that are one have equal shapes."""
     return (
@@ -482,19 +488,19 @@ def shape(membrane):
 
 def pairings(one, other, links):
     """All ways in which two processes are one: pairs of equal links, beginning with some."""
-    if shape(one) != shape(other):
-        return
-    for below in itertools.permutations(other.membranes):
+    if shape(one) == shape(other):
         for atoms in ordered_alike(one.leaves, other.leaves, links):
-            yield from paired_below(list(zip(one.membranes, below)), atoms)
+            yield from paired_below(one.membranes, other.membranes, atoms)
 
 
-def paired_below(pairs, links):
-    if not pairs:
+def paired_below(membranes, others, links):
+    """All ways to pair membranes."""
+    if not membranes:
         yield links
         return
-    for each in pairings(*pairs[0], links):
-        yield from paired_below(pairs[1:], each)
+    for other in others:
+        for new in pairings(membranes[0], other, links):
+            yield from paired_below(membranes[1:], [each for each in others if each is not other], new)
 
 
 def ordered_alike(atoms, others, links):
@@ -532,7 +538,7 @@ class Enumeration:
         self.processes, self.firings, self.by_shape = [], [], {}
         self.number(renamed(read(line)))
         for here, root in enumerate(self.processes):
-            if len(self.processes) > most:
+            if len(self.processes) > most or size(root) > MOST_ITEMS:
                 raise TooMany
             self.firings.append({(rule, self.number(made)) for rule, made in all_next(root)})
 

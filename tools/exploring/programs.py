@@ -1,6 +1,6 @@
 """Small random programs in all forms of the language."""
 
-NAMES = 'abc'
+NAMES = 'ab'
 BODY_TERMS = ('1', '2', 'f', '[]', 'g(h)', '[1]', '3')
 CONDITIONS = ('int({})', 'unary({})', 'ground({})', 'ground({})', '{} > 1', '{} =\\= 2', '{} =< 2')
 
@@ -13,9 +13,9 @@ class Program:
 
     def text(self):
         self.open_links = []
-        clauses = [self.item(0) for _ in range(self.chance.randint(1, 4))]
+        clauses = [self.item(0) for _ in range(self.chance.randint(3, 6))]
         clauses += [self.chance.choice(NAMES) + f'({link})' for link in self.open_links]
-        clauses += [RandomRule(self.chance).text() for _ in range(self.chance.randint(1, 3))]
+        clauses += [RandomRule(self.chance).text() for _ in range(self.chance.randint(2, 4))]
         self.chance.shuffle(clauses)
         return '.\n'.join(clauses) + '.\n'
 
@@ -26,11 +26,11 @@ class Program:
         return self.open_links[-1]
 
     def item(self, depth):
-        if depth < 2 and self.chance.random() < 0.3:
+        if depth < 2 and self.chance.random() < 0.4:
             items = [self.item(depth + 1) for _ in range(self.chance.randint(0, 3))]
             rules = [f'({RandomRule(self.chance).text()})'] if self.chance.random() < 0.25 else []
             return '{' + ', '.join(items + rules) + '}'
-        arguments = [self.chance.choice(BODY_TERMS) if self.chance.random() < 0.35 else self.link() for _ in range(self.chance.choice((0, 0, 1, 1, 2)))]
+        arguments = [self.chance.choice(BODY_TERMS) if self.chance.random() < 0.35 else self.link() for _ in range(self.chance.choice((0, 0, 1, 1, 1, 2)))]
         return self.chance.choice(NAMES) + (f'({", ".join(arguments)})' if arguments else '')
 
 
@@ -56,7 +56,7 @@ class RandomRule:
 
     def atom(self, in_head):
         arguments = []
-        for _ in range(self.chance.choice((0, 0, 1, 1, 2))):
+        for _ in range(self.chance.choice((0, 0, 1, 1, 1, 2))):
             draw = self.chance.random()
             if in_head and draw < 0.2:
                 self.typed.append(f'$t{len(self.typed)}')
@@ -70,15 +70,15 @@ class RandomRule:
         return self.chance.choice(NAMES) + (f'({", ".join(arguments)})' if arguments else '')
 
     def head(self, depth):
-        items = [self.atom(True) for _ in range(self.chance.choice((0, 1, 1, 2)))]
-        for _ in range(self.chance.choice((0, 0, 1, 1, 2)) if depth < 2 else 0):
+        items = [self.atom(True) for _ in range(self.chance.choice((0, 1, 1, 2) if depth == 0 else (0, 0, 1)))]
+        for _ in range(self.chance.choice((0, 0, 0, 1, 2)) if depth < 2 else 0):
             items.append('{' + ', '.join(self.head_membrane(depth + 1)) + '}')
         return items
 
     def head_membrane(self, depth):
         items, draw = self.head(depth), self.chance.random()
-        if draw < 0.75:
-            self.contexts.append(f'$c{len(self.contexts)}' + ('[]' if draw < 0.25 else ''))
+        if draw < 0.85:
+            self.contexts.append(f'$c{len(self.contexts)}' + ('[]' if draw < 0.2 else ''))
             items.append(self.contexts[-1])
         if self.chance.random() < 0.4:
             self.rule_contexts.append(f'@r{len(self.rule_contexts)}')
