@@ -275,10 +275,13 @@ class Question:
 
 
 class Questions:
-    """All questions about a process. `others` are rules that are asked about at the root beside its own; `hits` those that can fire."""
+    """All questions about a process.
 
-    def __init__(self, root, family, others=()):
-        self.root, self.family, self.others, self.hits, self.silent = root, family, others, [], {}
+    `others` are rules that are asked about beside its own, at the root or `anywhere`; `hits` are those that can fire.
+    """
+
+    def __init__(self, root, family, others=(), anywhere=False):
+        self.root, self.family, self.others, self.anywhere, self.hits, self.silent = root, family, others, anywhere, set(), {}
 
     def __iter__(self):
         for region in self.root.below():
@@ -289,8 +292,8 @@ class Questions:
     def about(self, region):
         """The questions about the rules of a membrane. Those without a match come before the first that fires."""
         found = {rule: matches(rule, region) for rule in dict.fromkeys(region.rules)}
-        others = {rule: first_match(rule, region) for rule in self.others if region is self.root}
-        self.hits += [rule for rule, match in others.items() if match]
+        others = {rule: first_match(rule, region) for rule in self.others} if self.anywhere or region is self.root else {}
+        self.hits.update([rule for rule, match in others.items() if match])
         without = [rule for rule, each in (*found.items(), *others.items()) if not each]
         for rule, each in found.items():
             firings = {}

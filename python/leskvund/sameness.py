@@ -15,6 +15,9 @@ of its kind:
 """
 from collections import Counter
 
+from leskvund.patterns import Rules
+from leskvund.regions import region_of_line
+
 
 class Pieces:
     """The pieces of a membrane through whose wall no link goes: for it, and for those in it through whose walls links go.
@@ -270,3 +273,10 @@ class Kinds:
         number = self.number(('graph', text))
         self.alike[way[0]].append((text, way, number))
         return number
+
+
+def is_same(line, other):
+    """Whether two plain lines are one process: they differ in the order of items, the numbers of links and the order of rules alone."""
+    rules = Rules(line + other)
+    kinds = Kinds(rules.labels)
+    return kinds.process(region_of_line(line, rules)) == kinds.process(region_of_line(other, rules))

@@ -93,14 +93,14 @@ def seldom_collecting():
 
 
 @seldom_collecting()
-def search(root, family, others, most, certifier, watch):
-    """Reaches at most so many processes. `watch` is told how far it is."""
+def search(root, family, others, most, certifier, watch, anywhere=False):
+    """Reaches at most so many processes. `others` are rules that are asked about, `anywhere` or at the root; `watch` is told how far it is."""
     reached, met, start = Reached(), Met(family), time.monotonic()
     met.number(reached, root.layout.number(family.labels), lambda: root.layout, None)
     try:
         while met.waiting and len(reached.layouts) <= most:
             here = reached.asked
-            asked = Questions(met.next(reached), family, others)
+            asked = Questions(met.next(reached), family, others, anywhere)
             firings = {}
             for question in asked:
                 certifier.ask(question)

@@ -1,6 +1,6 @@
 """Tells a process as a person reads it: terms as terms, without rules."""
-from leskvund.patterns import is_integer
-from leskvund.regions import Numbers
+from leskvund.patterns import Rules, is_integer
+from leskvund.regions import Numbers, region_of_line
 
 
 class Folded:
@@ -71,3 +71,7 @@ def told(root):
     """A process as a person reads it, in the folded form without rules."""
     return '. '.join(folded_parts(root, Numbers())) or '(nothing)'
 
+
+def folded_text(line):
+    """The process of a plain line as a person reads it."""
+    return told(region_of_line(line, Rules(line)))
