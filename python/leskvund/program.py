@@ -1,12 +1,15 @@
 """Runs the program, or reads what it printed, and ends a script with a message where nothing can be shown."""
 import functools
 import os
+import shutil
 import subprocess
 import sys
 
 from leskvund.lines import Unreadable, read_trace
 
 TOP = os.path.dirname(os.path.dirname(os.path.dirname(os.path.realpath(__file__))))
+BUILT = os.path.join(TOP, 'crates', 'lmn', 'out', 'lmn')
+used = None
 
 
 class Unshowable(Exception):
@@ -17,14 +20,32 @@ class Unshowable(Exception):
         self.status = status
 
 
-@functools.lru_cache(maxsize=None)
-def program():
-    """The program: what LMN names, else the one of this repository, which is built where it isn't."""
+def found():
+    """The program where one is there: what LMN names, else the one that was built here, else `lmn` of PATH; or None."""
     if os.environ.get('LMN'):
         return os.environ['LMN']
+    return BUILT if os.access(BUILT, os.X_OK) else shutil.which('lmn')
+
+
+def use(path):
+    """Has the program at a path run from here on."""
+    global used
+    used = path
+
+
+def program():
+    """The program that is run: the one in use, else what LMN names, else the one of this repository, which is built where it isn't."""
+    return used or os.environ.get('LMN') or built()
+
+
+@functools.lru_cache(maxsize=None)
+def built():
+    """The program of this repository; where this is none, `lmn` of PATH."""
+    if not os.path.exists(os.path.join(TOP, 'lmn')):
+        return found() or 'lmn'
     if subprocess.run([os.path.join(TOP, 'lmn'), 'demo', '1'], stdout=subprocess.DEVNULL).returncode:
         raise Unshowable('the program is not built', 70)
-    return os.path.join(TOP, 'crates', 'lmn', 'out', 'lmn')
+    return BUILT
 
 
 def start(arguments):
