@@ -3,6 +3,7 @@ import re
 
 NAME = r"(?:'(?:[^']|'')*'|-?\d+|[a-z]\w*)"
 PLAIN_ATOM = re.compile(rf'({NAME})(?:\((L\d+(?:, L\d+)*)\))?(?=[.,}}]|$)')
+PLAIN_BEGINNING = re.compile(rf'{NAME}\(')
 QUOTED_OR_BRACKET = re.compile(r"'(?:[^']|'')*'|[()\[\]{}]|, |\. ?")
 QUOTED_OR_PARENTHESIS = re.compile(r"'(?:[^']|'')*'|[()]")
 QUOTED_OR_LINK = re.compile(r"'(?:[^']|'')*'|\bL(\d+)\b")
@@ -38,7 +39,9 @@ class Item:
     @property
     def is_plain(self):
         """Whether each argument is a link."""
-        return all(piece == ', ' for piece in self.pieces[1:-1]) and (self.pieces[-1] == ')' if self.links else '(' not in QUOTED_OR_PARENTHESIS.findall(self.pieces[0]))
+        if not self.links:
+            return '(' not in QUOTED_OR_PARENTHESIS.findall(self.pieces[0])
+        return PLAIN_BEGINNING.fullmatch(self.pieces[0]) is not None and self.pieces[-1] == ')' and all(piece == ', ' for piece in self.pieces[1:-1])
 
     def text(self, links):
         """The item with these words for its links."""
