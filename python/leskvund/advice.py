@@ -42,8 +42,8 @@ def level_functors(top):
     return {leaf[1] for level in top.below() for leaf in level.leaves if leaf[0] == 'atom' and not is_integer(leaf[1])}
 
 
-def unmade(line):
-    """Warnings of functors that a head asks for and that neither the process nor a body has."""
+def unmade_functors(line):
+    """The functors that a head asks for and that neither the process of a line nor a body has: the rule, the functor, and what may be meant."""
     root = region_of_line(line, Rules(line))
     rules = all_rules(root)
     made = {atom.functor for region in root.below() for atom in region.atoms}
@@ -51,11 +51,13 @@ def unmade(line):
     names = {}
     for functor in made:
         names.setdefault(functor[0], []).append(functor[1])
-    warnings = []
-    for rule in rules:
-        for functor in sorted(level_functors(rule.head.levels[0]) - made):
-            warnings.append(f'{functor[0]}/{functor[1]} is in a head and nothing makes it, so this rule never fires: {rule.text.strip()}{like(functor, names)}')
-    return warnings
+    return [(rule, functor, like(functor, names)) for rule in rules for functor in sorted(level_functors(rule.head.levels[0]) - made)]
+
+
+def unmade(line):
+    """Warnings of functors that a head asks for and that neither the process nor a body has."""
+    return [f'{name}/{arity} is in a head and nothing makes it, so this rule never fires: {rule.text.strip()}{hint}'
+            for rule, (name, arity), hint in unmade_functors(line)]
 
 
 def like(functor, names):
