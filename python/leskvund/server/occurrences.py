@@ -110,9 +110,9 @@ class Reader:
         return clause
 
     def end_clause(self, frame: Frame) -> None:
-        """Leaves out a clause that has nothing."""
+        """Leaves out a clause that has nothing, which is the last one."""
         if frame.kind in ('top', 'membrane', 'group') and frame.clause.end == frame.clause.start:
-            self.clauses.remove(frame.clause)
+            self.clauses.pop()
 
     def text(self, at: int) -> str:
         """The text of the token at a place; nothing where there is none."""
@@ -220,8 +220,10 @@ class Reader:
             clause.bar = self.bar_behind(at + 1)
 
     def bar_behind(self, at: int) -> Token | None:
+        """The first bar behind a place that stands outside of brackets, before the clause ends."""
         depth = 0
-        for token in self.tokens[at:]:
+        for number in range(at, len(self.tokens)):
+            token = self.tokens[number]
             depth += (token.text in ('(', '[', '{')) - (token.text in CLOSING)
             if depth < 0 or depth == 0 and token.text == '.':
                 return None
