@@ -10,12 +10,13 @@ from dataclasses import dataclass
 from leskvund.errors import ProgramMissing, TimedOut, error_of
 from leskvund.program import found
 
-ENCODING = {'encoding': 'utf-8', 'errors': 'surrogateescape'}
+# Bytes that aren't UTF-8 may stand in texts, and come back as they were.
+ENCODING, ERRORS = 'utf-8', 'surrogateescape'
 
 
 def find_program() -> str:
     """The program: what the variable LMN names, else the one that was built in this repository, else `lmn` of PATH."""
-    program = found()
+    program: str | None = found()
     if program is None:
         raise ProgramMissing('no program: the variable LMN is not set, no crates/lmn/out/lmn is built in the repository, and there is no lmn on PATH')
     return program
@@ -41,7 +42,8 @@ def call(command: str, texts: Sequence[str], options: Sequence[str] = (), second
     with tempfile.TemporaryDirectory(prefix='leskvund') as folder:
         files = [written(folder, number, text) for number, text in enumerate(texts)]
         try:
-            done = subprocess.run([program, command, *files, *options], stdin=subprocess.DEVNULL, capture_output=True, timeout=seconds, **ENCODING)
+            done = subprocess.run([program, command, *files, *options], stdin=subprocess.DEVNULL, capture_output=True, timeout=seconds,
+                                  encoding=ENCODING, errors=ERRORS)
         except subprocess.TimeoutExpired:
             raise TimedOut(seconds or 0) from None
         except OSError as why:
@@ -52,7 +54,7 @@ def call(command: str, texts: Sequence[str], options: Sequence[str] = (), second
 def written(folder: str, number: int, text: str) -> str:
     """The file into which a text is written, byte for byte."""
     name = os.path.join(folder, f'text{number}')
-    with open(name, 'w', newline='', **ENCODING) as file:
+    with open(name, 'w', newline='', encoding=ENCODING, errors=ERRORS) as file:
         file.write(text)
     return name
 

@@ -89,8 +89,8 @@ class WeightsRefused(Refused):
     status = 11
 
 
-REFUSALS: dict[int, type[Refused]] = {each.status: each for each in (Refused, TraceRefused, ListingRefused, WeightsRefused)}  # type: ignore[misc]
-FAILURES: dict[int, type[LeskvundError]] = {each.status: each for each in (WordsRefused, ReadFailed, WriteFailed, OutOfMemory, ProgramMissing)}  # type: ignore[misc]
+REFUSALS: dict[int | None, type[Refused]] = {each.status: each for each in (Refused, TraceRefused, ListingRefused, WeightsRefused)}
+FAILURES: dict[int | None, type[LeskvundError]] = {each.status: each for each in (WordsRefused, ReadFailed, WriteFailed, OutOfMemory, ProgramMissing)}
 
 
 def error_of(status: int, said: str) -> LeskvundError:

@@ -61,17 +61,17 @@ class Layout:
 
     def pulled(self, link: Link) -> tuple[Membrane, Body, Body] | None:
         """The innermost membrane round both ends of a link, and the bodies in it that hold one each."""
-        one, other = (walls_of(end.atom) for end in link.ends)
-        while len(one) > 1 and len(other) > 1 and one[-1] is other[-1]:
+        one, other = walls_of(link.ends[0].atom), walls_of(link.ends[1].atom)
+        membrane = one[-1]
+        while one and other and one[-1] is other[-1]:
             membrane = one.pop()
             other.pop()
-        if one[-1] is other[-1] or not isinstance(membrane, Membrane):
-            return None
-        return membrane, self.bodies[one[-1]], self.bodies[other[-1]]
+        return (membrane, self.bodies[one[-1]], self.bodies[other[-1]]) if one and other and isinstance(membrane, Membrane) else None
 
     def settle(self, membrane: Membrane, pulls: list[tuple[Body, Body]]) -> None:
         """Places what is in a membrane."""
-        bodies = [self.bodies[it] for it in (*membrane.membranes, *membrane.atoms)]
+        inside: list[Atom | Membrane] = [*membrane.membranes, *membrane.atoms]
+        bodies = [self.bodies[it] for it in inside]
         spread(bodies, pulls)
         relax(bodies, pulls)
         enclose(self.bodies[membrane], bodies)

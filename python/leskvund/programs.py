@@ -5,11 +5,11 @@ import os
 from collections.abc import Mapping, Sequence
 from functools import cached_property
 
-from leskvund.calling import Said, call, output_of
+from leskvund.calling import ENCODING, ERRORS, Said, call, output_of
 from leskvund.errors import ProgramFailed, error_of
 from leskvund.explorations import Exploration, explored
 from leskvund.processes import Functor, Process, Rule
-from leskvund.runs import Ending, Order, Run, Trace, end_of
+from leskvund.runs import Ending, Order, Run, Trace, end_of, named
 from leskvund.texts import rule_names
 
 MOST_64 = 2 ** 63 - 1
@@ -27,7 +27,7 @@ class Program:
     @classmethod
     def from_file(cls, path: str | os.PathLike[str]) -> Program:
         """The program of a file. Bytes that aren't UTF-8, which may stand in comments and quotes, stay as they are."""
-        with open(path, encoding='utf-8', errors='surrogateescape', newline='') as file:
+        with open(path, encoding=ENCODING, errors=ERRORS, newline='') as file:
             return cls(file.read())
 
     def __repr__(self) -> str:
@@ -49,7 +49,7 @@ class Program:
               seconds: float | None = None) -> Trace:
         """All processes of a run, 10,000 firings of it where no budget is given. What is given is as for `run`."""
         said = self._called([*options_of(budget, order, seed, size), '--trace'], seconds)
-        return Trace(said.output, order_of(order, seed), seed or 0)
+        return Trace(said.output, order_of(order, seed), seed or 0, rule_names(self.text))
 
     def _called(self, options: Sequence[str], seconds: float | None) -> Said:
         said = call('run', [self.text], options, seconds)
@@ -66,8 +66,7 @@ class Program:
     @cached_property
     def rules(self) -> list[Rule]:
         """The rules at the top, with their names."""
-        rules, names = self.first.rules, rule_names(self.text)
-        return [Rule(rule.text, name) for rule, name in zip(rules, names)] if len(rules) == len(names) else rules
+        return named(self.first.rules, rule_names(self.text))
 
     def check(self, trace: Trace | str, *, seconds: float | None = None) -> int:
         """The number of firings of a trace of this program, from any order; `TraceRefused` where it is none."""

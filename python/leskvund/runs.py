@@ -60,11 +60,17 @@ class Run:
 class Trace(Sequence[Process]):
     """All processes of a run, from the first to the last. `text` is what `run --trace` prints, which `Program.check` takes."""
 
-    def __init__(self, text: str, order: Order = Order.FIRST, seed: int = 0) -> None:
+    def __init__(self, text: str, order: Order = Order.FIRST, seed: int = 0, names: Sequence[str | None] = ()) -> None:
+        """`names` are those of the rules of the first process; they count if there are as many."""
         self.text = text
         self.lines = text.split('\n')[:-2]
         self.ending, self.firings = end_of(text)
-        self._order, self._seed = order, seed
+        self._order, self._seed, self._names = order, seed, names
+
+    @cached_property
+    def rules(self) -> list[Rule]:
+        """The rules of the first process, with their names."""
+        return named(self[0].rules, self._names)
 
     def __len__(self) -> int:
         return len(self.lines)
@@ -91,14 +97,15 @@ class Trace(Sequence[Process]):
     def fired(self) -> list[Rule]:
         """The rule of each firing, found by foretelling the next process from the one before."""
         found = fired_rules(iter([*self.lines, '% ']), chooser(self._order.value, self._seed))
+        known = {rule.text: rule for rule in self.rules}
         try:
-            return [Rule(each[0].text) for each in found if not isinstance(each, str)]
+            return [known.get(each[0].text, Rule(each[0].text)) for each in found if not isinstance(each, str)]
         except Unshowable as why:
             raise ProgramFailed(str(why)) from None
 
     def page(self, title: str = 'A run') -> str:
         """A web page on which a slider goes from firing to firing, as `tools/show` makes it."""
-        shown = page.Trace([])
+        shown = page.Trace(self._names)
         if self.firings > MOST_FIRINGS_SHOWN:
             raise LeskvundError(f'{self.firings} firings are too many for a page, which takes {MOST_FIRINGS_SHOWN}')
         for line in self.lines:
@@ -114,6 +121,11 @@ class Trace(Sequence[Process]):
             return f'<iframe srcdoc="{html.escape(self.page())}" style="width: 100%; height: 500px; border: 1px solid #ddd"></iframe>'
         except LeskvundError:
             return None
+
+
+def named(rules: list[Rule], names: Sequence[str | None]) -> list[Rule]:
+    """Rules with names, if there is one for each."""
+    return [Rule(rule.text, name) for rule, name in zip(rules, names)] if len(rules) == len(names) else rules
 
 
 def end_of(text: str) -> tuple[Ending, int]:

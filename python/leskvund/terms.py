@@ -16,7 +16,8 @@ class Open:
     """An item, a term or a list whose bracket isn't closed yet: its name, None for a list, and the links of its arguments."""
 
     def __init__(self, name: str | None) -> None:
-        self.name, self.links, self.has_rest = name, [], False
+        self.name, self.has_rest = name, False
+        self.links: list[int] = []
 
 
 class Reader:
@@ -31,7 +32,8 @@ class Reader:
 
     def atoms(self, text: str) -> Iterator[Spelled]:
         """The atoms of an item, each before those in its arguments are closed."""
-        words, stack = WORD.findall(text), []
+        words: list[str] = WORD.findall(text)
+        stack: list[Open] = []
         if ''.join(words) != text:
             raise Unreadable(f'{text} is no item')
         for at, word in enumerate(words):

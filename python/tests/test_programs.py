@@ -71,7 +71,9 @@ def test_trace_goes_from_the_first_process_to_the_last() -> None:
 
 
 def test_trace_tells_which_rules_fired() -> None:
-    assert [rule.text for rule in Program(SHARE).trace().fired] == ['ready, free :- busy', 'busy :- done, free'] * 2
+    trace = Program(SHARE).trace()
+    assert [rule.text for rule in trace.fired] == ['ready, free :- busy', 'busy :- done, free'] * 2
+    assert [rule.name for rule in trace.fired] == ['take', 'leave'] * 2 and 'take @@ ready' in trace.page()
 
 
 def test_rules_of_a_trace_in_another_order() -> None:

@@ -83,7 +83,7 @@ def refusal(document: Document, error: Refused) -> Fault:
     place = document.place_of_bytes(error.line, error.column)
     token = document.occurrences.token_at(place)
     cure = Cure.of(error.code)
-    words = error.words if cure is None else f'{error.words}: {cure.wrong}\ninstead: {cure.words()}'
+    words = error.words if cure is None else f'{error.words}\ninstead: {cure.words()}'
     start, end = (place, token.end) if token is not None else visible(document.text, place)
     return Fault(start, end, words, error.code, other_ends(document, place) if error.code in LINK_CODES else ())
 

@@ -33,7 +33,12 @@ def cure_text(fault: Fault) -> str:
     if cure is None:
         return f'**{code}** {fault.words}'
     example = f'\n\nRefused is {cure.refused}, and not {cure.accepted}' if cure.refused else ''
-    return f'**{code}** {fault.words.partition(chr(10))[0]}\n\nInstead: {cure.words()}{example}'
+    words = fault.words.partition('\n')[0]
+    return f'**{code}** {words}\n\n{capitalized(cure.wrong)}.\n\nInstead: {cure.words()}{example}'
+
+
+def capitalized(text: str) -> str:
+    return text[:1].upper() + text[1:]
 
 
 def text_of(document: Document, found: Occurrence) -> str:

@@ -258,7 +258,7 @@ class Occurrences:
     def at(self, place: int) -> Occurrence | None:
         """What occurs at a place, or ends there."""
         touching = [it for it in self.all if it.token.start <= place <= it.token.end]
-        return max(touching, key=lambda it: it.token.start, default=None)
+        return max(touching, key=lambda it: it.token.start) if touching else None
 
     def of(self, occurrence: Occurrence) -> list[Occurrence]:
         """All occurrences of one thing, in order."""
