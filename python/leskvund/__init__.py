@@ -22,6 +22,7 @@ if TYPE_CHECKING:
     from leskvund.errors import ProgramMissing as ProgramMissing
     from leskvund.errors import ReadFailed as ReadFailed
     from leskvund.errors import Refused as Refused
+    from leskvund.errors import ScriptRefused as ScriptRefused
     from leskvund.errors import TimedOut as TimedOut
     from leskvund.errors import TraceRefused as TraceRefused
     from leskvund.errors import WeightsRefused as WeightsRefused
@@ -44,8 +45,8 @@ if TYPE_CHECKING:
 
 # The modules are read when a name of them is asked for, so that a script that wants a few of them begins at once.
 MODULES = {
-    'errors': ('LeskvundError', 'ListingRefused', 'OutOfMemory', 'ProgramFailed', 'ProgramMissing', 'ReadFailed', 'Refused', 'TimedOut',
-               'TraceRefused', 'WeightsRefused', 'WordsRefused', 'WriteFailed'),
+    'errors': ('LeskvundError', 'ListingRefused', 'OutOfMemory', 'ProgramFailed', 'ProgramMissing', 'ReadFailed', 'Refused', 'ScriptRefused',
+               'TimedOut', 'TraceRefused', 'WeightsRefused', 'WordsRefused', 'WriteFailed'),
     'explorations': ('Exploration', 'Firing'),
     'processes': ('Atom', 'End', 'Functor', 'Link', 'Membrane', 'Process', 'Rule'),
     'programs': ('Program',),

@@ -77,6 +77,12 @@ class TraceRefused(Refused):
     status = 8
 
 
+class ScriptRefused(Refused):
+    """A line of a script is no command."""
+
+    status = 9
+
+
 class ListingRefused(Refused):
     """The listing isn't code of the rules of the program, or would be run wrongly."""
 
@@ -89,7 +95,7 @@ class WeightsRefused(Refused):
     status = 11
 
 
-REFUSALS: dict[int | None, type[Refused]] = {each.status: each for each in (Refused, TraceRefused, ListingRefused, WeightsRefused)}
+REFUSALS: dict[int | None, type[Refused]] = {each.status: each for each in (Refused, TraceRefused, ScriptRefused, ListingRefused, WeightsRefused)}
 FAILURES: dict[int | None, type[LeskvundError]] = {each.status: each for each in (WordsRefused, ReadFailed, WriteFailed, OutOfMemory, ProgramMissing)}
 
 

@@ -42,21 +42,14 @@ class Program:
         membrane is asked first, and is `seed` where a seed is given. With `folded` the line of the process has terms and lists
         written as such. After `seconds` the run is ended by `TimedOut`.
         """
-        said = self._called([*options_of(budget, order, seed, size), *(['--folded'] if folded else [])], seconds)
-        return Run(Process(said.output.partition('\n')[0]), *end_of(said.output))
+        options = [*options_of(budget, order, seed, size), *(['--folded'] if folded else [])]
+        return run_of(checked(call('run', [self.text], options, seconds)))
 
     def trace(self, *, budget: int = TRACED, order: Order | str | None = None, seed: int | None = None, size: int = SIZE,
               seconds: float | None = None) -> Trace:
         """All processes of a run, 10,000 firings of it where no budget is given. What is given is as for `run`."""
-        said = self._called([*options_of(budget, order, seed, size), '--trace'], seconds)
+        said = checked(call('run', [self.text], [*options_of(budget, order, seed, size), '--trace'], seconds))
         return Trace(said.output, order_of(order, seed), seed or 0, rule_names(self.text))
-
-    def _called(self, options: Sequence[str], seconds: float | None) -> Said:
-        said = call('run', [self.text], options, seconds)
-        has_end = said.output.rpartition('\n% ')[2].startswith(Ending.NO_MEMORY.value)
-        if said.status not in (0, 1, 7) and not (said.status == 6 and has_end):
-            raise error_of(said.status, said.last_words)
-        return said
 
     @cached_property
     def first(self) -> Process:
@@ -90,6 +83,15 @@ class Program:
                 rules[-1].append(line.strip())
         return rules
 
+    def execute(self, listing: Sequence[Sequence[str]], *, seconds: float | None = None) -> Run:
+        """Runs it by a listing in place of what it is compiled to, as with no option of `run`; `ListingRefused` where it can't be run."""
+        text = ''.join(f'rule {number}\n' + ''.join(f'  {line}\n' for line in rule) for number, rule in enumerate(listing))
+        return run_of(checked(call('exec', [text, self.text], (), seconds)))
+
+    def debug(self, script: str, *, seconds: float | None = None) -> list[str]:
+        """What is printed for a script, whose lines are `step N`, `back N`, `until F OP N` and `show`; `ScriptRefused` where it is none."""
+        return output_of('debug', [self.text, script], (), seconds).split('\n')[:-1]
+
     def explore(self, *, most: int = EXPLORED, heads: Sequence[str] = ()) -> Exploration:
         """All processes that can be reached, about as many as `most` at most, and the firings among them.
 
@@ -97,6 +99,19 @@ class Program:
         told by `Exploration.matching`. ^C ends the search; what is known by then is told.
         """
         return explored(self, most, heads)
+
+
+def checked(said: Said) -> Said:
+    """What was said of a run, if it came to an end; else its exception."""
+    has_end = said.output.rpartition('\n% ')[2].startswith(Ending.NO_MEMORY.value)
+    if said.status not in (0, 1, 7) and not (said.status == 6 and has_end):
+        raise error_of(said.status, said.last_words)
+    return said
+
+
+def run_of(said: Said) -> Run:
+    """The run whose last process was printed."""
+    return Run(Process(said.output.partition('\n')[0]), *end_of(said.output))
 
 
 def number_behind(mark: str, output: str) -> int:

@@ -19,6 +19,7 @@ from leskvund import (
     ProgramMissing,
     ReadFailed,
     Refused,
+    ScriptRefused,
     TraceRefused,
     WeightsRefused,
     WordsRefused,
@@ -68,7 +69,7 @@ def test_a_column_is_counted_in_bytes() -> None:
 
 @pytest.mark.no_program
 @pytest.mark.parametrize('status, said, kind', [
-    (2, 'E10 1:5 unexpected token', Refused), (8, 'E62 3:1 wrong end', TraceRefused), (10, 'E82 1:1 code not verified', ListingRefused),
+    (2, 'E10 1:5 unexpected token', Refused), (8, 'E62 3:1 wrong end', TraceRefused), (9, 'E71 2:1 unknown command', ScriptRefused), (10, 'E82 1:1 code not verified', ListingRefused),
     (11, 'E86 1:4 rule not lowered', WeightsRefused), (3, 'lmn: words not understood', WordsRefused), (4, 'lmn: read failed', ReadFailed),
     (5, 'lmn: write failed', WriteFailed), (6, 'lmn: out of memory', OutOfMemory), (70, 'lmn: not built: no kit', ProgramMissing),
     (-11, '', ProgramFailed), (2, 'nonsense', ProgramFailed), (99, 'x', ProgramFailed),

@@ -5,7 +5,7 @@ from pathlib import Path
 
 import pytest
 
-from leskvund import Ending, Functor, Order, Process, Program, Run, TimedOut, TraceRefused, WeightsRefused
+from leskvund import Ending, Functor, ListingRefused, Order, Process, Program, Run, ScriptRefused, TimedOut, TraceRefused, WeightsRefused
 
 SHARE = '''ready. ready. free.
 take  @@ ready, free :- busy.
@@ -126,6 +126,36 @@ def test_compile() -> None:
     ]]
     assert len(Program(SHARE).compile()) == 2
     assert Program('a.').compile() == []
+
+
+TWO = 'a. a. a, a :- b.'
+
+
+def test_execute_runs_by_a_listing_changed_by_hand() -> None:
+    program = Program(TWO)
+    listing = [[line.replace('NEWATOM A2 M0 b/0', 'NEWATOM A2 M0 c/0') for line in rule] for rule in program.compile()]
+    assert program.execute(listing) == Run(Process('c. (a, a :- b).'), Ending.IRREDUCIBLE, 1)
+    assert program.execute(program.compile()) == program.run()
+
+
+def test_execute_refuses_code_that_would_be_run_wrongly() -> None:
+    program = Program(TWO)
+    with pytest.raises(ListingRefused) as caught:
+        program.execute([[line for line in rule if line != 'REMOVEATOM A1'] for rule in program.compile()])
+    assert (caught.value.code, caught.value.line, caught.value.column, caught.value.words) == ('E82', 1, 1, 'code not verified')
+
+
+def test_debug_goes_forward_and_back() -> None:
+    assert Program(SHARE).debug('step 1\nshow\nuntil done/0 =:= 2\nback 1\nshow\nstep 5\n') == [
+        '% at 1', 'ready. busy. (ready, free :- busy). (busy :- done, free).', '% at 4 met', '% at 3',
+        'done. busy. (ready, free :- busy). (busy :- done, free).', '% at 4 irreducible',
+    ]
+
+
+def test_debug_refuses_what_is_no_command() -> None:
+    with pytest.raises(ScriptRefused) as caught:
+        Program(SHARE).debug('step 1\ngo\n')
+    assert (caught.value.code, caught.value.line, caught.value.column, caught.value.words) == ('E71', 2, 1, 'unknown command')
 
 
 def test_rules_have_their_names() -> None:

@@ -68,6 +68,17 @@ def test_each_refusal_is_marked_at_its_place(patient: Client, row: list[str]) ->
     assert code in told and row[5] in told
 
 
+def test_each_rule_that_is_refused_is_marked(client: Client) -> None:
+    marks = client.open("r @@ a(X) :- 'é', b.\na(c).\ns @@ {$p} :- d. t @@ e($x) :- f. u :- g.\n/* é */ v @@ 'é', h(X) :- i.")
+    assert [(mark['code'], mark['range']['start']) for mark in marks if mark['severity'] == 1] == [
+        ('E22', {'line': 0, 'character': 7}), ('E33', {'line': 2, 'character': 6}), ('E40', {'line': 2, 'character': 23}), ('E22', {'line': 3, 'character': 20})]
+
+
+def test_a_refusal_of_the_process_is_the_only_one(client: Client) -> None:
+    assert [mark['code'] for mark in client.open('a(X). b :- c(Y).')] == ['E20']
+    assert [mark['code'] for mark in client.open('a :- b(. c :- d(Y).', 'file:///b.lmn')] == ['E10', 'E22']
+
+
 def test_marks_follow_what_is_typed(client: Client) -> None:
     assert client.open('a(X).') != []
     assert client.change({'range': span(0, 4, 4), 'text': ', b(X)'}) == []

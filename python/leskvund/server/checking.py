@@ -56,4 +56,4 @@ class Checker(threading.Thread):
         except Exception as why:  # A fault of this server mustn't end it.
             self.fail(f'{type(why).__name__}: {why}')
             faults = []
-        self.tell(document, faults)
+        self.tell(document, sorted(faults, key=lambda fault: fault.start))

@@ -8,12 +8,14 @@ from typing import Any
 from leskvund import advice
 from leskvund.calling import Said, call
 from leskvund.errors import Refused, error_of
-from leskvund.server.documents import Document
+from leskvund.server.documents import Document, place_of_bytes
 from leskvund.server.occurrences import HEAD, Clause
 from leskvund.texts import clauses_of
 
 # The program only loads a text, which takes longer for none but one that no person types.
 MOST_SECONDS = 10
+# How many rules that are refused are marked at once.
+MOST_REFUSALS = 10
 ERROR, WARNING = 1, 2
 LINK_CODES = ('E20', 'E21', 'E22', 'E23')
 
@@ -68,19 +70,43 @@ def loaded(text: str) -> Said:
 
 
 def faults_of(document: Document) -> list[Fault]:
-    """All that is to be marked; LeskvundError where the program can't say."""
-    said = loaded(document.text)
-    if said.status in (0, 1, 7):
-        return unmade_faults(document, said.output.partition('\n')[0]) + habit_faults(document)
-    error = error_of(said.status, said.last_words)
-    if isinstance(error, Refused):
-        return [refusal(document, error), *habit_faults(document)]
-    raise error
+    """All that is to be marked; LeskvundError where the program can't say.
+
+    The program refuses a text at one place. Where that is in a rule, which is no part of the others, it is asked again without it.
+    """
+    faults: list[Fault] = []
+    text = document.text
+    for _ in range(MOST_REFUSALS):
+        said = loaded(text)
+        if said.status in (0, 1, 7):
+            unmade = [] if faults else unmade_faults(document, said.output.partition('\n')[0])
+            return faults + unmade + habit_faults(document)
+        error = error_of(said.status, said.last_words)
+        if not isinstance(error, Refused):
+            raise error
+        place = place_of_bytes(text, error.line, error.column)
+        faults.append(refusal(document, place, error))
+        rule = rule_at(document, place)
+        if rule is None or not text[slice(*rule)].strip():
+            break
+        text = without(text, *rule)
+    return faults + habit_faults(document)
 
 
-def refusal(document: Document, error: Refused) -> Fault:
-    """The place of a refusal, with its cure."""
-    place = document.place_of_bytes(error.line, error.column)
+def rule_at(document: Document, place: int) -> tuple[int, int] | None:
+    """Where the rule at the top begins in which a place lies, and the place behind its full stop."""
+    rules = [rule for rule in document.occurrences.rules if rule.outer is None and rule.start <= place]
+    end = document.occurrences.stop_behind(rules[-1]) if rules else 0
+    return (rules[-1].start, end) if place < end else None
+
+
+def without(text: str, start: int, end: int) -> str:
+    """A text with blanks for the letters of a part, so that all else stays where it is."""
+    return text[:start] + re.sub(r'[^\r\n]', ' ', text[start:end]) + text[end:]
+
+
+def refusal(document: Document, place: int, error: Refused) -> Fault:
+    """A refusal at a place, with its cure."""
     token = document.occurrences.token_at(place)
     cure = Cure.of(error.code)
     words = error.words if cure is None else f'{error.words}\ninstead: {cure.words()}'

@@ -14,6 +14,15 @@ LINE_END = re.compile(r'\r\n|\n|\r')
 ENCODINGS = {'utf-8': ('utf-8', 1), 'utf-16': ('utf-16-le', 2), 'utf-32': ('utf-32-le', 4)}
 
 
+def place_of_bytes(text: str, line: int, column: int) -> int:
+    """The place of a line and a column that the program tells: lines end with a line feed, columns are bytes, both from 1."""
+    lines = text.split('\n')
+    if line > len(lines):
+        return len(text)
+    before = lines[line - 1].encode('utf-8', 'surrogatepass')[:column - 1].decode('utf-8', 'ignore')
+    return sum(len(each) + 1 for each in lines[:line - 1]) + len(before)
+
+
 class Document:
     """A text at a version. Lines end as the protocol says, and a place in a line is counted in units of an encoding."""
 
@@ -63,14 +72,6 @@ class Document:
         name, size = ENCODINGS[self.encoding]
         before = line.encode(name, 'surrogatepass')[:position['character'] * size]
         return self.starts[number] + len(before.decode(name, 'ignore' if self.encoding == 'utf-8' else 'surrogatepass'))
-
-    def place_of_bytes(self, line: int, column: int) -> int:
-        """The place of a line and a column that the program tells: lines end with a line feed, columns are bytes, both from 1."""
-        lines = self.text.split('\n')
-        if line > len(lines):
-            return len(self.text)
-        before = lines[line - 1].encode('utf-8', 'surrogatepass')[:column - 1].decode('utf-8', 'ignore')
-        return sum(len(each) + 1 for each in lines[:line - 1]) + len(before)
 
     def changed(self, version: int | None, changes: list[dict[str, Any]]) -> Document:
         """The text after changes, one after the other: each of a part, or of all of it."""

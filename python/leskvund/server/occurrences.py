@@ -268,6 +268,11 @@ class Occurrences:
         """The functors that have a name."""
         yield from sorted({it.key for it in self.all if it.kind == 'functor' and it.key[0] == name})
 
+    def stop_behind(self, clause: Clause) -> int:
+        """The place behind the full stop that ends a clause, or behind the clause where there is none."""
+        behind = next((token for token in self.tokens if token.start >= clause.end), None)
+        return behind.end if behind is not None and behind.text == '.' else clause.end
+
     def token_at(self, place: int) -> Token | None:
         """The token that begins at a place."""
         return next((token for token in self.tokens if token.start == place), None)
