@@ -9,7 +9,7 @@ from typing import TYPE_CHECKING, Any, NamedTuple
 
 from leskvund import certifying, program, reaching
 from leskvund.calling import find_program, output_of
-from leskvund.errors import ProgramFailed, error_of
+from leskvund.errors import LeskvundError, ProgramFailed
 from leskvund.following_rules import line_of
 from leskvund.patterns import Rules
 from leskvund.processes import Process, Rule
@@ -78,6 +78,10 @@ class Exploration(Sequence[Process]):
         """How many firings lead to a process at least."""
         return self._reached.depths[number]
 
+    def folded(self, number: int) -> str:
+        """A process as a person reads it: terms and lists written as such, without rules."""
+        return Process(self._reached.told[number]).folded()
+
     def way_to(self, number: int) -> list[Firing]:
         """The firings of a shortest way to a process."""
         way, start = [], 0
@@ -106,6 +110,17 @@ class Exploration(Sequence[Process]):
     def can_reach(self, goals: Iterable[int]) -> set[int]:
         """The processes from which one of some can be reached."""
         return self._graph.can_reach(set(goals))
+
+    def to_svg(self) -> str:
+        """A picture: a circle for each process, an arrow for each firing."""
+        from leskvund.pictures import picture_of_exploration
+        return picture_of_exploration(self)
+
+    def _repr_svg_(self) -> str | None:
+        try:
+            return self.to_svg()
+        except LeskvundError:
+            return None
 
     def to_networkx(self) -> Any:
         """The graph as a MultiDiGraph of networkx, which has to be installed; `networks.exploration_graph` tells its form."""

@@ -4,12 +4,17 @@ from __future__ import annotations
 import html
 import math
 
+from typing import TYPE_CHECKING
+
 from leskvund.errors import LeskvundError
 from leskvund.placing import Body, Layout, short_name, width_of
 from leskvund.processes import Atom, Link, Membrane, Process
 
+if TYPE_CHECKING:
+    from leskvund.explorations import Exploration
+
 # A picture of more is no picture.
-MOST_ITEMS = 2000
+MOST_ITEMS, MOST_PROCESSES = 2000, 300
 MARGIN = 10
 HALF_HEIGHT = 10
 WIDEST = 900
@@ -27,14 +32,6 @@ def picture_of(process: Process) -> str:
     parts += [line(spots, link) for link in process.links]
     parts += [box(it, spot) for it, spot in inside if isinstance(it, Atom)]
     return framed([spot for _, spot in inside], parts)
-
-
-def picture_or_none(process: Process) -> str | None:
-    """The picture, or None where there is too much for one."""
-    try:
-        return picture_of(process)
-    except LeskvundError:
-        return None
 
 
 def framed(spots: list[Body], parts: list[str]) -> str:
@@ -83,3 +80,61 @@ def mark(atom: Atom, at: tuple[float, float], x: float, y: float, port: int) -> 
     if len(atom.links) < 2:
         return ''
     return f'<text x="{at[0] + x * 6 - y * 5:.1f}" y="{at[1] + y * 6 + x * 5:.1f}" font-size="8" fill="#888" {FONT}>{port + 1}</text>'
+
+
+# A process of an exploration: how far columns and rows are apart, and how large its circle is.
+COLUMN, ROW, RADIUS = 70.0, 34.0, 11.0
+
+
+def picture_of_exploration(exploration: Exploration) -> str:
+    """All that can be reached: a circle for each process, in columns by the firings that lead to it, and an arrow for each firing.
+
+    An end has a second circle, and a process that wasn't asked for its firings a dashed one. Where the mouse rests on a circle or an
+    arrow, the process or the rule is told.
+    """
+    if len(exploration) > MOST_PROCESSES:
+        raise LeskvundError(f'{len(exploration)} processes are too many for a picture, which takes {MOST_PROCESSES}')
+    spots = columns(exploration)
+    parts = [arrow(spots[firing.start], spots[firing.end], str(firing.rule)) for firing in exploration.firings]
+    ends = set(exploration.ends)
+    parts += [node(number, spot, exploration.folded(number), number in ends, number < exploration.asked) for number, spot in enumerate(spots)]
+    return framed(spots, parts)
+
+
+def columns(exploration: Exploration) -> list[Body]:
+    """A place for each process: its column by its depth, in the column by its number."""
+    rows: dict[int, int] = {}
+    depths = [exploration.depth(number) for number in range(len(exploration))]
+    spots = []
+    for depth in depths:
+        spot = Body(RADIUS)
+        spot.x, spot.y = COLUMN * depth, ROW * (rows.get(depth, 0) - (depths.count(depth) - 1) / 2)
+        rows[depth] = rows.get(depth, 0) + 1
+        spots.append(spot)
+    return spots
+
+
+def node(number: int, spot: Body, told: str, is_end: bool, is_asked: bool) -> str:
+    """A process."""
+    dashes = '' if is_asked else ' stroke-dasharray="3 2"'
+    outer = f'<circle cx="{spot.x:.1f}" cy="{spot.y:.1f}" r="{RADIUS + 3}" fill="none" stroke="#555"/>' if is_end else ''
+    inner = f'<circle cx="{spot.x:.1f}" cy="{spot.y:.1f}" r="{RADIUS}" fill="#fff" stroke="#555"{dashes}/>'
+    return f'<g>{outer}{inner}<text x="{spot.x:.1f}" y="{spot.y:.1f}" font-size="9" {FONT}>{number}</text><title>{html.escape(told)}</title></g>'
+
+
+def arrow(start: Body, end: Body, rule: str) -> str:
+    """A firing: a line that bends to its left, so that those to and fro can be told apart; one to the process itself is a loop."""
+    title = f'<title>{html.escape(rule)}</title>'
+    if start is end:
+        return f'<g><ellipse cx="{start.x:.1f}" cy="{start.y - RADIUS - 6:.1f}" rx="6" ry="9" fill="none" stroke="#888"/>{title}</g>'
+    distance = math.hypot(end.x - start.x, end.y - start.y)
+    x, y = (end.x - start.x) / distance, (end.y - start.y) / distance
+    bend = 0.0 if 0 < end.x - start.x <= COLUMN else 0.2 * distance
+    middle = (start.x + end.x) / 2 + y * bend, (start.y + end.y) / 2 - x * bend
+    reach = math.hypot(end.x - middle[0], end.y - middle[1])
+    u, v = (end.x - middle[0]) / reach, (end.y - middle[1]) / reach
+    tip = end.x - u * (RADIUS + 4), end.y - v * (RADIUS + 4)
+    curve = f'<path d="M {start.x:.1f} {start.y:.1f} Q {middle[0]:.1f} {middle[1]:.1f} {tip[0]:.1f} {tip[1]:.1f}" fill="none" stroke="#888"/>'
+    wings = [(tip[0] - u * 6 + side * v * 3, tip[1] - v * 6 - side * u * 3) for side in (1, -1)]
+    head = ' '.join(f'{point[0]:.1f},{point[1]:.1f}' for point in (tip, *wings))
+    return f'<g>{curve}<polygon points="{head}" fill="#888"/>{title}</g>'

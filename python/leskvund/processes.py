@@ -9,7 +9,7 @@ from functools import cached_property
 from typing import Any, NamedTuple
 
 from leskvund import lines, regions
-from leskvund.errors import ProgramFailed
+from leskvund.errors import LeskvundError, ProgramFailed
 from leskvund.patterns import Rules
 from leskvund.sameness import Kinds
 from leskvund.terms import Reader
@@ -256,8 +256,10 @@ class Process:
         return picture_of(self)
 
     def _repr_svg_(self) -> str | None:
-        from leskvund.pictures import picture_or_none
-        return picture_or_none(self)
+        try:
+            return self.to_svg()
+        except LeskvundError:
+            return None
 
 
 def region_of(process: Process, rules: Rules) -> regions.Region:

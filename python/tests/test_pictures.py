@@ -64,6 +64,14 @@ def test_runs_and_traces_show_in_a_notebook() -> None:
     assert Program('n(0). n($x) :- $y = $x + 1 | n($y).').trace(budget=5000)._repr_html_() is None
 
 
+def test_an_exploration_has_a_picture() -> None:
+    reached = Program('r @@ a :- b. s @@ b :- a. t @@ b :- c. u @@ b :- b. a.').explore()
+    picture = ElementTree.fromstring(reached._repr_svg_())
+    assert len(list(picture.iter(f'{SVG}circle'))) == 3 + 1 and len(list(picture.iter(f'{SVG}polygon'))) == 3
+    assert sorted(title.text for title in picture.iter(f'{SVG}title')) == ['a', 'b', 'c', 'r @@ a :- b', 's @@ b :- a', 't @@ b :- c', 'u @@ b :- b']
+    assert Program('n($x) :- $y = $x + 1 | n($y). n(0).').explore(most=400)._repr_svg_() is None
+
+
 @pytest.mark.no_program
 def test_a_process_as_a_graph_of_networkx() -> None:
     networkx = pytest.importorskip('networkx')
