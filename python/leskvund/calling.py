@@ -2,6 +2,7 @@
 from __future__ import annotations
 
 import os
+import signal
 import subprocess
 import tempfile
 from collections.abc import Sequence
@@ -18,7 +19,7 @@ def find_program() -> str:
     """The program: what the variable LMN names, else the one that was built in this repository, else `lmn` of PATH."""
     program: str | None = found()
     if program is None:
-        raise ProgramMissing('no program: the variable LMN is not set, no crates/lmn/out/lmn is built in the repository, and there is no lmn on PATH')
+        raise ProgramMissing('no program: LMN names none, crates/lmn/out/lmn is not built (./lmn demo 1 builds it), and no lmn is on PATH')
     return program
 
 
@@ -41,14 +42,24 @@ def call(command: str, texts: Sequence[str], options: Sequence[str] = (), second
     program = find_program()
     with tempfile.TemporaryDirectory(prefix='leskvund') as folder:
         files = [written(folder, number, text) for number, text in enumerate(texts)]
-        try:
-            done = subprocess.run([program, command, *files, *options], stdin=subprocess.DEVNULL, capture_output=True, timeout=seconds,
-                                  encoding=ENCODING, errors=ERRORS)
-        except subprocess.TimeoutExpired:
-            raise TimedOut(seconds or 0) from None
-        except OSError as why:
-            raise ProgramMissing(f'{program} is not to be run: {why.strerror}') from None
-    return Said(done.returncode, done.stdout, done.stderr)
+        with started([program, command, *files, *options]) as run:
+            try:
+                output, words = run.communicate(timeout=seconds)
+            except subprocess.TimeoutExpired:
+                raise TimedOut(seconds or 0) from None
+            finally:
+                if run.poll() is None:
+                    os.killpg(run.pid, signal.SIGKILL)
+    return Said(run.returncode, output, words)
+
+
+def started(words: Sequence[str]) -> subprocess.Popen[str]:
+    """The running program, in a group of its own, so that all that it starts can be ended."""
+    try:
+        return subprocess.Popen(words, stdin=subprocess.DEVNULL, stdout=subprocess.PIPE, stderr=subprocess.PIPE, start_new_session=True,
+                                encoding=ENCODING, errors=ERRORS)
+    except OSError as why:
+        raise ProgramMissing(f'{words[0]} is not to be run: {why.strerror}') from None
 
 
 def written(folder: str, number: int, text: str) -> str:

@@ -5,6 +5,7 @@ import os
 import pickle
 import re
 import stat
+import time
 from pathlib import Path
 
 import pytest
@@ -20,6 +21,7 @@ from leskvund import (
     ReadFailed,
     Refused,
     ScriptRefused,
+    TimedOut,
     TraceRefused,
     WeightsRefused,
     WordsRefused,
@@ -130,6 +132,20 @@ def test_a_program_that_is_another_one(stand_in, script: str) -> None:
     stand_in(script)
     with pytest.raises(ProgramFailed):
         Program('').run()
+
+
+@pytest.mark.no_program
+def test_all_that_was_started_ends_with_the_time(stand_in, tmp_path: Path) -> None:
+    stand_in(f'sleep 60 & echo $! > {tmp_path}/number; wait')
+    begun = time.monotonic()
+    with pytest.raises(TimedOut):
+        Program('').run(seconds=0.5)
+    assert time.monotonic() - begun < 10
+    state = Path(f'/proc/{(tmp_path / "number").read_text().strip()}/stat')
+    deadline = time.monotonic() + 5
+    while state.exists() and state.read_text().split()[2] != 'Z':
+        assert time.monotonic() < deadline
+        time.sleep(0.05)
 
 
 @pytest.mark.no_program
