@@ -3,13 +3,12 @@ from __future__ import annotations
 
 import os
 import pickle
-import re
 import stat
 import time
 from pathlib import Path
 
 import pytest
-from conftest import TOP
+from conftest import refusals
 
 from leskvund import (
     LeskvundError,
@@ -30,14 +29,7 @@ from leskvund import (
 from leskvund.errors import error_of
 
 
-def rows() -> list[list[str]]:
-    """The rows of docs/refusals.md that have an example."""
-    page = (TOP / 'docs' / 'refusals.md').read_text(encoding='utf-8')
-    cells = [[cell.strip().replace('\\|', '|') for cell in re.split(r'(?<!\\)\|', line)[1:-1]] for line in page.split('\n') if line.startswith('| `E')]
-    return [row for row in cells if row[3].startswith('`') and row[3].count('`') == 2]
-
-
-@pytest.mark.parametrize('row', rows(), ids=lambda row: row[0].strip('`'))
+@pytest.mark.parametrize('row', refusals(), ids=lambda row: row[0].strip('`'))
 def test_each_refusal_of_the_page(row: list[str]) -> None:
     code, words, refused, place, accepted = row[0].strip('`'), row[1], row[3].strip('`'), row[4], row[5].strip('`')
     line, column = map(int, place.split(':'))

@@ -5,30 +5,16 @@ import re
 from pathlib import Path
 
 import pytest
-from conftest import EXAMPLES, TOP
-from test_errors import rows
+from conftest import EXAMPLES, refusals, texts_of_pages
 
 from leskvund import Program
 from leskvund.server.occurrences import BODY, HEAD, PROCESS, Occurrences
 
-PAGES = ('guide.md', 'patterns.md', 'commands.md', 'syntax.md')
 TAKEN = re.compile(r"(?:FINDATOM|DEREF|FIRSTATOM)\b.* (\S.*/\d+)$")
 MADE = re.compile(r"NEWATOM \S+ \S+ (.*/\d+)$")
 
 
-def texts_of_pages() -> list[str]:
-    """The texts that pages show, which stand above the line that begins with a dollar."""
-    texts = []
-    for page in PAGES:
-        for block in re.findall(r'(?ms)^```\n(.*?)^```$', (TOP / 'docs' / page).read_text(encoding='utf-8')):
-            above, mark, _ = block.partition('\n$ ')
-            # A text that the page shows as refused has the code behind it.
-            if mark and not block.startswith('$') and not re.search(r'(?m)^E\d\d 1:', block):
-                texts.append(above)
-    return texts
-
-
-TEXTS = [path.read_text(encoding='utf-8') for path in EXAMPLES] + texts_of_pages() + [row[5].strip('`') for row in rows()]
+TEXTS = [path.read_text(encoding='utf-8') for path in EXAMPLES] + texts_of_pages() + [row[5].strip('`') for row in refusals()]
 
 
 def functors(found: Occurrences, side: str) -> set[str]:

@@ -4,6 +4,7 @@ from __future__ import annotations
 from pathlib import Path
 
 import pytest
+from conftest import texts_of_pages
 
 from leskvund import Ending, Functor, ListingRefused, Order, Process, Program, Run, ScriptRefused, TimedOut, TraceRefused, WeightsRefused
 
@@ -58,6 +59,13 @@ def test_folded_line_and_its_graph() -> None:
 def test_folded_example_is_the_same_process(example: Path) -> None:
     program = Program.from_file(example)
     assert program.run(folded=True).process.is_same_as(program.run().process)
+
+
+@pytest.mark.parametrize('text', texts_of_pages())
+def test_folded_texts_of_pages_are_the_same_processes(text: str) -> None:
+    program = Program(text)
+    folded, plain = program.run(folded=True, budget=50).process, program.run(budget=50).process
+    assert folded.functors() == plain.functors() and folded.is_same_as(plain)
 
 
 def test_trace_goes_from_the_first_process_to_the_last() -> None:

@@ -9,7 +9,7 @@ from pathlib import Path
 
 import pytest
 from client import Client, span
-from test_errors import rows
+from conftest import refusals
 
 SHARE = '''ready. ready. free.
 take  @@ ready, free :- busy.
@@ -57,7 +57,7 @@ def test_a_refusal_is_marked_with_its_cure(client: Client) -> None:
     assert mark['message'].startswith('link occurs once in rule') and 'instead: what a link leads to is thrown away by a typed context' in mark['message']
 
 
-@pytest.mark.parametrize('row', rows(), ids=lambda row: row[0].strip('`'))
+@pytest.mark.parametrize('row', refusals(), ids=lambda row: row[0].strip('`'))
 def test_each_refusal_is_marked_at_its_place(patient: Client, row: list[str]) -> None:
     code, text, place = row[0].strip('`'), row[3].strip('`'), row[4]
     line, column = map(int, place.split(':'))
