@@ -28,8 +28,8 @@ if TYPE_CHECKING:
     from leskvund.errors import WeightsRefused as WeightsRefused
     from leskvund.errors import WordsRefused as WordsRefused
     from leskvund.errors import WriteFailed as WriteFailed
-    from leskvund.explorations import Exploration as Exploration
-    from leskvund.explorations import Firing as Firing
+    from leskvund.reachability import ReachabilityGraph as ReachabilityGraph
+    from leskvund.reachability import Firing as Firing
     from leskvund.processes import Atom as Atom
     from leskvund.processes import End as End
     from leskvund.processes import Functor as Functor
@@ -47,7 +47,7 @@ if TYPE_CHECKING:
 MODULES = {
     'errors': ('LeskvundError', 'ListingRefused', 'OutOfMemory', 'ProgramFailed', 'ProgramMissing', 'ReadFailed', 'Refused', 'ScriptRefused',
                'TimedOut', 'TraceRefused', 'WeightsRefused', 'WordsRefused', 'WriteFailed'),
-    'explorations': ('Exploration', 'Firing'),
+    'reachability': ('Firing', 'ReachabilityGraph'),
     'processes': ('Atom', 'End', 'Functor', 'Link', 'Membrane', 'Process', 'Rule'),
     'programs': ('Program',),
     'runs': ('Ending', 'Order', 'Run', 'Trace'),

@@ -7,7 +7,7 @@ from leskvund.errors import LeskvundError
 from leskvund.processes import Process
 
 if TYPE_CHECKING:
-    from leskvund.explorations import Exploration
+    from leskvund.reachability import ReachabilityGraph
 
 
 def imported() -> Any:
@@ -40,15 +40,15 @@ def process_graph(process: Process, membranes: bool) -> Any:
     return graph
 
 
-def exploration_graph(exploration: Exploration) -> Any:
+def reachability_graph(graph: ReachabilityGraph) -> Any:
     """All that can be reached as a MultiDiGraph.
 
     A process is a node by its number, with its `text`, its `depth`, and whether it `is_end`; a firing is an edge with its `rule`,
     by its name or else by its text.
     """
-    graph, ends = imported().MultiDiGraph(), set(exploration.ends)
-    for number, process in enumerate(exploration):
-        graph.add_node(number, text=process.text, depth=exploration.depth(number), is_end=number in ends)
-    for firing in exploration.firings:
-        graph.add_edge(firing.start, firing.end, rule=firing.rule.name or firing.rule.text.strip())
-    return graph
+    made, ends = imported().MultiDiGraph(), set(graph.ends)
+    for number, process in enumerate(graph):
+        made.add_node(number, text=process.text, depth=graph.depth(number), is_end=number in ends)
+    for firing in graph.firings:
+        made.add_edge(firing.start, firing.end, rule=firing.rule.name or firing.rule.text.strip())
+    return made

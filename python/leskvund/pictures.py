@@ -11,7 +11,7 @@ from leskvund.placing import Body, Layout, short_name, width_of
 from leskvund.processes import Atom, Link, Membrane, Process
 
 if TYPE_CHECKING:
-    from leskvund.explorations import Exploration
+    from leskvund.reachability import ReachabilityGraph
 
 # A picture of more is no picture.
 MOST_ITEMS, MOST_PROCESSES = 2000, 300
@@ -82,29 +82,29 @@ def mark(atom: Atom, at: tuple[float, float], x: float, y: float, port: int) -> 
     return f'<text x="{at[0] + x * 6 - y * 5:.1f}" y="{at[1] + y * 6 + x * 5:.1f}" font-size="8" fill="#888" {FONT}>{port + 1}</text>'
 
 
-# A process of an exploration: how far columns and rows are apart, and how large its circle is.
+# A process of a reachability graph: how far columns and rows are apart, and how large its circle is.
 COLUMN, ROW, RADIUS = 70.0, 34.0, 11.0
 
 
-def picture_of_exploration(exploration: Exploration) -> str:
+def picture_of_graph(graph: ReachabilityGraph) -> str:
     """All that can be reached: a circle for each process, in columns by the firings that lead to it, and an arrow for each firing.
 
     An end has a second circle, and a process that wasn't asked for its firings a dashed one. Where the mouse rests on a circle or an
     arrow, the process or the rule is told.
     """
-    if len(exploration) > MOST_PROCESSES:
-        raise LeskvundError(f'{len(exploration)} processes are too many for a picture, which takes {MOST_PROCESSES}')
-    spots = columns(exploration)
-    parts = [arrow(spots[firing.start], spots[firing.end], str(firing.rule)) for firing in exploration.firings]
-    ends = set(exploration.ends)
-    parts += [node(number, spot, exploration.folded(number), number in ends, number < exploration.asked) for number, spot in enumerate(spots)]
+    if len(graph) > MOST_PROCESSES:
+        raise LeskvundError(f'{len(graph)} processes are too many for a picture, which takes {MOST_PROCESSES}')
+    spots = columns(graph)
+    parts = [arrow(spots[firing.start], spots[firing.end], str(firing.rule)) for firing in graph.firings]
+    ends = set(graph.ends)
+    parts += [node(number, spot, graph.folded(number), number in ends, number < graph.asked) for number, spot in enumerate(spots)]
     return framed(spots, parts)
 
 
-def columns(exploration: Exploration) -> list[Body]:
+def columns(graph: ReachabilityGraph) -> list[Body]:
     """A place for each process: its column by its depth, in the column by its number."""
     rows: dict[int, int] = {}
-    depths = [exploration.depth(number) for number in range(len(exploration))]
+    depths = [graph.depth(number) for number in range(len(graph))]
     spots = []
     for depth in depths:
         spot = Body(RADIUS)

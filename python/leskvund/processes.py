@@ -8,10 +8,10 @@ from dataclasses import dataclass, field
 from functools import cached_property
 from typing import Any, NamedTuple
 
-from leskvund import lines, regions
+from leskvund import lines
 from leskvund.errors import LeskvundError, ProgramFailed
-from leskvund.patterns import Rules
-from leskvund.sameness import Kinds
+from leskvund.sameness import is_same
+from leskvund.telling import folded_text
 from leskvund.terms import Reader
 
 INTEGER = re.compile(r'-?\d+')
@@ -139,6 +139,7 @@ class Graph:
         self.atoms: list[Atom] = []
         self.membranes: list[Membrane] = []
         self.links: dict[int, Link] = {}
+        self.is_folded = process.is_folded
         self.reader = Reader(1 + max((link for item in process.items for link in item.links), default=-1))
         for each in process.membranes:
             self.add(each)
@@ -238,12 +239,15 @@ class Process:
 
     def is_same_as(self, other: Process) -> bool:
         """Whether they differ in nothing but the order of items and rules and the numbers of links; exact, by a test of isomorphism."""
-        kinds, rules = Kinds(), Rules(self.text + other.text)
-        return kinds.process(region_of(self, rules)) == kinds.process(region_of(other, rules))
+        return is_same(self.plain(), other.plain())
 
     def folded(self) -> str:
         """The process as a person reads it: terms and lists written as such, without rules."""
-        return regions.told(region_of(self, Rules(self.text)))
+        return folded_text(self.plain())
+
+    def plain(self) -> str:
+        """The line with each atom by itself; it is `text` where that isn't folded."""
+        return plain_line(self) if self.graph.is_folded else self.text
 
     def to_networkx(self, membranes: bool = False) -> Any:
         """The process as a MultiGraph of networkx, which has to be installed; `networks.process_graph` tells its form."""
@@ -262,14 +266,10 @@ class Process:
             return None
 
 
-def region_of(process: Process, rules: Rules) -> regions.Region:
-    """The process as the modules have it that look for matches."""
-    made: list[regions.Region] = []
-    for membrane in process.membranes:
-        region = regions.Region(None if membrane.parent is None else made[membrane.parent.number])
-        if region.parent is not None:
-            region.parent.inner.append(region)
-        region.atoms = [regions.Atom(tuple(atom.functor), [link.number for link in atom.links]) for atom in membrane.atoms]
-        region.rules = [rules.rule(rule.text) for rule in membrane.rules]
-        made.append(region)
-    return regions.join(made[0])
+def plain_line(process: Process) -> str:
+    """The line of a process in the plain form."""
+    parts: dict[Membrane, list[str]] = {}
+    for membrane in reversed(process.membranes):
+        inner = ['{' + ', '.join(parts[it]) + '}' for it in membrane.membranes]
+        parts[membrane] = [*map(repr, membrane.atoms), *inner, *(f'({rule.text})' for rule in membrane.rules)]
+    return ' '.join(f'{part}.' for part in parts[process.root])

@@ -7,8 +7,8 @@ from functools import cached_property
 
 from leskvund.calling import ENCODING, ERRORS, Said, call, output_of
 from leskvund.errors import ProgramFailed, error_of
-from leskvund.explorations import Exploration, explored
 from leskvund.processes import Functor, Process, Rule
+from leskvund.reachability import ReachabilityGraph, reached
 from leskvund.runs import Ending, Order, Run, Trace, end_of, named
 from leskvund.texts import rule_names
 
@@ -92,13 +92,13 @@ class Program:
         """What is printed for a script, whose lines are `step N`, `back N`, `until F OP N` and `show`; `ScriptRefused` where it is none."""
         return output_of('debug', [self.text, script], (), seconds).split('\n')[:-1]
 
-    def explore(self, *, most: int = EXPLORED, heads: Sequence[str] = ()) -> Exploration:
+    def explore(self, *, most: int = EXPLORED, heads: Sequence[str] = (), anywhere: bool = False) -> ReachabilityGraph:
         """All processes that can be reached, about as many as `most` at most, and the firings among them.
 
-        Each of `heads` is a head of the language, maybe with a guard, as `cell($v) :- $v > 3`; in which processes it matches is
-        told by `Exploration.matching`. ^C ends the search; what is known by then is told.
+        Each of `heads` is a head of the language, maybe with a guard, as `cell($v) :- $v > 3`; `ReachabilityGraph.matching` tells
+        in which processes it matches, at the root, or `anywhere`, in membranes too. ^C ends the search; what is known then is told.
         """
-        return explored(self, most, heads)
+        return reached(self.text, most, heads, anywhere)
 
 
 def checked(said: Said) -> Said:

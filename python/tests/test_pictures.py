@@ -64,7 +64,7 @@ def test_runs_and_traces_show_in_a_notebook() -> None:
     assert Program('n(0). n($x) :- $y = $x + 1 | n($y).').trace(budget=5000)._repr_html_() is None
 
 
-def test_an_exploration_has_a_picture() -> None:
+def test_a_reachability_graph_has_a_picture() -> None:
     reached = Program('r @@ a :- b. s @@ b :- a. t @@ b :- c. u @@ b :- b. a.').explore()
     picture = ElementTree.fromstring(reached._repr_svg_())
     assert len(list(picture.iter(f'{SVG}circle'))) == 3 + 1 and len(list(picture.iter(f'{SVG}polygon'))) == 3
@@ -91,7 +91,7 @@ def test_membranes_as_nodes_of_networkx() -> None:
     assert sorted(map(str, graph.neighbors('m1'))) == sorted(['m0', '5', 'm2', 'm3'])
 
 
-def test_an_exploration_as_a_graph_of_networkx() -> None:
+def test_a_reachability_graph_as_one_of_networkx() -> None:
     networkx = pytest.importorskip('networkx')
     graph = Program('r @@ a :- b. s @@ a :- c. a.').explore().to_networkx()
     assert isinstance(graph, networkx.MultiDiGraph)

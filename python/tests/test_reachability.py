@@ -52,7 +52,7 @@ def test_two_threads_that_lose_updates() -> None:
     ends = sorted(process.find('cell/1')[0].neighbours()[0].value for process in (reached[end] for end in reached.ends))
     assert ends == [2, 3, 4]
     assert len(reached.matching('cell(3)')) == 9 and reached.matching('cell($v) :- $v > 4') == []
-    assert reached.certified >= 82
+    assert reached.firings_made >= 82
 
 
 def test_circles_and_what_can_be_reached() -> None:
@@ -73,6 +73,14 @@ def test_at_most_so_many() -> None:
 def test_a_head_that_is_none_is_refused() -> None:
     with pytest.raises(Refused):
         Program('a.').explore(heads=['a(X'])
+
+
+def test_heads_are_looked_for_at_the_root_or_anywhere() -> None:
+    program = Program('{a. a :- b.}.')
+    assert program.explore(heads=['b']).matching('b') == []
+    assert program.explore(heads=['b'], anywhere=True).matching('b') == [1]
+    with pytest.raises(KeyError):
+        program.explore().matching('b')
 
 
 def test_a_program_without_rules() -> None:
