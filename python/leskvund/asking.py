@@ -1,0 +1,311 @@
+"""Asks the program for all firings of processes, so that each firing is made by it, and that there is no other is shown by it.
+
+What is asked stands in one text: a copy of a process for each question, in a membrane of its own. In a copy all rules wait for an
+atom that isn't there, but for those that are asked about: they wait for one that is there once, so a copy fires once or not at all.
+The program takes the first rule that can fire, and of its matches the one whose items stand first in their lists. So
+
+- a copy whose lists begin with the items of a match fires by it,
+- a rule without a match stands before the one that fires, and would fire first if it had one; or it is asked about alone, and
+  the copy doesn't fire,
+- an order of the lists in which items that go on no match that was found stand before the ones that do shows that there is no
+  match with them: the program would have taken it.
+
+For this matches are seen as a tree: below the images of the first items of a head are those that the next one has in matches that
+begin so. A copy *covers* a place in the tree where each other item of the list in which the next image stands comes before the
+image that the program took. All places are covered, by the copies that fire or by more of them. Of atoms without links that
+have one name and stand in one membrane the first is taken for all: exchanging them changes nothing.
+
+What the program will print is foretold letter by letter, and must be what it prints.
+"""
+from leskvund.firing import AS_THEY_STAND, Firing, Orders
+from leskvund.labels import Layout
+from leskvund.matching import first_match, matches
+
+
+def key(item):
+    """What an item has in common with those with which it can be exchanged: atoms without links that have one name."""
+    return item.functor if item.is_free else item
+
+
+class Tree:
+    """The matches of a rule in a membrane as a tree: for each beginning of the images of one the images that go on.
+
+    `lists` has for each beginning the membrane and the kind of the list in which the next image stands, `going` the items of this
+    list that go on, and those that can be exchanged with one.
+    """
+
+    def __init__(self, rule, matches):
+        self.matches, self.next, self.lists = matches, {}, {}
+        self.places = [(item.level, 'atoms' if item.functor else 'inner') for item in rule.head.items]
+        for match in matches:
+            images = tuple(match.images)
+            for at, image in enumerate(images):
+                begun = images[:at]
+                if begun in self.next:
+                    self.next[begun][image] = None
+                else:
+                    level, kind = self.places[at]
+                    self.next[begun], self.lists[begun] = {image: None}, (match.membranes[level], kind)
+        self.going = {begun: self.exchangeable(begun, images) for begun, images in self.next.items()}
+        self.whole = {tuple(match.images): match for match in matches}
+        self.uncovered = dict.fromkeys(self.next)
+
+    def exchangeable(self, begun, images):
+        """The items of a list that are as good as some of them."""
+        going = set(images)
+        for image in images:
+            if image.is_free:
+                going.update(self.lists[begun][0].with_functor(image.functor))
+        return going
+
+    def first(self, orders):
+        """The match that the program takes in some orders, if these are all."""
+        begun = ()
+        while begun not in self.whole:
+            images = self.next[begun]
+            image = next(iter(images))
+            if len(images) > 1:
+                items = orders.items(*self.lists[begun])
+                image = next(it for it in items if it in images)
+            begun = (*begun, image)
+        return self.whole[begun]
+
+    def covered(self, orders, match):
+        """The places of the tree that aren't covered yet and are where the program takes a match in some orders."""
+        images = tuple(match.images)
+        return [images[:at] for at, image in enumerate(images) if images[:at] in self.uncovered and self.covers(orders, images[:at], image)]
+
+    def covers(self, orders, begun, image):
+        """Whether all items but those that go on stand before an image."""
+        region, kind = self.lists[begun]
+        items = orders.items(region, kind)
+        behind = set(items[items.index(image) + 1:])
+        behind.difference_update(self.next[begun], begun)
+        return all(it.is_free and not self.is_next(region, begun, it) for it in behind)
+
+    def is_next(self, region, begun, item):
+        """Whether an atom without links is the first of its kind that is left."""
+        return next((it for it in region.with_functor(item.functor) if it not in begun), None) is item
+
+    def best_orders(self, match):
+        """Orders in which a match is the first of all, by which most places are covered that aren't yet, and these places."""
+        images, places = tuple(match.images), self.places_of(match.membranes)
+        wanted = sum(images[:at] in self.uncovered for at in range(len(images)))
+        is_open = () in self.uncovered
+        best = None
+        for in_turn in (not is_open, is_open):
+            orders = self.orders_for(match, places, in_turn)
+            if self.first(orders) is match:
+                covered = self.covered(orders, match) if wanted else []
+                if best is None or len(covered) > len(best[1]):
+                    best = orders, covered
+                if len(covered) == wanted:
+                    return best
+        if best is None:
+            orders = self.orders_with_first(match, places)
+            best = orders, self.covered(orders, match)
+        return best
+
+    def orders_for(self, match, places, in_turn):
+        """Orders in which a match is the first of all, and all others that can do so stand before its items.
+
+        An item of the match stands as far in front as it can, or `in_turn` behind those of earlier items of the head.
+        """
+        orders = Orders()
+        for (region, kind), numbers in places.items():
+            own, going = [], []
+            for number in numbers:
+                image = match.images[number]
+                at = len(own) if in_turn else self.place_for(image, going)
+                own.insert(at, image)
+                going.insert(at, self.going[tuple(match.images[:number])])
+            orders.put(region, kind, self.arranged(region, kind, own, going))
+        return orders
+
+    def arranged(self, region, kind, own, going):
+        """A list in which each other item stands as far in front as it can: behind all in whose place it would go on."""
+        mine = set(own)
+        rest = [it for it in getattr(region, kind) if it not in mine]
+        parts = []
+        for image, goes_on in zip(reversed(own), reversed(going)):
+            if mine >= goes_on:
+                parts += [(), (image,)]
+            else:
+                parts += [[it for it in rest if it in goes_on], (image,)]
+                rest = [it for it in rest if it not in goes_on]
+        items = rest
+        for part in reversed(parts):
+            items += part
+        return in_line(region, items)
+
+    def place_for(self, item, going):
+        """The first place for an item behind all images in whose place it would go on."""
+        return max((at + 1 for at, goes_on in enumerate(going) if item in goes_on), default=0)
+
+    def places_of(self, membranes):
+        """For each list in which images of a match stand, their places in the match."""
+        places = {}
+        for at, (level, kind) in enumerate(self.places):
+            places.setdefault((membranes[level], kind), []).append(at)
+        return places
+
+    def orders_with_first(self, match, places):
+        """Orders that begin with the items of a match."""
+        orders = Orders()
+        for (region, kind), numbers in places.items():
+            own = [match.images[number] for number in numbers]
+            orders.put(region, kind, in_line(region, own + [it for it in getattr(region, kind) if it not in own]))
+        return orders
+
+    def orders_that_cover(self, begun):
+        """Orders in which a beginning comes first, and then what doesn't go on from it."""
+        orders = Orders()
+        firsts, last = {}, self.lists[begun]
+        for at in range(len(begun)):
+            firsts.setdefault(self.lists[begun[:at]], []).append(begun[at])
+        for region, kind in {**firsts, last: None}:
+            own, goes_on = firsts.get((region, kind), []), self.going[begun] if (region, kind) == last else ()
+            rest = [it for it in getattr(region, kind) if it not in own]
+            orders.put(region, kind, in_line(region, own + [it for it in rest if it not in goes_on] + [it for it in rest if it in goes_on]))
+        return orders
+
+    def orders(self):
+        """Orders, and the match that the program takes in them, until each match is taken and each place covered."""
+        for match in self.matches:
+            orders, covered = self.best_orders(match)
+            self.cover(covered)
+            yield orders, match
+        while self.uncovered:
+            begun = next(iter(self.uncovered))
+            orders = self.orders_that_cover(begun)
+            match = self.first(orders)
+            self.cover(self.covered(orders, match))
+            if begun in self.uncovered:
+                raise AssertionError('a place in the tree of matches is not covered')
+            yield orders, match
+
+    def cover(self, places):
+        """Notes that places of the tree are covered."""
+        for begun in places:
+            del self.uncovered[begun]
+
+
+def in_line(region, items):
+    """A list with the atoms that can be exchanged in the order that they had."""
+    free = [it for it in items if it.is_free]
+    if len(free) > 1 and len({it.functor for it in free}) < len(free):
+        left = {functor: iter(region.with_functor(functor)) for functor in {it.functor for it in free}}
+        return [next(left[it.functor]) if it.is_free else it for it in items]
+    return items
+
+
+class Question:
+    """A copy of a process with its rules asked about.
+
+    `armed` are the rules that can fire in it, by their membranes; `firing` is what is foretold, None where there is none; `is_step`
+    says whether it is one by a rule of the process.
+    """
+    __slots__ = ('root', 'family', 'armed', 'orders', 'firing', 'is_step', 'special')
+
+    def __init__(self, root, family, armed, orders=AS_THEY_STAND, firing=None, is_step=False):
+        self.root, self.family, self.armed, self.orders, self.firing, self.is_step = root, family, armed, orders, firing, is_step
+        self.special = {each for region in (*armed, *orders.atoms, *orders.inner) for each in (region, *region.above())} if root.inner else {root}
+
+    def asked(self):
+        """The copy as it stands in the text, with the mark of the family before each number of a link."""
+        return self.text_of(self.root, False)
+
+    def text_of(self, region, is_below):
+        """The text of a membrane of the copy; `is_below` where a membrane round it is asked about, so that its rules count."""
+        if region not in self.special:
+            return region.layout.text(is_below)
+        armed = self.armed.get(region)
+        parts = [it.label.text for it in self.orders.atoms.get(region) or region.atoms]
+        if armed is not None:
+            parts.insert(0, self.family.go)
+        for inner in self.orders.inner.get(region) or region.inner:
+            parts.append(self.text_of(inner, is_below or armed is not None))
+        parts += [rule.quiet for rule in region.rules if is_below] if armed is None else [rule.armed for rule in armed]
+        return '{' + ', '.join(parts) + '}'
+
+    def wanted(self):
+        """The copy as a form and the links in it, as it is to be printed."""
+        links = []
+        if self.firing is None:
+            return self.form_of(self.root, False, links), links
+        return self.form_of_next(self.firing.top, False, links), links
+
+    def form_of(self, region, is_below, links):
+        """The form of a membrane of the copy as it stands."""
+        if region not in self.special:
+            form, more = region.layout.form(is_below)
+            links += more
+            return form
+        armed = self.armed.get(region)
+        atoms = self.orders.atoms.get(region) or region.atoms
+        parts = [it.form for it in atoms] if armed is None else [self.family.go, *[it.form for it in atoms]]
+        for atom in atoms:
+            links += atom.links
+        for inner in self.orders.inner.get(region) or region.inner:
+            parts.append(self.form_of(inner, is_below or armed is not None, links))
+        parts += self.rules_of(armed, region.rules if is_below else ())
+        return '{' + ', '.join(parts) + '}'
+
+    def rules_of(self, armed, others):
+        """The texts of the rules of a membrane."""
+        return [rule.quiet_form for rule in others] if armed is None else [rule.armed_form for rule in armed]
+
+    def form_of_next(self, made, is_below, links):
+        """The form of a membrane after the firing."""
+        if isinstance(made, Layout):
+            form, more = made.form(is_below)
+            links += more
+            return form
+        armed = self.armed.get(made.region)
+        atoms, inner = self.firing.lists(made, self.orders)
+        parts = [it.form for it in atoms]
+        for atom in atoms:
+            links += atom.links
+        for each in inner:
+            parts.append(self.form_of_next(each, is_below or armed is not None, links))
+        parts += self.rules_of(armed, made.rules if is_below else ())
+        if armed is not None:
+            parts += [rule.quiet_form for rule in made.added]
+        return '{' + ', '.join(parts) + '}'
+
+
+class Questions:
+    """All questions about a process.
+
+    `others` are rules that are asked about beside its own, at the root or `anywhere`; `hits` are those that can fire.
+    """
+
+    def __init__(self, root, family, others=(), anywhere=False):
+        self.root, self.family, self.others, self.anywhere, self.hits, self.silent = root, family, others, anywhere, set(), {}
+
+    def __iter__(self):
+        for region in self.root.below():
+            yield from self.about(region)
+        for armed in self.silent.values():
+            yield Question(self.root, self.family, armed)
+
+    def about(self, region):
+        """The questions about the rules of a membrane. Those without a match come before the first that fires."""
+        found = {rule: matches(rule, region) for rule in dict.fromkeys(region.rules)}
+        others = {rule: first_match(rule, region) for rule in self.others} if self.anywhere or region is self.root else {}
+        self.hits.update([rule for rule, match in others.items() if match])
+        without = [rule for rule, each in (*found.items(), *others.items()) if not each]
+        for rule, each in found.items():
+            firings = {}
+            for orders, match in Tree(rule, each).orders() if each else ():
+                is_step = match not in firings
+                if is_step:
+                    firings[match] = Firing(self.root, rule, match)
+                yield Question(self.root, self.family, {region: [*without, rule]}, orders, firings[match], is_step)
+                without = []
+        for rule, match in others.items():
+            if match:
+                yield Question(self.root, self.family, {region: [*without, rule]}, AS_THEY_STAND, Firing(self.root, rule, match))
+                without = []
+        if without:
+            self.silent.setdefault(region.depth(), {})[region] = without

@@ -1,0 +1,97 @@
+"""A process written down.
+
+Atoms are labels, one object for each functor with links, so that processes share them. A layout is a membrane written down: labels,
+layouts and rules in their order. Neither is changed once it is made.
+"""
+
+# Links of processes that are read have numbers below this one, those that are made from it on.
+FIRST_MADE = 1 << 32
+
+
+class Label:
+    """What an atom is: its functor, a name and a number of links, and its links.
+
+    `form` is its text with `%s` for each link, `text` the one with a mark before the number of each link.
+    """
+    __slots__ = ('functor', 'links', 'number', 'form', 'text', 'label')
+
+    def __init__(self, functor, links, number, form, text):
+        self.functor, self.links, self.number, self.form, self.text, self.label = functor, links, number, form, text, self
+
+
+class Labels:
+    """The labels of a search, each once, and the numbers of its layouts and links. `mark` is a letter that stands in no text."""
+
+    def __init__(self, mark):
+        self.mark, self.known, self.forms, self.layouts, self.links = mark, {}, {}, {}, {}
+
+    def label(self, functor, links):
+        """The label of a functor with a tuple of links."""
+        label = self.known.get((functor, links))
+        if label is None:
+            form = self.form(functor)
+            label = self.known[functor, links] = Label(functor, links, len(self.known), form, form % tuple([f'{self.mark}{link}' for link in links]))
+        return label
+
+    def form(self, functor):
+        """The text of an atom with this functor, `%s` for each link."""
+        form = self.forms.get(functor)
+        if form is None:
+            name, arity = functor
+            name = name.replace('%', '%%')
+            form = self.forms[functor] = f'{name}({", ".join(["%s"] * arity)})' if arity else name
+        return form
+
+    def layout_number(self, content):
+        """The number of what is in a membrane."""
+        return self.layouts.setdefault(content, len(self.layouts))
+
+    def fresh(self, origin, used):
+        """A link that isn't used, the same for the same origin where it can be, so that firings in any order make one process."""
+        times = 0
+        while True:
+            link = self.links.setdefault((origin, times), FIRST_MADE + len(self.links))
+            if link not in used:
+                used.add(link)
+                return link
+            times += 1
+
+
+class Layout:
+    """A membrane written down: labels of its atoms, layouts of the membranes in it, rules, each in their order.
+
+    `number` is the same for two layouts exactly where they differ in the order of their lists alone.
+    """
+    __slots__ = ('labels', 'inner', 'rules', '_number', '_forms', '_texts')
+
+    def __init__(self, labels, inner, rules):
+        self.labels, self.inner, self.rules, self._number, self._forms, self._texts = labels, inner, rules, None, {}, {}
+
+    def number(self, known):
+        if self._number is None:
+            self._number = known.layout_number(content_of([it.number for it in self.labels], [it.number(known) for it in self.inner], self.rules))
+        return self._number
+
+    def form(self, with_rules):
+        """The text as an item with `%s` for each link, and the links; with rules that wait for what isn't there, or without rules."""
+        if with_rules not in self._forms:
+            inner = [it.form(with_rules) for it in self.inner]
+            rules = [rule.quiet_form for rule in self.rules] if with_rules else []
+            links = [link for label in self.labels for link in label.links]
+            for _, each in inner:
+                links += each
+            self._forms[with_rules] = '{' + ', '.join([*[it.form for it in self.labels], *[form for form, _ in inner], *rules]) + '}', links
+        return self._forms[with_rules]
+
+    def text(self, with_rules):
+        """The text as an item, a mark before the number of each link, with rules that wait for what isn't there, or without rules."""
+        if with_rules not in self._texts:
+            inner = [it.text(with_rules) for it in self.inner]
+            rules = [rule.quiet for rule in self.rules] if with_rules else []
+            self._texts[with_rules] = '{' + ', '.join([*[it.text for it in self.labels], *inner, *rules]) + '}'
+        return self._texts[with_rules]
+
+
+def content_of(labels, inner, rules):
+    """What is in a membrane whatever the order: numbers of labels, of layouts and of rules."""
+    return tuple(sorted(labels)), tuple(sorted(inner)), tuple(sorted([rule.number for rule in rules]))

@@ -1,0 +1,1 @@
+"""What tools/check_exploring compares explore with: an enumeration that shares no code with it, and random programs."""
