@@ -11,8 +11,10 @@ use Rattle.lmn_store_heap.proofs.Discard.{discarded_paired}
 use Rattle.lmn_store_heap.proofs.Shapes.{WellShaped, shaped_of, shaped_at}
 use Rattle.lmn_store_slab.specs.Lines.{HeldLists, list_at}
 use Rattle.lmn_store_slab.specs.Cells.{atoms_in_cells, mems_in_cells, built, with_lists}
-use Rattle.lmn_store_slab.specs.Census.{Census}
-use Rattle.lmn_store_slab.specs.Kept.{Kept, AlwaysHolds, ItemsAreFiled, Room, Filed, Removes, heap_of, place_in, mem_place_in, one, with_rules}
+use Rattle.lmn_store_counts.specs.Census.{Census}
+use Rattle.lmn_store_slab.specs.Kept.{Kept, AlwaysHolds, ItemsAreFiled, Room, Filed, heap_of, place_in, mem_place_in}
+use Rattle.lmn_store_counts.specs.Counts.{Removes, one, with_rules}
+use Rattle.lmn_store_counts.proofs.PlaceLemmas.{removes_gone, removes_waiting, mem_removes_gone, mem_removes_waiting}
 use Rattle.lmn_store_slab.proofs.BuiltLemmas.{built_mem_place, not_line as wait_line, not_out as out_line}
 use Rattle.lmn_store_slab.proofs.FitsLemmas.{fits_sound, built_atoms, built_mems}
 use Rattle.lmn_store_slab.proofs.HoldsLemmas.{SameSize, holds_by, heap_by}
@@ -43,46 +45,6 @@ freed_cases place u P r (Some x) = elim (place_cases (place x) P) [
   | inl e ↦ inr ((r x).0 e, ap (λ z. Some z) e)
   | inr d ↦ inl ((r x).1 d, λ e. d (cc))
 ]
-
--- what is gone is removed
-pub removes_gone : Removes (λ (x : HeapAtom). x.place) unless_gone gone
-removes_gone x = by x.place refl
-  where
-    by : (p : Place) → x.place ≡ p → (x.place ≡ gone → unless_gone x ≡ None) × ((x.place ≡ gone → ⊥) → unless_gone x ≡ Some x)
-    by top e = (λ g. absurd (let w : top ≡ gone = sym e ∙ g in cc), λ d. rw e refl)
-    by (within m) e = (λ g. absurd (let w : within m ≡ gone = sym e ∙ g in cc), λ d. rw e refl)
-    by waiting e = (λ g. absurd (let w : waiting ≡ gone = sym e ∙ g in cc), λ d. rw e refl)
-    by gone e = (λ g. rw e refl, λ d. absurd (d e))
-
--- and what waits
-pub removes_waiting : Removes (λ (x : HeapAtom). x.place) unless_waiting waiting
-removes_waiting x = by x.place refl
-  where
-    by : (p : Place) → x.place ≡ p → (x.place ≡ waiting → unless_waiting x ≡ None) × ((x.place ≡ waiting → ⊥) → unless_waiting x ≡ Some x)
-    by top e = (λ g. absurd (let w : top ≡ waiting = sym e ∙ g in cc), λ d. rw e refl)
-    by (within m) e = (λ g. absurd (let w : within m ≡ waiting = sym e ∙ g in cc), λ d. rw e refl)
-    by waiting e = (λ g. rw e refl, λ d. absurd (d e))
-    by gone e = (λ g. absurd (let w : gone ≡ waiting = sym e ∙ g in cc), λ d. rw e refl)
-
--- and so of membranes
-pub mem_removes_gone : Removes (λ (x : HeapMem). x.place) mem_unless_gone gone
-mem_removes_gone x = by x.place refl
-  where
-    by : (p : Place) → x.place ≡ p → (x.place ≡ gone → mem_unless_gone x ≡ None) × ((x.place ≡ gone → ⊥) → mem_unless_gone x ≡ Some x)
-    by top e = (λ g. absurd (let w : top ≡ gone = sym e ∙ g in cc), λ d. rw e refl)
-    by (within m) e = (λ g. absurd (let w : within m ≡ gone = sym e ∙ g in cc), λ d. rw e refl)
-    by waiting e = (λ g. absurd (let w : waiting ≡ gone = sym e ∙ g in cc), λ d. rw e refl)
-    by gone e = (λ g. rw e refl, λ d. absurd (d e))
-
--- and of those that wait
-pub mem_removes_waiting : Removes (λ (x : HeapMem). x.place) mem_unless_waiting waiting
-mem_removes_waiting x = by x.place refl
-  where
-    by : (p : Place) → x.place ≡ p → (x.place ≡ waiting → mem_unless_waiting x ≡ None) × ((x.place ≡ waiting → ⊥) → mem_unless_waiting x ≡ Some x)
-    by top e = (λ g. absurd (let w : top ≡ waiting = sym e ∙ g in cc), λ d. rw e refl)
-    by (within m) e = (λ g. absurd (let w : within m ≡ waiting = sym e ∙ g in cc), λ d. rw e refl)
-    by waiting e = (λ g. rw e refl, λ d. absurd (d e))
-    by gone e = (λ g. absurd (let w : gone ≡ waiting = sym e ∙ g in cc), λ d. rw e refl)
 
 -- freeing doesn't see the lists
 gone_lists : (xs ys : List ℕ) (o : Option HeapMem) → option_map (with_lists xs ys) (option_and_then mem_unless_gone o) ≡ option_and_then mem_unless_gone (option_map (with_lists xs ys) o)

@@ -6,7 +6,8 @@ use Rattle.lmn_store_heap.specs.Lists.{after, without, from}
 use Rattle.lmn_store_heap.specs.Heap.{Place, alter}
 use Rattle.lmn_store_heap.proofs.Listing.{alter_at, alter_away}
 use Rattle.lmn_store_slab.specs.Cells.{place_by}
-use Rattle.lmn_store_slab.specs.Kept.{Filed, Removes}
+use Rattle.lmn_store_slab.specs.Kept.{Filed}
+use Rattle.lmn_store_counts.specs.Counts.{Removes}
 use Rattle.lmn_store_slab.proofs.Files.{drop_filed}
 use Rattle.lmn_base.specs.Lists.{In}
 

@@ -11,10 +11,11 @@ use Rattle.lmn_store_slab.specs.Lines.{HeldLists, list_at}
 use Rattle.lmn_store_slab.specs.declared.cell.AtomCell.{AtomCell}
 use Rattle.lmn_store_slab.specs.declared.cell.MemCell.{MemCell}
 use Rattle.lmn_store_slab.specs.Cells.{atoms_in_cells, mems_in_cells, atom_in_cell, mem_in_cell, built, with_lists, place_by, mem_place_by}
-use Rattle.lmn_store_slab.specs.Census.{Census, weight}
-use Rattle.lmn_store_slab.specs.Kept.{Kept, AlwaysHolds, ItemsAreFiled, Room, HasCounts, BOUND, heap_of, place_in, mem_place_in, one, with_rules}
+use Rattle.lmn_store_counts.specs.Census.{Census, weight}
+use Rattle.lmn_store_slab.specs.Kept.{Kept, AlwaysHolds, ItemsAreFiled, Room, heap_of, place_in, mem_place_in}
+use Rattle.lmn_store_counts.specs.Counts.{HasCounts, BOUND, one, with_rules}
 use Rattle.lmn_store_slab.proofs.Files.{place_within, only_list}
-use Rattle.lmn_store_slab.proofs.CensusLemmas.{census_same, census_alter, census_add}
+use Rattle.lmn_store_counts.proofs.CensusLemmas.{census_same, census_alter, census_add}
 use Rattle.lmn_store_slab.proofs.BuiltLemmas.{built_mem, built_parent, built_made, built_placed, built_taken, built_made_mem, built_placed_mem, built_taken_mem}
 use Rattle.lmn_store_slab.proofs.FitsLemmas.{fits_placed, fits_taken, fits_made, fits_joined, fits_marked, fits_placed_mem, fits_taken_mem, fits_made_mem, fits_mems, first_waits, first_mem_waits}
 use Rattle.lmn_base.specs.Lists.{In}

@@ -4,8 +4,9 @@ use Rattle.std.proofs.lemmas.Bool.{cases_eq, eq-eqb}
 use Rattle.std.proofs.lemmas.List.{append_assoc}
 use Rattle.std.specs.Option.{option_map}
 use Rattle.lmn_store_heap.specs.Lists.{after, without, from}
-use Rattle.lmn_store_heap.specs.Heap.{Place, top, within, waiting, gone, alter, HeapAtom, HeapMem, atom_sent, mem_sent, sent, with_place, mem_with_place}
+use Rattle.lmn_store_heap.specs.Heap.{Place, within, alter, HeapAtom, HeapMem, atom_sent, mem_sent, sent, with_place, mem_with_place}
 use Rattle.lmn_store_heap.proofs.Listing.{alter_at, alter_away}
+use Rattle.lmn_store_counts.proofs.PlaceLemmas.{sent_keeps}
 use Rattle.lmn_store_slab.specs.Cells.{place_by}
 use Rattle.lmn_store_slab.specs.Kept.{Filed}
 use Rattle.lmn_store_slab.proofs.Files.{move_filed, only_list, place_mem}
@@ -117,13 +118,6 @@ module _ {X : Type 0} (place : X → Place) (put : Place → X → X) (send : X 
 
           keeps : (a : ℕ) → g a ≡ option_map send (g a)
           keeps a = by (g a) (λ e. subst (In a) (sym none) ((s.files.filed (m + 2) a).1 e))
-
--- places of items that are sent
-pub sent_keeps : (m n : ℕ) (P : Place) → (P ≡ within m → ⊥) → sent m n P ≡ P
-sent_keeps m n top d = refl
-sent_keeps m n (within k) d = rw (apart_test k m (λ e. d (ap within e))) refl
-sent_keeps m n waiting d = refl
-sent_keeps m n gone d = refl
 
 sent_moves : (m n : ℕ) → m ≢ n → (P : Place) → P ≡ within m → sent m n (within n) ≡ sent m n P
 sent_moves m n d P e = rw (e, apart_test n m (λ z. d (sym z)), eq-eqb m m refl) refl

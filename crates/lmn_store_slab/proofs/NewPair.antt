@@ -7,10 +7,11 @@ use Rattle.lmn_store_heap.proofs.Listing.{alter_away}
 use Rattle.lmn_store_heap.proofs.Shapes.{shaped_of}
 use Rattle.lmn_store_slab.specs.Lines.{list_at}
 use Rattle.lmn_store_slab.specs.Cells.{atoms_in_cells, mems_in_cells, built, with_lists, place_by}
-use Rattle.lmn_store_slab.specs.Census.{Census}
-use Rattle.lmn_store_slab.specs.Kept.{Kept, AlwaysHolds, ItemsAreFiled, heap_of, mem_place_in, one, with_rules}
+use Rattle.lmn_store_counts.specs.Census.{Census}
+use Rattle.lmn_store_slab.specs.Kept.{Kept, AlwaysHolds, ItemsAreFiled, heap_of, mem_place_in}
+use Rattle.lmn_store_counts.specs.Counts.{one, with_rules}
 use Rattle.lmn_store_slab.proofs.Files.{never_top}
-use Rattle.lmn_store_slab.proofs.CensusLemmas.{census_add}
+use Rattle.lmn_store_counts.proofs.CensusLemmas.{census_add}
 use Rattle.lmn_store_slab.proofs.HoldsLemmas.{holds_by, heap_by}
 use Rattle.lmn_store_heap.proofs.Lone.{the_root as root_mem}
 

@@ -1,50 +1,18 @@
 -- What holds of a store over slabs after a change of rules and spares.
-use Rattle.std.proofs.Common.{◌≡◌, ℕ, ◌+◌, ◌-◌, ◌≤◌, List, length, Option, Some, None, refl, sym, ap, subst, ◌∙◌, arith, length-append}
+use Rattle.std.proofs.Common.{◌≡◌, ℕ, ◌+◌, ◌-◌, ◌≤◌, List, length, Option, Some, None, refl, sym, ap, subst, ◌∙◌, arith}
 use Rattle.std.specs.Prelude.{slice_index_or}
 use Rattle.std.specs.Option.{option_map}
-use Rattle.lmn_store_heap.specs.Heap.{HeapAtom, HeapMem, alter, spare_of, spare_by, rules_in, rules_by, mem_with_spare, mem_with_rules, reserved, rules_copied, IsMem}
+use Rattle.lmn_store_heap.specs.Heap.{HeapMem, alter, spare_of, spare_by, rules_in, rules_by, mem_with_spare, mem_with_rules, reserved, rules_copied, IsMem}
 use Rattle.lmn_store_heap.proofs.Listing.{alter_at}
 use Rattle.lmn_store_slab.specs.Lines.{list_at}
 use Rattle.lmn_store_slab.specs.declared.cell.MemCell.{MemCell}
 use Rattle.lmn_store_slab.specs.Cells.{atoms_in_cells, mems_in_cells, mem_in_cell, with_lists}
-use Rattle.lmn_store_slab.specs.Census.{Census}
-use Rattle.lmn_store_slab.specs.Kept.{Kept, AlwaysHolds, HasCounts, BOUND, heap_of, with_rules}
-use Rattle.lmn_store_slab.proofs.CensusLemmas.{census_set, census_less}
+use Rattle.lmn_store_slab.specs.Kept.{Kept, AlwaysHolds, heap_of}
+use Rattle.lmn_store_counts.specs.Counts.{HasCounts, BOUND}
+use Rattle.lmn_store_counts.proofs.RuleCounts.{rule_counts, spare_counts, spare_less}
 use Rattle.lmn_store_slab.proofs.BuiltLemmas.{built_rules}
 use Rattle.lmn_store_slab.proofs.HoldsLemmas.{mem_is, mem_pair}
 use Rattle.lmn_base.proofs.Lists.{some_is as some_of}
-
-module _ (A : ℕ → Option HeapAtom) (B : ℕ → Option HeapMem) (n m s t : ℕ) (x : HeapMem) (at : B t ≡ Some x) (c : HasCounts A B n m s) where
-  pub spare_less : x.spare ≤ s
-  spare_less = census_less (λ (y : HeapMem). y.spare) B s t x at c.spare_census
-
-  pub rule_counts : (ks : List ℕ) → length ks ≤ x.spare → HasCounts A (alter B t (option_map (mem_with_rules ks))) n (m + length ks) (s - length ks)
-  rule_counts ks room =
-      let less = census_less with_rules B m t x at c.mem_census in
-      let spare = spare_less in
-      let more = length-append x.rules ks in
-      let low = c.bound in
-      record {
-        atom_census = c.atom_census;
-        mem_census = subst (Census with_rules (alter B t (option_map (mem_with_rules ks))))
-            (let e : m - with_rules x + with_rules (mem_with_rules ks x) ≡ m + length ks = omega (arith, less, more) in e) (census_set with_rules B m t x (mem_with_rules ks) at c.mem_census);
-        spare_census = subst (Census (λ (y : HeapMem). y.spare) (alter B t (option_map (mem_with_rules ks))))
-            (let e : s - x.spare + (x.spare - length ks) ≡ s - length ks = omega (arith, spare, room) in e) (census_set (λ (y : HeapMem). y.spare) B s t x (mem_with_rules ks) at c.spare_census);
-        bound = omega (arith, low, spare, room);
-      }
-
-  pub spare_counts : (j : ℕ) → x.spare ≤ j → n + m + s + (j - x.spare) ≤ BOUND → HasCounts A (alter B t (option_map (mem_with_spare j))) n m (s + (j - x.spare))
-  spare_counts j more low =
-      let less = census_less with_rules B m t x at c.mem_census in
-      let spare = spare_less in
-      record {
-        atom_census = c.atom_census;
-        mem_census = subst (Census with_rules (alter B t (option_map (mem_with_spare j))))
-            (let e : m - with_rules x + with_rules x ≡ m = omega (arith, less) in e) (census_set with_rules B m t x (mem_with_spare j) at c.mem_census);
-        spare_census = subst (Census (λ (y : HeapMem). y.spare) (alter B t (option_map (mem_with_spare j))))
-            (let e : s - x.spare + j ≡ s + (j - x.spare) = omega (arith, spare, more) in e) (census_set (λ (y : HeapMem). y.spare) B s t x (mem_with_spare j) at c.spare_census);
-        bound = omega (arith, low);
-      }
 
 module _ (k : Kept) (n m s : ℕ) (h : AlwaysHolds k n m s) where
   spare_is : (t : ℕ) (x : HeapMem) → mems_in_cells k.mems t ≡ Some x → spare_of (heap_of k) t ≡ x.spare

@@ -1,5 +1,5 @@
 -- What a store over slabs keeps, and the heap that it stands for.
-use Rattle.std.specs.Prelude.{◌≡◌, ℕ, ◌+◌, ◌<◌, ◌≤◌, ◌^◌, ◌↔◌, ◌⊎◌, List, [], Option, Some, None, IsSome, length}
+use Rattle.std.specs.Prelude.{◌≡◌, ℕ, ◌+◌, ◌<◌, ◌^◌, ◌↔◌, ◌⊎◌, List, [], Option, Some, None, IsSome, length}
 use Rattle.std.specs.Option.{option_map}
 use Rattle.lmn_store_heap.specs.Heap.{Heap, HeapAtom, HeapMem, Place, top, waiting}
 use Rattle.lmn_store_heap.specs.Lists.{Distinct}
@@ -8,7 +8,7 @@ use Rattle.lmn_store_slab.specs.Lines.{HeldLists, list_at}
 use Rattle.lmn_store_slab.specs.declared.cell.AtomCell.{AtomCell}
 use Rattle.lmn_store_slab.specs.declared.cell.MemCell.{MemCell}
 use Rattle.lmn_store_slab.specs.Cells.{atoms_in_cells, mems_in_cells, built, place_by}
-use Rattle.lmn_store_slab.specs.Census.{Census}
+use Rattle.lmn_store_counts.specs.Counts.{HasCounts}
 use Rattle.lmn_base.specs.Lists.{In}
 
 -- cells of atoms and membranes, and the lists in which they are
@@ -51,30 +51,8 @@ pub record Room (atoms : ℕ → Option HeapAtom) (mems : ℕ → Option HeapMem
   pub small : length a.lists < 2 ^ 63
   pub mem_small : length m.lists < 2 ^ 63
 
--- the bound of each store
-abbrev pub BOUND : ℕ
-BOUND = 2 ^ 48
-
-abbrev pub one : HeapAtom → ℕ
-one x = 1
-
--- a membrane and its rules
-abbrev pub with_rules : HeapMem → ℕ
-with_rules x = 1 + length x.rules
-
--- The counts of atoms, of membranes with their rules, and of spares, which are at most the bound together.
-pub record HasCounts (atoms : ℕ → Option HeapAtom) (mems : ℕ → Option HeapMem) (n m s : ℕ) : Type 0 where
-  pub atom_census : Census one atoms n
-  pub mem_census : Census with_rules mems m
-  pub spare_census : Census (λ x. x.spare) mems s
-  pub bound : n + m + s ≤ BOUND
-
 -- what holds of a store over slabs at every moment
 pub record AlwaysHolds (k : Kept) (n m s : ℕ) : Type 0 where
   pub fits : ItemsAreFiled (atoms_in_cells k.atoms) (mems_in_cells k.mems) (list_at k.atom_lists) (list_at k.mem_lists)
   pub room : Room (atoms_in_cells k.atoms) (mems_in_cells k.mems) k.atom_lists k.mem_lists
   pub counts : HasCounts (atoms_in_cells k.atoms) (mems_in_cells k.mems) n m s
-
--- u removes what is at a place, and nothing else
-abbrev pub Removes : {X : Type 0} → (X → Place) → (X → Option X) → Place → Type 0
-Removes {X} place u P = (x : X) → (place x ≡ P → u x ≡ None) × ((place x ≡ P → ⊥) → u x ≡ Some x)

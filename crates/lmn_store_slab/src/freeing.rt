@@ -4,8 +4,9 @@ ghost use Rattle.std.specs.Option.{option_and_then};
 ghost use Rattle.lmn_store_heap.specs.Heap.{HeapAtom, HeapMem, alter};
 ghost use Rattle.lmn_store_slab.specs.Lines.{list_at};
 ghost use Rattle.lmn_store_slab.specs.Cells.{atoms_in_cells, mems_in_cells, place_by};
-ghost use Rattle.lmn_store_slab.specs.Census.{Census};
-ghost use Rattle.lmn_store_slab.specs.Kept.{Filed, Removes, place_in, mem_place_in, one, with_rules};
+ghost use Rattle.lmn_store_counts.specs.Census.{Census};
+ghost use Rattle.lmn_store_slab.specs.Kept.{Filed, place_in, mem_place_in};
+ghost use Rattle.lmn_store_counts.specs.Counts.{Removes, one, with_rules};
 
 use crate::Lists;
 use crate::cell::{AtomCell, MemCell};

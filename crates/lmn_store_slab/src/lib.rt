@@ -1,4 +1,4 @@
-//! A store that keeps its items in slabs, over lists that are linked through tables; and counts, rules and spares of any store.
+//! A store that keeps its items in slabs, over lists that are linked through tables.
 #![tactic(auto)]
 
 mod cell;
@@ -9,7 +9,6 @@ mod links;
 mod lists;
 mod moving;
 mod node;
-mod rules;
 mod seek;
 mod slab_store;
 mod table;

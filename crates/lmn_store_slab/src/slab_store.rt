@@ -8,19 +8,16 @@ use crate::cell::{AtomCell, MemCell};
 use crate::freeing::{free_atoms, free_mems};
 use crate::growth::{cover, cover_list};
 use crate::moving::{append_rules, move_atoms, move_mems};
-use crate::rules::Rules;
 use crate::seek::seek;
 use crate::{Lists, cells};
 use lmn_base::{Functor, NoMemory};
+use lmn_store_counts::{BOUND, Rules};
 use lmn_store_trait::LinkStore;
 use slab::Slab;
 use std::alloc::Global;
 use std::marker::Model;
 
 mod checks;
-
-// Atoms, membranes, their rules and their spares are together at most so many.
-const BOUND: u64 = 281_474_976_710_656;
 
 // The list of what is detached, and of what is taken. The list m + 2 has what stands in the membrane m.
 const DETACHED: usize = 0;

@@ -5,7 +5,7 @@ use Rattle.lmn_base.specs.Lists.{In}
 use Rattle.lmn_store_heap.specs.Lists.{from, after}
 use Rattle.lmn_store_heap.specs.Heap.{Heap, HeapAtom, home_by, arity_of, link_of, home_of, parent_of, atoms_in, mems_in, IsAtom, IsMem, IsInPlace, IsPlacedMem}
 use Rattle.lmn_store_heap.proofs.Trees.{next_in}
-use Rattle.lmn_store_slab.specs.RuleLists.{RuleList}
+use Rattle.lmn_store_counts.specs.RuleLists.{RuleList}
 use Rattle.lmn_web.specs.declared.kind.CellKind.TheVariants.{Atom, Membrane}
 use Rattle.lmn_web.specs.Webs as web
 use Rattle.lmn_web.specs.Webs.{WebCell, kind_at, home_at, partner_at, cells_in, cells_of, StandOnce, IsPaired}

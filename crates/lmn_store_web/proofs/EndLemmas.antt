@@ -4,9 +4,9 @@ use Rattle.std.specs.Option.{option_and_then}
 use Rattle.lmn_base.specs.Lists.{In}
 use Rattle.lmn_store_heap.specs.Heap.{Heap, HeapAtom, HeapMem, top, within, waiting, gone, home_by, place_of, mem_place_of, home_of, unless_gone, unless_waiting, mem_unless_gone, mem_unless_waiting, finished, discarded}
 use Rattle.lmn_store_heap.specs.Conditions.{Alone, Ready}
-use Rattle.lmn_store_slab.specs.RuleLists.{RuleList}
-use Rattle.lmn_store_slab.specs.Kept.{HasCounts, Removes}
-use Rattle.lmn_store_slab.proofs.FreedLemmas.{removes_gone, removes_waiting, mem_removes_gone, mem_removes_waiting}
+use Rattle.lmn_store_counts.specs.RuleLists.{RuleList}
+use Rattle.lmn_store_counts.specs.Counts.{HasCounts, Removes}
+use Rattle.lmn_store_counts.proofs.PlaceLemmas.{removes_gone, removes_waiting, mem_removes_gone, mem_removes_waiting}
 use Rattle.lmn_web.specs.declared.kind.CellKind.{CellKind}
 use Rattle.lmn_web.specs.declared.kind.CellKind.TheVariants.{Atom, Membrane}
 use Rattle.lmn_web.specs.Webs.{WebCell, kind_at, home_at, partner_at, cells_in, StandOnce, IsPaired}

@@ -10,10 +10,10 @@ use Rattle.lmn_store_heap.specs.Lists.{Distinct}
 use Rattle.lmn_store_heap.proofs.Common.{decide_in}
 use Rattle.lmn_store_heap.proofs.ListLemmas.{each_in}
 use Rattle.lmn_store_heap.proofs.Listing.{alter_at, alter_away}
-use Rattle.lmn_store_slab.specs.RuleLists.{RuleList}
-use Rattle.lmn_store_slab.specs.Census.{Census}
-use Rattle.lmn_store_slab.specs.Kept.{HasCounts, one}
-use Rattle.lmn_store_slab.proofs.CensusLemmas.{census_drop, census_less}
+use Rattle.lmn_store_counts.specs.RuleLists.{RuleList}
+use Rattle.lmn_store_counts.specs.Census.{Census}
+use Rattle.lmn_store_counts.specs.Counts.{HasCounts, one}
+use Rattle.lmn_store_counts.proofs.CensusLemmas.{census_drop, census_less}
 use Rattle.lmn_web.specs.declared.kind.CellKind.{CellKind}
 use Rattle.lmn_web.specs.declared.kind.CellKind.TheVariants.{Atom, Membrane}
 use Rattle.lmn_web.specs.Webs as web

@@ -4,8 +4,8 @@ use Rattle.std.specs.Prelude.{slice_index_or}
 use Rattle.std.specs.Option.{option_map, option_and_then}
 use Rattle.lmn_base.specs.Lists.{In}
 use Rattle.lmn_store_heap.specs.Heap.{HeapMem, Place, top, within, waiting, gone, mems_in, mem_place_of}
-use Rattle.lmn_store_slab.specs.RuleLists.{RuleList}
-use Rattle.lmn_store_slab.specs.Kept.{Removes}
+use Rattle.lmn_store_counts.specs.RuleLists.{RuleList}
+use Rattle.lmn_store_counts.specs.Counts.{Removes}
 use Rattle.lmn_store_web_preorder.specs.Nests.{Nest}
 use Rattle.lmn_web.specs.declared.kind.CellKind.TheVariants.{Membrane}
 use Rattle.lmn_web.specs.Webs.{WebCell, web_label, StandOnce}

@@ -1,6 +1,5 @@
 pub mod ReadLemmas
 pub mod SoundLemmas
-pub mod CountLemmas
 pub mod CallLemmas
 pub mod TableLemmas
 pub mod RulingLemmas

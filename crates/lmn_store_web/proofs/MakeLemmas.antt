@@ -6,10 +6,10 @@ use Rattle.std.proofs.lemmas.Bool.{cases_eq}
 use Rattle.lmn_base.specs.declared.functor.Functor.{Functor}
 use Rattle.lmn_store_heap.specs.Heap.{HeapMem, alter, new_atom, new_mem, made_atom, made_mem}
 use Rattle.lmn_store_heap.proofs.Listing.{alter_at, alter_away}
-use Rattle.lmn_store_slab.specs.RuleLists.{RuleList}
-use Rattle.lmn_store_slab.specs.Census.{Census}
-use Rattle.lmn_store_slab.specs.Kept.{HasCounts, BOUND, one, with_rules}
-use Rattle.lmn_store_slab.proofs.CensusLemmas.{census_add}
+use Rattle.lmn_store_counts.specs.RuleLists.{RuleList}
+use Rattle.lmn_store_counts.specs.Census.{Census}
+use Rattle.lmn_store_counts.specs.Counts.{HasCounts, BOUND, one, with_rules}
+use Rattle.lmn_store_counts.proofs.CensusLemmas.{census_add}
 use Rattle.lmn_web.specs.declared.kind.CellKind.{CellKind}
 use Rattle.lmn_web.specs.declared.kind.CellKind.TheVariants.{Atom, Membrane}
 use Rattle.lmn_web.specs.Webs as web

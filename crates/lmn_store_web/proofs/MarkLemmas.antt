@@ -5,9 +5,9 @@ use Rattle.std.proofs.lemmas.Bool.{eqb-true}
 use Rattle.lmn_store_heap.specs.Heap as heap
 use Rattle.lmn_store_heap.specs.Heap.{HeapMem, alter, marked}
 use Rattle.lmn_store_heap.proofs.Listing.{alter_keeps}
-use Rattle.lmn_store_slab.specs.RuleLists.{RuleList}
-use Rattle.lmn_store_slab.specs.Kept.{HasCounts, one}
-use Rattle.lmn_store_slab.proofs.CensusLemmas.{census_alter}
+use Rattle.lmn_store_counts.specs.RuleLists.{RuleList}
+use Rattle.lmn_store_counts.specs.Counts.{HasCounts, one}
+use Rattle.lmn_store_counts.proofs.CensusLemmas.{census_alter}
 use Rattle.lmn_web.specs.declared.kind.CellKind.{CellKind}
 use Rattle.lmn_web.specs.declared.kind.CellKind.TheVariants.{Atom, Membrane}
 use Rattle.lmn_web.specs.Webs as web

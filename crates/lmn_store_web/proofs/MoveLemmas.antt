@@ -9,8 +9,8 @@ use Rattle.lmn_store_heap.specs.Heap.{Heap, HeapAtom, HeapMem, Place, within, wa
 use Rattle.lmn_store_heap.specs.Lists.{without, from}
 use Rattle.lmn_store_heap.specs.Conditions.{IsOutside}
 use Rattle.lmn_store_heap.proofs.Listing.{alter_at, alter_away, without_first}
-use Rattle.lmn_store_slab.specs.RuleLists.{RuleList}
-use Rattle.lmn_store_slab.specs.Kept.{HasCounts}
+use Rattle.lmn_store_counts.specs.RuleLists.{RuleList}
+use Rattle.lmn_store_counts.specs.Counts.{HasCounts}
 use Rattle.lmn_web.specs.declared.kind.CellKind.{CellKind}
 use Rattle.lmn_web.specs.declared.kind.CellKind.TheVariants.{Atom, Membrane}
 use Rattle.lmn_web.specs.Webs.{WebCell, kind_at, home_at, cells_in, StandOnce}
@@ -23,7 +23,7 @@ use Rattle.lmn_store_web.proofs.PlaceLemmas.{mem_with_list, more, first_is, in_p
 use Rattle.lmn_store_web.proofs.FreeLemmas.{atom_place, mem_place}
 use Rattle.lmn_store_web.proofs.FreeSteps.{shorter}
 use Rattle.lmn_store_heap.proofs.MoveListing.{sent_m as sent_from}
-use Rattle.lmn_store_slab.proofs.MovingLemmas.{sent_keeps}
+use Rattle.lmn_store_counts.proofs.PlaceLemmas.{sent_keeps}
 
 sent_to : (m n : ℕ) → sent m n (within n) ≡ within n
 sent_to m n = by (n == m)

@@ -5,7 +5,7 @@ use Rattle.std.specs.Option.{option_map}
 use Rattle.lmn_store_heap.specs.Heap.{HeapAtom, HeapMem, Place, within, waiting, gone, alter, with_place, mem_with_place, mem_with_atoms, mem_with_mems, home_of, parent_of, IsTopOrWithin, IsMemInPlace, atom_out, mem_out, placed, placed_mem, taken, taken_mem}
 use Rattle.lmn_store_heap.specs.Lists.{without, after, from}
 use Rattle.lmn_store_heap.proofs.Listing.{alter_at, alter_away, without_first}
-use Rattle.lmn_store_slab.specs.RuleLists.{RuleList}
+use Rattle.lmn_store_counts.specs.RuleLists.{RuleList}
 use Rattle.lmn_web.specs.declared.kind.CellKind.{CellKind}
 use Rattle.lmn_web.specs.declared.kind.CellKind.TheVariants.{Atom, Membrane}
 use Rattle.lmn_web.specs.Webs.{WebCell, kind_at, home_at, cells_in, cells_of, with_home, with_list, StandOnce}

@@ -6,9 +6,9 @@ use Rattle.std.specs.Option.{option_map}
 use Rattle.lmn_base.proofs.Lists.{some_is}
 use Rattle.lmn_store_heap.specs.Heap.{Heap, HeapMem, alter, rules_by, spare_by, rules_in, spare_of, mem_with_rules, mem_with_spare, reserved, IsMem}
 use Rattle.lmn_store_heap.proofs.Listing.{alter_at, alter_away}
-use Rattle.lmn_store_slab.specs.RuleLists.{RuleList}
-use Rattle.lmn_store_slab.specs.Kept.{HasCounts, BOUND}
-use Rattle.lmn_store_slab.proofs.RulePairs.{rule_counts, spare_counts, spare_less}
+use Rattle.lmn_store_counts.specs.RuleLists.{RuleList}
+use Rattle.lmn_store_counts.specs.Counts.{HasCounts, BOUND}
+use Rattle.lmn_store_counts.proofs.RuleCounts.{rule_counts, spare_counts, spare_less}
 use Rattle.lmn_web.specs.Webs.{WebCell}
 use Rattle.lmn_store_web.specs.Tables.{rows}
 use Rattle.lmn_store_web.specs.WebHeaps.{Posts, atoms_of, mems_of, heap_by}

@@ -5,10 +5,10 @@ use Rattle.std.specs.Option.{option_map, option_and_then}
 use Rattle.lmn_store_heap.specs.Heap.{HeapAtom, HeapMem, alter}
 use Rattle.lmn_store_heap.specs.Lists.{without}
 use Rattle.lmn_store_heap.proofs.Listing.{alter_at, alter_away, alter_keeps}
-use Rattle.lmn_store_slab.specs.RuleLists.{RuleList}
-use Rattle.lmn_store_slab.specs.Census.{weight}
-use Rattle.lmn_store_slab.specs.Kept.{HasCounts, one, with_rules}
-use Rattle.lmn_store_slab.proofs.CensusLemmas.{census_same}
+use Rattle.lmn_store_counts.specs.RuleLists.{RuleList}
+use Rattle.lmn_store_counts.specs.Census.{weight}
+use Rattle.lmn_store_counts.specs.Counts.{HasCounts, one, with_rules}
+use Rattle.lmn_store_counts.proofs.CensusLemmas.{census_same}
 use Rattle.lmn_web.specs.declared.kind.CellKind.{CellKind}
 use Rattle.lmn_web.specs.declared.kind.CellKind.TheVariants.{Atom, Membrane}
 use Rattle.lmn_web.specs.Webs as web

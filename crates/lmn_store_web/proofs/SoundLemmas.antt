@@ -8,7 +8,7 @@ use Rattle.lmn_base.specs.declared.functor.Functor.{Functor}
 use Rattle.lmn_store_heap.specs.Heap as heap
 use Rattle.lmn_store_heap.specs.Heap.{Heap, HeapAtom, HeapMem, Place, top, within, waiting, gone, arity_of, link_of, place_of, mem_place_of, home_of, atoms_in, mems_in, atoms_by, mems_by, IsAtom, IsMem, Distinct}
 use Rattle.lmn_store_heap.specs.Sound.{Paired, Listed, Shaped, Sound}
-use Rattle.lmn_store_slab.specs.RuleLists.{RuleList}
+use Rattle.lmn_store_counts.specs.RuleLists.{RuleList}
 use Rattle.lmn_web_cells.specs.Cells.{HeldPort, HeldCell}
 use Rattle.lmn_web_cells.specs.Ports.{partner_by}
 use Rattle.lmn_web.specs.declared.kind.CellKind.{CellKind}

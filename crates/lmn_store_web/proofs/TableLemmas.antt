@@ -11,8 +11,8 @@ use Rattle.lmn_store_heap.specs.Sound.{Sound, Forest, IsTree, flat}
 use Rattle.lmn_store_heap.proofs.Common.{in_map}
 use Rattle.lmn_store_heap.proofs.Listing.{alter_at, alter_away}
 use Rattle.lmn_store_heap.proofs.Trees.{is_mem}
-use Rattle.lmn_store_slab.proofs.SlotLemmas.{slots_taken}
-use Rattle.lmn_store_slab.specs.RuleLists.{RuleList}
+use Rattle.lmn_store_counts.proofs.SlotLemmas.{slots_taken}
+use Rattle.lmn_store_counts.specs.RuleLists.{RuleList}
 use Rattle.lmn_web.specs.declared.kind.CellKind.{CellKind}
 use Rattle.lmn_web.specs.declared.kind.CellKind.TheVariants.{Atom, Membrane}
 use Rattle.lmn_web.specs.Webs.{WebCell, web_kind, kind_at, web_label}

@@ -13,7 +13,7 @@ use Rattle.lmn_store_heap.specs.Heap.{Heap, functor_of, home_of, atoms_in, IsMem
 use Rattle.lmn_store_heap.specs.Functors.{with_functor, is_of, same_functor}
 use Rattle.lmn_store_heap.proofs.Trees.{next_in}
 use Rattle.lmn_store_heap.proofs.WithFunctor.{functor_is as same_is, is_of_here}
-use Rattle.lmn_store_slab.specs.RuleLists.{RuleList}
+use Rattle.lmn_store_counts.specs.RuleLists.{RuleList}
 use Rattle.lmn_web.specs.declared.kind.CellKind.TheVariants.{Atom}
 use Rattle.lmn_web.specs.Webs.{WebCell, kind_at, home_at, arity_at, cells_in, web_label, is_labelled, with_label, StandOnce, IsPaired}
 use Rattle.lmn_web.proofs.ListedLemmas.{from_in, if_some}

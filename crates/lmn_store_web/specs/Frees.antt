@@ -3,8 +3,8 @@ use Rattle.std.specs.Prelude.{◌≡◌, ◌≢◌, ◌⊎◌, ℕ, List, [], Op
 use Rattle.std.specs.Option.{option_map, option_and_then}
 use Rattle.lmn_store_heap.specs.Heap.{HeapAtom, HeapMem}
 use Rattle.lmn_store_heap.specs.Lists.{without}
-use Rattle.lmn_store_slab.specs.RuleLists.{RuleList}
-use Rattle.lmn_store_slab.specs.Kept.{HasCounts, Removes}
+use Rattle.lmn_store_counts.specs.RuleLists.{RuleList}
+use Rattle.lmn_store_counts.specs.Counts.{HasCounts, Removes}
 use Rattle.lmn_web.specs.declared.kind.CellKind.{CellKind}
 use Rattle.lmn_web.specs.Webs.{WebCell, kind_at, home_at, partner_at, cells_in, web_label, with_list}
 use Rattle.lmn_store_web.specs.WebHeaps.{Posts, place_at, atoms_of, mems_of}

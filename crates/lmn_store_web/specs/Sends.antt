@@ -2,8 +2,8 @@
 use Rattle.std.specs.Prelude.{◌≡◌, ◌≢◌, ℕ, List, [], ◌∷◌, ◌++◌, Option, Some}
 use Rattle.std.specs.Option.{option_map}
 use Rattle.lmn_store_heap.specs.Lists.{without}
-use Rattle.lmn_store_slab.specs.RuleLists.{RuleList}
-use Rattle.lmn_store_slab.specs.Kept.{HasCounts}
+use Rattle.lmn_store_counts.specs.RuleLists.{RuleList}
+use Rattle.lmn_store_counts.specs.Counts.{HasCounts}
 use Rattle.lmn_web.specs.declared.kind.CellKind.TheVariants.{Membrane}
 use Rattle.lmn_web.specs.Webs.{WebCell, kind_at, home_at, cells_in, with_home, with_list}
 use Rattle.lmn_store_web.specs.WebHeaps.{Posts, atoms_of, mems_of}

@@ -1,6 +1,6 @@
 //! What stands in a line is freed.
 ghost use Rattle.std.specs.Prelude.{◌≡◌, ◌≢◌, ℕ, List, [], Option, Some, None, IsSome};
-ghost use Rattle.lmn_store_slab.specs.RuleLists.{RuleList};
+ghost use Rattle.lmn_store_counts.specs.RuleLists.{RuleList};
 ghost use Rattle.lmn_web_cells.specs.CellIds.{cell_id};
 ghost use Rattle.lmn_web.specs.Webs.{web_by, web_label, home_at, kind_at, partner_at, arity_at, cells_in};
 ghost use Rattle.lmn_web.specs.declared.kind.CellKind.{CellKind as Kind};
@@ -9,7 +9,7 @@ ghost use Rattle.lmn_store_web.specs.WebHeaps.{Posts};
 ghost use Rattle.lmn_store_web.specs.WebStores.{HasRules};
 ghost use Rattle.lmn_store_web.specs.Frees.{Drops, CanFree, Frees};
 
-use crate::rules::Rules;
+use lmn_store_counts::Rules;
 use crate::table::place_of_rules;
 use lmn_web::{Cell, CellKind, Web};
 use slab::Slab;

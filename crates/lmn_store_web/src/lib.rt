@@ -5,7 +5,6 @@ pub mod examples;
 mod freeing;
 mod indexing;
 mod labels;
-mod rules;
 mod sending;
 mod table;
 mod web_store;

@@ -1,7 +1,7 @@
 //! A cell goes from one list of a web to another.
 ghost use Rattle.std.specs.Prelude.{◌≡◌, ◌≢◌, ℕ, List, [], Option, Some, IsSome};
 ghost use Rattle.lmn_store_heap.specs.Heap.{moved_all};
-ghost use Rattle.lmn_store_slab.specs.RuleLists.{RuleList};
+ghost use Rattle.lmn_store_counts.specs.RuleLists.{RuleList};
 ghost use Rattle.lmn_web_cells.specs.CellIds.{cell_id};
 ghost use Rattle.lmn_web.specs.Webs.{web_by, web_label, home_at, kind_at, cells_in};
 ghost use Rattle.lmn_web.specs.declared.kind.CellKind.TheVariants.{Membrane};

@@ -7,8 +7,8 @@ ghost use Rattle.lmn_web.specs.Webs.{web_by, web_label};
 ghost use Rattle.lmn_store_web.specs.WebStores.{HasRules};
 ghost use Rattle.lmn_store_web.specs.Tables.{rows};
 
-use crate::rules::Rules;
 use lmn_base::NoMemory;
+use lmn_store_counts::Rules;
 use lmn_web::{Cell, Web};
 use slab::Slab;
 

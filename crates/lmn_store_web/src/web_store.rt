@@ -13,19 +13,16 @@ ghost use Rattle.lmn_store_web.specs.Indexes.{key_of};
 use crate::freeing::{free_atoms, free_mems};
 use crate::indexing::{hold, wake};
 use crate::labels::{label_of, number_of};
-use crate::rules::Rules;
 use crate::sending::{send, send_all};
 use crate::table;
 use lmn_base::{Functor, NoMemory};
+use lmn_store_counts::{BOUND, Rules};
 use lmn_store_trait::LinkStore;
 use lmn_store_web_preorder::Preorder;
 use lmn_web::{Cell, CellKind, Web};
 use slab::Slab;
 use std::alloc::Global;
 use std::marker::Model;
-
-// Atoms, membranes, their rules and their spares are together at most so many.
-const BOUND: u64 = 281_474_976_710_656;
 
 /// A store that keeps its items in a web: atoms and membranes are cells, and what is detached or taken stands in
 /// the lists of a cell of its own, which doesn't file atoms by class.

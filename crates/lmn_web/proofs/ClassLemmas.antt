@@ -10,7 +10,8 @@ use Rattle.lmn_web_cells.specs.Rows.{Row, items_in}
 use Rattle.lmn_web_cells.specs.Cells.{HeldCell, cell_by, cells_by}
 use Rattle.lmn_web_cells.specs.Runs.{link_in}
 use Rattle.lmn_web_cells.proofs.CellRows.{if_yes}
-use Rattle.lmn_web.specs.Classes.{EVEN, ODD, LEADERS, ClassTree, Bare, Fork, ClassPlace, Hung, leaders, top, IsTree, IsSorted, rest_at, is_odd, is_key, key_in, class_place, place_in, lowest, lowest_below}
+use Rattle.lmn_web.specs.Classes.{ClassTree, Bare, Fork, ClassPlace, Hung, leaders, top, IsTree, IsSorted, rest_at, is_odd, is_key, key_in, class_place, place_in, lowest, lowest_below}
+use Rattle.lmn_web_cells.specs.Links.{EVEN, ODD, LEADERS}
 use Rattle.lmn_web.proofs.ClassTrees.{sorted_once}
 
 -- How many cells a tree has

@@ -8,9 +8,11 @@ use Rattle.lmn_web_cells.specs.Cells.{HeldCell, numbers_of, ports_of}
 use Rattle.lmn_web_cells.specs.Ports.{partner_by}
 use Rattle.lmn_web_cells.specs.Runs.{RunsThrough, link_in}
 use Rattle.lmn_web.specs.declared.kind.CellKind.TheVariants.{Atom}
-use Rattle.lmn_web.specs.Webs.{web_cell, web_of, list_in, cells_in, label_by, web_label, label_class, is_classed, with_class, partners_of, ARITY, HIGH, LOW}
+use Rattle.lmn_web.specs.Webs.{web_cell, web_of, list_in, cells_in, label_by, web_label, label_class, is_classed, with_class, partners_of}
+use Rattle.lmn_web_cells.specs.Numbers.{ARITY, HIGH, LOW}
 use Rattle.lmn_web.specs.Indexes.{IsClassedWeb}
-use Rattle.lmn_web.specs.Classes.{CLASS_NEXT, CLASS_LAST, class_node, key_in, is_key, of_class, ClassTree, top, AreClassed, place_in}
+use Rattle.lmn_web.specs.Classes.{class_node, key_in, is_key, of_class, ClassTree, top, AreClassed, place_in}
+use Rattle.lmn_web_cells.specs.Links.{CLASS_NEXT, CLASS_LAST}
 use Rattle.lmn_web.proofs.ListedLemmas.{run_begins, run_goes_on, list_same, cell_of}
 use Rattle.lmn_web.proofs.Reclassing.{key_same, key_true, filter_in}
 use Rattle.lmn_web.proofs.ClassPlaces.{leader_in, class_none}

@@ -9,7 +9,8 @@ use Rattle.lmn_web_cells.specs.Cells.{HeldCell, links_of, HaveLinks}
 use Rattle.lmn_web_cells.specs.Runs.{Node, RunsThrough, link_in}
 use Rattle.lmn_web_cells.proofs.LineLemmas.{link_other}
 use Rattle.lmn_web_cells.proofs.RunLemmas.{Left, Joined, Between, begins, ends, joins, leaves, inserts, split, before_in, after_in}
-use Rattle.lmn_web.specs.Classes.{Touches, CLASS_NEXT, CLASS_PREV, CLASS_LAST, EVEN, ODD, LEADERS, ClassTree, Bare, Fork, leaders, top, ClassPlace, IsTree, AreBeside, IsSorted, is_odd, rest_at, class_node, key_in, is_key, of_class, AreClassed, place_in, link_written, taken_over, begun, lengthened, put_between, put_first, closed, shortened, passed, dropped}
+use Rattle.lmn_web.specs.Classes.{Touches, ClassTree, Bare, Fork, leaders, top, ClassPlace, IsTree, AreBeside, IsSorted, is_odd, rest_at, class_node, key_in, is_key, of_class, AreClassed, place_in, link_written, taken_over, begun, lengthened, put_between, put_first, closed, shortened, passed, dropped}
+use Rattle.lmn_web_cells.specs.Links.{CLASS_NEXT, CLASS_PREV, CLASS_LAST, EVEN, ODD, LEADERS}
 use Rattle.lmn_web.proofs.Reclassing.{key_same, key_true, in_filter, reclassed}
 use Rattle.lmn_web.proofs.ClassTrees.{Holds, Hole, forked, side, side_is, sides_differ, not_both, in_forked, top_forked, forked_sorted, sorted_forked, forked_tree, key_differs, tree_frame, sorted_apart, below_differs, beside_not}
 use Rattle.lmn_web.proofs.ClassWrites.{kept, length_kept, touches_none, touches_own, touches_tree, touches_keys, touches_there}

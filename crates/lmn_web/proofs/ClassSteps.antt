@@ -8,7 +8,8 @@ use Rattle.lmn_web_cells.specs.Cells.{HeldCell, HaveLinks}
 use Rattle.lmn_web_cells.specs.Runs.{Node, RunsThrough, link_in, put_before}
 use Rattle.lmn_web_cells.proofs.RunLemmas.{before_in, split, last_in as last_of_run}
 use Rattle.lmn_web_cells.proofs.InsertLemmas.{put_at}
-use Rattle.lmn_web.specs.Classes.{CLASS_NEXT, CLASS_PREV, CLASS_LAST, EVEN, ODD, ClassTree, Bare, Fork, Hung, leaders, top, IsTree, IsSorted, lowest_below, class_node, key_in, is_key, of_class, place_in, begun, lengthened, put_between, put_first, closed, shortened, passed, dropped, MayFile, ClassBecomes, Refiled}
+use Rattle.lmn_web.specs.Classes.{ClassTree, Bare, Fork, Hung, leaders, top, IsTree, IsSorted, lowest_below, class_node, key_in, is_key, of_class, place_in, begun, lengthened, put_between, put_first, closed, shortened, passed, dropped, MayFile, ClassBecomes, Refiled}
+use Rattle.lmn_web_cells.specs.Links.{CLASS_NEXT, CLASS_PREV, CLASS_LAST, EVEN, ODD}
 use Rattle.lmn_web.proofs.Reclassing.{key_same, key_true, in_filter, filter_in}
 use Rattle.lmn_web.proofs.ClassTrees.{beside_not, some_lowest}
 use Rattle.lmn_web.proofs.ClassPlaces.{at, fork_of, holds_there, holds_atoms, link_small, leader_in, class_none}

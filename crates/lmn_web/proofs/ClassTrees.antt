@@ -8,7 +8,8 @@ use Rattle.lmn_store_heap.proofs.ListLemmas.{each_of, in_left, in_right}
 use Rattle.lmn_store_heap.proofs.Depths.{both_distinct}
 use Rattle.lmn_web_cells.specs.Cells.{HeldCell}
 use Rattle.lmn_web_cells.specs.Runs.{link_in}
-use Rattle.lmn_web.specs.Classes.{EVEN, ODD, ClassTree, Bare, Fork, leaders, top, IsTree, rest_at, is_odd, AreBeside, IsSorted, ClassPlace, class_place, Hung, lowest, is_key, key_in}
+use Rattle.lmn_web.specs.Classes.{ClassTree, Bare, Fork, leaders, top, IsTree, rest_at, is_odd, AreBeside, IsSorted, ClassPlace, class_place, Hung, lowest, is_key, key_in}
+use Rattle.lmn_web_cells.specs.Links.{EVEN, ODD}
 use Rattle.lmn_web.proofs.Reclassing.{key_same, key_true}
 
 -- Classes in a sorted tree

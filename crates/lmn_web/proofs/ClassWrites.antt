@@ -3,8 +3,9 @@ use Rattle.std.proofs.Common.{◌≡◌, ◌≢◌, ◌<◌, ℕ, true, false, L
 use Rattle.lmn_base.specs.Lists.{In}
 use Rattle.lmn_web_cells.specs.Cells.{HeldCell, links_of, with_link}
 use Rattle.lmn_web_cells.proofs.LineLemmas.{still_there, link_other, keeps, count_links}
-use Rattle.lmn_web.specs.Webs.{HIGH, ARITY}
-use Rattle.lmn_web.specs.Classes.{AllButLinks, Touches, CLASS_NEXT, CLASS_PREV, CLASS_LAST, LEADERS, key_in, is_key, link_written}
+use Rattle.lmn_web_cells.specs.Numbers.{HIGH, ARITY}
+use Rattle.lmn_web.specs.Classes.{AllButLinks, Touches, key_in, is_key, link_written}
+use Rattle.lmn_web_cells.specs.Links.{CLASS_NEXT, CLASS_PREV, CLASS_LAST, LEADERS}
 use Rattle.lmn_web.proofs.ClassTrees.{Holds}
 use Rattle.lmn_web.proofs.RelistLemmas.{rest_link}
 

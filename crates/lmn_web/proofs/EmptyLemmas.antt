@@ -10,14 +10,16 @@ use Rattle.lmn_store_heap.proofs.ListLemmas.{each_in, each_of}
 use Rattle.lmn_store_heap.proofs.Listing.{alter_at, alter_away, alter_keeps}
 use Rattle.lmn_web_cells.specs.Cells.{HeldPort, HeldCell, links_of, numbers_of, ports_of, port_of}
 use Rattle.lmn_web_cells.specs.Ports.{partner_by, partner_in}
-use Rattle.lmn_web_cells.specs.Runs.{RunsThrough, HOME, NEXT, PREV, node_in, link_in, Line}
+use Rattle.lmn_web_cells.specs.Runs.{RunsThrough, node_in, link_in, Line}
+use Rattle.lmn_web_cells.specs.Links.{HOME, NEXT, PREV, LEADERS}
 use Rattle.lmn_web_cells.proofs.RunLemmas.{frame}
 use Rattle.lmn_web.specs.declared.kind.CellKind.{CellKind}
 use Rattle.lmn_web.specs.declared.kind.CellKind.TheVariants.{Atom, Membrane}
 use Rattle.lmn_web.specs.Kinds.{FILED, kind_by}
-use Rattle.lmn_web.specs.Webs.{WebCell, WithoutAtoms, web_cell, web_of, cells_in, partner_at, list_in, list_link, count_number, number_in, label_by, with_list, INDEX, ARITY, KIND, HIGH, LOW, FIRST_MARK}
+use Rattle.lmn_web.specs.Webs.{WebCell, WithoutAtoms, web_cell, web_of, cells_in, partner_at, list_in, list_link, count_number, number_in, label_by, with_list}
+use Rattle.lmn_web_cells.specs.Numbers.{INDEX, ARITY, KIND, HIGH, LOW, FIRST_MARK}
 use Rattle.lmn_web.specs.Indexes.{unindexed, bare_atoms, cell_kind, AreLinked, IsListed, IsWeb, IsClassed, IsTable, Without}
-use Rattle.lmn_web.specs.Classes.{LEADERS, Bare, AreClassed}
+use Rattle.lmn_web.specs.Classes.{Bare, AreClassed}
 use Rattle.lmn_web.proofs.ListedLemmas.{cell_of, list_same, listed_self, web_self}
 use Rattle.lmn_web.proofs.WebLemmas.{Account, account, partner_same}
 use Rattle.lmn_web.proofs.RelistLemmas.{put_list}

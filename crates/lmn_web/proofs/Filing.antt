@@ -8,15 +8,17 @@ use Rattle.lmn_store_heap.specs.Lists.{Distinct, from, without}
 use Rattle.lmn_store_heap.proofs.Listing.{alter_at, alter_away}
 use Rattle.lmn_store_heap.proofs.ListLemmas.{each_in, each_of}
 use Rattle.lmn_web_cells.specs.Cells.{HeldCell, blank_cell, links_of, numbers_of, with_link, with_number}
-use Rattle.lmn_web_cells.specs.Runs.{HOME, NEXT, PREV, RunsThrough, node_in, link_in, Line, put_before, with_next, with_prev, appended, inserted, unlinked}
+use Rattle.lmn_web_cells.specs.Runs.{RunsThrough, node_in, link_in, Line, put_before, with_next, with_prev, appended, inserted, unlinked}
+use Rattle.lmn_web_cells.specs.Links.{HOME, NEXT, PREV, CLASS_NEXT, CLASS_PREV, CLASS_LAST, EVEN, ODD, LEADERS}
 use Rattle.lmn_web_cells.proofs.LineLemmas.{keeps, link_other}
 use Rattle.lmn_web_cells.proofs.RunLemmas.{frame}
 use Rattle.lmn_web.specs.declared.kind.CellKind.{CellKind}
 use Rattle.lmn_web.specs.declared.kind.CellKind.TheVariants.{Atom, Membrane}
 use Rattle.lmn_web.specs.Kinds.{FILED, kind_by}
-use Rattle.lmn_web.specs.Webs.{list_in, list_link, count_number, number_in, ARITY, KIND, HIGH, LOW}
+use Rattle.lmn_web.specs.Webs.{list_in, list_link, count_number, number_in}
+use Rattle.lmn_web_cells.specs.Numbers.{ARITY, KIND, HIGH, LOW}
 use Rattle.lmn_web.specs.Indexes.{described, cell_kind, IsListed, IsWeb, IsClassed, IsClassedWeb}
-use Rattle.lmn_web.specs.Classes.{CLASS_NEXT, CLASS_PREV, CLASS_LAST, EVEN, ODD, LEADERS, AllButLinks, ClassTree, Bare, IsTree, files, class_node, key_in, is_key, of_class, AreClassed, MayFile, MayEnter, MayLeave, ClassBecomes, Touches, Refiled, FiledAs, put_at}
+use Rattle.lmn_web.specs.Classes.{AllButLinks, ClassTree, Bare, IsTree, files, class_node, key_in, is_key, of_class, AreClassed, MayFile, MayEnter, MayLeave, ClassBecomes, Touches, Refiled, FiledAs, put_at}
 use Rattle.lmn_web.proofs.ListedLemmas.{same_lists, lists_same, cell_of}
 use Rattle.lmn_web.proofs.WebLemmas.{Told, told, made_web, made_lists, no_list}
 use Rattle.lmn_web.proofs.RelistLemmas.{Core, Relists, relists_web, in_none, new, new_lists, each, kind_is, there, m_there, core_of, back, core_rest}

@@ -9,12 +9,13 @@ use Rattle.lmn_store_heap.specs.Heap.{alter}
 use Rattle.lmn_store_heap.proofs.Listing.{alter_at, alter_away, alter_keeps}
 use Rattle.lmn_web_cells.specs.Cells.{HeldPort, HeldCell, links_of, numbers_of, ports_of, port_of, with_number}
 use Rattle.lmn_web_cells.specs.Ports.{partner_by, partner_in}
-use Rattle.lmn_web_cells.specs.Runs.{HOME, link_in}
+use Rattle.lmn_web_cells.specs.Runs.{link_in}
+use Rattle.lmn_web_cells.specs.Links.{HOME, LEADERS}
 use Rattle.lmn_web.specs.declared.kind.CellKind.{CellKind}
 use Rattle.lmn_web.specs.Kinds.{kind_by}
-use Rattle.lmn_web.specs.Webs.{web_cell, web_with, web_of, list_in, list_link, count_number, number_in, label_by, IsLoose, INDEX, ARITY, KIND, HIGH, LOW, FIRST_MARK}
+use Rattle.lmn_web.specs.Webs.{web_cell, web_with, web_of, list_in, list_link, count_number, number_in, label_by, IsLoose}
+use Rattle.lmn_web_cells.specs.Numbers.{INDEX, ARITY, KIND, HIGH, LOW, FIRST_MARK}
 use Rattle.lmn_web.specs.Indexes.{reindexed, unindexed, IsListed, IsWeb, IsClassed, IsTable, Swapped}
-use Rattle.lmn_web.specs.Classes.{LEADERS}
 use Rattle.lmn_web.proofs.ListedLemmas.{Listing, listing, lists_same, listed_self, listed_beside, web_self, home_same, list_same}
 use Rattle.lmn_web.proofs.WebLemmas.{some_back, partner_same, set_twice}
 use Rattle.lmn_web.proofs.RelistLemmas.{in_none}

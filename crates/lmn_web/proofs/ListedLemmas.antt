@@ -7,13 +7,15 @@ use Rattle.lmn_store_heap.specs.Lists.{Distinct, after, from}
 use Rattle.lmn_store_heap.proofs.ListLemmas.{each_in, each_of, in_split}
 use Rattle.lmn_store_heap.proofs.Trees.{after_split, from_next}
 use Rattle.lmn_web_cells.specs.Cells.{HeldCell, links_of, numbers_of}
-use Rattle.lmn_web_cells.specs.Runs.{Node, RunsThrough, HOME, NEXT, PREV, node_in, link_in, Line}
+use Rattle.lmn_web_cells.specs.Runs.{Node, RunsThrough, node_in, link_in, Line}
+use Rattle.lmn_web_cells.specs.Links.{HOME, NEXT, PREV}
 use Rattle.lmn_web_cells.proofs.RunLemmas.{frame, split}
 use Rattle.lmn_web_cells.proofs.LineLemmas.{behind_there}
 use Rattle.lmn_web.specs.declared.kind.CellKind.{CellKind}
 use Rattle.lmn_web.specs.declared.kind.CellKind.TheVariants.{Atom, Membrane}
 use Rattle.lmn_web.specs.Kinds.{kind_by}
-use Rattle.lmn_web.specs.Webs.{WebCell, web_cell, web_with, web_of, kind_at, home_at, home_of, cells_in, cells_of, walked, list_in, number_in, count_number, list_link, StandOnce, KIND, FIRST_MARK}
+use Rattle.lmn_web.specs.Webs.{WebCell, web_cell, web_with, web_of, kind_at, home_at, home_of, cells_in, cells_of, walked, list_in, number_in, count_number, list_link, StandOnce}
+use Rattle.lmn_web_cells.specs.Numbers.{KIND, FIRST_MARK}
 use Rattle.lmn_web.specs.Indexes.{cell_kind, IsListed}
 
 -- Kinds

@@ -8,7 +8,8 @@ use Rattle.lmn_store_heap.proofs.ListLemmas.{each_of, in_left, in_right}
 use Rattle.lmn_web_cells.specs.Cells.{HeldCell}
 use Rattle.lmn_web_cells.specs.Runs.{Node, RunsThrough, link_in}
 use Rattle.lmn_web_cells.proofs.RunLemmas.{frame}
-use Rattle.lmn_web.specs.Classes.{CLASS_LAST, LEADERS, ClassTree, Bare, Fork, leaders, IsTree, AreBeside, IsSorted, rest_at, is_odd, class_node, key_in, is_key, of_class, AreClassed}
+use Rattle.lmn_web.specs.Classes.{ClassTree, Bare, Fork, leaders, IsTree, AreBeside, IsSorted, rest_at, is_odd, class_node, key_in, is_key, of_class, AreClassed}
+use Rattle.lmn_web_cells.specs.Links.{CLASS_LAST, LEADERS}
 
 -- Tests of classes
 

@@ -14,14 +14,16 @@ use Rattle.lmn_store_heap.proofs.Listing.{alter_at, alter_away, in_without_of}
 use Rattle.lmn_web_cells.specs.Rows.{Row}
 use Rattle.lmn_web_cells.specs.Cells.{HeldPort, HeldCell, cells_by, links_of, numbers_of, ports_of, port_of, with_link, with_number}
 use Rattle.lmn_web_cells.specs.Ports.{partner_by, partner_in}
-use Rattle.lmn_web_cells.specs.Runs.{HOME, NEXT, PREV, link_in, Line, Apart, with_next, with_prev, unlinked, appended, put_before, inserted}
+use Rattle.lmn_web_cells.specs.Runs.{link_in, Line, Apart, with_next, with_prev, unlinked, appended, put_before, inserted}
+use Rattle.lmn_web_cells.specs.Links.{HOME, NEXT, PREV}
 use Rattle.lmn_web_cells.proofs.LineLemmas.{keeps, link_other, next_away, prev_away, home_low}
 use Rattle.lmn_web_cells.proofs.InsertLemmas.{in_put, in_put_old, in_put_new, length_put}
 use Rattle.lmn_web.specs.declared.kind.CellKind.{CellKind}
 use Rattle.lmn_web.specs.declared.kind.CellKind.TheVariants.{Atom, Membrane}
 use Rattle.lmn_web.specs.Kinds.{kind_by}
 use Rattle.lmn_web.specs.Webs as web
-use Rattle.lmn_web.specs.Webs.{WebCell, web_cell, web_with, web_of, web_by, kind_at, cells_in, list_in, number_in, count_number, list_link, label_by, with_home, with_list, relisted, added_last, added_before, INDEX, ARITY, KIND, HIGH, LOW, FIRST_MARK}
+use Rattle.lmn_web.specs.Webs.{WebCell, web_cell, web_with, web_of, web_by, kind_at, cells_in, list_in, number_in, count_number, list_link, label_by, with_home, with_list, relisted, added_last, added_before}
+use Rattle.lmn_web_cells.specs.Numbers.{INDEX, ARITY, KIND, HIGH, LOW, FIRST_MARK}
 use Rattle.lmn_web.specs.Classes.{AllButLinks, all_but_links}
 use Rattle.lmn_web.specs.Indexes.{cell_kind, IsListed, IsWeb}
 use Rattle.lmn_web.proofs.ListedLemmas.{kind_cases, link_behind, links_apart, count_behind, counts_apart, count_below, line_same, listed_self, web_self, home_same, kind_same, list_same, own_line, cell_of}

@@ -11,7 +11,8 @@ use Rattle.lmn_base.proofs.Truth.{and_true, bool_cases, test_same}
 use Rattle.lmn_store_heap.specs.Lists.{from, after}
 use Rattle.lmn_store_heap.proofs.Trees.{next_in}
 use Rattle.lmn_web_cells.specs.Cells.{HeldCell, numbers_of}
-use Rattle.lmn_web.specs.Webs.{HIGH, LOW, WebCell, home_at, home_of, web_label, arity_at, is_labelled, label_by, list_in, number_in, with_label, label_class, is_classed, with_class, web_cell, web_of}
+use Rattle.lmn_web.specs.Webs.{WebCell, home_at, home_of, web_label, arity_at, is_labelled, label_by, list_in, number_in, with_label, label_class, is_classed, with_class, web_cell, web_of}
+use Rattle.lmn_web_cells.specs.Numbers.{HIGH, LOW}
 
 -- what stands behind an element that passes the test, of those that pass
 pub filter_after : (test : ℕ → Bool) (a : ℕ) (xs : List ℕ) → test a ≡ true → after a (filter test xs) ≡ filter test (after a xs)

@@ -12,8 +12,9 @@ use Rattle.lmn_web_cells.specs.Cells.{HeldPort, HeldCell, blank_cell, links_of, 
 use Rattle.lmn_web_cells.specs.Ports as cell
 use Rattle.lmn_web_cells.specs.Ports.{IsPort, Reaches, Paired, partner_by, partner_in}
 use Rattle.lmn_web_cells.proofs.PortLemmas.{cleared_ports, linked_ports}
-use Rattle.lmn_web_cells.specs.Runs.{HOME}
-use Rattle.lmn_web.specs.Webs.{WebCell, partners_of, web_cell, web_with, web_of, list_in, list_link, count_number, partner_at, arity_at, new_cell, with_partner, with_mark, linked, cleared, joined, parted, IsPaired, INDEX, ARITY, KIND, HIGH, LOW, FIRST_MARK, number_in, label_by}
+use Rattle.lmn_web_cells.specs.Links.{HOME}
+use Rattle.lmn_web.specs.Webs.{WebCell, partners_of, web_cell, web_with, web_of, list_in, list_link, count_number, partner_at, arity_at, new_cell, with_partner, with_mark, linked, cleared, joined, parted, IsPaired, number_in, label_by}
+use Rattle.lmn_web_cells.specs.Numbers.{INDEX, ARITY, KIND, HIGH, LOW, FIRST_MARK}
 use Rattle.lmn_web.specs.Indexes.{described, IsListed, IsWeb, IsIndexed}
 use Rattle.lmn_web.proofs.ListedLemmas.{Listing, listing, lists_same, listed_self, listed_beside, web_self, cell_of}
 use Rattle.lmn_web.specs.Kinds.{kind_by}

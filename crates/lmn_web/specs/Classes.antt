@@ -6,31 +6,12 @@ use Rattle.std.specs.Option.{option_map}
 use Rattle.lmn_store_heap.specs.Heap.{alter}
 use Rattle.lmn_web_cells.specs.Cells.{HeldPort, HeldCell, links_of, numbers_of, ports_of, with_link}
 use Rattle.lmn_web_cells.specs.Runs.{Node, RunsThrough, link_in, put_before}
-use Rattle.lmn_web.specs.Webs.{number_in, ARITY, HIGH, KIND}
+use Rattle.lmn_web_cells.specs.Links.{CLASS_NEXT, CLASS_PREV, CLASS_LAST, EVEN, ODD, LEADERS}
+use Rattle.lmn_web.specs.Webs.{number_in}
+use Rattle.lmn_web_cells.specs.Numbers.{ARITY, HIGH, KIND}
 use Rattle.lmn_web.specs.declared.kind.CellKind.{CellKind}
 use Rattle.lmn_web.specs.declared.kind.CellKind.TheVariants.{Atom, Membrane}
 use Rattle.lmn_web.specs.Kinds.{FILED}
-
--- the links of an atom to the next and the previous one of its class, and, of the first one of a class, to the last one of it
-abbrev pub CLASS_NEXT : ℕ
-CLASS_NEXT = 3
-
-abbrev pub CLASS_PREV : ℕ
-CLASS_PREV = 4
-
-abbrev pub CLASS_LAST : ℕ
-CLASS_LAST = 5
-
--- the links of the first one of a class to those of other classes, on its even and on its odd side
-abbrev pub EVEN : ℕ
-EVEN = 6
-
-abbrev pub ODD : ℕ
-ODD = 7
-
--- the link of a membrane to the first atom of a class
-abbrev pub LEADERS : ℕ
-LEADERS = 7
 
 abbrev pub class_node : (ℕ → Option HeldCell) → ℕ → Node
 class_node f a = record { prev = link_in f a CLASS_PREV; next = link_in f a CLASS_NEXT }

@@ -5,12 +5,14 @@ use Rattle.lmn_base.specs.Lists.{In}
 use Rattle.lmn_store_heap.specs.Heap.{alter}
 use Rattle.lmn_web_cells.specs.Cells.{HeldCell, numbers_of, ports_of, with_link, with_number}
 use Rattle.lmn_web_cells.specs.Ports.{Reaches, Paired}
-use Rattle.lmn_web_cells.specs.Runs.{HOME, NEXT, link_in, Line}
+use Rattle.lmn_web_cells.specs.Runs.{link_in, Line}
+use Rattle.lmn_web_cells.specs.Links.{HOME, NEXT, LEADERS}
 use Rattle.lmn_web.specs.declared.kind.CellKind.{CellKind}
 use Rattle.lmn_web.specs.declared.kind.CellKind.TheVariants.{Atom}
 use Rattle.lmn_web.specs.Kinds.{kind_by}
-use Rattle.lmn_web.specs.Classes.{LEADERS, files, ClassTree, AreClassed}
-use Rattle.lmn_web.specs.Webs.{INDEX, ARITY, KIND, HIGH, LOW, number_in, count_number, list_link, list_in}
+use Rattle.lmn_web.specs.Classes.{files, ClassTree, AreClassed}
+use Rattle.lmn_web.specs.Webs.{number_in, count_number, list_link, list_in}
+use Rattle.lmn_web_cells.specs.Numbers.{INDEX, ARITY, KIND, HIGH, LOW}
 
 -- a cell with these numbers
 abbrev pub described : ℕ → ℕ → ℕ → ℕ → ℕ → HeldCell → HeldCell

@@ -6,7 +6,9 @@ use Rattle.lmn_base.specs.Lists.{In}
 use Rattle.lmn_store_heap.specs.Lists.{Distinct, without}
 use Rattle.lmn_web_cells.specs.Cells.{HeldPort, HeldCell, cells_by, numbers_of}
 use Rattle.lmn_web_cells.specs.Ports.{partner_by}
-use Rattle.lmn_web_cells.specs.Runs.{HOME, NEXT, link_in, put_before}
+use Rattle.lmn_web_cells.specs.Runs.{link_in, put_before}
+use Rattle.lmn_web_cells.specs.Links.{HOME, NEXT, ATOMS, MEMBRANES}
+use Rattle.lmn_web_cells.specs.Numbers.{KIND, HIGH, LOW, FIRST_MARK, ATOM_COUNT, MEMBRANE_COUNT}
 use Rattle.lmn_web_cells.specs.Rows.{Row}
 use Rattle.lmn_web.specs.declared.kind.CellKind.{CellKind}
 use Rattle.lmn_web.specs.declared.kind.CellKind.TheVariants.{Atom, Membrane}
@@ -169,34 +171,15 @@ pub record WithoutAtoms (w v : ℕ → Option WebCell) (m : ℕ) : Type 0 where
 
 -- How cells stand for that
 
--- the places of the numbers of a cell
-abbrev pub INDEX : ℕ
-INDEX = 0
-
-abbrev pub ARITY : ℕ
-ARITY = 1
-
-abbrev pub KIND : ℕ
-KIND = 2
-
-abbrev pub HIGH : ℕ
-HIGH = 3
-
-abbrev pub LOW : ℕ
-LOW = 4
-
-abbrev pub FIRST_MARK : ℕ
-FIRST_MARK = 5
-
 -- the numbers that say how long the two lists are
 abbrev pub count_number : CellKind → ℕ
-count_number Atom = 6
-count_number Membrane = 7
+count_number Atom = ATOM_COUNT
+count_number Membrane = MEMBRANE_COUNT
 
 -- the links at which they begin; the next ones lead to their ends
 abbrev pub list_link : CellKind → ℕ
-list_link Atom = 3
-list_link Membrane = 5
+list_link Atom = ATOMS
+list_link Membrane = MEMBRANES
 
 abbrev pub number_in : (ℕ → Option HeldCell) → ℕ → ℕ → ℕ
 number_in f b k = slice_index_or (numbers_of (f b)) k 0

@@ -13,35 +13,8 @@ ghost use Rattle.lmn_web.specs.Classes.{ClassTree, AreClassed, IsTree, IsSorted,
 use crate::kind::{CellKind, FILED};
 use lmn_web_cells::cell::Cells;
 use lmn_web_cells::handle::Cell;
-
-// The numbers of an atom that say its class.
-const ARITY: usize = 1;
-
-const HIGH: usize = 3;
-
-// The number by which a cell tells its kind.
-const KIND: usize = 2;
-
-// The link of an atom to the next one of its list, and of a membrane to the first of its atoms.
-const NEXT: usize = 1;
-
-const ATOMS: usize = 3;
-
-// The link of an atom to the next one of its class.
-const CLASS_NEXT: usize = 3;
-
-// The links of an atom to the previous one of its class, and of the first one of a class to the last one of it.
-const CLASS_PREV: usize = 4;
-
-const CLASS_LAST: usize = 5;
-
-// The links of the first one of a class to those of other classes, on its even and on its odd side.
-const EVEN: usize = 6;
-
-const ODD: usize = 7;
-
-/// The link of a membrane to the first atom of a class.
-pub const LEADERS: usize = 7;
+use lmn_web_cells::links::{ATOMS, CLASS_LAST, CLASS_NEXT, CLASS_PREV, EVEN, LEADERS, NEXT, ODD};
+use lmn_web_cells::numbers::{ARITY, HIGH, KIND};
 
 // A place in the tree of the first atoms of the classes: what hangs at a link of the membrane, or of the first atom above.
 #[derive(Clone, Copy)]
@@ -73,7 +46,7 @@ fn has_class(cells: &Cells, c: Cell, high: u64, arity: u64) -> bool
 
 // The link of a first atom on the side to which a number goes.
 fn side(rest: u64) -> usize
-    ensures { result ≡ (if is_odd rest then 7 else 6) }
+    ensures { result ≡ (if is_odd rest then ODD else EVEN) }
 {
     if rest % 2 == 1 { ODD } else { EVEN }
 }
@@ -81,8 +54,8 @@ fn side(rest: u64) -> usize
 // Where a membrane has the first atom of a class, or would have it.
 fn find(cells: &Cells, m: Cell, high: u64, arity: u64) -> Place
     requires there { IsSome (cells_by cells.now (cell_id m)) }
-    requires tree { (t : ClassTree) × IsTree (cells_by cells.now) (link_in (cells_by cells.now) (cell_id m) 7) t × IsSorted (cells_by cells.now) 0 t }
-    ensures { (t : ClassTree) → IsTree (cells_by cells.now) (link_in (cells_by cells.now) (cell_id m) 7) t →
+    requires tree { (t : ClassTree) × IsTree (cells_by cells.now) (link_in (cells_by cells.now) (cell_id m) LEADERS) t × IsSorted (cells_by cells.now) 0 t }
+    ensures { (t : ClassTree) → IsTree (cells_by cells.now) (link_in (cells_by cells.now) (cell_id m) LEADERS) t →
         let w = place_in (cells_by cells.now) (high, arity) (cell_id m) t in (cell_id result.holder ≡ w.holder) × (result.link ≡ w.link) × (option_map cell_id result.leader ≡ top w.tree) }
 {
     let mut holder = m;
@@ -113,7 +86,7 @@ fn find(cells: &Cells, m: Cell, high: u64, arity: u64) -> Place
 fn below(cells: &Cells, c: Cell) -> Place
     requires there { IsSome (cells_by cells.now (cell_id c)) }
     ensures holder { result.holder ≡ c }
-    ensures link { result.link ≡ (if is_some (link_in (cells_by cells.now) (cell_id c) 6) then 6 else 7) }
+    ensures link { result.link ≡ (if is_some (link_in (cells_by cells.now) (cell_id c) EVEN) then EVEN else ODD) }
     ensures leader { option_map cell_id result.leader ≡ link_in (cells_by cells.now) (cell_id c) result.link }
 {
     let even = cells.link(c, EVEN);
@@ -135,9 +108,9 @@ fn below(cells: &Cells, c: Cell) -> Place
 // A first atom that has none below it, from those below another. None where that one has none.
 fn lowest(cells: &Cells, c: Cell) -> Place
     requires there { IsSome (cells_by cells.now (cell_id c)) }
-    requires tree { (a b : ClassTree) × IsTree (cells_by cells.now) (link_in (cells_by cells.now) (cell_id c) 6) a × IsTree (cells_by cells.now) (link_in (cells_by cells.now) (cell_id c) 7) b
+    requires tree { (a b : ClassTree) × IsTree (cells_by cells.now) (link_in (cells_by cells.now) (cell_id c) EVEN) a × IsTree (cells_by cells.now) (link_in (cells_by cells.now) (cell_id c) ODD) b
         × (d : ℕ) × IsSorted (cells_by cells.now) d a × IsSorted (cells_by cells.now) d b }
-    ensures { (a b : ClassTree) → IsTree (cells_by cells.now) (link_in (cells_by cells.now) (cell_id c) 6) a → IsTree (cells_by cells.now) (link_in (cells_by cells.now) (cell_id c) 7) b →
+    ensures { (a b : ClassTree) → IsTree (cells_by cells.now) (link_in (cells_by cells.now) (cell_id c) EVEN) a → IsTree (cells_by cells.now) (link_in (cells_by cells.now) (cell_id c) ODD) b →
         let w = lowest_below (cell_id c) a b in (cell_id result.holder ≡ w.holder) × (result.link ≡ w.link) × (option_map cell_id result.leader ≡ w.leader) }
 {
     let mut place = below(cells, c);
@@ -151,7 +124,7 @@ fn lowest(cells: &Cells, c: Cell) -> Place
 
 // The first atom of a class from one of a membrane's list on, if there is one.
 fn seek(cells: &Cells, m: Cell, start: Option<Cell>, high: u64, arity: u64) -> Option<Cell>
-    requires line { Line (cells_by cells.now) (cell_id m) 3 (list_in (cells_by cells.now) (cell_id m) Atom) }
+    requires line { Line (cells_by cells.now) (cell_id m) ATOMS (list_in (cells_by cells.now) (cell_id m) Atom) }
     requires start { IfSome start (λ c. In (cell_id c) (list_in (cells_by cells.now) (cell_id m) Atom)) }
     ensures { let f = cells_by cells.now in let all = list_in f (cell_id m) Atom in
         from (option_map cell_id result) (of_class f (high, arity) all) ≡ of_class f (high, arity) (from (option_map cell_id start) all) }
@@ -169,7 +142,7 @@ fn seek(cells: &Cells, m: Cell, start: Option<Cell>, high: u64, arity: u64) -> O
 /// The first atom of a class in a membrane.
 pub fn first_in(cells: &Cells, m: Cell, high: u64, arity: u64) -> Option<Cell>
     requires there { IsSome (cells_by cells.now (cell_id m)) }
-    requires line { Line (cells_by cells.now) (cell_id m) 3 (list_in (cells_by cells.now) (cell_id m) Atom) }
+    requires line { Line (cells_by cells.now) (cell_id m) ATOMS (list_in (cells_by cells.now) (cell_id m) Atom) }
     requires classes { files (cells_by cells.now) (cell_id m) Atom ≡ true → (t : ClassTree) × AreClassed (cells_by cells.now) (cell_id m) (list_in (cells_by cells.now) (cell_id m) Atom) t }
     ensures { let f = cells_by cells.now in let own = of_class f (high, arity) (list_in f (cell_id m) Atom) in from (option_map cell_id result) own ≡ own }
 {
@@ -183,7 +156,7 @@ pub fn first_in(cells: &Cells, m: Cell, high: u64, arity: u64) -> Option<Cell>
 /// The next atom of the class of one in a membrane.
 pub fn next_in(cells: &Cells, m: Cell, c: Cell) -> Option<Cell>
     requires there { IsSome (cells_by cells.now (cell_id m)) }
-    requires line { Line (cells_by cells.now) (cell_id m) 3 (list_in (cells_by cells.now) (cell_id m) Atom) }
+    requires line { Line (cells_by cells.now) (cell_id m) ATOMS (list_in (cells_by cells.now) (cell_id m) Atom) }
     requires inside { In (cell_id c) (list_in (cells_by cells.now) (cell_id m) Atom) }
     requires classes { files (cells_by cells.now) (cell_id m) Atom ≡ true → (t : ClassTree) × AreClassed (cells_by cells.now) (cell_id m) (list_in (cells_by cells.now) (cell_id m) Atom) t }
     ensures { let f = cells_by cells.now in let own = of_class f (key_in f (cell_id c)) (list_in f (cell_id m) Atom) in from (option_map cell_id result) own ≡ after (cell_id c) own }
@@ -204,7 +177,7 @@ pub fn next_in(cells: &Cells, m: Cell, c: Cell) -> Option<Cell>
 /// The first atom of the class of `c` from another atom of a membrane's list on. None where nothing is to be filed.
 pub fn place_from(cells: &Cells, m: Cell, filed: bool, start: Cell, c: Cell) -> Option<Cell>
     requires there { IsSome (cells_by cells.now (cell_id c)) }
-    requires line { filed ≡ true → Line (cells_by cells.now) (cell_id m) 3 (list_in (cells_by cells.now) (cell_id m) Atom) }
+    requires line { filed ≡ true → Line (cells_by cells.now) (cell_id m) ATOMS (list_in (cells_by cells.now) (cell_id m) Atom) }
     requires start { filed ≡ true → In (cell_id start) (list_in (cells_by cells.now) (cell_id m) Atom) }
     ensures { filed ≡ true → let f = cells_by cells.now in let all = list_in f (cell_id m) Atom in
         from (option_map cell_id result) (of_class f (key_in f (cell_id c)) all) ≡ of_class f (key_in f (cell_id c)) (from (Some (cell_id start)) all) }
@@ -388,8 +361,8 @@ pub fn file_before(cells: &mut Cells, m: Cell, d: Cell, c: Cell)
 // The last one of a class leaves it.
 fn unfile_last(cells: &mut Cells, m: Cell, c: Cell, prev: Cell)
     requires classes { (xs : List ℕ) × (t : ClassTree) × MayFile (cells_by cells.old) (cell_id m) (cell_id c) xs t × In (cell_id c) xs }
-    requires prev { link_in (cells_by cells.old) (cell_id c) 4 ≡ Some (cell_id prev) }
-    requires next { link_in (cells_by cells.old) (cell_id c) 3 ≡ None }
+    requires prev { link_in (cells_by cells.old) (cell_id c) CLASS_PREV ≡ Some (cell_id prev) }
+    requires next { link_in (cells_by cells.old) (cell_id c) CLASS_NEXT ≡ None }
     ensures { (xs : List ℕ) (t : ClassTree) (xs' : List ℕ) → MayFile (cells_by cells.old) (cell_id m) (cell_id c) xs t → In (cell_id c) xs →
         ClassBecomes (cells_by cells.old) (key_in (cells_by cells.old) (cell_id c)) xs (without (cell_id c) (of_class (cells_by cells.old) (key_in (cells_by cells.old) (cell_id c)) xs)) xs' →
         Refiled (cells_by cells.old) (cells_by cells.new) (cell_id m) xs (key_in (cells_by cells.old) (cell_id c)) xs' }
@@ -406,8 +379,8 @@ fn unfile_last(cells: &mut Cells, m: Cell, c: Cell, prev: Cell)
 // The first one of a class leaves it.
 fn unfile_first(cells: &mut Cells, m: Cell, c: Cell, next: Option<Cell>)
     requires classes { (xs : List ℕ) × (t : ClassTree) × MayFile (cells_by cells.old) (cell_id m) (cell_id c) xs t × In (cell_id c) xs }
-    requires prev { link_in (cells_by cells.old) (cell_id c) 4 ≡ None }
-    requires next { link_in (cells_by cells.old) (cell_id c) 3 ≡ option_map cell_id next }
+    requires prev { link_in (cells_by cells.old) (cell_id c) CLASS_PREV ≡ None }
+    requires next { link_in (cells_by cells.old) (cell_id c) CLASS_NEXT ≡ option_map cell_id next }
     ensures { (xs : List ℕ) (t : ClassTree) (xs' : List ℕ) → MayFile (cells_by cells.old) (cell_id m) (cell_id c) xs t → In (cell_id c) xs →
         ClassBecomes (cells_by cells.old) (key_in (cells_by cells.old) (cell_id c)) xs (without (cell_id c) (of_class (cells_by cells.old) (key_in (cells_by cells.old) (cell_id c)) xs)) xs' →
         Refiled (cells_by cells.old) (cells_by cells.new) (cell_id m) xs (key_in (cells_by cells.old) (cell_id c)) xs' }

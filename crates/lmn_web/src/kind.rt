@@ -3,6 +3,9 @@ ghost use Rattle.std.specs.Prelude.{◌≡◌};
 ghost use Rattle.lmn_web.specs.Kinds.{kind_by};
 ghost use Rattle.lmn_web.specs.Webs.{list_link, count_number};
 
+use lmn_web_cells::links::{ATOMS, MEMBRANES};
+use lmn_web_cells::numbers::{ATOM_COUNT, MEMBRANE_COUNT};
+
 /// What a cell stands for.
 #[derive(Clone, Copy)]
 pub enum CellKind {
@@ -44,8 +47,8 @@ pub fn first_link(kind: CellKind) -> usize
     ensures { result ≡ list_link kind }
 {
     match kind {
-        CellKind::Atom => 3,
-        CellKind::Membrane => 5,
+        CellKind::Atom => ATOMS,
+        CellKind::Membrane => MEMBRANES,
     }
 }
 
@@ -54,7 +57,7 @@ pub fn count_place(kind: CellKind) -> usize
     ensures { result ≡ count_number kind }
 {
     match kind {
-        CellKind::Atom => 6,
-        CellKind::Membrane => 7,
+        CellKind::Atom => ATOM_COUNT,
+        CellKind::Membrane => MEMBRANE_COUNT,
     }
 }

@@ -12,32 +12,15 @@ ghost use Rattle.lmn_web.specs.Kinds.{kind_by};
 ghost use Rattle.lmn_web.specs.Indexes.{described, reindexed, bare_atoms, AreLinked, IsIndexed, IsTable, Swapped, Without};
 ghost use Rattle.lmn_web.specs.declared.kind.CellKind.TheVariants.{Atom, Membrane};
 
-use crate::classes::{LEADERS, enter_class, first_in, is_filed, leave_class, next_in, place_from};
+use crate::classes::{enter_class, first_in, is_filed, leave_class, next_in, place_from};
 use crate::kind::{CellKind, UNFILED, count_place, first_link, kind_of, number_of};
 use lmn_web_cells::cell::Cells;
 use lmn_web_cells::handle::Cell;
+use lmn_web_cells::links::{HOME, LEADERS, NEXT};
+use lmn_web_cells::numbers::{ARITY, FIRST_MARK, HIGH, INDEX, KIND, LOW};
 use lmn_web_cells::{lists, ports};
 use std::alloc::{AllocError, Global};
 use std::marker::Model;
-
-// The link of a cell to the membrane in a list of which it stands, and to the next cell of that list.
-const HOME: usize = 0;
-
-const NEXT: usize = 1;
-
-// The numbers of a cell, besides the lengths of its two lists. Its first mark is one of them, and each further mark stands with
-// the port before its own: so the first one, which is asked most, stands at one place.
-const INDEX: usize = 0;
-
-const ARITY: usize = 1;
-
-const KIND: usize = 2;
-
-const HIGH: usize = 3;
-
-const LOW: usize = 4;
-
-const FIRST_MARK: usize = 5;
 
 // The first number that doesn't fit into half a label.
 const WHOLE: u128 = 0x1_0000_0000_0000_0000;

@@ -8,7 +8,8 @@ use Rattle.lmn_store_heap.specs.Heap.{alter}
 use Rattle.lmn_store_heap.specs.Lists.{Distinct}
 use Rattle.lmn_store_heap.proofs.ListLemmas.{each_in, each_of, apart}
 use Rattle.lmn_web_cells.specs.Cells.{HeldCell, links_of, with_link, HaveLinks}
-use Rattle.lmn_web_cells.specs.Runs.{RunsThrough, HOME, NEXT, PREV, node_in, link_in, Line, IsHome, Apart, with_next, put_before, inserted}
+use Rattle.lmn_web_cells.specs.Runs.{RunsThrough, node_in, link_in, Line, IsHome, Apart, with_next, put_before, inserted}
+use Rattle.lmn_web_cells.specs.Links.{HOME, NEXT, PREV}
 use Rattle.lmn_web_cells.proofs.CellRows.{if_yes}
 use Rattle.lmn_web_cells.proofs.RunLemmas.{Between, begins, frame, inserts}
 use Rattle.lmn_web_cells.proofs.LineLemmas.{Found, found_in, before_there, cell_there, still_there, there_next, keeps, count_links, links_next, link_same, link_other, link_above, next_first, next_last, next_keeps, next_at, next_away, home_low, next_low}

@@ -9,7 +9,8 @@ use Rattle.lmn_store_heap.proofs.ListLemmas.{each_in, each_of, in_left, in_right
 use Rattle.lmn_store_heap.proofs.Listing.{distinct_without, distinct_snoc}
 use Rattle.lmn_web_cells.specs.Cells.{HeldCell, links_of, with_link, HaveLinks}
 use Rattle.lmn_store_heap.specs.Heap.{alter}
-use Rattle.lmn_web_cells.specs.Runs.{RunsThrough, HOME, NEXT, PREV, node_in, link_in, Line, IsHome, Apart, with_next, with_prev, unlinked, appended}
+use Rattle.lmn_web_cells.specs.Runs.{RunsThrough, node_in, link_in, Line, IsHome, Apart, with_next, with_prev, unlinked, appended}
+use Rattle.lmn_web_cells.specs.Links.{HOME, NEXT, PREV}
 use Rattle.lmn_web_cells.proofs.CellRows.{if_yes}
 use Rattle.lmn_store_heap.proofs.Listing.{alter_at, alter_away}
 use Rattle.lmn_base.proofs.Numbers.{not_equal}

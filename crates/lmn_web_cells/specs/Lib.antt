@@ -5,4 +5,6 @@ pub mod Cells
 pub mod Fillings
 pub mod CellIds
 pub mod Ports
+pub mod Links
+pub mod Numbers
 pub mod Runs

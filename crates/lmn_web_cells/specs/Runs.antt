@@ -4,6 +4,7 @@ use Rattle.std.specs.Option.{option_map}
 use Rattle.std.specs.List.{AllByRecursion}
 use Rattle.lmn_base.specs.Lists.{In}
 use Rattle.lmn_store_heap.specs.Lists.{Distinct}
+use Rattle.lmn_web_cells.specs.Links.{HOME, NEXT, PREV}
 use Rattle.lmn_web_cells.specs.Cells.{HeldCell, links_of, with_link}
 use Rattle.lmn_store_heap.specs.Heap.{alter}
 
@@ -16,16 +17,6 @@ pub record Node : Type 0 where
 abbrev pub RunsThrough : (ℕ → Node) → Option ℕ → Option ℕ → List ℕ → Option ℕ → Option ℕ → Type 0
 RunsThrough f before first [] last end = (first ≡ end) × (last ≡ before)
 RunsThrough f before first (x ∷ xs) last end = (first ≡ Some x) × ((f x).prev ≡ before) × RunsThrough f (Some x) (f x).next xs last end
-
--- the places of the links of a cell
-abbrev pub HOME : ℕ
-HOME = 0
-
-abbrev pub NEXT : ℕ
-NEXT = 1
-
-abbrev pub PREV : ℕ
-PREV = 2
 
 -- a link of a cell
 abbrev pub link_in : (ℕ → Option HeldCell) → ℕ → ℕ → Option ℕ

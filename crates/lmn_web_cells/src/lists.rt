@@ -9,12 +9,7 @@ ghost use Rattle.lmn_web_cells.specs.Runs.{Line, IsHome, Apart, with_next, with_
 
 use crate::cell::Cells;
 use crate::handle::Cell;
-
-const HOME: usize = 0;
-
-const NEXT: usize = 1;
-
-const PREV: usize = 2;
+use crate::links::{HOME, NEXT, PREV};
 
 /// What follows a cell, or begins the list at a link of a membrane, becomes `next`.
 pub fn set_next(cells: &mut Cells, m: Cell, e: usize, at: Option<Cell>, next: Option<Cell>)

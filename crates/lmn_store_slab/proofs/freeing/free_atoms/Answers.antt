@@ -1,6 +1,6 @@
 use Rattle.std.proofs.Common.{◌∙◌, arith}
-use Rattle.lmn_store_slab.specs.Kept.{one}
-use Rattle.lmn_store_slab.proofs.CensusLemmas.{census_less, census_drop}
+use Rattle.lmn_store_counts.specs.Counts.{one}
+use Rattle.lmn_store_counts.proofs.CensusLemmas.{census_less, census_drop}
 use Rattle.lmn_store_slab.proofs.FreeingLemmas.{item, freeing_one, fewer, freed_all}
 use Rattle.lmn_store_slab.proofs.freeing.free_atoms.Goals as goal
 

@@ -2,8 +2,8 @@ use Rattle.std.proofs.Common.{◌≡◌, ◌≤◌, length}
 use Rattle.lmn_store_heap.specs.Heap.{HeapAtom}
 use Rattle.lmn_store_slab.specs.Lines.{list_at}
 use Rattle.lmn_store_slab.specs.Cells.{atoms_in_cells}
-use Rattle.lmn_store_slab.specs.Census.{Census}
-use Rattle.lmn_store_slab.specs.Kept.{one}
+use Rattle.lmn_store_counts.specs.Census.{Census}
+use Rattle.lmn_store_counts.specs.Counts.{one}
 use Rattle.lmn_store_slab.proofs.FreeingLemmas.{Freeing}
 use Rattle.lmn_store_slab.proofs.freeing.free_atoms.Given as goal
 

@@ -1,8 +1,8 @@
 use Rattle.std.proofs.Common.{◌∙◌, arith, ◌≡◌, ◌-◌, subst}
 use Rattle.lmn_store_heap.specs.Heap.{HeapMem}
-use Rattle.lmn_store_slab.specs.Census.{Census}
-use Rattle.lmn_store_slab.specs.Kept.{with_rules}
-use Rattle.lmn_store_slab.proofs.CensusLemmas.{census_less, census_drop}
+use Rattle.lmn_store_counts.specs.Census.{Census}
+use Rattle.lmn_store_counts.specs.Counts.{with_rules}
+use Rattle.lmn_store_counts.proofs.CensusLemmas.{census_less, census_drop}
 use Rattle.lmn_store_slab.proofs.FreeingLemmas.{item, freeing_one, fewer, freed_all}
 use Rattle.lmn_store_slab.proofs.freeing.free_mems.Goals as goal
 

@@ -3,7 +3,7 @@ use Rattle.std.specs.Option.{option_map}
 use Rattle.std.specs.Prelude.{slice_index_or}
 use Rattle.lmn_store_heap.specs.Heap.{HeapMem, alter, rules_by, mem_with_rules}
 use Rattle.lmn_store_slab.specs.Cells.{mems_in_cells}
-use Rattle.lmn_store_slab.proofs.RuleLemmas.{rules_next, rules_same, rules_spare, take_all}
+use Rattle.lmn_store_counts.proofs.RuleLemmas.{rules_next, rules_same, rules_spare, take_all}
 use Rattle.lmn_store_slab.proofs.SeekLemmas.{mem_cell_is, rules_cell}
 use Rattle.lmn_store_slab.proofs.moving.append_rules.Goals as goal
 

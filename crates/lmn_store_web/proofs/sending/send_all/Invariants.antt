@@ -1,6 +1,6 @@
 use Rattle.std.proofs.Common.{◌≡◌, ◌≢◌, ℕ, List, Option, length}
 use Rattle.lmn_store_heap.specs.Heap.{moved_all}
-use Rattle.lmn_store_slab.specs.RuleLists.{RuleList}
+use Rattle.lmn_store_counts.specs.RuleLists.{RuleList}
 use Rattle.lmn_web_cells.specs.CellIds.{cell_id}
 use Rattle.lmn_web.specs.Webs.{web_by, web_label, cells_in}
 use Rattle.lmn_web.specs.declared.kind.CellKind.{CellKind}

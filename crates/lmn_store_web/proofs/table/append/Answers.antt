@@ -2,7 +2,7 @@ use Rattle.std.proofs.Common.{◌∙◌, sym, ap, subst, length, arith, IsSome, 
 use Rattle.std.specs.Option.{option_map}
 use Rattle.std.specs.Prelude.{slice_index_or}
 use Rattle.lmn_store_heap.specs.Heap.{HeapMem, alter, rules_by, mem_with_rules}
-use Rattle.lmn_store_slab.proofs.RuleLemmas.{rules_next, rules_same, rules_spare, take_all}
+use Rattle.lmn_store_counts.proofs.RuleLemmas.{rules_next, rules_same, rules_spare, take_all}
 use Rattle.lmn_store_web.specs.Tables.{rows}
 use Rattle.lmn_store_web.proofs.TableLemmas.{row_there, row_is}
 use Rattle.lmn_store_web.proofs.table.append.Goals as goal

@@ -1,7 +1,8 @@
 use Rattle.std.proofs.Common.{◌∙◌, ap, ℕ, Option, Some}
 use Rattle.lmn_web_cells.specs.Cells.{HeldCell}
 use Rattle.lmn_web_cells.specs.CellIds.{cell_id}
-use Rattle.lmn_web.specs.Classes.{CLASS_PREV, link_written}
+use Rattle.lmn_web.specs.Classes.{link_written}
+use Rattle.lmn_web_cells.specs.Links.{CLASS_PREV}
 use Rattle.lmn_web.proofs.ClassWrites.{kept}
 use Rattle.lmn_web.proofs.classes.close.Goals as goal
 

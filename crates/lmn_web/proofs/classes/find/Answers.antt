@@ -3,7 +3,7 @@ use Rattle.std.specs.Option.{option_map}
 use Rattle.lmn_web_cells.specs.Cells.{cells_by}
 use Rattle.lmn_web_cells.specs.CellIds.{cell_id}
 use Rattle.lmn_web_cells.specs.Runs.{link_in}
-use Rattle.lmn_web.specs.Classes.{LEADERS}
+use Rattle.lmn_web_cells.specs.Links.{LEADERS}
 use Rattle.lmn_web.proofs.ClassLemmas.{Left, bulk, tree_small, side_of, left_all, left_next, left_found, left_none, left_there}
 use Rattle.lmn_web.proofs.classes.find.Goals as goal
 

@@ -2,7 +2,8 @@ use Rattle.std.proofs.Common.{◌∙◌, sym, ap, ℕ, Option, None}
 use Rattle.std.specs.Option.{option_map}
 use Rattle.lmn_web_cells.specs.Cells.{HeldCell, cells_by}
 use Rattle.lmn_web_cells.specs.CellIds.{cell_id}
-use Rattle.lmn_web.specs.Classes.{CLASS_PREV, CLASS_LAST, link_written, taken_over}
+use Rattle.lmn_web.specs.Classes.{link_written, taken_over}
+use Rattle.lmn_web_cells.specs.Links.{CLASS_PREV, CLASS_LAST}
 use Rattle.lmn_web.proofs.ClassWrites.{kept}
 use Rattle.lmn_web.proofs.classes.pass.Goals as goal
 

@@ -2,7 +2,8 @@ use Rattle.std.proofs.Common.{◌∙◌, sym, ap, ℕ, Option, Some}
 use Rattle.std.specs.Option.{option_map}
 use Rattle.lmn_web_cells.specs.Cells.{HeldCell, cells_by}
 use Rattle.lmn_web_cells.specs.CellIds.{cell_id}
-use Rattle.lmn_web.specs.Classes.{EVEN, ODD, link_written}
+use Rattle.lmn_web.specs.Classes.{link_written}
+use Rattle.lmn_web_cells.specs.Links.{EVEN, ODD}
 use Rattle.lmn_web.proofs.ClassWrites.{kept}
 use Rattle.lmn_web.proofs.classes.take_over.Goals as goal
 

@@ -1,6 +1,6 @@
 use Rattle.lmn_web_cells.specs.Cells.{with_number}
 use Rattle.lmn_web_cells.specs.CellIds.{cell_id}
-use Rattle.lmn_web.specs.Webs.{INDEX, ARITY, KIND, HIGH, LOW}
+use Rattle.lmn_web_cells.specs.Numbers.{INDEX, ARITY, KIND, HIGH, LOW}
 use Rattle.lmn_web.proofs.WebLemmas.{five_steps, still_some}
 use Rattle.lmn_web.proofs.web.describe.Goals as goal
 

@@ -3,7 +3,7 @@ use Rattle.std.specs.Option.{option_map}
 use Rattle.lmn_store_heap.specs.Heap.{alter}
 use Rattle.lmn_web_cells.specs.Cells.{cells_by, with_link, with_number}
 use Rattle.lmn_web_cells.specs.CellIds.{cell_id}
-use Rattle.lmn_web.specs.Classes.{LEADERS}
+use Rattle.lmn_web_cells.specs.Links.{LEADERS}
 use Rattle.lmn_web.proofs.WebLemmas.{four_steps, stays_some}
 use Rattle.lmn_web.proofs.web.forget_atoms.Goals as goal
 

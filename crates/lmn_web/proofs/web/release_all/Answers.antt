@@ -6,8 +6,10 @@ use Rattle.lmn_store_heap.specs.Heap.{alter}
 use Rattle.lmn_store_heap.specs.Lists.{Distinct}
 use Rattle.lmn_web_cells.specs.Cells.{HeldCell, cells_by}
 use Rattle.lmn_web_cells.specs.CellIds.{cell_id}
-use Rattle.lmn_web_cells.specs.Runs.{NEXT, link_in}
-use Rattle.lmn_web.specs.Webs.{number_in, INDEX}
+use Rattle.lmn_web_cells.specs.Runs.{link_in}
+use Rattle.lmn_web_cells.specs.Links.{NEXT}
+use Rattle.lmn_web.specs.Webs.{number_in}
+use Rattle.lmn_web_cells.specs.Numbers.{INDEX}
 use Rattle.lmn_web.specs.Indexes.{reindexed, unindexed, AreLinked, IsTable, Without}
 use Rattle.lmn_web.proofs.FreeLemmas.{freed_table, freed_gone, freed_others}
 use Rattle.lmn_web.proofs.EmptyLemmas.{linked_head, linked_none, linked_kept, without_none, without_step, first_once}

@@ -2,7 +2,8 @@ use Rattle.std.proofs.Common.{◌≡◌, ◌+◌, ◌++◌, ◌∷◌, [], ℕ, 
 use Rattle.std.specs.Option.{option_map}
 use Rattle.lmn_web_cells.specs.Cells.{HeldCell, with_link, cells_by}
 use Rattle.lmn_web_cells.specs.CellIds.{cell_id}
-use Rattle.lmn_web_cells.specs.Runs.{HOME, NEXT, PREV, link_in, Line, IsHome, appended}
+use Rattle.lmn_web_cells.specs.Runs.{link_in, Line, IsHome, appended}
+use Rattle.lmn_web_cells.specs.Links.{HOME, NEXT, PREV}
 use Rattle.lmn_web_cells.proofs.LineLemmas.{cell_there, last_in, there_next, still_there, still_home, if_there, appended_line, appended_others, appended_is}
 use Rattle.lmn_web_cells.proofs.lists.append.Goals as goal
 

@@ -2,7 +2,8 @@ use Rattle.std.proofs.Common.{◌≡◌, ℕ, Option, Some, IsSome, sym, subst}
 use Rattle.std.specs.Option.{option_map}
 use Rattle.lmn_web_cells.specs.Cells.{HeldCell, with_link, cells_by}
 use Rattle.lmn_web_cells.specs.CellIds.{cell_id}
-use Rattle.lmn_web_cells.specs.Runs.{HOME, NEXT, PREV, link_in, Line, IsHome, inserted, put_before}
+use Rattle.lmn_web_cells.specs.Runs.{link_in, Line, IsHome, inserted, put_before}
+use Rattle.lmn_web_cells.specs.Links.{HOME, NEXT, PREV}
 use Rattle.lmn_web_cells.proofs.LineLemmas.{cell_there, before_there, there_next, still_there, still_home, if_there}
 use Rattle.lmn_web_cells.proofs.InsertLemmas.{inserted_line, inserted_others, inserted_is}
 use Rattle.lmn_web_cells.proofs.lists.insert.Goals as goal

@@ -3,7 +3,8 @@ use Rattle.std.specs.Option.{option_map}
 use Rattle.lmn_store_heap.specs.Lists.{without}
 use Rattle.lmn_web_cells.specs.Cells.{HeldCell, cells_by}
 use Rattle.lmn_web_cells.specs.CellIds.{cell_id}
-use Rattle.lmn_web_cells.specs.Runs.{NEXT, PREV, link_in, Line, IsHome, unlinked}
+use Rattle.lmn_web_cells.specs.Runs.{link_in, Line, IsHome, unlinked}
+use Rattle.lmn_web_cells.specs.Links.{NEXT, PREV}
 use Rattle.lmn_web_cells.proofs.LineLemmas.{unlinked_others, cell_there, before_there, behind_there, there_next, there_prev, home_next, unlinked_line, unlinked_is, if_there}
 use Rattle.lmn_web_cells.proofs.lists.unlink.Goals as goal
 

@@ -1,7 +1,7 @@
 use Rattle.std.proofs.Common.{subst, sym, ◌∙◌, [], Some, ap, arith}
 use Rattle.lmn_store_heap.specs.Heap.{HeapMem, alter, top}
 use Rattle.lmn_store_slab.specs.Lines.{HeldLists, list_at}
-use Rattle.lmn_store_slab.specs.RuleLists.{RuleList}
+use Rattle.lmn_store_counts.specs.RuleLists.{RuleList}
 use Rattle.lmn_store_slab.specs.Cells.{mems_in_cells}
 use Rattle.lmn_store_heap.specs.Sound.{Valid}
 use Rattle.lmn_store_heap.proofs.Lone.{lone_valid}

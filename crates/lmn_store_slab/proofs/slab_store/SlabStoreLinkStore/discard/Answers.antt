@@ -3,7 +3,8 @@ use Rattle.lmn_store_heap.specs.Conditions.{Alone}
 use Rattle.lmn_store_heap.specs.Heap.{unless_waiting, mem_unless_waiting, discarded}
 use Rattle.lmn_store_slab.specs.Kept.{Kept, heap_of}
 use Rattle.lmn_store_slab.proofs.HoldsLemmas.{line_there, mem_line_there}
-use Rattle.lmn_store_slab.proofs.FreedLemmas.{removes_waiting, mem_removes_waiting, discard_pair}
+use Rattle.lmn_store_counts.proofs.PlaceLemmas.{removes_waiting, mem_removes_waiting}
+use Rattle.lmn_store_slab.proofs.FreedLemmas.{discard_pair}
 use Rattle.lmn_store_slab.proofs.slab_store.SlabStoreLinkStore.discard.Goals as goal
 
 pub free_atoms-requires-clause-list : goal.free_atoms-requires-clause-list

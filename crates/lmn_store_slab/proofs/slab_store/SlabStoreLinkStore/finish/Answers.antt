@@ -3,7 +3,8 @@ use Rattle.lmn_store_heap.specs.Conditions.{Ready}
 use Rattle.lmn_store_heap.specs.Heap.{unless_gone, mem_unless_gone, finished}
 use Rattle.lmn_store_slab.specs.Kept.{Kept, heap_of}
 use Rattle.lmn_store_slab.proofs.HoldsLemmas.{line_there, mem_line_there}
-use Rattle.lmn_store_slab.proofs.FreedLemmas.{removes_gone, mem_removes_gone, finish_pair}
+use Rattle.lmn_store_counts.proofs.PlaceLemmas.{removes_gone, mem_removes_gone}
+use Rattle.lmn_store_slab.proofs.FreedLemmas.{finish_pair}
 use Rattle.lmn_store_slab.proofs.slab_store.SlabStoreLinkStore.finish.Goals as goal
 
 pub free_atoms-requires-clause-list : goal.free_atoms-requires-clause-list

@@ -1,6 +1,6 @@
 use Rattle.std.proofs.Common.{◌∙◌, ◌∷◌, [], ◌++◌, ℕ, List, Some, refl, ap, subst, arith}
 use Rattle.lmn_store_heap.specs.Heap.{HeapMem, alter, waiting, made_mem}
-use Rattle.lmn_store_slab.specs.RuleLists.{RuleList}
+use Rattle.lmn_store_counts.specs.RuleLists.{RuleList}
 use Rattle.lmn_store_slab.specs.Cells.{mems_in_cells}
 use Rattle.lmn_store_slab.specs.Kept.{Kept, heap_of}
 use Rattle.lmn_store_slab.proofs.HoldsLemmas.{line_there, mem_line_there, fresh_mem_free, grown_pair, make_mem_pair}

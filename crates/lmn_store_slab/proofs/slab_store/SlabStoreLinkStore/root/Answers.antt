@@ -1,6 +1,7 @@
 use Rattle.std.proofs.Common.{subst}
 use Rattle.lmn_store_heap.specs.Sound.{AtMost}
-use Rattle.lmn_store_slab.specs.Kept.{BOUND, heap_of}
+use Rattle.lmn_store_slab.specs.Kept.{heap_of}
+use Rattle.lmn_store_counts.specs.Counts.{BOUND}
 use Rattle.lmn_store_slab.proofs.BoundLemmas.{at_most}
 use Rattle.lmn_store_slab.proofs.slab_store.SlabStoreLinkStore.root.Goals as goal
 

@@ -1,7 +1,7 @@
 use Rattle.std.proofs.Common.{subst, sym, ap, ◌+◌, ◌-◌, ◌≤◌, ◌∙◌, length, arith, List, Some, ℕ}
 use Rattle.std.specs.Option.{option_map}
 use Rattle.lmn_store_heap.specs.Heap.{IsMem, spare_of, rules_in, rules_by, rules_copied, alter, mem_with_rules}
-use Rattle.lmn_store_slab.specs.Kept.{HasCounts}
+use Rattle.lmn_store_counts.specs.Counts.{HasCounts}
 use Rattle.lmn_web_cells.specs.CellIds.{cell_id}
 use Rattle.lmn_web.specs.Webs.{web_by}
 use Rattle.lmn_store_web.specs.Tables.{rows}

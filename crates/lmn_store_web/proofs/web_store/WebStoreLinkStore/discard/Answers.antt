@@ -9,7 +9,7 @@ use Rattle.lmn_store_web.proofs.SoundLemmas.{web_formed}
 use Rattle.lmn_store_web.proofs.FreeLemmas.{frees_both}
 use Rattle.lmn_store_web.proofs.EndLemmas.{discard_free, discarded_heap}
 use Rattle.lmn_store_heap.specs.Heap.{Heap, waiting, mem_unless_waiting}
-use Rattle.lmn_store_slab.proofs.FreedLemmas.{mem_removes_waiting}
+use Rattle.lmn_store_counts.proofs.PlaceLemmas.{mem_removes_waiting}
 use Rattle.lmn_store_web.proofs.FreedIndex.{waits, index_freed}
 use Rattle.lmn_store_web.proofs.SoundLemmas.{heap_sound}
 use Rattle.lmn_store_web.proofs.web_store.WebStoreLinkStore.discard.Goals as goal

@@ -9,7 +9,7 @@ use Rattle.lmn_store_web.proofs.SoundLemmas.{web_formed}
 use Rattle.lmn_store_web.proofs.FreeLemmas.{frees_both}
 use Rattle.lmn_store_web.proofs.EndLemmas.{finish_free, finished_heap}
 use Rattle.lmn_store_heap.specs.Heap.{Heap, gone, mem_unless_gone}
-use Rattle.lmn_store_slab.proofs.FreedLemmas.{mem_removes_gone}
+use Rattle.lmn_store_counts.proofs.PlaceLemmas.{mem_removes_gone}
 use Rattle.lmn_store_web.proofs.FreedIndex.{goes, index_freed}
 use Rattle.lmn_store_web.proofs.web_store.WebStoreLinkStore.finish.Goals as goal
 

@@ -5,7 +5,7 @@ use Rattle.lmn_web.specs.Webs.{web_by}
 use Rattle.lmn_store_web.specs.WebHeaps.{KeptWeb, heap_of}
 use Rattle.lmn_store_web.specs.WebStores.{kept_by}
 use Rattle.lmn_store_web.proofs.SoundLemmas.{heap_sound, web_formed, root_there}
-use Rattle.lmn_store_web.proofs.CountLemmas.{items_are, some_mem}
+use Rattle.lmn_store_counts.proofs.CountLemmas.{items_are, some_mem}
 use Rattle.lmn_store_web.proofs.web_store.WebStoreLinkStore.items.Goals as goal
 
 pub overflow_sub-result : goal.overflow_sub-result

@@ -2,7 +2,7 @@ use Rattle.std.proofs.Common.{subst, sym, ap, ◌∙◌, refl, ℕ, arith}
 use Rattle.std.specs.Prelude.{Option}
 use Rattle.lmn_base.proofs.Lists.{on_err}
 use Rattle.lmn_store_heap.specs.Heap.{made_atom}
-use Rattle.lmn_store_slab.specs.Kept.{HasCounts}
+use Rattle.lmn_store_counts.specs.Counts.{HasCounts}
 use Rattle.lmn_web_cells.specs.CellIds.{cell_id}
 use Rattle.lmn_web.specs.declared.kind.CellKind.TheVariants.{Atom}
 use Rattle.lmn_web.specs.Webs.{WebCell, web_by}

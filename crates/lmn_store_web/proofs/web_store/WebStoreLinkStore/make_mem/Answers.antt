@@ -3,8 +3,8 @@ use Rattle.std.specs.Prelude.{Option, slice_index_or}
 use Rattle.slab.specs.Slab.{Slab}
 use Rattle.lmn_base.proofs.Lists.{on_err}
 use Rattle.lmn_store_heap.specs.Heap.{made_mem}
-use Rattle.lmn_store_slab.specs.RuleLists.{RuleList}
-use Rattle.lmn_store_slab.specs.Kept.{HasCounts}
+use Rattle.lmn_store_counts.specs.RuleLists.{RuleList}
+use Rattle.lmn_store_counts.specs.Counts.{HasCounts}
 use Rattle.lmn_web_cells.specs.CellIds.{cell_id}
 use Rattle.lmn_web.specs.declared.kind.CellKind.TheVariants.{Membrane}
 use Rattle.lmn_web.specs.Webs.{WebCell, web_by}

@@ -1,10 +1,10 @@
 use Rattle.std.proofs.Common.{subst}
 use Rattle.lmn_store_heap.specs.Sound.{AtMost, Sound}
 use Rattle.lmn_web_cells.specs.Cells.{cells_by}
-use Rattle.lmn_store_slab.specs.Kept.{BOUND}
+use Rattle.lmn_store_counts.specs.Counts.{BOUND}
 use Rattle.lmn_store_web.specs.WebHeaps.{KeptWeb, heap_of}
 use Rattle.lmn_store_web.specs.WebStores.{kept_by}
-use Rattle.lmn_store_web.proofs.CountLemmas.{at_most}
+use Rattle.lmn_store_counts.proofs.CountLemmas.{at_most}
 use Rattle.lmn_store_web.proofs.SoundLemmas.{heap_sound, web_formed}
 use Rattle.lmn_store_web.proofs.web_store.WebStoreLinkStore.root.Goals as goal
 

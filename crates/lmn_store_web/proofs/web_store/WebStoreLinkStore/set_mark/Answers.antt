@@ -15,7 +15,7 @@ use Rattle.lmn_store_heap.specs.Heap.{marked}
 use Rattle.lmn_web.specs.Webs.{WebCell}
 use Rattle.lmn_store_web.specs.WebHeaps.{atoms_of, mems_of, heap_by}
 use Rattle.lmn_store_web.specs.WebStores.{IsStored}
-use Rattle.lmn_store_slab.specs.Kept.{HasCounts}
+use Rattle.lmn_store_counts.specs.Counts.{HasCounts}
 use Rattle.lmn_store_web.proofs.CoreLemmas.{stored_same}
 use Rattle.lmn_store_web.proofs.MarkLemmas.{core_same, marked_heap, marked_counts}
 use Rattle.std.specs.Prelude.{Option}

@@ -5,7 +5,8 @@ use Rattle.lmn_base.specs.Lists.{In}
 use Rattle.lmn_web_cells.specs.Rows.{Row}
 use Rattle.lmn_web_cells.specs.Cells.{cells_by}
 use Rattle.lmn_web_cells.specs.CellIds.{cell_id}
-use Rattle.lmn_web_cells.specs.Runs.{HOME, link_in, Line, IsHome, put_before}
+use Rattle.lmn_web_cells.specs.Runs.{link_in, Line, IsHome, put_before}
+use Rattle.lmn_web_cells.specs.Links.{HOME}
 use Rattle.lmn_web.specs.declared.kind.CellKind.TheVariants.{Atom}
 use Rattle.lmn_web.specs.Kinds.{kind_by}
 use Rattle.lmn_web.specs.Webs.{web_by, list_in, list_link, count_number, number_in, home_at, added_before}

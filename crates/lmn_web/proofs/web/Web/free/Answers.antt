@@ -4,7 +4,8 @@ use Rattle.lmn_store_heap.specs.Heap.{alter}
 use Rattle.lmn_web_cells.specs.Rows.{Row}
 use Rattle.lmn_web_cells.specs.Cells.{HeldCell, cells_by}
 use Rattle.lmn_web_cells.specs.CellIds.{cell_id}
-use Rattle.lmn_web.specs.Webs.{web_by, web_of, list_in, number_in, IsLoose, INDEX}
+use Rattle.lmn_web.specs.Webs.{web_by, web_of, list_in, number_in, IsLoose}
+use Rattle.lmn_web_cells.specs.Numbers.{INDEX}
 use Rattle.lmn_web.specs.Indexes.{IsClassedWeb}
 use Rattle.lmn_web.proofs.FreeLemmas.{loose_back, web_table, freed_web, freed_classed, freed_is}
 use Rattle.lmn_web.proofs.WebLemmas.{some_back}

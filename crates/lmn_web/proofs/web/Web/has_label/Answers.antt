@@ -2,7 +2,8 @@ use Rattle.std.proofs.Common.{ℕ, List, refl, subst, ◌≡◌, ◌∙◌, ◌=
 use Rattle.lmn_web_cells.specs.Rows.{Row}
 use Rattle.lmn_web_cells.specs.Cells.{cells_by}
 use Rattle.lmn_web_cells.specs.CellIds.{cell_id}
-use Rattle.lmn_web.specs.Webs.{LOW, arity_at, is_labelled, label_class, number_in, web_by, web_label}
+use Rattle.lmn_web.specs.Webs.{arity_at, is_labelled, label_class, number_in, web_by, web_label}
+use Rattle.lmn_web_cells.specs.Numbers.{LOW}
 use Rattle.std.proofs.Common.{Some}
 use Rattle.lmn_web.proofs.SeekLemmas.{label_by_half}
 use Rattle.lmn_web.proofs.web.Web.has_label.Goals as goal

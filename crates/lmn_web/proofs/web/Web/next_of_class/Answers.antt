@@ -6,7 +6,8 @@ use Rattle.lmn_store_heap.proofs.Trees.{next_in}
 use Rattle.lmn_web_cells.specs.Rows.{Row}
 use Rattle.lmn_web_cells.specs.Cells.{cells_by}
 use Rattle.lmn_web_cells.specs.CellIds.{cell_id}
-use Rattle.lmn_web_cells.specs.Runs.{HOME, link_in}
+use Rattle.lmn_web_cells.specs.Runs.{link_in}
+use Rattle.lmn_web_cells.specs.Links.{HOME}
 use Rattle.lmn_web.specs.declared.kind.CellKind.TheVariants.{Atom}
 use Rattle.lmn_web.specs.Webs.{web_by, web_of, cells_in, list_in, home_at, kind_at, arity_at, web_label, label_class, with_class}
 use Rattle.lmn_web.specs.Indexes.{cell_kind}

@@ -5,7 +5,8 @@ use Rattle.lmn_store_heap.specs.Lists.{without}
 use Rattle.lmn_web_cells.specs.Rows.{Row}
 use Rattle.lmn_web_cells.specs.Cells.{cells_by}
 use Rattle.lmn_web_cells.specs.CellIds.{cell_id}
-use Rattle.lmn_web_cells.specs.Runs.{HOME, link_in, Line, IsHome}
+use Rattle.lmn_web_cells.specs.Runs.{link_in, Line, IsHome}
+use Rattle.lmn_web_cells.specs.Links.{HOME}
 use Rattle.lmn_web.specs.Webs.{web_by, kind_at, list_in, list_link, count_number, number_in, home_at, unlinked}
 use Rattle.lmn_web.specs.Indexes.{cell_kind}
 use Rattle.lmn_web.proofs.ListedLemmas.{kind_same, own_line, cell_of, home_same, link_behind, link_below, some_home}

@@ -1,19 +1,47 @@
--- The bound of a store over a web.
-use Rattle.std.proofs.Common.{◌≡◌, ◌≢◌, ℕ, ◌+◌, ◌≤◌, ◌++◌, subst, length-append, List, [], ◌∷◌, length, map, Some, refl, sym, ◌∙◌, inl, inr, arith}
+-- Where items are counted: the bound, and the number of items of a tree of membranes.
+use Rattle.std.proofs.Common.{◌≡◌, ◌≢◌, ℕ, ◌+◌, ◌≤◌, ◌++◌, subst, length-append, List, [], ◌∷◌, length, map, Option, Some, None, IsSome, refl, sym, ◌∙◌, inl, inr, arith}
 use Rattle.std.specs.Prelude.{sum}
 use Rattle.lmn_base.specs.Lists.{In}
 use Rattle.lmn_base.proofs.Lists.{in_either, some_is, sum_cons}
 use Rattle.lmn_store_heap.specs.Lists.{Distinct}
-use Rattle.lmn_store_heap.specs.Heap.{Heap, HeapMem, within, atoms_in, rules_in, home_of, IsAtom, IsMem}
+use Rattle.lmn_store_heap.specs.Heap.{Heap, HeapAtom, HeapMem, within, atoms_in, rules_in, rules_by, spare_by, home_of, IsAtom, IsMem}
 use Rattle.lmn_store_heap.specs.Sound.{Sound, AllInPlace, AtMost, Forest, IsTree, flat, item_count_in}
 use Rattle.lmn_store_heap.proofs.Common.{listed_atom}
 use Rattle.lmn_store_heap.proofs.Depths.{both_distinct}
 use Rattle.lmn_store_heap.proofs.ListLemmas.{each_in, in_left, in_right}
 use Rattle.lmn_store_heap.proofs.Listing.{home_is, listed_mem, within_same}
 use Rattle.lmn_store_heap.proofs.Trees.{is_mem}
-use Rattle.lmn_store_slab.specs.Kept.{HasCounts, BOUND, one, with_rules}
-use Rattle.lmn_store_slab.proofs.BoundLemmas.{total_ones, total_rules, total_spare}
-use Rattle.lmn_store_slab.proofs.CensusLemmas.{total_two, census_less}
+use Rattle.lmn_store_counts.specs.Census.{weight, total}
+use Rattle.lmn_store_counts.specs.Counts.{HasCounts, BOUND, one, with_rules}
+use Rattle.lmn_store_counts.proofs.CensusLemmas.{total_two, census_less}
+
+-- totals of items that are all there
+total_ones : (A : ℕ → Option HeapAtom) (ks : List ℕ) → ((k : ℕ) → In k ks → IsSome (A k)) → total one A ks ≡ length ks
+total_ones A [] h = refl
+total_ones A (k ∷ ks) h = let r = total_ones A ks (λ j i. h j (inr i)) in let w = by (A k) (h k (inl refl)) in omega arith
+  where
+    by : (o : Option HeapAtom) → IsSome o → weight one o ≡ 1
+    by None i = absurd (cc)
+    by (Some x) i = refl
+
+total_rules : (B : ℕ → Option HeapMem) (ks : List ℕ) → ((k : ℕ) → In k ks → IsSome (B k)) → total with_rules B ks ≡ length ks + sum (map (λ k. length (rules_by (B k))) ks)
+total_rules B [] h = refl
+total_rules B (k ∷ ks) h =
+    let r = total_rules B ks (λ j i. h j (inr i)) in
+    let w = by (B k) (h k (inl refl)) in
+    let s = sum_cons (λ k. length (rules_by (B k))) k ks in omega arith
+  where
+    by : (o : Option HeapMem) → IsSome o → weight with_rules o ≡ 1 + length (rules_by o)
+    by None i = absurd (cc)
+    by (Some x) i = refl
+
+total_spare : (B : ℕ → Option HeapMem) (ks : List ℕ) → total (λ (x : HeapMem). x.spare) B ks ≡ sum (map (λ k. spare_by (B k)) ks)
+total_spare B [] = refl
+total_spare B (k ∷ ks) = let r = total_spare B ks in let w = by (B k) in let s = sum_cons (λ k. spare_by (B k)) k ks in omega arith
+  where
+    by : (o : Option HeapMem) → weight (λ (x : HeapMem). x.spare) o ≡ spare_by o
+    by None = refl
+    by (Some x) = refl
 
 -- a heap whose items are counted is within the bound
 pub at_most : (h : Heap) (n m s : ℕ) → HasCounts h.atoms h.mems n m s → AtMost BOUND h

@@ -13,7 +13,7 @@ pub struct Rules {
 
 impl Model for Rules {
     ghost use Rattle.std.specs.Prelude.{◌+◌, ◌≤◌, vec_len, vec_capacity};
-    ghost use Rattle.lmn_store_slab.specs.RuleLists.{RuleList};
+    ghost use Rattle.lmn_store_counts.specs.RuleLists.{RuleList};
 
     ghost Value = { RuleList };
 

@@ -6,7 +6,7 @@ use Rattle.lmn_store_heap.specs.Lists.{Distinct, without}
 use Rattle.lmn_store_heap.specs.Heap.{alter}
 use Rattle.lmn_store_heap.proofs.ListLemmas.{each_of, each_in, in_without}
 use Rattle.lmn_store_heap.proofs.Listing.{alter_at, alter_away, in_without_of, distinct_without}
-use Rattle.lmn_store_slab.specs.Census.{weight, total, Census}
+use Rattle.lmn_store_counts.specs.Census.{weight, total, Census}
 use Rattle.lmn_base.specs.Lists.{In}
 
 module _ {X : Type 0} (w : X → ℕ) where

@@ -1,0 +1,3 @@
+pub mod RuleLists
+pub mod Census
+pub mod Counts
