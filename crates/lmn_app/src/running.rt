@@ -12,7 +12,7 @@ use lmn_app_accepted::accepted_texts;
 use lmn_app_drive::{RunEnd, RunOptions, drive};
 use lmn_app_reading::Accepted;
 use lmn_app_runs::{plains_are_printable, traces_are_runs};
-use lmn_base::{Names, NoMemory, Pos, Refusal};
+use lmn_base::{Names, NoMemory, Pos, Refusal, RefusalCode};
 use lmn_io::Sink;
 use lmn_machine::Steps;
 use lmn_order::Chooser;
@@ -26,7 +26,7 @@ use std::sync::ledger::{Blank, Ledger};
 
 /// The refusal of a text whose process has too many items.
 pub(crate) const TOO_LARGE: Refusal = Refusal {
-    code: 50,
+    code: RefusalCode::ProcessTooLarge as u8,
     pos: Pos { line: 1, column: 1 },
 };
 
