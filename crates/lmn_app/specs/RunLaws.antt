@@ -1,7 +1,8 @@
 -- What is written of a run of a text is one text.
 use Rattle.std.specs.Prelude.{◌≡◌, ◌≤◌, ◌++◌, ℕ, List, [], Option, Some, true}
 use Rattle.lmn_adequacy.specs.Runs.{End}
-use Rattle.lmn_app_runs.specs.Runs.{Stop, at_end}
+use Rattle.lmn_app_runs.specs.Runs.{at_end}
+use Rattle.lmn_app_runs.specs.declared.stop.Stop.{Stop}
 use Rattle.lmn_app.specs.declared.task.RunSettings.{RunSettings}
 use Rattle.lmn_app.specs.Writing.{WritesRun}
 

@@ -6,7 +6,8 @@ use Rattle.lmn_congruence.specs.Rules.{Name}
 use Rattle.lmn_guards.specs.declared.plan.GuardPlan.{GuardPlan}
 use Rattle.lmn_io.specs.Taking.{Takes, TakesPrefix}
 use Rattle.lmn_compile_listing.specs.Listings.{rule_listings}
-use Rattle.lmn_app_runs.specs.Runs.{Given, Stop, StopsSo, end_line, word_of_stop}
+use Rattle.lmn_app_runs.specs.Runs.{Given, StopsSo, end_line, word_of_stop}
+use Rattle.lmn_app_runs.specs.declared.stop.Stop.{Stop}
 use Rattle.lmn_app.specs.Runs.{IsRun, IsTraceOf}
 use Rattle.lmn_app.specs.Texts.{Accepts, text_bytes}
 use Rattle.lmn_order.specs.Orders.{chosen}

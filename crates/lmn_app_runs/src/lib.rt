@@ -1,8 +1,11 @@
-//! What a run is, by what it prints, and that each trace is one.
+//! What a run is, by what it prints, why it stops, and that each trace is a run.
 //!
-//! The definitions stand in `specs/`. Each law is the contract of a function with an empty body, so nothing here does anything
-//! when it runs.
+//! The definitions stand in `specs/`. Each law is the contract of a function with an empty body.
 #![tactic(auto)]
+
+mod stop;
+
+pub use stop::Stop;
 
 ghost use Rattle.lmn_app_runs.specs.Examples.{ShortRunPrints};
 ghost use Rattle.lmn_app_runs.specs.Laws.{SomeStop, StopIsOne, TracesAreRuns, TracesHaveLines};
