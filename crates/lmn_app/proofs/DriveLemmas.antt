@@ -34,7 +34,7 @@ use Rattle.lmn_app_runs.specs.Runs.{LinesOf, StopsSo, end_line, printed_solids, 
 use Rattle.lmn_app_runs.specs.declared.stop.Stop.{Stop}
 use Rattle.lmn_app_runs.specs.declared.stop.Stop.TheVariants as stop
 use Rattle.lmn_app_runs.proofs.TraceLines.{lines_count, lines_with}
-use Rattle.lmn_app.specs.declared.task.RunSettings.{RunSettings}
+use Rattle.lmn_app_words.specs.declared.command.RunSettings.{RunSettings}
 use Rattle.lmn_app.specs.declared.task.Task.TheVariants as task
 use Rattle.lmn_app.specs.declared.ending.Ending.TheVariants.{Refused}
 use Rattle.lmn_app.specs.Outcomes.{Causes, CountsFaults, Ended, Output}

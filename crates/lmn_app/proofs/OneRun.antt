@@ -13,7 +13,7 @@ use Rattle.lmn_app_runs.specs.declared.stop.Stop.{Stop}
 use Rattle.lmn_app_runs.specs.Texts.{PlainsArePrintable}
 use Rattle.lmn_app_runs.proofs.TraceLines.{one_more_line, traces_have_lines}
 use Rattle.lmn_app_runs.proofs.Stops.{ends_at_stop}
-use Rattle.lmn_app.specs.declared.task.RunSettings.{RunSettings}
+use Rattle.lmn_app_words.specs.declared.command.RunSettings.{RunSettings}
 use Rattle.lmn_app.specs.Checks.{HasSolid}
 use Rattle.lmn_app.specs.RunLaws.{EarlierRunFirst, OneRun, OneRunSoFar}
 use Rattle.lmn_app.specs.Runs.{IsTraceOf}

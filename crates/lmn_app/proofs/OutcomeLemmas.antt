@@ -7,7 +7,7 @@ use Rattle.lmn_io.proofs.TakingLemmas.{no_put}
 use Rattle.lmn_app_runs.specs.declared.stop.Stop.{Stop}
 use Rattle.lmn_app.specs.declared.ending.Ending.{Ending}
 use Rattle.lmn_app.specs.declared.ending.Ending.TheVariants.{Done, Budget, Refused, Words, ReadFault, WriteFault, NoMemory, Full, SecondRefused}
-use Rattle.lmn_app.specs.declared.task.RunSettings.{RunSettings}
+use Rattle.lmn_app_words.specs.declared.command.RunSettings.{RunSettings}
 use Rattle.lmn_app.specs.declared.task.Task.{Task}
 use Rattle.lmn_app.specs.declared.task.Task.TheVariants as task
 use Rattle.lmn_app.specs.Endings.{Concludes}

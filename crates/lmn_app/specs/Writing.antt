@@ -11,7 +11,7 @@ use Rattle.lmn_app_runs.specs.declared.stop.Stop.{Stop}
 use Rattle.lmn_app.specs.Runs.{IsRun, IsTraceOf}
 use Rattle.lmn_app.specs.Texts.{Accepts, text_bytes}
 use Rattle.lmn_order.specs.Orders.{chosen}
-use Rattle.lmn_app.specs.declared.task.RunSettings.{RunSettings}
+use Rattle.lmn_app_words.specs.declared.command.RunSettings.{RunSettings}
 
 -- What is told of a text: nothing (None), that it isn't there (Some None), or its bytes (Some (Some bytes)).
 abbrev pub Told : Type 0

@@ -23,7 +23,7 @@ use crate::demo::demo_text;
 use crate::ending::Ending;
 use crate::pairing::act_on_pair;
 use crate::running::run;
-use crate::task::{DEMO, RunSettings, Task};
+use crate::task::{DEMO, Task};
 use lmn_app_reading::read;
 use lmn_app_words::{Command, PairWords, asks_one};
 use lmn_base::{Names, Pos, Refusal, RefusalCode, Rows, TextFault};
@@ -147,7 +147,7 @@ fn perform<F: Shelf, O: Sink>(
         Command::Run(words) => perform_file(
             alloc,
             words.file,
-            Task::Run(RunSettings::of(words)),
+            Task::Run(words.settings),
             shelf,
             out,
         ),

@@ -5,11 +5,11 @@
 
 mod stop;
 
-pub use stop::Stop;
-
 ghost use Rattle.lmn_app_runs.specs.Examples.{ShortRunPrints};
 ghost use Rattle.lmn_app_runs.specs.Laws.{SomeStop, StopIsOne, TracesAreRuns, TracesHaveLines};
 ghost use Rattle.lmn_app_runs.specs.Texts.{PlainsArePrintable};
+
+pub use stop::Stop;
 
 /// The lines of a trace of the solid of a plain are those of a run: each reads back as its process, each next process comes by
 /// one commit, and the run stops at an irreducible process exactly where its word says so.
