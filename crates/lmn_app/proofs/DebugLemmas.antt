@@ -1,5 +1,5 @@
 -- What obeys a script beside a program.
-use Rattle.std.proofs.Common.{◌≡◌, ◌≤◌, ◌<◌, ℕ, List, Option, Some, length, refl, sym, subst, inr, arith}
+use Rattle.std.proofs.Common.{◌≡◌, ◌≤◌, ◌<◌, ℕ, List, Option, Some, Result, Ok, Err, length, refl, sym, subst, inr, arith}
 use Rattle.lmn_app_accepted.specs.Loading.{AcceptedAreNamed, AcceptedAreNamedBehind}
 use Rattle.lmn_adequacy.proofs.PlainSolids.{solids_of_plains_exist}
 use Rattle.lmn_base.specs.declared.rule.Plain.{Plain}
@@ -14,13 +14,13 @@ use Rattle.lmn_congruence.specs.Translation.{top_of}
 use Rattle.lmn_congruence.proofs.SolidsOfPlains.{solids_of_plains}
 use Rattle.lmn_congruence.proofs.TranslatedItems.{items_kept}
 use Rattle.lmn_debug.specs.Courses.{course}
-use Rattle.lmn_debug.specs.Debugged.{Debugged}
-use Rattle.lmn_debug.specs.declared.debugging.DebugEnd.{DebugEnd}
-use Rattle.lmn_debug.specs.declared.debugging.DebugEnd.TheVariants as session
+use Rattle.lmn_debug.specs.Debugged.{CountsObeyed, Debugged}
+use Rattle.lmn_debug.specs.declared.debugging.DebugFault.{DebugFault}
+use Rattle.lmn_debug.specs.declared.debugging.DebugFault.TheVariants as session
 use Rattle.lmn_instr_reading.specs.Reading.{AddsNames}
 use Rattle.lmn_guards.specs.declared.plan.GuardPlan.{GuardPlan}
 use Rattle.lmn_store_heap.specs.Heap.{Heap}
-use Rattle.lmn_io.specs.Counts.{FailedLast, Faults, NoneFailed}
+use Rattle.lmn_io.specs.Counts.{Faults}
 use Rattle.lmn_schedule_loading.specs.Loaded.{LoadCauses}
 use Rattle.lmn_schedule_loading.specs.declared.loading.LoadFault.TheVariants.{Size}
 use Rattle.lmn_order.specs.declared.order.Order.TheVariants.{First}
@@ -88,11 +88,11 @@ module _ (behind : AcceptedAreNamedBehind) (program script : List ℕ) (names : 
         }
 
     -- its orders ended so
-    pub debugged_ended : (end : DebugEnd) (old new : Option (List ℕ)) (before after : Faults) → Debugged later (course (chosen First) session_size held.solid) orders end old new
-        → (¬ (end ≡ session.Failed) → NoneFailed before after) → (end ≡ session.Failed → FailedLast before after) → EndsDebugged program script (obeyed_as end) old new before after
-    debugged_ended session.Done old new before after d same rose = ((d.0, (the_session, d.1), d.2), same (λ e. cc e))
-    debugged_ended session.NoMemory old new before after d same rose = (inr (d.0, (the_session, d.1), d.2), same (λ e. cc e))
-    debugged_ended session.Failed old new before after d same rose = ((d.0, (the_session, d.1), d.2), rose refl)
+    pub debugged_ended : {A : Type 0} (end : Result A DebugFault) (old new : Option (List ℕ)) (before after : Faults) → Debugged later (course (chosen First) session_size held.solid) orders end old new
+        → CountsObeyed end before after → EndsDebugged program script (obeyed_as end) old new before after
+    debugged_ended (Ok done) old new before after d counts = ((d.0, (the_session, d.1), d.2), counts)
+    debugged_ended (Err session.NoMemory) old new before after d counts = (inr (d.0, (the_session, d.1), d.2), counts)
+    debugged_ended (Err session.Failed) old new before after d counts = ((d.0, (the_session, d.1), d.2), counts)
 
 -- a program whose process has too many items is refused
 pub large_refused : (p : Pair) (texts : Option (List ℕ → Option (List ℕ))) (program : List ℕ) (names : List Name) (plain : Plain) (plans : List GuardPlan) (k : ℕ) → most_items_of_pair p.kind ≡ Some session_size → Accepts program names plain plans

@@ -24,15 +24,17 @@ use Rattle.lmn_io.specs.Taking.{Takes, TakesPrefix}
 use Rattle.lmn_schedule_loading.specs.Loaded.{LoadCauses}
 use Rattle.lmn_schedule_loading.specs.declared.loading.LoadFault.TheVariants.{Size}
 use Rattle.lmn_order.specs.Orders.{chosen}
-use Rattle.lmn_adequacy.specs.Runs.{End, irreducible, budget_done, full}
+use Rattle.lmn_adequacy.specs.Runs.{irreducible, budget_done, full}
 use Rattle.lmn_app_drive.specs.declared.driving.RunEnd.{RunEnd}
 use Rattle.lmn_app_drive.specs.declared.driving.RunEnd.TheVariants as run
-use Rattle.lmn_app_drive.specs.Driving.{Drove, RunInput as Driven, given_by_engine as driven, no_memory as no_memory_word, Ran}
+use Rattle.lmn_app_drive.specs.Driving.{Drove, RunInput as Driven, given_by_engine as driven, Ran}
 use Rattle.lmn_app_drive.specs.Written.{Lines, written}
 use Rattle.lmn_app_runs.specs.Laws.{solid_of}
-use Rattle.lmn_app_runs.specs.Runs.{LinesOf, Stop, StopsSo, at_end, no_memory, end_line, printed_solids, word_of_stop, end_word as driven_word}
+use Rattle.lmn_app_runs.specs.Runs.{LinesOf, StopsSo, end_line, printed_solids, word_of_stop, end_word as driven_word}
+use Rattle.lmn_app_runs.specs.declared.stop.Stop.{Stop}
+use Rattle.lmn_app_runs.specs.declared.stop.Stop.TheVariants as stop
 use Rattle.lmn_app_runs.proofs.TraceLines.{lines_count, lines_with}
-use Rattle.lmn_app.specs.declared.task.RunSettings.{RunSettings}
+use Rattle.lmn_app_words.specs.declared.command.RunSettings.{RunSettings}
 use Rattle.lmn_app.specs.declared.task.Task.TheVariants as task
 use Rattle.lmn_app.specs.declared.ending.Ending.TheVariants.{Refused}
 use Rattle.lmn_app.specs.Outcomes.{Causes, CountsFaults, Ended, Output}
@@ -43,12 +45,6 @@ use Rattle.lmn_app.specs.Writing.{WritesRun, given, run_text}
 use Rattle.lmn_app.proofs.PlainRegions.{region_is_numbered}
 use Rattle.lmn_app.proofs.RunLemmas.{Laws, trace_is_run}
 use Rattle.lmn_app_reading.proofs.Readings.{well_made}
-
--- the words of ends are those of runs
-same_word : (e : End) → driven_word e ≡ word_of_stop (at_end e)
-same_word irreducible = refl
-same_word budget_done = refl
-same_word full = refl
 
 -- the lines that are printed
 abbrev printed : Bool → List (List ℕ) → List ℕ → List (List ℕ)
@@ -121,10 +117,10 @@ module _ (alloc : Global) (laws : Laws) (w : RunSettings)
   -- what was written by a run that ended so
   pub driven_output : (n : ℕ) (h : Heap) (end : RunEnd) (old new : Option (List ℕ)) → Drove g n h end old new → Output (task.Run w) (ended_as end) (Some (Some text)) old new
   unfolding trace
-  driven_output n h run.Irreducible old new d = writes n h d.ran (at_end irreducible) (driven_word irreducible) old new refl d.ended.0 d.ended.1
-  driven_output n h run.Budget old new d = writes n h d.ran (at_end budget_done) (driven_word budget_done) old new refl d.ended.0 d.ended.1
-  driven_output n h run.Full old new d = writes n h d.ran (at_end full) (driven_word full) old new refl d.ended.0 d.ended.1
-  driven_output n h run.NoMemory old new d = inr (writes n h d.ran no_memory no_memory_word old new refl d.ended.0 d.ended.1)
+  driven_output n h run.Irreducible old new d = writes n h d.ran stop.Irreducible (driven_word irreducible) old new refl d.ended.0 d.ended.1
+  driven_output n h run.Budget old new d = writes n h d.ran stop.Budget (driven_word budget_done) old new refl d.ended.0 d.ended.1
+  driven_output n h run.Full old new d = writes n h d.ran stop.Full (driven_word full) old new refl d.ended.0 d.ended.1
+  driven_output n h run.NoMemory old new d = inr (writes n h d.ran stop.NoMemory (word_of_stop stop.NoMemory) old new refl d.ended.0 d.ended.1)
   driven_output n h run.Failed old new d =
       let r = d.ran in
       let part = d.ended in
@@ -140,8 +136,10 @@ module _ (alloc : Global) (laws : Laws) (w : RunSettings)
       }
     where
       took : (why : Stop) → StopsSo (given w) n d.ran.last why → TakesPrefix (run_text (printed w.trace d.ran.lines.first_lines d.ran.lines.last_line) why n) old new
-      took (at_end e) stops = subst (λ xs. TakesPrefix xs old new) (text_is n h d.ran (at_end e) (driven_word e) (same_word e)) (d.ended.at_end e stops)
-      took no_memory stops = subst (λ xs. TakesPrefix xs old new) (text_is n h d.ran no_memory no_memory_word refl) (d.ended.elsewhere stops)
+      took stop.Irreducible stops = subst (λ xs. TakesPrefix xs old new) (text_is n h d.ran stop.Irreducible (driven_word irreducible) refl) (d.ended.at_end irreducible stops)
+      took stop.Budget stops = subst (λ xs. TakesPrefix xs old new) (text_is n h d.ran stop.Budget (driven_word budget_done) refl) (d.ended.at_end budget_done stops)
+      took stop.Full stops = subst (λ xs. TakesPrefix xs old new) (text_is n h d.ran stop.Full (driven_word full) refl) (d.ended.at_end full stops)
+      took stop.NoMemory stops = subst (λ xs. TakesPrefix xs old new) (text_is n h d.ran stop.NoMemory (word_of_stop stop.NoMemory) refl) (d.ended.elsewhere stops)
 
   no_cause : (end : RunEnd) (before after : ℕ) → Causes (task.Run w) (ended_as end) (Some (Some text)) before after
   no_cause run.Irreducible before after = tt

@@ -7,7 +7,8 @@ use Rattle.lmn_base.specs.declared.rule.Plain.{Plain}
 use Rattle.lmn_base.specs.declared.solid.Solid.{Solid}
 use Rattle.lmn_base.specs.Solids.{item_count}
 use Rattle.lmn_base.specs.WellMade.{IsWellMade}
-use Rattle.lmn_verify_coded.specs.Runs.{CodedInput, Executed, halt_end}
+use Rattle.lmn_app_drive.specs.Driving.{stop_end}
+use Rattle.lmn_verify_coded.specs.Runs.{CodedInput, Executed}
 use Rattle.lmn_verify_coded.specs.Turning.{CodedCanTurn}
 use Rattle.lmn_verify_coded.proofs.Halts.{halt_no_failure}
 use Rattle.lmn_congruence.specs.Regions.{item_count_of_region}
@@ -101,7 +102,7 @@ module _ (program listing : List ℕ) (of : ReadsCodes program listing) (first :
       | inr w ↦ (
         _,
         (
-          halt_end x.why,
+          stop_end x.why,
           halt_no_failure x.why,
           record {
             of = of;

@@ -20,7 +20,8 @@ use Rattle.lmn_app_reading.proofs.OneRead.{one_acceptance}
 use Rattle.lmn_receipt_chain.specs.Chains.{IsChain, IsWrongTrace, line_of_solid}
 use Rattle.lmn_receipt_chain.specs.Laws.{ChainsAreCommits, ChoosesBelow, ContinuesByCommit, IsOneOf, NoTraceIsNeither, TracesAreChains, TracesAreOneOf}
 use Rattle.lmn_reduction.proofs.OneSolid.{solid_is_one}
-use Rattle.lmn_app_runs.specs.Runs.{Given, LinesOf, Stop, StopsSo, end_line, printed_solids, word_of_stop}
+use Rattle.lmn_app_runs.specs.Runs.{Given, LinesOf, StopsSo, end_line, printed_solids, word_of_stop}
+use Rattle.lmn_app_runs.specs.declared.stop.Stop.{Stop}
 use Rattle.lmn_app_runs.specs.Texts.{PlainsArePrintable}
 use Rattle.lmn_app.specs.CheckLaws.{CheckedNotWrong, CheckedOrWrong, OneCount, OneWrongTrace, RunsAreChecked}
 use Rattle.lmn_app.specs.Checks.{HasSolid, IsChecked}

@@ -8,10 +8,12 @@ use Rattle.lmn_base.proofs.Lists.{plus_nothing}
 use Rattle.lmn_congruence.specs.Process.{Closed}
 use Rattle.lmn_congruence.specs.Regions.{Region, region_process}
 use Rattle.lmn_receipt_chain.specs.Laws.{IsAcceptedSolid}
-use Rattle.lmn_app_runs.specs.Runs.{Given, LinesOf, PrintedLines, Stop, StopsSo, at_end, printed_solids}
+use Rattle.lmn_app_runs.specs.Runs.{Given, LinesOf, PrintedLines, StopsSo, at_end, printed_solids}
+use Rattle.lmn_app_runs.specs.declared.stop.Stop.{Stop}
 use Rattle.lmn_app_runs.specs.Texts.{PlainsArePrintable}
 use Rattle.lmn_app_runs.proofs.TraceLines.{one_more_line, traces_have_lines}
-use Rattle.lmn_app.specs.declared.task.RunSettings.{RunSettings}
+use Rattle.lmn_app_runs.proofs.Stops.{ends_at_stop}
+use Rattle.lmn_app_words.specs.declared.command.RunSettings.{RunSettings}
 use Rattle.lmn_app.specs.Checks.{HasSolid}
 use Rattle.lmn_app.specs.RunLaws.{EarlierRunFirst, OneRun, OneRunSoFar}
 use Rattle.lmn_app.specs.Runs.{IsTraceOf}
@@ -131,7 +133,7 @@ module _ (laws : AcceptedTexts) (printables : PlainsArePrintable) where
   one_run s text e d out other w v =
       let t = trace_at s text (at_end e) (Some []) (Some out) w in
       let u = trace_at s text (at_end d) (Some []) (Some other) v in
-      let one = ended laws printables (given s) text w.lines v.lines w.commits v.commits t.0 u.0 e d t.1 u.1 in (
+      let one = ended laws printables (given s) text w.lines v.lines w.commits v.commits t.0 u.0 e d (ends_at_stop (given s) w.commits t.0.last e t.1) (ends_at_stop (given s) v.commits u.0.last d u.1) in (
         one.0,
         one.1,
         same_Some out (run_text w.lines (at_end e) w.commits) w.took

@@ -9,7 +9,8 @@ use Rattle.lmn_reduction.proofs.Plains.{plain_settles}
 use Rattle.lmn_adequacy.specs.Runs.{Trace}
 use Rattle.lmn_verify_compiled.proofs.ReadPlains.{plain_read}
 use Rattle.lmn_app_runs.specs.Laws.{TracesAreRuns, solid_of}
-use Rattle.lmn_app_runs.specs.Runs.{Given, Prints, Stop, StopsBy, StopsSo}
+use Rattle.lmn_app_runs.specs.Runs.{Given, Prints, StopsBy, StopsSo}
+use Rattle.lmn_app_runs.specs.declared.stop.Stop.{Stop}
 use Rattle.lmn_app.specs.Runs.{IsRun, IsTraceOf}
 use Rattle.lmn_app_runs.specs.Texts.{PlainsArePrintable}
 use Rattle.lmn_app.proofs.PlainRegions.{solid_with_region}

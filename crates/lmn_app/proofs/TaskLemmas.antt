@@ -1,7 +1,7 @@
 -- The tasks of commands, and their texts.
 use Rattle.std.proofs.Common.{◌≡◌, ℕ, List, Some, sym, ap, subst, arith, length, ◌≤◌}
 use Rattle.lmn_app_words.specs.Forms.{IsInRanges, Run, to_run}
-use Rattle.lmn_app.specs.declared.task.RunSettings.{RunSettings}
+use Rattle.lmn_app_words.specs.declared.command.RunSettings.{RunSettings}
 use Rattle.lmn_app.specs.declared.task.Task.TheVariants as task
 use Rattle.lmn_app.specs.Demos.{demo_text}
 use Rattle.lmn_app.specs.Requests.{IsInRange, settings_of}

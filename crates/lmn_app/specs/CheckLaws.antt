@@ -2,8 +2,8 @@
 use Rattle.std.specs.Prelude.{◌≡◌, ℕ, List, Option, None, true, false}
 use Rattle.std.specs.declared.alloc.Global.{Global}
 use Rattle.lmn_base.specs.declared.refusal.Refusal.{Refusal}
-use Rattle.lmn_app_runs.specs.Runs.{Stop}
-use Rattle.lmn_app.specs.declared.task.RunSettings.{RunSettings}
+use Rattle.lmn_app_runs.specs.declared.stop.Stop.{Stop}
+use Rattle.lmn_app_words.specs.declared.command.RunSettings.{RunSettings}
 use Rattle.lmn_app.specs.Checks.{IsChecked, IsWrongTraceOf}
 use Rattle.lmn_app.specs.Texts.{IsAccepted}
 use Rattle.lmn_app.specs.Writing.{Told, WritesRun, run_text}

@@ -6,7 +6,7 @@ use Rattle.lmn_verify_coded.specs.Laws.{CameToEnd}
 use Rattle.lmn_order.specs.declared.order.Order.TheVariants as order
 use Rattle.lmn_app.specs.declared.ending.Ending.{Ending}
 use Rattle.lmn_app.specs.declared.ending.Ending.TheVariants.{Done, Budget, Full, NoMemory}
-use Rattle.lmn_app.specs.declared.task.RunSettings.{RunSettings}
+use Rattle.lmn_app_words.specs.declared.command.RunSettings.{RunSettings}
 use Rattle.lmn_app.specs.declared.task.Task.TheVariants as task
 use Rattle.lmn_app.specs.Executions.{IsExecuted, IsWrongListing, ReadsCodes, executed_budget, executed_size}
 use Rattle.lmn_app.specs.Outcomes.{Output}

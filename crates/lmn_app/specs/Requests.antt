@@ -6,7 +6,7 @@ use Rattle.lmn_io.specs.Counts.{Rose}
 use Rattle.lmn_io.specs.Texts.{Fetch, asked_once_more}
 use Rattle.lmn_order.specs.declared.order.Order.TheVariants as order
 use Rattle.lmn_app_words.specs.Forms.{Asks, Pair, Request, Run, to_run, to_compile, to_demo, to_pair}
-use Rattle.lmn_app.specs.declared.task.RunSettings.{RunSettings}
+use Rattle.lmn_app_words.specs.declared.command.RunSettings.{RunSettings}
 use Rattle.lmn_app.specs.declared.task.Task.{Task}
 use Rattle.lmn_app.specs.declared.task.Task.TheVariants as task
 use Rattle.lmn_app.specs.Demos.{demo_text}

@@ -1,8 +1,9 @@
 -- What is written of a run of a text is one text.
 use Rattle.std.specs.Prelude.{◌≡◌, ◌≤◌, ◌++◌, ℕ, List, [], Option, Some, true}
 use Rattle.lmn_adequacy.specs.Runs.{End}
-use Rattle.lmn_app_runs.specs.Runs.{Stop, at_end}
-use Rattle.lmn_app.specs.declared.task.RunSettings.{RunSettings}
+use Rattle.lmn_app_runs.specs.Runs.{at_end}
+use Rattle.lmn_app_runs.specs.declared.stop.Stop.{Stop}
+use Rattle.lmn_app_words.specs.declared.command.RunSettings.{RunSettings}
 use Rattle.lmn_app.specs.Writing.{WritesRun}
 
 -- Two runs of one text that are given the same and that came to their end have as many commits, one end and one output.

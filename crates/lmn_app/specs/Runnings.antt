@@ -1,11 +1,11 @@
 -- How a call ends whose run or whose orders ended so, without a program, and that writes a line of one, debugs it or runs it by a listing. Contracts of this crate's own functions alone cite these words.
-use Rattle.std.specs.Prelude.{◌≡◌, ◌<◌, ◌⊎◌, ⊤, ℕ, List, Option, length}
+use Rattle.std.specs.Prelude.{◌≡◌, ◌<◌, ◌⊎◌, ⊤, ℕ, List, Option, Result, Ok, Err, length}
 use Rattle.lmn_io.specs.Taking.{Takes, TakesPrefix}
 use Rattle.lmn_app_words.specs.declared.command.PairKind.{PairKind}
 use Rattle.lmn_app_words.specs.declared.command.PairKind.TheVariants.{Debug, Exec}
 use Rattle.lmn_verify_coded.specs.Runs.{CodedInput, Executed}
-use Rattle.lmn_debug.specs.declared.debugging.DebugEnd.{DebugEnd}
-use Rattle.lmn_debug.specs.declared.debugging.DebugEnd.TheVariants as session
+use Rattle.lmn_debug.specs.declared.debugging.DebugFault.{DebugFault}
+use Rattle.lmn_debug.specs.declared.debugging.DebugFault.TheVariants as session
 use Rattle.lmn_app_drive.specs.declared.driving.RunEnd.{RunEnd}
 use Rattle.lmn_app_drive.specs.declared.driving.RunEnd.TheVariants as run
 use Rattle.lmn_app.specs.declared.ending.Ending.{Ending}
@@ -28,10 +28,10 @@ ended_as run.Full = Full
 ended_as run.NoMemory = NoMemory
 ended_as run.Failed = WriteFault
 
-abbrev pub obeyed_as : DebugEnd → Ending
-obeyed_as session.Done = Done
-obeyed_as session.NoMemory = NoMemory
-obeyed_as session.Failed = WriteFault
+abbrev pub obeyed_as : {A : Type 0} → Result A DebugFault → Ending
+obeyed_as (Ok done) = Done
+obeyed_as (Err session.NoMemory) = NoMemory
+obeyed_as (Err session.Failed) = WriteFault
 
 -- A call ends so without a program: it is too long, or can't be read, or memory was wanting.
 abbrev pub EndsUnread : Ending → Option (Option (List ℕ)) → ℕ → ℕ → Type 0

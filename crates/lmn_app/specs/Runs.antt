@@ -10,7 +10,8 @@ use Rattle.lmn_guards.specs.declared.plan.GuardPlan.{GuardPlan}
 use Rattle.lmn_reduction.specs.Commits.{Settles}
 use Rattle.lmn_adequacy.specs.Numbered.{IsNumbered}
 use Rattle.lmn_adequacy.specs.Runs.{Trace}
-use Rattle.lmn_app_runs.specs.Runs.{Given, PrintedLines, Prints, Stop, StopsBy}
+use Rattle.lmn_app_runs.specs.Runs.{Given, PrintedLines, Prints, StopsBy}
+use Rattle.lmn_app_runs.specs.declared.stop.Stop.{Stop}
 use Rattle.lmn_app.specs.Texts.{Accepts}
 
 -- These lines are printed of a text by a run that stops after n commits. The text is accepted; the process of its plain settles to

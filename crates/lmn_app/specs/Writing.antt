@@ -6,11 +6,12 @@ use Rattle.lmn_congruence.specs.Rules.{Name}
 use Rattle.lmn_guards.specs.declared.plan.GuardPlan.{GuardPlan}
 use Rattle.lmn_io.specs.Taking.{Takes, TakesPrefix}
 use Rattle.lmn_compile_listing.specs.Listings.{rule_listings}
-use Rattle.lmn_app_runs.specs.Runs.{Given, Stop, StopsSo, end_line, word_of_stop}
+use Rattle.lmn_app_runs.specs.Runs.{Given, StopsSo, end_line, word_of_stop}
+use Rattle.lmn_app_runs.specs.declared.stop.Stop.{Stop}
 use Rattle.lmn_app.specs.Runs.{IsRun, IsTraceOf}
 use Rattle.lmn_app.specs.Texts.{Accepts, text_bytes}
 use Rattle.lmn_order.specs.Orders.{chosen}
-use Rattle.lmn_app.specs.declared.task.RunSettings.{RunSettings}
+use Rattle.lmn_app_words.specs.declared.command.RunSettings.{RunSettings}
 
 -- What is told of a text: nothing (None), that it isn't there (Some None), or its bytes (Some (Some bytes)).
 abbrev pub Told : Type 0

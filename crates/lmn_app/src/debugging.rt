@@ -25,7 +25,7 @@ use lmn_app_accepted::accepted_texts_can_be_loaded;
 use lmn_app_reading::Accepted;
 use lmn_app_words::{PairKind, PairWords};
 use lmn_base::{Names, NoMemory, TextFault};
-use lmn_debug::{DebugEnd, debug};
+use lmn_debug::{DebugFault, debug};
 use lmn_debug_script::read_script;
 use lmn_io::{Shelf, Sink};
 use lmn_machine::Steps;
@@ -179,12 +179,12 @@ fn obey<'p, C: Fn(u64, u64) -> u64 + Copy + Drop, O: Sink, L: Ledger>(
 }
 
 /// How a call ends whose orders ended so.
-fn ending_of(end: DebugEnd) -> Ending
+fn ending_of(end: Result<(), DebugFault>) -> Ending
     ensures { result ≡ obeyed_as end }
 {
     match end {
-        DebugEnd::Done => Ending::Done,
-        DebugEnd::NoMemory => Ending::NoMemory,
-        DebugEnd::Failed => Ending::WriteFault,
+        Ok(()) => Ending::Done,
+        Err(DebugFault::NoMemory) => Ending::NoMemory,
+        Err(DebugFault::Failed) => Ending::WriteFault,
     }
 }

@@ -15,7 +15,7 @@ use crate::ending::Ending;
 use crate::executing::exec_by;
 use lmn_app_reading::Accepted;
 use lmn_app_words::{PairKind, PairWords};
-use lmn_base::{Names, Pos, Refusal, Rows};
+use lmn_base::{Names, Pos, Refusal, RefusalCode, Rows};
 use lmn_io::{FetchFault, Fetched, Shelf, Sink};
 use std::alloc::Global;
 
@@ -123,13 +123,10 @@ fn too_long(kind: PairKind) -> Refusal
     ensures { result ≡ at_start (long_code kind) }
 {
     let code = match kind {
-        PairKind::Check => 60,
-        PairKind::Debug => 70,
-        PairKind::Exec => 80,
-        PairKind::Bound => 84,
+        PairKind::Check => RefusalCode::TraceTooLong,
+        PairKind::Debug => RefusalCode::ScriptTooLong,
+        PairKind::Exec => RefusalCode::ListingTooLong,
+        PairKind::Bound => RefusalCode::WeightsTooLong,
     };
-    Refusal {
-        code,
-        pos: Pos { line: 1, column: 1 },
-    }
+    code.at(Pos { line: 1, column: 1 })
 }

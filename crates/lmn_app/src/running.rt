@@ -7,12 +7,13 @@ ghost use Rattle.lmn_app.specs.Texts.{Accepts};
 ghost use Rattle.lmn_app.specs.declared.task.Task.{Task};
 
 use crate::ending::Ending;
-use crate::task::{RunSettings, Task};
+use crate::task::Task;
 use lmn_app_accepted::accepted_texts;
 use lmn_app_drive::{RunEnd, RunOptions, drive};
 use lmn_app_reading::Accepted;
 use lmn_app_runs::{plains_are_printable, traces_are_runs};
-use lmn_base::{Names, NoMemory, Pos, Refusal};
+use lmn_app_words::RunSettings;
+use lmn_base::{Names, NoMemory, Pos, Refusal, RefusalCode};
 use lmn_io::Sink;
 use lmn_machine::Steps;
 use lmn_order::Chooser;
@@ -26,7 +27,7 @@ use std::sync::ledger::{Blank, Ledger};
 
 /// The refusal of a text whose process has too many items.
 pub(crate) const TOO_LARGE: Refusal = Refusal {
-    code: 50,
+    code: RefusalCode::ProcessTooLarge as u8,
     pos: Pos { line: 1, column: 1 },
 };
 

@@ -22,8 +22,8 @@ use Rattle.lmn_schedule.specs.Turning.{IsDone, IsTurned, IsTurnedByAnswer}
 use Rattle.lmn_app_drive.specs.declared.driving.RunOptions.{RunOptions}
 use Rattle.lmn_app_drive.specs.declared.driving.RunEnd.{RunEnd}
 use Rattle.lmn_app_drive.specs.declared.driving.RunEnd.TheVariants.{Failed}
-use Rattle.lmn_app_drive.specs.declared.driving.Stop.{Stop}
-use Rattle.lmn_app_drive.specs.declared.driving.Stop.TheVariants as stop
+use Rattle.lmn_app_runs.specs.declared.stop.Stop.{Stop}
+use Rattle.lmn_app_runs.specs.declared.stop.Stop.TheVariants as stop
 use Rattle.lmn_app_drive.specs.Driving.{RunInput, Ran, Going, IsTracedLineOf, Stopped, Concludes, given_by_engine}
 use Rattle.lmn_app_drive.specs.Answers.{AreAllowed, BrokeByAnswers, DroveByAnswers, GoingByAnswers, StoppedByAnswers, AsksSolids, CountsSolids, asks_next, asks_no_solid, in_turn, solids}
 use Rattle.lmn_app_drive.proofs.Goings.{broke_first, broke_more, drove_broke, going_first, going_more, stops_budget, stops_done, stops_full, stops_irreducible, stops_no_memory}

@@ -13,14 +13,14 @@ use Rattle.lmn_app_runs.proofs.TraceLines.{lines_count, lines_with, some_line}
 use Rattle.lmn_schedule.specs.Held.{HoldsRegion}
 use Rattle.lmn_schedule.specs.Turning.{IsDone, IsTurned}
 use Rattle.lmn_app_drive.specs.declared.driving.RunEnd.TheVariants.{Failed}
-use Rattle.lmn_app_drive.specs.declared.driving.Stop.{Stop}
-use Rattle.lmn_app_drive.specs.declared.driving.Stop.TheVariants as stop
+use Rattle.lmn_app_runs.specs.declared.stop.Stop.{Stop}
+use Rattle.lmn_app_runs.specs.declared.stop.Stop.TheVariants as stop
 use Rattle.lmn_app_drive.specs.Written.{traced}
-use Rattle.lmn_app_drive.specs.Driving.{RunInput, Ran, EndsSo, GoesOn, text, no_memory, RunEnded, Drove, Going, IsRestOf, IsTracedLineOf, StopsBecause, Stopped, Broke, stop_word, stop_end, rest_of}
+use Rattle.lmn_app_drive.specs.Driving.{RunInput, Ran, EndsSo, GoesOn, text, RunEnded, Drove, Going, IsRestOf, IsTracedLineOf, StopsBecause, Stopped, Broke, stop_end, rest_of}
 use Rattle.lmn_app_drive.proofs.Ends.{accepted_held, no_end, one_end}
 use Rattle.lmn_app_drive.proofs.Writings.{rest_held, traced_held}
 use Rattle.lmn_app_drive.proofs.Texts.{all_taken, front_taken, line_begun, line_taken, part_taken}
-use Rattle.lmn_app_runs.specs.Runs.{end_word}
+use Rattle.lmn_app_runs.specs.Runs.{end_word, word_of_stop}
 use Rattle.lmn_schedule.proofs.Common.{closed_held}
 
 -- what a turn answers at the last solid of a run
@@ -44,7 +44,7 @@ module _ (g : RunInput) (n : ℕ) (h : Heap) where
   abbrev broke_so : (r : Ran g n h) (old new : Option (List ℕ)) → TakesPrefix (traced g.trace (r.lines.first_lines ++ r.lines.last_line ∷ [])) old new → Broke g n h old new
   broke_so r old new part =
       let any : (word : List ℕ) → TakesPrefix (text r word) old new = λ word. front_taken g.trace r.lines.first_lines r.lines.last_line word n (counted r) old new part in
-      record { ran = r; took = record { at_end = λ e ends. any (end_word e); elsewhere = λ on. any no_memory } }
+      record { ran = r; took = record { at_end = λ e ends. any (end_word e); elsewhere = λ on. any (word_of_stop stop.NoMemory) } }
 
 -- a call that is to write the line of a heap, with a trace alone, has written it, or a prefix of it
 abbrev TakesLine : RunInput → Heap → Option (List ℕ) → Option (List ℕ) → Type 0
@@ -145,37 +145,37 @@ module _ (g : RunInput) (n : ℕ) (h : Heap) (why : Stop) (old mid new : Option 
   stopped = s.going.ran
 
   abbrev rest : List ℕ
-  rest = rest_of g.trace stopped.lines.last_line (stop_word why) n
+  rest = rest_of g.trace stopped.lines.last_line (word_of_stop why) n
 
-  abbrev rest_bytes : IsRestOf g.trace g.folded g.names g.table h (stop_word why) n rest
-  rest_bytes = rest_held g.folded g.names g.table h g.trace stopped.last stopped.lines.last_line stopped.holds stopped.lines.is_line (stop_word why) n
+  abbrev rest_bytes : IsRestOf g.trace g.folded g.names g.table h (word_of_stop why) n rest
+  rest_bytes = rest_held g.folded g.names g.table h g.trace stopped.last stopped.lines.last_line stopped.holds stopped.lines.is_line (word_of_stop why) n
 
-  abbrev pub concluded : ((bytes : List ℕ) → IsRestOf g.trace g.folded g.names g.table h (stop_word why) n bytes → Takes bytes mid new) → Drove g n h (stop_end why) old new
+  abbrev pub concluded : ((bytes : List ℕ) → IsRestOf g.trace g.folded g.names g.table h (word_of_stop why) n bytes → Takes bytes mid new) → Drove g n h (stop_end why) old new
   concluded took = record { ran = stopped; ended = by why s.stops all }
     where
-      all : Takes (text stopped (stop_word why)) old new
-      all = all_taken g.trace stopped.lines.first_lines stopped.lines.last_line (stop_word why) n (counted g n h stopped) old mid new s.going.took (took rest rest_bytes)
+      all : Takes (text stopped (word_of_stop why)) old new
+      all = all_taken g.trace stopped.lines.first_lines stopped.lines.last_line (word_of_stop why) n (counted g n h stopped) old mid new s.going.took (took rest rest_bytes)
 
-      by : (why : Stop) → StopsBecause stopped why → Takes (text stopped (stop_word why)) old new → RunEnded stopped (stop_end why) old new
+      by : (why : Stop) → StopsBecause stopped why → Takes (text stopped (word_of_stop why)) old new → RunEnded stopped (stop_end why) old new
       by stop.Irreducible stops took = (stops, took)
       by stop.Budget stops took = (stops, took)
       by stop.Full stops took = (stops, took)
       by stop.NoMemory stops took = (stops, took)
 
   -- or a prefix of it
-  abbrev pub broken_off : ((bytes : List ℕ) → IsRestOf g.trace g.folded g.names g.table h (stop_word why) n bytes → TakesPrefix bytes mid new) → Drove g n h Failed old new
+  abbrev pub broken_off : ((bytes : List ℕ) → IsRestOf g.trace g.folded g.names g.table h (word_of_stop why) n bytes → TakesPrefix bytes mid new) → Drove g n h Failed old new
   broken_off took = record { ran = stopped; ended = record { at_end = λ e ends. subst (λ word. TakesPrefix (text stopped word) old new) (at_end why s.stops e ends) part; elsewhere = λ on. subst (λ word. TakesPrefix (text stopped word) old new) (elsewhere why s.stops on) part } }
     where
-      part : TakesPrefix (text stopped (stop_word why)) old new
-      part = part_taken g.trace stopped.lines.first_lines stopped.lines.last_line (stop_word why) n (counted g n h stopped) old mid new s.going.took (took rest rest_bytes)
+      part : TakesPrefix (text stopped (word_of_stop why)) old new
+      part = part_taken g.trace stopped.lines.first_lines stopped.lines.last_line (word_of_stop why) n (counted g n h stopped) old mid new s.going.took (took rest rest_bytes)
 
-      at_end : (why : Stop) → StopsBecause stopped why → (e : End) → EndsSo stopped e → stop_word why ≡ end_word e
+      at_end : (why : Stop) → StopsBecause stopped why → (e : End) → EndsSo stopped e → word_of_stop why ≡ end_word e
       at_end stop.Irreducible stops e ends = ap end_word (ends_once g n h stopped irreducible e stops ends)
       at_end stop.Budget stops e ends = ap end_word (ends_once g n h stopped budget_done e stops ends)
       at_end stop.Full stops e ends = ap end_word (ends_once g n h stopped full e stops ends)
       at_end stop.NoMemory stops e ends = absurd (stops e ends)
 
-      elsewhere : (why : Stop) → StopsBecause stopped why → GoesOn stopped → stop_word why ≡ no_memory
+      elsewhere : (why : Stop) → StopsBecause stopped why → GoesOn stopped → word_of_stop why ≡ word_of_stop stop.NoMemory
       elsewhere stop.Irreducible stops on = absurd (on irreducible stops)
       elsewhere stop.Budget stops on = absurd (on budget_done stops)
       elsewhere stop.Full stops on = absurd (on full stops)

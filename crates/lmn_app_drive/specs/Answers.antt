@@ -7,7 +7,7 @@ use Rattle.lmn_adequacy.specs.Runs.{Chooser}
 use Rattle.lmn_schedule_strategy.specs.Counting.{RisesWithin}
 use Rattle.lmn_adequacy_choices.specs.Counting.{AsksRulesOf}
 use Rattle.lmn_app_drive.specs.declared.driving.RunEnd.{RunEnd}
-use Rattle.lmn_app_drive.specs.declared.driving.Stop.{Stop}
+use Rattle.lmn_app_runs.specs.declared.stop.Stop.{Stop}
 use Rattle.lmn_app_drive.specs.Driving.{RunInput, Ran, Drove, Going, Stopped, Broke}
 
 -- the chooser that gives the answers of a list in turn, one for each number of commits

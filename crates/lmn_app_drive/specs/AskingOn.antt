@@ -4,7 +4,7 @@ use Rattle.lmn_base.specs.declared.rule.RuleTree.{RuleTree}
 use Rattle.lmn_store_heap.specs.Heap.{Heap}
 use Rattle.lmn_instr_code.specs.declared.instr.Code.{Code}
 use Rattle.lmn_schedule_strategy.specs.Counting.{RisesWithin}
-use Rattle.lmn_app_drive.specs.declared.driving.Stop.{Stop}
+use Rattle.lmn_app_runs.specs.declared.stop.Stop.{Stop}
 use Rattle.lmn_app_drive.specs.Asking.{AsksFew, AwakeRun}
 
 -- While a run goes on the last heap isn't asked.

@@ -1,5 +1,5 @@
 -- What a run of an engine does.
-use Rattle.std.specs.Prelude.{ℕ, ◌≡◌, ◌+◌, List, [], ◌∷◌, ◌++◌, Option, Some, None, Bool, true, false, not, codes, length}
+use Rattle.std.specs.Prelude.{ℕ, ◌≡◌, ◌+◌, List, [], ◌∷◌, ◌++◌, Option, Some, None, Bool, true, false, not, length}
 use Rattle.lmn_base.specs.declared.rule.RuleTree.{RuleTree}
 use Rattle.lmn_store_heap.specs.Heap.{Heap}
 use Rattle.lmn_io.specs.Taking.{Takes, TakesPrefix}
@@ -11,10 +11,10 @@ use Rattle.lmn_schedule.specs.Held.{HoldsRegion}
 use Rattle.lmn_app_drive.specs.declared.driving.RunEnd.{RunEnd}
 use Rattle.lmn_app_drive.specs.declared.driving.RunOptions.{RunOptions}
 use Rattle.lmn_app_drive.specs.declared.driving.RunEnd.TheVariants.{Irreducible, Budget, Full, NoMemory, Failed}
-use Rattle.lmn_app_drive.specs.declared.driving.Stop.{Stop}
-use Rattle.lmn_app_drive.specs.declared.driving.Stop.TheVariants as stop
+use Rattle.lmn_app_runs.specs.declared.stop.Stop.{Stop}
+use Rattle.lmn_app_runs.specs.declared.stop.Stop.TheVariants as stop
 use Rattle.lmn_app_drive.specs.Written.{Lines, written, traced}
-use Rattle.lmn_app_runs.specs.Runs.{end_line, end_word}
+use Rattle.lmn_app_runs.specs.Runs.{end_line, end_word, word_of_stop}
 
 -- What a run is given: a list of names and a table of rules, what the chooser answers, the budget and the size, whether all lines
 -- are written, and in the folded form, and the solid at the start.
@@ -48,20 +48,28 @@ GoesOn r = (e : End) → ¬ (EndsSo r e)
 abbrev pub text : {g : RunInput} {commits : ℕ} {h : Heap} → Ran g commits h → List ℕ → List ℕ
 text {g} r word = written g.trace r.lines.first_lines r.lines.last_line word
 
-abbrev pub no_memory : List ℕ
-no_memory = codes "no memory"
-
 -- The sink took a prefix of the text with the word that is due: that of the end, or `no memory` where the trace goes on.
 pub record TookPart {g : RunInput} {commits : ℕ} {h : Heap} (r : Ran g commits h) (old new : Option (List ℕ)) : Type 0 where
   pub at_end : (e : End) → EndsSo r e → TakesPrefix (text r (end_word e)) old new
-  pub elsewhere : GoesOn r → TakesPrefix (text r no_memory) old new
+  pub elsewhere : GoesOn r → TakesPrefix (text r (word_of_stop stop.NoMemory)) old new
+
+-- why a run stopped
+abbrev pub StopsBecause : {g : RunInput} {commits : ℕ} {h : Heap} → Ran g commits h → Stop → Type 0
+StopsBecause r stop.Irreducible = EndsSo r irreducible
+StopsBecause r stop.Budget = EndsSo r budget_done
+StopsBecause r stop.Full = EndsSo r full
+StopsBecause r stop.NoMemory = GoesOn r
+
+-- it stopped so, and the sink took the text with the word of that
+abbrev pub WritesStop : {g : RunInput} {commits : ℕ} {h : Heap} → Ran g commits h → Stop → Option (List ℕ) → Option (List ℕ) → Type 0
+WritesStop r why old new = StopsBecause r why × Takes (text r (word_of_stop why)) old new
 
 -- How a run ended, and what the sink took.
 abbrev pub RunEnded : {g : RunInput} {commits : ℕ} {h : Heap} → Ran g commits h → RunEnd → Option (List ℕ) → Option (List ℕ) → Type 0
-RunEnded r Irreducible old new = EndsSo r irreducible × Takes (text r (end_word irreducible)) old new
-RunEnded r Budget old new = EndsSo r budget_done × Takes (text r (end_word budget_done)) old new
-RunEnded r Full old new = EndsSo r full × Takes (text r (end_word full)) old new
-RunEnded r NoMemory old new = GoesOn r × Takes (text r no_memory) old new
+RunEnded r Irreducible old new = WritesStop r stop.Irreducible old new
+RunEnded r Budget old new = WritesStop r stop.Budget old new
+RunEnded r Full old new = WritesStop r stop.Full old new
+RunEnded r NoMemory old new = WritesStop r stop.NoMemory old new
 RunEnded r Failed old new = TookPart r old new
 
 -- A run that ended so: what it did, and what the sink took.
@@ -79,13 +87,6 @@ pub record Going (g : RunInput) (commits : ℕ) (h : Heap) (old new : Option (Li
   pub ran : Ran g commits h
   pub took : Takes (traced g.trace (ran.lines.first_lines ++ ran.lines.last_line ∷ [])) old new
 
--- why a run stopped
-abbrev pub StopsBecause : {g : RunInput} {commits : ℕ} {h : Heap} → Ran g commits h → Stop → Type 0
-StopsBecause r stop.Irreducible = EndsSo r irreducible
-StopsBecause r stop.Budget = EndsSo r budget_done
-StopsBecause r stop.Full = EndsSo r full
-StopsBecause r stop.NoMemory = GoesOn r
-
 -- It stopped: all that is left to write is the last line, without a trace, and the end line.
 pub record Stopped (g : RunInput) (commits : ℕ) (h : Heap) (why : Stop) (old new : Option (List ℕ)) : Type 0 where
   pub going : Going g commits h old new
@@ -96,13 +97,7 @@ pub record Broke (g : RunInput) (commits : ℕ) (h : Heap) (old new : Option (Li
   pub ran : Ran g commits h
   pub took : TookPart ran old new
 
--- its word
-abbrev pub stop_word : Stop → List ℕ
-stop_word stop.Irreducible = end_word irreducible
-stop_word stop.Budget = end_word budget_done
-stop_word stop.Full = end_word full
-stop_word stop.NoMemory = no_memory
-
+-- how a run ended that stopped so and was written
 abbrev pub stop_end : Stop → RunEnd
 stop_end stop.Irreducible = Irreducible
 stop_end stop.Budget = Budget

@@ -8,13 +8,14 @@ ghost use Rattle.lmn_order.specs.Answers.{AnswersBelow};
 ghost use Rattle.lmn_schedule.specs.Held.{EngineCanTurn, HoldsRegion};
 ghost use Rattle.lmn_schedule.specs.Turning.{Gives};
 ghost use Rattle.lmn_print.specs.Lines.{IsHeapLine};
-ghost use Rattle.lmn_app_runs.specs.Runs.{end_line};
+ghost use Rattle.lmn_app_runs.specs.Runs.{end_line, word_of_stop};
 ghost use Rattle.lmn_app_drive.specs.Answers.{BrokeByAnswers, DroveByAnswers, GoingByAnswers, StepsOnByAnswers, StoppedByAnswers};
 ghost use Rattle.lmn_app_drive.specs.Asking.{AsksFew};
 ghost use Rattle.lmn_app_drive.specs.AskingOn.{AskedSoFar, AsksOn};
-ghost use Rattle.lmn_app_drive.specs.Driving.{Broke, Concludes, CountsCommit, Drove, Going, IsRestOf, IsTracedLineOf, StepsOn, Stopped, given_by_engine, stop_end, stop_word};
+ghost use Rattle.lmn_app_drive.specs.Driving.{Broke, Concludes, CountsCommit, Drove, Going, IsRestOf, IsTracedLineOf, StepsOn, Stopped, given_by_engine};
 
 use itoa::Buffer;
+use lmn_app_runs::Stop;
 use lmn_base::{Names, Plain};
 use lmn_io::{Failed, Sink, put_all};
 use lmn_machine::Steps;
@@ -50,13 +51,20 @@ pub enum RunEnd {
     Failed,
 }
 
-/// Why a run stopped that didn't fail.
-#[derive(Clone, Copy)]
-enum Stop {
-    Irreducible,
-    Budget,
-    Full,
-    NoMemory,
+impl From<Stop> for RunEnd {
+    ghost use Rattle.std.specs.Prelude.{◌≡◌};
+    ghost use Rattle.lmn_app_drive.specs.Driving.{stop_end};
+
+    ghost from_gives = { λ stop end. end ≡ stop_end stop };
+
+    fn from(stop: Stop) -> RunEnd {
+        match stop {
+            Stop::Irreducible => RunEnd::Irreducible,
+            Stop::Budget => RunEnd::Budget,
+            Stop::Full => RunEnd::Full,
+            Stop::NoMemory => RunEnd::NoMemory,
+        }
+    }
 }
 
 /// Turns an engine that has made no commit until nothing more is to be done, and writes its process lines and the end line:
@@ -239,7 +247,7 @@ fn conclude<S: LinkStore, F: Fn(u64, u64) -> u64, O: Sink>(
     ensures rose { result ≡ RunEnd.Failed → FailedLast (O.faults out.old) (O.faults out.new) }
 {
     match write_rest(engine, plain, names, options, stop, out) {
-        Ok(()) => end_of(stop),
+        Ok(()) => RunEnd::from(stop),
         Err(Failed) => RunEnd::Failed,
     }
 }
@@ -254,7 +262,7 @@ fn write_rest<S: LinkStore, F: Fn(u64, u64) -> u64, O: Sink>(
     out: &mut O,
 ) -> Result<(), Failed>
     requires run { EngineCanTurn (S.heap engine.old.machine.store) plain.now.rules engine.old.codes engine.old.size }
-    ensures writes { Writes (IsRestOf options.now.trace options.now.folded names.now plain.now.rules (S.heap engine.old.machine.store) (stop_word stop) engine.old.commits) result (O.told out.old) (O.faults out.old) (O.told out.new) (O.faults out.new) }
+    ensures writes { Writes (IsRestOf options.now.trace options.now.folded names.now plain.now.rules (S.heap engine.old.machine.store) (word_of_stop stop) engine.old.commits) result (O.told out.old) (O.faults out.old) (O.told out.new) (O.faults out.new) }
     ensures kept { S.heap engine.new.machine.store ≡ S.heap engine.old.machine.store }
     ensures keeps { engine.new ≡ record engine.old { machine = engine.new.machine } }
 {
@@ -262,42 +270,22 @@ fn write_rest<S: LinkStore, F: Fn(u64, u64) -> u64, O: Sink>(
     write_end(stop, engine.commits(), out)
 }
 
-/// How a run ended that stopped so and was written.
-fn end_of(stop: Stop) -> RunEnd
-    ensures { result ≡ stop_end stop }
-{
-    match stop {
-        Stop::Irreducible => RunEnd::Irreducible,
-        Stop::Budget => RunEnd::Budget,
-        Stop::Full => RunEnd::Full,
-        Stop::NoMemory => RunEnd::NoMemory,
-    }
-}
-
 /// Writes the end line.
-fn write_end<O: Sink>(stop: Stop, commits: u64, out: &mut O) -> Result<(), Failed>
-    ensures { WritesText (end_line (stop_word stop) commits) result (O.told out.old) (O.faults out.old) (O.told out.new) (O.faults out.new) }
+///
+/// # Errors
+///
+/// `Failed` where the sink failed; it then took a prefix of the line.
+pub fn write_end<O: Sink>(stop: Stop, commits: u64, out: &mut O) -> Result<(), Failed>
+    ensures { WritesText (end_line (word_of_stop stop) commits) result (O.told out.old) (O.faults out.old) (O.told out.new) (O.faults out.new) }
 {
     put_all(
         out,
         &[
             b"% ".as_slice(),
-            word(stop),
+            stop.word(),
             b" after ".as_slice(),
             Buffer::new().format(commits).as_bytes(),
             b"\n".as_slice(),
         ],
     )
-}
-
-/// The word of the end line.
-fn word(stop: Stop) -> &'static [u8]
-    ensures { result.now ≡ stop_word stop }
-{
-    match stop {
-        Stop::Irreducible => b"irreducible",
-        Stop::Budget => b"budget",
-        Stop::Full => b"full",
-        Stop::NoMemory => b"no memory",
-    }
 }

@@ -2,7 +2,7 @@ mod LabelsStay
 pub mod Tables
 mod GoodLevels
 pub mod TraceLines
-mod Stops
+pub mod Stops
 pub mod TraceRuns
 mod SpelledParts
 mod SpelledRules

@@ -46,7 +46,9 @@ use Rattle.lmn_adequacy.proofs.RulesStay.{next_rules}
 use Rattle.lmn_reduction.specs.Chains.{Commits, no_step, step_after}
 use Rattle.lmn_reduction.specs.Commits.{Commit, Irreducible}
 use Rattle.lmn_app_runs.specs.Laws.{IsPrintable, TracesAreRuns, solid_of}
-use Rattle.lmn_app_runs.specs.Runs.{AllLines, IsLineOf, IsProcessLine, LastLine, LinesOf, Prints, Stop, StopsBy, StopsSo, at_end, first_line, next_line, no_memory, printed_solids}
+use Rattle.lmn_app_runs.specs.Runs.{AllLines, IsLineOf, IsProcessLine, LastLine, LinesOf, Prints, StopsBy, StopsSo, at_end, first_line, next_line, printed_solids}
+use Rattle.lmn_app_runs.specs.declared.stop.Stop.{Stop}
+use Rattle.lmn_app_runs.specs.declared.stop.Stop.TheVariants as stop
 use Rattle.lmn_app_runs.proofs.GoodLevels.{Good, GoodRule, LabelHeld, good_integer, integer_good, level_good, not_connector, rule_good}
 use Rattle.lmn_app_runs.proofs.TraceLines.{one_more_line}
 use Rattle.lmn_app_runs.proofs.LabelsStay.{AllAtoms, AllAtomsIn, Atoms, fused_good, next_atoms}
@@ -279,8 +281,10 @@ module _ (names : List Name) where
           below n k h = grind arith
 
           go : (why : Stop) → StopsSo (record { trace = trace; folded = folded; budget = budget; size = size; chooser = chooser }) (length before) R why → StopsBy budget why (length before) (region_process R)
-          go (at_end e) h = ends e h
-          go no_memory h = (
+          go stop.Irreducible h = ends irreducible h
+          go stop.Budget h = ends budget_done h
+          go stop.Full h = ends full h
+          go stop.NoMemory h = (
             elim (below (length before) budget most) [
               | inl l ↦ l
               | inr q ↦ absurd (h irreducible (nothing_embeds (λ m. h budget_done (none_allowed m q))))

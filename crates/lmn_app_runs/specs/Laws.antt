@@ -13,7 +13,8 @@ use Rattle.lmn_congruence.specs.Translation.{numbered_rule, region_of, top_of}
 use Rattle.lmn_flatten_plain.specs.Spelled.{LevelSpelled, RuleSpelled}
 use Rattle.lmn_adequacy.specs.Accepted.{Accepted}
 use Rattle.lmn_adequacy.specs.Runs.{Trace}
-use Rattle.lmn_app_runs.specs.Runs.{Given, PrintedLines, Prints, Stop, StopsBy, StopsSo}
+use Rattle.lmn_app_runs.specs.Runs.{Given, PrintedLines, Prints, StopsBy, StopsSo}
+use Rattle.lmn_app_runs.specs.declared.stop.Stop.{Stop}
 
 -- A plain of which runs can be printed, by a list of names: it is well made and has names of the list alone; a text can spell its top
 -- and its rules; and each rule is accepted.

@@ -12,14 +12,17 @@ use Rattle.lmn_print_folded.specs.Lines.{IsLine}
 use Rattle.lmn_print_folded_laws.specs.ReadBack.{IsFoldedLineOf}
 use Rattle.lmn_reduction.specs.Chains.{Commits}
 use Rattle.lmn_reduction.specs.Commits.{Commit, Irreducible}
+use Rattle.lmn_app_runs.specs.declared.stop.Stop.{Stop}
+use Rattle.lmn_app_runs.specs.declared.stop.Stop.TheVariants as stop
 use Rattle.lmn_adequacy.specs.Runs.{Chooser, End, irreducible, budget_done, full, Ends}
 
 -- ---- why a run stops
 
--- its trace has come to an end, or memory was wanting where it goes on
-pub data Stop : Type 0 where
-  at_end : End → Stop
-  no_memory : Stop
+-- its trace has come to an end
+abbrev pub at_end : End → Stop
+at_end irreducible = stop.Irreducible
+at_end budget_done = stop.Budget
+at_end full = stop.Full
 
 -- the word of the end line
 abbrev pub end_word : End → List ℕ
@@ -29,8 +32,10 @@ end_word full = codes "full"
 
 -- the word of the end line, also where memory was wanting
 abbrev pub word_of_stop : Stop → List ℕ
-word_of_stop (at_end e) = end_word e
-word_of_stop no_memory = codes "no memory"
+word_of_stop stop.Irreducible = end_word irreducible
+word_of_stop stop.Budget = end_word budget_done
+word_of_stop stop.Full = end_word full
+word_of_stop stop.NoMemory = codes "no memory"
 
 -- the end line: a word, and how many commits were done
 abbrev pub end_line : List ℕ → ℕ → List ℕ
@@ -38,10 +43,10 @@ end_line word commits = concat (codes "% " ∷ word ∷ codes " after " ∷ deci
 
 -- How a run stops at a process after n commits. With the word irreducible the process is so, and with each other word it isn't.
 abbrev pub StopsBy : ℕ → Stop → ℕ → Process → Type 0
-StopsBy budget (at_end irreducible) n P = (n ≤ budget) × Irreducible P
-StopsBy budget (at_end budget_done) n P = (n ≡ budget) × ¬ (Irreducible P)
-StopsBy budget (at_end full) n P = (n < budget) × ¬ (Irreducible P)
-StopsBy budget no_memory n P = (n < budget) × ¬ (Irreducible P)
+StopsBy budget stop.Irreducible n P = (n ≤ budget) × Irreducible P
+StopsBy budget stop.Budget n P = (n ≡ budget) × ¬ (Irreducible P)
+StopsBy budget stop.Full n P = (n < budget) × ¬ (Irreducible P)
+StopsBy budget stop.NoMemory n P = (n < budget) × ¬ (Irreducible P)
 
 -- ---- what is printed, in the calculus
 
@@ -100,7 +105,13 @@ pub record Given : Type 0 where
 abbrev pub PrintedLines : Given → List Region → Region → List (List ℕ) → Type 0
 PrintedLines g before last = LinesOf g.folded (printed_solids g.trace before last)
 
--- how the trace stops after its last solid, n commits done
+-- how the trace ends after its last solid, n commits done
+abbrev pub EndsAt : Given → ℕ → Region → End → Type 0
+EndsAt g n S e = Ends g.chooser g.budget g.size n S e
+
+-- how it stops there: at its end, or memory was wanting where it goes on
 abbrev pub StopsSo : Given → ℕ → Region → Stop → Type 0
-StopsSo g n S (at_end e) = Ends g.chooser g.budget g.size n S e
-StopsSo g n S no_memory = (e : End) → ¬ (Ends g.chooser g.budget g.size n S e)
+StopsSo g n S stop.Irreducible = EndsAt g n S irreducible
+StopsSo g n S stop.Budget = EndsAt g n S budget_done
+StopsSo g n S stop.Full = EndsAt g n S full
+StopsSo g n S stop.NoMemory = (e : End) → ¬ (EndsAt g n S e)

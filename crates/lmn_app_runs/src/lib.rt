@@ -1,12 +1,15 @@
-//! What a run is, by what it prints, and that each trace is one.
+//! What a run is, by what it prints, why it stops, and that each trace is a run.
 //!
-//! The definitions stand in `specs/`. Each law is the contract of a function with an empty body, so nothing here does anything
-//! when it runs.
+//! The definitions stand in `specs/`. Each law is the contract of a function with an empty body.
 #![tactic(auto)]
+
+mod stop;
 
 ghost use Rattle.lmn_app_runs.specs.Examples.{ShortRunPrints};
 ghost use Rattle.lmn_app_runs.specs.Laws.{SomeStop, StopIsOne, TracesAreRuns, TracesHaveLines};
 ghost use Rattle.lmn_app_runs.specs.Texts.{PlainsArePrintable};
+
+pub use stop::Stop;
 
 /// The lines of a trace of the solid of a plain are those of a run: each reads back as its process, each next process comes by
 /// one commit, and the run stops at an irreducible process exactly where its word says so.

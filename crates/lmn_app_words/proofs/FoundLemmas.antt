@@ -79,14 +79,14 @@ flag_is o a false given missing e = missing e
 
 -- the parts of a run
 pub run_found : (rows : List Row) (w : RunWords) (run : Run) → Some w.file.now ≡ first_of (codes "file") rows
-    → (one_of (codes "trace") rows ≡ Some (codes "true") → w.trace ≡ true) → (one_of (codes "trace") rows ≡ Some (codes "false") → w.trace ≡ false)
-    → (one_of (codes "folded") rows ≡ Some (codes "true") → w.folded ≡ true) → (one_of (codes "folded") rows ≡ Some (codes "false") → w.folded ≡ false)
-    → w.budget ≡ number_given rows (codes "budget") 1000000 → w.size ≡ number_given rows (codes "size") 16777216
-    → w.order ≡ ordered_by (order_given rows) (number_given rows (codes "seed") 0) → Tells rows run → run_of w ≡ run
+    → (one_of (codes "trace") rows ≡ Some (codes "true") → w.settings.trace ≡ true) → (one_of (codes "trace") rows ≡ Some (codes "false") → w.settings.trace ≡ false)
+    → (one_of (codes "folded") rows ≡ Some (codes "true") → w.settings.folded ≡ true) → (one_of (codes "folded") rows ≡ Some (codes "false") → w.settings.folded ≡ false)
+    → w.settings.budget ≡ number_given rows (codes "budget") 1000000 → w.settings.size ≡ number_given rows (codes "size") 16777216
+    → w.settings.order ≡ ordered_by (order_given rows) (number_given rows (codes "seed") 0) → Tells rows run → run_of w ≡ run
 run_found rows w run file given missing folds plain budget size order t =
     let file_is = same_Some w.file.now run.file (file ∙ t.file) in
-    let trace_is = flag_is (one_of (codes "trace") rows) w.trace run.trace given missing t.trace in
-    let folded_is = flag_is (one_of (codes "folded") rows) w.folded run.folded folds plain t.folded in
+    let trace_is = flag_is (one_of (codes "trace") rows) w.settings.trace run.trace given missing t.trace in
+    let folded_is = flag_is (one_of (codes "folded") rows) w.settings.folded run.folded folds plain t.folded in
     let budget_is = budget ∙ t.budget in
     let size_is = size ∙ t.size in
     let order_is = order ∙ t.order in

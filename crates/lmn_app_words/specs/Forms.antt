@@ -240,11 +240,11 @@ IsForm (first ∷ words) = ((first ≡ codes "run") × IsRunForm words) ⊎ ((fi
 abbrev pub run_of : RunWords → Run
 run_of words = record {
   file = words.file.now;
-  trace = words.trace;
-  folded = words.folded;
-  budget = words.budget;
-  size = words.size;
-  order = words.order;
+  trace = words.settings.trace;
+  folded = words.settings.folded;
+  budget = words.settings.budget;
+  size = words.settings.size;
+  order = words.settings.order;
 }
 
 -- and what one with a program and a second text does

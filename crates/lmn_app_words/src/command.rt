@@ -91,6 +91,13 @@ impl PairKind {
 pub struct RunWords<'w> {
     /// The name of the file: it isn't empty and doesn't begin with `-`.
     pub file: &'w str,
+    /// What the run is given.
+    pub settings: RunSettings,
+}
+
+/// What a run is given.
+#[derive(Clone, Copy, Debug, PartialEq, Eq)]
+pub struct RunSettings {
     /// Whether each process is written, and not the last one alone.
     pub trace: bool,
     /// Whether processes are written in the folded form.

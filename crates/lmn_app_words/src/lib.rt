@@ -7,6 +7,6 @@ mod parsing;
 mod reading;
 mod setting;
 
-pub use command::{Command, PairKind, PairWords, RunWords};
+pub use command::{Command, PairKind, PairWords, RunSettings, RunWords};
 pub use laws::{asks_one, folded_run};
 pub use reading::in_form;

@@ -5,7 +5,7 @@ ghost use Rattle.lmn_app_words.specs.Forms.{Asks, InForm, IsInRanges, Pair, Requ
 ghost use Rattle.lmn_app_words.specs.Hearing.{number_written, order_named};
 ghost use Rattle.lmn_app_words.specs.Parsing.{FoundIsRequest, IsLineOfCommand, Tells, compile_line, demo_line, flag_rule, option_rule, pair_line, required_rule, run_line, whole_line};
 
-use crate::command::{Command, PairKind, RunWords};
+use crate::command::{Command, PairKind, RunSettings, RunWords};
 use crate::reading::in_form;
 use crate::setting::{OrderName, number};
 use clap::error::ErrorKind;
@@ -171,11 +171,13 @@ fn run_words<'w>(matches: &ArgMatches<'w>) -> Option<RunWords<'w>>
     let order = order_or_first(matches.get_str("order")).with_seed(seed);
     Some(RunWords {
         file,
-        trace,
-        folded,
-        budget,
-        size,
-        order,
+        settings: RunSettings {
+            trace,
+            folded,
+            budget,
+            size,
+            order,
+        },
     })
 }
 

@@ -27,9 +27,10 @@ use Rattle.lmn_debug.specs.Courses.{Course, Stepped, Waited, wish}
 use Rattle.lmn_debug.specs.Sessions.{StandsAt, StandsStepped, StandsWaited}
 use Rattle.lmn_debug.specs.declared.session.Stop.{Stop}
 use Rattle.lmn_debug.specs.declared.session.Stop.TheVariants as stop
-use Rattle.lmn_debug.specs.declared.debugging.Halt.{Halt}
-use Rattle.lmn_debug.specs.declared.debugging.Halt.TheVariants.{NoMemory, Failed}
-use Rattle.lmn_debug.specs.Obeying.{Halted, HaltedSo, IsRegionOf, Obeyed, ObeyedSo, LineTold}
+use Rattle.lmn_debug.specs.declared.debugging.DebugFault.{DebugFault}
+use Rattle.lmn_debug.specs.declared.debugging.DebugFault.TheVariants.{NoMemory, Failed}
+use Rattle.lmn_debug.specs.Debugged.{Debugged, FailedSo}
+use Rattle.lmn_debug.specs.Obeying.{IsRegionOf, LineTold, Obeyed, ObeyedSo, Unobeyed}
 use Rattle.lmn_debug.specs.Orders.{LacksMemory, ObeyedAll, Obeys, ObeysAll, begun, line_at, obeyed, shown, stepped, waited, went_back}
 use Rattle.lmn_schedule.proofs.Common.{closed_held}
 
@@ -48,31 +49,31 @@ first_held names plain h made held S first = subst (HoldsRegion names plain.rule
 
 module _ (names : List Name) (table : List RuleTree) (g : Course) (t : ℕ) where
   -- an order was carried out as its line says, or it lacks memory: what is written of it
-  pub told_obeyed : {A : Type 0} (order : Order) (why : Stop) (t' : ℕ) (h : Heap) (old new : Option (List ℕ)) (result : Result A Halt) →
+  pub told_obeyed : {A : Type 0} (order : Order) (why : Stop) (t' : ℕ) (h : Heap) (old new : Option (List ℕ)) (result : Result A DebugFault) →
       (why ≢ stop.NoMemory → Obeys names g t order (line_at t' why) t') → (why ≡ stop.NoMemory → LacksMemory names g t order) → StandsAt names table g t' h → LineTold t' why old new result →
-      MatchResult result (λ done. Obeyed names table g t order t' h old new) (λ halt. Halted names g t order halt old new)
+      MatchResult result (λ done. Obeyed names table g t order t' h old new) (λ fault. Unobeyed names g t order fault old new)
   told_obeyed order why t' h old new (Ok x) does lacks stands told = record { line = line_at t' why; obeys = does told.0; took = told.1; stands = stands }
   told_obeyed order why t' h old new (Err NoMemory) does lacks stands told = (lacks told.0, told.1)
   told_obeyed order why t' h old new (Err Failed) does lacks stands told = (line_at t' why, t', does told.0, told.1)
 
   -- `step n`
-  pub step_obeyed : {A : Type 0} (n : ℕ) (why : Stop) (t' : ℕ) (h : Heap) (old new : Option (List ℕ)) (result : Result A Halt) →
+  pub step_obeyed : {A : Type 0} (n : ℕ) (why : Stop) (t' : ℕ) (h : Heap) (old new : Option (List ℕ)) (result : Result A DebugFault) →
       StandsStepped names table g t n why t' h → LineTold t' why old new result →
-      MatchResult result (λ done. Obeyed names table g t (Step n) t' h old new) (λ halt. Halted names g t (Step n) halt old new)
+      MatchResult result (λ done. Obeyed names table g t (Step n) t' h old new) (λ fault. Unobeyed names g t (Step n) fault old new)
   step_obeyed n why t' h old new result s =
       told_obeyed (Step n) why t' h old new result (λ ne. stepped ne s.stepped) (λ e. (t', subst (λ w. Stepped g t n w t') e s.stepped)) (record { solid = s.stepped.solid; is = s.stepped.is; holds = s.holds })
 
   -- `until`
-  pub until_obeyed : {A : Type 0} (f : Functor) (op : Cmp) (n : ℕ) (why : Stop) (t' : ℕ) (h : Heap) (old new : Option (List ℕ)) (result : Result A Halt) →
+  pub until_obeyed : {A : Type 0} (f : Functor) (op : Cmp) (n : ℕ) (why : Stop) (t' : ℕ) (h : Heap) (old new : Option (List ℕ)) (result : Result A DebugFault) →
       StandsWaited names table g (wish f op n) t why t' h → LineTold t' why old new result →
-      MatchResult result (λ done. Obeyed names table g t (Until f op n) t' h old new) (λ halt. Halted names g t (Until f op n) halt old new)
+      MatchResult result (λ done. Obeyed names table g t (Until f op n) t' h old new) (λ fault. Unobeyed names g t (Until f op n) fault old new)
   until_obeyed f op n why t' h old new result s =
       told_obeyed (Until f op n) why t' h old new result (λ ne. waited ne s.waited) (λ e. (t', subst (λ w. Waited names g (wish f op n) t w t') e s.waited)) (record { solid = s.waited.solid; is = s.waited.is; holds = s.holds })
 
   -- `back n`
-  pub back_obeyed : {A : Type 0} (n t' : ℕ) (h : Heap) (old new : Option (List ℕ)) (result : Result A Halt) → t' ≡ t - n →
+  pub back_obeyed : {A : Type 0} (n t' : ℕ) (h : Heap) (old new : Option (List ℕ)) (result : Result A DebugFault) → t' ≡ t - n →
       StandsAt names table g t' h → LineTold t' stop.Done old new result →
-      MatchResult result (λ done. Obeyed names table g t (Back n) t' h old new) (λ halt. Halted names g t (Back n) halt old new)
+      MatchResult result (λ done. Obeyed names table g t (Back n) t' h old new) (λ fault. Unobeyed names g t (Back n) fault old new)
   back_obeyed n t' h old new result e stands =
       told_obeyed (Back n) stop.Done t' h old new result (λ ne. subst (λ k. Obeys names g t (Back n) (line_at k stop.Done) k) (sym e) went_back) (λ d. tt) stands
 
@@ -95,13 +96,13 @@ module _ (names : List Name) (table : List RuleTree) (g : Course) (t : ℕ) wher
       stands = subst (λ k. StandsAt names table g k h') (sym same) (subst (StandsAt names table g t) (sym kept) s);
     }
 
-    pub show_halted : ((line : List ℕ) → IsHeapLine false names table h line → TakesPrefix line old new) → Halted names g t Show Failed old new
-    show_halted part = (line_there.0, t, line_there.1, part line_there.0 line_there.2)
+    pub show_failed : ((line : List ℕ) → IsHeapLine false names table h line → TakesPrefix line old new) → Unobeyed names g t Show Failed old new
+    show_failed part = (line_there.0, t, line_there.1, part line_there.0 line_there.2)
 
--- what holds of a halt holds where `?` hands it on
-pub at_halt : {A : Type 0} (P : A → Type 0) (Q : Halt → Type 0) (halt : Halt) (r : Result A Halt) → IsErrAnd r (λ e. e ≡ halt) → Q halt → MatchResult r P Q
-at_halt P Q halt (Ok x) f q = absurd f
-at_halt P Q halt (Err e) f q = subst Q (sym f) q
+-- what holds of a fault holds where `?` hands it on
+pub at_fault : {A : Type 0} (P : A → Type 0) (Q : DebugFault → Type 0) (fault : DebugFault) (r : Result A DebugFault) → IsErrAnd r (λ e. e ≡ fault) → Q fault → MatchResult r P Q
+at_fault P Q fault (Ok x) f q = absurd f
+at_fault P Q fault (Err e) f q = subst Q (sym f) q
 
 -- ---- orders one behind the other
 
@@ -138,14 +139,14 @@ module _ (names : List Name) (table : List RuleTree) (g : Course) (old : Option 
           joined : (lines : List (List ℕ)) (line : List ℕ) → concat (lines ++ line ∷ []) ≡ concat lines ++ line
           joined lines line = concat-append lines (line ∷ []) ∙ ap (λ bytes. concat lines ++ bytes) (append-nil line)
 
-      -- one that is halted
-      pub halted_behind : (halt : Halt) (new : Option (List ℕ)) → Halted names g t order halt mid new → HaltedSo names g orders halt old new
-      halted_behind NoMemory new u = (
+      -- one that is not carried out, or not written
+      pub failed_behind : (fault : DebugFault) (new : Option (List ℕ)) → Unobeyed names g t order fault mid new → FailedSo names g orders fault old new
+      failed_behind NoMemory new u = (
         concat so.lines,
         record { done = take i orders; next = order; others = drop (i + 1) orders; are = cut; lines = so.lines; at = t; obeys = so.obeys; lacks = u.0; is = refl },
         subst (Takes (concat so.lines) old) (sym u.1) so.took,
       )
-      halted_behind Failed new u = (
+      failed_behind Failed new u = (
         concat so.lines ++ u.0,
         record {
           done = take i orders ++ order ∷ [];
@@ -163,3 +164,9 @@ module _ (names : List Name) (table : List RuleTree) (g : Course) (old : Option 
 pub all_written : (names : List Name) (table : List RuleTree) (g : Course) (orders : List Order) (t : ℕ) (h : Heap) (old new : Option (List ℕ)) → ObeyedSo names table g orders t h old new →
     (written : List ℕ) × ObeyedAll names g orders written × Takes written old new
 all_written names table g orders t h old new so = (concat so.lines, record { lines = so.lines; last = t; obeys = so.obeys; is = refl }, so.took)
+
+-- what is said of orders where a session stands says how they ended
+pub all_debugged : {A : Type 0} (names : List Name) (table : List RuleTree) (g : Course) (orders : List Order) (t : ℕ) (h : Heap) (old new : Option (List ℕ)) (r : Result A DebugFault) →
+    MatchResult r (λ done. ObeyedSo names table g orders t h old new) (λ fault. FailedSo names g orders fault old new) → Debugged names g orders r old new
+all_debugged names table g orders t h old new (Ok x) so = all_written names table g orders t h old new so
+all_debugged names table g orders t h old new (Err fault) so = so

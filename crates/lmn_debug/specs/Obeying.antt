@@ -11,7 +11,6 @@ use Rattle.lmn_congruence.specs.Rules.{Name}
 use Rattle.lmn_congruence.specs.SolidsOfPlains.{IsSolidOf}
 use Rattle.lmn_congruence.specs.Translation.{region_of}
 use Rattle.lmn_store_heap.specs.Heap.{Heap}
-use Rattle.lmn_io.specs.Counts.{FailedLast, Faults, NoneFailed}
 use Rattle.lmn_io.specs.Taking.{Takes, TakesPrefix}
 use Rattle.lmn_schedule.specs.Held.{AreNames}
 use Rattle.lmn_schedule.specs.Turning.{Gives}
@@ -20,9 +19,9 @@ use Rattle.lmn_debug.specs.Courses.{Course, course}
 use Rattle.lmn_debug.specs.Sessions.{StandsAt}
 use Rattle.lmn_debug.specs.declared.session.Stop.{Stop}
 use Rattle.lmn_debug.specs.declared.session.Stop.TheVariants as stop
-use Rattle.lmn_debug.specs.declared.debugging.Halt.{Halt}
-use Rattle.lmn_debug.specs.declared.debugging.Halt.TheVariants.{NoMemory, Failed}
-use Rattle.lmn_debug.specs.Orders.{LacksMemory, ObeyedSome, ObeyedUpTo, Obeys, ObeysAll, line_at}
+use Rattle.lmn_debug.specs.declared.debugging.DebugFault.{DebugFault}
+use Rattle.lmn_debug.specs.declared.debugging.DebugFault.TheVariants.{NoMemory, Failed}
+use Rattle.lmn_debug.specs.Orders.{LacksMemory, Obeys, ObeysAll, line_at}
 
 -- the most commits that one order asks for
 abbrev pub most_asked : ℕ
@@ -44,32 +43,24 @@ pub record Obeyed (names : List Name) (table : List RuleTree) (g : Course) (t : 
   pub stands : StandsAt names table g t' h
 
 -- It wasn't: no memory was found for it, and nothing was written. Or a prefix of its line was.
-abbrev pub Halted : List Name → Course → ℕ → Order → Halt → Option (List ℕ) → Option (List ℕ) → Type 0
-Halted names g t order NoMemory old new = LacksMemory names g t order × (new ≡ old)
-Halted names g t order Failed old new = (line : List ℕ) × (t' : ℕ) × Obeys names g t order line t' × TakesPrefix line old new
+abbrev pub Unobeyed : List Name → Course → ℕ → Order → DebugFault → Option (List ℕ) → Option (List ℕ) → Type 0
+Unobeyed names g t order NoMemory old new = LacksMemory names g t order × (new ≡ old)
+Unobeyed names g t order Failed old new = (line : List ℕ) × (t' : ℕ) × Obeys names g t order line t' × TakesPrefix line old new
 
 -- what a call does that carries an order out: where the session stands at t, and at t' behind it
-abbrev pub CarriesOut : {F A : Type 0} → (F → ℕ → ℕ → ℕ → Type 0) → F → List Name → Plain → ℕ → Order → ℕ → Heap → ℕ → Heap → Option (List ℕ) → Option (List ℕ) → Result A Halt → Type 0
+abbrev pub CarriesOut : {F A : Type 0} → (F → ℕ → ℕ → ℕ → Type 0) → F → List Name → Plain → ℕ → Order → ℕ → Heap → ℕ → Heap → Option (List ℕ) → Option (List ℕ) → Result A DebugFault → Type 0
 CarriesOut post f names plain size order t h t' h' old new result =
     OfEachCourse post f names plain size
-    (λ g. StandsAt names plain.rules g t h → MatchResult result (λ done. Obeyed names plain.rules g t order t' h' old new) (λ halt. Halted names g t order halt old new))
+    (λ g. StandsAt names plain.rules g t h → MatchResult result (λ done. Obeyed names plain.rules g t order t' h' old new) (λ fault. Unobeyed names g t order fault old new))
 
 -- the line of an order that stopped so wasn't written: for want of memory it isn't due, or a prefix of it was written
-abbrev pub LineUntold : ℕ → Stop → Halt → Option (List ℕ) → Option (List ℕ) → Type 0
+abbrev pub LineUntold : ℕ → Stop → DebugFault → Option (List ℕ) → Option (List ℕ) → Type 0
 LineUntold commits why NoMemory old new = (why ≡ stop.NoMemory) × (new ≡ old)
 LineUntold commits why Failed old new = (why ≢ stop.NoMemory) × TakesPrefix (line_at commits why) old new
 
 -- a call that is to write the line of an order that stopped so
-abbrev pub LineTold : {A : Type 0} → ℕ → Stop → Option (List ℕ) → Option (List ℕ) → Result A Halt → Type 0
-LineTold commits why old new result = MatchResult result (λ done. (why ≢ stop.NoMemory) × Takes (line_at commits why) old new) (λ halt. LineUntold commits why halt old new)
-
--- what a sink counts of a call that was halted, and of one that wasn't
-abbrev pub HaltCounts : Halt → Faults → Faults → Type 0
-HaltCounts NoMemory before after = NoneFailed before after
-HaltCounts Failed before after = FailedLast before after
-
-abbrev pub CountsHalted : {A : Type 0} → Result A Halt → Faults → Faults → Type 0
-CountsHalted result before after = MatchResult result (λ done. NoneFailed before after) (λ halt. HaltCounts halt before after)
+abbrev pub LineTold : {A : Type 0} → ℕ → Stop → Option (List ℕ) → Option (List ℕ) → Result A DebugFault → Type 0
+LineTold commits why old new result = MatchResult result (λ done. (why ≢ stop.NoMemory) × Takes (line_at commits why) old new) (λ fault. LineUntold commits why fault old new)
 
 -- Orders were carried out and their lines written, and the session stands behind them.
 pub record ObeyedSo (names : List Name) (table : List RuleTree) (g : Course) (orders : List Order) (t : ℕ) (h : Heap) (old new : Option (List ℕ)) : Type 0 where
@@ -77,8 +68,3 @@ pub record ObeyedSo (names : List Name) (table : List RuleTree) (g : Course) (or
   pub obeys : ObeysAll names g orders lines t
   pub took : Takes (concat lines) old new
   pub stands : StandsAt names table g t h
-
--- They weren't all.
-abbrev pub HaltedSo : List Name → Course → List Order → Halt → Option (List ℕ) → Option (List ℕ) → Type 0
-HaltedSo names g orders NoMemory old new = (written : List ℕ) × ObeyedSome names g orders written × Takes written old new
-HaltedSo names g orders Failed old new = (due : List ℕ) × ObeyedUpTo names g orders due × TakesPrefix due old new

@@ -1,7 +1,6 @@
 ghost use Rattle.std.specs.Prelude.{◌≡◌, ◌<◌, ◌≤◌, ◌+◌, ◌-◌, ◌^◌, ◌↔◌, length, List, IsTrue, MatchResult, OnOk};
 ghost use Rattle.lmn_adequacy.specs.Runs.{Chooser as Choosing};
 ghost use Rattle.lmn_congruence.specs.Rules.{Name};
-ghost use Rattle.lmn_io.specs.Counts.{FailedLast, NoneFailed};
 ghost use Rattle.lmn_order.specs.Answers.{AnswersBelow};
 ghost use Rattle.lmn_schedule.specs.Held.{AreNames, CanBeLoaded, EngineCanTurn, HoldsSolid};
 ghost use Rattle.lmn_schedule.specs.Turning.{Gives};
@@ -10,8 +9,8 @@ ghost use Rattle.lmn_store_web.specs.WebHeaps.{heap_of};
 ghost use Rattle.lmn_debug.specs.Breaks.{StandsSo};
 ghost use Rattle.lmn_debug.specs.Courses.{course};
 ghost use Rattle.lmn_debug.specs.Sessions.{StandsAt};
-ghost use Rattle.lmn_debug.specs.Debugged.{Debugged};
-ghost use Rattle.lmn_debug.specs.Obeying.{CarriesOut, CountsHalted, HaltedSo, ObeyedSo, OfEachCourse, most_asked};
+ghost use Rattle.lmn_debug.specs.Debugged.{CountsObeyed, Debugged, FailedSo};
+ghost use Rattle.lmn_debug.specs.Obeying.{CarriesOut, ObeyedSo, OfEachCourse, most_asked};
 
 use crate::beginning::Beginning;
 use crate::lines::tell;
@@ -26,29 +25,22 @@ use lmn_store_web::WebStore;
 use std::alloc::Global;
 use std::sync::ledger::Ledger;
 
-/// How orders ended.
+/// Why orders weren't all carried out and written.
 #[derive(Clone, Copy, Debug, PartialEq, Eq)]
-pub enum DebugEnd {
-    /// All were carried out, and their lines written.
-    Done,
+pub enum DebugFault {
     /// Memory was wanting for one. The lines of those before it were written.
     NoMemory,
     /// The sink failed. It took a prefix of the lines.
     Failed,
 }
 
-/// Why an order wasn't carried out and written.
-#[derive(Clone, Copy)]
-pub(crate) enum Halt {
-    /// Memory was wanting for it.
-    NoMemory,
-    /// The sink failed at its line.
-    Failed,
-}
-
 /// Carries out orders over an engine that has made no commit, and writes the line of each. `plain` is that of the engine, `plans` has
 /// the plans of its rules, `choose` is its chooser's closure, and `size` its size: an order to go back begins anew with another engine
 /// of these.
+///
+/// # Errors
+///
+/// `NoMemory` at want of memory, and `Failed` where the sink failed.
 pub fn debug<'p, F: Fn(u64, u64) -> u64 + Copy + Drop, O: Sink, L: Ledger>(
     alloc: Global,
     engine: Engine<'p, WebStore, F>,
@@ -60,7 +52,7 @@ pub fn debug<'p, F: Fn(u64, u64) -> u64 + Copy + Drop, O: Sink, L: Ledger>(
     orders: &[Order],
     out: &mut O,
     steps: &mut Steps<L>,
-) -> DebugEnd
+) -> Result<(), DebugFault>
     requires plain { CanBeLoaded plain.now plans.now }
     requires same { (engine.plain.now ≡ plain.now) × (engine.chooser.f ≡ choose) × (engine.size ≡ size) }
     requires run { EngineCanTurn (heap_of engine.machine.store) plain.now.rules engine.codes size }
@@ -70,8 +62,7 @@ pub fn debug<'p, F: Fn(u64, u64) -> u64 + Copy + Drop, O: Sink, L: Ledger>(
     requires few { length orders.now < 2 ^ 32 }
     ensures debugged { (c : Choosing) → Gives F.post choose c → AreNames names.now plain.now → (held : HoldsSolid names.now plain.now (heap_of engine.entry.machine.store)) →
         Debugged names.now (course c size held.solid) orders.now result (O.told out.old) (O.told out.new) }
-    ensures same { ¬ (result ≡ DebugEnd.Failed) → NoneFailed (O.faults out.old) (O.faults out.new) }
-    ensures rose { result ≡ DebugEnd.Failed → FailedLast (O.faults out.old) (O.faults out.new) }
+    ensures counts { CountsObeyed result (O.faults out.old) (O.faults out.new) }
 {
     let beginning = Beginning {
         plain,
@@ -80,11 +71,7 @@ pub fn debug<'p, F: Fn(u64, u64) -> u64 + Copy + Drop, O: Sink, L: Ledger>(
         size,
     };
     let mut session = Session::start(engine);
-    match carry_out(alloc, &mut session, &beginning, names, orders, out, steps) {
-        Ok(()) => DebugEnd::Done,
-        Err(Halt::NoMemory) => DebugEnd::NoMemory,
-        Err(Halt::Failed) => DebugEnd::Failed,
-    }
+    carry_out(alloc, &mut session, &beginning, names, orders, out, steps)
 }
 
 /// Carries out orders, the first of them where the session has made no commit.
@@ -96,7 +83,7 @@ fn carry_out<'p, F: Fn(u64, u64) -> u64 + Copy + Drop, O: Sink, L: Ledger>(
     orders: &[Order],
     out: &mut O,
     steps: &mut Steps<L>,
-) -> Result<(), Halt>
+) -> Result<(), DebugFault>
     requires plain { CanBeLoaded beginning.now.plain.now beginning.now.plans.now }
     requires chooser { AnswersBelow F.pre F.post beginning.now.choose }
     requires same { (session.old.engine.plain.now ≡ beginning.now.plain.now) × (session.old.engine.chooser.f ≡ beginning.now.choose) × (session.old.engine.size ≡ beginning.now.size) }
@@ -107,8 +94,8 @@ fn carry_out<'p, F: Fn(u64, u64) -> u64 + Copy + Drop, O: Sink, L: Ledger>(
     ensures obeyed { OfEachCourse F.post beginning.now.choose names.now beginning.now.plain.now beginning.now.size (λ g. StandsAt names.now beginning.now.plain.now.rules g 0 (heap_of session.old.engine.machine.store) →
         MatchResult result
         (λ done. ObeyedSo names.now beginning.now.plain.now.rules g orders.now session.new.engine.commits (heap_of session.new.engine.machine.store) (O.told out.old) (O.told out.new))
-        (λ halt. HaltedSo names.now g orders.now halt (O.told out.old) (O.told out.new))) }
-    ensures counts { CountsHalted result (O.faults out.old) (O.faults out.new) }
+        (λ fault. FailedSo names.now g orders.now fault (O.told out.old) (O.told out.new))) }
+    ensures counts { CountsObeyed result (O.faults out.old) (O.faults out.new) }
 {
     for order in orders {
         obey(alloc, session, beginning, names, *order, out, steps)?;
@@ -125,7 +112,7 @@ fn obey<'p, F: Fn(u64, u64) -> u64 + Copy + Drop, O: Sink, L: Ledger>(
     order: Order,
     out: &mut O,
     steps: &mut Steps<L>,
-) -> Result<(), Halt>
+) -> Result<(), DebugFault>
     requires plain { CanBeLoaded beginning.now.plain.now beginning.now.plans.now }
     requires chooser { AnswersBelow F.pre F.post beginning.now.choose }
     requires same { (session.old.engine.plain.now ≡ beginning.now.plain.now) × (session.old.engine.chooser.f ≡ beginning.now.choose) × (session.old.engine.size ≡ beginning.now.size) }
@@ -133,7 +120,7 @@ fn obey<'p, F: Fn(u64, u64) -> u64 + Copy + Drop, O: Sink, L: Ledger>(
     requires commits { session.old.engine.commits < 2 ^ 62 }
     requires order { IsAskedWith names.now order }
     ensures obeyed { CarriesOut F.post beginning.now.choose names.now beginning.now.plain.now beginning.now.size order session.old.engine.commits (heap_of session.old.engine.machine.store) session.new.engine.commits (heap_of session.new.engine.machine.store) (O.told out.old) (O.told out.new) result }
-    ensures counts { CountsHalted result (O.faults out.old) (O.faults out.new) }
+    ensures counts { CountsObeyed result (O.faults out.old) (O.faults out.new) }
     ensures same { OnOk result ((session.new.engine.plain.now ≡ beginning.now.plain.now) × (session.new.engine.chooser.f ≡ beginning.now.choose) × (session.new.engine.size ≡ beginning.now.size)) }
     ensures again { OnOk result (EngineCanTurn (heap_of session.new.engine.machine.store) beginning.now.plain.now.rules session.new.engine.codes beginning.now.size) }
     ensures most { OnOk result (session.new.engine.commits ≤ session.old.engine.commits + most_asked) }
@@ -157,14 +144,14 @@ fn step<'p, F: Fn(u64, u64) -> u64 + Copy + Drop, O: Sink, L: Ledger>(
     n: u64,
     out: &mut O,
     steps: &mut Steps<L>,
-) -> Result<(), Halt>
+) -> Result<(), DebugFault>
     requires chooser { AnswersBelow F.pre F.post beginning.now.choose }
     requires same { (session.old.engine.plain.now ≡ beginning.now.plain.now) × (session.old.engine.chooser.f ≡ beginning.now.choose) × (session.old.engine.size ≡ beginning.now.size) }
     requires run { EngineCanTurn (heap_of session.old.engine.machine.store) beginning.now.plain.now.rules session.old.engine.codes beginning.now.size }
     requires commits { session.old.engine.commits < 2 ^ 62 }
     requires order { IsAskedWith names.now (Order.Step n) }
     ensures obeyed { CarriesOut F.post beginning.now.choose names.now beginning.now.plain.now beginning.now.size (Order.Step n) session.old.engine.commits (heap_of session.old.engine.machine.store) session.new.engine.commits (heap_of session.new.engine.machine.store) (O.told out.old) (O.told out.new) result }
-    ensures counts { CountsHalted result (O.faults out.old) (O.faults out.new) }
+    ensures counts { CountsObeyed result (O.faults out.old) (O.faults out.new) }
     ensures same { OnOk result ((session.new.engine.plain.now ≡ beginning.now.plain.now) × (session.new.engine.chooser.f ≡ beginning.now.choose) × (session.new.engine.size ≡ beginning.now.size)) }
     ensures again { OnOk result (EngineCanTurn (heap_of session.new.engine.machine.store) beginning.now.plain.now.rules session.new.engine.codes beginning.now.size) }
     ensures most { OnOk result (session.new.engine.commits ≤ session.old.engine.commits + most_asked) }
@@ -182,21 +169,21 @@ fn back<'p, F: Fn(u64, u64) -> u64 + Copy + Drop, O: Sink, L: Ledger>(
     n: u64,
     out: &mut O,
     steps: &mut Steps<L>,
-) -> Result<(), Halt>
+) -> Result<(), DebugFault>
     requires plain { CanBeLoaded beginning.now.plain.now beginning.now.plans.now }
     requires chooser { AnswersBelow F.pre F.post beginning.now.choose }
     requires same { (session.old.engine.plain.now ≡ beginning.now.plain.now) × (session.old.engine.chooser.f ≡ beginning.now.choose) × (session.old.engine.size ≡ beginning.now.size) }
     requires run { EngineCanTurn (heap_of session.old.engine.machine.store) beginning.now.plain.now.rules session.old.engine.codes beginning.now.size }
     requires commits { session.old.engine.commits < 2 ^ 62 }
     ensures obeyed { CarriesOut F.post beginning.now.choose names.now beginning.now.plain.now beginning.now.size (Order.Back n) session.old.engine.commits (heap_of session.old.engine.machine.store) session.new.engine.commits (heap_of session.new.engine.machine.store) (O.told out.old) (O.told out.new) result }
-    ensures counts { CountsHalted result (O.faults out.old) (O.faults out.new) }
+    ensures counts { CountsObeyed result (O.faults out.old) (O.faults out.new) }
     ensures same { OnOk result ((session.new.engine.plain.now ≡ beginning.now.plain.now) × (session.new.engine.chooser.f ≡ beginning.now.choose) × (session.new.engine.size ≡ beginning.now.size)) }
     ensures again { OnOk result (EngineCanTurn (heap_of session.new.engine.machine.store) beginning.now.plain.now.rules session.new.engine.codes beginning.now.size) }
     ensures most { OnOk result (session.new.engine.commits ≤ session.old.engine.commits + most_asked) }
 {
     match go_back(alloc, session, beginning, n, steps) {
         Ok(()) => tell(Stop::Done, session.commits(), out),
-        Err(NoMemory) => Err(Halt::NoMemory),
+        Err(NoMemory) => Err(DebugFault::NoMemory),
     }
 }
 
@@ -233,14 +220,14 @@ fn until<'p, F: Fn(u64, u64) -> u64 + Copy + Drop, O: Sink, L: Ledger>(
     n: u64,
     out: &mut O,
     steps: &mut Steps<L>,
-) -> Result<(), Halt>
+) -> Result<(), DebugFault>
     requires chooser { AnswersBelow F.pre F.post beginning.now.choose }
     requires same { (session.old.engine.plain.now ≡ beginning.now.plain.now) × (session.old.engine.chooser.f ≡ beginning.now.choose) × (session.old.engine.size ≡ beginning.now.size) }
     requires run { EngineCanTurn (heap_of session.old.engine.machine.store) beginning.now.plain.now.rules session.old.engine.codes beginning.now.size }
     requires commits { session.old.engine.commits < 2 ^ 62 }
     requires order { IsAskedWith names.now (Order.Until functor op n) }
     ensures obeyed { CarriesOut F.post beginning.now.choose names.now beginning.now.plain.now beginning.now.size (Order.Until functor op n) session.old.engine.commits (heap_of session.old.engine.machine.store) session.new.engine.commits (heap_of session.new.engine.machine.store) (O.told out.old) (O.told out.new) result }
-    ensures counts { CountsHalted result (O.faults out.old) (O.faults out.new) }
+    ensures counts { CountsObeyed result (O.faults out.old) (O.faults out.new) }
     ensures same { OnOk result ((session.new.engine.plain.now ≡ beginning.now.plain.now) × (session.new.engine.chooser.f ≡ beginning.now.choose) × (session.new.engine.size ≡ beginning.now.size)) }
     ensures again { OnOk result (EngineCanTurn (heap_of session.new.engine.machine.store) beginning.now.plain.now.rules session.new.engine.codes beginning.now.size) }
     ensures most { OnOk result (session.new.engine.commits ≤ session.old.engine.commits + most_asked) }
@@ -276,17 +263,17 @@ fn show<'p, F: Fn(u64, u64) -> u64 + Copy + Drop, O: Sink>(
     beginning: &Beginning<'p, F>,
     names: &Names,
     out: &mut O,
-) -> Result<(), Halt>
+) -> Result<(), DebugFault>
     requires same { (session.old.engine.plain.now ≡ beginning.now.plain.now) × (session.old.engine.chooser.f ≡ beginning.now.choose) × (session.old.engine.size ≡ beginning.now.size) }
     requires run { EngineCanTurn (heap_of session.old.engine.machine.store) beginning.now.plain.now.rules session.old.engine.codes beginning.now.size }
     ensures obeyed { CarriesOut F.post beginning.now.choose names.now beginning.now.plain.now beginning.now.size Order.Show session.old.engine.commits (heap_of session.old.engine.machine.store) session.new.engine.commits (heap_of session.new.engine.machine.store) (O.told out.old) (O.told out.new) result }
-    ensures counts { CountsHalted result (O.faults out.old) (O.faults out.new) }
+    ensures counts { CountsObeyed result (O.faults out.old) (O.faults out.new) }
     ensures same { OnOk result ((session.new.engine.plain.now ≡ beginning.now.plain.now) × (session.new.engine.chooser.f ≡ beginning.now.choose) × (session.new.engine.size ≡ beginning.now.size)) }
     ensures again { OnOk result (EngineCanTurn (heap_of session.new.engine.machine.store) beginning.now.plain.now.rules session.new.engine.codes beginning.now.size) }
     ensures most { OnOk result (session.new.engine.commits ≤ session.old.engine.commits + most_asked) }
 {
     match session.show(beginning.plain, names, out) {
         Ok(()) => Ok(()),
-        Err(Failed) => Err(Halt::Failed),
+        Err(Failed) => Err(DebugFault::Failed),
     }
 }

@@ -16,7 +16,7 @@ pub use break_::Break;
 pub use carrying_laws::{
     back_undoes_step, orders_are_one, orders_stay_in_trace, solids_are_one, writing_is_one,
 };
-pub use debugging::{DebugEnd, debug};
+pub use debugging::{DebugFault, debug};
 pub use laws::{
     courses_are_one, firsts_stand_at_zero, steps_are_exact, steps_are_taken_back, waits_are_exact,
 };

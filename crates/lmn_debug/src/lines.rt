@@ -1,24 +1,29 @@
 ghost use Rattle.std.specs.Prelude.{◌≡◌};
 ghost use Rattle.lmn_io.specs.Writing.{WritesText};
-ghost use Rattle.lmn_debug.specs.Obeying.{CountsHalted, LineTold};
+ghost use Rattle.lmn_debug.specs.Debugged.{CountsObeyed};
+ghost use Rattle.lmn_debug.specs.Obeying.{LineTold};
 ghost use Rattle.lmn_debug.specs.Orders.{line_at, stop_mark};
 
 use crate::Stop;
-use crate::debugging::Halt;
+use crate::debugging::DebugFault;
 use itoa::Buffer;
 use lmn_io::{Failed, Sink, put_all};
 
 /// Writes the line of an order that stopped so, where memory wasn't wanting.
-pub(crate) fn tell<O: Sink>(stop: Stop, commits: u64, out: &mut O) -> Result<(), Halt>
+///
+/// # Errors
+///
+/// `NoMemory` where memory was wanting for it, and `Failed` where the sink failed.
+pub(crate) fn tell<O: Sink>(stop: Stop, commits: u64, out: &mut O) -> Result<(), DebugFault>
     ensures told { LineTold commits stop (O.told out.old) (O.told out.new) result }
-    ensures counts { CountsHalted result (O.faults out.old) (O.faults out.new) }
+    ensures counts { CountsObeyed result (O.faults out.old) (O.faults out.new) }
 {
     if stop == Stop::NoMemory {
-        return Err(Halt::NoMemory);
+        return Err(DebugFault::NoMemory);
     }
     match write_line(stop, commits, out) {
         Ok(()) => Ok(()),
-        Err(Failed) => Err(Halt::Failed),
+        Err(Failed) => Err(DebugFault::Failed),
     }
 }
 

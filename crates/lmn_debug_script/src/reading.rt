@@ -11,7 +11,7 @@ ghost use Rattle.lmn_debug_script.specs.Lines.{Reads, TakesLine};
 ghost use Rattle.lmn_debug_script.specs.Scripts.{AreOrdersOf, IsFirstWrong, IsNumbered, cmp_text};
 
 use crate::order::Order;
-use lmn_base::{Cmp, Names, NoMemory, Pos, Refusal, Rows, TextFault};
+use lmn_base::{Cmp, Names, NoMemory, Pos, RefusalCode, Rows, TextFault};
 use lmn_instr_reading::{last_space, next_feed, number_written, read_functor};
 use std::alloc::Global;
 
@@ -143,10 +143,7 @@ fn line_end(text: &[u8], at: usize) -> usize
 fn wrong(line: u64) -> TextFault
     ensures { result ≡ Refused (record { code = 71; pos = record { line = line; column = 1 } }) }
 {
-    TextFault::Refused(Refusal {
-        code: 71,
-        pos: Pos { line, column: 1 },
-    })
+    TextFault::Refused(RefusalCode::UnknownCommand.at(Pos { line, column: 1 }))
 }
 
 /// The orders of a script, one for each line that isn't empty. The last line may lack its line feed.

@@ -10,7 +10,9 @@ use Rattle.lmn_adequacy.specs.Runs.{Chooser, End, Ends, Trace, Turn, budget_done
 use Rattle.lmn_adequacy.proofs.Heads.{all_rules_so}
 use Rattle.lmn_adequacy.proofs.Results.{firings_commit, irreducible_exactly, next_is_solid, throughout_itself}
 use Rattle.lmn_adequacy.proofs.Runs.{embeds_in, next_of as next_by, one_longer}
-use Rattle.lmn_app_runs.specs.Runs.{Stop, StopsSo, at_end, no_memory, word_of_stop}
+use Rattle.lmn_app_runs.specs.Runs.{StopsSo, at_end, word_of_stop}
+use Rattle.lmn_app_runs.specs.declared.stop.Stop.{Stop}
+use Rattle.lmn_app_runs.specs.declared.stop.Stop.TheVariants as stop
 use Rattle.lmn_receipt_chain.specs.Chains.{Continued, Continues, IsEndWord, begun, continued}
 use Rattle.lmn_receipt_chain.specs.Laws.{ChoosesBelow, ChainsAreCommits, ContinuesByCommit, IsAcceptedSolid, TracesAreChains}
 
@@ -35,8 +37,10 @@ module _ (chooser : Chooser) (budget size : ℕ) (below : ChoosesBelow chooser) 
   ends_by n R full (too_many l t m) = inr (inr (inl refl), λ none. none (embeds_in t.next))
 
   stops_by : (trace folded : Bool) (n : ℕ) (R : Region) (why : Stop) → StopsSo (record { trace = trace; folded = folded; budget = budget; size = size; chooser = chooser }) n R why → IsEndWord R (word_of_stop why)
-  stops_by trace folded n R (at_end e) h = ends_by n R e h
-  stops_by trace folded n R no_memory h = inr (inr (inr refl), λ none. h irreducible (nothing_embeds none))
+  stops_by trace folded n R stop.Irreducible h = ends_by n R irreducible h
+  stops_by trace folded n R stop.Budget h = ends_by n R budget_done h
+  stops_by trace folded n R stop.Full h = ends_by n R full h
+  stops_by trace folded n R stop.NoMemory h = inr (inr (inr refl), λ none. h irreducible (nothing_embeds none))
 
 -- what is written of a trace that stops is a chain
 pub traces_are_chains : TracesAreChains

@@ -15,7 +15,8 @@ use Rattle.lmn_adequacy.specs.Accepted.{Accepted, Throughout}
 use Rattle.lmn_adequacy.specs.Embedding.{AllRules}
 use Rattle.lmn_adequacy.specs.Runs.{Chooser, Trace}
 use Rattle.lmn_app_runs.specs.Laws.{IsPrintable, solid_of}
-use Rattle.lmn_app_runs.specs.Runs.{Given, Stop, StopsSo, end_line, word_of_stop}
+use Rattle.lmn_app_runs.specs.Runs.{Given, StopsSo, end_line, word_of_stop}
+use Rattle.lmn_app_runs.specs.declared.stop.Stop.{Stop}
 use Rattle.lmn_receipt_chain.specs.Chains.{Continued, Continues, IsChain, IsWrongTrace, line_of_solid}
 
 -- what each solid of a chain is like: it has no free link, and its rules are accepted, those in rules too

@@ -1,4 +1,5 @@
 ghost use Rattle.std.specs.Prelude.{◌≡◌, ◌≤◌, MatchResult, drop, length};
+ghost use Rattle.lmn_base.specs.Codes.{code_number};
 ghost use Rattle.lmn_base.specs.Refusals.{IfRefused};
 ghost use Rattle.lmn_base.specs.declared.refusal.TextFault.{TextFault};
 ghost use Rattle.lmn_receipt_chain.specs.Chains.{IsChain, IsWrongTrace, at_line};
@@ -6,7 +7,7 @@ ghost use Rattle.lmn_receipt_chain.specs.Laws.{IsAcceptedSolid};
 
 use crate::next::NextSolids;
 use crate::walk::{Step, take_step};
-use lmn_base::{Pos, Refusal, Solid, TextFault};
+use lmn_base::{Pos, RefusalCode, Solid, TextFault};
 use std::alloc::Global;
 use std::mem;
 
@@ -48,7 +49,7 @@ fn walk<N: NextSolids>(
         (λ fault. IfRefused fault (IsWrongTrace (N.region solids.now solid.old) trace.now)) }
 {
     let Some(first) = solids.front(alloc, solid, trace)? else {
-        return Err(refused(61, 1));
+        return Err(refused(RefusalCode::NotAFiring, 1));
     };
     let mut at = first;
     let mut commits = 0u64;
@@ -61,8 +62,8 @@ fn walk<N: NextSolids>(
                 commits += 1;
             }
             Step::Done => return Ok(commits),
-            Step::WrongLine => return Err(refused(61, commits + 2)),
-            Step::WrongEnd => return Err(refused(62, commits + 2)),
+            Step::WrongLine => return Err(refused(RefusalCode::NotAFiring, commits + 2)),
+            Step::WrongEnd => return Err(refused(RefusalCode::WrongEnd, commits + 2)),
         }
     }
 }
@@ -76,11 +77,8 @@ fn behind(text: &[u8], at: usize) -> &[u8]
 }
 
 /// A refusal at the beginning of a line.
-fn refused(code: u8, line: u64) -> TextFault
-    ensures { result ≡ TextFault.Refused (at_line code line) }
+fn refused(code: RefusalCode, line: u64) -> TextFault
+    ensures { result ≡ TextFault.Refused (at_line (code_number code) line) }
 {
-    TextFault::Refused(Refusal {
-        code,
-        pos: Pos { line, column: 1 },
-    })
+    TextFault::Refused(code.at(Pos { line, column: 1 }))
 }

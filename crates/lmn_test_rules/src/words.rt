@@ -1,18 +1,23 @@
 //! What words of the command line ask for.
 
-use lmn_app_words::{Command, RunWords, in_form};
+use lmn_app_words::{Command, RunSettings, RunWords, in_form};
 use lmn_order::Order;
 use std::alloc::{AllocError, Global};
 use std::test::Fail;
 
-/// What `run f` asks for.
-const PLAIN: RunWords = RunWords {
-    file: "f",
+/// What a run is given without options.
+const SETTINGS: RunSettings = RunSettings {
     trace: false,
     folded: false,
     budget: 1_000_000,
     size: 16_777_216,
     order: Order::First,
+};
+
+/// What `run f` asks for.
+const PLAIN: RunWords = RunWords {
+    file: "f",
+    settings: SETTINGS,
 };
 
 /// Words behind `run`, and what they ask for.
@@ -35,35 +40,71 @@ const RUNS: [(&[&str], RunWords); 18] = [
     (
         &["--trace", "f", "--budget=5"],
         RunWords {
-            trace: true,
-            budget: 5,
+            settings: RunSettings {
+                trace: true,
+                budget: 5,
+                ..SETTINGS
+            },
             ..PLAIN
         },
     ),
     (
         &["--folded", "f"],
         RunWords {
-            folded: true,
+            settings: RunSettings {
+                folded: true,
+                ..SETTINGS
+            },
             ..PLAIN
         },
     ),
-    (&["f", "--budget", "0"], RunWords { budget: 0, ..PLAIN }),
+    (
+        &["f", "--budget", "0"],
+        RunWords {
+            settings: RunSettings {
+                budget: 0,
+                ..SETTINGS
+            },
+            ..PLAIN
+        },
+    ),
     (
         &["--budget", "9223372036854775807", "f"],
         RunWords {
-            budget: 9_223_372_036_854_775_807,
+            settings: RunSettings {
+                budget: 9_223_372_036_854_775_807,
+                ..SETTINGS
+            },
             ..PLAIN
         },
     ),
     (
         &["f", "--budget=0000000000000000005"],
-        RunWords { budget: 5, ..PLAIN },
+        RunWords {
+            settings: RunSettings {
+                budget: 5,
+                ..SETTINGS
+            },
+            ..PLAIN
+        },
     ),
-    (&["--size=1", "f"], RunWords { size: 1, ..PLAIN }),
+    (
+        &["--size=1", "f"],
+        RunWords {
+            settings: RunSettings {
+                size: 1,
+                ..SETTINGS
+            },
+            ..PLAIN
+        },
+    ),
     (
         &["f", "--size", "4294967295"],
         RunWords {
-            size: 4_294_967_295,
+            settings: RunSettings {
+                size: 4_294_967_295,
+                ..SETTINGS
+            },
             ..PLAIN
         },
     ),
@@ -71,28 +112,40 @@ const RUNS: [(&[&str], RunWords); 18] = [
     (
         &["f", "--order", "turn"],
         RunWords {
-            order: Order::Turn,
+            settings: RunSettings {
+                order: Order::Turn,
+                ..SETTINGS
+            },
             ..PLAIN
         },
     ),
     (
         &["f", "--order=seed"],
         RunWords {
-            order: Order::Seed(0),
+            settings: RunSettings {
+                order: Order::Seed(0),
+                ..SETTINGS
+            },
             ..PLAIN
         },
     ),
     (
         &["f", "--order=seed", "--seed", "7"],
         RunWords {
-            order: Order::Seed(7),
+            settings: RunSettings {
+                order: Order::Seed(7),
+                ..SETTINGS
+            },
             ..PLAIN
         },
     ),
     (
         &["--seed=7", "f", "--order", "seed"],
         RunWords {
-            order: Order::Seed(7),
+            settings: RunSettings {
+                order: Order::Seed(7),
+                ..SETTINGS
+            },
             ..PLAIN
         },
     ),
@@ -100,7 +153,10 @@ const RUNS: [(&[&str], RunWords); 18] = [
     (
         &["--seed", "0", "f", "--order=turn"],
         RunWords {
-            order: Order::Turn,
+            settings: RunSettings {
+                order: Order::Turn,
+                ..SETTINGS
+            },
             ..PLAIN
         },
     ),
@@ -117,12 +173,14 @@ const RUNS: [(&[&str], RunWords); 18] = [
             "--trace",
         ],
         RunWords {
-            file: "f",
-            trace: true,
-            folded: true,
-            budget: 3,
-            size: 2,
-            order: Order::Seed(9_223_372_036_854_775_807),
+            settings: RunSettings {
+                trace: true,
+                folded: true,
+                budget: 3,
+                size: 2,
+                order: Order::Seed(9_223_372_036_854_775_807),
+            },
+            ..PLAIN
         },
     ),
 ];

@@ -22,8 +22,8 @@ use Rattle.lmn_verify_renaming.proofs.Heads.{first_there, succeeds_back, succeed
 use Rattle.lmn_verify_renaming.proofs.Numbers.{in_back, in_there}
 use Rattle.lmn_verify_renaming.proofs.Room.{heads_read_no_room}
 use Rattle.lmn_verify_renaming.proofs.Solids.{flat_there, renamed_forest}
-use Rattle.lmn_verify_coded.specs.declared.executing.Halt.{Halt}
-use Rattle.lmn_verify_coded.specs.declared.executing.Halt.TheVariants as halt
+use Rattle.lmn_app_runs.specs.declared.stop.Stop.{Stop}
+use Rattle.lmn_app_runs.specs.declared.stop.Stop.TheVariants as stop
 use Rattle.lmn_verify_coded.specs.Laws.{but_for_memory}
 use Rattle.lmn_verify_coded.specs.Runs.{CodedTurn, HaltsBy, IsReducible}
 use Rattle.lmn_verify_coded.proofs.Carried.{leaves_there, renamed_registers, rests_there, tree_there}
@@ -166,12 +166,12 @@ module _ (q : Renaming) (h k : Heap) (same : SameButRoom (renamed q h) k) where
         };
       }
 
-      halt_there : (budget n : ℕ) (why : Halt) (h' : Heap) → HaltsBy codes budget size n h why h' → HaltsBy codes budget size n k why k
-      halt_there budget n halt.Irreducible h' w = (w.0, turn_there Irreducible h' w.1)
-      halt_there budget n halt.Budget h' w = (w.0, reducible_there w.1, refl)
-      halt_there budget n halt.Full h' w = (w.0, turn_there Full h' w.1)
-      halt_there budget n halt.NoMemory h' w = (w.0, turn_there NoMemory h' w.1)
+      halt_there : (budget n : ℕ) (why : Stop) (h' : Heap) → HaltsBy codes budget size n h why h' → HaltsBy codes budget size n k why k
+      halt_there budget n stop.Irreducible h' w = (w.0, turn_there Irreducible h' w.1)
+      halt_there budget n stop.Budget h' w = (w.0, reducible_there w.1, refl)
+      halt_there budget n stop.Full h' w = (w.0, turn_there Full h' w.1)
+      halt_there budget n stop.NoMemory h' w = (w.0, turn_there NoMemory h' w.1)
 
       -- and runs that stop at both after as many commits stop for one reason.
-      pub halts_alike : AreRunnable codes → (budget n : ℕ) (why other : Halt) (h' k' : Heap) → HaltsBy codes budget size n h why h' → HaltsBy codes budget size n k other k' → why ≡ other
+      pub halts_alike : AreRunnable codes → (budget n : ℕ) (why other : Stop) (h' k' : Heap) → HaltsBy codes budget size n h why h' → HaltsBy codes budget size n k other k' → why ≡ other
       halts_alike run budget n why other h' k' w v = halts_are_exact codes run budget size n k k k' why other (halt_there budget n why h' w) v

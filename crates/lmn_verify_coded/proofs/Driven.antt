@@ -13,16 +13,16 @@ use Rattle.lmn_schedule_strategy.specs.declared.turning.Turn.{Turn}
 use Rattle.lmn_schedule_strategy.specs.declared.turning.Turn.TheVariants as answer
 use Rattle.lmn_print.specs.Laws.{OneHeapLine}
 use Rattle.lmn_print.specs.Lines.{IsHeapLine}
-use Rattle.lmn_app_runs.specs.Runs.{end_line}
+use Rattle.lmn_app_runs.specs.Runs.{end_line, word_of_stop}
 use Rattle.lmn_schedule.specs.Held.{EngineCanTurn, HoldsRegion}
 use Rattle.lmn_schedule.specs.Turning.{IsDone}
 use Rattle.lmn_app_drive.specs.declared.driving.RunEnd.TheVariants.{Failed}
-use Rattle.lmn_app_drive.specs.Driving.{Drove, Going, IsRestOf, RunInput}
+use Rattle.lmn_app_drive.specs.Driving.{Drove, Going, IsRestOf, RunInput, stop_end}
 use Rattle.lmn_app_drive.proofs.Goings.{broken_off, concluded, going_first, going_more, stops_budget, stops_full, stops_irreducible, stops_no_memory}
-use Rattle.lmn_verify_coded.specs.declared.executing.Halt.{Halt}
-use Rattle.lmn_verify_coded.specs.declared.executing.Halt.TheVariants as halt
+use Rattle.lmn_app_runs.specs.declared.stop.Stop.{Stop}
+use Rattle.lmn_app_runs.specs.declared.stop.Stop.TheVariants as stop
 use Rattle.lmn_verify_coded.specs.Turning.{SomeIn}
-use Rattle.lmn_verify_coded.specs.Runs.{CodedInput, CodedRun, CodedTurn, HaltsBy, begun, turned, halt_end, halt_word}
+use Rattle.lmn_verify_coded.specs.Runs.{CodedInput, CodedRun, CodedTurn, HaltsBy, begun, turned}
 use Rattle.lmn_verify_coded.specs.Laws.{TablesRunAsRules, given_by_codes}
 use Rattle.lmn_verify_coded.proofs.Halting.{last_line, last_valid}
 use Rattle.lmn_verify_coded.proofs.Turned.{committed, done, embeds, full, no_memory}
@@ -65,43 +65,43 @@ module _ (alike : TurnsAreAlike) (of_chooser : TurnsAreOfChooser) (spares : Spar
     part word bytes took is = subst (λ b. TakesPrefix b old new) (text_is word bytes is) took
 
     -- each end, where all was written, and where a part was
-    abbrev Ends : Halt → Type 0
-    Ends why = (Takes (line ++ end_line (halt_word why) n) old new → Drove input n h' (halt_end why) old new) × (TakesPrefix (line ++ end_line (halt_word why) n) old new → Drove input n h' Failed old new)
+    abbrev Ends : Stop → Type 0
+    Ends why = (Takes (line ++ end_line (word_of_stop why) n) old new → Drove input n h' (stop_end why) old new) × (TakesPrefix (line ++ end_line (word_of_stop why) n) old new → Drove input n h' Failed old new)
 
-    ends : (why : Halt) → HaltsBy g.codes g.budget g.size n last why h' → Ends why
-    ends halt.Irreducible (within, t) =
+    ends : (why : Stop) → HaltsBy g.codes g.budget g.size n last why h' → Ends why
+    ends stop.Irreducible (within, t) =
         let so_far = going old n last run within in
         let o = so_far.ran.holds in
         let turn = over_tree last so_far.ran.last o answer.Irreducible h' t in
         let is_done : IsDone so_far.ran.last = done g.names g.table can.plans g.codes have n g.size last so_far.ran.last o alike turn.0 in
         let stopped = stops_irreducible input n last h' old old so_far (is_done, subst (λ k. HoldsRegion g.names g.table k so_far.ran.last) (sym turn.1) o) in (
-          (λ took. concluded input n h' _ old old new stopped (λ bytes is. all (halt_word halt.Irreducible) bytes took is)),
-          (λ took. broken_off input n h' _ old old new stopped (λ bytes is. part (halt_word halt.Irreducible) bytes took is)),
+          (λ took. concluded input n h' _ old old new stopped (λ bytes is. all (word_of_stop stop.Irreducible) bytes took is)),
+          (λ took. broken_off input n h' _ old old new stopped (λ bytes is. part (word_of_stop stop.Irreducible) bytes took is)),
         )
-    ends halt.Budget (at, some, same) =
+    ends stop.Budget (at, some, same) =
         let so_far = going old n last run (omega (arith, at)) in
         let o = so_far.ran.holds in
         let trees = one_tree last some.tree (tree_over last o.inner) some.is_tree o.tree in
         let stopped = stops_budget input n last h' old old so_far same at
         (embeds g.names g.table can.plans g.codes have n g.size last so_far.ran.last o law (subst (λ f. SomeIn last g.codes (flat f)) trees some.some)) in (
-          (λ took. concluded input n h' _ old old new stopped (λ bytes is. all (halt_word halt.Budget) bytes took is)),
-          (λ took. broken_off input n h' _ old old new stopped (λ bytes is. part (halt_word halt.Budget) bytes took is)),
+          (λ took. concluded input n h' _ old old new stopped (λ bytes is. all (word_of_stop stop.Budget) bytes took is)),
+          (λ took. broken_off input n h' _ old old new stopped (λ bytes is. part (word_of_stop stop.Budget) bytes took is)),
         )
-    ends halt.Full (below, t) =
+    ends stop.Full (below, t) =
         let so_far = going old n last run (omega (arith, below)) in
         let o = so_far.ran.holds in
         let stopped = stops_full input n last h' old old so_far below
         (full g.names g.table can.plans g.codes have n g.size last so_far.ran.last o alike of_chooser h' (over_tree last so_far.ran.last o answer.Full h' t)) in (
-          (λ took. concluded input n h' _ old old new stopped (λ bytes is. all (halt_word halt.Full) bytes took is)),
-          (λ took. broken_off input n h' _ old old new stopped (λ bytes is. part (halt_word halt.Full) bytes took is)),
+          (λ took. concluded input n h' _ old old new stopped (λ bytes is. all (word_of_stop stop.Full) bytes took is)),
+          (λ took. broken_off input n h' _ old old new stopped (λ bytes is. part (word_of_stop stop.Full) bytes took is)),
         )
-    ends halt.NoMemory (below, t) =
+    ends stop.NoMemory (below, t) =
         let so_far = going old n last run (omega (arith, below)) in
         let o = so_far.ran.holds in
         let stopped = stops_no_memory input n last h' old old so_far below
         (no_memory g.names g.table can.plans g.codes have n g.size last so_far.ran.last o alike of_chooser spares h' v (over_tree last so_far.ran.last o answer.NoMemory h' t)) in (
-          (λ took. concluded input n h' _ old old new stopped (λ bytes is. all (halt_word halt.NoMemory) bytes took is)),
-          (λ took. broken_off input n h' _ old old new stopped (λ bytes is. part (halt_word halt.NoMemory) bytes took is)),
+          (λ took. concluded input n h' _ old old new stopped (λ bytes is. all (word_of_stop stop.NoMemory) bytes took is)),
+          (λ took. broken_off input n h' _ old old new stopped (λ bytes is. part (word_of_stop stop.NoMemory) bytes took is)),
         )
 
 -- what is executed of the codes is a run of the rules

@@ -10,10 +10,10 @@ use Rattle.lmn_io.specs.Writing.{Writes, WritesText}
 use Rattle.lmn_io.proofs.WritingLemmas.{writes_both, writes_front}
 use Rattle.lmn_print.specs.Laws.{SomeHeapLine}
 use Rattle.lmn_print.specs.Lines.{IsHeapLine}
-use Rattle.lmn_app_runs.specs.Runs.{end_line}
+use Rattle.lmn_app_runs.specs.Runs.{end_line, word_of_stop}
 use Rattle.lmn_app_drive.specs.declared.driving.RunEnd.TheVariants.{Failed}
-use Rattle.lmn_verify_coded.specs.declared.executing.Halt.{Halt}
-use Rattle.lmn_verify_coded.specs.Runs.{halt_end, halt_word}
+use Rattle.lmn_app_runs.specs.declared.stop.Stop.{Stop}
+use Rattle.lmn_app_drive.specs.Driving.{stop_end}
 use Rattle.lmn_verify_coded.specs.Steps.{EndIsWritten, IsLastText}
 
 module _ (names : List Name) (table : List RuleTree) (h : Heap) where
@@ -30,15 +30,15 @@ module _ (names : List Name) (table : List RuleTree) (h : Heap) where
     last_written x r old mid new f g k =
         writes_both (IsHeapLine false names table h) (λ text. text ≡ end_line word n) (IsLastText names table h word n) x r old mid new f g k (λ text is. (is.0, end_line word n, is.1, refl, is.2))
 
-  module _ (some : SomeHeapLine) (v : Valid h) (why : Halt) (n : ℕ) (old new : Option (List ℕ)) (f k : Faults) where
+  module _ (some : SomeHeapLine) (v : Valid h) (why : Stop) (n : ℕ) (old new : Option (List ℕ)) (f k : Faults) where
     -- all of it was written,
-    pub concluded : {A E : Type 0} (x : A) → Writes {A = A} {E = E} (IsLastText names table h (halt_word why) n) (Ok x) old f new k → EndIsWritten names table h why n (halt_end why) old new
+    pub concluded : {A E : Type 0} (x : A) → Writes {A = A} {E = E} (IsLastText names table h (word_of_stop why) n) (Ok x) old f new k → EndIsWritten names table h why n (stop_end why) old new
     concluded x w =
         let line = some false names table h v in
-        record { line = line.0; is_line = line.1; wrote = inl (refl, w.took (line.0 ++ end_line (halt_word why) n) (line.0, line.1, refl)) }
+        record { line = line.0; is_line = line.1; wrote = inl (refl, w.took (line.0 ++ end_line (word_of_stop why) n) (line.0, line.1, refl)) }
 
     -- or a part
-    pub broken_off : {A E : Type 0} (e : E) → Writes {A = A} {E = E} (IsLastText names table h (halt_word why) n) (Err e) old f new k → EndIsWritten names table h why n Failed old new
+    pub broken_off : {A E : Type 0} (e : E) → Writes {A = A} {E = E} (IsLastText names table h (word_of_stop why) n) (Err e) old f new k → EndIsWritten names table h why n Failed old new
     broken_off e w =
         let line = some false names table h v in
-        record { line = line.0; is_line = line.1; wrote = inr (refl, w.prefix (line.0 ++ end_line (halt_word why) n) (line.0, line.1, refl)) }
+        record { line = line.0; is_line = line.1; wrote = inr (refl, w.prefix (line.0 ++ end_line (word_of_stop why) n) (line.0, line.1, refl)) }

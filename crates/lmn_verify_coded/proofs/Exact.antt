@@ -12,8 +12,8 @@ use Rattle.lmn_schedule_strategy.specs.Choosing.{NoneIn, asked}
 use Rattle.lmn_schedule_strategy.specs.Turns.{AreRunnable, Chooses, HoldsRestsOf, IsTurn}
 use Rattle.lmn_schedule_strategy.specs.declared.turning.Turn.{Turn}
 use Rattle.lmn_schedule_strategy.specs.declared.turning.Turn.TheVariants.{Committed, Irreducible, Full, NoMemory}
-use Rattle.lmn_verify_coded.specs.declared.executing.Halt.{Halt}
-use Rattle.lmn_verify_coded.specs.declared.executing.Halt.TheVariants as halt
+use Rattle.lmn_app_runs.specs.declared.stop.Stop.{Stop}
+use Rattle.lmn_app_runs.specs.declared.stop.Stop.TheVariants as stop
 use Rattle.lmn_verify_coded.specs.Turning.{SomeIn}
 use Rattle.lmn_verify_coded.specs.Runs.{CodedTurn, HaltsBy, IsReducible}
 use Rattle.lmn_verify_coded.specs.Laws.{HaltsAreExact, TurnsAreExact, but_for_memory}
@@ -75,20 +75,20 @@ halts_are_exact codes run budget size n h h' h'' why other w v = by why other w 
         let s = subst (λ f. SomeIn h codes (flat f)) (one_tree h r.tree t.tree r.is_tree t.is_tree) r.some in
         t.turn.0 s.membrane s.among s.rule s.stands s.succeeds
 
-    by : (why other : Halt) → HaltsBy codes budget size n h why h' → HaltsBy codes budget size n h other h'' → why ≡ other
-    by halt.Irreducible halt.Irreducible w v = refl
-    by halt.Irreducible halt.Budget w v = absurd (reducible h' v.1 w.1)
-    by halt.Irreducible halt.Full w v = absurd (cc (turns Irreducible Full w.1 v.1))
-    by halt.Irreducible halt.NoMemory w v = absurd (cc (turns Irreducible NoMemory w.1 v.1))
-    by halt.Budget halt.Irreducible w v = absurd (reducible h'' w.1 v.1)
-    by halt.Budget halt.Budget w v = refl
-    by halt.Budget halt.Full w v = absurd (let e = w.0 in let l = v.0 in omega (arith, e, l))
-    by halt.Budget halt.NoMemory w v = absurd (let e = w.0 in let l = v.0 in omega (arith, e, l))
-    by halt.Full halt.Irreducible w v = absurd (cc (turns Full Irreducible w.1 v.1))
-    by halt.Full halt.Budget w v = absurd (let e = v.0 in let l = w.0 in omega (arith, e, l))
-    by halt.Full halt.Full w v = refl
-    by halt.Full halt.NoMemory w v = absurd (cc (turns Full NoMemory w.1 v.1))
-    by halt.NoMemory halt.Irreducible w v = absurd (cc (turns NoMemory Irreducible w.1 v.1))
-    by halt.NoMemory halt.Budget w v = absurd (let e = v.0 in let l = w.0 in omega (arith, e, l))
-    by halt.NoMemory halt.Full w v = absurd (cc (turns NoMemory Full w.1 v.1))
-    by halt.NoMemory halt.NoMemory w v = refl
+    by : (why other : Stop) → HaltsBy codes budget size n h why h' → HaltsBy codes budget size n h other h'' → why ≡ other
+    by stop.Irreducible stop.Irreducible w v = refl
+    by stop.Irreducible stop.Budget w v = absurd (reducible h' v.1 w.1)
+    by stop.Irreducible stop.Full w v = absurd (cc (turns Irreducible Full w.1 v.1))
+    by stop.Irreducible stop.NoMemory w v = absurd (cc (turns Irreducible NoMemory w.1 v.1))
+    by stop.Budget stop.Irreducible w v = absurd (reducible h'' w.1 v.1)
+    by stop.Budget stop.Budget w v = refl
+    by stop.Budget stop.Full w v = absurd (let e = w.0 in let l = v.0 in omega (arith, e, l))
+    by stop.Budget stop.NoMemory w v = absurd (let e = w.0 in let l = v.0 in omega (arith, e, l))
+    by stop.Full stop.Irreducible w v = absurd (cc (turns Full Irreducible w.1 v.1))
+    by stop.Full stop.Budget w v = absurd (let e = v.0 in let l = w.0 in omega (arith, e, l))
+    by stop.Full stop.Full w v = refl
+    by stop.Full stop.NoMemory w v = absurd (cc (turns Full NoMemory w.1 v.1))
+    by stop.NoMemory stop.Irreducible w v = absurd (cc (turns NoMemory Irreducible w.1 v.1))
+    by stop.NoMemory stop.Budget w v = absurd (let e = v.0 in let l = w.0 in omega (arith, e, l))
+    by stop.NoMemory stop.Full w v = absurd (cc (turns NoMemory Full w.1 v.1))
+    by stop.NoMemory stop.NoMemory w v = refl

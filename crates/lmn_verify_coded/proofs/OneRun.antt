@@ -6,17 +6,18 @@ use Rattle.lmn_io.specs.Taking.{Takes}
 use Rattle.lmn_instr_code.specs.declared.instr.Code.{Code}
 use Rattle.lmn_app_drive.specs.declared.driving.RunEnd.{RunEnd}
 use Rattle.lmn_print.specs.Laws.{OneHeapLine}
-use Rattle.lmn_app_runs.specs.Runs.{end_line}
+use Rattle.lmn_app_runs.specs.Runs.{end_line, word_of_stop}
 use Rattle.lmn_verify_laws.specs.Laws.{VerifiedAreRunnable}
 use Rattle.lmn_schedule_strategy.specs.Turns.{AreRunnable}
 use Rattle.lmn_schedule_strategy.specs.declared.turning.Turn.TheVariants as turn
 use Rattle.lmn_verify_renaming.specs.Renamed.{SameButRoom, inverse, renamed}
 use Rattle.lmn_verify_renaming.proofs.Alike.{one_solid_is_renamed}
 use Rattle.lmn_verify_renaming.proofs.Heads.{renamed_again}
-use Rattle.lmn_verify_coded.specs.declared.executing.Halt.{Halt}
-use Rattle.lmn_verify_coded.specs.declared.executing.Halt.TheVariants as halt
+use Rattle.lmn_app_runs.specs.declared.stop.Stop.{Stop}
+use Rattle.lmn_app_runs.specs.declared.stop.Stop.TheVariants as stop
+use Rattle.lmn_app_drive.specs.Driving.{stop_end}
 use Rattle.lmn_verify_coded.specs.Laws.{AreVerified, CameToEnd, RunsAreOne}
-use Rattle.lmn_verify_coded.specs.Runs.{CodedRun, CodedTurn, HaltsBy, Wrote, begun, halt_end, halt_word, turned}
+use Rattle.lmn_verify_coded.specs.Runs.{CodedRun, CodedTurn, HaltsBy, Wrote, begun, turned}
 use Rattle.lmn_verify_coded.proofs.Choosing.{halts_alike, turns_alike}
 use Rattle.lmn_verify_coded.proofs.OneStep.{AreOne, Grounds, one_turn}
 use Rattle.lmn_verify_coded.proofs.SameBut.{same_back, same_renamed, solid_there}
@@ -24,17 +25,17 @@ use Rattle.lmn_verify_coded.proofs.SameBut.{same_back, same_renamed, solid_there
 -- ---- why a run stops
 
 -- it isn't for want of memory
-abbrev Comes : Halt → Type 0
-Comes halt.Irreducible = Unit {0}
-Comes halt.Budget = Unit {0}
-Comes halt.Full = Unit {0}
-Comes halt.NoMemory = ⊥
+abbrev Comes : Stop → Type 0
+Comes stop.Irreducible = Unit {0}
+Comes stop.Budget = Unit {0}
+Comes stop.Full = Unit {0}
+Comes stop.NoMemory = ⊥
 
-comes : (why : Halt) (end : RunEnd) → CameToEnd end → end ≡ halt_end why → Comes why
-comes halt.Irreducible end c e = tt
-comes halt.Budget end c e = tt
-comes halt.Full end c e = tt
-comes halt.NoMemory end c e = subst CameToEnd e c
+comes : (why : Stop) (end : RunEnd) → CameToEnd end → end ≡ stop_end why → Comes why
+comes stop.Irreducible end c e = tt
+comes stop.Budget end c e = tt
+comes stop.Full end c e = tt
+comes stop.NoMemory end c e = subst CameToEnd e c
 
 -- all of it was written
 all_written : (text : List ℕ) (due end : RunEnd) (old new : Option (List ℕ)) → CameToEnd end → Wrote text due end old new → (end ≡ due) × Takes text old new
@@ -47,11 +48,11 @@ one_taken text None new newer u w = u ∙ sym w
 one_taken text (Some front) new newer u w = u ∙ sym w
 
 -- nothing is past the budget
-within : (codes : List Code) (budget size n : ℕ) (h h' : Heap) (why : Halt) → HaltsBy codes budget size n h why h' → n ≤ budget
-within codes budget size n h h' halt.Irreducible w = w.0
-within codes budget size n h h' halt.Budget w = let e = w.0 in omega (arith, e)
-within codes budget size n h h' halt.Full w = let l = w.0 in omega (arith, l)
-within codes budget size n h h' halt.NoMemory w = let l = w.0 in omega (arith, l)
+within : (codes : List Code) (budget size n : ℕ) (h h' : Heap) (why : Stop) → HaltsBy codes budget size n h why h' → n ≤ budget
+within codes budget size n h h' stop.Irreducible w = w.0
+within codes budget size n h h' stop.Budget w = let e = w.0 in omega (arith, e)
+within codes budget size n h h' stop.Full w = let l = w.0 in omega (arith, l)
+within codes budget size n h h' stop.NoMemory w = let l = w.0 in omega (arith, l)
 
 module _ (on : Grounds) (runnable : VerifiedAreRunnable) (codes : List Code) (verified : AreVerified codes) (size : ℕ) where
   abbrev can : AreRunnable codes
@@ -68,16 +69,16 @@ module _ (on : Grounds) (runnable : VerifiedAreRunnable) (codes : List Code) (ve
       one_turn on codes verified size a b before c d t u v w
 
   -- where the one stops before the budget, and not for want of memory, the other doesn't commit
-  stops : (a b : Heap) → AreOne a b → (budget n : ℕ) (why : Halt) (h' k' : Heap) → Comes why → HaltsBy codes budget size n a why h' → n < budget → CodedTurn codes size b turn.Committed k' → ⊥
-  stops a b one budget n halt.Irreducible h' k' c w l t =
+  stops : (a b : Heap) → AreOne a b → (budget n : ℕ) (why : Stop) (h' k' : Heap) → Comes why → HaltsBy codes budget size n a why h' → n < budget → CodedTurn codes size b turn.Committed k' → ⊥
+  stops a b one budget n stop.Irreducible h' k' c w l t =
       let e = turns_alike one.numbers a b one.same codes one.other_valid size can turn.Irreducible turn.Committed h' k' w.1 t in absurd (cc e)
-  stops a b one budget n halt.Budget h' k' c w l t = let e = w.0 in absurd (omega (arith, e, l))
-  stops a b one budget n halt.Full h' k' c w l t =
+  stops a b one budget n stop.Budget h' k' c w l t = let e = w.0 in absurd (omega (arith, e, l))
+  stops a b one budget n stop.Full h' k' c w l t =
       let e = turns_alike one.numbers a b one.same codes one.other_valid size can turn.Full turn.Committed h' k' w.1 t in absurd (cc e)
-  stops a b one budget n halt.NoMemory h' k' c w l t = absurd c
+  stops a b one budget n stop.NoMemory h' k' c w l t = absurd c
 
   -- So a run that stopped has no fewer commits than the other.
-  no_more : (h k : Heap) → AreOne h k → (budget n : ℕ) (a h' : Heap) (why : Halt) → CodedRun codes size h n a → HaltsBy codes budget size n a why h' → Comes why →
+  no_more : (h k : Heap) → AreOne h k → (budget n : ℕ) (a h' : Heap) (why : Stop) → CodedRun codes size h n a → HaltsBy codes budget size n a why h' → Comes why →
       (m : ℕ) (b : Heap) → CodedRun codes size k m b → m ≤ budget → n < m → ⊥
   no_more h k one budget n a h' why r w c m b begun l d = absurd (omega (arith, d))
   no_more h k one budget n a h' why r w c m b (turned {n = j} {h' = x} s t v) l d = elim (in_order n j) [
@@ -105,8 +106,8 @@ runs_are_one on runnable lines g verified other x first second n m h k end last 
     record { valid = first.valid; unmarked = first.unmarked; other_valid = second.valid; other_unmarked = second.unmarked; numbers = q.0; same = q.1 }) in
     let a = u.halted in
     let b = w.halted in
-    let written = all_written (u.line ++ end_line (halt_word u.why) n) (halt_end u.why) end old new c u.wrote in
-    let rewritten = all_written (w.line ++ end_line (halt_word w.why) m) (halt_end w.why) last old newer d w.wrote in
+    let written = all_written (u.line ++ end_line (word_of_stop u.why) n) (stop_end u.why) end old new c u.wrote in
+    let rewritten = all_written (w.line ++ end_line (word_of_stop w.why) m) (stop_end w.why) last old newer d w.wrote in
     let comes_first = comes u.why end c written.0 in
     let comes_second = comes w.why last d rewritten.0 in
     let count : n ≡ m = elim (in_order n m) [
@@ -121,8 +122,8 @@ runs_are_one on runnable lines g verified other x first second n m h k end last 
     (subst (λ z. HaltsBy g.codes g.budget g.size z b.last w.why k) (sym count) b.halts) in
     let line : u.line ≡ w.line = (let s = u.is_line in
     lines false g.names g.table b.last u.line w.line still.other_valid (s.0, solid_there still.numbers a.last b.last still.same s.0 s.1, s.2) w.is_line) in
-    let text : u.line ++ end_line (halt_word u.why) n ≡ w.line ++ end_line (halt_word w.why) m = λ i. line i ++ end_line (halt_word (why i)) (count i) in (
+    let text : u.line ++ end_line (word_of_stop u.why) n ≡ w.line ++ end_line (word_of_stop w.why) m = λ i. line i ++ end_line (word_of_stop (why i)) (count i) in (
       count,
-      written.0 ∙ ap halt_end why ∙ sym rewritten.0,
-      one_taken (w.line ++ end_line (halt_word w.why) m) old new newer (subst (λ z. Takes z old new) text written.1) rewritten.1,
+      written.0 ∙ ap stop_end why ∙ sym rewritten.0,
+      one_taken (w.line ++ end_line (word_of_stop w.why) m) old new newer (subst (λ z. Takes z old new) text written.1) rewritten.1,
     )

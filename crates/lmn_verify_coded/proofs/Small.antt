@@ -24,11 +24,12 @@ use Rattle.lmn_schedule_strategy.specs.Turns.{Chooses, HoldsRestsOf, IsAnswer}
 use Rattle.lmn_schedule_strategy.specs.declared.turning.Turn.{Turn}
 use Rattle.lmn_schedule_strategy.specs.declared.turning.Turn.TheVariants.{Committed, Full}
 use Rattle.lmn_app_drive.specs.declared.driving.RunEnd.TheVariants as end
-use Rattle.lmn_verify_coded.specs.declared.executing.Halt.{Halt}
-use Rattle.lmn_verify_coded.specs.declared.executing.Halt.TheVariants as halt
+use Rattle.lmn_app_runs.specs.declared.stop.Stop.{Stop}
+use Rattle.lmn_app_runs.specs.declared.stop.Stop.TheVariants as stop
 use Rattle.lmn_schedule_strategy.specs.Counting.{AsksRules, asks_all, asks_none, asks_until}
+use Rattle.lmn_app_drive.specs.Driving.{stop_end}
 use Rattle.lmn_verify_coded.specs.Counting.{RunAsks, more_asked, none_asked}
-use Rattle.lmn_verify_coded.specs.Runs.{CodedRun, HaltsBy, begun, turned, halt_end}
+use Rattle.lmn_verify_coded.specs.Runs.{CodedRun, HaltsBy, begun, turned}
 use Rattle.lmn_verify_coded.specs.Examples.{IdleCodeCommits, IdleCodeSucceeds, NoCodesAreExecuted, NoCodesCanTurn, NoRuleIsAsked, idle, ruled}
 
 -- ---- without codes
@@ -106,7 +107,7 @@ pub no_codes_are_executed : NoCodesAreExecuted
 unfolding digits
 no_codes_are_executed names budget line is_line = (
   record {
-    why = halt.Irreducible;
+    why = stop.Irreducible;
     halted = record {
       last = across;
       run = begun;
@@ -122,11 +123,11 @@ no_codes_are_executed names budget line is_line = (
   ]),
 )
   where
-    by_budget : (n : ℕ) (last h : Heap) (why : Halt) → end.Budget ≡ halt_end why → HaltsBy [] budget 3 n last why h → ⊥
-    by_budget n last h halt.Irreducible e w = absurd (cc e)
-    by_budget n last h halt.Budget e w = nothing_at last w.1.some.membrane w.1.some.rule w.1.some.succeeds
-    by_budget n last h halt.Full e w = absurd (cc e)
-    by_budget n last h halt.NoMemory e w = absurd (cc e)
+    by_budget : (n : ℕ) (last h : Heap) (why : Stop) → end.Budget ≡ stop_end why → HaltsBy [] budget 3 n last why h → ⊥
+    by_budget n last h stop.Irreducible e w = absurd (cc e)
+    by_budget n last h stop.Budget e w = nothing_at last w.1.some.membrane w.1.some.rule w.1.some.succeeds
+    by_budget n last h stop.Full e w = absurd (cc e)
+    by_budget n last h stop.NoMemory e w = absurd (cc e)
 
 -- ---- with code that changes nothing
 

@@ -15,7 +15,7 @@ use Rattle.lmn_verify_code.specs.Verified.{IsVerified}
 use Rattle.lmn_schedule_strategy.specs.Turns.{AreRunnable}
 use Rattle.lmn_schedule_strategy.specs.declared.turning.Turn.{Turn}
 use Rattle.lmn_schedule_strategy.specs.declared.turning.Turn.TheVariants.{Committed, Irreducible, Full, NoMemory}
-use Rattle.lmn_verify_coded.specs.declared.executing.Halt.{Halt}
+use Rattle.lmn_app_runs.specs.declared.stop.Stop.{Stop}
 use Rattle.lmn_verify_coded.specs.Runs.{CodedInput, CodedTurn, Executed, HaltsBy}
 
 -- What a run of rules is given, as that of their codes: the root is asked first in each turn, and the last line alone is written, in the
@@ -52,7 +52,7 @@ TurnsAreExact = (codes : List Code) → AreRunnable codes → (size : ℕ) (h h'
 
 -- A run of them stops at a heap for one reason.
 abbrev pub HaltsAreExact : Type 0
-HaltsAreExact = (codes : List Code) → AreRunnable codes → (budget size n : ℕ) (h h' h'' : Heap) (why other : Halt) →
+HaltsAreExact = (codes : List Code) → AreRunnable codes → (budget size n : ℕ) (h h' h'' : Heap) (why other : Stop) →
     HaltsBy codes budget size n h why h' → HaltsBy codes budget size n h other h'' → why ≡ other
 
 -- each of these codes is verified, of as many rules as they are

@@ -1,5 +1,5 @@
 -- Runs of codes over heaps, and what is written of them.
-use Rattle.std.specs.Prelude.{ℕ, ◌≡◌, ◌<◌, ◌≤◌, ◌+◌, ◌++◌, ◌⊎◌, List, Option, codes}
+use Rattle.std.specs.Prelude.{ℕ, ◌≡◌, ◌<◌, ◌≤◌, ◌+◌, ◌++◌, ◌⊎◌, List, Option}
 use Rattle.lmn_base.specs.declared.rule.RuleTree.{RuleTree}
 use Rattle.lmn_base.specs.declared.solid.Solid.{Solid}
 use Rattle.lmn_congruence.specs.Rules.{Name}
@@ -12,14 +12,14 @@ use Rattle.lmn_io.specs.Taking.{Takes, TakesPrefix}
 use Rattle.lmn_schedule_strategy.specs.Turns.{IsTurn}
 use Rattle.lmn_schedule_strategy.specs.declared.turning.Turn.{Turn}
 use Rattle.lmn_schedule_strategy.specs.declared.turning.Turn.TheVariants as turn
-use Rattle.lmn_adequacy.specs.Runs.{irreducible, budget_done, full}
-use Rattle.lmn_app_runs.specs.Runs.{end_line, end_word}
+use Rattle.lmn_app_drive.specs.Driving.{stop_end}
+use Rattle.lmn_app_runs.specs.Runs.{end_line, word_of_stop}
 use Rattle.lmn_flatten_plain.specs.SolidLines.{as_level}
 use Rattle.lmn_flatten_plain.specs.Words.{line_of}
 use Rattle.lmn_app_drive.specs.declared.driving.RunEnd.{RunEnd}
-use Rattle.lmn_app_drive.specs.declared.driving.RunEnd.TheVariants.{Irreducible, Budget, Full, NoMemory, Failed}
-use Rattle.lmn_verify_coded.specs.declared.executing.Halt.{Halt}
-use Rattle.lmn_verify_coded.specs.declared.executing.Halt.TheVariants as halt
+use Rattle.lmn_app_drive.specs.declared.driving.RunEnd.TheVariants.{Failed}
+use Rattle.lmn_app_runs.specs.declared.stop.Stop.{Stop}
+use Rattle.lmn_app_runs.specs.declared.stop.Stop.TheVariants as stop
 use Rattle.lmn_verify_coded.specs.Turning.{SomeIn}
 
 -- A turn of codes on a heap, where the root is asked first: the heap is h' then.
@@ -41,30 +41,17 @@ pub record IsReducible (codes : List Code) (h : Heap) : Type 0 where
 
 -- Why a run stops at the heap h after n commits: no code succeeds; the budget is done, and some code succeeds; what is chosen would leave
 -- more items than the size; memory is wanting for what is chosen, which would not. The heap is h' then.
-abbrev pub HaltsBy : List Code → (budget size n : ℕ) → Heap → Halt → Heap → Type 0
-HaltsBy codes budget size n h halt.Irreducible h' = (n ≤ budget) × CodedTurn codes size h turn.Irreducible h'
-HaltsBy codes budget size n h halt.Budget h' = (n ≡ budget) × IsReducible codes h × (h' ≡ h)
-HaltsBy codes budget size n h halt.Full h' = (n < budget) × CodedTurn codes size h turn.Full h'
-HaltsBy codes budget size n h halt.NoMemory h' = (n < budget) × CodedTurn codes size h turn.NoMemory h'
+abbrev pub HaltsBy : List Code → (budget size n : ℕ) → Heap → Stop → Heap → Type 0
+HaltsBy codes budget size n h stop.Irreducible h' = (n ≤ budget) × CodedTurn codes size h turn.Irreducible h'
+HaltsBy codes budget size n h stop.Budget h' = (n ≡ budget) × IsReducible codes h × (h' ≡ h)
+HaltsBy codes budget size n h stop.Full h' = (n < budget) × CodedTurn codes size h turn.Full h'
+HaltsBy codes budget size n h stop.NoMemory h' = (n < budget) × CodedTurn codes size h turn.NoMemory h'
 
 -- A run from h that stopped after n commits. The heap is h' then.
-pub record HaltedRun (codes : List Code) (budget size : ℕ) (h : Heap) (n : ℕ) (why : Halt) (h' : Heap) : Type 0 where
+pub record HaltedRun (codes : List Code) (budget size : ℕ) (h : Heap) (n : ℕ) (why : Stop) (h' : Heap) : Type 0 where
   pub last : Heap
   pub run : CodedRun codes size h n last
   pub halts : HaltsBy codes budget size n last why h'
-
--- the word of the end line, and the answer
-abbrev pub halt_word : Halt → List ℕ
-halt_word halt.Irreducible = end_word irreducible
-halt_word halt.Budget = end_word budget_done
-halt_word halt.Full = end_word full
-halt_word halt.NoMemory = codes "no memory"
-
-abbrev pub halt_end : Halt → RunEnd
-halt_end halt.Irreducible = Irreducible
-halt_end halt.Budget = Budget
-halt_end halt.Full = Full
-halt_end halt.NoMemory = NoMemory
 
 -- What a run is given: a list of names and a table of rules, by which its heap is printed, the codes, the budget and the size, and the
 -- heap at the start.
@@ -87,8 +74,8 @@ IsPlainLine names table h line = (x : Solid) × HasSolid h x × (line ≡ line_o
 -- A run that ended so: why it stopped after n commits, with the heap h', and what the sink took. That is the plain line of the last heap,
 -- and the end line.
 pub record Executed (g : CodedInput) (n : ℕ) (h' : Heap) (end : RunEnd) (old new : Option (List ℕ)) : Type 0 where
-  pub why : Halt
+  pub why : Stop
   pub halted : HaltedRun g.codes g.budget g.size g.first n why h'
   pub line : List ℕ
   pub is_line : IsPlainLine g.names g.table halted.last line
-  pub wrote : Wrote (line ++ end_line (halt_word why) n) (halt_end why) end old new
+  pub wrote : Wrote (line ++ end_line (word_of_stop why) n) (stop_end why) end old new

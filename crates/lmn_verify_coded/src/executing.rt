@@ -1,37 +1,24 @@
 ghost use Rattle.std.specs.Prelude.{◌≡◌, ◌<◌, ◌≤◌, ◌++◌, ◌-◌, ◌^◌, ℕ, List, OnOk, OnErr};
 ghost use Rattle.lmn_io.specs.Counts.{FailedLast, NoneFailed};
-ghost use Rattle.lmn_io.specs.Writing.{Writes, WritesText};
-ghost use Rattle.lmn_app_runs.specs.Runs.{end_line};
+ghost use Rattle.lmn_io.specs.Writing.{Writes};
+ghost use Rattle.lmn_app_runs.specs.Runs.{word_of_stop};
 ghost use Rattle.lmn_schedule_strategy.specs.Counting.{CountsAsked};
 ghost use Rattle.lmn_verify_coded.specs.Turning.{CodedCanTurn};
 ghost use Rattle.lmn_verify_coded.specs.Counting.{CountsRun};
-ghost use Rattle.lmn_verify_coded.specs.Runs.{Executed, HaltedRun, halt_end, halt_word};
+ghost use Rattle.lmn_verify_coded.specs.Runs.{Executed, HaltedRun};
 ghost use Rattle.lmn_verify_coded.specs.Steps.{EndIsWritten, CountsStep, IsLastText, MakesStep};
 
 use crate::running::Coded;
-use itoa::Buffer;
-use lmn_app_drive::RunEnd;
+use lmn_app_drive::{RunEnd, write_end};
+use lmn_app_runs::Stop;
 use lmn_base::{Names, Plain};
-use lmn_io::{Failed, Sink, put_all};
+use lmn_io::{Failed, Sink};
 use lmn_machine::Steps;
 use lmn_print::{heaps_have_one_line, print};
 use lmn_schedule_strategy::Turn;
 use lmn_store_trait::LinkStore;
 use std::alloc::Global;
 use std::sync::ledger::Ledger;
-
-/// Why a run stopped.
-#[derive(Clone, Copy)]
-enum Halt {
-    /// No code succeeds.
-    Irreducible,
-    /// As many commits as the budget allows are done, and some code succeeds.
-    Budget,
-    /// The next commit would leave more items than are allowed.
-    Full,
-    /// Memory was wanting for the next commit.
-    NoMemory,
-}
 
 /// Makes turns of codes that have made no commit, at most as many as the budget, until nothing more is to be done. Then it writes the
 /// plain line of the process, and the end line: why it stopped, and after how many commits. `plain` has the rules by which those in
@@ -69,7 +56,7 @@ fn run<S: LinkStore, L: Ledger>(
     coded: &mut Coded<S>,
     budget: u64,
     steps: &mut Steps<L>,
-) -> Halt
+) -> Stop
     requires run { CodedCanTurn (S.heap coded.old.machine.store) coded.old.codes coded.old.size }
     requires commits { coded.old.commits ≡ 0 }
     requires budget { budget ≤ 2 ^ 63 - 1 }
@@ -84,9 +71,9 @@ fn run<S: LinkStore, L: Ledger>(
         }
     }
     if coded.reducible(steps) {
-        Halt::Budget
+        Stop::Budget
     } else {
-        Halt::Irreducible
+        Stop::Irreducible
     }
 }
 
@@ -95,7 +82,7 @@ fn step<S: LinkStore, L: Ledger>(
     alloc: Global,
     coded: &mut Coded<S>,
     steps: &mut Steps<L>,
-) -> Option<Halt>
+) -> Option<Stop>
     requires run { CodedCanTurn (S.heap coded.old.machine.store) coded.old.codes coded.old.size }
     requires commits { coded.old.commits < 2 ^ 63 }
     ensures goes { MakesStep coded.old.codes coded.old.size (S.heap coded.old.machine.store) result (S.heap coded.new.machine.store) }
@@ -106,9 +93,9 @@ fn step<S: LinkStore, L: Ledger>(
 {
     match coded.turn(alloc, steps) {
         Turn::Committed => None,
-        Turn::Irreducible => Some(Halt::Irreducible),
-        Turn::Full => Some(Halt::Full),
-        Turn::NoMemory => Some(Halt::NoMemory),
+        Turn::Irreducible => Some(Stop::Irreducible),
+        Turn::Full => Some(Stop::Full),
+        Turn::NoMemory => Some(Stop::NoMemory),
     }
 }
 
@@ -117,7 +104,7 @@ fn conclude<S: LinkStore, O: Sink>(
     coded: &mut Coded<S>,
     plain: &Plain,
     names: &Names,
-    why: Halt,
+    why: Stop,
     out: &mut O,
 ) -> RunEnd
     requires run { CodedCanTurn (S.heap coded.old.machine.store) coded.old.codes coded.old.size }
@@ -129,7 +116,7 @@ fn conclude<S: LinkStore, O: Sink>(
 {
     heaps_have_one_line();
     match write_last(coded, plain, names, why, out) {
-        Ok(()) => end_of(why),
+        Ok(()) => RunEnd::from(why),
         Err(Failed) => RunEnd::Failed,
     }
 }
@@ -139,54 +126,14 @@ fn write_last<S: LinkStore, O: Sink>(
     coded: &mut Coded<S>,
     plain: &Plain,
     names: &Names,
-    why: Halt,
+    why: Stop,
     out: &mut O,
 ) -> Result<(), Failed>
     requires run { CodedCanTurn (S.heap coded.old.machine.store) coded.old.codes coded.old.size }
-    ensures writes { Writes (IsLastText names.now plain.now.rules (S.heap coded.old.machine.store) (halt_word why) coded.old.commits) result (O.told out.old) (O.faults out.old) (O.told out.new) (O.faults out.new) }
+    ensures writes { Writes (IsLastText names.now plain.now.rules (S.heap coded.old.machine.store) (word_of_stop why) coded.old.commits) result (O.told out.old) (O.faults out.old) (O.told out.new) (O.faults out.new) }
     ensures kept { S.heap coded.new.machine.store ≡ S.heap coded.old.machine.store }
     ensures keeps { coded.new ≡ record coded.old { machine = coded.new.machine } }
 {
     print(coded.store(), plain, names, false, out)?;
     write_end(why, coded.commits(), out)
-}
-
-/// How a run ended that stopped so and was written.
-fn end_of(why: Halt) -> RunEnd
-    ensures { result ≡ halt_end why }
-{
-    match why {
-        Halt::Irreducible => RunEnd::Irreducible,
-        Halt::Budget => RunEnd::Budget,
-        Halt::Full => RunEnd::Full,
-        Halt::NoMemory => RunEnd::NoMemory,
-    }
-}
-
-/// Writes the end line.
-fn write_end<O: Sink>(why: Halt, commits: u64, out: &mut O) -> Result<(), Failed>
-    ensures { WritesText (end_line (halt_word why) commits) result (O.told out.old) (O.faults out.old) (O.told out.new) (O.faults out.new) }
-{
-    put_all(
-        out,
-        &[
-            b"% ".as_slice(),
-            word(why),
-            b" after ".as_slice(),
-            Buffer::new().format(commits).as_bytes(),
-            b"\n".as_slice(),
-        ],
-    )
-}
-
-/// The word of the end line.
-fn word(why: Halt) -> &'static [u8]
-    ensures { result.now ≡ halt_word why }
-{
-    match why {
-        Halt::Irreducible => b"irreducible",
-        Halt::Budget => b"budget",
-        Halt::Full => b"full",
-        Halt::NoMemory => b"no memory",
-    }
 }

@@ -14,17 +14,11 @@ ghost use Rattle.lmn_verify_code.specs.Verified.{IsVerified};
 
 use crate::line::read_line;
 use crate::operand::place_of;
-use lmn_base::{Names, NoMemory, Pos, Refusal, Rows, TextFault};
+use lmn_base::{Names, NoMemory, Pos, Refusal, RefusalCode, Rows, TextFault};
 use lmn_instr_code::{Code, Instr};
 use lmn_instr_reading::is_decimal;
 use lmn_verify_code::{is_commit, is_proceed, is_verified};
 use std::alloc::Global;
-
-/// The code of a line that doesn't stand in its place.
-const NOT_A_LISTING: u8 = 81;
-
-/// The code of a listing of which the code of a rule isn't verified.
-const NOT_VERIFIED: u8 = 82;
 
 /// An instruction that was read, and where its line ends.
 #[derive(Drop)]
@@ -53,10 +47,7 @@ struct RuleRead {
 fn not_a_listing(line: u64) -> TextFault
     ensures { result ≡ fault.Refused (record { code = 81; pos = record { line = line; column = 1 } }) }
 {
-    TextFault::Refused(Refusal {
-        code: NOT_A_LISTING,
-        pos: Pos { line, column: 1 },
-    })
+    TextFault::Refused(RefusalCode::NotAListing.at(Pos { line, column: 1 }))
 }
 
 /// What stands from a place on.
@@ -286,7 +277,7 @@ pub fn read(
     let codes = read_codes(alloc, listing, rules, names)?;
     match first_unverified(alloc, codes.as_slice(), rules)? {
         Some(line) => Err(TextFault::Refused(Refusal {
-            code: NOT_VERIFIED,
+            code: RefusalCode::CodeNotVerified as u8,
             pos: Pos { line, column: 1 },
         })),
         None => Ok(codes),

@@ -10,7 +10,7 @@ ghost use Rattle.lmn_weight.specs.Plains.{AreSmall, EachLowered, IsFirstNotLower
 use crate::index::{Index, fill};
 use crate::weights::{Weights, functor_weight};
 use arrayvec::ArrayVec;
-use lmn_base::{CtxUse, Leaf, Level, Plain, Refusal, RuleTree};
+use lmn_base::{CtxUse, Leaf, Level, Plain, Refusal, RefusalCode, RuleTree};
 use lmn_guards::{GuardPlan, TypeKind, TypedUse};
 
 /// Whether a type is `int`.
@@ -297,7 +297,7 @@ pub fn bound(weights: &Weights, plain: &Plain, plans: &[GuardPlan]) -> Result<u6
         let rule = plain.rules.at(k);
         if !is_lowered(weights, places, rule, &plans[k]) {
             return Err(Refusal {
-                code: 86,
+                code: RefusalCode::RuleNotLowered as u8,
                 pos: rule.pos,
             });
         }

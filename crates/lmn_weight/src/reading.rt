@@ -11,7 +11,7 @@ ghost use Rattle.lmn_weight.specs.Plains.{AreSmall};
 
 use crate::told::Told;
 use crate::weights::{Weights, is_integer, same_functor};
-use lmn_base::{Functor, Label, Names, NoMemory, Pos, Refusal, Rows, TextFault};
+use lmn_base::{Functor, Label, Names, NoMemory, Pos, RefusalCode, Rows, TextFault};
 use lmn_instr_reading::{last_space, next_feed, number_written, read_functor};
 use std::alloc::Global;
 
@@ -128,10 +128,7 @@ fn take_line(told: &mut Told, line: &[u8], names: &mut Names) -> Result<bool, No
 fn wrong(line: u64) -> TextFault
     ensures { result ≡ Refused (record { code = 85; pos = record { line = line; column = 1 } }) }
 {
-    TextFault::Refused(Refusal {
-        code: 85,
-        pos: Pos { line, column: 1 },
-    })
+    TextFault::Refused(RefusalCode::BadWeight.at(Pos { line, column: 1 }))
 }
 
 /// The weights that were told. What wasn't weighs nothing.

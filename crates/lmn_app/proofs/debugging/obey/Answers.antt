@@ -34,4 +34,4 @@ returns-in-Ok g c = λ program a.
     let did = subst (λ orders. Debugged later (course (chosen First) session_size held.solid) orders c.debug-end.result old new) c.as_slice-in-Ok.ensures
     (c.debug-end.ensures.debugged (chosen First) c.requires.gives known held) in
     subst (λ ending. EndsDebugged program c.args.script.now ending old new count count') (sym c.ending_of.ensures)
-    (debugged_ended behind program c.args.script.now c.args.names.now read.plain read.plans a later adds c.len.ensures.names _ c.requires.fits held c.in-Ok.orders c.in-Ok.ensures.ok c.debug-end.result old new count count' did c.debug-end.ensures.same c.debug-end.ensures.rose)
+    (debugged_ended behind program c.args.script.now c.args.names.now read.plain read.plans a later adds c.len.ensures.names _ c.requires.fits held c.in-Ok.orders c.in-Ok.ensures.ok c.debug-end.result old new count count' did c.debug-end.ensures.counts)

@@ -11,7 +11,7 @@ returns-in-Ok-clause-drove g c k solid told s =
     let h = g.S.LinkStore.heap c.args.engine.now.machine.store in
     let h' = g.S.LinkStore.heap c.write_rest.new.engine.machine.store in
     let new = g.O.Sink.told c.write_rest.new.out in
-    subst (λ a. Concludes s h' a new) (sym c.end_of.ensures)
+    subst (λ a. Concludes s h' a new) (sym c.from.ensures)
     (subst (λ k. Concludes s k (stop_end c.args.stop) new) (sym c.write_rest.ensures.kept)
     (record { drove = concluded r n h c.args.stop told (g.O.Sink.told c.args.out.now) new s (λ bytes is. c.in-Ok.ensures.writes.took bytes is); before = refl; last = refl }))
 

@@ -8,7 +8,7 @@ use Rattle.lmn_adequacy.specs.Runs.{Chooser}
 use Rattle.lmn_app_drive.specs.Asking.{AsksFew}
 use Rattle.lmn_app_drive.specs.AskingOn.{AskedSoFar, AsksOn}
 use Rattle.lmn_app_drive.specs.Answers.{BrokeByAnswers, GoingByAnswers, StepsOnByAnswers, StoppedByAnswers}
-use Rattle.lmn_app_drive.specs.declared.driving.Stop.TheVariants as stop
+use Rattle.lmn_app_runs.specs.declared.stop.Stop.TheVariants as stop
 use Rattle.lmn_schedule_strategy.specs.Counting.{CountsAsked}
 use Rattle.lmn_app_drive.proofs.Asked.{asked_all, asked_none, asked_still, carried_codes}
 use Rattle.lmn_app_drive.proofs.Answered.{carried, first_broke, first_going, irreducible_stops, reducible_stops}

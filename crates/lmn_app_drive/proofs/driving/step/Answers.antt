@@ -8,7 +8,7 @@ use Rattle.lmn_app_drive.specs.Driving.{Broke, RunInput, Going, Stopped, given_b
 use Rattle.lmn_app_drive.specs.Asking.{AsksFew}
 use Rattle.lmn_app_drive.specs.AskingOn.{AskedSoFar}
 use Rattle.lmn_app_drive.specs.Answers.{BrokeByAnswers, GoingByAnswers, StoppedByAnswers}
-use Rattle.lmn_app_drive.specs.declared.driving.Stop.TheVariants as stop
+use Rattle.lmn_app_runs.specs.declared.stop.Stop.TheVariants as stop
 use Rattle.lmn_app_drive.proofs.Asked.{asked_all, asked_last, asked_more, asks_once}
 use Rattle.lmn_app_drive.proofs.Answered.{by_answer, commits_and_breaks, commits_on, full_by, irreducible_by, no_memory_by}
 use Rattle.lmn_app_drive.proofs.Goings.{broke_more, going_more, stops_full, stops_irreducible, stops_no_memory}

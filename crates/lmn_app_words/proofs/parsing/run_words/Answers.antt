@@ -20,7 +20,10 @@ returns c = λ run tells.
     let folded = one_text-rows found (codes "folded") in
     let seed = c.number_or-seed.ensures ∙ ap (λ o. unwrap_or (option_and_then number_written o) 0) (c.get_str-4.ensures ∙ first_value-rows found (codes "seed")) in
     let order = c.order_or_first.ensures ∙ ap (λ o. unwrap_or (option_and_then order_named o) name.First) (c.get_str-5.ensures ∙ first_value-rows found (codes "order")) in
-    let words : RunWords = record { file = c.in_ok-file.file; trace = c.get_flag-trace.result; folded = c.get_flag-folded.result; budget = c.number_or-budget.result; size = c.number_or-size.result; order = c.with_seed-order.result } in
+    let words : RunWords = record {
+      file = c.in_ok-file.file;
+      settings = record { trace = c.get_flag-trace.result; folded = c.get_flag-folded.result; budget = c.number_or-budget.result; size = c.number_or-size.result; order = c.with_seed-order.result };
+    } in
     ap Some (run_found (rows_of found) words run (c.in_ok-file.ensures ∙ first_value-rows found (codes "file"))
     (λ e. c.get_flag-trace.ensures.value (trace ∙ e)) (λ e. c.get_flag-trace.ensures.other (trace ∙ e))
     (λ e. c.get_flag-folded.ensures.value (folded ∙ e)) (λ e. c.get_flag-folded.ensures.other (folded ∙ e))

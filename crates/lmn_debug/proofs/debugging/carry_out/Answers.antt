@@ -3,8 +3,9 @@ use Rattle.std.proofs.lemmas.List.{take_all}
 use Rattle.lmn_io.proofs.TakingLemmas.{no_put, none_more}
 use Rattle.lmn_store_web.specs.WebHeaps.{heap_of}
 use Rattle.lmn_debug.specs.Courses.{course}
-use Rattle.lmn_debug.specs.Obeying.{HaltedSo, ObeyedSo}
-use Rattle.lmn_debug.proofs.Obeyings.{at_halt, halted_behind, none_obeyed, one_obeyed}
+use Rattle.lmn_debug.specs.Debugged.{FailedSo}
+use Rattle.lmn_debug.specs.Obeying.{ObeyedSo}
+use Rattle.lmn_debug.proofs.Obeyings.{at_fault, failed_behind, none_obeyed, one_obeyed}
 use Rattle.lmn_debug.proofs.debugging.carry_out.Goals as goal
 
 pub loop-order-init : goal.loop-order-init
@@ -47,7 +48,7 @@ returns-in_err-obey-clause-obeyed g c k gives named S first stands =
     let old = g.O.Sink.told c.args.out.now in
     let new = g.O.Sink.told c.obey.new.out in
     let so = c.loop-order.invariant.obeyed k gives named S first stands in
-    at_halt (λ done. ObeyedSo names table g' c.args.orders.now c.obey.new.session.engine.commits (heap_of c.obey.new.session.engine.machine.store) old new) (λ halt. HaltedSo names g' c.args.orders.now halt old new) c.in_err-obey.field-0.0
+    at_fault (λ done. ObeyedSo names table g' c.args.orders.now c.obey.new.session.engine.commits (heap_of c.obey.new.session.engine.machine.store) old new) (λ halt. FailedSo names g' c.args.orders.now halt old new) c.in_err-obey.field-0.0
     c.from_residual.result c.from_residual.ensures.1
-    (halted_behind names table g' old c.args.orders.now c.loop-order.order-index _ c.loop-order-test.true c.loop-order.session.engine.commits (heap_of c.loop-order.session.engine.machine.store) (g.O.Sink.told c.loop-order.out) so
+    (failed_behind names table g' old c.args.orders.now c.loop-order.order-index _ c.loop-order-test.true c.loop-order.session.engine.commits (heap_of c.loop-order.session.engine.machine.store) (g.O.Sink.told c.loop-order.out) so
     c.in_err-obey.field-0.0 new (c.in_err-obey.ensures.obeyed k gives named S first so.stands))

@@ -2,32 +2,9 @@ use Rattle.std.proofs.Common.{◌≡◌, sym, subst}
 use Rattle.lmn_store_web.specs.WebHeaps.{heap_of}
 use Rattle.lmn_debug.specs.Courses.{course}
 use Rattle.lmn_debug.specs.Sessions.{StandsAt}
-use Rattle.lmn_debug.specs.Obeying.{HaltedSo}
-use Rattle.lmn_debug.proofs.Obeyings.{all_written}
+use Rattle.lmn_debug.proofs.Obeyings.{all_debugged}
 use Rattle.lmn_debug.proofs.debugging.debug.Goals as goal
 use Rattle.lmn_debug.proofs.Turns.{stands_first}
-
-pub returns-in-Ok-clause-debugged : goal.returns-in-Ok-clause-debugged
-returns-in-Ok-clause-debugged g c k gives named held =
-    let names = c.args.names.now in
-    let table = c.args.plain.now.rules in
-    let g' = course k c.args.size held.solid in
-    let old = g.O.Sink.told c.args.out.now in
-    let new = g.O.Sink.told c.carry_out.new.out in
-    let same : heap_of c.start-session.result.engine.machine.store ≡ heap_of c.args.engine.machine.store = λ i. heap_of (c.start-session.ensures i).machine.store in
-    let stands = subst (StandsAt names table g' 0) (sym same) (stands_first names table g' (heap_of c.args.engine.machine.store) held.holds) in
-    all_written names table g' c.args.orders.now c.carry_out.new.session.engine.commits (heap_of c.carry_out.new.session.engine.machine.store) old new (c.in-Ok.ensures.obeyed k gives named held.solid held.from stands)
-
-pub returns-in-Err-NoMemory-clause-debugged : goal.returns-in-Err-NoMemory-clause-debugged
-returns-in-Err-NoMemory-clause-debugged g c k gives named held =
-    let names = c.args.names.now in
-    let table = c.args.plain.now.rules in
-    let g' = course k c.args.size held.solid in
-    let old = g.O.Sink.told c.args.out.now in
-    let new = g.O.Sink.told c.carry_out.new.out in
-    let same : heap_of c.start-session.result.engine.machine.store ≡ heap_of c.args.engine.machine.store = λ i. heap_of (c.start-session.ensures i).machine.store in
-    let stands = subst (StandsAt names table g' 0) (sym same) (stands_first names table g' (heap_of c.args.engine.machine.store) held.holds) in
-    subst (λ halt. HaltedSo names g' c.args.orders.now halt old new) c.in-Err-NoMemory.field-0-is (c.in-Err-NoMemory.ensures.obeyed k gives named held.solid held.from stands)
 
 pub returns-clause-debugged : goal.returns-clause-debugged
 returns-clause-debugged g c k gives named held =
@@ -38,4 +15,5 @@ returns-clause-debugged g c k gives named held =
     let new = g.O.Sink.told c.carry_out.new.out in
     let same : heap_of c.start-session.result.engine.machine.store ≡ heap_of c.args.engine.machine.store = λ i. heap_of (c.start-session.ensures i).machine.store in
     let stands = subst (StandsAt names table g' 0) (sym same) (stands_first names table g' (heap_of c.args.engine.machine.store) held.holds) in
-    subst (λ halt. HaltedSo names g' c.args.orders.now halt old new) c.in-Err-Failed.field-0-is (c.in-Err-Failed.ensures.obeyed k gives named held.solid held.from stands)
+    all_debugged names table g' c.args.orders.now c.carry_out.new.session.engine.commits (heap_of c.carry_out.new.session.engine.machine.store) old new c.carry_out.result
+    (c.carry_out.ensures.obeyed k gives named held.solid held.from stands)

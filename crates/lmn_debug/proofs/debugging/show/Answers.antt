@@ -1,6 +1,6 @@
 use Rattle.lmn_store_web.specs.WebHeaps.{heap_of}
 use Rattle.lmn_debug.specs.Courses.{course}
-use Rattle.lmn_debug.proofs.Obeyings.{show_halted, show_obeyed}
+use Rattle.lmn_debug.proofs.Obeyings.{show_failed, show_obeyed}
 use Rattle.lmn_debug.proofs.debugging.show.Goals as goal
 
 pub returns-in-Ok-clause-obeyed : goal.returns-in-Ok-clause-obeyed
@@ -11,6 +11,6 @@ returns-in-Ok-clause-obeyed g c k gives named S first stands =
 
 pub returns-in-Err-clause-obeyed : goal.returns-in-Err-clause-obeyed
 returns-in-Err-clause-obeyed g c k gives named S first stands =
-    show_halted c.args.names.now c.args.beginning.now.plain.now.rules (course k c.args.beginning.now.size S) c.args.session.now.engine.commits c.show.new.self.engine.commits
+    show_failed c.args.names.now c.args.beginning.now.plain.now.rules (course k c.args.beginning.now.size S) c.args.session.now.engine.commits c.show.new.self.engine.commits
     (heap_of c.args.session.now.engine.machine.store) (heap_of c.show.new.self.engine.machine.store) (g.O.Sink.told c.args.out.now) (g.O.Sink.told c.show.new.out)
     (λ i. (c.show.ensures.keeps i).commits) stands (λ line is. c.in-Err.ensures.writes.prefix line is)

@@ -11,7 +11,7 @@ returns-in-Ok-clause-wrote g c =
     let n = c.args.coded.now.commits in
     let old = g.O.Sink.told c.args.out.now in
     let new = g.O.Sink.told c.write_last.new.out in
-    subst (λ end. EndIsWritten names table h c.args.why n end old new) (sym c.end_of.ensures)
+    subst (λ end. EndIsWritten names table h c.args.why n end old new) (sym c.from.ensures)
     (concluded names table h c.heaps_have_one_line.ensures.some c.requires.run.turn.valid c.args.why n old new (g.O.Sink.faults c.args.out.now) (g.O.Sink.faults c.write_last.new.out) _ c.in-Ok.ensures.writes)
 
 pub returns-in-Err-clause-wrote : goal.returns-in-Err-clause-wrote

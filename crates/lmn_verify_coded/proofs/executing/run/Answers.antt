@@ -4,7 +4,7 @@ use Rattle.lmn_store_heap.specs.Sound.{Forest, IsTree, flat}
 use Rattle.lmn_verify_coded.specs.Turning.{CodedCanTurn}
 use Rattle.lmn_verify_coded.specs.Runs.{CodedRun, HaltedRun, begun, turned}
 use Rattle.lmn_verify_coded.specs.Steps.{CountsStep, MakesStep}
-use Rattle.lmn_verify_coded.specs.declared.executing.Halt.TheVariants as halt
+use Rattle.lmn_app_runs.specs.declared.stop.Stop.TheVariants as stop
 use Rattle.lmn_schedule_strategy.specs.Counting.{CountsAsked}
 use Rattle.lmn_verify_coded.specs.Counting.{CountsRun, CountsTurns}
 use Rattle.lmn_verify_coded.proofs.Countings.{counts_last, counts_more, counts_none}
@@ -55,7 +55,7 @@ returns-else-reducible-clause-halted g c =
     let commits : c.reducible.new.self.commits ≡ c.loop.coded.commits = λ i. (c.reducible.ensures.keeps i).commits in
     let done : c.loop.coded.commits ≡ c.args.budget = (let f = c.loop-test.false in let l = c.loop.auto in let n = c.loop.invariant.count in omega (arith, n)) in
     let none = subst (λ xs. (f : Forest) → IsTree h f → NoneIn h xs (flat f)) same_codes (c.reducible.ensures.no c.if-reducible.false) in
-    subst (λ n. HaltedRun codes c.args.budget size first n halt.Irreducible h') (sym commits)
+    subst (λ n. HaltedRun codes c.args.budget size first n stop.Irreducible h') (sym commits)
     (halts_at_end codes c.args.budget size first c.loop.coded.commits h c.loop.invariant.ran c.loop.invariant.run.turn.valid h' done c.reducible.ensures.same none)
 
 pub returns-in-Some-clause-steps : goal.returns-in-Some-clause-steps

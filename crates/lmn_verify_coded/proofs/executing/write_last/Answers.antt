@@ -1,7 +1,6 @@
 use Rattle.std.proofs.Common.{subst}
 use Rattle.lmn_io.specs.Writing.{Writes, WritesText}
-use Rattle.lmn_app_runs.specs.Runs.{end_line}
-use Rattle.lmn_verify_coded.specs.Runs.{halt_word}
+use Rattle.lmn_app_runs.specs.Runs.{end_line, word_of_stop}
 use Rattle.lmn_verify_coded.specs.Steps.{IsLastText}
 use Rattle.lmn_verify_coded.proofs.Endings.{last_written, line_failed}
 use Rattle.lmn_verify_coded.proofs.executing.write_last.Goals as goal
@@ -10,7 +9,7 @@ pub returns-in_err-print-clause-writes : goal.returns-in_err-print-clause-writes
 returns-in_err-print-clause-writes g c =
     let names = c.args.names.now in
     let table = c.args.plain.now.rules in
-    let word = halt_word c.args.why in
+    let word = word_of_stop c.args.why in
     let n = c.args.coded.now.commits in
     let old = g.O.Sink.told c.args.out.now in
     let count = g.O.Sink.faults c.args.out.now in
@@ -23,7 +22,7 @@ pub returns-clause-writes : goal.returns-clause-writes
 returns-clause-writes g c =
     let names = c.args.names.now in
     let table = c.args.plain.now.rules in
-    let word = halt_word c.args.why in
+    let word = word_of_stop c.args.why in
     let n = c.args.coded.now.commits in
     let old = g.O.Sink.told c.args.out.now in
     let count = g.O.Sink.faults c.args.out.now in
