@@ -8,7 +8,7 @@ ghost use Rattle.lmn_app.specs.CheckLaws.{CheckedNotWrong, CheckedOrWrong, OneCo
 ghost use Rattle.lmn_app.specs.DebugExamples.{SmallTextIsDebugged, SmallTextIsNotDebuggedSo};
 ghost use Rattle.lmn_app.specs.DebugLaws.{OneWrongScript, SessionNotRefused, SessionOrRefused};
 ghost use Rattle.lmn_app.specs.ExecExamples.{SmallListingIsRead, SmallListingIsWrong, SmallTextIsExecuted, SmallTextIsNotExecutedSo};
-ghost use Rattle.lmn_app.specs.ExecLaws.{CompiledIsNotWrong, CompiledRunsAsRun, OneOutput, OneWrongListing, ReadNotRefused};
+ghost use Rattle.lmn_app.specs.ExecLaws.{CompiledIsNotWrong, CompiledRunsAsRun, OneOutput, OneWrongListing, ReadNotRefused, ReadOrRefused};
 ghost use Rattle.lmn_app.specs.Demos.{SomeDemo};
 ghost use Rattle.lmn_app.specs.DemoLaws.{DemoIsFoldedRun};
 ghost use Rattle.lmn_app.specs.ListingLaws.{OneListing};
@@ -27,8 +27,10 @@ use lmn_receipt_chain::{
 };
 use lmn_schedule_loading::loading_settles;
 use lmn_verify_coded::{runs_are_one, tables_run_as_rules};
-use lmn_verify_compiled::{accepted_can_be_listed, compiled_are_listed, listed_codes_are_one};
-use lmn_verify_listing::laws::{listed_lines_stand, wrong_line_is_one};
+use lmn_verify_compiled::{
+    accepted_can_be_listed, accepted_names_are_few, compiled_are_listed, listed_codes_are_one,
+};
+use lmn_verify_listing::laws::{listed_lines_stand, listed_or_wrong, wrong_line_is_one};
 use lmn_weight::{
     plains_weigh_alike, weights_are_read_once, weights_are_told_or_wrong, weights_bound_commits,
 };
@@ -201,8 +203,9 @@ pub fn executions_are_one()
     runs_are_one();
 }
 
-/// A listing that is read beside a program isn't refused beside it, and it is refused by one code at one place at most.
+/// A listing that isn't too long is read beside an accepted program or refused, and not both, and it is refused by one code at one place at most.
 pub fn refused_listings_are_one()
+    ensures either { ReadOrRefused }
     ensures apart { ReadNotRefused }
     ensures refusal { OneWrongListing }
 {
@@ -210,6 +213,9 @@ pub fn refused_listings_are_one()
     listed_codes_are_one();
     listed_lines_stand();
     wrong_line_is_one();
+    listed_or_wrong();
+    accepted_names_are_few();
+    accepted_texts_can_be_loaded();
 }
 
 /// Beside `a. a :- b.` a listing is read whose code takes an `a` away, and is run to its end after one commit. A listing whose code
