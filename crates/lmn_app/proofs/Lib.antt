@@ -19,6 +19,7 @@ mod OneListing
 mod OneExecution
 mod OneOutput
 mod OneRefusedListing
+mod OneSessionText
 mod OneRun
 mod SmallTexts
 mod SmallBounds

@@ -158,10 +158,13 @@ verified_or_first n (c ∷ cs) first all = first 1 (record { rule = 0; code = c;
 -- so a listing that isn't too long is read beside an accepted program, or refused
 pub read_or_refused : ListedOrWrong → AcceptedNamesAreFew → AcceptedAreNamed → ReadOrRefused
 read_or_refused listed few named program listing (names, plain, plans, a, fits) short neither =
-    listed (length plain.rules) names listing once room ((λ later codes adds whole are order.
-    verified_or_first (length plain.rules) codes (λ k first. refused 82 k later adds whole (not_verified codes are order first)) (λ all.
-    neither.0 (record { names = names; plain = plain; plans = plans; accepted = a; later = later; adds = adds; once = whole; codes = codes; order = order; are = are; verified = all }))), λ k wrong.
-    refused 81 k names (adds_none (3 * length listing) names) once (not_a_listing wrong))
+    listed (length plain.rules) names listing once room (
+      (λ later codes adds whole are order.
+          verified_or_first (length plain.rules) codes (λ k first. refused 82 k later adds whole (not_verified codes are order first)) (λ all.
+          neither.0 (record { names = names; plain = plain; plans = plans; accepted = a; later = later; adds = adds; once = whole; codes = codes; order = order; are = are; verified = all }))),
+      λ k wrong.
+          refused 81 k names (adds_none (3 * length listing) names) once (not_a_listing wrong),
+    )
   where
     once : IsNames names
     once =

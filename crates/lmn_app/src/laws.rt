@@ -6,7 +6,7 @@ ghost use Rattle.lmn_app.specs.BoundLaws.{BoundNotRefused, BoundOrRefused, Bound
 ghost use Rattle.lmn_app.specs.CheckExamples.{NothingIsWrong, SmallTextIsChecked, SmallTextIsNotTwice};
 ghost use Rattle.lmn_app.specs.CheckLaws.{CheckedNotWrong, CheckedOrWrong, OneCount, OneWrongTrace, RunsAreChecked};
 ghost use Rattle.lmn_app.specs.DebugExamples.{SmallTextIsDebugged, SmallTextIsNotDebuggedSo};
-ghost use Rattle.lmn_app.specs.DebugLaws.{OneWrongScript, SessionNotRefused, SessionOrRefused};
+ghost use Rattle.lmn_app.specs.DebugLaws.{OneSessionText, OneWrongScript, SessionNotRefused, SessionOrRefused, ShownReadsBack};
 ghost use Rattle.lmn_app.specs.ExecExamples.{SmallListingIsRead, SmallListingIsWrong, SmallTextIsExecuted, SmallTextIsNotExecutedSo};
 ghost use Rattle.lmn_app.specs.ExecLaws.{CompiledIsNotWrong, CompiledRunsAsRun, OneOutput, OneWrongListing, ReadNotRefused, ReadOrRefused};
 ghost use Rattle.lmn_app.specs.Demos.{SomeDemo};
@@ -21,6 +21,7 @@ use lmn_adequacy_heaps::solids_are_regions;
 use lmn_adequacy_turns::plains_are_tables;
 use lmn_app_accepted::{accepted_texts, accepted_texts_can_be_loaded};
 use lmn_app_runs::{plains_are_printable, short_run_prints, traces_are_runs};
+use lmn_debug::writing_is_one;
 use lmn_debug_script::{orders_are_once, scripts_are_decided};
 use lmn_receipt_chain::{
     chains_are_commits, no_trace_is_neither, traces_are_chains, traces_are_one_of,
@@ -165,6 +166,17 @@ pub fn scripts_are_obeyed_or_refused()
 {
     accepted_texts();
     scripts_are_decided();
+}
+
+/// Two sessions of one script over one program whose orders are all carried out write one text, and what `show` writes reads back.
+pub fn sessions_are_one()
+    ensures one { OneSessionText }
+    ensures shown { ShownReadsBack }
+{
+    accepted_texts();
+    plains_are_printable();
+    traces_are_runs();
+    writing_is_one();
 }
 
 /// A session over `a. a :- b.`: two firings are asked for and one is there, and one firing back its first process stands there. A step that is
