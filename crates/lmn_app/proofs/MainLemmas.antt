@@ -12,7 +12,7 @@ use Rattle.lmn_app_words.specs.Laws.{OneRequest}
 use Rattle.lmn_app_words.specs.Forms.{InForm, Request}
 use Rattle.lmn_app_words.specs.declared.command.PairKind.{PairKind}
 use Rattle.lmn_app_words.specs.Forms.{Pair, to_run, to_compile, to_demo, to_pair}
-use Rattle.lmn_app.specs.Endings.{Concludes, HasLine, line_of_ending, refusal_line, second_line, status_of}
+use Rattle.lmn_app.specs.Endings.{Concludes, HasLine, line_of_ending, refusal_line, status_of}
 use Rattle.lmn_app.specs.SecondTexts.{second_status}
 use Rattle.lmn_base.specs.Codes.{IsCode}
 use Rattle.lmn_app.specs.Outcomes.{AnswersOf, CountsFaults, Output, OutputOf, PairOutput, RefusesSecondOf, RequestEnded}
@@ -301,7 +301,7 @@ module _ (one : OneRequest) (words : List (String Global)) (texts : Option (List
 
   -- a status above 7 is that of a second text that is refused
   pub second_told : (e : Ending) → Acted e → Concluded e → 8 ≤ status →
-      Asked words (λ c. (kind : PairKind) × (r : Refusal) × (status ≡ second_status kind) × RefusesSecondOf c texts kind r × Takes (second_line r) eo en)
+      Asked words (λ c. (kind : PairKind) × (r : Refusal) × (status ≡ second_status kind) × RefusesSecondOf c texts kind r × Takes (refusal_line r) eo en)
   second_told (SecondRefused kind r) (inl (c, asks, h)) (inl (s, t, same)) k = (c, asks, (kind, r, s, second_of texts read reads c kind r h.cause, t))
   second_told Done (inl (c, asks, h)) (inl (s, t, q)) k = absurd (omega (arith, s, k))
   second_told Budget (inl (c, asks, h)) (inl (s, t, q)) k = absurd (omega (arith, s, k))

@@ -4,7 +4,7 @@ use Rattle.std.specs.List.{concat}
 use Rattle.lmn_base.specs.declared.refusal.Refusal.{Refusal}
 use Rattle.lmn_app.specs.declared.ending.Ending.{Ending}
 use Rattle.lmn_app.specs.declared.ending.Ending.TheVariants.{Done, Budget, Refused, Words, ReadFault, WriteFault, NoMemory, Full, SecondRefused}
-use Rattle.lmn_app.specs.SecondTexts.{second_status, second_words}
+use Rattle.lmn_app.specs.SecondTexts.{second_status}
 use Rattle.lmn_io.specs.Counts.{FailedLast, Faults, NoneFailed}
 use Rattle.lmn_io.specs.Taking.{Takes, TakesPrefix}
 use Rattle.lmn_base.specs.Codes.{words_of_number}
@@ -25,23 +25,16 @@ status_of (SecondRefused kind refusal) = second_status kind
 abbrev pub code_letters : ℕ → List ℕ
 code_letters code = if nat_lt code 10 then codes "E0" else codes "E"
 
--- the code, the line and the column of the place, and the words
-abbrev pub line_with : List ℕ → Refusal → List ℕ
-line_with words refusal =
-    concat (code_letters refusal.code ∷ decimal refusal.code ∷ codes " " ∷ decimal refusal.pos.line ∷ codes ":" ∷ decimal refusal.pos.column
-    ∷ codes " " ∷ words ∷ codes "\n" ∷ [])
-
--- the line of a refusal of a program, and of one of a second text
+-- the line of a refusal: its code, the line and the column of its place, and its words
 abbrev pub refusal_line : Refusal → List ℕ
-refusal_line refusal = line_with (words_of_number refusal.code) refusal
-
-abbrev pub second_line : Refusal → List ℕ
-second_line refusal = line_with (second_words refusal.code) refusal
+refusal_line refusal =
+    concat (code_letters refusal.code ∷ decimal refusal.code ∷ codes " " ∷ decimal refusal.pos.line ∷ codes ":" ∷ decimal refusal.pos.column
+    ∷ codes " " ∷ words_of_number refusal.code ∷ codes "\n" ∷ [])
 
 -- the line of an ending, or nothing
 abbrev pub line_of_ending : Ending → List ℕ
 line_of_ending (Refused refusal) = refusal_line refusal
-line_of_ending (SecondRefused kind refusal) = second_line refusal
+line_of_ending (SecondRefused kind refusal) = refusal_line refusal
 line_of_ending Words = codes "lmn: words not understood\n"
 line_of_ending ReadFault = codes "lmn: read failed\n"
 line_of_ending WriteFault = codes "lmn: write failed\n"

@@ -1,7 +1,6 @@
 ghost use Rattle.std.specs.Prelude.{◌≡◌, OnErr};
 ghost use Rattle.lmn_io.specs.Writing.{WritesText};
-ghost use Rattle.lmn_app.specs.Endings.{Concludes, HasLine, code_letters, line_of_ending, line_with};
-ghost use Rattle.lmn_app.specs.SecondTexts.{second_words};
+ghost use Rattle.lmn_app.specs.Endings.{Concludes, HasLine, code_letters, line_of_ending, refusal_line};
 
 use crate::ending::Ending;
 use itoa::Buffer;
@@ -26,10 +25,8 @@ fn report<E: Sink>(err: &mut E, ending: Ending) -> Result<(), Failed>
 {
     match ending {
         Ending::Done | Ending::Budget | Ending::Full => Ok(()),
-        Ending::Refused(refusal) => { report_refusal(err, refusal, words_of_code(refusal.code)) }
-        Ending::SecondRefused(_, refusal) => {
-            report_refusal(err, refusal, second_words(refusal.code))
-        }
+        Ending::Refused(refusal) => report_refusal(err, refusal),
+        Ending::SecondRefused(_, refusal) => report_refusal(err, refusal),
         Ending::Words => err.put(b"lmn: words not understood\n"),
         Ending::ReadFault => err.put(b"lmn: read failed\n"),
         Ending::WriteFault => err.put(b"lmn: write failed\n"),
@@ -38,12 +35,8 @@ fn report<E: Sink>(err: &mut E, ending: Ending) -> Result<(), Failed>
 }
 
 /// Puts the line of a refusal: its code, its place and its words.
-fn report_refusal<E: Sink>(
-    err: &mut E,
-    refusal: Refusal,
-    words: &'static [u8],
-) -> Result<(), Failed>
-    ensures { WritesText (line_with words.now refusal) result (E.told err.old) (E.faults err.old) (E.told err.new) (E.faults err.new) }
+fn report_refusal<E: Sink>(err: &mut E, refusal: Refusal) -> Result<(), Failed>
+    ensures { WritesText (refusal_line refusal) result (E.told err.old) (E.faults err.old) (E.told err.new) (E.faults err.new) }
 {
     let (mut code, mut line, mut column) = (Buffer::new(), Buffer::new(), Buffer::new());
     put_all(
@@ -56,7 +49,7 @@ fn report_refusal<E: Sink>(
             b":".as_slice(),
             column.format(refusal.pos.column).as_bytes(),
             b" ".as_slice(),
-            words,
+            words_of_code(refusal.code),
             b"\n".as_slice(),
         ],
     )
@@ -67,24 +60,4 @@ fn code_letters(code: u8) -> &'static [u8]
     ensures { result.now ≡ code_letters code }
 {
     if code < 10 { b"E0" } else { b"E" }
-}
-
-/// The words of the code of a second text.
-fn second_words(code: u8) -> &'static [u8]
-    ensures { result.now ≡ second_words code }
-{
-    match code {
-        60 => b"trace too long",
-        61 => b"not a firing of the last process",
-        62 => b"wrong end",
-        70 => b"script too long",
-        71 => b"unknown command",
-        80 => b"listing too long",
-        81 => b"not a listing",
-        82 => b"code not verified",
-        84 => b"weights too long",
-        85 => b"bad weight",
-        86 => b"rule not lowered",
-        _ => b"",
-    }
 }

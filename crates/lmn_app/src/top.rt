@@ -6,7 +6,7 @@ ghost use Rattle.lmn_app.specs.Demos.{demo_text};
 ghost use Rattle.lmn_app.specs.Requests.{Asked, Fetches, IsInRange, ReadRose, asked_program, asked_second, folded_run, most_items_of, told_of};
 ghost use Rattle.lmn_app_words.specs.declared.command.PairKind.{PairKind};
 ghost use Rattle.lmn_app_words.specs.Forms.{InForm, IsInRanges, pair_of, request_of, to_pair};
-ghost use Rattle.lmn_app.specs.Endings.{HasLine, line_of_ending, refusal_line, second_line};
+ghost use Rattle.lmn_app.specs.Endings.{HasLine, line_of_ending, refusal_line};
 ghost use Rattle.lmn_app.specs.Pairs.{HasProgram};
 ghost use Rattle.lmn_app.specs.SecondTexts.{second_status};
 ghost use Rattle.lmn_base.specs.Codes.{IsCode};
@@ -83,7 +83,7 @@ pub fn lmn_main<F: Shelf, O: Sink, E: Sink>(
     // A status above 7 comes where the second text of an accepted program is refused: 8 for a trace, 9 for a script, 10 for a listing, 11
     // for weights.
     ensures second { 8 ≤ result → Asked words.now (λ c. (kind : PairKind) × (refusal : Refusal) × (result ≡ second_status kind)
-        × RefusesSecondOf c (F.told shelf.old) kind refusal × Takes (second_line refusal) (E.told err.old) (E.told err.new)) }
+        × RefusesSecondOf c (F.told shelf.old) kind refusal × Takes (refusal_line refusal) (E.told err.old) (E.told err.new)) }
 
     // Where nothing fails, the command does what it says for an accepted text, or memory is wanting.
     ensures answers { InForm words.now → Asked words.now (λ c. ¬ (ReadRose c (F.faults shelf.old) (F.faults shelf.new))
