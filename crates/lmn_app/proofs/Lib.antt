@@ -20,6 +20,7 @@ mod OneExecution
 mod OneOutput
 mod OneRefusedListing
 mod OneSessionText
+mod FewAtStart
 mod OneRun
 mod SmallTexts
 mod SmallBounds

@@ -14,6 +14,7 @@ ghost use Rattle.lmn_app.specs.DemoLaws.{DemoIsFoldedRun};
 ghost use Rattle.lmn_app.specs.ListingLaws.{OneListing};
 ghost use Rattle.lmn_app.specs.NameExamples.{SomeNames};
 ghost use Rattle.lmn_app.specs.RunLaws.{EarlierRunFirst, OneRun, OneRunSoFar};
+ghost use Rattle.lmn_app.specs.SizeLaws.{AcceptedIsSmall, NoneIsLarge};
 ghost use Rattle.lmn_app.specs.TextExamples.{SmallTextHasItsTrace, SmallTextIsAccepted, SmallTextRuns, SmallTextRunsFolded};
 ghost use Rattle.lmn_app.specs.Texts.{AcceptedOrRefused, OneRefusal, RefusedNotAccepted};
 
@@ -45,6 +46,12 @@ pub fn refusals_are_one()
 /// A text is accepted, or it is refused.
 pub fn texts_are_accepted_or_refused()
     ensures { AcceptedOrRefused }
+{}
+
+/// No text is too large for `debug` and `exec`.
+pub fn none_is_large()
+    ensures accepted { AcceptedIsSmall }
+    ensures refused { NoneIsLarge }
 {}
 
 /// The list of names of a small text.
