@@ -1,21 +1,23 @@
 -- A listing beside a program is read or refused, not both, and it is refused in one way.
-use Rattle.std.proofs.Common.{◌≡◌, ◌∙◌, ◌+◌, ◌*◌, ◌<◌, ◌≤◌, ◌^◌, ◌⊎◌, inl, inr, ℕ, List, length, take, refl, sym, ap, subst, arith}
+use Rattle.std.proofs.Common.{◌≡◌, ◌∙◌, ◌+◌, ◌*◌, ◌<◌, ◌≤◌, ◌^◌, ◌⊎◌, inl, inr, ℕ, suc, List, [], ◌∷◌, length, take, refl, sym, ap, subst, arith}
 use Rattle.std.specs.List.{AllByRecursion, flat_map}
 use Rattle.std.proofs.lemmas.Bool.{cases_lt}
 use Rattle.lmn_app_accepted.proofs.PlanKinds.{at_index}
+use Rattle.lmn_app_accepted.specs.Loading.{AcceptedAreNamed}
 use Rattle.lmn_base.specs.declared.refusal.Refusal.{Refusal}
 use Rattle.lmn_base.specs.declared.rule.Plain.{Plain}
 use Rattle.lmn_base.specs.Names.{IsNames}
 use Rattle.lmn_congruence.specs.Rules.{Name}
 use Rattle.lmn_instr_reading.specs.Reading.{AddsNames, NumbersNames}
+use Rattle.lmn_instr_reading.proofs.NameLemmas.{adds_none}
 use Rattle.lmn_guards.specs.declared.plan.GuardPlan.{GuardPlan}
 use Rattle.lmn_instr_code.specs.declared.instr.Code.{Code}
-use Rattle.lmn_verify_compiled.specs.Laws.{AcceptedCanBeListed}
+use Rattle.lmn_verify_compiled.specs.Laws.{AcceptedCanBeListed, AcceptedNamesAreFew}
 use Rattle.lmn_app_reading.proofs.OneRead.{one_acceptance}
 use Rattle.lmn_verify_compiled.specs.OneReading.{ListedCodesAreOne, ListedNamesAreOne}
 use Rattle.lmn_verify_listing.specs.Lines.{IsWrongLine}
-use Rattle.lmn_verify_listing.specs.ListingLaws.{ListedLinesStand, WrongLineIsOne}
-use Rattle.lmn_verify_listing.specs.Listings.{AreListed, IsFirstUnverified, IsRefusedListing, lines_of_all, not_a_listing, not_verified}
+use Rattle.lmn_verify_listing.specs.ListingLaws.{ListedLinesStand, ListedOrWrong, WrongLineIsOne}
+use Rattle.lmn_verify_listing.specs.Listings.{AreListed, IsFirstUnverified, IsRefusedListing, lines_of, lines_of_all, not_a_listing, not_verified}
 use Rattle.lmn_verify_code.specs.Operands.{code_names}
 use Rattle.lmn_verify_code.specs.Verified.{IsVerified}
 use Rattle.lmn_app.specs.ExecLaws.{OneWrongListing, ReadNotRefused, ReadOrRefused}
@@ -147,13 +149,12 @@ refused_in_one_way on program listing refusal other v w = one_wrong_listing on p
 -- each of the codes is verified, or there is a first that isn't
 verified_or_first : (n : ℕ) (cs : List Code) → ((k : ℕ) → ¬ (IsFirstUnverified n cs k)) → ¬ (¬ (AllByRecursion (λ c. IsVerified c n) cs))
 verified_or_first n [] first all = all tt
-verified_or_first n (c ∷ cs) first all = first 1 (record { rule = 0; code = c; is = refl; unverified = unverified; earlier = tt; number = refl })
-  where
-    unverified : IsVerified c n → ⊥
-    unverified v =
-        verified_or_first n cs (λ k f.
-        let number = f.number in
-        first (lines_of c + k) (record { rule = suc f.rule; code = f.code; is = f.is; unverified = f.unverified; earlier = (v, f.earlier); number = omega (arith, number) })) (λ h. all (v, h))
+verified_or_first n (c ∷ cs) first all =
+    let unverified : IsVerified c n → ⊥ =
+    λ v. verified_or_first n cs (λ k f.
+    let number = f.number in
+    first (lines_of c + k) (record { rule = suc f.rule; code = f.code; is = f.is; unverified = f.unverified; earlier = (v, f.earlier); number = omega (arith, number) })) (λ h. all (v, h)) in
+    first 1 (record { rule = 0; code = c; is = refl; unverified = unverified; earlier = tt; number = refl })
 
 -- so a listing that isn't too long is read beside an accepted program, or refused
 pub read_or_refused : ListedOrWrong → AcceptedNamesAreFew → AcceptedAreNamed → ReadOrRefused

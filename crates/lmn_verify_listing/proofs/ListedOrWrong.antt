@@ -19,7 +19,7 @@ use Rattle.lmn_verify_listing.specs.Opcodes.{is_in_head, opcode_of}
 use Rattle.lmn_verify_listing.specs.Reaching.{AreReadCodes, IsBegun, IsEnded, IsLineEnd, IsReadAt, Reached, due_in, last_of}
 use Rattle.lmn_verify_listing.proofs.CodeLemmas.{code_read, codes_more, due_here, due_none, none_read, rule_stands}
 use Rattle.lmn_verify_listing.proofs.ReachingLemmas.{begun_more, begun_wrong, ended_more, ends_behind, ends_last, none_begun, nothing_stands, reached_wrong, read_at_is}
-use Rattle.lmn_verify_listing.proofs.Relabelled.{relabelled}
+use Rattle.lmn_verify_listing.proofs.Relabelled.{Relabelled, relabelled}
 
 -- ---- where a line ends
 
@@ -63,6 +63,11 @@ is_last true i e = absurd (cc)
 is_last false instr.Proceed e = refl
 is_last false i e = absurd (cc)
 
+-- a line that stands there is read by the names that are held
+read_here : (b : Bool) (text : List ℕ) (at end : ℕ) {names : List (List ℕ)} (l : IsLine b (first_line (drop at text))) (r : Relabelled l.names names l.instr) → IsLineEnd text at end → IsReadAt b r.later text at r.again end
+read_here b text at end l r e =
+    read_at_is b r.later text (first_line (drop at text)) at r.again end e (sym e.line) (ap is_in_head r.opcode ∙ l.part, r.fits, r.named, r.short, r.text ∙ l.is)
+
 module _ (n : ℕ) (text : List ℕ) (right : (k : ℕ) → ¬ (IsWrongLine n text k)) where
   -- a head or a body is read to its end
   block : (fuel : ℕ) (b : Bool) (j : ℕ) (base names : List (List ℕ)) (from first at ln : ℕ) (instrs : List Instr) → length text - at ≤ fuel → IsNames names → length base + 3 * (length text - from) < 2 ^ 32
@@ -70,28 +75,21 @@ module _ (n : ℕ) (text : List ℕ) (right : (k : ℕ) → ¬ (IsWrongLine n te
       → ((later : List (List ℕ)) (at ln : ℕ) (code : List Instr) → IsNames later → IsEnded b text base later from first at ln code → ⊥) → ⊥
   block zero b j base names from first at ln instrs enough once room start begun on =
       (right ln (begun_wrong b text base names from first at ln instrs begun (nothing_stands b text at (omega (arith, enough))) n j start).wrong)
-  block (suc m) b j base names from first at ln instrs enough once room start begun on = right ln (begun_wrong b text base names from first at ln instrs begun stands n j start).wrong
-    where
-      within : at ≤ length text
-      within = begun.read.within
-
-      free : length names < 2 ^ 32
-      free =
-          let many = at_most (3 * (at - from)) base names begun.read.puts in
-          let few = begun.read.few in
-          omega (arith, many, few, within, room)
-
-      stands : IsLine b (first_line (drop at text)) → ⊥
-      stands l =
-          let r = relabelled l.names names once free l.instr l.fits l.short in
-          let e = line_ends text at within in
-          let h : IsReadAt b r.later text at r.again e.0 =
-          read_at_is b r.later text (first_line (drop at text)) at r.again e.0 e.1 (sym e.1.line) (ap is_in_head r.opcode ∙ l.part, r.fits, r.named, r.short, r.text ∙ l.is) in
-          let forth = h.forth in
-          let next : (opcode_of r.again ≡ opcode_of (last_of b) → ⊥) → ⊥ =
-          λ other. block m b j base r.later from first e.0 (ln + 1) (instrs ++ r.again ∷ []) (omega (arith, enough, forth)) r.once room start (begun_more b text base names r.later from first at ln e.0 instrs r.again begun r.adds r.order h other) on
-          in
-          next (λ same. on r.later e.0 (ln + 1) (instrs ++ r.again ∷ []) r.once (ended_more b text base names r.later from first at ln e.0 instrs r.again begun r.adds r.order h (is_last b r.again same)))
+  block (suc m) b j base names from first at ln instrs enough once room start begun on =
+      let within = begun.read.within in
+      let many = at_most (3 * (at - from)) base names begun.read.puts in
+      let few = begun.read.few in
+      let free : length names < 2 ^ 32 = omega (arith, many, few, within, room) in
+      let stands : IsLine b (first_line (drop at text)) → ⊥ =
+      λ l.
+      let r = relabelled l.names names once free l.instr l.fits l.short in
+      let e = line_ends text at within in
+      let h = read_here b text at e.0 l r e.1 in
+      let forth = h.forth in
+      let next : (opcode_of r.again ≡ opcode_of (last_of b) → ⊥) → ⊥ =
+      λ differs. block m b j base r.later from first e.0 (ln + 1) (instrs ++ r.again ∷ []) (omega (arith, enough, forth)) r.once room start (begun_more b text base names r.later from first at ln e.0 instrs r.again begun r.adds r.order h differs) on in
+      next (λ same. on r.later e.0 (ln + 1) (instrs ++ r.again ∷ []) r.once (ended_more b text base names r.later from first at ln e.0 instrs r.again begun r.adds r.order h (is_last b r.again same))) in
+      right ln (begun_wrong b text base names from first at ln instrs begun stands n j start).wrong
 
   -- the listings of the codes of so many rules more
   listings : (todo : ℕ) (base names : List (List ℕ)) (j at ln : ℕ) (cs : List Code) → j + todo ≡ n → IsNames names → length base + 3 * length text < 2 ^ 32 → AreReadCodes n text base names j at ln cs
@@ -117,29 +115,25 @@ module _ (n : ℕ) (text : List ℕ) (right : (k : ℕ) → ¬ (IsWrongLine n te
             plain = r.plain;
             are = sym (append-nil (listings_from names 0 cs)) ∙ ap (λ t. listings_from names 0 cs ++ t) (sym (drop_all at text l)) ∙ r.text;
           }) r.order
-  listings (suc todo) base names j at ln cs all once room r on = right ln (reached_wrong n text at ln (rule j) reached stands (λ e. absurd (cc)))
-    where
-      below : j < n
-      below = omega (arith, all)
-
-      reached : Reached n text at ln (rule j)
-      reached = subst (Reached n text at ln) (due_here n j below) r.reached
-
-      stands : StandsAs (rule j) (first_line (drop at text)) → ⊥
-      stands h =
-          let e = line_ends text at r.within in
-          let same = sym e.1.line in
-          let start = rule_stands n text (first_line (drop at text)) j at ln e.0 e.1 same h reached in
-          let back = e.1.back in
-          let many = at_most (3 * at) base names r.puts in
-          block (length text) true j names names e.0 (ln + 1) e.0 (ln + 1) [] (omega arith) once (omega (arith, back, many, room)) start (none_begun true text names e.0 (ln + 1) e.1.within) (λ later at' ln' heads once' head.
-          let more = at_most (3 * (at' - e.0)) names later head.read.puts in
-          let few = head.read.few in
-          let within = head.read.within in
-          block (length text) false j later later at' ln' at' ln' [] (omega arith) once' (omega (arith, back, many, more, few, within, room)) (head.reached n j start) (none_begun false text later at' ln' head.read.within) (λ final at'' ln'' bodies once'' body.
-          listings todo base final (j + 1) at'' ln'' (cs ++ record { head = heads; body = bodies } ∷ []) (omega (arith, all)) once'' room
-          (codes_more n text base names final j at ln at'' ln'' cs (record { head = heads; body = bodies }) r below
-          (code_read text (first_line (drop at text)) names later final j at ln e.0 at' ln' at'' ln'' (record { head = heads; body = bodies }) e.1 same h head body)) on))
+  listings (suc todo) base names j at ln cs all once room r on =
+      let below : j < n = omega (arith, all) in
+      let reached : Reached n text at ln (rule j) = subst (Reached n text at ln) (due_here n j below) r.reached in
+      let stands : StandsAs (rule j) (first_line (drop at text)) → ⊥ =
+      λ h.
+      let e = line_ends text at r.within in
+      let same = sym e.1.line in
+      let start = rule_stands n text (first_line (drop at text)) j at ln e.0 e.1 same h reached in
+      let back = e.1.back in
+      let many = at_most (3 * at) base names r.puts in
+      block (length text) true j names names e.0 (ln + 1) e.0 (ln + 1) [] (omega arith) once (omega (arith, back, many, room)) start (none_begun true text names e.0 (ln + 1) e.1.within) (λ later at' ln' heads once' head.
+      let more = at_most (3 * (at' - e.0)) names later head.read.puts in
+      let few = head.read.few in
+      let within = head.read.within in
+      block (length text) false j later later at' ln' at' ln' [] (omega arith) once' (omega (arith, back, many, more, few, within, room)) (head.reached n j start) (none_begun false text later at' ln' head.read.within) (λ final at'' ln'' bodies once'' body.
+      listings todo base final (j + 1) at'' ln'' (cs ++ record { head = heads; body = bodies } ∷ []) (omega (arith, all)) once'' room
+      (codes_more n text base names final j at ln at'' ln'' cs (record { head = heads; body = bodies }) r below
+      (code_read text (first_line (drop at text)) names later final j at ln e.0 at' ln' at'' ln'' (record { head = heads; body = bodies }) e.1 same h head body)) on)) in
+      right ln (reached_wrong n text at ln (rule j) reached stands (λ e. absurd (cc)))
 
 -- each text is the listings of codes, or has a line that doesn't stand in its place
 pub listed_or_wrong : ListedOrWrong

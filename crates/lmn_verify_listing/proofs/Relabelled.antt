@@ -1,5 +1,5 @@
 -- The line of an instruction by any list of names is one by each list that is held, behind which its own name is put.
-use Rattle.std.proofs.Common.{◌≡◌, ◌<◌, ◌≤◌, ◌+◌, ◌^◌, ◌⊎◌, inl, inr, ℕ, Bool, true, false, List, [], ◌∷◌, ◌++◌, map, length, Contains, slice_get, Some, refl, sym, ap, ◌∙◌, subst, arith, true≢false}
+use Rattle.std.proofs.Common.{◌≡◌, ◌<◌, ◌^◌, ℕ, Bool, true, false, List, [], ◌∷◌, ◌++◌, map, length, Contains, slice_get, Some, refl, sym, ap, ◌∙◌, subst, arith, true≢false}
 use Rattle.std.specs.Prelude.{codes, bytes_eq, slice_index_or}
 use Rattle.std.specs.List.{AllByRecursion, flat_map, list_any}
 use Rattle.std.specs.Fmt.{decimal}
@@ -63,7 +63,7 @@ module _ (ns names : List (List ℕ)) (once : IsNames names) (room : length name
         order = numbers_put names later (slice_index_or ns n []) k is held absent;
       }
 
-  pub said_label : (l : Label) → IsShortLabel ns l → FitsLabel l → SaidLabel ns names l
+  said_label : (l : Label) → IsShortLabel ns l → FitsLabel l → SaidLabel ns names l
   said_label (label.Int z) short fits =
       record { later = names; again = label.Int z; adds = adds_none 1 names; once = once; has = tt; short = tt; fits = fits; text = refl; order = no_more }
   said_label (label.Name n) short fits = by (list_any (bytes_eq (slice_index_or ns n [])) names) refl
@@ -132,20 +132,20 @@ module _ (ns names : List (List ℕ)) where
   with_last : (i again : Instr) (front xs ys : List Operand) (later : List (List ℕ)) → operands again ≡ front ++ xs → operands i ≡ front ++ ys → are_nameless front ≡ true → mnemonic again ≡ mnemonic i → opcode_of again ≡ opcode_of i
       → FitsInstr again → AddsNames 3 names later → IsNames later → AllByRecursion (HasOperand later) xs → AllByRecursion (IsShortOperand later) xs → operands_text later xs ≡ operands_text ns ys
       → NumbersNames names (flat_map operand_names xs) later → Relabelled ns names i
-  with_last i again front xs ys later new old nameless name code fits adds once has short text order = record {
+  with_last i again front xs ys later made old nameless name code fits adds once has short text order = record {
     later = later;
     again = again;
     adds = adds;
     once = once;
     opcode = code;
     fits = fits;
-    named = has_instr later again (subst (AllByRecursion (HasOperand later)) (sym new) (front_named later ns xs ys front nameless has));
-    short = subst (AllByRecursion (IsShortOperand later)) (sym new) (front_short later ns xs ys front nameless short);
+    named = has_instr later again (subst (AllByRecursion (HasOperand later)) (sym made) (front_named later ns xs ys front nameless has));
+    short = subst (AllByRecursion (IsShortOperand later)) (sym made) (front_short later ns xs ys front nameless short);
     text =
         let same : operands_text later (operands again) ≡ operands_text ns (operands i) =
-        ap (operands_text later) new ∙ front_text later ns xs ys front nameless text ∙ ap (operands_text ns) (sym old) in
+        ap (operands_text later) made ∙ front_text later ns xs ys front nameless text ∙ ap (operands_text ns) (sym old) in
         sym (same_line later again) ∙ (λ j. 32 ∷ 32 ∷ (name j ++ (same j ++ codes "\n"))) ∙ same_line ns i;
-    order = subst (λ ks. NumbersNames names ks later) (sym (ap (flat_map operand_names) new ∙ front_names later ns xs ys front nameless)) order;
+    order = subst (λ ks. NumbersNames names ks later) (sym (ap (flat_map operand_names) made ∙ front_names later ns xs ys front nameless)) order;
   }
 
   module _ (once : IsNames names) (room : length names < 2 ^ 32) where
@@ -158,8 +158,8 @@ module _ (ns names : List (List ℕ)) where
     -- one whose last operand is a functor
     with_functor : (i again : Instr) (front : List Operand) (f : Functor) (p : SaidLabel ns names f.label) → operands again ≡ front ++ operand.Functor (record { label = p.again; arity = f.arity }) ∷ [] → operands i ≡ front ++ operand.Functor f ∷ []
         → are_nameless front ≡ true → mnemonic again ≡ mnemonic i → opcode_of again ≡ opcode_of i → FitsInstr again → Relabelled ns names i
-    with_functor i again front f p new old nameless name code fits =
-        with_last i again front (operand.Functor (record { label = p.again; arity = f.arity }) ∷ []) (operand.Functor f ∷ []) p.later new old nameless name code fits (adds_more 1 3 names p.later (omega arith) p.adds) p.once (p.has, tt) (p.short, tt)
+    with_functor i again front f p made old nameless name code fits =
+        with_last i again front (operand.Functor (record { label = p.again; arity = f.arity }) ∷ []) (operand.Functor f ∷ []) p.later made old nameless name code fits (adds_more 1 3 names p.later (omega arith) p.adds) p.once (p.has, tt) (p.short, tt)
         (ap (λ t. 32 ∷ ((t ++ (codes "/" ++ decimal f.arity)) ++ [])) p.text) (subst (λ ks. NumbersNames names ks p.later) (sym (append-nil (label_names p.again))) p.order)
 
     -- each line of an instruction is one by these names
