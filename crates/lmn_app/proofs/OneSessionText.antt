@@ -233,7 +233,7 @@ pub shown_reads_back : AcceptedTexts → PlainsArePrintable → TracesAreRuns �
 shown_reads_back laws printables runs alloc program script s t S at =
     let of = solid_of_session s in
     let n = by_numbers laws printables program of in
-    let trace : Trace (chosen First) most_commits session_size _ at.before S = subst (λ R. Trace (chosen First) most_commits session_size R at.before S) n.2 at.trace in
+    let trace = subst (λ R. Trace (chosen First) most_commits session_size R at.before S) n.2 at.trace in
     let run = runs alloc (record { trace = false; folded = false; budget = most_commits; size = session_size; chooser = chosen First }) of.names of.plain n.0 (printable_of laws printables program of.names of.plain of.plans of.accepted) n.1 at.before S trace in
     let last = run.prints (line_of (as_level S) ∷ []) (refl, tt) in
     subst (IsLineOf of.names (region_process S)) (sym (head_is last.alone)) last.of
