@@ -19,6 +19,8 @@ mod OneListing
 mod OneExecution
 mod OneOutput
 mod OneRefusedListing
+mod OneSessionText
+mod FewAtStart
 mod OneRun
 mod SmallTexts
 mod SmallBounds

@@ -1,24 +1,26 @@
 -- A listing beside a program is read or refused, not both, and it is refused in one way.
-use Rattle.std.proofs.Common.{◌≡◌, ◌∙◌, ◌+◌, ◌*◌, ◌<◌, ◌≤◌, ◌^◌, ◌⊎◌, inl, inr, ℕ, List, length, take, refl, sym, ap, subst, arith}
+use Rattle.std.proofs.Common.{◌≡◌, ◌∙◌, ◌+◌, ◌*◌, ◌<◌, ◌≤◌, ◌^◌, ◌⊎◌, inl, inr, ℕ, suc, List, [], ◌∷◌, length, take, refl, sym, ap, subst, arith}
 use Rattle.std.specs.List.{AllByRecursion, flat_map}
 use Rattle.std.proofs.lemmas.Bool.{cases_lt}
 use Rattle.lmn_app_accepted.proofs.PlanKinds.{at_index}
+use Rattle.lmn_app_accepted.specs.Loading.{AcceptedAreNamed}
 use Rattle.lmn_base.specs.declared.refusal.Refusal.{Refusal}
 use Rattle.lmn_base.specs.declared.rule.Plain.{Plain}
 use Rattle.lmn_base.specs.Names.{IsNames}
 use Rattle.lmn_congruence.specs.Rules.{Name}
 use Rattle.lmn_instr_reading.specs.Reading.{AddsNames, NumbersNames}
+use Rattle.lmn_instr_reading.proofs.NameLemmas.{adds_none}
 use Rattle.lmn_guards.specs.declared.plan.GuardPlan.{GuardPlan}
 use Rattle.lmn_instr_code.specs.declared.instr.Code.{Code}
-use Rattle.lmn_verify_compiled.specs.Laws.{AcceptedCanBeListed}
+use Rattle.lmn_verify_compiled.specs.Laws.{AcceptedCanBeListed, AcceptedNamesAreFew}
 use Rattle.lmn_app_reading.proofs.OneRead.{one_acceptance}
 use Rattle.lmn_verify_compiled.specs.OneReading.{ListedCodesAreOne, ListedNamesAreOne}
 use Rattle.lmn_verify_listing.specs.Lines.{IsWrongLine}
-use Rattle.lmn_verify_listing.specs.ListingLaws.{ListedLinesStand, WrongLineIsOne}
-use Rattle.lmn_verify_listing.specs.Listings.{AreListed, IsFirstUnverified, IsRefusedListing, lines_of_all, not_a_listing, not_verified}
+use Rattle.lmn_verify_listing.specs.ListingLaws.{ListedLinesStand, ListedOrWrong, WrongLineIsOne}
+use Rattle.lmn_verify_listing.specs.Listings.{AreListed, IsFirstUnverified, IsRefusedListing, lines_of, lines_of_all, not_a_listing, not_verified}
 use Rattle.lmn_verify_code.specs.Operands.{code_names}
 use Rattle.lmn_verify_code.specs.Verified.{IsVerified}
-use Rattle.lmn_app.specs.ExecLaws.{OneWrongListing, ReadNotRefused}
+use Rattle.lmn_app.specs.ExecLaws.{OneWrongListing, ReadNotRefused, ReadOrRefused}
 use Rattle.lmn_app.specs.Executions.{IsWrongListing, ReadsCodes}
 use Rattle.lmn_app.specs.Texts.{Accepts}
 use Rattle.lmn_app.proofs.OneOutput.{as_many}
@@ -141,3 +143,42 @@ read_is_not_refused on program listing refusal r w = read_not_refused on program
 -- and it is refused in one way
 pub refused_in_one_way : Grounds → OneWrongListing
 refused_in_one_way on program listing refusal other v w = one_wrong_listing on program listing refusal other v w
+
+-- ---- a listing beside a program is read or refused
+
+-- each of the codes is verified, or there is a first that isn't
+verified_or_first : (n : ℕ) (cs : List Code) → ((k : ℕ) → ¬ (IsFirstUnverified n cs k)) → ¬ (¬ (AllByRecursion (λ c. IsVerified c n) cs))
+verified_or_first n [] first all = all tt
+verified_or_first n (c ∷ cs) first all =
+    let unverified : IsVerified c n → ⊥ =
+    λ v. verified_or_first n cs (λ k f.
+    let number = f.number in
+    first (lines_of c + k) (record { rule = suc f.rule; code = f.code; is = f.is; unverified = f.unverified; earlier = (v, f.earlier); number = omega (arith, number) })) (λ h. all (v, h)) in
+    first 1 (record { rule = 0; code = c; is = refl; unverified = unverified; earlier = tt; number = refl })
+
+-- so a listing that isn't too long is read beside an accepted program, or refused
+pub read_or_refused : ListedOrWrong → AcceptedNamesAreFew → AcceptedAreNamed → ReadOrRefused
+read_or_refused listed few named program listing (names, plain, plans, a, fits) short neither =
+    listed (length plain.rules) names listing once room (
+      (λ later codes adds whole are order.
+          verified_or_first (length plain.rules) codes (λ k first. refused 82 k later adds whole (not_verified codes are order first)) (λ all.
+          neither.0 (record { names = names; plain = plain; plans = plans; accepted = a; later = later; adds = adds; once = whole; codes = codes; order = order; are = are; verified = all }))),
+      λ k wrong.
+          refused 81 k names (adds_none (3 * length listing) names) once (not_a_listing wrong),
+    )
+  where
+    once : IsNames names
+    once =
+        let known = named program names plain plans a.named a.accepted in
+        known.begins
+
+    room : length names + 3 * length listing < 2 ^ 32
+    room =
+        let many = few program names plain plans a.named a.accepted in
+        let small = a.short in
+        omega (arith, many, small, short)
+
+    refused : (code k : ℕ) (later : List Name) → AddsNames (3 * length listing) names later → IsNames later → IsRefusedListing (length plain.rules) names later listing code k → ⊥
+    refused code k later adds whole wrong =
+        neither.1 (record { code = code; pos = record { line = k; column = 1 } })
+        (record { names = names; plain = plain; plans = plans; accepted = a; later = later; adds = adds; once = whole; wrong = wrong; first = refl })

@@ -94,7 +94,7 @@ fits_not (Some size) names others p q well also e (S, i, l) (T, j, m) =
 pub made : {text : List ℕ} {names : List Name} {p : Plain} {ps : List GuardPlan} → IsAcceptedAs text names p ps → IsWellMade p
 made {text} {names} {p} a = well_made text names p a.reads a.outside
 
-fits_or_not : (size : Option ℕ) (names : List Name) (p : Plain) → IsWellMade p → EachTwice (links_of p.top) → Fits size names p ⊎ IsTooLarge size names p
+pub fits_or_not : (size : Option ℕ) (names : List Name) (p : Plain) → IsWellMade p → EachTwice (links_of p.top) → Fits size names p ⊎ IsTooLarge size names p
 fits_or_not None names p well closed = inl tt
 fits_or_not (Some size) names p well closed =
     let s = solids_of_plains_exist p well closed in

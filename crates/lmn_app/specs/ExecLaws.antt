@@ -1,8 +1,9 @@
 -- What `exec` does by the listing that `compile` writes is what `run` does, and what it does by any listing is one.
-use Rattle.std.specs.Prelude.{◌≡◌, ℕ, List, [], Some, false}
+use Rattle.std.specs.Prelude.{◌≡◌, ◌≤◌, ℕ, List, [], Some, None, false, length}
 use Rattle.std.specs.declared.alloc.Global.{Global}
 use Rattle.lmn_base.specs.declared.refusal.Refusal.{Refusal}
 use Rattle.lmn_verify_coded.specs.Laws.{CameToEnd}
+use Rattle.lmn_app_words.specs.declared.command.PairKind.TheVariants.{Exec}
 use Rattle.lmn_order.specs.declared.order.Order.TheVariants as order
 use Rattle.lmn_app.specs.declared.ending.Ending.{Ending}
 use Rattle.lmn_app.specs.declared.ending.Ending.TheVariants.{Done, Budget, Full, NoMemory}
@@ -10,6 +11,8 @@ use Rattle.lmn_app_words.specs.declared.command.RunSettings.{RunSettings}
 use Rattle.lmn_app.specs.declared.task.Task.TheVariants as task
 use Rattle.lmn_app.specs.Executions.{IsExecuted, IsWrongListing, ReadsCodes, executed_budget, executed_size}
 use Rattle.lmn_app.specs.Outcomes.{Output}
+use Rattle.lmn_app.specs.SecondTexts.{second_bytes}
+use Rattle.lmn_app.specs.Texts.{IsAccepted}
 use Rattle.lmn_app.specs.Writing.{IsListing}
 use Rattle.lmn_app_drive.specs.declared.driving.RunEnd.{RunEnd}
 use Rattle.lmn_app_drive.specs.declared.driving.RunEnd.TheVariants as run
@@ -43,6 +46,11 @@ ReadNotRefused = (program listing : List ℕ) (refusal : Refusal) → ReadsCodes
 -- and it is refused by one code at one place at most.
 abbrev pub OneWrongListing : Type 0
 OneWrongListing = (program listing : List ℕ) (refusal other : Refusal) → IsWrongListing program listing refusal → IsWrongListing program listing other → refusal ≡ other
+
+-- Beside an accepted program each listing that isn't too long is read or refused.
+abbrev pub ReadOrRefused : Type 0
+ReadOrRefused = (program listing : List ℕ) → IsAccepted None program → length listing ≤ second_bytes Exec
+    → ¬ (¬ (ReadsCodes program listing) × ((refusal : Refusal) → ¬ (IsWrongListing program listing refusal)))
 
 -- Two executions of one listing beside one program have as many commits, one end and one text, where both came to their end. How a store
 -- numbers what it makes doesn't show, and program and listing determine the list of names.

@@ -15,6 +15,7 @@ pub mod Runnings
 pub mod RunLaws
 pub mod Runs
 pub mod SecondTexts
+pub mod SizeLaws
 pub mod Seconds
 pub mod TextExamples
 pub mod Texts

@@ -6,14 +6,15 @@ ghost use Rattle.lmn_app.specs.BoundLaws.{BoundNotRefused, BoundOrRefused, Bound
 ghost use Rattle.lmn_app.specs.CheckExamples.{NothingIsWrong, SmallTextIsChecked, SmallTextIsNotTwice};
 ghost use Rattle.lmn_app.specs.CheckLaws.{CheckedNotWrong, CheckedOrWrong, OneCount, OneWrongTrace, RunsAreChecked};
 ghost use Rattle.lmn_app.specs.DebugExamples.{SmallTextIsDebugged, SmallTextIsNotDebuggedSo};
-ghost use Rattle.lmn_app.specs.DebugLaws.{OneWrongScript, SessionNotRefused, SessionOrRefused};
+ghost use Rattle.lmn_app.specs.DebugLaws.{OneSessionText, OneWrongScript, SessionNotRefused, SessionOrRefused, ShownReadsBack};
 ghost use Rattle.lmn_app.specs.ExecExamples.{SmallListingIsRead, SmallListingIsWrong, SmallTextIsExecuted, SmallTextIsNotExecutedSo};
-ghost use Rattle.lmn_app.specs.ExecLaws.{CompiledIsNotWrong, CompiledRunsAsRun, OneOutput, OneWrongListing, ReadNotRefused};
+ghost use Rattle.lmn_app.specs.ExecLaws.{CompiledIsNotWrong, CompiledRunsAsRun, OneOutput, OneWrongListing, ReadNotRefused, ReadOrRefused};
 ghost use Rattle.lmn_app.specs.Demos.{SomeDemo};
 ghost use Rattle.lmn_app.specs.DemoLaws.{DemoIsFoldedRun};
 ghost use Rattle.lmn_app.specs.ListingLaws.{OneListing};
 ghost use Rattle.lmn_app.specs.NameExamples.{SomeNames};
 ghost use Rattle.lmn_app.specs.RunLaws.{EarlierRunFirst, OneRun, OneRunSoFar};
+ghost use Rattle.lmn_app.specs.SizeLaws.{AcceptedIsSmall, NoneIsLarge};
 ghost use Rattle.lmn_app.specs.TextExamples.{SmallTextHasItsTrace, SmallTextIsAccepted, SmallTextRuns, SmallTextRunsFolded};
 ghost use Rattle.lmn_app.specs.Texts.{AcceptedOrRefused, OneRefusal, RefusedNotAccepted};
 
@@ -21,14 +22,17 @@ use lmn_adequacy_heaps::solids_are_regions;
 use lmn_adequacy_turns::plains_are_tables;
 use lmn_app_accepted::{accepted_texts, accepted_texts_can_be_loaded};
 use lmn_app_runs::{plains_are_printable, short_run_prints, traces_are_runs};
+use lmn_debug::writing_is_one;
 use lmn_debug_script::{orders_are_once, scripts_are_decided};
 use lmn_receipt_chain::{
     chains_are_commits, no_trace_is_neither, traces_are_chains, traces_are_one_of,
 };
 use lmn_schedule_loading::loading_settles;
 use lmn_verify_coded::{runs_are_one, tables_run_as_rules};
-use lmn_verify_compiled::{accepted_can_be_listed, compiled_are_listed, listed_codes_are_one};
-use lmn_verify_listing::laws::{listed_lines_stand, wrong_line_is_one};
+use lmn_verify_compiled::{
+    accepted_can_be_listed, accepted_names_are_few, compiled_are_listed, listed_codes_are_one,
+};
+use lmn_verify_listing::laws::{listed_lines_stand, listed_or_wrong, wrong_line_is_one};
 use lmn_weight::{
     plains_weigh_alike, weights_are_read_once, weights_are_told_or_wrong, weights_bound_commits,
 };
@@ -42,6 +46,12 @@ pub fn refusals_are_one()
 /// A text is accepted, or it is refused.
 pub fn texts_are_accepted_or_refused()
     ensures { AcceptedOrRefused }
+{}
+
+/// No text is too large for `debug` and `exec`.
+pub fn none_is_large()
+    ensures accepted { AcceptedIsSmall }
+    ensures refused { NoneIsLarge }
 {}
 
 /// The list of names of a small text.
@@ -165,6 +175,17 @@ pub fn scripts_are_obeyed_or_refused()
     scripts_are_decided();
 }
 
+/// Two sessions of one script over one program whose orders are all carried out write one text, and what `show` writes reads back.
+pub fn sessions_are_one()
+    ensures one { OneSessionText }
+    ensures shown { ShownReadsBack }
+{
+    accepted_texts();
+    plains_are_printable();
+    traces_are_runs();
+    writing_is_one();
+}
+
 /// A session over `a. a :- b.`: two firings are asked for and one is there, and one firing back its first process stands there. A step that is
 /// taken doesn't leave the number as it was.
 pub fn small_text_is_debugged()
@@ -201,8 +222,9 @@ pub fn executions_are_one()
     runs_are_one();
 }
 
-/// A listing that is read beside a program isn't refused beside it, and it is refused by one code at one place at most.
+/// A listing that isn't too long is read beside an accepted program or refused, and not both, and it is refused by one code at one place at most.
 pub fn refused_listings_are_one()
+    ensures either { ReadOrRefused }
     ensures apart { ReadNotRefused }
     ensures refusal { OneWrongListing }
 {
@@ -210,6 +232,9 @@ pub fn refused_listings_are_one()
     listed_codes_are_one();
     listed_lines_stand();
     wrong_line_is_one();
+    listed_or_wrong();
+    accepted_names_are_few();
+    accepted_texts_can_be_loaded();
 }
 
 /// Beside `a. a :- b.` a listing is read whose code takes an `a` away, and is run to its end after one commit. A listing whose code

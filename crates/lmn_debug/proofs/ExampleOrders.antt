@@ -1,5 +1,5 @@
 -- What small scripts write.
-use Rattle.std.proofs.Common.{ℕ, ◌≡◌, ◌-◌, List, [], ◌∷◌, ◌++◌, codes, get_or, length, refl, ap, subst, ◌∙◌, arith, append-nil}
+use Rattle.std.proofs.Common.{ℕ, ◌≡◌, ◌<◌, ◌-◌, List, [], ◌∷◌, ◌++◌, codes, get_or, length, refl, ap, subst, ◌∙◌, arith, append-nil}
 use Rattle.std.specs.Fmt.{digits}
 use Rattle.std.specs.List.{concat}
 use Rattle.std.proofs.lemmas.List.{length-append}
@@ -54,6 +54,10 @@ in_one : (done others : List Order) (next order : Order) → order ∷ [] ≡ do
 in_one [] others next order e = cc
 in_one (x ∷ xs) others next order e = let long = ap length e in let more = length-append xs (next ∷ others) in absurd (omega (arith, long, more))
 
+alone : (done others : List Order) (next order : Order) → order ∷ [] ≡ done ++ next ∷ others → done ≡ []
+alone [] others next order e = refl
+alone (x ∷ xs) others next order e = let long = ap length e in let more = length-append xs (next ∷ others) in absurd (omega (arith, long, more))
+
 pub memory_may_lack : StepsStop → MemoryMayLack
 unfolding digits
 memory_may_lack steps = (
@@ -69,6 +73,10 @@ memory_may_lack steps = (
     is = refl;
   },
   λ written w. subst (LacksMemory names_a growing_course w.at) (in_one w.done w.others w.next Show w.are) w.lacks,
+  λ written w.
+      let start = (none_before w.obeys (alone w.done w.others w.next (Back 9) w.are)).1 in
+      let lacks : w.at - 9 < w.at = subst (LacksMemory names_a growing_course w.at) (in_one w.done w.others w.next (Back 9) w.are) w.lacks in
+      omega (arith, start, lacks),
 )
 
 pub lines_may_fail : StepsStop → LinesMayFail

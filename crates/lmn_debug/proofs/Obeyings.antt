@@ -75,7 +75,7 @@ module _ (names : List Name) (table : List RuleTree) (g : Course) (t : ℕ) wher
       StandsAt names table g t' h → LineTold t' stop.Done old new result →
       MatchResult result (λ done. Obeyed names table g t (Back n) t' h old new) (λ fault. Unobeyed names g t (Back n) fault old new)
   back_obeyed n t' h old new result e stands =
-      told_obeyed (Back n) stop.Done t' h old new result (λ ne. subst (λ k. Obeys names g t (Back n) (line_at k stop.Done) k) (sym e) went_back) (λ d. tt) stands
+      told_obeyed (Back n) stop.Done t' h old new result (λ ne. subst (λ k. Obeys names g t (Back n) (line_at k stop.Done) k) (sym e) went_back) (λ d. absurd (cc d)) stands
 
   -- the line of a solid that the heap holds
   pub show_line : (h : Heap) → StandsAt names table g t h → (line : List ℕ) × Obeys names g t Show line t × IsHeapLine false names table h line

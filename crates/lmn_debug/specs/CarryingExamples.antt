@@ -16,11 +16,13 @@ OrdersAreWritten =
     AllWritten (Show ∷ Step 2 ∷ Back 9 ∷ Until functor_a Eq 2 ∷ []) (codes "a. (a :- a, a).\n% at 1 full\n% at 0\n% at 1 met\n")
     × (¬ (AllWritten (Back 9 ∷ []) (codes "% at 1\n")))
 
--- Where memory is wanting for `step 1`, the lines of the orders before it are written. It is never wanting for `show`.
+-- Where memory is wanting for `step 1`, the lines of the orders before it are written. It is never wanting for `show`, nor for `back` where
+-- nothing was fired.
 abbrev pub MemoryMayLack : Type 0
 MemoryMayLack =
     ObeyedSome names_a growing_course (Back 9 ∷ Step 1 ∷ Show ∷ []) (codes "% at 0\n")
     × ((written : List ℕ) → ¬ (ObeyedSome names_a growing_course (Show ∷ []) written))
+    × ((written : List ℕ) → ¬ (ObeyedSome names_a growing_course (Back 9 ∷ []) written))
 
 -- Where the second line fails, both are due at most, and no other.
 abbrev pub LinesMayFail : Type 0

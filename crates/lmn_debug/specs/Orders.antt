@@ -1,5 +1,5 @@
 -- What a list of orders does, and what is written of it. Nothing here speaks of a store.
-use Rattle.std.specs.Prelude.{ℕ, ◌≡◌, ◌≢◌, ◌-◌, ⊤, List, [], ◌∷◌, ◌++◌, codes, decimal}
+use Rattle.std.specs.Prelude.{ℕ, ◌≡◌, ◌≢◌, ◌<◌, ◌-◌, List, [], ◌∷◌, ◌++◌, codes, decimal}
 use Rattle.std.specs.List.{concat}
 use Rattle.lmn_base.specs.declared.functor.Functor.{Functor}
 use Rattle.lmn_base.specs.declared.guard.Cmp.{Cmp}
@@ -44,10 +44,10 @@ pub data ObeysAll (names : List Name) (g : Course) : List Order → List (List �
   obeyed : {orders : List Order} {lines : List (List ℕ)} {t : ℕ} {order : Order} {line : List ℕ} {t' : ℕ} →
       ObeysAll names g orders lines t → Obeys names g t order line t' → ObeysAll names g (orders ++ order ∷ []) (lines ++ line ∷ []) t'
 
--- No memory was found for an order at the number t: for a commit that the trace has, or to go back.
+-- No memory was found for an order at the number t: for a commit that the trace has, or to go back to a lesser number.
 abbrev pub LacksMemory : List Name → Course → ℕ → Order → Type 0
 LacksMemory names g t (Step n) = (t' : ℕ) × Stepped g t n NoMemory t'
-LacksMemory names g t (Back n) = ⊤
+LacksMemory names g t (Back n) = t - n < t
 LacksMemory names g t (Until f op n) = (t' : ℕ) × Waited names g (wish f op n) t NoMemory t'
 LacksMemory names g t Show = ⊥
 

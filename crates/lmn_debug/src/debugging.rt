@@ -1,4 +1,4 @@
-ghost use Rattle.std.specs.Prelude.{◌≡◌, ◌<◌, ◌≤◌, ◌+◌, ◌-◌, ◌^◌, ◌↔◌, length, List, IsTrue, MatchResult, OnOk};
+ghost use Rattle.std.specs.Prelude.{◌≡◌, ◌<◌, ◌≤◌, ◌+◌, ◌-◌, ◌^◌, ◌↔◌, length, List, IsTrue, MatchResult, OnErr, OnOk};
 ghost use Rattle.lmn_adequacy.specs.Runs.{Chooser as Choosing};
 ghost use Rattle.lmn_congruence.specs.Rules.{Name};
 ghost use Rattle.lmn_order.specs.Answers.{AnswersBelow};
@@ -187,7 +187,7 @@ fn back<'p, F: Fn(u64, u64) -> u64 + Copy + Drop, O: Sink, L: Ledger>(
     }
 }
 
-/// Puts the session back by `n` commits, or to the first process.
+/// Puts the session back by `n` commits, or to the first process. Where it stands there already nothing is made.
 fn go_back<'p, F: Fn(u64, u64) -> u64 + Copy + Drop, L: Ledger>(
     alloc: Global,
     session: &mut Session<'p, WebStore, F>,
@@ -197,14 +197,21 @@ fn go_back<'p, F: Fn(u64, u64) -> u64 + Copy + Drop, L: Ledger>(
 ) -> Result<(), NoMemory>
     requires plain { CanBeLoaded beginning.now.plain.now beginning.now.plans.now }
     requires chooser { AnswersBelow F.pre F.post beginning.now.choose }
-    requires same { (session.old.engine.plain.now ≡ beginning.now.plain.now) × (session.old.engine.size ≡ beginning.now.size) }
+    requires same { (session.old.engine.plain.now ≡ beginning.now.plain.now) × (session.old.engine.chooser.f ≡ beginning.now.choose) × (session.old.engine.size ≡ beginning.now.size) }
     requires run { EngineCanTurn (heap_of session.old.engine.machine.store) beginning.now.plain.now.rules session.old.engine.codes beginning.now.size }
     requires commits { session.old.engine.commits < 2 ^ 62 }
-    ensures back { OnOk result ((names : List Name) → OfEachCourse F.post beginning.now.choose names beginning.now.plain.now beginning.now.size (λ g. StandsAt names beginning.now.plain.now.rules g session.new.engine.commits (heap_of session.new.engine.machine.store))) }
+    ensures back { OnOk result ((names : List Name) → OfEachCourse F.post beginning.now.choose names beginning.now.plain.now beginning.now.size (λ g.
+        StandsAt names beginning.now.plain.now.rules g session.old.engine.commits (heap_of session.old.engine.machine.store) → StandsAt names beginning.now.plain.now.rules g session.new.engine.commits (heap_of session.new.engine.machine.store))) }
+    ensures lacks { OnErr result (session.old.engine.commits - n < session.old.engine.commits) }
     ensures number { OnOk result (session.new.engine.commits ≡ session.old.engine.commits - n) }
     ensures same { OnOk result ((session.new.engine.plain.now ≡ beginning.now.plain.now) × (session.new.engine.chooser.f ≡ beginning.now.choose) × (session.new.engine.size ≡ beginning.now.size)) }
     ensures again { OnOk result (EngineCanTurn (heap_of session.new.engine.machine.store) beginning.now.plain.now.rules session.new.engine.codes beginning.now.size) }
 {
+    let commits = session.commits();
+    let number = commits.saturating_sub(n);
+    if number == commits {
+        return Ok(());
+    }
     let fresh = beginning.engine(alloc)?;
     session.back(alloc, fresh, n, steps)
 }

@@ -34,7 +34,7 @@ mod ListingExamples
 mod KeptHeads
 mod KeptBodies
 mod KeptItems
-mod FewRules
+pub mod FewRules
 mod PlainNames
 mod ListableIntegers
 pub mod ReadPlains

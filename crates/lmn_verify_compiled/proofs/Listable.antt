@@ -1,5 +1,5 @@
 -- The rules of an accepted text can be listed.
-use Rattle.std.proofs.Common.{◌≡◌, ℕ, zero, suc, ◌<◌, ◌^◌, List, [], ◌∷◌, ◌++◌, map, length, Some, slice_get, refl, sym, ap, subst, arith}
+use Rattle.std.proofs.Common.{◌≡◌, ℕ, zero, suc, ◌+◌, ◌<◌, ◌≤◌, ◌^◌, List, [], ◌∷◌, ◌++◌, map, length, Some, slice_get, refl, sym, ap, subst, arith}
 use Rattle.std.specs.Prelude.{All}
 use Rattle.std.specs.List.{AllByRecursion, flat_map}
 use Rattle.std.proofs.lemmas.List.{length-map}
@@ -35,7 +35,7 @@ use Rattle.lmn_verify_compiled.specs.Kept.{IsKeptCode}
 use Rattle.lmn_verify_compiled.specs.ListedTables.{ArePlainNames}
 use Rattle.lmn_congruence.proofs.NumberedRules.{rule_has_number}
 use Rattle.lmn_verify_listing.specs.Opcodes.{FitsLabel}
-use Rattle.lmn_verify_compiled.specs.Laws.{AcceptedCanBeListed}
+use Rattle.lmn_verify_compiled.specs.Laws.{AcceptedCanBeListed, AcceptedNamesAreFew}
 use Rattle.lmn_verify_compiled.proofs.FewRules.{few_rules}
 use Rattle.lmn_verify_compiled.proofs.ListableIntegers.{SpelledLeaf, guard_kept, in_64_bits, leaves_spelled}
 use Rattle.lmn_verify_compiled.proofs.KeptBodies.{body_kept}
@@ -101,6 +101,18 @@ of_rule P [] k r h e = absurd (cc)
 of_rule P (s ∷ rs) zero r h e = subst P (same_Some s r e) h.0
 of_rule P (s ∷ rs) (suc k) r h e = of_rule P rs k r h.1 e
 
+-- an accepted text has few names
+pub accepted_names_are_few : AcceptedNamesAreFew
+accepted_names_are_few text names plain plans left a =
+    let reads = a.reads in
+    let words = words_of text reads.tokens in
+    let are = left reads.tokens reads.tree reads.right reads.reads reads.within in
+    let tokens = few_tokens text reads.tokens reads.reads.cut in
+    let spoken = length-map reads.tokens (word_of text) in
+    let many = read_few words in
+    let same = ap length are in
+    omega (arith, tokens, spoken, many, same)
+
 -- the rules of an accepted text can be listed
 pub accepted_can_be_listed : AcceptedTexts → AcceptedCanBeLoaded → AcceptedAreNamed → AcceptedHeads → PlainsArePrintable → AcceptedCanBeListed
 accepted_can_be_listed accepted loads are_named heads prints text names plain plans short left a =
@@ -110,10 +122,8 @@ accepted_can_be_listed accepted loads are_named heads prints text names plain pl
     let words = words_of text reads.tokens in
     let are = left reads.tokens reads.tree reads.right reads.reads reads.within in
     let tokens = few_tokens text reads.tokens reads.reads.cut in
-    let spoken = length-map reads.tokens (word_of text) in
-    let many = read_few words in
-    let same = ap length are in
-    let few_names : length names < 2 ^ 32 = omega (arith, short, tokens, spoken, many, same) in
+    let many = accepted_names_are_few text names plain plans left a in
+    let few_names : length names < 2 ^ 32 = omega (arith, short, many) in
     let rules = few_rules reads.tokens words (map (λ t. t.pos) reads.tokens) names reads.tree plain reads.reads.is_tree reads.is_plain in
     let few : length plain.rules < 2 ^ 32 = omega (arith, rules, tokens, short) in
     let printable = prints text names plain (plain_read accepted text names plain plans left a) in

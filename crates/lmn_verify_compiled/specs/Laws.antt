@@ -1,5 +1,5 @@
 -- The rules of every accepted text can be listed.
-use Rattle.std.specs.Prelude.{ℕ, ◌<◌, ◌^◌, List, length}
+use Rattle.std.specs.Prelude.{ℕ, ◌+◌, ◌<◌, ◌≤◌, ◌^◌, List, length}
 use Rattle.lmn_base.specs.declared.rule.Plain.{Plain}
 use Rattle.lmn_base.specs.Names.{first_names}
 use Rattle.lmn_congruence.specs.Rules.{Name}
@@ -11,3 +11,8 @@ use Rattle.lmn_verify_compiled.specs.CompiledListings.{CanBeListed}
 abbrev pub AcceptedCanBeListed : Type 0
 AcceptedCanBeListed = (text : List ℕ) (names : List Name) (plain : Plain) (plans : List GuardPlan)
     → length text < 2 ^ 31 → LeavesNames text first_names names → IsAcceptedAs text names plain plans → CanBeListed names plain plans
+
+-- And there are hardly more of these names than the text has bytes.
+abbrev pub AcceptedNamesAreFew : Type 0
+AcceptedNamesAreFew = (text : List ℕ) (names : List Name) (plain : Plain) (plans : List GuardPlan)
+    → LeavesNames text first_names names → IsAcceptedAs text names plain plans → length names ≤ length text + 8

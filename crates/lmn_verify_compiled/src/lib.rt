@@ -9,7 +9,7 @@ ghost use Rattle.lmn_verify_compiled.specs.Kept.{VerifiedIsWhole};
 ghost use Rattle.lmn_verify_compiled.specs.ListedTables.{TablesAreListed, VerifiedAreListed};
 ghost use Rattle.lmn_verify_compiled.specs.ListingExamples.{ListingExamples};
 ghost use Rattle.lmn_verify_compiled.specs.OneReading.{ListedCodesAreOne, ListedCodesAreRead, ListedNamesAreOne, VerifiedIsNotRefused};
-ghost use Rattle.lmn_verify_compiled.specs.Laws.{AcceptedCanBeListed};
+ghost use Rattle.lmn_verify_compiled.specs.Laws.{AcceptedCanBeListed, AcceptedNamesAreFew};
 
 use lmn_app_accepted::{accepted_texts, accepted_texts_can_be_loaded};
 use lmn_app_runs::plains_are_printable;
@@ -89,3 +89,8 @@ pub fn accepted_can_be_listed()
     accepted_heads();
     plains_are_printable();
 }
+
+/// An accepted text has hardly more names than bytes.
+pub fn accepted_names_are_few()
+    ensures { AcceptedNamesAreFew }
+{}

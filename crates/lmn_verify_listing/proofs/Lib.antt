@@ -6,3 +6,5 @@ pub mod LineLemmas
 pub mod ReachingLemmas
 pub mod CodeLemmas
 pub mod Exclusion
+mod Relabelled
+mod ListedOrWrong

@@ -1,4 +1,4 @@
-use Rattle.std.proofs.Common.{subst}
+use Rattle.std.proofs.Common.{refl, subst}
 use Rattle.lmn_store_web.specs.WebHeaps.{heap_of}
 use Rattle.lmn_debug.specs.Courses.{course}
 use Rattle.lmn_debug.specs.declared.session.Stop.TheVariants as stop
@@ -15,4 +15,7 @@ returns-in-Ok-clause-obeyed g c k gives named S first stands =
     let old = g.O.Sink.told c.args.out.now in
     let new = g.O.Sink.told c.tell.new.out in
     back_obeyed names table (course k c.args.beginning.now.size S) c.args.session.now.engine.commits c.args.n t' h' old new c.tell.result c.in-Ok.ensures.number
-    (c.in-Ok.ensures.back names k gives named S first) (subst (λ m. LineTold m stop.Done old new c.tell.result) c.commits.ensures c.tell.ensures.told)
+    (c.in-Ok.ensures.back names k gives named S first stands) (subst (λ m. LineTold m stop.Done old new c.tell.result) c.commits.ensures c.tell.ensures.told)
+
+pub returns-in-Err-clause-obeyed : goal.returns-in-Err-clause-obeyed
+returns-in-Err-clause-obeyed g c k gives named S first stands = (c.in-Err.ensures.lacks, refl)

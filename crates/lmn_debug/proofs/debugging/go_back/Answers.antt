@@ -1,5 +1,5 @@
-use Rattle.std.proofs.Common.{sym, ap, subst, ◌∙◌, Result, Ok, Err}
-use Rattle.std.specs.Result.{OnOk}
+use Rattle.std.proofs.Common.{sym, ap, subst, ◌∙◌, Result, Ok, Err, arith}
+use Rattle.std.specs.Result.{OnErr, OnOk}
 use Rattle.std.proofs.lemmas.Result.{on_ok_weaker}
 use Rattle.lmn_schedule.specs.Held.{EngineCanTurn, HoldsRegion}
 use Rattle.lmn_schedule.specs.Turning.{Gives}
@@ -18,7 +18,7 @@ returns-clause-back g c =
     let t' = c.back.new.self.engine.commits in
     let h' = heap_of c.back.new.self.engine.machine.store in
     on_ok_weaker c.back.result
-    (λ to names k gives named S first.
+    (λ to names k gives named S first _.
     let held : HoldsRegion names plain.rules h S = first_held names plain h c.requires.plain.made (c.in_ok-fresh.ensures.holds names named) S first in
     let before = moved (λ f T n. Gives (λ f t m r. g.F.Fn.post f (t, (m, tt)) r) f k × HoldsRegion names T h S) (sym keeps.1) (sym keeps.0) (sym keeps.2) (gives, held) in
     moved (λ f T n. StandsAt names T (course k n S) t' h') keeps.1 keeps.0 keeps.2 (to k before.0 names S before.1))
@@ -31,6 +31,14 @@ back-requires-clause-chooser g c = rw c.in_ok-fresh.ensures.keeps.1 c.requires.c
 together : {T E P Q R : Type 0} (r : Result T E) → (P → Q → R) → OnOk r P → OnOk r Q → OnOk r R
 together (Ok v) f p q = f p q
 together (Err e) f p q = tt
+
+-- what holds holds of each answer
+anyway : {T E P : Type 0} (r : Result T E) → P → OnErr r P
+anyway (Ok v) p = tt
+anyway (Err e) p = p
+
+pub returns-clause-lacks : goal.returns-clause-lacks
+returns-clause-lacks g c = anyway c.back.result (omega arith)
 
 pub returns-clause-again : goal.returns-clause-again
 returns-clause-again g c =
