@@ -10,7 +10,7 @@ from collections import namedtuple
 TOKEN = re.compile(r"'(?:[^']|'')*'|-?\d+|[A-Za-z]\w*|[$@]\w+|:-|=:=|=\\=|=<|>=|\\=|[^\s]")
 INTEGER = re.compile(r'-?\d+')
 SMALLEST, LARGEST = -2 ** 63, 2 ** 63 - 1
-MOST_ITEMS = 16
+MOST_ITEMS = 12
 
 Rule = namedtuple('Rule', 'text head conditions body')
 Context = namedtuple('Context', 'name link is_closed')
@@ -486,6 +486,13 @@ def shape(membrane):
     )
 
 
+def neighbours(root):
+    """What each atom is with what its links lead to: equal for processes that are one."""
+    ends = Ends(root)
+    others = [(atom, [ends.other(atom, port) for port in range(len(atom.links))]) for membrane in root.all() for atom in membrane.leaves]
+    return tuple(sorted((atom.name, tuple((other.name, len(other.links), port) for other, port in each)) for atom, each in others))
+
+
 def pairings(one, other, links):
     """All ways in which two processes are one: pairs of equal links, beginning with some."""
     if shape(one) == shape(other):
@@ -543,7 +550,7 @@ class Enumeration:
             self.firings.append({(rule, self.number(made)) for rule, made in all_next(root)})
 
     def number(self, root):
-        alike = self.by_shape.setdefault(shape(root), [])
+        alike = self.by_shape.setdefault((shape(root), neighbours(root)), [])
         for number in alike:
             if are_one(self.processes[number], root):
                 return number
