@@ -9,8 +9,8 @@ ghost use Rattle.lmn_store_web.specs.WebHeaps.{Posts};
 ghost use Rattle.lmn_store_web.specs.WebStores.{HasRules};
 ghost use Rattle.lmn_store_web.specs.Frees.{Drops, CanFree, Frees};
 
-use lmn_store_counts::Rules;
 use crate::table::place_of_rules;
+use lmn_store_counts::Rules;
 use lmn_web::{Cell, CellKind, Web};
 use slab::Slab;
 
