@@ -197,6 +197,25 @@ pub record Refiled (f g : ℕ → Option HeldCell) (m : ℕ) (xs : List ℕ) (p 
   pub tree : ClassTree
   pub classed : AreClassed g m xs' tree
 
+-- c is filed in m as one of its class
+abbrev pub IsFiled : (ℕ → Option HeldCell) → ℕ → ℕ → Type 0
+IsFiled f m c = (xs : List ℕ) × (t : ClassTree) × MayFile f m c xs t × In c xs
+
+-- Whatever the atoms xs of m are, c comes among them as the last one of its class.
+abbrev pub IsFiledLast : (ℕ → Option HeldCell) → (ℕ → Option HeldCell) → ℕ → ℕ → Type 0
+IsFiledLast f g m c = (xs : List ℕ) (t : ClassTree) (xs' : List ℕ) → MayFile f m c xs t → (In c xs → ⊥)
+    → ClassBecomes f (key_in f c) xs (of_class f (key_in f c) xs ++ c ∷ []) xs' → Refiled f g m (c ∷ xs) (key_in f c) xs'
+
+-- c comes among them directly before d in its class.
+abbrev pub IsFiledBefore : (ℕ → Option HeldCell) → (ℕ → Option HeldCell) → ℕ → ℕ → ℕ → Type 0
+IsFiledBefore f g m d c = (xs : List ℕ) (t : ClassTree) (xs' : List ℕ) → MayFile f m c xs t → (In c xs → ⊥) → In d xs
+    → ClassBecomes f (key_in f c) xs (put_before c d (of_class f (key_in f c) xs)) xs' → Refiled f g m (c ∷ xs) (key_in f c) xs'
+
+-- c, one of them, leaves its class.
+abbrev pub IsUnfiled : (ℕ → Option HeldCell) → (ℕ → Option HeldCell) → ℕ → ℕ → Type 0
+IsUnfiled f g m c = (xs : List ℕ) (t : ClassTree) (xs' : List ℕ) → MayFile f m c xs t → In c xs
+    → ClassBecomes f (key_in f c) xs (without c (of_class f (key_in f c) xs)) xs' → Refiled f g m xs (key_in f c) xs'
+
 -- a list with c directly before a cell of it, or at its end
 abbrev pub put_at : ℕ → Option ℕ → List ℕ → List ℕ
 put_at c None xs = xs ++ c ∷ []

@@ -1,14 +1,14 @@
 //! The atoms of a membrane that files them by class: the high half of a label, and how many ports.
-ghost use Rattle.std.specs.Prelude.{◌≡◌, ◌<◌, ◌++◌, ◌∷◌, [], ℕ, List, None, Some, IfSome, IsSome, is_some, if◌then◌else◌, true};
+ghost use Rattle.std.specs.Prelude.{◌≡◌, ◌<◌, ◌∷◌, ℕ, List, None, Some, IfSome, IsSome, is_some, if◌then◌else◌, true};
 ghost use Rattle.std.specs.Option.{option_map};
 ghost use Rattle.lmn_base.specs.Lists.{In};
 ghost use Rattle.lmn_web_cells.specs.Cells.{cells_by};
 ghost use Rattle.lmn_web_cells.specs.CellIds.{cell_id};
-ghost use Rattle.lmn_store_heap.specs.Lists.{after, from, without};
-ghost use Rattle.lmn_web_cells.specs.Runs.{Line, link_in, put_before};
+ghost use Rattle.lmn_store_heap.specs.Lists.{after, from};
+ghost use Rattle.lmn_web_cells.specs.Runs.{Line, link_in};
 ghost use Rattle.lmn_web.specs.declared.kind.CellKind.TheVariants.{Atom};
 ghost use Rattle.lmn_web.specs.Webs.{list_in};
-ghost use Rattle.lmn_web.specs.Classes.{ClassTree, AreClassed, IsTree, IsSorted, Refiled, FiledAs, MayEnter, MayFile, MayLeave, ClassBecomes, begun, closed, dropped, files, is_key, is_odd, key_in, lengthened, lowest_below, passed, place_in, put_between, put_first, of_class, shortened, taken_over, top};
+ghost use Rattle.lmn_web.specs.Classes.{ClassTree, AreClassed, IsTree, IsSorted, FiledAs, MayEnter, MayFile, MayLeave, begun, closed, dropped, files, is_key, is_odd, key_in, lengthened, lowest_below, passed, place_in, put_between, put_first, of_class, shortened, taken_over, top, IsFiled, IsFiledLast, IsFiledBefore, IsUnfiled};
 
 use crate::kind::{CellKind, FILED};
 use lmn_web_cells::cell::Cells;
@@ -321,9 +321,7 @@ fn drop_class(cells: &mut Cells, holder: Cell, link: usize, c: Cell, leaf: Place
 /// An atom is the last one of its class.
 pub fn file_last(cells: &mut Cells, m: Cell, c: Cell)
     requires { (xs : List ℕ) × (t : ClassTree) × MayFile (cells_by cells.old) (cell_id m) (cell_id c) xs t }
-    ensures { (xs : List ℕ) (t : ClassTree) (xs' : List ℕ) → MayFile (cells_by cells.old) (cell_id m) (cell_id c) xs t → (In (cell_id c) xs → ⊥) →
-        ClassBecomes (cells_by cells.old) (key_in (cells_by cells.old) (cell_id c)) xs (of_class (cells_by cells.old) (key_in (cells_by cells.old) (cell_id c)) xs ++ cell_id c ∷ []) xs' →
-        Refiled (cells_by cells.old) (cells_by cells.new) (cell_id m) (cell_id c ∷ xs) (key_in (cells_by cells.old) (cell_id c)) xs' }
+    ensures { IsFiledLast (cells_by cells.old) (cells_by cells.new) (cell_id m) (cell_id c) }
 {
     cells.whole();
     let high = cells.number(c, HIGH);
@@ -342,9 +340,7 @@ pub fn file_last(cells: &mut Cells, m: Cell, c: Cell)
 /// An atom stands directly before another one of its class.
 pub fn file_before(cells: &mut Cells, m: Cell, d: Cell, c: Cell)
     requires { (xs : List ℕ) × (t : ClassTree) × MayFile (cells_by cells.old) (cell_id m) (cell_id c) xs t × In (cell_id d) xs × (key_in (cells_by cells.old) (cell_id d) ≡ key_in (cells_by cells.old) (cell_id c)) }
-    ensures { (xs : List ℕ) (t : ClassTree) (xs' : List ℕ) → MayFile (cells_by cells.old) (cell_id m) (cell_id c) xs t → (In (cell_id c) xs → ⊥) → In (cell_id d) xs →
-        ClassBecomes (cells_by cells.old) (key_in (cells_by cells.old) (cell_id c)) xs (put_before (cell_id c) (cell_id d) (of_class (cells_by cells.old) (key_in (cells_by cells.old) (cell_id c)) xs)) xs' →
-        Refiled (cells_by cells.old) (cells_by cells.new) (cell_id m) (cell_id c ∷ xs) (key_in (cells_by cells.old) (cell_id c)) xs' }
+    ensures { IsFiledBefore (cells_by cells.old) (cells_by cells.new) (cell_id m) (cell_id d) (cell_id c) }
 {
     cells.whole();
     match cells.link(d, CLASS_PREV) {
@@ -360,12 +356,10 @@ pub fn file_before(cells: &mut Cells, m: Cell, d: Cell, c: Cell)
 
 // The last one of a class leaves it.
 fn unfile_last(cells: &mut Cells, m: Cell, c: Cell, prev: Cell)
-    requires classes { (xs : List ℕ) × (t : ClassTree) × MayFile (cells_by cells.old) (cell_id m) (cell_id c) xs t × In (cell_id c) xs }
+    requires classes { IsFiled (cells_by cells.old) (cell_id m) (cell_id c) }
     requires prev { link_in (cells_by cells.old) (cell_id c) CLASS_PREV ≡ Some (cell_id prev) }
     requires next { link_in (cells_by cells.old) (cell_id c) CLASS_NEXT ≡ None }
-    ensures { (xs : List ℕ) (t : ClassTree) (xs' : List ℕ) → MayFile (cells_by cells.old) (cell_id m) (cell_id c) xs t → In (cell_id c) xs →
-        ClassBecomes (cells_by cells.old) (key_in (cells_by cells.old) (cell_id c)) xs (without (cell_id c) (of_class (cells_by cells.old) (key_in (cells_by cells.old) (cell_id c)) xs)) xs' →
-        Refiled (cells_by cells.old) (cells_by cells.new) (cell_id m) xs (key_in (cells_by cells.old) (cell_id c)) xs' }
+    ensures { IsUnfiled (cells_by cells.old) (cells_by cells.new) (cell_id m) (cell_id c) }
 {
     cells.whole();
     let high = cells.number(c, HIGH);
@@ -378,12 +372,10 @@ fn unfile_last(cells: &mut Cells, m: Cell, c: Cell, prev: Cell)
 
 // The first one of a class leaves it.
 fn unfile_first(cells: &mut Cells, m: Cell, c: Cell, next: Option<Cell>)
-    requires classes { (xs : List ℕ) × (t : ClassTree) × MayFile (cells_by cells.old) (cell_id m) (cell_id c) xs t × In (cell_id c) xs }
+    requires classes { IsFiled (cells_by cells.old) (cell_id m) (cell_id c) }
     requires prev { link_in (cells_by cells.old) (cell_id c) CLASS_PREV ≡ None }
     requires next { link_in (cells_by cells.old) (cell_id c) CLASS_NEXT ≡ option_map cell_id next }
-    ensures { (xs : List ℕ) (t : ClassTree) (xs' : List ℕ) → MayFile (cells_by cells.old) (cell_id m) (cell_id c) xs t → In (cell_id c) xs →
-        ClassBecomes (cells_by cells.old) (key_in (cells_by cells.old) (cell_id c)) xs (without (cell_id c) (of_class (cells_by cells.old) (key_in (cells_by cells.old) (cell_id c)) xs)) xs' →
-        Refiled (cells_by cells.old) (cells_by cells.new) (cell_id m) xs (key_in (cells_by cells.old) (cell_id c)) xs' }
+    ensures { IsUnfiled (cells_by cells.old) (cells_by cells.new) (cell_id m) (cell_id c) }
 {
     cells.whole();
     let high = cells.number(c, HIGH);
@@ -401,10 +393,8 @@ fn unfile_first(cells: &mut Cells, m: Cell, c: Cell, next: Option<Cell>)
 /// An atom leaves its class.
 #[inline(always)]
 pub fn unfile(cells: &mut Cells, m: Cell, c: Cell)
-    requires { (xs : List ℕ) × (t : ClassTree) × MayFile (cells_by cells.old) (cell_id m) (cell_id c) xs t × In (cell_id c) xs }
-    ensures { (xs : List ℕ) (t : ClassTree) (xs' : List ℕ) → MayFile (cells_by cells.old) (cell_id m) (cell_id c) xs t → In (cell_id c) xs →
-        ClassBecomes (cells_by cells.old) (key_in (cells_by cells.old) (cell_id c)) xs (without (cell_id c) (of_class (cells_by cells.old) (key_in (cells_by cells.old) (cell_id c)) xs)) xs' →
-        Refiled (cells_by cells.old) (cells_by cells.new) (cell_id m) xs (key_in (cells_by cells.old) (cell_id c)) xs' }
+    requires { IsFiled (cells_by cells.old) (cell_id m) (cell_id c) }
+    ensures { IsUnfiled (cells_by cells.old) (cells_by cells.new) (cell_id m) (cell_id c) }
 {
     cells.whole();
     let prev = cells.link(c, CLASS_PREV);

@@ -246,8 +246,8 @@ impl Web {
     pub fn next_of_class(&self, c: Cell) -> Option<Cell>
         requires home { IsSome (home_at (web_by self.now) (cell_id c)) }
         requires atom { kind_at (web_by self.now) (cell_id c) ≡ Atom }
-        ensures list { (m label : ℕ) → home_at (web_by self.now) (cell_id c) ≡ Some m → web_label (web_by self.now) (cell_id c) ≡ Some label →
-            let all = with_class (web_by self.now) (label_class label) (arity_at (web_by self.now) (cell_id c)) (cells_in (web_by self.now) m Atom) in from (option_map cell_id result) all ≡ after (cell_id c) all }
+        ensures list { let w = web_by self.now in (m label : ℕ) → home_at w (cell_id c) ≡ Some m → web_label w (cell_id c) ≡ Some label →
+            let all = with_class w (label_class label) (arity_at w (cell_id c)) (cells_in w m Atom) in from (option_map cell_id result) all ≡ after (cell_id c) all }
         ensures there { (m : ℕ) → home_at (web_by self.now) (cell_id c) ≡ Some m → IfSome result (λ d. In (cell_id d) (cells_in (web_by self.now) m Atom)) }
     {
         match self.home(c) {
@@ -274,8 +274,8 @@ impl Web {
     pub fn next_with(&self, c: Cell) -> Option<Cell>
         requires home { IsSome (home_at (web_by self.now) (cell_id c)) }
         requires atom { kind_at (web_by self.now) (cell_id c) ≡ Atom }
-        ensures list { (m label : ℕ) → home_at (web_by self.now) (cell_id c) ≡ Some m → web_label (web_by self.now) (cell_id c) ≡ Some label →
-            let all = with_label (web_by self.now) label (arity_at (web_by self.now) (cell_id c)) (cells_in (web_by self.now) m Atom) in from (option_map cell_id result) all ≡ after (cell_id c) all }
+        ensures list { let w = web_by self.now in (m label : ℕ) → home_at w (cell_id c) ≡ Some m → web_label w (cell_id c) ≡ Some label →
+            let all = with_label w label (arity_at w (cell_id c)) (cells_in w m Atom) in from (option_map cell_id result) all ≡ after (cell_id c) all }
         ensures there { (m : ℕ) → home_at (web_by self.now) (cell_id c) ≡ Some m → IfSome result (λ d. In (cell_id d) (cells_in (web_by self.now) m Atom)) }
     {
         match self.home(c) {
