@@ -17,6 +17,7 @@ from typing import TYPE_CHECKING, Any
 if TYPE_CHECKING:
     from leskvund.errors import LeskvundError as LeskvundError
     from leskvund.errors import ListingRefused as ListingRefused
+    from leskvund.errors import NoWeights as NoWeights
     from leskvund.errors import OutOfMemory as OutOfMemory
     from leskvund.errors import ProgramFailed as ProgramFailed
     from leskvund.errors import ProgramMissing as ProgramMissing
@@ -45,8 +46,8 @@ if TYPE_CHECKING:
 
 # The modules are read when a name of them is asked for, so that a script that wants a few of them begins at once.
 MODULES = {
-    'errors': ('LeskvundError', 'ListingRefused', 'OutOfMemory', 'ProgramFailed', 'ProgramMissing', 'ReadFailed', 'Refused', 'ScriptRefused',
-               'TimedOut', 'TraceRefused', 'WeightsRefused', 'WordsRefused', 'WriteFailed'),
+    'errors': ('LeskvundError', 'ListingRefused', 'NoWeights', 'OutOfMemory', 'ProgramFailed', 'ProgramMissing', 'ReadFailed', 'Refused',
+               'ScriptRefused', 'TimedOut', 'TraceRefused', 'WeightsRefused', 'WordsRefused', 'WriteFailed'),
     'reachability': ('Firing', 'ReachabilityGraph'),
     'processes': ('Atom', 'End', 'Functor', 'Link', 'Membrane', 'Process', 'Rule'),
     'programs': ('Program',),

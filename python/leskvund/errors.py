@@ -22,6 +22,10 @@ class ProgramFailed(LeskvundError):
         self.status = status
 
 
+class NoWeights(LeskvundError):
+    """No weights of atoms lower each rule; the words tell which rules, fired so often, make all that they take."""
+
+
 class TimedOut(LeskvundError):
     """The program was ended, since it took longer than it was given."""
 

@@ -6,14 +6,18 @@ from collections.abc import Mapping, Sequence
 from functools import cached_property
 
 from leskvund.calling import ENCODING, ERRORS, Said, call, output_of
-from leskvund.errors import ProgramFailed, error_of
+from leskvund.errors import NoWeights, ProgramFailed, error_of
+from leskvund.patterns import Rules
 from leskvund.processes import Functor, Process, Rule
 from leskvund.reachability import ReachabilityGraph, reached
+from leskvund.regions import all_rules, region_of_line
 from leskvund.runs import Ending, Order, Run, Trace, end_of, named
 from leskvund.texts import rule_names
+from leskvund.weights import Unweighable, weights_for
 
 MOST_64 = 2 ** 63 - 1
 MOST_ITEMS = 2 ** 32 - 1
+MOST_WEIGHT = 1_000_000
 BUDGET, SIZE = 1_000_000, 16_777_216
 TRACED, EXPLORED = 10_000, 10_000
 
@@ -72,6 +76,18 @@ class Program:
         """
         text = ''.join(f'{functor} {weight}\n' for functor, weight in weights.items())
         return number_behind('% at most ', output_of('bound', [self.text, text], (), seconds))
+
+    def weights(self) -> dict[str, int]:
+        """Weights for `bound` by which the bound is least, found exactly; `NoWeights`, with the rules by which it can't be, where there are none."""
+        root = region_of_line(self.first.text, Rules(self.first.text))
+        labels = {rule.text: str(rule) for rule in self.rules}
+        try:
+            weights: dict[str, int] = weights_for(all_rules(root), root, lambda rule: labels.get(rule.text, rule.text.strip()))[0]
+        except Unweighable as why:
+            raise NoWeights(str(why)) from None
+        if max(weights.values(), default=0) > MOST_WEIGHT:
+            raise NoWeights(f'there are weights, and none that are whole and at most {MOST_WEIGHT} are found')
+        return weights
 
     def compile(self, *, seconds: float | None = None) -> list[list[str]]:
         """The instructions of each rule."""

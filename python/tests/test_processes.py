@@ -99,6 +99,12 @@ def test_folded_text_has_no_rules() -> None:
 
 
 @pytest.mark.no_program
+def test_plain_line_has_each_atom_by_itself() -> None:
+    assert Process(LINE).plain() == LINE
+    assert Process("p(q(L0), r). s(L0). {t([])}. (a :- b).").plain() == "q(L0, L1). r(L2). p(L1, L2). s(L0). {'[]'(L3), t(L3)}. (a :- b)."
+
+
+@pytest.mark.no_program
 def test_equal_lines_are_equal() -> None:
     assert Process('a.\n') == Process('a.') and len({Process('a.'), Process('a.'), Process('b.')}) == 2
     assert Process('a.') != 'a.'

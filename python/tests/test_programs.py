@@ -6,7 +6,20 @@ from pathlib import Path
 import pytest
 from conftest import texts_of_pages
 
-from leskvund import Ending, Functor, ListingRefused, Order, Process, Program, Run, ScriptRefused, TimedOut, TraceRefused, WeightsRefused
+from leskvund import (
+    Ending,
+    Functor,
+    ListingRefused,
+    NoWeights,
+    Order,
+    Process,
+    Program,
+    Run,
+    ScriptRefused,
+    TimedOut,
+    TraceRefused,
+    WeightsRefused,
+)
 
 SHARE = '''ready. ready. free.
 take  @@ ready, free :- busy.
@@ -81,6 +94,7 @@ def test_trace_goes_from_the_first_process_to_the_last() -> None:
 def test_trace_tells_which_rules_fired() -> None:
     trace = Program(SHARE).trace()
     assert [rule.text for rule in trace.fired] == ['ready, free :- busy', 'busy :- done, free'] * 2
+    assert trace.rules == Program(SHARE).rules and [rule.name for rule in trace.rules] == ['take', 'leave']
     assert [rule.name for rule in trace.fired] == ['take', 'leave'] * 2 and 'take @@ ready' in trace.page()
 
 
@@ -118,6 +132,17 @@ close @@ ack, {server, half} :- {server, open}.
     weights = {'start/0': 2, 'listen/0': 2, 'wait/0': 1, 'half/0': 1}
     assert shake.bound(weights) == 4
     assert shake.bound({Functor.of(functor): weight for functor, weight in weights.items()}) == 4
+
+
+def test_weights_are_such_that_bound_takes_them() -> None:
+    assert Program('a :- b. b :- . a. a. b.').weights() == {'a/0': 2, 'b/0': 1}
+    program = Program('a, a :- b, c. c :- . b :- a. a. a.')
+    assert program.bound(program.weights()) >= program.run().firings
+
+
+def test_rules_that_make_what_they_take_have_no_weights() -> None:
+    with pytest.raises(NoWeights, match='1 times r @@ a :- b\n  1 times s @@ b :- a'):
+        Program('r @@ a :- b. s @@ b :- a. a.').weights()
 
 
 def test_bound_refuses_a_rule_that_is_not_lowered() -> None:
