@@ -190,6 +190,20 @@ class Tree:
             del self.uncovered[begun]
 
 
+def orders_of(rule, matches):
+    """Orders, and the match that the program takes in them, by which each match is taken and each place of their tree covered."""
+    if len(matches) > 1 or any([image.is_free for image in matches[0].images]):
+        return Tree(rule, matches).orders()
+    # A single match whose items stand behind all others, each behind those of later items of the head, covers all places.
+    orders, match = Orders(), matches[0]
+    lists = {}
+    for item, image in zip(rule.head.items, match.images):
+        lists.setdefault((match.membranes[item.level], 'atoms' if item.functor else 'inner'), []).append(image)
+    for (region, kind), images in lists.items():
+        orders.put(region, kind, [it for it in getattr(region, kind) if it not in images] + images[::-1])
+    return [(orders, match)]
+
+
 def in_line(region, items):
     """A list with the atoms that can be exchanged in the order that they had."""
     free = [it for it in items if it.is_free]
@@ -220,7 +234,7 @@ class Question:
         if region not in self.special:
             return region.layout.text(is_below)
         armed = self.armed.get(region)
-        parts = [it.label.text for it in self.orders.atoms.get(region) or region.atoms]
+        parts = [it.text for it in self.orders.atoms.get(region) or region.atoms]
         if armed is not None:
             parts.insert(0, self.family.go)
         for inner in self.orders.inner.get(region) or region.inner:
@@ -297,7 +311,7 @@ class Questions:
         without = [rule for rule, each in (*found.items(), *others.items()) if not each]
         for rule, each in found.items():
             firings = {}
-            for orders, match in Tree(rule, each).orders() if each else ():
+            for orders, match in orders_of(rule, each) if each else ():
                 is_step = match not in firings
                 if is_step:
                     firings[match] = Firing(self.root, rule, match)

@@ -102,8 +102,7 @@ class Exploration:
 
     def label(self, rule: Rule) -> str:
         """The name of a rule, or how it begins."""
-        text = self.names.get(rule.text) or rule.text.strip()
-        return text if len(text) <= MOST_LETTERS else text[:MOST_LETTERS - 3] + '...'
+        return label_of(rule, self.names)
 
     def depth(self, number: int) -> int:
         """How many firings lead to a process at least."""
@@ -120,6 +119,12 @@ class Exploration:
     def matches(self) -> dict[str, list[int]]:
         """For each head that was asked about the processes in which it matches."""
         return {head: self.where(rule) for pairs in self.heads.rules.values() for head, rule in pairs}
+
+
+def label_of(rule: Rule, names: Mapping[str, str]) -> str:
+    """The name of a rule, or how it begins."""
+    text = names.get(rule.text) or rule.text.strip()
+    return text if len(text) <= MOST_LETTERS else text[:MOST_LETTERS - 3] + '...'
 
 
 def names_of(words: Sequence[str], root: Any) -> dict[str, str]:

@@ -15,16 +15,27 @@ def chooser(order, seed):
     return lambda firing, count: 0
 
 
+def chooser_of(words):
+    """The chooser of a run by its options, or None where there is no run."""
+    options = {name: value for name, value in zip(words, [*words[1:], '']) if name in ('--order', '--seed')}
+    options.update(word.split('=', 1) for word in words if word.startswith(('--order=', '--seed=')))
+    return chooser(options.get('--order', 'first'), int(options.get('--seed', '0'))) if words else None
+
+
+def first_of(region):
+    """The first rule of a membrane that can fire, with its match; or None."""
+    for rule in region.rules:
+        match = first_match(rule, region)
+        if match:
+            return rule, region, match
+    return None
+
+
 def chosen(root, firing, choose):
     """The rule that fires, its place among the rules of its membrane, and the match; or None."""
     regions = list(root.below())
     start = choose(firing, len(regions))
-    for region in regions[start:] + regions[:start]:
-        for rule in region.rules:
-            match = first_match(rule, region)
-            if match:
-                return rule, region, match
-    return None
+    return next(filter(None, map(first_of, regions[start:] + regions[:start])), None)
 
 
 def fired_rules(lines, choose):
@@ -43,3 +54,32 @@ def fired_rules(lines, choose):
         if line_of(root) != line.rstrip('\n'):
             raise Unshowable(f'firing {firing + 1}: it is foretold otherwise\n{line_of(root)}\n{line}')
         yield rule, region.parent is None
+
+
+class RuleFollower:
+    """Tells by which rule each process of a trace became the next one: the rule that makes of it just the line that is printed.
+
+    `choose` tells which membrane is asked first. Without it, where the order isn't known, each membrane is tried; then two rules
+    can make one line. Where no rule makes it, none is told.
+    """
+
+    def __init__(self, choose=None):
+        self.rules, self.root, self.choose, self.firings = Rules(), None, choose, 0
+
+    def follow(self, line):
+        """The texts of the rules by which the last process became the one of this line."""
+        before, self.root = self.root, None
+        fired = {}
+        for rule, layout in self.ways(before) if before else ():
+            root = joined(layout)
+            if line_of(root) == line:
+                fired[rule.text] = root
+        self.firings += before is not None
+        self.root = next(iter(fired.values()), None) or region_of_line(line, self.rules)
+        return list(fired)
+
+    def ways(self, root):
+        """The rules that can have fired, each with the process that it makes."""
+        found = [chosen(root, self.firings, self.choose)] if self.choose else [first_of(region) for region in root.below()]
+        for rule, _, match in filter(None, found):
+            yield rule, Firing(root, rule, match).layout()

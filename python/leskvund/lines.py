@@ -57,10 +57,10 @@ class Membrane:
 
 
 class Process:
-    """A process: its membranes in the order in which they are printed, the root first."""
+    """A process: its membranes in the order in which they are printed, the root first; and the line that was read."""
 
-    def __init__(self, membranes):
-        self.membranes = membranes
+    def __init__(self, membranes, line):
+        self.membranes, self.line = membranes, line
         self.items = [item for membrane in membranes for item in membrane.items]
         self.is_folded = not all(item.is_plain for item in self.items)
 
@@ -139,7 +139,7 @@ def read_process(line):
         at = separator.end()
     if here:
         raise Unreadable('a membrane is not closed')
-    return Process(membranes)
+    return Process(membranes, line)
 
 
 def read_trace(lines):

@@ -2,7 +2,7 @@
 'use strict';
 const trace = JSON.parse(document.getElementById('trace').textContent);
 const byId = id => document.getElementById(id);
-const GAP = 14, LINK = 24, PADDING = 12, MOST_PARTED = 500;
+const GAP = 14, LINK = 24, PADDING = 12, MOST_PARTED = 500, LONGEST_LINE = 30;
 
 // ---- Processes: the first one, then each from the one before by what its firing changed.
 
@@ -50,14 +50,26 @@ function linksOf(process) {
 
 // Keys of bodies: atoms are even, membranes odd.
 const atomKey = atom => 2 * atom, membraneKey = membrane => 2 * membrane + 1;
-// A body: its middle, its width and its radius; whether it wasn't there before, and whether it was moved or grew.
+// A body: its middle, its width and height and its radius; whether it wasn't there before, and whether it was moved or grew.
 class Body {
-  constructor(x, y, w, r, fresh) { this.x = x; this.y = y; this.w = w; this.r = r; this.fresh = fresh; this.stirred = false; }
-  kept() { return new Body(this.x, this.y, this.w, this.r, false); }
+  constructor(x, y, w, h, r, fresh) { this.x = x; this.y = y; this.w = w; this.h = h; this.r = r; this.fresh = fresh; this.stirred = false; }
+  kept() { return new Body(this.x, this.y, this.w, this.h, this.r, false); }
 }
 
-const nameOnPicture = name => name.length > 28 ? name.slice(0, 27) + '…' : name;
-const widthOf = name => Math.max(20, 12 + 6.4 * nameOnPicture(name).length);
+// A name or a term as it stands on the picture: whole, in lines that end behind a comma, a blank or a parenthesis.
+function linesOf(name) {
+  const lines = [''];
+  for (const word of name.match(/[^ ,(]*[ ,(]?/g)) {
+    if (lines[lines.length - 1].length + word.length > LONGEST_LINE && lines[lines.length - 1] !== '') lines.push('');
+    lines[lines.length - 1] += word;
+  }
+  return lines;
+}
+
+function bodyOf(name) {
+  const lines = linesOf(name), w = Math.max(20, 12 + 6.4 * Math.max(...lines.map(line => line.length))), h = 6 + 14 * lines.length;
+  return new Body(0, 0, w, h, Math.max(13, Math.hypot(w, h - 20) / 2), true);
+}
 
 // For each membrane the bodies that lie in it.
 function bodiesOf(process) {
@@ -101,8 +113,8 @@ function placed(process, before, processBefore) {
   const depth = membrane => membrane < 0 ? 0 : 1 + depth(process.membranes.get(membrane));
   const inwards = [...process.membranes.keys()].sort((one, other) => depth(other) - depth(one));
   const keep = (key, fresh) => places.set(key, before && before.has(key) ? before.get(key).kept() : fresh());
-  for (const membrane of process.membranes.keys()) keep(membraneKey(membrane), () => new Body(0, 0, 0, 20, true));
-  for (const [atom, { name }] of process.atoms) keep(atomKey(atom), () => new Body(0, 0, widthOf(name), Math.max(13, widthOf(name) / 2), true));
+  for (const membrane of process.membranes.keys()) keep(membraneKey(membrane), () => new Body(0, 0, 0, 0, 20, true));
+  for (const [atom, { name }] of process.atoms) keep(atomKey(atom), () => bodyOf(name));
   if (before) carryOver(process, processBefore, places, before);
   for (const membrane of inwards) settle(places.get(membraneKey(membrane)), inside.get(membrane), pulls.get(membraneKey(membrane)), places);
   return places;
@@ -287,13 +299,13 @@ function spotsOf(process, places) {
     return spots.get(key);
   };
   for (const membrane of process.membranes.keys()) spot(membrane);
-  for (const [atom, { membrane }] of process.atoms) { const own = places.get(atomKey(atom)), outer = spot(membrane); spots.set(atomKey(atom), { x: outer.x + own.x, y: outer.y + own.y, w: own.w, r: own.r }); }
+  for (const [atom, { membrane }] of process.atoms) { const own = places.get(atomKey(atom)), outer = spot(membrane); spots.set(atomKey(atom), { x: outer.x + own.x, y: outer.y + own.y, w: own.w, h: own.h, r: own.r }); }
   return spots;
 }
 
 // Where a line from the middle of an atom's box, in a direction, leaves the box.
 function edgeOf(spot, ux, uy) {
-  const reach = Math.min(spot.w / 2 / (Math.abs(ux) || 1e-9), 10 / (Math.abs(uy) || 1e-9));
+  const reach = Math.min(spot.w / 2 / (Math.abs(ux) || 1e-9), spot.h / 2 / (Math.abs(uy) || 1e-9));
   return { x: spot.x + ux * reach, y: spot.y + uy * reach };
 }
 
@@ -313,8 +325,9 @@ function drawLink(picture, spots, process, [one, port, other, there]) {
 
 function drawAtom(picture, spot, atom, classes) {
   const group = svg('g', { class: ['atom', ...classes].join(' ') });
-  group.append(svg('rect', { x: spot.x - spot.w / 2, y: spot.y - 10, width: spot.w, height: 20, rx: 8 }));
-  group.append(svg('text', { x: spot.x, y: spot.y }, nameOnPicture(atom.name)));
+  const lines = linesOf(atom.name);
+  group.append(svg('rect', { x: spot.x - spot.w / 2, y: spot.y - spot.h / 2, width: spot.w, height: spot.h, rx: 8 }));
+  lines.forEach((line, number) => group.append(svg('text', { x: spot.x, y: spot.y + 14 * (number - (lines.length - 1) / 2) }, line)));
   group.append(svg('title', {}, `${atom.name} with ${atom.ports} link${atom.ports === 1 ? '' : 's'}`));
   picture.append(group);
 }
@@ -340,7 +353,19 @@ function show(firings) {
   }
   byId('found').textContent = sought === '' ? '' : `${hits} here`;
   showRules(process, firings);
+  showCounts(process);
   byId('at').value = firings;
+}
+
+// How many atoms there are of each functor.
+function showCounts(process) {
+  const counts = new Map();
+  for (const { name, ports } of process.atoms.values()) counts.set(`${name}/${ports}`, (counts.get(`${name}/${ports}`) || 0) + 1);
+  byId('counts').replaceChildren(...[...counts].sort(([, one], [, other]) => other - one).map(([functor, count]) => {
+    const line = document.createElement('div');
+    line.textContent = `${count}  ${functor}`;
+    return line;
+  }));
 }
 
 function showRules(process, firings) {
@@ -351,7 +376,7 @@ function showRules(process, firings) {
     line.className = next.includes(number) ? 'next' : fired.includes(number) ? 'fired' : present.has(number) ? '' : 'absent';
     return line;
   }));
-  const label = numbers => numbers.length ? ', by rule ' + numbers.map(number => number + 1).join(' or ') : '';
+  const label = numbers => numbers.length ? ', by ' + numbers.map(number => trace.labels[number]).join(' or ') : '';
   const last = firings === trace.firings.length - 1;
   const all = trace.firings.length - 1;
   byId('say').textContent = (firings ? `firing ${firings} of ${all}${label(fired)}` : all ? `before firing 1 of ${all}` : 'no firing') + (last ? `: ${trace.end}` : '');
@@ -368,6 +393,16 @@ function goToNextHit() {
     for (const atom of processAfter(n).atoms.values()) if (isHit(atom, sought)) return go(n);
 }
 
+// Places all bodies again, as if this were the first process; what comes later is placed from here.
+function drawAnew() {
+  const firings = here();
+  pictures.length = firings;
+  pictures[firings] = placed(processAfter(firings), null, null);
+  Object.assign(view, { left: -150, right: 150, top: -100, bottom: 100 });
+  show(firings);
+}
+
+byId('anew').onclick = drawAnew;
 byId('at').max = trace.firings.length - 1;
 byId('at').oninput = () => go(here());
 byId('back').onclick = () => go(here() - 1);

@@ -3,6 +3,7 @@ import json
 import os
 
 from leskvund.following import Follower
+from leskvund.following_rules import RuleFollower
 from leskvund.rules import Rules
 
 HERE = os.path.dirname(os.path.realpath(__file__))
@@ -11,16 +12,19 @@ HERE = os.path.dirname(os.path.realpath(__file__))
 class Trace:
     """The trace as the page has it. Atoms, membranes and rules are numbers; a name stands once, in `names`."""
 
-    def __init__(self, names_at_top):
+    def __init__(self, rules_at_top, choose):
         self.names, self.numbers, self.firings, self.end = [], {}, [], ''
-        self.rules, self.follower, self.before = Rules(names_at_top), Follower(), None
-        self.most_items = 0
+        self.rules, self.follower, self.before = Rules(rules_at_top), Follower(), None
+        self.most_items, self.fired = 0, RuleFollower(choose)
 
-    def add(self, process):
-        """Adds the next process."""
+    def add(self, process, plain):
+        """Adds the next process, which the plain form of the same run has too; of folded lines alone no rule is told."""
         after = self.follower.follow(process)
         self.most_items = max(self.most_items, len(after.items) + len(after.parents))
         self.rules.meet(after)
+        if plain.is_folded:
+            self.fired = None
+        fired = self.fired.follow(plain.line) if self.fired else []
         before = self.before
         change = {
             'gone': [it for it in before.order if it not in after.items] if before else [],
@@ -31,8 +35,7 @@ class Trace:
             'links': self.links_changed(before, after),
             'rules': [[it, [self.rules.numbers[text] - 1 for text in texts]] for it, texts in after.rules.items() if not before or before.rules.get(it) != texts],
         }
-        if before and not self.follower.was_folded:
-            change['by'] = [number - 1 for number in self.rules.fired(before, after)]
+        change['by'] = [self.rules.numbers[text] - 1 for text in fired if text in self.rules.numbers]
         self.firings.append({key: it for key, it in change.items() if it})
         self.before = after
 
@@ -52,8 +55,9 @@ class Trace:
 
     def data(self):
         """What the page gets."""
-        rules = [self.rules.text(number) for number in range(1, len(self.rules.rules) + 1)]
-        return {'names': self.names, 'rules': rules, 'firings': self.firings, 'end': self.end}
+        numbers = range(1, len(self.rules.texts) + 1)
+        rules, labels = list(map(self.rules.text, numbers)), list(map(self.rules.label, numbers))
+        return {'names': self.names, 'rules': rules, 'labels': labels, 'firings': self.firings, 'end': self.end}
 
 
 def ends_of(followed):

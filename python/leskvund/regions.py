@@ -5,10 +5,10 @@ from leskvund.lines import read_process
 
 class Atom:
     """An atom where it stands: its label, the membrane round it, and for each link the atom and the port at its other end."""
-    __slots__ = ('label', 'functor', 'links', 'number', 'form', 'is_free', 'home', 'ends')
+    __slots__ = ('label', 'functor', 'links', 'number', 'form', 'text', 'is_free', 'home', 'ends')
 
     def __init__(self, label, home):
-        self.label, self.functor, self.links, self.number, self.form, self.home = label, label.functor, label.links, label.number, label.form, home
+        self.label, self.functor, self.links, self.number, self.form, self.text, self.home = label, label.functor, label.links, label.number, label.form, label.text, home
         self.is_free = not label.links
         self.ends = [None] * len(label.links)
 

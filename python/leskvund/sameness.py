@@ -221,18 +221,22 @@ class Kinds:
     def kinds_in(self, region):
         """The kinds of what is in a membrane in which no link goes through a wall."""
         kinds, seen = [self.process(inner) for inner in region.inner], set()
-        for _, atoms in rarest_first(region.atoms):
+        by_functor = rarest_first(region.atoms)
+        for _, atoms in by_functor:
             for atom in atoms:
                 if atom not in seen:
                     text, piece = walk(atom)
                     seen.update(piece)
-                    kinds.append(self.kind_of_atoms(text, piece))
+                    kinds.append(self.kind_of_atoms(text, piece, atoms if len(piece) == len(region.atoms) else None))
         return kinds
 
-    def kind_of_atoms(self, text, piece):
-        """The kind of a piece of atoms that was written down from one of them: the least text from one of those of its rarest functor."""
+    def kind_of_atoms(self, text, piece, firsts=None):
+        """The kind of a piece of atoms that was written down from one of them: the least text from one of those of its rarest functor.
+
+        `firsts` are these, where they are known.
+        """
         if ('walk', text) not in self.numbers:
-            firsts = rarest_first(piece)[0][1]
+            firsts = firsts or rarest_first(piece)[0][1]
             least = text if firsts == piece[:1] else min(walk(atom)[0] for atom in firsts)
             self.numbers['walk', text] = self.number(('atoms', least))
         return self.numbers['walk', text]

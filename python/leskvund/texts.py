@@ -63,17 +63,22 @@ def shuffled_membrane(clause, chance):
     return '{ ' + ' '.join(shuffled(clause[1:-1], chance).split('\n')) + '}'
 
 
-def rule_names(text):
-    """The names of the rules at the top of a text, in order; None for one without a name."""
+def rules_at_top(text):
+    """The rules at the top of a text, in order: of each the name, None where it has none, and how it is written."""
     rules = [clause for clause in clauses_of(text) if is_rule(clause) or clause.startswith('(')]
-    found = [NAMED.match(rule.strip('( ')) for rule in rules]
-    return [match and match.group(1) for match in found]
+    found = [(NAMED.match(rule.strip('( ')), rule) for rule in rules]
+    return [(match and match.group(1), ' '.join(rule.split())) for match, rule in found]
 
 
-def names_at_top(words):
-    """The names of the rules at the top of the text that is run, where it can be read."""
+def rules_of(words):
+    """The rules at the top of the text that is run, where it can be read."""
     files = [word for word in words if os.path.isfile(word)]
     if not files:
         return []
     with open(files[0], encoding='utf-8', errors='replace') as file:
-        return rule_names(file.read())
+        return rules_at_top(file.read())
+
+
+def names_at_top(words):
+    """The names of the rules at the top of the text that is run, None for one without a name."""
+    return [name for name, _ in rules_of(words)]
