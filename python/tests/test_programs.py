@@ -1,11 +1,13 @@
 """Calls of a program: what `run`, `trace`, `check`, `bound` and `compile` answer for the texts of docs/commands.md and the examples."""
 from __future__ import annotations
 
+import doctest
 from pathlib import Path
 
 import pytest
 from conftest import texts_of_pages
 
+import leskvund
 from leskvund import (
     Ending,
     Functor,
@@ -207,6 +209,10 @@ def test_text_of_any_bytes_and_lines(tmp_path: Path) -> None:
     program = Program.from_file(file)
     assert program.text.encode('utf-8', 'surrogateescape') == file.read_bytes()
     assert [atom.name for atom in program.first.atoms] == ['café']
+
+
+def test_the_example_of_the_package() -> None:
+    assert doctest.testmod(leskvund) == (0, 3)
 
 
 def test_program_tells_how_long_its_text_is() -> None:
