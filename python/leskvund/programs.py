@@ -12,7 +12,7 @@ from leskvund.processes import Functor, Process, Rule
 from leskvund.reachability import ReachabilityGraph, reached
 from leskvund.regions import all_rules, region_of_line
 from leskvund.runs import Ending, Order, Run, Trace, end_of, named
-from leskvund.texts import rule_names
+from leskvund.texts import rules_at_top
 from leskvund.weights import Unweighable, weights_for
 
 MOST_64 = 2 ** 63 - 1
@@ -53,7 +53,7 @@ class Program:
               seconds: float | None = None) -> Trace:
         """All processes of a run, 10,000 firings of it where no budget is given. What is given is as for `run`."""
         said = checked(call('run', [self.text], [*options_of(budget, order, seed, size), '--trace'], seconds))
-        return Trace(said.output, order_of(order, seed), seed or 0, rule_names(self.text))
+        return Trace(said.output, order_of(order, seed), seed or 0, rules_at_top(self.text))
 
     @cached_property
     def first(self) -> Process:
@@ -63,7 +63,7 @@ class Program:
     @cached_property
     def rules(self) -> list[Rule]:
         """The rules at the top, with their names."""
-        return named(self.first.rules, rule_names(self.text))
+        return named(self.first.rules, rules_at_top(self.text))
 
     def check(self, trace: Trace | str, *, seconds: float | None = None) -> int:
         """The number of firings of a trace of this program, from any order; `TraceRefused` where it is none."""

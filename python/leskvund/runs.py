@@ -6,7 +6,7 @@ from collections.abc import Iterator, Sequence
 from dataclasses import dataclass
 from enum import Enum
 from functools import cached_property
-from typing import overload
+from typing import Optional, Tuple, overload
 
 from leskvund import page
 from leskvund.errors import LeskvundError, ProgramFailed
@@ -15,6 +15,8 @@ from leskvund.lines import read_process
 from leskvund.processes import Process, Rule
 from leskvund.program import Unshowable
 
+# A rule at the top of a text: its name, None where it has none, and how it is written.
+Written = Tuple[Optional[str], str]
 # A page of more takes a browser too long.
 MOST_FIRINGS_SHOWN = 2000
 MOST_ITEMS_SHOWN = 2000
@@ -60,17 +62,17 @@ class Run:
 class Trace(Sequence[Process]):
     """All processes of a run, from the first to the last. `text` is what `run --trace` prints, which `Program.check` takes."""
 
-    def __init__(self, text: str, order: Order = Order.FIRST, seed: int = 0, names: Sequence[str | None] = ()) -> None:
-        """`names` are those of the rules of the first process; they count if there are as many."""
+    def __init__(self, text: str, order: Order = Order.FIRST, seed: int = 0, written: Sequence[Written] = ()) -> None:
+        """`written` are the rules at the top of the program's text; they count if they are as many as those of the first process."""
         self.text = text
         self.lines = text.split('\n')[:-2]
         self.ending, self.firings = end_of(text)
-        self._order, self._seed, self._names = order, seed, names
+        self._order, self._seed, self._written = order, seed, written
 
     @cached_property
     def rules(self) -> list[Rule]:
         """The rules of the first process, with their names."""
-        return named(self[0].rules, self._names)
+        return named(self[0].rules, self._written)
 
     def __len__(self) -> int:
         return len(self.lines)
@@ -105,14 +107,14 @@ class Trace(Sequence[Process]):
 
     def page(self, title: str = 'A run') -> str:
         """A web page on which a slider goes from firing to firing, as `tools/show` makes it."""
-        shown = page.Trace(self._names)
+        shown = page.Trace(self._written, chooser(self._order.value, self._seed))
         if self.firings > MOST_FIRINGS_SHOWN:
             raise LeskvundError(f'{self.firings} firings are too many for a page, which takes {MOST_FIRINGS_SHOWN}')
         for line in self.lines:
             process = read_process(line)
             if len(process.items) + len(process.membranes) > MOST_ITEMS_SHOWN:
                 raise LeskvundError(f'{len(process.items)} atoms are too many for a picture, which takes {MOST_ITEMS_SHOWN}')
-            shown.add(process)
+            shown.add(process, process)
         shown.end = f'{self.ending.value} after {self.firings}'
         return page.page_of(title, shown)
 
@@ -123,9 +125,9 @@ class Trace(Sequence[Process]):
             return None
 
 
-def named(rules: list[Rule], names: Sequence[str | None]) -> list[Rule]:
-    """Rules with names, if there is one for each."""
-    return [Rule(rule.text, name) for rule, name in zip(rules, names)] if len(rules) == len(names) else rules
+def named(rules: list[Rule], written: Sequence[Written]) -> list[Rule]:
+    """Rules with the names that they have as they are written, if these are as many."""
+    return [Rule(rule.text, name) for rule, (name, _) in zip(rules, written)] if len(rules) == len(written) else rules
 
 
 def end_of(text: str) -> tuple[Ending, int]:
