@@ -105,14 +105,14 @@ class Trace(Sequence[Process]):
 
     def page(self, title: str = 'A run') -> str:
         """A web page on which a slider goes from firing to firing, as `tools/show` makes it."""
-        shown = page.Trace(self._names)
+        shown = page.Trace([(rule.name, f'{rule.name} @@ {rule.text.strip()}') for rule in self.rules], chooser(self._order.value, self._seed))
         if self.firings > MOST_FIRINGS_SHOWN:
             raise LeskvundError(f'{self.firings} firings are too many for a page, which takes {MOST_FIRINGS_SHOWN}')
         for line in self.lines:
             process = read_process(line)
             if len(process.items) + len(process.membranes) > MOST_ITEMS_SHOWN:
                 raise LeskvundError(f'{len(process.items)} atoms are too many for a picture, which takes {MOST_ITEMS_SHOWN}')
-            shown.add(process)
+            shown.add(process, process)
         shown.end = f'{self.ending.value} after {self.firings}'
         return page.page_of(title, shown)
 
