@@ -192,16 +192,53 @@ class Tree:
 
 def orders_of(rule, matches):
     """Orders, and the match that the program takes in them, by which each match is taken and each place of their tree covered."""
-    if len(matches) > 1 or any([image.is_free for image in matches[0].images]):
+    if any([image.is_free for match in matches for image in match.images]):
         return Tree(rule, matches).orders()
-    # A single match whose items stand behind all others, each behind those of later items of the head, covers all places.
-    orders, match = Orders(), matches[0]
-    lists = {}
+    if len(matches) == 1:
+        return [(orders_of_only(rule, matches[0]), matches[0])]
+    firsts = {match.images[0]: None for match in matches}
+    if rule.head.is_flat and len(firsts) == len(matches):
+        return orders_of_chains(matches, firsts)
+    return Tree(rule, matches).orders()
+
+
+def orders_of_only(rule, match):
+    """Orders for a rule's only match, whose items stand behind all others, each behind those of later items of the head.
+
+    Behind an image only images of earlier items stand in its list, so all places are covered.
+    """
+    orders, lists = Orders(), {}
     for item, image in zip(rule.head.items, match.images):
         lists.setdefault((match.membranes[item.level], 'atoms' if item.functor else 'inner'), []).append(image)
     for (region, kind), images in lists.items():
         orders.put(region, kind, [it for it in getattr(region, kind) if it not in images] + images[::-1])
-    return [(orders, match)]
+    return orders
+
+
+def orders_of_chains(matches, firsts):
+    """Orders for matches in one list of atoms, each of which begins with another image.
+
+    So only the first image leaves a choice. An order for a match has the images of later items of the head behind all others, each
+    behind those of still later ones: it covers the places behind the first image. An order in which only first images stand behind
+    the one that is taken covers the place before.
+    """
+    region = matches[0].membranes[0]
+    plain = [it for it in region.atoms if it not in firsts]
+    for match in matches:
+        first, *others = match.images
+        items = [it for it in plain if it not in others] if others else list(plain)
+        items.append(first)
+        items += [it for it in firsts if it is not first and it not in others]
+        yield order_of(region, items + others[::-1]), match
+    if others:
+        yield order_of(region, [*plain, *firsts]), matches[0]
+
+
+def order_of(region, atoms):
+    """Orders in which the atoms of one membrane stand so."""
+    orders = Orders()
+    orders.atoms[region] = atoms
+    return orders
 
 
 def in_line(region, items):
@@ -223,7 +260,7 @@ class Question:
 
     def __init__(self, root, family, armed, orders=AS_THEY_STAND, firing=None, is_step=False):
         self.root, self.family, self.armed, self.orders, self.firing, self.is_step = root, family, armed, orders, firing, is_step
-        self.special = {each for region in (*armed, *orders.atoms, *orders.inner) for each in (region, *region.above())} if root.inner else {root}
+        self.special = {each for region in (*armed, *orders.atoms, *orders.inner) for each in (region, *region.above())} if root.inner else None
 
     def asked(self):
         """The copy as it stands in the text, with the mark of the family before each number of a link."""
@@ -231,7 +268,7 @@ class Question:
 
     def text_of(self, region, is_below):
         """The text of a membrane of the copy; `is_below` where a membrane round it is asked about, so that its rules count."""
-        if region not in self.special:
+        if self.special is not None and region not in self.special:
             return region.layout.text(is_below)
         armed = self.armed.get(region)
         parts = [it.text for it in self.orders.atoms.get(region) or region.atoms]
@@ -251,7 +288,7 @@ class Question:
 
     def form_of(self, region, is_below, links):
         """The form of a membrane of the copy as it stands."""
-        if region not in self.special:
+        if self.special is not None and region not in self.special:
             form, more = region.layout.form(is_below)
             links += more
             return form

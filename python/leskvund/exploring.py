@@ -18,7 +18,7 @@ from leskvund.texts import names_at_top
 MOST_PROCESSES = 10000
 MOST_LETTERS = 70
 
-Watch = Callable[[Reached, int, float], None]
+Watch = Callable[[Reached, int, float], bool | None]
 
 
 def first_line(words: Sequence[str]) -> str:
@@ -60,7 +60,7 @@ class Exploration:
     """What was explored. Processes are numbers, the first one 0, the nearest first.
 
     The processes from `asked` on weren't asked for their firings, which is so where more can be reached than were wanted, or
-    after ^C. `firings_made`, `copies` and `runs` tell what the program was asked.
+    where the watch stopped it. `firings_made`, `copies` and `runs` tell what the program was asked.
     """
 
     def __init__(self, reached: Reached, certifier: Certifier, heads: Heads, names: Mapping[str, str]) -> None:
@@ -137,7 +137,7 @@ def explored(words: Sequence[str], heads: Mapping[str, Iterable[str]] | None = N
     """Explores the text that words of `run` name, up to so many processes.
 
     `heads` are asked about in each process, at the root, or `anywhere`; they are named by what is asked of them. `watch` is told
-    how far it is. Unshowable is raised where the program refuses the text or a head, or doesn't print what was foretold.
+    how far it is, and answers whether to stop. Unshowable is raised where the program refuses the text or a head, or doesn't print what was foretold.
     """
     with tempfile.TemporaryDirectory() as folder:
         line, asked = first_line(words), Heads(heads or {}, folder)

@@ -234,6 +234,7 @@ class Head:
         self.typed, self.counts = [], {}
         self.add(top, 0)
         self.resolve(top)
+        self.is_flat = len(self.levels) == 1
 
     def add(self, level, outermost):
         """Adds the items of a level, and of those in it."""

@@ -94,25 +94,25 @@ def seldom_collecting():
 
 @seldom_collecting()
 def search(root, family, others, most, certifier, watch, anywhere=False):
-    """Reaches at most so many processes. `others` are rules that are asked about, `anywhere` or at the root; `watch` is told how far it is."""
+    """Reaches at most so many processes. `others` are rules that are asked about, `anywhere` or at the root; `watch` is told how far it is, and answers whether to stop."""
     reached, met, start = Reached(), Met(family), time.monotonic()
     met.number(reached, root.layout.number(family.labels), lambda: root.layout, None)
-    try:
-        while met.waiting and len(reached.layouts) <= most:
-            here = reached.asked
-            asked = Questions(met.next(reached), family, others, anywhere)
-            firings = {}
-            for question in asked:
-                certifier.ask(question)
-                if question.is_step:
-                    firing = question.firing
-                    firings[firing.rule, met.number(reached, firing.number(), firing.layout, (here, firing.rule))] = None
-            reached.firings[here] = list(firings)
-            reached.hits[here] = asked.hits
-            reached.asked += 1
-            watch(reached, len(met.waiting), time.monotonic() - start)
-    except KeyboardInterrupt:
-        reached.is_stopped = True
+    while met.waiting and len(reached.layouts) <= most and not reached.is_stopped:
+        ask_about(reached, met, Questions(met.next(reached), family, others, anywhere), certifier)
+        reached.is_stopped = bool(watch(reached, len(met.waiting), time.monotonic() - start))
     certifier.finish()
     reached.seconds = time.monotonic() - start
     return reached
+
+
+def ask_about(reached, met, asked, certifier):
+    """Has the firings of the next process certified, and notes where they lead."""
+    here, firings = reached.asked, {}
+    for question in asked:
+        certifier.ask(question)
+        if question.is_step:
+            firing = question.firing
+            firings[firing.rule, met.number(reached, firing.number(), firing.layout, (here, firing.rule))] = None
+    reached.firings[here] = list(firings)
+    reached.hits[here] = asked.hits
+    reached.asked += 1

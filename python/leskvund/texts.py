@@ -70,6 +70,11 @@ def rules_at_top(text):
     return [(match and match.group(1), ' '.join(rule.split())) for match, rule in found]
 
 
+def rule_names(text):
+    """The names of the rules at the top of a text, in order; None for one without a name."""
+    return [name for name, _ in rules_at_top(text)]
+
+
 def rules_of(words):
     """The rules at the top of the text that is run, where it can be read."""
     files = [word for word in words if os.path.isfile(word)]

@@ -541,11 +541,11 @@ def are_one(one, other):
 class Enumeration:
     """All processes that can be reached: `firings` has for each the different pairs of a rule's text and a next process."""
 
-    def __init__(self, line, most):
+    def __init__(self, line, most, most_items=MOST_ITEMS):
         self.processes, self.firings, self.by_shape = [], [], {}
         self.number(renamed(read(line)))
         for here, root in enumerate(self.processes):
-            if len(self.processes) > most or size(root) > MOST_ITEMS:
+            if len(self.processes) > most or size(root) > most_items:
                 raise TooMany
             self.firings.append({(rule, self.number(made)) for rule, made in all_next(root)})
 
