@@ -18,7 +18,7 @@ pub embeds_in-requires-clause-there : goal.embeds_in-requires-clause-there
 embeds_in-requires-clause-there c = (c.membrane_count-count.ensures.count c.loop-membrane.membrane).1 c.loop-membrane-test.true
 
 pub returns-then-branch-clause-some : goal.returns-then-branch-clause-some
-returns-then-branch-clause-some c names can by yes =
+returns-then-branch-clause-some c names can by is =
     let w = searched names c.args.plain.now c.args.plans.now c.args.solid.now c.in_ok-flat.flat can by c.in_ok-flat.ensures in
     c.firings_are_next.ensures.embeds names c.args.plain.now c.args.plans.now c.args.solid.now c.in_ok-flat.flat w c.membrane_count-count.result c.membrane_count-count.ensures.count c.loop-membrane.membrane c.loop-membrane-test.true c.loop-membrane.invariant.none
     (c.in_ok-embeds_in.ensures.some names c.args.solid.now w c.if-branch.true)
@@ -30,7 +30,7 @@ loop-membrane-preserved c = record {
 }
 
 pub returns-clause-none : goal.returns-clause-none
-returns-clause-none c names can by no =
+returns-clause-none c names can by is =
     let w = searched names c.args.plain.now c.args.plans.now c.args.solid.now c.in_ok-flat.flat can by c.in_ok-flat.ensures in
     let root = one_of_count c.firings_are_next.ensures names c.args.plain.now c.args.plans.now c.args.solid.now c.in_ok-flat.flat w c.membrane_count-count.result c.membrane_count-count.ensures.count 0
     (some_membrane (region_of names c.args.plain.now.rules c.args.solid.now)) in

@@ -19,7 +19,7 @@ rule_embeds-requires-clause-asked c =
     (q.0, c.args.plain.now, c.args.plans.now, q.1, c.loop-turn.turn, asked_here c.asked_rules.ensures q.0 c.args.plain.now c.args.plans.now q.1 c.args.flat.now c.args.membrane c.loop-turn.turn c.rules-rules.result.now q.2 c.rules-rules.ensures c.rule_at-number.result c.rule_at-number.ensures c.at.result.now c.index-plans-number.result _ c.requires.there c.at.ensures c.index-plans-number.is)
 
 pub returns-then-branch-clause-some : goal.returns-then-branch-clause-some
-returns-then-branch-clause-some c names s w yes =
+returns-then-branch-clause-some c names s w is =
     let a = asked_here c.asked_rules.ensures names c.args.plain.now c.args.plans.now s c.args.flat.now c.args.membrane c.loop-turn.turn c.rules-rules.result.now w c.rules-rules.ensures c.rule_at-number.result c.rule_at-number.ensures c.at.result.now c.index-plans-number.result _ c.requires.there c.at.ensures c.index-plans-number.is in
     embeds_here c.asked_rules.ensures names c.args.plain.now c.args.plans.now s c.args.flat.now c.args.membrane c.loop-turn.turn c.rules-rules.result.now w c.rules-rules.ensures c.rule_at-number.result c.rule_at-number.ensures c.at.result.now c.index-plans-number.result a c.loop-turn.invariant.none
     (c.in_ok-rule_embeds.ensures.some c.if-branch.true)
@@ -34,5 +34,5 @@ loop-turn-preserved c =
     }
 
 pub returns-clause-none : goal.returns-clause-none
-returns-clause-none c e =
+returns-clause-none c is =
     whole_front (NoneOf c.args.plain.now.rules c.args.plans.now (heap_of c.args.flat.now) c.args.membrane) c.rules-rules.result.now _ c.loop-turn.turn c.rules-rules.ensures c.loop-turn-test.false c.loop-turn.invariant.none

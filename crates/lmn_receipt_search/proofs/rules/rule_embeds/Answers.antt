@@ -28,8 +28,8 @@ least-requires-clause-head c =
     let q = c.requires.asked in
     subst IsHead (sym (c.as_slice.ensures ∙ c.in_ok-items.ensures)) (c.asked_rules.ensures.searched q.0 q.1 q.2 q.3 c.args.flat.now c.args.membrane q.4 c.args.rule.now c.args.plan.now q.5).head
 
-pub returns-in-Some-clause-some : goal.returns-in-Some-clause-some
-returns-in-Some-clause-some c yes = (
+pub returns-clause-some : goal.returns-clause-some
+returns-clause-some c is = (
   images c.args.membrane c.in-Some._found,
   least_as (heap_of c.args.flat.now) c.args.membrane c.as_slice.result.now (head_items c.args.rule.now c.args.plan.now) c.as_slice-2.result.now c.args.rule.now.guard c.in-Some._found (c.as_slice.ensures ∙ c.in_ok-items.ensures) c.as_slice-2.ensures
       (holds_of_item (λ z. IsLeast (heap_of c.args.flat.now) c.as_slice.result.now c.as_slice-2.result.now c.args.membrane (images c.args.membrane z)) c.in_ok-least.least c.in-Some._found c.in-Some.is c.in_ok-least.ensures.some),
