@@ -27,6 +27,7 @@ from leskvund.labels import Layout
 from leskvund.matching import first_match, matches
 
 if TYPE_CHECKING:
+    from leskvund.firing import Made
     from leskvund.matching import Match
     from leskvund.patterns import Rule, Rules
     from leskvund.regions import Atom, Region

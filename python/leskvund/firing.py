@@ -11,7 +11,7 @@ if TYPE_CHECKING:
     from leskvund.labels import Label
     from leskvund.matching import Match
     from leskvund.patterns import Level, Rule
-    from leskvund.regions import Atom, Region
+    from leskvund.regions import Region
 
 
 class Orders:
