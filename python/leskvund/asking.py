@@ -17,14 +17,23 @@ have one name and stand in one membrane the first is taken for all: exchanging t
 
 What the program will print is foretold letter by letter, and must be what it prints.
 """
+from __future__ import annotations
+
+from collections.abc import Iterable, Iterator
+from typing import TYPE_CHECKING, Any
+
 from leskvund.firing import AS_THEY_STAND, Firing, Orders
 from leskvund.labels import Layout
 from leskvund.matching import first_match, matches
 
+if TYPE_CHECKING:
+    from leskvund.firing import Made
+    from leskvund.matching import Match
+    from leskvund.patterns import Rule, Rules
+    from leskvund.regions import Atom, Region
 
-def key(item):
-    """What an item has in common with those with which it can be exchanged: atoms without links that have one name."""
-    return item.functor if item.is_free else item
+    # For each list, a membrane and the kind of its items, places in a match.
+    Places = dict[tuple[Region, str], list[int]]
 
 
 class Tree:
@@ -34,7 +43,7 @@ class Tree:
     list that go on, and those that can be exchanged with one.
     """
 
-    def __init__(self, rule, matches):
+    def __init__(self, rule: Rule, matches: list[Match]) -> None:
         self.matches, self.next, self.lists = matches, {}, {}
         self.places = [(item.level, 'atoms' if item.functor else 'inner') for item in rule.head.items]
         for match in matches:
@@ -50,7 +59,7 @@ class Tree:
         self.whole = {tuple(match.images): match for match in matches}
         self.uncovered = dict.fromkeys(self.next)
 
-    def exchangeable(self, begun, images):
+    def exchangeable(self, begun: tuple[Any, ...], images: Iterable[Any]) -> set[Any]:
         """The items of a list that are as good as some of them."""
         going = set(images)
         for image in images:
@@ -58,7 +67,7 @@ class Tree:
                 going.update(self.lists[begun][0].with_functor(image.functor))
         return going
 
-    def first(self, orders):
+    def first(self, orders: Orders) -> Match:
         """The match that the program takes in some orders, if these are all."""
         begun = ()
         while begun not in self.whole:
@@ -70,12 +79,12 @@ class Tree:
             begun = (*begun, image)
         return self.whole[begun]
 
-    def covered(self, orders, match):
+    def covered(self, orders: Orders, match: Match) -> list[tuple[Any, ...]]:
         """The places of the tree that aren't covered yet and are where the program takes a match in some orders."""
         images = tuple(match.images)
         return [images[:at] for at, image in enumerate(images) if images[:at] in self.uncovered and self.covers(orders, images[:at], image)]
 
-    def covers(self, orders, begun, image):
+    def covers(self, orders: Orders, begun: tuple[Any, ...], image: Any) -> bool:
         """Whether all items but those that go on stand before an image."""
         region, kind = self.lists[begun]
         items = orders.items(region, kind)
@@ -83,11 +92,11 @@ class Tree:
         behind.difference_update(self.next[begun], begun)
         return all(it.is_free and not self.is_next(region, begun, it) for it in behind)
 
-    def is_next(self, region, begun, item):
+    def is_next(self, region: Region, begun: tuple[Any, ...], item: Atom) -> bool:
         """Whether an atom without links is the first of its kind that is left."""
         return next((it for it in region.with_functor(item.functor) if it not in begun), None) is item
 
-    def best_orders(self, match):
+    def best_orders(self, match: Match) -> tuple[Orders, list[tuple[Any, ...]]]:
         """Orders in which a match is the first of all, by which most places are covered that aren't yet, and these places."""
         images, places = tuple(match.images), self.places_of(match.membranes)
         wanted = sum(images[:at] in self.uncovered for at in range(len(images)))
@@ -106,7 +115,7 @@ class Tree:
             best = orders, self.covered(orders, match)
         return best
 
-    def orders_for(self, match, places, in_turn):
+    def orders_for(self, match: Match, places: Places, in_turn: bool) -> Orders:
         """Orders in which a match is the first of all, and all others that can do so stand before its items.
 
         An item of the match stands as far in front as it can, or `in_turn` behind those of earlier items of the head.
@@ -122,7 +131,7 @@ class Tree:
             orders.put(region, kind, self.arranged(region, kind, own, going))
         return orders
 
-    def arranged(self, region, kind, own, going):
+    def arranged(self, region: Region, kind: str, own: list[Any], going: list[set[Any]]) -> list[Any]:
         """A list in which each other item stands as far in front as it can: behind all in whose place it would go on."""
         mine = set(own)
         rest = [it for it in getattr(region, kind) if it not in mine]
@@ -138,18 +147,18 @@ class Tree:
             items += part
         return in_line(region, items)
 
-    def place_for(self, item, going):
+    def place_for(self, item: Any, going: list[set[Any]]) -> int:
         """The first place for an item behind all images in whose place it would go on."""
         return max((at + 1 for at, goes_on in enumerate(going) if item in goes_on), default=0)
 
-    def places_of(self, membranes):
+    def places_of(self, membranes: list[Region]) -> Places:
         """For each list in which images of a match stand, their places in the match."""
         places = {}
         for at, (level, kind) in enumerate(self.places):
             places.setdefault((membranes[level], kind), []).append(at)
         return places
 
-    def orders_with_first(self, match, places):
+    def orders_with_first(self, match: Match, places: Places) -> Orders:
         """Orders that begin with the items of a match."""
         orders = Orders()
         for (region, kind), numbers in places.items():
@@ -157,7 +166,7 @@ class Tree:
             orders.put(region, kind, in_line(region, own + [it for it in getattr(region, kind) if it not in own]))
         return orders
 
-    def orders_that_cover(self, begun):
+    def orders_that_cover(self, begun: tuple[Any, ...]) -> Orders:
         """Orders in which a beginning comes first, and then what doesn't go on from it."""
         orders = Orders()
         firsts, last = {}, self.lists[begun]
@@ -169,7 +178,7 @@ class Tree:
             orders.put(region, kind, in_line(region, own + [it for it in rest if it not in goes_on] + [it for it in rest if it in goes_on]))
         return orders
 
-    def orders(self):
+    def orders(self) -> Iterator[tuple[Orders, Match]]:
         """Orders, and the match that the program takes in them, until each match is taken and each place covered."""
         for match in self.matches:
             orders, covered = self.best_orders(match)
@@ -184,13 +193,13 @@ class Tree:
                 raise AssertionError('a place in the tree of matches is not covered')
             yield orders, match
 
-    def cover(self, places):
+    def cover(self, places: list[tuple[Any, ...]]) -> None:
         """Notes that places of the tree are covered."""
         for begun in places:
             del self.uncovered[begun]
 
 
-def orders_of(rule, matches):
+def orders_of(rule: Rule, matches: list[Match]) -> Iterable[tuple[Orders, Match]]:
     """Orders, and the match that the program takes in them, by which each match is taken and each place of their tree covered."""
     if any([image.is_free for match in matches for image in match.images]):
         return Tree(rule, matches).orders()
@@ -202,7 +211,7 @@ def orders_of(rule, matches):
     return Tree(rule, matches).orders()
 
 
-def orders_of_only(rule, match):
+def orders_of_only(rule: Rule, match: Match) -> Orders:
     """Orders for a rule's only match, whose items stand behind all others, each behind those of later items of the head.
 
     Behind an image only images of earlier items stand in its list, so all places are covered.
@@ -215,7 +224,7 @@ def orders_of_only(rule, match):
     return orders
 
 
-def orders_of_chains(matches, firsts):
+def orders_of_chains(matches: list[Match], firsts: dict[Any, None]) -> Iterator[tuple[Orders, Match]]:
     """Orders for matches in one list of atoms, each of which begins with another image.
 
     So only the first image leaves a choice. An order for a match has the images of later items of the head behind all others, each
@@ -234,14 +243,14 @@ def orders_of_chains(matches, firsts):
         yield order_of(region, [*plain, *firsts]), matches[0]
 
 
-def order_of(region, atoms):
+def order_of(region: Region, atoms: list[Atom]) -> Orders:
     """Orders in which the atoms of one membrane stand so."""
     orders = Orders()
     orders.atoms[region] = atoms
     return orders
 
 
-def in_line(region, items):
+def in_line(region: Region, items: list[Any]) -> list[Any]:
     """A list with the atoms that can be exchanged in the order that they had."""
     free = [it for it in items if it.is_free]
     if len(free) > 1 and len({it.functor for it in free}) < len(free):
@@ -258,15 +267,15 @@ class Question:
     """
     __slots__ = ('root', 'family', 'armed', 'orders', 'firing', 'is_step', 'special')
 
-    def __init__(self, root, family, armed, orders=AS_THEY_STAND, firing=None, is_step=False):
+    def __init__(self, root: Region, family: Rules, armed: dict[Region, list[Rule]], orders: Orders = AS_THEY_STAND, firing: Firing | None = None, is_step: bool = False) -> None:
         self.root, self.family, self.armed, self.orders, self.firing, self.is_step = root, family, armed, orders, firing, is_step
         self.special = {each for region in (*armed, *orders.atoms, *orders.inner) for each in (region, *region.above())} if root.inner else None
 
-    def asked(self):
+    def asked(self) -> str:
         """The copy as it stands in the text, with the mark of the family before each number of a link."""
         return self.text_of(self.root, False)
 
-    def text_of(self, region, is_below):
+    def text_of(self, region: Region, is_below: bool) -> str:
         """The text of a membrane of the copy; `is_below` where a membrane round it is asked about, so that its rules count."""
         if self.special is not None and region not in self.special:
             return region.layout.text(is_below)
@@ -279,14 +288,14 @@ class Question:
         parts += [rule.quiet for rule in region.rules if is_below] if armed is None else [rule.armed for rule in armed]
         return '{' + ', '.join(parts) + '}'
 
-    def wanted(self):
+    def wanted(self) -> tuple[str, list[int]]:
         """The copy as a form and the links in it, as it is to be printed."""
         links = []
         if self.firing is None:
             return self.form_of(self.root, False, links), links
         return self.form_of_next(self.firing.top, False, links), links
 
-    def form_of(self, region, is_below, links):
+    def form_of(self, region: Region, is_below: bool, links: list[int]) -> str:
         """The form of a membrane of the copy as it stands."""
         if self.special is not None and region not in self.special:
             form, more = region.layout.form(is_below)
@@ -302,11 +311,11 @@ class Question:
         parts += self.rules_of(armed, region.rules if is_below else ())
         return '{' + ', '.join(parts) + '}'
 
-    def rules_of(self, armed, others):
+    def rules_of(self, armed: list[Rule] | None, others: Iterable[Rule]) -> list[str]:
         """The texts of the rules of a membrane."""
         return [rule.quiet_form for rule in others] if armed is None else [rule.armed_form for rule in armed]
 
-    def form_of_next(self, made, is_below, links):
+    def form_of_next(self, made: Made | Layout, is_below: bool, links: list[int]) -> str:
         """The form of a membrane after the firing."""
         if isinstance(made, Layout):
             form, more = made.form(is_below)
@@ -331,16 +340,16 @@ class Questions:
     `others` are rules that are asked about beside its own, at the root or `anywhere`; `hits` are those that can fire.
     """
 
-    def __init__(self, root, family, others=(), anywhere=False):
+    def __init__(self, root: Region, family: Rules, others: Iterable[Rule] = (), anywhere: bool = False) -> None:
         self.root, self.family, self.others, self.anywhere, self.hits, self.silent = root, family, others, anywhere, set(), {}
 
-    def __iter__(self):
+    def __iter__(self) -> Iterator[Question]:
         for region in self.root.below():
             yield from self.about(region)
         for armed in self.silent.values():
             yield Question(self.root, self.family, armed)
 
-    def about(self, region):
+    def about(self, region: Region) -> Iterator[Question]:
         """The questions about the rules of a membrane. Those without a match come before the first that fires."""
         found = {rule: matches(rule, region) for rule in dict.fromkeys(region.rules)}
         others = {rule: first_match(rule, region) for rule in self.others} if self.anywhere or region is self.root else {}

@@ -1,9 +1,15 @@
 """Has the program make foretold firings, many in one run, while the search goes on."""
+from __future__ import annotations
+
 import os
 import subprocess
 import tempfile
+from typing import IO, TYPE_CHECKING
 
 from leskvund.program import Unshowable, program
+
+if TYPE_CHECKING:
+    from leskvund.asking import Question
 
 MOST_BYTES = 1 << 19
 MOST_AT_ONCE = 2
@@ -13,10 +19,10 @@ NAMES = []
 class Batch:
     """Questions in one text, and what the program is to print of it."""
 
-    def __init__(self):
+    def __init__(self) -> None:
         self.asked, self.wanted, self.bytes, self.links, self.firings = [], [], 0, 0, 0
 
-    def add(self, question):
+    def add(self, question: Question) -> None:
         asked = question.asked().replace(question.family.labels.mark, f'L{len(self.asked)}_')
         wanted, self.links = numbered(*question.wanted(), self.links)
         self.asked.append(asked)
@@ -25,7 +31,7 @@ class Batch:
         self.firings += question.firing is not None
 
 
-def numbered(form, links, base):
+def numbered(form: str, links: list[int], base: int) -> tuple[str, int]:
     """A form with its links numbered from a number on as they come, and the next number."""
     first = dict.fromkeys(links)
     end = base + len(first)
@@ -38,17 +44,17 @@ def numbered(form, links, base):
 class Certifier:
     """Runs the program on batches, a few at once, and compares what it prints."""
 
-    def __init__(self, folder):
+    def __init__(self, folder: str) -> None:
         self.folder, self.batch, self.running = folder, Batch(), []
         self.firings, self.questions, self.calls = 0, 0, 0
 
-    def ask(self, question):
+    def ask(self, question: Question) -> None:
         """Adds a question; a full batch is run."""
         self.batch.add(question)
         if self.batch.bytes >= MOST_BYTES:
             self.flush()
 
-    def flush(self):
+    def flush(self) -> None:
         """Runs what is asked so far."""
         if not self.batch.asked:
             return
@@ -67,13 +73,13 @@ class Certifier:
         self.running.append((batch, run, output, file))
         self.calls += 1
 
-    def finish(self):
+    def finish(self) -> None:
         """Runs the rest, and waits for all."""
         self.flush()
         while self.running:
             self.compare(*self.running.pop(0))
 
-    def compare(self, batch, run, output, file):
+    def compare(self, batch: Batch, run: subprocess.Popen[bytes], output: IO[bytes], file: str) -> None:
         """The program must have fired as often as was foretold, and printed what was foretold."""
         run.wait()
         output.seek(0)
@@ -87,7 +93,7 @@ class Certifier:
         raise Unshowable(difference(batch, lines), 70)
 
 
-def difference(batch, lines):
+def difference(batch: Batch, lines: list[str]) -> str:
     """In what a run differs from what was foretold."""
     if len(lines) < 2:
         return f'the program refuses the copies of processes: {lines[0]}'
@@ -98,7 +104,7 @@ def difference(batch, lines):
     return f'{batch.firings} firings were foretold, and the program made another number: {lines[1]}'
 
 
-def stop(certifier):
+def stop(certifier: Certifier) -> None:
     """Ends the runs that go on."""
     for _, run, output, _ in certifier.running:
         run.kill()

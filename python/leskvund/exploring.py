@@ -123,8 +123,12 @@ class Exploration:
 
 def label_of(rule: Rule, names: Mapping[str, str]) -> str:
     """The name of a rule, or how it begins."""
-    text = names.get(rule.text) or rule.text.strip()
-    return text if len(text) <= MOST_LETTERS else text[:MOST_LETTERS - 3] + '...'
+    return shortened(names.get(rule.text) or rule.text.strip(), MOST_LETTERS)
+
+
+def shortened(text: str, most: int) -> str:
+    """A text of at most so many letters, three dots at its end where it was longer."""
+    return text if len(text) <= most else text[:most - 3] + '...'
 
 
 def names_of(words: Sequence[str], root: Any) -> dict[str, str]:

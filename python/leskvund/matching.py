@@ -1,12 +1,23 @@
 """Finds the matches of a rule in a membrane, each one or the first, by the rules of the language."""
+from __future__ import annotations
+
+from typing import TYPE_CHECKING, Any
+
 from leskvund.patterns import is_integer, value_of
+
+if TYPE_CHECKING:
+    from leskvund.patterns import HeadItem, Rule
+    from leskvund.regions import Atom, Region
+
+    # For each typed context the atoms that it stands for.
+    Parts = dict[str, list[Atom]]
 
 
 class Match:
     """A match: the image of each item of the head, in their order; the atoms and membranes among them; parts and values."""
     __slots__ = ('images', 'atoms', 'membranes', 'parts', 'values')
 
-    def __init__(self, images, atoms, membranes, parts, values):
+    def __init__(self, images: list[Any], atoms: list[Atom], membranes: list[Region], parts: Parts, values: dict[str, int]) -> None:
         self.images, self.atoms, self.membranes, self.parts, self.values = images, atoms, membranes, parts, values
 
 
@@ -17,12 +28,12 @@ class Search:
     match is one that is found with two such atoms exchanged.
     """
 
-    def __init__(self, rule, home, only_first=False):
+    def __init__(self, rule: Rule, home: Region, only_first: bool = False) -> None:
         self.rule, self.head, self.only_first = rule, rule.head, only_first
         self.images, self.atoms, self.membranes, self.used, self.found = [], [], [home], set(), []
         self.fill(0)
 
-    def fill(self, number):
+    def fill(self, number: int) -> bool:
         """Tries each image of an item. Whether the search is over."""
         if number == len(self.head.items):
             self.keep()
@@ -44,7 +55,7 @@ class Search:
                     return True
         return False
 
-    def fill_membrane(self, number, region):
+    def fill_membrane(self, number: int, region: Region) -> bool:
         for inner in region.inner:
             if inner not in self.used:
                 self.images.append(inner)
@@ -58,7 +69,7 @@ class Search:
                     return True
         return False
 
-    def candidates(self, item, region):
+    def candidates(self, item: HeadItem, region: Region) -> list[Atom]:
         """The atoms that an item may be."""
         if item.entry:
             other, there, port = item.entry
@@ -67,7 +78,7 @@ class Search:
         atoms = region.with_functor(item.functor)
         return atoms if item.functor[1] else [it for it in atoms if it not in self.used][:1]
 
-    def is_joined(self, item, atom):
+    def is_joined(self, item: HeadItem, atom: Atom) -> bool:
         """Whether the links of an atom lead to earlier ones as those of the item do."""
         for port, other, there in item.checks:
             end = atom.ends[port]
@@ -75,7 +86,7 @@ class Search:
                 return False
         return True
 
-    def keep(self):
+    def keep(self) -> None:
         """Keeps the images if they are a match."""
         if not self.links_leave():
             return
@@ -90,11 +101,11 @@ class Search:
             if values is not None:
                 self.found.append(Match(list(self.images), list(self.atoms), list(self.membranes), parts, values))
 
-    def links_leave(self):
+    def links_leave(self) -> bool:
         """Whether each link that occurs once leads out of the outermost membrane round it."""
         return not any(self.membranes[outer].holds(self.atoms[atom].ends[port][0].home) for atom, port, outer in self.head.leaving)
 
-    def part(self, name, home, root, entry):
+    def part(self, name: str, home: Region, root: Atom, entry: int) -> list[Atom] | None:
         """The atoms that a typed context stands for, its root first, each before what its links lead to; or None."""
         kind = self.rule.guard.kinds.get(name, 'ground')
         if kind != 'ground' and len(root.links) != 1 or kind == 'int' and not is_integer(root.functor):
@@ -111,7 +122,7 @@ class Search:
             todo += [end for port, end in reversed(list(enumerate(atom.ends))) if (atom, port) != (root, entry)]
         return part
 
-    def fits(self, number, parts):
+    def fits(self, number: int, parts: Any) -> bool:
         """Whether the image of a head membrane holds no more than the head allows."""
         level, region = self.head.levels[number], self.membranes[number]
         if region.rules and not level.rule_contexts:
@@ -120,11 +131,11 @@ class Search:
             return all(it in self.used or it in parts for it in region.atoms) and all(it in self.used for it in region.inner)
         return not level.rests[0][1] or is_closed(*self.rest(region, parts))
 
-    def rest(self, region, parts):
+    def rest(self, region: Region, parts: Any) -> tuple[list[Atom], list[Region]]:
         """What a membrane holds that isn't matched: its atoms and membranes."""
         return [it for it in region.atoms if it not in self.used and it not in parts], [it for it in region.inner if it not in self.used]
 
-    def guarded(self, parts):
+    def guarded(self, parts: Parts) -> dict[str, int] | None:
         """The values of contexts where the guard holds, else None."""
         values = {name: int(part[0].functor[0]) for name, part in parts.items() if self.rule.guard.kinds.get(name) == 'int'}
         for condition in self.rule.guard.conditions:
@@ -140,19 +151,19 @@ class Search:
                 return None
         return values
 
-    def is_equal(self, parts, one, other):
+    def is_equal(self, parts: Parts, one: str, other: str) -> bool:
         """Whether two parts are equal, from their roots on."""
         entries = {name: self.atoms[holder].ends[port] for name, _, holder, port in self.head.holders}
         return graph_of(parts[one], entries[one]) == graph_of(parts[other], entries[other])
 
 
-def graph_of(part, entry):
+def graph_of(part: list[Atom], entry: tuple[Atom, int]) -> list[Any]:
     """A part as a value: two parts have one exactly where they are equal from their roots on."""
     numbers = {atom: number for number, atom in enumerate(part)}
     return [(atom.functor, [(numbers.get(end[0]), end[1]) if (atom, port) != entry else None for port, end in enumerate(atom.ends)]) for atom in part] + [entry[1]]
 
 
-def is_closed(atoms, membranes):
+def is_closed(atoms: list[Atom], membranes: list[Region]) -> bool:
     """Whether no link leads out of these atoms and membranes."""
     rest = set(atoms)
     for membrane in membranes:
@@ -161,17 +172,17 @@ def is_closed(atoms, membranes):
     return all(end[0] in rest for atom in rest for end in atom.ends)
 
 
-def can_match(rule, home):
+def can_match(rule: Rule, home: Region) -> bool:
     """Whether a membrane has an atom for each functor that a head asks for in it."""
     return all(map(home.with_functor, rule.needed))
 
 
-def matches(rule, home):
+def matches(rule: Rule, home: Region) -> list[Match]:
     """The matches of a rule in a membrane."""
     return Search(rule, home).found if can_match(rule, home) else []
 
 
-def first_match(rule, home):
+def first_match(rule: Rule, home: Region) -> Match | None:
     """The match that the program takes, or None."""
     found = Search(rule, home, True).found if can_match(rule, home) else []
     return found[0] if found else None

@@ -1,10 +1,21 @@
 """Reads a rule as `lmn run` prints it: what its head asks for, what its guard says, what its body makes."""
+from __future__ import annotations
+
 import functools
 import itertools
 import re
+from collections.abc import Iterator
+from typing import TYPE_CHECKING, Any
 
 from leskvund.labels import Labels
 from leskvund.lines import end_of_parentheses
+
+if TYPE_CHECKING:
+    from leskvund.labels import Functor
+
+    # A leaf of a level, as Level tells it; an expression: a number, a context, or an operator with two expressions.
+    Leaf = tuple[Any, ...]
+    Expression = Any
 
 WORD = re.compile(r"'(?:[^']|'')*'|-?\d+|[a-z]\w*|L\d+|[$@]\w+|:-|=:=|=\\=|=<|>=|\\=|\S")
 INTEGER = re.compile(r'-?\d+')
@@ -13,7 +24,7 @@ COMPARISONS = {'<': int.__lt__, '=<': int.__le__, '>': int.__gt__, '>=': int.__g
 LOW, HIGH = -2 ** 63, 2 ** 63 - 1
 
 
-def is_integer(functor):
+def is_integer(functor: Functor) -> bool:
     """Whether an atom with this functor is an integer of a guard."""
     return functor[1] == 1 and INTEGER.fullmatch(functor[0]) is not None
 
@@ -21,10 +32,10 @@ def is_integer(functor):
 class Level:
     """A level of a rule. A leaf is ('atom', functor, links), ('typed', name, link) or ('=', link, link), in their order."""
 
-    def __init__(self):
+    def __init__(self) -> None:
         self.leaves, self.membranes, self.rests, self.rule_contexts, self.rules = [], [], [], [], []
 
-    def below(self):
+    def below(self) -> Iterator[Level]:
         """The level and all levels in it, an outer one before an inner one."""
         yield self
         for inner in self.membranes:
@@ -34,23 +45,23 @@ class Level:
 class Words:
     """The words of a printed rule, taken from left to right."""
 
-    def __init__(self, text):
+    def __init__(self, text: str) -> None:
         self.text, self.at = text, 0
         self.word = None
         self.next()
 
-    def next(self):
+    def next(self) -> str | None:
         """Takes the word at hand, and answers it."""
         taken = self.word
         found = WORD.search(self.text, self.at)
         self.word, self.start, self.at = (found.group(), found.start(), found.end()) if found else (None, len(self.text), len(self.text))
         return taken
 
-    def take(self, word):
+    def take(self, word: str) -> bool:
         """Whether the word at hand is this one, which then is taken."""
         return self.word == word and self.next() is not None
 
-    def nested(self):
+    def nested(self) -> str:
         """The text of the rule in parentheses that begin at hand, which is taken."""
         end = end_of_parentheses(self.text, self.start)
         inner, self.at = self.text[self.start + 1:end - 1], end
@@ -58,7 +69,7 @@ class Words:
         return inner
 
 
-def read_links(words):
+def read_links(words: Words) -> tuple[str, ...]:
     """The links in the parentheses at hand, if there are any."""
     links = []
     if words.take('('):
@@ -68,7 +79,7 @@ def read_links(words):
     return tuple(links)
 
 
-def read_level(words, stops):
+def read_level(words: Words, stops: tuple[str | None, ...]) -> Level:
     """A level up to one of the words that end it, which is left."""
     level = Level()
     while words.word not in stops:
@@ -77,7 +88,7 @@ def read_level(words, stops):
     return level
 
 
-def read_item(words, level):
+def read_item(words: Words, level: Level) -> None:
     """Reads one item of a level."""
     if words.word == '(':
         level.rules.append(words.nested())
@@ -97,7 +108,7 @@ def read_item(words, level):
         level.leaves.append(('atom', (word, len(links)), links))
 
 
-def read_context(words, level, name):
+def read_context(words: Words, level: Level, name: str) -> None:
     """Reads what stands behind the name of a context: `$p`, `$p[]` or `$x[L0]`."""
     if not words.take('['):
         level.rests.append((name, False))
@@ -108,7 +119,7 @@ def read_context(words, level, name):
         words.next()
 
 
-def read_expression(words):
+def read_expression(words: Words) -> Expression:
     """An expression: a number, a context, or an operator with two expressions."""
     left = read_product(words)
     while words.word in ('+', '-'):
@@ -116,14 +127,14 @@ def read_expression(words):
     return left
 
 
-def read_product(words):
+def read_product(words: Words) -> Expression:
     left = read_factor(words)
     while words.word in ('*', '/', 'mod'):
         left = (words.next(), left, read_factor(words))
     return left
 
 
-def read_factor(words):
+def read_factor(words: Words) -> Expression:
     if words.take('('):
         inner = read_expression(words)
         words.next()
@@ -132,14 +143,14 @@ def read_factor(words):
     return word if word[0] == '$' else int(word)
 
 
-def contexts_of(expression):
+def contexts_of(expression: Expression) -> set[str]:
     """The contexts of an expression."""
     if isinstance(expression, tuple):
         return contexts_of(expression[1]) | contexts_of(expression[2])
     return {expression} if isinstance(expression, str) else set()
 
 
-def value_of(expression, values):
+def value_of(expression: Expression, values: dict[str, int]) -> int | None:
     """The value of an expression, or None where a divisor is zero or a value has more than 64 bits."""
     if isinstance(expression, int):
         return expression
@@ -152,24 +163,24 @@ def value_of(expression, values):
     return value if LOW <= value <= HIGH else None
 
 
-def sum_of(left, right):
+def sum_of(left: int, right: int) -> int:
     return left + right
 
 
-def difference_of(left, right):
+def difference_of(left: int, right: int) -> int:
     return left - right
 
 
-def product_of(left, right):
+def product_of(left: int, right: int) -> int:
     return left * right
 
 
-def quotient_of(left, right):
+def quotient_of(left: int, right: int) -> int:
     """The quotient, toward zero."""
     return abs(left) // abs(right) * (1 if (left < 0) == (right < 0) else -1)
 
 
-def rest_of(left, right):
+def rest_of(left: int, right: int) -> int:
     """The rest of the division toward zero."""
     return left - quotient_of(left, right) * right
 
@@ -180,14 +191,14 @@ class Guard:
     A condition is ('compare', test, left, right), ('bind', name, expression), or ('equal' or 'differ', name, name).
     """
 
-    def __init__(self, words, held):
+    def __init__(self, words: Words, held: set[str]) -> None:
         self.conditions, self.kinds, self.held, self.bound = [], {}, held, set()
         while words.word is not None and words.word != '|':
             self.read_condition(words)
             words.take(',')
         words.take('|')
 
-    def read_condition(self, words):
+    def read_condition(self, words: Words) -> None:
         if words.word in KINDS:
             kind = words.next()
             words.next()
@@ -208,7 +219,7 @@ class Guard:
             self.say('ground', {left, right})
             self.conditions.append(('equal' if sign == '=' else 'differ', left, right))
 
-    def say(self, kind, names):
+    def say(self, kind: str, names: set[str]) -> None:
         """The narrowest kind that is said of a context counts."""
         for name in names & self.held:
             self.kinds[name] = max(kind, self.kinds.get(name, kind), key=KINDS.index)
@@ -222,21 +233,21 @@ class HeadItem:
     """
     __slots__ = ('level', 'functor', 'entry', 'checks')
 
-    def __init__(self, level, functor=None):
+    def __init__(self, level: int, functor: Functor | None = None) -> None:
         self.level, self.functor, self.entry, self.checks = level, functor, None, []
 
 
 class Head:
     """A head in the order of its items, links resolved to the ports at which they stand."""
 
-    def __init__(self, top):
+    def __init__(self, top: Level) -> None:
         self.items, self.levels, self.outermost, self.ports, self.atoms = [], [], [], {}, 0
         self.typed, self.counts = [], {}
         self.add(top, 0)
-        self.resolve(top)
+        self.resolve()
         self.is_flat = len(self.levels) == 1
 
-    def add(self, level, outermost):
+    def add(self, level: Level, outermost: int) -> None:
         """Adds the items of a level, and of those in it."""
         number = len(self.levels)
         self.levels.append(level)
@@ -251,7 +262,7 @@ class Head:
             self.items.append(HeadItem(number))
             self.add(inner, outermost or len(self.levels))
 
-    def add_atom(self, number, leaf):
+    def add_atom(self, number: int, leaf: Leaf) -> None:
         item = HeadItem(number, leaf[1])
         for port, link in enumerate(leaf[2]):
             self.counts[link] = self.counts.get(link, 0) + 1
@@ -265,7 +276,7 @@ class Head:
         self.items.append(item)
         self.atoms += 1
 
-    def resolve(self, top):
+    def resolve(self) -> None:
         """The ports whose links occur once, with the outermost membrane out of which they must lead."""
         levels = [item.level for item in self.items if item.functor]
         self.leaving = [
@@ -284,7 +295,7 @@ class Rule:
     each other make one process in any order.
     """
 
-    def __init__(self, text, number, family):
+    def __init__(self, text: str, number: int, family: Rules) -> None:
         self.text, self.number, self.family = text, number, family
         waiting = family.waiting(text)
         self.quiet, self.armed = (f'({word}, {waiting})' for word in (family.stop, family.go))
@@ -302,24 +313,24 @@ class Rule:
         self.holders = {name: (atom, port) for name, _, atom, port in self.head.holders}
         self.connectors = [leaf[1:] for level in self.body.below() for leaf in level.leaves if leaf[0] == '=']
 
-    def links_taken_over(self):
+    def links_taken_over(self) -> list[tuple[str, str]]:
         """Pairs of a new link of the body and a link of the head that goes."""
         made = [link for level in self.body.below() for leaf in level.leaves for link in links_of_leaf(leaf)]
         going = [link for link in self.head.ports if self.head.counts[link] == 2 and link not in made]
         return list(zip(dict.fromkeys(link for link in made if link not in self.head.ports), going))
 
     @functools.cached_property
-    def made_rules(self):
+    def made_rules(self) -> dict[Level, list[Rule]]:
         """For each level of the body the rules that stand in it as written, by the level."""
         return {level: [self.family.rule(text) for text in level.rules] for level in self.body.below()}
 
 
-def links_of_leaf(leaf):
+def links_of_leaf(leaf: Leaf) -> tuple[str, ...]:
     """The links of a leaf of a level."""
     return leaf[2] if leaf[0] == 'atom' else leaf[2:] if leaf[0] == 'typed' else leaf[1:]
 
 
-def has_guard(text):
+def has_guard(text: str) -> bool:
     """Whether a printed rule has a guard: a bar that isn't in a rule of its body."""
     words = Words(text)
     while words.word not in (None, '|'):
@@ -333,19 +344,19 @@ def has_guard(text):
 class Rules:
     """Rules by their texts, the labels of their processes, and two atoms that make rules wait, whose names stand in none of them."""
 
-    def __init__(self, text=''):
+    def __init__(self, text: str = '') -> None:
         self.go, self.stop, self.rules = "'.go.'", "'.stop.'", {}
         self.labels = Labels(next(letter for letter in map(chr, itertools.count(1)) if letter not in text))
         while self.go in text or self.stop in text:
             self.go, self.stop = self.go[:-1] + ".'", self.stop[:-1] + ".'"
 
-    def rule(self, text):
+    def rule(self, text: str) -> Rule:
         """The rule with a text."""
         if text not in self.rules:
             self.rules[text] = Rule(text, len(self.rules), self)
         return self.rules[text]
 
-    def waiting(self, text):
+    def waiting(self, text: str) -> str:
         """A rule's text in which the rules that it makes wait for what isn't there."""
         parts, at, words = [], 0, Words(text)
         while words.word is not None:

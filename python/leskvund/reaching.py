@@ -1,7 +1,19 @@
 """What can be said of all that is reached: what can go on for ever, what can't be left, and what each run comes by."""
+from __future__ import annotations
+
+from collections.abc import Iterable
+from typing import TYPE_CHECKING
+
+if TYPE_CHECKING:
+    from leskvund.patterns import Rule
+
+    # For each process the rules that fire in it, each with the process to which it leads.
+    Firings = list[list[tuple[Rule, int]]]
+    # Firings one after the other: each the rule, and the process to which it leads.
+    Way = list[tuple[Rule, int]]
 
 
-def components(firings, asked):
+def components(firings: Firings, asked: int) -> list[list[int]]:
     """The strongly connected parts of a graph of firings, each a list of processes, a part before those that lead to it."""
     order, low, on, stack, parts, count = {}, {}, set(), [], [], 0
     for first in range(asked):
@@ -33,7 +45,7 @@ def components(firings, asked):
     return parts
 
 
-def cut_off(stack, on, last):
+def cut_off(stack: list[int], on: set[int], last: int) -> list[int]:
     """Takes from a stack down to an element."""
     part = []
     while True:
@@ -46,25 +58,25 @@ def cut_off(stack, on, last):
 class Graph:
     """The firings among processes, the first `asked` of which have all their firings here."""
 
-    def __init__(self, firings, asked):
+    def __init__(self, firings: Firings, asked: int) -> None:
         self.firings, self.asked = firings, asked
         self.parts = components(firings, asked)
 
-    def can_go_round(self, part):
+    def can_go_round(self, part: list[int]) -> bool:
         """Whether firings lead from a part into itself."""
         return len(part) > 1 or any(to == part[0] for _, to in self.firings[part[0]])
 
-    def can_be_left(self, part):
+    def can_be_left(self, part: list[int]) -> bool:
         """Whether a firing leads out of a part, or one isn't known."""
         inside = set(part)
         return any(it >= self.asked or any(to not in inside for _, to in self.firings[it]) for it in part)
 
-    def circles(self):
+    def circles(self) -> list[list[int]]:
         """The parts in which runs can go on for ever, those that can't be left first."""
         found = [sorted(part) for part in self.parts if self.can_go_round(part)]
         return sorted(found, key=lambda part: (self.can_be_left(part), part))
 
-    def can_reach(self, goals):
+    def can_reach(self, goals: Iterable[int]) -> set[int]:
         """The processes from which one of some can be reached."""
         back = {}
         for one, firings in enumerate(self.firings):
@@ -78,7 +90,7 @@ class Graph:
                     todo.append(one)
         return reached
 
-    def avoids(self, goals):
+    def avoids(self, goals: set[int]) -> tuple[Way, Way | None] | None:
         """A run that never comes to one of some processes: its way to an end, or to a process to which it comes again; or None."""
         if 0 in goals:
             return None
@@ -97,7 +109,7 @@ class Graph:
         first = min(min(part) for part in rounds)
         return self.way(ways, first), self.round(inner, first)
 
-    def way(self, ways, number):
+    def way(self, ways: dict[int, tuple[int, Rule] | None], number: int) -> Way:
         back = []
         while ways[number] is not None:
             here, rule = ways[number]
@@ -105,7 +117,7 @@ class Graph:
             number = here
         return back[::-1]
 
-    def round(self, firings, first):
+    def round(self, firings: Firings, first: int) -> Way:
         """The firings of a shortest way from a process to itself."""
         ways, todo = {}, [first]
         for here in todo:

@@ -1,13 +1,23 @@
 """A process that is joined: its atoms know where they stand, and what is at the other ends of their links. It isn't changed."""
+from __future__ import annotations
+
+from collections.abc import Callable, Iterator
+from typing import TYPE_CHECKING
+
 from leskvund.labels import Layout
 from leskvund.lines import read_process
+
+if TYPE_CHECKING:
+    from leskvund.labels import Functor, Label
+    from leskvund.lines import Item, Process
+    from leskvund.patterns import Rule, Rules
 
 
 class Atom:
     """An atom where it stands: its label, the membrane round it, and for each link the atom and the port at its other end."""
     __slots__ = ('label', 'functor', 'links', 'number', 'form', 'text', 'is_free', 'home', 'ends')
 
-    def __init__(self, label, home):
+    def __init__(self, label: Label, home: Region) -> None:
         self.label, self.functor, self.links, self.number, self.form, self.text, self.home = label, label.functor, label.links, label.number, label.form, label.text, home
         self.is_free = not label.links
         self.ends = [None] * len(label.links)
@@ -18,10 +28,10 @@ class Region:
     __slots__ = ('layout', 'parent', 'atoms', 'inner', 'rules', 'index', 'is_open')
     is_free = False
 
-    def __init__(self, layout, parent):
+    def __init__(self, layout: Layout, parent: Region | None) -> None:
         self.layout, self.parent, self.atoms, self.inner, self.rules, self.index, self.is_open = layout, parent, [], [], layout.rules, None, False
 
-    def below(self):
+    def below(self) -> Iterator[Region]:
         """The membrane and all in it, an outer one before an inner one, in their order."""
         todo = [self]
         while todo:
@@ -29,7 +39,7 @@ class Region:
             yield region
             todo += reversed(region.inner)
 
-    def with_functor(self, functor):
+    def with_functor(self, functor: Functor) -> list[Atom]:
         """The atoms with a functor, in their order."""
         if self.index is None:
             self.index = {}
@@ -37,25 +47,25 @@ class Region:
                 self.index.setdefault(atom.functor, []).append(atom)
         return self.index.get(functor, ())
 
-    def depth(self):
+    def depth(self) -> int:
         """How many membranes stand round this one."""
         return sum(1 for _ in self.above())
 
-    def above(self):
+    def above(self) -> Iterator[Region]:
         """The membranes round this one, the nearest first."""
         region = self.parent
         while region is not None:
             yield region
             region = region.parent
 
-    def holds(self, region):
+    def holds(self, region: Region | None) -> bool:
         """Whether a membrane is this one or in it."""
         while region is not None and region is not self:
             region = region.parent
         return region is self
 
 
-def joined(layout):
+def joined(layout: Layout) -> Region:
     """The root of the process that is written down so."""
     root, places = Region(layout, None), {}
     todo = [root]
@@ -78,7 +88,7 @@ def joined(layout):
     return root
 
 
-def open_walls(one, other):
+def open_walls(one: Region, other: Region) -> None:
     """Notes that a link goes from one membrane to another."""
     round_one = [one, *one.above()]
     while other not in round_one:
@@ -90,12 +100,12 @@ def open_walls(one, other):
         region.is_open = True
 
 
-def links_of(root):
+def links_of(root: Region) -> set[int]:
     """The links of a process."""
     return {link for region in root.below() for atom in region.atoms for link in atom.links}
 
 
-def layout_of(process, rules):
+def layout_of(process: Process, rules: Rules) -> Layout:
     """The layout of a process that was read."""
     layouts = [None] * len(process.membranes)
     for number in reversed(range(len(layouts))):
@@ -105,24 +115,24 @@ def layout_of(process, rules):
     return layouts[0]
 
 
-def name_of(item):
+def name_of(item: Item) -> str:
     """The name of a plain item as it is written."""
     return item.pieces[0][:-1] if item.links else item.pieces[0]
 
 
-def region_of_line(line, rules):
+def region_of_line(line: str, rules: Rules) -> Region:
     """The joined root of the process of a plain line."""
     return joined(layout_of(read_process(line.rstrip('\n')), rules))
 
 
-def line_of(root):
+def line_of(root: Region) -> str:
     """The plain line of a process."""
     number = Numbers().text
     parts = plain_parts(root.layout, number) + [f'({rule.text})' for rule in root.rules]
     return ' '.join(part + '.' for part in parts)
 
 
-def plain_parts(layout, number):
+def plain_parts(layout: Layout, number: Callable[[int], str]) -> list[str]:
     """The texts of the items of a membrane, the membranes in it with their rules."""
     parts = [label.form % tuple(map(number, label.links)) for label in layout.labels]
     for inner in layout.inner:
@@ -133,14 +143,14 @@ def plain_parts(layout, number):
 class Numbers:
     """Gives each link the next number when it is met first."""
 
-    def __init__(self):
+    def __init__(self) -> None:
         self.numbers = {}
 
-    def text(self, link):
+    def text(self, link: int) -> str:
         return f'L{self.numbers.setdefault(link, len(self.numbers))}'
 
 
-def all_rules(root):
+def all_rules(root: Region) -> list[Rule]:
     """The rules of a process, those in membranes too, and those that they make, each once."""
     found, todo = {}, [rule for region in root.below() for rule in region.rules]
     for rule in todo:

@@ -1,4 +1,10 @@
 """The rules of a trace, with numbers in the order in which they are met, and with the names and the words that the text has for them."""
+from __future__ import annotations
+
+from typing import TYPE_CHECKING
+
+if TYPE_CHECKING:
+    from leskvund.following import Followed
 
 
 class Rules:
@@ -7,10 +13,10 @@ class Rules:
     The rules at the top of the text, each a name or None and how it is written there, are those of the first root.
     """
 
-    def __init__(self, rules_at_top):
+    def __init__(self, rules_at_top: list[tuple[str | None, str]]) -> None:
         self.texts, self.numbers, self.rules_at_top, self.named = [], {}, rules_at_top, None
 
-    def meet(self, followed):
+    def meet(self, followed: Followed) -> list[int]:
         """The numbers of the rules of a process that weren't met before."""
         if self.named is None:
             root = followed.rules[0]
@@ -25,10 +31,10 @@ class Rules:
                     fresh.append(len(self.texts))
         return fresh
 
-    def text(self, number):
+    def text(self, number: int) -> str:
         """A rule: as the text has it where it has a name there, and else as it is printed."""
         return self.named[number][1] if number in self.named else self.texts[number - 1].rstrip()
 
-    def label(self, number):
+    def label(self, number: int) -> str:
         """A rule's name, if it has one, and its number."""
         return f'{self.named[number][0]} (rule {number})' if number in self.named else f'rule {number}'

@@ -13,10 +13,19 @@ of its kind:
   text. Equal texts are one piece. Pieces that refine alike and have other texts are compared by trying each mark, which takes
   long only for pieces that are regular and not alike; states of programs aren't.
 """
+from __future__ import annotations
+
+from collections.abc import Callable, Hashable
+from typing import TYPE_CHECKING, Any
+
 from collections import Counter
 
 from leskvund.patterns import Rules
 from leskvund.regions import region_of_line
+
+if TYPE_CHECKING:
+    from leskvund.labels import Labels
+    from leskvund.regions import Atom, Region
 
 
 class Pieces:
@@ -25,7 +34,7 @@ class Pieces:
     Membranes that are closed are pieces by themselves, and aren't looked into.
     """
 
-    def __init__(self, root):
+    def __init__(self, root: Region) -> None:
         self.chief, self.regions = {}, [root]
         depths = {root: 0}
         for region in self.regions:
@@ -40,7 +49,7 @@ class Pieces:
         self.standing = {region: [] for region in self.regions}
         self.gather()
 
-    def find(self, it):
+    def find(self, it: Any) -> Any:
         """The item that stands for the piece of an item."""
         chief = self.chief
         while it in chief:
@@ -49,7 +58,7 @@ class Pieces:
             it = chief[it]
         return it
 
-    def unite_along(self, atom, other, depths):
+    def unite_along(self, atom: Atom, other: Atom, depths: dict[Region, int]) -> None:
         """Makes two joined atoms one piece, with each membrane through whose wall the link goes."""
         here, there = atom.home, other.home
         items = [atom, other]
@@ -66,7 +75,7 @@ class Pieces:
             if chief is not first:
                 self.chief[chief] = first
 
-    def gather(self):
+    def gather(self) -> None:
         """Gives each membrane its pieces. A piece stands in the membrane round its outermost items."""
         pieces = {}
         for region in self.regions:
@@ -78,11 +87,11 @@ class Pieces:
                 pieces[chief].append(item)
 
 
-def is_membrane(item):
+def is_membrane(item: Any) -> bool:
     return not hasattr(item, 'functor')
 
 
-def walk(first):
+def walk(first: Atom) -> tuple[tuple[str | int, ...], list[Atom]]:
     """What a piece of atoms is, written down from one of them by following ports; and its atoms as they are met."""
     numbers, order, text = {first: 0}, [first], []
     for atom in order:
@@ -96,7 +105,7 @@ def walk(first):
     return tuple(text), order
 
 
-def rarest_first(atoms):
+def rarest_first(atoms: list[Atom]) -> list[tuple[str, list[Atom]]]:
     """The atoms of each functor, the rarest functor first."""
     by_form = {}
     for atom in atoms:
@@ -107,7 +116,7 @@ def rarest_first(atoms):
 class Graph:
     """A piece with membranes, its items by numbers."""
 
-    def __init__(self, piece, kind_of):
+    def __init__(self, piece: list[Any], kind_of: Callable[[Any], int]) -> None:
         numbers = {item: number for number, item in enumerate(piece)}
         self.kinds = [kind_of(item) for item in piece]
         self.parents = [numbers.get(item.parent if is_membrane(item) else item.home) for item in piece]
@@ -117,12 +126,12 @@ class Graph:
             if parent is not None:
                 self.inner[parent].append(number)
 
-    def ranked(self, signs):
+    def ranked(self, signs: list[Any]) -> tuple[list[int], int]:
         """Colours by the order of signs."""
         ranks = {sign: rank for rank, sign in enumerate(sorted(set(signs)))}
         return [ranks[sign] for sign in signs], len(ranks)
 
-    def refined(self, colours):
+    def refined(self, colours: list[int]) -> tuple[list[int], tuple[Any, ...]]:
         """Colours that tell apart what neighbours tell apart, and the signs by which they were given last."""
         count = len(set(colours))
         while True:
@@ -140,22 +149,22 @@ class Graph:
                 return colours, tuple(sorted(signs))
             count = now
 
-    def start(self):
+    def start(self) -> tuple[list[int], tuple[Any, ...]]:
         """The first colours, by kinds."""
         colours, signs = self.refined(self.ranked(self.kinds)[0])
         return colours, (tuple(sorted(self.kinds)), signs)
 
-    def alike(self, colours):
+    def alike(self, colours: list[int]) -> list[int]:
         """The items of the first colour that several have, or none."""
         counts = Counter(colours)
         several = [colour for colour, count in counts.items() if count > 1]
         return [at for at, colour in enumerate(colours) if colour == min(several)] if several else []
 
-    def marked(self, colours, at):
+    def marked(self, colours: list[int], at: int) -> tuple[list[int], tuple[Any, ...]]:
         """Colours in which one item is told apart from those that look like it."""
         return self.refined(self.ranked([(colour, number != at) for number, colour in enumerate(colours)])[0])
 
-    def text(self, colours):
+    def text(self, colours: list[int]) -> tuple[Any, ...]:
         """What the piece is, its items in the order of their colours, each of which one item has."""
         order = sorted(range(len(colours)), key=colours.__getitem__)
         return tuple(
@@ -163,7 +172,7 @@ class Graph:
             for at in order
         )
 
-    def one_text(self):
+    def one_text(self) -> tuple[tuple[Any, ...], tuple[Any, ...]]:
         """A text of the piece, and what any equal piece comes by on the way: the signs after each mark."""
         colours, signs = self.start()
         way = [signs]
@@ -174,12 +183,12 @@ class Graph:
             alike = self.alike(colours)
         return self.text(colours), tuple(way)
 
-    def has_text(self, text, way):
+    def has_text(self, text: tuple[Any, ...], way: tuple[Any, ...]) -> bool:
         """Whether some order of marks leads to a text."""
         colours, signs = self.start()
         return signs == way[0] and self.leads(colours, text, way, 1)
 
-    def leads(self, colours, text, way, depth):
+    def leads(self, colours: list[int], text: tuple[Any, ...], way: tuple[Any, ...], depth: int) -> bool:
         alike = self.alike(colours)
         if not alike:
             return self.text(colours) == text
@@ -193,20 +202,20 @@ class Graph:
 class Kinds:
     """Gives processes numbers: two have one number exactly where they are one."""
 
-    def __init__(self, labels):
+    def __init__(self, labels: Labels) -> None:
         self.labels, self.numbers, self.alike, self.closed, self.compared = labels, {}, {}, {}, 0
 
-    def number(self, text):
+    def number(self, text: Hashable) -> int:
         """The number of a text."""
         return self.numbers.setdefault(text, len(self.numbers))
 
-    def known(self, written, kind):
+    def known(self, written: Hashable, kind: Callable[[], int]) -> int:
         """The kind of a piece that was met before, written down in just this way, or the one that is made out."""
         if written not in self.numbers:
             self.numbers[written] = kind()
         return self.numbers[written]
 
-    def process(self, root):
+    def process(self, root: Region) -> int:
         """The number of a process, or of a membrane through whose wall no link goes."""
         layout = root.layout.number(self.labels)
         if layout not in self.closed:
@@ -214,11 +223,11 @@ class Kinds:
             self.closed[layout] = self.kind_of_membrane(root, kinds)
         return self.closed[layout]
 
-    def kind_of_membrane(self, region, kinds):
+    def kind_of_membrane(self, region: Region, kinds: list[int]) -> int:
         """The kind of a membrane by itself: its rules and the pieces in it."""
         return self.number(('membrane', tuple(sorted([rule.number for rule in region.rules])), tuple(sorted(kinds))))
 
-    def kinds_in(self, region):
+    def kinds_in(self, region: Region) -> list[int]:
         """The kinds of what is in a membrane in which no link goes through a wall."""
         kinds, seen = [self.process(inner) for inner in region.inner], set()
         by_functor = rarest_first(region.atoms)
@@ -230,7 +239,7 @@ class Kinds:
                     kinds.append(self.kind_of_atoms(text, piece, atoms if len(piece) == len(region.atoms) else None))
         return kinds
 
-    def kind_of_atoms(self, text, piece, firsts=None):
+    def kind_of_atoms(self, text: tuple[str | int, ...], piece: list[Atom], firsts: list[Atom] | None = None) -> int:
         """The kind of a piece of atoms that was written down from one of them: the least text from one of those of its rarest functor.
 
         `firsts` are these, where they are known.
@@ -241,11 +250,11 @@ class Kinds:
             self.numbers['walk', text] = self.number(('atoms', least))
         return self.numbers['walk', text]
 
-    def kinds_of_pieces(self, root):
+    def kinds_of_pieces(self, root: Region) -> list[int]:
         """The kinds of what is in a membrane where links go through walls in it."""
         pieces, inside = Pieces(root), {}
 
-        def kind_of(item):
+        def kind_of(item: Any) -> int:
             """The kind of an item by itself."""
             if not is_membrane(item):
                 return self.number(('functor', item.functor))
@@ -256,7 +265,7 @@ class Kinds:
             inside[region] = self.kind_of_membrane(region, kinds)
         return kinds
 
-    def kind_of_piece(self, piece, kind_of):
+    def kind_of_piece(self, piece: list[Any], kind_of: Callable[[Any], int]) -> int:
         if not any(map(is_membrane, piece)):
             return self.kind_of_atoms(walk(piece[0])[0], piece)
         if len(piece) == 1:
@@ -264,7 +273,7 @@ class Kinds:
         graph = Graph(piece, kind_of)
         return self.known(('as it stands', tuple(graph.kinds), tuple(graph.parents), tuple(graph.ends)), lambda: self.kind_of_graph(graph))
 
-    def kind_of_graph(self, graph):
+    def kind_of_graph(self, graph: Graph) -> int:
         """The number of a piece with membranes."""
         text, way = graph.one_text()
         if ('graph', text) in self.numbers:
@@ -279,7 +288,7 @@ class Kinds:
         return number
 
 
-def is_same(line, other):
+def is_same(line: str, other: str) -> bool:
     """Whether two plain lines are one process: they differ in the order of items, the numbers of links and the order of rules alone."""
     rules = Rules(line + other)
     kinds = Kinds(rules.labels)

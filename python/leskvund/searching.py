@@ -1,13 +1,23 @@
 """Goes from a process to all that can be reached, each once, the nearest first."""
+from __future__ import annotations
+
 import collections
 import contextlib
 import gc
 import time
+from collections.abc import Callable, Iterable, Iterator
+from typing import TYPE_CHECKING
 
 from leskvund.asking import Questions
 from leskvund.regions import joined
 from leskvund.sameness import Kinds
 from leskvund.telling import told
+
+if TYPE_CHECKING:
+    from leskvund.certifying import Certifier
+    from leskvund.labels import Layout
+    from leskvund.patterns import Rule, Rules
+    from leskvund.regions import Region
 
 # Processes that wait are kept joined, up to so many.
 MOST_JOINED = 2000
@@ -21,11 +31,11 @@ class Reached:
     each leads, `hits` the rules asked about that can fire in it. The processes from `asked` on weren't asked about.
     """
 
-    def __init__(self):
+    def __init__(self) -> None:
         self.layouts, self.ways, self.firings, self.hits, self.depths, self.asked = [], [], [], [], [], 0
         self.seconds, self.is_stopped = 0, False
 
-    def add(self, layout, way):
+    def add(self, layout: Layout, way: tuple[int, Rule] | None) -> None:
         self.layouts.append(layout)
         self.ways.append(way)
         self.firings.append([])
@@ -33,19 +43,19 @@ class Reached:
         self.depths.append(0 if way is None else self.depths[way[0]] + 1)
 
     @property
-    def is_whole(self):
+    def is_whole(self) -> bool:
         """Whether all that can be reached was."""
         return self.asked == len(self.layouts)
 
-    def told(self, number):
+    def told(self, number: int) -> str:
         """A process as a person reads it."""
         return told(joined(self.layouts[number]))
 
-    def ends(self):
+    def ends(self) -> list[int]:
         """The processes that no rule changes."""
         return [number for number in range(self.asked) if not self.firings[number]]
 
-    def way_to(self, number):
+    def way_to(self, number: int) -> list[tuple[Rule, int]]:
         """The firings of a shortest way to a process: pairs of a rule and the process to which it leads."""
         back = []
         while self.ways[number] is not None:
@@ -58,10 +68,10 @@ class Reached:
 class Met:
     """The processes that were met, by numbers; those that still are to be asked about wait, the nearest first."""
 
-    def __init__(self, family):
+    def __init__(self, family: Rules) -> None:
         self.family, self.kinds, self.layouts, self.numbers, self.waiting = family, Kinds(family.labels), {}, {}, collections.deque()
 
-    def number(self, reached, layout_number, layout, way):
+    def number(self, reached: Reached, layout_number: int, layout: Callable[[], Layout], way: tuple[int, Rule] | None) -> int:
         """The number of a process whose layout is made where it has to be looked at."""
         found = self.layouts.get(layout_number)
         if found is None:
@@ -76,13 +86,13 @@ class Met:
             self.layouts[layout_number] = found
         return found
 
-    def next(self, reached):
+    def next(self, reached: Reached) -> Region:
         """The next process to be asked about."""
         return self.waiting.popleft() or joined(reached.layouts[reached.asked])
 
 
 @contextlib.contextmanager
-def seldom_collecting():
+def seldom_collecting() -> Iterator[None]:
     """What goes round in circles is looked for less often: a search makes many atoms that live long."""
     before = gc.get_threshold()
     gc.set_threshold(COLLECTED_AT, *before[1:])
@@ -93,7 +103,7 @@ def seldom_collecting():
 
 
 @seldom_collecting()
-def search(root, family, others, most, certifier, watch, anywhere=False):
+def search(root: Region, family: Rules, others: Iterable[Rule], most: int, certifier: Certifier, watch: Callable[[Reached, int, float], bool | None], anywhere: bool = False) -> Reached:
     """Reaches at most so many processes. `others` are rules that are asked about, `anywhere` or at the root; `watch` is told how far it is, and answers whether to stop."""
     reached, met, start = Reached(), Met(family), time.monotonic()
     met.number(reached, root.layout.number(family.labels), lambda: root.layout, None)
@@ -105,7 +115,7 @@ def search(root, family, others, most, certifier, watch, anywhere=False):
     return reached
 
 
-def ask_about(reached, met, asked, certifier):
+def ask_about(reached: Reached, met: Met, asked: Questions, certifier: Certifier) -> None:
     """Has the firings of the next process certified, and notes where they lead."""
     here, firings = reached.asked, {}
     for question in asked:

@@ -1,12 +1,19 @@
 """Tells a process as a person reads it: terms as terms, without rules."""
+from __future__ import annotations
+
+from typing import TYPE_CHECKING
+
 from leskvund.patterns import Rules, is_integer
 from leskvund.regions import Numbers, region_of_line
+
+if TYPE_CHECKING:
+    from leskvund.regions import Atom, Region
 
 
 class Folded:
     """The atoms of a membrane written as terms: an atom whose last link leads to an argument of another one stands there."""
 
-    def __init__(self, region, numbers):
+    def __init__(self, region: Region, numbers: Numbers) -> None:
         self.numbers, self.printed = numbers, set()
         # An integer reads better behind the name that it belongs to.
         atoms = sorted(region.atoms, key=lambda atom: is_integer(atom.functor))
@@ -14,27 +21,27 @@ class Folded:
         firsts = [atom for atom in atoms if not self.is_child(atom)]
         self.texts = [self.text(atom) for atom in firsts + atoms if atom not in self.printed]
 
-    def is_child(self, atom):
+    def is_child(self, atom: Atom) -> bool:
         return bool(atom.ends) and self.is_child_of(atom, *atom.ends[-1])
 
-    def is_child_of(self, atom, parent, port):
+    def is_child_of(self, atom: Atom, parent: Atom, port: int) -> bool:
         """Whether an atom may be written as the argument of another one."""
         if parent is atom or parent not in self.places:
             return False
         return port != len(parent.links) - 1 or self.places[parent] < self.places[atom]
 
-    def text(self, atom):
+    def text(self, atom: Atom) -> str:
         """The text of an atom as an item."""
         self.printed.add(atom)
         return with_arguments(atom, [self.argument(atom, port) for port in range(len(atom.links))])
 
-    def argument(self, parent, port):
+    def argument(self, parent: Atom, port: int) -> str:
         """What stands in an argument: a term, or a link."""
         atom, entered = parent.ends[port]
         is_term = entered == len(atom.links) - 1 and atom in self.places and atom not in self.printed and self.is_child_of(atom, parent, port)
         return self.term(atom) if is_term else self.numbers.text(parent.links[port])
 
-    def term(self, atom):
+    def term(self, atom: Atom) -> str:
         """The text of an atom as a term, without its last argument."""
         self.printed.add(atom)
         if atom.functor == ("'.'", 3):
@@ -43,7 +50,7 @@ class Folded:
             return '[]'
         return with_arguments(atom, [self.argument(atom, port) for port in range(len(atom.links) - 1)])
 
-    def list_text(self, cell):
+    def list_text(self, cell: Atom) -> str:
         """The text of a list from a cell on."""
         elements = [self.argument(cell, 0)]
         while True:
@@ -58,20 +65,20 @@ class Folded:
             return f'[{", ".join(elements)}' + (']' if last == '[]' else f' | {last}]')
 
 
-def with_arguments(atom, arguments):
+def with_arguments(atom: Atom, arguments: list[str]) -> str:
     return atom.functor[0] + (f'({", ".join(arguments)})' if arguments else '')
 
 
-def folded_parts(region, numbers):
+def folded_parts(region: Region, numbers: Numbers) -> list[str]:
     """The texts of the items of a membrane, terms written as terms, rules left out."""
     return Folded(region, numbers).texts + ['{' + ', '.join(folded_parts(inner, numbers)) + '}' for inner in region.inner]
 
 
-def told(root):
+def told(root: Region) -> str:
     """A process as a person reads it, in the folded form without rules."""
     return '. '.join(folded_parts(root, Numbers())) or '(nothing)'
 
 
-def folded_text(line):
+def folded_text(line: str) -> str:
     """The process of a plain line as a person reads it."""
     return told(region_of_line(line, Rules(line)))
