@@ -152,6 +152,9 @@ LOADED = [
     Shape('folded: circles of two', 1000, lambda n: clauses('f(A%d,B%d). g(B%d,A%d)' % (i, i, i, i) for i in range(n)), lambda n: ['--folded']),
     Shape('folded: a circle', 1500, lambda n: ring('f(X{},X{})', n), lambda n: ['--folded']),
     Shape('folded: a circle through membranes', 800, lambda n: ring('{{f(X{},X{})}}', n), lambda n: ['--folded']),
+    Shape('a list in brackets', 1000, lambda n: 'l([%s]).' % items('{}', n)),
+    Shape('rules in rules', 300, lambda n: each('a{0}:-(b{0}:-(c:-d))', n)),
+    Shape('refused at its end', 2000, lambda n: each('a{}', n) + 'a(X).'),
     Shape('compiled rules', 800, lambda n: each('a{}:-b', n), command='compile'),
 ]
 
@@ -176,6 +179,11 @@ FIRED = [
     Shape('a list compared, copied, taken 20 times', 80, lambda n: 'k(20).' + listed(n) + listed(n).replace('X', 'Y').replace('l(', 'm(') + 'k($n),l($a),m($b):-$n>0,ground($a),ground($b),$a=$b,$c=$n-1|k($c),l($a),m($a).'),
     Shape('a rest of names dropped', 2000, lambda n: '{%s}. {$p[]}:-.' % items('n{}', n)),
     Shape('a rest of membranes dropped', 1000, lambda n: '{%s}. {$p[]}:-.' % items('{{b}}', n)),
+    Shape('a rest of names copied', 1000, lambda n: '{%s}. {$p[]}:-$p[],$p[].' % items('n{}', n)),
+    Shape('a rest of linked membranes copied', 500, lambda n: '{%s}. {$p[]}:-$p[],$p[].' % ','.join('{b(X%d,X%d)}' % (i, (i + 1) % n) for i in range(n))),
+    Shape('a rest moved up', 1000, lambda n: '{{%s}}. {{$p}}:-$p.' % items('n{}', n)),
+    Shape('a trace of a counter', 800, COUNT.format, lambda n: ['--trace']),
+    Shape('tokens that climb', 300, lambda n: clauses(['{t}'] * n) + '{t,$p,@r}:-t,{$p,@r}.'),
     Shape('a head of 64 linked atoms', 20, lambda n: clauses([linked('a', 64).replace('X', 'X%d_' % i) for i in range(n)]) + linked('a', 64) + ':-b.'),
     Shape('a head of 64 atoms, and one that is missing', 1000, lambda n: clauses(['a'] * n) + ','.join(['a'] * 64) + ',b:-c.'),
     Shape('a queue', 2000, lambda n: clauses(['a'] * n) + 'a:-b. b:-c.'),
