@@ -95,8 +95,8 @@ def arities(n):
 
 
 def copies(n):
-    """A membrane of which a firing makes as many copies as it has atoms."""
-    return '{%s}. {$p[]}:-{%s}.' % (items('a', n), ','.join(['$p[]'] * n))
+    """A membrane with 8 n atoms, of which a firing makes n copies."""
+    return '{%s}. {$p[]}:-{%s}.' % (items('a', 8 * n), ','.join(['$p[]'] * n))
 
 
 def sorting(n):
@@ -221,11 +221,16 @@ ASKED = [
 ]
 
 OTHERS = [
+    Shape('exec: many rules', 300, lambda n: each('a{}:-b', n), command='exec', second=listing),
     Shape('check: a long trace', 200, COUNT.format, command='check', second=trace()),
     Shape('check: membranes in turn, 20 firings', 50, lambda n: clauses(['{a. a:-b.}'] * n), command='check', second=lambda program, text, n: program(['run', '--trace', '--order', 'turn', '--budget', '20'], text)),
+    Shape('check: many rules, 5 firings', 200, lambda n: each('a{}:-b', n) + 'c. c:-d. d:-e. e:-f.', command='check', second=trace()),
+    Shape('check: a path eaten, 5 firings', 500, lambda n: 'z(X0). ' + clauses('p(X%d,X%d)' % (i, i + 1) for i in range(n)) + 'w(X%d). ' % n + 'z(X),p(X,Y):-z(Y).', command='check', second=trace('--budget', '5')),
+    Shape('check: names, 5 firings', 1000, lambda n: each('n{}', n) + COUNT.format(5), command='check', second=trace()),
+    Shape('check: rests copied, 5 firings', 500, lambda n: '{a,%s}. a. {a,$p[]},a:-{$p[]},{$p[]}.' % items('n{}', n), command='check', second=trace()),
     Shape('check: a wrong line', 50, lambda n: clauses(['{a. a:-b.}'] * n), command='check', second=end_of('wrong.\n')),
-    Shape('check: an end behind what copies', 25, copies, command='check', second=end_of('% full after 0\n')),
-    Shape('check: a wrong line behind what copies', 25, copies, command='check', second=end_of('wrong.\n')),
+    Shape('check: an end behind what copies', 12, copies, command='check', second=end_of('% full after 0\n')),
+    Shape('check: a wrong line behind what copies', 12, copies, command='check', second=end_of('wrong.\n')),
     Shape('debug: until so many are there', 300, lambda n: 'a. a:-a,b.', command='debug', second=script('until b/0 >= {}\n')),
     Shape('debug: until so many are there, beside others', 200, lambda n: 'a. a:-a,b,c,c,c.', command='debug', second=script('until b/0 >= {}\n')),
     Shape('debug: until none is there', 500, lambda n: clauses(['a'] * n) + 'a:-.', command='debug', second=script('until a/0 =:= 0\n')),
