@@ -23,7 +23,7 @@ use Rattle.lmn_reduction.proofs.OneSolid.{solid_is_one}
 use Rattle.lmn_app_runs.specs.Runs.{Given, LinesOf, StopsSo, end_line, printed_solids, word_of_stop}
 use Rattle.lmn_app_runs.specs.declared.stop.Stop.{Stop}
 use Rattle.lmn_app_runs.specs.Texts.{PlainsArePrintable}
-use Rattle.lmn_app.specs.CheckLaws.{CheckedNotWrong, CheckedOrWrong, OneCount, OneWrongTrace, RunsAreChecked}
+use Rattle.lmn_app.specs.CheckLaws.{CheckedNotWrong, NeitherCheckedNorWrong, OneCount, OneWrongTrace, RunsAreChecked}
 use Rattle.lmn_app.specs.Checks.{HasSolid, IsChecked}
 use Rattle.lmn_app.specs.Runs.{IsTraceOf}
 use Rattle.lmn_app.specs.Writing.{given, run_text}
@@ -94,8 +94,8 @@ module _ (on : Grounds) where
       (solid_made on.laws on.printables program names plain plans a s.0 s.1).0
 
   -- no trace is neither
-  pub checked_or_wrong : NoTraceIsNeither → CheckedOrWrong
-  checked_or_wrong neither alloc program trace (names, plain, plans, a, fits) both =
+  pub neither_checked_nor_wrong : NoTraceIsNeither → NeitherCheckedNorWrong
+  neither_checked_nor_wrong neither alloc program trace (names, plain, plans, a, fits) both =
       let of = some_solid program names plain plans a in
       neither of.solid trace (
         (λ n chain. both.0 n (chain_checked on.laws on.printables program of alloc on.commits on.each trace n chain)),

@@ -16,11 +16,11 @@ use Rattle.lmn_verify_compiled.specs.Laws.{AcceptedCanBeListed, AcceptedNamesAre
 use Rattle.lmn_app_reading.proofs.OneRead.{one_acceptance}
 use Rattle.lmn_verify_compiled.specs.OneReading.{ListedCodesAreOne, ListedNamesAreOne}
 use Rattle.lmn_verify_listing.specs.Lines.{IsWrongLine}
-use Rattle.lmn_verify_listing.specs.ListingLaws.{ListedLinesStand, ListedOrWrong, WrongLineIsOne}
+use Rattle.lmn_verify_listing.specs.ListingLaws.{ListedLinesStand, NeitherListedNorWrong, WrongLineIsOne}
 use Rattle.lmn_verify_listing.specs.Listings.{AreListed, IsFirstUnverified, IsRefusedListing, lines_of, lines_of_all, not_a_listing, not_verified}
 use Rattle.lmn_verify_code.specs.Operands.{code_names}
 use Rattle.lmn_verify_code.specs.Verified.{IsVerified}
-use Rattle.lmn_app.specs.ExecLaws.{OneWrongListing, ReadNotRefused, ReadOrRefused}
+use Rattle.lmn_app.specs.ExecLaws.{OneWrongListing, ReadNotRefused, NeitherReadNorRefused}
 use Rattle.lmn_app.specs.Executions.{IsWrongListing, ReadsCodes}
 use Rattle.lmn_app.specs.Texts.{Accepts}
 use Rattle.lmn_app.proofs.OneOutput.{as_many}
@@ -157,8 +157,8 @@ verified_or_first n (c ∷ cs) first all =
     first 1 (record { rule = 0; code = c; is = refl; unverified = unverified; earlier = tt; number = refl })
 
 -- so a listing that isn't too long is read beside an accepted program, or refused
-pub read_or_refused : ListedOrWrong → AcceptedNamesAreFew → AcceptedAreNamed → ReadOrRefused
-read_or_refused listed few named program listing (names, plain, plans, a, fits) short neither =
+pub neither_read_nor_refused : NeitherListedNorWrong → AcceptedNamesAreFew → AcceptedAreNamed → NeitherReadNorRefused
+neither_read_nor_refused listed few named program listing (names, plain, plans, a, fits) short neither =
     listed (length plain.rules) names listing once room (
       (λ later codes adds whole are order.
           verified_or_first (length plain.rules) codes (λ k first. refused 82 k later adds whole (not_verified codes are order first)) (λ all.

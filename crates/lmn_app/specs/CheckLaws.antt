@@ -16,9 +16,9 @@ OneCount = (alloc : Global) (program trace : List ℕ) (n m : ℕ) → IsChecked
 abbrev pub CheckedNotWrong : Type 0
 CheckedNotWrong = (alloc : Global) (program trace : List ℕ) (n : ℕ) (refusal : Refusal) → IsChecked program trace n → ¬ (IsWrongTraceOf program trace refusal)
 
--- and no trace is neither beside an accepted program: it is one of some number of commits, or it is wrong
-abbrev pub CheckedOrWrong : Type 0
-CheckedOrWrong = (alloc : Global) (program trace : List ℕ) → IsAccepted None program →
+-- and no trace is neither beside an accepted program
+abbrev pub NeitherCheckedNorWrong : Type 0
+NeitherCheckedNorWrong = (alloc : Global) (program trace : List ℕ) → IsAccepted None program →
     ¬ (((n : ℕ) → ¬ (IsChecked program trace n)) × ((refusal : Refusal) → ¬ (IsWrongTraceOf program trace refusal)))
 
 -- a trace is wrong at one line at most, and in one way

@@ -47,9 +47,9 @@ ReadNotRefused = (program listing : List ℕ) (refusal : Refusal) → ReadsCodes
 abbrev pub OneWrongListing : Type 0
 OneWrongListing = (program listing : List ℕ) (refusal other : Refusal) → IsWrongListing program listing refusal → IsWrongListing program listing other → refusal ≡ other
 
--- Beside an accepted program each listing that isn't too long is read or refused.
-abbrev pub ReadOrRefused : Type 0
-ReadOrRefused = (program listing : List ℕ) → IsAccepted None program → length listing ≤ second_bytes Exec
+-- Beside an accepted program no listing that isn't too long is neither read nor refused.
+abbrev pub NeitherReadNorRefused : Type 0
+NeitherReadNorRefused = (program listing : List ℕ) → IsAccepted None program → length listing ≤ second_bytes Exec
     → ¬ (¬ (ReadsCodes program listing) × ((refusal : Refusal) → ¬ (IsWrongListing program listing refusal)))
 
 -- Two executions of one listing beside one program have as many commits, one end and one text, where both came to their end. How a store

@@ -4,11 +4,11 @@
 ghost use Rattle.lmn_app.specs.BoundExamples.{SmallTextIsBounded, SmallTextIsNotByTwo, SmallTextIsNotLowered};
 ghost use Rattle.lmn_app.specs.BoundLaws.{BoundNotRefused, BoundOrRefused, BoundWhereLowered, OneBound, OneWrongWeights};
 ghost use Rattle.lmn_app.specs.CheckExamples.{NothingIsWrong, SmallTextIsChecked, SmallTextIsNotTwice};
-ghost use Rattle.lmn_app.specs.CheckLaws.{CheckedNotWrong, CheckedOrWrong, OneCount, OneWrongTrace, RunsAreChecked};
+ghost use Rattle.lmn_app.specs.CheckLaws.{CheckedNotWrong, NeitherCheckedNorWrong, OneCount, OneWrongTrace, RunsAreChecked};
 ghost use Rattle.lmn_app.specs.DebugExamples.{SmallTextIsDebugged, SmallTextIsNotDebuggedSo};
 ghost use Rattle.lmn_app.specs.DebugLaws.{OneSessionText, OneWrongScript, SessionNotRefused, SessionOrRefused, ShownReadsBack};
 ghost use Rattle.lmn_app.specs.ExecExamples.{SmallListingIsRead, SmallListingIsWrong, SmallTextIsExecuted, SmallTextIsNotExecutedSo};
-ghost use Rattle.lmn_app.specs.ExecLaws.{CompiledIsNotWrong, CompiledRunsAsRun, OneOutput, OneWrongListing, ReadNotRefused, ReadOrRefused};
+ghost use Rattle.lmn_app.specs.ExecLaws.{CompiledIsNotWrong, CompiledRunsAsRun, OneOutput, OneWrongListing, ReadNotRefused, NeitherReadNorRefused};
 ghost use Rattle.lmn_app.specs.Demos.{SomeDemo};
 ghost use Rattle.lmn_app.specs.DemoLaws.{DemoIsFoldedRun};
 ghost use Rattle.lmn_app.specs.ListingLaws.{OneListing};
@@ -32,7 +32,7 @@ use lmn_verify_coded::{runs_are_one, tables_run_as_rules};
 use lmn_verify_compiled::{
     accepted_can_be_listed, accepted_names_are_few, compiled_are_listed, listed_codes_are_one,
 };
-use lmn_verify_listing::laws::{listed_lines_stand, listed_or_wrong, wrong_line_is_one};
+use lmn_verify_listing::laws::{listed_lines_stand, no_listing_is_neither, wrong_line_is_one};
 use lmn_weight::{
     plains_weigh_alike, weights_are_read_once, weights_are_told_or_wrong, weights_bound_commits,
 };
@@ -124,12 +124,12 @@ pub fn weights_bound_or_are_refused()
     plains_weigh_alike();
 }
 
-/// A trace is one of a program, of so many commits, or it is wrong beside it at one line, and not both. What a run writes of its trace
-/// is one of the program.
+/// A trace is one of a program of one number of commits at most, or wrong beside it at one line at most, and not both; beside an accepted
+/// program none is neither. What a run writes of its trace is one of the program.
 pub fn traces_are_checked()
     ensures one { OneCount }
     ensures apart { CheckedNotWrong }
-    ensures neither { CheckedOrWrong }
+    ensures neither { NeitherCheckedNorWrong }
     ensures refusal { OneWrongTrace }
     ensures runs { RunsAreChecked }
 {
@@ -222,9 +222,10 @@ pub fn executions_are_one()
     runs_are_one();
 }
 
-/// A listing that isn't too long is read beside an accepted program or refused, and not both, and it is refused by one code at one place at most.
+/// No listing that isn't too long is neither read beside an accepted program nor refused; none is both; and it is refused by one code
+/// at one place at most.
 pub fn refused_listings_are_one()
-    ensures either { ReadOrRefused }
+    ensures neither { NeitherReadNorRefused }
     ensures apart { ReadNotRefused }
     ensures refusal { OneWrongListing }
 {
@@ -232,7 +233,7 @@ pub fn refused_listings_are_one()
     listed_codes_are_one();
     listed_lines_stand();
     wrong_line_is_one();
-    listed_or_wrong();
+    no_listing_is_neither();
     accepted_names_are_few();
     accepted_texts_can_be_loaded();
 }

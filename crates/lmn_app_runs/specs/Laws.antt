@@ -50,6 +50,6 @@ TracesHaveLines = (g : Given) (S : Region) (before : List Region) (last : Region
 abbrev pub StopIsOne : Type 0
 StopIsOne = (g : Given) (n : ℕ) (S : Region) (why because : Stop) → StopsSo g n S why → StopsSo g n S because → why ≡ because
 
--- and not none.
+-- and not none: where it has no end it goes on, which is what NoMemory says.
 abbrev pub SomeStop : Type 0
 SomeStop = (g : Given) (n : ℕ) (S : Region) → ¬ ((why : Stop) → ¬ (StopsSo g n S why))

@@ -63,6 +63,6 @@ abbrev pub TracesAreOneOf : Type 0
 TracesAreOneOf = (alloc : Global) (names : List Name) (plain : Plain) (s : Solid) → IsPrintable names plain → IsSolidOf plain s →
     (trace : List ℕ) → IsOneOf (solid_of names plain s) trace
 
--- And no trace is neither: one that isn't a chain from a solid on, of whatever number of commits, is wrong beside it at some line.
+-- And no trace is neither a chain from a solid on, of whatever number of commits, nor wrong beside it. Which of the two it is isn't decided.
 abbrev pub NoTraceIsNeither : Type 0
 NoTraceIsNeither = (S : Region) (trace : List ℕ) → ¬ (((n : ℕ) → ¬ (IsChain S trace n)) × ((refusal : Refusal) → ¬ (IsWrongTrace S trace refusal)))

@@ -30,7 +30,8 @@ pub fn counts_are_alike()
     rules_are_asked_alike();
 }
 
-/// `turn` and `reducible` call the matcher at most as often as rules stand in membranes that are awake.
+/// What `turn` and `reducible` count of their calls of the matcher (`CountsAsked`) is at most the number of rules in membranes that are
+/// awake.
 pub fn attempts_are_few()
     ensures { AttemptsAreFew }
 {}

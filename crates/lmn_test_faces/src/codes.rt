@@ -8,7 +8,7 @@ ghost use Rattle.lmn_verify.specs.Verified.{IsVerified};
 ghost use Rattle.lmn_verify.specs.Turning.{CodedCanTurn};
 
 use lmn_base::{Functor, Names, NoMemory, Rows, TextFault};
-use lmn_instr::{Code, Instr, list, read_functor};
+use lmn_instr::{AtomPort, Code, Instr, NewPort, list, read_functor};
 use lmn_io::{Failed, Sink};
 use lmn_store::LinkStore;
 use lmn_verify::{Coded, is_verified, read};
@@ -33,6 +33,11 @@ pub fn listed<O: Sink>(code: &Code, number: u32, names: &Names, sink: &mut O) ->
 /// Whether an instruction ends a body.
 pub fn is_last(instr: &Instr) -> bool {
     matches!(instr, Instr::Proceed)
+}
+
+/// Two ports as instructions have them: of an atom's register, and of any that a body joins.
+pub fn ports(old: AtomPort, new: NewPort) -> (AtomPort, NewPort) {
+    (old, new)
 }
 
 /// Whether the first code of a table is verified.

@@ -14,8 +14,9 @@ ghost use Rattle.lmn_receipt.specs.Refusals.{IfRefused};
 ghost use Rattle.lmn_receipt.specs.SolidsOfPlains.{IsSolidOf};
 ghost use Rattle.lmn_receipt.specs.WellMade.{IsWellMade};
 
-use lmn_base::{NoMemory, Plain, Solid, TextFault};
-use lmn_receipt::{NextSolids, check, solid_of};
+use lmn_base::{Names, NoMemory, Plain, Solid, TextFault};
+use lmn_guards::GuardPlan;
+use lmn_receipt::{NextSolid, NextSolids, PlainSearch, check, solid_of};
 use lmn_solid::next_of;
 use std::alloc::Global;
 
@@ -56,4 +57,18 @@ pub fn commits_of<N: NextSolids>(
         (λ fault. IfRefused fault (IsWrongTrace (N.region solids.now first) trace.now)) }
 {
     check(alloc, solids, first, trace)
+}
+
+/// From which membrane on to which one the next solid is the same.
+pub fn reach_of(next: &NextSolid) -> u64
+    ensures { result ≡ next.now.reach }
+{
+    next.reach
+}
+
+/// Next solids by plain search.
+pub fn search_of<'p>(names: &'p Names, plain: &'p Plain, plans: &'p [GuardPlan]) -> PlainSearch<'p>
+    ensures { result.plain.now ≡ plain.now }
+{
+    PlainSearch::new(names, plain, plans)
 }

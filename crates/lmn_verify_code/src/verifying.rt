@@ -14,8 +14,8 @@ use crate::found::{FoundAtom, FoundMembrane, FoundPart, RegisterCounts};
 use crate::tables::{add_all_places, arities, atoms_found, is_copy, membranes_found, parts_found};
 use crate::words::{Operand, Operands, operands_of, sets_register};
 use lmn_base::limits::{
-    MOST_ATOM_REGISTERS, MOST_COPY_REGISTERS, MOST_INTEGER_REGISTERS, MOST_MEMBRANE_REGISTERS,
-    MOST_PART_REGISTERS,
+    MOST_ATOM_REGISTERS, MOST_COPY_REGISTERS, MOST_HEAD_ITEMS, MOST_INTEGER_REGISTERS,
+    MOST_MEMBRANE_REGISTERS, MOST_PART_REGISTERS,
 };
 use lmn_base::{CONNECTOR_NAME, Functor, Label, NoMemory, Rows};
 use lmn_guards::TypeKind;
@@ -1334,11 +1334,9 @@ fn are_few(atoms: usize, membranes: usize) -> bool
     ensures yes { result ≡ true → atoms + membranes ≤ most_head_items }
     ensures no { result ≡ false → atoms + membranes ≤ most_head_items → ⊥ }
 {
-    atoms <= FOUND && membranes <= FOUND - atoms
+    let most = MOST_HEAD_ITEMS as usize;
+    atoms <= most && membranes <= most - atoms
 }
-
-/// The most atoms and membranes that a head finds.
-const FOUND: usize = 128;
 
 /// Whether the code of a rule is verified, where there are so many rules.
 ///

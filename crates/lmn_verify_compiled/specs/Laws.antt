@@ -12,7 +12,7 @@ abbrev pub AcceptedCanBeListed : Type 0
 AcceptedCanBeListed = (text : List ℕ) (names : List Name) (plain : Plain) (plans : List GuardPlan)
     → length text < 2 ^ 31 → LeavesNames text first_names names → IsAcceptedAs text names plain plans → CanBeListed names plain plans
 
--- And there are hardly more of these names than the text has bytes.
+-- And there are at most 8 more of these names than the text has bytes.
 abbrev pub AcceptedNamesAreFew : Type 0
 AcceptedNamesAreFew = (text : List ℕ) (names : List Name) (plain : Plain) (plans : List GuardPlan)
     → LeavesNames text first_names names → IsAcceptedAs text names plain plans → length names ≤ length text + 8

@@ -90,7 +90,7 @@ pub fn accepted_can_be_listed()
     plains_are_printable();
 }
 
-/// An accepted text has hardly more names than bytes.
+/// An accepted text has at most 8 more names than bytes.
 pub fn accepted_names_are_few()
     ensures { AcceptedNamesAreFew }
 {}

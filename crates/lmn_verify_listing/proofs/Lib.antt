@@ -7,4 +7,4 @@ pub mod ReachingLemmas
 pub mod CodeLemmas
 pub mod Exclusion
 mod Relabelled
-mod ListedOrWrong
+mod NeitherListed

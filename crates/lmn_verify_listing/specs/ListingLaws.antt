@@ -18,10 +18,10 @@ ListedLinesStand =
 abbrev pub WrongLineIsOne : Type 0
 WrongLineIsOne = (n : ℕ) (text : List ℕ) (j k : ℕ) → IsWrongLine n text j → IsWrongLine n text k → j ≡ k
 
--- Beside names that are held a text is the listings of codes, whose names are put behind these in the order in which they stand in it, or
--- it has a line that doesn't stand in its place. There are few enough of both that the number of each name has 32 bits.
-abbrev pub ListedOrWrong : Type 0
-ListedOrWrong =
+-- Beside names that are held no text is neither the listings of codes, whose names are put behind these in the order in which they stand
+-- in it, nor has a line that doesn't stand in its place. There are few enough of both that the number of each name has 32 bits.
+abbrev pub NeitherListedNorWrong : Type 0
+NeitherListedNorWrong =
     (n : ℕ) (names : List (List ℕ)) (text : List ℕ) → IsNames names → length names + 3 * length text < 2 ^ 32
     → ¬ (((later : List (List ℕ)) (codes : List Code) → AddsNames (3 * length text) names later → IsNames later → AreListed n later codes text
     → NumbersNames names (flat_map code_names codes) later → ⊥) × ((k : ℕ) → ¬ (IsWrongLine n text k)))

@@ -1,6 +1,6 @@
 //! The laws of verified code.
 
-ghost use Rattle.lmn_verify_listing.specs.ListingLaws.{ListedLinesStand, ListedOrWrong, WrongLineIsOne};
+ghost use Rattle.lmn_verify_listing.specs.ListingLaws.{ListedLinesStand, NeitherListedNorWrong, WrongLineIsOne};
 ghost use Rattle.lmn_verify_code.specs.NameExamples.{CodeNamesExamples};
 ghost use Rattle.lmn_verify_code.specs.VerifiedExamples.{VerifiedExamples};
 
@@ -15,9 +15,9 @@ pub fn listed_lines_stand()
     ensures { ListedLinesStand }
 {}
 
-/// A text is the listings of codes, or it has a line that doesn't stand in its place.
-pub fn listed_or_wrong()
-    ensures { ListedOrWrong }
+/// No text is neither the listings of codes nor has a line that doesn't stand in its place.
+pub fn no_listing_is_neither()
+    ensures { NeitherListedNorWrong }
 {}
 
 /// A text has at most one line that is the first that doesn't stand in its place.

@@ -10,6 +10,7 @@ ghost use Rattle.lmn_verify_listing.specs.Lines.{IsPlaceOf, IsShortOperand};
 ghost use Rattle.lmn_verify_listing.specs.declared.opcode.Kind.TheVariants as kinds;
 
 use crate::opcode::Kind;
+use lmn_base::limits::MOST_LINKS;
 use lmn_instr_code::AtomPort;
 use lmn_instr_reading::{read_integer, read_number};
 use lmn_verify_code::Operand;
@@ -47,7 +48,7 @@ fn index_in(text: &[u8]) -> Option<u8>
     ensures some { IfSome result (λ n. decimal n ≡ text.now) }
     ensures none { IfNone result ((n : ℕ) → n < 2 ^ 8 → decimal n ≡ text.now → ⊥) }
 {
-    match read_number(text, 255) {
+    match read_number(text, MOST_LINKS) {
         Some(number) => Some(number as u8),
         None => None,
     }
@@ -101,7 +102,7 @@ pub(crate) fn read_plain(kind: Kind, text: &[u8]) -> Option<Operand>
             None => Some(Operand::Port(read_port(text)?)),
         },
         Kind::Functor => None,
-        Kind::Index => Some(Operand::Number(read_number(text, 255)?)),
+        Kind::Index => Some(Operand::Number(read_number(text, MOST_LINKS)?)),
         Kind::Count => Some(Operand::Number(read_number(text, u64::MAX)?)),
         Kind::Rule => Some(Operand::Number(read_number(text, 4_294_967_295)?)),
         Kind::Constant => Some(Operand::Constant(read_integer(text)?)),

@@ -1,4 +1,4 @@
-use Rattle.lmn_app.proofs.OneRefusedListing.{Grounds, read_is_not_refused, read_or_refused, refused_in_one_way}
+use Rattle.lmn_app.proofs.OneRefusedListing.{Grounds, read_is_not_refused, neither_read_nor_refused, refused_in_one_way}
 use Rattle.lmn_app.proofs.laws.refused_listings_are_one.Goals as goal
 
 pub returns : goal.returns
@@ -12,7 +12,7 @@ returns c =
       line = c.wrong_line_is_one.ensures;
     } in
     record {
-      either = read_or_refused c.listed_or_wrong.ensures c.accepted_names_are_few.ensures c.accepted_texts_can_be_loaded.ensures.named;
+      neither = neither_read_nor_refused c.no_listing_is_neither.ensures c.accepted_names_are_few.ensures c.accepted_texts_can_be_loaded.ensures.named;
       apart = read_is_not_refused grounds;
       refusal = refused_in_one_way grounds;
     }

@@ -1,4 +1,4 @@
-use Rattle.lmn_app.proofs.OneCheck.{Grounds, checked_not_wrong, checked_or_wrong, one_count, one_wrong_trace, runs_are_checked}
+use Rattle.lmn_app.proofs.OneCheck.{Grounds, checked_not_wrong, neither_checked_nor_wrong, one_count, one_wrong_trace, runs_are_checked}
 use Rattle.lmn_app.proofs.laws.traces_are_checked.Goals as goal
 
 pub returns : goal.returns
@@ -12,4 +12,4 @@ returns c =
       chains = c.traces_are_chains.ensures;
       one_of = c.traces_are_one_of.ensures;
     } in
-    record { one = one_count grounds; apart = checked_not_wrong grounds; neither = checked_or_wrong grounds c.no_trace_is_neither.ensures; refusal = one_wrong_trace grounds; runs = runs_are_checked grounds }
+    record { one = one_count grounds; apart = checked_not_wrong grounds; neither = neither_checked_nor_wrong grounds c.no_trace_is_neither.ensures; refusal = one_wrong_trace grounds; runs = runs_are_checked grounds }

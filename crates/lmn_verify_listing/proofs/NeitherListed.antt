@@ -13,7 +13,7 @@ use Rattle.lmn_instr_reading.specs.Reading.{AddsNames, NumbersNames}
 use Rattle.lmn_instr_reading.proofs.NameLemmas.{adds_more}
 use Rattle.lmn_verify_code.specs.Operands.{code_names}
 use Rattle.lmn_verify_listing.specs.Lines.{IsLine, IsPlaceOf, IsWrongLine, StandsAs, due_rule, first_line, nothing, rule}
-use Rattle.lmn_verify_listing.specs.ListingLaws.{ListedOrWrong}
+use Rattle.lmn_verify_listing.specs.ListingLaws.{NeitherListedNorWrong}
 use Rattle.lmn_verify_listing.specs.Listings.{AreListed, listings_from}
 use Rattle.lmn_verify_listing.specs.Opcodes.{is_in_head, opcode_of}
 use Rattle.lmn_verify_listing.specs.Reaching.{AreReadCodes, IsBegun, IsEnded, IsLineEnd, IsReadAt, Reached, due_in, last_of}
@@ -136,6 +136,6 @@ module _ (n : ℕ) (text : List ℕ) (right : (k : ℕ) → ¬ (IsWrongLine n te
       right ln (reached_wrong n text at ln (rule j) reached stands (λ e. absurd (cc)))
 
 -- each text is the listings of codes, or has a line that doesn't stand in its place
-pub listed_or_wrong : ListedOrWrong
-listed_or_wrong n names text once room neither =
+pub no_listing_is_neither : NeitherListedNorWrong
+no_listing_is_neither n names text once room neither =
     listings n text neither.1 n names names 0 0 1 [] (omega arith) once room (none_read n text names) neither.0
