@@ -2,7 +2,8 @@
 
 What is asked stands in one text: a copy of a process for each question, in a membrane of its own. In a copy all rules wait for an
 atom that isn't there, but for those that are asked about: they wait for one that is there once, so a copy fires once or not at all.
-The program takes the first rule that can fire, and of its matches the one whose items stand first in their lists. So
+An asked rule makes one atom more, its sign, so what is printed tells which rule fired. The program takes the first rule that can
+fire, and of its matches the one whose items stand first in their lists. So
 
 - a copy whose lists begin with the items of a match fires by it,
 - a rule without a match stands before the one that fires, and would fire first if it had one; or it is asked about alone, and
@@ -321,11 +322,17 @@ class Question:
             form, more = made.form(is_below)
             links += more
             return form
-        armed = self.armed.get(made.region)
-        atoms, inner = self.firing.lists(made, self.orders)
-        parts = [it.form for it in atoms]
-        for atom in atoms:
+        armed, firing = self.armed.get(made.region), self.firing
+        kept, new = firing.atoms_of(made.atoms[:1], self.orders), firing.atoms_of(made.atoms[1:], self.orders)
+        parts = [it.form for it in kept]
+        if armed is not None:
+            parts.append(firing.rule.sign)
+        parts += [it.form for it in new]
+        for atom in kept:
             links += atom.links
+        for atom in new:
+            links += atom.links
+        inner = firing.membranes_of(made.inner, self.orders)
         for each in inner:
             parts.append(self.form_of_next(each, is_below or armed is not None, links))
         parts += self.rules_of(armed, made.rules if is_below else ())

@@ -171,12 +171,19 @@ class Firing:
 
     def lists(self, made: Made, orders: Orders) -> tuple[list[Any], list[Made | Layout]]:
         """The atoms and the membranes of a membrane that is made or changed, where the process stood in some orders."""
-        atoms, inner = [], []
-        for piece in made.atoms:
+        return self.atoms_of(made.atoms, orders), self.membranes_of(made.inner, orders)
+
+    def atoms_of(self, pieces: list[Any], orders: Orders) -> list[Any]:
+        atoms: list[Any] = []
+        for piece in pieces:
             atoms += piece if type(piece) is list else self.kept_atoms(*piece, orders)
-        for piece in made.inner:
-            inner += piece if isinstance(piece, list) else self.kept_membranes(*piece, orders)
-        return atoms, inner
+        return atoms
+
+    def membranes_of(self, pieces: list[Any], orders: Orders) -> list[Made | Layout]:
+        inner: list[Made | Layout] = []
+        for piece in pieces:
+            inner += piece if type(piece) is list else self.kept_membranes(*piece, orders)
+        return inner
 
     def kept_atoms(self, region: Region, fresh: dict[int, int] | None, orders: Orders) -> list[Any]:
         gone = self.gone

@@ -289,8 +289,8 @@ class Head:
 class Rule:
     """A printed rule, with a number of its own.
 
-    `quiet` is its text in parentheses where it waits for an atom that isn't there, `armed` where it waits for the one that is, both
-    also as forms. `entries` are the links of its head, each with an atom and a port at which it stands;
+    `quiet` is its text in parentheses where it waits for an atom that isn't there, `armed` where it waits for the one that is, and
+    makes its `sign` too, an atom by which one sees that it fired; both also as forms. `entries` are the links of its head, each with an atom and a port at which it stands;
     `reused` the new links of its body that take over the number of a link that goes, so that firings which don't meddle with
     each other make one process in any order.
     """
@@ -298,7 +298,8 @@ class Rule:
     def __init__(self, text: str, number: int, family: Rules) -> None:
         self.text, self.number, self.family = text, number, family
         waiting = family.waiting(text)
-        self.quiet, self.armed = (f'({word}, {waiting})' for word in (family.stop, family.go))
+        self.sign = f"{family.sign} {number}.'"
+        self.quiet, self.armed = f'({family.stop}, {waiting})', f'({family.go}, {with_first(waiting, self.sign)})'
         self.quiet_form, self.armed_form = self.quiet.replace('%', '%%'), self.armed.replace('%', '%%')
         words = Words(text)
         top = read_level(words, (':-',))
@@ -332,23 +333,43 @@ def links_of_leaf(leaf: Leaf) -> tuple[str, ...]:
 
 def has_guard(text: str) -> bool:
     """Whether a printed rule has a guard: a bar that isn't in a rule of its body."""
+    return end_of_guard(text) is not None
+
+
+def end_of_guard(text: str) -> int | None:
+    """The place behind the bar of a printed rule, if it has a guard."""
     words = Words(text)
     while words.word not in (None, '|'):
         if words.word == '(' and text[words.start - 1] in ' {':
             words.nested()
         else:
             words.next()
-    return words.word == '|'
+    return words.start + 1 if words.word == '|' else None
+
+
+def with_first(text: str, atom: str) -> str:
+    """A printed rule whose body makes one atom more, before all others."""
+    words = Words(text)
+    while words.word != ':-':
+        words.next()
+    start = end_of_guard(text) or words.start + 2
+    body = text[start:].strip()
+    return f'{text[:start]} {atom}' + (f', {body}' if body else '')
 
 
 class Rules:
-    """Rules by their texts, the labels of their processes, and two atoms that make rules wait, whose names stand in none of them."""
+    """Rules by their texts, the labels of their processes, and atoms whose names stand in none of them.
+
+    Rules wait for `go` or `stop`; with `sign` the names of atoms begin that tell which rule fired.
+    """
 
     def __init__(self, text: str = '') -> None:
-        self.go, self.stop, self.rules = "'.go.'", "'.stop.'", {}
+        self.go, self.stop, self.sign, self.rules = "'.go.'", "'.stop.'", "'.by", {}
         self.labels = Labels(next(letter for letter in map(chr, itertools.count(1)) if letter not in text))
         while self.go in text or self.stop in text:
             self.go, self.stop = self.go[:-1] + ".'", self.stop[:-1] + ".'"
+        while self.sign in text:
+            self.sign += '.'
 
     def rule(self, text: str) -> Rule:
         """The rule with a text."""
