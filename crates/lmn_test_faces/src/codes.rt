@@ -62,7 +62,7 @@ pub fn read_codes(
 }
 
 /// Codes that can be run, over a store.
-pub fn coded<S: LinkStore>(
+pub fn coded<S: LinkStore + Drop>(
     alloc: Global,
     store: S,
     codes: Rows<Code>,
