@@ -4,6 +4,7 @@ use Rattle.lmn_base.specs.Lists.{In}
 use Rattle.lmn_base.specs.declared.rule.RuleTree.{RuleTree}
 use Rattle.lmn_store_heap.specs.Heap.{Heap, mem_mark_of}
 use Rattle.lmn_store_heap.specs.Sound.{Forest, IsTree, flat}
+use Rattle.lmn_store_trait.specs.Awake.{asleep_mark}
 use Rattle.lmn_instr_code.specs.declared.instr.Code.{Code}
 use Rattle.lmn_app_drive.specs.Asking.{AsksFew, awake_rules}
 use Rattle.lmn_congruence.specs.Regions.{Region, solid_atom_with}
@@ -35,5 +36,5 @@ AwakeMayBeAsked = (c : Chooser) (table : List RuleTree) (codes : List Code) (siz
 
 -- and none where all sleep.
 abbrev pub SleepersAreNotAsked : Type 0
-SleepersAreNotAsked = (c : Chooser) (table : List RuleTree) (codes : List Code) (size : ℕ) (h : Heap) → ((f : Forest) → IsTree h f → (m : ℕ) → In m (flat f) → mem_mark_of h m ≡ 1) →
+SleepersAreNotAsked = (c : Chooser) (table : List RuleTree) (codes : List Code) (size : ℕ) (h : Heap) → ((f : Forest) → IsTree h f → (m : ℕ) → In m (flat f) → mem_mark_of h m ≡ asleep_mark) →
     (h' : Heap) (begun counted : ℕ) → AsksFew (λ n m from. from ≡ c n m) table codes size h 0 h' begun counted → counted ≡ begun

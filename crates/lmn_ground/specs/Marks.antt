@@ -1,5 +1,5 @@
 -- Walks that are kept in the first marks of atoms.
-use Rattle.std.specs.Prelude.{ℕ, zero, suc, ◌≡◌, ◌≢◌, ◌⊎◌, ◌<◌, ◌≤◌, ◌+◌, ◌-◌, ◌%◌, Bool, false, List, [], ◌∷◌, ◌++◌, Option, Some, None, IsSome, length}
+use Rattle.std.specs.Prelude.{ℕ, zero, suc, ◌≡◌, ◌≢◌, ◌⊎◌, ◌<◌, ◌≤◌, ◌+◌, ◌-◌, ◌*◌, ◌/◌, ◌%◌, Bool, false, List, [], ◌∷◌, ◌++◌, Option, Some, None, IsSome, length}
 use Rattle.std.specs.Option.{option_map}
 use Rattle.lmn_store_heap.specs.Heap.{Heap, HeapAtom, with_mark, mark_of, Distinct}
 use Rattle.lmn_ground_parts.specs.Walks.{neighbour, HasPort, Net, ports_from, is_port, Walk}
@@ -27,9 +27,27 @@ painted s marks = painted_at first_place s marks
 abbrev pub first_marks : Heap → ℕ → ℕ
 first_marks s a = mark_of s a 0
 
--- A mark holds the port by which an atom was entered; and 256 more or at least 512 more, which tells two walks apart.
+-- A mark holds the port by which an atom was entered, and above it a number: 1 where the walk back has entered the atom anew, and
+-- one from 2 on where it was found, as the atom with the number n in its walk.
 abbrev pub entry_port : ℕ → ℕ
 entry_port v = v % 256
+
+abbrev pub entry_number : ℕ → ℕ
+entry_number v = v / 256
+
+abbrev pub anew_mark : ℕ → ℕ
+anew_mark port = 256 + port
+
+abbrev pub found_mark : ℕ → ℕ → ℕ
+found_mark n port = 512 + 256 * n + port
+
+-- each mark of a walk is at least this, and none of the walk back is
+abbrev pub least_found : ℕ
+least_found = 512
+
+-- the own mark of an atom that registers name
+abbrev pub matched_mark : ℕ
+matched_mark = 1
 
 abbrev pub or_zero : Option (ℕ × ℕ) → ℕ × ℕ
 or_zero None = (0, 0)

@@ -1,9 +1,9 @@
 -- What a walk by marks has found, and what it has done to the heap.
-use Rattle.std.specs.Prelude.{suc, ◌/◌, ℕ, ◌≡◌, ◌≢◌, ◌⊎◌, ◌↔◌, ◌<◌, ◌≤◌, ◌+◌, Bool, true, List, [], ◌∷◌, Option, Some, None, IsSome, length}
+use Rattle.std.specs.Prelude.{suc, ℕ, ◌≡◌, ◌≢◌, ◌⊎◌, ◌↔◌, ◌<◌, ◌≤◌, ◌+◌, Bool, true, List, [], ◌∷◌, Option, Some, None, IsSome, length}
 use Rattle.lmn_base.specs.Graphs.{Reached, StandsWhole}
 use Rattle.lmn_store_heap.specs.Heap.{Heap, Distinct, arity_of, link_of, home_of, own_mark}
 use Rattle.lmn_store_heap.specs.Graphs.{atom_map}
-use Rattle.lmn_ground.specs.Marks.{painted, first_marks, way, ports_ahead, OnWay}
+use Rattle.lmn_ground.specs.Marks.{painted, first_marks, entry_number, least_found, matched_mark, way, ports_ahead, OnWay}
 use Rattle.lmn_ground_parts.specs.Walks.{neighbour, IsPartInDepth, HasPort, net, Walk, FoundInside, is_in}
 use Rattle.lmn_base.specs.Lists.{In}
 
@@ -14,7 +14,7 @@ CleanPart s root = (a : ℕ) → Reached (atom_map s) root a → first_marks s a
 -- the atom stands in the membrane, where one is asked for, and isn't matched
 abbrev pub AtomFits : Heap → Option ℕ → ℕ → Type 0
 AtomFits s None a = Unit {0}
-AtomFits s (Some home) a = (home_of s a ≡ Some home) × (own_mark s a ≢ 1)
+AtomFits s (Some home) a = (home_of s a ≡ Some home) × (own_mark s a ≢ matched_mark)
 
 -- every atom of a part fits, and each of its ports but the root is joined
 pub record IsWhole (s : Heap) (root : ℕ × ℕ) (home : Option ℕ) : Type 0 where
@@ -24,12 +24,12 @@ pub record IsWhole (s : Heap) (root : ℕ × ℕ) (home : Option ℕ) : Type 0 w
 -- the part stands whole in the membrane, and none of its atoms is matched
 pub record IsGroundIn (s : Heap) (root : ℕ × ℕ) (home : ℕ) : Type 0 where
   pub whole : StandsWhole (atom_map s) root home
-  pub unmatched : (a : ℕ) → Reached (atom_map s) root a → own_mark s a ≢ 1
+  pub unmatched : (a : ℕ) → Reached (atom_map s) root a → own_mark s a ≢ matched_mark
 
 -- the marks of these atoms tell their numbers, which rise from k on
 abbrev pub Numbered : (ℕ → ℕ) → ℕ → List ℕ → Type 0
 Numbered v k [] = Unit {0}
-Numbered v k (x ∷ xs) = (v x / 256 ≡ k) × Numbered v (suc k) xs
+Numbered v k (x ∷ xs) = (entry_number (v x) ≡ k) × Numbered v (suc k) xs
 
 -- A walk has marked some atoms, which are all that is found among themselves; where it is `all`, they are the whole part.
 pub record Spread (before now : Heap) (root : ℕ × ℕ) (count : ℕ) (all : Bool) : Type 0 where
@@ -37,7 +37,7 @@ pub record Spread (before now : Heap) (root : ℕ × ℕ) (count : ℕ) (all : B
   pub seen : List ℕ
   pub is : now ≡ painted before marks
   pub outside : (x : ℕ) → (In x seen → ⊥) → marks x ≡ 0
-  pub on : (x : ℕ) → In x seen → 512 ≤ first_marks now x
+  pub on : (x : ℕ) → In x seen → least_found ≤ first_marks now x
   pub off : (x : ℕ) → Reached (atom_map before) root x → (In x seen → ⊥) → first_marks now x ≡ 0
   pub clean : (x : ℕ) → In x seen → first_marks before x ≡ 0
   pub ports : (x : ℕ) → In x seen → 0 < arity_of before x
@@ -52,7 +52,7 @@ pub record Spreading (before now : Heap) (root : ℕ × ℕ) (home : Option ℕ)
   pub marks : ℕ → ℕ
   pub is : now ≡ painted before marks
   pub outside : (x : ℕ) → (In x seen → ⊥) → marks x ≡ 0
-  pub on : (x : ℕ) → In x seen → 512 ≤ first_marks now x
+  pub on : (x : ℕ) → In x seen → least_found ≤ first_marks now x
   pub off : (x : ℕ) → Reached (atom_map before) root x → (In x seen → ⊥) → first_marks now x ≡ 0
   pub clean : (x : ℕ) → In x seen → first_marks before x ≡ 0
   pub ports : (x : ℕ) → In x seen → 0 < arity_of before x
@@ -79,9 +79,9 @@ pub record Wiping (before now : Heap) (root : ℕ × ℕ) (seen met : List ℕ) 
   pub ports : (x : ℕ) → In x seen → 0 < arity_of before x
   pub outside : (x : ℕ) → (In x seen → ⊥) → marks x ≡ 0
   pub wiped : (x : ℕ) → In x met → (In x (way (net before) (first_marks now) depth a) → ⊥) → marks x ≡ 0
-  pub high : (x : ℕ) → In x seen → (In x met → ⊥) → 512 ≤ first_marks now x
-  pub low : (x : ℕ) → In x met → first_marks now x < 512
-  pub off : (x : ℕ) → Reached (atom_map before) root x → (In x seen → ⊥) → first_marks now x < 512
+  pub high : (x : ℕ) → In x seen → (In x met → ⊥) → least_found ≤ first_marks now x
+  pub low : (x : ℕ) → In x met → first_marks now x < least_found
+  pub off : (x : ℕ) → Reached (atom_map before) root x → (In x seen → ⊥) → first_marks now x < least_found
   pub reached : (x : ℕ) → In x seen → Reached (atom_map before) root x
   pub here : i ≤ arity_of before a
   pub on_way : OnWay (net before) (first_marks now) root depth a

@@ -3,6 +3,7 @@ use Rattle.std.specs.Prelude.{ℕ, ◌≡◌, ◌<◌, ◌-◌, ◌^◌, ◌⊎�
 use Rattle.lmn_base.specs.Graphs.{Port}
 use Rattle.lmn_store_heap.specs.Heap.{Heap, IsMem, discarded, home_of, link_of, parent_of, mem_mark_of}
 use Rattle.lmn_store_heap.specs.Conditions.{Above}
+use Rattle.lmn_store_trait.specs.Awake.{awake_mark}
 use Rattle.lmn_instr_code.specs.declared.instr.Instr.{Instr}
 use Rattle.lmn_instr_code.specs.declared.instr.Instr.TheVariants.{RemoveAtom, RemoveMem}
 use Rattle.lmn_solid_bodies.specs.Running.{Registers, Prepares, DoesAll}
@@ -23,12 +24,12 @@ AllDeep h = (m : ℕ) → IsMem h m → HasTop h m
 -- From h to k the membranes of a kind wake, and those round them. All else is as it was.
 pub record WakesAbove (P : ℕ → Type 0) (h k : Heap) : Type 0 where
   pub alike : SameButMarks h k
-  pub woken : (x y j : ℕ) → P y → Above h j x y → mem_mark_of k x ≡ 0
-  pub others : (x : ℕ) → (mem_mark_of k x ≡ mem_mark_of h x) ⊎ ((mem_mark_of k x ≡ 0) × ((y : ℕ) × (j : ℕ) × P y × Above h j x y))
+  pub woken : (x y j : ℕ) → P y → Above h j x y → mem_mark_of k x ≡ awake_mark
+  pub others : (x : ℕ) → (mem_mark_of k x ≡ mem_mark_of h x) ⊎ ((mem_mark_of k x ≡ awake_mark) × ((y : ℕ) × (j : ℕ) × P y × Above h j x y))
 
 -- a membrane is awake, and those round it are
 abbrev pub IsAwakeRound : Heap → ℕ → Type 0
-IsAwakeRound h m = (x j : ℕ) → Above h j x m → mem_mark_of h x ≡ 0
+IsAwakeRound h m = (x j : ℕ) → Above h j x m → mem_mark_of h x ≡ awake_mark
 
 -- the membrane is this one
 abbrev pub Is : ℕ → ℕ → Type 0
@@ -65,8 +66,8 @@ IsRoused h r code y = (y ≡ r.head.images.membrane 0) ⊎ SomeRouses h r code y
 -- any depth, and keeps its mark else.
 pub record WakesRoused (s : Heap) (r : Registers) (code : List Instr) (t : Heap) : Type 0 where
   pub stood : (x : ℕ) → IsMem t x → IsMem s x
-  pub woken : (x y j : ℕ) → IsRoused s r code y → Above s j x y → mem_mark_of t x ≡ 0
-  pub others : (x : ℕ) → IsMem t x → (mem_mark_of t x ≡ mem_mark_of s x) ⊎ ((mem_mark_of t x ≡ 0) × ((y : ℕ) × (j : ℕ) × IsRoused s r code y × Above s j x y))
+  pub woken : (x y j : ℕ) → IsRoused s r code y → Above s j x y → mem_mark_of t x ≡ awake_mark
+  pub others : (x : ℕ) → IsMem t x → (mem_mark_of t x ≡ mem_mark_of s x) ⊎ ((mem_mark_of t x ≡ awake_mark) × ((y : ℕ) × (j : ℕ) × IsRoused s r code y × Above s j x y))
 
 -- Code is run from h to z with these registers: what it makes is made, which leaves the heap `prepared`, and then it does the rest,
 -- which leaves the heap `after`. z is that but for marks of membranes: what the code rouses is awake.

@@ -1,11 +1,12 @@
 -- What sleeps, and what a commit leaves asleep.
 --
--- The mark of a membrane is 0 where it is awake, and 1 where it sleeps. A membrane falls asleep where it was asked and no rule of
+-- A membrane falls asleep where it was asked and no rule of
 -- it has a match. It sleeps until something in it or below it is made, removed, moved or joined otherwise.
 use Rattle.std.specs.Prelude.{ℕ, ◌≡◌}
 use Rattle.std.specs.Option.{option_map}
 use Rattle.lmn_store_heap.specs.Heap.{Heap, IsMem, mem_with_mark, functor_of, link_of, atoms_in, mems_in, rules_in, mem_mark_of}
 use Rattle.lmn_store_heap.specs.Conditions.{Above}
+use Rattle.lmn_store_trait.specs.Awake.{awake_mark}
 use Rattle.lmn_base.specs.Lists.{In}
 
 -- t is h but for the marks of its membranes
@@ -33,6 +34,6 @@ pub record IsQuiet (h t : Heap) (m : ℕ) : Type 0 where
 -- A commit from h to t, of a rule of the membrane x. In t each membrane is awake that isn't quiet, and besides x and those round
 -- it. Every other one keeps its mark.
 pub record Wakes (h t : Heap) (x : ℕ) : Type 0 where
-  pub touched : (m : ℕ) → IsMem t m → (IsQuiet h t m → ⊥) → mem_mark_of t m ≡ 0
-  pub round : (m k : ℕ) → Above h k m x → mem_mark_of t m ≡ 0
+  pub touched : (m : ℕ) → IsMem t m → (IsQuiet h t m → ⊥) → mem_mark_of t m ≡ awake_mark
+  pub round : (m k : ℕ) → Above h k m x → mem_mark_of t m ≡ awake_mark
   pub others : (m : ℕ) → IsMem t m → IsQuiet h t m → ((k : ℕ) → Above h k m x → ⊥) → mem_mark_of t m ≡ mem_mark_of h m

@@ -3,6 +3,7 @@ use Rattle.std.specs.Prelude.{ℕ, ◌≡◌, ◌<◌, Bool, true, false, List, 
 use Rattle.lmn_store_heap.specs.Heap.{Heap, rules_in, mem_mark_of, mem_marked, Unmarked}
 use Rattle.lmn_schedule_sleep.specs.Quiet.{SameButMarks}
 use Rattle.lmn_store_heap.specs.Sound.{Forest, Valid, flat}
+use Rattle.lmn_store_trait.specs.Awake.{asleep_mark}
 use Rattle.lmn_instr_code.specs.declared.instr.Code.{Code}
 use Rattle.lmn_instr_code.specs.Running.{HeadRegisters, Succeeds, IsFirstSuccess}
 use Rattle.lmn_machine_registers.specs.declared.registers.SetRegisters.{SetRegisters}
@@ -65,7 +66,7 @@ pub record HasFound {A M : Type 0} (atom : A → ℕ) (membrane : M → ℕ) (h 
 -- From h to k these membranes fall asleep, or sleep on. All else is as it was.
 pub record FallAsleep (h k : Heap) (ms : List ℕ) : Type 0 where
   pub alike : SameButMarks h k
-  pub asleep : (m : ℕ) → In m ms → mem_mark_of k m ≡ 1
+  pub asleep : (m : ℕ) → In m ms → mem_mark_of k m ≡ asleep_mark
   pub others : (m : ℕ) → (In m ms → ⊥) → mem_mark_of k m ≡ mem_mark_of h m
 
 -- they do so if they may
@@ -75,5 +76,5 @@ Lulls false h k ms = k ≡ h
 
 -- one membrane falls asleep if it may
 abbrev pub Lulled : Bool → Heap → Heap → ℕ → Type 0
-Lulled true h k m = k ≡ mem_marked h m 1
+Lulled true h k m = k ≡ mem_marked h m asleep_mark
 Lulled false h k m = k ≡ h

@@ -2,6 +2,7 @@
 use Rattle.std.specs.Prelude.{ℕ, ◌<◌, ◌≤◌, ◌+◌, ◌==◌, if◌then◌else◌, List, [], ◌∷◌, length}
 use Rattle.lmn_store_heap.specs.Heap.{Heap, mem_mark_of, rules_in}
 use Rattle.lmn_store_heap.specs.Sound.{Forest, IsTree}
+use Rattle.lmn_store_trait.specs.Awake.{awake_mark}
 use Rattle.lmn_instr_code.specs.declared.instr.Code.{Code}
 use Rattle.lmn_schedule_strategy.specs.Choosing.{IsFirstRule, NoneOf, asked}
 
@@ -37,7 +38,7 @@ pub record CountsAmong (h : Heap) (codes : List Code) (ms : List ℕ) (old new :
 -- those of these membranes that are awake
 abbrev pub awake_of : Heap → List ℕ → List ℕ
 awake_of h [] = []
-awake_of h (m ∷ ms) = if mem_mark_of h m == 0 then m ∷ awake_of h ms else awake_of h ms
+awake_of h (m ∷ ms) = if mem_mark_of h m == awake_mark then m ∷ awake_of h ms else awake_of h ms
 
 -- So it does where all membranes of a heap that are awake are asked, from the one with a number in preorder on.
 abbrev pub CountsAsked : Heap → List Code → ℕ → ℕ → ℕ → Type 0

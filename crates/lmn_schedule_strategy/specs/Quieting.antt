@@ -2,6 +2,7 @@
 use Rattle.std.specs.Prelude.{ℕ, ◌≡◌, ◌≤◌, List, Some, slice_get}
 use Rattle.lmn_store_heap.specs.Heap.{Heap, IsMemInPlace, mem_mark_of, rules_in}
 use Rattle.lmn_store_heap.specs.Sound.{Valid}
+use Rattle.lmn_store_trait.specs.Awake.{awake_mark, asleep_mark}
 use Rattle.lmn_instr_code.specs.declared.instr.Code.{Code}
 use Rattle.lmn_instr_code.specs.Running.{HeadRegisters, IsFirstSuccess, Succeeds}
 use Rattle.lmn_solid_bodies.specs.Running.{Registers}
@@ -25,14 +26,14 @@ AreQuiet codes = (n : ℕ) (code : Code) → slice_get codes n ≡ Some code →
 abbrev pub TablesAreQuiet : Type 0
 TablesAreQuiet = (codes : List Code) → IsTableCode codes → AreQuiet codes
 
--- A membrane is awake where its mark is 0, and asleep where it is 1. No rule of one that is asleep has a code that succeeds.
+-- Each membrane is awake or asleep. No rule of one that is asleep has a code that succeeds.
 pub record SleepsRightly (h : Heap) (codes : List Code) : Type 0 where
-  pub low : (m : ℕ) → mem_mark_of h m ≤ 1
-  pub none : (m : ℕ) → mem_mark_of h m ≡ 1 → NoneOf h codes m (rules_in h m)
+  pub low : (m : ℕ) → mem_mark_of h m ≤ asleep_mark
+  pub none : (m : ℕ) → mem_mark_of h m ≡ asleep_mark → NoneOf h codes m (rules_in h m)
 
 -- each membrane is awake
 abbrev pub AllAwake : Heap → Type 0
-AllAwake h = (m : ℕ) → mem_mark_of h m ≡ 0
+AllAwake h = (m : ℕ) → mem_mark_of h m ≡ awake_mark
 
 -- So it is again after a commit of a rule of the membrane x.
 abbrev pub CommitsSleepRightly : Type 0

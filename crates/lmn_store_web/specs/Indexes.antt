@@ -1,6 +1,7 @@
 -- Words of the invariant of a store over a web, and of private functions: what its index of membranes holds.
 use Rattle.std.specs.Prelude.{◌≡◌, ◌≢◌, ◌≤◌, ◌==◌, ℕ, List, [], ◌∷◌, ◌++◌, Option, Some, length, map, nat_lt, slice_get, slice_set, unwrap_or, if◌then◌else◌}
 use Rattle.lmn_store_heap.specs.Heap.{Heap, IsMem, mems_in, mem_mark_of}
+use Rattle.lmn_store_trait.specs.Awake.{awake_mark}
 use Rattle.lmn_store_web_preorder.specs.Nests.{Nest}
 use Rattle.lmn_web.specs.Webs.{WebCell, web_label}
 
@@ -8,10 +9,10 @@ use Rattle.lmn_web.specs.Webs.{WebCell, web_label}
 abbrev pub key_of : (ℕ → Option WebCell) → ℕ → ℕ
 key_of w m = unwrap_or (web_label w m) 0
 
--- The nest is that of the membranes of a heap, by their keys: in each stand those of the membranes in it, in order, and it is awake where the mark is 0. In the key of no membrane nothing stands.
+-- The nest is that of the membranes of a heap, by their keys: in each stand those of the membranes in it, in order, and it is awake where the membrane is. In the key of no membrane nothing stands.
 pub record IsNestOf (key : ℕ → ℕ) (h : Heap) (n : Nest) : Type 0 where
   pub inside : (m : ℕ) → IsMem h m → n.inside (key m) ≡ map key (mems_in h m)
-  pub awake : (m : ℕ) → IsMem h m → n.awake (key m) ≡ (mem_mark_of h m == 0)
+  pub awake : (m : ℕ) → IsMem h m → n.awake (key m) ≡ (mem_mark_of h m == awake_mark)
   pub others : (k : ℕ) → ((m : ℕ) → IsMem h m → key m ≢ k) → n.inside k ≡ []
 
 -- The membranes of the heap are known by their keys: an index, told by the nests that it holds, holds theirs, and a list has each at its key.

@@ -5,6 +5,7 @@ use Rattle.lmn_store_heap.specs.Heap.{Heap, finished, lone_root, mem_marked, rul
 use Rattle.lmn_base.specs.declared.solid.Solid.{Solid}
 use Rattle.lmn_base.specs.SmallTexts.{name_a, name_b}
 use Rattle.lmn_store_heap.specs.Examples.{across, across_solid, loose}
+use Rattle.lmn_store_trait.specs.Awake.{asleep_mark}
 use Rattle.lmn_congruence.specs.Rules.{Name}
 use Rattle.lmn_instr_code.specs.declared.instr.Code.{Code}
 use Rattle.lmn_instr_code.specs.declared.instr.Instr.TheVariants.{Commit, FindAtom, Proceed, RemoveAtom}
@@ -27,7 +28,7 @@ ruled = rule_added lone_root 0 0
 
 -- Without codes a turn can be made over the root alone, and not where a rule stands in it, nor where it sleeps.
 abbrev pub NoCodesCanTurn : Type 0
-NoCodesCanTurn = CodedCanTurn lone_root [] 0 × (CodedCanTurn ruled [] 0 → ⊥) × (CodedCanTurn (mem_marked lone_root 0 1) [] 0 → ⊥)
+NoCodesCanTurn = CodedCanTurn lone_root [] 0 × (CodedCanTurn ruled [] 0 → ⊥) × (CodedCanTurn (mem_marked lone_root 0 asleep_mark) [] 0 → ⊥)
 
 -- Where one item is allowed a turn of the idle code commits, and where none is it doesn't: it is full. Without codes no turn commits.
 abbrev pub IdleCodeCommits : Type 0
