@@ -14,6 +14,7 @@ ghost use Rattle.lmn_ground.specs.Spread.{Numbered};
 use crate::copying::{join_copies, make_copies};
 use crate::found::Found;
 use crate::gather::clear;
+use crate::marks::{FOUND, PORTS};
 use crate::rest::{first_membrane, first_rest, next_membrane, next_rest};
 use crate::seek::arity;
 use lmn_base::NoMemory;
@@ -94,7 +95,7 @@ fn number<S: LinkStore>(store: &mut S, atoms: &Found<S::Atom>)
 {
     let _root = store.root();
     for i in 0..atoms.len() {
-        store.set_mark(*atoms.at(i), 0, 512 + 256 * i as u64);
+        store.set_mark(*atoms.at(i), 0, FOUND + PORTS * i as u64);
     }
 }
 

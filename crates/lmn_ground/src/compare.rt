@@ -7,6 +7,7 @@ ghost use Rattle.lmn_ground.specs.Marks.{first_marks};
 ghost use Rattle.lmn_ground.specs.Spread.{CleanPart, Numbered, Spread};
 ghost use Rattle.lmn_ground.specs.Follow.{Two};
 
+use crate::marks::{FIRST_NUMBER, PORTS};
 use crate::seek::{Stand, arity, is_root};
 use crate::spread::mark_entry;
 use lmn_base::Functor;
@@ -32,9 +33,9 @@ pub fn are_alike<S: LinkStore>(store: &S, a: S::Atom, b: S::Atom) -> bool
 fn same_number<S: LinkStore>(store: &S, a: S::Atom, b: S::Atom) -> bool
     requires a { IsAtom (S.heap store.now) (S.atom_id a) }
     requires b { IsAtom (S.heap store.now) (S.atom_id b) }
-    ensures { IsTrue result ↔ (first_marks (S.heap store.now) (S.atom_id a) / 256 ≡ first_marks (S.heap store.now) (S.atom_id b) / 256) }
+    ensures { IsTrue result ↔ (first_marks (S.heap store.now) (S.atom_id a) / PORTS ≡ first_marks (S.heap store.now) (S.atom_id b) / PORTS) }
 {
-    store.mark(a, 0) / 256 == store.mark(b, 0) / 256
+    store.mark(a, 0) / PORTS == store.mark(b, 0) / PORTS
 }
 
 /// The other ends of one port of two atoms, where both are there and have one index.
@@ -97,7 +98,7 @@ pub fn compare<S: LinkStore>(store: &mut S, x: (S::Atom, u8), y: (S::Atom, u8)) 
             if at.depth == 0 {
                 return (count, true);
             }
-            let entry = (store.mark(at.atom, 0) % 256) as u8;
+            let entry = (store.mark(at.atom, 0) % PORTS) as u8;
             match both_ends(store, at.atom, c, entry) {
                 Some((p, k, q)) => {
                     if !same_number(store, p, q) {
@@ -121,7 +122,7 @@ pub fn compare<S: LinkStore>(store: &mut S, x: (S::Atom, u8), y: (S::Atom, u8)) 
             match both_ends(store, at.atom, c, at.port) {
                 Some((b, j, d)) => {
                     if store.mark(b, 0) == 0 {
-                        if store.mark(d, 0) / 256 != 2 + count {
+                        if store.mark(d, 0) / PORTS != FIRST_NUMBER + count {
                             return (count, false);
                         }
                         if !are_alike(store, b, d) {

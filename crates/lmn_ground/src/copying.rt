@@ -12,6 +12,7 @@ ghost use Rattle.lmn_base.specs.Lists.{In};
 use crate::equality::is_same_port;
 use crate::found::Found;
 use crate::gather::{clear, gather};
+use crate::marks::{FIRST_NUMBER, PORTS};
 use crate::seek::arity;
 use lmn_base::NoMemory;
 use lmn_store_trait::LinkStore;
@@ -52,7 +53,7 @@ fn copy_of<S: LinkStore>(
     requires long { length copies.now ≡ length atoms.now }
     ensures { S.atom_id result ≡ answer (map S.atom_id atoms.now) (map S.atom_id copies.now) (S.atom_id a) }
 {
-    let number = store.mark(a, 0) / 256 - 2;
+    let number = store.mark(a, 0) / PORTS - FIRST_NUMBER;
     *copies.at(number as usize)
 }
 

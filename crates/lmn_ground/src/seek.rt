@@ -5,6 +5,7 @@ ghost use Rattle.lmn_store_heap.specs.Sound.{Sound, AtMost};
 ghost use Rattle.lmn_ground_parts.specs.Walks.{net};
 ghost use Rattle.lmn_ground.specs.Marks.{first_marks, back, OnWay, Sought, Halts};
 
+use crate::marks::PORTS;
 use lmn_store_trait::LinkStore;
 
 /// Where a walk stands: at a port of an atom, so many atoms away from the root.
@@ -39,7 +40,7 @@ pub fn go_back<S: LinkStore>(store: &S, root: (S::Atom, u8), at: Stand<S::Atom>)
     ensures depth { at.depth ≡ result.depth + 1 }
 {
     let _arity = arity(store, at.atom);
-    let entry = (store.mark(at.atom, 0) % 256) as u8;
+    let entry = (store.mark(at.atom, 0) % PORTS) as u8;
     match store.partner(at.atom, entry) {
         Some((atom, port)) => {
             let _there = arity(store, atom);

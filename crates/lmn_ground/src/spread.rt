@@ -2,18 +2,20 @@
 ghost use Rattle.std.specs.Prelude.{◌≡◌, ◌≢◌, ◌<◌, ◌≤◌, ◌+◌, ◌*◌, ◌^◌, ◌↔◌, IsTrue, IfSome, Some};
 ghost use Rattle.std.specs.Option.{option_map};
 ghost use Rattle.lmn_store_heap.specs.Heap.{IsAtom, IsMem, arity_of, home_of, marked, own_mark};
+ghost use Rattle.lmn_ground.specs.Marks.{found_mark};
 ghost use Rattle.lmn_ground.specs.Spread.{AtomFits, CleanPart, IsWhole, Spread};
 
+use crate::marks::{FOUND, MATCHED, PORTS};
 use crate::seek::{Stand, arity, go_down, seek};
 use lmn_store_trait::LinkStore;
 
-/// Whether the own mark of an atom isn't 1.
+/// Whether no register names an atom.
 fn is_unmatched<S: LinkStore>(store: &S, a: S::Atom) -> bool
     requires { IsAtom (S.heap store.now) (S.atom_id a) }
-    ensures { IsTrue result ↔ (own_mark (S.heap store.now) (S.atom_id a) ≢ 1) }
+    ensures { IsTrue result ↔ (own_mark (S.heap store.now) (S.atom_id a) ≢ MATCHED) }
 {
     let own = arity(store, a);
-    store.mark(a, own) != 1
+    store.mark(a, own) != MATCHED
 }
 
 /// Whether an atom stands in a membrane.
@@ -45,10 +47,10 @@ pub fn fits<S: LinkStore>(store: &S, home: Option<S::Mem>, a: S::Atom) -> bool
 pub fn mark_entry<S: LinkStore>(store: &mut S, a: S::Atom, port: u8, number: u64)
     requires atom { IsAtom (S.heap store.old) (S.atom_id a) }
     requires number { number ≤ 2 ^ 48 }
-    ensures marked { S.heap store.new ≡ marked (S.heap store.old) (S.atom_id a) 0 (512 + 256 * number + port) }
+    ensures marked { S.heap store.new ≡ marked (S.heap store.old) (S.atom_id a) 0 (found_mark number port) }
     ensures small { port < 256 }
 {
-    store.set_mark(a, 0, 512 + 256 * number + port as u64);
+    store.set_mark(a, 0, FOUND + PORTS * number + port as u64);
 }
 
 /// Marks the atoms of a part up to the first that doesn't fit. Answers how many are marked, and whether that is the part.
@@ -62,7 +64,7 @@ pub fn spread<S: LinkStore>(store: &mut S, root: (S::Atom, u8), home: Option<S::
     ensures fits { IsTrue result.1 ↔ IsWhole (S.heap store.old) (S.atom_id root.0, root.1) (option_map S.mem_id home) }
 {
     let _arity = arity(store, root.0);
-    store.set_mark(root.0, 0, 512 + root.1 as u64);
+    store.set_mark(root.0, 0, FOUND + root.1 as u64);
     let mut count = 1;
     let mut at = Stand {
         atom: root.0,

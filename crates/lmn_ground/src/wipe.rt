@@ -3,9 +3,10 @@ ghost use Rattle.std.specs.Prelude.{◌≡◌, ◌<◌, ◌≤◌, ◌+◌, ℕ,
 ghost use Rattle.lmn_store_heap.specs.Heap.{Heap, IsAtom, arity_of, link_of, marked};
 ghost use Rattle.lmn_store_heap.specs.Sound.{Sound};
 ghost use Rattle.lmn_ground_parts.specs.Walks.{is_port, net};
-ghost use Rattle.lmn_ground.specs.Marks.{OnWay, back, first_marks, weight};
+ghost use Rattle.lmn_ground.specs.Marks.{OnWay, anew_mark, back, first_marks, least_found, weight};
 ghost use Rattle.lmn_ground.specs.Spread.{Spread, Wiping};
 
+use crate::marks::{ANEW, FOUND};
 use crate::seek::{Stand, arity, go_back, is_root};
 use lmn_store_trait::LinkStore;
 
@@ -23,9 +24,9 @@ pub fn marked_end<S: LinkStore>(
     ensures there { IfSome result (λ p. p.1 < arity_of (S.heap store.now) (S.atom_id p.0)) }
     ensures small { IfSome result (λ p. arity_of (S.heap store.now) (S.atom_id p.0) < 256) }
     ensures apart { IfSome result (λ p. is_port (S.atom_id at.atom, at.port) (S.atom_id root.0, root.1) ≡ false) }
-    ensures high { IfSome result (λ p. 512 ≤ first_marks (S.heap store.now) (S.atom_id p.0)) }
+    ensures high { IfSome result (λ p. least_found ≤ first_marks (S.heap store.now) (S.atom_id p.0)) }
     ensures low { result ≡ None → (b j : ℕ) → link_of (S.heap store.now) (S.atom_id at.atom) at.port ≡ Some (b, j)
-        → is_port (S.atom_id at.atom, at.port) (S.atom_id root.0, root.1) ≡ false → first_marks (S.heap store.now) b < 512 }
+        → is_port (S.atom_id at.atom, at.port) (S.atom_id root.0, root.1) ≡ false → first_marks (S.heap store.now) b < least_found }
 {
     if is_root(at.depth, at.port, root.1) {
         return None;
@@ -33,7 +34,7 @@ pub fn marked_end<S: LinkStore>(
     match store.partner(at.atom, at.port) {
         Some((b, j)) => {
             let _small = arity(store, b);
-            if store.mark(b, 0) < 512 {
+            if store.mark(b, 0) < FOUND {
                 return None;
             }
             Some((b, j))
@@ -45,10 +46,10 @@ pub fn marked_end<S: LinkStore>(
 /// Enters an atom anew.
 pub fn enter<S: LinkStore>(store: &mut S, a: S::Atom, port: u8)
     requires { IsAtom (S.heap store.old) (S.atom_id a) }
-    ensures marked { S.heap store.new ≡ marked (S.heap store.old) (S.atom_id a) 0 (256 + port) }
+    ensures marked { S.heap store.new ≡ marked (S.heap store.old) (S.atom_id a) 0 (anew_mark port) }
     ensures small { port < 256 }
 {
-    store.set_mark(a, 0, 256 + port as u64);
+    store.set_mark(a, 0, ANEW + port as u64);
 }
 
 /// Goes back from an atom and takes its mark back.

@@ -13,7 +13,7 @@ ghost use Rattle.lmn_machine_commit.specs.Registers.{HasRests};
 ghost use Rattle.lmn_machine.specs.Searching.{AreHeldWhole, AreRootPorts};
 
 use crate::whole::mark_all;
-use lmn_ground::{closed, items_left, paint};
+use lmn_ground::{MATCHED, closed, items_left, paint};
 use lmn_machine_commit::mark_taken;
 use lmn_machine_registers::SetRegisters;
 use lmn_store_trait::LinkStore;
@@ -54,8 +54,8 @@ pub fn is_closed<S: LinkStore>(
         (IsTrue result ↔ IsClosedRest (S.heap store.old) c s x listed.now) }
 {
     let _root = store.root();
-    mark_all(store, &set.atoms, 1);
-    paint_parts(store, set, listed, 1);
+    mark_all(store, &set.atoms, MATCHED);
+    paint_parts(store, set, listed, MATCHED);
     let stays = closed(store, m, set.membranes.as_slice());
     paint_parts(store, set, listed, 0);
     mark_all(store, &set.atoms, 0);
@@ -79,7 +79,7 @@ pub fn rest_items<S: LinkStore>(
 {
     let _root = store.root();
     let place = set.membranes.at(membrane as usize);
-    mark_taken(store, set, place, 1);
+    mark_taken(store, set, place, MATCHED);
     let items = items_left(store, place, set.membranes.as_slice());
     mark_taken(store, set, place, 0);
     items

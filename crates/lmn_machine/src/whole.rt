@@ -9,7 +9,7 @@ ghost use Rattle.lmn_machine.specs.Searching.{IsHeldPart, IsWholeApart};
 ghost use Rattle.lmn_machine_commit.specs.Registers.{AreAtomHandles};
 
 use crate::checks;
-use lmn_ground::{equal, is_ground};
+use lmn_ground::{MATCHED, equal, is_ground};
 use lmn_machine_commit::set_own;
 use lmn_machine_registers::Stack;
 use lmn_store_trait::LinkStore;
@@ -41,7 +41,7 @@ fn is_whole<S: LinkStore>(
     ensures same { S.heap store.new ≡ S.heap store.old }
 {
     let _root = store.root();
-    mark_all(store, atoms, 1);
+    mark_all(store, atoms, MATCHED);
     let whole = is_ground(store, root, m);
     mark_all(store, atoms, 0);
     whole

@@ -10,7 +10,7 @@ ghost use Rattle.lmn_machine_registers.specs.declared.stack.TheConstants.{ROOM};
 
 use crate::marking::mark_taken;
 use lmn_base::{Functor, Label, NoMemory};
-use lmn_ground::{copy_cells, copy_counted};
+use lmn_ground::{MATCHED, copy_cells, copy_counted};
 use lmn_instr_code::Instr;
 use lmn_instr_pool::Body;
 use lmn_machine_registers::{PartCopy, SetRegisters};
@@ -249,7 +249,7 @@ fn copy_rest<S: LinkStore>(
     ensures makes { OnlyMakes (S.heap store.old) (S.heap store.new) }
 {
     let _root = store.root();
-    mark_taken(store, set, m, 1);
+    mark_taken(store, set, m, MATCHED);
     let copied = copy_cells(alloc, store, m, set.membranes.as_slice());
     mark_taken(store, set, m, 0);
     copied

@@ -10,7 +10,7 @@ ghost use Rattle.lmn_machine_commit.specs.Waking.{AllDeep, Is, IsAwakeRound, IsH
 use lmn_instr_code::Instr;
 use lmn_instr_pool::Body;
 use lmn_machine_registers::SetRegisters;
-use lmn_store_trait::LinkStore;
+use lmn_store_trait::{AWAKE, LinkStore};
 
 /// A membrane wakes, and each one round it.
 fn wake_round<S: LinkStore>(store: &mut S, membrane: S::Mem)
@@ -21,7 +21,7 @@ fn wake_round<S: LinkStore>(store: &mut S, membrane: S::Mem)
     let _root = store.root();
     let mut at = membrane;
     for step in 0..u64::MAX {
-        store.set_mem_mark(at, 0);
+        store.set_mem_mark(at, AWAKE);
         match store.parent(at) {
             Some(parent) => at = parent,
             None => return,
@@ -43,7 +43,7 @@ fn wake_up_to<S: LinkStore>(store: &mut S, membrane: S::Mem, top: S::Mem)
         if store.same_mem(at, top) {
             return;
         }
-        store.set_mem_mark(at, 0);
+        store.set_mem_mark(at, AWAKE);
         match store.parent(at) {
             Some(parent) => at = parent,
             None => return,
@@ -193,13 +193,13 @@ pub(crate) fn wake<S: LinkStore>(
     requires held { AreHeld S.atom_id S.mem_id (S.heap store.old) set.now }
     requires uses { AllUse (length set.now.atoms) (length set.now.membranes) (length set.now.parts) (length set.now.copies) code.now }
     requires some { 0 < length set.now.membranes }
-    requires others { (x : ℕ) → (mem_mark_of (S.heap store.old) x ≡ 0) ⊎ ((k : ℕ) × Above (S.heap store.old) k (S.heap store.old).root x) }
+    requires others { (x : ℕ) → (mem_mark_of (S.heap store.old) x ≡ AWAKE) ⊎ ((k : ℕ) × Above (S.heap store.old) k (S.heap store.old).root x) }
     ensures { (r : Registers) → AgreesWithCopies S.atom_id S.mem_id set.now r → WakesAbove (IsRoused (S.heap store.old) r code.now) (S.heap store.old) (S.heap store.new) }
 {
     let top = set.membranes.at(0);
     let _root = store.root();
     if is_only(store, top) {
-        store.set_mem_mark(top, 0);
+        store.set_mem_mark(top, AWAKE);
         return;
     }
     wake_round(store, top);

@@ -4,7 +4,7 @@ ghost use Rattle.lmn_store_heap.specs.Sound.{Valid};
 ghost use Rattle.lmn_schedule_sleep.specs.Quiet.{SameButMarks};
 ghost use Rattle.lmn_schedule_strategy.specs.Quieting.{AllAwake};
 
-use lmn_store_trait::LinkStore;
+use lmn_store_trait::{AWAKE, LinkStore};
 
 /// Each membrane wakes. The store is else as it was.
 pub fn rouse_all<S: LinkStore>(store: &mut S)
@@ -15,7 +15,7 @@ pub fn rouse_all<S: LinkStore>(store: &mut S)
     // There are fewer membranes than that, so the loop ends at a return.
     let mut at = store.root();
     for counted in 0..u64::MAX {
-        store.set_mem_mark(at, 0);
+        store.set_mem_mark(at, AWAKE);
         match store.next_membrane(at) {
             Some(next) => at = next,
             None => return,

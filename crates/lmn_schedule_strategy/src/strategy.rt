@@ -10,7 +10,7 @@ ghost use Rattle.lmn_schedule_strategy.specs.Counting.{CountsAmong, CountsAsked,
 
 use lmn_instr_pool::Codes;
 use lmn_machine::{Machine, Steps};
-use lmn_store_trait::LinkStore;
+use lmn_store_trait::{ASLEEP, AWAKE, LinkStore};
 use std::sync::ledger::Ledger;
 
 /// The rule that fires next, and where.
@@ -86,7 +86,7 @@ fn lull<S: LinkStore>(machine: &mut Machine<S>, membrane: S::Mem, sleep: bool)
     ensures registers { machine.new.set ≡ machine.old.set }
 {
     if sleep {
-        machine.store_mut().set_mem_mark(membrane, 1);
+        machine.store_mut().set_mem_mark(membrane, ASLEEP);
     }
 }
 
@@ -104,7 +104,7 @@ fn ask<S: LinkStore, L: Ledger>(
     requires sleeps { SleepsRightly (S.heap machine.old.store) codes.now }
     requires order { AllInOrder codes.now }
     requires membrane { IsMem (S.heap machine.old.store) (S.mem_id membrane) }
-    requires awake { mem_mark_of (S.heap machine.old.store) (S.mem_id membrane) ≡ 0 }
+    requires awake { mem_mark_of (S.heap machine.old.store) (S.mem_id membrane) ≡ AWAKE }
     ensures turn { CanTurn (S.heap machine.new.store) (length codes.now) }
     ensures sleeps { SleepsRightly (S.heap machine.new.store) codes.now }
     ensures lulls { MatchOption result
@@ -145,7 +145,7 @@ fn awake_from<S: LinkStore>(store: &mut S, at: u64) -> Option<(u64, S::Mem)>
 {
     if at == 0 {
         let root = store.root();
-        if store.mem_mark(root) == 0 {
+        if store.mem_mark(root) == AWAKE {
             return Some((0, root));
         }
     }

@@ -12,7 +12,7 @@ use crate::seek::seek;
 use crate::{Lists, cells};
 use lmn_base::{Functor, NoMemory};
 use lmn_store_counts::{BOUND, Rules};
-use lmn_store_trait::LinkStore;
+use lmn_store_trait::{AWAKE, LinkStore};
 use slab::Slab;
 use std::alloc::Global;
 use std::marker::Model;
@@ -67,7 +67,7 @@ impl SlabStore {
             &mut mems,
             MemCell {
                 rules: Rules::new(alloc),
-                mark: 0,
+                mark: AWAKE,
                 list: None,
             },
         )?;
@@ -233,7 +233,7 @@ impl LinkStore for SlabStore {
             &mut self.mems,
             MemCell {
                 rules: Rules::new(alloc),
-                mark: 0,
+                mark: AWAKE,
                 list: Some(DETACHED),
             },
         )?;

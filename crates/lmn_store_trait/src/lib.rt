@@ -2,7 +2,9 @@
 #![tactic(auto)]
 
 mod examples;
+mod sleep;
 mod store;
 
 pub use examples::{both_sleep, inner_is_next};
+pub use sleep::{ASLEEP, AWAKE};
 pub use store::LinkStore;

@@ -7,6 +7,7 @@ ghost use Rattle.lmn_store_heap.specs.Sound.{Sound, AllInPlace, AtMost, Forest, 
 ghost use Rattle.lmn_store_trait.specs.Awake.{IsNextAwake, NoneAwake};
 ghost use Rattle.lmn_store_heap.specs.Conditions.{Alone, Ready, IsOutside};
 
+use crate::sleep::AWAKE;
 use lmn_base::{Functor, NoMemory};
 use std::alloc::Global;
 
@@ -159,7 +160,7 @@ pub trait LinkStore {
     }
 
     /// The first membrane that is awake, with its number, of those with a number of at least `start` in preorder, in which the
-    /// root has 0. A membrane is awake where its mark is 0.
+    /// root has 0. A membrane is awake where its mark is `AWAKE`.
     fn awake_from(&mut self, start: u64) -> Option<(u64, Self::Mem)>
         requires { Valid (heap self.old) }
         ensures same { heap self.new ≡ heap self.old }
@@ -176,7 +177,7 @@ pub trait LinkStore {
         }
         // There are fewer membranes than that, so the loop ends at a return.
         for number in start..u64::MAX {
-            if self.mem_mark(at) == 0 {
+            if self.mem_mark(at) == AWAKE {
                 return Some((number, at));
             }
             match self.next_membrane(at) {
@@ -210,7 +211,7 @@ pub trait LinkStore {
         requires slot { slot ≤ arity_of (heap self.old) (atom_id a) }
         ensures { heap self.new ≡ marked (heap self.old) (atom_id a) slot v };
 
-    /// The mark of a membrane. A new membrane's is 0.
+    /// The mark of a membrane. A new membrane's is `AWAKE`.
     fn mem_mark(&self, m: Self::Mem) -> u64
         requires { IsMem (heap self.now) (mem_id m) }
         ensures { result ≡ mem_mark_of (heap self.now) (mem_id m) };

@@ -17,7 +17,7 @@ use crate::sending::{send, send_all};
 use crate::table;
 use lmn_base::{Functor, NoMemory};
 use lmn_store_counts::{BOUND, Rules};
-use lmn_store_trait::LinkStore;
+use lmn_store_trait::{AWAKE, LinkStore};
 use lmn_store_web_preorder::Preorder;
 use lmn_web::{Cell, CellKind, Web};
 use slab::Slab;
@@ -266,9 +266,9 @@ impl LinkStore for WebStore {
 
     fn set_mem_mark(&mut self, m: Cell, v: u64) {
         let key = self.place_of_rules(m);
-        let was = self.web.mark(m, 0) == 0;
+        let was = self.web.mark(m, 0) == AWAKE;
         self.web.set_mark(m, 0, v);
-        wake(&mut self.index, key, was, v == 0);
+        wake(&mut self.index, key, was, v == AWAKE);
     }
 
     #[inline(always)]

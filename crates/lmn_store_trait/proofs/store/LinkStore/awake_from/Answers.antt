@@ -33,11 +33,11 @@ loop-number-init g c =
 pub mem_mark-requires : goal.mem_mark-requires
 mem_mark-requires g c = number_mem (g.Self.LinkStore.heap c.args.self.now) c.loop-number.number (g.Self.LinkStore.mem_id c.loop-number.at) c.requires c.loop-number.invariant.number
 
-pub returns-then-mem_mark-eq0-clause-next : goal.returns-then-mem_mark-eq0-clause-next
-returns-then-mem_mark-eq0-clause-next g c = λ f t. record {
+pub returns-then-mem_mark-eq-AWAKE-clause-next : goal.returns-then-mem_mark-eq-AWAKE-clause-next
+returns-then-mem_mark-eq-AWAKE-clause-next g c = λ f t. record {
   least = (let k = c.loop-number.auto in omega arith);
   is = c.loop-number.invariant.number f t;
-  awake = sym c.mem_mark.ensures ∙ c.if-mem_mark-eq0.true;
+  awake = sym c.mem_mark.ensures ∙ c.if-mem_mark-eq-AWAKE.true;
   none = c.loop-number.invariant.none f t;
 }
 
@@ -46,7 +46,7 @@ returns-in-None-next_membrane-clause-next g c = λ f t.
     (let h = g.Self.LinkStore.heap c.args.self.now in
     let m = g.Self.LinkStore.mem_id c.loop-number.at in
     none_awake_all h (flat f) c.args.start (c.loop-number.number + 1)
-    (none_awake_on h (flat f) c.args.start c.loop-number.number m (c.loop-number.invariant.none f t) (c.loop-number.invariant.number f t) (λ e. c.if-mem_mark-eq0.false (c.mem_mark.ensures ∙ e)))
+    (none_awake_on h (flat f) c.args.start c.loop-number.number m (c.loop-number.invariant.none f t) (c.loop-number.invariant.number f t) (λ e. c.if-mem_mark-eq-AWAKE.false (c.mem_mark.ensures ∙ e)))
     (number_next h c.loop-number.number m None c.loop-number.invariant.number c.in-None-next_membrane.ensures f t))
 
 pub loop-number-preserved : goal.loop-number-preserved
@@ -55,7 +55,7 @@ loop-number-preserved g c =
     let m = g.Self.LinkStore.mem_id c.loop-number.at in
     record {
       number = number_next h c.loop-number.number m (Some (g.Self.LinkStore.mem_id c.in-Some-next_membrane.next)) c.loop-number.invariant.number c.in-Some-next_membrane.ensures;
-      none = λ f t. none_awake_on h (flat f) c.args.start c.loop-number.number m (c.loop-number.invariant.none f t) (c.loop-number.invariant.number f t) (λ e. c.if-mem_mark-eq0.false (c.mem_mark.ensures ∙ e));
+      none = λ f t. none_awake_on h (flat f) c.args.start c.loop-number.number m (c.loop-number.invariant.none f t) (c.loop-number.invariant.number f t) (λ e. c.if-mem_mark-eq-AWAKE.false (c.mem_mark.ensures ∙ e));
     }
 
 pub returns-clause-next : goal.returns-clause-next
