@@ -4,16 +4,8 @@ ghost use Rattle.lmn_lexer.specs.Spelling.{IsQuoted};
 ghost use Rattle.lmn_lexer.specs.Faults.{SpelledInRange, BeginsFraction, TooLong, TokenFault, value_behind};
 
 use crate::token::Kind;
+use lmn_base::RefusalCode;
 use lmn_base::limits::LONGEST_NAME;
-
-/// The code of an integer out of range.
-const OUT_OF_RANGE: u8 = 4;
-
-/// The code of a name that is too long.
-const LONG_NAME: u8 = 5;
-
-/// The code of a floating-point number.
-const FLOATING_POINT: u8 = 6;
 
 /// The number above the greatest integer.
 const INTEGER_BOUND: u128 = 1 << 63;
@@ -26,7 +18,7 @@ pub(crate) fn token_fault(kind: Kind, bytes: &[u8], after: &[u8]) -> Option<u8>
 {
     match kind {
         Kind::Int => integer_fault(bytes, after),
-        _ => is_long(kind, bytes).then_some(LONG_NAME),
+        _ => is_long(kind, bytes).then_some(RefusalCode::NameTooLong as u8),
     }
 }
 
@@ -35,12 +27,12 @@ fn integer_fault(bytes: &[u8], after: &[u8]) -> Option<u8>
     ensures { MatchOption result ((code : ℕ) → TokenFault Int bytes.now after.now code → ⊥) (λ code. TokenFault Int bytes.now after.now code) }
 {
     if begins_fraction(after) {
-        return Some(FLOATING_POINT);
+        return Some(RefusalCode::FloatingPoint as u8);
     }
     if is_in_range(bytes) {
         return None;
     }
-    Some(OUT_OF_RANGE)
+    Some(RefusalCode::IntegerOutOfRange as u8)
 }
 
 /// Whether a `.` and a digit stand first.

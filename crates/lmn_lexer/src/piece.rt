@@ -4,21 +4,7 @@ ghost use Rattle.lmn_lexer.specs.Spelling.{begins_link, begins_context, is_quota
 ghost use Rattle.lmn_lexer.specs.Scanning.{follows, first_passes, word_bytes, digit_bytes, line_bytes, close_at, lowercase_at, context_at, at_sign_at, minus_at, block_at, slash_at, quoted_behind, equal_at, colon_at, bracket_at, greater_at, backslash_at, sign_at, sign_piece, piece_of};
 
 use crate::token::Kind;
-
-/// The code of a byte that begins nothing, or that may not stand in a name in quotes.
-const BAD_BYTE: u8 = 2;
-
-/// The code of a name in quotes or a comment that isn't closed.
-const NOT_CLOSED: u8 = 3;
-
-/// The code of a string literal.
-const STRING: u8 = 7;
-
-/// The code of inline code.
-const INLINE_CODE: u8 = 8;
-
-/// The code of a hyperlink.
-const HYPERLINK: u8 = 9;
+use lmn_base::RefusalCode;
 
 /// What a text begins with.
 #[derive(Clone, Copy, Debug, PartialEq, Eq)]
@@ -103,9 +89,9 @@ fn sign(first: u8) -> Piece
         b'<' => Piece::Token(Kind::Less, 1),
         b'+' => Piece::Token(Kind::Plus, 1),
         b'*' => Piece::Token(Kind::Star, 1),
-        b'"' => Piece::Wrong(STRING, 0),
-        b'!' => Piece::Wrong(HYPERLINK, 0),
-        _ => Piece::Wrong(BAD_BYTE, 0),
+        b'"' => Piece::Wrong(RefusalCode::StringLiteral as u8, 0),
+        b'!' => Piece::Wrong(RefusalCode::Hyperlink as u8, 0),
+        _ => Piece::Wrong(RefusalCode::BadByte as u8, 0),
     }
 }
 
@@ -128,7 +114,7 @@ fn block(rest: &[u8]) -> Piece
 {
     match close(rest) {
         Some(bytes) => Piece::Gap(bytes + 4),
-        None => Piece::Wrong(NOT_CLOSED, 0),
+        None => Piece::Wrong(RefusalCode::NotClosed as u8, 0),
     }
 }
 
@@ -158,14 +144,14 @@ fn quoted(rest: &[u8]) -> Piece
             }
             at += 2;
         } else if byte == b'\n' {
-            return Piece::Wrong(NOT_CLOSED, 0);
+            return Piece::Wrong(RefusalCode::NotClosed as u8, 0);
         } else if is_quotable(byte) {
             at += 1;
         } else {
-            return Piece::Wrong(BAD_BYTE, at + 1);
+            return Piece::Wrong(RefusalCode::BadByte as u8, at + 1);
         }
     }
-    Piece::Wrong(NOT_CLOSED, 0)
+    Piece::Wrong(RefusalCode::NotClosed as u8, 0)
 }
 
 /// A process context, behind its `$`.
@@ -175,7 +161,7 @@ fn context(rest: &[u8]) -> Piece
     if begins_name(rest) {
         return Piece::Token(Kind::Context, 1 + word_bytes(rest));
     }
-    Piece::Wrong(BAD_BYTE, 0)
+    Piece::Wrong(RefusalCode::BadByte as u8, 0)
 }
 
 /// `@@` or a rule context, behind the first `@`.
@@ -188,7 +174,7 @@ fn at_sign(rest: &[u8]) -> Piece
     if begins_name(rest) {
         return Piece::Token(Kind::RuleCtx, 1 + word_bytes(rest));
     }
-    Piece::Wrong(BAD_BYTE, 0)
+    Piece::Wrong(RefusalCode::BadByte as u8, 0)
 }
 
 /// An integer or `-`, behind the `-`.
@@ -224,7 +210,7 @@ fn colon(rest: &[u8]) -> Piece
     if follows(rest, b'-') {
         return Piece::Token(Kind::Arrow, 2);
     }
-    Piece::Wrong(BAD_BYTE, 0)
+    Piece::Wrong(RefusalCode::BadByte as u8, 0)
 }
 
 /// `[`, behind it, or inline code.
@@ -232,7 +218,7 @@ fn bracket(rest: &[u8]) -> Piece
     ensures { result ≡ bracket_at rest.now }
 {
     if follows(rest, b':') {
-        return Piece::Wrong(INLINE_CODE, 0);
+        return Piece::Wrong(RefusalCode::InlineCode as u8, 0);
     }
     Piece::Token(Kind::LBracket, 1)
 }

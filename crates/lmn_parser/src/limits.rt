@@ -5,7 +5,7 @@ ghost use Rattle.lmn_parser.specs.Scans.{opened_of, last_of, stack_of, scan_of, 
 ghost use Rattle.lmn_parser_grammar.specs.Scan.{is_equals_last};
 ghost use Rattle.lmn_parser.specs.Parsing.{kinds_of};
 
-use lmn_base::{NoMemory, Rows};
+use lmn_base::{NoMemory, RefusalCode, Rows};
 use lmn_lexer::{Kind, PackedToken};
 use std::alloc::Global;
 
@@ -15,10 +15,6 @@ const BRACKETS: usize = 200;
 const OPERATORS: u16 = 255;
 /// How many arguments an atom may have, its own link included: `most_arguments`.
 const ARGUMENTS: u8 = 255;
-
-const TOO_DEEP: u8 = 11;
-
-const TOO_MANY: u8 = 12;
 
 /// A token that passes a limit.
 #[derive(Clone, Copy, Debug, PartialEq, Eq)]
@@ -109,10 +105,10 @@ impl Scan {
         ensures { result ≡ scanner.passes (scan_of self.now) kind }
     {
         if self.is_too_deep(kind) {
-            return Some(TOO_DEEP);
+            return Some(RefusalCode::NestingTooDeep as u8);
         }
         if has_too_many(self.innermost()) || (is_equal(kind) && is_full(self.last)) {
-            return Some(TOO_MANY);
+            return Some(RefusalCode::TooManyArguments as u8);
         }
         None
     }

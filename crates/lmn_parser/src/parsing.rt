@@ -13,11 +13,11 @@ use crate::lookahead::expect;
 use crate::reader::clauses;
 use crate::stop::Stop;
 use crate::tree::{Clause, Tree};
-use lmn_base::{Refusal, Rows, TextFault};
+use lmn_base::{Refusal, RefusalCode, Rows, TextFault};
 use lmn_lexer::{Kind, PackedToken, Tokens};
 use std::alloc::Global;
 
-const UNEXPECTED: u8 = 10;
+const UNEXPECTED: u8 = RefusalCode::UnexpectedToken as u8;
 
 /// The tree of the tokens, the last of which is `End`. They are refused at the first token with which they
 /// begin no program, by E10, or that passes a limit, by E11 or E12; the place is that of the token.
