@@ -1,17 +1,17 @@
 -- A small web with the posts of a store, and what its heap has.
-use Rattle.std.specs.Prelude.{◌≡◌, ℕ, false, pos, negsuc, [], ◌∷◌, Option, Some, None}
+use Rattle.std.specs.Prelude.{◌≡◌, ℕ, false, true, pos, negsuc, [], ◌∷◌, Option, Some, None}
 use Rattle.lmn_base.specs.declared.functor.Label.TheVariants.{Name, Int}
 use Rattle.lmn_store_heap.specs.Heap.{Heap, top, alter, home_of, mem_place_of, atoms_in}
 use Rattle.lmn_store_web_preorder.specs.Nests.{Nest, empty_nest, with_awake, with_key}
 use Rattle.lmn_web.specs.declared.kind.CellKind.TheVariants.{Atom, Membrane}
-use Rattle.lmn_web.specs.Webs.{WebCell, new_cell, added_last}
+use Rattle.lmn_web.specs.Webs.{WebCell, new_cell, added_last, label_class}
 use Rattle.lmn_store_web.specs.Labels.{label_number, label_by}
 use Rattle.lmn_store_web.specs.WebHeaps.{Posts, no_rules, heap_by, alone}
 use Rattle.lmn_store_web.specs.Indexes.{IsNestOf, IsIndexed}
 
 -- 0 is the root, 1 holds what waits, 2 what is gone
 abbrev pub three_posts : Posts
-three_posts = record { root = 0; waiting = 1; gone = 2 }
+three_posts = record { root = 0; waiting = 1; gone = 2; by_value = false }
 
 -- the posts, an atom 3 in the root, and an atom 4 that waits
 abbrev pub posted : ℕ → Option WebCell
@@ -40,13 +40,22 @@ WaitingIsNotAlone = small_heap ≡ alone 0 → ⊥
 abbrev pub RootIsAlone : Type 0
 RootIsAlone = (mem_place_of (alone 5) 5 ≡ Some top) × ((alone 5).mems 0 ≡ None)
 
--- a label has a number, and a number has a label
+-- a label has a number, and a number has a label, whether integers are filed by value or not
 abbrev pub LabelsAreRead : Type 0
-LabelsAreRead = (label_by (label_number (Name 7)) ≡ Name 7) × (label_by (label_number (Int (pos 3))) ≡ Int (pos 3)) × (label_by (label_number (Int (negsuc 2))) ≡ Int (negsuc 2))
+LabelsAreRead = (label_by (label_number true (Name 7)) ≡ Name 7) × (label_by (label_number false (Int (pos 3))) ≡ Int (pos 3)) × (label_by (label_number false (Int (negsuc 2))) ≡ Int (negsuc 2))
+    × (label_by (label_number true (Int (pos 3))) ≡ Int (pos 3)) × (label_by (label_number true (Int (negsuc 2))) ≡ Int (negsuc 2))
 
 -- the integer 7 isn't the name 7
 abbrev pub IntegerIsNoName : Type 0
-IntegerIsNoName = label_by (label_number (Int (pos 7))) ≡ Name 7 → ⊥
+IntegerIsNoName = label_by (label_number false (Int (pos 7))) ≡ Name 7 → ⊥
+
+-- filed by value, two integers are of two classes
+abbrev pub ValuesAreApart : Type 0
+ValuesAreApart = label_class (label_number true (Int (pos 7))) ≡ label_class (label_number true (Int (pos 8))) → ⊥
+
+-- filed otherwise, they are of one
+abbrev pub IntegersAreTogether : Type 0
+IntegersAreTogether = label_class (label_number false (Int (pos 7))) ≡ label_class (label_number false (Int (pos 8)))
 
 -- a key that is awake, with nothing in it
 abbrev pub one_key : Nest

@@ -9,11 +9,12 @@ use Rattle.lmn_web.specs.declared.kind.CellKind.TheVariants.{Atom, Membrane}
 use Rattle.lmn_web.specs.Webs.{WebCell, cells_in, web_by}
 use Rattle.lmn_store_web.specs.Labels.{label_by}
 
--- The cell of the root, and two cells that are no membranes of the heap: in the lists of one stands what waits, in those of the other what is gone.
+-- The cell of the root, and two cells that are no membranes of the heap: in the lists of one stands what waits, in those of the other what is gone; and whether integers are filed by their values.
 pub record Posts : Type 0 where
   pub root : ℕ
   pub waiting : ℕ
   pub gone : ℕ
+  pub by_value : Bool
 
 -- where an item is that has this home
 abbrev pub place_at : Posts → Option ℕ → Place

@@ -26,7 +26,7 @@ pub record IsStored (p : Posts) (table : List (Option RuleList)) (w : ℕ → Op
   pub apart : p.waiting ≢ p.gone
   pub homeless : (x : ℕ) → IsSome (w x) → (home_at w x ≡ None) ↔ ((x ≡ p.root) ⊎ (x ≡ p.waiting) ⊎ (x ≡ p.gone))
   pub portless : (m : ℕ) → kind_at w m ≡ Membrane → arity_at w m ≡ 0
-  pub labels : (a l : ℕ) → kind_at w a ≡ Atom → web_label w a ≡ Some l → IsLabelNumber l
+  pub labels : (a l : ℕ) → kind_at w a ≡ Atom → web_label w a ≡ Some l → IsLabelNumber p.by_value l
   pub rules : (m : ℕ) → kind_at w m ≡ Membrane → m ≢ p.waiting → m ≢ p.gone → (i : ℕ) × HasRules table w m i
   pub own_rules : (m n i : ℕ) → IsSome (mems_of p table w m) → IsSome (mems_of p table w n) → web_label w m ≡ Some i → web_label w n ≡ Some i → m ≡ n
   pub used : (i : ℕ) → IsSome (slice_index_or table i None) → (m : ℕ) × IsSome (mems_of p table w m) × (web_label w m ≡ Some i)
@@ -38,7 +38,7 @@ pub record AlwaysStored (k : KeptWeb) (n m s : ℕ) : Type 0 where
   pub counts : HasCounts (atoms_of k.posts (web_by k.web)) (mems_of k.posts k.table (web_by k.web)) n m s
 
 abbrev pub kept_by : Inside → KeptWeb
-kept_by s = record { web = s.web; table = s.rules.slots; posts = record { root = cell_id s.root; waiting = cell_id s.waiting; gone = cell_id s.gone } }
+kept_by s = record { web = s.web; table = s.rules.slots; posts = record { root = cell_id s.root; waiting = cell_id s.waiting; gone = cell_id s.gone; by_value = s.by_value } }
 
 -- what is kept without the index, and the index
 pub record IsKept (s : Inside) : Type 0 where
