@@ -63,7 +63,7 @@ pub(crate) fn exec_by<F: Shelf, O: Sink>(
     ensures ended { RequestEnded (to_pair (pair_of words.entry)) result (F.told shelf.old) (O.told out.old) (O.told out.new) (O.faults out.old) (O.faults out.new) (F.faults shelf.old) (F.faults shelf.new) }
 {
     loading_settles();
-    match WebStore::new(alloc) {
+    match WebStore::for_rules(alloc, accepted.plain.rules.as_slice()) {
         Ok(store) => exec_in(alloc, words, accepted, names, store, shelf, out),
         Err(NoMemory) => Ending::NoMemory,
     }

@@ -46,7 +46,7 @@ pub(crate) fn run<O: Sink>(
         Ended (Task.Run settings.now) result (Some (Some text)) (O.told out.old) (O.told out.new) (O.faults out.old) (O.faults out.new) before after }
 {
     loading_settles();
-    match WebStore::new(alloc) {
+    match WebStore::for_rules(alloc, accepted.plain.rules.as_slice()) {
         Ok(store) => run_in::<_, _, Brand>(
             alloc,
             accepted,

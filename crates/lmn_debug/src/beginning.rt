@@ -32,7 +32,7 @@ impl<'p, F: Fn(u64, u64) -> u64 + Copy + Drop> Beginning<'p, F> {
         ensures keeps { IfOk result (λ e. (e.plain.now ≡ self.now.plain.now) × (e.chooser.f ≡ self.now.choose) × (e.size ≡ self.now.size) × (e.commits ≡ 0)) }
     {
         loading_settles();
-        let store = WebStore::new(alloc)?;
+        let store = WebStore::for_rules(alloc, self.plain.rules.as_slice())?;
         match Engine::load(
             alloc,
             self.plain,

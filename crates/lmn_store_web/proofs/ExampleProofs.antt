@@ -2,7 +2,7 @@
 use Rattle.std.proofs.Common.{◌≡◌, true, false, List, [], ◌∷◌, ℕ, Option, Some, None, ap, refl, subst, arith}
 use Rattle.lmn_store_heap.specs.Heap.{Heap}
 use Rattle.lmn_store_web_preorder.specs.Nests.{Nest}
-use Rattle.lmn_store_web.specs.Examples.{AtomStands, AtomWaits, PostIsNoMembrane, WaitingIsNotAlone, RootIsAlone, LabelsAreRead, IntegerIsNoName, one_key, RootIsKey, KeyIsAwake, RootIsIndexed, OtherIsNotIndexed}
+use Rattle.lmn_store_web.specs.Examples.{AtomStands, AtomWaits, PostIsNoMembrane, WaitingIsNotAlone, RootIsAlone, LabelsAreRead, IntegerIsNoName, IntegersAreTogether, ValuesAreApart, one_key, RootIsKey, KeyIsAwake, RootIsIndexed, OtherIsNotIndexed}
 use Rattle.lmn_store_web.specs.Indexes.{IsNestOf}
 use Rattle.lmn_store_web.specs.WebHeaps.{alone}
 use Rattle.lmn_store_web.proofs.IndexLemmas.{index_alone}
@@ -23,10 +23,16 @@ pub root_is_alone : RootIsAlone
 root_is_alone = (refl, refl)
 
 pub labels_are_read : LabelsAreRead
-labels_are_read = (refl, refl, refl)
+labels_are_read = (refl, refl, refl, refl, refl)
 
 pub integer_is_no_name : IntegerIsNoName
 integer_is_no_name e = absurd (cc)
+
+pub values_are_apart : ValuesAreApart
+values_are_apart e = omega (arith, e)
+
+pub integers_are_together : IntegersAreTogether
+integers_are_together = refl
 
 pub root_is_indexed : RootIsIndexed
 root_is_indexed = index_alone (λ (n : Nest). n ≡ one_key) (λ _. 0) 5 refl refl

@@ -131,7 +131,7 @@ module _ (p : Posts) (v w : ℕ → Option WebCell) (c : ℕ) (K : CellKind) (l 
   other x s e = let u : IsSome {T = WebCell} None = subst (λ (o : Option WebCell). IsSome o) (ap v e ∙ d.fresh) s in absurd (cc)
 
   module _ (t t1 : List (Option RuleList)) (k : IsStored p t v)
-      (ports : K ≡ Membrane → n ≡ 0) (label : K ≡ Atom → IsLabelNumber l)
+      (ports : K ≡ Membrane → n ≡ 0) (label : K ≡ Atom → IsLabelNumber p.by_value l)
       (own : K ≡ Membrane → IsSome (slice_index_or t1 l None) × (slice_index_or t l None ≡ None))
       (stay : (i : ℕ) → IsSome (slice_index_or t i None) → IsSome (slice_index_or t1 i None))
       (only : (i : ℕ) → IsSome (slice_index_or t1 i None) → IsSome (slice_index_or t i None) ⊎ ((K ≡ Membrane) × (i ≡ l))) where
@@ -185,7 +185,7 @@ module _ (p : Posts) (v w : ℕ → Option WebCell) (c : ℕ) (K : CellKind) (l 
         | inr q ↦ arity_beside m q ∙ k.portless m (sym (kind_beside m q) ∙ e)
       ];
       labels = λ a j e f. elim (cases_eq a c) [
-        | inl q ↦ (let s : Some l ≡ Some j = sym label_here ∙ ap (web_label w) (sym q) ∙ f in let r : l ≡ j = (cc) in subst IsLabelNumber r (label (kind_of_new a q Atom e)))
+        | inl q ↦ (let s : Some l ≡ Some j = sym label_here ∙ ap (web_label w) (sym q) ∙ f in let r : l ≡ j = (cc) in subst (IsLabelNumber p.by_value) r (label (kind_of_new a q Atom e)))
         | inr q ↦ k.labels a j (sym (kind_beside a q) ∙ e) (sym (label_beside a q) ∙ f)
       ];
       rules = λ m e x g. elim (cases_eq m c) [
@@ -214,7 +214,7 @@ module _ (p : Posts) (v w : ℕ → Option WebCell) (c : ℕ) (K : CellKind) (l 
 
 -- A new atom
 
-module _ (p : Posts) (t : List (Option RuleList)) (v w : ℕ → Option WebCell) (c l n : ℕ) (d : Made p v w c Atom l n) (k : IsStored p t v) (range : IsLabelNumber l) where
+module _ (p : Posts) (t : List (Option RuleList)) (v w : ℕ → Option WebCell) (c l n : ℕ) (d : Made p v w c Atom l n) (k : IsStored p t v) (range : IsLabelNumber p.by_value l) where
   pub atom_stored : IsStored p t w
   atom_stored = made_stored p v w c Atom l n d t t k (λ e. absurd (cc)) (λ e. range) (λ e. absurd (cc)) (λ i s. s) (λ i s. inl s)
 

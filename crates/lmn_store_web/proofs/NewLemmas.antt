@@ -1,5 +1,5 @@
 -- A store with the root alone.
-use Rattle.std.proofs.Common.{◌≡◌, ◌≢◌, ◌⊎◌, ℕ, List, [], Option, Some, None, IsSome, refl, sym, ap, subst, ◌∙◌, inl, inr, arith, length}
+use Rattle.std.proofs.Common.{◌≡◌, ◌≢◌, ◌⊎◌, ℕ, Bool, List, [], Option, Some, None, IsSome, refl, sym, ap, subst, ◌∙◌, inl, inr, arith, length}
 use Rattle.std.specs.Prelude.{slice_index_or, unwrap_or}
 use Rattle.std.specs.Option.{option_map, option_and_then}
 use Rattle.std.proofs.lemmas.Bool.{cases_eq}
@@ -20,9 +20,9 @@ use Rattle.lmn_store_web.proofs.ReadLemmas.{mem_there, mem_is, mems_are, kind_th
 none_census : {X : Type 0} (w : X → ℕ) → Census w (λ (k : ℕ). None) 0
 none_census {X} w = record { keys = []; once = tt; all = λ k. (λ i. absurd i, λ i. absurd (let u : IsSome {T = X} None = i in cc)); weighs = refl }
 
-module _ (a b r key : ℕ) (t : List (Option RuleList)) (ba : b ≢ a) (ra : r ≢ a) (rb : r ≢ b) (row : slice_index_or t key None ≡ Some no_rules) (no_others : (i : ℕ) → i ≢ key → slice_index_or t i None ≡ None) where
+module _ (by_value : Bool) (a b r key : ℕ) (t : List (Option RuleList)) (ba : b ≢ a) (ra : r ≢ a) (rb : r ≢ b) (row : slice_index_or t key None ≡ Some no_rules) (no_others : (i : ℕ) → i ≢ key → slice_index_or t i None ≡ None) where
   abbrev p : Posts
-  p = record { root = r; waiting = a; gone = b }
+  p = record { root = r; waiting = a; gone = b; by_value = by_value }
 
   abbrev one_post : ℕ → Option WebCell
   one_post = alter (λ _. None) a (λ _. Some (new_cell 0 0 Membrane))
@@ -167,18 +167,18 @@ apart_two f g h a b r c d e k ba n = λ q.
     let u : None ≡ Some c = sym n ∙ ap f q ∙ (λ j. k j a) ∙ alter_away g b (λ _. Some d) a (λ z. ba (sym z)) ∙ (λ j. e j a) ∙ alter_at h a (λ _. Some c) in absurd (cc)
 
 -- three cells that were made are a store with the root alone
-pub new_all : (f0 f1 f2 f3 : ℕ → Option WebCell) (a b r key : ℕ) (t : List (Option RuleList)) → f0 ≡ (λ _. None) → f1 ≡ alter f0 a (λ _. Some (new_cell 0 0 Membrane)) → f1 b ≡ None
+pub new_all : (by_value : Bool) (f0 f1 f2 f3 : ℕ → Option WebCell) (a b r key : ℕ) (t : List (Option RuleList)) → f0 ≡ (λ _. None) → f1 ≡ alter f0 a (λ _. Some (new_cell 0 0 Membrane)) → f1 b ≡ None
     → f2 ≡ alter f1 b (λ _. Some (new_cell 0 0 Membrane)) → f2 r ≡ None → f3 ≡ alter f2 r (λ _. Some (new_cell key 0 Membrane)) → slice_index_or t key None ≡ Some no_rules → ((i : ℕ) → i ≢ key → slice_index_or t i None ≡ None)
-    → IsStored (record { root = r; waiting = a; gone = b }) t f3 × HasCounts (atoms_of (record { root = r; waiting = a; gone = b }) f3) (mems_of (record { root = r; waiting = a; gone = b }) t f3) 0 1 0
-    × (heap_by (record { root = r; waiting = a; gone = b }) t f3 ≡ alone r)
-new_all f0 f1 f2 f3 a b r key t e0 e1 n1 e2 n2 e3 row others =
-    let q : Posts = record { root = r; waiting = a; gone = b } in
+    → IsStored (record { root = r; waiting = a; gone = b; by_value = by_value }) t f3 × HasCounts (atoms_of (record { root = r; waiting = a; gone = b; by_value = by_value }) f3) (mems_of (record { root = r; waiting = a; gone = b; by_value = by_value }) t f3) 0 1 0
+    × (heap_by (record { root = r; waiting = a; gone = b; by_value = by_value }) t f3 ≡ alone r)
+new_all by_value f0 f1 f2 f3 a b r key t e0 e1 n1 e2 n2 e3 row others =
+    let q : Posts = record { root = r; waiting = a; gone = b; by_value = by_value } in
     let ba = apart_one f1 f0 a b (new_cell 0 0 Membrane) e1 n1 in
     let rb = apart_one f2 f1 b r (new_cell 0 0 Membrane) e2 n2 in
     let ra = apart_two f2 f1 f0 a b r (new_cell 0 0 Membrane) (new_cell 0 0 Membrane) e1 e2 ba n2 in
-    let is : f3 ≡ w a b r key t ba ra rb row others = e3 ∙ ap (λ (f : ℕ → Option WebCell). alter f r (λ _. Some (new_cell key 0 Membrane))) (e2 ∙ ap (λ (f : ℕ → Option WebCell). alter f b (λ _. Some (new_cell 0 0 Membrane)))
+    let is : f3 ≡ w by_value a b r key t ba ra rb row others = e3 ∙ ap (λ (f : ℕ → Option WebCell). alter f r (λ _. Some (new_cell key 0 Membrane))) (e2 ∙ ap (λ (f : ℕ → Option WebCell). alter f b (λ _. Some (new_cell 0 0 Membrane)))
     (e1 ∙ ap (λ (f : ℕ → Option WebCell). alter f a (λ _. Some (new_cell 0 0 Membrane))) e0)) in (
-      subst (λ f. IsStored q t f) (sym is) (new_stored a b r key t ba ra rb row others),
-      subst (λ f. HasCounts (atoms_of q f) (mems_of q t f) 0 1 0) (sym is) (new_counts a b r key t ba ra rb row others),
-      ap (λ (f : ℕ → Option WebCell). heap_by q t f) is ∙ new_heap a b r key t ba ra rb row others,
+      subst (λ f. IsStored q t f) (sym is) (new_stored by_value a b r key t ba ra rb row others),
+      subst (λ f. HasCounts (atoms_of q f) (mems_of q t f) 0 1 0) (sym is) (new_counts by_value a b r key t ba ra rb row others),
+      ap (λ (f : ℕ → Option WebCell). heap_by q t f) is ∙ new_heap by_value a b r key t ba ra rb row others,
     )

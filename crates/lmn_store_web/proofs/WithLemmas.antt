@@ -47,24 +47,24 @@ module _ (p : Posts) (t : List (Option RuleList)) (w : ℕ → Option WebCell) (
   functor_by : (a n : ℕ) → kind_at w a ≡ Atom → web_label w a ≡ Some n → functor_of H a ≡ Some (record { label = label_by n; arity = arity_at w a })
   functor_by a n e h = functor_is p t w a e n (arity_at w a) (record { label = label_by n; arity = arity_at w a }) h refl refl
 
-  module _ (f : Functor) (back : label_by (label_number f.label) ≡ f.label) where
+  module _ (f : Functor) (back : label_by (label_number p.by_value f.label) ≡ f.label) where
     -- the two tests are one
-    labelled_is : (a n : ℕ) → kind_at w a ≡ Atom → web_label w a ≡ Some n → is_labelled w (label_number f.label) f.arity a ≡ is_of (functor_of H a) f
+    labelled_is : (a n : ℕ) → kind_at w a ≡ Atom → web_label w a ≡ Some n → is_labelled w (label_number p.by_value f.label) f.arity a ≡ is_of (functor_of H a) f
     labelled_is a n e h =
-        (λ j. unwrap_or (option_map (λ z. z == label_number f.label) (h j)) false && (arity_at w a == f.arity))
-        ∙ test_same ((n == label_number f.label) && (arity_at w a == f.arity)) (same_functor g f)
-        (λ u. let b = and_true (n == label_number f.label) (arity_at w a == f.arity) u in
-        let s : g ≡ f = (λ j. record { label = (ap label_by (equal_when n (label_number f.label) b.0) ∙ back) j; arity = equal_when (arity_at w a) f.arity b.1 j }) in is_of_here (Some g) f (ap Some s))
+        (λ j. unwrap_or (option_map (λ z. z == label_number p.by_value f.label) (h j)) false && (arity_at w a == f.arity))
+        ∙ test_same ((n == label_number p.by_value f.label) && (arity_at w a == f.arity)) (same_functor g f)
+        (λ u. let b = and_true (n == label_number p.by_value f.label) (arity_at w a == f.arity) u in
+        let s : g ≡ f = (λ j. record { label = (ap label_by (equal_when n (label_number p.by_value f.label) b.0) ∙ back) j; arity = equal_when (arity_at w a) f.arity b.1 j }) in is_of_here (Some g) f (ap Some s))
         (λ u. let s = same_is g f u in
-        let x : n ≡ label_number f.label = sym (number_back n (k.labels a n e h)) ∙ ap (λ (z : Functor). label_number z.label) s in
+        let x : n ≡ label_number p.by_value f.label = sym (number_back p.by_value n (k.labels a n e h)) ∙ ap (λ (z : Functor). label_number p.by_value z.label) s in
         let y : arity_at w a ≡ f.arity = ap (λ (z : Functor). z.arity) s in
-        rw (x, y, equal_itself (label_number f.label), equal_itself f.arity) refl)
+        rw (x, y, equal_itself (label_number p.by_value f.label), equal_itself f.arity) refl)
         ∙ ap (λ o. is_of o f) (sym (functor_by a n e h))
       where
         g : Functor
         g = record { label = label_by n; arity = arity_at w a }
 
-    with_is : (xs : List ℕ) → ((a : ℕ) → In a xs → (kind_at w a ≡ Atom) × IsSome (w a)) → with_label w (label_number f.label) f.arity xs ≡ with_functor H f xs
+    with_is : (xs : List ℕ) → ((a : ℕ) → In a xs → (kind_at w a ≡ Atom) × IsSome (w a)) → with_label w (label_number p.by_value f.label) f.arity xs ≡ with_functor H f xs
     with_is [] h = refl
     with_is (x ∷ xs) h =
         let i = h x (inl refl) in
@@ -73,7 +73,7 @@ module _ (p : Posts) (t : List (Option RuleList)) (w : ℕ → Option WebCell) (
         λ j. cond (labelled_is x n.0 i.0 n.1 j) (x ∷ r j) (r j)
 
     -- what passes has the functor
-    passes : (a : ℕ) → kind_at w a ≡ Atom → IsSome (w a) → is_labelled w (label_number f.label) f.arity a ≡ true → functor_of H a ≡ Some f
+    passes : (a : ℕ) → kind_at w a ≡ Atom → IsSome (w a) → is_labelled w (label_number p.by_value f.label) f.arity a ≡ true → functor_of H a ≡ Some f
     passes a e s u =
         let n = some_is (web_label w a) (label_some (w a) s) in
         let g : Functor = record { label = label_by n.0; arity = arity_at w a } in
@@ -84,20 +84,20 @@ module _ (p : Posts) (t : List (Option RuleList)) (w : ℕ → Option WebCell) (
     atoms_of_list m a i = let h = l.homes m a Atom i in (h.1, some_cell p t w k l a m h.0)
 
     module _ {X : Type 0} (id : X → ℕ) (o : Option X) (m : ℕ) (s : IsMem H m) where
-      pub first_with_list : (let all = with_label w (label_number f.label) f.arity (cells_in w m Atom) in from (option_map id o) all ≡ all)
+      pub first_with_list : (let all = with_label w (label_number p.by_value f.label) f.arity (cells_in w m Atom) in from (option_map id o) all ≡ all)
           → (let all = with_functor H f (atoms_in H m) in from (option_map id o) all ≡ all)
       first_with_list e = let i = mem_there p t w m s in
           subst (λ xs. from (option_map id o) (with_functor H f xs) ≡ with_functor H f xs) (sym (atoms_is p t w m i.1 i.2 i.3))
           (subst (λ xs. from (option_map id o) xs ≡ xs) (with_is (cells_in w m Atom) (atoms_of_list m)) e)
 
-      pub first_with_functor : (let all = with_label w (label_number f.label) f.arity (cells_in w m Atom) in from (option_map id o) all ≡ all) → IfSome o (λ a. functor_of H (id a) ≡ Some f)
+      pub first_with_functor : (let all = with_label w (label_number p.by_value f.label) f.arity (cells_in w m Atom) in from (option_map id o) all ≡ all) → IfSome o (λ a. functor_of H (id a) ≡ Some f)
       first_with_functor e = if_some id o (λ a. functor_of H a ≡ Some f) (λ a q.
-          let j = in_filter (is_labelled w (label_number f.label) f.arity) a (cells_in w m Atom) (from_in (option_map id o) (with_label w (label_number f.label) f.arity (cells_in w m Atom)) e a q) in
+          let j = in_filter (is_labelled w (label_number p.by_value f.label) f.arity) a (cells_in w m Atom) (from_in (option_map id o) (with_label w (label_number p.by_value f.label) f.arity (cells_in w m Atom)) e a q) in
           let i = atoms_of_list m a j.1 in passes a i.0 i.1 j.0)
 
-      pub first_with_home : (let all = with_label w (label_number f.label) f.arity (cells_in w m Atom) in from (option_map id o) all ≡ all) → IfSome o (λ a. home_of H (id a) ≡ Some m)
+      pub first_with_home : (let all = with_label w (label_number p.by_value f.label) f.arity (cells_in w m Atom) in from (option_map id o) all ≡ all) → IfSome o (λ a. home_of H (id a) ≡ Some m)
       first_with_home e = let i = mem_there p t w m s in if_some id o (λ a. home_of H a ≡ Some m) (λ a q.
-          let j = in_filter (is_labelled w (label_number f.label) f.arity) a (cells_in w m Atom) (from_in (option_map id o) (with_label w (label_number f.label) f.arity (cells_in w m Atom)) e a q) in
+          let j = in_filter (is_labelled w (label_number p.by_value f.label) f.arity) a (cells_in w m Atom) (from_in (option_map id o) (with_label w (label_number p.by_value f.label) f.arity (cells_in w m Atom)) e a q) in
           homes_in p t w k l m a i.2 i.3 j.1)
 
   -- what the web says of the next atom with the same label
@@ -109,9 +109,9 @@ module _ (p : Posts) (t : List (Option RuleList)) (w : ℕ → Option WebCell) (
 
   module _ (r : IsPaired w) (c : Formed w) {X : Type 0} (id : X → ℕ) (o : Option X) (a : ℕ) (next : Follows id o a) where
     -- the label of an atom in place, and its functor
-    own : (m : ℕ) → home_of H a ≡ Some m → (n : ℕ) × (web_label w a ≡ Some n) × (label_by (label_number (label_by n)) ≡ label_by n)
+    own : (m : ℕ) → home_of H a ≡ Some m → (n : ℕ) × (web_label w a ≡ Some n) × (label_by (label_number p.by_value (label_by n)) ≡ label_by n)
     own m e = let i = in_place p t w k l a m e in let n = some_is (web_label w a) (label_some (w a) (some_cell p t w k l a m i.1)) in
-        (n.0, n.1, ap label_by (number_back n.0 (k.labels a n.0 i.0 n.1)))
+        (n.0, n.1, ap label_by (number_back p.by_value n.0 (k.labels a n.0 i.0 n.1)))
 
     found : (m n : ℕ) → home_of H a ≡ Some m → web_label w a ≡ Some n → (q : ℕ) → option_map id o ≡ Some q → (is_labelled w n (arity_at w a) q ≡ true) × In q (cells_in w m Atom)
     found m n e h q u = let i = in_place p t w k l a m e in
@@ -126,7 +126,7 @@ module _ (p : Posts) (t : List (Option RuleList)) (w : ℕ → Option WebCell) (
         let same : Some mine ≡ Some f = sym (functor_by a n.0 i.0 n.1) ∙ g in
         let is : mine ≡ f = (cc) in
         let all = with_is mine n.2 (cells_in w m Atom) (atoms_of_list mine n.2 m) in
-        let number = number_back n.0 (k.labels a n.0 i.0 n.1) in
+        let number = number_back p.by_value n.0 (k.labels a n.0 i.0 n.1) in
         subst (λ (h : Functor). from (option_map id o) (with_functor H h (atoms_in H m)) ≡ after a (with_functor H h (atoms_in H m))) is
         (subst (λ xs. from (option_map id o) (with_functor H mine xs) ≡ after a (with_functor H mine xs)) (sym (lists_are p t w k l r c m (no_post p m i.2 i.3)).0)
         (subst (λ xs. from (option_map id o) xs ≡ after a xs) all
@@ -141,7 +141,7 @@ module _ (p : Posts) (t : List (Option RuleList)) (w : ℕ → Option WebCell) (
         if_some id o (λ b. functor_of H b ≡ functor_of H a) (λ q u.
         let j = found m.0 n.0 m.1 n.1 q u in
         let b = atoms_of_list mine n.2 m.0 q j.1 in
-        passes mine n.2 q b.0 b.1 (ap (λ z. is_labelled w z (arity_at w a) q) (number_back n.0 (k.labels a n.0 i.0 n.1)) ∙ j.0) ∙ sym (functor_by a n.0 i.0 n.1))
+        passes mine n.2 q b.0 b.1 (ap (λ z. is_labelled w z (arity_at w a) q) (number_back p.by_value n.0 (k.labels a n.0 i.0 n.1)) ∙ j.0) ∙ sym (functor_by a n.0 i.0 n.1))
 
     pub next_with_home : IsInPlace H a → IfSome o (λ b. home_of H (id b) ≡ home_of H a)
     next_with_home s =

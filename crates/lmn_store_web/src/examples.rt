@@ -1,5 +1,5 @@
 //! What the heap of a small web has. Each law is the contract of a function with an empty body.
-ghost use Rattle.lmn_store_web.specs.Examples.{AtomStands, AtomWaits, IntegerIsNoName, KeyIsAwake, LabelsAreRead, OtherIsNotIndexed, PostIsNoMembrane, RootIsAlone, RootIsIndexed, RootIsKey, WaitingIsNotAlone};
+ghost use Rattle.lmn_store_web.specs.Examples.{AtomStands, AtomWaits, IntegerIsNoName, IntegersAreTogether, KeyIsAwake, LabelsAreRead, OtherIsNotIndexed, PostIsNoMembrane, RootIsAlone, RootIsIndexed, RootIsKey, ValuesAreApart, WaitingIsNotAlone};
 
 /// An atom in the list of the root stands there.
 #[tactic(auto, using(crate::proofs::ExampleProofs::atom_stands))]
@@ -41,6 +41,18 @@ pub fn labels_are_read()
 #[tactic(auto, using(crate::proofs::ExampleProofs::integer_is_no_name))]
 pub fn integer_is_no_name()
     ensures { IntegerIsNoName }
+{}
+
+/// Integers that are filed by value are of two classes.
+#[tactic(auto, using(crate::proofs::ExampleProofs::values_are_apart))]
+pub fn values_are_apart()
+    ensures { ValuesAreApart }
+{}
+
+/// Filed otherwise, they are of one.
+#[tactic(auto, using(crate::proofs::ExampleProofs::integers_are_together))]
+pub fn integers_are_together()
+    ensures { IntegersAreTogether }
 {}
 
 /// A root alone is a key in which nothing stands.

@@ -2,6 +2,7 @@
 #![tactic(auto)]
 
 pub mod examples;
+mod filing;
 mod freeing;
 mod indexing;
 mod labels;

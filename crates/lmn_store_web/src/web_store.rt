@@ -10,12 +10,13 @@ ghost use Rattle.lmn_store_web_preorder.specs.Nests.{IsOneOf};
 ghost use Rattle.lmn_store_web.specs.WebStores.{HasRules};
 ghost use Rattle.lmn_store_web.specs.Indexes.{key_of};
 
+use crate::filing::seek_integers;
 use crate::freeing::{free_atoms, free_mems};
 use crate::indexing::{hold, wake};
 use crate::labels::{label_of, number_of};
 use crate::sending::{send, send_all};
 use crate::table;
-use lmn_base::{Functor, NoMemory};
+use lmn_base::{Functor, NoMemory, RuleTree};
 use lmn_store_counts::{BOUND, Rules};
 use lmn_store_trait::{AWAKE, LinkStore};
 use lmn_store_web_preorder::Preorder;
@@ -38,6 +39,8 @@ pub struct WebStore {
     root: Cell,
     waiting: Cell,
     gone: Cell,
+    // Whether an integer is filed in a class of its value, and not in one of all integers.
+    by_value: bool,
     // How many atoms there are, how many membranes and rules in them, and the spares of all membranes.
     atom_count: u64,
     mem_count: u64,
@@ -62,6 +65,23 @@ impl WebStore {
         ensures heap { IfOk result (λ s. heap_of s ≡ alone s.posts.root) }
         ensures valid { IfOk result (λ s. Valid (heap_of s)) }
     {
+        WebStore::filing(alloc, false)
+    }
+
+    /// A store with the root alone, for a program with these rules. Where a head looks for an integer among the atoms of a
+    /// membrane, it is found as quickly as a name, and integers come and go in some more steps.
+    pub fn for_rules(alloc: Global, rules: &[RuleTree]) -> Result<WebStore, NoMemory>
+        ensures heap { IfOk result (λ s. heap_of s ≡ alone s.posts.root) }
+        ensures valid { IfOk result (λ s. Valid (heap_of s)) }
+    {
+        WebStore::filing(alloc, seek_integers(rules))
+    }
+
+    // A store with the root alone, in which integers are filed by their values, or all as one class.
+    fn filing(alloc: Global, by_value: bool) -> Result<WebStore, NoMemory>
+        ensures heap { IfOk result (λ s. heap_of s ≡ alone s.posts.root) }
+        ensures valid { IfOk result (λ s. Valid (heap_of s)) }
+    {
         let mut web = Web::new(alloc);
         let mut rules = Slab::new(alloc);
         let mut mems = Vec::new(alloc);
@@ -83,6 +103,7 @@ impl WebStore {
             root,
             waiting,
             gone,
+            by_value,
             atom_count: 0,
             mem_count: 1,
             spare_count: 0,
@@ -192,7 +213,8 @@ impl LinkStore for WebStore {
     #[inline(always)]
     fn first_with(&self, m: Cell, f: Functor) -> Option<Cell> {
         self.web.listed();
-        self.web.first_with(m, number_of(f.label), f.arity)
+        self.web
+            .first_with(m, number_of(f.label, self.by_value), f.arity)
     }
 
     fn next_with(&self, a: Cell) -> Option<Cell> {
@@ -278,7 +300,9 @@ impl LinkStore for WebStore {
         }
         self.web.listed();
         self.web.paired();
-        let a = self.web.make(number_of(f.label), f.arity, CellKind::Atom)?;
+        let a = self
+            .web
+            .make(number_of(f.label, self.by_value), f.arity, CellKind::Atom)?;
         self.web.add_last(self.waiting, CellKind::Atom, a);
         self.atom_count += 1;
         Ok(a)

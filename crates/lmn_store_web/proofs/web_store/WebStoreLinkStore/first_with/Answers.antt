@@ -9,8 +9,15 @@ use Rattle.lmn_web.specs.Webs.{web_by, cells_in, with_label}
 use Rattle.lmn_store_web.specs.Labels.{label_by}
 use Rattle.lmn_store_web.specs.WebHeaps.{KeptWeb, heap_of}
 use Rattle.lmn_store_web.specs.WebStores.{kept_by}
+use Rattle.lmn_store_web.proofs.ReadLemmas.{mem_there}
 use Rattle.lmn_store_web.proofs.WithLemmas.{first_with_list, first_with_functor, first_with_home}
 use Rattle.lmn_store_web.proofs.web_store.WebStoreLinkStore.first_with.Goals as goal
+
+pub first_with-requires : goal.first_with-requires
+first_with-requires c =
+    let m = cell_id c.args.m in
+    let k = kept_by c.self.inside in
+    (mem_there k.posts k.table (web_by k.web) m (subst (λ (z : KeptWeb). IsMem (heap_of z) m) (sym c.self.view_is) c.requires)).0
 
 pub returns-clause-list : goal.returns-clause-list
 returns-clause-list c =

@@ -14,7 +14,7 @@ label_of-requires c =
     let a = cell_id c.args.a in
     let k = kept_by c.self.inside in
     let i = atom_there k.posts k.table (web_by k.web) a (subst (λ (z : KeptWeb). IsAtom (heap_of z) a) (sym c.self.view_is) c.requires) in
-    c.self.invariant.store.stored.labels a c.label.result i.1 c.label.ensures
+    (k.posts.by_value, c.self.invariant.store.stored.labels a c.label.result i.1 c.label.ensures)
 
 pub returns : goal.returns
 returns c =

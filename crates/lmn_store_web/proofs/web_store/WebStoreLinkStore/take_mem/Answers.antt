@@ -7,7 +7,7 @@ use Rattle.lmn_store_web.specs.WebStores.{kept_by}
 use Rattle.lmn_store_web.proofs.CallLemmas.{mem_in_place}
 use Rattle.lmn_store_web.proofs.SendLemmas.{sent_stored, sent_counts}
 use Rattle.lmn_store_web.proofs.PlaceLemmas.{taking, taken_mem_heap}
-use Rattle.std.proofs.Common.{◌≡◌, Some, map}
+use Rattle.std.proofs.Common.{◌≡◌, Some, None, map}
 use Rattle.std.specs.Option.{option_map}
 use Rattle.lmn_store_heap.specs.Heap.{IsMem, within}
 use Rattle.lmn_store_heap.proofs.Heights.{parent_place, mem_of_list, mem_of_place}
@@ -20,6 +20,17 @@ use Rattle.lmn_store_web.proofs.SendLemmas.{label_same}
 use Rattle.lmn_store_web.proofs.IndexLemmas.{index_by, index_take, index_taken, key_by, key_is}
 use Rattle.lmn_store_web.proofs.web_store.WebStoreLinkStore.take_mem.Goals as goal
 use Rattle.lmn_base.proofs.Lists.{some_is}
+
+some_of : {A : Type 0} (f : A → ℕ) (o : Option A) → IsSome (option_map f o) → IsSome o
+some_of f None s = absurd (cc)
+some_of f (Some a) s = refl
+
+pub unwrap-home-requires : goal.unwrap-home-requires
+unwrap-home-requires c =
+    let k = kept_by c.self.inside in let w = web_by k.web in let x = cell_id c.args.m in
+    let h = some_is (parent_of (heap_by k.posts k.table w) x) (subst (λ (z : KeptWeb). IsPlacedMem (heap_of z) x) (sym c.self.view_is) c.requires) in
+    let i = mem_in_place k.posts k.table w c.self.invariant.store.stored c.listed.ensures x h.0 h.1 in
+    some_of cell_id c.home.result (subst (λ (o : Option ℕ). IsSome o) (sym i.1 ∙ c.home.ensures) refl)
 
 pub send-requires-clause-kind : goal.send-requires-clause-kind
 send-requires-clause-kind c =

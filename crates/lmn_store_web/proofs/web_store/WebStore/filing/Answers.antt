@@ -19,11 +19,11 @@ use Rattle.lmn_web.specs.Webs.{WebCell, new_cell}
 use Rattle.lmn_store_web.specs.Indexes.{IsIndexed, key_of}
 use Rattle.lmn_store_web.specs.WebHeaps.{alone, heap_by}
 use Rattle.lmn_store_web.proofs.IndexLemmas.{index_alone, index_by, key_is}
-use Rattle.lmn_store_web.proofs.web_store.WebStore.new.Goals as goal
+use Rattle.lmn_store_web.proofs.web_store.WebStore.filing.Goals as goal
 
 pub invariant_of-result : goal.invariant_of-result
 invariant_of-result c =
-    let all = new_all (web_by c.new-web.result) (web_by c.make_unfiled.new.self) (web_by c.make_unfiled-2.new.self) (web_by c.make.new.self) (cell_id c.in_ok-waiting.waiting) (cell_id c.in_ok-gone.gone) (cell_id c.in_ok-root.root) c.in_ok-key.key c.insert.new.self.slots
+    let all = new_all c.args.by_value (web_by c.new-web.result) (web_by c.make_unfiled.new.self) (web_by c.make_unfiled-2.new.self) (web_by c.make.new.self) (cell_id c.in_ok-waiting.waiting) (cell_id c.in_ok-gone.gone) (cell_id c.in_ok-root.root) c.in_ok-key.key c.insert.new.self.slots
     c.new-web.ensures c.in_ok-waiting.ensures.1 c.in_ok-gone.ensures.0 c.in_ok-gone.ensures.1 c.in_ok-root.ensures.0 c.in_ok-root.ensures.1 (c.in_ok-key.ensures.updates.changed ∙ ap Some c.new.ensures)
     (λ i d. c.in_ok-key.ensures.updates.others i d ∙ ap (λ (xs : List (Option RuleList)). slice_index_or xs i None) c.new-rules.ensures.empty) in
     let r = cell_id c.in_ok-root.root in
@@ -34,19 +34,19 @@ invariant_of-result c =
     let cells : map cell_id c.push_reserved.new.self.items ≡ r ∷ [] = ap (λ (xs : List Cell). map cell_id xs) (c.push_reserved.ensures.items ∙ ap (λ (xs : List Cell). xs ++ c.in_ok-root.root ∷ []) (c.reserve.ensures.items ∙ none)) in
     record {
       store = record { stored = all.0; counts = all.1 };
-      index = subst (λ xs. IsIndexed (IsNested c.add.new.self) xs (key_of (web_by c.make.new.self)) (heap_by (record { root = r; waiting = cell_id c.in_ok-waiting.waiting; gone = cell_id c.in_ok-gone.gone }) c.insert.new.self.slots (web_by c.make.new.self))) (sym cells)
-          (index_by (IsNested c.add.new.self) (r ∷ []) (key_of (web_by c.make.new.self)) (key_of (web_by c.make.new.self)) (alone r) (heap_by (record { root = r; waiting = cell_id c.in_ok-waiting.waiting; gone = cell_id c.in_ok-gone.gone }) c.insert.new.self.slots (web_by c.make.new.self)) (λ m. refl) all.2 (index_alone (IsNested c.add.new.self) (key_of (web_by c.make.new.self)) r (label ∙ key) now));
+      index = subst (λ xs. IsIndexed (IsNested c.add.new.self) xs (key_of (web_by c.make.new.self)) (heap_by (record { root = r; waiting = cell_id c.in_ok-waiting.waiting; gone = cell_id c.in_ok-gone.gone; by_value = c.args.by_value }) c.insert.new.self.slots (web_by c.make.new.self))) (sym cells)
+          (index_by (IsNested c.add.new.self) (r ∷ []) (key_of (web_by c.make.new.self)) (key_of (web_by c.make.new.self)) (alone r) (heap_by (record { root = r; waiting = cell_id c.in_ok-waiting.waiting; gone = cell_id c.in_ok-gone.gone; by_value = c.args.by_value }) c.insert.new.self.slots (web_by c.make.new.self)) (λ m. refl) all.2 (index_alone (IsNested c.add.new.self) (key_of (web_by c.make.new.self)) r (label ∙ key) now));
     }
 
 pub returns-clause-heap : goal.returns-clause-heap
 returns-clause-heap c =
-    (new_all (web_by c.new-web.result) (web_by c.make_unfiled.new.self) (web_by c.make_unfiled-2.new.self) (web_by c.make.new.self) (cell_id c.in_ok-waiting.waiting) (cell_id c.in_ok-gone.gone) (cell_id c.in_ok-root.root) c.in_ok-key.key c.insert.new.self.slots
+    (new_all c.args.by_value (web_by c.new-web.result) (web_by c.make_unfiled.new.self) (web_by c.make_unfiled-2.new.self) (web_by c.make.new.self) (cell_id c.in_ok-waiting.waiting) (cell_id c.in_ok-gone.gone) (cell_id c.in_ok-root.root) c.in_ok-key.key c.insert.new.self.slots
     c.new-web.ensures c.in_ok-waiting.ensures.1 c.in_ok-gone.ensures.0 c.in_ok-gone.ensures.1 c.in_ok-root.ensures.0 c.in_ok-root.ensures.1 (c.in_ok-key.ensures.updates.changed ∙ ap Some c.new.ensures)
     (λ i d. c.in_ok-key.ensures.updates.others i d ∙ ap (λ (xs : List (Option RuleList)). slice_index_or xs i None) c.new-rules.ensures.empty)).2
 
 pub returns-clause-valid : goal.returns-clause-valid
 returns-clause-valid c =
-    let all = new_all (web_by c.new-web.result) (web_by c.make_unfiled.new.self) (web_by c.make_unfiled-2.new.self) (web_by c.make.new.self) (cell_id c.in_ok-waiting.waiting) (cell_id c.in_ok-gone.gone) (cell_id c.in_ok-root.root) c.in_ok-key.key c.insert.new.self.slots
+    let all = new_all c.args.by_value (web_by c.new-web.result) (web_by c.make_unfiled.new.self) (web_by c.make_unfiled-2.new.self) (web_by c.make.new.self) (cell_id c.in_ok-waiting.waiting) (cell_id c.in_ok-gone.gone) (cell_id c.in_ok-root.root) c.in_ok-key.key c.insert.new.self.slots
     c.new-web.ensures c.in_ok-waiting.ensures.1 c.in_ok-gone.ensures.0 c.in_ok-gone.ensures.1 c.in_ok-root.ensures.0 c.in_ok-root.ensures.1 (c.in_ok-key.ensures.updates.changed ∙ ap Some c.new.ensures)
     (λ i d. c.in_ok-key.ensures.updates.others i d ∙ ap (λ (xs : List (Option RuleList)). slice_index_or xs i None) c.new-rules.ensures.empty) in
     let r = cell_id c.in_ok-root.root in
