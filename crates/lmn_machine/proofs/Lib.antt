@@ -4,6 +4,7 @@ pub mod Candidates
 pub mod Choosing
 pub mod Fitting
 pub mod Calling
+pub mod Sufficing
 pub mod FromOne
 pub mod Climbing
 pub mod Giving

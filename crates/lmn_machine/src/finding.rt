@@ -5,12 +5,13 @@ ghost use Rattle.lmn_instr_code.specs.Running.{HeadRegisters, Succeeds, IsFirstS
 ghost use Rattle.lmn_machine_registers.specs.Agreeing.{Agrees};
 ghost use Rattle.lmn_machine.specs.Searching.{AreAllSet, AreHeldWhole, HeadInOrder};
 
-use crate::search;
+use crate::{enough, search};
 use lmn_instr_pool::Instrs;
 use lmn_machine_registers::SetRegisters;
 use lmn_store_trait::LinkStore;
 
-/// Looks for the first success of head code in a membrane: the registers then hold it. It takes no memory.
+/// Looks for the first success of head code in a membrane: the registers then hold it. It takes no memory. A head that takes many
+/// items from the membrane isn't looked for where these are too few.
 pub(crate) fn find<S: LinkStore>(
     store: &mut S,
     code: &Instrs<'_>,
@@ -30,5 +31,8 @@ pub(crate) fn find<S: LinkStore>(
 {
     set.clear();
     set.membranes.push(membrane);
+    if !enough::may_hold_all(store, code, membrane) {
+        return false;
+    }
     search::search(store, code, 0, set)
 }

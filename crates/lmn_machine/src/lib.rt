@@ -5,6 +5,7 @@ mod ahead;
 mod checks;
 mod cost;
 mod counting;
+mod enough;
 mod finding;
 mod integers;
 mod machine;

@@ -1,4 +1,5 @@
 use Rattle.std.proofs.Common.{subst}
+use Rattle.lmn_instr_code.specs.Running.{size_of_head}
 use Rattle.lmn_machine.specs.Searching.{Searched}
 use Rattle.lmn_machine.proofs.Calling.{one_membrane_more, nothing_set}
 use Rattle.lmn_machine.proofs.FromOne.{first_found, none_found, all_set}
@@ -24,3 +25,6 @@ returns-clause-set g c =
 
 pub returns-clause-held : goal.returns-clause-held
 returns-clause-held g c = c.search.ensures.searched.held
+
+pub returns-then-not-may_hold_all-clause-none : goal.returns-then-not-may_hold_all-clause-none
+returns-then-not-may_hold_all-clause-none g c = λ e r s. c.may_hold_all.ensures c.if-not-may_hold_all.true (size_of_head c.args.code.now) r s.here s.all
