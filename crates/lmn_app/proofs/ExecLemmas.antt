@@ -10,7 +10,7 @@ use Rattle.lmn_base.specs.WellMade.{IsWellMade}
 use Rattle.lmn_app_drive.specs.Driving.{stop_end}
 use Rattle.lmn_verify_coded.specs.Runs.{CodedInput, Executed}
 use Rattle.lmn_verify_coded.specs.Turning.{CodedCanTurn}
-use Rattle.lmn_verify_coded.proofs.Halts.{halt_no_failure}
+use Rattle.lmn_verify_coded.proofs.Stops.{stop_no_failure}
 use Rattle.lmn_congruence.specs.Regions.{item_count_of_region}
 use Rattle.lmn_congruence.specs.Rules.{Name}
 use Rattle.lmn_congruence.specs.SolidsOfPlains.{IsSolidOf}
@@ -88,7 +88,7 @@ module _ (program listing : List ℕ) (of : ReadsCodes program listing) (first :
           commits = n;
           last = last;
           valid = valid;
-          ran = record { why = x.why; halted = x.halted; line = x.line; is_line = x.is_line; wrote = inl (w.0, refl) };
+          ran = record { why = x.why; stopped = x.stopped; line = x.line; is_line = x.is_line; wrote = inl (w.0, refl) };
         },
         w.1,
       )
@@ -98,12 +98,12 @@ module _ (program listing : List ℕ) (of : ReadsCodes program listing) (first :
     -- and one of which a part was
     part : (n : ℕ) (last : Heap) → Valid last → Executed input n last run.Failed old new → (written : List ℕ) × IsExecutedAs WriteFault program listing written × TakesPrefix written old new
     part n last valid x = elim x.wrote [
-      | inl w ↦ absurd (halt_no_failure x.why (sym w.0))
+      | inl w ↦ absurd (stop_no_failure x.why (sym w.0))
       | inr w ↦ (
         _,
         (
           stop_end x.why,
-          halt_no_failure x.why,
+          stop_no_failure x.why,
           record {
             of = of;
             first = first;
@@ -113,7 +113,7 @@ module _ (program listing : List ℕ) (of : ReadsCodes program listing) (first :
             commits = n;
             last = last;
             valid = valid;
-            ran = record { why = x.why; halted = x.halted; line = x.line; is_line = x.is_line; wrote = inl (refl, refl) };
+            ran = record { why = x.why; stopped = x.stopped; line = x.line; is_line = x.is_line; wrote = inl (refl, refl) };
           },
         ),
         w.1,

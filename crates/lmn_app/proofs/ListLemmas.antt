@@ -18,7 +18,7 @@ use Rattle.lmn_app.specs.declared.ending.Ending.TheVariants.{Done, Refused, Writ
 use Rattle.lmn_app.specs.Outcomes.{Ended}
 use Rattle.lmn_app.specs.Requests.{most_items}
 use Rattle.lmn_app.specs.Texts.{Accepts, IsRefusal, by_reading, text_bytes}
-use Rattle.lmn_base.specs.Codes.{IsCode}
+use Rattle.lmn_base.specs.Codes.{IsTextCode}
 use Rattle.lmn_app.specs.Writing.{IsListing}
 use Rattle.lmn_app_accepted.proofs.FirstNames.{first_are_names}
 use Rattle.lmn_app.proofs.OutcomeLemmas.{refused_ended}
@@ -56,7 +56,7 @@ read_accepts text before names plain plans short e named a = record { short = sh
 
 -- and its refusal is that of the text
 pub read_refuses : (size : Option ℕ) (text : List ℕ) (before names : List Name) (r : Refusal) → length text ≤ text_bytes → before ≡ first_names → LeavesNames text before names
-    → IsRefusedAs text names r → IsRefusal size text r × IsCode r.code
+    → IsRefusedAs text names r → IsRefusal size text r × IsTextCode r.code
 read_refuses size text before names r short e named h =
     let refused = by_reading short names (subst (λ b. LeavesNames text b names) e named) h in
     (refused, refusal_code size text r refused)

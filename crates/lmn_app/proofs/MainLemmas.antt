@@ -14,7 +14,7 @@ use Rattle.lmn_app_words.specs.declared.command.PairKind.{PairKind}
 use Rattle.lmn_app_words.specs.Forms.{Pair, to_run, to_compile, to_demo, to_pair}
 use Rattle.lmn_app.specs.Endings.{Concludes, HasLine, line_of_ending, refusal_line, status_of}
 use Rattle.lmn_app.specs.SecondTexts.{second_status}
-use Rattle.lmn_base.specs.Codes.{IsCode}
+use Rattle.lmn_base.specs.Codes.{IsTextCode}
 use Rattle.lmn_app.specs.Outcomes.{AnswersOf, CountsFaults, Output, OutputOf, PairOutput, RefusesSecondOf, RequestEnded}
 use Rattle.lmn_app.specs.Texts.{IsRefusal}
 use Rattle.lmn_app.specs.declared.task.Task.{Task}
@@ -286,7 +286,7 @@ module _ (one : OneRequest) (words : List (String Global)) (texts : Option (List
   puts_end e a k = (out_last e a, err_last e k)
 
   pub refusal_told : (e : Ending) → Acted e → Concluded e → status ≡ 2 →
-      Asked words (λ c. (r : Refusal) × IsToldAnd (told_of c texts) (λ text. IsRefusal (most_items_of c) text r) × IsCode r.code × Takes (refusal_line r) eo en)
+      Asked words (λ c. (r : Refusal) × IsToldAnd (told_of c texts) (λ text. IsRefusal (most_items_of c) text r) × IsTextCode r.code × Takes (refusal_line r) eo en)
   refusal_told (Refused r) (inl (c, asks, h)) (inl (s, t, same)) k = let cause = refusal_of texts read reads c r h.cause in (c, asks, (r, cause.0, cause.1, t))
   refusal_told Done (inl (c, asks, h)) (inl (s, t, q)) k = absurd (omega (arith, s, k))
   refusal_told Budget (inl (c, asks, h)) (inl (s, t, q)) k = absurd (omega (arith, s, k))

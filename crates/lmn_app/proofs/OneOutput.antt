@@ -87,11 +87,11 @@ same_line names rs ss same h line is = (
 same_executed : (names : List Name) (rs ss : List RuleTree) → EachPair SameRule rs ss → (codes : List Code) (budget size n : ℕ) (first h : Heap) (end : RunEnd) (old new : Option (List ℕ)) →
     Executed (record { names = names; table = ss; codes = codes; budget = budget; size = size; first = first }) n h end old new →
     Executed (record { names = names; table = rs; codes = codes; budget = budget; size = size; first = first }) n h end old new
-same_executed names rs ss same codes budget size n first h end old new x = (let halted = x.halted in record {
+same_executed names rs ss same codes budget size n first h end old new x = (let stopped = x.stopped in record {
   why = x.why;
-  halted = halted;
+  stopped = stopped;
   line = x.line;
-  is_line = same_line names rs ss same halted.last x.line x.is_line;
+  is_line = same_line names rs ss same stopped.last x.line x.is_line;
   wrote = x.wrote;
 })
 

@@ -11,7 +11,7 @@ use Rattle.lmn_app_words.specs.declared.command.RunSettings.{RunSettings}
 use Rattle.lmn_app.specs.declared.task.Task.{Task}
 use Rattle.lmn_app.specs.declared.task.Task.TheVariants as task
 use Rattle.lmn_app.specs.Endings.{Concludes}
-use Rattle.lmn_base.specs.Codes.{IsCode}
+use Rattle.lmn_base.specs.Codes.{IsTextCode}
 use Rattle.lmn_app.specs.Outcomes.{Answers, Causes, Ended, Output}
 use Rattle.lmn_app.specs.Texts.{IsAccepted, IsRefusal, at_start, text_bytes, too_long}
 use Rattle.lmn_app.specs.Requests.{most_items}
@@ -189,7 +189,7 @@ nothing_more (task.Run s) told x = inl refl
 nothing_more task.List told x = refl
 
 -- a task with a text that is refused ends so
-pub refused_ended : (t : Task) (r : Refusal) (told : Option (Option (List ℕ))) (x : Option (List ℕ)) (n : Faults) (rb ra : ℕ) → IsToldAnd told (λ text. IsRefusal (most_items t) text r) → IsCode r.code
+pub refused_ended : (t : Task) (r : Refusal) (told : Option (Option (List ℕ))) (x : Option (List ℕ)) (n : Faults) (rb ra : ℕ) → IsToldAnd told (λ text. IsRefusal (most_items t) text r) → IsTextCode r.code
     → Ended t (Refused r) told x x n n rb ra
 refused_ended t r told x n rb ra h k = record { cause = (h, k); output = nothing_refused t r told x; counts = no_put n }
 
@@ -218,8 +218,8 @@ long_refused size (Some (Some bytes)) h = too_long h refl
 
 -- a program that is too long is refused for that
 pub too_long_refused : (size : Option ℕ) (told : Option (Option (List ℕ))) (r : Refusal) → (r ≡ at_start 1) × IsToldAnd told (λ bytes. text_bytes < length bytes)
-    → IsToldAnd told (λ text. IsRefusal size text r) × IsCode r.code
-too_long_refused size told r h = subst (λ (q : Refusal). IsToldAnd told (λ text. IsRefusal size text q) × IsCode q.code) (sym h.0) (long_refused size told h.1, refl)
+    → IsToldAnd told (λ text. IsRefusal size text r) × IsTextCode r.code
+too_long_refused size told r h = subst (λ (q : Refusal). IsToldAnd told (λ text. IsRefusal size text q) × IsTextCode q.code) (sym h.0) (long_refused size told h.1, refl)
 
 -- a task without a program ends so
 pub unread_ended : (t : Task) (e : Ending) (told : Option (Option (List ℕ))) (x : Option (List ℕ)) (n : Faults) (rb ra : ℕ) → EndsUnread e told rb ra → Ended t e told x x n n rb ra

@@ -5,7 +5,7 @@ use Rattle.lmn_base.specs.declared.refusal.Refusal.{Refusal}
 use Rattle.lmn_io.specs.Counts.{FailedLast, Faults, Rose}
 use Rattle.lmn_io.proofs.TakingLemmas.{no_put}
 use Rattle.lmn_io.specs.Texts.{Fetch}
-use Rattle.lmn_base.specs.Codes.{IsCode}
+use Rattle.lmn_base.specs.Codes.{IsTextCode}
 use Rattle.lmn_app_words.specs.declared.command.PairKind.{PairKind}
 use Rattle.lmn_app_words.specs.declared.command.PairKind.TheVariants.{Bound, Check, Debug, Exec}
 use Rattle.lmn_app_words.specs.Forms.{Pair, Request, Run, to_run, to_compile, to_demo, to_pair}
@@ -197,7 +197,7 @@ module _ (texts : Option (List ℕ → Option (List ℕ))) (f g : List ℕ → �
   read_counted (to_pair p) h = h
 
   -- a refusal of a program is one of its text
-  pub refusal_of : (c : Request) (r : Refusal) → CausesOf c (Refused r) texts f g → IsToldAnd (told_of c texts) (λ text. IsRefusal (most_items_of c) text r) × IsCode r.code
+  pub refusal_of : (c : Request) (r : Refusal) → CausesOf c (Refused r) texts f g → IsToldAnd (told_of c texts) (λ text. IsRefusal (most_items_of c) text r) × IsTextCode r.code
   refusal_of (to_run run) r h = h
   refusal_of (to_compile file) r h = h
   refusal_of (to_demo n) r h = h
@@ -238,7 +238,7 @@ since_earlier p e texts oo on ob oa f m g later h = record { cause = cause e h.c
 
 -- the program is refused
 pub pair_refused : (p : Pair) (r : Refusal) (texts : Option (List ℕ → Option (List ℕ))) (x : Option (List ℕ)) (n : Faults) (f g : List ℕ → ℕ)
-    → IsToldAnd (told_under texts p.file) (λ bytes. IsRefusal (most_items_of_pair p.kind) bytes r) → IsCode r.code → RequestEnded (to_pair p) (Refused r) texts x x n n f g
+    → IsToldAnd (told_under texts p.file) (λ bytes. IsRefusal (most_items_of_pair p.kind) bytes r) → IsTextCode r.code → RequestEnded (to_pair p) (Refused r) texts x x n n f g
 pair_refused p r texts x n f g h k = record { cause = (h, k); output = refl; counts = no_put n }
 
 -- a file can't be read

@@ -8,7 +8,7 @@ use Rattle.lmn_app.specs.declared.ending.Ending.{Ending}
 use Rattle.lmn_app.specs.declared.ending.Ending.TheVariants.{Done, Budget, Refused, Words, ReadFault, WriteFault, NoMemory, Full, SecondRefused}
 use Rattle.lmn_app.specs.declared.task.Task.{Task}
 use Rattle.lmn_app.specs.declared.task.Task.TheVariants as task
-use Rattle.lmn_base.specs.Codes.{IsCode}
+use Rattle.lmn_base.specs.Codes.{IsTextCode}
 use Rattle.lmn_app.specs.Texts.{IsRefusal}
 use Rattle.lmn_base.specs.declared.refusal.Refusal.{Refusal}
 use Rattle.lmn_app_words.specs.declared.command.PairKind.{PairKind}
@@ -20,7 +20,7 @@ use Rattle.lmn_app.specs.Writing.{IsToldAnd, Told, Lists, ListsPart, WritesRun, 
 
 -- Why a task ends so: what is told of the text, and the count of faults of its file, before and after.
 abbrev pub Causes : Task → Ending → Told → ℕ → ℕ → Type 0
-Causes t (Refused r) text before after = IsToldAnd text (λ bytes. IsRefusal (most_items t) bytes r) × IsCode r.code
+Causes t (Refused r) text before after = IsToldAnd text (λ bytes. IsRefusal (most_items t) bytes r) × IsTextCode r.code
 Causes t Words text before after = ⊥
 Causes t ReadFault text before after = Rose before after
 Causes t (SecondRefused kind r) text before after = ⊥
@@ -62,7 +62,7 @@ pub record Ended (t : Task) (ending : Ending) (text : Told) (old new : Option (L
 abbrev pub PairCauses : Pair → Ending → Option (List ℕ → Option (List ℕ)) → (List ℕ → ℕ) → (List ℕ → ℕ) → Type 0
 PairCauses pair Done texts before after = ⊤
 PairCauses pair Budget texts before after = ⊤
-PairCauses pair (Refused r) texts before after = IsToldAnd (told_under texts pair.file) (λ bytes. IsRefusal (most_items_of_pair pair.kind) bytes r) × IsCode r.code
+PairCauses pair (Refused r) texts before after = IsToldAnd (told_under texts pair.file) (λ bytes. IsRefusal (most_items_of_pair pair.kind) bytes r) × IsTextCode r.code
 PairCauses pair Words texts before after = ⊥
 PairCauses pair ReadFault texts before after = ReadRose (to_pair pair) before after
 PairCauses pair WriteFault texts before after = ⊤

@@ -4,7 +4,7 @@ ghost use Rattle.lmn_app.specs.Endings.{Concludes, HasLine, code_letters, line_o
 
 use crate::ending::Ending;
 use itoa::Buffer;
-use lmn_base::{Refusal, words_of_code};
+use lmn_base::{Refusal, words_of_number};
 use lmn_io::{Failed, Sink, put_all};
 
 /// Puts the line of an ending into `err`, if it has one, and answers its status, or 5 where `err` fails.
@@ -49,7 +49,7 @@ fn report_refusal<E: Sink>(err: &mut E, refusal: Refusal) -> Result<(), Failed>
             b":".as_slice(),
             column.format(refusal.pos.column).as_bytes(),
             b" ".as_slice(),
-            words_of_code(refusal.code),
+            words_of_number(refusal.code),
             b"\n".as_slice(),
         ],
     )

@@ -9,7 +9,7 @@ ghost use Rattle.lmn_app_words.specs.Forms.{InForm, IsInRanges, pair_of, request
 ghost use Rattle.lmn_app.specs.Endings.{HasLine, line_of_ending, refusal_line};
 ghost use Rattle.lmn_app.specs.Pairs.{HasProgram};
 ghost use Rattle.lmn_app.specs.SecondTexts.{second_status};
-ghost use Rattle.lmn_base.specs.Codes.{IsCode};
+ghost use Rattle.lmn_base.specs.Codes.{IsTextCode};
 ghost use Rattle.lmn_app.specs.Outcomes.{AnswersOf, Ended, OutputOf, RefusesSecondOf, RequestEnded};
 ghost use Rattle.lmn_app.specs.Runnings.{EndsUnread};
 ghost use Rattle.lmn_app.specs.Texts.{IsAccepted, IsRefusal, text_bytes};
@@ -76,7 +76,7 @@ pub fn lmn_main<F: Shelf, O: Sink, E: Sink>(
 
     // Status 2 comes where the text isn't accepted; 4, 5 and 6 alone take its place.
     ensures refused { result ≡ 2 → Asked words.now (λ c. (refusal : Refusal) × IsToldAnd (told_of c (F.told shelf.old)) (λ text. IsRefusal (most_items_of c) text refusal)
-        × IsCode refusal.code × Takes (refusal_line refusal) (E.told err.old) (E.told err.new)) }
+        × IsTextCode refusal.code × Takes (refusal_line refusal) (E.told err.old) (E.told err.new)) }
     ensures not_accepted { InForm words.now → Asked words.now (λ c. IfTold (told_of c (F.told shelf.old)) (λ text.
         ¬ (IsAccepted (most_items_of c) text) → (result ≡ 2) ⊎ (result ≡ 4) ⊎ (result ≡ 5) ⊎ (result ≡ 6))) }
 

@@ -7,7 +7,7 @@ use Rattle.lmn_base.specs.declared.level.Level.{Level}
 use Rattle.lmn_base.specs.declared.refusal.Refusal.{Refusal}
 use Rattle.lmn_base.specs.declared.rule.Plain.{Plain}
 use Rattle.lmn_base.specs.declared.rule.RuleTree.{RuleTree}
-use Rattle.lmn_base.specs.Codes.{IsCode}
+use Rattle.lmn_base.specs.Codes.{IsTextCode}
 use Rattle.lmn_base.specs.Firsts.{Row, RefusedBy, by_this, by_later}
 use Rattle.lmn_base_walks.specs.LinkCodes.{LinkFault, once_in_process, too_often_in_process, once_in_rule, too_often_in_rule}
 use Rattle.lmn_base_walks.specs.RuleCodes.{rule_rows}
@@ -21,9 +21,9 @@ use Rattle.lmn_app_reading.specs.Texts.{by_bytes, by_tokens, by_contexts, by_lin
 use Rattle.lmn_parser.specs.Faults.{AreKindsOfProgram}
 
 abbrev HasCode : Row → Type 0
-HasCode row = IsCode row.code
+HasCode row = IsTextCode row.code
 
-of_rows : (rows : List Row) (refusal : Refusal) → All HasCode rows → RefusedBy rows refusal → IsCode refusal.code
+of_rows : (rows : List Row) (refusal : Refusal) → All HasCode rows → RefusedBy rows refusal → IsTextCode refusal.code
 of_rows [] refusal h r = elim r [ ]
 of_rows (row ∷ rows) refusal h (by_this f) = All-head HasCode row rows h
 of_rows (row ∷ rows) refusal h (by_later r) = of_rows rows refusal (All-tail HasCode row rows h) r
@@ -47,18 +47,18 @@ of_rules table [] = All-nil HasCode
 of_rules table (r ∷ rs) =
     All-append HasCode (rows_of_rule table r) (flat_map (rows_of_rule table) rs) (All-append HasCode (rule_rows table r) (guard_rows r) (of_rule table r) (of_guard r)) (of_rules table rs)
 
-of_links : (p : Plain) (refusal : Refusal) → LinkFault p refusal → IsCode refusal.code
+of_links : (p : Plain) (refusal : Refusal) → LinkFault p refusal → IsTextCode refusal.code
 of_links p refusal (once_in_process f) = refl
 of_links p refusal (too_often_in_process f) = refl
 of_links p refusal (once_in_rule k r e f) = refl
 of_links p refusal (too_often_in_rule k r e f) = refl
 
-of_token_fault : (kind : Kind) (bytes after : List ℕ) (code : ℕ) → TokenFault kind bytes after code → IsCode code
+of_token_fault : (kind : Kind) (bytes after : List ℕ) (code : ℕ) → TokenFault kind bytes after code → IsTextCode code
 of_token_fault kind bytes after _ (integer_out_of_range a b c) = refl
 of_token_fault kind bytes after _ (long_name a) = refl
 of_token_fault kind bytes after _ (floating_point a b) = refl
 
-of_bytes : (minus : Bool) (text skipped : List ℕ) (code : ℕ) → Wrong minus text code skipped → IsCode code
+of_bytes : (minus : Bool) (text skipped : List ℕ) (code : ℕ) → Wrong minus text code skipped → IsTextCode code
 of_bytes minus text _ _ (bad_byte a b c d e) = refl
 of_bytes minus text _ _ (bad_quoted_byte a b c d e f g h i) = refl
 of_bytes minus text _ _ (open_quote a b c d e f) = refl
@@ -68,10 +68,10 @@ of_bytes minus text _ _ (string a b) = refl
 of_bytes minus text _ _ (inline_code a b) = refl
 of_bytes minus text _ _ (hyperlink a b) = refl
 
-of_tokens : (code : ℕ) (before : List Kind) (token : Kind) → Refuses AreKindsOfProgram code before token → IsCode code
-of_tokens code before token (inl (e, h)) = subst IsCode (sym e) refl
-of_tokens code before token (inr (b, inl h)) = let e = h.0 in subst IsCode (sym e) refl
-of_tokens code before token (inr (b, inr h)) = let e = h.0 in subst IsCode (sym e) refl
+of_tokens : (code : ℕ) (before : List Kind) (token : Kind) → Refuses AreKindsOfProgram code before token → IsTextCode code
+of_tokens code before token (inl (e, h)) = subst IsTextCode (sym e) refl
+of_tokens code before token (inr (b, inl h)) = let e = h.0 in subst IsTextCode (sym e) refl
+of_tokens code before token (inr (b, inr h)) = let e = h.0 in subst IsTextCode (sym e) refl
 
 -- a text is refused by a code of the table
 pub refusals_have_codes : RefusalsHaveCodes

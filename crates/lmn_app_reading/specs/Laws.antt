@@ -3,7 +3,7 @@ use Rattle.std.specs.Prelude.{ℕ, ◌≡◌, ◌⊎◌, List}
 use Rattle.std.specs.declared.alloc.Global.{Global}
 use Rattle.lmn_base.specs.declared.refusal.Refusal.{Refusal}
 use Rattle.lmn_base.specs.declared.rule.Plain.{Plain}
-use Rattle.lmn_base.specs.Codes.{IsCode}
+use Rattle.lmn_base.specs.Codes.{IsTextCode}
 use Rattle.lmn_base.specs.Names.{IsNames, NamesPlain, plain_names}
 use Rattle.lmn_congruence.specs.Rules.{Name}
 use Rattle.lmn_congruence.specs.Translation.{top_of}
@@ -45,7 +45,7 @@ OneAcceptance = (text : List ℕ) (names : List Name) (p q : Plain) (plans other
 
 -- a text is refused by a code of the table
 abbrev pub RefusalsHaveCodes : Type 0
-RefusalsHaveCodes = (text : List ℕ) (names : List Name) (refusal : Refusal) → IsRefusedAs text names refusal → IsCode refusal.code
+RefusalsHaveCodes = (text : List ℕ) (names : List Name) (refusal : Refusal) → IsRefusedAs text names refusal → IsTextCode refusal.code
 
 -- The plain that is read of a text has only names of the list that reading leaves.
 abbrev pub PlainsAreNamed : Type 0

@@ -88,8 +88,8 @@ abbrev pub code_of : ℕ → Option RefusalCode
 code_of n = first_numbered n all_codes
 
 -- a code that refuses the text of a program
-abbrev pub IsCode : ℕ → Type 0
-IsCode code = IsSome (first_numbered code text_codes)
+abbrev pub IsTextCode : ℕ → Type 0
+IsTextCode code = IsSome (first_numbered code text_codes)
 
 -- the words of a code, where there is one
 abbrev pub words_or_none : Option RefusalCode → List ℕ

@@ -227,7 +227,7 @@ impl RefusalCode {
 }
 
 /// The words of the code with a number, and none where no code has it.
-pub fn words_of_code(number: u8) -> &'static [u8]
+pub fn words_of_number(number: u8) -> &'static [u8]
     ensures { result.now ≡ words_of_number number }
 {
     match RefusalCode::of_number(number) {

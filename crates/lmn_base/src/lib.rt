@@ -20,7 +20,7 @@ mod rows;
 mod rule;
 mod solid;
 
-pub use code::{RefusalCode, words_of_code};
+pub use code::{RefusalCode, words_of_number};
 pub use functor::{CONNECTOR_NAME, Functor, GROUND_NAME, INT_NAME, Label, UNARY_NAME};
 pub use guard::{Arith, Cmp, Cond, Expr};
 pub use item::{Form, FormedUse, Item, leaf_item};

@@ -6,21 +6,21 @@ use std::marker::{Model, PhantomData};
 
 /// The fetches that a shelf was asked for, which clauses alone read: it takes no memory, and its methods do nothing at run time.
 #[derive(Drop)]
-pub(crate) struct Fetches {
+pub(crate) struct FetchList {
     marker: PhantomData<u8>,
     pub ghost all: { List Fetch },
 }
 
-impl Model for Fetches {
+impl Model for FetchList {
     ghost also_owns = { λ _. ftrue };
 }
 
-impl Fetches {
+impl FetchList {
     /// No fetch.
-    pub(crate) fn new() -> Fetches
+    pub(crate) fn new() -> FetchList
         ensures { result.all ≡ [] }
     {
-        Fetches {
+        FetchList {
             marker: PhantomData,
         }
     }

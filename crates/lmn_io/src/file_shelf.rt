@@ -1,7 +1,7 @@
 ghost use Rattle.std.specs.Prelude.{◌≡◌, ℕ, List, [], None, Some, ◌≤◌, length, IfOk};
 ghost use Rattle.lmn_io.specs.Texts.{IsFetched};
 
-use crate::fetches::Fetches;
+use crate::fetches::FetchList;
 use crate::shelf::{FetchFault, Fetched, Shelf};
 use lmn_base::Rows;
 use std::alloc::Global;
@@ -14,7 +14,7 @@ use std::{fs, io};
 #[derive(Drop)]
 pub struct FileShelf<'a, R: Files> {
     rt: &'a R,
-    asked: Fetches,
+    asked: FetchList,
     failures: u64,
 }
 
@@ -26,7 +26,7 @@ impl<'a, R: Files> FileShelf<'a, R> {
     {
         FileShelf {
             rt,
-            asked: Fetches::new(),
+            asked: FetchList::new(),
             failures: 0,
         }
     }

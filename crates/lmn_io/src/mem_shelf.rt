@@ -4,7 +4,7 @@ ghost use Rattle.lmn_io.specs.Counts.{Rose, one_more};
 ghost use Rattle.lmn_io.specs.Texts.{text_named, IsFetched, asked_once_more};
 ghost use Rattle.lmn_io.specs.Memory.{MemoryShelf, text_in, faults_in, FetchFails};
 
-use crate::fetches::Fetches;
+use crate::fetches::FetchList;
 use crate::shelf::{FetchFault, Fetched, Shelf};
 use lmn_base::Rows;
 use std::alloc::{AllocError, Global};
@@ -19,7 +19,7 @@ pub struct MemShelf {
     texts: Rows<Rows<u8>>,
     failing: Rows<u64>,
     calls: u64,
-    asked: Fetches,
+    asked: FetchList,
     listed: u64,
     all: u64,
 }
@@ -67,7 +67,7 @@ impl MemShelf {
             texts,
             failing,
             calls: 0,
-            asked: Fetches::new(),
+            asked: FetchList::new(),
             listed: 0,
             all: 0,
         }

@@ -25,9 +25,9 @@ use Rattle.lmn_verify_renaming.proofs.Solids.{flat_there, renamed_forest}
 use Rattle.lmn_app_runs.specs.declared.stop.Stop.{Stop}
 use Rattle.lmn_app_runs.specs.declared.stop.Stop.TheVariants as stop
 use Rattle.lmn_verify_coded.specs.Laws.{but_for_memory}
-use Rattle.lmn_verify_coded.specs.Runs.{CodedTurn, HaltsBy, IsReducible}
+use Rattle.lmn_verify_coded.specs.Runs.{CodedTurn, CodesStopBy, IsReducible}
 use Rattle.lmn_verify_coded.proofs.Carried.{leaves_there, renamed_registers, rests_there, tree_there}
-use Rattle.lmn_verify_coded.proofs.Exact.{halts_are_exact, turns_are_exact}
+use Rattle.lmn_verify_coded.proofs.Exact.{stops_are_exact, turns_are_exact}
 use Rattle.lmn_verify_coded.proofs.SameBut.{Reads, reads, same_back}
 
 -- the answer to a turn that is made as far as its choice, for want of memory
@@ -166,12 +166,12 @@ module _ (q : Renaming) (h k : Heap) (same : SameButRoom (renamed q h) k) where
         };
       }
 
-      halt_there : (budget n : ℕ) (why : Stop) (h' : Heap) → HaltsBy codes budget size n h why h' → HaltsBy codes budget size n k why k
-      halt_there budget n stop.Irreducible h' w = (w.0, turn_there Irreducible h' w.1)
-      halt_there budget n stop.Budget h' w = (w.0, reducible_there w.1, refl)
-      halt_there budget n stop.Full h' w = (w.0, turn_there Full h' w.1)
-      halt_there budget n stop.NoMemory h' w = (w.0, turn_there NoMemory h' w.1)
+      stop_there : (budget n : ℕ) (why : Stop) (h' : Heap) → CodesStopBy codes budget size n h why h' → CodesStopBy codes budget size n k why k
+      stop_there budget n stop.Irreducible h' w = (w.0, turn_there Irreducible h' w.1)
+      stop_there budget n stop.Budget h' w = (w.0, reducible_there w.1, refl)
+      stop_there budget n stop.Full h' w = (w.0, turn_there Full h' w.1)
+      stop_there budget n stop.NoMemory h' w = (w.0, turn_there NoMemory h' w.1)
 
       -- and runs that stop at both after as many commits stop for one reason.
-      pub halts_alike : AreRunnable codes → (budget n : ℕ) (why other : Stop) (h' k' : Heap) → HaltsBy codes budget size n h why h' → HaltsBy codes budget size n k other k' → why ≡ other
-      halts_alike run budget n why other h' k' w v = halts_are_exact codes run budget size n k k k' why other (halt_there budget n why h' w) v
+      pub stops_alike : AreRunnable codes → (budget n : ℕ) (why other : Stop) (h' k' : Heap) → CodesStopBy codes budget size n h why h' → CodesStopBy codes budget size n k other k' → why ≡ other
+      stops_alike run budget n why other h' k' w v = stops_are_exact codes run budget size n k k k' why other (stop_there budget n why h' w) v

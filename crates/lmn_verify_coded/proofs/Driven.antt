@@ -22,9 +22,9 @@ use Rattle.lmn_app_drive.proofs.Goings.{broken_off, concluded, going_first, goin
 use Rattle.lmn_app_runs.specs.declared.stop.Stop.{Stop}
 use Rattle.lmn_app_runs.specs.declared.stop.Stop.TheVariants as stop
 use Rattle.lmn_verify_coded.specs.Turning.{SomeIn}
-use Rattle.lmn_verify_coded.specs.Runs.{CodedInput, CodedRun, CodedTurn, HaltsBy, begun, turned}
+use Rattle.lmn_verify_coded.specs.Runs.{CodedInput, CodedRun, CodedTurn, CodesStopBy, begun, turned}
 use Rattle.lmn_verify_coded.specs.Laws.{TablesRunAsRules, given_by_codes}
-use Rattle.lmn_verify_coded.proofs.Halting.{last_line, last_valid}
+use Rattle.lmn_verify_coded.proofs.Stopping.{last_line, last_valid}
 use Rattle.lmn_verify_coded.proofs.Turned.{committed, done, embeds, full, no_memory}
 
 module _ (alike : TurnsAreAlike) (of_chooser : TurnsAreOfChooser) (spares : SparesAreNotRead) (marks : MarksAreNotRead) (law : NothingEmbeds) (lines : OneHeapLine)
@@ -68,7 +68,7 @@ module _ (alike : TurnsAreAlike) (of_chooser : TurnsAreOfChooser) (spares : Spar
     abbrev Ends : Stop → Type 0
     Ends why = (Takes (line ++ end_line (word_of_stop why) n) old new → Drove input n h' (stop_end why) old new) × (TakesPrefix (line ++ end_line (word_of_stop why) n) old new → Drove input n h' Failed old new)
 
-    ends : (why : Stop) → HaltsBy g.codes g.budget g.size n last why h' → Ends why
+    ends : (why : Stop) → CodesStopBy g.codes g.budget g.size n last why h' → Ends why
     ends stop.Irreducible (within, t) =
         let so_far = going old n last run within in
         let o = so_far.ran.holds in
@@ -107,8 +107,8 @@ module _ (alike : TurnsAreAlike) (of_chooser : TurnsAreOfChooser) (spares : Spar
 -- what is executed of the codes is a run of the rules
 pub tables_run_as_rules : TurnsAreAlike → TurnsAreOfChooser → SparesAreNotRead → MarksAreNotRead → NothingEmbeds → OneHeapLine → TablesRunAsRules
 tables_run_as_rules alike of_chooser spares marks law lines g S can held n h' end old new v x =
-    let both = ends alike of_chooser spares marks law lines g S can held n x.halted.last h' old new v x.line x.is_line x.halted.run
-    (λ l is. last_line g.codes g.budget g.size n x.halted.last x.why h' g.names g.table l x.halted.halts is) x.why x.halted.halts in
+    let both = ends alike of_chooser spares marks law lines g S can held n x.stopped.last h' old new v x.line x.is_line x.stopped.run
+    (λ l is. last_line g.codes g.budget g.size n x.stopped.last x.why h' g.names g.table l x.stopped.stops is) x.why x.stopped.stops in
     elim x.wrote [
       | inl w ↦ subst (λ e. Drove (given_by_codes g S) n h' e old new) (sym w.0) (both.0 w.1)
       | inr w ↦ subst (λ e. Drove (given_by_codes g S) n h' e old new) (sym w.0) (both.1 w.1)

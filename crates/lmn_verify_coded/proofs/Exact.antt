@@ -15,8 +15,8 @@ use Rattle.lmn_schedule_strategy.specs.declared.turning.Turn.TheVariants.{Commit
 use Rattle.lmn_app_runs.specs.declared.stop.Stop.{Stop}
 use Rattle.lmn_app_runs.specs.declared.stop.Stop.TheVariants as stop
 use Rattle.lmn_verify_coded.specs.Turning.{SomeIn}
-use Rattle.lmn_verify_coded.specs.Runs.{CodedTurn, HaltsBy, IsReducible}
-use Rattle.lmn_verify_coded.specs.Laws.{HaltsAreExact, TurnsAreExact, but_for_memory}
+use Rattle.lmn_verify_coded.specs.Runs.{CodedTurn, CodesStopBy, IsReducible}
+use Rattle.lmn_verify_coded.specs.Laws.{StopsAreExact, TurnsAreExact, but_for_memory}
 use Rattle.lmn_verify_coded.proofs.Asking.{chosen_succeeds}
 use Rattle.lmn_verify_coded.proofs.Matches.{one_first, one_match}
 use Rattle.lmn_verify_coded.proofs.Costs.{leaves_one}
@@ -64,8 +64,8 @@ turns_are_exact codes run size h h' h'' a b t u =
     same codes run h t.tree t.is_tree size a b h' h'' t.turn (subst (λ f. IsTurn h codes f 0 size b h'') (one_tree h u.tree t.tree u.is_tree t.is_tree) u.turn)
 
 -- a run stops for one reason
-pub halts_are_exact : HaltsAreExact
-halts_are_exact codes run budget size n h h' h'' why other w v = by why other w v
+pub stops_are_exact : StopsAreExact
+stops_are_exact codes run budget size n h h' h'' why other w v = by why other w v
   where
     turns : (a b : Turn) → CodedTurn codes size h a h' → CodedTurn codes size h b h'' → but_for_memory a ≡ but_for_memory b
     turns a b t u = turns_are_exact codes run size h h' h'' a b t u
@@ -75,7 +75,7 @@ halts_are_exact codes run budget size n h h' h'' why other w v = by why other w 
         let s = subst (λ f. SomeIn h codes (flat f)) (one_tree h r.tree t.tree r.is_tree t.is_tree) r.some in
         t.turn.0 s.membrane s.among s.rule s.stands s.succeeds
 
-    by : (why other : Stop) → HaltsBy codes budget size n h why h' → HaltsBy codes budget size n h other h'' → why ≡ other
+    by : (why other : Stop) → CodesStopBy codes budget size n h why h' → CodesStopBy codes budget size n h other h'' → why ≡ other
     by stop.Irreducible stop.Irreducible w v = refl
     by stop.Irreducible stop.Budget w v = absurd (reducible h' v.1 w.1)
     by stop.Irreducible stop.Full w v = absurd (cc (turns Irreducible Full w.1 v.1))

@@ -1,9 +1,9 @@
-pub mod Halts
+pub mod Stops
 mod Asking
 mod Awake
 mod Endings
 mod Lines
-mod Halting
+mod Stopping
 mod Countings
 mod Turned
 mod Driven

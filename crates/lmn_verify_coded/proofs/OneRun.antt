@@ -17,8 +17,8 @@ use Rattle.lmn_app_runs.specs.declared.stop.Stop.{Stop}
 use Rattle.lmn_app_runs.specs.declared.stop.Stop.TheVariants as stop
 use Rattle.lmn_app_drive.specs.Driving.{stop_end}
 use Rattle.lmn_verify_coded.specs.Laws.{AreVerified, CameToEnd, RunsAreOne}
-use Rattle.lmn_verify_coded.specs.Runs.{CodedRun, CodedTurn, HaltsBy, Wrote, begun, turned}
-use Rattle.lmn_verify_coded.proofs.Choosing.{halts_alike, turns_alike}
+use Rattle.lmn_verify_coded.specs.Runs.{CodedRun, CodedTurn, CodesStopBy, Wrote, begun, turned}
+use Rattle.lmn_verify_coded.proofs.Choosing.{stops_alike, turns_alike}
 use Rattle.lmn_verify_coded.proofs.OneStep.{AreOne, Grounds, one_turn}
 use Rattle.lmn_verify_coded.proofs.SameBut.{same_back, same_renamed, solid_there}
 
@@ -48,7 +48,7 @@ one_taken text None new newer u w = u ∙ sym w
 one_taken text (Some front) new newer u w = u ∙ sym w
 
 -- nothing is past the budget
-within : (codes : List Code) (budget size n : ℕ) (h h' : Heap) (why : Stop) → HaltsBy codes budget size n h why h' → n ≤ budget
+within : (codes : List Code) (budget size n : ℕ) (h h' : Heap) (why : Stop) → CodesStopBy codes budget size n h why h' → n ≤ budget
 within codes budget size n h h' stop.Irreducible w = w.0
 within codes budget size n h h' stop.Budget w = let e = w.0 in omega (arith, e)
 within codes budget size n h h' stop.Full w = let l = w.0 in omega (arith, l)
@@ -69,7 +69,7 @@ module _ (on : Grounds) (runnable : VerifiedAreRunnable) (codes : List Code) (ve
       one_turn on codes verified size a b before c d t u v w
 
   -- where the one stops before the budget, and not for want of memory, the other doesn't commit
-  stops : (a b : Heap) → AreOne a b → (budget n : ℕ) (why : Stop) (h' k' : Heap) → Comes why → HaltsBy codes budget size n a why h' → n < budget → CodedTurn codes size b turn.Committed k' → ⊥
+  stops : (a b : Heap) → AreOne a b → (budget n : ℕ) (why : Stop) (h' k' : Heap) → Comes why → CodesStopBy codes budget size n a why h' → n < budget → CodedTurn codes size b turn.Committed k' → ⊥
   stops a b one budget n stop.Irreducible h' k' c w l t =
       let e = turns_alike one.numbers a b one.same codes one.other_valid size can turn.Irreducible turn.Committed h' k' w.1 t in absurd (cc e)
   stops a b one budget n stop.Budget h' k' c w l t = let e = w.0 in absurd (omega (arith, e, l))
@@ -78,7 +78,7 @@ module _ (on : Grounds) (runnable : VerifiedAreRunnable) (codes : List Code) (ve
   stops a b one budget n stop.NoMemory h' k' c w l t = absurd c
 
   -- So a run that stopped has no fewer commits than the other.
-  no_more : (h k : Heap) → AreOne h k → (budget n : ℕ) (a h' : Heap) (why : Stop) → CodedRun codes size h n a → HaltsBy codes budget size n a why h' → Comes why →
+  no_more : (h k : Heap) → AreOne h k → (budget n : ℕ) (a h' : Heap) (why : Stop) → CodedRun codes size h n a → CodesStopBy codes budget size n a why h' → Comes why →
       (m : ℕ) (b : Heap) → CodedRun codes size k m b → m ≤ budget → n < m → ⊥
   no_more h k one budget n a h' why r w c m b begun l d = absurd (omega (arith, d))
   no_more h k one budget n a h' why r w c m b (turned {n = j} {h' = x} s t v) l d = elim (in_order n j) [
@@ -104,8 +104,8 @@ pub runs_are_one : Grounds → VerifiedAreRunnable → OneHeapLine → RunsAreOn
 runs_are_one on runnable lines g verified other x first second n m h k end last old new newer c d u w =
     let one : AreOne g.first other = (let q = one_solid_is_renamed g.first other x first.valid second.valid first.unmarked second.unmarked first.solid second.solid in
     record { valid = first.valid; unmarked = first.unmarked; other_valid = second.valid; other_unmarked = second.unmarked; numbers = q.0; same = q.1 }) in
-    let a = u.halted in
-    let b = w.halted in
+    let a = u.stopped in
+    let b = w.stopped in
     let written = all_written (u.line ++ end_line (word_of_stop u.why) n) (stop_end u.why) end old new c u.wrote in
     let rewritten = all_written (w.line ++ end_line (word_of_stop w.why) m) (stop_end w.why) last old newer d w.wrote in
     let comes_first = comes u.why end c written.0 in
@@ -113,13 +113,13 @@ runs_are_one on runnable lines g verified other x first second n m h k end last 
     let count : n ≡ m = elim (in_order n m) [
       | inl e ↦ e
       | inr o ↦ elim o [
-        | inl l ↦ absurd (no_more on runnable g.codes verified g.size g.first other one g.budget n a.last h u.why a.run a.halts comes_first m b.last b.run (within g.codes g.budget g.size m b.last k w.why b.halts) l)
-        | inr l ↦ absurd (no_more on runnable g.codes verified g.size other g.first (back_one g.first other one) g.budget m b.last k w.why b.run b.halts comes_second n a.last a.run (within g.codes g.budget g.size n a.last h u.why a.halts) l)
+        | inl l ↦ absurd (no_more on runnable g.codes verified g.size g.first other one g.budget n a.last h u.why a.run a.stops comes_first m b.last b.run (within g.codes g.budget g.size m b.last k w.why b.stops) l)
+        | inr l ↦ absurd (no_more on runnable g.codes verified g.size other g.first (back_one g.first other one) g.budget m b.last k w.why b.run b.stops comes_second n a.last a.run (within g.codes g.budget g.size n a.last h u.why a.stops) l)
       ]
     ] in
     let still = runs_alike on runnable g.codes verified g.size g.first other one a.run b.run count in
-    let why : u.why ≡ w.why = halts_alike still.numbers a.last b.last still.same g.codes still.other_valid g.size (can on runnable g.codes verified g.size) g.budget n u.why w.why h k a.halts
-    (subst (λ z. HaltsBy g.codes g.budget g.size z b.last w.why k) (sym count) b.halts) in
+    let why : u.why ≡ w.why = stops_alike still.numbers a.last b.last still.same g.codes still.other_valid g.size (can on runnable g.codes verified g.size) g.budget n u.why w.why h k a.stops
+    (subst (λ z. CodesStopBy g.codes g.budget g.size z b.last w.why k) (sym count) b.stops) in
     let line : u.line ≡ w.line = (let s = u.is_line in
     lines false g.names g.table b.last u.line w.line still.other_valid (s.0, solid_there still.numbers a.last b.last still.same s.0 s.1, s.2) w.is_line) in
     let text : u.line ++ end_line (word_of_stop u.why) n ≡ w.line ++ end_line (word_of_stop w.why) m = λ i. line i ++ end_line (word_of_stop (why i)) (count i) in (

@@ -29,7 +29,7 @@ use Rattle.lmn_app_runs.specs.declared.stop.Stop.TheVariants as stop
 use Rattle.lmn_schedule_strategy.specs.Counting.{AsksRules, asks_all, asks_none, asks_until}
 use Rattle.lmn_app_drive.specs.Driving.{stop_end}
 use Rattle.lmn_verify_coded.specs.Counting.{RunAsks, more_asked, none_asked}
-use Rattle.lmn_verify_coded.specs.Runs.{CodedRun, HaltsBy, begun, turned}
+use Rattle.lmn_verify_coded.specs.Runs.{CodedRun, CodesStopBy, begun, turned}
 use Rattle.lmn_verify_coded.specs.Examples.{IdleCodeCommits, IdleCodeSucceeds, NoCodesAreExecuted, NoCodesCanTurn, NoRuleIsAsked, idle, ruled}
 
 -- ---- without codes
@@ -108,22 +108,22 @@ unfolding digits
 no_codes_are_executed names budget line is_line = (
   record {
     why = stop.Irreducible;
-    halted = record {
+    stopped = record {
       last = across;
       run = begun;
-      halts = (omega arith, record { tree = across_is_valid.tree.0; is_tree = across_is_valid.tree.1; turn = ((λ m i k j s. nothing_at across m k s), refl) });
+      stops = (omega arith, record { tree = across_is_valid.tree.0; is_tree = across_is_valid.tree.1; turn = ((λ m i k j s. nothing_at across m k s), refl) });
     };
     line = line;
     is_line = is_line;
     wrote = inl (refl, refl);
   },
   (λ n h old new x. elim x.wrote [
-    | inl w ↦ by_budget n x.halted.last h x.why w.0 x.halted.halts
+    | inl w ↦ by_budget n x.stopped.last h x.why w.0 x.stopped.stops
     | inr w ↦ absurd (cc w.0)
   ]),
 )
   where
-    by_budget : (n : ℕ) (last h : Heap) (why : Stop) → end.Budget ≡ stop_end why → HaltsBy [] budget 3 n last why h → ⊥
+    by_budget : (n : ℕ) (last h : Heap) (why : Stop) → end.Budget ≡ stop_end why → CodesStopBy [] budget 3 n last why h → ⊥
     by_budget n last h stop.Irreducible e w = absurd (cc e)
     by_budget n last h stop.Budget e w = nothing_at last w.1.some.membrane w.1.some.rule w.1.some.succeeds
     by_budget n last h stop.Full e w = absurd (cc e)

@@ -16,7 +16,7 @@ use Rattle.lmn_schedule_strategy.specs.Turns.{AreRunnable}
 use Rattle.lmn_schedule_strategy.specs.declared.turning.Turn.{Turn}
 use Rattle.lmn_schedule_strategy.specs.declared.turning.Turn.TheVariants.{Committed, Irreducible, Full, NoMemory}
 use Rattle.lmn_app_runs.specs.declared.stop.Stop.{Stop}
-use Rattle.lmn_verify_coded.specs.Runs.{CodedInput, CodedTurn, Executed, HaltsBy}
+use Rattle.lmn_verify_coded.specs.Runs.{CodedInput, CodedTurn, Executed, CodesStopBy}
 
 -- What a run of rules is given, as that of their codes: the root is asked first in each turn, and the last line alone is written, in the
 -- plain form. It begins at this solid.
@@ -51,9 +51,9 @@ TurnsAreExact = (codes : List Code) → AreRunnable codes → (size : ℕ) (h h'
     CodedTurn codes size h a h' → CodedTurn codes size h b h'' → but_for_memory a ≡ but_for_memory b
 
 -- A run of them stops at a heap for one reason.
-abbrev pub HaltsAreExact : Type 0
-HaltsAreExact = (codes : List Code) → AreRunnable codes → (budget size n : ℕ) (h h' h'' : Heap) (why other : Stop) →
-    HaltsBy codes budget size n h why h' → HaltsBy codes budget size n h other h'' → why ≡ other
+abbrev pub StopsAreExact : Type 0
+StopsAreExact = (codes : List Code) → AreRunnable codes → (budget size n : ℕ) (h h' h'' : Heap) (why other : Stop) →
+    CodesStopBy codes budget size n h why h' → CodesStopBy codes budget size n h other h'' → why ≡ other
 
 -- each of these codes is verified, of as many rules as they are
 abbrev pub AreVerified : List Code → Type 0

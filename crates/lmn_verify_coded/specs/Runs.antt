@@ -41,17 +41,17 @@ pub record IsReducible (codes : List Code) (h : Heap) : Type 0 where
 
 -- Why a run stops at the heap h after n commits: no code succeeds; the budget is done, and some code succeeds; what is chosen would leave
 -- more items than the size; memory is wanting for what is chosen, which would not. The heap is h' then.
-abbrev pub HaltsBy : List Code → (budget size n : ℕ) → Heap → Stop → Heap → Type 0
-HaltsBy codes budget size n h stop.Irreducible h' = (n ≤ budget) × CodedTurn codes size h turn.Irreducible h'
-HaltsBy codes budget size n h stop.Budget h' = (n ≡ budget) × IsReducible codes h × (h' ≡ h)
-HaltsBy codes budget size n h stop.Full h' = (n < budget) × CodedTurn codes size h turn.Full h'
-HaltsBy codes budget size n h stop.NoMemory h' = (n < budget) × CodedTurn codes size h turn.NoMemory h'
+abbrev pub CodesStopBy : List Code → (budget size n : ℕ) → Heap → Stop → Heap → Type 0
+CodesStopBy codes budget size n h stop.Irreducible h' = (n ≤ budget) × CodedTurn codes size h turn.Irreducible h'
+CodesStopBy codes budget size n h stop.Budget h' = (n ≡ budget) × IsReducible codes h × (h' ≡ h)
+CodesStopBy codes budget size n h stop.Full h' = (n < budget) × CodedTurn codes size h turn.Full h'
+CodesStopBy codes budget size n h stop.NoMemory h' = (n < budget) × CodedTurn codes size h turn.NoMemory h'
 
 -- A run from h that stopped after n commits. The heap is h' then.
-pub record HaltedRun (codes : List Code) (budget size : ℕ) (h : Heap) (n : ℕ) (why : Stop) (h' : Heap) : Type 0 where
+pub record StoppedRun (codes : List Code) (budget size : ℕ) (h : Heap) (n : ℕ) (why : Stop) (h' : Heap) : Type 0 where
   pub last : Heap
   pub run : CodedRun codes size h n last
-  pub halts : HaltsBy codes budget size n last why h'
+  pub stops : CodesStopBy codes budget size n last why h'
 
 -- What a run is given: a list of names and a table of rules, by which its heap is printed, the codes, the budget and the size, and the
 -- heap at the start.
@@ -75,7 +75,7 @@ IsPlainLine names table h line = (x : Solid) × HasSolid h x × (line ≡ line_o
 -- and the end line.
 pub record Executed (g : CodedInput) (n : ℕ) (h' : Heap) (end : RunEnd) (old new : Option (List ℕ)) : Type 0 where
   pub why : Stop
-  pub halted : HaltedRun g.codes g.budget g.size g.first n why h'
+  pub stopped : StoppedRun g.codes g.budget g.size g.first n why h'
   pub line : List ℕ
-  pub is_line : IsPlainLine g.names g.table halted.last line
+  pub is_line : IsPlainLine g.names g.table stopped.last line
   pub wrote : Wrote (line ++ end_line (word_of_stop why) n) (stop_end why) end old new

@@ -5,7 +5,7 @@ ghost use Rattle.lmn_app_runs.specs.Runs.{word_of_stop};
 ghost use Rattle.lmn_schedule_strategy.specs.Counting.{CountsAsked};
 ghost use Rattle.lmn_verify_coded.specs.Turning.{CodedCanTurn};
 ghost use Rattle.lmn_verify_coded.specs.Counting.{CountsRun};
-ghost use Rattle.lmn_verify_coded.specs.Runs.{Executed, HaltedRun};
+ghost use Rattle.lmn_verify_coded.specs.Runs.{Executed, StoppedRun};
 ghost use Rattle.lmn_verify_coded.specs.Steps.{EndIsWritten, CountsStep, IsLastText, MakesStep};
 
 use crate::running::Coded;
@@ -60,7 +60,7 @@ fn run<S: LinkStore, L: Ledger>(
     requires run { CodedCanTurn (S.heap coded.old.machine.store) coded.old.codes coded.old.size }
     requires commits { coded.old.commits ≡ 0 }
     requires budget { budget ≤ 2 ^ 63 - 1 }
-    ensures halted { HaltedRun coded.old.codes budget coded.old.size (S.heap coded.old.machine.store) coded.new.commits result (S.heap coded.new.machine.store) }
+    ensures stopped { StoppedRun coded.old.codes budget coded.old.size (S.heap coded.old.machine.store) coded.new.commits result (S.heap coded.new.machine.store) }
     ensures again { CodedCanTurn (S.heap coded.new.machine.store) coded.old.codes coded.old.size }
     ensures keeps { coded.new ≡ record coded.old { machine = coded.new.machine; commits = coded.new.commits } }
     ensures steps { CountsRun coded.old.codes coded.old.size (S.heap coded.old.machine.store) coded.new.commits steps.old steps.new }

@@ -1,6 +1,6 @@
 //! Laws of runs of codes, and small examples: each the contract of a function that at most names other laws.
 ghost use Rattle.lmn_verify_coded.specs.Examples.{IdleCodeCommits, IdleCodeSucceeds, NoCodesAreExecuted, NoCodesCanTurn, NoRuleIsAsked, RunExamples};
-ghost use Rattle.lmn_verify_coded.specs.Laws.{HaltsAreExact, RunsAreOne, TablesRunAsRules, TurnsAreExact};
+ghost use Rattle.lmn_verify_coded.specs.Laws.{StopsAreExact, RunsAreOne, TablesRunAsRules, TurnsAreExact};
 
 use lmn_adequacy_choices::{
     marks_are_not_read, nothing_embeds, spares_are_not_read, turns_are_alike, turns_are_of_chooser,
@@ -33,8 +33,8 @@ pub fn turns_are_exact()
 {}
 
 /// A run of them stops at a heap for one reason.
-pub fn halts_are_exact()
-    ensures { HaltsAreExact }
+pub fn stops_are_exact()
+    ensures { StopsAreExact }
 {}
 
 /// Two runs of verified codes from heaps of one solid that came to their ends have one count of commits, one end and one text.

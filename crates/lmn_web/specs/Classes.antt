@@ -198,8 +198,8 @@ pub record Refiled (f g : ℕ → Option HeldCell) (m : ℕ) (xs : List ℕ) (p 
   pub classed : AreClassed g m xs' tree
 
 -- c is filed in m as one of its class
-abbrev pub IsFiled : (ℕ → Option HeldCell) → ℕ → ℕ → Type 0
-IsFiled f m c = (xs : List ℕ) × (t : ClassTree) × MayFile f m c xs t × In c xs
+abbrev pub IsInItsClass : (ℕ → Option HeldCell) → ℕ → ℕ → Type 0
+IsInItsClass f m c = (xs : List ℕ) × (t : ClassTree) × MayFile f m c xs t × In c xs
 
 -- Whatever the atoms xs of m are, c comes among them as the last one of its class.
 abbrev pub IsFiledLast : (ℕ → Option HeldCell) → (ℕ → Option HeldCell) → ℕ → ℕ → Type 0

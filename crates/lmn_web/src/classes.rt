@@ -8,7 +8,7 @@ ghost use Rattle.lmn_store_heap.specs.Lists.{after, from};
 ghost use Rattle.lmn_web_cells.specs.Runs.{Line, link_in};
 ghost use Rattle.lmn_web.specs.declared.kind.CellKind.TheVariants.{Atom};
 ghost use Rattle.lmn_web.specs.Webs.{list_in};
-ghost use Rattle.lmn_web.specs.Classes.{ClassTree, AreClassed, IsTree, IsSorted, FiledAs, MayEnter, MayFile, MayLeave, begun, closed, dropped, files, is_key, is_odd, key_in, lengthened, lowest_below, passed, place_in, put_between, put_first, of_class, shortened, taken_over, top, IsFiled, IsFiledLast, IsFiledBefore, IsUnfiled};
+ghost use Rattle.lmn_web.specs.Classes.{ClassTree, AreClassed, IsTree, IsSorted, FiledAs, MayEnter, MayFile, MayLeave, begun, closed, dropped, files, is_key, is_odd, key_in, lengthened, lowest_below, passed, place_in, put_between, put_first, of_class, shortened, taken_over, top, IsInItsClass, IsFiledLast, IsFiledBefore, IsUnfiled};
 
 use crate::kind::{CellKind, FILED};
 use lmn_web_cells::cell::Cells;
@@ -356,7 +356,7 @@ pub fn file_before(cells: &mut Cells, m: Cell, d: Cell, c: Cell)
 
 // The last one of a class leaves it.
 fn unfile_last(cells: &mut Cells, m: Cell, c: Cell, prev: Cell)
-    requires classes { IsFiled (cells_by cells.old) (cell_id m) (cell_id c) }
+    requires classes { IsInItsClass (cells_by cells.old) (cell_id m) (cell_id c) }
     requires prev { link_in (cells_by cells.old) (cell_id c) CLASS_PREV ≡ Some (cell_id prev) }
     requires next { link_in (cells_by cells.old) (cell_id c) CLASS_NEXT ≡ None }
     ensures { IsUnfiled (cells_by cells.old) (cells_by cells.new) (cell_id m) (cell_id c) }
@@ -372,7 +372,7 @@ fn unfile_last(cells: &mut Cells, m: Cell, c: Cell, prev: Cell)
 
 // The first one of a class leaves it.
 fn unfile_first(cells: &mut Cells, m: Cell, c: Cell, next: Option<Cell>)
-    requires classes { IsFiled (cells_by cells.old) (cell_id m) (cell_id c) }
+    requires classes { IsInItsClass (cells_by cells.old) (cell_id m) (cell_id c) }
     requires prev { link_in (cells_by cells.old) (cell_id c) CLASS_PREV ≡ None }
     requires next { link_in (cells_by cells.old) (cell_id c) CLASS_NEXT ≡ option_map cell_id next }
     ensures { IsUnfiled (cells_by cells.old) (cells_by cells.new) (cell_id m) (cell_id c) }
@@ -393,7 +393,7 @@ fn unfile_first(cells: &mut Cells, m: Cell, c: Cell, next: Option<Cell>)
 /// An atom leaves its class.
 #[inline(always)]
 pub fn unfile(cells: &mut Cells, m: Cell, c: Cell)
-    requires { IsFiled (cells_by cells.old) (cell_id m) (cell_id c) }
+    requires { IsInItsClass (cells_by cells.old) (cell_id m) (cell_id c) }
     ensures { IsUnfiled (cells_by cells.old) (cells_by cells.new) (cell_id m) (cell_id c) }
 {
     cells.whole();

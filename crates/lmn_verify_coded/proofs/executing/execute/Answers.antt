@@ -1,7 +1,7 @@
 use Rattle.std.proofs.Common.{◌≡◌, sym, subst}
 use Rattle.lmn_verify_coded.specs.Runs.{CodedInput, Executed}
 use Rattle.lmn_verify_coded.specs.Counting.{CountsRun}
-use Rattle.lmn_verify_coded.proofs.Halting.{last_line}
+use Rattle.lmn_verify_coded.proofs.Stopping.{last_line}
 use Rattle.lmn_verify_coded.proofs.executing.execute.Goals as goal
 use Rattle.lmn_store_heap.proofs.Common.{moved}
 
@@ -20,9 +20,9 @@ returns-clause-executed g c =
     moved (λ n h. Executed r n h c.conclude.result (g.O.Sink.told c.args.out.now) (g.O.Sink.told c.conclude.new.out)) commits c.conclude.ensures.kept
     (record {
       why = c.run-why.result;
-      halted = c.run-why.ensures.halted;
+      stopped = c.run-why.ensures.stopped;
       line = wrote.line;
-      is_line = last_line r.codes r.budget r.size c.run-why.new.coded.commits c.run-why.ensures.halted.last c.run-why.result (g.S.LinkStore.heap c.run-why.new.coded.machine.store) r.names r.table wrote.line c.run-why.ensures.halted.halts wrote.is_line;
+      is_line = last_line r.codes r.budget r.size c.run-why.new.coded.commits c.run-why.ensures.stopped.last c.run-why.result (g.S.LinkStore.heap c.run-why.new.coded.machine.store) r.names r.table wrote.line c.run-why.ensures.stopped.stops wrote.is_line;
       wrote = wrote.wrote;
     })
 

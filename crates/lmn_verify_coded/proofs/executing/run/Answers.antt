@@ -2,13 +2,13 @@ use Rattle.std.proofs.Common.{◌≡◌, ◌+◌, None, refl, sym, ap, subst, �
 use Rattle.lmn_schedule_strategy.specs.Choosing.{NoneIn}
 use Rattle.lmn_store_heap.specs.Sound.{Forest, IsTree, flat}
 use Rattle.lmn_verify_coded.specs.Turning.{CodedCanTurn}
-use Rattle.lmn_verify_coded.specs.Runs.{CodedRun, HaltedRun, begun, turned}
+use Rattle.lmn_verify_coded.specs.Runs.{CodedRun, StoppedRun, begun, turned}
 use Rattle.lmn_verify_coded.specs.Steps.{CountsStep, MakesStep}
 use Rattle.lmn_app_runs.specs.declared.stop.Stop.TheVariants as stop
 use Rattle.lmn_schedule_strategy.specs.Counting.{CountsAsked}
 use Rattle.lmn_verify_coded.specs.Counting.{CountsRun, CountsTurns}
 use Rattle.lmn_verify_coded.proofs.Countings.{counts_last, counts_more, counts_none}
-use Rattle.lmn_verify_coded.proofs.Halting.{halts_at_end}
+use Rattle.lmn_verify_coded.proofs.Stopping.{stops_at_end}
 use Rattle.lmn_verify_coded.proofs.executing.run.Goals as goal
 
 pub loop-init : goal.loop-init
@@ -44,8 +44,8 @@ loop-preserved g c =
           (subst (λ xs. CountsAsked h xs 0 c.loop.steps c.step.new.steps) same_codes c.step.ensures.steps));
     }
 
-pub returns-else-reducible-clause-halted : goal.returns-else-reducible-clause-halted
-returns-else-reducible-clause-halted g c =
+pub returns-else-reducible-clause-stopped : goal.returns-else-reducible-clause-stopped
+returns-else-reducible-clause-stopped g c =
     let codes = c.args.coded.now.codes in
     let size = c.args.coded.now.size in
     let first = g.S.LinkStore.heap c.args.coded.now.machine.store in
@@ -55,8 +55,8 @@ returns-else-reducible-clause-halted g c =
     let commits : c.reducible.new.self.commits ≡ c.loop.coded.commits = λ i. (c.reducible.ensures.keeps i).commits in
     let done : c.loop.coded.commits ≡ c.args.budget = (let f = c.loop-test.false in let l = c.loop.auto in let n = c.loop.invariant.count in omega (arith, n)) in
     let none = subst (λ xs. (f : Forest) → IsTree h f → NoneIn h xs (flat f)) same_codes (c.reducible.ensures.no c.if-reducible.false) in
-    subst (λ n. HaltedRun codes c.args.budget size first n stop.Irreducible h') (sym commits)
-    (halts_at_end codes c.args.budget size first c.loop.coded.commits h c.loop.invariant.ran c.loop.invariant.run.turn.valid h' done c.reducible.ensures.same none)
+    subst (λ n. StoppedRun codes c.args.budget size first n stop.Irreducible h') (sym commits)
+    (stops_at_end codes c.args.budget size first c.loop.coded.commits h c.loop.invariant.ran c.loop.invariant.run.turn.valid h' done c.reducible.ensures.same none)
 
 pub returns-in-Some-clause-steps : goal.returns-in-Some-clause-steps
 returns-in-Some-clause-steps g c =

@@ -21,17 +21,17 @@ use denote.Triple.Entry.{on_entry}
 use denote.Triple.Spec.{Meets, triple_of}
 use denote.Triple.Table.{entered}
 use denote.Triple.Walked.{says, ends_at, walked, walk_Meets}
-use Rattle.lmn_io.specs.declared.fetches.Fetches.{Fetches}
-use Rattle.lmn_io.specs.contracts.fetches.Fetches as T
-use Rattle.lmn_io.specs.contracts.fetches.Fetches.new.Key.{name as #it}
-use Rattle.lmn_io.specs.contracts.fetches.Fetches.new as it
-use Rattle.lmn_io.proofs.fetches.Fetches.new.Statement as stated
-use Rattle.lmn_io.proofs.fetches.Fetches.new.Code as code
+use Rattle.lmn_io.specs.declared.fetches.FetchList.{FetchList}
+use Rattle.lmn_io.specs.contracts.fetches.FetchList as T
+use Rattle.lmn_io.specs.contracts.fetches.FetchList.new.Key.{name as #it}
+use Rattle.lmn_io.specs.contracts.fetches.FetchList.new as it
+use Rattle.lmn_io.proofs.fetches.FetchList.new.Statement as stated
+use Rattle.lmn_io.proofs.fetches.FetchList.new.Code as code
 
 abbrev v : Val
 v = vstruct (vcons (vstruct vnil) vnil)
 
-abbrev r : Fetches
+abbrev r : FetchList
 r = record { marker = record {}; all = [] }
 
 meets : {M : Type 1} {𝓤 : Ura M} (𝓛 : Logic 𝓤) → (at_mem : Memory → SProp 𝓤) (run : Routine → Fun 𝓤) (𝓣 : Tables 𝓤 𝓛.H)

@@ -30,26 +30,26 @@ use denote.Triple.Spec.{Meets, triple_of}
 use denote.Triple.Table.{entered}
 use denote.Triple.Walked.{says, Stays, stay_ref, stay_none, stay_none_slice, walk_of, AllGo, Goes-none, Goes-ref, Goes-none_slice, Walks, ends_at, walked, walk_Meets}
 use Rattle.lmn_io.specs.Texts.{asked_once_more}
-use Rattle.lmn_io.specs.declared.fetches.Fetches.{Fetches}
-use Rattle.lmn_io.specs.contracts.fetches.Fetches as T
-use Rattle.lmn_io.specs.contracts.fetches.Fetches.note.Key.{name as #it}
-use Rattle.lmn_io.specs.contracts.fetches.Fetches.note as it
-use Rattle.lmn_io.proofs.fetches.Fetches.note.Statement as stated
-use Rattle.lmn_io.proofs.fetches.Fetches.note.Code as code
+use Rattle.lmn_io.specs.declared.fetches.FetchList.{FetchList}
+use Rattle.lmn_io.specs.contracts.fetches.FetchList as T
+use Rattle.lmn_io.specs.contracts.fetches.FetchList.note.Key.{name as #it}
+use Rattle.lmn_io.specs.contracts.fetches.FetchList.note as it
+use Rattle.lmn_io.proofs.fetches.FetchList.note.Statement as stated
+use Rattle.lmn_io.proofs.fetches.FetchList.note.Code as code
 
 abbrev Arg : Type 0
-Arg = MutBor Fetches × (Bor (List ℕ) × (ℕ × Unit {0}))
+Arg = MutBor FetchList × (Bor (List ℕ) × (ℕ × Unit {0}))
 
 abbrev stayed : Stays (it.ended).signature.params (it.ended).kept
 stayed = (stay_ref (0 ∷ []) tt (plain (λ _. T.the_row)), (stay_none_slice (1 ∷ []) tt (plain (λ _. u8)) yes, (stay_none (λ _. u64) yes, tt)))
 
-module _ {M : Type 1} {𝓤 : Ura M} (𝓛 : Logic 𝓤) (at_mem : Memory → SProp 𝓤) (run : Routine → Fun 𝓤) (κ κ' : Lft) (q q' : Share) (b o : ℕ) (γ : GName) (h : Fetches) (s : Bor (List ℕ)) (n : ℕ) where
+module _ {M : Type 1} {𝓤 : Ura M} (𝓛 : Logic 𝓤) (at_mem : Memory → SProp 𝓤) (run : Routine → Fun 𝓤) (κ κ' : Lft) (q q' : Share) (b o : ℕ) (γ : GName) (h : FetchList) (s : Bor (List ℕ)) (n : ℕ) where
   open 𝓛 use {H, A}
 
   abbrev x : Arg
   x = (record { ref_ptr = (b, o); ghost_name = γ; now = h }, (s, (n, tt)))
 
-  abbrev h' : Fetches
+  abbrev h' : FetchList
   h' = record { marker = h.marker; all = asked_once_more s.now n h.all }
 
   abbrev at : List Val × (List Val × (List Val × Unit {0}))

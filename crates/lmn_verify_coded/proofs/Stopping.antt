@@ -6,7 +6,7 @@ use Rattle.lmn_instr_code.specs.declared.instr.Code.{Code}
 use Rattle.lmn_schedule_strategy.specs.Choosing.{NoneIn}
 use Rattle.lmn_app_runs.specs.declared.stop.Stop.{Stop}
 use Rattle.lmn_app_runs.specs.declared.stop.Stop.TheVariants as stop
-use Rattle.lmn_verify_coded.specs.Runs.{CodedRun, HaltedRun, HaltsBy, begun, turned}
+use Rattle.lmn_verify_coded.specs.Runs.{CodedRun, StoppedRun, CodesStopBy, begun, turned}
 use Rattle.lmn_verify_coded.proofs.Lines.{line_before}
 use Rattle.lmn_base.specs.declared.rule.RuleTree.{RuleTree}
 use Rattle.lmn_congruence.specs.Rules.{Name}
@@ -14,12 +14,12 @@ use Rattle.lmn_print.specs.Lines.{IsHeapLine}
 
 module _ (codes : List Code) (budget size : ℕ) (first : Heap) (n : ℕ) (h : Heap) (run : CodedRun codes size first n h) where
   -- at the end of the budget, where no code succeeds
-  pub halts_at_end : Valid h → (h' : Heap) → n ≡ budget → h' ≡ h → ((f : Forest) → IsTree h f → NoneIn h codes (flat f)) → HaltedRun codes budget size first n stop.Irreducible h'
-  halts_at_end v h' done same none =
-      record { last = h; run = run; halts = (omega (arith, done), record { tree = v.tree.0; is_tree = v.tree.1; turn = (none v.tree.0 v.tree.1, same) }) }
+  pub stops_at_end : Valid h → (h' : Heap) → n ≡ budget → h' ≡ h → ((f : Forest) → IsTree h f → NoneIn h codes (flat f)) → StoppedRun codes budget size first n stop.Irreducible h'
+  stops_at_end v h' done same none =
+      record { last = h; run = run; stops = (omega (arith, done), record { tree = v.tree.0; is_tree = v.tree.1; turn = (none v.tree.0 v.tree.1, same) }) }
 
 -- the line of the heap at the end is that of the last heap of the run
-pub last_line : (codes : List Code) (budget size n : ℕ) (h : Heap) (why : Stop) (h' : Heap) (names : List Name) (table : List RuleTree) (line : List ℕ) → HaltsBy codes budget size n h why h' →
+pub last_line : (codes : List Code) (budget size n : ℕ) (h : Heap) (why : Stop) (h' : Heap) (names : List Name) (table : List RuleTree) (line : List ℕ) → CodesStopBy codes budget size n h why h' →
     IsHeapLine false names table h' line → IsHeapLine false names table h line
 last_line codes budget size n h stop.Irreducible h' names table line w is = subst (λ k. IsHeapLine false names table k line) w.1.turn.1 is
 last_line codes budget size n h stop.Budget h' names table line w is = subst (λ k. IsHeapLine false names table k line) w.2 is

@@ -1,0 +1,5 @@
+use Rattle.lmn_verify_coded.proofs.Exact.{stops_are_exact}
+use Rattle.lmn_verify_coded.proofs.laws.stops_are_exact.Goals as goal
+
+pub returns : goal.returns
+returns c = stops_are_exact
