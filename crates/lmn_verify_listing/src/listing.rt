@@ -14,7 +14,7 @@ ghost use Rattle.lmn_verify_code.specs.Verified.{IsVerified};
 
 use crate::line::read_line;
 use crate::operand::place_of;
-use lmn_base::{Names, NoMemory, Pos, Refusal, RefusalCode, Rows, TextFault};
+use lmn_base::{Names, NoMemory, Pos, RefusalCode, Rows, TextFault};
 use lmn_instr_code::{Code, Instr};
 use lmn_instr_reading::is_decimal;
 use lmn_verify_code::{is_commit, is_proceed, is_verified};
@@ -276,10 +276,10 @@ pub fn read(
 {
     let codes = read_codes(alloc, listing, rules, names)?;
     match first_unverified(alloc, codes.as_slice(), rules)? {
-        Some(line) => Err(TextFault::Refused(Refusal {
-            code: RefusalCode::CodeNotVerified as u8,
-            pos: Pos { line, column: 1 },
-        })),
+        Some(line) => Err(TextFault::Refused(RefusalCode::CodeNotVerified.at(Pos {
+            line,
+            column: 1,
+        }))),
         None => Ok(codes),
     }
 }

@@ -296,10 +296,7 @@ pub fn bound(weights: &Weights, plain: &Plain, plans: &[GuardPlan]) -> Result<u6
     for k in 0..asked(plain) {
         let rule = plain.rules.at(k);
         if !is_lowered(weights, places, rule, &plans[k]) {
-            return Err(Refusal {
-                code: RefusalCode::RuleNotLowered as u8,
-                pos: rule.pos,
-            });
+            return Err(RefusalCode::RuleNotLowered.at(rule.pos));
         }
     }
     Ok(level_weight(weights, places, &[], &[], &plain.top))

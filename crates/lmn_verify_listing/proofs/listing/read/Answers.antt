@@ -1,5 +1,6 @@
 use Rattle.std.proofs.Common.{◌≡◌, ℕ, List, refl, sym, subst}
 use Rattle.lmn_instr_code.specs.declared.instr.Code.{Code}
+use Rattle.lmn_base.specs.declared.refusal.Refusal.{Refusal}
 use Rattle.lmn_verify_listing.specs.Listings.{IsFirstUnverified, IsRefusedListing, not_a_listing, not_verified}
 use Rattle.lmn_verify_listing.specs.Reaching.{IsRefusedLine}
 use Rattle.lmn_verify_listing.proofs.CodeLemmas.{refused_on}
@@ -14,7 +15,8 @@ returns-in_err-codes-clause-refused c =
 
 pub returns-in-Some-clause-refused : goal.returns-in-Some-clause-refused
 returns-in-Some-clause-refused c =
-    let some = rw c.in-Some.is at c.in_ok-line.ensures.some in (
+    let some = rw c.in-Some.is at c.in_ok-line.ensures.some in
+    subst (λ (r : Refusal). IsRefusedListing c.args.rules c.args.names.now c.read_codes.new.names c.args.listing.now r.code r.pos.line × (r.pos.column ≡ 1)) (sym c.at.ensures) (
       not_verified c.in_ok-codes.codes c.in_ok-codes.ensures.listed c.in_ok-codes.ensures.order (subst (λ (cs : List Code). IsFirstUnverified c.args.rules cs c.in-Some.line) c.as_slice.ensures some),
       refl,
     )

@@ -21,7 +21,7 @@ returns-then-not-is_lowered-clause-err c = record {
   is_plan = read_there c.args.plans.now c.loop-k.k c.index-plans-k.result c.index-plans-k.result (omega (arith, c.loop-k-test.true, c.asked-k-end.ensures, c.requires.plans)) c.index-plans-k.is;
   not_lowered = sym c.is_lowered.ensures ∙ c.if-not-is_lowered.true;
   before = c.loop-k.invariant;
-  refused = refl;
+  refused = c.at.ensures;
 }
 
 pub loop-k-preserved : goal.loop-k-preserved
