@@ -2,6 +2,6 @@
 use Rattle.std.specs.Prelude.{ℕ, ◌≡◌, List}
 use Rattle.lmn_app.specs.Writing.{IsListing}
 
--- a text has one listing at most
+-- A text has one listing at most: two plains of it differ in the addresses of boxes alone, and no code has these.
 abbrev pub OneListing : Type 0
 OneListing = (text listing other : List ℕ) → IsListing text listing → IsListing text other → listing ≡ other

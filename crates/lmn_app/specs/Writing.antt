@@ -13,7 +13,8 @@ use Rattle.lmn_app.specs.Texts.{Accepts, text_bytes}
 use Rattle.lmn_order.specs.Orders.{chosen}
 use Rattle.lmn_app_words.specs.declared.command.RunSettings.{RunSettings}
 
--- What is told of a text: nothing (None), that it isn't there (Some None), or its bytes (Some (Some bytes)).
+-- What is told of a text: nothing (None), that it isn't there (Some None), or its bytes (Some (Some bytes)). No type of its own:
+-- so what the library says of options is said of it.
 abbrev pub Told : Type 0
 Told = Option (Option (List ℕ))
 

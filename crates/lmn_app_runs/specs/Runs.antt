@@ -18,7 +18,7 @@ use Rattle.lmn_adequacy.specs.Runs.{Chooser, End, irreducible, budget_done, full
 
 -- ---- why a run stops
 
--- its trace has come to an end
+-- the stop of a trace that has come to an end so
 abbrev pub at_end : End → Stop
 at_end irreducible = stop.Irreducible
 at_end budget_done = stop.Budget

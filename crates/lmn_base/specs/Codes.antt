@@ -104,6 +104,6 @@ words_of_number n = words_or_none (code_of n)
 abbrev pub CodesAreNumbered : Type 0
 CodesAreNumbered = (code : RefusalCode) → code_of (code_number code) ≡ Some code
 
--- and a number without a code is that of none
+-- and the code with a number has that number
 abbrev pub NumbersAreOfCodes : Type 0
 NumbersAreOfCodes = (number : ℕ) (code : RefusalCode) → code_of number ≡ Some code → number ≡ code_number code

@@ -2,7 +2,7 @@
 use Rattle.std.specs.Prelude.{ℕ, ◌≡◌, ◌≢◌, ◌<◌, ◌↔◌, Option, Some, IsSome}
 use Rattle.lmn_base.specs.declared.functor.Functor.{Functor}
 
--- Atoms by number. A port is the number of an atom and an index from 0.
+-- Atoms by number. A port is the number of an atom and an index from 0. Nothing here asks that there are finitely many.
 --   functor   the functor of an atom; none where the number names no atom
 --   partner   the port to which a port is joined
 --   home      the membrane in which an atom stands

@@ -78,7 +78,7 @@ pub enum RefusalCode {
     ProcessTooLarge = 50,
     /// A trace has more than 67,108,864 bytes.
     TraceTooLong = 60,
-    /// A line of a trace isn't a firing of the process before it.
+    /// A line of a trace isn't a firing of the process before it, or the first isn't the program's own process.
     NotAFiring = 61,
     /// A trace ends otherwise than its last process does.
     WrongEnd = 62,

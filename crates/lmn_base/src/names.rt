@@ -89,7 +89,7 @@ impl Names {
         }
     }
 
-    /// The number of names held, at least 4.
+    /// The number of names held, at least 4. It tells of any list that no name stands in it twice.
     pub fn len(&self) -> usize
         ensures len { result ≡ length self.now }
         ensures names { IsNames self.now }

@@ -54,6 +54,7 @@ empty_head r = record { code = 38; places = if number_of_items r.head == 0 then 
 
 -- ---- E36: a rule stands in the head, at the place of the inner rule
 
+-- a number that the table lacks has no place; in a well made plain there is none
 abbrev pub inner_rule : List RuleTree → Item → List Pos
 inner_rule table (Rule k) = option_to_list (option_map (λ r. r.pos) (slice_get table k))
 inner_rule table item = []
@@ -131,7 +132,7 @@ abbrev pub rule_use_up_to : ℕ → Pos → Item → List Pos
 rule_use_up_to n p (RuleContext u) = if (u.name == n) && not_after u.pos p then u.pos ∷ [] else []
 rule_use_up_to n p item = []
 
--- it isn't the first use: up to its place there is more than one
+-- it isn't the first use: up to its place there is more than one. Of two at one place, which no text has, both count.
 abbrev pub used_again : List Item → Item → List Pos
 used_again items (Context u) = if nat_lt 1 (length (flat_map (use_up_to u.name u.pos) items)) then u.pos ∷ [] else []
 used_again items (RuleContext u) = if nat_lt 1 (length (flat_map (rule_use_up_to u.name u.pos) items)) then u.pos ∷ [] else []

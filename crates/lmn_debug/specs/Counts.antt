@@ -31,7 +31,7 @@ pub data AreSo (Is : SolidAtom → Type 0) : List SolidAtom → ℕ → Type 0 w
 abbrev pub IsCount : List Name → Functor → Region → ℕ → Type 0
 IsCount names f S n = AreSo (HasFunctor names f) (atoms_of S) n
 
--- k, where it is at most `most`, and else `most`
+-- k, where it is at most `most`, and else `most`; contracts of private functions alone cite it
 pub record IsCapped (k most n : ℕ) : Type 0 where
   pub within : n ≤ most
   pub below : n ≤ k

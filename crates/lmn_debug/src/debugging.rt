@@ -36,7 +36,7 @@ pub enum DebugFault {
 
 /// Carries out orders over an engine that has made no commit, and writes the line of each. `plain` is that of the engine, `plans` has
 /// the plans of its rules, `choose` is its chooser's closure, and `size` its size: an order to go back begins anew with another engine
-/// of these.
+/// of these. `names` has those of the plain and those of the orders, so it may be the list that reading the script leaves.
 ///
 /// # Errors
 ///

@@ -117,6 +117,7 @@ impl<'p, S: LinkStore, F: Fn(u64, u64) -> u64> Session<'p, S, F> {
     }
 
     /// Writes the plain line of the process, with its line feed. `plain` is that of the engine. It takes no memory.
+    /// No engine is lent for it: a loan would get no clause of what the session is afterwards.
     ///
     /// # Errors
     ///

@@ -37,6 +37,8 @@ pub(crate) struct Entry {
 }
 
 /// What the tokens of a text mean, and the numbers of the names that abbreviations bring in.
+/// It is read first, in one pass, so the walk over the tree wants neither text nor names; a name that no plain has, as
+/// that of a rule, is held too.
 #[derive(Drop)]
 pub(crate) struct Glossary {
     /// What memory is taken from.

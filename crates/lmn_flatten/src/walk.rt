@@ -493,6 +493,7 @@ fn add_rule(
     let place = table.len();
     let number = narrow(place)?;
     let alloc = glossary.alloc;
+    // A row with nothing keeps its place, until the rules in it are read.
     table.push(RuleTree {
         head: Part::new(alloc).into_level(),
         guard: Rows::new(alloc),

@@ -11,7 +11,7 @@ use Rattle.lmn_flatten_plain.specs.Meanings.{word_at, place_at, name_at, label_a
 
 -- The words of the tokens and their places are given. A part of a tree is at a way from the top of the tree: the last step
 -- stands first, and 0, 1 and 2 are the parts of a node from left to right. What an abbreviation makes of an argument has
--- the place of the atom whose argument it is.
+-- the place of the atom whose argument it is, both occurrences of its link too; what `\` copies keeps its places.
 module _ (words : List Word) (places : List Pos) where
   -- the occurrence of a link at a place
   abbrev pub link_used : Link → Pos → Use

@@ -16,6 +16,7 @@ use std::alloc::Global;
 
 /// What the guard of a rule says of its contexts. The rule is refused by the first of the codes 41, 43 and 42 that applies to
 /// a condition, the conditions being taken from left to right, and then by 40 or 46.
+/// A context of the head counts in any form: one that stands bare there is refused before, as in two forms.
 pub fn analyse(alloc: Global, rule: &RuleTree, _names: &Names) -> Result<GuardPlan, TextFault>
     ensures { MatchResult result
         (λ plan. NoneApplies (guard_rows rule.now) × IsPlan rule.now plan)

@@ -32,7 +32,7 @@ impl<'a, R: Files> FileShelf<'a, R> {
     }
 }
 
-/// What an error of the system means to a shelf.
+/// What an error of the system means to a shelf. Only want of memory is told apart: a file that can't be read is a fault.
 fn fault_of(error: io::Error) -> FetchFault {
     if error.kind() == io::ErrorKind::OutOfMemory {
         FetchFault::NoMemory

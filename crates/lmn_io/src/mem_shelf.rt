@@ -52,7 +52,8 @@ fn copy_of(alloc: Global, bytes: &Rows<u8>) -> Result<Rows<u8>, AllocError>
 }
 
 impl MemShelf {
-    /// The texts beside their names; where a name stands twice, its first place counts.
+    /// The texts beside their names; where a name stands twice, its first place counts, so nothing is asked of the names.
+    /// It takes no memory: the shelf keeps what it is given.
     pub fn new(
         _alloc: Global,
         names: Rows<Rows<u8>>,

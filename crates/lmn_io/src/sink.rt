@@ -16,7 +16,7 @@ pub trait Sink {
     /// How many puts failed, and how many were asked for since the last of them. Each put counts.
     ghost faults: { Self → Faults };
 
-    /// Takes a piece.
+    /// Takes a piece. One that is taken whole leaves the number of failed puts, so a call can say that none failed.
     ///
     /// # Errors
     ///

@@ -202,7 +202,8 @@ fn looks_in_vain<S: LinkStore>(
 /// Whether the code ahead looks for an atom in a membrane that is set and holds none with the functor: then it fails, whatever
 /// is chosen before.
 /// It is asked once for each choice, behind the first candidate that failed, so a search that succeeds at its first
-/// candidates pays nothing. Too few atoms of a functor that is there aren't seen.
+/// candidates pays nothing. Too few atoms of a functor that is there aren't seen: of the rule's membrane these are counted
+/// before the search (`may_hold_all`).
 fn is_hopeless<S: LinkStore>(
     store: &S,
     code: &Instrs<'_>,

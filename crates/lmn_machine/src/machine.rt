@@ -73,7 +73,8 @@ impl<S: LinkStore> Machine<S> {
     /// Looks for the first success of the head of a code in a membrane, and counts one step. True says that the registers hold
     /// it, and false that there is none. It takes no memory, and the store is left as it was.
     /// The store is changed and put back: the walk through a part sets marks, which each ISGROUND takes back, so
-    /// every way out leaves the store by one clause of one function.
+    /// every way out leaves the store by one clause of one function. What is said of the registers `prepare`, `commit` and
+    /// `cost` ask.
     pub fn find<L: Ledger>(
         &mut self,
         code: &CodeView<'_>,

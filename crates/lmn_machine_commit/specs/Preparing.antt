@@ -94,6 +94,8 @@ abbrev pub needed : Registers → (ℕ → List ℕ) → List Instr → ℕ → 
 needed r rules [] x = 0
 needed r rules (i ∷ is) x = needed_by r rules i x + needed r rules is x
 
+-- ---- cited by contracts of private functions alone
+
 -- the register of the membrane to which an instruction adds rules, if it adds some
 abbrev pub AddsSo : Instr → Option ℕ → Type 0
 AddsSo (LoadRule m k) o = o ≡ Some m
@@ -109,6 +111,8 @@ IsCounted {A} {M} atom membrane s g code register count =
 abbrev pub IsCountedOn : Instr → (register count next next_count : ℕ) → Type 0
 IsCountedOn (NewMem m n) register count next next_count = (next ≡ m) × (next_count ≡ 0)
 IsCountedOn _ register count next next_count = (next ≡ register) × (next_count ≡ count)
+
+-- ---- what a match must hold, and what is prepared
 
 -- A part can be copied: it is entered at a port, each of its other ports is joined, and its root leads out of it.
 pub record CanBeCopied (s : Heap) (root : ℕ × ℕ) : Type 0 where

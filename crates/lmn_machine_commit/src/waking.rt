@@ -183,7 +183,8 @@ fn is_only<S: LinkStore>(store: &S, membrane: S::Mem) -> bool
 /// it takes away and of those that are joined to them, and each membrane round one of these. What doesn't stand in the root at any
 /// depth is awake. So nothing else can sleep where the root stands alone.
 /// It is called before the code runs, since the atoms that are taken away lead to the homes that are to wake; and it
-/// wakes the membrane of the rule by name, since what is told of a match doesn't say that a head isn't empty.
+/// wakes the membrane of the rule by name, since what is told of a match doesn't say that a head isn't empty. The homes of
+/// the head's own atoms wake too, so where an item of the head is written isn't asked.
 pub(crate) fn wake<S: LinkStore>(
     store: &mut S,
     code: &Body<'_>,

@@ -2,7 +2,8 @@ ghost use Rattle.std.specs.Prelude.{◌≡◌, ◌<◌};
 ghost use Rattle.lmn_order.specs.Answers.{AnswersBelow};
 
 /// A closure that is asked for a number below its second argument: which of `m` membranes, by their numbers in
-/// preorder, is asked first after `t` commits. That it answers so is a condition of each call that takes a chooser.
+/// preorder, is asked first after `t` commits. That it answers so is a condition of each call that takes a chooser, since a
+/// field can't keep it.
 #[derive(Drop)]
 pub struct Chooser<F> {
     f: F,

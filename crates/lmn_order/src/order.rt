@@ -13,7 +13,7 @@ pub enum Order {
 }
 
 impl Order {
-    /// Which of `m` membranes, at least 1, is asked first after `t` commits: below `m`.
+    /// Which of `m` membranes, at least 1, is asked first after `t` commits: below `m`. One closure serves all orders.
     pub fn choose(self, t: u64, m: u64) -> u64
         requires { 0 < m }
         ensures chosen { result ≡ chosen self t m }

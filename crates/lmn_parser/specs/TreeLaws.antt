@@ -26,7 +26,8 @@ DerivedIsTree = (tokens : List Token) → Derives program (kinds_of tokens) → 
 abbrev pub TreesFit : Type 0
 TreesFit = (tokens : List Token) (tree : Clauses) → IsProgram tokens tree → IsWithin (kinds_of tokens) → FitsClauses tree
 
--- nowhere more brackets are open than may be
+-- Nowhere more brackets are open than may be. It is said of the tokens: parentheses of a guard leave no node, so a tree doesn't
+-- tell how deep it was written.
 abbrev pub Shallow : List Kind → Type 0
 Shallow kinds = (front rest : List Kind) → kinds ≡ front ++ rest → ¬ (Open (most_brackets + 1) front)
 

@@ -20,7 +20,8 @@ use std::alloc::Global;
 const UNEXPECTED: u8 = RefusalCode::UnexpectedToken as u8;
 
 /// The tree of the tokens, the last of which is `End`. They are refused at the first token with which they
-/// begin no program, by E10, or that passes a limit, by E11 or E12; the place is that of the token.
+/// begin no program, by E10, or that passes a limit, by E11 or E12; the place is that of the token. What stands behind an
+/// `End` begins no program.
 /// `NoMemory` says nothing of them.
 pub fn parse(alloc: Global, tokens: &Tokens) -> Result<Tree, TextFault>
     requires { EndsWithEnd tokens.now }

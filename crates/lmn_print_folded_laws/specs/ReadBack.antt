@@ -38,7 +38,7 @@ FoldedSolidLinesAreRead = (names : List Name) (given : Plain) (s : Solid) (line 
 
 -- P is the process of a solid, it is closed, and this is the folded line of that solid. The line reads, where no limit is asked, as a
 -- text with this plain, by a list of names, whose process is P up to congruence: in the line the atoms of a membrane may stand in
--- another order, and links have other numbers.
+-- another order, and links have other numbers. Without the solid the line of each process that is congruent would be one of P.
 pub record IsFoldedLineOf (names : List Name) (P : Process) (line : List ℕ) : Type 0 where
   pub solid : Region
   pub of : P ≡ region_process solid

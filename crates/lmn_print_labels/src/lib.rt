@@ -1,4 +1,7 @@
 //! Adds names and numbers to a line.
+//!
+//! The text of a name is defined in `lmn_lexer` (`NameText`), since it says how a name is spelled. A label has two texts, both
+//! of it: one in the trees of the calculus, and one of a label that has the number of its name.
 #![tactic(auto)]
 
 ghost use Rattle.std.specs.Prelude.{◌≡◌};

@@ -53,6 +53,7 @@ pub struct Engine<'p, S: LinkStore, F> {
 impl<'p, S: LinkStore + Drop, F: Fn(u64, u64) -> u64 + Drop> Engine<'p, S, F> {
     /// Loads the process of an accepted plain into a new store, where at most `size` items are allowed. `plans` has the plan of
     /// each rule, by its number. The chooser says which membrane is asked first in each turn. Every membrane is awake.
+    /// It takes no names: what is said of them holds for each list that has those of the plain.
     ///
     /// # Errors
     ///

@@ -1,4 +1,4 @@
-//! All membranes of a store are woken.
+//! All membranes of a store are woken: of one that is loaded, so that no call that loads has to say it.
 ghost use Rattle.std.specs.Prelude.{◌≡◌};
 ghost use Rattle.lmn_store_heap.specs.Sound.{Valid};
 ghost use Rattle.lmn_schedule_sleep.specs.Quiet.{SameButMarks};

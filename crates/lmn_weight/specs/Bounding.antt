@@ -48,6 +48,6 @@ WeightsBound = (names : List Name) (plain : Plain) (plans : List GuardPlan) (w :
 abbrev pub TopsAreSmall : Type 0
 TopsAreSmall = (text : List ℕ) (names : List Name) (plain : Plain) → ReadsAs text names plain → weighed_items plain.top ≤ length text + 1
 
--- and of the head and the body of an accepted rule at most 1,024 do
+-- and of the head and the body of an accepted rule at most 1,024 do; that a head has fewer isn't wanted
 abbrev pub RulesAreSmall : Type 0
 RulesAreSmall = (table : List RuleTree) (r : RuleTree) → IsAcceptedRule table r → (weighed_items r.head ≤ most_body_items) × (weighed_items r.body ≤ most_body_items)

@@ -148,7 +148,7 @@ pub record AreSmall (w : Weights) : Type 0 where
   pub int : w.int ≤ 1000000
   pub membrane : w.membrane ≤ 1000000
 
--- the top has at most 2^24 items, and the head and the body of each rule at most 1,024
+-- the top has at most 2^24 items, and the head and the body of each rule at most 1,024; that a head has fewer isn't wanted
 pub record IsOfSize (p : Plain) : Type 0 where
   pub top : weighed_items p.top ≤ 2 ^ 24
   pub rules : (k : ℕ) (r : RuleTree) → slice_get p.rules k ≡ Some r → (weighed_items r.head ≤ most_body_items) × (weighed_items r.body ≤ most_body_items)
