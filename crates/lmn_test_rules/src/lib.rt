@@ -1,4 +1,4 @@
-//! Tests alone: levels and rules that are made by hand, words, orders, listings and failing devices: calls that no command line reaches.
+//! Tests alone: plans of rules, words, orders, listings and failing devices: calls that no command line reaches.
 #![tactic(auto)]
 
 #[cfg(test)]
@@ -8,10 +8,6 @@ mod codes_read;
 #[cfg(test)]
 mod failing;
 #[cfg(test)]
-mod numbered;
-#[cfg(test)]
 mod plans;
-#[cfg(test)]
-mod rule_forms;
 #[cfg(test)]
 mod words;

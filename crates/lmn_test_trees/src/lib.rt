@@ -1,10 +1,6 @@
-//! Tests alone: tokens, trees and plains of texts, and what is let go of any depth.
+//! Tests alone: tokens and trees of texts.
 #![tactic(auto)]
 
-#[cfg(test)]
-mod pieces;
-#[cfg(test)]
-mod plains;
 #[cfg(test)]
 mod tokens;
 #[cfg(test)]

@@ -1,5 +1,5 @@
 use Rattle.std.proofs.Common.{◌<◌, take, All}
-use Rattle.lmn_test_rules.proofs.numbered.are_below_in_links.Given as goal
+use Rattle.lmn_test_levels.proofs.numbered.are_below_in_links.Given as goal
 use Rattle.lmn_base.specs.Levels.{link_numbers}
 
 abbrev pub invariant-loop-link : goal.invariant-loop-link

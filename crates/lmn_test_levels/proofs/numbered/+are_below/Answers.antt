@@ -1,5 +1,5 @@
-use Rattle.lmn_test_rules.proofs.LinkBounds.{leaf_bound, membrane_bound, level_bound}
-use Rattle.lmn_test_rules.proofs.numbered.+are_below.Goals as goal
+use Rattle.lmn_test_levels.proofs.LinkBounds.{leaf_bound, membrane_bound, level_bound}
+use Rattle.lmn_test_levels.proofs.numbered.+are_below.Goals as goal
 
 pub loop-leaf-preserved : goal.loop-leaf-preserved
 loop-leaf-preserved t c =
