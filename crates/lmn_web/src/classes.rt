@@ -82,6 +82,25 @@ fn find(cells: &Cells, m: Cell, high: u64, arity: u64) -> Place
     }
 }
 
+// The first atom of a class of a membrane that files, without the place at which it hangs.
+fn leader_of(cells: &Cells, m: Cell, high: u64, arity: u64) -> Option<Cell>
+    requires there { IsSome (cells_by cells.now (cell_id m)) }
+    requires tree { (t : ClassTree) × IsTree (cells_by cells.now) (link_in (cells_by cells.now) (cell_id m) LEADERS) t × IsSorted (cells_by cells.now) 0 t }
+    ensures { (t : ClassTree) → IsTree (cells_by cells.now) (link_in (cells_by cells.now) (cell_id m) LEADERS) t → option_map cell_id result ≡ top (place_in (cells_by cells.now) (high, arity) (cell_id m) t).tree }
+{
+    let mut rest = high;
+    let mut at = cells.link(m, LEADERS);
+    while let Some(c) = at {
+        if has_class(cells, c, high, arity) {
+            return Some(c);
+        }
+        let link = side(rest);
+        rest /= 2;
+        at = cells.link(c, link);
+    }
+    None
+}
+
 // What hangs below a first atom, on the odd side only where nothing does on the even one.
 fn below(cells: &Cells, c: Cell) -> Place
     requires there { IsSome (cells_by cells.now (cell_id c)) }
@@ -147,7 +166,7 @@ pub fn first_in(cells: &Cells, m: Cell, high: u64, arity: u64) -> Option<Cell>
     ensures { let f = cells_by cells.now in let own = of_class f (high, arity) (list_in f (cell_id m) Atom) in from (option_map cell_id result) own ≡ own }
 {
     if is_filed(cells, m, CellKind::Atom) {
-        find(cells, m, high, arity).leader
+        leader_of(cells, m, high, arity)
     } else {
         seek(cells, m, cells.link(m, ATOMS), high, arity)
     }

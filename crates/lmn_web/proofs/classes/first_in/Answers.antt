@@ -13,15 +13,15 @@ use Rattle.lmn_web.proofs.ListedLemmas.{begins_list, from_in, if_some}
 use Rattle.lmn_web.proofs.ClassReads.{class_begins}
 use Rattle.lmn_web.proofs.classes.first_in.Goals as goal
 
-pub find-requires-clause-tree : goal.find-requires-clause-tree
-find-requires-clause-tree c =
+pub leader_of-requires-clause-tree : goal.leader_of-requires-clause-tree
+leader_of-requires-clause-tree c =
     let o = c.requires.classes (sym c.is_filed.ensures ∙ c.if-is_filed.true) in (o.0, o.1.tree, o.1.sorted)
 
 pub returns-then-is_filed : goal.returns-then-is_filed
 returns-then-is_filed c =
     let f = cells_by c.args.cells.now in let m = cell_id c.args.m in let p : ℕ × ℕ = (c.args.high, c.args.arity) in
     let o = c.requires.classes (sym c.is_filed.ensures ∙ c.if-is_filed.true) in
-    class_begins f m (list_in f m Atom) o.0 o.1 (λ i. (each_in _ _ m c.requires.line.cells i).1 refl) p (option_map cell_id c.find.result.leader) (sym (c.find.ensures o.0 o.1.tree).2)
+    class_begins f m (list_in f m Atom) o.0 o.1 (λ i. (each_in _ _ m c.requires.line.cells i).1 refl) p (option_map cell_id c.leader_of.result) (sym (c.leader_of.ensures o.0 o.1.tree))
 
 pub seek-requires-clause-start : goal.seek-requires-clause-start
 seek-requires-clause-start c =
