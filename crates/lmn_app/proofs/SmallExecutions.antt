@@ -55,8 +55,8 @@ use Rattle.lmn_schedule_strategy.specs.Turns.{HoldsRestsOf}
 use Rattle.lmn_schedule_strategy.specs.declared.turning.Turn.TheVariants as turn
 use Rattle.lmn_verify_coded.specs.Runs.{CodedTurn, begun, turned}
 use Rattle.lmn_verify_coded.proofs.Stops.{irreducible_at_once, irreducible_is_executed}
-use Rattle.lmn_verify_code.specs.declared.words.Operand.{Operand}
-use Rattle.lmn_verify_code.specs.declared.words.Operand.TheVariants as operand
+use Rattle.lmn_instr_code.specs.declared.words.Operand.{Operand}
+use Rattle.lmn_instr_code.specs.declared.words.Operand.TheVariants as operand
 use Rattle.lmn_verify_listing.specs.Lines.{FitsInstr, IsWrongLine, rule}
 use Rattle.lmn_verify_listing.specs.ListingLaws.{ListedLinesStand}
 use Rattle.lmn_verify_listing.specs.Listings.{AreListed, HasPlainLine, IsBlock, IsRefusedListing, not_a_listing, not_verified}

@@ -7,7 +7,10 @@ mod instr;
 mod labels;
 pub mod laws;
 mod listing;
+mod opcode;
 mod words;
 
 pub use instr::{AtomPort, Code, Instr, NewPort};
 pub use listing::{add_line, list};
+pub use opcode::{Form, Kind, Opcode};
+pub use words::{Operand, Operands, operands_of};

@@ -9,7 +9,7 @@ ghost use Rattle.lmn_instr_code.specs.declared.words.Operand.TheVariants as oper
 
 use crate::instr::{AtomPort, Code, Instr};
 use crate::labels::add_label;
-use crate::words::{Operand, Operands, name_of, operands_of};
+use crate::words::{Operand, Operands, operands_of};
 use lmn_base::{Functor, Names};
 use lmn_io::{Failed, LineBuffer, Sink};
 use lmn_print_labels::{add_integer, add_number};
@@ -56,14 +56,15 @@ pub fn add_line<O: Sink>(buffer: &mut LineBuffer, out: &mut O, names: &Names, in
     requires { HasInstr names.now instr.now }
     ensures { Adds (line names.now instr.now) (output buffer.old (O.told out.old) (O.faults out.old)) (output buffer.new (O.told out.new) (O.faults out.new)) }
 {
-    buffer.add(out, b"  ");
-    buffer.add(out, name_of(instr));
     let Operands {
+        opcode,
         first,
         second,
         third,
         parts,
     } = operands_of(instr);
+    buffer.add(out, b"  ");
+    buffer.add(out, opcode.name());
     add_some_operand(buffer, out, names, first);
     add_some_operand(buffer, out, names, second);
     add_some_operand(buffer, out, names, third);

@@ -1,12 +1,14 @@
+//! The words of an instruction: its opcode and its operands.
 ghost use Rattle.std.specs.Prelude.{◌≡◌, [], ◌∷◌};
-ghost use Rattle.lmn_instr_code.specs.Words.{mnemonic, port_operand, operands, all_operands};
+ghost use Rattle.lmn_instr_code.specs.Words.{opcode_of, port_operand, operands, all_operands};
 
 use crate::instr::{AtomPort, Instr, NewPort};
+use crate::opcode::Opcode;
 use lmn_base::Functor;
 
 /// An operand of an instruction.
-#[derive(Clone, Copy)]
-pub(crate) enum Operand {
+#[derive(Clone, Copy, Debug, PartialEq, Eq)]
+pub enum Operand {
     /// The register of an atom.
     Atom(u16),
     /// The register of a membrane.
@@ -27,8 +29,10 @@ pub(crate) enum Operand {
     Constant(i64),
 }
 
-/// The operands of an instruction: at most three, and then any number of typed contexts.
-pub(crate) struct Operands<'a> {
+/// The words of an instruction: its opcode, at most three operands, and then any number of typed contexts.
+#[derive(Clone, Copy)]
+pub struct Operands<'a> {
+    pub opcode: Opcode,
     pub first: Option<Operand>,
     pub second: Option<Operand>,
     pub third: Option<Operand>,
@@ -37,10 +41,12 @@ pub(crate) struct Operands<'a> {
 }
 
 /// No operand.
-fn none<'a>() -> Operands<'a>
-    ensures { all_operands result ≡ [] }
+fn none<'a>(opcode: Opcode) -> Operands<'a>
+    ensures opcode { result.opcode ≡ opcode }
+    ensures operands { all_operands result ≡ [] }
 {
     Operands {
+        opcode,
         first: None,
         second: None,
         third: None,
@@ -49,10 +55,12 @@ fn none<'a>() -> Operands<'a>
 }
 
 /// One operand.
-fn one<'a>(first: Operand) -> Operands<'a>
-    ensures { all_operands result ≡ first ∷ [] }
+fn one<'a>(opcode: Opcode, first: Operand) -> Operands<'a>
+    ensures opcode { result.opcode ≡ opcode }
+    ensures operands { all_operands result ≡ first ∷ [] }
 {
     Operands {
+        opcode,
         first: Some(first),
         second: None,
         third: None,
@@ -61,10 +69,12 @@ fn one<'a>(first: Operand) -> Operands<'a>
 }
 
 /// Two operands.
-fn two<'a>(first: Operand, second: Operand) -> Operands<'a>
-    ensures { all_operands result ≡ first ∷ (second ∷ []) }
+fn two<'a>(opcode: Opcode, first: Operand, second: Operand) -> Operands<'a>
+    ensures opcode { result.opcode ≡ opcode }
+    ensures operands { all_operands result ≡ first ∷ (second ∷ []) }
 {
     Operands {
+        opcode,
         first: Some(first),
         second: Some(second),
         third: None,
@@ -73,10 +83,12 @@ fn two<'a>(first: Operand, second: Operand) -> Operands<'a>
 }
 
 /// Three operands.
-fn three<'a>(first: Operand, second: Operand, third: Operand) -> Operands<'a>
-    ensures { all_operands result ≡ first ∷ (second ∷ (third ∷ [])) }
+fn three<'a>(opcode: Opcode, first: Operand, second: Operand, third: Operand) -> Operands<'a>
+    ensures opcode { result.opcode ≡ opcode }
+    ensures operands { all_operands result ≡ first ∷ (second ∷ (third ∷ [])) }
 {
     Operands {
+        opcode,
         first: Some(first),
         second: Some(second),
         third: Some(third),
@@ -94,9 +106,10 @@ fn new_port(port: NewPort) -> Operand
     }
 }
 
-/// The operands of an instruction, in their order.
-pub(crate) fn operands_of(instr: &Instr) -> Operands
-    ensures { all_operands result ≡ operands instr.now }
+/// The opcode of an instruction, and its operands in their order.
+pub fn operands_of(instr: &Instr) -> Operands
+    ensures opcode { result.opcode ≡ opcode_of instr.now }
+    ensures operands { all_operands result ≡ operands instr.now }
 {
     match instr {
         Instr::FindAtom {
@@ -104,25 +117,49 @@ pub(crate) fn operands_of(instr: &Instr) -> Operands
             membrane,
             functor,
         } => three(
+            Opcode::FindAtom,
             Operand::Atom(*atom),
             Operand::Membrane(*membrane),
             Operand::Functor(*functor),
         ),
         Instr::Deref { atom, from, port } => three(
+            Opcode::Deref,
             Operand::Atom(*atom),
             Operand::Port(*from),
             Operand::Number(*port as u64),
         ),
-        Instr::Func { atom, functor } => two(Operand::Atom(*atom), Operand::Functor(*functor)),
-        Instr::InMem { atom, membrane } => two(Operand::Atom(*atom), Operand::Membrane(*membrane)),
-        Instr::NeqAtom { atom, other } => two(Operand::Atom(*atom), Operand::Atom(*other)),
-        Instr::Joined { port, other } => two(Operand::Port(*port), Operand::Port(*other)),
-        Instr::NotIn { port, membrane } => two(Operand::Port(*port), Operand::Membrane(*membrane)),
+        Instr::Func { atom, functor } => two(
+            Opcode::Func,
+            Operand::Atom(*atom),
+            Operand::Functor(*functor),
+        ),
+        Instr::InMem { atom, membrane } => two(
+            Opcode::InMem,
+            Operand::Atom(*atom),
+            Operand::Membrane(*membrane),
+        ),
+        Instr::NeqAtom { atom, other } => two(
+            Opcode::NeqAtom,
+            Operand::Atom(*atom),
+            Operand::Atom(*other),
+        ),
+        Instr::Joined { port, other } => two(
+            Opcode::Joined,
+            Operand::Port(*port),
+            Operand::Port(*other),
+        ),
+        Instr::NotIn { port, membrane } => two(
+            Opcode::NotIn,
+            Operand::Port(*port),
+            Operand::Membrane(*membrane),
+        ),
         Instr::AnyMem { membrane, inside } => two(
+            Opcode::AnyMem,
             Operand::Membrane(*membrane),
             Operand::Membrane(*inside),
         ),
         Instr::NeqMem { membrane, other } => two(
+            Opcode::NeqMem,
             Operand::Membrane(*membrane),
             Operand::Membrane(*other),
         ),
@@ -131,6 +168,7 @@ pub(crate) fn operands_of(instr: &Instr) -> Operands
             port,
             membrane,
         } => three(
+            Opcode::IsInt,
             Operand::Part(*part),
             Operand::Port(*port),
             Operand::Membrane(*membrane),
@@ -140,6 +178,7 @@ pub(crate) fn operands_of(instr: &Instr) -> Operands
             port,
             membrane,
         } => three(
+            Opcode::IsUnary,
             Operand::Part(*part),
             Operand::Port(*port),
             Operand::Membrane(*membrane),
@@ -149,6 +188,7 @@ pub(crate) fn operands_of(instr: &Instr) -> Operands
             port,
             membrane,
         } => three(
+            Opcode::IsGround,
             Operand::Part(*part),
             Operand::Port(*port),
             Operand::Membrane(*membrane),
@@ -158,26 +198,42 @@ pub(crate) fn operands_of(instr: &Instr) -> Operands
             count,
             parts,
         } => Operands {
+            opcode: Opcode::NAtoms,
             first: Some(Operand::Membrane(*membrane)),
             second: Some(Operand::Number(*count)),
             third: None,
             parts: parts.as_slice(),
         },
         Instr::NMems { membrane, count } => two(
+            Opcode::NMems,
             Operand::Membrane(*membrane),
             Operand::Number(*count),
         ),
-        Instr::NoRules { membrane } => one(Operand::Membrane(*membrane)),
+        Instr::NoRules { membrane } => one(Opcode::NoRules, Operand::Membrane(*membrane)),
         Instr::IsClosed { membrane, parts } => Operands {
+            opcode: Opcode::IsClosed,
             first: Some(Operand::Membrane(*membrane)),
             second: None,
             third: None,
             parts: parts.as_slice(),
         },
-        Instr::EqGround { part, other } => two(Operand::Part(*part), Operand::Part(*other)),
-        Instr::NeqGround { part, other } => two(Operand::Part(*part), Operand::Part(*other)),
-        Instr::GetInt { integer, part } => two(Operand::Integer(*integer), Operand::Part(*part)),
+        Instr::EqGround { part, other } => two(
+            Opcode::EqGround,
+            Operand::Part(*part),
+            Operand::Part(*other),
+        ),
+        Instr::NeqGround { part, other } => two(
+            Opcode::NeqGround,
+            Operand::Part(*part),
+            Operand::Part(*other),
+        ),
+        Instr::GetInt { integer, part } => two(
+            Opcode::GetInt,
+            Operand::Integer(*integer),
+            Operand::Part(*part),
+        ),
         Instr::Const { integer, value } => two(
+            Opcode::Const,
             Operand::Integer(*integer),
             Operand::Constant(*value),
         ),
@@ -186,6 +242,7 @@ pub(crate) fn operands_of(instr: &Instr) -> Operands
             left,
             right,
         } => three(
+            Opcode::Add,
             Operand::Integer(*integer),
             Operand::Integer(*left),
             Operand::Integer(*right),
@@ -195,6 +252,7 @@ pub(crate) fn operands_of(instr: &Instr) -> Operands
             left,
             right,
         } => three(
+            Opcode::Sub,
             Operand::Integer(*integer),
             Operand::Integer(*left),
             Operand::Integer(*right),
@@ -204,6 +262,7 @@ pub(crate) fn operands_of(instr: &Instr) -> Operands
             left,
             right,
         } => three(
+            Opcode::Mul,
             Operand::Integer(*integer),
             Operand::Integer(*left),
             Operand::Integer(*right),
@@ -213,6 +272,7 @@ pub(crate) fn operands_of(instr: &Instr) -> Operands
             left,
             right,
         } => three(
+            Opcode::Div,
             Operand::Integer(*integer),
             Operand::Integer(*left),
             Operand::Integer(*right),
@@ -222,25 +282,51 @@ pub(crate) fn operands_of(instr: &Instr) -> Operands
             left,
             right,
         } => three(
+            Opcode::Mod,
             Operand::Integer(*integer),
             Operand::Integer(*left),
             Operand::Integer(*right),
         ),
-        Instr::Lt { left, right } => two(Operand::Integer(*left), Operand::Integer(*right)),
-        Instr::Le { left, right } => two(Operand::Integer(*left), Operand::Integer(*right)),
-        Instr::Gt { left, right } => two(Operand::Integer(*left), Operand::Integer(*right)),
-        Instr::Ge { left, right } => two(Operand::Integer(*left), Operand::Integer(*right)),
-        Instr::Eq { left, right } => two(Operand::Integer(*left), Operand::Integer(*right)),
-        Instr::Ne { left, right } => two(Operand::Integer(*left), Operand::Integer(*right)),
-        Instr::Commit => none(),
-        Instr::RemoveAtom { atom } => one(Operand::Atom(*atom)),
-        Instr::RemovePart { part } => one(Operand::Part(*part)),
-        Instr::RemoveMem { membrane } => one(Operand::Membrane(*membrane)),
+        Instr::Lt { left, right } => two(
+            Opcode::Lt,
+            Operand::Integer(*left),
+            Operand::Integer(*right),
+        ),
+        Instr::Le { left, right } => two(
+            Opcode::Le,
+            Operand::Integer(*left),
+            Operand::Integer(*right),
+        ),
+        Instr::Gt { left, right } => two(
+            Opcode::Gt,
+            Operand::Integer(*left),
+            Operand::Integer(*right),
+        ),
+        Instr::Ge { left, right } => two(
+            Opcode::Ge,
+            Operand::Integer(*left),
+            Operand::Integer(*right),
+        ),
+        Instr::Eq { left, right } => two(
+            Opcode::Eq,
+            Operand::Integer(*left),
+            Operand::Integer(*right),
+        ),
+        Instr::Ne { left, right } => two(
+            Opcode::Ne,
+            Operand::Integer(*left),
+            Operand::Integer(*right),
+        ),
+        Instr::Commit => none(Opcode::Commit),
+        Instr::RemoveAtom { atom } => one(Opcode::RemoveAtom, Operand::Atom(*atom)),
+        Instr::RemovePart { part } => one(Opcode::RemovePart, Operand::Part(*part)),
+        Instr::RemoveMem { membrane } => one(Opcode::RemoveMem, Operand::Membrane(*membrane)),
         Instr::NewAtom {
             atom,
             membrane,
             functor,
         } => three(
+            Opcode::NewAtom,
             Operand::Atom(*atom),
             Operand::Membrane(*membrane),
             Operand::Functor(*functor),
@@ -250,11 +336,13 @@ pub(crate) fn operands_of(instr: &Instr) -> Operands
             membrane,
             integer,
         } => three(
+            Opcode::NewInt,
             Operand::Atom(*atom),
             Operand::Membrane(*membrane),
             Operand::Integer(*integer),
         ),
         Instr::NewMem { membrane, inside } => two(
+            Opcode::NewMem,
             Operand::Membrane(*membrane),
             Operand::Membrane(*inside),
         ),
@@ -263,77 +351,39 @@ pub(crate) fn operands_of(instr: &Instr) -> Operands
             membrane,
             part,
         } => three(
+            Opcode::CopyGround,
             Operand::Copy(*copy),
             Operand::Membrane(*membrane),
             Operand::Part(*part),
         ),
-        Instr::MoveCells { from, to } => two(Operand::Membrane(*from), Operand::Membrane(*to)),
-        Instr::CopyCells { from, to } => two(Operand::Membrane(*from), Operand::Membrane(*to)),
+        Instr::MoveCells { from, to } => two(
+            Opcode::MoveCells,
+            Operand::Membrane(*from),
+            Operand::Membrane(*to),
+        ),
+        Instr::CopyCells { from, to } => two(
+            Opcode::CopyCells,
+            Operand::Membrane(*from),
+            Operand::Membrane(*to),
+        ),
         Instr::LoadRule { membrane, rule } => two(
+            Opcode::LoadRule,
             Operand::Membrane(*membrane),
             Operand::Number(*rule as u64),
         ),
-        Instr::CopyRules { from, to } => two(Operand::Membrane(*from), Operand::Membrane(*to)),
-        Instr::DropCells { membrane } => one(Operand::Membrane(*membrane)),
-        Instr::NewLink { port, other } => two(new_port(*port), new_port(*other)),
-        Instr::Relink { port, to } => two(new_port(*port), Operand::Port(*to)),
-        Instr::Unify { port, other } => two(Operand::Port(*port), Operand::Port(*other)),
-        Instr::Proceed => none(),
-    }
-}
-
-/// The name of an instruction.
-pub(crate) fn name_of(instr: &Instr) -> &[u8]
-    ensures { result.now ≡ mnemonic instr.now }
-{
-    match instr {
-        Instr::FindAtom { .. } => b"FINDATOM",
-        Instr::Deref { .. } => b"DEREF",
-        Instr::Func { .. } => b"FUNC",
-        Instr::InMem { .. } => b"INMEM",
-        Instr::NeqAtom { .. } => b"NEQATOM",
-        Instr::Joined { .. } => b"JOINED",
-        Instr::NotIn { .. } => b"NOTIN",
-        Instr::AnyMem { .. } => b"ANYMEM",
-        Instr::NeqMem { .. } => b"NEQMEM",
-        Instr::IsInt { .. } => b"ISINT",
-        Instr::IsUnary { .. } => b"ISUNARY",
-        Instr::IsGround { .. } => b"ISGROUND",
-        Instr::NAtoms { .. } => b"NATOMS",
-        Instr::NMems { .. } => b"NMEMS",
-        Instr::NoRules { .. } => b"NORULES",
-        Instr::IsClosed { .. } => b"ISCLOSED",
-        Instr::EqGround { .. } => b"EQGROUND",
-        Instr::NeqGround { .. } => b"NEQGROUND",
-        Instr::GetInt { .. } => b"GETINT",
-        Instr::Const { .. } => b"CONST",
-        Instr::Add { .. } => b"ADD",
-        Instr::Sub { .. } => b"SUB",
-        Instr::Mul { .. } => b"MUL",
-        Instr::Div { .. } => b"DIV",
-        Instr::Mod { .. } => b"MOD",
-        Instr::Lt { .. } => b"LT",
-        Instr::Le { .. } => b"LE",
-        Instr::Gt { .. } => b"GT",
-        Instr::Ge { .. } => b"GE",
-        Instr::Eq { .. } => b"EQ",
-        Instr::Ne { .. } => b"NE",
-        Instr::Commit => b"COMMIT",
-        Instr::RemoveAtom { .. } => b"REMOVEATOM",
-        Instr::RemovePart { .. } => b"REMOVEPART",
-        Instr::RemoveMem { .. } => b"REMOVEMEM",
-        Instr::NewAtom { .. } => b"NEWATOM",
-        Instr::NewInt { .. } => b"NEWINT",
-        Instr::NewMem { .. } => b"NEWMEM",
-        Instr::CopyGround { .. } => b"COPYGROUND",
-        Instr::MoveCells { .. } => b"MOVECELLS",
-        Instr::CopyCells { .. } => b"COPYCELLS",
-        Instr::LoadRule { .. } => b"LOADRULE",
-        Instr::CopyRules { .. } => b"COPYRULES",
-        Instr::DropCells { .. } => b"DROPCELLS",
-        Instr::NewLink { .. } => b"NEWLINK",
-        Instr::Relink { .. } => b"RELINK",
-        Instr::Unify { .. } => b"UNIFY",
-        Instr::Proceed => b"PROCEED",
+        Instr::CopyRules { from, to } => two(
+            Opcode::CopyRules,
+            Operand::Membrane(*from),
+            Operand::Membrane(*to),
+        ),
+        Instr::DropCells { membrane } => one(Opcode::DropCells, Operand::Membrane(*membrane)),
+        Instr::NewLink { port, other } => two(Opcode::NewLink, new_port(*port), new_port(*other)),
+        Instr::Relink { port, to } => two(Opcode::Relink, new_port(*port), Operand::Port(*to)),
+        Instr::Unify { port, other } => two(
+            Opcode::Unify,
+            Operand::Port(*port),
+            Operand::Port(*other),
+        ),
+        Instr::Proceed => none(Opcode::Proceed),
     }
 }

@@ -10,7 +10,7 @@ use Rattle.lmn_instr_code.specs.declared.instr.Code.{Code}
 use Rattle.lmn_instr_code.specs.declared.instr.Instr.{Instr}
 use Rattle.lmn_instr_code.specs.declared.instr.NewPort.{NewPort}
 use Rattle.lmn_instr_code.specs.declared.instr.NewPort.TheVariants as new
-use Rattle.lmn_verify_code.specs.declared.words.Operand.TheVariants as operand
+use Rattle.lmn_instr_code.specs.declared.words.Operand.TheVariants as operand
 use Rattle.lmn_verify_code.specs.Verified.{at_first, in_order, atoms_found, membranes_found, parts_found, arities, is_copy, places, has_port, named_ports, stand_once, ports_of_registers, ports_of, is_emptied, makes_and_ties, registers_held, held, takes_out, IsVerified}
 use Rattle.lmn_verify_code.specs.Passing.{head_passes, body_passes, ports_pass}
 

@@ -6,9 +6,9 @@ use Rattle.std.proofs.lemmas.List.{at_drop_more, drop_all}
 use Rattle.lmn_congruence_splice.specs.Classes.{rising}
 use Rattle.lmn_verify_code.specs.declared.found.RegisterCounts.{RegisterCounts}
 use Rattle.lmn_instr_code.specs.declared.instr.Instr.{Instr}
-use Rattle.lmn_verify_code.specs.declared.words.Operand.{Operand}
-use Rattle.lmn_verify_code.specs.declared.words.Operands.{Operands}
-use Rattle.lmn_verify_code.specs.Operands.{operands, all_operands}
+use Rattle.lmn_instr_code.specs.declared.words.Operand.{Operand}
+use Rattle.lmn_instr_code.specs.declared.words.Operands.{Operands}
+use Rattle.lmn_instr_code.specs.Words.{operands, all_operands}
 use Rattle.lmn_verify_code.specs.Verified.{is_next, is_set, uses_in_order, after_one, in_order, after, after_all, at_first, sets_register, finds, surveys, finds_first, stand_once, same_port, port_of_register, takes_out, removes}
 use Rattle.lmn_instr_code.specs.declared.instr.NewPort.{NewPort}
 use Rattle.lmn_instr_code.specs.declared.instr.NewPort.TheVariants as new

@@ -18,32 +18,16 @@ use Rattle.lmn_verify_code.specs.declared.found.RegisterCounts.{RegisterCounts}
 use Rattle.lmn_verify_code.specs.declared.found.FoundAtom.{FoundAtom}
 use Rattle.lmn_verify_code.specs.declared.found.FoundMembrane.{FoundMembrane}
 use Rattle.lmn_verify_code.specs.declared.found.FoundPart.{FoundPart}
-use Rattle.lmn_verify_code.specs.declared.words.Operand.{Operand}
-use Rattle.lmn_verify_code.specs.declared.words.Operand.TheVariants.{Atom, Membrane, Part, Integer, Copy, Port, Functor as Of, Number, Constant}
-use Rattle.lmn_verify_code.specs.Operands.{operands}
+use Rattle.lmn_instr_code.specs.declared.words.Operand.{Operand}
+use Rattle.lmn_instr_code.specs.declared.words.Operand.TheVariants.{Atom, Membrane, Part, Integer, Copy, Port, Functor as Of, Number, Constant}
+use Rattle.lmn_instr_code.specs.Opcodes.{form_of}
+use Rattle.lmn_instr_code.specs.Words.{operands, opcode_of}
 
 -- ---- registers
 
 -- the instruction sets a register, that of its first operand
 abbrev pub sets_register : Instr → Bool
-sets_register (FindAtom _ _ _) = true
-sets_register (Deref _ _ _) = true
-sets_register (AnyMem _ _) = true
-sets_register (IsInt _ _ _) = true
-sets_register (IsUnary _ _ _) = true
-sets_register (IsGround _ _ _) = true
-sets_register (GetInt _ _) = true
-sets_register (Const _ _) = true
-sets_register (Add _ _ _) = true
-sets_register (Sub _ _ _) = true
-sets_register (Mul _ _ _) = true
-sets_register (Div _ _ _) = true
-sets_register (Mod _ _ _) = true
-sets_register (NewAtom _ _ _) = true
-sets_register (NewInt _ _ _) = true
-sets_register (NewMem _ _) = true
-sets_register (CopyGround _ _ _) = true
-sets_register _ = false
+sets_register i = (form_of (opcode_of i)).sets
 
 -- the register is the next of its kind, and there is one: there are so many as the limits say
 abbrev pub is_next : RegisterCounts → Operand → Bool

@@ -2,24 +2,23 @@
 ghost use Rattle.lmn_base.specs.Limits.{most_head_items};
 ghost use Rattle.std.specs.Prelude.{◌≡◌, ◌<◌, ◌≤◌, ◌+◌, ◌^◌, ◌++◌, ◌&&◌, ◌==◌, not, map, length, take, drop, nat_lt, slice_index_or, [], ◌∷◌, true, false, if◌then◌else◌, Bool, count_by, filter_map, option_to_list, IfOk, IfSome, IfNone, Decides};
 ghost use Rattle.std.specs.List.{list_all, list_any, flat_map};
-ghost use Rattle.lmn_verify_code.specs.declared.words.Operand.TheVariants as ops;
+ghost use Rattle.lmn_instr_code.specs.declared.words.Operand.TheVariants as ops;
 ghost use Rattle.lmn_congruence_splice.specs.Classes.{rising};
 ghost use Rattle.lmn_instr_code.specs.declared.instr.NewPort.TheVariants as new;
 ghost use Rattle.lmn_store_heap.specs.Functors.{same_label, same_functor};
-ghost use Rattle.lmn_verify_code.specs.Operands.{operands};
+ghost use Rattle.lmn_instr_code.specs.Words.{operands};
 ghost use Rattle.lmn_verify_code.specs.Verified.{is_next, is_set, with_one, uses_in_order, after, in_order, after_all, at_first, sets_register, looks_at, is_looked_at, all_looked_at, finds, surveys, finds_first, is_int_kind, gets_integer, is_of_head, is_commit, is_proceed, is_head, is_neq_atom, is_neq_membrane, are_apart, are_apart_membranes, each_two, has_port, named_ports, places, same_port, port_of_register, ports_of_registers, stand_once, after_one, is_open, is_removed, makes, is_made, ties, ties_and_ends, makes_and_ties, names_parts, counts_atoms, counts_membranes, is_counted, finds_closed, is_closed, is_count_of, asks_closed, moves, copies_rest, drops_rest, drops, drops_and_ties, nothing_left, rest_moved, rest_dropped, is_emptied, atoms_found, membranes_found, parts_found, arity_made, arities, ports_of, is_copy, removes, takes_out, registers_held, held, IsVerified};
 ghost use Rattle.lmn_verify_code.specs.Passing.{head_passes, body_passes, ports_pass};
 
 use crate::found::{FoundAtom, FoundMembrane, FoundPart, RegisterCounts};
 use crate::tables::{add_all_places, arities, atoms_found, is_copy, membranes_found, parts_found};
-use crate::words::{Operand, Operands, operands_of, sets_register};
 use lmn_base::limits::{
     MOST_ATOM_REGISTERS, MOST_COPY_REGISTERS, MOST_HEAD_ITEMS, MOST_INTEGER_REGISTERS,
     MOST_MEMBRANE_REGISTERS, MOST_PART_REGISTERS,
 };
 use lmn_base::{CONNECTOR_NAME, Functor, Label, NoMemory, Rows};
 use lmn_guards::TypeKind;
-use lmn_instr_code::{AtomPort, Code, Instr, NewPort};
+use lmn_instr_code::{AtomPort, Code, Instr, NewPort, Operand, Operands, operands_of};
 use std::alloc::Global;
 
 /// Whether a register is the next of its kind, and there is one.
@@ -153,6 +152,13 @@ fn is_some_next_or_set(sets: bool, counts: RegisterCounts, operand: Option<Opera
     }
 }
 
+/// Whether an instruction sets a register, that of its first operand.
+fn sets_register(instr: &Instr) -> bool
+    ensures { result ≡ sets_register instr.now }
+{
+    operands_of(instr).opcode.form().sets
+}
+
 /// Whether an instruction sets the next register or none, and reads none that isn't set.
 fn uses_in_order(counts: RegisterCounts, instr: &Instr) -> bool
     ensures { result ≡ uses_in_order (sets_register instr.now) counts (operands instr.now) }
@@ -162,6 +168,7 @@ fn uses_in_order(counts: RegisterCounts, instr: &Instr) -> bool
         second,
         third,
         parts,
+        ..
     } = operands_of(instr);
     is_some_next_or_set(
         sets_register(instr),
@@ -235,6 +242,7 @@ fn after(counts: RegisterCounts, instr: &Instr) -> RegisterCounts
         second,
         third,
         parts,
+        ..
     } = operands_of(instr);
     with_some(
         sets_register(instr),

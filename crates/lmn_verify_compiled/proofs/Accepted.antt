@@ -26,7 +26,7 @@ use Rattle.lmn_congruence_splice.specs.Classes.{rising}
 use Rattle.lmn_schedule_strategy.specs.Turns.{BodiesAreReady}
 use Rattle.lmn_schedule_strategy.proofs.BodyAll.{level_rules}
 use Rattle.lmn_verify_code.specs.Verified.{in_order, at_first, atoms_found, membranes_found, parts_found, takes_out, registers_held, makes_and_ties, gets_integer}
-use Rattle.lmn_verify_code.specs.declared.words.Operand.TheVariants as operand
+use Rattle.lmn_instr_code.specs.declared.words.Operand.TheVariants as operand
 use Rattle.lmn_verify_compiled.proofs.Clauses.{AcceptedIsVerifiedFor, AcceptedBodiesRest}
 use Rattle.lmn_verify_compiled.proofs.BodyShapes.{removals_take, body_makes_few, atoms_amount, membranes_amount, copies_amount}
 use Rattle.lmn_verify_compiled.proofs.Finding.{numbered_length, found_atom, found_membrane, head_finds, head_enters, head_looks, head_looks_at_all, found_parts}

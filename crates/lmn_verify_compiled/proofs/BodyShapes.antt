@@ -14,8 +14,8 @@ use Rattle.lmn_solid_bodies.specs.declared.items.BodyItem.TheVariants.{Atom, Con
 use Rattle.lmn_solid_bodies.specs.Code.{removals, making, drops, link_code, links_code, body_code}
 use Rattle.lmn_solid_bodies.specs.Items.{new_ports, old_ports, connectors}
 use Rattle.lmn_machine_commit.specs.Preparing.{atoms_made, membranes_made, copies_made}
-use Rattle.lmn_verify_code.specs.declared.words.Operand.{Operand}
-use Rattle.lmn_verify_code.specs.declared.words.Operand.TheVariants as operand
+use Rattle.lmn_instr_code.specs.declared.words.Operand.{Operand}
+use Rattle.lmn_instr_code.specs.declared.words.Operand.TheVariants as operand
 use Rattle.lmn_verify_code.specs.Verified.{takes_out, registers_held}
 use Rattle.lmn_verify_compiled.proofs.InOrder.{total}
 

@@ -10,7 +10,7 @@ use Rattle.lmn_instr_reading.proofs.NameTexts.{name_no_integer, one_name}
 use Rattle.lmn_instr_reading.proofs.QuotedLemmas.{last_split, no_slash_decimal}
 use Rattle.lmn_instr_code.specs.Labels.{HasLabel, listed_label_text}
 use Rattle.lmn_instr_code.specs.Listings.{functor_text}
-use Rattle.lmn_verify_listing.specs.Opcodes.{FitsLabel}
+use Rattle.lmn_verify_listing.specs.Forms.{FitsLabel}
 use Rattle.lmn_instr_reading.proofs.Common.{size_of}
 
 -- ---- labels and functors

@@ -12,8 +12,8 @@ use Rattle.lmn_instr_code.specs.Running.{atoms_set, membranes_set}
 use Rattle.lmn_machine_commit.specs.Preparing.{BodyInOrder, UsesPort, atoms_made, membranes_made, copies_made}
 use Rattle.lmn_machine.specs.Searching.{HeadInOrder, parts_set, integers_set}
 use Rattle.lmn_verify_code.specs.declared.found.RegisterCounts.{RegisterCounts}
-use Rattle.lmn_verify_code.specs.declared.words.Operand.TheVariants.{Part}
-use Rattle.lmn_verify_code.specs.Operands.{port_operand}
+use Rattle.lmn_instr_code.specs.declared.words.Operand.TheVariants.{Part}
+use Rattle.lmn_instr_code.specs.Words.{port_operand}
 use Rattle.lmn_verify_code.specs.Verified.{is_set, in_order}
 
 -- so many registers are set

@@ -4,12 +4,11 @@ use Rattle.lmn_instr_code.specs.declared.instr.Instr.{Instr}
 use Rattle.lmn_instr_code.specs.declared.instr.Instr.TheVariants as instr
 use Rattle.lmn_instr_code.specs.declared.instr.NewPort.{NewPort}
 use Rattle.lmn_instr_code.specs.declared.instr.NewPort.TheVariants as new
-use Rattle.lmn_verify_code.specs.declared.words.Operand.{Operand}
-use Rattle.lmn_verify_code.specs.declared.words.Operand.TheVariants as operand
-use Rattle.lmn_verify_code.specs.Operands.{operands, port_operand}
-use Rattle.lmn_verify_listing.specs.declared.opcode.Opcode.{Opcode}
-use Rattle.lmn_verify_listing.specs.declared.opcode.Opcode.TheVariants as opcode
-use Rattle.lmn_verify_listing.specs.Opcodes.{opcode_of}
+use Rattle.lmn_instr_code.specs.declared.words.Operand.{Operand}
+use Rattle.lmn_instr_code.specs.declared.words.Operand.TheVariants as operand
+use Rattle.lmn_instr_code.specs.Words.{operands, port_operand, opcode_of}
+use Rattle.lmn_instr_code.specs.declared.opcode.Opcode.{Opcode}
+use Rattle.lmn_instr_code.specs.declared.opcode.Opcode.TheVariants as opcode
 
 -- ---- an instruction by its name and its operands
 

@@ -14,7 +14,7 @@ use Rattle.lmn_solid_bodies.specs.declared.items.BodyItem.TheVariants.{Atom, Con
 use Rattle.lmn_solid_bodies.specs.Code.{removals, making, drops, link_code, links_code, body_code}
 use Rattle.lmn_solid_bodies.specs.Items.{new_ports, old_ports, connectors}
 use Rattle.lmn_schedule_strategy.proofs.BodyInstructions.{HasRules}
-use Rattle.lmn_verify_code.specs.declared.words.Operand.TheVariants as operand_of
+use Rattle.lmn_instr_code.specs.declared.words.Operand.TheVariants as operand_of
 use Rattle.lmn_verify_compiled.specs.Kept.{IsKept, AreKept}
 use Rattle.lmn_verify_compiled.proofs.KeptHeads.{KeptInstr, both, if_kept}
 

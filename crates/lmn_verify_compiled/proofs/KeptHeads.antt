@@ -26,8 +26,8 @@ use Rattle.lmn_base.specs.Graphs.{Port}
 use Rattle.lmn_base.specs.Limits.{most_links}
 use Rattle.lmn_instr_reading.specs.Reading.{IsIn64Bits}
 use Rattle.lmn_solid_heads.specs.Heads.{Occurrence}
-use Rattle.lmn_verify_code.specs.declared.words.Operand.TheVariants as operand_of
-use Rattle.lmn_verify_code.specs.Operands.{operands}
+use Rattle.lmn_instr_code.specs.declared.words.Operand.TheVariants as operand_of
+use Rattle.lmn_instr_code.specs.Words.{operands}
 use Rattle.lmn_verify_compiled.specs.Kept.{IsKept, AreKept}
 
 -- a listing keeps the operands of an instruction

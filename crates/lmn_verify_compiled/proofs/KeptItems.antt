@@ -20,7 +20,7 @@ use Rattle.lmn_solid_bodies.specs.Flattening.{atom_item, typed_item, body_leaf_i
 use Rattle.lmn_compile_body.proofs.BodyTrees as bodies
 use Rattle.lmn_compile_body.proofs.BodyTrees.{flat_body, flat_bodies}
 use Rattle.lmn_guards.specs.declared.plan.TypeKind.{TypeKind}
-use Rattle.lmn_verify_code.specs.declared.words.Operand.TheVariants as operand_of
+use Rattle.lmn_instr_code.specs.declared.words.Operand.TheVariants as operand_of
 use Rattle.lmn_verify_compiled.specs.Kept.{IsKept}
 use Rattle.lmn_verify_compiled.proofs.KeptHeads as in_head
 use Rattle.lmn_verify_compiled.proofs.KeptBodies as in_body

@@ -6,22 +6,21 @@ use Rattle.std.proofs.lemmas.List.{append_assoc, append_cancel_right}
 use Rattle.lmn_base.proofs.Lists.{all_left, all_right, map_append, head_is, tail_is}
 use Rattle.lmn_instr_code.specs.declared.instr.Code.{Code}
 use Rattle.lmn_instr_code.specs.declared.instr.Instr.{Instr}
-use Rattle.lmn_instr_code.specs.Words.{mnemonic}
-use Rattle.lmn_instr_code.specs.Listings.{line, HasInstr, HasCode}
-use Rattle.lmn_verify_code.specs.declared.words.Operand.{Operand}
-use Rattle.lmn_verify_code.specs.declared.words.Operand.TheVariants as operand
-use Rattle.lmn_verify_listing.specs.declared.opcode.Opcode.{Opcode}
-use Rattle.lmn_verify_listing.specs.declared.opcode.Kind.{Kind}
-use Rattle.lmn_verify_listing.specs.declared.opcode.Form.{Form}
-use Rattle.lmn_verify_code.specs.Operands.{operands, operands_text, instr_text, HasOperand}
-use Rattle.lmn_verify_listing.specs.Opcodes.{opcode_of, opcode_name, is_in_head, form_of, FitsForm, in_form, some_operand}
+use Rattle.lmn_instr_code.specs.Words.{mnemonic, operands, opcode_of}
+use Rattle.lmn_instr_code.specs.Listings.{line, HasInstr, HasCode, operands_text, HasOperand}
+use Rattle.lmn_instr_code.specs.declared.words.Operand.{Operand}
+use Rattle.lmn_instr_code.specs.declared.words.Operand.TheVariants as operand
+use Rattle.lmn_instr_code.specs.declared.opcode.Opcode.{Opcode}
+use Rattle.lmn_instr_code.specs.declared.opcode.Kind.{Kind}
+use Rattle.lmn_instr_code.specs.declared.opcode.Form.{Form}
+use Rattle.lmn_instr_code.specs.Opcodes.{opcode_name, is_in_head, form_of}
+use Rattle.lmn_verify_listing.specs.Forms.{FitsForm, in_form, some_operand}
 use Rattle.lmn_verify_listing.specs.Lines.{IsShortOperand, HasShortNames, FitsInstr, IsWholeLine, joined_lines}
 use Rattle.lmn_verify_listing.specs.Listings.{IsBlock, IsWholeCode, HasPlainLine, HasPlainLines}
 use Rattle.lmn_verify_listing.specs.Reaching.{last_of}
 use Rattle.lmn_verify_listing.specs.Taking.{HasSome, ShortSome}
-use Rattle.lmn_verify_listing.proofs.Listed.{same_line, has_operands}
 use Rattle.lmn_verify_listing.proofs.Places.{has_no_by_test}
-use Rattle.lmn_verify_listing.proofs.OpcodeLemmas.{mnemonic_is, no_space, one_name}
+use Rattle.lmn_verify_listing.proofs.OpcodeLemmas.{no_space, one_name}
 use Rattle.lmn_verify_listing.proofs.LineLemmas.{form_text, operands_behind, IsFormed, first_follows, second_follows, third_follows}
 use Rattle.lmn_verify_compiled.proofs.Instrs.{one_instr}
 use Rattle.lmn_verify_compiled.proofs.Operands.{one_cut, one_some, one_parts}
@@ -71,13 +70,11 @@ pub one_opcode : (ns ms : List (List ℕ)) (i j : Instr) → line ns i ≡ line 
 one_opcode ns ms i j e =
     let mine = operands_text ns (operands i) in
     let yours = operands_text ms (operands j) in
-    let whole : instr_text ns i ≡ instr_text ms j = same_line ns i ∙ e ∙ sym (same_line ms j) in
     let inner : mnemonic i ++ mine ≡ mnemonic j ++ yours =
-    append_cancel_right (mnemonic i ++ mine) (mnemonic j ++ yours) (codes "\n") (append_assoc (mnemonic i) mine (codes "\n") ∙ tail_is (tail_is whole) ∙ sym (append_assoc (mnemonic j) yours (codes "\n"))) in
-    let named : opcode_name (opcode_of i) ++ mine ≡ opcode_name (opcode_of j) ++ yours = ap (λ m. m ++ mine) (sym (mnemonic_is i)) ∙ inner ∙ ap (λ m. m ++ yours) (mnemonic_is j) in
+    append_cancel_right (mnemonic i ++ mine) (mnemonic j ++ yours) (codes "\n") (append_assoc (mnemonic i) mine (codes "\n") ∙ tail_is (tail_is e) ∙ sym (append_assoc (mnemonic j) yours (codes "\n"))) in
     let cut = one_cut 32 (opcode_name (opcode_of i)) (opcode_name (opcode_of j)) mine yours
     (has_no_by_test 32 (opcode_name (opcode_of i)) (no_space (opcode_of i))) (has_no_by_test 32 (opcode_name (opcode_of j)) (no_space (opcode_of j)))
-    (operands_behind ns (operands i)) (operands_behind ms (operands j)) named in
+    (operands_behind ns (operands i)) (operands_behind ms (operands j)) inner in
     (one_name (opcode_of i) (opcode_of j) cut.0, cut.1)
 
 module _ (names : List (List ℕ)) (once : AllPairs (λ m n. m ≢ n) names) where
@@ -124,12 +121,12 @@ module _ (names : List (List ℕ)) (once : AllPairs (λ m n. m ≢ n) names) whe
       let are : operands j ≡ in_form f fb.first fb.second fb.third fb.parts = fb.are ∙ ap (λ w. in_form w fb.first fb.second fb.third fb.parts) back in
       let here : AreOf names f fa.first fa.second fa.third fa.parts = record {
         fits = fa.fits;
-        named = subst (AllByRecursion (HasOperand names)) fa.are (has_operands names i a.named);
+        named = subst (AllByRecursion (HasOperand names)) fa.are a.named;
         short = subst (AllByRecursion (IsShortOperand names)) fa.are a.short;
       } in
       let there : AreOf names f fb.first fb.second fb.third fb.parts = record {
         fits = subst (λ w. FitsForm w fb.first fb.second fb.third fb.parts) back fb.fits;
-        named = subst (AllByRecursion (HasOperand names)) are (has_operands names j b.named);
+        named = subst (AllByRecursion (HasOperand names)) are b.named;
         short = subst (AllByRecursion (IsShortOperand names)) are b.short;
       } in
       fa.are ∙ one_form (opcode_of i) f fa.first fa.second fa.third fb.first fb.second fb.third fa.parts fb.parts refl here there (sym (ap (operands_text names) fa.are) ∙ e ∙ ap (operands_text names) are) ∙ sym are

@@ -34,7 +34,7 @@ use Rattle.lmn_schedule_strategy.proofs.BodyAll.{level_rules}
 use Rattle.lmn_verify_compiled.specs.Kept.{IsKeptCode}
 use Rattle.lmn_verify_compiled.specs.ListedTables.{ArePlainNames}
 use Rattle.lmn_congruence.proofs.NumberedRules.{rule_has_number}
-use Rattle.lmn_verify_listing.specs.Opcodes.{FitsLabel}
+use Rattle.lmn_verify_listing.specs.Forms.{FitsLabel}
 use Rattle.lmn_verify_compiled.specs.Laws.{AcceptedCanBeListed, AcceptedNamesAreFew}
 use Rattle.lmn_verify_compiled.proofs.FewRules.{few_rules}
 use Rattle.lmn_verify_compiled.proofs.ListableIntegers.{SpelledLeaf, guard_kept, in_64_bits, leaves_spelled}

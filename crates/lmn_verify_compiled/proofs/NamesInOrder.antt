@@ -16,21 +16,22 @@ use Rattle.lmn_instr_reading.proofs.QuotedLemmas.{last_split, no_slash_decimal}
 use Rattle.lmn_instr_code.specs.declared.instr.Code.{Code}
 use Rattle.lmn_instr_code.specs.declared.instr.Instr.{Instr}
 use Rattle.lmn_instr_code.specs.Labels.{listed_label_text}
-use Rattle.lmn_instr_code.specs.Listings.{HasCode, HasInstr, functor_text, line}
-use Rattle.lmn_verify_listing.specs.declared.opcode.Form.{Form}
-use Rattle.lmn_verify_listing.specs.declared.opcode.Kind.{Kind}
-use Rattle.lmn_verify_listing.specs.declared.opcode.Kind.TheVariants as kind
-use Rattle.lmn_verify_listing.specs.declared.opcode.Opcode.{Opcode}
-use Rattle.lmn_verify_code.specs.declared.words.Operand.{Operand}
+use Rattle.lmn_instr_code.specs.Listings.{HasCode, HasInstr, functor_text, line, HasOperand, operand_text, operands_text}
+use Rattle.lmn_instr_code.specs.declared.opcode.Form.{Form}
+use Rattle.lmn_instr_code.specs.declared.opcode.Kind.{Kind}
+use Rattle.lmn_instr_code.specs.declared.opcode.Kind.TheVariants as kind
+use Rattle.lmn_instr_code.specs.declared.opcode.Opcode.{Opcode}
+use Rattle.lmn_instr_code.specs.declared.words.Operand.{Operand}
 use Rattle.lmn_verify_listing.specs.Lines.{IsShortOperand}
 use Rattle.lmn_verify_listing.specs.Listings.{HasPlainLine, HasPlainLines, IsBlock, IsWholeCode}
-use Rattle.lmn_verify_listing.specs.Opcodes.{FitsForm, FitsKind, FitsLabel, FitsSome, form_of, in_form, opcode_of}
-use Rattle.lmn_verify_code.specs.Operands.{HasOperand, code_names, instr_names, operand_names, operand_text, operands, operands_text}
+use Rattle.lmn_verify_listing.specs.Forms.{FitsForm, FitsKind, FitsLabel, FitsSome, in_form}
+use Rattle.lmn_instr_code.specs.Opcodes.{form_of}
+use Rattle.lmn_instr_code.specs.Words.{opcode_of, operands}
+use Rattle.lmn_verify_code.specs.Operands.{code_names, instr_names, operand_names}
 use Rattle.lmn_verify_listing.specs.Reaching.{last_of}
 use Rattle.lmn_verify_listing.specs.Taking.{Follows, FollowsKind, IsBehind, some_names, some_text}
 use Rattle.lmn_verify_listing.proofs.Exclusion.{all_lines, all_whole, text_is}
 use Rattle.lmn_verify_listing.proofs.LineLemmas.{first_follows, form_text, nameless, names_of_form, second_follows, third_follows}
-use Rattle.lmn_verify_listing.proofs.Listed.{has_operands}
 use Rattle.lmn_verify_compiled.proofs.Lines.{AreOf, IsPlain, block_lines, formed, front_plain, joined_one, one_opcode, plain_last}
 use Rattle.lmn_verify_compiled.proofs.Operands.{is_functor_of, one_behind, sort}
 use Rattle.lmn_verify_compiled.specs.OneReading.{ListedNamesAreOne}
@@ -99,12 +100,12 @@ module _ (ns ms : List (List ℕ)) where
       let are : operands j ≡ in_form f fb.first fb.second fb.third fb.parts = fb.are ∙ ap (λ w. in_form w fb.first fb.second fb.third fb.parts) back in
       let here : AreOf ns f fa.first fa.second fa.third fa.parts = record {
         fits = fa.fits;
-        named = subst (AllByRecursion (HasOperand ns)) fa.are (has_operands ns i a.named);
+        named = subst (AllByRecursion (HasOperand ns)) fa.are a.named;
         short = subst (AllByRecursion (IsShortOperand ns)) fa.are a.short;
       } in
       let there : AreOf ms f fb.first fb.second fb.third fb.parts = record {
         fits = subst (λ w. FitsForm w fb.first fb.second fb.third fb.parts) back fb.fits;
-        named = subst (AllByRecursion (HasOperand ms)) are (has_operands ms j b.named);
+        named = subst (AllByRecursion (HasOperand ms)) are b.named;
         short = subst (AllByRecursion (IsShortOperand ms)) are b.short;
       } in
       let same = form_told (opcode_of i) f fa.first fa.second fa.third fb.first fb.second fb.third fa.parts fb.parts refl here there (sym (ap (operands_text ns) fa.are) ∙ cut.1 ∙ ap (operands_text ms) are) in

@@ -9,12 +9,12 @@ use Rattle.lmn_base.proofs.Lists.{head_is, tail_is}
 use Rattle.lmn_instr_code.specs.declared.instr.AtomPort.{AtomPort}
 use Rattle.lmn_instr_reading.specs.Reading.{IsIn64Bits}
 use Rattle.lmn_verify_compiled.proofs.FunctorTexts.{HasText, one_functor}
-use Rattle.lmn_verify_code.specs.declared.words.Operand.{Operand}
-use Rattle.lmn_verify_code.specs.declared.words.Operand.TheVariants as operand
-use Rattle.lmn_verify_listing.specs.declared.opcode.Kind.{Kind}
-use Rattle.lmn_verify_listing.specs.declared.opcode.Kind.TheVariants as kind
-use Rattle.lmn_verify_code.specs.Operands.{operand_text, HasOperand}
-use Rattle.lmn_verify_listing.specs.Opcodes.{FitsKind, FitsLabel, FitsSome, some_operand}
+use Rattle.lmn_instr_code.specs.declared.words.Operand.{Operand}
+use Rattle.lmn_instr_code.specs.declared.words.Operand.TheVariants as operand
+use Rattle.lmn_instr_code.specs.declared.opcode.Kind.{Kind}
+use Rattle.lmn_instr_code.specs.declared.opcode.Kind.TheVariants as kind
+use Rattle.lmn_instr_code.specs.Listings.{operand_text, HasOperand}
+use Rattle.lmn_verify_listing.specs.Forms.{FitsKind, FitsLabel, FitsSome, some_operand}
 use Rattle.lmn_verify_listing.specs.Lines.{HasNo, IsShortOperand}
 use Rattle.lmn_verify_listing.specs.Taking.{IsBehind, FollowsKind, Follows, some_text, HasSome, ShortSome, parts_text, AllSmall}
 use Rattle.lmn_verify_listing.proofs.Places.{has_no_decimal}

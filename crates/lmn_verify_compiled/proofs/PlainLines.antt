@@ -13,21 +13,20 @@ use Rattle.lmn_lexer.specs.Spelling.{is_bare_name}
 use Rattle.lmn_instr_code.specs.declared.instr.Code.{Code}
 use Rattle.lmn_instr_code.specs.declared.instr.Instr.{Instr}
 use Rattle.lmn_instr_code.specs.Labels.{listed_label_text}
-use Rattle.lmn_instr_code.specs.Words.{mnemonic}
-use Rattle.lmn_verify_listing.specs.declared.opcode.Opcode.{Opcode}
-use Rattle.lmn_verify_listing.specs.declared.opcode.Opcode.TheVariants as opcode
-use Rattle.lmn_verify_listing.specs.declared.opcode.Kind.{Kind}
-use Rattle.lmn_verify_listing.specs.declared.opcode.Kind.TheVariants as kind
-use Rattle.lmn_verify_code.specs.declared.words.Operand.{Operand}
-use Rattle.lmn_verify_code.specs.declared.words.Operand.TheVariants as operand
-use Rattle.lmn_verify_code.specs.Operands.{operands, operand_text, operands_text}
-use Rattle.lmn_verify_listing.specs.Opcodes.{opcode_of, opcode_name, form_of, FitsLabel, FitsKind, FitsSome, some_operand}
+use Rattle.lmn_instr_code.specs.Words.{mnemonic, operands, opcode_of}
+use Rattle.lmn_instr_code.specs.declared.opcode.Opcode.{Opcode}
+use Rattle.lmn_instr_code.specs.declared.opcode.Opcode.TheVariants as opcode
+use Rattle.lmn_instr_code.specs.declared.opcode.Kind.{Kind}
+use Rattle.lmn_instr_code.specs.declared.opcode.Kind.TheVariants as kind
+use Rattle.lmn_instr_code.specs.declared.words.Operand.{Operand}
+use Rattle.lmn_instr_code.specs.declared.words.Operand.TheVariants as operand
+use Rattle.lmn_instr_code.specs.Listings.{operand_text, operands_text}
+use Rattle.lmn_instr_code.specs.Opcodes.{opcode_name, form_of}
+use Rattle.lmn_verify_listing.specs.Forms.{FitsLabel, FitsKind, FitsSome, some_operand}
 use Rattle.lmn_verify_listing.specs.Lines.{HasNo, IsShortOperand, FitsInstr}
 use Rattle.lmn_verify_listing.specs.Listings.{IsWholeCode, HasPlainLine, HasPlainLines}
 use Rattle.lmn_verify_code.specs.Verified.{IsVerified}
 use Rattle.lmn_verify_listing.proofs.Places.{has_no_by_test, has_no_decimal, has_no_signed}
-use Rattle.lmn_verify_listing.proofs.OpcodeLemmas.{mnemonic_is}
-use Rattle.lmn_verify_listing.proofs.Listed.{same_line}
 use Rattle.lmn_verify_compiled.specs.AcceptedCodes.{TablesAreVerified}
 use Rattle.lmn_verify_compiled.specs.Kept.{IsKeptCode}
 use Rattle.lmn_verify_compiled.specs.ListedTables.{ArePlainNames, VerifiedAreListed, TablesAreListed}
@@ -178,12 +177,12 @@ short names (o ∷ os) h = (one o, short names os h)
 line_plain : (names : List (List ℕ)) (i : Instr) → ArePlainNames names → FitsInstr i → HasPlainLine names i
 line_plain names i h w =
     let bytes = 32 ∷ (32 ∷ (mnemonic i ++ operands_text names (operands i))) in
-    let name : NoFeed (mnemonic i) = subst NoFeed (sym (mnemonic_is i)) (has_no_by_test 10 (opcode_name (opcode_of i)) (name_plain (opcode_of i))) in (
+    let name : NoFeed (mnemonic i) = has_no_by_test 10 (opcode_name (opcode_of i)) (name_plain (opcode_of i)) in (
       short names (operands i) h,
       (
         bytes,
         (omega arith, (omega arith, both (mnemonic i) (operands_text names (operands i)) name (operands_plain names i h w))),
-        ap (λ t. 32 ∷ (32 ∷ t)) (append_assoc (mnemonic i) (operands_text names (operands i)) (codes "\n")) ∙ same_line names i,
+        ap (λ t. 32 ∷ (32 ∷ t)) (append_assoc (mnemonic i) (operands_text names (operands i)) (codes "\n")),
       ),
     )
 

@@ -14,13 +14,14 @@ use Rattle.lmn_instr_code.specs.declared.instr.Instr.{Instr}
 use Rattle.lmn_instr_code.specs.declared.instr.Instr.TheVariants.{FindAtom, Deref, Func, InMem, NeqAtom, Joined, NotIn, AnyMem, NeqMem, IsInt, IsUnary, IsGround, NAtoms, NMems, NoRules, IsClosed, EqGround, NeqGround, GetInt, Const, Add, Sub, Mul, Div, Mod, Lt, Le, Gt, Ge, Eq, Ne, Commit, RemoveAtom, RemovePart, RemoveMem, NewAtom, NewInt, NewMem, CopyGround, MoveCells, CopyCells, LoadRule, CopyRules, DropCells, NewLink, Relink, Unify, Proceed}
 use Rattle.lmn_verify_code.specs.declared.found.RegisterCounts.{RegisterCounts}
 use Rattle.lmn_verify_code.specs.declared.found.FoundAtom.{FoundAtom}
-use Rattle.lmn_verify_listing.specs.declared.opcode.Opcode.{Opcode}
-use Rattle.lmn_verify_listing.specs.declared.opcode.Opcode.TheVariants as opcode
-use Rattle.lmn_verify_listing.specs.declared.opcode.Kind.TheVariants as kind
-use Rattle.lmn_verify_code.specs.declared.words.Operand.{Operand}
-use Rattle.lmn_verify_code.specs.declared.words.Operand.TheVariants.{Atom, Membrane, Part, Integer, Copy, Port, Functor as Of, Number, Constant}
-use Rattle.lmn_verify_code.specs.Operands.{operands, port_operand}
-use Rattle.lmn_verify_listing.specs.Opcodes.{opcode_of, is_in_head, FitsKind}
+use Rattle.lmn_instr_code.specs.declared.opcode.Opcode.{Opcode}
+use Rattle.lmn_instr_code.specs.declared.opcode.Opcode.TheVariants as opcode
+use Rattle.lmn_instr_code.specs.declared.opcode.Kind.TheVariants as kind
+use Rattle.lmn_instr_code.specs.declared.words.Operand.{Operand}
+use Rattle.lmn_instr_code.specs.declared.words.Operand.TheVariants.{Atom, Membrane, Part, Integer, Copy, Port, Functor as Of, Number, Constant}
+use Rattle.lmn_instr_code.specs.Words.{operands, port_operand, opcode_of}
+use Rattle.lmn_instr_code.specs.Opcodes.{is_in_head}
+use Rattle.lmn_verify_listing.specs.Forms.{FitsKind}
 use Rattle.lmn_verify_listing.specs.Lines.{FitsInstr}
 use Rattle.lmn_verify_listing.specs.Listings.{IsBlock}
 use Rattle.lmn_verify_code.specs.Verified.{IsVerified, sets_register, is_next, is_set, with_one, uses_in_order, after_one, after, in_order, at_first, found_behind, found_first, atoms_found, membranes_found, is_of_head, is_empty, is_commit, is_proceed, is_head, arity_made, arities, port_of_register, named_ports, has_port, removes, takes_out, held, makes, ties, ties_and_ends, drops_and_ties, makes_and_ties}

@@ -4,10 +4,10 @@ use Rattle.std.specs.List.{AllByRecursion}
 use Rattle.lmn_instr_reading.specs.Reading.{IsIn64Bits}
 use Rattle.lmn_instr_code.specs.declared.instr.Code.{Code}
 use Rattle.lmn_instr_code.specs.declared.instr.Instr.{Instr}
-use Rattle.lmn_verify_code.specs.declared.words.Operand.{Operand}
-use Rattle.lmn_verify_code.specs.declared.words.Operand.TheVariants.{Functor as Of, Number, Constant}
-use Rattle.lmn_verify_code.specs.Operands.{operands}
-use Rattle.lmn_verify_listing.specs.Opcodes.{FitsLabel}
+use Rattle.lmn_instr_code.specs.declared.words.Operand.{Operand}
+use Rattle.lmn_instr_code.specs.declared.words.Operand.TheVariants.{Functor as Of, Number, Constant}
+use Rattle.lmn_instr_code.specs.Words.{operands}
+use Rattle.lmn_verify_listing.specs.Forms.{FitsLabel}
 use Rattle.lmn_verify_code.specs.Verified.{IsVerified}
 use Rattle.lmn_verify_listing.specs.Listings.{IsWholeCode}
 

@@ -12,8 +12,8 @@ use Rattle.lmn_machine_commit.specs.Preparing.{BodyInOrder}
 use Rattle.lmn_instr_code.specs.declared.instr.Code.{Code}
 use Rattle.lmn_instr_code.specs.declared.instr.Instr.{Instr}
 use Rattle.lmn_instr_code.specs.declared.instr.Instr.TheVariants.{RemoveAtom, RemovePart, RemoveMem, NewAtom, NewInt, NewMem, CopyGround, MoveCells, CopyCells, LoadRule, CopyRules, DropCells, NewLink, Relink, Unify, Proceed}
-use Rattle.lmn_verify_code.specs.declared.words.Operand.{Operand}
-use Rattle.lmn_verify_code.specs.declared.words.Operand.TheVariants.{Atom, Membrane, Part, Integer, Copy, Port, Functor as Of, Number, Constant}
+use Rattle.lmn_instr_code.specs.declared.words.Operand.{Operand}
+use Rattle.lmn_instr_code.specs.declared.words.Operand.TheVariants.{Atom, Membrane, Part, Integer, Copy, Port, Functor as Of, Number, Constant}
 use Rattle.lmn_verify_code.specs.Verified.{drops, drops_and_ties, is_empty, is_proceed, makes, makes_and_ties, registers_held, removes, takes_out, ties, ties_and_ends}
 use Rattle.lmn_verify_laws.specs.Flat.{connected, made_item}
 use Rattle.lmn_verify_laws.proofs.InOrder.{as_many}

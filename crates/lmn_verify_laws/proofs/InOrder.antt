@@ -17,8 +17,8 @@ use Rattle.lmn_machine.specs.Searching.{HeadInOrder, parts_set, integers_set}
 use Rattle.lmn_machine.specs.Costs.{IsTold}
 use Rattle.lmn_schedule_strategy.specs.Turns.{Loads}
 use Rattle.lmn_verify_code.specs.declared.found.RegisterCounts.{RegisterCounts}
-use Rattle.lmn_verify_code.specs.declared.words.Operand.TheVariants.{Part}
-use Rattle.lmn_verify_code.specs.Operands.{port_operand}
+use Rattle.lmn_instr_code.specs.declared.words.Operand.TheVariants.{Part}
+use Rattle.lmn_instr_code.specs.Words.{port_operand}
 use Rattle.lmn_verify_code.specs.Verified.{is_set, in_order, is_head, finds, finds_first, is_open, is_removed, is_made}
 
 -- so many registers are set

@@ -12,8 +12,8 @@ use Rattle.lmn_instr_code.specs.declared.instr.Instr.TheVariants.{AnyMem, Remove
 use Rattle.lmn_instr_code.specs.Running.{atoms_set, membranes_set}
 use Rattle.lmn_machine.specs.Searching.{parts_set, integers_set}
 use Rattle.lmn_machine.specs.Costs.{IsTold}
-use Rattle.lmn_verify_code.specs.declared.words.Operand.{Operand}
-use Rattle.lmn_verify_code.specs.declared.words.Operand.TheVariants.{Atom, Membrane, Part, Integer, Copy, Port, Functor as Of, Number, Constant}
+use Rattle.lmn_instr_code.specs.declared.words.Operand.{Operand}
+use Rattle.lmn_instr_code.specs.declared.words.Operand.TheVariants.{Atom, Membrane, Part, Integer, Copy, Port, Functor as Of, Number, Constant}
 use Rattle.lmn_verify_code.specs.Verified.{IsVerified, in_order, atoms_found, membranes_found, parts_found, registers_held, held, removes, takes_out, is_empty, is_proceed, makes, ties, drops, ties_and_ends, drops_and_ties, makes_and_ties}
 use Rattle.lmn_verify_laws.specs.Laws.{VerifiedIsInOrder}
 use Rattle.lmn_verify_laws.proofs.InOrder.{counts, is_of_body, head_in_order, told_and_loaded}

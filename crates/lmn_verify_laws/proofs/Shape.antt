@@ -13,8 +13,8 @@ use Rattle.lmn_instr_code.specs.declared.instr.Code.{Code}
 use Rattle.lmn_instr_code.specs.declared.instr.Instr.{Instr}
 use Rattle.lmn_instr_code.specs.declared.instr.Instr.TheVariants.{RemoveAtom, RemovePart, RemoveMem, NewLink, Relink, Unify, Proceed}
 use Rattle.lmn_instr_code.specs.Running.{atoms_set, membranes_set}
-use Rattle.lmn_verify_code.specs.declared.words.Operand.{Operand}
-use Rattle.lmn_verify_code.specs.declared.words.Operand.TheVariants.{Atom, Membrane, Part, Integer, Copy, Port, Functor as Of, Number, Constant}
+use Rattle.lmn_instr_code.specs.declared.words.Operand.{Operand}
+use Rattle.lmn_instr_code.specs.declared.words.Operand.TheVariants.{Atom, Membrane, Part, Integer, Copy, Port, Functor as Of, Number, Constant}
 use Rattle.lmn_verify_code.specs.Verified.{IsVerified, atoms_found, drops, held, is_commit, is_empty, is_head, is_of_head, makes, membranes_found, parts_found, ties}
 use Rattle.lmn_verify_laws.specs.Flat.{connected, flat_body, flat_head, link_count, made_item}
 use Rattle.lmn_verify_laws.proofs.Bodies.{items_append, making_is, no_item_dropped, no_item_tied, nothing_made, nothing_removed, removal, removals_are, sections, taken_first}

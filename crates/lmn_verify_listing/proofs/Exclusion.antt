@@ -9,8 +9,9 @@ use Rattle.lmn_base.proofs.Lists.{all_append, map_append, head_is, tail_is, behi
 use Rattle.lmn_instr_code.specs.declared.instr.Code.{Code}
 use Rattle.lmn_instr_code.specs.declared.instr.Instr.{Instr}
 use Rattle.lmn_instr_code.specs.Listings.{line, code_listing}
-use Rattle.lmn_verify_code.specs.declared.words.Operand.TheVariants as operand
-use Rattle.lmn_verify_listing.specs.Opcodes.{opcode_of, is_in_head}
+use Rattle.lmn_instr_code.specs.declared.words.Operand.TheVariants as operand
+use Rattle.lmn_instr_code.specs.Words.{opcode_of}
+use Rattle.lmn_instr_code.specs.Opcodes.{is_in_head}
 use Rattle.lmn_verify_listing.specs.Lines.{Due, nothing, due_rule, due_behind, StandsAs, Stand, HasNo, IsLine, FitsInstr, IsWholeLine, joined_lines, first_line, IsWrongLine}
 use Rattle.lmn_verify_listing.specs.Listings.{HasPlainLine, HasPlainLines, IsBlock, IsWholeCode, listings_from}
 use Rattle.lmn_verify_listing.specs.ListingLaws.{ListedLinesStand, WrongLineIsOne}

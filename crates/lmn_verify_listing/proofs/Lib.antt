@@ -1,7 +1,6 @@
 pub mod OpcodeLemmas
 pub mod Places
 pub mod OperandLemmas
-pub mod Listed
 pub mod LineLemmas
 pub mod ReachingLemmas
 pub mod CodeLemmas

@@ -10,27 +10,26 @@ use Rattle.lmn_base.specs.declared.functor.Label.TheVariants as label
 use Rattle.lmn_base.proofs.Lists.{all_append, all_left, all_right, tail_is}
 use Rattle.lmn_lexer.specs.NameText.{name_text}
 use Rattle.lmn_instr_code.specs.declared.instr.Instr.{Instr}
-use Rattle.lmn_verify_code.specs.declared.words.Operand.{Operand}
-use Rattle.lmn_verify_code.specs.declared.words.Operand.TheVariants as operand
+use Rattle.lmn_instr_code.specs.declared.words.Operand.{Operand}
+use Rattle.lmn_instr_code.specs.declared.words.Operand.TheVariants as operand
 use Rattle.lmn_instr_code.specs.Labels.{HasLabel, listed_label_text}
-use Rattle.lmn_instr_code.specs.Words.{mnemonic}
-use Rattle.lmn_verify_code.specs.Operands.{operands}
-use Rattle.lmn_instr_code.specs.Listings.{line, HasInstr}
-use Rattle.lmn_verify_listing.proofs.Listed.{same_line, has_instr, has_operands}
-use Rattle.lmn_verify_code.specs.Operands.{HasOperands, instr_names, instr_text, operand_names, operand_text, operands_text, HasOperand}
+use Rattle.lmn_instr_code.specs.Words.{mnemonic, operands, opcode_of}
+use Rattle.lmn_instr_code.specs.Listings.{line, HasInstr, operand_text, operands_text, HasOperand}
+use Rattle.lmn_verify_code.specs.Operands.{instr_names, operand_names}
 use Rattle.lmn_instr_reading.specs.Reading.{AddsNames, IsShortLabel, NumbersNames}
 use Rattle.lmn_instr_reading.proofs.NameLemmas.{adds_both}
-use Rattle.lmn_verify_listing.specs.declared.opcode.Opcode.{Opcode}
-use Rattle.lmn_verify_listing.specs.declared.opcode.Kind.{Kind}
-use Rattle.lmn_verify_listing.specs.declared.opcode.Kind.TheVariants as kind
-use Rattle.lmn_verify_listing.specs.declared.opcode.Form.{Form}
-use Rattle.lmn_verify_listing.specs.Opcodes.{opcode_name, opcode_of, is_in_head, form_of, FitsForm, FitsKind, FitsSome, in_form, some_operand}
+use Rattle.lmn_instr_code.specs.declared.opcode.Opcode.{Opcode}
+use Rattle.lmn_instr_code.specs.declared.opcode.Kind.{Kind}
+use Rattle.lmn_instr_code.specs.declared.opcode.Kind.TheVariants as kind
+use Rattle.lmn_instr_code.specs.declared.opcode.Form.{Form}
+use Rattle.lmn_instr_code.specs.Opcodes.{opcode_name, is_in_head, form_of}
+use Rattle.lmn_verify_listing.specs.Forms.{FitsForm, FitsKind, FitsSome, in_form, some_operand}
 use Rattle.lmn_verify_listing.specs.Lines.{IsShortOperand, HasShortNames, FitsInstr, IsLine, IsPlaceOf, IsWholeLine}
 use Rattle.lmn_verify_listing.specs.Listings.{HasPlainLine}
 use Rattle.lmn_verify_listing.specs.Taking.{IsBehind, Follows, FollowsKind, one_text, some_names, some_text, HasSome, ShortSome, parts_text, AllSmall}
 use Rattle.lmn_verify_listing.proofs.Places.{has_no_by_test, cut_there}
 use Rattle.lmn_verify_listing.proofs.OperandLemmas.{parts_behind}
-use Rattle.lmn_verify_listing.proofs.OpcodeLemmas.{mnemonic_is, no_space, is_functor, EndsWithFunctor, functor_ends}
+use Rattle.lmn_verify_listing.proofs.OpcodeLemmas.{no_space, is_functor, EndsWithFunctor, functor_ends}
 use Rattle.lmn_base.proofs.Common.{numbers_both}
 
 -- ---- the text of operands
@@ -155,9 +154,9 @@ more_operands n a b g (o ∷ os) h =
 
 pub more_instr : (n : ℕ) (a b : List (List ℕ)) → AddsNames n a b → (i : Instr) → HasInstr a i → HasInstr b i × (line b i ≡ line a i) × (HasPlainLine a i → HasPlainLine b i)
 more_instr n a b g i h =
-    let more = more_operands n a b g (operands i) (has_operands a i h) in
-    let same : line b i ≡ line a i = sym (same_line b i) ∙ ap (λ t. 32 ∷ 32 ∷ (mnemonic i ++ (t ++ codes "\n"))) more.1 ∙ same_line a i in
-    (has_instr b i more.0, same, λ s. (more.2 s.0, subst IsWholeLine (sym same) s.1))
+    let more = more_operands n a b g (operands i) h in
+    let same : line b i ≡ line a i = ap (λ t. 32 ∷ 32 ∷ (mnemonic i ++ (t ++ codes "\n"))) more.1 in
+    (more.0, same, λ s. (more.2 s.0, subst IsWholeLine (sym same) s.1))
 
 pub more_instrs : (n : ℕ) (a b : List (List ℕ)) → AddsNames n a b → (is : List Instr) → AllByRecursion (HasInstr a) is
     → AllByRecursion (HasInstr b) is × (flat_map (line b) is ≡ flat_map (line a) is) × (AllByRecursion (HasPlainLine a) is → AllByRecursion (HasPlainLine b) is)
@@ -196,7 +195,7 @@ Took names k o rest text = FitsSome k o × HasSome names k o × ShortSome names 
 pub instr_read : (op : Opcode) (f : Form) (a b c : List (List ℕ)) (x y z : Operand) (gs text r s t : List ℕ) (i : Instr) → f ≡ form_of op
     → AddsNames 1 a b → AddsNames 1 b c → Took a f.first x r text → Took b f.second y s r → Took c f.third z t s
     → AllSmall gs × (f.parts ≡ false → gs ≡ []) × (parts_text gs ≡ t) → opcode_of i ≡ op → operands i ≡ in_form (form_of op) x y z gs
-    → (opcode_of i ≡ op) × FitsInstr i × HasOperands c i × HasShortNames c i × (operands_text c (operands i) ≡ text)
+    → (opcode_of i ≡ op) × FitsInstr i × HasInstr c i × HasShortNames c i × (operands_text c (operands i) ≡ text)
 instr_read op f a b c x y z gs text r s t i e g h one two three last o are =
     let whole : operands i ≡ in_form f x y z gs = are ∙ ap (λ w. in_form w x y z gs) (sym e) in
     let same : f ≡ form_of (opcode_of i) = e ∙ ap form_of (sym o) in
@@ -293,7 +292,7 @@ operands_behind ns (o ∷ os) = inr (operand_text ns o ++ operands_text ns os, r
 -- what stands between the spaces and the line feed
 pub within_line : (b : Bool) (text : List ℕ) (l : IsLine b text) → codes "  " ++ ((mnemonic l.instr ++ operands_text l.names (operands l.instr)) ++ codes "\n") ≡ text
 within_line b text l =
-    ap (λ t. 32 ∷ 32 ∷ t) (append_assoc (mnemonic l.instr) (operands_text l.names (operands l.instr)) (codes "\n")) ∙ same_line l.names l.instr ∙ l.is
+    ap (λ t. 32 ∷ 32 ∷ t) (append_assoc (mnemonic l.instr) (operands_text l.names (operands l.instr)) (codes "\n")) ∙ l.is
 
 -- it is cut at its first space
 pub line_cut : (b : Bool) (text inside : List ℕ) (at : ℕ) (l : IsLine b text) → codes "  " ++ (inside ++ codes "\n") ≡ text → IsPlaceOf 32 inside at
@@ -301,9 +300,8 @@ pub line_cut : (b : Bool) (text inside : List ℕ) (at : ℕ) (l : IsLine b text
 line_cut b text inside at l e p =
     let same : mnemonic l.instr ++ operands_text l.names (operands l.instr) ≡ inside =
     append_cancel_right _ inside (codes "\n") (tail_is (tail_is (within_line b text l ∙ sym e))) in
-    let name : opcode_name (opcode_of l.instr) ++ operands_text l.names (operands l.instr) ≡ inside = ap (λ m. m ++ operands_text l.names (operands l.instr)) (sym (mnemonic_is l.instr)) ∙ same in
     let cut = cut_there 32 inside (opcode_name (opcode_of l.instr)) (operands_text l.names (operands l.instr)) at p
-    (has_no_by_test 32 (opcode_name (opcode_of l.instr)) (no_space (opcode_of l.instr))) (operands_behind l.names (operands l.instr)) name in
+    (has_no_by_test 32 (opcode_name (opcode_of l.instr)) (no_space (opcode_of l.instr))) (operands_behind l.names (operands l.instr)) same in
     (sym cut.0, sym cut.1)
 
 -- no line where none is read of its operands
@@ -311,11 +309,3 @@ pub then_none : {T E : Type 0} (r : Result (Option T) E) (P Q : Type 0) → IfOk
 then_none (Ok None) P Q h f = f h
 then_none (Ok (Some x)) P Q h f = tt
 then_none (Err e) P Q h f = tt
-
--- a line that was read, as listings speak of it
-pub as_listed : {E : Type 0} (r : Result (Option Instr) E) (b : Bool) (ns : List (List ℕ)) (text : List ℕ)
-    → IfOk r (λ f. IfSome f (λ i. (is_in_head (opcode_of i) ≡ b) × FitsInstr i × HasOperands ns i × HasShortNames ns i × (instr_text ns i ≡ text)))
-    → IfOk r (λ f. IfSome f (λ i. (is_in_head (opcode_of i) ≡ b) × FitsInstr i × HasInstr ns i × HasShortNames ns i × (line ns i ≡ text)))
-as_listed (Ok None) b ns text h = tt
-as_listed (Ok (Some i)) b ns text h = (h.0, h.1, has_instr ns i h.2, h.3, sym (same_line ns i) ∙ h.4)
-as_listed (Err e) b ns text h = tt

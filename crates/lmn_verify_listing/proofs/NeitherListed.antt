@@ -15,7 +15,8 @@ use Rattle.lmn_verify_code.specs.Operands.{code_names}
 use Rattle.lmn_verify_listing.specs.Lines.{IsLine, IsPlaceOf, IsWrongLine, StandsAs, due_rule, first_line, nothing, rule}
 use Rattle.lmn_verify_listing.specs.ListingLaws.{NeitherListedNorWrong}
 use Rattle.lmn_verify_listing.specs.Listings.{AreListed, listings_from}
-use Rattle.lmn_verify_listing.specs.Opcodes.{is_in_head, opcode_of}
+use Rattle.lmn_instr_code.specs.Opcodes.{is_in_head}
+use Rattle.lmn_instr_code.specs.Words.{opcode_of}
 use Rattle.lmn_verify_listing.specs.Reaching.{AreReadCodes, IsBegun, IsEnded, IsLineEnd, IsReadAt, Reached, due_in, last_of}
 use Rattle.lmn_verify_listing.proofs.CodeLemmas.{code_read, codes_more, due_here, due_none, none_read, rule_stands}
 use Rattle.lmn_verify_listing.proofs.ReachingLemmas.{begun_more, begun_wrong, ended_more, ends_behind, ends_last, none_begun, nothing_stands, reached_wrong, read_at_is}

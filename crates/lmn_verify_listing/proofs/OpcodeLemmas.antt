@@ -3,67 +3,13 @@ use Rattle.std.proofs.Common.{◌≡◌, ◌==◌, Bool, true, false, not, refl,
 use Rattle.std.specs.Prelude.{Option, Some, None, bytes_eq}
 use Rattle.std.specs.List.{list_all, find}
 use Rattle.std.proofs.lemmas.Option.{same_Some}
-use Rattle.lmn_instr_code.specs.declared.instr.Instr.{Instr}
-use Rattle.lmn_instr_code.specs.declared.instr.Instr.TheVariants as instr
-use Rattle.lmn_instr_code.specs.Words.{mnemonic}
-use Rattle.lmn_verify_listing.specs.declared.opcode.Opcode.{Opcode}
-use Rattle.lmn_verify_listing.specs.declared.opcode.Opcode.TheVariants as opcode
-use Rattle.lmn_verify_listing.specs.declared.opcode.TheConstants.{OPCODES}
-use Rattle.lmn_verify_listing.specs.declared.opcode.Kind.{Kind}
-use Rattle.lmn_verify_listing.specs.declared.opcode.Kind.TheVariants as kind
-use Rattle.lmn_verify_listing.specs.declared.opcode.Form.{Form}
-use Rattle.lmn_verify_listing.specs.Opcodes.{opcode_name, opcode_of, form_of}
-
--- an instruction has the name that its listing writes
-pub mnemonic_is : (i : Instr) → mnemonic i ≡ opcode_name (opcode_of i)
-mnemonic_is (instr.FindAtom _ _ _) = refl
-mnemonic_is (instr.Deref _ _ _) = refl
-mnemonic_is (instr.Func _ _) = refl
-mnemonic_is (instr.InMem _ _) = refl
-mnemonic_is (instr.NeqAtom _ _) = refl
-mnemonic_is (instr.Joined _ _) = refl
-mnemonic_is (instr.NotIn _ _) = refl
-mnemonic_is (instr.AnyMem _ _) = refl
-mnemonic_is (instr.NeqMem _ _) = refl
-mnemonic_is (instr.IsInt _ _ _) = refl
-mnemonic_is (instr.IsUnary _ _ _) = refl
-mnemonic_is (instr.IsGround _ _ _) = refl
-mnemonic_is (instr.NAtoms _ _ _) = refl
-mnemonic_is (instr.NMems _ _) = refl
-mnemonic_is (instr.NoRules _) = refl
-mnemonic_is (instr.IsClosed _ _) = refl
-mnemonic_is (instr.EqGround _ _) = refl
-mnemonic_is (instr.NeqGround _ _) = refl
-mnemonic_is (instr.GetInt _ _) = refl
-mnemonic_is (instr.Const _ _) = refl
-mnemonic_is (instr.Add _ _ _) = refl
-mnemonic_is (instr.Sub _ _ _) = refl
-mnemonic_is (instr.Mul _ _ _) = refl
-mnemonic_is (instr.Div _ _ _) = refl
-mnemonic_is (instr.Mod _ _ _) = refl
-mnemonic_is (instr.Lt _ _) = refl
-mnemonic_is (instr.Le _ _) = refl
-mnemonic_is (instr.Gt _ _) = refl
-mnemonic_is (instr.Ge _ _) = refl
-mnemonic_is (instr.Eq _ _) = refl
-mnemonic_is (instr.Ne _ _) = refl
-mnemonic_is instr.Commit = refl
-mnemonic_is (instr.RemoveAtom _) = refl
-mnemonic_is (instr.RemovePart _) = refl
-mnemonic_is (instr.RemoveMem _) = refl
-mnemonic_is (instr.NewAtom _ _ _) = refl
-mnemonic_is (instr.NewInt _ _ _) = refl
-mnemonic_is (instr.NewMem _ _) = refl
-mnemonic_is (instr.CopyGround _ _ _) = refl
-mnemonic_is (instr.MoveCells _ _) = refl
-mnemonic_is (instr.CopyCells _ _) = refl
-mnemonic_is (instr.LoadRule _ _) = refl
-mnemonic_is (instr.CopyRules _ _) = refl
-mnemonic_is (instr.DropCells _) = refl
-mnemonic_is (instr.NewLink _ _) = refl
-mnemonic_is (instr.Relink _ _) = refl
-mnemonic_is (instr.Unify _ _) = refl
-mnemonic_is instr.Proceed = refl
+use Rattle.lmn_instr_code.specs.declared.opcode.Opcode.{Opcode}
+use Rattle.lmn_instr_code.specs.declared.opcode.Opcode.TheVariants as opcode
+use Rattle.lmn_instr_code.specs.declared.opcode.TheConstants.{OPCODES}
+use Rattle.lmn_instr_code.specs.declared.opcode.Kind.{Kind}
+use Rattle.lmn_instr_code.specs.declared.opcode.Kind.TheVariants as kind
+use Rattle.lmn_instr_code.specs.declared.opcode.Form.{Form}
+use Rattle.lmn_instr_code.specs.Opcodes.{opcode_name, form_of}
 
 -- a name has no space
 pub no_space : (op : Opcode) → list_all (λ b. not (b == 32)) (opcode_name op) ≡ true

@@ -8,14 +8,14 @@ use Rattle.lmn_base.specs.declared.functor.Functor.{Functor}
 use Rattle.lmn_base.specs.declared.functor.Label.{Label}
 use Rattle.lmn_base.specs.declared.functor.Label.TheVariants as label
 use Rattle.lmn_base.proofs.Lists.{all_append, map_append, tail_is}
-use Rattle.lmn_verify_code.specs.declared.words.Operand.{Operand}
-use Rattle.lmn_verify_code.specs.declared.words.Operand.TheVariants as operand
+use Rattle.lmn_instr_code.specs.declared.words.Operand.{Operand}
+use Rattle.lmn_instr_code.specs.declared.words.Operand.TheVariants as operand
 use Rattle.lmn_instr_code.specs.Labels.{listed_label_text}
-use Rattle.lmn_verify_code.specs.Operands.{operand_text, operands_text}
+use Rattle.lmn_instr_code.specs.Listings.{operand_text, operands_text}
 use Rattle.lmn_instr_reading.specs.Reading.{IsIn64Bits, IsLabelText, IsFunctorText, IsShortLabel}
-use Rattle.lmn_verify_listing.specs.declared.opcode.Kind.{Kind}
-use Rattle.lmn_verify_listing.specs.declared.opcode.Kind.TheVariants as kind
-use Rattle.lmn_verify_listing.specs.Opcodes.{FitsKind, FitsLabel}
+use Rattle.lmn_instr_code.specs.declared.opcode.Kind.{Kind}
+use Rattle.lmn_instr_code.specs.declared.opcode.Kind.TheVariants as kind
+use Rattle.lmn_verify_listing.specs.Forms.{FitsKind, FitsLabel}
 use Rattle.lmn_verify_listing.specs.Lines.{IsShortOperand, HasNo, IsPlaceOf}
 use Rattle.lmn_verify_listing.specs.Taking.{IsBehind, one_text, parts_text, AllSmall}
 use Rattle.lmn_verify_listing.proofs.Places.{has_no_decimal, has_no_signed, cut_there, place_is}

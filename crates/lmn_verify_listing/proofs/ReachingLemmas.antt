@@ -10,17 +10,15 @@ use Rattle.lmn_base.specs.declared.refusal.Refusal.{Refusal}
 use Rattle.lmn_base.proofs.Lists.{all_append}
 use Rattle.lmn_instr_code.specs.declared.instr.Instr.{Instr}
 use Rattle.lmn_instr_code.specs.declared.instr.Instr.TheVariants as instr
-use Rattle.lmn_instr_code.specs.Words.{mnemonic}
-use Rattle.lmn_verify_code.specs.Operands.{operands}
-use Rattle.lmn_instr_code.specs.Listings.{line, HasInstr}
-use Rattle.lmn_verify_code.specs.Operands.{instr_names, operands_text}
+use Rattle.lmn_instr_code.specs.Words.{mnemonic, operands, opcode_of}
+use Rattle.lmn_instr_code.specs.Listings.{line, HasInstr, operands_text}
+use Rattle.lmn_verify_code.specs.Operands.{instr_names}
 use Rattle.lmn_instr_reading.specs.Reading.{AddsNames, NumbersNames}
-use Rattle.lmn_verify_listing.specs.Opcodes.{opcode_of, is_in_head}
-use Rattle.lmn_verify_listing.specs.declared.opcode.Opcode.TheVariants as opcode
+use Rattle.lmn_instr_code.specs.Opcodes.{is_in_head}
+use Rattle.lmn_instr_code.specs.declared.opcode.Opcode.TheVariants as opcode
 use Rattle.lmn_verify_listing.specs.Lines.{Due, head, body, nothing, due_rule, due_behind, StandsAs, Stand, HasNo, IsPlaceOf, IsLine, HasShortNames, FitsInstr, IsWholeLine, joined_lines, first_line, IsWrongLine}
 use Rattle.lmn_verify_listing.specs.Reaching.{Reached, IsLineEnd, IsReadAt, AreRead, IsBegun, IsEnded, IsRefusedLine, due_in, due_out, last_of}
 use Rattle.lmn_instr_reading.proofs.NameLemmas.{adds_both, adds_none, adds_more as adds_fewer, numbers_same}
-use Rattle.lmn_verify_listing.proofs.Listed.{same_line}
 use Rattle.lmn_verify_listing.proofs.LineLemmas.{more_instrs}
 use Rattle.lmn_base.proofs.Common.{numbers_both}
 
@@ -264,7 +262,7 @@ whole_where text (inr h) front e = absurd (has_feed front [] (subst (HasNo 10) (
 pub whole_line : (ns : List (List ℕ)) (i : Instr) (text : List ℕ) → line ns i ≡ text → IsWholeLine text ⊎ HasNo 10 text → IsWholeLine (line ns i)
 whole_line ns i text e w =
     subst IsWholeLine (sym e) (whole_where text w (codes "  " ++ (mnemonic i ++ operands_text ns (operands i)))
-    (ap (λ t. 32 ∷ 32 ∷ t) (append_assoc (mnemonic i) (operands_text ns (operands i)) (codes "\n")) ∙ same_line ns i ∙ e))
+    (ap (λ t. 32 ∷ 32 ∷ t) (append_assoc (mnemonic i) (operands_text ns (operands i)) (codes "\n")) ∙ e))
 
 -- a line that was read
 pub read_at_is : (b : Bool) (names : List (List ℕ)) (listing text : List ℕ) (at : ℕ) (i : Instr) (end : ℕ) → IsLineEnd listing at end → text ≡ take (end - at) (drop at listing)

@@ -16,20 +16,19 @@ use Rattle.lmn_base.specs.declared.functor.Label.TheVariants as label
 use Rattle.lmn_base.proofs.HeldNames.{get_last, one_more}
 use Rattle.lmn_base.proofs.Lists.{head_is, tail_is}
 use Rattle.lmn_instr_code.specs.Labels.{HasLabel, listed_label_text}
-use Rattle.lmn_instr_code.specs.Listings.{line, HasInstr}
-use Rattle.lmn_instr_code.specs.Words.{mnemonic}
+use Rattle.lmn_instr_code.specs.Listings.{line, HasInstr, HasOperand, operand_text, operands_text}
+use Rattle.lmn_instr_code.specs.Words.{mnemonic, operands, opcode_of}
 use Rattle.lmn_instr_code.specs.declared.instr.Instr.{Instr}
 use Rattle.lmn_instr_code.specs.declared.instr.Instr.TheVariants.{FindAtom, Func, IsClosed, NAtoms, NewAtom, NewLink, Relink}
 use Rattle.lmn_instr_code.specs.declared.instr.NewPort.TheVariants as new
 use Rattle.lmn_instr_reading.specs.Reading.{AddsNames, IsShortLabel, NumbersNames}
 use Rattle.lmn_instr_reading.proofs.NameLemmas.{adds_more, adds_none, named_text, numbers_put, short_named}
-use Rattle.lmn_verify_code.specs.Operands.{HasOperand, instr_names, operand_names, operand_text, operands, operands_text}
-use Rattle.lmn_verify_code.specs.declared.words.Operand.{Operand}
-use Rattle.lmn_verify_code.specs.declared.words.Operand.TheVariants as operand
+use Rattle.lmn_verify_code.specs.Operands.{instr_names, operand_names}
+use Rattle.lmn_instr_code.specs.declared.words.Operand.{Operand}
+use Rattle.lmn_instr_code.specs.declared.words.Operand.TheVariants as operand
 use Rattle.lmn_verify_listing.specs.Lines.{FitsInstr, HasShortNames, IsShortOperand}
-use Rattle.lmn_verify_listing.specs.Opcodes.{FitsKind, FitsLabel, opcode_of}
-use Rattle.lmn_verify_listing.specs.declared.opcode.Kind.TheVariants as kind
-use Rattle.lmn_verify_listing.proofs.Listed.{has_instr, same_line}
+use Rattle.lmn_verify_listing.specs.Forms.{FitsKind, FitsLabel}
+use Rattle.lmn_instr_code.specs.declared.opcode.Kind.TheVariants as kind
 
 -- ---- a label
 
@@ -139,12 +138,12 @@ module _ (ns names : List (List ℕ)) where
     once = once;
     opcode = code;
     fits = fits;
-    named = has_instr later again (subst (AllByRecursion (HasOperand later)) (sym made) (front_named later ns xs ys front nameless has));
+    named = subst (AllByRecursion (HasOperand later)) (sym made) (front_named later ns xs ys front nameless has);
     short = subst (AllByRecursion (IsShortOperand later)) (sym made) (front_short later ns xs ys front nameless short);
     text =
         let same : operands_text later (operands again) ≡ operands_text ns (operands i) =
         ap (operands_text later) made ∙ front_text later ns xs ys front nameless text ∙ ap (operands_text ns) (sym old) in
-        sym (same_line later again) ∙ (λ j. 32 ∷ 32 ∷ (name j ++ (same j ++ codes "\n"))) ∙ same_line ns i;
+        λ j. 32 ∷ 32 ∷ (name j ++ (same j ++ codes "\n"));
     order = subst (λ ks. NumbersNames names ks later) (sym (ap (flat_map operand_names) made ∙ front_names later ns xs ys front nameless)) order;
   }
 

@@ -1,4 +1,4 @@
-pub mod Opcodes
+pub mod Forms
 pub mod Lines
 pub mod Taking
 pub mod Listings

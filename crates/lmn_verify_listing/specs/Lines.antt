@@ -3,12 +3,13 @@ use Rattle.std.specs.Prelude.{ℕ, ◌≡◌, ◌≢◌, ◌≤◌, ◌<◌, ◌
 use Rattle.std.specs.List.{AllByRecursion}
 use Rattle.std.specs.Fmt.{decimal}
 use Rattle.lmn_instr_code.specs.declared.instr.Instr.{Instr}
-use Rattle.lmn_verify_code.specs.declared.words.Operand.{Operand}
-use Rattle.lmn_verify_code.specs.declared.words.Operand.TheVariants.{Functor as Of}
-use Rattle.lmn_verify_code.specs.Operands.{operands}
+use Rattle.lmn_instr_code.specs.declared.words.Operand.{Operand}
+use Rattle.lmn_instr_code.specs.declared.words.Operand.TheVariants.{Functor as Of}
+use Rattle.lmn_instr_code.specs.Words.{operands, opcode_of}
 use Rattle.lmn_instr_reading.specs.Reading.{IsShortLabel}
 use Rattle.lmn_instr_code.specs.Listings.{line}
-use Rattle.lmn_verify_listing.specs.Opcodes.{opcode_of, form_of, is_in_head, FitsForm, in_form}
+use Rattle.lmn_instr_code.specs.Opcodes.{form_of, is_in_head}
+use Rattle.lmn_verify_listing.specs.Forms.{FitsForm, in_form}
 
 -- the name of an operand has at most 255 bytes
 abbrev pub IsShortOperand : List (List ℕ) → Operand → Type 0

@@ -8,7 +8,8 @@ use Rattle.lmn_instr_code.specs.declared.instr.Instr.TheVariants.{Commit, Procee
 use Rattle.lmn_instr_code.specs.Listings.{line, code_listing, HasCode}
 use Rattle.lmn_verify_code.specs.Operands.{code_names}
 use Rattle.lmn_verify_code.specs.Verified.{IsVerified}
-use Rattle.lmn_verify_listing.specs.Opcodes.{opcode_of, is_in_head}
+use Rattle.lmn_instr_code.specs.Words.{opcode_of}
+use Rattle.lmn_instr_code.specs.Opcodes.{is_in_head}
 use Rattle.lmn_verify_listing.specs.Lines.{HasShortNames, FitsInstr, IsWholeLine, IsWrongLine}
 
 -- instructions of a head or of a body, of which the one that ends it is the last and no other

@@ -8,7 +8,8 @@ use Rattle.lmn_instr_code.specs.declared.instr.Instr.TheVariants.{Commit, Procee
 use Rattle.lmn_instr_code.specs.Listings.{line, code_listing, HasInstr, HasCode}
 use Rattle.lmn_instr_reading.specs.Reading.{AddsNames, NumbersNames}
 use Rattle.lmn_verify_code.specs.Operands.{instr_names, code_names}
-use Rattle.lmn_verify_listing.specs.Opcodes.{opcode_of, is_in_head}
+use Rattle.lmn_instr_code.specs.Words.{opcode_of}
+use Rattle.lmn_instr_code.specs.Opcodes.{is_in_head}
 use Rattle.lmn_verify_listing.specs.Lines.{Due, rule, head, body, due_rule, Stand, HasNo, IsWholeLine, IsWrongLine, HasShortNames, FitsInstr, joined_lines, first_line}
 use Rattle.lmn_verify_listing.specs.Listings.{IsBlock, IsWholeCode, HasPlainLine, HasPlainLines, lines_of, lines_of_all, listings_from}
 

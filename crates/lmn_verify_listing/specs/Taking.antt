@@ -1,12 +1,13 @@
 -- What is taken from the front of a text. No public contract cites a word of this module.
 use Rattle.std.specs.Prelude.{ℕ, ◌≡◌, ◌<◌, ◌^◌, ◌⊎◌, List, [], ◌∷◌, ◌++◌, codes, map, Option, Some, None}
 use Rattle.std.specs.List.{AllByRecursion}
-use Rattle.lmn_verify_code.specs.declared.words.Operand.{Operand}
-use Rattle.lmn_verify_code.specs.declared.words.Operand.TheVariants as operand
-use Rattle.lmn_verify_code.specs.Operands.{operand_names, operand_text, operands_text, HasOperand}
+use Rattle.lmn_instr_code.specs.declared.words.Operand.{Operand}
+use Rattle.lmn_instr_code.specs.declared.words.Operand.TheVariants as operand
+use Rattle.lmn_verify_code.specs.Operands.{operand_names}
+use Rattle.lmn_instr_code.specs.Listings.{operand_text, operands_text, HasOperand}
 use Rattle.lmn_verify_listing.specs.Lines.{IsShortOperand}
-use Rattle.lmn_verify_listing.specs.declared.opcode.Kind.{Kind}
-use Rattle.lmn_verify_listing.specs.declared.opcode.Kind.TheVariants as kind
+use Rattle.lmn_instr_code.specs.declared.opcode.Kind.{Kind}
+use Rattle.lmn_instr_code.specs.declared.opcode.Kind.TheVariants as kind
 
 -- nothing stands behind, or a space first
 abbrev pub IsBehind : List ℕ → Type 0

@@ -1,14 +1,13 @@
 //! Makes an instruction of its name and its operands.
 ghost use Rattle.std.specs.Prelude.{◌≡◌, ◌++◌, map, List};
-ghost use Rattle.lmn_verify_code.specs.Operands.{operands, port_operand};
-ghost use Rattle.lmn_verify_code.specs.declared.words.Operand.TheVariants as ops;
-ghost use Rattle.lmn_verify_listing.specs.declared.opcode.Kind.TheVariants as kinds;
-ghost use Rattle.lmn_verify_listing.specs.Opcodes.{opcode_of, form_of, FitsKind, FitsForm, in_form};
+ghost use Rattle.lmn_instr_code.specs.Words.{operands, port_operand, opcode_of};
+ghost use Rattle.lmn_instr_code.specs.declared.words.Operand.TheVariants as ops;
+ghost use Rattle.lmn_instr_code.specs.declared.opcode.Kind.TheVariants as kinds;
+ghost use Rattle.lmn_instr_code.specs.Opcodes.{form_of};
+ghost use Rattle.lmn_verify_listing.specs.Forms.{FitsKind, FitsForm, in_form};
 
-use crate::opcode::Opcode;
 use lmn_base::{Functor, Rows};
-use lmn_instr_code::{AtomPort, Instr, NewPort};
-use lmn_verify_code::Operand;
+use lmn_instr_code::{AtomPort, Instr, NewPort, Opcode, Operand};
 
 /// The operand as the register of an atom.
 fn atom(operand: Operand) -> u16

@@ -7,10 +7,8 @@ mod building;
 pub mod laws;
 mod line;
 mod listing;
-mod opcode;
 mod operand;
 
 pub use building::build;
 pub use line::read_line;
 pub use listing::read;
-pub use opcode::{Form, Kind, Opcode};

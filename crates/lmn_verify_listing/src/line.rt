@@ -1,24 +1,23 @@
 //! Reads the line of an instruction.
 ghost use Rattle.std.specs.Prelude.{ℕ, List, ◌≡◌, ◌≢◌, ◌<◌, ◌+◌, ◌^◌, ◌++◌, [], IfSome, IfNone, IfOk, OnErr, IsSomeAnd, codes, length, true, false, Bool};
 ghost use Rattle.lmn_instr_reading.specs.Reading.{AddsNames, NumbersNames};
-ghost use Rattle.lmn_instr_code.specs.Listings.{HasInstr, line as line_of};
-ghost use Rattle.lmn_verify_code.specs.Operands.{instr_text, HasOperands, operand_text, operands_text, HasOperand};
-ghost use Rattle.lmn_verify_code.specs.Operands.{operands, operand_names, instr_names};
+ghost use Rattle.lmn_instr_code.specs.Listings.{HasInstr, line as line_of, operand_text, operands_text, HasOperand};
+ghost use Rattle.lmn_instr_code.specs.Words.{operands, opcode_of};
+ghost use Rattle.lmn_verify_code.specs.Operands.{operand_names, instr_names};
 ghost use Rattle.lmn_instr_code.specs.declared.instr.Instr.{Instr as TheInstr};
-ghost use Rattle.lmn_verify_code.specs.declared.words.Operand.{Operand as TheOperand};
-ghost use Rattle.lmn_verify_code.specs.declared.words.Operand.TheVariants as ops;
-ghost use Rattle.lmn_verify_listing.specs.declared.opcode.Kind.TheVariants as kinds;
-ghost use Rattle.lmn_verify_listing.specs.Opcodes.{FitsKind, FitsSome, FitsForm, form_of, opcode_of, is_in_head};
+ghost use Rattle.lmn_instr_code.specs.declared.words.Operand.{Operand as TheOperand};
+ghost use Rattle.lmn_instr_code.specs.declared.words.Operand.TheVariants as ops;
+ghost use Rattle.lmn_instr_code.specs.declared.opcode.Kind.TheVariants as kinds;
+ghost use Rattle.lmn_verify_listing.specs.Forms.{FitsKind, FitsSome, FitsForm};
+ghost use Rattle.lmn_instr_code.specs.Opcodes.{form_of, is_in_head};
 ghost use Rattle.lmn_verify_listing.specs.Lines.{IsShortOperand, HasShortNames, FitsInstr, IsLine};
 ghost use Rattle.lmn_verify_listing.specs.Taking.{IsBehind, FollowsKind, Follows, one_text, some_names, some_text, HasSome, ShortSome, parts_text, AllSmall};
 
 use crate::building::build;
-use crate::opcode::{Kind, Opcode};
 use crate::operand::{place_of, read_plain};
 use lmn_base::{Names, NoMemory, Rows};
-use lmn_instr_code::Instr;
+use lmn_instr_code::{Instr, Kind, Opcode, Operand};
 use lmn_instr_reading::read_functor;
-use lmn_verify_code::Operand;
 use std::alloc::Global;
 
 /// An operand that was read, and what stands behind it.
@@ -162,7 +161,7 @@ fn read_operands(
     names: &mut Names,
 ) -> Result<Option<Instr>, NoMemory>
     requires { length names.old + 3 < 2 ^ 32 }
-    ensures some { IfOk result (λ found. IfSome found (λ i. (opcode_of i ≡ opcode) × FitsInstr i × HasOperands names.new i × HasShortNames names.new i × (operands_text names.new (operands i) ≡ text.now))) }
+    ensures some { IfOk result (λ found. IfSome found (λ i. (opcode_of i ≡ opcode) × FitsInstr i × HasInstr names.new i × HasShortNames names.new i × (operands_text names.new (operands i) ≡ text.now))) }
     ensures none { IfOk result (λ found. IfNone found ((i : TheInstr) (ns : List (List ℕ)) → opcode_of i ≡ opcode → FitsInstr i → HasShortNames ns i → operands_text ns (operands i) ≡ text.now → ⊥)) }
     ensures order { IfOk result (λ found. IfSome found (λ i. NumbersNames names.old (instr_names i) names.new)) }
     ensures names { AddsNames 3 names.old names.new }
@@ -200,22 +199,6 @@ pub fn read_line(
 ) -> Result<Option<Instr>, NoMemory>
     requires { length names.old + 3 < 2 ^ 32 }
     ensures some { IfOk result (λ found. IfSome found (λ i. (is_in_head (opcode_of i) ≡ in_head) × FitsInstr i × HasInstr names.new i × HasShortNames names.new i × (line_of names.new i ≡ line.now))) }
-    ensures none { IfOk result (λ found. IfNone found (IsLine in_head line.now → ⊥)) }
-    ensures order { IfOk result (λ found. IfSome found (λ i. NumbersNames names.old (instr_names i) names.new)) }
-    ensures names { AddsNames 3 names.old names.new }
-{
-    read_instr(alloc, in_head, line, names)
-}
-
-/// The instruction whose name and operands stand in a line.
-fn read_instr(
-    alloc: Global,
-    in_head: bool,
-    line: &[u8],
-    names: &mut Names,
-) -> Result<Option<Instr>, NoMemory>
-    requires { length names.old + 3 < 2 ^ 32 }
-    ensures some { IfOk result (λ found. IfSome found (λ i. (is_in_head (opcode_of i) ≡ in_head) × FitsInstr i × HasOperands names.new i × HasShortNames names.new i × (instr_text names.new i ≡ line.now))) }
     ensures none { IfOk result (λ found. IfNone found (IsLine in_head line.now → ⊥)) }
     ensures order { IfOk result (λ found. IfSome found (λ i. NumbersNames names.old (instr_names i) names.new)) }
     ensures names { AddsNames 3 names.old names.new }

@@ -4,7 +4,7 @@ ghost use Rattle.std.specs.List.{AllByRecursion, flat_map};
 ghost use Rattle.std.specs.Fmt.{decimal};
 ghost use Rattle.lmn_base.specs.Refusals.{IfRefused};
 ghost use Rattle.lmn_base.specs.declared.refusal.TextFault.TheVariants as fault;
-ghost use Rattle.lmn_verify_listing.specs.Opcodes.{opcode_of};
+ghost use Rattle.lmn_instr_code.specs.Words.{opcode_of};
 ghost use Rattle.lmn_instr_reading.specs.Reading.{AddsNames, NumbersNames};
 ghost use Rattle.lmn_verify_code.specs.Operands.{instr_names, code_names};
 ghost use Rattle.lmn_verify_listing.specs.Lines.{IsLine, rule, first_line};

@@ -1,19 +1,16 @@
 //! Reads operands, each from its own text.
 ghost use Rattle.std.specs.Prelude.{ℕ, List, ◌≡◌, ◌≢◌, ◌<◌, ◌≤◌, ◌^◌, ◌++◌, ◌∷◌, [], IfSome, IfNone, IfOk, OnErr, length};
 ghost use Rattle.std.specs.Fmt.{decimal};
-ghost use Rattle.lmn_instr_code.specs.Listings.{port_text};
-ghost use Rattle.lmn_verify_code.specs.Operands.{operand_text, HasOperand};
+ghost use Rattle.lmn_instr_code.specs.Listings.{port_text, operand_text, HasOperand};
 ghost use Rattle.lmn_instr_code.specs.declared.instr.AtomPort.{AtomPort as TheAtomPort};
-ghost use Rattle.lmn_verify_code.specs.declared.words.Operand.{Operand as TheOperand};
-ghost use Rattle.lmn_verify_listing.specs.Opcodes.{FitsKind};
+ghost use Rattle.lmn_instr_code.specs.declared.words.Operand.{Operand as TheOperand};
+ghost use Rattle.lmn_verify_listing.specs.Forms.{FitsKind};
 ghost use Rattle.lmn_verify_listing.specs.Lines.{IsPlaceOf, IsShortOperand};
-ghost use Rattle.lmn_verify_listing.specs.declared.opcode.Kind.TheVariants as kinds;
+ghost use Rattle.lmn_instr_code.specs.declared.opcode.Kind.TheVariants as kinds;
 
-use crate::opcode::Kind;
 use lmn_base::limits::MOST_LINKS;
-use lmn_instr_code::AtomPort;
+use lmn_instr_code::{AtomPort, Kind, Operand};
 use lmn_instr_reading::{read_integer, read_number};
-use lmn_verify_code::Operand;
 
 /// The number of the register that a text names by its letter.
 pub(crate) fn read_register(letter: u8, text: &[u8]) -> Option<u16>

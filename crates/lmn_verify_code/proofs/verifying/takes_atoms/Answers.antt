@@ -1,6 +1,6 @@
 use Rattle.std.proofs.Common.{◌++◌, map}
 use Rattle.lmn_congruence_splice.specs.Classes.{rising}
-use Rattle.lmn_verify_code.specs.declared.words.Operand.TheVariants as operand
+use Rattle.lmn_instr_code.specs.declared.words.Operand.TheVariants as operand
 use Rattle.lmn_verify_code.proofs.VerifyingLemmas.{held_more, ends_early, not_removed, one_removed}
 use Rattle.lmn_verify_code.proofs.verifying.takes_atoms.Goals as goal
 

@@ -1,5 +1,5 @@
 use Rattle.std.proofs.Common.{◌+◌}
-use Rattle.lmn_verify_code.specs.declared.words.Operand.TheVariants as operand
+use Rattle.lmn_instr_code.specs.declared.words.Operand.TheVariants as operand
 use Rattle.lmn_verify_code.proofs.VerifyingLemmas.{last_more, ends_early, not_removed, one_removed}
 use Rattle.lmn_verify_code.proofs.verifying.takes_membranes.Goals as goal
 

@@ -1,6 +1,6 @@
 use Rattle.std.proofs.Common.{◌≡◌, ◌-◌, ◌+◌, drop, map}
 use Rattle.lmn_congruence_splice.specs.Classes.{rising}
-use Rattle.lmn_verify_code.specs.declared.words.Operand.TheVariants as operand
+use Rattle.lmn_instr_code.specs.declared.words.Operand.TheVariants as operand
 use Rattle.lmn_verify_code.specs.Verified.{takes_out}
 use Rattle.lmn_verify_code.proofs.verifying.takes_membranes.Given as goal
 

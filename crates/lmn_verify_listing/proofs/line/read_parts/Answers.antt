@@ -1,6 +1,6 @@
 use Rattle.std.proofs.Common.{◌++◌, ℕ, List, [], sym, ap, ◌∙◌, subst, rules}
-use Rattle.lmn_verify_code.specs.declared.words.Operand.{Operand}
-use Rattle.lmn_verify_code.specs.declared.words.Operand.TheVariants as operand
+use Rattle.lmn_instr_code.specs.declared.words.Operand.{Operand}
+use Rattle.lmn_instr_code.specs.declared.words.Operand.TheVariants as operand
 use Rattle.lmn_verify_listing.specs.Taking.{one_text, parts_text}
 use Rattle.lmn_verify_listing.proofs.OperandLemmas.{Parted, parted_more, parted_first, parts_behind, shorter, not_empty}
 use Rattle.lmn_verify_listing.proofs.line.read_parts.Goals as goal

@@ -1,7 +1,7 @@
 use Rattle.std.proofs.Common.{List, ℕ, ap, refl, subst, sym}
 use Rattle.lmn_instr_reading.specs.Reading.{NumbersNames}
 use Rattle.lmn_instr_reading.proofs.NameLemmas.{numbers_same}
-use Rattle.lmn_verify_code.specs.declared.words.Operand.TheVariants.{Number}
+use Rattle.lmn_instr_code.specs.declared.words.Operand.TheVariants.{Number}
 use Rattle.lmn_verify_listing.specs.Taking.{some_names}
 use Rattle.lmn_verify_listing.proofs.line.take_operand.Goals as goal
 
