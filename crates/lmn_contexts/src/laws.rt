@@ -25,8 +25,12 @@ pub fn uses_that_offend()
     ensures nowhere { NotInHead }
     ensures no_rules { RuleContextNotInHead }
     ensures two_forms { InTwoForms }
-    ensures closed_at_top { ClosedAtTop }
-    ensures closed_copied { ClosedCopied }
+{}
+
+/// The same of a closed context.
+pub fn closed_uses_that_offend()
+    ensures at_top { ClosedAtTop }
+    ensures copied { ClosedCopied }
     ensures open_and_closed { OpenAndClosed }
 {}
 

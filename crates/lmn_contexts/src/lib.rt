@@ -7,5 +7,5 @@ mod rules;
 mod size;
 mod uses;
 
-pub use laws::{heads_that_offend, rules_within_limits, uses_that_offend};
+pub use laws::{closed_uses_that_offend, heads_that_offend, rules_within_limits, uses_that_offend};
 pub use rules::check_rule;

@@ -9,18 +9,22 @@ pub fn regions_have_one_folded_line()
     ensures one { OneFoldedLine }
 {}
 
-/// Folded lines of small regions.
-pub fn small_examples()
-    ensures two_lists { TwoLists }
-    ensures an_answer { AnAnswer }
+/// Folded lines of small regions: which atoms are written as arguments of others.
+pub fn small_terms()
     ensures in_a_circle { InACircle }
     ensures beside_a_circle { BesideACircle }
     ensures own_argument { OwnArgument }
-    ensures shared_rest { SharedRest }
-    ensures other_rest { OtherRest }
     ensures last_ports { LastPorts }
     ensures not_the_first { NotTheFirst }
+    ensures across { Across }
+{}
+
+/// The same of lists.
+pub fn small_lists()
+    ensures two_lists { TwoLists }
+    ensures an_answer { AnAnswer }
+    ensures shared_rest { SharedRest }
+    ensures other_rest { OtherRest }
     ensures no_lists { NoLists }
     ensures cell_as_item { CellAsItem }
-    ensures across { Across }
 {}
