@@ -48,10 +48,9 @@ pub fn flatten(
     ensures grows { GrowsBy (length tokens.now + 3) names.old names.new }
     ensures names { MatchResult result (λ plain. names.new ≡ names_read names.old (words_of text.now tokens.now))
         (λ fault. IfRefused fault (λ refusal. names.new ≡ names_read names.old (words_of text.now tokens.now))) }
-    ensures plain { MatchResult result
-        (λ plain. IsPlain text.now tokens.now (clauses_of_tree tree.now) names.new plain × NoneApplies (outside_rules plain.top ∷ []))
-        (λ fault. IfRefused fault (λ refusal. (plain : Plain) × IsPlain text.now tokens.now (clauses_of_tree tree.now) names.new plain
-        × RefusedBy (outside_rules plain.top ∷ []) refusal)) }
+    ensures plain { let is_read = IsPlain text.now tokens.now (clauses_of_tree tree.now) names.new in MatchResult result
+        (λ p. is_read p × NoneApplies (outside_rules p.top ∷ []))
+        (λ fault. IfRefused fault (λ refusal. (p : Plain) × is_read p × RefusedBy (outside_rules p.top ∷ []) refusal)) }
 {
     let glossary = Glossary::read(alloc, text, tokens, names)?;
     let plain = expanded(glossary, tree)?;
