@@ -4,3 +4,4 @@ pub mod Follow
 pub mod Copies
 pub mod Rests
 pub mod RestExamples
+pub mod Stands

@@ -3,6 +3,7 @@ ghost use Rattle.std.specs.Prelude.{◌≡◌, ◌<◌, ◌/◌, ◌↔◌, ℕ,
 ghost use Rattle.lmn_base.specs.Graphs.{SameGraph};
 ghost use Rattle.lmn_store_heap.specs.Graphs.{atom_map};
 ghost use Rattle.lmn_store_heap.specs.Heap.{IsAtom, arity_of, functor_of, link_of};
+ghost use Rattle.lmn_store_heap.specs.Splice.{IsPort};
 ghost use Rattle.lmn_ground.specs.Marks.{first_marks};
 ghost use Rattle.lmn_ground.specs.Spread.{CleanPart, Numbered, Spread};
 ghost use Rattle.lmn_ground.specs.Follow.{Two};
@@ -76,9 +77,8 @@ fn both_ends<S: LinkStore>(
 /// Walks through x's part, whose atoms have no marks, with y's part, whose atoms have numbers, in step. Answers how many
 /// atoms are marked, and whether the parts are equal.
 pub fn compare<S: LinkStore>(store: &mut S, x: (S::Atom, u8), y: (S::Atom, u8)) -> (u64, bool)
-    requires x { IsAtom (S.heap store.old) (S.atom_id x.0) }
+    requires x { IsPort (S.heap store.old) (S.atom_id x.0) x.1 }
     requires y { IsAtom (S.heap store.old) (S.atom_id y.0) }
-    requires port { x.1 < arity_of (S.heap store.old) (S.atom_id x.0) }
     requires clean { CleanPart (S.heap store.old) (S.atom_id x.0, x.1) }
     requires alike { functor_of (S.heap store.old) (S.atom_id y.0) ≡ functor_of (S.heap store.old) (S.atom_id x.0) }
     requires two { (xs : List ℕ) × (ys : List ℕ) × Two (S.heap store.old) (S.atom_id x.0, x.1) (S.atom_id y.0, y.1) xs ys × Numbered (first_marks (S.heap store.old)) 2 ys }

@@ -2,6 +2,7 @@
 ghost use Rattle.std.specs.Prelude.{◌≡◌, ◌<◌, ℕ, List, [], None, IfOk, OnErr, OnOk, length, map};
 ghost use Rattle.lmn_store_heap.specs.Conditions.{Alone};
 ghost use Rattle.lmn_store_heap.specs.Heap.{IsAtom, arity_of, PortsUnmarked};
+ghost use Rattle.lmn_store_heap.specs.Splice.{IsPort};
 ghost use Rattle.lmn_ground.specs.Marks.{first_marks};
 ghost use Rattle.lmn_ground.specs.Spread.{AreAtoms, CleanPart, IsWhole, Numbered};
 ghost use Rattle.lmn_ground.specs.Copies.{Copying, Made, Remains, unmarked_all};
@@ -130,8 +131,7 @@ fn copy_marked<S: LinkStore>(
     root: (S::Atom, u8),
     atoms: &mut Found<S::Atom>,
 ) -> Result<S::Atom, NoMemory>
-    requires atom { IsAtom (S.heap store.old) (S.atom_id root.0) }
-    requires port { root.1 < arity_of (S.heap store.old) (S.atom_id root.0) }
+    requires root { IsPort (S.heap store.old) (S.atom_id root.0) root.1 }
     requires clean { CleanPart (S.heap store.old) (S.atom_id root.0, root.1) }
     requires ground { IsWhole (S.heap store.old) (S.atom_id root.0, root.1) None }
     requires outside { LeadsOut (S.heap store.old) (S.atom_id root.0, root.1) }
@@ -157,8 +157,7 @@ fn copy_lone<S: LinkStore>(
     store: &mut S,
     root: (S::Atom, u8),
 ) -> Result<(S::Atom, u8), NoMemory>
-    requires atom { IsAtom (S.heap store.old) (S.atom_id root.0) }
-    requires port { root.1 < arity_of (S.heap store.old) (S.atom_id root.0) }
+    requires root { IsPort (S.heap store.old) (S.atom_id root.0) root.1 }
     requires ground { IsWhole (S.heap store.old) (S.atom_id root.0, root.1) None }
     requires outside { LeadsOut (S.heap store.old) (S.atom_id root.0, root.1) }
     requires lone { arity_of (S.heap store.old) (S.atom_id root.0) ≡ 1 }
@@ -190,8 +189,7 @@ pub fn copy_counted<S: LinkStore>(
     store: &mut S,
     root: (S::Atom, u8),
 ) -> Result<CountedCopy<S::Atom>, NoMemory>
-    requires atom { IsAtom (S.heap store.old) (S.atom_id root.0) }
-    requires port { root.1 < arity_of (S.heap store.old) (S.atom_id root.0) }
+    requires root { IsPort (S.heap store.old) (S.atom_id root.0) root.1 }
     requires clean { PortsUnmarked (S.heap store.old) }
     requires ground { IsWhole (S.heap store.old) (S.atom_id root.0, root.1) None }
     requires outside { LeadsOut (S.heap store.old) (S.atom_id root.0, root.1) }
@@ -228,8 +226,7 @@ pub fn copy<S: LinkStore>(
     store: &mut S,
     root: (S::Atom, u8),
 ) -> Result<(S::Atom, u8), NoMemory>
-    requires atom { IsAtom (S.heap store.old) (S.atom_id root.0) }
-    requires port { root.1 < arity_of (S.heap store.old) (S.atom_id root.0) }
+    requires root { IsPort (S.heap store.old) (S.atom_id root.0) root.1 }
     requires clean { PortsUnmarked (S.heap store.old) }
     requires ground { IsWhole (S.heap store.old) (S.atom_id root.0, root.1) None }
     requires outside { LeadsOut (S.heap store.old) (S.atom_id root.0, root.1) }

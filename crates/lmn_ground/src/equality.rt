@@ -2,7 +2,8 @@
 ghost use Rattle.std.specs.Prelude.{◌≡◌, ◌⊎◌, ◌<◌, ◌↔◌, ℕ, List, None, IsTrue, length};
 ghost use Rattle.lmn_base.specs.Graphs.{Reached, SameGraph};
 ghost use Rattle.lmn_store_heap.specs.Graphs.{atom_map};
-ghost use Rattle.lmn_store_heap.specs.Heap.{IsAtom, arity_of, functor_of, PortsUnmarked};
+ghost use Rattle.lmn_store_heap.specs.Heap.{IsAtom, functor_of, PortsUnmarked};
+ghost use Rattle.lmn_store_heap.specs.Splice.{IsPort};
 ghost use Rattle.lmn_ground.specs.Marks.{first_marks};
 ghost use Rattle.lmn_ground.specs.Spread.{CleanPart, IsWhole, Numbered};
 ghost use Rattle.lmn_ground.specs.Follow.{Two};
@@ -26,9 +27,8 @@ pub fn is_same_port<S: LinkStore>(store: &S, x: (S::Atom, u8), y: (S::Atom, u8))
 
 /// Whether two parts are equal, where the atoms of y's part have numbers.
 fn equals_numbered<S: LinkStore>(store: &mut S, x: (S::Atom, u8), y: (S::Atom, u8)) -> bool
-    requires x { IsAtom (S.heap store.old) (S.atom_id x.0) }
+    requires x { IsPort (S.heap store.old) (S.atom_id x.0) x.1 }
     requires y { IsAtom (S.heap store.old) (S.atom_id y.0) }
-    requires port { x.1 < arity_of (S.heap store.old) (S.atom_id x.0) }
     requires clean { CleanPart (S.heap store.old) (S.atom_id x.0, x.1) }
     requires alike { functor_of (S.heap store.old) (S.atom_id y.0) ≡ functor_of (S.heap store.old) (S.atom_id x.0) }
     requires two { (xs : List ℕ) × (ys : List ℕ) × Two (S.heap store.old) (S.atom_id x.0, x.1) (S.atom_id y.0, y.1) xs ys × Numbered (first_marks (S.heap store.old)) 2 ys }
@@ -42,10 +42,8 @@ fn equals_numbered<S: LinkStore>(store: &mut S, x: (S::Atom, u8), y: (S::Atom, u
 
 /// Whether two parts with no common atom are equal, where x's part has `size` atoms.
 fn equals_apart<S: LinkStore>(store: &mut S, x: (S::Atom, u8), y: (S::Atom, u8), size: u64) -> bool
-    requires x { IsAtom (S.heap store.old) (S.atom_id x.0) }
-    requires y { IsAtom (S.heap store.old) (S.atom_id y.0) }
-    requires port { x.1 < arity_of (S.heap store.old) (S.atom_id x.0) }
-    requires end { y.1 < arity_of (S.heap store.old) (S.atom_id y.0) }
+    requires x { IsPort (S.heap store.old) (S.atom_id x.0) x.1 }
+    requires y { IsPort (S.heap store.old) (S.atom_id y.0) y.1 }
     requires clean { PortsUnmarked (S.heap store.old) }
     requires ground { IsWhole (S.heap store.old) (S.atom_id x.0, x.1) None }
     requires other { IsWhole (S.heap store.old) (S.atom_id y.0, y.1) None }
@@ -70,10 +68,8 @@ fn equals_apart<S: LinkStore>(store: &mut S, x: (S::Atom, u8), y: (S::Atom, u8),
 
 /// Whether two parts are equal as rooted graphs. They have one root port, or no atom in common.
 pub fn equal<S: LinkStore>(store: &mut S, x: (S::Atom, u8), y: (S::Atom, u8)) -> bool
-    requires x { IsAtom (S.heap store.old) (S.atom_id x.0) }
-    requires y { IsAtom (S.heap store.old) (S.atom_id y.0) }
-    requires port { x.1 < arity_of (S.heap store.old) (S.atom_id x.0) }
-    requires end { y.1 < arity_of (S.heap store.old) (S.atom_id y.0) }
+    requires x { IsPort (S.heap store.old) (S.atom_id x.0) x.1 }
+    requires y { IsPort (S.heap store.old) (S.atom_id y.0) y.1 }
     requires clean { PortsUnmarked (S.heap store.old) }
     requires ground { IsWhole (S.heap store.old) (S.atom_id x.0, x.1) None }
     requires other { IsWhole (S.heap store.old) (S.atom_id y.0, y.1) None }

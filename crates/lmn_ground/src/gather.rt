@@ -1,6 +1,6 @@
 //! The walk that lists the atoms of a part.
 ghost use Rattle.std.specs.Prelude.{◌≡◌, ◌<◌, [], map, None, OnOk};
-ghost use Rattle.lmn_store_heap.specs.Heap.{IsAtom, arity_of};
+ghost use Rattle.lmn_store_heap.specs.Splice.{IsPort};
 ghost use Rattle.lmn_ground.specs.Spread.{CleanPart, IsWhole};
 ghost use Rattle.lmn_ground.specs.Copies.{NumbersAtoms, Gathered, unmarked_all};
 ghost use Rattle.lmn_ground_parts.specs.Copies.{AllAtoms};
@@ -17,8 +17,7 @@ pub fn gather<S: LinkStore>(
     root: (S::Atom, u8),
     atoms: &mut Found<S::Atom>,
 ) -> Result<(), NoMemory>
-    requires atom { IsAtom (S.heap store.old) (S.atom_id root.0) }
-    requires port { root.1 < arity_of (S.heap store.old) (S.atom_id root.0) }
+    requires root { IsPort (S.heap store.old) (S.atom_id root.0) root.1 }
     requires clean { CleanPart (S.heap store.old) (S.atom_id root.0, root.1) }
     requires ground { IsWhole (S.heap store.old) (S.atom_id root.0, root.1) None }
     requires empty { atoms.old ≡ [] }

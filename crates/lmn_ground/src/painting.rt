@@ -1,6 +1,7 @@
 //! The own marks of a part.
 ghost use Rattle.std.specs.Prelude.{◌≡◌, ◌<◌, ℕ, Bool, List, None};
 ghost use Rattle.lmn_store_heap.specs.Heap.{Heap, IsAtom, PortsUnmarked, arity_of, marked};
+ghost use Rattle.lmn_store_heap.specs.Splice.{IsPort};
 ghost use Rattle.lmn_ground.specs.Rests.{own_marked};
 ghost use Rattle.lmn_ground.specs.Spread.{IsWhole, Spread};
 ghost use Rattle.lmn_ground_parts.specs.Walks.{IsPartInDepth};
@@ -21,8 +22,7 @@ pub fn set_own<S: LinkStore>(store: &mut S, a: S::Atom, v: u64)
 
 /// Takes back the marks of a walk, and sets the own marks of its atoms.
 fn paint_marked<S: LinkStore>(store: &mut S, root: (S::Atom, u8), count: u64, v: u64)
-    requires atom { IsAtom (S.heap store.old) (S.atom_id root.0) }
-    requires port { root.1 < arity_of (S.heap store.old) (S.atom_id root.0) }
+    requires root { IsPort (S.heap store.old) (S.atom_id root.0) root.1 }
     requires spread { (before : Heap) × (all : Bool) × Spread before (S.heap store.old) (S.atom_id root.0, root.1) count all }
     ensures { (before : Heap) (all : Bool) (t : Spread before (S.heap store.old) (S.atom_id root.0, root.1) count all) → S.heap store.new ≡ own_marked v t.seen before }
 {
@@ -65,8 +65,7 @@ fn paint_marked<S: LinkStore>(store: &mut S, root: (S::Atom, u8), count: u64, v:
 
 /// Sets the own mark of each atom of the part with this root. All other marks are as they were.
 pub fn paint<S: LinkStore>(store: &mut S, root: (S::Atom, u8), v: u64)
-    requires atom { IsAtom (S.heap store.old) (S.atom_id root.0) }
-    requires port { root.1 < arity_of (S.heap store.old) (S.atom_id root.0) }
+    requires root { IsPort (S.heap store.old) (S.atom_id root.0) root.1 }
     requires clean { PortsUnmarked (S.heap store.old) }
     requires ground { IsWhole (S.heap store.old) (S.atom_id root.0, root.1) None }
     ensures { (all : List ℕ) × IsPartInDepth (S.heap store.old) (S.atom_id root.0, root.1) all × (S.heap store.new ≡ own_marked v all (S.heap store.old)) }

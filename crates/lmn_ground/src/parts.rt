@@ -2,7 +2,8 @@
 ghost use Rattle.std.specs.Prelude.{◌≡◌, ◌<◌, ◌↔◌, ℕ, List, None, IsTrue, length};
 ghost use Rattle.lmn_base.specs.Graphs.{Reached};
 ghost use Rattle.lmn_store_heap.specs.Graphs.{atom_map};
-ghost use Rattle.lmn_store_heap.specs.Heap.{IsAtom, IsInPlace, IsMem, arity_of, PortsUnmarked, taken_all};
+ghost use Rattle.lmn_store_heap.specs.Heap.{IsInPlace, IsMem, PortsUnmarked, taken_all};
+ghost use Rattle.lmn_store_heap.specs.Splice.{IsPort};
 ghost use Rattle.lmn_ground.specs.Spread.{AreAtoms, IsWhole, IsGroundIn};
 ghost use Rattle.lmn_ground_parts.specs.Walks.{IsPartInDepth};
 
@@ -14,8 +15,7 @@ use lmn_store_trait::LinkStore;
 
 /// Whether the part with this root stands whole in the membrane, and none of its atoms has the own mark 1.
 pub fn is_ground<S: LinkStore>(store: &mut S, root: (S::Atom, u8), mem: S::Mem) -> bool
-    requires atom { IsAtom (S.heap store.old) (S.atom_id root.0) }
-    requires port { root.1 < arity_of (S.heap store.old) (S.atom_id root.0) }
+    requires root { IsPort (S.heap store.old) (S.atom_id root.0) root.1 }
     requires mem { IsMem (S.heap store.old) (S.mem_id mem) }
     requires clean { PortsUnmarked (S.heap store.old) }
     ensures ground { IsTrue result ↔ IsGroundIn (S.heap store.old) (S.atom_id root.0, root.1) (S.mem_id mem) }
@@ -35,8 +35,7 @@ pub fn is_ground<S: LinkStore>(store: &mut S, root: (S::Atom, u8), mem: S::Mem) 
 
 /// The number of atoms of the part with this root.
 pub fn size_of<S: LinkStore>(store: &mut S, root: (S::Atom, u8)) -> u64
-    requires atom { IsAtom (S.heap store.old) (S.atom_id root.0) }
-    requires port { root.1 < arity_of (S.heap store.old) (S.atom_id root.0) }
+    requires root { IsPort (S.heap store.old) (S.atom_id root.0) root.1 }
     requires clean { PortsUnmarked (S.heap store.old) }
     requires ground { IsWhole (S.heap store.old) (S.atom_id root.0, root.1) None }
     ensures size { (xs : List ℕ) → AreAtoms (S.heap store.old) (S.atom_id root.0, root.1) xs → result ≡ length xs }
@@ -54,8 +53,7 @@ pub fn size_of<S: LinkStore>(store: &mut S, root: (S::Atom, u8)) -> u64
 
 /// Takes every atom of the part with this root; partners stay as they are.
 pub fn take_part<S: LinkStore>(store: &mut S, root: (S::Atom, u8))
-    requires atom { IsAtom (S.heap store.old) (S.atom_id root.0) }
-    requires port { root.1 < arity_of (S.heap store.old) (S.atom_id root.0) }
+    requires root { IsPort (S.heap store.old) (S.atom_id root.0) root.1 }
     requires clean { PortsUnmarked (S.heap store.old) }
     requires ground { IsWhole (S.heap store.old) (S.atom_id root.0, root.1) None }
     requires placed { (a : ℕ) → Reached (atom_map (S.heap store.old)) (S.atom_id root.0, root.1) a → IsInPlace (S.heap store.old) a }

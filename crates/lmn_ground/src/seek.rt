@@ -1,9 +1,11 @@
 //! A walk goes on to the next port that has to be looked at.
-ghost use Rattle.std.specs.Prelude.{◌≡◌, ◌≢◌, ◌<◌, ◌≤◌, ◌+◌, ◌↔◌, ◌^◌, IsTrue};
+ghost use Rattle.std.specs.Prelude.{◌≡◌, ◌≢◌, ◌<◌, ◌≤◌, ◌↔◌, ◌^◌, IsTrue};
 ghost use Rattle.lmn_store_heap.specs.Heap.{IsAtom, arity_of};
 ghost use Rattle.lmn_store_heap.specs.Sound.{Sound, AtMost};
+ghost use Rattle.lmn_store_heap.specs.Splice.{IsPort};
 ghost use Rattle.lmn_ground_parts.specs.Walks.{net};
-ghost use Rattle.lmn_ground.specs.Marks.{first_marks, back, OnWay, Sought, Halts};
+ghost use Rattle.lmn_ground.specs.Marks.{first_marks, OnWay, Sought, Halts};
+ghost use Rattle.lmn_ground.specs.Stands.{HasEntered, WentBack};
 
 use crate::marks::PORTS;
 use lmn_store_trait::LinkStore;
@@ -35,9 +37,7 @@ pub fn go_back<S: LinkStore>(store: &S, root: (S::Atom, u8), at: Stand<S::Atom>)
     requires deep { 0 < at.depth }
     requires way { OnWay (net (S.heap store.now)) (first_marks (S.heap store.now)) (S.atom_id root.0, root.1) at.depth (S.atom_id at.atom) }
     ensures atom { IsAtom (S.heap store.now) (S.atom_id result.atom) }
-    ensures number { S.atom_id result.atom ≡ (back (net (S.heap store.now)) (first_marks (S.heap store.now)) (S.atom_id at.atom)).0 }
-    ensures port { result.port ≡ (back (net (S.heap store.now)) (first_marks (S.heap store.now)) (S.atom_id at.atom)).1 + 1 }
-    ensures depth { at.depth ≡ result.depth + 1 }
+    ensures back { WentBack (S.heap store.now) at.depth (S.atom_id at.atom) result.depth (S.atom_id result.atom) result.port }
 {
     let _arity = arity(store, at.atom);
     let entry = (store.mark(at.atom, 0) % PORTS) as u8;
@@ -109,14 +109,11 @@ pub fn go_down<S: LinkStore>(
     from: Stand<S::Atom>,
     down: Stand<S::Atom>,
 ) -> Stand<S::Atom>
-    requires from { IsAtom (S.heap store.now) (S.atom_id from.atom) }
-    requires port { from.port < arity_of (S.heap store.now) (S.atom_id from.atom) }
+    requires from { IsPort (S.heap store.now) (S.atom_id from.atom) from.port }
     requires marked { first_marks (S.heap store.now) (S.atom_id from.atom) ≢ 0 }
     requires atom { IsAtom (S.heap store.now) (S.atom_id down.atom) }
-    requires first { down.port ≡ 0 }
-    requires depth { down.depth ≡ from.depth + 1 }
     requires way { OnWay (net (S.heap store.now)) (first_marks (S.heap store.now)) (S.atom_id root.0, root.1) down.depth (S.atom_id down.atom) }
-    requires back { back (net (S.heap store.now)) (first_marks (S.heap store.now)) (S.atom_id down.atom) ≡ (S.atom_id from.atom, from.port) }
+    requires entered { HasEntered (S.heap store.now) from.depth (S.atom_id from.atom) from.port down.depth (S.atom_id down.atom) down.port }
     ensures atom { IsAtom (S.heap store.now) (S.atom_id result.atom) }
     ensures inside { result.port ≤ arity_of (S.heap store.now) (S.atom_id result.atom) }
     ensures sought { Sought (net (S.heap store.now)) (first_marks (S.heap store.now)) (S.atom_id root.0, root.1) down.depth (S.atom_id down.atom) down.port result.depth (S.atom_id result.atom) result.port }

@@ -1,7 +1,8 @@
 //! The walk that marks the atoms of a part.
 ghost use Rattle.std.specs.Prelude.{◌≡◌, ◌≢◌, ◌<◌, ◌≤◌, ◌+◌, ◌*◌, ◌^◌, ◌↔◌, IsTrue, IfSome, Some};
 ghost use Rattle.std.specs.Option.{option_map};
-ghost use Rattle.lmn_store_heap.specs.Heap.{IsAtom, IsMem, arity_of, home_of, marked, own_mark};
+ghost use Rattle.lmn_store_heap.specs.Heap.{IsAtom, IsMem, home_of, marked, own_mark};
+ghost use Rattle.lmn_store_heap.specs.Splice.{IsPort};
 ghost use Rattle.lmn_ground.specs.Marks.{found_mark};
 ghost use Rattle.lmn_ground.specs.Spread.{AtomFits, CleanPart, IsWhole, Spread};
 
@@ -55,8 +56,7 @@ pub fn mark_entry<S: LinkStore>(store: &mut S, a: S::Atom, port: u8, number: u64
 
 /// Marks the atoms of a part up to the first that doesn't fit. Answers how many are marked, and whether that is the part.
 pub fn spread<S: LinkStore>(store: &mut S, root: (S::Atom, u8), home: Option<S::Mem>) -> (u64, bool)
-    requires atom { IsAtom (S.heap store.old) (S.atom_id root.0) }
-    requires port { root.1 < arity_of (S.heap store.old) (S.atom_id root.0) }
+    requires root { IsPort (S.heap store.old) (S.atom_id root.0) root.1 }
     requires mem { IfSome home (λ m. IsMem (S.heap store.old) (S.mem_id m)) }
     requires clean { CleanPart (S.heap store.old) (S.atom_id root.0, root.1) }
     requires first { AtomFits (S.heap store.old) (option_map S.mem_id home) (S.atom_id root.0) }

@@ -1,6 +1,7 @@
 //! The walk that takes the marks back and the atoms out.
 ghost use Rattle.std.specs.Prelude.{◌≡◌, ◌<◌, ℕ, Bool};
-ghost use Rattle.lmn_store_heap.specs.Heap.{Heap, IsAtom, IsInPlace, arity_of, taken_all};
+ghost use Rattle.lmn_store_heap.specs.Heap.{Heap, IsInPlace, taken_all};
+ghost use Rattle.lmn_store_heap.specs.Splice.{IsPort};
 ghost use Rattle.lmn_ground.specs.Spread.{Spread};
 ghost use Rattle.lmn_base.specs.Lists.{In};
 
@@ -10,8 +11,7 @@ use lmn_store_trait::LinkStore;
 
 /// Takes back the marks of a walk, and takes its atoms out of their lists.
 pub fn take_marked<S: LinkStore>(store: &mut S, root: (S::Atom, u8), count: u64)
-    requires atom { IsAtom (S.heap store.old) (S.atom_id root.0) }
-    requires port { root.1 < arity_of (S.heap store.old) (S.atom_id root.0) }
+    requires root { IsPort (S.heap store.old) (S.atom_id root.0) root.1 }
     requires spread { (before : Heap) × (all : Bool) × (t : Spread before (S.heap store.old) (S.atom_id root.0, root.1) count all) × ((a : ℕ) → In a t.seen → IsInPlace before a) }
     ensures { (before : Heap) (all : Bool) (t : Spread before (S.heap store.old) (S.atom_id root.0, root.1) count all) → S.heap store.new ≡ taken_all before t.seen }
 {

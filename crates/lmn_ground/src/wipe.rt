@@ -1,10 +1,12 @@
 //! The walk that takes the marks back.
-ghost use Rattle.std.specs.Prelude.{◌≡◌, ◌<◌, ◌≤◌, ◌+◌, ℕ, Bool, List, false, Some, IfSome};
-ghost use Rattle.lmn_store_heap.specs.Heap.{Heap, IsAtom, arity_of, link_of, marked};
+ghost use Rattle.std.specs.Prelude.{◌≡◌, ◌<◌, ℕ, Bool, false, Some, IfSome};
+ghost use Rattle.lmn_store_heap.specs.Heap.{Heap, IsAtom, link_of, marked};
 ghost use Rattle.lmn_store_heap.specs.Sound.{Sound};
+ghost use Rattle.lmn_store_heap.specs.Splice.{IsPort};
 ghost use Rattle.lmn_ground_parts.specs.Walks.{is_port, net};
-ghost use Rattle.lmn_ground.specs.Marks.{OnWay, anew_mark, back, first_marks, least_found, weight};
-ghost use Rattle.lmn_ground.specs.Spread.{Spread, Wiping};
+ghost use Rattle.lmn_ground.specs.Marks.{OnWay, anew_mark, first_marks, least_found};
+ghost use Rattle.lmn_ground.specs.Spread.{Spread};
+ghost use Rattle.lmn_ground.specs.Stands.{HasEntered, IsMarkedEnd, WentBack, WipesOn};
 
 use crate::marks::{ANEW, FOUND};
 use crate::seek::{Stand, arity, go_back, is_root};
@@ -16,15 +18,9 @@ pub fn marked_end<S: LinkStore>(
     root: (S::Atom, u8),
     at: Stand<S::Atom>,
 ) -> Option<(S::Atom, u8)>
-    requires atom { IsAtom (S.heap store.now) (S.atom_id at.atom) }
-    requires port { at.port < arity_of (S.heap store.now) (S.atom_id at.atom) }
+    requires port { IsPort (S.heap store.now) (S.atom_id at.atom) at.port }
     requires way { OnWay (net (S.heap store.now)) (first_marks (S.heap store.now)) (S.atom_id root.0, root.1) at.depth (S.atom_id at.atom) }
-    ensures link { IfSome result (λ p. link_of (S.heap store.now) (S.atom_id at.atom) at.port ≡ Some (S.atom_id p.0, p.1)) }
-    ensures back { IfSome result (λ p. link_of (S.heap store.now) (S.atom_id p.0) p.1 ≡ Some (S.atom_id at.atom, at.port)) }
-    ensures there { IfSome result (λ p. p.1 < arity_of (S.heap store.now) (S.atom_id p.0)) }
-    ensures small { IfSome result (λ p. arity_of (S.heap store.now) (S.atom_id p.0) < 256) }
-    ensures apart { IfSome result (λ p. is_port (S.atom_id at.atom, at.port) (S.atom_id root.0, root.1) ≡ false) }
-    ensures high { IfSome result (λ p. least_found ≤ first_marks (S.heap store.now) (S.atom_id p.0)) }
+    ensures end { IfSome result (λ p. IsMarkedEnd (S.heap store.now) (S.atom_id root.0, root.1) (S.atom_id at.atom, at.port) (S.atom_id p.0, p.1)) }
     ensures low { result ≡ None → (b j : ℕ) → link_of (S.heap store.now) (S.atom_id at.atom) at.port ≡ Some (b, j)
         → is_port (S.atom_id at.atom, at.port) (S.atom_id root.0, root.1) ≡ false → first_marks (S.heap store.now) b < least_found }
 {
@@ -58,9 +54,7 @@ pub fn leave<S: LinkStore>(store: &mut S, root: (S::Atom, u8), at: Stand<S::Atom
     requires deep { 0 < at.depth }
     requires way { OnWay (net (S.heap store.old)) (first_marks (S.heap store.old)) (S.atom_id root.0, root.1) at.depth (S.atom_id at.atom) }
     ensures atom { IsAtom (S.heap store.new) (S.atom_id result.atom) }
-    ensures number { S.atom_id result.atom ≡ (back (net (S.heap store.old)) (first_marks (S.heap store.old)) (S.atom_id at.atom)).0 }
-    ensures port { result.port ≡ (back (net (S.heap store.old)) (first_marks (S.heap store.old)) (S.atom_id at.atom)).1 + 1 }
-    ensures depth { at.depth ≡ result.depth + 1 }
+    ensures back { WentBack (S.heap store.old) at.depth (S.atom_id at.atom) result.depth (S.atom_id result.atom) result.port }
     ensures marked { S.heap store.new ≡ marked (S.heap store.old) (S.atom_id at.atom) 0 0 }
     ensures sound { Sound (S.heap store.old) }
 {
@@ -79,17 +73,11 @@ pub fn leave_leaf<S: LinkStore>(
     from: Stand<S::Atom>,
     down: Stand<S::Atom>,
 ) -> Stand<S::Atom>
-    requires from { IsAtom (S.heap store.old) (S.atom_id from.atom) }
-    requires port { from.port < arity_of (S.heap store.old) (S.atom_id from.atom) }
+    requires from { IsPort (S.heap store.old) (S.atom_id from.atom) from.port }
     requires atom { IsAtom (S.heap store.old) (S.atom_id down.atom) }
-    requires first { down.port ≡ 0 }
-    requires depth { down.depth ≡ from.depth + 1 }
-    requires back { back (net (S.heap store.old)) (first_marks (S.heap store.old)) (S.atom_id down.atom) ≡ (S.atom_id from.atom, from.port) }
+    requires entered { HasEntered (S.heap store.old) from.depth (S.atom_id from.atom) from.port down.depth (S.atom_id down.atom) down.port }
     ensures atom { IsAtom (S.heap store.new) (S.atom_id result.atom) }
-    ensures walk { (before : Heap) (seen met : List ℕ) (left : ℕ) → Wiping before (S.heap store.old) (S.atom_id root.0, root.1) seen met down.depth (S.atom_id down.atom) down.port left
-        → Wiping before (S.heap store.new) (S.atom_id root.0, root.1) seen met result.depth (S.atom_id result.atom) result.port left }
-    ensures lighter { (before : Heap) (seen met : List ℕ) (left : ℕ) → Wiping before (S.heap store.old) (S.atom_id root.0, root.1) seen met down.depth (S.atom_id down.atom) down.port left
-        → weight (net (S.heap store.new)) (first_marks (S.heap store.new)) result.depth (S.atom_id result.atom) result.port ≤ weight (net (S.heap store.old)) (first_marks (S.heap store.old)) down.depth (S.atom_id down.atom) down.port }
+    ensures on { WipesOn (S.heap store.old) (S.heap store.new) (S.atom_id root.0, root.1) down.depth (S.atom_id down.atom) down.port result.depth (S.atom_id result.atom) result.port }
 {
     let _arity = arity(store, from.atom);
     if arity(store, down.atom) == 1 {
@@ -105,8 +93,7 @@ pub fn leave_leaf<S: LinkStore>(
 
 /// Takes back the marks of a walk.
 pub fn wipe<S: LinkStore>(store: &mut S, root: (S::Atom, u8), count: u64)
-    requires atom { IsAtom (S.heap store.old) (S.atom_id root.0) }
-    requires port { root.1 < arity_of (S.heap store.old) (S.atom_id root.0) }
+    requires root { IsPort (S.heap store.old) (S.atom_id root.0) root.1 }
     requires spread { (before : Heap) × (all : Bool) × Spread before (S.heap store.old) (S.atom_id root.0, root.1) count all }
     ensures { (before : Heap) (all : Bool) → Spread before (S.heap store.old) (S.atom_id root.0, root.1) count all → S.heap store.new ≡ before }
 {

@@ -10,9 +10,9 @@ use Rattle.lmn_ground.proofs.compare.compare.Goals as goal
 pub loop-at-init : goal.loop-at-init
 loop-at-init g c =
     let t = c.requires.two in
-    let w = follow_first _ _ _ _ _ t.2 _ t.3 c.mark_entry.ensures.marked c.requires.clean c.requires.port c.mark_entry.ensures.small c.requires.alike in
+    let w = follow_first _ _ _ _ _ t.2 _ t.3 c.mark_entry.ensures.marked c.requires.clean c.requires.x.1 c.mark_entry.ensures.small c.requires.alike in
     record {
-      atom = there_after _ _ _ _ _ _ c.mark_entry.ensures.marked c.requires.port;
+      atom = there_after _ _ _ _ _ _ c.mark_entry.ensures.marked c.requires.x.1;
       answer = there_first _ _ _ _ _ _ _ _ _ _ _ _ _ w c.requires.y;
       walk = (_, _, _, t.2, w);
       bound = omega arith;

@@ -9,4 +9,4 @@ returns-in_err-copy-clause-err g c = on_err _ _ (remains_nothing (g.S.LinkStore.
 
 pub returns-clause-ok : goal.returns-clause-ok
 returns-clause-ok g c = subst (λ h. Copied (g.S.LinkStore.heap c.args.store.now) h (g.S.LinkStore.atom_id c.args.root.0, c.args.root.1) (g.S.LinkStore.atom_id c.in_ok-copy.copy, c.args.root.1)) (sym c.in_ok-copy.ensures.ok)
-    (lone_copied (g.S.LinkStore.heap c.args.store.now) (g.S.LinkStore.atom_id c.args.root.0, c.args.root.1) c.requires.lone c.requires.port c.root-sound.ensures.sound c.requires.atom c.requires.outside c.requires.ground c.functor-functor.result c.functor-functor.ensures (g.S.LinkStore.atom_id c.in_ok-copy.copy) c.in_ok-copy.ensures.fresh)
+    (lone_copied (g.S.LinkStore.heap c.args.store.now) (g.S.LinkStore.atom_id c.args.root.0, c.args.root.1) c.requires.lone c.requires.root.1 c.root-sound.ensures.sound c.requires.root.0 c.requires.outside c.requires.ground c.functor-functor.result c.functor-functor.ensures (g.S.LinkStore.atom_id c.in_ok-copy.copy) c.in_ok-copy.ensures.fresh)

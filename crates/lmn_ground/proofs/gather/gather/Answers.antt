@@ -12,8 +12,8 @@ returns-in_err-push-clause-marked g c = gather_none g.S.LinkStore.atom_id _ c.ar
 
 pub loop-at-init : goal.loop-at-init
 loop-at-init g c = record {
-  atom = there_after _ _ _ _ _ _ c.mark_entry.ensures.marked c.requires.port;
-  walk = gather_first g.S.LinkStore.atom_id _ _ _ c.args.root.1 _ c.args.atoms.now _ c.requires.empty c.in_ok-push.ensures.ok c.mark_entry.ensures.marked refl c.mark_entry.ensures.small c.arity-arity.ensures.sound c.requires.clean c.requires.port;
+  atom = there_after _ _ _ _ _ _ c.mark_entry.ensures.marked c.requires.root.1;
+  walk = gather_first g.S.LinkStore.atom_id _ _ _ c.args.root.1 _ c.args.atoms.now _ c.requires.empty c.in_ok-push.ensures.ok c.mark_entry.ensures.marked refl c.mark_entry.ensures.small c.arity-arity.ensures.sound c.requires.clean c.requires.root.1;
   bound = omega arith;
 }
 
@@ -38,12 +38,7 @@ loop-at-smaller g c =
 pub go_down-at-requires-clause-from : goal.go_down-at-requires-clause-from
 go_down-at-requires-clause-from g c =
     let l : c.seek-at.result.port < arity_of (g.S.LinkStore.heap c.loop-at.store) (g.S.LinkStore.atom_id c.seek-at.result.atom) = let h = c.seek-at.ensures.halts.inside in omega (arith, h) in
-    there_beside _ _ _ _ _ _ _ c.mark_entry-in-Some.ensures.marked l
-
-pub go_down-at-requires-clause-port : goal.go_down-at-requires-clause-port
-go_down-at-requires-clause-port g c =
-    let l : c.seek-at.result.port < arity_of (g.S.LinkStore.heap c.loop-at.store) (g.S.LinkStore.atom_id c.seek-at.result.atom) = let h = c.seek-at.ensures.halts.inside in omega (arith, h) in
-    port_after _ _ _ _ _ _ _ c.mark_entry-in-Some.ensures.marked l
+    (there_beside _ _ _ _ _ _ _ c.mark_entry-in-Some.ensures.marked l, port_after _ _ _ _ _ _ _ c.mark_entry-in-Some.ensures.marked l)
 
 pub go_down-at-requires-clause-marked : goal.go_down-at-requires-clause-marked
 go_down-at-requires-clause-marked g c =
@@ -60,9 +55,12 @@ go_down-at-requires-clause-way g c =
     way_now _ _ _ _ _ _ _ _ _ (gather_next g.S.LinkStore.atom_id _ _ _ _ c.loop-at.atoms _ _ _ _ _ _ _ c.in_ok-push-in-Some.ensures.ok c.mark_entry-in-Some.ensures.marked t c.arity.ensures.sound c.requires.clean l c.in-Some.ensures.link c.in-Some.ensures.back c.in-Some.ensures.there.1 c.mark_entry-in-Some.ensures.small
     (c.seek-at.ensures.halts.apart l) (c.seek-at.ensures.halts.fresh _ _ c.in-Some.ensures.link))
 
-pub go_down-at-requires-clause-back : goal.go_down-at-requires-clause-back
-go_down-at-requires-clause-back g c =
-    entered_back _ _ _ _ _ _ c.loop-at.count c.mark_entry-in-Some.ensures.marked c.arity.ensures.sound c.in-Some.ensures.back c.in-Some.ensures.there.1 c.mark_entry-in-Some.ensures.small
+pub go_down-at-requires-clause-entered : goal.go_down-at-requires-clause-entered
+go_down-at-requires-clause-entered g c = record {
+  first = refl;
+  deeper = refl;
+  entry = entered_back _ _ _ _ _ _ c.loop-at.count c.mark_entry-in-Some.ensures.marked c.arity.ensures.sound c.in-Some.ensures.back c.in-Some.ensures.there.1 c.mark_entry-in-Some.ensures.small;
+}
 
 pub loop-at-preserved : goal.loop-at-preserved
 loop-at-preserved g c =

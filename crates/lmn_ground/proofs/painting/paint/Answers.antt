@@ -3,11 +3,8 @@ use Rattle.lmn_ground.proofs.SpreadLaws.{clean_part}
 use Rattle.lmn_ground.proofs.GroundLaws.{root_there, root_port_there}
 use Rattle.lmn_ground.proofs.painting.paint.Goals as goal
 
-pub paint_marked-requires-clause-atom : goal.paint_marked-requires-clause-atom
-paint_marked-requires-clause-atom g c = root_there _ _ _ _ _ c.spread-found.ensures.spread c.requires.atom
-
-pub paint_marked-requires-clause-port : goal.paint_marked-requires-clause-port
-paint_marked-requires-clause-port g c = root_port_there _ _ _ _ _ c.spread-found.ensures.spread c.requires.port
+pub paint_marked-requires-clause-root : goal.paint_marked-requires-clause-root
+paint_marked-requires-clause-root g c = (root_there _ _ _ _ _ c.spread-found.ensures.spread c.requires.root.0, root_port_there _ _ _ _ _ c.spread-found.ensures.spread c.requires.root.1)
 
 pub paint_marked-requires-clause-spread : goal.paint_marked-requires-clause-spread
 paint_marked-requires-clause-spread g c =
@@ -21,4 +18,4 @@ returns g c =
     (t.seen, t.whole e, c.paint_marked.ensures _ _ t)
 
 pub spread-found-requires-clause-clean : goal.spread-found-requires-clause-clean
-spread-found-requires-clause-clean g c = clean_part _ _ c.arity-arity.ensures.sound c.requires.port c.requires.clean
+spread-found-requires-clause-clean g c = clean_part _ _ c.arity-arity.ensures.sound c.requires.root.1 c.requires.clean

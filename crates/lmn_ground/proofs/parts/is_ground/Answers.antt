@@ -14,11 +14,8 @@ returns-then-not-fits-clause-ground g c = (
       let w = c.if-not-fits.ensures.1 (f.atoms _ at_root) in search rules,
 )
 
-pub wipe-requires-clause-atom : goal.wipe-requires-clause-atom
-wipe-requires-clause-atom g c = root_there _ _ _ _ _ c.spread-found.ensures.spread c.requires.atom
-
-pub wipe-requires-clause-port : goal.wipe-requires-clause-port
-wipe-requires-clause-port g c = root_port_there _ _ _ _ _ c.spread-found.ensures.spread c.requires.port
+pub wipe-requires-clause-root : goal.wipe-requires-clause-root
+wipe-requires-clause-root g c = (root_there _ _ _ _ _ c.spread-found.ensures.spread c.requires.root.0, root_port_there _ _ _ _ _ c.spread-found.ensures.spread c.requires.root.1)
 
 pub wipe-requires-clause-spread : goal.wipe-requires-clause-spread
 wipe-requires-clause-spread g c = (g.S.LinkStore.heap c.args.store.now, _, c.spread-found.ensures.spread)
@@ -33,9 +30,9 @@ pub returns-clause-same : goal.returns-clause-same
 returns-clause-same g c = c.wipe.ensures _ _ c.spread-found.ensures.spread
 
 pub spread-found-requires-clause-clean : goal.spread-found-requires-clause-clean
-spread-found-requires-clause-clean g c = clean_part _ _ c.arity-ports.ensures.sound c.requires.port c.requires.clean
+spread-found-requires-clause-clean g c = clean_part _ _ c.arity-ports.ensures.sound c.requires.root.1 c.requires.clean
 
 pub returns-then-ports-eq1-clause-ground : goal.returns-then-ports-eq1-clause-ground
 returns-then-ports-eq1-clause-ground g c =
     let f = fits_ground (g.S.LinkStore.heap c.args.store.now) (g.S.LinkStore.atom_id c.args.root.0, c.args.root.1) (g.S.LinkStore.mem_id c.args.mem) c.arity-ports.ensures.sound in
-    (λ t. f.0 (lone_whole (g.S.LinkStore.heap c.args.store.now) (g.S.LinkStore.atom_id c.args.root.0, c.args.root.1) (sym c.arity-ports.ensures.arity ∙ c.if-ports-eq1.true) c.requires.port (Some (g.S.LinkStore.mem_id c.args.mem)) (c.fits.ensures.0 c.if-not-fits.false)), λ w. refl)
+    (λ t. f.0 (lone_whole (g.S.LinkStore.heap c.args.store.now) (g.S.LinkStore.atom_id c.args.root.0, c.args.root.1) (sym c.arity-ports.ensures.arity ∙ c.if-ports-eq1.true) c.requires.root.1 (Some (g.S.LinkStore.mem_id c.args.mem)) (c.fits.ensures.0 c.if-not-fits.false)), λ w. refl)

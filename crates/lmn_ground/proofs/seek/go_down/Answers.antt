@@ -8,6 +8,6 @@ pub returns-then-arity-eq1-clause-sought : goal.returns-then-arity-eq1-clause-so
 returns-then-arity-eq1-clause-sought g c =
     let s = g.S.LinkStore.heap c.args.store.now in
     subst (λ (k : ℕ). Sought (net s) (first_marks s) (g.S.LinkStore.atom_id c.args.root.0, c.args.root.1) c.args.down.depth (g.S.LinkStore.atom_id c.args.down.atom) k c.args.from.depth (g.S.LinkStore.atom_id c.args.from.atom) (c.args.from.port + 1))
-    (sym c.requires.first)
+    (sym c.requires.entered.first)
     (sought_leaf (net s) (first_marks s) (g.S.LinkStore.atom_id c.args.root.0, c.args.root.1) c.args.from.depth c.args.down.depth (g.S.LinkStore.atom_id c.args.down.atom) (g.S.LinkStore.atom_id c.args.from.atom) c.args.from.port
-    c.requires.depth c.requires.way (sym c.arity.ensures.arity ∙ c.if-arity-eq1.true) c.requires.back c.requires.marked)
+    c.requires.entered.deeper c.requires.way (sym c.arity.ensures.arity ∙ c.if-arity-eq1.true) c.requires.entered.entry c.requires.marked)

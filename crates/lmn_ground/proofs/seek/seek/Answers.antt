@@ -11,21 +11,21 @@ moved P d d' a a' i i' e f h p = subst (λ (x : ℕ). P x a' i') e (subst (λ (x
 pub loop-at-smaller-then-at-arity : goal.loop-at-smaller-then-at-arity
 loop-at-smaller-then-at-arity g c =
     let s = g.S.LinkStore.heap c.args.store.now in
-    let e : c.loop-at.at.depth ≡ suc c.go_back-at.result.depth = c.go_back-at.ensures.depth ∙ add-one _ in
+    let e : c.loop-at.at.depth ≡ suc c.go_back-at.result.depth = c.go_back-at.ensures.back.higher ∙ add-one _ in
     moved (λ d a i. weight (net s) (first_marks s) d a i < weight (net s) (first_marks s) c.loop-at.at.depth (g.S.LinkStore.atom_id c.loop-at.at.atom) c.loop-at.at.port)
-    _ _ _ _ _ _ refl (sym c.go_back-at.ensures.number) (sym c.go_back-at.ensures.port)
+    _ _ _ _ _ _ refl (sym c.go_back-at.ensures.back.number) (sym c.go_back-at.ensures.back.port)
     (weight_back (net s) (first_marks s) c.loop-at.at.depth c.go_back-at.result.depth (g.S.LinkStore.atom_id c.loop-at.at.atom) c.loop-at.at.port e)
 
 pub loop-at-preserved-then-at-arity : goal.loop-at-preserved-then-at-arity
 loop-at-preserved-then-at-arity g c =
     let s = g.S.LinkStore.heap c.args.store.now in
-    let e : c.loop-at.at.depth ≡ suc c.go_back-at.result.depth = c.go_back-at.ensures.depth ∙ add-one _ in
+    let e : c.loop-at.at.depth ≡ suc c.go_back-at.result.depth = c.go_back-at.ensures.back.higher ∙ add-one _ in
     let l = backs (net s) (first_marks s) (g.S.LinkStore.atom_id c.args.root.0, c.args.root.1) c.loop-at.at.depth (g.S.LinkStore.atom_id c.loop-at.at.atom) 0 c.go_back-at.result.depth e c.loop-at.invariant.sought.on_way in
     record {
       atom = c.go_back-at.ensures.atom;
-      port = moved (λ d a i. i ≤ (net s).arity a) 0 0 _ _ _ _ refl (sym c.go_back-at.ensures.number) (sym c.go_back-at.ensures.port) (omega (arith, l));
+      port = moved (λ d a i. i ≤ (net s).arity a) 0 0 _ _ _ _ refl (sym c.go_back-at.ensures.back.number) (sym c.go_back-at.ensures.back.port) (omega (arith, l));
       sought = moved (λ d a i. Sought (net s) (first_marks s) (g.S.LinkStore.atom_id c.args.root.0, c.args.root.1) c.args.from.depth (g.S.LinkStore.atom_id c.args.from.atom) c.args.from.port d a i)
-          _ _ _ _ _ _ refl (sym c.go_back-at.ensures.number) (sym c.go_back-at.ensures.port)
+          _ _ _ _ _ _ refl (sym c.go_back-at.ensures.back.number) (sym c.go_back-at.ensures.back.port)
           (sought_back _ _ _ _ _ _ _ c.go_back-at.result.depth _ _ e c.loop-at.invariant.sought (c.if-at-arity.true ∙ c.arity.ensures.arity));
     }
 

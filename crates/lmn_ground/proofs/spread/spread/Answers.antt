@@ -1,4 +1,4 @@
-use Rattle.std.proofs.Common.{[], ◌∷◌, rules, ◌<◌, ◌≤◌, ◌+◌, ◌-◌, ℕ, ◌^◌, IfSome, arith, sym, subst, ◌∙◌}
+use Rattle.std.proofs.Common.{[], ◌∷◌, rules, ◌<◌, ◌≤◌, ◌+◌, ◌-◌, ℕ, ◌^◌, IfSome, arith, refl, sym, subst, ◌∙◌}
 use Rattle.std.specs.Option.{option_map}
 use Rattle.lmn_store_heap.specs.Heap.{Heap, IsAtom, IsMem, arity_of}
 use Rattle.lmn_ground.specs.Spread.{Spreading}
@@ -13,11 +13,11 @@ loop-at-init g c =
     let id = g.S.LinkStore.atom_id in
     let e = sym c.set_mark.ensures in
     record {
-      atom = subst (λ (s : Heap). IsAtom s (id c.args.root.0)) e (first_there (g.S.LinkStore.heap c.args.store.now) (id c.args.root.0) 0 (512 + c.args.root.1) (let p = c.requires.port in omega (arith, p)));
+      atom = subst (λ (s : Heap). IsAtom s (id c.args.root.0)) e (first_there (g.S.LinkStore.heap c.args.store.now) (id c.args.root.0) 0 (512 + c.args.root.1) (let p = c.requires.root.1 in omega (arith, p)));
       walk = (
         _,
         subst (λ (s : Heap). Spreading (g.S.LinkStore.heap c.args.store.now) s (id c.args.root.0, c.args.root.1) (option_map g.S.LinkStore.mem_id c.args.home) (id c.args.root.0 ∷ []) 0 (id c.args.root.0) 0 1) e
-            (spreading_first (g.S.LinkStore.heap c.args.store.now) (id c.args.root.0, c.args.root.1) _ (512 + c.args.root.1) c.arity-arity.ensures.sound c.requires.clean c.requires.port c.requires.first (omega arith) (let e = c.arity-arity.ensures.arity in let r = c.arity-arity.type_inv in let p = c.requires.port in omega (arith, e, r, p))),
+            (spreading_first (g.S.LinkStore.heap c.args.store.now) (id c.args.root.0, c.args.root.1) _ (512 + c.args.root.1) c.arity-arity.ensures.sound c.requires.clean c.requires.root.1 c.requires.first (omega arith) (let e = c.arity-arity.ensures.arity in let r = c.arity-arity.type_inv in let p = c.requires.root.1 in omega (arith, e, r, p))),
       );
       mem = subst (λ (s : Heap). IfSome c.args.home (λ m. IsMem s (g.S.LinkStore.mem_id m))) e c.requires.mem;
       bound = omega arith;
@@ -59,12 +59,7 @@ loop-at-smaller g c =
 pub go_down-at-requires-clause-from : goal.go_down-at-requires-clause-from
 go_down-at-requires-clause-from g c =
     let l : c.seek-at.result.port < arity_of (g.S.LinkStore.heap c.loop-at.store) (g.S.LinkStore.atom_id c.seek-at.result.atom) = let h = c.seek-at.ensures.halts.inside in omega (arith, h) in
-    there_beside _ _ _ _ _ _ _ c.mark_entry.ensures.marked l
-
-pub go_down-at-requires-clause-port : goal.go_down-at-requires-clause-port
-go_down-at-requires-clause-port g c =
-    let l : c.seek-at.result.port < arity_of (g.S.LinkStore.heap c.loop-at.store) (g.S.LinkStore.atom_id c.seek-at.result.atom) = let h = c.seek-at.ensures.halts.inside in omega (arith, h) in
-    port_after _ _ _ _ _ _ _ c.mark_entry.ensures.marked l
+    (there_beside _ _ _ _ _ _ _ c.mark_entry.ensures.marked l, port_after _ _ _ _ _ _ _ c.mark_entry.ensures.marked l)
 
 pub go_down-at-requires-clause-marked : goal.go_down-at-requires-clause-marked
 go_down-at-requires-clause-marked g c =
@@ -81,9 +76,12 @@ go_down-at-requires-clause-way g c =
     way_now _ _ _ _ _ _ _ _ _ (entered _ _ _ _ _ _ _ _ _ _ _ _ c.mark_entry.ensures.marked t c.arity.ensures.sound c.requires.clean l c.in-Some.ensures.link c.in-Some.ensures.back c.in-Some.ensures.there.1 c.mark_entry.ensures.small
     (c.seek-at.ensures.halts.apart l) (c.seek-at.ensures.halts.fresh _ _ c.in-Some.ensures.link) (c.fits.ensures.0 (search rules)))
 
-pub go_down-at-requires-clause-back : goal.go_down-at-requires-clause-back
-go_down-at-requires-clause-back g c =
-    entered_back _ _ _ _ _ _ c.loop-at.count c.mark_entry.ensures.marked c.arity.ensures.sound c.in-Some.ensures.back c.in-Some.ensures.there.1 c.mark_entry.ensures.small
+pub go_down-at-requires-clause-entered : goal.go_down-at-requires-clause-entered
+go_down-at-requires-clause-entered g c = record {
+  first = refl;
+  deeper = refl;
+  entry = entered_back _ _ _ _ _ _ c.loop-at.count c.mark_entry.ensures.marked c.arity.ensures.sound c.in-Some.ensures.back c.in-Some.ensures.there.1 c.mark_entry.ensures.small;
+}
 
 pub loop-at-preserved : goal.loop-at-preserved
 loop-at-preserved g c =

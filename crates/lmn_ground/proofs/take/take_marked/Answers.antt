@@ -1,4 +1,4 @@
-use Rattle.std.proofs.Common.{◌<◌, arith, ◌∙◌}
+use Rattle.std.proofs.Common.{◌<◌, arith, refl, ◌∙◌}
 use Rattle.lmn_store_heap.specs.Heap.{arity_of}
 use Rattle.lmn_ground_parts.specs.Walks.{net}
 use Rattle.lmn_ground.specs.Marks.{first_marks}
@@ -18,8 +18,8 @@ take_atom-requires g c =
 
 pub loop-at-init : goal.loop-at-init
 loop-at-init g c = record {
-  atom = there_taken _ _ _ c.take_atom.ensures (there_after _ _ _ _ _ _ c.enter.ensures.marked c.requires.port);
-  walk = λ before all t. (_, first_taken _ _ _ _ _ _ c.take_atom.ensures (wiping_first _ _ _ _ _ _ t c.arity-arity.ensures.sound c.requires.port c.enter.ensures.small c.enter.ensures.marked));
+  atom = there_taken _ _ _ c.take_atom.ensures (there_after _ _ _ _ _ _ c.enter.ensures.marked c.requires.root.1);
+  walk = λ before all t. (_, first_taken _ _ _ _ _ _ c.take_atom.ensures (wiping_first _ _ _ _ _ _ t c.arity-arity.ensures.sound c.requires.root.1 c.enter.ensures.small c.enter.ensures.marked));
 }
 
 pub leave-at-requires-clause-way : goal.leave-at-requires-clause-way
@@ -28,18 +28,18 @@ leave-at-requires-clause-way g c = wipe_way _ _ _ _ _ _ _ _ _ (c.loop-at.invaria
 pub loop-at-smaller-then-at-arity : goal.loop-at-smaller-then-at-arity
 loop-at-smaller-then-at-arity g c =
     let e = c.leave-at.ensures in
-    left_lighter _ _ _ _ _ _ _ _ _ _ _ _ _ e.number e.port e.marked e.depth (c.loop-at.invariant.walk _ _ c.requires.spread.2).1
+    left_lighter _ _ _ _ _ _ _ _ _ _ _ _ _ e.back.number e.back.port e.marked e.back.higher (c.loop-at.invariant.walk _ _ c.requires.spread.2).1
 
 pub loop-at-preserved-then-at-arity : goal.loop-at-preserved-then-at-arity
 loop-at-preserved-then-at-arity g c =
     let e = c.leave-at.ensures in
     record {
       atom = e.atom;
-      walk = λ before all t. (_, left_to _ _ _ _ _ _ _ _ _ _ _ _ _ e.number e.port e.marked e.depth (c.loop-at.invariant.walk before all t).1 e.sound (c.if-at-arity.true ∙ c.arity.ensures.arity));
+      walk = λ before all t. (_, left_to _ _ _ _ _ _ _ _ _ _ _ _ _ e.back.number e.back.port e.marked e.back.higher (c.loop-at.invariant.walk before all t).1 e.sound (c.if-at-arity.true ∙ c.arity.ensures.arity));
     }
 
 pub marked_end-requires-clause-port : goal.marked_end-requires-clause-port
-marked_end-requires-clause-port g c = let h = wipe_here _ _ _ _ _ _ _ _ _ (c.loop-at.invariant.walk _ _ c.requires.spread.2).1 in omega (arith, h)
+marked_end-requires-clause-port g c = let h = wipe_here _ _ _ _ _ _ _ _ _ (c.loop-at.invariant.walk _ _ c.requires.spread.2).1 in (c.loop-at.invariant.atom, omega (arith, h))
 
 pub marked_end-requires-clause-way : goal.marked_end-requires-clause-way
 marked_end-requires-clause-way g c = wipe_way _ _ _ _ _ _ _ _ _ (c.loop-at.invariant.walk _ _ c.requires.spread.2).1
@@ -48,7 +48,7 @@ pub overflow_sub-left-in-Some : goal.overflow_sub-left-in-Some
 overflow_sub-left-in-Some g c =
     let t = (c.loop-at.invariant.walk _ _ c.requires.spread.2).1 in
     let h = wipe_here _ _ _ _ _ _ _ _ _ t in
-    let e = c.in-Some.ensures in
+    let e = c.in-Some.ensures.end in
     some_left _ _ _ _ _ _ _ _ _ t _ _ (omega (arith, h)) e.link e.there e.apart e.high
 
 pub overflow_add-down : goal.overflow_add-down
@@ -61,51 +61,48 @@ overflow_add-down g c =
 
 pub take_atom-requires-in-Some : goal.take_atom-requires-in-Some
 take_atom-requires-in-Some g c =
-    let e = c.in-Some.ensures in
+    let e = c.in-Some.ensures.end in
     still_placed _ _ _ _ _ _ _ _ _ (c.loop-at.invariant.walk _ _ c.requires.spread.2).1 _ _ _ c.enter-in-Some.ensures.marked e.link e.apart e.high c.requires.spread.3
 
 pub leave_leaf-at-requires-clause-from : goal.leave_leaf-at-requires-clause-from
 leave_leaf-at-requires-clause-from g c =
     let h = wipe_here _ _ _ _ _ _ _ _ _ (c.loop-at.invariant.walk _ _ c.requires.spread.2).1 in
     let l : c.loop-at.at.port < arity_of (g.S.LinkStore.heap c.loop-at.store) (g.S.LinkStore.atom_id c.loop-at.at.atom) = omega (arith, h) in
-    taken_port_there _ _ _ _ _ c.take_atom-in-Some.ensures (port_after _ _ _ _ _ _ _ c.enter-in-Some.ensures.marked l)
-
-pub leave_leaf-at-requires-clause-port : goal.leave_leaf-at-requires-clause-port
-leave_leaf-at-requires-clause-port g c =
-    let h = wipe_here _ _ _ _ _ _ _ _ _ (c.loop-at.invariant.walk _ _ c.requires.spread.2).1 in
-    let l : c.loop-at.at.port < arity_of (g.S.LinkStore.heap c.loop-at.store) (g.S.LinkStore.atom_id c.loop-at.at.atom) = omega (arith, h) in
-    taken_port _ _ _ _ _ c.take_atom-in-Some.ensures (port_after _ _ _ _ _ _ _ c.enter-in-Some.ensures.marked l)
+    (taken_port_there _ _ _ _ _ c.take_atom-in-Some.ensures (port_after _ _ _ _ _ _ _ c.enter-in-Some.ensures.marked l), taken_port _ _ _ _ _ c.take_atom-in-Some.ensures (port_after _ _ _ _ _ _ _ c.enter-in-Some.ensures.marked l))
 
 pub leave_leaf-at-requires-clause-atom : goal.leave_leaf-at-requires-clause-atom
-leave_leaf-at-requires-clause-atom g c = there_taken _ _ _ c.take_atom-in-Some.ensures (there_after _ _ _ _ _ _ c.enter-in-Some.ensures.marked c.in-Some.ensures.there)
+leave_leaf-at-requires-clause-atom g c = there_taken _ _ _ c.take_atom-in-Some.ensures (there_after _ _ _ _ _ _ c.enter-in-Some.ensures.marked c.in-Some.ensures.end.there)
 
-pub leave_leaf-at-requires-clause-back : goal.leave_leaf-at-requires-clause-back
-leave_leaf-at-requires-clause-back g c =
-    back_taken _ _ _ _ _ c.take_atom-in-Some.ensures (wiped_back _ _ _ _ _ _ c.enter-in-Some.ensures.marked c.arity.ensures.sound c.in-Some.ensures.back c.in-Some.ensures.there c.enter-in-Some.ensures.small)
+pub leave_leaf-at-requires-clause-entered : goal.leave_leaf-at-requires-clause-entered
+leave_leaf-at-requires-clause-entered g c = record {
+  first = refl;
+  deeper = refl;
+  entry = back_taken _ _ _ _ _ c.take_atom-in-Some.ensures (wiped_back _ _ _ _ _ _ c.enter-in-Some.ensures.marked c.arity.ensures.sound c.in-Some.ensures.end.link_back c.in-Some.ensures.end.there c.enter-in-Some.ensures.small);
+}
 
 pub loop-at-smaller-in-Some : goal.loop-at-smaller-in-Some
 loop-at-smaller-in-Some g c =
     let t = (c.loop-at.invariant.walk _ _ c.requires.spread.2).1 in
     let h = wipe_here _ _ _ _ _ _ _ _ _ t in
-    let e = c.in-Some.ensures in
+    let e = c.in-Some.ensures.end in
     let l : c.loop-at.at.port < arity_of (g.S.LinkStore.heap c.loop-at.store) (g.S.LinkStore.atom_id c.loop-at.at.atom) = omega (arith, h) in
-    let k = c.leave_leaf-at.ensures.lighter _ _ _ _ (taken_too _ _ _ _ _ _ _ _ _ _ _ c.take_atom-in-Some.ensures
-    (wiping_enter _ _ _ _ _ _ _ _ _ t _ _ _ c.enter-in-Some.ensures.marked c.arity.ensures.sound l e.link e.back e.there c.enter-in-Some.ensures.small e.apart e.high)) in
+    let k = c.leave_leaf-at.ensures.on.lighter _ _ _ _ (taken_too _ _ _ _ _ _ _ _ _ _ _ c.take_atom-in-Some.ensures
+    (wiping_enter _ _ _ _ _ _ _ _ _ t _ _ _ c.enter-in-Some.ensures.marked c.arity.ensures.sound l e.link e.link_back e.there c.enter-in-Some.ensures.small e.apart e.high)) in
     let m = lighter_taken _ _ _ _ _ _ _ _ c.take_atom-in-Some.ensures
-    (lighter_enter _ _ _ _ _ _ _ _ _ t _ _ _ c.enter-in-Some.ensures.marked c.arity.ensures.sound l e.back e.there c.enter-in-Some.ensures.small e.small (some_left _ _ _ _ _ _ _ _ _ t _ _ l e.link e.there e.apart e.high) e.high) in
+    (lighter_enter _ _ _ _ _ _ _ _ _ t _ _ _ c.enter-in-Some.ensures.marked c.arity.ensures.sound l e.link_back e.there c.enter-in-Some.ensures.small e.small (some_left _ _ _ _ _ _ _ _ _ t _ _ l e.link e.there e.apart e.high) e.high) in
     omega (arith, k, m)
 
 pub loop-at-preserved-in-Some : goal.loop-at-preserved-in-Some
 loop-at-preserved-in-Some g c =
     let h = wipe_here _ _ _ _ _ _ _ _ _ (c.loop-at.invariant.walk _ _ c.requires.spread.2).1 in
     let l : c.loop-at.at.port < arity_of (g.S.LinkStore.heap c.loop-at.store) (g.S.LinkStore.atom_id c.loop-at.at.atom) = omega (arith, h) in
-    let e = c.in-Some.ensures in
+    let e = c.in-Some.ensures.end in
     record {
       atom = c.leave_leaf-at.ensures.atom;
       walk = λ before all t. (
         _,
-        c.leave_leaf-at.ensures.walk _ _ _ _ (taken_too _ _ _ _ _ _ _ _ _ _ _ c.take_atom-in-Some.ensures
-            (wiping_enter _ _ _ _ _ _ _ _ _ (c.loop-at.invariant.walk before all t).1 _ _ _ c.enter-in-Some.ensures.marked c.arity.ensures.sound l e.link e.back e.there c.enter-in-Some.ensures.small e.apart e.high)),
+        c.leave_leaf-at.ensures.on.walk _ _ _ _ (taken_too _ _ _ _ _ _ _ _ _ _ _ c.take_atom-in-Some.ensures
+            (wiping_enter _ _ _ _ _ _ _ _ _ (c.loop-at.invariant.walk before all t).1 _ _ _ c.enter-in-Some.ensures.marked c.arity.ensures.sound l e.link e.link_back e.there c.enter-in-Some.ensures.small e.apart e.high)),
       );
     }
 

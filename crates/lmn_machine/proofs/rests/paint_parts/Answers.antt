@@ -9,17 +9,13 @@ use Rattle.lmn_machine.proofs.Resting.{now_atom, now_port, now_clean, now_whole,
 use Rattle.lmn_machine_commit.proofs.Owning.{own_append}
 use Rattle.lmn_machine.proofs.rests.paint_parts.Goals as goal
 
-pub paint-requires-clause-atom : goal.paint-requires-clause-atom
-paint-requires-clause-atom g c =
+pub paint-requires-clause-root : goal.paint-requires-clause-root
+paint-requires-clause-root g c =
     let m = c.requires.marked in
-    let inv = c.loop-i.invariant in
-    now_atom m.0 m.2 m.1 (g.S.LinkStore.heap c.args.store.now) m.3 inv.0 c.args.mark (g.S.LinkStore.heap c.loop-i.store) inv.2 (g.S.LinkStore.atom_id c.at.result.0) (c.requires.parts _ _ c.at.ensures).0
-
-pub paint-requires-clause-port : goal.paint-requires-clause-port
-paint-requires-clause-port g c =
-    let m = c.requires.marked in
-    let inv = c.loop-i.invariant in
-    now_port m.0 m.2 m.1 (g.S.LinkStore.heap c.args.store.now) m.3 inv.0 c.args.mark (g.S.LinkStore.heap c.loop-i.store) inv.2 (g.S.LinkStore.atom_id c.at.result.0) c.at.result.1 (c.requires.parts _ _ c.at.ensures).1
+    let inv = c.loop-i.invariant in (
+      now_atom m.0 m.2 m.1 (g.S.LinkStore.heap c.args.store.now) m.3 inv.0 c.args.mark (g.S.LinkStore.heap c.loop-i.store) inv.2 (g.S.LinkStore.atom_id c.at.result.0) (c.requires.parts _ _ c.at.ensures).0,
+      now_port m.0 m.2 m.1 (g.S.LinkStore.heap c.args.store.now) m.3 inv.0 c.args.mark (g.S.LinkStore.heap c.loop-i.store) inv.2 (g.S.LinkStore.atom_id c.at.result.0) c.at.result.1 (c.requires.parts _ _ c.at.ensures).1,
+    )
 
 pub paint-requires-clause-clean : goal.paint-requires-clause-clean
 paint-requires-clause-clean g c =

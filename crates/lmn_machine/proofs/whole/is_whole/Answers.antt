@@ -4,11 +4,11 @@ use Rattle.lmn_ground.specs.Rests.{own_marked}
 use Rattle.lmn_machine.proofs.Owning.{ground_whole, whole_ground, taken_back_own, there_own, mem_own, port_own, clean_own_all}
 use Rattle.lmn_machine.proofs.whole.is_whole.Goals as goal
 
-pub is_ground-whole-requires-clause-atom : goal.is_ground-whole-requires-clause-atom
-is_ground-whole-requires-clause-atom g c = there_own (g.S.LinkStore.heap c.args.store.now) (g.S.LinkStore.heap c.mark_all.new.store) (map g.S.LinkStore.atom_id c.args.atoms.now) 1 (g.S.LinkStore.atom_id c.args.root.0) c.requires.unmarked c.mark_all.ensures c.requires.atom
-
-pub is_ground-whole-requires-clause-port : goal.is_ground-whole-requires-clause-port
-is_ground-whole-requires-clause-port g c = port_own (g.S.LinkStore.heap c.args.store.now) (g.S.LinkStore.heap c.mark_all.new.store) (map g.S.LinkStore.atom_id c.args.atoms.now) 1 (g.S.LinkStore.atom_id c.args.root.0) c.args.root.1 c.requires.unmarked c.mark_all.ensures c.requires.port
+pub is_ground-whole-requires-clause-root : goal.is_ground-whole-requires-clause-root
+is_ground-whole-requires-clause-root g c = (
+  there_own (g.S.LinkStore.heap c.args.store.now) (g.S.LinkStore.heap c.mark_all.new.store) (map g.S.LinkStore.atom_id c.args.atoms.now) 1 (g.S.LinkStore.atom_id c.args.root.0) c.requires.unmarked c.mark_all.ensures c.requires.atom,
+  port_own (g.S.LinkStore.heap c.args.store.now) (g.S.LinkStore.heap c.mark_all.new.store) (map g.S.LinkStore.atom_id c.args.atoms.now) 1 (g.S.LinkStore.atom_id c.args.root.0) c.args.root.1 c.requires.unmarked c.mark_all.ensures c.requires.port,
+)
 
 pub is_ground-whole-requires-clause-mem : goal.is_ground-whole-requires-clause-mem
 is_ground-whole-requires-clause-mem g c = mem_own (g.S.LinkStore.heap c.args.store.now) (g.S.LinkStore.heap c.mark_all.new.store) (map g.S.LinkStore.atom_id c.args.atoms.now) 1 (g.S.LinkStore.mem_id c.args.m) c.requires.unmarked c.mark_all.ensures c.requires.membrane

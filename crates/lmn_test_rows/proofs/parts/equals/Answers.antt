@@ -1,16 +1,14 @@
 use Rattle.lmn_store_slab.specs.Kept.{heap_of}
-use Rattle.std.proofs.Common.{rules, ◌<◌, sym, subst, inr}
-use Rattle.lmn_store_heap.specs.Heap.{Heap, IsAtom, arity_of}
+use Rattle.std.proofs.Common.{rules, sym, subst, inr}
+use Rattle.lmn_store_heap.specs.Heap.{Heap}
+use Rattle.lmn_store_heap.specs.Splice.{IsPort}
 use Rattle.std.specs.Prelude.{None}
 use Rattle.lmn_ground.specs.Spread.{IsGroundIn, IsWhole}
 use Rattle.lmn_test_rows.proofs.PartLemmas.{clean_same, ground_apart}
 use Rattle.lmn_test_rows.proofs.parts.equals.Goals as goal
 
 pub equal-requires-clause-x : goal.equal-requires-clause-x
-equal-requires-clause-x g c = subst (λ (h : Heap). IsAtom h c.args.x.0) (sym c.part-2.ensures.same) c.part.ensures.atom
-
-pub equal-requires-clause-port : goal.equal-requires-clause-port
-equal-requires-clause-port g c = subst (λ (h : Heap). c.args.x.1 < arity_of h c.args.x.0) (sym c.part-2.ensures.same) c.part.ensures.port
+equal-requires-clause-x g c = subst (λ (h : Heap). IsPort h c.args.x.0 c.args.x.1) (sym c.part-2.ensures.same) (c.part.ensures.atom, c.part.ensures.port)
 
 pub equal-requires-clause-ground : goal.equal-requires-clause-ground
 equal-requires-clause-ground g c = subst (λ (h : Heap). IsWhole h (c.args.x.0, c.args.x.1) None) (sym c.part-2.ensures.same) c.part.ensures.whole
