@@ -9,7 +9,7 @@ use Rattle.lmn_store_heap.proofs.Listing.{alter_at, alter_away}
 use Rattle.lmn_store_heap.proofs.Finish.{finished_sound}
 use Rattle.lmn_store_heap.proofs.Discard.{discarded_paired}
 use Rattle.lmn_store_heap.proofs.Shapes.{WellShaped, shaped_of, shaped_at}
-use Rattle.lmn_store_slab.specs.Lines.{HeldLists, list_at}
+use Rattle.lmn_store_slab.specs.Lines.{HeldLists, SameSize, list_at}
 use Rattle.lmn_store_slab.specs.Cells.{atoms_in_cells, mems_in_cells, built, with_lists}
 use Rattle.lmn_store_counts.specs.Census.{Census}
 use Rattle.lmn_store_slab.specs.Kept.{Kept, AlwaysHolds, ItemsAreFiled, Room, Filed, heap_of, place_in, mem_place_in}
@@ -17,7 +17,7 @@ use Rattle.lmn_store_counts.specs.Counts.{Removes, one, with_rules}
 use Rattle.lmn_store_counts.proofs.PlaceLemmas.{removes_gone, removes_waiting, mem_removes_gone, mem_removes_waiting}
 use Rattle.lmn_store_slab.proofs.BuiltLemmas.{built_mem_place, not_line as wait_line, not_out as out_line}
 use Rattle.lmn_store_slab.proofs.FitsLemmas.{fits_sound, built_atoms, built_mems}
-use Rattle.lmn_store_slab.proofs.HoldsLemmas.{SameSize, holds_by, heap_by}
+use Rattle.lmn_store_slab.proofs.HoldsLemmas.{holds_by, heap_by}
 
 place_cases : (P Q : Place) → (P ≡ Q) ⊎ (P ≡ Q → ⊥)
 place_cases top top = inl refl

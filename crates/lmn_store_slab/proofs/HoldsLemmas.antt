@@ -7,7 +7,7 @@ use Rattle.lmn_base.specs.declared.functor.Functor.{Functor}
 use Rattle.lmn_store_heap.specs.Lists.{without, from}
 use Rattle.lmn_store_heap.specs.Heap.{Heap, HeapAtom, HeapMem, Place, top, within, waiting, gone, alter, home_by, arity_of, link_of, port_id, with_place, with_mark, with_link, mem_with_place, new_atom, new_mem, linked, cleared, joined, marked, made_atom, made_mem, placed, placed_mem, taken, taken_mem, IsMem, IsMemInPlace, IsInPlace, IsPlacedMem}
 use Rattle.lmn_store_heap.proofs.Listing.{alter_at, alter_away}
-use Rattle.lmn_store_slab.specs.Lines.{HeldLists, list_at}
+use Rattle.lmn_store_slab.specs.Lines.{HeldLists, SameSize, list_at}
 use Rattle.lmn_store_slab.specs.declared.cell.AtomCell.{AtomCell}
 use Rattle.lmn_store_slab.specs.declared.cell.MemCell.{MemCell}
 use Rattle.lmn_store_slab.specs.Cells.{atoms_in_cells, mems_in_cells, atom_in_cell, mem_in_cell, built, with_lists, place_by, mem_place_by}
@@ -63,11 +63,6 @@ census_alike f g n a c = census_same one f g n a (λ k. by (g k) (f k) (a k)) c
     by None (Some x) e = absurd (let w : IsSome {T = HeapAtom} None = e.1 refl in cc)
     by (Some x) None e = absurd (let w : IsSome {T = HeapAtom} None = e.0 refl in cc)
     by (Some x) (Some y) e = refl
-
--- The same number of lists and of numbers
-pub record SameSize (h h1 : HeldLists) : Type 0 where
-  pub lists : length h1.lists ≡ length h.lists
-  pub size : h1.size ≡ h.size
 
 -- where the same are there they need the same room
 pub room_alike : (A A1 : ℕ → Option HeapAtom) (B B1 : ℕ → Option HeapMem) (a m a1 m1 : HeldLists) → Alike A A1 → Alike B B1 → SameSize a a1 → SameSize m m1 → Room A B a m → Room A1 B1 a1 m1

@@ -7,7 +7,7 @@ use Rattle.lmn_store_heap.specs.Heap.{Heap, HeapAtom, HeapMem, Place, top, withi
 use Rattle.lmn_store_heap.specs.Conditions.{IsOutside}
 use Rattle.lmn_store_heap.proofs.Listing.{alter_at, alter_away, same_paired}
 use Rattle.lmn_store_heap.proofs.Shapes.{WellShaped, shaped_of, shaped_at}
-use Rattle.lmn_store_slab.specs.Lines.{list_at}
+use Rattle.lmn_store_slab.specs.Lines.{SameSize, list_at}
 use Rattle.lmn_store_slab.specs.Cells.{atoms_in_cells, mems_in_cells, built, with_lists}
 use Rattle.lmn_store_counts.specs.Census.{weight}
 use Rattle.lmn_store_slab.specs.Kept.{Kept, AlwaysHolds, ItemsAreFiled, Filed, heap_of, place_in, mem_place_in}
@@ -15,7 +15,7 @@ use Rattle.lmn_store_counts.specs.Counts.{with_rules}
 use Rattle.lmn_store_counts.proofs.CensusLemmas.{census_same}
 use Rattle.lmn_store_slab.proofs.BuiltLemmas.{lifted, built_mem_place, two_apart}
 use Rattle.lmn_store_slab.proofs.FitsLemmas.{built_atoms, built_mems, stands_apart}
-use Rattle.lmn_store_slab.proofs.HoldsLemmas.{Alike, SameSize, holds_by, heap_by, room_alike, census_alike}
+use Rattle.lmn_store_slab.proofs.HoldsLemmas.{Alike, holds_by, heap_by, room_alike, census_alike}
 
 -- what is outside a membrane is another
 pub differ_of : (s : Heap) (n m : ℕ) → IsOutside s n m → m ≢ n

@@ -72,6 +72,11 @@ list_at h l = slice_index_or h.lists l []
 abbrev pub view_of : List Node → List Ends → HeldLists
 view_of ns es = record { lists = map (numbers_of_list ns) es; size = length ns }
 
+-- the same number of lists and of numbers
+pub record SameSize (h h1 : HeldLists) : Type 0 where
+  pub lists : length h1.lists ≡ length h.lists
+  pub size : h1.size ≡ h.size
+
 -- the number is in no list
 abbrev pub IsFree : HeldLists → ℕ → Type 0
 IsFree h x = (l : ℕ) → l < length h.lists → In x (list_at h l) → ⊥

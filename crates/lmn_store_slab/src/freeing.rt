@@ -2,11 +2,10 @@
 ghost use Rattle.std.specs.Prelude.{◌≡◌, ◌<◌, ◌≤◌, Option, length, []};
 ghost use Rattle.std.specs.Option.{option_and_then};
 ghost use Rattle.lmn_store_heap.specs.Heap.{HeapAtom, HeapMem, alter};
-ghost use Rattle.lmn_store_slab.specs.Lines.{list_at};
+ghost use Rattle.lmn_store_slab.specs.Lines.{SameSize, list_at};
 ghost use Rattle.lmn_store_slab.specs.Cells.{atoms_in_cells, mems_in_cells, place_by};
-ghost use Rattle.lmn_store_counts.specs.Census.{Census};
-ghost use Rattle.lmn_store_slab.specs.Kept.{Filed, place_in, mem_place_in};
-ghost use Rattle.lmn_store_counts.specs.Counts.{Removes, one, with_rules};
+ghost use Rattle.lmn_store_slab.specs.Moves.{AtomsAreCounted, MemsAreCounted};
+ghost use Rattle.lmn_store_counts.specs.Counts.{Removes};
 
 use crate::Lists;
 use crate::cell::{AtomCell, MemCell};
@@ -16,16 +15,13 @@ use slab::Slab;
 /// The atoms in a list are freed.
 pub fn free_atoms(atoms: &mut Slab<AtomCell>, lists: &mut Lists, list: usize, count: &mut u64)
     requires list { list < length lists.old.lists }
-    requires files { Filed (list_at lists.old) (place_in (atoms_in_cells atoms.old.slots)) }
-    requires census { Census one (atoms_in_cells atoms.old.slots) count.old }
-    ensures files { Filed (list_at lists.new) (place_in (atoms_in_cells atoms.new.slots)) }
-    ensures census { Census one (atoms_in_cells atoms.new.slots) count.new }
+    requires counted { AtomsAreCounted (atoms_in_cells atoms.old.slots) lists.old count.old }
+    ensures counted { AtomsAreCounted (atoms_in_cells atoms.new.slots) lists.new count.new }
     ensures fewer { count.new ≤ count.old }
     ensures freed { (u : HeapAtom → Option HeapAtom) → Removes (λ x. x.place) u (place_by list) →
         atoms_in_cells atoms.new.slots ≡ (λ a. option_and_then u (atoms_in_cells atoms.old.slots a)) }
     ensures lists { list_at lists.new ≡ alter (list_at lists.old) list (λ _. []) }
-    ensures lengths { length lists.new.lists ≡ length lists.old.lists }
-    ensures size { lists.new.size ≡ lists.old.size }
+    ensures sizes { SameSize lists.old lists.new }
 {
     while let Some(a) = lists.first(list) {
         lists.unlink(list, a);
@@ -43,19 +39,14 @@ pub fn free_mems(
     spare: &mut u64,
 )
     requires list { list < length lists.old.lists }
-    requires files { Filed (list_at lists.old) (mem_place_in (mems_in_cells mems.old.slots)) }
-    requires census { Census with_rules (mems_in_cells mems.old.slots) count.old }
-    requires spares { Census (λ x. x.spare) (mems_in_cells mems.old.slots) spare.old }
-    ensures files { Filed (list_at lists.new) (mem_place_in (mems_in_cells mems.new.slots)) }
-    ensures census { Census with_rules (mems_in_cells mems.new.slots) count.new }
-    ensures spares { Census (λ x. x.spare) (mems_in_cells mems.new.slots) spare.new }
+    requires counted { MemsAreCounted (mems_in_cells mems.old.slots) lists.old count.old spare.old }
+    ensures counted { MemsAreCounted (mems_in_cells mems.new.slots) lists.new count.new spare.new }
     ensures fewer { count.new ≤ count.old }
     ensures less_spare { spare.new ≤ spare.old }
     ensures freed { (u : HeapMem → Option HeapMem) → Removes (λ x. x.place) u (place_by list) →
         mems_in_cells mems.new.slots ≡ (λ m. option_and_then u (mems_in_cells mems.old.slots m)) }
     ensures lists { list_at lists.new ≡ alter (list_at lists.old) list (λ _. []) }
-    ensures lengths { length lists.new.lists ≡ length lists.old.lists }
-    ensures size { lists.new.size ≡ lists.old.size }
+    ensures sizes { SameSize lists.old lists.new }
 {
     while let Some(m) = lists.first(list) {
         lists.unlink(list, m);

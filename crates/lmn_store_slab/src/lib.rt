@@ -3,6 +3,7 @@
 
 mod cell;
 mod cells;
+mod examples;
 mod freeing;
 mod growth;
 mod links;
@@ -13,5 +14,6 @@ mod seek;
 mod slab_store;
 mod table;
 
+pub use examples::sizes_are_told;
 pub use lists::Lists;
 pub use slab_store::SlabStore;

@@ -2,7 +2,7 @@ ghost use Rattle.std.specs.Prelude.{ℕ, ◌≡◌, ◌<◌, ◌+◌, ◌^◌, �
 ghost use Rattle.lmn_store_heap.specs.Heap.{alter};
 ghost use Rattle.lmn_base.specs.Lists.{In};
 ghost use Rattle.lmn_store_heap.specs.Lists.{Distinct, without, from, after};
-ghost use Rattle.lmn_store_slab.specs.Lines.{list_at};
+ghost use Rattle.lmn_store_slab.specs.Lines.{SameSize, list_at};
 
 use crate::table::Table;
 use lmn_base::NoMemory;
@@ -111,8 +111,7 @@ impl Lists {
         requires once { Distinct (list_at self.old from_list) }
         requires only { (l : ℕ) → In x (list_at self.old l) → l ≡ from_list }
         ensures lists { list_at self.new ≡ alter (alter (list_at self.old) from_list (without x)) to_list (λ xs. xs ++ x ∷ []) }
-        ensures count { length self.new.lists ≡ length self.old.lists }
-        ensures size { self.new.size ≡ self.old.size }
+        ensures sizes { SameSize self.old self.new }
     {
         self.unlink(from_list, x);
         self.push_last(to_list, x);

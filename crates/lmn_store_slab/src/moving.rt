@@ -3,9 +3,10 @@ ghost use Rattle.std.specs.Prelude.{◌≡◌, ◌≢◌, ◌<◌, ◌≤◌, �
 ghost use Rattle.std.specs.Option.{option_map};
 ghost use Rattle.lmn_store_heap.specs.Lists.{from};
 ghost use Rattle.lmn_store_heap.specs.Heap.{HeapMem, alter, rules_by, atom_sent, mem_sent, mem_with_rules};
-ghost use Rattle.lmn_store_slab.specs.Lines.{list_at};
+ghost use Rattle.lmn_store_slab.specs.Lines.{SameSize, list_at};
 ghost use Rattle.lmn_store_slab.specs.Cells.{atoms_in_cells, mems_in_cells};
 ghost use Rattle.lmn_store_slab.specs.Kept.{Filed, place_in, mem_place_in};
+ghost use Rattle.lmn_store_slab.specs.Moves.{AreTwoMembranes};
 
 use crate::Lists;
 use crate::cell::{AtomCell, MemCell};
@@ -22,17 +23,14 @@ fn next_out(lists: &Lists, list: usize) -> Option<usize>
 
 /// The atoms of the membrane m go to the end of those of n.
 pub fn move_atoms(atoms: &mut Slab<AtomCell>, lists: &mut Lists, m: usize, n: usize)
-    requires m { m + 2 < length lists.old.lists }
-    requires n { n + 2 < length lists.old.lists }
-    requires differ { m ≢ n }
+    requires two { AreTwoMembranes lists.old m n }
     requires files { Filed (list_at lists.old) (place_in (atoms_in_cells atoms.old.slots)) }
     requires numbers { (a : ℕ) → IsSome (atoms_in_cells atoms.old.slots a) → a < lists.old.size }
     requires small { length lists.old.lists < 2 ^ 63 }
     ensures atoms { atoms_in_cells atoms.new.slots ≡ (λ a. option_map (atom_sent m n) (atoms_in_cells atoms.old.slots a)) }
     ensures lists { list_at lists.new ≡ alter (alter (list_at lists.old) (n + 2) (λ xs. xs ++ list_at lists.old (m + 2))) (m + 2) (λ _. []) }
     ensures files { Filed (list_at lists.new) (place_in (atoms_in_cells atoms.new.slots)) }
-    ensures lengths { length lists.new.lists ≡ length lists.old.lists }
-    ensures size { lists.new.size ≡ lists.old.size }
+    ensures sizes { SameSize lists.old lists.new }
 {
     while let Some(a) = next_out(lists, m + 2) {
         lists.move_last(m + 2, n + 2, a);
@@ -42,17 +40,14 @@ pub fn move_atoms(atoms: &mut Slab<AtomCell>, lists: &mut Lists, m: usize, n: us
 
 /// The membranes of the membrane m go to the end of those of n.
 pub fn move_mems(mems: &mut Slab<MemCell>, lists: &mut Lists, m: usize, n: usize)
-    requires m { m + 2 < length lists.old.lists }
-    requires n { n + 2 < length lists.old.lists }
-    requires differ { m ≢ n }
+    requires two { AreTwoMembranes lists.old m n }
     requires files { Filed (list_at lists.old) (mem_place_in (mems_in_cells mems.old.slots)) }
     requires numbers { (k : ℕ) → IsSome (mems_in_cells mems.old.slots k) → k < lists.old.size }
     requires small { length lists.old.lists < 2 ^ 63 }
     ensures mems { mems_in_cells mems.new.slots ≡ (λ k. option_map (mem_sent m n) (mems_in_cells mems.old.slots k)) }
     ensures lists { list_at lists.new ≡ alter (alter (list_at lists.old) (n + 2) (λ xs. xs ++ list_at lists.old (m + 2))) (m + 2) (λ _. []) }
     ensures files { Filed (list_at lists.new) (mem_place_in (mems_in_cells mems.new.slots)) }
-    ensures lengths { length lists.new.lists ≡ length lists.old.lists }
-    ensures size { lists.new.size ≡ lists.old.size }
+    ensures sizes { SameSize lists.old lists.new }
 {
     while let Some(k) = next_out(lists, m + 2) {
         lists.move_last(m + 2, n + 2, k);

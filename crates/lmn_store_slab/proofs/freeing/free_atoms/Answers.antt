@@ -30,3 +30,9 @@ loop-a-preserved c =
 
 pub returns-clause-freed : goal.returns-clause-freed
 returns-clause-freed c = freed_all _ _ _ _ _ _ c.loop-a.invariant.freeing (rw c.in_default.is at c.first.ensures)
+
+pub returns-clause-counted : goal.returns-clause-counted
+returns-clause-counted c = record { files = c.loop-a.invariant.freeing.files; census = c.loop-a.invariant.census }
+
+pub returns-clause-sizes : goal.returns-clause-sizes
+returns-clause-sizes c = record { lists = c.loop-a.invariant.lengths; size = c.loop-a.invariant.size }

@@ -54,3 +54,9 @@ loop-m-preserved c =
 
 pub returns-clause-freed : goal.returns-clause-freed
 returns-clause-freed c = freed_all _ _ _ _ _ _ c.loop-m.invariant.freeing (rw c.in_default.is at c.first.ensures)
+
+pub returns-clause-counted : goal.returns-clause-counted
+returns-clause-counted c = record { files = c.loop-m.invariant.freeing.files; census = c.loop-m.invariant.census; spares = c.loop-m.invariant.spares }
+
+pub returns-clause-sizes : goal.returns-clause-sizes
+returns-clause-sizes c = record { lists = c.loop-m.invariant.lengths; size = c.loop-m.invariant.size }

@@ -8,3 +8,6 @@ push_last-requires-clause-free c = left_free _ _ c.args.from_list c.args.x c.unl
 
 pub returns-clause-lists : goal.returns-clause-lists
 returns-clause-lists c = c.push_last.ensures.lists ∙ ap (λ (f : ℕ → List ℕ). alter f c.args.to_list (λ xs. xs ++ c.args.x ∷ [])) c.unlink.ensures.lists
+
+pub returns-clause-sizes : goal.returns-clause-sizes
+returns-clause-sizes c = record { lists = c.push_last.ensures.count ∙ c.unlink.ensures.count; size = c.push_last.ensures.size ∙ c.unlink.ensures.size }

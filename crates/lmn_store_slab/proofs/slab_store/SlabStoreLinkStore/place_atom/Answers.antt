@@ -13,12 +13,12 @@ move_last-requires-clause-only c = first_only _ _ _ _ c.self.invariant c.unwrap-
 pub invariant_of-self : goal.invariant_of-self
 invariant_of-self c =
     (place_pair _ _ _ _ c.self.invariant c.unwrap-a.result (rw c.unwrap-a.ensures at c.first.ensures) _ c.args.m (subst (λ z. IsMemInPlace (heap_of z) c.args.m) (sym c.self.view_is) c.requires.mem)
-    c.set_list.ensures refl c.move_last.ensures.lists (record { lists = c.move_last.ensures.count; size = c.move_last.ensures.size }) refl).0
+    c.set_list.ensures refl c.move_last.ensures.lists c.move_last.ensures.sizes refl).0
 
 pub returns-clause-placed : goal.returns-clause-placed
 returns-clause-placed c =
     (place_pair _ _ _ _ c.self.invariant c.unwrap-a.result (rw c.unwrap-a.ensures at c.first.ensures)
     (record { atoms = c.set_list.new.atoms.slots; mems = c.self.inside.mems.slots; atom_lists = c.move_last.new.self; mem_lists = c.self.inside.mem_lists })
     c.args.m (subst (λ z. IsMemInPlace (heap_of z) c.args.m) (sym c.self.view_is) c.requires.mem)
-    c.set_list.ensures refl c.move_last.ensures.lists (record { lists = c.move_last.ensures.count; size = c.move_last.ensures.size }) refl).1
+    c.set_list.ensures refl c.move_last.ensures.lists c.move_last.ensures.sizes refl).1
     ∙ ap (λ z. placed (heap_of z) c.args.m c.unwrap-a.result) c.self.view_is

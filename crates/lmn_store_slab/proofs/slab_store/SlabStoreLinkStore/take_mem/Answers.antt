@@ -14,12 +14,12 @@ invariant_of-self c =
     (take_mem_pair _ _ _ _ c.self.invariant c.args.m c.unwrap-list.result c.index.result.now c.index.ensures c.unwrap-list.ensures
     (subst (λ (z : Kept). IsPlacedMem (heap_of z) c.args.m) (sym c.self.view_is) c.requires)
     (record { atoms = c.self.inside.atoms.slots; mems = c.set_mem_list.new.mems.slots; atom_lists = c.self.inside.atom_lists; mem_lists = c.move_last.new.self })
-    refl c.set_mem_list.ensures refl c.move_last.ensures.lists (record { lists = c.move_last.ensures.count; size = c.move_last.ensures.size })).0
+    refl c.set_mem_list.ensures refl c.move_last.ensures.lists c.move_last.ensures.sizes).0
 
 pub returns : goal.returns
 returns c =
     (take_mem_pair _ _ _ _ c.self.invariant c.args.m c.unwrap-list.result c.index.result.now c.index.ensures c.unwrap-list.ensures
     (subst (λ (z : Kept). IsPlacedMem (heap_of z) c.args.m) (sym c.self.view_is) c.requires)
     (record { atoms = c.self.inside.atoms.slots; mems = c.set_mem_list.new.mems.slots; atom_lists = c.self.inside.atom_lists; mem_lists = c.move_last.new.self })
-    refl c.set_mem_list.ensures refl c.move_last.ensures.lists (record { lists = c.move_last.ensures.count; size = c.move_last.ensures.size })).1
+    refl c.set_mem_list.ensures refl c.move_last.ensures.lists c.move_last.ensures.sizes).1
     ∙ ap (λ (z : Kept). taken_mem (heap_of z) c.args.m) c.self.view_is
