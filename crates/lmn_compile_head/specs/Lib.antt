@@ -4,3 +4,4 @@ pub mod Tables
 pub mod Entries
 pub mod Bindings
 pub mod Accepted
+pub mod Adding
