@@ -1,13 +1,12 @@
 //! A cell goes from one list of a web to another.
 ghost use Rattle.std.specs.Prelude.{◌≡◌, ◌≢◌, ℕ, List, [], Option, Some, IsSome};
-ghost use Rattle.lmn_store_heap.specs.Heap.{moved_all};
 ghost use Rattle.lmn_store_counts.specs.RuleLists.{RuleList};
 ghost use Rattle.lmn_web_cells.specs.CellIds.{cell_id};
 ghost use Rattle.lmn_web.specs.Webs.{web_by, web_label, home_at, kind_at, cells_in};
 ghost use Rattle.lmn_web.specs.declared.kind.CellKind.TheVariants.{Membrane};
 ghost use Rattle.lmn_web.specs.declared.kind.CellKind.{CellKind as Kind};
-ghost use Rattle.lmn_store_web.specs.WebHeaps.{Posts, heap_by};
-ghost use Rattle.lmn_store_web.specs.Sends.{Sends, CanSend};
+ghost use Rattle.lmn_store_web.specs.WebHeaps.{Posts};
+ghost use Rattle.lmn_store_web.specs.Sends.{Sends, CanSend, CanSendOn};
 
 use lmn_web::{Cell, CellKind, Web};
 
@@ -30,8 +29,7 @@ pub fn send(web: &mut Web, home: Cell, kind: CellKind, c: Cell)
 pub fn send_all(web: &mut Web, source: Cell, home: Cell, kind: CellKind)
     requires { (p : Posts) × (t : List (Option RuleList)) × (a : ℕ) × (b : ℕ) × (c : ℕ) × CanSend p t (web_by web.old) (cell_id source) (cell_id home) a b c }
     ensures sent { (p : Posts) (t : List (Option RuleList)) (a b c : ℕ) → CanSend p t (web_by web.old) (cell_id source) (cell_id home) a b c →
-        CanSend p t (web_by web.new) (cell_id source) (cell_id home) a b c ×
-        (moved_all (heap_by p t (web_by web.new)) (cell_id source) (cell_id home) ≡ moved_all (heap_by p t (web_by web.old)) (cell_id source) (cell_id home)) }
+        CanSendOn p t (web_by web.old) (web_by web.new) (cell_id source) (cell_id home) a b c }
     ensures none { cells_in (web_by web.new) (cell_id source) kind ≡ [] }
     ensures others { (k : Kind) → k ≢ kind → cells_in (web_by web.new) (cell_id source) k ≡ cells_in (web_by web.old) (cell_id source) k }
     ensures labels { (y : ℕ) → web_label (web_by web.new) y ≡ web_label (web_by web.old) y }
