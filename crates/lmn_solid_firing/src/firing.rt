@@ -174,7 +174,7 @@ pub fn fire(
     requires home { IsMem (heap_of flat.now) taken.now.home }
     requires ready { IsReadyFor flat.now taken.now }
     ensures { (left : ℕ → Forest) → LeftForms flat.now taken.now left → (inner : Forest) → Forms (heap_of flat.now) inner (mems_in (heap_of flat.now) 0) →
-        IfOk result (λ made. IsMade flat.now taken.now left inner body.now (taken.now.links + rule_links) connectors.old made.0.items connectors.new made.1) }
+        IfOk result (λ m. IsMade flat.now taken.now left inner body.now (taken.now.links + rule_links) connectors.old m.0.items connectors.new m.1) }
 {
     let start = sum(taken.links, rule_links)?;
     let mut membranes = Vec::new(alloc);
