@@ -70,8 +70,7 @@ impl<'p, S: LinkStore + Drop, F: Fn(u64, u64) -> u64 + Drop> Engine<'p, S, F> {
         requires store { IsEmpty (S.heap store) }
         requires size { size < 2 ^ 64 - 1 }
         ensures holds { IfOk result (λ e. (names : List Name) → AreNames names plain.now → HoldsSolid names plain.now (S.heap e.machine.store)) }
-        ensures run { IfOk result (λ e. EngineCanTurn (S.heap e.machine.store) plain.now.rules e.codes e.size) }
-        ensures awake { IfOk result (λ e. AllAwake (S.heap e.machine.store)) }
+        ensures run { IfOk result (λ e. EngineCanTurn (S.heap e.machine.store) plain.now.rules e.codes e.size × AllAwake (S.heap e.machine.store)) }
         ensures keeps { IfOk result (λ e. (e.plain.now ≡ plain.now) × (e.chooser ≡ chooser) × (e.size ≡ size) × (e.commits ≡ 0)) }
         ensures fits { OnOk result ((s : Solid) → IsSolidOf plain.now s → item_count s ≤ size) }
         ensures fault { IfErr result (λ fault. LoadCauses plain.now size fault) }
@@ -126,8 +125,8 @@ impl<'p, S: LinkStore, F: Fn(u64, u64) -> u64> Engine<'p, S, F> {
         requires run { EngineCanTurn (S.heap self.old.machine.store) self.old.plain.now.rules self.old.codes self.old.size }
         requires chooser { AnswersBelow F.pre F.post self.old.chooser.f }
         requires commits { self.old.commits < 2 ^ 63 }
-        ensures turned { (c : Choosing) → Gives F.post self.old.chooser.f c → (names : List Name) (solid : Region) → HoldsRegion names self.old.plain.now.rules (S.heap self.old.machine.store) solid →
-            IsTurned names self.old.plain.now.rules c self.old.size self.old.commits solid result (S.heap self.new.machine.store) }
+        ensures turned { (c : Choosing) → Gives F.post self.old.chooser.f c → (names : List Name) (x : Region) → HoldsRegion names self.old.plain.now.rules (S.heap self.old.machine.store) x →
+            IsTurned names self.old.plain.now.rules c self.old.size self.old.commits x result (S.heap self.new.machine.store) }
         ensures chosen { IsTurnedByAnswer (F.post self.old.chooser.f) self.old.plain.now.rules self.old.codes self.old.size self.old.commits (S.heap self.old.machine.store) result (S.heap self.new.machine.store) steps.old steps.new }
         ensures kept { KeepsHeap result (S.heap self.old.machine.store) (S.heap self.new.machine.store) }
         ensures again { EngineCanTurn (S.heap self.new.machine.store) self.old.plain.now.rules self.old.codes self.old.size }

@@ -1,7 +1,7 @@
 -- Examples of what sleeps.
 use Rattle.std.proofs.Common.{inl, refl, arith}
 use Rattle.lmn_store_heap.specs.Heap.{mem_marked}
-use Rattle.lmn_schedule_strategy.specs.Examples.{AsleepByMark, MarksAreLow, NothingIsTurned, SleepersArePassed}
+use Rattle.lmn_schedule_strategy.specs.Examples.{AskedByMarks, AsleepByMark, AwakeAreAsked, MarksAreLow, NothingIsTurned, SleepersArePassed, TurnsAgainByMarks}
 use Rattle.lmn_schedule_strategy.proofs.Awake.{asleep_one, awake_one}
 use Rattle.lmn_schedule_strategy.proofs.Lulling.{falls_one}
 use Rattle.lmn_machine_commit.proofs.Rousing.{marked_there}
@@ -20,3 +20,20 @@ marks_are_low h codes = (
 
 pub nothing_is_turned : NothingIsTurned
 nothing_is_turned h f from size = ((λ m i n j c. (let e = c.is in absurd (cc)), refl), λ k w. (let e = w.1.is in absurd (cc)))
+
+pub awake_are_asked : AwakeAreAsked
+awake_are_asked h codes can = (λ all. record { turn = can; sleeps = (marks_are_low h codes).0 all }, λ m i s. (marks_are_low h codes).1 m i s.sleeps)
+
+pub turns_again : TurnsAgainByMarks
+turns_again sleep h codes quiet = (
+  λ a. record { turn = a.turn; sleeps = λ q. a.sleeps; awake = λ never all. all },
+  λ m i s. (marks_are_low h codes).1 m i (s.sleeps quiet),
+)
+
+pub asked_by_marks : AskedByMarks
+asked_by_marks h codes ms m place n = (
+  (λ k i j l c. (let e = c.is in absurd (cc)), refl),
+  λ i w. (asleep_by_mark h m i).1 w.1,
+  λ i. (i, refl),
+  λ w. (let e = w.0.rule.succeeds.is in absurd (cc)),
+)

@@ -74,6 +74,14 @@ abbrev pub Lulls : Bool → Heap → Heap → List ℕ → Type 0
 Lulls true h k ms = FallAsleep h k ms
 Lulls false h k ms = k ≡ h
 
+-- Of these membranes, asked one after the other, none has a rule that succeeds: they all fall asleep, if they may.
+abbrev pub AreAskedInVain : Bool → Heap → Heap → List Code → List ℕ → Type 0
+AreAskedInVain sleep h k codes ms = NoneIn h codes ms × Lulls sleep h k ms
+
+-- The first rule of them that succeeds is that of m at a place, and has the number n: those before m fall asleep, if they may.
+abbrev pub AreAskedUpTo : Bool → Heap → Heap → List Code → List ℕ → (m place n : ℕ) → Type 0
+AreAskedUpTo sleep h k codes ms m place n = (i : IsFirstIn h codes ms m place n) × Lulls sleep h k i.earlier
+
 -- one membrane falls asleep if it may
 abbrev pub Lulled : Bool → Heap → Heap → ℕ → Type 0
 Lulled true h k m = k ≡ mem_marked h m asleep_mark

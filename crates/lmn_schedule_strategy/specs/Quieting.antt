@@ -1,5 +1,5 @@
 -- Codes of which nothing new succeeds where nothing was touched.
-use Rattle.std.specs.Prelude.{ℕ, ◌≡◌, ◌≤◌, List, Some, slice_get}
+use Rattle.std.specs.Prelude.{ℕ, ◌≡◌, ◌≤◌, Bool, IsFalse, List, Some, length, slice_get}
 use Rattle.lmn_store_heap.specs.Heap.{Heap, IsMemInPlace, mem_mark_of, rules_in}
 use Rattle.lmn_store_heap.specs.Sound.{Valid}
 use Rattle.lmn_store_trait.specs.Awake.{awake_mark, asleep_mark}
@@ -8,7 +8,7 @@ use Rattle.lmn_instr_code.specs.Running.{HeadRegisters, IsFirstSuccess, Succeeds
 use Rattle.lmn_solid_bodies.specs.Running.{Registers}
 use Rattle.lmn_machine_commit.specs.Waking.{Commits}
 use Rattle.lmn_schedule_sleep.specs.Quiet.{IsQuiet, Wakes}
-use Rattle.lmn_schedule_strategy.specs.Choosing.{NoneOf}
+use Rattle.lmn_schedule_strategy.specs.Choosing.{CanTurn, NoneOf}
 use Rattle.lmn_schedule_strategy.specs.Turns.{HoldsRestsOf, IsTableCode}
 
 -- A membrane may sleep in which this code has failed, until it is touched, be the code that of a rule or not.
@@ -34,6 +34,18 @@ pub record SleepsRightly (h : Heap) (codes : List Code) : Type 0 where
 -- each membrane is awake
 abbrev pub AllAwake : Heap → Type 0
 AllAwake h = (m : ℕ) → mem_mark_of h m ≡ awake_mark
+
+-- Membranes can be asked in a turn, and those that sleep would be asked in vain.
+pub record CanAsk (h : Heap) (codes : List Code) : Type 0 where
+  pub turn : CanTurn h (length codes)
+  pub sleeps : SleepsRightly h codes
+
+-- What holds again after a turn from h to k, in which membranes may fall asleep or not.
+pub record TurnsAgain (sleep : Bool) (h k : Heap) (codes : List Code) : Type 0 where
+  pub turn : CanTurn k (length codes)
+  -- codes that are quiet leave asleep what would be asked in vain
+  pub sleeps : AreQuiet codes → SleepsRightly k codes
+  pub awake : IsFalse sleep → AllAwake h → AllAwake k
 
 -- So it is again after a commit of a rule of the membrane x.
 abbrev pub CommitsSleepRightly : Type 0

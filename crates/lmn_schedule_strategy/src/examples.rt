@@ -1,5 +1,5 @@
 //! What sleeps, by examples.
-ghost use Rattle.lmn_schedule_strategy.specs.Examples.{AsleepByMark, MarksAreLow, NothingIsTurned, SleepersArePassed};
+ghost use Rattle.lmn_schedule_strategy.specs.Examples.{AskedByMarks, AsleepByMark, AwakeAreAsked, MarksAreLow, NothingIsTurned, SleepersArePassed, TurnsAgainByMarks};
 
 /// A membrane with the mark 0 is awake, one with the mark 1 isn't.
 pub fn sleepers_are_passed()
@@ -19,4 +19,15 @@ pub fn marks_are_low()
 /// Without codes a turn changes nothing where no membrane may sleep, and none commits.
 pub fn nothing_is_turned()
     ensures { NothingIsTurned }
+{}
+
+/// Where all membranes are awake they can be asked, and where one has the mark 2 they can't: so before a turn, and so behind it.
+pub fn awake_are_asked()
+    ensures before { AwakeAreAsked }
+    ensures behind { TurnsAgainByMarks }
+{}
+
+/// What is asked in vain and what is chosen, by marks and without codes.
+pub fn asked_by_marks()
+    ensures { AskedByMarks }
 {}

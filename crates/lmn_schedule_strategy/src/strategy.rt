@@ -3,9 +3,9 @@ ghost use Rattle.std.specs.Prelude.{◌≡◌, ◌<◌, ◌≤◌, ◌+◌, [], 
 ghost use Rattle.lmn_store_heap.specs.Heap.{IsMem, mem_mark_of, rules_in};
 ghost use Rattle.lmn_store_heap.specs.Sound.{Forest, IsTree, Valid, flat};
 ghost use Rattle.lmn_store_trait.specs.Awake.{IsNextAwake, NoneAwake};
-ghost use Rattle.lmn_schedule_strategy.specs.Choosing.{AllInOrder, CanTurn, CodeSucceeds, NoneOf, NoneIn, IsFirstRule, IsFirstIn, HasFound, Lulled, Lulls, asked};
+ghost use Rattle.lmn_schedule_strategy.specs.Choosing.{AllInOrder, AreAskedInVain, AreAskedUpTo, CanTurn, CodeSucceeds, NoneOf, IsFirstRule, HasFound, Lulled, Lulls, asked};
 ghost use Rattle.lmn_schedule_strategy.specs.Between.{between};
-ghost use Rattle.lmn_schedule_strategy.specs.Quieting.{SleepsRightly};
+ghost use Rattle.lmn_schedule_strategy.specs.Quieting.{CanAsk, SleepsRightly};
 ghost use Rattle.lmn_schedule_strategy.specs.Counting.{CountsAmong, CountsAsked, CountsUpTo, awake_of};
 
 use lmn_instr_pool::Codes;
@@ -192,8 +192,8 @@ fn first_of_some<S: LinkStore, L: Ledger>(
     ensures turn { CanTurn (S.heap machine.new.store) (length codes.now) }
     ensures sleeps { SleepsRightly (S.heap machine.new.store) codes.now }
     ensures first { (f : Forest) → IsTree (S.heap machine.old.store) f → MatchOption result
-        (NoneIn (S.heap machine.old.store) codes.now (between from until (flat f)) × Lulls sleep (S.heap machine.old.store) (S.heap machine.new.store) (between from until (flat f)))
-        (λ c. (i : IsFirstIn (S.heap machine.old.store) codes.now (between from until (flat f)) (S.mem_id c.membrane) c.place c.rule) × Lulls sleep (S.heap machine.old.store) (S.heap machine.new.store) i.earlier) }
+        (AreAskedInVain sleep (S.heap machine.old.store) (S.heap machine.new.store) codes.now (between from until (flat f)))
+        (λ c. AreAskedUpTo sleep (S.heap machine.old.store) (S.heap machine.new.store) codes.now (between from until (flat f)) (S.mem_id c.membrane) c.place c.rule) }
     ensures found { IfSome result (λ c. HasFound S.atom_id S.mem_id (S.heap machine.new.store) codes.now (S.mem_id c.membrane) c.rule machine.new.set) }
     ensures steps { (f : Forest) → IsTree (S.heap machine.old.store) f → CountsAmong (S.heap machine.old.store) codes.now (awake_of (S.heap machine.old.store) (between from until (flat f))) steps.old steps.new }
 {
@@ -221,8 +221,8 @@ fn first_of_earlier<S: LinkStore, L: Ledger>(
     ensures turn { CanTurn (S.heap machine.new.store) (length codes.now) }
     ensures sleeps { SleepsRightly (S.heap machine.new.store) codes.now }
     ensures first { (f : Forest) → IsTree (S.heap machine.old.store) f → MatchOption result
-        (NoneIn (S.heap machine.old.store) codes.now (between 0 until (flat f)) × Lulls sleep (S.heap machine.old.store) (S.heap machine.new.store) (between 0 until (flat f)))
-        (λ c. (i : IsFirstIn (S.heap machine.old.store) codes.now (between 0 until (flat f)) (S.mem_id c.membrane) c.place c.rule) × Lulls sleep (S.heap machine.old.store) (S.heap machine.new.store) i.earlier) }
+        (AreAskedInVain sleep (S.heap machine.old.store) (S.heap machine.new.store) codes.now (between 0 until (flat f)))
+        (λ c. AreAskedUpTo sleep (S.heap machine.old.store) (S.heap machine.new.store) codes.now (between 0 until (flat f)) (S.mem_id c.membrane) c.place c.rule) }
     ensures found { IfSome result (λ c. HasFound S.atom_id S.mem_id (S.heap machine.new.store) codes.now (S.mem_id c.membrane) c.rule machine.new.set) }
     ensures steps { (f : Forest) → IsTree (S.heap machine.old.store) f → CountsAmong (S.heap machine.old.store) codes.now (awake_of (S.heap machine.old.store) (between 0 until (flat f))) steps.old steps.new }
 {
@@ -252,16 +252,14 @@ pub fn search<S: LinkStore, L: Ledger>(
     sleep: bool,
     steps: &mut Steps<L>,
 ) -> Option<Choice<S::Mem>>
-    requires turn { CanTurn (S.heap machine.old.store) (length codes.now) }
-    requires sleeps { SleepsRightly (S.heap machine.old.store) codes.now }
+    requires ready { CanAsk (S.heap machine.old.store) codes.now }
     requires order { AllInOrder codes.now }
     requires many { (f : Forest) → IsTree (S.heap machine.old.store) f → many ≡ length (flat f) }
     requires from { from < many }
-    ensures turn { CanTurn (S.heap machine.new.store) (length codes.now) }
-    ensures sleeps { SleepsRightly (S.heap machine.new.store) codes.now }
-    ensures first { (f : Forest) → IsTree (S.heap machine.old.store) f → MatchOption result
-        (NoneIn (S.heap machine.old.store) codes.now (flat f) × Lulls sleep (S.heap machine.old.store) (S.heap machine.new.store) (flat f))
-        (λ c. (i : IsFirstIn (S.heap machine.old.store) codes.now (asked from f) (S.mem_id c.membrane) c.place c.rule) × Lulls sleep (S.heap machine.old.store) (S.heap machine.new.store) i.earlier) }
+    ensures ready { CanAsk (S.heap machine.new.store) codes.now }
+    ensures first { let h = S.heap machine.old.store in let k = S.heap machine.new.store in (f : Forest) → IsTree h f → MatchOption result
+        (AreAskedInVain sleep h k codes.now (flat f))
+        (λ c. AreAskedUpTo sleep h k codes.now (asked from f) (S.mem_id c.membrane) c.place c.rule) }
     ensures found { IfSome result (λ c. HasFound S.atom_id S.mem_id (S.heap machine.new.store) codes.now (S.mem_id c.membrane) c.rule machine.new.set) }
     ensures steps { CountsAsked (S.heap machine.old.store) codes.now from steps.old steps.new }
 {

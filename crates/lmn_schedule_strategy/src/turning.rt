@@ -1,13 +1,12 @@
 //! One turn: what the strategy chooses is prepared and committed, where the store may have that many items.
-ghost use Rattle.std.specs.Prelude.{◌≡◌, ◌<◌, IsFalse, IsTrue, ◌≤◌, ◌+◌, ◌-◌, ◌*◌, ◌^◌, ◌↔◌, ℕ, length};
+ghost use Rattle.std.specs.Prelude.{◌≡◌, ◌<◌, IsTrue, ◌≤◌, ◌+◌, ◌-◌, ◌*◌, ◌^◌, ◌↔◌, ℕ, length};
 ghost use Rattle.lmn_solid_bodies.specs.Running.{Registers};
 ghost use Rattle.lmn_machine_commit.specs.Registers.{HasRests};
 ghost use Rattle.lmn_machine.specs.Costs.{Leaves};
 ghost use Rattle.lmn_machine_registers.specs.Agreeing.{Agrees};
 ghost use Rattle.lmn_store_heap.specs.Sound.{Forest, IsTree, Valid, flat};
-ghost use Rattle.lmn_schedule_strategy.specs.Choosing.{CanTurn};
 ghost use Rattle.lmn_schedule_strategy.specs.Counting.{CountsAsked};
-ghost use Rattle.lmn_schedule_strategy.specs.Quieting.{AllAwake, AreQuiet, SleepsRightly};
+ghost use Rattle.lmn_schedule_strategy.specs.Quieting.{CanAsk, TurnsAgain};
 ghost use Rattle.lmn_schedule_strategy.specs.Turns.{CanFire, AnswersMatch, AreRunnable, IsAwakeTurn};
 ghost use Rattle.lmn_store_heap.specs.Heap.{Unmarked};
 
@@ -99,16 +98,13 @@ pub fn take_turn<S: LinkStore, L: Ledger>(
     sleep: bool,
     steps: &mut Steps<L>,
 ) -> Turn
-    requires turn { CanTurn (S.heap machine.old.store) (length codes.now) }
-    requires sleeps { SleepsRightly (S.heap machine.old.store) codes.now }
+    requires ready { CanAsk (S.heap machine.old.store) codes.now }
     requires codes { AreRunnable codes.now }
     requires many { (f : Forest) → IsTree (S.heap machine.old.store) f → many ≡ length (flat f) }
     requires from { from < many }
     requires size { size < 2 ^ 64 - 1 }
     ensures turned { (f : Forest) → IsTree (S.heap machine.old.store) f → IsAwakeTurn sleep (S.heap machine.old.store) codes.now f from size result (S.heap machine.new.store) }
-    ensures again { CanTurn (S.heap machine.new.store) (length codes.now) }
-    ensures sleeps { AreQuiet codes.now → SleepsRightly (S.heap machine.new.store) codes.now }
-    ensures awake { IsFalse sleep → AllAwake (S.heap machine.old.store) → AllAwake (S.heap machine.new.store) }
+    ensures again { TurnsAgain sleep (S.heap machine.old.store) (S.heap machine.new.store) codes.now }
     ensures steps { CountsAsked (S.heap machine.old.store) codes.now from steps.old steps.new }
 {
     match search(machine, codes, from, many, sleep, steps) {

@@ -32,7 +32,7 @@ returns-in-Some-clause-steps g c = λ f t.
     let ms = drop c.args.from (flat f) in
     let e = take_rest (flat f) c.args.from c.args.many (c.requires.many f t) in
     let first = (c.in-Some.ensures.first f t).0 in
-    counts_there h c.args.codes.now ms (take c.args.from (flat f)) (asked c.args.from f) m c.in-Some.choice.place c.in-Some.choice.rule c.args.steps.now c.first_of_some.new.steps c.requires.sleeps first.rule
+    counts_there h c.args.codes.now ms (take c.args.from (flat f)) (asked c.args.from f) m c.in-Some.choice.place c.in-Some.choice.rule c.args.steps.now c.first_of_some.new.steps c.requires.ready.sleeps first.rule
     (first_there h c.args.codes.now (between c.args.from c.args.many (flat f)) ms m c.in-Some.choice.place c.in-Some.choice.rule first e) refl
     (subst (λ xs. CountsAmong h c.args.codes.now (awake_of h xs) c.args.steps.now c.first_of_some.new.steps) e (c.in-Some.ensures.steps f t)))
 
@@ -63,3 +63,9 @@ returns-in-None-clause-steps g c = λ f t.
     (subst (λ xs. CountsAmong h codes (awake_of h xs) c.args.steps.now c.first_of_some.new.steps) e (c.in-None.ensures.steps f t))
     (subst (λ xs. CountsAmong k codes (awake_of k xs) c.first_of_some.new.steps c.first_of_earlier.new.steps) (take_first (flat f) c.args.from)
     (c.first_of_earlier.ensures.steps f (tree_alike h k (lulls_alike c.args.sleep h k (drop c.args.from (flat f)) lulls) f t))))
+
+pub returns-in-Some-clause-ready : goal.returns-in-Some-clause-ready
+returns-in-Some-clause-ready g c = record { turn = c.in-Some.ensures.turn; sleeps = c.in-Some.ensures.sleeps }
+
+pub returns-in-None-clause-ready : goal.returns-in-None-clause-ready
+returns-in-None-clause-ready g c = record { turn = c.first_of_earlier.ensures.turn; sleeps = c.first_of_earlier.ensures.sleeps }

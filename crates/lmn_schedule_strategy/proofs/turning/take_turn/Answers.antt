@@ -19,10 +19,10 @@ fire-requires-clause-fire g c =
     let codes = c.args.codes.now in
     let code = c.code-code.result in
     let found = c.in-Some.ensures.found in
-    let tree = c.requires.turn.valid.tree in
+    let tree = c.requires.ready.turn.valid.tree in
     let is = c.code-code.ensures in
     let first = c.in-Some.ensures.first tree.0 tree.1 in
-    can_fire g.S.LinkStore.atom_id g.S.LinkStore.mem_id k codes c.requires.codes (length codes) c.in-Some.ensures.turn m c.in-Some.choice.place n c.search.new.machine.set
+    can_fire g.S.LinkStore.atom_id g.S.LinkStore.mem_id k codes c.requires.codes (length codes) c.in-Some.ensures.ready.turn m c.in-Some.choice.place n c.search.new.machine.set
     (first_in_alike h k codes (read_alike h k (lulls_alike c.args.sleep h k first.0.earlier first.1)) (asked c.args.from tree.0) m c.in-Some.choice.place n first.0).rule found code is
 
 pub returns-in-Some-clause-turned : goal.returns-in-Some-clause-turned
@@ -39,47 +39,49 @@ returns-in-Some-clause-turned g c = λ f t.
     c.fire.result (g.S.LinkStore.heap c.fire.new.machine.store) c.fire.ensures.fires)
 
 pub returns-in-Some-clause-again : goal.returns-in-Some-clause-again
-returns-in-Some-clause-again g c =
-    let k = g.S.LinkStore.heap c.search.new.machine.store in
-    let n = c.in-Some.choice.rule in
-    let codes = c.args.codes.now in
-    let code = c.code-code.result in
-    let found = c.in-Some.ensures.found in
-    let is = c.code-code.ensures in
-    can_again g.S.LinkStore.atom_id g.S.LinkStore.mem_id k codes (g.S.LinkStore.mem_id c.in-Some.choice.membrane) c.in-Some.choice.place n c.args.size c.search.new.machine.set found code is
-    c.requires.codes c.in-Some.ensures.turn c.fire.result (g.S.LinkStore.heap c.fire.new.machine.store) c.fire.ensures.fires c.fire.ensures.valid c.fire.ensures.unmarked
-
-pub returns-in-Some-clause-sleeps : goal.returns-in-Some-clause-sleeps
-returns-in-Some-clause-sleeps g c = λ quiet.
-    (let h = g.S.LinkStore.heap c.args.machine.now.store in
-    let k = g.S.LinkStore.heap c.search.new.machine.store in
-    let n = c.in-Some.choice.rule in
-    let codes = c.args.codes.now in
-    let code = c.code-code.result in
-    let found = c.in-Some.ensures.found in
-    let is = c.code-code.ensures in
-    let tree = c.requires.turn.valid.tree in
-    let first = c.in-Some.ensures.first tree.0 tree.1 in
-    let chosen = chooses_awake g.S.LinkStore.atom_id g.S.LinkStore.mem_id h k codes (g.S.LinkStore.mem_id c.in-Some.choice.membrane) c.in-Some.choice.place n c.args.size c.search.new.machine.set found code is c.args.sleep tree.0 c.args.from first.0 first.1
-    c.fire.result (g.S.LinkStore.heap c.fire.new.machine.store) c.fire.ensures.fires in
-    chosen_rightly codes quiet k (g.S.LinkStore.heap c.fire.new.machine.store) c.in-Some.ensures.turn.valid c.fire.ensures.valid (asked c.args.from tree.0) c.args.size c.fire.result chosen c.in-Some.ensures.sleeps)
-
-pub returns-in-Some-clause-awake : goal.returns-in-Some-clause-awake
-returns-in-Some-clause-awake g c = λ never all.
-    (let h = g.S.LinkStore.heap c.args.machine.now.store in
-    let k = g.S.LinkStore.heap c.search.new.machine.store in
-    let tree = c.requires.turn.valid.tree in
-    let first = c.in-Some.ensures.first tree.0 tree.1 in
-    let fires = c.fire.ensures.fires in
-    answers_awake k (g.S.LinkStore.heap c.fire.new.machine.store) fires.registers c.code-code.result.body fires.left c.args.size c.fire.result fires.answered
-    (lulls_awake c.args.sleep h k first.0.earlier never first.1 all))
+returns-in-Some-clause-again g c = record {
+  turn =
+      (let k = g.S.LinkStore.heap c.search.new.machine.store in
+      let n = c.in-Some.choice.rule in
+      let codes = c.args.codes.now in
+      let code = c.code-code.result in
+      let found = c.in-Some.ensures.found in
+      let is = c.code-code.ensures in
+      can_again g.S.LinkStore.atom_id g.S.LinkStore.mem_id k codes (g.S.LinkStore.mem_id c.in-Some.choice.membrane) c.in-Some.choice.place n c.args.size c.search.new.machine.set found code is
+      c.requires.codes c.in-Some.ensures.ready.turn c.fire.result (g.S.LinkStore.heap c.fire.new.machine.store) c.fire.ensures.fires c.fire.ensures.valid c.fire.ensures.unmarked);
+  sleeps = λ quiet.
+      (let h = g.S.LinkStore.heap c.args.machine.now.store in
+      let k = g.S.LinkStore.heap c.search.new.machine.store in
+      let n = c.in-Some.choice.rule in
+      let codes = c.args.codes.now in
+      let code = c.code-code.result in
+      let found = c.in-Some.ensures.found in
+      let is = c.code-code.ensures in
+      let tree = c.requires.ready.turn.valid.tree in
+      let first = c.in-Some.ensures.first tree.0 tree.1 in
+      let chosen = chooses_awake g.S.LinkStore.atom_id g.S.LinkStore.mem_id h k codes (g.S.LinkStore.mem_id c.in-Some.choice.membrane) c.in-Some.choice.place n c.args.size c.search.new.machine.set found code is c.args.sleep tree.0 c.args.from first.0 first.1
+      c.fire.result (g.S.LinkStore.heap c.fire.new.machine.store) c.fire.ensures.fires in
+      chosen_rightly codes quiet k (g.S.LinkStore.heap c.fire.new.machine.store) c.in-Some.ensures.ready.turn.valid c.fire.ensures.valid (asked c.args.from tree.0) c.args.size c.fire.result chosen c.in-Some.ensures.ready.sleeps);
+  awake = λ never all.
+      (let h = g.S.LinkStore.heap c.args.machine.now.store in
+      let k = g.S.LinkStore.heap c.search.new.machine.store in
+      let tree = c.requires.ready.turn.valid.tree in
+      let first = c.in-Some.ensures.first tree.0 tree.1 in
+      let fires = c.fire.ensures.fires in
+      answers_awake k (g.S.LinkStore.heap c.fire.new.machine.store) fires.registers c.code-code.result.body fires.left c.args.size c.fire.result fires.answered
+      (lulls_awake c.args.sleep h k first.0.earlier never first.1 all));
+}
 
 pub returns-in-None-clause-turned : goal.returns-in-None-clause-turned
 returns-in-None-clause-turned g c = λ f t. c.in-None.ensures.first f t
 
-pub returns-in-None-clause-awake : goal.returns-in-None-clause-awake
-returns-in-None-clause-awake g c = λ never all.
-    (let h = g.S.LinkStore.heap c.args.machine.now.store in
-    let k = g.S.LinkStore.heap c.search.new.machine.store in
-    let tree = c.requires.turn.valid.tree in
-    lulls_awake c.args.sleep h k (flat tree.0) never (c.in-None.ensures.first tree.0 tree.1).1 all)
+pub returns-in-None-clause-again : goal.returns-in-None-clause-again
+returns-in-None-clause-again g c = record {
+  turn = c.in-None.ensures.ready.turn;
+  sleeps = λ quiet. c.in-None.ensures.ready.sleeps;
+  awake = λ never all.
+      (let h = g.S.LinkStore.heap c.args.machine.now.store in
+      let k = g.S.LinkStore.heap c.search.new.machine.store in
+      let tree = c.requires.ready.turn.valid.tree in
+      lulls_awake c.args.sleep h k (flat tree.0) never (c.in-None.ensures.first tree.0 tree.1).1 all);
+}

@@ -16,5 +16,5 @@ rouse_all-requires g c = c.in_ok-load.ensures.loaded.valid
 pub over-requires-clause-store : goal.over-requires-clause-store
 over-requires-clause-store g c = loaded_on (g.S.LinkStore.heap c.load.new.store) (g.S.LinkStore.heap c.rouse_all.new.store) c.rouse_all.ensures.alike c.args.plain.now c.in_ok-load.ensures.loaded
 
-pub returns-in-Ok-clause-awake : goal.returns-in-Ok-clause-awake
-returns-in-Ok-clause-awake g c = subst (λ s. AllAwake (g.S.LinkStore.heap s)) (sym c.in-Ok.ensures.store) c.rouse_all.ensures.awake
+pub returns-in-Ok-clause-run : goal.returns-in-Ok-clause-run
+returns-in-Ok-clause-run g c = (c.in-Ok.ensures.run, subst (λ s. AllAwake (g.S.LinkStore.heap s)) (sym c.in-Ok.ensures.store) c.rouse_all.ensures.awake)

@@ -1,8 +1,9 @@
 use Rattle.std.proofs.Common.{refl, ◌≡◌, length, subst}
 use Rattle.lmn_adequacy_choices.specs.Turns.{HaveCodes, tree_over}
 use Rattle.lmn_store_heap.specs.Sound.{Forest, IsTree, flat}
-use Rattle.lmn_schedule_strategy.specs.Choosing.{AllInOrder, IsFirstIn, NoneIn, asked}
+use Rattle.lmn_schedule_strategy.specs.Choosing.{AllInOrder, CanTurn, IsFirstIn, NoneIn, asked}
 use Rattle.lmn_schedule_strategy.specs.Counting.{CountsAsked}
+use Rattle.lmn_schedule_strategy.specs.Quieting.{SleepsRightly}
 use Rattle.lmn_schedule.proofs.Turned.{done, embeds, some_membrane}
 use Rattle.lmn_schedule.proofs.engine.Engine.reducible.Goals as goal
 
@@ -10,6 +11,11 @@ pub search-requires-clause-from : goal.search-requires-clause-from
 search-requires-clause-from g c =
     some_membrane (g.S.LinkStore.heap c.args.self.now.machine.store) c.requires.run.turn.valid c.membranes-many.result
     (subst (λ s. (f : Forest) → IsTree (g.S.LinkStore.heap s) f → c.membranes-many.result ≡ length (flat f)) c.store.ensures c.membranes-many.ensures)
+
+pub search-requires-clause-ready : goal.search-requires-clause-ready
+search-requires-clause-ready g c =
+    let h = g.S.LinkStore.heap c.args.self.now.machine.store in
+    record { turn = subst (λ xs. CanTurn h (length xs)) refl c.requires.run.turn; sleeps = subst (SleepsRightly h) refl c.requires.run.sleeps }
 
 pub search-requires-clause-order : goal.search-requires-clause-order
 search-requires-clause-order g c =

@@ -13,6 +13,11 @@ pick-from-requires-clause-some g c =
     some_membrane (g.S.LinkStore.heap c.args.self.now.machine.store) c.requires.run.turn.valid c.membranes-many.result
     (subst (λ s. (f : Forest) → IsTree (g.S.LinkStore.heap s) f → c.membranes-many.result ≡ length (flat f)) c.store.ensures c.membranes-many.ensures)
 
+pub take_turn-answer-requires-clause-ready : goal.take_turn-answer-requires-clause-ready
+take_turn-answer-requires-clause-ready g c =
+    let h = g.S.LinkStore.heap c.args.self.now.machine.store in
+    record { turn = subst (λ xs. CanTurn h (length xs)) refl c.requires.run.turn; sleeps = subst (SleepsRightly h) refl c.requires.run.sleeps }
+
 pub take_turn-answer-requires-clause-codes : goal.take_turn-answer-requires-clause-codes
 take_turn-answer-requires-clause-codes g c =
     subst AreRunnable refl (c.tables_are_runnable.ensures c.args.self.now.codes (record {
@@ -34,7 +39,7 @@ returns-then-eq-clause-turned g c k gives names solid o =
     turned names c.args.self.now.plain.now.rules k c.args.self.now.commits c.args.self.now.size c.requires.run.plans c.args.self.now.codes
     c.turns_are_alike.ensures c.turns_are_of_chooser.ensures c.spares_are_not_read.ensures c.marks_are_not_read.ensures have h c.requires.run.turn.valid solid o c.pick-from.result
     (subst (λ n. c.pick-from.result ≡ k c.args.self.now.commits n) (counts f o.tree) first)
-    c.take_turn-answer.result (g.S.LinkStore.heap c.take_turn-answer.new.machine.store) c.take_turn-answer.ensures.again.valid
+    c.take_turn-answer.result (g.S.LinkStore.heap c.take_turn-answer.new.machine.store) c.take_turn-answer.ensures.again.turn.valid
     (subst (λ xs. IsAwakeTurn true h xs f c.pick-from.result c.args.self.now.size c.take_turn-answer.result (g.S.LinkStore.heap c.take_turn-answer.new.machine.store)) refl (c.take_turn-answer.ensures.turned f o.tree))
 
 pub returns-else-eq-clause-turned : goal.returns-else-eq-clause-turned
@@ -48,7 +53,7 @@ returns-else-eq-clause-turned g c k gives names solid o =
     turned names c.args.self.now.plain.now.rules k c.args.self.now.commits c.args.self.now.size c.requires.run.plans c.args.self.now.codes
     c.turns_are_alike.ensures c.turns_are_of_chooser.ensures c.spares_are_not_read.ensures c.marks_are_not_read.ensures have h c.requires.run.turn.valid solid o c.pick-from.result
     (subst (λ n. c.pick-from.result ≡ k c.args.self.now.commits n) (counts f o.tree) first)
-    c.take_turn-answer.result (g.S.LinkStore.heap c.take_turn-answer.new.machine.store) c.take_turn-answer.ensures.again.valid
+    c.take_turn-answer.result (g.S.LinkStore.heap c.take_turn-answer.new.machine.store) c.take_turn-answer.ensures.again.turn.valid
     (subst (λ xs. IsAwakeTurn true h xs f c.pick-from.result c.args.self.now.size c.take_turn-answer.result (g.S.LinkStore.heap c.take_turn-answer.new.machine.store)) refl (c.take_turn-answer.ensures.turned f o.tree))
 
 pub returns-then-eq-clause-chosen : goal.returns-then-eq-clause-chosen
@@ -70,7 +75,7 @@ returns-then-eq-clause-chosen g c =
       turned = λ names solid o. (
         subst (λ n. g.F.Fn.post c.args.self.now.chooser.f (commits, (n, tt)) from) (many (tree_over h o.inner) o.tree ∙ sym (as_many_paths c.membranes_are_numbered_alike.ensures names table h solid o)) c.pick-from.ensures.answer,
         turned names table (λ commits membranes. from) commits size c.requires.run.plans codes
-            c.turns_are_alike.ensures c.turns_are_of_chooser.ensures c.spares_are_not_read.ensures c.marks_are_not_read.ensures have h c.requires.run.turn.valid solid o from refl answer h' c.take_turn-answer.ensures.again.valid
+            c.turns_are_alike.ensures c.turns_are_of_chooser.ensures c.spares_are_not_read.ensures c.marks_are_not_read.ensures have h c.requires.run.turn.valid solid o from refl answer h' c.take_turn-answer.ensures.again.turn.valid
             (subst (λ xs. IsAwakeTurn true h xs (tree_over h o.inner) from size answer h') refl (c.take_turn-answer.ensures.turned (tree_over h o.inner) o.tree)),
       );
     }
@@ -94,7 +99,7 @@ returns-else-eq-clause-chosen g c =
       turned = λ names solid o. (
         subst (λ n. g.F.Fn.post c.args.self.now.chooser.f (commits, (n, tt)) from) (many (tree_over h o.inner) o.tree ∙ sym (as_many_paths c.membranes_are_numbered_alike.ensures names table h solid o)) c.pick-from.ensures.answer,
         turned names table (λ commits membranes. from) commits size c.requires.run.plans codes
-            c.turns_are_alike.ensures c.turns_are_of_chooser.ensures c.spares_are_not_read.ensures c.marks_are_not_read.ensures have h c.requires.run.turn.valid solid o from refl answer h' c.take_turn-answer.ensures.again.valid
+            c.turns_are_alike.ensures c.turns_are_of_chooser.ensures c.spares_are_not_read.ensures c.marks_are_not_read.ensures have h c.requires.run.turn.valid solid o from refl answer h' c.take_turn-answer.ensures.again.turn.valid
             (subst (λ xs. IsAwakeTurn true h xs (tree_over h o.inner) from size answer h') refl (c.take_turn-answer.ensures.turned (tree_over h o.inner) o.tree)),
       );
     }
@@ -125,8 +130,8 @@ returns-then-eq-clause-again g c =
       inner = c.requires.run.inner;
     }) in
     record {
-      turn = subst (λ xs. CanTurn h' (length xs)) refl c.take_turn-answer.ensures.again;
-      sleeps = subst (SleepsRightly h') refl (c.take_turn-answer.ensures.sleeps (subst AreQuiet refl quiet));
+      turn = subst (λ xs. CanTurn h' (length xs)) refl c.take_turn-answer.ensures.again.turn;
+      sleeps = subst (SleepsRightly h') refl (c.take_turn-answer.ensures.again.sleeps (subst AreQuiet refl quiet));
       plans = c.requires.run.plans;
       whole = c.requires.run.whole;
       compiled = c.requires.run.compiled;
@@ -146,8 +151,8 @@ returns-else-eq-clause-again g c =
       inner = c.requires.run.inner;
     }) in
     record {
-      turn = subst (λ xs. CanTurn h' (length xs)) refl c.take_turn-answer.ensures.again;
-      sleeps = subst (SleepsRightly h') refl (c.take_turn-answer.ensures.sleeps (subst AreQuiet refl quiet));
+      turn = subst (λ xs. CanTurn h' (length xs)) refl c.take_turn-answer.ensures.again.turn;
+      sleeps = subst (SleepsRightly h') refl (c.take_turn-answer.ensures.again.sleeps (subst AreQuiet refl quiet));
       plans = c.requires.run.plans;
       whole = c.requires.run.whole;
       compiled = c.requires.run.compiled;

@@ -1,6 +1,6 @@
 use Rattle.std.proofs.Common.{refl, ◌≡◌, length, subst}
 use Rattle.lmn_store_heap.specs.Sound.{Forest, IsTree, flat}
-use Rattle.lmn_schedule_strategy.specs.Choosing.{IsFirstIn, NoneIn, asked}
+use Rattle.lmn_schedule_strategy.specs.Choosing.{CanTurn, IsFirstIn, NoneIn, asked}
 use Rattle.lmn_schedule_strategy.specs.Quieting.{SleepsRightly}
 use Rattle.lmn_verify_coded.proofs.Asking.{chosen_succeeds}
 use Rattle.lmn_verify_coded.proofs.Awake.{awake_rightly}
@@ -24,10 +24,13 @@ pub returns-in-None-clause-no : goal.returns-in-None-clause-no
 returns-in-None-clause-no g c _ f tree =
     subst (λ xs. NoneIn (g.S.LinkStore.heap c.args.self.now.machine.store) xs (flat f)) refl (c.in-None.ensures.first f tree).0
 
-pub search-requires-clause-sleeps : goal.search-requires-clause-sleeps
-search-requires-clause-sleeps g c =
+pub search-requires-clause-ready : goal.search-requires-clause-ready
+search-requires-clause-ready g c =
     let h = g.S.LinkStore.heap c.args.self.now.machine.store in
-    subst (SleepsRightly h) refl (awake_rightly h c.args.self.now.codes c.requires.run.awake)
+    record {
+      turn = subst (λ xs. CanTurn h (length xs)) refl c.requires.run.turn;
+      sleeps = subst (SleepsRightly h) refl (awake_rightly h c.args.self.now.codes c.requires.run.awake);
+    }
 
 pub returns-in-Some-clause-same : goal.returns-in-Some-clause-same
 returns-in-Some-clause-same g c = let t = c.requires.run.turn.valid.tree in (c.in-Some.ensures.first t.0 t.1).1

@@ -16,10 +16,13 @@ take_turn-answer-requires-clause-from g c =
     (subst (λ s. (f : Forest) → IsTree (g.S.LinkStore.heap s) f → c.membranes-many.result ≡ length (flat f)) c.store.ensures c.membranes-many.ensures) in
     omega (arith, some)
 
-pub take_turn-answer-requires-clause-sleeps : goal.take_turn-answer-requires-clause-sleeps
-take_turn-answer-requires-clause-sleeps g c =
+pub take_turn-answer-requires-clause-ready : goal.take_turn-answer-requires-clause-ready
+take_turn-answer-requires-clause-ready g c =
     let h = g.S.LinkStore.heap c.args.self.now.machine.store in
-    subst (SleepsRightly h) refl (awake_rightly h c.args.self.now.codes c.requires.run.awake)
+    record {
+      turn = subst (λ xs. CanTurn h (length xs)) refl c.requires.run.turn;
+      sleeps = subst (SleepsRightly h) refl (awake_rightly h c.args.self.now.codes c.requires.run.awake);
+    }
 
 pub returns-then-eq-clause-turned : goal.returns-then-eq-clause-turned
 returns-then-eq-clause-turned g c f tree =
@@ -39,8 +42,8 @@ returns-then-eq-clause-kept g c =
 
 pub returns-then-eq-clause-again : goal.returns-then-eq-clause-again
 returns-then-eq-clause-again g c = record {
-  turn = subst (λ xs. CanTurn (g.S.LinkStore.heap c.take_turn-answer.new.machine.store) (length xs)) refl c.take_turn-answer.ensures.again;
-  awake = c.take_turn-answer.ensures.awake refl c.requires.run.awake;
+  turn = subst (λ xs. CanTurn (g.S.LinkStore.heap c.take_turn-answer.new.machine.store) (length xs)) refl c.take_turn-answer.ensures.again.turn;
+  awake = c.take_turn-answer.ensures.again.awake refl c.requires.run.awake;
   runnable = c.requires.run.runnable;
   small = c.requires.run.small;
 }
@@ -63,8 +66,8 @@ returns-else-eq-clause-kept g c =
 
 pub returns-else-eq-clause-again : goal.returns-else-eq-clause-again
 returns-else-eq-clause-again g c = record {
-  turn = subst (λ xs. CanTurn (g.S.LinkStore.heap c.take_turn-answer.new.machine.store) (length xs)) refl c.take_turn-answer.ensures.again;
-  awake = c.take_turn-answer.ensures.awake refl c.requires.run.awake;
+  turn = subst (λ xs. CanTurn (g.S.LinkStore.heap c.take_turn-answer.new.machine.store) (length xs)) refl c.take_turn-answer.ensures.again.turn;
+  awake = c.take_turn-answer.ensures.again.awake refl c.requires.run.awake;
   runnable = c.requires.run.runnable;
   small = c.requires.run.small;
 }
