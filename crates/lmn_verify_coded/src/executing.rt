@@ -42,8 +42,8 @@ pub fn execute<S: LinkStore, O: Sink, L: Ledger>(
         coded.new.commits (S.heap coded.new.machine.store) result (O.told out.old) (O.told out.new) }
     ensures again { CodedCanTurn (S.heap coded.new.machine.store) coded.old.codes coded.old.size }
     ensures keeps { coded.new ≡ record coded.old { machine = coded.new.machine; commits = coded.new.commits } }
-    ensures same { ¬ (result ≡ RunEnd.Failed) → NoneFailed (O.faults out.old) (O.faults out.new) }
-    ensures rose { result ≡ RunEnd.Failed → FailedLast (O.faults out.old) (O.faults out.new) }
+    ensures faults { (¬ (result ≡ RunEnd.Failed) → NoneFailed (O.faults out.old) (O.faults out.new))
+        × (result ≡ RunEnd.Failed → FailedLast (O.faults out.old) (O.faults out.new)) }
     ensures steps { CountsRun coded.old.codes coded.old.size (S.heap coded.old.machine.store) coded.new.commits steps.old steps.new }
 {
     let why = run(alloc, coded, budget, steps);

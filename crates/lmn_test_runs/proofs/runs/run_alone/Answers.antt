@@ -13,4 +13,4 @@ pub load-requires-clause-store : goal.load-requires-clause-store
 load-requires-clause-store g c = subst IsEmpty (sym (IfOk-at_ok (λ s. heap_of s ≡ lone_root) c.expect-store.ensures c.new.ensures.heap)) c.loading_settles.ensures.empty.0
 
 pub turns-answer-requires-clause-run : goal.turns-answer-requires-clause-run
-turns-answer-requires-clause-run g c = subst (λ p. EngineCanTurn (heap_of c.in_ok-engine.engine.machine.store) p.rules c.in_ok-engine.engine.codes c.in_ok-engine.engine.size) (sym c.in_ok-engine.ensures.keeps.0) c.in_ok-engine.ensures.run
+turns-answer-requires-clause-run g c = subst (λ p. EngineCanTurn (heap_of c.in_ok-engine.engine.machine.store) p.rules c.in_ok-engine.engine.codes c.in_ok-engine.engine.size) (sym c.in_ok-engine.ensures.keeps.0) c.in_ok-engine.ensures.run.0

@@ -30,3 +30,6 @@ pub returns-clause-steps : goal.returns-clause-steps
 returns-clause-steps g c =
     let commits : c.conclude.new.coded.commits ≡ c.run-why.new.coded.commits = λ i. (c.conclude.ensures.keeps i).commits in
     subst (λ n. CountsRun c.args.coded.now.codes c.args.coded.now.size (g.S.LinkStore.heap c.args.coded.now.machine.store) n c.args.steps.now c.run-why.new.steps) (sym commits) c.run-why.ensures.steps
+
+pub returns-clause-faults : goal.returns-clause-faults
+returns-clause-faults g c = (c.conclude.ensures.same, c.conclude.ensures.rose)
