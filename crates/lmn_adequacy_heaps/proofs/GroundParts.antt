@@ -18,7 +18,7 @@ use Rattle.lmn_adequacy_heaps.proofs.Pieces.{atom_at}
 use Rattle.lmn_adequacy_heaps.proofs.Counting.{times_at, ends_among}
 use Rattle.lmn_adequacy_heaps.proofs.Forests.{none_of, some_of, once_of}
 use Rattle.lmn_adequacy_heaps.proofs.Ports.{port_named, named_port}
-use Rattle.lmn_adequacy_heaps.proofs.PartLists.{all_of_part, PartList}
+use Rattle.lmn_store_heap.proofs.PartLists.{all_of_part, PartList}
 use Rattle.lmn_base.proofs.Lists.{weigh, some_is}
 use Rattle.lmn_congruence.proofs.Counts.{none_if_apart as apart_none}
 use Rattle.lmn_store_heap.proofs.Replacing.{port_within}

@@ -29,7 +29,6 @@ pub mod WholeGuards
 pub mod WholeRules
 pub mod SolidRegions
 pub mod Order
-pub mod PartLists
 pub mod GroundParts
 pub mod PartsBack
 pub mod SameParts

@@ -22,7 +22,7 @@ use Rattle.lmn_reduction.specs.Parts.{Rooted, OnlyAtoms, atoms_at_top, IsUnary, 
 use Rattle.lmn_adequacy_heaps.specs.HeapRegions.{HeapReading}
 use Rattle.lmn_adequacy_heaps.specs.Premises.{IsRead}
 use Rattle.lmn_adequacy_heaps.specs.Parts.{IsGroundPart, IntegerPartsAlike, UnaryPartsAlike}
-use Rattle.lmn_adequacy_heaps.proofs.PartLists.{reached_one}
+use Rattle.lmn_store_heap.proofs.PartLists.{reached_one}
 use Rattle.lmn_adequacy_heaps.proofs.PartLaws.{graph_of_part, reached_there, each_atom, some_atom, none_left}
 use Rattle.lmn_adequacy_heaps.proofs.SameWholes.{atom_is, links_length, pieces_are, piece}
 use Rattle.lmn_base.proofs.Lists.{length_mapped}

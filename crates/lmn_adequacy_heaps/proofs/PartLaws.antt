@@ -18,7 +18,7 @@ use Rattle.lmn_adequacy_heaps.specs.Parts.{IsGroundPart, HasPart, WholePartsAreG
 use Rattle.lmn_adequacy_heaps.proofs.Pieces.{atom_at, atoms_each}
 use Rattle.lmn_adequacy_heaps.proofs.Counting.{list_atoms}
 use Rattle.lmn_adequacy_heaps.proofs.Forests.{home_in}
-use Rattle.lmn_adequacy_heaps.proofs.PartLists.{PartList, part_list, all_of_part}
+use Rattle.lmn_store_heap.proofs.PartLists.{PartList, part_list, all_of_part}
 use Rattle.lmn_adequacy_heaps.proofs.GroundParts.{labelled, atoms_beside, only_atoms_beside, rooted_at, part_is_ground}
 use Rattle.lmn_adequacy_heaps.proofs.PartsBack.{root_inside, is_shut, each_reached, all_inside, stands_whole}
 use Rattle.lmn_adequacy_heaps.proofs.SameParts.{Renames, counted, count, same_flipped, same_chained, same_ground}

@@ -13,7 +13,7 @@ use Rattle.lmn_adequacy_heaps.proofs.Pieces.{atom_at}
 use Rattle.lmn_adequacy_heaps.proofs.Counting.{times_at, ends_among}
 use Rattle.lmn_adequacy_heaps.proofs.Forests.{none_of, some_of, once_of, find_in}
 use Rattle.lmn_adequacy_heaps.proofs.Ports.{port_named}
-use Rattle.lmn_adequacy_heaps.proofs.PartLists.{IsShut, all_of_part}
+use Rattle.lmn_store_heap.proofs.PartLists.{IsShut, all_of_part}
 use Rattle.lmn_adequacy_heaps.proofs.GroundParts.{rooted_at, at_among, among_atom, atom_among, occurs_beside}
 use Rattle.lmn_base.proofs.Lists.{weigh}
 use Rattle.lmn_store_heap.proofs.Common.{same_port, decide_in}

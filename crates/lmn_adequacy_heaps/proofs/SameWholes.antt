@@ -25,7 +25,7 @@ use Rattle.lmn_adequacy_heaps.proofs.Pieces.{atom_at, atom_by}
 use Rattle.lmn_adequacy_heaps.proofs.Counting.{times_at}
 use Rattle.lmn_adequacy_heaps.proofs.Functors.{both_names}
 use Rattle.lmn_adequacy_heaps.proofs.Ports.{port_named, named_port}
-use Rattle.lmn_adequacy_heaps.proofs.PartLists.{PartList, all_of_part}
+use Rattle.lmn_store_heap.proofs.PartLists.{PartList, all_of_part}
 use Rattle.lmn_adequacy_heaps.proofs.GroundParts.{labelled, atoms_beside, rooted_at, occurs_beside}
 use Rattle.lmn_adequacy_heaps.proofs.SameParts.{Renames}
 use Rattle.lmn_adequacy_heaps.proofs.Matchings.{matching, shuffle_mapped, shuffle_unmapped, matched, matched_related, matched_in, matched_onto, matched_one}

@@ -11,43 +11,7 @@ use Rattle.lmn_print_folding.specs.Chosen.{marked_in, items_in}
 use Rattle.lmn_print_folding.proofs.Told.{item_mark as item_by, mark_item as item_cases}
 use Rattle.lmn_base.specs.Lists.{In}
 use Rattle.lmn_base.proofs.Lists.{in_either}
-
--- Lists that are filtered.
-module _ (p : ℕ → Bool) where
-  filter_here : (a : ℕ) (xs : List ℕ) → p a ≡ true → filter p (a ∷ xs) ≡ a ∷ filter p xs
-  filter_here a xs e = ap (λ b. cond b (a ∷ filter p xs) (filter p xs)) e
-
-  filter_after : (a : ℕ) (xs : List ℕ) → p a ≡ true → after a (filter p xs) ≡ filter p (after a xs)
-  filter_after a [] e = refl
-  filter_after a (x ∷ xs) e = by (p x) (x == a) refl refl (filter_after a xs e)
-    where
-      by : (b t : Bool) → p x ≡ b → (x == a) ≡ t → after a (filter p xs) ≡ filter p (after a xs)
-          → after a (cond b (x ∷ filter p xs) (filter p xs)) ≡ filter p (cond t xs (after a xs))
-      by true true eb et rest = rw et refl
-      by true false eb et rest = rw et rest
-      by false true eb et rest = let v : false ≡ true = sym eb ∙ ap p (eqb-true x a et) ∙ e in absurd (cc)
-      by false false eb et rest = rest
-
-  filter_from : (a : ℕ) (xs : List ℕ) → p a ≡ true → from (Some a) (filter p xs) ≡ filter p (from (Some a) xs)
-  filter_from a xs e = ap (λ ys. a ∷ ys) (filter_after a xs e) ∙ sym (filter_here a (after a xs) e)
-
-  pub filter_in : (a : ℕ) (xs : List ℕ) → In a (filter p xs) → p a ≡ true
-  filter_in a [] i = absurd i
-  filter_in a (x ∷ xs) i = by (p x) refl (filter_in a xs) i
-    where
-      by : (b : Bool) → p x ≡ b → (In a (filter p xs) → p a ≡ true) → In a (cond b (x ∷ filter p xs) (filter p xs)) → p a ≡ true
-      by true e rest (inl s) = ap p (sym s) ∙ e
-      by true e rest (inr j) = rest j
-      by false e rest j = rest j
-
-  in_filter : (a : ℕ) (xs : List ℕ) → In a xs → p a ≡ true → In a (filter p xs)
-  in_filter a [] i e = absurd i
-  in_filter a (x ∷ xs) (inl s) e = subst (λ ys. In a ys) (sym (filter_here x xs (ap p s ∙ e))) (inl s)
-  in_filter a (x ∷ xs) (inr i) e = by (p x) (in_filter a xs i e)
-    where
-      by : (b : Bool) → In a (filter p xs) → In a (cond b (x ∷ filter p xs) (filter p xs))
-      by true j = inr j
-      by false j = j
+use Rattle.lmn_store_heap.proofs.Filters.{filter_after, filter_from, in_filter, filter_in}
 
 -- What stands behind an element of two lists.
 after_left : (a : ℕ) (xs ys : List ℕ) → In a xs → after a (xs ++ ys) ≡ after a xs ++ ys
@@ -92,7 +56,7 @@ module _ (s : Heap) (m : ℕ) where
   marked_found id k a now first is e h = marked_here k (id a) e ∙ subst (λ o. filter (test k) (from (option_map id o) (atoms_in s m)) ≡ filter (test k) (from (option_map id first) (atoms_in s m))) is h
 
   not_before : (a : ℕ) → own_mark s a ≡ 2 → In a (marked_in s 1 m) → ⊥
-  not_before a e i = let one = eqb-true (own_mark s a) 1 (filter_in (test 1) a (atoms_in s m) i) in absurd (omega (arith, e, one))
+  not_before a e i = let one = eqb-true (own_mark s a) 1 (in_filter (test 1) a (atoms_in s m) i).1 in absurd (omega (arith, e, one))
 
   later_apart : (o : Option ℕ) → IfSome o (λ a. own_mark s a ≡ 2) → IfSome o (λ a. In a (marked_in s 1 m) → ⊥)
   later_apart None h = h
@@ -104,7 +68,7 @@ module _ (s : Heap) (m : ℕ) where
   next_same k a o next e f h = h ∙ ap (filter (test k)) f ∙ sym (filter_after (test k) a (atoms_in s m) (eq-eqb (own_mark s a) k e))
 
   in_marked : (k a : ℕ) → In a (atoms_in s m) → own_mark s a ≡ k → In a (marked_in s k m)
-  in_marked k a i e = in_filter (test k) a (atoms_in s m) i (eq-eqb (own_mark s a) k e)
+  in_marked k a i e = filter_in (test k) a (atoms_in s m) i (eq-eqb (own_mark s a) k e)
 
   -- The item behind one with the mark 1 has this mark too,
   pub next_first : (a b : ℕ) (next : Option ℕ) → In a (atoms_in s m) → own_mark s a ≡ 1 → from next (atoms_in s m) ≡ after a (atoms_in s m)
@@ -160,6 +124,6 @@ module _ (s : Heap) (m : ℕ) where
 -- the items of a membrane are items
 pub items_are : (s : Heap) (m a : ℕ) → In a (items_in s m) → is_item s a ≡ true
 items_are s m a i = elim (in_either a (marked_in s 1 m) (marked_in s 2 m) i) [
-  | inl j ↦ item_by s a (inl (eqb-true (own_mark s a) 1 (filter_in (λ b. own_mark s b == 1) a (atoms_in s m) j)))
-  | inr j ↦ item_by s a (inr (eqb-true (own_mark s a) 2 (filter_in (λ b. own_mark s b == 2) a (atoms_in s m) j)))
+  | inl j ↦ item_by s a (inl (eqb-true (own_mark s a) 1 (in_filter (λ b. own_mark s b == 1) a (atoms_in s m) j).1))
+  | inr j ↦ item_by s a (inr (eqb-true (own_mark s a) 2 (in_filter (λ b. own_mark s b == 2) a (atoms_in s m) j).1))
 ]

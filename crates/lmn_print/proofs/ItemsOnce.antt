@@ -1,48 +1,31 @@
 -- No item stands twice in printed order.
-use Rattle.std.proofs.Common.{◌≡◌, ◌≢◌, ℕ, ◌==◌, inl, inr, ◌⊎◌, Bool, true, false, cond, List, [], ◌∷◌, Option, Some, None, IsSome, filter, refl, arith}
+use Rattle.std.proofs.Common.{◌≡◌, ◌≢◌, ℕ, ◌==◌, inl, inr, List, [], ◌∷◌, Option, Some, None, IsSome, refl, arith}
 use Rattle.std.specs.Option.{option_map}
 use Rattle.std.proofs.lemmas.Bool.{eqb-true}
 use Rattle.lmn_store_heap.specs.Heap.{Heap, HeapAtom, IsAtom, atoms_in, within, own_mark}
 use Rattle.lmn_store_heap.specs.Lists.{Distinct}
 use Rattle.lmn_store_heap.specs.Sound.{Sound}
 use Rattle.lmn_store_heap.proofs.Depths.{both_distinct}
-use Rattle.lmn_store_heap.proofs.ListLemmas.{each_in, each_of}
+use Rattle.lmn_store_heap.proofs.ListLemmas.{each_in}
 use Rattle.lmn_print_folding.specs.Chosen.{marked_in, items_in}
 use Rattle.lmn_print.specs.Walked.{printed_items}
-use Rattle.lmn_print.proofs.ItemLemmas.{filter_in}
 use Rattle.lmn_base.specs.Lists.{In}
 use Rattle.lmn_base.proofs.Lists.{in_either}
-
-filter_part : (p : ℕ → Bool) (a : ℕ) (xs : List ℕ) → In a (filter p xs) → In a xs
-filter_part p a [] i = i
-filter_part p a (x ∷ xs) i = by (p x) (filter_part p a xs) i
-  where
-    by : (b : Bool) → (In a (filter p xs) → In a xs) → In a (cond b (x ∷ filter p xs) (filter p xs)) → (x ≡ a) ⊎ In a xs
-    by true rest (inl e) = inl e
-    by true rest (inr j) = inr (rest j)
-    by false rest j = inr (rest j)
-
-filter_once : (p : ℕ → Bool) (xs : List ℕ) → Distinct xs → Distinct (filter p xs)
-filter_once p [] d = d
-filter_once p (x ∷ xs) d = by (p x) (filter_once p xs d.1)
-  where
-    by : (b : Bool) → Distinct (filter p xs) → Distinct (cond b (x ∷ filter p xs) (filter p xs))
-    by true e = (each_of (λ y. x ≢ y) (filter p xs) (λ a i. each_in (λ y. x ≢ y) xs a d.0 (filter_part p a xs i)), e)
-    by false e = e
+use Rattle.lmn_store_heap.proofs.Filters.{in_filter, distinct_filter}
 
 -- an item is an atom of its membrane
 pub item_in : (s : Heap) (m a : ℕ) → In a (items_in s m) → In a (atoms_in s m)
 item_in s m a i = elim (in_either a (marked_in s 1 m) (marked_in s 2 m) i) [
-  | inl j ↦ filter_part (λ b. own_mark s b == 1) a (atoms_in s m) j
-  | inr j ↦ filter_part (λ b. own_mark s b == 2) a (atoms_in s m) j
+  | inl j ↦ (in_filter (λ b. own_mark s b == 1) a (atoms_in s m) j).0
+  | inr j ↦ (in_filter (λ b. own_mark s b == 2) a (atoms_in s m) j).0
 ]
 
 items_once : (s : Heap) → Sound s → (m : ℕ) → Distinct (items_in s m)
 items_once s sound m =
-    both_distinct (marked_in s 1 m) (marked_in s 2 m) (filter_once (λ b. own_mark s b == 1) (atoms_in s m) (sound.listed.atoms_once m))
-    (filter_once (λ b. own_mark s b == 2) (atoms_in s m) (sound.listed.atoms_once m)) (λ a i j.
-    let one = eqb-true (own_mark s a) 1 (filter_in (λ b. own_mark s b == 1) a (atoms_in s m) i) in
-    let two = eqb-true (own_mark s a) 2 (filter_in (λ b. own_mark s b == 2) a (atoms_in s m) j) in
+    both_distinct (marked_in s 1 m) (marked_in s 2 m) (distinct_filter (λ b. own_mark s b == 1) (atoms_in s m) (sound.listed.atoms_once m))
+    (distinct_filter (λ b. own_mark s b == 2) (atoms_in s m) (sound.listed.atoms_once m)) (λ a i j.
+    let one = eqb-true (own_mark s a) 1 (in_filter (λ b. own_mark s b == 1) a (atoms_in s m) i).1 in
+    let two = eqb-true (own_mark s a) 2 (in_filter (λ b. own_mark s b == 2) a (atoms_in s m) j).1 in
     absurd (omega (arith, one, two)))
 
 -- an item of some membranes is in one of them

@@ -29,7 +29,7 @@ use Rattle.lmn_solid_bodies.specs.Rules.{AtomRule, Goes, Exists, Nests, HeadNest
 use Rattle.lmn_solid_bodies.specs.Within.{membrane_images, removed_mems, dropped_atoms, dropped_mems}
 use Rattle.lmn_solid_bodies.proofs.Firing.{links_below, old_port_stands, arity_old}
 use Rattle.lmn_solid_bodies.proofs.Coding.{at_heap}
-use Rattle.lmn_solid_bodies.proofs.ListOps.{change_keeps, place_by, out_place}
+use Rattle.lmn_store_heap.proofs.ListOps.{change_keeps, place_by, out_place}
 use Rattle.lmn_solid_bodies.proofs.MakingParts.{GrownBy, making_grows, same_rules_named}
 use Rattle.lmn_solid_bodies.proofs.Removing.{all_taken_mems, taken_places}
 use Rattle.lmn_solid_bodies.proofs.Preparing.{AllPrepared}

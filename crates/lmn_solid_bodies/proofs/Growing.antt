@@ -9,7 +9,7 @@ use Rattle.lmn_store_heap.proofs.ListLemmas.{in_left, in_right}
 use Rattle.lmn_store_heap.proofs.Listing.{atoms_at, atoms_away}
 use Rattle.lmn_solid_bodies.specs.Running.{all_placed}
 use Rattle.lmn_solid_bodies.proofs.Phases.{placed_stays}
-use Rattle.lmn_solid_bodies.proofs.ListOps.{change_away, change_keeps, place_by, there_by, in_mems_at, in_mems_away, in_atoms, in_rules, in_there, move_atoms_at, move_mems_at, move_atoms_from, move_mems_from, move_atoms_away, move_mems_away, move_rules, move_there, rules_at, rules_away, rules_keep}
+use Rattle.lmn_store_heap.proofs.ListOps.{change_away, change_keeps, place_by, there_by, in_mems_at, in_mems_away, in_atoms, in_rules, in_there, move_atoms_at, move_mems_at, move_atoms_from, move_mems_from, move_atoms_away, move_mems_away, move_rules, move_there, rules_at, rules_away, rules_keep}
 use Rattle.lmn_base.specs.Lists.{In}
 use Rattle.lmn_base.proofs.Lists.{in_either, plus_nothing}
 use Rattle.lmn_store_heap.proofs.Common.{after_first}

@@ -16,7 +16,6 @@ pub mod BodyPorts
 pub mod Firing
 pub mod SolidAfter
 pub mod Laws
-pub mod ListOps
 pub mod Growing
 pub mod MakingParts
 pub mod Removing

@@ -24,7 +24,7 @@ use Rattle.lmn_solid_bodies.specs.RestCopies.{RestCopies, later, rest_membranes,
 use Rattle.lmn_ground_parts.specs.Copies.{answer}
 use Rattle.lmn_ground_parts.specs.Rests.{IsContent, CopyWaits, atoms_placed, copy_round, membrane_placed, membranes_placed}
 use Rattle.lmn_congruence_splice.specs.Splice.{IsOneOf}
-use Rattle.lmn_solid_bodies.proofs.ListOps.{change_at, change_away, change_keeps, place_by}
+use Rattle.lmn_store_heap.proofs.ListOps.{change_at, change_away, change_keeps, place_by}
 use Rattle.lmn_solid_bodies.proofs.Growing.{Grown, grown_all_placed, grown_placed_mem, grown_moved, grown_rules, only_at}
 use Rattle.lmn_solid_bodies.proofs.MakingParts.{Made, made_on, rest_made, rest_on, source_within, same_rules_named}
 use Rattle.lmn_solid_bodies.proofs.RestGrowing.{grown_rest, child_in, all_membranes}

@@ -19,7 +19,7 @@ use Rattle.lmn_solid_bodies.proofs.MakingParts.{Made, made_on, rest_made, rest_o
 use Rattle.lmn_solid_bodies.proofs.RestGrowing.{grown_rest}
 use Rattle.lmn_solid_bodies.proofs.RestListing.{rest_settles}
 use Rattle.lmn_ground_parts.specs.Rests.{rest_placed}
-use Rattle.lmn_solid_bodies.proofs.ListOps.{change_keeps, place_by, there_by, out_place}
+use Rattle.lmn_store_heap.proofs.ListOps.{change_keeps, place_by, there_by, out_place}
 use Rattle.lmn_solid_bodies.proofs.Growing.{Grown, grown_placed, grown_all_placed, grown_placed_mem, grown_moved, grown_rules, only_at, some_there}
 use Rattle.lmn_solid_bodies.proofs.Removing.{all_taken_mems, place_parent}
 use Rattle.lmn_solid_bodies.proofs.MemsMade.{made_one_mem}

@@ -14,7 +14,7 @@ use Rattle.lmn_solid_bodies.specs.Rules.{Goes, Nests, closed_rests}
 use Rattle.lmn_solid_bodies.specs.Added.{if_inside, added_atoms, added_mems, added_rules, named_rules, moved_mems, made_mems, source_mems}
 use Rattle.lmn_solid_bodies.specs.RestCopies.{RestCopy, RestCopies, later, rest_membranes, copied_atom, copied_membrane, copied_into, given, AreAsLong}
 use Rattle.lmn_solid_bodies.specs.Made.{new_atoms}
-use Rattle.lmn_solid_bodies.proofs.ListOps.{there_by}
+use Rattle.lmn_store_heap.proofs.ListOps.{there_by}
 use Rattle.lmn_solid_bodies.proofs.Growing.{Grown, grown_none, grown_after, grown_placed, grown_all_placed, grown_placed_mem, grown_moved, grown_rules, only_at, some_there}
 use Rattle.lmn_solid_bodies.proofs.RestGrowing.{Places, given_same, grown_rest}
 use Rattle.lmn_solid_bodies.proofs.Removing.{place_parent}

@@ -6,7 +6,7 @@ use Rattle.lmn_store_heap.specs.Heap.{Heap, HeapMem, Place, top, within, waiting
 use Rattle.lmn_store_heap.specs.Heap as heap
 use Rattle.lmn_store_heap.specs.Sound.{Listed}
 use Rattle.lmn_store_heap.proofs.Listing.{same_listed, alter_at}
-use Rattle.lmn_solid_bodies.proofs.ListOps.{change_away, change_keeps, place_by}
+use Rattle.lmn_store_heap.proofs.ListOps.{change_away, change_keeps, place_by}
 
 -- what waits after a membrane is placed waited before, and is another
 pub place_after : (s : Heap) (m n : ℕ) (x : ℕ) → mem_place_of (placed_mem s m n) x ≡ Some waiting → (mem_place_of s x ≡ Some waiting) × (x ≢ n)

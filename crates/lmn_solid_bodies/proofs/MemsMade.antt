@@ -7,7 +7,7 @@ use Rattle.lmn_store_heap.specs.Heap.{Heap, HeapMem, waiting, gone, new_mem, mem
 use Rattle.lmn_store_heap.proofs.ListLemmas as lists
 use Rattle.lmn_store_heap.proofs.Listing.{alter_at, alter_away}
 use Rattle.lmn_store_heap.proofs.Depths.{both_distinct}
-use Rattle.lmn_solid_bodies.proofs.ListOps.{change_keeps, place_by, there_by}
+use Rattle.lmn_store_heap.proofs.ListOps.{change_keeps, place_by, there_by}
 use Rattle.lmn_solid_bodies.proofs.Growing.{some_there}
 use Rattle.lmn_base.specs.Lists.{In}
 use Rattle.lmn_base.proofs.Lists.{plus_nothing, in_either}

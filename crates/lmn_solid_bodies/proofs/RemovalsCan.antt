@@ -12,7 +12,7 @@ use Rattle.lmn_solid_bodies.specs.Conditions.{CanRun}
 use Rattle.lmn_solid_bodies.proofs.Phases.{taken_place_away}
 use Rattle.lmn_solid_bodies.proofs.Finishing.{within_of, in_place_within}
 use Rattle.lmn_solid_bodies.proofs.Removing.{place_parent}
-use Rattle.lmn_solid_bodies.proofs.ListOps.{out_place}
+use Rattle.lmn_store_heap.proofs.ListOps.{out_place}
 use Rattle.lmn_solid_bodies.proofs.Brought.{reached_into}
 use Rattle.lmn_store_heap.specs.Sound.{Paired}
 use Rattle.lmn_solid_bodies.proofs.Parts.{taken_links}

@@ -9,7 +9,7 @@ use Rattle.lmn_store_heap.proofs.Groves.{without_absent}
 use Rattle.lmn_instr_code.specs.declared.instr.Instr.TheVariants.{RemoveMem}
 use Rattle.lmn_solid_bodies.specs.Running.{Registers, DoesAll, Prepares}
 use Rattle.lmn_solid_bodies.proofs.Phases.{taken_stays}
-use Rattle.lmn_solid_bodies.proofs.ListOps.{change_keeps, place_by, there_by, out_mem, out_atoms, out_rules, out_there, out_place}
+use Rattle.lmn_store_heap.proofs.ListOps.{change_keeps, place_by, there_by, out_mem, out_atoms, out_rules, out_there, out_place}
 use Rattle.lmn_solid_bodies.proofs.Growing.{SameAtoms, same_atoms, same_atoms_after, some_there}
 use Rattle.lmn_store_heap.specs.Lists.{without_all}
 use Rattle.lmn_store_heap.proofs.Common.{place_home, in_of_without}

@@ -11,7 +11,7 @@ use Rattle.lmn_store_heap.proofs.MemListing.{placed_mem_listed}
 use Rattle.lmn_ground_parts.specs.Copies.{answer}
 use Rattle.lmn_ground_parts.specs.Rests.{CopyWaits, atoms_placed, copy_round, membrane_placed, membranes_placed, rest_placed}
 use Rattle.lmn_solid_bodies.specs.Running.{all_placed}
-use Rattle.lmn_solid_bodies.proofs.ListOps.{change_keeps, change_away, place_by, there_by}
+use Rattle.lmn_store_heap.proofs.ListOps.{change_keeps, change_away, place_by, there_by}
 use Rattle.lmn_solid_bodies.proofs.Growing.{Grown, grown_placed, grown_all_placed, some_there, only_at}
 use Rattle.lmn_solid_bodies.proofs.MemListing.{same_lists_listed, place_after}
 use Rattle.lmn_solid_bodies.proofs.RestGrowing.{Places, Placing, copies_in, copies_same, grown_membrane, placing_on, parent_as, placed_pairs, all_atoms, all_membranes, placing as rest_placing, cm_m, forms, of_flat}

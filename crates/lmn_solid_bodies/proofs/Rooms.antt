@@ -14,7 +14,7 @@ use Rattle.lmn_solid_bodies.specs.Running.{Registers, Prepares}
 use Rattle.lmn_solid_bodies.specs.Added.{made_mems}
 use Rattle.lmn_solid_bodies.specs.RestCopies.{RestCopies, later}
 use Rattle.lmn_solid_bodies.specs.Rules.{Nests}
-use Rattle.lmn_solid_bodies.proofs.ListOps.{change_at, change_away, change_keeps, there_by}
+use Rattle.lmn_store_heap.proofs.ListOps.{change_at, change_away, change_keeps, there_by}
 use Rattle.lmn_solid_bodies.proofs.Growing.{some_there}
 use Rattle.lmn_solid_bodies.proofs.RestMems.{new_on, rest_same_mems}
 use Rattle.lmn_base.specs.Lists.{In}

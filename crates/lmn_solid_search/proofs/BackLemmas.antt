@@ -8,7 +8,7 @@ use Rattle.lmn_base.specs.Lists.{In}
 use Rattle.lmn_base.specs.Graphs.{Port, Reached, StandsWhole}
 use Rattle.lmn_base.proofs.Lists.{get_below, get_front, get_last, get_there, get_index, read_or}
 use Rattle.lmn_base.proofs.Numbers.{below_next2}
-use Rattle.lmn_adequacy_heaps.proofs.PartLists.{all_of_part, part_list}
+use Rattle.lmn_store_heap.proofs.PartLists.{all_of_part, part_list}
 use Rattle.lmn_store_heap.specs.Heap.{Heap, link_of, atoms_in, mems_in}
 use Rattle.lmn_store_heap.specs.Sound.{Valid}
 use Rattle.lmn_store_heap.specs.Graphs.{atom_map}

@@ -20,3 +20,6 @@ pub mod Calls
 pub mod Items
 pub mod ExampleProofs
 pub mod Common
+pub mod PartLists
+pub mod ListOps
+pub mod Filters

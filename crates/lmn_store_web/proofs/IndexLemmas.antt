@@ -150,7 +150,7 @@ module _ (holds : Nest → Type 0) (ms : List ℕ) (key : ℕ → ℕ) (h : Heap
       nest = put a b x.nest;
       nested = now;
       agrees = subst (λ z. IsNestOf key (placed_mem h m y) (put z b x.nest)) e (subst (λ z. IsNestOf key (placed_mem h m y) (put (key m) z x.nest)) f (nest_placed key h x.nest x.agrees own m y i));
-      cells = λ z j. x.cells z ((in_marks h m y i).back z j);
+      cells = λ z j. x.cells z ((in_marks h m y).back z j);
       few = x.few;
     }
 
@@ -176,7 +176,7 @@ module _ (holds : Nest → Type 0) (ms : List ℕ) (key : ℕ → ℕ) (h : Heap
     nest = moved a b x.nest;
     nested = now;
     agrees = subst (λ z. IsNestOf key (moved_all h m q) (moved z b x.nest)) e (subst (λ z. IsNestOf key (moved_all h m q) (moved (key m) z x.nest)) f (nest_moved key h x.nest x.agrees own m q i j d));
-    cells = λ z k. x.cells z ((move_marks h m q d i j).back z k);
+    cells = λ z k. x.cells z ((move_marks h m q).back z k);
     few = x.few;
   }
 

@@ -1,29 +1,8 @@
 -- What the calls on membranes do to lists of membranes.
-use Rattle.std.proofs.Common.{ℕ, ◌≡◌, ◌≢◌, List, [], ◌∷◌, ◌++◌, Option, Some, None, IsSome, is_some, refl, sym, ap, subst, ◌∙◌}
+use Rattle.std.proofs.Common.{ℕ, ◌≡◌, ◌≢◌, List, [], ◌∷◌, ◌++◌, Option, Some, None, IsSome, is_some, refl, sym, ap, ◌∙◌}
 use Rattle.std.specs.Option.{option_map}
-use Rattle.lmn_store_heap.specs.Heap.{Heap, HeapMem, Place, within, gone, alter, mem_with_place, mem_with_mems, mem_with_atoms, mem_with_spare, mem_with_mark, mem_marked, mem_with_rules, atom_out, home_of, placed, taken, reserved, mem_sent, sent, emptied, filled, mem_out, parent_of, atoms_in, mems_in, mems_by, mem_mark_of, mem_mark_by, IsMem, without, taken_mem, placed_mem, moved_all}
-use Rattle.lmn_store_heap.proofs.Listing.{alter_at, alter_away, alter_keeps}
-
--- One change of one membrane
-
-module _ {X : Type 0} (v : Option HeapMem → X) (f : ℕ → Option HeapMem) (k : ℕ) (g : HeapMem → HeapMem) where
-  change_at : (G : X → X) → ((x : HeapMem) → v (Some (g x)) ≡ G (v (Some x))) → IsSome (f k) → v (alter f k (option_map g) k) ≡ G (v (f k))
-  change_at G h is = ap v (alter_at f k (option_map g)) ∙ by (f k) is
-    where
-      by : (o : Option HeapMem) → IsSome o → v (option_map g o) ≡ G (v o)
-      by None i = absurd (cc)
-      by (Some x) i = h x
-
-  change_away : (j : ℕ) → j ≢ k → v (alter f k (option_map g) j) ≡ v (f j)
-  change_away j d = ap v (alter_away f k (option_map g) j d)
-
-  -- what a change of a membrane doesn't change
-  pub change_keeps : ((x : HeapMem) → v (Some (g x)) ≡ v (Some x)) → (j : ℕ) → v (alter f k (option_map g) j) ≡ v (f j)
-  change_keeps h j = alter_keeps f k (option_map g) v by j
-    where
-      by : (o : Option HeapMem) → v (option_map g o) ≡ v o
-      by None = refl
-      by (Some x) = h x
+use Rattle.lmn_store_heap.specs.Heap.{Heap, HeapMem, within, gone, alter, mem_with_place, mem_with_mems, mem_with_atoms, mem_with_spare, mem_with_mark, mem_marked, mem_with_rules, atom_out, home_of, placed, taken, reserved, emptied, filled, mem_out, parent_of, atoms_in, mems_in, mems_by, mem_mark_of, mem_mark_by, IsMem, without, taken_mem, placed_mem, moved_all}
+use Rattle.lmn_store_heap.proofs.ListOps.{change_at, change_away, change_keeps, sent_keeps}
 
 -- what an index of membranes sees of one: what stands in it, and its mark
 pub record Seen : Type 0 where
@@ -88,54 +67,24 @@ out_marks s n = same_marks s (taken_mem s n) (λ y. change_keeps marked_by (mem_
 
 -- `place_mem`
 
-module _ (s : Heap) (m n : ℕ) (is : IsSome (s.mems m)) where
+module _ (s : Heap) (m n : ℕ) where
   abbrev f1 : ℕ → Option HeapMem
   f1 = alter s.mems n (option_map (mem_with_place (within m)))
-
-  is1 : IsSome (f1 m)
-  is1 = marked_there (s.mems m) (f1 m) (sym (change_keeps marked_by s.mems n (mem_with_place (within m)) (λ x. refl) m)) is
-
-  -- the list to which it comes
-  pub in_at : mems_in (placed_mem s m n) m ≡ mems_in s m ++ n ∷ []
-  in_at = change_at mems_by f1 m (mem_with_mems (λ xs. xs ++ n ∷ [])) (λ xs. xs ++ n ∷ []) (λ x. refl) is1
-      ∙ ap (λ xs. xs ++ n ∷ []) (change_keeps mems_by s.mems n (mem_with_place (within m)) (λ x. refl) m)
-
-  pub in_away : (y : ℕ) → y ≢ m → mems_in (placed_mem s m n) y ≡ mems_in s y
-  in_away y d = change_away mems_by f1 m (mem_with_mems (λ xs. xs ++ n ∷ [])) y d ∙ change_keeps mems_by s.mems n (mem_with_place (within m)) (λ x. refl) y
 
   pub in_marks : SameMarks s (placed_mem s m n)
   in_marks = same_marks s (placed_mem s m n) (λ y. change_keeps marked_by f1 m (mem_with_mems (λ xs. xs ++ n ∷ [])) (λ x. refl) y ∙ change_keeps marked_by s.mems n (mem_with_place (within m)) (λ x. refl) y)
 
 -- `move_all`
 
-module _ (s : Heap) (m n : ℕ) (differ : m ≢ n) (im : IsSome (s.mems m)) (is : IsSome (s.mems n)) where
+module _ (s : Heap) (m n : ℕ) where
   abbrev g1 : ℕ → Option HeapMem
   g1 = alter s.mems m (option_map emptied)
 
   abbrev g2 : ℕ → Option HeapMem
   g2 = alter g1 n (option_map (filled (atoms_in s m) (mems_in s m)))
 
-  sent_keeps : {X : Type 0} (v : Option HeapMem → X) → ((x : HeapMem) (p : Place) → v (Some (mem_with_place p x)) ≡ v (Some x)) → (o : Option HeapMem) → v (option_map (mem_sent m n) o) ≡ v o
-  sent_keeps v h None = refl
-  sent_keeps v h (Some x) = h x (sent m n x.place)
-
-  is2 : IsSome (g1 n)
-  is2 = subst (λ (o : Option HeapMem). IsSome o) (sym (alter_away s.mems m (option_map emptied) n (λ e. differ (sym e)))) is
-
-  -- the list of the target
-  pub move_at : mems_in (moved_all s m n) n ≡ mems_in s n ++ mems_in s m
-  move_at = sent_keeps mems_by (λ x p. refl) (g2 n) ∙ change_at mems_by g1 n (filled (atoms_in s m) (mems_in s m)) (λ xs. xs ++ mems_in s m) (λ x. refl) is2
-      ∙ ap (λ xs. xs ++ mems_in s m) (change_away mems_by s.mems m emptied n (λ e. differ (sym e)))
-
-  -- that of the source
-  pub move_from : mems_in (moved_all s m n) m ≡ []
-  move_from = sent_keeps mems_by (λ x p. refl) (g2 m) ∙ change_away mems_by g1 n (filled (atoms_in s m) (mems_in s m)) m differ ∙ change_at mems_by s.mems m emptied (λ xs. []) (λ x. refl) im
-
-  pub move_away : (y : ℕ) → y ≢ m → y ≢ n → mems_in (moved_all s m n) y ≡ mems_in s y
-  move_away y dm dn = sent_keeps mems_by (λ x p. refl) (g2 y) ∙ change_away mems_by g1 n (filled (atoms_in s m) (mems_in s m)) y dn ∙ change_away mems_by s.mems m emptied y dm
-
   pub move_marks : SameMarks s (moved_all s m n)
-  move_marks = same_marks s (moved_all s m n) (λ y. sent_keeps marked_by (λ x p. refl) (g2 y) ∙ change_keeps marked_by g1 n (filled (atoms_in s m) (mems_in s m)) (λ x. refl) y ∙ change_keeps marked_by s.mems m emptied (λ x. refl) y)
+  move_marks = same_marks s (moved_all s m n) (λ y. sent_keeps m n marked_by (λ x p. refl) (g2 y) ∙ change_keeps marked_by g1 n (filled (atoms_in s m) (mems_in s m)) (λ x. refl) y ∙ change_keeps marked_by s.mems m emptied (λ x. refl) y)
 
 -- Calls that change neither what stands in a membrane nor its mark
 

@@ -15,8 +15,9 @@ use Rattle.lmn_store_heap.proofs.Heights.{parent_is}
 use Rattle.lmn_store_heap.proofs.Listing.{alter_at, alter_away}
 use Rattle.lmn_store_web_preorder.specs.Nests.{Nest, IsTop, IsWithin, itself, deeper, IsOneOf, with_inside, with_awake, with_key, put, taken_from, moved, CanAdd, CanPut, CanTake, CanMove}
 use Rattle.lmn_store_web.specs.Indexes.{IsNestOf}
-use Rattle.lmn_store_web.proofs.MemLists.{SameMarks, Seen, mark_there, seen_by, change_keeps, out_at, out_away, out_marks, in_at, in_away, in_marks, move_at, move_from, move_away, move_marks}
+use Rattle.lmn_store_web.proofs.MemLists.{SameMarks, Seen, mark_there, seen_by, out_at, out_away, out_marks, in_marks, move_marks}
 use Rattle.lmn_store_web_preorder.proofs.Nesting.{with_other as inside_away, with_there as inside_at}
+use Rattle.lmn_store_heap.proofs.ListOps.{change_keeps, in_mems_at, in_mems_away, move_mems_at, move_mems_from, move_mems_away}
 
 -- Reading a nest
 
@@ -113,8 +114,8 @@ module _ (key : ℕ → ℕ) (h : Heap) (n : Nest) (a : IsNestOf key h n) (own :
 
   -- `place_mem`
   pub nest_placed : (m x : ℕ) → IsMem h m → IsNestOf key (placed_mem h m x) (put (key m) (key x) n)
-  nest_placed m x i = one_list (placed_mem h m x) (in_marks h m x i) m i (n.inside (key m) ++ key x ∷ [])
-      (ap (λ ks. ks ++ key x ∷ []) (a.inside m i) ∙ sym (map_append key (mems_in h m) (x ∷ [])) ∙ ap (λ xs. map key xs) (sym (in_at h m x i))) (in_away h m x i)
+  nest_placed m x i = one_list (placed_mem h m x) (in_marks h m x) m i (n.inside (key m) ++ key x ∷ [])
+      (ap (λ ks. ks ++ key x ∷ []) (a.inside m i) ∙ sym (map_append key (mems_in h m) (x ∷ [])) ∙ ap (λ xs. map key xs) (sym (in_mems_at h m x i))) (in_mems_away h m x i)
 
   module _ (listed : Listed h) where
     -- `take_mem`
@@ -174,8 +175,8 @@ module _ (key : ℕ → ℕ) (h : Heap) (n : Nest) (a : IsNestOf key h n) (own :
     inside = λ y l. let b = s.back y l in elim (cases_eq y q) [
       | inl e ↦ subst (λ z. (moved (key m) (key q) n).inside (key z) ≡ map key (mems_in t z)) (sym e) (inside_at (key q) both inner ∙ lists)
       | inr f ↦ inside_away (key q) both inner (key y) (λ e. f (own y q b j e)) ∙ elim (cases_eq y m) [
-        | inl e ↦ subst (λ z. inner.inside (key z) ≡ map key (mems_in t z)) (sym e) (inside_at (key m) [] n ∙ ap (λ xs. map key xs) (sym (move_from h m q d i j)))
-        | inr g ↦ inside_away (key m) [] n (key y) (λ e. g (own y m b i e)) ∙ a.inside y b ∙ ap (λ xs. map key xs) (sym (move_away h m q d i j y g f))
+        | inl e ↦ subst (λ z. inner.inside (key z) ≡ map key (mems_in t z)) (sym e) (inside_at (key m) [] n ∙ ap (λ xs. map key xs) (sym (move_mems_from h m q d i j)))
+        | inr g ↦ inside_away (key m) [] n (key y) (λ e. g (own y m b i e)) ∙ a.inside y b ∙ ap (λ xs. map key xs) (sym (move_mems_away h m q d i j y g f))
       ]
     ];
     awake = λ y l. a.awake y (s.back y l) ∙ ap (λ v. v == 0) (sym (s.marks y));
@@ -186,7 +187,7 @@ module _ (key : ℕ → ℕ) (h : Heap) (n : Nest) (a : IsNestOf key h n) (own :
       t = moved_all h m q
 
       s : SameMarks h (moved_all h m q)
-      s = move_marks h m q d i j
+      s = move_marks h m q
 
       both : List ℕ
       both = n.inside (key q) ++ n.inside (key m)
@@ -195,7 +196,7 @@ module _ (key : ℕ → ℕ) (h : Heap) (n : Nest) (a : IsNestOf key h n) (own :
       inner = with_inside (key m) [] n
 
       lists : n.inside (key q) ++ n.inside (key m) ≡ map key (mems_in (moved_all h m q) q)
-      lists = (λ z. a.inside q j z ++ a.inside m i z) ∙ sym (map_append key (mems_in h q) (mems_in h m)) ∙ ap (λ xs. map key xs) (sym (move_at h m q d i j))
+      lists = (λ z. a.inside q j z ++ a.inside m i z) ∙ sym (map_append key (mems_in h q) (mems_in h m)) ∙ ap (λ xs. map key xs) (sym (move_mems_at h m q d i j))
 
   -- `make_mem`
   pub nest_made : Listed h → (new : ℕ → ℕ) (c k : ℕ) → h.mems c ≡ None → ((m : ℕ) → IsMem h m → key m ≢ k) → new c ≡ k → ((m : ℕ) → m ≢ c → IsMem h m → new m ≡ key m) → IsNestOf new (made_mem h c) (with_key k n)

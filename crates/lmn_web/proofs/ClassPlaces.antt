@@ -8,9 +8,9 @@ use Rattle.lmn_web_cells.specs.Runs.{link_in}
 use Rattle.lmn_web_cells.proofs.LineLemmas.{link_same, link_other}
 use Rattle.lmn_web.specs.Classes.{Touches, ClassTree, Bare, Fork, leaders, top, IsTree, IsSorted, AreClassed, ClassPlace, place_in, is_odd, rest_at, is_key, key_in, of_class, link_written, taken_over}
 use Rattle.lmn_web_cells.specs.Links.{EVEN, ODD, LEADERS}
-use Rattle.lmn_web.proofs.Reclassing.{in_filter}
 use Rattle.lmn_web.proofs.ClassTrees.{Holds, Placed, placed, tree_frame}
 use Rattle.lmn_web.proofs.ClassWrites.{kept, length_kept, touches_tree}
+use Rattle.lmn_store_heap.proofs.Filters.{in_filter}
 
 -- Links
 

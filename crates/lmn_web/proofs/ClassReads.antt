@@ -14,10 +14,10 @@ use Rattle.lmn_web.specs.Indexes.{IsClassedWeb}
 use Rattle.lmn_web.specs.Classes.{class_node, key_in, is_key, of_class, ClassTree, top, AreClassed, place_in}
 use Rattle.lmn_web_cells.specs.Links.{CLASS_NEXT, CLASS_LAST}
 use Rattle.lmn_web.proofs.ListedLemmas.{run_begins, run_goes_on, list_same, cell_of}
-use Rattle.lmn_web.proofs.Reclassing.{key_same, key_true, filter_in}
+use Rattle.lmn_web.proofs.Reclassing.{key_same, key_true}
 use Rattle.lmn_web.proofs.ClassPlaces.{leader_in, class_none}
-use Rattle.lmn_web.proofs.ClassRuns.{distinct_filter}
 use Rattle.lmn_web.proofs.FilterLemmas.{filter_same}
+use Rattle.lmn_store_heap.proofs.Filters.{filter_in, distinct_filter}
 
 -- the upper half of a label
 class_half : (high low : ℕ) → low < 2 ^ 64 → label_class (label_by high low) ≡ high

@@ -1,29 +1,20 @@
 -- What each write to the links of classes does to the classes of a membrane.
-use Rattle.std.proofs.Common.{◌≡◌, ◌≢◌, ◌⊎◌, ℕ, suc, Bool, true, false, not, cond, List, [], ◌∷◌, ◌++◌, length, Option, Some, None, IsSome, refl, sym, ap, subst, ◌∙◌, inl, inr, arith}
-use Rattle.std.specs.List.{filter}
+use Rattle.std.proofs.Common.{◌≡◌, ◌≢◌, ◌⊎◌, ℕ, suc, Bool, true, false, not, List, [], ◌∷◌, ◌++◌, length, Option, Some, None, IsSome, refl, sym, ap, subst, ◌∙◌, inl, inr, arith}
 use Rattle.lmn_base.specs.Lists.{In}
 use Rattle.lmn_base.proofs.Lists.{in_either}
 use Rattle.lmn_store_heap.specs.Lists.{Distinct}
-use Rattle.lmn_store_heap.proofs.ListLemmas.{each_in, each_of, in_left, in_right, apart}
+use Rattle.lmn_store_heap.proofs.ListLemmas.{each_in, in_left, in_right, apart}
 use Rattle.lmn_web_cells.specs.Cells.{HeldCell, links_of, HaveLinks}
 use Rattle.lmn_web_cells.specs.Runs.{Node, RunsThrough, link_in}
 use Rattle.lmn_web_cells.proofs.LineLemmas.{link_other}
 use Rattle.lmn_web_cells.proofs.RunLemmas.{Left, Joined, Between, begins, ends, joins, leaves, inserts, split, before_in, after_in}
 use Rattle.lmn_web.specs.Classes.{Touches, ClassTree, Bare, Fork, leaders, top, ClassPlace, IsTree, AreBeside, IsSorted, is_odd, rest_at, class_node, key_in, is_key, of_class, AreClassed, place_in, link_written, taken_over, begun, lengthened, put_between, put_first, closed, shortened, passed, dropped}
 use Rattle.lmn_web_cells.specs.Links.{CLASS_NEXT, CLASS_PREV, CLASS_LAST, EVEN, ODD, LEADERS}
-use Rattle.lmn_web.proofs.Reclassing.{key_same, key_true, in_filter, reclassed}
+use Rattle.lmn_web.proofs.Reclassing.{key_same, key_true, reclassed}
 use Rattle.lmn_web.proofs.ClassTrees.{Holds, Hole, forked, side, side_is, sides_differ, not_both, in_forked, top_forked, forked_sorted, sorted_forked, forked_tree, key_differs, tree_frame, sorted_apart, below_differs, beside_not}
 use Rattle.lmn_web.proofs.ClassWrites.{kept, length_kept, touches_none, touches_own, touches_tree, touches_keys, touches_there}
 use Rattle.lmn_web.proofs.ClassPlaces.{link_at, link_far, link_by, bare_of, sorted_top, holds_small, holds_there, holds_more, touches_taken, at, outer_in, tree_in, holds_atoms, link_small, place_far, taken_place, leader_in, fill_stay, fill_were, fill_sorted, fill_heads, taken_tree}
-
--- a list by a test has no repeat where the list has none
-pub distinct_filter : (test : ℕ → Bool) (xs : List ℕ) → Distinct xs → Distinct (filter test xs)
-distinct_filter test [] d = tt
-distinct_filter test (x ∷ xs) d = by (test x) (distinct_filter test xs d.1)
-  where
-    by : (b : Bool) → Distinct (filter test xs) → Distinct (cond b (x ∷ filter test xs) (filter test xs))
-    by true r = (each_of _ (filter test xs) (λ z i. each_in (λ w. x ≢ w) xs z d.0 (in_filter test z xs i).0), r)
-    by false r = r
+use Rattle.lmn_store_heap.proofs.Filters.{in_filter, distinct_filter}
 
 -- no link to other classes is one of a class
 not_side : (j : ℕ) → (j ≡ EVEN) ⊎ (j ≡ ODD) → (j ≡ CLASS_NEXT) ⊎ ((j ≡ CLASS_PREV) ⊎ (j ≡ CLASS_LAST)) → ⊥

@@ -10,10 +10,11 @@ use Rattle.lmn_web_cells.proofs.RunLemmas.{before_in, split, last_in as last_of_
 use Rattle.lmn_web_cells.proofs.InsertLemmas.{put_at}
 use Rattle.lmn_web.specs.Classes.{ClassTree, Bare, Fork, Hung, leaders, top, IsTree, IsSorted, lowest_below, class_node, key_in, is_key, of_class, place_in, begun, lengthened, put_between, put_first, closed, shortened, passed, dropped, MayFile, ClassBecomes, Refiled}
 use Rattle.lmn_web_cells.specs.Links.{CLASS_NEXT, CLASS_PREV, CLASS_LAST, EVEN, ODD}
-use Rattle.lmn_web.proofs.Reclassing.{key_same, key_true, in_filter, filter_in}
+use Rattle.lmn_web.proofs.Reclassing.{key_same, key_true}
 use Rattle.lmn_web.proofs.ClassTrees.{beside_not, some_lowest}
 use Rattle.lmn_web.proofs.ClassPlaces.{at, fork_of, holds_there, holds_atoms, link_small, leader_in, class_none}
-use Rattle.lmn_web.proofs.ClassRuns.{inside_classed, inside_touches, first_classed, first_touches, prev_in, next_in_run, closed_classed, closed_touches, shortened_classed, shortened_touches, passed_classed, passed_touches, bare_classed, bare_touches, side_filed, distinct_filter, begun_classed, begun_touches, longer_classed, longer_touches}
+use Rattle.lmn_web.proofs.ClassRuns.{inside_classed, inside_touches, first_classed, first_touches, prev_in, next_in_run, closed_classed, closed_touches, shortened_classed, shortened_touches, passed_classed, passed_touches, bare_classed, bare_touches, side_filed, begun_classed, begun_touches, longer_classed, longer_touches}
+use Rattle.lmn_store_heap.proofs.Filters.{in_filter, filter_in, distinct_filter}
 
 -- the first one of a class that is found, with the run of the class
 pub record Leads (f : ℕ → Option HeldCell) (xs : List ℕ) (t : ClassTree) (p : ℕ × ℕ) (l : ℕ) : Type 0 where

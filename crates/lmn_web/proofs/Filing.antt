@@ -22,10 +22,11 @@ use Rattle.lmn_web.specs.Classes.{AllButLinks, ClassTree, Bare, IsTree, files, c
 use Rattle.lmn_web.proofs.ListedLemmas.{same_lists, lists_same, cell_of}
 use Rattle.lmn_web.proofs.WebLemmas.{Told, told, made_web, made_lists, no_list}
 use Rattle.lmn_web.proofs.RelistLemmas.{Core, Relists, relists_web, in_none, new, new_lists, each, kind_is, there, m_there, core_of, back, core_rest}
-use Rattle.lmn_web.proofs.Reclassing.{in_filter, sorted_keys}
+use Rattle.lmn_web.proofs.Reclassing.{sorted_keys}
 use Rattle.lmn_web.proofs.ClassTrees.{tree_kept}
 use Rattle.lmn_web.proofs.FilterLemmas.{filter_same, one_before, place_in}
 use Rattle.lmn_base.proofs.Truth.{false_not_true as not_true}
+use Rattle.lmn_store_heap.proofs.Filters.{in_filter}
 
 -- Where atoms are filed
 

@@ -13,19 +13,16 @@ use Rattle.lmn_web_cells.specs.Cells.{HeldCell}
 use Rattle.lmn_web_cells.specs.Runs.{put_before}
 use Rattle.lmn_web_cells.proofs.CellRows.{if_yes}
 use Rattle.lmn_web.specs.Classes.{key_in, is_key, of_class, put_at, ClassBecomes}
-use Rattle.lmn_web.proofs.Reclassing.{key_same, key_true, in_filter}
+use Rattle.lmn_web.proofs.Reclassing.{key_same, key_true}
 use Rattle.lmn_store_heap.proofs.Common.{in_after}
+use Rattle.lmn_store_heap.proofs.Filters.{in_filter, filter_yes}
 
 -- two tests that agree on a list
 pub filter_same : (s t : ℕ → Bool) (xs : List ℕ) → ((x : ℕ) → In x xs → s x ≡ t x) → filter s xs ≡ filter t xs
 filter_same s t [] h = refl
 filter_same s t (x ∷ xs) h = let rest = filter_same s t xs (λ y i. h y (inr i)) in λ u. cond (h x (inl refl) u) (x ∷ rest u) (rest u)
 
--- one that passes
-filter_yes : (test : ℕ → Bool) (x : ℕ) (xs : List ℕ) → test x ≡ true → filter test (x ∷ xs) ≡ x ∷ filter test xs
-filter_yes test x xs e = ap (λ b. cond b (x ∷ filter test xs) (filter test xs)) e
-
--- and one that doesn't
+-- one that doesn't pass
 filter_no : (test : ℕ → Bool) (x : ℕ) (xs : List ℕ) → test x ≡ false → filter test (x ∷ xs) ≡ filter test xs
 filter_no test x xs e = ap (λ b. cond b (x ∷ filter test xs) (filter test xs)) e
 

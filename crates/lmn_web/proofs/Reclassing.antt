@@ -1,5 +1,5 @@
 -- One class of a membrane changes.
-use Rattle.std.proofs.Common.{◌≡◌, ◌==◌, ℕ, Bool, true, false, cond, List, [], ◌∷◌, suc, Option, Some, None, refl, sym, ap, subst, ◌∙◌, inl, inr}
+use Rattle.std.proofs.Common.{◌≡◌, ◌==◌, ℕ, Bool, true, false, List, [], ◌∷◌, suc, Option, Some, None, refl, sym, ap, subst, ◌∙◌, inl, inr}
 use Rattle.std.proofs.lemmas.Bool.{eq-eqb, eqb-true}
 use Rattle.std.specs.List.{filter}
 use Rattle.lmn_base.specs.Lists.{In}
@@ -10,6 +10,7 @@ use Rattle.lmn_web_cells.specs.Runs.{Node, RunsThrough, link_in}
 use Rattle.lmn_web_cells.proofs.RunLemmas.{frame}
 use Rattle.lmn_web.specs.Classes.{ClassTree, Bare, Fork, leaders, IsTree, AreBeside, IsSorted, rest_at, is_odd, class_node, key_in, is_key, of_class, AreClassed}
 use Rattle.lmn_web_cells.specs.Links.{CLASS_LAST, LEADERS}
+use Rattle.lmn_store_heap.proofs.Filters.{in_filter, filter_in}
 
 -- Tests of classes
 
@@ -20,27 +21,6 @@ key_same p = rw (eq-eqb p.0 p.0 refl) (eq-eqb p.1 p.1 refl)
 -- and no other does
 pub key_true : (p q : ℕ × ℕ) → is_key p q ≡ true → p ≡ q
 key_true p q e = let w = and_true (p.0 == q.0) (p.1 == q.1) e in λ t. (eqb-true p.0 q.0 w.0 t, eqb-true p.1 q.1 w.1 t)
-
--- what passes a test stands in the list
-pub in_filter : (test : ℕ → Bool) (z : ℕ) (xs : List ℕ) → In z (filter test xs) → In z xs × (test z ≡ true)
-in_filter test z [] i = absurd i
-in_filter test z (x ∷ xs) i = by (test x) refl (in_filter test z xs) i
-  where
-    by : (b : Bool) → test x ≡ b → (In z (filter test xs) → In z xs × (test z ≡ true)) → In z (cond b (x ∷ filter test xs) (filter test xs)) → In z (x ∷ xs) × (test z ≡ true)
-    by true e rest (inl s) = (inl s, ap test (sym s) ∙ e)
-    by true e rest (inr j) = let r = rest j in (inr r.0, r.1)
-    by false e rest j = let r = rest j in (inr r.0, r.1)
-
--- what stands in the list and passes
-pub filter_in : (test : ℕ → Bool) (z : ℕ) (xs : List ℕ) → In z xs → test z ≡ true → In z (filter test xs)
-filter_in test z [] i e = absurd i
-filter_in test z (x ∷ xs) i e = by (test x) refl (λ j. filter_in test z xs j e) i
-  where
-    by : (b : Bool) → test x ≡ b → (In z xs → In z (filter test xs)) → In z (x ∷ xs) → In z (cond b (x ∷ filter test xs) (filter test xs))
-    by true w rest (inl s) = inl s
-    by true w rest (inr j) = inr (rest j)
-    by false w rest (inl s) = absurd (let v : true ≡ false = sym e ∙ ap test (sym s) ∙ w in cc)
-    by false w rest (inr j) = rest j
 
 -- an element that nothing may be isn't there
 pub nothing_in : (xs : List ℕ) → xs ≡ [] → (z : ℕ) → In z xs → ⊥

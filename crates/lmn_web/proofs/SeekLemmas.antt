@@ -13,22 +13,7 @@ use Rattle.lmn_store_heap.proofs.Trees.{next_in}
 use Rattle.lmn_web_cells.specs.Cells.{HeldCell, numbers_of}
 use Rattle.lmn_web.specs.Webs.{WebCell, home_at, home_of, web_label, arity_at, is_labelled, label_by, list_in, number_in, with_label, label_class, is_classed, with_class, web_cell, web_of}
 use Rattle.lmn_web_cells.specs.Numbers.{HIGH, LOW}
-
--- what stands behind an element that passes the test, of those that pass
-pub filter_after : (test : ℕ → Bool) (a : ℕ) (xs : List ℕ) → test a ≡ true → after a (filter test xs) ≡ filter test (after a xs)
-filter_after test a [] e = refl
-filter_after test a (x ∷ xs) e = by (test x) (x == a) refl refl (filter_after test a xs e)
-  where
-    by : (b t : Bool) → test x ≡ b → (x == a) ≡ t → after a (filter test xs) ≡ filter test (after a xs)
-        → after a (cond b (x ∷ filter test xs) (filter test xs)) ≡ filter test (cond t xs (after a xs))
-    by true true eb et rest = rw et refl
-    by true false eb et rest = rw et rest
-    by false true eb et rest = let v : false ≡ true = sym eb ∙ ap test (eqb-true x a et) ∙ e in absurd cc
-    by false false eb et rest = rest
-
--- from such an element on
-pub filter_from : (test : ℕ → Bool) (a : ℕ) (xs : List ℕ) → test a ≡ true → from (Some a) (filter test xs) ≡ filter test (from (Some a) xs)
-filter_from test a xs e = ap (λ ys. a ∷ ys) (filter_after test a xs e) ∙ sym (ap (λ b. cond b (a ∷ filter test (after a xs)) (filter test (after a xs))) e)
+use Rattle.lmn_store_heap.proofs.Filters.{filter_from}
 
 -- one that doesn't pass is passed over
 pub filter_on : (test : ℕ → Bool) (a : ℕ) (xs : List ℕ) (next : Option ℕ) → test a ≡ false → from next xs ≡ after a xs → filter test (from next xs) ≡ filter test (from (Some a) xs)

@@ -6,17 +6,7 @@ use Rattle.lmn_web_cells.specs.Cells.{HeldPort, HeldCell, ports_of, port_of, no_
 use Rattle.lmn_web_cells.specs.Ports.{partner_by, partner_in, with_partner, linked, cleared, joined, parted, IsPort, Reaches, Paired}
 use Rattle.lmn_store_heap.proofs.Listing.{alter_at, alter_away}
 use Rattle.lmn_web_cells.proofs.PortLemmas.{linked_ports, cleared_ports}
-
--- the same atom and the same index
-abbrev pub SamePort : ℕ → ℕ → ℕ → ℕ → Type 0
-SamePort c k a i = (c ≡ a) × (k ≡ i)
-
--- two ports are one or not
-pub same_port : (c k a i : ℕ) → SamePort c k a i ⊎ (SamePort c k a i → ⊥)
-same_port c k a i = elim (cases_eq c a) [
-  | inl e ↦ elim (cases_eq k i) [ inl h ↦ inl (e, h) | inr d ↦ inr (λ p. d p.1) ]
-  | inr d ↦ inr (λ p. d p.0)
-]
+use Rattle.lmn_store_heap.proofs.Ports.{SamePort, same_port}
 
 -- the port of a cell that gets a partner
 at_set : (c : HeldCell) (i : ℕ) (p : Option (ℕ × ℕ)) → i < length c.ports → partner_by (port_of (Some (with_partner i p c)) i) ≡ p

@@ -8,10 +8,11 @@ use Rattle.lmn_web.specs.declared.kind.CellKind.TheVariants.{Atom}
 use Rattle.lmn_web.specs.Webs.{list_in}
 use Rattle.lmn_web.specs.Classes.{key_in, is_key, of_class}
 use Rattle.lmn_web.proofs.ListedLemmas.{goes_on}
-use Rattle.lmn_web.proofs.SeekLemmas.{filter_after, next_some}
+use Rattle.lmn_web.proofs.SeekLemmas.{next_some}
 use Rattle.lmn_web.proofs.Reclassing.{key_same}
 use Rattle.lmn_web.proofs.ClassReads.{class_goes_on}
 use Rattle.lmn_web.proofs.classes.next_in.Goals as goal
+use Rattle.lmn_store_heap.proofs.Filters.{filter_after}
 
 pub link-requires-clause-there : goal.link-requires-clause-there
 link-requires-clause-there c = (each_in _ _ (cell_id c.args.c) c.requires.line.cells c.requires.inside).0

@@ -10,9 +10,9 @@ use Rattle.lmn_web.specs.Webs.{web_by, cells_in, list_in, kind_at, is_classed, w
 use Rattle.lmn_web.specs.Indexes.{cell_kind}
 use Rattle.lmn_web.specs.Classes.{of_class}
 use Rattle.lmn_web.proofs.ListedLemmas.{kind_told, no_atom_by, web_listed, from_in, if_some}
-use Rattle.lmn_web.proofs.Reclassing.{in_filter}
 use Rattle.lmn_web.proofs.ClassReads.{class_list}
 use Rattle.lmn_web.proofs.web.Web.first_of_class.Goals as goal
+use Rattle.lmn_store_heap.proofs.Filters.{in_filter}
 
 pub first_in-requires-clause-classes : goal.first_in-requires-clause-classes
 first_in-requires-clause-classes c sure = c.self.invariant.classed.classes (cell_id c.args.home) sure

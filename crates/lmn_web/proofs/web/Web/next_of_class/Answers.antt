@@ -13,9 +13,9 @@ use Rattle.lmn_web.specs.Webs.{web_by, web_of, cells_in, list_in, home_at, kind_
 use Rattle.lmn_web.specs.Indexes.{cell_kind}
 use Rattle.lmn_web.specs.Classes.{is_key, key_in, of_class}
 use Rattle.lmn_web.proofs.ListedLemmas.{home_same, kind_same, list_same, own_line, if_some}
-use Rattle.lmn_web.proofs.Reclassing.{in_filter}
 use Rattle.lmn_web.proofs.ClassReads.{class_list, key_by_label}
 use Rattle.lmn_web.proofs.web.Web.next_of_class.Goals as goal
+use Rattle.lmn_store_heap.proofs.Filters.{in_filter}
 
 pub next_in-requires-clause-there : goal.next_in-requires-clause-there
 next_in-requires-clause-there c =

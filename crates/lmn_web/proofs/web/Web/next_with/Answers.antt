@@ -5,8 +5,9 @@ use Rattle.lmn_store_heap.specs.Lists.{from, after}
 use Rattle.lmn_web_cells.specs.CellIds.{cell_id}
 use Rattle.lmn_web.specs.declared.kind.CellKind.TheVariants.{Atom}
 use Rattle.lmn_web.specs.Webs.{web_by, cells_in, home_at, arity_at, is_labelled, with_label, label_class, with_class}
-use Rattle.lmn_web.proofs.SeekLemmas.{filter_after, next_some, label_here, label_within}
+use Rattle.lmn_web.proofs.SeekLemmas.{next_some, label_here, label_within}
 use Rattle.lmn_web.proofs.web.Web.next_with.Goals as goal
+use Rattle.lmn_store_heap.proofs.Filters.{filter_after}
 
 pub seek-requires : goal.seek-requires
 seek-requires c =

@@ -4,9 +4,9 @@ use Rattle.lmn_store_heap.specs.Lists.{from, after}
 use Rattle.lmn_web_cells.specs.CellIds.{cell_id}
 use Rattle.lmn_web.specs.declared.kind.CellKind.TheVariants.{Atom}
 use Rattle.lmn_web.specs.Webs.{web_by, cells_in, is_labelled, label_class, is_classed, with_class}
-use Rattle.lmn_web.proofs.Reclassing.{in_filter}
 use Rattle.lmn_web.proofs.SeekLemmas.{Seeks, seeks_start, seeks_next, seeks_found, class_here, homed}
 use Rattle.lmn_web.proofs.web.Web.seek.Goals as goal
+use Rattle.lmn_store_heap.proofs.Filters.{in_filter}
 
 pub loop-at-init : goal.loop-at-init
 loop-at-init c = seeks_start cell_id _ _ c.args.start c.requires

@@ -106,6 +106,11 @@ module _ (s : Heap) (m n : ℕ) (is : IsSome (s.mems m)) where
 
 -- `move_all`
 
+-- a place that is handed on changes nothing else of a membrane
+pub sent_keeps : (m n : ℕ) {X : Type 0} (v : Option HeapMem → X) → ((x : HeapMem) (p : Place) → v (Some (mem_with_place p x)) ≡ v (Some x)) → (o : Option HeapMem) → v (option_map (mem_sent m n) o) ≡ v o
+sent_keeps m n v h None = refl
+sent_keeps m n v h (Some x) = h x (sent m n x.place)
+
 module _ (s : Heap) (m n : ℕ) (differ : m ≢ n) (im : IsSome (s.mems m)) (is : IsSome (s.mems n)) where
   abbrev g1 : ℕ → Option HeapMem
   g1 = alter s.mems m (option_map emptied)
@@ -113,36 +118,32 @@ module _ (s : Heap) (m n : ℕ) (differ : m ≢ n) (im : IsSome (s.mems m)) (is 
   abbrev g2 : ℕ → Option HeapMem
   g2 = alter g1 n (option_map (filled (atoms_in s m) (mems_in s m)))
 
-  sent_keeps : {X : Type 0} (v : Option HeapMem → X) → ((x : HeapMem) (p : Place) → v (Some (mem_with_place p x)) ≡ v (Some x)) → (o : Option HeapMem) → v (option_map (mem_sent m n) o) ≡ v o
-  sent_keeps v h None = refl
-  sent_keeps v h (Some x) = h x (sent m n x.place)
-
   is2 : IsSome (g1 n)
   is2 = subst (λ (o : Option HeapMem). IsSome o) (sym (alter_away s.mems m (option_map emptied) n (λ e. differ (sym e)))) is
 
   pub move_atoms_at : atoms_in (moved_all s m n) n ≡ atoms_in s n ++ atoms_in s m
-  move_atoms_at = sent_keeps atoms_by (λ x p. refl) (g2 n) ∙ change_at atoms_by g1 n (filled (atoms_in s m) (mems_in s m)) (λ xs. xs ++ atoms_in s m) (λ x. refl) is2
+  move_atoms_at = sent_keeps m n atoms_by (λ x p. refl) (g2 n) ∙ change_at atoms_by g1 n (filled (atoms_in s m) (mems_in s m)) (λ xs. xs ++ atoms_in s m) (λ x. refl) is2
       ∙ ap (λ xs. xs ++ atoms_in s m) (change_away atoms_by s.mems m emptied n (λ e. differ (sym e)))
 
   pub move_mems_at : mems_in (moved_all s m n) n ≡ mems_in s n ++ mems_in s m
-  move_mems_at = sent_keeps mems_by (λ x p. refl) (g2 n) ∙ change_at mems_by g1 n (filled (atoms_in s m) (mems_in s m)) (λ xs. xs ++ mems_in s m) (λ x. refl) is2
+  move_mems_at = sent_keeps m n mems_by (λ x p. refl) (g2 n) ∙ change_at mems_by g1 n (filled (atoms_in s m) (mems_in s m)) (λ xs. xs ++ mems_in s m) (λ x. refl) is2
       ∙ ap (λ xs. xs ++ mems_in s m) (change_away mems_by s.mems m emptied n (λ e. differ (sym e)))
 
   pub move_atoms_from : atoms_in (moved_all s m n) m ≡ []
-  move_atoms_from = sent_keeps atoms_by (λ x p. refl) (g2 m) ∙ change_away atoms_by g1 n (filled (atoms_in s m) (mems_in s m)) m differ ∙ change_at atoms_by s.mems m emptied (λ xs. []) (λ x. refl) im
+  move_atoms_from = sent_keeps m n atoms_by (λ x p. refl) (g2 m) ∙ change_away atoms_by g1 n (filled (atoms_in s m) (mems_in s m)) m differ ∙ change_at atoms_by s.mems m emptied (λ xs. []) (λ x. refl) im
 
   pub move_mems_from : mems_in (moved_all s m n) m ≡ []
-  move_mems_from = sent_keeps mems_by (λ x p. refl) (g2 m) ∙ change_away mems_by g1 n (filled (atoms_in s m) (mems_in s m)) m differ ∙ change_at mems_by s.mems m emptied (λ xs. []) (λ x. refl) im
+  move_mems_from = sent_keeps m n mems_by (λ x p. refl) (g2 m) ∙ change_away mems_by g1 n (filled (atoms_in s m) (mems_in s m)) m differ ∙ change_at mems_by s.mems m emptied (λ xs. []) (λ x. refl) im
 
   pub move_atoms_away : (y : ℕ) → y ≢ m → y ≢ n → atoms_in (moved_all s m n) y ≡ atoms_in s y
-  move_atoms_away y dm dn = sent_keeps atoms_by (λ x p. refl) (g2 y) ∙ change_away atoms_by g1 n (filled (atoms_in s m) (mems_in s m)) y dn ∙ change_away atoms_by s.mems m emptied y dm
+  move_atoms_away y dm dn = sent_keeps m n atoms_by (λ x p. refl) (g2 y) ∙ change_away atoms_by g1 n (filled (atoms_in s m) (mems_in s m)) y dn ∙ change_away atoms_by s.mems m emptied y dm
 
   pub move_mems_away : (y : ℕ) → y ≢ m → y ≢ n → mems_in (moved_all s m n) y ≡ mems_in s y
-  move_mems_away y dm dn = sent_keeps mems_by (λ x p. refl) (g2 y) ∙ change_away mems_by g1 n (filled (atoms_in s m) (mems_in s m)) y dn ∙ change_away mems_by s.mems m emptied y dm
+  move_mems_away y dm dn = sent_keeps m n mems_by (λ x p. refl) (g2 y) ∙ change_away mems_by g1 n (filled (atoms_in s m) (mems_in s m)) y dn ∙ change_away mems_by s.mems m emptied y dm
 
   move_keeps : {X : Type 0} (v : Option HeapMem → X) → ((x : HeapMem) (p : Place) → v (Some (mem_with_place p x)) ≡ v (Some x)) → ((x : HeapMem) → v (Some (emptied x)) ≡ v (Some x))
       → ((x : HeapMem) (xs ys : List ℕ) → v (Some (filled xs ys x)) ≡ v (Some x)) → (y : ℕ) → v ((moved_all s m n).mems y) ≡ v (s.mems y)
-  move_keeps v hp he hf y = sent_keeps v hp (g2 y) ∙ change_keeps v g1 n (filled (atoms_in s m) (mems_in s m)) (λ x. hf x (atoms_in s m) (mems_in s m)) y ∙ change_keeps v s.mems m emptied he y
+  move_keeps v hp he hf y = sent_keeps m n v hp (g2 y) ∙ change_keeps v g1 n (filled (atoms_in s m) (mems_in s m)) (λ x. hf x (atoms_in s m) (mems_in s m)) y ∙ change_keeps v s.mems m emptied he y
 
   pub move_rules : (y : ℕ) → rules_in (moved_all s m n) y ≡ rules_in s y
   move_rules = move_keeps rules_by (λ x p. refl) (λ x. refl) (λ x xs ys. refl)

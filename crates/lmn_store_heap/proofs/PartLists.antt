@@ -9,7 +9,7 @@ use Rattle.lmn_store_heap.specs.Sound.{Valid}
 use Rattle.lmn_store_heap.proofs.ListLemmas.{each_in, each_of, in_without}
 use Rattle.lmn_store_heap.proofs.Listing.{home_is}
 use Rattle.lmn_store_heap.proofs.Replacing.{port_within}
-use Rattle.lmn_store_heap.proofs.Common.{decide_in, shorter_without as length_without}
+use Rattle.lmn_store_heap.proofs.Common.{decide_in, shorter_without}
 use Rattle.lmn_base.specs.Lists.{In}
 use Rattle.std.specs.List.{AllByRecursion}
 use Rattle.lmn_base.proofs.Numbers.{is_port}
@@ -106,15 +106,16 @@ module _ (h : Heap) (root : ℕ × ℕ) where
   any_door : (xs : List ℕ) → Door xs ⊎ ((a i : ℕ) → In a xs → ShutAt xs a i)
   any_door xs = door_of xs xs (each_of (λ a. In a xs) xs (λ a k. k))
 
-  grown : (n x : ℕ) (xs rs : List ℕ) → length rs ≤ n → Distinct (x ∷ xs) → AllByRecursion (Reached (atom_map h) root) (x ∷ xs) → In root.0 (x ∷ xs) → Covers (x ∷ xs) rs → PartList
+  -- a list that is grown until no port leads out of it
+  pub grown : (n x : ℕ) (xs rs : List ℕ) → length rs ≤ n → Distinct (x ∷ xs) → AllByRecursion (Reached (atom_map h) root) (x ∷ xs) → In root.0 (x ∷ xs) → Covers (x ∷ xs) rs → PartList
   grown zero x xs rs l d e s cover = elim (any_door (x ∷ xs)) [
-    | inl door ↦ absurd (let w = length_without door.beyond rs (remains (x ∷ xs) rs cover door (opened (x ∷ xs) e door)) in omega (arith, l, w))
+    | inl door ↦ absurd (let w = shorter_without door.beyond rs (remains (x ∷ xs) rs cover door (opened (x ∷ xs) e door)) in omega (arith, l, w))
     | inr shut ↦ finished x xs d e s shut
   ]
   grown (suc n) x xs rs l d e s cover = elim (any_door (x ∷ xs)) [
     | inl door ↦
         let w = opened (x ∷ xs) e door in
-        let short = length_without door.beyond rs (remains (x ∷ xs) rs cover door w) in
+        let short = shorter_without door.beyond rs (remains (x ∷ xs) rs cover door w) in
         grown n door.beyond (x ∷ xs) (without door.beyond rs) (omega (arith, l, short))
         (each_of (λ y. door.beyond ≢ y) (x ∷ xs) (λ a k q. door.new (subst (λ c. In c (x ∷ xs)) (sym q) k)), d) (w, e) (inr s)
         (λ c u. elim (cover c u) [
