@@ -1,11 +1,9 @@
 -- The copies of ports are joined, one after the other.
 use Rattle.std.proofs.Common.{◌≡◌, ◌≢◌, ◌⊎◌, ℕ, ◌<◌, Bool, true, false, cond, List, [], ◌∷◌, ◌++◌, length, Option, Some, None, IsSome, refl, sym, ap, subst, ◌∙◌, inl, inr, arith}
-use Rattle.std.proofs.lemmas.Bool.{cases_eq}
 use Rattle.std.specs.Option.{option_map}
 use Rattle.std.specs.Prelude.{slice_index_or}
-use Rattle.lmn_store_heap.specs.Heap.{Heap, HeapAtom, with_link, partners_of, marks_of, mark_of, link_of, arity_of, linked, cleared, joined}
+use Rattle.lmn_store_heap.specs.Heap.{Heap, HeapAtom, with_link, partners_of, marks_of, mark_of, link_of, arity_of, joined}
 use Rattle.lmn_store_heap.specs.Splice.{joined_to}
-use Rattle.lmn_store_heap.proofs.Listing.{alter_at, alter_away}
 use Rattle.lmn_store_heap.proofs.Ports.{SamePort, same_port, linked_away, joined_arity, joined_a, joined_b, joined_other, joined_paired}
 use Rattle.lmn_ground.specs.Marks.{first_marks}
 use Rattle.lmn_ground.specs.Spread.{Numbered}
@@ -20,24 +18,7 @@ use Rattle.lmn_store_heap.proofs.Replacing.{port_within as link_inside}
 use Rattle.lmn_base.specs.Lists.{In}
 use Rattle.lmn_store_heap.proofs.Common.{same_port as same_pair, arity_linked}
 use Rattle.lmn_ground_parts.proofs.Common.{cleared_away, joined_away}
-
--- what joining leaves as it is
-module _ {X : Type 0} (view : Option HeapAtom → X) (h : (i : ℕ) (p : Option (ℕ × ℕ)) (o : Option HeapAtom) → view (option_map (with_link i p) o) ≡ view o) where
-  linked_view : (f : ℕ → Option HeapAtom) (a i : ℕ) (p : Option (ℕ × ℕ)) (c : ℕ) → view (linked f a i p c) ≡ view (f c)
-  linked_view f a i p c = elim (cases_eq c a) [
-    | inl e ↦ subst (λ (z : ℕ). view (linked f a i p z) ≡ view (f z)) (sym e) (ap view (alter_at f a (option_map (with_link i p))) ∙ h i p (f a))
-    | inr d ↦ ap view (alter_away f a (option_map (with_link i p)) c d)
-  ]
-
-  cleared_view : (f : ℕ → Option HeapAtom) (q : Option (ℕ × ℕ)) (c : ℕ) → view (cleared f q c) ≡ view (f c)
-  cleared_view f None c = refl
-  cleared_view f (Some q) c = linked_view f q.0 q.1 None c
-
-  pub joined_view : (s : Heap) (a i b j c : ℕ) → view ((joined s a i b j).atoms c) ≡ view (s.atoms c)
-  joined_view s a i b j c =
-      linked_view (linked (cleared (cleared s.atoms (link_of s a i)) (link_of s b j)) a i (Some (b, j))) b j (Some (a, i)) c
-      ∙ linked_view (cleared (cleared s.atoms (link_of s a i)) (link_of s b j)) a i (Some (b, j)) c
-      ∙ cleared_view (cleared s.atoms (link_of s a i)) (link_of s b j) c ∙ cleared_view s.atoms (link_of s a i) c
+use Rattle.lmn_ground_parts.proofs.JoinViews.{joined_view}
 
 -- Nothing is done, or two copies are joined.
 pub like_by : (f : ℕ → ℕ) (root : ℕ × ℕ) (s : Heap) (p : ℕ × ℕ) (P : Heap → Type 0)

@@ -1,3 +1,4 @@
 pub mod WalkLaws
 pub mod AnswerLaws
 pub mod Common
+pub mod JoinViews

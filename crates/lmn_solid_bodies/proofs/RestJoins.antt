@@ -1,15 +1,13 @@
 -- Copies of atoms that no link leaves are made, and joined as these.
 use Rattle.std.proofs.Common.{◌≡◌, ◌≢◌, ◌⊎◌, ℕ, zero, suc, ◌+◌, ◌<◌, List, [], ◌∷◌, ◌++◌, length, Option, Some, None, IsSome, refl, sym, ap, subst, ◌∙◌, inl, inr, arith}
-use Rattle.std.proofs.lemmas.Bool.{cases_eq}
 use Rattle.std.proofs.lemmas.List.{append_assoc}
 use Rattle.std.specs.Option.{option_map}
 use Rattle.std.specs.Prelude.{slice_index_or}
 use Rattle.lmn_base.specs.declared.functor.Functor.{Functor}
-use Rattle.lmn_store_heap.specs.Heap.{Heap, HeapAtom, Distinct, with_link, new_atom, partners_of, functor_of, link_of, arity_of, linked, cleared, joined}
+use Rattle.lmn_store_heap.specs.Heap.{Heap, HeapAtom, Distinct, with_link, new_atom, partners_of, functor_of, link_of, arity_of, joined}
 use Rattle.lmn_store_heap.specs.Sound.{Paired}
 use Rattle.lmn_store_heap.specs.Splice.{joined_to}
 use Rattle.lmn_store_heap.proofs.ListLemmas.{each_in}
-use Rattle.lmn_store_heap.proofs.Listing.{alter_at, alter_away}
 use Rattle.lmn_store_heap.proofs.Ports.{SamePort, same_port, linked_away, joined_arity, joined_a, joined_b, joined_other, joined_paired}
 use Rattle.lmn_store_heap.proofs.Replacing.{port_within}
 use Rattle.lmn_store_heap.proofs.Common.{same_port as same_pair, has_functor, is_not}
@@ -19,26 +17,11 @@ use Rattle.lmn_ground_parts.specs.Rests.{joined_as, all_joined_as}
 use Rattle.lmn_ground_parts.proofs.AnswerLaws.{answer_in, answer_one, answer_here, answer_on}
 use Rattle.lmn_base.specs.Lists.{In}
 use Rattle.lmn_ground_parts.proofs.Common.{as_away as one_away, as_here as one_here, either_port, ports_in as range_in, cleared_away, joined_away, made_at, made_away, not_again, one_new, one_there, port_in as port_of}
+use Rattle.lmn_ground_parts.proofs.JoinViews.{joined_view}
 
 -- ---- what joining leaves as it is
 
 module _ {X : Type 0} (view : Option HeapAtom → X) (h : (i : ℕ) (p : Option (ℕ × ℕ)) (o : Option HeapAtom) → view (option_map (with_link i p) o) ≡ view o) where
-  linked_view : (f : ℕ → Option HeapAtom) (a i : ℕ) (p : Option (ℕ × ℕ)) (c : ℕ) → view (linked f a i p c) ≡ view (f c)
-  linked_view f a i p c = elim (cases_eq c a) [
-    | inl e ↦ subst (λ (z : ℕ). view (linked f a i p z) ≡ view (f z)) (sym e) (ap view (alter_at f a (option_map (with_link i p))) ∙ h i p (f a))
-    | inr d ↦ ap view (alter_away f a (option_map (with_link i p)) c d)
-  ]
-
-  cleared_view : (f : ℕ → Option HeapAtom) (q : Option (ℕ × ℕ)) (c : ℕ) → view (cleared f q c) ≡ view (f c)
-  cleared_view f None c = refl
-  cleared_view f (Some q) c = linked_view f q.0 q.1 None c
-
-  joined_view : (s : Heap) (a i b j c : ℕ) → view ((joined s a i b j).atoms c) ≡ view (s.atoms c)
-  joined_view s a i b j c =
-      linked_view (linked (cleared (cleared s.atoms (link_of s a i)) (link_of s b j)) a i (Some (b, j))) b j (Some (a, i)) c
-      ∙ linked_view (cleared (cleared s.atoms (link_of s a i)) (link_of s b j)) a i (Some (b, j)) c
-      ∙ cleared_view (cleared s.atoms (link_of s a i)) (link_of s b j) c ∙ cleared_view s.atoms (link_of s a i) c
-
   -- what partners don't change stays when ports are joined
   pub all_view : (f : ℕ → ℕ) (s : Heap) (ps : List (ℕ × ℕ)) (c : ℕ) → view ((all_joined_as f s ps).atoms c) ≡ view (s.atoms c)
   all_view f s [] c = refl
@@ -46,7 +29,7 @@ module _ {X : Type 0} (view : Option HeapAtom → X) (h : (i : ℕ) (p : Option 
     where
       one : (o : Option (ℕ × ℕ)) → view ((joined_to s (f p.0) p.1 o).atoms c) ≡ view (s.atoms c)
       one None = refl
-      one (Some q) = joined_view s (f p.0) p.1 q.0 q.1 c
+      one (Some q) = joined_view view h s (f p.0) p.1 q.0 q.1 c
 
 -- Nothing is done, or two copies are joined.
 as_by : (f : ℕ → ℕ) (s : Heap) (p : ℕ × ℕ) (P : Heap → Type 0) → (link_of s p.0 p.1 ≡ None → P s) → ((b j : ℕ) → link_of s p.0 p.1 ≡ Some (b, j) → P (joined s (f p.0) p.1 (f b) j)) → P (joined_as f s p)
