@@ -52,7 +52,8 @@ odd_copy g y L P i c l = go (source c.to g.process (of_solid L))
     go (missing h) = (0, ap (occurrences (of_solid L)) c.is ∙ occurrences_none c.to (of_solid L) g.process h)
 
 module _ (t : Assignment) (p : Plain t) where
-  odd_leaves : (L : ℕ) {ls : List Leaf} {Ps : List Process} → LeafInstances (made t) ls Ps → HeadLeaves t ls → Linked (together Ps) → IsEven (occurrences (of_solid L) (together Ps))
+  -- the leaves of an instance of the head have each link of the region an even number of times
+  pub odd_leaves : (L : ℕ) {ls : List Leaf} {Ps : List Process} → LeafInstances (made t) ls Ps → HeadLeaves t ls → Linked (together Ps) → IsEven (occurrences (of_solid L) (together Ps))
   odd_leaves L no_leaf a l = (0, refl)
   odd_leaves L (leaf_and (of_atom {xs = ys}) j) a l = let i = odd_leaves L j a (linked_right l) in (i.0, omega (arith, odd_not_even t p L ys, i.1))
   odd_leaves L (leaf_and of_connector j) a l = absurd a
@@ -62,7 +63,8 @@ module _ (t : Assignment) (p : Plain t) where
       (k.0 + i.0, omega (arith, k.1, i.1))
 
   mutual
-    odd_level : (L : ℕ) {l : Level} {C : Process} → HeadInstance (made t) l C → HeadLevel t l → Linked C → EvenMore (occurrences (of_solid L) C) (context_places t p L (open_names (all_contexts l)))
+    -- so has the instance of a level, but for what stands at the links of its contexts
+    pub odd_level : (L : ℕ) {l : Level} {C : Process} → HeadInstance (made t) l C → HeadLevel t l → Linked C → EvenMore (occurrences (of_solid L) C) (context_places t p L (open_names (all_contexts l)))
     odd_level L (head_instance {membranes = membranes} {contexts = ps} {rule_contexts = qs} {rules = rs} i j) a l =
         let m = odd_leaves L i a.0 (linked_left l) in
         let n = odd_levels L j a.1 (linked_left (linked_right l)) in
@@ -72,7 +74,8 @@ module _ (t : Assignment) (p : Plain t) where
           is = omega (arith, m.1, n.is, k.is, open_places_append t p L ps (contexts_in membranes), no_link_rule_contexts (made t) (of_solid L) qs, no_link_rules (of_solid L) (rules_list rs));
         }
 
-    odd_levels : (L : ℕ) {ls : Levels} {Qs : List Process} → HeadInstances (made t) ls Qs → HeadLevels t ls → Linked (together Qs) → EvenMore (occurrences (of_solid L) (together Qs)) (context_places t p L (open_names (contexts_in ls)))
+    -- and those of the levels inside
+    pub odd_levels : (L : ℕ) {ls : Levels} {Qs : List Process} → HeadInstances (made t) ls Qs → HeadLevels t ls → Linked (together Qs) → EvenMore (occurrences (of_solid L) (together Qs)) (context_places t p L (open_names (contexts_in ls)))
     odd_levels L no_head a l = record { half = 0; is = refl }
     odd_levels L (head_and {l = k} {ls = ks} i j) a l =
         let m = odd_level L i a.0 (linked_inside (linked_left l)) in

@@ -21,6 +21,10 @@ each_append : (K : Rule → Type 0) (rs ss : List Rule) → EachRule K rs → Ea
 each_append K [] ss h k = k
 each_append K (r ∷ rs) ss h k = (h.0, each_append K rs ss h.1 k)
 
+-- what holds throughout a rule holds throughout the level that its body is
+pub body_rules : (H : Rule → Type 0) (r : Rule) → Throughout H r → ThroughoutLevel H (body_of r)
+body_rules H (rule_of head guard body) h = h.1
+
 module _ (H : Rule → Type 0) where
   abbrev K : Rule → Type 0
   K = Throughout H
@@ -143,9 +147,6 @@ module _ (H : Rule → Type 0) where
         let w = made_rules_of c u h.0 ((λ p i. k.0 p (among_left (contexts_in ls) i)), (λ q i. k.1 q (among_left (rule_contexts_in ls) i))) in
         (from_lists outs inner rs w.0 w.1, made_list c v h.1 ((λ p i. k.0 p (among_right (all_contexts l) i)), (λ q i. k.1 q (among_right (all_rule_contexts l) i))))
 
-  body_rules : (r : Rule) → Throughout H r → ThroughoutLevel H (body_of r)
-  body_rules (rule_of head guard body) h = h.1
-
   raw_level_rules : (m : Region) (W outs : List Leaf) (ms : List Level) (rs : List Rule) → AllRules K m → ListRules ms → EachRule K rs → LevelRules (raw_level m W outs ms rs)
   raw_level_rules (region xs us ts) W outs ms rs h k k' = from_lists (kept_atoms xs ++ (W ++ outs)) (kept_membranes us ++ ms) (ts ++ rs) (list_append (kept_membranes us) ms (kept_list us h.1) k) (each_append K ts rs h.0 k')
 
@@ -159,7 +160,7 @@ module _ (H : Rule → Type 0) where
         (λ p i. u.1.0 p (subst (Among p) (n.0 ∙ ap (λ w. w ++ contexts_in (own_membranes (head_of r))) a.top_contexts) (of_the_head a p i))),
         (λ q i. u.1.1 q (subst (Among q) (n.1 ∙ ap (λ w. w ++ rule_contexts_in (own_membranes (head_of r))) a.top_rule_contexts) (a.known_rules q i))),
       ) in
-      let v = made_rules_of c F.makes (body_rules r g) k in
+      let v = made_rules_of c F.makes (body_rules H r g) k in
       subst LevelRules (sym F.is) (raw_level_rules e.rest (wire_leaves c.link_of (head_of r) F.bound) F.outs F.made_membranes F.made_rules u.0 v.0 v.1)
 
   replaced_rules : (n : ℕ) (L : Level) (ks : List Level) → LevelRules L → ListRules ks → ListRules (replaced n L ks)

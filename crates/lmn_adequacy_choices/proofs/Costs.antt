@@ -18,13 +18,9 @@ use Rattle.lmn_solid_bodies.specs.Rules.{WellPlaced}
 use Rattle.lmn_solid_bodies.specs.Running.{Registers as BodyRegisters, Prepares}
 use Rattle.lmn_solid_bodies.proofs.Firing.{rising_below}
 use Rattle.lmn_machine.specs.Costs.{AddsItems, InAll, IsRestSize, IsSize, Leaves, TakesItems}
+use Rattle.lmn_solid_bodies.proofs.Coding.{prepares_join}
 
 -- ---- instructions that make nothing
-
--- what one part of code makes, and then the other, all of it makes
-pub prepares_join : (r : BodyRegisters) (xs ys : List Instr) (s t u : Heap) → Prepares r xs s t → Prepares r ys t u → Prepares r (xs ++ ys) s u
-prepares_join r [] ys s t u p q = subst (λ z. Prepares r ys z u) p q
-prepares_join r (i ∷ xs) ys s t u p q = (p.0, p.1, prepares_join r xs ys p.0 t u p.2 q)
 
 quiet_atoms : (r : BodyRegisters) (s : Heap) (xs : List ℕ) → Prepares r (map RemoveAtom xs) s s
 quiet_atoms r s [] = refl

@@ -35,7 +35,7 @@ use Rattle.lmn_adequacy_choices.specs.Laws.{ChoicesAgree, CostsAreItems, CostsAr
 use Rattle.lmn_adequacy_choices.specs.Turns.{HaveCodes, IsChosen, IsReadWith, heap_region, membranes_in_preorder, tree_over}
 use Rattle.lmn_adequacy_choices.proofs.Choices.{code_of, first_of, inside, rests_held, rule_of}
 use Rattle.lmn_adequacy_choices.proofs.Codes.{Coded}
-use Rattle.lmn_adequacy_choices.proofs.Costs.{body_reads, leaves_so, prepares_join, quiet_drops, quiet_links, quiet_removals}
+use Rattle.lmn_adequacy_choices.proofs.Costs.{body_reads, leaves_so, quiet_drops, quiet_links, quiet_removals}
 use Rattle.lmn_adequacy_choices.proofs.Fresh.{least_so, raised, raised_above, raised_below}
 use Rattle.lmn_adequacy_choices.proofs.Makings.{AreMade, all_made}
 use Rattle.lmn_adequacy_choices.proofs.Copying.{copied_in, copy_in, these_are}
@@ -47,6 +47,7 @@ use Rattle.lmn_base.proofs.Lists.{weigh as total, get_below, get_there as get_so
 use Rattle.lmn_store_heap.proofs.Common.{is_atom_at, mem_stands as mem_in_place, same_port}
 use Rattle.lmn_store_heap.proofs.Replacing.{port_within}
 use Rattle.lmn_base.specs.Lists.{In}
+use Rattle.lmn_solid_bodies.proofs.Coding.{prepares_join}
 
 -- an element of a list is at most the sum of all
 in_total : (xs : List ℕ) (x : ℕ) → In x xs → x ≤ total (λ z. z) xs

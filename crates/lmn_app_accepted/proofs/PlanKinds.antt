@@ -103,10 +103,12 @@ module _ (top : Level) (guard : List Cond) where
         (in_all hs (all_back HasType (head_leaves h) (heads_leaves hs) k))
 
 mutual
-  membranes_named : (h : Head) → names_in (head_membranes h) ≡ flat_map leaf_name (head_leaves h)
+  -- the names of the typed contexts of a head, membrane by membrane
+  pub membranes_named : (h : Head) → names_in (head_membranes h) ≡ flat_map leaf_name (head_leaves h)
   membranes_named (head leaves hs cs rcs rs) = ap (λ ns. flat_map leaf_name leaves ++ ns) (all_named hs) ∙ sym (flat_map-append leaf_name leaves (heads_leaves hs))
 
-  all_named : (hs : Heads) → names_in (heads_membranes hs) ≡ flat_map leaf_name (heads_leaves hs)
+  -- and of several heads
+  pub all_named : (hs : Heads) → names_in (heads_membranes hs) ≡ flat_map leaf_name (heads_leaves hs)
   all_named no_head = refl
   all_named (head_and h hs) =
       flat_map-append (λ ls. flat_map leaf_name ls) (head_membranes h) (heads_membranes hs) ∙ (λ i. membranes_named h i ++ all_named hs i)

@@ -178,9 +178,11 @@ pub map_same : (f g : ℕ → ℕ) (xs : List ℕ) → ((x : ℕ) → In x xs �
 map_same f g [] e = refl
 map_same f g (x ∷ xs) e = let here = e x (inl refl) in let rest = map_same f g xs (λ y i. e y (inr i)) in λ t. here t ∷ rest t
 
+-- with no more links the count is there
 pub all_met : {n m : ℕ} → Numbers n [] m → n ≡ m
 all_met no_more = refl
 
+-- links numbered, and then others, are all numbered
 pub numbers_both : {n m k : ℕ} {xs ys : List ℕ} → Numbers n xs m → Numbers m ys k → Numbers n (xs ++ ys) k
 numbers_both no_more g = g
 numbers_both (known l h) g = known l (numbers_both h g)

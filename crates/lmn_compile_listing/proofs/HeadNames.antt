@@ -24,6 +24,7 @@ use Rattle.lmn_instr_code.specs.Labels.{HasLabel}
 use Rattle.lmn_instr_code.specs.Listings.{HasInstr}
 use Rattle.lmn_instr_code.specs.HeadCode.{items_code, atom_code, found_code, Entry, entry, differ_code, ports_code, port_code, joined_code, open_code, find_port, occurrences_before, is_entry, membrane_code, differ_membrane_code, parts_code, part_code, test_of, filled_code, all_filled_code, number_inside, parts_inside, head_code, operand, operator_instruction, comparison, named_code, value_code, equal_code, part_named, differ_parts_code, bind_register, guard_code}
 use Rattle.lmn_base.specs.Graphs.{Port}
+use Rattle.lmn_instr_code.proofs.ListingLemmas.{parts_named}
 
 module _ (names : List (List ℕ)) where
   -- the list has the names of these instructions
@@ -90,10 +91,6 @@ module _ (names : List (List ℕ)) where
   atoms_counted k n [] = (tt, (tt, tt))
   atoms_counted k n (g ∷ gs) = let h = atoms_counted k n gs in (tt, (tt, (tt, h.1.1)))
 
-  rest_closed : (k : ℕ) (gs : List ℕ) → HasInstr names (IsClosed k gs)
-  rest_closed k [] = (tt, tt)
-  rest_closed k (g ∷ gs) = let h = rest_closed k gs in (tt, (tt, h.1))
-
   filled_has : (items : List HeadItem) (k : ℕ) (b : HeadMembrane) → HasInstrs (filled_code items k b)
   filled_has items k b =
       let gs = parts_inside k 0 (typed_contexts_of items) in
@@ -103,7 +100,7 @@ module _ (names : List (List ℕ)) where
       both (if b.has_context then [] else is) ((if b.has_rule_context then [] else NoRules k ∷ []) ++ (if b.has_closed_context then closed else []))
       (unless_has b.has_context is (atoms_counted k many gs, ((tt, (tt, tt)), tt)))
       (both (if b.has_rule_context then [] else NoRules k ∷ []) (if b.has_closed_context then closed else [])
-      (unless_has b.has_rule_context (NoRules k ∷ []) ((tt, tt), tt)) (if_has b.has_closed_context closed (rest_closed k gs, tt)))
+      (unless_has b.has_rule_context (NoRules k ∷ []) ((tt, tt), tt)) (if_has b.has_closed_context closed (parts_named names k gs, tt)))
 
   all_filled_has : (items : List HeadItem) (k : ℕ) (bs : List HeadMembrane) → HasInstrs (all_filled_code items k bs)
   all_filled_has items k [] = tt

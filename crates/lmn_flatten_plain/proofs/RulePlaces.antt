@@ -1,5 +1,5 @@
 -- The rules of a plain stand by rising place.
-use Rattle.std.proofs.Common.{◌≡◌, ℕ, zero, suc, ◌+◌, ◌<◌, ◌≤◌, ◌==◌, ◌⊎◌, Bool, true, false, cond, if◌then◌else◌, List, [], ◌∷◌, ◌++◌, length, map, Some, AllPairs, refl, sym, ap, ◌∙◌, subst, inl, inr, arith}
+use Rattle.std.proofs.Common.{◌≡◌, ℕ, zero, suc, ◌+◌, ◌<◌, ◌≤◌, ◌==◌, ◌⊎◌, Bool, true, false, cond, if◌then◌else◌, List, [], ◌∷◌, ◌++◌, length, map, AllPairs, refl, sym, ap, ◌∙◌, subst, inl, inr, arith}
 use Rattle.std.specs.Prelude.{IsTrue, count_by}
 use Rattle.std.specs.List.{All}
 use Rattle.std.proofs.lemmas.Bool.Decides.{nat_tests}
@@ -25,6 +25,7 @@ use Rattle.lmn_flatten_plain.specs.Laws.{RulesByRisingPlace}
 use Rattle.lmn_flatten_plain.specs.Links.{Link, Use}
 use Rattle.lmn_flatten_plain.specs.Plains.{EachPair, IsRuleOf}
 use Rattle.lmn_flatten_plain.proofs.FewItems.{guard_on}
+use Rattle.std.proofs.lemmas.Option.{same_Some}
 
 -- ---- places
 
@@ -133,21 +134,17 @@ cut_rises {text = text} c =
     let P : List Token → Type 0 = λ us. Rise first_place us (place (text ++ 0 ∷ [])) in
     subst P (sym c.with_end) (rise_add (token_at End text []) (tokens_rise c.cut) (same refl) (place_before text (0 ∷ []) (omega arith)))
 
--- what two places of one token have in common
-one_place : {a b : Pos} → Some a ≡ Some b → a ≡ b
-one_place e = cc
-
 -- no token stands before the first place
 none_earlier : {p q a : Pos} {ts : List Token} (n : ℕ) → Rise p ts q → StandsAt ts n a → NoLater p a
 none_earlier n (none_rises h) s = absurd (cc)
-none_earlier {p = p} zero (one_rises a b h) s = subst (NoLater p) (one_place s) a
+none_earlier {p = p} zero (one_rises a b h) s = subst (NoLater p) (same_Some _ _ s) a
 none_earlier (suc n) (one_rises a b h) s = no_later_on a (before (before_so b (none_earlier n h s)))
 
 -- a token with a lower number stands before one with a higher
 in_turn : {p q a b : Pos} {ts : List Token} (m n : ℕ) → Rise p ts q → m < n → StandsAt ts m a → StandsAt ts n b → Before a b
 in_turn m n (none_rises h) l s t = absurd (cc)
 in_turn m zero (one_rises c d h) l s t = absurd (omega (arith, l))
-in_turn {b = b} zero (suc n) (one_rises c d h) l s t = subst (λ k. Before k b) (one_place s) (before_so d (none_earlier n h t))
+in_turn {b = b} zero (suc n) (one_rises c d h) l s t = subst (λ k. Before k b) (same_Some _ _ s) (before_so d (none_earlier n h t))
 in_turn (suc m) (suc n) (one_rises c d h) l s t = in_turn m n h (omega (arith, l)) s t
 
 -- ---- rules at tokens

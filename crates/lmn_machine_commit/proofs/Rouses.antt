@@ -1,11 +1,10 @@
 -- What instructions rouse.
 use Rattle.std.proofs.Common.{ℕ, zero, suc, ◌≡◌, ◌<◌, ◌≤◌, ◌+◌, ◌⊎◌, inl, inr, List, [], ◌∷◌, ◌++◌, Option, Some, None, IsSome, refl, sym, ap, subst, ◌∙◌, length, arith}
-use Rattle.std.specs.Prelude.{slice_get, take, slice_index_or}
-use Rattle.std.specs.Option.{option_and_then}
+use Rattle.std.specs.Prelude.{slice_get, take}
 use Rattle.std.proofs.lemmas.Bool.{cases_eq}
 use Rattle.lmn_base.specs.Graphs.{Port}
 use Rattle.lmn_base.specs.declared.functor.Functor.{Functor}
-use Rattle.lmn_store_heap.specs.Heap.{Heap, HeapAtom, IsAtom, home_by, home_of, link_of, functor_of, arity_of, partners_of}
+use Rattle.lmn_store_heap.specs.Heap.{Heap, HeapAtom, IsAtom, home_of, link_of, functor_of, arity_of, partners_of}
 use Rattle.lmn_store_heap.specs.Sound.{Sound}
 use Rattle.lmn_store_heap.proofs.Replacing.{port_within}
 use Rattle.lmn_instr_code.specs.declared.instr.Instr.{Instr}
@@ -13,7 +12,7 @@ use Rattle.lmn_instr_code.specs.declared.instr.Instr.TheVariants.{RemoveAtom, Re
 use Rattle.lmn_instr_pool.specs.Extents.{NoneFrom, Removes}
 use Rattle.lmn_solid_bodies.specs.Running.{Registers}
 use Rattle.lmn_machine_registers.specs.declared.registers.SetRegisters.{SetRegisters}
-use Rattle.lmn_schedule_sleep.proofs.Marks.{ReadAlike, read_alike}
+use Rattle.lmn_schedule_sleep.proofs.Marks.{ReadAlike, read_alike, homes, links}
 use Rattle.lmn_machine_commit.specs.Registers.{AgreesWithCopies, AreHeld}
 use Rattle.lmn_machine_commit.specs.Waking.{WakesAbove, Is, IsHome, IsPartnerHome, IsHomeBeside, Rouses, SomeRouses, IsRoused}
 use Rattle.lmn_machine_commit.proofs.Rousing.{wakes_as, wakes_on, wakes_none}
@@ -38,12 +37,6 @@ pub no_partner : (h : Heap) (a i : ℕ) → link_of h a i ≡ None → WakesAbov
 no_partner h a i e = wakes_none (IsPartnerHome h a i) h (λ y q. absurd (let z : ◌≡◌ {A = Option Port} (Some q.0) None = sym q.1 ∙ e in cc))
 
 module _ (h k : Heap) (same : ReadAlike h k) where
-  home_alike : (a : ℕ) → home_of k a ≡ home_of h a
-  home_alike a = ap (λ (o : Option HeapAtom). option_and_then (λ x. home_by x.place) o) (same.atoms a)
-
-  link_alike : (a i : ℕ) → link_of k a i ≡ link_of h a i
-  link_alike a i = ap (λ (o : Option HeapAtom). slice_index_or (partners_of o) i None) (same.atoms a)
-
   pub arity_alike : (a : ℕ) → arity_of k a ≡ arity_of h a
   arity_alike a = ap (λ (o : Option HeapAtom). length (partners_of o)) (same.atoms a)
 
@@ -51,16 +44,16 @@ module _ (h k : Heap) (same : ReadAlike h k) where
   atom_alike a i = subst (λ (o : Option HeapAtom). IsSome o) (sym (same.atoms a)) i
 
   home_back : (a y : ℕ) → IsHome k a y → IsHome h a y
-  home_back a y q = sym (home_alike a) ∙ q
+  home_back a y q = sym (homes h k same a) ∙ q
 
   home_forth : (a y : ℕ) → IsHome h a y → IsHome k a y
-  home_forth a y q = home_alike a ∙ q
+  home_forth a y q = homes h k same a ∙ q
 
   partner_back : (a i y : ℕ) → IsPartnerHome k a i y → IsPartnerHome h a i y
-  partner_back a i y q = (q.0, sym (link_alike a i) ∙ q.1, home_back q.0.0 y q.2)
+  partner_back a i y q = (q.0, sym (links h k same a i) ∙ q.1, home_back q.0.0 y q.2)
 
   partner_forth : (a i y : ℕ) → IsPartnerHome h a i y → IsPartnerHome k a i y
-  partner_forth a i y q = (q.0, link_alike a i ∙ q.1, home_forth q.0.0 y q.2)
+  partner_forth a i y q = (q.0, links h k same a i ∙ q.1, home_forth q.0.0 y q.2)
 
   rouses_back : (r : Registers) (i : Instr) (y : ℕ) → Rouses k r i y → Rouses h r i y
   rouses_back r (RemoveAtom a) y (inl q) = inl (home_back (r.head.images.atom a) y q)

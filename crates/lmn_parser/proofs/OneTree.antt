@@ -16,14 +16,12 @@ use Rattle.lmn_parser.proofs.OneGuard.{one_guard, no_bar}
 use Rattle.lmn_parser.proofs.TreeTokens.{apart, Follow, follows, no_follow, weaken, after_term, after_terms, terms_term, other_sorts, after_item, after_list, item_term, list_item, clause_list, end_clause, sort, term_sort, item_sort, term_at, item_at, same_sort, no_terms as no_terms_at, no_list_at, list_no_follow, no_clause as no_clause_at, list_label, no_label_rule}
 use Rattle.lmn_parser.proofs.TreeWords.{opt_list_words, guard_words}
 use Rattle.lmn_base.proofs.Truth.{false_not_true as clash}
+use Rattle.std.proofs.lemmas.Option.{same_Some}
 
 -- ---- what stands at a place
 
-some_place : (a b : Pos) → Some a ≡ Some b → a ≡ b
-some_place a b h = cc
-
 one_place : (ts : List Token) (s : ℕ) (a b : Pos) → StandsAt ts s a → StandsAt ts s b → a ≡ b
-one_place ts s a b h g = some_place a b (sym h ∙ g)
+one_place ts s a b h g = same_Some a b (sym h ∙ g)
 
 -- ---- equal parts make equal trees
 

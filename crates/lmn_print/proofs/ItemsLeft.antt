@@ -19,7 +19,7 @@ use Rattle.lmn_print_plain.specs.Numbers.{Remarks, GoOn}
 use Rattle.lmn_print_plain.proofs.HeapSolids.{heaps_have_solids}
 use Rattle.lmn_print_plain.proofs.MarkLemmas.{arity_same, link_same}
 use Rattle.lmn_print_plain.proofs.NumberLemmas.{mark_high, go_none, go_more, go_as}
-use Rattle.lmn_print_plain.proofs.SolidLinks.{numbers_below, numbers_end}
+use Rattle.lmn_print_plain.proofs.SolidLinks.{numbers_below}
 use Rattle.lmn_print.specs.Printed.{PrintsForest, IsNumberedBy}
 use Rattle.lmn_print.specs.Walked.{printed_items, ItemsWalked, none, more, IsPrinted}
 use Rattle.lmn_print.proofs.FewItemTurns.{few_item_turns}
@@ -27,6 +27,7 @@ use Rattle.lmn_print.proofs.FirstNumbers.{first_numbers, renamed_naming}
 use Rattle.lmn_print.proofs.ItemsOnce.{printed_items_once, items_atoms}
 use Rattle.lmn_print.proofs.RenamedForests.{forest_renamed, forest_told, items_same}
 use Rattle.lmn_print.proofs.WalkedLinks.{met_append, forest_walked}
+use Rattle.lmn_base.proofs.Common.{all_met}
 
 turns_append : (es fs : List Event) → turns (es ++ fs) ≡ turns es + turns fs
 turns_append [] fs = omega arith
@@ -186,7 +187,7 @@ all_numbered s t valid unmarked r n names table name naming f go given printed =
     let w = forest_walked names s other table valid.sound.paired f (renamed_membranes first.to given) renamed in
     let numbers : Numbers 0 (links_met w.0 other ++ []) first.count = subst (λ xs. Numbers 0 xs first.count) (sym w.2 ∙ sym (append-nil (links_met w.0 other))) first.numbers in
     let told = go w.0 w.1 other (renamed_naming s name first.to first.apart naming) [] first.count numbers (λ a i l. unmarked a i l ∙ sym (mark_high 0 (other a i) (omega arith))) in
-    let count : n ≡ first.count = numbers_end n first.count told.0 in
+    let count : n ≡ first.count = all_met told.0 in
     record {
       to = first.to;
       one_to_one = λ x y a b e. first.apart x y e;

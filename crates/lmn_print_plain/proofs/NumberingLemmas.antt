@@ -17,8 +17,9 @@ use Rattle.lmn_print_plain.proofs.MarkLemmas.{arity_same, home_same, printed_sam
 use Rattle.lmn_print_plain.proofs.NumberLemmas.{mark_low, mark_high, go_none, go_more, go_as}
 use Rattle.lmn_print_plain.proofs.OrderLemmas.{printed_all, printed_few, tree_there}
 use Rattle.lmn_print_plain.proofs.StoredLemmas.{atoms_fewer}
-use Rattle.lmn_print_plain.proofs.SolidLinks.{links_append, solid_links, in_links, numbers_below, numbers_end}
+use Rattle.lmn_print_plain.proofs.SolidLinks.{links_append, solid_links, in_links, numbers_below}
 use Rattle.lmn_store_heap.proofs.Common.{is_atom_at as port_there}
+use Rattle.lmn_base.proofs.Common.{all_met}
 
 -- what comes behind an atom in printed order came there before
 pub behind_before : (s t : Heap) → Remarks s t → (f : Forest) (a : ℕ) (next : Option ℕ) → from next (printed_atoms t (flat f)) ≡ after a (printed_atoms t (flat f))
@@ -80,7 +81,7 @@ numbering_last s t valid r n all unmarked x of = λ a i l.
     let whole = printed_atoms s (flat of.forest) in
     let there = in_links s valid.sound of.name whole a i (printed_all s valid of.forest of.tree a (port_there s a i low)) low in
     let below : of.name a i < of.count = numbers_below 0 of.count (links_on s whole of.name) (of.name a i) (subst (λ ls. Numbers 0 ls of.count) links of.numbers) there in
-    ended.1 a i l ∙ mark_low n (of.name a i) (subst (λ k. of.name a i < k) (sym (numbers_end n of.count ended.0)) below)
+    ended.1 a i l ∙ mark_low n (of.name a i) (subst (λ k. of.name a i < k) (sym (all_met ended.0)) below)
   where
     links : solids.links_of_region x.root ≡ links_on s (printed_atoms s (flat of.forest)) of.name
     links = solid_links s valid.sound of.name of.forest x.root of.root

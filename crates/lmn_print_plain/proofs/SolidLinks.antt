@@ -3,7 +3,7 @@ use Rattle.std.proofs.Common.{◌≡◌, ℕ, zero, suc, ◌+◌, ◌<◌, inl, 
 use Rattle.std.specs.Prelude.{flat_map}
 use Rattle.std.specs.Option.{option_map}
 use Rattle.std.proofs.lemmas.List.{append_assoc, append-nil}
-use Rattle.lmn_base.specs.Links.{Numbers, no_more, known, new}
+use Rattle.lmn_base.specs.Links.{Numbers, known, new}
 use Rattle.lmn_base.specs.Solids as solids
 use Rattle.lmn_base.specs.declared.functor.Functor.{Functor}
 use Rattle.lmn_base.specs.declared.solid.Region.{Region}
@@ -99,7 +99,3 @@ numbers_below n m (y ∷ xs) x (known l k) (inl e) = let g = numbers_grow k in o
 numbers_below n m (y ∷ xs) x (known l k) (inr i) = numbers_below n m xs x k i
 numbers_below n m (y ∷ xs) x (new k) (inl e) = let g = numbers_grow k in omega (arith, g, e)
 numbers_below n m (y ∷ xs) x (new k) (inr i) = numbers_below (suc n) m xs x k i
-
--- with no more links, the count is there
-pub numbers_end : (n m : ℕ) → Numbers n [] m → n ≡ m
-numbers_end n m no_more = refl

@@ -99,11 +99,12 @@ same_atoms : (s t : Heap) (name : ℕ → ℕ → ℕ) (xs : List ℕ) → ((a :
 same_atoms s t name [] h = refl
 same_atoms s t name (a ∷ xs) h = both (same_atom name a (s.atoms a) (t.atoms a) (h a)) (same_atoms s t name xs h)
 
-all_pairs : (n : ℕ) (es : List (ℕ × ℕ)) → ((z : ℕ) → IsOneOf z (both_links es) → z < n) → PairsBelow n es
+-- the links of pairs are below the bound
+pub all_pairs : (n : ℕ) (es : List (ℕ × ℕ)) → ((z : ℕ) → IsOneOf z (both_links es) → z < n) → PairsBelow n es
 all_pairs n [] h = tt
 all_pairs n (e ∷ es) h = (h e.0 (inl refl), h e.1 (inr (inl refl)), all_pairs n es (λ z i. h z (inr (inr i))))
 
--- the links of ports are below the bound
+-- and those of ports
 pub all_ports : {P : Type 0} (n : ℕ) (ps : List (P × ℕ)) → ((z : ℕ) → IsOneOf z (map (λ e. e.1) ps) → z < n) → LinksBelow n ps
 all_ports {P} n [] h = tt
 all_ports {P} n (e ∷ ps) h = (h e.1 (inl refl), all_ports n ps (λ z i. h z (inr i)))

@@ -81,10 +81,12 @@ module _ (h t : Heap) (same : ReadAlike h t) where
   functors : (a : ℕ) → functor_of t a ≡ functor_of h a
   functors a = ap (λ (o : Option HeapAtom). option_map (λ x. x.functor) o) (same.atoms a)
 
-  links : (a i : ℕ) → link_of t a i ≡ link_of h a i
+  -- heaps that are read alike have the same links
+  pub links : (a i : ℕ) → link_of t a i ≡ link_of h a i
   links a i = ap (λ (o : Option HeapAtom). slice_index_or (partners_of o) i None) (same.atoms a)
 
-  homes : (a : ℕ) → home_of t a ≡ home_of h a
+  -- and their atoms the same homes
+  pub homes : (a : ℕ) → home_of t a ≡ home_of h a
   homes a = ap (λ (o : Option HeapAtom). option_and_then (λ x. home_by x.place) o) (same.atoms a)
 
   maps : atom_map t ≡ atom_map h

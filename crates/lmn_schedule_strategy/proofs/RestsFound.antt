@@ -92,7 +92,7 @@ module _ (h : Heap) (valid : Valid h) (head : List HeadItem) (m : ℕ) (r : Regi
   at k = r.head.images.membrane k
 
   -- the atoms of the parts
-  in_parts : (ps : List ℕ) × ((a : ℕ) → In a ps ↔ ((k : ℕ) × (k < length (typed_contexts_of head)) × Reached (atom_map h) (r.head.images.part k) a))
+  pub in_parts : (ps : List ℕ) × ((a : ℕ) → In a ps ↔ ((k : ℕ) × (k < length (typed_contexts_of head)) × Reached (atom_map h) (r.head.images.part k) a))
   in_parts = all_of_parts h valid (length (typed_contexts_of head)) r.head.images.part (λ k l. let t = there (typed_contexts_of head) k l in (at t.0.inside, (lies.parts k t.0 t.1).whole))
 
   -- the atoms that are taken

@@ -30,6 +30,11 @@ pub prepares_append : (r : Registers) (xs ys : List Instr) (s u : Heap) → Prep
 prepares_append r [] ys s u w = (s, refl, w)
 prepares_append r (x ∷ xs) ys s u w = let v = prepares_append r xs ys w.0 u w.2 in (v.0, (w.0, w.1, v.1), v.2)
 
+-- what one part of code makes, and then the other, all of it makes
+pub prepares_join : (r : Registers) (xs ys : List Instr) (s t u : Heap) → Prepares r xs s t → Prepares r ys t u → Prepares r (xs ++ ys) s u
+prepares_join r [] ys s t u p q = subst (λ z. Prepares r ys z u) p q
+prepares_join r (i ∷ xs) ys s t u p q = (p.0, p.1, prepares_join r xs ys p.0 t u p.2 q)
+
 -- Removals
 
 -- instructions that remove atoms take them from the heap, one by one

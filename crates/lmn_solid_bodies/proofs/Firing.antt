@@ -248,7 +248,7 @@ some_typed (u ∷ ts) (suc g) t e = let r = some_typed ts g t e in by (cond (u.l
     by a n h = omega arith
 
 -- the ports of the heap at which links stand once are named once
-olds_once : (r : Registers) (N : ℕ) (once : (x y : ℕ) → x < N → y < N → r.head.images.atom x ≡ r.head.images.atom y → x ≡ y) (xs : List ℕ) (os : List Occurrence)
+pub olds_once : (r : Registers) (N : ℕ) (once : (x y : ℕ) → x < N → y < N → r.head.images.atom x ≡ r.head.images.atom y → x ≡ y) (xs : List ℕ) (os : List Occurrence)
     → splice.NoneTwice (map (λ (o : Occurrence). o.port) os) → ((o : Occurrence) → IsOneOf o os → o.port.0 < N) → splice.NoneTwice (ports (at_heap (old_port r) (once_in xs os)))
 olds_once r N once xs [] d below = tt
 olds_once r N once xs (o ∷ os) d below = by (times o.link xs == 1) (olds_once r N once xs os d.1 (λ q i. below q (inr i)))

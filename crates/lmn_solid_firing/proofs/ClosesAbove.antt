@@ -1,64 +1,30 @@
 -- Where an accepted rule embeds, each link of its raw process has two places, where the copies have links from any number on that is
 -- above the links of the region and of what stands beside it.
-use Rattle.std.proofs.Common.{ℕ, List, refl, sym, subst, inl, inr, arith, ◌≡◌, ◌+◌, ◌≤◌, ◌<◌, ◌⊎◌, [], ◌∙◌}
+use Rattle.std.proofs.Common.{ℕ, List, sym, subst, inl, inr, arith, ◌≡◌, ◌+◌, ◌≤◌, ◌<◌, ◌⊎◌, [], ◌∙◌}
 use Rattle.lmn_congruence.specs.LinkedRules.{level_occurrences}
 use Rattle.lmn_congruence.specs.Process.{Closed, Linked, Process, nothing, occurrences, pair, renamed, together}
 use Rattle.lmn_congruence.specs.Regions.{Region, region_process}
-use Rattle.lmn_congruence.specs.Rules.{Leaf, Level, Levels, Rule, body_of, guard_of, head_of, level, no_rule, rules_list}
+use Rattle.lmn_congruence.specs.Rules.{Leaf, Levels, Rule, body_of, guard_of, head_of, level, no_rule}
 use Rattle.lmn_congruence.specs.UpToOrder.{Reordered, r_beside, r_chain, r_regroup, r_swap, r_unit}
 use Rattle.lmn_reduction.specs.Assignments.{Assignment}
 use Rattle.lmn_reduction.specs.Firing.{typed_contexts}
 use Rattle.lmn_reduction.specs.Guards.{GuardHolds}
-use Rattle.lmn_reduction.specs.Instances.{LeafInstances, leaf_and, no_leaf, of_atom, of_connector, of_typed}
-use Rattle.lmn_congruence.proofs.Counts.{linked_inside, linked_left, linked_right}
 use Rattle.lmn_congruence.proofs.LinkMaps.{closed_linked}
 use Rattle.lmn_congruence.proofs.Renaming.{occurrences_image, occurrences_none}
 use Rattle.lmn_congruence.proofs.Reordered.{r_right, reordered_count}
-use Rattle.lmn_adequacy.specs.Accepted.{Accepted, all_contexts, contexts_in, open_names}
+use Rattle.lmn_adequacy.specs.Accepted.{Accepted, all_contexts, open_names}
 use Rattle.lmn_adequacy.specs.Loose.{Plain}
 use Rattle.lmn_adequacy.proofs.Accepting.{accepted_head}
-use Rattle.lmn_adequacy.proofs.Bodies.{Copied, context_places, context_places_shuffle, open_places_append, odd_contexts, odd_not_even, LevelMade}
-use Rattle.lmn_adequacy.proofs.Embedding.{EvenMore}
-use Rattle.lmn_adequacy.proofs.Heads.{HeadLeaves, HeadLevel, HeadLevels}
-use Rattle.lmn_adequacy.proofs.Images.{image_at_least, no_link_rule_contexts}
-use Rattle.lmn_adequacy.proofs.LiteralHeads.{HeadInstance, HeadInstances, head_and, head_instance, no_head}
+use Rattle.lmn_adequacy.proofs.Bodies.{Copied, context_places, context_places_shuffle, LevelMade}
+use Rattle.lmn_adequacy.proofs.Heads.{HeadLevel}
+use Rattle.lmn_adequacy.proofs.Images.{image_at_least}
+use Rattle.lmn_adequacy.proofs.LiteralHeads.{HeadInstance, head_instance}
 use Rattle.lmn_adequacy.proofs.RawProcesses.{head_wires, made}
 use Rattle.lmn_adequacy.proofs.Skeleton.{LevelSkeleton, Parity, even, odd, parity, place}
-use Rattle.lmn_adequacy.proofs.Wires.{IsEven, at_most_two, even_less, even_zero_or_two, places_enough, same_parity, wires_exact, zero_or_two_even}
+use Rattle.lmn_adequacy.proofs.Wires.{at_most_two, even_less, even_zero_or_two, places_enough, same_parity, wires_exact, zero_or_two_even}
 use Rattle.lmn_congruence_splice.specs.Splice.{of_rule, of_solid}
-use Rattle.lmn_congruence.proofs.TranslatedLinks.{no_link_in_rules as no_link_rules}
 use Rattle.lmn_congruence_splice.proofs.Fusions.{apart_rule as even_not_odd, solid_once as odd_differs}
-use Rattle.lmn_adequacy.proofs.Closing.{even_closed, odd_copy}
-
--- ---- the links of the region in an instance of the head
-
-module _ (t : Assignment) (p : Plain t) where
-  odd_leaves : (L : ℕ) {ls : List Leaf} {Ps : List Process} → LeafInstances (made t) ls Ps → HeadLeaves t ls → Linked (together Ps) → IsEven (occurrences (of_solid L) (together Ps))
-  odd_leaves L no_leaf a l = (0, refl)
-  odd_leaves L (leaf_and (of_atom {xs = ys}) j) a l = let i = odd_leaves L j a (linked_right l) in (i.0, omega (arith, odd_not_even t p L ys, i.1))
-  odd_leaves L (leaf_and of_connector j) a l = absurd a
-  odd_leaves L (leaf_and (of_typed {p = q} {x = y} {P = P} c) j) a l =
-      let i = odd_leaves L j a.1 (linked_right l) in
-      let k = odd_copy (t.typed_of q) y L P a.0 c (linked_left l) in
-      (k.0 + i.0, omega (arith, k.1, i.1))
-
-  mutual
-    odd_level : (L : ℕ) {l : Level} {C : Process} → HeadInstance (made t) l C → HeadLevel t l → Linked C → EvenMore (occurrences (of_solid L) C) (context_places t p L (open_names (all_contexts l)))
-    odd_level L (head_instance {membranes = membranes} {contexts = ps} {rule_contexts = qs} {rules = rs} i j) a l =
-        let m = odd_leaves L i a.0 (linked_left l) in
-        let n = odd_levels L j a.1 (linked_left (linked_right l)) in
-        let k = odd_contexts t p L ps in
-        record {
-          half = m.0 + n.half + k.half;
-          is = omega (arith, m.1, n.is, k.is, open_places_append t p L ps (contexts_in membranes), no_link_rule_contexts (made t) (of_solid L) qs, no_link_rules (of_solid L) (rules_list rs));
-        }
-
-    odd_levels : (L : ℕ) {ls : Levels} {Qs : List Process} → HeadInstances (made t) ls Qs → HeadLevels t ls → Linked (together Qs) → EvenMore (occurrences (of_solid L) (together Qs)) (context_places t p L (open_names (contexts_in ls)))
-    odd_levels L no_head a l = record { half = 0; is = refl }
-    odd_levels L (head_and {l = k} {ls = ks} i j) a l =
-        let m = odd_level L i a.0 (linked_inside (linked_left l)) in
-        let n = odd_levels L j a.1 (linked_right l) in
-        record { half = m.half + n.half; is = omega (arith, m.is, n.is, open_places_append t p L (all_contexts k) (contexts_in ks)) }
+use Rattle.lmn_adequacy.proofs.Closing.{even_closed, odd_level}
 
 -- ---- the raw process
 

@@ -78,9 +78,10 @@ use Rattle.lmn_solid_firing.specs.Matched.{IsMatched, IsPartOfName, names_of}
 use Rattle.lmn_solid_next.specs.Choosing.{LiesLeast}
 use Rattle.lmn_solid_next.specs.Firing.{HasMatch, MatchesAreOfEmbeddings, TellsIntegers}
 use Rattle.lmn_solid_next.proofs.BoundValues.{body_name_is_bound, integer_bound}
-use Rattle.lmn_solid_next.proofs.Rests.{in_parts, in_taken, of_taken}
+use Rattle.lmn_solid_next.proofs.Rests.{in_taken, of_taken}
 use Rattle.lmn_adequacy_turns.proofs.TurnsNext.{same_region}
 use Rattle.lmn_adequacy_choices.proofs.Common.{never_there}
+use Rattle.lmn_schedule_strategy.proofs.RestsFound.{in_parts}
 
 -- ---- lists
 

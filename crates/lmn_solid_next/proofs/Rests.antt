@@ -23,7 +23,7 @@ use Rattle.lmn_solid_bodies.proofs.Dropping.{not_in, out_of}
 use Rattle.lmn_solid_bodies.proofs.Firing.{heap_in_of, of_heap_in, rising_below}
 use Rattle.lmn_solid_bodies.proofs.HeadPorts.{in_map, of_map}
 use Rattle.lmn_machine_commit.proofs.RestOf.{rest_of}
-use Rattle.lmn_schedule_strategy.proofs.RestsFound.{IsLeftBy, all_of_parts}
+use Rattle.lmn_schedule_strategy.proofs.RestsFound.{IsLeftBy, in_parts}
 
 -- The atoms that a head takes are its images and those of its parts.
 module _ (h : Heap) (head : List HeadItem) (r : Registers) (ps : List ℕ) (are : (a : ℕ) → In a ps ↔ ((k : ℕ) × (k < length (typed_contexts_of head)) × Reached (atom_map h) (r.head.images.part k) a)) where
@@ -40,21 +40,18 @@ module _ (h : Heap) (head : List HeadItem) (r : Registers) (ps : List ℕ) (are 
   in_taken a (inr w) = in_right a (images_of r head) ps ((are a).1 (w.0, get_below (typed_contexts_of head) w.0 w.1 w.2, w.3))
 
 module _ (h : Heap) (valid : Valid h) (head : List HeadItem) (m : ℕ) (r : Registers) (lies : Lies h head m r.head.images) where
-  -- the atoms of the parts
-  pub in_parts : (ps : List ℕ) × ((a : ℕ) → In a ps ↔ ((k : ℕ) × (k < length (typed_contexts_of head)) × Reached (atom_map h) (r.head.images.part k) a))
-  in_parts = all_of_parts h valid (length (typed_contexts_of head)) r.head.images.part (λ k l. let t = there (typed_contexts_of head) k l in (r.head.images.membrane t.0.inside, (lies.parts k t.0 t.1).whole))
-
   -- the atoms that are taken
   abbrev taken : List ℕ
-  taken = images_of r head ++ in_parts.0
+  taken = images_of r head ++ (in_parts h valid head m r lies).0
 
   -- there is a rest of each membrane of the head
   some_left : (k : ℕ) (b : HeadMembrane) → HasMembrane head k b → (l : List ℕ × List ℕ) × IsLeftBy h head r k l.0 l.1
   some_left k b has =
+      let parts = in_parts h valid head m r lies in
       let left : ℕ → Bool = λ a. not (is_in taken a) in
       let at = r.head.images.membrane in
       let w = rest_of h valid (at k) (mem_of_place h (at k) (within (at b.inside)) ((valid.sound.listed.mems (at b.inside) (at k)).0 (lies.membranes_placed k b has))) left (λ x. not (is_in (membrane_images r head) x)) in
-      ((w.0, w.1), (left, (λ a i. ((λ e t. not_in taken a e (in_taken h head r in_parts.0 in_parts.1 a t)), (λ o. out_of taken a (λ j. o (of_taken h head r in_parts.0 in_parts.1 a j))))), w.2))
+      ((w.0, w.1), (left, (λ a i. ((λ e t. not_in taken a e (in_taken h head r parts.0 parts.1 a t)), (λ o. out_of taken a (λ j. o (of_taken h head r parts.0 parts.1 a j))))), w.2))
 
   -- chosen for each number
   pub all_left : (j : ℕ) → (l : List ℕ × List ℕ) × ((c : HeadMembrane) → HasMembrane head j c → IsLeftBy h head r j l.0 l.1)

@@ -27,7 +27,6 @@ use Rattle.lmn_base.specs.declared.solid.Region.{Region}
 use Rattle.lmn_base.specs.declared.solid.Region.TheViews.{roll-Region}
 use Rattle.lmn_base.specs.declared.solid.Solid.{Solid}
 use Rattle.lmn_base.specs.declared.solid.SolidAtom.{SolidAtom}
-use Rattle.lmn_congruence_classes.specs.Tables.{PairsBelow}
 use Rattle.lmn_congruence.proofs.SolidsOfPlains.{twice_mapped}
 use Rattle.lmn_congruence.proofs.TranslatedLinks.{counted, places_append}
 use Rattle.lmn_congruence.specs.Links.{places}
@@ -43,6 +42,7 @@ use Rattle.lmn_solid_settle.proofs.LaidParts.{laid_in_size}
 use Rattle.lmn_solid_settle.proofs.SettledLinks.{atoms_settled, links_settled}
 use Rattle.lmn_congruence_splice.proofs.Common.{in_back, in_front}
 use Rattle.lmn_congruence_splice.specs.Splice.{IsOneOf, both_links}
+use Rattle.lmn_schedule_loading.proofs.Whole.{all_pairs}
 
 -- the membrane of a level by itself, and behind it those of some of its membranes
 abbrev pub laid_so_far : (around n : ℕ) → Level-F Level → List Level → List RawMembrane
@@ -170,10 +170,6 @@ all_below : (n : ℕ) (xs : List ℕ) → ((z : ℕ) → IsOneOf z xs → z < n)
 all_below n [] h = All-nil (λ x. x < n)
 all_below n (x ∷ xs) h = All-cons (λ x. x < n) x xs (h x (inl refl)) (all_below n xs (λ z i. h z (inr i)))
 
-pairs_below : (n : ℕ) (es : List (ℕ × ℕ)) → ((z : ℕ) → IsOneOf z (both_links es) → z < n) → PairsBelow n es
-pairs_below n [] h = tt
-pairs_below n (e ∷ es) h = (h e.0 (inl refl), h e.1 (inr (inl refl)), pairs_below n es (λ z i. h z (inr (inr i))))
-
 module _ (p : Plain) (made : IsWellMade p) (closed : EachTwice (links_of p.top)) where
   abbrev ls : List Leaf
   ls = leaves_of p.top
@@ -205,7 +201,7 @@ module _ (p : Plain) (made : IsWellMade p) (closed : EachTwice (links_of p.top))
     no_connector = subst (All (λ a. a.functor ≢ connector)) (sym (has_atoms p.top)) (all_bare FitsArity (λ a. a.functor ≢ connector) (λ f os p h e. no_connector f e) ls made.arities);
     twice = λ z. subst (λ k. (k ≡ 0) ⊎ (k ≡ 2)) (counted z (links_of p.top) ∙ sym (often z)) (closed z);
     links_below = all_below n (raw_links r) (λ z i. subst (λ k. z < k) (sym is) (below z (in_back z (both_links es) (raw_links r) i)));
-    pairs_below = pairs_below n es (λ z i. subst (λ k. z < k) (sym is) (below z (in_front z (both_links es) (raw_links r) i)));
+    pairs_below = all_pairs n es (λ z i. subst (λ k. z < k) (sym is) (below z (in_front z (both_links es) (raw_links r) i)));
   }
 
 -- ---- and what is settled is the solid

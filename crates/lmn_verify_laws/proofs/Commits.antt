@@ -9,7 +9,7 @@ use Rattle.lmn_solid_heads.specs.Embeddings.{Lies}
 use Rattle.lmn_solid_bodies.specs.Code.{body_code, drops as body_drops}
 use Rattle.lmn_solid_bodies.specs.Running.{Registers, DoesAll, Prepares}
 use Rattle.lmn_solid_bodies.specs.Within.{HoldsRests}
-use Rattle.lmn_solid_bodies.proofs.Coding.{commits_append, prepares_append}
+use Rattle.lmn_solid_bodies.proofs.Coding.{commits_append, prepares_append, prepares_join}
 use Rattle.lmn_machine_commit.specs.Committing.{Runs}
 use Rattle.lmn_machine_commit.specs.Matched.{BodiesCanBeCommitted, CanBeCommitted}
 use Rattle.lmn_machine_commit.specs.Preparing.{needed, needed_by}
@@ -39,10 +39,6 @@ module _ (r : Registers) where
   does_join : (xs ys : List Instr) (s t u : Heap) → DoesAll r xs s t → DoesAll r ys t u → DoesAll r (xs ++ ys) s u
   does_join [] ys s t u d e = subst (λ z. DoesAll r ys z u) d e
   does_join (x ∷ xs) ys s t u d e = (d.0, d.1, does_join xs ys d.0 t u d.2 e)
-
-  prepares_join : (xs ys : List Instr) (s t u : Heap) → Prepares r xs s t → Prepares r ys t u → Prepares r (xs ++ ys) s u
-  prepares_join [] ys s t u d e = subst (λ z. Prepares r ys z u) d e
-  prepares_join (x ∷ xs) ys s t u d e = (d.0, d.1, prepares_join xs ys d.0 t u d.2 e)
 
   -- ---- what makes nothing
 

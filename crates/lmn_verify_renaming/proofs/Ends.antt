@@ -1,5 +1,5 @@
 -- The ports at which the links of a firing end: those of atoms that stay, new ones, and old ones that the head leaves.
-use Rattle.std.proofs.Common.{ℕ, ◌+◌, ◌<◌, ◌≤◌, ◌≡◌, ◌≢◌, ◌⊎◌, ◌==◌, Bool, true, false, cond, List, [], ◌∷◌, ◌++◌, map, length, Option, Some, refl, sym, ap, subst, ◌∙◌, inl, inr, arith}
+use Rattle.std.proofs.Common.{ℕ, ◌+◌, ◌<◌, ◌≤◌, ◌≡◌, ◌≢◌, ◌⊎◌, ◌==◌, true, false, List, [], ◌∷◌, ◌++◌, map, length, Option, Some, refl, sym, ap, subst, ◌∙◌, inl, inr, arith}
 use Rattle.std.proofs.lemmas.Bool.{cases_eq, cases_lt, eq-eqb, eqb-true}
 use Rattle.std.specs.Prelude.{slice_get}
 use Rattle.lmn_base.specs.Graphs.{Reached, at_root, across, Port}
@@ -28,7 +28,7 @@ use Rattle.lmn_instr_code.specs.declared.instr.NewPort.{NewPort}
 use Rattle.lmn_solid_bodies.specs.declared.items.BodyItem.{BodyItem}
 use Rattle.lmn_solid_bodies.specs.declared.items.BodyItem.TheVariants.{Atom, Connector, Copy, Bound, Membrane, Rest, Rule, Rules}
 use Rattle.lmn_solid_bodies.specs.Fired.{images_of}
-use Rattle.lmn_solid_bodies.specs.Items.{port_at, new_ports_from, new_ports, old_ports, once_in, connectors, body_links}
+use Rattle.lmn_solid_bodies.specs.Items.{port_at, new_ports_from, new_ports, old_ports, connectors, body_links}
 use Rattle.lmn_solid_bodies.specs.Made.{new_atoms, copies_of}
 use Rattle.lmn_solid_bodies.specs.Names.{StandsPort}
 use Rattle.lmn_solid_bodies.specs.RestCopies.{RestCopies, later}
@@ -39,7 +39,7 @@ use Rattle.lmn_solid_bodies.specs.Within.{dropped_atoms}
 use Rattle.lmn_solid_bodies.proofs.BodyPorts.{body_count, heap_append, heap_in, of_heap, once_count}
 use Rattle.lmn_solid_bodies.proofs.Coding.{at_heap}
 use Rattle.lmn_solid_bodies.proofs.Finishing.{in_place_listed}
-use Rattle.lmn_solid_bodies.proofs.Firing.{RestsHold, heap_in_of, of_heap_in, rising_below, typed_some, some_typed, stands_times}
+use Rattle.lmn_solid_bodies.proofs.Firing.{RestsHold, heap_in_of, of_heap_in, rising_below, typed_some, some_typed, stands_times, olds_once}
 use Rattle.lmn_solid_bodies.proofs.HeadPorts.{at_atoms_in, at_atoms_once, in_at_atoms, in_map, of_map, of_once_in, once_in_of, other_port}
 use Rattle.lmn_base.proofs.Truth.{total_two}
 
@@ -130,28 +130,6 @@ new_ports_once r qs a c (Rule rule inside ∷ xs) cp d = new_ports_once r qs a c
 new_ports_once r qs a c (Rules of inside ∷ xs) cp d = new_ports_once r qs a c xs cp d
 
 -- ---- old ports
-
--- the ports of the heap at which links stand once are named once
-olds_once : (r : Registers) (N : ℕ) (once : (x y : ℕ) → x < N → y < N → r.head.images.atom x ≡ r.head.images.atom y → x ≡ y) (xs : List ℕ) (os : List Occurrence)
-    → NoneTwice (map (λ (o : Occurrence). o.port) os) → ((o : Occurrence) → IsOneOf o os → o.port.0 < N) → NoneTwice (ports (at_heap (old_port r) (once_in xs os)))
-olds_once r N once xs [] d below = tt
-olds_once r N once xs (o ∷ os) d below = by (times o.link xs == 1) (olds_once r N once xs os d.1 (λ q i. below q (inr i)))
-  where
-    by : (t : Bool) → NoneTwice (ports (at_heap (old_port r) (once_in xs os)))
-        → NoneTwice (ports (at_heap (old_port r) (cond t ((port_at o.port.0 o.port.1, o.link) ∷ once_in xs os) (once_in xs os))))
-    by true w = (
-      (λ i.
-          let v = of_map (λ (e : Port × ℕ). e.0) (r.head.images.atom o.port.0, o.port.1) (at_heap (old_port r) (once_in xs os)) i in
-          let u = of_heap (old_port r) v.0 (once_in xs os) v.1 in
-          let q = once_in_of xs os u.0 u.1 in
-          let image : ◌≡◌ {A = Port} (r.head.images.atom q.0.port.0, q.0.port.1) (r.head.images.atom o.port.0, o.port.1) = ap (λ (e : AtomPort × ℕ). old_port r e.0) q.3 ∙ ap (λ (e : Port × ℕ). e.0) u.2 ∙ v.2 in
-          let number : q.0.port.0 ≡ o.port.0 = once q.0.port.0 o.port.0 (below q.0 (inr q.1)) (below o (inl refl)) (ap (λ (p : Port). p.0) image) in
-          let index : q.0.port.1 ≡ o.port.1 = ap (λ (p : Port). p.1) image in
-          let same : q.0.port ≡ o.port = λ t. (number t, index t) in
-          d.0 (subst (λ z. IsOneOf z (map (λ (o : Occurrence). o.port) os)) same (in_map (λ (o : Occurrence). o.port) q.0 os q.1))),
-      w,
-    )
-    by false w = w
 
 module _ (h : Heap) (valid : Valid h) (head : List HeadItem) (body : List BodyItem) (n m : ℕ) (r : Registers) (rule : AtomRule head body n) (em : Lies h head m r.head.images)
     (ps : List ℕ) (parts : PartAtoms h head r.head.images ps) (ds : List ℕ) (dr : RestsHold h r body (images_of r head ++ ps) ds) where

@@ -4,7 +4,7 @@ use Rattle.lmn_congruence.proofs.Common.{among_apart, among_left, among_right}
 use Rattle.lmn_congruence.proofs.KeptRules.{AllRules}
 use Rattle.lmn_congruence.specs.Orders.{Among, at_head, further}
 use Rattle.lmn_congruence.specs.Process.{Process, nothing, connector, atom, pair, membrane, renamed, rule, together}
-use Rattle.lmn_congruence.specs.Rules.{Context, Leaf, Level, Levels, Name, Rule, Rules, body_of, closed_context, head_of, guard_of, no_rule, rule_and, rule_of, rules_list}
+use Rattle.lmn_congruence.specs.Rules.{Context, Leaf, Level, Levels, Name, Rule, Rules, closed_context, head_of, guard_of, no_rule, rule_and, rule_of, rules_list}
 use Rattle.lmn_reduction.specs.Assignments.{Assignment}
 use Rattle.lmn_reduction.specs.Firing.{Fires, typed_contexts, typed_contexts_in, typed_leaves}
 use Rattle.lmn_reduction.specs.Instances.{ContextInstance, ContextInstances, Instance, LeafInstances, MembraneInstances, context_and, instance, leaf_and, membrane_and, no_context, no_leaf, no_membrane, of_atom, of_closed, of_connector, of_open, of_typed, rules_of_contexts}
@@ -13,6 +13,7 @@ use Rattle.lmn_adequacy.specs.Accepted.{Accepted, Throughout, ThroughoutLevel, T
 use Rattle.lmn_reduction.specs.Parts.{IsInteger, Rooted, an_integer}
 use Rattle.lmn_weight.proofs.FiredWeight.{guard_integer, left_side}
 use Rattle.lmn_weight.specs.Lowered.{StandsForInt}
+use Rattle.lmn_adequacy.proofs.RulesStay.{body_rules}
 
 -- a renaming keeps all rules
 renamed_rules : (H : Rule → Type 0) (f : ℕ → ℕ) (P : Process) → (AllRules H P → AllRules H (renamed f P)) × (AllRules H (renamed f P) → AllRules H P)
@@ -146,16 +147,13 @@ module _ (H : Rule → Type 0) where
   pub own : (r : Rule) → Throughout H r → H r
   own (rule_of head guard body) h = h.0
 
-  in_body : (r : Rule) → Throughout H r → ThroughoutLevel H (body_of r)
-  in_body (rule_of head guard body) h = h.1
-
   -- What holds throughout a rule that fires, and throughout each rule of what it takes, holds throughout each rule of
   -- what it makes.
   pub fired_rules : {r : Rule} {A B : Process} → Accepted r → Throughout H r → Fires r A B → AllRules K A → AllRules K B
   fired_rules {r} a h f g =
       let t = f.matches.assignment in
       let u = level_there K t f.matches.head g in
-      level_made t f.body (in_body r h) (record {
+      level_made t f.body (body_rules H r h) (record {
         of_typed = λ p k. typed p (a.known p k) u;
         of_untyped = λ p k. u.of_untyped p (of_the_head a p k);
         of_rules = λ q k. u.of_rules q (a.known_rules q k);

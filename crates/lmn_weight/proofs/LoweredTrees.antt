@@ -37,11 +37,11 @@ use Rattle.lmn_guards.specs.Plans.{IsPlan, leaves_by_membrane}
 use Rattle.lmn_linkcheck.proofs.LinkedLemmas.{how_often, how_often_both}
 use Rattle.lmn_app_reading.proofs.NamedPlains.{AllBelow, Below}
 use Rattle.lmn_reduction.specs.Firing.{typed_contexts}
-use Rattle.lmn_solid_heads.proofs.HeadTrees.{Head, Heads, head, head_and, head_at, head_leaves, head_membranes, heads_leaves, heads_membranes, no_head, same_leaves, same_membranes, same_uses}
+use Rattle.lmn_solid_heads.proofs.HeadTrees.{head, head_at, same_leaves, same_membranes, same_uses}
 use Rattle.lmn_app_accepted.proofs.Counts.{closed_known, guard_typed, typed_in_head, typed_known}
 use Rattle.lmn_app_accepted.proofs.Items.{closed_name, closed_own, closed_use, typed_are, typed_name}
 use Rattle.lmn_app_accepted.proofs.Listed.{N, alone, each_once, how_often_later, known_one, some_of}
-use Rattle.lmn_app_accepted.proofs.PlanKinds.{leaf_name, names_in}
+use Rattle.lmn_app_accepted.proofs.PlanKinds.{leaf_name, names_in, membranes_named}
 use Rattle.lmn_app_accepted.proofs.Trees.{closed_named, typed_named}
 use Rattle.lmn_app_accepted.proofs.Types.{left_used_there}
 use Rattle.lmn_weight.specs.Lowered.{Lowered, MakesInt, StandsForInt, other_contexts}
@@ -171,15 +171,6 @@ closed_there n (u ∷ us) h = go u.closed refl (how_often_both n (closed_use u) 
             (r.0, further r.1, r.2, r.3)
 
 -- ---- names by membranes
-
-mutual
-  membranes_named : (h : Head) → names_in (head_membranes h) ≡ flat_map leaf_name (head_leaves h)
-  membranes_named (head leaves hs cs rcs rs) = ap (λ ns. flat_map leaf_name leaves ++ ns) (all_membranes_named hs) ∙ sym (flat_map-append leaf_name leaves (heads_leaves hs))
-
-  all_membranes_named : (hs : Heads) → names_in (heads_membranes hs) ≡ flat_map leaf_name (heads_leaves hs)
-  all_membranes_named no_head = refl
-  all_membranes_named (head_and h hs) =
-      flat_map-append (λ ls. flat_map leaf_name ls) (head_membranes h) (heads_membranes hs) ∙ (λ i. membranes_named h i ++ all_membranes_named hs i) ∙ sym (flat_map-append leaf_name (head_leaves h) (heads_leaves hs))
 
 typed_items : (l : Level) → flat_map leaf_name (leaves_of l) ≡ flat_map typed_name (items_of l)
 typed_items l = typed_are l ∙ ap (flat_map typed_name) (sym (same_uses l))
