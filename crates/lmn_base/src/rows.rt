@@ -1,4 +1,4 @@
-ghost use Rattle.std.specs.Prelude.{◌≡◌, [], ◌∷◌, ◌++◌, ◌<◌, length, slice_get, slice_set, Some, IfErr, OnOk, OnErr, MatchOption};
+ghost use Rattle.std.specs.Prelude.{◌≡◌, [], ◌∷◌, ◌++◌, ◌<◌, length, slice_get, slice_set, Some, IfErr, IfOk, OnOk, OnErr, MatchOption};
 
 use crate::memory::NoMemory;
 use std::alloc::{AllocFailed, Global};
@@ -137,5 +137,34 @@ impl<T: Drop> Rows<T> {
         ensures { self.new ≡ slice_set self.old i v }
     {
         self.items[i] = v;
+    }
+}
+
+impl<T: Copy + Drop> Rows<T> {
+    /// The items of a slice as rows of their own.
+    ///
+    /// # Errors
+    ///
+    /// `NoMemory` where there is no memory for them.
+    pub fn copied(alloc: Global, items: &[T]) -> Result<Rows<T>, NoMemory>
+        ensures { IfOk result (λ rows. rows ≡ items.now) }
+    {
+        let mut rows = Rows::new(alloc);
+        rows.add_all(items)?;
+        Ok(rows)
+    }
+
+    /// Adds the items of a slice at the end, in their order.
+    ///
+    /// # Errors
+    ///
+    /// `NoMemory` where there is no memory for them; some of them may then stand at the end.
+    pub fn add_all(&mut self, items: &[T]) -> Result<(), NoMemory>
+        ensures { OnOk result (self.new ≡ self.old ++ items.now) }
+    {
+        for item in items {
+            self.push(*item)?;
+        }
+        Ok(())
     }
 }
