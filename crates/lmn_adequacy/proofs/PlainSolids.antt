@@ -19,12 +19,12 @@ use Rattle.lmn_base.specs.declared.solid.Solid.{Solid}
 use Rattle.lmn_base.specs.declared.solid.SolidAtom.{SolidAtom}
 use Rattle.lmn_base.specs.Levels.{leaves_of}
 use Rattle.lmn_base.specs.Links.{NumbersLinks}
-use Rattle.lmn_base.specs.Solids.{atoms_of_region, atoms_step, connector}
+use Rattle.lmn_base.specs.Solids.{atoms_of_region, atoms_step, connector, is_connector}
 use Rattle.lmn_base.specs.WellMade.{FitsArity}
 use Rattle.lmn_congruence.specs.Fused.{Joins}
 use Rattle.lmn_congruence.specs.Plains.{SolidOf, fused_leaves, fused_level, fused_levels, leaf_process, level_process, levels_processes}
 use Rattle.lmn_congruence.specs.Process.{Closed, together}
-use Rattle.lmn_congruence.specs.SolidsOfPlains.{JoinsLeaf, fused_leaf, fused_region, fused_step, is_connector}
+use Rattle.lmn_congruence.specs.SolidsOfPlains.{JoinsLeaf, fused_leaf, fused_region, fused_step}
 use Rattle.lmn_congruence.specs.Translation.{leaf_of, level_of, level_step, levels, numbered_rule, region_of, region_step, regions, solid_atom_of, top_of, numbered_region}
 use Rattle.lmn_congruence.proofs.SolidsOfPlains.{fused, solids_of_plains, twice_mapped}
 use Rattle.lmn_congruence.proofs.TranslatedLinks.{plains_closed, solid_links_kept}

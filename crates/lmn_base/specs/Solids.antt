@@ -1,7 +1,8 @@
 -- What every solid is like.
-use Rattle.std.specs.Prelude.{ℕ, ◌≡◌, ◌≢◌, ◌<◌, ◌+◌, List, ◌++◌, flat_map, sum, length, All}
+use Rattle.std.specs.Prelude.{ℕ, zero, suc, ◌≡◌, ◌≢◌, ◌<◌, ◌+◌, ◌==◌, ◌&&◌, Bool, true, false, List, ◌++◌, flat_map, sum, length, All}
 use Rattle.lmn_base.specs.declared.functor.Functor.{Functor}
-use Rattle.lmn_base.specs.declared.functor.Label.TheVariants.{Name}
+use Rattle.lmn_base.specs.declared.functor.Label.{Label}
+use Rattle.lmn_base.specs.declared.functor.Label.TheVariants.{Name, Int}
 use Rattle.lmn_base.specs.declared.functor.TheConstants.{CONNECTOR_NAME}
 use Rattle.lmn_base.specs.declared.rule.RuleTree.{RuleTree}
 use Rattle.lmn_base.specs.declared.solid.SolidAtom.{SolidAtom}
@@ -14,6 +15,16 @@ use Rattle.lmn_base.specs.Links.{EachTwice, NumbersLinks}
 -- the name `=` with two links
 abbrev pub connector : Functor
 connector = record { label = Name CONNECTOR_NAME; arity = 2 }
+
+-- the name `=`, which has the number 0
+abbrev pub is_equals : Label → Bool
+is_equals (Name zero) = true
+is_equals (Name (suc n)) = false
+is_equals (Int z) = false
+
+-- whether a functor is the name `=` with two links
+abbrev pub is_connector : Functor → Bool
+is_connector f = is_equals f.label && (f.arity == 2)
 
 -- the atoms of a region, and then those in each of its membranes: the printed order
 abbrev pub atoms_step : Region-F (List SolidAtom) → List SolidAtom

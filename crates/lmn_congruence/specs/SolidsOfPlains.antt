@@ -1,8 +1,5 @@
 -- The solid of a plain, by the numbers that the program keeps.
-use Rattle.std.specs.Prelude.{ℕ, zero, suc, ◌≡◌, ◌==◌, ◌&&◌, Bool, true, false, if◌then◌else◌, List, [], ◌∷◌, map, flat_map, All}
-use Rattle.lmn_base.specs.declared.functor.Functor.{Functor}
-use Rattle.lmn_base.specs.declared.functor.Label.{Label}
-use Rattle.lmn_base.specs.declared.functor.Label.TheVariants.{Name, Int}
+use Rattle.std.specs.Prelude.{ℕ, ◌≡◌, true, if◌then◌else◌, List, [], ◌∷◌, map, flat_map, All}
 use Rattle.lmn_base.specs.declared.level.Leaf.{Leaf}
 use Rattle.lmn_base.specs.declared.level.Leaf.TheVariants.{Atom, Typed}
 use Rattle.lmn_base.specs.declared.level.Level.{Level}
@@ -15,17 +12,7 @@ use Rattle.lmn_base.specs.declared.solid.Region.TheViews.{roll-Region}
 use Rattle.lmn_base.specs.declared.solid.Solid.{Solid}
 use Rattle.lmn_base.specs.Levels.{leaves_of, links_of}
 use Rattle.lmn_base.specs.Links.{EachTwice}
-use Rattle.lmn_base.specs.Solids.{IsSolid}
-
--- the name `=`, which has the number 0
-abbrev pub is_equals : Label → Bool
-is_equals (Name zero) = true
-is_equals (Name (suc n)) = false
-is_equals (Int z) = false
-
--- the name `=` with two links
-abbrev pub is_connector : Functor → Bool
-is_connector f = is_equals f.label && (f.arity == 2)
+use Rattle.lmn_base.specs.Solids.{IsSolid, is_equals, is_connector}
 
 -- an atom with its links at their images; a connector is left out
 abbrev pub fused_leaf : (ℕ → ℕ) → Leaf → List SolidAtom

@@ -16,10 +16,10 @@ use Rattle.lmn_base.specs.declared.solid.SolidAtom.{SolidAtom}
 use Rattle.lmn_base.specs.Levels.{leaves_of}
 use Rattle.lmn_base.specs.Names.{HasNames, NamesPlain, label_names, leaf_names, level_names, context_names, rule_names}
 use Rattle.lmn_base.specs.Levels.{contexts_of, rule_contexts_of}
-use Rattle.lmn_base.specs.Solids.{atoms_of_region, atoms_step}
+use Rattle.lmn_base.specs.Solids.{atoms_of_region, atoms_step, is_connector}
 use Rattle.lmn_base.proofs.Common.{inner_leaves, inner_atoms}
 use Rattle.lmn_congruence.specs.Rules.{Name}
-use Rattle.lmn_congruence.specs.SolidsOfPlains.{fused_leaf, fused_step, fused_region, is_connector}
+use Rattle.lmn_congruence.specs.SolidsOfPlains.{fused_leaf, fused_step, fused_region}
 use Rattle.lmn_store_heap.specs.Heap.{Heap, HeapAtom, within, atoms_in, rules_in, Place, top, waiting, gone, functor_of, home_of, place_of, home_by}
 use Rattle.lmn_store_heap.specs.Solid.{links_from, solid_atom_at, solid_atoms_at as heap_atoms, regions_of}
 use Rattle.lmn_store_heap.specs.Sound.{Forest, bare, mem, flat, Valid}

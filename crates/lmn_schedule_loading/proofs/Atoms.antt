@@ -9,8 +9,8 @@ use Rattle.lmn_base.specs.declared.level.Leaf.{Leaf}
 use Rattle.lmn_base.specs.declared.level.Leaf.TheVariants.{Atom}
 use Rattle.lmn_base.specs.declared.level.Occ.{Occ}
 use Rattle.lmn_base.specs.declared.refusal.Pos.{Pos}
-use Rattle.lmn_base.specs.Solids.{connector}
-use Rattle.lmn_congruence.specs.SolidsOfPlains.{is_connector, fused_leaf}
+use Rattle.lmn_base.specs.Solids.{connector, is_connector}
+use Rattle.lmn_congruence.specs.SolidsOfPlains.{fused_leaf}
 use Rattle.lmn_store_heap.specs.Heap.{Heap, HeapAtom, HeapMem, within, alter, with_place, mem_with_atoms, mem_with_rules, mem_with_spare, new_atom, IsMem, IsTopOrWithin, atoms_in, mems_in, rules_in, spare_of, atoms_by, mems_by, rules_by, spare_by, mem_place_of, made_atom, reserved, rule_added, after, from}
 use Rattle.lmn_store_heap.specs.Solid.{links_from, solid_atom_at}
 use Rattle.lmn_store_heap.specs.Sound.{Sound, bare}

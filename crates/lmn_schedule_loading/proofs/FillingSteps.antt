@@ -12,7 +12,7 @@ use Rattle.lmn_base.specs.declared.refusal.Pos.{Pos}
 use Rattle.lmn_base.specs.Levels.{leaves_of}
 use Rattle.lmn_base.specs.WellMade.{FitsArity}
 use Rattle.lmn_base_walks.proofs.ItemLemmas.{leaves_apart}
-use Rattle.lmn_congruence.specs.SolidsOfPlains.{is_connector, fused_leaf}
+use Rattle.lmn_congruence.specs.SolidsOfPlains.{fused_leaf}
 use Rattle.lmn_store_heap.specs.Heap.{Heap, spare_of, reserved, rule_added}
 use Rattle.lmn_schedule_loading.specs.Adding.{CanBeFilled, AddsToMembrane, Fills, AtomIsAdded, atom_leaf_links, ports_with_links, by_id, with_mem}
 use Rattle.lmn_schedule_loading.proofs.Composing.{composed, nothing_added}
@@ -20,6 +20,7 @@ use Rattle.lmn_schedule_loading.proofs.Atoms.{no_leaf, atom_added, room_added, o
 use Rattle.lmn_schedule_loading.proofs.Membranes.{new_ready, membrane_added}
 use Rattle.lmn_base.proofs.Lists.{plus_nothing as nil_behind, all_of_left, all_of_right, one_more as one_further}
 use Rattle.lmn_store_heap.proofs.Calls.{stands_some as standing_is_mem}
+use Rattle.lmn_base.specs.Solids.{is_connector}
 
 module _ {A : Type 0} (id : A → ℕ) where
   by_id_append : (ps qs : List ((A × ℕ) × ℕ)) → by_id id (ps ++ qs) ≡ by_id id ps ++ by_id id qs

@@ -13,8 +13,8 @@ use Rattle.lmn_base.specs.declared.solid.Region.{Region}
 use Rattle.lmn_base.specs.declared.solid.Region.TheFolds.{fold-Region, fold-roll-Region}
 use Rattle.lmn_base.specs.declared.solid.Solid.{Solid}
 use Rattle.lmn_base.specs.declared.solid.SolidAtom.{SolidAtom}
-use Rattle.lmn_base.specs.Solids.{item_count, items_step}
-use Rattle.lmn_congruence.specs.SolidsOfPlains.{is_connector, fused_leaf, fused_step, fused_region, IsSolidOf}
+use Rattle.lmn_base.specs.Solids.{item_count, items_step, is_connector}
+use Rattle.lmn_congruence.specs.SolidsOfPlains.{fused_leaf, fused_step, fused_region, IsSolidOf}
 use Rattle.lmn_congruence.specs.Translation.{top_of, region_of}
 use Rattle.lmn_congruence.proofs.SolidsOfPlains.{solids_of_plains}
 use Rattle.lmn_reduction.proofs.Plains.{plain_settles}

@@ -20,10 +20,10 @@ use Rattle.lmn_base.specs.declared.solid.Region.TheFolds.{fold-roll-Region}
 use Rattle.lmn_base.specs.declared.solid.SolidAtom.{SolidAtom}
 use Rattle.lmn_base.specs.Levels.{leaves_of, occurrences_of_leaf}
 use Rattle.lmn_base.specs.Links.{Numbers, no_more, known, new}
-use Rattle.lmn_base.specs.Solids.{atoms_of_region, atoms_step}
+use Rattle.lmn_base.specs.Solids.{atoms_of_region, atoms_step, is_equals, is_connector}
 use Rattle.lmn_base.specs.WellMade.{FitsArity, IsAtomLeaf}
 use Rattle.lmn_base_walks.proofs.ItemLemmas.{leaves_apart}
-use Rattle.lmn_congruence.specs.SolidsOfPlains.{is_equals, is_connector, fused_leaf, fused_step, fused_region, JoinsLeaf}
+use Rattle.lmn_congruence.specs.SolidsOfPlains.{fused_leaf, fused_step, fused_region, JoinsLeaf}
 use Rattle.lmn_congruence.proofs.SolidsOfPlains.{twice_mapped}
 use Rattle.lmn_congruence_splice.specs.Splice.{IsOneOf, both_links}
 use Rattle.lmn_congruence_splice.specs.Classes.{with_joined, classes}

@@ -7,8 +7,8 @@ use Rattle.lmn_base.specs.declared.level.Level.{Level}
 use Rattle.lmn_base.specs.declared.level.Occ.{Occ}
 use Rattle.lmn_base.specs.declared.functor.Functor.{Functor}
 use Rattle.lmn_base.specs.Levels.{leaves_of}
-use Rattle.lmn_base.specs.Solids.{connector}
-use Rattle.lmn_congruence.specs.SolidsOfPlains.{is_connector, fused_leaf, fused_region}
+use Rattle.lmn_base.specs.Solids.{connector, is_connector}
+use Rattle.lmn_congruence.specs.SolidsOfPlains.{fused_leaf, fused_region}
 use Rattle.lmn_store_heap.specs.Heap.{Heap, HeapAtom, IsAtom, IsMem, IsPlacedMem, IsMemInPlace, mem_place_of, atoms_in, mems_in, rules_in, home_by, partners_of, marks_of, made_atom, made_mem, placed, placed_mem}
 use Rattle.lmn_store_heap.specs.Solid.{solid_atoms_at, regions_of}
 use Rattle.lmn_store_heap.specs.Sound.{Sound, Forest, flat, Forms}

@@ -6,9 +6,9 @@ use Rattle.lmn_store_heap.specs.Splice.{IsPort}
 use Rattle.lmn_congruence_splice.specs.Splice.{IsOneOf, NoneTwice, ports}
 use Rattle.lmn_base.specs.declared.level.Leaf.{Leaf}
 use Rattle.lmn_base.specs.declared.level.Leaf.TheVariants.{Atom, Typed}
-use Rattle.lmn_congruence.specs.SolidsOfPlains.{is_connector}
 use Rattle.lmn_base.specs.declared.level.Occ.{Occ}
 use Rattle.lmn_base.specs.Graphs.{Port}
+use Rattle.lmn_base.specs.Solids.{is_connector}
 
 -- the two links of a connector
 abbrev pub pair_of : List Occ → List (ℕ × ℕ)

@@ -7,8 +7,8 @@ use Rattle.lmn_base.specs.declared.level.Level.TheOpen.{Level-F}
 use Rattle.lmn_base.specs.declared.level.Level.TheFolds.{fold-Level}
 use Rattle.lmn_base.specs.declared.rule.Plain.{Plain}
 use Rattle.lmn_base.specs.declared.solid.Solid.{Solid}
-use Rattle.lmn_base.specs.Solids.{item_count}
-use Rattle.lmn_congruence.specs.SolidsOfPlains.{is_connector, IsSolidOf}
+use Rattle.lmn_base.specs.Solids.{item_count, is_connector}
+use Rattle.lmn_congruence.specs.SolidsOfPlains.{IsSolidOf}
 use Rattle.lmn_store_heap.specs.Heap.{Heap, IsMem, mark_of, rules_in}
 use Rattle.lmn_store_heap.specs.Sound.{Valid}
 use Rattle.lmn_store_heap.specs.Solid.{HasSolid}

@@ -12,7 +12,7 @@ use Rattle.lmn_base.proofs.Lists.{all_of_left, all_of_right, joined_alike as bot
 use Rattle.lmn_base.specs.Levels.{contexts_of, leaves_of, links_of, rule_contexts_of}
 use Rattle.lmn_base.specs.Links.{EachTwice}
 use Rattle.lmn_base.specs.Names.{HasNames, NamesPlain, NamesSolid, context_names, label_names, leaf_names, level_names, rule_names}
-use Rattle.lmn_base.specs.Solids.{atoms_of_region, connector, links_of_region}
+use Rattle.lmn_base.specs.Solids.{atoms_of_region, connector, links_of_region, is_connector}
 use Rattle.lmn_base.specs.WellMade.{FitsArity, IsWellMade}
 use Rattle.lmn_base.specs.declared.functor.Functor.{Functor}
 use Rattle.lmn_base.specs.declared.level.Leaf.{Leaf}
@@ -31,7 +31,7 @@ use Rattle.lmn_congruence.proofs.SolidsOfPlains.{twice_mapped}
 use Rattle.lmn_congruence.proofs.TranslatedLinks.{counted, places_append}
 use Rattle.lmn_congruence.specs.Links.{places}
 use Rattle.lmn_congruence.specs.Rules.{Name}
-use Rattle.lmn_congruence.specs.SolidsOfPlains.{IsSolidOf, JoinsLeaf, fused_leaf, fused_region, fused_step, is_connector}
+use Rattle.lmn_congruence.specs.SolidsOfPlains.{IsSolidOf, JoinsLeaf, fused_leaf, fused_region, fused_step}
 use Rattle.lmn_schedule_loading.proofs.PlainLinks.{all_links, in_often, numbers_below, often_in, region_links}
 use Rattle.lmn_schedule_loading.specs.Adding.{atom_links}
 use Rattle.lmn_schedule_loading.specs.Joining.{connectors_of_leaves, leaf_pairs}

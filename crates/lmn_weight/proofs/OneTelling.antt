@@ -9,7 +9,6 @@ use Rattle.std.proofs.lemmas.Slice.Eq.{bytes_eq-Decides}
 use Rattle.lmn_base.proofs.Lists.{all_append, all_right, head_is, map_append, none_is_not, tail_is, two_empty}
 use Rattle.lmn_base.specs.declared.functor.Functor.{Functor}
 use Rattle.lmn_base.specs.declared.refusal.Refusal.{Refusal}
-use Rattle.lmn_congruence.specs.SolidsOfPlains.{is_connector}
 use Rattle.lmn_instr_reading.proofs.NameLemmas.{functor_stays}
 use Rattle.lmn_instr_reading.proofs.QuotedLemmas.{no_functor}
 use Rattle.lmn_instr_reading.specs.Reading.{HasNoSlash}
@@ -27,6 +26,7 @@ use Rattle.lmn_weight.specs.Lines.{AreWeightsOf, HasText, IsFirstWrong, IsNamed,
 use Rattle.lmn_weight.specs.OneReading.{AreAlike, OneTelling, OneWrongLine, StandsBehind, ToldNotWrong}
 use Rattle.lmn_weight.specs.Plains.{is_integer, listed_weight}
 use Rattle.lmn_instr_reading.proofs.LinesCommon.{feed_within as no_feed_within, joined_first as first_joined}
+use Rattle.lmn_base.specs.Solids.{is_connector}
 
 -- ---- lines
 

@@ -12,7 +12,6 @@ use Rattle.lmn_base.specs.declared.level.Level.TheOpen.{Level-F}
 use Rattle.lmn_base.specs.Items.{number_of_items, number_step}
 use Rattle.lmn_base.specs.Limits.{most_body_items, most_head_items}
 use Rattle.lmn_base_walks.specs.RuleCodes.{is_too_large, too_large}
-use Rattle.lmn_congruence.specs.SolidsOfPlains.{is_connector}
 use Rattle.lmn_guards.proofs.OrderLemmas.{not_then}
 use Rattle.lmn_lexer.proofs.FewTokens.{few_tokens}
 use Rattle.lmn_lexer.specs.Laying.{words_of}
@@ -21,6 +20,7 @@ use Rattle.lmn_flatten_plain.specs.Sizes.{size_step}
 use Rattle.lmn_weight.specs.Plains.{one_if_weighed, weighed_items, weighed_step}
 use Rattle.lmn_weight.specs.Bounding.{RulesAreSmall, TopsAreSmall}
 use Rattle.lmn_base.proofs.Lists.{sum_cons}
+use Rattle.lmn_base.specs.Solids.{is_connector}
 
 one_leaf : (l : Leaf) → one_if_weighed l ≤ 1
 one_leaf (leaf.Atom f os p) = go (is_connector f)

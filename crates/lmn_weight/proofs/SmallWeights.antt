@@ -7,7 +7,6 @@ use Rattle.lmn_base.specs.declared.level.Leaf.{Leaf}
 use Rattle.lmn_base.specs.declared.level.Leaf.TheVariants.{Atom, Typed}
 use Rattle.lmn_base.specs.declared.level.Level.{Level}
 use Rattle.lmn_base.specs.declared.level.Level.TheFolds.{fold-roll-Level, ind-Level}
-use Rattle.lmn_congruence.specs.SolidsOfPlains.{is_connector}
 use Rattle.lmn_guards.specs.declared.plan.TypedUse.{TypedUse}
 use Rattle.lmn_store_heap.specs.Functors.{same_functor}
 use Rattle.lmn_weight.specs.declared.weights.Weights.{Weights}
@@ -16,6 +15,7 @@ use Rattle.lmn_base.specs.declared.rule.RuleTree.{RuleTree}
 use Rattle.lmn_guards.specs.declared.plan.GuardPlan.{GuardPlan}
 use Rattle.lmn_weight.specs.Plains.{AreSmall, IsOfSize, is_integer, leaf_weight, level_weight, listed_weight, one_if_weighed, stands_for_int, weighed_items, weighed_step, weight_step}
 use Rattle.lmn_base.proofs.Lists.{sum_cons}
+use Rattle.lmn_base.specs.Solids.{is_connector}
 
 listed_small : (fs : List Functor) (vs : List ℕ) (f : Functor) → AllByRecursion (λ n. n ≤ 1000000) vs → listed_weight fs vs f ≤ 1000000
 listed_small [] vs f h = omega arith

@@ -15,13 +15,13 @@ use Rattle.lmn_base.specs.declared.level.Level.TheFolds.{fold-Level}
 use Rattle.lmn_base.specs.declared.refusal.Refusal.{Refusal}
 use Rattle.lmn_base.specs.declared.rule.Plain.{Plain}
 use Rattle.lmn_base.specs.declared.rule.RuleTree.{RuleTree}
-use Rattle.lmn_congruence.specs.SolidsOfPlains.{is_connector}
 use Rattle.lmn_guards.specs.declared.plan.GuardPlan.{GuardPlan}
 use Rattle.lmn_guards.specs.declared.plan.TypeKind.{TypeKind}
 use Rattle.lmn_guards.specs.declared.plan.TypeKind.TheVariants as kind
 use Rattle.lmn_guards.specs.declared.plan.TypedUse.{TypedUse}
 use Rattle.lmn_store_heap.specs.Functors.{same_functor}
 use Rattle.lmn_weight.specs.declared.weights.Weights.{Weights}
+use Rattle.lmn_base.specs.Solids.{is_connector}
 
 -- ---- weights
 
