@@ -1,3 +1,6 @@
+ghost use Rattle.std.specs.Prelude.{◌≡◌};
+ghost use Rattle.lmn_base.specs.Solids as solids;
+
 /// The number of the name `=` in every list of names. With two links an atom of this name is a connector.
 pub const CONNECTOR_NAME: u32 = 0;
 
@@ -27,4 +30,16 @@ pub struct Functor {
     pub label: Label,
     /// How many links it has, 0 to 255.
     pub arity: u8,
+}
+
+impl Functor {
+    /// Whether an atom with this functor is a connector: its name is `=`, and it has two links.
+    pub fn is_connector(self) -> bool
+        ensures { result ≡ solids.is_connector self }
+    {
+        match self.label {
+            Label::Name(name) => name == CONNECTOR_NAME && self.arity == 2,
+            Label::Int(_) => false,
+        }
+    }
 }

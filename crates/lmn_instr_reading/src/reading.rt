@@ -2,9 +2,8 @@
 ghost use Rattle.lmn_base.specs.Limits.{longest_name};
 ghost use Rattle.std.specs.Prelude.{ℕ, ℤ, List, true, false, ◌≡◌, ◌≤◌, ◌<◌, ◌+◌, ◌^◌, ◌++◌, ◌∷◌, length, drop, slice_index, IfSome, IfNone, IfOk, OnErr, IsSomeAnd, Some, codes};
 ghost use Rattle.std.specs.Fmt.{decimal, signed_decimal};
-ghost use Rattle.std.specs.List.{flat_map, list_all};
+ghost use Rattle.std.specs.List.{flat_map};
 ghost use Rattle.lmn_lexer.specs.NameText.{quoted_byte, quoted, name_text};
-ghost use Rattle.lmn_lexer.specs.Spelling.{is_bare_name, goes_on};
 ghost use Rattle.lmn_instr_code.specs.Labels.{HasLabel, listed_label_text};
 ghost use Rattle.lmn_instr_code.specs.Listings.{functor_text};
 ghost use Rattle.lmn_base.specs.Names.{label_names};
@@ -14,6 +13,7 @@ use arrayvec::ArrayVec;
 use itoa::Buffer;
 use lmn_base::limits::{LONGEST_NAME, MOST_LINKS};
 use lmn_base::{Functor, Label, Names, NoMemory};
+use lmn_print_labels::is_bare;
 use std::str;
 
 /// The number that a text writes, if it is the decimal text of one.
@@ -84,30 +84,6 @@ pub fn read_integer(text: &[u8]) -> Option<i64>
         }
         None => None,
     }
-}
-
-/// Whether a name is written without quotes.
-fn is_bare(name: &[u8]) -> bool
-    ensures { result ≡ is_bare_name name.now }
-{
-    match name {
-        [] => false,
-        [first, more @ ..] => first.is_ascii_lowercase() && are_name_bytes(more),
-    }
-}
-
-/// Whether each byte is a letter, a digit or `_`.
-fn are_name_bytes(bytes: &[u8]) -> bool
-    ensures { result ≡ list_all goes_on bytes.now }
-{
-    bytes.iter().all(|byte| is_name_byte(*byte))
-}
-
-/// Whether a byte is a letter, a digit or `_`.
-fn is_name_byte(byte: u8) -> bool
-    ensures { result ≡ goes_on byte }
-{
-    byte.is_ascii_alphanumeric() || byte == b'_'
 }
 
 /// How many bytes between quotes the byte of a name takes that stands at a place, if one stands there. A quote is written twice.

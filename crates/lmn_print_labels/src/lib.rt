@@ -63,7 +63,7 @@ fn quoted_byte(byte: &u8) -> &[u8]
 }
 
 /// Whether a name is written without quotes.
-fn is_bare(name: &[u8]) -> bool
+pub fn is_bare(name: &[u8]) -> bool
     ensures { result ≡ is_bare_name name.now }
 {
     match name {

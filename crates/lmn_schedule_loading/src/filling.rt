@@ -6,7 +6,6 @@ ghost use Rattle.lmn_base.specs.Limits.{most_links};
 ghost use Rattle.lmn_base.specs.WellMade.{FitsArity};
 ghost use Rattle.lmn_schedule_loading.specs.Adding.{CanBeFilled, AddsToMembrane, Fills, AtomIsAdded, with_atom, with_mem, ports_with_links};
 
-use crate::leaves::is_connector;
 use lmn_base::{Functor, Leaf, Level, NoMemory, Occ, Rows};
 use lmn_store_trait::LinkStore;
 use std::alloc::Global;
@@ -84,7 +83,7 @@ fn add_leaf<S: LinkStore>(
 {
     match leaf {
         Leaf::Atom { functor, links, .. } => {
-            if is_connector(*functor) {
+            if functor.is_connector() {
                 Ok(())
             } else {
                 add_linked_atom(alloc, store, m, *functor, links.as_slice(), ports)

@@ -1,28 +1,17 @@
 //! What a plain says of its items and connectors.
 ghost use Rattle.std.specs.Prelude.{◌≡◌, ◌-◌, ◌++◌, ◌^◌, min, OnOk};
-ghost use Rattle.lmn_congruence.specs.SolidsOfPlains as solids;
 ghost use Rattle.lmn_base.specs.Levels.{leaves_of};
 ghost use Rattle.lmn_schedule_loading.specs.Joining.{pair_of, leaf_pairs, connectors_of_leaves};
 ghost use Rattle.lmn_schedule_loading.specs.Loaded.{atoms_among, loaded_items, one_if_atom};
 
-use lmn_base::{CONNECTOR_NAME, Functor, Label, Leaf, Level, NoMemory, Occ, Rows};
-
-/// Whether an atom with this functor is a connector.
-pub fn is_connector(functor: Functor) -> bool
-    ensures { result ≡ solids.is_connector functor }
-{
-    match functor.label {
-        Label::Name(name) => name == CONNECTOR_NAME && functor.arity == 2,
-        Label::Int(_) => false,
-    }
-}
+use lmn_base::{Leaf, Level, NoMemory, Occ, Rows};
 
 /// 1 for an atom that is no connector, and else 0.
 fn one_if_atom(leaf: &Leaf) -> u64
     ensures { result ≡ one_if_atom leaf.now }
 {
     match leaf {
-        Leaf::Atom { functor, .. } => { if is_connector(*functor) { 0 } else { 1 } }
+        Leaf::Atom { functor, .. } => { if functor.is_connector() { 0 } else { 1 } }
         Leaf::Typed { .. } => 0,
     }
 }
@@ -52,7 +41,7 @@ pub fn number_of_items(level: &Level) -> u64
 }
 
 /// Adds the two links of a connector.
-fn add_pair(pairs: &mut Rows<(u32, u32)>, links: &[Occ]) -> Result<(), NoMemory>
+pub fn add_pair(pairs: &mut Rows<(u32, u32)>, links: &[Occ]) -> Result<(), NoMemory>
     ensures { OnOk result (pairs.new ≡ pairs.old ++ pair_of links.now) }
 {
     match links {
@@ -67,7 +56,7 @@ fn add_connector(pairs: &mut Rows<(u32, u32)>, leaf: &Leaf) -> Result<(), NoMemo
 {
     match leaf {
         Leaf::Atom { functor, links, .. } => {
-            if is_connector(*functor) {
+            if functor.is_connector() {
                 add_pair(pairs, links.as_slice())
             } else {
                 Ok(())

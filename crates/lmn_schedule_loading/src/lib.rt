@@ -8,4 +8,5 @@ mod leaves;
 mod loading;
 
 pub use laws::loading_settles;
+pub use leaves::add_pair;
 pub use loading::{LoadFault, load};

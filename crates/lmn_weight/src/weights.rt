@@ -1,12 +1,11 @@
 //! What each kind of atom weighs.
 ghost use Rattle.std.specs.Prelude.{◌≡◌, ◌↔◌, IfSome, IsTrue, length};
-ghost use Rattle.lmn_congruence.specs.SolidsOfPlains as solids;
 ghost use Rattle.lmn_store_heap.specs.Functors as functors;
 ghost use Rattle.lmn_weight.specs.Index.{IsIndexOf};
 ghost use Rattle.lmn_weight.specs.Plains.{listed_weight, is_integer, functor_weight};
 
 use crate::index::indexed_weight;
-use lmn_base::{CONNECTOR_NAME, Functor, Label, Rows};
+use lmn_base::{Functor, Label, Rows};
 
 /// What WEIGHTS tells. What it doesn't name weighs nothing.
 #[derive(Drop)]
@@ -47,16 +46,6 @@ fn listed_weight(functors: &[Functor], values: &[u64], functor: Functor) -> u64
     0
 }
 
-/// Whether an atom with this functor is a connector.
-fn is_connector(functor: Functor) -> bool
-    ensures { result ≡ solids.is_connector functor }
-{
-    match functor.label {
-        Label::Name(name) => name == CONNECTOR_NAME && functor.arity == 2,
-        Label::Int(_) => false,
-    }
-}
-
 /// Whether an atom with this functor is an integer with one link.
 pub(crate) fn is_integer(functor: Functor) -> bool
     ensures { result ≡ is_integer functor }
@@ -73,7 +62,7 @@ pub(crate) fn functor_weight(weights: &Weights, index: Option<&[u16]>, functor: 
     requires index { IfSome index (λ places. IsIndexOf weights.now.functors places.now) }
     ensures { result ≡ functor_weight weights.now functor }
 {
-    if is_connector(functor) {
+    if functor.is_connector() {
         return 0;
     }
     if is_integer(functor) {
