@@ -12,7 +12,7 @@ ghost use Rattle.lmn_flatten.specs.Scopes.{IsScope};
 use crate::number::narrow;
 use crate::part::Part;
 use crate::scope::Scope;
-use lmn_base::{CtxUse, Functor, Leaf, Level, NoMemory, Occ, Rows};
+use lmn_base::{Functor, Leaf, Level, NoMemory, Occ, Rows};
 use std::alloc::Global;
 
 /// A copy of the part of a head that is kept, in which each link that stands twice in the part is new.
@@ -27,9 +27,9 @@ pub(crate) fn copied(alloc: Global, scope: &mut Scope, kept: &Part) -> Result<Pa
     Ok(Part {
         leaves: copied_leaves(alloc, links.as_slice(), kept.leaves.as_slice())?,
         membranes: copied_levels(alloc, links.as_slice(), kept.membranes.as_slice())?,
-        contexts: same_contexts(alloc, kept.contexts.as_slice())?,
-        rule_contexts: same_contexts(alloc, kept.rule_contexts.as_slice())?,
-        rules: same_numbers(alloc, kept.rules.as_slice())?,
+        contexts: Rows::copied(alloc, kept.contexts.as_slice())?,
+        rule_contexts: Rows::copied(alloc, kept.rule_contexts.as_slice())?,
+        rules: Rows::copied(alloc, kept.rules.as_slice())?,
     })
 }
 
@@ -189,9 +189,9 @@ fn copied_level(alloc: Global, links: &[u32], level: &Level) -> Result<Level, No
 {
     let leaves = copied_leaves(alloc, links, level.leaves.as_slice())?;
     let membranes = copied_levels(alloc, links, level.membranes.as_slice())?;
-    let contexts = same_contexts(alloc, level.contexts.as_slice())?;
-    let rule_contexts = same_contexts(alloc, level.rule_contexts.as_slice())?;
-    let rules = same_numbers(alloc, level.rules.as_slice())?;
+    let contexts = Rows::copied(alloc, level.contexts.as_slice())?;
+    let rule_contexts = Rows::copied(alloc, level.rule_contexts.as_slice())?;
+    let rules = Rows::copied(alloc, level.rules.as_slice())?;
     Ok(Level {
         leaves,
         membranes,
@@ -199,24 +199,4 @@ fn copied_level(alloc: Global, links: &[u32], level: &Level) -> Result<Level, No
         rule_contexts,
         rules,
     })
-}
-
-fn same_contexts(alloc: Global, contexts: &[CtxUse]) -> Result<Rows<CtxUse>, NoMemory>
-    ensures { IfOk result (λ new. new ≡ contexts.now) }
-{
-    let mut new = Rows::new(alloc);
-    for context in contexts {
-        new.push(*context)?;
-    }
-    Ok(new)
-}
-
-fn same_numbers(alloc: Global, numbers: &[u32]) -> Result<Rows<u32>, NoMemory>
-    ensures { IfOk result (λ new. new ≡ numbers.now) }
-{
-    let mut new = Rows::new(alloc);
-    for number in numbers {
-        new.push(*number)?;
-    }
-    Ok(new)
 }

@@ -93,14 +93,3 @@ pub(crate) fn left(
     }
     Ok(rows)
 }
-
-/// Numbers as rows of their own.
-pub(crate) fn copied(alloc: Global, numbers: &[u32]) -> Result<Rows<u32>, NoMemory>
-    ensures { IfOk result (λ rows. rows ≡ numbers.now) }
-{
-    let mut rows = Rows::new(alloc);
-    for number in numbers {
-        rows.push(*number)?;
-    }
-    Ok(rows)
-}

@@ -131,16 +131,6 @@ pub(crate) fn add_context_membranes(
     Ok(())
 }
 
-/// Adds numbers of rules.
-pub(crate) fn add_numbers(numbers: &[u32], rules: &mut Rows<u32>) -> Result<(), NoMemory>
-    ensures { OnOk result (rules.new ≡ rules.old ++ numbers.now) }
-{
-    for number in numbers {
-        rules.push(*number)?;
-    }
-    Ok(())
-}
-
 /// Adds the rules of a level, and then those for which its rule contexts stand.
 pub(crate) fn add_rules(
     flat: &Flat,
@@ -153,10 +143,10 @@ pub(crate) fn add_rules(
     requires there { AreThere (heap_of flat.now) taken.now.rule_contexts }
     ensures { OnOk result (rules.new ≡ rules.old ++ (numbers.now ++ rules_named flat.now taken.now contexts.now)) }
 {
-    add_numbers(numbers, rules)?;
+    rules.add_all(numbers)?;
     for context in contexts {
         let membrane = membrane_of(taken.rule_contexts.as_slice(), context.name);
-        add_numbers(flat.rules(membrane), rules)?;
+        rules.add_all(flat.rules(membrane))?;
     }
     Ok(())
 }

@@ -10,9 +10,10 @@ ghost use Rattle.lmn_solid_settle.specs.declared.settling.RawMembrane.{RawMembra
 ghost use Rattle.lmn_solid_firing.specs.Making.{Ends, IsMade, IsReadyFor, LeftForms, WaitsFor, fired_region, home_region, home_row, level_made};
 
 use crate::body::{add_connectors, add_membranes, add_own_atoms, add_own_rules};
-use crate::contexts::{add_left_atoms, add_left_membranes, add_numbers};
+use crate::contexts::{add_left_atoms, add_left_membranes};
 use crate::match_::Match;
 use crate::membranes::{add_lone, push_all};
+use crate::numbers::short;
 use crate::writing::{Writing, sum};
 use lmn_base::{Level, NoMemory, Rows};
 use lmn_solid_settle::RawMembrane;
@@ -42,7 +43,7 @@ fn add_home_row(
     add_left_atoms(alloc, flat, taken, taken.home, &kept, &mut atoms)?;
     let start = add_own_atoms(alloc, flat, taken, body, next, &mut atoms)?;
     let mut rules = Rows::new(alloc);
-    add_numbers(flat.rules(taken.home), &mut rules)?;
+    rules.add_all(flat.rules(taken.home))?;
     add_own_rules(flat, taken, body, &mut rules)?;
     rows.push(RawMembrane {
         around,
@@ -182,20 +183,5 @@ pub fn fire(
         return Err(NoMemory);
     };
     add_connectors(taken, body, connectors)?;
-    Ok((membranes, number(end)?))
-}
-
-/// A number of 32 bits.
-///
-/// # Errors
-///
-/// `NoMemory` where it has more.
-fn number(n: u64) -> Result<u32, NoMemory>
-    ensures { IfOk result (λ m. m ≡ n) }
-{
-    if n < 1 << 32 {
-        Ok(n as u32)
-    } else {
-        Err(NoMemory)
-    }
+    Ok((membranes, short(end)?))
 }

@@ -8,7 +8,7 @@ ghost use Rattle.lmn_solid_settle.specs.declared.settling.RawMembrane.{RawMembra
 ghost use Rattle.lmn_solid_tables.specs.Flats.{heap_of};
 ghost use Rattle.lmn_solid_firing.specs.Making.{entered, lone, raws_at};
 
-use crate::atoms::{add_atoms, copied};
+use crate::atoms::add_atoms;
 use crate::writing::Writing;
 use lmn_base::{NoMemory, Rows};
 use lmn_solid_settle::RawMembrane;
@@ -44,7 +44,7 @@ pub(crate) fn add_lone(
 {
     let mut atoms = Rows::new(alloc);
     add_atoms(alloc, flat, flat.atoms(membrane), writing, &mut atoms)?;
-    let rules = copied(alloc, flat.rules(membrane))?;
+    let rules = Rows::copied(alloc, flat.rules(membrane))?;
     rows.push(RawMembrane {
         around,
         atoms,

@@ -84,22 +84,12 @@ pub(crate) fn parts_of(
     parts_named(alloc, flat, names.as_slice(), ports)
 }
 
-/// Adds numbers to a list.
-fn add_all(more: &[usize], numbers: &mut Rows<usize>) -> Result<(), NoMemory>
-    ensures { OnOk result (numbers.new ≡ numbers.old ++ more.now) }
-{
-    for number in more {
-        numbers.push(*number)?;
-    }
-    Ok(())
-}
-
 /// Adds the atoms of parts.
 pub(crate) fn add_atoms(parts: &[Part], atoms: &mut Rows<usize>) -> Result<(), NoMemory>
     ensures { OnOk result (atoms.new ≡ atoms.old ++ flat_map (λ p. p.atoms) parts.now) }
 {
     for part in parts {
-        add_all(part.atoms.as_slice(), atoms)?;
+        atoms.add_all(part.atoms.as_slice())?;
     }
     Ok(())
 }

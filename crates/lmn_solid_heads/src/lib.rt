@@ -4,6 +4,8 @@
 #![tactic(auto)]
 
 pub mod examples;
+mod integers;
 mod items;
 
+pub use integers::integer_with;
 pub use items::HeadItem;

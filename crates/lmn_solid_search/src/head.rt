@@ -48,17 +48,6 @@ pub(crate) struct Head {
     pub membranes: Rows<MembraneItem>,
 }
 
-/// A copy of numbers.
-fn copy(alloc: Global, numbers: &[u32]) -> Result<Rows<u32>, NoMemory>
-    ensures { IfOk result (λ copied. copied ≡ numbers.now) }
-{
-    let mut copied = Rows::new(alloc);
-    for number in numbers {
-        copied.push(*number)?;
-    }
-    Ok(copied)
-}
-
 /// The atoms of a head.
 fn atoms_in_head(alloc: Global, items: &[HeadItem]) -> Result<Rows<AtomItem>, NoMemory>
     ensures { IfOk result (λ atoms. atoms ≡ map kept_atom (atoms_of items.now)) }
@@ -72,7 +61,7 @@ fn atoms_in_head(alloc: Global, items: &[HeadItem]) -> Result<Rows<AtomItem>, No
                 inside,
             } => atoms.push(AtomItem {
                 functor: *functor,
-                links: copy(alloc, links.as_slice())?,
+                links: Rows::copied(alloc, links.as_slice())?,
                 inside: *inside,
             })?,
             HeadItem::Typed { .. } => {}

@@ -14,10 +14,9 @@ ghost use Rattle.lmn_solid_search.specs.Knowing.{AreParts, Compares, Holds, Know
 ghost use Rattle.lmn_solid_search.specs.Pairing.{HavePlaces, SameLengths};
 
 use crate::pairs::{Pairs, are_equal};
-use lmn_base::{
-    Cmp, Cond, CtxUse, Expr, Functor, GROUND_NAME, INT_NAME, Label, NoMemory, Rows, UNARY_NAME,
-};
+use lmn_base::{Cmp, Cond, CtxUse, Expr, GROUND_NAME, INT_NAME, NoMemory, Rows, UNARY_NAME};
 use lmn_guards::{TypeKind, eval};
+use lmn_solid_heads::integer_with;
 use lmn_solid_tables::{Flat, Port};
 use std::alloc::Global;
 
@@ -106,22 +105,6 @@ fn find_part(parts: &[Named], name: u32) -> Option<Port>
         }
     }
     None
-}
-
-/// The integer of an atom with a functor.
-fn integer_with(functor: Functor) -> Option<i64>
-    ensures { result ≡ integer_of_functor (Some functor) }
-{
-    match functor.label {
-        Label::Int(integer) => {
-            if functor.arity == 1 {
-                Some(integer)
-            } else {
-                None
-            }
-        }
-        Label::Name(_) => None,
-    }
 }
 
 /// The integer that an atom is, if it is one.

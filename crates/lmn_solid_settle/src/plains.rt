@@ -4,14 +4,13 @@ ghost use Rattle.lmn_base.specs.Links.{EachTwice};
 ghost use Rattle.lmn_base.specs.WellMade.{IsWellMade};
 ghost use Rattle.lmn_congruence.specs.SolidsOfPlains.{IsSolidOf};
 ghost use Rattle.lmn_congruence.specs.SolidsOfPlains as solids;
-ghost use Rattle.lmn_schedule_loading.specs.Joining.{connectors_of_leaves, leaf_pairs, pair_of};
+ghost use Rattle.lmn_schedule_loading.specs.Joining.{connectors_of_leaves, leaf_pairs};
 ghost use Rattle.lmn_solid_settle.specs.Raw.{laid};
 ghost use Rattle.lmn_solid_settle.specs.Levels.{raw_of_level};
 
 use crate::settling::{RawMembrane, settle};
-use lmn_base::{
-    CONNECTOR_NAME, Functor, Label, Leaf, Level, NoMemory, Occ, Plain, Rows, Solid, SolidAtom,
-};
+use lmn_base::{Leaf, Level, NoMemory, Occ, Plain, Rows, Solid, SolidAtom};
+use lmn_schedule_loading::add_pair;
 use std::alloc::Global;
 
 /// The solid of the top of a plain.
@@ -49,7 +48,7 @@ fn add_level(
     for leaf in level.leaves.as_slice() {
         add_leaf(alloc, leaf, &mut atoms, connectors)?;
     }
-    let rules = copied(alloc, level.rules.as_slice())?;
+    let rules = Rows::copied(alloc, level.rules.as_slice())?;
     membranes.push(RawMembrane {
         around,
         atoms,
@@ -73,7 +72,7 @@ fn add_leaf(
 {
     match leaf {
         Leaf::Atom { functor, links, .. } => {
-            if is_connector(*functor) {
+            if functor.is_connector() {
                 add_pair(connectors, links.as_slice())
             } else {
                 atoms.push(SolidAtom {
@@ -95,35 +94,4 @@ fn links_at(alloc: Global, links: &[Occ]) -> Result<Rows<u64>, NoMemory>
         numbers.push(u64::from(occurrence.link))?;
     }
     Ok(numbers)
-}
-
-/// Adds the two links of a connector.
-fn add_pair(pairs: &mut Rows<(u32, u32)>, links: &[Occ]) -> Result<(), NoMemory>
-    ensures { OnOk result (pairs.new ≡ pairs.old ++ pair_of links.now) }
-{
-    match links {
-        [left, right, ..] => pairs.push((left.link, right.link)),
-        _ => Ok(()),
-    }
-}
-
-/// A copy of the numbers of rules.
-fn copied(alloc: Global, rules: &[u32]) -> Result<Rows<u32>, NoMemory>
-    ensures { IfOk result (λ copy. copy ≡ rules.now) }
-{
-    let mut copy = Rows::new(alloc);
-    for rule in rules {
-        copy.push(*rule)?;
-    }
-    Ok(copy)
-}
-
-/// Whether an atom with this functor is a connector.
-fn is_connector(functor: Functor) -> bool
-    ensures { result ≡ solids.is_connector functor }
-{
-    match functor.label {
-        Label::Name(name) => name == CONNECTOR_NAME && functor.arity == 2,
-        Label::Int(_) => false,
-    }
 }

@@ -72,14 +72,14 @@ impl Listing {
         let mut atoms = Rows::new(alloc);
         for atom in region.atoms.as_slice() {
             atoms.push(self.atoms.len())?;
-            let links = copied(alloc, atom.links.as_slice())?;
+            let links = Rows::copied(alloc, atom.links.as_slice())?;
             self.atoms.push(FlatAtom {
                 functor: atom.functor,
                 links,
                 home,
             })?;
         }
-        let rules = copied(alloc, region.rules.as_slice())?;
+        let rules = Rows::copied(alloc, region.rules.as_slice())?;
         self.membranes.push(FlatMembrane {
             parent,
             atoms,
@@ -88,17 +88,6 @@ impl Listing {
         })?;
         Ok(())
     }
-}
-
-/// Numbers as rows of their own.
-fn copied<T: Copy + Drop>(alloc: Global, numbers: &[T]) -> Result<Rows<T>, NoMemory>
-    ensures { IfOk result (λ rows. rows ≡ numbers.now) }
-{
-    let mut rows = Rows::new(alloc);
-    for number in numbers {
-        rows.push(*number)?;
-    }
-    Ok(rows)
 }
 
 /// Puts the membranes of a region on the stack, so that the first one is on top.

@@ -15,4 +15,4 @@ returns c = λ r keys p h none part.
     (let P : List Level → Type 0 = λ z. CountsPlaces (links_of_levels z) c.count_leaves.new.counts c.count_levels.new.counts in subst P c.as_slice-2.ensures c.count_levels.ensures)
     c.as_slice-3.ensures c.in_ok-links.ensures c.as_slice-4.ensures c.as_slice-6.ensures
     (c.in_ok-copied_leaves.ensures ∙ ap (map (renumbered_leaf (new_link c.as_slice-4.result.now))) c.as_slice-5.ensures) (c.in_ok-copied_levels.ensures ∙ ap (map (renumbered (new_link c.as_slice-6.result.now))) c.as_slice-7.ensures)
-    (c.in_ok-same_contexts.ensures ∙ c.as_slice-8.ensures) (c.in_ok-same_contexts-2.ensures ∙ c.as_slice-9.ensures) (c.in_ok-same_numbers.ensures ∙ c.as_slice-10.ensures)
+    (c.in_ok-copied.ensures ∙ c.as_slice-8.ensures) (c.in_ok-copied-2.ensures ∙ c.as_slice-9.ensures) (c.in_ok-copied-3.ensures ∙ c.as_slice-10.ensures)
