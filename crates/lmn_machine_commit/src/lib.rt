@@ -13,5 +13,5 @@ mod waking;
 
 pub use committing::commit;
 pub use laws::{bodies_are_in_order, bodies_can_be_committed, rules_wake_touched};
-pub use marking::{mark_taken, set_own};
+pub use marking::{has_home, mark_taken, set_own};
 pub use preparing::prepare;

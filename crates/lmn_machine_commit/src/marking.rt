@@ -23,8 +23,8 @@ pub fn set_own<S: LinkStore>(store: &mut S, a: S::Atom, mark: u64)
     store.set_mark(a, own, mark);
 }
 
-/// Whether an atom stands in a membrane.
-fn stands_in<S: LinkStore>(store: &S, a: S::Atom, m: S::Mem) -> bool
+/// Whether a membrane is the home of an atom.
+pub fn has_home<S: LinkStore>(store: &S, a: S::Atom, m: S::Mem) -> bool
     requires atom { IsAtom (S.heap store.now) (S.atom_id a) }
     requires membrane { IsMem (S.heap store.now) (S.mem_id m) }
     ensures { IsTrue result ↔ (home_of (S.heap store.now) (S.atom_id a) ≡ Some (S.mem_id m)) }
@@ -42,7 +42,7 @@ fn mark_inside<S: LinkStore>(store: &mut S, a: S::Atom, m: S::Mem, mark: u64)
     requires membrane { IsMem (S.heap store.old) (S.mem_id m) }
     ensures { (all : List ℕ) × ((b : ℕ) → In b all ↔ ((S.atom_id a ≡ b) × (home_of (S.heap store.old) b ≡ Some (S.mem_id m)))) × (S.heap store.new ≡ own_marked mark all (S.heap store.old)) }
 {
-    if stands_in(store, a, m) {
+    if has_home(store, a, m) {
         set_own(store, a, mark);
     }
 }
@@ -68,7 +68,7 @@ fn paint_inside<S: LinkStore>(store: &mut S, part: (S::Atom, u8), m: S::Mem, mar
     requires membrane { IsMem (S.heap store.old) (S.mem_id m) }
     ensures { (all : List ℕ) × ((b : ℕ) → In b all ↔ ((home_of (S.heap store.old) (S.atom_id part.0) ≡ Some (S.mem_id m)) × Reached (atom_map (S.heap store.old)) (S.atom_id part.0, part.1) b)) × (S.heap store.new ≡ own_marked mark all (S.heap store.old)) }
 {
-    if stands_in(store, part.0, m) {
+    if has_home(store, part.0, m) {
         paint(store, part, mark);
     }
 }
