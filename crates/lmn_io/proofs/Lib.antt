@@ -1,3 +1,5 @@
 pub mod TakingLemmas
 pub mod WritingLemmas
 mod CountLemmas
+mod HeldLemmas
+mod FetchLemmas

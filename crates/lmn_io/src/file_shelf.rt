@@ -1,4 +1,4 @@
-ghost use Rattle.std.specs.Prelude.{◌≡◌, ℕ, List, [], None, Some, ◌≤◌, length, IfOk};
+ghost use Rattle.std.specs.Prelude.{◌≡◌, ℕ, List, [], None, Some, ◌≤◌, length, option_map, IfOk};
 ghost use Rattle.lmn_io.specs.Texts.{IsFetched};
 
 use crate::fetches::FetchList;
@@ -41,11 +41,10 @@ fn fault_of(error: io::Error) -> FetchFault {
     }
 }
 
-/// The bytes of a file, of which at most one more than `most` is read.
-fn read_file<R: Files>(rt: &R, alloc: Global, name: &str, most: u64) -> Result<Fetched, FetchFault>
-    ensures { IfOk result (λ f. IsFetched None name.now most f) }
+/// All bytes of a file that was opened, if they are at most `most`. One more than that is read at most.
+fn read_all<F: Read + Drop>(file: F, alloc: Global, most: u64) -> Result<Fetched, FetchFault>
+    ensures { (name : List ℕ) → IfOk result (λ f. IsFetched (option_map (λ bytes _. Some bytes) (F.remaining file)) name most f) }
 {
-    let file = fs::open(rt, name).map_err(fault_of)?;
     let mut bytes = Vec::new(alloc);
     file.take(most.saturating_add(1))
         .read_to_end(&mut bytes)
@@ -54,6 +53,14 @@ fn read_file<R: Files>(rt: &R, alloc: Global, name: &str, most: u64) -> Result<F
         return Ok(Fetched::TooLong);
     }
     Ok(Fetched::Whole(Rows::from_vec(bytes)))
+}
+
+/// The bytes of the file with a name.
+fn read_file<R: Files>(rt: &R, alloc: Global, name: &str, most: u64) -> Result<Fetched, FetchFault>
+    ensures { IfOk result (λ f. IsFetched None name.now most f) }
+{
+    let file = fs::open(rt, name).map_err(fault_of)?;
+    read_all(file, alloc, most)
 }
 
 impl<R: Files> Shelf for FileShelf<'_, R> {

@@ -1,4 +1,8 @@
-ghost use Rattle.std.specs.Prelude.{◌≡◌, ◌≤◌, ℕ, [], Some, length};
+ghost use Rattle.std.specs.Prelude.{◌≡◌, ◌≤◌, ℕ, [], Some, length, take, OnOk};
+ghost use Rattle.std.specs.Io.KnownBytes.{Appends};
+ghost use Rattle.lmn_io.specs.Counts.{one_more_put};
+ghost use Rattle.lmn_io.specs.Taking.{TellsWritten};
+ghost use Rattle.lmn_io.specs.Writing.{WritesText};
 
 use crate::sink::{Failed, Sink};
 use crate::taken::Taken;
@@ -34,7 +38,8 @@ impl<W: Write + Drop> OutSink<W> {
 
 /// How many bytes a writer took, 0 where it failed.
 fn write_some<W: Write>(writer: &mut W, rest: &[u8]) -> usize
-    ensures { result ≤ length rest.now }
+    ensures bound { result ≤ length rest.now }
+    ensures written { Appends (W.contents writer.old) (W.contents writer.new) (take result rest.now) }
 {
     for _ in 0..TRIES {
         match writer.write(rest) {
@@ -51,7 +56,12 @@ impl<W: Write + Drop> Sink for OutSink<W> {
 
     ghost faults = { λ s. record { count = s.failures; since = s.since } };
 
-    fn put(&mut self, piece: &[u8]) -> Result<(), Failed> {
+    /// What it tells more is what its writer took.
+    fn put(&mut self, piece: &[u8]) -> Result<(), Failed>
+        ensures writes { WritesText piece.now result (Some self.old.taken.bytes) (record { count = self.old.failures; since = self.old.since }) (Some self.new.taken.bytes) (record { count = self.new.failures; since = self.new.since }) }
+        ensures counts { OnOk result (record { count = self.new.failures; since = self.new.since } ≡ one_more_put (record { count = self.old.failures; since = self.old.since })) }
+        ensures written { TellsWritten self.old.taken.bytes self.new.taken.bytes (W.contents self.old.writer) (W.contents self.new.writer) }
+    {
         let mut rest = piece;
         while !rest.is_empty() {
             let count = write_some(&mut self.writer, rest);
