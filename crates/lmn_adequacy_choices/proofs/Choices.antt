@@ -32,7 +32,7 @@ use Rattle.lmn_adequacy_choices.specs.Laws.{ChoicesAgree, ChoicesAlike, HeapsAre
 use Rattle.lmn_adequacy_choices.specs.Turns.{tree_over, membranes_in_preorder, heap_region, HaveCodes, IsReadWith, IsChosen, IsChoice, IsNextHeap}
 use Rattle.lmn_adequacy_choices.proofs.Codes.{Coded, coded, embedded_succeeds}
 use Rattle.lmn_adequacy_turns.proofs.PlanTypes.{plan_types}
-use Rattle.lmn_adequacy_choices.proofs.Lists.{got_front, in_turned, cut_at, each_among}
+use Rattle.lmn_adequacy_choices.proofs.Lists.{got_front, cut_at, each_among}
 use Rattle.lmn_adequacy_choices.proofs.Numbers.{numbered_alike}
 use Rattle.lmn_adequacy_choices.proofs.Paths.{forest_there, leads_to_one}
 use Rattle.lmn_adequacy_choices.proofs.Placed.{AtEnd, at_end, at_path}
@@ -40,6 +40,7 @@ use Rattle.lmn_adequacy_choices.proofs.Renumbering.{table_as}
 use Rattle.lmn_adequacy_choices.proofs.RestsHeld.{RestsOfRule}
 use Rattle.lmn_store_heap.proofs.Common.{in_at as got_in}
 use Rattle.lmn_base.specs.Lists.{In}
+use Rattle.lmn_schedule_strategy.proofs.Lulling.{in_drop_take}
 
 module _ (table : List RuleTree) (plans : List GuardPlan) (codes : List Code) (c : HaveCodes table plans codes) (h : Heap) (r : HeapReading) (inner : Forest) (w : IsReadWith h r inner table)
     (from : ℕ) (code : Code) (s : Registers) (ch : IsChosen from codes h inner code s) where
@@ -62,7 +63,7 @@ module _ (table : List RuleTree) (plans : List GuardPlan) (codes : List Code) (c
 
   -- its membrane
   pub inside : In m (membranes_in_preorder h inner)
-  inside = in_turned from (membranes_in_preorder h inner) m (subst (In m) (sym ch.chosen.order) (in_here m ch.chosen.earlier ch.chosen.later))
+  inside = in_drop_take (membranes_in_preorder h inner) from m (subst (In m) (sym ch.chosen.order) (in_here m ch.chosen.earlier ch.chosen.later))
 
   pub forest_of : (mi : Forest) × HasForest h m mi
   forest_of = forest_there h (tree_over h inner) (h.root ∷ []) w.tree.forms w.tree.once m inside

@@ -5,7 +5,6 @@ use Rattle.std.proofs.lemmas.Option.{same_Some}
 use Rattle.lmn_congruence.specs.Orders.{Among, at_head, further}
 use Rattle.lmn_adequacy_choices.specs.Laws.{EachWith, each_none, each_and}
 use Rattle.lmn_base.specs.Lists.{In}
-use Rattle.lmn_base.proofs.Lists.{in_either}
 
 -- what has a smaller number is in the front
 pub got_front : (xs : List ℕ) (n i k : ℕ) → i < n → slice_get xs i ≡ Some k → In k (take n xs)
@@ -13,30 +12,6 @@ got_front [] n i k l e = absurd (cc)
 got_front (x ∷ xs) zero i k l e = absurd (omega (arith, l))
 got_front (x ∷ xs) (suc n) zero k l e = inl (same_Some x k e)
 got_front (x ∷ xs) (suc n) (suc i) k l e = inr (got_front xs n i k (omega (arith, l)) e)
-
-none_taken : (n a : ℕ) → In a (take {A = ℕ} n []) → In a []
-none_taken zero a p = p
-none_taken (suc n) a p = p
-
-none_dropped : (n a : ℕ) → In a (drop {A = ℕ} n []) → In a []
-none_dropped zero a p = p
-none_dropped (suc n) a p = p
-
--- what is in a part of a list is in it
-pub in_front : (n : ℕ) (xs : List ℕ) (a : ℕ) → In a (take n xs) → In a xs
-in_front n [] a p = none_taken n a p
-in_front zero (x ∷ xs) a p = absurd p
-in_front (suc n) (x ∷ xs) a (inl e) = inl e
-in_front (suc n) (x ∷ xs) a (inr p) = inr (in_front n xs a p)
-
-in_rest : (n : ℕ) (xs : List ℕ) (a : ℕ) → In a (drop n xs) → In a xs
-in_rest n [] a p = none_dropped n a p
-in_rest zero (x ∷ xs) a p = p
-in_rest (suc n) (x ∷ xs) a p = inr (in_rest n xs a p)
-
--- what is in a list that is cut in two is in the list
-pub in_turned : (n : ℕ) (xs : List ℕ) (a : ℕ) → In a (drop n xs ++ take n xs) → In a xs
-in_turned n xs a p = elim (in_either a (drop n xs) (take n xs) p) [ inl q ↦ in_rest n xs a q | inr q ↦ in_front n xs a q ]
 
 module _ {A B : Type 0} (R : A → B → Type 0) where
   pub each_many : {xs : List A} {ys : List B} → EachWith R xs ys → length xs ≡ length ys

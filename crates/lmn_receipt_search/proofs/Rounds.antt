@@ -12,6 +12,7 @@ use Rattle.lmn_store_heap.specs.Heap.{Heap, rules_in}
 use Rattle.lmn_solid_next.specs.Choosing.{NoneOf}
 use Rattle.lmn_receipt_search.specs.Turns.{AskedAt, NoneBefore}
 use Rattle.lmn_base.proofs.Numbers.{split_at}
+use Rattle.lmn_schedule_strategy.proofs.Passing.{has_place}
 
 -- ---- a list that is turned
 
@@ -53,14 +54,6 @@ cut : (xs : List ℕ) (n y : ℕ) → slice_get xs n ≡ Some y → (later : Lis
 cut [] n y e = absurd (cc)
 cut (x ∷ xs) zero y e = (xs, ap (λ z. z ∷ xs) (same_Some x y e))
 cut (x ∷ xs) (suc n) y e = let u = cut xs n y e in (u.0, ap (λ zs. x ∷ zs) u.1)
-
--- what is in a front has a number in it
-in_taken : (n : ℕ) (xs : List ℕ) (x : ℕ) → In x (take n xs) → (i : ℕ) × (i < n) × (slice_get xs i ≡ Some x)
-in_taken zero [] x p = absurd p
-in_taken zero (y ∷ ys) x p = absurd p
-in_taken (suc n) [] x p = absurd p
-in_taken (suc n) (y ∷ ys) x (inl e) = (0, omega arith, ap (λ z. Some z) e)
-in_taken (suc n) (y ∷ ys) x (inr p) = let u = in_taken n ys x p in (suc u.0, (let l = u.1 in omega (arith, l)), u.2)
 
 -- ---- membranes at turns
 
@@ -119,7 +112,7 @@ reached from count turn m k f l a low high within =
       later = c.0;
       order = c.1;
       earlier = λ x p.
-          let j = in_taken t.0 (turned k count) x p in
+          let j = has_place (turned k count) t.0 x p in
           let jl = j.1 in
           let b = asked_back k count j.0 x high (omega (arith, jl, below)) j.2 in
           let i = split_at from (k + j.0) (omega (arith, low)) in

@@ -146,7 +146,8 @@ lulled_rightly false h k codes m i e none s = subst (λ z. SleepsRightly z codes
 
 -- ---- both parts of what is asked
 
-in_drop_take : (xs : List ℕ) (i m : ℕ) → In m (drop i xs ++ take i xs) → In m xs
+-- what is in a list that is cut in two is in the list
+pub in_drop_take : (xs : List ℕ) (i m : ℕ) → In m (drop i xs ++ take i xs) → In m xs
 in_drop_take xs i m j = subst (In m) (take-append-drop i xs) (elim (in_either m (drop i xs) (take i xs) j) [ inl q ↦ in_right m (take i xs) (drop i xs) q | inr q ↦ in_left m (take i xs) (drop i xs) q ])
 
 in_take_drop : (xs : List ℕ) (i m : ℕ) → In m xs → In m (drop i xs ++ take i xs)

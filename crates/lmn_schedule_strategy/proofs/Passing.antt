@@ -44,7 +44,7 @@ between_one xs n m e = ap (λ k. take k (drop n xs)) (let z : (n + 1) - n ≡ su
     by (y ∷ ys) e = let s : y ≡ m = (cc) in ap (λ z. z ∷ []) s
 
 -- what stands there has a number
-has_place : (xs : List ℕ) (k x : ℕ) → In x (take k xs) → (i : ℕ) × (i < k) × (slice_get xs i ≡ Some x)
+pub has_place : (xs : List ℕ) (k x : ℕ) → In x (take k xs) → (i : ℕ) × (i < k) × (slice_get xs i ≡ Some x)
 has_place [] zero x p = absurd p
 has_place [] (suc k) x p = absurd p
 has_place (y ∷ ys) zero x p = absurd p

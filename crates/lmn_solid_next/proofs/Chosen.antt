@@ -25,12 +25,13 @@ use Rattle.lmn_adequacy_heaps.proofs.Results.{root_forest}
 use Rattle.lmn_adequacy_turns.specs.Turning.{Leads}
 use Rattle.lmn_adequacy_turns.proofs.PlanTypes.{plan_types}
 use Rattle.lmn_adequacy_choices.specs.Turns.{IsReadWith, heap_region, membranes_in_preorder, tree_over}
-use Rattle.lmn_adequacy_choices.proofs.Lists.{cut_at, each_among, got_front, in_turned}
+use Rattle.lmn_adequacy_choices.proofs.Lists.{cut_at, each_among, got_front}
 use Rattle.lmn_adequacy_choices.proofs.Numbers.{numbered_alike}
 use Rattle.lmn_adequacy_choices.proofs.Paths.{forest_there, leads_inside, leads_to_one}
 use Rattle.lmn_adequacy_choices.proofs.Placed.{AtEnd, at_end, at_path}
 use Rattle.lmn_solid_next.specs.Choosing.{IsChosenAt, IsFirst, numbers_of}
 use Rattle.lmn_solid_next.specs.Laws.{FirstIsChosen, LeastImagesLie, NoneHasEmbedding}
+use Rattle.lmn_schedule_strategy.proofs.Lulling.{in_drop_take}
 
 -- A rule of a membrane, by its number: its tree and its plan.
 record Planned (r : HeapReading) (table : List RuleTree) (plans : List GuardPlan) (k : ℕ) : Type 0 where
@@ -64,7 +65,7 @@ module _ (alike : EmbedsAlike) (table : List RuleTree) (plans : List GuardPlan) 
 
   module _ (lie : LeastImagesLie) (from m place : ℕ) (rule : RuleTree) (plan : GuardPlan) (f : Images) (c : IsFirst from table plans h inner m place rule plan f) where
     inside : In m (membranes_in_preorder h inner)
-    inside = in_turned from (membranes_in_preorder h inner) m (subst (In m) (sym c.order) (in_here m c.earlier c.later))
+    inside = in_drop_take (membranes_in_preorder h inner) from m (subst (In m) (sym c.order) (in_here m c.earlier c.later))
 
     forest_of : (mi : Forest) × HasForest h m mi
     forest_of = forest_there h (tree_over h inner) (h.root ∷ []) w.tree.forms w.tree.once m inside
