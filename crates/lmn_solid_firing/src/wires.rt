@@ -10,6 +10,7 @@ use crate::images::image;
 use crate::numbers::{after, short, sum};
 use lmn_base::{NoMemory, Rows};
 use lmn_solid_heads::HeadItem;
+use lmn_solid_search::count;
 use lmn_solid_tables::{Flat, Port};
 use std::alloc::Global;
 
@@ -89,20 +90,6 @@ fn count_at_ends(ends: &[(u32, u64)], link: u32) -> usize
     let mut found = 0;
     for end in ends {
         if end.0 == link {
-            found += 1;
-        }
-    }
-    found
-}
-
-/// How often a link stands in a list.
-fn count(links: &[u32], link: u32) -> usize
-    requires { times link links.now ≤ 2 }
-    ensures { result ≡ times link links.now }
-{
-    let mut found = 0;
-    for other in links {
-        if *other == link {
             found += 1;
         }
     }

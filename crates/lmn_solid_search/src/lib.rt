@@ -25,4 +25,5 @@ mod whole;
 
 pub use embedding::{Found, least};
 pub use examples::{equals_binds, images_are_read};
+pub use outside::count;
 pub use room::Room;

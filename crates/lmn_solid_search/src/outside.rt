@@ -20,8 +20,8 @@ use lmn_base::NoMemory;
 use lmn_solid_tables::{Flat, Port};
 use std::alloc::Global;
 
-/// How often a link stands in a list.
-fn count(links: &[u32], link: u32) -> usize
+/// How often a link stands in a list, where it stands there at most twice.
+pub fn count(links: &[u32], link: u32) -> usize
     requires { times link links.now ≤ 2 }
     ensures { result ≡ times link links.now }
 {
