@@ -1,5 +1,6 @@
 pub mod VerifiedExamples
 pub mod VerifyingLemmas
+pub mod Counting
 pub mod Deciding
 pub mod Common
 pub mod NameExamples

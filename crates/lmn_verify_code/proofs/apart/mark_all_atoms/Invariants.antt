@@ -1,0 +1,6 @@
+use Rattle.std.proofs.Common.{◌≡◌, drop}
+use Rattle.lmn_verify_code.specs.Counted.{told_all, atoms_marked}
+use Rattle.lmn_verify_code.proofs.apart.mark_all_atoms.Given as goal
+
+abbrev pub invariant-loop-instr : goal.invariant-loop-instr
+invariant-loop-instr l = told_all atoms_marked l.pairs (drop l.instr-index l.code) ≡ told_all atoms_marked l.initial.pairs l.code

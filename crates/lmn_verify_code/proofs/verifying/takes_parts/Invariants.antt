@@ -1,9 +1,0 @@
-use Rattle.std.proofs.Common.{◌≡◌, ◌-◌, ◌++◌, drop, map}
-use Rattle.lmn_congruence_splice.specs.Classes.{rising}
-use Rattle.lmn_instr_code.specs.declared.words.Operand.TheVariants as operand
-use Rattle.lmn_verify_code.specs.Verified.{takes_out}
-use Rattle.lmn_verify_code.proofs.verifying.takes_parts.Given as goal
-
-abbrev pub invariant-loop-at : goal.invariant-loop-at
-invariant-loop-at l =
-    takes_out (map operand.Part (rising l.at (l.parts - l.at)) ++ map operand.Membrane (rising 1 l.membranes)) (drop l.at l.code) ≡ takes_out (map operand.Part (rising 0 l.parts) ++ map operand.Membrane (rising 1 l.membranes)) l.code
