@@ -125,6 +125,17 @@ def listing(program, text, n):
     return program(['compile'], text)
 
 
+def telling_apart(program, text, n):
+    """The listing, with NEQATOM of the same two atoms so many times more."""
+    return listing(program, text, n).replace('  COMMIT', '  NEQATOM A1 A0\n' * n + '  COMMIT', 1)
+
+
+def wide(n):
+    """A rule that makes pairs of atoms with 255 links between the two."""
+    links = [','.join(f'L{i}_{j}' for j in range(255)) for i in range(n)]
+    return 'a. a:-' + ','.join(f'p{i}({each}),q{i}({each})' for i, each in enumerate(links)) + '.'
+
+
 LOADED = [
     Shape('names in one membrane', 2000, lambda n: each('n{}', n)),
     Shape('a name in each membrane', 1000, lambda n: each('{{n{}}}', n)),
@@ -222,6 +233,9 @@ ASKED = [
 
 OTHERS = [
     Shape('exec: many rules', 300, lambda n: each('a{}:-b', n), command='exec', second=listing),
+    Shape('exec: pairs of 255 links', 8, wide, command='exec', second=listing),
+    Shape('exec: 128 atoms told apart again', 2000, lambda n: 'b. ' + ','.join(['a'] * 128) + ':-b.', command='exec', second=telling_apart),
+    Shape('exec: copies', 100, lambda n: 'k(z). k($x):-ground($x)|' + ','.join(['m($x)'] * n) + '.', command='exec', second=listing),
     Shape('check: a long trace', 200, COUNT.format, command='check', second=trace()),
     Shape('check: membranes in turn, 20 firings', 50, lambda n: clauses(['{a. a:-b.}'] * n), command='check', second=lambda program, text, n: program(['run', '--trace', '--order', 'turn', '--budget', '20'], text)),
     Shape('check: many rules, 5 firings', 200, lambda n: each('a{}:-b', n) + 'c. c:-d. d:-e. e:-f.', command='check', second=trace()),
