@@ -3,20 +3,20 @@ use Rattle.std.proofs.Common.{◌≡◌, ◌∙◌, ℕ, List, Option, Ok, Err, 
 use Rattle.std.specs.declared.alloc.Global.{Global}
 use Rattle.lmn_app_accepted.specs.Rules.{AcceptedTexts}
 use Rattle.lmn_app_accepted.proofs.Loadable.{loadable, well_named}
-use Rattle.lmn_adequacy.specs.Accepted.{Accepted}
 use Rattle.lmn_base.specs.declared.refusal.Refusal.{Refusal}
 use Rattle.lmn_base.specs.declared.rule.Plain.{Plain}
 use Rattle.lmn_base.specs.declared.solid.Solid.{Solid}
 use Rattle.lmn_congruence.specs.Regions.{Region, region_process}
 use Rattle.lmn_congruence.specs.Rules.{Name}
 use Rattle.lmn_congruence.specs.SolidsOfPlains.{IsSolidOf}
-use Rattle.lmn_congruence.specs.Translation.{region_of, top_of}
+use Rattle.lmn_congruence.specs.Translation.{top_of}
 use Rattle.lmn_congruence.proofs.SolidsOfPlains.{solids_of_plains}
 use Rattle.lmn_guards.specs.declared.plan.GuardPlan.{GuardPlan}
 use Rattle.lmn_io.specs.Counts.{Faults}
 use Rattle.lmn_io.specs.Writing.{WritesText}
 use Rattle.lmn_io.proofs.TakingLemmas.{no_put}
-use Rattle.lmn_solid_next.specs.Searching.{CanSearch, IsSolidBy}
+use Rattle.lmn_solid_next.specs.Searching.{CanSearch}
+use Rattle.lmn_receipt_search.proofs.Beginning.{solid_accepted}
 use Rattle.lmn_receipt_chain.specs.Chains.{Continued, IsChain, IsWrongTrace, begun, continued, line_of_solid, no_end_line, no_first_line, no_next_line}
 use Rattle.lmn_receipt_chain.specs.Laws.{ChainsAreCommits, ContinuesByCommit, IsAcceptedSolid}
 use Rattle.lmn_reduction.proofs.Plains.{plain_settles}
@@ -24,9 +24,7 @@ use Rattle.lmn_verify_compiled.proofs.ReadPlains.{plain_read}
 use Rattle.lmn_app_runs.specs.Laws.{IsPrintable, solid_of}
 use Rattle.lmn_app_runs.specs.Runs.{IsLineOf}
 use Rattle.lmn_app_runs.specs.Texts.{PlainsArePrintable}
-use Rattle.lmn_app_runs.proofs.Tables.{solid_has_rules, solid_rules}
 use Rattle.lmn_app_runs.proofs.TraceRuns.{Fine, next_fine, plain_fine, solid_fine}
-use Rattle.lmn_solid_settle.proofs.PlainSolids.{solid_named}
 use Rattle.lmn_app_words.specs.declared.command.PairKind.TheVariants.{Check}
 use Rattle.lmn_app.specs.declared.ending.Ending.TheVariants.{Done, WriteFault, SecondRefused}
 use Rattle.lmn_app.specs.Checks.{HasSolid, IsChecked, checked_line}
@@ -37,29 +35,12 @@ use Rattle.lmn_app.proofs.PlainRegions.{region_is_numbered, solid_with_region}
 
 -- ---- what is asked of an accepted program and its solid
 
--- its rules are such as a search for next solids asks,
+-- its rules are such as a search for next solids asks
 pub rules_fit : AcceptedTexts → (program : List ℕ) (names : List Name) (plain : Plain) (plans : List GuardPlan) → Accepts program names plain plans → CanSearch names plain plans
 rules_fit laws program names plain plans a =
     let can = loadable laws program names plain plans a.named a.accepted in
     let known = well_named laws program names plain plans a.named a.accepted in
     record { made = can.made; whole = can.plans_are; allowed = λ k rule e. (let r = known.rules (λ n m. 0) k rule e in r.accepted) }
-
--- so is its solid,
-pub solid_fits : (names : List Name) (plain : Plain) → IsPrintable names plain → (s : Solid) → IsSolidOf plain s → IsSolidBy names plain s
-solid_fits names plain printable s is = record { solid = is.is_solid; each_rule = solid_has_rules plain s printable.made is; named = solid_named names plain s printable.named is }
-
--- for a search by equal names, rules and plans too,
-pub search_fits : (names ns : List Name) (plain p : Plain) (plans ps : List GuardPlan) (s : Solid) → ns ≡ names → p ≡ plain → ps ≡ plans →
-    CanSearch names plain plans → IsSolidBy names plain s → CanSearch ns p ps × IsSolidBy ns p s
-search_fits names ns plain p plans ps s e d f can is =
-    subst (λ xs. CanSearch xs p ps × IsSolidBy xs p s) (sym e)
-    (subst (λ q. CanSearch names q ps × IsSolidBy names q s) (sym d) (subst (λ xs. CanSearch names plain xs × IsSolidBy names plain s) (sym f) (can, is)))
-
--- and its rules are accepted
-pub solid_accepted : (names : List Name) (plain : Plain) → IsPrintable names plain → (s : Solid) → IsSolidOf plain s → IsAcceptedSolid (solid_of names plain s)
-solid_accepted names plain printable s is =
-    let so = solids_of_plains names plain s printable.made is in
-    record { closed = so.closed; accepted = solid_rules Accepted names plain printable.made (λ k l. (let r = printable.rules k l in r.1)) s (solid_has_rules plain s printable.made is) }
 
 -- ---- a chain from it
 
@@ -97,7 +78,7 @@ module _ (laws : AcceptedTexts) (printables : PlainsArePrintable) (program : Lis
     start = let s = by_numbers in subst (Fine of.names) (sym s.2) (solid_fine of.names of.plain printable s.0 s.1)
 
     pub accepted : IsAcceptedSolid of.solid
-    accepted = let s = by_numbers in subst IsAcceptedSolid (sym s.2) (solid_accepted of.names of.plain printable s.0 s.1)
+    accepted = let s = by_numbers in subst IsAcceptedSolid (sym s.2) (solid_accepted of.names of.plain of.plans (rules_fit laws program of.names of.plain of.plans of.accepted) s.0 s.1)
 
     module _ (alloc : Global) where
       fine_last : {before : List Region} {last : Region} → Continued of.solid before last → Fine of.names last
@@ -128,10 +109,6 @@ wrong_code : (S : Region) (trace : List ℕ) (r : Refusal) → IsWrongTrace S tr
 wrong_code S trace r (no_first_line none is) = inr (inl (ap (λ (q : Refusal). q.code) is))
 wrong_code S trace r (no_next_line before last rest b there none is) = inr (inl (ap (λ (q : Refusal). q.code) is))
 wrong_code S trace r (no_end_line before last rest b there none is) = inr (inr (ap (λ (q : Refusal). q.code) is))
-
--- by equal names and rules a solid is one region
-pub search_region : (names ns : List Name) (plain p : Plain) (s : Solid) → ns ≡ names → p ≡ plain → region_of ns p.rules s ≡ solid_of names plain s
-search_region names ns plain p s e d = λ i. region_of (e i) (d i).rules s
 
 module _ (laws : AcceptedTexts) (printables : PlainsArePrintable) (program : List ℕ) (names : List Name) (plain : Plain) (plans : List GuardPlan) (a : Accepts program names plain plans)
     (s : Solid) (is : IsSolidOf plain s) (S : Region) (same : S ≡ solid_of names plain s) (trace : List ℕ) where

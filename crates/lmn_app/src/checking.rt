@@ -10,11 +10,10 @@ use lmn_app_accepted::accepted_texts;
 use lmn_app_reading::Accepted;
 use lmn_app_runs::plains_are_printable;
 use lmn_app_words::PairKind;
-use lmn_base::{Names, NoMemory, TextFault};
+use lmn_base::{Names, TextFault};
 use lmn_io::{Failed, Sink, put_all};
-use lmn_receipt_chain::{chains_are_commits, check};
-use lmn_receipt_search::PlainSearch;
-use lmn_solid_settle::solid_of;
+use lmn_receipt_chain::chains_are_commits;
+use lmn_receipt_search::check;
 use std::alloc::Global;
 
 /// Writes how many commits a trace has that is one of an accepted text. It is checked over lists: no store, machine or code has a part
@@ -33,21 +32,13 @@ pub(crate) fn check_by<O: Sink>(
     accepted_texts();
     plains_are_printable();
     chains_are_commits();
-    match solid_of(alloc, &accepted.plain) {
-        Ok(first) => {
-            let solids = PlainSearch::new(names, &accepted.plain, accepted.plans.as_slice());
-            match check(alloc, &solids, first, trace) {
-                Ok(commits) => match write_checked(commits, out) {
-                    Ok(()) => Ending::Done,
-                    Err(Failed) => Ending::WriteFault,
-                },
-                Err(TextFault::Refused(refusal)) => {
-                    Ending::SecondRefused(PairKind::Check, refusal)
-                }
-                Err(TextFault::NoMemory) => Ending::NoMemory,
-            }
-        }
-        Err(NoMemory) => Ending::NoMemory,
+    match check(alloc, &accepted.plain, names, trace) {
+        Ok(commits) => match write_checked(commits, out) {
+            Ok(()) => Ending::Done,
+            Err(Failed) => Ending::WriteFault,
+        },
+        Err(TextFault::Refused(refusal)) => Ending::SecondRefused(PairKind::Check, refusal),
+        Err(TextFault::NoMemory) => Ending::NoMemory,
     }
 }
 

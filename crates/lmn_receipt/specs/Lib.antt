@@ -1,5 +1,6 @@
 pub use Rattle.lmn_base.specs.Levels
 pub use Rattle.lmn_base.specs.Links
+pub use Rattle.lmn_base.specs.Names
 pub use Rattle.lmn_base.specs.Refusals
 pub use Rattle.lmn_base.specs.WellMade
 pub use Rattle.lmn_congruence.specs.SolidsOfPlains

@@ -11,13 +11,13 @@ use lmn_base::{Pos, RefusalCode, Solid, TextFault};
 use std::alloc::Global;
 use std::mem;
 
-/// Whether a trace is a chain of firings from a solid on: the number of its commits.
+/// Follows a trace from a solid on, whatever gives next solids: where it is a chain of firings, the number of its commits.
 ///
 /// # Errors
 ///
 /// A refusal by 61 where a line is that of no next solid, by 62 where the end is wrong, at the first line that is so. Want of
 /// memory at any time.
-pub fn check<N: NextSolids>(
+pub fn follow<N: NextSolids>(
     alloc: Global,
     solids: &N,
     first: Solid,

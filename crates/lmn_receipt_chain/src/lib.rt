@@ -6,7 +6,7 @@ mod laws;
 mod next;
 mod walk;
 
-pub use checking::check;
+pub use checking::follow;
 pub use laws::{
     chains_are_commits, no_trace_is_neither, small_chains, traces_are_chains, traces_are_one_of,
 };

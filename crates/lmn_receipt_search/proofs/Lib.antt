@@ -5,3 +5,4 @@ mod Places
 mod Fired
 mod Found
 mod Planned
+pub mod Beginning

@@ -9,6 +9,8 @@ mod order;
 mod plans;
 mod rules;
 mod searching;
+mod traces;
 
 pub use next::{embeds, next_from, next_of};
 pub use searching::PlainSearch;
+pub use traces::check;

@@ -6,5 +6,5 @@ mod processes;
 mod stores;
 
 pub use codes::{coded, first_code, is_last, listed, ports, read_codes, read_name};
-pub use processes::{commits_of, first_solid, has_next, reach_of, search_of};
+pub use processes::{commits_from, commits_of, first_solid, has_next, reach_of, search_of};
 pub use stores::{new_slab, new_web, root_of};

@@ -1,5 +1,6 @@
 //! Solids and traces through `lmn_solid` and `lmn_receipt`.
 ghost use Rattle.std.specs.Prelude.{ℕ, List, ◌≡◌, ◌<◌, None, length, IfOk, MatchResult};
+ghost use Rattle.lmn_base.specs.declared.solid.Solid.{Solid};
 ghost use Rattle.lmn_guards.specs.declared.plan.GuardPlan.{GuardPlan};
 ghost use Rattle.lmn_solid.specs.Choice.{paths};
 ghost use Rattle.lmn_solid.specs.Embedding.{HasEmbedding};
@@ -10,13 +11,14 @@ ghost use Rattle.lmn_receipt.specs.Chains.{IsChain, IsWrongTrace};
 ghost use Rattle.lmn_receipt.specs.Laws.{IsAcceptedSolid};
 ghost use Rattle.lmn_receipt.specs.Levels.{links_of};
 ghost use Rattle.lmn_receipt.specs.Links.{EachTwice};
+ghost use Rattle.lmn_receipt.specs.Names.{NamesPlain};
 ghost use Rattle.lmn_receipt.specs.Refusals.{IfRefused};
 ghost use Rattle.lmn_receipt.specs.SolidsOfPlains.{IsSolidOf};
 ghost use Rattle.lmn_receipt.specs.WellMade.{IsWellMade};
 
 use lmn_base::{Names, NoMemory, Plain, Solid, TextFault};
 use lmn_guards::GuardPlan;
-use lmn_receipt::{NextSolid, NextSolids, PlainSearch, check, solid_of};
+use lmn_receipt::{NextSolid, NextSolids, PlainSearch, check, follow, solid_of};
 use lmn_solid::next_of;
 use std::alloc::Global;
 
@@ -43,8 +45,25 @@ pub fn first_solid(alloc: Global, plain: &Plain) -> Result<Solid, NoMemory>
     solid_of(alloc, plain)
 }
 
-/// The number of commits of a trace.
-pub fn commits_of<N: NextSolids>(
+/// The number of commits of a trace of a plain.
+pub fn commits_of(
+    alloc: Global,
+    plain: &Plain,
+    names: &Names,
+    trace: &[u8],
+) -> Result<u64, TextFault>
+    requires searched { (plans : List GuardPlan) × CanSearch names.now plain.now plans }
+    requires named { NamesPlain names.now plain.now }
+    requires closed { EachTwice (links_of plain.now.top) }
+    ensures { MatchResult result
+        (λ n. (s : Solid) × IsSolidOf plain.now s × IsChain (region_of names.now plain.now.rules s) trace.now n)
+        (λ fault. IfRefused fault (λ refusal. (s : Solid) × IsSolidOf plain.now s × IsWrongTrace (region_of names.now plain.now.rules s) trace.now refusal)) }
+{
+    check(alloc, plain, names, trace)
+}
+
+/// The number of commits of a trace from a solid on.
+pub fn commits_from<N: NextSolids>(
     alloc: Global,
     solids: &N,
     first: Solid,
@@ -56,7 +75,7 @@ pub fn commits_of<N: NextSolids>(
         (IsChain (N.region solids.now first) trace.now)
         (λ fault. IfRefused fault (IsWrongTrace (N.region solids.now first) trace.now)) }
 {
-    check(alloc, solids, first, trace)
+    follow(alloc, solids, first, trace)
 }
 
 /// From which membrane on to which one the next solid is the same.
