@@ -5,3 +5,4 @@ mod LineBytes
 mod OneSolid
 mod OneChain
 mod ChainOrWrong
+mod LineItems

@@ -1,9 +1,10 @@
 -- How a trace is gone through.
-use Rattle.std.proofs.Common.{◌≡◌, ◌∙◌, ℕ, ◌+◌, ◌<◌, ◌≤◌, List, [], ◌∷◌, ◌++◌, codes, drop, length, map, inl, inr, refl, sym, ap, subst, arith, append_assoc, append-nil}
+use Rattle.std.proofs.Common.{◌≡◌, ◌∙◌, ℕ, ◌+◌, ◌<◌, ◌≤◌, List, [], ◌∷◌, ◌++◌, Option, Some, None, codes, drop, length, map, inl, inr, refl, sym, ap, subst, arith, append_assoc, append-nil, length-append}
+use Rattle.std.specs.Prelude.{IfSome}
 use Rattle.std.specs.List.{concat}
 use Rattle.std.proofs.lemmas.List.{drop-drop, length-drop}
 use Rattle.lmn_base.specs.declared.solid.Solid.{Solid}
-use Rattle.lmn_congruence.specs.Regions.{Region}
+use Rattle.lmn_congruence.specs.Regions.{Region, item_count_of_region}
 use Rattle.lmn_adequacy.specs.Choice.{NextFrom, paths}
 use Rattle.lmn_adequacy.specs.Embedding.{HasEmbedding}
 use Rattle.lmn_adequacy.specs.Numbered.{IsNumbered}
@@ -15,6 +16,7 @@ use Rattle.lmn_receipt_chain.specs.Laws.{IsAcceptedSolid}
 use Rattle.lmn_receipt_chain.specs.Steps.{IsOtherEnd, IsStep, NoEndIsDue, NothingFits}
 use Rattle.lmn_adequacy.proofs.Runs.{one_longer}
 use Rattle.lmn_receipt_chain.proofs.ChainLemmas.{accepted_of, sound_next}
+use Rattle.lmn_receipt_chain.proofs.LineItems.{items_in_line}
 use Rattle.lmn_base.proofs.Numbers.{below_or_from as below_or}
 
 -- ---- lines
@@ -107,6 +109,25 @@ tried_more S rest from reach next s old numbered same none k l S' more n i is = 
   | inl lower ↦ old k lower S' more n i is
   | inr high ↦ let here = same k high (omega (arith, l)) in none more (is ∙ ap (λ R. line_of_solid R ++ more) (one_next S s k S' next n i here numbered))
 ]
+
+-- and so have those up to the reach of one that has more items than the rest has bytes,
+pub large_tried : (S : Region) (rest : List ℕ) (from reach limit : ℕ) → Tried S rest from → length rest ≤ limit
+    → ((k : ℕ) → from ≤ k → k ≤ reach → (S' : Region) → NextFrom k S S' → limit < item_count_of_region S') → Tried S rest (reach + 1)
+large_tried S rest from reach limit old short large k l S' more n i is = elim (below_or k from) [
+  | inl lower ↦ old k lower S' more n i is
+  | inr high ↦ (
+      let many = large k high (omega (arith, l)) S' n in
+      omega (arith, many, short, items_in_line S', ap length is ∙ length-append (line_of_solid S') more)
+      )
+]
+
+-- one or the other, as a next solid was found,
+pub next_tried : (region : Solid → Region) (S : Region) (rest : List ℕ) (from reach limit : ℕ) (next : Option Solid) → IsAcceptedSolid S → Tried S rest from → length rest ≤ limit
+    → IfSome next (λ s. IsNumbered (region s)) → IfSome next (λ s. (k : ℕ) → from ≤ k → k ≤ reach → NextFrom k S (region s))
+    → (next ≡ None → (k : ℕ) → from ≤ k → k ≤ reach → (S' : Region) → NextFrom k S S' → limit < item_count_of_region S')
+    → IfSome next (λ s. (more : List ℕ) → rest ≡ line_of_solid (region s) ++ more → ⊥) → Tried S rest (reach + 1)
+next_tried region S rest from reach limit (Some s) sound old short numbered same large none = tried_more S rest from reach (region s) sound old numbered same none
+next_tried region S rest from reach limit None sound old short numbered same large none = large_tried S rest from reach limit old short (large refl)
 
 -- and where all were tried nothing fits
 pub all_tried : (S : Region) (rest : List ℕ) (from count : ℕ) → count ≡ length (paths S) → (from < count → ⊥) → Tried S rest from → NothingFits S rest

@@ -4,7 +4,8 @@ use std::alloc::Global;
 /// A next solid.
 #[derive(Drop)]
 pub struct NextSolid {
-    pub solid: Solid,
+    /// `None` where it is found to have more items than were allowed. Then it isn't made.
+    pub solid: Option<Solid>,
     /// It is the next one from each number of a membrane from the one that was asked up to this one.
     pub reach: u64,
 }
@@ -13,11 +14,12 @@ pub struct NextSolid {
 pub trait NextSolids {
     ghost use Rattle.std.specs.Prelude.{◌≡◌, ◌<◌, ◌≤◌, ◌++◌, ℕ, List, None, IsTrue, IsFalse, IfOk, IfSome, drop, length};
     ghost use Rattle.lmn_base.specs.declared.solid.Solid.{Solid};
-    ghost use Rattle.lmn_congruence.specs.Regions.{Region};
+    ghost use Rattle.lmn_congruence.specs.Regions.{Region, item_count_of_region};
     ghost use Rattle.lmn_adequacy.specs.Choice.{NextFrom, paths};
     ghost use Rattle.lmn_adequacy.specs.Embedding.{HasEmbedding};
     ghost use Rattle.lmn_adequacy.specs.Numbered.{IsNumbered};
     ghost use Rattle.lmn_receipt_chain.specs.Chains.{line_of_solid};
+    ghost use Rattle.lmn_receipt_chain.specs.Laws.{IsAcceptedSolid};
 
     /// What is asked of a solid.
     ghost fits: { Self → Solid → Type 0 };
@@ -29,20 +31,22 @@ pub trait NextSolids {
         requires { fits self.now solid.now }
         ensures { IfOk result (λ count. count ≡ length (paths (region self.now solid.now))) };
 
-    /// The next solid where membranes are asked from a number on, wrapping round; `None` where no rule of any membrane
-    /// embeds.
+    /// The next solid where membranes are asked from a number on, wrapping round, if no more than so many items are found in it; `None`
+    /// where no rule of any membrane embeds.
     fn next_from(
         &self,
         alloc: Global,
         solid: &Solid,
         from: u64,
+        limit: u64,
     ) -> Result<Option<NextSolid>, NoMemory>
         requires fits { fits self.now solid.now }
         requires from { from < length (paths (region self.now solid.now)) }
-        ensures fits { IfOk result (λ found. IfSome found (λ next. fits self.now next.solid)) }
-        ensures numbered { IfOk result (λ found. IfSome found (λ next. IsNumbered (region self.now next.solid))) }
+        ensures fits { IfOk result (λ found. IfSome found (λ next. IfSome next.solid (fits self.now))) }
+        ensures numbered { IfOk result (λ found. IfSome found (λ next. IfSome next.solid (λ s. IsNumbered (region self.now s)))) }
         ensures reach { IfOk result (λ found. IfSome found (λ next. (from ≤ next.reach) × (next.reach < length (paths (region self.now solid.now))))) }
-        ensures next { IfOk result (λ found. IfSome found (λ next. (k : ℕ) → from ≤ k → k ≤ next.reach → NextFrom k (region self.now solid.now) (region self.now next.solid))) }
+        ensures next { IfOk result (λ found. IfSome found (λ next. IfSome next.solid (λ s. (k : ℕ) → from ≤ k → k ≤ next.reach → NextFrom k (region self.now solid.now) (region self.now s)))) }
+        ensures large { IsAcceptedSolid (region self.now solid.now) → IfOk result (λ found. IfSome found (λ next. next.solid ≡ None → (k : ℕ) → from ≤ k → k ≤ next.reach → (S : Region) → NextFrom k (region self.now solid.now) S → limit < item_count_of_region S)) }
         ensures none { IfOk result (λ found. found ≡ None → ¬ (HasEmbedding (region self.now solid.now))) };
 
     /// Whether a rule of some membrane embeds.

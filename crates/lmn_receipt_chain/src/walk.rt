@@ -1,11 +1,12 @@
-ghost use Rattle.std.specs.Prelude.{◌≡◌, ◌<◌, ◌↔◌, ℕ, IfOk, IfSome, IsTrue, length};
+ghost use Rattle.std.specs.Prelude.{◌≡◌, ◌<◌, ◌↔◌, ◌++◌, ℕ, List, None, IfOk, IfSome, IsTrue, length};
+ghost use Rattle.lmn_congruence.specs.Regions.{Region};
 ghost use Rattle.lmn_adequacy.specs.Choice.{paths};
 ghost use Rattle.lmn_app_runs.specs.Runs.{end_line};
-ghost use Rattle.lmn_receipt_chain.specs.Chains.{IsEndThere, IsProcessThere};
+ghost use Rattle.lmn_receipt_chain.specs.Chains.{Continues, IsEndThere, IsProcessThere, line_of_solid};
 ghost use Rattle.lmn_receipt_chain.specs.Steps.{IsOtherEnd, IsStep};
 ghost use Rattle.lmn_receipt_chain.specs.Laws.{IsAcceptedSolid};
 
-use crate::next::{NextSolid, NextSolids};
+use crate::next::NextSolids;
 use itoa::Buffer;
 use lmn_base::{NoMemory, Solid};
 use std::alloc::{AllocError, Global};
@@ -75,11 +76,6 @@ fn end<N: NextSolids>(
     }
 }
 
-/// Lets a solid go, however deep it is.
-fn let_go(next: NextSolid) {
-    next.solid.root.dismantle();
-}
-
 /// Whether a text is an end line where a firing is possible.
 fn is_other_end(alloc: Global, rest: &[u8], commits: u64) -> Result<bool, NoMemory>
     ensures { IfOk result (λ is. IsTrue is ↔ IsOtherEnd rest.now commits) }
@@ -113,6 +109,34 @@ fn end_line(alloc: Global, word: &[u8], commits: u64) -> Result<Vec<u8>, AllocEr
     Ok(line)
 }
 
+/// A next solid whose line fits. Another one is let go, however deep it is.
+fn fitting<N: NextSolids>(
+    alloc: Global,
+    solids: &N,
+    next: Option<Solid>,
+    rest: &[u8],
+) -> Result<Option<Step>, NoMemory>
+    requires fits { IfSome next (N.fits solids.now) }
+    ensures some { (S : Region) (commits : ℕ) → IfSome next (λ s. Continues S (N.region solids.now s)) →
+        IfOk result (λ found. IfSome found (IsStep (N.region solids.now) (N.fits solids.now) S rest.now commits)) }
+    ensures none { IfOk result (λ found. found ≡ None → IfSome next (λ s. (more : List ℕ) → ¬ (rest.now ≡ line_of_solid (N.region solids.now s) ++ more))) }
+{
+    let Some(next) = next else {
+        return Ok(None);
+    };
+    match solids.front(alloc, &next, rest) {
+        Ok(Some(len)) => Ok(Some(Step::More(next, len))),
+        Ok(None) => {
+            next.root.dismantle();
+            Ok(None)
+        }
+        Err(NoMemory) => {
+            next.root.dismantle();
+            Err(NoMemory)
+        }
+    }
+}
+
 /// The next solid from one number of a membrane, where its line fits.
 fn try_hint<N: NextSolids>(
     alloc: Global,
@@ -125,23 +149,14 @@ fn try_hint<N: NextSolids>(
     requires hint { hint < length (paths (N.region solids.now solid.now)) }
     ensures { (commits : ℕ) → IfOk result (λ found. IfSome found (IsStep (N.region solids.now) (N.fits solids.now) (N.region solids.now solid.now) rest.now commits)) }
 {
-    match solids.next_from(alloc, solid, hint)? {
+    match solids.next_from(alloc, solid, hint, rest.len() as u64)? {
         None => Ok(None),
-        Some(next) => match solids.front(alloc, &next.solid, rest) {
-            Ok(Some(len)) => Ok(Some(Step::More(next.solid, len))),
-            Ok(None) => {
-                let_go(next);
-                Ok(None)
-            }
-            Err(NoMemory) => {
-                let_go(next);
-                Err(NoMemory)
-            }
-        },
+        Some(next) => fitting(alloc, solids, next.solid, rest),
     }
 }
 
-/// What a process line is: that of a choice that fits, or wrong.
+/// What a process line is: that of a choice that fits, or wrong. A choice that leaves more items than there are bytes isn't made: its line
+/// has a byte for each at least.
 fn line<N: NextSolids>(
     alloc: Global,
     solids: &N,
@@ -160,22 +175,17 @@ fn line<N: NextSolids>(
             return Ok(found);
         }
     }
+    let limit = rest.len() as u64;
     let mut from = 0u64;
     while from < count {
-        match solids.next_from(alloc, solid, from)? {
-            None => return Ok(Step::WrongLine),
-            Some(next) => match solids.front(alloc, &next.solid, rest) {
-                Ok(Some(len)) => return Ok(Step::More(next.solid, len)),
-                Ok(None) => {
-                    from = next.reach + 1;
-                    let_go(next);
-                }
-                Err(NoMemory) => {
-                    let_go(next);
-                    return Err(NoMemory);
-                }
-            },
+        let Some(next) = solids.next_from(alloc, solid, from, limit)? else {
+            return Ok(Step::WrongLine);
+        };
+        let reach = next.reach;
+        if let Some(found) = fitting(alloc, solids, next.solid, rest)? {
+            return Ok(found);
         }
+        from = reach + 1;
     }
     Ok(Step::WrongLine)
 }

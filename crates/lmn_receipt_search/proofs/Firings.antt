@@ -68,7 +68,7 @@ module _ (reads : FlatsAreRead) (have_rules : FlatsHaveRules) (may_fire : Search
   counted : length (paths S) ≡ count
   counted = ap (λ (z : Region). length (paths z)) (sym is_region) ∙ (numbered_alike h r inner w.is_flat.tree).many ∙ ap length in_order ∙ length-range_with_len 0 count
 
-  module _ (first_law : FirstIsChosen) (from turn m : ℕ) (f : from < count) (l : turn < count) (a : AskedAt from count turn m) (none : NoneBefore plain.rules plans h from count turn) (next : Solid) (u : FiresIn names plain plans s flat m next) (k : ℕ)
+  module _ (first_law : FirstIsChosen) (from turn m : ℕ) (f : from < count) (l : turn < count) (a : AskedAt from count turn m) (none : NoneBefore plain.rules plans h from count turn) (next : Region) (u : FiresIn names plain plans s flat m next) (k : ℕ)
       (low : from ≤ k) (high : k < count) (within : k ≤ from + turn) where
     is_first : IsFirst k plain.rules plans h inner m u.place u.rule u.plan u.fires.found
     is_first =
@@ -86,7 +86,7 @@ module _ (reads : FlatsAreRead) (have_rules : FlatsHaveRules) (may_fire : Search
           least = u.fires.least;
         }
 
-    next_from : NextFrom k S (region_of names plain.rules next)
+    next_from : NextFrom k S next
     next_from =
         let c = first_law plain.rules plans w.can.whole h r inner (read_with names plain plans s flat w reads have_rules may_fire) k m u.place u.rule u.plan u.fires.found is_first in
         let ns = numbers_of h u.rule u.plan u.fires.found in

@@ -6,3 +6,5 @@ mod Fired
 mod Found
 mod Planned
 pub mod Beginning
+mod MadeItems
+mod Counted

@@ -22,8 +22,8 @@ use Rattle.lmn_base.specs.declared.solid.Solid.{Solid}
 use Rattle.lmn_congruence.specs.Rules.{Name}
 use Rattle.lmn_solid_tables.specs.declared.flat.Flat.{Flat}
 use Rattle.lmn_solid_tables.specs.Flats.{heap_of}
-use Rattle.lmn_solid_next.specs.Asking.{Fires, IsAsked, IsSearched}
-use Rattle.lmn_receipt_search.specs.Turns.{AskedRules, EmbedsThere, FiresIn}
+use Rattle.lmn_solid_next.specs.Asking.{IsAsked, IsSearched}
+use Rattle.lmn_receipt_search.specs.Turns.{AskedRules, EmbedsThere, FiresInWithin, FiresWithin}
 
 -- what is in a front with one element more is in the front, or this element
 in_more : (xs : List ℕ) (i k x : ℕ) → slice_get xs i ≡ Some k → In x (take (suc i) xs) → In x (take i xs) ⊎ (k ≡ x)
@@ -77,16 +77,31 @@ module _ (laws : AskedRules) (names : List Name) (plain : Plain) (plans : List G
   asked_here rule plan d there r p = record { searched = w; there = there; number = n; stands = stands; is = r; plan_is = planned plan d p }
 
   -- where no rule before it embeds, and it fires
-  pub fires_here : (rule : RuleTree) (plan : GuardPlan) → IsAsked names plain plans s flat m place rule plan → NoneOf plain.rules plans (heap_of flat) m (take place xs) → (next : Solid) → Fires names plain s flat m place rule plan next →
-      FiresIn names plain plans s flat m next
-  fires_here rule plan a none next f = record {
-    place = place;
-    rule = rule;
-    plan = plan;
-    asked = a;
-    before = subst (λ z. NoneOf plain.rules plans (heap_of flat) m (take place z)) e none;
-    fires = f;
-  }
+  pub fires_here : (rule : RuleTree) (plan : GuardPlan) → IsAsked names plain plans s flat m place rule plan → NoneOf plain.rules plans (heap_of flat) m (take place xs) → (limit : ℕ) (o : Option Solid) →
+      FiresWithin names plain s flat m place rule plan limit o → FiresInWithin names plain plans s flat m limit o
+  fires_here rule plan a none limit (Some next) f = (
+    record {
+      place = place;
+      rule = rule;
+      plan = plan;
+      asked = a;
+      before = subst (λ z. NoneOf plain.rules plans (heap_of flat) m (take place z)) e none;
+      fires = record { found = f.found; least = f.least; path = f.path; leads = f.leads; next_at = f.next_at };
+    },
+    f.by,
+  )
+  fires_here rule plan a none limit None f = (
+    f.0,
+    record {
+      place = place;
+      rule = rule;
+      plan = plan;
+      asked = a;
+      before = subst (λ z. NoneOf plain.rules plans (heap_of flat) m (take place z)) e none;
+      fires = f.1;
+    },
+    f.2,
+  )
 
   -- or it embeds
   pub embeds_here : (rule : RuleTree) (plan : GuardPlan) → IsAsked names plain plans s flat m place rule plan → NoneOf plain.rules plans (heap_of flat) m (take place xs) → (f : Images) × IsLeast (heap_of flat) (head_items rule plan) rule.guard m f →

@@ -1,6 +1,6 @@
 -- Membranes in the order in which they are asked, and what is known of rules that are asked there. Contracts of private functions alone
 -- cite these words.
-use Rattle.std.specs.Prelude.{ℕ, ◌≡◌, ◌<◌, ◌≤◌, ◌+◌, ◌^◌, ◌⊎◌, ◌↔◌, List, Some, length, slice_get, take}
+use Rattle.std.specs.Prelude.{ℕ, ◌≡◌, ◌<◌, ◌≤◌, ◌+◌, ◌^◌, ◌⊎◌, ◌↔◌, List, Option, Some, None, length, slice_get, take}
 use Rattle.lmn_base.specs.declared.rule.Plain.{Plain}
 use Rattle.lmn_base.specs.declared.rule.RuleTree.{RuleTree}
 use Rattle.lmn_base.specs.declared.solid.Solid.{Solid}
@@ -11,14 +11,25 @@ use Rattle.lmn_solid_heads.specs.Embeddings.{Images, IsLeast}
 use Rattle.lmn_solid_heads.specs.Flattening.{unnumbered}
 use Rattle.lmn_compile_head.specs.Accepted.{head_items}
 use Rattle.lmn_compile_head.specs.Heads.{IsHead, kind_in}
+use Rattle.lmn_congruence.specs.Regions.{Region, item_count_of_region}
 use Rattle.lmn_congruence.specs.Rules.{Name}
 use Rattle.lmn_congruence.specs.Translation.{region_of}
 use Rattle.lmn_adequacy.specs.Choice.{NextFrom, paths}
 use Rattle.lmn_adequacy.specs.Embedding.{HasEmbedding}
+use Rattle.lmn_adequacy.specs.Next.{NextAt}
+use Rattle.lmn_adequacy_turns.specs.Turning.{Leads}
 use Rattle.lmn_solid_tables.specs.declared.flat.Flat.{Flat}
 use Rattle.lmn_solid_tables.specs.Flats.{heap_of}
-use Rattle.lmn_solid_next.specs.Choosing.{NoneOf}
+use Rattle.lmn_solid_firing.specs.Making.{IsReadyFor}
+use Rattle.lmn_solid_firing.specs.Matched.{IsMatched}
+use Rattle.lmn_solid_firing.specs.declared.match_.Match.{Match}
+use Rattle.lmn_solid_search.specs.Finding.{images}
+use Rattle.lmn_solid_search.specs.declared.embedding.Found.{Found}
+use Rattle.lmn_solid_next.specs.Choosing.{NoneOf, numbers_of}
+use Rattle.lmn_solid_next.specs.Firing.{TellsIntegers}
+use Rattle.lmn_solid_next.specs.Searching.{IsSolidBy}
 use Rattle.lmn_solid_next.specs.Asking.{Fires, IsAsked, IsSearched}
+use Rattle.lmn_receipt_search.specs.Items.{AreSizes, body_size}
 
 -- what a search for the least embedding of a rule asks
 pub record CanBeSearched (flat : Flat) (m : ℕ) (rule : RuleTree) (plan : GuardPlan) : Type 0 where
@@ -42,14 +53,32 @@ AskedAt from count turn m = (m < count) × ((from + turn ≡ m) ⊎ (from + turn
 abbrev pub NoneBefore : List RuleTree → List GuardPlan → Heap → (from count turn : ℕ) → Type 0
 NoneBefore table plans h from count turn = (i m : ℕ) → i < turn → AskedAt from count i m → NoneOf table plans h m (rules_in h m)
 
--- Of the rules of membrane m, one is the first that embeds there, and it fires.
-pub record FiresIn (names : List Name) (plain : Plain) (plans : List GuardPlan) (s : Solid) (flat : Flat) (m : ℕ) (next : Solid) : Type 0 where
+-- The rule fires in membrane m at its least images, and the solid after it is this region.
+pub record FiresTo (names : List Name) (plain : Plain) (s : Solid) (flat : Flat) (m place : ℕ) (rule : RuleTree) (plan : GuardPlan) (next : Region) : Type 0 where
+  pub found : Images
+  pub least : IsLeast (heap_of flat) (head_items rule plan) rule.guard m found
+  pub path : List ℕ
+  pub leads : Leads (heap_of flat) m path 0
+  pub next_at : NextAt path place (numbers_of (heap_of flat) rule plan found) (region_of names plain.rules s) next
+
+-- It fires, and what is answered is the next solid, or nothing where this has more items than a limit.
+abbrev pub FiresWithin : (names : List Name) (plain : Plain) (s : Solid) (flat : Flat) (m place : ℕ) (rule : RuleTree) (plan : GuardPlan) (limit : ℕ) → Option Solid → Type 0
+FiresWithin names plain s flat m place rule plan limit (Some next) = Fires names plain s flat m place rule plan next
+FiresWithin names plain s flat m place rule plan limit None = (next : Region) × FiresTo names plain s flat m place rule plan next × (limit < item_count_of_region next)
+
+-- Of the rules of membrane m, one is the first that embeds there, and it fires: the solid after it is this region.
+pub record FiresIn (names : List Name) (plain : Plain) (plans : List GuardPlan) (s : Solid) (flat : Flat) (m : ℕ) (next : Region) : Type 0 where
   pub place : ℕ
   pub rule : RuleTree
   pub plan : GuardPlan
   pub asked : IsAsked names plain plans s flat m place rule plan
   pub before : NoneOf plain.rules plans (heap_of flat) m (take place (rules_in (heap_of flat) m))
-  pub fires : Fires names plain s flat m place rule plan next
+  pub fires : FiresTo names plain s flat m place rule plan next
+
+-- What is answered is the next solid, or nothing where this has more items than a limit.
+abbrev pub FiresInWithin : (names : List Name) (plain : Plain) (plans : List GuardPlan) (s : Solid) (flat : Flat) (m limit : ℕ) → Option Solid → Type 0
+FiresInWithin names plain plans s flat m limit (Some next) = FiresIn names plain plans s flat m (region_of names plain.rules next) × IsSolidBy names plain next
+FiresInWithin names plain plans s flat m limit None = (next : Region) × FiresIn names plain plans s flat m next × (limit < item_count_of_region next)
 
 -- Of the rules of membrane m, one is the first that embeds there, and it lies least at these images.
 pub record EmbedsThere (names : List Name) (plain : Plain) (plans : List GuardPlan) (s : Solid) (flat : Flat) (m : ℕ) : Type 0 where
@@ -72,11 +101,20 @@ pub record FiringsAreNext : Type 0 where
       (count : ℕ) → ((m : ℕ) → IsMem (heap_of flat) m ↔ (m < count)) → length (paths (region_of names plain.rules s)) ≡ count
   pub next : (names : List Name) (plain : Plain) (plans : List GuardPlan) (s : Solid) (flat : Flat) → IsSearched names plain plans s flat →
       (count : ℕ) → ((m : ℕ) → IsMem (heap_of flat) m ↔ (m < count)) → (from turn m : ℕ) → from < count → turn < count → AskedAt from count turn m →
-      NoneBefore plain.rules plans (heap_of flat) from count turn → (next : Solid) → FiresIn names plain plans s flat m next →
-      (k : ℕ) → from ≤ k → k < count → k ≤ from + turn → NextFrom k (region_of names plain.rules s) (region_of names plain.rules next)
+      NoneBefore plain.rules plans (heap_of flat) from count turn → (next : Region) → FiresIn names plain plans s flat m next →
+      (k : ℕ) → from ≤ k → k < count → k ≤ from + turn → NextFrom k (region_of names plain.rules s) next
   pub embeds : (names : List Name) (plain : Plain) (plans : List GuardPlan) (s : Solid) (flat : Flat) → IsSearched names plain plans s flat →
       (count : ℕ) → ((m : ℕ) → IsMem (heap_of flat) m ↔ (m < count)) → (m : ℕ) → m < count → NoneBefore plain.rules plans (heap_of flat) 0 count m →
       EmbedsThere names plain plans s flat m → HasEmbedding (region_of names plain.rules s)
   pub none : (names : List Name) (plain : Plain) (plans : List GuardPlan) (s : Solid) (flat : Flat) → IsSearched names plain plans s flat →
       (count : ℕ) → ((m : ℕ) → IsMem (heap_of flat) m ↔ (m < count)) → (from : ℕ) → from < count → NoneBefore plain.rules plans (heap_of flat) from count count →
       ¬ (HasEmbedding (region_of names plain.rules s))
+
+-- A rule that is asked, and lies least at what is found, fires, and the solid after it has at least as many items as are counted of its
+-- body by what is matched.
+abbrev pub BodiesAreCounted : Type 0
+BodiesAreCounted = (names : List Name) (plain : Plain) (plans : List GuardPlan) (s : Solid) (flat : Flat) (m place : ℕ) (rule : RuleTree) (plan : GuardPlan) →
+    IsAsked names plain plans s flat m place rule plan → (found : Found) → IsLeast (heap_of flat) (head_items rule plan) rule.guard m (images m found) →
+    TellsIntegers (heap_of flat) (head_items rule plan) rule.guard m found → (t : Match) → IsMatched flat rule (head_items rule plan) m found t → IsReadyFor flat t →
+    (sizes : List ℕ) → AreSizes (heap_of flat) sizes →
+    (next : Region) × FiresTo names plain s flat m place rule plan next × (body_size (heap_of flat) sizes t rule.body ≤ item_count_of_region next)

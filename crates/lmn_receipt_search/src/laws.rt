@@ -1,9 +1,11 @@
 //! What is known of rules that are asked, and of firings.
-ghost use Rattle.lmn_receipt_search.specs.Turns.{AskedRules, FiringsAreNext};
+ghost use Rattle.lmn_receipt_search.specs.Turns.{AskedRules, BodiesAreCounted, FiringsAreNext};
 
 use lmn_compile_head::accepted_heads;
+use lmn_solid_firing::firings_are_spelled;
 use lmn_solid_next::{
-    first_is_chosen, flats_have_rules, none_has_embedding, searched_rules_may_fire,
+    first_is_chosen, flats_have_rules, least_images_lie, matches_are_of_embeddings,
+    none_has_embedding, searched_rules_may_fire,
 };
 use lmn_solid_tables::flats_are_read;
 
@@ -25,4 +27,14 @@ pub(crate) fn firings_are_next()
     flats_are_read();
     flats_have_rules();
     searched_rules_may_fire();
+}
+
+/// A rule that is asked and lies least fires, and leaves at least as many items as are counted of its body.
+pub(crate) fn bodies_are_counted()
+    ensures { BodiesAreCounted }
+{
+    searched_rules_may_fire();
+    least_images_lie();
+    matches_are_of_embeddings();
+    firings_are_spelled();
 }

@@ -1,6 +1,6 @@
 //! The next solid by plain search over lists: no store, no machine and no code.
 //!
-//! What is asked of a plain and a solid stands in `specs/Searching` of `lmn_solid_next`; of `specs/Turns` private functions speak.
+//! What is asked of a plain and a solid stands in `specs/Searching` of `lmn_solid_next`; of `specs/Turns` and `specs/Items` private functions speak.
 #![tactic(auto)]
 
 mod laws;
@@ -9,6 +9,7 @@ mod order;
 mod plans;
 mod rules;
 mod searching;
+mod sizes;
 mod traces;
 
 pub use next::{embeds, next_from, next_of};

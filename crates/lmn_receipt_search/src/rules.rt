@@ -12,10 +12,12 @@ ghost use Rattle.lmn_solid_search.specs.Finding.{images};
 ghost use Rattle.lmn_solid_search.specs.Holding.{HasRoom};
 ghost use Rattle.lmn_solid_next.specs.Choosing.{NoneOf};
 ghost use Rattle.lmn_solid_next.specs.Firing.{TellsIntegers};
-ghost use Rattle.lmn_solid_next.specs.Asking.{Fires, IsAsked, IsSearched};
-ghost use Rattle.lmn_receipt_search.specs.Turns.{EmbedsThere, FiresIn};
+ghost use Rattle.lmn_solid_next.specs.Asking.{IsAsked, IsSearched};
+ghost use Rattle.lmn_receipt_search.specs.Items.{AreSizes};
+ghost use Rattle.lmn_receipt_search.specs.Turns.{EmbedsThere, FiresInWithin, FiresWithin};
 
-use crate::laws::asked_rules;
+use crate::laws::{asked_rules, bodies_are_counted};
+use crate::sizes::Sizes;
 use lmn_base::{NoMemory, Plain, Rows, RuleTree, Solid};
 use lmn_compile_head::flatten;
 use lmn_guards::GuardPlan;
@@ -27,27 +29,41 @@ use lmn_solid_settle::settle;
 use lmn_solid_tables::Flat;
 use std::alloc::Global;
 
-/// The solid after a rule fires in a membrane where it is found to lie.
+/// What a rule that fires leaves.
+#[derive(Drop)]
+pub(crate) struct Firing {
+    /// The next solid, unless it is found to have more items than a limit.
+    pub(crate) solid: Option<Solid>,
+}
+
+/// What a rule leaves that fires in a membrane where it is found to lie. Where its body makes more items than the limit, they aren't made.
 fn fire_found(
     alloc: Global,
     flat: &Flat,
+    sizes: &Sizes,
     rule: &RuleTree,
     plan: &GuardPlan,
     items: &[HeadItem],
     membrane: usize,
     found: &Found,
-) -> Result<Solid, NoMemory>
+    limit: u64,
+) -> Result<Firing, NoMemory>
     requires asked { (names : List Name) × (plain : Plain) × (plans : List GuardPlan) × (s : Solid) × (place : ℕ) × IsAsked names plain plans s flat.now membrane place rule.now plan.now }
     requires items { items.now ≡ head_items rule.now plan.now }
     requires least { IsLeast (heap_of flat.now) (head_items rule.now plan.now) rule.now.guard membrane (images membrane found.now) }
     requires known { TellsIntegers (heap_of flat.now) (head_items rule.now plan.now) rule.now.guard membrane found.now }
+    requires sizes { AreSizes (heap_of flat.now) sizes.now.of.items }
     ensures { (names : List Name) (plain : Plain) (plans : List GuardPlan) (s : Solid) (place : ℕ) → IsAsked names plain plans s flat.now membrane place rule.now plan.now →
-        IfOk result (Fires names plain s flat.now membrane place rule.now plan.now) }
+        IfOk result (λ firing. FiresWithin names plain s flat.now membrane place rule.now plan.now limit firing.solid) }
 {
     asked_rules();
     asked_rules_fire();
+    bodies_are_counted();
     let mut connectors = Rows::new(alloc);
     let taken = matched(alloc, flat, rule, items, membrane, found, &mut connectors)?;
+    if sizes.are_beyond(flat, &taken, &rule.body, limit) {
+        return Ok(Firing { solid: None });
+    }
     let (membranes, links) = fire(
         alloc,
         flat,
@@ -56,23 +72,27 @@ fn fire_found(
         rule.links.len() as u64,
         &mut connectors,
     )?;
-    settle(alloc, membranes, connectors.as_slice(), links)
+    let next = settle(alloc, membranes, connectors.as_slice(), links)?;
+    Ok(Firing { solid: Some(next) })
 }
 
-/// The solid after a rule fires in a membrane at its least embedding, if it has one there.
+/// What a rule leaves that fires in a membrane at its least embedding, if it has one there.
 fn fire_rule(
     alloc: Global,
     flat: &Flat,
+    sizes: &Sizes,
     rule: &RuleTree,
     plan: &GuardPlan,
     membrane: usize,
     room: &mut Room,
-) -> Result<Option<Solid>, NoMemory>
+    limit: u64,
+) -> Result<Option<Firing>, NoMemory>
     requires asked { (names : List Name) × (plain : Plain) × (plans : List GuardPlan) × (s : Solid) × (place : ℕ) × IsAsked names plain plans s flat.now membrane place rule.now plan.now }
     requires room { HasRoom (heap_of flat.now) room.old }
+    requires sizes { AreSizes (heap_of flat.now) sizes.now.of.items }
     ensures room { HasRoom (heap_of flat.now) room.new }
     ensures some { (names : List Name) (plain : Plain) (plans : List GuardPlan) (s : Solid) (place : ℕ) → IsAsked names plain plans s flat.now membrane place rule.now plan.now →
-        IfOk result (λ found. IfSome found (Fires names plain s flat.now membrane place rule.now plan.now)) }
+        IfOk result (λ found. IfSome found (λ firing. FiresWithin names plain s flat.now membrane place rule.now plan.now limit firing.solid)) }
     ensures none { IfOk result (λ found. found ≡ None → (f : Images) → ¬ (Embeds (heap_of flat.now) (head_items rule.now plan.now) rule.now.guard membrane f)) }
 {
     asked_rules();
@@ -88,8 +108,18 @@ fn fire_rule(
     match least {
         None => Ok(None),
         Some(found) => {
-            let next = fire_found(alloc, flat, rule, plan, items.as_slice(), membrane, &found)?;
-            Ok(Some(next))
+            let firing = fire_found(
+                alloc,
+                flat,
+                sizes,
+                rule,
+                plan,
+                items.as_slice(),
+                membrane,
+                &found,
+                limit,
+            )?;
+            Ok(Some(firing))
         }
     }
 }
@@ -133,20 +163,23 @@ fn rule_at(rules: &[u32], place: usize) -> usize
     rules[place] as usize
 }
 
-/// The solid after the first rule of a membrane that embeds there fires, if one does.
+/// What the first rule of a membrane that embeds there leaves, if one does.
 pub(crate) fn fire_in(
     alloc: Global,
     flat: &Flat,
+    sizes: &Sizes,
     plain: &Plain,
     plans: &[GuardPlan],
     membrane: usize,
     room: &mut Room,
-) -> Result<Option<Solid>, NoMemory>
+    limit: u64,
+) -> Result<Option<Firing>, NoMemory>
     requires searched { (names : List Name) × (s : Solid) × IsSearched names plain.now plans.now s flat.now }
     requires there { IsMem (heap_of flat.now) membrane }
     requires room { HasRoom (heap_of flat.now) room.old }
+    requires sizes { AreSizes (heap_of flat.now) sizes.now.of.items }
     ensures room { HasRoom (heap_of flat.now) room.new }
-    ensures some { (names : List Name) (s : Solid) → IsSearched names plain.now plans.now s flat.now → IfOk result (λ found. IfSome found (FiresIn names plain.now plans.now s flat.now membrane)) }
+    ensures some { (names : List Name) (s : Solid) → IsSearched names plain.now plans.now s flat.now → IfOk result (λ found. IfSome found (λ firing. FiresInWithin names plain.now plans.now s flat.now membrane limit firing.solid)) }
     ensures none { IfOk result (λ found. found ≡ None → NoneOf plain.now.rules plans.now (heap_of flat.now) membrane (rules_in (heap_of flat.now) membrane)) }
 {
     asked_rules();
@@ -156,10 +189,12 @@ pub(crate) fn fire_in(
         let fired = fire_rule(
             alloc,
             flat,
+            sizes,
             plain.rules.at(number),
             &plans[number],
             membrane,
             room,
+            limit,
         )?;
         if fired.is_some() {
             return Ok(fired);

@@ -48,8 +48,9 @@ impl NextSolids for PlainSearch<'_> {
         alloc: Global,
         solid: &Solid,
         from: u64,
+        limit: u64,
     ) -> Result<Option<NextSolid>, NoMemory> {
-        next_from(alloc, solid, self.plain, self.plans, from)
+        next_from(alloc, solid, self.plain, self.plans, from, limit)
     }
 
     fn embeds(&self, alloc: Global, solid: &Solid) -> Result<bool, NoMemory> {

@@ -1,7 +1,7 @@
 use Rattle.lmn_solid_tables.specs.Flats.{heap_of}
 use Rattle.lmn_base.proofs.Lists.{holds_of_item}
-use Rattle.lmn_receipt_search.specs.Turns.{FiresIn}
-use Rattle.lmn_receipt_search.proofs.Found.{next_at_turn, one_of_count, one_of_paths, searched}
+use Rattle.lmn_receipt_search.specs.Turns.{FiresInWithin}
+use Rattle.lmn_receipt_search.proofs.Found.{by_within, large_within, next_within, one_of_count, one_of_paths, searched}
 use Rattle.lmn_receipt_search.proofs.Rounds.{all_before, before_more}
 use Rattle.lmn_receipt_search.proofs.next.next_from.Goals as goal
 
@@ -31,7 +31,8 @@ reach_of-reach-requires-clause-from c =
 pub returns-in-Some-clause-by : goal.returns-in-Some-clause-by
 returns-in-Some-clause-by c names can by =
     let w = searched names c.args.plain.now c.args.plans.now c.args.solid.now c.in_ok-flat.flat can by c.in_ok-flat.ensures in
-    (holds_of_item (FiresIn names c.args.plain.now c.args.plans.now c.args.solid.now c.in_ok-flat.flat c.asked_at-membrane.result) c.in_ok-fired.fired c.in-Some.next c.in-Some.is (c.in_ok-fired.ensures.some names c.args.solid.now w)).fires.by
+    by_within names c.args.plain.now c.args.plans.now c.args.solid.now c.in_ok-flat.flat c.asked_at-membrane.result c.args.limit c.in-Some.firing.solid
+    (holds_of_item (λ firing. FiresInWithin names c.args.plain.now c.args.plans.now c.args.solid.now c.in_ok-flat.flat c.asked_at-membrane.result c.args.limit firing.solid) c.in_ok-fired.fired c.in-Some.firing c.in-Some.is (c.in_ok-fired.ensures.some names c.args.solid.now w))
 
 pub returns-in-Some-clause-reach : goal.returns-in-Some-clause-reach
 returns-in-Some-clause-reach c names can by =
@@ -44,9 +45,19 @@ returns-in-Some-clause-next c names can by =
     let w = searched names c.args.plain.now c.args.plans.now c.args.solid.now c.in_ok-flat.flat can by c.in_ok-flat.ensures in
     let known = searched q.0 c.args.plain.now c.args.plans.now c.args.solid.now c.in_ok-flat.flat q.1 q.2 c.in_ok-flat.ensures in
     let from = one_of_count c.firings_are_next.ensures q.0 c.args.plain.now c.args.plans.now c.args.solid.now c.in_ok-flat.flat known c.membrane_count-count.result c.membrane_count-count.ensures.count c.args.from q.3 in
-    let fires = holds_of_item (FiresIn names c.args.plain.now c.args.plans.now c.args.solid.now c.in_ok-flat.flat c.asked_at-membrane.result) c.in_ok-fired.fired c.in-Some.next c.in-Some.is (c.in_ok-fired.ensures.some names c.args.solid.now w) in
-    next_at_turn c.firings_are_next.ensures names c.args.plain.now c.args.plans.now c.args.solid.now c.in_ok-flat.flat w c.membrane_count-count.result c.membrane_count-count.ensures.count
-    c.args.from c.loop-turn.turn c.asked_at-membrane.result c.reach_of-reach.result from c.loop-turn-test.true c.asked_at-membrane.ensures c.loop-turn.invariant.none c.in-Some.next fires c.reach_of-reach.ensures.1 c.reach_of-reach.ensures.2
+    let fires = holds_of_item (λ firing. FiresInWithin names c.args.plain.now c.args.plans.now c.args.solid.now c.in_ok-flat.flat c.asked_at-membrane.result c.args.limit firing.solid) c.in_ok-fired.fired c.in-Some.firing c.in-Some.is (c.in_ok-fired.ensures.some names c.args.solid.now w) in
+    next_within c.firings_are_next.ensures names c.args.plain.now c.args.plans.now c.args.solid.now c.in_ok-flat.flat w c.membrane_count-count.result c.membrane_count-count.ensures.count
+    c.args.from c.loop-turn.turn c.asked_at-membrane.result c.reach_of-reach.result from c.loop-turn-test.true c.asked_at-membrane.ensures c.loop-turn.invariant.none c.args.limit c.in-Some.firing.solid fires c.reach_of-reach.ensures.1 c.reach_of-reach.ensures.2
+
+pub returns-in-Some-clause-large : goal.returns-in-Some-clause-large
+returns-in-Some-clause-large c names can by sound =
+    let q = c.requires in
+    let w = searched names c.args.plain.now c.args.plans.now c.args.solid.now c.in_ok-flat.flat can by c.in_ok-flat.ensures in
+    let known = searched q.0 c.args.plain.now c.args.plans.now c.args.solid.now c.in_ok-flat.flat q.1 q.2 c.in_ok-flat.ensures in
+    let from = one_of_count c.firings_are_next.ensures q.0 c.args.plain.now c.args.plans.now c.args.solid.now c.in_ok-flat.flat known c.membrane_count-count.result c.membrane_count-count.ensures.count c.args.from q.3 in
+    let fires = holds_of_item (λ firing. FiresInWithin names c.args.plain.now c.args.plans.now c.args.solid.now c.in_ok-flat.flat c.asked_at-membrane.result c.args.limit firing.solid) c.in_ok-fired.fired c.in-Some.firing c.in-Some.is (c.in_ok-fired.ensures.some names c.args.solid.now w) in
+    large_within c.firings_are_next.ensures names c.args.plain.now c.args.plans.now c.args.solid.now c.in_ok-flat.flat w c.membrane_count-count.result c.membrane_count-count.ensures.count sound
+    c.args.from c.loop-turn.turn c.asked_at-membrane.result c.reach_of-reach.result from c.loop-turn-test.true c.asked_at-membrane.ensures c.loop-turn.invariant.none c.args.limit c.in-Some.firing.solid fires c.reach_of-reach.ensures.1 c.reach_of-reach.ensures.2
 
 pub loop-turn-preserved : goal.loop-turn-preserved
 loop-turn-preserved c = record {

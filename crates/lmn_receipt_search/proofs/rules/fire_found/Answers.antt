@@ -1,12 +1,11 @@
-use Rattle.std.proofs.Common.{subst, sym}
+use Rattle.std.proofs.Common.{arith, subst, sym}
 use Rattle.lmn_solid_heads.specs.Embeddings.{Lies}
 use Rattle.lmn_compile_head.specs.Heads.{IsHead, kind_in}
 use Rattle.lmn_solid_tables.specs.Flats.{heap_of}
 use Rattle.lmn_store_heap.specs.Heap.{IsMem}
 use Rattle.lmn_solid_search.specs.Finding.{images}
-use Rattle.std.proofs.lemmas.Result.{IfOk-weaker}
+use Rattle.lmn_solid_firing.specs.Matched.{IsMatched}
 use Rattle.lmn_solid_settle.specs.Raw.{CanSettle, IsSettled}
-use Rattle.lmn_solid_next.specs.Asking.{Fires}
 use Rattle.lmn_receipt_search.proofs.Fired.{settled_to}
 use Rattle.lmn_receipt_search.proofs.rules.fire_found.Goals as goal
 
@@ -52,6 +51,13 @@ returns c names plain plans s place a =
     settled_to c.asked_rules_fire.ensures names plain plans s c.args.flat.now c.args.membrane place c.args.rule.now c.args.plan.now a c.args.items.now c.requires.items c.args.found.now c.requires.least c.requires.known c.in_ok-taken.taken c.in_ok-taken.ensures.matched
     c.new-connectors.result c.matched.new.connectors c.new-connectors.ensures c.in_ok-taken.ensures.connectors c.in_ok-membranes.membranes.items c.fire.new.connectors c.in_ok-membranes.links c.len.result c.len.ensures
     (λ left forms inner whole. c.in_ok-membranes.ensures left forms inner whole) in
-    IfOk-weaker c.settle.result (IsSettled u.region c.as_slice.result.now) (Fires names plain s c.args.flat.now c.args.membrane place c.args.rule.now c.args.plan.now)
-    (λ next h. u.next next (subst (λ es. IsSettled u.region es next) c.as_slice.ensures h))
-    (c.settle.ensures u.region u.is_laid (subst (λ es. CanSettle u.region es c.in_ok-membranes.links) (sym c.as_slice.ensures) u.can_settle))
+    u.next c.in_ok-next.next (subst (λ es. IsSettled u.region es c.in_ok-next.next) c.as_slice.ensures
+    (c.in_ok-next.ensures u.region u.is_laid (subst (λ es. CanSettle u.region es c.in_ok-membranes.links) (sym c.as_slice.ensures) u.can_settle)))
+
+pub returns-then-are_beyond : goal.returns-then-are_beyond
+returns-then-are_beyond c names plain plans s place a =
+    let w =
+    c.bodies_are_counted.ensures names plain plans s c.args.flat.now c.args.membrane place c.args.rule.now c.args.plan.now a c.args.found.now c.requires.least c.requires.known c.in_ok-taken.taken
+    (subst (λ xs. IsMatched c.args.flat.now c.args.rule.now xs c.args.membrane c.args.found.now c.in_ok-taken.taken) c.requires.items c.in_ok-taken.ensures.matched) c.in_ok-taken.ensures.ready c.args.sizes.now.of.items c.requires.sizes in
+    let many = c.are_beyond.ensures c.if-are_beyond.true in
+    (w.0, w.1, omega (arith, w.2, many))

@@ -1,8 +1,7 @@
 use Rattle.lmn_base.proofs.Lists.{weaker}
 use Rattle.lmn_solid_tables.specs.Flats.{heap_of}
 use Rattle.lmn_solid_next.specs.Choosing.{NoneOf}
-use Rattle.lmn_solid_next.specs.Asking.{Fires}
-use Rattle.lmn_receipt_search.specs.Turns.{FiresIn}
+use Rattle.lmn_receipt_search.specs.Turns.{FiresInWithin, FiresWithin}
 use Rattle.lmn_receipt_search.proofs.Places.{asked_here, fires_here, known_here, none_here, nothing_by, whole_front}
 use Rattle.lmn_receipt_search.proofs.rules.fire_in.Goals as goal
 
@@ -24,8 +23,9 @@ fire_rule-requires-clause-asked c =
 pub returns-then-is_some-clause-some : goal.returns-then-is_some-clause-some
 returns-then-is_some-clause-some c names s w =
     let a = asked_here c.asked_rules.ensures names c.args.plain.now c.args.plans.now s c.args.flat.now c.args.membrane c.loop-place.place c.rules-rules.result.now w c.rules-rules.ensures c.rule_at-number.result c.rule_at-number.ensures c.at.result.now c.index-plans-number.result _ c.requires.there c.at.ensures c.index-plans-number.is in
-    weaker c.in_ok-fired.fired (Fires names c.args.plain.now s c.args.flat.now c.args.membrane c.loop-place.place c.at.result.now c.index-plans-number.result) (FiresIn names c.args.plain.now c.args.plans.now s c.args.flat.now c.args.membrane)
-    (fires_here c.asked_rules.ensures names c.args.plain.now c.args.plans.now s c.args.flat.now c.args.membrane c.loop-place.place c.rules-rules.result.now w c.rules-rules.ensures c.rule_at-number.result c.rule_at-number.ensures c.at.result.now c.index-plans-number.result a c.loop-place.invariant.none)
+    weaker c.in_ok-fired.fired (λ firing. FiresWithin names c.args.plain.now s c.args.flat.now c.args.membrane c.loop-place.place c.at.result.now c.index-plans-number.result c.args.limit firing.solid)
+    (λ firing. FiresInWithin names c.args.plain.now c.args.plans.now s c.args.flat.now c.args.membrane c.args.limit firing.solid)
+    (λ firing. fires_here c.asked_rules.ensures names c.args.plain.now c.args.plans.now s c.args.flat.now c.args.membrane c.loop-place.place c.rules-rules.result.now w c.rules-rules.ensures c.rule_at-number.result c.rule_at-number.ensures c.at.result.now c.index-plans-number.result a c.loop-place.invariant.none c.args.limit firing.solid)
     (c.in_ok-fired.ensures.some names c.args.plain.now c.args.plans.now s c.loop-place.place a)
 
 pub loop-place-preserved : goal.loop-place-preserved

@@ -43,7 +43,7 @@ fire_found-requires-clause-known c =
     (holds_of_item (TellsIntegers (heap_of c.args.flat.now) c.as_slice.result.now c.as_slice-2.result.now c.args.membrane) c.in_ok-least.least c.in-Some.found c.in-Some.is c.in_ok-least.ensures.known)
 
 pub returns-clause-some : goal.returns-clause-some
-returns-clause-some c names plain plans s place a = c.in_ok-next-in-Some.ensures names plain plans s place a
+returns-clause-some c names plain plans s place a = c.in_ok-firing-in-Some.ensures names plain plans s place a
 
 pub returns-clause-none : goal.returns-clause-none
 returns-clause-none c e = absurd (cc)

@@ -13,17 +13,20 @@ next_from-requires c = (c.args.self.now.names.now, c.requires.fits.0, c.requires
 pub returns-clause-fits : goal.returns-clause-fits
 returns-clause-fits c =
     let p = c.args.self.now in
-    IfOk-weaker c.next_from.result (λ o. IfSome o (λ next. IsSolidBy p.names.now p.plain.now next.solid)) (λ o. IfSome o (λ next. CanSearch p.names.now p.plain.now p.plans.now × IsSolidBy p.names.now p.plain.now next.solid))
-    (λ o h. IfSome_then o h (λ next b. (c.requires.fits.0, b))) (c.next_from.ensures.by p.names.now c.requires.fits.0 c.requires.fits.1)
+    IfOk-weaker c.next_from.result (λ o. IfSome o (λ next. IfSome next.solid (IsSolidBy p.names.now p.plain.now))) (λ o. IfSome o (λ next. IfSome next.solid (λ s. CanSearch p.names.now p.plain.now p.plans.now × IsSolidBy p.names.now p.plain.now s)))
+    (λ o h. IfSome_then o h (λ next b. IfSome_then next.solid b (λ s d. (c.requires.fits.0, d)))) (c.next_from.ensures.by p.names.now c.requires.fits.0 c.requires.fits.1)
 
 pub returns-clause-numbered : goal.returns-clause-numbered
 returns-clause-numbered c =
     let p = c.args.self.now in
-    IfOk-weaker c.next_from.result (λ o. IfSome o (λ next. IsSolidBy p.names.now p.plain.now next.solid)) (λ o. IfSome o (λ next. IsNumbered (region_of p.names.now p.plain.now.rules next.solid)))
-    (λ o h. IfSome_then o h (λ next b. solid_is_numbered p.names.now p.plain.now.rules next.solid b.solid)) (c.next_from.ensures.by p.names.now c.requires.fits.0 c.requires.fits.1)
+    IfOk-weaker c.next_from.result (λ o. IfSome o (λ next. IfSome next.solid (IsSolidBy p.names.now p.plain.now))) (λ o. IfSome o (λ next. IfSome next.solid (λ s. IsNumbered (region_of p.names.now p.plain.now.rules s))))
+    (λ o h. IfSome_then o h (λ next b. IfSome_then next.solid b (λ s d. solid_is_numbered p.names.now p.plain.now.rules s d.solid))) (c.next_from.ensures.by p.names.now c.requires.fits.0 c.requires.fits.1)
 
 pub returns-clause-reach : goal.returns-clause-reach
 returns-clause-reach c = c.next_from.ensures.reach c.args.self.now.names.now c.requires.fits.0 c.requires.fits.1
 
 pub returns-clause-next : goal.returns-clause-next
 returns-clause-next c = c.next_from.ensures.next c.args.self.now.names.now c.requires.fits.0 c.requires.fits.1
+
+pub returns-clause-large : goal.returns-clause-large
+returns-clause-large c = c.next_from.ensures.large c.args.self.now.names.now c.requires.fits.0 c.requires.fits.1

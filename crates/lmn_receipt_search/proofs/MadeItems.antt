@@ -1,0 +1,256 @@
+-- What a firing makes has at least as many items as are counted of its body.
+use Rattle.std.proofs.Common.{ℕ, zero, suc, ◌≡◌, ◌∙◌, ◌+◌, ◌==◌, ◌≤◌, ◌⊎◌, inl, inr, Bool, true, false, cond, if◌then◌else◌, List, [], ◌∷◌, ◌++◌, Option, Some, None, IsSome, length, map, get_or, refl, sym, ap, subst, arith, length-append}
+use Rattle.std.proofs.lemmas.List.{length-map}
+use Rattle.std.specs.List.{AllByRecursion}
+use Rattle.lmn_base.specs.Lists.{In}
+use Rattle.lmn_base.proofs.Lists.{in_either, sum_cons}
+use Rattle.lmn_base.proofs.Numbers.{unequal_when}
+use Rattle.lmn_base.specs.declared.level.CtxUse.{CtxUse}
+use Rattle.lmn_base.specs.declared.level.Leaf.{Leaf}
+use Rattle.lmn_base.specs.declared.level.Leaf.TheVariants as leaf
+use Rattle.lmn_base.specs.declared.level.Level.{Level}
+use Rattle.lmn_base.specs.declared.level.Level.TheFolds.{fold-roll-Level, ind-Level}
+use Rattle.lmn_base.specs.declared.solid.SolidAtom.{SolidAtom}
+use Rattle.lmn_store_heap.specs.Heap.{Heap, HeapAtom, IsAtom, IsMem, atoms_in, mems_in, rules_in}
+use Rattle.lmn_store_heap.specs.Solid.{solid_atom_at, solid_atoms_at}
+use Rattle.lmn_store_heap.specs.Sound.{Forest, Forms, Valid, bare, mem, flat as members, item_count_in}
+use Rattle.lmn_ground_parts.specs.Walks.{is_in}
+use Rattle.lmn_solid_bodies.specs.Flattening.{membrane_named}
+use Rattle.lmn_solid_settle.specs.Raw.{RawRegion, RawRegions, laid, laid_in, no_raw, raw, raw_and, settled_atom, size}
+use Rattle.lmn_solid_settle.specs.declared.settling.RawMembrane.{RawMembrane}
+use Rattle.lmn_solid_tables.specs.Flats.{heap_of, link_at}
+use Rattle.lmn_solid_tables.specs.declared.flat.Flat.{Flat}
+use Rattle.lmn_solid_firing.specs.Making.{HasAtoms, IsReadyFor, LeftForms, LevelMade, context_atoms, context_membranes, context_next, context_writing, contexts_next, fired_region, fired_regions, home_region, integer_atoms, leaf_atoms, leaf_next, leaves_atoms, leaves_next, left_of, level_made, level_step, made_membranes, after_membranes, raws_append, raws_at, rules_named, typed_atoms, written, written_atoms}
+use Rattle.lmn_solid_firing.specs.declared.match_.Match.{Match}
+use Rattle.lmn_solid_firing.specs.declared.match_.Part.{Part}
+use Rattle.lmn_solid_firing.specs.declared.writing.Writing.{Writing}
+use Rattle.lmn_solid_firing.specs.declared.writing.Writing.TheVariants.{Rooted, Shifted}
+use Rattle.lmn_solid_firing.proofs.Laying.{in_left_of, named_there}
+use Rattle.lmn_solid_firing.proofs.Wholes.{atoms_there}
+use Rattle.lmn_receipt_search.specs.Items.{AreSizes, body_size, context_size, contexts_size, leaf_size, leaves_size, left_size, part_size, rules_size, size_at, size_step, total}
+
+-- ---- items of a raw region
+
+-- its atoms, membranes and rules, at every depth
+abbrev mutual
+  pub raw_items : RawRegion → ℕ
+  raw_items (raw xs ms rs) = length xs + raw_items_in ms + length rs
+
+  pub raw_items_in : RawRegions → ℕ
+  raw_items_in no_raw = 0
+  raw_items_in (raw_and m ms) = 1 + raw_items m + raw_items_in ms
+
+append_items : (ms ns : RawRegions) → raw_items_in (raws_append ms ns) ≡ raw_items_in ms + raw_items_in ns
+append_items no_raw ns = omega arith
+append_items (raw_and m ms) ns = omega (arith, append_items ms ns)
+
+-- those of the rows of a table, each row counted too
+abbrev row_items : List RawMembrane → ℕ
+row_items [] = 0
+row_items (r ∷ rs) = 1 + length r.atoms + length r.rules + row_items rs
+
+rows_append : (xs ys : List RawMembrane) → row_items (xs ++ ys) ≡ row_items xs + row_items ys
+rows_append [] ys = omega arith
+rows_append (x ∷ xs) ys = omega (arith, rows_append xs ys)
+
+mutual
+  laid_items : (around n : ℕ) (r : RawRegion) → row_items (laid around n r) ≡ 1 + raw_items r
+  laid_items around n (raw xs ms rs) = omega (arith, laid_items_in n (suc n) ms)
+
+  laid_items_in : (around n : ℕ) (ms : RawRegions) → row_items (laid_in around n ms) ≡ raw_items_in ms
+  laid_items_in around n no_raw = refl
+  laid_items_in around n (raw_and m ms) = omega (arith, laid_items around n m, laid_items_in around (n + size m) ms, rows_append (laid around n m) (laid_in around (n + size m) ms))
+
+-- regions with one table have as many items
+pub as_many_items : (r q : RawRegion) → laid 0 0 r ≡ laid 0 0 q → raw_items r ≡ raw_items q
+as_many_items r q e = let a = laid_items 0 0 r in let b = laid_items 0 0 q in let c : row_items (laid 0 0 r) ≡ row_items (laid 0 0 q) = ap row_items e in omega (arith, a, b, c)
+
+-- ---- what is left
+
+-- a test that takes away
+left_numbers : (taken xs : List ℕ) → left_size (λ a. 1) taken xs ≡ length (left_of taken xs)
+left_numbers taken [] = refl
+left_numbers taken (x ∷ xs) = by (is_in taken x) (left_numbers taken xs)
+  where
+    by : (b : Bool) → left_size (λ a. 1) taken xs ≡ length (left_of taken xs) → (if b then 0 else 1) + left_size (λ a. 1) taken xs ≡ length (if b then left_of taken xs else (x ∷ left_of taken xs))
+    by true e = omega (arith, e)
+    by false e = omega (arith, e)
+
+module _ (flat : Flat) (valid : Valid (heap_of flat)) where
+  abbrev h : Heap
+  h = heap_of flat
+
+  -- atoms that are there, written
+  written_many : (w : Writing) (xs : List ℕ) → ((a : ℕ) → In a xs → IsAtom h a) → length (written_atoms flat w xs) ≡ length xs
+  written_many w xs there = length-map (solid_atoms_at h (link_at flat) xs) (settled_atom (written w)) ∙ all_there xs there
+    where
+      one : (x : ℕ) (o : Option HeapAtom) → IsSome o → length (solid_atom_at (link_at flat) x o) ≡ 1
+      one x None i = absurd (cc)
+      one x (Some y) i = refl
+
+      all_there : (xs : List ℕ) → ((a : ℕ) → In a xs → IsAtom h a) → length (solid_atoms_at h (link_at flat) xs) ≡ length xs
+      all_there [] t = refl
+      all_there (x ∷ xs) t =
+          let a = length-append (solid_atom_at (link_at flat) x (h.atoms x)) (solid_atoms_at h (link_at flat) xs) in
+          let r = all_there xs (λ b i. t b (inr i)) in
+          let o = one x (h.atoms x) (t x (inl refl)) in
+          omega (arith, a, r, o)
+
+  -- ---- membranes with what stands in them
+
+  items_append : (xs ys : List ℕ) → item_count_in h (xs ++ ys) ≡ item_count_in h xs + item_count_in h ys
+  items_append [] ys = omega arith
+  items_append (x ∷ xs) ys =
+      let f : ℕ → ℕ = λ m. 1 + length (atoms_in h m) + length (rules_in h m) in
+      omega (arith, sum_cons f x (xs ++ ys), sum_cons f x xs, items_append xs ys)
+
+  one_more : (m : ℕ) (ms : List ℕ) → item_count_in h (m ∷ ms) ≡ 1 + length (atoms_in h m) + length (rules_in h m) + item_count_in h ms
+  one_more m ms = sum_cons (λ m. 1 + length (atoms_in h m) + length (rules_in h m)) m ms
+
+  forest_items : (w : Writing) (f : Forest) → raw_items_in (raws_at flat w f) ≡ item_count_in h (members f)
+  forest_items w bare = refl
+  forest_items w (mem m inner rest) = omega (
+    arith, one_more m (members inner ++ members rest), items_append (members inner) (members rest), forest_items w inner, forest_items w rest,
+    written_many w (atoms_in h m) (λ a i. atoms_there h valid m a i))
+
+  module _ (t : Match) (left : ℕ → Forest) (forms : LeftForms flat t left) (ready : IsReadyFor flat t) (root : IsMem h 0) (sizes : List ℕ) (are : AreSizes h sizes) where
+    -- a list of membranes by its table, and by its forest
+    formed : (taken ms : List ℕ) (f : Forest) → Forms h f (left_of taken ms) → left_size (size_at sizes) taken ms ≤ item_count_in h (members f)
+    formed taken ms f k = let a = by_table taken ms in let b = by_forest f (left_of taken ms) k in omega (arith, a, b)
+      where
+        sizes_of : List ℕ → ℕ
+        sizes_of xs = total (map (size_at sizes) xs)
+
+        by_table : (taken ms : List ℕ) → left_size (size_at sizes) taken ms ≡ total (map (size_at sizes) (left_of taken ms))
+        by_table taken [] = refl
+        by_table taken (x ∷ xs) = by (is_in taken x) (by_table taken xs)
+          where
+            by : (b : Bool) → left_size (size_at sizes) taken xs ≡ total (map (size_at sizes) (left_of taken xs))
+                → (if b then 0 else size_at sizes x) + left_size (size_at sizes) taken xs ≡ total (map (size_at sizes) (if b then left_of taken xs else (x ∷ left_of taken xs)))
+            by true e = omega (arith, e)
+            by false e = omega (arith, e)
+
+        by_forest : (f : Forest) (ms : List ℕ) → Forms h f ms → total (map (size_at sizes) ms) ≤ item_count_in h (members f)
+        by_forest bare ms e = subst (λ xs. total (map (size_at sizes) xs) ≤ 0) (sym e) (omega arith)
+        by_forest (mem m inner rest) ms (others, e, i, r) =
+            let here = are m inner i in
+            let behind = by_forest rest others r in
+            let all = items_append (m ∷ members inner) (members rest) in
+            subst (λ xs. total (map (size_at sizes) xs) ≤ item_count_in h (members (mem m inner rest))) (sym e) (omega (arith, here, behind, all))
+
+    context_made : (w : Writing) (x : ℕ) → IsMem h x → context_size h sizes t x ≤ length (written_atoms flat w (left_of t.atoms (atoms_in h x))) + raw_items_in (raws_at flat w (left x))
+    context_made w x there =
+        let a = left_numbers t.atoms (atoms_in h x) in
+        let b = written_many w (left_of t.atoms (atoms_in h x)) (λ a i. atoms_there h valid x a (in_left_of t.atoms (atoms_in h x) a i)) in
+        let c = formed t.membranes (mems_in h x) (left x) (forms x there) in
+        let d = forest_items w (left x) in
+        omega (arith, a, b, c, d)
+
+    contexts_made : (us : List CtxUse) (next start : ℕ) → contexts_size h sizes t us ≤ length (context_atoms flat t next us) + raw_items_in (context_membranes flat t left start us)
+    contexts_made [] next start = omega arith
+    contexts_made (u ∷ us) next start =
+        let x = membrane_named t.contexts u.name in
+        let v = context_writing u.closed next in
+        let w = context_writing u.closed start in
+        let there = named_there h root t.contexts ready.contexts u.name in
+        let a = context_made v x there in
+        let rest = contexts_made us (context_next t.links u.closed next) (context_next t.links u.closed start) in
+        let atoms = length-append (written_atoms flat v (left_of t.atoms (atoms_in h x))) (context_atoms flat t (context_next t.links u.closed next) us) in
+        let membranes = append_items (raws_at flat w (left x)) (context_membranes flat t left (context_next t.links u.closed start) us) in
+        omega (arith, a, rest, atoms, membranes, forest_items v (left x), forest_items w (left x))
+
+    rules_made : (us : List CtxUse) → rules_size h t us ≡ length (rules_named flat t us)
+    rules_made [] = refl
+    rules_made (u ∷ us) = omega (arith, rules_made us, length-append (rules_in h (membrane_named t.rule_contexts u.name)) (rules_named flat t us))
+
+    part_made : (ps : List Part) → AllByRecursion (HasAtoms h) ps → (name link next : ℕ) → part_size ps name ≤ length (typed_atoms flat ps t.integers name link next)
+    part_made [] there name link next = omega arith
+    part_made (p ∷ ps) there name link next = by (p.name == name) (part_made ps there.1 name link next)
+      where
+        by : (b : Bool) → part_size ps name ≤ length (typed_atoms flat ps t.integers name link next)
+            → (if b then length p.atoms else part_size ps name) ≤ length (if b then written_atoms flat (Rooted p.link link next) p.atoms else typed_atoms flat ps t.integers name link next)
+        by true e = let many = written_many (Rooted p.link link next) p.atoms there.0 in omega (arith, many)
+        by false e = e
+
+    leaves_made : (ls : List Leaf) (next : ℕ) → leaves_size t ls ≤ length (leaves_atoms flat t next ls)
+    leaves_made [] next = omega arith
+    leaves_made (x ∷ xs) next = omega (arith, one x, leaves_made xs (leaf_next t x next), length-append (leaf_atoms flat t next x) (leaves_atoms flat t (leaf_next t x next) xs))
+      where
+        one : (x : Leaf) → leaf_size t x ≤ length (leaf_atoms flat t next x)
+        one (leaf.Atom functor links pos) = omega arith
+        one (leaf.Typed name o pos) = part_made t.parts ready.parts name (t.links + o.link) next
+
+    -- ---- levels
+
+    pub record LevelCounted (b : LevelMade) (k : ℕ) : Type 0 where
+      pub all : (next : ℕ) → k ≤ length (b.atoms next) + raw_items_in (b.membranes (b.start next) (b.own next)) + length b.rules
+
+    record MembranesCounted (bs : List LevelMade) (k : ℕ) : Type 0 where
+      pub all : (next : ℕ) → k ≤ raw_items_in (made_membranes next bs)
+
+    membrane_more : (b : LevelMade) (bs : List LevelMade) (k n : ℕ) → LevelCounted b k → MembranesCounted bs n → MembranesCounted (b ∷ bs) (k + n)
+    membrane_more b bs k n u w = record { all = λ next. omega (arith, u.all next, w.all (b.after (b.own next))) }
+
+    level_counted : (leaves : List Leaf) (cs us : List CtxUse) (bs : List LevelMade) (rs : List ℕ) (n : ℕ) → MembranesCounted bs n → LevelCounted (record {
+      atoms = λ next. leaves_atoms flat t next leaves ++ context_atoms flat t (leaves_next t leaves next) cs;
+      start = λ next. leaves_next t leaves next;
+      own = λ next. contexts_next t.links cs (leaves_next t leaves next);
+      rules = rs ++ rules_named flat t us;
+      membranes = λ start next. raws_append (made_membranes next bs) (context_membranes flat t left start cs);
+      after = λ next. after_membranes next bs;
+    }) (leaves_size t leaves + contexts_size h sizes t cs + rules_size h t us + n)
+    level_counted leaves cs us bs rs n w = record {
+      all = λ next.
+          let start = leaves_next t leaves next in
+          omega (
+            arith, leaves_made leaves next, contexts_made cs start start, rules_made us, w.all (contexts_next t.links cs start),
+            length-append (leaves_atoms flat t next leaves) (context_atoms flat t start cs), length-append rs (rules_named flat t us),
+            append_items (made_membranes (contexts_next t.links cs start) bs) (context_membranes flat t left start cs));
+    }
+
+    abbrev One : Level → Type 0
+    One l = LevelCounted (level_made flat t left l) (body_size h sizes t l)
+
+    inside : (ls : List ((l : Level) × One l)) → let ms = map (λ e. e.0) ls in MembranesCounted (map (level_made flat t left) ms) (total (map (body_size h sizes t) ms))
+    inside [] = record { all = λ next. omega arith }
+    inside (e ∷ ls) =
+        let ms = map (λ e. e.0) ls in
+        membrane_more (level_made flat t left e.0) (map (level_made flat t left) ms) (body_size h sizes t e.0) (total (map (body_size h sizes t) ms)) e.1 (inside ls)
+
+    pub body_counted : (l : Level) → One l
+    body_counted = ind-Level One (λ y z is.
+        let inner = subst (λ l. MembranesCounted (map (level_made flat t left) l.membranes) (total (map (body_size h sizes t) l.membranes))) is (inside z.membranes) in
+        let bs = map (level_made flat t left) y.membranes in
+        rw (fold-roll-Level LevelMade (level_step flat t left) y, fold-roll-Level ℕ (size_step h sizes t) y)
+        (level_counted y.leaves y.contexts y.rule_contexts bs y.rules (total (map (body_size h sizes t) y.membranes)) inner))
+
+    -- ---- the whole region
+
+    abbrev home : (b : LevelMade) (next : ℕ) → RawRegion
+    home b next = home_region flat t left b next
+
+    pub home_counted : (b : LevelMade) (next k : ℕ) → LevelCounted b k → k ≤ raw_items (home b next)
+    home_counted b next k u =
+        let kept = written_atoms flat (Shifted 0) (left_of t.atoms (atoms_in h t.home)) in
+        omega (
+          arith, u.all next, length-append kept (b.atoms next), length-append (rules_in h t.home) b.rules,
+          append_items (raws_at flat (Shifted 0) (left t.home)) (b.membranes (b.start next) (b.own next)))
+
+    one_fired : (made : RawRegion) (m : ℕ) (inner : Forest) → In t.home (m ∷ members inner) → (In t.home (members inner) → raw_items made ≤ raw_items_in (fired_regions flat t.home made inner))
+        → raw_items made ≤ raw_items (fired_region flat t.home made m inner)
+    one_fired made m inner i in_it = by (m == t.home) refl (λ e. elim i [ inl here ↦ absurd (unequal_when m t.home e here) | inr within ↦ in_it within ])
+      where
+        by : (b : Bool) → (m == t.home) ≡ b → ((m == t.home) ≡ false → raw_items made ≤ raw_items_in (fired_regions flat t.home made inner))
+            → raw_items made ≤ raw_items (if b then made else raw (written_atoms flat (Shifted 0) (atoms_in h m)) (fired_regions flat t.home made inner) (rules_in h m))
+        by true e f = omega arith
+        by false e f = omega (arith, f e)
+
+    fired_counted_in : (made : RawRegion) (f : Forest) → In t.home (members f) → raw_items made ≤ raw_items_in (fired_regions flat t.home made f)
+    fired_counted_in made bare i = absurd i
+    fired_counted_in made (mem m inner rest) i = elim (in_either t.home (m ∷ members inner) (members rest) i) [
+      | inl here ↦ omega (arith, one_fired made m inner here (λ j. fired_counted_in made inner j))
+      | inr behind ↦ omega (arith, fired_counted_in made rest behind)
+    ]
+
+    pub fired_counted : (made : RawRegion) (m : ℕ) (inner : Forest) → In t.home (m ∷ members inner) → raw_items made ≤ raw_items (fired_region flat t.home made m inner)
+    fired_counted made m inner i = one_fired made m inner i (λ j. fired_counted_in made inner j)
