@@ -39,7 +39,6 @@ use Rattle.lmn_app.specs.Runnings.{EndsDebugged, obeyed_as}
 use Rattle.lmn_app.specs.Seconds.{ReadsBoth}
 use Rattle.lmn_app.specs.Texts.{Accepts, IsRefusal, IsTooLarge, at_start, too_large}
 use Rattle.lmn_app.specs.Writing.{IsToldAnd, told_under}
-use Rattle.lmn_app.proofs.OutcomeLemmas.{told_and}
 use Rattle.lmn_app.proofs.PairLemmas.{has_session}
 use Rattle.lmn_app.proofs.RequestLemmas.{pair_refused}
 
@@ -103,5 +102,5 @@ large_refused p texts program names plain plans k kind a told can causes x count
     let large = causes s.0 s.1 in
     let more : session_size < item_count_of_region (solid_of names plain s.0) = omega (arith, large.0, items_kept names plain.rules s.0) in
     let is_large : IsTooLarge (Some session_size) names plain = (solid_of names plain s.0, solids_of_plains names plain s.0 can.made s.1, more) in
-    let P : List ℕ → Type 0 = λ bytes. IsRefusal (most_items_of_pair p.kind) bytes (at_start 50) in
-    pair_refused p (at_start 50) texts x count f g (told_and P (told_under texts p.file) program told (subst (λ size. IsRefusal size program (at_start 50)) (sym kind) (too_large names plain plans a is_large refl))) refl
+    pair_refused p (at_start 50) texts x count f g
+    (record { text = program; is_told = told; refused = subst (λ size. IsRefusal size program (at_start 50)) (sym kind) (too_large names plain plans a is_large refl); code = refl })

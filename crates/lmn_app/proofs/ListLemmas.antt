@@ -66,4 +66,4 @@ pub read_refused : (t : Task) (text : List ℕ) (before names : List Name) (r : 
     → IsRefusedAs text names r → Ended t (Refused r) (Some (Some text)) x x n n rb ra
 read_refused t text before names r x n rb ra short e named h =
     let refused = read_refuses (most_items t) text before names r short e named h in
-    refused_ended t r (Some (Some text)) x n rb ra refused.0 refused.1
+    refused_ended t r (Some (Some text)) x n rb ra (record { text = text; is_told = refl; refused = refused.0; code = refused.1 })

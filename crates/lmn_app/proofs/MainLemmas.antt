@@ -14,15 +14,13 @@ use Rattle.lmn_app_words.specs.declared.command.PairKind.{PairKind}
 use Rattle.lmn_app_words.specs.Forms.{Pair, to_run, to_compile, to_demo, to_pair}
 use Rattle.lmn_app.specs.Endings.{Concludes, HasLine, line_of_ending, refusal_line, status_of}
 use Rattle.lmn_app.specs.SecondTexts.{second_status}
-use Rattle.lmn_base.specs.Codes.{IsTextCode}
-use Rattle.lmn_app.specs.Outcomes.{AnswersOf, CountsFaults, Output, OutputOf, PairOutput, RefusesSecondOf, RequestEnded}
-use Rattle.lmn_app.specs.Texts.{IsRefusal}
+use Rattle.lmn_app.specs.Outcomes.{AnswersOf, CountsFaults, Output, OutputOf, PairOutput, RefusesSecondOf, RefusesText, RequestEnded}
 use Rattle.lmn_app.specs.declared.task.Task.{Task}
 use Rattle.lmn_app.specs.declared.task.Task.TheVariants as task
 use Rattle.lmn_app.specs.Demos.{demo_text}
 use Rattle.lmn_app.specs.Requests.{Asked, ReadRose, folded_run, most_items_of, settings_of, told_of}
 use Rattle.lmn_app.specs.Texts.{IsAccepted}
-use Rattle.lmn_app.specs.Writing.{IfTold, IsToldAnd, told_under}
+use Rattle.lmn_app.specs.Writing.{IfTold, told_under}
 use Rattle.lmn_app.proofs.OutcomeLemmas.{Refusing}
 use Rattle.lmn_app.proofs.RequestLemmas.{not_words, read_counted, refusal_of, request_answered, request_refused_so, second_high, second_of}
 
@@ -286,8 +284,8 @@ module _ (one : OneRequest) (words : List (String Global)) (texts : Option (List
   puts_end e a k = (out_last e a, err_last e k)
 
   pub refusal_told : (e : Ending) → Acted e → Concluded e → status ≡ 2 →
-      Asked words (λ c. (r : Refusal) × IsToldAnd (told_of c texts) (λ text. IsRefusal (most_items_of c) text r) × IsTextCode r.code × Takes (refusal_line r) eo en)
-  refusal_told (Refused r) (inl (c, asks, h)) (inl (s, t, same)) k = let cause = refusal_of texts read reads c r h.cause in (c, asks, (r, cause.0, cause.1, t))
+      Asked words (λ c. (r : Refusal) × RefusesText (most_items_of c) (told_of c texts) r × Takes (refusal_line r) eo en)
+  refusal_told (Refused r) (inl (c, asks, h)) (inl (s, t, same)) k = (c, asks, (r, refusal_of texts read reads c r h.cause, t))
   refusal_told Done (inl (c, asks, h)) (inl (s, t, q)) k = absurd (omega (arith, s, k))
   refusal_told Budget (inl (c, asks, h)) (inl (s, t, q)) k = absurd (omega (arith, s, k))
   refusal_told Words (inl (c, asks, h)) (inl (s, t, q)) k = absurd (omega (arith, s, k))

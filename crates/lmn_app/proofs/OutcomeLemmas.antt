@@ -1,6 +1,6 @@
 -- What follows from what a command leaves behind.
-use Rattle.std.specs.Prelude.{◌≡◌, ◌<◌, ℕ, ◌⊎◌, List, Option, None, Some, IfSome, IsSomeAnd}
-use Rattle.std.proofs.Common.{inl, inr, refl, subst, sym, length}
+use Rattle.std.specs.Prelude.{◌≡◌, ◌<◌, ℕ, ◌+◌, ◌⊎◌, List, [], ◌∷◌, Option, None, Some, IfSome, IsSomeAnd}
+use Rattle.std.proofs.Common.{ap, arith, inl, inr, refl, subst, sym, length}
 use Rattle.lmn_base.specs.declared.refusal.Refusal.{Refusal}
 use Rattle.lmn_io.specs.Counts.{FailedLast, Faults, Rose}
 use Rattle.lmn_io.proofs.TakingLemmas.{no_put}
@@ -12,8 +12,8 @@ use Rattle.lmn_app.specs.declared.task.Task.{Task}
 use Rattle.lmn_app.specs.declared.task.Task.TheVariants as task
 use Rattle.lmn_app.specs.Endings.{Concludes}
 use Rattle.lmn_base.specs.Codes.{IsTextCode}
-use Rattle.lmn_app.specs.Outcomes.{Answers, Causes, Ended, Output}
-use Rattle.lmn_app.specs.Texts.{IsAccepted, IsRefusal, at_start, text_bytes, too_long}
+use Rattle.lmn_app.specs.Outcomes.{Answers, Causes, Ended, Output, RefusesText}
+use Rattle.lmn_app.specs.Texts.{IsAccepted, at_start, text_bytes, too_long}
 use Rattle.lmn_app.specs.Requests.{most_items}
 use Rattle.lmn_app.specs.Runnings.{EndsUnread}
 use Rattle.lmn_app.specs.Writing.{IfTold, IsToldAnd, Lists, ListsPart, WritesRun, WritesPartOfRun, told_under}
@@ -70,7 +70,7 @@ module _ (told : Option (Option (List ℕ))) (bytes : List ℕ) (e : IfSome told
   causes_told : (t : Task) (ending : Ending) (before after : ℕ) → Causes t ending (Some (Some bytes)) before after → Causes t ending told before after
   causes_told t Done before after h = h
   causes_told t Budget before after h = h
-  causes_told t (Refused r) before after h = (told_here (λ text. IsRefusal (most_items t) text r) told bytes e h.0, h.1)
+  causes_told t (Refused r) before after h = record { text = h.text; is_told = told_here (λ found. found ≡ h.text) told bytes e h.is_told; refused = h.refused; code = h.code }
   causes_told t Words before after h = h
   causes_told t ReadFault before after h = h
   causes_told t WriteFault before after h = h
@@ -111,17 +111,15 @@ when_told None P h = tt
 when_told (Some None) P h = tt
 when_told (Some (Some text)) P h = h text
 
--- a text that is told and is refused isn't accepted
-pub refused_told : (size : Option ℕ) (told : Option (Option (List ℕ))) (r : Refusal) (A : Type 0) → IsToldAnd told (λ text. IsRefusal size text r) → IfTold told (λ text. IsAccepted size text → A)
-refused_told size None r A h = tt
-refused_told size (Some None) r A h = tt
-refused_told size (Some (Some text)) r A h = λ a. absurd (refused_not_accepted size text r h a)
-
 -- the text that is told is this one
 pub told_is : (told : Option (Option (List ℕ))) (text : List ℕ) (P : List ℕ → Type 0) → IsToldAnd told (λ found. found ≡ text) → P text → IfTold told P
 told_is None text P h p = tt
 told_is (Some None) text P h p = tt
 told_is (Some (Some found)) text P h p = subst P (sym h) p
+
+-- a text that is told and is refused isn't accepted
+pub refused_told : (size : Option ℕ) (told : Option (Option (List ℕ))) (r : Refusal) (A : Type 0) → RefusesText size told r → IfTold told (λ text. IsAccepted size text → A)
+refused_told size told r A h = told_is told h.text (λ text. IsAccepted size text → A) h.is_told (λ a. absurd (refused_not_accepted size h.text r h.refused a))
 
 -- where nothing fails, an accepted text is answered so
 pub accepted_answered : (t : Task) (ending : Ending) (told : Option (Option (List ℕ))) (oo on : Option (List ℕ)) (ob oa : Faults) (rb ra status : ℕ) (eo en : Option (List ℕ)) (eb ea : Faults)
@@ -136,7 +134,7 @@ accepted_answered task.List Done told oo on ob oa rb ra status eo en eb ea h (in
 accepted_answered task.List Budget told oo on ob oa rb ra status eo en eb ea h (inl k) read out err = absurd (h.output)
 accepted_answered task.List Full told oo on ob oa rb ra status eo en eb ea h (inl k) read out err = absurd (h.output)
 accepted_answered task.List NoMemory told oo on ob oa rb ra status eo en eb ea h (inl k) read out err = when_told told _ (λ text a. inr k.0)
-accepted_answered t (Refused r) told oo on ob oa rb ra status eo en eb ea h (inl k) read out err = let cause = h.cause in refused_told (most_items t) told r (Answers t status) cause.0
+accepted_answered t (Refused r) told oo on ob oa rb ra status eo en eb ea h (inl k) read out err = refused_told (most_items t) told r (Answers t status) h.cause
 accepted_answered t Words told oo on ob oa rb ra status eo en eb ea h (inl k) read out err = absurd (h.cause)
 accepted_answered t ReadFault told oo on ob oa rb ra status eo en eb ea h (inl k) read out err = absurd (read h.cause)
 accepted_answered t WriteFault told oo on ob oa rb ra status eo en eb ea h (inl k) read out err = absurd (out h.counts)
@@ -189,9 +187,9 @@ nothing_more (task.Run s) told x = inl refl
 nothing_more task.List told x = refl
 
 -- a task with a text that is refused ends so
-pub refused_ended : (t : Task) (r : Refusal) (told : Option (Option (List ℕ))) (x : Option (List ℕ)) (n : Faults) (rb ra : ℕ) → IsToldAnd told (λ text. IsRefusal (most_items t) text r) → IsTextCode r.code
+pub refused_ended : (t : Task) (r : Refusal) (told : Option (Option (List ℕ))) (x : Option (List ℕ)) (n : Faults) (rb ra : ℕ) → RefusesText (most_items t) told r
     → Ended t (Refused r) told x x n n rb ra
-refused_ended t r told x n rb ra h k = record { cause = (h, k); output = nothing_refused t r told x; counts = no_put n }
+refused_ended t r told x n rb ra h = record { cause = h; output = nothing_refused t r told x; counts = no_put n }
 
 -- and one with a file that can't be read
 pub fault_ended : (t : Task) (told : Option (Option (List ℕ))) (x : Option (List ℕ)) (n : Faults) (rb ra : ℕ) → Rose rb ra → Ended t ReadFault told x x n n rb ra
@@ -211,19 +209,36 @@ long_told P (Some text) name most h f = go (text name) h
     go None k = k
     go (Some bytes) k = f bytes k
 
-long_refused : (size : Option ℕ) (told : Option (Option (List ℕ))) → IsToldAnd told (λ bytes. text_bytes < length bytes) → IsToldAnd told (λ text. IsRefusal size text (at_start 1))
-long_refused size None h = tt
-long_refused size (Some None) h = h
-long_refused size (Some (Some bytes)) h = too_long h refl
+-- a text of which this holds: the one that is told, and where none is some text
+pub told_text : (told : Option (Option (List ℕ))) (P : List ℕ → Type 0) → IsToldAnd told P → (some : List ℕ) → P some → (text : List ℕ) × IsToldAnd told (λ found. found ≡ text) × P text
+told_text None P h some p = (some, tt, p)
+told_text (Some None) P h some p = absurd h
+told_text (Some (Some found)) P h some p = (found, refl, h)
+
+zeros : ℕ → List ℕ
+zeros zero = []
+zeros (suc n) = 0 ∷ zeros n
+
+zeros_long : (n : ℕ) → length (zeros n) ≡ n
+unfolding zeros
+zeros_long zero = refl
+zeros_long (suc n) = ap suc (zeros_long n)
+
+-- some text has more bytes
+pub longer : (n : ℕ) → (text : List ℕ) × (n < length text)
+longer n = let long = zeros_long (n + 1) in (zeros (n + 1), omega (arith, long))
 
 -- a program that is too long is refused for that
 pub too_long_refused : (size : Option ℕ) (told : Option (Option (List ℕ))) (r : Refusal) → (r ≡ at_start 1) × IsToldAnd told (λ bytes. text_bytes < length bytes)
-    → IsToldAnd told (λ text. IsRefusal size text r) × IsTextCode r.code
-too_long_refused size told r h = subst (λ (q : Refusal). IsToldAnd told (λ text. IsRefusal size text q) × IsTextCode q.code) (sym h.0) (long_refused size told h.1, refl)
+    → RefusesText size told r
+too_long_refused size told r h =
+    let some = longer text_bytes in
+    let found = told_text told (λ bytes. text_bytes < length bytes) h.1 some.0 some.1 in
+    record { text = found.0; is_told = found.1; refused = too_long found.2 h.0; code = subst (λ (q : Refusal). IsTextCode q.code) (sym h.0) refl }
 
 -- a task without a program ends so
 pub unread_ended : (t : Task) (e : Ending) (told : Option (Option (List ℕ))) (x : Option (List ℕ)) (n : Faults) (rb ra : ℕ) → EndsUnread e told rb ra → Ended t e told x x n n rb ra
-unread_ended t (Refused r) told x n rb ra h = let k = too_long_refused (most_items t) told r h in refused_ended t r told x n rb ra k.0 k.1
+unread_ended t (Refused r) told x n rb ra h = refused_ended t r told x n rb ra (too_long_refused (most_items t) told r h)
 unread_ended t ReadFault told x n rb ra h = fault_ended t told x n rb ra h
 unread_ended t NoMemory told x n rb ra h = memory_ended t told x n rb ra
 unread_ended t Done told x n rb ra h = absurd h

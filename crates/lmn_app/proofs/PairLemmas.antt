@@ -12,12 +12,11 @@ use Rattle.lmn_app.specs.declared.ending.Ending.TheVariants.{Done, Budget, Refus
 use Rattle.lmn_app.specs.Debugs.{session_size}
 use Rattle.lmn_app.specs.Executions.{executed_size}
 use Rattle.lmn_app.specs.Outcomes.{RequestEnded}
-use Rattle.lmn_app.specs.Pairs.{HasProgram, IsSecondRefusal, IsWritten, Writes, most_items_of_pair, second_wrong}
+use Rattle.lmn_app.specs.Pairs.{HasProgram, IsWritten, Writes, most_items_of_pair, second_wrong}
 use Rattle.lmn_app.specs.Runnings.{EndsByLine, EndsDebugged, EndsExecuted}
 use Rattle.lmn_app.specs.SecondTexts.{second_bytes}
 use Rattle.lmn_app.specs.Texts.{Accepts, Fits, IsAccepted}
 use Rattle.lmn_app.specs.Writing.{IsToldAnd, told_under}
-use Rattle.lmn_app.proofs.OutcomeLemmas.{told_and}
 
 -- ---- the program
 
@@ -59,7 +58,9 @@ module _ (p : Pair) (texts : Option (List ℕ → Option (List ℕ))) (of : HasP
       cause = record {
         same = h.0;
         of = of;
-        refused = told_and (λ bytes. IsSecondRefusal p.kind of.program bytes r) (told_under texts p.second) second told (second_wrong short h.1);
+        second = second;
+        second_told = told;
+        refused = second_wrong short h.1;
         code = h.2;
       };
       output = h.3;
@@ -81,7 +82,9 @@ module _ (p : Pair) (texts : Option (List ℕ → Option (List ℕ))) (of : HasP
       cause = record {
         same = sym kind;
         of = of;
-        refused = told_and (λ bytes. IsSecondRefusal p.kind of.program bytes r) (told_under texts p.second) second told (second_wrong short (rw kind h.0));
+        second = second;
+        second_told = told;
+        refused = second_wrong short (rw kind h.0);
         code = rw kind h.1;
       };
       output = h.2;
@@ -111,7 +114,9 @@ module _ (p : Pair) (texts : Option (List ℕ → Option (List ℕ))) (of : HasP
       cause = record {
         same = sym kind;
         of = of;
-        refused = told_and (λ bytes. IsSecondRefusal p.kind of.program bytes r) (told_under texts p.second) second told (second_wrong short (rw kind h.0));
+        second = second;
+        second_told = told;
+        refused = second_wrong short (rw kind h.0);
         code = rw kind h.1;
       };
       output = h.2;

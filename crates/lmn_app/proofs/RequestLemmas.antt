@@ -5,7 +5,6 @@ use Rattle.lmn_base.specs.declared.refusal.Refusal.{Refusal}
 use Rattle.lmn_io.specs.Counts.{FailedLast, Faults, Rose}
 use Rattle.lmn_io.proofs.TakingLemmas.{no_put}
 use Rattle.lmn_io.specs.Texts.{Fetch}
-use Rattle.lmn_base.specs.Codes.{IsTextCode}
 use Rattle.lmn_app_words.specs.declared.command.PairKind.{PairKind}
 use Rattle.lmn_app_words.specs.declared.command.PairKind.TheVariants.{Bound, Check, Debug, Exec}
 use Rattle.lmn_app_words.specs.Forms.{Pair, Request, Run, to_run, to_compile, to_demo, to_pair}
@@ -15,14 +14,14 @@ use Rattle.lmn_app_words.specs.declared.command.RunSettings.{RunSettings}
 use Rattle.lmn_app.specs.declared.task.Task.TheVariants as task
 use Rattle.lmn_app.specs.Demos.{demo_text}
 use Rattle.lmn_app.specs.Endings.{Concludes, status_of}
-use Rattle.lmn_app.specs.Outcomes.{AnswersOf, CausesOf, Ended, PairCauses, RefusesSecondOf, RequestEnded}
-use Rattle.lmn_app.specs.Pairs.{HasProgram, IsSecondRefusal, IsWritten, PairAnswers, Writes, most_items_of_pair, second_long}
+use Rattle.lmn_app.specs.Outcomes.{AnswersOf, CausesOf, Ended, PairCauses, RefusesSecondOf, RefusesText, RequestEnded}
+use Rattle.lmn_app.specs.Pairs.{HasProgram, IsWritten, PairAnswers, Writes, most_items_of_pair, second_long}
 use Rattle.lmn_app.specs.Requests.{Fetches, ReadRose, asked_program, asked_second, folded_run, most_items_of, settings_of, told_of}
 use Rattle.lmn_app.specs.Runnings.{EndsUnread}
 use Rattle.lmn_app.specs.SecondTexts.{IsSecondCode, long_code, second_bytes, second_status}
-use Rattle.lmn_app.specs.Texts.{IsAccepted, IsRefusal, at_start}
-use Rattle.lmn_app.specs.Writing.{IfTold, IsToldAnd, told_under}
-use Rattle.lmn_app.proofs.OutcomeLemmas.{Refusing, accepted_answered, long_told, refused_told, told_is, too_long_refused, unaccepted_answered, when_told}
+use Rattle.lmn_app.specs.Texts.{IsAccepted, at_start}
+use Rattle.lmn_app.specs.Writing.{IfTold, told_under}
+use Rattle.lmn_app.proofs.OutcomeLemmas.{Refusing, accepted_answered, long_told, longer, refused_told, told_is, told_text, too_long_refused, unaccepted_answered, when_told}
 
 -- ---- counts
 
@@ -134,7 +133,7 @@ module _ (texts : Option (List ℕ → Option (List ℕ))) (oo on : Option (List
     pair_answered p Budget h (inl k) read out err = let o = h.output in when_told (told_under texts p.file) _ (λ text a. writes_answers p Budget (λ s. omega (arith, s)) o.writes k.0)
     pair_answered p Full h (inl k) read out err = let o = h.output in when_told (told_under texts p.file) _ (λ text a. writes_answers p Full (λ s. omega (arith, s)) o.writes k.0)
     pair_answered p NoMemory h (inl k) read out err = when_told (told_under texts p.file) _ (λ text a. memory_answers p.kind status k.0)
-    pair_answered p (Refused r) h (inl k) read out err = let c = h.cause in refused_told (most_items_of_pair p.kind) (told_under texts p.file) r (PairAnswers p.kind status) c.0
+    pair_answered p (Refused r) h (inl k) read out err = refused_told (most_items_of_pair p.kind) (told_under texts p.file) r (PairAnswers p.kind status) h.cause
     pair_answered p (SecondRefused kind r) h (inl k) read out err = let c = h.cause in when_told (told_under texts p.file) _ (λ text a. second_answers p.kind status (k.0 ∙ ap second_status c.same))
     pair_answered p Words h (inl k) read out err = absurd (h.cause)
     pair_answered p ReadFault h (inl k) read out err = absurd (read h.cause)
@@ -197,7 +196,7 @@ module _ (texts : Option (List ℕ → Option (List ℕ))) (f g : List ℕ → �
   read_counted (to_pair p) h = h
 
   -- a refusal of a program is one of its text
-  pub refusal_of : (c : Request) (r : Refusal) → CausesOf c (Refused r) texts f g → IsToldAnd (told_of c texts) (λ text. IsRefusal (most_items_of c) text r) × IsTextCode r.code
+  pub refusal_of : (c : Request) (r : Refusal) → CausesOf c (Refused r) texts f g → RefusesText (most_items_of c) (told_of c texts) r
   refusal_of (to_run run) r h = h
   refusal_of (to_compile file) r h = h
   refusal_of (to_demo n) r h = h
@@ -238,8 +237,8 @@ since_earlier p e texts oo on ob oa f m g later h = record { cause = cause e h.c
 
 -- the program is refused
 pub pair_refused : (p : Pair) (r : Refusal) (texts : Option (List ℕ → Option (List ℕ))) (x : Option (List ℕ)) (n : Faults) (f g : List ℕ → ℕ)
-    → IsToldAnd (told_under texts p.file) (λ bytes. IsRefusal (most_items_of_pair p.kind) bytes r) → IsTextCode r.code → RequestEnded (to_pair p) (Refused r) texts x x n n f g
-pair_refused p r texts x n f g h k = record { cause = (h, k); output = refl; counts = no_put n }
+    → RefusesText (most_items_of_pair p.kind) (told_under texts p.file) r → RequestEnded (to_pair p) (Refused r) texts x x n n f g
+pair_refused p r texts x n f g h = record { cause = h; output = refl; counts = no_put n }
 
 -- a file can't be read
 pub pair_faulty : (p : Pair) (texts : Option (List ℕ → Option (List ℕ))) (x : Option (List ℕ)) (n : Faults) (f g : List ℕ → ℕ) → ReadRose (to_pair p) f g → RequestEnded (to_pair p) ReadFault texts x x n n f g
@@ -248,7 +247,7 @@ pair_faulty p texts x n f g h = record { cause = h; output = refl; counts = no_p
 -- there is no program
 pub pair_unread : (p : Pair) (e : Ending) (texts : Option (List ℕ → Option (List ℕ))) (x : Option (List ℕ)) (n : Faults) (f g : List ℕ → ℕ)
     → EndsUnread e (told_under texts p.file) (f p.file) (g p.file) → RequestEnded (to_pair p) e texts x x n n f g
-pair_unread p (Refused r) texts x n f g h = let k = too_long_refused (most_items_of_pair p.kind) (told_under texts p.file) r h in pair_refused p r texts x n f g k.0 k.1
+pair_unread p (Refused r) texts x n f g h = pair_refused p r texts x n f g (too_long_refused (most_items_of_pair p.kind) (told_under texts p.file) r h)
 pair_unread p ReadFault texts x n f g h = pair_faulty p texts x n f g (inl h)
 pair_unread p NoMemory texts x n f g h = request_memory (to_pair p) texts x n f g
 pair_unread p Done texts x n f g h = absurd h
@@ -267,16 +266,15 @@ long_is_code Bound = inl refl
 -- the second text is too long
 pub second_too_long : (p : Pair) (kind : PairKind) (r : Refusal) (texts : Option (List ℕ → Option (List ℕ))) (x : Option (List ℕ)) (n : Faults) (f g : List ℕ → ℕ) → kind ≡ p.kind → r ≡ at_start (long_code p.kind)
     → IfSome texts (λ text. IsSomeAnd (text p.second) (λ bytes. second_bytes p.kind < length bytes)) → HasProgram p texts → RequestEnded (to_pair p) (SecondRefused kind r) texts x x n n f g
-second_too_long p kind r texts x n f g same is h of = record {
-  cause = record {
-    same = same;
-    of = of;
-    refused = let program = of.program in long_told (λ second. IsSecondRefusal p.kind program second r) texts p.second (second_bytes p.kind) h (λ bytes l. second_long l is);
-    code = subst (λ (q : Refusal). IsSecondCode p.kind q.code) (sym is) (long_is_code p.kind);
-  };
-  output = refl;
-  counts = no_put n;
-}
+second_too_long p kind r texts x n f g same is h of =
+    let some = longer (second_bytes p.kind) in
+    let long = long_told (λ second. second_bytes p.kind < length second) texts p.second (second_bytes p.kind) h (λ bytes l. l) in
+    let found = told_text (told_under texts p.second) (λ second. second_bytes p.kind < length second) long some.0 some.1 in
+    record {
+      cause = record { same = same; of = of; second = found.0; second_told = found.1; refused = second_long found.2 is; code = subst (λ (q : Refusal). IsSecondCode p.kind q.code) (sym is) (long_is_code p.kind) };
+      output = refl;
+      counts = no_put n;
+    }
 
 -- the shelf was asked for the program, and then for the second text where the command asked for it
 pub asked_both : (p : Pair) (texts mid_texts : Option (List ℕ → Option (List ℕ))) (before mid after : Option (List Fetch)) (f g : List ℕ → ℕ) → mid_texts ≡ texts → mid ≡ asked_program p.file before

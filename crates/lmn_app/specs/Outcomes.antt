@@ -18,9 +18,16 @@ use Rattle.lmn_app.specs.Pairs.{PairAnswers, RefusesSecond, WritesAll, WritesPar
 use Rattle.lmn_app.specs.Requests.{ReadRose, folded_run, most_items, settings_of}
 use Rattle.lmn_app.specs.Writing.{IsToldAnd, Told, Lists, ListsPart, WritesRun, WritesPartOfRun, told_under}
 
+-- A text is refused so. It is the one that is told, if one is.
+pub record RefusesText (size : Option ℕ) (told : Told) (refusal : Refusal) : Type 0 where
+  pub text : List ℕ
+  pub is_told : IsToldAnd told (λ found. found ≡ text)
+  pub refused : IsRefusal size text refusal
+  pub code : IsTextCode refusal.code
+
 -- Why a task ends so: what is told of the text, and the count of faults of its file, before and after.
 abbrev pub Causes : Task → Ending → Told → ℕ → ℕ → Type 0
-Causes t (Refused r) text before after = IsToldAnd text (λ bytes. IsRefusal (most_items t) bytes r) × IsTextCode r.code
+Causes t (Refused r) text before after = RefusesText (most_items t) text r
 Causes t Words text before after = ⊥
 Causes t ReadFault text before after = Rose before after
 Causes t (SecondRefused kind r) text before after = ⊥
@@ -62,7 +69,7 @@ pub record Ended (t : Task) (ending : Ending) (text : Told) (old new : Option (L
 abbrev pub PairCauses : Pair → Ending → Option (List ℕ → Option (List ℕ)) → (List ℕ → ℕ) → (List ℕ → ℕ) → Type 0
 PairCauses pair Done texts before after = ⊤
 PairCauses pair Budget texts before after = ⊤
-PairCauses pair (Refused r) texts before after = IsToldAnd (told_under texts pair.file) (λ bytes. IsRefusal (most_items_of_pair pair.kind) bytes r) × IsTextCode r.code
+PairCauses pair (Refused r) texts before after = RefusesText (most_items_of_pair pair.kind) (told_under texts pair.file) r
 PairCauses pair Words texts before after = ⊥
 PairCauses pair ReadFault texts before after = ReadRose (to_pair pair) before after
 PairCauses pair WriteFault texts before after = ⊤

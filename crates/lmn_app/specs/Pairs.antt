@@ -61,11 +61,13 @@ pub record HasProgram (pair : Pair) (texts : Option (List ℕ → Option (List �
   pub is_told : IsToldAnd (told_under texts pair.file) (λ found. found ≡ program)
   pub accepted : IsAccepted (most_items_of_pair pair.kind) program
 
--- the second text is refused so, beside an accepted program
+-- A second text is refused so, beside an accepted program. It is the one that is told, if one is.
 pub record RefusesSecond (pair : Pair) (texts : Option (List ℕ → Option (List ℕ))) (kind : PairKind) (refusal : Refusal) : Type 0 where
   pub same : kind ≡ pair.kind
   pub of : HasProgram pair texts
-  pub refused : IsToldAnd (told_under texts pair.second) (λ second. IsSecondRefusal pair.kind of.program second refusal)
+  pub second : List ℕ
+  pub second_told : IsToldAnd (told_under texts pair.second) (λ found. found ≡ second)
+  pub refused : IsSecondRefusal pair.kind of.program second refusal
   pub code : IsSecondCode pair.kind refusal.code
 
 -- What is written of an accepted program and a second text. The texts are those that are told, if they are.

@@ -9,10 +9,9 @@ ghost use Rattle.lmn_app_words.specs.Forms.{InForm, IsInRanges, pair_of, request
 ghost use Rattle.lmn_app.specs.Endings.{HasLine, line_of_ending, refusal_line};
 ghost use Rattle.lmn_app.specs.Pairs.{HasProgram};
 ghost use Rattle.lmn_app.specs.SecondTexts.{second_status};
-ghost use Rattle.lmn_base.specs.Codes.{IsTextCode};
-ghost use Rattle.lmn_app.specs.Outcomes.{AnswersOf, Ended, OutputOf, RefusesSecondOf, RequestEnded};
+ghost use Rattle.lmn_app.specs.Outcomes.{AnswersOf, Ended, OutputOf, RefusesSecondOf, RefusesText, RequestEnded};
 ghost use Rattle.lmn_app.specs.Runnings.{EndsUnread};
-ghost use Rattle.lmn_app.specs.Texts.{IsAccepted, IsRefusal, text_bytes};
+ghost use Rattle.lmn_app.specs.Texts.{IsAccepted, text_bytes};
 ghost use Rattle.lmn_app.specs.Writing.{IfTold, IsTextOf, IsToldAnd, told_under};
 ghost use Rattle.lmn_app.specs.declared.ending.Ending.{Ending};
 ghost use Rattle.lmn_app.specs.declared.task.Task.{Task};
@@ -75,8 +74,8 @@ pub fn lmn_main<F: Shelf, O: Sink, E: Sink>(
     ensures last { NoneBehindFailed (O.faults out.old) (O.faults out.new) × NoneBehindFailed (E.faults err.old) (E.faults err.new) }
 
     // Status 2 comes where the text isn't accepted; 4, 5 and 6 alone take its place.
-    ensures refused { result ≡ 2 → Asked words.now (λ c. (refusal : Refusal) × IsToldAnd (told_of c (F.told shelf.old)) (λ text. IsRefusal (most_items_of c) text refusal)
-        × IsTextCode refusal.code × Takes (refusal_line refusal) (E.told err.old) (E.told err.new)) }
+    ensures refused { result ≡ 2 → Asked words.now (λ c. (refusal : Refusal) × RefusesText (most_items_of c) (told_of c (F.told shelf.old)) refusal
+        × Takes (refusal_line refusal) (E.told err.old) (E.told err.new)) }
     ensures not_accepted { InForm words.now → Asked words.now (λ c. IfTold (told_of c (F.told shelf.old)) (λ text.
         ¬ (IsAccepted (most_items_of c) text) → (result ≡ 2) ⊎ (result ≡ 4) ⊎ (result ≡ 5) ⊎ (result ≡ 6))) }
 

@@ -2,10 +2,7 @@ use Rattle.std.proofs.Common.{arith, ap, length}
 use Rattle.lmn_flatten.proofs.GlossaryLemmas.{grown_length}
 use Rattle.lmn_app_words.specs.Forms.{pair_of, to_pair}
 use Rattle.lmn_app.specs.Pairs.{most_items_of_pair}
-use Rattle.lmn_app.specs.Texts.{IsRefusal}
-use Rattle.lmn_app.specs.Writing.{told_under}
 use Rattle.lmn_app.proofs.ListLemmas.{read_accepts, read_refuses}
-use Rattle.lmn_app.proofs.OutcomeLemmas.{told_and}
 use Rattle.lmn_app.proofs.RequestLemmas.{pair_refused, request_memory}
 use Rattle.lmn_app.proofs.top.perform_pair_on.Goals as goal
 
@@ -28,9 +25,8 @@ returns-in-Err-Refused-clause-ended g c =
     let named = rw c.in-Err-Refused.field-0-is at c.in-Err-Refused.ensures.names in
     let refused = rw c.in-Err-Refused.field-0-is at c.in-Err-Refused.ensures.reads in
     let r = c.in-Err-Refused.refusal in
-    let told = told_under (g.F.Shelf.told c.args.shelf.now) pair.file in
     let h = read_refuses (most_items_of_pair pair.kind) c.args.text.now c.with_key-names.result c.read.new.names r c.requires.short c.with_key-names.ensures named refused in
-    rw c.in-Err-Refused.field-0-is (pair_refused pair r _ _ _ _ _ (told_and (λ bytes. IsRefusal (most_items_of_pair pair.kind) bytes r) told c.args.text.now c.requires.told h.0) h.1)
+    rw c.in-Err-Refused.field-0-is (pair_refused pair r _ _ _ _ _ (record { text = c.args.text.now; is_told = c.requires.told; refused = h.0; code = h.1 }))
 
 pub returns-clause-ended : goal.returns-clause-ended
 returns-clause-ended g c = request_memory (to_pair (pair_of c.args.words)) _ _ _ _ _
