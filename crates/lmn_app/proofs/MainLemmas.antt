@@ -5,6 +5,7 @@ use Rattle.std.specs.declared.alloc.Global.{Global}
 use Rattle.lmn_base.specs.declared.refusal.Refusal.{Refusal}
 use Rattle.lmn_io.specs.Counts.{FailedLast, Faults, NoneBehindFailed, NoneFailed}
 use Rattle.lmn_io.specs.Taking.{Takes, TakesPrefix}
+use Rattle.lmn_io.specs.Texts.{Fetch}
 use Rattle.lmn_io.proofs.TakingLemmas.{no_put}
 use Rattle.lmn_app.specs.declared.ending.Ending.{Ending}
 use Rattle.lmn_app.specs.declared.ending.Ending.TheVariants.{Done, Budget, Refused, Words, ReadFault, WriteFault, NoMemory, Full, SecondRefused}
@@ -12,13 +13,14 @@ use Rattle.lmn_app_words.specs.Laws.{OneRequest}
 use Rattle.lmn_app_words.specs.Forms.{InForm, Request}
 use Rattle.lmn_app_words.specs.declared.command.PairKind.{PairKind}
 use Rattle.lmn_app_words.specs.Forms.{Pair, to_run, to_compile, to_demo, to_pair}
-use Rattle.lmn_app.specs.Endings.{Concludes, HasLine, line_of_ending, refusal_line, status_of}
+use Rattle.lmn_app.specs.Endings.{Concludes, line_of_ending, refusal_line, status_of}
 use Rattle.lmn_app.specs.SecondTexts.{second_status}
+use Rattle.lmn_app.specs.Calls.{ErrFailed, IsAnswered, OutFailed}
 use Rattle.lmn_app.specs.Outcomes.{AnswersOf, CountsFaults, Output, OutputOf, PairOutput, RefusesSecondOf, RefusesText, RequestEnded}
 use Rattle.lmn_app.specs.declared.task.Task.{Task}
 use Rattle.lmn_app.specs.declared.task.Task.TheVariants as task
 use Rattle.lmn_app.specs.Demos.{demo_text}
-use Rattle.lmn_app.specs.Requests.{Asked, ReadRose, folded_run, most_items_of, settings_of, told_of}
+use Rattle.lmn_app.specs.Requests.{Asked, Fetches, ReadRose, folded_run, most_items_of, settings_of, told_of}
 use Rattle.lmn_app.specs.Texts.{IsAccepted}
 use Rattle.lmn_app.specs.Writing.{IfTold, told_under}
 use Rattle.lmn_app.proofs.OutcomeLemmas.{Refusing}
@@ -108,6 +110,18 @@ write_is WriteFault h = refl
 write_is NoMemory h = absurd (cc)
 write_is Full h = absurd (cc)
 write_is (SecondRefused kind r) h = let high = second_high kind in absurd (omega (arith, high.0, h))
+
+-- and none is above 11
+status_most : (e : Ending) → status_of e ≤ 11
+status_most Done = omega arith
+status_most Budget = omega arith
+status_most (Refused r) = omega arith
+status_most Words = omega arith
+status_most ReadFault = omega arith
+status_most WriteFault = omega arith
+status_most NoMemory = omega arith
+status_most Full = omega arith
+status_most (SecondRefused kind r) = let high = second_high kind in high.1
 
 took_nothing : (old new : Option (List ℕ)) → Takes [] old new → new ≡ old
 took_nothing None new h = h
@@ -324,15 +338,16 @@ module _ (one : OneRequest) (words : List (String Global)) (texts : Option (List
   quiet e k (inr (inr h)) = took_nothing eo en (line_taken e Full k 7 (omega arith) (full_is e) h)
 
   -- with 5 either `out` failed and `err` took its line, or `err` failed
-  pub failed : (e : Ending) → Acted e → Concluded e → status ≡ 5 →
-      (Asked words (λ c. OutputOf c WriteFault texts oo on) × FailedLast ob oa × Takes (line_of_ending WriteFault) eo en × NoneFailed eb ea)
-      ⊎ (FailedLast eb ea × ((ending : Ending) × HasLine ending × TakesPrefix (line_of_ending ending) eo en × Acted ending))
-  failed e (inl (c, asks, h)) (inl (s, t, same)) k =
+  pub failed : (sb sa : Option (List Fetch)) (texts_after : Option (List ℕ → Option (List ℕ))) (e : Ending) → Acted e → Concluded e → status ≡ 5 →
+      OutFailed words (record { told = texts; asked = sb; faults = read }) (record { told = oo; faults = ob }) (record { told = on; faults = oa }) (record { told = eo; faults = eb }) (record { told = en; faults = ea })
+      ⊎ ErrFailed words (record { told = texts; asked = sb; faults = read }) (record { told = texts_after; asked = sa; faults = reads })
+      (record { told = oo; faults = ob }) (record { told = on; faults = oa }) (record { told = eo; faults = eb }) (record { told = en; faults = ea })
+  failed sb sa texts_after e (inl (c, asks, h)) (inl (s, t, same)) k =
       let is = write_is e (sym s ∙ k) in
       let here = subst (λ x. RequestEnded c x texts oo on ob oa read reads) is h in
-      inl ((c, asks, here.output), here.counts, subst (λ x. Takes (line_of_ending x) eo en) is t, same)
-  failed e (inr (none, w, o, f)) (inl (s, t, same)) k = absurd (let three : status ≡ 3 = subst (λ x. status ≡ status_of x) w s in omega (arith, three, k))
-  failed e a (inr (s, p, rose, line)) k = inr (rose, (e, line, p, a))
+      inl (record { output = (c, asks, here.output); failed = here.counts; line = subst (λ x. Takes (line_of_ending x) eo en) is t; whole = same })
+  failed sb sa texts_after e (inr (none, w, o, f)) (inl (s, t, same)) k = absurd (let three : status ≡ 3 = subst (λ x. status ≡ status_of x) w s in omega (arith, three, k))
+  failed sb sa texts_after e a (inr (s, p, rose, line)) k = inr (record { failed = rose; ending = e; has_line = line; took = p; ended = a })
 
   -- an accepted text is answered so where nothing fails, and one that isn't is refused
   pub answered : (e : Ending) → Acted e → Concluded e → InForm words → Asked words (λ c. ¬ (ReadRose c read reads) → ¬ (FailedLast ob oa) → ¬ (FailedLast eb ea) → IfTold (told_of c texts) (λ text. IsAccepted (most_items_of c) text → AnswersOf c status))
@@ -342,3 +357,41 @@ module _ (one : OneRequest) (words : List (String Global)) (texts : Option (List
   pub refused_so : (e : Ending) → Acted e → Concluded e → InForm words → Asked words (λ c. IfTold (told_of c texts) (λ text. ¬ (IsAccepted (most_items_of c) text) → Refusing status))
   refused_so e (inl (c, asks, h)) k form = (c, asks, request_refused_so texts oo on ob oa read reads status eo en eb ea c e h k)
   refused_so e (inr (none, w, o, f)) k form = absurd (none form)
+
+  -- no ending has a status above 11
+  at_most : (e : Ending) → Concluded e → status ≤ 11
+  at_most e (inl (s, t, q)) = let most = status_most e in omega (arith, s, most)
+  at_most e (inr (s, p, rose, line)) = omega (arith, s)
+
+  -- all that a call leaves behind: it asked its shelf so, acted so, and put the line of the ending into `err`
+  pub is_answered : (sb sa : Option (List Fetch)) (texts_after : Option (List ℕ → Option (List ℕ))) (e : Ending)
+      → (InForm words → Asked words (λ c. Fetches c texts sb sa read reads) ⊎ ((sa ≡ sb) × (e ≡ NoMemory))) → (¬ (InForm words) → sa ≡ sb)
+      → (¬ (InForm words) → (name : List ℕ) → reads name ≡ read name) → Acted e → Concluded e
+      → IsAnswered words status (record { told = texts; asked = sb; faults = read }) (record { told = texts_after; asked = sa; faults = reads })
+      (record { told = oo; faults = ob }) (record { told = on; faults = oa }) (record { told = eo; faults = eb }) (record { told = en; faults = ea })
+  is_answered sb sa texts_after e shelf_asked none_asked none_counted a k = record {
+    status = at_most e k;
+    words = not_of_form e a k;
+    form = form_answered e a k;
+    asked = λ said. asked_or_memory e (shelf_asked said) k;
+    not_asked = none_asked;
+    unasked = none_counted;
+    read = read_rose e a k;
+    write = write_rose e a k;
+    puts = puts_stay e a k;
+    last = puts_end e a k;
+    refused = refusal_told e a k;
+    not_accepted = refused_so e a k;
+    second = second_told e a k;
+    answers = answered e a k;
+    out_done = out_taken e Done a k 0 (omega arith) (λ is. cc is) (done_is e);
+    out_budget = out_taken e Budget a k 1 (omega arith) (λ is. cc is) (budget_is e);
+    out_full = out_taken e Full a k 7 (omega arith) (λ is. cc is) (full_is e);
+    out_memory = out_taken e NoMemory a k 6 (omega arith) (λ is. cc is) (memory_is e);
+    out_untouched = untouched e a k;
+    err_quiet = quiet e k;
+    err_words = line_taken e Words k 3 (omega arith) (words_is e);
+    err_read = line_taken e ReadFault k 4 (omega arith) (read_is e);
+    err_memory = line_taken e NoMemory k 6 (omega arith) (memory_is e);
+    part = failed sb sa texts_after e a k;
+  }

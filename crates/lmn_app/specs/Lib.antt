@@ -27,3 +27,4 @@ pub mod ExecExamples
 pub mod CheckLaws
 pub mod BoundExamples
 pub mod CheckExamples
+pub mod Calls
