@@ -180,8 +180,7 @@ module _ (may : SearchedRulesMayFire) (lie : LeastImagesLie) (match : MatchesAre
         let closed = w.7 ready.is_rule.accepted ready.closed in
         let solid = plain_has_solid w.1 closed in
         let same = spelled_items names plain.rules w.1 w.0 (wires ++ level_pairs t rule.body) links w.6 solid.0 solid.1 in
-        let items = as_many_items made w.0 w.3 in
-        (
+        let items = as_many_items made w.0 w.3 in (
           solid.0,
           record {
             found = f;
