@@ -1,5 +1,5 @@
 //! Whether the ports that a code names are those of its atoms, and whether each stands in exactly one place.
-ghost use Rattle.std.specs.Prelude.{◌≡◌, ◌==◌, ◌<◌, ◌&&◌, length, map, [], ◌∷◌, count_by, IfOk, IfSome};
+ghost use Rattle.std.specs.Prelude.{◌≡◌, ◌==◌, ◌<◌, ◌&&◌, nat_lt, slice_index_or, length, map, [], ◌∷◌, count_by, IfOk, IfSome};
 ghost use Rattle.std.specs.List.{list_all};
 ghost use Rattle.lmn_congruence_splice.specs.Classes.{rising};
 ghost use Rattle.lmn_instr_code.specs.declared.instr.NewPort.TheVariants as new;
