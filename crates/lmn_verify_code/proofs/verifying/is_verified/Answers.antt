@@ -34,7 +34,7 @@ returns c =
     let ah : c.as_slice.result.now ≡ atoms_found code.head = c.as_slice.ensures ∙ atoms in
     let mh : c.as_slice-2.result.now ≡ membranes_found code.head = c.as_slice-2.ensures.value ∙ membranes in
     let gh : c.as_slice-3.result.now ≡ parts_found code.head = c.as_slice-3.ensures.value ∙ parts in
-    let heads = sym (c.head_passes.ensures ∙ (λ j. head_passes (hp j) (ah j) (mh j) (gh j))) ∙ c.if-not-head_passes.false in
+    let heads = sym (c.in_ok-head_stands.ensures ∙ (λ j. head_passes (hp j) (ah j) (mh j) (gh j))) ∙ c.if-not-head_stands.false in
     let bodies = sym (c.body_passes.ensures ∙ (λ j. body_passes (bp j) (a j) (m j) (g j) c.args.rules)) ∙ c.if-not-body_passes.false in
     let empty = sym (c.all_emptied.ensures ∙ ap (list_all (is_emptied code)) (c.as_slice-5.ensures.value ∙ membranes)) ∙ c.if-not-all_emptied.false in
     let ns : c.as_slice-9.result.now ≡ arities code =
@@ -43,4 +43,4 @@ returns c =
     c.as_slice-8.ensures ∙ c.in_ok-add_all_places-2.ensures ∙ ap (λ s. s ++ flat_map places c.as_slice-body.result.now) (c.in_ok-add_all_places.ensures ∙ ap (λ s. s ++ flat_map places c.as_slice-head.result.now) c.new-stands.ensures)
     ∙ (λ j. flat_map places (hp j) ++ flat_map places (bp j)) in
     let copies = c.copies_of.ensures ∙ ap (count_by is_copy) bp in
-    decided code c.args.rules order few heads bodies empty c.ports_pass.result (c.ports_pass.ensures ∙ (λ j. ports_pass (hp j) (bp j) (stands j) (ns j) (copies j)))
+    decided code c.args.rules order few heads bodies empty c.in_ok-ports_stand.ports_stand (c.in_ok-ports_stand.ensures ∙ (λ j. ports_pass (hp j) (bp j) (stands j) (ns j) (copies j)))
