@@ -1,5 +1,5 @@
 //! Small examples, each the contract of a function with an empty body.
-ghost use Rattle.std.specs.Prelude.{[], ◌∷◌, ⊥};
+ghost use Rattle.std.specs.Prelude.{[], ◌∷◌};
 ghost use Rattle.lmn_store_slab.specs.Lines.{SameSize};
 
 /// One list is one list still where its number has left it, and two lists are more.
