@@ -6,7 +6,7 @@ use Rattle.lmn_store_heap.specs.Heap.{Heap, IsAtom, port_id, home_of, link_of, a
 use Rattle.lmn_store_heap.specs.Graphs.{atom_map}
 use Rattle.lmn_instr_code.specs.declared.instr.Instr.{Instr}
 use Rattle.lmn_instr_code.specs.declared.instr.Instr.TheVariants.{FindAtom, Deref, Func, InMem, NeqAtom, Joined, AnyMem, NeqMem, NMems, NoRules, NotIn, IsInt, IsUnary, IsGround, NAtoms, IsClosed, EqGround, NeqGround, GetInt, Const, Add, Sub, Mul, Div, Mod, Lt, Le, Gt, Ge, Eq, Ne, Commit}
-use Rattle.lmn_instr_code.specs.Running.{HeadRegisters, HeadSize, InstructionHolds, AllHold, atoms_set, membranes_set, choices}
+use Rattle.lmn_instr_code.specs.Running.{HeadRegisters, HeadSize, InstructionHolds, AllHold, Succeeds, IsFirstSuccess, atoms_set, membranes_set, choices}
 use Rattle.lmn_solid_heads.specs.Embeddings.{ListNotAfter}
 use Rattle.lmn_solid_heads.specs.Guards.{IsUnaryPart}
 use Rattle.lmn_machine_registers.specs.Agreeing.{Agrees}
@@ -94,6 +94,15 @@ pub record Searched {A M : Type 0} (atom : A → ℕ) (membrane : M → ℕ) (h 
   pub sets : result ≡ true → SetsMore g k code
   pub found : result ≡ true → Found atom membrane h g k code
   pub none : result ≡ false → (c : HeadSize) (s : HeadRegisters) → SetsAll c g code → Agrees atom membrane g s → AllHold h c s code → ⊥
+
+-- What a look for the first success of head code in a membrane answers. Where it is true, the registers hold it, and exactly those
+-- are set that the code sets; where it is false, there is none.
+pub record Looked {A M : Type 0} (atom : A → ℕ) (membrane : M → ℕ) (h : Heap) (code : List Instr) (m : ℕ) (g : SetRegisters A M) (result : Bool) : Type 0 where
+  pub held : AreHeldWhole atom membrane h g
+  pub copies : g.copies ≡ []
+  pub set : result ≡ true → AreAllSet g code
+  pub found : result ≡ true → (r : HeadRegisters) → Agrees atom membrane g r → IsFirstSuccess h code m r
+  pub none : result ≡ false → (r : HeadRegisters) → Succeeds h code m r → ⊥
 
 -- two integers that are set are compared, or the match is found
 abbrev pub Compares : ℕ → Instr → Type 0

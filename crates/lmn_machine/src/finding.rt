@@ -1,9 +1,7 @@
-ghost use Rattle.std.specs.Prelude.{◌≡◌, [], IsTrue, IsFalse};
+ghost use Rattle.std.specs.Prelude.{◌≡◌};
 ghost use Rattle.lmn_store_heap.specs.Heap.{IsMem, Unmarked};
 ghost use Rattle.lmn_store_heap.specs.Sound.{Valid};
-ghost use Rattle.lmn_instr_code.specs.Running.{HeadRegisters, Succeeds, IsFirstSuccess};
-ghost use Rattle.lmn_machine_registers.specs.Agreeing.{Agrees};
-ghost use Rattle.lmn_machine.specs.Searching.{AreAllSet, AreHeldWhole, HeadInOrder};
+ghost use Rattle.lmn_machine.specs.Searching.{HeadInOrder, Looked};
 
 use crate::{enough, search};
 use lmn_instr_pool::Instrs;
@@ -23,11 +21,7 @@ pub(crate) fn find<S: LinkStore>(
     requires membrane { IsMem (S.heap store.old) (S.mem_id membrane) }
     requires order { HeadInOrder 0 1 0 0 code.now }
     ensures same { S.heap store.new ≡ S.heap store.old }
-    ensures held { AreHeldWhole S.atom_id S.mem_id (S.heap store.old) set.new }
-    ensures set { IsTrue result → AreAllSet set.new code.now }
-    ensures copies { set.new.copies ≡ [] }
-    ensures found { IsTrue result → (r : HeadRegisters) → Agrees S.atom_id S.mem_id set.new r → IsFirstSuccess (S.heap store.old) code.now (S.mem_id membrane) r }
-    ensures none { IsFalse result → (r : HeadRegisters) → Succeeds (S.heap store.old) code.now (S.mem_id membrane) r → ⊥ }
+    ensures looked { Looked S.atom_id S.mem_id (S.heap store.old) code.now (S.mem_id membrane) set.new result }
 {
     set.clear();
     set.membranes.push(membrane);

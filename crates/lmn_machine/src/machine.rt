@@ -1,15 +1,11 @@
-ghost use Rattle.std.specs.Prelude.{◌≡◌, ◌+◌, [], length, IfOk, OnErr, OnOk, IsTrue, IsFalse};
+ghost use Rattle.std.specs.Prelude.{◌≡◌, ◌+◌, IfOk, OnErr, OnOk};
 ghost use Rattle.lmn_store_heap.specs.Heap.{IsMem, Unmarked};
 ghost use Rattle.lmn_store_heap.specs.Sound.{Valid};
-ghost use Rattle.lmn_instr_code.specs.Running.{HeadRegisters, Succeeds, IsFirstSuccess};
-ghost use Rattle.lmn_solid_bodies.specs.Running.{Registers as BodyRegisters};
 ghost use Rattle.lmn_solid_bodies.specs.Stopping.{SameButSpares};
-ghost use Rattle.lmn_machine_commit.specs.Registers.{AgreesWithCopies as BodyAgrees, HasCopies, HasRests};
-ghost use Rattle.lmn_machine_commit.specs.Preparing.{BodyInOrder, CanCopyRests, Prepared};
+ghost use Rattle.lmn_machine_commit.specs.Preparing.{Prepared};
 ghost use Rattle.lmn_machine_commit.specs.Matched.{IsPrepared};
-ghost use Rattle.lmn_machine_commit.specs.Waking.{Commits};
-ghost use Rattle.lmn_machine_registers.specs.Agreeing.{Agrees};
-ghost use Rattle.lmn_machine.specs.Searching.{AreAllSet, AreHeldWhole, HeadInOrder};
+ghost use Rattle.lmn_machine.specs.Searching.{HeadInOrder, Looked};
+ghost use Rattle.lmn_machine.specs.Firing.{FiresPrepared, HoldsMatch};
 ghost use Rattle.std.specs.Borrow.{sem};
 ghost use Rattle.lmn_machine.specs.Lending.{lends_store};
 
@@ -87,11 +83,7 @@ impl<S: LinkStore> Machine<S> {
         requires order { HeadInOrder 0 1 0 0 code.now.head }
         ensures steps { steps.new ≡ steps.old + 1 }
         ensures same { S.heap self.new.store ≡ S.heap self.old.store }
-        ensures held { AreHeldWhole S.atom_id S.mem_id (S.heap self.old.store) self.new.set }
-        ensures set { IsTrue result → AreAllSet self.new.set code.now.head }
-        ensures copies { self.new.set.copies ≡ [] }
-        ensures found { IsTrue result → (r : HeadRegisters) → Agrees S.atom_id S.mem_id self.new.set r → IsFirstSuccess (S.heap self.old.store) code.now.head (S.mem_id membrane) r }
-        ensures none { IsFalse result → (r : HeadRegisters) → Succeeds (S.heap self.old.store) code.now.head (S.mem_id membrane) r → ⊥ }
+        ensures looked { Looked S.atom_id S.mem_id (S.heap self.old.store) code.now.head (S.mem_id membrane) self.new.set result }
     {
         steps.tick();
         finding::find(&mut self.store, code.head(), membrane, &mut self.set)
@@ -102,10 +94,7 @@ impl<S: LinkStore> Machine<S> {
     pub fn prepare(&mut self, alloc: Global, code: &CodeView<'_>) -> Result<(), NoMemory>
         requires valid { Valid (S.heap self.old.store) }
         requires unmarked { Unmarked (S.heap self.old.store) }
-        requires held { AreHeldWhole S.atom_id S.mem_id (S.heap self.old.store) self.old.set }
-        requires rests { CanCopyRests S.atom_id S.mem_id (S.heap self.old.store) self.old.set code.now.body }
-        requires copies { self.old.set.copies ≡ [] }
-        requires order { BodyInOrder (length self.old.set.atoms) (length self.old.set.membranes) (length self.old.set.parts) (length self.old.set.integers) 0 code.now.body }
+        requires matched { HoldsMatch S.atom_id S.mem_id (S.heap self.old.store) self.old.set code.now.body }
         ensures ok { OnOk result (Prepared S.atom_id S.mem_id (S.heap self.old.store) (S.heap self.new.store) self.old.set self.new.set code.now.body) }
         ensures err { OnErr result (SameButSpares (S.heap self.old.store) (S.heap self.new.store)) }
         ensures valid { OnErr result (Valid (S.heap self.new.store)) }
@@ -119,8 +108,7 @@ impl<S: LinkStore> Machine<S> {
     /// that is round it, and each other membrane keeps its mark. It takes no memory and can't fail.
     pub fn commit(&mut self, code: &CodeView<'_>)
         requires { IsPrepared S.atom_id S.mem_id (S.heap self.old.store) self.old.set code.now.body }
-        ensures fires { (p : IsPrepared S.atom_id S.mem_id (S.heap self.old.store) self.old.set code.now.body) (r : BodyRegisters) → BodyAgrees S.atom_id S.mem_id self.old.set r → HasCopies r p.prepared.copied → HasRests S.atom_id S.mem_id p.before p.matched_by r →
-            Commits p.before r code.now.body (S.heap self.new.store) }
+        ensures fires { FiresPrepared S.atom_id S.mem_id (S.heap self.old.store) self.old.set code.now.body (S.heap self.new.store) }
         ensures valid { Valid (S.heap self.new.store) }
         ensures unmarked { Unmarked (S.heap self.new.store) }
         ensures registers { self.new.set ≡ self.old.set }

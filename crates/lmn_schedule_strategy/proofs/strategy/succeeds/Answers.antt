@@ -15,13 +15,13 @@ pub returns-clause-found : goal.returns-clause-found
 returns-clause-found g c = λ found. record {
   code = c.code-code.result;
   is = c.code-code.ensures;
-  held = c.find.ensures.held;
-  set = c.find.ensures.set found;
-  copies = c.find.ensures.copies;
-  first = c.find.ensures.found found;
+  held = c.find.ensures.looked.held;
+  set = c.find.ensures.looked.set found;
+  copies = c.find.ensures.looked.copies;
+  first = c.find.ensures.looked.found found;
 }
 
 pub returns-clause-none : goal.returns-clause-none
 returns-clause-none g c = λ none. fails (g.S.LinkStore.heap c.args.machine.now.store) c.args.codes.now (g.S.LinkStore.mem_id c.args.membrane) c.args.rule c.code-code.result
     c.code-code.ensures
-    (c.find.ensures.none none)
+    (c.find.ensures.looked.none none)

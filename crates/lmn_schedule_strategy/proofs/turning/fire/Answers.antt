@@ -1,6 +1,6 @@
 use Rattle.std.proofs.Common.{subst, sym}
 use Rattle.lmn_solid_bodies.specs.Stopping.{SameButSpares}
-use Rattle.lmn_machine_commit.specs.Preparing.{CanCopyRests}
+use Rattle.lmn_machine.specs.Firing.{HoldsMatch}
 use Rattle.lmn_schedule_strategy.proofs.Firing.{fires_full, fires_not, fires_all, prepared_as}
 use Rattle.lmn_schedule_strategy.proofs.turning.fire.Goals as goal
 
@@ -9,10 +9,16 @@ returns-then-not-leaves_few-clause-fires g c =
     fires_full g.S.LinkStore.atom_id g.S.LinkStore.mem_id (g.S.LinkStore.heap c.args.machine.now.store) c.args.machine.now.set c.args.code.now c.requires.fire c.args.size c.leaves_few.result c.leaves_few.ensures.few
     (g.S.LinkStore.heap c.leaves_few.new.machine.store) c.leaves_few.ensures.same (λ t. absurd (let e = c.if-not-leaves_few.true in cc))
 
-pub prepare-requires-clause-rests : goal.prepare-requires-clause-rests
-prepare-requires-clause-rests g c =
-    subst (λ x. CanCopyRests g.S.LinkStore.atom_id g.S.LinkStore.mem_id x c.leaves_few.new.machine.set c.args.code.now.body) (sym c.leaves_few.ensures.same)
-    (subst (λ x. CanCopyRests g.S.LinkStore.atom_id g.S.LinkStore.mem_id (g.S.LinkStore.heap c.args.machine.now.store) x c.args.code.now.body) (sym c.leaves_few.ensures.registers) c.requires.fire.rests)
+pub prepare-requires-clause-matched : goal.prepare-requires-clause-matched
+prepare-requires-clause-matched g c =
+    let holds : HoldsMatch g.S.LinkStore.atom_id g.S.LinkStore.mem_id (g.S.LinkStore.heap c.args.machine.now.store) c.args.machine.now.set c.args.code.now.body = record {
+      held = c.requires.fire.held;
+      rests = c.requires.fire.rests;
+      copies = c.requires.fire.copies;
+      order = c.requires.fire.order;
+    } in
+    subst (λ x. HoldsMatch g.S.LinkStore.atom_id g.S.LinkStore.mem_id x c.leaves_few.new.machine.set c.args.code.now.body) (sym c.leaves_few.ensures.same)
+    (subst (λ x. HoldsMatch g.S.LinkStore.atom_id g.S.LinkStore.mem_id (g.S.LinkStore.heap c.args.machine.now.store) x c.args.code.now.body) (sym c.leaves_few.ensures.registers) holds)
 
 pub returns-in-Ok-clause-fires : goal.returns-in-Ok-clause-fires
 returns-in-Ok-clause-fires g c =
