@@ -6,3 +6,4 @@ mod OneSolid
 mod OneChain
 mod ChainOrWrong
 mod LineItems
+mod SmallMembranes

@@ -1,11 +1,17 @@
 -- What is a chain of `a.`, and what isn't.
-use Rattle.std.proofs.Common.{◌≡◌, ◌∙◌, ℕ, List, [], ◌++◌, codes, length, inl, inr, refl, ap, arith}
+use Rattle.std.proofs.Common.{◌≡◌, ◌∙◌, true, false, ℕ, List, [], ◌∷◌, ◌++◌, codes, length, inl, inr, refl, ap, arith}
 use Rattle.std.specs.Fmt.{digits}
 use Rattle.lmn_congruence.specs.Regions.{Region, SolidAtom, no_region, region}
+use Rattle.lmn_reduction.specs.Examples.{label_a, label_b}
+use Rattle.lmn_adequacy.specs.ChangeExamples.{changing}
+use Rattle.lmn_adequacy.specs.Examples.{root_first}
+use Rattle.lmn_adequacy.proofs.ExampleChanges.{short_trace_ends}
 use Rattle.lmn_adequacy.specs.Embedding.{EmbedsIn, HasEmbedding, embeds_below, embeds_here}
 use Rattle.lmn_app_runs.specs.Runs.{end_line}
+use Rattle.lmn_app_runs.specs.declared.stop.Stop.TheVariants as stop
 use Rattle.lmn_receipt_chain.specs.Chains.{BeginsChain, Continues, IsEndWord, begun, no_end_line, no_first_line, no_next_line}
-use Rattle.lmn_receipt_chain.specs.Examples.{Empty, MoreBehind, NoEnd, NoFiring, NothingFires, WrongWord, one_atom}
+use Rattle.lmn_receipt_chain.specs.Examples.{CutShort, Empty, MoreBehind, NoEnd, NoFiring, NothingFires, TwoSolids, WrongWord, one_atom}
+use Rattle.lmn_receipt_chain.proofs.ChainLemmas.{traces_are_chains}
 
 inert : {path f : List ℕ} {k : ℕ} {xs : List SolidAtom} → EmbedsIn path k f (region xs no_region []) → ⊥
 inert (embeds_here k e) = elim k [ ]
@@ -59,3 +65,14 @@ no_firing =
 
 pub empty : Empty
 empty = no_first_line (λ rest is. let short = ap length is in omega (arith, short)) refl
+
+-- the trace of `a. a :- b.` is a chain
+pub two_solids : TwoSolids
+unfolding digits
+two_solids =
+    let t = short_trace_ends.0 root_first in
+    traces_are_chains (record { trace = true; folded = false; budget = 1; size = 2; chooser = root_first }) (changing (label_a ∷ [])) (changing (label_a ∷ []) ∷ []) (changing (label_b ∷ [])) stop.Irreducible (λ n m some. some) t.0 t.1
+
+-- and its first line has no end line behind it
+pub cut_short : CutShort
+cut_short = no_end_line [] (changing (label_a ∷ [])) [] (record { solids = begun; is = refl }) tt (λ word h is. let short = ap length is in omega (arith, short)) refl

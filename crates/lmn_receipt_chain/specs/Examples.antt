@@ -1,8 +1,10 @@
 -- Small chains.
-use Rattle.std.specs.Prelude.{[], ◌∷◌, codes}
-use Rattle.lmn_congruence.specs.Regions.{Region, no_region, region}
+use Rattle.std.specs.Prelude.{◌≡◌, [], ◌∷◌, codes}
+use Rattle.lmn_congruence.specs.Regions.{Region, no_region, region, region_and}
 use Rattle.lmn_congruence.specs.Rules.{named}
-use Rattle.lmn_receipt_chain.specs.Chains.{IsChain, IsWrongTrace, at_line}
+use Rattle.lmn_reduction.specs.Examples.{label_a, label_b}
+use Rattle.lmn_adequacy.specs.ChangeExamples.{changing}
+use Rattle.lmn_receipt_chain.specs.Chains.{Continues, IsChain, IsWrongTrace, at_line}
 
 -- the solid of `a.`
 abbrev pub one_atom : Region
@@ -30,3 +32,22 @@ NoFiring = IsWrongTrace one_atom (codes "a.\nb.\n% irreducible after 1\n") (at_l
 -- and a trace that is empty begins with no line.
 abbrev pub Empty : Type 0
 Empty = IsWrongTrace one_atom [] (at_line 61 1)
+
+-- `a. a :- b.` has a chain of two solids,
+abbrev pub TwoSolids : Type 0
+TwoSolids = IsChain (changing (label_a ∷ [])) (codes "a. (a :- b).\nb. (a :- b).\n% irreducible after 1\n") 1
+
+-- and its first line alone is none.
+abbrev pub CutShort : Type 0
+CutShort = IsWrongTrace (changing (label_a ∷ [])) (codes "a. (a :- b).\n") (at_line 62 2)
+
+-- in a membrane
+abbrev pub inside : Region → Region
+inside S = region [] (region_and S no_region) []
+
+-- In `{a. a :- b.}` the membrane is asked before the root, and chosen. What it becomes nothing continues.
+abbrev pub MembraneIsChosen : Type 0
+MembraneIsChosen = (c : Continues (inside (changing (label_a ∷ []))) (inside (changing (label_b ∷ [])))) × (c.from ≡ 1) × (c.next.path ≡ 0 ∷ [])
+
+abbrev pub NothingContinues : Type 0
+NothingContinues = (S : Region) → ¬ (Continues (inside (changing (label_b ∷ []))) S)

@@ -1,6 +1,6 @@
 //! The laws of chains.
 
-ghost use Rattle.lmn_receipt_chain.specs.Examples.{Empty, MoreBehind, NoEnd, NoFiring, NothingFires, WrongWord};
+ghost use Rattle.lmn_receipt_chain.specs.Examples.{CutShort, Empty, MembraneIsChosen, MoreBehind, NoEnd, NoFiring, NothingContinues, NothingFires, TwoSolids, WrongWord};
 ghost use Rattle.lmn_receipt_chain.specs.Laws.{ChainsAreCommits, ContinuesByCommit, NoTraceIsNeither, TracesAreChains, TracesAreOneOf};
 
 /// What is written of a trace that stops is a chain.
@@ -22,6 +22,18 @@ pub fn small_chains()
     ensures more { MoreBehind }
     ensures firing { NoFiring }
     ensures empty { Empty }
+{}
+
+/// What is a chain of `a. a :- b.`, and what isn't.
+pub fn chains_of_two()
+    ensures two { TwoSolids }
+    ensures short { CutShort }
+{}
+
+/// What continues `{a. a :- b.}`, where the membrane is chosen, and what nothing continues.
+pub fn membranes_are_chosen()
+    ensures chosen { MembraneIsChosen }
+    ensures nothing { NothingContinues }
 {}
 
 /// A trace beside the solid of a plain isn't a chain and wrong, and is one of so many commits or at one line alone.
