@@ -30,3 +30,4 @@ mod SmallSessions
 mod SmallExecutions
 mod OneSession
 mod SmallChecks
+mod SmallCalls

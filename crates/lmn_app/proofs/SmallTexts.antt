@@ -58,14 +58,15 @@ abbrev pub small_tokens : List Token
 small_tokens = token Name 0 1 ∷ token Dot 1 2 ∷ token Name 3 4 ∷ token Arrow 5 7 ∷ token Name 8 9 ∷ token Dot 9 10 ∷ token End 10 10 ∷ []
 
 -- how many lines end in a text
-abbrev lines_in : List ℕ → ℕ
+abbrev pub lines_in : List ℕ → ℕ
 lines_in [] = 0
 lines_in (b ∷ bs) = cond (b == 10) (1 + lines_in bs) (lines_in bs)
 
-abbrev placed : List ℕ → Pos
+abbrev pub placed : List ℕ → Pos
 placed before = record { line = 1 + lines_in before; column = column_behind 1 before }
 
-place_is : (before : List ℕ) → place before ≡ placed before
+-- the place behind bytes, counted by hand
+pub place_is : (before : List ℕ) → place before ≡ placed before
 place_is before = ap (λ n. record { line = 1 + n; column = column_behind 1 before }) (sym (is_count_by lines_in (λ b. b == 10) refl (λ b bs. refl) before))
 
 -- the token of a kind behind these bytes, its place counted by hand

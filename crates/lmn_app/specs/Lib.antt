@@ -28,3 +28,4 @@ pub mod CheckLaws
 pub mod BoundExamples
 pub mod CheckExamples
 pub mod Calls
+pub mod CallExamples

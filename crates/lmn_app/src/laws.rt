@@ -3,6 +3,7 @@
 
 ghost use Rattle.lmn_app.specs.BoundExamples.{SmallTextIsBounded, SmallTextIsNotByTwo, SmallTextIsNotLowered};
 ghost use Rattle.lmn_app.specs.BoundLaws.{BoundNotRefused, BoundOrRefused, BoundWhereLowered, OneBound, OneWrongWeights};
+ghost use Rattle.lmn_app.specs.CallExamples.{ByteIsToldWritten, FileIsFetchedOnce, NoWordsAreAnswered, OrdersCountSo, QuoteIsRefused, QuoteIsToldRefused};
 ghost use Rattle.lmn_app.specs.CheckExamples.{NothingIsWrong, SmallTextIsChecked, SmallTextIsNotTwice};
 ghost use Rattle.lmn_app.specs.CheckLaws.{CheckedNotWrong, NeitherCheckedNorWrong, OneCount, OneWrongTrace, RunsAreChecked};
 ghost use Rattle.lmn_app.specs.DebugExamples.{SmallTextIsDebugged, SmallTextIsNotDebuggedSo};
@@ -249,3 +250,17 @@ pub fn small_text_is_executed()
     listed_codes_are_one();
     listed_lines_stand();
 }
+
+/// A quote alone is refused at its beginning, where it is told and where nothing is.
+pub fn quote_is_refused()
+    ensures refused { QuoteIsRefused }
+    ensures told { QuoteIsToldRefused }
+{}
+
+/// How no words are answered, how often a file is asked for, what a sink tells of a write, and what it counts of orders.
+pub fn small_calls()
+    ensures answered { NoWordsAreAnswered }
+    ensures fetched { FileIsFetchedOnce }
+    ensures written { ByteIsToldWritten }
+    ensures counted { OrdersCountSo }
+{}
