@@ -129,6 +129,12 @@ pub next_tried : (region : Solid → Region) (S : Region) (rest : List ℕ) (fro
 next_tried region S rest from reach limit (Some s) sound old short numbered same large none = tried_more S rest from reach (region s) sound old numbered same none
 next_tried region S rest from reach limit None sound old short numbered same large none = large_tried S rest from reach limit old short (large refl)
 
+-- A next solid continues the last one,
+pub next_continues : (region : Solid → Region) (S : Region) (from reach : ℕ) (next : Option Solid) → from < length (paths S) → from ≤ reach → IfSome next (λ s. IsNumbered (region s))
+    → IfSome next (λ s. (k : ℕ) → from ≤ k → k ≤ reach → NextFrom k S (region s)) → IfSome next (λ s. Continues S (region s))
+next_continues region S from reach (Some s) l far numbered same = record { from = from; one_of_them = l; next = same from (omega arith) far; numbered = numbered }
+next_continues region S from reach None l far numbered same = tt
+
 -- and where all were tried nothing fits
 pub all_tried : (S : Region) (rest : List ℕ) (from count : ℕ) → count ≡ length (paths S) → (from < count → ⊥) → Tried S rest from → NothingFits S rest
 all_tried S rest from count is out tried S' more c at = let l = c.one_of_them in tried c.from (omega (arith, is, out, l)) S' more c.next c.numbered at

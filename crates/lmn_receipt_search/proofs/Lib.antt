@@ -8,3 +8,4 @@ mod Planned
 pub mod Beginning
 mod MadeItems
 mod Counted
+mod Sizing

@@ -3,7 +3,7 @@ use Rattle.std.proofs.Common.{ℕ, zero, suc, ◌≡◌, ◌∙◌, ◌+◌, ◌
 use Rattle.std.proofs.lemmas.List.{length-map}
 use Rattle.std.specs.List.{AllByRecursion}
 use Rattle.lmn_base.specs.Lists.{In}
-use Rattle.lmn_base.proofs.Lists.{in_either, sum_cons}
+use Rattle.lmn_base.proofs.Lists.{in_either}
 use Rattle.lmn_base.proofs.Numbers.{unequal_when}
 use Rattle.lmn_base.specs.declared.level.CtxUse.{CtxUse}
 use Rattle.lmn_base.specs.declared.level.Leaf.{Leaf}
@@ -27,6 +27,7 @@ use Rattle.lmn_solid_firing.specs.declared.writing.Writing.{Writing}
 use Rattle.lmn_solid_firing.specs.declared.writing.Writing.TheVariants.{Rooted, Shifted}
 use Rattle.lmn_solid_firing.proofs.Laying.{in_left_of, named_there}
 use Rattle.lmn_solid_firing.proofs.Wholes.{atoms_there}
+use Rattle.lmn_receipt_search.proofs.Sizing.{formed, items_append, one_more}
 use Rattle.lmn_receipt_search.specs.Items.{AreSizes, body_size, context_size, contexts_size, leaf_size, leaves_size, left_size, part_size, rules_size, size_at, size_step, total}
 
 -- ---- items of a raw region
@@ -98,56 +99,18 @@ module _ (flat : Flat) (valid : Valid (heap_of flat)) where
 
   -- ---- membranes with what stands in them
 
-  items_append : (xs ys : List ℕ) → item_count_in h (xs ++ ys) ≡ item_count_in h xs + item_count_in h ys
-  items_append [] ys = omega arith
-  items_append (x ∷ xs) ys =
-      let f : ℕ → ℕ = λ m. 1 + length (atoms_in h m) + length (rules_in h m) in
-      omega (arith, sum_cons f x (xs ++ ys), sum_cons f x xs, items_append xs ys)
-
-  one_more : (m : ℕ) (ms : List ℕ) → item_count_in h (m ∷ ms) ≡ 1 + length (atoms_in h m) + length (rules_in h m) + item_count_in h ms
-  one_more m ms = sum_cons (λ m. 1 + length (atoms_in h m) + length (rules_in h m)) m ms
-
   forest_items : (w : Writing) (f : Forest) → raw_items_in (raws_at flat w f) ≡ item_count_in h (members f)
   forest_items w bare = refl
   forest_items w (mem m inner rest) = omega (
-    arith,
-    one_more m (members inner ++ members rest),
-    items_append (members inner) (members rest),
-    forest_items w inner,
-    forest_items w rest,
-    written_many w (atoms_in h m) (λ a i. atoms_there h valid m a i),
-  )
+    arith, one_more h m (members inner ++ members rest), items_append h (members inner) (members rest), forest_items w inner, forest_items w rest,
+    written_many w (atoms_in h m) (λ a i. atoms_there h valid m a i))
 
   module _ (t : Match) (left : ℕ → Forest) (forms : LeftForms flat t left) (ready : IsReadyFor flat t) (root : IsMem h 0) (sizes : List ℕ) (are : AreSizes h sizes) where
-    -- a list of membranes by its table, and by its forest
-    formed : (taken ms : List ℕ) (f : Forest) → Forms h f (left_of taken ms) → left_size (size_at sizes) taken ms ≤ item_count_in h (members f)
-    formed taken ms f k = let a = by_table taken ms in let b = by_forest f (left_of taken ms) k in omega (arith, a, b)
-      where
-        sizes_of : List ℕ → ℕ
-        sizes_of xs = total (map (size_at sizes) xs)
-
-        by_table : (taken ms : List ℕ) → left_size (size_at sizes) taken ms ≡ total (map (size_at sizes) (left_of taken ms))
-        by_table taken [] = refl
-        by_table taken (x ∷ xs) = by (is_in taken x) (by_table taken xs)
-          where
-            by : (b : Bool) → left_size (size_at sizes) taken xs ≡ total (map (size_at sizes) (left_of taken xs))
-                → (if b then 0 else size_at sizes x) + left_size (size_at sizes) taken xs ≡ total (map (size_at sizes) (if b then left_of taken xs else (x ∷ left_of taken xs)))
-            by true e = omega (arith, e)
-            by false e = omega (arith, e)
-
-        by_forest : (f : Forest) (ms : List ℕ) → Forms h f ms → total (map (size_at sizes) ms) ≤ item_count_in h (members f)
-        by_forest bare ms e = subst (λ xs. total (map (size_at sizes) xs) ≤ 0) (sym e) (omega arith)
-        by_forest (mem m inner rest) ms (others, e, i, r) =
-            let here = are m inner i in
-            let behind = by_forest rest others r in
-            let all = items_append (m ∷ members inner) (members rest) in
-            subst (λ xs. total (map (size_at sizes) xs) ≤ item_count_in h (members (mem m inner rest))) (sym e) (omega (arith, here, behind, all))
-
     context_made : (w : Writing) (x : ℕ) → IsMem h x → context_size h sizes t x ≤ length (written_atoms flat w (left_of t.atoms (atoms_in h x))) + raw_items_in (raws_at flat w (left x))
     context_made w x there =
         let a = left_numbers t.atoms (atoms_in h x) in
         let b = written_many w (left_of t.atoms (atoms_in h x)) (λ a i. atoms_there h valid x a (in_left_of t.atoms (atoms_in h x) a i)) in
-        let c = formed t.membranes (mems_in h x) (left x) (forms x there) in
+        let c = formed h sizes are t.membranes (mems_in h x) (left x) (forms x there) in
         let d = forest_items w (left x) in
         omega (arith, a, b, c, d)
 
@@ -208,15 +171,9 @@ module _ (flat : Flat) (valid : Valid (heap_of flat)) where
       all = λ next.
           let start = leaves_next t leaves next in
           omega (
-            arith,
-            leaves_made leaves next,
-            contexts_made cs start start,
-            rules_made us,
-            w.all (contexts_next t.links cs start),
-            length-append (leaves_atoms flat t next leaves) (context_atoms flat t start cs),
-            length-append rs (rules_named flat t us),
-            append_items (made_membranes (contexts_next t.links cs start) bs) (context_membranes flat t left start cs),
-          );
+            arith, leaves_made leaves next, contexts_made cs start start, rules_made us, w.all (contexts_next t.links cs start),
+            length-append (leaves_atoms flat t next leaves) (context_atoms flat t start cs), length-append rs (rules_named flat t us),
+            append_items (made_membranes (contexts_next t.links cs start) bs) (context_membranes flat t left start cs));
     }
 
     abbrev One : Level → Type 0
@@ -244,12 +201,8 @@ module _ (flat : Flat) (valid : Valid (heap_of flat)) where
     home_counted b next k u =
         let kept = written_atoms flat (Shifted 0) (left_of t.atoms (atoms_in h t.home)) in
         omega (
-          arith,
-          u.all next,
-          length-append kept (b.atoms next),
-          length-append (rules_in h t.home) b.rules,
-          append_items (raws_at flat (Shifted 0) (left t.home)) (b.membranes (b.start next) (b.own next)),
-        )
+          arith, u.all next, length-append kept (b.atoms next), length-append (rules_in h t.home) b.rules,
+          append_items (raws_at flat (Shifted 0) (left t.home)) (b.membranes (b.start next) (b.own next)))
 
     one_fired : (made : RawRegion) (m : ℕ) (inner : Forest) → In t.home (m ∷ members inner) → (In t.home (members inner) → raw_items made ≤ raw_items_in (fired_regions flat t.home made inner))
         → raw_items made ≤ raw_items (fired_region flat t.home made m inner)

@@ -1,13 +1,15 @@
-use Rattle.std.proofs.Common.{arith}
-use Rattle.lmn_receipt_chain.proofs.WalkLemmas.{all_tried, tried_more}
+use Rattle.std.proofs.Common.{arith, length}
+use Rattle.lmn_receipt_chain.proofs.WalkLemmas.{all_tried, next_continues, next_tried}
 use Rattle.lmn_receipt_chain.proofs.walk.line.Goals as goal
 
 pub loop-from-preserved : goal.loop-from-preserved
 loop-from-preserved g c =
-    let numbered = rw c.in-Some-2.is at c.in_ok-next_from.ensures.numbered in
-    let next = rw c.in-Some-2.is at c.in_ok-next_from.ensures.next in
-    tried_more (g.N.NextSolids.region c.args.solids.now c.args.solid.now) c.args.rest.now c.loop-from.from c.in-Some-2.next.reach (g.N.NextSolids.region c.args.solids.now c.in-Some-2.next.solid)
-    c.requires.sound c.loop-from.invariant numbered next (c.in-Ok-None.ensures.none c.in-Ok-None.field-0-is)
+    let region = g.N.NextSolids.region c.args.solids.now in
+    let numbered = rw c.in-Some-2.is at c.in_ok-next.ensures.numbered in
+    let next = rw c.in-Some-2.is at c.in_ok-next.ensures.next in
+    let large = rw c.in-Some-2.is at (c.in_ok-next.ensures.large c.requires.sound) in
+    next_tried region (region c.args.solid.now) c.args.rest.now c.loop-from.from c.in-Some-2.next.reach (length c.args.rest.now) c.in-Some-2.next.solid
+    c.requires.sound c.loop-from.invariant (omega arith) numbered next large (c.in_ok-found-2.ensures.none c.in_default-3.is)
 
 pub returns : goal.returns
 returns g c = λ commits. (
@@ -17,3 +19,14 @@ returns g c = λ commits. (
 
 pub returns-in-Some : goal.returns-in-Some
 returns-in-Some g c = λ commits. rw c.in-Some.is at (c.in_ok-found.ensures commits)
+
+pub returns-in-Some-3 : goal.returns-in-Some-3
+returns-in-Some-3 g c = λ commits.
+    let region = g.N.NextSolids.region c.args.solids.now in
+    let S = region c.args.solid.now in
+    let numbered = rw c.in-Some-2.is at c.in_ok-next.ensures.numbered in
+    let reach = rw c.in-Some-2.is at c.in_ok-next.ensures.reach in
+    let next = rw c.in-Some-2.is at c.in_ok-next.ensures.next in
+    let count = c.in_ok-count.ensures in
+    let inside = c.loop-from-test.true in
+    rw c.in-Some-3.is at (c.in_ok-found-2.ensures.some S commits (next_continues region S c.loop-from.from c.in-Some-2.next.reach c.in-Some-2.next.solid (omega (arith, count, inside)) reach.0 numbered next))
