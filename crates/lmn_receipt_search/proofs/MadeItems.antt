@@ -102,8 +102,13 @@ module _ (flat : Flat) (valid : Valid (heap_of flat)) where
   forest_items : (w : Writing) (f : Forest) → raw_items_in (raws_at flat w f) ≡ item_count_in h (members f)
   forest_items w bare = refl
   forest_items w (mem m inner rest) = omega (
-    arith, one_more h m (members inner ++ members rest), items_append h (members inner) (members rest), forest_items w inner, forest_items w rest,
-    written_many w (atoms_in h m) (λ a i. atoms_there h valid m a i))
+    arith,
+    one_more h m (members inner ++ members rest),
+    items_append h (members inner) (members rest),
+    forest_items w inner,
+    forest_items w rest,
+    written_many w (atoms_in h m) (λ a i. atoms_there h valid m a i),
+  )
 
   module _ (t : Match) (left : ℕ → Forest) (forms : LeftForms flat t left) (ready : IsReadyFor flat t) (root : IsMem h 0) (sizes : List ℕ) (are : AreSizes h sizes) where
     context_made : (w : Writing) (x : ℕ) → IsMem h x → context_size h sizes t x ≤ length (written_atoms flat w (left_of t.atoms (atoms_in h x))) + raw_items_in (raws_at flat w (left x))
@@ -171,9 +176,15 @@ module _ (flat : Flat) (valid : Valid (heap_of flat)) where
       all = λ next.
           let start = leaves_next t leaves next in
           omega (
-            arith, leaves_made leaves next, contexts_made cs start start, rules_made us, w.all (contexts_next t.links cs start),
-            length-append (leaves_atoms flat t next leaves) (context_atoms flat t start cs), length-append rs (rules_named flat t us),
-            append_items (made_membranes (contexts_next t.links cs start) bs) (context_membranes flat t left start cs));
+            arith,
+            leaves_made leaves next,
+            contexts_made cs start start,
+            rules_made us,
+            w.all (contexts_next t.links cs start),
+            length-append (leaves_atoms flat t next leaves) (context_atoms flat t start cs),
+            length-append rs (rules_named flat t us),
+            append_items (made_membranes (contexts_next t.links cs start) bs) (context_membranes flat t left start cs),
+          );
     }
 
     abbrev One : Level → Type 0
@@ -201,8 +212,12 @@ module _ (flat : Flat) (valid : Valid (heap_of flat)) where
     home_counted b next k u =
         let kept = written_atoms flat (Shifted 0) (left_of t.atoms (atoms_in h t.home)) in
         omega (
-          arith, u.all next, length-append kept (b.atoms next), length-append (rules_in h t.home) b.rules,
-          append_items (raws_at flat (Shifted 0) (left t.home)) (b.membranes (b.start next) (b.own next)))
+          arith,
+          u.all next,
+          length-append kept (b.atoms next),
+          length-append (rules_in h t.home) b.rules,
+          append_items (raws_at flat (Shifted 0) (left t.home)) (b.membranes (b.start next) (b.own next)),
+        )
 
     one_fired : (made : RawRegion) (m : ℕ) (inner : Forest) → In t.home (m ∷ members inner) → (In t.home (members inner) → raw_items made ≤ raw_items_in (fired_regions flat t.home made inner))
         → raw_items made ≤ raw_items (fired_region flat t.home made m inner)
