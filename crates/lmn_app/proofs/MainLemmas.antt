@@ -4,7 +4,7 @@ use Rattle.std.specs.declared.string.String.{String}
 use Rattle.std.specs.declared.alloc.Global.{Global}
 use Rattle.lmn_base.specs.declared.refusal.Refusal.{Refusal}
 use Rattle.lmn_io.specs.Counts.{FailedLast, Faults, NoneBehindFailed, NoneFailed}
-use Rattle.lmn_io.specs.Taking.{Takes, TakesPrefix}
+use Rattle.lmn_io.specs.Taking.{Takes}
 use Rattle.lmn_io.specs.Texts.{Fetch}
 use Rattle.lmn_io.proofs.TakingLemmas.{no_put}
 use Rattle.lmn_app.specs.declared.ending.Ending.{Ending}

@@ -1,6 +1,6 @@
 -- What follows from what a command leaves behind.
 use Rattle.std.specs.Prelude.{◌≡◌, ◌<◌, ℕ, ◌+◌, ◌⊎◌, List, [], ◌∷◌, Option, None, Some, IfSome, IsSomeAnd}
-use Rattle.std.proofs.Common.{ap, arith, inl, inr, refl, subst, sym, length}
+use Rattle.std.proofs.Common.{zero, suc, ap, arith, inl, inr, refl, subst, sym, length}
 use Rattle.lmn_base.specs.declared.refusal.Refusal.{Refusal}
 use Rattle.lmn_io.specs.Counts.{FailedLast, Faults, Rose}
 use Rattle.lmn_io.proofs.TakingLemmas.{no_put}
