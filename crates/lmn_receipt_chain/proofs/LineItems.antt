@@ -6,7 +6,7 @@ use Rattle.lmn_congruence.specs.Rules.{Rule}
 use Rattle.lmn_congruence.specs.Translation.{rules as listed_rules}
 use Rattle.lmn_lexer.specs.declared.token.Kind.TheVariants as kind
 use Rattle.lmn_flatten_plain.specs.SolidLines.{as_level, as_levels, atom_as_leaf}
-use Rattle.lmn_flatten_plain.specs.Words.{Piece, joined_by, leaf_pieces, level_pieces, levels_pieces, line_of, rules_pieces, space, text_of, with_commas, with_full_stops, word}
+use Rattle.lmn_flatten_plain.specs.Words.{Piece, leaf_pieces, level_pieces, levels_pieces, rules_pieces, space, text_of, with_commas, with_full_stops, word}
 use Rattle.lmn_flatten_plain.proofs.LaidLines.{text_append}
 use Rattle.lmn_receipt_chain.specs.Chains.{line_of_solid}
 

@@ -1,5 +1,5 @@
 -- A rule that is asked and lies least fires, and the solid after it has as many items as what is made.
-use Rattle.std.proofs.Common.{ℕ, ◌≡◌, ◌∙◌, ◌+◌, ◌≤◌, ◌<◌, List, [], ◌∷◌, ◌++◌, map, length, sum, refl, sym, ap, subst, arith}
+use Rattle.std.proofs.Common.{ℕ, ◌≡◌, ◌+◌, ◌≤◌, ◌<◌, List, [], ◌∷◌, ◌++◌, map, length, sum, refl, sym, ap, subst, arith}
 use Rattle.std.proofs.lemmas.List.{length-map}
 use Rattle.lmn_base.specs.declared.rule.Plain.{Plain}
 use Rattle.lmn_base.specs.declared.rule.RuleTree.{RuleTree}
@@ -16,10 +16,10 @@ use Rattle.lmn_store_heap.specs.Sound.{Forest, bare, mem, flat as members}
 use Rattle.lmn_solid_heads.specs.Embeddings.{Images, IsLeast}
 use Rattle.lmn_compile_head.specs.Accepted.{head_items}
 use Rattle.lmn_congruence.specs.Plains.{SolidOf, fused_leaves, fused_level, fused_levels}
-use Rattle.lmn_congruence.specs.Regions.{Region, Regions, SolidAtom, item_count_of_region, item_count_of_regions, no_region, region, region_and, region_process}
+use Rattle.lmn_congruence.specs.Regions.{Region, Regions, item_count_of_region, item_count_of_regions, no_region, region, region_and}
 use Rattle.lmn_congruence.specs.Rules.{Leaf, Level, Levels, Name, atom_leaf, connector_leaf, head_of, level, level_and, no_level, typed_leaf}
-use Rattle.lmn_congruence.specs.Same.{IsRenamed, renamed_atom, renamed_region, renamed_regions}
-use Rattle.lmn_congruence.specs.Translation.{numbered_region, numbered_rule, region_of, rule_tree}
+use Rattle.lmn_congruence.specs.Same.{renamed_atom, renamed_region, renamed_regions}
+use Rattle.lmn_congruence.specs.Translation.{rule_tree}
 use Rattle.lmn_congruence.proofs.TranslatedItems.{items_kept}
 use Rattle.lmn_reduction.proofs.Plains.{plain_has_solid}
 use Rattle.lmn_adequacy.specs.Choice.{NextFrom}
@@ -30,7 +30,6 @@ use Rattle.lmn_adequacy_heaps.specs.Premises.{HasForest}
 use Rattle.lmn_adequacy_choices.proofs.Paths.{forest_there}
 use Rattle.lmn_adequacy_turns.proofs.ReadAgain.{root_mem as root_there}
 use Rattle.lmn_solid_settle.specs.Raw.{RawRegion, RawRegions, laid, no_raw, raw, raw_and, settled, settled_all, settled_atom}
-use Rattle.lmn_solid_settle.specs.declared.settling.RawMembrane.{RawMembrane}
 use Rattle.lmn_solid_tables.specs.Flats.{heap_of, reading_of}
 use Rattle.lmn_solid_tables.specs.declared.flat.Flat.{Flat}
 use Rattle.lmn_solid_search.specs.Finding.{images}

@@ -1,5 +1,5 @@
 -- What a firing makes has at least as many items as are counted of its body.
-use Rattle.std.proofs.Common.{ℕ, zero, suc, ◌≡◌, ◌∙◌, ◌+◌, ◌==◌, ◌≤◌, ◌⊎◌, inl, inr, Bool, true, false, cond, if◌then◌else◌, List, [], ◌∷◌, ◌++◌, Option, Some, None, IsSome, length, map, get_or, refl, sym, ap, subst, arith, length-append}
+use Rattle.std.proofs.Common.{ℕ, suc, ◌≡◌, ◌∙◌, ◌+◌, ◌==◌, ◌≤◌, inl, inr, Bool, true, false, if◌then◌else◌, List, [], ◌∷◌, ◌++◌, Option, Some, None, IsSome, length, map, refl, ap, subst, arith, length-append}
 use Rattle.std.proofs.lemmas.List.{length-map}
 use Rattle.std.specs.List.{AllByRecursion}
 use Rattle.lmn_base.specs.Lists.{In}
@@ -10,17 +10,16 @@ use Rattle.lmn_base.specs.declared.level.Leaf.{Leaf}
 use Rattle.lmn_base.specs.declared.level.Leaf.TheVariants as leaf
 use Rattle.lmn_base.specs.declared.level.Level.{Level}
 use Rattle.lmn_base.specs.declared.level.Level.TheFolds.{fold-roll-Level, ind-Level}
-use Rattle.lmn_base.specs.declared.solid.SolidAtom.{SolidAtom}
 use Rattle.lmn_store_heap.specs.Heap.{Heap, HeapAtom, IsAtom, IsMem, atoms_in, mems_in, rules_in}
 use Rattle.lmn_store_heap.specs.Solid.{solid_atom_at, solid_atoms_at}
-use Rattle.lmn_store_heap.specs.Sound.{Forest, Forms, Valid, bare, mem, flat as members, item_count_in}
+use Rattle.lmn_store_heap.specs.Sound.{Forest, Valid, bare, mem, flat as members, item_count_in}
 use Rattle.lmn_ground_parts.specs.Walks.{is_in}
 use Rattle.lmn_solid_bodies.specs.Flattening.{membrane_named}
 use Rattle.lmn_solid_settle.specs.Raw.{RawRegion, RawRegions, laid, laid_in, no_raw, raw, raw_and, settled_atom, size}
 use Rattle.lmn_solid_settle.specs.declared.settling.RawMembrane.{RawMembrane}
 use Rattle.lmn_solid_tables.specs.Flats.{heap_of, link_at}
 use Rattle.lmn_solid_tables.specs.declared.flat.Flat.{Flat}
-use Rattle.lmn_solid_firing.specs.Making.{HasAtoms, IsReadyFor, LeftForms, LevelMade, context_atoms, context_membranes, context_next, context_writing, contexts_next, fired_region, fired_regions, home_region, integer_atoms, leaf_atoms, leaf_next, leaves_atoms, leaves_next, left_of, level_made, level_step, made_membranes, after_membranes, raws_append, raws_at, rules_named, typed_atoms, written, written_atoms}
+use Rattle.lmn_solid_firing.specs.Making.{HasAtoms, IsReadyFor, LeftForms, LevelMade, context_atoms, context_membranes, context_next, context_writing, contexts_next, fired_region, fired_regions, home_region, leaf_atoms, leaf_next, leaves_atoms, leaves_next, left_of, level_made, level_step, made_membranes, after_membranes, raws_append, raws_at, rules_named, typed_atoms, written, written_atoms}
 use Rattle.lmn_solid_firing.specs.declared.match_.Match.{Match}
 use Rattle.lmn_solid_firing.specs.declared.match_.Part.{Part}
 use Rattle.lmn_solid_firing.specs.declared.writing.Writing.{Writing}
@@ -28,7 +27,7 @@ use Rattle.lmn_solid_firing.specs.declared.writing.Writing.TheVariants.{Rooted, 
 use Rattle.lmn_solid_firing.proofs.Laying.{in_left_of, named_there}
 use Rattle.lmn_solid_firing.proofs.Wholes.{atoms_there}
 use Rattle.lmn_receipt_search.proofs.Sizing.{formed, items_append, one_more}
-use Rattle.lmn_receipt_search.specs.Items.{AreSizes, body_size, context_size, contexts_size, leaf_size, leaves_size, left_size, part_size, rules_size, size_at, size_step, total}
+use Rattle.lmn_receipt_search.specs.Items.{AreSizes, body_size, context_size, contexts_size, leaf_size, leaves_size, left_size, part_size, rules_size, size_step, total}
 
 -- ---- items of a raw region
 

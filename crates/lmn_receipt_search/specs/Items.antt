@@ -1,6 +1,6 @@
 -- How many items a firing makes, told from below: what the body's contexts stand for is counted, and nothing else. Contracts of private
 -- functions alone cite these words.
-use Rattle.std.specs.Prelude.{ℕ, ◌≡◌, ◌<◌, ◌≤◌, ◌+◌, ◌==◌, if◌then◌else◌, List, [], ◌∷◌, get_or, length}
+use Rattle.std.specs.Prelude.{ℕ, ◌≤◌, ◌+◌, ◌==◌, if◌then◌else◌, List, [], ◌∷◌, get_or, length}
 use Rattle.lmn_base.specs.declared.level.CtxUse.{CtxUse}
 use Rattle.lmn_base.specs.declared.level.Leaf.{Leaf}
 use Rattle.lmn_base.specs.declared.level.Leaf.TheVariants as leaf
