@@ -110,10 +110,22 @@ pub ports_more : (stands : List NewPort) (atom n k : ℕ) → k < n → (r : Boo
 ports_more stands atom n k l r e t inv =
     ap (λ b. b && stand_once stands (atom_ports atom (rising (k + 1) (n - (k + 1))))) (sym t ∙ e) ∙ sym (ap (λ ks. stand_once stands (atom_ports atom ks)) (rising_more k n l)) ∙ inv
 
+-- a port that doesn't stand once
+pub ports_fail : (stands : List NewPort) (atom n k : ℕ) → k < n → (r : Bool) → r ≡ (count_by (same_port (new.Atom (port_of_register atom k))) stands == 1) → r ≡ false
+    → stand_once stands (atom_ports atom (rising k (n - k))) ≡ stand_once stands (atom_ports atom (rising 0 n)) → false ≡ stand_once stands (atom_ports atom (rising 0 n))
+ports_fail stands atom n k l r e t inv =
+    ap (λ b. b && stand_once stands (atom_ports atom (rising (k + 1) (n - (k + 1))))) (sym t ∙ e) ∙ sym (ap (λ ks. stand_once stands (atom_ports atom ks)) (rising_more k n l)) ∙ inv
+
 pub copies_more : (stands : List NewPort) (n k : ℕ) → k < n → (r : Bool) → r ≡ (count_by (same_port (new.Copy k)) stands == 1) → r ≡ true
     → stand_once stands (map new.Copy (rising k (n - k))) ≡ stand_once stands (map new.Copy (rising 0 n))
     → stand_once stands (map new.Copy (rising (k + 1) (n - (k + 1)))) ≡ stand_once stands (map new.Copy (rising 0 n))
 copies_more stands n k l r e t inv =
+    ap (λ b. b && stand_once stands (map new.Copy (rising (k + 1) (n - (k + 1))))) (sym t ∙ e) ∙ sym (ap (λ ks. stand_once stands (map new.Copy ks)) (rising_more k n l)) ∙ inv
+
+-- a copy that doesn't
+pub copies_fail : (stands : List NewPort) (n k : ℕ) → k < n → (r : Bool) → r ≡ (count_by (same_port (new.Copy k)) stands == 1) → r ≡ false
+    → stand_once stands (map new.Copy (rising k (n - k))) ≡ stand_once stands (map new.Copy (rising 0 n)) → false ≡ stand_once stands (map new.Copy (rising 0 n))
+copies_fail stands n k l r e t inv =
     ap (λ b. b && stand_once stands (map new.Copy (rising (k + 1) (n - (k + 1))))) (sym t ∙ e) ∙ sym (ap (λ ks. stand_once stands (map new.Copy ks)) (rising_more k n l)) ∙ inv
 
 -- ---- what is taken out
