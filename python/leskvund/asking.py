@@ -13,10 +13,13 @@ fire, and of its matches the one whose items stand first in their lists. So
 
 For this matches are seen as a tree: below the images of the first items of a head are those that the next one has in matches that
 begin so. A copy *covers* a place in the tree where each other item of the list in which the next image stands comes before the
-image that the program took. All places are covered, by the copies that fire or by more of them. Of atoms without links that
-have one name and stand in one membrane the first is taken for all: exchanging them changes nothing.
+image that the program took. All places are covered, by the copies that fire or by more of them. Of items that can be exchanged,
+atoms of one name without links and equal membranes that no link leaves, the first is taken for all: exchanging them changes nothing.
 
-What the program will print is foretold letter by letter, and must be what it prints.
+What the program will print is foretold letter by letter, and must be what it prints. Two matches mustn't be printed alike. So a
+fence, an atom that no rule asks for, stands where atoms that go and atoms that stay are neighbours: between two fences nothing may be
+left, which tells that just these went. Matches that take the same items, each in another place of the head, may still be printed
+alike; of these each must have been found where one was, which is asked of the matcher once more, among these items alone.
 """
 from __future__ import annotations
 
@@ -25,13 +28,16 @@ from typing import TYPE_CHECKING, Any
 
 from leskvund.firing import AS_THEY_STAND, Firing, Orders
 from leskvund.labels import Layout
-from leskvund.matching import first_match, matches
+from leskvund.matching import first_match, matches, matches_within
+from leskvund.program import Unshowable
+from leskvund.regions import Atom, line_of
 
 if TYPE_CHECKING:
     from leskvund.firing import Made
+    from leskvund.labels import Functor, Label
     from leskvund.matching import Match
     from leskvund.patterns import Rule, Rules
-    from leskvund.regions import Atom, Region
+    from leskvund.regions import Region
 
     # For each list, a membrane and the kind of its items, places in a match.
     Places = dict[tuple[Region, str], list[int]]
@@ -45,7 +51,7 @@ class Tree:
     """
 
     def __init__(self, rule: Rule, matches: list[Match]) -> None:
-        self.matches, self.next, self.lists = matches, {}, {}
+        self.rule, self.matches, self.next, self.lists = rule, matches, {}, {}
         self.places = [(item.level, 'atoms' if item.functor else 'inner') for item in rule.head.items]
         for match in matches:
             images = tuple(match.images)
@@ -65,7 +71,7 @@ class Tree:
         going = set(images)
         for image in images:
             if image.is_free:
-                going.update(self.lists[begun][0].with_functor(image.functor))
+                going.update(self.lists[begun][0].alike(image))
         return going
 
     def first(self, orders: Orders) -> Match:
@@ -91,11 +97,11 @@ class Tree:
         items = orders.items(region, kind)
         behind = set(items[items.index(image) + 1:])
         behind.difference_update(self.next[begun], begun)
-        return all(it.is_free and not self.is_next(region, begun, it) for it in behind)
+        return not any(self.is_next(region, begun, it) for it in behind)
 
-    def is_next(self, region: Region, begun: tuple[Any, ...], item: Atom) -> bool:
-        """Whether an atom without links is the first of its kind that is left."""
-        return next((it for it in region.with_functor(item.functor) if it not in begun), None) is item
+    def is_next(self, region: Region, begun: tuple[Any, ...], item: Any) -> bool:
+        """Whether an item is the first that is left of those that can be exchanged with it."""
+        return next((it for it in region.alike(item) if it not in begun), None) is item
 
     def best_orders(self, match: Match) -> tuple[Orders, list[tuple[Any, ...]]]:
         """Orders in which a match is the first of all, by which most places are covered that aren't yet, and these places."""
@@ -112,7 +118,7 @@ class Tree:
                 if len(covered) == wanted:
                     return best
         if best is None:
-            orders = self.orders_with_first(match, places)
+            orders = orders_with(self.rule, match)
             best = orders, self.covered(orders, match)
         return best
 
@@ -159,14 +165,6 @@ class Tree:
             places.setdefault((membranes[level], kind), []).append(at)
         return places
 
-    def orders_with_first(self, match: Match, places: Places) -> Orders:
-        """Orders that begin with the items of a match."""
-        orders = Orders()
-        for (region, kind), numbers in places.items():
-            own = [match.images[number] for number in numbers]
-            orders.put(region, kind, in_line(region, own + [it for it in getattr(region, kind) if it not in own]))
-        return orders
-
     def orders_that_cover(self, begun: tuple[Any, ...]) -> Orders:
         """Orders in which a beginning comes first, and then what doesn't go on from it."""
         orders = Orders()
@@ -212,6 +210,17 @@ def orders_of(rule: Rule, matches: list[Match]) -> Iterable[tuple[Orders, Match]
     return Tree(rule, matches).orders()
 
 
+def orders_with(rule: Rule, match: Match) -> Orders:
+    """Orders that begin with the items of a match, so that the program takes it."""
+    orders, lists = Orders(), {}
+    for item, image in zip(rule.head.items, match.images):
+        lists.setdefault((match.membranes[item.level], 'atoms' if item.functor else 'inner'), []).append(image)
+    for (region, kind), images in lists.items():
+        mine = set(images)
+        orders.put(region, kind, in_line(region, images + [it for it in getattr(region, kind) if it not in mine]))
+    return orders
+
+
 def orders_of_only(rule: Rule, match: Match) -> Orders:
     """Orders for a rule's only match, whose items stand behind all others, each behind those of later items of the head.
 
@@ -252,12 +261,47 @@ def order_of(region: Region, atoms: list[Atom]) -> Orders:
 
 
 def in_line(region: Region, items: list[Any]) -> list[Any]:
-    """A list with the atoms that can be exchanged in the order that they had."""
-    free = [it for it in items if it.is_free]
-    if len(free) > 1 and len({it.functor for it in free}) < len(free):
-        left = {functor: iter(region.with_functor(functor)) for functor in {it.functor for it in free}}
-        return [next(left[it.functor]) if it.is_free else it for it in items]
-    return items
+    """A list with the items that can be exchanged in the order that they had."""
+    if sum([it.is_free for it in items]) < 2:
+        return items
+    left = {}
+    groups = [region.alike(it) for it in items]
+    return [next(left.setdefault(group[0], iter(group))) for group in groups]
+
+
+def fenced(orders: Orders, region: Region, gone: set[Any], fence: Label) -> Orders:
+    """Orders in which fences stand between the atoms of a membrane that go and those that stay.
+
+    A firing leaves nothing between two fences where it takes all that stands there. So what is printed tells which atoms went, where
+    some of their functor stay.
+    """
+    counts: dict[Functor, int] = {}
+    for it in gone:
+        if type(it) is Atom and it.links and it.home is region:
+            counts[it.functor] = counts.get(it.functor, 0) + 1
+    behind = {functor for functor, count in counts.items() if len(region.with_functor(functor)) > count}
+    if not behind:
+        return orders
+    items, last = [], None
+    for atom in orders.items(region, 'atoms'):
+        goes = atom in gone and atom.functor in behind
+        if goes is not last and last is not None:
+            items.append(fence)
+        items.append(atom)
+        last = goes
+    fenced = Orders()
+    fenced.atoms, fenced.inner = {**orders.atoms, region: items}, orders.inner
+    return fenced
+
+
+def check_permuted(rule: Rule, region: Region, found: list[Match]) -> None:
+    """Checks that with a match each other one is found that takes the same items; what is printed may not tell the two apart."""
+    by_items: dict[frozenset[Any], set[tuple[Any, ...]]] = {}
+    for match in found:
+        by_items.setdefault(frozenset(match.taken()), set()).add(tuple(match.images))
+    for items, images in by_items.items():
+        if {tuple(match.images) for match in matches_within(rule, region, items) if match.taken() == items} != images:
+            raise Unshowable(f'a match of {rule.text} was passed over in {line_of(region)}', 70)
 
 
 class Question:
@@ -271,6 +315,15 @@ class Question:
     def __init__(self, root: Region, family: Rules, armed: dict[Region, list[Rule]], orders: Orders = AS_THEY_STAND, firing: Firing | None = None, is_step: bool = False) -> None:
         self.root, self.family, self.armed, self.orders, self.firing, self.is_step = root, family, armed, orders, firing, is_step
         self.special = {each for region in (*armed, *orders.atoms, *orders.inner) for each in (region, *region.above())} if root.inner else None
+
+    def letters(self) -> int:
+        """About how long the copy is as it stands in the text."""
+        return self.root.layout.letters() + sum([len(rule.armed) for armed in self.armed.values() for rule in armed])
+
+    def put_fences(self) -> None:
+        """Puts fences into the copy. It is done once, before the copy is written down."""
+        if self.firing is not None:
+            self.orders = fenced(self.orders, self.firing.match.membranes[0], self.firing.gone, self.family.fence)
 
     def asked(self) -> str:
         """The copy as it stands in the text, with the mark of the family before each number of a link."""
@@ -364,6 +417,8 @@ class Questions:
         without = [rule for rule, each in (*found.items(), *others.items()) if not each]
         for rule, each in found.items():
             firings = {}
+            if rule.may_permute:
+                check_permuted(rule, region, each)
             for orders, match in orders_of(rule, each) if each else ():
                 is_step = match not in firings
                 if is_step:

@@ -52,9 +52,7 @@ class Firing:
 
     def __init__(self, root: Region, rule: Rule, match: Match) -> None:
         self.root, self.rule, self.match, self.known = root, rule, match, rule.family.labels
-        self.gone = set(match.images)
-        for part in match.parts.values():
-            self.gone.update(part)
+        self.gone = match.taken()
         atoms = match.atoms
         self.links = {link: atoms[atom].links[port] for link, atom, port in rule.entries}
         for made, gone in rule.reused:

@@ -72,10 +72,10 @@ class Layout:
 
     `number` is the same for two layouts exactly where they differ in the order of their lists alone.
     """
-    __slots__ = ('labels', 'inner', 'rules', '_number', '_forms', '_texts')
+    __slots__ = ('labels', 'inner', 'rules', '_number', '_forms', '_texts', '_shape', '_letters')
 
     def __init__(self, labels: list[Label], inner: list[Layout], rules: list[Rule]) -> None:
-        self.labels, self.inner, self.rules, self._number, self._forms, self._texts = labels, inner, rules, None, {}, {}
+        self.labels, self.inner, self.rules, self._number, self._forms, self._texts, self._shape, self._letters = labels, inner, rules, None, {}, {}, None, None
 
     def number(self, known: Labels) -> int:
         if self._number is None:
@@ -92,6 +92,20 @@ class Layout:
                 links += each
             self._forms[with_rules] = '{' + ', '.join([*[it.form for it in self.labels], *[form for form, _ in inner], *rules]) + '}', links
         return self._forms[with_rules]
+
+    def letters(self) -> int:
+        """About how long its text is, without rules."""
+        if self._letters is None:
+            self._letters = sum([len(it.text) + 2 for it in self.labels]) + sum([it.letters() + 4 for it in self.inner])
+        return self._letters
+
+    def shape(self) -> Hashable:
+        """The text with each link by the place where it stands first: the same for two layouts that differ in the numbers of links alone."""
+        if self._shape is None:
+            form, links = self.form(True)
+            first = {link: place for place, link in reversed(list(enumerate(links)))}
+            self._shape = form, tuple([first[link] for link in links])
+        return self._shape
 
     def text(self, with_rules: bool) -> str:
         """The text as an item, a mark before the number of each link, with rules that wait for what isn't there, or without rules."""

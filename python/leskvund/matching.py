@@ -1,6 +1,8 @@
 """Finds the matches of a rule in a membrane, each one or the first, by the rules of the language."""
 from __future__ import annotations
 
+from collections.abc import Container, Sequence
+from random import Random
 from typing import TYPE_CHECKING, Any
 
 from leskvund.patterns import is_integer, value_of
@@ -20,12 +22,16 @@ class Match:
     def __init__(self, images: list[Any], atoms: list[Atom], membranes: list[Region], parts: Parts, values: dict[str, int]) -> None:
         self.images, self.atoms, self.membranes, self.parts, self.values = images, atoms, membranes, parts, values
 
+    def taken(self) -> set[Any]:
+        """The items that a firing takes: the images, and the atoms of typed contexts."""
+        return set(self.images).union(*self.parts.values())
+
 
 class Search:
     """A search for the matches of a rule in a membrane, in the order in which the program would find them.
 
-    Of atoms without links that have one name and stand in one membrane only the first that is left is tried: each other
-    match is one that is found with two such atoms exchanged.
+    Of items that can be exchanged (Region.alike) only the first that is left is tried: each other match is one that is found with
+    two of them exchanged.
     """
 
     def __init__(self, rule: Rule, home: Region, only_first: bool = False) -> None:
@@ -56,8 +62,8 @@ class Search:
         return False
 
     def fill_membrane(self, number: int, region: Region) -> bool:
-        for inner in region.inner:
-            if inner not in self.used:
+        for inner in self.membranes_in(region):
+            if inner not in self.used and self.is_first_left(inner, region):
                 self.images.append(inner)
                 self.membranes.append(inner)
                 self.used.add(inner)
@@ -68,6 +74,15 @@ class Search:
                 if over:
                     return True
         return False
+
+    def membranes_in(self, region: Region) -> list[Region]:
+        """The membranes that an item may be, and others."""
+        return region.inner
+
+    def is_first_left(self, inner: Region, region: Region) -> bool:
+        """Whether a membrane is the first that is left of those that can be exchanged with it."""
+        group = region.alike(inner)
+        return len(group) == 1 or next(it for it in group if it not in self.used) is inner
 
     def candidates(self, item: HeadItem, region: Region) -> list[Atom]:
         """The atoms that an item may be."""
@@ -180,6 +195,48 @@ def can_match(rule: Rule, home: Region) -> bool:
 def matches(rule: Rule, home: Region) -> list[Match]:
     """The matches of a rule in a membrane."""
     return Search(rule, home).found if can_match(rule, home) else []
+
+
+class Within(Search):
+    """A search among some items alone."""
+
+    def __init__(self, rule: Rule, home: Region, items: Container[Any]) -> None:
+        self.items = items
+        super().__init__(rule, home)
+
+    def candidates(self, item: HeadItem, region: Region) -> list[Atom]:
+        return [atom for atom in super().candidates(item, region) if atom in self.items]
+
+    def is_first_left(self, inner: Region, region: Region) -> bool:
+        return inner in self.items and super().is_first_left(inner, region)
+
+
+class Drawn(Search):
+    """A search for one match, the items asked in an order that is drawn."""
+
+    def __init__(self, rule: Rule, home: Region, chance: Random) -> None:
+        self.chance = chance
+        super().__init__(rule, home, True)
+
+    def candidates(self, item: HeadItem, region: Region) -> list[Atom]:
+        return self.mixed(super().candidates(item, region))
+
+    def membranes_in(self, region: Region) -> list[Region]:
+        return self.mixed(region.inner)
+
+    def mixed(self, items: Sequence[Any]) -> Any:
+        return self.chance.sample(items, len(items)) if len(items) > 1 else items
+
+
+def drawn_match(rule: Rule, home: Region, chance: Random) -> Match | None:
+    """A match that the program takes where the lists stand in an order that is drawn, or None."""
+    found = Drawn(rule, home, chance).found if can_match(rule, home) else []
+    return found[0] if found else None
+
+
+def matches_within(rule: Rule, home: Region, items: Container[Any]) -> list[Match]:
+    """The matches of a rule in a membrane by some items alone."""
+    return Within(rule, home, items).found
 
 
 def first_match(rule: Rule, home: Region) -> Match | None:

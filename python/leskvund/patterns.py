@@ -22,6 +22,8 @@ INTEGER = re.compile(r'-?\d+')
 KINDS = ('ground', 'unary', 'int')
 COMPARISONS = {'<': int.__lt__, '=<': int.__le__, '>': int.__gt__, '>=': int.__ge__, '=:=': int.__eq__, '=\\=': int.__ne__}
 LOW, HIGH = -2 ** 63, 2 ** 63 - 1
+# Of so many atoms of one functor in a head it is asked whether they can change places; of more it is supposed.
+MOST_PERMUTED = 4
 
 
 def is_integer(functor: Functor) -> bool:
@@ -285,6 +287,36 @@ class Head:
         ]
         self.holders = [(name, level, *self.ports[link][0]) for name, level, link in self.typed]
 
+    def may_permute(self) -> bool:
+        """Whether two matches might take the same items, each of them in another place of the head.
+
+        So it may be where a typed context can hold what is an image in another match, where two membranes stand side by side, and
+        where atoms of one functor can change places without that a link of the head leads elsewhere.
+        """
+        sides = [item.level for item in self.items if item.functor is None]
+        if self.typed or len(set(sides)) < len(sides):
+            return True
+        ends = {one: other for pair in self.ports.values() if len(pair) == 2 for one, other in (pair, pair[::-1])}
+        equal: dict[tuple[int, Functor], list[int]] = {}
+        for number, item in enumerate(item for item in self.items if item.functor):
+            if item.functor[1]:
+                equal.setdefault((item.level, item.functor), []).append(number)
+        groups = [group for group in equal.values() if len(group) > 1]
+        if any(len(group) > MOST_PERMUTED for group in groups):
+            return True
+        orders = itertools.product(*map(itertools.permutations, groups))
+        next(orders)
+        return any(leads_alike(ends, dict(zip(itertools.chain(*groups), itertools.chain(*order)))) for order in orders)
+
+
+def leads_alike(ends: dict[tuple[int, int], tuple[int, int]], images: dict[int, int]) -> bool:
+    """Whether atoms of a head can change places so that the links which join two of its ports could join them still."""
+    for (one, port), (other, there) in ends.items():
+        first, second = (images.get(one, one), port), (images.get(other, other), there)
+        if ends.get(first, second) != second or ends.get(second, first) != first:
+            return False
+    return True
+
 
 class Rule:
     """A printed rule, with a number of its own.
@@ -310,7 +342,7 @@ class Rule:
         self.closed = {name for level in self.head.levels for name, is_closed in level.rests if is_closed}
         self.needed = {item.functor for item in self.head.items if item.functor and not item.level}
         self.entries = [(link, *ends[0]) for link, ends in self.head.ports.items()]
-        self.reused = self.links_taken_over()
+        self.reused, self.may_permute = self.links_taken_over(), self.head.may_permute()
         self.holders = {name: (atom, port) for name, _, atom, port in self.head.holders}
         self.connectors = [leaf[1:] for level in self.body.below() for leaf in level.leaves if leaf[0] == '=']
 
@@ -360,16 +392,20 @@ def with_first(text: str, atom: str) -> str:
 class Rules:
     """Rules by their texts, the labels of their processes, and atoms whose names stand in none of them.
 
-    Rules wait for `go` or `stop`; with `sign` the names of atoms begin that tell which rule fired.
+    Rules wait for `go` or `stop`; with `sign` the names of atoms begin that tell which rule fired; a `fence` stands between atoms of a
+    copy, so that what is printed tells which of them went.
     """
 
     def __init__(self, text: str = '') -> None:
-        self.go, self.stop, self.sign, self.rules = "'.go.'", "'.stop.'", "'.by", {}
+        self.go, self.stop, self.sign, self.rules, fence = "'.go.'", "'.stop.'", "'.by", {}, "'.:'"
         self.labels = Labels(next(letter for letter in map(chr, itertools.count(1)) if letter not in text))
         while self.go in text or self.stop in text:
             self.go, self.stop = self.go[:-1] + ".'", self.stop[:-1] + ".'"
         while self.sign in text:
             self.sign += '.'
+        while fence in text:
+            fence = fence[:-1] + ":'"
+        self.fence = self.labels.label((fence, 0), ())
 
     def rule(self, text: str) -> Rule:
         """The rule with a text."""

@@ -1,8 +1,8 @@
 """A process that is joined: its atoms know where they stand, and what is at the other ends of their links. It isn't changed."""
 from __future__ import annotations
 
-from collections.abc import Callable, Iterator
-from typing import TYPE_CHECKING
+from collections.abc import Callable, Iterator, Sequence
+from typing import TYPE_CHECKING, Any
 
 from leskvund.labels import Layout
 from leskvund.lines import read_process
@@ -25,11 +25,15 @@ class Atom:
 
 class Region:
     """A membrane that is joined: where it lies, what is in its three lists, and whether links go through its wall."""
-    __slots__ = ('layout', 'parent', 'atoms', 'inner', 'rules', 'index', 'is_open')
-    is_free = False
+    __slots__ = ('layout', 'parent', 'atoms', 'inner', 'rules', 'index', 'groups', 'is_open')
 
     def __init__(self, layout: Layout, parent: Region | None) -> None:
-        self.layout, self.parent, self.atoms, self.inner, self.rules, self.index, self.is_open = layout, parent, [], [], layout.rules, None, False
+        self.layout, self.parent, self.atoms, self.inner, self.rules, self.index, self.groups, self.is_open = layout, parent, [], [], layout.rules, None, None, False
+
+    @property
+    def is_free(self) -> bool:
+        """Whether it can be exchanged with another membrane."""
+        return self.parent is not None and len(self.parent.alike(self)) > 1
 
     def below(self) -> Iterator[Region]:
         """The membrane and all in it, an outer one before an inner one, in their order."""
@@ -46,6 +50,22 @@ class Region:
             for atom in self.atoms:
                 self.index.setdefault(atom.functor, []).append(atom)
         return self.index.get(functor, ())
+
+    def alike(self, item: Any) -> Sequence[Any]:
+        """The items of this membrane that can be exchanged with one of them, itself among them, in their order.
+
+        They are the atoms of one name without links, and the membranes with one text through whose walls no link goes.
+        """
+        if type(item) is Atom:
+            return self.with_functor(item.functor) if item.is_free else (item,)
+        if item.is_open or len(self.inner) == 1:
+            return (item,)
+        if self.groups is None:
+            self.groups = {}
+            for inner in self.inner:
+                if not inner.is_open:
+                    self.groups.setdefault(inner.layout.shape(), []).append(inner)
+        return self.groups[item.layout.shape()]
 
     def depth(self) -> int:
         """How many membranes stand round this one."""

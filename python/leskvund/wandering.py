@@ -1,116 +1,118 @@
 """Runs of a text in which the order of rules, items and membranes is drawn anew at each firing.
 
-The first firings of a run are foretold, and made by the program in a copy, as the search for all runs has them made. From some
-firing on, and where a process is large, the program goes on by itself: from the printed process in a drawn order for some
-firings, then from what it printed in another order, each time for more of them.
+Each firing is foretold, and made by the program in a copy of the whole process, as the search for all runs has them made; so are the
+rules asked before it, which have no match, and at an end all rules.
 """
 from __future__ import annotations
 
-import os
-import random
-from collections.abc import Iterator
-from typing import TYPE_CHECKING, Any
+from collections.abc import Callable, Iterator
+from random import Random
+from typing import TYPE_CHECKING
 
-from leskvund.asking import Question
-from leskvund.firing import AS_THEY_STAND, Firing
+from leskvund.asking import Question, orders_with
+from leskvund.firing import Firing
 from leskvund.following_rules import chosen
-from leskvund.labels import Layout
-from leskvund.program import printed_by
-from leskvund.regions import joined, line_of, region_of_line
+from leskvund.matching import drawn_match
+from leskvund.regions import joined
+from leskvund.searching import seldom_collecting
 
 if TYPE_CHECKING:
     from leskvund.certifying import Certifier
-    from leskvund.patterns import Rules
+    from leskvund.labels import Layout
+    from leskvund.matching import Match
+    from leskvund.patterns import Rule, Rules
     from leskvund.regions import Region
 
-MOST_FORETOLD = 200
-MOST_ITEMS = 300
+# So many firings of a run are kept.
+MOST_KEPT = 40
 
 
 class Wandered:
-    """A run: its end word, its last process, how many firings, and those that were foretold: the rule, and the next process."""
+    """A run: its end word, its last process, how many firings, and the first of them: each the rule, and the next process."""
 
     def __init__(self, layout: Layout) -> None:
-        self.layout, self.firings, self.way, self.word = layout, 0, [], None
-
-
-def mixed(layout: Layout, chance: random.Random) -> Layout:
-    """A process in a drawn order."""
-    labels, inner, rules = list(layout.labels), [mixed(each, chance) for each in layout.inner], list(layout.rules)
-    for each in (labels, inner, rules):
-        chance.shuffle(each)
-    return Layout(labels, inner, rules)
+        self.layout, self.firings = layout, 0
+        self.way: list[tuple[Rule, Layout]] = []
+        self.word: str | None = None
 
 
 def size_of(layout: Layout) -> int:
     """How many items a process has as the program counts them: atoms, membranes and rules."""
-    return len(layout.labels) + len(layout.rules) + sum(1 + size_of(inner) for inner in layout.inner)
+    return len(layout.labels) + len(layout.rules) + sum([1 + size_of(inner) for inner in layout.inner])
+
+
+def drawn(root: Region, chance: Random) -> tuple[list[Rule], Region, Match] | None:
+    """The rule that fires in an order that is drawn, behind those of its membrane that were asked before; the membrane; the match."""
+    regions = [region for region in root.below() if region.rules]
+    for region in chance.sample(regions, len(regions)):
+        rules = list(dict.fromkeys(region.rules))
+        chance.shuffle(rules)
+        for number, rule in enumerate(rules, 1):
+            match = drawn_match(rule, region, chance)
+            if match:
+                return rules[:number], region, match
+    return None
+
+
+def first(root: Region) -> tuple[list[Rule], Region, Match] | None:
+    """The rule that `run` takes, behind those of its membrane that it asks before; the membrane; the match."""
+    found = chosen(root, 0, lambda *_: 0)
+    if found is None:
+        return None
+    rule, region, match = found
+    rules = list(dict.fromkeys(region.rules))
+    return rules[:rules.index(rule) + 1], region, match
 
 
 class Wanderer:
     """Makes runs of one text. `firings` and `items` are the most that a run may come to."""
 
-    def __init__(self, layout: Layout, family: Rules, certifier: Certifier, folder: str, firings: int, items: int) -> None:
+    def __init__(self, layout: Layout, family: Rules, certifier: Certifier, firings: int, items: int) -> None:
         self.layout, self.family, self.certifier, self.firings, self.items = layout, family, certifier, firings, items
-        self.file = os.path.join(folder, 'process.lmn')
 
-    def run(self, chance: random.Random | None) -> Wandered:
-        """A run whose orders are drawn; without a chance they are those of `run`."""
+    @seldom_collecting()
+    def run(self, chance: Random | None, watch: Callable[[Wandered], bool]) -> Wandered:
+        """A run whose orders are drawn; without a chance they are those of `run`. It ends early where the watch says so."""
         run = Wandered(self.layout)
-        while run.word is None and run.firings < MOST_FORETOLD and size_of(run.layout) <= MOST_ITEMS:
-            self.step(run, chance)
-        firings = 1
         while run.word is None:
-            self.go_on(run, chance, firings)
-            firings *= 2
+            self.step(run, chance)
+            if watch(run):
+                run.word = run.word or 'stopped'
         return run
 
-    def step(self, run: Wandered, chance: random.Random | None) -> None:
+    def step(self, run: Wandered, chance: Random | None) -> None:
         """A firing that is foretold, and that the program is asked for."""
-        root = joined(mixed(run.layout, chance) if chance else run.layout)
-        found = chosen(root, run.firings, (lambda _, count: chance.randrange(count)) if chance else lambda *_: 0)
-        if found is None or run.firings == self.firings:
-            run.word = 'budget' if found else 'irreducible'
-            self.ask_for_none(root, found)
+        root = joined(run.layout)
+        found = drawn(root, chance) if chance else first(root)
+        if found is None:
+            run.word = 'irreducible'
+            self.ask_for_none(root)
             return
-        rule, region, match = found
-        firing = Firing(root, rule, match)
-        before = region.rules[:region.rules.index(rule)]
-        self.certifier.ask(Question(root, self.family, {region: [*dict.fromkeys(before), rule]}, AS_THEY_STAND, firing))
+        if run.firings == self.firings:
+            run.word = 'budget'
+            return
+        rules, region, match = found
+        firing = Firing(root, rules[-1], match)
+        self.certifier.ask(Question(root, self.family, {region: rules}, orders_with(rules[-1], match), firing))
         layout = firing.layout()
         if size_of(layout) > self.items:
             run.word = 'full'
             return
         run.layout, run.firings = layout, run.firings + 1
-        run.way.append((rule, layout))
+        if len(run.way) < MOST_KEPT:
+            run.way.append((rules[-1], layout))
 
-    def ask_for_none(self, root: Region, found: Any) -> None:
+    def ask_for_none(self, root: Region) -> None:
         """At an end no rule can fire."""
-        if found is None:
-            by_depth = {}
-            for region in root.below():
-                if region.rules:
-                    by_depth.setdefault(region.depth(), {})[region] = list(dict.fromkeys(region.rules))
-            for armed in by_depth.values():
-                self.certifier.ask(Question(root, self.family, armed))
-
-    def go_on(self, run: Wandered, chance: random.Random | None, firings: int) -> None:
-        """The program goes on for some firings."""
-        layout = mixed(run.layout, chance) if chance else run.layout
-        with open(self.file, 'w', encoding='utf-8') as file:
-            file.write(line_of(joined(layout)) + '\n')
-        budget = min(firings, self.firings - run.firings)
-        options = ['--budget', str(budget), '--size', str(self.items)]
-        if chance:
-            options += ['--order', 'seed', '--seed', str(chance.getrandbits(32))]
-        line, end = printed_by([self.file, *options])
-        word, made = end[2:].rstrip('\n').split(' after ')
-        run.layout, run.firings = region_of_line(line, self.family).layout, run.firings + int(made)
-        if word != 'budget' or run.firings == self.firings:
-            run.word = word
+        by_depth: dict[int, dict[Region, list[Rule]]] = {}
+        for region in root.below():
+            if region.rules:
+                by_depth.setdefault(region.depth(), {})[region] = list(dict.fromkeys(region.rules))
+        for armed in by_depth.values():
+            self.certifier.ask(Question(root, self.family, armed))
 
 
-def wander(wanderer: Wanderer, runs: int, seed: int) -> Iterator[Wandered]:
+def wander(wanderer: Wanderer, runs: int, seed: int, watch: Callable[[Wandered], bool]) -> Iterator[Wandered]:
     """So many runs, the first as `run` makes it."""
     for number in range(runs):
-        yield wanderer.run(random.Random(f'{seed} {number}') if number else None)
+        yield wanderer.run(Random(f'{seed} {number}') if number else None, watch)

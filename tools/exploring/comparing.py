@@ -61,10 +61,16 @@ class Compared:
 
 
 class Passing:
-    """Finds matches as the package does, but passes over one of them: a drawn one of a drawn answer that has some."""
+    """Finds matches as the package does, but passes over some, by its kind.
 
-    def __init__(self, at, chance):
-        self.at, self.chance, self.answers, self.is_done = at, chance, 0, False
+    `one` passes over a drawn match of a drawn answer, `first` over the first match of each answer, `others` over all but the first,
+    `rule` over all of the rule that is asked first.
+    """
+
+    KINDS = ('one', 'first', 'others', 'rule')
+
+    def __init__(self, kind, at=0, chance=None):
+        self.kind, self.at, self.chance, self.answers, self.several, self.rule = kind, at, chance, 0, 0, None
         self.matches = asking.matches
 
     def __call__(self, rule, region):
@@ -72,11 +78,22 @@ class Passing:
         if not found:
             return found
         self.answers += 1
-        if self.answers - 1 != self.at:
-            return found
-        self.is_done = True
-        left_out = self.chance.randrange(len(found))
-        return found[:left_out] + found[left_out + 1:]
+        self.several += len(found) > 1
+        return self.left(rule, found)
+
+    def left(self, rule, found):
+        """What is left of an answer."""
+        if self.kind == 'first':
+            return found[1:]
+        if self.kind == 'others':
+            return found[:1]
+        if self.kind == 'rule':
+            self.rule = self.rule or rule
+            return [] if rule is self.rule else found
+        if self.kind == 'one' and self.answers - 1 == self.at:
+            left_out = self.chance.randrange(len(found))
+            return found[:left_out] + found[left_out + 1:]
+        return found
 
 
 def explore_passing(file, passing):
@@ -84,17 +101,30 @@ def explore_passing(file, passing):
         return explored([file])
 
 
+def is_seen(file, passing):
+    """Whether the answers show that a match was passed over."""
+    try:
+        explore_passing(file, passing)
+    except Unshowable:
+        return True
+    return False
+
+
 def passed_over(file, times, seed):
-    """In how many of so many explorations that pass over a match the program's answer didn't show it."""
+    """In how many of so many explorations that pass over a match the answers didn't show it; and of the kinds that pass over several."""
     chance = random.Random(seed)
-    counting = Passing(-1, chance)
+    counting = Passing(None)
     explore_passing(file, counting)
-    unseen = 0
-    for _ in range(times):
-        passing = Passing(chance.randrange(counting.answers), chance)
-        try:
-            explore_passing(file, passing)
-            unseen += 1
-        except Unshowable:
-            pass
+    plants = [Passing('one', chance.randrange(counting.answers), chance) for _ in range(times)]
+    plants += [Passing(kind) for kind in Passing.KINDS[1:] if kind != 'others' or counting.several]
+    return sum(not is_seen(file, passing) for passing in plants)
+
+
+def planted(folder, number, seed):
+    """Of so many random programs those in which a match that is passed over isn't seen."""
+    programs, unseen = Compared(folder, seed), []
+    for at in range(number):
+        text, _ = programs.draw()
+        if passed_over(programs.file, 1, f'{seed} {at}'):
+            unseen.append(text)
     return unseen
