@@ -14,7 +14,7 @@ function processAfter(firings) {
 }
 
 function changed(before, firing) {
-  const old = before || { membranes: new Map(), atoms: new Map(), ends: new Map(), rules: new Map() };
+  const old = before || { membranes: new Map(), atoms: new Map(), ends: new Map(), rules: new Map(), counts: null };
   const process = { membranes: new Map(old.membranes), atoms: new Map(old.atoms), ends: new Map(old.ends), rules: new Map(old.rules) };
   for (const atom of firing.gone || []) { process.atoms.delete(atom); process.ends.delete(atom); }
   for (const membrane of firing.membranesGone || []) { process.membranes.delete(membrane); process.rules.delete(membrane); }
@@ -29,6 +29,7 @@ function changed(before, firing) {
     setEnd(old, process, other, there, [one, port]);
   }
   for (const [membrane, rules] of firing.rules || []) process.rules.set(membrane, rules);
+  process.counts = firing.counts || old.counts;
   return process;
 }
 
@@ -309,6 +310,23 @@ function edgeOf(spot, ux, uy) {
   return { x: spot.x + ux * reach, y: spot.y + uy * reach };
 }
 
+// How far a link bends aside, so that it doesn't run behind an atom which it doesn't join.
+function bendOf(spots, process, one, other, from, to) {
+  if (process.atoms.size > MOST_PARTED) return 0;
+  const x = to.x - from.x, y = to.y - from.y, length = Math.hypot(x, y);
+  if (length < 1) return 0;
+  let bend = 0;
+  for (const atom of process.atoms.keys()) {
+    if (atom === one || atom === other) continue;
+    const spot = spots.get(atomKey(atom)), along = ((spot.x - from.x) * x + (spot.y - from.y) * y) / length;
+    const aside = ((spot.y - from.y) * x - (spot.x - from.x) * y) / length, reach = spot.h / 2 + (spot.w - spot.h) / 2 * Math.abs(y) / length;
+    if (along < -spot.w / 2 || along > length + spot.w / 2 || Math.abs(aside) > reach) continue;
+    const wanted = 2 * (aside > 0 ? aside - reach - GAP : aside + reach + GAP);
+    if (Math.abs(wanted) > Math.abs(bend)) bend = wanted;
+  }
+  return bend;
+}
+
 function drawLink(picture, spots, process, [one, port, other, there]) {
   const a = spots.get(atomKey(one)), b = spots.get(atomKey(other));
   const distance = Math.hypot(b.x - a.x, b.y - a.y) || 1, ux = (b.x - a.x) / distance, uy = (b.y - a.y) / distance;
@@ -316,8 +334,9 @@ function drawLink(picture, spots, process, [one, port, other, there]) {
     picture.append(svg('ellipse', { cx: a.x, cy: a.y - 14, rx: 9, ry: 9, fill: 'none', stroke: '#888' }));
     return;
   }
-  const from = edgeOf(a, ux, uy), to = edgeOf(b, -ux, -uy);
-  picture.append(svg('line', { x1: from.x, y1: from.y, x2: to.x, y2: to.y }));
+  const from = edgeOf(a, ux, uy), to = edgeOf(b, -ux, -uy), bend = bendOf(spots, process, one, other, from, to);
+  const x = (from.x + to.x) / 2 - uy * bend, y = (from.y + to.y) / 2 + ux * bend;
+  picture.append(svg('path', { d: `M${from.x} ${from.y}Q${x} ${y} ${to.x} ${to.y}`, class: 'link' }));
   const mark = (at, x, y, number) => picture.append(svg('text', { x: at.x + x * 6 - y * 5, y: at.y + y * 6 + x * 5, class: 'port' }, number + 1));
   if (process.atoms.get(one).ports > 1) mark(from, ux, uy, port);
   if (process.atoms.get(other).ports > 1) mark(to, -ux, -uy, there);
@@ -357,11 +376,17 @@ function show(firings) {
   byId('at').value = firings;
 }
 
-// How many atoms there are of each functor.
-function showCounts(process) {
+// How many atoms there are of each functor. Where terms stand in one piece these are told with the firing.
+function countsOf(process) {
+  const functor = (name, ports) => `${/^(-?\d+|[a-z]\w*)$|\(/.test(name) ? name : `'${name.replaceAll("'", "''")}'`}/${ports}`;
+  if (process.counts) return process.counts.map(([name, count]) => [functor(...trace.names[name]), count]);
   const counts = new Map();
-  for (const { name, ports } of process.atoms.values()) counts.set(`${name}/${ports}`, (counts.get(`${name}/${ports}`) || 0) + 1);
-  byId('counts').replaceChildren(...[...counts].sort(([, one], [, other]) => other - one).map(([functor, count]) => {
+  for (const { name, ports } of process.atoms.values()) counts.set(functor(name, ports), (counts.get(functor(name, ports)) || 0) + 1);
+  return [...counts].sort(([, one], [, other]) => other - one);
+}
+
+function showCounts(process) {
+  byId('counts').replaceChildren(...countsOf(process).map(([functor, count]) => {
     const line = document.createElement('div');
     line.textContent = `${count}  ${functor}`;
     return line;

@@ -1,6 +1,7 @@
 """A trace as one page that needs nothing from elsewhere: the first process whole, then what each firing changed."""
 import json
 import os
+from collections import Counter
 
 from leskvund.following import Follower
 from leskvund.following_rules import RuleFollower
@@ -13,7 +14,7 @@ class Trace:
     """The trace as the page has it. Atoms, membranes and rules are numbers; a name stands once, in `names`."""
 
     def __init__(self, rules_at_top, choose):
-        self.names, self.numbers, self.firings, self.end = [], {}, [], ''
+        self.names, self.numbers, self.firings, self.end, self.counts = [], {}, [], '', None
         self.rules, self.follower, self.before = Rules(rules_at_top), Follower(), None
         self.most_items, self.fired = 0, RuleFollower(choose)
 
@@ -35,6 +36,11 @@ class Trace:
             'links': self.links_changed(before, after),
             'rules': [[it, [self.rules.numbers[text] - 1 for text in texts]] for it, texts in after.rules.items() if not before or before.rules.get(it) != texts],
         }
+        if process.is_folded and not plain.is_folded:
+            counts = Counter(self.number_of(item) for membrane in plain.membranes for item in membrane.items)
+            if counts != self.counts:
+                change['counts'] = [list(pair) for pair in counts.most_common()]
+                self.counts = counts
         change['by'] = [self.rules.numbers[text] - 1 for text in fired if text in self.rules.numbers]
         self.firings.append({key: it for key, it in change.items() if it})
         self.before = after

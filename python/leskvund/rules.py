@@ -14,14 +14,14 @@ class Rules:
     """
 
     def __init__(self, rules_at_top: list[tuple[str | None, str]]) -> None:
-        self.texts, self.numbers, self.rules_at_top, self.named = [], {}, rules_at_top, None
+        self.texts, self.numbers, self.rules_at_top, self.written = [], {}, rules_at_top, None
 
     def meet(self, followed: Followed) -> list[int]:
         """The numbers of the rules of a process that weren't met before."""
-        if self.named is None:
+        if self.written is None:
             root = followed.rules[0]
             agree = len(self.rules_at_top) == len(root) == len(set(root))
-            self.named = {number: rule for number, rule in enumerate(self.rules_at_top, 1) if agree and rule[0]}
+            self.written = {number: rule for number, rule in enumerate(self.rules_at_top, 1) if agree and (rule[0] or not rule[1].startswith('('))}
         fresh = []
         for rules in followed.rules.values():
             for text in rules:
@@ -32,9 +32,10 @@ class Rules:
         return fresh
 
     def text(self, number: int) -> str:
-        """A rule: as the text has it where it has a name there, and else as it is printed."""
-        return self.named[number][1] if number in self.named else self.texts[number - 1].rstrip()
+        """A rule: as the text has it where it stands at the top there, and else as it is printed."""
+        return self.written[number][1] if number in self.written else self.texts[number - 1].rstrip()
 
     def label(self, number: int) -> str:
         """A rule's name, if it has one, and its number."""
-        return f'{self.named[number][0]} (rule {number})' if number in self.named else f'rule {number}'
+        name = self.written[number][0] if number in self.written else None
+        return f'{name} (rule {number})' if name else f'rule {number}'
