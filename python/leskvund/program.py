@@ -1,6 +1,7 @@
 """Runs the program, or reads what it printed, and ends a script with a message where nothing can be shown."""
 import functools
 import os
+import re
 import shutil
 import subprocess
 import sys
@@ -9,6 +10,9 @@ from leskvund.lines import Unreadable, read_trace
 
 TOP = os.path.dirname(os.path.dirname(os.path.dirname(os.path.realpath(__file__))))
 BUILT = os.path.join(TOP, 'crates', 'lmn', 'out', 'lmn')
+NUMBER = re.compile(r'\d{1,19}')
+VALUES = {'--budget': NUMBER, '--size': NUMBER, '--seed': NUMBER, '--order': re.compile('first|turn|seed')}
+WANTED = {'--budget': 'a number', '--size': 'a number', '--seed': 'a number', '--order': 'first, turn or seed'}
 used = None
 
 
@@ -62,8 +66,35 @@ def printed_by(arguments):
         yield from run.stdout
         said = run.stderr.read().strip()
     if run.returncode not in (0, 1, 7):
-        names = [word for word in arguments if os.path.exists(word)] or [word for word in arguments if not word.startswith('-')]
-        raise Unshowable(f'{names[0] if names else "no FILE"}: {said or "the program said nothing"}', run.returncode if run.returncode > 0 else 1)
+        raise Unshowable(why_not(arguments, run.returncode, said), run.returncode if run.returncode > 0 else 1)
+
+
+def why_not(arguments, status, said):
+    """Why a run came to nothing, in one line that begins with the file, or names the word that is wrong."""
+    files, fault = read_words(arguments)
+    if status == 3:
+        return fault or said.removeprefix('lmn: ')
+    return f'{files[0] if files else "no FILE"}: {said.removeprefix("lmn: ") or "the program said nothing"}'
+
+
+def read_words(arguments):
+    """The files among words of `run`, and what is wrong with the words; nothing where they are right."""
+    files, fault, words, met = [], '', list(arguments), set()
+    while words:
+        word = words.pop(0)
+        name, mark, value = word.partition('=')
+        if not word.startswith('-'):
+            files.append(word)
+        elif name in met:
+            fault = fault or f'{name} stands twice'
+        elif name in VALUES:
+            value = value if mark else words.pop(0) if words else ''
+            fault = fault or ('' if VALUES[name].fullmatch(value) else f'{name} wants {WANTED[name]}' + (f", and not '{value}'" if value and value[0] != '-' else ''))
+        elif word not in ('--trace', '--folded'):
+            fault = fault or f'{word}: no such option'
+        met.add(name)
+    fault = fault or ('FILE is wanting' if not files else f'{files[0]} and {files[1]}: one FILE is wanted' if files[1:] else '')
+    return files, fault
 
 
 def trace_of(arguments, *options):
