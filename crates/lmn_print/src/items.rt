@@ -1,4 +1,4 @@
-//! The items of a membrane in printed order: those with the own mark 1, and then those with the own mark 2.
+//! The items of a membrane in printed order: those with the own mark of a first item, and then those with that of a later one.
 ghost use Rattle.std.specs.Prelude.{◌≡◌, true, Some, IfSome, filter, ◌==◌};
 ghost use Rattle.std.specs.Option.{option_map};
 ghost use Rattle.lmn_print_folding.specs.Marks.{is_item};
@@ -7,13 +7,8 @@ ghost use Rattle.lmn_store_heap.specs.Lists.{after, from};
 ghost use Rattle.lmn_store_heap.specs.Sound.{Sound};
 ghost use Rattle.lmn_print_folding.specs.Chosen.{items_in, marked_in};
 
+use lmn_print_folding::{FIRST_ITEM, LATER_ITEM};
 use lmn_store_trait::LinkStore;
-
-/// The own mark of an item that is no child of another atom.
-const FIRST: u64 = 1;
-
-/// The own mark of an item behind all of these.
-const LATER: u64 = 2;
 
 /// The first item of a membrane.
 pub(crate) fn first_item<S: LinkStore>(store: &S, mem: S::Mem) -> Option<S::Atom>
@@ -22,9 +17,9 @@ pub(crate) fn first_item<S: LinkStore>(store: &S, mem: S::Mem) -> Option<S::Atom
     ensures home { IfSome result (λ a. home_of (S.heap store.now) (S.atom_id a) ≡ Some (S.mem_id mem)) }
     ensures item { IfSome result (λ a. is_item (S.heap store.now) (S.atom_id a) ≡ true) }
 {
-    match with_mark(store, mem, store.first_atom(mem), FIRST) {
+    match with_mark(store, mem, store.first_atom(mem), FIRST_ITEM) {
         Some(item) => Some(item),
-        None => with_mark(store, mem, store.first_atom(mem), LATER),
+        None => with_mark(store, mem, store.first_atom(mem), LATER_ITEM),
     }
 }
 
@@ -41,8 +36,8 @@ pub(crate) fn next_item<S: LinkStore>(store: &S, mem: S::Mem, item: S::Atom) -> 
     match with_mark(store, mem, store.next_atom(item), mark) {
         Some(next) => Some(next),
         None => {
-            if mark == FIRST {
-                with_mark(store, mem, store.first_atom(mem), LATER)
+            if mark == FIRST_ITEM {
+                with_mark(store, mem, store.first_atom(mem), LATER_ITEM)
             } else {
                 None
             }

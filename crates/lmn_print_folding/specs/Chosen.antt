@@ -5,6 +5,7 @@ use Rattle.lmn_congruence.specs.Rules.{Name}
 use Rattle.lmn_congruence.specs.Translation.{solid_atom_of}
 use Rattle.lmn_print_folded.specs.Folding.{AreItems, ShowsItems}
 use Rattle.lmn_print_folded.specs.Terms.{FoldedItem}
+use Rattle.lmn_print_folding.specs.Marks.{first_item_mark, later_item_mark}
 use Rattle.lmn_print_folding.specs.Printed.{PrintsItem}
 use Rattle.lmn_store_heap.specs.Heap.{Heap, IsMem, arity_of, atoms_in, mark_of, own_mark}
 use Rattle.lmn_store_heap.specs.Solid.{IsNaming, solid_atoms_at}
@@ -20,9 +21,9 @@ pub record ChangesOwnMarks (s t : Heap) : Type 0 where
 abbrev pub marked_in : Heap → ℕ → ℕ → List ℕ
 marked_in s mark m = filter (λ a. own_mark s a == mark) (atoms_in s m)
 
--- Items are printed in this order: those with the mark 1, and then those with the mark 2.
+-- Items are printed in this order: those with the mark of a first item, and then those with that of a later one.
 abbrev pub items_in : Heap → ℕ → List ℕ
-items_in s m = marked_in s 1 m ++ marked_in s 2 m
+items_in s m = marked_in s first_item_mark m ++ marked_in s later_item_mark m
 
 -- the atoms of a membrane, with numbers for their links
 abbrev pub atoms_with : List Name → Heap → (ℕ → ℕ → ℕ) → ℕ → List SolidAtom

@@ -1,10 +1,20 @@
--- How atoms are printed stands in their own marks: 1 and 2 for items, and another number for a term.
+-- How atoms are printed stands in their own marks.
 use Rattle.std.specs.Prelude.{ℕ, suc, ◌≡◌, ◌<◌, ◌+◌, ◌-◌, ◌==◌, ◌&&◌, ◌||◌, not, Bool, true, false, if◌then◌else◌, List, [], ◌∷◌, Option, Some, None}
 use Rattle.lmn_store_heap.specs.Heap.{Heap, arity_of, link_of, own_mark}
 
+-- the own mark of an item that is no child, of one that is a child, and of a term
+abbrev pub first_item_mark : ℕ
+first_item_mark = 1
+
+abbrev pub later_item_mark : ℕ
+later_item_mark = 2
+
+abbrev pub term_mark : ℕ
+term_mark = 3
+
 -- whether an atom is printed as an item
 abbrev pub is_item : Heap → ℕ → Bool
-is_item s a = (own_mark s a == 1) || (own_mark s a == 2)
+is_item s a = (own_mark s a == first_item_mark) || (own_mark s a == later_item_mark)
 
 -- whether a port is the last of an atom that is printed as a term
 abbrev pub is_end_of_term : Heap → ℕ × ℕ → Bool

@@ -8,7 +8,7 @@ ghost use Rattle.lmn_print_folding.specs.Marking.{AreFirsts, AreShown, MarksFirs
 
 use crate::items_family::{is_child, set_own_mark};
 use crate::items_walk::mark_below;
-use crate::own_mark;
+use crate::{FIRST_ITEM, LATER_ITEM, own_mark};
 use lmn_print_plain::{first_printed, next_printed};
 use lmn_store_trait::LinkStore;
 
@@ -54,7 +54,7 @@ fn mark_if_first<S: LinkStore>(store: &mut S, atom: S::Atom)
     if is_child(store, atom) {
         return;
     }
-    set_own_mark(store, atom, 1);
+    set_own_mark(store, atom, FIRST_ITEM);
 }
 
 /// Marks what stands below the items so far.
@@ -80,7 +80,7 @@ fn mark_below_first<S: LinkStore>(store: &mut S, atom: S::Atom)
     ensures valid { Valid (S.heap store.new) }
     ensures terms { MarksTermsIfFirst (S.heap store.old) (S.heap store.new) (S.atom_id atom) }
 {
-    if own_mark(store, atom) != 1 {
+    if own_mark(store, atom) != FIRST_ITEM {
         return;
     }
     mark_below(store, atom);
@@ -112,6 +112,6 @@ fn mark_if_later<S: LinkStore>(store: &mut S, atom: S::Atom)
     if own_mark(store, atom) != 0 {
         return;
     }
-    set_own_mark(store, atom, 2);
+    set_own_mark(store, atom, LATER_ITEM);
     mark_below(store, atom);
 }

@@ -7,6 +7,15 @@ ghost use Rattle.lmn_print_folding.specs.Marks.{argument_count, is_end_of_term, 
 
 use lmn_store_trait::LinkStore;
 
+/// The own mark of an atom that is printed as an item and is no child of another.
+pub const FIRST_ITEM: u64 = 1;
+
+/// The own mark of an atom that is printed as an item and is a child of another.
+pub const LATER_ITEM: u64 = 2;
+
+/// The own mark of an atom that is printed as a term.
+pub const TERM: u64 = 3;
+
 /// How many ports an atom has.
 pub fn arity<S: LinkStore>(store: &S, atom: S::Atom) -> u8
     requires { IsAtom (S.heap store.now) (S.atom_id atom) }
@@ -31,7 +40,7 @@ pub fn is_item<S: LinkStore>(store: &S, atom: S::Atom) -> bool
     ensures { result ≡ is_item (S.heap store.now) (S.atom_id atom) }
 {
     let mark = own_mark(store, atom);
-    mark == 1 || mark == 2
+    mark == FIRST_ITEM || mark == LATER_ITEM
 }
 
 /// How many arguments of an atom are printed: a term doesn't print its last.

@@ -4,7 +4,7 @@ ghost use Rattle.lmn_store_heap.specs.Heap.{IsAtom, arity_of, link_of, own_mark}
 ghost use Rattle.lmn_store_heap.specs.Sound.{Valid};
 ghost use Rattle.lmn_print_folding.specs.Marking.{AreBeside, IsChildNowhere, IsChildSomewhere, SetsOwnMark, TellsBefore};
 
-use crate::{arity, own_mark};
+use crate::{FIRST_ITEM, arity, own_mark};
 use lmn_store_trait::LinkStore;
 
 /// Changes the own mark of an atom.
@@ -43,7 +43,7 @@ fn has_child<S: LinkStore>(store: &S, parent: S::Atom, port: u8) -> bool
     ensures { IsTrue result ↔ ((port + 1 < arity_of (S.heap store.now) (S.atom_id parent)) ⊎ (own_mark (S.heap store.now) (S.atom_id parent) ≡ 1)) }
 {
     let ports = arity(store, parent);
-    port + 1 < ports || own_mark(store, parent) == 1
+    port + 1 < ports || own_mark(store, parent) == FIRST_ITEM
 }
 
 /// Whether an atom is a child, where the mark 1 tells which atoms stand before it.

@@ -6,7 +6,7 @@ ghost use Rattle.lmn_store_heap.specs.Sound.{Valid};
 ghost use Rattle.lmn_print_folding.specs.Marking.{MarksTerms};
 
 use crate::items_family::set_own_mark;
-use crate::{Stand, arguments, behind_term, is_item, term_at};
+use crate::{Stand, TERM, arguments, behind_term, is_item, term_at};
 use lmn_store_trait::LinkStore;
 
 /// Marks each term in an item, and in the terms in it.
@@ -27,7 +27,7 @@ pub(crate) fn mark_below<S: LinkStore>(store: &mut S, item: S::Atom)
         if at.port < arguments(store, at.atom) {
             match term_at(store, at.atom, at.port) {
                 Some(term) => {
-                    set_own_mark(store, term, 3);
+                    set_own_mark(store, term, TERM);
                     turns += 1;
                     at = Stand {
                         atom: term,

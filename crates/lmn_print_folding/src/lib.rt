@@ -15,7 +15,7 @@ mod walk;
 
 pub use choosing::choose_items;
 pub use examples::{link_is_printed, no_term_is_printed, term_is_printed};
-pub use family::{arguments, arity, is_item, own_mark, term_at};
+pub use family::{FIRST_ITEM, LATER_ITEM, TERM, arguments, arity, is_item, own_mark, term_at};
 pub use items_examples::{
     child_is_no_first_item, item_is_told, later_item_is_marked, one_membrane_is_not_enough,
     term_is_marked, term_is_no_later_item, term_is_not_before_its_item,
