@@ -242,6 +242,7 @@ OTHERS = [
     Shape('check: a path eaten, 5 firings', 500, lambda n: 'z(X0). ' + clauses('p(X%d,X%d)' % (i, i + 1) for i in range(n)) + 'w(X%d). ' % n + 'z(X),p(X,Y):-z(Y).', command='check', second=trace('--budget', '5')),
     Shape('check: names, 5 firings', 1000, lambda n: each('n{}', n) + COUNT.format(5), command='check', second=trace()),
     Shape('check: rests copied, 5 firings', 500, lambda n: '{a,%s}. a. {a,$p[]},a:-{$p[]},{$p[]}.' % items('n{}', n), command='check', second=trace()),
+    Shape('check: one equal atom too few', 8, lambda n: '%s. %s:-b.' % (','.join(['a'] * (n - 1)), ','.join(['a'] * n)), command='check', second=trace(), asked='each atom of a head is counted among the others', power=2),
     Shape('check: a wrong line', 50, lambda n: clauses(['{a. a:-b.}'] * n), command='check', second=end_of('wrong.\n')),
     Shape('check: an end behind what copies', 12, copies, command='check', second=end_of('% full after 0\n')),
     Shape('check: a wrong line behind what copies', 12, copies, command='check', second=end_of('wrong.\n')),

@@ -113,7 +113,7 @@ fn try_atoms(
     Ok(None)
 }
 
-/// Goes on with a membrane for the next image, where it is none yet and holds the functors of the items that stand in it.
+/// Goes on with a membrane for the next image, where it is none yet and has as many atoms with each functor as the items ask for in it.
 #[cycle(search)]
 fn try_membrane(
     alloc: Global,
