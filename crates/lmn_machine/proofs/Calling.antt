@@ -12,7 +12,7 @@ use Rattle.lmn_store_heap.specs.Heap.{Heap, atoms_in, mems_in, functor_of, home_
 use Rattle.lmn_machine_registers.specs.declared.registers.PartCopy.{PartCopy}
 use Rattle.lmn_machine_registers.specs.declared.registers.SetRegisters.{SetRegisters}
 use Rattle.lmn_machine_registers.specs.declared.stack.TheConstants.{ROOM}
-use Rattle.lmn_machine.proofs.Choosing.{with_atom, with_membrane}
+use Rattle.lmn_machine.specs.Jumping.{with_atom, with_membrane}
 
 -- what stands at a place, by another name
 pub read_at : {A : Type 0} (xs : List A) (i : ℕ) (x y : A) → slice_get xs i ≡ Some x → x ≡ y → slice_get xs i ≡ Some y

@@ -14,6 +14,7 @@ use Rattle.lmn_instr_code.specs.Running.{HeadRegisters, HeadSize, AllHold, atoms
 use Rattle.lmn_machine_registers.specs.declared.registers.SetRegisters.{SetRegisters}
 use Rattle.lmn_machine_registers.specs.Agreeing.{Agrees}
 use Rattle.lmn_machine.specs.Searching.{AreHeldWhole, Extends, SetsAll, Searched, SetsMore}
+use Rattle.lmn_machine.specs.Jumping.{with_atom, with_membrane}
 use Rattle.lmn_machine.proofs.Stepping.{extends_itself, agrees_before, extends_on}
 use Rattle.lmn_machine.proofs.Candidates.{index_after, index_behind, with_functor_in}
 use Rattle.lmn_base.proofs.Lists.{get_front, get_last, take_whole, get_either}
@@ -27,17 +28,10 @@ pub take_front : {A : Type 0} (xs ys : List A) → take (length xs) (xs ++ ys) �
 take_front [] ys = refl
 take_front (x ∷ xs) ys = ap (λ k. x ∷ k) (take_front xs ys)
 
-atom_there : (o : Option HeapAtom) (f : Functor) → option_map (λ x. x.functor) o ≡ Some f → IsSome o
+-- an atom with a functor is there
+pub atom_there : (o : Option HeapAtom) (f : Functor) → option_map (λ x. x.functor) o ≡ Some f → IsSome o
 atom_there None f e = absurd (cc)
 atom_there (Some x) f e = refl
-
--- one atom more is set
-abbrev pub with_atom : {A M : Type 0} → SetRegisters A M → A → SetRegisters A M
-with_atom g a = record g { atoms = g.atoms ++ a ∷ [] }
-
--- and one membrane
-abbrev pub with_membrane : {A M : Type 0} → SetRegisters A M → M → SetRegisters A M
-with_membrane g m = record g { membranes = g.membranes ++ m ∷ [] }
 
 -- where no part is set none is there
 pub no_part : {X : Type 0} (xs : List X) → length xs ≡ 0 → (k : ℕ) (x : X) → slice_get xs k ≡ Some x → ⊥
@@ -86,7 +80,7 @@ module _ {A M : Type 0} (atom : A → ℕ) (membrane : M → ℕ) (h : Heap) whe
   }
 
   -- what is set at last is the same behind a choice
-  atom_more : (g : SetRegisters A M) (a : A) (code is : List Instr) (f : Functor) (y : ℕ) (c : HeadSize) → code ≡ FindAtom (length g.atoms) y f ∷ is → SetsAll c g code → SetsAll c (with_atom g a) is
+  pub atom_more : (g : SetRegisters A M) (a : A) (code is : List Instr) (f : Functor) (y : ℕ) (c : HeadSize) → code ≡ FindAtom (length g.atoms) y f ∷ is → SetsAll c g code → SetsAll c (with_atom g a) is
   atom_more g a code is f y c e k =
       let t : atoms_set code ≡ 1 + atoms_set is = ap atoms_set e in
       let l = length_push g.atoms a in

@@ -19,7 +19,8 @@ use Rattle.lmn_machine_registers.specs.Agreeing.{Agrees}
 use Rattle.lmn_machine.specs.Searching.{AreHeldWhole, Searched}
 use Rattle.lmn_machine.specs.Asking.{HoldsAsked, AsksFor, IsGuest}
 use Rattle.lmn_machine.proofs.Stepping.{extends_itself}
-use Rattle.lmn_machine.proofs.Choosing.{AtomsLeft, MembranesLeft, with_membrane, agrees_membrane, membrane_more}
+use Rattle.lmn_machine.proofs.Choosing.{AtomsLeft, MembranesLeft, agrees_membrane, membrane_more}
+use Rattle.lmn_machine.specs.Jumping.{with_membrane}
 
 -- an instruction of code that holds as a whole holds
 pub hold_behind : (h : Heap) (c : HeadSize) (s : HeadRegisters) (code : List Instr) (k at : ℕ) (i : Instr) → k ≤ at → slice_get code at ≡ Some i → AllHold h c s (drop k code) → InstructionHolds h c s i

@@ -7,11 +7,8 @@ use Rattle.lmn_instr_code.specs.Running.{HeadRegisters, HeadSize, AllHold, Succe
 use Rattle.lmn_machine_registers.specs.declared.registers.SetRegisters.{SetRegisters}
 use Rattle.lmn_machine_registers.specs.Agreeing.{Agrees}
 use Rattle.lmn_machine.specs.Searching.{AreHeldWhole, SetsAll, Searched, AreAllSet, Looked}
+use Rattle.lmn_machine.specs.Jumping.{only_membrane}
 use Rattle.lmn_machine.proofs.Stepping.{agrees_before, extends_itself}
-
--- one membrane register
-abbrev pub only_membrane : {A M : Type 0} → M → SetRegisters A M
-only_membrane m = record { atoms = []; membranes = m ∷ []; parts = []; integers = []; copies = [] }
 
 module _ {A M : Type 0} (atom : A → ℕ) (membrane : M → ℕ) (h : Heap) where
   one_agrees : (m : M) (s : HeadRegisters) → s.images.membrane 0 ≡ membrane m → Agrees atom membrane (only_membrane m) s

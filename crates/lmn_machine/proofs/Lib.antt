@@ -5,6 +5,10 @@ pub mod Choosing
 pub mod Fitting
 pub mod Calling
 pub mod Sufficing
+pub mod Jumps
+pub mod Trying
+pub mod Standing
+pub mod Restings
 pub mod FromOne
 pub mod Climbing
 pub mod Giving

@@ -253,11 +253,11 @@ module _ {A M : Type 0} (atom : A → ℕ) (membrane : M → ℕ) (h : Heap) whe
   }
 
   -- what is set at last by all of the code is so by what is left of it
-  left_sets : (g0 g : SetRegisters A M) (code0 code : List Instr) → Passed g0 g code0 code → (c : HeadSize) → SetsAll c g0 code0 → SetsAll c g code
+  pub left_sets : (g0 g : SetRegisters A M) (code0 code : List Instr) → Passed g0 g code0 code → (c : HeadSize) → SetsAll c g0 code0 → SetsAll c g code
   left_sets g0 g code0 code p c n = record { atoms = n.atoms ∙ p.count; membranes = n.membranes ∙ p.count_membranes }
 
   -- the instruction ahead knows the numbers of atom and of membrane registers
-  ahead_set : (g0 g : SetRegisters A M) (code0 is : List Instr) (i : Instr) → Passed g0 g code0 (i ∷ is) → (c : HeadSize) → SetsAll c g0 code0 → AllSet c (length g.atoms) (length g.membranes) i
+  pub ahead_set : (g0 g : SetRegisters A M) (code0 is : List Instr) (i : Instr) → Passed g0 g code0 (i ∷ is) → (c : HeadSize) → SetsAll c g0 code0 → AllSet c (length g.atoms) (length g.membranes) i
   ahead_set g0 g code0 is i p c n = let s = left_sets g0 g code0 (i ∷ is) p c n in all_set c (length g.atoms) (length g.membranes) (length g.parts) (length g.integers) i is s.atoms s.membranes p.order
 
   pub passed_one : (g0 g k : SetRegisters A M) (code0 is : List Instr) (i : Instr) → ChoosesNone i → Passed g0 g code0 (i ∷ is) → Stepped atom membrane h g k true i → Passed g0 k code0 is

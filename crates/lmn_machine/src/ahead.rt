@@ -202,8 +202,8 @@ fn looks_in_vain<S: LinkStore>(
 /// Whether the code ahead looks for an atom in a membrane that is set and holds none with the functor: then it fails, whatever
 /// is chosen before.
 /// It is asked once for each choice, behind the first candidate that failed, so a search that succeeds at its first
-/// candidates pays nothing. Too few atoms of a functor that is there aren't seen: of the rule's membrane these are counted
-/// before the search (`may_hold_all`).
+/// candidates pays nothing. Too few atoms of a functor that is there aren't seen: they are
+/// counted where the search gives up.
 fn is_hopeless<S: LinkStore>(
     store: &S,
     code: &Instrs<'_>,
@@ -309,7 +309,7 @@ pub fn fitting_membrane<S: LinkStore>(
 }
 
 /// Whether code asks at a place whether an atom register stands in a membrane register.
-fn asks_home(code: &Instrs<'_>, at: usize, atom: u16, register: usize) -> bool
+pub fn asks_home(code: &Instrs<'_>, at: usize, atom: u16, register: usize) -> bool
     ensures { IsTrue result → slice_get code.now at ≡ Some (InMem atom register) }
 {
     if at >= code.len() {

@@ -11,9 +11,6 @@ use lmn_instr_code::Instr;
 use lmn_instr_pool::Instrs;
 use lmn_store_trait::LinkStore;
 
-/// So many instructions tell eight equal items apart.
-const MANY: usize = 28;
-
 /// What is taken from a membrane.
 #[derive(Clone, Copy)]
 pub enum Kind {
@@ -306,7 +303,7 @@ fn holds_enough_at<S: LinkStore>(
 }
 
 /// Whether a membrane may hold as much of each kind as the code ahead takes from it, where it is in a register.
-fn holds_enough<S: LinkStore>(
+pub fn holds_enough<S: LinkStore>(
     store: &S,
     code: &Instrs<'_>,
     at: usize,
@@ -323,39 +320,4 @@ fn holds_enough<S: LinkStore>(
         }
     }
     true
-}
-
-/// Whether an instruction tells two registers apart.
-fn tells_apart(instr: &Instr) -> bool {
-    match instr {
-        Instr::NeqAtom { .. } => true,
-        Instr::NeqMem { .. } => true,
-        _ => false,
-    }
-}
-
-/// Whether code tells so many registers apart that it is worth while to count first what it takes: with one item too few, a search
-/// goes through all orders of the others. Heads of a few items pay nothing for it.
-fn tells_many_apart(code: &Instrs<'_>) -> bool {
-    if code.len() < MANY {
-        return false;
-    }
-    let mut count: usize = 0;
-    for i in 0..code.len() {
-        if tells_apart(code.at(i)) {
-            count = count.saturating_add(1);
-        }
-    }
-    count >= MANY
-}
-
-/// Whether the membrane of a rule may hold all that head code takes from it, where this is counted.
-pub fn may_hold_all<S: LinkStore>(store: &S, code: &Instrs<'_>, m: S::Mem) -> bool
-    requires { IsMem (S.heap store.now) (S.mem_id m) }
-    ensures { IsFalse result → (c : HeadSize) (s : HeadRegisters) → s.images.membrane 0 ≡ S.mem_id m → AllHold (S.heap store.now) c s code.now → ⊥ }
-{
-    if !tells_many_apart(code) {
-        return true;
-    }
-    holds_enough(store, code, 0, 0, m)
 }

@@ -2,15 +2,21 @@
 #![tactic(auto)]
 
 mod ahead;
+mod alone;
 mod checks;
+mod choices;
 mod cost;
 mod counting;
 mod enough;
 mod finding;
+mod hanging;
 mod integers;
+mod jump;
 mod machine;
 mod others;
 mod parts;
+mod patience;
+mod reasons;
 mod rests;
 mod search;
 mod steps;

@@ -11,6 +11,7 @@ ghost use Rattle.lmn_machine.specs.Lending.{lends_store};
 
 use crate::counting::Steps;
 use crate::finding;
+use crate::reasons::Reasons;
 use lmn_base::NoMemory;
 use lmn_instr_pool::CodeView;
 use lmn_machine_commit::{commit, prepare};
@@ -24,6 +25,7 @@ use std::sync::ledger::Ledger;
 pub struct Machine<S: LinkStore> {
     pub(crate) store: S,
     pub(crate) set: SetRegisters<S::Atom, S::Mem>,
+    reasons: Reasons,
 }
 
 impl<S: LinkStore + Drop> Machine<S> {
@@ -32,7 +34,12 @@ impl<S: LinkStore + Drop> Machine<S> {
         ensures { IfOk result (λ m. m.store ≡ store) }
     {
         let set = SetRegisters::new(alloc)?;
-        Ok(Machine { store, set })
+        let reasons = Reasons::new(alloc)?;
+        Ok(Machine {
+            store,
+            set,
+            reasons,
+        })
     }
 }
 
@@ -86,7 +93,13 @@ impl<S: LinkStore> Machine<S> {
         ensures looked { Looked S.atom_id S.mem_id (S.heap self.old.store) code.now.head (S.mem_id membrane) self.new.set result }
     {
         steps.tick();
-        finding::find(&mut self.store, code.head(), membrane, &mut self.set)
+        finding::find(
+            &mut self.store,
+            code.head(),
+            membrane,
+            &mut self.set,
+            &mut self.reasons,
+        )
     }
 
     /// Makes all that the body of a code makes, detached, after the head was found: then `commit` can't fail. Want of

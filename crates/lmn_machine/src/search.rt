@@ -2,12 +2,14 @@ ghost use Rattle.std.specs.Prelude.{◌≡◌, ◌≤◌, ◌+◌, ℕ, length, 
 ghost use Rattle.lmn_store_heap.specs.Lists.{from};
 ghost use Rattle.lmn_store_heap.specs.Sound.{Valid};
 ghost use Rattle.lmn_instr_code.specs.declared.instr.Instr.TheVariants.{FindAtom, AnyMem};
-ghost use Rattle.lmn_machine.specs.Searching.{AreHeldWhole, HeadInOrder, Searched};
+ghost use Rattle.lmn_machine.specs.Searching.{AreHeldWhole, HeadInOrder};
+ghost use Rattle.lmn_machine.specs.Jumping.{Lasted};
 ghost use Rattle.lmn_machine.specs.Outcomes.{ChoosesAtoms, ChoosesMembranes};
 ghost use Rattle.lmn_machine.specs.Asking.{IsGuest};
 ghost use Rattle.lmn_store_heap.specs.Heap.{IsAtom, Unmarked, atoms_in, functor_of, home_of};
 ghost use Rattle.lmn_store_heap.specs.Functors.{with_functor};
 
+use crate::patience::Patience;
 use crate::steps::Outcome;
 use crate::{ahead, steps};
 use lmn_base::Functor;
@@ -16,13 +18,14 @@ use lmn_instr_pool::Instrs;
 use lmn_machine_registers::SetRegisters;
 use lmn_store_trait::LinkStore;
 
-/// Runs code from an instruction on, and tries the candidates of its first choice in order.
+/// Runs code from an instruction on, and tries the candidates of its first choice in order. Where patience is gone, it gives up.
 #[cycle(search)]
 pub fn search<S: LinkStore>(
     store: &mut S,
     code: &Instrs<'_>,
     at: usize,
     set: &mut SetRegisters<S::Atom, S::Mem>,
+    patience: &mut Patience,
 ) -> bool
     requires valid { Valid (S.heap store.old) }
     requires unmarked { Unmarked (S.heap store.old) }
@@ -30,15 +33,17 @@ pub fn search<S: LinkStore>(
     requires at { at ≤ length code.now }
     requires order { HeadInOrder (length set.old.atoms) (length set.old.membranes) (length set.old.parts) (length set.old.integers) (drop at code.now) }
     ensures same { S.heap store.new ≡ S.heap store.old }
-    ensures searched { Searched S.atom_id S.mem_id (S.heap store.old) set.old set.new result (drop at code.now) }
+    ensures searched { Lasted patience.new.left S.atom_id S.mem_id (S.heap store.old) set.old set.new result (drop at code.now) }
 {
     for i in at..code.len() {
         let instr = code.at(i);
         match steps::step(store, set, instr) {
             Outcome::Holds => {}
             Outcome::Fails => return false,
-            Outcome::ChoosesAtom => return choose_atom(store, code, i, instr, set),
-            Outcome::ChoosesMembrane => return choose_membrane(store, code, i, instr, set),
+            Outcome::ChoosesAtom => return choose_atom(store, code, i, instr, set, patience),
+            Outcome::ChoosesMembrane => return choose_membrane(
+                store, code, i, instr, set, patience,
+            ),
         }
     }
     true
@@ -53,6 +58,7 @@ fn choose_atom<S: LinkStore>(
     at: usize,
     instr: &Instr,
     set: &mut SetRegisters<S::Atom, S::Mem>,
+    patience: &mut Patience,
 ) -> bool
     requires valid { Valid (S.heap store.old) }
     requires unmarked { Unmarked (S.heap store.old) }
@@ -61,7 +67,7 @@ fn choose_atom<S: LinkStore>(
     requires choice { ChoosesAtoms instr.now }
     requires order { HeadInOrder (length set.old.atoms) (length set.old.membranes) (length set.old.parts) (length set.old.integers) (drop at code.now) }
     ensures same { S.heap store.new ≡ S.heap store.old }
-    ensures searched { Searched S.atom_id S.mem_id (S.heap store.old) set.old set.new result (drop at code.now) }
+    ensures searched { Lasted patience.new.left S.atom_id S.mem_id (S.heap store.old) set.old set.new result (drop at code.now) }
 {
     match instr {
         Instr::FindAtom {
@@ -70,7 +76,7 @@ fn choose_atom<S: LinkStore>(
             ..
         } => {
             let place = set.membranes.at(*membrane as usize);
-            search_atom(store, code, at, place, *functor, set)
+            search_atom(store, code, at, place, *functor, set, patience)
         }
         _ => false,
     }
@@ -85,6 +91,7 @@ fn choose_membrane<S: LinkStore>(
     at: usize,
     instr: &Instr,
     set: &mut SetRegisters<S::Atom, S::Mem>,
+    patience: &mut Patience,
 ) -> bool
     requires valid { Valid (S.heap store.old) }
     requires unmarked { Unmarked (S.heap store.old) }
@@ -93,12 +100,12 @@ fn choose_membrane<S: LinkStore>(
     requires choice { ChoosesMembranes instr.now }
     requires order { HeadInOrder (length set.old.atoms) (length set.old.membranes) (length set.old.parts) (length set.old.integers) (drop at code.now) }
     ensures same { S.heap store.new ≡ S.heap store.old }
-    ensures searched { Searched S.atom_id S.mem_id (S.heap store.old) set.old set.new result (drop at code.now) }
+    ensures searched { Lasted patience.new.left S.atom_id S.mem_id (S.heap store.old) set.old set.new result (drop at code.now) }
 {
     match instr {
         Instr::AnyMem { inside, .. } => {
             let place = set.membranes.at(*inside as usize);
-            search_membrane(store, code, at, place, set)
+            search_membrane(store, code, at, place, set, patience)
         }
         _ => false,
     }
@@ -114,6 +121,7 @@ fn search_atom<S: LinkStore>(
     place: S::Mem,
     functor: Functor,
     set: &mut SetRegisters<S::Atom, S::Mem>,
+    patience: &mut Patience,
 ) -> bool
     requires valid { Valid (S.heap store.old) }
     requires unmarked { Unmarked (S.heap store.old) }
@@ -121,10 +129,10 @@ fn search_atom<S: LinkStore>(
     requires at { (y : ℕ) × (slice_get code.now at ≡ Some (FindAtom (length set.old.atoms) y functor)) × (slice_get set.old.membranes y ≡ Some place) }
     requires order { HeadInOrder (length set.old.atoms) (length set.old.membranes) (length set.old.parts) (length set.old.integers) (drop at code.now) }
     ensures same { S.heap store.new ≡ S.heap store.old }
-    ensures searched { Searched S.atom_id S.mem_id (S.heap store.old) set.old set.new result (drop at code.now) }
+    ensures searched { Lasted patience.new.left S.atom_id S.mem_id (S.heap store.old) set.old set.new result (drop at code.now) }
 {
     match store.first_with(place, functor) {
-        Some(first) => search_atoms(store, code, at, place, first, functor, set),
+        Some(first) => search_atoms(store, code, at, place, first, functor, set, patience),
         None => false,
     }
 }
@@ -140,6 +148,7 @@ fn search_atoms<S: LinkStore>(
     first: S::Atom,
     functor: Functor,
     set: &mut SetRegisters<S::Atom, S::Mem>,
+    patience: &mut Patience,
 ) -> bool
     requires valid { Valid (S.heap store.old) }
     requires unmarked { Unmarked (S.heap store.old) }
@@ -150,7 +159,7 @@ fn search_atoms<S: LinkStore>(
     requires list { let all = with_functor (S.heap store.old) functor (atoms_in (S.heap store.old) (S.mem_id place)) in from (Some (S.atom_id first)) all ≡ all }
     requires order { HeadInOrder (length set.old.atoms) (length set.old.membranes) (length set.old.parts) (length set.old.integers) (drop at code.now) }
     ensures same { S.heap store.new ≡ S.heap store.old }
-    ensures searched { Searched S.atom_id S.mem_id (S.heap store.old) set.old set.new result (drop at code.now) }
+    ensures searched { Lasted patience.new.left S.atom_id S.mem_id (S.heap store.old) set.old set.new result (drop at code.now) }
 {
     let _root = store.root();
     let _code = code.len();
@@ -161,8 +170,11 @@ fn search_atoms<S: LinkStore>(
     let mut ask = true;
     while let Some(atom) = candidate {
         set.atoms.push(atom);
-        if search(store, code, rest, set) {
+        if search(store, code, rest, set, patience) {
             return true;
+        }
+        if !patience.lasts() {
+            return false;
         }
         set.keep(atoms, membranes, parts, integers);
         let next = store.next_with(atom);
@@ -181,6 +193,7 @@ fn search_membrane<S: LinkStore>(
     at: usize,
     place: S::Mem,
     set: &mut SetRegisters<S::Atom, S::Mem>,
+    patience: &mut Patience,
 ) -> bool
     requires valid { Valid (S.heap store.old) }
     requires unmarked { Unmarked (S.heap store.old) }
@@ -188,13 +201,13 @@ fn search_membrane<S: LinkStore>(
     requires at { (y : ℕ) × (slice_get code.now at ≡ Some (AnyMem (length set.old.membranes) y)) × (slice_get set.old.membranes y ≡ Some place) }
     requires order { HeadInOrder (length set.old.atoms) (length set.old.membranes) (length set.old.parts) (length set.old.integers) (drop at code.now) }
     ensures same { S.heap store.new ≡ S.heap store.old }
-    ensures searched { Searched S.atom_id S.mem_id (S.heap store.old) set.old set.new result (drop at code.now) }
+    ensures searched { Lasted patience.new.left S.atom_id S.mem_id (S.heap store.old) set.old set.new result (drop at code.now) }
 {
     let _code = code.len();
     let register = set.membranes.len();
     match ahead::guest(store, code, at + 1, register, set) {
-        Some(guest) => search_home(store, code, at, place, guest, set),
-        None => search_membranes(store, code, at, place, set),
+        Some(guest) => search_home(store, code, at, place, guest, set, patience),
+        None => search_membranes(store, code, at, place, set, patience),
     }
 }
 
@@ -207,6 +220,7 @@ fn search_home<S: LinkStore>(
     place: S::Mem,
     guest: S::Atom,
     set: &mut SetRegisters<S::Atom, S::Mem>,
+    patience: &mut Patience,
 ) -> bool
     requires valid { Valid (S.heap store.old) }
     requires unmarked { Unmarked (S.heap store.old) }
@@ -216,7 +230,7 @@ fn search_home<S: LinkStore>(
     requires guest { IsGuest S.atom_id S.mem_id (S.heap store.old) set.old (drop (at + 1) code.now) (length set.old.membranes) (S.atom_id guest) }
     requires order { HeadInOrder (length set.old.atoms) (length set.old.membranes) (length set.old.parts) (length set.old.integers) (drop at code.now) }
     ensures same { S.heap store.new ≡ S.heap store.old }
-    ensures searched { Searched S.atom_id S.mem_id (S.heap store.old) set.old set.new result (drop at code.now) }
+    ensures searched { Lasted patience.new.left S.atom_id S.mem_id (S.heap store.old) set.old set.new result (drop at code.now) }
 {
     let _root = store.root();
     let _code = code.len();
@@ -226,7 +240,7 @@ fn search_home<S: LinkStore>(
             let (atoms, membranes) = (set.atoms.len(), set.membranes.len());
             let (parts, integers) = (set.parts.len(), set.integers.len());
             set.membranes.push(membrane);
-            if search(store, code, rest, set) {
+            if search(store, code, rest, set, patience) {
                 return true;
             }
             set.keep(atoms, membranes, parts, integers);
@@ -244,6 +258,7 @@ fn search_membranes<S: LinkStore>(
     at: usize,
     place: S::Mem,
     set: &mut SetRegisters<S::Atom, S::Mem>,
+    patience: &mut Patience,
 ) -> bool
     requires valid { Valid (S.heap store.old) }
     requires unmarked { Unmarked (S.heap store.old) }
@@ -251,7 +266,7 @@ fn search_membranes<S: LinkStore>(
     requires at { (y : ℕ) × (slice_get code.now at ≡ Some (AnyMem (length set.old.membranes) y)) × (slice_get set.old.membranes y ≡ Some place) }
     requires order { HeadInOrder (length set.old.atoms) (length set.old.membranes) (length set.old.parts) (length set.old.integers) (drop at code.now) }
     ensures same { S.heap store.new ≡ S.heap store.old }
-    ensures searched { Searched S.atom_id S.mem_id (S.heap store.old) set.old set.new result (drop at code.now) }
+    ensures searched { Lasted patience.new.left S.atom_id S.mem_id (S.heap store.old) set.old set.new result (drop at code.now) }
 {
     let _root = store.root();
     let _code = code.len();
@@ -263,8 +278,11 @@ fn search_membranes<S: LinkStore>(
     let mut candidate = ahead::fitting_membrane(store, place, first, asked);
     while let Some(membrane) = candidate {
         set.membranes.push(membrane);
-        if search(store, code, rest, set) {
+        if search(store, code, rest, set, patience) {
             return true;
+        }
+        if !patience.lasts() {
+            return false;
         }
         set.keep(atoms, membranes, parts, integers);
         let next = store.next_mem(membrane);

@@ -1,19 +1,28 @@
 use Rattle.std.proofs.Common.{subst, sym}
-use Rattle.std.specs.Prelude.{false}
-use Rattle.lmn_machine.specs.Searching.{Looked, Searched}
+use Rattle.std.specs.Prelude.{true, false}
+use Rattle.lmn_store_heap.specs.Heap.{IsMem, Unmarked}
+use Rattle.lmn_store_heap.specs.Sound.{Valid}
+use Rattle.lmn_machine.specs.Searching.{Searched}
+use Rattle.lmn_machine.specs.Jumping.{Lasted, only_membrane}
 use Rattle.lmn_machine.proofs.Calling.{one_membrane_more, nothing_set}
-use Rattle.lmn_machine.proofs.FromOne.{counted_out, looked, only_membrane}
+use Rattle.lmn_machine.proofs.FromOne.{looked}
 use Rattle.lmn_machine.proofs.finding.find.Goals as goal
+
+pub returns-then-search-clause-looked : goal.returns-then-search-clause-looked
+returns-then-search-clause-looked g c =
+    let more = one_membrane_more nothing_set c.clear.new.self c.args.membrane c.push.new.self c.clear.ensures c.push.ensures in
+    let lasted = subst (λ k. Lasted c.search.new.patience.left g.S.LinkStore.atom_id g.S.LinkStore.mem_id (g.S.LinkStore.heap c.args.store.now) k c.search.new.set c.search.result c.args.code.now) more c.search.ensures.searched in
+    looked g.S.LinkStore.atom_id g.S.LinkStore.mem_id (g.S.LinkStore.heap c.args.store.now) c.args.membrane c.search.new.set true c.args.code.now
+    (subst (λ b. Searched g.S.LinkStore.atom_id g.S.LinkStore.mem_id (g.S.LinkStore.heap c.args.store.now) (only_membrane c.args.membrane) c.search.new.set b c.args.code.now) c.if-search.true (lasted.found c.if-search.true))
+
+pub returns-then-not-is_gone-clause-looked : goal.returns-then-not-is_gone-clause-looked
+returns-then-not-is_gone-clause-looked g c =
+    let more = one_membrane_more nothing_set c.clear.new.self c.args.membrane c.push.new.self c.clear.ensures c.push.ensures in
+    let lasted = subst (λ k. Lasted c.search.new.patience.left g.S.LinkStore.atom_id g.S.LinkStore.mem_id (g.S.LinkStore.heap c.args.store.now) k c.search.new.set c.search.result c.args.code.now) more c.search.ensures.searched in
+    looked g.S.LinkStore.atom_id g.S.LinkStore.mem_id (g.S.LinkStore.heap c.args.store.now) c.args.membrane c.search.new.set false c.args.code.now
+    (subst (λ b. Searched g.S.LinkStore.atom_id g.S.LinkStore.mem_id (g.S.LinkStore.heap c.args.store.now) (only_membrane c.args.membrane) c.search.new.set b c.args.code.now) c.if-search.false (lasted.searched (c.is_gone.ensures c.if-not-is_gone.true)))
 
 pub returns-clause-looked : goal.returns-clause-looked
 returns-clause-looked g c =
-    let more = one_membrane_more nothing_set c.clear.new.self c.args.membrane c.push.new.self c.clear.ensures c.push.ensures in
-    looked g.S.LinkStore.atom_id g.S.LinkStore.mem_id (g.S.LinkStore.heap c.args.store.now) c.args.membrane c.search.new.set c.search.result c.args.code.now
-    (subst (λ k. Searched g.S.LinkStore.atom_id g.S.LinkStore.mem_id (g.S.LinkStore.heap c.args.store.now) k c.search.new.set c.search.result c.args.code.now) more c.search.ensures.searched)
-
-pub returns-then-not-may_hold_all-clause-looked : goal.returns-then-not-may_hold_all-clause-looked
-returns-then-not-may_hold_all-clause-looked g c =
-    let more = one_membrane_more nothing_set c.clear.new.self c.args.membrane c.push.new.self c.clear.ensures c.push.ensures in
-    subst (λ k. Looked g.S.LinkStore.atom_id g.S.LinkStore.mem_id (g.S.LinkStore.heap c.args.store.now) c.args.code.now (g.S.LinkStore.mem_id c.args.membrane) k false) (sym more)
-    (looked g.S.LinkStore.atom_id g.S.LinkStore.mem_id (g.S.LinkStore.heap c.args.store.now) c.args.membrane (only_membrane c.args.membrane) false c.args.code.now
-    (counted_out g.S.LinkStore.atom_id g.S.LinkStore.mem_id (g.S.LinkStore.heap c.args.store.now) c.args.membrane c.args.code.now c.requires.membrane (c.may_hold_all.ensures c.if-not-may_hold_all.true)))
+    looked g.S.LinkStore.atom_id g.S.LinkStore.mem_id (g.S.LinkStore.heap c.args.store.now) c.args.membrane c.find_anew.new.set c.find_anew.result c.args.code.now
+    (subst (λ h. Searched g.S.LinkStore.atom_id g.S.LinkStore.mem_id h (only_membrane c.args.membrane) c.find_anew.new.set c.find_anew.result c.args.code.now) c.search.ensures.same c.find_anew.ensures.searched)

@@ -10,11 +10,13 @@ use Rattle.std.proofs.lemmas.Option.{slice_get_within}
 use Rattle.lmn_store_heap.specs.Heap.{Heap, functor_of, home_of, parent_of, atoms_in, mems_in, Unmarked}
 use Rattle.lmn_instr_code.specs.declared.instr.Instr.TheVariants.{FindAtom, AnyMem}
 use Rattle.lmn_store_heap.specs.Sound.{Valid}
-use Rattle.lmn_machine.specs.Searching.{AreHeldWhole, HeadInOrder, Searched, Stepped}
+use Rattle.lmn_machine.specs.Searching.{AreHeldWhole, Extends, HeadInOrder, Searched, Stepped}
 use Rattle.lmn_machine_registers.specs.declared.stack.TheConstants.{ROOM}
+use Rattle.lmn_machine.specs.Jumping.{Lasted, with_atom, with_membrane}
+use Rattle.lmn_machine.proofs.Trying.{given_up, lasted, lasted_by, passed_lasted}
 use Rattle.lmn_machine.proofs.Telling.{atoms_chosen, membranes_chosen}
-use Rattle.lmn_machine.proofs.Stepping.{Passed, extends_on, passed_one, failed, passed_all, passed_search}
-use Rattle.lmn_machine.proofs.Choosing.{AtomsLeft, MembranesLeft, with_atom, with_membrane, extends_atom, extends_membrane, atoms_first, atoms_next, atoms_none, atoms_found, membranes_first, membranes_next, membranes_none, membranes_found, held_atom, held_membrane}
+use Rattle.lmn_machine.proofs.Stepping.{Passed, extends_itself, extends_on, passed_one, failed, passed_all}
+use Rattle.lmn_machine.proofs.Choosing.{AtomsLeft, MembranesLeft, extends_atom, extends_membrane, atoms_first, atoms_next, atoms_none, atoms_found, membranes_first, membranes_next, membranes_none, membranes_found, held_atom, held_membrane}
 use Rattle.lmn_machine.proofs.Calling.{read_at, drop_none, order_first, if_both, none_is, one_more, one_membrane_more, taken_back, having_atoms, having_membranes, next_same, next_mem_same, atom_ahead, membrane_ahead}
 use Rattle.lmn_machine.proofs.search.+search.Goals as goal
 use Rattle.lmn_base.proofs.Lists.{drop_get}
@@ -84,24 +86,24 @@ search-choose_membrane-requires g t c κs within = (
 
 pub search-returns-in-ChoosesAtom-clause-searched : goal.search-returns-in-ChoosesAtom-clause-searched
 search-returns-in-ChoosesAtom-clause-searched g t c =
-    passed_search g.S.LinkStore.atom_id g.S.LinkStore.mem_id (g.S.LinkStore.heap c.args.store.now) c.args.set.now c.loop-i.set c.choose_atom.new.set (drop c.args.at c.args.code.now) (drop c.loop-i.i c.args.code.now)
+    passed_lasted g.S.LinkStore.atom_id g.S.LinkStore.mem_id (g.S.LinkStore.heap c.args.store.now) _ c.args.set.now c.loop-i.set c.choose_atom.new.set (drop c.args.at c.args.code.now) (drop c.loop-i.i c.args.code.now)
     c.choose_atom.result c.loop-i.invariant.passed
-    (subst (λ k. Searched g.S.LinkStore.atom_id g.S.LinkStore.mem_id (g.S.LinkStore.heap c.args.store.now) k c.choose_atom.new.set c.choose_atom.result (drop c.loop-i.i c.args.code.now)) c.in-ChoosesAtom.ensures.stepped.0
-    (subst (λ h. Searched g.S.LinkStore.atom_id g.S.LinkStore.mem_id h c.step.new.set c.choose_atom.new.set c.choose_atom.result (drop c.loop-i.i c.args.code.now)) (c.in-ChoosesAtom.ensures.same ∙ c.loop-i.invariant.same) c.choose_atom.ensures.searched))
+    (subst (λ k. Lasted c.choose_atom.new.patience.left g.S.LinkStore.atom_id g.S.LinkStore.mem_id (g.S.LinkStore.heap c.args.store.now) k c.choose_atom.new.set c.choose_atom.result (drop c.loop-i.i c.args.code.now)) c.in-ChoosesAtom.ensures.stepped.0
+    (subst (λ h. Lasted c.choose_atom.new.patience.left g.S.LinkStore.atom_id g.S.LinkStore.mem_id h c.step.new.set c.choose_atom.new.set c.choose_atom.result (drop c.loop-i.i c.args.code.now)) (c.in-ChoosesAtom.ensures.same ∙ c.loop-i.invariant.same) c.choose_atom.ensures.searched))
 
 pub search-returns-in-ChoosesMembrane-clause-searched : goal.search-returns-in-ChoosesMembrane-clause-searched
 search-returns-in-ChoosesMembrane-clause-searched g t c =
-    passed_search g.S.LinkStore.atom_id g.S.LinkStore.mem_id (g.S.LinkStore.heap c.args.store.now) c.args.set.now c.loop-i.set c.choose_membrane.new.set (drop c.args.at c.args.code.now) (drop c.loop-i.i c.args.code.now)
+    passed_lasted g.S.LinkStore.atom_id g.S.LinkStore.mem_id (g.S.LinkStore.heap c.args.store.now) _ c.args.set.now c.loop-i.set c.choose_membrane.new.set (drop c.args.at c.args.code.now) (drop c.loop-i.i c.args.code.now)
     c.choose_membrane.result c.loop-i.invariant.passed
-    (subst (λ k. Searched g.S.LinkStore.atom_id g.S.LinkStore.mem_id (g.S.LinkStore.heap c.args.store.now) k c.choose_membrane.new.set c.choose_membrane.result (drop c.loop-i.i c.args.code.now)) c.in-ChoosesMembrane.ensures.stepped.0
-    (subst (λ h. Searched g.S.LinkStore.atom_id g.S.LinkStore.mem_id h c.step.new.set c.choose_membrane.new.set c.choose_membrane.result (drop c.loop-i.i c.args.code.now)) (c.in-ChoosesMembrane.ensures.same ∙ c.loop-i.invariant.same) c.choose_membrane.ensures.searched))
+    (subst (λ k. Lasted c.choose_membrane.new.patience.left g.S.LinkStore.atom_id g.S.LinkStore.mem_id (g.S.LinkStore.heap c.args.store.now) k c.choose_membrane.new.set c.choose_membrane.result (drop c.loop-i.i c.args.code.now)) c.in-ChoosesMembrane.ensures.stepped.0
+    (subst (λ h. Lasted c.choose_membrane.new.patience.left g.S.LinkStore.atom_id g.S.LinkStore.mem_id h c.step.new.set c.choose_membrane.new.set c.choose_membrane.result (drop c.loop-i.i c.args.code.now)) (c.in-ChoosesMembrane.ensures.same ∙ c.loop-i.invariant.same) c.choose_membrane.ensures.searched))
 
 pub search-returns-in-Fails-clause-searched : goal.search-returns-in-Fails-clause-searched
 search-returns-in-Fails-clause-searched g t c =
     let ahead = drop_get c.loop-i.i c.args.code.now c.at-instr.result.now c.at-instr.ensures in
-    failed g.S.LinkStore.atom_id g.S.LinkStore.mem_id (g.S.LinkStore.heap c.args.store.now) c.args.set.now c.loop-i.set c.step.new.set (drop c.args.at c.args.code.now) (drop (c.loop-i.i + 1) c.args.code.now) c.at-instr.result.now
+    lasted g.S.LinkStore.atom_id g.S.LinkStore.mem_id (g.S.LinkStore.heap c.args.store.now) _ _ _ _ _ (failed g.S.LinkStore.atom_id g.S.LinkStore.mem_id (g.S.LinkStore.heap c.args.store.now) c.args.set.now c.loop-i.set c.step.new.set (drop c.args.at c.args.code.now) (drop (c.loop-i.i + 1) c.args.code.now) c.at-instr.result.now
     (subst (λ left. Passed g.S.LinkStore.atom_id g.S.LinkStore.mem_id (g.S.LinkStore.heap c.args.store.now) c.args.set.now c.loop-i.set (drop c.args.at c.args.code.now) left) ahead c.loop-i.invariant.passed)
-    (subst (λ h. Stepped g.S.LinkStore.atom_id g.S.LinkStore.mem_id h c.loop-i.set c.step.new.set false c.at-instr.result.now) c.loop-i.invariant.same c.in-Fails.ensures.stepped)
+    (subst (λ h. Stepped g.S.LinkStore.atom_id g.S.LinkStore.mem_id h c.loop-i.set c.step.new.set false c.at-instr.result.now) c.loop-i.invariant.same c.in-Fails.ensures.stepped))
 
 pub search-loop-i-preserved : goal.search-loop-i-preserved
 search-loop-i-preserved g t c =
@@ -116,8 +118,8 @@ search-loop-i-preserved g t c =
 pub search-returns-clause-searched : goal.search-returns-clause-searched
 search-returns-clause-searched g t c =
     let nothing = drop_none c.args.code.now c.loop-i.i (let past = c.loop-i-test.false in let end = c.len-i-end.ensures.len in omega (arith, past, end)) in
-    passed_all g.S.LinkStore.atom_id g.S.LinkStore.mem_id (g.S.LinkStore.heap c.args.store.now) c.args.set.now c.loop-i.set (drop c.args.at c.args.code.now)
-    (subst (λ left. Passed g.S.LinkStore.atom_id g.S.LinkStore.mem_id (g.S.LinkStore.heap c.args.store.now) c.args.set.now c.loop-i.set (drop c.args.at c.args.code.now) left) nothing c.loop-i.invariant.passed)
+    lasted g.S.LinkStore.atom_id g.S.LinkStore.mem_id (g.S.LinkStore.heap c.args.store.now) _ _ _ _ _ (passed_all g.S.LinkStore.atom_id g.S.LinkStore.mem_id (g.S.LinkStore.heap c.args.store.now) c.args.set.now c.loop-i.set (drop c.args.at c.args.code.now)
+    (subst (λ left. Passed g.S.LinkStore.atom_id g.S.LinkStore.mem_id (g.S.LinkStore.heap c.args.store.now) c.args.set.now c.loop-i.set (drop c.args.at c.args.code.now) left) nothing c.loop-i.invariant.passed))
 
 pub choose_atom-search_atom-requires : goal.choose_atom-search_atom-requires
 choose_atom-search_atom-requires g t c κs within =
@@ -195,8 +197,8 @@ choose_membrane-returns-in_default-clause-searched g t c = absurd (membranes_cho
 
 pub search_atom-returns-in-None-clause-searched : goal.search_atom-returns-in-None-clause-searched
 search_atom-returns-in-None-clause-searched g t c =
-    atoms_none g.S.LinkStore.atom_id g.S.LinkStore.mem_id (g.S.LinkStore.heap c.args.store.now) c.args.set.now (drop c.args.at c.args.code.now) c.args.functor c.args.place c.requires.held
-    (atoms_first g.S.LinkStore.atom_id g.S.LinkStore.mem_id (g.S.LinkStore.heap c.args.store.now) c.args.set.now (drop c.args.at c.args.code.now) (drop (c.args.at + 1) c.args.code.now) c.args.functor c.requires.at.0 c.args.place None (drop_get c.args.at c.args.code.now (FindAtom (length c.args.set.now.atoms) c.requires.at.0 c.args.functor) c.requires.at.1) c.requires.at.2 c.in-None.ensures.list)
+    lasted g.S.LinkStore.atom_id g.S.LinkStore.mem_id (g.S.LinkStore.heap c.args.store.now) _ _ _ _ _ (atoms_none g.S.LinkStore.atom_id g.S.LinkStore.mem_id (g.S.LinkStore.heap c.args.store.now) c.args.set.now (drop c.args.at c.args.code.now) c.args.functor c.args.place c.requires.held
+    (atoms_first g.S.LinkStore.atom_id g.S.LinkStore.mem_id (g.S.LinkStore.heap c.args.store.now) c.args.set.now (drop c.args.at c.args.code.now) (drop (c.args.at + 1) c.args.code.now) c.args.functor c.requires.at.0 c.args.place None (drop_get c.args.at c.args.code.now (FindAtom (length c.args.set.now.atoms) c.requires.at.0 c.args.functor) c.requires.at.1) c.requires.at.2 c.in-None.ensures.list))
 
 pub search_atom-search_atoms-requires : goal.search_atom-search_atoms-requires
 search_atom-search_atoms-requires g t c κs within = (
@@ -230,7 +232,7 @@ search_atoms-further_atom-candidate-requires-clause-held g t c =
     let same : g.S.LinkStore.heap c.search.new.store ≡ g.S.LinkStore.heap c.args.store.now = c.search.ensures.same ∙ c.loop-candidate.invariant.same in
     let more = one_more c.args.set.now c.loop-candidate.set c.in-Some.atom c.push.new.self c.loop-candidate.invariant.set c.push.ensures in
     let searched = subst (λ k. Searched g.S.LinkStore.atom_id g.S.LinkStore.mem_id (g.S.LinkStore.heap c.args.store.now) k c.search.new.set false (drop (c.args.at + 1) c.args.code.now)) more (subst (λ b. Searched g.S.LinkStore.atom_id g.S.LinkStore.mem_id (g.S.LinkStore.heap c.args.store.now) (having_atoms c.loop-candidate.set c.push.new.self) c.search.new.set b (drop (c.args.at + 1) c.args.code.now)) c.if-search.false
-    (subst (λ h. Searched g.S.LinkStore.atom_id g.S.LinkStore.mem_id h (having_atoms c.loop-candidate.set c.push.new.self) c.search.new.set c.search.result (drop (c.args.at + 1) c.args.code.now)) c.loop-candidate.invariant.same c.search.ensures.searched)) in
+    (subst (λ h. Searched g.S.LinkStore.atom_id g.S.LinkStore.mem_id h (having_atoms c.loop-candidate.set c.push.new.self) c.search.new.set c.search.result (drop (c.args.at + 1) c.args.code.now)) c.loop-candidate.invariant.same (c.search.ensures.searched.searched (c.lasts.ensures.some c.if-not-lasts.false)))) in
     let taken = taken_back c.args.set.now c.search.new.set c.keep.new.self c.len-atoms.result c.len-membranes.result c.len-parts.result c.len-integers.result c.len-atoms.ensures c.len-membranes.ensures c.len-parts.ensures c.len-integers.ensures
     (extends_on g.S.LinkStore.atom_id g.S.LinkStore.mem_id (g.S.LinkStore.heap c.args.store.now) c.args.set.now (with_atom c.args.set.now c.in-Some.atom) c.search.new.set (extends_atom g.S.LinkStore.atom_id g.S.LinkStore.mem_id (g.S.LinkStore.heap c.args.store.now) c.args.set.now c.in-Some.atom) searched.extends) c.keep.ensures in
     subst (λ k. AreHeldWhole g.S.LinkStore.atom_id g.S.LinkStore.mem_id (g.S.LinkStore.heap c.search.new.store) k) (sym taken) (subst (λ h. AreHeldWhole g.S.LinkStore.atom_id g.S.LinkStore.mem_id h c.args.set.now) (sym same) c.requires.held)
@@ -249,7 +251,7 @@ search_atoms-loop-candidate-preserved g t c =
     let same : g.S.LinkStore.heap c.search.new.store ≡ g.S.LinkStore.heap c.args.store.now = c.search.ensures.same ∙ c.loop-candidate.invariant.same in
     let more = one_more c.args.set.now c.loop-candidate.set c.in-Some.atom c.push.new.self c.loop-candidate.invariant.set c.push.ensures in
     let searched = subst (λ k. Searched g.S.LinkStore.atom_id g.S.LinkStore.mem_id (g.S.LinkStore.heap c.args.store.now) k c.search.new.set false (drop (c.args.at + 1) c.args.code.now)) more (subst (λ b. Searched g.S.LinkStore.atom_id g.S.LinkStore.mem_id (g.S.LinkStore.heap c.args.store.now) (having_atoms c.loop-candidate.set c.push.new.self) c.search.new.set b (drop (c.args.at + 1) c.args.code.now)) c.if-search.false
-    (subst (λ h. Searched g.S.LinkStore.atom_id g.S.LinkStore.mem_id h (having_atoms c.loop-candidate.set c.push.new.self) c.search.new.set c.search.result (drop (c.args.at + 1) c.args.code.now)) c.loop-candidate.invariant.same c.search.ensures.searched)) in
+    (subst (λ h. Searched g.S.LinkStore.atom_id g.S.LinkStore.mem_id h (having_atoms c.loop-candidate.set c.push.new.self) c.search.new.set c.search.result (drop (c.args.at + 1) c.args.code.now)) c.loop-candidate.invariant.same (c.search.ensures.searched.searched (c.lasts.ensures.some c.if-not-lasts.false)))) in
     let taken = taken_back c.args.set.now c.search.new.set c.keep.new.self c.len-atoms.result c.len-membranes.result c.len-parts.result c.len-integers.result c.len-atoms.ensures c.len-membranes.ensures c.len-parts.ensures c.len-integers.ensures
     (extends_on g.S.LinkStore.atom_id g.S.LinkStore.mem_id (g.S.LinkStore.heap c.args.store.now) c.args.set.now (with_atom c.args.set.now c.in-Some.atom) c.search.new.set (extends_atom g.S.LinkStore.atom_id g.S.LinkStore.mem_id (g.S.LinkStore.heap c.args.store.now) c.args.set.now c.in-Some.atom) searched.extends) c.keep.ensures in
     let there = subst (λ o. IfSome o (λ a. (functor_of (g.S.LinkStore.heap c.args.store.now) (g.S.LinkStore.atom_id a) ≡ Some c.args.functor) × (home_of (g.S.LinkStore.heap c.args.store.now) (g.S.LinkStore.atom_id a) ≡ Some (g.S.LinkStore.mem_id c.args.place)))) c.in-Some.is c.loop-candidate.invariant.there in
@@ -313,15 +315,22 @@ search_atoms-returns-then-search-clause-searched g t c =
     let more = one_more c.args.set.now c.loop-candidate.set c.in-Some.atom c.push.new.self c.loop-candidate.invariant.set c.push.ensures in
     let code = drop_get c.args.at c.args.code.now (FindAtom (length c.args.set.now.atoms) c.requires.at.0 c.args.functor) c.requires.at.1 in
     let left = subst (λ o. AtomsLeft g.S.LinkStore.atom_id g.S.LinkStore.mem_id (g.S.LinkStore.heap c.args.store.now) c.args.set.now (drop c.args.at c.args.code.now) c.args.functor c.args.place o) c.in-Some.is c.loop-candidate.invariant.left in
-    atoms_found g.S.LinkStore.atom_id g.S.LinkStore.mem_id (g.S.LinkStore.heap c.args.store.now) c.args.set.now c.search.new.set (drop c.args.at c.args.code.now) (drop (c.args.at + 1) c.args.code.now) c.args.functor c.requires.at.0 c.args.place c.in-Some.atom code c.requires.at.2
+    lasted g.S.LinkStore.atom_id g.S.LinkStore.mem_id (g.S.LinkStore.heap c.args.store.now) _ _ _ _ _ (atoms_found g.S.LinkStore.atom_id g.S.LinkStore.mem_id (g.S.LinkStore.heap c.args.store.now) c.args.set.now c.search.new.set (drop c.args.at c.args.code.now) (drop (c.args.at + 1) c.args.code.now) c.args.functor c.requires.at.0 c.args.place c.in-Some.atom code c.requires.at.2
     c.root-root.ensures.sound.listed there.1 there.0 left
     (subst (λ k. Searched g.S.LinkStore.atom_id g.S.LinkStore.mem_id (g.S.LinkStore.heap c.args.store.now) k c.search.new.set true (drop (c.args.at + 1) c.args.code.now)) more (subst (λ b. Searched g.S.LinkStore.atom_id g.S.LinkStore.mem_id (g.S.LinkStore.heap c.args.store.now) (having_atoms c.loop-candidate.set c.push.new.self) c.search.new.set b (drop (c.args.at + 1) c.args.code.now)) c.if-search.true
-    (subst (λ h. Searched g.S.LinkStore.atom_id g.S.LinkStore.mem_id h (having_atoms c.loop-candidate.set c.push.new.self) c.search.new.set c.search.result (drop (c.args.at + 1) c.args.code.now)) c.loop-candidate.invariant.same c.search.ensures.searched)))
+    (subst (λ h. Searched g.S.LinkStore.atom_id g.S.LinkStore.mem_id h (having_atoms c.loop-candidate.set c.push.new.self) c.search.new.set c.search.result (drop (c.args.at + 1) c.args.code.now)) c.loop-candidate.invariant.same (c.search.ensures.searched.found c.if-search.true)))))
+
+pub search_atoms-returns-then-not-lasts-clause-searched : goal.search_atoms-returns-then-not-lasts-clause-searched
+search_atoms-returns-then-not-lasts-clause-searched g t c =
+    let more = one_more c.args.set.now c.loop-candidate.set c.in-Some.atom c.push.new.self c.loop-candidate.invariant.set c.push.ensures in
+    given_up g.S.LinkStore.atom_id g.S.LinkStore.mem_id (g.S.LinkStore.heap c.args.store.now) c.lasts.new.self.left c.args.set.now c.search.new.set (drop c.args.at c.args.code.now) (c.lasts.ensures.gone c.if-not-lasts.true)
+    (subst (λ h. AreHeldWhole g.S.LinkStore.atom_id g.S.LinkStore.mem_id h c.search.new.set) c.loop-candidate.invariant.same c.search.ensures.searched.held)
+    (extends_on g.S.LinkStore.atom_id g.S.LinkStore.mem_id (g.S.LinkStore.heap c.args.store.now) c.args.set.now (with_atom c.args.set.now c.in-Some.atom) c.search.new.set (extends_atom g.S.LinkStore.atom_id g.S.LinkStore.mem_id (g.S.LinkStore.heap c.args.store.now) c.args.set.now c.in-Some.atom) (subst (λ k. Extends k c.search.new.set) more c.search.ensures.searched.extends))
 
 pub search_atoms-returns-clause-searched : goal.search_atoms-returns-clause-searched
 search_atoms-returns-clause-searched g t c =
     let left = subst (λ o. AtomsLeft g.S.LinkStore.atom_id g.S.LinkStore.mem_id (g.S.LinkStore.heap c.args.store.now) c.args.set.now (drop c.args.at c.args.code.now) c.args.functor c.args.place o) (none_is c.loop-candidate.candidate c.in_default.not-Some) c.loop-candidate.invariant.left in
-    subst (λ k. Searched g.S.LinkStore.atom_id g.S.LinkStore.mem_id (g.S.LinkStore.heap c.args.store.now) c.args.set.now k false (drop c.args.at c.args.code.now)) (sym c.loop-candidate.invariant.set) (atoms_none g.S.LinkStore.atom_id g.S.LinkStore.mem_id (g.S.LinkStore.heap c.args.store.now) c.args.set.now (drop c.args.at c.args.code.now) c.args.functor c.args.place c.requires.held left)
+    lasted g.S.LinkStore.atom_id g.S.LinkStore.mem_id (g.S.LinkStore.heap c.args.store.now) _ _ _ _ _ (subst (λ k. Searched g.S.LinkStore.atom_id g.S.LinkStore.mem_id (g.S.LinkStore.heap c.args.store.now) c.args.set.now k false (drop c.args.at c.args.code.now)) (sym c.loop-candidate.invariant.set) (atoms_none g.S.LinkStore.atom_id g.S.LinkStore.mem_id (g.S.LinkStore.heap c.args.store.now) c.args.set.now (drop c.args.at c.args.code.now) c.args.functor c.args.place c.requires.held left))
 
 pub search_membrane-search_home-requires : goal.search_membrane-search_home-requires
 search_membrane-search_home-requires g t c κs within = (
@@ -386,25 +395,25 @@ search_home-returns-then-search-clause-searched g t c =
     let more = one_membrane_more c.args.set.now c.args.set.now c.in-Some.membrane c.push.new.self refl c.push.ensures in
     let only = subst (λ o. OnlyOne g.S.LinkStore.atom_id g.S.LinkStore.mem_id (g.S.LinkStore.heap c.args.store.now) c.args.set.now (drop c.args.at c.args.code.now) o) c.in-Some.is
     (only_home g.S.LinkStore.atom_id g.S.LinkStore.mem_id (g.S.LinkStore.heap c.args.store.now) c.args.set.now (drop c.args.at c.args.code.now) (drop (c.args.at + 1) c.args.code.now) c.requires.at.0 c.args.place (g.S.LinkStore.atom_id c.args.guest) c.home_within.result (drop_get c.args.at c.args.code.now (AnyMem (length c.args.set.now.membranes) c.requires.at.0) c.requires.at.1) c.requires.at.2 c.requires.guest c.home_within.ensures.only) in
-    let searched = subst (λ k. Searched g.S.LinkStore.atom_id g.S.LinkStore.mem_id (g.S.LinkStore.heap c.args.store.now) k c.search.new.set true (drop (c.args.at + 1) c.args.code.now)) more (subst (λ b. Searched g.S.LinkStore.atom_id g.S.LinkStore.mem_id (g.S.LinkStore.heap c.args.store.now) (having_membranes c.args.set.now c.push.new.self) c.search.new.set b (drop (c.args.at + 1) c.args.code.now)) c.if-search.true c.search.ensures.searched) in
-    membranes_found g.S.LinkStore.atom_id g.S.LinkStore.mem_id (g.S.LinkStore.heap c.args.store.now) c.args.set.now c.search.new.set (drop c.args.at c.args.code.now) (drop (c.args.at + 1) c.args.code.now) c.requires.at.0 c.args.place c.in-Some.membrane (drop_get c.args.at c.args.code.now (AnyMem (length c.args.set.now.membranes) c.requires.at.0) c.requires.at.1) c.requires.at.2 c.root-root.ensures.sound.listed c.in-Some.ensures.parent
-    (only_left g.S.LinkStore.atom_id g.S.LinkStore.mem_id (g.S.LinkStore.heap c.args.store.now) c.args.set.now (drop c.args.at c.args.code.now) c.args.place (Some c.in-Some.membrane) only) searched
+    let searched = subst (λ k. Searched g.S.LinkStore.atom_id g.S.LinkStore.mem_id (g.S.LinkStore.heap c.args.store.now) k c.search.new.set true (drop (c.args.at + 1) c.args.code.now)) more (subst (λ b. Searched g.S.LinkStore.atom_id g.S.LinkStore.mem_id (g.S.LinkStore.heap c.args.store.now) (having_membranes c.args.set.now c.push.new.self) c.search.new.set b (drop (c.args.at + 1) c.args.code.now)) c.if-search.true (c.search.ensures.searched.found c.if-search.true)) in
+    lasted g.S.LinkStore.atom_id g.S.LinkStore.mem_id (g.S.LinkStore.heap c.args.store.now) _ _ _ _ _ (membranes_found g.S.LinkStore.atom_id g.S.LinkStore.mem_id (g.S.LinkStore.heap c.args.store.now) c.args.set.now c.search.new.set (drop c.args.at c.args.code.now) (drop (c.args.at + 1) c.args.code.now) c.requires.at.0 c.args.place c.in-Some.membrane (drop_get c.args.at c.args.code.now (AnyMem (length c.args.set.now.membranes) c.requires.at.0) c.requires.at.1) c.requires.at.2 c.root-root.ensures.sound.listed c.in-Some.ensures.parent
+    (only_left g.S.LinkStore.atom_id g.S.LinkStore.mem_id (g.S.LinkStore.heap c.args.store.now) c.args.set.now (drop c.args.at c.args.code.now) c.args.place (Some c.in-Some.membrane) only) searched)
 
 pub search_home-returns-else-search-clause-searched : goal.search_home-returns-else-search-clause-searched
 search_home-returns-else-search-clause-searched g t c =
     let more = one_membrane_more c.args.set.now c.args.set.now c.in-Some.membrane c.push.new.self refl c.push.ensures in
     let only = subst (λ o. OnlyOne g.S.LinkStore.atom_id g.S.LinkStore.mem_id (g.S.LinkStore.heap c.args.store.now) c.args.set.now (drop c.args.at c.args.code.now) o) c.in-Some.is
     (only_home g.S.LinkStore.atom_id g.S.LinkStore.mem_id (g.S.LinkStore.heap c.args.store.now) c.args.set.now (drop c.args.at c.args.code.now) (drop (c.args.at + 1) c.args.code.now) c.requires.at.0 c.args.place (g.S.LinkStore.atom_id c.args.guest) c.home_within.result (drop_get c.args.at c.args.code.now (AnyMem (length c.args.set.now.membranes) c.requires.at.0) c.requires.at.1) c.requires.at.2 c.requires.guest c.home_within.ensures.only) in
-    let searched = subst (λ k. Searched g.S.LinkStore.atom_id g.S.LinkStore.mem_id (g.S.LinkStore.heap c.args.store.now) k c.search.new.set false (drop (c.args.at + 1) c.args.code.now)) more (subst (λ b. Searched g.S.LinkStore.atom_id g.S.LinkStore.mem_id (g.S.LinkStore.heap c.args.store.now) (having_membranes c.args.set.now c.push.new.self) c.search.new.set b (drop (c.args.at + 1) c.args.code.now)) c.if-search.false c.search.ensures.searched) in
+    let searched = λ (l : 0 < c.search.new.patience.left). subst (λ k. Searched g.S.LinkStore.atom_id g.S.LinkStore.mem_id (g.S.LinkStore.heap c.args.store.now) k c.search.new.set false (drop (c.args.at + 1) c.args.code.now)) more (subst (λ b. Searched g.S.LinkStore.atom_id g.S.LinkStore.mem_id (g.S.LinkStore.heap c.args.store.now) (having_membranes c.args.set.now c.push.new.self) c.search.new.set b (drop (c.args.at + 1) c.args.code.now)) c.if-search.false (c.search.ensures.searched.searched l)) in
     let taken = taken_back c.args.set.now c.search.new.set c.keep.new.self c.len-atoms.result c.len-membranes.result c.len-parts.result c.len-integers.result c.len-atoms.ensures c.len-membranes.ensures c.len-parts.ensures c.len-integers.ensures
-    (extends_on g.S.LinkStore.atom_id g.S.LinkStore.mem_id (g.S.LinkStore.heap c.args.store.now) c.args.set.now (with_membrane c.args.set.now c.in-Some.membrane) c.search.new.set (extends_membrane g.S.LinkStore.atom_id g.S.LinkStore.mem_id (g.S.LinkStore.heap c.args.store.now) c.args.set.now c.in-Some.membrane) searched.extends) c.keep.ensures in
-    subst (λ k. Searched g.S.LinkStore.atom_id g.S.LinkStore.mem_id (g.S.LinkStore.heap c.args.store.now) c.args.set.now k false (drop c.args.at c.args.code.now)) (sym taken) (only_fails g.S.LinkStore.atom_id g.S.LinkStore.mem_id (g.S.LinkStore.heap c.args.store.now) c.args.set.now c.search.new.set (drop c.args.at c.args.code.now) (drop (c.args.at + 1) c.args.code.now) c.requires.at.0 c.in-Some.membrane (drop_get c.args.at c.args.code.now (AnyMem (length c.args.set.now.membranes) c.requires.at.0) c.requires.at.1) c.requires.held only searched)
+    (extends_on g.S.LinkStore.atom_id g.S.LinkStore.mem_id (g.S.LinkStore.heap c.args.store.now) c.args.set.now (with_membrane c.args.set.now c.in-Some.membrane) c.search.new.set (extends_membrane g.S.LinkStore.atom_id g.S.LinkStore.mem_id (g.S.LinkStore.heap c.args.store.now) c.args.set.now c.in-Some.membrane) (subst (λ k. Extends k c.search.new.set) more c.search.ensures.searched.extends)) c.keep.ensures in
+    subst (λ k. Lasted c.search.new.patience.left g.S.LinkStore.atom_id g.S.LinkStore.mem_id (g.S.LinkStore.heap c.args.store.now) c.args.set.now k false (drop c.args.at c.args.code.now)) (sym taken) (lasted_by g.S.LinkStore.atom_id g.S.LinkStore.mem_id (g.S.LinkStore.heap c.args.store.now) c.search.new.patience.left c.args.set.now c.args.set.now (drop c.args.at c.args.code.now) c.requires.held (extends_itself g.S.LinkStore.atom_id g.S.LinkStore.mem_id (g.S.LinkStore.heap c.args.store.now) c.args.set.now) (λ l. only_fails g.S.LinkStore.atom_id g.S.LinkStore.mem_id (g.S.LinkStore.heap c.args.store.now) c.args.set.now c.search.new.set (drop c.args.at c.args.code.now) (drop (c.args.at + 1) c.args.code.now) c.requires.at.0 c.in-Some.membrane (drop_get c.args.at c.args.code.now (AnyMem (length c.args.set.now.membranes) c.requires.at.0) c.requires.at.1) c.requires.held only (searched l)))
 
 pub search_home-returns-in-None-clause-searched : goal.search_home-returns-in-None-clause-searched
 search_home-returns-in-None-clause-searched g t c =
     let only = subst (λ o. OnlyOne g.S.LinkStore.atom_id g.S.LinkStore.mem_id (g.S.LinkStore.heap c.args.store.now) c.args.set.now (drop c.args.at c.args.code.now) o) c.in-None.is
     (only_home g.S.LinkStore.atom_id g.S.LinkStore.mem_id (g.S.LinkStore.heap c.args.store.now) c.args.set.now (drop c.args.at c.args.code.now) (drop (c.args.at + 1) c.args.code.now) c.requires.at.0 c.args.place (g.S.LinkStore.atom_id c.args.guest) c.home_within.result (drop_get c.args.at c.args.code.now (AnyMem (length c.args.set.now.membranes) c.requires.at.0) c.requires.at.1) c.requires.at.2 c.requires.guest c.home_within.ensures.only) in
-    membranes_none g.S.LinkStore.atom_id g.S.LinkStore.mem_id (g.S.LinkStore.heap c.args.store.now) c.args.set.now (drop c.args.at c.args.code.now) c.args.place c.requires.held (only_left g.S.LinkStore.atom_id g.S.LinkStore.mem_id (g.S.LinkStore.heap c.args.store.now) c.args.set.now (drop c.args.at c.args.code.now) c.args.place None only)
+    lasted g.S.LinkStore.atom_id g.S.LinkStore.mem_id (g.S.LinkStore.heap c.args.store.now) _ _ _ _ _ (membranes_none g.S.LinkStore.atom_id g.S.LinkStore.mem_id (g.S.LinkStore.heap c.args.store.now) c.args.set.now (drop c.args.at c.args.code.now) c.args.place c.requires.held (only_left g.S.LinkStore.atom_id g.S.LinkStore.mem_id (g.S.LinkStore.heap c.args.store.now) c.args.set.now (drop c.args.at c.args.code.now) c.args.place None only))
 
 pub search_membranes-loop-candidate-init : goal.search_membranes-loop-candidate-init
 search_membranes-loop-candidate-init g t c =
@@ -435,7 +444,7 @@ search_membranes-loop-candidate-preserved g t c =
     let more = one_membrane_more c.args.set.now c.loop-candidate.set c.in-Some.membrane c.push.new.self c.loop-candidate.invariant.set c.push.ensures in
     let left = subst (λ o. MembranesLeft g.S.LinkStore.atom_id g.S.LinkStore.mem_id (g.S.LinkStore.heap c.args.store.now) c.args.set.now (drop c.args.at c.args.code.now) c.args.place o) c.in-Some.is c.loop-candidate.invariant.left in
     let searched = subst (λ k. Searched g.S.LinkStore.atom_id g.S.LinkStore.mem_id (g.S.LinkStore.heap c.args.store.now) k c.search.new.set false (drop (c.args.at + 1) c.args.code.now)) more (subst (λ b. Searched g.S.LinkStore.atom_id g.S.LinkStore.mem_id (g.S.LinkStore.heap c.args.store.now) (having_membranes c.loop-candidate.set c.push.new.self) c.search.new.set b (drop (c.args.at + 1) c.args.code.now)) c.if-search.false
-    (subst (λ h. Searched g.S.LinkStore.atom_id g.S.LinkStore.mem_id h (having_membranes c.loop-candidate.set c.push.new.self) c.search.new.set c.search.result (drop (c.args.at + 1) c.args.code.now)) c.loop-candidate.invariant.same c.search.ensures.searched)) in
+    (subst (λ h. Searched g.S.LinkStore.atom_id g.S.LinkStore.mem_id h (having_membranes c.loop-candidate.set c.push.new.self) c.search.new.set c.search.result (drop (c.args.at + 1) c.args.code.now)) c.loop-candidate.invariant.same (c.search.ensures.searched.searched (c.lasts.ensures.some c.if-not-lasts.false)))) in
     let fit = subst (λ h. MembranesFit g.S.LinkStore.mem_id h c.asked-asked.result (g.S.LinkStore.mem_id c.args.place) c.next_mem-next.result c.fitting_membrane-candidate-in-Some.result) same c.fitting_membrane-candidate-in-Some.ensures.left in
     record {
       same = same;
@@ -492,15 +501,22 @@ search_membranes-returns-then-search-clause-searched g t c =
     let more = one_membrane_more c.args.set.now c.loop-candidate.set c.in-Some.membrane c.push.new.self c.loop-candidate.invariant.set c.push.ensures in
     let code = drop_get c.args.at c.args.code.now (AnyMem (length c.args.set.now.membranes) c.requires.at.0) c.requires.at.1 in
     let left = subst (λ o. MembranesLeft g.S.LinkStore.atom_id g.S.LinkStore.mem_id (g.S.LinkStore.heap c.args.store.now) c.args.set.now (drop c.args.at c.args.code.now) c.args.place o) c.in-Some.is c.loop-candidate.invariant.left in
-    membranes_found g.S.LinkStore.atom_id g.S.LinkStore.mem_id (g.S.LinkStore.heap c.args.store.now) c.args.set.now c.search.new.set (drop c.args.at c.args.code.now) (drop (c.args.at + 1) c.args.code.now) c.requires.at.0 c.args.place c.in-Some.membrane code c.requires.at.2
+    lasted g.S.LinkStore.atom_id g.S.LinkStore.mem_id (g.S.LinkStore.heap c.args.store.now) _ _ _ _ _ (membranes_found g.S.LinkStore.atom_id g.S.LinkStore.mem_id (g.S.LinkStore.heap c.args.store.now) c.args.set.now c.search.new.set (drop c.args.at c.args.code.now) (drop (c.args.at + 1) c.args.code.now) c.requires.at.0 c.args.place c.in-Some.membrane code c.requires.at.2
     c.root-root.ensures.sound.listed there left
     (subst (λ k. Searched g.S.LinkStore.atom_id g.S.LinkStore.mem_id (g.S.LinkStore.heap c.args.store.now) k c.search.new.set true (drop (c.args.at + 1) c.args.code.now)) more (subst (λ b. Searched g.S.LinkStore.atom_id g.S.LinkStore.mem_id (g.S.LinkStore.heap c.args.store.now) (having_membranes c.loop-candidate.set c.push.new.self) c.search.new.set b (drop (c.args.at + 1) c.args.code.now)) c.if-search.true
-    (subst (λ h. Searched g.S.LinkStore.atom_id g.S.LinkStore.mem_id h (having_membranes c.loop-candidate.set c.push.new.self) c.search.new.set c.search.result (drop (c.args.at + 1) c.args.code.now)) c.loop-candidate.invariant.same c.search.ensures.searched)))
+    (subst (λ h. Searched g.S.LinkStore.atom_id g.S.LinkStore.mem_id h (having_membranes c.loop-candidate.set c.push.new.self) c.search.new.set c.search.result (drop (c.args.at + 1) c.args.code.now)) c.loop-candidate.invariant.same (c.search.ensures.searched.found c.if-search.true)))))
+
+pub search_membranes-returns-then-not-lasts-clause-searched : goal.search_membranes-returns-then-not-lasts-clause-searched
+search_membranes-returns-then-not-lasts-clause-searched g t c =
+    let more = one_membrane_more c.args.set.now c.loop-candidate.set c.in-Some.membrane c.push.new.self c.loop-candidate.invariant.set c.push.ensures in
+    given_up g.S.LinkStore.atom_id g.S.LinkStore.mem_id (g.S.LinkStore.heap c.args.store.now) c.lasts.new.self.left c.args.set.now c.search.new.set (drop c.args.at c.args.code.now) (c.lasts.ensures.gone c.if-not-lasts.true)
+    (subst (λ h. AreHeldWhole g.S.LinkStore.atom_id g.S.LinkStore.mem_id h c.search.new.set) c.loop-candidate.invariant.same c.search.ensures.searched.held)
+    (extends_on g.S.LinkStore.atom_id g.S.LinkStore.mem_id (g.S.LinkStore.heap c.args.store.now) c.args.set.now (with_membrane c.args.set.now c.in-Some.membrane) c.search.new.set (extends_membrane g.S.LinkStore.atom_id g.S.LinkStore.mem_id (g.S.LinkStore.heap c.args.store.now) c.args.set.now c.in-Some.membrane) (subst (λ k. Extends k c.search.new.set) more c.search.ensures.searched.extends))
 
 pub search_membranes-returns-clause-searched : goal.search_membranes-returns-clause-searched
 search_membranes-returns-clause-searched g t c =
     let left = subst (λ o. MembranesLeft g.S.LinkStore.atom_id g.S.LinkStore.mem_id (g.S.LinkStore.heap c.args.store.now) c.args.set.now (drop c.args.at c.args.code.now) c.args.place o) (none_is c.loop-candidate.candidate c.in_default.not-Some) c.loop-candidate.invariant.left in
-    subst (λ k. Searched g.S.LinkStore.atom_id g.S.LinkStore.mem_id (g.S.LinkStore.heap c.args.store.now) c.args.set.now k false (drop c.args.at c.args.code.now)) (sym c.loop-candidate.invariant.set) (membranes_none g.S.LinkStore.atom_id g.S.LinkStore.mem_id (g.S.LinkStore.heap c.args.store.now) c.args.set.now (drop c.args.at c.args.code.now) c.args.place c.requires.held left)
+    lasted g.S.LinkStore.atom_id g.S.LinkStore.mem_id (g.S.LinkStore.heap c.args.store.now) _ _ _ _ _ (subst (λ k. Searched g.S.LinkStore.atom_id g.S.LinkStore.mem_id (g.S.LinkStore.heap c.args.store.now) c.args.set.now k false (drop c.args.at c.args.code.now)) (sym c.loop-candidate.invariant.set) (membranes_none g.S.LinkStore.atom_id g.S.LinkStore.mem_id (g.S.LinkStore.heap c.args.store.now) c.args.set.now (drop c.args.at c.args.code.now) c.args.place c.requires.held left))
 
 pub search-step-requires : goal.search-step-requires
 search-step-requires g t c =
