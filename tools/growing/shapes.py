@@ -57,6 +57,11 @@ def listed(n):
     return 'l(X0). ' + clauses("'.'(%d,X%d,X%d)" % (i, i + 1, i) for i in range(n)) + " '[]'(X%d)." % n
 
 
+def pairs(n):
+    """Linked pairs, no two of which are joined."""
+    return ','.join('a(X%d),b(X%d)' % (i, i) for i in range(n))
+
+
 def ring(form, n):
     return clauses(form.format(i, (i + 1) % n) for i in range(n))
 
@@ -211,12 +216,12 @@ FIRED = [
     Shape('a merge in front', 200, merging('acc', 'b{}', '$q,$p')),
     Shape('an integer of the head beside integers', 500, lambda n: each('{}', n) + '-7:-r. ' + COUNT.format(n)),
     Shape('a linked integer of the head beside integers', 500, lambda n: each('p({})', n) + '-7(X),q(X):-r. ' + COUNT.format(n)),
-    Shape('items that have nothing to do with what fails', 10, lambda n: items('a', n) + ',b(X),d(X),c(Y),e(Y). a,a,a,b(X),c(X):-z.'),
-    Shape('pairs that have nothing to do with what fails', 10, lambda n: ','.join('a(X%d),b(X%d)' % (i, i) for i in range(n)) + ',c(Y),d(Y),e(Z),f(Z). a(X),b(X),a(Y),b(Y),a(Z),b(Z),c(W),e(W):-z.'),
-    Shape('a condition on the first of two atoms', 50, lambda n: each('p({})', n) + 'p($x),p($y):-$x<0,int($y)|.'),
-    Shape('a condition on the first of three atoms', 20, lambda n: each('p({})', n) + 'p($x),p($y),p($z):-$x<0,int($y),int($z)|.'),
-    Shape('a closed rest before a condition', 100, lambda n: '{%s}. {x($n),$p[]}:-$n<0|.' % items('x({})', n)),
-    Shape('a ground part before a condition', 50, lambda n: each('p({})', n) + listed(n).replace('l(', 'g(') + 'p($x),g($l):-$x<0,ground($l)|.'),
+    Shape('items that have nothing to do with what fails', 125, lambda n: items('a', n) + ',b(X),d(X),c(Y),e(Y). a,a,a,a,a,a,a,a,b(X),c(X):-z.'),
+    Shape('pairs that have nothing to do with what fails', 125, lambda n: pairs(n) + ',c(Y),d(Y),e(Z),f(Z). ' + pairs(8) + ',c(W),e(W):-z.'),
+    Shape('a condition on the first of two atoms', 2000, lambda n: each('p({})', n) + 'p($x),p($y):-$x<0,int($y)|.'),
+    Shape('a condition on the first of three atoms', 2000, lambda n: each('p({})', n) + 'p($x),p($y),p($z):-$x<0,int($y),int($z)|.'),
+    Shape('a closed rest before a condition', 500, lambda n: '{%s}. {x($n),$p[]}:-$n<0|.' % items('x({})', n)),
+    Shape('a ground part before a condition', 500, lambda n: each('p({})', n) + listed(n).replace('l(', 'g(') + 'p($x),g($l):-$x<0,ground($l)|.'),
 ]
 
 ASKED = [
