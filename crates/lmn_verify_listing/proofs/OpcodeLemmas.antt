@@ -1,11 +1,10 @@
 -- What the tables of names and operands say, name by name.
-use Rattle.std.proofs.Common.{◌≡◌, ◌==◌, Bool, true, false, not, refl, sym, ap, ◌∙◌, true≢false}
+use Rattle.std.proofs.Common.{◌≡◌, ◌==◌, Bool, true, false, not, List, [], ◌∷◌, refl, sym, ap, ◌∙◌, true≢false}
 use Rattle.std.specs.Prelude.{Option, Some, None, bytes_eq}
 use Rattle.std.specs.List.{list_all, find}
 use Rattle.std.proofs.lemmas.Option.{same_Some}
 use Rattle.lmn_instr_code.specs.declared.opcode.Opcode.{Opcode}
 use Rattle.lmn_instr_code.specs.declared.opcode.Opcode.TheVariants as opcode
-use Rattle.lmn_instr_code.specs.declared.opcode.TheConstants.{OPCODES}
 use Rattle.lmn_instr_code.specs.declared.opcode.Kind.{Kind}
 use Rattle.lmn_instr_code.specs.declared.opcode.Kind.TheVariants as kind
 use Rattle.lmn_instr_code.specs.declared.opcode.Form.{Form}
@@ -122,8 +121,18 @@ functor_ends opcode.Relink = record { first = refl; second = λ e. absurd (true�
 functor_ends opcode.Unify = record { first = refl; second = λ e. absurd (true≢false (sym e)); third = λ e. absurd (true≢false (sym e)) }
 functor_ends opcode.Proceed = record { first = refl; second = λ e. absurd (true≢false (sym e)); third = λ e. absurd (true≢false (sym e)) }
 
+-- all instructions
+abbrev all_opcodes : List Opcode
+all_opcodes =
+    opcode.FindAtom ∷ opcode.Deref ∷ opcode.Func ∷ opcode.InMem ∷ opcode.NeqAtom ∷ opcode.Joined ∷ opcode.NotIn ∷ opcode.AnyMem ∷ opcode.NeqMem
+    ∷ opcode.IsInt ∷ opcode.IsUnary ∷ opcode.IsGround ∷ opcode.NAtoms ∷ opcode.NMems ∷ opcode.NoRules ∷ opcode.IsClosed ∷ opcode.EqGround
+    ∷ opcode.NeqGround ∷ opcode.GetInt ∷ opcode.Const ∷ opcode.Add ∷ opcode.Sub ∷ opcode.Mul ∷ opcode.Div ∷ opcode.Mod ∷ opcode.Lt ∷ opcode.Le
+    ∷ opcode.Gt ∷ opcode.Ge ∷ opcode.Eq ∷ opcode.Ne ∷ opcode.Commit ∷ opcode.RemoveAtom ∷ opcode.RemovePart ∷ opcode.RemoveMem ∷ opcode.NewAtom
+    ∷ opcode.NewInt ∷ opcode.NewMem ∷ opcode.CopyGround ∷ opcode.MoveCells ∷ opcode.CopyCells ∷ opcode.LoadRule ∷ opcode.CopyRules ∷ opcode.DropCells
+    ∷ opcode.NewLink ∷ opcode.Relink ∷ opcode.Unify ∷ opcode.Proceed ∷ []
+
 -- a name is that of one instruction alone
-found : (op : Opcode) → find (λ p. bytes_eq (opcode_name p) (opcode_name op)) OPCODES ≡ Some op
+found : (op : Opcode) → find (λ p. bytes_eq (opcode_name p) (opcode_name op)) all_opcodes ≡ Some op
 found opcode.FindAtom = refl
 found opcode.Deref = refl
 found opcode.Func = refl
@@ -174,4 +183,4 @@ found opcode.Unify = refl
 found opcode.Proceed = refl
 
 pub one_name : (a b : Opcode) → opcode_name a ≡ opcode_name b → a ≡ b
-one_name a b e = same_Some a b (sym (found a) ∙ ap (λ n. find (λ p. bytes_eq (opcode_name p) n) OPCODES) e ∙ found b)
+one_name a b e = same_Some a b (sym (found a) ∙ ap (λ n. find (λ p. bytes_eq (opcode_name p) n) all_opcodes) e ∙ found b)
