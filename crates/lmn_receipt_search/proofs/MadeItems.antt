@@ -22,8 +22,6 @@ use Rattle.lmn_solid_tables.specs.declared.flat.Flat.{Flat}
 use Rattle.lmn_solid_firing.specs.Making.{HasAtoms, IsReadyFor, LeftForms, LevelMade, context_atoms, context_membranes, context_next, context_writing, contexts_next, fired_region, fired_regions, home_region, leaf_atoms, leaf_next, leaves_atoms, leaves_next, left_of, level_made, level_step, made_membranes, after_membranes, raws_append, raws_at, rules_named, typed_atoms, written, written_atoms}
 use Rattle.lmn_solid_firing.specs.declared.match_.Match.{Match}
 use Rattle.lmn_solid_firing.specs.declared.match_.Part.{Part}
-use Rattle.lmn_solid_firing.specs.declared.writing.Writing.{Writing}
-use Rattle.lmn_solid_firing.specs.declared.writing.Writing.TheVariants.{Rooted, Shifted}
 use Rattle.lmn_solid_firing.proofs.Laying.{in_left_of, named_there}
 use Rattle.lmn_solid_firing.proofs.Wholes.{atoms_there}
 use Rattle.lmn_receipt_search.proofs.Sizing.{formed, items_append, one_more}
@@ -81,8 +79,8 @@ module _ (flat : Flat) (valid : Valid (heap_of flat)) where
   h = heap_of flat
 
   -- atoms that are there, written
-  written_many : (w : Writing) (xs : List ℕ) → ((a : ℕ) → In a xs → IsAtom h a) → length (written_atoms flat w xs) ≡ length xs
-  written_many w xs there = length-map (solid_atoms_at h (link_at flat) xs) (settled_atom (written w)) ∙ all_there xs there
+  written_many : (f : ℕ → ℕ) (xs : List ℕ) → ((a : ℕ) → In a xs → IsAtom h a) → length (map (settled_atom f) (solid_atoms_at h (link_at flat) xs)) ≡ length xs
+  written_many f xs there = length-map (solid_atoms_at h (link_at flat) xs) (settled_atom f) ∙ all_there xs there
     where
       one : (x : ℕ) (o : Option HeapAtom) → IsSome o → length (solid_atom_at (link_at flat) x o) ≡ 1
       one x None i = absurd (cc)
@@ -98,24 +96,24 @@ module _ (flat : Flat) (valid : Valid (heap_of flat)) where
 
   -- ---- membranes with what stands in them
 
-  forest_items : (w : Writing) (f : Forest) → raw_items_in (raws_at flat w f) ≡ item_count_in h (members f)
-  forest_items w bare = refl
-  forest_items w (mem m inner rest) = omega (
+  forest_items : (b : Bool) (n : ℕ) (f : Forest) → raw_items_in (raws_at flat (context_writing b n) f) ≡ item_count_in h (members f)
+  forest_items b n bare = refl
+  forest_items b n (mem m inner rest) = omega (
     arith,
     one_more h m (members inner ++ members rest),
     items_append h (members inner) (members rest),
-    forest_items w inner,
-    forest_items w rest,
-    written_many w (atoms_in h m) (λ a i. atoms_there h valid m a i),
+    forest_items b n inner,
+    forest_items b n rest,
+    written_many (written (context_writing b n)) (atoms_in h m) (λ a i. atoms_there h valid m a i),
   )
 
   module _ (t : Match) (left : ℕ → Forest) (forms : LeftForms flat t left) (ready : IsReadyFor flat t) (root : IsMem h 0) (sizes : List ℕ) (are : AreSizes h sizes) where
-    context_made : (w : Writing) (x : ℕ) → IsMem h x → context_size h sizes t x ≤ length (written_atoms flat w (left_of t.atoms (atoms_in h x))) + raw_items_in (raws_at flat w (left x))
-    context_made w x there =
+    context_made : (closed : Bool) (n x : ℕ) → IsMem h x → context_size h sizes t x ≤ length (written_atoms flat (context_writing closed n) (left_of t.atoms (atoms_in h x))) + raw_items_in (raws_at flat (context_writing closed n) (left x))
+    context_made closed n x there =
         let a = left_numbers t.atoms (atoms_in h x) in
-        let b = written_many w (left_of t.atoms (atoms_in h x)) (λ a i. atoms_there h valid x a (in_left_of t.atoms (atoms_in h x) a i)) in
+        let b = written_many (written (context_writing closed n)) (left_of t.atoms (atoms_in h x)) (λ a i. atoms_there h valid x a (in_left_of t.atoms (atoms_in h x) a i)) in
         let c = formed h sizes are t.membranes (mems_in h x) (left x) (forms x there) in
-        let d = forest_items w (left x) in
+        let d = forest_items closed n (left x) in
         omega (arith, a, b, c, d)
 
     contexts_made : (us : List CtxUse) (next start : ℕ) → contexts_size h sizes t us ≤ length (context_atoms flat t next us) + raw_items_in (context_membranes flat t left start us)
@@ -125,11 +123,11 @@ module _ (flat : Flat) (valid : Valid (heap_of flat)) where
         let v = context_writing u.closed next in
         let w = context_writing u.closed start in
         let there = named_there h root t.contexts ready.contexts u.name in
-        let a = context_made v x there in
+        let a = context_made u.closed next x there in
         let rest = contexts_made us (context_next t.links u.closed next) (context_next t.links u.closed start) in
         let atoms = length-append (written_atoms flat v (left_of t.atoms (atoms_in h x))) (context_atoms flat t (context_next t.links u.closed next) us) in
         let membranes = append_items (raws_at flat w (left x)) (context_membranes flat t left (context_next t.links u.closed start) us) in
-        omega (arith, a, rest, atoms, membranes, forest_items v (left x), forest_items w (left x))
+        omega (arith, a, rest, atoms, membranes, forest_items u.closed next (left x), forest_items u.closed start (left x))
 
     rules_made : (us : List CtxUse) → rules_size h t us ≡ length (rules_named flat t us)
     rules_made [] = refl
@@ -140,8 +138,8 @@ module _ (flat : Flat) (valid : Valid (heap_of flat)) where
     part_made (p ∷ ps) there name link next = by (p.name == name) (part_made ps there.1 name link next)
       where
         by : (b : Bool) → part_size ps name ≤ length (typed_atoms flat ps t.integers name link next)
-            → (if b then length p.atoms else part_size ps name) ≤ length (if b then written_atoms flat (Rooted p.link link next) p.atoms else typed_atoms flat ps t.integers name link next)
-        by true e = let many = written_many (Rooted p.link link next) p.atoms there.0 in omega (arith, many)
+            → (if b then length p.atoms else part_size ps name) ≤ length (if b then map (settled_atom (λ y. if y == p.link then link else next + y)) (solid_atoms_at h (link_at flat) p.atoms) else typed_atoms flat ps t.integers name link next)
+        by true e = let many = written_many (λ y. if y == p.link then link else next + y) p.atoms there.0 in omega (arith, many)
         by false e = e
 
     leaves_made : (ls : List Leaf) (next : ℕ) → leaves_size t ls ≤ length (leaves_atoms flat t next ls)
@@ -209,13 +207,13 @@ module _ (flat : Flat) (valid : Valid (heap_of flat)) where
 
     pub home_counted : (b : LevelMade) (next k : ℕ) → LevelCounted b k → k ≤ raw_items (home b next)
     home_counted b next k u =
-        let kept = written_atoms flat (Shifted 0) (left_of t.atoms (atoms_in h t.home)) in
+        let kept = written_atoms flat (context_writing false 0) (left_of t.atoms (atoms_in h t.home)) in
         omega (
           arith,
           u.all next,
           length-append kept (b.atoms next),
           length-append (rules_in h t.home) b.rules,
-          append_items (raws_at flat (Shifted 0) (left t.home)) (b.membranes (b.start next) (b.own next)),
+          append_items (raws_at flat (context_writing false 0) (left t.home)) (b.membranes (b.start next) (b.own next)),
         )
 
     one_fired : (made : RawRegion) (m : ℕ) (inner : Forest) → In t.home (m ∷ members inner) → (In t.home (members inner) → raw_items made ≤ raw_items_in (fired_regions flat t.home made inner))
@@ -223,7 +221,7 @@ module _ (flat : Flat) (valid : Valid (heap_of flat)) where
     one_fired made m inner i in_it = by (m == t.home) refl (λ e. elim i [ inl here ↦ absurd (unequal_when m t.home e here) | inr within ↦ in_it within ])
       where
         by : (b : Bool) → (m == t.home) ≡ b → ((m == t.home) ≡ false → raw_items made ≤ raw_items_in (fired_regions flat t.home made inner))
-            → raw_items made ≤ raw_items (if b then made else raw (written_atoms flat (Shifted 0) (atoms_in h m)) (fired_regions flat t.home made inner) (rules_in h m))
+            → raw_items made ≤ raw_items (if b then made else raw (written_atoms flat (context_writing false 0) (atoms_in h m)) (fired_regions flat t.home made inner) (rules_in h m))
         by true e f = omega arith
         by false e f = omega (arith, f e)
 
