@@ -123,11 +123,20 @@ pub fn next_of(
     let plans = plans_of(alloc, plain.rules.as_slice())?;
     let next = next_from(alloc, solid, plain, plans.as_slice(), from, u64::MAX)?;
     match next {
-        Some(found) => match found.solid {
-            Some(next) => Ok(Some(next)),
-            // More items than there are numbers.
-            None => Err(NoMemory),
-        },
+        Some(found) => {
+            let made = made_of(found.solid)?;
+            Ok(Some(made))
+        }
         None => Ok(None),
+    }
+}
+
+/// The solid, where it was made. One that wasn't has more items than there are numbers.
+fn made_of(solid: Option<Solid>) -> Result<Solid, NoMemory>
+    ensures { IfOk result (λ made. solid ≡ Some made) }
+{
+    match solid {
+        Some(made) => Ok(made),
+        None => Err(NoMemory),
     }
 }
