@@ -170,4 +170,4 @@ too_large_ended w text names plain plans k a well closed causes told count read_
     let large = causes s.0 s.1 in
     let more : w.size < item_count_of_region (solid_of names plain s.0) = omega (arith, large.0, items_kept names plain.rules s.0) in
     let is_large : IsTooLarge (Some w.size) names plain = (solid_of names plain s.0, solids_of_plains names plain s.0 well s.1, more) in
-    record { cause = (too_large names plain plans a is_large refl, refl); output = refl; counts = no_put count }
+    record { cause = record { text = text; is_told = refl; refused = too_large names plain plans a is_large refl; code = refl }; output = refl; counts = no_put count }

@@ -30,14 +30,14 @@ returns-in-Ok-write_checked g c = λ program a.
     c.chains_are_commits.ensures.all c.chains_are_commits.ensures.each c.in-Ok.commits of.2 in
     checked_ended program c.args.trace.now _ _ _ _ _ c.in-Ok.commits checked c.in-Ok-write_checked.ensures
 
-pub returns-in-Err-write_checked : goal.returns-in-Err-write_checked
-returns-in-Err-write_checked g c = λ program a.
+pub returns-in-Err : goal.returns-in-Err
+returns-in-Err g c = λ program a.
     let read = c.args.accepted.now in
     let names = c.args.names.now in
     let of = c.in-Ok.ensures in
     let checked = chain_found c.accepted_texts.ensures c.plains_are_printable.ensures program names read.plain read.plans a of.0 of.1 _ refl c.args.trace.now c.args.alloc
     c.chains_are_commits.ensures.all c.chains_are_commits.ensures.each c.in-Ok.commits of.2 in
-    checked_part program c.args.trace.now _ _ _ _ _ c.in-Ok.commits checked c.in-Err-write_checked.ensures
+    checked_part program c.args.trace.now _ _ _ _ _ c.in-Ok.commits checked c.in-Err.ensures
 
 pub returns-in-Err-Refused : goal.returns-in-Err-Refused
 returns-in-Err-Refused g c = λ program a.
