@@ -23,6 +23,8 @@ mod OneSessionText
 mod FewAtStart
 mod OneRun
 mod SmallTexts
+mod LinkedLines
+mod SmallListings
 mod SmallBounds
 mod SmallRuns
 mod SmallFolded

@@ -29,3 +29,5 @@ pub mod BoundExamples
 pub mod CheckExamples
 pub mod Calls
 pub mod CallExamples
+pub mod LinkExamples
+pub mod ListingExamples

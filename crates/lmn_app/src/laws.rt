@@ -12,6 +12,8 @@ ghost use Rattle.lmn_app.specs.ExecExamples.{SmallListingIsRead, SmallListingIsW
 ghost use Rattle.lmn_app.specs.ExecLaws.{CompiledIsNotWrong, CompiledRunsAsRun, OneOutput, OneWrongListing, ReadNotRefused, NeitherReadNorRefused};
 ghost use Rattle.lmn_app.specs.Demos.{SomeDemo};
 ghost use Rattle.lmn_app.specs.DemoLaws.{DemoIsFoldedRun};
+ghost use Rattle.lmn_app.specs.LinkExamples.{LinkLeadsThrough};
+ghost use Rattle.lmn_app.specs.ListingExamples.{SmallTextIsListed};
 ghost use Rattle.lmn_app.specs.ListingLaws.{OneListing};
 ghost use Rattle.lmn_app.specs.NameExamples.{SomeNames};
 ghost use Rattle.lmn_app.specs.RunLaws.{EarlierRunFirst, OneRun, OneRunSoFar};
@@ -255,6 +257,16 @@ pub fn small_text_is_executed()
 pub fn quote_is_refused()
     ensures refused { QuoteIsRefused }
     ensures told { QuoteIsToldRefused }
+{}
+
+/// A link leads through a membrane in the line of a process.
+pub fn link_leads_through()
+    ensures { LinkLeadsThrough }
+{}
+
+/// This is the listing of a small text.
+pub fn small_text_is_listed()
+    ensures { SmallTextIsListed }
 {}
 
 /// How no words are answered, how often a file is asked for, what a sink tells of a write, and what it counts of orders.
