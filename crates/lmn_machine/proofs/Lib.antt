@@ -10,6 +10,7 @@ pub mod Trying
 pub mod Standing
 pub mod Restings
 pub mod FromOne
+pub mod EmptyExamples
 pub mod Climbing
 pub mod Giving
 pub mod Lone

@@ -8,6 +8,7 @@ mod choices;
 mod cost;
 mod counting;
 mod enough;
+mod examples;
 mod finding;
 mod hanging;
 mod integers;
@@ -23,4 +24,7 @@ mod steps;
 mod whole;
 
 pub use counting::Steps;
+pub use examples::{
+    copies_are_not_matched, empty_body_is_matched, empty_head_is_found, empty_head_is_there,
+};
 pub use machine::Machine;

@@ -1,0 +1,31 @@
+-- Examples of what the machine asks and answers: of a rule in membrane 0, with handles that are their numbers.
+use Rattle.std.specs.Prelude.{ℕ, true, false, List, [], ◌∷◌}
+use Rattle.lmn_store_heap.specs.Heap.{Heap, IsMem}
+use Rattle.lmn_machine_registers.specs.declared.registers.PartCopy.{PartCopy}
+use Rattle.lmn_machine_registers.specs.declared.registers.SetRegisters.{SetRegisters}
+use Rattle.lmn_machine.specs.Firing.{HoldsMatch}
+use Rattle.lmn_machine.specs.Searching.{Looked}
+
+-- a handle is its number
+abbrev pub number : ℕ → ℕ
+number n = n
+
+-- the membrane of the rule alone is set
+abbrev pub home_set : List (PartCopy ℕ) → SetRegisters ℕ ℕ
+home_set copies = record { atoms = []; membranes = 0 ∷ []; parts = []; integers = []; copies = copies }
+
+-- an empty head is found
+abbrev pub EmptyHeadIsFound : Type 0
+EmptyHeadIsFound = (h : Heap) → IsMem h 0 → Looked number number h [] 0 (home_set []) true
+
+-- that there is none can't be told of it
+abbrev pub EmptyHeadIsThere : Type 0
+EmptyHeadIsThere = (h : Heap) → Looked number number h [] 0 (home_set []) false → ⊥
+
+-- an empty body can be run from there
+abbrev pub EmptyBodyIsMatched : Type 0
+EmptyBodyIsMatched = (h : Heap) → IsMem h 0 → HoldsMatch number number h (home_set []) []
+
+-- but not where a copy is set that no body has made
+abbrev pub CopiesAreNotMatched : Type 0
+CopiesAreNotMatched = (h : Heap) (c : PartCopy ℕ) → HoldsMatch number number h (home_set (c ∷ [])) [] → ⊥
