@@ -1,6 +1,6 @@
 -- Failures that name choices.
-use Rattle.std.proofs.Common.{ℕ, ℤ, zero, suc, ◌≡◌, ◌≢◌, ◌+◌, ◌<◌, ◌≤◌, max, inl, inr, List, [], ◌∷◌, ◌++◌, Option, Some, None, refl, arith, ap, sym, subst, length, ◌∙◌}
-use Rattle.std.specs.Prelude.{Bool, true, false, ◌⊎◌, slice_get}
+use Rattle.std.proofs.Common.{ℕ, ℤ, ◌≡◌, ◌≢◌, ◌+◌, ◌<◌, ◌≤◌, max, inl, inr, List, [], ◌∷◌, Option, Some, None, refl, arith, ap, sym, subst, length, ◌∙◌}
+use Rattle.std.specs.Prelude.{true, slice_get}
 use Rattle.std.specs.Int.{bit_at}
 use Rattle.std.specs.Int.Bits.{bit_or, or_self}
 use Rattle.std.proofs.lemmas.Nat.{or_comm}
@@ -20,10 +20,10 @@ use Rattle.lmn_solid_heads.specs.Guards.{integer_at}
 use Rattle.lmn_solid_heads.specs.Embeddings.{partner, StandsWithin}
 use Rattle.lmn_instr_code.specs.declared.instr.Instr.{Instr}
 use Rattle.lmn_instr_code.specs.declared.instr.Instr.TheVariants.{FindAtom, Deref, Func, InMem, NeqAtom, Joined, NotIn, AnyMem, NeqMem, NMems, NoRules, NAtoms, IsInt, IsUnary, IsGround, EqGround, NeqGround, GetInt, Const, Add, Sub, Mul, Div, Mod, Lt, Le, Gt, Ge, Eq, Ne}
-use Rattle.lmn_instr_code.specs.Running.{HeadRegisters, HeadSize, HasOthers, InstructionHolds, AllHold, atoms_set, membranes_set}
+use Rattle.lmn_instr_code.specs.Running.{HeadRegisters, HeadSize, HasOthers, InstructionHolds, atoms_set, membranes_set}
 use Rattle.lmn_machine_registers.specs.declared.registers.SetRegisters.{SetRegisters}
 use Rattle.lmn_machine_registers.specs.Agreeing.{Agrees}
-use Rattle.lmn_machine.specs.Searching.{AllSet, ChoosesNone, Extends, HeadInOrder, Stepped, parts_set, integers_set}
+use Rattle.lmn_machine.specs.Searching.{AllSet, ChoosesNone, HeadInOrder, Stepped, parts_set, integers_set}
 use Rattle.lmn_machine.specs.Jumping.{Within, AgreesOn, RestsWell, ReadsWithin, on_atom, on_membrane, on_part, on_integer}
 use Rattle.lmn_machine.specs.declared.choices.Choices.{Choices}
 use Rattle.lmn_machine.specs.declared.choices.Choices.TheVariants.{All, These}

@@ -1,25 +1,23 @@
 -- Trying the candidates of a choice, where failures name choices.
-use Rattle.std.proofs.Common.{ℕ, ◌≡◌, ◌<◌, ◌+◌, inl, inr, List, [], ◌∷◌, ◌++◌, Option, Some, None, refl, arith, ap, sym, subst, length, drop, ◌∙◌}
-use Rattle.std.specs.Prelude.{Bool, true, false, is_ok, ◌⊎◌, ◌↔◌, slice_get, Result, Ok, Err}
+use Rattle.std.proofs.Common.{ℕ, ◌≡◌, ◌<◌, ◌+◌, inl, inr, List, ◌∷◌, Option, Some, None, refl, arith, ap, sym, subst, length, drop, ◌∙◌}
+use Rattle.std.specs.Prelude.{Bool, true, false, is_ok, ◌↔◌, slice_get, Result, Ok, Err}
 use Rattle.std.specs.Option.{option_map}
 use Rattle.lmn_base.specs.declared.functor.Functor.{Functor}
 use Rattle.lmn_base.specs.Lists.{In}
 use Rattle.lmn_base.proofs.Lists.{get_either, get_last}
 use Rattle.lmn_store_heap.specs.Lists.{after, from}
-use Rattle.lmn_store_heap.specs.Heap.{Heap, atoms_in, mems_in, functor_of, link_of}
+use Rattle.lmn_store_heap.specs.Heap.{Heap, atoms_in, mems_in, link_of}
 use Rattle.lmn_store_heap.specs.Functors.{with_functor}
 use Rattle.lmn_instr_code.specs.declared.instr.Instr.{Instr}
 use Rattle.lmn_instr_code.specs.declared.instr.Instr.TheVariants.{FindAtom, Deref, InMem, AnyMem}
 use Rattle.lmn_instr_code.specs.declared.instr.AtomPort.{AtomPort}
 use Rattle.lmn_instr_code.specs.Running.{HeadRegisters, HeadSize, AllHold}
 use Rattle.lmn_machine_registers.specs.declared.registers.SetRegisters.{SetRegisters}
-use Rattle.lmn_machine_registers.specs.Agreeing.{Agrees}
 use Rattle.lmn_machine.specs.Searching.{AreHeldWhole, ChoosesNone, Extends, HeadInOrder, Searched, SetsAll, Stepped}
 use Rattle.lmn_machine.specs.Jumping.{AgreesOn, Ended, HangsBy, Lasted, ReadsWithin, Refuted, RestsWell, Within, on_atom, on_membrane, with_atom, with_membrane}
 use Rattle.lmn_machine.specs.declared.choices.Choices.{Choices}
-use Rattle.lmn_machine.specs.declared.choices.Choices.TheVariants.{All}
 use Rattle.lmn_machine.specs.declared.reasons.Reasons.{Reasons}
-use Rattle.lmn_machine.proofs.Stepping.{Passed, ahead_set, extends_itself, extends_on, left_sets, passed_all, passed_search}
+use Rattle.lmn_machine.proofs.Stepping.{Passed, ahead_set, extends_itself, extends_on, left_sets, passed_search}
 use Rattle.lmn_machine.proofs.Calling.{order_first}
 use Rattle.lmn_machine.proofs.Fitting.{hold_behind}
 use Rattle.lmn_machine.proofs.Candidates.{with_functor_in}

@@ -1,7 +1,5 @@
-use Rattle.std.proofs.Common.{subst, sym}
+use Rattle.std.proofs.Common.{subst}
 use Rattle.std.specs.Prelude.{true, false}
-use Rattle.lmn_store_heap.specs.Heap.{IsMem, Unmarked}
-use Rattle.lmn_store_heap.specs.Sound.{Valid}
 use Rattle.lmn_machine.specs.Searching.{Searched}
 use Rattle.lmn_machine.specs.Jumping.{Lasted, only_membrane}
 use Rattle.lmn_machine.proofs.Calling.{one_membrane_more, nothing_set}

@@ -1,5 +1,5 @@
-use Rattle.std.proofs.Common.{rules, ◌≡◌, ◌<◌, ◌≤◌, ◌+◌, length, drop, Some, None, refl, arith, ap, sym, subst, ◌∙◌}
-use Rattle.std.specs.Prelude.{true, false, IfSome, Ok, Err, slice_get}
+use Rattle.std.proofs.Common.{rules, ◌≡◌, ◌<◌, ◌+◌, length, drop, Some, None, refl, arith, ap, sym, subst, ◌∙◌}
+use Rattle.std.specs.Prelude.{true, false, IfSome, Err, slice_get}
 use Rattle.std.specs.Option.{option_map}
 use Rattle.std.proofs.lemmas.Option.{slice_get_within}
 use Rattle.std.proofs.lemmas.List.{length_push}
@@ -10,10 +10,9 @@ use Rattle.lmn_store_heap.specs.Functors.{with_functor}
 use Rattle.lmn_store_heap.specs.Heap.{Heap, functor_of, home_of, parent_of, atoms_in, mems_in, Unmarked}
 use Rattle.lmn_store_heap.specs.Sound.{Valid}
 use Rattle.lmn_instr_code.specs.declared.instr.Instr.TheVariants.{FindAtom, AnyMem}
-use Rattle.lmn_machine_registers.specs.declared.stack.TheConstants.{ROOM}
 use Rattle.lmn_machine.specs.Searching.{AreHeldWhole, HeadInOrder, Searched, Stepped}
 use Rattle.lmn_machine.specs.Jumping.{Ended, HangsBy, Refuted, Within, on_atom, on_membrane, with_atom, with_membrane}
-use Rattle.lmn_machine.proofs.Calling.{read_at, drop_none, order_first, if_both, if_same, none_is, one_more, one_membrane_more, taken_back, having_atoms, having_membranes, next_same, next_mem_same, atom_ahead, membrane_ahead}
+use Rattle.lmn_machine.proofs.Calling.{read_at, drop_none, order_first, if_both, if_same, none_is, one_more, one_membrane_more, taken_back, next_same, next_mem_same, atom_ahead, membrane_ahead}
 use Rattle.lmn_machine.proofs.Choosing.{atom_there, extends_atom, extends_membrane, held_atom, held_membrane, atoms_found, membranes_found}
 use Rattle.lmn_machine.proofs.Fitting.{smaller}
 use Rattle.lmn_machine.proofs.Jumps.{within_itself}
