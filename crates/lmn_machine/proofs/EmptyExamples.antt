@@ -1,7 +1,14 @@
 -- The examples of what the machine asks and answers.
-use Rattle.std.proofs.Common.{pos, refl}
+use Rattle.std.proofs.Common.{ℕ, ◌≡◌, inl, inr, [], pos, refl, sym, subst, ◌∙◌}
+use Rattle.lmn_store_heap.specs.Heap.{Heap, mem_mark_of}
+use Rattle.lmn_store_heap.specs.Conditions.{Above}
+use Rattle.lmn_store_trait.specs.Awake.{awake_mark}
 use Rattle.lmn_instr_code.specs.Running.{HeadRegisters}
-use Rattle.lmn_machine.specs.Examples.{number, EmptyHeadIsFound, EmptyHeadIsThere, EmptyBodyIsMatched, CopiesAreNotMatched}
+use Rattle.lmn_solid_bodies.specs.Running.{Registers}
+use Rattle.lmn_machine_commit.specs.Waking.{Commits, IsAwakeRound, IsRoused}
+use Rattle.lmn_machine_commit.proofs.Rules.{itself}
+use Rattle.lmn_machine_commit.proofs.Rousing.{no_marks}
+use Rattle.lmn_machine.specs.Examples.{number, EmptyHeadIsFound, EmptyHeadIsThere, EmptyBodyIsMatched, EmptyBodyFires, CopiesAreNotMatched}
 use Rattle.lmn_machine.proofs.FromOne.{held_one}
 
 -- an empty head is found
@@ -29,3 +36,27 @@ empty_body_is_matched h there = record { held = held_one number number h 0 there
 -- but not where a copy is set
 pub copies_are_not_matched : CopiesAreNotMatched
 copies_are_not_matched h c t = let e = t.copies in cc
+
+-- an empty body rouses its membrane alone
+only_own : (h : Heap) (r : Registers) (x y j : ℕ) → IsAwakeRound h 0 → r.head.images.membrane 0 ≡ 0 → IsRoused h r [] y → Above h j x y → mem_mark_of h x ≡ awake_mark
+only_own h r x y j awake own (inl e) above = awake x j (subst (λ m. Above h j x m) (e ∙ own) above)
+only_own h r x y j awake own (inr e) above = absurd e
+
+-- nothing is made, and nothing wakes
+pub empty_body_fires : EmptyBodyFires
+empty_body_fires h awake p r agrees copies rests =
+    let same : h ≡ p.before = p.prepared.prepares r agrees copies rests in
+    let round : IsAwakeRound p.before 0 = subst (λ k. IsAwakeRound k 0) same awake in
+    subst (λ k. Commits p.before r [] k) (sym same) (record {
+      prepared = p.before;
+      prepares = refl;
+      makes = (itself p.before p.matched.valid).1;
+      after = p.before;
+      does = refl;
+      alike = no_marks p.before;
+      wakes = record {
+        stood = λ x m. m;
+        woken = λ x y j roused above. only_own p.before r x y j round (agrees.membranes 0 0 refl) roused above;
+        others = λ x m. inl refl;
+      };
+    })

@@ -3,7 +3,8 @@ use Rattle.std.specs.Prelude.{ℕ, true, false, List, [], ◌∷◌}
 use Rattle.lmn_store_heap.specs.Heap.{Heap, IsMem}
 use Rattle.lmn_machine_registers.specs.declared.registers.PartCopy.{PartCopy}
 use Rattle.lmn_machine_registers.specs.declared.registers.SetRegisters.{SetRegisters}
-use Rattle.lmn_machine.specs.Firing.{HoldsMatch}
+use Rattle.lmn_machine_commit.specs.Waking.{IsAwakeRound}
+use Rattle.lmn_machine.specs.Firing.{FiresPrepared, HoldsMatch}
 use Rattle.lmn_machine.specs.Searching.{Looked}
 
 -- a handle is its number
@@ -29,3 +30,7 @@ EmptyBodyIsMatched = (h : Heap) → IsMem h 0 → HoldsMatch number number h (ho
 -- but not where a copy is set that no body has made
 abbrev pub CopiesAreNotMatched : Type 0
 CopiesAreNotMatched = (h : Heap) (c : PartCopy ℕ) → HoldsMatch number number h (home_set (c ∷ [])) [] → ⊥
+
+-- an empty body that was prepared leaves the heap as it is, where its membrane is awake with all that is round it
+abbrev pub EmptyBodyFires : Type 0
+EmptyBodyFires = (h : Heap) → IsAwakeRound h 0 → FiresPrepared number number h (home_set []) [] h

@@ -1,5 +1,5 @@
 //! What the machine asks and answers, by examples.
-ghost use Rattle.lmn_machine.specs.Examples.{CopiesAreNotMatched, EmptyBodyIsMatched, EmptyHeadIsFound, EmptyHeadIsThere};
+ghost use Rattle.lmn_machine.specs.Examples.{CopiesAreNotMatched, EmptyBodyFires, EmptyBodyIsMatched, EmptyHeadIsFound, EmptyHeadIsThere};
 
 /// An empty head is found in a membrane.
 #[tactic(auto, using(crate::proofs::EmptyExamples::empty_head_is_found))]
@@ -23,4 +23,10 @@ pub fn empty_body_is_matched()
 #[tactic(auto, using(crate::proofs::EmptyExamples::copies_are_not_matched))]
 pub fn copies_are_not_matched()
     ensures { CopiesAreNotMatched }
+{}
+
+/// An empty body that was prepared changes nothing in a membrane that is awake.
+#[tactic(auto, using(crate::proofs::EmptyExamples::empty_body_fires))]
+pub fn empty_body_fires()
+    ensures { EmptyBodyFires }
 {}

@@ -25,6 +25,7 @@ mod whole;
 
 pub use counting::Steps;
 pub use examples::{
-    copies_are_not_matched, empty_body_is_matched, empty_head_is_found, empty_head_is_there,
+    copies_are_not_matched, empty_body_fires, empty_body_is_matched, empty_head_is_found,
+    empty_head_is_there,
 };
 pub use machine::Machine;
