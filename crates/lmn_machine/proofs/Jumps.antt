@@ -47,6 +47,11 @@ or_again a b = sym (or_assoc a a b) ∙ ap (λ x. bit_or x b) (or_self a)
 pub or_again_behind : (a b : ℕ) → bit_or b (bit_or a b) ≡ bit_or a b
 or_again_behind a b = ap (λ x. bit_or b x) (or_comm a b) ∙ (or_again b a ∙ or_comm b a)
 
+-- no choice is among any
+pub none_within : (e : Choices) → Within (These 0) e
+none_within All = tt
+none_within (These e) = refl
+
 -- choices are among themselves
 pub within_itself : (e : Choices) → Within e e
 within_itself All = tt

@@ -1,6 +1,7 @@
 //! Sets of choices.
-ghost use Rattle.std.specs.Prelude.{◌≡◌, ◌↔◌, IsTrue};
+ghost use Rattle.std.specs.Prelude.{◌≡◌, ◌↔◌, ◌^◌, min, IsTrue};
 ghost use Rattle.lmn_machine.specs.Jumping.{Within};
+ghost use Rattle.lmn_machine.specs.declared.choices.Choices.TheVariants.{These};
 
 /// Choices of a head: each is a FINDATOM or an ANYMEM.
 #[derive(Clone, Copy)]
@@ -13,12 +14,17 @@ pub enum Choices {
 
 impl Choices {
     /// No choice.
-    pub fn none() -> Choices {
+    #[tactic(auto, using(crate::proofs::Jumps::none_within))]
+    pub fn none() -> Choices
+        ensures { (others : Choices) → Within result others }
+    {
         Choices::These(0)
     }
 
     /// One choice, by its number.
-    pub fn one(number: u32) -> Choices {
+    pub fn one(number: u32) -> Choices
+        ensures { result ≡ These (2 ^ min number 63) }
+    {
         Choices::These(1 << number.min(63))
     }
 

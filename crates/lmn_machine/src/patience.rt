@@ -10,7 +10,9 @@ pub struct Patience {
 impl Patience {
     /// That of each look for a match: it bounds what a search loses that goes through all ways to choose what has nothing to do
     /// with a failure.
-    pub fn new() -> Patience {
+    pub fn new() -> Patience
+        ensures { result.left ≡ 256 }
+    {
         Patience { left: 256 }
     }
 

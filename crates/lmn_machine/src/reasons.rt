@@ -1,5 +1,5 @@
 //! On which choices of a head its registers rest.
-ghost use Rattle.std.specs.Prelude.{◌≡◌, IsTrue, [], slice_get};
+ghost use Rattle.std.specs.Prelude.{◌≡◌, IfOk, IsTrue, [], slice_get};
 ghost use Rattle.lmn_machine.specs.Jumping.{AllRestWell, ReadsWithin, RestsWell, Within, named, on_atom, on_integer, on_membrane, on_part};
 
 use crate::choices::Choices;
@@ -39,7 +39,9 @@ fn note(of: &mut Stack<Choices>, choices: Choices) {
 
 impl Reasons {
     /// Of no register. It takes the memory of all.
-    pub fn new(alloc: Global) -> Result<Reasons, NoMemory> {
+    pub fn new(alloc: Global) -> Result<Reasons, NoMemory>
+        ensures { IfOk result (λ r. r ≡ record { atoms = []; membranes = []; parts = []; integers = [] }) }
+    {
         Ok(Reasons {
             atoms: Stack::new(alloc)?,
             membranes: Stack::new(alloc)?,
