@@ -18,9 +18,34 @@ use lmn_instr_pool::Instrs;
 use lmn_machine_registers::SetRegisters;
 use lmn_store_trait::LinkStore;
 
+/// Runs the whole of code. Where it begins with a FINDATOM, as most heads do, the candidates of this are tried at once: a head
+/// whose first atom is missing is left after one look-up.
+#[inline(always)]
+pub fn begin<S: LinkStore>(
+    store: &mut S,
+    code: &Instrs<'_>,
+    set: &mut SetRegisters<S::Atom, S::Mem>,
+    patience: &mut Patience,
+) -> bool
+    requires valid { Valid (S.heap store.old) }
+    requires unmarked { Unmarked (S.heap store.old) }
+    requires held { AreHeldWhole S.atom_id S.mem_id (S.heap store.old) set.old }
+    requires order { HeadInOrder (length set.old.atoms) (length set.old.membranes) (length set.old.parts) (length set.old.integers) code.now }
+    ensures same { S.heap store.new ≡ S.heap store.old }
+    ensures searched { Lasted patience.new.left S.atom_id S.mem_id (S.heap store.old) set.old set.new result code.now }
+{
+    if code.len() > 0 {
+        let first = code.at(0);
+        if let Instr::FindAtom { .. } = first {
+            return choose_atom(store, code, 0, first, set, patience);
+        }
+    }
+    search(store, code, 0, set, patience)
+}
+
 /// Runs code from an instruction on, and tries the candidates of its first choice in order. Where patience is gone, it gives up.
 #[cycle(search)]
-pub fn search<S: LinkStore>(
+fn search<S: LinkStore>(
     store: &mut S,
     code: &Instrs<'_>,
     at: usize,
