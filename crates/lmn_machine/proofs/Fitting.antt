@@ -17,7 +17,7 @@ use Rattle.lmn_machine.proofs.Candidates.{with_functor_in}
 use Rattle.lmn_machine_registers.specs.declared.registers.SetRegisters.{SetRegisters}
 use Rattle.lmn_machine_registers.specs.Agreeing.{Agrees}
 use Rattle.lmn_machine.specs.Searching.{AreHeldWhole, Searched}
-use Rattle.lmn_machine.specs.Asking.{HoldsAsked, AsksFor, IsGuest}
+use Rattle.lmn_machine.specs.Asking.{AtomsFit, HoldsAsked, AsksFor, IsGuest}
 use Rattle.lmn_machine.proofs.Stepping.{extends_itself}
 use Rattle.lmn_machine.proofs.Choosing.{AtomsLeft, MembranesLeft, agrees_membrane, membrane_more}
 use Rattle.lmn_machine.specs.Jumping.{with_membrane}
@@ -54,12 +54,7 @@ fewer_behind a n o xs e l = let k : length (from o xs) ≡ length (after a xs) =
 pub smaller : (a : ℕ) (o r : Option ℕ) (xs : List ℕ) → from o xs ≡ after a xs → length (from r xs) ≤ length (from o xs) → length (from r xs) < length (from (Some a) xs)
 smaller a o r xs e l = let k : length (from o xs) ≡ length (after a xs) = ap length e in omega (arith, k, l)
 
--- What is left of the atoms from one candidate on is left from another on, whenever the code ahead succeeds.
-abbrev pub AtomsFit : {A M : Type 0} → (A → ℕ) → (M → ℕ) → Heap → SetRegisters A M → List Instr → Functor → ℕ → Option A → Option A → Type 0
-AtomsFit atom membrane h g is f m start r = (c : HeadSize) (s : HeadRegisters) → Agrees atom membrane g s → AllHold h c s is → let all = with_functor h f (atoms_in h m) in
-    In (s.images.atom (length g.atoms)) (from (option_map atom start) all) → In (s.images.atom (length g.atoms)) (from (option_map atom r) all)
-
--- likewise of the membranes, whenever they hold what is asked
+-- What is left of the membranes from one candidate on is left from another on, whenever they hold what is asked.
 abbrev pub MembranesFit : {M : Type 0} → (M → ℕ) → Heap → Option Functor → ℕ → Option M → Option M → Type 0
 MembranesFit membrane h asked m start r = (n : ℕ) → HoldsAsked h asked n → In n (from (option_map membrane start) (mems_in h m)) → In n (from (option_map membrane r) (mems_in h m))
 

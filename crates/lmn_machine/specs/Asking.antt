@@ -1,8 +1,11 @@
--- What the code ahead asks of a candidate.
-use Rattle.std.specs.Prelude.{ℕ, ◌≡◌, ◌≤◌, List, Option, Some, None, slice_get}
+-- What the code ahead asks of a candidate. Contracts of private functions alone cite it.
+use Rattle.std.specs.Prelude.{ℕ, ◌≡◌, ◌≤◌, List, Option, Some, None, IfSome, length, slice_get}
+use Rattle.std.specs.Option.{option_map}
 use Rattle.lmn_base.specs.declared.functor.Functor.{Functor}
 use Rattle.lmn_base.specs.Lists.{In}
-use Rattle.lmn_store_heap.specs.Heap.{Heap, functor_of, atoms_in}
+use Rattle.lmn_store_heap.specs.Lists.{from}
+use Rattle.lmn_store_heap.specs.Heap.{Heap, functor_of, home_of, atoms_in}
+use Rattle.lmn_store_heap.specs.Functors.{with_functor}
 use Rattle.lmn_instr_code.specs.declared.instr.Instr.{Instr}
 use Rattle.lmn_instr_code.specs.declared.instr.Instr.TheVariants.{FindAtom}
 use Rattle.lmn_instr_code.specs.Running.{HeadRegisters, HeadSize, AllHold}
@@ -22,3 +25,16 @@ AsksFor code at register f = (k x : ℕ) × (at ≤ k) × (slice_get code k ≡ 
 -- those that are set.
 abbrev pub IsGuest : {A M : Type 0} → (A → ℕ) → (M → ℕ) → Heap → SetRegisters A M → List Instr → ℕ → ℕ → Type 0
 IsGuest atom membrane h g code register a = (c : HeadSize) (s : HeadRegisters) → Agrees atom membrane g s → AllHold h c s code → In a (atoms_in h (s.images.membrane register))
+
+-- Whenever the code ahead succeeds with one of the atoms from a candidate on, it is one of those from another on.
+abbrev pub AtomsFit : {A M : Type 0} → (A → ℕ) → (M → ℕ) → Heap → SetRegisters A M → List Instr → Functor → ℕ → Option A → Option A → Type 0
+AtomsFit atom membrane h g code f m start r = (c : HeadSize) (s : HeadRegisters) → Agrees atom membrane g s → AllHold h c s code →
+    In (s.images.atom (length g.atoms)) (from (option_map atom start) (with_functor h f (atoms_in h m))) → In (s.images.atom (length g.atoms)) (from (option_map atom r) (with_functor h f (atoms_in h m)))
+
+-- Of the atoms of a membrane with a functor one is the candidate for the next register in place of an earlier one, or none is: those that
+-- are passed can't succeed.
+pub record IsFitting {A M : Type 0} (atom : A → ℕ) (membrane : M → ℕ) (h : Heap) (g : SetRegisters A M) (code : List Instr) (f : Functor) (m : ℕ) (start r : Option A) : Type 0 where
+  pub functor : IfSome r (λ a. functor_of h (atom a) ≡ Some f)
+  pub home : IfSome r (λ a. home_of h (atom a) ≡ Some m)
+  pub further : length (from (option_map atom r) (with_functor h f (atoms_in h m))) ≤ length (from (option_map atom start) (with_functor h f (atoms_in h m)))
+  pub left : AtomsFit atom membrane h g code f m start r

@@ -3,12 +3,11 @@ ghost use Rattle.std.specs.Prelude.{◌≡◌, ◌≤◌, ◌<◌, ◌+◌, ℕ,
 ghost use Rattle.std.specs.Option.{option_map};
 ghost use Rattle.lmn_store_heap.specs.Lists.{from};
 ghost use Rattle.lmn_store_heap.specs.Heap.{IsAtom, IsMem, functor_of, home_of, parent_of, atoms_in, mems_in};
-ghost use Rattle.lmn_store_heap.specs.Functors.{with_functor};
 ghost use Rattle.lmn_instr_code.specs.declared.instr.Instr.TheVariants.{Deref, InMem};
 ghost use Rattle.lmn_instr_code.specs.Running.{HeadRegisters, HeadSize, InstructionHolds, AllHold};
 ghost use Rattle.lmn_machine_registers.specs.Agreeing.{Agrees};
 ghost use Rattle.lmn_machine.specs.Searching.{AreHeldWhole};
-ghost use Rattle.lmn_machine.specs.Asking.{HoldsAsked, AsksFor, IsGuest};
+ghost use Rattle.lmn_machine.specs.Asking.{HoldsAsked, AsksFor, IsFitting, IsGuest};
 ghost use Rattle.lmn_base.specs.Lists.{In};
 
 use crate::checks;
@@ -155,12 +154,7 @@ pub fn fitting_atom<S: LinkStore>(
     requires held { AreHeldWhole S.atom_id S.mem_id (S.heap store.now) set.now }
     requires functor { IfSome start (λ a. functor_of (S.heap store.now) (S.atom_id a) ≡ Some functor) }
     requires home { IfSome start (λ a. home_of (S.heap store.now) (S.atom_id a) ≡ Some (S.mem_id place)) }
-    ensures functor { IfSome result (λ a. functor_of (S.heap store.now) (S.atom_id a) ≡ Some functor) }
-    ensures home { IfSome result (λ a. home_of (S.heap store.now) (S.atom_id a) ≡ Some (S.mem_id place)) }
-    ensures further { let all = with_functor (S.heap store.now) functor (atoms_in (S.heap store.now) (S.mem_id place)) in length (from (option_map S.atom_id result) all) ≤ length (from (option_map S.atom_id start) all) }
-    ensures left { (c : HeadSize) (s : HeadRegisters) → Agrees S.atom_id S.mem_id set.now s → AllHold (S.heap store.now) c s (drop at code.now) →
-        let all = with_functor (S.heap store.now) functor (atoms_in (S.heap store.now) (S.mem_id place)) in
-        In (s.images.atom (length set.now.atoms)) (from (option_map S.atom_id start) all) → In (s.images.atom (length set.now.atoms)) (from (option_map S.atom_id result) all) }
+    ensures { IsFitting S.atom_id S.mem_id (S.heap store.now) set.now (drop at code.now) functor (S.mem_id place) start result }
 {
     let mut candidate = start;
     while let Some(a) = candidate {
@@ -236,12 +230,7 @@ pub fn further_atom<S: LinkStore>(
     requires held { AreHeldWhole S.atom_id S.mem_id (S.heap store.now) set.now }
     requires functor { IfSome start (λ a. functor_of (S.heap store.now) (S.atom_id a) ≡ Some functor) }
     requires home { IfSome start (λ a. home_of (S.heap store.now) (S.atom_id a) ≡ Some (S.mem_id place)) }
-    ensures functor { IfSome result (λ a. functor_of (S.heap store.now) (S.atom_id a) ≡ Some functor) }
-    ensures home { IfSome result (λ a. home_of (S.heap store.now) (S.atom_id a) ≡ Some (S.mem_id place)) }
-    ensures further { let all = with_functor (S.heap store.now) functor (atoms_in (S.heap store.now) (S.mem_id place)) in length (from (option_map S.atom_id result) all) ≤ length (from (option_map S.atom_id start) all) }
-    ensures left { (c : HeadSize) (s : HeadRegisters) → Agrees S.atom_id S.mem_id set.now s → AllHold (S.heap store.now) c s (drop at code.now) →
-        let all = with_functor (S.heap store.now) functor (atoms_in (S.heap store.now) (S.mem_id place)) in
-        In (s.images.atom (length set.now.atoms)) (from (option_map S.atom_id start) all) → In (s.images.atom (length set.now.atoms)) (from (option_map S.atom_id result) all) }
+    ensures { IsFitting S.atom_id S.mem_id (S.heap store.now) set.now (drop at code.now) functor (S.mem_id place) start result }
 {
     if ask && start.is_some() {
         if is_hopeless(store, code, at, set) {

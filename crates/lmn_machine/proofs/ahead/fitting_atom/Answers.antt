@@ -1,23 +1,21 @@
-use Rattle.std.proofs.Common.{◌≡◌, ◌≤◌, Some, length, subst}
+use Rattle.std.proofs.Common.{◌≡◌, ◌≤◌, Some, arith, drop, length, subst}
 use Rattle.std.specs.Prelude.{IfSome}
 use Rattle.std.specs.Option.{option_map}
 use Rattle.lmn_base.specs.Lists.{In}
 use Rattle.lmn_store_heap.specs.Lists.{from}
 use Rattle.lmn_store_heap.specs.Heap.{functor_of, home_of, atoms_in}
 use Rattle.lmn_store_heap.specs.Functors.{with_functor}
+use Rattle.lmn_machine.specs.Asking.{IsFitting}
 use Rattle.lmn_machine.proofs.Calling.{if_same, none_is}
 use Rattle.lmn_machine.proofs.Fitting.{left_behind, fewer_behind}
 use Rattle.lmn_machine.proofs.ahead.fitting_atom.Goals as goal
 
-pub returns-then-atom_fits-clause-left : goal.returns-then-atom_fits-clause-left
-returns-then-atom_fits-clause-left g c = λ b s k t i.
-    (let all = with_functor (g.S.LinkStore.heap c.args.store.now) c.args.functor (atoms_in (g.S.LinkStore.heap c.args.store.now) (g.S.LinkStore.mem_id c.args.place)) in
-    subst (λ o. In (s.images.atom (length c.args.set.now.atoms)) (from (option_map g.S.LinkStore.atom_id o) all)) c.in-Some.is (c.loop-candidate.invariant.left b s k t i))
+pub loop-candidate-init : goal.loop-candidate-init
+loop-candidate-init g c = record { functor = c.requires.functor; home = c.requires.home; further = omega arith; left = λ b s k t i. i }
 
-pub returns-then-atom_fits-clause-further : goal.returns-then-atom_fits-clause-further
-returns-then-atom_fits-clause-further g c =
-    let all = with_functor (g.S.LinkStore.heap c.args.store.now) c.args.functor (atoms_in (g.S.LinkStore.heap c.args.store.now) (g.S.LinkStore.mem_id c.args.place)) in
-    subst (λ o. length (from (option_map g.S.LinkStore.atom_id o) all) ≤ length (from (option_map g.S.LinkStore.atom_id c.args.start) all)) c.in-Some.is c.loop-candidate.invariant.further
+pub returns-then-atom_fits : goal.returns-then-atom_fits
+returns-then-atom_fits g c =
+    subst (λ o. IsFitting g.S.LinkStore.atom_id g.S.LinkStore.mem_id (g.S.LinkStore.heap c.args.store.now) c.args.set.now (drop c.args.at c.args.code.now) c.args.functor (g.S.LinkStore.mem_id c.args.place) c.args.start o) c.in-Some.is c.loop-candidate.invariant
 
 pub loop-candidate-preserved : goal.loop-candidate-preserved
 loop-candidate-preserved g c =
@@ -35,7 +33,6 @@ loop-candidate-preserved g c =
           (subst (λ o. In (s.images.atom (length c.args.set.now.atoms)) (from (option_map g.S.LinkStore.atom_id o) all)) c.in-Some.is (c.loop-candidate.invariant.left b s k t i));
     }
 
-pub returns-clause-left : goal.returns-clause-left
-returns-clause-left g c = λ b s k t i.
-    (let all = with_functor (g.S.LinkStore.heap c.args.store.now) c.args.functor (atoms_in (g.S.LinkStore.heap c.args.store.now) (g.S.LinkStore.mem_id c.args.place)) in
-    subst (λ o. In (s.images.atom (length c.args.set.now.atoms)) (from (option_map g.S.LinkStore.atom_id o) all)) (none_is c.loop-candidate.candidate c.in_default.not-Some) (c.loop-candidate.invariant.left b s k t i))
+pub returns : goal.returns
+returns g c =
+    subst (λ o. IsFitting g.S.LinkStore.atom_id g.S.LinkStore.mem_id (g.S.LinkStore.heap c.args.store.now) c.args.set.now (drop c.args.at c.args.code.now) c.args.functor (g.S.LinkStore.mem_id c.args.place) c.args.start o) (none_is c.loop-candidate.candidate c.in_default.not-Some) c.loop-candidate.invariant

@@ -2,8 +2,8 @@ use Rattle.std.proofs.Common.{rules, ◌≡◌, ◌<◌, ◌≤◌, ◌+◌, len
 use Rattle.std.specs.Option.{option_map}
 use Rattle.lmn_store_heap.specs.Lists.{from}
 use Rattle.lmn_store_heap.specs.Functors.{with_functor}
-use Rattle.lmn_machine.specs.Asking.{AsksFor, IsGuest}
-use Rattle.lmn_machine.proofs.Fitting.{AtomsFit, MembranesFit, OnlyOne, atoms_fit, membranes_fit, only_home, only_left, only_fails, smaller}
+use Rattle.lmn_machine.specs.Asking.{AsksFor, AtomsFit, IsGuest}
+use Rattle.lmn_machine.proofs.Fitting.{MembranesFit, OnlyOne, atoms_fit, membranes_fit, only_home, only_left, only_fails, smaller}
 use Rattle.std.specs.Prelude.{true, false}
 use Rattle.std.specs.Prelude.{IfSome}
 use Rattle.std.proofs.lemmas.Option.{slice_get_within}
