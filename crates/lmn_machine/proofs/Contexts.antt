@@ -14,6 +14,7 @@ use Rattle.lmn_instr_code.specs.Running.{HeadRegisters, HeadSize, InstructionHol
 use Rattle.lmn_machine_registers.specs.declared.registers.SetRegisters.{SetRegisters}
 use Rattle.lmn_machine_registers.specs.Agreeing.{Agrees}
 use Rattle.lmn_machine.specs.Searching.{AreHeldWhole, Stepped, HeadInOrder, HasGivenPart, IsWholeApart}
+use Rattle.lmn_machine.specs.Outcomes.{IsEndWith}
 use Rattle.lmn_store_heap.specs.Sound.{Sound}
 use Rattle.lmn_machine.proofs.Stepping.{SetsSo, extends_itself, nothing_more}
 use Rattle.lmn_machine.proofs.Lone.{GivesPart, part_stepped}
@@ -42,26 +43,20 @@ module _ {A M : Type 0} (atom : A → ℕ) (membrane : M → ℕ) (h : Heap) whe
       get_there (x ∷ xs) zero l = (x, refl)
       get_there (x ∷ xs) (suc j) l = get_there xs j (omega (arith, l))
 
-  -- what the search for a part answers, from the port of a handle in a membrane
-  pub record WholeEnd (g : SetRegisters A M) (a : A) (port : ℕ) (m : M) (o : Option (A × ℕ)) : Type 0 where
-    pub ends : (q : ℕ × ℕ) → option_map (port_id atom) o ≡ Some q → link_of h (atom a) port ≡ Some q
-    pub whole : (q : ℕ × ℕ) → option_map (port_id atom) o ≡ Some q → IsWholeApart atom h g.atoms (membrane m) q
-    pub only : (q : ℕ × ℕ) → link_of h (atom a) port ≡ Some q → IsWholeApart atom h g.atoms (membrane m) q → option_map (port_id atom) o ≡ Some q
-
-  ground_gives : (g : SetRegisters A M) (p : AtomPort) (y : ℕ) (a : A) (m : M) (o : Option (A × ℕ)) → slice_get g.atoms p.atom ≡ Some a → slice_get g.membranes y ≡ Some m → WholeEnd g a p.port m o →
+  ground_gives : (g : SetRegisters A M) (p : AtomPort) (y : ℕ) (a : A) (m : M) (o : Option (A × ℕ)) → slice_get g.atoms p.atom ≡ Some a → slice_get g.membranes y ≡ Some m → IsEndWith atom h (IsWholeApart atom h g.atoms (membrane m)) (atom a) p.port o →
       GivesPart atom membrane h g (IsGround (length g.parts) p y) o
   ground_gives g p y a m o from place t = λ c s n r. (
     λ k. t.only (s.images.part (length g.parts)) (subst (λ j. link_of h j p.port ≡ Some (s.images.part (length g.parts))) (r.atoms p.atom a from) k.held) (from_context g c.atoms (length g.parts) y s p m n r place k),
     λ e. to_context g c.atoms (length g.parts) y s p m n r place
-        (subst (λ j. link_of h j p.port ≡ Some (s.images.part (length g.parts))) (sym (r.atoms p.atom a from)) (t.ends (s.images.part (length g.parts)) e)) (t.whole (s.images.part (length g.parts)) e),
+        (subst (λ j. link_of h j p.port ≡ Some (s.images.part (length g.parts))) (sym (r.atoms p.atom a from)) (t.ends (s.images.part (length g.parts)) e)) (t.holds (s.images.part (length g.parts)) e),
   )
 
   pub ground_stepped : Sound h → (g k : SetRegisters A M) (result : Bool) (i : Instr) (x : ℕ) (p : AtomPort) (y : ℕ) (a : A) (m : M) (o : Option (A × ℕ)) → i ≡ IsGround x p y → HeadInOrder (length g.atoms) (length g.membranes) (length g.parts) (length g.integers) (i ∷ []) → AreHeldWhole atom membrane h g →
-      slice_get g.atoms p.atom ≡ Some a → slice_get g.membranes y ≡ Some m → IfSome o (λ p. IsAtom h (atom p.0)) → WholeEnd g a p.port m o → HasGivenPart g k result o → Stepped atom membrane h g k result i
-  ground_stepped sound g k result i x p y a m o e order held from place there t given =
+      slice_get g.atoms p.atom ≡ Some a → slice_get g.membranes y ≡ Some m → IsEndWith atom h (IsWholeApart atom h g.atoms (membrane m)) (atom a) p.port o → HasGivenPart g k result o → Stepped atom membrane h g k result i
+  ground_stepped sound g k result i x p y a m o e order held from place t given =
       let u : HeadInOrder (length g.atoms) (length g.membranes) (length g.parts) (length g.integers) (IsGround x p y ∷ []) = subst (λ j. HeadInOrder (length g.atoms) (length g.membranes) (length g.parts) (length g.integers) (j ∷ [])) e order in
       subst (λ j. Stepped atom membrane h g k result j) (sym (e ∙ ap (λ j. IsGround j p y) u.0.0.0.0))
-      (part_stepped atom membrane h sound g k result (IsGround (length g.parts) p y) p.atom a p.port (membrane m) o from (λ q u. (t.ends q u, t.whole q u)) held there (λ is w. w.1) (λ c w. w) (refl, refl, refl, refl) (ground_gives g p y a m o from place t) given)
+      (part_stepped atom membrane h sound g k result (IsGround (length g.parts) p y) p.atom a p.port (membrane m) o from (λ q u. (t.ends q u, t.holds q u)) held t.there (λ is w. w.1) (λ c w. w) (refl, refl, refl, refl) (ground_gives g p y a m o from place t) given)
 
   -- A test of two parts that are set: what it answers is whether their graphs are the same, or not.
   parts_stepped : (g : SetRegisters A M) (result : Bool) (i : Instr) (P : ℕ × ℕ → ℕ × ℕ → Type 0) (x y : ℕ) (p q : A × ℕ) → AreHeldWhole atom membrane h g → slice_get g.parts x ≡ Some p → slice_get g.parts y ≡ Some q → SetsSo i 0 0 0 0 →

@@ -2,6 +2,7 @@ pub mod Stepping
 pub mod Telling
 pub mod Candidates
 pub mod Choosing
+pub mod Ends
 pub mod Fitting
 pub mod Calling
 pub mod Sufficing

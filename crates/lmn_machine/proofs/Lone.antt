@@ -20,6 +20,7 @@ use Rattle.lmn_instr_code.specs.Running.{HeadRegisters, HeadSize, InstructionHol
 use Rattle.lmn_machine_registers.specs.declared.registers.SetRegisters.{SetRegisters}
 use Rattle.lmn_machine_registers.specs.Agreeing.{Agrees}
 use Rattle.lmn_machine.specs.Searching.{AreHeldWhole, Extends, AllSet, Stepped, HeadInOrder, HasGivenPart, AreApart, IsLone, IsWholeApart, IsHeldPart}
+use Rattle.lmn_machine.specs.Outcomes.{IsEndWith}
 use Rattle.lmn_machine.proofs.Stepping.{SetsSo, extends_itself, agrees_before}
 use Rattle.lmn_machine.proofs.Choosing.{take_front}
 use Rattle.lmn_base.proofs.Lists.{get_last, take_whole, get_either, link_within}
@@ -202,17 +203,11 @@ module _ {A M : Type 0} (atom : A → ℕ) (membrane : M → ℕ) (h : Heap) whe
         order = λ t is u. subst (λ n. HeadInOrder (length g.atoms) (length g.membranes) n (length g.integers) is) (sym (length_push g.parts p)) (next is u);
       }
 
-  -- what the search for a part of one atom answers, from the port of a handle in a membrane
-  pub record LoneEnd (g : SetRegisters A M) (a : A) (port : ℕ) (m : M) (o : Option (A × ℕ)) : Type 0 where
-    pub ends : (q : ℕ × ℕ) → option_map (port_id atom) o ≡ Some q → link_of h (atom a) port ≡ Some q
-    pub lone : (q : ℕ × ℕ) → option_map (port_id atom) o ≡ Some q → IsLone atom h g.atoms (membrane m) q.0
-    pub only : (q : ℕ × ℕ) → link_of h (atom a) port ≡ Some q → IsLone atom h g.atoms (membrane m) q.0 → option_map (port_id atom) o ≡ Some q
-
   -- an atom alone is a part that stands whole and apart
-  lone_known : Sound h → (g : SetRegisters A M) (a : A) (port : ℕ) (m : M) (o : Option (A × ℕ)) → LoneEnd g a port m o → FoundFrom g a port (membrane m) o
+  lone_known : Sound h → (g : SetRegisters A M) (a : A) (port : ℕ) (m : M) (o : Option (A × ℕ)) → IsEndWith atom h (λ q. IsLone atom h g.atoms (membrane m) q.0) (atom a) port o → FoundFrom g a port (membrane m) o
   lone_known sound g a port m o t q e =
       let l = t.ends q e in
-      let k = t.lone q e in (
+      let k = t.holds q e in (
         l,
         record {
           whole = lone_whole h sound (atom a, port) q (membrane m) k.unary l k.home;
@@ -220,12 +215,12 @@ module _ {A M : Type 0} (atom : A → ℕ) (membrane : M → ℕ) (h : Heap) whe
         },
       )
 
-  unary_gives : Sound h → (g : SetRegisters A M) (p : AtomPort) (y : ℕ) (a : A) (m : M) (o : Option (A × ℕ)) → slice_get g.atoms p.atom ≡ Some a → slice_get g.membranes y ≡ Some m → LoneEnd g a p.port m o →
+  unary_gives : Sound h → (g : SetRegisters A M) (p : AtomPort) (y : ℕ) (a : A) (m : M) (o : Option (A × ℕ)) → slice_get g.atoms p.atom ≡ Some a → slice_get g.membranes y ≡ Some m → IsEndWith atom h (λ q. IsLone atom h g.atoms (membrane m) q.0) (atom a) p.port o →
       GivesPart g (IsUnary (length g.parts) p y) o
   unary_gives sound g p y a m o from place t = λ c s n r. (
     λ k. t.only (s.images.part (length g.parts)) (subst (λ j. link_of h j p.port ≡ Some (s.images.part (length g.parts))) (r.atoms p.atom a from) k.held) (from_context atom membrane h g c.atoms (length g.parts) y s p m n r place k),
     λ e. to_context atom membrane h sound g c.atoms (length g.parts) y s p m n r place
-        (subst (λ j. link_of h j p.port ≡ Some (s.images.part (length g.parts))) (sym (r.atoms p.atom a from)) (t.ends (s.images.part (length g.parts)) e)) (t.lone (s.images.part (length g.parts)) e),
+        (subst (λ j. link_of h j p.port ≡ Some (s.images.part (length g.parts))) (sym (r.atoms p.atom a from)) (t.ends (s.images.part (length g.parts)) e)) (t.holds (s.images.part (length g.parts)) e),
   )
 
   pub record IntegerRoot (end root : Option (A × ℕ)) : Type 0 where
@@ -233,7 +228,7 @@ module _ {A M : Type 0} (atom : A → ℕ) (membrane : M → ℕ) (h : Heap) whe
     pub integer : (q : ℕ × ℕ) → option_map (port_id atom) root ≡ Some q → (z : ℤ) × (integer_at h q ≡ Some z)
     pub only : (q : ℕ × ℕ) (z : ℤ) → option_map (port_id atom) end ≡ Some q → integer_at h q ≡ Some z → option_map (port_id atom) root ≡ Some q
 
-  int_gives : Sound h → (g : SetRegisters A M) (p : AtomPort) (y : ℕ) (a : A) (m : M) (end o : Option (A × ℕ)) → slice_get g.atoms p.atom ≡ Some a → slice_get g.membranes y ≡ Some m → LoneEnd g a p.port m end →
+  int_gives : Sound h → (g : SetRegisters A M) (p : AtomPort) (y : ℕ) (a : A) (m : M) (end o : Option (A × ℕ)) → slice_get g.atoms p.atom ≡ Some a → slice_get g.membranes y ≡ Some m → IsEndWith atom h (λ q. IsLone atom h g.atoms (membrane m) q.0) (atom a) p.port end →
       IntegerRoot end o → GivesPart g (IsInt (length g.parts) p y) o
   int_gives sound g p y a m end o from place t i = λ c s n r. (
     λ k. i.only (s.images.part (length g.parts)) k.of_kind.0 ((unary_gives sound g p y a m end from place t c s n r).0 (int_to_unary atom membrane h c.atoms (length g.parts) y s p k)) k.of_kind.1,
@@ -242,14 +237,14 @@ module _ {A M : Type 0} (atom : A → ℕ) (membrane : M → ℕ) (h : Heap) whe
   )
 
   pub unary_stepped : Sound h → (g k : SetRegisters A M) (result : Bool) (i : Instr) (x : ℕ) (p : AtomPort) (y : ℕ) (a : A) (m : M) (o : Option (A × ℕ)) → i ≡ IsUnary x p y → HeadInOrder (length g.atoms) (length g.membranes) (length g.parts) (length g.integers) (i ∷ []) → AreHeldWhole atom membrane h g →
-      slice_get g.atoms p.atom ≡ Some a → slice_get g.membranes y ≡ Some m → IfSome o (λ p. IsAtom h (atom p.0)) → LoneEnd g a p.port m o → HasGivenPart g k result o → Stepped atom membrane h g k result i
-  unary_stepped sound g k result i x p y a m o e order held from place there t given =
+      slice_get g.atoms p.atom ≡ Some a → slice_get g.membranes y ≡ Some m → IsEndWith atom h (λ q. IsLone atom h g.atoms (membrane m) q.0) (atom a) p.port o → HasGivenPart g k result o → Stepped atom membrane h g k result i
+  unary_stepped sound g k result i x p y a m o e order held from place t given =
       let u : HeadInOrder (length g.atoms) (length g.membranes) (length g.parts) (length g.integers) (IsUnary x p y ∷ []) = subst (λ j. HeadInOrder (length g.atoms) (length g.membranes) (length g.parts) (length g.integers) (j ∷ [])) e order in
       subst (λ j. Stepped atom membrane h g k result j) (sym (e ∙ ap (λ j. IsUnary j p y) u.0.0.0.0))
-      (part_stepped sound g k result (IsUnary (length g.parts) p y) p.atom a p.port (membrane m) o from (lone_known sound g a p.port m o t) held there (λ is w. w.1) (λ c w. w) (refl, refl, refl, refl) (unary_gives sound g p y a m o from place t) given)
+      (part_stepped sound g k result (IsUnary (length g.parts) p y) p.atom a p.port (membrane m) o from (lone_known sound g a p.port m o t) held t.there (λ is w. w.1) (λ c w. w) (refl, refl, refl, refl) (unary_gives sound g p y a m o from place t) given)
 
   pub int_stepped : Sound h → (g k : SetRegisters A M) (result : Bool) (i : Instr) (x : ℕ) (p : AtomPort) (y : ℕ) (a : A) (m : M) (end o : Option (A × ℕ)) → i ≡ IsInt x p y → HeadInOrder (length g.atoms) (length g.membranes) (length g.parts) (length g.integers) (i ∷ []) → AreHeldWhole atom membrane h g →
-      slice_get g.atoms p.atom ≡ Some a → slice_get g.membranes y ≡ Some m → IfSome o (λ p. IsAtom h (atom p.0)) → LoneEnd g a p.port m end → IntegerRoot end o → HasGivenPart g k result o → Stepped atom membrane h g k result i
+      slice_get g.atoms p.atom ≡ Some a → slice_get g.membranes y ≡ Some m → IfSome o (λ p. IsAtom h (atom p.0)) → IsEndWith atom h (λ q. IsLone atom h g.atoms (membrane m) q.0) (atom a) p.port end → IntegerRoot end o → HasGivenPart g k result o → Stepped atom membrane h g k result i
   int_stepped sound g k result i x p y a m end o e order held from place there t root given =
       let u : HeadInOrder (length g.atoms) (length g.membranes) (length g.parts) (length g.integers) (IsInt x p y ∷ []) = subst (λ j. HeadInOrder (length g.atoms) (length g.membranes) (length g.parts) (length g.integers) (j ∷ [])) e order in
       subst (λ j. Stepped atom membrane h g k result j) (sym (e ∙ ap (λ j. IsInt j p y) u.0.0.0.0))

@@ -144,6 +144,10 @@ choice_none h s (FindAtom x y f) is n = absurd n
 choice_none h s (AnyMem x y) is n = absurd n
 choice_none h s _ is n = refl
 
+-- DEREF in order sets the next register
+pub deref_is : (i : Instr) (x : ℕ) (p : AtomPort) (e a m n v : ℕ) → i ≡ Deref x p e → HeadInOrder a m n v (i ∷ []) → i ≡ Deref a p e
+deref_is i x p e a m n v t o = let u : HeadInOrder a m n v (Deref x p e ∷ []) = subst (λ j. HeadInOrder a m n v (j ∷ [])) t o in t ∙ ap (λ y. Deref y p e) u.0.0
+
 module _ {A M : Type 0} (atom : A → ℕ) (membrane : M → ℕ) (h : Heap) where
   pub extends_itself : (g : SetRegisters A M) → Extends g g
   extends_itself g = record { atoms = take_all g.atoms; membranes = take_all g.membranes; parts = take_all g.parts; integers = take_all g.integers; copies = refl }
@@ -171,33 +175,6 @@ module _ {A M : Type 0} (atom : A → ℕ) (membrane : M → ℕ) (h : Heap) whe
     sets = λ t. nothing_more g i (test_sets_none (length g.atoms) (length g.membranes) (length g.integers) i r);
     order = λ t is o. check_order i (length g.atoms) (length g.membranes) (length g.parts) (length g.integers) is r o;
   }
-
-  deref_is : (i : Instr) (x : ℕ) (p : AtomPort) (e a m n v : ℕ) → i ≡ Deref x p e → HeadInOrder a m n v (i ∷ []) → i ≡ Deref a p e
-  deref_is i x p e a m n v t o = let u : HeadInOrder a m n v (Deref x p e ∷ []) = subst (λ j. HeadInOrder a m n v (j ∷ [])) t o in t ∙ ap (λ y. Deref y p e) u.0.0
-
-  pub deref_stepped : (g k : SetRegisters A M) (result : Bool) (i : Instr) (x : ℕ) (p : AtomPort) (e : ℕ) → i ≡ Deref x p e → HeadInOrder (length g.atoms) (length g.membranes) (length g.parts) (length g.integers) (i ∷ []) →
-      AreHeldWhole atom membrane h k → Extends g k → (result ≡ true → length k.atoms ≡ length g.atoms + 1) → k.membranes ≡ g.membranes → k.parts ≡ g.parts → k.integers ≡ g.integers →
-      (result ≡ true → (c : HeadSize) (s : HeadRegisters) → Agrees atom membrane k s → InstructionHolds h c s (Deref (length g.atoms) p e)) →
-      ((c : HeadSize) (s : HeadRegisters) → Agrees atom membrane g s → InstructionHolds h c s (Deref (length g.atoms) p e) → (result ≡ true) × Agrees atom membrane k s) → Stepped atom membrane h g k result i
-  deref_stepped g k result i x p e t o held extends more same same_parts same_integers holds only =
-      let is_deref = deref_is i x p e (length g.atoms) (length g.membranes) (length g.parts) (length g.integers) t o in
-      record {
-        held = held;
-        extends = extends;
-        holds = λ u c s n a. subst (λ j. InstructionHolds h c s j) (sym is_deref) (holds u c s a);
-        only = λ c s n a u. only c s a (subst (λ j. InstructionHolds h c s j) is_deref u);
-        sets = λ u. subst (λ j. SetsMore g k (j ∷ [])) (sym is_deref) (record {
-          atoms = more u;
-          membranes = (let e = ap length same in omega (arith, e));
-          parts = (let e = ap length same_parts in omega (arith, e));
-          integers = (let e = ap length same_integers in omega (arith, e));
-        });
-        order = λ u is v. (let w : HeadInOrder (length g.atoms) (length g.membranes) (length g.parts) (length g.integers) (Deref (length g.atoms) p e ∷ is) = subst (λ j. HeadInOrder (length g.atoms) (length g.membranes) (length g.parts) (length g.integers) (j ∷ is)) is_deref v in
-            subst (λ n. HeadInOrder n (length k.membranes) (length k.parts) (length k.integers) is) (sym (more u))
-            (subst (λ ms. HeadInOrder (length g.atoms + 1) (length ms) (length k.parts) (length k.integers) is) (sym same)
-            (subst (λ ps. HeadInOrder (length g.atoms + 1) (length g.membranes) (length ps) (length k.integers) is) (sym same_parts)
-            (subst (λ zs. HeadInOrder (length g.atoms + 1) (length g.membranes) (length g.parts) (length zs) is) (sym same_integers) w.1))));
-      }
 
   -- What is passed of code, with the registers g0 at first and g now: the rest decides.
   pub record Passed (g0 g : SetRegisters A M) (code0 code : List Instr) : Type 0 where

@@ -1,6 +1,7 @@
 -- What became of an instruction, as the contracts of private functions say it.
-use Rattle.std.specs.Prelude.{ℕ, Bool, true, false, ◌≡◌}
-use Rattle.lmn_store_heap.specs.Heap.{Heap}
+use Rattle.std.specs.Prelude.{ℕ, Bool, true, false, ◌≡◌, Option, Some, IfSome}
+use Rattle.std.specs.Option.{option_map}
+use Rattle.lmn_store_heap.specs.Heap.{Heap, IsAtom, link_of, port_id}
 use Rattle.lmn_instr_code.specs.declared.instr.Instr.{Instr}
 use Rattle.lmn_instr_code.specs.declared.instr.Instr.TheVariants.{FindAtom, AnyMem}
 use Rattle.lmn_machine_registers.specs.declared.registers.SetRegisters.{SetRegisters}
@@ -31,3 +32,10 @@ HasOutcome atom membrane h g k Holds i = ChoosesNone i × Stepped atom membrane 
 HasOutcome atom membrane h g k Fails i = Stepped atom membrane h g k false i
 HasOutcome atom membrane h g k ChoosesAtom i = (k ≡ g) × ChoosesAtoms i
 HasOutcome atom membrane h g k ChoosesMembrane i = (k ≡ g) × ChoosesMembranes i
+
+-- The other end of a port, if there is one and P holds of it.
+pub record IsEndWith {A : Type 0} (atom : A → ℕ) (h : Heap) (P : ℕ × ℕ → Type 0) (a port : ℕ) (o : Option (A × ℕ)) : Type 0 where
+  pub there : IfSome o (λ p. IsAtom h (atom p.0))
+  pub ends : (q : ℕ × ℕ) → option_map (port_id atom) o ≡ Some q → link_of h a port ≡ Some q
+  pub holds : (q : ℕ × ℕ) → option_map (port_id atom) o ≡ Some q → P q
+  pub only : (q : ℕ × ℕ) → link_of h a port ≡ Some q → P q → option_map (port_id atom) o ≡ Some q

@@ -1,9 +1,9 @@
-ghost use Rattle.std.specs.Prelude.{◌≡◌, ◌<◌, ◌↔◌, ◌+◌, ℕ, [], ◌∷◌, length, IsTrue};
+ghost use Rattle.std.specs.Prelude.{◌≡◌, ◌<◌, ◌↔◌, ℕ, [], ◌∷◌, length, IsTrue};
 ghost use Rattle.lmn_store_heap.specs.Sound.{Valid};
 ghost use Rattle.lmn_instr_code.specs.Running.{HeadRegisters, HeadSize, InstructionHolds};
 ghost use Rattle.lmn_store_heap.specs.Heap.{Heap, Unmarked};
 ghost use Rattle.lmn_machine_registers.specs.Agreeing.{Agrees};
-ghost use Rattle.lmn_machine.specs.Searching.{AreHeldWhole, AsksNoPart, Compares, Extends, TestsSetRegisters, HeadInOrder, HasGiven, HasGivenPart, Stepped};
+ghost use Rattle.lmn_machine.specs.Searching.{AreHeldWhole, AsksNoPart, Compares, TestsSetRegisters, HeadInOrder, HasGiven, HasGivenPart, Stepped};
 ghost use Rattle.lmn_machine.specs.Outcomes.{HasOutcome, Tells};
 ghost use Rattle.lmn_instr_code.specs.declared.instr.Instr.TheVariants.{Deref};
 
@@ -115,18 +115,8 @@ pub fn follow<S: LinkStore>(
     port: u8,
 ) -> bool
     requires held { AreHeldWhole S.atom_id S.mem_id (S.heap store.now) set.old }
-    requires from { from.atom < length set.old.atoms }
-    requires room { length set.old.atoms < ROOM }
-    requires no_part { length set.old.parts ≡ 0 }
-    ensures held { AreHeldWhole S.atom_id S.mem_id (S.heap store.now) set.new }
-    ensures extends { Extends set.old set.new }
-    ensures atoms { IsTrue result → length set.new.atoms ≡ length set.old.atoms + 1 }
-    ensures membranes { set.new.membranes ≡ set.old.membranes }
-    ensures parts { set.new.parts ≡ set.old.parts }
-    ensures integers { set.new.integers ≡ set.old.integers }
-    ensures holds { IsTrue result → (c : HeadSize) (s : HeadRegisters) → Agrees S.atom_id S.mem_id set.new s → InstructionHolds (S.heap store.now) c s (Deref (length set.old.atoms) from port) }
-    ensures only { (c : HeadSize) (s : HeadRegisters) → Agrees S.atom_id S.mem_id set.old s → InstructionHolds (S.heap store.now) c s (Deref (length set.old.atoms) from port) →
-        IsTrue result × Agrees S.atom_id S.mem_id set.new s }
+    requires order { HeadInOrder (length set.old.atoms) (length set.old.membranes) (length set.old.parts) (length set.old.integers) (Deref (length set.old.atoms) from port ∷ []) }
+    ensures { Stepped S.atom_id S.mem_id (S.heap store.now) set.old set.new result (Deref (length set.old.atoms) from port) }
 {
     match checks::end(store, set.atoms.at(from.atom as usize), from.port) {
         Some((atom, entered)) => {

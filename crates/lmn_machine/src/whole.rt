@@ -1,11 +1,11 @@
 //! Parts of any number of atoms.
-ghost use Rattle.std.specs.Prelude.{◌≡◌, ◌<◌, ◌↔◌, ℕ, List, Some, IfSome, IsTrue, map};
-ghost use Rattle.std.specs.Option.{option_map};
-ghost use Rattle.lmn_store_heap.specs.Heap.{IsAtom, IsMem, arity_of, link_of, port_id, Unmarked};
+ghost use Rattle.std.specs.Prelude.{◌≡◌, ◌<◌, ◌↔◌, List, IsTrue, map};
+ghost use Rattle.lmn_store_heap.specs.Heap.{IsAtom, IsMem, arity_of, Unmarked};
 ghost use Rattle.lmn_base.specs.Graphs.{SameGraph};
 ghost use Rattle.lmn_store_heap.specs.Graphs.{atom_map};
 ghost use Rattle.lmn_ground.specs.Rests.{own_marked};
 ghost use Rattle.lmn_machine.specs.Searching.{IsHeldPart, IsWholeApart};
+ghost use Rattle.lmn_machine.specs.Outcomes.{IsEndWith};
 ghost use Rattle.lmn_machine_commit.specs.Registers.{AreAtomHandles};
 
 use crate::checks;
@@ -60,11 +60,7 @@ pub fn whole_end<S: LinkStore>(
     requires membrane { IsMem (S.heap store.old) (S.mem_id m) }
     requires held { AreAtomHandles S.atom_id (S.heap store.old) atoms.now }
     ensures same { S.heap store.new ≡ S.heap store.old }
-    ensures there { IfSome result (λ p. IsAtom (S.heap store.old) (S.atom_id p.0)) }
-    ensures end { (q : ℕ × ℕ) → option_map (port_id S.atom_id) result ≡ Some q → link_of (S.heap store.old) (S.atom_id from) port ≡ Some q }
-    ensures whole { (q : ℕ × ℕ) → option_map (port_id S.atom_id) result ≡ Some q → IsWholeApart S.atom_id (S.heap store.old) atoms.now (S.mem_id m) q }
-    ensures only { (q : ℕ × ℕ) → link_of (S.heap store.old) (S.atom_id from) port ≡ Some q → IsWholeApart S.atom_id (S.heap store.old) atoms.now (S.mem_id m) q →
-        option_map (port_id S.atom_id) result ≡ Some q }
+    ensures end { IsEndWith S.atom_id (S.heap store.old) (IsWholeApart S.atom_id (S.heap store.old) atoms.now (S.mem_id m)) (S.atom_id from) port result }
 {
     match checks::end(store, from, port) {
         Some((root, entered)) => {

@@ -1,9 +1,9 @@
-use Rattle.std.proofs.Common.{refl, subst, sym}
-use Rattle.lmn_machine.specs.Searching.{ChoosesNone}
+use Rattle.std.proofs.Common.{refl, subst, sym, length, [], ◌∷◌}
+use Rattle.lmn_machine.specs.Searching.{ChoosesNone, HeadInOrder, Stepped}
 use Rattle.lmn_machine.specs.Outcomes.{ChoosesAtoms, ChoosesMembranes}
 use Rattle.lmn_machine.proofs.Calling.{no_choice}
 use Rattle.lmn_machine.proofs.Telling.{told}
-use Rattle.lmn_machine.proofs.Stepping.{deref_stepped, asks_no_part}
+use Rattle.lmn_machine.proofs.Stepping.{deref_is, asks_no_part}
 use Rattle.lmn_machine.proofs.Lone.{unary_stepped, int_stepped}
 use Rattle.lmn_machine.proofs.Contexts.{ground_stepped, equal_stepped, differ_stepped, others_stepped, closed_stepped}
 use Rattle.lmn_machine.proofs.steps.step.Goals as goal
@@ -11,27 +11,29 @@ use Rattle.lmn_machine.proofs.steps.step.Goals as goal
 pub returns-in-Deref-clause-stepped : goal.returns-in-Deref-clause-stepped
 returns-in-Deref-clause-stepped g c =
     told g.S.LinkStore.atom_id g.S.LinkStore.mem_id (g.S.LinkStore.heap c.args.store.now) c.args.set.now c.follow.new.set c.follow.result c.outcome_of.result c.args.instr.now (subst ChoosesNone (sym c.in-Deref.is) tt) c.outcome_of.ensures
-    (deref_stepped g.S.LinkStore.atom_id g.S.LinkStore.mem_id (g.S.LinkStore.heap c.args.store.now) c.args.set.now c.follow.new.set c.follow.result c.args.instr.now _ _ _ c.in-Deref.is c.requires.order
-    c.follow.ensures.held c.follow.ensures.extends c.follow.ensures.atoms c.follow.ensures.membranes c.follow.ensures.parts c.follow.ensures.integers c.follow.ensures.holds c.follow.ensures.only)
+    (subst (λ j. Stepped g.S.LinkStore.atom_id g.S.LinkStore.mem_id (g.S.LinkStore.heap c.args.store.now) c.args.set.now c.follow.new.set c.follow.result j) (sym (deref_is c.args.instr.now _ _ _ (length c.args.set.now.atoms) (length c.args.set.now.membranes) (length c.args.set.now.parts) (length c.args.set.now.integers) c.in-Deref.is c.requires.order)) c.follow.ensures)
+
+pub follow-requires-clause-order : goal.follow-requires-clause-order
+follow-requires-clause-order g c = subst (λ j. HeadInOrder (length c.args.set.now.atoms) (length c.args.set.now.membranes) (length c.args.set.now.parts) (length c.args.set.now.integers) (j ∷ [])) (deref_is c.args.instr.now _ _ _ (length c.args.set.now.atoms) (length c.args.set.now.membranes) (length c.args.set.now.parts) (length c.args.set.now.integers) c.in-Deref.is c.requires.order) c.requires.order
 
 pub returns-in-IsInt-clause-stepped : goal.returns-in-IsInt-clause-stepped
 returns-in-IsInt-clause-stepped g c =
     told g.S.LinkStore.atom_id g.S.LinkStore.mem_id (g.S.LinkStore.heap c.args.store.now) c.args.set.now c.set_part.new.set c.set_part.result c.outcome_of-in-IsInt.result c.args.instr.now (subst ChoosesNone (sym c.in-IsInt.is) tt) c.outcome_of-in-IsInt.ensures
     (int_stepped g.S.LinkStore.atom_id g.S.LinkStore.mem_id (g.S.LinkStore.heap c.args.store.now) c.requires.valid.sound c.args.set.now c.set_part.new.set c.set_part.result c.args.instr.now _ _ _ _ _ c.lone_end-end.result c.integer_root-root.result c.in-IsInt.is c.requires.order c.requires.held
-    c.at-from.ensures c.at-place.ensures c.integer_root-root.ensures.there (record { ends = c.lone_end-end.ensures.end; lone = c.lone_end-end.ensures.lone; only = c.lone_end-end.ensures.only })
+    c.at-from.ensures c.at-place.ensures c.integer_root-root.ensures.there c.lone_end-end.ensures
     (record { is_end = c.integer_root-root.ensures.root; integer = c.integer_root-root.ensures.integer; only = c.integer_root-root.ensures.only }) c.set_part.ensures)
 
 pub returns-in-IsUnary-clause-stepped : goal.returns-in-IsUnary-clause-stepped
 returns-in-IsUnary-clause-stepped g c =
     told g.S.LinkStore.atom_id g.S.LinkStore.mem_id (g.S.LinkStore.heap c.args.store.now) c.args.set.now c.set_part-in-IsUnary.new.set c.set_part-in-IsUnary.result c.outcome_of-in-IsUnary.result c.args.instr.now (subst ChoosesNone (sym c.in-IsUnary.is) tt) c.outcome_of-in-IsUnary.ensures
     (unary_stepped g.S.LinkStore.atom_id g.S.LinkStore.mem_id (g.S.LinkStore.heap c.args.store.now) c.requires.valid.sound c.args.set.now c.set_part-in-IsUnary.new.set c.set_part-in-IsUnary.result c.args.instr.now _ _ _ _ _ c.lone_end-root.result c.in-IsUnary.is c.requires.order c.requires.held
-    c.at-from-in-IsUnary.ensures c.at-place-in-IsUnary.ensures c.lone_end-root.ensures.there (record { ends = c.lone_end-root.ensures.end; lone = c.lone_end-root.ensures.lone; only = c.lone_end-root.ensures.only }) c.set_part-in-IsUnary.ensures)
+    c.at-from-in-IsUnary.ensures c.at-place-in-IsUnary.ensures c.lone_end-root.ensures c.set_part-in-IsUnary.ensures)
 
 pub returns-in-IsGround-clause-stepped : goal.returns-in-IsGround-clause-stepped
 returns-in-IsGround-clause-stepped g c =
     told g.S.LinkStore.atom_id g.S.LinkStore.mem_id (g.S.LinkStore.heap c.args.store.now) c.args.set.now c.set_part-in-IsGround.new.set c.set_part-in-IsGround.result c.outcome_of-in-IsGround.result c.args.instr.now (subst ChoosesNone (sym c.in-IsGround.is) tt) c.outcome_of-in-IsGround.ensures
     (ground_stepped g.S.LinkStore.atom_id g.S.LinkStore.mem_id (g.S.LinkStore.heap c.args.store.now) c.requires.valid.sound c.args.set.now c.set_part-in-IsGround.new.set c.set_part-in-IsGround.result c.args.instr.now _ _ _ _ _ c.whole_end-root.result c.in-IsGround.is c.requires.order c.requires.held
-    c.at-from-in-IsGround.ensures c.at-place-in-IsGround.ensures c.whole_end-root.ensures.there (record { ends = c.whole_end-root.ensures.end; whole = c.whole_end-root.ensures.whole; only = c.whole_end-root.ensures.only }) c.set_part-in-IsGround.ensures)
+    c.at-from-in-IsGround.ensures c.at-place-in-IsGround.ensures c.whole_end-root.ensures.end c.set_part-in-IsGround.ensures)
 
 pub are_equal-requires-clause-held : goal.are_equal-requires-clause-held
 are_equal-requires-clause-held g c = (c.args.set.now.atoms, c.requires.held.whole _ _ c.at-root.ensures, c.requires.held.whole _ _ c.at-other_root.ensures)
