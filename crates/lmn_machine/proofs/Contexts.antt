@@ -1,10 +1,9 @@
 -- Typed contexts of any number of atoms.
 use Rattle.std.proofs.Common.{◌≡◌, ◌<◌, ℕ, zero, suc, List, [], ◌∷◌, Option, Some, refl, arith, ap, sym, subst, length, ◌∙◌}
-use Rattle.std.specs.Prelude.{true, Bool, slice_get, IfSome}
-use Rattle.std.specs.Option.{option_map}
+use Rattle.std.specs.Prelude.{true, Bool, slice_get}
 use Rattle.std.proofs.lemmas.Option.{slice_get_within}
 use Rattle.lmn_base.specs.Graphs.{StandsWhole, SameGraph}
-use Rattle.lmn_store_heap.specs.Heap.{Heap, IsAtom, atoms_in, link_of, port_id}
+use Rattle.lmn_store_heap.specs.Heap.{Heap, atoms_in, link_of, port_id}
 use Rattle.lmn_store_heap.specs.Graphs.{atom_map}
 use Rattle.lmn_guards.specs.declared.plan.TypeKind.TheVariants as kind
 use Rattle.lmn_instr_code.specs.declared.instr.AtomPort.{AtomPort}

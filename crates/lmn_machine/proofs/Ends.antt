@@ -1,5 +1,5 @@
 -- The ends of ports, and following them.
-use Rattle.std.proofs.Common.{ℕ, ◌≡◌, inl, inr, [], ◌∷◌, ◌++◌, Option, Some, None, refl, arith, ap, sym, subst, length, ◌∙◌}
+use Rattle.std.proofs.Common.{ℕ, ◌≡◌, inl, inr, [], ◌∷◌, Option, Some, None, refl, arith, ap, sym, subst, length, ◌∙◌}
 use Rattle.std.specs.Prelude.{true, false, slice_get, IfSome}
 use Rattle.std.specs.Option.{option_map}
 use Rattle.std.proofs.lemmas.List.{length_push}
@@ -9,9 +9,7 @@ use Rattle.lmn_base.proofs.Lists.{get_either, get_front, get_last}
 use Rattle.lmn_store_heap.specs.Heap.{Heap, IsAtom, link_of, port_id}
 use Rattle.lmn_instr_code.specs.declared.instr.AtomPort.{AtomPort}
 use Rattle.lmn_instr_code.specs.declared.instr.Instr.TheVariants.{Deref}
-use Rattle.lmn_instr_code.specs.Running.{HeadRegisters, HeadSize, InstructionHolds}
 use Rattle.lmn_machine_registers.specs.declared.registers.SetRegisters.{SetRegisters}
-use Rattle.lmn_machine_registers.specs.Agreeing.{Agrees}
 use Rattle.lmn_machine.specs.Searching.{AreHeldWhole, HeadInOrder, Stepped}
 use Rattle.lmn_machine.specs.Jumping.{with_atom}
 use Rattle.lmn_machine.specs.Outcomes.{IsEndWith}

@@ -1,12 +1,11 @@
 -- Why a membrane holds too few items.
 use Rattle.std.proofs.Common.{ℕ, zero, suc, ◌≡◌, ◌≢◌, ◌+◌, ◌<◌, ◌≤◌, inl, inr, List, [], ◌∷◌, Option, Some, None, refl, arith, ap, sym, subst, length, drop, ◌∙◌}
-use Rattle.std.specs.Prelude.{Bool, true, false, slice_get, if◌then◌else◌}
-use Rattle.std.specs.Option.{option_map}
+use Rattle.std.specs.Prelude.{Bool, true, false, if◌then◌else◌}
 use Rattle.lmn_base.specs.declared.functor.Functor.{Functor}
 use Rattle.lmn_base.specs.Lists.{In}
 use Rattle.lmn_base.proofs.Lists.{get_below}
 use Rattle.lmn_store_heap.specs.Lists.{after, from}
-use Rattle.lmn_store_heap.specs.Heap.{Heap, atoms_in, mems_in, functor_of}
+use Rattle.lmn_store_heap.specs.Heap.{Heap, atoms_in, mems_in}
 use Rattle.lmn_store_heap.specs.Functors.{with_functor}
 use Rattle.lmn_store_heap.proofs.ListLemmas.{each_of}
 use Rattle.lmn_store_heap.proofs.Pigeonholes.{not_longer}

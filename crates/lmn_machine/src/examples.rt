@@ -8,7 +8,6 @@ pub fn empty_head_is_found()
 {}
 
 /// It can't be told of it that there is none.
-#[tactic(auto, using(crate::proofs::EmptyExamples::empty_head_is_there))]
 pub fn empty_head_is_there()
     ensures { EmptyHeadIsThere }
 {}

@@ -119,9 +119,9 @@ pub fn follow<S: LinkStore>(
     ensures { Stepped S.atom_id S.mem_id (S.heap store.now) set.old set.new result (Deref (length set.old.atoms) from port) }
 {
     match checks::end(store, set.atoms.at(from.atom as usize), from.port) {
-        Some((atom, entered)) => {
-            if entered == port {
-                set.atoms.push(atom);
+        Some(end) => {
+            if end.1 == port {
+                set.atoms.push(end.0);
                 true
             } else {
                 false

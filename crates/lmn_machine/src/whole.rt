@@ -63,9 +63,9 @@ pub fn whole_end<S: LinkStore>(
     ensures end { IsEndWith S.atom_id (S.heap store.old) (IsWholeApart S.atom_id (S.heap store.old) atoms.now (S.mem_id m)) (S.atom_id from) port result }
 {
     match checks::end(store, from, port) {
-        Some((root, entered)) => {
-            if is_whole(store, (root, entered), m, atoms) {
-                Some((root, entered))
+        Some(root) => {
+            if is_whole(store, root, m, atoms) {
+                Some(root)
             } else {
                 None
             }

@@ -1,4 +1,4 @@
-use Rattle.std.proofs.Common.{◌≡◌, ◌+◌, ◌<◌, Some, length, arith, ap, subst}
+use Rattle.std.proofs.Common.{◌≡◌, ◌+◌, Some, length, arith, ap, subst}
 use Rattle.std.specs.Prelude.{IfSome}
 use Rattle.std.specs.Option.{option_map}
 use Rattle.lmn_store_heap.specs.Lists.{from}

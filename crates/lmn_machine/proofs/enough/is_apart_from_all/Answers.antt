@@ -1,4 +1,4 @@
-use Rattle.std.proofs.Common.{◌≡◌, ◌<◌, inl, inr, arith, subst}
+use Rattle.std.proofs.Common.{◌≡◌, inl, inr, arith, subst}
 use Rattle.std.proofs.lemmas.Bool.{cases_lt}
 use Rattle.lmn_machine.specs.Enough.{Takes}
 use Rattle.lmn_machine.proofs.enough.is_apart_from_all.Goals as goal

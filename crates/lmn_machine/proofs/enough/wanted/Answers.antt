@@ -1,4 +1,4 @@
-use Rattle.std.proofs.Common.{◌≤◌, ◌+◌, arith}
+use Rattle.std.proofs.Common.{arith}
 use Rattle.lmn_machine.proofs.Sufficing.{takes_nothing, takes_on, takes_whole}
 use Rattle.lmn_machine.proofs.enough.wanted.Goals as goal
 

@@ -1,5 +1,5 @@
 use Rattle.std.proofs.Common.{subst, sym}
-use Rattle.std.specs.Prelude.{true, false}
+use Rattle.std.specs.Prelude.{false}
 use Rattle.lmn_machine.specs.Searching.{Searched}
 use Rattle.lmn_machine.specs.Jumping.{Ended, only_membrane}
 use Rattle.lmn_machine.proofs.Calling.{one_membrane_more, nothing_set}

@@ -4,14 +4,14 @@ use Rattle.lmn_machine.specs.Searching.{IsLone}
 use Rattle.lmn_machine.proofs.Ends.{end_with, no_end_with}
 use Rattle.lmn_machine.proofs.parts.lone_end.Goals as goal
 
-pub returns-in-Some-then-is_lone : goal.returns-in-Some-then-is_lone
-returns-in-Some-then-is_lone g c =
-    end_with g.S.LinkStore.atom_id (g.S.LinkStore.heap c.args.store.now) (λ q. IsLone g.S.LinkStore.atom_id (g.S.LinkStore.heap c.args.store.now) c.args.atoms.now (g.S.LinkStore.mem_id c.args.m) q.0) (g.S.LinkStore.atom_id c.args.from) c.args.port (c.in-Some.root, c.in-Some.entered)
+pub returns-then-is_lone : goal.returns-then-is_lone
+returns-then-is_lone g c =
+    end_with g.S.LinkStore.atom_id (g.S.LinkStore.heap c.args.store.now) (λ q. IsLone g.S.LinkStore.atom_id (g.S.LinkStore.heap c.args.store.now) c.args.atoms.now (g.S.LinkStore.mem_id c.args.m) q.0) (g.S.LinkStore.atom_id c.args.from) c.args.port c.in-Some.root
     c.in-Some.ensures.there c.in-Some.ensures.link (c.is_lone.ensures.0 c.if-is_lone.true)
 
-pub returns-in-Some-else-is_lone : goal.returns-in-Some-else-is_lone
-returns-in-Some-else-is_lone g c =
-    no_end_with g.S.LinkStore.atom_id (g.S.LinkStore.heap c.args.store.now) (λ q. IsLone g.S.LinkStore.atom_id (g.S.LinkStore.heap c.args.store.now) c.args.atoms.now (g.S.LinkStore.mem_id c.args.m) q.0) (g.S.LinkStore.atom_id c.args.from) c.args.port (Some (c.in-Some.root, c.in-Some.entered))
+pub returns-else-is_lone : goal.returns-else-is_lone
+returns-else-is_lone g c =
+    no_end_with g.S.LinkStore.atom_id (g.S.LinkStore.heap c.args.store.now) (λ q. IsLone g.S.LinkStore.atom_id (g.S.LinkStore.heap c.args.store.now) c.args.atoms.now (g.S.LinkStore.mem_id c.args.m) q.0) (g.S.LinkStore.atom_id c.args.from) c.args.port (Some c.in-Some.root)
     c.in-Some.ensures.link (λ w. (let t : c.is_lone.result ≡ true = c.is_lone.ensures.1 w in let f = c.if-is_lone.false in cc))
 
 pub returns-in-None : goal.returns-in-None

@@ -4,14 +4,14 @@ use Rattle.lmn_machine.specs.Searching.{IsWholeApart}
 use Rattle.lmn_machine.proofs.Ends.{end_with, no_end_with}
 use Rattle.lmn_machine.proofs.whole.whole_end.Goals as goal
 
-pub returns-in-Some-then-is_whole-clause-end : goal.returns-in-Some-then-is_whole-clause-end
-returns-in-Some-then-is_whole-clause-end g c =
-    end_with g.S.LinkStore.atom_id (g.S.LinkStore.heap c.args.store.now) (IsWholeApart g.S.LinkStore.atom_id (g.S.LinkStore.heap c.args.store.now) c.args.atoms.now (g.S.LinkStore.mem_id c.args.m)) (g.S.LinkStore.atom_id c.args.from) c.args.port (c.in-Some.root, c.in-Some.entered)
+pub returns-then-is_whole-clause-end : goal.returns-then-is_whole-clause-end
+returns-then-is_whole-clause-end g c =
+    end_with g.S.LinkStore.atom_id (g.S.LinkStore.heap c.args.store.now) (IsWholeApart g.S.LinkStore.atom_id (g.S.LinkStore.heap c.args.store.now) c.args.atoms.now (g.S.LinkStore.mem_id c.args.m)) (g.S.LinkStore.atom_id c.args.from) c.args.port c.in-Some.root
     c.in-Some.ensures.there c.in-Some.ensures.link (c.is_whole.ensures.whole.0 c.if-is_whole.true)
 
-pub returns-in-Some-else-is_whole-clause-end : goal.returns-in-Some-else-is_whole-clause-end
-returns-in-Some-else-is_whole-clause-end g c =
-    no_end_with g.S.LinkStore.atom_id (g.S.LinkStore.heap c.args.store.now) (IsWholeApart g.S.LinkStore.atom_id (g.S.LinkStore.heap c.args.store.now) c.args.atoms.now (g.S.LinkStore.mem_id c.args.m)) (g.S.LinkStore.atom_id c.args.from) c.args.port (Some (c.in-Some.root, c.in-Some.entered))
+pub returns-else-is_whole-clause-end : goal.returns-else-is_whole-clause-end
+returns-else-is_whole-clause-end g c =
+    no_end_with g.S.LinkStore.atom_id (g.S.LinkStore.heap c.args.store.now) (IsWholeApart g.S.LinkStore.atom_id (g.S.LinkStore.heap c.args.store.now) c.args.atoms.now (g.S.LinkStore.mem_id c.args.m)) (g.S.LinkStore.atom_id c.args.from) c.args.port (Some c.in-Some.root)
     c.in-Some.ensures.link (λ w. (let t : c.is_whole.result ≡ true = c.is_whole.ensures.whole.1 w in let f = c.if-is_whole.false in cc))
 
 pub returns-in-None-clause-end : goal.returns-in-None-clause-end
