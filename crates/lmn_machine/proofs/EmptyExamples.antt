@@ -5,10 +5,11 @@ use Rattle.lmn_store_heap.specs.Conditions.{Above}
 use Rattle.lmn_store_trait.specs.Awake.{awake_mark}
 use Rattle.lmn_instr_code.specs.Running.{HeadRegisters}
 use Rattle.lmn_solid_bodies.specs.Running.{Registers}
+use Rattle.lmn_machine_commit.specs.Examples.{number}
 use Rattle.lmn_machine_commit.specs.Waking.{Commits, IsAwakeRound, IsRoused}
 use Rattle.lmn_machine_commit.proofs.Rules.{itself}
 use Rattle.lmn_machine_commit.proofs.Rousing.{no_marks}
-use Rattle.lmn_machine.specs.Examples.{number, EmptyHeadIsFound, EmptyHeadIsThere, EmptyBodyIsMatched, EmptyBodyFires, CopiesAreNotMatched}
+use Rattle.lmn_machine.specs.Examples.{EmptyHeadIsFound, EmptyHeadIsThere, EmptyBodyIsMatched, EmptyBodyFires, CopiesAreNotMatched}
 use Rattle.lmn_machine.proofs.FromOne.{held_one}
 
 -- an empty head is found

@@ -1,19 +1,11 @@
 -- Examples of what the machine asks and answers: of a rule in membrane 0, with handles that are their numbers.
-use Rattle.std.specs.Prelude.{ℕ, true, false, List, [], ◌∷◌}
+use Rattle.std.specs.Prelude.{ℕ, true, false, [], ◌∷◌}
 use Rattle.lmn_store_heap.specs.Heap.{Heap, IsMem}
 use Rattle.lmn_machine_registers.specs.declared.registers.PartCopy.{PartCopy}
-use Rattle.lmn_machine_registers.specs.declared.registers.SetRegisters.{SetRegisters}
+use Rattle.lmn_machine_commit.specs.Examples.{home_set, number}
 use Rattle.lmn_machine_commit.specs.Waking.{IsAwakeRound}
 use Rattle.lmn_machine.specs.Firing.{FiresPrepared, HoldsMatch}
 use Rattle.lmn_machine.specs.Searching.{Looked}
-
--- a handle is its number
-abbrev pub number : ℕ → ℕ
-number n = n
-
--- the membrane of the rule alone is set
-abbrev pub home_set : List (PartCopy ℕ) → SetRegisters ℕ ℕ
-home_set copies = record { atoms = []; membranes = 0 ∷ []; parts = []; integers = []; copies = copies }
 
 -- an empty head is found
 abbrev pub EmptyHeadIsFound : Type 0

@@ -25,3 +25,4 @@ pub mod Only
 pub mod Woken
 pub mod Touched
 pub mod Roused
+pub mod EmptyExamples

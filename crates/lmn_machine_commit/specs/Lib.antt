@@ -6,3 +6,4 @@ pub mod Matched
 pub mod Orders
 pub mod Waking
 pub mod Touching
+pub mod Examples

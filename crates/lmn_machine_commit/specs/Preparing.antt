@@ -146,6 +146,16 @@ HoldsCopied {A} {M} atom membrane s g r i = (m n : ℕ) (x : M) → i ≡ CopyCe
 abbrev pub AreAtHome : {A : Type 0} → (A → ℕ) → Heap → List (A × ℕ) → Type 0
 AreAtHome {A} atom s parts = (k : ℕ) (p : A × ℕ) → slice_get parts k ≡ Some p → (m : ℕ) × ((a : ℕ) → Reached (atom_map s) (port_id atom p) a → home_of s a ≡ Some m)
 
+-- Code can be prepared with registers: they hold what is there and are set in order, parts in them can be copied and stand in one
+-- membrane each, the rests that the code copies can be copied, and no copy is set.
+pub record CanPrepare {A M : Type 0} (atom : A → ℕ) (membrane : M → ℕ) (h : Heap) (g : SetRegisters A M) (code : List Instr) : Type 0 where
+  pub held : AreHeld atom membrane h g
+  pub parts : CanCopy atom h g
+  pub homes : AreAtHome atom h g.parts
+  pub rests : CanCopyRests atom membrane h g code
+  pub copies : g.copies ≡ []
+  pub order : BodyInOrder (length g.atoms) (length g.membranes) (length g.parts) (length g.integers) 0 code
+
 -- Of the heap t everything that isn't in the heap s waits, and is joined to none that doesn't; membranes may have other
 -- spares. So what is made can be given up.
 --   kept      the atoms of s are as they were

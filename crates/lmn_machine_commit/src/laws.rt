@@ -1,4 +1,5 @@
 //! Laws of the code of bodies.
+ghost use Rattle.lmn_machine_commit.specs.Examples.{CopiesAreNotReady, EmptyBodyIsReady};
 ghost use Rattle.lmn_machine_commit.specs.Matched.{BodiesCanBeCommitted};
 ghost use Rattle.lmn_machine_commit.specs.Orders.{BodiesAreInOrder};
 ghost use Rattle.lmn_machine_commit.specs.Touching.{RulesWakeTouched};
@@ -17,4 +18,16 @@ pub fn bodies_can_be_committed()
 /// The code of the body of a rule that is committed wakes what the rule touches, and nothing else.
 pub fn rules_wake_touched()
     ensures { RulesWakeTouched }
+{}
+
+/// An empty body can be prepared where a membrane alone is set.
+#[tactic(auto, using(crate::proofs::EmptyExamples::empty_body_is_ready))]
+pub fn empty_body_is_ready()
+    ensures { EmptyBodyIsReady }
+{}
+
+/// It can't be prepared where a copy is set that no body has made.
+#[tactic(auto, using(crate::proofs::EmptyExamples::copies_are_not_ready))]
+pub fn copies_are_not_ready()
+    ensures { CopiesAreNotReady }
 {}

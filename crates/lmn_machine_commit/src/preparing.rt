@@ -1,11 +1,11 @@
 //! Makes all that the code of a body makes.
-ghost use Rattle.std.specs.Prelude.{◌≡◌, ◌<◌, ◌≤◌, ◌+◌, ℕ, [], length, take, slice_get, Some, IfOk, OnOk, OnErr};
+ghost use Rattle.std.specs.Prelude.{◌≡◌, ◌<◌, ◌≤◌, ◌+◌, ℕ, length, take, slice_get, Some, IfOk, OnOk, OnErr};
 ghost use Rattle.lmn_store_heap.specs.Heap.{IsMem, reserved, rules_in, spare_of, Unmarked};
 ghost use Rattle.lmn_store_heap.specs.Sound.{Valid};
 ghost use Rattle.lmn_solid_bodies.specs.Running.{Registers};
 ghost use Rattle.lmn_solid_bodies.specs.Stopping.{SameButSpares};
 ghost use Rattle.lmn_machine_commit.specs.Registers.{AgreesWithCopies, AreHeld};
-ghost use Rattle.lmn_machine_commit.specs.Preparing.{AddsSo, AllUse, AreAtHome, AtomIsMade, CanBeCopied, CanCopy, CanCopyRest, CanCopyRests, CopyIsMade, HasClosedRest, RestIsMade, MembraneIsMade, OnlyMakes, BodyInOrder, IsCounted, IsCountedOn, IsMade, Prepared, UsesInOrder, Uses, needed, needed_by};
+ghost use Rattle.lmn_machine_commit.specs.Preparing.{AddsSo, AllUse, AreAtHome, AtomIsMade, CanBeCopied, CanCopy, CanCopyRest, CanPrepare, CopyIsMade, HasClosedRest, RestIsMade, MembraneIsMade, OnlyMakes, IsCounted, IsCountedOn, IsMade, Prepared, UsesInOrder, Uses, needed, needed_by};
 ghost use Rattle.lmn_machine_registers.specs.declared.stack.TheConstants.{ROOM};
 
 use crate::marking::mark_taken;
@@ -316,12 +316,7 @@ fn make_all<S: LinkStore>(
 ) -> Result<(), NoMemory>
     requires valid { Valid (S.heap store.old) }
     requires unmarked { Unmarked (S.heap store.old) }
-    requires held { AreHeld S.atom_id S.mem_id (S.heap store.old) set.old }
-    requires parts { CanCopy S.atom_id (S.heap store.old) set.old }
-    requires homes { AreAtHome S.atom_id (S.heap store.old) set.old.parts }
-    requires rests { CanCopyRests S.atom_id S.mem_id (S.heap store.old) set.old code.now }
-    requires copies { set.old.copies ≡ [] }
-    requires order { BodyInOrder (length set.old.atoms) (length set.old.membranes) (length set.old.parts) (length set.old.integers) 0 code.now }
+    requires can { CanPrepare S.atom_id S.mem_id (S.heap store.old) set.old code.now }
     ensures ok { OnOk result (Prepared S.atom_id S.mem_id (S.heap store.old) (S.heap store.new) set.old set.new code.now) }
     ensures makes { OnlyMakes (S.heap store.old) (S.heap store.new) }
 {
@@ -351,12 +346,7 @@ pub fn prepare<S: LinkStore>(
 ) -> Result<(), NoMemory>
     requires valid { Valid (S.heap store.old) }
     requires unmarked { Unmarked (S.heap store.old) }
-    requires held { AreHeld S.atom_id S.mem_id (S.heap store.old) set.old }
-    requires parts { CanCopy S.atom_id (S.heap store.old) set.old }
-    requires homes { AreAtHome S.atom_id (S.heap store.old) set.old.parts }
-    requires rests { CanCopyRests S.atom_id S.mem_id (S.heap store.old) set.old code.now }
-    requires copies { set.old.copies ≡ [] }
-    requires order { BodyInOrder (length set.old.atoms) (length set.old.membranes) (length set.old.parts) (length set.old.integers) 0 code.now }
+    requires can { CanPrepare S.atom_id S.mem_id (S.heap store.old) set.old code.now }
     ensures ok { OnOk result (Prepared S.atom_id S.mem_id (S.heap store.old) (S.heap store.new) set.old set.new code.now) }
     ensures err { OnErr result (SameButSpares (S.heap store.old) (S.heap store.new)) }
     ensures valid { OnErr result (Valid (S.heap store.new)) }

@@ -38,10 +38,10 @@ pub loop-i-init : goal.loop-i-init
 loop-i-init g c =
     let h = g.S.LinkStore.heap c.args.store.now in
     let apart : IsApart g.S.LinkStore.atom_id g.S.LinkStore.mem_id h c.args.set.now c.args.set.now = record { atoms = λ j a e. inl e; membranes = λ j m e. inl e } in
-    let begun = pass_to g.S.LinkStore.atom_id g.S.LinkStore.mem_id h h c.requires.valid c.args.set.now c.args.set.now apart c.requires.parts c.requires.held c.args.code.now c.requires.rests 0 c.first_made-first.result
+    let begun = pass_to g.S.LinkStore.atom_id g.S.LinkStore.mem_id h h c.requires.valid c.args.set.now c.args.set.now apart c.requires.can.parts c.requires.can.held c.args.code.now c.requires.can.rests 0 c.first_made-first.result
     (omega arith) c.first_made-first.ensures.within (λ j x a b e m. c.first_made-first.ensures.none j x b e m) (
-      prepared_nothing g.S.LinkStore.atom_id g.S.LinkStore.mem_id h c.args.set.now c.requires.copies c.requires.held,
-      subst (λ n. BodyInOrder (length c.args.set.now.atoms) (length c.args.set.now.membranes) (length c.args.set.now.parts) (length c.args.set.now.integers) n c.args.code.now) (sym (ap length c.requires.copies)) c.requires.order,
+      prepared_nothing g.S.LinkStore.atom_id g.S.LinkStore.mem_id h c.args.set.now c.requires.can.copies c.requires.can.held,
+      subst (λ n. BodyInOrder (length c.args.set.now.atoms) (length c.args.set.now.membranes) (length c.args.set.now.parts) (length c.args.set.now.integers) n c.args.code.now) (sym (ap length c.requires.can.copies)) c.requires.can.order,
     ) in
     record {
       done = begun.0;
@@ -59,13 +59,13 @@ make-requires-clause-unmarked g c = c.loop-i.invariant.done.makes.unmarked c.req
 
 pub make-requires-clause-parts : goal.make-requires-clause-parts
 make-requires-clause-parts g c = still_copies g.S.LinkStore.atom_id g.S.LinkStore.mem_id (g.S.LinkStore.heap c.args.store.now) (g.S.LinkStore.heap c.loop-i.store) c.args.set.now c.loop-i.set (take c.loop-i.i c.args.code.now)
-    c.requires.valid.sound.paired c.loop-i.invariant.done c.requires.parts
+    c.requires.valid.sound.paired c.loop-i.invariant.done c.requires.can.parts
 
 pub make-requires-clause-homes : goal.make-requires-clause-homes
-make-requires-clause-homes g c = still_at_home g.S.LinkStore.atom_id g.S.LinkStore.mem_id (g.S.LinkStore.heap c.args.store.now) (g.S.LinkStore.heap c.loop-i.store) c.requires.valid c.loop-i.invariant.done.makes (c.loop-i.invariant.done.makes.rest (g.S.LinkStore.heap c.args.store.now) (itself (g.S.LinkStore.heap c.args.store.now) c.requires.valid).1) c.args.set.now c.loop-i.set c.loop-i.invariant.done.grows c.loop-i.invariant.apart c.requires.parts c.requires.homes
+make-requires-clause-homes g c = still_at_home g.S.LinkStore.atom_id g.S.LinkStore.mem_id (g.S.LinkStore.heap c.args.store.now) (g.S.LinkStore.heap c.loop-i.store) c.requires.valid c.loop-i.invariant.done.makes (c.loop-i.invariant.done.makes.rest (g.S.LinkStore.heap c.args.store.now) (itself (g.S.LinkStore.heap c.args.store.now) c.requires.valid).1) c.args.set.now c.loop-i.set c.loop-i.invariant.done.grows c.loop-i.invariant.apart c.requires.can.parts c.requires.can.homes
 
 pub make-requires-clause-rest : goal.make-requires-clause-rest
-make-requires-clause-rest g c = still_copied_rests g.S.LinkStore.atom_id g.S.LinkStore.mem_id (g.S.LinkStore.heap c.args.store.now) (g.S.LinkStore.heap c.loop-i.store) c.requires.valid c.loop-i.invariant.done.makes (c.loop-i.invariant.done.makes.rest (g.S.LinkStore.heap c.args.store.now) (itself (g.S.LinkStore.heap c.args.store.now) c.requires.valid).1) c.args.set.now c.loop-i.set c.loop-i.invariant.done.grows c.loop-i.invariant.apart c.requires.parts c.requires.held c.args.code.now c.loop-i.i c.at-instr.result.now c.at-instr.ensures c.requires.rests
+make-requires-clause-rest g c = still_copied_rests g.S.LinkStore.atom_id g.S.LinkStore.mem_id (g.S.LinkStore.heap c.args.store.now) (g.S.LinkStore.heap c.loop-i.store) c.requires.valid c.loop-i.invariant.done.makes (c.loop-i.invariant.done.makes.rest (g.S.LinkStore.heap c.args.store.now) (itself (g.S.LinkStore.heap c.args.store.now) c.requires.valid).1) c.args.set.now c.loop-i.set c.loop-i.invariant.done.grows c.loop-i.invariant.apart c.requires.can.parts c.requires.can.held c.args.code.now c.loop-i.i c.at-instr.result.now c.at-instr.ensures c.requires.can.rests
 
 pub returns-in_err-make-clause-makes : goal.returns-in_err-make-clause-makes
 returns-in_err-make-clause-makes g c = makes_on (g.S.LinkStore.heap c.args.store.now) (g.S.LinkStore.heap c.loop-i.store) (g.S.LinkStore.heap c.make.new.store) c.loop-i.invariant.done.makes c.make.ensures.makes
@@ -81,8 +81,8 @@ loop-i-preserved g c =
       done = subst (λ is. Prepared g.S.LinkStore.atom_id g.S.LinkStore.mem_id (g.S.LinkStore.heap c.args.store.now) (g.S.LinkStore.heap c.make.new.store) c.args.set.now c.make.new.set is) (sym (take_get c.loop-i.i c.args.code.now c.at-instr.result.now here))
           (prepared_more g.S.LinkStore.atom_id g.S.LinkStore.mem_id (g.S.LinkStore.heap c.args.store.now) (g.S.LinkStore.heap c.loop-i.store) (g.S.LinkStore.heap c.make.new.store) c.args.set.now c.loop-i.set c.make.new.set (take c.loop-i.i c.args.code.now) c.at-instr.result.now (length c.loop-i.set.integers)
           c.loop-i.invariant.done made c.make.ensures.makes
-          (still_holds g.S.LinkStore.atom_id g.S.LinkStore.mem_id (g.S.LinkStore.heap c.args.store.now) (g.S.LinkStore.heap c.loop-i.store) c.requires.valid c.loop-i.invariant.done.makes (c.loop-i.invariant.done.makes.rest (g.S.LinkStore.heap c.args.store.now) (itself (g.S.LinkStore.heap c.args.store.now) c.requires.valid).1) c.args.set.now c.loop-i.set c.loop-i.invariant.done.grows c.loop-i.invariant.apart c.requires.parts c.requires.held c.args.code.now c.loop-i.i c.at-instr.result.now here c.requires.rests) order.0);
-      apart = apart_more g.S.LinkStore.atom_id g.S.LinkStore.mem_id (g.S.LinkStore.heap c.args.store.now) (g.S.LinkStore.heap c.loop-i.store) c.requires.valid c.loop-i.invariant.done.makes (c.loop-i.invariant.done.makes.rest (g.S.LinkStore.heap c.args.store.now) (itself (g.S.LinkStore.heap c.args.store.now) c.requires.valid).1) c.args.set.now c.loop-i.set c.loop-i.invariant.done.grows c.loop-i.invariant.apart c.requires.parts c.make.new.set made.new_atoms made.new_membranes;
+          (still_holds g.S.LinkStore.atom_id g.S.LinkStore.mem_id (g.S.LinkStore.heap c.args.store.now) (g.S.LinkStore.heap c.loop-i.store) c.requires.valid c.loop-i.invariant.done.makes (c.loop-i.invariant.done.makes.rest (g.S.LinkStore.heap c.args.store.now) (itself (g.S.LinkStore.heap c.args.store.now) c.requires.valid).1) c.args.set.now c.loop-i.set c.loop-i.invariant.done.grows c.loop-i.invariant.apart c.requires.can.parts c.requires.can.held c.args.code.now c.loop-i.i c.at-instr.result.now here c.requires.can.rests) order.0);
+      apart = apart_more g.S.LinkStore.atom_id g.S.LinkStore.mem_id (g.S.LinkStore.heap c.args.store.now) (g.S.LinkStore.heap c.loop-i.store) c.requires.valid c.loop-i.invariant.done.makes (c.loop-i.invariant.done.makes.rest (g.S.LinkStore.heap c.args.store.now) (itself (g.S.LinkStore.heap c.args.store.now) c.requires.valid).1) c.args.set.now c.loop-i.set c.loop-i.invariant.done.grows c.loop-i.invariant.apart c.requires.can.parts c.make.new.set made.new_atoms made.new_membranes;
       order = in_order_next g.S.LinkStore.atom_id g.S.LinkStore.mem_id c.loop-i.set c.make.new.set c.at-instr.result.now (drop (c.loop-i.i + 1) c.args.code.now) made.atoms made.membranes made.grows.parts made.grows.integers made.copies order;
       within = (let before = c.loop-i-test.true in let few = c.last_made-last.ensures.within in omega (arith, before, few));
       counted = counted_on g.S.LinkStore.atom_id g.S.LinkStore.mem_id (g.S.LinkStore.heap c.loop-i.store) (g.S.LinkStore.heap c.make.new.store) c.loop-i.set c.make.new.set (take c.loop-i.i c.args.code.now) c.at-instr.result.now (length c.loop-i.set.integers) c.in_ok-next.next.register c.in_ok-next.next.count c.count_on-counted.result.register c.count_on-counted.result.count
@@ -94,6 +94,6 @@ returns-clause-ok g c =
     let past = c.loop-i-test.false in
     let code = c.args.code.now in
     let h = g.S.LinkStore.heap c.args.store.now in
-    let all = pass_to g.S.LinkStore.atom_id g.S.LinkStore.mem_id h (g.S.LinkStore.heap c.loop-i.store) c.requires.valid c.args.set.now c.loop-i.set c.loop-i.invariant.apart c.requires.parts c.requires.held code c.requires.rests c.loop-i.i (length code)
+    let all = pass_to g.S.LinkStore.atom_id g.S.LinkStore.mem_id h (g.S.LinkStore.heap c.loop-i.store) c.requires.valid c.args.set.now c.loop-i.set c.loop-i.invariant.apart c.requires.can.parts c.requires.can.held code c.requires.can.rests c.loop-i.i (length code)
     c.loop-i.invariant.within (omega arith) (λ j x a b e m. c.last_made-last.ensures.none j x (omega (arith, past, a)) e m) (c.loop-i.invariant.done, c.loop-i.invariant.order) in
     subst (λ is. Prepared g.S.LinkStore.atom_id g.S.LinkStore.mem_id h (g.S.LinkStore.heap c.loop-i.store) c.args.set.now c.loop-i.set is) (take_all code (length code) (omega arith)) all.0

@@ -1,0 +1,25 @@
+-- When an empty body can be prepared.
+use Rattle.std.proofs.Common.{ℕ, zero, suc, ◌≡◌, [], ◌∷◌, Some, refl, subst}
+use Rattle.std.specs.Prelude.{slice_get}
+use Rattle.lmn_store_heap.specs.Heap.{Heap, IsMem}
+use Rattle.lmn_machine_commit.specs.Examples.{EmptyBodyIsReady, CopiesAreNotReady}
+
+-- the one membrane is there
+one_there : (h : Heap) (k m : ℕ) → IsMem h 0 → slice_get (0 ∷ []) k ≡ Some m → IsMem h m
+one_there h zero m there e = let t : 0 ≡ m = cc in subst (λ n. IsMem h n) t there
+one_there h (suc k) m there e = absurd (cc)
+
+-- an empty body is ready
+pub empty_body_is_ready : EmptyBodyIsReady
+empty_body_is_ready h there = record {
+  held = record { atoms = λ k a e. absurd (cc); membranes = λ k m e. one_there h k m there e; parts = λ k p e. absurd (cc) };
+  parts = λ k p e. absurd (cc);
+  homes = λ k p e. absurd (cc);
+  rests = λ at m n e. absurd (cc);
+  copies = refl;
+  order = tt;
+}
+
+-- but not with a copy
+pub copies_are_not_ready : CopiesAreNotReady
+copies_are_not_ready h c t = let e = t.copies in cc
