@@ -14,9 +14,6 @@ use Rattle.lmn_solid_bodies.specs.Running.{Registers, Prepares, DoesAll, Makes, 
 use Rattle.lmn_solid_bodies.specs.Tied.{tied}
 use Rattle.lmn_solid_bodies.proofs.RestsMade.{joined_lines}
 use Rattle.lmn_solid_bodies.proofs.RestMems.{like_mems}
-use Rattle.lmn_solid_bodies.proofs.Common.{placed_root, tied_root, commits_root as root_stays, does_root, membranes_root, rest_placed_root}
-use Rattle.lmn_store_heap.proofs.Common.{taken_root}
-use Rattle.lmn_ground_parts.proofs.Common.{copies_root, mems_taken_root}
 
 -- each membrane that is there was there, with the same mark
 abbrev pub Kept : (ℕ → Option HeapMem) → (ℕ → Option HeapMem) → Type 0

@@ -10,7 +10,7 @@ use Rattle.lmn_store_heap.specs.Heap.{Heap, HeapMem, Place, top, within, waiting
 use Rattle.lmn_store_heap.specs.Sound.{Sound, Valid, AtMost, flat}
 use Rattle.lmn_store_heap.specs.Conditions.{Above}
 use Rattle.lmn_store_heap.proofs.Listing.{home_is}
-use Rattle.lmn_store_heap.proofs.Heights.{parent_place, mem_of_list, mem_of_place, climbs_both, climbs_first, one_above, has_parent, depth_of}
+use Rattle.lmn_store_heap.proofs.Heights.{mem_of_place, climbs_both, climbs_first, one_above, has_parent, depth_of}
 use Rattle.lmn_store_heap.proofs.Pigeonholes.{not_longer}
 use Rattle.lmn_schedule_sleep.specs.Quiet.{SameButMarks}
 use Rattle.lmn_schedule_sleep.proofs.Marks.{ReadAlike, read_alike, alike_back, above_alike}

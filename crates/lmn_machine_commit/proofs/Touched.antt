@@ -4,7 +4,6 @@ use Rattle.std.specs.Prelude.{slice_index_or}
 use Rattle.std.specs.Option.{option_map}
 use Rattle.std.proofs.lemmas.Bool.{cases_eq}
 use Rattle.std.proofs.lemmas.Option.{slice_get_within}
-use Rattle.lmn_base.proofs.Common.{of_map}
 use Rattle.lmn_base.specs.Graphs.{Reached, at_root, across, Port}
 use Rattle.lmn_base.specs.Lists.{In}
 use Rattle.lmn_base.proofs.Lists.{in_either}
@@ -28,20 +27,19 @@ use Rattle.lmn_congruence_splice.specs.Splice.{of_solid}
 use Rattle.lmn_ground_parts.proofs.AnswerLaws.{answer_in}
 use Rattle.lmn_solid_bodies.specs.declared.items.BodyItem.{BodyItem}
 use Rattle.lmn_solid_bodies.specs.declared.items.BodyItem.TheVariants.{Atom, Connector, Copy, Bound, Membrane, Rest, Rule, Rules}
-use Rattle.lmn_solid_bodies.specs.Added.{if_inside, added_atoms, added_mems, added_rules, made_mems, moved_mems}
+use Rattle.lmn_solid_bodies.specs.Added.{added_atoms, added_mems, added_rules, made_mems, moved_mems}
 use Rattle.lmn_solid_bodies.specs.Fired.{images_of}
 use Rattle.lmn_solid_bodies.specs.Names.{Names}
-use Rattle.lmn_solid_bodies.specs.RestCopies.{RestCopies, AreAsLong, IsAsLong, later, rest_membranes, copied_atom, copied_membrane, copied_into, given}
+use Rattle.lmn_solid_bodies.specs.RestCopies.{RestCopies, AreAsLong, IsAsLong, later, rest_membranes, copied_atom, copied_membrane, copied_into}
 use Rattle.lmn_solid_bodies.specs.Rules.{NestedRule, PartAtoms, StandsIn, WellPlaced}
 use Rattle.lmn_solid_bodies.specs.Running.{Registers}
 use Rattle.lmn_solid_bodies.specs.Within.{FiresWithin, membrane_images, dropped_atoms, dropped_mems, removed_mems}
-use Rattle.lmn_solid_bodies.proofs.AddedLemmas.{AreWholeRests, comes_from, in_if, long_enough}
+use Rattle.lmn_solid_bodies.proofs.AddedLemmas.{comes_from}
 use Rattle.lmn_solid_bodies.proofs.Below.{removed_is}
 use Rattle.lmn_solid_bodies.proofs.Committing.{in_withouts_of}
 use Rattle.lmn_solid_bodies.proofs.Held.{Held}
-use Rattle.lmn_solid_bodies.proofs.RestGrowing.{given_none, in_given}
+use Rattle.lmn_solid_bodies.proofs.RestGrowing.{given_none}
 use Rattle.lmn_schedule_sleep.specs.Quiet.{IsQuiet, IsUntouched}
-use Rattle.lmn_store_heap.proofs.Groves.{without_absent as without_no}
 use Rattle.lmn_solid_bodies.proofs.Common.{mems_moved}
 use Rattle.lmn_solid_heads.proofs.Common.{without_none as withouts_no}
 
