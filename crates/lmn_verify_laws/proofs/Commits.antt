@@ -99,7 +99,7 @@ module _ (r : Registers) where
         by true e = nothing (body_drops (k + 1) bs) e
         by false e = e
 
-each_ties : (is js : List Instr) → EachTie is js → list_all is_tie is ≡ true → list_all is_tie js ≡ true
+pub each_ties : (is js : List Instr) → EachTie is js → list_all is_tie is ≡ true → list_all is_tie js ≡ true
 each_ties [] [] e t = refl
 each_ties [] (j ∷ js) e t = absurd e
 each_ties (i ∷ is) [] e t = absurd e

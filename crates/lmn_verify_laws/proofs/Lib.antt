@@ -27,3 +27,6 @@ mod Fires
 pub mod Unmarked
 pub mod Integers
 mod FlatRules
+mod Quieted
+mod Failing
+mod Quiet

@@ -19,6 +19,7 @@ use Rattle.lmn_machine_laws.specs.AcceptedCode.{SetsItems}
 use Rattle.lmn_schedule_sleep.specs.Quiet.{SameButMarks}
 use Rattle.lmn_congruence_splice.specs.Splice.{IsOneOf}
 use Rattle.lmn_verify_code.specs.Verified.{IsVerified}
+use Rattle.lmn_schedule_strategy.specs.Quieting.{AreQuiet, IsQuietCode}
 use Rattle.lmn_schedule_strategy.specs.Turns.{AreRunnable, HoldsRestsOf, IsReadyCode, IsRestOf, IsRunnable, Loads}
 use Rattle.lmn_verify_laws.specs.Flat.{flat_head, flat_body, link_count}
 
@@ -65,6 +66,15 @@ abbrev pub VerifiedFires : Type 0
 VerifiedFires = (code : Code) (k : ℕ) → IsVerified code k → (h : Heap) (m : ℕ) (r : Registers) → Valid h → IsMemInPlace h m →
     IsFirstSuccess h code.head m r.head → HoldsRestsOf h code.head r → (z : Heap) → Commits h r code.body z →
     (t : Heap) × SameButMarks t z × Valid t × FiresFlat (flat_head code) (flat_body code) r h t
+
+-- A membrane in which verified code has failed may sleep: the code fails there until something in the membrane or below it is touched, and
+-- its own commit wakes what it touches.
+abbrev pub VerifiedIsQuiet : Type 0
+VerifiedIsQuiet = (code : Code) (k : ℕ) → IsVerified code k → IsQuietCode code
+
+-- So it is with codes that are verified with their number.
+abbrev pub VerifiedAreQuiet : Type 0
+VerifiedAreQuiet = (codes : List Code) → ((n : ℕ) (code : Code) → slice_get codes n ≡ Some code → IsVerified code (length codes)) → AreQuiet codes
 
 -- No mark of an atom comes where code is committed.
 abbrev pub CommitsStayUnmarked : Type 0

@@ -2,7 +2,7 @@
 #![tactic(auto)]
 
 ghost use Rattle.lmn_verify_laws.specs.FlatExamples.{FlatExamples};
-ghost use Rattle.lmn_verify_laws.specs.Laws.{CommitsStayUnmarked, IntegersAreOne, VerifiedAreRunnable, VerifiedCopiesClosed, VerifiedFires, VerifiedHeadsLie, VerifiedHoldsRests, VerifiedIsInOrder, VerifiedIsRule, VerifiedIsRunnable, VerifiedSetsFlat};
+ghost use Rattle.lmn_verify_laws.specs.Laws.{CommitsStayUnmarked, IntegersAreOne, VerifiedAreQuiet, VerifiedAreRunnable, VerifiedCopiesClosed, VerifiedFires, VerifiedHeadsLie, VerifiedHoldsRests, VerifiedIsInOrder, VerifiedIsQuiet, VerifiedIsRule, VerifiedIsRunnable, VerifiedSetsFlat};
 
 use lmn_machine_commit::bodies_can_be_committed;
 use lmn_machine_laws::bodies_cost_what_is_told;
@@ -44,6 +44,13 @@ pub fn verified_is_runnable()
 /// membrane are those of the firing, and the heap is valid.
 pub fn verified_fires()
     ensures { VerifiedFires }
+{}
+
+/// A membrane in which verified code has failed may sleep until something in it or below it is touched, as where the code is that of a
+/// rule: all that the head looks at stands there or is joined to what does.
+pub fn verified_is_quiet()
+    ensures one { VerifiedIsQuiet }
+    ensures all { VerifiedAreQuiet }
 {}
 
 /// Where code is committed on a heap of which each mark of an atom is 0, each mark of an atom is 0.
