@@ -26,13 +26,18 @@ idle = record { head = Commit ∷ []; body = Proceed ∷ [] }
 abbrev pub ruled : Heap
 ruled = rule_added lone_root 0 0
 
--- Without codes a turn can be made over the root alone, and not where a rule stands in it, nor where it sleeps.
+-- Without codes a turn can be made over the root alone, be it awake or asleep, and not where a rule stands in it.
 abbrev pub NoCodesCanTurn : Type 0
-NoCodesCanTurn = CodedCanTurn lone_root [] 0 × (CodedCanTurn ruled [] 0 → ⊥) × (CodedCanTurn (mem_marked lone_root 0 asleep_mark) [] 0 → ⊥)
+NoCodesCanTurn = CodedCanTurn lone_root [] 0 × CodedCanTurn (mem_marked lone_root 0 asleep_mark) [] 0 × (CodedCanTurn ruled [] 0 → ⊥)
 
--- Where one item is allowed a turn of the idle code commits, and where none is it doesn't: it is full. Without codes no turn commits.
+-- By the idle code none can where the root sleeps, since it succeeds there.
+abbrev pub IdleCodeKeepsAwake : Type 0
+IdleCodeKeepsAwake = (size : ℕ) → CodedCanTurn (mem_marked ruled 0 asleep_mark) (idle ∷ []) size → ⊥
+
+-- Where one item is allowed a turn of the idle code commits, and where none is it doesn't: it is full, and is so too where the mark of the
+-- root says that it sleeps. Without codes no turn commits.
 abbrev pub IdleCodeCommits : Type 0
-IdleCodeCommits = CodedRun (idle ∷ []) 1 ruled 1 (finished ruled) × CodedTurn (idle ∷ []) 0 ruled Full ruled
+IdleCodeCommits = CodedRun (idle ∷ []) 1 ruled 1 (finished ruled) × CodedTurn (idle ∷ []) 0 ruled Full ruled × CodedTurn (idle ∷ []) 0 (mem_marked ruled 0 asleep_mark) Full ruled
     × ((size n : ℕ) (h h' : Heap) → CodedRun [] size h (n + 1) h' → ⊥)
 
 -- It is what succeeds, where nothing does without codes.

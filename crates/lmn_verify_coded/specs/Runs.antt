@@ -9,6 +9,7 @@ use Rattle.lmn_store_heap.specs.Solid.{HasSolid}
 use Rattle.lmn_store_heap.specs.Sound.{Forest, IsTree, Valid, flat}
 use Rattle.lmn_instr_code.specs.declared.instr.Code.{Code}
 use Rattle.lmn_io.specs.Taking.{Takes, TakesPrefix}
+use Rattle.lmn_schedule_sleep.specs.Quiet.{SameButMarks}
 use Rattle.lmn_schedule_strategy.specs.Turns.{IsTurn}
 use Rattle.lmn_schedule_strategy.specs.declared.turning.Turn.{Turn}
 use Rattle.lmn_schedule_strategy.specs.declared.turning.Turn.TheVariants as turn
@@ -22,11 +23,14 @@ use Rattle.lmn_app_runs.specs.declared.stop.Stop.{Stop}
 use Rattle.lmn_app_runs.specs.declared.stop.Stop.TheVariants as stop
 use Rattle.lmn_verify_coded.specs.Turning.{SomeIn}
 
--- A turn of codes on a heap, where the root is asked first: the heap is h' then.
+-- A turn of codes on a heap, where the root is asked first: the heap is h' then. Marks of membranes, by which some aren't asked, are no part of
+-- what is chosen: `lulled` is h but for these, and what is chosen there is the first of all membranes.
 pub record CodedTurn (codes : List Code) (size : ℕ) (h : Heap) (answer : Turn) (h' : Heap) : Type 0 where
   pub tree : Forest
   pub is_tree : IsTree h tree
-  pub turn : IsTurn h codes tree 0 size answer h'
+  pub lulled : Heap
+  pub alike : SameButMarks h lulled
+  pub turn : IsTurn lulled codes tree 0 size answer h'
 
 -- n turns that commit lead from h to h', and the heap is valid after each.
 pub data CodedRun (codes : List Code) (size : ℕ) (h : Heap) : ℕ → Heap → Type 0 where
@@ -40,7 +44,8 @@ pub record IsReducible (codes : List Code) (h : Heap) : Type 0 where
   pub some : SomeIn h codes (flat tree)
 
 -- Why a run stops at the heap h after n commits: no code succeeds; the budget is done, and some code succeeds; what is chosen would leave
--- more items than the size; memory is wanting for what is chosen, which would not. The heap is h' then.
+-- more items than the size; memory is wanting for what is chosen, which would not. The heap is h' then: h, but for marks of membranes, and
+-- for room for rules where memory is wanting.
 abbrev pub CodesStopBy : List Code → (budget size n : ℕ) → Heap → Stop → Heap → Type 0
 CodesStopBy codes budget size n h stop.Irreducible h' = (n ≤ budget) × CodedTurn codes size h turn.Irreducible h'
 CodesStopBy codes budget size n h stop.Budget h' = (n ≡ budget) × IsReducible codes h × (h' ≡ h)
