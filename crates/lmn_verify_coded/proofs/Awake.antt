@@ -1,56 +1,72 @@
--- What a turn and a count are where all membranes are awake and none may fall asleep.
-use Rattle.std.proofs.Common.{ℕ, ◌≡◌, List, [], ◌∷◌, false, refl, ap, subst, ◌∙◌, arith}
+-- What a turn and a count are where membranes that sleep aren't asked, and those that are asked in vain fall asleep.
+use Rattle.std.proofs.Common.{ℕ, zero, suc, ◌≡◌, ◌≤◌, ◌+◌, List, [], ◌∷◌, length, true, refl, subst, arith}
 use Rattle.std.specs.Prelude.{if◌then◌else◌}
 use Rattle.std.proofs.lemmas.Bool.{eq-eqb}
-use Rattle.lmn_store_heap.specs.Heap.{Heap, mem_mark_of}
-use Rattle.lmn_store_heap.specs.Sound.{Forest, IsTree}
+use Rattle.lmn_base.proofs.Numbers.{not_equal}
+use Rattle.lmn_store_heap.specs.Heap.{Heap, mem_mark_of, rules_in}
+use Rattle.lmn_store_heap.specs.Sound.{Forest, IsTree, flat}
 use Rattle.lmn_instr_code.specs.declared.instr.Code.{Code}
+use Rattle.lmn_schedule_sleep.proofs.Marks.{alike_back, read_alike}
 use Rattle.lmn_schedule_strategy.specs.Choosing.{asked}
-use Rattle.lmn_schedule_strategy.specs.Counting.{AsksRules, CountsAsked, RisesWithin, awake_of}
-use Rattle.lmn_schedule_strategy.specs.Quieting.{AllAwake, SleepsRightly}
-use Rattle.lmn_schedule_strategy.specs.Turns.{Chooses, IsAwakeTurn, IsTurn}
+use Rattle.lmn_schedule_strategy.specs.Counting.{AsksRules, CountsAsked, RisesWithin, asks_all, asks_until, awake_of}
+use Rattle.lmn_schedule_strategy.specs.Quieting.{SleepsRightly}
+use Rattle.lmn_schedule_strategy.specs.Turns.{IsAwakeTurn}
 use Rattle.lmn_schedule_strategy.specs.declared.turning.Turn.{Turn}
 use Rattle.lmn_schedule_strategy.specs.declared.turning.Turn.TheVariants.{Committed, Irreducible, Full, NoMemory}
-use Rattle.lmn_verify_coded.specs.Turning.{KeepsWhole}
+use Rattle.lmn_schedule_strategy.proofs.Lulling.{none_in_back}
+use Rattle.lmn_verify_coded.specs.Runs.{CodedTurn}
 
--- no membrane sleeps in which a code succeeds
-pub awake_rightly : (h : Heap) (codes : List Code) → AllAwake h → SleepsRightly h codes
-awake_rightly h codes all = record { low = λ m. (let e = all m in omega (arith, e)); none = λ m e. (let z = all m in absurd (omega (arith, e, z))) }
+-- a turn by which those that are asked in vain fall asleep is a turn of codes
+pub coded_turn : (h : Heap) (codes : List Code) (f : Forest) → IsTree h f → (size : ℕ) (a : Turn) (h' : Heap) → IsAwakeTurn true h codes f 0 size a h' → CodedTurn codes size h a h'
+coded_turn h codes f tree size Committed h' t = record { tree = f; is_tree = tree; lulled = t.0; alike = t.2.alike; turn = t.1 }
+coded_turn h codes f tree size Irreducible h' t = record {
+  tree = f;
+  is_tree = tree;
+  lulled = h';
+  alike = t.1.alike;
+  turn = (none_in_back h' h codes (alike_back h h' (read_alike h h' t.1.alike)) (flat f) t.0, refl);
+}
+coded_turn h codes f tree size Full h' t = record { tree = f; is_tree = tree; lulled = t.0; alike = t.2.alike; turn = t.1 }
+coded_turn h codes f tree size NoMemory h' t = record { tree = f; is_tree = tree; lulled = t.0; alike = t.2.alike; turn = t.1 }
 
--- each membrane is among those that are awake
-awake_whole : (h : Heap) → AllAwake h → (ms : List ℕ) → awake_of h ms ≡ ms
-awake_whole h all [] = refl
-awake_whole h all (m ∷ ms) =
-    ap (λ b. if b then m ∷ awake_of h ms else awake_of h ms) (eq-eqb (mem_mark_of h m) 0 (all m)) ∙ ap (λ z. m ∷ z) (awake_whole h all ms)
+-- ---- what is counted
 
--- How many rules are asked of all membranes, and how a count rises by them.
+-- one that is awake is asked, and then others
+asks_awake : (h : Heap) (codes : List Code) (m : ℕ) (ms awake : List ℕ) → ((j : ℕ) → AsksRules h codes awake j → (k : ℕ) × (j ≤ k) × AsksRules h codes ms k) →
+    (n : ℕ) → AsksRules h codes (m ∷ awake) n → (k : ℕ) × (n ≤ k) × AsksRules h codes (m ∷ ms) k
+asks_awake h codes m ms awake rest n (asks_all {n = j} none more) =
+    let q = rest j more in
+    let l = q.1 in
+    (length (rules_in h m) + q.0, omega (arith, l), asks_all none q.2)
+asks_awake h codes m ms awake rest n (asks_until {place = place} first) = (place + 1, omega arith, asks_until first)
+
+-- Where those that sleep would be asked too, no fewer rules are asked: none of theirs succeeds.
+asks_sleepers : (h : Heap) (codes : List Code) → SleepsRightly h codes → (ms : List ℕ) (n : ℕ) → AsksRules h codes (awake_of h ms) n → (k : ℕ) × (n ≤ k) × AsksRules h codes ms k
+asks_sleepers h codes s [] n a = (n, omega arith, a)
+asks_sleepers h codes s (m ∷ ms) n a = by (mem_mark_of h m) refl (asks_sleepers h codes s ms)
+  where
+    by : (mark : ℕ) → mem_mark_of h m ≡ mark → ((j : ℕ) → AsksRules h codes (awake_of h ms) j → (k : ℕ) × (j ≤ k) × AsksRules h codes ms k) → (k : ℕ) × (n ≤ k) × AsksRules h codes (m ∷ ms) k
+    by zero e rest =
+        let z = eq-eqb (mem_mark_of h m) 0 e in
+        asks_awake h codes m ms (awake_of h ms) rest n (subst (λ b. AsksRules h codes (if b then m ∷ awake_of h ms else awake_of h ms) n) z a)
+    by (suc zero) e rest =
+        let z = not_equal (mem_mark_of h m) 0 (λ q. absurd (omega (arith, e, q))) in
+        let q = rest n (subst (λ b. AsksRules h codes (if b then m ∷ awake_of h ms else awake_of h ms) n) z a) in
+        let l = q.1 in
+        (length (rules_in h m) + q.0, omega (arith, l), asks_all (s.none m e) q.2)
+    by (suc (suc mark)) e rest = let l = s.low m in absurd (omega (arith, l, e))
+
+-- How many rules of all membranes would be asked, and how a count rises by them at most.
 pub record CountsWhole (h : Heap) (codes : List Code) (f : Forest) (a b : ℕ) : Type 0 where
   pub rules : ℕ
   pub asks : AsksRules h codes (asked 0 f) rules
   pub rises : RisesWithin rules a b
 
-pub counts_whole : (h : Heap) (codes : List Code) → AllAwake h → (a b : ℕ) → CountsAsked h codes 0 a b → (f : Forest) → IsTree h f → CountsWhole h codes f a b
-counts_whole h codes all a b c f tree =
-    let more = c f tree in record {
-      rules = more.rules;
-      asks = subst (λ ms. AsksRules h codes ms more.rules) (awake_whole h all (asked 0 f)) more.asks;
-      rises = record { rises = more.counts.rises; within = more.counts.within };
-    }
-
--- what is chosen is chosen of the heap as it was
-chooses_there : (h s : Heap) (codes : List Code) (ms : List ℕ) (size : ℕ) (a : Turn) (h' : Heap) → s ≡ h → Chooses s codes ms size a h' → Chooses h codes ms size a h'
-chooses_there h s codes ms size a h' e c = subst (λ z. Chooses z codes ms size a h') e c
-
--- a turn by which none may fall asleep is a turn
-pub awake_turn : (h : Heap) (codes : List Code) (f : Forest) (size : ℕ) (a : Turn) (h' : Heap) → IsAwakeTurn false h codes f 0 size a h' → IsTurn h codes f 0 size a h'
-awake_turn h codes f size Committed h' t = chooses_there h t.0 codes (asked 0 f) size Committed h' t.2 t.1
-awake_turn h codes f size Irreducible h' t = t
-awake_turn h codes f size Full h' t = chooses_there h t.0 codes (asked 0 f) size Full h' t.2 t.1
-awake_turn h codes f size NoMemory h' t = chooses_there h t.0 codes (asked 0 f) size NoMemory h' t.2 t.1
-
--- and what it leaves
-pub turn_keeps : (h : Heap) (codes : List Code) (f : Forest) (size : ℕ) (a : Turn) (h' : Heap) → IsTurn h codes f 0 size a h' → KeepsWhole a h h'
-turn_keeps h codes f size Committed h' t = tt
-turn_keeps h codes f size Irreducible h' t = t.1
-turn_keeps h codes f size Full h' t = t.answered.1
-turn_keeps h codes f size NoMemory h' t = t.answered.1
+-- so it rises where those that are awake are asked
+pub counts_whole : (h : Heap) (codes : List Code) → SleepsRightly h codes → (a b : ℕ) → CountsAsked h codes 0 a b → (f : Forest) → IsTree h f → CountsWhole h codes f a b
+counts_whole h codes sleeps a b c f tree =
+    let more = c f tree in
+    let whole = asks_sleepers h codes sleeps (asked 0 f) more.rules more.asks in
+    let least = whole.1 in
+    let within = more.counts.within in
+    record { rules = whole.0; asks = whole.2; rises = record { rises = more.counts.rises; within = omega (arith, least, within) } }

@@ -11,6 +11,7 @@ use Rattle.lmn_adequacy_choices.specs.Turns.{HaveCodes, tree_over}
 use Rattle.lmn_schedule_strategy.specs.Turns.{IsTurn}
 use Rattle.lmn_schedule_strategy.specs.declared.turning.Turn.{Turn}
 use Rattle.lmn_schedule_strategy.specs.declared.turning.Turn.TheVariants as answer
+use Rattle.lmn_schedule_strategy.proofs.Lulling.{tree_alike}
 use Rattle.lmn_print.specs.Laws.{OneHeapLine}
 use Rattle.lmn_print.specs.Lines.{IsHeapLine}
 use Rattle.lmn_app_runs.specs.Runs.{end_line, word_of_stop}
@@ -25,7 +26,7 @@ use Rattle.lmn_verify_coded.specs.Turning.{SomeIn}
 use Rattle.lmn_verify_coded.specs.Runs.{CodedInput, CodedRun, CodedTurn, CodesStopBy, begun, turned}
 use Rattle.lmn_verify_coded.specs.Laws.{TablesRunAsRules, given_by_codes}
 use Rattle.lmn_verify_coded.proofs.Stopping.{last_line, last_valid}
-use Rattle.lmn_verify_coded.proofs.Turned.{committed, done, embeds, full, no_memory}
+use Rattle.lmn_verify_coded.proofs.Turned.{committed, done, embeds, full, no_memory, on_marks}
 
 module _ (alike : TurnsAreAlike) (of_chooser : TurnsAreOfChooser) (spares : SparesAreNotRead) (marks : MarksAreNotRead) (law : NothingEmbeds) (lines : OneHeapLine)
     (g : CodedInput) (S : Region) (can : EngineCanTurn g.first g.table g.codes g.size) (held : HoldsRegion g.names g.table g.first S) where
@@ -35,9 +36,14 @@ module _ (alike : TurnsAreAlike) (of_chooser : TurnsAreOfChooser) (spares : Spar
   abbrev have : HaveCodes g.table can.plans g.codes
   have = record { whole = can.whole; compiled = can.compiled }
 
-  -- a turn is made over the tree of the solid that the heap holds
-  over_tree : (h : Heap) (T : Region) (o : HoldsRegion g.names g.table h T) (a : Turn) (h' : Heap) → CodedTurn g.codes g.size h a h' → IsTurn h g.codes (tree_over h o.inner) 0 g.size a h'
-  over_tree h T o a h' t = subst (λ f. IsTurn h g.codes f 0 g.size a h') (one_tree h t.tree (tree_over h o.inner) t.is_tree o.tree) t.turn
+  -- where some have fallen asleep the heap holds the solid that it held
+  lulled_held : (h : Heap) (T : Region) → HoldsRegion g.names g.table h T → (a : Turn) (h' : Heap) (t : CodedTurn g.codes g.size h a h') → HoldsRegion g.names g.table t.lulled T
+  lulled_held h T o a h' t = on_marks g.names g.table marks h t.lulled t.alike o.read.valid T o
+
+  -- a turn is made over the tree of that solid
+  over_tree : (h : Heap) (a : Turn) (h' : Heap) (t : CodedTurn g.codes g.size h a h') (T : Region) (o : HoldsRegion g.names g.table t.lulled T) → IsTurn t.lulled g.codes (tree_over t.lulled o.inner) 0 g.size a h'
+  over_tree h a h' t T o =
+      subst (λ f. IsTurn t.lulled g.codes f 0 g.size a h') (one_tree t.lulled t.tree (tree_over t.lulled o.inner) (tree_alike h t.lulled t.alike t.tree t.is_tree) o.tree) t.turn
 
   -- no line is written before the end
   nothing : (old : Option (List ℕ)) (bytes : List ℕ) → bytes ≡ [] → Takes bytes old old
@@ -48,10 +54,10 @@ module _ (alike : TurnsAreAlike) (of_chooser : TurnsAreOfChooser) (spares : Spar
   going old n h begun within = going_first input 0 g.first old old refl held (nothing old)
   going old n h (turned {n = m} {h' = k} {h'' = h'} run t v) within =
       let before = going old m k run (omega (arith, within)) in
-      let o = before.ran.holds in
+      let o = lulled_held k before.ran.last before.ran.holds answer.Committed h' t in
       let below : m < g.budget = omega (arith, within) in
       going_more input m k h' old old before below
-      (committed g.names g.table can.plans g.codes have m g.size k before.ran.last o alike of_chooser marks h' (over_tree k before.ran.last o answer.Committed h' t)) old (nothing old)
+      (committed g.names g.table can.plans g.codes have m g.size t.lulled before.ran.last o alike of_chooser marks h' (over_tree k answer.Committed h' t before.ran.last o)) old (nothing old)
 
   module _ (n : ℕ) (last h' : Heap) (old new : Option (List ℕ)) (v : Valid h') (line : List ℕ) (is_line : IsHeapLine false g.names g.table last line) (run : CodedRun g.codes g.size g.first n last) (before : (l : List ℕ) → IsHeapLine false g.names g.table h' l → IsHeapLine false g.names g.table last l) where
     -- the text is the line that was written, and the end line
@@ -71,9 +77,9 @@ module _ (alike : TurnsAreAlike) (of_chooser : TurnsAreOfChooser) (spares : Spar
     ends : (why : Stop) → CodesStopBy g.codes g.budget g.size n last why h' → Ends why
     ends stop.Irreducible (within, t) =
         let so_far = going old n last run within in
-        let o = so_far.ran.holds in
-        let turn = over_tree last so_far.ran.last o answer.Irreducible h' t in
-        let is_done : IsDone so_far.ran.last = done g.names g.table can.plans g.codes have n g.size last so_far.ran.last o alike turn.0 in
+        let o = lulled_held last so_far.ran.last so_far.ran.holds answer.Irreducible h' t in
+        let turn = over_tree last answer.Irreducible h' t so_far.ran.last o in
+        let is_done : IsDone so_far.ran.last = done g.names g.table can.plans g.codes have n g.size t.lulled so_far.ran.last o alike turn.0 in
         let stopped = stops_irreducible input n last h' old old so_far (is_done, subst (λ k. HoldsRegion g.names g.table k so_far.ran.last) (sym turn.1) o) in (
           (λ took. concluded input n h' _ old old new stopped (λ bytes is. all (word_of_stop stop.Irreducible) bytes took is)),
           (λ took. broken_off input n h' _ old old new stopped (λ bytes is. part (word_of_stop stop.Irreducible) bytes took is)),
@@ -89,17 +95,17 @@ module _ (alike : TurnsAreAlike) (of_chooser : TurnsAreOfChooser) (spares : Spar
         )
     ends stop.Full (below, t) =
         let so_far = going old n last run (omega (arith, below)) in
-        let o = so_far.ran.holds in
+        let o = lulled_held last so_far.ran.last so_far.ran.holds answer.Full h' t in
         let stopped = stops_full input n last h' old old so_far below
-        (full g.names g.table can.plans g.codes have n g.size last so_far.ran.last o alike of_chooser h' (over_tree last so_far.ran.last o answer.Full h' t)) in (
+        (full g.names g.table can.plans g.codes have n g.size t.lulled so_far.ran.last o alike of_chooser h' (over_tree last answer.Full h' t so_far.ran.last o)) in (
           (λ took. concluded input n h' _ old old new stopped (λ bytes is. all (word_of_stop stop.Full) bytes took is)),
           (λ took. broken_off input n h' _ old old new stopped (λ bytes is. part (word_of_stop stop.Full) bytes took is)),
         )
     ends stop.NoMemory (below, t) =
         let so_far = going old n last run (omega (arith, below)) in
-        let o = so_far.ran.holds in
+        let o = lulled_held last so_far.ran.last so_far.ran.holds answer.NoMemory h' t in
         let stopped = stops_no_memory input n last h' old old so_far below
-        (no_memory g.names g.table can.plans g.codes have n g.size last so_far.ran.last o alike of_chooser spares h' v (over_tree last so_far.ran.last o answer.NoMemory h' t)) in (
+        (no_memory g.names g.table can.plans g.codes have n g.size t.lulled so_far.ran.last o alike of_chooser spares h' v (over_tree last answer.NoMemory h' t so_far.ran.last o)) in (
           (λ took. concluded input n h' _ old old new stopped (λ bytes is. all (word_of_stop stop.NoMemory) bytes took is)),
           (λ took. broken_off input n h' _ old old new stopped (λ bytes is. part (word_of_stop stop.NoMemory) bytes took is)),
         )

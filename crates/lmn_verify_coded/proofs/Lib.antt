@@ -14,6 +14,7 @@ mod Exact
 mod SameBut
 mod Carried
 mod Choosing
+mod Determined
 mod OneStep
 mod OneRun
 mod Compared

@@ -71,10 +71,10 @@ module _ (on : Grounds) (runnable : VerifiedAreRunnable) (codes : List Code) (ve
   -- where the one stops before the budget, and not for want of memory, the other doesn't commit
   stops : (a b : Heap) → AreOne a b → (budget n : ℕ) (why : Stop) (h' k' : Heap) → Comes why → CodesStopBy codes budget size n a why h' → n < budget → CodedTurn codes size b turn.Committed k' → ⊥
   stops a b one budget n stop.Irreducible h' k' c w l t =
-      let e = turns_alike one.numbers a b one.same codes one.other_valid size can turn.Irreducible turn.Committed h' k' w.1 t in absurd (cc e)
+      let e = turns_alike codes can size one.numbers a b one.same turn.Irreducible turn.Committed h' k' w.1 t in absurd (cc e)
   stops a b one budget n stop.Budget h' k' c w l t = let e = w.0 in absurd (omega (arith, e, l))
   stops a b one budget n stop.Full h' k' c w l t =
-      let e = turns_alike one.numbers a b one.same codes one.other_valid size can turn.Full turn.Committed h' k' w.1 t in absurd (cc e)
+      let e = turns_alike codes can size one.numbers a b one.same turn.Full turn.Committed h' k' w.1 t in absurd (cc e)
   stops a b one budget n stop.NoMemory h' k' c w l t = absurd c
 
   -- So a run that stopped has no fewer commits than the other.
@@ -118,7 +118,7 @@ runs_are_one on runnable lines g verified other x first second n m h k end last 
       ]
     ] in
     let still = runs_alike on runnable g.codes verified g.size g.first other one a.run b.run count in
-    let why : u.why ≡ w.why = stops_alike still.numbers a.last b.last still.same g.codes still.other_valid g.size (can on runnable g.codes verified g.size) g.budget n u.why w.why h k a.stops
+    let why : u.why ≡ w.why = stops_alike g.codes (can on runnable g.codes verified g.size) g.size still.numbers a.last b.last still.same g.budget n u.why w.why h k a.stops
     (subst (λ z. CodesStopBy g.codes g.budget g.size z b.last w.why k) (sym count) b.stops) in
     let line : u.line ≡ w.line = (let s = u.is_line in
     lines false g.names g.table b.last u.line w.line still.other_valid (s.0, solid_there still.numbers a.last b.last still.same s.0 s.1, s.2) w.is_line) in

@@ -4,7 +4,7 @@ use Rattle.std.specs.Prelude.{slice_get, slice_index_or}
 use Rattle.std.proofs.lemmas.Option.{same_Some}
 use Rattle.lmn_base.proofs.Lists.{get_below}
 use Rattle.lmn_store_heap.specs.Heap.{Heap, HeapAtom, HeapMem, IsMemInPlace, Unmarked, marks_of, rules_by, rules_in}
-use Rattle.lmn_store_heap.specs.Sound.{Valid}
+use Rattle.lmn_store_heap.specs.Sound.{Forest, IsTree, Valid}
 use Rattle.lmn_store_heap.proofs.Calls.{one_tree}
 use Rattle.lmn_store_heap.proofs.Common.{mem_stands}
 use Rattle.lmn_schedule_sleep.specs.Quiet.{SameButMarks}
@@ -13,6 +13,7 @@ use Rattle.lmn_instr_code.specs.declared.instr.Code.{Code}
 use Rattle.lmn_instr_code.specs.Running.{IsFirstSuccess}
 use Rattle.lmn_solid_bodies.specs.Running.{Registers}
 use Rattle.lmn_machine_commit.specs.Waking.{Commits}
+use Rattle.lmn_machine_commit.proofs.Woken.{marks_unmarked}
 use Rattle.lmn_verify_code.specs.Verified.{IsVerified}
 use Rattle.lmn_verify_laws.specs.Flat.{flat_body, flat_head, link_count}
 use Rattle.lmn_verify_laws.specs.Laws.{CommitsStayUnmarked, IntegersAreOne, VerifiedFires, VerifiedHeadsLie, VerifiedHoldsRests, VerifiedIsInOrder, VerifiedIsRule, VerifiedSetsFlat}
@@ -23,12 +24,14 @@ use Rattle.lmn_verify_renaming.proofs.Solids.{renamed_forest}
 use Rattle.lmn_schedule_strategy.specs.Choosing.{IsFirstIn, asked}
 use Rattle.lmn_schedule_strategy.specs.Turns.{Chooses, HoldsRestsOf}
 use Rattle.lmn_schedule_strategy.specs.declared.turning.Turn.TheVariants.{Committed}
+use Rattle.lmn_schedule_strategy.proofs.Lulling.{tree_alike}
+use Rattle.lmn_schedule.proofs.AllWake.{valid_on}
 use Rattle.lmn_verify_coded.specs.Laws.{AreVerified}
 use Rattle.lmn_verify_coded.specs.Runs.{CodedTurn}
 use Rattle.lmn_verify_coded.proofs.Carried.{tree_there}
 use Rattle.lmn_verify_coded.proofs.Choosing.{asked_there, first_in, first_success}
 use Rattle.lmn_verify_coded.proofs.Matches.{one_first, one_match}
-use Rattle.lmn_verify_coded.proofs.SameBut.{marks_apart, reads, same_back, same_renamed, same_then}
+use Rattle.lmn_verify_coded.proofs.SameBut.{but_for_marks, reads}
 
 -- Heaps between commits that are one with other numbers, but for room and marks of membranes.
 pub record AreOne (h k : Heap) : Type 0 where
@@ -47,15 +50,19 @@ rule_stands h m place n v e = mem_stands h v m (by (h.mems m) e)
     by None f = absurd (cc f)
     by (Some x) f = refl
 
--- heaps that are left of ones that are one with other numbers but for marks
-but_for_marks : (t u h k : Heap) → SameButMarks t h → SameButMarks u k → (p : Renaming) → SameButRoom (renamed p t) u → SameButRoom (renamed p h) k
-but_for_marks t u h k a b p w =
-    let first = same_renamed p h t (same_back t h (marks_apart t h a)) in
-    let last = marks_apart u k b in
-    same_then (renamed p h) u k (same_then (renamed p h) (renamed p t) u first w) last
-
 marks_back : (h k : Heap) → SameButMarks h k → Unmarked k → Unmarked h
 marks_back h k e u a i = ap (λ (o : Option HeapAtom). slice_index_or (marks_of o) i 0) (sym (e.atoms a)) ∙ u a i
+
+-- heaps that are one are so with other marks too
+one_lulled : (h k : Heap) → AreOne h k → (l j : Heap) → SameButMarks h l → SameButMarks k j → AreOne l j
+one_lulled h k one l j a b = record {
+  valid = valid_on h l a one.valid;
+  unmarked = marks_unmarked h l a one.unmarked;
+  other_valid = valid_on k j b one.other_valid;
+  other_unmarked = marks_unmarked k j b one.other_unmarked;
+  numbers = one.numbers;
+  same = but_for_marks h k l j a b one.numbers one.same;
+}
 
 -- The laws that it takes.
 pub record Grounds : Type 0 where
@@ -111,18 +118,18 @@ module _ (on : Grounds) where
           same = but_for_marks a.0 b.0 h' k' a.1 b.1 w.0 w.1;
         }
 
-  -- So it is with what turns leave that commit.
-  pub one_turn : (codes : List Code) → AreVerified codes → (size : ℕ) (h k : Heap) → AreOne h k → (h' k' : Heap) → CodedTurn codes size h Committed h' → CodedTurn codes size k Committed k' → Valid h' → Valid k' → AreOne h' k'
-  one_turn codes verified size h k one h' k' t u valid valid_there =
+  -- So it is with what is left where the first success on each is committed.
+  one_chosen : (codes : List Code) → AreVerified codes → (size : ℕ) (h k : Heap) → AreOne h k → (f g : Forest) → IsTree h f → IsTree k g → (h' k' : Heap) →
+      Chooses h codes (asked 0 f) size Committed h' → Chooses k codes (asked 0 g) size Committed k' → Valid h' → Valid k' → AreOne h' k'
+  one_chosen codes verified size h k one f g is_tree other h' k' c chosen valid valid_there =
       let q = one.numbers in
       let M = q.mems.to in
-      let read = reads q h k one.same in
-      let c : Chooses h codes (asked 0 t.tree) size Committed h' = t.turn in
-      let tree = one_tree k u.tree (renamed_forest M t.tree) u.is_tree (tree_there q h k read t.tree t.is_tree) in
-      let d : Chooses k codes (asked 0 (renamed_forest M t.tree)) size Committed k' = subst (λ f. Chooses k codes (asked 0 f) size Committed k') tree u.turn in
-      let here : IsFirstIn k codes (asked 0 (renamed_forest M t.tree)) (M c.membrane) c.place c.rule =
-      subst (λ ms. IsFirstIn k codes ms (M c.membrane) c.place c.rule) (asked_there q h k one.same codes t.tree) (first_in q h k one.same codes (asked 0 t.tree) c.membrane c.place c.rule c.chosen) in
-      let same = one_first k codes (asked 0 (renamed_forest M t.tree)) (M c.membrane) d.membrane c.place d.place c.rule d.rule here d.chosen in
+      let there = renamed_forest M f in
+      let tree = one_tree k g there other (tree_there q h k (reads q h k one.same) f is_tree) in
+      let d : Chooses k codes (asked 0 there) size Committed k' = subst (λ z. Chooses k codes (asked 0 z) size Committed k') tree chosen in
+      let here : IsFirstIn k codes (asked 0 there) (M c.membrane) c.place c.rule =
+      subst (λ ms. IsFirstIn k codes ms (M c.membrane) c.place c.rule) (asked_there q h k one.same codes f) (first_in q h k one.same codes (asked 0 f) c.membrane c.place c.rule c.chosen) in
+      let same = one_first k codes (asked 0 there) (M c.membrane) d.membrane c.place d.place c.rule d.rule here d.chosen in
       let code : c.code ≡ d.code = same_Some c.code d.code (sym (subst (λ n. slice_get codes n ≡ Some c.code) same.1 c.is) ∙ d.is) in
       let first : IsFirstSuccess k c.code.head (M c.membrane) d.registers.head =
       subst (λ z. IsFirstSuccess k c.code.head z d.registers.head) (sym same.0) (subst (λ (z : Code). IsFirstSuccess k z.head d.membrane d.registers.head) (sym code) d.first) in
@@ -131,3 +138,8 @@ module _ (on : Grounds) where
       one_commit c.code (length codes) (verified c.rule c.code c.is) h k one c.membrane c.registers d.registers c.first first
       (rule_stands h c.membrane c.place c.rule one.valid c.chosen.rule.stands) (rule_stands k (M c.membrane) c.place c.rule one.other_valid here.rule.stands)
       c.rests rests h' k' c.answered.1 commits valid valid_there
+
+  -- So it is with what turns leave that commit.
+  pub one_turn : (codes : List Code) → AreVerified codes → (size : ℕ) (h k : Heap) → AreOne h k → (h' k' : Heap) → CodedTurn codes size h Committed h' → CodedTurn codes size k Committed k' → Valid h' → Valid k' → AreOne h' k'
+  one_turn codes verified size h k one h' k' t u valid valid_there =
+      one_chosen codes verified size t.lulled u.lulled (one_lulled h k one t.lulled u.lulled t.alike u.alike) t.tree u.tree (tree_alike h t.lulled t.alike t.tree t.is_tree) (tree_alike k u.lulled u.alike u.tree u.is_tree) h' k' t.turn u.turn valid valid_there

@@ -66,6 +66,13 @@ marks_apart s t h = record { root = h.root; atoms = h.atoms; mems = λ m. (let w
     by None p v e = (0, v, e)
     by (Some x) p v e = (x.spare, v, e)
 
+-- heaps that are one with other numbers are so with other marks too
+pub but_for_marks : (t u h k : Heap) → SameButMarks t h → SameButMarks u k → (p : Renaming) → SameButRoom (renamed p t) u → SameButRoom (renamed p h) k
+but_for_marks t u h k a b p w =
+    let first = same_renamed p h t (same_back t h (marks_apart t h a)) in
+    let last = marks_apart u k b in
+    same_then (renamed p h) u k (same_then (renamed p h) (renamed p t) u first w) last
+
 module _ (s t : Heap) (same : SameButRoom s t) where
   by_room : {X : Type 0} (read : Option HeapMem → X) → ((o : Option HeapMem) (a b : ℕ) → read (option_map (with_room a b) o) ≡ read o) → (m : ℕ) → read (t.mems m) ≡ read (s.mems m)
   by_room read alike m = let w = same.mems m in ap read w.2 ∙ alike (s.mems m) w.0 w.1

@@ -1,13 +1,13 @@
 -- The runs of the examples.
 use Rattle.std.specs.Prelude.{pos}
 use Rattle.std.specs.Option.{option_and_then, option_map}
-use Rattle.std.proofs.Common.{ℕ, List, length, ◌≡◌, ◌≢◌, ◌⊎◌, ◌+◌, [], ◌∷◌, Option, Some, None, IsSome, false, refl, sym, ap, subst, ◌∙◌, inl, inr, arith}
+use Rattle.std.proofs.Common.{ℕ, List, length, ◌≡◌, ◌≢◌, ◌≤◌, ◌⊎◌, ◌+◌, [], ◌∷◌, Option, Some, None, IsSome, false, refl, sym, ap, subst, ◌∙◌, inl, inr, arith}
 use Rattle.std.specs.Fmt.{digits}
 use Rattle.std.proofs.lemmas.Bool.{cases_eq}
 use Rattle.lmn_base.specs.Lists.{In}
 use Rattle.lmn_base.proofs.Lists.{none_is_not}
 use Rattle.lmn_base.proofs.Numbers.{not_equal}
-use Rattle.lmn_store_heap.specs.Heap.{Heap, HeapMem, IsInPlace, IsMem, discarded, finished, gone, lone_root, mem_mark_by, mem_mark_of, mem_place_of, mem_unless_gone, mem_unless_waiting, mem_with_spare, rules_by, rules_in, top}
+use Rattle.lmn_store_heap.specs.Heap.{Heap, HeapMem, IsInPlace, IsMem, discarded, finished, gone, lone_root, mem_mark_by, mem_mark_of, mem_marked, mem_place_of, mem_unless_gone, mem_unless_waiting, mem_with_mark, mem_with_spare, rules_by, rules_in, top}
 use Rattle.lmn_store_heap.specs.Examples.{across}
 use Rattle.lmn_store_heap.specs.Sound.{IsTree, Valid, bare, mem, flat, item_count_in}
 use Rattle.lmn_store_heap.proofs.Calls.{finished_is_valid, keeps_sound, one_tree}
@@ -16,7 +16,11 @@ use Rattle.lmn_store_heap.proofs.ExampleProofs.{across_is_valid}
 use Rattle.lmn_instr_code.specs.Running.{IsFirstSuccess, Succeeds}
 use Rattle.lmn_solid_bodies.specs.Running.{Registers}
 use Rattle.lmn_machine_commit.specs.Waking.{Commits}
-use Rattle.lmn_machine_commit.proofs.Rousing.{no_marks}
+use Rattle.lmn_machine_commit.proofs.Rousing.{mark_one, marked_away, marked_there, no_marks}
+use Rattle.lmn_schedule_sleep.specs.Quiet.{SameButMarks}
+use Rattle.lmn_schedule_sleep.proofs.Marks.{read_alike}
+use Rattle.lmn_schedule_strategy.proofs.Lulling.{tree_alike}
+use Rattle.lmn_schedule.proofs.AllWake.{valid_on}
 use Rattle.lmn_machine.specs.Costs.{Leaves}
 use Rattle.lmn_schedule_strategy.specs.Choosing.{CodeSucceeds, IsFirstIn, asked}
 use Rattle.lmn_schedule_strategy.specs.Quieting.{AllAwake}
@@ -30,7 +34,7 @@ use Rattle.lmn_schedule_strategy.specs.Counting.{AsksRules, asks_all, asks_none,
 use Rattle.lmn_app_drive.specs.Driving.{stop_end}
 use Rattle.lmn_verify_coded.specs.Counting.{RunAsks, more_asked, none_asked}
 use Rattle.lmn_verify_coded.specs.Runs.{CodedRun, CodesStopBy, begun, turned}
-use Rattle.lmn_verify_coded.specs.Examples.{IdleCodeCommits, IdleCodeSucceeds, NoCodesAreExecuted, NoCodesCanTurn, NoRuleIsAsked, idle, ruled}
+use Rattle.lmn_verify_coded.specs.Examples.{IdleCodeCommits, IdleCodeKeepsAwake, IdleCodeSucceeds, NoCodesAreExecuted, NoCodesCanTurn, NoRuleIsAsked, idle, ruled}
 
 -- ---- without codes
 
@@ -58,16 +62,40 @@ lone_awake m = elim (cases_eq m 0) [
   | inr d ↦ ap mem_mark_by (none_there m d)
 ]
 
+-- the root alone, asleep
+abbrev sleeping : Heap
+sleeping = mem_marked lone_root 0 1
+
+sleeping_alike : SameButMarks lone_root sleeping
+sleeping_alike = mark_one lone_root sleeping 0 1 refl
+
+sleeping_low : (m : ℕ) → mem_mark_of sleeping m ≤ 1
+sleeping_low m = elim (cases_eq m 0) [
+  | inl e ↦ (let z : mem_mark_of sleeping m ≡ 1 = subst (λ y. mem_mark_of sleeping y ≡ 1) (sym e) (marked_there lone_root 0 1 refl) in omega (arith, z))
+  | inr d ↦ (let z = marked_away lone_root 0 1 m d in let a = lone_awake m in omega (arith, z, a))
+]
+
 pub no_codes_can_turn : NoCodesCanTurn
 no_codes_can_turn = (
   record {
     turn = record { valid = lone_valid; unmarked = λ a i. refl; of_table = λ m k i. absurd (no_rule m k i) };
-    awake = lone_awake;
+    sleeps = record { low = λ m. (let e = lone_awake m in omega (arith, e)); none = λ m e n i s. nothing_at lone_root m n s };
     runnable = λ n code e. absurd (cc e);
+    quiet = λ n code e. absurd (cc e);
+    small = omega arith;
+  },
+  record {
+    turn = record {
+      valid = valid_on lone_root sleeping sleeping_alike lone_valid;
+      unmarked = λ a i. refl;
+      of_table = λ m k i. absurd (no_rule m k (subst (In k) ((read_alike lone_root sleeping sleeping_alike).rules m) i));
+    };
+    sleeps = record { low = sleeping_low; none = λ m e n i s. nothing_at sleeping m n s };
+    runnable = λ n code e. absurd (cc e);
+    quiet = λ n code e. absurd (cc e);
     small = omega arith;
   },
   (λ c. let below = c.turn.of_table 0 0 (inl refl) in omega (arith, below)),
-  (λ c. let awake = c.awake 0 in omega (arith, awake)),
 )
 
 -- no rule is asked of the root alone
@@ -111,7 +139,7 @@ no_codes_are_executed names budget line is_line = (
     stopped = record {
       last = across;
       run = begun;
-      stops = (omega arith, record { tree = across_is_valid.tree.0; is_tree = across_is_valid.tree.1; turn = ((λ m i k j s. nothing_at across m k s), refl) });
+      stops = (omega arith, record { tree = across_is_valid.tree.0; is_tree = across_is_valid.tree.1; lulled = across; alike = no_marks across; turn = ((λ m i k j s. nothing_at across m k s), refl) });
     };
     line = line;
     is_line = is_line;
@@ -255,10 +283,27 @@ commits = record {
       | inr e ↦ absurd (none_is_not ((finished ruled).mems x) (ap (option_and_then mem_unless_gone) e) i)
     ]
 
+-- the root asleep with its rule, and awake again
+abbrev slept : Heap
+slept = mem_marked ruled 0 1
+
+woken : SameButMarks slept ruled
+woken = record { root = refl; atoms = λ a. refl; mems = same; new_atoms = refl; new_mems = refl }
+  where
+    same : (m : ℕ) → (v : ℕ) × (ruled.mems m ≡ option_map (mem_with_mark v) (slept.mems m))
+    same m = elim (cases_eq m 0) [
+      | inl e ↦ (0, subst (λ z. ruled.mems z ≡ option_map (mem_with_mark 0) (slept.mems z)) (sym e) refl)
+      | inr d ↦ (0, rw (not_equal m 0 d) refl)
+    ]
+
+pub idle_code_keeps_awake : IdleCodeKeepsAwake
+idle_code_keeps_awake size c = c.sleeps.none 0 (marked_there ruled 0 1 refl) 0 (inl refl) (record { code = idle; is = refl; registers = registers.head; succeeds = record { here = refl; all = (tt, tt) } })
+
 pub idle_code_commits : IdleCodeCommits
 idle_code_commits = (
-  turned {n = 0} begun (record { tree = mem 0 bare bare; is_tree = ruled_tree; turn = chooses 1 Committed (finished ruled) (omega arith, commits) }) finished_valid,
-  record { tree = mem 0 bare bare; is_tree = ruled_tree; turn = chooses 0 Full ruled (omega arith, refl) },
+  turned {n = 0} begun (record { tree = mem 0 bare bare; is_tree = ruled_tree; lulled = ruled; alike = no_marks ruled; turn = chooses 1 Committed (finished ruled) (omega arith, commits) }) finished_valid,
+  record { tree = mem 0 bare bare; is_tree = ruled_tree; lulled = ruled; alike = no_marks ruled; turn = chooses 0 Full ruled (omega arith, refl) },
+  record { tree = mem 0 bare bare; is_tree = tree_alike ruled slept (mark_one ruled slept 0 1 refl) (mem 0 bare bare) ruled_tree; lulled = ruled; alike = woken; turn = chooses 0 Full ruled (omega arith, refl) },
   (λ size n h h' run. let e = no_run size h (n + 1) h' run in omega (arith, e)),
 )
 

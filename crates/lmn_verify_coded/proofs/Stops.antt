@@ -4,6 +4,10 @@ use Rattle.lmn_adequacy.specs.Runs.{irreducible}
 use Rattle.lmn_app_drive.specs.declared.driving.RunEnd.TheVariants.{Failed, Irreducible}
 use Rattle.lmn_print.specs.Lines.{IsHeapLine}
 use Rattle.lmn_store_heap.specs.Heap.{Heap}
+use Rattle.lmn_store_heap.specs.Sound.{Forest, IsTree, flat}
+use Rattle.lmn_schedule_sleep.proofs.Marks.{read_alike}
+use Rattle.lmn_schedule_strategy.specs.Choosing.{NoneIn}
+use Rattle.lmn_schedule_strategy.proofs.Lulling.{none_in_back}
 use Rattle.lmn_instr_code.specs.declared.instr.Code.{Code}
 use Rattle.lmn_app_runs.specs.Runs.{end_line, end_word}
 use Rattle.lmn_schedule_strategy.specs.declared.turning.Turn.TheVariants as turn
@@ -42,8 +46,9 @@ not_begun begun e = refl
 not_begun (turned {n = n} run t v) e = absurd (omega (arith, e))
 
 -- Where a run is executed so without commits, no code succeeds in its first heap.
-pub irreducible_at_once : (g : CodedInput) (n : ℕ) (h' : Heap) (old new : Option (List ℕ)) → Executed g n h' Irreducible old new → n ≡ 0 → CodedTurn g.codes g.size g.first turn.Irreducible h'
+pub irreducible_at_once : (g : CodedInput) (n : ℕ) (h' : Heap) (old new : Option (List ℕ)) → Executed g n h' Irreducible old new → n ≡ 0 → (f : Forest) × IsTree g.first f × NoneIn g.first g.codes (flat f)
 irreducible_at_once g n h' old new x none =
     let stopped = x.stopped in
     let why : Irreducible ≡ stop_end x.why = elim x.wrote [ inl w ↦ w.0 | inr w ↦ absurd (cc w.0) ] in
-    subst (λ h. CodedTurn g.codes g.size h turn.Irreducible h') (not_begun stopped.run none) (stops_by g.codes g.budget g.size n stopped.last h' x.why why stopped.stops)
+    let t = subst (λ h. CodedTurn g.codes g.size h turn.Irreducible h') (not_begun stopped.run none) (stops_by g.codes g.budget g.size n stopped.last h' x.why why stopped.stops) in
+    (t.tree, t.is_tree, none_in_back g.first t.lulled g.codes (read_alike g.first t.lulled t.alike) (flat t.tree) t.turn.0)

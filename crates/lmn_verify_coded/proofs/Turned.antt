@@ -28,7 +28,7 @@ abbrev pub root_first : Chooser
 root_first = λ commits membranes. 0
 
 -- a heap with other marks of its membranes holds the same solid
-on_marks : (names : List Name) (table : List RuleTree) → MarksAreNotRead → (h k : Heap) → SameButMarks h k → Valid h → (S : Region) → HoldsRegion names table h S → HoldsRegion names table k S
+pub on_marks : (names : List Name) (table : List RuleTree) → MarksAreNotRead → (h k : Heap) → SameButMarks h k → Valid h → (S : Region) → HoldsRegion names table h S → HoldsRegion names table k S
 on_marks names table law h k e v S o =
     let same = law h k (reading_by names table o.number) o.inner table e v (record { read = o.read; tree = o.tree; rules = o.rules }) in
     record { number = o.number; inner = o.inner; read = same.0.read; tree = same.0.tree; rules = same.0.rules; keeps = o.keeps; is = o.is ∙ sym same.1; numbered = o.numbered }

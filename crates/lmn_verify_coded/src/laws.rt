@@ -1,5 +1,5 @@
 //! Laws of runs of codes, and small examples: each the contract of a function that at most names other laws.
-ghost use Rattle.lmn_verify_coded.specs.Examples.{IdleCodeCommits, IdleCodeSucceeds, NoCodesAreExecuted, NoCodesCanTurn, NoRuleIsAsked, RunExamples};
+ghost use Rattle.lmn_verify_coded.specs.Examples.{IdleCodeCommits, IdleCodeKeepsAwake, IdleCodeSucceeds, NoCodesAreExecuted, NoCodesCanTurn, NoRuleIsAsked, RunExamples};
 ghost use Rattle.lmn_verify_coded.specs.Laws.{StopsAreExact, RunsAreOne, TablesRunAsRules, TurnsAreExact};
 
 use lmn_adequacy_choices::{
@@ -54,9 +54,14 @@ pub fn runs_are_one()
     heaps_have_one_line();
 }
 
-/// What a turn asks, without codes: of the root alone, and of the root with a rule.
+/// What a turn asks, without codes: of the root alone, awake or asleep, and of the root with a rule.
 pub fn no_codes_can_turn()
     ensures { NoCodesCanTurn }
+{}
+
+/// Where code that changes nothing succeeds, a turn asks that the root is awake.
+pub fn idle_code_keeps_awake()
+    ensures { IdleCodeKeepsAwake }
 {}
 
 /// Code that changes nothing commits where an item is allowed, and without codes nothing does.

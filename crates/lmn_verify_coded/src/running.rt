@@ -1,11 +1,12 @@
-ghost use Rattle.std.specs.Prelude.{◌≡◌, ◌<◌, ◌+◌, ◌^◌, IfOk, IsTrue, IsFalse};
+ghost use Rattle.std.specs.Prelude.{◌≡◌, ◌<◌, ◌+◌, ◌^◌, IfOk, IsTrue, IsFalse, true};
 ghost use Rattle.std.specs.Borrow.{sem};
 ghost use Rattle.lmn_store_heap.specs.Sound.{Forest, IsTree, flat};
 ghost use Rattle.lmn_schedule_strategy.specs.Choosing.{NoneIn};
 ghost use Rattle.lmn_schedule_strategy.specs.Counting.{CountsAsked};
-ghost use Rattle.lmn_schedule_strategy.specs.Turns.{IsTurn};
-ghost use Rattle.lmn_schedule.specs.Turning.{counted};
-ghost use Rattle.lmn_verify_coded.specs.Turning.{CodedCanTurn, KeepsWhole, SomeIn};
+ghost use Rattle.lmn_schedule_strategy.specs.Turns.{IsAwakeTurn};
+ghost use Rattle.lmn_schedule.specs.Turning.{KeepsHeap, counted};
+ghost use Rattle.lmn_verify_coded.specs.Runs.{CodedTurn};
+ghost use Rattle.lmn_verify_coded.specs.Turning.{CodedCanTurn, SomeIn};
 ghost use Rattle.lmn_verify_coded.specs.Lending.{coded_lends_store};
 
 use lmn_base::{NoMemory, Rows};
@@ -29,7 +30,7 @@ pub struct Coded<S: LinkStore> {
 
 impl<S: LinkStore + Drop> Coded<S> {
     /// Codes over a store, where a commit may leave at most `size` items. No commit is done. Which rules the codes are of isn't
-    /// asked: each can be run, and the rules in the store have codes.
+    /// asked: each can be run, a membrane in which it has failed may sleep, and the rules in the store have codes.
     ///
     /// # Errors
     ///
@@ -50,13 +51,15 @@ impl<S: LinkStore + Drop> Coded<S> {
 
 impl<S: LinkStore> Coded<S> {
     /// One turn, in which the root is asked first: the first rule whose code succeeds fires, at the first success, unless more items
-    /// would be left than are allowed. With another answer than `Committed` the store is as it was, but for room for rules at
-    /// `NoMemory`. The steps rise by the rules of the membranes asked at most.
+    /// would be left than are allowed. Membranes that sleep aren't asked, and one that is asked in vain falls asleep, until something in it
+    /// or below it is made, removed, moved or joined otherwise. With another answer than `Committed` the store is else as it was, but for
+    /// room for rules at `NoMemory`. The steps rise by the rules of the awake membranes asked at most.
     pub fn turn<L: Ledger>(&mut self, alloc: Global, steps: &mut Steps<L>) -> Turn
         requires run { CodedCanTurn (S.heap self.old.machine.store) self.old.codes self.old.size }
         requires commits { self.old.commits < 2 ^ 63 }
-        ensures turned { (f : Forest) → IsTree (S.heap self.old.machine.store) f → IsTurn (S.heap self.old.machine.store) self.old.codes f 0 self.old.size result (S.heap self.new.machine.store) }
-        ensures kept { KeepsWhole result (S.heap self.old.machine.store) (S.heap self.new.machine.store) }
+        ensures turned { CodedTurn self.old.codes self.old.size (S.heap self.old.machine.store) result (S.heap self.new.machine.store) }
+        ensures flags { (f : Forest) → IsTree (S.heap self.old.machine.store) f → IsAwakeTurn true (S.heap self.old.machine.store) self.old.codes f 0 self.old.size result (S.heap self.new.machine.store) }
+        ensures kept { KeepsHeap result (S.heap self.old.machine.store) (S.heap self.new.machine.store) }
         ensures again { CodedCanTurn (S.heap self.new.machine.store) self.old.codes self.old.size }
         ensures steps { CountsAsked (S.heap self.old.machine.store) self.old.codes 0 steps.old steps.new }
         ensures keeps { self.new ≡ record self.old { machine = self.new.machine; commits = self.old.commits + counted result } }
@@ -69,7 +72,7 @@ impl<S: LinkStore> Coded<S> {
             0,
             many,
             self.size,
-            false,
+            true,
             steps,
         );
         if answer == Turn::Committed {
@@ -78,8 +81,8 @@ impl<S: LinkStore> Coded<S> {
         answer
     }
 
-    /// Whether some rule of some membrane has a code that succeeds. It takes no memory and changes nothing. The steps rise by the
-    /// rules of the membranes asked at most, the root first.
+    /// Whether some rule of some membrane has a code that succeeds. Membranes that sleep aren't asked. It takes no memory and changes
+    /// nothing. The steps rise by the rules of the awake membranes asked at most, the root first.
     pub fn reducible<L: Ledger>(&mut self, steps: &mut Steps<L>) -> bool
         requires run { CodedCanTurn (S.heap self.old.machine.store) self.old.codes self.old.size }
         ensures yes { IsTrue result → (f : Forest) → IsTree (S.heap self.old.machine.store) f → SomeIn (S.heap self.old.machine.store) self.old.codes (flat f) }

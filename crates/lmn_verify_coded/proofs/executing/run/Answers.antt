@@ -40,7 +40,7 @@ loop-preserved g c =
       count = counts ∙ ap (λ n. n + 1) c.loop.invariant.count;
       ran = subst (λ n. CodedRun codes size first n h') (sym counts) (turned c.loop.invariant.ran turn c.step.ensures.again.turn.valid);
       steps = subst (λ n. CountsTurns codes size first n h' c.args.steps.now c.step.new.steps) (sym counts)
-          (counts_more codes size first c.loop.coded.commits h h' c.args.steps.now c.loop.steps c.step.new.steps c.loop.invariant.run.awake c.loop.invariant.steps turn
+          (counts_more codes size first c.loop.coded.commits h h' c.args.steps.now c.loop.steps c.step.new.steps c.loop.invariant.run.sleeps c.loop.invariant.steps turn
           (subst (λ xs. CountsAsked h xs 0 c.loop.steps c.step.new.steps) same_codes c.step.ensures.steps));
     }
 
@@ -67,7 +67,7 @@ returns-in-Some-clause-steps g c =
     let same_codes : c.loop.coded.codes ≡ codes = λ i. (c.loop.invariant.keeps i).codes in
     let counts : c.step.new.coded.commits ≡ c.loop.coded.commits = subst (λ o. CountsStep o c.loop.coded.commits c.step.new.coded.commits) c.in-Some.is c.step.ensures.counts in
     subst (λ n. CountsRun codes size first n c.args.steps.now c.step.new.steps) (sym counts)
-    (counts_last codes size first c.loop.coded.commits h c.args.steps.now c.loop.steps c.step.new.steps c.loop.invariant.run.turn.valid c.loop.invariant.run.awake c.loop.invariant.steps
+    (counts_last codes size first c.loop.coded.commits h c.args.steps.now c.loop.steps c.step.new.steps c.loop.invariant.run.turn.valid c.loop.invariant.run.sleeps c.loop.invariant.steps
     (subst (λ xs. CountsAsked h xs 0 c.loop.steps c.step.new.steps) same_codes c.step.ensures.steps))
 
 pub returns-then-reducible-clause-steps : goal.returns-then-reducible-clause-steps
@@ -79,7 +79,7 @@ returns-then-reducible-clause-steps g c =
     let same_codes : c.loop.coded.codes ≡ codes = λ i. (c.loop.invariant.keeps i).codes in
     let commits : c.reducible.new.self.commits ≡ c.loop.coded.commits = λ i. (c.reducible.ensures.keeps i).commits in
     subst (λ n. CountsRun codes size first n c.args.steps.now c.reducible.new.steps) (sym commits)
-    (counts_last codes size first c.loop.coded.commits h c.args.steps.now c.loop.steps c.reducible.new.steps c.loop.invariant.run.turn.valid c.loop.invariant.run.awake c.loop.invariant.steps
+    (counts_last codes size first c.loop.coded.commits h c.args.steps.now c.loop.steps c.reducible.new.steps c.loop.invariant.run.turn.valid c.loop.invariant.run.sleeps c.loop.invariant.steps
     (subst (λ xs. CountsAsked h xs 0 c.loop.steps c.reducible.new.steps) same_codes c.reducible.ensures.steps))
 
 pub returns-else-reducible-clause-steps : goal.returns-else-reducible-clause-steps
@@ -91,5 +91,5 @@ returns-else-reducible-clause-steps g c =
     let same_codes : c.loop.coded.codes ≡ codes = λ i. (c.loop.invariant.keeps i).codes in
     let commits : c.reducible.new.self.commits ≡ c.loop.coded.commits = λ i. (c.reducible.ensures.keeps i).commits in
     subst (λ n. CountsRun codes size first n c.args.steps.now c.reducible.new.steps) (sym commits)
-    (counts_last codes size first c.loop.coded.commits h c.args.steps.now c.loop.steps c.reducible.new.steps c.loop.invariant.run.turn.valid c.loop.invariant.run.awake c.loop.invariant.steps
+    (counts_last codes size first c.loop.coded.commits h c.args.steps.now c.loop.steps c.reducible.new.steps c.loop.invariant.run.turn.valid c.loop.invariant.run.sleeps c.loop.invariant.steps
     (subst (λ xs. CountsAsked h xs 0 c.loop.steps c.reducible.new.steps) same_codes c.reducible.ensures.steps))

@@ -1,4 +1,4 @@
-use Rattle.lmn_verify_coded.proofs.Exact.{turns_are_exact}
+use Rattle.lmn_verify_coded.proofs.Determined.{turns_are_exact}
 use Rattle.lmn_verify_coded.proofs.laws.turns_are_exact.Goals as goal
 
 pub returns : goal.returns

@@ -3,7 +3,6 @@ use Rattle.lmn_store_heap.specs.Sound.{Forest, IsTree, flat}
 use Rattle.lmn_schedule_strategy.specs.Choosing.{CanTurn, IsFirstIn, NoneIn, asked}
 use Rattle.lmn_schedule_strategy.specs.Quieting.{SleepsRightly}
 use Rattle.lmn_verify_coded.proofs.Asking.{chosen_succeeds}
-use Rattle.lmn_verify_coded.proofs.Awake.{awake_rightly}
 use Rattle.lmn_verify_coded.proofs.running.Coded.reducible.Goals as goal
 use Rattle.lmn_schedule.proofs.Turned.{some_membrane as root_counts}
 
@@ -27,10 +26,7 @@ returns-in-None-clause-no g c _ f tree =
 pub search-requires-clause-ready : goal.search-requires-clause-ready
 search-requires-clause-ready g c =
     let h = g.S.LinkStore.heap c.args.self.now.machine.store in
-    record {
-      turn = subst (λ xs. CanTurn h (length xs)) refl c.requires.run.turn;
-      sleeps = subst (SleepsRightly h) refl (awake_rightly h c.args.self.now.codes c.requires.run.awake);
-    }
+    record { turn = subst (λ xs. CanTurn h (length xs)) refl c.requires.run.turn; sleeps = subst (SleepsRightly h) refl c.requires.run.sleeps }
 
 pub returns-in-Some-clause-same : goal.returns-in-Some-clause-same
 returns-in-Some-clause-same g c = let t = c.requires.run.turn.valid.tree in (c.in-Some.ensures.first t.0 t.1).1
