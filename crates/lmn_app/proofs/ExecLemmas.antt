@@ -1,5 +1,6 @@
 -- What runs a program by the codes of a listing.
-use Rattle.std.proofs.Common.{◌≡◌, ◌≤◌, ◌<◌, ℕ, List, Option, length, refl, sym, subst, inl, inr, arith}
+use Rattle.std.proofs.Common.{◌≡◌, ◌≤◌, ◌<◌, ℕ, List, Option, Some, length, refl, sym, subst, inl, inr, arith}
+use Rattle.std.specs.Prelude.{slice_get}
 use Rattle.std.specs.List.{AllByRecursion}
 use Rattle.lmn_app_accepted.proofs.PlanKinds.{at_index}
 use Rattle.lmn_base.specs.declared.refusal.Refusal.{Refusal}
@@ -28,7 +29,7 @@ use Rattle.lmn_io.proofs.TakingLemmas.{no_put}
 use Rattle.lmn_schedule_loading.specs.Laws.{LoadedRules}
 use Rattle.lmn_schedule_loading.specs.Loaded.{IsLoaded}
 use Rattle.lmn_schedule_strategy.specs.Quieting.{AllAwake}
-use Rattle.lmn_verify_laws.specs.Laws.{VerifiedAreRunnable}
+use Rattle.lmn_verify_laws.specs.Laws.{VerifiedAreQuiet, VerifiedAreRunnable}
 use Rattle.lmn_app_runs.specs.Laws.{solid_of}
 use Rattle.lmn_verify_listing.specs.Listings.{AreListed, IsRefusedListing, not_a_listing, not_verified}
 use Rattle.lmn_verify_code.specs.Verified.{IsVerified}
@@ -58,14 +59,18 @@ stored_program p texts program told names plain plans a kind made h l few =
 -- ---- turns by codes
 
 -- verified codes of a listing can turn a store that is loaded
-pub codes_can_turn : LoadedRules → VerifiedAreRunnable → (plain : Plain) (h : Heap) → IsWellMade plain → IsLoaded plain h → AllAwake h → (later : List Name) (codes : List Code) (listing : List ℕ)
+pub codes_can_turn : LoadedRules → VerifiedAreRunnable → VerifiedAreQuiet → (plain : Plain) (h : Heap) → IsWellMade plain → IsLoaded plain h → AllAwake h → (later : List Name) (codes : List Code) (listing : List ℕ)
     → AreListed (length plain.rules) later codes listing → AllByRecursion (λ code. IsVerified code (length plain.rules)) codes → CodedCanTurn h codes executed_size
-codes_can_turn law runs plain h made l awake later codes listing are verified = record {
+codes_can_turn law runs quiet plain h made l awake later codes listing are verified = record {
   turn = record { valid = l.valid; unmarked = l.unmarked; of_table = λ m n i. subst (λ k. n < k) (sym are.many) (law plain h made l m n i) };
-  awake = awake;
-  runnable = runs codes (λ n code is. subst (IsVerified code) (sym are.many) (at_index (λ c. IsVerified c (length plain.rules)) codes n code verified is));
+  sleeps = record { low = λ m. (let z = awake m in omega (arith, z)); none = λ m e. absurd (let z = awake m in omega (arith, z, e)) };
+  runnable = runs codes all;
+  quiet = quiet codes all;
   small = omega arith;
 }
+  where
+    all : (n : ℕ) (code : Code) → slice_get codes n ≡ Some code → IsVerified code (length codes)
+    all n code is = subst (IsVerified code) (sym are.many) (at_index (λ c. IsVerified c (length plain.rules)) codes n code verified is)
 
 -- ---- how a call ends
 

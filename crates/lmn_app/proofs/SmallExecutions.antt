@@ -540,6 +540,8 @@ one_turn : CodedTurn (taking_code ∷ []) executed_size first turn.Committed las
 one_turn = record {
   tree = mem 0 bare bare;
   is_tree = first_tree;
+  lulled = first;
+  alike = no_marks first;
   turn = record {
     membrane = 0;
     place = 0;
@@ -574,7 +576,7 @@ no_success m zero s =
 no_success m (suc n) s = absurd (let e = s.is in cc e)
 
 no_turn : CodedTurn (taking_code ∷ []) executed_size last turn.Irreducible last
-no_turn = record { tree = mem 0 bare bare; is_tree = last_tree; turn = ((λ m i n j s. no_success m n s), refl) }
+no_turn = record { tree = mem 0 bare bare; is_tree = last_tree; lulled = last; alike = no_marks last; turn = ((λ m i n j s. no_success m n s), refl) }
 
 its_line : IsHeapLine false small_names (small_rule ∷ []) last (codes "(a :- b).\n")
 its_line =
@@ -637,5 +639,5 @@ no_run_at_once read written x none =
     let root = of_plain.is ∙ ap (fused_region of_plain.to) top ∙ fold-roll-Level Region (fused_step of_plain.to) _ in
     let w = some_success x.first has.name has.forest (has.root ∙ ap (λ r. r ∷ []) root) in
     let one = one_code read taking_code taking taking_listed of in
-    let tree = one_tree x.first has.forest stop.tree has.tree stop.is_tree in
-    stop.turn.0 w.0 (subst (λ f. In w.0 (flat f)) tree w.1) 0 w.2 (subst (λ cs. CodeSucceeds x.first cs w.0 0) one w.3)
+    let tree = one_tree x.first has.forest stop.0 has.tree stop.1 in
+    stop.2 w.0 (subst (λ f. In w.0 (flat f)) tree w.1) 0 w.2 (subst (λ cs. CodeSucceeds x.first cs w.0 0) one w.3)

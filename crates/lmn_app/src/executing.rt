@@ -33,7 +33,7 @@ use lmn_schedule_loading::{LoadFault, load, loading_settles};
 use lmn_store_trait::LinkStore;
 use lmn_store_web::WebStore;
 use lmn_verify_coded::{Coded, execute};
-use lmn_verify_laws::verified_is_runnable;
+use lmn_verify_laws::{verified_is_quiet, verified_is_runnable};
 use lmn_verify_listing::read;
 use std::alloc::Global;
 use std::marker::Brand;
@@ -137,6 +137,7 @@ fn exec_listing<S: LinkStore + Drop, O: Sink>(
     accepted_texts_can_be_loaded();
     loading_settles();
     verified_is_runnable();
+    verified_is_quiet();
     let rules = accepted.plain.rules.len();
     if rules >= 1 << 32 {
         return Ending::NoMemory;

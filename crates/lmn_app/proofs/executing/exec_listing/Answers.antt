@@ -12,7 +12,7 @@ exec_codes-requires-clause-run g c =
     let a = c.requires.accepted.1 in
     let can = c.accepted_texts_can_be_loaded.ensures.loaded c.requires.accepted.0 c.args.names.now read.plain read.plans a.named a.accepted in
     let many = c.len-rules.ensures in
-    codes_can_turn c.loading_settles.ensures.rules c.verified_is_runnable.ensures.all read.plain (g.S.LinkStore.heap c.args.store) can.made c.requires.loaded c.requires.awake c.read.new.names c.in-Ok.codes c.args.listing.now
+    codes_can_turn c.loading_settles.ensures.rules c.verified_is_runnable.ensures.all c.verified_is_quiet.ensures.all read.plain (g.S.LinkStore.heap c.args.store) can.made c.requires.loaded c.requires.awake c.read.new.names c.in-Ok.codes c.args.listing.now
     (subst (λ n. AreListed n c.read.new.names c.in-Ok.codes c.args.listing.now) many c.in-Ok.ensures.listed)
     (subst (λ n. AllByRecursion (λ code. IsVerified code n) c.in-Ok.codes) many c.in-Ok.ensures.verified)
 
