@@ -1,8 +1,9 @@
 -- The words of a cell, read and written.
-use Rattle.std.proofs.Common.{◌≡◌, ℕ, zero, suc, ◌+◌, ◌*◌, ◌<◌, List, [], ◌∷◌, ◌++◌, length, drop, get_or, set, Option, Some, None, refl, subst, ap, ◌∙◌, arith}
+use Rattle.std.proofs.Common.{◌≡◌, ◌≢◌, ℕ, zero, suc, ◌+◌, ◌*◌, ◌<◌, Bool, List, [], ◌∷◌, ◌++◌, length, drop, get_or, set, Option, Some, None, if◌then◌else◌, refl, sym, subst, ap, ◌∙◌, inl, inr, arith}
 use Rattle.lmn_web_cells.specs.Rows.{Item, blank, number}
-use Rattle.lmn_web_cells.specs.Cells.{HeldPort, HeldCell, link_to, link_items, number_items, port_items, cell_items, led_to, first_links, first_numbers, ports_by, cell_by, IsShaped, no_port}
-use Rattle.lmn_base.proofs.Numbers.{no_more}
+use Rattle.lmn_web_cells.specs.Cells.{HeldPort, HeldCell, link_to, link_items, number_items, port_items, cell_items, led_to, first_links, first_numbers, ports_by, number_count, cell_by, IsShaped, no_port}
+use Rattle.std.proofs.lemmas.Bool.{eq-eqb}
+use Rattle.lmn_base.proofs.Numbers.{no_more, not_equal}
 
 -- Reading
 
@@ -95,9 +96,38 @@ ports_back : (ps : List HeldPort) → ports_by (port_items ps) ≡ ps
 ports_back [] = refl
 ports_back (p ∷ ps) = λ j. record { to = link_back p.to j; port = p.port; mark = p.mark } ∷ ports_back ps j
 
-whole : (is : List Item) → 0 < length is → cell_by is ≡ Some record { links = first_links 8 is; numbers = first_numbers 8 (drop 8 is); ports = ports_by (drop 16 is) }
+whole : (is : List Item) → 0 < length is → cell_by is ≡ Some record { links = first_links 8 is; numbers = first_numbers (number_count (length is)) (drop 8 is); ports = ports_by (drop (8 + number_count (length is)) is) }
 whole [] l = absurd (omega (arith, l))
 whole (i ∷ is) l = refl
+
+-- how many words a cell has
+
+count_links : (ls : List (Option ℕ)) (rest : List Item) → length (link_items ls ++ rest) ≡ length ls + length rest
+count_links [] rest = omega arith
+count_links (x ∷ ls) rest = let r = count_links ls rest in omega (arith, r)
+
+count_numbers : (ns : List ℕ) (rest : List Item) → length (number_items ns ++ rest) ≡ length ns + length rest
+count_numbers [] rest = omega arith
+count_numbers (x ∷ ns) rest = let r = count_numbers ns rest in omega (arith, r)
+
+count_ports : (ps : List HeldPort) → length (port_items ps) ≡ length ps * 3
+count_ports [] = refl
+count_ports (p ∷ ps) = let r = count_ports ps in omega (arith, r)
+
+-- how many words a cell has
+pub word_count : (c : HeldCell) → IsShaped c → length (cell_items c) ≡ 8 + length c.numbers + length c.ports * 3
+word_count c s =
+    let a = count_links c.links (number_items c.numbers ++ port_items c.ports) in let b = count_numbers c.numbers (port_items c.ports) in let d = count_ports c.ports in
+    let e = s.links in omega (arith, a, b, d, e)
+
+-- they tell how many numbers it has
+tells_numbers : (c : HeldCell) → IsShaped c → number_count (length (cell_items c)) ≡ length c.numbers
+tells_numbers c s = elim s.numbers [
+  | inl six ↦ (let w = word_count c s in let d : length (cell_items c) ≢ 16 = (λ e. absurd (omega (arith, w, six, e))) in
+      ap (λ (t : Bool). if t then 8 else 6) (not_equal (length (cell_items c)) 16 d) ∙ sym six)
+  | inr eight ↦ (let w = word_count c s in let none = ap (λ (ps : List HeldPort). length ps) eight.1 in let number = eight.0 in let e : length (cell_items c) ≡ 16 = omega (arith, w, number, none) in
+      ap (λ (t : Bool). if t then 8 else 6) (eq-eqb (length (cell_items c)) 16 e) ∙ sym eight.0)
+]
 
 some_words : (ls : List (Option ℕ)) (rest : List Item) → length ls ≡ 8 → 0 < length (link_items ls ++ rest)
 some_words [] rest e = absurd (omega (arith, e))
@@ -106,12 +136,13 @@ some_words (x ∷ ls) rest e = omega arith
 -- the words of a cell stand for it
 pub cell_back : (c : HeldCell) → IsShaped c → cell_by (cell_items c) ≡ Some c
 cell_back c s =
-    let ns = number_items c.numbers ++ port_items c.ports in
+    let ns = number_items c.numbers ++ port_items c.ports in let n = length c.numbers in
     whole (cell_items c) (some_words c.links ns s.links)
+    ∙ (λ j. Some record { links = first_links 8 (cell_items c); numbers = first_numbers (tells_numbers c s j) (drop 8 (cell_items c)); ports = ports_by (drop (8 + tells_numbers c s j) (cell_items c)) })
     ∙ (λ j. Some record {
       links = links_back c.links 8 ns s.links j;
-      numbers = (ap (first_numbers 8) (links_gone c.links 8 0 ns s.links) ∙ numbers_back c.numbers 8 (port_items c.ports) s.numbers) j;
-      ports = (ap ports_by (links_gone c.links 8 8 ns s.links ∙ numbers_gone c.numbers 8 (port_items c.ports) s.numbers) ∙ ports_back c.ports) j;
+      numbers = (ap (first_numbers n) (links_gone c.links 8 0 ns s.links) ∙ numbers_back c.numbers n (port_items c.ports) refl) j;
+      ports = (ap ports_by (links_gone c.links 8 n ns s.links ∙ numbers_gone c.numbers n (port_items c.ports) refl) ∙ ports_back c.ports) j;
     })
 
 -- Ports
@@ -156,14 +187,21 @@ set_mark_at (p ∷ ps) (suc j) n l = subst (λ m. set (port_items (p ∷ ps)) m 
     (ap (λ is. link_to p.to ∷ number p.port ∷ number p.mark ∷ is) (set_mark_at ps j n (omega (arith, l))))
 
 -- behind the links and the numbers
-ten : (m : ℕ) → 16 + m ≡ 8 + (8 + m)
+ten : (m : ℕ) → 14 + m ≡ 8 + (6 + m)
 ten m = omega arith
 
+-- a cell with a port has six numbers
+pub six_numbers : (c : HeldCell) → IsShaped c → (j : ℕ) → j < length c.ports → length c.numbers ≡ 6
+six_numbers c s j l = elim s.numbers [
+  | inl six ↦ six
+  | inr eight ↦ (let none = ap (λ (ps : List HeldPort). length ps) eight.1 in absurd (omega (arith, none, l)))
+]
+
 -- a word of the ports, among all words
-pub ports_at : (c : HeldCell) → IsShaped c → (m : ℕ) → get_or (cell_items c) (16 + m) blank ≡ get_or (port_items c.ports) m blank
-ports_at c s m = ap (λ n. get_or (cell_items c) n blank) (ten m) ∙ past_links c.links 8 (8 + m) (number_items c.numbers ++ port_items c.ports) s.links ∙ past_numbers c.numbers 8 m (port_items c.ports) s.numbers
+pub ports_at : (c : HeldCell) → IsShaped c → length c.numbers ≡ 6 → (m : ℕ) → get_or (cell_items c) (14 + m) blank ≡ get_or (port_items c.ports) m blank
+ports_at c s six m = ap (λ n. get_or (cell_items c) n blank) (ten m) ∙ past_links c.links 8 (6 + m) (number_items c.numbers ++ port_items c.ports) s.links ∙ past_numbers c.numbers 6 m (port_items c.ports) six
 
 -- a word of the ports is written, among all words
-pub set_ports_at : (c : HeldCell) → IsShaped c → (m : ℕ) (i : Item) → set (cell_items c) (16 + m) i ≡ link_items c.links ++ (number_items c.numbers ++ set (port_items c.ports) m i)
-set_ports_at c s m i = ap (λ n. set (cell_items c) n i) (ten m) ∙ set_past_links c.links 8 (8 + m) i (number_items c.numbers ++ port_items c.ports) s.links
-    ∙ ap (λ is. link_items c.links ++ is) (set_past_numbers c.numbers 8 m i (port_items c.ports) s.numbers)
+pub set_ports_at : (c : HeldCell) → IsShaped c → length c.numbers ≡ 6 → (m : ℕ) (i : Item) → set (cell_items c) (14 + m) i ≡ link_items c.links ++ (number_items c.numbers ++ set (port_items c.ports) m i)
+set_ports_at c s six m i = ap (λ n. set (cell_items c) n i) (ten m) ∙ set_past_links c.links 8 (6 + m) i (number_items c.numbers ++ port_items c.ports) s.links
+    ∙ ap (λ is. link_items c.links ++ is) (set_past_numbers c.numbers 6 m i (port_items c.ports) six)

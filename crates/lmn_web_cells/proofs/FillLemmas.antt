@@ -100,9 +100,9 @@ numbers_next : (old rows rows' : List Row) (b k left : ℕ) → Filled old rows 
 numbers_next old rows rows' b k left f r = subst (λ done. Filled old rows' b (blank_links 8 ++ done) left) (more_numbers k) (next old rows rows' b (head_numbers k) left (8 + k) (number 0) f (let n = count_numbers k in omega (arith, n)) r)
 
 abbrev head_ports : ℕ → List Item
-head_ports j = blank_links 8 ++ (blank_numbers 8 ++ blank_ports j)
+head_ports j = blank_links 8 ++ (blank_numbers 6 ++ blank_ports j)
 
-count_head : (j : ℕ) → length (head_ports j) ≡ 16 + j * 3
+count_head : (j : ℕ) → length (head_ports j) ≡ 14 + j * 3
 count_head j = let n = count_ports j in omega (arith, n)
 
 abbrev head_one : ℕ → List Item
@@ -115,21 +115,21 @@ count_more : (xs : List Item) (i : Item) → length (xs ++ i ∷ []) ≡ suc (le
 count_more [] i = refl
 count_more (x ∷ xs) i = ap suc (count_more xs i)
 
-count_one : (j : ℕ) → length (head_one j) ≡ 16 + j * 3 + 1
+count_one : (j : ℕ) → length (head_one j) ≡ 14 + j * 3 + 1
 count_one j = let a = count_more (head_ports j) (link_to None) in let b = count_head j in omega (arith, a, b)
 
-count_two : (j : ℕ) → length (head_two j) ≡ 16 + j * 3 + 2
+count_two : (j : ℕ) → length (head_two j) ≡ 14 + j * 3 + 2
 count_two j = let a = count_more (head_one j) (number 0) in let b = count_one j in omega (arith, a, b)
 
-ports_one : (old rows rows' : List Row) (b j left : ℕ) → Filled old rows b (head_ports j) (suc left) → rows' ≡ with_items b (set (items_in rows b) (16 + j * 3) (link_to None)) rows → Filled old rows' b (head_one j) left
-ports_one old rows rows' b j left f r = next old rows rows' b (head_ports j) left (16 + j * 3) (link_to None) f (sym (count_head j)) r
+ports_one : (old rows rows' : List Row) (b j left : ℕ) → Filled old rows b (head_ports j) (suc left) → rows' ≡ with_items b (set (items_in rows b) (14 + j * 3) (link_to None)) rows → Filled old rows' b (head_one j) left
+ports_one old rows rows' b j left f r = next old rows rows' b (head_ports j) left (14 + j * 3) (link_to None) f (sym (count_head j)) r
 
-ports_two : (old rows rows' : List Row) (b j left : ℕ) → Filled old rows b (head_one j) (suc left) → rows' ≡ with_items b (set (items_in rows b) (16 + j * 3 + 1) (number 0)) rows → Filled old rows' b (head_two j) left
-ports_two old rows rows' b j left f r = next old rows rows' b (head_one j) left (16 + j * 3 + 1) (number 0) f (sym (count_one j)) r
+ports_two : (old rows rows' : List Row) (b j left : ℕ) → Filled old rows b (head_one j) (suc left) → rows' ≡ with_items b (set (items_in rows b) (14 + j * 3 + 1) (number 0)) rows → Filled old rows' b (head_two j) left
+ports_two old rows rows' b j left f r = next old rows rows' b (head_one j) left (14 + j * 3 + 1) (number 0) f (sym (count_one j)) r
 
-ports_three : (old rows rows' : List Row) (b j left : ℕ) → Filled old rows b (head_two j) (suc left) → rows' ≡ with_items b (set (items_in rows b) (16 + j * 3 + 2) (number 0)) rows → Filled old rows' b (head_ports (suc j)) left
+ports_three : (old rows rows' : List Row) (b j left : ℕ) → Filled old rows b (head_two j) (suc left) → rows' ≡ with_items b (set (items_in rows b) (14 + j * 3 + 2) (number 0)) rows → Filled old rows' b (head_ports (suc j)) left
 ports_three old rows rows' b j left f r =
-    subst (λ done. Filled old rows' b (blank_links 8 ++ (blank_numbers 8 ++ done)) left) (more_ports j) (next old rows rows' b (head_two j) left (16 + j * 3 + 2) (number 0) f (sym (count_two j)) r)
+    subst (λ done. Filled old rows' b (blank_links 8 ++ (blank_numbers 6 ++ done)) left) (more_ports j) (next old rows rows' b (head_two j) left (14 + j * 3 + 2) (number 0) f (sym (count_two j)) r)
 
 -- nothing is left
 no_more : (xs : List Item) → xs ++ [] ≡ xs
@@ -144,63 +144,71 @@ begun old b done left l e = record {
 
 -- The invariants of the three loops
 
--- so many links of a new row are written
+-- so many links of a row of n words are written
 abbrev pub LinksDone : List Row → List Row → ℕ → ℕ → ℕ → Type 0
-LinksDone old rows b p k = (left : ℕ) × (left + k ≡ 16 + p * 3) × Filled old rows b (blank_links k) left
+LinksDone old rows b n k = (left : ℕ) × (left + k ≡ n) × Filled old rows b (blank_links k) left
 
--- the links and so many numbers are written
+-- the links and so many of the n words behind them are written
 abbrev pub NumbersDone : List Row → List Row → ℕ → ℕ → ℕ → Type 0
-NumbersDone old rows b p k = (left : ℕ) × (left + k ≡ 8 + p * 3) × Filled old rows b (blank_links 8 ++ blank_numbers k) left
+NumbersDone old rows b n k = (left : ℕ) × (left + k ≡ n) × Filled old rows b (blank_links 8 ++ blank_numbers k) left
 
 -- the links, the numbers and so many ports are written
 abbrev pub PortsDone : List Row → List Row → ℕ → ℕ → ℕ → Type 0
-PortsDone old rows b p j = (left : ℕ) × (left + j * 3 ≡ p * 3) × Filled old rows b (blank_links 8 ++ (blank_numbers 8 ++ blank_ports j)) left
+PortsDone old rows b p j = (left : ℕ) × (left + j * 3 ≡ p * 3) × Filled old rows b (blank_links 8 ++ (blank_numbers 6 ++ blank_ports j)) left
 
 plus_one : (k : ℕ) → suc k ≡ k + 1
 plus_one k = omega arith
 
 -- at first no link is written
-pub links_begin : (old : List Row) (b p : ℕ) → items_in old b ≡ replicate (16 + p * 3) blank → LinksDone old old b p 0
-links_begin old b p e = (16 + p * 3, omega arith, begun old b [] (16 + p * 3) (omega arith) e)
+pub links_begin : (old : List Row) (b n : ℕ) → 0 < n → items_in old b ≡ replicate n blank → LinksDone old old b n 0
+links_begin old b n some e = (n, omega arith, begun old b [] n (omega (arith, some)) e)
 
 -- the next link is a word of the row
-pub links_there : (old rows : List Row) (b p k : ℕ) → LinksDone old rows b p k → k < 8 → k < length (items_in rows b)
-links_there old rows b p k d low = let e = d.1 in next_there old rows b (blank_links k) d.0 k d.2 (sym (count_links k)) (omega (arith, e, low))
+pub links_there : (old rows : List Row) (b n k : ℕ) → LinksDone old rows b n k → k < n → k < length (items_in rows b)
+links_there old rows b n k d low = let e = d.1 in next_there old rows b (blank_links k) d.0 k d.2 (sym (count_links k)) (omega (arith, e, low))
 
-links_more : (old rows rows' : List Row) (b p k left : ℕ) → left + k ≡ 16 + p * 3 → Filled old rows b (blank_links k) left → k < 8 → rows' ≡ with_items b (set (items_in rows b) k (link_to None)) rows → LinksDone old rows' b p (k + 1)
-links_more old rows rows' b p k zero e f low r = absurd (omega (arith, e, low))
-links_more old rows rows' b p k (suc left) e f low r = (left, omega (arith, e), subst (λ n. Filled old rows' b (blank_links n) left) (plus_one k) (links_next old rows rows' b k left f r))
+links_more : (old rows rows' : List Row) (b n k left : ℕ) → left + k ≡ n → Filled old rows b (blank_links k) left → k < n → rows' ≡ with_items b (set (items_in rows b) k (link_to None)) rows → LinksDone old rows' b n (k + 1)
+links_more old rows rows' b n k zero e f low r = absurd (omega (arith, e, low))
+links_more old rows rows' b n k (suc left) e f low r = (left, omega (arith, e), subst (λ m. Filled old rows' b (blank_links m) left) (plus_one k) (links_next old rows rows' b k left f r))
 
 -- one more link is written
-pub links_step : (old rows rows' : List Row) (b p k : ℕ) → LinksDone old rows b p k → k < 8 → rows' ≡ with_items b (set (items_in rows b) k (link_to None)) rows → LinksDone old rows' b p (k + 1)
-links_step old rows rows' b p k d low r = links_more old rows rows' b p k d.0 d.1 d.2 low r
+pub links_step : (old rows rows' : List Row) (b n k : ℕ) → LinksDone old rows b n k → k < n → rows' ≡ with_items b (set (items_in rows b) k (link_to None)) rows → LinksDone old rows' b n (k + 1)
+links_step old rows rows' b n k d low r = links_more old rows rows' b n k d.0 d.1 d.2 low r
+
+-- all eight are written
+pub links_end : (old rows : List Row) (b left k : ℕ) → LinksDone old rows b (8 + left) k → k ≡ 8 → rows ≡ with_items b (blank_links 8 ++ replicate left blank) old
+links_end old rows b left k d e = let w = d.1 in let n : d.0 ≡ left = omega (arith, w, e) in d.2.are ∙ (λ t. with_items b (blank_links (e t) ++ replicate (n t) blank) old)
 
 -- at first no number is written
-pub numbers_begin : (old : List Row) (b p : ℕ) → items_in old b ≡ blank_links 8 ++ replicate (8 + p * 3) blank → NumbersDone old old b p 0
-numbers_begin old b p e = (8 + p * 3, omega arith, begun old b (blank_links 8) (8 + p * 3) (omega arith) e)
+pub numbers_begin : (old : List Row) (b n : ℕ) → items_in old b ≡ blank_links 8 ++ replicate n blank → NumbersDone old old b n 0
+numbers_begin old b n e = (n, omega arith, begun old b (blank_links 8) n (omega arith) e)
 
 six_more : (k : ℕ) → length (blank_links 8 ++ blank_numbers k) ≡ 8 + k
 six_more k = let n = count_numbers k in omega (arith, n)
 
 -- the next number is a word of the row
-pub numbers_there : (old rows : List Row) (b p k : ℕ) → NumbersDone old rows b p k → k < 8 → 8 + k < length (items_in rows b)
-numbers_there old rows b p k d low = let e = d.1 in next_there old rows b (blank_links 8 ++ blank_numbers k) d.0 (8 + k) d.2 (sym (six_more k)) (omega (arith, e, low))
+pub numbers_there : (old rows : List Row) (b n k : ℕ) → NumbersDone old rows b n k → k < n → 8 + k < length (items_in rows b)
+numbers_there old rows b n k d low = let e = d.1 in next_there old rows b (blank_links 8 ++ blank_numbers k) d.0 (8 + k) d.2 (sym (six_more k)) (omega (arith, e, low))
 
-numbers_more : (old rows rows' : List Row) (b p k left : ℕ) → left + k ≡ 8 + p * 3 → Filled old rows b (blank_links 8 ++ blank_numbers k) left → k < 8 → rows' ≡ with_items b (set (items_in rows b) (8 + k) (number 0)) rows → NumbersDone old rows' b p (k + 1)
-numbers_more old rows rows' b p k zero e f low r = absurd (omega (arith, e, low))
-numbers_more old rows rows' b p k (suc left) e f low r = (left, omega (arith, e), subst (λ n. Filled old rows' b (blank_links 8 ++ blank_numbers n) left) (plus_one k) (numbers_next old rows rows' b k left f r))
+numbers_more : (old rows rows' : List Row) (b n k left : ℕ) → left + k ≡ n → Filled old rows b (blank_links 8 ++ blank_numbers k) left → k < n → rows' ≡ with_items b (set (items_in rows b) (8 + k) (number 0)) rows → NumbersDone old rows' b n (k + 1)
+numbers_more old rows rows' b n k zero e f low r = absurd (omega (arith, e, low))
+numbers_more old rows rows' b n k (suc left) e f low r = (left, omega (arith, e), subst (λ m. Filled old rows' b (blank_links 8 ++ blank_numbers m) left) (plus_one k) (numbers_next old rows rows' b k left f r))
 
 -- one more number is written
-pub numbers_step : (old rows rows' : List Row) (b p k : ℕ) → NumbersDone old rows b p k → k < 8 → rows' ≡ with_items b (set (items_in rows b) (8 + k) (number 0)) rows → NumbersDone old rows' b p (k + 1)
-numbers_step old rows rows' b p k d low r = numbers_more old rows rows' b p k d.0 d.1 d.2 low r
+pub numbers_step : (old rows rows' : List Row) (b n k : ℕ) → NumbersDone old rows b n k → k < n → rows' ≡ with_items b (set (items_in rows b) (8 + k) (number 0)) rows → NumbersDone old rows' b n (k + 1)
+numbers_step old rows rows' b n k d low r = numbers_more old rows rows' b n k d.0 d.1 d.2 low r
+
+-- so many are written
+pub numbers_end : (old rows : List Row) (b many left k : ℕ) → NumbersDone old rows b (many + left) k → k ≡ many → rows ≡ with_items b (blank_links 8 ++ (blank_numbers many ++ replicate left blank)) old
+numbers_end old rows b many left k d e = let w = d.1 in let n : d.0 ≡ left = omega (arith, w, e) in d.2.are ∙ (λ t. with_items b (blank_links 8 ++ (blank_numbers (e t) ++ replicate (n t) blank)) old)
 
 -- so many ports are written at first
 pub ports_begin : (old : List Row) (b p j : ℕ) → j < p → items_in old b ≡ ports_filled p j → PortsDone old old b p j
 ports_begin old b p j low e = ((p - j) * 3, omega (arith, low), begun old b (head_ports j) ((p - j) * 3) (omega arith) e)
 
 -- the first word of the next port is one of the row
-pub ports_there : (old rows : List Row) (b p j : ℕ) → PortsDone old rows b p j → j < p → 16 + j * 3 < length (items_in rows b)
-ports_there old rows b p j d low = let e = d.1 in next_there old rows b (head_ports j) d.0 (16 + j * 3) d.2 (sym (count_head j)) (omega (arith, e, low))
+pub ports_there : (old rows : List Row) (b p j : ℕ) → PortsDone old rows b p j → j < p → 14 + j * 3 < length (items_in rows b)
+ports_there old rows b p j d low = let e = d.1 in next_there old rows b (head_ports j) d.0 (14 + j * 3) d.2 (sym (count_head j)) (omega (arith, e, low))
 
 -- the same after one and two of the three
 abbrev pub OneDone : List Row → List Row → ℕ → ℕ → ℕ → Type 0
@@ -209,36 +217,36 @@ OneDone old rows b p j = (left : ℕ) × (left + j * 3 + 1 ≡ p * 3) × Filled 
 abbrev TwoDone : List Row → List Row → ℕ → ℕ → ℕ → Type 0
 TwoDone old rows b p j = (left : ℕ) × (left + j * 3 + 2 ≡ p * 3) × Filled old rows b (head_two j) left
 
-one_more : (old rows rows' : List Row) (b p j left : ℕ) → left + j * 3 ≡ p * 3 → Filled old rows b (head_ports j) left → j < p → rows' ≡ with_items b (set (items_in rows b) (16 + j * 3) (link_to None)) rows → OneDone old rows' b p j
+one_more : (old rows rows' : List Row) (b p j left : ℕ) → left + j * 3 ≡ p * 3 → Filled old rows b (head_ports j) left → j < p → rows' ≡ with_items b (set (items_in rows b) (14 + j * 3) (link_to None)) rows → OneDone old rows' b p j
 one_more old rows rows' b p j zero e f low r = absurd (omega (arith, e, low))
 one_more old rows rows' b p j (suc left) e f low r = (left, omega (arith, e), ports_one old rows rows' b j left f r)
 
 -- the first word of a port is written
-pub first_word : (old rows rows' : List Row) (b p j : ℕ) → PortsDone old rows b p j → j < p → rows' ≡ with_items b (set (items_in rows b) (16 + j * 3) (link_to None)) rows → OneDone old rows' b p j
+pub first_word : (old rows rows' : List Row) (b p j : ℕ) → PortsDone old rows b p j → j < p → rows' ≡ with_items b (set (items_in rows b) (14 + j * 3) (link_to None)) rows → OneDone old rows' b p j
 first_word old rows rows' b p j d low r = one_more old rows rows' b p j d.0 d.1 d.2 low r
 
 -- its second word is one of the row
-pub second_there : (old rows : List Row) (b p j : ℕ) → OneDone old rows b p j → j < p → 16 + j * 3 + 1 < length (items_in rows b)
-second_there old rows b p j d low = let e = d.1 in next_there old rows b (head_one j) d.0 (16 + j * 3 + 1) d.2 (sym (count_one j)) (omega (arith, e, low))
+pub second_there : (old rows : List Row) (b p j : ℕ) → OneDone old rows b p j → j < p → 14 + j * 3 + 1 < length (items_in rows b)
+second_there old rows b p j d low = let e = d.1 in next_there old rows b (head_one j) d.0 (14 + j * 3 + 1) d.2 (sym (count_one j)) (omega (arith, e, low))
 
-two_more : (old rows rows' : List Row) (b p j left : ℕ) → left + j * 3 + 1 ≡ p * 3 → Filled old rows b (head_one j) left → j < p → rows' ≡ with_items b (set (items_in rows b) (16 + j * 3 + 1) (number 0)) rows → TwoDone old rows' b p j
+two_more : (old rows rows' : List Row) (b p j left : ℕ) → left + j * 3 + 1 ≡ p * 3 → Filled old rows b (head_one j) left → j < p → rows' ≡ with_items b (set (items_in rows b) (14 + j * 3 + 1) (number 0)) rows → TwoDone old rows' b p j
 two_more old rows rows' b p j zero e f low r = absurd (omega (arith, e, low))
 two_more old rows rows' b p j (suc left) e f low r = (left, omega (arith, e), ports_two old rows rows' b j left f r)
 
 -- its second word is written
-pub second_word : (old rows rows' : List Row) (b p j : ℕ) → OneDone old rows b p j → j < p → rows' ≡ with_items b (set (items_in rows b) (16 + j * 3 + 1) (number 0)) rows → TwoDone old rows' b p j
+pub second_word : (old rows rows' : List Row) (b p j : ℕ) → OneDone old rows b p j → j < p → rows' ≡ with_items b (set (items_in rows b) (14 + j * 3 + 1) (number 0)) rows → TwoDone old rows' b p j
 second_word old rows rows' b p j d low r = two_more old rows rows' b p j d.0 d.1 d.2 low r
 
 -- its third word is one of the row
-pub third_there : (old rows : List Row) (b p j : ℕ) → TwoDone old rows b p j → j < p → 16 + j * 3 + 2 < length (items_in rows b)
-third_there old rows b p j d low = let e = d.1 in next_there old rows b (head_two j) d.0 (16 + j * 3 + 2) d.2 (sym (count_two j)) (omega (arith, e, low))
+pub third_there : (old rows : List Row) (b p j : ℕ) → TwoDone old rows b p j → j < p → 14 + j * 3 + 2 < length (items_in rows b)
+third_there old rows b p j d low = let e = d.1 in next_there old rows b (head_two j) d.0 (14 + j * 3 + 2) d.2 (sym (count_two j)) (omega (arith, e, low))
 
-three_more : (old rows rows' : List Row) (b p j left : ℕ) → left + j * 3 + 2 ≡ p * 3 → Filled old rows b (head_two j) left → j < p → rows' ≡ with_items b (set (items_in rows b) (16 + j * 3 + 2) (number 0)) rows → PortsDone old rows' b p (j + 1)
+three_more : (old rows rows' : List Row) (b p j left : ℕ) → left + j * 3 + 2 ≡ p * 3 → Filled old rows b (head_two j) left → j < p → rows' ≡ with_items b (set (items_in rows b) (14 + j * 3 + 2) (number 0)) rows → PortsDone old rows' b p (j + 1)
 three_more old rows rows' b p j zero e f low r = absurd (omega (arith, e, low))
 three_more old rows rows' b p j (suc left) e f low r = (left, omega (arith, e), subst (λ n. Filled old rows' b (head_ports n) left) (plus_one j) (ports_three old rows rows' b j left f r))
 
 -- its third word is written: one more port
-pub third_word : (old rows rows' : List Row) (b p j : ℕ) → TwoDone old rows b p j → j < p → rows' ≡ with_items b (set (items_in rows b) (16 + j * 3 + 2) (number 0)) rows → PortsDone old rows' b p (j + 1)
+pub third_word : (old rows rows' : List Row) (b p j : ℕ) → TwoDone old rows b p j → j < p → rows' ≡ with_items b (set (items_in rows b) (14 + j * 3 + 2) (number 0)) rows → PortsDone old rows' b p (j + 1)
 third_word old rows rows' b p j d low r = three_more old rows rows' b p j d.0 d.1 d.2 low r
 
 -- what is written then
@@ -246,8 +254,8 @@ pub ports_are : (old rows : List Row) (b p j : ℕ) → PortsDone old rows b p j
 ports_are old rows b p j d = let e = d.1 in let n : d.0 ≡ (p - j) * 3 = omega (arith, e) in d.2.are ∙ (λ t. with_items b (head_ports j ++ replicate (n t) blank) old)
 
 -- no port is written
-pub ports_none : (p : ℕ) → blank_links 8 ++ (blank_numbers 8 ++ replicate (p * 3) blank) ≡ ports_filled p 0
-ports_none p = let n : p * 3 ≡ (p - 0) * 3 = omega arith in λ t. blank_links 8 ++ (blank_numbers 8 ++ replicate (n t) blank)
+pub ports_none : (p : ℕ) → blank_links 8 ++ (blank_numbers 6 ++ replicate (p * 3) blank) ≡ ports_filled p 0
+ports_none p = let n : p * 3 ≡ (p - 0) * 3 = omega arith in λ t. blank_links 8 ++ (blank_numbers 6 ++ replicate (n t) blank)
 
 -- all ports are
 pub ports_all : (p j : ℕ) → j ≡ p → ports_filled p j ≡ cell_items (blank_cell p)

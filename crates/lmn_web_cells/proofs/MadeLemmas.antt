@@ -3,16 +3,19 @@ use Rattle.std.proofs.Common.{◌≡◌, ℕ, ◌+◌, ◌*◌, ◌<◌, ◌^◌
 use Rattle.std.proofs.lemmas.Bool.{cases_eq, eq-eqb}
 use lib.ListN.{length-replicate}
 use Rattle.lmn_web_cells.specs.Rows.{Item, Row, row, items_in, with_items, without_row}
-use Rattle.lmn_web_cells.specs.Cells.{HeldCell, cell_items, cell_by, cells_by, blank_cell, no_port, IsShaped, IsLaid, AreLaid, ports_of}
+use Rattle.lmn_web_cells.specs.Cells.{HeldPort, HeldCell, cell_items, cell_by, cells_by, blank_cell, blank_membrane, no_port, IsShaped, IsLaid, AreLaid, numbers_of, ports_of}
 use Rattle.lmn_store_heap.specs.Heap.{alter}
 use Rattle.lmn_base.proofs.Numbers.{not_equal}
-use Rattle.lmn_web_cells.proofs.CellWords.{cell_back}
-use Rattle.lmn_web_cells.proofs.CellRows.{found, if_yes, word_count}
+use Rattle.lmn_web_cells.proofs.CellWords.{cell_back, word_count}
+use Rattle.lmn_web_cells.proofs.CellRows.{found, if_yes}
 use Rattle.lmn_store_heap.proofs.Listing.{alter_at, alter_away}
 use Rattle.lmn_base.proofs.Truth.{if_no}
 
 blank_shaped : (p : ℕ) → p < 2 ^ 16 → IsShaped (blank_cell p)
-blank_shaped p few = record { links = refl; numbers = refl; few = subst (λ n. n < 2 ^ 16) (sym (length-replicate p no_port)) few }
+blank_shaped p few = record { links = refl; numbers = inl refl; few = subst (λ n. n < 2 ^ 16) (sym (length-replicate p no_port)) few }
+
+membrane_shaped : IsShaped blank_membrane
+membrane_shaped = record { links = refl; numbers = inr (refl, refl); few = omega arith }
 
 -- the rows after a call, as cells
 pub record Cells (old new : List Row) (b : ℕ) (c : Option HeldCell) : Type 0 where
@@ -30,19 +33,27 @@ away_items : (old : List Row) (b : ℕ) (is : List Item) (j : ℕ) → (j ≡ b 
 away_items old b is j d = if_no (b == j) is (items_in old j) (not_equal b j (λ e. d (sym e)))
 
 -- the cells after one was made
-pub made : (old new : List Row) (b p : ℕ) → AreLaid old → p < 2 ^ 16 → new ≡ row b (cell_items (blank_cell p)) ∷ old → Cells old new b (Some (blank_cell p))
-made old new b p laid few e =
-    let is = cell_items (blank_cell p) in let shaped = blank_shaped p few in
+made_cell : (old new : List Row) (b : ℕ) (c : HeldCell) → AreLaid old → IsShaped c → new ≡ row b (cell_items c) ∷ old → Cells old new b (Some c)
+made_cell old new b c laid shaped e =
+    let is = cell_items c in
     let laid' : AreLaid (row b is ∷ old) = λ j. elim (cases_eq j b) [
-      | inl s ↦ inr (blank_cell p, shaped, ap (λ m. items_in (row b is ∷ old) m) s ∙ new_items old b is)
+      | inl s ↦ inr (c, shaped, ap (λ m. items_in (row b is ∷ old) m) s ∙ new_items old b is)
       | inr d ↦ subst IsLaid (sym (away_items old b is j d)) (laid j)
     ] in
-    let cells' : (j : ℕ) → cells_by (row b is ∷ old) j ≡ alter (cells_by old) b (λ _. Some (blank_cell p)) j = λ j. elim (cases_eq j b) [
-      | inl s ↦ ap (λ m. cells_by (row b is ∷ old) m) s ∙ ap cell_by (new_items old b is) ∙ cell_back (blank_cell p) shaped
-          ∙ sym (ap (λ m. alter (cells_by old) b (λ _. Some (blank_cell p)) m) s ∙ alter_at (cells_by old) b (λ _. Some (blank_cell p)))
-      | inr d ↦ ap cell_by (away_items old b is j d) ∙ sym (alter_away (cells_by old) b (λ _. Some (blank_cell p)) j d)
+    let cells' : (j : ℕ) → cells_by (row b is ∷ old) j ≡ alter (cells_by old) b (λ _. Some c) j = λ j. elim (cases_eq j b) [
+      | inl s ↦ ap (λ m. cells_by (row b is ∷ old) m) s ∙ ap cell_by (new_items old b is) ∙ cell_back c shaped
+          ∙ sym (ap (λ m. alter (cells_by old) b (λ _. Some c) m) s ∙ alter_at (cells_by old) b (λ _. Some c))
+      | inr d ↦ ap cell_by (away_items old b is j d) ∙ sym (alter_away (cells_by old) b (λ _. Some c) j d)
     ] in
     record { laid = subst AreLaid (sym e) laid'; cells = ap (λ (z : List Row). cells_by z) e ∙ (λ t j. cells' j t) }
+
+-- that of an atom
+pub made : (old new : List Row) (b p : ℕ) → AreLaid old → p < 2 ^ 16 → new ≡ row b (cell_items (blank_cell p)) ∷ old → Cells old new b (Some (blank_cell p))
+made old new b p laid few e = made_cell old new b (blank_cell p) laid (blank_shaped p few) e
+
+-- and of a membrane
+pub made_membrane : (old new : List Row) (b : ℕ) → AreLaid old → new ≡ row b (cell_items blank_membrane) ∷ old → Cells old new b (Some blank_membrane)
+made_membrane old new b laid e = made_cell old new b blank_membrane laid membrane_shaped e
 
 without_away : (rs : List Row) (b j : ℕ) → (j ≡ b → ⊥) → items_in (without_row b rs) j ≡ items_in rs j
 without_away [] b j d = refl
@@ -70,7 +81,18 @@ few_ports rows b p laid there e =
     let f = found rows b laid there in let few = f.shaped.few in let same : length f.cell.ports ≡ p = sym (ap (λ (o : Option HeldCell). length (ports_of o)) f.is) ∙ e in omega (arith, few, same)
 
 -- how many words the row of a cell has
-pub count_words : (rows : List Row) (b p : ℕ) → AreLaid rows → IsSome (cells_by rows b) → length (ports_of (cells_by rows b)) ≡ p → length (items_in rows b) ≡ 16 + p * 3
-count_words rows b p laid there e =
+pub count_words : (rows : List Row) (b p : ℕ) → AreLaid rows → IsSome (cells_by rows b) → length (numbers_of (cells_by rows b)) ≡ 6 → length (ports_of (cells_by rows b)) ≡ p → length (items_in rows b) ≡ 14 + p * 3
+count_words rows b p laid there six e =
     let f = found rows b laid there in let same : length f.cell.ports ≡ p = sym (ap (λ (o : Option HeldCell). length (ports_of o)) f.is) ∙ e in
-    ap (λ (is : List Item). length is) f.words ∙ word_count f.cell f.shaped ∙ ap (λ n. 16 + n * 3) same
+    let n : length f.cell.numbers ≡ 6 = sym (ap (λ (o : Option HeldCell). length (numbers_of o)) f.is) ∙ six in let w = word_count f.cell f.shaped in let e : length (cell_items f.cell) ≡ 14 + p * 3 = omega (arith, w, n, same) in
+    ap (λ (is : List Item). length is) f.words ∙ e
+
+-- and that of a membrane
+pub count_membrane : (rows : List Row) (b : ℕ) → AreLaid rows → IsSome (cells_by rows b) → length (numbers_of (cells_by rows b)) ≡ 8 → length (items_in rows b) ≡ 16
+count_membrane rows b laid there eight =
+    let f = found rows b laid there in let n : length f.cell.numbers ≡ 8 = sym (ap (λ (o : Option HeldCell). length (numbers_of o)) f.is) ∙ eight in let w = word_count f.cell f.shaped in
+    let e : length (cell_items f.cell) ≡ 16 = elim f.shaped.numbers [
+      | inl six ↦ absurd (omega (arith, six, n))
+      | inr e ↦ (let none = ap (λ (ps : List HeldPort). length ps) e.1 in omega (arith, w, n, none))
+    ] in
+    ap (λ (is : List Item). length is) f.words ∙ e

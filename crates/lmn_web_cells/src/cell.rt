@@ -1,12 +1,12 @@
-//! Cells: rows with eight links, eight numbers and three words for each port.
+//! Cells: rows with eight links, six numbers and three words for each port, or, of a membrane, two numbers more and no port.
 ghost use Rattle.std.specs.Prelude.{◌≡◌, ℕ, ◌+◌, ◌*◌, ◌^◌, ◌<◌, ◌∷◌, length, IsSome, None, Some, MatchResult, slice_index_or};
 ghost use Rattle.std.specs.Option.{option_map};
 ghost use denote.RawPtr.{block_of};
-ghost use Rattle.lmn_web_cells.specs.Cells.{cells_by, links_of, numbers_of, ports_of, port_of, with_link, with_number, with_to, with_port, with_mark, pointer_to, blank_cell, HaveLinks};
+ghost use Rattle.lmn_web_cells.specs.Cells.{cells_by, links_of, numbers_of, ports_of, port_of, with_link, with_number, with_to, with_port, with_mark, pointer_to, blank_cell, blank_membrane, HaveLinks};
 ghost use Rattle.lmn_store_heap.specs.Heap.{alter};
 ghost use Rattle.lmn_web_cells.specs.CellIds.{cell_id, IsLink, led_by};
 
-use crate::filling::{FIRST_PORT, LINKS, PORT_WORDS, fill};
+use crate::filling::{FIRST_PORT, LINKS, PORT_WORDS, fill, fill_membrane};
 use crate::handle::Cell;
 use crate::kept::Kept;
 use crate::rows::{Rows, is_nowhere, nowhere};
@@ -20,8 +20,8 @@ const PORT: usize = 1;
 
 const MARK: usize = 2;
 
-/// The cells, and the handle of the heap that they are from. The blocks of freed cells with at most three ports are kept
-/// and used again, so that of cells with as many ports there are never more blocks than lived at once.
+/// The cells, and the handle of the heap that they are from. The blocks of freed membranes, and of freed atoms with at most
+/// three ports, are kept and used again, so that of cells with as many words there are never more blocks than lived at once.
 pub struct Cells {
     rows: Rows,
     kept: Kept,
@@ -61,7 +61,7 @@ impl Cells {
         kept.end(&alloc);
     }
 
-    /// A new cell in which nothing is set.
+    /// A new cell of an atom, in which nothing is set.
     #[inline(always)]
     pub fn make(&mut self, ports: usize) -> Result<Cell, AllocError>
         requires { ports < 2 ^ 16 }
@@ -78,13 +78,38 @@ impl Cells {
         }
     }
 
-    /// The cell doesn't live any more.
+    /// A new cell of a membrane, in which nothing is set.
+    pub fn make_membrane(&mut self) -> Result<Cell, AllocError>
+        ensures { MatchResult result
+            (λ c. (cells_by self.old (cell_id c) ≡ None) × (cells_by self.new ≡ alter (cells_by self.old) (cell_id c) (λ _. Some blank_membrane)))
+            (λ _. cells_by self.new ≡ cells_by self.old) }
+    {
+        match self.kept.make_membrane(&mut self.rows, &self.alloc) {
+            Ok(at) => {
+                fill_membrane(&mut self.rows, at);
+                Ok(Cell { at })
+            }
+            Err(error) => Err(error),
+        }
+    }
+
+    /// The cell of an atom doesn't live any more.
     pub fn free(&mut self, c: Cell, ports: usize)
         requires there { IsSome (cells_by self.old (cell_id c)) }
+        requires numbers { length (numbers_of (cells_by self.old (cell_id c))) ≡ 6 }
         requires ports { length (ports_of (cells_by self.old (cell_id c))) ≡ ports }
         ensures { cells_by self.new ≡ alter (cells_by self.old) (cell_id c) (λ _. None) }
     {
         self.kept.keep(&mut self.rows, &self.alloc, c.at, ports);
+    }
+
+    /// The cell of a membrane doesn't live any more.
+    pub fn free_membrane(&mut self, c: Cell)
+        requires there { IsSome (cells_by self.old (cell_id c)) }
+        requires numbers { length (numbers_of (cells_by self.old (cell_id c))) ≡ 8 }
+        ensures { cells_by self.new ≡ alter (cells_by self.old) (cell_id c) (λ _. None) }
+    {
+        self.kept.keep_membrane(&mut self.rows, c.at);
     }
 
     /// Each cell has eight links.
@@ -112,18 +137,38 @@ impl Cells {
         self.rows.set_link(c.at, k, pointer_of(to));
     }
 
-    /// A number of a cell.
+    /// A number that each cell has.
     pub fn number(&self, c: Cell, k: usize) -> u64
         requires there { IsSome (cells_by self.now (cell_id c)) }
+        requires below { k < 6 }
+        ensures { result ≡ slice_index_or (numbers_of (cells_by self.now (cell_id c))) k 0 }
+    {
+        self.rows.number(c.at, LINKS + k)
+    }
+
+    /// A number that each cell has is another.
+    pub fn set_number(&mut self, c: Cell, k: usize, n: u64)
+        requires there { IsSome (cells_by self.old (cell_id c)) }
+        requires below { k < 6 }
+        ensures { cells_by self.new ≡ alter (cells_by self.old) (cell_id c) (option_map (with_number k n)) }
+    {
+        self.rows.set_number(c.at, LINKS + k, n);
+    }
+
+    /// A number of a membrane.
+    pub fn count(&self, c: Cell, k: usize) -> u64
+        requires there { IsSome (cells_by self.now (cell_id c)) }
+        requires numbers { length (numbers_of (cells_by self.now (cell_id c))) ≡ 8 }
         requires below { k < 8 }
         ensures { result ≡ slice_index_or (numbers_of (cells_by self.now (cell_id c))) k 0 }
     {
         self.rows.number(c.at, LINKS + k)
     }
 
-    /// A number of a cell is another.
-    pub fn set_number(&mut self, c: Cell, k: usize, n: u64)
+    /// A number of a membrane is another.
+    pub fn set_count(&mut self, c: Cell, k: usize, n: u64)
         requires there { IsSome (cells_by self.old (cell_id c)) }
+        requires numbers { length (numbers_of (cells_by self.old (cell_id c))) ≡ 8 }
         requires below { k < 8 }
         ensures { cells_by self.new ≡ alter (cells_by self.old) (cell_id c) (option_map (with_number k n)) }
     {

@@ -1,43 +1,52 @@
-//! The words of a new row are written, so that it is a cell.
+//! The words of a new row are written, so that it is a cell of an atom, or of a membrane.
 ghost use Rattle.std.specs.Prelude.{◌≡◌, ◌+◌, ◌*◌, ◌^◌, ◌<◌, ◌≤◌, ◌++◌, replicate};
 ghost use denote.RawPtr.{block_of};
 ghost use Rattle.lmn_web_cells.specs.Rows.{IsStart, blank, items_in, with_items};
 ghost use Rattle.lmn_web_cells.specs.Fillings.{ports_filled};
-ghost use Rattle.lmn_web_cells.specs.Cells.{link_items, number_items, cell_items, blank_cell, blank_links, blank_numbers};
+ghost use Rattle.lmn_web_cells.specs.Cells.{link_items, number_items, cell_items, blank_cell, blank_membrane, blank_links, blank_numbers};
 
 use crate::rows::{Rows, nowhere};
 
 /// How many links a cell has.
 pub const LINKS: usize = 8;
 
-const NUMBERS: usize = 8;
+/// How many numbers the cell of an atom has.
+const NUMBERS: usize = 6;
 
-/// The word at which the ports begin.
-pub const FIRST_PORT: usize = 16;
+/// How many numbers the cell of a membrane has.
+const MEMBRANE_NUMBERS: usize = 8;
+
+/// How many words the cell of a membrane has.
+pub const MEMBRANE_WORDS: usize = LINKS + MEMBRANE_NUMBERS;
+
+/// The word at which the ports of an atom begin.
+pub const FIRST_PORT: usize = LINKS + NUMBERS;
 
 /// How many words a port has.
 pub const PORT_WORDS: usize = 3;
 
-// Each link leads nowhere.
-fn fill_links(rows: &mut Rows, at: *mut u8, ports: usize)
+// Each link leads nowhere. `left` words stand behind the links.
+fn fill_links(rows: &mut Rows, at: *mut u8, left: usize)
     requires start { IsStart at }
-    requires few { ports < 2 ^ 16 }
-    requires words { items_in rows.old.rows (block_of at) ≡ replicate (16 + ports * 3) blank }
-    ensures { rows.new.rows ≡ with_items (block_of at) (blank_links 8 ++ replicate (8 + ports * 3) blank) rows.old.rows }
+    requires words { items_in rows.old.rows (block_of at) ≡ replicate (8 + left) blank }
+    ensures { rows.new.rows ≡ with_items (block_of at) (blank_links 8 ++ replicate left blank) rows.old.rows }
 {
+    let _ = left;
     for k in 0..LINKS {
         rows.set_link(at, k, nowhere());
     }
 }
 
-// Each number is 0.
-fn fill_numbers(rows: &mut Rows, at: *mut u8, ports: usize)
+// Each of so many numbers is 0. `left` words stand behind them.
+#[inline(always)]
+fn fill_numbers(rows: &mut Rows, at: *mut u8, numbers: usize, left: usize)
     requires start { IsStart at }
-    requires few { ports < 2 ^ 16 }
-    requires words { items_in rows.old.rows (block_of at) ≡ blank_links 8 ++ replicate (8 + ports * 3) blank }
-    ensures { rows.new.rows ≡ with_items (block_of at) (blank_links 8 ++ (blank_numbers 8 ++ replicate (ports * 3) blank)) rows.old.rows }
+    requires numbers { numbers ≤ 8 }
+    requires words { items_in rows.old.rows (block_of at) ≡ blank_links 8 ++ replicate (numbers + left) blank }
+    ensures { rows.new.rows ≡ with_items (block_of at) (blank_links 8 ++ (blank_numbers numbers ++ replicate left blank)) rows.old.rows }
 {
-    for k in 0..NUMBERS {
+    let _ = left;
+    for k in 0..numbers {
         rows.set_number(at, LINKS + k, 0);
     }
 }
@@ -73,7 +82,7 @@ fn fill_from(rows: &mut Rows, at: *mut u8, ports: usize, first: usize)
 fn fill_ports(rows: &mut Rows, at: *mut u8, ports: usize)
     requires start { IsStart at }
     requires few { ports < 2 ^ 16 }
-    requires words { items_in rows.old.rows (block_of at) ≡ blank_links 8 ++ (blank_numbers 8 ++ replicate (ports * 3) blank) }
+    requires words { items_in rows.old.rows (block_of at) ≡ blank_links 8 ++ (blank_numbers 6 ++ replicate (ports * 3) blank) }
     ensures { rows.new.rows ≡ with_items (block_of at) (cell_items (blank_cell ports)) rows.old.rows }
 {
     if ports == 0 {
@@ -91,14 +100,24 @@ fn fill_ports(rows: &mut Rows, at: *mut u8, ports: usize)
     fill_from(rows, at, ports, 3);
 }
 
-/// A new row becomes a cell in which nothing is set.
+/// A new row becomes the cell of an atom in which nothing is set.
 pub fn fill(rows: &mut Rows, at: *mut u8, ports: usize)
     requires start { IsStart at }
     requires few { ports < 2 ^ 16 }
-    requires words { items_in rows.old.rows (block_of at) ≡ replicate (16 + ports * 3) blank }
+    requires words { items_in rows.old.rows (block_of at) ≡ replicate (14 + ports * 3) blank }
     ensures { rows.new.rows ≡ with_items (block_of at) (cell_items (blank_cell ports)) rows.old.rows }
 {
-    fill_links(rows, at, ports);
-    fill_numbers(rows, at, ports);
+    fill_links(rows, at, NUMBERS + ports * PORT_WORDS);
+    fill_numbers(rows, at, NUMBERS, ports * PORT_WORDS);
     fill_ports(rows, at, ports);
+}
+
+/// A new row becomes the cell of a membrane in which nothing is set.
+pub fn fill_membrane(rows: &mut Rows, at: *mut u8)
+    requires start { IsStart at }
+    requires words { items_in rows.old.rows (block_of at) ≡ replicate 16 blank }
+    ensures { rows.new.rows ≡ with_items (block_of at) (cell_items blank_membrane) rows.old.rows }
+{
+    fill_links(rows, at, MEMBRANE_NUMBERS);
+    fill_numbers(rows, at, MEMBRANE_NUMBERS, 0);
 }

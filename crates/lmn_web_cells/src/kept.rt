@@ -1,16 +1,17 @@
-//! The rows of freed cells with few ports, kept for the next ones with as many.
+//! The rows of freed cells of membranes, and of atoms with few ports, kept for the next ones with as many words.
 ghost use Rattle.std.specs.Prelude.{◌≡◌, ◌+◌, ◌*◌, ◌^◌, ◌<◌, ◌∷◌, [], length, replicate, MatchOption, MatchResult};
 ghost use denote.RawPtr.{block_of};
 ghost use Rattle.lmn_web_cells.specs.Rows.{row, items_in, without_row, blank, IsStart};
 
-use crate::filling::{FIRST_PORT, PORT_WORDS};
+use crate::filling::{FIRST_PORT, MEMBRANE_WORDS, PORT_WORDS};
 use crate::rows::Rows;
 use crate::spares::Spares;
 use std::alloc::{AllocError, Global};
 use std::marker::Model;
 
-/// Rows by the number of ports that their cells had: none, one, two or three. Those of cells with more aren't kept.
+/// Rows of membranes, and of atoms by the number of their ports: none, one, two or three. Those of atoms with more aren't kept.
 pub struct Kept {
+    membranes: Spares,
     none: Spares,
     one: Spares,
     two: Spares,
@@ -22,15 +23,16 @@ impl Model for Kept {
 
     ghost Value = { List ℕ };
 
-    ghost view = { λ k. k.none ∷ k.one ∷ k.two ∷ k.three ∷ [] };
+    ghost view = { λ k. k.membranes ∷ k.none ∷ k.one ∷ k.two ∷ k.three ∷ [] };
 
-    ghost invariant = { λ k. (k.none ≡ 16) × (k.one ≡ 19) × (k.two ≡ 22) × (k.three ≡ 25) };
+    ghost invariant = { λ k. (k.membranes ≡ 16) × (k.none ≡ 14) × (k.one ≡ 17) × (k.two ≡ 20) × (k.three ≡ 23) };
 }
 
 impl Kept {
     /// No row.
     pub fn new() -> Kept {
         Kept {
+            membranes: Spares::new(MEMBRANE_WORDS),
             none: Spares::new(FIRST_PORT),
             one: Spares::new(FIRST_PORT + PORT_WORDS),
             two: Spares::new(FIRST_PORT + 2 * PORT_WORDS),
@@ -38,10 +40,10 @@ impl Kept {
         }
     }
 
-    // A kept row for a cell with so many ports, if there is one.
+    // A kept row for an atom with so many ports, if there is one.
     fn take(&mut self, rows: &mut Rows, ports: usize) -> Option<*mut u8>
         ensures { MatchOption result (rows.new.rows ≡ rows.old.rows)
-            (λ p. IsStart p × (items_in rows.old.rows (block_of p) ≡ []) × (rows.new.rows ≡ row (block_of p) (replicate (16 + ports * 3) blank) ∷ rows.old.rows)) }
+            (λ p. IsStart p × (items_in rows.old.rows (block_of p) ≡ []) × (rows.new.rows ≡ row (block_of p) (replicate (14 + ports * 3) blank) ∷ rows.old.rows)) }
     {
         match ports {
             0 => self.none.take(rows),
@@ -52,7 +54,7 @@ impl Kept {
         }
     }
 
-    /// A row for a cell with so many ports: one that was kept, or a new one.
+    /// A row for an atom with so many ports: one that was kept, or a new one.
     pub fn make(
         &mut self,
         rows: &mut Rows,
@@ -61,7 +63,7 @@ impl Kept {
     ) -> Result<*mut u8, AllocError>
         requires { ports < 2 ^ 16 }
         ensures { MatchResult result
-            (λ p. IsStart p × (items_in rows.old.rows (block_of p) ≡ []) × (rows.new.rows ≡ row (block_of p) (replicate (16 + ports * 3) blank) ∷ rows.old.rows))
+            (λ p. IsStart p × (items_in rows.old.rows (block_of p) ≡ []) × (rows.new.rows ≡ row (block_of p) (replicate (14 + ports * 3) blank) ∷ rows.old.rows))
             (λ _. rows.new.rows ≡ rows.old.rows) }
     {
         match self.take(rows, ports) {
@@ -70,9 +72,33 @@ impl Kept {
         }
     }
 
-    /// The row of a cell with so many ports is kept, or freed where it had more than three.
+    /// A row for a membrane: one that was kept, or a new one.
+    pub fn make_membrane(
+        &mut self,
+        rows: &mut Rows,
+        alloc: &Global,
+    ) -> Result<*mut u8, AllocError>
+        ensures { MatchResult result
+            (λ p. IsStart p × (items_in rows.old.rows (block_of p) ≡ []) × (rows.new.rows ≡ row (block_of p) (replicate 16 blank) ∷ rows.old.rows))
+            (λ _. rows.new.rows ≡ rows.old.rows) }
+    {
+        match self.membranes.take(rows) {
+            Some(at) => Ok(at),
+            None => rows.make(alloc, MEMBRANE_WORDS),
+        }
+    }
+
+    /// The row of a membrane is kept.
+    pub fn keep_membrane(&mut self, rows: &mut Rows, at: *mut u8)
+        requires { IsStart at × (length (items_in rows.old.rows (block_of at)) ≡ 16) }
+        ensures { (rows.new.rows ≡ without_row (block_of at) rows.old.rows) × (items_in rows.new.rows (block_of at) ≡ []) }
+    {
+        self.membranes.keep(rows, at);
+    }
+
+    /// The row of an atom with so many ports is kept, or freed where it had more than three.
     pub fn keep(&mut self, rows: &mut Rows, alloc: &Global, at: *mut u8, ports: usize)
-        requires { IsStart at × (ports < 2 ^ 16) × (length (items_in rows.old.rows (block_of at)) ≡ 16 + ports * 3) }
+        requires { IsStart at × (ports < 2 ^ 16) × (length (items_in rows.old.rows (block_of at)) ≡ 14 + ports * 3) }
         ensures { (rows.new.rows ≡ without_row (block_of at) rows.old.rows) × (items_in rows.new.rows (block_of at) ≡ []) }
     {
         match ports {
@@ -87,11 +113,13 @@ impl Kept {
     /// All rows that are kept are freed.
     pub fn end(self, alloc: &Global) {
         let Kept {
+            membranes,
             none,
             one,
             two,
             three,
         } = self;
+        membranes.end(alloc);
         none.end(alloc);
         one.end(alloc);
         two.end(alloc);
