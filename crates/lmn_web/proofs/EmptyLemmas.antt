@@ -18,7 +18,7 @@ use Rattle.lmn_web.specs.declared.kind.CellKind.TheVariants.{Atom, Membrane}
 use Rattle.lmn_web.specs.Kinds.{FILED, kind_by}
 use Rattle.lmn_web.specs.Webs.{WebCell, WithoutAtoms, web_cell, web_of, cells_in, partner_at, list_in, list_link, count_number, number_in, label_by, with_list}
 use Rattle.lmn_web_cells.specs.Numbers.{INDEX, ARITY, KIND, HIGH, LOW, FIRST_MARK}
-use Rattle.lmn_web.specs.Indexes.{unindexed, bare_atoms, cell_kind, AreLinked, IsListed, IsWeb, IsClassed, IsTable, Without}
+use Rattle.lmn_web.specs.Indexes.{unindexed, numbers_by, bare_atoms, cell_kind, AreLinked, IsListed, IsWeb, IsClassed, IsTable, Without}
 use Rattle.lmn_web.specs.Classes.{Bare, AreClassed}
 use Rattle.lmn_web.proofs.ListedLemmas.{cell_of, list_same, listed_self, web_self}
 use Rattle.lmn_web.proofs.WebLemmas.{Account, account, partner_same}
@@ -46,6 +46,11 @@ un_there (Some c) = refl
 pub un_number : (o : Option HeldCell) (k : ℕ) → INDEX < k → get_or (numbers_of (unindexed o)) k 0 ≡ get_or (numbers_of o) k 0
 un_number None k low = refl
 un_number (Some c) k low = get_or-set_other c.numbers INDEX k 0 0 (λ e. absurd (omega (arith, low, e)))
+
+-- how many there are
+pub un_count : (o : Option HeldCell) → length (numbers_of (unindexed o)) ≡ length (numbers_of o)
+un_count None = refl
+un_count (Some c) = length-set c.numbers INDEX 0
 
 un_none : (o : Option HeldCell) → unindexed o ≡ None → o ≡ None
 un_none None e = refl
@@ -160,13 +165,14 @@ bare_account (Some c) = λ t. record {
   there = true;
   index = get_or-set_other c.numbers 6 INDEX 0 0 (λ e. absurd (omega (arith, e))) t;
   arity = get_or-set_other c.numbers 6 ARITY 0 0 (λ e. absurd (omega (arith, e))) t;
+  kind = get_or-set_other c.numbers 6 KIND 0 0 (λ e. absurd (omega (arith, e))) t;
   numbers = length-set c.numbers 6 0 t;
   ports = length c.ports;
 }
 
 TableTells : List ℕ → (ℕ → Account) → Type 0
 TableTells all k = ((b i : ℕ) → (slice_get all i ≡ Some b) ↔ (((k b).there ≡ true) × ((k b).index ≡ i)))
-    × ((b : ℕ) → (k b).there ≡ true → (k b).arity ≡ (k b).ports) × ((b : ℕ) → (k b).there ≡ true → (k b).numbers ≡ 8)
+    × ((b : ℕ) → (k b).there ≡ true → (k b).arity ≡ (k b).ports) × ((b : ℕ) → (k b).there ≡ true → (k b).numbers ≡ numbers_by (k b).kind)
 
 -- the table stays one
 pub bare_table : (g : ℕ → Option HeldCell) (all : List ℕ) (m : ℕ) → IsTable g all → IsTable (alter g m (option_map bare_atoms)) all

@@ -7,7 +7,7 @@ use Rattle.lmn_store_heap.specs.Heap.{alter}
 use Rattle.lmn_store_heap.specs.Lists.{Distinct, from, without}
 use Rattle.lmn_store_heap.proofs.Listing.{alter_at, alter_away}
 use Rattle.lmn_store_heap.proofs.ListLemmas.{each_in, each_of}
-use Rattle.lmn_web_cells.specs.Cells.{HeldCell, blank_cell, links_of, numbers_of, with_link, with_number}
+use Rattle.lmn_web_cells.specs.Cells.{HeldCell, links_of, numbers_of, with_link, with_number}
 use Rattle.lmn_web_cells.specs.Runs.{RunsThrough, node_in, link_in, Line, put_before, with_next, with_prev, appended, inserted, unlinked}
 use Rattle.lmn_web_cells.specs.Links.{HOME, NEXT, PREV, CLASS_NEXT, CLASS_PREV, CLASS_LAST, EVEN, ODD, LEADERS}
 use Rattle.lmn_web_cells.proofs.LineLemmas.{keeps, link_other}
@@ -17,7 +17,7 @@ use Rattle.lmn_web.specs.declared.kind.CellKind.TheVariants.{Atom, Membrane}
 use Rattle.lmn_web.specs.Kinds.{FILED, kind_by}
 use Rattle.lmn_web.specs.Webs.{list_in, list_link, count_number, number_in}
 use Rattle.lmn_web_cells.specs.Numbers.{ARITY, KIND, HIGH, LOW}
-use Rattle.lmn_web.specs.Indexes.{described, cell_kind, IsListed, IsWeb, IsClassed, IsClassedWeb}
+use Rattle.lmn_web.specs.Indexes.{described, blank_by, cell_kind, IsListed, IsWeb, IsClassed, IsClassedWeb}
 use Rattle.lmn_web.specs.Classes.{AllButLinks, ClassTree, Bare, IsTree, files, class_node, key_in, is_key, of_class, AreClassed, MayFile, MayEnter, MayLeave, ClassBecomes, Touches, Refiled, FiledAs, put_at}
 use Rattle.lmn_web.proofs.ListedLemmas.{same_lists, lists_same, cell_of}
 use Rattle.lmn_web.proofs.WebLemmas.{Told, told, made_web, made_lists, no_list}
@@ -122,9 +122,9 @@ empty_classed f all none w = record {
 
 -- a new cell has no class
 pub made_classed : (f : ℕ → Option HeldCell) (all : List ℕ) → IsClassedWeb f all → (a n k h low : ℕ) → f a ≡ None → n < 256 → low < 2 ^ 64
-    → IsClassedWeb (alter f a (λ _. Some (described (length all) n k h low (blank_cell n)))) (all ++ a ∷ [])
+    → IsClassedWeb (alter f a (λ _. Some (described (length all) n k h low (blank_by k n)))) (all ++ a ∷ [])
 made_classed f all w a n k h low fresh small half =
-    let v : HeldCell = described (length all) n k h low (blank_cell n) in let g = alter f a (λ _. Some v) in
+    let v : HeldCell = described (length all) n k h low (blank_by k n) in let g = alter f a (λ _. Some v) in
     let here : g a ≡ Some v = alter_at f a (λ _. Some v) in
     let gone : IsSome (f a) → ⊥ = λ t. (let e = subst (λ (o : Option HeldCell). IsSome o) fresh t in absurd cc) in
     record {

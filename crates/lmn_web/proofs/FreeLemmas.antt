@@ -15,9 +15,9 @@ use Rattle.lmn_web.specs.declared.kind.CellKind.{CellKind}
 use Rattle.lmn_web.specs.Kinds.{kind_by}
 use Rattle.lmn_web.specs.Webs.{web_cell, web_with, web_of, list_in, list_link, count_number, number_in, label_by, IsLoose}
 use Rattle.lmn_web_cells.specs.Numbers.{INDEX, ARITY, KIND, HIGH, LOW, FIRST_MARK}
-use Rattle.lmn_web.specs.Indexes.{reindexed, unindexed, IsListed, IsWeb, IsClassed, IsTable, Swapped}
+use Rattle.lmn_web.specs.Indexes.{reindexed, unindexed, numbers_by, IsListed, IsWeb, IsClassed, IsTable, Swapped}
 use Rattle.lmn_web.proofs.ListedLemmas.{Listing, listing, lists_same, listed_self, listed_beside, web_self, home_same, list_same}
-use Rattle.lmn_web.proofs.WebLemmas.{some_back, partner_same, set_twice}
+use Rattle.lmn_web.proofs.WebLemmas.{some_back, partner_same, set_twice, index_below}
 use Rattle.lmn_web.proofs.RelistLemmas.{in_none}
 use Rattle.lmn_web.proofs.Filing.{classed_self, classed_beside, classed_links}
 
@@ -118,14 +118,18 @@ module _ (f : ℕ → Option HeldCell) (all : List ℕ) (w : IsTable f all) (a :
   pub there_still : IsSome (G a)
   there_still = there_all a ∙ there
 
-  -- with its ports
-  pub ports_still : length (ports_of (G a)) ≡ number_in f a ARITY
-  ports_still = ap (λ (k : Kept). length k.ports) (kept_all a) ∙ sym (w.arity a there)
+  -- and tells how many ports it has
+  pub arity_still : number_in G a ARITY ≡ length (ports_of (G a))
+  arity_still = ap (λ (k : Kept). k.arity) (kept_all a) ∙ w.arity a there ∙ sym (ap (λ (k : Kept). length k.ports) (kept_all a))
+
+  -- and has the numbers of its kind
+  pub numbers_still : length (numbers_of (G a)) ≡ numbers_by (number_in G a KIND)
+  numbers_still = ap (λ (k : Kept). k.numbers) (kept_all a) ∙ w.numbers a there ∙ ap (λ (k : Kept). numbers_by k.listing.kind) (sym (kept_all a))
 
   index_moved : (b : ℕ) → moved ≡ Some b → number_in G b INDEX ≡ i
-  index_moved b e = subst (λ o. number_in (reindexed f i o) b INDEX ≡ i) (sym e) (ap (λ (o : Option HeldCell). get_or (numbers_of o) INDEX 0) (alter_at f b (option_map (with_number INDEX i))) ∙ by (f b) (w.numbers b (last_there b e)))
+  index_moved b e = subst (λ o. number_in (reindexed f i o) b INDEX ≡ i) (sym e) (ap (λ (o : Option HeldCell). get_or (numbers_of o) INDEX 0) (alter_at f b (option_map (with_number INDEX i))) ∙ by (f b) (index_below (length (numbers_of (f b))) (number_in f b KIND) (w.numbers b (last_there b e))))
     where
-      by : (o : Option HeldCell) → length (numbers_of o) ≡ 8 → get_or (numbers_of (option_map (with_number INDEX i) o)) INDEX 0 ≡ i
+      by : (o : Option HeldCell) → 0 < length (numbers_of o) → get_or (numbers_of (option_map (with_number INDEX i) o)) INDEX 0 ≡ i
       by None n = absurd (omega (arith, n))
       by (Some c) n = get_or-set_same c.numbers INDEX i 0 (omega (arith, n))
 
@@ -191,7 +195,8 @@ module _ (f : ℕ → Option HeldCell) (all : List ℕ) (w : IsTable f all) (a :
     );
     arity = each (λ m o. IsSome o → get_or (numbers_of o) ARITY 0 ≡ length (ports_of o)) (λ t. absurd cc)
         (λ m d t. ap (λ (k : Kept). k.arity) (kept_all m) ∙ w.arity m (sym (there_all m) ∙ t) ∙ sym (ap (λ (k : Kept). length k.ports) (kept_all m)));
-    numbers = each (λ m o. IsSome o → length (numbers_of o) ≡ 8) (λ t. absurd cc) (λ m d t. ap (λ (k : Kept). k.numbers) (kept_all m) ∙ w.numbers m (sym (there_all m) ∙ t));
+    numbers = each (λ m o. IsSome o → length (numbers_of o) ≡ numbers_by (get_or (numbers_of o) KIND 0)) (λ t. absurd cc)
+        (λ m d t. ap (λ (k : Kept). k.numbers) (kept_all m) ∙ w.numbers m (sym (there_all m) ∙ t) ∙ ap (λ (k : Kept). numbers_by k.listing.kind) (sym (kept_all m)));
   }
 
   -- the cell is gone

@@ -27,7 +27,7 @@ use Rattle.lmn_web_cells.specs.Numbers.{INDEX, ARITY, KIND, HIGH, LOW, FIRST_MAR
 use Rattle.lmn_web.specs.Classes.{AllButLinks, all_but_links}
 use Rattle.lmn_web.specs.Indexes.{cell_kind, IsListed, IsWeb}
 use Rattle.lmn_web.proofs.ListedLemmas.{kind_cases, link_behind, links_apart, count_behind, counts_apart, count_below, line_same, listed_self, web_self, home_same, kind_same, list_same, own_line, cell_of}
-use Rattle.lmn_web.proofs.WebLemmas.{some_back, Account, account, kept_web, reaches_same, paired_same}
+use Rattle.lmn_web.proofs.WebLemmas.{some_back, Account, account, eight_by, kept_web, reaches_same, paired_same}
 use Rattle.lmn_base.proofs.Common.{of_map as in_map}
 
 -- What of a cell no list changes
@@ -67,8 +67,8 @@ kind_core None = refl
 kind_core (Some c) = refl
 
 abbrev account_by : Option Core → Account
-account_by None = record { there = is_some (core_of None); index = 0; arity = 0; numbers = 0; ports = 0 }
-account_by (Some q) = record { there = is_some (Some q); index = q.index; arity = q.arity; numbers = q.numbers; ports = length q.ports }
+account_by None = record { there = is_some (core_of None); index = 0; arity = 0; kind = 0; numbers = 0; ports = 0 }
+account_by (Some q) = record { there = is_some (Some q); index = q.index; arity = q.arity; kind = q.kind; numbers = q.numbers; ports = length q.ports }
 
 account_core : (o : Option HeldCell) → account o ≡ account_by (core_of o)
 account_core None = refl
@@ -411,7 +411,7 @@ module _ (f F : ℕ → Option HeldCell) (all : List ℕ) (w : IsWeb f all) (m x
     membrane = membrane;
     home_at = links_keep x HOME ∙ v.home_at;
     home_away = λ b d. links_keep b HOME ∙ v.home_away b d;
-    count_at = ap (λ (o : Option HeldCell). get_or (numbers_of o) (count_number kd) 0) (alter_at F m (option_map (with_number (count_number kd) count))) ∙ set_there (F m) (ap (λ (r : AllButLinks). length r.numbers) (v.rests m) ∙ w.numbers m there_m) ∙ long;
+    count_at = ap (λ (o : Option HeldCell). get_or (numbers_of o) (count_number kd) 0) (alter_at F m (option_map (with_number (count_number kd) count))) ∙ set_there (F m) (ap (λ (r : AllButLinks). length r.numbers) (v.rests m) ∙ w.numbers m there_m ∙ eight_by (number_in f m KIND) membrane) ∙ long;
     count_away = λ b j d. elim (cases_eq b m) [
       | inl s ↦ subst (λ z. number_in G z (count_number j) ≡ number_in f z (count_number j)) (sym s) (ap (λ (o : Option HeldCell). get_or (numbers_of o) (count_number j) 0) (alter_at F m (option_map (with_number (count_number kd) count)))
           ∙ set_other (F m) j (d s) ∙ moved_number f F (list_in f) m x h xs v m (count_number j))
@@ -550,6 +550,10 @@ module _ (f F g : ℕ → Option HeldCell) (all : List ℕ) (w : IsWeb f all) (m
   pub appended_there : Appended → IsSome (F m)
   appended_there a = moved_there f F (list_in f) m x (Some m) at_end (appended_moves a) m there_h
 
+  -- it has its counts
+  pub appended_eight : Appended → length (numbers_of (F m)) ≡ 8
+  appended_eight a = ap (λ (r : AllButLinks). length r.numbers) ((appended_moves a).rests m) ∙ w.numbers m there_h ∙ eight_by (number_in f m KIND) enters.membrane
+
   -- the length stays a number
   pub appended_fits : Appended → n + 1 ≤ length all
   appended_fits a = let r = room in let t = told_length at_end (appended_moves a) in omega (arith, r, t)
@@ -570,6 +574,10 @@ module _ (f F g : ℕ → Option HeldCell) (all : List ℕ) (w : IsWeb f all) (m
   -- what is there stays there
   pub inserted_there : (a : ℕ) → In a ls → Inserted a → IsSome (F m)
   inserted_there a i s = moved_there f F (list_in f) m x (Some m) (put_before x a ls) (inserted_moves a i s) m there_h
+
+  -- it has its counts
+  pub inserted_eight : (a : ℕ) → In a ls → Inserted a → length (numbers_of (F m)) ≡ 8
+  inserted_eight a i s = ap (λ (r : AllButLinks). length r.numbers) ((inserted_moves a i s).rests m) ∙ w.numbers m there_h ∙ eight_by (number_in f m KIND) enters.membrane
 
   -- the length stays a number
   pub inserted_fits : (a : ℕ) → In a ls → Inserted a → n + 1 ≤ length all
@@ -623,6 +631,10 @@ module _ (f F g : ℕ → Option HeldCell) (all : List ℕ) (w : IsWeb f all) (m
 
   no_atom : cell_kind f m ≡ Atom → ⊥
   no_atom s = subst (λ us. In x us) (w.listed.bare m kl s) in_it
+
+  -- it has its counts
+  pub unlinked_eight : Unlinked → length (numbers_of (F m)) ≡ 8
+  unlinked_eight u = ap (λ (r : AllButLinks). length r.numbers) ((unlinked_moves u).rests m) ∙ w.numbers m there_l ∙ eight_by (number_in f m KIND) no_atom
 
   -- a cell leaves its list
   pub unlinks : Unlinked → g ≡ alter F m (option_map (with_number q (n - 1))) → Relists f g (list_in f) m x None rx

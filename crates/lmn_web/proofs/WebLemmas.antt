@@ -1,5 +1,5 @@
 -- How a change of cells is a change of the web.
-use Rattle.std.proofs.Common.{◌≡◌, ◌≢◌, ◌↔◌, ◌⊎◌, ℕ, zero, suc, ◌+◌, ◌<◌, ◌==◌, Bool, true, List, [], ◌∷◌, ◌++◌, length, map, get_or, set, slice_get, replicate, Option, Some, None, IsSome, is_some, false, refl, sym, ap, subst, ◌∙◌, inl, inr, arith, length-set, get_or-set_same, get_or-set_other}
+use Rattle.std.proofs.Common.{◌≡◌, ◌≢◌, ◌↔◌, ◌⊎◌, ℕ, zero, suc, ◌+◌, ◌<◌, ◌==◌, Bool, true, List, [], ◌∷◌, ◌++◌, length, map, get_or, set, slice_get, replicate, Option, Some, None, IsSome, is_some, if◌then◌else◌, false, refl, sym, ap, subst, ◌∙◌, inl, inr, arith, length-set, get_or-set_same, get_or-set_other}
 use Rattle.std.proofs.lemmas.Bool.{cases_eq, eq-eqb}
 use Rattle.std.proofs.lemmas.List.{map-set, length-map, length-replicate}
 use Rattle.std.proofs.lemmas.Option.{slice_get_within}
@@ -8,14 +8,14 @@ use Rattle.std.specs.Option.{option_map}
 use Rattle.lmn_base.proofs.Numbers.{not_equal}
 use Rattle.lmn_store_heap.specs.Heap.{alter}
 use Rattle.lmn_store_heap.proofs.Listing.{alter_at, alter_away, alter_keeps}
-use Rattle.lmn_web_cells.specs.Cells.{HeldPort, HeldCell, blank_cell, links_of, numbers_of, ports_of, port_of, no_port, with_number, with_mark as with_port_mark}
+use Rattle.lmn_web_cells.specs.Cells.{HeldPort, HeldCell, links_of, numbers_of, ports_of, port_of, no_port, with_link, with_number, with_mark as with_port_mark}
 use Rattle.lmn_web_cells.specs.Ports as cell
 use Rattle.lmn_web_cells.specs.Ports.{IsPort, Reaches, Paired, partner_by, partner_in}
 use Rattle.lmn_web_cells.proofs.PortLemmas.{cleared_ports, linked_ports}
 use Rattle.lmn_web_cells.specs.Links.{HOME}
 use Rattle.lmn_web.specs.Webs.{WebCell, partners_of, web_cell, web_with, web_of, list_in, list_link, count_number, partner_at, arity_at, new_cell, with_partner, with_mark, linked, cleared, joined, parted, IsPaired, number_in, label_by}
 use Rattle.lmn_web_cells.specs.Numbers.{INDEX, ARITY, KIND, HIGH, LOW, FIRST_MARK}
-use Rattle.lmn_web.specs.Indexes.{described, IsListed, IsWeb, IsIndexed}
+use Rattle.lmn_web.specs.Indexes.{described, blank_by, numbers_by, IsListed, IsWeb, IsTable}
 use Rattle.lmn_web.proofs.ListedLemmas.{Listing, listing, lists_same, listed_self, listed_beside, web_self, cell_of}
 use Rattle.lmn_web.specs.Kinds.{kind_by}
 use Rattle.lmn_web.specs.declared.kind.CellKind.{CellKind}
@@ -133,12 +133,12 @@ port_mark_web f ys a i v = commutes f ys a (with_port_mark i v) (with_mark (suc 
     (ap (λ ms. get_or c.numbers FIRST_MARK 0 ∷ ms) (map-set (λ (p : HeldPort). p.mark) c.ports i q)))
 
 -- the first mark of a cell
-pub own_mark_web : (f : ℕ → Option HeldCell) (ys : ℕ → CellKind → List ℕ) (a v : ℕ) → length (numbers_of (f a)) ≡ 8 → web_with (alter f a (option_map (with_number FIRST_MARK v))) ys ≡ alter (web_with f ys) a (option_map (with_mark 0 v))
+pub own_mark_web : (f : ℕ → Option HeldCell) (ys : ℕ → CellKind → List ℕ) (a v : ℕ) → FIRST_MARK < length (numbers_of (f a)) → web_with (alter f a (option_map (with_number FIRST_MARK v))) ys ≡ alter (web_with f ys) a (option_map (with_mark 0 v))
 own_mark_web f ys a v n = commutes f ys a (with_number FIRST_MARK v) (with_mark 0 v) (λ c e.
-    let ns = c.numbers in let seven : length ns ≡ 8 = subst (λ (o : Option HeldCell). length (numbers_of o) ≡ 8) e n in
+    let ns = c.numbers in let there : FIRST_MARK < length ns = subst (λ (o : Option HeldCell). FIRST_MARK < length (numbers_of o)) e n in
     let other : (k : ℕ) → k ≢ FIRST_MARK → get_or (set ns FIRST_MARK v) k 0 ≡ get_or ns k 0 = λ k d. get_or-set_other ns FIRST_MARK k v 0 d in
     let ms = map (λ (p : HeldPort). p.mark) c.ports in
-    let new : get_or (set ns FIRST_MARK v) FIRST_MARK 0 ∷ ms ≡ v ∷ ms = ap (λ k. k ∷ ms) (get_or-set_same ns FIRST_MARK v 0 (omega (arith, seven))) in
+    let new : get_or (set ns FIRST_MARK v) FIRST_MARK 0 ∷ ms ≡ v ∷ ms = ap (λ k. k ∷ ms) (get_or-set_same ns FIRST_MARK v 0 there) in
     λ t. record {
       label = label_by (other HIGH (λ z. absurd (omega (arith, z))) t) (other LOW (λ z. absurd (omega (arith, z))) t);
       kind = kind_by (other KIND (λ z. absurd (omega (arith, z))) t);
@@ -151,17 +151,42 @@ own_mark_web f ys a v n = commutes f ys a (with_number FIRST_MARK v) (with_mark 
 
 -- What holds of every web
 
+-- a cell has its first mark among its numbers
+mark_below : (n k : ℕ) → n ≡ numbers_by k → FIRST_MARK < n
+mark_below n k e = by (k == 0) e
+  where
+    by : (t : Bool) → n ≡ (if t then 6 else 8) → FIRST_MARK < n
+    by true e = omega (arith, e)
+    by false e = omega (arith, e)
+
+-- a cell of a web has it
+pub mark_there : (f : ℕ → Option HeldCell) (all : List ℕ) → IsWeb f all → (a : ℕ) → IsSome (f a) → FIRST_MARK < length (numbers_of (f a))
+mark_there f all w a there = mark_below (length (numbers_of (f a))) (number_in f a KIND) (w.numbers a there)
+
+-- and one of a table has its index
+pub index_below : (n k : ℕ) → n ≡ numbers_by k → 0 < n
+index_below n k e = let l = mark_below n k e in omega (arith, l)
+
+-- what tells its kind by a number that is no atom's has all eight numbers
+pub eight_by : (k : ℕ) → (kind_by k ≡ Atom → ⊥) → numbers_by k ≡ 8
+eight_by k d = by (k == 0) (λ e. d (ap (λ (t : Bool). if t then Atom else Membrane) e))
+  where
+    by : (t : Bool) → (t ≡ true → ⊥) → (if t then 6 else 8) ≡ 8
+    by true d = absurd (d refl)
+    by false d = refl
+
 -- what of a cell the web keeps account of
 pub record Account : Type 0 where
   pub there : Bool
   pub index : ℕ
   pub arity : ℕ
+  pub kind : ℕ
   pub numbers : ℕ
   pub ports : ℕ
 
 -- the account of the cell at a number, or of none
 abbrev pub account : Option HeldCell → Account
-account o = record { there = is_some o; index = get_or (numbers_of o) INDEX 0; arity = get_or (numbers_of o) ARITY 0; numbers = length (numbers_of o); ports = length (ports_of o) }
+account o = record { there = is_some o; index = get_or (numbers_of o) INDEX 0; arity = get_or (numbers_of o) ARITY 0; kind = get_or (numbers_of o) KIND 0; numbers = length (numbers_of o); ports = length (ports_of o) }
 
 -- that, and what its lists are read off
 pub record Told : Type 0 where
@@ -180,7 +205,7 @@ told o = record { there = is_some o; index = get_or (numbers_of o) INDEX 0; arit
 
 Tells : List ℕ → (ℕ → Account) → Type 0
 Tells all k = ((b i : ℕ) → (slice_get all i ≡ Some b) ↔ (((k b).there ≡ true) × ((k b).index ≡ i)))
-    × ((b : ℕ) → (k b).there ≡ true → (k b).arity ≡ (k b).ports) × ((b : ℕ) → (k b).ports < 256) × ((b : ℕ) → (k b).there ≡ true → (k b).numbers ≡ 8)
+    × ((b : ℕ) → (k b).there ≡ true → (k b).arity ≡ (k b).ports) × ((b : ℕ) → (k b).ports < 256) × ((b : ℕ) → (k b).there ≡ true → (k b).numbers ≡ numbers_by (k b).kind)
 
 -- a change that leaves the account of each cell, and all ports paired, leaves a web if the lists are right
 pub kept_web : (f g : ℕ → Option HeldCell) (all : List ℕ) → IsWeb f all → ((b : ℕ) → account (g b) ≡ account (f b)) → Reaches g → Paired g → IsListed g (list_in g) → IsWeb g all
@@ -193,7 +218,7 @@ kept_web f g all w same reaches paired listed =
 -- one that leaves what is told of each cell leaves the lists too
 pub same_web : (f g : ℕ → Option HeldCell) (all : List ℕ) → IsWeb f all → ((b : ℕ) → told (g b) ≡ told (f b)) → Reaches g → Paired g → IsWeb g all
 same_web f g all w same reaches paired =
-    kept_web f g all w (λ b. ap (λ (k : Told). record { there = k.there; index = k.index; arity = k.arity; numbers = k.numbers; ports = k.ports }) (same b)) reaches paired
+    kept_web f g all w (λ b. ap (λ (k : Told). record { there = k.there; index = k.index; arity = k.arity; kind = k.listing.kind; numbers = k.numbers; ports = k.ports }) (same b)) reaches paired
     (listed_self g (list_in f) (lists_same f g (λ b. ap (λ (k : Told). k.listing) (same b)) (list_in f) w.listed))
 
 -- and the web has the lists that it had
@@ -370,6 +395,14 @@ stays_some f g a p e there = subst (λ (h : ℕ → Option HeldCell). IsSome (h 
     by None t = absurd cc
     by (Some c) t = refl
 
+-- a link leaves how many numbers a cell has
+pub same_count : (f g : ℕ → Option HeldCell) (a k : ℕ) (v : Option ℕ) → g ≡ alter f a (option_map (with_link k v)) → length (numbers_of (g a)) ≡ length (numbers_of (f a))
+same_count f g a k v e = ap (λ (h : ℕ → Option HeldCell). length (numbers_of (h a))) e ∙ ap (λ (o : Option HeldCell). length (numbers_of o)) (alter_at f a (option_map (with_link k v))) ∙ by (f a)
+  where
+    by : (o : Option HeldCell) → length (numbers_of (option_map (with_link k v) o)) ≡ length (numbers_of o)
+    by None = refl
+    by (Some c) = refl
+
 -- a cell that is there stays there
 pub still_some : (f g : ℕ → Option HeldCell) (a k n : ℕ) → g ≡ alter f a (option_map (with_number k n)) → IsSome (f a) → IsSome (g a)
 still_some f g a k n e there = subst (λ (h : ℕ → Option HeldCell). IsSome (h a)) (sym e) (subst (λ (o : Option HeldCell). IsSome o) (sym (alter_at f a (option_map (with_number k n)))) (by (f a) there))
@@ -412,7 +445,7 @@ mark_last zero = refl
 mark_last (suc n) = ap (λ ms. 0 ∷ ms) (mark_last n)
 
 -- a new cell stands for a new cell of the web
-pub new_web : (lists : CellKind → List ℕ) (l n i k h low : ℕ) (kind : CellKind) → ((j : CellKind) → lists j ≡ []) → label_by h low ≡ l → kind_by k ≡ kind → web_cell lists (described i n k h low (blank_cell n)) ≡ new_cell l n kind
+pub new_web : (lists : CellKind → List ℕ) (l n i k h low : ℕ) (kind : CellKind) → ((j : CellKind) → lists j ≡ []) → label_by h low ≡ l → kind_by k ≡ kind → web_cell lists (described i n k h low (blank_by k n)) ≡ new_cell l n kind
 new_web lists l n i k h low kind none el ek =
     λ t. record { label = el t; kind = ek t; partners = mapped_none n t; marks = (ap (λ ms. 0 ∷ ms) (mapped_marks n) ∙ mark_last n) t; home = None; atoms = none Atom t; membranes = none Membrane t }
 
@@ -440,12 +473,12 @@ made_is f ys a c = λ t b. at b t
 -- All cells are freed
 
 -- the last cell of the list is there
-pub last_there : (f : ℕ → Option HeldCell) (init : List ℕ) (a : ℕ) → IsIndexed f (init ++ a ∷ []) → IsSome (f a)
+pub last_there : (f : ℕ → Option HeldCell) (init : List ℕ) (a : ℕ) → IsTable f (init ++ a ∷ []) → IsSome (f a)
 last_there f init a x = ((x.indexed a (length init)).0 (get_end init a)).0
 
 -- the other cells, once it is freed
-pub rest_is : (f g : ℕ → Option HeldCell) (init : List ℕ) (a : ℕ) → IsIndexed f (init ++ a ∷ []) → g ≡ alter f a (λ _. None) → IsIndexed g init
-rest_is f g init a x e = subst (λ (u : ℕ → Option HeldCell). IsIndexed u init) (sym e) record {
+pub rest_is : (f g : ℕ → Option HeldCell) (init : List ℕ) (a : ℕ) → IsTable f (init ++ a ∷ []) → g ≡ alter f a (λ _. None) → IsTable g init
+rest_is f g init a x e = subst (λ (u : ℕ → Option HeldCell). IsTable u init) (sym e) record {
   indexed = λ b i. elim (cases_eq b a) [
     | inl s ↦ subst (λ m. (slice_get init i ≡ Some m) ↔ (IsSome (alter f a (λ _. None) m) × (number_in (alter f a (λ _. None)) m INDEX ≡ i))) (sym s) (subst (λ (o : Option HeldCell). (slice_get init i ≡ Some a) ↔ (IsSome o × (get_or (numbers_of o) INDEX 0 ≡ i))) (sym (alter_at f a (λ _. None))) (here i, λ t. absurd (let z = t.0 in cc)))
     | inr d ↦ subst (λ (o : Option HeldCell). (slice_get init i ≡ Some b) ↔ (IsSome o × (get_or (numbers_of o) INDEX 0 ≡ i))) (sym (alter_away f a (λ _. None) b d))
@@ -455,22 +488,38 @@ rest_is f g init a x e = subst (λ (u : ℕ → Option HeldCell). IsIndexed u in
     | inl s ↦ subst (λ m. IsSome (alter f a (λ _. None) m) → number_in (alter f a (λ _. None)) m ARITY ≡ length (ports_of (alter f a (λ _. None) m))) (sym s) (subst (λ (o : Option HeldCell). IsSome o → get_or (numbers_of o) ARITY 0 ≡ length (ports_of o)) (sym (alter_at f a (λ _. None))) (λ t. absurd cc))
     | inr d ↦ subst (λ (o : Option HeldCell). IsSome o → get_or (numbers_of o) ARITY 0 ≡ length (ports_of o)) (sym (alter_away f a (λ _. None) b d)) (x.arity b)
   ];
+  numbers = λ b. elim (cases_eq b a) [
+    | inl s ↦ subst (λ m. IsSome (alter f a (λ _. None) m) → length (numbers_of (alter f a (λ _. None) m)) ≡ numbers_by (number_in (alter f a (λ _. None)) m KIND)) (sym s)
+        (subst (λ (o : Option HeldCell). IsSome o → length (numbers_of o) ≡ numbers_by (get_or (numbers_of o) KIND 0)) (sym (alter_at f a (λ _. None))) (λ t. absurd cc))
+    | inr d ↦ subst (λ (o : Option HeldCell). IsSome o → length (numbers_of o) ≡ numbers_by (get_or (numbers_of o) KIND 0)) (sym (alter_away f a (λ _. None) b d)) (x.numbers b)
+  ];
 }
   where
     here : (i : ℕ) → slice_get init i ≡ Some a → (false ≡ true) × (0 ≡ i)
     here i h = let l = slice_get_within init i a h in let p = ((x.indexed a i).0 (get_front init a i l ∙ h)).1 in let q = ((x.indexed a (length init)).0 (get_end init a)).1 in absurd (omega (arith, l, p, q))
 
 -- none is left
-pub none_left : (f : ℕ → Option HeldCell) → IsIndexed f [] → (b : ℕ) → f b ≡ None
+pub none_left : (f : ℕ → Option HeldCell) → IsTable f [] → (b : ℕ) → f b ≡ None
 none_left f x b = by (f b) refl
   where
     by : (o : Option HeldCell) → f b ≡ o → f b ≡ None
     by None e = e
     by (Some c) e = absurd (let h = (x.indexed b (number_in f b INDEX)).1 (subst (λ (o : Option HeldCell). IsSome o) (sym e) refl, refl) in cc)
 
+-- the counts of a new cell are 0, or it has none
+blank_tail : (t : Bool) (i : ℕ) → get_or (if t then [] else 0 ∷ 0 ∷ []) i 0 ≡ 0
+blank_tail true i = refl
+blank_tail false zero = refl
+blank_tail false (suc zero) = refl
+blank_tail false (suc (suc i)) = refl
+
+made_tail : (t : Bool) → suc (suc (suc (suc (suc (suc (length (if t then [] else 0 ∷ 0 ∷ []))))))) ≡ (if t then 6 else 8)
+made_tail true = refl
+made_tail false = refl
+
 module _ (f : ℕ → Option HeldCell) (all : List ℕ) (w : IsWeb f all) (a n k h low : ℕ) (fresh : f a ≡ None) (small : n < 256) where
   abbrev cell_made : HeldCell
-  cell_made = described (length all) n k h low (blank_cell n)
+  cell_made = described (length all) n k h low (blank_by k n)
 
   abbrev g : ℕ → Option HeldCell
   g = alter f a (λ _. Some cell_made)
@@ -497,8 +546,8 @@ module _ (f : ℕ → Option HeldCell) (all : List ℕ) (w : IsWeb f all) (a n k
   blank_end Membrane = refl
 
   blank_count : (j : CellKind) → get_or cell_made.numbers (count_number j) 0 ≡ 0
-  blank_count Atom = refl
-  blank_count Membrane = refl
+  blank_count Atom = blank_tail (k == 0) 0
+  blank_count Membrane = blank_tail (k == 0) 1
 
   no_a : IsSome (f a) → ⊥
   no_a t = let h = subst (λ (o : Option HeldCell). IsSome o) fresh t in absurd cc
@@ -530,7 +579,7 @@ module _ (f : ℕ → Option HeldCell) (all : List ℕ) (w : IsWeb f all) (a n k
         )) b;
     arity = each (λ m o. IsSome o → get_or (numbers_of o) ARITY 0 ≡ length (ports_of o)) (λ t. sym (length-replicate n no_port)) (λ m d. w.arity m);
     few = each (λ m o. length (ports_of o) < 256) (subst (λ c. c < 256) (sym (length-replicate n no_port)) small) (λ m d. w.few m);
-    numbers = each (λ m o. IsSome o → length (numbers_of o) ≡ 8) (λ t. refl) (λ m d. w.numbers m);
+    numbers = each (λ m o. IsSome o → length (numbers_of o) ≡ numbers_by (get_or (numbers_of o) KIND 0)) (λ t. made_tail (k == 0)) (λ m d. w.numbers m);
     reaches = λ c i b j e. let l : IsPort f b j = w.reaches c i b j (sym (partners_stay c i) ∙ e) in
         each (λ m o. (b ≡ m → j < length (ports_of o))) (λ s. absurd (let z : j < length (ports_of (f a)) = subst (λ m. j < length (ports_of (f m))) s l in
         let y : j < 0 = subst (λ (o : Option HeldCell). j < length (ports_of o)) fresh z in omega (arith, y)))

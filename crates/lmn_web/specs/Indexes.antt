@@ -1,9 +1,9 @@
 -- Words of the invariant of a web, and of private functions: how its cells are listed and indexed.
-use Rattle.std.specs.Prelude.{◌≡◌, ◌≢◌, ◌↔◌, true, ℕ, ◌+◌, ◌-◌, ◌<◌, ◌^◌, List, [], ◌∷◌, length, Option, Some, None, IsSome, slice_get}
+use Rattle.std.specs.Prelude.{◌≡◌, ◌≢◌, ◌↔◌, true, ℕ, ◌+◌, ◌-◌, ◌==◌, ◌<◌, ◌^◌, List, [], ◌∷◌, length, Option, Some, None, IsSome, if◌then◌else◌, replicate, slice_get}
 use Rattle.std.specs.Option.{option_map}
 use Rattle.lmn_base.specs.Lists.{In}
 use Rattle.lmn_store_heap.specs.Heap.{alter}
-use Rattle.lmn_web_cells.specs.Cells.{HeldCell, numbers_of, ports_of, with_link, with_number}
+use Rattle.lmn_web_cells.specs.Cells.{HeldCell, numbers_of, ports_of, no_port, with_link, with_number}
 use Rattle.lmn_web_cells.specs.Ports.{Reaches, Paired}
 use Rattle.lmn_web_cells.specs.Runs.{link_in, Line}
 use Rattle.lmn_web_cells.specs.Links.{HOME, NEXT, LEADERS}
@@ -13,6 +13,14 @@ use Rattle.lmn_web.specs.Kinds.{kind_by}
 use Rattle.lmn_web.specs.Classes.{files, ClassTree, AreClassed}
 use Rattle.lmn_web.specs.Webs.{number_in, count_number, list_link, list_in}
 use Rattle.lmn_web_cells.specs.Numbers.{INDEX, ARITY, KIND, HIGH, LOW}
+
+-- how many numbers a cell has that tells its kind by this number
+abbrev pub numbers_by : ℕ → ℕ
+numbers_by kind = if kind == 0 then 6 else 8
+
+-- such a cell in which nothing is set
+abbrev pub blank_by : ℕ → ℕ → HeldCell
+blank_by kind ports = record { links = replicate 8 None; numbers = 0 ∷ 0 ∷ 0 ∷ 0 ∷ 0 ∷ 0 ∷ (if kind == 0 then [] else 0 ∷ 0 ∷ []); ports = replicate ports no_port }
 
 -- a cell with these numbers
 abbrev pub described : ℕ → ℕ → ℕ → ℕ → ℕ → HeldCell → HeldCell
@@ -40,7 +48,7 @@ pub record IsWeb (f : ℕ → Option HeldCell) (all : List ℕ) : Type 0 where
   pub indexed : (b i : ℕ) → (slice_get all i ≡ Some b) ↔ (IsSome (f b) × (number_in f b INDEX ≡ i))
   pub arity : (b : ℕ) → IsSome (f b) → number_in f b ARITY ≡ length (ports_of (f b))
   pub few : (b : ℕ) → length (ports_of (f b)) < 256
-  pub numbers : (b : ℕ) → IsSome (f b) → length (numbers_of (f b)) ≡ 8
+  pub numbers : (b : ℕ) → IsSome (f b) → length (numbers_of (f b)) ≡ numbers_by (number_in f b KIND)
   pub reaches : Reaches f
   pub paired : Paired f
   pub listed : IsListed f (list_in f)
@@ -55,16 +63,11 @@ pub record IsClassedWeb (f : ℕ → Option HeldCell) (all : List ℕ) : Type 0 
   pub web : IsWeb f all
   pub classed : IsClassed f (list_in f)
 
--- as many cells as a list has, each at its index, that tell how many ports they have
-pub record IsIndexed (f : ℕ → Option HeldCell) (all : List ℕ) : Type 0 where
-  pub indexed : (b i : ℕ) → (slice_get all i ≡ Some b) ↔ (IsSome (f b) × (number_in f b INDEX ≡ i))
-  pub arity : (b : ℕ) → IsSome (f b) → number_in f b ARITY ≡ length (ports_of (f b))
-
--- The table has each cell at its index. A cell tells how many ports it has, and has all its numbers.
+-- The table has each cell at its index. A cell tells how many ports it has, and has the numbers of its kind.
 pub record IsTable (f : ℕ → Option HeldCell) (all : List ℕ) : Type 0 where
   pub indexed : (b i : ℕ) → (slice_get all i ≡ Some b) ↔ (IsSome (f b) × (number_in f b INDEX ≡ i))
   pub arity : (b : ℕ) → IsSome (f b) → number_in f b ARITY ≡ length (ports_of (f b))
-  pub numbers : (b : ℕ) → IsSome (f b) → length (numbers_of (f b)) ≡ 8
+  pub numbers : (b : ℕ) → IsSome (f b) → length (numbers_of (f b)) ≡ numbers_by (number_in f b KIND)
 
 -- the last element of a list takes the place of one that goes
 pub record Swapped (all rest : List ℕ) (i : ℕ) : Type 0 where

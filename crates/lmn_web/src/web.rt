@@ -4,12 +4,12 @@ ghost use Rattle.std.specs.Option.{option_map};
 ghost use Rattle.lmn_base.specs.Lists.{In};
 ghost use Rattle.lmn_store_heap.specs.Heap.{alter};
 ghost use Rattle.lmn_store_heap.specs.Lists.{Distinct, after, from};
-ghost use Rattle.lmn_web_cells.specs.Cells.{cells_by};
+ghost use Rattle.lmn_web_cells.specs.Cells.{cells_by, numbers_of, ports_of};
 ghost use Rattle.lmn_web_cells.specs.CellIds.{cell_id, port_id};
 ghost use Rattle.lmn_web_cells.specs.Ports.{IsSamePort};
 ghost use Rattle.lmn_web.specs.Webs.{web_by, partner_at, arity_at, kind_at, home_at, cells_in, number_in, partners_of, marks_of, new_cell, with_mark, joined, parted, added_last, added_before, unlinked, web_label, is_labelled, with_label, label_class, with_class, IsPaired, IsLoose, StandOnce, WithoutAtoms};
 ghost use Rattle.lmn_web.specs.Kinds.{kind_by};
-ghost use Rattle.lmn_web.specs.Indexes.{described, reindexed, bare_atoms, AreLinked, IsIndexed, IsTable, Swapped, Without};
+ghost use Rattle.lmn_web.specs.Indexes.{described, reindexed, bare_atoms, AreLinked, IsTable, Swapped, Without, blank_by, numbers_by};
 ghost use Rattle.lmn_web.specs.declared.kind.CellKind.TheVariants.{Atom, Membrane};
 
 use crate::classes::{enter_class, first_in, is_filed, leave_class, next_in, place_from};
@@ -65,7 +65,8 @@ impl Web {
         }
     }
 
-    /// A new cell: no port has a partner, it stands in no list, its lists are empty, and every mark is 0.
+    /// A new cell: no port has a partner, it stands in no list, its lists are empty, and every mark is 0. An error where
+    /// no memory is left, and where a membrane is to have ports.
     #[inline(always)]
     pub fn make(&mut self, label: u128, arity: u8, kind: CellKind) -> Result<Cell, AllocError>
         ensures { MatchResult result
@@ -94,7 +95,7 @@ impl Web {
     {
         self.all.reserve(1)?;
         let index = self.all.len() as u64;
-        let c = self.cells.make(arity as usize)?;
+        let c = make_blank(&mut self.cells, arity, kind)?;
         let high = (label / WHOLE) as u64;
         let low = (label % WHOLE) as u64;
         describe(&mut self.cells, c, index, arity as u64, kind, high, low);
@@ -315,7 +316,10 @@ impl Web {
         requires { IsSome (web_by self.now (cell_id home)) }
         ensures { result ≡ length (cells_in (web_by self.now) (cell_id home) kind) }
     {
-        self.cells.number(home, count_place(kind))
+        match self.kind(home) {
+            CellKind::Atom => 0,
+            CellKind::Membrane => self.cells.count(home, count_place(kind)),
+        }
     }
 
     /// The cell, which is of this kind, goes to the end of the list of its kind.
@@ -330,8 +334,8 @@ impl Web {
     {
         let filed = is_filed(&self.cells, home, kind);
         lists::append(&mut self.cells, home, first_link(kind), c);
-        let count = self.cells.number(home, count_place(kind));
-        self.cells.set_number(home, count_place(kind), count + 1);
+        let count = self.cells.count(home, count_place(kind));
+        self.cells.set_count(home, count_place(kind), count + 1);
         enter_class(&mut self.cells, home, filed, None, c);
     }
 
@@ -349,8 +353,8 @@ impl Web {
             let filed = is_filed(&self.cells, home, kind);
             let place = place_from(&self.cells, home, filed, after, c);
             lists::insert(&mut self.cells, home, first_link(kind), after, c);
-            let count = self.cells.number(home, count_place(kind));
-            self.cells.set_number(home, count_place(kind), count + 1);
+            let count = self.cells.count(home, count_place(kind));
+            self.cells.set_count(home, count_place(kind), count + 1);
             enter_class(&mut self.cells, home, filed, place, c);
         }
     }
@@ -365,8 +369,8 @@ impl Web {
         if let Some(home) = self.cells.link(c, HOME) {
             let filed = is_filed(&self.cells, home, kind);
             lists::unlink(&mut self.cells, home, first_link(kind), c);
-            let count = self.cells.number(home, count_place(kind));
-            self.cells.set_number(home, count_place(kind), count - 1);
+            let count = self.cells.count(home, count_place(kind));
+            self.cells.set_count(home, count_place(kind), count - 1);
             leave_class(&mut self.cells, home, filed, c);
         }
     }
@@ -398,6 +402,22 @@ impl Web {
     }
 }
 
+// A cell in which nothing is set, that is to tell its kind by this number. A membrane with ports isn't made.
+#[inline(always)]
+fn make_blank(cells: &mut Cells, arity: u8, kind: u64) -> Result<Cell, AllocError>
+    ensures { MatchResult result
+        (λ c. (cells_by cells.old (cell_id c) ≡ None) × (cells_by cells.new ≡ alter (cells_by cells.old) (cell_id c) (λ _. Some (blank_by kind arity))))
+        (λ _. cells_by cells.new ≡ cells_by cells.old) }
+{
+    if kind == 0 {
+        cells.make(arity as usize)
+    } else if arity == 0 {
+        cells.make_membrane()
+    } else {
+        Err(AllocError)
+    }
+}
+
 // The numbers of a cell that was just made.
 fn describe(cells: &mut Cells, c: Cell, index: u64, arity: u64, kind: u64, high: u64, low: u64)
     requires { IsSome (cells_by cells.old (cell_id c)) }
@@ -420,6 +440,22 @@ fn reindex(cells: &mut Cells, all: &[Cell], index: usize)
     }
 }
 
+// The cell is freed.
+fn free_cell(cells: &mut Cells, c: Cell)
+    requires there { IsSome (cells_by cells.old (cell_id c)) }
+    requires arity { number_in (cells_by cells.old) (cell_id c) ARITY ≡ length (ports_of (cells_by cells.old (cell_id c))) }
+    requires numbers { length (numbers_of (cells_by cells.old (cell_id c))) ≡ numbers_by (number_in (cells_by cells.old) (cell_id c) KIND) }
+    ensures { cells_by cells.new ≡ alter (cells_by cells.old) (cell_id c) (λ _. None) }
+{
+    let kind = cells.number(c, KIND);
+    if kind == 0 {
+        let ports = cells.number(c, ARITY);
+        cells.free(c, ports as usize);
+    } else {
+        cells.free_membrane(c);
+    }
+}
+
 // The cell leaves the table, and is freed.
 fn release(cells: &mut Cells, all: &mut Vec<Cell>, c: Cell)
     requires table { IsTable (cells_by cells.old) (map cell_id all.old.items) }
@@ -429,10 +465,9 @@ fn release(cells: &mut Cells, all: &mut Vec<Cell>, c: Cell)
     ensures table { Swapped (map cell_id all.old.items) (map cell_id all.new.items) (number_in (cells_by cells.old) (cell_id c) 0) }
 {
     let index = cells.number(c, INDEX) as usize;
-    let ports = cells.number(c, ARITY) as usize;
     all.swap_remove(index);
     reindex(cells, all.as_slice(), index);
-    cells.free(c, ports);
+    free_cell(cells, c);
 }
 
 // The cells of a list from one on are freed, and nothing else is written.
@@ -452,23 +487,23 @@ fn release_all(cells: &mut Cells, all: &mut Vec<Cell>, first: Option<Cell>)
 
 // The list of the atoms of a membrane has no cell, nor has a class.
 fn forget_atoms(cells: &mut Cells, m: Cell)
-    requires { IsSome (cells_by cells.old (cell_id m)) }
+    requires there { IsSome (cells_by cells.old (cell_id m)) }
+    requires numbers { length (numbers_of (cells_by cells.old (cell_id m))) ≡ 8 }
     ensures { cells_by cells.new ≡ alter (cells_by cells.old) (cell_id m) (option_map bare_atoms) }
 {
     let first = first_link(CellKind::Atom);
     cells.set_link(m, first, None);
     cells.set_link(m, first + 1, None);
     cells.set_link(m, LEADERS, None);
-    cells.set_number(m, count_place(CellKind::Atom), 0);
+    cells.set_count(m, count_place(CellKind::Atom), 0);
 }
 
 // Every cell is freed.
 fn free_all(mut cells: Cells, mut all: Vec<Cell>)
-    requires { IsIndexed (cells_by cells) (map cell_id all.items) }
+    requires { IsTable (cells_by cells) (map cell_id all.items) }
 {
     while let Some(c) = all.pop() {
-        let ports = cells.number(c, ARITY);
-        cells.free(c, ports as usize);
+        free_cell(&mut cells, c);
     }
     cells.end();
 }

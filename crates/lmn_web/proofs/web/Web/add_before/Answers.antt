@@ -12,7 +12,7 @@ use Rattle.lmn_web.specs.Kinds.{kind_by}
 use Rattle.lmn_web.specs.Webs.{web_by, list_in, list_link, count_number, number_in, home_at, added_before}
 use Rattle.lmn_web.specs.Indexes.{cell_kind}
 use Rattle.lmn_web.proofs.ListedLemmas.{own_line, home_same, link_behind, link_below}
-use Rattle.lmn_web.proofs.RelistLemmas.{enters_before, before_among, inserted_there, inserted_fits, inserts, relists_is, in_none, before_is}
+use Rattle.lmn_web.proofs.RelistLemmas.{enters_before, before_among, inserted_there, inserted_eight, inserted_fits, inserts, relists_is, in_none, before_is}
 use Rattle.lmn_web.proofs.WebLemmas.{some_back}
 use Rattle.lmn_web.specs.Classes.{files, key_in, MayEnter}
 use Rattle.lmn_web.proofs.Filing.{Leaves, filed_atom, inserts_left, tree, may_before, entered_web, entered_list}
@@ -41,8 +41,8 @@ insert-requires-clause-list c =
     let k = cell_kind f x in
     (list_in f m k, subst (λ e. Line f m e (list_in f m k)) (sym (c.first_link.ensures ∙ ap list_link kind)) (own_line f (list_in f) w.listed m a k among), among, in_none f (list_in f) w.listed x enters.free m k)
 
-pub number-count-requires-clause-there : goal.number-count-requires-clause-there
-number-count-requires-clause-there c =
+pub count-count-requires-clause-there : goal.count-count-requires-clause-there
+count-count-requires-clause-there c =
     let f = cells_by c.self.inside.cells in let m = cell_id c.in-Some.home in let a = cell_id c.args.after in let x = cell_id c.args.c in let w = c.self.invariant.web in
     let home : link_in f a HOME ≡ Some m = c.link.ensures ∙ ap (option_map cell_id) c.in-Some.is in
     let among = before_among c.self.inside.cells c.args.self.now _ c.self.view_is w m a x home c.requires.kind in
@@ -51,8 +51,18 @@ number-count-requires-clause-there c =
     let p = count_number (cell_kind f x) in
     inserted_there f (cells_by c.insert.new.cells) (cells_by c.insert.new.cells) _ w m x c.first_link.result p p (number_in (cells_by c.insert.new.cells) m p) enters (c.first_link.ensures ∙ ap list_link kind) refl refl refl a among (c.insert.ensures.inserted, c.insert.ensures.list, c.insert.ensures.others)
 
-pub set_number-requires-clause-there : goal.set_number-requires-clause-there
-set_number-requires-clause-there c =
+pub count-count-requires-clause-numbers : goal.count-count-requires-clause-numbers
+count-count-requires-clause-numbers c =
+    let f = cells_by c.self.inside.cells in let m = cell_id c.in-Some.home in let a = cell_id c.args.after in let x = cell_id c.args.c in let w = c.self.invariant.web in
+    let home : link_in f a HOME ≡ Some m = c.link.ensures ∙ ap (option_map cell_id) c.in-Some.is in
+    let among = before_among c.self.inside.cells c.args.self.now _ c.self.view_is w m a x home c.requires.kind in
+    let enters = enters_before c.self.inside.cells c.args.self.now _ c.self.view_is w m a x home c.requires.kind c.requires.there c.requires.homeless c.requires.differ in
+    let kind : c.kind_of-kind.result ≡ cell_kind f x = c.kind_of-kind.ensures ∙ ap kind_by c.number.ensures in
+    let p = count_number (cell_kind f x) in
+    inserted_eight f (cells_by c.insert.new.cells) (cells_by c.insert.new.cells) _ w m x c.first_link.result p p (number_in (cells_by c.insert.new.cells) m p) enters (c.first_link.ensures ∙ ap list_link kind) refl refl refl a among (c.insert.ensures.inserted, c.insert.ensures.list, c.insert.ensures.others)
+
+pub set_count-requires-clause-there : goal.set_count-requires-clause-there
+set_count-requires-clause-there c =
     let f = cells_by c.self.inside.cells in let m = cell_id c.in-Some.home in let a = cell_id c.args.after in let x = cell_id c.args.c in let w = c.self.invariant.web in
     let home : link_in f a HOME ≡ Some m = c.link.ensures ∙ ap (option_map cell_id) c.in-Some.is in
     let among = before_among c.self.inside.cells c.args.self.now _ c.self.view_is w m a x home c.requires.kind in
@@ -60,6 +70,16 @@ set_number-requires-clause-there c =
     let kind : c.kind_of-kind.result ≡ cell_kind f x = c.kind_of-kind.ensures ∙ ap kind_by c.number.ensures in
     let p = count_number (cell_kind f x) in
     inserted_there f (cells_by c.insert.new.cells) (cells_by c.insert.new.cells) _ w m x c.first_link.result p p (number_in (cells_by c.insert.new.cells) m p) enters (c.first_link.ensures ∙ ap list_link kind) refl refl refl a among (c.insert.ensures.inserted, c.insert.ensures.list, c.insert.ensures.others)
+
+pub set_count-requires-clause-numbers : goal.set_count-requires-clause-numbers
+set_count-requires-clause-numbers c =
+    let f = cells_by c.self.inside.cells in let m = cell_id c.in-Some.home in let a = cell_id c.args.after in let x = cell_id c.args.c in let w = c.self.invariant.web in
+    let home : link_in f a HOME ≡ Some m = c.link.ensures ∙ ap (option_map cell_id) c.in-Some.is in
+    let among = before_among c.self.inside.cells c.args.self.now _ c.self.view_is w m a x home c.requires.kind in
+    let enters = enters_before c.self.inside.cells c.args.self.now _ c.self.view_is w m a x home c.requires.kind c.requires.there c.requires.homeless c.requires.differ in
+    let kind : c.kind_of-kind.result ≡ cell_kind f x = c.kind_of-kind.ensures ∙ ap kind_by c.number.ensures in
+    let p = count_number (cell_kind f x) in
+    inserted_eight f (cells_by c.insert.new.cells) (cells_by c.insert.new.cells) _ w m x c.first_link.result p p (number_in (cells_by c.insert.new.cells) m p) enters (c.first_link.ensures ∙ ap list_link kind) refl refl refl a among (c.insert.ensures.inserted, c.insert.ensures.list, c.insert.ensures.others)
 
 pub overflow_add-count : goal.overflow_add-count
 overflow_add-count c =
@@ -68,7 +88,7 @@ overflow_add-count c =
     let among = before_among c.self.inside.cells c.args.self.now _ c.self.view_is w m a x home c.requires.kind in
     let enters = enters_before c.self.inside.cells c.args.self.now _ c.self.view_is w m a x home c.requires.kind c.requires.there c.requires.homeless c.requires.differ in
     let kind : c.kind_of-kind.result ≡ cell_kind f x = c.kind_of-kind.ensures ∙ ap kind_by c.number.ensures in
-    let fits = inserted_fits f (cells_by c.insert.new.cells) (cells_by c.insert.new.cells) (map cell_id c.self.inside.all.items) w m x c.first_link.result c.count_place.result c.count_place.result c.number-count.result enters (c.first_link.ensures ∙ ap list_link kind) (c.count_place.ensures ∙ ap count_number kind) (c.count_place.ensures ∙ ap count_number kind) c.number-count.ensures a among
+    let fits = inserted_fits f (cells_by c.insert.new.cells) (cells_by c.insert.new.cells) (map cell_id c.self.inside.all.items) w m x c.first_link.result c.count_place.result c.count_place.result c.count-count.result enters (c.first_link.ensures ∙ ap list_link kind) (c.count_place.ensures ∙ ap count_number kind) (c.count_place.ensures ∙ ap count_number kind) c.count-count.ensures a among
     (c.insert.ensures.inserted, c.insert.ensures.list, c.insert.ensures.others) in
     let same = length-map c.self.inside.all.items cell_id in let len = c.self.inside.all.ok.0 in let room = c.self.inside.all.ok.1 in let small = c.self.inside.all.small in
     omega (arith, fits, same, len, room, small)
@@ -106,10 +126,10 @@ enter_class-requires c sure =
     let enters = enters_before c.self.inside.cells c.args.self.now _ c.self.view_is w m a x home c.requires.kind c.requires.there c.requires.homeless c.requires.differ in
     let kind : c.kind_of-kind.result ≡ cell_kind f x = c.kind_of-kind.ensures ∙ ap kind_by c.number.ensures in
     let filed : c.is_filed-filed.result ≡ files f m (cell_kind f x) = c.is_filed-filed.ensures ∙ ap (files f m) kind in
-    let own = list_in f m (cell_kind f x) in let F = cells_by c.set_number.new.self in let xs = put_before x a own in
-    let r = inserts f (cells_by c.insert.new.cells) F _ w m x c.first_link.result c.count_place.result c.count_place-in-Some.result c.number-count.result enters (c.first_link.ensures ∙ ap list_link kind) (c.count_place.ensures ∙ ap count_number kind) (c.count_place-in-Some.ensures ∙ ap count_number kind) c.number-count.ensures
-    a among (c.insert.ensures.inserted, c.insert.ensures.list, c.insert.ensures.others) c.set_number.ensures in
-    let leaves : Leaves f F m = inserts_left f (cells_by c.insert.new.cells) F m c.first_link.result a x c.count_place-in-Some.result (c.number-count.result + 1) (cell_kind f x) (c.first_link.ensures ∙ ap list_link kind) c.insert.ensures.inserted c.set_number.ensures in
+    let own = list_in f m (cell_kind f x) in let F = cells_by c.set_count.new.self in let xs = put_before x a own in
+    let r = inserts f (cells_by c.insert.new.cells) F _ w m x c.first_link.result c.count_place.result c.count_place-in-Some.result c.count-count.result enters (c.first_link.ensures ∙ ap list_link kind) (c.count_place.ensures ∙ ap count_number kind) (c.count_place-in-Some.ensures ∙ ap count_number kind) c.count-count.ensures
+    a among (c.insert.ensures.inserted, c.insert.ensures.list, c.insert.ensures.others) c.set_count.ensures in
+    let leaves : Leaves f F m = inserts_left f (cells_by c.insert.new.cells) F m c.first_link.result a x c.count_place-in-Some.result (c.count-count.result + 1) (cell_kind f x) (c.first_link.ensures ∙ ap list_link kind) c.insert.ensures.inserted c.set_count.ensures in
     let first = tree f F _ W m x (Some m) xs r leaves in let place = option_map cell_id c.place_from-place.result in
     let may : c.is_filed-filed.result ≡ true → MayEnter F m x place own first xs = λ sure.
     may_before f F _ W m x (Some m) xs r leaves a place refl (sym filed ∙ sure) enters.there enters.free among (c.place_from-place.ensures sure) in
@@ -123,10 +143,10 @@ invariant_of-self c =
     let enters = enters_before c.self.inside.cells c.args.self.now _ c.self.view_is w m a x home c.requires.kind c.requires.there c.requires.homeless c.requires.differ in
     let kind : c.kind_of-kind.result ≡ cell_kind f x = c.kind_of-kind.ensures ∙ ap kind_by c.number.ensures in
     let filed : c.is_filed-filed.result ≡ files f m (cell_kind f x) = c.is_filed-filed.ensures ∙ ap (files f m) kind in
-    let own = list_in f m (cell_kind f x) in let F = cells_by c.set_number.new.self in let xs = put_before x a own in
-    let r = inserts f (cells_by c.insert.new.cells) F _ w m x c.first_link.result c.count_place.result c.count_place-in-Some.result c.number-count.result enters (c.first_link.ensures ∙ ap list_link kind) (c.count_place.ensures ∙ ap count_number kind) (c.count_place-in-Some.ensures ∙ ap count_number kind) c.number-count.ensures
-    a among (c.insert.ensures.inserted, c.insert.ensures.list, c.insert.ensures.others) c.set_number.ensures in
-    let leaves : Leaves f F m = inserts_left f (cells_by c.insert.new.cells) F m c.first_link.result a x c.count_place-in-Some.result (c.number-count.result + 1) (cell_kind f x) (c.first_link.ensures ∙ ap list_link kind) c.insert.ensures.inserted c.set_number.ensures in
+    let own = list_in f m (cell_kind f x) in let F = cells_by c.set_count.new.self in let xs = put_before x a own in
+    let r = inserts f (cells_by c.insert.new.cells) F _ w m x c.first_link.result c.count_place.result c.count_place-in-Some.result c.count-count.result enters (c.first_link.ensures ∙ ap list_link kind) (c.count_place.ensures ∙ ap count_number kind) (c.count_place-in-Some.ensures ∙ ap count_number kind) c.count-count.ensures
+    a among (c.insert.ensures.inserted, c.insert.ensures.list, c.insert.ensures.others) c.set_count.ensures in
+    let leaves : Leaves f F m = inserts_left f (cells_by c.insert.new.cells) F m c.first_link.result a x c.count_place-in-Some.result (c.count-count.result + 1) (cell_kind f x) (c.first_link.ensures ∙ ap list_link kind) c.insert.ensures.inserted c.set_count.ensures in
     let first = tree f F _ W m x (Some m) xs r leaves in let place = option_map cell_id c.place_from-place.result in
     let may : c.is_filed-filed.result ≡ true → MayEnter F m x place own first xs = λ sure.
     may_before f F _ W m x (Some m) xs r leaves a place refl (sym filed ∙ sure) enters.there enters.free among (c.place_from-place.ensures sure) in
@@ -140,10 +160,10 @@ returns-in-Some c n at =
     let enters = enters_before c.self.inside.cells c.args.self.now _ c.self.view_is w m a x home c.requires.kind c.requires.there c.requires.homeless c.requires.differ in
     let kind : c.kind_of-kind.result ≡ cell_kind f x = c.kind_of-kind.ensures ∙ ap kind_by c.number.ensures in
     let filed : c.is_filed-filed.result ≡ files f m (cell_kind f x) = c.is_filed-filed.ensures ∙ ap (files f m) kind in
-    let own = list_in f m (cell_kind f x) in let F = cells_by c.set_number.new.self in let xs = put_before x a own in
-    let r = inserts f (cells_by c.insert.new.cells) F _ w m x c.first_link.result c.count_place.result c.count_place-in-Some.result c.number-count.result enters (c.first_link.ensures ∙ ap list_link kind) (c.count_place.ensures ∙ ap count_number kind) (c.count_place-in-Some.ensures ∙ ap count_number kind) c.number-count.ensures
-    a among (c.insert.ensures.inserted, c.insert.ensures.list, c.insert.ensures.others) c.set_number.ensures in
-    let leaves : Leaves f F m = inserts_left f (cells_by c.insert.new.cells) F m c.first_link.result a x c.count_place-in-Some.result (c.number-count.result + 1) (cell_kind f x) (c.first_link.ensures ∙ ap list_link kind) c.insert.ensures.inserted c.set_number.ensures in
+    let own = list_in f m (cell_kind f x) in let F = cells_by c.set_count.new.self in let xs = put_before x a own in
+    let r = inserts f (cells_by c.insert.new.cells) F _ w m x c.first_link.result c.count_place.result c.count_place-in-Some.result c.count-count.result enters (c.first_link.ensures ∙ ap list_link kind) (c.count_place.ensures ∙ ap count_number kind) (c.count_place-in-Some.ensures ∙ ap count_number kind) c.count-count.ensures
+    a among (c.insert.ensures.inserted, c.insert.ensures.list, c.insert.ensures.others) c.set_count.ensures in
+    let leaves : Leaves f F m = inserts_left f (cells_by c.insert.new.cells) F m c.first_link.result a x c.count_place-in-Some.result (c.count-count.result + 1) (cell_kind f x) (c.first_link.ensures ∙ ap list_link kind) c.insert.ensures.inserted c.set_count.ensures in
     let first = tree f F _ W m x (Some m) xs r leaves in let place = option_map cell_id c.place_from-place.result in
     let may : c.is_filed-filed.result ≡ true → MayEnter F m x place own first xs = λ sure.
     may_before f F _ W m x (Some m) xs r leaves a place refl (sym filed ∙ sure) enters.there enters.free among (c.place_from-place.ensures sure) in

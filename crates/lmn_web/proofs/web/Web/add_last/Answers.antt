@@ -8,7 +8,7 @@ use Rattle.lmn_web_cells.specs.Runs.{Line, IsHome}
 use Rattle.lmn_web.specs.Webs.{web_by, kind_at, list_in, list_link, count_number, number_in, added_last}
 use Rattle.lmn_web.specs.Indexes.{cell_kind}
 use Rattle.lmn_web.proofs.ListedLemmas.{kind_same, link_behind, link_below}
-use Rattle.lmn_web.proofs.RelistLemmas.{enters_last, appended_there, appended_fits, appends, relists_is, membrane_there, in_none, last_is}
+use Rattle.lmn_web.proofs.RelistLemmas.{enters_last, appended_there, appended_eight, appended_fits, appends, relists_is, membrane_there, in_none, last_is}
 use Rattle.lmn_web.specs.Classes.{files, key_in, MayEnter}
 use Rattle.lmn_web.proofs.FilterLemmas.{one_last}
 use Rattle.lmn_web.proofs.Filing.{Leaves, appends_left, tree, may_enter, entered_web, entered_list}
@@ -33,28 +33,44 @@ append-requires-clause-list c =
     let k = c.args.kind in
     (list_in f m k, subst (λ e. Line f m e (list_in f m k)) (sym c.first_link.ensures) (w.listed.line m k enters.membrane), in_none f (list_in f) w.listed x enters.free m k)
 
-pub number-count-requires-clause-there : goal.number-count-requires-clause-there
-number-count-requires-clause-there c =
+pub count-count-requires-clause-there : goal.count-count-requires-clause-there
+count-count-requires-clause-there c =
     let f = cells_by c.self.inside.cells in let m = cell_id c.args.home in let x = cell_id c.args.c in let w = c.self.invariant.web in
     let enters = enters_last c.self.inside.cells c.args.self.now c.self.view_is m x c.requires.there c.requires.homeless c.requires.membrane c.requires.differ in
     let kind : c.args.kind ≡ cell_kind f x = sym c.requires.kind ∙ ap (λ (z : List Row). kind_at (web_by z) x) (sym c.self.view_is) ∙ kind_same f (list_in f) x in
     let p = count_number (cell_kind f x) in
     appended_there f (cells_by c.append.new.cells) (cells_by c.append.new.cells) _ w m x c.first_link.result p p (number_in (cells_by c.append.new.cells) m p) enters (c.first_link.ensures ∙ ap list_link kind) refl refl refl (c.append.ensures.appended, c.append.ensures.list, c.append.ensures.others)
 
-pub set_number-requires-clause-there : goal.set_number-requires-clause-there
-set_number-requires-clause-there c =
+pub count-count-requires-clause-numbers : goal.count-count-requires-clause-numbers
+count-count-requires-clause-numbers c =
+    let f = cells_by c.self.inside.cells in let m = cell_id c.args.home in let x = cell_id c.args.c in let w = c.self.invariant.web in
+    let enters = enters_last c.self.inside.cells c.args.self.now c.self.view_is m x c.requires.there c.requires.homeless c.requires.membrane c.requires.differ in
+    let kind : c.args.kind ≡ cell_kind f x = sym c.requires.kind ∙ ap (λ (z : List Row). kind_at (web_by z) x) (sym c.self.view_is) ∙ kind_same f (list_in f) x in
+    let p = count_number (cell_kind f x) in
+    appended_eight f (cells_by c.append.new.cells) (cells_by c.append.new.cells) _ w m x c.first_link.result p p (number_in (cells_by c.append.new.cells) m p) enters (c.first_link.ensures ∙ ap list_link kind) refl refl refl (c.append.ensures.appended, c.append.ensures.list, c.append.ensures.others)
+
+pub set_count-requires-clause-there : goal.set_count-requires-clause-there
+set_count-requires-clause-there c =
     let f = cells_by c.self.inside.cells in let m = cell_id c.args.home in let x = cell_id c.args.c in let w = c.self.invariant.web in
     let enters = enters_last c.self.inside.cells c.args.self.now c.self.view_is m x c.requires.there c.requires.homeless c.requires.membrane c.requires.differ in
     let kind : c.args.kind ≡ cell_kind f x = sym c.requires.kind ∙ ap (λ (z : List Row). kind_at (web_by z) x) (sym c.self.view_is) ∙ kind_same f (list_in f) x in
     let p = count_number (cell_kind f x) in
     appended_there f (cells_by c.append.new.cells) (cells_by c.append.new.cells) _ w m x c.first_link.result p p (number_in (cells_by c.append.new.cells) m p) enters (c.first_link.ensures ∙ ap list_link kind) refl refl refl (c.append.ensures.appended, c.append.ensures.list, c.append.ensures.others)
+
+pub set_count-requires-clause-numbers : goal.set_count-requires-clause-numbers
+set_count-requires-clause-numbers c =
+    let f = cells_by c.self.inside.cells in let m = cell_id c.args.home in let x = cell_id c.args.c in let w = c.self.invariant.web in
+    let enters = enters_last c.self.inside.cells c.args.self.now c.self.view_is m x c.requires.there c.requires.homeless c.requires.membrane c.requires.differ in
+    let kind : c.args.kind ≡ cell_kind f x = sym c.requires.kind ∙ ap (λ (z : List Row). kind_at (web_by z) x) (sym c.self.view_is) ∙ kind_same f (list_in f) x in
+    let p = count_number (cell_kind f x) in
+    appended_eight f (cells_by c.append.new.cells) (cells_by c.append.new.cells) _ w m x c.first_link.result p p (number_in (cells_by c.append.new.cells) m p) enters (c.first_link.ensures ∙ ap list_link kind) refl refl refl (c.append.ensures.appended, c.append.ensures.list, c.append.ensures.others)
 
 pub overflow_add-count : goal.overflow_add-count
 overflow_add-count c =
     let f = cells_by c.self.inside.cells in let m = cell_id c.args.home in let x = cell_id c.args.c in let w = c.self.invariant.web in
     let enters = enters_last c.self.inside.cells c.args.self.now c.self.view_is m x c.requires.there c.requires.homeless c.requires.membrane c.requires.differ in
     let kind : c.args.kind ≡ cell_kind f x = sym c.requires.kind ∙ ap (λ (z : List Row). kind_at (web_by z) x) (sym c.self.view_is) ∙ kind_same f (list_in f) x in
-    let fits = appended_fits f (cells_by c.append.new.cells) (cells_by c.append.new.cells) (map cell_id c.self.inside.all.items) w m x c.first_link.result c.count_place.result c.count_place.result c.number-count.result enters (c.first_link.ensures ∙ ap list_link kind) (c.count_place.ensures ∙ ap count_number kind) (c.count_place.ensures ∙ ap count_number kind) c.number-count.ensures
+    let fits = appended_fits f (cells_by c.append.new.cells) (cells_by c.append.new.cells) (map cell_id c.self.inside.all.items) w m x c.first_link.result c.count_place.result c.count_place.result c.count-count.result enters (c.first_link.ensures ∙ ap list_link kind) (c.count_place.ensures ∙ ap count_number kind) (c.count_place.ensures ∙ ap count_number kind) c.count-count.ensures
     (c.append.ensures.appended, c.append.ensures.list, c.append.ensures.others) in
     let same = length-map c.self.inside.all.items cell_id in let len = c.self.inside.all.ok.0 in let room = c.self.inside.all.ok.1 in let small = c.self.inside.all.small in
     omega (arith, fits, same, len, room, small)
@@ -65,10 +81,10 @@ enter_class-requires c sure =
     let enters = enters_last c.self.inside.cells c.args.self.now c.self.view_is m x c.requires.there c.requires.homeless c.requires.membrane c.requires.differ in
     let kind : c.args.kind ≡ cell_kind f x = sym c.requires.kind ∙ ap (λ (z : List Row). kind_at (web_by z) x) (sym c.self.view_is) ∙ kind_same f (list_in f) x in
     let filed : c.is_filed-filed.result ≡ files f m (cell_kind f x) = c.is_filed-filed.ensures ∙ ap (files f m) kind in
-    let own = list_in f m (cell_kind f x) in let F = cells_by c.set_number.new.self in let xs = own ++ x ∷ [] in
-    let r = appends f (cells_by c.append.new.cells) F _ w m x c.first_link.result c.count_place.result c.count_place-2.result c.number-count.result enters (c.first_link.ensures ∙ ap list_link kind) (c.count_place.ensures ∙ ap count_number kind) (c.count_place-2.ensures ∙ ap count_number kind) c.number-count.ensures
-    (c.append.ensures.appended, c.append.ensures.list, c.append.ensures.others) c.set_number.ensures in
-    let leaves : Leaves f F m = appends_left f (cells_by c.append.new.cells) F m c.first_link.result x c.count_place-2.result (c.number-count.result + 1) (cell_kind f x) (c.first_link.ensures ∙ ap list_link kind) c.append.ensures.appended c.set_number.ensures in
+    let own = list_in f m (cell_kind f x) in let F = cells_by c.set_count.new.self in let xs = own ++ x ∷ [] in
+    let r = appends f (cells_by c.append.new.cells) F _ w m x c.first_link.result c.count_place.result c.count_place-2.result c.count-count.result enters (c.first_link.ensures ∙ ap list_link kind) (c.count_place.ensures ∙ ap count_number kind) (c.count_place-2.ensures ∙ ap count_number kind) c.count-count.ensures
+    (c.append.ensures.appended, c.append.ensures.list, c.append.ensures.others) c.set_count.ensures in
+    let leaves : Leaves f F m = appends_left f (cells_by c.append.new.cells) F m c.first_link.result x c.count_place-2.result (c.count-count.result + 1) (cell_kind f x) (c.first_link.ensures ∙ ap list_link kind) c.append.ensures.appended c.set_count.ensures in
     let out : In x own → ⊥ = in_none f (list_in f) w.listed x enters.free m (cell_kind f x) in
     let first = tree f F _ W m x (Some m) xs r leaves in
     let may : c.is_filed-filed.result ≡ true → MayEnter F m x None own first xs = λ sure.
@@ -81,10 +97,10 @@ invariant_of-self c =
     let enters = enters_last c.self.inside.cells c.args.self.now c.self.view_is m x c.requires.there c.requires.homeless c.requires.membrane c.requires.differ in
     let kind : c.args.kind ≡ cell_kind f x = sym c.requires.kind ∙ ap (λ (z : List Row). kind_at (web_by z) x) (sym c.self.view_is) ∙ kind_same f (list_in f) x in
     let filed : c.is_filed-filed.result ≡ files f m (cell_kind f x) = c.is_filed-filed.ensures ∙ ap (files f m) kind in
-    let own = list_in f m (cell_kind f x) in let F = cells_by c.set_number.new.self in let xs = own ++ x ∷ [] in
-    let r = appends f (cells_by c.append.new.cells) F _ w m x c.first_link.result c.count_place.result c.count_place-2.result c.number-count.result enters (c.first_link.ensures ∙ ap list_link kind) (c.count_place.ensures ∙ ap count_number kind) (c.count_place-2.ensures ∙ ap count_number kind) c.number-count.ensures
-    (c.append.ensures.appended, c.append.ensures.list, c.append.ensures.others) c.set_number.ensures in
-    let leaves : Leaves f F m = appends_left f (cells_by c.append.new.cells) F m c.first_link.result x c.count_place-2.result (c.number-count.result + 1) (cell_kind f x) (c.first_link.ensures ∙ ap list_link kind) c.append.ensures.appended c.set_number.ensures in
+    let own = list_in f m (cell_kind f x) in let F = cells_by c.set_count.new.self in let xs = own ++ x ∷ [] in
+    let r = appends f (cells_by c.append.new.cells) F _ w m x c.first_link.result c.count_place.result c.count_place-2.result c.count-count.result enters (c.first_link.ensures ∙ ap list_link kind) (c.count_place.ensures ∙ ap count_number kind) (c.count_place-2.ensures ∙ ap count_number kind) c.count-count.ensures
+    (c.append.ensures.appended, c.append.ensures.list, c.append.ensures.others) c.set_count.ensures in
+    let leaves : Leaves f F m = appends_left f (cells_by c.append.new.cells) F m c.first_link.result x c.count_place-2.result (c.count-count.result + 1) (cell_kind f x) (c.first_link.ensures ∙ ap list_link kind) c.append.ensures.appended c.set_count.ensures in
     let out : In x own → ⊥ = in_none f (list_in f) w.listed x enters.free m (cell_kind f x) in
     let first = tree f F _ W m x (Some m) xs r leaves in
     let may : c.is_filed-filed.result ≡ true → MayEnter F m x None own first xs = λ sure.
@@ -97,10 +113,10 @@ returns c =
     let enters = enters_last c.self.inside.cells c.args.self.now c.self.view_is m x c.requires.there c.requires.homeless c.requires.membrane c.requires.differ in
     let kind : c.args.kind ≡ cell_kind f x = sym c.requires.kind ∙ ap (λ (z : List Row). kind_at (web_by z) x) (sym c.self.view_is) ∙ kind_same f (list_in f) x in
     let filed : c.is_filed-filed.result ≡ files f m (cell_kind f x) = c.is_filed-filed.ensures ∙ ap (files f m) kind in
-    let own = list_in f m (cell_kind f x) in let F = cells_by c.set_number.new.self in let xs = own ++ x ∷ [] in
-    let r = appends f (cells_by c.append.new.cells) F _ w m x c.first_link.result c.count_place.result c.count_place-2.result c.number-count.result enters (c.first_link.ensures ∙ ap list_link kind) (c.count_place.ensures ∙ ap count_number kind) (c.count_place-2.ensures ∙ ap count_number kind) c.number-count.ensures
-    (c.append.ensures.appended, c.append.ensures.list, c.append.ensures.others) c.set_number.ensures in
-    let leaves : Leaves f F m = appends_left f (cells_by c.append.new.cells) F m c.first_link.result x c.count_place-2.result (c.number-count.result + 1) (cell_kind f x) (c.first_link.ensures ∙ ap list_link kind) c.append.ensures.appended c.set_number.ensures in
+    let own = list_in f m (cell_kind f x) in let F = cells_by c.set_count.new.self in let xs = own ++ x ∷ [] in
+    let r = appends f (cells_by c.append.new.cells) F _ w m x c.first_link.result c.count_place.result c.count_place-2.result c.count-count.result enters (c.first_link.ensures ∙ ap list_link kind) (c.count_place.ensures ∙ ap count_number kind) (c.count_place-2.ensures ∙ ap count_number kind) c.count-count.ensures
+    (c.append.ensures.appended, c.append.ensures.list, c.append.ensures.others) c.set_count.ensures in
+    let leaves : Leaves f F m = appends_left f (cells_by c.append.new.cells) F m c.first_link.result x c.count_place-2.result (c.count-count.result + 1) (cell_kind f x) (c.first_link.ensures ∙ ap list_link kind) c.append.ensures.appended c.set_count.ensures in
     let out : In x own → ⊥ = in_none f (list_in f) w.listed x enters.free m (cell_kind f x) in
     let first = tree f F _ W m x (Some m) xs r leaves in
     let may : c.is_filed-filed.result ≡ true → MayEnter F m x None own first xs = λ sure.

@@ -3,13 +3,13 @@ use Rattle.std.proofs.lemmas.List.{length-map, map-append}
 use Rattle.lmn_store_heap.specs.Heap.{alter}
 use Rattle.lmn_store_heap.proofs.Listing.{alter_at}
 use Rattle.lmn_web_cells.specs.Rows.{Row}
-use Rattle.lmn_web_cells.specs.Cells.{HeldCell, cells_by, blank_cell}
+use Rattle.lmn_web_cells.specs.Cells.{HeldCell, cells_by}
 use Rattle.std.specs.Option.{option_map}
 use Rattle.lmn_web_cells.specs.CellIds.{cell_id}
 use Rattle.lmn_web_cells.specs.declared.handle.Cell.{Cell}
 use Rattle.lmn_web.specs.Kinds.{kind_by}
 use Rattle.lmn_web.specs.Webs.{web_by, web_of, web_cell, list_in, new_cell, label_by}
-use Rattle.lmn_web.specs.Indexes.{described, IsClassedWeb}
+use Rattle.lmn_web.specs.Indexes.{described, blank_by, IsClassedWeb}
 use Rattle.lmn_web.proofs.WebLemmas.{made_once, made_is, made_with, no_list, new_web}
 use Rattle.lmn_web.proofs.Filing.{made_classed}
 use Rattle.lmn_web.proofs.web.Web.make_by.Goals as goal
@@ -17,17 +17,17 @@ use Rattle.lmn_web.proofs.web.Web.make_by.Goals as goal
 pub describe-requires : goal.describe-requires
 describe-requires c =
     let a = cell_id c.in_ok-c.c in
-    subst (λ (g : ℕ → Option HeldCell). IsSome (g a)) (sym c.in_ok-c.ensures.1) (subst (λ (o : Option HeldCell). IsSome o) (sym (alter_at (cells_by c.self.inside.cells) a (λ _. Some (blank_cell c.args.arity)))) refl)
+    subst (λ (g : ℕ → Option HeldCell). IsSome (g a)) (sym c.in_ok-c.ensures.1) (subst (λ (o : Option HeldCell). IsSome o) (sym (alter_at (cells_by c.self.inside.cells) a (λ _. Some (blank_by c.args.kind c.args.arity)))) refl)
 
 pub invariant_of-self-2 : goal.invariant_of-self-2
 invariant_of-self-2 c =
     let f = cells_by c.self.inside.cells in let a = cell_id c.in_ok-c.c in let all = map cell_id c.self.inside.all.items in let n = c.args.arity in let k = c.args.kind in let h = c.args.label / 2 ^ 64 in let low = c.args.label % 2 ^ 64 in
     let small : n < 256 = c.ranges.arity.fits in
     let index : c.len-index.result ≡ length all = c.len-index.ensures ∙ c.reserve.new.self.ok.0 ∙ ap (λ (xs : List Cell). length xs) c.reserve.ensures.items ∙ sym (length-map c.self.inside.all.items cell_id) in
-    let once : cells_by c.describe.new.cells ≡ alter f a (λ _. Some (described (length all) n k h low (blank_cell n))) =
-    made_once f _ _ a (blank_cell n) _ c.in_ok-c.ensures.1 c.describe.ensures ∙ (λ t. alter f a (λ _. Some (described (index t) n k h low (blank_cell n)))) in
+    let once : cells_by c.describe.new.cells ≡ alter f a (λ _. Some (described (length all) n k h low (blank_by k n))) =
+    made_once f _ _ a (blank_by k n) _ c.in_ok-c.ensures.1 c.describe.ensures ∙ (λ t. alter f a (λ _. Some (described (index t) n k h low (blank_by k n)))) in
     let listed : map cell_id c.push_reserved.new.self.items ≡ all ++ a ∷ [] = ap (map cell_id) (c.push_reserved.ensures.items ∙ ap (λ (xs : List Cell). xs ++ c.in_ok-c.c ∷ []) c.reserve.ensures.items) ∙ map-append cell_id c.self.inside.all.items (c.in_ok-c.c ∷ []) in
-    subst (λ (g : ℕ → Option HeldCell). IsClassedWeb g (map cell_id c.push_reserved.new.self.items)) (sym once) (subst (λ xs. IsClassedWeb (alter f a (λ _. Some (described (length all) n k h low (blank_cell n)))) xs) (sym listed)
+    subst (λ (g : ℕ → Option HeldCell). IsClassedWeb g (map cell_id c.push_reserved.new.self.items)) (sym once) (subst (λ xs. IsClassedWeb (alter f a (λ _. Some (described (length all) n k h low (blank_by k n)))) xs) (sym listed)
     (made_classed f all c.self.invariant a n k h low c.in_ok-c.ensures.0 small (omega arith)))
 
 pub returns : goal.returns
@@ -36,8 +36,8 @@ returns c =
     let all = map cell_id c.self.inside.all.items in
     let small : n < 256 = c.ranges.arity.fits in
     let index : c.len-index.result ≡ length all = c.len-index.ensures ∙ c.reserve.new.self.ok.0 ∙ ap (λ (xs : List Cell). length xs) c.reserve.ensures.items ∙ sym (length-map c.self.inside.all.items cell_id) in
-    let once : cells_by c.describe.new.cells ≡ alter f a (λ _. Some (described (length all) n k h low (blank_cell n))) =
-    made_once f _ _ a (blank_cell n) _ c.in_ok-c.ensures.1 c.describe.ensures ∙ (λ t. alter f a (λ _. Some (described (index t) n k h low (blank_cell n)))) in
+    let once : cells_by c.describe.new.cells ≡ alter f a (λ _. Some (described (length all) n k h low (blank_by k n))) =
+    made_once f _ _ a (blank_by k n) _ c.in_ok-c.ensures.1 c.describe.ensures ∙ (λ t. alter f a (λ _. Some (described (index t) n k h low (blank_by k n)))) in
     let whole : label_by h low ≡ c.args.label = omega arith in (
       subst (λ (z : List Row). web_by z a ≡ None) c.self.view_is (ap (λ (o : Option HeldCell). option_map (web_cell (list_in f a)) o) c.in_ok-c.ensures.0),
       ap web_of once ∙ made_with f all c.self.invariant.web a n k h low c.in_ok-c.ensures.0 small ∙ made_is f (list_in f) a _

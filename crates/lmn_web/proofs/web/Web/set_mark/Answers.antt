@@ -7,7 +7,7 @@ use Rattle.std.specs.Option.{option_map}
 use Rattle.lmn_store_heap.specs.Heap.{alter}
 use Rattle.lmn_web.specs.Webs.{web_by, web_of, list_in, with_mark}
 use Rattle.lmn_web.specs.Indexes.{IsClassedWeb}
-use Rattle.lmn_web.proofs.WebLemmas.{told_mark, told_own, port_mark_keeps, own_mark_keeps, port_mark_web, own_mark_web, mark_keeps, own_keeps, some_back}
+use Rattle.lmn_web.proofs.WebLemmas.{told_mark, told_own, port_mark_keeps, own_mark_keeps, port_mark_web, own_mark_web, mark_keeps, own_keeps, some_back, mark_there}
 use Rattle.lmn_web.proofs.Filing.{same_classed}
 use Rattle.lmn_web.proofs.web.Web.set_mark.Goals as goal
 
@@ -27,7 +27,7 @@ pub returns-then-slot-eq0 : goal.returns-then-slot-eq0
 returns-then-slot-eq0 c =
     let f = cells_by c.self.inside.cells in let a = cell_id c.args.c in
     let there : IsSome (f a) = some_back f (list_in f) a (subst (λ (z : List Row). IsSome (web_by z a)) (sym c.self.view_is) c.requires.there) in
-    own_keeps f (cells_by c.set_number.new.self) _ a c.args.v c.self.invariant.web c.set_number.ensures ∙ own_mark_web f (list_in f) a c.args.v (c.self.invariant.web.numbers a there)
+    own_keeps f (cells_by c.set_number.new.self) _ a c.args.v c.self.invariant.web c.set_number.ensures ∙ own_mark_web f (list_in f) a c.args.v (mark_there f _ c.self.invariant.web a there)
     ∙ ap (λ k. alter (web_of f) a (option_map (with_mark k c.args.v))) (sym c.if-slot-eq0.true) ∙ ap (λ (z : List Row). alter (web_by z) a (option_map (with_mark c.args.slot c.args.v))) c.self.view_is
 
 pub returns-else-slot-eq0 : goal.returns-else-slot-eq0

@@ -10,7 +10,7 @@ use Rattle.lmn_web_cells.specs.Links.{HOME}
 use Rattle.lmn_web.specs.Webs.{web_by, kind_at, list_in, list_link, count_number, number_in, home_at, unlinked}
 use Rattle.lmn_web.specs.Indexes.{cell_kind}
 use Rattle.lmn_web.proofs.ListedLemmas.{kind_same, own_line, cell_of, home_same, link_behind, link_below, some_home}
-use Rattle.lmn_web.proofs.RelistLemmas.{unlinked_there, unlinked_some, unlinks, relists_is, without_is}
+use Rattle.lmn_web.proofs.RelistLemmas.{unlinked_there, unlinked_eight, unlinked_some, unlinks, relists_is, without_is}
 use Rattle.lmn_web.specs.Classes.{files, key_in, MayLeave}
 use Rattle.lmn_web.proofs.FilterLemmas.{one_without}
 use Rattle.lmn_web.proofs.Filing.{Leaves, unlinks_left, tree, may_leave, left_web, left_list}
@@ -41,28 +41,44 @@ unlink-requires-clause-list c =
     let h = w.listed.homes m x home in
     (list_in f m (cell_kind f x), subst (λ e. Line f m e (list_in f m (cell_kind f x))) (sym (c.first_link.ensures ∙ ap list_link kind)) (own_line f (list_in f) w.listed m x (cell_kind f x) h.1), h.1)
 
-pub number-count-requires-clause-there : goal.number-count-requires-clause-there
-number-count-requires-clause-there c =
+pub count-count-requires-clause-there : goal.count-count-requires-clause-there
+count-count-requires-clause-there c =
     let f = cells_by c.self.inside.cells in let m = cell_id c.in-Some.home in let x = cell_id c.args.c in let w = c.self.invariant.web in
     let home : link_in f x HOME ≡ Some m = c.link.ensures ∙ ap (option_map cell_id) c.in-Some.is in
     let kind : c.args.kind ≡ cell_kind f x = sym c.requires.kind ∙ ap (λ (z : List Row). kind_at (web_by z) x) (sym c.self.view_is) ∙ kind_same f (list_in f) x in
     let p = count_number (cell_kind f x) in
     unlinked_there f (cells_by c.unlink.new.cells) (cells_by c.unlink.new.cells) _ w m x c.first_link.result p p (number_in (cells_by c.unlink.new.cells) m p) home (c.first_link.ensures ∙ ap list_link kind) refl refl refl (c.unlink.ensures.unlinked, c.unlink.ensures.list, c.unlink.ensures.others)
 
-pub set_number-requires-clause-there : goal.set_number-requires-clause-there
-set_number-requires-clause-there c =
+pub count-count-requires-clause-numbers : goal.count-count-requires-clause-numbers
+count-count-requires-clause-numbers c =
+    let f = cells_by c.self.inside.cells in let m = cell_id c.in-Some.home in let x = cell_id c.args.c in let w = c.self.invariant.web in
+    let home : link_in f x HOME ≡ Some m = c.link.ensures ∙ ap (option_map cell_id) c.in-Some.is in
+    let kind : c.args.kind ≡ cell_kind f x = sym c.requires.kind ∙ ap (λ (z : List Row). kind_at (web_by z) x) (sym c.self.view_is) ∙ kind_same f (list_in f) x in
+    let p = count_number (cell_kind f x) in
+    unlinked_eight f (cells_by c.unlink.new.cells) (cells_by c.unlink.new.cells) _ w m x c.first_link.result p p (number_in (cells_by c.unlink.new.cells) m p) home (c.first_link.ensures ∙ ap list_link kind) refl refl refl (c.unlink.ensures.unlinked, c.unlink.ensures.list, c.unlink.ensures.others)
+
+pub set_count-requires-clause-there : goal.set_count-requires-clause-there
+set_count-requires-clause-there c =
     let f = cells_by c.self.inside.cells in let m = cell_id c.in-Some.home in let x = cell_id c.args.c in let w = c.self.invariant.web in
     let home : link_in f x HOME ≡ Some m = c.link.ensures ∙ ap (option_map cell_id) c.in-Some.is in
     let kind : c.args.kind ≡ cell_kind f x = sym c.requires.kind ∙ ap (λ (z : List Row). kind_at (web_by z) x) (sym c.self.view_is) ∙ kind_same f (list_in f) x in
     let p = count_number (cell_kind f x) in
     unlinked_there f (cells_by c.unlink.new.cells) (cells_by c.unlink.new.cells) _ w m x c.first_link.result p p (number_in (cells_by c.unlink.new.cells) m p) home (c.first_link.ensures ∙ ap list_link kind) refl refl refl (c.unlink.ensures.unlinked, c.unlink.ensures.list, c.unlink.ensures.others)
+
+pub set_count-requires-clause-numbers : goal.set_count-requires-clause-numbers
+set_count-requires-clause-numbers c =
+    let f = cells_by c.self.inside.cells in let m = cell_id c.in-Some.home in let x = cell_id c.args.c in let w = c.self.invariant.web in
+    let home : link_in f x HOME ≡ Some m = c.link.ensures ∙ ap (option_map cell_id) c.in-Some.is in
+    let kind : c.args.kind ≡ cell_kind f x = sym c.requires.kind ∙ ap (λ (z : List Row). kind_at (web_by z) x) (sym c.self.view_is) ∙ kind_same f (list_in f) x in
+    let p = count_number (cell_kind f x) in
+    unlinked_eight f (cells_by c.unlink.new.cells) (cells_by c.unlink.new.cells) _ w m x c.first_link.result p p (number_in (cells_by c.unlink.new.cells) m p) home (c.first_link.ensures ∙ ap list_link kind) refl refl refl (c.unlink.ensures.unlinked, c.unlink.ensures.list, c.unlink.ensures.others)
 
 pub overflow_sub-count : goal.overflow_sub-count
 overflow_sub-count c =
     let f = cells_by c.self.inside.cells in let m = cell_id c.in-Some.home in let x = cell_id c.args.c in let w = c.self.invariant.web in
     let home : link_in f x HOME ≡ Some m = c.link.ensures ∙ ap (option_map cell_id) c.in-Some.is in
     let kind : c.args.kind ≡ cell_kind f x = sym c.requires.kind ∙ ap (λ (z : List Row). kind_at (web_by z) x) (sym c.self.view_is) ∙ kind_same f (list_in f) x in
-    let some = unlinked_some f (cells_by c.unlink.new.cells) (cells_by c.unlink.new.cells) _ w m x c.first_link.result c.count_place.result c.count_place.result c.number-count.result home (c.first_link.ensures ∙ ap list_link kind) (c.count_place.ensures ∙ ap count_number kind) (c.count_place.ensures ∙ ap count_number kind) c.number-count.ensures (c.unlink.ensures.unlinked, c.unlink.ensures.list, c.unlink.ensures.others) in
+    let some = unlinked_some f (cells_by c.unlink.new.cells) (cells_by c.unlink.new.cells) _ w m x c.first_link.result c.count_place.result c.count_place.result c.count-count.result home (c.first_link.ensures ∙ ap list_link kind) (c.count_place.ensures ∙ ap count_number kind) (c.count_place.ensures ∙ ap count_number kind) c.count-count.ensures (c.unlink.ensures.unlinked, c.unlink.ensures.list, c.unlink.ensures.others) in
     omega (arith, some)
 
 pub leave_class-requires : goal.leave_class-requires
@@ -71,10 +87,10 @@ leave_class-requires c sure =
     let home : link_in f x HOME ≡ Some m = c.link.ensures ∙ ap (option_map cell_id) c.in-Some.is in
     let kind : c.args.kind ≡ cell_kind f x = sym c.requires.kind ∙ ap (λ (z : List Row). kind_at (web_by z) x) (sym c.self.view_is) ∙ kind_same f (list_in f) x in
     let filed : c.is_filed-filed.result ≡ files f m (cell_kind f x) = c.is_filed-filed.ensures ∙ ap (files f m) kind in
-    let own = list_in f m (cell_kind f x) in let F = cells_by c.set_number.new.self in let xs = without x own in
-    let r = unlinks f (cells_by c.unlink.new.cells) F _ w m x c.first_link.result c.count_place.result c.count_place-in-Some.result c.number-count.result home (c.first_link.ensures ∙ ap list_link kind) (c.count_place.ensures ∙ ap count_number kind) (c.count_place-in-Some.ensures ∙ ap count_number kind) c.number-count.ensures
-    (c.unlink.ensures.unlinked, c.unlink.ensures.list, c.unlink.ensures.others) c.set_number.ensures in
-    let leaves : Leaves f F m = unlinks_left f (cells_by c.unlink.new.cells) F m c.first_link.result x c.count_place-in-Some.result (c.number-count.result - 1) (cell_kind f x) (c.first_link.ensures ∙ ap list_link kind) c.unlink.ensures.unlinked c.set_number.ensures in
+    let own = list_in f m (cell_kind f x) in let F = cells_by c.set_count.new.self in let xs = without x own in
+    let r = unlinks f (cells_by c.unlink.new.cells) F _ w m x c.first_link.result c.count_place.result c.count_place-in-Some.result c.count-count.result home (c.first_link.ensures ∙ ap list_link kind) (c.count_place.ensures ∙ ap count_number kind) (c.count_place-in-Some.ensures ∙ ap count_number kind) c.count-count.ensures
+    (c.unlink.ensures.unlinked, c.unlink.ensures.list, c.unlink.ensures.others) c.set_count.ensures in
+    let leaves : Leaves f F m = unlinks_left f (cells_by c.unlink.new.cells) F m c.first_link.result x c.count_place-in-Some.result (c.count-count.result - 1) (cell_kind f x) (c.first_link.ensures ∙ ap list_link kind) c.unlink.ensures.unlinked c.set_count.ensures in
     let in_own : In x own = (w.listed.homes m x home).1 in
     let first = tree f F _ W m x None xs r leaves in
     let may : c.is_filed-filed.result ≡ true → MayLeave F m x own first xs = λ sure.
@@ -87,10 +103,10 @@ invariant_of-self c =
     let home : link_in f x HOME ≡ Some m = c.link.ensures ∙ ap (option_map cell_id) c.in-Some.is in
     let kind : c.args.kind ≡ cell_kind f x = sym c.requires.kind ∙ ap (λ (z : List Row). kind_at (web_by z) x) (sym c.self.view_is) ∙ kind_same f (list_in f) x in
     let filed : c.is_filed-filed.result ≡ files f m (cell_kind f x) = c.is_filed-filed.ensures ∙ ap (files f m) kind in
-    let own = list_in f m (cell_kind f x) in let F = cells_by c.set_number.new.self in let xs = without x own in
-    let r = unlinks f (cells_by c.unlink.new.cells) F _ w m x c.first_link.result c.count_place.result c.count_place-in-Some.result c.number-count.result home (c.first_link.ensures ∙ ap list_link kind) (c.count_place.ensures ∙ ap count_number kind) (c.count_place-in-Some.ensures ∙ ap count_number kind) c.number-count.ensures
-    (c.unlink.ensures.unlinked, c.unlink.ensures.list, c.unlink.ensures.others) c.set_number.ensures in
-    let leaves : Leaves f F m = unlinks_left f (cells_by c.unlink.new.cells) F m c.first_link.result x c.count_place-in-Some.result (c.number-count.result - 1) (cell_kind f x) (c.first_link.ensures ∙ ap list_link kind) c.unlink.ensures.unlinked c.set_number.ensures in
+    let own = list_in f m (cell_kind f x) in let F = cells_by c.set_count.new.self in let xs = without x own in
+    let r = unlinks f (cells_by c.unlink.new.cells) F _ w m x c.first_link.result c.count_place.result c.count_place-in-Some.result c.count-count.result home (c.first_link.ensures ∙ ap list_link kind) (c.count_place.ensures ∙ ap count_number kind) (c.count_place-in-Some.ensures ∙ ap count_number kind) c.count-count.ensures
+    (c.unlink.ensures.unlinked, c.unlink.ensures.list, c.unlink.ensures.others) c.set_count.ensures in
+    let leaves : Leaves f F m = unlinks_left f (cells_by c.unlink.new.cells) F m c.first_link.result x c.count_place-in-Some.result (c.count-count.result - 1) (cell_kind f x) (c.first_link.ensures ∙ ap list_link kind) c.unlink.ensures.unlinked c.set_count.ensures in
     let in_own : In x own = (w.listed.homes m x home).1 in
     let first = tree f F _ W m x None xs r leaves in
     let may : c.is_filed-filed.result ≡ true → MayLeave F m x own first xs = λ sure.
@@ -103,10 +119,10 @@ returns-in-Some c n at =
     let home : link_in f x HOME ≡ Some m = c.link.ensures ∙ ap (option_map cell_id) c.in-Some.is in
     let kind : c.args.kind ≡ cell_kind f x = sym c.requires.kind ∙ ap (λ (z : List Row). kind_at (web_by z) x) (sym c.self.view_is) ∙ kind_same f (list_in f) x in
     let filed : c.is_filed-filed.result ≡ files f m (cell_kind f x) = c.is_filed-filed.ensures ∙ ap (files f m) kind in
-    let own = list_in f m (cell_kind f x) in let F = cells_by c.set_number.new.self in let xs = without x own in
-    let r = unlinks f (cells_by c.unlink.new.cells) F _ w m x c.first_link.result c.count_place.result c.count_place-in-Some.result c.number-count.result home (c.first_link.ensures ∙ ap list_link kind) (c.count_place.ensures ∙ ap count_number kind) (c.count_place-in-Some.ensures ∙ ap count_number kind) c.number-count.ensures
-    (c.unlink.ensures.unlinked, c.unlink.ensures.list, c.unlink.ensures.others) c.set_number.ensures in
-    let leaves : Leaves f F m = unlinks_left f (cells_by c.unlink.new.cells) F m c.first_link.result x c.count_place-in-Some.result (c.number-count.result - 1) (cell_kind f x) (c.first_link.ensures ∙ ap list_link kind) c.unlink.ensures.unlinked c.set_number.ensures in
+    let own = list_in f m (cell_kind f x) in let F = cells_by c.set_count.new.self in let xs = without x own in
+    let r = unlinks f (cells_by c.unlink.new.cells) F _ w m x c.first_link.result c.count_place.result c.count_place-in-Some.result c.count-count.result home (c.first_link.ensures ∙ ap list_link kind) (c.count_place.ensures ∙ ap count_number kind) (c.count_place-in-Some.ensures ∙ ap count_number kind) c.count-count.ensures
+    (c.unlink.ensures.unlinked, c.unlink.ensures.list, c.unlink.ensures.others) c.set_count.ensures in
+    let leaves : Leaves f F m = unlinks_left f (cells_by c.unlink.new.cells) F m c.first_link.result x c.count_place-in-Some.result (c.count-count.result - 1) (cell_kind f x) (c.first_link.ensures ∙ ap list_link kind) c.unlink.ensures.unlinked c.set_count.ensures in
     let in_own : In x own = (w.listed.homes m x home).1 in
     let first = tree f F _ W m x None xs r leaves in
     let may : c.is_filed-filed.result ≡ true → MayLeave F m x own first xs = λ sure.
