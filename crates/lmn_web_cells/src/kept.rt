@@ -73,11 +73,7 @@ impl Kept {
     }
 
     /// A row for a membrane: one that was kept, or a new one.
-    pub fn make_membrane(
-        &mut self,
-        rows: &mut Rows,
-        alloc: &Global,
-    ) -> Result<*mut u8, AllocError>
+    pub fn make_membrane(&mut self, rows: &mut Rows, alloc: &Global) -> Result<*mut u8, AllocError>
         ensures { MatchResult result
             (λ p. IsStart p × (items_in rows.old.rows (block_of p) ≡ []) × (rows.new.rows ≡ row (block_of p) (replicate 16 blank) ∷ rows.old.rows))
             (λ _. rows.new.rows ≡ rows.old.rows) }
