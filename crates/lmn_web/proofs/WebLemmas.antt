@@ -171,7 +171,7 @@ index_below n k e = let l = mark_below n k e in omega (arith, l)
 pub eight_by : (k : ℕ) → (kind_by k ≡ Atom → ⊥) → numbers_by k ≡ 8
 eight_by k d = by (k == 0) (λ e. d (ap (λ (t : Bool). if t then Atom else Membrane) e))
   where
-    by : (t : Bool) → (t ≡ true → ⊥) → (if t then 6 else 8) ≡ 8
+    by : (t : Bool) → (t ≡ true → ⊥) → ◌≡◌ {A = ℕ} (if t then 6 else 8) 8
     by true d = absurd (d refl)
     by false d = refl
 
@@ -507,13 +507,13 @@ none_left f x b = by (f b) refl
     by (Some c) e = absurd (let h = (x.indexed b (number_in f b INDEX)).1 (subst (λ (o : Option HeldCell). IsSome o) (sym e) refl, refl) in cc)
 
 -- the counts of a new cell are 0, or it has none
-blank_tail : (t : Bool) (i : ℕ) → get_or (if t then [] else 0 ∷ 0 ∷ []) i 0 ≡ 0
+blank_tail : (t : Bool) (i : ℕ) → ◌≡◌ {A = ℕ} (get_or (if t then [] else 0 ∷ 0 ∷ []) i 0) 0
 blank_tail true i = refl
 blank_tail false zero = refl
 blank_tail false (suc zero) = refl
 blank_tail false (suc (suc i)) = refl
 
-made_tail : (t : Bool) → suc (suc (suc (suc (suc (suc (length (if t then [] else 0 ∷ 0 ∷ []))))))) ≡ (if t then 6 else 8)
+made_tail : (t : Bool) → suc (suc (suc (suc (suc (suc (length {A = ℕ} (if t then [] else 0 ∷ 0 ∷ []))))))) ≡ (if t then 6 else 8)
 made_tail true = refl
 made_tail false = refl
 

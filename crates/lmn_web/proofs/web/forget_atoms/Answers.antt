@@ -8,7 +8,7 @@ use Rattle.lmn_web.proofs.WebLemmas.{four_steps, stays_some, same_count}
 use Rattle.lmn_web.proofs.web.forget_atoms.Goals as goal
 
 pub set_link-requires-2-clause-there : goal.set_link-requires-2-clause-there
-set_link-requires-2-clause-there c = stays_some _ _ (cell_id c.args.m) (with_link c.first_link-first.result None) c.set_link.ensures c.requires
+set_link-requires-2-clause-there c = stays_some _ _ (cell_id c.args.m) (with_link c.first_link-first.result None) c.set_link.ensures c.requires.there
 
 pub set_link-requires-3-clause-there : goal.set_link-requires-3-clause-there
 set_link-requires-3-clause-there c =
