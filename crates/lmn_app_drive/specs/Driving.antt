@@ -82,6 +82,10 @@ abbrev pub given_by_engine : List Name → List RuleTree → ℕ → RunOptions 
 given_by_engine names table size options chooser first =
     record { names = names; table = table; chooser = chooser; budget = options.budget; size = size; trace = options.trace; folded = options.folded; first = first }
 
+-- So it is with what a run is given by such an engine, whatever the chooser, from each solid on that the heap holds at the start.
+abbrev pub OfEachInput : List Name → List RuleTree → Heap → ℕ → RunOptions → ((Chooser → RunInput) → Type 0) → Type 0
+OfEachInput names table h size options Q = (solid : Region) → HoldsRegion names table h solid → Q (λ c. given_by_engine names table size options c solid)
+
 -- While a run goes on: with a trace the lines of all solids so far are written, and nothing without one.
 pub record Going (g : RunInput) (commits : ℕ) (h : Heap) (old new : Option (List ℕ)) : Type 0 where
   pub ran : Ran g commits h

@@ -12,7 +12,7 @@ ghost use Rattle.lmn_app_runs.specs.Runs.{end_line, word_of_stop};
 ghost use Rattle.lmn_app_drive.specs.Answers.{BrokeByAnswers, DroveByAnswers, GoingByAnswers, StepsOnByAnswers, StoppedByAnswers};
 ghost use Rattle.lmn_app_drive.specs.Asking.{AsksFew};
 ghost use Rattle.lmn_app_drive.specs.AskingOn.{AskedSoFar, AsksOn};
-ghost use Rattle.lmn_app_drive.specs.Driving.{Broke, Concludes, CountsCommit, Drove, Going, IsRestOf, IsTracedLineOf, StepsOn, Stopped, given_by_engine};
+ghost use Rattle.lmn_app_drive.specs.Driving.{Broke, Concludes, CountsCommit, Drove, Going, IsRestOf, IsTracedLineOf, OfEachInput, StepsOn, Stopped, given_by_engine};
 
 use itoa::Buffer;
 use lmn_app_runs::Stop;
@@ -82,21 +82,16 @@ pub fn drive<S: LinkStore, F: Fn(u64, u64) -> u64, O: Sink, L: Ledger>(
     out: &mut O,
     steps: &mut Steps<L>,
 ) -> RunEnd
-    requires run { EngineCanTurn (S.heap engine.old.machine.store) plain.now.rules engine.old.codes engine.old.size }
-    requires plain { engine.old.plain.now ≡ plain.now }
+    requires run { EngineCanTurn (S.heap engine.old.machine.store) plain.now.rules engine.old.codes engine.old.size × (engine.old.plain.now ≡ plain.now) × (engine.old.commits ≡ 0) }
     requires chooser { AnswersBelow F.pre F.post engine.old.chooser.f }
-    requires commits { engine.old.commits ≡ 0 }
     requires budget { options.now.budget ≤ 2 ^ 63 - 1 }
-    ensures drove { (c : Chooser) → Gives F.post engine.old.chooser.f c → (solid : Region) → HoldsRegion names.now plain.now.rules (S.heap engine.old.machine.store) solid →
-        Drove (given_by_engine names.now plain.now.rules engine.old.size options.now c solid) engine.new.commits (S.heap engine.new.machine.store) result (O.told out.old) (O.told out.new) }
-    ensures answered { (solid : Region) → HoldsRegion names.now plain.now.rules (S.heap engine.old.machine.store) solid →
-        DroveByAnswers (F.post engine.old.chooser.f) (λ c. given_by_engine names.now plain.now.rules engine.old.size options.now c solid)
-        engine.new.commits (S.heap engine.new.machine.store) result (O.told out.old) (O.told out.new) steps.old steps.new }
+    ensures drove { let e = engine.old in (c : Chooser) → Gives F.post e.chooser.f c → OfEachInput names.now plain.now.rules (S.heap e.machine.store) e.size options.now
+        (λ g. Drove (g c) engine.new.commits (S.heap engine.new.machine.store) result (O.told out.old) (O.told out.new)) }
+    ensures answered { let e = engine.old in OfEachInput names.now plain.now.rules (S.heap e.machine.store) e.size options.now
+        (λ g. DroveByAnswers (F.post e.chooser.f) g engine.new.commits (S.heap engine.new.machine.store) result (O.told out.old) (O.told out.new) steps.old steps.new) }
     ensures asks { AsksFew (F.post engine.old.chooser.f) plain.now.rules engine.old.codes engine.old.size (S.heap engine.old.machine.store) engine.new.commits (S.heap engine.new.machine.store) steps.old steps.new }
-    ensures again { EngineCanTurn (S.heap engine.new.machine.store) plain.now.rules engine.old.codes engine.old.size }
-    ensures keeps { engine.new ≡ record engine.old { machine = engine.new.machine; commits = engine.new.commits } }
-    ensures same { ¬ (result ≡ RunEnd.Failed) → NoneFailed (O.faults out.old) (O.faults out.new) }
-    ensures rose { result ≡ RunEnd.Failed → FailedLast (O.faults out.old) (O.faults out.new) }
+    ensures engine { EngineCanTurn (S.heap engine.new.machine.store) plain.now.rules engine.old.codes engine.old.size × (engine.new ≡ record engine.old { machine = engine.new.machine; commits = engine.new.commits }) }
+    ensures faults { (¬ (result ≡ RunEnd.Failed) → NoneFailed (O.faults out.old) (O.faults out.new)) × (result ≡ RunEnd.Failed → FailedLast (O.faults out.old) (O.faults out.new)) }
 {
     match run(alloc, engine, plain, names, options, out, steps) {
         Ok(stop) => conclude(engine, plain, names, options, stop, out),

@@ -45,7 +45,7 @@ returns-in-Ok g c text before after a =
     let first = subst (λ S. D S engine.size) from.2 drove in
     let driven = subst (D (solid_of names plain from.0)) c.in-Ok.ensures.keeps.2 first in
     subst (λ ending. Ended (task.Run settings) ending (Some (Some text)) old new count count' before after) (sym c.ending_of.ensures)
-    (driven_ended c.args.alloc laws settings text names plain plans a from.0 from.1 (c.in-Ok.ensures.fits from.0 from.1) names n h end old new count count' before after driven c.drive-end.ensures.same c.drive-end.ensures.rose)
+    (driven_ended c.args.alloc laws settings text names plain plans a from.0 from.1 (c.in-Ok.ensures.fits from.0 from.1) names n h end old new count count' before after driven c.drive-end.ensures.faults.0 c.drive-end.ensures.faults.1)
 
 pub returns-in-Err-Size : goal.returns-in-Err-Size
 returns-in-Err-Size g c text before after a =

@@ -8,11 +8,12 @@ use Rattle.lmn_app_drive.proofs.Answered.{broken_by, concluded_by}
 use Rattle.lmn_app_drive.proofs.Goings.{drove_broke}
 use Rattle.lmn_app_drive.proofs.driving.drive.Goals as goal
 
-pub returns-in-Ok-clause-same : goal.returns-in-Ok-clause-same
-returns-in-Ok-clause-same g c = λ n. none_more (g.O.Sink.faults c.args.out.now) (g.O.Sink.faults c.run.new.out) (g.O.Sink.faults c.conclude.new.out) c.in-Ok.ensures.same (c.conclude.ensures.same n)
-
-pub returns-in-Ok-clause-rose : goal.returns-in-Ok-clause-rose
-returns-in-Ok-clause-rose g c = λ e. none_then_last (g.O.Sink.faults c.args.out.now) (g.O.Sink.faults c.run.new.out) (g.O.Sink.faults c.conclude.new.out) c.in-Ok.ensures.same (c.conclude.ensures.rose e)
+pub returns-in-Ok-clause-faults : goal.returns-in-Ok-clause-faults
+returns-in-Ok-clause-faults g c =
+    let old = g.O.Sink.faults c.args.out.now in
+    let mid = g.O.Sink.faults c.run.new.out in
+    let new = g.O.Sink.faults c.conclude.new.out in
+    ((λ n. none_more old mid new c.in-Ok.ensures.same (c.conclude.ensures.same n)), (λ e. none_then_last old mid new c.in-Ok.ensures.same (c.conclude.ensures.rose e)))
 
 pub returns-in-Err-clause-drove : goal.returns-in-Err-clause-drove
 returns-in-Err-clause-drove g c k gives solid held =
