@@ -55,9 +55,8 @@ pub fn debug<'p, F: Fn(u64, u64) -> u64 + Copy + Drop, O: Sink, L: Ledger>(
 ) -> Result<(), DebugFault>
     requires plain { CanBeLoaded plain.now plans.now }
     requires same { (engine.plain.now ≡ plain.now) × (engine.chooser.f ≡ choose) × (engine.size ≡ size) }
-    requires run { EngineCanTurn (heap_of engine.machine.store) plain.now.rules engine.codes size }
+    requires run { EngineCanTurn (heap_of engine.machine.store) plain.now.rules engine.codes size × (engine.commits ≡ 0) }
     requires chooser { AnswersBelow F.pre F.post choose }
-    requires commits { engine.commits ≡ 0 }
     requires orders { AreAskedWith names.now orders.now }
     requires few { length orders.now < 2 ^ 32 }
     ensures debugged { (c : Choosing) → Gives F.post choose c → AreNames names.now plain.now → (held : HoldsSolid names.now plain.now (heap_of engine.entry.machine.store)) →

@@ -10,8 +10,8 @@ ghost use Rattle.lmn_schedule.specs.Held.{EngineCanTurn, HoldsRegion};
 ghost use Rattle.lmn_schedule.specs.Turning.{Gives};
 ghost use Rattle.lmn_debug.specs.Breaks.{AnswersSo};
 ghost use Rattle.lmn_debug.specs.Counts.{IsCount};
-ghost use Rattle.lmn_debug.specs.Courses.{Meets, Stepped, course, most_turns, wish};
-ghost use Rattle.lmn_debug.specs.Sessions.{StandsAt, StandsStepped, StandsWaited};
+ghost use Rattle.lmn_debug.specs.Courses.{Meets, course, most_turns, wish};
+ghost use Rattle.lmn_debug.specs.Sessions.{AlongEachCourse, LacksToGoBack, StandsAt, StepsFrom, WaitsFrom};
 ghost use Rattle.lmn_debug.specs.Turning.{TurnsTo, Waits, WaitsOn, counted};
 
 use crate::Break;
@@ -76,17 +76,15 @@ impl<'p, S: LinkStore + Drop, F: Fn(u64, u64) -> u64 + Drop> Session<'p, S, F> {
     ) -> Result<(), NoMemory>
         requires run { EngineCanTurn (S.heap fresh.machine.store) fresh.plain.now.rules fresh.codes fresh.size }
         requires chooser { AnswersBelow F.pre F.post fresh.chooser.f }
-        requires first { fresh.commits ≡ 0 }
         requires same { (fresh.plain.now ≡ self.old.engine.plain.now) × (fresh.size ≡ self.old.engine.size) }
-        requires commits { self.old.engine.commits < 2 ^ 62 }
-        ensures back { OnOk result ((c : Choosing) → Gives F.post fresh.entry.chooser.f c → (names : List Name) (first : Region) → HoldsRegion names fresh.entry.plain.now.rules (S.heap fresh.entry.machine.store) first →
-            StandsAt names fresh.entry.plain.now.rules (course c fresh.entry.size first) self.new.engine.commits (S.heap self.new.engine.machine.store)) }
-        ensures number { OnOk result (self.new.engine.commits ≡ self.old.engine.commits - n) }
-        ensures again { OnOk result (EngineCanTurn (S.heap self.new.engine.machine.store) self.new.engine.plain.now.rules self.new.engine.codes self.new.engine.size) }
-        ensures keeps { OnOk result (self.new.engine ≡ record fresh.entry { machine = self.new.engine.machine; commits = self.new.engine.commits }) }
+        requires commits { (fresh.commits ≡ 0) × (self.old.engine.commits < 2 ^ 62) }
+        ensures back { OnOk result (let e = fresh.entry in let e' = self.new.engine in AlongEachCourse F.post e.chooser.f e.size (λ names g. HoldsRegion names e.plain.now.rules (S.heap e.machine.store) g.first →
+            StandsAt names e.plain.now.rules g e'.commits (S.heap e'.machine.store))) }
+        ensures engine { OnOk result (let e' = self.new.engine in (e'.commits ≡ self.old.engine.commits - n) × EngineCanTurn (S.heap e'.machine.store) e'.plain.now.rules e'.codes e'.size
+            × (e' ≡ record fresh.entry { machine = e'.machine; commits = e'.commits })) }
         ensures same { OnErr result (self.new ≡ self.old) }
-        ensures lacks { OnErr result ((c : Choosing) → Gives F.post fresh.entry.chooser.f c → (names : List Name) (first : Region) → HoldsRegion names fresh.entry.plain.now.rules (S.heap fresh.entry.machine.store) first →
-            let g = course c fresh.entry.size first in StandsAt names fresh.entry.plain.now.rules g self.old.engine.commits (S.heap self.old.engine.machine.store) → (t' : ℕ) × Stepped g 0 (self.old.engine.commits - n) Stop.NoMemory t') }
+        ensures lacks { OnErr result (let e = fresh.entry in let was = self.old.engine in AlongEachCourse F.post e.chooser.f e.size (λ names g. HoldsRegion names e.plain.now.rules (S.heap e.machine.store) g.first →
+            LacksToGoBack names e.plain.now.rules g was.commits (S.heap was.machine.store) n)) }
     {
         let mut replay = Session::start(fresh);
         let number = self.engine.commits().saturating_sub(n);
@@ -146,10 +144,9 @@ impl<'p, S: LinkStore, F: Fn(u64, u64) -> u64> Session<'p, S, F> {
     pub fn step<L: Ledger>(&mut self, alloc: Global, n: u64, steps: &mut Steps<L>) -> Stop
         requires run { EngineCanTurn (S.heap self.old.engine.machine.store) self.old.engine.plain.now.rules self.old.engine.codes self.old.engine.size }
         requires chooser { AnswersBelow F.pre F.post self.old.engine.chooser.f }
-        requires commits { self.old.engine.commits < 2 ^ 62 }
-        requires n { n ≤ 2 ^ 62 }
-        ensures stepped { (c : Choosing) → Gives F.post self.old.engine.chooser.f c → (names : List Name) (first : Region) → let table = self.old.engine.plain.now.rules in let g = course c self.old.engine.size first in
-            StandsAt names table g self.old.engine.commits (S.heap self.old.engine.machine.store) → StandsStepped names table g self.old.engine.commits n result self.new.engine.commits (S.heap self.new.engine.machine.store) }
+        requires few { (self.old.engine.commits < 2 ^ 62) × (n ≤ 2 ^ 62) }
+        ensures stepped { let e = self.old.engine in let e' = self.new.engine in AlongEachCourse F.post e.chooser.f e.size
+            (λ names g. StepsFrom names e.plain.now.rules g e.commits (S.heap e.machine.store) n result e'.commits (S.heap e'.machine.store)) }
         ensures again { EngineCanTurn (S.heap self.new.engine.machine.store) self.new.engine.plain.now.rules self.new.engine.codes self.new.engine.size }
         ensures keeps { self.new.engine ≡ record self.old.engine { machine = self.new.engine.machine; commits = self.new.engine.commits } }
         ensures all { result ≡ Stop.Done → self.new.engine.commits ≡ self.old.engine.commits + n }
@@ -176,8 +173,8 @@ impl<'p, S: LinkStore, F: Fn(u64, u64) -> u64> Session<'p, S, F> {
         requires chooser { AnswersBelow F.pre F.post self.old.engine.chooser.f }
         requires stop { AnswersSo G.pre G.post stop.now.f stop.now.op stop.now.n }
         requires commits { self.old.engine.commits < 2 ^ 62 }
-        ensures waited { (c : Choosing) → Gives F.post self.old.engine.chooser.f c → (names : List Name) → HasNames names (label_names functor.label) → (first : Region) → let table = self.old.engine.plain.now.rules in let g = course c self.old.engine.size first in
-            StandsAt names table g self.old.engine.commits (S.heap self.old.engine.machine.store) → StandsWaited names table g (wish functor stop.now.op stop.now.n) self.old.engine.commits result self.new.engine.commits (S.heap self.new.engine.machine.store) }
+        ensures waited { let e = self.old.engine in let e' = self.new.engine in AlongEachCourse F.post e.chooser.f e.size
+            (λ names g. WaitsFrom names e.plain.now.rules g (wish functor stop.now.op stop.now.n) e.commits (S.heap e.machine.store) result e'.commits (S.heap e'.machine.store)) }
         ensures again { EngineCanTurn (S.heap self.new.engine.machine.store) self.new.engine.plain.now.rules self.new.engine.codes self.new.engine.size }
         ensures keeps { self.new.engine ≡ record self.old.engine { machine = self.new.engine.machine; commits = self.new.engine.commits } }
         ensures most { self.new.engine.commits ≤ self.old.engine.commits + most_turns }

@@ -1,5 +1,5 @@
 use Rattle.std.proofs.Common.{sym, ap, subst, ◌∙◌, Result, Ok, Err, arith}
-use Rattle.std.specs.Result.{OnErr, OnOk}
+use Rattle.std.specs.Result.{OnErr}
 use Rattle.std.proofs.lemmas.Result.{on_ok_weaker}
 use Rattle.lmn_schedule.specs.Held.{EngineCanTurn, HoldsRegion}
 use Rattle.lmn_schedule.specs.Turning.{Gives}
@@ -27,11 +27,6 @@ returns-clause-back g c =
 pub back-requires-clause-chooser : goal.back-requires-clause-chooser
 back-requires-clause-chooser g c = rw c.in_ok-fresh.ensures.keeps.1 c.requires.chooser
 
--- what two facts of an answer say together
-together : {T E P Q R : Type 0} (r : Result T E) → (P → Q → R) → OnOk r P → OnOk r Q → OnOk r R
-together (Ok v) f p q = f p q
-together (Err e) f p q = tt
-
 -- what holds holds of each answer
 anyway : {T E P : Type 0} (r : Result T E) → P → OnErr r P
 anyway (Ok v) p = tt
@@ -40,12 +35,20 @@ anyway (Err e) p = p
 pub returns-clause-lacks : goal.returns-clause-lacks
 returns-clause-lacks g c = anyway c.back.result (omega arith)
 
+pub returns-clause-number : goal.returns-clause-number
+returns-clause-number g c = on_ok_weaker c.back.result (λ now. now.0) c.back.ensures.engine
+
+pub returns-clause-same : goal.returns-clause-same
+returns-clause-same g c =
+    let keeps = c.in_ok-fresh.ensures.keeps in
+    on_ok_weaker c.back.result (λ now. (ap (λ e. e.plain.now) now.2 ∙ keeps.0, ap (λ e. e.chooser.f) now.2 ∙ keeps.1, ap (λ e. e.size) now.2 ∙ keeps.2)) c.back.ensures.engine
+
 pub returns-clause-again : goal.returns-clause-again
 returns-clause-again g c =
     let keeps = c.in_ok-fresh.ensures.keeps in
     let h' = heap_of c.back.new.self.engine.machine.store in
-    together c.back.result (λ again same.
-    let rules = ap (λ e. e.plain.now.rules) same ∙ ap (λ p. p.rules) keeps.0 in
-    let size = ap (λ e. e.size) same ∙ keeps.2 in
-    subst (λ s. EngineCanTurn h' c.args.beginning.now.plain.now.rules c.back.new.self.engine.codes s) size (subst (λ rules. EngineCanTurn h' rules c.back.new.self.engine.codes c.back.new.self.engine.size) rules again))
-    c.back.ensures.again c.back.ensures.keeps
+    on_ok_weaker c.back.result (λ now.
+    let rules = ap (λ e. e.plain.now.rules) now.2 ∙ ap (λ p. p.rules) keeps.0 in
+    let size = ap (λ e. e.size) now.2 ∙ keeps.2 in
+    subst (λ s. EngineCanTurn h' c.args.beginning.now.plain.now.rules c.back.new.self.engine.codes s) size (subst (λ rules. EngineCanTurn h' rules c.back.new.self.engine.codes c.back.new.self.engine.size) rules now.1))
+    c.back.ensures.engine

@@ -22,7 +22,7 @@ returns-clause-obeyed g c k gives named S first stands =
     let new = g.O.Sink.told c.tell.new.out in
     let before = moved (λ f T n. Gives (λ f t m r. g.F.Fn.post f (t, (m, tt)) r) f k × StandsAt names T (course k n S) t h) (sym same.1) (sym same.0) (sym same.2) (gives, stands) in
     let s = moved (λ f T n. StandsWaited names T (course k n S) (wish c.args.functor c.new-stop.result.op c.new-stop.result.n) t why t' h') same.1 same.0 same.2
-    (c.until-why.ensures.waited k before.0 names c.requires.order S before.1) in
+    (c.until-why.ensures.waited k before.0 names S c.requires.order before.1) in
     let g' = course k c.args.beginning.now.size S in
     let w = subst (λ op. StandsWaited names table g' (wish c.args.functor op c.args.n) t why t' h') asked.1 (subst (λ n. StandsWaited names table g' (wish c.args.functor c.new-stop.result.op n) t why t' h') asked.2 s) in
     until_obeyed names table g' t c.args.functor c.args.op c.args.n why t' h' old new c.tell.result w

@@ -16,7 +16,7 @@ returns-in-Done-clause-back g c k gives names first held =
     let e = c.start-replay.ensures in
     let n' = c.step.new.self.engine.commits in
     let h' = g.S.LinkStore.heap c.step.new.self.engine.machine.store in
-    let at_fresh : StandsAt names table over fresh.commits h = subst (λ n. StandsAt names table over n h) (sym c.requires.first) (stands_first names table over h held) in
+    let at_fresh : StandsAt names table over fresh.commits h = subst (λ n. StandsAt names table over n h) (sym c.requires.commits.0) (stands_first names table over h held) in
     let gives' = subst (λ w. Gives (λ f t m r. g.F.Fn.post f (t, (m, tt)) r) w.chooser.f k) (sym e) gives in
     let at = subst (λ w. StandsAt names w.plain.now.rules (course k w.size first) w.commits (g.S.LinkStore.heap w.machine.store)) (sym e) at_fresh in
     subst (λ w. StandsAt names w.plain.now.rules (course k w.size first) n' h') e (stands_stepped names _ _ (c.step.ensures.stepped k gives' names first at))
@@ -31,12 +31,12 @@ returns-in_default-clause-lacks g c k gives names first held s =
     let number = c.saturating_sub-number.result in
     let commits = c.args.self.now.engine.commits in
     let n' = c.step.new.self.engine.commits in
-    let at_fresh : StandsAt names table over fresh.commits h = subst (λ n. StandsAt names table over n h) (sym c.requires.first) (stands_first names table over h held) in
+    let at_fresh : StandsAt names table over fresh.commits h = subst (λ n. StandsAt names table over n h) (sym c.requires.commits.0) (stands_first names table over h held) in
     let gives' = subst (λ w. Gives (λ f t m r. g.F.Fn.post f (t, (m, tt)) r) w.chooser.f k) (sym e) gives in
     let at = subst (λ w. StandsAt names w.plain.now.rules (course k w.size first) w.commits (g.S.LinkStore.heap w.machine.store)) (sym e) at_fresh in
     let replayed : Stepped over fresh.commits number c.step.result n' =
     subst (λ w. Stepped (course k w.size first) w.commits number c.step.result n') e (c.step.ensures.stepped k gives' names first at).stepped in
-    let from_first : Stepped over 0 number c.step.result n' = subst (λ t. Stepped over t number c.step.result n') c.requires.first replayed in
+    let from_first : Stepped over 0 number c.step.result n' = subst (λ t. Stepped over t number c.step.result n') c.requires.commits.0 replayed in
     let is : number ≡ commits - c.args.n = c.saturating_sub-number.ensures ∙ ap (λ t. t - c.args.n) c.commits.ensures in
     let up : number ≤ commits = omega (arith, is) in
     subst (λ j. (t' : ℕ) × Stepped over 0 j stop.NoMemory t') is (memory_lacked over commits number n' s.solid s.is up c.step.result c.in_default.not-Done from_first)

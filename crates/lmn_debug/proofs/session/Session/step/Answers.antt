@@ -12,8 +12,8 @@ pub turn-requires-clause-commits : goal.turn-requires-clause-commits
 turn-requires-clause-commits g c =
     let l = c.loop-test.true in
     let e = c.loop.invariant.count in
-    let a = c.requires.commits in
-    let b = c.requires.n in
+    let a = c.requires.few.0 in
+    let b = c.requires.few.1 in
     omega (arith, l, e, a, b)
 
 pub returns-in-Some-clause-stepped : goal.returns-in-Some-clause-stepped

@@ -29,7 +29,7 @@ wait-requires-clause-commits g c =
     omega (arith, l, e, a)
 
 pub returns-in-Some-clause-waited : goal.returns-in-Some-clause-waited
-returns-in-Some-clause-waited g c k gives names known first s =
+returns-in-Some-clause-waited g c k gives names first known s =
     let start = c.args.self.now.engine in
     let engine = c.loop.self.engine in
     let keeps = c.loop.invariant.keeps in
@@ -76,7 +76,7 @@ loop-preserved g c =
     }
 
 pub returns-then-met-clause-waited : goal.returns-then-met-clause-waited
-returns-then-met-clause-waited g c k gives names known first s =
+returns-then-met-clause-waited g c k gives names first known s =
     let start = c.args.self.now.engine in
     let engine = c.loop.self.engine in
     let keeps = c.loop.invariant.keeps in
@@ -99,7 +99,7 @@ returns-then-met-clause-keeps g c =
     asked ∙ sym (λ i. record c.loop.self.engine { machine = engine.machine; commits = (asked i).commits }) ∙ (λ i. record (c.loop.invariant.keeps i) { machine = engine.machine; commits = engine.commits })
 
 pub returns-else-met-clause-waited : goal.returns-else-met-clause-waited
-returns-else-met-clause-waited g c k gives names known first s =
+returns-else-met-clause-waited g c k gives names first known s =
     let start = c.args.self.now.engine in
     let engine = c.loop.self.engine in
     let keeps = c.loop.invariant.keeps in
