@@ -8,7 +8,7 @@ use Rattle.lmn_store_heap.specs.Sound.{IsTree, flat}
 use Rattle.lmn_instr_code.specs.declared.instr.Code.{Code}
 use Rattle.lmn_schedule_strategy.specs.Counting.{awake_of, rule_count}
 use Rattle.lmn_app_drive.specs.Asking.{AwakeRun, awake_rules, starts, turns_on}
-use Rattle.lmn_app_drive.specs.Examples.{AwakeMayBeAsked, SleepersAreNotAsked}
+use Rattle.lmn_app_drive.specs.Examples.{AwakeMayBeAsked, InputsHaveSizes, SleepersAreNotAsked}
 
 -- as many are asked as may be
 pub awake_may_be_asked : AwakeMayBeAsked
@@ -37,3 +37,7 @@ sleepers_are_not_asked c table codes size h asleep h' begun counted a =
     let up = a.rises.rises in
     let within = a.rises.within in
     omega (arith, none, sum, up, within)
+
+-- what is said of each input
+pub inputs_have_sizes : InputsHaveSizes
+inputs_have_sizes names table h options c S holds = ((λ T held. refl), (λ all. let e = all S holds in omega (arith, e)))

@@ -1,5 +1,5 @@
 //! Laws of runs and of their texts, and examples: each the contract of an empty function.
-ghost use Rattle.lmn_app_drive.specs.Examples.{AwakeMayBeAsked, FoldedRunIsWritten, FullRunIsWritten, SleepersAreNotAsked};
+ghost use Rattle.lmn_app_drive.specs.Examples.{AwakeMayBeAsked, FoldedRunIsWritten, FullRunIsWritten, InputsHaveSizes, SleepersAreNotAsked};
 ghost use Rattle.lmn_app_drive.specs.Laws.{AnswersAreExact, TextsAreOne};
 
 /// Where the trace ends, the answer names this end, and where it goes on the answer is `NoMemory`, unless it is `Failed`.
@@ -34,4 +34,10 @@ pub fn awake_may_be_asked()
 /// Where all membranes sleep no rule is asked without a commit.
 pub fn sleepers_are_not_asked()
     ensures { SleepersAreNotAsked }
+{}
+
+/// What is said of each input of a run by an engine with a size.
+#[tactic(auto, using(crate::proofs::ExampleRuns::inputs_have_sizes))]
+pub fn inputs_have_sizes()
+    ensures { InputsHaveSizes }
 {}

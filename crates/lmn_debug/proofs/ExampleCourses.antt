@@ -3,6 +3,7 @@ use Rattle.std.proofs.Common.{ℕ, ◌≡◌, ◌<◌, ◌≤◌, List, [], ◌�
 use Rattle.std.specs.Prelude.{All, drop}
 use Rattle.std.proofs.lemmas.List.{length-append}
 use Rattle.std.proofs.lemmas.List.Elements.{All-nil, All-cons}
+use Rattle.lmn_base.specs.Names.{HasNames, label_names}
 use Rattle.lmn_base.specs.declared.guard.Cmp.TheVariants.{Ge, Eq}
 use Rattle.lmn_congruence.specs.Regions.{Region, SolidAtom, solid_atom_with}
 use Rattle.lmn_congruence.specs.Rules.{Label, named, integer}
@@ -11,7 +12,7 @@ use Rattle.lmn_adequacy.specs.Examples.{growing, root_first}
 use Rattle.lmn_adequacy.specs.Runs.{Chooser, Trace, Ends, loaded, turned, full, too_many}
 use Rattle.lmn_debug.specs.Counts.{HasFunctor, IsCount, none, one, other}
 use Rattle.lmn_debug.specs.Courses.{IsAt, Meets, Wish, most_commits, wish}
-use Rattle.lmn_debug.specs.Examples.{CountsAtEveryDepth, CountsStandSo, StepsStop, WaitsStop, functor_a, growing_course, names_a}
+use Rattle.lmn_debug.specs.Examples.{CountsAtEveryDepth, CountsStandSo, CoursesHaveSizes, SessionsStand, StepsStop, WaitsStop, functor_a, growing_course, names_a}
 use Rattle.lmn_debug.proofs.CountLemmas.{so_once}
 use Rattle.lmn_debug.proofs.Traces.{goes_on}
 use Rattle.lmn_debug.proofs.Turns.{unmet_in}
@@ -80,6 +81,10 @@ count_one = one is_a none
 count_two : IsCount names_a functor_a two_a 2
 count_two = one is_a (one is_a none)
 
+-- the list of names has that of `a/0`
+known_a : HasNames names_a (label_names functor_a.label)
+known_a = All-cons (λ n. n < 1) 0 [] (omega arith) (All-nil (λ n. n < 1))
+
 module _ (trace : Trace root_first 5 3 one_a (one_a ∷ []) two_a) (end : Ends root_first 5 3 1 two_a full) where
   at_one : IsAt growing_course 1 two_a
   at_one = record { before = one_a ∷ []; trace = longer (omega arith) trace; count = refl }
@@ -126,3 +131,32 @@ module _ (trace : Trace root_first 5 3 one_a (one_a ∷ []) two_a) (end : Ends r
       stops = ((omega arith, omega arith), not_so 2 3 two_a count_two (λ e. omega (arith, e)), ends);
     },
   )
+
+  -- what a session's calls do
+  pub sessions_stand : SessionsStand
+  unfolding at_one
+  sessions_stand table h h' stands holds = (
+    (λ s. record { stepped = record { solid = two_a; is = at_one; stops = omega arith }; holds = holds }),
+    (λ s. let w = (s stands).stepped.stops.0.1 in omega (arith, w)),
+    (λ known s. record {
+      waited = record {
+        solid = two_a;
+        is = at_one;
+        none_before = none_there (wish functor_a Eq 2) (not_so 1 2 one_a count_one (λ e. omega (arith, e)));
+        stops = (omega arith, omega arith, (2, count_two, refl));
+      };
+      holds = holds;
+    }),
+    (λ w. let s = (w known_a stands).waited in
+        let there = only_first s.is.trace s.is.count in
+        not_so 1 2 s.solid (subst (λ S. IsCount names_a functor_a S 1) (sym there) count_one) (λ e. omega (arith, e)) s.stops.2),
+    (λ s. let u = goes_on growing_course 1 two_a at_one 0 (omega arith) in (0, record { solid = u.0; is = u.1; stops = ((omega arith, omega arith), u.2) })),
+    (λ s. let w = (s stands).1.stops.0 in let a = w.0 in let b = w.1 in omega (arith, a, b)),
+  )
+
+-- what is said of each course
+pub courses_have_sizes : CoursesHaveSizes
+courses_have_sizes = (
+  (λ c gives names first. refl),
+  (λ all. let e = all root_first (λ t m r l k some is. is) [] one_a in omega (arith, e)),
+)

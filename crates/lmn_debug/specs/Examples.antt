@@ -1,15 +1,19 @@
 -- Small counts, and commands of a session on a small course.
-use Rattle.std.specs.Prelude.{List, [], ◌∷◌}
+use Rattle.std.specs.Prelude.{ℕ, ◌≡◌, List, [], ◌∷◌}
 use Rattle.lmn_base.specs.declared.functor.Functor.{Functor}
 use Rattle.lmn_base.specs.declared.functor.Label.TheVariants as label
 use Rattle.lmn_base.specs.declared.guard.Cmp.TheVariants.{Lt, Le, Gt, Ge, Eq, Ne}
+use Rattle.lmn_base.specs.declared.rule.RuleTree.{RuleTree}
+use Rattle.lmn_store_heap.specs.Heap.{Heap}
 use Rattle.lmn_congruence.specs.Regions.{Region, no_region, region, region_and, solid_atom_with}
 use Rattle.lmn_congruence.specs.Rules.{Name}
 use Rattle.lmn_reduction.specs.Examples.{label_a, label_b}
 use Rattle.lmn_adequacy.specs.Examples.{growing, root_first}
+use Rattle.lmn_schedule.specs.Held.{HoldsRegion}
 use Rattle.lmn_debug.specs.Breaks.{StandsSo}
 use Rattle.lmn_debug.specs.Counts.{IsCount}
 use Rattle.lmn_debug.specs.Courses.{Course, Stepped, Waited, course, wish}
+use Rattle.lmn_debug.specs.Sessions.{AlongEachCourse, LacksToGoBack, StandsAt, StepsFrom, WaitsFrom}
 use Rattle.lmn_debug.specs.declared.session.Stop.TheVariants.{Done, Full, Met, NoMemory}
 
 -- 2 stands so to 2, or it doesn't
@@ -46,3 +50,16 @@ abbrev pub WaitsStop : Type 0
 WaitsStop =
     Waited names_a growing_course (wish functor_a Eq 2) 0 Met 1 × (¬ (Waited names_a growing_course (wish functor_a Eq 2) 0 Met 0))
     × (¬ (Waited names_a growing_course (wish functor_a Ge 1) 0 Met 1)) × Waited names_a growing_course (wish functor_a Eq 3) 0 Full 1
+
+-- A session over this course that stands at 0, whatever the heap: `step 1` is done where the heap then holds the second solid, and doesn't
+-- stop there as full; `until a/0 =:= 2` stops there, and not at once. To go back by nothing memory may be wanting at 1, and not at 0.
+abbrev pub SessionsStand : Type 0
+SessionsStand = (table : List RuleTree) (h h' : Heap) → StandsAt names_a table growing_course 0 h →
+    HoldsRegion names_a table h' (growing (solid_atom_with label_a [] ∷ solid_atom_with label_a [] ∷ [])) →
+    StepsFrom names_a table growing_course 0 h 1 Done 1 h' × (¬ (StepsFrom names_a table growing_course 0 h 1 Full 1 h'))
+    × WaitsFrom names_a table growing_course (wish functor_a Eq 2) 0 h Met 1 h' × (¬ (WaitsFrom names_a table growing_course (wish functor_a Eq 2) 0 h Met 0 h))
+    × LacksToGoBack names_a table growing_course 1 h' 0 × (¬ (LacksToGoBack names_a table growing_course 0 h 0))
+
+-- Each course with the size 3 has this size, and with a closure that answers 0 none has another.
+abbrev pub CoursesHaveSizes : Type 0
+CoursesHaveSizes = AlongEachCourse {F = ℕ} (λ f t m r. r ≡ f) 0 3 (λ names g. g.size ≡ 3) × (¬ (AlongEachCourse {F = ℕ} (λ f t m r. r ≡ f) 0 3 (λ names g. g.size ≡ 4)))

@@ -1,5 +1,5 @@
 //! Small counts, and commands of a session on a small course: each the contract of an empty function.
-ghost use Rattle.lmn_debug.specs.Examples.{CountsAtEveryDepth, CountsStandSo, StepsStop, WaitsStop};
+ghost use Rattle.lmn_debug.specs.Examples.{CountsAtEveryDepth, CountsStandSo, CoursesHaveSizes, SessionsStand, StepsStop, WaitsStop};
 
 use lmn_adequacy::examples::traces_end;
 
@@ -26,3 +26,15 @@ pub fn waits_stop()
 {
     traces_end();
 }
+
+/// What a session's calls do that stands at the first solid of `a. a :- a, a.`, with the size 3.
+pub fn sessions_stand()
+    ensures { SessionsStand }
+{
+    traces_end();
+}
+
+/// What is said of each course with a size.
+pub fn courses_have_sizes()
+    ensures { CoursesHaveSizes }
+{}
