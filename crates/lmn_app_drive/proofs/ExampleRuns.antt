@@ -40,4 +40,4 @@ sleepers_are_not_asked c table codes size h asleep h' begun counted a =
 
 -- what is said of each input
 pub inputs_have_sizes : InputsHaveSizes
-inputs_have_sizes names table h options c S holds = ((λ T held. refl), (λ all. let e = all S holds in omega (arith, e)))
+inputs_have_sizes names table h options c S holds = ((λ T held. refl), (λ all. let e : ◌≡◌ {A = ℕ} 3 4 = all S holds in omega (arith, e)))

@@ -158,5 +158,5 @@ module _ (trace : Trace root_first 5 3 one_a (one_a ∷ []) two_a) (end : Ends r
 pub courses_have_sizes : CoursesHaveSizes
 courses_have_sizes = (
   (λ c gives names first. refl),
-  (λ all. let e = all root_first (λ t m r l k some is. is) [] one_a in omega (arith, e)),
+  (λ all. let e : ◌≡◌ {A = ℕ} 3 4 = all root_first (λ t m r l k some is. is) [] one_a in omega (arith, e)),
 )

@@ -35,3 +35,6 @@ returns-in-Ok g c = λ program a.
     (c.debug-end.ensures.debugged (chosen First) c.requires.gives known held) in
     subst (λ ending. EndsDebugged program c.args.script.now ending old new count count') (sym c.ending_of.ensures)
     (debugged_ended behind program c.args.script.now c.args.names.now read.plain read.plans a later adds c.len.ensures.names _ c.requires.fits held c.in-Ok.orders c.in-Ok.ensures.ok c.debug-end.result old new count count' did c.debug-end.ensures.counts)
+
+pub debug-end-requires-clause-run : goal.debug-end-requires-clause-run
+debug-end-requires-clause-run g c = (c.requires.run, c.requires.engine.3)

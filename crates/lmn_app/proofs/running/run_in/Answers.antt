@@ -56,3 +56,6 @@ returns-in-Err-Size g c text before after a =
     let causes = subst (LoadCauses plain c.args.settings.now.size) c.in-Err-Size.field-0-is c.in-Err-Size.ensures.fault in
     too_large_ended c.args.settings.now text names plain plans c.in-Err-Size.field-0-0 a can.made can.closed causes
     (g.O.Sink.told c.args.out.now) (g.O.Sink.faults c.args.out.now) before after
+
+pub drive-end-requires-clause-run : goal.drive-end-requires-clause-run
+drive-end-requires-clause-run g c = (c.in-Ok.ensures.run.0, c.in-Ok.ensures.keeps.0, c.in-Ok.ensures.keeps.3)

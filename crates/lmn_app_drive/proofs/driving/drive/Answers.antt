@@ -1,5 +1,6 @@
-use Rattle.std.proofs.Common.{ℕ, ◌≡◌, sym, subst}
+use Rattle.std.proofs.Common.{ℕ, ◌≡◌, ◌∙◌, refl, sym, subst}
 use Rattle.lmn_io.proofs.TakingLemmas.{none_more, none_then_last}
+use Rattle.lmn_schedule.specs.Held.{EngineCanTurn}
 use Rattle.lmn_store_heap.proofs.Common.{moved}
 use Rattle.lmn_app_drive.specs.Asking.{AsksFew}
 use Rattle.lmn_app_drive.specs.Answers.{DroveByAnswers, StoppedByAnswers}
@@ -63,3 +64,28 @@ pub returns-in-Ok-clause-asks : goal.returns-in-Ok-clause-asks
 returns-in-Ok-clause-asks g c =
     moved (λ n h. AsksFew (λ t m r. g.F.Fn.post c.args.engine.now.chooser.f (t, (m, tt)) r) c.args.plain.now.rules c.args.engine.now.codes c.args.engine.now.size (g.S.LinkStore.heap c.args.engine.now.machine.store) n h c.args.steps.now c.run.new.steps)
     (λ i. (c.conclude.ensures.keeps i).commits) c.conclude.ensures.kept c.run.ensures.asks
+
+pub run-requires-clause-run : goal.run-requires-clause-run
+run-requires-clause-run g c = c.requires.run.0
+
+pub run-requires-clause-plain : goal.run-requires-clause-plain
+run-requires-clause-plain g c = c.requires.run.1
+
+pub run-requires-clause-commits : goal.run-requires-clause-commits
+run-requires-clause-commits g c = c.requires.run.2
+
+pub returns-in-Ok-clause-engine : goal.returns-in-Ok-clause-engine
+returns-in-Ok-clause-engine g c =
+    let was = c.args.engine.now in
+    let mid = c.run.new.engine in
+    let now = c.conclude.new.engine in
+    let done = c.conclude.ensures.keeps in (
+      subst (λ h. EngineCanTurn h c.args.plain.now.rules was.codes was.size) (sym c.conclude.ensures.kept) c.run.ensures.again,
+      done ∙ sym (λ i. record mid { machine = now.machine; commits = (done i).commits }) ∙ (λ i. record (c.run.ensures.keeps i) { machine = now.machine; commits = now.commits }),
+    )
+
+pub returns-in-Err-clause-engine : goal.returns-in-Err-clause-engine
+returns-in-Err-clause-engine g c = (c.run.ensures.again, c.run.ensures.keeps)
+
+pub returns-in-Err-clause-faults : goal.returns-in-Err-clause-faults
+returns-in-Err-clause-faults g c = ((λ n. absurd (n refl)), (λ e. c.in-Err.ensures.rose))

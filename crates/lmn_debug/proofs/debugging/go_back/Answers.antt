@@ -52,3 +52,6 @@ returns-clause-again g c =
     let size = ap (λ e. e.size) now.2 ∙ keeps.2 in
     subst (λ s. EngineCanTurn h' c.args.beginning.now.plain.now.rules c.back.new.self.engine.codes s) size (subst (λ rules. EngineCanTurn h' rules c.back.new.self.engine.codes c.back.new.self.engine.size) rules now.1))
     c.back.ensures.engine
+
+pub back-requires-clause-commits : goal.back-requires-clause-commits
+back-requires-clause-commits g c = (c.in_ok-fresh.ensures.keeps.3, c.requires.commits)

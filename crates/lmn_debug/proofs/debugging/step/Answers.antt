@@ -1,4 +1,4 @@
-use Rattle.std.proofs.Common.{sym, subst}
+use Rattle.std.proofs.Common.{◌≤◌, sym, subst, arith}
 use Rattle.lmn_schedule.specs.Turning.{Gives}
 use Rattle.lmn_store_web.specs.WebHeaps.{heap_of}
 use Rattle.lmn_debug.specs.Courses.{course}
@@ -23,3 +23,8 @@ returns-clause-obeyed g c k gives named S first stands =
     let s = moved (λ f T n. StandsStepped names T (course k n S) t c.args.n why t' h') same.1 same.0 same.2 (c.step-stop.ensures.stepped k before.0 names S before.1) in
     step_obeyed names table (course k c.args.beginning.now.size S) t c.args.n why t' h' old new c.tell.result s
     (subst (λ m. LineTold m why old new c.tell.result) c.commits.ensures c.tell.ensures.told)
+
+pub step-stop-requires-clause-few : goal.step-stop-requires-clause-few
+step-stop-requires-clause-few g c =
+    let few : c.args.n ≤ 1000000 = c.requires.order in
+    (c.requires.commits, omega (arith, few))

@@ -40,3 +40,20 @@ returns-in_default-clause-lacks g c k gives names first held s =
     let is : number ≡ commits - c.args.n = c.saturating_sub-number.ensures ∙ ap (λ t. t - c.args.n) c.commits.ensures in
     let up : number ≤ commits = omega (arith, is) in
     subst (λ j. (t' : ℕ) × Stepped over 0 j stop.NoMemory t') is (memory_lacked over commits number n' s.solid s.is up c.step.result c.in_default.not-Done from_first)
+
+pub step-requires-clause-few : goal.step-requires-clause-few
+step-requires-clause-few g c =
+    let zero : c.start-replay.result.engine.commits ≡ 0 = (λ i. (c.start-replay.ensures i).commits) ∙ c.requires.commits.0 in
+    let is = c.saturating_sub-number.ensures in
+    let here = c.commits.ensures in
+    let few = c.requires.commits.1 in
+    (omega (arith, zero), omega (arith, is, here, few))
+
+pub returns-in-Done-clause-engine : goal.returns-in-Done-clause-engine
+returns-in-Done-clause-engine g c =
+    let now = c.step.new.self.engine in
+    let zero : c.start-replay.result.engine.commits ≡ 0 = (λ i. (c.start-replay.ensures i).commits) ∙ c.requires.commits.0 in
+    let is = c.saturating_sub-number.ensures in
+    let here = c.commits.ensures in
+    let all = c.step.ensures.all c.in-Done.is in
+    (omega (arith, zero, is, here, all), c.step.ensures.again, c.step.ensures.keeps ∙ (λ i. record (c.start-replay.ensures i) { machine = now.machine; commits = now.commits }))
