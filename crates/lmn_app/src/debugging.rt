@@ -25,7 +25,7 @@ use lmn_app_accepted::accepted_texts_can_be_loaded;
 use lmn_app_reading::Accepted;
 use lmn_app_words::{PairKind, PairWords};
 use lmn_base::{Names, NoMemory, TextFault};
-use lmn_debug::{DebugFault, debug};
+use lmn_debug::{CountingStore, DebugFault, debug};
 use lmn_debug_script::read_script;
 use lmn_io::{Shelf, Sink};
 use lmn_machine::Steps;
@@ -64,7 +64,7 @@ pub(crate) fn debug_by<F: Shelf, O: Sink>(
             words,
             accepted,
             names,
-            store,
+            CountingStore::new(store),
             shelf,
             out,
             Blank::new(1),
@@ -79,7 +79,7 @@ fn debug_in<F: Shelf, O: Sink, L: Ledger>(
     words: PairWords<'_>,
     accepted: &Accepted,
     names: &mut Names,
-    store: WebStore,
+    store: CountingStore<WebStore>,
     shelf: &mut F,
     out: &mut O,
     blank: Blank,
@@ -131,7 +131,7 @@ fn debug_in<F: Shelf, O: Sink, L: Ledger>(
 /// Reads a script, and carries its orders out over an engine that holds the process of an accepted program.
 fn obey<'p, C: Fn(u64, u64) -> u64 + Copy + Drop, O: Sink, L: Ledger>(
     alloc: Global,
-    engine: Engine<'p, WebStore, C>,
+    engine: Engine<'p, CountingStore<WebStore>, C>,
     accepted: &'p Accepted,
     choose: C,
     names: &mut Names,

@@ -1,11 +1,9 @@
 -- How many atoms of a solid have a functor.
-use Rattle.std.specs.Prelude.{ℕ, ◌⊎◌, ◌≤◌, zero, suc, ◌≡◌, List, [], ◌∷◌, ◌++◌, ◌+◌, length}
+use Rattle.std.specs.Prelude.{ℕ, zero, suc, ◌≡◌, List, [], ◌∷◌, ◌++◌, length}
 use Rattle.lmn_base.specs.declared.functor.Functor.{Functor}
 use Rattle.lmn_congruence.specs.Regions.{Region, Regions, SolidAtom, region, no_region, region_and}
 use Rattle.lmn_congruence.specs.Rules.{Name}
 use Rattle.lmn_congruence.specs.Translation.{label_of}
-use Rattle.lmn_store_heap.specs.Heap.{Heap, atoms_in}
-use Rattle.lmn_store_heap.specs.Functors.{with_functor}
 
 -- the atoms of a region, at every depth
 abbrev mutual
@@ -30,14 +28,3 @@ pub data AreSo (Is : SolidAtom → Type 0) : List SolidAtom → ℕ → Type 0 w
 -- so many atoms of the solid have the functor
 abbrev pub IsCount : List Name → Functor → Region → ℕ → Type 0
 IsCount names f S n = AreSo (HasFunctor names f) (atoms_of S) n
-
--- k, where it is at most `most`, and else `most`; contracts of private functions alone cite it
-pub record IsCapped (k most n : ℕ) : Type 0 where
-  pub within : n ≤ most
-  pub below : n ≤ k
-  pub one : (n ≡ k) ⊎ (n ≡ most)
-
--- how many atoms with the functor stand in some membranes of a heap, without what is in membranes inside them
-abbrev pub count_in : Heap → Functor → List ℕ → ℕ
-count_in h f [] = 0
-count_in h f (m ∷ ms) = length (with_functor h f (atoms_in h m)) + count_in h f ms

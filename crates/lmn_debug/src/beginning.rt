@@ -5,6 +5,7 @@ ghost use Rattle.lmn_schedule.specs.Held.{AreNames, CanBeLoaded, EngineCanTurn, 
 ghost use Rattle.lmn_store_web.specs.WebHeaps.{heap_of};
 
 use lmn_base::{NoMemory, Plain};
+use lmn_debug_counting::CountingStore;
 use lmn_guards::GuardPlan;
 use lmn_order::Chooser;
 use lmn_schedule::Engine;
@@ -23,7 +24,7 @@ pub(crate) struct Beginning<'p, F> {
 
 impl<'p, F: Fn(u64, u64) -> u64 + Copy + Drop> Beginning<'p, F> {
     /// An engine that has made no commit.
-    pub(crate) fn engine(&self, alloc: Global) -> Result<Engine<'p, WebStore, F>, NoMemory>
+    pub(crate) fn engine(&self, alloc: Global) -> Result<Engine<'p, CountingStore<WebStore>, F>, NoMemory>
         requires plain { CanBeLoaded self.now.plain.now self.now.plans.now }
         requires chooser { AnswersBelow F.pre F.post self.now.choose }
         requires size { self.now.size < 2 ^ 64 - 1 }
@@ -37,7 +38,7 @@ impl<'p, F: Fn(u64, u64) -> u64 + Copy + Drop> Beginning<'p, F> {
             alloc,
             self.plain,
             self.plans,
-            store,
+            CountingStore::new(store),
             Chooser::new(self.choose),
             self.size,
         ) {

@@ -1,4 +1,4 @@
-ghost use Rattle.std.specs.Prelude.{◌≡◌, ◌<◌, ◌≤◌, ◌-◌, ◌^◌, ◌↔◌, ◌⊎◌, ℕ, IsTrue};
+ghost use Rattle.std.specs.Prelude.{◌≡◌, ◌↔◌, IsTrue};
 ghost use Rattle.lmn_debug.specs.Breaks.{AnswersSo, StandsSo};
 
 use lmn_base::Cmp;
@@ -20,29 +20,6 @@ impl<G: Fn(u64) -> bool> Break<G> {
         ensures answers { AnswersSo G.pre G.post result.f result.op result.n }
     {
         Break { f, op, n }
-    }
-
-    /// Counts that are at least this one all stand alike: it is more than the number, or there is none that is more.
-    pub(crate) fn enough(&self) -> u64
-        ensures { (self.now.n < result) ⊎ (result ≡ 2 ^ 64 - 1) }
-    {
-        if self.n < u64::MAX {
-            self.n + 1
-        } else {
-            u64::MAX
-        }
-    }
-
-    /// Whether it is known that no count up to this one stands so.
-    pub(crate) fn is_beyond(&self, most: u64) -> bool
-        ensures { IsTrue result → (k : ℕ) → k ≤ most → ¬ (StandsSo self.now.op k self.now.n) }
-    {
-        match self.op {
-            Cmp::Gt => most < self.n,
-            Cmp::Ge => most < self.n,
-            Cmp::Eq => most < self.n,
-            _ => false,
-        }
     }
 
     /// Whether the count stands so.

@@ -16,6 +16,7 @@ use crate::beginning::Beginning;
 use crate::lines::tell;
 use crate::{Break, Session, Stop};
 use lmn_base::{Cmp, Functor, Names, NoMemory, Plain};
+use lmn_debug_counting::CountingStore;
 use lmn_debug_script::Order;
 use lmn_guards::GuardPlan;
 use lmn_io::{Failed, Sink};
@@ -43,7 +44,7 @@ pub enum DebugFault {
 /// `NoMemory` at want of memory, and `Failed` where the sink failed.
 pub fn debug<'p, F: Fn(u64, u64) -> u64 + Copy + Drop, O: Sink, L: Ledger>(
     alloc: Global,
-    engine: Engine<'p, WebStore, F>,
+    engine: Engine<'p, CountingStore<WebStore>, F>,
     plain: &'p Plain,
     plans: &'p [GuardPlan],
     choose: F,

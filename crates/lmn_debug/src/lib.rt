@@ -5,7 +5,6 @@ mod beginning;
 mod break_;
 pub mod carrying_examples;
 mod carrying_laws;
-mod counting;
 mod debugging;
 pub mod examples;
 mod laws;
@@ -20,5 +19,6 @@ pub use debugging::{DebugFault, debug};
 pub use laws::{
     courses_are_one, firsts_stand_at_zero, steps_are_exact, steps_are_taken_back, waits_are_exact,
 };
+pub use lmn_debug_counting::CountingStore;
 pub use lmn_debug_script::{Order, read_script};
 pub use session::{Session, Stop};

@@ -15,8 +15,8 @@ ghost use Rattle.lmn_debug.specs.Sessions.{AlongEachCourse, LacksToGoBack, Stand
 ghost use Rattle.lmn_debug.specs.Turning.{TurnsTo, Waits, WaitsOn, counted};
 
 use crate::Break;
-use crate::counting::{count_atoms, meets};
 use lmn_base::{Functor, Names, NoMemory, Plain};
+use lmn_debug_counting::CountingStore;
 use lmn_io::{Failed, Sink};
 use lmn_machine::Steps;
 use lmn_print::print;
@@ -45,15 +45,15 @@ pub enum Stop {
     NoMemory,
 }
 
-/// An engine that is led by commands.
+/// An engine that is led by commands. Its store counts, so that an order to wait doesn't count anew at each turn.
 #[derive(Drop)]
 pub struct Session<'p, S: LinkStore, F> {
-    engine: Engine<'p, S, F>,
+    engine: Engine<'p, CountingStore<S>, F>,
 }
 
 impl<'p, S: LinkStore + Drop, F: Fn(u64, u64) -> u64 + Drop> Session<'p, S, F> {
     /// A session over an engine that has made no commit.
-    pub fn start(engine: Engine<'p, S, F>) -> Session<'p, S, F>
+    pub fn start(engine: Engine<'p, CountingStore<S>, F>) -> Session<'p, S, F>
         requires run { EngineCanTurn (S.heap engine.machine.store) engine.plain.now.rules engine.codes engine.size }
         requires commits { engine.commits ≡ 0 }
         ensures { result.engine ≡ engine.entry }
@@ -70,7 +70,7 @@ impl<'p, S: LinkStore + Drop, F: Fn(u64, u64) -> u64 + Drop> Session<'p, S, F> {
     pub fn back<L: Ledger>(
         &mut self,
         alloc: Global,
-        fresh: Engine<'p, S, F>,
+        fresh: Engine<'p, CountingStore<S>, F>,
         n: u64,
         steps: &mut Steps<L>,
     ) -> Result<(), NoMemory>
@@ -101,7 +101,7 @@ impl<'p, S: LinkStore + Drop, F: Fn(u64, u64) -> u64 + Drop> Session<'p, S, F> {
 
 impl<'p, S: LinkStore, F: Fn(u64, u64) -> u64> Session<'p, S, F> {
     /// The engine, to be changed. The session then holds it as it was left.
-    pub fn engine(&mut self) -> &mut Engine<'p, S, F>
+    pub fn engine(&mut self) -> &mut Engine<'p, CountingStore<S>, F>
         ensures value { result.now ≡ self.old.engine }
     {
         &mut self.engine
@@ -130,14 +130,14 @@ impl<'p, S: LinkStore, F: Fn(u64, u64) -> u64> Session<'p, S, F> {
         print(self.engine.store(), plain, names, false, out)
     }
 
-    /// How many atoms have the functor, at every depth.
+    /// How many atoms have the functor, at every depth. They are gone through once; the number is then kept, whatever turns are made.
     pub fn count(&mut self, functor: Functor) -> u64
         requires run { EngineCanTurn (S.heap self.old.engine.machine.store) self.old.engine.plain.now.rules self.old.engine.codes self.old.engine.size }
         ensures counts { (names : List Name) (solid : Region) → HoldsRegion names self.old.engine.plain.now.rules (S.heap self.old.engine.machine.store) solid → HasNames names (label_names functor.label) → IsCount names functor solid result }
         ensures kept { S.heap self.new.engine.machine.store ≡ S.heap self.old.engine.machine.store }
         ensures keeps { self.new.engine ≡ record self.old.engine { machine = self.new.engine.machine } }
     {
-        count_atoms(self.engine.store(), functor)
+        self.engine.store().count(functor)
     }
 
     /// At most `n` turns, up to the first that doesn't commit.
@@ -223,7 +223,7 @@ impl<'p, S: LinkStore, F: Fn(u64, u64) -> u64> Session<'p, S, F> {
         ensures again { EngineCanTurn (S.heap self.new.engine.machine.store) self.new.engine.plain.now.rules self.new.engine.codes self.new.engine.size }
         ensures keeps { self.new.engine ≡ record self.old.engine { machine = self.new.engine.machine } }
     {
-        meets(self.engine.store(), functor, stop)
+        stop.met(self.count(functor))
     }
 
     /// One turn: nothing where it commits, and else why it doesn't.

@@ -1,8 +1,8 @@
 use Rattle.std.proofs.Common.{Some, arith}
 use Rattle.lmn_store_heap.specs.Sound.{flat}
-use Rattle.lmn_debug.proofs.CountLemmas.{walk_first, walk_next, walk_fits}
+use Rattle.lmn_debug_counting.proofs.Walks.{walk_first, walk_next, walk_fits}
 use Rattle.lmn_store_trait.proofs.Numbers.{root_number, number_next, number_mem, never_ends}
-use Rattle.lmn_debug.proofs.counting.count_atoms.Goals as goal
+use Rattle.lmn_debug_counting.proofs.counting.count_atoms.Goals as goal
 
 pub loop-init : goal.loop-init
 loop-init g c =

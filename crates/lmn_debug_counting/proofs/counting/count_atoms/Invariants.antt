@@ -2,8 +2,8 @@ use Rattle.std.proofs.Common.{◌≡◌, ◌+◌, Some}
 use Rattle.lmn_store_heap.specs.Heap.{from}
 use Rattle.lmn_store_heap.specs.Sound.{Forest, IsTree, flat}
 use Rattle.lmn_store_trait.proofs.Numbers.{HasNumber}
-use Rattle.lmn_debug.specs.Counts.{count_in}
-use Rattle.lmn_debug.proofs.counting.count_atoms.Given as goal
+use Rattle.lmn_debug_counting.specs.Counts.{count_in}
+use Rattle.lmn_debug_counting.proofs.counting.count_atoms.Given as goal
 
 abbrev pub invariant-loop : goal.invariant-loop
 invariant-loop g l =

@@ -1,7 +1,7 @@
 use Rattle.std.proofs.Common.{arith}
 use Rattle.lmn_store_heap.specs.Heap.{atoms_in}
-use Rattle.lmn_debug.proofs.CountLemmas.{with_few}
-use Rattle.lmn_debug.proofs.counting.count_of_membrane.Goals as goal
+use Rattle.lmn_debug_counting.proofs.Walks.{with_few}
+use Rattle.lmn_debug_counting.proofs.counting.count_of_membrane.Goals as goal
 
 pub returns : goal.returns
 returns g c =

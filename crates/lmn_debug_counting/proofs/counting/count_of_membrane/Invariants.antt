@@ -3,7 +3,7 @@ use Rattle.std.specs.Prelude.{IfSome}
 use Rattle.std.specs.Option.{option_map}
 use Rattle.lmn_store_heap.specs.Heap.{atoms_in, functor_of, home_of, from}
 use Rattle.lmn_store_heap.specs.Functors.{with_functor}
-use Rattle.lmn_debug.proofs.counting.count_of_membrane.Given as goal
+use Rattle.lmn_debug_counting.proofs.counting.count_of_membrane.Given as goal
 
 abbrev pub invariant-loop-counted : goal.invariant-loop-counted
 invariant-loop-counted g l =
