@@ -1,13 +1,13 @@
 -- Each call of a store keeps what a counting store keeps.
-use Rattle.std.proofs.Common.{ℕ, ◌≡◌, ◌≢◌, ◌==◌, ◌&&◌, inl, inr, Bool, true, false, cond, List, [], ◌∷◌, Option, Some, None, IsSome, Result, Ok, Err, refl, sym, ap, subst, ◌∙◌}
+use Rattle.std.proofs.Common.{ℕ, ◌≡◌, ◌==◌, ◌&&◌, inl, inr, Bool, true, false, cond, Option, Some, None, IsSome, Result, Ok, Err, refl, sym, ap, subst, ◌∙◌}
 use Rattle.std.proofs.lemmas.Bool.{cases_eq}
 use Rattle.std.specs.Option.{option_map, option_and_then}
-use Rattle.std.specs.Result.{IfOk, OnErr, OnOk}
+use Rattle.std.specs.Result.{IfOk, OnErr}
 use Rattle.lmn_base.specs.declared.functor.Functor.{Functor}
 use Rattle.lmn_base.specs.Lists.{In}
 use Rattle.lmn_store_heap.specs.Functors.{same_functor}
 use Rattle.lmn_store_heap.specs.Heap.{Heap, HeapAtom, Place, top, within, waiting, gone, IsInPlace, functor_of, place_of, home_by, with_mark, with_link, with_place, atom_sent, sent, new_atom, unless_waiting, unless_gone, marked, made_atom, discarded, finished, placed, taken, moved_all, joined, linked, cleared, link_of}
-use Rattle.lmn_store_heap.specs.Lists.{from, after}
+use Rattle.lmn_store_heap.specs.Lists.{from}
 use Rattle.lmn_store_heap.specs.Sound.{Sound}
 use Rattle.lmn_store_heap.proofs.Listing.{alter_at, alter_away, alter_keeps}
 use Rattle.lmn_debug_counting.specs.Tallies.{Gains, IsKept, Loses, is_within, stands_as}
@@ -134,19 +134,35 @@ gone_not : (f : Functor) (o : Option HeapAtom) → stands_as f (option_map (with
 gone_not f None = refl
 gone_not f (Some x) = refl
 
-pub placed_kept : (h h' : Heap) (old new : Option Tally) (m a : ℕ) → Sound h → from (Some a) h.new_atoms ≡ h.new_atoms → h' ≡ placed h m a → (g : Functor) → functor_of h' a ≡ Some g → Gains (Some g) old new → IsKept h.atoms old → IsKept h'.atoms new
-placed_kept h h' old new m a sound first e g is w k =
+-- a place is that of an atom, which has a functor
+placed_functor : (P : Place) (o : Option HeapAtom) → option_map (λ x. x.place) o ≡ Some P → (g : Functor) × (option_map (λ x. x.functor) o ≡ Some g)
+placed_functor P None e = absurd (cc)
+placed_functor P (Some x) e = (x.functor, refl)
+
+home_functor : (o : Option HeapAtom) → IsSome (option_and_then (λ x. home_by x.place) o) → (g : Functor) × (option_map (λ x. x.functor) o ≡ Some g)
+home_functor None s = absurd (cc)
+home_functor (Some x) s = (x.functor, refl)
+
+put_functor : (m : ℕ) (o : Option HeapAtom) → option_map (λ x. x.functor) (option_map (with_place (within m)) o) ≡ option_map (λ x. x.functor) o
+put_functor m None = refl
+put_functor m (Some x) = refl
+
+pub placed_kept : (h h' : Heap) (old new : Option Tally) (m a : ℕ) → Sound h → from (Some a) h.new_atoms ≡ h.new_atoms → h' ≡ placed h m a → Gains (functor_of h' a) old new → IsKept h.atoms old → IsKept h'.atoms new
+placed_kept h h' old new m a sound first e w k =
     let now = placed h m a in
     let waits : place_of h a ≡ Some waiting = (sound.listed.new_atoms a).0 (subst (λ xs. In a xs) first (inl refl)) in
     let at = alter_at h.atoms a (option_map (with_place (within m))) in
-    let is' : functor_of now a ≡ Some g = ap (λ (s : Heap). functor_of s a) (sym e) ∙ is in
+    let has = placed_functor waiting (h.atoms a) waits in
+    let put = put_functor m (h.atoms a) ∙ has.1 in
+    let is : functor_of now a ≡ Some has.0 = ap (λ (o : Option HeapAtom). option_map (λ x. x.functor) o) at ∙ put in
+    let gains : Gains (Some has.0) old new = subst (λ o. Gains o old new) (ap (λ (s : Heap). functor_of s a) e ∙ is) w in
     kept_by now h' new e
-    (kept_gained h.atoms now.atoms a (λ f j d. ap (stands_as f) (alter_away h.atoms a (option_map (with_place (within m))) j d)) g old new
-    (λ f. waits_not f (h.atoms a) waits)
-    (λ f. ap (stands_as f) at ∙ put_as m g (h.atoms a) (sym (ap (λ (o : Option HeapAtom). option_map (λ x. x.functor) o) at) ∙ is') f) w k)
+    (kept_gained h.atoms now.atoms a (λ f j d. ap (stands_as f) (alter_away h.atoms a (option_map (with_place (within m))) j d)) has.0 old new
+    (λ f. waits_not f (h.atoms a) waits) (λ f. ap (stands_as f) at ∙ put_as m has.0 (h.atoms a) put f) gains k)
 
-pub taken_kept : (h h' : Heap) (old new : Option Tally) (a : ℕ) → IsInPlace h a → h' ≡ taken h a → (g : Functor) → functor_of h a ≡ Some g → Loses (Some g) old new → IsKept h.atoms old → IsKept h'.atoms new
-taken_kept h h' old new a stands e g is w k =
+pub taken_kept : (h h' : Heap) (old new : Option Tally) (a : ℕ) → IsInPlace h a → h' ≡ taken h a → Loses (functor_of h a) old new → IsKept h.atoms old → IsKept h'.atoms new
+taken_kept h h' old new a stands e w k =
+    let has = home_functor (h.atoms a) stands in
     kept_by (taken h a) h' new e
-    (kept_lost h.atoms (taken h a).atoms a (λ f j d. ap (stands_as f) (alter_away h.atoms a (option_map (with_place gone)) j d)) g old new
-    (stands_so g (h.atoms a) stands is) (λ f. ap (stands_as f) (alter_at h.atoms a (option_map (with_place gone))) ∙ gone_not f (h.atoms a)) w k)
+    (kept_lost h.atoms (taken h a).atoms a (λ f j d. ap (stands_as f) (alter_away h.atoms a (option_map (with_place gone)) j d)) has.0 old new
+    (stands_so has.0 (h.atoms a) stands has.1) (λ f. ap (stands_as f) (alter_at h.atoms a (option_map (with_place gone))) ∙ gone_not f (h.atoms a)) (subst (λ o. Loses o old new) has.1 w) k)

@@ -1,17 +1,16 @@
 -- What is kept stays right while atoms come and go: of any functions of atoms.
-use Rattle.std.proofs.Common.{ℕ, suc, ◌≡◌, ◌≢◌, ◌+◌, ◌&&◌, inl, inr, Bool, true, false, List, [], ◌∷◌, length, Option, Some, None, refl, sym, ap, subst, ◌∙◌, arith}
+use Rattle.std.proofs.Common.{ℕ, suc, ◌≡◌, ◌≢◌, ◌+◌, inl, inr, Bool, true, false, List, ◌∷◌, length, Option, Some, None, refl, sym, ap, subst, ◌∙◌, arith}
 use Rattle.std.proofs.lemmas.Bool.{cases_eq}
-use Rattle.std.specs.Option.{option_map}
 use Rattle.lmn_base.specs.declared.functor.Functor.{Functor}
 use Rattle.lmn_base.specs.Lists.{In}
-use Rattle.lmn_store_heap.specs.Functors.{same_functor, is_of}
+use Rattle.lmn_store_heap.specs.Functors.{same_functor}
 use Rattle.lmn_store_heap.specs.Heap.{HeapAtom}
-use Rattle.lmn_store_heap.specs.Lists.{Distinct, without}
+use Rattle.lmn_store_heap.specs.Lists.{without}
 use Rattle.lmn_store_heap.proofs.ListLemmas.{each_of, in_without}
 use Rattle.lmn_store_heap.proofs.Listing.{distinct_without, in_without_of}
 use Rattle.lmn_store_heap.proofs.Pigeonholes.{length_without}
 use Rattle.lmn_store_heap.proofs.WithFunctor.{functor_is, functor_same}
-use Rattle.lmn_debug_counting.specs.Tallies.{AreThose, Gains, GainsOne, IsKept, Loses, LosesOne, stands_as}
+use Rattle.lmn_debug_counting.specs.Tallies.{AreThose, Gains, IsKept, Loses, stands_as}
 use Rattle.lmn_debug_counting.specs.declared.tally.Tally.{Tally}
 
 -- a list of those of one function is one of those of another function that agrees with it

@@ -1,13 +1,13 @@
 -- The atoms with a functor in the membranes of a tree are those that stand in membranes.
-use Rattle.std.proofs.Common.{ℕ, ◌≡◌, ◌≢◌, ◌≤◌, ◌&&◌, ◌+◌, inl, inr, Bool, true, false, cond, List, [], ◌∷◌, ◌++◌, length, length-append, Option, Some, None, IsSome, refl, sym, ap, subst, ◌∙◌, arith}
+use Rattle.std.proofs.Common.{ℕ, ◌≡◌, ◌≢◌, inl, inr, Bool, true, false, cond, List, [], ◌∷◌, ◌++◌, length, length-append, Option, Some, None, refl, sym, ap, subst, ◌∙◌, arith}
 use Rattle.std.specs.List.{filter}
-use Rattle.std.specs.Option.{option_map, option_and_then}
+use Rattle.std.specs.Option.{option_map}
 use Rattle.lmn_base.specs.declared.functor.Functor.{Functor}
 use Rattle.lmn_base.specs.Lists.{In}
 use Rattle.lmn_base.proofs.Lists.{in_either}
 use Rattle.lmn_base.proofs.Truth.{and_true}
 use Rattle.lmn_store_heap.specs.Functors.{same_functor, is_of, with_functor}
-use Rattle.lmn_store_heap.specs.Heap.{Heap, HeapAtom, Place, top, within, waiting, gone, atoms_in, functor_of, home_by, place_of}
+use Rattle.lmn_store_heap.specs.Heap.{Heap, HeapAtom, Place, top, within, waiting, gone, atoms_in, functor_of, place_of}
 use Rattle.lmn_store_heap.specs.Lists.{Distinct}
 use Rattle.lmn_store_heap.specs.Sound.{Forest, IsTree, Listed, Valid, flat}
 use Rattle.lmn_store_heap.proofs.Depths.{both_distinct}
@@ -22,11 +22,12 @@ use Rattle.lmn_debug_counting.specs.declared.tally.Tally.{Tally}
 -- those with the functor are those that pass a test
 with_is_filter : (h : Heap) (f : Functor) (xs : List ℕ) → with_functor h f xs ≡ filter (λ a. is_of (functor_of h a) f) xs
 with_is_filter h f [] = refl
-with_is_filter h f (a ∷ xs) = by (is_of (functor_of h a) f)
+with_is_filter h f (a ∷ xs) = by (is_of (functor_of h a) f) (with_is_filter h f xs)
   where
-    by : (b : Bool) → cond b (a ∷ with_functor h f xs) (with_functor h f xs) ≡ cond b (a ∷ filter (λ a. is_of (functor_of h a) f) xs) (filter (λ a. is_of (functor_of h a) f) xs)
-    by true = ap (λ ys. a ∷ ys) (with_is_filter h f xs)
-    by false = with_is_filter h f xs
+    by : (b : Bool) → with_functor h f xs ≡ filter (λ a. is_of (functor_of h a) f) xs
+        → cond b (a ∷ with_functor h f xs) (with_functor h f xs) ≡ cond b (a ∷ filter (λ a. is_of (functor_of h a) f) xs) (filter (λ a. is_of (functor_of h a) f) xs)
+    by true same = ap (λ ys. a ∷ ys) same
+    by false same = same
 
 -- an atom in a membrane with the functor stands so
 stands_here : (f : Functor) (m : ℕ) (o : Option HeapAtom) → option_map (λ x. x.place) o ≡ Some (within m) → is_of (option_map (λ x. x.functor) o) f ≡ true → stands_as f o ≡ true
@@ -49,7 +50,7 @@ is_here f (Some x) s =
 
 module _ (h : Heap) (listed : Listed h) (f : Functor) where
   -- all of some membranes
-  all_with : List ℕ → List ℕ
+  abbrev all_with : List ℕ → List ℕ
   all_with [] = []
   all_with (m ∷ ms) = with_functor h f (atoms_in h m) ++ all_with ms
 

@@ -1,5 +1,5 @@
 -- A walk over the membranes of a heap that counts the atoms with a functor.
-use Rattle.std.proofs.Common.{ℕ, suc, ◌≡◌, ◌<◌, ◌≤◌, ◌+◌, ◌^◌, Bool, true, false, cond, List, [], ◌∷◌, length, Option, Some, None, sym, ap, subst, ◌∙◌, arith}
+use Rattle.std.proofs.Common.{ℕ, suc, ◌≡◌, ◌<◌, ◌≤◌, ◌+◌, ◌^◌, Bool, true, false, cond, List, [], ◌∷◌, length, Option, Some, sym, ap, subst, ◌∙◌, arith}
 use Rattle.std.specs.Prelude.{slice_get}
 use Rattle.std.proofs.lemmas.List.Sums.{sum-map, sum_by-cons}
 use Rattle.std.proofs.lemmas.Option.{slice_get_within}
@@ -60,4 +60,3 @@ walk_fits h f total here m i items xs e w s n b =
   where
     sums : (total here size a all long i items most : ℕ) → total + (size + a) ≡ all → here ≡ size → i < long → all + long ≤ most → items + 1 ≡ most → items < 2 ^ 64 → total + here < 2 ^ 64
     sums total here size a all long i items most e w s c n b = omega (arith, e, w, s, c, n, b)
-

@@ -43,4 +43,3 @@ pub(crate) fn count_atoms<S: LinkStore>(store: &S, functor: Functor) -> u64
     }
     0
 }
-

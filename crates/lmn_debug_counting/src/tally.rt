@@ -62,11 +62,7 @@ pub(crate) fn count_of(tally: Option<Tally>, functor: Functor) -> Option<u64>
 }
 
 /// What is kept behind an atom that came into a membrane.
-pub(crate) fn with_atom<S: LinkStore>(
-    tally: Option<Tally>,
-    store: &S,
-    a: S::Atom,
-) -> Option<Tally>
+pub(crate) fn with_atom<S: LinkStore>(tally: Option<Tally>, store: &S, a: S::Atom) -> Option<Tally>
     requires { IsAtom (S.heap store.now) (S.atom_id a) }
     ensures { Gains (functor_of (S.heap store.now) (S.atom_id a)) tally result }
 {
