@@ -25,7 +25,8 @@ use lmn_app_accepted::accepted_texts_can_be_loaded;
 use lmn_app_reading::Accepted;
 use lmn_app_words::{PairKind, PairWords};
 use lmn_base::{Names, NoMemory, TextFault};
-use lmn_debug::{CountingStore, DebugFault, debug};
+use lmn_debug::{DebugFault, debug};
+use lmn_debug_counting::CountingStore;
 use lmn_debug_script::read_script;
 use lmn_io::{Shelf, Sink};
 use lmn_machine::Steps;
@@ -59,16 +60,19 @@ pub(crate) fn debug_by<F: Shelf, O: Sink>(
 {
     loading_settles();
     match WebStore::for_rules(alloc, accepted.plain.rules.as_slice()) {
-        Ok(store) => debug_in::<_, _, Brand>(
-            alloc,
-            words,
-            accepted,
-            names,
-            CountingStore::new(store),
-            shelf,
-            out,
-            Blank::new(1),
-        ),
+        Ok(store) => {
+            let counting = CountingStore::new(store);
+            debug_in::<_, _, Brand>(
+                alloc,
+                words,
+                accepted,
+                names,
+                counting,
+                shelf,
+                out,
+                Blank::new(1),
+            )
+        }
         Err(NoMemory) => Ending::NoMemory,
     }
 }

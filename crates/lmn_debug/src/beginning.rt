@@ -24,7 +24,10 @@ pub(crate) struct Beginning<'p, F> {
 
 impl<'p, F: Fn(u64, u64) -> u64 + Copy + Drop> Beginning<'p, F> {
     /// An engine that has made no commit.
-    pub(crate) fn engine(&self, alloc: Global) -> Result<Engine<'p, CountingStore<WebStore>, F>, NoMemory>
+    pub(crate) fn engine(
+        &self,
+        alloc: Global,
+    ) -> Result<Engine<'p, CountingStore<WebStore>, F>, NoMemory>
         requires plain { CanBeLoaded self.now.plain.now self.now.plans.now }
         requires chooser { AnswersBelow F.pre F.post self.now.choose }
         requires size { self.now.size < 2 ^ 64 - 1 }
@@ -34,11 +37,12 @@ impl<'p, F: Fn(u64, u64) -> u64 + Copy + Drop> Beginning<'p, F> {
     {
         loading_settles();
         let store = WebStore::for_rules(alloc, self.plain.rules.as_slice())?;
+        let counting = CountingStore::new(store);
         match Engine::load(
             alloc,
             self.plain,
             self.plans,
-            CountingStore::new(store),
+            counting,
             Chooser::new(self.choose),
             self.size,
         ) {

@@ -58,3 +58,6 @@ returns-in-Err-Size-clause-ended g c =
     let can = c.accepted_texts_can_be_loaded.ensures.loaded program names read.plain read.plans a.named a.accepted in
     let causes = subst (LoadCauses read.plain session_size) c.in-Err-Size.field-0-is c.in-Err-Size.ensures.fault in
     large_refused (pair_of c.args.words) _ program names read.plain read.plans c.in-Err-Size.field-0-0 (ap most_items_of_pair c.requires.kind) a c.requires.accepted.2 can causes _ _ _ _
+
+pub load-requires-clause-store : goal.load-requires-clause-store
+load-requires-clause-store g c = c.requires.store
