@@ -1,10 +1,12 @@
 -- Small chains.
-use Rattle.std.specs.Prelude.{◌≡◌, [], ◌∷◌, codes}
+use Rattle.std.specs.Prelude.{ℕ, ◌≡◌, ⊤, List, [], ◌∷◌, None, Some, codes}
+use Rattle.lmn_base.specs.declared.solid.Solid.{Solid}
 use Rattle.lmn_congruence.specs.Regions.{Region, no_region, region, region_and}
 use Rattle.lmn_congruence.specs.Rules.{named}
 use Rattle.lmn_reduction.specs.Examples.{label_a, label_b}
 use Rattle.lmn_adequacy.specs.ChangeExamples.{changing}
 use Rattle.lmn_receipt_chain.specs.Chains.{Continues, IsChain, IsWrongTrace, at_line}
+use Rattle.lmn_receipt_chain.specs.Found.{IsNextFound}
 
 -- the solid of `a.`
 abbrev pub one_atom : Region
@@ -51,3 +53,15 @@ MembraneIsChosen = (c : Continues (inside (changing (label_a ∷ []))) (inside (
 
 abbrev pub NothingContinues : Type 0
 NothingContinues = (S : Region) → ¬ (Continues (inside (changing (label_b ∷ []))) S)
+
+-- No solid is next to `a.`: whatever the text, what is found there need not be made.
+abbrev pub NothingIsNext : Type 0
+NothingIsNext = (text : List ℕ) → IsNextFound (λ s. ⊤) (λ s. one_atom) one_atom 0 text (record { solid = None; reach = 0 })
+
+-- It has one membrane, the root, so there is no reach beyond the number 0.
+abbrev pub NoGreaterReach : Type 0
+NoGreaterReach = (text : List ℕ) → ¬ (IsNextFound (λ s. ⊤) (λ s. one_atom) one_atom 0 text (record { solid = None; reach = 1 }))
+
+-- A solid that is made is one that fits and is next, so none is made there.
+abbrev pub NoneIsMade : Type 0
+NoneIsMade = (text : List ℕ) (s : Solid) → ¬ (IsNextFound (λ s. ⊤) (λ s. one_atom) one_atom 0 text (record { solid = Some s; reach = 0 }))

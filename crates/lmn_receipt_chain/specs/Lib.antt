@@ -1,4 +1,6 @@
+pub mod Bytes
 pub mod Chains
 pub mod Examples
+pub mod Found
 pub mod Laws
 pub mod Steps

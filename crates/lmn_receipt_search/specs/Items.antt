@@ -1,13 +1,13 @@
--- How many items a firing makes, told from below: what the body's contexts stand for is counted, and nothing else. Contracts of private
+-- How many items a firing leaves, told from below: what the head doesn't take, and what the body's contexts stand for. Contracts of private
 -- functions alone cite these words.
-use Rattle.std.specs.Prelude.{ℕ, ◌≤◌, ◌+◌, ◌==◌, if◌then◌else◌, List, [], ◌∷◌, get_or, length}
+use Rattle.std.specs.Prelude.{ℕ, ◌≡◌, ◌+◌, ◌-◌, ◌==◌, if◌then◌else◌, List, [], ◌∷◌, get_or, length, map}
 use Rattle.lmn_base.specs.declared.level.CtxUse.{CtxUse}
 use Rattle.lmn_base.specs.declared.level.Leaf.{Leaf}
 use Rattle.lmn_base.specs.declared.level.Leaf.TheVariants as leaf
 use Rattle.lmn_base.specs.declared.level.Level.{Level}
 use Rattle.lmn_base.specs.declared.level.Level.TheOpen.{Level-F}
 use Rattle.lmn_base.specs.declared.level.Level.TheFolds.{fold-Level}
-use Rattle.lmn_store_heap.specs.Heap.{Heap, atoms_in, mems_in, rules_in}
+use Rattle.lmn_store_heap.specs.Heap.{Heap, IsMem, atoms_in, mems_in, rules_in}
 use Rattle.lmn_store_heap.specs.Sound.{Forest, Forms, flat as members, item_count_in}
 use Rattle.lmn_ground_parts.specs.Walks.{is_in}
 use Rattle.lmn_solid_bodies.specs.Flattening.{membrane_named}
@@ -18,9 +18,9 @@ use Rattle.lmn_solid_firing.specs.declared.match_.Part.{Part}
 abbrev pub size_at : List ℕ → ℕ → ℕ
 size_at sizes m = get_or sizes m 0
 
--- a table says of no membrane more items than it is with all that stands in it
+-- a table says of each membrane how many items it is with all that stands in it
 abbrev pub AreSizes : Heap → List ℕ → Type 0
-AreSizes h sizes = (m : ℕ) (inner : Forest) → Forms h inner (mems_in h m) → size_at sizes m ≤ item_count_in h (m ∷ members inner)
+AreSizes h sizes = (m : ℕ) (inner : Forest) → IsMem h m → Forms h inner (mems_in h m) → size_at sizes m ≡ item_count_in h (m ∷ members inner)
 
 -- the sizes of the numbers of a list that aren't taken
 abbrev pub left_size : (ℕ → ℕ) → List ℕ → List ℕ → ℕ
@@ -64,3 +64,12 @@ size_step h sizes t l = leaves_size t l.leaves + contexts_size h sizes t l.conte
 
 abbrev pub body_size : Heap → List ℕ → Match → Level → ℕ
 body_size h sizes t = fold-Level ℕ (size_step h sizes t)
+
+-- ---- the whole solid
+
+-- what is left of it behind the images of a head: an image in another one is taken twice
+abbrev pub kept_size : List ℕ → Match → ℕ
+kept_size sizes t = size_at sizes 0 - (1 + length t.atoms + total (map (size_at sizes) t.membranes))
+
+abbrev pub firing_size : Heap → List ℕ → Match → Level → ℕ
+firing_size h sizes t body = kept_size sizes t + body_size h sizes t body

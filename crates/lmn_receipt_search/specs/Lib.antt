@@ -1,2 +1,4 @@
 pub mod Turns
 pub mod Items
+pub mod Tables
+pub mod Feeds

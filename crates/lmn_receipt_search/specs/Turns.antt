@@ -1,6 +1,6 @@
 -- Membranes in the order in which they are asked, and what is known of rules that are asked there. Contracts of private functions alone
 -- cite these words.
-use Rattle.std.specs.Prelude.{ℕ, ◌≡◌, ◌<◌, ◌≤◌, ◌+◌, ◌^◌, ◌⊎◌, ◌↔◌, List, Option, Some, None, length, slice_get, take}
+use Rattle.std.specs.Prelude.{ℕ, ◌≡◌, ◌<◌, ◌≤◌, ◌+◌, ◌^◌, ◌⊎◌, ◌↔◌, List, Option, Some, None, IfSome, length, slice_get, take}
 use Rattle.lmn_base.specs.declared.rule.Plain.{Plain}
 use Rattle.lmn_base.specs.declared.rule.RuleTree.{RuleTree}
 use Rattle.lmn_base.specs.declared.solid.Solid.{Solid}
@@ -29,7 +29,11 @@ use Rattle.lmn_solid_next.specs.Choosing.{NoneOf, numbers_of}
 use Rattle.lmn_solid_next.specs.Firing.{TellsIntegers}
 use Rattle.lmn_solid_next.specs.Searching.{IsSolidBy}
 use Rattle.lmn_solid_next.specs.Asking.{Fires, IsAsked, IsSearched}
-use Rattle.lmn_receipt_search.specs.Items.{AreSizes, body_size}
+use Rattle.lmn_receipt_chain.specs.Found.{IsNextMade}
+use Rattle.lmn_receipt_chain.specs.Laws.{IsAcceptedSolid}
+use Rattle.lmn_receipt_chain.specs.declared.next.NextSolid.{NextSolid}
+use Rattle.lmn_receipt_search.specs.Feeds.{IsQuiet, NamesWithout}
+use Rattle.lmn_receipt_search.specs.Items.{AreSizes, firing_size}
 
 -- what a search for the least embedding of a rule asks
 pub record CanBeSearched (flat : Flat) (m : ℕ) (rule : RuleTree) (plan : GuardPlan) : Type 0 where
@@ -61,10 +65,15 @@ pub record FiresTo (names : List Name) (plain : Plain) (s : Solid) (flat : Flat)
   pub leads : Leads (heap_of flat) m path 0
   pub next_at : NextAt path place (numbers_of (heap_of flat) rule plan found) (region_of names plain.rules s) next
 
+-- The next solid has more items than a limit, and where no name has a line feed its line has one.
+pub record IsBeyond (names : List Name) (limit : ℕ) (next : Region) : Type 0 where
+  pub many : limit < item_count_of_region next
+  pub quiet : NamesWithout names → IsQuiet next
+
 -- It fires, and what is answered is the next solid, or nothing where this has more items than a limit.
 abbrev pub FiresWithin : (names : List Name) (plain : Plain) (s : Solid) (flat : Flat) (m place : ℕ) (rule : RuleTree) (plan : GuardPlan) (limit : ℕ) → Option Solid → Type 0
 FiresWithin names plain s flat m place rule plan limit (Some next) = Fires names plain s flat m place rule plan next
-FiresWithin names plain s flat m place rule plan limit None = (next : Region) × FiresTo names plain s flat m place rule plan next × (limit < item_count_of_region next)
+FiresWithin names plain s flat m place rule plan limit None = (next : Region) × FiresTo names plain s flat m place rule plan next × IsBeyond names limit next
 
 -- Of the rules of membrane m, one is the first that embeds there, and it fires: the solid after it is this region.
 pub record FiresIn (names : List Name) (plain : Plain) (plans : List GuardPlan) (s : Solid) (flat : Flat) (m : ℕ) (next : Region) : Type 0 where
@@ -78,7 +87,7 @@ pub record FiresIn (names : List Name) (plain : Plain) (plans : List GuardPlan) 
 -- What is answered is the next solid, or nothing where this has more items than a limit.
 abbrev pub FiresInWithin : (names : List Name) (plain : Plain) (plans : List GuardPlan) (s : Solid) (flat : Flat) (m limit : ℕ) → Option Solid → Type 0
 FiresInWithin names plain plans s flat m limit (Some next) = FiresIn names plain plans s flat m (region_of names plain.rules next) × IsSolidBy names plain next
-FiresInWithin names plain plans s flat m limit None = (next : Region) × FiresIn names plain plans s flat m next × (limit < item_count_of_region next)
+FiresInWithin names plain plans s flat m limit None = (next : Region) × FiresIn names plain plans s flat m next × IsBeyond names limit next
 
 -- Of the rules of membrane m, one is the first that embeds there, and it lies least at these images.
 pub record EmbedsThere (names : List Name) (plain : Plain) (plans : List GuardPlan) (s : Solid) (flat : Flat) (m : ℕ) : Type 0 where
@@ -110,11 +119,21 @@ pub record FiringsAreNext : Type 0 where
       (count : ℕ) → ((m : ℕ) → IsMem (heap_of flat) m ↔ (m < count)) → (from : ℕ) → from < count → NoneBefore plain.rules plans (heap_of flat) from count count →
       ¬ (HasEmbedding (region_of names plain.rules s))
 
--- A rule that is asked, and lies least at what is found, fires, and the solid after it has at least as many items as are counted of its
--- body by what is matched.
+-- A rule that is asked, and lies least at what is found, fires, and the solid after it has at least as many items as are counted by what is
+-- matched, and no line feed but the last where no name has one.
 abbrev pub BodiesAreCounted : Type 0
 BodiesAreCounted = (names : List Name) (plain : Plain) (plans : List GuardPlan) (s : Solid) (flat : Flat) (m place : ℕ) (rule : RuleTree) (plan : GuardPlan) →
     IsAsked names plain plans s flat m place rule plan → (found : Found) → IsLeast (heap_of flat) (head_items rule plan) rule.guard m (images m found) →
     TellsIntegers (heap_of flat) (head_items rule plan) rule.guard m found → (t : Match) → IsMatched flat rule (head_items rule plan) m found t → IsReadyFor flat t →
     (sizes : List ℕ) → AreSizes (heap_of flat) sizes →
-    (next : Region) × FiresTo names plain s flat m place rule plan next × (body_size (heap_of flat) sizes t rule.body ≤ item_count_of_region next)
+    (next : Region) × FiresTo names plain s flat m place rule plan next × (firing_size (heap_of flat) sizes t rule.body ≤ item_count_of_region next) × (NamesWithout names → IsQuiet next)
+
+-- What is found of the next solid of s where membranes are asked from a number on.
+--   reached  its reach is the number of a membrane, from the one that was asked on
+--   made     where it is made it is the next one up to its reach
+--   beyond   where it isn't, each next one has more items than the limit
+pub record IsFoundWithin (names : List Name) (plain : Plain) (s : Solid) (from limit : ℕ) (next : NextSolid) : Type 0 where
+  pub reached : (from ≤ next.reach) × (next.reach < length (paths (region_of names plain.rules s)))
+  pub made : IfSome next.solid (IsNextMade (IsSolidBy names plain) (region_of names plain.rules) (region_of names plain.rules s) from next.reach)
+  pub beyond : next.solid ≡ None → IsAcceptedSolid (region_of names plain.rules s) →
+      (k : ℕ) → from ≤ k → k ≤ next.reach → (S : Region) → NextFrom k (region_of names plain.rules s) S → IsBeyond names limit S
