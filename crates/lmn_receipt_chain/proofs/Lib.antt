@@ -5,5 +5,5 @@ mod LineBytes
 mod OneSolid
 mod OneChain
 mod ChainOrWrong
-mod LineItems
+pub mod LineItems
 mod SmallMembranes

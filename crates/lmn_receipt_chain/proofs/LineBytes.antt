@@ -10,11 +10,8 @@ use Rattle.lmn_lexer.specs.Laying.{Laid, Word, all_laid, separator, word as laid
 use Rattle.lmn_lexer.specs.Spelling.{AllPass, IsDigits, IsIntegerSpelling, IsQuoted, IsWord, IsWordBehind, Quotes, Spells, begins_context, begins_link, byte, goes_on, is_quotable, nothing, quote}
 use Rattle.lmn_flatten_plain.proofs.LaidLines.{line_laid}
 use Rattle.lmn_flatten_plain.specs.Spelled.{LevelSpelled}
+use Rattle.lmn_receipt_chain.specs.Bytes.{NoFeed}
 use Rattle.lmn_flatten_plain.specs.Words.{Piece, line_of, space, text_of, top_pieces, word, words_in}
-
--- no byte is a line feed
-abbrev pub NoFeed : List ℕ → Type 0
-NoFeed bytes = AllByRecursion (λ b. b ≢ 10) bytes
 
 -- the first byte, if there is one, isn't `%`
 abbrev pub NoPercent : List ℕ → Type 0

@@ -12,8 +12,9 @@ use Rattle.lmn_flatten_plain.specs.Words.{text_of, top_pieces}
 use Rattle.lmn_app_runs.proofs.TraceRuns.{Fine, next_fine, solid_fine, spelled_fine}
 use Rattle.lmn_app_runs.specs.Laws.{solid_of}
 use Rattle.lmn_app_runs.specs.Runs.{end_line}
-use Rattle.lmn_receipt_chain.proofs.LineBytes.{NoFeed, NoPercent, first_line_one, line_no_feed, line_no_percent}
+use Rattle.lmn_receipt_chain.proofs.LineBytes.{NoPercent, first_line_one, line_no_feed, line_no_percent}
 use Rattle.lmn_receipt_chain.proofs.OneSolid.{one_solid}
+use Rattle.lmn_receipt_chain.specs.Bytes.{NoFeed}
 use Rattle.lmn_receipt_chain.specs.Chains.{BeginsChain, Continued, Continues, IsChain, IsEndThere, IsEndWord, IsProcessThere, IsWrongTrace, at_line, begun, continued, line_of_solid, no_end_line, no_first_line, no_next_line}
 use Rattle.lmn_receipt_chain.specs.Laws.{TracesAreOneOf}
 use Rattle.lmn_adequacy.proofs.Runs.{one_longer}

@@ -10,7 +10,8 @@ use Rattle.lmn_adequacy.specs.Embedding.{EmbedsIn, HasEmbedding, embeds_below, e
 use Rattle.lmn_app_runs.specs.Runs.{end_line}
 use Rattle.lmn_app_runs.specs.declared.stop.Stop.TheVariants as stop
 use Rattle.lmn_receipt_chain.specs.Chains.{BeginsChain, Continues, IsEndWord, begun, no_end_line, no_first_line, no_next_line}
-use Rattle.lmn_receipt_chain.specs.Examples.{CutShort, Empty, MoreBehind, NoEnd, NoFiring, NothingFires, TwoSolids, WrongWord, one_atom}
+use Rattle.lmn_adequacy.specs.Choice.{NextFrom}
+use Rattle.lmn_receipt_chain.specs.Examples.{CutShort, Empty, MoreBehind, NoEnd, NoFiring, NoGreaterReach, NoneIsMade, NothingFires, NothingIsNext, TwoSolids, WrongWord, one_atom}
 use Rattle.lmn_receipt_chain.proofs.ChainLemmas.{traces_are_chains}
 
 inert : {path f : List ℕ} {k : ℕ} {xs : List SolidAtom} → EmbedsIn path k f (region xs no_region []) → ⊥
@@ -76,3 +77,17 @@ two_solids =
 -- and its first line has no end line behind it
 pub cut_short : CutShort
 cut_short = no_end_line [] (changing (label_a ∷ [])) [] (record { solids = begun; is = refl }) tt (λ word h is. let short = ap length is in omega (arith, short)) refl
+
+-- ---- what is found beside a text
+
+nothing_next : {k : ℕ} {S' : Region} → NextFrom k one_atom S' → ⊥
+nothing_next n = inert n.chosen.embeds
+
+pub nothing_is_next : NothingIsNext
+nothing_is_next text = record { reached = (omega arith, omega arith); made = tt; other = λ e sound k low high S' more n. absurd (nothing_next n) }
+
+pub no_greater_reach : NoGreaterReach
+no_greater_reach text found = let far = found.reached.1 in omega (arith, far)
+
+pub none_is_made : NoneIsMade
+none_is_made text s found = nothing_next (found.made.2 0 (omega arith) (omega arith))

@@ -1,22 +1,24 @@
 -- How a trace is gone through.
-use Rattle.std.proofs.Common.{◌≡◌, ◌∙◌, ℕ, ◌+◌, ◌<◌, ◌≤◌, List, [], ◌∷◌, ◌++◌, Option, Some, None, codes, drop, length, map, inl, inr, refl, sym, ap, subst, arith, append_assoc, append-nil, length-append}
+use Rattle.std.proofs.Common.{◌≡◌, ◌∙◌, ℕ, ◌+◌, ◌<◌, ◌≤◌, List, [], ◌∷◌, ◌++◌, Option, Some, None, codes, drop, length, map, inl, inr, refl, sym, ap, subst, arith, append_assoc, append-nil}
 use Rattle.std.specs.Prelude.{IfSome}
 use Rattle.std.specs.List.{concat}
+use Rattle.std.proofs.lemmas.Option.{IfSome_then}
 use Rattle.std.proofs.lemmas.List.{drop-drop, length-drop}
 use Rattle.lmn_base.specs.declared.solid.Solid.{Solid}
-use Rattle.lmn_congruence.specs.Regions.{Region, item_count_of_region}
+use Rattle.lmn_congruence.specs.Regions.{Region}
 use Rattle.lmn_adequacy.specs.Choice.{NextFrom, paths}
 use Rattle.lmn_adequacy.specs.Embedding.{HasEmbedding}
 use Rattle.lmn_adequacy.specs.Numbered.{IsNumbered}
 use Rattle.lmn_adequacy.proofs.Results.{one_choice, one_numbering}
+use Rattle.lmn_receipt_chain.specs.declared.next.NextSolid.{NextSolid}
 use Rattle.lmn_receipt_chain.specs.declared.walk.Step.TheVariants.{More}
 use Rattle.lmn_app_runs.specs.Runs.{end_line}
 use Rattle.lmn_receipt_chain.specs.Chains.{BeginsChain, Continues, IsEndThere, IsEndWord, IsProcessThere, IsWrongTrace, at_line, begun, continued, no_end_line, line_of_solid, no_next_line}
+use Rattle.lmn_receipt_chain.specs.Found.{IsNextFound, IsNextMade, IsNextTo, NoneBegins}
 use Rattle.lmn_receipt_chain.specs.Laws.{IsAcceptedSolid}
 use Rattle.lmn_receipt_chain.specs.Steps.{IsOtherEnd, IsStep, NoEndIsDue, NothingFits}
-use Rattle.lmn_adequacy.proofs.Runs.{one_longer}
+use Rattle.lmn_adequacy.proofs.Runs.{embeds_in, one_longer}
 use Rattle.lmn_receipt_chain.proofs.ChainLemmas.{accepted_of, sound_next}
-use Rattle.lmn_receipt_chain.proofs.LineItems.{items_in_line}
 use Rattle.lmn_base.proofs.Numbers.{below_or_from as below_or}
 
 -- ---- lines
@@ -103,37 +105,43 @@ abbrev pub Tried : Region → List ℕ → ℕ → Type 0
 Tried S rest from = (k : ℕ) → k < from → (S' : Region) (more : List ℕ) → NextFrom k S S' → IsNumbered S' → rest ≡ line_of_solid S' ++ more → ⊥
 
 -- those up to the reach of one whose line isn't there have been tried with it,
-pub tried_more : (S : Region) (rest : List ℕ) (from reach : ℕ) (next : Region) → IsAcceptedSolid S → Tried S rest from → IsNumbered next
-    → ((k : ℕ) → from ≤ k → k ≤ reach → NextFrom k S next) → ((more : List ℕ) → rest ≡ line_of_solid next ++ more → ⊥) → Tried S rest (reach + 1)
+tried_more : (S : Region) (rest : List ℕ) (from reach : ℕ) (next : Region) → IsAcceptedSolid S → Tried S rest from → IsNumbered next
+    → IsNextTo S from reach next → ((more : List ℕ) → rest ≡ line_of_solid next ++ more → ⊥) → Tried S rest (reach + 1)
 tried_more S rest from reach next s old numbered same none k l S' more n i is = elim (below_or k from) [
   | inl lower ↦ old k lower S' more n i is
   | inr high ↦ let here = same k high (omega (arith, l)) in none more (is ∙ ap (λ R. line_of_solid R ++ more) (one_next S s k S' next n i here numbered))
 ]
 
--- and so have those up to the reach of one that has more items than the rest has bytes,
-pub large_tried : (S : Region) (rest : List ℕ) (from reach limit : ℕ) → Tried S rest from → length rest ≤ limit
-    → ((k : ℕ) → from ≤ k → k ≤ reach → (S' : Region) → NextFrom k S S' → limit < item_count_of_region S') → Tried S rest (reach + 1)
-large_tried S rest from reach limit old short large k l S' more n i is = elim (below_or k from) [
+-- and so have those up to the reach of one that wasn't made, since its line isn't there;
+tried_both : (fits : Solid → Type 0) (region : Solid → Region) (S : Region) (rest : List ℕ) (from reach : ℕ) (next : Option Solid) → IsAcceptedSolid S → Tried S rest from
+    → IfSome next (IsNextMade fits region S from reach) → (next ≡ None → IsAcceptedSolid S → NoneBegins S from reach rest)
+    → IfSome next (λ s. (more : List ℕ) → rest ≡ line_of_solid (region s) ++ more → ⊥) → Tried S rest (reach + 1)
+tried_both fits region S rest from reach (Some s) sound old made other none = tried_more S rest from reach (region s) sound old made.1 made.2 none
+tried_both fits region S rest from reach None sound old made other none = λ k l S' more n i is. elim (below_or k from) [
   | inl lower ↦ old k lower S' more n i is
-  | inr high ↦ (
-      let many = large k high (omega (arith, l)) S' n in
-      omega (arith, many, short, items_in_line S', ap length is ∙ length-append (line_of_solid S') more)
-      )
+  | inr high ↦ other refl sound k high (omega (arith, l)) S' more n is
 ]
 
--- one or the other, as a next solid was found,
-pub next_tried : (region : Solid → Region) (S : Region) (rest : List ℕ) (from reach limit : ℕ) (next : Option Solid) → IsAcceptedSolid S → Tried S rest from → length rest ≤ limit
-    → IfSome next (λ s. IsNumbered (region s)) → IfSome next (λ s. (k : ℕ) → from ≤ k → k ≤ reach → NextFrom k S (region s))
-    → (next ≡ None → (k : ℕ) → from ≤ k → k ≤ reach → (S' : Region) → NextFrom k S S' → limit < item_count_of_region S')
-    → IfSome next (λ s. (more : List ℕ) → rest ≡ line_of_solid (region s) ++ more → ⊥) → Tried S rest (reach + 1)
-next_tried region S rest from reach limit (Some s) sound old short numbered same large none = tried_more S rest from reach (region s) sound old numbered same none
-next_tried region S rest from reach limit None sound old short numbered same large none = large_tried S rest from reach limit old short (large refl)
+continues_by : (fits : Solid → Type 0) (region : Solid → Region) (S : Region) (from reach : ℕ) (next : Option Solid) → from < length (paths S) → from ≤ reach → IfSome next (IsNextMade fits region S from reach) → IfSome next (λ s. Continues S (region s))
+continues_by fits region S from reach (Some s) l far made = record { from = from; one_of_them = l; next = made.2 from (omega arith) far; numbered = made.1 }
+continues_by fits region S from reach None l far made = tt
 
--- A next solid continues the last one,
-pub next_continues : (region : Solid → Region) (S : Region) (from reach : ℕ) (next : Option Solid) → from < length (paths S) → from ≤ reach → IfSome next (λ s. IsNumbered (region s))
-    → IfSome next (λ s. (k : ℕ) → from ≤ k → k ≤ reach → NextFrom k S (region s)) → IfSome next (λ s. Continues S (region s))
-next_continues region S from reach (Some s) l far numbered same = record { from = from; one_of_them = l; next = same from (omega arith) far; numbered = numbered }
-next_continues region S from reach None l far numbered same = tt
+module _ (fits : Solid → Type 0) (region : Solid → Region) (S : Region) (from : ℕ) (rest : List ℕ) (next : NextSolid) (found : IsNextFound fits region S from rest next) where
+  -- so it is with one that was found.
+  pub next_tried : IsAcceptedSolid S → Tried S rest from → IfSome next.solid (λ s. (more : List ℕ) → rest ≡ line_of_solid (region s) ++ more → ⊥) → Tried S rest (next.reach + 1)
+  next_tried sound old none = tried_both fits region S rest from next.reach next.solid sound old found.made found.other none
+
+  -- Where it was made it continues the last one,
+  pub next_continues : IfSome next.solid (λ s. Continues S (region s))
+  next_continues = let low = found.reached.0 in let high = found.reached.1 in continues_by fits region S from next.reach next.solid (omega (arith, low, high)) low found.made
+
+  -- and fits,
+  pub next_fits : IfSome next.solid fits
+  next_fits = IfSome_then next.solid found.made (λ s m. m.0)
+
+-- Where nothing embeds nothing fits,
+pub nothing_fits : (S : Region) (rest : List ℕ) → (HasEmbedding S → ⊥) → NothingFits S rest
+nothing_fits S rest none S' more c is = none (embeds_in c.next)
 
 -- and where all were tried nothing fits
 pub all_tried : (S : Region) (rest : List ℕ) (from count : ℕ) → count ≡ length (paths S) → (from < count → ⊥) → Tried S rest from → NothingFits S rest

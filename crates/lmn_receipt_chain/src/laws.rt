@@ -1,6 +1,6 @@
 //! The laws of chains.
 
-ghost use Rattle.lmn_receipt_chain.specs.Examples.{CutShort, Empty, MembraneIsChosen, MoreBehind, NoEnd, NoFiring, NothingContinues, NothingFires, TwoSolids, WrongWord};
+ghost use Rattle.lmn_receipt_chain.specs.Examples.{CutShort, Empty, MembraneIsChosen, MoreBehind, NoEnd, NoFiring, NoGreaterReach, NoneIsMade, NothingContinues, NothingFires, NothingIsNext, TwoSolids, WrongWord};
 ghost use Rattle.lmn_receipt_chain.specs.Laws.{ChainsAreCommits, ContinuesByCommit, NoTraceIsNeither, TracesAreChains, TracesAreOneOf};
 
 /// What is written of a trace that stops is a chain.
@@ -34,6 +34,13 @@ pub fn chains_of_two()
 pub fn membranes_are_chosen()
     ensures chosen { MembraneIsChosen }
     ensures nothing { NothingContinues }
+{}
+
+/// What is found of a next solid of `a.`, beside any text, and what isn't.
+pub fn found_beside_a_text()
+    ensures nothing { NothingIsNext }
+    ensures reach { NoGreaterReach }
+    ensures made { NoneIsMade }
 {}
 
 /// A trace beside the solid of a plain isn't a chain and wrong, and is one of so many commits or at one line alone.

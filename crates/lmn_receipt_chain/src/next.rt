@@ -1,10 +1,10 @@
 use lmn_base::{NoMemory, Solid};
 use std::alloc::Global;
 
-/// A next solid.
+/// A next solid, looked for beside a text.
 #[derive(Drop)]
 pub struct NextSolid {
-    /// `None` where it is found to have more items than were allowed. Then it isn't made.
+    /// `None` where it is found that the text doesn't begin with its line. Then it isn't made.
     pub solid: Option<Solid>,
     /// It is the next one from each number of a membrane from the one that was asked up to this one.
     pub reach: u64,
@@ -14,40 +14,47 @@ pub struct NextSolid {
 pub trait NextSolids {
     ghost use Rattle.std.specs.Prelude.{◌≡◌, ◌<◌, ◌≤◌, ◌++◌, ℕ, List, None, IsTrue, IsFalse, IfOk, IfSome, drop, length};
     ghost use Rattle.lmn_base.specs.declared.solid.Solid.{Solid};
-    ghost use Rattle.lmn_congruence.specs.Regions.{Region, item_count_of_region};
-    ghost use Rattle.lmn_adequacy.specs.Choice.{NextFrom, paths};
+    ghost use Rattle.lmn_congruence.specs.Regions.{Region};
+    ghost use Rattle.lmn_adequacy.specs.Choice.{paths};
     ghost use Rattle.lmn_adequacy.specs.Embedding.{HasEmbedding};
-    ghost use Rattle.lmn_adequacy.specs.Numbered.{IsNumbered};
     ghost use Rattle.lmn_receipt_chain.specs.Chains.{line_of_solid};
-    ghost use Rattle.lmn_receipt_chain.specs.Laws.{IsAcceptedSolid};
+    ghost use Rattle.lmn_receipt_chain.specs.Found.{IsNextFound};
+
+    /// What is made of a solid once, and lent to each question for a next one.
+    type Tables: Drop;
 
     /// What is asked of a solid.
     ghost fits: { Self → Solid → Type 0 };
     /// A solid as one of the calculus.
     ghost region: { Self → Solid → Region };
+    /// Tables are those of a solid.
+    ghost are_of: { Self → Solid → Self.Tables → Type 0 };
 
     /// The number of membranes, the root included.
     fn membranes(&self, alloc: Global, solid: &Solid) -> Result<u64, NoMemory>
         requires { fits self.now solid.now }
         ensures { IfOk result (λ count. count ≡ length (paths (region self.now solid.now))) };
 
-    /// The next solid where membranes are asked from a number on, wrapping round, if no more than so many items are found in it; `None`
-    /// where no rule of any membrane embeds.
+    /// The tables of a solid.
+    fn tables(&self, alloc: Global, solid: &Solid) -> Result<Self::Tables, NoMemory>
+        requires { fits self.now solid.now }
+        ensures { IfOk result (are_of self.now solid.now) };
+
+    /// The next solid where membranes are asked from a number on, wrapping round, unless it is found that a text doesn't begin with its
+    /// line; `None` where no rule of any membrane embeds.
     fn next_from(
         &self,
         alloc: Global,
-        solid: &Solid,
+        tables: &mut Self::Tables,
         from: u64,
-        limit: u64,
+        text: &[u8],
     ) -> Result<Option<NextSolid>, NoMemory>
-        requires fits { fits self.now solid.now }
-        requires from { from < length (paths (region self.now solid.now)) }
-        ensures fits { IfOk result (λ found. IfSome found (λ next. IfSome next.solid (fits self.now))) }
-        ensures numbered { IfOk result (λ found. IfSome found (λ next. IfSome next.solid (λ s. IsNumbered (region self.now s)))) }
-        ensures reach { IfOk result (λ found. IfSome found (λ next. (from ≤ next.reach) × (next.reach < length (paths (region self.now solid.now))))) }
-        ensures next { IfOk result (λ found. IfSome found (λ next. IfSome next.solid (λ s. (k : ℕ) → from ≤ k → k ≤ next.reach → NextFrom k (region self.now solid.now) (region self.now s)))) }
-        ensures large { IsAcceptedSolid (region self.now solid.now) → IfOk result (λ found. IfSome found (λ next. next.solid ≡ None → (k : ℕ) → from ≤ k → k ≤ next.reach → (S : Region) → NextFrom k (region self.now solid.now) S → limit < item_count_of_region S)) }
-        ensures none { IfOk result (λ found. found ≡ None → ¬ (HasEmbedding (region self.now solid.now))) };
+        requires { (solid : Solid) × fits self.now solid × are_of self.now solid tables.old × (from < length (paths (region self.now solid))) }
+        ensures tables { (solid : Solid) → fits self.now solid → are_of self.now solid tables.old → are_of self.now solid tables.new }
+        ensures found { (solid : Solid) → fits self.now solid → are_of self.now solid tables.old →
+            IfOk result (λ found. IfSome found (IsNextFound (fits self.now) (region self.now) (region self.now solid) from text.now)) }
+        ensures none { (solid : Solid) → fits self.now solid → are_of self.now solid tables.old →
+            IfOk result (λ found. found ≡ None → ¬ (HasEmbedding (region self.now solid))) };
 
     /// Whether a rule of some membrane embeds.
     fn embeds(&self, alloc: Global, solid: &Solid) -> Result<bool, NoMemory>

@@ -137,26 +137,30 @@ fn fitting<N: NextSolids>(
     }
 }
 
-/// The next solid from one number of a membrane, where its line fits.
+/// The next solid from one number of a membrane, if that is one, where its line fits.
 fn try_hint<N: NextSolids>(
     alloc: Global,
     solids: &N,
-    solid: &Solid,
+    tables: &mut N::Tables,
     rest: &[u8],
     hint: u64,
+    count: u64,
 ) -> Result<Option<Step>, NoMemory>
-    requires fits { N.fits solids.now solid.now }
-    requires hint { hint < length (paths (N.region solids.now solid.now)) }
-    ensures { (commits : ℕ) → IfOk result (λ found. IfSome found (IsStep (N.region solids.now) (N.fits solids.now) (N.region solids.now solid.now) rest.now commits)) }
+    requires { (solid : Solid) × N.fits solids.now solid × N.are_of solids.now solid tables.old × (count ≡ length (paths (N.region solids.now solid))) }
+    ensures tables { (solid : Solid) → N.fits solids.now solid → N.are_of solids.now solid tables.old → N.are_of solids.now solid tables.new }
+    ensures found { (solid : Solid) (commits : ℕ) → N.fits solids.now solid → N.are_of solids.now solid tables.old →
+        IfOk result (λ found. IfSome found (IsStep (N.region solids.now) (N.fits solids.now) (N.region solids.now solid) rest.now commits)) }
 {
-    match solids.next_from(alloc, solid, hint, rest.len() as u64)? {
+    if hint >= count {
+        return Ok(None);
+    }
+    match solids.next_from(alloc, tables, hint, rest)? {
         None => Ok(None),
         Some(next) => fitting(alloc, solids, next.solid, rest),
     }
 }
 
-/// What a process line is: that of a choice that fits, or wrong. A choice that leaves more items than there are bytes isn't made: its line
-/// has a byte for each at least.
+/// What a process line is: that of a choice that fits, or wrong. The tables of the solid are made once for all its choices.
 fn line<N: NextSolids>(
     alloc: Global,
     solids: &N,
@@ -170,15 +174,13 @@ fn line<N: NextSolids>(
 {
     let count = solids.membranes(alloc, solid)?;
     let hint = solids.hint(alloc, solid, rest)?;
-    if hint < count {
-        if let Some(found) = try_hint(alloc, solids, solid, rest, hint)? {
-            return Ok(found);
-        }
+    let mut tables = solids.tables(alloc, solid)?;
+    if let Some(found) = try_hint(alloc, solids, &mut tables, rest, hint, count)? {
+        return Ok(found);
     }
-    let limit = rest.len() as u64;
     let mut from = 0u64;
     while from < count {
-        let Some(next) = solids.next_from(alloc, solid, from, limit)? else {
+        let Some(next) = solids.next_from(alloc, &mut tables, from, rest)? else {
             return Ok(Step::WrongLine);
         };
         let reach = next.reach;

@@ -46,9 +46,12 @@ use Rattle.lmn_solid_next.specs.Firing.{HasMatch, MatchesAreOfEmbeddings, MayFir
 use Rattle.lmn_solid_next.specs.Laws.{LeastImagesLie}
 use Rattle.lmn_receipt_chain.specs.Laws.{IsAcceptedSolid}
 use Rattle.lmn_receipt_chain.proofs.ChainLemmas.{accepted_of}
-use Rattle.lmn_receipt_search.specs.Items.{AreSizes, body_size}
-use Rattle.lmn_receipt_search.specs.Turns.{BodiesAreCounted, FiresTo}
-use Rattle.lmn_receipt_search.proofs.MadeItems.{as_many_items, body_counted, fired_counted, home_counted, raw_items, raw_items_in}
+use Rattle.lmn_receipt_search.specs.Feeds.{IsQuiet, NamesWithout}
+use Rattle.lmn_receipt_search.specs.Items.{AreSizes, body_size, firing_size}
+use Rattle.lmn_receipt_search.specs.Turns.{BodiesAreCounted, FiresTo, IsBeyond}
+use Rattle.lmn_receipt_search.proofs.MadeItems.{as_many_items, body_counted, firing_counted, raw_items, raw_items_in}
+use Rattle.lmn_receipt_search.proofs.QuietRegions.{renamed_quiet, spelled_quiet}
+use Rattle.lmn_receipt_search.proofs.QuietRules.{rule_quiet}
 
 -- ---- items of regions
 
@@ -61,13 +64,14 @@ mutual
   renamed_items_in f no_region = refl
   renamed_items_in f (region_and m ms) = omega (arith, renamed_items f m, renamed_items_in f ms)
 
--- So each next solid from a number on has as many.
-pub all_next_have : (S : Region) → IsAcceptedSolid S → (k limit : ℕ) (next other : Region) → NextFrom k S next → NextFrom k S other → limit < item_count_of_region next → limit < item_count_of_region other
-all_next_have S sound k limit next other n o many =
+-- So each next solid from a number on is beyond where one is.
+pub all_next_beyond : (names : List Name) (S : Region) → IsAcceptedSolid S → (k limit : ℕ) (next other : Region) → NextFrom k S next → NextFrom k S other → IsBeyond names limit next → IsBeyond names limit other
+all_next_beyond names S sound k limit next other n o beyond =
     let same = one_choice k S next other sound.closed (accepted_of S sound) n o in
     let a = ap item_count_of_region same.is in
     let b = renamed_items same.to next in
-    omega (arith, a, b, many)
+    let many = beyond.many in
+    record { many = omega (arith, a, b, many); quiet = λ without. subst IsQuiet (sym same.is) (renamed_quiet same.to next (beyond.quiet without)) }
 
 -- links at their images keep them
 fused_many : (f g : ℕ → ℕ) (ls : List Leaf) → length (fused_leaves f ls) ≡ length (fused_leaves g ls)
@@ -165,14 +169,12 @@ module _ (may : SearchedRulesMayFire) (lie : LeastImagesLie) (match : MatchesAre
     is_made = record { membranes = refl; connectors = refl; bound = refl }
 
     -- it has at least as many items as are counted
-    many : body_size h sizes t rule.body ≤ raw_items made
+    many : firing_size h sizes t rule.body ≤ raw_items made
     many =
-        let whole = fired_counted flat ready.read.valid t has.left has.forms ready_for (root_there h ready.read.valid) sizes are home 0 root inside in
         let body = body_counted flat ready.read.valid t has.left has.forms ready_for (root_there h ready.read.valid) sizes are rule.body in
-        let here = home_counted flat ready.read.valid t has.left has.forms ready_for (root_there h ready.read.valid) sizes are (level_made flat t has.left rule.body) start (body_size h sizes t rule.body) body in
-        omega (arith, whole, here)
+        firing_counted flat ready.read.valid t has.left has.forms ready_for (root_there h ready.read.valid) sizes are a.there (level_made flat t has.left rule.body) start (body_size h sizes t rule.body) mi.0 root mi.1.forms ready.forms ready.once inside body
 
-    pub counted : (next : Region) × FiresTo names plain s flat t.home place rule plan next × (body_size h sizes t rule.body ≤ item_count_of_region next)
+    pub counted : (next : Region) × FiresTo names plain s flat t.home place rule plan next × (firing_size h sizes t rule.body ≤ item_count_of_region next) × (NamesWithout names → IsQuiet next)
     counted =
         let w = spelled flat names plain.rules t rule has.left root mi.0 place a.number (numbers_of h rule plan f) ready.read.valid ready.forms ready.once inside mi.1.forms a.stands ready.numbered lies.embeds has.is
         (laid 0 0 made) (wires ++ level_pairs t rule.body) links is_made in
@@ -189,13 +191,14 @@ module _ (may : SearchedRulesMayFire) (lie : LeastImagesLie) (match : MatchesAre
             next_at = record { raw = w.1; fires = subst (λ S. RawAt w.2 place (numbers_of h rule plan f) S w.1) (a.searched.is_flat.region names plain.rules) w.5; fuses = solid.1 };
           },
           omega (arith, many, same, items),
+          λ without. spelled_quiet names plain.rules without (λ k. rule_quiet names plain s a.searched.can.made a.searched.by.named without k) w.1 w.0 (wires ++ level_pairs t rule.body) links w.6 solid.0 solid.1,
         )
 
   counted_at : (m : ℕ) → IsAsked names plain plans s flat m place rule plan → (found : Found) → IsLeast (heap_of flat) (head_items rule plan) rule.guard m (images m found) →
       TellsIntegers (heap_of flat) (head_items rule plan) rule.guard m found → (t : Match) → IsMatched flat rule (head_items rule plan) m found t → IsReadyFor flat t → (sizes : List ℕ) → AreSizes (heap_of flat) sizes →
-      (next : Region) × FiresTo names plain s flat m place rule plan next × (body_size (heap_of flat) sizes t rule.body ≤ item_count_of_region next)
+      (next : Region) × FiresTo names plain s flat m place rule plan next × (firing_size (heap_of flat) sizes t rule.body ≤ item_count_of_region next) × (NamesWithout names → IsQuiet next)
   counted_at m a found least tells t is ready sizes are =
-      subst (λ z. (next : Region) × FiresTo names plain s flat z place rule plan next × (body_size (heap_of flat) sizes t rule.body ≤ item_count_of_region next)) is.home (counted found t
+      subst (λ z. (next : Region) × FiresTo names plain s flat z place rule plan next × (firing_size (heap_of flat) sizes t rule.body ≤ item_count_of_region next) × (NamesWithout names → IsQuiet next)) is.home (counted found t
       (subst (λ z. IsAsked names plain plans s flat z place rule plan) (sym is.home) a)
       (subst (λ z. IsLeast (heap_of flat) (head_items rule plan) rule.guard z (images z found)) (sym is.home) least)
       (subst (λ z. TellsIntegers (heap_of flat) (head_items rule plan) rule.guard z found) (sym is.home) tells)

@@ -9,3 +9,7 @@ pub mod Beginning
 mod MadeItems
 mod Counted
 mod Sizing
+mod QuietPieces
+mod QuietRules
+mod QuietRegions
+mod FirstLines

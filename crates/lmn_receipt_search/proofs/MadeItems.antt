@@ -1,5 +1,6 @@
--- What a firing makes has at least as many items as are counted of its body.
-use Rattle.std.proofs.Common.{ℕ, suc, ◌≡◌, ◌∙◌, ◌+◌, ◌==◌, ◌≤◌, inl, inr, Bool, true, false, if◌then◌else◌, List, [], ◌∷◌, ◌++◌, Option, Some, None, IsSome, length, map, refl, ap, subst, arith, length-append}
+-- What a firing leaves has at least as many items as are counted of its solid and its body.
+use Rattle.std.proofs.Common.{ℕ, suc, ◌-◌, ◌≡◌, ◌∙◌, ◌+◌, ◌==◌, ◌≤◌, ◌⊎◌, inl, inr, Bool, true, false, if◌then◌else◌, List, [], ◌∷◌, ◌++◌, Option, Some, None, IsSome, length, map, refl, ap, subst, arith, length-append}
+use Rattle.std.proofs.lemmas.Bool.{eqb-true}
 use Rattle.std.proofs.lemmas.List.{length-map}
 use Rattle.std.specs.List.{AllByRecursion}
 use Rattle.lmn_base.specs.Lists.{In}
@@ -12,7 +13,9 @@ use Rattle.lmn_base.specs.declared.level.Level.{Level}
 use Rattle.lmn_base.specs.declared.level.Level.TheFolds.{fold-roll-Level, ind-Level}
 use Rattle.lmn_store_heap.specs.Heap.{Heap, HeapAtom, IsAtom, IsMem, atoms_in, mems_in, rules_in}
 use Rattle.lmn_store_heap.specs.Solid.{solid_atom_at, solid_atoms_at}
-use Rattle.lmn_store_heap.specs.Sound.{Forest, Valid, bare, mem, flat as members, item_count_in}
+use Rattle.lmn_store_heap.specs.Sound.{Forest, Forms, Valid, bare, mem, flat as members, item_count_in}
+use Rattle.lmn_store_heap.specs.Lists.{Distinct}
+use Rattle.lmn_store_heap.proofs.ListLemmas.{apart, distinct_left, distinct_right, in_left, in_right}
 use Rattle.lmn_ground_parts.specs.Walks.{is_in}
 use Rattle.lmn_solid_bodies.specs.Flattening.{membrane_named}
 use Rattle.lmn_solid_settle.specs.Raw.{RawRegion, RawRegions, laid, laid_in, no_raw, raw, raw_and, settled_atom, size}
@@ -24,8 +27,8 @@ use Rattle.lmn_solid_firing.specs.declared.match_.Match.{Match}
 use Rattle.lmn_solid_firing.specs.declared.match_.Part.{Part}
 use Rattle.lmn_solid_firing.proofs.Laying.{in_left_of, named_there}
 use Rattle.lmn_solid_firing.proofs.Wholes.{atoms_there}
-use Rattle.lmn_receipt_search.proofs.Sizing.{formed, items_append, one_more}
-use Rattle.lmn_receipt_search.specs.Items.{AreSizes, body_size, context_size, contexts_size, leaf_size, leaves_size, left_size, part_size, rules_size, size_step, total}
+use Rattle.lmn_receipt_search.proofs.Sizing.{all_taken, children, formed, in_forest, items_append, one_more}
+use Rattle.lmn_receipt_search.specs.Items.{AreSizes, body_size, context_size, contexts_size, kept_size, leaf_size, leaves_size, left_size, part_size, rules_size, size_at, size_step, total}
 
 -- ---- items of a raw region
 
@@ -112,7 +115,7 @@ module _ (flat : Flat) (valid : Valid (heap_of flat)) where
     context_made closed n x there =
         let a = left_numbers t.atoms (atoms_in h x) in
         let b = written_many (written (context_writing closed n)) (left_of t.atoms (atoms_in h x)) (λ a i. atoms_there h valid x a (in_left_of t.atoms (atoms_in h x) a i)) in
-        let c = formed h sizes are t.membranes (mems_in h x) (left x) (forms x there) in
+        let c = formed h sizes are t.membranes (mems_in h x) (left x) (λ c i. let u = children flat valid x c i in u.there) (forms x there) in
         let d = forest_items closed n (left x) in
         omega (arith, a, b, c, d)
 
@@ -205,8 +208,8 @@ module _ (flat : Flat) (valid : Valid (heap_of flat)) where
     abbrev home : (b : LevelMade) (next : ℕ) → RawRegion
     home b next = home_region flat t left b next
 
-    pub home_counted : (b : LevelMade) (next k : ℕ) → LevelCounted b k → k ≤ raw_items (home b next)
-    home_counted b next k u =
+    home_made : (b : LevelMade) (next k : ℕ) → LevelCounted b k → k ≤ raw_items (home b next)
+    home_made b next k u =
         let kept = written_atoms flat (context_writing false 0) (left_of t.atoms (atoms_in h t.home)) in
         omega (
           arith,
@@ -232,5 +235,128 @@ module _ (flat : Flat) (valid : Valid (heap_of flat)) where
       | inr behind ↦ omega (arith, fired_counted_in made rest behind)
     ]
 
-    pub fired_counted : (made : RawRegion) (m : ℕ) (inner : Forest) → In t.home (m ∷ members inner) → raw_items made ≤ raw_items (fired_region flat t.home made m inner)
+    fired_counted : (made : RawRegion) (m : ℕ) (inner : Forest) → In t.home (m ∷ members inner) → raw_items made ≤ raw_items (fired_region flat t.home made m inner)
     fired_counted made m inner i = one_fired made m inner i (λ j. fired_counted_in made inner j)
+
+    -- ---- the whole solid
+
+    ones : (xs : List ℕ) → total (map (λ a. 1) xs) ≡ length xs
+    ones [] = refl
+    ones (x ∷ xs) = let r = ones xs in omega (arith, r)
+
+    -- what the head takes of the solid at most
+    abbrev gone : ℕ
+    gone = 1 + length t.atoms + total (map (size_at sizes) t.membranes)
+
+    module _ (there : IsMem h t.home) where
+      -- the membrane in which it fires has what the head leaves there, and what the body makes
+      home_counted : (b : LevelMade) (next k : ℕ) (inner : Forest) → Forms h inner (mems_in h t.home) → LevelCounted b k → size_at sizes t.home + k ≤ raw_items (home b next) + gone
+      home_counted b next k inner F u =
+          let kept = written_atoms flat (context_writing false 0) (left_of t.atoms (atoms_in h t.home)) in
+          let rest = context_made false 0 t.home there in
+          let exact = are t.home inner there F in
+          let whole = one_more h t.home (members inner) in
+          let inside = in_forest h sizes are inner (mems_in h t.home) (λ c i. let v = children flat valid t.home c i in v.there) F in
+          let atoms = all_taken (λ a. 1) t.atoms (atoms_in h t.home) (valid.sound.listed.atoms_once t.home) in
+          let membranes = all_taken (size_at sizes) t.membranes (mems_in h t.home) (valid.sound.listed.mems_once t.home) in
+          omega (
+            arith,
+            u.all next,
+            rest,
+            exact,
+            whole,
+            inside,
+            atoms,
+            membranes,
+            ones (atoms_in h t.home),
+            ones t.atoms,
+            length-append kept (b.atoms next),
+            length-append (rules_in h t.home) b.rules,
+            append_items (raws_at flat (context_writing false 0) (left t.home)) (b.membranes (b.start next) (b.own next)),
+          )
+
+      abbrev Unfired : RawRegion → Forest → Type 0
+      Unfired made f = raw_items_in (fired_regions flat t.home made f) ≡ item_count_in h (members f)
+
+      -- where the membrane doesn't stand nothing changes
+      unfired : (made : RawRegion) (f : Forest) → (In t.home (members f) → ⊥) → Unfired made f
+      unfired made bare out = refl
+      unfired made (mem m inner rest) out =
+          by (m == t.home) refl (unfired made inner (λ i. out (inr (in_left t.home (members inner) (members rest) i)))) (unfired made rest (λ i. out (inr (in_right t.home (members inner) (members rest) i))))
+        where
+          by : (b : Bool) → (m == t.home) ≡ b → Unfired made inner → Unfired made rest
+              → 1 + raw_items (if b then made else raw (written_atoms flat (context_writing false 0) (atoms_in h m)) (fired_regions flat t.home made inner) (rules_in h m)) + raw_items_in (fired_regions flat t.home made rest)
+              ≡ item_count_in h (members (mem m inner rest))
+          by true e p q = absurd (out (inl (eqb-true m t.home e)))
+          by false e p q = omega (
+            arith,
+            p,
+            q,
+            one_more h m (members inner ++ members rest),
+            items_append h (members inner) (members rest),
+            written_many (written (context_writing false 0)) (atoms_in h m) (λ a i. atoms_there h valid m a i),
+          )
+
+      abbrev Fired : RawRegion → Forest → Type 0
+      Fired made f = raw_items_in (fired_regions flat t.home made f) + size_at sizes t.home ≡ item_count_in h (members f) + 1 + raw_items made
+
+      -- where it stands once, what is made stands in its place
+      fired : (made : RawRegion) (f : Forest) (ms : List ℕ) → Forms h f ms → Distinct (members f) → In t.home (members f) → Fired made f
+      fired made bare ms F d i = absurd i
+      fired made (mem m inner rest) ms (others, e, F, G) d i =
+          by (m == t.home) refl (λ j. fired made inner (mems_in h m) F (distinct_left (members inner) (members rest) d.1) j) (λ j. fired made rest others G (distinct_right (members inner) (members rest) d.1) j)
+          (in_either t.home (m ∷ members inner) (members rest) i)
+        where
+          by : (b : Bool) → (m == t.home) ≡ b → (In t.home (members inner) → Fired made inner) → (In t.home (members rest) → Fired made rest) → In t.home (m ∷ members inner) ⊎ In t.home (members rest)
+              → 1 + raw_items (if b then made else raw (written_atoms flat (context_writing false 0) (atoms_in h m)) (fired_regions flat t.home made inner) (rules_in h m)) + raw_items_in (fired_regions flat t.home made rest) + size_at sizes t.home
+              ≡ item_count_in h (members (mem m inner rest)) + 1 + raw_items made
+          by true e p q s =
+              let same : m ≡ t.home = eqb-true m t.home e in
+              let exact = are m inner (subst (IsMem h) (sym same) there) F in
+              let here : size_at sizes m ≡ size_at sizes t.home = ap (size_at sizes) same in
+              let others = unfired made rest (λ j. apart (m ∷ members inner) (members rest) m t.home d (inl refl) j same) in
+              omega (arith, exact, here, others, items_append h (m ∷ members inner) (members rest))
+          by false e p q (inl (inl here)) = absurd (unequal_when m t.home e here)
+          by false e p q (inl (inr within)) = omega (
+            arith,
+            p within,
+            unfired made rest (λ j. apart (members inner) (members rest) t.home t.home d.1 within j refl),
+            one_more h m (members inner ++ members rest),
+            items_append h (members inner) (members rest),
+            written_many (written (context_writing false 0)) (atoms_in h m) (λ a i. atoms_there h valid m a i),
+          )
+          by false e p q (inr behind) = omega (
+            arith,
+            q behind,
+            unfired made inner (λ j. apart (members inner) (members rest) t.home t.home d.1 j behind refl),
+            one_more h m (members inner ++ members rest),
+            items_append h (members inner) (members rest),
+            written_many (written (context_writing false 0)) (atoms_in h m) (λ a i. atoms_there h valid m a i),
+          )
+
+      fired_whole : (made : RawRegion) (inner : Forest) → Forms h inner (mems_in h 0) → Distinct (0 ∷ members inner) → In t.home (0 ∷ members inner)
+          → raw_items (fired_region flat t.home made 0 inner) + size_at sizes t.home ≡ size_at sizes 0 + raw_items made
+      fired_whole made inner F d i = by (0 == t.home) refl (λ j. fired made inner (mems_in h 0) F d.1 j) i
+        where
+          by : (b : Bool) → (0 == t.home) ≡ b → (In t.home (members inner) → Fired made inner) → In t.home (0 ∷ members inner)
+              → raw_items (if b then made else raw (written_atoms flat (context_writing false 0) (atoms_in h 0)) (fired_regions flat t.home made inner) (rules_in h 0)) + size_at sizes t.home ≡ size_at sizes 0 + raw_items made
+          by true e p i = let same : size_at sizes 0 ≡ size_at sizes t.home = ap (size_at sizes) (eqb-true 0 t.home e) in omega (arith, same)
+          by false e p (inl here) = absurd (unequal_when 0 t.home e here)
+          by false e p (inr within) = omega (
+            arith,
+            p within,
+            are 0 inner root F,
+            one_more h 0 (members inner),
+            written_many (written (context_writing false 0)) (atoms_in h 0) (λ a i. atoms_there h valid 0 a i),
+          )
+
+      -- what a firing leaves has as many items as are counted of the solid and the body
+      pub firing_counted : (b : LevelMade) (next k : ℕ) (inside inner : Forest) → Forms h inside (mems_in h t.home) → Forms h inner (mems_in h 0) → Distinct (0 ∷ members inner) → In t.home (0 ∷ members inner) → LevelCounted b k
+          → kept_size sizes t + k ≤ raw_items (fired_region flat t.home (home b next) 0 inner)
+      firing_counted b next k inside inner F G d i u =
+          let made = home b next in
+          let least = home_made b next k u in
+          let at_home = home_counted b next k inside F u in
+          let within = fired_counted made 0 inner i in
+          let whole = fired_whole made inner G d i in
+          omega (arith, least, at_home, within, whole)

@@ -1,15 +1,17 @@
 //! The next solid.
 ghost use Rattle.std.specs.Prelude.{◌≡◌, ◌<◌, ◌≤◌, ℕ, List, IfOk, IfSome, IsFalse, IsTrue, None, length};
-ghost use Rattle.lmn_congruence.specs.Regions.{Region, item_count_of_region};
 ghost use Rattle.lmn_congruence.specs.Rules.{Name};
 ghost use Rattle.lmn_congruence.specs.Translation.{region_of};
 ghost use Rattle.lmn_adequacy.specs.Choice.{NextFrom, paths};
 ghost use Rattle.lmn_adequacy.specs.Embedding.{HasEmbedding};
+ghost use Rattle.lmn_base.specs.declared.solid.Solid.{Solid};
 ghost use Rattle.lmn_guards.specs.declared.plan.GuardPlan.{GuardPlan};
 ghost use Rattle.lmn_solid_tables.specs.Flats.{heap_of};
 ghost use Rattle.lmn_solid_search.specs.Holding.{HasRoom};
-ghost use Rattle.lmn_receipt_chain.specs.Laws.{IsAcceptedSolid};
-ghost use Rattle.lmn_receipt_search.specs.Turns.{NoneBefore};
+ghost use Rattle.lmn_receipt_search.specs.Items.{AreSizes};
+ghost use Rattle.lmn_receipt_search.specs.Tables.{AreSearchTables};
+ghost use Rattle.lmn_receipt_search.specs.Turns.{IsFoundWithin, NoneBefore};
+ghost use Rattle.lmn_solid_next.specs.Asking.{IsSearched};
 ghost use Rattle.lmn_solid_next.specs.Searching.{CanSearch, IsSolidBy};
 
 use crate::laws::firings_are_next;
@@ -17,6 +19,7 @@ use crate::order::{asked_at, reach_of};
 use crate::plans::plans_of;
 use crate::rules::{embeds_in, fire_in};
 use crate::sizes::Sizes;
+use crate::tables::SearchTables;
 use lmn_base::{NoMemory, Plain, Solid};
 use lmn_guards::GuardPlan;
 use lmn_receipt_chain::NextSolid;
@@ -24,43 +27,65 @@ use lmn_solid_search::Room;
 use lmn_solid_tables::Flat;
 use std::alloc::Global;
 
-/// The solid after the firing that the strategy chooses, where membranes are asked from a number on, wrapping round, with the last number
-/// of a membrane, from the given one on, from which it is the same; `None` where no rule of any membrane embeds. Where the contexts of a
-/// body stand for more items than the limit, that solid isn't made. `plans` has the plan of each rule.
-///
-/// # Errors
-///
-/// `NoMemory` at want of memory.
-pub fn next_from(
+impl SearchTables {
+    /// The solid after the firing that the strategy chooses, where membranes are asked from a number on, wrapping round, with the last number
+    /// of a membrane, from the given one on, from which it is the same; `None` where no rule of any membrane embeds. Where it is found to have
+    /// more items than the limit it isn't made. `plans` has the plan of each rule.
+    ///
+    /// # Errors
+    ///
+    /// `NoMemory` at want of memory.
+    pub(crate) fn next_from(
+        &mut self,
+        alloc: Global,
+        plain: &Plain,
+        plans: &[GuardPlan],
+        from: u64,
+        limit: u64,
+    ) -> Result<Option<NextSolid>, NoMemory>
+        requires { (names : List Name) × (s : Solid) × CanSearch names plain.now plans.now × IsSolidBy names plain.now s × AreSearchTables s self.old × (from < length (paths (region_of names plain.now.rules s))) }
+        ensures tables { (s : Solid) → AreSearchTables s self.old → AreSearchTables s self.new }
+        ensures found { (names : List Name) (s : Solid) → CanSearch names plain.now plans.now → IsSolidBy names plain.now s → AreSearchTables s self.old → IfOk result (λ found. IfSome found (IsFoundWithin names plain.now s from limit)) }
+        ensures none { (names : List Name) (s : Solid) → CanSearch names plain.now plans.now → IsSolidBy names plain.now s → AreSearchTables s self.old →
+            IfOk result (λ found. found ≡ None → ¬ (HasEmbedding (region_of names plain.now.rules s))) }
+    {
+        next_among(
+            alloc,
+            &self.flat,
+            &self.sizes,
+            &mut self.room,
+            plain,
+            plans,
+            from,
+            limit,
+        )
+    }
+}
+
+/// The same, by the tables and room for searches in them.
+fn next_among(
     alloc: Global,
-    solid: &Solid,
+    flat: &Flat,
+    sizes: &Sizes,
+    room: &mut Room,
     plain: &Plain,
     plans: &[GuardPlan],
     from: u64,
     limit: u64,
 ) -> Result<Option<NextSolid>, NoMemory>
-    requires { (names : List Name) × CanSearch names plain.now plans.now × IsSolidBy names plain.now solid.now × (from < length (paths (region_of names plain.now.rules solid.now))) }
-    ensures by { (names : List Name) → CanSearch names plain.now plans.now → IsSolidBy names plain.now solid.now → IfOk result (λ found. IfSome found (λ next. IfSome next.solid (IsSolidBy names plain.now))) }
-    ensures reach { (names : List Name) → CanSearch names plain.now plans.now → IsSolidBy names plain.now solid.now →
-        IfOk result (λ found. IfSome found (λ next. (from ≤ next.reach) × (next.reach < length (paths (region_of names plain.now.rules solid.now))))) }
-    ensures next { (names : List Name) → CanSearch names plain.now plans.now → IsSolidBy names plain.now solid.now →
-        IfOk result (λ found. IfSome found (λ next. IfSome next.solid (λ s. (k : ℕ) → from ≤ k → k ≤ next.reach → NextFrom k (region_of names plain.now.rules solid.now) (region_of names plain.now.rules s)))) }
-    ensures large { (names : List Name) → CanSearch names plain.now plans.now → IsSolidBy names plain.now solid.now → IsAcceptedSolid (region_of names plain.now.rules solid.now) →
-        IfOk result (λ found. IfSome found (λ next. next.solid ≡ None → (k : ℕ) → from ≤ k → k ≤ next.reach → (S : Region) → NextFrom k (region_of names plain.now.rules solid.now) S → limit < item_count_of_region S)) }
-    ensures none { (names : List Name) → CanSearch names plain.now plans.now → IsSolidBy names plain.now solid.now →
-        IfOk result (λ found. found ≡ None → ¬ (HasEmbedding (region_of names plain.now.rules solid.now))) }
+    requires searched { (names : List Name) × (s : Solid) × IsSearched names plain.now plans.now s flat.now × (from < length (paths (region_of names plain.now.rules s))) }
+    requires sizes { AreSizes (heap_of flat.now) sizes.now.of.items }
+    requires room { HasRoom (heap_of flat.now) room.old }
+    ensures room { HasRoom (heap_of flat.now) room.new }
+    ensures found { (names : List Name) (s : Solid) → IsSearched names plain.now plans.now s flat.now → IfOk result (λ found. IfSome found (IsFoundWithin names plain.now s from limit)) }
+    ensures none { (names : List Name) (s : Solid) → IsSearched names plain.now plans.now s flat.now → IfOk result (λ found. found ≡ None → ¬ (HasEmbedding (region_of names plain.now.rules s))) }
 {
     firings_are_next();
-    let flat = Flat::of(alloc, solid)?;
-    let sizes = Sizes::new(alloc, &flat)?;
-    let mut room = Room::new(alloc, &flat)?;
     let count = flat.membrane_count();
     let start = from as usize;
     for turn in 0..count {
         let membrane = asked_at(start, turn, count);
-        let fired = fire_in(
-            alloc, &flat, &sizes, plain, plans, membrane, &mut room, limit,
-        )?;
+        let fired = fire_in(alloc, flat, sizes, plain, plans, membrane, room, limit)?;
         if let Some(firing) = fired {
             let reach = reach_of(start, turn, count);
             return Ok(Some(NextSolid {
@@ -121,7 +146,8 @@ pub fn next_of(
         IfOk result (λ found. found ≡ None → ¬ (HasEmbedding (region_of names plain.now.rules solid.now))) }
 {
     let plans = plans_of(alloc, plain.rules.as_slice())?;
-    let next = next_from(alloc, solid, plain, plans.as_slice(), from, u64::MAX)?;
+    let mut tables = SearchTables::of(alloc, solid)?;
+    let next = tables.next_from(alloc, plain, plans.as_slice(), from, u64::MAX)?;
     match next {
         Some(found) => {
             let made = made_of(found.solid)?;

@@ -1,5 +1,7 @@
 //! Next solids of the rules of a plain.
-use crate::next::{embeds, next_from};
+use crate::feeds::{are_without, line_length};
+use crate::next::embeds;
+use crate::tables::SearchTables;
 use lmn_base::{Names, NoMemory, Plain, Solid};
 use lmn_guards::GuardPlan;
 use lmn_receipt_chain::{NextSolid, NextSolids};
@@ -12,45 +14,76 @@ pub struct PlainSearch<'p> {
     names: &'p Names,
     plain: &'p Plain,
     plans: &'p [GuardPlan],
+    /// Whether no name has a line feed: then a line ends at its first one.
+    without_feeds: bool,
 }
 
 impl<'p> PlainSearch<'p> {
-    ghost use Rattle.std.specs.Prelude.{◌≡◌};
+    ghost use Rattle.std.specs.Prelude.{◌≡◌, ◌≤◌, ◌++◌, ℕ, List, IsTrue};
+    ghost use Rattle.lmn_congruence.specs.Regions.{Region, item_count_of_region};
+    ghost use Rattle.lmn_receipt_chain.specs.Chains.{line_of_solid};
+    ghost use Rattle.lmn_receipt_search.specs.Feeds.{IsQuiet, NamesWithout};
 
     /// With the plans of the rules, and names by which lines of solids are read.
     pub fn new(names: &'p Names, plain: &'p Plain, plans: &'p [GuardPlan]) -> PlainSearch<'p>
         ensures names { result.names.now ≡ names.now }
         ensures plain { result.plain.now ≡ plain.now }
         ensures plans { result.plans.now ≡ plans.now }
+        ensures feeds { IsTrue result.without_feeds → NamesWithout names.now }
     {
         PlainSearch {
             names,
             plain,
             plans,
+            without_feeds: are_without(names),
+        }
+    }
+
+    /// How many items a solid has at most with whose line a text begins: a line has a byte for each at least.
+    fn most_items(&self, text: &[u8]) -> u64
+        requires { IsTrue self.now.without_feeds → NamesWithout self.now.names.now }
+        ensures { (S : Region) (more : List ℕ) → (NamesWithout self.now.names.now → IsQuiet S) → text.now ≡ line_of_solid S ++ more → item_count_of_region S ≤ result }
+    {
+        if self.without_feeds {
+            line_length(text) as u64
+        } else {
+            text.len() as u64
         }
     }
 }
 
 impl NextSolids for PlainSearch<'_> {
+    ghost use Rattle.std.specs.Prelude.{IsTrue};
     ghost use Rattle.lmn_congruence.specs.Translation.{region_of};
     ghost use Rattle.lmn_solid_next.specs.Searching.{CanSearch, IsSolidBy};
+    ghost use Rattle.lmn_receipt_search.specs.Feeds.{NamesWithout};
+    ghost use Rattle.lmn_receipt_search.specs.Tables.{AreSearchTables};
 
-    ghost fits = { λ p s. CanSearch p.names.now p.plain.now p.plans.now × IsSolidBy p.names.now p.plain.now s };
+    type Tables = SearchTables;
+
+    ghost fits = { λ p s. CanSearch p.names.now p.plain.now p.plans.now × IsSolidBy p.names.now p.plain.now s × (IsTrue p.without_feeds → NamesWithout p.names.now) };
 
     ghost region = { λ p s. region_of p.names.now p.plain.now.rules s };
+
+    ghost are_of = { λ p s tables. AreSearchTables s tables };
 
     fn membranes(&self, alloc: Global, solid: &Solid) -> Result<u64, NoMemory> {
         membranes(alloc, solid)
     }
 
+    fn tables(&self, alloc: Global, solid: &Solid) -> Result<SearchTables, NoMemory> {
+        SearchTables::of(alloc, solid)
+    }
+
     fn next_from(
         &self,
         alloc: Global,
-        solid: &Solid,
+        tables: &mut SearchTables,
         from: u64,
-        limit: u64,
+        text: &[u8],
     ) -> Result<Option<NextSolid>, NoMemory> {
-        next_from(alloc, solid, self.plain, self.plans, from, limit)
+        let limit = self.most_items(text);
+        tables.next_from(alloc, self.plain, self.plans, from, limit)
     }
 
     fn embeds(&self, alloc: Global, solid: &Solid) -> Result<bool, NoMemory> {

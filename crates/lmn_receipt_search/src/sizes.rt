@@ -1,19 +1,20 @@
-//! How many items a firing makes, told from below: it is enough to tell that they are too many, before any is made.
-ghost use Rattle.std.specs.Prelude.{◌≡◌, ◌<◌, ◌≤◌, ◌+◌, ℕ, [], IfOk, IsTrue, if◌then◌else◌, length};
+//! How many items a firing leaves, told from below: it is enough to tell that they are too many, before any is made.
+ghost use Rattle.std.specs.Prelude.{◌≡◌, ◌<◌, ◌≤◌, ◌+◌, ℕ, IfOk, IsTrue, if◌then◌else◌, length, map};
+ghost use Rattle.lmn_base.specs.declared.solid.Solid.{Solid};
 ghost use Rattle.lmn_store_heap.specs.Heap.{IsMem, atoms_in, mems_in, rules_in};
 ghost use Rattle.lmn_store_heap.specs.Sound.{Valid};
 ghost use Rattle.lmn_ground_parts.specs.Walks.{is_in};
 ghost use Rattle.lmn_solid_bodies.specs.Flattening.{membrane_named};
 ghost use Rattle.lmn_solid_firing.specs.Making.{AreThere, IsReadyFor};
-ghost use Rattle.lmn_solid_tables.specs.Flats.{heap_of};
-ghost use Rattle.lmn_receipt_search.specs.Items.{AreSizes, body_size, context_size, contexts_size, leaf_size, leaves_size, left_size, part_size, rules_size, size_at};
+ghost use Rattle.lmn_solid_tables.specs.Flats.{IsFlatOf, heap_of};
+ghost use Rattle.lmn_receipt_search.specs.Items.{AreSizes, body_size, context_size, contexts_size, firing_size, kept_size, leaf_size, leaves_size, left_size, part_size, rules_size, size_at, total};
 
 use lmn_base::{CtxUse, Leaf, Level, NoMemory};
 use lmn_solid_firing::{Match, Part};
 use lmn_solid_tables::Flat;
 use std::alloc::Global;
 
-/// How many items each membrane of a solid is with all that stands in it, told from below.
+/// How many items each membrane of a solid is with all that stands in it.
 #[derive(Drop)]
 pub(crate) struct Sizes {
     pub(crate) of: Vec<u64>,
@@ -26,41 +27,81 @@ impl Sizes {
     ///
     /// `NoMemory` at want of memory.
     pub(crate) fn new(alloc: Global, flat: &Flat) -> Result<Sizes, NoMemory>
+        requires { (s : Solid) × IsFlatOf s flat.now }
         ensures { IfOk result (λ sizes. AreSizes (heap_of flat.now) sizes.of.items) }
     {
         let count = flat.membrane_count();
         let mut of = zeros(alloc, count)?;
         // What stands in a membrane has a greater number.
         for membrane in (0..count).rev() {
-            of[membrane] = whole_size(flat, of.as_slice(), membrane);
+            of[membrane] = whole_size(flat, of.as_slice(), membrane)?;
         }
         Ok(Sizes { of })
     }
 
-    /// Whether a firing makes more items than a limit, by what the contexts of its body stand for. `false` says nothing.
+    /// Whether a firing leaves more items than a limit, by what its head doesn't take and what the contexts of its body stand for. `false`
+    /// says nothing.
     pub(crate) fn are_beyond(&self, flat: &Flat, taken: &Match, body: &Level, limit: u64) -> bool
         requires valid { Valid (heap_of flat.now) }
         requires ready { IsReadyFor flat.now taken.now }
-        ensures { IsTrue result → limit < body_size (heap_of flat.now) self.now.of.items taken.now body.now }
+        ensures { IsTrue result → limit < firing_size (heap_of flat.now) self.now.of.items taken.now body.now }
     {
-        level_size(flat, self.of.as_slice(), taken, body) > limit
+        let sizes = self.of.as_slice();
+        let kept = kept_items(sizes, taken);
+        kept.saturating_add(level_size(flat, sizes, taken, body)) > limit
+    }
+}
+
+/// The sum, where 64 bits hold it: no memory holds more items.
+fn added(left: u64, right: u64) -> Result<u64, NoMemory>
+    ensures { IfOk result (λ both. both ≡ left + right) }
+{
+    match left.checked_add(right) {
+        Some(both) => Ok(both),
+        None => Err(NoMemory),
     }
 }
 
 /// A membrane with its atoms and rules and what stands in its membranes.
-fn whole_size(flat: &Flat, sizes: &[u64], membrane: usize) -> u64
+fn whole_size(flat: &Flat, sizes: &[u64], membrane: usize) -> Result<u64, NoMemory>
     requires { IsMem (heap_of flat.now) membrane }
-    ensures { result ≤ 1 + length (atoms_in (heap_of flat.now) membrane) + length (rules_in (heap_of flat.now) membrane) + left_size (size_at sizes.now) [] (mems_in (heap_of flat.now) membrane) }
+    ensures { IfOk result (λ size. size ≡ 1 + length (atoms_in (heap_of flat.now) membrane) + length (rules_in (heap_of flat.now) membrane) + total (map (size_at sizes.now) (mems_in (heap_of flat.now) membrane))) }
 {
-    let own = (flat.atoms(membrane).len() as u64).saturating_add(flat.rules(membrane).len() as u64);
-    let inner = membranes_left(sizes, &[], flat.membranes(membrane));
-    own.saturating_add(inner).saturating_add(1)
+    let own = added(
+        flat.atoms(membrane).len() as u64,
+        flat.rules(membrane).len() as u64,
+    )?;
+    let alone = added(own, 1)?;
+    let inner = together(sizes, flat.membranes(membrane))?;
+    added(alone, inner)
+}
+
+/// The sizes of membranes together.
+fn together(sizes: &[u64], membranes: &[usize]) -> Result<u64, NoMemory>
+    ensures { IfOk result (λ size. size ≡ total (map (size_at sizes.now) membranes.now)) }
+{
+    let mut size = 0u64;
+    for membrane in membranes {
+        size = added(size, size_of(sizes, *membrane))?;
+    }
+    Ok(size)
+}
+
+/// What is left of a solid behind the images of a head.
+fn kept_items(sizes: &[u64], taken: &Match) -> u64
+    ensures { result ≡ kept_size sizes.now taken.now }
+{
+    let mut kept = size_of(sizes, 0).saturating_sub(1);
+    kept = kept.saturating_sub(taken.atoms.len() as u64);
+    for membrane in taken.membranes.as_slice() {
+        kept = kept.saturating_sub(size_of(sizes, *membrane));
+    }
+    kept
 }
 
 /// So many zeros.
 fn zeros(alloc: Global, count: usize) -> Result<Vec<u64>, NoMemory>
-    ensures length { IfOk result (λ of. length of.items ≡ count) }
-    ensures zeros { IfOk result (λ of. (m : ℕ) → size_at of.items m ≡ 0) }
+    ensures { IfOk result (λ of. length of.items ≡ count) }
 {
     let mut of = Vec::new(alloc);
     for _ in 0..count {

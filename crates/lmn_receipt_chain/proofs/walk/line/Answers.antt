@@ -1,32 +1,58 @@
 use Rattle.std.proofs.Common.{arith, length}
-use Rattle.lmn_receipt_chain.proofs.WalkLemmas.{all_tried, next_continues, next_tried}
+use Rattle.lmn_base.proofs.Lists.{holds_of_item}
+use Rattle.lmn_receipt_chain.specs.Found.{IsNextFound}
+use Rattle.lmn_receipt_chain.proofs.WalkLemmas.{all_tried, next_continues, next_fits, next_tried, nothing_fits}
 use Rattle.lmn_receipt_chain.proofs.walk.line.Goals as goal
+
+pub try_hint-requires : goal.try_hint-requires
+try_hint-requires g c = (c.args.solid.now, c.requires.fits, c.in_ok-tables.ensures, c.in_ok-count.ensures)
+
+pub next_from-requires : goal.next_from-requires
+next_from-requires g c =
+    let count = c.in_ok-count.ensures in
+    let inside = c.loop-from-test.true in
+    (c.args.solid.now, c.requires.fits, c.loop-from.invariant.tables, omega (arith, count, inside))
+
+pub fitting-requires : goal.fitting-requires
+fitting-requires g c =
+    let fits = g.N.NextSolids.fits c.args.solids.now in
+    let region = g.N.NextSolids.region c.args.solids.now in
+    record {
+      fits = next_fits fits region (region c.args.solid.now) c.loop-from.from c.args.rest.now c.in-Some-2.next
+          (holds_of_item (IsNextFound fits region (region c.args.solid.now) c.loop-from.from c.args.rest.now) c.in_ok-next.field-0 c.in-Some-2.next c.in-Some-2.is (c.in_ok-next.ensures.found c.args.solid.now c.requires.fits c.loop-from.invariant.tables));
+    }
+
+pub loop-from-init : goal.loop-from-init
+loop-from-init g c = record { tables = c.in_ok-found.ensures.tables c.args.solid.now c.requires.fits c.in_ok-tables.ensures; tried = λ k l. absurd (omega (arith, l)) }
 
 pub loop-from-preserved : goal.loop-from-preserved
 loop-from-preserved g c =
+    let fits = g.N.NextSolids.fits c.args.solids.now in
     let region = g.N.NextSolids.region c.args.solids.now in
-    let numbered = rw c.in-Some-2.is at c.in_ok-next.ensures.numbered in
-    let next = rw c.in-Some-2.is at c.in_ok-next.ensures.next in
-    let large = rw c.in-Some-2.is at (c.in_ok-next.ensures.large c.requires.sound) in
-    next_tried region (region c.args.solid.now) c.args.rest.now c.loop-from.from c.in-Some-2.next.reach (length c.args.rest.now) c.in-Some-2.next.solid
-    c.requires.sound c.loop-from.invariant (omega arith) numbered next large (c.in_ok-found-2.ensures.none c.in_default-3.is)
+    let found = holds_of_item (IsNextFound fits region (region c.args.solid.now) c.loop-from.from c.args.rest.now) c.in_ok-next.field-0 c.in-Some-2.next c.in-Some-2.is (c.in_ok-next.ensures.found c.args.solid.now c.requires.fits c.loop-from.invariant.tables) in
+    record {
+      tables = c.in_ok-next.ensures.tables c.args.solid.now c.requires.fits c.loop-from.invariant.tables;
+      tried = next_tried fits region (region c.args.solid.now) c.loop-from.from c.args.rest.now c.in-Some-2.next found c.requires.sound c.loop-from.invariant.tried (c.in_ok-found-2.ensures.none c.in_default-3.is);
+    }
 
 pub returns : goal.returns
 returns g c = λ commits. (
   c.requires.there,
-  all_tried (g.N.NextSolids.region c.args.solids.now c.args.solid.now) c.args.rest.now c.loop-from.from c.in_ok-count.count c.in_ok-count.ensures (λ l. let out = c.loop-from-test.false in omega (arith, out, l)) c.loop-from.invariant,
+  all_tried (g.N.NextSolids.region c.args.solids.now c.args.solid.now) c.args.rest.now c.loop-from.from c.in_ok-count.count c.in_ok-count.ensures (λ l. let out = c.loop-from-test.false in omega (arith, out, l)) c.loop-from.invariant.tried,
 )
 
 pub returns-in-Some : goal.returns-in-Some
-returns-in-Some g c = λ commits. rw c.in-Some.is at (c.in_ok-found.ensures commits)
+returns-in-Some g c = λ commits. rw c.in-Some.is at (c.in_ok-found.ensures.found c.args.solid.now commits c.requires.fits c.in_ok-tables.ensures)
+
+pub returns-in_default-2 : goal.returns-in_default-2
+returns-in_default-2 g c = λ commits. (
+  c.requires.there,
+  nothing_fits (g.N.NextSolids.region c.args.solids.now c.args.solid.now) c.args.rest.now (c.in_ok-next.ensures.none c.args.solid.now c.requires.fits c.loop-from.invariant.tables c.in_default-2.is),
+)
 
 pub returns-in-Some-3 : goal.returns-in-Some-3
 returns-in-Some-3 g c = λ commits.
+    let fits = g.N.NextSolids.fits c.args.solids.now in
     let region = g.N.NextSolids.region c.args.solids.now in
-    let S = region c.args.solid.now in
-    let numbered = rw c.in-Some-2.is at c.in_ok-next.ensures.numbered in
-    let reach = rw c.in-Some-2.is at c.in_ok-next.ensures.reach in
-    let next = rw c.in-Some-2.is at c.in_ok-next.ensures.next in
-    let count = c.in_ok-count.ensures in
-    let inside = c.loop-from-test.true in
-    rw c.in-Some-3.is at (c.in_ok-found-2.ensures.some S commits (next_continues region S c.loop-from.from c.in-Some-2.next.reach c.in-Some-2.next.solid (omega (arith, count, inside)) reach.0 numbered next))
+    let found = holds_of_item (IsNextFound fits region (region c.args.solid.now) c.loop-from.from c.args.rest.now) c.in_ok-next.field-0 c.in-Some-2.next c.in-Some-2.is (c.in_ok-next.ensures.found c.args.solid.now c.requires.fits c.loop-from.invariant.tables) in
+    rw c.in-Some-3.is at (c.in_ok-found-2.ensures.some (region c.args.solid.now) commits (next_continues fits region (region c.args.solid.now) c.loop-from.from c.args.rest.now c.in-Some-2.next found))

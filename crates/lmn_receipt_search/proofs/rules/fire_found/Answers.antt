@@ -60,4 +60,4 @@ returns-then-are_beyond c names plain plans s place a =
     c.bodies_are_counted.ensures names plain plans s c.args.flat.now c.args.membrane place c.args.rule.now c.args.plan.now a c.args.found.now c.requires.least c.requires.known c.in_ok-taken.taken
     (subst (λ xs. IsMatched c.args.flat.now c.args.rule.now xs c.args.membrane c.args.found.now c.in_ok-taken.taken) c.requires.items c.in_ok-taken.ensures.matched) c.in_ok-taken.ensures.ready c.args.sizes.now.of.items c.requires.sizes in
     let many = c.are_beyond.ensures c.if-are_beyond.true in
-    (w.0, w.1, omega (arith, w.2, many))
+    (w.0, w.1, record { many = omega (arith, w.2, many); quiet = w.3 })

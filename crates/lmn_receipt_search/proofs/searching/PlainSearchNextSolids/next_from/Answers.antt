@@ -1,32 +1,32 @@
-use Rattle.std.specs.Prelude.{IfSome}
+use Rattle.std.specs.Prelude.{IfSome, IsTrue}
 use Rattle.std.proofs.lemmas.Option.{IfSome_then}
 use Rattle.std.proofs.lemmas.Result.{IfOk-weaker}
+use Rattle.lmn_base.specs.declared.solid.Solid.{Solid}
 use Rattle.lmn_congruence.specs.Translation.{region_of}
-use Rattle.lmn_adequacy.specs.Numbered.{IsNumbered}
 use Rattle.lmn_solid_next.specs.Searching.{CanSearch, IsSolidBy}
-use Rattle.lmn_receipt_search.proofs.Found.{solid_is_numbered}
+use Rattle.lmn_receipt_chain.specs.Found.{IsNextFound}
+use Rattle.lmn_receipt_search.specs.Feeds.{NamesWithout}
+use Rattle.lmn_receipt_search.specs.Turns.{IsFoundWithin}
+use Rattle.lmn_receipt_search.proofs.Found.{found_beside}
 use Rattle.lmn_receipt_search.proofs.searching.PlainSearchNextSolids.next_from.Goals as goal
 
+pub most_items-limit-requires : goal.most_items-limit-requires
+most_items-limit-requires c = c.requires.1.2
+
 pub next_from-requires : goal.next_from-requires
-next_from-requires c = (c.args.self.now.names.now, c.requires.fits.0, c.requires.fits.1, c.requires.from)
+next_from-requires c = let q = c.requires in (c.args.self.now.names.now, q.0, q.1.0, q.1.1, q.2, q.3)
 
-pub returns-clause-fits : goal.returns-clause-fits
-returns-clause-fits c =
+pub returns-clause-tables : goal.returns-clause-tables
+returns-clause-tables c s holds are = c.next_from.ensures.tables s are
+
+pub returns-clause-found : goal.returns-clause-found
+returns-clause-found c s holds are =
     let p = c.args.self.now in
-    IfOk-weaker c.next_from.result (λ o. IfSome o (λ next. IfSome next.solid (IsSolidBy p.names.now p.plain.now))) (λ o. IfSome o (λ next. IfSome next.solid (λ s. CanSearch p.names.now p.plain.now p.plans.now × IsSolidBy p.names.now p.plain.now s)))
-    (λ o h. IfSome_then o h (λ next b. IfSome_then next.solid b (λ s d. (c.requires.fits.0, d)))) (c.next_from.ensures.by p.names.now c.requires.fits.0 c.requires.fits.1)
+    let fits : Solid → Type 0 = λ z. CanSearch p.names.now p.plain.now p.plans.now × IsSolidBy p.names.now p.plain.now z × (IsTrue p.without_feeds → NamesWithout p.names.now) in
+    IfOk-weaker c.next_from.result (λ o. IfSome o (IsFoundWithin p.names.now p.plain.now s c.args.from c.most_items-limit.result))
+    (λ o. IfSome o (IsNextFound fits (region_of p.names.now p.plain.now.rules) (region_of p.names.now p.plain.now.rules s) c.args.from c.args.text.now))
+    (λ o h. IfSome_then o h (found_beside p.names.now p.plain.now s c.args.from c.most_items-limit.result c.args.text.now fits (λ z by. (holds.0, by, holds.2)) c.most_items-limit.ensures))
+    (c.next_from.ensures.found p.names.now s holds.0 holds.1 are)
 
-pub returns-clause-numbered : goal.returns-clause-numbered
-returns-clause-numbered c =
-    let p = c.args.self.now in
-    IfOk-weaker c.next_from.result (λ o. IfSome o (λ next. IfSome next.solid (IsSolidBy p.names.now p.plain.now))) (λ o. IfSome o (λ next. IfSome next.solid (λ s. IsNumbered (region_of p.names.now p.plain.now.rules s))))
-    (λ o h. IfSome_then o h (λ next b. IfSome_then next.solid b (λ s d. solid_is_numbered p.names.now p.plain.now.rules s d.solid))) (c.next_from.ensures.by p.names.now c.requires.fits.0 c.requires.fits.1)
-
-pub returns-clause-reach : goal.returns-clause-reach
-returns-clause-reach c = c.next_from.ensures.reach c.args.self.now.names.now c.requires.fits.0 c.requires.fits.1
-
-pub returns-clause-next : goal.returns-clause-next
-returns-clause-next c = c.next_from.ensures.next c.args.self.now.names.now c.requires.fits.0 c.requires.fits.1
-
-pub returns-clause-large : goal.returns-clause-large
-returns-clause-large c = c.next_from.ensures.large c.args.self.now.names.now c.requires.fits.0 c.requires.fits.1
+pub returns-clause-none : goal.returns-clause-none
+returns-clause-none c s holds are = c.next_from.ensures.none c.args.self.now.names.now s holds.0 holds.1 are

@@ -1,7 +1,7 @@
 use Rattle.lmn_solid_tables.specs.Flats.{heap_of}
 use Rattle.lmn_solid_search.specs.Holding.{HasRoom}
 use Rattle.lmn_receipt_search.specs.Turns.{NoneBefore}
-use Rattle.lmn_receipt_search.proofs.next.next_from.Given as goal
+use Rattle.lmn_receipt_search.proofs.next.next_among.Given as goal
 
 abbrev pub invariant-loop-turn : goal.invariant-loop-turn
 invariant-loop-turn l = record {
