@@ -1,5 +1,5 @@
 use Rattle.std.proofs.Common.{sym, ap, subst, ◌∙◌, Result, Ok, Err, arith}
-use Rattle.std.specs.Result.{OnErr}
+use Rattle.std.specs.Result.{OnErr, OnOk}
 use Rattle.std.proofs.lemmas.Result.{on_ok_weaker}
 use Rattle.lmn_schedule.specs.Held.{EngineCanTurn, HoldsRegion}
 use Rattle.lmn_schedule.specs.Turning.{Gives}
@@ -35,23 +35,34 @@ anyway (Err e) p = p
 pub returns-clause-lacks : goal.returns-clause-lacks
 returns-clause-lacks g c = anyway c.back.result (omega arith)
 
+-- what three facts of an answer say one by one,
+parts : {T E P Q R : Type 0} (r : Result T E) → OnOk r (P × Q × R) → OnOk r P × OnOk r Q × OnOk r R
+parts (Ok v) p = p
+parts (Err e) p = (tt, tt, tt)
+
+-- and what two say together
+together : {T E P Q R : Type 0} (r : Result T E) → (P → Q → R) → OnOk r P → OnOk r Q → OnOk r R
+together (Ok v) f p q = f p q
+together (Err e) f p q = tt
+
 pub returns-clause-number : goal.returns-clause-number
-returns-clause-number g c = on_ok_weaker c.back.result (λ now. now.0) c.back.ensures.engine
+returns-clause-number g c = (parts c.back.result c.back.ensures.engine).0
 
 pub returns-clause-same : goal.returns-clause-same
 returns-clause-same g c =
     let keeps = c.in_ok-fresh.ensures.keeps in
-    on_ok_weaker c.back.result (λ now. (ap (λ e. e.plain.now) now.2 ∙ keeps.0, ap (λ e. e.chooser.f) now.2 ∙ keeps.1, ap (λ e. e.size) now.2 ∙ keeps.2)) c.back.ensures.engine
+    on_ok_weaker c.back.result (λ same. (ap (λ e. e.plain.now) same ∙ keeps.0, ap (λ e. e.chooser.f) same ∙ keeps.1, ap (λ e. e.size) same ∙ keeps.2)) (parts c.back.result c.back.ensures.engine).2
 
 pub returns-clause-again : goal.returns-clause-again
 returns-clause-again g c =
     let keeps = c.in_ok-fresh.ensures.keeps in
     let h' = heap_of c.back.new.self.engine.machine.store in
-    on_ok_weaker c.back.result (λ now.
-    let rules = ap (λ e. e.plain.now.rules) now.2 ∙ ap (λ p. p.rules) keeps.0 in
-    let size = ap (λ e. e.size) now.2 ∙ keeps.2 in
-    subst (λ s. EngineCanTurn h' c.args.beginning.now.plain.now.rules c.back.new.self.engine.codes s) size (subst (λ rules. EngineCanTurn h' rules c.back.new.self.engine.codes c.back.new.self.engine.size) rules now.1))
-    c.back.ensures.engine
+    let facts = parts c.back.result c.back.ensures.engine in
+    together c.back.result (λ again same.
+    let rules = ap (λ e. e.plain.now.rules) same ∙ ap (λ p. p.rules) keeps.0 in
+    let size = ap (λ e. e.size) same ∙ keeps.2 in
+    subst (λ s. EngineCanTurn h' c.args.beginning.now.plain.now.rules c.back.new.self.engine.codes s) size (subst (λ rules. EngineCanTurn h' rules c.back.new.self.engine.codes c.back.new.self.engine.size) rules again))
+    facts.1 facts.2
 
 pub back-requires-clause-commits : goal.back-requires-clause-commits
 back-requires-clause-commits g c = (c.in_ok-fresh.ensures.keeps.3, c.requires.commits)
