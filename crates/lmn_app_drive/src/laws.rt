@@ -37,7 +37,6 @@ pub fn sleepers_are_not_asked()
 {}
 
 /// What is said of each input of a run by an engine with a size.
-#[tactic(auto, using(crate::proofs::ExampleRuns::inputs_have_sizes))]
 pub fn inputs_have_sizes()
     ensures { InputsHaveSizes }
 {}
