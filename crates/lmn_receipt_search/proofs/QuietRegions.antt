@@ -1,7 +1,6 @@
 -- Solids whose labels and rules are written without a line feed: their lines have one, the last byte.
-use Rattle.std.proofs.Common.{ℕ, ◌≡◌, ◌≢◌, ◌∙◌, ◌+◌, ◌<◌, ◌≤◌, inl, inr, List, [], ◌∷◌, ◌++◌, map, length, codes, refl, sym, ap, subst, arith, append_assoc, length-append}
+use Rattle.std.proofs.Common.{ℕ, ◌≡◌, ◌≢◌, ◌∙◌, ◌+◌, ◌≤◌, inl, inr, List, [], ◌∷◌, ◌++◌, map, length, codes, refl, sym, ap, subst, arith, append_assoc, length-append}
 use Rattle.std.specs.List.{AllByRecursion}
-use Rattle.std.specs.Prelude.{slice_get}
 use Rattle.std.proofs.lemmas.Bool.{cases_lt}
 use Rattle.std.proofs.lemmas.List.{get_or_past}
 use Rattle.std.proofs.lemmas.Option.{slice_get-get_or}
@@ -14,10 +13,9 @@ use Rattle.lmn_base.specs.declared.solid.SolidAtom as base_atom
 use Rattle.lmn_base.proofs.Lists.{all_append}
 use Rattle.lmn_congruence.specs.Plains.{SolidOf, fused_leaves, fused_level, fused_levels}
 use Rattle.lmn_congruence.specs.Regions.{Region, Regions, SolidAtom, item_count_of_region, no_region, region, region_and}
-use Rattle.lmn_congruence.specs.Rules.{Leaf, Level, Levels, Name, Rule, atom_leaf, connector_leaf, integer, level, level_and, named, no_level, typed_leaf}
+use Rattle.lmn_congruence.specs.Rules.{Leaf, Level, Levels, Name, Rule, atom_leaf, connector_leaf, level, level_and, no_level, typed_leaf}
 use Rattle.lmn_congruence.specs.Same.{renamed_atom, renamed_region, renamed_regions}
 use Rattle.lmn_congruence.specs.Translation.{label_of, name_of, numbered_region, numbered_rule, region_step, regions, rules as listed_rules, solid_atom_of}
-use Rattle.lmn_congruence.specs.Rules as tree
 use Rattle.lmn_lexer.specs.declared.token.Kind.TheVariants as kind
 use Rattle.lmn_flatten_plain.specs.SolidLines.{as_level, as_levels, atom_as_leaf}
 use Rattle.lmn_flatten_plain.specs.Words.{Piece, label_piece, leaf_pieces, level_pieces, levels_pieces, links_pieces, piece_text, rule_pieces, rules_pieces, space, text_of, top_pieces, with_commas, word}

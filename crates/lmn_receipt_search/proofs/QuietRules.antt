@@ -1,5 +1,5 @@
 -- The rules of a plain, by numbers, are written without a line feed where no name has one.
-use Rattle.std.proofs.Common.{ℕ, ◌≡◌, ◌<◌, ◌≤◌, ◌+◌, inl, inr, List, [], ◌∷◌, ◌++◌, All, length, refl, sym, subst, arith}
+use Rattle.std.proofs.Common.{ℕ, ◌≡◌, ◌<◌, ◌+◌, inl, inr, List, [], ◌∷◌, All, length, refl, sym, subst, arith}
 use Rattle.std.specs.List.{flat_map}
 use Rattle.std.proofs.lemmas.Bool.{cases_lt}
 use Rattle.std.proofs.lemmas.List.Elements.{All-from_recursion}
@@ -15,7 +15,7 @@ use Rattle.lmn_base.specs.Solids.{HasEachRule, atoms_step, rules_step}
 use Rattle.lmn_base.specs.WellMade.{IsWellMade}
 use Rattle.std.proofs.lemmas.List.{get_or_past}
 use Rattle.lmn_congruence.specs.Regions.{Region, no_region, region}
-use Rattle.lmn_congruence.specs.Rules.{Name, Rule}
+use Rattle.lmn_congruence.specs.Rules.{Name}
 use Rattle.lmn_congruence.specs.Translation.{no_such_rule, numbered_rule, region_of, region_step, rules_from}
 use Rattle.lmn_flatten_plain.specs.NamesHeld.{LevelHeld, RuleHeld}
 use Rattle.lmn_flatten_plain.specs.SolidLines.{as_level}

@@ -1,4 +1,4 @@
-use Rattle.std.proofs.Common.{arith, length}
+use Rattle.std.proofs.Common.{arith}
 use Rattle.lmn_base.proofs.Lists.{holds_of_item}
 use Rattle.lmn_receipt_chain.specs.Found.{IsNextFound}
 use Rattle.lmn_receipt_chain.proofs.WalkLemmas.{all_tried, next_continues, next_fits, next_tried, nothing_fits}
