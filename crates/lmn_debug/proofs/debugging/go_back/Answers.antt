@@ -36,9 +36,9 @@ pub returns-clause-lacks : goal.returns-clause-lacks
 returns-clause-lacks g c = anyway c.back.result (omega arith)
 
 -- what three facts of an answer say one by one,
-parts : {T E P Q R : Type 0} (r : Result T E) → OnOk r (P × Q × R) → OnOk r P × OnOk r Q × OnOk r R
-parts (Ok v) p = p
-parts (Err e) p = (tt, tt, tt)
+parts : {T E : Type 0} (P Q R : Type 0) (r : Result T E) → OnOk r (P × Q × R) → OnOk r P × OnOk r Q × OnOk r R
+parts P Q R (Ok v) p = p
+parts P Q R (Err e) p = (tt, tt, tt)
 
 -- and what two say together
 together : {T E P Q R : Type 0} (r : Result T E) → (P → Q → R) → OnOk r P → OnOk r Q → OnOk r R
@@ -46,18 +46,18 @@ together (Ok v) f p q = f p q
 together (Err e) f p q = tt
 
 pub returns-clause-number : goal.returns-clause-number
-returns-clause-number g c = (parts c.back.result c.back.ensures.engine).0
+returns-clause-number g c = (parts _ _ _ c.back.result c.back.ensures.engine).0
 
 pub returns-clause-same : goal.returns-clause-same
 returns-clause-same g c =
     let keeps = c.in_ok-fresh.ensures.keeps in
-    on_ok_weaker c.back.result (λ same. (ap (λ e. e.plain.now) same ∙ keeps.0, ap (λ e. e.chooser.f) same ∙ keeps.1, ap (λ e. e.size) same ∙ keeps.2)) (parts c.back.result c.back.ensures.engine).2
+    on_ok_weaker c.back.result (λ same. (ap (λ e. e.plain.now) same ∙ keeps.0, ap (λ e. e.chooser.f) same ∙ keeps.1, ap (λ e. e.size) same ∙ keeps.2)) (parts _ _ _ c.back.result c.back.ensures.engine).2
 
 pub returns-clause-again : goal.returns-clause-again
 returns-clause-again g c =
     let keeps = c.in_ok-fresh.ensures.keeps in
     let h' = heap_of c.back.new.self.engine.machine.store in
-    let facts = parts c.back.result c.back.ensures.engine in
+    let facts = parts _ _ _ c.back.result c.back.ensures.engine in
     together c.back.result (λ again same.
     let rules = ap (λ e. e.plain.now.rules) same ∙ ap (λ p. p.rules) keeps.0 in
     let size = ap (λ e. e.size) same ∙ keeps.2 in
