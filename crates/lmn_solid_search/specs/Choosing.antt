@@ -1,5 +1,5 @@
 -- Which placements a search goes through, and which of them is the first. Only private functions' contracts cite these words.
-use Rattle.std.specs.Prelude.{ℕ, ◌≡◌, ◌+◌, ◌≤◌, List, [], ◌∷◌, ◌++◌, Some, None, Option, length, slice_get}
+use Rattle.std.specs.Prelude.{ℕ, ◌≡◌, ◌+◌, ◌≤◌, List, [], ◌∷◌, ◌++◌, Some, length, slice_get}
 use Rattle.lmn_base.specs.declared.functor.Functor.{Functor}
 use Rattle.lmn_base.specs.declared.guard.Cond.{Cond}
 use Rattle.lmn_base.specs.Lists.{In}
@@ -10,18 +10,25 @@ use Rattle.lmn_solid_heads.specs.declared.items.HeadItem.TheVariants.{Atom, Type
 use Rattle.lmn_solid_heads.specs.Heads.{atoms_of, membranes_of}
 use Rattle.lmn_solid_heads.specs.Embeddings.{index_of, ListNotAfter}
 use Rattle.lmn_compile_head.specs.Heads.{EachInside}
+use Rattle.lmn_solid_search.specs.Ahead.{HoldsFunctors}
 use Rattle.lmn_solid_search.specs.Binding.{after_all}
 use Rattle.lmn_solid_search.specs.Knowing.{Knows}
 use Rattle.lmn_solid_search.specs.Taking.{LinksFit, StandsAt}
 use Rattle.lmn_solid_search.specs.Placing.{ArePlaced, membrane_at, outermost_in, times_in}
 use Rattle.lmn_solid_search.specs.Parting.{AreTaken}
 use Rattle.lmn_solid_search.specs.Meeting.{Meets, named_meaning}
+use Rattle.lmn_solid_search.specs.Reasoning.{Agrees, SameImages}
 use Rattle.lmn_solid_search.specs.declared.head.AtomItem.{AtomItem}
 use Rattle.lmn_solid_search.specs.declared.head.TypedItem.{TypedItem}
 use Rattle.lmn_solid_search.specs.declared.head.Head.{Head}
 use Rattle.lmn_solid_search.specs.declared.placed.Placed.{Placed}
 use Rattle.lmn_solid_search.specs.declared.parts.Part.{Part}
 use Rattle.lmn_solid_search.specs.declared.meeting.Fulfilled.{Fulfilled}
+use Rattle.lmn_solid_search.specs.declared.numbers.Numbers.{Numbers}
+use Rattle.lmn_solid_search.specs.declared.numbers.Numbers.TheVariants.{All}
+use Rattle.lmn_solid_search.specs.declared.reasons.Reasons.{Reasons}
+use Rattle.lmn_solid_search.specs.declared.search.Sought.{Sought}
+use Rattle.lmn_solid_search.specs.declared.search.Sought.TheVariants.{Found, Failed}
 
 -- no image yet, of a rule in a membrane
 abbrev pub at_home : ℕ → Placed
@@ -62,11 +69,15 @@ abbrev pub IsFound : Heap → Head → List Cond → Placed → Fulfilled → Ty
 IsFound h head guard p found = AreTaken h head.atoms p head.typed found.parts (length head.typed) × Meets h head guard p found.parts
     × Knows h found.known (after_all h (named_meaning head.typed found.parts) guard)
 
+-- none of the ways that go on from a placement leads to one of the rule, for these reasons
+abbrev pub Refuted : Heap → Head → List Cond → List HeadItem → Reasons → Placed → Type 0
+Refuted h head guard xs e p = (q r : Placed) → Agrees e p q → Chooses h head xs q r → CanBe h head guard r → ⊥
+
 -- What a search answers that goes on from a placement: none of its ways leads to one of the rule, and the placement is as before;
 -- or it is the first of these.
-abbrev pub Answers : Heap → Head → List Cond → List HeadItem → Placed → Placed → Option Fulfilled → Type 0
-Answers h head guard xs p q None = (q ≡ p) × ((r : Placed) → Chooses h head xs p r → CanBe h head guard r → ⊥)
-Answers h head guard xs p q (Some found) = (c : Chooses h head xs p q) × IsFound h head guard q found
+abbrev pub Answers : Heap → Head → List Cond → List HeadItem → Placed → Placed → Sought → Type 0
+Answers h head guard xs p q (Failed e) = (q ≡ p) × Refuted h head guard xs e p
+Answers h head guard xs p q (Found found) = (c : Chooses h head xs p q) × IsFound h head guard q found
     × ((r : Placed) (d : Chooses h head xs p r) → CanBe h head guard r → ListNotAfter (places h head xs p q c) (places h head xs p r d))
 
 -- what holds of each accepted head, kept by sorts
@@ -83,14 +94,43 @@ pub record Sits (h : Heap) (head : Head) (xs : List HeadItem) (p : Placed) : Typ
   pub membranes : length p.membranes + length (membranes_of xs) ≡ length head.membranes
   pub inside : EachInside (length p.membranes) xs
 
--- The same of the ways that go on from one choice, where it may be made: the next placement is given.
-abbrev pub AnswersWith : Heap → Head → List Cond → List HeadItem → Type 0 → Placed → Placed → Placed → Option Fulfilled → Type 0
-AnswersWith h head guard xs May next p q None = (q ≡ p) × (May → (r : Placed) → Chooses h head xs next r → CanBe h head guard r → ⊥)
-AnswersWith h head guard xs May next p q (Some found) = May × Answers h head guard xs next q (Some found)
+-- The same of the ways that go on from one choice, where it may be made.
+--   May    whether a choice may be made behind a placement
+--   next   the placement with it
+abbrev pub Fails : Heap → Head → List Cond → List HeadItem → (Placed → ℕ → Type 0) → (Placed → ℕ → Placed) → Reasons → Placed → ℕ → Type 0
+Fails h head guard xs May next e p a = (q : Placed) (b : ℕ) (r : Placed) → Agrees e (next p a) (next q b) → May q b → Chooses h head xs (next q b) r → CanBe h head guard r → ⊥
 
--- The same of the ways that go on from one of these choices, where it may be made.
-abbrev pub AnswersAmong : Heap → Head → List Cond → List HeadItem → (ℕ → Type 0) → (ℕ → Placed) → List ℕ → Placed → Placed → Option Fulfilled → Type 0
-AnswersAmong h head guard xs May next choices p q None = (q ≡ p) × ((a : ℕ) → In a choices → May a → (r : Placed) → Chooses h head xs (next a) r → CanBe h head guard r → ⊥)
-AnswersAmong h head guard xs May next choices p q (Some found) = (a : ℕ) × In a choices × May a × (c : Chooses h head xs (next a) q) × IsFound h head guard q found
-    × ((b : ℕ) → In b choices → May b → (r : Placed) (d : Chooses h head xs (next b) r) → CanBe h head guard r
-    → ListNotAfter (index_of a choices ∷ places h head xs (next a) q c) (index_of b choices ∷ places h head xs (next b) r d))
+abbrev pub AnswersWith : Heap → Head → List Cond → List HeadItem → (Placed → ℕ → Type 0) → (Placed → ℕ → Placed) → Placed → ℕ → Placed → Sought → Type 0
+AnswersWith h head guard xs May next p a q (Failed e) = (q ≡ p) × Fails h head guard xs May next e p a
+AnswersWith h head guard xs May next p a q (Found found) = May p a × Answers h head guard xs (next p a) q (Found found)
+
+-- The same of the ways that go on from one of the choices that there are behind a placement.
+abbrev pub AnswersAmong : Heap → Head → List Cond → List HeadItem → (Placed → ℕ → Type 0) → (Placed → ℕ → Placed) → (Placed → List ℕ) → Placed → Placed → Sought → Type 0
+AnswersAmong h head guard xs May next choices p q (Failed e) = (q ≡ p) × ((z : Placed) (a : ℕ) (r : Placed) → Agrees e p z → In a (choices z) → May z a → Chooses h head xs (next z a) r → CanBe h head guard r → ⊥)
+AnswersAmong h head guard xs May next choices p q (Found found) = (a : ℕ) × In a (choices p) × May p a × (c : Chooses h head xs (next p a) q) × IsFound h head guard q found
+    × ((b : ℕ) → In b (choices p) → May p b → (r : Placed) (d : Chooses h head xs (next p b) r) → CanBe h head guard r
+    → ListNotAfter (index_of a (choices p) ∷ places h head xs (next p a) q c) (index_of b (choices p) ∷ places h head xs (next p b) r d))
+
+-- the atoms and the membranes that stand in the image of a membrane, by its number
+abbrev pub atoms_inside : Heap → ℕ → Placed → List ℕ
+atoms_inside h inside p = atoms_in h (membrane_at p.home p.membranes inside)
+
+abbrev pub membranes_inside : Heap → ℕ → Placed → List ℕ
+membranes_inside h inside p = mems_in h (membrane_at p.home p.membranes inside)
+
+-- a membrane is no image yet
+abbrev pub IsNew : Placed → ℕ → Type 0
+IsNew p m = In m p.membranes → ⊥
+
+-- a placement that has these images where a failure rests on them is none of the rule
+abbrev pub Refuses : Heap → Head → List Cond → List ℕ → Numbers → Type 0
+Refuses h head guard images e = (r : Placed) → SameImages e images r.atoms → CanBe h head guard r → ⊥
+
+-- an atom isn't the next image behind any placement where the images are the same on which this rests
+abbrev pub RefusesAtom : Heap → Head → List Cond → Functor → ℕ → List ℕ → Numbers → Type 0
+RefusesAtom h head guard functor n images e = (q : Placed) (b : ℕ) (r : Placed) → length q.atoms ≡ n → SameImages e images (q.atoms ++ b ∷ []) → Allowed h head q functor b
+    → SameImages All (q.atoms ++ b ∷ []) r.atoms → CanBe h head guard r → ⊥
+
+-- a membrane isn't the next image behind any placement where the images are the same on which this rests
+abbrev pub RefusesMembrane : Heap → List HeadItem → Placed → ℕ → Numbers → Type 0
+RefusesMembrane h xs p m e = (q : Placed) (b : ℕ) → length q.membranes ≡ length p.membranes → SameImages e (p.membranes ++ m ∷ []) (q.membranes ++ b ∷ []) → IsNew q b → HoldsFunctors h (length p.membranes + 1) b xs → ⊥

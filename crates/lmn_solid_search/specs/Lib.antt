@@ -9,6 +9,8 @@ pub mod Parting
 pub mod Closing
 pub mod Holding
 pub mod Meeting
+pub mod Reasoning
+pub mod Foretelling
 pub mod Choosing
 pub mod Ahead
 pub mod Finding

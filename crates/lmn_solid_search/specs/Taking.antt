@@ -36,6 +36,14 @@ image_port images p = (slice_index_or images p.0 0, p.1)
 abbrev pub PortFits : Heap → List AtomItem → List ℕ → Port → ℕ → Type 0
 PortFits h atoms images p x = (q : Port) → q.0 < length images → StandsAt atoms x q → q ≢ p → link_of h (slice_index_or images p.0 0) p.1 ≡ Some (image_port images q)
 
+-- the same of the ports of one atom
+abbrev pub PortFitsTo : Heap → List AtomItem → List ℕ → Port → ℕ → ℕ → Type 0
+PortFitsTo h atoms images p x m = (j : ℕ) → StandsAt atoms x (m, j) → ◌≢◌ {A = Port} (m, j) p → link_of h (slice_index_or images p.0 0) p.1 ≡ Some (image_port images (m, j))
+
 -- each link of an atom is
 abbrev pub LinksFit : Heap → List AtomItem → List ℕ → ℕ → Type 0
 LinksFit h atoms images n = (i x : ℕ) → StandsAt atoms x (n, i) → PortFits h atoms images (n, i) x
+
+-- the same of the ports of one atom
+abbrev pub LinksFitTo : Heap → List AtomItem → List ℕ → ℕ → ℕ → Type 0
+LinksFitTo h atoms images n m = (i x : ℕ) → StandsAt atoms x (n, i) → PortFitsTo h atoms images (n, i) x m

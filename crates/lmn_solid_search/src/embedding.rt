@@ -18,7 +18,7 @@ use crate::meeting::Fulfilled;
 use crate::parts::Part;
 use crate::placed::Placed;
 use crate::room::Room;
-use crate::search::search;
+use crate::search::{Sought, search};
 use lmn_base::{Cond, NoMemory, Rows};
 use lmn_solid_heads::HeadItem;
 use lmn_solid_tables::{Flat, Port};
@@ -110,10 +110,10 @@ pub fn least(
         membranes: Rows::new(alloc),
     };
     match search(alloc, flat, &head, guard, items, &mut placed, room)? {
-        Some(fulfilled) => {
+        Sought::Found(fulfilled) => {
             let found = found_of(alloc, placed, fulfilled)?;
             Ok(Some(found))
         }
-        None => Ok(None),
+        Sought::Failed(_) => Ok(None),
     }
 }

@@ -1,11 +1,11 @@
 //! Whether the links of an atom lead to those of earlier ones as the head says.
-ghost use Rattle.std.specs.Prelude.{◌≡◌, ◌≢◌, ◌<◌, ◌≤◌, ◌↔◌, ℕ, IsTrue, Some, length, slice_get};
+ghost use Rattle.std.specs.Prelude.{◌≡◌, ◌≢◌, ◌<◌, ◌≤◌, ◌↔◌, ℕ, IfSome, IsTrue, None, Some, length, slice_get};
 ghost use Rattle.std.specs.Option.{option_map};
 ghost use Rattle.lmn_base.specs.Lists.{In};
 ghost use Rattle.lmn_store_heap.specs.Heap.{IsAtom, link_of};
 ghost use Rattle.lmn_store_heap.specs.Sound.{Valid};
 ghost use Rattle.lmn_solid_tables.specs.Flats.{heap_of, port_by};
-ghost use Rattle.lmn_solid_search.specs.Taking.{LinksFit, PortFits};
+ghost use Rattle.lmn_solid_search.specs.Taking.{LinksFit, LinksFitTo, PortFits, PortFitsTo};
 
 use crate::head::AtomItem;
 use crate::walk::{arity, is_same};
@@ -75,13 +75,21 @@ fn leads_to_all(
     true
 }
 
-/// Whether a port of an atom is joined to each other port at which its link stands, of the atoms that have images.
-fn port_fits(flat: &Flat, atoms: &[AtomItem], images: &[usize], place: Port, link: u32) -> bool
+/// The number of the first atom with an image that has a port at which a link stands, and to which a port isn't joined at which
+/// the link stands too.
+fn port_misfit(
+    flat: &Flat,
+    atoms: &[AtomItem],
+    images: &[usize],
+    place: Port,
+    link: u32,
+) -> Option<usize>
     requires valid { Valid (heap_of flat.now) }
     requires images { (a : ℕ) → In a images.now → IsAtom (heap_of flat.now) a }
     requires few { length images.now ≤ length atoms.now }
     requires place { place.atom < length images.now }
-    ensures { IsTrue result ↔ PortFits (heap_of flat.now) atoms.now images.now (port_by place) link }
+    ensures none { result ≡ None → PortFits (heap_of flat.now) atoms.now images.now (port_by place) link }
+    ensures some { IfSome result (λ m. (m < length images.now) × (PortFitsTo (heap_of flat.now) atoms.now images.now (port_by place) link m → ⊥)) }
 {
     let port = Port {
         atom: images[place.atom],
@@ -97,23 +105,29 @@ fn port_fits(flat: &Flat, atoms: &[AtomItem], images: &[usize], place: Port, lin
             atoms[number].links.as_slice(),
             images[number],
         ) {
-            return false;
+            return Some(number);
         }
     }
-    true
+    None
 }
 
-/// Whether each link of an atom does.
-pub(crate) fn links_fit(flat: &Flat, atoms: &[AtomItem], images: &[usize], number: usize) -> bool
+/// The same of all links of an atom.
+pub(crate) fn misfit(
+    flat: &Flat,
+    atoms: &[AtomItem],
+    images: &[usize],
+    number: usize,
+) -> Option<usize>
     requires valid { Valid (heap_of flat.now) }
     requires images { (a : ℕ) → In a images.now → IsAtom (heap_of flat.now) a }
     requires few { length images.now ≤ length atoms.now }
     requires number { number < length images.now }
-    ensures { IsTrue result ↔ LinksFit (heap_of flat.now) atoms.now images.now number }
+    ensures none { result ≡ None → LinksFit (heap_of flat.now) atoms.now images.now number }
+    ensures some { IfSome result (λ m. (m < length images.now) × (LinksFitTo (heap_of flat.now) atoms.now images.now number m → ⊥)) }
 {
     let links = atoms[number].links.as_slice();
     for index in 0..links.len() {
-        if !port_fits(
+        match port_misfit(
             flat,
             atoms,
             images,
@@ -123,8 +137,9 @@ pub(crate) fn links_fit(flat: &Flat, atoms: &[AtomItem], images: &[usize], numbe
             },
             links[index],
         ) {
-            return false;
+            Some(other) => return Some(other),
+            None => {}
         }
     }
-    true
+    None
 }

@@ -157,7 +157,7 @@ fn has_kind(flat: &Flat, known: &Known, name: u32, context: u32) -> bool
 }
 
 /// Whether two integers stand in an order.
-fn stand_so(op: Cmp, left: i64, right: i64) -> bool
+pub(crate) fn stand_so(op: Cmp, left: i64, right: i64) -> bool
     ensures { IsTrue result ↔ Stand op left right }
 {
     match op {

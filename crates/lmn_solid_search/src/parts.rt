@@ -82,7 +82,7 @@ fn all_hold(flat: &Flat, atoms: &[AtomItem], images: &[usize], link: u32, entry:
 }
 
 /// The port to which a port of an atom is joined at which a link stands.
-fn entry_at(flat: &Flat, links: &[u32], link: u32, image: usize) -> Option<Port>
+pub(crate) fn entry_at(flat: &Flat, links: &[u32], link: u32, image: usize) -> Option<Port>
     requires valid { Valid (heap_of flat.now) }
     requires atom { IsAtom (heap_of flat.now) image }
     ensures some { IfSome result (λ entry. LeadsTo (heap_of flat.now) links.now link image (port_by entry)) }

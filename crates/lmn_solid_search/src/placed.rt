@@ -1,5 +1,6 @@
 //! Where the items of a head are placed.
-ghost use Rattle.std.specs.Prelude.{◌≡◌, ◌≤◌, length};
+ghost use Rattle.std.specs.Prelude.{◌≡◌, ◌≤◌, IfSome, None, Some, length, slice_get};
+ghost use Rattle.lmn_base.specs.Lists.{In};
 ghost use Rattle.lmn_solid_search.specs.Placing.{membrane_at};
 
 use lmn_base::Rows;
@@ -25,4 +26,17 @@ impl Placed {
             *self.membranes.at(number - 1)
         }
     }
+}
+
+/// A place at which a number stands in a list.
+pub(crate) fn place_of(list: &[usize], number: usize) -> Option<usize>
+    ensures some { IfSome result (λ k. slice_get list.now k ≡ Some number) }
+    ensures none { result ≡ None → In number list.now → ⊥ }
+{
+    for place in 0..list.len() {
+        if list[place] == number {
+            return Some(place);
+        }
+    }
+    None
 }
