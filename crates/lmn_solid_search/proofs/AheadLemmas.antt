@@ -1,6 +1,6 @@
 -- A membrane that has fewer atoms with a functor than a head asks of it is no image.
-use Rattle.std.proofs.Common.{◌≡◌, ◌≢◌, ◌∙◌, ◌↔◌, ◌==◌, ◌&&◌, ℕ, zero, suc, ◌+◌, ◌<◌, ◌≤◌, Bool, true, false, if◌then◌else◌, IsTrue, List, [], ◌∷◌, ◌++◌, length, drop, slice_get, slice_index_or, get_or, Some, None, refl, sym, ap, subst, inl, inr, arith}
-use Rattle.std.proofs.lemmas.List.{drop_all}
+use Rattle.std.proofs.Common.{◌≡◌, ◌≢◌, ◌∙◌, ◌↔◌, ◌==◌, ◌&&◌, ℕ, zero, suc, ◌+◌, ◌<◌, ◌≤◌, Bool, true, false, if◌then◌else◌, IsTrue, List, [], ◌∷◌, ◌++◌, length, drop, slice_get, slice_index_or, get_or, Some, refl, sym, ap, subst, inl, inr, arith}
+use Rattle.std.proofs.lemmas.List.{drop_all, length_push}
 use Rattle.std.proofs.lemmas.Bool.{eq-eqb, eqb-true}
 use Rattle.std.proofs.lemmas.Option.{same_Some, slice_get-get_or}
 use Rattle.lmn_base.specs.declared.functor.Functor.{Functor}
@@ -20,11 +20,17 @@ use Rattle.lmn_solid_heads.specs.declared.items.HeadItem.TheVariants.{Atom, Type
 use Rattle.lmn_solid_heads.specs.Heads.{HeadAtom, atom_of, atoms_of}
 use Rattle.lmn_solid_heads.specs.Embeddings.{Embeds, Images}
 use Rattle.lmn_solid_search.specs.Ahead.{HoldsEnough, HoldsFunctors, HoldsItem, asked_in}
-use Rattle.lmn_solid_search.specs.Choosing.{AnswersWith, Chooses, Sits, with_membrane}
+use Rattle.lmn_compile_head.specs.Heads.{EachInside}
+use Rattle.lmn_solid_search.specs.Choosing.{AnswersWith, Chooses, IsNew, RefusesMembrane, Sits, with_membrane}
 use Rattle.lmn_solid_search.specs.Placing.{membrane_at}
+use Rattle.lmn_solid_search.specs.Reasoning.{IsAmong, SameImages}
 use Rattle.lmn_solid_search.specs.declared.head.Head.{Head}
+use Rattle.lmn_solid_search.specs.declared.numbers.Numbers.{Numbers}
 use Rattle.lmn_solid_search.specs.declared.placed.Placed.{Placed}
+use Rattle.lmn_solid_search.specs.declared.reasons.Reasons.{Reasons}
+use Rattle.lmn_solid_search.specs.declared.search.Sought.TheVariants.{Failed}
 use Rattle.lmn_solid_search.proofs.EmbeddingLemmas.{AtomChosen, atom_chosen, keeps_on}
+use Rattle.lmn_solid_search.proofs.ReasoningLemmas.{kept_in, last_same}
 
 -- ---- counting items
 
@@ -232,9 +238,9 @@ embeds_ahead h items guard m f e = images_enough h 0 m items f.atom
     (λ n a at same. subst (λ z. In (f.atom n) (atoms_in h z)) (ap f.membrane same ∙ e.lies.here) (e.lies.atoms_placed n a at))
 
 -- what is chosen behind a membrane has it hold enough of the functors of its items
-pub chosen_ahead : (h : Heap) (head : Head) (xs : List HeadItem) (p q : Placed) (m : ℕ) → Sits h head xs (with_membrane p m) → Chooses h head xs (with_membrane p m) q → HoldsFunctors h (length p.membranes + 1) m xs
-chosen_ahead h head xs p q m sits c = images_enough h (length p.membranes + 1) m xs image
-    (λ i j l k same. (let there = get_there (atoms_of xs) j k in (atom_chosen h head xs (with_membrane p m) q sits.inside c j (length p.atoms + j) there.0 there.1 refl).new (length p.atoms + i) (omega (arith, l)) same))
+pub chosen_ahead : (h : Heap) (head : Head) (xs : List HeadItem) (p q : Placed) (m : ℕ) → EachInside (length (p.membranes ++ m ∷ [])) xs → Chooses h head xs (with_membrane p m) q → HoldsFunctors h (length p.membranes + 1) m xs
+chosen_ahead h head xs p q m inside c = images_enough h (length p.membranes + 1) m xs image
+    (λ i j l k same. (let there = get_there (atoms_of xs) j k in (atom_chosen h head xs (with_membrane p m) q inside c j (length p.atoms + j) there.0 there.1 refl).new (length p.atoms + i) (omega (arith, l)) same))
     (λ n a at. (chosen n a at).functor)
     (λ n a at same. subst (λ z. In (image n) (atoms_in h z)) (around a same) (chosen n a at).placed)
   where
@@ -242,16 +248,34 @@ chosen_ahead h head xs p q m sits c = images_enough h (length p.membranes + 1) m
     image n = slice_index_or q.atoms (length p.atoms + n) 0
 
     chosen : (n : ℕ) (a : HeadAtom) → slice_get (atoms_of xs) n ≡ Some a → AtomChosen h head q (length p.atoms + n) a
-    chosen n a at = atom_chosen h head xs (with_membrane p m) q sits.inside c n (length p.atoms + n) a at refl
+    chosen n a at = atom_chosen h head xs (with_membrane p m) q inside c n (length p.atoms + n) a at refl
 
     around : (a : HeadAtom) → a.inside ≡ length p.membranes + 1 → membrane_at q.home q.membranes a.inside ≡ m
     around a same = ap (membrane_at q.home q.membranes) (let number : a.inside ≡ suc (length p.membranes) = omega (arith, same) in number)
         ∙ read_or q.membranes (length p.membranes) m ((keeps_on h head xs (with_membrane p m) q c).membranes (length p.membranes) m (get_last p.membranes m))
 
--- so one that lacks a functor is passed over
-pub passed_over : (h : Heap) (head : Head) (guard : List Cond) (xs : List HeadItem) (p : Placed) (m k : ℕ) (May : Type 0) → Sits h head xs (with_membrane p m) → k ≡ length p.membranes → (HoldsFunctors h (k + 1) m xs → ⊥)
-    → AnswersWith h head guard xs May (with_membrane p m) p p None
-passed_over h head guard xs p m k May sits e lacks = (refl, λ may r c can. lacks (subst (λ z. HoldsFunctors h (z + 1) m xs) (sym e) (chosen_ahead h head xs p r m sits c)))
+-- one that lacks a functor is refused
+pub lacks_functor : (h : Heap) (xs : List HeadItem) (p : Placed) (m k : ℕ) (e : Numbers) → k ≡ length p.membranes → IsAmong k e → (HoldsFunctors h (k + 1) m xs → ⊥) → RefusesMembrane h xs p m e
+lacks_functor h xs p m k e is among lacks q b long same new holds =
+    let equal = last_same e p.membranes q.membranes m b long (subst (λ n. IsAmong n e) is among) same in
+    lacks (subst (λ n. HoldsFunctors h (n + 1) m xs) (sym is) (subst (λ z. HoldsFunctors h (length p.membranes + 1) z xs) equal holds))
+
+-- and one that is an image already
+pub placed_already : (h : Heap) (xs : List HeadItem) (p : Placed) (m k n : ℕ) (e : Numbers) → k ≡ length p.membranes → slice_get p.membranes n ≡ Some m → IsAmong k e → IsAmong n e → RefusesMembrane h xs p m e
+placed_already h xs p m k n e is at among among' q b long same new holds =
+    let equal = last_same e p.membranes q.membranes m b long (subst (λ n. IsAmong n e) is among) same in
+    new (subst (λ z. In z q.membranes) (sym equal) (kept_in e p.membranes q.membranes m b m n long at among' same))
+
+-- so it leads to nothing
+pub refused_membrane : (h : Heap) (head : Head) (guard : List Cond) (xs : List HeadItem) (p q : Placed) (m : ℕ) (e : Reasons) (numbers : Numbers) → Sits h head xs (with_membrane p m) → q ≡ p → e.membranes ≡ numbers → RefusesMembrane h xs p m numbers
+    → AnswersWith h head guard xs IsNew with_membrane p m q (Failed e)
+refused_membrane h head guard xs p q m e numbers sits same is refuses = (
+  same,
+  λ z b r agrees new c can. (
+      let long : length z.membranes ≡ length p.membranes = (let l = length_push p.membranes m in let k = length_push z.membranes b in let n = agrees.membranes_long in omega (arith, l, k, n)) in
+      refuses z b long (subst (λ d. SameImages d (p.membranes ++ m ∷ []) (z.membranes ++ b ∷ [])) is agrees.membranes) new
+      (subst (λ n. HoldsFunctors h (n + 1) b xs) long (chosen_ahead h head xs z r b (subst (λ n. EachInside n xs) (sym agrees.membranes_long) sits.inside) c))),
+)
 
 -- a membrane that is placed is one
 pub home_there : (h : Heap) (head : Head) (xs : List HeadItem) (p : Placed) (m : ℕ) → Sits h head xs (with_membrane p m) → IsMem h m

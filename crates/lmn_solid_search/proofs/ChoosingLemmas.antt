@@ -1,5 +1,5 @@
 -- A search goes through the items of a head, and through the choices for one of them.
-use Rattle.std.proofs.Common.{Result, Ok, Err, IfOk, ◌≡◌, ◌∙◌, ◌==◌, ◌⊎◌, ℕ, zero, suc, ◌+◌, ◌-◌, ◌<◌, ◌≤◌, Bool, true, false, if◌then◌else◌, List, [], ◌∷◌, ◌++◌, length, take, drop, slice_get, slice_index_or, get_or, Option, Some, None, IfSome, MatchOption, refl, sym, ap, subst, inl, inr, arith}
+use Rattle.std.proofs.Common.{◌≡◌, ◌∙◌, ◌==◌, ◌⊎◌, ℕ, zero, suc, ◌+◌, ◌-◌, ◌<◌, ◌≤◌, Bool, true, false, if◌then◌else◌, List, [], ◌∷◌, ◌++◌, length, take, drop, slice_get, slice_index_or, get_or, Option, Some, IfSome, MatchOption, refl, sym, ap, subst, inl, inr, arith}
 use Rattle.std.proofs.lemmas.List.{length_push}
 use Rattle.std.proofs.lemmas.Option.{same_Some}
 use Rattle.lmn_base.specs.declared.functor.Functor.{Functor}
@@ -8,22 +8,30 @@ use Rattle.lmn_base.specs.Lists.{In}
 use Rattle.lmn_base.proofs.Lists.{in_snoc, take_whole}
 use Rattle.lmn_base.proofs.Numbers.{equal_itself, equal_when, three_ways as order_of}
 use Rattle.lmn_guards.specs.declared.plan.TypeKind.{TypeKind}
-use Rattle.lmn_store_heap.specs.Heap.{Heap, IsAtom, IsMem, atoms_in, mems_in}
+use Rattle.lmn_store_heap.specs.Heap.{Heap, IsAtom, IsMem}
 use Rattle.lmn_solid_heads.specs.declared.items.HeadItem.{HeadItem}
 use Rattle.lmn_solid_heads.specs.declared.items.HeadItem.TheVariants.{Atom, Typed, Membrane}
 use Rattle.lmn_solid_heads.specs.Heads.{atoms_of, membranes_of}
 use Rattle.lmn_solid_heads.specs.Embeddings.{index_of, ListNotAfter}
 use Rattle.lmn_compile_head.specs.Heads.{EachInside}
 use Rattle.lmn_solid_search.specs.Binding.{after_all}
-use Rattle.lmn_solid_search.specs.Choosing.{Allowed, Answers, AnswersAmong, AnswersWith, CanBe, Chooses, Sits, places, with_atom, with_membrane}
+use Rattle.lmn_solid_search.specs.Choosing.{Allowed, Answers, AnswersAmong, AnswersWith, CanBe, Chooses, Fails, IsFound, IsNew, RefusesAtom, Sits, atoms_inside, membranes_inside, places, with_atom, with_membrane}
 use Rattle.lmn_solid_search.specs.Knowing.{Knows}
 use Rattle.lmn_solid_search.specs.Meeting.{Meets, named_meaning}
 use Rattle.lmn_solid_search.specs.Parting.{AreTaken}
 use Rattle.lmn_solid_search.specs.Placing.{ArePlaced, membrane_at}
+use Rattle.lmn_solid_search.specs.Reasoning.{Agrees, RestsOnLess, SameImages}
 use Rattle.lmn_solid_search.specs.declared.head.Head.{Head}
 use Rattle.lmn_solid_search.specs.declared.meeting.Fulfilled.{Fulfilled}
+use Rattle.lmn_solid_search.specs.declared.numbers.Numbers.{Numbers}
+use Rattle.lmn_solid_search.specs.declared.numbers.Numbers.TheVariants.{All}
 use Rattle.lmn_solid_search.specs.declared.parts.Part.{Part}
 use Rattle.lmn_solid_search.specs.declared.placed.Placed.{Placed}
+use Rattle.lmn_solid_search.specs.declared.reasons.Reasons.{Reasons}
+use Rattle.lmn_solid_search.specs.declared.search.Sought.{Sought}
+use Rattle.lmn_solid_search.specs.declared.search.Sought.TheVariants.{Failed, Found}
+use Rattle.lmn_solid_search.proofs.EmbeddingLemmas.{keeps_on}
+use Rattle.lmn_solid_search.proofs.ReasoningLemmas.{agrees_all, agrees_fewer, agrees_itself}
 use Rattle.lmn_solid_search.proofs.SearchLemmas.{popped}
 use Rattle.lmn_solid_search.proofs.WholeLemmas.{all_so_far, in_whole}
 use Rattle.lmn_adequacy_heaps.proofs.OutOf.{index_in as item_in}
@@ -72,45 +80,51 @@ get_early (y ∷ ys) (suc j) (suc i) b e l = inr (get_early ys j i b e (omega (a
 
 -- ---- the choices for one item, in their order
 
-module _ (h : Heap) (head : Head) (guard : List Cond) (xs : List HeadItem) (May : ℕ → Type 0) (next : ℕ → Placed) (choices : List ℕ) (p : Placed) where
-  -- a choice leads to nothing; none of the first does
-  abbrev pub Fails : ℕ → Type 0
-  Fails a = May a → (r : Placed) → Chooses h head xs (next a) r → CanBe h head guard r → ⊥
+module _ (h : Heap) (head : Head) (guard : List Cond) (xs : List HeadItem) (May : Placed → ℕ → Type 0) (next : Placed → ℕ → Placed) (listed : Placed → List ℕ) (choices : List ℕ) (p : Placed) where
+  -- a choice leads to nothing, for these reasons; none of the first does
+  abbrev pub LeadsToNothing : Reasons → ℕ → Type 0
+  LeadsToNothing e a = (q r : Placed) → Agrees e p q → May q a → Chooses h head xs (next q a) r → CanBe h head guard r → ⊥
 
-  abbrev pub NoneOf : ℕ → Type 0
-  NoneOf i = (a : ℕ) → In a (take i choices) → Fails a
+  abbrev pub NoneOf : Reasons → ℕ → Type 0
+  NoneOf e i = (a : ℕ) → In a (take i choices) → LeadsToNothing e a
 
-  pub none_more : (i a : ℕ) → i < length choices → slice_index_or choices i 0 ≡ a → Fails a → NoneOf i → NoneOf (i + 1)
-  none_more i a l e f none = all_so_far Fails choices i l (subst Fails (sym e) f) none
+  pub none_more : (d e : Reasons) (i : ℕ) → i < length choices → RestsOnLess d e → LeadsToNothing e (slice_index_or choices i 0) → NoneOf d i → NoneOf e (i + 1)
+  none_more d e i l less here none = all_so_far (LeadsToNothing e) choices i l here (λ a k q r g. none a k q r (agrees_fewer d e p q less g))
 
-  pub none_all : (i : ℕ) (q : Placed) → length choices ≤ i → q ≡ p → NoneOf i → AnswersAmong h head guard xs May next choices p q None
-  none_all i q l e none = (e, λ a k. none a (in_whole a choices i l k))
+  pub none_all : (e : Reasons) (i : ℕ) (q : Placed) → length choices ≤ i → q ≡ p → choices ≡ listed p → ((z : Placed) → Agrees e p z → listed z ≡ listed p) → NoneOf e i → AnswersAmong h head guard xs May next listed p q (Failed e)
+  none_all e i q l same is kept none = (same, λ z a r g k. none a (in_whole a choices i l (subst (In a) (kept z g ∙ sym is) k)) z r g)
 
-  pub found_here : (i a : ℕ) (q : Placed) (found : Fulfilled) → i < length choices → slice_index_or choices i 0 ≡ a → NoneOf i → May a → Answers h head guard xs (next a) q (Some found)
-      → AnswersAmong h head guard xs May next choices p q (Some found)
-  found_here i a q found l e none may (c, is, least) = (
+  -- the first of these choices with which one is found
+  abbrev pub FoundAmong : Placed → Fulfilled → List ℕ → Type 0
+  FoundAmong q found cs = (a : ℕ) × In a cs × May p a × (c : Chooses h head xs (next p a) q) × IsFound h head guard q found
+      × ((b : ℕ) → In b cs → May p b → (r : Placed) (d : Chooses h head xs (next p b) r) → CanBe h head guard r
+      → ListNotAfter (index_of a cs ∷ places h head xs (next p a) q c) (index_of b cs ∷ places h head xs (next p b) r d))
+
+  pub found_here : (e : Reasons) (i a : ℕ) (q : Placed) (found : Fulfilled) → i < length choices → slice_index_or choices i 0 ≡ a → choices ≡ listed p → NoneOf e i → May p a → Answers h head guard xs (next p a) q (Found found)
+      → AnswersAmong h head guard xs May next listed p q (Found found)
+  found_here e i a q found l g is none may (c, found_is, least) = subst (FoundAmong q found) is (
     a,
     there,
     may,
     c,
-    is,
+    found_is,
     λ b j may' r d w. by b j may' r d w (order_of (index_of a choices) (index_of b choices)),
   )
     where
       there : In a choices
-      there = subst (λ z. In z choices) e (item_in choices i l)
+      there = subst (λ z. In z choices) g (item_in choices i l)
 
-      by : (b : ℕ) → In b choices → May b → (r : Placed) (d : Chooses h head xs (next b) r) → CanBe h head guard r
+      by : (b : ℕ) → In b choices → May p b → (r : Placed) (d : Chooses h head xs (next p b) r) → CanBe h head guard r
           → (index_of a choices < index_of b choices) ⊎ ((index_of a choices ≡ index_of b choices) ⊎ (index_of b choices < index_of a choices))
-          → ListNotAfter (index_of a choices ∷ places h head xs (next a) q c) (index_of b choices ∷ places h head xs (next b) r d)
+          → ListNotAfter (index_of a choices ∷ places h head xs (next p a) q c) (index_of b choices ∷ places h head xs (next p b) r d)
       by b j may' r d w (inl before) = inl before
       by b j may' r d w (inr (inl same)) = inr (
         same,
-        subst (λ z. (d' : Chooses h head xs (next z) r) → ListNotAfter (places h head xs (next a) q c) (places h head xs (next z) r d')) (index_same a b choices there j same) (λ d'. least r d' w) d,
+        subst (λ z. (d' : Chooses h head xs (next p z) r) → ListNotAfter (places h head xs (next p a) q c) (places h head xs (next p z) r d')) (index_same a b choices there j same) (λ d'. least r d' w) d,
       )
       by b j may' r d w (inr (inr behind)) =
-          let low = index_least a choices i l e in
-          absurd (none b (get_early choices (index_of b choices) i b (index_get b choices j) (omega (arith, behind, low))) may' r d w)
+          let low = index_least a choices i l g in
+          absurd (none b (get_early choices (index_of b choices) i b (index_get b choices j) (omega (arith, behind, low))) p r (agrees_itself e p) may' d w)
 
 -- ---- one choice
 
@@ -121,18 +135,28 @@ pub membrane_back : (q p : Placed) (a : ℕ) (ys : List ℕ) (o : Option ℕ) �
 membrane_back q p a ys o e m = λ i. record (e i) { membranes = popped o q.membranes ys p.membranes a (ap (λ (z : Placed). z.membranes) e) m i }
 
 -- a choice that was made leads to the first, or to nothing
-module _ (h : Heap) (head : Head) (guard : List Cond) (xs : List HeadItem) (May : Type 0) (next p : Placed) where
-  pub with_found : (made q : Placed) (o : Option Fulfilled) (found : Fulfilled) → made ≡ next → May → o ≡ Some found → Answers h head guard xs made q o → AnswersWith h head guard xs May next p q (Some found)
-  with_found made q o found e may is w = (may, subst (λ (z : Placed). Answers h head guard xs z q (Some found)) e (subst (Answers h head guard xs made q) is w))
+module _ (h : Heap) (head : Head) (guard : List Cond) (xs : List HeadItem) (May : Placed → ℕ → Type 0) (next : Placed → ℕ → Placed) (p : Placed) (a : ℕ) where
+  pub with_found : (made q : Placed) (o : Sought) (found : Fulfilled) → made ≡ next p a → May p a → o ≡ Found found → Answers h head guard xs made q o → AnswersWith h head guard xs May next p a q (Found found)
+  with_found made q o found e may is w = (may, subst (λ (z : Placed). Answers h head guard xs z q (Found found)) e (subst (Answers h head guard xs made q) is w))
 
-  pub with_none : (made q back : Placed) (o : Option Fulfilled) → made ≡ next → o ≡ None → back ≡ p → Answers h head guard xs made q o → AnswersWith h head guard xs May next p back None
-  with_none made q back o e is b w = (b, λ may r c f. (subst (Answers h head guard xs made q) is w).1 r (subst (λ (z : Placed). Chooses h head xs z r) (sym e) c) f)
+  pub with_failed : (made q back : Placed) (o : Sought) (e : Reasons) → made ≡ next p a → o ≡ Failed e → back ≡ p → Answers h head guard xs made q o → AnswersWith h head guard xs May next p a back (Failed e)
+  with_failed made q back o e g is same w = (same, λ z b r agrees may. (subst (Answers h head guard xs made q) is w).1 (next z b) r (subst (λ (y : Placed). Agrees e y (next z b)) (sym g) agrees))
 
-  pub left_so : (made q : Placed) (o : Option Fulfilled) → made ≡ next → o ≡ None → Answers h head guard xs made q o → q ≡ next
-  left_so made q o e is w = (subst (Answers h head guard xs made q) is w).0 ∙ e
+  pub left_so : (made q : Placed) (o : Sought) (e : Reasons) → made ≡ next p a → o ≡ Failed e → Answers h head guard xs made q o → q ≡ next p a
+  left_so made q o e g is w = (subst (Answers h head guard xs made q) is w).0 ∙ g
 
-  pub not_allowed : (q : Placed) → q ≡ p → (May → ⊥) → AnswersWith h head guard xs May next p q None
-  not_allowed q e n = (e, λ may r c f. n may)
+-- an atom that was refused leads to nothing
+pub refused_atom : (h : Heap) (head : Head) (guard : List Cond) (xs : List HeadItem) (functor : Functor) (p q : Placed) (a : ℕ) (e : Reasons) (numbers : Numbers) → q ≡ p → e.atoms ≡ numbers
+    → RefusesAtom h head guard functor (length p.atoms) (p.atoms ++ a ∷ []) numbers → AnswersWith h head guard xs (λ z. Allowed h head z functor) with_atom p a q (Failed e)
+refused_atom h head guard xs functor p q a e numbers same is refuses = (
+  same,
+  λ z b r agrees may c can. refuses z b r
+      (let l = length_push p.atoms a in let m = length_push z.atoms b in let n = agrees.atoms_long in omega (arith, l, m, n))
+      (subst (λ d. SameImages d (p.atoms ++ a ∷ []) (z.atoms ++ b ∷ [])) is agrees.atoms)
+      may
+      (λ k x at u. (keeps_on h head xs (with_atom z b) r c).atoms k x at)
+      can,
+)
 
 -- ---- where items sit
 
@@ -190,46 +214,42 @@ module _ (h : Heap) (head : Head) (items : List HeadItem) (p : Placed) (e : [] �
 -- ---- what is answered for the items
 
 module _ (h : Heap) (head : Head) (guard : List Cond) (p q : Placed) where
-  pub answers_atom : (functor : Functor) (links : List ℕ) (inside : ℕ) (items xs : List HeadItem) (choices : List ℕ) (m : ℕ) (o : Option Fulfilled) → items ≡ Atom functor links inside ∷ xs → choices ≡ atoms_in h m → m ≡ membrane_at p.home p.membranes inside
-      → AnswersAmong h head guard xs (Allowed h head p functor) (with_atom p) choices p q o → Answers h head guard items p q o
-  answers_atom functor links inside items xs choices m o e is at w =
-      subst (λ ys. Answers h head guard ys p q o) (sym e) (by o (subst (λ cs. AnswersAmong h head guard xs (Allowed h head p functor) (with_atom p) cs p q o) (is ∙ ap (atoms_in h) at) w))
+  pub answers_atom : (functor : Functor) (links : List ℕ) (inside : ℕ) (items xs : List HeadItem) (o : Sought) → items ≡ Atom functor links inside ∷ xs
+      → AnswersAmong h head guard xs (λ z. Allowed h head z functor) with_atom (atoms_inside h inside) p q o → Answers h head guard items p q o
+  answers_atom functor links inside items xs o e w = subst (λ ys. Answers h head guard ys p q o) (sym e) (by o w)
     where
-      by : (o : Option Fulfilled) → AnswersAmong h head guard xs (Allowed h head p functor) (with_atom p) (atoms_in h (membrane_at p.home p.membranes inside)) p q o → Answers h head guard (Atom functor links inside ∷ xs) p q o
-      by None w = (w.0, λ r c. w.1 c.0 c.1 c.2 r c.3)
-      by (Some found) (a, i, may, c, is, least) = ((a, i, may, c), is, λ r d f. least d.0 d.1 d.2 r d.3 f)
+      by : (o : Sought) → AnswersAmong h head guard xs (λ z. Allowed h head z functor) with_atom (atoms_inside h inside) p q o → Answers h head guard (Atom functor links inside ∷ xs) p q o
+      by (Failed d) w = (w.0, λ z r g c. w.1 z c.0 r g c.1 c.2 c.3)
+      by (Found found) (a, i, may, c, is, least) = ((a, i, may, c), is, λ r d f. least d.0 d.1 d.2 r d.3 f)
 
-  pub answers_membrane : (inside : ℕ) (has_context has_closed_context has_rule_context : Bool) (items xs : List HeadItem) (choices : List ℕ) (m : ℕ) (o : Option Fulfilled) → items ≡ Membrane inside has_context has_closed_context has_rule_context ∷ xs → choices ≡ mems_in h m → m ≡ membrane_at p.home p.membranes inside
-      → AnswersAmong h head guard xs (λ k. In k p.membranes → ⊥) (with_membrane p) choices p q o → Answers h head guard items p q o
-  answers_membrane inside has_context has_closed_context has_rule_context items xs choices m o e is at w =
-      subst (λ ys. Answers h head guard ys p q o) (sym e) (by o (subst (λ cs. AnswersAmong h head guard xs (λ k. In k p.membranes → ⊥) (with_membrane p) cs p q o) (is ∙ ap (mems_in h) at) w))
+  pub answers_membrane : (inside : ℕ) (has_context has_closed_context has_rule_context : Bool) (items xs : List HeadItem) (o : Sought) → items ≡ Membrane inside has_context has_closed_context has_rule_context ∷ xs
+      → AnswersAmong h head guard xs IsNew with_membrane (membranes_inside h inside) p q o → Answers h head guard items p q o
+  answers_membrane inside has_context has_closed_context has_rule_context items xs o e w = subst (λ ys. Answers h head guard ys p q o) (sym e) (by o w)
     where
-      by : (o : Option Fulfilled) → AnswersAmong h head guard xs (λ k. In k p.membranes → ⊥) (with_membrane p) (mems_in h (membrane_at p.home p.membranes inside)) p q o
-          → Answers h head guard (Membrane inside has_context has_closed_context has_rule_context ∷ xs) p q o
-      by None w = (w.0, λ r c. w.1 c.0 c.1 c.2 r c.3)
-      by (Some found) (a, i, may, c, is, least) = ((a, i, may, c), is, λ r d f. least d.0 d.1 d.2 r d.3 f)
+      by : (o : Sought) → AnswersAmong h head guard xs IsNew with_membrane (membranes_inside h inside) p q o → Answers h head guard (Membrane inside has_context has_closed_context has_rule_context ∷ xs) p q o
+      by (Failed d) w = (w.0, λ z r g c. w.1 z c.0 r g c.1 c.2 c.3)
+      by (Found found) (a, i, may, c, is, least) = ((a, i, may, c), is, λ r d f. least d.0 d.1 d.2 r d.3 f)
 
-  pub answers_typed : (name : ℕ) (kind : TypeKind) (link inside : ℕ) (items xs : List HeadItem) (o : Option Fulfilled) → items ≡ Typed name kind link inside ∷ xs → Answers h head guard xs p q o → Answers h head guard items p q o
+  pub answers_typed : (name : ℕ) (kind : TypeKind) (link inside : ℕ) (items xs : List HeadItem) (o : Sought) → items ≡ Typed name kind link inside ∷ xs → Answers h head guard xs p q o → Answers h head guard items p q o
   answers_typed name kind link inside items xs o e w = subst (λ ys. Answers h head guard ys p q o) (sym e) (by o w)
     where
-      by : (o : Option Fulfilled) → Answers h head guard xs p q o → Answers h head guard (Typed name kind link inside ∷ xs) p q o
-      by None w = w
-      by (Some found) w = w
+      by : (o : Sought) → Answers h head guard xs p q o → Answers h head guard (Typed name kind link inside ∷ xs) p q o
+      by (Failed d) w = w
+      by (Found found) w = w
 
 -- no item is left
-pub answers_end : (h : Heap) (head : Head) (guard : List Cond) (items : List HeadItem) (p : Placed) (o : Option Fulfilled) → [] ≡ items
+pub ends_found : (h : Heap) (head : Head) (guard : List Cond) (items : List HeadItem) (p : Placed) (o : Option Fulfilled) (found : Fulfilled) → [] ≡ items → o ≡ Some found
     → IfSome o (λ found. AreTaken h head.atoms p head.typed found.parts (length head.typed) × Meets h head guard p found.parts × Knows h found.known (after_all h (named_meaning head.typed found.parts) guard))
-    → (o ≡ None → (parts : List Part) → AreTaken h head.atoms p head.typed parts (length head.typed) → Meets h head guard p parts → ⊥) → Answers h head guard items p p o
-answers_end h head guard items p None e some none =
-    subst (λ ys. Answers h head guard ys p p None) e (refl, λ r is f. (let g : CanBe h head guard p = subst (CanBe h head guard) is f in none refl g.0 g.1 g.2))
-answers_end h head guard items p (Some found) e some none =
-    subst (λ ys. Answers h head guard ys p p (Some found)) e (refl, some, λ r d w. tt)
+    → Answers h head guard items p p (Found found)
+ends_found h head guard items p o found e is some =
+    subst (λ ys. Answers h head guard ys p p (Found found)) e
+    (refl, subst (λ o. IfSome o (λ found. AreTaken h head.atoms p head.typed found.parts (length head.typed) × Meets h head guard p found.parts × Knows h found.known (after_all h (named_meaning head.typed found.parts) guard))) is some, λ r d w. tt)
 
-pub ends : {E : Type 0} (h : Heap) (head : Head) (guard : List Cond) (items : List HeadItem) (p : Placed) (r : Result (Option Fulfilled) E) → [] ≡ items
-    → IfOk r (λ o. IfSome o (λ found. AreTaken h head.atoms p head.typed found.parts (length head.typed) × Meets h head guard p found.parts × Knows h found.known (after_all h (named_meaning head.typed found.parts) guard)))
-    → IfOk r (λ o. o ≡ None → (parts : List Part) → AreTaken h head.atoms p head.typed parts (length head.typed) → Meets h head guard p parts → ⊥) → IfOk r (Answers h head guard items p p)
-ends h head guard items p (Ok o) e some none = answers_end h head guard items p o e some none
-ends h head guard items p (Err x) e some none = tt
+pub ends_failed : (h : Heap) (head : Head) (guard : List Cond) (items : List HeadItem) (p : Placed) (reasons : Reasons) → [] ≡ items → reasons ≡ record { atoms = All; membranes = All }
+    → ((parts : List Part) → AreTaken h head.atoms p head.typed parts (length head.typed) → Meets h head guard p parts → ⊥) → Answers h head guard items p p (Failed reasons)
+ends_failed h head guard items p reasons e is none =
+    subst (λ ys. Answers h head guard ys p p (Failed reasons)) e
+    (refl, λ q r g c can. (let can' : CanBe h head guard p = subst (CanBe h head guard) (c ∙ agrees_all reasons p q is g) can in none can'.0 can'.1 can'.2))
 
 -- one item fewer is left
 pub rest_long : (xs : List HeadItem) → 1 ≤ length xs → length (take (length xs - 1) (drop 1 xs)) + 1 ≡ length xs
@@ -240,17 +260,26 @@ rest_long (y ∷ ys) low =
     omega (arith, e)
 
 -- one attempt of a loop, where the placement is as before
-module _ (h : Heap) (head : Head) (guard : List Cond) (xs : List HeadItem) (May : Placed → ℕ → Type 0) (next : Placed → ℕ → Placed) (choices : List ℕ) (p l q : Placed) (same : l ≡ p) (i : ℕ) (o : Option Fulfilled)
-    (w : AnswersWith h head guard xs (May l (slice_index_or choices i 0)) (next l (slice_index_or choices i 0)) l q o) where
-  here : AnswersWith h head guard xs (May p (slice_index_or choices i 0)) (next p (slice_index_or choices i 0)) p q o
-  here = subst (λ (z : Placed). AnswersWith h head guard xs (May z (slice_index_or choices i 0)) (next z (slice_index_or choices i 0)) z q o) same w
+module _ (h : Heap) (head : Head) (guard : List Cond) (xs : List HeadItem) (May : Placed → ℕ → Type 0) (next : Placed → ℕ → Placed) (listed : Placed → List ℕ) (choices : List ℕ) (p l q : Placed) (same : l ≡ p) (i : ℕ) (o : Sought)
+    (w : AnswersWith h head guard xs May next l (slice_index_or choices i 0) q o) where
+  here : AnswersWith h head guard xs May next p (slice_index_or choices i 0) q o
+  here = subst (λ (z : Placed). AnswersWith h head guard xs May next z (slice_index_or choices i 0) q o) same w
 
-  pub one_found : (found : Fulfilled) → i < length choices → NoneOf h head guard xs (May p) (next p) choices p i → o ≡ Some found → AnswersAmong h head guard xs (May p) (next p) choices p q (Some found)
-  one_found found low none e =
-      let t = subst (AnswersWith h head guard xs (May p (slice_index_or choices i 0)) (next p (slice_index_or choices i 0)) p q) e here in
-      found_here h head guard xs (May p) (next p) choices p i (slice_index_or choices i 0) q found low refl none t.0 t.1
+  failed : (e : Reasons) → o ≡ Failed e → (q ≡ p) × Fails h head guard xs May next e p (slice_index_or choices i 0)
+  failed e is = subst (AnswersWith h head guard xs May next p (slice_index_or choices i 0) q) is here
 
-  pub one_failed : i < length choices → NoneOf h head guard xs (May p) (next p) choices p i → o ≡ None → (q ≡ p) × NoneOf h head guard xs (May p) (next p) choices p (i + 1)
-  one_failed low none e =
-      let t = subst (AnswersWith h head guard xs (May p (slice_index_or choices i 0)) (next p (slice_index_or choices i 0)) p q) e here in
-      (t.0, none_more h head guard xs (May p) (next p) choices p i (slice_index_or choices i 0) low refl t.1 none)
+  pub one_found : (e : Reasons) (found : Fulfilled) → i < length choices → choices ≡ listed p → NoneOf h head guard xs May next listed choices p e i → o ≡ Found found → AnswersAmong h head guard xs May next listed p q (Found found)
+  one_found e found low is none g =
+      let t = subst (AnswersWith h head guard xs May next p (slice_index_or choices i 0) q) g here in
+      found_here h head guard xs May next listed choices p e i (slice_index_or choices i 0) q found low refl is none t.0 t.1
+
+  -- where the failure doesn't rest on what was chosen, there is nothing
+  pub one_past : (e : Reasons) → o ≡ Failed e → ((z : Placed) (b : ℕ) → Agrees e p z → Agrees e (next p (slice_index_or choices i 0)) (next z b)) → AnswersAmong h head guard xs May next listed p q (Failed e)
+  one_past e is past = let t = failed e is in (t.0, λ z b r g k. t.1 z b r (past z b g))
+
+  -- else the next choice is tried
+  pub one_failed : (d e f : Reasons) → i < length choices → o ≡ Failed e → RestsOnLess d f → RestsOnLess e f → ((z : Placed) → Agrees f p z → Agrees f (next p (slice_index_or choices i 0)) (next z (slice_index_or choices i 0)))
+      → NoneOf h head guard xs May next listed choices p d i → (q ≡ p) × NoneOf h head guard xs May next listed choices p f (i + 1)
+  one_failed d e f low is these those on none =
+      let t = failed e is in
+      (t.0, none_more h head guard xs May next listed choices p d f i low these (λ z r g. t.1 z (slice_index_or choices i 0) r (agrees_fewer e f (next p (slice_index_or choices i 0)) (next z (slice_index_or choices i 0)) those (on z g))) none)

@@ -5,13 +5,13 @@ use Rattle.std.proofs.lemmas.Bool.{cases_eq}
 use Rattle.lmn_base.specs.Graphs.{Port}
 use Rattle.lmn_base.proofs.Lists.{get_below, get_index}
 use Rattle.lmn_store_heap.specs.Heap.{Heap, link_of}
-use Rattle.lmn_solid_search.specs.Taking.{StandsAt, image_port, PortFits, LinksFit}
+use Rattle.lmn_solid_search.specs.Taking.{StandsAt, image_port, PortFits, PortFitsTo, LinksFit}
 use Rattle.lmn_solid_search.specs.declared.head.AtomItem.{AtomItem}
 
 module _ (h : Heap) (atoms : List AtomItem) (images : List ℕ) (p : Port) (x m : ℕ) (a : AtomItem) (links : List ℕ) (at : slice_get atoms m ≡ Some a) (is : links ≡ a.links) where
-  -- a port that fits leads to the ports of one atom,
-  pub fits_atom : m < length images → PortFits h atoms images p x → (j : ℕ) → slice_get links j ≡ Some x → ◌≢◌ {A = ℕ × ℕ} (m, j) p → link_of h (slice_index_or images p.0 0) p.1 ≡ Some (slice_index_or images m 0, j)
-  fits_atom l f j e d = f (m, j) l (a, at, ap (λ (ls : List ℕ). slice_get ls j) (sym is) ∙ e) d
+  -- a port that fits one atom leads to its ports,
+  pub fits_atom : PortFitsTo h atoms images p x m → (j : ℕ) → slice_get links j ≡ Some x → ◌≢◌ {A = ℕ × ℕ} (m, j) p → link_of h (slice_index_or images p.0 0) p.1 ≡ Some (slice_index_or images m 0, j)
+  fits_atom f j e d = f j (a, at, ap (λ (ls : List ℕ). slice_get ls j) (sym is) ∙ e) d
 
   -- and is one where it leads to those of each
   pub fits_more : ((j : ℕ) → slice_get links j ≡ Some x → ◌≢◌ {A = ℕ × ℕ} (m, j) p → link_of h (slice_index_or images p.0 0) p.1 ≡ Some (slice_index_or images m 0, j))
@@ -26,17 +26,13 @@ module _ (h : Heap) (atoms : List AtomItem) (images : List ℕ) (p : Port) (x m 
   ]
 
 module _ (h : Heap) (atoms : List AtomItem) (images : List ℕ) (n : ℕ) (a : AtomItem) (links : List ℕ) (at : slice_get atoms n ≡ Some a) (is : links ≡ a.links) where
-  stands : (i x : ℕ) → slice_get links i ≡ Some x → StandsAt atoms x (n, i)
+  pub stands : (i x : ℕ) → slice_get links i ≡ Some x → StandsAt atoms x (n, i)
   stands i x e = (a, at, ap (λ (ls : List ℕ). slice_get ls i) (sym is) ∙ e)
 
   link_there : (i x : ℕ) → StandsAt atoms x (n, i) → slice_get links i ≡ Some x
   link_there i x s = ap (λ (ls : List ℕ). slice_get ls i) (is ∙ sym (ap (λ (c : AtomItem). c.links) (same_Some _ _ (sym s.1 ∙ at)))) ∙ s.2
 
-  -- each link of an atom fits where all do
-  pub link_fits : (i : ℕ) → i < length links → LinksFit h atoms images n → PortFits h atoms images (n, i) (slice_index_or links i 0)
-  link_fits i l f = f i (slice_index_or links i 0) (stands i (slice_index_or links i 0) (get_index links i l))
-
-  -- and all do where each does
+  -- all links of an atom fit where each does
   pub links_more : (k : ℕ) → k < length links → PortFits h atoms images (n, k) (slice_index_or links k 0) → ((i x : ℕ) → i < k → StandsAt atoms x (n, i) → PortFits h atoms images (n, i) x)
       → (i x : ℕ) → i < k + 1 → StandsAt atoms x (n, i) → PortFits h atoms images (n, i) x
   links_more k low here before i x l s = elim (cases_eq i k) [

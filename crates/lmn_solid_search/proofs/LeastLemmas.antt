@@ -1,5 +1,5 @@
 -- What a search answers is the least embedding, or that nothing embeds.
-use Rattle.std.proofs.Common.{◌≡◌, ◌∙◌, ◌≤◌, ℕ, suc, List, [], ◌∷◌, length, map, slice_index_or, Option, Some, None, refl, sym, ap, subst, arith}
+use Rattle.std.proofs.Common.{◌≡◌, ◌∙◌, ◌≤◌, ℕ, suc, List, [], ◌∷◌, length, map, slice_index_or, refl, sym, ap, subst, arith}
 use Rattle.lmn_base.specs.declared.guard.Cond.{Cond}
 use Rattle.lmn_compile_head.specs.Heads.{IsHead}
 use Rattle.lmn_solid_tables.specs.declared.tables.Port.{Port as Place}
@@ -19,13 +19,17 @@ use Rattle.lmn_solid_search.specs.declared.head.AtomItem.{AtomItem}
 use Rattle.lmn_solid_search.specs.declared.head.Head.{Head}
 use Rattle.lmn_solid_search.specs.declared.head.MembraneItem.{MembraneItem}
 use Rattle.lmn_solid_search.specs.declared.head.TypedItem.{TypedItem}
-use Rattle.lmn_solid_search.specs.declared.embedding.Found.{Found}
+use Rattle.lmn_solid_search.specs.declared.embedding.Found.{Found as Made}
 use Rattle.lmn_solid_search.specs.declared.meeting.Fulfilled.{Fulfilled}
 use Rattle.lmn_solid_search.specs.declared.placed.Placed.{Placed}
+use Rattle.lmn_solid_search.specs.declared.reasons.Reasons.{Reasons}
+use Rattle.lmn_solid_search.specs.declared.search.Sought.{Sought}
+use Rattle.lmn_solid_search.specs.declared.search.Sought.TheVariants.{Failed, Found}
 use Rattle.lmn_solid_search.proofs.BackLemmas.{can_be, choice, choice_places, outer_within, placement}
 use Rattle.lmn_solid_search.proofs.EmbeddingLemmas.{images_by, keeps_on, mapped, places_are, unmapped}
 use Rattle.lmn_solid_search.proofs.FulfillingLemmas.{entries, ports_are}
 use Rattle.lmn_solid_search.proofs.LyingLemmas.{embeds, meaning_same, outermost_same, times_same}
+use Rattle.lmn_solid_search.proofs.ReasoningLemmas.{agrees_itself}
 use Rattle.lmn_compile_head.proofs.Nesting.{atoms_inside as atoms_within}
 use Rattle.lmn_compile_head.proofs.Common.{typed_inside as typed_within}
 
@@ -77,12 +81,12 @@ both_ways : (xs ys us vs : List ℕ) → xs ≡ us → ys ≡ vs → ListNotAfte
 both_ways xs ys us vs e g n = subst (ListNotAfter us) g (subst (λ zs. ListNotAfter zs ys) e n)
 
 module _ (h : Heap) (v : Valid h) (items : List HeadItem) (head : Head) (kept : IsTakenApart items head) (is : IsHead items) (guard : List Cond) (m : ℕ) (q : Placed) where
-  pub nothing : (o : Option Fulfilled) → o ≡ None → Answers h head guard items (at_home m) q o → (f : Images) → Embeds h items guard m f → ⊥
-  nothing o e w f g = (subst (Answers h head guard items (at_home m) q) e w).1 (placement h v items head kept is guard m f g) (choice h v items head kept is guard m f g) (can_be h v items head kept is guard m f g)
+  pub nothing : (o : Sought) (d : Reasons) → o ≡ Failed d → Answers h head guard items (at_home m) q o → (f : Images) → Embeds h items guard m f → ⊥
+  nothing o d e w f g = (subst (Answers h head guard items (at_home m) q) e w).1 (at_home m) (placement h v items head kept is guard m f g) (agrees_itself d (at_home m)) (choice h v items head kept is guard m f g) (can_be h v items head kept is guard m f g)
 
-  module _ (o : Option Fulfilled) (found : Fulfilled) (made : Found) (some : o ≡ Some found) (answers : Answers h head guard items (at_home m) q o)
+  module _ (o : Sought) (found : Fulfilled) (made : Made) (some : o ≡ Found found) (answers : Answers h head guard items (at_home m) q o)
       (atoms : made.atoms ≡ q.atoms) (membranes : made.membranes ≡ q.membranes) (parts : made.parts ≡ map (λ r. r.entry) found.parts) where
-    w : Answers h head guard items (at_home m) q (Some found)
+    w : Answers h head guard items (at_home m) q (Found found)
     w = subst (Answers h head guard items (at_home m) q) some answers
 
     images_are : images_by q (entries found.parts) ≡ images m made

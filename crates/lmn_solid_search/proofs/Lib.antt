@@ -4,6 +4,8 @@ mod PairingLemmas
 mod WholeLemmas
 mod KnowingLemmas
 mod FitsLemmas
+mod ReasoningLemmas
+mod ForetellingLemmas
 mod BelowLemmas
 mod OutsideLemmas
 mod PartsLemmas

@@ -29,10 +29,10 @@ pub named_more : (ps ps' : List Named) (n : Named) → ps' ≡ ps ++ n ∷ [] �
 named_more ps ps' n e x = ap (λ qs. part_named qs x) e ∙ named_behind ps n x
 
 -- values behind another one
-beside_here : (x : ℕ) (z : ℤ) (ns : List ℕ) (vs : List ℤ) → value_beside (x ∷ ns) (z ∷ vs) x ≡ Some z
+pub beside_here : (x : ℕ) (z : ℤ) (ns : List ℕ) (vs : List ℤ) → value_beside (x ∷ ns) (z ∷ vs) x ≡ Some z
 beside_here x z ns vs = search rules
 
-beside_away : (x y : ℕ) (z : ℤ) (ns : List ℕ) (vs : List ℤ) → x ≢ y → value_beside (y ∷ ns) (z ∷ vs) x ≡ value_beside ns vs x
+pub beside_away : (x y : ℕ) (z : ℤ) (ns : List ℕ) (vs : List ℤ) → x ≢ y → value_beside (y ∷ ns) (z ∷ vs) x ≡ value_beside ns vs x
 beside_away x y z ns vs d = search rules
 
 -- a name that has no part

@@ -13,20 +13,20 @@ search-requires-clause-head c = searchable c.args.items.now c.in_ok-head.head c.
 pub search-requires-clause-sits : goal.search-requires-clause-sits
 search-requires-clause-sits c = subst (λ (z : Placed). Sits (heap_of c.args.flat.now) c.in_ok-head.head c.args.items.now z) (sym (started c.args.membrane c.new.result c.new-2.result c.new.ensures c.new-2.ensures)) (sits_first c.args.items.now c.in_ok-head.head c.in_ok-head.ensures c.requires.head (heap_of c.args.flat.now) c.args.membrane c.requires.membrane)
 
-pub returns-in-Some-clause-some : goal.returns-in-Some-clause-some
-returns-in-Some-clause-some c =
-    is_least (heap_of c.args.flat.now) c.requires.valid c.args.items.now c.in_ok-head.head c.in_ok-head.ensures c.requires.head c.args.guard.now c.args.membrane c.search.new.placed c.in_ok-fulfilled.field-0 c.in-Some.fulfilled c.in_ok-found-in-Some.found c.in-Some.is (subst (λ (z : Placed). Answers (heap_of c.args.flat.now) c.in_ok-head.head c.args.guard.now c.args.items.now z c.search.new.placed c.in_ok-fulfilled.field-0) (started c.args.membrane c.new.result c.new-2.result c.new.ensures c.new-2.ensures) c.in_ok-fulfilled.ensures.answers) c.in_ok-found-in-Some.ensures.atoms c.in_ok-found-in-Some.ensures.membranes c.in_ok-found-in-Some.ensures.parts
+pub returns-in-Found-clause-some : goal.returns-in-Found-clause-some
+returns-in-Found-clause-some c =
+    is_least (heap_of c.args.flat.now) c.requires.valid c.args.items.now c.in_ok-head.head c.in_ok-head.ensures c.requires.head c.args.guard.now c.args.membrane c.search.new.placed c.in_ok-fulfilled.field-0 c.in-Found.fulfilled c.in_ok-found-in-Found.found c.in-Found.is (subst (λ (z : Placed). Answers (heap_of c.args.flat.now) c.in_ok-head.head c.args.guard.now c.args.items.now z c.search.new.placed c.in_ok-fulfilled.field-0) (started c.args.membrane c.new.result c.new-2.result c.new.ensures c.new-2.ensures) c.in_ok-fulfilled.ensures.answers) c.in_ok-found-in-Found.ensures.atoms c.in_ok-found-in-Found.ensures.membranes c.in_ok-found-in-Found.ensures.parts
 
-pub returns-in-Some-clause-none : goal.returns-in-Some-clause-none
-returns-in-Some-clause-none c = λ e. absurd (cc)
+pub returns-in-Found-clause-none : goal.returns-in-Found-clause-none
+returns-in-Found-clause-none c = λ e. absurd (cc)
 
-pub returns-in-Some-clause-known : goal.returns-in-Some-clause-known
-returns-in-Some-clause-known c =
-    integers (heap_of c.args.flat.now) c.requires.valid c.args.items.now c.in_ok-head.head c.in_ok-head.ensures c.requires.head c.args.guard.now c.args.membrane c.search.new.placed c.in_ok-fulfilled.field-0 c.in-Some.fulfilled c.in_ok-found-in-Some.found c.in-Some.is (subst (λ (z : Placed). Answers (heap_of c.args.flat.now) c.in_ok-head.head c.args.guard.now c.args.items.now z c.search.new.placed c.in_ok-fulfilled.field-0) (started c.args.membrane c.new.result c.new-2.result c.new.ensures c.new-2.ensures) c.in_ok-fulfilled.ensures.answers) c.in_ok-found-in-Some.ensures.atoms c.in_ok-found-in-Some.ensures.membranes c.in_ok-found-in-Some.ensures.parts
-    c.in_ok-found-in-Some.ensures.names c.in_ok-found-in-Some.ensures.values
+pub returns-in-Found-clause-known : goal.returns-in-Found-clause-known
+returns-in-Found-clause-known c =
+    integers (heap_of c.args.flat.now) c.requires.valid c.args.items.now c.in_ok-head.head c.in_ok-head.ensures c.requires.head c.args.guard.now c.args.membrane c.search.new.placed c.in_ok-fulfilled.field-0 c.in-Found.fulfilled c.in_ok-found-in-Found.found c.in-Found.is (subst (λ (z : Placed). Answers (heap_of c.args.flat.now) c.in_ok-head.head c.args.guard.now c.args.items.now z c.search.new.placed c.in_ok-fulfilled.field-0) (started c.args.membrane c.new.result c.new-2.result c.new.ensures c.new-2.ensures) c.in_ok-fulfilled.ensures.answers) c.in_ok-found-in-Found.ensures.atoms c.in_ok-found-in-Found.ensures.membranes c.in_ok-found-in-Found.ensures.parts
+    c.in_ok-found-in-Found.ensures.names c.in_ok-found-in-Found.ensures.values
 
 pub returns-clause-none : goal.returns-clause-none
-returns-clause-none c = λ e. nothing (heap_of c.args.flat.now) c.requires.valid c.args.items.now c.in_ok-head.head c.in_ok-head.ensures c.requires.head c.args.guard.now c.args.membrane c.search.new.placed c.in_ok-fulfilled.field-0 c.in-None.is (subst (λ (z : Placed). Answers (heap_of c.args.flat.now) c.in_ok-head.head c.args.guard.now c.args.items.now z c.search.new.placed c.in_ok-fulfilled.field-0) (started c.args.membrane c.new.result c.new-2.result c.new.ensures c.new-2.ensures) c.in_ok-fulfilled.ensures.answers)
+returns-clause-none c = λ e. nothing (heap_of c.args.flat.now) c.requires.valid c.args.items.now c.in_ok-head.head c.in_ok-head.ensures c.requires.head c.args.guard.now c.args.membrane c.search.new.placed c.in_ok-fulfilled.field-0 _ c.in-Failed.is (subst (λ (z : Placed). Answers (heap_of c.args.flat.now) c.in_ok-head.head c.args.guard.now c.args.items.now z c.search.new.placed c.in_ok-fulfilled.field-0) (started c.args.membrane c.new.result c.new-2.result c.new.ensures c.new-2.ensures) c.in_ok-fulfilled.ensures.answers)
 
 pub returns-then-not-holds_functors-clause-none : goal.returns-then-not-holds_functors-clause-none
 returns-then-not-holds_functors-clause-none c = λ e f g. port_differs c.holds_functors.ensures.1 c.if-not-holds_functors.true (embeds_ahead (heap_of c.args.flat.now) c.args.items.now c.args.guard.now c.args.membrane f g)

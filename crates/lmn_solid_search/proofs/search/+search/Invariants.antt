@@ -1,8 +1,9 @@
-use Rattle.std.proofs.Common.{◌≡◌, ◌+◌, ◌*◌, ℕ, take, length}
+use Rattle.std.proofs.Common.{◌≡◌, ◌+◌, ◌*◌, ℕ, suc, take, length}
 use Rattle.lmn_base.specs.Lists.{In}
 use Rattle.lmn_solid_tables.specs.Flats.{heap_of}
-use Rattle.lmn_solid_search.specs.Choosing.{Allowed, CanBe, Chooses, with_atom, with_membrane}
+use Rattle.lmn_solid_search.specs.Choosing.{Allowed, CanBe, Chooses, IsNew, with_atom, with_membrane}
 use Rattle.lmn_solid_search.specs.Holding.{HasRoom}
+use Rattle.lmn_solid_search.specs.Reasoning.{Agrees, IsAmong}
 use Rattle.lmn_solid_search.specs.declared.placed.Placed.{Placed}
 use Rattle.lmn_solid_search.proofs.search.+search.Given as goal
 
@@ -25,12 +26,14 @@ abbrev pub invariant-try_atoms-loop-choice : goal.invariant-try_atoms-loop-choic
 invariant-try_atoms-loop-choice l = record {
   same : l.placed ≡ l.fn.placed;
   room : HasRoom (heap_of l.flat) l.room;
-  none : (a : ℕ) → In a (take l.choice-index l.choices) → Allowed (heap_of l.flat) l.head l.fn.placed l.functor a → (r : Placed) → Chooses (heap_of l.flat) l.head l.rest (with_atom l.fn.placed a) r → CanBe (heap_of l.flat) l.head l.guard r → ⊥;
+  inside : (k : ℕ) → l.inside ≡ suc k → IsAmong k l.reasons.membranes;
+  none : (a : ℕ) → In a (take l.choice-index l.choices) → (q r : Placed) → Agrees l.reasons l.fn.placed q → Allowed (heap_of l.flat) l.head q l.functor a → Chooses (heap_of l.flat) l.head l.rest (with_atom q a) r → CanBe (heap_of l.flat) l.head l.guard r → ⊥;
 }
 
 abbrev pub invariant-try_membranes-loop-choice : goal.invariant-try_membranes-loop-choice
 invariant-try_membranes-loop-choice l = record {
   same : l.placed ≡ l.fn.placed;
   room : HasRoom (heap_of l.flat) l.room;
-  none : (a : ℕ) → In a (take l.choice-index l.choices) → (In a l.fn.placed.membranes → ⊥) → (r : Placed) → Chooses (heap_of l.flat) l.head l.rest (with_membrane l.fn.placed a) r → CanBe (heap_of l.flat) l.head l.guard r → ⊥;
+  inside : (k : ℕ) → l.inside ≡ suc k → IsAmong k l.reasons.membranes;
+  none : (a : ℕ) → In a (take l.choice-index l.choices) → (q r : Placed) → Agrees l.reasons l.fn.placed q → IsNew q a → Chooses (heap_of l.flat) l.head l.rest (with_membrane q a) r → CanBe (heap_of l.flat) l.head l.guard r → ⊥;
 }

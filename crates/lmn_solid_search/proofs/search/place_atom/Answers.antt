@@ -1,20 +1,41 @@
-use Rattle.std.proofs.Common.{refl}
+use Rattle.std.proofs.Common.{◌∙◌, refl, length}
+use Rattle.lmn_base.proofs.Lists.{holds_of_item}
 use Rattle.lmn_solid_tables.specs.Flats.{heap_of}
 use Rattle.lmn_solid_search.proofs.PairingLemmas.{port_differs}
-use Rattle.lmn_solid_search.proofs.SearchLemmas.{allowed_by, atoms_more, popped, apart_in}
+use Rattle.lmn_solid_search.proofs.SearchLemmas.{allowed_by, apart_in, atoms_more, before_last, long_enough, longer_by, other_functor, popped, refused_as}
 use Rattle.lmn_solid_search.proofs.search.place_atom.Goals as goal
 
-pub links_fit-requires-clause-images : goal.links_fit-requires-clause-images
-links_fit-requires-clause-images c = atoms_more (heap_of c.args.flat.now) c.args.placed.now.atoms c.push.new.self c.as_slice-3.result.now c.args.atom c.as_slice-3.ensures c.in_ok-push.ensures.ok c.requires.atoms c.requires.atom
+pub returns-then-not-is_same_functor-clause-some : goal.returns-then-not-is_same_functor-clause-some
+returns-then-not-is_same_functor-clause-some c =
+    (refl, other_functor (heap_of c.args.flat.now) c.args.head.now c.args.guard.now c.args.functor c.functor.result c.args.placed.now c.args.atom c.len-number.result c.one.result c.functor.ensures (port_differs c.is_same_functor.ensures.1 c.if-not-is_same_functor.true) c.len-number.ensures c.one.ensures)
 
-pub returns-then-links_fit : goal.returns-then-links_fit
-returns-then-links_fit c =
-    let is = allowed_by (heap_of c.args.flat.now) c.args.head.now c.args.placed.now c.args.functor c.functor.result c.args.atom c.len-number.result c.links_fit.result c.as_slice-2.result.now c.push.new.self c.as_slice-3.result.now
-    c.functor.ensures (c.is_same_functor.ensures.0 c.if-not-is_same_functor.false) (apart_in c.args.atom c.args.placed.now.atoms c.as_slice.result.now c.as_slice.ensures (port_differs c.has.ensures.1 c.if-has.false)) c.as_slice-2.ensures c.as_slice-3.ensures c.in_ok-push.ensures.ok c.len-number.ensures c.links_fit.ensures in
-    (((λ z. is.0 c.if-links_fit.true), λ w. refl), (λ z i. record c.args.placed.now { atoms = c.in_ok-push.ensures.ok i }), λ z. absurd (cc))
+pub refusal-requires-clause-images : goal.refusal-requires-clause-images
+refusal-requires-clause-images c =
+    atoms_more (heap_of c.args.flat.now) c.args.placed.now.atoms c.push.new.self c.as_slice-2.result.now c.args.atom c.as_slice-2.ensures c.in_ok-push.ensures.ok c.requires.atoms c.requires.atom
 
-pub returns : goal.returns
-returns c =
-    let is = allowed_by (heap_of c.args.flat.now) c.args.head.now c.args.placed.now c.args.functor c.functor.result c.args.atom c.len-number.result c.links_fit.result c.as_slice-2.result.now c.push.new.self c.as_slice-3.result.now
-    c.functor.ensures (c.is_same_functor.ensures.0 c.if-not-is_same_functor.false) (apart_in c.args.atom c.args.placed.now.atoms c.as_slice.result.now c.as_slice.ensures (port_differs c.has.ensures.1 c.if-has.false)) c.as_slice-2.ensures c.as_slice-3.ensures c.in_ok-push.ensures.ok c.len-number.ensures c.links_fit.ensures in
-    (((λ z. absurd (cc)), λ w. absurd (port_differs is.1 c.if-links_fit.false w)), (λ z. absurd (cc)), λ z i. record c.args.placed.now { atoms = popped c.pop.result c.push.new.self c.pop.new.self c.args.placed.now.atoms c.args.atom c.in_ok-push.ensures.ok c.pop.ensures i })
+pub refusal-requires-clause-few : goal.refusal-requires-clause-few
+refusal-requires-clause-few c =
+    long_enough c.args.placed.now.atoms c.as_slice-2.result.now c.args.atom (length c.args.head.now.atoms) (c.as_slice-2.ensures ∙ c.in_ok-push.ensures.ok) c.requires.few
+
+pub refusal-requires-clause-number : goal.refusal-requires-clause-number
+refusal-requires-clause-number c =
+    longer_by c.args.placed.now.atoms c.as_slice-2.result.now c.args.atom c.len-number.result (c.as_slice-2.ensures ∙ c.in_ok-push.ensures.ok) c.len-number.ensures
+
+pub refusal-requires-clause-before : goal.refusal-requires-clause-before
+refusal-requires-clause-before c =
+    before_last c.args.placed.now.atoms c.as_slice.result.now c.as_slice-2.result.now c.args.atom c.len-number.result c.place_of-before.result c.as_slice.ensures (c.as_slice-2.ensures ∙ c.in_ok-push.ensures.ok) c.len-number.ensures c.place_of-before.ensures.some
+
+pub returns-in-Some-clause-some : goal.returns-in-Some-clause-some
+returns-in-Some-clause-some c =
+    let refused = holds_of_item _ c.in_ok-numbers.field-0 c.in-Some.numbers c.in-Some.is c.in_ok-numbers.ensures.some in (
+      (λ i. record c.args.placed.now { atoms = popped c.pop.result c.push.new.self c.pop.new.self c.args.placed.now.atoms c.args.atom c.in_ok-push.ensures.ok c.pop.ensures i }),
+      refused_as (heap_of c.args.flat.now) c.args.head.now c.args.guard.now c.args.functor c.args.placed.now c.args.atom c.len-number.result c.as_slice-2.result.now c.in-Some.numbers c.len-number.ensures (c.as_slice-2.ensures ∙ c.in_ok-push.ensures.ok) (refused c.args.functor),
+    )
+
+pub returns-in-None-clause-none : goal.returns-in-None-clause-none
+returns-in-None-clause-none c =
+    λ e. (
+      (λ i. record c.args.placed.now { atoms = c.in_ok-push.ensures.ok i }),
+      allowed_by (heap_of c.args.flat.now) c.args.head.now c.args.placed.now c.args.functor c.functor.result c.args.atom c.len-number.result c.as_slice-2.result.now c.functor.ensures (c.is_same_functor.ensures.0 c.if-not-is_same_functor.false)
+          (apart_in c.args.atom c.args.placed.now.atoms c.as_slice.result.now c.as_slice.ensures (c.place_of-before.ensures.none (c.in_ok-numbers.ensures.new c.in-None.is))) (c.as_slice-2.ensures ∙ c.in_ok-push.ensures.ok) c.len-number.ensures (c.in_ok-numbers.ensures.fits c.in-None.is),
+    )
