@@ -1,6 +1,6 @@
 -- Lines with a link that leads through a membrane.
-use Rattle.std.proofs.Common.{◌≡◌, ℕ, zero, suc, List, [], ◌∷◌, refl, sym, ap, ◌∙◌, subst, inl, inr, ◌⊎◌, arith}
-use Rattle.std.specs.Prelude.{Contains, codes}
+use Rattle.std.proofs.Common.{◌≡◌, ℕ, ◌+◌, ◌==◌, cond, List, [], ◌∷◌, refl, sym, ap, ◌∙◌, subst, inl, inr, ◌⊎◌, arith}
+use Rattle.std.specs.Prelude.{Bool, Contains, codes, false, true}
 use Rattle.std.specs.declared.alloc.Global.{Global}
 use Rattle.lmn_base.specs.declared.rule.Plain.{Plain}
 use Rattle.lmn_base.specs.Links.{NumbersLinks, known, new, no_more}
@@ -12,6 +12,7 @@ use Rattle.lmn_congruence.specs.Rules.{Name}
 use Rattle.lmn_congruence.specs.Translation.{top_of}
 use Rattle.lmn_lexer.specs.Spelling.{byte, nothing}
 use Rattle.lmn_flatten_plain.specs.LinkNumbers.{level_links}
+use Rattle.lmn_flatten_plain.specs.Numerals.{numeral}
 use Rattle.lmn_flatten_plain.specs.SolidLines.{as_level}
 use Rattle.lmn_flatten_plain.specs.Texts.{IsPlainOfText}
 use Rattle.lmn_flatten_plain.specs.Words.{line_of}
@@ -23,8 +24,12 @@ use Rattle.lmn_app.specs.LinkExamples.{LinkLeadsThrough, through}
 
 -- each link stands twice
 closed_through : Closed (region_process (through 0 0))
-closed_through zero = inr refl
-closed_through (suc x) = inl refl
+closed_through x = go (x == 0)
+  where
+    -- how often a link occurs, by whether it is the one that stands at the two atoms
+    go : (same : Bool) → (((cond same 1 0 + 0) + 0) + (((((cond same 1 0 + 0) + 0) + (0 + 0)) + 0) + 0) ≡ 0) ⊎ (((cond same 1 0 + 0) + 0) + (((((cond same 1 0 + 0) + 0) + (0 + 0)) + 0) + 0) ≡ 2)
+    go true = inr refl
+    go false = inl refl
 
 -- a link that stands once is in no closed process
 not_closed : ¬ (Closed (region_process (through 0 1)))
@@ -45,11 +50,13 @@ module _ (alloc : Global) (names : List Name) (is : IsNames names) (a : Contains
       numbered (((tt, tt), tt), tt) (no_contexts (through x y))
 
   joined_line : IsLineOf names (region_process (through 0 0)) (codes "b(L0). {a(L0)}.\n")
+  unfolding numeral
   joined_line =
       let it = back 0 0 1 (new (known (omega arith) no_more)) in
       record { plain = it.0; reads = it.1; process = sym (same_process (through 0 0)) ∙ ap level_process (sym it.2); closed = closed_through }
 
   no_such_line : (P : Process) → ¬ (IsLineOf names P (codes "b(L0). {a(L1)}.\n"))
+  unfolding numeral
   no_such_line P l =
       let it = back 0 1 2 (new (new no_more)) in
       let one = same_tops names l.plain it.0 (one_text_plain (codes "b(L0). {a(L1)}.\n") names l.plain it.0 l.reads it.1) in
