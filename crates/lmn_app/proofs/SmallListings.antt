@@ -1,5 +1,6 @@
 -- The listing of a small text.
 use Rattle.std.proofs.Common.{◌≡◌, ℕ, ◌+◌, List, [], ◌∷◌, length, sym, ap, arith}
+use Rattle.std.specs.Fmt.{digits}
 use Rattle.lmn_base.specs.declared.functor.Functor.{Functor}
 use Rattle.lmn_base.specs.declared.functor.Label.TheVariants.{Name}
 use Rattle.lmn_base.specs.declared.level.Level.TheFolds.{fold-roll-Level}
@@ -47,6 +48,7 @@ its_codes : rule_codes (small_rule ∷ []) (no_plan ∷ []) ≡ its_code ∷ []
 its_codes = λ i. record { head = head_code (head_flat i) []; body = body_code (head_flat i) (body_flat i) 0 } ∷ []
 
 listed : IsListing small_text small_listing
+unfolding digits
 listed = record {
   names = small_names;
   plain = small_plain;
