@@ -1,5 +1,5 @@
 -- Lines with a link that leads through a membrane.
-use Rattle.std.proofs.Common.{◌≡◌, ℕ, ◌+◌, ◌==◌, cond, List, [], ◌∷◌, refl, sym, ap, ◌∙◌, subst, inl, inr, ◌⊎◌, arith}
+use Rattle.std.proofs.Common.{◌≡◌, ℕ, ◌+◌, ◌==◌, cond, slice_index_or, List, [], ◌∷◌, refl, sym, ap, ◌∙◌, subst, inl, inr, ◌⊎◌, arith}
 use Rattle.std.specs.Prelude.{Bool, Contains, codes, false, true}
 use Rattle.std.specs.declared.alloc.Global.{Global}
 use Rattle.lmn_base.specs.declared.rule.Plain.{Plain}
@@ -9,18 +9,23 @@ use Rattle.lmn_congruence.specs.Plains.{level_process}
 use Rattle.lmn_congruence.specs.Process.{Closed, Fresh, Local, Process, occurrences}
 use Rattle.lmn_congruence.specs.Regions.{region_process}
 use Rattle.lmn_congruence.specs.Rules.{Name}
-use Rattle.lmn_congruence.specs.Translation.{top_of}
+use Rattle.lmn_congruence.specs.Translation.{level_of, no_such_rule, top_of}
 use Rattle.lmn_lexer.specs.Spelling.{byte, nothing}
 use Rattle.lmn_flatten_plain.specs.LinkNumbers.{level_links}
 use Rattle.lmn_flatten_plain.specs.Numerals.{numeral}
+use Rattle.lmn_flatten_plain.specs.SamePlains.{SamePlain}
 use Rattle.lmn_flatten_plain.specs.SolidLines.{as_level}
 use Rattle.lmn_flatten_plain.specs.Texts.{IsPlainOfText}
 use Rattle.lmn_flatten_plain.specs.Words.{line_of}
 use Rattle.lmn_flatten_plain.proofs.SolidLines.{no_contexts, same_process}
 use Rattle.lmn_flatten_plain.proofs.TextPlains.{lines_read_back, one_text_plain}
-use Rattle.lmn_app_reading.proofs.SameRules.{same_tops}
 use Rattle.lmn_app_runs.specs.Runs.{IsLineOf}
 use Rattle.lmn_app.specs.LinkExamples.{LinkLeadsThrough, through}
+use Rattle.lmn_app.proofs.OneOutput.{same_rules}
+
+-- two plains of one text have one top
+same_tops : (names : List Name) (p q : Plain) → SamePlain p q → top_of names p ≡ top_of names q
+same_tops names p q h = λ i. level_of names (λ n. slice_index_or (same_rules names 0 p.rules q.rules h.rules i) n no_such_rule) (h.top i)
 
 -- each link stands twice
 closed_through : Closed (region_process (through 0 0))

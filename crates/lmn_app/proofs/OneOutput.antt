@@ -57,7 +57,8 @@ same_conditions names [] (d ∷ ds) h = absurd h
 same_conditions names (c ∷ cs) [] h = absurd h
 same_conditions names (c ∷ cs) (d ∷ ds) h = λ i. same_tree names c d h.0 i ∷ same_conditions names cs ds h.1 i
 
-same_rules : (names : List Name) (k : ℕ) (rs ss : List RuleTree) → EachPair SameRule rs ss → rules_from names k rs ≡ rules_from names k ss
+-- the rules of two plains of one text are the same trees
+pub same_rules : (names : List Name) (k : ℕ) (rs ss : List RuleTree) → EachPair SameRule rs ss → rules_from names k rs ≡ rules_from names k ss
 same_rules names k [] [] h = refl
 same_rules names k [] (s ∷ ss) h = absurd h
 same_rules names k (r ∷ rs) [] h = absurd h
