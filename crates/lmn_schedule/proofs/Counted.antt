@@ -48,7 +48,7 @@ asks_awake h codes m ms awake rest n (asks_all {n = j} none more) =
 asks_awake h codes m ms awake rest n (asks_until {place = place} first) = (place + 1, omega arith, asks_until first)
 
 -- Where those that sleep would be asked too, no fewer rules are asked: none of theirs succeeds.
-asks_sleepers : (h : Heap) (codes : List Code) → SleepsRightly h codes → (ms : List ℕ) (n : ℕ) → AsksRules h codes (awake_of h ms) n → (k : ℕ) × (n ≤ k) × AsksRules h codes ms k
+pub asks_sleepers : (h : Heap) (codes : List Code) → SleepsRightly h codes → (ms : List ℕ) (n : ℕ) → AsksRules h codes (awake_of h ms) n → (k : ℕ) × (n ≤ k) × AsksRules h codes ms k
 asks_sleepers h codes s [] n a = (n, omega arith, a)
 asks_sleepers h codes s (m ∷ ms) n a = by (mem_mark_of h m) refl (asks_sleepers h codes s ms)
   where

@@ -1,19 +1,17 @@
 -- What a turn and a count are where membranes that sleep aren't asked, and those that are asked in vain fall asleep.
-use Rattle.std.proofs.Common.{ℕ, zero, suc, ◌≡◌, ◌≤◌, ◌+◌, List, [], ◌∷◌, length, true, refl, subst, arith}
-use Rattle.std.specs.Prelude.{if◌then◌else◌}
-use Rattle.std.proofs.lemmas.Bool.{eq-eqb}
-use Rattle.lmn_base.proofs.Numbers.{not_equal}
-use Rattle.lmn_store_heap.specs.Heap.{Heap, mem_mark_of, rules_in}
+use Rattle.std.proofs.Common.{ℕ, List, true, refl, arith}
+use Rattle.lmn_store_heap.specs.Heap.{Heap}
 use Rattle.lmn_store_heap.specs.Sound.{Forest, IsTree, flat}
 use Rattle.lmn_instr_code.specs.declared.instr.Code.{Code}
 use Rattle.lmn_schedule_sleep.proofs.Marks.{alike_back, read_alike}
 use Rattle.lmn_schedule_strategy.specs.Choosing.{asked}
-use Rattle.lmn_schedule_strategy.specs.Counting.{AsksRules, CountsAsked, RisesWithin, asks_all, asks_until, awake_of}
+use Rattle.lmn_schedule_strategy.specs.Counting.{AsksRules, CountsAsked, RisesWithin}
 use Rattle.lmn_schedule_strategy.specs.Quieting.{SleepsRightly}
 use Rattle.lmn_schedule_strategy.specs.Turns.{IsAwakeTurn}
 use Rattle.lmn_schedule_strategy.specs.declared.turning.Turn.{Turn}
 use Rattle.lmn_schedule_strategy.specs.declared.turning.Turn.TheVariants.{Committed, Irreducible, Full, NoMemory}
 use Rattle.lmn_schedule_strategy.proofs.Lulling.{none_in_back}
+use Rattle.lmn_schedule.proofs.Counted.{asks_sleepers}
 use Rattle.lmn_verify_coded.specs.Runs.{CodedTurn}
 
 -- a turn by which those that are asked in vain fall asleep is a turn of codes
@@ -30,31 +28,6 @@ coded_turn h codes f tree size Full h' t = record { tree = f; is_tree = tree; lu
 coded_turn h codes f tree size NoMemory h' t = record { tree = f; is_tree = tree; lulled = t.0; alike = t.2.alike; turn = t.1 }
 
 -- ---- what is counted
-
--- one that is awake is asked, and then others
-asks_awake : (h : Heap) (codes : List Code) (m : ℕ) (ms awake : List ℕ) → ((j : ℕ) → AsksRules h codes awake j → (k : ℕ) × (j ≤ k) × AsksRules h codes ms k) →
-    (n : ℕ) → AsksRules h codes (m ∷ awake) n → (k : ℕ) × (n ≤ k) × AsksRules h codes (m ∷ ms) k
-asks_awake h codes m ms awake rest n (asks_all {n = j} none more) =
-    let q = rest j more in
-    let l = q.1 in
-    (length (rules_in h m) + q.0, omega (arith, l), asks_all none q.2)
-asks_awake h codes m ms awake rest n (asks_until {place = place} first) = (place + 1, omega arith, asks_until first)
-
--- Where those that sleep would be asked too, no fewer rules are asked: none of theirs succeeds.
-asks_sleepers : (h : Heap) (codes : List Code) → SleepsRightly h codes → (ms : List ℕ) (n : ℕ) → AsksRules h codes (awake_of h ms) n → (k : ℕ) × (n ≤ k) × AsksRules h codes ms k
-asks_sleepers h codes s [] n a = (n, omega arith, a)
-asks_sleepers h codes s (m ∷ ms) n a = by (mem_mark_of h m) refl (asks_sleepers h codes s ms)
-  where
-    by : (mark : ℕ) → mem_mark_of h m ≡ mark → ((j : ℕ) → AsksRules h codes (awake_of h ms) j → (k : ℕ) × (j ≤ k) × AsksRules h codes ms k) → (k : ℕ) × (n ≤ k) × AsksRules h codes (m ∷ ms) k
-    by zero e rest =
-        let z = eq-eqb (mem_mark_of h m) 0 e in
-        asks_awake h codes m ms (awake_of h ms) rest n (subst (λ b. AsksRules h codes (if b then m ∷ awake_of h ms else awake_of h ms) n) z a)
-    by (suc zero) e rest =
-        let z = not_equal (mem_mark_of h m) 0 (λ q. absurd (omega (arith, e, q))) in
-        let q = rest n (subst (λ b. AsksRules h codes (if b then m ∷ awake_of h ms else awake_of h ms) n) z a) in
-        let l = q.1 in
-        (length (rules_in h m) + q.0, omega (arith, l), asks_all (s.none m e) q.2)
-    by (suc (suc mark)) e rest = let l = s.low m in absurd (omega (arith, l, e))
 
 -- How many rules of all membranes would be asked, and how a count rises by them at most.
 pub record CountsWhole (h : Heap) (codes : List Code) (f : Forest) (a b : ℕ) : Type 0 where
