@@ -222,7 +222,7 @@ first_turns chooser n l = record {
 }
 
 -- no `a` is left
-not_among : {x : SolidAtom} {n : ℕ} {rest : List SolidAtom} → Taken n x (solid_atom_with label_b [] ∷ []) rest → label_a ≡ x.label → ⊥
+pub not_among : {x : SolidAtom} {n : ℕ} {rest : List SolidAtom} → Taken n x (solid_atom_with label_b [] ∷ []) rest → label_a ≡ x.label → ⊥
 not_among taken_first e = absurd (a_not_b (ap letter e))
 not_among (taken_later k) e = elim k [ ]
 

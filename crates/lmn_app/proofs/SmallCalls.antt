@@ -15,6 +15,7 @@ use Rattle.lmn_app_reading.specs.Texts.{by_bytes}
 use Rattle.lmn_app.proofs.OutcomeLemmas.{refused_told}
 use Rattle.lmn_app.proofs.SmallTexts.{place_is, small_text_is_accepted}
 use Rattle.lmn_app.proofs.TextLemmas.{one_refusal, refused_not_accepted}
+use Rattle.lmn_reduction.proofs.Derivations.{zero_not_one}
 
 -- ---- a quote
 
@@ -65,14 +66,11 @@ first_letter None = 0
 first_letter (Some []) = 0
 first_letter (Some (f ∷ fs)) = first_byte f.name
 
-not_none : ¬ (◌≡◌ {A = ℕ} 0 1)
-not_none = omega arith
-
 not_another : ¬ (◌≡◌ {A = ℕ} 98 97)
 not_another = omega arith
 
 pub file_is_fetched_once : FileIsFetchedOnce
-file_is_fetched_once texts before after = (refl, (λ e. not_none (ap how_many e)), λ e. not_another (ap first_letter e))
+file_is_fetched_once texts before after = (refl, (λ e. zero_not_one (ap how_many e)), λ e. not_another (ap first_letter e))
 
 -- ---- no words
 

@@ -4,5 +4,6 @@ pub mod RowLemmas
 pub mod CodeLemmas
 pub mod Lists
 pub mod Common
+pub mod Bits
 pub mod Numbers
 pub mod Truth

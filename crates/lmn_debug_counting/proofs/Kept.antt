@@ -3,6 +3,7 @@ use Rattle.std.proofs.Common.{ℕ, suc, ◌≡◌, ◌≢◌, ◌+◌, inl, inr,
 use Rattle.std.proofs.lemmas.Bool.{cases_eq}
 use Rattle.lmn_base.specs.declared.functor.Functor.{Functor}
 use Rattle.lmn_base.specs.Lists.{In}
+use Rattle.lmn_base.proofs.Truth.{never_both}
 use Rattle.lmn_store_heap.specs.Functors.{same_functor}
 use Rattle.lmn_store_heap.specs.Heap.{HeapAtom}
 use Rattle.lmn_store_heap.specs.Lists.{without}
@@ -21,10 +22,6 @@ those_same u v f e xs w = record { once = w.once; all = λ a. (λ i. sym (e a) �
 pub kept_same : (u v : ℕ → Option HeapAtom) (t : Option Tally) → ((f : Functor) (a : ℕ) → stands_as f (v a) ≡ stands_as f (u a)) → IsKept u t → IsKept v t
 kept_same u v None e k = tt
 kept_same u v (Some t) e k = λ xs w. k xs (those_same u v t.functor (e t.functor) xs w)
-
--- no function says both of one atom
-not_both : {b : Bool} → b ≡ true → b ≡ false → ⊥
-not_both t f = let e : true ≡ false = sym t ∙ f in absurd (cc)
 
 module _ (u v : ℕ → Option HeapAtom) (a : ℕ) (away : (f : Functor) (j : ℕ) → j ≢ a → stands_as f (v j) ≡ stands_as f (u j)) where
   -- of a functor that neither of two atoms has, no more and no fewer stand
@@ -47,7 +44,7 @@ module _ (u v : ℕ → Option HeapAtom) (a : ℕ) (away : (f : Functor) (j : �
 
       forth : (j : ℕ) → stands_as f (u j) ≡ true → In j (without a xs)
       forth j s = elim (cases_eq j a) [
-        | inl e ↦ absurd (not_both s (ap (λ i. stands_as f (u i)) e ∙ before))
+        | inl e ↦ absurd (never_both _ s (ap (λ i. stands_as f (u i)) e ∙ before))
         | inr d ↦ in_without a j xs ((w.all j).1 (away f j d ∙ s)) d
       ]
 
@@ -58,7 +55,7 @@ module _ (u v : ℕ → Option HeapAtom) (a : ℕ) (away : (f : Functor) (j : �
       omega (arith, e, less)
     where
       apart : (y : ℕ) → In y xs → a ≢ y
-      apart y i e = not_both ((w.all y).0 i) (ap (λ j. stands_as f (v j)) (sym e) ∙ behind)
+      apart y i e = never_both _ ((w.all y).0 i) (ap (λ j. stands_as f (v j)) (sym e) ∙ behind)
 
       back : (j : ℕ) → In j (a ∷ xs) → stands_as f (u j) ≡ true
       back j (inl e) = ap (λ i. stands_as f (u i)) (sym e) ∙ before
@@ -79,7 +76,7 @@ module _ (u v : ℕ → Option HeapAtom) (a : ℕ) (away : (f : Functor) (j : �
       by : (b : Bool) → same_functor g s.functor ≡ b → (xs : List ℕ) → AreThose v t.functor xs → t.count ≡ length xs
       by true e xs l = w.one (functor_is g s.functor e) ∙ gained s.functor s.count (before s.functor) (behind s.functor ∙ e) k xs (subst (λ f. AreThose v f xs) w.functor l)
       by false e xs l =
-          w.other (λ same. not_both (ap (λ f. same_functor f s.functor) same ∙ functor_same s.functor) e)
+          w.other (λ same. never_both _ (ap (λ f. same_functor f s.functor) same ∙ functor_same s.functor) e)
           ∙ k xs (those_same u v s.functor (level s.functor (before s.functor) (behind s.functor ∙ e)) xs (subst (λ f. AreThose v f xs) w.functor l))
 
   -- and behind one that went
@@ -91,5 +88,5 @@ module _ (u v : ℕ → Option HeapAtom) (a : ℕ) (away : (f : Functor) (j : �
       by : (b : Bool) → same_functor g s.functor ≡ b → (xs : List ℕ) → AreThose v t.functor xs → t.count ≡ length xs
       by true e xs l = lost s.functor s.count t.count (before s.functor ∙ e) (behind s.functor) k (w.one (functor_is g s.functor e)) xs (subst (λ f. AreThose v f xs) w.functor l)
       by false e xs l =
-          w.other (λ same. not_both (ap (λ f. same_functor f s.functor) same ∙ functor_same s.functor) e)
+          w.other (λ same. never_both _ (ap (λ f. same_functor f s.functor) same ∙ functor_same s.functor) e)
           ∙ k xs (those_same u v s.functor (level s.functor (before s.functor ∙ e) (behind s.functor)) xs (subst (λ f. AreThose v f xs) w.functor l))

@@ -19,7 +19,7 @@ use Rattle.lmn_lexer.proofs.Runs.{if_case, run_is}
 use Rattle.lmn_lexer.specs.Laying.{NoneStandsFirst}
 use Rattle.lmn_base.specs.Lists.{Begins}
 use Rattle.lmn_base.proofs.Numbers.{equal_when, unequal_when}
-use Rattle.lmn_base.proofs.Truth.{and_true as both_true}
+use Rattle.lmn_base.proofs.Truth.{and_false, and_true as both_true}
 use Rattle.lmn_base.proofs.Lists.{head_is, tail_is}
 
 -- a byte that begins the name of a context may go on in it
@@ -275,11 +275,6 @@ line_found minus sign bs make some =
     (ap (λ x. sign ++ x) (sym (take-append-drop n bs)) ∙ sym (append_assoc sign (take n bs) (drop n bs)))
     (length-append sign (take n bs) ∙ ap (λ m. length sign + m) (length-take-le n bs within)) (omega arith)
     (make (take n bs) (drop n bs) run.passes (ends_line (drop n bs) run.stops))
-
--- nothing and something that doesn't hold hold together
-pub and_false : (b : Bool) → (b && false) ≡ false
-and_false true = refl
-and_false false = refl
 
 nothing_holds : ¬ (OccursIn (codes "*/") [])
 nothing_holds ([], after, h) = absurd (cc)

@@ -7,7 +7,7 @@ use Rattle.lmn_lexer.specs.declared.piece.Piece.TheVariants as piece
 use Rattle.lmn_lexer.specs.Spelling.{is_quotable}
 use Rattle.lmn_lexer.specs.Scanning.{follows, later, close_at, quoted_behind}
 use Rattle.lmn_base.proofs.Numbers.{unequal}
-use Rattle.lmn_lexer.proofs.Found.{and_false as false_behind}
+use Rattle.lmn_base.proofs.Truth.{and_false as false_behind}
 
 later_more : (i : ℕ) (o : Option ℕ) → later i (later 1 o) ≡ later (i + 1) o
 later_more i None = refl

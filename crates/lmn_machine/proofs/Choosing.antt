@@ -16,7 +16,8 @@ use Rattle.lmn_machine_registers.specs.Agreeing.{Agrees}
 use Rattle.lmn_machine.specs.Searching.{AreHeldWhole, Extends, SetsAll, Searched, SetsMore}
 use Rattle.lmn_machine.specs.Jumping.{with_atom, with_membrane}
 use Rattle.lmn_machine.proofs.Stepping.{extends_itself, agrees_before, extends_on}
-use Rattle.lmn_machine.proofs.Candidates.{index_after, index_behind, with_functor_in}
+use Rattle.lmn_store_heap.proofs.WithFunctor.{with_functor_in}
+use Rattle.lmn_machine.proofs.Candidates.{index_after, index_behind}
 use Rattle.lmn_base.proofs.Lists.{get_front, get_last, take_whole, get_either}
 use Rattle.lmn_store_heap.proofs.Heights.{has_parent as mem_there, place_by_parent}
 use Rattle.lmn_store_heap.proofs.Listing.{home_place as place_by_home}

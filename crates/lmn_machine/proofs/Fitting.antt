@@ -13,7 +13,7 @@ use Rattle.lmn_instr_code.specs.declared.instr.AtomPort.{AtomPort}
 use Rattle.lmn_instr_code.specs.Running.{HeadRegisters, HeadSize, InstructionHolds, AllHold, port_of}
 use Rattle.lmn_base.specs.Graphs.{Port}
 use Rattle.lmn_solid_heads.specs.Embeddings.{partner}
-use Rattle.lmn_machine.proofs.Candidates.{with_functor_in}
+use Rattle.lmn_store_heap.proofs.WithFunctor.{with_functor_in}
 use Rattle.lmn_machine_registers.specs.declared.registers.SetRegisters.{SetRegisters}
 use Rattle.lmn_machine_registers.specs.Agreeing.{Agrees}
 use Rattle.lmn_machine.specs.Searching.{AreHeldWhole, Searched}

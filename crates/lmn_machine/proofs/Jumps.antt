@@ -1,10 +1,7 @@
 -- Failures that name choices.
-use Rattle.std.proofs.Common.{ℕ, ℤ, ◌≡◌, ◌≢◌, ◌+◌, ◌<◌, ◌≤◌, max, inl, inr, List, [], ◌∷◌, Option, Some, None, refl, arith, ap, sym, subst, length, ◌∙◌}
+use Rattle.std.proofs.Common.{ℕ, ℤ, ◌≡◌, ◌≢◌, ◌+◌, ◌<◌, ◌≤◌, inl, inr, List, [], ◌∷◌, Option, Some, None, refl, arith, ap, sym, subst, length, ◌∙◌}
 use Rattle.std.specs.Prelude.{true, slice_get}
-use Rattle.std.specs.Int.{bit_at}
 use Rattle.std.specs.Int.Bits.{bit_or, or_self}
-use Rattle.std.proofs.lemmas.Nat.{or_comm}
-use Rattle.std.proofs.lemmas.Nat.Bits.{bit_at_or, same_from_bits}
 use Rattle.std.proofs.lemmas.Bool.{cases_lt}
 use Rattle.lmn_base.specs.declared.guard.Arith.{Arith}
 use Rattle.lmn_base.specs.declared.guard.Arith.TheVariants as arithmetic
@@ -13,6 +10,7 @@ use Rattle.lmn_base.specs.declared.guard.Cmp.TheVariants as cmp
 use Rattle.lmn_base.specs.Graphs.{Port, SameGraph}
 use Rattle.lmn_base.specs.Lists.{In}
 use Rattle.lmn_base.proofs.Lists.{value_or, get_below, get_there}
+use Rattle.lmn_base.proofs.Bits.{or_assoc}
 use Rattle.lmn_guards.specs.Values.{result_of, Stand}
 use Rattle.lmn_store_heap.specs.Heap.{Heap, functor_of, atoms_in, mems_in, rules_in, port_id}
 use Rattle.lmn_store_heap.specs.Graphs.{atom_map}
@@ -31,21 +29,6 @@ use Rattle.lmn_machine.specs.declared.reasons.Reasons.{Reasons}
 use Rattle.lmn_machine.proofs.Stepping.{agrees_before}
 
 -- Sets of choices
-
-max_assoc : (a b c : ℕ) → max (max a b) c ≡ max a (max b c)
-max_assoc a b c = omega arith
-
-or_assoc : (a b c : ℕ) → bit_or (bit_or a b) c ≡ bit_or a (bit_or b c)
-or_assoc a b c = same_from_bits (bit_or (bit_or a b) c) (bit_or a (bit_or b c)) (λ i.
-    bit_at_or (bit_or a b) c i ∙ (ap (λ x. max x (bit_at c i)) (bit_at_or a b i) ∙ (max_assoc (bit_at a i) (bit_at b i) (bit_at c i) ∙ (ap (λ x. max (bit_at a i) x) (sym (bit_at_or b c i)) ∙ sym (bit_at_or a (bit_or b c) i)))))
-
--- bits that are added once more
-pub or_again : (a b : ℕ) → bit_or a (bit_or a b) ≡ bit_or a b
-or_again a b = sym (or_assoc a a b) ∙ ap (λ x. bit_or x b) (or_self a)
-
--- and those on the other side
-pub or_again_behind : (a b : ℕ) → bit_or b (bit_or a b) ≡ bit_or a b
-or_again_behind a b = ap (λ x. bit_or b x) (or_comm a b) ∙ (or_again b a ∙ or_comm b a)
 
 -- no choice is among any
 pub none_within : (e : Choices) → Within (These 0) e

@@ -16,7 +16,7 @@ use Rattle.lmn_machine.specs.Enough.{IsWanted, Takes, TakesApart, TakesMore, Tel
 use Rattle.lmn_machine.specs.declared.enough.Kind.{Kind}
 use Rattle.lmn_machine.specs.declared.enough.Kind.TheVariants.{Atoms, Membranes}
 use Rattle.lmn_machine.specs.declared.enough.Want.{Want}
-use Rattle.lmn_machine.proofs.Candidates.{with_functor_in}
+use Rattle.lmn_store_heap.proofs.WithFunctor.{with_functor_in}
 use Rattle.lmn_machine.proofs.Fitting.{hold_behind}
 
 -- what is told apart differs

@@ -20,7 +20,7 @@ use Rattle.lmn_machine.specs.declared.reasons.Reasons.{Reasons}
 use Rattle.lmn_machine.proofs.Stepping.{Passed, ahead_set, extends_itself, extends_on, left_sets, passed_search}
 use Rattle.lmn_machine.proofs.Calling.{order_first}
 use Rattle.lmn_machine.proofs.Fitting.{hold_behind}
-use Rattle.lmn_machine.proofs.Candidates.{with_functor_in}
+use Rattle.lmn_store_heap.proofs.WithFunctor.{with_functor_in}
 use Rattle.lmn_machine.proofs.Choosing.{AtomsLeft, MembranesLeft, atom_more, membrane_more}
 use Rattle.lmn_machine.proofs.Jumps.{agrees_on, fails_on, on_less, on_past, within_itself}
 

@@ -1,10 +1,10 @@
 -- A membrane in which `a` becomes `b`.
-use Rattle.std.proofs.Common.{◌≡◌, ◌⊎◌, ℕ, zero, suc, List, [], ◌∷◌, ap, refl, inl, inr, arith}
+use Rattle.std.proofs.Common.{◌≡◌, ◌⊎◌, ℕ, zero, suc, List, [], ◌∷◌, refl, inl, inr, arith}
 use Rattle.lmn_base.specs.Links.{no_more}
 use Rattle.lmn_congruence.specs.Plains.{level_process}
 use Rattle.lmn_congruence.specs.Process.{atom}
-use Rattle.lmn_congruence.specs.Regions.{Region, SolidAtom, no_region, region_and, solid_atom_with}
-use Rattle.lmn_congruence.specs.Rules.{Label, Level, Name, atom_leaf, head_of, integer, level, named}
+use Rattle.lmn_congruence.specs.Regions.{Region, no_region, region_and}
+use Rattle.lmn_congruence.specs.Rules.{Level, Name, atom_leaf, head_of, level}
 use Rattle.lmn_congruence.specs.Translation.{levels, rules}
 use Rattle.lmn_reduction.specs.Examples.{label_a, label_b}
 use Rattle.lmn_reduction.specs.Guards.{no_condition}
@@ -12,8 +12,9 @@ use Rattle.lmn_reduction.specs.Parts.{Rooted}
 use Rattle.lmn_reduction.proofs.SettledForms.{all_join}
 use Rattle.lmn_adequacy.specs.ChangeExamples.{a_makes_b, changing}
 use Rattle.lmn_adequacy.specs.Choice.{Before, less_here}
-use Rattle.lmn_adequacy.specs.Embedding.{Contents, EmbedsAt, EmbedsIn, LevelLies, Taken, embeds_below, embeds_here, image_and, level_lies, no_image, no_membrane_lies, no_part, no_part_of_atom, region_first, region_later, taken_first, taken_later}
+use Rattle.lmn_adequacy.specs.Embedding.{Contents, EmbedsAt, EmbedsIn, LevelLies, embeds_below, embeds_here, image_and, level_lies, no_image, no_membrane_lies, no_part, no_part_of_atom, region_first, region_later, taken_first, taken_later}
 use Rattle.lmn_adequacy.specs.Next.{fires_below, fires_here, kept_membranes, made_atom, made_level, no_made_context, no_made_leaf, no_made_membrane, raw_level, replaced}
+use Rattle.lmn_adequacy.proofs.ExampleChanges.{not_among}
 use Rattle.lmn_receipt_chain.specs.Examples.{MembraneIsChosen, NothingContinues, inside}
 
 -- any process with a free root
@@ -84,19 +85,6 @@ membrane_is_chosen = (
   refl,
   refl,
 )
-
--- the first byte of a name
-abbrev letter : Label → ℕ
-letter (named (x ∷ xs)) = x
-letter (named []) = 0
-letter (integer z) = 0
-
-a_not_b : ¬ (◌≡◌ {A = ℕ} 97 98)
-a_not_b = omega arith
-
-not_among : {x : SolidAtom} {n : ℕ} {rest : List SolidAtom} → Taken n x (solid_atom_with label_b [] ∷ []) rest → label_a ≡ x.label → ⊥
-not_among taken_first e = absurd (a_not_b (ap letter e))
-not_among (taken_later k) e = elim k [ ]
 
 -- without an `a` nothing embeds
 nothing_embeds : {path f : List ℕ} {k : ℕ} → EmbedsIn path k f (inside (changing (label_b ∷ []))) → ⊥

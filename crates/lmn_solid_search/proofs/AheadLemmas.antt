@@ -11,10 +11,10 @@ use Rattle.lmn_base.proofs.Numbers.{three_ways as order_of}
 use Rattle.lmn_base.proofs.Truth.{and_true}
 use Rattle.lmn_store_heap.specs.Heap.{Heap, IsMem, atoms_in, functor_of}
 use Rattle.lmn_store_heap.specs.Lists.{Distinct}
-use Rattle.lmn_store_heap.specs.Functors.{is_of, same_functor, with_functor}
+use Rattle.lmn_store_heap.specs.Functors.{same_functor, with_functor}
 use Rattle.lmn_store_heap.proofs.ListLemmas.{each_of}
 use Rattle.lmn_store_heap.proofs.Pigeonholes.{not_longer}
-use Rattle.lmn_store_heap.proofs.WithFunctor.{functor_is, is_of_here, with_here, with_past}
+use Rattle.lmn_store_heap.proofs.WithFunctor.{functor_is, with_here, with_past, with_functor_in}
 use Rattle.lmn_solid_heads.specs.declared.items.HeadItem.{HeadItem}
 use Rattle.lmn_solid_heads.specs.declared.items.HeadItem.TheVariants.{Atom, Typed, Membrane}
 use Rattle.lmn_solid_heads.specs.Heads.{HeadAtom, atom_of, atoms_of}
@@ -161,17 +161,6 @@ one_lacks h k m items n y l is lacks all = lacks (of_one (HoldsEnough h k m item
 
 -- ---- images are counted
 
--- those of a list with the functor are in what is kept of it
-with_in : (h : Heap) (functor : Functor) (a : ℕ) (xs : List ℕ) → functor_of h a ≡ Some functor → In a xs → In a (with_functor h functor xs)
-with_in h functor a [] e i = i
-with_in h functor a (x ∷ xs) e i = by (is_of (functor_of h x) functor) refl (with_in h functor a xs e) i
-  where
-    by : (b : Bool) → is_of (functor_of h x) functor ≡ b → (In a xs → In a (with_functor h functor xs)) → In a (x ∷ xs) → In a (if b then x ∷ with_functor h functor xs else with_functor h functor xs)
-    by true t later (inl s) = inl s
-    by true t later (inr s) = inr (later s)
-    by false t later (inl s) = absurd (let here = is_of_here (functor_of h x) functor (ap (functor_of h) s ∙ e) in cc)
-    by false t later (inr s) = later s
-
 -- the images of the atoms with a functor in membrane number k, the first of which has number n
 module _ (k : ℕ) (functor : Functor) (image : ℕ → ℕ) where
   imaged : ℕ → List HeadAtom → List ℕ
@@ -226,7 +215,7 @@ images_enough h k m items image apart functors there n a at same =
     (not_longer (imaged k a.functor image 0 (atoms_of items)) (with_functor h a.functor (atoms_in h m)) (imaged_apart k a.functor image 0 (atoms_of items) (λ i j l o e. apart i j l o (let s : 0 + i ≡ i = omega arith in let t : 0 + j ≡ j = omega arith in sym (ap image s) ∙ e ∙ ap image t)))
     (λ b i. (let r = each_imaged k a.functor image 0 (atoms_of items) b i in
     let s : 0 + r.0 ≡ r.0 = omega arith in
-    subst (λ z. In z (with_functor h a.functor (atoms_in h m))) (sym (ap image s) ∙ r.5) (with_in h a.functor (image r.0) (atoms_in h m) (functors r.0 r.1 r.2 ∙ ap Some r.4) (there r.0 r.1 r.2 r.3)))))
+    subst (λ z. In z (with_functor h a.functor (atoms_in h m))) (sym (ap image s) ∙ r.5) (with_functor_in h a.functor (image r.0) (atoms_in h m) (functors r.0 r.1 r.2 ∙ ap Some r.4) (there r.0 r.1 r.2 r.3)))))
 
 -- ---- what embeds, and what is chosen
 

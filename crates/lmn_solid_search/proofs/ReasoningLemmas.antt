@@ -1,13 +1,11 @@
 -- Failures that name images.
-use Rattle.std.proofs.Common.{◌≡◌, ◌∙◌, ℕ, zero, suc, ◌≤◌, ◌<◌, max, List, [], ◌∷◌, ◌++◌, length, slice_get, slice_index_or, Some, refl, sym, ap, subst, inl, inr, arith}
-use Rattle.std.specs.Int.{bit_at}
+use Rattle.std.proofs.Common.{◌≡◌, ◌∙◌, ℕ, zero, suc, ◌≤◌, ◌<◌, List, [], ◌∷◌, ◌++◌, length, slice_get, slice_index_or, Some, refl, sym, ap, subst, inl, inr, arith}
 use Rattle.std.specs.Int.Bits.{bit_or, or_self}
 use Rattle.std.proofs.lemmas.List.{length_push}
-use Rattle.std.proofs.lemmas.Nat.{or_comm}
-use Rattle.std.proofs.lemmas.Nat.Bits.{bit_at_or, same_from_bits}
 use Rattle.std.proofs.lemmas.Option.{same_Some}
 use Rattle.lmn_base.specs.Lists.{In}
 use Rattle.lmn_base.proofs.Lists.{get_below, get_either, get_front, get_index, get_last, read_or}
+use Rattle.lmn_base.proofs.Bits.{or_assoc}
 use Rattle.lmn_solid_search.specs.Choosing.{with_atom, with_membrane}
 use Rattle.lmn_solid_search.specs.Placing.{membrane_at}
 use Rattle.lmn_solid_search.specs.Reasoning.{Agrees, IsAmong, RestsOnLess, SameImages, Within, bit}
@@ -18,21 +16,6 @@ use Rattle.lmn_solid_search.specs.declared.reasons.Reasons.{Reasons}
 use Rattle.lmn_adequacy_heaps.proofs.OutOf.{index_in as item_in}
 
 -- ---- sets of numbers
-
-max_assoc : (a b c : ℕ) → max (max a b) c ≡ max a (max b c)
-max_assoc a b c = omega arith
-
-or_assoc : (a b c : ℕ) → bit_or (bit_or a b) c ≡ bit_or a (bit_or b c)
-or_assoc a b c = same_from_bits (bit_or (bit_or a b) c) (bit_or a (bit_or b c)) (λ i.
-    bit_at_or (bit_or a b) c i ∙ (ap (λ x. max x (bit_at c i)) (bit_at_or a b i) ∙ (max_assoc (bit_at a i) (bit_at b i) (bit_at c i) ∙ (ap (λ x. max (bit_at a i) x) (sym (bit_at_or b c i)) ∙ sym (bit_at_or a (bit_or b c) i)))))
-
--- bits that are added once more
-pub or_again : (a b : ℕ) → bit_or a (bit_or a b) ≡ bit_or a b
-or_again a b = sym (or_assoc a a b) ∙ ap (λ x. bit_or x b) (or_self a)
-
--- and those on the other side
-pub or_again_behind : (a b : ℕ) → bit_or b (bit_or a b) ≡ bit_or a b
-or_again_behind a b = ap (λ x. bit_or b x) (or_comm a b) ∙ (or_again b a ∙ or_comm b a)
 
 -- numbers are among themselves
 pub within_itself : (e : Numbers) → Within e e

@@ -1,5 +1,6 @@
 -- The atoms of a list that have one functor.
-use Rattle.std.proofs.Common.{◌≡◌, ◌≢◌, ℕ, ◌==◌, Bool, true, false, cond, List, [], ◌∷◌, Option, Some, None, refl, sym, ap, ◌∙◌}
+use Rattle.std.proofs.Common.{◌≡◌, ◌≢◌, ℕ, ◌==◌, Bool, true, false, cond, List, [], ◌∷◌, Option, Some, None, inl, inr, refl, sym, ap, ◌∙◌}
+use Rattle.std.specs.Prelude.{if◌then◌else◌}
 use Rattle.std.proofs.lemmas.Bool.{eq-eqb, eqb-true}
 use Rattle.std.proofs.lemmas.Bool.Decides.{Decides-int_eq}
 use Rattle.lmn_base.specs.declared.functor.Functor.{Functor}
@@ -8,6 +9,7 @@ use Rattle.lmn_base.specs.declared.functor.Label.TheVariants.{Name, Int}
 use Rattle.lmn_store_heap.specs.Lists.{from, after}
 use Rattle.lmn_store_heap.specs.Heap.{Heap, functor_of}
 use Rattle.lmn_store_heap.specs.Functors.{same_label, same_functor, is_of, with_functor}
+use Rattle.lmn_base.specs.Lists.{In}
 use Rattle.lmn_base.proofs.Truth.{and_true as both_true}
 
 label_is : (k l : Label) → same_label k l ≡ true → k ≡ l
@@ -72,3 +74,14 @@ with_after h f a (x ∷ xs) e = by (is_of (functor_of h x) f) (x == a) refl refl
 -- from an atom with the functor on
 pub with_from : (h : Heap) (f : Functor) (a : ℕ) (xs : List ℕ) → functor_of h a ≡ Some f → a ∷ after a (with_functor h f xs) ≡ with_functor h f (from (Some a) xs)
 with_from h f a xs e = ap (λ ys. a ∷ ys) (with_after h f a xs e) ∙ sym (with_here h f a (after a xs) e)
+
+-- those of a list with the functor are in what is kept of it
+pub with_functor_in : (h : Heap) (f : Functor) (a : ℕ) (xs : List ℕ) → functor_of h a ≡ Some f → In a xs → In a (with_functor h f xs)
+with_functor_in h f a [] e i = i
+with_functor_in h f a (x ∷ xs) e i = by (is_of (functor_of h x) f) refl (with_functor_in h f a xs e) i
+  where
+    by : (b : Bool) → is_of (functor_of h x) f ≡ b → (In a xs → In a (with_functor h f xs)) → In a (x ∷ xs) → In a (if b then x ∷ with_functor h f xs else with_functor h f xs)
+    by true t later (inl s) = inl s
+    by true t later (inr s) = inr (later s)
+    by false t later (inl s) = absurd (let here = is_of_here (functor_of h x) f (ap (functor_of h) s ∙ e) in cc)
+    by false t later (inr s) = later s

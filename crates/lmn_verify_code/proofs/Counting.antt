@@ -6,6 +6,7 @@ use Rattle.std.proofs.lemmas.List.{length-set, length-replicate, get_or-replicat
 use Rattle.std.proofs.lemmas.Grind.{get_or-set_at}
 use Rattle.std.proofs.lemmas.List.Sums.{sum_by-cons}
 use Rattle.std.proofs.lemmas.Bool.Decides.{nat_tests}
+use Rattle.lmn_base.proofs.Truth.{and_false}
 use Rattle.lmn_base.proofs.Numbers.{at_most_by_test, equal_itself, not_equal, same_or_not}
 use Rattle.lmn_instr_code.specs.declared.instr.AtomPort.{AtomPort}
 use Rattle.lmn_instr_code.specs.declared.instr.Instr.{Instr}
@@ -71,10 +72,6 @@ or_true false = refl
 or_false : (g : Bool) → (g || false) ≡ g
 or_false true = refl
 or_false false = refl
-
-and_false : (g : Bool) → (g && false) ≡ false
-and_false true = refl
-and_false false = refl
 
 -- two places are one where both numbers are
 places_apart : (a p b q : ℕ) → p < 256 → q < 256 → place_of a p ≡ place_of b q → (a ≡ b) × (p ≡ q)

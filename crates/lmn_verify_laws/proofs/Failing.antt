@@ -25,7 +25,7 @@ use Rattle.lmn_verify_code.specs.Verified.{IsVerified}
 use Rattle.lmn_verify_laws.specs.Flat.{flat_head}
 use Rattle.lmn_verify_laws.proofs.Heads.{lies}
 use Rattle.lmn_verify_laws.proofs.Items.{atom_count, atom_found, atoms_counted, membrane_count, membrane_found_at, parts_counted, typed_count, typed_found}
-use Rattle.lmn_verify_laws.proofs.Quieted.{Within, untouched, was_inner, inner_within, was_atom, is_atom, is_inner, still_within, was_within, listed_before, functor_same, link_same, reached_before, reached_after, part_functor, part_link, whole_before}
+use Rattle.lmn_schedule_sleep.proofs.Staying.{Within, untouched, was_inner, inner_within, was_atom, is_atom, is_inner, still_within, was_within, listed_before, functor_same, link_same, reached_before, reached_after, part_functor, part_link, whole_before}
 use Rattle.lmn_verify_laws.proofs.Ready.{membranes_counted, verified_is_in_order}
 
 module _ (code : Code) (k : ℕ) (v : IsVerified code k) (h t : Heap) (vh : Valid h) (vt : Valid t) (m : ℕ) (quiet : IsQuiet h t m) (r : HeadRegisters) (succeeds : Succeeds t code.head m r) where

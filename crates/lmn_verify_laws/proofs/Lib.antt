@@ -27,6 +27,5 @@ mod Fires
 pub mod Unmarked
 pub mod Integers
 mod FlatRules
-mod Quieted
 mod Failing
 mod Quiet

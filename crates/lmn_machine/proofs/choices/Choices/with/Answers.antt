@@ -1,7 +1,7 @@
 use Rattle.std.proofs.Common.{bit_or, subst, sym}
 use Rattle.lmn_machine.specs.Jumping.{Within}
 use Rattle.lmn_machine.specs.declared.choices.Choices.TheVariants.{These}
-use Rattle.lmn_machine.proofs.Jumps.{or_again, or_again_behind}
+use Rattle.lmn_base.proofs.Bits.{or_again, or_again_behind}
 use Rattle.lmn_machine.proofs.choices.Choices.with.Goals as goal
 
 pub returns-in-These-other-clause-these : goal.returns-in-These-other-clause-these

@@ -1,7 +1,7 @@
 use Rattle.std.proofs.Common.{bit_or, subst, sym}
 use Rattle.lmn_solid_search.specs.Reasoning.{Within}
 use Rattle.lmn_solid_search.specs.declared.numbers.Numbers.TheVariants.{These}
-use Rattle.lmn_solid_search.proofs.ReasoningLemmas.{or_again, or_again_behind}
+use Rattle.lmn_base.proofs.Bits.{or_again, or_again_behind}
 use Rattle.lmn_solid_search.proofs.numbers.Numbers.with.Goals as goal
 
 pub returns-in-These-other-clause-these : goal.returns-in-These-other-clause-these
