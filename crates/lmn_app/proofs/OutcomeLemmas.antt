@@ -26,12 +26,6 @@ pub told_here : (P : List ℕ → Type 0) (told : Option (Option (List ℕ))) (b
 told_here P None bytes e p = tt
 told_here P (Some found) bytes e p = subst (λ o. IsSomeAnd o P) (sym e) p
 
--- what holds of a text holds of the one that is told, where that is this one
-pub told_and : (P : List ℕ → Type 0) (told : Option (Option (List ℕ))) (text : List ℕ) → IsToldAnd told (λ found. found ≡ text) → P text → IsToldAnd told P
-told_and P None text h p = tt
-told_and P (Some None) text h p = h
-told_and P (Some (Some found)) text h p = subst P (sym h) p
-
 -- what a map has under a name is what is told
 pub under_told : (texts : Option (List ℕ → Option (List ℕ))) (name bytes : List ℕ) → IfSome texts (λ text. text name ≡ Some bytes) → IfSome (told_under texts name) (λ found. found ≡ Some bytes)
 under_told None name bytes e = tt

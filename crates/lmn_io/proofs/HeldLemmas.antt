@@ -27,10 +27,3 @@ pub appends_nothing : (a b : Option (List ℕ)) → Keeps a b → Appends a b []
 appends_nothing None b kept = tt
 appends_nothing (Some xs) None kept = absurd kept
 appends_nothing (Some xs) (Some ys) kept = rw append-nil kept
-
--- one piece was taken, and then another
-pub appends_both : (a b c : Option (List ℕ)) (front piece : List ℕ) → Appends a b front → Appends b c piece → Appends a c (front ++ piece)
-appends_both None b c front piece first later = tt
-appends_both (Some xs) None c front piece first later = absurd first
-appends_both (Some xs) (Some ys) None front piece first later = absurd later
-appends_both (Some xs) (Some ys) (Some zs) front piece first later = later ∙ ap (λ l. l ++ piece) first ∙ append_assoc xs front piece

@@ -114,11 +114,3 @@ held_on h f found one a all o xs e is g =
     let k : length (holding h f (from o xs)) ≡ length (holding h f (after a xs)) = ap (λ ys. length (holding h f ys)) g in
     let m : length (holding h f (a ∷ after a xs)) ≡ length (holding h f (a ∷ [])) + length (holding h f (after a xs)) = holding_more_by a (holding h f (after a xs)) (is_empty (with_functor h f (atoms_in h a))) in
     omega (arith, e, is, k, m)
-
--- where an atom with the functor is first, one is there
-pub one_first : (h : Heap) (f : Functor) (m a : ℕ) → from (Some a) (with_functor h f (atoms_in h m)) ≡ with_functor h f (atoms_in h m) → 1 ≡ length (holding h f (m ∷ []))
-one_first h f m a e = let t : false ≡ is_empty (with_functor h f (atoms_in h m)) = ap is_empty e in ap (λ b. length (if b then [] else m ∷ [])) t
-
--- where none is, none
-pub none_held : (h : Heap) (f : Functor) (m : ℕ) → from None (with_functor h f (atoms_in h m)) ≡ with_functor h f (atoms_in h m) → 0 ≡ length (holding h f (m ∷ []))
-none_held h f m e = let t : true ≡ is_empty (with_functor h f (atoms_in h m)) = ap is_empty e in ap (λ b. length (if b then [] else m ∷ [])) t

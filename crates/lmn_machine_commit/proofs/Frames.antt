@@ -221,6 +221,3 @@ made_awake r [] s t w = marked_at s s t w (kept_marked s.mems s.mems (kept_same 
 made_awake r (i ∷ is) s t w = marked_on s.mems w.0.mems t.mems (makes r i s w.0 w.1) (made_awake r is w.0 t w.2)
 
 -- ---- the root stays
-
-root_of : (s u t : Heap) → t ≡ u → u.root ≡ s.root → t.root ≡ s.root
-root_of s u t e q = ap (λ (z : Heap). z.root) e ∙ q

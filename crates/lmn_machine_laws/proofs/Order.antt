@@ -127,10 +127,6 @@ reads_unless a m g false xs r = r
 
 -- the membranes round a membrane have lesser numbers
 
-abbrev typed_inside_or : Option HeadTyped → ℕ
-typed_inside_or None = 0
-typed_inside_or (Some t) = t.inside
-
 -- the typed contexts that are written in a membrane have numbers below that of all
 inside_if : (b : Bool) (n g : ℕ) (gs : List ℕ) → n < g → AllByRecursion (λ j. j < g) gs → AllByRecursion (λ j. j < g) ((if b then n ∷ [] else []) ++ gs)
 inside_if true n g gs l a = (l, a)

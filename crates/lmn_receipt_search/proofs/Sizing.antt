@@ -39,11 +39,6 @@ children flat valid m c i = record {
     by zero (Some x) s e = absurd (cc)
     by (suc c) (Some x) s e = let less = flat.rises c x s in let same : x.parent ≡ m = same_Some x.parent m e in omega (arith, less, same)
 
--- where nothing is taken all is left
-left_all : (xs : List ℕ) → left_of [] xs ≡ xs
-left_all [] = refl
-left_all (x ∷ xs) = ap (λ ys. x ∷ ys) (left_all xs)
-
 -- ---- what is left of a list
 
 -- what isn't in a list isn't taken out of it

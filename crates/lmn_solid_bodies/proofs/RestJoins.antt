@@ -232,23 +232,6 @@ ports_in s xs (z ∷ zs) sub p k = elim (either_port z 0 (arity_of s z) (ports_o
   | inr j ↦ ports_in s xs zs (λ a i. sub a (inr i)) p j
 ]
 
-in_range : (a i n k : ℕ) → i + k < i + n → HasPort (a, i + k) (port_range a i n)
-in_range a i zero k l = absurd (omega arith)
-in_range a i (suc n) zero l = inl (λ t. (a, (let e : i ≡ i + 0 = omega arith in e) t))
-in_range a i (suc n) (suc k) l = inr (subst (λ z. HasPort (a, z) (port_range a (i + 1) n)) (let e : i + 1 + k ≡ i + suc k = omega arith in e) (in_range a (i + 1) n k (less l)))
-  where
-    less : i + suc k < i + suc n → i + 1 + k < i + 1 + n
-    less l = omega arith
-
-front_port : (ps qs : List (ℕ × ℕ)) (p : ℕ × ℕ) → HasPort p ps → HasPort p (ps ++ qs)
-front_port [] qs p k = absurd k
-front_port (x ∷ ps) qs p (inl e) = inl e
-front_port (x ∷ ps) qs p (inr k) = inr (front_port ps qs p k)
-
-back_port : (ps qs : List (ℕ × ℕ)) (p : ℕ × ℕ) → HasPort p qs → HasPort p (ps ++ qs)
-back_port [] qs p k = k
-back_port (x ∷ ps) qs p k = inr (back_port ps qs p k)
-
 -- ---- copies are made
 
 -- the line gets them, and membranes stay

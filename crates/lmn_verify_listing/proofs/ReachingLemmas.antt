@@ -358,12 +358,6 @@ ended_more b listing before names later from first at ln end instrs i r g w h o 
   reached = λ n j s. subst (Reached n listing end (ln + 1)) (ap (λ l. due_behind n (due_in b j) (line later l)) o ∙ goes_out b n j later) (one_more b listing later n j at ln end i h (r.reached n j s));
 }
 
--- with those that are put from there on
-pub puts_on : (listing : List ℕ) (before names later : List (List ℕ)) (from at : ℕ) → from ≤ at → at ≤ length listing → AddsNames (3 * (at - from)) before names → AddsNames (3 * (length listing - at)) names later
-    → AddsNames (3 * (length listing - from)) before later
-puts_on listing before names later from at f l g h =
-    adds_fewer (3 * (at - from) + 3 * (length listing - at)) (3 * (length listing - from)) before later (omega arith) (adds_both (3 * (at - from)) (3 * (length listing - at)) before names later g h)
-
 abbrev pub refusal_of : ℕ → Refusal
 refusal_of ln = record { code = 81; pos = record { line = ln; column = 1 } }
 
