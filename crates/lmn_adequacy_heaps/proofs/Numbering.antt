@@ -1,5 +1,5 @@
 -- The numbers of the places at which a head lies in the lists of a heap.
-use Rattle.std.proofs.Common.{ℕ, zero, suc, ◌≡◌, ◌≢◌, ◌+◌, ◌≤◌, ◌==◌, false, List, [], ◌∷◌, ◌++◌, map, length, refl, sym, ap, subst, ◌∙◌, inl, inr, arith}
+use Rattle.std.proofs.Common.{ℕ, zero, suc, ◌≡◌, ◌≢◌, ◌+◌, ◌≤◌, ◌==◌, false, List, [], ◌∷◌, ◌++◌, map, length, refl, sym, ap, subst, ◌∙◌, arith}
 use Rattle.std.proofs.lemmas.Bool.{eq-eqb}
 use Rattle.std.proofs.lemmas.List.{append_assoc, append-nil}
 use Rattle.lmn_base.specs.declared.level.Leaf.{Leaf}
@@ -9,7 +9,6 @@ use Rattle.lmn_store_heap.specs.Heap.{Heap, atoms_in, mems_in}
 use Rattle.lmn_store_heap.specs.Lists.{Distinct, without, without_all}
 use Rattle.lmn_store_heap.specs.Sound.{Forest, bare, mem, flat, Valid}
 use Rattle.lmn_store_heap.proofs.ListLemmas.{each_in}
-use Rattle.lmn_store_heap.proofs.Groves.{without_absent}
 use Rattle.lmn_solid_heads.specs.declared.items.HeadItem.{HeadItem}
 use Rattle.lmn_solid_heads.specs.declared.items.HeadItem.TheVariants.{Atom, Typed, Membrane}
 use Rattle.lmn_solid_heads.specs.Flattening.{leaf_items}

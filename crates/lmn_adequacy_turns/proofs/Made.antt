@@ -1,17 +1,14 @@
 -- Code of a body leaves the root where it is.
-use Rattle.std.proofs.Common.{ℕ, ◌≡◌, List, [], ◌∷◌, map, refl, ap, ◌∙◌}
-use Rattle.lmn_store_heap.specs.Heap.{Heap, parent_of, atoms_in, made_mem, reserved, placed_mem, rules_copied, taken_all}
-use Rattle.lmn_congruence_splice.specs.Ties.{relink, unify}
+use Rattle.std.proofs.Common.{ℕ, ◌≡◌, List, [], ◌∷◌, refl, ap, ◌∙◌}
+use Rattle.lmn_store_heap.specs.Heap.{Heap, made_mem, reserved}
 use Rattle.lmn_instr_code.specs.declared.instr.Instr.{Instr}
 use Rattle.lmn_instr_code.specs.declared.instr.Instr.TheVariants.{RemoveAtom, RemovePart, RemoveMem, NewAtom, NewInt, NewMem, CopyGround, MoveCells, CopyCells, LoadRule, CopyRules, DropCells, NewLink, Relink, Unify, Proceed}
-use Rattle.lmn_solid_bodies.specs.Running.{Registers, Prepares, DoesAll, RunsBody, Makes, Does, new_port, old_port}
+use Rattle.lmn_solid_bodies.specs.Running.{Registers, Prepares, RunsBody, Makes}
 use Rattle.lmn_solid_bodies.proofs.RestMems.{like_mems}
 use Rattle.lmn_solid_bodies.proofs.RestsMade.{joined_lines}
 use Rattle.lmn_ground_parts.specs.Copies.{answer, made_like, ports_of}
-use Rattle.lmn_ground_parts.specs.Rests.{made_roomy, rest_copied, atoms_placed, membrane_placed, membranes_placed, copy_round, rest_placed}
-use Rattle.lmn_solid_bodies.proofs.Common.{placed_root, tied_root, commits_root, does_root, membranes_root, rest_placed_root}
-use Rattle.lmn_store_heap.proofs.Common.{taken_root}
-use Rattle.lmn_ground_parts.proofs.Common.{copies_root, mems_taken_root}
+use Rattle.lmn_ground_parts.specs.Rests.{made_roomy, rest_copied}
+use Rattle.lmn_solid_bodies.proofs.Common.{commits_root}
 
 -- ---- the root
 

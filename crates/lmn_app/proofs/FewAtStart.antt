@@ -1,10 +1,9 @@
 -- The process of an accepted text has few items: no more than twice as many as the text has tokens.
-use Rattle.std.proofs.Common.{◌≡◌, ◌+◌, ◌≤◌, ◌<◌, ◌⊎◌, inl, inr, ℕ, Bool, true, false, if◌then◌else◌, List, [], ◌∷◌, ◌++◌, map, length, refl, sym, ap, ◌∙◌, subst, arith}
+use Rattle.std.proofs.Common.{◌≡◌, ◌+◌, ◌≤◌, inl, inr, ℕ, Bool, true, false, if◌then◌else◌, List, [], ◌∷◌, ◌++◌, map, length, sym, ap, ◌∙◌, subst, arith}
 use Rattle.std.specs.Prelude.{Some, codes, sum}
 use Rattle.std.proofs.lemmas.List.{length-append, length-map}
 use Rattle.std.proofs.lemmas.List.Sums.{sum_by-cons}
 use Rattle.lmn_base.specs.declared.level.Leaf.{Leaf}
-use Rattle.lmn_base.specs.declared.level.Leaf.TheVariants as leaf
 use Rattle.lmn_base.specs.declared.level.Level.TheFolds.{fold-roll-Level}
 use Rattle.lmn_base.specs.declared.refusal.Pos.{Pos}
 use Rattle.lmn_base.specs.declared.rule.Plain.{Plain}
@@ -32,7 +31,7 @@ use Rattle.lmn_schedule_loading.specs.Loaded.{atoms_among, loaded_items, loaded_
 use Rattle.lmn_verify_compiled.proofs.FewRules.{few_rules}
 use Rattle.lmn_app.specs.Debugs.{session_size}
 use Rattle.lmn_app.specs.SizeLaws.{AcceptedIsSmall, NoneIsLarge}
-use Rattle.lmn_app.specs.Texts.{Accepts, IsRefusal, IsTooLarge, by_reading, too_large, too_long}
+use Rattle.lmn_app.specs.Texts.{Accepts, IsTooLarge, by_reading, too_large, too_long}
 use Rattle.lmn_app.proofs.PlainRegions.{solid_with_items}
 use Rattle.lmn_app.proofs.TextLemmas.{fits_or_not, made as well_made}
 

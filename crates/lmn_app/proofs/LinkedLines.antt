@@ -1,12 +1,12 @@
 -- Lines with a link that leads through a membrane.
-use Rattle.std.proofs.Common.{◌≡◌, ℕ, ◌+◌, ◌==◌, cond, slice_index_or, List, [], ◌∷◌, refl, sym, ap, ◌∙◌, subst, inl, inr, ◌⊎◌, arith}
+use Rattle.std.proofs.Common.{◌≡◌, ℕ, ◌+◌, ◌==◌, cond, slice_index_or, List, refl, sym, ap, ◌∙◌, subst, inl, inr, ◌⊎◌, arith}
 use Rattle.std.specs.Prelude.{Bool, Contains, codes, false, true}
 use Rattle.std.specs.declared.alloc.Global.{Global}
 use Rattle.lmn_base.specs.declared.rule.Plain.{Plain}
 use Rattle.lmn_base.specs.Links.{NumbersLinks, known, new, no_more}
 use Rattle.lmn_base.specs.Names.{IsNames}
 use Rattle.lmn_congruence.specs.Plains.{level_process}
-use Rattle.lmn_congruence.specs.Process.{Closed, Fresh, Local, Process, occurrences}
+use Rattle.lmn_congruence.specs.Process.{Closed, Fresh, Local, Process}
 use Rattle.lmn_congruence.specs.Regions.{region_process}
 use Rattle.lmn_congruence.specs.Rules.{Name}
 use Rattle.lmn_congruence.specs.Translation.{level_of, no_such_rule, top_of}

@@ -1,7 +1,6 @@
 -- Two sessions of one script beside one program write one text, and what a session shows reads back.
-use Rattle.std.proofs.Common.{◌≡◌, ◌≢◌, ◌≤◌, ℕ, false, List, [], ◌∷◌, ◌++◌, codes, refl, sym, ap, ◌∙◌, subst, arith}
-use Rattle.std.specs.Prelude.{All, drop, slice_index_or}
-use Rattle.std.specs.declared.alloc.Global.{Global}
+use Rattle.std.proofs.Common.{◌≡◌, ◌≤◌, ℕ, false, List, [], ◌∷◌, ◌++◌, codes, refl, sym, ap, ◌∙◌, subst, arith}
+use Rattle.std.specs.Prelude.{drop, slice_index_or}
 use Rattle.std.proofs.lemmas.Fmt.{decimal_injective, signed_decimal_injective}
 use Rattle.std.proofs.lemmas.List.{append_cancel_left}
 use Rattle.std.proofs.lemmas.List.Elements.{All-weaker}
@@ -20,15 +19,15 @@ use Rattle.lmn_congruence.specs.Regions.{Region, SolidAtom, region_process}
 use Rattle.lmn_congruence.specs.Rules.{Name, named}
 use Rattle.lmn_congruence.specs.Translation.{label_of}
 use Rattle.lmn_debug.specs.CarryingLaws.{WritingIsOne}
-use Rattle.lmn_debug.specs.Counts.{AreSo, HasFunctor, IsCount, none, one, other}
-use Rattle.lmn_debug.specs.Courses.{Course, IsAt, Meets, WaitsTo, Waited, course, most_commits, wish}
+use Rattle.lmn_debug.specs.Counts.{AreSo, HasFunctor, none, one, other}
+use Rattle.lmn_debug.specs.Courses.{Course, Meets, WaitsTo, Waited, course, most_commits, wish}
 use Rattle.lmn_debug.specs.Orders.{ObeyedAll, Obeys, ObeysAll, begun, obeyed, shown, stepped, waited, went_back}
 use Rattle.lmn_debug.specs.declared.session.Stop.{Stop}
 use Rattle.lmn_debug.specs.declared.session.Stop.TheVariants as stop
 use Rattle.lmn_debug_script.proofs.Cuts.{lines_once}
 use Rattle.lmn_debug_script.proofs.LineLemmas.{numbered_no_show, numbered_once, order_form, step_no_back, until_no_back, until_no_step, until_once}
 use Rattle.lmn_debug_script.proofs.OneOrder.{operator_once, short}
-use Rattle.lmn_debug_script.specs.Scripts.{AreOrdersOf, HasForm, IsNumbered, IsOrder, IsUntil, IsWritable, Says, an_empty_line, cmp_text, of_back, of_show, of_step, of_until, one_order, says_nothing}
+use Rattle.lmn_debug_script.specs.Scripts.{HasForm, IsNumbered, IsOrder, IsUntil, IsWritable, Says, an_empty_line, cmp_text, of_back, of_show, of_step, of_until, one_order, says_nothing}
 use Rattle.lmn_debug_script.specs.declared.order.Order.{Order}
 use Rattle.lmn_debug_script.specs.declared.order.Order.TheVariants.{Back, Show, Step, Until}
 use Rattle.lmn_flatten_plain.specs.Plains.{EachPair}

@@ -14,7 +14,6 @@ use Rattle.lmn_ground.specs.Marks.{paint, painted, first_marks}
 use Rattle.lmn_ground.specs.Spread.{IsWhole, Numbered}
 use Rattle.lmn_ground.specs.Copies.{unmarked_all, Remains, NumbersAtoms, Made, Copying, Gathered}
 use Rattle.lmn_ground_parts.specs.Copies.{made_as, made_like, moved, joined_like, all_joined, ports_of, copied, AreNew, AllAtoms, LeadsOut, Beside, Copied, answer}
-use Rattle.lmn_ground_parts.proofs.WalkLaws.{holds_left, holds_right, holds_port}
 use Rattle.lmn_ground.proofs.PaintLaws.{net_painted, is_painted}
 use Rattle.lmn_ground.proofs.SpreadLaws.{part_reached}
 use Rattle.lmn_ground.proofs.GroundLaws.{part_atoms}

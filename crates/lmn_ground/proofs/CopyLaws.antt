@@ -17,10 +17,10 @@ use Rattle.lmn_ground.proofs.NumberLaws.{numbered_low, rest_in}
 use Rattle.lmn_ground.proofs.JoinLaws.{like_some, like_copying, like_numbers, like_arity, all_append, all_copying, all_numbers, all_arity, copies_differ}
 use Rattle.lmn_ground.proofs.SoughtLaws.{same_port}
 use Rattle.lmn_ground_parts.specs.Walks.{port_range, is_port}
-use Rattle.lmn_store_heap.proofs.Common.{in_at, has_functor, is_not}
+use Rattle.lmn_store_heap.proofs.Common.{in_at, has_functor}
 use Rattle.lmn_base.specs.Lists.{In}
 use Rattle.lmn_base.proofs.Lists.{in_snoc}
-use Rattle.lmn_ground_parts.proofs.Common.{as_away, as_here, ports_in, made_at, made_away, not_again, one_new as as_new, one_there as as_there}
+use Rattle.lmn_ground_parts.proofs.Common.{as_here, ports_in, made_away, not_again, one_new as as_new, one_there as as_there}
 
 -- lists
 

@@ -4,7 +4,7 @@ use Rattle.std.specs.Option.{option_map}
 use Rattle.std.specs.Prelude.{slice_index_or}
 use Rattle.lmn_store_heap.specs.Heap.{Heap, HeapAtom, with_link, partners_of, marks_of, mark_of, link_of, arity_of, joined}
 use Rattle.lmn_store_heap.specs.Splice.{joined_to}
-use Rattle.lmn_store_heap.proofs.Ports.{SamePort, same_port, linked_away, joined_arity, joined_a, joined_b, joined_other, joined_paired}
+use Rattle.lmn_store_heap.proofs.Ports.{SamePort, same_port, joined_arity, joined_a, joined_b, joined_other, joined_paired}
 use Rattle.lmn_ground.specs.Marks.{first_marks}
 use Rattle.lmn_ground.specs.Spread.{Numbered}
 use Rattle.lmn_ground.specs.Copies.{CopyIsJoined, Copying}
@@ -17,7 +17,7 @@ use Rattle.lmn_ground_parts.specs.Walks.{HasPort, is_port}
 use Rattle.lmn_store_heap.proofs.Replacing.{port_within as link_inside}
 use Rattle.lmn_base.specs.Lists.{In}
 use Rattle.lmn_store_heap.proofs.Common.{same_port as same_pair, arity_linked}
-use Rattle.lmn_ground_parts.proofs.Common.{cleared_away, joined_away}
+use Rattle.lmn_ground_parts.proofs.Common.{joined_away}
 use Rattle.lmn_ground_parts.proofs.JoinViews.{joined_view}
 
 -- Nothing is done, or two copies are joined.

@@ -1,6 +1,6 @@
 -- The code of a head sets its registers in order.
 use Rattle.std.proofs.Common.{ℕ, zero, suc, ◌≡◌, ◌<◌, ◌≤◌, ◌+◌, inl, inr, List, [], ◌∷◌, ◌++◌, Option, Some, None, refl, arith, ap, subst, length, take, append_assoc, ◌∙◌}
-use Rattle.std.specs.Prelude.{slice_get, slice_index_or, map, Bool, true, false, ◌==◌, ◌&&◌, if◌then◌else◌}
+use Rattle.std.specs.Prelude.{slice_get, Bool, true, false, ◌==◌, ◌&&◌, if◌then◌else◌}
 use Rattle.std.specs.Prelude.{sum_by}
 use Rattle.std.specs.List.{AllByRecursion}
 use Rattle.std.proofs.lemmas.Option.{slice_get_within}
@@ -17,7 +17,7 @@ use Rattle.lmn_compile_head.proofs.Counting.{parts_none, guard_none}
 use Rattle.lmn_machine_laws.proofs.GuardOrder.{guard_order}
 use Rattle.lmn_solid_heads.specs.declared.items.HeadItem.{HeadItem}
 use Rattle.lmn_solid_heads.specs.declared.items.HeadItem.TheVariants.{Atom, Typed, Membrane}
-use Rattle.lmn_solid_heads.specs.Heads.{HeadAtom, HeadTyped, HeadMembrane, atoms_of, typed_contexts_of, membranes_of, at_atoms, at_ports, links_of_head, times, inside_of, outermost_by, outermost}
+use Rattle.lmn_solid_heads.specs.Heads.{HeadAtom, HeadTyped, HeadMembrane, atoms_of, typed_contexts_of, membranes_of, at_atoms, at_ports, links_of_head, times, outermost}
 use Rattle.lmn_instr_code.specs.declared.instr.Instr.{Instr}
 use Rattle.lmn_instr_code.specs.declared.instr.Instr.TheVariants.{FindAtom, Deref, AnyMem, NeqAtom, NeqMem, NotIn, IsInt, IsUnary, IsGround, NAtoms, NMems, NoRules, IsClosed, EqGround, NeqGround, GetInt, Const, Add, Sub, Mul, Div, Mod, Commit}
 use Rattle.lmn_instr_code.specs.HeadCode.{items_code, atom_code, found_code, differ_code, differ_membrane_code, ports_code, port_code, joined_code, find_port, occurrences_before, Entry, entry, is_entry, operand, filled_code, all_filled_code, parts_inside, number_inside, head_code, parts_code, part_code, test_of, guard_code}
@@ -27,9 +27,8 @@ use Rattle.lmn_compile_head.proofs.Nesting.{membranes_nested}
 use Rattle.lmn_machine_registers.specs.declared.stack.TheConstants.{ROOM}
 use Rattle.lmn_machine.specs.Searching.{TestsSetRegisters, HeadInOrder}
 use Rattle.lmn_base.specs.Graphs.{Port}
-use Rattle.lmn_base.proofs.Truth.{if_at_most as outer_if}
 use Rattle.lmn_base.proofs.Lists.{get_taken}
-use Rattle.lmn_compile_head.proofs.Common.{above_less, inside_less, outer_less, typed_inside as typed_nested}
+use Rattle.lmn_compile_head.proofs.Common.{outer_less, typed_inside as typed_nested}
 
 -- Code before any typed context is set.
 

@@ -7,7 +7,6 @@ use Rattle.lmn_store_heap.specs.Lists.{Distinct, from, after}
 use Rattle.lmn_store_heap.specs.Sound.{Forest, flat, IsTree, Sound, AtMost, Valid}
 use Rattle.lmn_store_heap.specs.Trees.{tree_of}
 use Rattle.lmn_store_heap.proofs.Depths.{both_distinct, tree_is}
-use Rattle.lmn_store_heap.proofs.Heights.{parent_place, mem_of_list}
 use Rattle.lmn_store_heap.proofs.ListLemmas.{each_in, in_left, in_right, in_split}
 use Rattle.lmn_store_heap.proofs.Listing.{home_is}
 use Rattle.lmn_store_heap.proofs.Pigeonholes.{not_longer}
@@ -16,7 +15,6 @@ use Rattle.lmn_print_plain.specs.Numbers.{printed_atoms}
 use Rattle.lmn_store_heap.proofs.Common.{holds_mem as mem_with_atom}
 use Rattle.lmn_base.specs.Lists.{In}
 use Rattle.lmn_base.proofs.Lists.{in_either}
-use Rattle.lmn_ground_parts.proofs.Common.{parent_mem as parent_there}
 
 -- the tree is that of the heap
 pub tree_there : (s : Heap) → Sound s → AtMost (2 ^ 48) s → (f : Forest) → IsTree s f → IsTree s (tree_of s)

@@ -1,14 +1,11 @@
 -- What is quiet stays without matches that it hadn't.
-use Rattle.std.proofs.Common.{ℕ, zero, suc, ◌≡◌, ◌≤◌, ◌+◌, List, [], ◌∷◌, Option, Some, None, arith, ap, length}
-use Rattle.std.specs.Prelude.{slice_get}
+use Rattle.std.proofs.Common.{List, arith}
 use Rattle.lmn_solid_heads.specs.declared.items.HeadItem.{HeadItem}
-use Rattle.lmn_solid_heads.specs.declared.items.HeadItem.TheVariants.{Atom, Typed, Membrane}
-use Rattle.lmn_solid_heads.specs.Heads.{HeadTyped, typed_contexts_of, membranes_of}
-use Rattle.lmn_compile_head.specs.Heads.{EachInside, IsHead}
+use Rattle.lmn_compile_head.specs.Heads.{IsHead}
 use Rattle.lmn_compile_head.proofs.Nesting.{membranes_nested, atoms_nested}
 use Rattle.lmn_schedule_sleep.specs.Laws.{QuietStaysMatchless}
 use Rattle.lmn_schedule_sleep.proofs.Staying.{IsNested, embedding_stood}
-use Rattle.lmn_compile_head.proofs.Common.{inside_or, typed_inside}
+use Rattle.lmn_compile_head.proofs.Common.{typed_inside}
 
 -- the items of a head are nested
 pub head_nested : (items : List HeadItem) → IsHead items → IsNested items

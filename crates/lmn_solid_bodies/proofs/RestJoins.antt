@@ -1,22 +1,21 @@
 -- Copies of atoms that no link leaves are made, and joined as these.
-use Rattle.std.proofs.Common.{◌≡◌, ◌≢◌, ◌⊎◌, ℕ, zero, suc, ◌+◌, ◌<◌, List, [], ◌∷◌, ◌++◌, length, Option, Some, None, IsSome, refl, sym, ap, subst, ◌∙◌, inl, inr, arith}
+use Rattle.std.proofs.Common.{◌≡◌, ◌⊎◌, ℕ, zero, suc, ◌+◌, ◌<◌, List, [], ◌∷◌, ◌++◌, length, Option, Some, None, IsSome, refl, sym, ap, subst, ◌∙◌, inl, inr, arith}
 use Rattle.std.proofs.lemmas.List.{append_assoc}
 use Rattle.std.specs.Option.{option_map}
 use Rattle.std.specs.Prelude.{slice_index_or}
 use Rattle.lmn_base.specs.declared.functor.Functor.{Functor}
-use Rattle.lmn_store_heap.specs.Heap.{Heap, HeapAtom, Distinct, with_link, new_atom, partners_of, functor_of, link_of, arity_of, joined}
+use Rattle.lmn_store_heap.specs.Heap.{Heap, HeapAtom, Distinct, with_link, partners_of, functor_of, link_of, arity_of, joined}
 use Rattle.lmn_store_heap.specs.Sound.{Paired}
 use Rattle.lmn_store_heap.specs.Splice.{joined_to}
-use Rattle.lmn_store_heap.proofs.ListLemmas.{each_in}
-use Rattle.lmn_store_heap.proofs.Ports.{SamePort, same_port, linked_away, joined_arity, joined_a, joined_b, joined_other, joined_paired}
+use Rattle.lmn_store_heap.proofs.Ports.{SamePort, same_port, joined_arity, joined_a, joined_b, joined_other, joined_paired}
 use Rattle.lmn_store_heap.proofs.Replacing.{port_within}
-use Rattle.lmn_store_heap.proofs.Common.{same_port as same_pair, has_functor, is_not}
+use Rattle.lmn_store_heap.proofs.Common.{same_port as same_pair, has_functor}
 use Rattle.lmn_ground_parts.specs.Walks.{port_range, HasPort}
 use Rattle.lmn_ground_parts.specs.Copies.{AllAtoms, AreNew, made_as, made_like, moved, answer, ports_of}
 use Rattle.lmn_ground_parts.specs.Rests.{joined_as, all_joined_as}
-use Rattle.lmn_ground_parts.proofs.AnswerLaws.{answer_in, answer_one, answer_here, answer_on}
+use Rattle.lmn_ground_parts.proofs.AnswerLaws.{answer_in, answer_one}
 use Rattle.lmn_base.specs.Lists.{In}
-use Rattle.lmn_ground_parts.proofs.Common.{as_away as one_away, as_here as one_here, either_port, ports_in as range_in, cleared_away, joined_away, made_at, made_away, not_again, one_new, one_there, port_in as port_of}
+use Rattle.lmn_ground_parts.proofs.Common.{either_port, ports_in as range_in, joined_away, one_new, one_there}
 use Rattle.lmn_ground_parts.proofs.JoinViews.{joined_view}
 
 -- ---- what joining leaves as it is

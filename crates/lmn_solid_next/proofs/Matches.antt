@@ -1,5 +1,5 @@
 -- A match of the least images of a rule is one of the embedding at these images.
-use Rattle.std.proofs.Common.{ℕ, zero, suc, ◌≡◌, ◌≢◌, ◌<◌, ◌≤◌, ◌+◌, ◌⊎◌, cond, List, [], ◌∷◌, ◌++◌, map, length, Option, Some, None, inl, inr, refl, sym, ap, subst, ◌∙◌, arith}
+use Rattle.std.proofs.Common.{ℕ, zero, suc, ◌≡◌, ◌≢◌, ◌<◌, ◌≤◌, ◌⊎◌, List, [], ◌∷◌, ◌++◌, map, length, Option, Some, None, inl, inr, refl, sym, ap, subst, ◌∙◌, arith}
 use Rattle.std.specs.Prelude.{◌↔◌, Contains, flat_map, slice_index_or}
 use Rattle.std.specs.List.{AllByRecursion}
 use Rattle.std.specs.Option.{option_map}
@@ -17,7 +17,6 @@ use Rattle.lmn_base.specs.LinkUses.{IsTableOf}
 use Rattle.lmn_base.specs.Lists.{In}
 use Rattle.lmn_base.specs.WellMade.{FitsArity}
 use Rattle.lmn_base.proofs.Lists.{all_of_right, get_below, get_there as get_some}
-use Rattle.lmn_base.proofs.Numbers.{not_equal}
 use Rattle.lmn_guards.specs.declared.plan.GuardPlan.{GuardPlan}
 use Rattle.lmn_store_heap.specs.Graphs.{atom_map}
 use Rattle.lmn_store_heap.specs.Heap.{Heap, IsMem, atoms_in, rules_in, within}

@@ -1,5 +1,5 @@
 -- Where a head embeds, its images are chosen and are those of the rule.
-use Rattle.std.proofs.Common.{◌≡◌, ◌≢◌, ◌∙◌, ◌⊎◌, ◌==◌, ℕ, zero, suc, ◌+◌, ◌<◌, ◌≤◌, Bool, true, false, if◌then◌else◌, List, [], ◌∷◌, ◌++◌, length, map, slice_get, slice_index_or, Option, Some, None, refl, sym, ap, subst, inl, inr, arith}
+use Rattle.std.proofs.Common.{◌≡◌, ◌≢◌, ◌∙◌, ◌⊎◌, ℕ, zero, suc, ◌+◌, ◌<◌, ◌≤◌, Bool, List, [], ◌∷◌, ◌++◌, length, map, slice_get, slice_index_or, Some, None, refl, sym, ap, subst, inl, inr, arith}
 use Rattle.std.specs.Option.{option_map}
 use Rattle.std.proofs.lemmas.List.{length_push}
 use Rattle.std.proofs.lemmas.Option.{same_Some}
@@ -14,7 +14,7 @@ use Rattle.lmn_store_heap.specs.Sound.{Valid}
 use Rattle.lmn_store_heap.specs.Graphs.{atom_map}
 use Rattle.lmn_solid_heads.specs.declared.items.HeadItem.{HeadItem}
 use Rattle.lmn_solid_heads.specs.declared.items.HeadItem.TheVariants.{Atom, Typed, Membrane}
-use Rattle.lmn_solid_heads.specs.Heads.{HeadAtom, HeadTyped, HeadMembrane, atoms_of, membranes_of, typed_contexts_of, inside_of, outermost, outermost_by}
+use Rattle.lmn_solid_heads.specs.Heads.{HeadAtom, HeadTyped, HeadMembrane, atoms_of, membranes_of, typed_contexts_of, outermost}
 use Rattle.lmn_solid_heads.specs.Embeddings.{Embeds, Images, HasAtom, HasLink, HasMembrane, HasTyped, IsAtomImage, IsInPart, IsInRest, IsMembraneImage, IsPartOf, StandsWithin, index_of, positions}
 use Rattle.lmn_solid_heads.specs.Guards.{HoldsOnHeap, Meaning, typed_number}
 use Rattle.lmn_solid_tables.specs.Flats.{port_by}
@@ -35,7 +35,7 @@ use Rattle.lmn_solid_search.proofs.EmbeddingLemmas.{atoms_long, mapped, membrane
 use Rattle.lmn_solid_search.proofs.LyingLemmas.{named_same, outermost_same, times_same}
 use Rattle.lmn_adequacy_heaps.proofs.OutOf.{in_index as in_at, index_in as item_in}
 use Rattle.lmn_compile_head.proofs.Nesting.{atoms_inside as atoms_within, membranes_inside as membranes_within}
-use Rattle.lmn_compile_head.proofs.Common.{above_less, outer_less, typed_inside as typed_within}
+use Rattle.lmn_compile_head.proofs.Common.{outer_less, typed_inside as typed_within}
 
 -- ---- items nest
 

@@ -1,5 +1,5 @@
 -- Verified code that fails in a membrane fails there until something in it or below it is touched.
-use Rattle.std.proofs.Common.{◌≡◌, ◌<◌, ◌≤◌, ◌+◌, ◌∙◌, ◌⊎◌, inl, inr, ℕ, zero, suc, List, [], ◌∷◌, Some, length, refl, sym, ap, subst, arith}
+use Rattle.std.proofs.Common.{◌≡◌, ◌<◌, ◌≤◌, ◌+◌, ◌∙◌, ◌⊎◌, inl, inr, ℕ, zero, suc, List, [], ◌∷◌, length, refl, sym, ap, subst, arith}
 use Rattle.std.specs.List.{AllByRecursion}
 use Rattle.lmn_base.specs.Graphs.{Port, Reached, at_root, StandsWhole}
 use Rattle.lmn_base.specs.Lists.{In}
@@ -7,17 +7,17 @@ use Rattle.lmn_base.proofs.Lists.{get_there}
 use Rattle.lmn_guards.specs.declared.plan.TypeKind.{TypeKind}
 use Rattle.lmn_guards.specs.declared.plan.TypeKind.TheVariants as kind
 use Rattle.lmn_store_heap.specs.Graphs.{atom_map}
-use Rattle.lmn_store_heap.specs.Heap.{Heap, functor_of, link_of, atoms_in, mems_in}
+use Rattle.lmn_store_heap.specs.Heap.{Heap, functor_of, link_of, atoms_in}
 use Rattle.lmn_store_heap.specs.Sound.{Valid}
 use Rattle.lmn_store_heap.proofs.Heights.{climbs_both}
-use Rattle.lmn_solid_heads.specs.Embeddings.{Lies, StandsWithin, partner}
+use Rattle.lmn_solid_heads.specs.Embeddings.{Lies, partner}
 use Rattle.lmn_solid_heads.specs.Guards.{IsOfKindAt, integer_of_functor}
 use Rattle.lmn_solid_heads.specs.Heads.{atoms_of, membranes_of, typed_contexts_of}
 use Rattle.lmn_instr_code.specs.declared.instr.AtomPort.{AtomPort}
 use Rattle.lmn_instr_code.specs.declared.instr.Code.{Code}
 use Rattle.lmn_instr_code.specs.declared.instr.Instr.{Instr}
 use Rattle.lmn_instr_code.specs.declared.instr.Instr.TheVariants.{FindAtom, Deref, Func, InMem, NeqAtom, Joined, NotIn, AnyMem, NeqMem, IsInt, IsUnary, IsGround, NAtoms, NMems, NoRules, IsClosed, EqGround, NeqGround, GetInt, Const, Add, Sub, Mul, Div, Mod, Lt, Le, Gt, Ge, Eq, Ne, Commit}
-use Rattle.lmn_instr_code.specs.Running.{HeadRegisters, HeadSize, InstructionHolds, AllHold, IsContext, IsInSome, IsLeftIn, IsClosedRest, HasOthers, Succeeds, size_of_head, atoms_set, membranes_set, port_of}
+use Rattle.lmn_instr_code.specs.Running.{HeadRegisters, HeadSize, AllHold, IsContext, IsInSome, IsLeftIn, IsClosedRest, HasOthers, Succeeds, size_of_head, atoms_set, membranes_set, port_of}
 use Rattle.lmn_machine.specs.Searching.{HeadInOrder, parts_set}
 use Rattle.lmn_schedule_sleep.specs.Quiet.{IsQuiet}
 use Rattle.lmn_schedule_sleep.proofs.Guards.{Alike, alike_back, graph_alike}

@@ -2,7 +2,7 @@
 use Rattle.std.proofs.Common.{◌≡◌, ◌+◌, ◌⊎◌, inl, inr, ℕ, Bool, true, false, cond, List, [], ◌∷◌, ◌++◌, length, sym, subst, true≢false}
 use Rattle.std.specs.List.{list_all}
 use Rattle.lmn_base.proofs.Truth.{and_true}
-use Rattle.lmn_store_heap.specs.Heap.{Heap, IsMem, IsMemInPlace, mem_mark_of}
+use Rattle.lmn_store_heap.specs.Heap.{Heap, IsMemInPlace, mem_mark_of}
 use Rattle.lmn_store_heap.specs.Conditions.{Above}
 use Rattle.lmn_store_heap.specs.Sound.{Valid}
 use Rattle.lmn_store_trait.specs.Awake.{awake_mark}

@@ -22,7 +22,7 @@ use Rattle.lmn_instr_code.specs.declared.opcode.Opcode.{Opcode}
 use Rattle.lmn_instr_code.specs.declared.opcode.Kind.{Kind}
 use Rattle.lmn_instr_code.specs.declared.opcode.Kind.TheVariants as kind
 use Rattle.lmn_instr_code.specs.declared.opcode.Form.{Form}
-use Rattle.lmn_instr_code.specs.Opcodes.{opcode_name, is_in_head, form_of}
+use Rattle.lmn_instr_code.specs.Opcodes.{opcode_name, form_of}
 use Rattle.lmn_verify_listing.specs.Forms.{FitsForm, FitsKind, FitsSome, in_form, some_operand}
 use Rattle.lmn_verify_listing.specs.Lines.{IsShortOperand, HasShortNames, FitsInstr, IsLine, IsPlaceOf, IsWholeLine}
 use Rattle.lmn_verify_listing.specs.Listings.{HasPlainLine}

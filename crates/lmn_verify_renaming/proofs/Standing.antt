@@ -1,16 +1,14 @@
 -- What stands in a heap after a firing: what stood there and wasn't removed, and what the firing made.
-use Rattle.std.proofs.Common.{◌≡◌, ◌⊎◌, ◌∙◌, ◌+◌, ◌<◌, ℕ, true, false, List, [], ◌∷◌, ◌++◌, length, map, Option, Some, None, IsSome, refl, sym, ap, subst, inl, inr, arith}
+use Rattle.std.proofs.Common.{◌≡◌, ◌⊎◌, ◌∙◌, ◌+◌, ◌<◌, ℕ, true, List, [], ◌∷◌, ◌++◌, length, Option, Some, None, IsSome, refl, sym, ap, subst, inl, inr, arith}
 use Rattle.std.specs.Option.{option_map}
 use Rattle.lmn_base.specs.declared.functor.Functor.{Functor}
 use Rattle.lmn_base.specs.Lists.{In}
-use Rattle.lmn_base.proofs.Common.{of_map}
 use Rattle.lmn_base.proofs.Lists.{in_either, link_within}
 use Rattle.lmn_base.proofs.Numbers.{below_zero_plus}
 use Rattle.lmn_store_heap.specs.Heap.{Heap, HeapAtom, HeapMem, IsAtom, IsInPlace, IsMem, IsMemInPlace, arity_of, atoms_in, functor_of, mems_in, partners_of, top, within}
 use Rattle.lmn_store_heap.specs.Lists.{without_all}
 use Rattle.lmn_store_heap.specs.Sound.{Forest, Forms, Valid, bare, flat, mem}
 use Rattle.lmn_store_heap.proofs.Common.{has_functor, holds_mem, in_place_atom, listed_mem}
-use Rattle.lmn_store_heap.proofs.ListLemmas.{in_left, in_right}
 use Rattle.lmn_ground_parts.specs.Copies.{answer}
 use Rattle.lmn_ground_parts.specs.Walks.{net, neighbour}
 use Rattle.lmn_ground_parts.proofs.AnswerLaws.{answer_in}
@@ -24,22 +22,20 @@ use Rattle.lmn_congruence_splice.specs.Splice.{IsOneOf}
 use Rattle.lmn_congruence_splice.proofs.Common.{in_append}
 use Rattle.lmn_solid_bodies.specs.declared.items.BodyItem.{BodyItem}
 use Rattle.lmn_solid_bodies.specs.declared.items.BodyItem.TheVariants.{Atom, Bound, Connector, Copy, Membrane, Rest, Rule, Rules}
-use Rattle.lmn_solid_bodies.specs.Added.{added_atoms, added_mems, if_inside, made_mems, moved_mems}
+use Rattle.lmn_solid_bodies.specs.Added.{added_atoms, added_mems, made_mems}
 use Rattle.lmn_solid_bodies.specs.Fired.{images_of}
 use Rattle.lmn_solid_bodies.specs.Items.{AllMade, new_ports, new_ports_from, port_at}
 use Rattle.lmn_solid_bodies.specs.Made.{copies_of, made_of, new_atoms}
 use Rattle.lmn_solid_bodies.specs.Names.{StandsPort}
-use Rattle.lmn_solid_bodies.specs.RestCopies.{AreAsLong, RestCopies, copied_into, copied_membrane, given, later, rest_membranes}
 use Rattle.lmn_solid_bodies.specs.Rules.{NestedRule}
 use Rattle.lmn_solid_bodies.specs.Running.{Registers, integer_functor, new_port}
 use Rattle.lmn_solid_bodies.specs.Within.{FiresFlat, FiresWithin, HoldsRests, dropped_atoms, dropped_mems, membrane_images, removed_mems}
-use Rattle.lmn_solid_bodies.proofs.AddedLemmas.{AreWholeRests, comes_from, in_if, long_enough}
+use Rattle.lmn_solid_bodies.proofs.AddedLemmas.{comes_from, long_enough}
 use Rattle.lmn_solid_bodies.proofs.Below.{removed_is}
 use Rattle.lmn_solid_bodies.proofs.BodyPorts.{copied_new, written_new}
 use Rattle.lmn_solid_bodies.proofs.Committing.{in_withouts_of}
 use Rattle.lmn_solid_bodies.proofs.Finishing.{in_place_listed, within_of}
 use Rattle.lmn_solid_bodies.proofs.Held.{Held, held}
-use Rattle.lmn_solid_bodies.proofs.RestGrowing.{in_given}
 use Rattle.lmn_solid_bodies.proofs.Common.{mems_moved as mems_come}
 
 -- ---- what a body adds

@@ -1,4 +1,4 @@
-use Rattle.std.proofs.Common.{◌≡◌, ℕ, ◌==◌, Bool, if◌then◌else◌, sym, ap, ◌∙◌}
+use Rattle.std.proofs.Common.{◌≡◌, ℕ, Bool, if◌then◌else◌, sym, ap, ◌∙◌}
 use Rattle.lmn_base.proofs.Numbers.{not_equal}
 use Rattle.lmn_web.specs.Indexes.{numbers_by}
 use Rattle.lmn_web.proofs.web.free_cell.Goals as goal

@@ -1,4 +1,4 @@
-use Rattle.std.proofs.Common.{◌≡◌, ℕ, ◌==◌, [], ◌∷◌, Bool, Option, Some, None, MatchResult, if◌then◌else◌, replicate, refl, sym, ap, subst, ◌∙◌}
+use Rattle.std.proofs.Common.{◌≡◌, ℕ, [], ◌∷◌, Some, None, MatchResult, if◌then◌else◌, replicate, sym, subst}
 use Rattle.lmn_base.proofs.Numbers.{not_equal}
 use Rattle.lmn_store_heap.specs.Heap.{alter}
 use Rattle.lmn_web_cells.specs.Cells.{HeldCell, cells_by, blank_membrane, no_port}

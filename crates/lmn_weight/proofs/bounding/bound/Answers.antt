@@ -1,4 +1,4 @@
-use Rattle.std.proofs.Common.{◌∙◌, arith, refl, sym}
+use Rattle.std.proofs.Common.{◌∙◌, arith, sym}
 use Rattle.lmn_base.proofs.Lists.{get_below}
 use Rattle.lmn_weight.proofs.SmallWeights.{weighs_little}
 use Rattle.lmn_weight.proofs.BoundLemmas.{one_more, read_there, told}

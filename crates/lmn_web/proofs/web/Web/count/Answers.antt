@@ -1,4 +1,4 @@
-use Rattle.std.proofs.Common.{◌≡◌, List, [], Some, length, sym, ap, subst, ◌∙◌}
+use Rattle.std.proofs.Common.{◌≡◌, List, Some, length, sym, ap, subst, ◌∙◌}
 use Rattle.lmn_web_cells.specs.Rows.{Row}
 use Rattle.lmn_web_cells.specs.Cells.{cells_by}
 use Rattle.lmn_web_cells.specs.CellIds.{cell_id}
