@@ -1,0 +1,6 @@
+pub mod Graphs
+pub mod Heads
+pub mod Firing
+pub mod Turns
+pub mod Heaps
+pub mod Laws
