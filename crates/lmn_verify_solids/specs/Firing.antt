@@ -1,5 +1,5 @@
 -- What the commit of a code leaves of a graph: its atoms and membranes keep their numbers, and what the body makes has new ones.
-use Rattle.std.specs.Prelude.{ℕ, ◌≡◌, ◌≢◌, ◌<◌, ◌+◌, ◌↔◌, ◌⊎◌, List, [], ◌∷◌, ◌++◌, flat_map, length, map, None, Some, IsSome}
+use Rattle.std.specs.Prelude.{ℕ, ◌≡◌, ◌≢◌, ◌<◌, ◌+◌, ◌↔◌, ◌⊎◌, List, [], ◌∷◌, ◌++◌, flat_map, length, map, None, Some, IsSome, true}
 use Rattle.std.specs.List.{AllByRecursion}
 use Rattle.lmn_base.specs.declared.solid.Region.{Region}
 use Rattle.lmn_base.specs.Graphs.{Reached, Port}
@@ -12,11 +12,11 @@ use Rattle.lmn_instr_code.specs.declared.instr.Code.{Code}
 use Rattle.lmn_instr_code.specs.declared.instr.Instr.{Instr}
 use Rattle.lmn_instr_code.specs.declared.instr.Instr.TheVariants.{NewAtom, NewInt, NewMem, CopyGround, MoveCells, CopyCells, LoadRule, CopyRules, DropCells, NewLink, Relink, Unify}
 use Rattle.lmn_instr_code.specs.Running.{HeadRegisters, atoms_set, membranes_set}
-use Rattle.lmn_machine.specs.Searching.{parts_set}
 use Rattle.lmn_solid_bodies.specs.Added.{if_inside}
 use Rattle.lmn_solid_bodies.specs.RestCopies.{RestCopies, RestCopy, copied_atom, copied_into, copied_membrane, given, later, rest_membranes}
 use Rattle.lmn_solid_bodies.specs.Running.{Registers, integer_functor, new_port, old_port}
 use Rattle.lmn_verify_solids.specs.Graphs.{Graph, IsPort, Stand, net}
+use Rattle.lmn_verify_solids.specs.Heads.{parts_set}
 
 -- ---- what a head takes and leaves
 

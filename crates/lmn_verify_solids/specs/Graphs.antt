@@ -1,4 +1,7 @@
 -- Solids as graphs: their atoms and membranes have numbers, whichever, by which registers name them.
+--
+-- In a region of the calculus nothing has a name by which a register could hold it, and two equal rules, which may have different codes,
+-- are one. An `AtomMap` has what is asked of atoms, and no lists of membranes and rules: so a graph has one, and these beside it.
 use Rattle.std.specs.Prelude.{ℕ, zero, suc, ◌≡◌, ◌≢◌, ◌<◌, ◌↔◌, ◌⊎◌, List, [], ◌∷◌, ◌++◌, flat_map, Option, Some, None, IsSome}
 use Rattle.lmn_base.specs.declared.functor.Functor.{Functor}
 use Rattle.lmn_base.specs.declared.solid.Region.{Region}
@@ -7,7 +10,8 @@ use Rattle.lmn_base.specs.declared.solid.Solid.{Solid}
 use Rattle.lmn_base.specs.declared.solid.SolidAtom.{SolidAtom}
 use Rattle.lmn_base.specs.Graphs.{AtomMap, Port}
 use Rattle.lmn_base.specs.Lists.{In}
-use Rattle.lmn_base.specs.Solids.{IsSolid}
+use Rattle.lmn_base.specs.Links.{NumbersLinks}
+use Rattle.lmn_base.specs.Solids.{connector, links_of_region}
 use Rattle.lmn_store_heap.specs.Lists.{Distinct}
 use Rattle.lmn_store_heap.specs.Solid.{links_from}
 use Rattle.lmn_ground_parts.specs.Walks.{Net}
@@ -49,22 +53,25 @@ pub data Stand (g : Graph) (link : ℕ → ℕ → ℕ) : List ℕ → List ℕ 
       Stand g link (m ∷ ms) (m ∷ inner ++ later) (roll-Region (record { atoms = flat_map (λ a. atom_with link a (g.map.functor a)) (g.atoms m); membranes = is; rules = g.rules m }) ∷ rs)
 
 -- The graph is that of a solid, with some numbers.
---   link, all       the number of the link at each port; its membranes in preorder
---   stands          the solid stands in the root
+--   link, count, numbers    the number of the link at each port; those of the solid are numbered in printed order
+--   all, stands     its membranes in preorder; the solid stands in the root
 --   once, nowhere   each of its membranes has one number, and nothing stands in what has another
---   homes, atoms_once, placed    an atom stands in one membrane, at one place of the list
+--   homes, atoms_once, placed    an atom stands in one membrane, at one place of the list,
+--   no_connector    and is no connector
 --   rounds          so does a membrane, but the root
 --   joined, full    each port is joined to another one, which has the same link,
 --   apart           and no two other ports have one link
 pub record IsGraphOf (g : Graph) (S : Solid) : Type 0 where
-  pub is_solid : IsSolid S
   pub link : ℕ → ℕ → ℕ
+  pub count : ℕ
+  pub numbers : NumbersLinks (links_of_region S.root) count
   pub all : List ℕ
   pub stands : Stand g link (g.root ∷ []) all (S.root ∷ [])
   pub once : Distinct all
   pub nowhere : (m : ℕ) → (In m all → ⊥) → (g.atoms m ≡ []) × (g.membranes m ≡ []) × (g.rules m ≡ [])
   pub homes : (a m : ℕ) → In a (g.atoms m) ↔ (g.map.home a ≡ Some m)
   pub atoms_once : (m : ℕ) → Distinct (g.atoms m)
+  pub no_connector : (a : ℕ) → g.map.functor a ≢ Some connector
   pub placed : (a : ℕ) → IsSome (g.map.functor a) ↔ IsSome (g.map.home a)
   pub rounds : (n m : ℕ) → In n (g.membranes m) ↔ (g.round n ≡ Some m)
   pub joined : (p q : Port) → g.map.partner p ≡ Some q → IsPort g p × (p ≢ q) × (g.map.partner q ≡ Some p) × (link p.0 p.1 ≡ link q.0 q.1)

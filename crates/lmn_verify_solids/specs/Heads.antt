@@ -1,6 +1,6 @@
 -- What the code of a head means on a graph. Each instruction is a condition on all registers at once, since each register is set by
 -- one instruction: code succeeds with registers that meet all of its instructions.
-use Rattle.std.specs.Prelude.{ℕ, ℤ, ◌≡◌, ◌≢◌, ◌<◌, ◌⊎◌, List, [], ◌∷◌, ◌++◌, Some, length, slice_get, take}
+use Rattle.std.specs.Prelude.{ℕ, ℤ, ◌≡◌, ◌≢◌, ◌<◌, ◌+◌, ◌⊎◌, List, [], ◌∷◌, ◌++◌, Option, Some, length, slice_get, take}
 use Rattle.lmn_base.specs.declared.functor.Functor.{Functor}
 use Rattle.lmn_base.specs.declared.guard.Arith.TheVariants as arith
 use Rattle.lmn_base.specs.declared.guard.Cmp.TheVariants as cmp
@@ -102,6 +102,14 @@ choices g r (_ ∷ is) = choices g r is
 abbrev pub IsFirstSuccess : Graph → List Instr → ℕ → HeadRegisters → Type 0
 IsFirstSuccess g code m r = Succeeds g code m r × ((s : HeadRegisters) → Succeeds g code m s → ListNotAfter (choices g r code) (choices g s code))
 
+-- how many registers of typed contexts code sets
+abbrev pub parts_set : List Instr → ℕ
+parts_set [] = 0
+parts_set (IsInt x p m ∷ is) = 1 + parts_set is
+parts_set (IsUnary x p m ∷ is) = 1 + parts_set is
+parts_set (IsGround x p m ∷ is) = 1 + parts_set is
+parts_set (_ ∷ is) = parts_set is
+
 -- ---- which rule is chosen
 
 -- none of these rules has a code that succeeds in membrane m,
@@ -119,10 +127,9 @@ pub record IsChosen (g : Graph) (codes : List Code) (ms : List ℕ) (code : Code
   pub later : List ℕ
   pub order : ms ≡ earlier ++ m ∷ later
   pub none : NoneIn g codes earlier
-  pub before : List ℕ
+  pub place : ℕ
   pub rule : ℕ
-  pub behind : List ℕ
-  pub rules : g.rules m ≡ before ++ rule ∷ behind
-  pub none_before : NoneOf g codes m before
+  pub stands : slice_get (g.rules m) place ≡ Some rule
+  pub none_before : NoneOf g codes m (take place (g.rules m))
   pub is : slice_get codes rule ≡ Some code
   pub first : IsFirstSuccess g code.head m r

@@ -1,5 +1,5 @@
--- Which code is committed on a solid, what it leaves, and runs of codes.
-use Rattle.std.specs.Prelude.{ℕ, ◌≡◌, ◌<◌, ◌≤◌, ◌+◌, ◌↔◌, List, Some, length, map, slice_get, sum}
+-- Which code is committed on a solid, and what it leaves.
+use Rattle.std.specs.Prelude.{ℕ, ◌≡◌, ◌≤◌, ◌+◌, ◌↔◌, List, [], ◌∷◌, Some, length, map, slice_get, sum}
 use Rattle.lmn_base.specs.declared.solid.Solid.{Solid}
 use Rattle.lmn_base.specs.Graphs.{Port, Reached}
 use Rattle.lmn_base.specs.Lists.{In}
@@ -8,10 +8,7 @@ use Rattle.lmn_store_heap.specs.Lists.{Distinct}
 use Rattle.lmn_instr_code.specs.declared.instr.Code.{Code}
 use Rattle.lmn_instr_code.specs.declared.instr.Instr.{Instr}
 use Rattle.lmn_instr_code.specs.declared.instr.Instr.TheVariants.{RemoveAtom, RemovePart, RemoveMem, NewAtom, NewInt, NewMem, CopyGround, CopyCells, LoadRule, CopyRules, DropCells}
-use Rattle.lmn_machine.specs.Costs.{InAll}
 use Rattle.lmn_solid_bodies.specs.Running.{Registers}
-use Rattle.lmn_app_runs.specs.declared.stop.Stop.{Stop}
-use Rattle.lmn_app_runs.specs.declared.stop.Stop.TheVariants as stop
 use Rattle.lmn_instr_code.specs.Running.{HeadRegisters}
 use Rattle.lmn_verify_solids.specs.Graphs.{Graph, IsGraphOf}
 use Rattle.lmn_verify_solids.specs.Heads.{IsChosen, NoneIn, Succeeds}
@@ -46,6 +43,11 @@ TakesItems g r (RemovePart x) n = IsSize g (r.head.images.part x) n
 TakesItems g r (RemoveMem m) n = n ≡ 1 + length (g.rules (r.head.images.membrane m))
 TakesItems g r (DropCells m) n = n ≡ rest_size g r m
 TakesItems g r _ n = n ≡ 0
+
+-- the sum over all instructions of some code
+abbrev pub InAll : (Instr → ℕ → Type 0) → List Instr → ℕ → Type 0
+InAll P [] n = n ≡ 0
+InAll P (i ∷ is) n = (a b : ℕ) × (P i a × InAll P is b × (n ≡ a + b))
 
 -- ---- turns
 
@@ -85,11 +87,3 @@ pub record SomeSucceeds (codes : List Code) (S : Solid) : Type 0 where
   pub is : slice_get codes rule ≡ Some code
   pub registers : HeadRegisters
   pub succeeds : Succeeds graph code.head membrane registers
-
--- Why a run stops at a solid after n commits: no code succeeds; the budget is done, and some code succeeds; what is chosen would leave
--- more items than the size; memory is wanting for what is chosen, which would not.
-abbrev pub StopsAt : List Code → (budget size n : ℕ) → Solid → Stop → Type 0
-StopsAt codes budget size n S stop.Irreducible = (n ≤ budget) × NoneSucceeds codes S
-StopsAt codes budget size n S stop.Budget = (n ≡ budget) × SomeSucceeds codes S
-StopsAt codes budget size n S stop.Full = (n < budget) × ((c : Choice codes S) × (size < c.left))
-StopsAt codes budget size n S stop.NoMemory = (n < budget) × ((c : Choice codes S) × (c.left ≤ size))

@@ -1,10 +1,11 @@
-//! What runs of verified codes do, told by solids: which code is committed, and what it leaves.
+//! What verified code does, told by solids: where its head succeeds, what is chosen, and what its commit leaves.
 #![tactic(auto)]
 
-ghost use Rattle.lmn_verify_solids.specs.Laws.{FiringsAlike, FiringsBack, GraphsHaveHeaps, HeapsAreGraphs, ItemsAreOne, OnePreorder};
-ghost use Rattle.lmn_verify_solids.specs.Turns.{CodeNext, StopsAt};
+ghost use Rattle.lmn_verify_solids.specs.Examples.{GraphExamples, IdleCodeIsFlat, TurnExamples};
+ghost use Rattle.lmn_verify_solids.specs.Laws.{FlatRulesFire, GraphsHaveHeaps, HeadsAreAlike, HeapsAreGraphs, ItemsAreOne, OnePreorder};
 
-/// The graph of a valid heap is one of each solid that it has, and a heap has as many items as its solid, and its root.
+/// The graph of a valid heap is one of each solid that it has. Its membranes in preorder are those of the heap's tree, and the heap
+/// has as many items as the solid, and its root.
 pub fn heaps_are_graphs()
     ensures graphs { HeapsAreGraphs }
     ensures preorder { OnePreorder }
@@ -16,12 +17,27 @@ pub fn graphs_have_heaps()
     ensures { GraphsHaveHeaps }
 {}
 
-/// Where the flat rule of verified code fires from one heap to another, the code is committed from graph to graph.
-pub fn firings_are_alike()
-    ensures { FiringsAlike }
+/// Head code succeeds on a heap where it does on its graph, and first with the same registers.
+pub fn heads_are_alike()
+    ensures { HeadsAreAlike }
 {}
 
-/// Where verified code is committed from graph to graph, its flat rule fires from heap to heap.
-pub fn firings_go_back()
-    ensures { FiringsBack }
+/// Where a flat rule fires from heap to heap, its code is committed from graph to graph.
+pub fn flat_rules_fire()
+    ensures { FlatRulesFire }
+{}
+
+/// Graphs of small solids, heads on them, and what small codes leave of them.
+pub fn graph_examples()
+    ensures { GraphExamples }
+{}
+
+/// What codes choose on a solid, and what they leave.
+pub fn turn_examples()
+    ensures { TurnExamples }
+{}
+
+/// Code of the flat rule without items, and code that isn't.
+pub fn idle_code_is_flat()
+    ensures { IdleCodeIsFlat }
 {}

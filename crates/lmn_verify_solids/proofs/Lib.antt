@@ -1,0 +1,5 @@
+pub mod HeapsAreGraphs
+pub mod GraphsHaveHeaps
+pub mod HeadsAlike
+pub mod Fired
+pub mod Small
