@@ -167,6 +167,47 @@ module _ (r : Registers) (bs : List Instr) where
   made_rooms none q a m c (Rule n k ∷ xs) = made_rooms none q a m c xs
   made_rooms none q a m c (Rules of k ∷ xs) = made_rooms none q a m c xs
 
+-- What a code adds is what its flat body adds.
+module _ (head : List HeadItem) (body : List BodyItem) (code : Code) (is : IsFlatCode head body code) (r : Registers) where
+  module _ (left : ℕ → List ℕ) (x : ℕ) where
+    no_atoms : (q : RestCopies) → added_atoms r left q is.behind x ≡ []
+    no_atoms q = ap (λ ys. added_atoms r left q ys x) (sym (append_nothing is.behind)) ∙ skip_atoms (IsBehind head body) (behind_quiet head body) r left q is.behind [] x is.ends
+
+    -- what it adds to the lists of atoms of membranes
+    pub atom_list : (q : RestCopies) → added_atoms r left q code.body x ≡ flat.added_atoms r q left (length (atoms_of head)) 0 body x
+    atom_list q = ap (λ ys. added_atoms r left q ys x) is.whole ∙ skip_atoms IsRemoval removal_quiet r left q is.taking (making (length (atoms_of head)) (1 + length (membranes_of head)) 0 body ++ is.behind) x is.takes
+        ∙ made_atoms r is.behind left x no_atoms q (length (atoms_of head)) (1 + length (membranes_of head)) 0 body
+
+    no_membranes : (q : RestCopies) → added_membranes r left q is.behind x ≡ []
+    no_membranes q = ap (λ ys. added_membranes r left q ys x) (sym (append_nothing is.behind)) ∙ skip_membranes (IsBehind head body) (behind_quiet head body) r left q is.behind [] x is.ends
+
+    -- to their lists of membranes
+    pub mem_list : (q : RestCopies) → added_membranes r left q code.body x ≡ flat.added_mems r q left (1 + length (membranes_of head)) body x
+    mem_list q = ap (λ ys. added_membranes r left q ys x) is.whole ∙ skip_membranes IsRemoval removal_quiet r left q is.taking (making (length (atoms_of head)) (1 + length (membranes_of head)) 0 body ++ is.behind) x is.takes
+        ∙ made_membranes r is.behind left x no_membranes q (length (atoms_of head)) (1 + length (membranes_of head)) 0 body
+
+    no_rules : (q : RestCopies) → added_rules r left q is.behind x ≡ []
+    no_rules q = ap (λ ys. added_rules r left q ys x) (sym (append_nothing is.behind)) ∙ skip_rules (IsBehind head body) (behind_quiet head body) r left q is.behind [] x is.ends
+
+    -- and to their rules
+    pub rule_list : (q : RestCopies) → added_rules r left q code.body x ≡ flat.added_rules r q left body x
+    rule_list q = ap (λ ys. added_rules r left q ys x) is.whole ∙ skip_rules IsRemoval removal_quiet r left q is.taking (making (length (atoms_of head)) (1 + length (membranes_of head)) 0 body ++ is.behind) x is.takes
+        ∙ made_rules r is.behind left x no_rules q (length (atoms_of head)) (1 + length (membranes_of head)) 0 body
+
+  no_new : (q : RestCopies) → new_atoms r q is.behind ≡ []
+  no_new q = ap (λ ys. new_atoms r q ys) (sym (append_nothing is.behind)) ∙ skip_made (IsBehind head body) (behind_quiet head body) r q is.behind [] is.ends
+
+  -- the atoms that it makes
+  pub new_list : (q : RestCopies) → new_atoms r q code.body ≡ made.new_atoms r q (length (atoms_of head)) 0 body
+  new_list q = ap (λ ys. new_atoms r q ys) is.whole ∙ skip_made IsRemoval removal_quiet r q is.taking (making (length (atoms_of head)) (1 + length (membranes_of head)) 0 body ++ is.behind) is.takes ∙ made_new r is.behind no_new q (length (atoms_of head)) (1 + length (membranes_of head)) 0 body
+
+  no_rooms : (q : RestCopies) → new_membranes r q is.behind ≡ []
+  no_rooms q = ap (λ ys. new_membranes r q ys) (sym (append_nothing is.behind)) ∙ skip_rooms (IsBehind head body) (behind_quiet head body) r q is.behind [] is.ends
+
+  -- and the membranes
+  pub room_list : (q : RestCopies) → new_membranes r q code.body ≡ flat.made_mems r q (1 + length (membranes_of head)) body
+  room_list q = ap (λ ys. new_membranes r q ys) is.whole ∙ skip_rooms IsRemoval removal_quiet r q is.taking (making (length (atoms_of head)) (1 + length (membranes_of head)) 0 body ++ is.behind) is.takes ∙ made_rooms r is.behind no_rooms q (length (atoms_of head)) (1 + length (membranes_of head)) 0 body
+
 -- ---- from heap to heap
 
 -- the ports that are joined have one number
@@ -190,7 +231,7 @@ stands_port h v p w =
     by (Some x) e = refl
 
 -- the walk over a graph is that over its heap
-net_same : (h : Heap) → Valid h → net (graph_of h) ≡ net_of h
+pub net_same : (h : Heap) → Valid h → net (graph_of h) ≡ net_of h
 net_same h v = λ i. record { arity = λ a. arity a i; link = λ a k. link_of h a k }
   where
     arity : (a : ℕ) → arity_by (functor_of h a) ≡ arity_of h a
@@ -226,39 +267,20 @@ module _ (head : List HeadItem) (body : List BodyItem) (code : Code) (is : IsFla
 
   -- ---- lists
 
-  module _ (left : ℕ → List ℕ) (x : ℕ) where
-    no_atoms : (q : RestCopies) → added_atoms r left q is.behind x ≡ []
-    no_atoms q = ap (λ ys. added_atoms r left q ys x) (sym (append_nothing is.behind)) ∙ skip_atoms (IsBehind head body) (behind_quiet head body) r left q is.behind [] x is.ends
+  atoms_are : (left : ℕ → List ℕ) (x : ℕ) (q : RestCopies) → added_atoms r left q code.body x ≡ flat.added_atoms r q left N 0 body x
+  atoms_are left x q = atom_list head body code is r left x q
 
-    atoms_are : (q : RestCopies) → added_atoms r left q code.body x ≡ flat.added_atoms r q left N 0 body x
-    atoms_are q = ap (λ ys. added_atoms r left q ys x) is.whole ∙ skip_atoms IsRemoval removal_quiet r left q is.taking (making N M 0 body ++ is.behind) x is.takes
-        ∙ made_atoms r is.behind left x no_atoms q N M 0 body
+  membranes_are : (left : ℕ → List ℕ) (x : ℕ) (q : RestCopies) → added_membranes r left q code.body x ≡ flat.added_mems r q left M body x
+  membranes_are left x q = mem_list head body code is r left x q
 
-    no_membranes : (q : RestCopies) → added_membranes r left q is.behind x ≡ []
-    no_membranes q = ap (λ ys. added_membranes r left q ys x) (sym (append_nothing is.behind)) ∙ skip_membranes (IsBehind head body) (behind_quiet head body) r left q is.behind [] x is.ends
-
-    membranes_are : (q : RestCopies) → added_membranes r left q code.body x ≡ flat.added_mems r q left M body x
-    membranes_are q = ap (λ ys. added_membranes r left q ys x) is.whole ∙ skip_membranes IsRemoval removal_quiet r left q is.taking (making N M 0 body ++ is.behind) x is.takes
-        ∙ made_membranes r is.behind left x no_membranes q N M 0 body
-
-    no_rules : (q : RestCopies) → added_rules r left q is.behind x ≡ []
-    no_rules q = ap (λ ys. added_rules r left q ys x) (sym (append_nothing is.behind)) ∙ skip_rules (IsBehind head body) (behind_quiet head body) r left q is.behind [] x is.ends
-
-    rules_are : (q : RestCopies) → added_rules r left q code.body x ≡ flat.added_rules r q left body x
-    rules_are q = ap (λ ys. added_rules r left q ys x) is.whole ∙ skip_rules IsRemoval removal_quiet r left q is.taking (making N M 0 body ++ is.behind) x is.takes
-        ∙ made_rules r is.behind left x no_rules q N M 0 body
-
-  no_new : (q : RestCopies) → new_atoms r q is.behind ≡ []
-  no_new q = ap (λ ys. new_atoms r q ys) (sym (append_nothing is.behind)) ∙ skip_made (IsBehind head body) (behind_quiet head body) r q is.behind [] is.ends
+  rules_are : (left : ℕ → List ℕ) (x : ℕ) (q : RestCopies) → added_rules r left q code.body x ≡ flat.added_rules r q left body x
+  rules_are left x q = rule_list head body code is r left x q
 
   new_are : (q : RestCopies) → new_atoms r q code.body ≡ made.new_atoms r q N 0 body
-  new_are q = ap (λ ys. new_atoms r q ys) is.whole ∙ skip_made IsRemoval removal_quiet r q is.taking (making N M 0 body ++ is.behind) is.takes ∙ made_new r is.behind no_new q N M 0 body
-
-  no_rooms : (q : RestCopies) → new_membranes r q is.behind ≡ []
-  no_rooms q = ap (λ ys. new_membranes r q ys) (sym (append_nothing is.behind)) ∙ skip_rooms (IsBehind head body) (behind_quiet head body) r q is.behind [] is.ends
+  new_are q = new_list head body code is r q
 
   rooms_are : (q : RestCopies) → new_membranes r q code.body ≡ flat.made_mems r q M body
-  rooms_are q = ap (λ ys. new_membranes r q ys) is.whole ∙ skip_rooms IsRemoval removal_quiet r q is.taking (making N M 0 body ++ is.behind) is.takes ∙ made_rooms r is.behind no_rooms q N M 0 body
+  rooms_are q = room_list head body code is r q
 
   found_are : found code.head r ≡ map r.head.images.membrane (rising 1 (length (membranes_of head)))
   found_are = ap (λ n. map r.head.images.membrane (rising 1 n)) is.membranes
@@ -291,18 +313,20 @@ module _ (head : List HeadItem) (body : List BodyItem) (code : Code) (is : IsFla
       closed_one : (k : ℕ) (bs : List HeadMembrane) → In a (left_of_closed left k bs) →
           (n : ℕ) × (i : ℕ) × (b : HeadMembrane) × In a (left n) × (n ≡ k + i) × (b.has_closed_context ≡ true) × (slice_get bs i ≡ Some b)
       closed_one k [] w = absurd w
-      closed_one k (b ∷ bs) w = by b.has_closed_context refl w
+      closed_one k (b ∷ bs) w = by b.has_closed_context refl w (λ i. closed_one (k + 1) bs i)
         where
-          next : In a (left_of_closed left (k + 1) bs) → (n : ℕ) × (i : ℕ) × (c : HeadMembrane) × In a (left n) × (n ≡ k + i) × (c.has_closed_context ≡ true) × (slice_get (b ∷ bs) i ≡ Some c)
-          next w = (let z = closed_one (k + 1) bs w in (z.0, suc z.1, z.2, z.3, (let e = z.4 in omega (arith, e)), z.5, z.6))
+          next : (In a (left_of_closed left (k + 1) bs) → (n : ℕ) × (i : ℕ) × (c : HeadMembrane) × In a (left n) × (n ≡ (k + 1) + i) × (c.has_closed_context ≡ true) × (slice_get bs i ≡ Some c)) → In a (left_of_closed left (k + 1) bs) →
+              (n : ℕ) × (i : ℕ) × (c : HeadMembrane) × In a (left n) × (n ≡ k + i) × (c.has_closed_context ≡ true) × (slice_get (b ∷ bs) i ≡ Some c)
+          next more w = (let z = more w in (z.0, suc z.1, z.2, z.3, (let e = z.4 in omega (arith, e)), z.5, z.6))
 
           by : (c : Bool) → b.has_closed_context ≡ c → In a ((if c then left k else []) ++ left_of_closed left (k + 1) bs) →
+              (In a (left_of_closed left (k + 1) bs) → (n : ℕ) × (i : ℕ) × (c : HeadMembrane) × In a (left n) × (n ≡ (k + 1) + i) × (c.has_closed_context ≡ true) × (slice_get bs i ≡ Some c)) →
               (n : ℕ) × (i : ℕ) × (d : HeadMembrane) × In a (left n) × (n ≡ k + i) × (d.has_closed_context ≡ true) × (slice_get (b ∷ bs) i ≡ Some d)
-          by true e w = elim (in_either a (left k) (left_of_closed left (k + 1) bs) w) [
+          by true e w more = elim (in_either a (left k) (left_of_closed left (k + 1) bs) w) [
             | inl i ↦ (k, 0, b, i, (let z : k ≡ k + 0 = omega arith in z), e, refl)
-            | inr i ↦ next i
+            | inr i ↦ next more i
           ]
-          by false e w = next w
+          by false e w more = next more w
 
   gone_out : (x : ℕ) → (In x (removed code r) → ⊥) → In x (map r.head.images.membrane (rising 1 (length (membranes_of head))) ++ dropped_mems r head) → ⊥
   gone_out x out i = out (elim (in_either x (map r.head.images.membrane (rising 1 (length (membranes_of head)))) (dropped_mems r head) i) [

@@ -3,3 +3,4 @@ pub mod GraphsHaveHeaps
 pub mod HeadsAlike
 pub mod Fired
 pub mod Small
+pub mod Members

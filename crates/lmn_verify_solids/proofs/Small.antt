@@ -21,6 +21,7 @@ use Rattle.lmn_instr_code.specs.declared.instr.Code.{Code}
 use Rattle.lmn_instr_code.specs.declared.instr.Instr.{Instr}
 use Rattle.lmn_instr_code.specs.declared.instr.Instr.TheVariants.{NewMem}
 use Rattle.lmn_instr_code.specs.Running.{HeadRegisters}
+use Rattle.lmn_solid_heads.specs.Heads.{HeadMembrane}
 use Rattle.lmn_solid_bodies.specs.RestCopies.{RestCopies}
 use Rattle.lmn_verify_solids.specs.Examples.{GraphExamples, IdleCodeIsFlat, TurnExamples, idle, in_root, one_atom, ruled, ruled_solid, taking, zeros}
 use Rattle.lmn_verify_solids.specs.Firing.{Fires, IsTaken, LeavesRests}
@@ -126,6 +127,7 @@ graph_examples = record {
 -- ---- turns
 
 idle_choice : Choice (idle ∷ []) ruled_solid
+unfolding ruled_is
 idle_choice = record {
   graph = ruled;
   is_graph = ruled_is;
@@ -159,6 +161,7 @@ no_code n code e = none_is_not {A = Code} (slice_get {X = Code} [] n) (slice_get
 
 -- what codes choose and leave
 pub turn_examples : TurnExamples
+unfolding idle_choice ruled_is
 turn_examples = record {
   commits = (idle_choice, (omega arith), ruled, ruled_is, idle_fires);
   none = λ size S S' w. (let c = w.0 in let chosen = c.chosen in no_code chosen.rule c.code chosen.is);
@@ -183,7 +186,7 @@ turn_examples = record {
 -- ---- flat codes
 
 idle_flat : IsFlatCode [] [] idle
-idle_flat = record { membranes = refl; taking = []; behind = (idle).body; whole = refl; takes = tt; ends = (tt, tt); closed = λ k b w e. absurd (none_is_not _ (slice_get_past _ w.0 (omega arith)) (subst (λ o. IsSome o) (sym w.2) refl)) }
+idle_flat = record { membranes = refl; taking = []; behind = (idle).body; whole = refl; takes = tt; ends = (tt, tt); closed = λ k b w e. absurd (none_is_not {A = HeadMembrane} (slice_get {X = HeadMembrane} [] w.0) (slice_get_past {X = HeadMembrane} [] w.0 (omega arith)) (subst (λ (o : Option HeadMembrane). IsSome o) (sym w.2) refl)) }
 
 pub idle_code_is_flat : IdleCodeIsFlat
 idle_code_is_flat = (idle_flat, (λ w. by w.taking w.behind w.whole w.takes w.ends))

@@ -1,6 +1,7 @@
 -- Graphs are what heaps are, and codes do on them what they do on heaps.
 use Rattle.std.specs.Prelude.{ℕ, ◌≡◌, ◌<◌, ◌+◌, ◌↔◌, List, ◌++◌, length}
 use Rattle.lmn_base.specs.declared.solid.Solid.{Solid}
+use Rattle.lmn_base.specs.Lists.{In}
 use Rattle.lmn_base.specs.Solids.{item_count}
 use Rattle.lmn_store_heap.specs.Heap.{Heap, IsInPlace, Unmarked}
 use Rattle.lmn_store_heap.specs.Solid.{HasSolid}
@@ -55,3 +56,8 @@ abbrev pub FlatRulesFire : Type 0
 FlatRulesFire = (head : List HeadItem) (body : List BodyItem) (code : Code) → IsFlatCode head body code → (h t : Heap) → Valid h → Valid t → (r : Registers) →
     ((k : ℕ) → k < length (atoms_of head) → IsInPlace h (r.head.images.atom k)) → (f : FiresFlat head body r h t) →
     Fires code (graph_of h) r (images_of r head ++ f.parts) (graph_of t)
+
+-- Which list of the atoms that the head takes it is doesn't matter.
+abbrev pub TakenByMembers : Type 0
+TakenByMembers = (g : Graph) (S : Solid) → IsGraphOf g S → (code : Code) (r : Registers) (xs ys : List ℕ) (g' : Graph) → ((a : ℕ) → In a xs ↔ In a ys) →
+    Fires code g r xs g' → Fires code g r ys g'

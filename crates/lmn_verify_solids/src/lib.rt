@@ -2,7 +2,7 @@
 #![tactic(auto)]
 
 ghost use Rattle.lmn_verify_solids.specs.Examples.{GraphExamples, IdleCodeIsFlat, TurnExamples};
-ghost use Rattle.lmn_verify_solids.specs.Laws.{FlatRulesFire, GraphsHaveHeaps, HeadsAreAlike, HeapsAreGraphs, ItemsAreOne, OnePreorder};
+ghost use Rattle.lmn_verify_solids.specs.Laws.{FlatRulesFire, GraphsHaveHeaps, HeadsAreAlike, HeapsAreGraphs, ItemsAreOne, OnePreorder, TakenByMembers};
 
 /// The graph of a valid heap is one of each solid that it has. Its membranes in preorder are those of the heap's tree, and the heap
 /// has as many items as the solid, and its root.
@@ -25,6 +25,11 @@ pub fn heads_are_alike()
 /// Where a flat rule fires from heap to heap, its code is committed from graph to graph.
 pub fn flat_rules_fire()
     ensures { FlatRulesFire }
+{}
+
+/// A commit that takes the atoms of one list takes those of any other with the same members.
+pub fn taken_by_members()
+    ensures { TakenByMembers }
 {}
 
 /// Graphs of small solids, heads on them, and what small codes leave of them.
