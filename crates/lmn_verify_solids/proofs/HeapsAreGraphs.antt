@@ -120,22 +120,22 @@ module _ (h : Heap) where
           let listed = sound.listed in
           let settled = v.settled in
           let tree = has.tree in record {
-        link = has.name;
-        count = has.count;
-        numbers = has.numbers;
-        all = flat has.forest;
-        stands = subst (Stand G has.name (h.root ∷ []) (flat has.forest)) has.root (stands has.name has.forest (h.root ∷ []) tree.forms);
-        once = tree.once;
-        nowhere = λ m out. nothing_there m (λ i. out (tree.all m i));
-        homes = λ a m. ((λ i. place_home h a m ((listed.atoms m a).0 i)), (λ e. (listed.atoms m a).1 (home_is h a m e)));
-        atoms_once = listed.atoms_once;
-        no_connector = λ a e. v.no_connector a (settled.atoms a (functor_back a (subst (λ (o : Option Functor). IsSome o) (sym e) refl))) e;
-        placed = λ a. ((λ i. settled.atoms a (functor_back a i)), (λ i. functor_there a (in_place_atom h a i)));
-        rounds = λ n m. ((λ i. parent_is h listed n m i), (λ e. (listed.mems m n).1 (parent_place h n m e)));
-        joined = joined;
-        full = λ p w. v.full p.0 p.1 (port_back p w);
-        apart = apart;
-      }
+            link = has.name;
+            count = has.count;
+            numbers = has.numbers;
+            all = flat has.forest;
+            stands = subst (Stand G has.name (h.root ∷ []) (flat has.forest)) has.root (stands has.name has.forest (h.root ∷ []) tree.forms);
+            once = tree.once;
+            nowhere = λ m out. nothing_there m (λ i. out (tree.all m i));
+            homes = λ a m. ((λ i. place_home h a m ((listed.atoms m a).0 i)), (λ e. (listed.atoms m a).1 (home_is h a m e)));
+            atoms_once = listed.atoms_once;
+            no_connector = λ a e. v.no_connector a (settled.atoms a (functor_back a (subst (λ (o : Option Functor). IsSome o) (sym e) refl))) e;
+            placed = λ a. ((λ i. settled.atoms a (functor_back a i)), (λ i. functor_there a (in_place_atom h a i)));
+            rounds = λ n m. ((λ i. parent_is h listed n m i), (λ e. (listed.mems m n).1 (parent_place h n m e)));
+            joined = joined;
+            full = λ p w. v.full p.0 p.1 (port_back p w);
+            apart = apart;
+          }
 
     -- ---- items
 
