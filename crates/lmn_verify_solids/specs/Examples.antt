@@ -2,13 +2,15 @@
 use Rattle.std.specs.Prelude.{ℕ, zero, suc, pos, List, [], ◌∷◌, None}
 use Rattle.lmn_base.specs.declared.solid.Region.TheViews.{roll-Region}
 use Rattle.lmn_base.specs.declared.solid.Solid.{Solid}
-use Rattle.lmn_store_heap.specs.Examples.{across, across_solid, functor_a, loose}
+use Rattle.lmn_store_heap.specs.Examples.{across, across_solid, functor_a, functor_b, loose}
 use Rattle.lmn_instr_code.specs.declared.instr.Code.{Code}
 use Rattle.lmn_instr_code.specs.declared.instr.Instr.TheVariants.{Commit, FindAtom, NewMem, Proceed, RemoveAtom}
 use Rattle.lmn_instr_code.specs.Running.{HeadRegisters}
+use Rattle.lmn_solid_bodies.specs.declared.items.BodyItem.{BodyItem}
+use Rattle.lmn_solid_bodies.specs.declared.items.BodyItem.TheVariants.{Atom}
 use Rattle.lmn_solid_bodies.specs.Running.{Registers}
 use Rattle.lmn_verify_solids.specs.Firing.{Fires, LeavesRests}
-use Rattle.lmn_verify_solids.specs.Flats.{IsFlatCode}
+use Rattle.lmn_verify_solids.specs.Flats.{HasEachTie, IsFlatCode}
 use Rattle.lmn_verify_solids.specs.Graphs.{Graph, IsGraphOf}
 use Rattle.lmn_verify_solids.specs.Heads.{Succeeds}
 use Rattle.lmn_verify_solids.specs.Heaps.{graph_of}
@@ -85,3 +87,11 @@ pub record TurnExamples : Type 0 where
 -- The code that changes nothing is that of the flat rule without items, and code that makes something isn't.
 abbrev pub IdleCodeIsFlat : Type 0
 IdleCodeIsFlat = IsFlatCode [] [] idle × (IsFlatCode [] [] (record idle { body = NewMem 1 0 ∷ [] }) → ⊥)
+
+-- `a(X), b(X)`, as a flat body
+abbrev pub two_joined : List BodyItem
+two_joined = Atom functor_a (0 ∷ []) 0 ∷ (Atom functor_b (0 ∷ []) 0 ∷ [])
+
+-- That code ties each end of the rule without items, and not those of the link that this body makes.
+abbrev pub IdleCodeTies : Type 0
+IdleCodeTies = HasEachTie [] [] idle × (HasEachTie [] two_joined idle → ⊥)

@@ -14,10 +14,11 @@ use Rattle.lmn_instr_code.specs.Running as heap
 use Rattle.lmn_instr_code.specs.Running.{HeadRegisters}
 use Rattle.lmn_solid_bodies.specs.declared.items.BodyItem.{BodyItem}
 use Rattle.lmn_solid_bodies.specs.Fired.{images_of}
+use Rattle.lmn_solid_bodies.specs.Rules.{PartAtoms}
 use Rattle.lmn_solid_bodies.specs.Running.{Registers}
 use Rattle.lmn_solid_bodies.specs.Within.{FiresFlat}
 use Rattle.lmn_verify_solids.specs.Firing.{Fires}
-use Rattle.lmn_verify_solids.specs.Flats.{IsFlatCode}
+use Rattle.lmn_verify_solids.specs.Flats.{HasEachTie, IsFlatCode}
 use Rattle.lmn_verify_solids.specs.Graphs.{Graph, IsGraphOf}
 use Rattle.lmn_verify_solids.specs.Heads.{IsFirstSuccess, Succeeds}
 use Rattle.lmn_verify_solids.specs.Heaps.{graph_of}
@@ -56,6 +57,11 @@ abbrev pub FlatRulesFire : Type 0
 FlatRulesFire = (head : List HeadItem) (body : List BodyItem) (code : Code) → IsFlatCode head body code → (h t : Heap) → Valid h → Valid t → (r : Registers) →
     ((k : ℕ) → k < length (atoms_of head) → IsInPlace h (r.head.images.atom k)) → (f : FiresFlat head body r h t) →
     Fires code (graph_of h) r (images_of r head ++ f.parts) (graph_of t)
+
+-- The other way, where the code ties each end of a link and drops nothing else.
+abbrev pub CommitsAreFirings : Type 0
+CommitsAreFirings = (head : List HeadItem) (body : List BodyItem) (code : Code) → IsFlatCode head body code → HasEachTie head body code → (h t : Heap) → Valid h → Valid t →
+    (r : Registers) (parts : List ℕ) → PartAtoms h head r.head.images parts → Fires code (graph_of h) r (images_of r head ++ parts) (graph_of t) → FiresFlat head body r h t
 
 -- Which list of the atoms that the head takes it is doesn't matter.
 abbrev pub TakenByMembers : Type 0
