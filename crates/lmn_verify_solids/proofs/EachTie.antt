@@ -1,7 +1,6 @@
 -- The code that changes nothing ties each end of the rule without items.
-use Rattle.std.proofs.Common.{ℕ, zero, suc, ◌≡◌, ◌⊎◌, List, [], ◌∷◌, refl, ap, subst, inl, inr, arith}
+use Rattle.std.proofs.Common.{ℕ, ◌≡◌, ◌⊎◌, [], ◌∷◌, refl, ap, subst, inl, inr, arith}
 use Rattle.lmn_congruence_splice.specs.Splice.{IsOneOf}
-use Rattle.lmn_instr_code.specs.declared.instr.AtomPort.{AtomPort}
 use Rattle.lmn_instr_code.specs.declared.instr.Instr.{Instr}
 use Rattle.lmn_instr_code.specs.declared.instr.Instr.TheVariants.{DropCells, NewLink, Proceed}
 use Rattle.lmn_instr_code.specs.declared.instr.NewPort.{NewPort}

@@ -1,5 +1,5 @@
 -- Where a flat rule fires from heap to heap, its code is committed from graph to graph.
-use Rattle.std.proofs.Common.{ℕ, suc, ◌≡◌, ◌≢◌, ◌∙◌, ◌<◌, ◌+◌, ◌⊎◌, Bool, true, false, List, [], ◌∷◌, ◌++◌, Option, Some, None, IsSome, length, map, refl, sym, ap, subst, inl, inr, arith}
+use Rattle.std.proofs.Common.{ℕ, suc, ◌≡◌, ◌≢◌, ◌∙◌, ◌<◌, ◌+◌, Bool, true, false, List, [], ◌∷◌, ◌++◌, Option, Some, None, IsSome, length, map, refl, sym, ap, subst, inl, inr, arith}
 use Rattle.std.specs.Prelude.{if◌then◌else◌, slice_get}
 use Rattle.std.specs.List.{AllByRecursion}
 use Rattle.std.specs.Option.{option_and_then, option_map}
@@ -8,7 +8,7 @@ use Rattle.lmn_base.specs.declared.functor.Functor.{Functor}
 use Rattle.lmn_base.specs.Graphs.{Port}
 use Rattle.lmn_base.specs.Lists.{In}
 use Rattle.lmn_base.proofs.Lists.{in_either}
-use Rattle.lmn_store_heap.specs.Heap.{Heap, HeapAtom, HeapMem, IsAtom, IsInPlace, arity_of, atoms_in, functor_of, home_by, home_of, link_of, mems_in, parent_of, partners_of, rules_in, top}
+use Rattle.lmn_store_heap.specs.Heap.{Heap, HeapAtom, HeapMem, IsAtom, IsInPlace, arity_of, atoms_in, functor_of, home_by, link_of, mems_in, parent_of, partners_of, rules_in, top}
 use Rattle.lmn_store_heap.specs.Lists.{Distinct, without_all}
 use Rattle.lmn_store_heap.specs.Sound.{Valid}
 use Rattle.lmn_store_heap.proofs.Common.{linked_atom}
@@ -19,27 +19,24 @@ use Rattle.lmn_ground_parts.specs.Walks.{FoundInside, Net, net as net_of}
 use Rattle.lmn_congruence_splice.specs.Classes.{rising}
 use Rattle.lmn_congruence_splice.specs.Splice.{IsOneOf, of_rule, of_solid}
 use Rattle.lmn_solid_heads.specs.declared.items.HeadItem.{HeadItem}
-use Rattle.lmn_solid_heads.specs.Embeddings.{HasMembrane}
 use Rattle.lmn_solid_heads.specs.Heads.{HeadMembrane, atoms_of, membranes_of}
 use Rattle.lmn_instr_code.specs.declared.instr.AtomPort.{AtomPort}
 use Rattle.lmn_instr_code.specs.declared.instr.Code.{Code}
-use Rattle.lmn_instr_code.specs.declared.instr.NewPort.{NewPort}
 use Rattle.lmn_instr_code.specs.declared.instr.Instr.{Instr}
 use Rattle.lmn_instr_code.specs.declared.instr.Instr.TheVariants.{RemoveAtom, RemovePart, RemoveMem, DropCells, NewLink, Relink, Unify, Proceed}
-use Rattle.lmn_instr_code.specs.Running.{membranes_set}
 use Rattle.lmn_solid_bodies.specs.declared.items.BodyItem.{BodyItem}
 use Rattle.lmn_solid_bodies.specs.declared.items.BodyItem.TheVariants.{Atom, Connector, Copy, Bound, Membrane, Rest, Rule, Rules}
 use Rattle.lmn_solid_bodies.specs.Added as flat
 use Rattle.lmn_solid_bodies.specs.Added.{if_inside}
 use Rattle.lmn_solid_bodies.specs.Code.{making}
 use Rattle.lmn_solid_bodies.specs.Fired.{images_of}
-use Rattle.lmn_solid_bodies.specs.Items.{new_ports, old_ports}
+use Rattle.lmn_solid_bodies.specs.Items.{old_ports}
 use Rattle.lmn_solid_bodies.specs.Made as made
 use Rattle.lmn_solid_bodies.specs.Made.{copies_of, made_of}
 use Rattle.lmn_solid_bodies.specs.Names.{Names}
 use Rattle.lmn_solid_bodies.specs.RestCopies.{AreAsLong, AreRestsCopied, RestCopies, RestCopy, copied_atom, copied_into, copied_membrane, given, later, rest_membranes}
-use Rattle.lmn_solid_bodies.specs.Running.{Registers, integer_functor, new_port, old_port}
-use Rattle.lmn_solid_bodies.specs.Within.{FiresFlat, FiresWithin, IsCopyIn, dropped_atoms, dropped_mems, left_of_closed}
+use Rattle.lmn_solid_bodies.specs.Running.{Registers, integer_functor, old_port}
+use Rattle.lmn_solid_bodies.specs.Within.{FiresFlat, FiresWithin, IsCopyIn, dropped_mems, left_of_closed}
 use Rattle.lmn_verify_solids.specs.Graphs.{Graph, IsPort, arity_by, net}
 use Rattle.lmn_verify_solids.specs.Heaps.{graph_of}
 use Rattle.lmn_verify_solids.specs.Firing.{AreCopied, EachRest, Fires, IsPartCopied, Makes, added_atoms, added_membranes, added_rules, dropped, found, new_atoms, new_membranes, removed}

@@ -1,5 +1,5 @@
 -- Each graph of a solid is that of a heap between commits.
-use Rattle.std.proofs.Common.{ℕ, zero, suc, ◌≡◌, ◌≢◌, ◌∙◌, ◌<◌, ◌+◌, ◌⊎◌, ◌↔◌, ◌==◌, Bool, true, false, List, [], ◌∷◌, ◌++◌, Option, Some, None, IsSome, if◌then◌else◌, length, replicate, refl, sym, ap, subst, inl, inr, arith}
+use Rattle.std.proofs.Common.{ℕ, zero, suc, ◌≡◌, ◌≢◌, ◌∙◌, ◌<◌, ◌+◌, ◌⊎◌, ◌==◌, Bool, true, false, List, [], ◌∷◌, ◌++◌, Option, Some, None, IsSome, if◌then◌else◌, length, replicate, refl, sym, ap, subst, inl, inr, arith}
 use Rattle.std.specs.Prelude.{flat_map, slice_index_or}
 use Rattle.std.specs.List.{AllByRecursion}
 use Rattle.std.specs.Option.{option_and_then, option_map}
@@ -10,17 +10,17 @@ use Rattle.lmn_base.specs.declared.solid.Region.{Region}
 use Rattle.lmn_base.specs.declared.solid.Region.TheViews.{roll-Region}
 use Rattle.lmn_base.specs.declared.solid.Solid.{Solid}
 use Rattle.lmn_base.specs.declared.solid.SolidAtom.{SolidAtom}
-use Rattle.lmn_base.specs.Graphs.{AtomMap, Port}
+use Rattle.lmn_base.specs.Graphs.{Port}
 use Rattle.lmn_base.specs.Lists.{In}
 use Rattle.lmn_base.proofs.Lists.{in_either}
 use Rattle.lmn_base.proofs.Numbers.{zeros_at}
-use Rattle.lmn_store_heap.specs.Heap.{Heap, HeapAtom, HeapMem, IsAtom, IsInPlace, IsMem, Place, Unmarked, arity_of, atoms_by, atoms_in, functor_of, gone, home_by, home_of, link_of, marks_of, mem_place_of, mems_by, mems_in, parent_of, partners_of, place_of, rules_by, rules_in, top, waiting, within}
+use Rattle.lmn_store_heap.specs.Heap.{Heap, HeapAtom, HeapMem, IsAtom, IsMem, Place, Unmarked, arity_of, atoms_by, atoms_in, functor_of, gone, home_by, home_of, link_of, marks_of, mem_place_of, mems_by, mems_in, parent_of, partners_of, place_of, rules_by, rules_in, top, waiting, within}
 use Rattle.lmn_store_heap.specs.Lists.{Distinct}
-use Rattle.lmn_store_heap.specs.Solid.{HasSolid, IsNaming, regions_of}
+use Rattle.lmn_store_heap.specs.Solid.{HasSolid, regions_of}
 use Rattle.lmn_store_heap.specs.Sound.{Forest, Forms, IsTree, Listed, Paired, Shaped, Valid, bare, flat, mem}
 use Rattle.lmn_store_heap.proofs.Common.{decide_in, place_home}
 use Rattle.lmn_store_heap.proofs.Heights.{parent_place}
-use Rattle.lmn_store_heap.proofs.ListLemmas.{apart as apart_in, distinct_left, distinct_right, each_in, in_left, in_right}
+use Rattle.lmn_store_heap.proofs.ListLemmas.{distinct_left, distinct_right, each_in, in_left, in_right}
 use Rattle.lmn_store_heap.proofs.Listing.{home_is}
 use Rattle.lmn_store_heap.proofs.Trees.{parent_by}
 use Rattle.lmn_verify_solids.specs.Graphs.{Graph, IsGraphOf, IsPort, Stand, atom_with, none_stands, one_stands}

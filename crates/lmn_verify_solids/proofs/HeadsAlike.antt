@@ -1,6 +1,5 @@
 -- What head code does on a heap it does on the graph of the heap.
-use Rattle.std.proofs.Common.{ℕ, zero, suc, ◌≡◌, ◌∙◌, List, [], ◌∷◌, refl, sym, ap, subst, inl, inr}
-use Rattle.lmn_base.specs.Graphs.{Port}
+use Rattle.std.proofs.Common.{ℕ, zero, suc, ◌≡◌, List, [], ◌∷◌, refl, sym, ap, subst, inl, inr}
 use Rattle.lmn_store_heap.specs.Conditions.{Above as AboveInHeap}
 use Rattle.lmn_store_heap.specs.Heap.{Heap, atoms_in, mems_in}
 use Rattle.lmn_solid_heads.specs.Embeddings.{ListNotAfter, StandsWithin as WithinInHeap, index_of}

@@ -1,7 +1,7 @@
 -- The graph of a heap between commits is one of its solid.
-use Rattle.std.proofs.Common.{ℕ, suc, ◌≡◌, ◌≢◌, ◌∙◌, ◌<◌, ◌+◌, ◌⊎◌, ◌↔◌, List, [], ◌∷◌, ◌++◌, Option, Some, None, IsSome, length, map, refl, sym, ap, subst, inl, inr, arith}
+use Rattle.std.proofs.Common.{ℕ, suc, ◌≡◌, ◌≢◌, ◌∙◌, ◌<◌, ◌+◌, ◌⊎◌, List, [], ◌∷◌, ◌++◌, Option, Some, None, IsSome, length, map, refl, sym, ap, subst, inl, inr, arith}
 use Rattle.std.specs.Prelude.{flat_map, sum}
-use Rattle.std.specs.Option.{option_and_then, option_map}
+use Rattle.std.specs.Option.{option_map}
 use Rattle.std.proofs.lemmas.List.{length-map}
 use Rattle.lmn_base.specs.declared.functor.Functor.{Functor}
 use Rattle.lmn_base.specs.declared.solid.Region.{Region}
@@ -13,7 +13,7 @@ use Rattle.lmn_base.specs.Graphs.{Port}
 use Rattle.lmn_base.specs.Lists.{In}
 use Rattle.lmn_base.specs.Solids.{item_count, items_step}
 use Rattle.lmn_base.proofs.Lists.{head_is, sum_cons, tail_is, weigh, weigh_append}
-use Rattle.lmn_store_heap.specs.Heap.{Heap, HeapAtom, HeapMem, IsAtom, IsMem, arity_of, atoms_by, atoms_in, functor_of, home_by, home_of, link_of, mems_by, mems_in, parent_of, place_of, rules_by, rules_in, within}
+use Rattle.lmn_store_heap.specs.Heap.{Heap, HeapAtom, HeapMem, IsAtom, IsMem, arity_of, atoms_by, atoms_in, functor_of, link_of, mems_by, mems_in, rules_by, rules_in}
 use Rattle.lmn_store_heap.specs.Solid.{HasSolid, regions_of, solid_atom_at, solid_atoms_at}
 use Rattle.lmn_store_heap.specs.Sound.{Forest, Forms, IsTree, Valid, bare, flat, item_count_in, mem}
 use Rattle.lmn_store_heap.proofs.Calls.{one_tree}

@@ -2,16 +2,12 @@
 use Rattle.std.proofs.Common.{ℕ, ◌≡◌, ◌≢◌, ◌∙◌, ◌↔◌, ◌==◌, ◌++◌, Bool, true, false, List, [], ◌∷◌, refl, sym, ap, subst, inl, inr}
 use Rattle.std.specs.Prelude.{if◌then◌else◌}
 use Rattle.std.proofs.lemmas.Bool.{eq-eqb, eqb-true}
-use Rattle.lmn_base.specs.declared.solid.Solid.{Solid}
 use Rattle.lmn_base.specs.Lists.{In}
 use Rattle.lmn_store_heap.specs.Lists.{Distinct, without, without_all}
 use Rattle.lmn_store_heap.proofs.Common.{decide_in, in_of_without}
 use Rattle.lmn_store_heap.proofs.Groves.{without_absent}
 use Rattle.lmn_store_heap.proofs.ListLemmas.{each_in, withouts_nothing}
-use Rattle.lmn_instr_code.specs.declared.instr.Code.{Code}
-use Rattle.lmn_solid_bodies.specs.Running.{Registers}
-use Rattle.lmn_verify_solids.specs.Firing.{Fires, added_atoms}
-use Rattle.lmn_verify_solids.specs.Graphs.{Graph, IsGraphOf}
+use Rattle.lmn_verify_solids.specs.Firing.{added_atoms}
 use Rattle.lmn_verify_solids.specs.Laws.{TakenByMembers}
 
 -- a number that isn't taken stays

@@ -1,5 +1,5 @@
 -- Graphs of small solids, and small codes on them.
-use Rattle.std.proofs.Common.{ℕ, zero, suc, ◌≡◌, ◌≢◌, ◌∙◌, ◌<◌, ◌+◌, ◌⊎◌, List, [], ◌∷◌, ◌++◌, Option, Some, None, IsSome, refl, sym, ap, subst, inl, inr, arith}
+use Rattle.std.proofs.Common.{ℕ, zero, suc, ◌≡◌, ◌<◌, ◌+◌, List, [], ◌∷◌, ◌++◌, Option, Some, None, IsSome, refl, sym, ap, subst, inl, inr, arith}
 use Rattle.std.specs.Prelude.{flat_map, slice_get}
 use Rattle.std.proofs.lemmas.Option.{slice_get_past}
 use Rattle.lmn_base.specs.declared.functor.Functor.{Functor}
@@ -20,16 +20,14 @@ use Rattle.lmn_store_heap.proofs.ExampleProofs.{across_has_its_solid, across_is_
 use Rattle.lmn_instr_code.specs.declared.instr.Code.{Code}
 use Rattle.lmn_instr_code.specs.declared.instr.Instr.{Instr}
 use Rattle.lmn_instr_code.specs.declared.instr.Instr.TheVariants.{NewMem}
-use Rattle.lmn_instr_code.specs.Running.{HeadRegisters}
 use Rattle.lmn_solid_heads.specs.Heads.{HeadMembrane}
 use Rattle.lmn_solid_bodies.specs.RestCopies.{RestCopies}
-use Rattle.lmn_verify_solids.specs.Examples.{GraphExamples, IdleCodeIsFlat, TurnExamples, idle, in_root, one_atom, ruled, ruled_solid, taking, zeros}
+use Rattle.lmn_verify_solids.specs.Examples.{GraphExamples, IdleCodeIsFlat, TurnExamples, idle, ruled, ruled_solid, taking, zeros}
 use Rattle.lmn_verify_solids.specs.Firing.{Fires, IsTaken, LeavesRests}
 use Rattle.lmn_verify_solids.specs.Flats.{IsBehind, IsFlatCode, IsRemoval}
 use Rattle.lmn_verify_solids.specs.Graphs.{IsGraphOf, none_stands, one_stands}
-use Rattle.lmn_verify_solids.specs.Heads.{Succeeds}
 use Rattle.lmn_verify_solids.specs.Heaps.{graph_of}
-use Rattle.lmn_verify_solids.specs.Turns.{Choice, CodeNext, NoneSucceeds, SomeSucceeds}
+use Rattle.lmn_verify_solids.specs.Turns.{Choice}
 use Rattle.lmn_verify_solids.proofs.HeapsAreGraphs.{graph_is}
 
 -- ---- graphs
