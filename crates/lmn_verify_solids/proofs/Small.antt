@@ -22,7 +22,7 @@ use Rattle.lmn_instr_code.specs.declared.instr.Instr.{Instr}
 use Rattle.lmn_instr_code.specs.declared.instr.Instr.TheVariants.{NewMem}
 use Rattle.lmn_solid_heads.specs.Heads.{HeadMembrane}
 use Rattle.lmn_solid_bodies.specs.RestCopies.{RestCopies}
-use Rattle.lmn_verify_solids.specs.Examples.{GraphExamples, IdleCodeIsFlat, TurnExamples, idle, ruled, ruled_solid, taking, zeros}
+use Rattle.lmn_verify_solids.specs.Examples.{GraphExamples, IdleCodeIsFlat, TurnExamples, idle, ruled, ruled_solid, zeros}
 use Rattle.lmn_verify_solids.specs.Firing.{Fires, IsTaken, LeavesRests}
 use Rattle.lmn_verify_solids.specs.Flats.{IsBehind, IsFlatCode, IsRemoval}
 use Rattle.lmn_verify_solids.specs.Graphs.{IsGraphOf, none_stands, one_stands}
