@@ -29,3 +29,6 @@ pub mod Integers
 mod FlatRules
 mod Failing
 mod Quiet
+mod VerifiedIsFlat
+mod RestsBack
+mod RestsThere

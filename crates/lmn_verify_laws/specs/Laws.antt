@@ -1,5 +1,5 @@
 -- What verified code can do.
-use Rattle.std.specs.Prelude.{ℕ, ◌≡◌, ◌<◌, ◌+◌, List, Some, length, slice_get}
+use Rattle.std.specs.Prelude.{ℕ, ◌≡◌, ◌<◌, ◌+◌, List, ◌++◌, Some, length, slice_get}
 use Rattle.std.specs.List.{AllByRecursion}
 use Rattle.lmn_store_heap.specs.Heap.{Heap, IsMemInPlace, Unmarked}
 use Rattle.lmn_store_heap.specs.Sound.{Valid}
@@ -10,7 +10,8 @@ use Rattle.lmn_instr_code.specs.declared.instr.Instr.TheVariants.{CopyCells}
 use Rattle.lmn_instr_code.specs.Running.{HeadRegisters, IsFirstSuccess, Succeeds, membranes_set}
 use Rattle.lmn_ground_parts.specs.Rests.{NoneLeaves}
 use Rattle.lmn_solid_bodies.specs.declared.items.BodyItem.TheVariants.{Bound}
-use Rattle.lmn_solid_bodies.specs.Rules.{NestedRule}
+use Rattle.lmn_solid_bodies.specs.Fired.{images_of}
+use Rattle.lmn_solid_bodies.specs.Rules.{NestedRule, PartAtoms}
 use Rattle.lmn_solid_bodies.specs.Running.{Registers}
 use Rattle.lmn_solid_bodies.specs.Within.{FiresFlat, HoldsRests}
 use Rattle.lmn_machine_commit.specs.Waking.{Commits}
@@ -21,6 +22,9 @@ use Rattle.lmn_congruence_splice.specs.Splice.{IsOneOf}
 use Rattle.lmn_verify_code.specs.Verified.{IsVerified}
 use Rattle.lmn_schedule_strategy.specs.Quieting.{AreQuiet, IsQuietCode}
 use Rattle.lmn_schedule_strategy.specs.Turns.{AreRunnable, HoldsRestsOf, IsReadyCode, IsRestOf, IsRunnable, Loads}
+use Rattle.lmn_verify_solids.specs.Firing.{LeavesRests}
+use Rattle.lmn_verify_solids.specs.Flats.{HasEachTie, IsFlatCode}
+use Rattle.lmn_verify_solids.specs.Heaps.{graph_of}
 use Rattle.lmn_verify_laws.specs.Flat.{flat_head, flat_body, link_count}
 
 -- Verified code can be run by turns: whatever rule it is of, it leaves a valid heap where it finds one.
@@ -60,6 +64,10 @@ VerifiedHoldsRests = (code : Code) (k : ℕ) → IsVerified code k → (h : Heap
 abbrev pub VerifiedIsRule : Type 0
 VerifiedIsRule = (code : Code) (k : ℕ) → IsVerified code k → NestedRule (flat_head code) (flat_body code) (link_count code)
 
+-- It is the code of that rule, and ties each end of a link.
+abbrev pub VerifiedIsFlat : Type 0
+VerifiedIsFlat = (code : Code) (k : ℕ) → IsVerified code k → IsFlatCode (flat_head code) (flat_body code) code × HasEachTie (flat_head code) (flat_body code) code
+
 -- Where its body is committed at the first success of its head, its flat rule fires, and what it leaves is valid. That is the heap
 -- after but for marks of membranes, of which no rule speaks.
 abbrev pub VerifiedFires : Type 0
@@ -93,3 +101,12 @@ VerifiedSetsFlat = (code : Code) (k : ℕ) → IsVerified code k → SetsFlat co
 abbrev pub IntegersAreOne : Type 0
 IntegersAreOne = (code : List Instr) → HeadInOrder 0 1 0 0 code → (h : Heap) (m : ℕ) (r s : HeadRegisters) → Succeeds h code m r → Succeeds h code m s →
     ((g : ℕ) → g < parts_set code → r.images.part g ≡ s.images.part g) → (v : ℕ) → v < integers_set code → r.integer v ≡ s.integer v
+
+-- Registers that hold what a head leaves in a graph hold the rests of the heap.
+abbrev pub RestsBack : Type 0
+RestsBack = (h : Heap) → Valid h → (head : List Instr) (r : Registers) (taken : List ℕ) → LeavesRests (graph_of h) head r taken → HoldsRestsOf h head r
+
+-- Registers that hold the rests of a heap hold what the head of verified code leaves in its graph, where it takes these atoms.
+abbrev pub RestsThere : Type 0
+RestsThere = (code : Code) (k : ℕ) → IsVerified code k → (h : Heap) → Valid h → (r : Registers) → HoldsRestsOf h code.head r →
+    (parts : List ℕ) → PartAtoms h (flat_head code) r.head.images parts → LeavesRests (graph_of h) code.head r (images_of r (flat_head code) ++ parts)

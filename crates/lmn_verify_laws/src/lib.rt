@@ -2,7 +2,7 @@
 #![tactic(auto)]
 
 ghost use Rattle.lmn_verify_laws.specs.FlatExamples.{FlatExamples};
-ghost use Rattle.lmn_verify_laws.specs.Laws.{CommitsStayUnmarked, IntegersAreOne, VerifiedAreQuiet, VerifiedAreRunnable, VerifiedCopiesClosed, VerifiedFires, VerifiedHeadsLie, VerifiedHoldsRests, VerifiedIsInOrder, VerifiedIsQuiet, VerifiedIsRule, VerifiedIsRunnable, VerifiedSetsFlat};
+ghost use Rattle.lmn_verify_laws.specs.Laws.{CommitsStayUnmarked, IntegersAreOne, RestsBack, RestsThere, VerifiedAreQuiet, VerifiedAreRunnable, VerifiedCopiesClosed, VerifiedFires, VerifiedHeadsLie, VerifiedHoldsRests, VerifiedIsFlat, VerifiedIsInOrder, VerifiedIsQuiet, VerifiedIsRule, VerifiedIsRunnable, VerifiedSetsFlat};
 
 use lmn_machine_commit::bodies_can_be_committed;
 use lmn_machine_laws::bodies_cost_what_is_told;
@@ -28,6 +28,11 @@ pub fn verified_rests()
 /// The flat head and body of verified code are a rule: each link stands twice, and each item stands where it may.
 pub fn verified_is_rule()
     ensures { VerifiedIsRule }
+{}
+
+/// Verified code takes out what that flat head holds, makes what the flat body makes, and ties each end of a link of the rule.
+pub fn verified_is_flat()
+    ensures { VerifiedIsFlat }
 {}
 
 /// Verified code can be run by turns, whatever rule it is of; so codes that are verified with their number are such as turns
@@ -71,4 +76,14 @@ pub fn integers_are_one()
 /// The flat rules of small codes: with UNIFY, a membrane that is counted, one whose rest is moved, and typed contexts.
 pub fn flat_examples()
     ensures { FlatExamples }
+{}
+
+/// Registers that hold what a head leaves in the graph of a heap hold the rests of the heap.
+pub fn rests_are_held()
+    ensures { RestsBack }
+{}
+
+/// Registers that hold the rests of a heap hold what the head of verified code leaves in its graph.
+pub fn rests_are_left()
+    ensures { RestsThere }
 {}
