@@ -105,9 +105,11 @@ module _ (code : Code) (k : ℕ) (is : IsVerified code k) (h : Heap) (v : Valid 
       let rest = (holds m l).2 in
       let link : ℕ → ℕ → ℕ = λ a i. 0 in
       let forms = rest.forms in
-      let x = r.head.images.membrane m in
-      (regions_of h link rest.forest, subst (λ ms. Stand (graph_of h) link ms (r.left_membranes m) (regions_of h link rest.forest)) (sym (others x))
-      (subst (λ all. Stand (graph_of h) link (keep other (mems_in h x)) all (regions_of h link rest.forest)) (sym rest.preorder) (stands h link rest.forest (keep other (mems_in h x)) forms)))
+      let x = r.head.images.membrane m in (
+        regions_of h link rest.forest,
+        subst (λ ms. Stand (graph_of h) link ms (r.left_membranes m) (regions_of h link rest.forest)) (sym (others x))
+            (subst (λ all. Stand (graph_of h) link (keep other (mems_in h x)) all (regions_of h link rest.forest)) (sym rest.preorder) (stands h link rest.forest (keep other (mems_in h x)) forms)),
+      )
 
   once : (m : ℕ) → m < 1 + membranes_set code.head → Distinct (rest_membranes r m)
   once m l =
