@@ -1,0 +1,11 @@
+pub mod SameBut
+pub mod Matches
+pub mod Costs
+pub mod Carried
+pub mod Chosen
+pub mod Gathered
+pub mod OnGraphs
+pub mod OnHeaps
+pub mod Turns
+pub mod OneChoice
+pub mod OneNext
