@@ -1,5 +1,6 @@
 //! Instructions through `lmn_instr`, listings and verified codes through `lmn_verify`.
-ghost use Rattle.std.specs.Prelude.{◌≡◌, ◌≤◌, ◌<◌, ◌^◌, length, Decides, IfOk, IfSome};
+ghost use Rattle.std.specs.Prelude.{◌≡◌, ◌≤◌, ◌<◌, ◌^◌, length, slice_get, Decides, IfOk, IfSome};
+ghost use Rattle.std.specs.Option.{option_copied};
 ghost use Rattle.std.specs.List.{AllByRecursion};
 ghost use Rattle.lmn_io.specs.Writing.{WritesText};
 ghost use Rattle.lmn_instr.specs.Labels.{HasLabel};
@@ -30,14 +31,18 @@ pub fn listed<O: Sink>(code: &Code, number: u32, names: &Names, sink: &mut O) ->
     list(code, number, names, sink)
 }
 
-/// Whether an instruction ends a body.
-pub fn is_last(instr: &Instr) -> bool {
-    matches!(instr, Instr::Proceed)
+/// The first instruction of a body, if it has one.
+pub fn first_instruction(code: &Code) -> Option<&Instr>
+    ensures { option_copied result ≡ slice_get code.now.body 0 }
+{
+    code.body.as_slice().first()
 }
 
 /// Two ports as instructions have them: of an atom's register, and of any that a body joins.
-pub fn ports(old: AtomPort, new: NewPort) -> (AtomPort, NewPort) {
-    (old, new)
+pub fn ports(atom: AtomPort, made: NewPort) -> (AtomPort, NewPort)
+    ensures { result ≡ (atom, made) }
+{
+    (atom, made)
 }
 
 /// Whether the first code of a table is verified.
