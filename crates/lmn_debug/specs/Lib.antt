@@ -3,6 +3,7 @@ pub mod Breaks
 pub mod Courses
 pub mod Sessions
 pub mod Turning
+pub mod Beginnings
 pub mod Laws
 pub mod Examples
 pub mod Orders

@@ -6,6 +6,7 @@ ghost use Rattle.lmn_schedule.specs.Held.{AreNames, CanBeLoaded, EngineCanTurn, 
 ghost use Rattle.lmn_schedule.specs.Turning.{Gives};
 ghost use Rattle.lmn_debug_script.specs.Asked.{AreAskedWith, IsAskedWith};
 ghost use Rattle.lmn_store_web.specs.WebHeaps.{heap_of};
+ghost use Rattle.lmn_debug.specs.Beginnings.{CanGoOn, IsEngineOf};
 ghost use Rattle.lmn_debug.specs.Breaks.{StandsSo};
 ghost use Rattle.lmn_debug.specs.Courses.{course};
 ghost use Rattle.lmn_debug.specs.Sessions.{StandsAt};
@@ -86,8 +87,8 @@ fn carry_out<'p, F: Fn(u64, u64) -> u64 + Copy + Drop, O: Sink, L: Ledger>(
 ) -> Result<(), DebugFault>
     requires plain { CanBeLoaded beginning.now.plain.now beginning.now.plans.now }
     requires chooser { AnswersBelow F.pre F.post beginning.now.choose }
-    requires same { (session.old.engine.plain.now ≡ beginning.now.plain.now) × (session.old.engine.chooser.f ≡ beginning.now.choose) × (session.old.engine.size ≡ beginning.now.size) }
-    requires run { EngineCanTurn (heap_of session.old.engine.machine.store) beginning.now.plain.now.rules session.old.engine.codes beginning.now.size }
+    requires same { IsEngineOf beginning.now session.old.engine }
+    requires run { CanGoOn beginning.now session.old.engine }
     requires commits { session.old.engine.commits ≡ 0 }
     requires orders { AreAskedWith names.now orders.now }
     requires few { length orders.now < 2 ^ 32 }
@@ -115,14 +116,14 @@ fn obey<'p, F: Fn(u64, u64) -> u64 + Copy + Drop, O: Sink, L: Ledger>(
 ) -> Result<(), DebugFault>
     requires plain { CanBeLoaded beginning.now.plain.now beginning.now.plans.now }
     requires chooser { AnswersBelow F.pre F.post beginning.now.choose }
-    requires same { (session.old.engine.plain.now ≡ beginning.now.plain.now) × (session.old.engine.chooser.f ≡ beginning.now.choose) × (session.old.engine.size ≡ beginning.now.size) }
-    requires run { EngineCanTurn (heap_of session.old.engine.machine.store) beginning.now.plain.now.rules session.old.engine.codes beginning.now.size }
+    requires same { IsEngineOf beginning.now session.old.engine }
+    requires run { CanGoOn beginning.now session.old.engine }
     requires commits { session.old.engine.commits < 2 ^ 62 }
     requires order { IsAskedWith names.now order }
     ensures obeyed { CarriesOut F.post beginning.now.choose names.now beginning.now.plain.now beginning.now.size order session.old.engine.commits (heap_of session.old.engine.machine.store) session.new.engine.commits (heap_of session.new.engine.machine.store) (O.told out.old) (O.told out.new) result }
     ensures counts { CountsObeyed result (O.faults out.old) (O.faults out.new) }
-    ensures same { OnOk result ((session.new.engine.plain.now ≡ beginning.now.plain.now) × (session.new.engine.chooser.f ≡ beginning.now.choose) × (session.new.engine.size ≡ beginning.now.size)) }
-    ensures again { OnOk result (EngineCanTurn (heap_of session.new.engine.machine.store) beginning.now.plain.now.rules session.new.engine.codes beginning.now.size) }
+    ensures same { OnOk result (IsEngineOf beginning.now session.new.engine) }
+    ensures again { OnOk result (CanGoOn beginning.now session.new.engine) }
     ensures most { OnOk result (session.new.engine.commits ≤ session.old.engine.commits + most_asked) }
 {
     match order {
@@ -146,14 +147,14 @@ fn step<'p, F: Fn(u64, u64) -> u64 + Copy + Drop, O: Sink, L: Ledger>(
     steps: &mut Steps<L>,
 ) -> Result<(), DebugFault>
     requires chooser { AnswersBelow F.pre F.post beginning.now.choose }
-    requires same { (session.old.engine.plain.now ≡ beginning.now.plain.now) × (session.old.engine.chooser.f ≡ beginning.now.choose) × (session.old.engine.size ≡ beginning.now.size) }
-    requires run { EngineCanTurn (heap_of session.old.engine.machine.store) beginning.now.plain.now.rules session.old.engine.codes beginning.now.size }
+    requires same { IsEngineOf beginning.now session.old.engine }
+    requires run { CanGoOn beginning.now session.old.engine }
     requires commits { session.old.engine.commits < 2 ^ 62 }
     requires order { IsAskedWith names.now (Order.Step n) }
     ensures obeyed { CarriesOut F.post beginning.now.choose names.now beginning.now.plain.now beginning.now.size (Order.Step n) session.old.engine.commits (heap_of session.old.engine.machine.store) session.new.engine.commits (heap_of session.new.engine.machine.store) (O.told out.old) (O.told out.new) result }
     ensures counts { CountsObeyed result (O.faults out.old) (O.faults out.new) }
-    ensures same { OnOk result ((session.new.engine.plain.now ≡ beginning.now.plain.now) × (session.new.engine.chooser.f ≡ beginning.now.choose) × (session.new.engine.size ≡ beginning.now.size)) }
-    ensures again { OnOk result (EngineCanTurn (heap_of session.new.engine.machine.store) beginning.now.plain.now.rules session.new.engine.codes beginning.now.size) }
+    ensures same { OnOk result (IsEngineOf beginning.now session.new.engine) }
+    ensures again { OnOk result (CanGoOn beginning.now session.new.engine) }
     ensures most { OnOk result (session.new.engine.commits ≤ session.old.engine.commits + most_asked) }
 {
     let stop = session.step(alloc, n, steps);
@@ -172,13 +173,13 @@ fn back<'p, F: Fn(u64, u64) -> u64 + Copy + Drop, O: Sink, L: Ledger>(
 ) -> Result<(), DebugFault>
     requires plain { CanBeLoaded beginning.now.plain.now beginning.now.plans.now }
     requires chooser { AnswersBelow F.pre F.post beginning.now.choose }
-    requires same { (session.old.engine.plain.now ≡ beginning.now.plain.now) × (session.old.engine.chooser.f ≡ beginning.now.choose) × (session.old.engine.size ≡ beginning.now.size) }
-    requires run { EngineCanTurn (heap_of session.old.engine.machine.store) beginning.now.plain.now.rules session.old.engine.codes beginning.now.size }
+    requires same { IsEngineOf beginning.now session.old.engine }
+    requires run { CanGoOn beginning.now session.old.engine }
     requires commits { session.old.engine.commits < 2 ^ 62 }
     ensures obeyed { CarriesOut F.post beginning.now.choose names.now beginning.now.plain.now beginning.now.size (Order.Back n) session.old.engine.commits (heap_of session.old.engine.machine.store) session.new.engine.commits (heap_of session.new.engine.machine.store) (O.told out.old) (O.told out.new) result }
     ensures counts { CountsObeyed result (O.faults out.old) (O.faults out.new) }
-    ensures same { OnOk result ((session.new.engine.plain.now ≡ beginning.now.plain.now) × (session.new.engine.chooser.f ≡ beginning.now.choose) × (session.new.engine.size ≡ beginning.now.size)) }
-    ensures again { OnOk result (EngineCanTurn (heap_of session.new.engine.machine.store) beginning.now.plain.now.rules session.new.engine.codes beginning.now.size) }
+    ensures same { OnOk result (IsEngineOf beginning.now session.new.engine) }
+    ensures again { OnOk result (CanGoOn beginning.now session.new.engine) }
     ensures most { OnOk result (session.new.engine.commits ≤ session.old.engine.commits + most_asked) }
 {
     match go_back(alloc, session, beginning, n, steps) {
@@ -197,15 +198,15 @@ fn go_back<'p, F: Fn(u64, u64) -> u64 + Copy + Drop, L: Ledger>(
 ) -> Result<(), NoMemory>
     requires plain { CanBeLoaded beginning.now.plain.now beginning.now.plans.now }
     requires chooser { AnswersBelow F.pre F.post beginning.now.choose }
-    requires same { (session.old.engine.plain.now ≡ beginning.now.plain.now) × (session.old.engine.chooser.f ≡ beginning.now.choose) × (session.old.engine.size ≡ beginning.now.size) }
-    requires run { EngineCanTurn (heap_of session.old.engine.machine.store) beginning.now.plain.now.rules session.old.engine.codes beginning.now.size }
+    requires same { IsEngineOf beginning.now session.old.engine }
+    requires run { CanGoOn beginning.now session.old.engine }
     requires commits { session.old.engine.commits < 2 ^ 62 }
     ensures back { OnOk result ((names : List Name) → OfEachCourse F.post beginning.now.choose names beginning.now.plain.now beginning.now.size (λ g.
         StandsAt names beginning.now.plain.now.rules g session.old.engine.commits (heap_of session.old.engine.machine.store) → StandsAt names beginning.now.plain.now.rules g session.new.engine.commits (heap_of session.new.engine.machine.store))) }
     ensures lacks { OnErr result (session.old.engine.commits - n < session.old.engine.commits) }
     ensures number { OnOk result (session.new.engine.commits ≡ session.old.engine.commits - n) }
-    ensures same { OnOk result ((session.new.engine.plain.now ≡ beginning.now.plain.now) × (session.new.engine.chooser.f ≡ beginning.now.choose) × (session.new.engine.size ≡ beginning.now.size)) }
-    ensures again { OnOk result (EngineCanTurn (heap_of session.new.engine.machine.store) beginning.now.plain.now.rules session.new.engine.codes beginning.now.size) }
+    ensures same { OnOk result (IsEngineOf beginning.now session.new.engine) }
+    ensures again { OnOk result (CanGoOn beginning.now session.new.engine) }
 {
     let commits = session.commits();
     let number = commits.saturating_sub(n);
@@ -229,14 +230,14 @@ fn until<'p, F: Fn(u64, u64) -> u64 + Copy + Drop, O: Sink, L: Ledger>(
     steps: &mut Steps<L>,
 ) -> Result<(), DebugFault>
     requires chooser { AnswersBelow F.pre F.post beginning.now.choose }
-    requires same { (session.old.engine.plain.now ≡ beginning.now.plain.now) × (session.old.engine.chooser.f ≡ beginning.now.choose) × (session.old.engine.size ≡ beginning.now.size) }
-    requires run { EngineCanTurn (heap_of session.old.engine.machine.store) beginning.now.plain.now.rules session.old.engine.codes beginning.now.size }
+    requires same { IsEngineOf beginning.now session.old.engine }
+    requires run { CanGoOn beginning.now session.old.engine }
     requires commits { session.old.engine.commits < 2 ^ 62 }
     requires order { IsAskedWith names.now (Order.Until functor op n) }
     ensures obeyed { CarriesOut F.post beginning.now.choose names.now beginning.now.plain.now beginning.now.size (Order.Until functor op n) session.old.engine.commits (heap_of session.old.engine.machine.store) session.new.engine.commits (heap_of session.new.engine.machine.store) (O.told out.old) (O.told out.new) result }
     ensures counts { CountsObeyed result (O.faults out.old) (O.faults out.new) }
-    ensures same { OnOk result ((session.new.engine.plain.now ≡ beginning.now.plain.now) × (session.new.engine.chooser.f ≡ beginning.now.choose) × (session.new.engine.size ≡ beginning.now.size)) }
-    ensures again { OnOk result (EngineCanTurn (heap_of session.new.engine.machine.store) beginning.now.plain.now.rules session.new.engine.codes beginning.now.size) }
+    ensures same { OnOk result (IsEngineOf beginning.now session.new.engine) }
+    ensures again { OnOk result (CanGoOn beginning.now session.new.engine) }
     ensures most { OnOk result (session.new.engine.commits ≤ session.old.engine.commits + most_asked) }
 {
     let stop = Break::new(
@@ -271,12 +272,12 @@ fn show<'p, F: Fn(u64, u64) -> u64 + Copy + Drop, O: Sink>(
     names: &Names,
     out: &mut O,
 ) -> Result<(), DebugFault>
-    requires same { (session.old.engine.plain.now ≡ beginning.now.plain.now) × (session.old.engine.chooser.f ≡ beginning.now.choose) × (session.old.engine.size ≡ beginning.now.size) }
-    requires run { EngineCanTurn (heap_of session.old.engine.machine.store) beginning.now.plain.now.rules session.old.engine.codes beginning.now.size }
+    requires same { IsEngineOf beginning.now session.old.engine }
+    requires run { CanGoOn beginning.now session.old.engine }
     ensures obeyed { CarriesOut F.post beginning.now.choose names.now beginning.now.plain.now beginning.now.size Order.Show session.old.engine.commits (heap_of session.old.engine.machine.store) session.new.engine.commits (heap_of session.new.engine.machine.store) (O.told out.old) (O.told out.new) result }
     ensures counts { CountsObeyed result (O.faults out.old) (O.faults out.new) }
-    ensures same { OnOk result ((session.new.engine.plain.now ≡ beginning.now.plain.now) × (session.new.engine.chooser.f ≡ beginning.now.choose) × (session.new.engine.size ≡ beginning.now.size)) }
-    ensures again { OnOk result (EngineCanTurn (heap_of session.new.engine.machine.store) beginning.now.plain.now.rules session.new.engine.codes beginning.now.size) }
+    ensures same { OnOk result (IsEngineOf beginning.now session.new.engine) }
+    ensures again { OnOk result (CanGoOn beginning.now session.new.engine) }
     ensures most { OnOk result (session.new.engine.commits ≤ session.old.engine.commits + most_asked) }
 {
     match session.show(beginning.plain, names, out) {

@@ -1,7 +1,7 @@
-use Rattle.std.proofs.Common.{◌≡◌, ◌≤◌, ◌*◌, take}
+use Rattle.std.proofs.Common.{◌≤◌, ◌*◌, take}
 use Rattle.lmn_io.specs.Counts.{NoneFailed}
-use Rattle.lmn_schedule.specs.Held.{EngineCanTurn}
 use Rattle.lmn_store_web.specs.WebHeaps.{heap_of}
+use Rattle.lmn_debug.specs.Beginnings.{CanGoOn, IsEngineOf}
 use Rattle.lmn_debug.specs.Sessions.{StandsAt}
 use Rattle.lmn_debug.specs.Obeying.{ObeyedSo, OfEachCourse, most_asked}
 use Rattle.lmn_debug.proofs.debugging.carry_out.Given as goal
@@ -10,8 +10,8 @@ abbrev pub invariant-loop-order : goal.invariant-loop-order
 invariant-loop-order g l =
     let plain = l.beginning.plain.now in
     record {
-      same : (l.session.engine.plain.now ≡ plain) × (l.session.engine.chooser.f ≡ l.beginning.choose) × (l.session.engine.size ≡ l.beginning.size);
-      run : EngineCanTurn (heap_of l.session.engine.machine.store) plain.rules l.session.engine.codes l.beginning.size;
+      same : IsEngineOf l.beginning l.session.engine;
+      run : CanGoOn l.beginning l.session.engine;
       most : l.session.engine.commits ≤ l.order-index * most_asked;
       counts : NoneFailed (g.O.Sink.faults l.fn.out) (g.O.Sink.faults l.out);
       obeyed : OfEachCourse (λ f t m r. g.F.Fn.post f (t, (m, tt)) r) l.beginning.choose l.names plain l.beginning.size
