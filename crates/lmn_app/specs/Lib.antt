@@ -11,6 +11,7 @@ pub mod DebugLaws
 pub mod Debugs
 pub mod Executions
 pub mod Requests
+pub mod Fetched
 pub mod Runnings
 pub mod RunLaws
 pub mod Runs

@@ -1,4 +1,4 @@
-ghost use Rattle.std.specs.Prelude.{◌≡◌, ◌≤◌, ◌<◌, ◌+◌, ◌⊎◌, ◌^◌, ℕ, List, length};
+ghost use Rattle.std.specs.Prelude.{◌≡◌, ◌≤◌, ◌<◌, ◌+◌, ◌^◌, ℕ, List, length};
 ghost use Rattle.lmn_base.specs.Solids.{item_count};
 ghost use Rattle.lmn_base.specs.declared.solid.Solid.{Solid};
 ghost use Rattle.lmn_congruence.specs.Rules.{Name};
@@ -11,12 +11,10 @@ ghost use Rattle.lmn_schedule.specs.Turning.{Gives};
 ghost use Rattle.lmn_store_web.specs.WebHeaps.{heap_of};
 ghost use Rattle.lmn_app_words.specs.Forms.{pair_of, to_pair};
 ghost use Rattle.lmn_app.specs.Debugs.{session_size};
+ghost use Rattle.lmn_app.specs.Fetched.{AcceptsTold, AsksSecond};
 ghost use Rattle.lmn_app.specs.Outcomes.{RequestEnded};
-ghost use Rattle.lmn_app.specs.Pairs.{HasProgram};
-ghost use Rattle.lmn_app.specs.Requests.{asked_second};
 ghost use Rattle.lmn_app.specs.Runnings.{EndsDebugged, obeyed_as};
 ghost use Rattle.lmn_app.specs.Texts.{Accepts};
-ghost use Rattle.lmn_app.specs.Writing.{IsToldAnd, told_under};
 
 use crate::ending::Ending;
 use crate::pairing::fetch_second;
@@ -51,11 +49,9 @@ pub(crate) fn debug_by<F: Shelf, O: Sink>(
     out: &mut O,
 ) -> Ending
     requires kind { words.kind ≡ PairKind.Debug }
-    requires accepted { (program : List ℕ) × Accepts program names.old accepted.now.plain accepted.now.plans
-        × IsToldAnd (told_under (F.told shelf.old) (pair_of words).file) (λ found. found ≡ program) }
+    requires accepted { AcceptsTold (pair_of words) (F.told shelf.old) names.old accepted.now.plain accepted.now.plans }
     requires room { length names.old ≤ 2 ^ 31 }
-    ensures asked { (F.asked shelf.new ≡ F.asked shelf.old)
-        ⊎ ((F.asked shelf.new ≡ asked_second (pair_of words.entry) (F.asked shelf.old)) × HasProgram (pair_of words.entry) (F.told shelf.old)) }
+    ensures asked { AsksSecond (pair_of words.entry) (F.told shelf.old) (F.asked shelf.old) (F.asked shelf.new) }
     ensures ended { RequestEnded (to_pair (pair_of words.entry)) result (F.told shelf.old) (O.told out.old) (O.told out.new) (O.faults out.old) (O.faults out.new) (F.faults shelf.old) (F.faults shelf.new) }
 {
     loading_settles();
@@ -89,15 +85,13 @@ fn debug_in<F: Shelf, O: Sink, L: Ledger>(
     blank: Blank,
 ) -> Ending
     requires kind { words.kind ≡ PairKind.Debug }
-    requires accepted { (program : List ℕ) × Accepts program names.old accepted.now.plain accepted.now.plans
-        × IsToldAnd (told_under (F.told shelf.old) (pair_of words).file) (λ found. found ≡ program) }
+    requires accepted { AcceptsTold (pair_of words) (F.told shelf.old) names.old accepted.now.plain accepted.now.plans }
     requires room { length names.old ≤ 2 ^ 31 }
     requires store { IsEmpty (heap_of store) }
     requires name { blank.name ≡ L.name }
     requires parts { blank.parts ≡ L.parts }
     requires some { 0 < blank.parts }
-    ensures asked { (F.asked shelf.new ≡ F.asked shelf.old)
-        ⊎ ((F.asked shelf.new ≡ asked_second (pair_of words.entry) (F.asked shelf.old)) × HasProgram (pair_of words.entry) (F.told shelf.old)) }
+    ensures asked { AsksSecond (pair_of words.entry) (F.told shelf.old) (F.asked shelf.old) (F.asked shelf.new) }
     ensures ended { RequestEnded (to_pair (pair_of words.entry)) result (F.told shelf.old) (O.told out.old) (O.told out.new) (O.faults out.old) (O.faults out.new) (F.faults shelf.old) (F.faults shelf.new) }
 {
     accepted_texts_can_be_loaded();

@@ -1,11 +1,12 @@
-ghost use Rattle.std.specs.Prelude.{◌≡◌, ◌≤◌, ◌⊎◌, ◌^◌, ℕ, List, Option, IfErr, IfOk, Some, length};
+ghost use Rattle.std.specs.Prelude.{◌≡◌, ◌≤◌, ◌^◌, ℕ, List, Option, IfErr, IfOk, Some, length};
 ghost use Rattle.lmn_io.specs.Counts.{Faults};
 ghost use Rattle.lmn_app_words.specs.Forms.{pair_of, to_pair};
+ghost use Rattle.lmn_app.specs.Fetched.{AcceptsTold, AsksSecond};
 ghost use Rattle.lmn_app.specs.Outcomes.{RequestEnded};
 ghost use Rattle.lmn_app.specs.Pairs.{HasProgram};
 ghost use Rattle.lmn_app.specs.Requests.{asked_second};
 ghost use Rattle.lmn_app.specs.SecondTexts.{long_code, second_bytes};
-ghost use Rattle.lmn_app.specs.Texts.{Accepts, at_start};
+ghost use Rattle.lmn_app.specs.Texts.{at_start};
 ghost use Rattle.lmn_app.specs.Writing.{IsToldAnd, told_under};
 
 use crate::bounding::bound_by;
@@ -28,11 +29,9 @@ pub(crate) fn act_on_pair<F: Shelf, O: Sink>(
     shelf: &mut F,
     out: &mut O,
 ) -> Ending
-    requires accepted { (program : List ℕ) × Accepts program names.old accepted.now.plain accepted.now.plans
-        × IsToldAnd (told_under (F.told shelf.old) (pair_of words).file) (λ found. found ≡ program) }
+    requires accepted { AcceptsTold (pair_of words) (F.told shelf.old) names.old accepted.now.plain accepted.now.plans }
     requires room { length names.old ≤ 2 ^ 31 }
-    ensures asked { (F.asked shelf.new ≡ F.asked shelf.old)
-        ⊎ ((F.asked shelf.new ≡ asked_second (pair_of words.entry) (F.asked shelf.old)) × HasProgram (pair_of words.entry) (F.told shelf.old)) }
+    ensures asked { AsksSecond (pair_of words.entry) (F.told shelf.old) (F.asked shelf.old) (F.asked shelf.new) }
     ensures ended { RequestEnded (to_pair (pair_of words.entry)) result (F.told shelf.old) (O.told out.old) (O.told out.new) (O.faults out.old) (O.faults out.new) (F.faults shelf.old) (F.faults shelf.new) }
 {
     match words.kind {
@@ -53,8 +52,7 @@ fn check_on<F: Shelf, O: Sink>(
     out: &mut O,
 ) -> Ending
     requires kind { words.kind ≡ PairKind.Check }
-    requires accepted { (program : List ℕ) × Accepts program names.now accepted.now.plain accepted.now.plans
-        × IsToldAnd (told_under (F.told shelf.old) (pair_of words).file) (λ found. found ≡ program) }
+    requires accepted { AcceptsTold (pair_of words) (F.told shelf.old) names.now accepted.now.plain accepted.now.plans }
     ensures asked { F.asked shelf.new ≡ asked_second (pair_of words.entry) (F.asked shelf.old) }
     ensures ended { RequestEnded (to_pair (pair_of words.entry)) result (F.told shelf.old) (O.told out.old) (O.told out.new) (O.faults out.old) (O.faults out.new) (F.faults shelf.old) (F.faults shelf.new) }
 {
@@ -74,8 +72,7 @@ fn bound_on<F: Shelf, O: Sink>(
     out: &mut O,
 ) -> Ending
     requires kind { words.kind ≡ PairKind.Bound }
-    requires accepted { (program : List ℕ) × Accepts program names.old accepted.now.plain accepted.now.plans
-        × IsToldAnd (told_under (F.told shelf.old) (pair_of words).file) (λ found. found ≡ program) }
+    requires accepted { AcceptsTold (pair_of words) (F.told shelf.old) names.old accepted.now.plain accepted.now.plans }
     requires room { length names.old ≤ 2 ^ 31 }
     ensures asked { F.asked shelf.new ≡ asked_second (pair_of words.entry) (F.asked shelf.old) }
     ensures ended { RequestEnded (to_pair (pair_of words.entry)) result (F.told shelf.old) (O.told out.old) (O.told out.new) (O.faults out.old) (O.faults out.new) (F.faults shelf.old) (F.faults shelf.new) }

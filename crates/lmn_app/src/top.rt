@@ -1,8 +1,8 @@
 ghost use Rattle.std.specs.Prelude.{◌≡◌, ◌≤◌, ◌⊎◌, ℕ, IfErr, IfOk, List, Some, length};
 ghost use Rattle.lmn_app.specs.Demos.{demo_text};
-ghost use Rattle.lmn_app.specs.Requests.{Asked, Fetches, IsInRange, asked_program, asked_second, folded_run};
+ghost use Rattle.lmn_app.specs.Fetched.{AsksSecond};
+ghost use Rattle.lmn_app.specs.Requests.{Asked, Fetches, IsInRange, asked_program, folded_run};
 ghost use Rattle.lmn_app_words.specs.Forms.{InForm, IsInRanges, pair_of, request_of, to_pair};
-ghost use Rattle.lmn_app.specs.Pairs.{HasProgram};
 ghost use Rattle.lmn_app.specs.Outcomes.{Ended, RequestEnded};
 ghost use Rattle.lmn_app.specs.Runnings.{EndsUnread};
 ghost use Rattle.lmn_app.specs.Calls.{IsAnswered, shelf_seen, sink_seen};
@@ -148,8 +148,7 @@ fn perform_pair_on<F: Shelf, O: Sink>(
 ) -> Ending
     requires short { length text.now ≤ text_bytes }
     requires told { IsToldAnd (told_under (F.told shelf.old) (pair_of words).file) (λ found. found ≡ text.now) }
-    ensures asked { (F.asked shelf.new ≡ F.asked shelf.old)
-        ⊎ ((F.asked shelf.new ≡ asked_second (pair_of words.entry) (F.asked shelf.old)) × HasProgram (pair_of words.entry) (F.told shelf.old)) }
+    ensures asked { AsksSecond (pair_of words.entry) (F.told shelf.old) (F.asked shelf.old) (F.asked shelf.new) }
     ensures ended { RequestEnded (to_pair (pair_of words.entry)) result (F.told shelf.old) (O.told out.old) (O.told out.new) (O.faults out.old) (O.faults out.new) (F.faults shelf.old) (F.faults shelf.new) }
 {
     let mut names = Names::with_key(alloc, &Sha256::digest(text));
