@@ -54,6 +54,10 @@ fn parts_named(
     ensures { IfOk result (AreParts flat.now (port_at ports.now) 0 names.now) }
 {
     let mut parts = Rows::new(alloc);
+    // Most heads have none, and need no table of all atoms.
+    if names.is_empty() {
+        return Ok(parts);
+    }
     let mut marks = vec![in alloc; 0; flat.atom_count()]?;
     for (number, name) in names.iter().enumerate() {
         let round = after(number)?;
