@@ -9,3 +9,4 @@ pub mod OnHeaps
 pub mod Turns
 pub mod OneChoice
 pub mod OneNext
+pub mod Small

@@ -21,7 +21,7 @@ use Rattle.lmn_verify_solids.specs.Firing.{LeavesRests}
 use Rattle.lmn_verify_solids.specs.Graphs.{Graph, IsGraphOf}
 use Rattle.lmn_verify_solids.specs.Heads.{IsChosen, NoneIn, Succeeds}
 use Rattle.lmn_verify_solids.specs.Heaps.{graph_of}
-use Rattle.lmn_verify_solids.specs.Laws.{GraphsHaveHeaps, HasHeap, HeadsAreAlike, ItemsAreOne, OnePreorder}
+use Rattle.lmn_verify_solids.specs.Laws.{GraphsHaveHeaps, HeadsAreAlike, ItemsAreOne, OnePreorder}
 use Rattle.lmn_verify_solids.specs.Turns.{AddsItems, Choice, InAll, NoneSucceeds, SomeSucceeds, TakesItems}
 use Rattle.lmn_verify_turns.proofs.Chosen.{cleared, kept}
 use Rattle.lmn_verify_turns.proofs.OnGraphs.{chosen_back, first_back, leaves_back, none_back}
@@ -54,7 +54,7 @@ module _ (on : Grounds) (codes : List Code) (S : Solid) where
       let x = on.heaps c.graph S c.is_graph in
       let r = c.registers in
       let P : Graph → Type 0 = λ g. ((i : IsGraphOf g S) × IsChosen g codes i.all c.code c.membrane r.head × LeavesRests g c.code.head r c.taken
-          × ((added : ℕ) × (gone : ℕ) × InAll (AddsItems g r) c.code.body added × InAll (TakesItems g r) c.code.body gone × (c.left + gone ≡ item_count S + added))) in
+      × ((added : ℕ) × (gone : ℕ) × InAll (AddsItems g r) c.code.body added × InAll (TakesItems g r) c.code.body gone × (c.left + gone ≡ item_count S + added))) in
       let w : P (graph_of x.heap) = subst P (sym x.is) (c.is_graph, c.chosen, c.rests, c.leaves) in
       let l = w.3 in record {
         heap = x.heap;

@@ -36,14 +36,14 @@ use Rattle.lmn_verify_turns.proofs.Chosen.{first_asked, first_success}
 use Rattle.lmn_verify_turns.proofs.Gathered.{part_atoms}
 use Rattle.lmn_verify_turns.proofs.Matches.{one_first, one_match}
 use Rattle.lmn_verify_turns.proofs.OnGraphs.{chosen_back, first_back}
-use Rattle.lmn_verify_turns.proofs.OnHeaps as heaps
+use Rattle.lmn_verify_turns.proofs.OnHeaps as holding
 use Rattle.lmn_verify_turns.proofs.OnHeaps.{OnHeap, on_heap}
 use Rattle.lmn_verify_turns.proofs.SameBut.{reads, solid_there}
 use Rattle.lmn_verify_turns.proofs.Turns.{rule_stands}
 
 -- The laws that it takes.
 pub record Grounds : Type 0 where
-  pub heaps : heaps.Grounds
+  pub heaps : holding.Grounds
   pub firings : CommitsAreFirings
   pub members : TakenByMembers
   pub flat : VerifiedIsFlat

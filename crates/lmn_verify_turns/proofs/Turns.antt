@@ -14,7 +14,7 @@ use Rattle.lmn_solid_heads.specs.Embeddings.{Lies}
 use Rattle.lmn_solid_bodies.specs.Fired.{images_of}
 use Rattle.lmn_solid_bodies.specs.Rules.{PartAtoms}
 use Rattle.lmn_schedule_strategy.specs.Choosing as choosing
-use Rattle.lmn_schedule_strategy.specs.Choosing.{CodeSucceeds, asked}
+use Rattle.lmn_schedule_strategy.specs.Choosing.{asked}
 use Rattle.lmn_schedule_strategy.specs.Turns.{Chooses, IsTurn}
 use Rattle.lmn_schedule_strategy.specs.declared.turning.Turn.{Turn}
 use Rattle.lmn_schedule_strategy.specs.declared.turning.Turn.TheVariants.{Committed, Irreducible, Full, NoMemory}
@@ -66,9 +66,9 @@ module _ (on : Grounds) (codes : List Code) (verified : AreVerified codes) (h : 
     lies : Lies h (flat_head t.code) t.membrane t.registers.head.images
     lies = on.lies t.code (length codes) code_verified h t.membrane t.registers.head valid placed t.first.succeeds
 
-    chosen : IsChosen (graph_of h) codes is.all t.code t.membrane t.registers.head
+    chosen : IsChosen (graph_of h) codes (is).all t.code t.membrane t.registers.head
     chosen =
-        let ms : asked 0 f ≡ is.all = plus_nothing (flat f) ∙ sym (on.preorder h S is f tree) in
+        let ms : asked 0 f ≡ (is).all = plus_nothing (flat f) ∙ sym (on.preorder h S is f tree) in
         subst (λ z. IsChosen (graph_of h) codes z t.code t.membrane t.registers.head) ms
         (chosen_there h on.alike codes (asked 0 f) t.membrane t.place t.rule t.code t.registers.head t.chosen t.is t.first)
 

@@ -1,6 +1,7 @@
 //! Laws of turns of verified codes: what they do on a heap they do on its solid, and it is one.
 #![tactic(auto)]
 
+ghost use Rattle.lmn_verify_turns.specs.Examples.{AnswerExamples};
 ghost use Rattle.lmn_verify_turns.specs.Laws.{ChoicesAreOne, OneNext, SuccessesAreSome, TurnsAreChoices};
 
 use lmn_print_plain::{heaps_have_solids, one_solid};
@@ -12,7 +13,7 @@ use lmn_verify_laws::{
 use lmn_verify_renaming::firings_are_renamed;
 use lmn_verify_solids::{
     commits_are_firings, flat_rules_fire, graphs_have_heaps, heads_are_alike, heaps_are_graphs,
-    taken_by_members,
+    taken_by_members, turn_examples,
 };
 
 /// What verified codes choose and commit on a heap, the root asked first, they choose and commit on its solid.
@@ -68,4 +69,11 @@ pub fn choices_are_one()
     heads_are_alike();
     rests_are_held();
     verified_is_runnable();
+}
+
+/// No code succeeds without codes, and where a rule stands of which the code changes nothing, one does.
+pub fn answer_examples()
+    ensures { AnswerExamples }
+{
+    turn_examples();
 }

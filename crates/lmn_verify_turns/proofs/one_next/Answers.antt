@@ -1,11 +1,11 @@
 use Rattle.lmn_verify_turns.proofs.OneNext.{Grounds, one_next}
-use Rattle.lmn_verify_turns.proofs.OnHeaps as heaps
+use Rattle.lmn_verify_turns.proofs.OnHeaps as holding
 use Rattle.lmn_verify_turns.proofs.one_next.Goals as goal
 
 pub returns : goal.returns
 returns c =
     let graphs = c.heaps_are_graphs.ensures in
-    let on_heaps : heaps.Grounds = record {
+    let on_heaps : holding.Grounds = record {
       heaps = c.graphs_have_heaps.ensures;
       preorder = graphs.preorder;
       items = graphs.items;
