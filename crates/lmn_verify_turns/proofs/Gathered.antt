@@ -5,7 +5,7 @@ use Rattle.lmn_base.specs.Lists.{In}
 use Rattle.lmn_base.proofs.Lists.{get_below, get_there}
 use Rattle.lmn_base.proofs.Numbers.{same_or_not}
 use Rattle.lmn_store_heap.specs.Graphs.{atom_map}
-use Rattle.lmn_store_heap.specs.Heap.{Heap, IsInPlace, atoms_in, home_of, place_of, within}
+use Rattle.lmn_store_heap.specs.Heap.{Heap, IsInPlace, atoms_in}
 use Rattle.lmn_store_heap.specs.Lists.{Distinct}
 use Rattle.lmn_store_heap.specs.Sound.{Valid}
 use Rattle.lmn_store_heap.proofs.Common.{decide_in, place_home}

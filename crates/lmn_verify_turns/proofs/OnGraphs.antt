@@ -1,5 +1,5 @@
 -- What codes choose on a heap they choose on its graph, at the same cost.
-use Rattle.std.proofs.Common.{ℕ, ◌≡◌, ◌+◌, List, [], ◌∷◌, length, map, Some, arith}
+use Rattle.std.proofs.Common.{ℕ, ◌≡◌, ◌+◌, List, [], ◌∷◌, Some, arith}
 use Rattle.std.specs.Prelude.{slice_get, sum, take}
 use Rattle.lmn_base.specs.declared.solid.Solid.{Solid}
 use Rattle.lmn_base.specs.Graphs.{Port}

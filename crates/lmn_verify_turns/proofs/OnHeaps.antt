@@ -1,6 +1,5 @@
 -- What codes choose on a solid they choose on a heap that has it.
-use Rattle.std.proofs.Common.{ℕ, ◌≡◌, ◌∙◌, ◌≤◌, ◌+◌, ◌++◌, List, ◌∷◌, Some, sym, subst}
-use Rattle.std.specs.Prelude.{slice_get}
+use Rattle.std.proofs.Common.{ℕ, ◌≡◌, ◌∙◌, ◌≤◌, ◌+◌, List, sym, subst}
 use Rattle.lmn_base.specs.declared.solid.Solid.{Solid}
 use Rattle.lmn_base.specs.Lists.{In}
 use Rattle.lmn_base.specs.Solids.{item_count}

@@ -1,10 +1,7 @@
 -- What codes choose on a solid is one.
-use Rattle.std.proofs.Common.{ℕ, ◌≡◌, ◌+◌, List, sym, subst, arith}
+use Rattle.std.proofs.Common.{◌≡◌, ◌+◌, List, arith}
 use Rattle.lmn_base.specs.declared.solid.Solid.{Solid}
-use Rattle.lmn_store_heap.specs.Sound.{flat}
-use Rattle.lmn_store_heap.proofs.Calls.{one_tree}
 use Rattle.lmn_instr_code.specs.declared.instr.Code.{Code}
-use Rattle.lmn_schedule_strategy.specs.Choosing.{NoneIn}
 use Rattle.lmn_schedule_strategy.specs.Turns.{AreRunnable}
 use Rattle.lmn_schedule_strategy.specs.declared.turning.Turn.TheVariants.{NoMemory}
 use Rattle.lmn_verify_laws.specs.Laws.{VerifiedAreRunnable}

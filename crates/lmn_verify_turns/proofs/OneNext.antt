@@ -5,7 +5,7 @@ use Rattle.std.proofs.lemmas.Option.{same_Some}
 use Rattle.lmn_base.specs.declared.solid.Solid.{Solid}
 use Rattle.lmn_base.specs.Lists.{In}
 use Rattle.lmn_base.proofs.Lists.{get_below}
-use Rattle.lmn_store_heap.specs.Heap.{Heap, IsMemInPlace}
+use Rattle.lmn_store_heap.specs.Heap.{IsMemInPlace}
 use Rattle.lmn_store_heap.specs.Sound.{Forest, IsTree}
 use Rattle.lmn_print_plain.specs.HeapLaws.{OneSolid}
 use Rattle.lmn_solid_heads.specs.Embeddings.{Lies}
@@ -13,10 +13,8 @@ use Rattle.lmn_solid_heads.specs.Heads.{typed_contexts_of}
 use Rattle.lmn_instr_code.specs.declared.instr.Code.{Code}
 use Rattle.lmn_instr_code.specs.Running.{IsFirstSuccess}
 use Rattle.lmn_solid_bodies.specs.Fired.{images_of}
-use Rattle.lmn_solid_bodies.specs.Running.{Registers}
 use Rattle.lmn_solid_bodies.specs.Within.{FiresFlat, HoldsRests}
 use Rattle.lmn_schedule_strategy.specs.Choosing.{IsFirstIn, asked}
-use Rattle.lmn_schedule_strategy.specs.Turns.{HoldsRestsOf}
 use Rattle.lmn_verify_code.specs.Verified.{IsVerified}
 use Rattle.lmn_verify_laws.specs.Flat.{flat_body, flat_head, link_count}
 use Rattle.lmn_verify_laws.specs.Laws.{IntegersAreOne, RestsThere, VerifiedHeadsLie, VerifiedHoldsRests, VerifiedIsFlat, VerifiedIsInOrder, VerifiedIsRule, VerifiedSetsFlat}
@@ -29,7 +27,7 @@ use Rattle.lmn_verify_solids.specs.Firing.{Fires}
 use Rattle.lmn_verify_solids.specs.Graphs.{Graph}
 use Rattle.lmn_verify_solids.specs.Heaps.{graph_of}
 use Rattle.lmn_verify_solids.specs.Laws.{CommitsAreFirings, HasHeap, TakenByMembers}
-use Rattle.lmn_verify_solids.specs.Turns.{Choice, CodeNext}
+use Rattle.lmn_verify_solids.specs.Turns.{Choice}
 use Rattle.lmn_verify_turns.specs.Laws.{AreVerified, OneNext}
 use Rattle.lmn_verify_turns.proofs.Carried.{tree_there}
 use Rattle.lmn_verify_turns.proofs.Chosen.{first_asked, first_success}

@@ -25,7 +25,7 @@ use Rattle.lmn_verify_solids.specs.Graphs.{IsGraphOf}
 use Rattle.lmn_verify_solids.specs.Heads.{IsChosen, NoneIn}
 use Rattle.lmn_verify_solids.specs.Heaps.{graph_of}
 use Rattle.lmn_verify_solids.specs.Laws.{FlatRulesFire, HeadsAreAlike, HeapsAreGraphs, ItemsAreOne, OnePreorder}
-use Rattle.lmn_verify_solids.specs.Turns.{Choice, CodeNext, NoneSucceeds, SomeSucceeds}
+use Rattle.lmn_verify_solids.specs.Turns.{Choice, CodeNext, NoneSucceeds}
 use Rattle.lmn_verify_turns.specs.Laws.{AreVerified, IsAnswerOn, SuccessesAreSome, TurnsAreChoices}
 use Rattle.lmn_verify_turns.proofs.Gathered.{image_stands, part_atoms}
 use Rattle.lmn_verify_turns.proofs.OnGraphs.{chosen_there, leaves_there, none_there}
