@@ -1,13 +1,12 @@
 -- Registers that hold what a head leaves in a graph hold the rests of the heap.
-use Rattle.std.proofs.Common.{ℕ, suc, ◌≡◌, ◌≢◌, ◌∙◌, ◌<◌, ◌+◌, ◌↔◌, ◌⊎◌, Bool, true, List, [], ◌∷◌, ◌++◌, map, refl, sym, ap, subst, inl, inr, arith}
+use Rattle.std.proofs.Common.{ℕ, suc, ◌≡◌, ◌≢◌, ◌∙◌, ◌<◌, ◌+◌, Bool, true, List, [], ◌∷◌, ◌++◌, map, refl, sym, ap, subst, inl, inr, arith}
 use Rattle.std.specs.Prelude.{flat_map, not}
 use Rattle.lmn_base.specs.declared.solid.Region.{Region}
-use Rattle.lmn_base.specs.Lists.{In}
 use Rattle.lmn_store_heap.specs.Heap.{Heap, atoms_in, mems_in}
 use Rattle.lmn_store_heap.specs.Lists.{without_all}
 use Rattle.lmn_store_heap.specs.Sound.{Forest, Forms, Valid, bare, flat, mem}
 use Rattle.lmn_store_heap.proofs.ListLemmas.{each_in}
-use Rattle.lmn_ground_parts.specs.Rests.{IsRest, atoms_of_all, keep}
+use Rattle.lmn_ground_parts.specs.Rests.{atoms_of_all, keep}
 use Rattle.lmn_ground_parts.specs.Walks.{is_in}
 use Rattle.lmn_congruence_splice.specs.Classes.{rising}
 use Rattle.lmn_instr_code.specs.declared.instr.Instr.{Instr}

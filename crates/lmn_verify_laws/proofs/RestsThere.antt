@@ -1,19 +1,17 @@
 -- Registers that hold the rests of a heap hold what the head of verified code leaves in its graph.
-use Rattle.std.proofs.Common.{ℕ, zero, suc, ◌≡◌, ◌≢◌, ◌∙◌, ◌<◌, ◌+◌, ◌↔◌, ◌⊎◌, Bool, true, List, [], ◌∷◌, ◌++◌, length, map, refl, sym, ap, subst, inl, inr, arith}
+use Rattle.std.proofs.Common.{ℕ, zero, suc, ◌≡◌, ◌≢◌, ◌∙◌, ◌<◌, ◌+◌, Bool, List, ◌∷◌, ◌++◌, length, map, sym, ap, subst, inl, inr, arith}
 use Rattle.std.specs.Prelude.{flat_map, not}
 use Rattle.lmn_base.specs.Lists.{In}
 use Rattle.lmn_base.proofs.Lists.{get_below, get_there, in_either}
-use Rattle.lmn_store_heap.specs.Graphs.{atom_map}
 use Rattle.lmn_store_heap.specs.Heap.{Heap, atoms_in, mems_in}
 use Rattle.lmn_store_heap.specs.Lists.{Distinct, without_all}
 use Rattle.lmn_store_heap.specs.Solid.{regions_of}
-use Rattle.lmn_store_heap.specs.Sound.{Valid, flat}
+use Rattle.lmn_store_heap.specs.Sound.{Valid}
 use Rattle.lmn_store_heap.proofs.ListLemmas.{each_of, in_left, in_right}
-use Rattle.lmn_base.specs.Graphs.{Reached}
 use Rattle.lmn_ground_parts.specs.Rests.{keep}
 use Rattle.lmn_ground_parts.specs.Walks.{is_in}
 use Rattle.lmn_congruence_splice.specs.Classes.{rising}
-use Rattle.lmn_solid_heads.specs.Heads.{HeadTyped, atoms_of, typed_contexts_of}
+use Rattle.lmn_solid_heads.specs.Heads.{atoms_of, typed_contexts_of}
 use Rattle.lmn_instr_code.specs.declared.instr.Code.{Code}
 use Rattle.lmn_instr_code.specs.Running.{atoms_set, membranes_set}
 use Rattle.lmn_schedule_strategy.specs.Turns.{HoldsRestsOf, IsBesideCode}

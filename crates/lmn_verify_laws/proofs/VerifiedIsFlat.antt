@@ -1,7 +1,7 @@
 -- Verified code is the code of its flat rule, and ties each end of it.
-use Rattle.std.proofs.Common.{ℕ, zero, suc, ◌≡◌, ◌≢◌, ◌≤◌, ◌∙◌, ◌<◌, ◌+◌, ◌==◌, ◌||◌, ◌⊎◌, Bool, true, false, cond, List, [], ◌∷◌, ◌++◌, Option, Some, None, length, map, refl, sym, ap, subst, inl, inr, arith, true≢false}
+use Rattle.std.proofs.Common.{ℕ, zero, suc, ◌≡◌, ◌≢◌, ◌≤◌, ◌∙◌, ◌<◌, ◌+◌, ◌==◌, ◌||◌, ◌⊎◌, Bool, true, cond, List, [], ◌∷◌, ◌++◌, Some, length, map, refl, sym, ap, subst, inl, inr, arith, true≢false}
 use Rattle.std.specs.Prelude.{slice_get, if◌then◌else◌, nat_lt}
-use Rattle.std.specs.List.{AllByRecursion, list_all}
+use Rattle.std.specs.List.{AllByRecursion}
 use Rattle.std.proofs.lemmas.Bool.{eq-eqb, leb-true, ltb-true}
 use Rattle.lmn_base.specs.Lists.{In}
 use Rattle.lmn_base.proofs.Numbers.{equal_itself}
@@ -9,7 +9,6 @@ use Rattle.lmn_base.proofs.Truth.{either_true, first_true, second_true}
 use Rattle.lmn_congruence_splice.specs.Classes.{rising}
 use Rattle.lmn_congruence_splice.specs.Splice.{IsOneOf, both_links}
 use Rattle.lmn_congruence_splice.proofs.Common.{in_append, in_back, in_front}
-use Rattle.lmn_solid_heads.specs.declared.items.HeadItem.{HeadItem}
 use Rattle.lmn_solid_heads.specs.Embeddings.{HasMembrane}
 use Rattle.lmn_solid_heads.specs.Heads.{HeadMembrane, HeadTyped, Occurrence, at_atoms, atoms_of, links_of_head, membranes_of, times, typed_contexts_of}
 use Rattle.lmn_solid_heads.proofs.Common.{times_append}
@@ -20,11 +19,9 @@ use Rattle.lmn_instr_code.specs.declared.instr.Code.{Code}
 use Rattle.lmn_instr_code.specs.declared.instr.Instr.{Instr}
 use Rattle.lmn_instr_code.specs.declared.instr.Instr.TheVariants.{RemoveAtom, RemovePart, RemoveMem, Deref, Joined, IsInt, IsUnary, IsGround, DropCells, NewLink, Relink, Unify, Proceed}
 use Rattle.lmn_instr_code.specs.Running.{atoms_set}
-use Rattle.lmn_solid_bodies.specs.declared.items.BodyItem.{BodyItem}
 use Rattle.lmn_solid_bodies.specs.Code.{removals}
-use Rattle.lmn_solid_bodies.specs.Items.{body_links, connectors, new_ports, old_ports, port_at}
+use Rattle.lmn_solid_bodies.specs.Items.{body_links, connectors, new_ports, port_at}
 use Rattle.lmn_solid_bodies.proofs.HeadPorts.{in_map, of_map, once_in_of}
-use Rattle.lmn_verify_code.specs.declared.found.FoundMembrane.{FoundMembrane}
 use Rattle.lmn_verify_code.specs.Verified.{IsVerified, atoms_found, drops, drops_rest, is_made, membranes_found, nothing_left, places, ports_of, rest_dropped, rest_moved}
 use Rattle.lmn_verify_laws.specs.Flat.{connected, flat_body, flat_head, link_in, linked_by}
 use Rattle.lmn_verify_laws.proofs.Dropped.{at_closed, back, dropped_is, js, ks}
