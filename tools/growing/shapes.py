@@ -135,7 +135,7 @@ def telling_apart(program, text, n):
     return listing(program, text, n).replace('  COMMIT', '  NEQATOM A1 A0\n' * n + '  COMMIT', 1)
 
 
-def wide(n):
+def paired(n):
     """A rule that makes pairs of atoms with 255 links between the two."""
     links = [','.join(f'L{i}_{j}' for j in range(255)) for i in range(n)]
     return 'a. a:-' + ','.join(f'p{i}({each}),q{i}({each})' for i, each in enumerate(links)) + '.'
@@ -233,12 +233,12 @@ ASKED = [
     Shape('rules that fail before one', 200, lambda n: each('z{}:-r', n) + COUNT.format(n), asked='rules are asked in their order at each turn', power=2),
     Shape('a sort by neighbours', 10, sorting, asked='each firing looks from the first cell on, and there are as many as inversions', power=3),
     Shape('a trace of what grows', 150, lambda n: 'a. a:-a,b.', lambda n: ['--trace', *budget(n)], asked='each process is printed', power=2),
-    Shape('exec: membranes that count', 50, lambda n: clauses(['{a(3). a($x):-$x>0,$y=$x-1|a($y).}'] * n), command='exec', second=listing, asked='exec lets no membrane sleep', power=2),
 ]
 
 OTHERS = [
+    Shape('exec: membranes that count', 50, lambda n: clauses(['{a(3). a($x):-$x>0,$y=$x-1|a($y).}'] * n), command='exec', second=listing),
     Shape('exec: many rules', 300, lambda n: each('a{}:-b', n), command='exec', second=listing),
-    Shape('exec: pairs of 255 links', 8, wide, command='exec', second=listing),
+    Shape('exec: pairs of 255 links', 8, paired, command='exec', second=listing),
     Shape('exec: 128 atoms told apart again', 2000, lambda n: 'b. ' + ','.join(['a'] * 128) + ':-b.', command='exec', second=telling_apart),
     Shape('exec: copies', 100, lambda n: 'k(z). k($x):-ground($x)|' + ','.join(['m($x)'] * n) + '.', command='exec', second=listing),
     Shape('check: a long trace', 200, COUNT.format, command='check', second=trace()),
