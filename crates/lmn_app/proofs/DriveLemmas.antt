@@ -27,7 +27,7 @@ use Rattle.lmn_order.specs.Orders.{chosen}
 use Rattle.lmn_adequacy.specs.Runs.{irreducible, budget_done, full}
 use Rattle.lmn_app_drive.specs.declared.driving.RunEnd.{RunEnd}
 use Rattle.lmn_app_drive.specs.declared.driving.RunEnd.TheVariants as run
-use Rattle.lmn_app_drive.specs.Driving.{Drove, RunInput as Driven, given_by_engine as driven, Ran}
+use Rattle.lmn_app_drive.specs.Driving.{Drove, RunInput as Driven, given_by_engine as driven, Ran, stop_end}
 use Rattle.lmn_app_drive.specs.Written.{Lines, written}
 use Rattle.lmn_app_runs.specs.Laws.{solid_of}
 use Rattle.lmn_app_runs.specs.Runs.{LinesOf, StopsSo, end_line, printed_solids, word_of_stop, end_word as driven_word}
@@ -114,13 +114,21 @@ module _ (alloc : Global) (laws : Laws) (w : RunSettings)
       took = subst (λ xs. Takes xs old new) (text_is why word e) took;
     }
 
+  -- what was written by a run that stopped so
+  pub driven_writes : (n : ℕ) (h : Heap) (why : Stop) (old new : Option (List ℕ)) → Drove g n h (stop_end why) old new → WritesRun w (Some (Some text)) why old new
+  unfolding trace
+  driven_writes n h stop.Irreducible old new d = writes n h d.ran stop.Irreducible (driven_word irreducible) old new refl d.ended.0 d.ended.1
+  driven_writes n h stop.Budget old new d = writes n h d.ran stop.Budget (driven_word budget_done) old new refl d.ended.0 d.ended.1
+  driven_writes n h stop.Full old new d = writes n h d.ran stop.Full (driven_word full) old new refl d.ended.0 d.ended.1
+  driven_writes n h stop.NoMemory old new d = writes n h d.ran stop.NoMemory (word_of_stop stop.NoMemory) old new refl d.ended.0 d.ended.1
+
   -- what was written by a run that ended so
   pub driven_output : (n : ℕ) (h : Heap) (end : RunEnd) (old new : Option (List ℕ)) → Drove g n h end old new → Output (task.Run w) (ended_as end) (Some (Some text)) old new
   unfolding trace
-  driven_output n h run.Irreducible old new d = writes n h d.ran stop.Irreducible (driven_word irreducible) old new refl d.ended.0 d.ended.1
-  driven_output n h run.Budget old new d = writes n h d.ran stop.Budget (driven_word budget_done) old new refl d.ended.0 d.ended.1
-  driven_output n h run.Full old new d = writes n h d.ran stop.Full (driven_word full) old new refl d.ended.0 d.ended.1
-  driven_output n h run.NoMemory old new d = inr (writes n h d.ran stop.NoMemory (word_of_stop stop.NoMemory) old new refl d.ended.0 d.ended.1)
+  driven_output n h run.Irreducible old new d = driven_writes n h stop.Irreducible old new d
+  driven_output n h run.Budget old new d = driven_writes n h stop.Budget old new d
+  driven_output n h run.Full old new d = driven_writes n h stop.Full old new d
+  driven_output n h run.NoMemory old new d = inr (driven_writes n h stop.NoMemory old new d)
   driven_output n h run.Failed old new d =
       let r = d.ran in
       let part = d.ended in

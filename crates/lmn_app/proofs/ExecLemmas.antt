@@ -1,7 +1,7 @@
 -- What runs a program by the codes of a listing.
-use Rattle.std.proofs.Common.{◌≡◌, ◌≤◌, ◌<◌, ℕ, List, Option, Some, length, refl, sym, subst, inl, inr, arith}
-use Rattle.std.specs.Prelude.{slice_get}
+use Rattle.std.proofs.Common.{◌≡◌, ◌≤◌, ◌<◌, ℕ, List, Option, length, refl, sym, subst, inl, inr, arith}
 use Rattle.std.specs.List.{AllByRecursion}
+use Rattle.std.specs.declared.alloc.Global.{Global}
 use Rattle.lmn_app_accepted.proofs.PlanKinds.{at_index}
 use Rattle.lmn_base.specs.declared.refusal.Refusal.{Refusal}
 use Rattle.lmn_base.specs.declared.rule.Plain.{Plain}
@@ -9,7 +9,8 @@ use Rattle.lmn_base.specs.declared.solid.Solid.{Solid}
 use Rattle.lmn_base.specs.Solids.{item_count}
 use Rattle.lmn_base.specs.WellMade.{IsWellMade}
 use Rattle.lmn_app_drive.specs.Driving.{stop_end}
-use Rattle.lmn_verify_coded.specs.Runs.{CodedInput, Executed}
+use Rattle.lmn_verify_turns.specs.Laws.{AreVerified}
+use Rattle.lmn_verify_coded.specs.Runs.{Executed}
 use Rattle.lmn_verify_coded.specs.Turning.{CodedCanTurn}
 use Rattle.lmn_verify_coded.proofs.Stops.{stop_no_failure}
 use Rattle.lmn_congruence.specs.Regions.{item_count_of_region}
@@ -21,7 +22,6 @@ use Rattle.lmn_app_drive.specs.declared.driving.RunEnd.{RunEnd}
 use Rattle.lmn_app_drive.specs.declared.driving.RunEnd.TheVariants as run
 use Rattle.lmn_guards.specs.declared.plan.GuardPlan.{GuardPlan}
 use Rattle.lmn_store_heap.specs.Heap.{Heap}
-use Rattle.lmn_store_heap.specs.Sound.{Valid}
 use Rattle.lmn_instr_code.specs.declared.instr.Code.{Code}
 use Rattle.lmn_io.specs.Counts.{FailedLast, Faults, NoneFailed}
 use Rattle.lmn_io.specs.Taking.{Takes, TakesPrefix}
@@ -31,15 +31,17 @@ use Rattle.lmn_schedule_loading.specs.Loaded.{IsLoaded}
 use Rattle.lmn_schedule_strategy.specs.Quieting.{AllAwake}
 use Rattle.lmn_verify_laws.specs.Laws.{VerifiedAreQuiet, VerifiedAreRunnable}
 use Rattle.lmn_app_runs.specs.Laws.{solid_of}
+use Rattle.lmn_app_runs.specs.declared.stop.Stop.{Stop}
+use Rattle.lmn_app_runs.specs.declared.stop.Stop.TheVariants as stop
 use Rattle.lmn_verify_listing.specs.Listings.{AreListed, IsRefusedListing, not_a_listing, not_verified}
 use Rattle.lmn_verify_code.specs.Verified.{IsVerified}
 use Rattle.lmn_app_words.specs.declared.command.PairKind.TheVariants.{Exec}
 use Rattle.lmn_app_words.specs.Forms.{Pair}
 use Rattle.lmn_app.specs.declared.ending.Ending.{Ending}
 use Rattle.lmn_app.specs.declared.ending.Ending.TheVariants.{SecondRefused, WriteFault}
-use Rattle.lmn_app.specs.Executions.{IsExecuted, IsExecutedAs, IsWrongListing, ReadsCodes, coded_input, executed_budget, executed_size}
+use Rattle.lmn_app.specs.Executions.{IsExecuted, IsExecutedAs, IsWrongListing, ReadsCodes, executed_budget, executed_size}
 use Rattle.lmn_app.specs.Pairs.{HasProgram}
-use Rattle.lmn_app.specs.Runnings.{CodesRun, EndsExecuted, ended_as, not_begun, run_ended}
+use Rattle.lmn_app.specs.Runnings.{CodesRun, EndsExecuted, HasExecuted, HeapsAreExecuted, coded_input, ended_as, not_begun, run_ended}
 use Rattle.lmn_app.specs.SecondTexts.{IsSecondCode}
 use Rattle.lmn_app.specs.Texts.{Accepts}
 use Rattle.lmn_app.specs.Writing.{IsToldAnd, told_under}
@@ -58,86 +60,60 @@ stored_program p texts program told names plain plans a kind made h l few =
 
 -- ---- turns by codes
 
+-- each code of a listing is verified, of as many rules as they are
+pub all_verified : (k : ℕ) (codes : List Code) → length codes ≡ k → AllByRecursion (λ code. IsVerified code k) codes → AreVerified codes
+all_verified k codes many all n code is = subst (IsVerified code) (sym many) (at_index (λ c. IsVerified c k) codes n code all is)
+
 -- verified codes of a listing can turn a store that is loaded
 pub codes_can_turn : LoadedRules → VerifiedAreRunnable → VerifiedAreQuiet → (plain : Plain) (h : Heap) → IsWellMade plain → IsLoaded plain h → AllAwake h → (later : List Name) (codes : List Code) (listing : List ℕ)
     → AreListed (length plain.rules) later codes listing → AllByRecursion (λ code. IsVerified code (length plain.rules)) codes → CodedCanTurn h codes executed_size
 codes_can_turn law runs quiet plain h made l awake later codes listing are verified = record {
   turn = record { valid = l.valid; unmarked = l.unmarked; of_table = λ m n i. subst (λ k. n < k) (sym are.many) (law plain h made l m n i) };
   sleeps = record { low = λ m. (let z = awake m in omega (arith, z)); none = λ m e. absurd (let z = awake m in omega (arith, z, e)) };
-  runnable = runs codes all;
-  quiet = quiet codes all;
+  runnable = runs codes (all_verified (length plain.rules) codes are.many verified);
+  quiet = quiet codes (all_verified (length plain.rules) codes are.many verified);
   small = omega arith;
 }
-  where
-    all : (n : ℕ) (code : Code) → slice_get codes n ≡ Some code → IsVerified code (length codes)
-    all n code is = subst (IsVerified code) (sym are.many) (at_index (λ c. IsVerified c (length plain.rules)) codes n code verified is)
 
 -- ---- how a call ends
 
-module _ (program listing : List ℕ) (of : ReadsCodes program listing) (first : Heap) (loaded : IsLoaded of.plain first) (awake : AllAwake first) (few : (s : Solid) → IsSolidOf of.plain s → item_count s ≤ executed_size) where
-  abbrev input : CodedInput
-  input = coded_input of.later of.plain of.codes first
+-- what is executed is written with the ending of its stop
+as_stopped : (program listing written : List ℕ) (why : Stop) → IsExecuted program listing why written → IsExecutedAs (ended_as (stop_end why)) program listing written
+as_stopped program listing written stop.Irreducible x = x
+as_stopped program listing written stop.Budget x = x
+as_stopped program listing written stop.Full x = x
+as_stopped program listing written stop.NoMemory x = x
 
-  module _ (old new : Option (List ℕ)) where
-    -- a run that was written
-    whole : (end : RunEnd) (n : ℕ) (last : Heap) → Valid last → Executed input n last end old new → (end ≡ run.Failed → ⊥) → (written : List ℕ) × IsExecuted program listing end written × Takes written old new
-    whole end n last valid x good = elim x.wrote [
-      | inl w ↦ (
-        _,
-        record {
-          of = of;
-          first = first;
-          loaded = loaded;
-          awake = awake;
-          few = few;
-          commits = n;
-          last = last;
-          valid = valid;
-          ran = record { why = x.why; stopped = x.stopped; line = x.line; is_line = x.is_line; wrote = inl (w.0, refl) };
-        },
-        w.1,
-      )
-      | inr w ↦ absurd (good w.0)
-    ]
+module _ (program listing : List ℕ) (old new : Option (List ℕ)) where
+  -- an execution that was written
+  whole : (end : RunEnd) → HasExecuted program listing end old new → (end ≡ run.Failed → ⊥) → (written : List ℕ) × IsExecutedAs (ended_as end) program listing written × Takes written old new
+  whole end x good = elim x.wrote [
+    | inl w ↦ (x.written, subst (λ e. IsExecutedAs (ended_as e) program listing x.written) (sym w.0) (as_stopped program listing x.written x.why x.executed), w.1)
+    | inr w ↦ absurd (good w.0)
+  ]
 
-    -- and one of which a part was
-    part : (n : ℕ) (last : Heap) → Valid last → Executed input n last run.Failed old new → (written : List ℕ) × IsExecutedAs WriteFault program listing written × TakesPrefix written old new
-    part n last valid x = elim x.wrote [
-      | inl w ↦ absurd (stop_no_failure x.why (sym w.0))
-      | inr w ↦ (
-        _,
-        (
-          stop_end x.why,
-          stop_no_failure x.why,
-          record {
-            of = of;
-            first = first;
-            loaded = loaded;
-            awake = awake;
-            few = few;
-            commits = n;
-            last = last;
-            valid = valid;
-            ran = record { why = x.why; stopped = x.stopped; line = x.line; is_line = x.is_line; wrote = inl (refl, refl) };
-          },
-        ),
-        w.1,
-      )
-    ]
+  -- and one of which a part was
+  part : HasExecuted program listing run.Failed old new → (written : List ℕ) × IsExecutedAs WriteFault program listing written × TakesPrefix written old new
+  part x = elim x.wrote [
+    | inl w ↦ absurd (stop_no_failure x.why (sym w.0))
+    | inr w ↦ (x.written, (x.why, x.executed), w.1)
+  ]
 
-    module _ (before after : Faults) where
-      ended_by : (end : RunEnd) (n : ℕ) (last : Heap) → Valid last → Executed input n last end old new → ((end ≡ run.Failed → ⊥) → NoneFailed before after) → (end ≡ run.Failed → FailedLast before after)
-          → EndsExecuted program listing (ended_as end) old new before after
-      ended_by run.Irreducible n last valid x same rose = (whole run.Irreducible n last valid x (λ e. cc e), same (λ e. cc e))
-      ended_by run.Budget n last valid x same rose = (whole run.Budget n last valid x (λ e. cc e), same (λ e. cc e))
-      ended_by run.Full n last valid x same rose = (whole run.Full n last valid x (λ e. cc e), same (λ e. cc e))
-      ended_by run.NoMemory n last valid x same rose = (inr (whole run.NoMemory n last valid x (λ e. cc e)), same (λ e. cc e))
-      ended_by run.Failed n last valid x same rose = (part n last valid x, rose refl)
+  module _ (before after : Faults) where
+    ended_by : (end : RunEnd) → HasExecuted program listing end old new → ((end ≡ run.Failed → ⊥) → NoneFailed before after) → (end ≡ run.Failed → FailedLast before after)
+        → EndsExecuted program listing (ended_as end) old new before after
+    ended_by run.Irreducible x same rose = (whole run.Irreducible x (λ e. cc e), same (λ e. cc e))
+    ended_by run.Budget x same rose = (whole run.Budget x (λ e. cc e), same (λ e. cc e))
+    ended_by run.Full x same rose = (whole run.Full x (λ e. cc e), same (λ e. cc e))
+    ended_by run.NoMemory x same rose = (inr (whole run.NoMemory x (λ e. cc e)), same (λ e. cc e))
+    ended_by run.Failed x same rose = (part x, rose refl)
 
-      -- the codes of the listing were run so
-      pub codes_ended : (e : Ending) → CodesRun input e old new before after → EndsExecuted program listing e old new before after
-      codes_ended e (not_begun is same none) = subst (λ d. EndsExecuted program listing d old new before after) (sym is) (inl same, none)
-      codes_ended e (run_ended end n last is valid x same rose) = subst (λ d. EndsExecuted program listing d old new before after) (sym is) (ended_by end n last valid x same rose)
+    -- the codes of the listing were run so
+    pub codes_ended : HeapsAreExecuted → (alloc : Global) (of : ReadsCodes program listing) (first : Heap) → IsLoaded of.plain first → AllAwake first → ((s : Solid) → IsSolidOf of.plain s → item_count s ≤ executed_size)
+        → (e : Ending) → CodesRun (coded_input of.later of.plain of.codes first) e old new before after → EndsExecuted program listing e old new before after
+    codes_ended law alloc of first loaded awake few e (not_begun is same none) = subst (λ d. EndsExecuted program listing d old new before after) (sym is) (inl same, none)
+    codes_ended law alloc of first loaded awake few e (run_ended end n last is valid x same rose) =
+        subst (λ d. EndsExecuted program listing d old new before after) (sym is) (ended_by end (law alloc program listing of first loaded awake few n last end old new valid x) same rose)
 
 -- a listing is refused by one of its codes
 listing_code : (n : ℕ) (names later : List Name) (listing : List ℕ) (code line : ℕ) → IsRefusedListing n names later listing code line → IsSecondCode Exec code

@@ -1,26 +1,24 @@
 -- Two executions of one listing beside one program have one output.
-use Rattle.std.proofs.Common.{◌≡◌, ◌∙◌, ◌+◌, ◌-◌, ◌*◌, ℕ, suc, List, [], ◌∷◌, Option, Some, false, length, map, refl, sym, ap, subst, arith}
+use Rattle.std.proofs.Common.{◌≡◌, ◌∙◌, ◌+◌, ◌-◌, ◌*◌, ◌++◌, ℕ, suc, List, [], ◌∷◌, length, map, refl, sym, ap, subst, arith}
 use Rattle.std.specs.Prelude.{slice_index_or}
-use Rattle.std.proofs.lemmas.Option.{same_Some}
-use Rattle.std.specs.List.{AllByRecursion, flat_map}
-use Rattle.lmn_app_accepted.proofs.PlanKinds.{at_index}
+use Rattle.std.specs.List.{flat_map}
 use Rattle.lmn_adequacy.proofs.PlainSolids.{solid_of_plain_is_one}
 use Rattle.lmn_base.specs.declared.guard.Cond.{Cond}
 use Rattle.lmn_base.specs.declared.guard.Expr.{Expr}
 use Rattle.lmn_base.specs.declared.guard.Expr.TheFolds.{fold-roll-Expr}
 use Rattle.lmn_base.specs.declared.guard.Expr.TheOpen as step
 use Rattle.lmn_base.specs.declared.rule.RuleTree.{RuleTree}
-use Rattle.lmn_verify_coded.specs.Laws.{AreVerified, IsValidHeapOf, RunsAreOne}
-use Rattle.lmn_verify_coded.specs.Runs.{Executed}
+use Rattle.lmn_verify_coded.specs.Laws.{SolidRunsAreOne}
+use Rattle.lmn_verify_coded.specs.Solids.{RunStopped}
+use Rattle.lmn_base.specs.declared.solid.Solid.{Solid}
+use Rattle.lmn_flatten_plain.specs.SolidLines.{as_level}
+use Rattle.lmn_flatten_plain.specs.Words.{line_of}
+use Rattle.lmn_app_runs.specs.Runs.{end_line, word_of_stop}
+use Rattle.lmn_app_runs.specs.declared.stop.Stop.{Stop}
 use Rattle.lmn_congruence.specs.Rules as tree
 use Rattle.lmn_congruence.specs.Rules.{Name}
 use Rattle.lmn_congruence.specs.Translation as translated
 use Rattle.lmn_congruence.specs.Translation.{comparison_of, condition_of, expression_of, level_of, name_of, no_such_rule, numbered_region, operator_of, region_of, rules_from}
-use Rattle.lmn_app_drive.specs.declared.driving.RunEnd.{RunEnd}
-use Rattle.lmn_print_folded.specs.Lines.{IsLine}
-use Rattle.lmn_print.specs.Lines.{IsHeapLine}
-use Rattle.lmn_store_heap.specs.Heap.{Heap}
-use Rattle.lmn_store_heap.specs.Solid.{HasSolid}
 use Rattle.lmn_instr_code.specs.declared.instr.Code.{Code}
 use Rattle.lmn_verify_compiled.specs.Laws.{AcceptedCanBeListed}
 use Rattle.lmn_flatten_plain.specs.Plains.{EachPair}
@@ -30,9 +28,9 @@ use Rattle.lmn_instr_reading.specs.Reading.{AddsNames, NumbersNames}
 use Rattle.lmn_verify_compiled.specs.OneReading.{ListedCodesAreOne, ListedNamesAreOne}
 use Rattle.lmn_verify_listing.specs.Listings.{AreListed}
 use Rattle.lmn_verify_code.specs.Operands.{code_names}
-use Rattle.lmn_verify_code.specs.Verified.{IsVerified}
 use Rattle.lmn_app.specs.ExecLaws.{OneOutput}
-use Rattle.lmn_app.specs.Executions.{coded_input, executed_budget, executed_size}
+use Rattle.lmn_app.specs.Executions.{executed_budget, executed_size}
+use Rattle.lmn_app.proofs.ExecLemmas.{all_verified}
 use Rattle.lmn_app.proofs.TextLemmas.{accepted_at, made, moved_solid, one_list}
 
 -- ---- rules that are the same but for addresses, as trees
@@ -75,26 +73,9 @@ as_many [] (s ∷ ss) h = absurd h
 as_many (r ∷ rs) [] h = absurd h
 as_many (r ∷ rs) (s ∷ ss) h = ap suc (as_many rs ss h.1)
 
--- a heap has the same lines by tables of rules that are the same but for addresses
-same_line : (names : List Name) (rs ss : List RuleTree) → EachPair SameRule rs ss → (h : Heap) (line : List ℕ) → IsHeapLine false names ss h line → IsHeapLine false names rs h line
-same_line names rs ss same h line is = (
-  is.0,
-  is.1,
-  (let region : region_of names ss is.0 ≡ region_of names rs is.0 = λ i. numbered_region names (λ n. slice_index_or (sym (same_rules names 0 rs ss same) i) n no_such_rule) is.0.root in
-      subst (λ S. IsLine false S line) region is.2),
-)
-
--- so what is executed with the one table is executed with the other
-same_executed : (names : List Name) (rs ss : List RuleTree) → EachPair SameRule rs ss → (codes : List Code) (budget size n : ℕ) (first h : Heap) (end : RunEnd) (old new : Option (List ℕ)) →
-    Executed (record { names = names; table = ss; codes = codes; budget = budget; size = size; first = first }) n h end old new →
-    Executed (record { names = names; table = rs; codes = codes; budget = budget; size = size; first = first }) n h end old new
-same_executed names rs ss same codes budget size n first h end old new x = (let stopped = x.stopped in record {
-  why = x.why;
-  stopped = stopped;
-  line = x.line;
-  is_line = same_line names rs ss same stopped.last x.line x.is_line;
-  wrote = x.wrote;
-})
+-- so solids have the same region by both
+same_region : (names : List Name) (rs ss : List RuleTree) → EachPair SameRule rs ss → (S : Solid) → region_of names rs S ≡ region_of names ss S
+same_region names rs ss same S = λ i. numbered_region names (λ n. slice_index_or (same_rules names 0 rs ss same i) n no_such_rule) S.root
 
 -- ---- one output
 
@@ -103,14 +84,21 @@ pub record Grounds : Type 0 where
   pub listed : AcceptedCanBeListed
   pub codes : ListedCodesAreOne
   pub names : ListedNamesAreOne
-  pub runs : RunsAreOne
+  pub runs : SolidRunsAreOne
 
-all_verified : (k : ℕ) (codes : List Code) → length codes ≡ k → AllByRecursion (λ code. IsVerified code k) codes → AreVerified codes
-all_verified k codes many all n code is = subst (IsVerified code) (sym many) (at_index (λ c. IsVerified c k) codes n code all is)
+-- what is written of a run with a last solid
+abbrev text : List Name → List RuleTree → Solid → Stop → ℕ → List ℕ
+text names table last why n = line_of (as_level (region_of names table last)) ++ end_line (word_of_stop why) n
+
+-- a run by the same codes from the same solid is this one
+moved_run : (codes others : List Code) → others ≡ codes → (S T : Solid) → T ≡ S → (n : ℕ) (why : Stop) (y : RunStopped others executed_budget executed_size T n why) →
+    (z : RunStopped codes executed_budget executed_size S n why) × (z.last ≡ y.last)
+moved_run codes others same S T solid n why y =
+    subst (λ U. (z : RunStopped codes executed_budget executed_size U n why) × (z.last ≡ y.last)) solid (subst (λ cs. (z : RunStopped cs executed_budget executed_size T n why) × (z.last ≡ y.last)) same (y, refl))
 
 -- two executions of one listing beside one program have one output
 pub one_output : Grounds → OneOutput
-one_output on program listing written other end last c d x y =
+one_output on program listing written other why last c d x y =
     let of = x.of in
     let also = y.of in
     let a = of.accepted in
@@ -119,8 +107,6 @@ one_output on program listing written other end last c d x y =
     let once = of.once in
     let again = also.once in
     let are = of.are in
-    let loaded = x.loaded in
-    let reloaded = y.loaded in
     let can = on.listed program of.names of.plain of.plans (omega (arith, short)) a.named a.accepted in
     let one = one_acceptance program also.names of.plain also.plain of.plans also.plans (accepted_at program of.names also.names of.plain of.plans a.named b.named a.accepted) b.accepted in
     let plain = one.plain in
@@ -132,13 +118,12 @@ one_output on program listing written other end last c d x y =
     (subst (λ ns. AddsNames (3 * length listing) ns also.later) begun also.adds) of.order (subst (λ ns. NumbersNames ns (flat_map code_names also.codes) also.later) begun also.order) are told in
     let listed : AreListed (length of.plain.rules) of.later also.codes listing = subst (λ ns. AreListed (length of.plain.rules) ns also.codes listing) (sym names) told in
     let codes : also.codes ≡ of.codes = on.codes (length of.plain.rules) of.later also.codes of.codes listing can.few once.once listed are in
-    let solid : reloaded.solid ≡ loaded.solid =
-    solid_of_plain_is_one of.plain reloaded.solid loaded.solid (made a.accepted) (moved_solid also.plain of.plain reloaded.solid (sym plain.top) reloaded.of_plain) loaded.of_plain in
-    let second : IsValidHeapOf y.first loaded.solid = record { valid = reloaded.valid; unmarked = reloaded.unmarked; solid = subst (HasSolid y.first) solid reloaded.of_heap } in
-    let ran : Executed (coded_input of.later also.plain of.codes y.first) y.commits y.last last (Some []) (Some other) =
-    subst (λ cs. Executed (coded_input of.later also.plain cs y.first) y.commits y.last last (Some []) (Some other)) codes
-    (subst (λ ns. Executed (coded_input ns also.plain also.codes y.first) y.commits y.last last (Some []) (Some other)) (sym names) y.ran) in
-    let result = on.runs (coded_input of.later of.plain of.codes x.first) (all_verified (length of.plain.rules) of.codes are.many of.verified) y.first loaded.solid
-    (record { valid = loaded.valid; unmarked = loaded.unmarked; solid = loaded.of_heap }) second x.commits y.commits x.last y.last end last (Some []) (Some written) (Some other) c d x.ran
-    (same_executed of.later of.plain.rules also.plain.rules plain.rules of.codes executed_budget executed_size y.commits y.first y.last last (Some []) (Some other) ran) in
-    (result.0, result.1, same_Some written other result.2)
+    let solid : y.first ≡ x.first = solid_of_plain_is_one of.plain y.first x.first (made a.accepted) (moved_solid also.plain of.plain y.first (sym plain.top) y.of_plain) x.of_plain in
+    let ran = moved_run of.codes also.codes codes x.first y.first solid y.commits last y.ran in
+    let result = on.runs of.codes (all_verified (length of.plain.rules) of.codes are.many of.verified) executed_budget executed_size x.first x.commits y.commits why last c d x.ran ran.0 in
+    let same = result.2 ∙ ran.1 in
+    let alike : text of.later of.plain.rules x.ran.last why x.commits ≡ text also.later also.plain.rules y.ran.last last y.commits =
+    (λ i. text of.later of.plain.rules (same i) (result.1 i) (result.0 i))
+    ∙ ap (λ R. line_of (as_level R) ++ end_line (word_of_stop last) y.commits) (same_region of.later of.plain.rules also.plain.rules plain.rules y.ran.last)
+    ∙ ap (λ ns. text ns also.plain.rules y.ran.last last y.commits) names in
+    (result.0, result.1, x.is ∙ alike ∙ sym y.is)

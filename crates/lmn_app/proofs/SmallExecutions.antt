@@ -35,7 +35,7 @@ use Rattle.lmn_guards.specs.declared.plan.GuardPlan.{GuardPlan}
 use Rattle.lmn_store_heap.specs.Heap.{Heap, HeapAtom, HeapMem, IsMem, atoms_by, atoms_in, finished, functor_of, gone, home_by, lone_root, made_atom, marks_of, mem_mark_by, mem_unless_waiting, mem_with_spare, partners_of, placed, rule_added, rules_in, taken, top, unless_waiting}
 use Rattle.lmn_store_heap.specs.Solid.{HasSolid, regions_of, solid_atom_at, solid_atoms_at}
 use Rattle.lmn_store_heap.specs.Sound.{Forest, IsTree, Sound, Valid, bare, flat, item_count_in, mem}
-use Rattle.lmn_store_heap.proofs.Calls.{finished_is_valid, keeps_sound, one_tree}
+use Rattle.lmn_store_heap.proofs.Calls.{finished_is_valid, keeps_sound}
 use Rattle.lmn_store_heap.proofs.Lone.{lone_valid}
 use Rattle.lmn_instr_code.specs.declared.instr.Code.{Code}
 use Rattle.lmn_instr_code.specs.declared.instr.Instr.{Instr}
@@ -53,8 +53,18 @@ use Rattle.lmn_schedule_strategy.specs.Choosing.{CodeSucceeds}
 use Rattle.lmn_schedule_strategy.specs.Quieting.{AllAwake}
 use Rattle.lmn_schedule_strategy.specs.Turns.{HoldsRestsOf}
 use Rattle.lmn_schedule_strategy.specs.declared.turning.Turn.TheVariants as turn
-use Rattle.lmn_verify_coded.specs.Runs.{CodedTurn, begun, turned}
-use Rattle.lmn_verify_coded.proofs.Stops.{irreducible_at_once, irreducible_is_executed}
+use Rattle.lmn_reduction.specs.Chains.{Chain, no_step, step_after}
+use Rattle.lmn_app_drive.specs.declared.driving.RunEnd.TheVariants as run
+use Rattle.lmn_app_runs.specs.Runs.{end_line, word_of_stop}
+use Rattle.lmn_app_runs.specs.declared.stop.Stop.TheVariants as stop
+use Rattle.lmn_verify_turns.specs.Laws.{AreVerified}
+use Rattle.lmn_verify_coded.specs.Runs.{CodedTurn, Executed, begun, turned}
+use Rattle.lmn_verify_coded.specs.Laws.{HeapsRunAsSolids}
+use Rattle.lmn_verify_solids.specs.Graphs.{IsGraphOf}
+use Rattle.lmn_verify_solids.specs.Heads.{NoneIn}
+use Rattle.lmn_verify_solids.specs.Heaps.{graph_of}
+use Rattle.lmn_verify_solids.specs.Laws.{GraphsHaveHeaps, HeadsAreAlike, OnePreorder}
+use Rattle.lmn_verify_solids.specs.Turns.{CodeNext, NoneSucceeds}
 use Rattle.lmn_instr_code.specs.declared.words.Operand.{Operand}
 use Rattle.lmn_instr_code.specs.declared.words.Operand.TheVariants as operand
 use Rattle.lmn_verify_listing.specs.Lines.{FitsInstr, IsWrongLine, rule}
@@ -64,9 +74,14 @@ use Rattle.lmn_verify_code.specs.Verified.{IsVerified}
 use Rattle.lmn_verify_listing.proofs.Places.{has_no_by_test}
 use Rattle.lmn_verify_compiled.specs.OneReading.{ListedCodesAreRead, VerifiedIsNotRefused}
 use Rattle.lmn_app.specs.ExecExamples.{SmallListingIsRead, SmallListingIsWrong, SmallTextIsExecuted, SmallTextIsNotExecutedSo, leaving, taking}
-use Rattle.lmn_app.specs.Executions.{IsWrongListing, ReadsCodes, coded_input, executed_size}
+use Rattle.lmn_app.specs.Executions.{IsWrongListing, ReadsCodes, executed_size}
+use Rattle.lmn_app.specs.ListingExamples.{small_listing}
+use Rattle.lmn_app.specs.Runnings.{coded_input}
 use Rattle.lmn_app.specs.TextExamples.{no_plan, one_leaf, small_names, small_plain, small_rule, small_text}
 use Rattle.lmn_app.specs.Texts.{Accepts, at_start}
+use Rattle.lmn_app.specs.Writing.{IsListing}
+use Rattle.lmn_app.proofs.OneListing.{one_listing}
+use Rattle.lmn_app.proofs.SmallListings.{small_text_is_listed}
 use Rattle.lmn_app.proofs.SmallRuns.{its_rules, small_named}
 use Rattle.lmn_app.proofs.SmallTexts.{leaves_listed, no_links, reads, small_text_is_accepted}
 use Rattle.lmn_app.proofs.OneOutput.{as_many as same_length}
@@ -585,20 +600,40 @@ its_line =
     ∙ ap (λ rs. calculus.region [] calculus.no_region (slice_index_or rs 0 no_such_rule ∷ [])) its_rules in
     (solid_with [], last_has, subst (λ S. IsLine false S (codes "(a :- b).\n")) (sym region) refl)
 
--- the run by it
-pub small_execution : SmallTextIsExecuted
-unfolding digits
-small_execution = record {
-  of = taking_read;
-  first = first;
-  loaded = first_loaded;
-  awake = first_awake;
-  few = two_items;
-  commits = 1;
-  last = last;
-  valid = last_valid;
-  ran = irreducible_is_executed (coded_input small_names small_plain (taking_code ∷ []) first) 1 last (codes "(a :- b).\n") (turned {n = 0} begun one_turn last_valid) (omega arith) no_turn its_line;
+-- the run by it, over its heap
+abbrev over_heap : Executed (coded_input small_names small_plain (taking_code ∷ []) first) 1 last run.Irreducible (Some []) (Some (codes "(a :- b).\n" ++ end_line (word_of_stop stop.Irreducible) 1))
+over_heap = record {
+  why = stop.Irreducible;
+  stopped = record { last = last; run = turned {n = 0} begun one_turn last_valid; stops = (omega arith, no_turn) };
+  line = codes "(a :- b).\n";
+  is_line = its_line;
+  wrote = inl (refl, refl);
 }
+
+all_taking : AreVerified (taking_code ∷ [])
+all_taking zero code is = subst (λ c. IsVerified c 1) (same_Some taking_code code is) taking_verified
+all_taking (suc n) code is = absurd (cc is)
+
+-- its listing isn't that of the text
+not_its_listing : IsListing small_text taking → ⊥
+not_its_listing is = let e : 63 ≡ 83 = ap length (one_listing small_text taking small_listing is small_text_is_listed.0) in absurd (omega (arith, e))
+
+-- and the run by it, from its solid on
+pub small_execution : HeapsRunAsSolids → SmallTextIsExecuted
+unfolding digits
+small_execution law =
+    let loaded = first_loaded in
+    let x = law (coded_input small_names small_plain (taking_code ∷ []) first) all_taking loaded.solid (record { valid = loaded.valid; unmarked = loaded.unmarked; solid = loaded.of_heap }) 1 last run.Irreducible (Some []) _ over_heap in
+    record {
+      of = taking_read;
+      first = loaded.solid;
+      of_plain = loaded.of_plain;
+      few = two_items loaded.solid loaded.of_plain;
+      commits = 1;
+      ran = x.0;
+      is = ap (λ l. l ++ end_line (word_of_stop stop.Irreducible) 1) x.1;
+      as_run = λ is. absurd (not_its_listing is);
+    }
 
 -- ---- no run ends at once
 
@@ -628,16 +663,26 @@ some_success h name (mem m inner rest) e =
       record { code = taking_code; is = refl; registers = found; succeeds = record { here = refl; all = ((w.1, w.2), (tt, tt)) } },
     )
 
+-- a run without commits is where it began
+at_once : {codes : List Code} {size n : ℕ} {S T : Solid} → Chain (CodeNext codes size) S n T → n ≡ 0 → T ≡ S
+at_once no_step e = refl
+at_once (step_after {n = n} c r) e = absurd (omega (arith, e))
+
 -- so each run by it that ends as irreducible has a commit
-pub no_run_at_once : ListedCodesAreRead → SmallTextIsNotExecutedSo
-no_run_at_once read written x none =
+pub no_run_at_once : ListedCodesAreRead → GraphsHaveHeaps → OnePreorder → HeadsAreAlike → SmallTextIsNotExecutedSo
+no_run_at_once read heaps order alike written x none =
     let of = x.of in
-    let stop = irreducible_at_once (coded_input of.later of.plain of.codes x.first) x.commits x.last (Some []) (Some written) x.ran none in
-    let has = x.loaded.of_heap in
+    let ran = x.ran in
+    let stops : NoneSucceeds of.codes x.first = subst (NoneSucceeds of.codes) (at_once ran.run none) ran.stops.1 in
+    let k = heaps stops.0 x.first stops.1 in
+    let h = k.heap in
+    let has = k.solid in
+    let on : (is : IsGraphOf (graph_of h) x.first) × NoneIn (graph_of h) of.codes is.all =
+    subst (λ g. (is : IsGraphOf g x.first) × NoneIn g of.codes is.all) (sym k.is) (stops.1, stops.2) in
     let top : of.plain.top ≡ small_plain.top = (same_plain of.names of.plain of.plans of.accepted).top in
-    let of_plain = x.loaded.of_plain in
+    let of_plain = x.of_plain in
     let root = of_plain.is ∙ ap (fused_region of_plain.to) top ∙ fold-roll-Level Region (fused_step of_plain.to) _ in
-    let w = some_success x.first has.name has.forest (has.root ∙ ap (λ r. r ∷ []) root) in
+    let w = some_success h has.name has.forest (has.root ∙ ap (λ r. r ∷ []) root) in
     let one = one_code read taking_code taking taking_listed of in
-    let tree = one_tree x.first has.forest stop.0 has.tree stop.1 in
-    stop.2 w.0 (subst (λ f. In w.0 (flat f)) tree w.1) 0 w.2 (subst (λ cs. CodeSucceeds x.first cs w.0 0) one w.3)
+    let s = subst (λ cs. CodeSucceeds h cs w.0 0) one w.3 in
+    on.1 w.0 (subst (In w.0) (sym (order h x.first on.0 has.forest has.tree)) w.1) 0 w.2 s.code s.registers s.is ((alike h s.code.head w.0 s.registers).0.0 s.succeeds)

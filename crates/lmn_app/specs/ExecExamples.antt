@@ -1,7 +1,7 @@
 -- Listings beside a small text, and a run by one.
 use Rattle.std.specs.Prelude.{◌≢◌, List, ℕ, [], codes}
 use Rattle.lmn_base.specs.declared.refusal.Refusal.{Refusal}
-use Rattle.lmn_app_drive.specs.declared.driving.RunEnd.TheVariants as run
+use Rattle.lmn_app_runs.specs.declared.stop.Stop.TheVariants as stop
 use Rattle.lmn_app.specs.declared.ending.Ending.TheVariants.{Done}
 use Rattle.lmn_app.specs.Executions.{IsExecuted, IsExecutedAs, IsWrongListing, ReadsCodes}
 use Rattle.lmn_app.specs.TextExamples.{small_text}
@@ -33,4 +33,4 @@ SmallTextIsExecuted = IsExecutedAs Done small_text taking (codes "(a :- b).\n% i
 
 -- No run by it ends so without a commit.
 abbrev pub SmallTextIsNotExecutedSo : Type 0
-SmallTextIsNotExecutedSo = (written : List ℕ) (x : IsExecuted small_text taking run.Irreducible written) → x.commits ≢ 0
+SmallTextIsNotExecutedSo = (written : List ℕ) (x : IsExecuted small_text taking stop.Irreducible written) → x.commits ≢ 0

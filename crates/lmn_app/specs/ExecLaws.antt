@@ -1,38 +1,29 @@
 -- What `exec` does by the listing that `compile` writes is what `run` does, and what it does by any listing is one.
-use Rattle.std.specs.Prelude.{◌≡◌, ◌≤◌, ℕ, List, [], Some, None, false, length}
-use Rattle.std.specs.declared.alloc.Global.{Global}
+use Rattle.std.specs.Prelude.{◌≡◌, ◌≤◌, ℕ, List, [], Some, None, length}
 use Rattle.lmn_base.specs.declared.refusal.Refusal.{Refusal}
 use Rattle.lmn_verify_coded.specs.Laws.{CameToEnd}
 use Rattle.lmn_app_words.specs.declared.command.PairKind.TheVariants.{Exec}
-use Rattle.lmn_order.specs.declared.order.Order.TheVariants as order
 use Rattle.lmn_app.specs.declared.ending.Ending.{Ending}
 use Rattle.lmn_app.specs.declared.ending.Ending.TheVariants.{Done, Budget, Full, NoMemory}
-use Rattle.lmn_app_words.specs.declared.command.RunSettings.{RunSettings}
 use Rattle.lmn_app.specs.declared.task.Task.TheVariants as task
-use Rattle.lmn_app.specs.Executions.{IsExecuted, IsWrongListing, ReadsCodes, executed_budget, executed_size}
+use Rattle.lmn_app.specs.Executions.{IsExecuted, IsWrongListing, ReadsCodes, run_by_default}
 use Rattle.lmn_app.specs.Outcomes.{Output}
 use Rattle.lmn_app.specs.SecondTexts.{second_bytes}
 use Rattle.lmn_app.specs.Texts.{IsAccepted}
 use Rattle.lmn_app.specs.Writing.{IsListing}
-use Rattle.lmn_app_drive.specs.declared.driving.RunEnd.{RunEnd}
-use Rattle.lmn_app_drive.specs.declared.driving.RunEnd.TheVariants as run
+use Rattle.lmn_app_runs.specs.declared.stop.Stop.{Stop}
+use Rattle.lmn_app_runs.specs.declared.stop.Stop.TheVariants as stop
 
--- what `run` is given with no option
-abbrev pub run_by_default : RunSettings
-run_by_default = record { trace = false; folded = false; budget = executed_budget; size = executed_size; order = order.First }
+-- how `run` ends that stopped so
+abbrev pub EndsAs : Stop → Ending → Type 0
+EndsAs stop.Irreducible ending = ending ≡ Done
+EndsAs stop.Budget ending = ending ≡ Budget
+EndsAs stop.Full ending = ending ≡ Full
+EndsAs stop.NoMemory ending = ending ≡ NoMemory
 
--- how `run` ends that ended so
-abbrev pub EndsAs : RunEnd → Ending → Type 0
-EndsAs run.Irreducible ending = ending ≡ Done
-EndsAs run.Budget ending = ending ≡ Budget
-EndsAs run.Full ending = ending ≡ Full
-EndsAs run.NoMemory ending = ending ≡ NoMemory
-EndsAs run.Failed ending = ⊥
-
--- Where the listing is that of the program, what is written by it is what `run` writes of the program, with the same ending. A box in a
--- condition belongs to an allocator, so one is given.
+-- Where the listing is that of the program, what is written by it is what `run` writes of the program, with the same ending.
 abbrev pub CompiledRunsAsRun : Type 0
-CompiledRunsAsRun = (alloc : Global) (program listing written : List ℕ) (end : RunEnd) (ending : Ending) → EndsAs end ending → IsListing program listing → IsExecuted program listing end written →
+CompiledRunsAsRun = (program listing written : List ℕ) (why : Stop) (ending : Ending) → EndsAs why ending → IsListing program listing → IsExecuted program listing why written →
     Output (task.Run run_by_default) ending (Some (Some program)) (Some []) (Some written)
 
 -- And that listing isn't refused.
@@ -52,8 +43,8 @@ abbrev pub NeitherReadNorRefused : Type 0
 NeitherReadNorRefused = (program listing : List ℕ) → IsAccepted None program → length listing ≤ second_bytes Exec
     → ¬ (¬ (ReadsCodes program listing) × ((refusal : Refusal) → ¬ (IsWrongListing program listing refusal)))
 
--- Two executions of one listing beside one program have as many commits, one end and one text, where both came to their end. How a store
--- numbers what it makes doesn't show, and program and listing determine the list of names.
+-- Two executions of one listing beside one program have as many commits, one end and one text, where both had memory. Program and listing
+-- determine the list of names.
 abbrev pub OneOutput : Type 0
-OneOutput = (program listing written other : List ℕ) (end last : RunEnd) → CameToEnd end → CameToEnd last →
-    (x : IsExecuted program listing end written) (y : IsExecuted program listing last other) → (x.commits ≡ y.commits) × (end ≡ last) × (written ≡ other)
+OneOutput = (program listing written other : List ℕ) (why last : Stop) → CameToEnd why → CameToEnd last →
+    (x : IsExecuted program listing why written) (y : IsExecuted program listing last other) → (x.commits ≡ y.commits) × (why ≡ last) × (written ≡ other)

@@ -1,29 +1,32 @@
 -- What `exec` does with a listing beside a program.
-use Rattle.std.specs.Prelude.{◌≡◌, ◌≤◌, ◌*◌, ℕ, List, [], Some, length}
+use Rattle.std.specs.Prelude.{◌≡◌, ◌≤◌, ◌*◌, ◌++◌, ℕ, List, [], Some, false, length}
 use Rattle.std.specs.List.{AllByRecursion, flat_map}
 use Rattle.lmn_base.specs.declared.refusal.Refusal.{Refusal}
 use Rattle.lmn_base.specs.declared.rule.Plain.{Plain}
 use Rattle.lmn_base.specs.Names.{IsNames}
 use Rattle.lmn_base.specs.Solids.{item_count}
-use Rattle.lmn_verify_coded.specs.Runs.{CodedInput, Executed}
 use Rattle.lmn_base.specs.declared.solid.Solid.{Solid}
 use Rattle.lmn_congruence.specs.Rules.{Name}
 use Rattle.lmn_congruence.specs.SolidsOfPlains.{IsSolidOf}
-use Rattle.lmn_app_drive.specs.declared.driving.RunEnd.{RunEnd}
-use Rattle.lmn_app_drive.specs.declared.driving.RunEnd.TheVariants as run
+use Rattle.lmn_congruence.specs.Translation.{region_of}
+use Rattle.lmn_flatten_plain.specs.SolidLines.{as_level}
+use Rattle.lmn_flatten_plain.specs.Words.{line_of}
 use Rattle.lmn_instr_reading.specs.Reading.{AddsNames, NumbersNames}
 use Rattle.lmn_guards.specs.declared.plan.GuardPlan.{GuardPlan}
-use Rattle.lmn_store_heap.specs.Heap.{Heap}
-use Rattle.lmn_store_heap.specs.Sound.{Valid}
 use Rattle.lmn_instr_code.specs.declared.instr.Code.{Code}
-use Rattle.lmn_schedule_loading.specs.Loaded.{IsLoaded}
-use Rattle.lmn_schedule_strategy.specs.Quieting.{AllAwake}
+use Rattle.lmn_verify_coded.specs.Solids.{RunStopped}
 use Rattle.lmn_verify_listing.specs.Listings.{AreListed, IsRefusedListing}
 use Rattle.lmn_verify_code.specs.Operands.{code_names}
 use Rattle.lmn_verify_code.specs.Verified.{IsVerified}
+use Rattle.lmn_order.specs.declared.order.Order.TheVariants as order
+use Rattle.lmn_app_runs.specs.Runs.{end_line, word_of_stop}
+use Rattle.lmn_app_runs.specs.declared.stop.Stop.{Stop}
+use Rattle.lmn_app_runs.specs.declared.stop.Stop.TheVariants as stop
+use Rattle.lmn_app_words.specs.declared.command.RunSettings.{RunSettings}
 use Rattle.lmn_app.specs.declared.ending.Ending.{Ending}
 use Rattle.lmn_app.specs.declared.ending.Ending.TheVariants.{Done, Budget, WriteFault, NoMemory, Full}
 use Rattle.lmn_app.specs.Texts.{Accepts}
+use Rattle.lmn_app.specs.Writing.{IsListing, WritesRun}
 
 -- the most items of a process that codes run, and the most commits: what `run` takes by default
 abbrev pub executed_size : ℕ
@@ -48,31 +51,32 @@ pub record ReadsCodes (program listing : List ℕ) : Type 0 where
   pub are : AreListed (length plain.rules) later codes listing
   pub verified : AllByRecursion (λ code. IsVerified code (length plain.rules)) codes
 
--- what a run of these codes is given, and the heap at its start
-abbrev pub coded_input : List Name → Plain → List Code → Heap → CodedInput
-coded_input names plain codes first = record { names = names; table = plain.rules; codes = codes; budget = executed_budget; size = executed_size; first = first }
+-- what `run` is given with no option
+abbrev pub run_by_default : RunSettings
+run_by_default = record { trace = false; folded = false; budget = executed_budget; size = executed_size; order = order.First }
 
--- A run of the codes of a listing that ended so, and what is written of it. It begins with a heap that holds the solid of the program's
--- plain, which has few enough items, and in which each membrane is awake; turns by the codes lead from there, in which the root is asked
--- first (`Executed`), and leave a valid heap.
-pub record IsExecuted (program listing : List ℕ) (end : RunEnd) (written : List ℕ) : Type 0 where
+-- A run of the codes of a listing that stopped so, and what is written of it.
+--   first, few   it begins with the solid of the program's plain, which has few enough items
+--   ran          each commit is what the codes choose, the root asked first
+--   is           the plain line of the last solid is written, and the end line
+--   as_run       where the listing is that of the program, `run` with no option writes this of the program too
+pub record IsExecuted (program listing : List ℕ) (why : Stop) (written : List ℕ) : Type 0 where
   pub of : ReadsCodes program listing
-  pub first : Heap
-  pub loaded : IsLoaded of.plain first
-  pub awake : AllAwake first
-  pub few : (s : Solid) → IsSolidOf of.plain s → item_count s ≤ executed_size
+  pub first : Solid
+  pub of_plain : IsSolidOf of.plain first
+  pub few : item_count first ≤ executed_size
   pub commits : ℕ
-  pub last : Heap
-  pub valid : Valid last
-  pub ran : Executed (coded_input of.later of.plain of.codes first) commits last end (Some []) (Some written)
+  pub ran : RunStopped of.codes executed_budget executed_size first commits why
+  pub is : written ≡ line_of (as_level (region_of of.later of.plain.rules ran.last)) ++ end_line (word_of_stop why) commits
+  pub as_run : IsListing program listing → WritesRun run_by_default (Some (Some program)) why (Some []) (Some written)
 
--- What is written where the command ends so: the last process and why the run stopped; where `out` failed, what was due.
+-- What is written where the command ends so; where `out` failed, what was due.
 abbrev pub IsExecutedAs : Ending → List ℕ → List ℕ → List ℕ → Type 0
-IsExecutedAs Done program listing written = IsExecuted program listing run.Irreducible written
-IsExecutedAs Budget program listing written = IsExecuted program listing run.Budget written
-IsExecutedAs Full program listing written = IsExecuted program listing run.Full written
-IsExecutedAs NoMemory program listing written = IsExecuted program listing run.NoMemory written
-IsExecutedAs WriteFault program listing written = (end : RunEnd) × ¬ (end ≡ run.Failed) × IsExecuted program listing end written
+IsExecutedAs Done program listing written = IsExecuted program listing stop.Irreducible written
+IsExecutedAs Budget program listing written = IsExecuted program listing stop.Budget written
+IsExecutedAs Full program listing written = IsExecuted program listing stop.Full written
+IsExecutedAs NoMemory program listing written = IsExecuted program listing stop.NoMemory written
+IsExecutedAs WriteFault program listing written = (why : Stop) × IsExecuted program listing why written
 IsExecutedAs _ program listing written = ⊥
 
 -- This is wrong in the listing beside the program, at the first column of a line: by the code 81 the line doesn't stand in its place, or

@@ -1,9 +1,20 @@
 -- How a call ends whose run or whose orders ended so, without a program, and that writes a line of one, debugs it or runs it by a listing. Contracts of this crate's own functions alone cite these words.
-use Rattle.std.specs.Prelude.{◌≡◌, ◌<◌, ◌⊎◌, ⊤, ℕ, List, Option, Result, Ok, Err, length}
+use Rattle.std.specs.Prelude.{◌≡◌, ◌<◌, ◌≤◌, ◌⊎◌, ⊤, ℕ, List, Option, Result, Ok, Err, length}
 use Rattle.lmn_io.specs.Taking.{Takes, TakesPrefix}
 use Rattle.lmn_app_words.specs.declared.command.PairKind.{PairKind}
 use Rattle.lmn_app_words.specs.declared.command.PairKind.TheVariants.{Debug, Exec}
-use Rattle.lmn_verify_coded.specs.Runs.{CodedInput, Executed}
+use Rattle.lmn_verify_coded.specs.Runs.{CodedInput, Executed, Wrote}
+use Rattle.std.specs.declared.alloc.Global.{Global}
+use Rattle.lmn_base.specs.declared.rule.Plain.{Plain}
+use Rattle.lmn_base.specs.declared.solid.Solid.{Solid}
+use Rattle.lmn_base.specs.Solids.{item_count}
+use Rattle.lmn_congruence.specs.Rules.{Name}
+use Rattle.lmn_congruence.specs.SolidsOfPlains.{IsSolidOf}
+use Rattle.lmn_instr_code.specs.declared.instr.Code.{Code}
+use Rattle.lmn_schedule_loading.specs.Loaded.{IsLoaded}
+use Rattle.lmn_schedule_strategy.specs.Quieting.{AllAwake}
+use Rattle.lmn_app_runs.specs.declared.stop.Stop.{Stop}
+use Rattle.lmn_app_drive.specs.Driving.{stop_end}
 use Rattle.lmn_debug.specs.declared.debugging.DebugFault.{DebugFault}
 use Rattle.lmn_debug.specs.declared.debugging.DebugFault.TheVariants as session
 use Rattle.lmn_app_drive.specs.declared.driving.RunEnd.{RunEnd}
@@ -15,7 +26,7 @@ use Rattle.lmn_store_heap.specs.Sound.{Valid}
 use Rattle.lmn_io.specs.Counts.{FailedLast, Faults, NoneFailed, Rose}
 use Rattle.lmn_debug_script.specs.Scripts.{IsFirstWrong}
 use Rattle.lmn_app.specs.Debugs.{IsDebugged}
-use Rattle.lmn_app.specs.Executions.{IsExecutedAs, IsWrongListing}
+use Rattle.lmn_app.specs.Executions.{IsExecuted, IsExecutedAs, IsWrongListing, ReadsCodes, executed_budget, executed_size}
 use Rattle.lmn_app.specs.Pairs.{IsWritten, IsWrong}
 use Rattle.lmn_app.specs.SecondTexts.{IsSecondCode}
 use Rattle.lmn_app.specs.Texts.{at_start, text_bytes}
@@ -59,6 +70,24 @@ EndsDebugged program script NoMemory old new before after =
     ((new ≡ old) ⊎ ((written : List ℕ) × IsDebugged NoMemory program script written × Takes written old new)) × NoneFailed before after
 EndsDebugged program script (SecondRefused Debug r) old new before after = IsFirstWrong script r × IsSecondCode Debug r.code × (new ≡ old) × NoneFailed before after
 EndsDebugged program script _ old new before after = ⊥
+
+-- what a run of codes over a heap is given
+abbrev pub coded_input : List Name → Plain → List Code → Heap → CodedInput
+coded_input names plain codes first = record { names = names; table = plain.rules; codes = codes; budget = executed_budget; size = executed_size; first = first }
+
+-- What was run of the codes of a listing, over a heap that holds the program's process: it is an execution, and all of its text was
+-- written, or a part.
+pub record HasExecuted (program listing : List ℕ) (end : RunEnd) (old new : Option (List ℕ)) : Type 0 where
+  pub why : Stop
+  pub written : List ℕ
+  pub executed : IsExecuted program listing why written
+  pub wrote : Wrote written (stop_end why) end old new
+
+abbrev pub HeapsAreExecuted : Type 0
+HeapsAreExecuted = (alloc : Global) (program listing : List ℕ) (of : ReadsCodes program listing) (first : Heap) → IsLoaded of.plain first → AllAwake first →
+    ((s : Solid) → IsSolidOf of.plain s → item_count s ≤ executed_size) →
+    (n : ℕ) (last : Heap) (end : RunEnd) (old new : Option (List ℕ)) → Valid last → Executed (coded_input of.later of.plain of.codes first) n last end old new →
+    HasExecuted program listing end old new
 
 -- A run of codes ends a call so, with what `out` took and counts: it wasn't begun for want of memory, or it ended so.
 pub data CodesRun (g : CodedInput) (ending : Ending) (old new : Option (List ℕ)) (before after : Faults) : Type 0 where

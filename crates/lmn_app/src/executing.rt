@@ -9,16 +9,17 @@ ghost use Rattle.lmn_schedule_loading.specs.Loaded.{IsEmpty, IsLoaded, LoadCause
 ghost use Rattle.lmn_schedule_strategy.specs.Quieting.{AllAwake};
 ghost use Rattle.lmn_app_words.specs.Forms.{pair_of, to_pair};
 ghost use Rattle.lmn_verify_coded.specs.Turning.{CodedCanTurn};
-ghost use Rattle.lmn_app.specs.Executions.{coded_input, executed_size};
+ghost use Rattle.lmn_app.specs.Executions.{executed_size};
 ghost use Rattle.lmn_app.specs.Outcomes.{RequestEnded};
 ghost use Rattle.lmn_app.specs.Pairs.{HasProgram};
 ghost use Rattle.lmn_app.specs.Requests.{asked_second};
-ghost use Rattle.lmn_app.specs.Runnings.{CodesRun, EndsExecuted};
+ghost use Rattle.lmn_app.specs.Runnings.{CodesRun, EndsExecuted, coded_input};
 ghost use Rattle.lmn_app.specs.Texts.{Accepts};
 ghost use Rattle.lmn_app.specs.Writing.{IsToldAnd, told_under};
 
 use crate::bounding::stand_once;
 use crate::ending::Ending;
+use crate::laws::heaps_are_executed;
 use crate::pairing::fetch_second;
 use crate::running::{TOO_LARGE, ending_of};
 use lmn_app_accepted::accepted_texts_can_be_loaded;
@@ -138,6 +139,7 @@ fn exec_listing<S: LinkStore + Drop, O: Sink>(
     loading_settles();
     verified_is_runnable();
     verified_is_quiet();
+    heaps_are_executed();
     let rules = accepted.plain.rules.len();
     if rules >= 1 << 32 {
         return Ending::NoMemory;

@@ -16,6 +16,7 @@ ghost use Rattle.lmn_app.specs.LinkExamples.{LinkLeadsThrough};
 ghost use Rattle.lmn_app.specs.ListingExamples.{SmallTextIsListed};
 ghost use Rattle.lmn_app.specs.ListingLaws.{OneListing};
 ghost use Rattle.lmn_app.specs.NameExamples.{SomeNames};
+ghost use Rattle.lmn_app.specs.Runnings.{HeapsAreExecuted};
 ghost use Rattle.lmn_app.specs.RunLaws.{EarlierRunFirst, OneRun, OneRunSoFar};
 ghost use Rattle.lmn_app.specs.SizeLaws.{AcceptedIsSmall, NoneIsLarge};
 ghost use Rattle.lmn_app.specs.TextExamples.{SmallTextHasItsTrace, SmallTextIsAccepted, SmallTextRuns, SmallTextRunsFolded};
@@ -31,11 +32,12 @@ use lmn_receipt_chain::{
     chains_are_commits, no_trace_is_neither, traces_are_chains, traces_are_one_of,
 };
 use lmn_schedule_loading::loading_settles;
-use lmn_verify_coded::{runs_are_one, tables_run_as_rules};
+use lmn_verify_coded::{heaps_run_as_solids, solid_runs_are_one, tables_run_as_rules};
 use lmn_verify_compiled::{
     accepted_can_be_listed, accepted_names_are_few, compiled_are_listed, listed_codes_are_one,
 };
 use lmn_verify_listing::laws::{listed_lines_stand, no_listing_is_neither, wrong_line_is_one};
+use lmn_verify_solids::{graphs_have_heaps, heads_are_alike, heaps_are_graphs};
 use lmn_weight::{
     plains_weigh_alike, weights_are_read_once, weights_are_told_or_wrong, weights_bound_commits,
 };
@@ -204,6 +206,14 @@ pub fn compiled_runs_as_run()
     ensures run { CompiledRunsAsRun }
     ensures refused { CompiledIsNotWrong }
 {
+    compiled_are_listed();
+    accepted_can_be_listed();
+}
+
+/// What is run of the codes of a listing, over a heap that holds the process of a program, is an execution.
+pub(crate) fn heaps_are_executed()
+    ensures { HeapsAreExecuted }
+{
     accepted_texts();
     plains_are_printable();
     traces_are_runs();
@@ -212,17 +222,18 @@ pub fn compiled_runs_as_run()
     plains_are_tables();
     solids_are_regions();
     tables_run_as_rules();
+    heaps_run_as_solids();
     compiled_are_listed();
     accepted_can_be_listed();
 }
 
-/// Two executions of one listing beside one program that came to their ends have one count of commits, one end and one text.
+/// Two executions of one listing beside one program that had memory have one count of commits, one end and one text.
 pub fn executions_are_one()
     ensures { OneOutput }
 {
     accepted_can_be_listed();
     listed_codes_are_one();
-    runs_are_one();
+    solid_runs_are_one();
 }
 
 /// No listing that isn't too long is neither read beside an accepted program nor refused; none is both; and it is refused by one code
@@ -251,6 +262,10 @@ pub fn small_text_is_executed()
 {
     listed_codes_are_one();
     listed_lines_stand();
+    heaps_run_as_solids();
+    graphs_have_heaps();
+    heaps_are_graphs();
+    heads_are_alike();
 }
 
 /// A quote alone is refused at its beginning, where it is told and where nothing is.

@@ -10,7 +10,7 @@ use Rattle.lmn_instr_code.specs.declared.instr.Code.{Code}
 use Rattle.lmn_verify_code.specs.Verified.{IsVerified}
 use Rattle.lmn_verify_code.specs.VerifiedExamples.{VerifiedExamples}
 use Rattle.lmn_verify_coded.specs.Examples.{RunExamples}
-use Rattle.lmn_verify_coded.specs.Laws.{AreVerified}
+use Rattle.lmn_verify_turns.specs.Laws.{AreVerified}
 
 across_unmarked : Unmarked across
 across_unmarked a i = elim (cases_eq a 0) [
@@ -29,7 +29,6 @@ pub run_examples : VerifiedExamples → RunExamples
 run_examples examples = record {
   ended = tt;
   no_memory = λ e. e;
-  failed = λ e. e;
   heap = record { valid = across_is_valid; unmarked = across_unmarked; solid = across_has_its_solid };
   loose_ports = λ x is. loose_is_not_valid is.valid;
   verified = one_verified _ examples.row_of_two_atoms;

@@ -10,11 +10,8 @@ mod Driven
 mod Small
 mod Matches
 mod Costs
-mod Exact
 mod SameBut
 mod Carried
-mod Choosing
-mod Determined
-mod OneStep
-mod OneRun
 mod Compared
+mod OfSolids
+mod OneSolid

@@ -8,11 +8,14 @@ use Rattle.lmn_base.specs.Lists.{In}
 use Rattle.lmn_base.proofs.Lists.{none_is_not}
 use Rattle.lmn_base.proofs.Numbers.{not_equal}
 use Rattle.lmn_store_heap.specs.Heap.{Heap, HeapMem, IsInPlace, IsMem, discarded, finished, gone, lone_root, mem_mark_by, mem_mark_of, mem_marked, mem_place_of, mem_unless_gone, mem_unless_waiting, mem_with_mark, mem_with_spare, rules_by, rules_in, top}
-use Rattle.lmn_store_heap.specs.Examples.{across}
+use Rattle.lmn_store_heap.specs.Examples.{across, across_solid}
 use Rattle.lmn_store_heap.specs.Sound.{IsTree, Valid, bare, mem, flat, item_count_in}
 use Rattle.lmn_store_heap.proofs.Calls.{finished_is_valid, keeps_sound, one_tree}
 use Rattle.lmn_store_heap.proofs.Lone.{is_root, lone_valid}
-use Rattle.lmn_store_heap.proofs.ExampleProofs.{across_is_valid}
+use Rattle.lmn_store_heap.proofs.ExampleProofs.{across_has_its_solid, across_is_valid}
+use Rattle.lmn_reduction.specs.Chains.{no_step}
+use Rattle.lmn_verify_solids.specs.Heaps.{graph_of}
+use Rattle.lmn_verify_solids.specs.Laws.{HeapsAreGraphs}
 use Rattle.lmn_instr_code.specs.Running.{IsFirstSuccess, Succeeds}
 use Rattle.lmn_solid_bodies.specs.Running.{Registers}
 use Rattle.lmn_machine_commit.specs.Waking.{Commits}
@@ -34,7 +37,7 @@ use Rattle.lmn_schedule_strategy.specs.Counting.{AsksRules, asks_all, asks_none,
 use Rattle.lmn_app_drive.specs.Driving.{stop_end}
 use Rattle.lmn_verify_coded.specs.Counting.{RunAsks, more_asked, none_asked}
 use Rattle.lmn_verify_coded.specs.Runs.{CodedRun, CodesStopBy, begun, turned}
-use Rattle.lmn_verify_coded.specs.Examples.{IdleCodeCommits, IdleCodeKeepsAwake, IdleCodeSucceeds, NoCodesAreExecuted, NoCodesCanTurn, NoRuleIsAsked, idle, ruled}
+use Rattle.lmn_verify_coded.specs.Examples.{IdleCodeCommits, IdleCodeKeepsAwake, IdleCodeSucceeds, NoCodesAreExecuted, NoCodesCanTurn, NoCodesStopAtOnce, NoRuleIsAsked, idle, ruled}
 
 -- ---- without codes
 
@@ -311,4 +314,15 @@ pub idle_code_succeeds : IdleCodeSucceeds
 idle_code_succeeds = (
   record { tree = mem 0 bare bare; is_tree = ruled_tree; some = record { membrane = 0; among = inl refl; rule = 0; stands = inl refl; succeeds = idle_succeeds } },
   (λ r. nothing_at ruled r.some.membrane r.some.rule r.some.succeeds),
+)
+
+-- By solids such a run stops at once.
+pub no_codes_stop_at_once : HeapsAreGraphs → NoCodesStopAtOnce
+no_codes_stop_at_once graphs budget = (
+  record {
+    last = across_solid;
+    run = no_step;
+    stops = (omega arith, (graph_of across, graphs across across_solid across_is_valid across_has_its_solid, (λ m i k j code r e s. absurd (cc e))));
+  },
+  (λ n. ((λ x. (let some = x.stops.1 in let e = some.is in absurd (cc e))), (λ x. (let c = x.stops.1 in let e = c.chosen.is in absurd (cc e))))),
 )

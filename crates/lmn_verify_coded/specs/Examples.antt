@@ -15,8 +15,11 @@ use Rattle.lmn_print.specs.Lines.{IsHeapLine}
 use Rattle.lmn_app_drive.specs.declared.driving.RunEnd.TheVariants as end
 use Rattle.lmn_verify_coded.specs.Turning.{CodedCanTurn}
 use Rattle.lmn_verify_coded.specs.Counting.{CountsRun}
-use Rattle.lmn_verify_coded.specs.Laws.{AreVerified, CameToEnd, IsValidHeapOf}
+use Rattle.lmn_app_runs.specs.declared.stop.Stop.TheVariants as stop
+use Rattle.lmn_verify_turns.specs.Laws.{AreVerified}
+use Rattle.lmn_verify_coded.specs.Laws.{CameToEnd, IsValidHeapOf}
 use Rattle.lmn_verify_coded.specs.Runs.{CodedInput, CodedRun, CodedTurn, Executed, IsReducible}
+use Rattle.lmn_verify_coded.specs.Solids.{RunStopped}
 
 -- code that succeeds everywhere and changes nothing
 abbrev pub idle : Code
@@ -57,6 +60,11 @@ NoCodesAreExecuted = (names : List Name) (budget : ℕ) (line : List ℕ) → Is
     Executed (no_codes names budget) 0 across end.Irreducible (Some []) (Some (line ++ codes "% irreducible after 0\n"))
     × ((n : ℕ) (h : Heap) (old new : Option (List ℕ)) → Executed (no_codes names budget) n h end.Budget old new → ⊥)
 
+-- By its solid it stops at once, for the same reason, and neither since its budget is done nor since too many items would be left.
+abbrev pub NoCodesStopAtOnce : Type 0
+NoCodesStopAtOnce = (budget : ℕ) → RunStopped [] budget 3 across_solid 0 stop.Irreducible
+    × ((n : ℕ) → (RunStopped [] budget 3 across_solid n stop.Budget → ⊥) × (RunStopped [] budget 3 across_solid n stop.Full → ⊥))
+
 -- `a, a :- b.`
 abbrev pub replaced : Code
 replaced = two_atoms apart (one_made (functor name_b 0))
@@ -65,18 +73,16 @@ replaced = two_atoms apart (one_made (functor name_b 0))
 abbrev pub unset : Code
 unset = code (FindAtom 0 1 (functor name_a 0) ∷ (Commit ∷ [])) (RemoveAtom 0 ∷ (Proceed ∷ []))
 
--- What two runs that are one ask.
+-- What runs of solids ask of heaps, codes and ends.
 --   ended        a run that stopped since no code succeeds came to its end
 --   no_memory    one that stopped for want of memory didn't
---   failed       nor did one of which a put failed
 --   heap         `{a(X)}, b(X)` is a heap of its solid
 --   loose_ports  and where the ports aren't joined it is a heap of no solid
 --   verified     the code of `a, a :- b.` is verified
 --   not_set      and code whose membrane isn't set isn't
 pub record RunExamples : Type 0 where
-  pub ended : CameToEnd end.Irreducible
-  pub no_memory : CameToEnd end.NoMemory → ⊥
-  pub failed : CameToEnd end.Failed → ⊥
+  pub ended : CameToEnd stop.Irreducible
+  pub no_memory : CameToEnd stop.NoMemory → ⊥
   pub heap : IsValidHeapOf across across_solid
   pub loose_ports : (x : Solid) → IsValidHeapOf loose x → ⊥
   pub verified : AreVerified (replaced ∷ [])

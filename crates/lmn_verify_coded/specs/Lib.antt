@@ -1,5 +1,6 @@
 pub mod Turning
 pub mod Lending
+pub mod Solids
 pub mod Runs
 pub mod Counting
 pub mod Steps

@@ -1,18 +1,15 @@
 //! Laws of runs of codes, and small examples: each the contract of a function that at most names other laws.
-ghost use Rattle.lmn_verify_coded.specs.Examples.{IdleCodeCommits, IdleCodeKeepsAwake, IdleCodeSucceeds, NoCodesAreExecuted, NoCodesCanTurn, NoRuleIsAsked, RunExamples};
-ghost use Rattle.lmn_verify_coded.specs.Laws.{StopsAreExact, RunsAreOne, TablesRunAsRules, TurnsAreExact};
+ghost use Rattle.lmn_verify_coded.specs.Examples.{IdleCodeCommits, IdleCodeKeepsAwake, IdleCodeSucceeds, NoCodesAreExecuted, NoCodesCanTurn, NoCodesStopAtOnce, NoRuleIsAsked, RunExamples};
+ghost use Rattle.lmn_verify_coded.specs.Laws.{HeapsRunAsSolids, SolidRunsAreOne, TablesRunAsRules};
 
 use lmn_adequacy_choices::{
     marks_are_not_read, nothing_embeds, spares_are_not_read, turns_are_alike, turns_are_of_chooser,
 };
 use lmn_print::heaps_have_one_line;
-use lmn_verify_laws::{
-    commits_stay_unmarked, integers_are_one, verified_fires, verified_heads_lie,
-    verified_is_in_order, verified_is_rule, verified_is_runnable, verified_rests,
-    verified_sets_flat,
-};
+use lmn_verify_laws::commits_stay_unmarked;
 use lmn_verify_listing::laws::verified_examples;
-use lmn_verify_renaming::firings_are_renamed;
+use lmn_verify_solids::heaps_are_graphs;
+use lmn_verify_turns::{choices_are_one, one_next, successes_are_some, turns_are_choices};
 
 /// What is executed of the codes of a table of rules, from a heap that holds a solid, is a run of the rules in which the root is
 /// asked first.
@@ -27,31 +24,23 @@ pub fn tables_run_as_rules()
     heaps_have_one_line();
 }
 
-/// Codes that can be run have one answer to a turn on a heap, but that want of memory may come where a turn would commit.
-pub fn turns_are_exact()
-    ensures { TurnsAreExact }
-{}
-
-/// A run of them stops at a heap for one reason.
-pub fn stops_are_exact()
-    ensures { StopsAreExact }
-{}
-
-/// Two runs of verified codes from heaps of one solid that came to their ends have one count of commits, one end and one text.
-pub fn runs_are_one()
-    ensures { RunsAreOne }
+/// What is executed of verified codes over a heap is a run from the solid of the heap on, which stopped for the same reason, with the
+/// same text.
+pub fn heaps_run_as_solids()
+    ensures { HeapsRunAsSolids }
 {
-    verified_fires();
-    firings_are_renamed();
-    verified_is_in_order();
-    verified_heads_lie();
-    verified_rests();
-    verified_is_rule();
-    verified_sets_flat();
-    integers_are_one();
+    turns_are_choices();
+    successes_are_some();
     commits_stay_unmarked();
-    verified_is_runnable();
     heaps_have_one_line();
+}
+
+/// Two runs of verified codes from one solid that came to their ends have one count of commits, one end and one last solid.
+pub fn solid_runs_are_one()
+    ensures { SolidRunsAreOne }
+{
+    one_next();
+    choices_are_one();
 }
 
 /// What a turn asks, without codes: of the root alone, awake or asleep, and of the root with a rule.
@@ -84,7 +73,14 @@ pub fn no_codes_are_executed()
     ensures { NoCodesAreExecuted }
 {}
 
-/// What two runs that are one ask: ends, heaps and codes that are so, and ones that aren't.
+/// By solids such a run stops at once, and not since its budget is done.
+pub fn no_codes_stop_at_once()
+    ensures { NoCodesStopAtOnce }
+{
+    heaps_are_graphs();
+}
+
+/// What runs of solids ask of heaps, codes and ends: ones that are so, and ones that aren't.
 pub fn run_examples()
     ensures { RunExamples }
 {

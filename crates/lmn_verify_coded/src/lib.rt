@@ -7,8 +7,8 @@ mod running;
 
 pub use executing::execute;
 pub use laws::{
-    idle_code_commits, idle_code_keeps_awake, idle_code_succeeds, no_codes_are_executed,
-    no_codes_can_turn, no_rule_is_asked, run_examples, runs_are_one, stops_are_exact,
-    tables_run_as_rules, turns_are_exact,
+    heaps_run_as_solids, idle_code_commits, idle_code_keeps_awake, idle_code_succeeds,
+    no_codes_are_executed, no_codes_can_turn, no_codes_stop_at_once, no_rule_is_asked,
+    run_examples, solid_runs_are_one, tables_run_as_rules,
 };
 pub use running::Coded;

@@ -33,8 +33,7 @@ returns-in-Ok g c = λ program a.
       are = subst (λ n. AreListed n c.read.new.names c.in-Ok.codes c.args.listing.now) many c.in-Ok.ensures.listed;
       verified = subst (λ n. AllByRecursion (λ code. IsVerified code n) c.in-Ok.codes) many c.in-Ok.ensures.verified;
     } in
-    let l = c.requires.loaded in
-    codes_ended program c.args.listing.now of (g.S.LinkStore.heap c.args.store) l c.requires.awake c.requires.fits _ _ _ _ c.exec_codes.result c.exec_codes.ensures
+    codes_ended program c.args.listing.now _ _ _ _ c.heaps_are_executed.ensures c.args.alloc of (g.S.LinkStore.heap c.args.store) c.requires.loaded c.requires.awake c.requires.fits c.exec_codes.result c.exec_codes.ensures
 
 pub returns-in-Err-Refused : goal.returns-in-Err-Refused
 returns-in-Err-Refused g c = λ program a.

@@ -8,7 +8,7 @@ pub returns-clause-wrong : goal.returns-clause-wrong
 returns-clause-wrong c = small_listing_is_wrong c.listed_codes_are_one.ensures.refused c.listed_lines_stand.ensures
 
 pub returns-clause-executed : goal.returns-clause-executed
-returns-clause-executed c = small_execution
+returns-clause-executed c = small_execution c.heaps_run_as_solids.ensures
 
 pub returns-clause-not_so : goal.returns-clause-not_so
-returns-clause-not_so c = no_run_at_once c.listed_codes_are_one.ensures.read
+returns-clause-not_so c = no_run_at_once c.listed_codes_are_one.ensures.read c.graphs_have_heaps.ensures c.heaps_are_graphs.ensures.preorder c.heads_are_alike.ensures
