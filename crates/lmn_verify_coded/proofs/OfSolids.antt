@@ -62,8 +62,7 @@ pub heaps_run_as_solids : TurnsAreChoices → SuccessesAreSome → CommitsStayUn
 heaps_run_as_solids law some unmarked lines g verified S x n h' end old new e =
     let stopped = e.stopped in
     let at = run_of_solids law some unmarked g.codes verified g.size g.first S x stopped.run in
-    let line : e.line ≡ line_of (as_level (region_of g.names g.table at.0)) = (let here = at.1 in lines false g.names g.table stopped.last e.line _ here.valid e.is_line (at.0, here.solid, refl)) in
-    (
+    let line : e.line ≡ line_of (as_level (region_of g.names g.table at.0)) = (let here = at.1 in lines false g.names g.table stopped.last e.line _ here.valid e.is_line (at.0, here.solid, refl)) in (
       record { last = at.0; run = at.2; stops = stops_at law some unmarked g.codes verified g.size g.budget n stopped.last h' at.0 at.1 e.why stopped.stops },
       line,
     )
