@@ -8,10 +8,6 @@ mod Countings
 mod Turned
 mod Driven
 mod Small
-mod Matches
-mod Costs
-mod SameBut
-mod Carried
 mod Compared
 mod OfSolids
 mod OneSolid

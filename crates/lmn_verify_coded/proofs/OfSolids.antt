@@ -22,7 +22,7 @@ use Rattle.lmn_verify_turns.specs.Laws.{AreVerified, IsAnswerOn, SuccessesAreSom
 use Rattle.lmn_verify_coded.specs.Laws.{HeapsRunAsSolids, IsValidHeapOf}
 use Rattle.lmn_verify_coded.specs.Runs.{CodedRun, CodedTurn, CodesStopBy, begun, turned}
 use Rattle.lmn_verify_coded.specs.Solids.{StopsAt}
-use Rattle.lmn_verify_coded.proofs.SameBut.{marks_apart, solid_same}
+use Rattle.lmn_verify_turns.proofs.SameBut.{marks_apart, solid_same}
 
 -- a heap with other marks of membranes has the same solid
 pub of_marks : (h k : Heap) → SameButMarks h k → (S : Solid) → IsValidHeapOf h S → IsValidHeapOf k S

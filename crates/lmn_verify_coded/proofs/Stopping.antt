@@ -10,7 +10,7 @@ use Rattle.lmn_app_runs.specs.declared.stop.Stop.{Stop}
 use Rattle.lmn_app_runs.specs.declared.stop.Stop.TheVariants as stop
 use Rattle.lmn_verify_coded.specs.Runs.{CodedRun, StoppedRun, CodesStopBy, begun, turned}
 use Rattle.lmn_verify_coded.proofs.Lines.{line_before}
-use Rattle.lmn_verify_coded.proofs.SameBut.{marks_apart, same_back, solid_same}
+use Rattle.lmn_verify_turns.proofs.SameBut.{marks_apart, same_back, solid_same}
 use Rattle.lmn_base.specs.declared.rule.RuleTree.{RuleTree}
 use Rattle.lmn_congruence.specs.Rules.{Name}
 use Rattle.lmn_print.specs.Lines.{IsHeapLine}
