@@ -4,7 +4,7 @@ use Rattle.std.specs.Prelude.{slice_get, IfSome}
 use Rattle.lmn_base.specs.declared.functor.Functor.{Functor}
 use Rattle.lmn_instr_code.specs.declared.instr.Instr.{Instr}
 use Rattle.lmn_instr_code.specs.declared.instr.Instr.TheVariants.{FindAtom, Deref, AnyMem, IsInt, IsUnary, IsGround, NAtoms, IsClosed, EqGround, NeqGround, GetInt, Const, Add, Sub, Mul, Div, Mod}
-use Rattle.lmn_machine.specs.Searching.{HeadInOrder, ChoosesNone, Extends}
+use Rattle.lmn_machine.specs.Searching.{HeadInOrder, Extends}
 use Rattle.std.specs.Option.{option_map}
 use Rattle.lmn_store_heap.specs.Lists.{from, after}
 use Rattle.lmn_store_heap.specs.Functors.{with_functor}
@@ -53,12 +53,6 @@ order_first _ a m g v is o = (o.0, tt)
 -- an instruction that chooses a membrane sets the next register
 pub membrane_ahead : (a m g v x y : ℕ) (left is : List Instr) → left ≡ AnyMem x y ∷ is → HeadInOrder a m g v left → ((x ≡ m) × (y < m) × (m < ROOM)) × HeadInOrder a (m + 1) g v is
 membrane_ahead a m g v x y left is e o = subst (λ k. HeadInOrder a m g v k) e o
-
--- an instruction that chooses neither atom nor membrane chooses nothing
-pub no_choice : (i : Instr) → ((x y : ℕ) (f : Functor) → i ≡ FindAtom x y f → ⊥) → ((x y : ℕ) → i ≡ AnyMem x y → ⊥) → ChoosesNone i
-no_choice (FindAtom x y f) d e = d x y f refl
-no_choice (AnyMem x y) d e = e x y refl
-no_choice _ d e = tt
 
 -- what holds of the value of an option, if there is one
 

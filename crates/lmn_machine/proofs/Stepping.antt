@@ -6,11 +6,12 @@ use Rattle.lmn_store_heap.specs.Heap.{Heap}
 use Rattle.lmn_solid_heads.specs.Embeddings.{ListNotAfter}
 use Rattle.lmn_instr_code.specs.declared.instr.AtomPort.{AtomPort}
 use Rattle.lmn_instr_code.specs.declared.instr.Instr.{Instr}
-use Rattle.lmn_instr_code.specs.declared.instr.Instr.TheVariants.{FindAtom, Deref, Func, InMem, NeqAtom, Joined, NotIn, AnyMem, NeqMem, IsInt, IsUnary, IsGround, NAtoms, NMems, NoRules, IsClosed, EqGround, NeqGround, GetInt, Const, Add, Sub, Mul, Div, Mod}
+use Rattle.lmn_instr_code.specs.declared.instr.Instr.TheVariants.{FindAtom, Deref, Func, InMem, NeqAtom, Joined, NotIn, AnyMem, NeqMem, IsInt, IsUnary, IsGround, NAtoms, NMems, NoRules, IsClosed, EqGround, NeqGround, GetInt, Const, Add, Sub, Mul, Div, Mod, Lt, Le, Gt, Ge, Eq, Ne, Commit}
 use Rattle.lmn_instr_code.specs.Running.{HeadRegisters, HeadSize, InstructionHolds, AllHold, atoms_set, membranes_set, choices}
 use Rattle.lmn_machine_registers.specs.declared.registers.SetRegisters.{SetRegisters}
 use Rattle.lmn_machine_registers.specs.Agreeing.{Agrees}
-use Rattle.lmn_machine.specs.Searching.{AreHeldWhole, AsksNoPart, Compares, Extends, SetsAll, AllSet, TestsSetRegisters, Searched, Stepped, ChoosesNone, HeadInOrder, SetsMore, parts_set, integers_set}
+use Rattle.lmn_machine.specs.Searching.{AreHeldWhole, Compares, Extends, SetsAll, AllSet, TestsSetRegisters, Searched, Stepped, ChoosesNone, HeadInOrder, SetsMore, parts_set, integers_set}
+use Rattle.lmn_machine.specs.Outcomes.{ComparesIntegers, TestsAtoms, TestsMembranes}
 use Rattle.lmn_base.proofs.Lists.{take_whole as take_all}
 
 -- tests set no register
@@ -35,55 +36,103 @@ check_order (Div x y z) a m g v is r o = absurd r
 check_order (Mod x y z) a m g v is r o = absurd r
 check_order _ a m g v is r o = o.1
 
--- an instruction without a choice that neither sets an atom nor looks at a part
-pub asks_no_part : (i : Instr) → ChoosesNone i → ((x : ℕ) (p : AtomPort) (e : ℕ) → i ≡ Deref x p e → ⊥) → ((x : ℕ) (p : AtomPort) (y : ℕ) → i ≡ IsInt x p y → ⊥) → ((x : ℕ) (p : AtomPort) (y : ℕ) → i ≡ IsUnary x p y → ⊥) →
-    ((x : ℕ) (p : AtomPort) (y : ℕ) → i ≡ IsGround x p y → ⊥) → ((x y : ℕ) → i ≡ EqGround x y → ⊥) → ((x y : ℕ) → i ≡ NeqGround x y → ⊥) → ((x n : ℕ) (gs : List ℕ) → i ≡ NAtoms x n gs → ⊥) → ((x : ℕ) (gs : List ℕ) → i ≡ IsClosed x gs → ⊥) → AsksNoPart i
-asks_no_part (FindAtom x y f) c d k l b eq ne n r = absurd c
-asks_no_part (AnyMem x y) c d k l b eq ne n r = absurd c
-asks_no_part (Deref x y e) c d k l b eq ne n r = absurd (d x y e refl)
-asks_no_part (IsInt x y z) c d k l b eq ne n r = absurd (k x y z refl)
-asks_no_part (IsUnary x y z) c d k l b eq ne n r = absurd (l x y z refl)
-asks_no_part (IsGround x y z) c d k l b eq ne n r = absurd (b x y z refl)
-asks_no_part (EqGround x y) c d k l b eq ne n r = absurd (eq x y refl)
-asks_no_part (NeqGround x y) c d k l b eq ne n r = absurd (ne x y refl)
-asks_no_part (NAtoms x y gs) c d k l b eq ne n r = absurd (n x y gs refl)
-asks_no_part (IsClosed x gs) c d k l b eq ne n r = absurd (r x gs refl)
-asks_no_part _ c d k l b eq ne n r = tt
+-- an instruction of a head in order that is none of these compares integers
+pub left_over : (i : Instr) (a m g v : ℕ) → HeadInOrder a m g v (i ∷ []) →
+    ((x y : ℕ) (f : Functor) → i ≡ FindAtom x y f → ⊥) → ((x y : ℕ) → i ≡ AnyMem x y → ⊥) → ((x : ℕ) (p : AtomPort) (e : ℕ) → i ≡ Deref x p e → ⊥) →
+    ((x : ℕ) (p : AtomPort) (y : ℕ) → i ≡ IsInt x p y → ⊥) → ((x : ℕ) (p : AtomPort) (y : ℕ) → i ≡ IsUnary x p y → ⊥) →
+    ((x : ℕ) (p : AtomPort) (y : ℕ) → i ≡ IsGround x p y → ⊥) → ((x y : ℕ) → i ≡ EqGround x y → ⊥) → ((x y : ℕ) → i ≡ NeqGround x y → ⊥) →
+    ((x n : ℕ) (gs : List ℕ) → i ≡ NAtoms x n gs → ⊥) → ((x : ℕ) (gs : List ℕ) → i ≡ IsClosed x gs → ⊥) → ((x y : ℕ) → i ≡ GetInt x y → ⊥) →
+    ((x : ℕ) (z : ℤ) → i ≡ Const x z → ⊥) → ((x y z : ℕ) → i ≡ Add x y z → ⊥) → ((x y z : ℕ) → i ≡ Sub x y z → ⊥) → ((x y z : ℕ) → i ≡ Mul x y z → ⊥) →
+    ((x y z : ℕ) → i ≡ Div x y z → ⊥) → ((x y z : ℕ) → i ≡ Mod x y z → ⊥) → ((x : ℕ) (f : Functor) → i ≡ Func x f → ⊥) →
+    ((x y : ℕ) → i ≡ InMem x y → ⊥) → ((x y : ℕ) → i ≡ NeqAtom x y → ⊥) → ((p q : AtomPort) → i ≡ Joined p q → ⊥) → ((x y : ℕ) → i ≡ NeqMem x y → ⊥) →
+    ((x n : ℕ) → i ≡ NMems x n → ⊥) → ((x : ℕ) → i ≡ NoRules x → ⊥) → ((p : AtomPort) (x : ℕ) → i ≡ NotIn p x → ⊥) → ComparesIntegers i
+left_over (FindAtom x y f) a m g v o h0 h1 h2 h3 h4 h5 h6 h7 h8 h9 h10 h11 h12 h13 h14 h15 h16 h17 h18 h19 h20 h21 h22 h23 h24 = absurd (h0 x y f refl)
+left_over (AnyMem x y) a m g v o h0 h1 h2 h3 h4 h5 h6 h7 h8 h9 h10 h11 h12 h13 h14 h15 h16 h17 h18 h19 h20 h21 h22 h23 h24 = absurd (h1 x y refl)
+left_over (Deref x p e) a m g v o h0 h1 h2 h3 h4 h5 h6 h7 h8 h9 h10 h11 h12 h13 h14 h15 h16 h17 h18 h19 h20 h21 h22 h23 h24 = absurd (h2 x p e refl)
+left_over (IsInt x p y) a m g v o h0 h1 h2 h3 h4 h5 h6 h7 h8 h9 h10 h11 h12 h13 h14 h15 h16 h17 h18 h19 h20 h21 h22 h23 h24 = absurd (h3 x p y refl)
+left_over (IsUnary x p y) a m g v o h0 h1 h2 h3 h4 h5 h6 h7 h8 h9 h10 h11 h12 h13 h14 h15 h16 h17 h18 h19 h20 h21 h22 h23 h24 = absurd (h4 x p y refl)
+left_over (IsGround x p y) a m g v o h0 h1 h2 h3 h4 h5 h6 h7 h8 h9 h10 h11 h12 h13 h14 h15 h16 h17 h18 h19 h20 h21 h22 h23 h24 = absurd (h5 x p y refl)
+left_over (EqGround x y) a m g v o h0 h1 h2 h3 h4 h5 h6 h7 h8 h9 h10 h11 h12 h13 h14 h15 h16 h17 h18 h19 h20 h21 h22 h23 h24 = absurd (h6 x y refl)
+left_over (NeqGround x y) a m g v o h0 h1 h2 h3 h4 h5 h6 h7 h8 h9 h10 h11 h12 h13 h14 h15 h16 h17 h18 h19 h20 h21 h22 h23 h24 = absurd (h7 x y refl)
+left_over (NAtoms x n gs) a m g v o h0 h1 h2 h3 h4 h5 h6 h7 h8 h9 h10 h11 h12 h13 h14 h15 h16 h17 h18 h19 h20 h21 h22 h23 h24 = absurd (h8 x n gs refl)
+left_over (IsClosed x gs) a m g v o h0 h1 h2 h3 h4 h5 h6 h7 h8 h9 h10 h11 h12 h13 h14 h15 h16 h17 h18 h19 h20 h21 h22 h23 h24 = absurd (h9 x gs refl)
+left_over (GetInt x y) a m g v o h0 h1 h2 h3 h4 h5 h6 h7 h8 h9 h10 h11 h12 h13 h14 h15 h16 h17 h18 h19 h20 h21 h22 h23 h24 = absurd (h10 x y refl)
+left_over (Const x z) a m g v o h0 h1 h2 h3 h4 h5 h6 h7 h8 h9 h10 h11 h12 h13 h14 h15 h16 h17 h18 h19 h20 h21 h22 h23 h24 = absurd (h11 x z refl)
+left_over (Add x y z) a m g v o h0 h1 h2 h3 h4 h5 h6 h7 h8 h9 h10 h11 h12 h13 h14 h15 h16 h17 h18 h19 h20 h21 h22 h23 h24 = absurd (h12 x y z refl)
+left_over (Sub x y z) a m g v o h0 h1 h2 h3 h4 h5 h6 h7 h8 h9 h10 h11 h12 h13 h14 h15 h16 h17 h18 h19 h20 h21 h22 h23 h24 = absurd (h13 x y z refl)
+left_over (Mul x y z) a m g v o h0 h1 h2 h3 h4 h5 h6 h7 h8 h9 h10 h11 h12 h13 h14 h15 h16 h17 h18 h19 h20 h21 h22 h23 h24 = absurd (h14 x y z refl)
+left_over (Div x y z) a m g v o h0 h1 h2 h3 h4 h5 h6 h7 h8 h9 h10 h11 h12 h13 h14 h15 h16 h17 h18 h19 h20 h21 h22 h23 h24 = absurd (h15 x y z refl)
+left_over (Mod x y z) a m g v o h0 h1 h2 h3 h4 h5 h6 h7 h8 h9 h10 h11 h12 h13 h14 h15 h16 h17 h18 h19 h20 h21 h22 h23 h24 = absurd (h16 x y z refl)
+left_over (Func x f) a m g v o h0 h1 h2 h3 h4 h5 h6 h7 h8 h9 h10 h11 h12 h13 h14 h15 h16 h17 h18 h19 h20 h21 h22 h23 h24 = absurd (h17 x f refl)
+left_over (InMem x y) a m g v o h0 h1 h2 h3 h4 h5 h6 h7 h8 h9 h10 h11 h12 h13 h14 h15 h16 h17 h18 h19 h20 h21 h22 h23 h24 = absurd (h18 x y refl)
+left_over (NeqAtom x y) a m g v o h0 h1 h2 h3 h4 h5 h6 h7 h8 h9 h10 h11 h12 h13 h14 h15 h16 h17 h18 h19 h20 h21 h22 h23 h24 = absurd (h19 x y refl)
+left_over (Joined p q) a m g v o h0 h1 h2 h3 h4 h5 h6 h7 h8 h9 h10 h11 h12 h13 h14 h15 h16 h17 h18 h19 h20 h21 h22 h23 h24 = absurd (h20 p q refl)
+left_over (NeqMem x y) a m g v o h0 h1 h2 h3 h4 h5 h6 h7 h8 h9 h10 h11 h12 h13 h14 h15 h16 h17 h18 h19 h20 h21 h22 h23 h24 = absurd (h21 x y refl)
+left_over (NMems x n) a m g v o h0 h1 h2 h3 h4 h5 h6 h7 h8 h9 h10 h11 h12 h13 h14 h15 h16 h17 h18 h19 h20 h21 h22 h23 h24 = absurd (h22 x n refl)
+left_over (NoRules x) a m g v o h0 h1 h2 h3 h4 h5 h6 h7 h8 h9 h10 h11 h12 h13 h14 h15 h16 h17 h18 h19 h20 h21 h22 h23 h24 = absurd (h23 x refl)
+left_over (NotIn p x) a m g v o h0 h1 h2 h3 h4 h5 h6 h7 h8 h9 h10 h11 h12 h13 h14 h15 h16 h17 h18 h19 h20 h21 h22 h23 h24 = absurd (h24 p x refl)
+left_over (Lt x y) a m g v o h0 h1 h2 h3 h4 h5 h6 h7 h8 h9 h10 h11 h12 h13 h14 h15 h16 h17 h18 h19 h20 h21 h22 h23 h24 = tt
+left_over (Le x y) a m g v o h0 h1 h2 h3 h4 h5 h6 h7 h8 h9 h10 h11 h12 h13 h14 h15 h16 h17 h18 h19 h20 h21 h22 h23 h24 = tt
+left_over (Gt x y) a m g v o h0 h1 h2 h3 h4 h5 h6 h7 h8 h9 h10 h11 h12 h13 h14 h15 h16 h17 h18 h19 h20 h21 h22 h23 h24 = tt
+left_over (Ge x y) a m g v o h0 h1 h2 h3 h4 h5 h6 h7 h8 h9 h10 h11 h12 h13 h14 h15 h16 h17 h18 h19 h20 h21 h22 h23 h24 = tt
+left_over (Eq x y) a m g v o h0 h1 h2 h3 h4 h5 h6 h7 h8 h9 h10 h11 h12 h13 h14 h15 h16 h17 h18 h19 h20 h21 h22 h23 h24 = tt
+left_over (Ne x y) a m g v o h0 h1 h2 h3 h4 h5 h6 h7 h8 h9 h10 h11 h12 h13 h14 h15 h16 h17 h18 h19 h20 h21 h22 h23 h24 = tt
+left_over Commit a m g v o h0 h1 h2 h3 h4 h5 h6 h7 h8 h9 h10 h11 h12 h13 h14 h15 h16 h17 h18 h19 h20 h21 h22 h23 h24 = tt
+left_over _ a m g v o h0 h1 h2 h3 h4 h5 h6 h7 h8 h9 h10 h11 h12 h13 h14 h15 h16 h17 h18 h19 h20 h21 h22 h23 h24 = absurd o.0
 
--- where it doesn't set an integer either, it is a test of registers that are set
-pub test_reads : (i : Instr) (a m g v : ℕ) → AsksNoPart i → ((x y : ℕ) → i ≡ GetInt x y → ⊥) → ((x : ℕ) (z : ℤ) → i ≡ Const x z → ⊥) → ((x y z : ℕ) → i ≡ Add x y z → ⊥) → ((x y z : ℕ) → i ≡ Sub x y z → ⊥) →
-    ((x y z : ℕ) → i ≡ Mul x y z → ⊥) → ((x y z : ℕ) → i ≡ Div x y z → ⊥) → ((x y z : ℕ) → i ≡ Mod x y z → ⊥) → HeadInOrder a m g v (i ∷ []) → TestsSetRegisters a m v i
-test_reads (FindAtom x y f) a m g v c w n p q r s t o = absurd c
-test_reads (AnyMem x y) a m g v c w n p q r s t o = absurd c
-test_reads (Deref x y e) a m g v c w n p q r s t o = absurd c
-test_reads (IsInt x y z) a m g v c w n p q r s t o = absurd c
-test_reads (IsUnary x y z) a m g v c w n p q r s t o = absurd c
-test_reads (IsGround x y z) a m g v c w n p q r s t o = absurd c
-test_reads (EqGround x y) a m g v c w n p q r s t o = absurd c
-test_reads (NeqGround x y) a m g v c w n p q r s t o = absurd c
-test_reads (NAtoms x y gs) a m g v c w n p q r s t o = absurd c
-test_reads (IsClosed x gs) a m g v c w n p q r s t o = absurd c
-test_reads (GetInt x y) a m g v c w n p q r s t o = absurd (w x y refl)
-test_reads (Const x z) a m g v c w n p q r s t o = absurd (n x z refl)
-test_reads (Add x y z) a m g v c w n p q r s t o = absurd (p x y z refl)
-test_reads (Sub x y z) a m g v c w n p q r s t o = absurd (q x y z refl)
-test_reads (Mul x y z) a m g v c w n p q r s t o = absurd (r x y z refl)
-test_reads (Div x y z) a m g v c w n p q r s t o = absurd (s x y z refl)
-test_reads (Mod x y z) a m g v c w n p q r s t o = absurd (t x y z refl)
-test_reads _ a m g v c w n p q r s t o = o.0
+-- a test of atoms is one of four
+pub atom_test : (i : Instr) → TestsAtoms i → ((x : ℕ) (f : Functor) → i ≡ Func x f → ⊥) → ((x y : ℕ) → i ≡ InMem x y → ⊥) → ((x y : ℕ) → i ≡ NeqAtom x y → ⊥) → ((p q : AtomPort) → i ≡ Joined p q → ⊥) → ⊥
+atom_test (Func x f) t b c d e = b x f refl
+atom_test (InMem x y) t b c d e = c x y refl
+atom_test (NeqAtom x y) t b c d e = d x y refl
+atom_test (Joined p q) t b c d e = e p q refl
+atom_test _ t b c d e = t
 
--- where it doesn't look at atoms or membranes either, it compares integers
-pub test_compares : (i : Instr) (a m v : ℕ) → TestsSetRegisters a m v i → ((x : ℕ) (f : Functor) → i ≡ Func x f → ⊥) → ((x y : ℕ) → i ≡ InMem x y → ⊥) → ((x y : ℕ) → i ≡ NeqAtom x y → ⊥) → ((p q : AtomPort) → i ≡ Joined p q → ⊥) →
-    ((x y : ℕ) → i ≡ NeqMem x y → ⊥) → ((x n : ℕ) → i ≡ NMems x n → ⊥) → ((x : ℕ) → i ≡ NoRules x → ⊥) → ((p : AtomPort) (x : ℕ) → i ≡ NotIn p x → ⊥) → Compares v i
-test_compares (Func x f) a m v r b c d e g k l n = absurd (b x f refl)
-test_compares (InMem x y) a m v r b c d e g k l n = absurd (c x y refl)
-test_compares (NeqAtom x y) a m v r b c d e g k l n = absurd (d x y refl)
-test_compares (Joined p q) a m v r b c d e g k l n = absurd (e p q refl)
-test_compares (NeqMem x y) a m v r b c d e g k l n = absurd (g x y refl)
-test_compares (NMems x y) a m v r b c d e g k l n = absurd (k x y refl)
-test_compares (NoRules x) a m v r b c d e g k l n = absurd (l x refl)
-test_compares (NotIn p x) a m v r b c d e g k l n = absurd (n p x refl)
-test_compares _ a m v r b c d e g k l n = r
+-- and so is a test of membranes
+pub membrane_test : (i : Instr) → TestsMembranes i → ((x y : ℕ) → i ≡ NeqMem x y → ⊥) → ((x n : ℕ) → i ≡ NMems x n → ⊥) → ((x : ℕ) → i ≡ NoRules x → ⊥) → ((p : AtomPort) (x : ℕ) → i ≡ NotIn p x → ⊥) → ⊥
+membrane_test (NeqMem x y) t b c d e = b x y refl
+membrane_test (NMems x n) t b c d e = c x n refl
+membrane_test (NoRules x) t b c d e = d x refl
+membrane_test (NotIn p x) t b c d e = e p x refl
+membrane_test _ t b c d e = t
+
+-- a test of atoms, in order, reads registers that are set
+pub atom_test_reads : (i : Instr) (a m g v : ℕ) → TestsAtoms i → HeadInOrder a m g v (i ∷ []) → TestsSetRegisters a m v i
+atom_test_reads (Func x f) a m g v t o = o.0
+atom_test_reads (InMem x y) a m g v t o = o.0
+atom_test_reads (NeqAtom x y) a m g v t o = o.0
+atom_test_reads (Joined p q) a m g v t o = o.0
+atom_test_reads _ a m g v t o = absurd t
+
+-- likewise a test of membranes
+pub membrane_test_reads : (i : Instr) (a m g v : ℕ) → TestsMembranes i → HeadInOrder a m g v (i ∷ []) → TestsSetRegisters a m v i
+membrane_test_reads (NeqMem x y) a m g v t o = o.0
+membrane_test_reads (NMems x n) a m g v t o = o.0
+membrane_test_reads (NoRules x) a m g v t o = o.0
+membrane_test_reads (NotIn p x) a m g v t o = o.0
+membrane_test_reads _ a m g v t o = absurd t
+
+-- likewise a comparison
+pub comparison_reads : (i : Instr) (a m g v : ℕ) → ComparesIntegers i → HeadInOrder a m g v (i ∷ []) → Compares v i
+comparison_reads (Lt x y) a m g v t o = o.0
+comparison_reads (Le x y) a m g v t o = o.0
+comparison_reads (Gt x y) a m g v t o = o.0
+comparison_reads (Ge x y) a m g v t o = o.0
+comparison_reads (Eq x y) a m g v t o = o.0
+comparison_reads (Ne x y) a m g v t o = o.0
+comparison_reads Commit a m g v t o = tt
+comparison_reads _ a m g v t o = absurd t
+
+-- and it is a test of registers that are set
+pub compares_tests : (i : Instr) (a m g v : ℕ) → ComparesIntegers i → HeadInOrder a m g v (i ∷ []) → TestsSetRegisters a m v i
+compares_tests (Lt x y) a m g v t o = o.0
+compares_tests (Le x y) a m g v t o = o.0
+compares_tests (Gt x y) a m g v t o = o.0
+compares_tests (Ge x y) a m g v t o = o.0
+compares_tests (Eq x y) a m g v t o = o.0
+compares_tests (Ne x y) a m g v t o = o.0
+compares_tests Commit a m g v t o = tt
+compares_tests _ a m g v t o = absurd t
 
 -- what is set when an instruction is run that speaks of all registers of a head is all that its code sets
 all_set : (c : HeadSize) (a m g v : ℕ) (i : Instr) (is : List Instr) → c.atoms ≡ a + atoms_set (i ∷ is) → c.membranes ≡ m + membranes_set (i ∷ is) → HeadInOrder a m g v (i ∷ is) → AllSet c a m i

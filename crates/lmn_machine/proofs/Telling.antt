@@ -6,8 +6,8 @@ use Rattle.lmn_store_heap.specs.Heap.{Heap}
 use Rattle.lmn_instr_code.specs.declared.instr.Instr.{Instr}
 use Rattle.lmn_instr_code.specs.declared.instr.Instr.TheVariants.{FindAtom, AnyMem}
 use Rattle.lmn_machine_registers.specs.declared.registers.SetRegisters.{SetRegisters}
-use Rattle.lmn_machine.specs.Searching.{AsksNoPart, ChoosesNone, Stepped}
-use Rattle.lmn_machine.specs.Outcomes.{ChoosesAtoms, ChoosesMembranes, HasOutcome, Tells}
+use Rattle.lmn_machine.specs.Searching.{ChoosesNone, Stepped}
+use Rattle.lmn_machine.specs.Outcomes.{ChoosesAtoms, ChoosesMembranes, ComparesIntegers, HasOutcome, Tells, TestsAtoms, TestsMembranes}
 use Rattle.lmn_machine.specs.declared.steps.Outcome.{Outcome}
 use Rattle.lmn_machine.specs.declared.steps.Outcome.TheVariants.{Holds, Fails, ChoosesAtom, ChoosesMembrane}
 
@@ -19,11 +19,23 @@ told atom membrane h g k holds Fails i none t s = subst (λ b. Stepped atom memb
 told atom membrane h g k holds ChoosesAtom i none t s = absurd t
 told atom membrane h g k holds ChoosesMembrane i none t s = absurd t
 
--- an instruction that asks for no part makes no choice
-pub chooses_none : (i : Instr) → AsksNoPart i → ChoosesNone i
-chooses_none (FindAtom x y f) a = absurd a
-chooses_none (AnyMem x y) a = absurd a
-chooses_none _ a = tt
+-- a test of atoms makes no choice
+pub atom_test_chooses_none : (i : Instr) → TestsAtoms i → ChoosesNone i
+atom_test_chooses_none (FindAtom x y f) a = absurd a
+atom_test_chooses_none (AnyMem x y) a = absurd a
+atom_test_chooses_none _ a = tt
+
+-- nor a test of membranes
+pub membrane_test_chooses_none : (i : Instr) → TestsMembranes i → ChoosesNone i
+membrane_test_chooses_none (FindAtom x y f) a = absurd a
+membrane_test_chooses_none (AnyMem x y) a = absurd a
+membrane_test_chooses_none _ a = tt
+
+-- nor a comparison
+pub comparison_chooses_none : (i : Instr) → ComparesIntegers i → ChoosesNone i
+comparison_chooses_none (FindAtom x y f) a = absurd a
+comparison_chooses_none (AnyMem x y) a = absurd a
+comparison_chooses_none _ a = tt
 
 -- what chooses atoms is FINDATOM
 pub atoms_chosen : (i : Instr) → ((x y : ℕ) (f : Functor) → i ≡ FindAtom x y f → ⊥) → ChoosesAtoms i → ⊥

@@ -3,7 +3,7 @@ use Rattle.std.specs.Prelude.{ℕ, Bool, true, false, ◌≡◌, Option, Some, I
 use Rattle.std.specs.Option.{option_map}
 use Rattle.lmn_store_heap.specs.Heap.{Heap, IsAtom, link_of, port_id}
 use Rattle.lmn_instr_code.specs.declared.instr.Instr.{Instr}
-use Rattle.lmn_instr_code.specs.declared.instr.Instr.TheVariants.{FindAtom, AnyMem}
+use Rattle.lmn_instr_code.specs.declared.instr.Instr.TheVariants.{FindAtom, AnyMem, Func, InMem, NeqAtom, Joined, NeqMem, NMems, NoRules, NotIn, Lt, Le, Gt, Ge, Eq, Ne, Commit}
 use Rattle.lmn_machine_registers.specs.declared.registers.SetRegisters.{SetRegisters}
 use Rattle.lmn_machine.specs.Searching.{ChoosesNone, Stepped}
 use Rattle.lmn_machine.specs.declared.steps.Outcome.{Outcome}
@@ -25,6 +25,33 @@ ChoosesAtoms _ = ⊥
 abbrev pub ChoosesMembranes : Instr → Type 0
 ChoosesMembranes (AnyMem x y) = Unit {0}
 ChoosesMembranes _ = ⊥
+
+-- a test of atoms
+abbrev pub TestsAtoms : Instr → Type 0
+TestsAtoms (Func x f) = Unit {0}
+TestsAtoms (InMem x y) = Unit {0}
+TestsAtoms (NeqAtom x y) = Unit {0}
+TestsAtoms (Joined p q) = Unit {0}
+TestsAtoms _ = ⊥
+
+-- a test of membranes
+abbrev pub TestsMembranes : Instr → Type 0
+TestsMembranes (NeqMem x y) = Unit {0}
+TestsMembranes (NMems x n) = Unit {0}
+TestsMembranes (NoRules x) = Unit {0}
+TestsMembranes (NotIn p x) = Unit {0}
+TestsMembranes _ = ⊥
+
+-- a comparison of integers, or COMMIT
+abbrev pub ComparesIntegers : Instr → Type 0
+ComparesIntegers (Lt x y) = Unit {0}
+ComparesIntegers (Le x y) = Unit {0}
+ComparesIntegers (Gt x y) = Unit {0}
+ComparesIntegers (Ge x y) = Unit {0}
+ComparesIntegers (Eq x y) = Unit {0}
+ComparesIntegers (Ne x y) = Unit {0}
+ComparesIntegers Commit = Unit {0}
+ComparesIntegers _ = ⊥
 
 -- An instruction without a choice was run, and one with a choice left the registers as they were.
 abbrev pub HasOutcome : {A M : Type 0} → (A → ℕ) → (M → ℕ) → Heap → SetRegisters A M → SetRegisters A M → Outcome → Instr → Type 0

@@ -157,20 +157,6 @@ ChoosesNone (FindAtom x y f) = ⊥
 ChoosesNone (AnyMem x y) = ⊥
 ChoosesNone _ = Unit {0}
 
--- Neither a choice, nor DEREF, nor an instruction that sets or looks at typed contexts; GETINT may be one.
-abbrev pub AsksNoPart : Instr → Type 0
-AsksNoPart (FindAtom x y f) = ⊥
-AsksNoPart (AnyMem x y) = ⊥
-AsksNoPart (Deref x p k) = ⊥
-AsksNoPart (IsInt x p y) = ⊥
-AsksNoPart (IsUnary x p y) = ⊥
-AsksNoPart (IsGround x p y) = ⊥
-AsksNoPart (NAtoms x n gs) = ⊥
-AsksNoPart (IsClosed x gs) = ⊥
-AsksNoPart (EqGround x y) = ⊥
-AsksNoPart (NeqGround x y) = ⊥
-AsksNoPart _ = Unit {0}
-
 -- Where an instruction speaks of all atom registers of a head, or of all of its membrane registers, they are the first a and
 -- the first m, which are set.
 abbrev pub AllSet : HeadSize → ℕ → ℕ → Instr → Type 0

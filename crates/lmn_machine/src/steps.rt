@@ -3,8 +3,8 @@ ghost use Rattle.lmn_store_heap.specs.Sound.{Valid};
 ghost use Rattle.lmn_instr_code.specs.Running.{HeadRegisters, HeadSize, InstructionHolds};
 ghost use Rattle.lmn_store_heap.specs.Heap.{Heap, Unmarked};
 ghost use Rattle.lmn_machine_registers.specs.Agreeing.{Agrees};
-ghost use Rattle.lmn_machine.specs.Searching.{AreHeldWhole, AsksNoPart, Compares, TestsSetRegisters, HeadInOrder, HasGiven, HasGivenPart, Stepped};
-ghost use Rattle.lmn_machine.specs.Outcomes.{HasOutcome, Tells};
+ghost use Rattle.lmn_machine.specs.Searching.{AreHeldWhole, Compares, TestsSetRegisters, HeadInOrder, HasGiven, HasGivenPart, Stepped};
+ghost use Rattle.lmn_machine.specs.Outcomes.{ComparesIntegers, HasOutcome, Tells, TestsAtoms, TestsMembranes};
 ghost use Rattle.lmn_instr_code.specs.declared.instr.Instr.TheVariants.{Deref};
 
 use crate::{checks, integers, others, parts, rests, whole};
@@ -48,12 +48,13 @@ fn compare<A: Copy, M: Copy>(set: &SetRegisters<A, M>, instr: &Instr) -> bool
     }
 }
 
-/// Whether a test holds of the registers that are set.
+/// Whether a test of atoms holds of the registers that are set.
 #[inline(always)]
-fn check<S: LinkStore>(store: &S, set: &SetRegisters<S::Atom, S::Mem>, instr: &Instr) -> bool
+fn check_atoms<S: LinkStore>(store: &S, set: &SetRegisters<S::Atom, S::Mem>, instr: &Instr) -> bool
     requires valid { Valid (S.heap store.now) }
     requires held { AreHeldWhole S.atom_id S.mem_id (S.heap store.now) set.now }
     requires reads { TestsSetRegisters (length set.now.atoms) (length set.now.membranes) (length set.now.integers) instr.now }
+    requires tests { TestsAtoms instr.now }
     ensures { (c : HeadSize) (s : HeadRegisters) → Agrees S.atom_id S.mem_id set.now s → (IsTrue result ↔ InstructionHolds (S.heap store.now) c s instr.now) }
 {
     match instr {
@@ -81,6 +82,24 @@ fn check<S: LinkStore>(store: &S, set: &SetRegisters<S::Atom, S::Mem>, instr: &I
                 other.port,
             )
         }
+        _ => false,
+    }
+}
+
+/// Whether a test of membranes holds of the registers that are set.
+#[inline(always)]
+fn check_membranes<S: LinkStore>(
+    store: &S,
+    set: &SetRegisters<S::Atom, S::Mem>,
+    instr: &Instr,
+) -> bool
+    requires valid { Valid (S.heap store.now) }
+    requires held { AreHeldWhole S.atom_id S.mem_id (S.heap store.now) set.now }
+    requires reads { TestsSetRegisters (length set.now.atoms) (length set.now.membranes) (length set.now.integers) instr.now }
+    requires tests { TestsMembranes instr.now }
+    ensures { (c : HeadSize) (s : HeadRegisters) → Agrees S.atom_id S.mem_id set.now s → (IsTrue result ↔ InstructionHolds (S.heap store.now) c s instr.now) }
+{
+    match instr {
         Instr::NeqMem { membrane, other } => checks::membranes_differ(
             store,
             set.membranes.at(*membrane as usize),
@@ -103,7 +122,7 @@ fn check<S: LinkStore>(store: &S, set: &SetRegisters<S::Atom, S::Mem>, instr: &I
                 set.membranes.at(*membrane as usize),
             )
         }
-        _ => compare(set, instr),
+        _ => false,
     }
 }
 
@@ -159,64 +178,6 @@ pub fn set_part<A: Copy, M: Copy>(set: &mut SetRegisters<A, M>, root: Option<(A,
     }
 }
 
-/// Runs an instruction that sets an integer, or a test.
-#[inline(always)]
-fn compute<S: LinkStore>(store: &S, set: &mut SetRegisters<S::Atom, S::Mem>, instr: &Instr) -> bool
-    requires valid { Valid (S.heap store.now) }
-    requires held { AreHeldWhole S.atom_id S.mem_id (S.heap store.now) set.old }
-    requires order { HeadInOrder (length set.old.atoms) (length set.old.membranes) (length set.old.parts) (length set.old.integers) (instr.now ∷ []) }
-    requires no_part { AsksNoPart instr.now }
-    ensures { Stepped S.atom_id S.mem_id (S.heap store.now) set.old set.new result instr.now }
-{
-    match instr {
-        Instr::GetInt { part, .. } => {
-            let root = set.parts.at(*part as usize);
-            let value = parts::integer_of(store, root.0);
-            set_integer(set, value)
-        }
-        Instr::Const { value, .. } => {
-            let number = integers::constant(value);
-            set_integer(set, number)
-        }
-        Instr::Add { left, right, .. } => {
-            let value = integers::sum(
-                set.integers.at(*left as usize),
-                set.integers.at(*right as usize),
-            );
-            set_integer(set, value)
-        }
-        Instr::Sub { left, right, .. } => {
-            let value = integers::difference(
-                set.integers.at(*left as usize),
-                set.integers.at(*right as usize),
-            );
-            set_integer(set, value)
-        }
-        Instr::Mul { left, right, .. } => {
-            let value = integers::product(
-                set.integers.at(*left as usize),
-                set.integers.at(*right as usize),
-            );
-            set_integer(set, value)
-        }
-        Instr::Div { left, right, .. } => {
-            let value = integers::quotient(
-                set.integers.at(*left as usize),
-                set.integers.at(*right as usize),
-            );
-            set_integer(set, value)
-        }
-        Instr::Mod { left, right, .. } => {
-            let value = integers::remainder(
-                set.integers.at(*left as usize),
-                set.integers.at(*right as usize),
-            );
-            set_integer(set, value)
-        }
-        _ => check(store, set, instr),
-    }
-}
-
 /// What became of an instruction.
 #[derive(Clone, Copy)]
 pub enum Outcome {
@@ -242,16 +203,51 @@ fn outcome_of(holds: bool) -> Outcome
     }
 }
 
-/// Runs an instruction that sets an integer, or a test.
+/// Runs a test of atoms.
 #[inline(always)]
-fn run<S: LinkStore>(store: &S, set: &mut SetRegisters<S::Atom, S::Mem>, instr: &Instr) -> Outcome
+fn run_atom_test<S: LinkStore>(
+    store: &S,
+    set: &SetRegisters<S::Atom, S::Mem>,
+    instr: &Instr,
+) -> Outcome
     requires valid { Valid (S.heap store.now) }
-    requires held { AreHeldWhole S.atom_id S.mem_id (S.heap store.now) set.old }
-    requires order { HeadInOrder (length set.old.atoms) (length set.old.membranes) (length set.old.parts) (length set.old.integers) (instr.now ∷ []) }
-    requires no_part { AsksNoPart instr.now }
-    ensures { HasOutcome S.atom_id S.mem_id (S.heap store.now) set.old set.new result instr.now }
+    requires held { AreHeldWhole S.atom_id S.mem_id (S.heap store.now) set.now }
+    requires order { HeadInOrder (length set.now.atoms) (length set.now.membranes) (length set.now.parts) (length set.now.integers) (instr.now ∷ []) }
+    requires tests { TestsAtoms instr.now }
+    ensures { HasOutcome S.atom_id S.mem_id (S.heap store.now) set.now set.now result instr.now }
 {
-    outcome_of(compute(store, set, instr))
+    outcome_of(check_atoms(store, set, instr))
+}
+
+/// Runs a test of membranes.
+#[inline(always)]
+fn run_membrane_test<S: LinkStore>(
+    store: &S,
+    set: &SetRegisters<S::Atom, S::Mem>,
+    instr: &Instr,
+) -> Outcome
+    requires valid { Valid (S.heap store.now) }
+    requires held { AreHeldWhole S.atom_id S.mem_id (S.heap store.now) set.now }
+    requires order { HeadInOrder (length set.now.atoms) (length set.now.membranes) (length set.now.parts) (length set.now.integers) (instr.now ∷ []) }
+    requires tests { TestsMembranes instr.now }
+    ensures { HasOutcome S.atom_id S.mem_id (S.heap store.now) set.now set.now result instr.now }
+{
+    outcome_of(check_membranes(store, set, instr))
+}
+
+/// Runs a comparison of integers, or COMMIT.
+#[inline(always)]
+fn run_comparison<S: LinkStore>(
+    store: &S,
+    set: &SetRegisters<S::Atom, S::Mem>,
+    instr: &Instr,
+) -> Outcome
+    requires held { AreHeldWhole S.atom_id S.mem_id (S.heap store.now) set.now }
+    requires order { HeadInOrder (length set.now.atoms) (length set.now.membranes) (length set.now.parts) (length set.now.integers) (instr.now ∷ []) }
+    requires compares { ComparesIntegers instr.now }
+    ensures { HasOutcome S.atom_id S.mem_id (S.heap store.now) set.now set.now result instr.now }
+{
+    outcome_of(compare(set, instr))
 }
 
 /// Runs an instruction, unless it makes a choice.
@@ -313,29 +309,60 @@ pub fn step<S: LinkStore>(
             let place = set.membranes.at(*membrane as usize);
             outcome_of(rests::is_closed(store, set, place, parts.as_slice()))
         }
-        // Each of these is an arm of its own, so that one jump leads to what it does.
-        Instr::GetInt { .. } => run(store, set, instr),
-        Instr::Const { .. } => run(store, set, instr),
-        Instr::Add { .. } => run(store, set, instr),
-        Instr::Sub { .. } => run(store, set, instr),
-        Instr::Mul { .. } => run(store, set, instr),
-        Instr::Div { .. } => run(store, set, instr),
-        Instr::Mod { .. } => run(store, set, instr),
-        Instr::Func { .. } => run(store, set, instr),
-        Instr::InMem { .. } => run(store, set, instr),
-        Instr::NeqAtom { .. } => run(store, set, instr),
-        Instr::Joined { .. } => run(store, set, instr),
-        Instr::NeqMem { .. } => run(store, set, instr),
-        Instr::NMems { .. } => run(store, set, instr),
-        Instr::NoRules { .. } => run(store, set, instr),
-        Instr::NotIn { .. } => run(store, set, instr),
-        Instr::Lt { .. } => run(store, set, instr),
-        Instr::Le { .. } => run(store, set, instr),
-        Instr::Gt { .. } => run(store, set, instr),
-        Instr::Ge { .. } => run(store, set, instr),
-        Instr::Eq { .. } => run(store, set, instr),
-        Instr::Ne { .. } => run(store, set, instr),
-        Instr::Commit => run(store, set, instr),
-        _ => run(store, set, instr),
+        Instr::GetInt { part, .. } => {
+            let root = set.parts.at(*part as usize);
+            let value = parts::integer_of(store, root.0);
+            outcome_of(set_integer(set, value))
+        }
+        Instr::Const { value, .. } => {
+            let number = integers::constant(value);
+            outcome_of(set_integer(set, number))
+        }
+        Instr::Add { left, right, .. } => {
+            let value = integers::sum(
+                set.integers.at(*left as usize),
+                set.integers.at(*right as usize),
+            );
+            outcome_of(set_integer(set, value))
+        }
+        Instr::Sub { left, right, .. } => {
+            let value = integers::difference(
+                set.integers.at(*left as usize),
+                set.integers.at(*right as usize),
+            );
+            outcome_of(set_integer(set, value))
+        }
+        Instr::Mul { left, right, .. } => {
+            let value = integers::product(
+                set.integers.at(*left as usize),
+                set.integers.at(*right as usize),
+            );
+            outcome_of(set_integer(set, value))
+        }
+        Instr::Div { left, right, .. } => {
+            let value = integers::quotient(
+                set.integers.at(*left as usize),
+                set.integers.at(*right as usize),
+            );
+            outcome_of(set_integer(set, value))
+        }
+        Instr::Mod { left, right, .. } => {
+            let value = integers::remainder(
+                set.integers.at(*left as usize),
+                set.integers.at(*right as usize),
+            );
+            outcome_of(set_integer(set, value))
+        }
+        // Each of these is an arm of its own, so that one jump leads to what it does. It calls what knows its kind alone: `step` is
+        // to be small enough to be a part of both searches.
+        Instr::Func { .. } => run_atom_test(store, set, instr),
+        Instr::InMem { .. } => run_atom_test(store, set, instr),
+        Instr::NeqAtom { .. } => run_atom_test(store, set, instr),
+        Instr::Joined { .. } => run_atom_test(store, set, instr),
+        Instr::NeqMem { .. } => run_membrane_test(store, set, instr),
+        Instr::NMems { .. } => run_membrane_test(store, set, instr),
+        Instr::NoRules { .. } => run_membrane_test(store, set, instr),
+        Instr::NotIn { .. } => run_membrane_test(store, set, instr),
+        _ => run_comparison(store, set, instr),
     }
 }
