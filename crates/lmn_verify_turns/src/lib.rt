@@ -1,7 +1,7 @@
 //! Laws of turns of verified codes: what they do on a heap they do on its solid, and it is one.
 #![tactic(auto)]
 
-ghost use Rattle.lmn_verify_turns.specs.Examples.{AnswerExamples};
+ghost use Rattle.lmn_verify_turns.specs.Examples.{AnswerExamples, FirstExamples};
 ghost use Rattle.lmn_verify_turns.specs.Laws.{ChoicesAreOne, OneNext, SuccessesAreSome, TurnsAreChoices};
 
 use lmn_print_plain::{heaps_have_solids, one_solid};
@@ -77,3 +77,8 @@ pub fn answer_examples()
 {
     turn_examples();
 }
+
+/// The first of two successes, and the first of two codes that succeed.
+pub fn first_examples()
+    ensures { FirstExamples }
+{}
