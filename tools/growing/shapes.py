@@ -118,6 +118,12 @@ def end_of(line):
     return lambda program, text, n: first_line(program, text) + line
 
 
+def spoiled(program, text, n):
+    """The first two lines of a trace; the last item of the second one is another one."""
+    first, second = program(['run', '--trace', '--budget', '1'], text).split('\n')[:2]
+    return first + '\n' + second[:-len('b)}.')] + 'c)}.\n'
+
+
 def trace(*words):
     return lambda program, text, n: program(['run', '--trace', *words], text)
 
@@ -240,7 +246,7 @@ OTHERS = [
     Shape('exec: many rules', 300, lambda n: each('a{}:-b', n), command='exec', second=listing),
     Shape('exec: pairs of 255 links', 8, paired, command='exec', second=listing),
     Shape('exec: 128 atoms told apart again', 2000, lambda n: 'b. ' + ','.join(['a'] * 128) + ':-b.', command='exec', second=telling_apart),
-    Shape('exec: copies', 100, lambda n: 'k(z). k($x):-ground($x)|' + ','.join(['m($x)'] * n) + '.', command='exec', second=listing),
+    Shape('exec: copies', 50, lambda n: 'k(z). k($x):-ground($x)|' + ','.join(['m($x)'] * n) + '.', command='exec', second=listing, asked='each context of a body, of 1,024 items at most, is compared with the others', power=2),
     Shape('check: a long trace', 200, COUNT.format, command='check', second=trace()),
     Shape('check: membranes in turn, 20 firings', 50, lambda n: clauses(['{a. a:-b.}'] * n), command='check', second=lambda program, text, n: program(['run', '--trace', '--order', 'turn', '--budget', '20'], text)),
     Shape('check: many rules, 5 firings', 200, lambda n: each('a{}:-b', n) + 'c. c:-d. d:-e. e:-f.', command='check', second=trace()),
@@ -255,6 +261,8 @@ OTHERS = [
     Shape('check: a closed rest before a condition', 500, lambda n: '{%s}. {x($n),$p[]}:-$n<0|.' % items('x({})', n), command='check', second=trace()),
     Shape('check: one equal atom too few', 8, lambda n: '%s. %s:-b.' % (','.join(['a'] * (n - 1)), ','.join(['a'] * n)), command='check', second=trace(), asked='each atom of a head is counted among the others', power=2),
     Shape('check: a wrong line', 50, lambda n: clauses(['{a. a:-b.}'] * n), command='check', second=end_of('wrong.\n')),
+    Shape('check: a wrong line, and a ground part in each head', 50, lambda n: clauses(['{a(x). a($g):-ground($g)|b($g).}'] * n), command='check', second=end_of('wrong.\n')),
+    Shape('check: a wrong line as long as the right ones', 25, lambda n: clauses(['{a. a:-b.}'] * n), command='check', second=spoiled),
     Shape('check: an end behind what copies', 12, copies, command='check', second=end_of('% full after 0\n')),
     Shape('check: a wrong line behind what copies', 12, copies, command='check', second=end_of('wrong.\n')),
     Shape('debug: until so many are there', 300, lambda n: 'a. a:-a,b.', command='debug', second=script('until b/0 >= {}\n')),
