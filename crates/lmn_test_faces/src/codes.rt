@@ -31,11 +31,11 @@ pub fn listed<O: Sink>(code: &Code, number: u32, names: &Names, sink: &mut O) ->
     list(code, number, names, sink)
 }
 
-/// The first instruction of a body, if it has one.
-pub fn first_instruction(code: &Code) -> Option<&Instr>
-    ensures { option_copied result ≡ slice_get code.now.body 0 }
+/// The first of some instructions, if there is one.
+pub fn first_instruction(code: &[Instr]) -> Option<&Instr>
+    ensures { option_copied result ≡ slice_get code.now 0 }
 {
-    code.body.as_slice().first()
+    code.first()
 }
 
 /// Two ports as instructions have them: of an atom's register, and of any that a body joins.
