@@ -1,5 +1,4 @@
--- That a program was fetched, and what a command with a second text asks for beside it. Contracts of this crate's own functions alone cite
--- these words.
+-- That a program was fetched, and what is asked for beside it. Contracts of this crate's own functions alone cite these words.
 use Rattle.std.specs.Prelude.{◌≡◌, ◌⊎◌, List, Option, ℕ}
 use Rattle.lmn_base.specs.declared.rule.Plain.{Plain}
 use Rattle.lmn_congruence.specs.Rules.{Name}
