@@ -60,6 +60,7 @@ fn refutes<S: LinkStore>(
 }
 
 /// Whether an instruction of code, where there is one, fails with an atom in the register that it tests.
+#[inline(always)]
 fn is_refuted<S: LinkStore>(
     store: &S,
     code: &Instrs<'_>,
