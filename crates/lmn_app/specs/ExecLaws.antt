@@ -43,8 +43,8 @@ abbrev pub NeitherReadNorRefused : Type 0
 NeitherReadNorRefused = (program listing : List ℕ) → IsAccepted None program → length listing ≤ second_bytes Exec
     → ¬ (¬ (ReadsCodes program listing) × ((refusal : Refusal) → ¬ (IsWrongListing program listing refusal)))
 
--- Two executions of one listing beside one program have as many commits, one end and one text, where both had memory. Program and listing
--- determine the list of names.
+-- Two executions of one listing beside one program have as many commits, one end and one text, where both came to their end. Program and
+-- listing determine the list of names.
 abbrev pub OneOutput : Type 0
 OneOutput = (program listing written other : List ℕ) (why last : Stop) → CameToEnd why → CameToEnd last →
     (x : IsExecuted program listing why written) (y : IsExecuted program listing last other) → (x.commits ≡ y.commits) × (why ≡ last) × (written ≡ other)

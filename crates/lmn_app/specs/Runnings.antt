@@ -83,6 +83,7 @@ pub record HasExecuted (program listing : List ℕ) (end : RunEnd) (old new : Op
   pub executed : IsExecuted program listing why written
   pub wrote : Wrote written (stop_end why) end old new
 
+-- So it is where such a heap has the solid of the program's plain, which has few enough items.
 abbrev pub HeapsAreExecuted : Type 0
 HeapsAreExecuted = (alloc : Global) (program listing : List ℕ) (of : ReadsCodes program listing) (first : Heap) → IsLoaded of.plain first → AllAwake first →
     ((s : Solid) → IsSolidOf of.plain s → item_count s ≤ executed_size) →

@@ -227,7 +227,7 @@ pub(crate) fn heaps_are_executed()
     accepted_can_be_listed();
 }
 
-/// Two executions of one listing beside one program that had memory have one count of commits, one end and one text.
+/// Two executions of one listing beside one program that came to their ends have one count of commits, one end and one text.
 pub fn executions_are_one()
     ensures { OneOutput }
 {
