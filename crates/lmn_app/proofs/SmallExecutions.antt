@@ -35,7 +35,7 @@ use Rattle.lmn_guards.specs.declared.plan.GuardPlan.{GuardPlan}
 use Rattle.lmn_store_heap.specs.Heap.{Heap, HeapAtom, HeapMem, IsMem, atoms_by, atoms_in, finished, functor_of, gone, home_by, lone_root, made_atom, marks_of, mem_mark_by, mem_unless_waiting, mem_with_spare, partners_of, placed, rule_added, rules_in, taken, top, unless_waiting}
 use Rattle.lmn_store_heap.specs.Solid.{HasSolid, regions_of, solid_atom_at, solid_atoms_at}
 use Rattle.lmn_store_heap.specs.Sound.{Forest, IsTree, Sound, Valid, bare, flat, item_count_in, mem}
-use Rattle.lmn_store_heap.proofs.Calls.{finished_is_valid, keeps_sound}
+use Rattle.lmn_store_heap.proofs.Calls.{finished_is_valid, keeps_sound, one_tree}
 use Rattle.lmn_store_heap.proofs.Lone.{lone_valid}
 use Rattle.lmn_instr_code.specs.declared.instr.Code.{Code}
 use Rattle.lmn_instr_code.specs.declared.instr.Instr.{Instr}
