@@ -1,7 +1,6 @@
 -- Rows that are cells: one of them is read, and changed.
-use Rattle.std.proofs.Common.{◌≡◌, ◌⊎◌, ℕ, suc, ◌+◌, ◌*◌, ◌<◌, ◌^◌, ◌==◌, Bool, true, false, List, [], ◌∷◌, ◌++◌, length, get_or, set, Option, Some, None, IsSome, if◌then◌else◌, refl, sym, subst, ap, ◌∙◌, inl, inr, arith, length-set}
+use Rattle.std.proofs.Common.{◌≡◌, ◌⊎◌, ℕ, suc, ◌+◌, ◌*◌, ◌<◌, ◌≤◌, ◌^◌, ◌==◌, Bool, true, false, List, [], ◌∷◌, ◌++◌, length, take, drop, get_or, set, Option, Some, None, IsSome, if◌then◌else◌, refl, sym, subst, ap, ◌∙◌, inl, inr, arith, length-set}
 use Rattle.std.proofs.lemmas.Bool.{cases_eq, eq-eqb}
-use Rattle.std.proofs.lemmas.List.{nil_from_length}
 use Rattle.std.specs.Option.{option_map}
 use denote.RawPtr.{Ptr, null_ptr}
 use Rattle.lmn_web_cells.specs.Rows.{Item, blank, link, number, Row, row, items_in, with_items}
@@ -10,7 +9,7 @@ use Rattle.lmn_store_heap.specs.Heap.{alter}
 use Rattle.lmn_store_heap.proofs.Listing.{alter_at, alter_away}
 use Rattle.lmn_web_cells.specs.CellIds.{IsLink, led_by}
 use Rattle.lmn_base.proofs.Numbers.{not_equal}
-use Rattle.lmn_web_cells.proofs.CellWords.{link_at, number_at, past_links, set_link_at, set_number_at, set_past_links, cell_back, ports_at, set_ports_at, port_word_at, set_to_at, set_port_at, set_mark_at, word_count, six_numbers}
+use Rattle.lmn_web_cells.proofs.CellWords.{behind_links, some_numbers, link_at, set_link_at, cell_back, ports_at, set_ports_at, port_word_at, set_to_at, set_port_at, set_mark_at, word_count, first_number_at, set_first_number_at, last_number_word, set_last_number_word}
 use Rattle.lmn_base.proofs.Truth.{if_no}
 
 -- a cell that is there, with its words
@@ -42,7 +41,7 @@ pub word_is : (rows : List Row) (b k : ℕ) (laid : AreLaid rows) (there : IsSom
     → get_or (items_in rows b) k blank ≡ link_to (get_or (links_of (cells_by rows b)) k None)
 word_is rows b k laid there low =
     let f = found rows b laid there in
-    ap (λ is. get_or is k blank) f.words ∙ link_at f.cell.links k (number_items f.cell.numbers ++ port_items f.cell.ports) (subst (λ n. k < n) (sym f.shaped.links) low)
+    ap (λ is. get_or is k blank) f.words ∙ link_at f.cell.links k (behind_links f.cell) (subst (λ n. k < n) (sym f.shaped.links) low)
     ∙ ap (λ (o : Option HeldCell). link_to (get_or (links_of o) k None)) (sym f.is)
 
 -- the pointer in a word, if it is one
@@ -76,13 +75,19 @@ number_read i m n e r = ap number_in (sym r ∙ e)
 
 -- Numbers
 
--- the word of a number of a cell
-pub number_is : (rows : List Row) (b k : ℕ) (laid : AreLaid rows) (there : IsSome (cells_by rows b)) → k < length (numbers_of (cells_by rows b))
+-- the word of one of the first numbers of a cell
+pub number_is : (rows : List Row) (b k : ℕ) (laid : AreLaid rows) (there : IsSome (cells_by rows b)) → k < 6
     → get_or (items_in rows b) (8 + k) blank ≡ number (get_or (numbers_of (cells_by rows b)) k 0)
 number_is rows b k laid there low =
     let f = found rows b laid there in
-    ap (λ is. get_or is (8 + k) blank) f.words ∙ past_links f.cell.links 8 k (number_items f.cell.numbers ++ port_items f.cell.ports) f.shaped.links
-    ∙ number_at f.cell.numbers k (port_items f.cell.ports) (subst (λ (o : Option HeldCell). k < length (numbers_of o)) f.is low)
+    ap (λ is. get_or is (8 + k) blank) f.words ∙ first_number_at f.cell f.shaped k low ∙ ap (λ (o : Option HeldCell). number (get_or (numbers_of o) k 0)) (sym f.is)
+
+-- that of one of the last numbers of a membrane
+pub count_is : (rows : List Row) (b k : ℕ) (laid : AreLaid rows) (there : IsSome (cells_by rows b)) → length (numbers_of (cells_by rows b)) ≡ 8 → 6 ≤ k → k < 8
+    → get_or (items_in rows b) (11 + k) blank ≡ number (get_or (numbers_of (cells_by rows b)) k 0)
+count_is rows b k laid there eight h low =
+    let f = found rows b laid there in
+    ap (λ is. get_or is (11 + k) blank) f.words ∙ last_number_word f.cell f.shaped (sym (ap (λ (o : Option HeldCell). length (numbers_of o)) f.is) ∙ eight) k h low
     ∙ ap (λ (o : Option HeldCell). number (get_or (numbers_of o) k 0)) (sym f.is)
 
 -- Ports
@@ -92,7 +97,7 @@ pub to_is : (rows : List Row) (b j : ℕ) (laid : AreLaid rows) (there : IsSome 
     → get_or (items_in rows b) (14 + (j * 3 + 0)) blank ≡ link_to (get_or (ports_of (cells_by rows b)) j no_port).to
 to_is rows b j laid there low =
     let f = found rows b laid there in
-    ap (λ is. get_or is (14 + (j * 3 + 0)) blank) f.words ∙ ports_at f.cell f.shaped (six_numbers f.cell f.shaped j (subst (λ (o : Option HeldCell). j < length (ports_of o)) f.is low)) (j * 3 + 0) ∙ port_word_at f.cell.ports j 0 (omega arith) (subst (λ (o : Option HeldCell). j < length (ports_of o)) f.is low)
+    ap (λ is. get_or is (14 + (j * 3 + 0)) blank) f.words ∙ ports_at f.cell f.shaped (j * 3 + 0) ∙ port_word_at f.cell.ports j 0 (number_items (drop 6 f.cell.numbers)) (omega arith) (subst (λ (o : Option HeldCell). j < length (ports_of o)) f.is low)
     ∙ ap (λ (o : Option HeldCell). link_to (get_or (ports_of o) j no_port).to) (sym f.is)
 
 -- the word of the port there
@@ -100,7 +105,7 @@ pub port_is : (rows : List Row) (b j : ℕ) (laid : AreLaid rows) (there : IsSom
     → get_or (items_in rows b) (14 + (j * 3 + 1)) blank ≡ number (get_or (ports_of (cells_by rows b)) j no_port).port
 port_is rows b j laid there low =
     let f = found rows b laid there in
-    ap (λ is. get_or is (14 + (j * 3 + 1)) blank) f.words ∙ ports_at f.cell f.shaped (six_numbers f.cell f.shaped j (subst (λ (o : Option HeldCell). j < length (ports_of o)) f.is low)) (j * 3 + 1) ∙ port_word_at f.cell.ports j 1 (omega arith) (subst (λ (o : Option HeldCell). j < length (ports_of o)) f.is low)
+    ap (λ is. get_or is (14 + (j * 3 + 1)) blank) f.words ∙ ports_at f.cell f.shaped (j * 3 + 1) ∙ port_word_at f.cell.ports j 1 (number_items (drop 6 f.cell.numbers)) (omega arith) (subst (λ (o : Option HeldCell). j < length (ports_of o)) f.is low)
     ∙ ap (λ (o : Option HeldCell). number (get_or (ports_of o) j no_port).port) (sym f.is)
 
 -- the word of the mark of a port
@@ -108,7 +113,7 @@ pub mark_is : (rows : List Row) (b j : ℕ) (laid : AreLaid rows) (there : IsSom
     → get_or (items_in rows b) (14 + (j * 3 + 2)) blank ≡ number (get_or (ports_of (cells_by rows b)) j no_port).mark
 mark_is rows b j laid there low =
     let f = found rows b laid there in
-    ap (λ is. get_or is (14 + (j * 3 + 2)) blank) f.words ∙ ports_at f.cell f.shaped (six_numbers f.cell f.shaped j (subst (λ (o : Option HeldCell). j < length (ports_of o)) f.is low)) (j * 3 + 2) ∙ port_word_at f.cell.ports j 2 (omega arith) (subst (λ (o : Option HeldCell). j < length (ports_of o)) f.is low)
+    ap (λ is. get_or is (14 + (j * 3 + 2)) blank) f.words ∙ ports_at f.cell f.shaped (j * 3 + 2) ∙ port_word_at f.cell.ports j 2 (number_items (drop 6 f.cell.numbers)) (omega arith) (subst (λ (o : Option HeldCell). j < length (ports_of o)) f.is low)
     ∙ ap (λ (o : Option HeldCell). number (get_or (ports_of o) j no_port).mark) (sym f.is)
 
 -- fewer than 2 ^ 16 ports, and their words are below 2 ^ 32
@@ -145,17 +150,13 @@ pub record Changed (rows : List Row) (b k : ℕ) (i : Item) (g : HeldCell → He
   pub cells : cells_by (with_items b (set (items_in rows b) k i) rows) ≡ alter (cells_by rows) b (option_map g)
 
 -- as many numbers and ports as before
-same_count : (ns ms : List ℕ) (ps qs : List HeldPort) → length ms ≡ length ns → length qs ≡ length ps → (length ns ≡ 6) ⊎ ((length ns ≡ 8) × (ps ≡ [])) → (length ms ≡ 6) ⊎ ((length ms ≡ 8) × (qs ≡ []))
+same_count : (ns ms : List ℕ) (ps qs : List HeldPort) → length ms ≡ length ns → length qs ≡ length ps → (length ns ≡ 6) ⊎ ((length ns ≡ 8) × (length ps ≡ 1)) → (length ms ≡ 6) ⊎ ((length ms ≡ 8) × (length qs ≡ 1))
 same_count ns ms ps qs n p (inl six) = inl (n ∙ six)
-same_count ns ms ps qs n p (inr eight) = inr (n ∙ eight.0, nil_from_length qs (p ∙ ap (λ (xs : List HeldPort). length xs) eight.1))
-
--- a cell has six numbers at least
-pub some_numbers : (c : HeldCell) → IsShaped c → 5 < length c.numbers
-some_numbers c s = elim s.numbers [ inl six ↦ omega (arith, six) | inr eight ↦ (let e = eight.0 in omega (arith, e)) ]
+same_count ns ms ps qs n p (inr eight) = inr (n ∙ eight.0, p ∙ eight.1)
 
 -- also one of the rows
-pub six_there : (rows : List Row) (b : ℕ) → AreLaid rows → IsSome (cells_by rows b) → 5 < length (numbers_of (cells_by rows b))
-six_there rows b laid there = let f = found rows b laid there in subst (λ (o : Option HeldCell). 5 < length (numbers_of o)) (sym f.is) (some_numbers f.cell f.shaped)
+pub six_there : (rows : List Row) (b : ℕ) → AreLaid rows → IsSome (cells_by rows b) → 6 ≤ length (numbers_of (cells_by rows b))
+six_there rows b laid there = let f = found rows b laid there in subst (λ (o : Option HeldCell). 6 ≤ length (numbers_of o)) (sym f.is) (some_numbers f.cell f.shaped)
 
 -- a cell has its links and numbers
 pub words_there : (rows : List Row) (b : ℕ) → AreLaid rows → IsSome (cells_by rows b) → 8 + length (numbers_of (cells_by rows b)) < suc (length (items_in rows b))
@@ -166,7 +167,7 @@ words_there rows b laid there = let f = found rows b laid there in subst (λ is.
 pub port_words_there : (rows : List Row) (b j w : ℕ) → AreLaid rows → IsSome (cells_by rows b) → j < length (ports_of (cells_by rows b)) → w < 3 → 14 + (j * 3 + w) < length (items_in rows b)
 port_words_there rows b j w laid there low h =
     let f = found rows b laid there in let l : j < length f.cell.ports = subst (λ (o : Option HeldCell). j < length (ports_of o)) f.is low in
-    subst (λ is. 14 + (j * 3 + w) < length is) (sym f.words) (let n = word_count f.cell f.shaped in let six = six_numbers f.cell f.shaped j l in omega (arith, n, l, h, six))
+    subst (λ is. 14 + (j * 3 + w) < length is) (sym f.words) (let n = word_count f.cell f.shaped in let some = some_numbers f.cell f.shaped in omega (arith, n, l, h, some))
 
 -- one word of a cell is written: what the rows stand for then
 pub changes : (rows : List Row) (b k : ℕ) (i : Item) (g : HeldCell → HeldCell) (laid : AreLaid rows) (there : IsSome (cells_by rows b))
@@ -193,15 +194,23 @@ changes rows b k i g laid there by =
 pub link_changes : (rows : List Row) (b k : ℕ) (x : Option ℕ) (laid : AreLaid rows) (there : IsSome (cells_by rows b)) → k < 8 → Changed rows b k (link_to x) (with_link k x)
 link_changes rows b k x laid there low = changes rows b k (link_to x) (with_link k x) laid there
     (λ c s e. (
-      set_link_at c.links k x (number_items c.numbers ++ port_items c.ports) (subst (λ n. k < n) (sym s.links) low),
+      set_link_at c.links k x (behind_links c) (subst (λ n. k < n) (sym s.links) low),
       record { links = length-set c.links k x ∙ s.links; numbers = s.numbers; few = s.few },
     ))
 
--- a number
-pub number_changes : (rows : List Row) (b k n : ℕ) (laid : AreLaid rows) (there : IsSome (cells_by rows b)) → k < length (numbers_of (cells_by rows b)) → Changed rows b (8 + k) (number n) (with_number k n)
+-- one of the first numbers
+pub number_changes : (rows : List Row) (b k n : ℕ) (laid : AreLaid rows) (there : IsSome (cells_by rows b)) → k < 6 → Changed rows b (8 + k) (number n) (with_number k n)
 number_changes rows b k n laid there low = changes rows b (8 + k) (number n) (with_number k n) laid there
     (λ c s e. (
-      set_past_links c.links 8 k (number n) (number_items c.numbers ++ port_items c.ports) s.links ∙ ap (λ is. link_items c.links ++ is) (set_number_at c.numbers k n (port_items c.ports) (subst (λ (o : Option HeldCell). k < length (numbers_of o)) e low)),
+      set_first_number_at c s k n low,
+      record { links = s.links; numbers = same_count c.numbers (set c.numbers k n) c.ports c.ports (length-set c.numbers k n) refl s.numbers; few = s.few },
+    ))
+
+-- one of the last numbers of a membrane
+pub count_changes : (rows : List Row) (b k n : ℕ) (laid : AreLaid rows) (there : IsSome (cells_by rows b)) → length (numbers_of (cells_by rows b)) ≡ 8 → 6 ≤ k → k < 8 → Changed rows b (11 + k) (number n) (with_number k n)
+count_changes rows b k n laid there eight h low = changes rows b (11 + k) (number n) (with_number k n) laid there
+    (λ c s e. (
+      set_last_number_word c s (sym (ap (λ (o : Option HeldCell). length (numbers_of o)) e) ∙ eight) k n h low,
       record { links = s.links; numbers = same_count c.numbers (set c.numbers k n) c.ports c.ports (length-set c.numbers k n) refl s.numbers; few = s.few },
     ))
 
@@ -209,7 +218,7 @@ number_changes rows b k n laid there low = changes rows b (8 + k) (number n) (wi
 pub to_changes : (rows : List Row) (b j : ℕ) (x : Option ℕ) (laid : AreLaid rows) (there : IsSome (cells_by rows b)) → j < length (ports_of (cells_by rows b)) → Changed rows b (14 + (j * 3 + 0)) (link_to x) (with_to j x)
 to_changes rows b j x laid there low = changes rows b (14 + (j * 3 + 0)) (link_to x) (with_to j x) laid there
     (λ c s e. (
-      set_ports_at c s (six_numbers c s j (subst (λ (o : Option HeldCell). j < length (ports_of o)) e low)) (j * 3 + 0) (link_to x) ∙ ap (λ is. link_items c.links ++ (number_items c.numbers ++ is)) (set_to_at c.ports j x (subst (λ (o : Option HeldCell). j < length (ports_of o)) e low)),
+      set_ports_at c s (j * 3 + 0) (link_to x) ∙ ap (λ is. link_items c.links ++ (number_items (take 6 c.numbers) ++ is)) (set_to_at c.ports j x (number_items (drop 6 c.numbers)) (subst (λ (o : Option HeldCell). j < length (ports_of o)) e low)),
       record { links = s.links; numbers = same_count c.numbers c.numbers c.ports (set c.ports j _) refl (length-set c.ports j _) s.numbers; few = subst (λ n. n < 2 ^ 16) (sym (length-set c.ports j _)) s.few },
     ))
 
@@ -217,7 +226,7 @@ to_changes rows b j x laid there low = changes rows b (14 + (j * 3 + 0)) (link_t
 pub port_changes : (rows : List Row) (b j n : ℕ) (laid : AreLaid rows) (there : IsSome (cells_by rows b)) → j < length (ports_of (cells_by rows b)) → Changed rows b (14 + (j * 3 + 1)) (number n) (with_port j n)
 port_changes rows b j n laid there low = changes rows b (14 + (j * 3 + 1)) (number n) (with_port j n) laid there
     (λ c s e. (
-      set_ports_at c s (six_numbers c s j (subst (λ (o : Option HeldCell). j < length (ports_of o)) e low)) (j * 3 + 1) (number n) ∙ ap (λ is. link_items c.links ++ (number_items c.numbers ++ is)) (set_port_at c.ports j n (subst (λ (o : Option HeldCell). j < length (ports_of o)) e low)),
+      set_ports_at c s (j * 3 + 1) (number n) ∙ ap (λ is. link_items c.links ++ (number_items (take 6 c.numbers) ++ is)) (set_port_at c.ports j n (number_items (drop 6 c.numbers)) (subst (λ (o : Option HeldCell). j < length (ports_of o)) e low)),
       record { links = s.links; numbers = same_count c.numbers c.numbers c.ports (set c.ports j _) refl (length-set c.ports j _) s.numbers; few = subst (λ m. m < 2 ^ 16) (sym (length-set c.ports j _)) s.few },
     ))
 
@@ -225,7 +234,7 @@ port_changes rows b j n laid there low = changes rows b (14 + (j * 3 + 1)) (numb
 pub mark_changes : (rows : List Row) (b j n : ℕ) (laid : AreLaid rows) (there : IsSome (cells_by rows b)) → j < length (ports_of (cells_by rows b)) → Changed rows b (14 + (j * 3 + 2)) (number n) (with_mark j n)
 mark_changes rows b j n laid there low = changes rows b (14 + (j * 3 + 2)) (number n) (with_mark j n) laid there
     (λ c s e. (
-      set_ports_at c s (six_numbers c s j (subst (λ (o : Option HeldCell). j < length (ports_of o)) e low)) (j * 3 + 2) (number n) ∙ ap (λ is. link_items c.links ++ (number_items c.numbers ++ is)) (set_mark_at c.ports j n (subst (λ (o : Option HeldCell). j < length (ports_of o)) e low)),
+      set_ports_at c s (j * 3 + 2) (number n) ∙ ap (λ is. link_items c.links ++ (number_items (take 6 c.numbers) ++ is)) (set_mark_at c.ports j n (number_items (drop 6 c.numbers)) (subst (λ (o : Option HeldCell). j < length (ports_of o)) e low)),
       record { links = s.links; numbers = same_count c.numbers c.numbers c.ports (set c.ports j _) refl (length-set c.ports j _) s.numbers; few = subst (λ m. m < 2 ^ 16) (sym (length-set c.ports j _)) s.few },
     ))
 

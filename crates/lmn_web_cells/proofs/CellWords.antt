@@ -1,9 +1,31 @@
 -- The words of a cell, read and written.
-use Rattle.std.proofs.Common.{◌≡◌, ◌≢◌, ℕ, zero, suc, ◌+◌, ◌*◌, ◌<◌, Bool, List, [], ◌∷◌, ◌++◌, length, drop, get_or, set, Option, Some, None, if◌then◌else◌, refl, sym, subst, ap, ◌∙◌, inl, inr, arith}
+use Rattle.std.proofs.Common.{◌≡◌, ◌≢◌, ℕ, zero, suc, ◌+◌, ◌-◌, ◌*◌, ◌<◌, ◌≤◌, Bool, List, [], ◌∷◌, ◌++◌, length, take, drop, get_or, set, Option, Some, None, if◌then◌else◌, refl, sym, subst, ap, ◌∙◌, inl, inr, arith}
 use Rattle.lmn_web_cells.specs.Rows.{Item, blank, number}
-use Rattle.lmn_web_cells.specs.Cells.{HeldPort, HeldCell, link_to, link_items, number_items, port_items, cell_items, led_to, first_links, first_numbers, ports_by, number_count, cell_by, IsShaped, no_port}
+use Rattle.lmn_web_cells.specs.Cells.{HeldPort, HeldCell, link_to, link_items, number_items, port_items, cell_items, led_to, first_links, first_numbers, ports_by, last_numbers, cell_by, IsShaped, no_port}
 use Rattle.std.proofs.lemmas.Bool.{eq-eqb}
+use Rattle.std.proofs.lemmas.List.{nil_from_length, get_or-take, get_or-drop, take-append-drop, length-take-le, length-drop, take-set-le, drop-set-lt, drop-set-add}
+use Rattle.std.proofs.Math.Seq.{take-set-lt}
 use Rattle.lmn_base.proofs.Numbers.{no_more, not_equal}
+
+-- Parts of the words
+
+-- those behind the first numbers, and those behind the links
+abbrev pub behind_numbers : HeldCell → List Item
+behind_numbers c = port_items c.ports ++ number_items (drop 6 c.numbers)
+
+abbrev pub behind_links : HeldCell → List Item
+behind_links c = number_items (take 6 c.numbers) ++ behind_numbers c
+
+-- a cell has six numbers at least
+pub some_numbers : (c : HeldCell) → IsShaped c → 6 ≤ length c.numbers
+some_numbers c s = elim s.numbers [ inl six ↦ omega (arith, six) | inr eight ↦ (let e = eight.0 in omega (arith, e)) ]
+
+six_first : (c : HeldCell) → IsShaped c → length (take 6 c.numbers) ≡ 6
+six_first c s = length-take-le 6 c.numbers (some_numbers c s)
+
+-- a cell with eight numbers has one port
+pub one_port : (c : HeldCell) → IsShaped c → length c.numbers ≡ 8 → length c.ports ≡ 1
+one_port c s n = elim s.numbers [ inl six ↦ absurd (omega (arith, six, n)) | inr eight ↦ eight.1 ]
 
 -- Reading
 
@@ -35,6 +57,19 @@ past_numbers [] (suc n) k rest e = absurd (omega (arith, e))
 past_numbers (x ∷ ls) zero k rest e = absurd (omega (arith, e))
 past_numbers (x ∷ ls) (suc n) k rest e = ap (λ m. get_or (number_items (x ∷ ls) ++ rest) m blank) (one_less n k) ∙ past_numbers ls n k rest (omega (arith, e))
 
+three_more : (k : ℕ) → 3 + k ≡ suc (suc (suc k))
+three_more k = omega arith
+
+past_port : (ps : List HeldPort) (k : ℕ) (rest : List Item) → length ps ≡ 1 → get_or (port_items ps ++ rest) (3 + k) blank ≡ get_or rest k blank
+past_port [] k rest e = absurd (omega (arith, e))
+past_port (p ∷ []) k rest e = ap (λ m. get_or (port_items (p ∷ []) ++ rest) m blank) (three_more k)
+past_port (p ∷ q ∷ ps) k rest e = absurd (omega (arith, e))
+
+last_number_at : (ns : List ℕ) (k : ℕ) → k < length ns → get_or (number_items ns) k blank ≡ number (get_or ns k 0)
+last_number_at [] k l = absurd (omega (arith, l))
+last_number_at (x ∷ ns) zero l = refl
+last_number_at (x ∷ ns) (suc k) l = last_number_at ns k (omega (arith, l))
+
 -- Writing
 
 -- a link is written
@@ -62,6 +97,16 @@ set_past_numbers [] (suc n) k i rest e = absurd (omega (arith, e))
 set_past_numbers (x ∷ ns) zero k i rest e = absurd (omega (arith, e))
 set_past_numbers (x ∷ ns) (suc n) k i rest e = ap (λ m. set (number_items (x ∷ ns) ++ rest) m i) (one_less n k) ∙ ap (λ is. number x ∷ is) (set_past_numbers ns n k i rest (omega (arith, e)))
 
+set_past_port : (ps : List HeldPort) (k : ℕ) (i : Item) (rest : List Item) → length ps ≡ 1 → set (port_items ps ++ rest) (3 + k) i ≡ port_items ps ++ set rest k i
+set_past_port [] k i rest e = absurd (omega (arith, e))
+set_past_port (p ∷ []) k i rest e = ap (λ m. set (port_items (p ∷ []) ++ rest) m i) (three_more k)
+set_past_port (p ∷ q ∷ ps) k i rest e = absurd (omega (arith, e))
+
+set_last_number_at : (ns : List ℕ) (k n : ℕ) → k < length ns → set (number_items ns) k (number n) ≡ number_items (set ns k n)
+set_last_number_at [] k n l = absurd (omega (arith, l))
+set_last_number_at (y ∷ ns) zero n l = refl
+set_last_number_at (y ∷ ns) (suc k) n l = ap (λ is. number y ∷ is) (set_last_number_at ns k n (omega (arith, l)))
+
 -- what a cell's words stand for
 
 link_back : (x : Option ℕ) → led_to (link_to x) ≡ x
@@ -86,17 +131,32 @@ numbers_back [] (suc n) rest e = absurd (omega (arith, e))
 numbers_back (x ∷ ns) zero rest e = absurd (omega (arith, e))
 numbers_back (x ∷ ns) (suc n) rest e = ap (λ ys. x ∷ ys) (numbers_back ns n rest (omega (arith, e)))
 
-numbers_gone : (ns : List ℕ) (n : ℕ) (rest : List Item) → length ns ≡ n → drop n (number_items ns ++ rest) ≡ rest
-numbers_gone [] zero rest e = refl
-numbers_gone [] (suc n) rest e = absurd (omega (arith, e))
-numbers_gone (x ∷ ns) zero rest e = absurd (omega (arith, e))
-numbers_gone (x ∷ ns) (suc n) rest e = numbers_gone ns n rest (omega (arith, e))
+all_numbers_back : (ns : List ℕ) (n : ℕ) → length ns ≡ n → first_numbers n (number_items ns) ≡ ns
+all_numbers_back [] zero e = refl
+all_numbers_back [] (suc n) e = absurd (omega (arith, e))
+all_numbers_back (x ∷ ns) zero e = absurd (omega (arith, e))
+all_numbers_back (x ∷ ns) (suc n) e = ap (λ ys. x ∷ ys) (all_numbers_back ns n (omega (arith, e)))
 
-ports_back : (ps : List HeldPort) → ports_by (port_items ps) ≡ ps
-ports_back [] = refl
-ports_back (p ∷ ps) = λ j. record { to = link_back p.to j; port = p.port; mark = p.mark } ∷ ports_back ps j
+numbers_gone : (ns : List ℕ) (n k : ℕ) (rest : List Item) → length ns ≡ n → drop (n + k) (number_items ns ++ rest) ≡ drop k rest
+numbers_gone [] zero k rest e = ap (λ m. drop m rest) (no_more k)
+numbers_gone [] (suc n) k rest e = absurd (omega (arith, e))
+numbers_gone (x ∷ ns) zero k rest e = absurd (omega (arith, e))
+numbers_gone (x ∷ ns) (suc n) k rest e = ap (λ m. drop m (number_items (x ∷ ns) ++ rest)) (one_less n k) ∙ numbers_gone ns n k rest (omega (arith, e))
 
-whole : (is : List Item) → 0 < length is → cell_by is ≡ Some record { links = first_links 8 is; numbers = first_numbers (number_count (length is)) (drop 8 is); ports = ports_by (drop (8 + number_count (length is)) is) }
+port_gone : (ps : List HeldPort) (rest : List Item) → length ps ≡ 1 → drop 3 (port_items ps ++ rest) ≡ rest
+port_gone [] rest e = absurd (omega (arith, e))
+port_gone (p ∷ []) rest e = refl
+port_gone (p ∷ q ∷ ps) rest e = absurd (omega (arith, e))
+
+-- fewer than three words behind the ports are none of a port
+ports_back : (ps : List HeldPort) (rest : List Item) → length rest < 3 → ports_by (port_items ps ++ rest) ≡ ps
+ports_back [] [] l = refl
+ports_back [] (i ∷ []) l = refl
+ports_back [] (i ∷ j ∷ []) l = refl
+ports_back [] (i ∷ j ∷ k ∷ is) l = absurd (omega (arith, l))
+ports_back (p ∷ ps) rest l = λ j. record { to = link_back p.to j; port = p.port; mark = p.mark } ∷ ports_back ps rest l j
+
+whole : (is : List Item) → 0 < length is → cell_by is ≡ Some record { links = first_links 8 is; numbers = first_numbers 6 (drop 8 is) ++ last_numbers is; ports = ports_by (drop 14 is) }
 whole [] l = absurd (omega (arith, l))
 whole (i ∷ is) l = refl
 
@@ -110,23 +170,36 @@ count_numbers : (ns : List ℕ) (rest : List Item) → length (number_items ns +
 count_numbers [] rest = omega arith
 count_numbers (x ∷ ns) rest = let r = count_numbers ns rest in omega (arith, r)
 
-count_ports : (ps : List HeldPort) → length (port_items ps) ≡ length ps * 3
-count_ports [] = refl
-count_ports (p ∷ ps) = let r = count_ports ps in omega (arith, r)
+count_ports : (ps : List HeldPort) (rest : List Item) → length (port_items ps ++ rest) ≡ length ps * 3 + length rest
+count_ports [] rest = omega arith
+count_ports (p ∷ ps) rest = let r = count_ports ps rest in omega (arith, r)
+
+count_last : (ns : List ℕ) → length (number_items ns) ≡ length ns
+count_last [] = refl
+count_last (x ∷ ns) = ap suc (count_last ns)
 
 -- how many words a cell has
 pub word_count : (c : HeldCell) → IsShaped c → length (cell_items c) ≡ 8 + length c.numbers + length c.ports * 3
 word_count c s =
-    let a = count_links c.links (number_items c.numbers ++ port_items c.ports) in let b = count_numbers c.numbers (port_items c.ports) in let d = count_ports c.ports in
-    let e = s.links in omega (arith, a, b, d, e)
+    let a = count_links c.links (behind_links c) in let b = count_numbers (take 6 c.numbers) (behind_numbers c) in let d = count_ports c.ports (number_items (drop 6 c.numbers)) in
+    let l = count_last (drop 6 c.numbers) in let m = length-drop 6 c.numbers in let n = six_first c s in let some = some_numbers c s in
+    let e = s.links in omega (arith, a, b, d, e, l, m, n, some)
 
--- they tell how many numbers it has
-tells_numbers : (c : HeldCell) → IsShaped c → number_count (length (cell_items c)) ≡ length c.numbers
-tells_numbers c s = elim s.numbers [
-  | inl six ↦ (let w = word_count c s in let d : length (cell_items c) ≢ 16 = (λ e. absurd (omega (arith, w, six, e))) in
-      ap (λ (t : Bool). if t then 8 else 6) (not_equal (length (cell_items c)) 16 d) ∙ sym six)
-  | inr eight ↦ (let w = word_count c s in let none = ap (λ (ps : List HeldPort). length ps) eight.1 in let number = eight.0 in let e : length (cell_items c) ≡ 16 = omega (arith, w, number, none) in
-      ap (λ (t : Bool). if t then 8 else 6) (eq-eqb (length (cell_items c)) 16 e) ∙ sym eight.0)
+few_last : (c : HeldCell) → IsShaped c → length (number_items (drop 6 c.numbers)) < 3
+few_last c s = let l = count_last (drop 6 c.numbers) in let m = length-drop 6 c.numbers in elim s.numbers [
+  | inl six ↦ omega (arith, l, m, six)
+  | inr eight ↦ (let e = eight.0 in omega (arith, l, m, e))
+]
+
+-- the last numbers of a membrane are read where its row has their words
+last_back : (c : HeldCell) → IsShaped c → last_numbers (cell_items c) ≡ drop 6 c.numbers
+last_back c s = elim s.numbers [
+  | inl six ↦ (let w = word_count c s in let d : length (cell_items c) ≢ 19 = (λ e. absurd (omega (arith, w, six, e))) in let m = length-drop 6 c.numbers in
+      ap (λ (t : Bool). if t then first_numbers 2 (drop 17 (cell_items c)) else []) (not_equal (length (cell_items c)) 19 d) ∙ sym (nil_from_length (drop 6 c.numbers) (omega (arith, m, six))))
+  | inr eight ↦ (let w = word_count c s in let one = eight.1 in let number = eight.0 in let e : length (cell_items c) ≡ 19 = omega (arith, w, number, one) in let m = length-drop 6 c.numbers in
+      ap (λ (t : Bool). if t then first_numbers 2 (drop 17 (cell_items c)) else []) (eq-eqb (length (cell_items c)) 19 e)
+      ∙ ap (first_numbers 2) (links_gone c.links 8 9 (behind_links c) s.links ∙ numbers_gone (take 6 c.numbers) 6 3 (behind_numbers c) (six_first c s) ∙ port_gone c.ports (number_items (drop 6 c.numbers)) one)
+      ∙ all_numbers_back (drop 6 c.numbers) 2 (omega (arith, m, number)))
 ]
 
 some_words : (ls : List (Option ℕ)) (rest : List Item) → length ls ≡ 8 → 0 < length (link_items ls ++ rest)
@@ -136,13 +209,13 @@ some_words (x ∷ ls) rest e = omega arith
 -- the words of a cell stand for it
 pub cell_back : (c : HeldCell) → IsShaped c → cell_by (cell_items c) ≡ Some c
 cell_back c s =
-    let ns = number_items c.numbers ++ port_items c.ports in let n = length c.numbers in
-    whole (cell_items c) (some_words c.links ns s.links)
-    ∙ (λ j. Some record { links = first_links 8 (cell_items c); numbers = first_numbers (tells_numbers c s j) (drop 8 (cell_items c)); ports = ports_by (drop (8 + tells_numbers c s j) (cell_items c)) })
+    let six = six_first c s in
+    let first : first_numbers 6 (drop 8 (cell_items c)) ≡ take 6 c.numbers = ap (first_numbers 6) (links_gone c.links 8 0 (behind_links c) s.links) ∙ numbers_back (take 6 c.numbers) 6 (behind_numbers c) six in
+    whole (cell_items c) (some_words c.links (behind_links c) s.links)
     ∙ (λ j. Some record {
-      links = links_back c.links 8 ns s.links j;
-      numbers = (ap (first_numbers n) (links_gone c.links 8 0 ns s.links) ∙ numbers_back c.numbers n (port_items c.ports) refl) j;
-      ports = (ap ports_by (links_gone c.links 8 n ns s.links ∙ numbers_gone c.numbers n (port_items c.ports) refl) ∙ ports_back c.ports) j;
+      links = links_back c.links 8 (behind_links c) s.links j;
+      numbers = ((λ t. first t ++ last_back c s t) ∙ take-append-drop 6 c.numbers) j;
+      ports = (ap ports_by (links_gone c.links 8 6 (behind_links c) s.links ∙ numbers_gone (take 6 c.numbers) 6 0 (behind_numbers c) six) ∙ ports_back c.ports (number_items (drop 6 c.numbers)) (few_last c s)) j;
     })
 
 -- Ports
@@ -157,51 +230,80 @@ port_word p (suc zero) = number p.port
 port_word p (suc (suc w)) = number p.mark
 
 -- a word of a port
-pub port_word_at : (ps : List HeldPort) (j w : ℕ) → w < 3 → j < length ps → get_or (port_items ps) (j * 3 + w) blank ≡ port_word (get_or ps j no_port) w
-port_word_at [] j w h l = absurd (omega (arith, l))
-port_word_at (p ∷ ps) zero zero h l = refl
-port_word_at (p ∷ ps) zero (suc zero) h l = refl
-port_word_at (p ∷ ps) zero (suc (suc zero)) h l = refl
-port_word_at (p ∷ ps) zero (suc (suc (suc w))) h l = absurd (omega (arith, h))
-port_word_at (p ∷ ps) (suc j) w h l = subst (λ n. get_or (port_items (p ∷ ps)) n blank ≡ port_word (get_or ps j no_port) w) (three j w) (port_word_at ps j w h (omega (arith, l)))
+pub port_word_at : (ps : List HeldPort) (j w : ℕ) (rest : List Item) → w < 3 → j < length ps → get_or (port_items ps ++ rest) (j * 3 + w) blank ≡ port_word (get_or ps j no_port) w
+port_word_at [] j w rest h l = absurd (omega (arith, l))
+port_word_at (p ∷ ps) zero zero rest h l = refl
+port_word_at (p ∷ ps) zero (suc zero) rest h l = refl
+port_word_at (p ∷ ps) zero (suc (suc zero)) rest h l = refl
+port_word_at (p ∷ ps) zero (suc (suc (suc w))) rest h l = absurd (omega (arith, h))
+port_word_at (p ∷ ps) (suc j) w rest h l = subst (λ n. get_or (port_items (p ∷ ps) ++ rest) n blank ≡ port_word (get_or ps j no_port) w) (three j w) (port_word_at ps j w rest h (omega (arith, l)))
 
 -- where a port leads is written
-pub set_to_at : (ps : List HeldPort) (j : ℕ) (x : Option ℕ) → j < length ps → set (port_items ps) (j * 3 + 0) (link_to x) ≡ port_items (set ps j (record (get_or ps j no_port) { to = x }))
-set_to_at [] j x l = absurd (omega (arith, l))
-set_to_at (p ∷ ps) zero x l = refl
-set_to_at (p ∷ ps) (suc j) x l = subst (λ n. set (port_items (p ∷ ps)) n (link_to x) ≡ port_items (p ∷ set ps j (record (get_or ps j no_port) { to = x }))) (three j 0)
-    (ap (λ is. link_to p.to ∷ number p.port ∷ number p.mark ∷ is) (set_to_at ps j x (omega (arith, l))))
+pub set_to_at : (ps : List HeldPort) (j : ℕ) (x : Option ℕ) (rest : List Item) → j < length ps → set (port_items ps ++ rest) (j * 3 + 0) (link_to x) ≡ port_items (set ps j (record (get_or ps j no_port) { to = x })) ++ rest
+set_to_at [] j x rest l = absurd (omega (arith, l))
+set_to_at (p ∷ ps) zero x rest l = refl
+set_to_at (p ∷ ps) (suc j) x rest l = subst (λ n. set (port_items (p ∷ ps) ++ rest) n (link_to x) ≡ port_items (p ∷ set ps j (record (get_or ps j no_port) { to = x })) ++ rest) (three j 0)
+    (ap (λ is. link_to p.to ∷ number p.port ∷ number p.mark ∷ is) (set_to_at ps j x rest (omega (arith, l))))
 
 -- the port there is written
-pub set_port_at : (ps : List HeldPort) (j n : ℕ) → j < length ps → set (port_items ps) (j * 3 + 1) (number n) ≡ port_items (set ps j (record (get_or ps j no_port) { port = n }))
-set_port_at [] j n l = absurd (omega (arith, l))
-set_port_at (p ∷ ps) zero n l = refl
-set_port_at (p ∷ ps) (suc j) n l = subst (λ m. set (port_items (p ∷ ps)) m (number n) ≡ port_items (p ∷ set ps j (record (get_or ps j no_port) { port = n }))) (three j 1)
-    (ap (λ is. link_to p.to ∷ number p.port ∷ number p.mark ∷ is) (set_port_at ps j n (omega (arith, l))))
+pub set_port_at : (ps : List HeldPort) (j n : ℕ) (rest : List Item) → j < length ps → set (port_items ps ++ rest) (j * 3 + 1) (number n) ≡ port_items (set ps j (record (get_or ps j no_port) { port = n })) ++ rest
+set_port_at [] j n rest l = absurd (omega (arith, l))
+set_port_at (p ∷ ps) zero n rest l = refl
+set_port_at (p ∷ ps) (suc j) n rest l = subst (λ m. set (port_items (p ∷ ps) ++ rest) m (number n) ≡ port_items (p ∷ set ps j (record (get_or ps j no_port) { port = n })) ++ rest) (three j 1)
+    (ap (λ is. link_to p.to ∷ number p.port ∷ number p.mark ∷ is) (set_port_at ps j n rest (omega (arith, l))))
 
 -- a mark is written
-pub set_mark_at : (ps : List HeldPort) (j n : ℕ) → j < length ps → set (port_items ps) (j * 3 + 2) (number n) ≡ port_items (set ps j (record (get_or ps j no_port) { mark = n }))
-set_mark_at [] j n l = absurd (omega (arith, l))
-set_mark_at (p ∷ ps) zero n l = refl
-set_mark_at (p ∷ ps) (suc j) n l = subst (λ m. set (port_items (p ∷ ps)) m (number n) ≡ port_items (p ∷ set ps j (record (get_or ps j no_port) { mark = n }))) (three j 2)
-    (ap (λ is. link_to p.to ∷ number p.port ∷ number p.mark ∷ is) (set_mark_at ps j n (omega (arith, l))))
+pub set_mark_at : (ps : List HeldPort) (j n : ℕ) (rest : List Item) → j < length ps → set (port_items ps ++ rest) (j * 3 + 2) (number n) ≡ port_items (set ps j (record (get_or ps j no_port) { mark = n })) ++ rest
+set_mark_at [] j n rest l = absurd (omega (arith, l))
+set_mark_at (p ∷ ps) zero n rest l = refl
+set_mark_at (p ∷ ps) (suc j) n rest l = subst (λ m. set (port_items (p ∷ ps) ++ rest) m (number n) ≡ port_items (p ∷ set ps j (record (get_or ps j no_port) { mark = n })) ++ rest) (three j 2)
+    (ap (λ is. link_to p.to ∷ number p.port ∷ number p.mark ∷ is) (set_mark_at ps j n rest (omega (arith, l))))
 
--- behind the links and the numbers
+-- behind the links and the first numbers
 ten : (m : ℕ) → 14 + m ≡ 8 + (6 + m)
 ten m = omega arith
 
--- a cell with a port has six numbers
-pub six_numbers : (c : HeldCell) → IsShaped c → (j : ℕ) → j < length c.ports → length c.numbers ≡ 6
-six_numbers c s j l = elim s.numbers [
-  | inl six ↦ six
-  | inr eight ↦ (let none = ap (λ (ps : List HeldPort). length ps) eight.1 in absurd (omega (arith, none, l)))
-]
-
 -- a word of the ports, among all words
-pub ports_at : (c : HeldCell) → IsShaped c → length c.numbers ≡ 6 → (m : ℕ) → get_or (cell_items c) (14 + m) blank ≡ get_or (port_items c.ports) m blank
-ports_at c s six m = ap (λ n. get_or (cell_items c) n blank) (ten m) ∙ past_links c.links 8 (6 + m) (number_items c.numbers ++ port_items c.ports) s.links ∙ past_numbers c.numbers 6 m (port_items c.ports) six
+pub ports_at : (c : HeldCell) → IsShaped c → (m : ℕ) → get_or (cell_items c) (14 + m) blank ≡ get_or (behind_numbers c) m blank
+ports_at c s m = ap (λ n. get_or (cell_items c) n blank) (ten m) ∙ past_links c.links 8 (6 + m) (behind_links c) s.links ∙ past_numbers (take 6 c.numbers) 6 m (behind_numbers c) (six_first c s)
 
 -- a word of the ports is written, among all words
-pub set_ports_at : (c : HeldCell) → IsShaped c → length c.numbers ≡ 6 → (m : ℕ) (i : Item) → set (cell_items c) (14 + m) i ≡ link_items c.links ++ (number_items c.numbers ++ set (port_items c.ports) m i)
-set_ports_at c s six m i = ap (λ n. set (cell_items c) n i) (ten m) ∙ set_past_links c.links 8 (6 + m) i (number_items c.numbers ++ port_items c.ports) s.links
-    ∙ ap (λ is. link_items c.links ++ is) (set_past_numbers c.numbers 6 m i (port_items c.ports) six)
+pub set_ports_at : (c : HeldCell) → IsShaped c → (m : ℕ) (i : Item) → set (cell_items c) (14 + m) i ≡ link_items c.links ++ (number_items (take 6 c.numbers) ++ set (behind_numbers c) m i)
+set_ports_at c s m i = ap (λ n. set (cell_items c) n i) (ten m) ∙ set_past_links c.links 8 (6 + m) i (behind_links c) s.links
+    ∙ ap (λ is. link_items c.links ++ is) (set_past_numbers (take 6 c.numbers) 6 m i (behind_numbers c) (six_first c s))
+
+-- Numbers
+
+-- the word of one of the first numbers
+pub first_number_at : (c : HeldCell) → IsShaped c → (k : ℕ) → k < 6 → get_or (cell_items c) (8 + k) blank ≡ number (get_or c.numbers k 0)
+first_number_at c s k low = past_links c.links 8 k (behind_links c) s.links ∙ number_at (take 6 c.numbers) k (behind_numbers c) (subst (λ n. k < n) (sym (six_first c s)) low) ∙ ap number (get_or-take 6 c.numbers k 0 low)
+
+-- one of them is written
+pub set_first_number_at : (c : HeldCell) → IsShaped c → (k n : ℕ) → k < 6 → set (cell_items c) (8 + k) (number n) ≡ cell_items (record c { numbers = set c.numbers k n })
+set_first_number_at c s k n low = set_past_links c.links 8 k (number n) (behind_links c) s.links
+    ∙ ap (λ is. link_items c.links ++ is) (set_number_at (take 6 c.numbers) k n (behind_numbers c) (subst (λ m. k < m) (sym (six_first c s)) low)
+        ∙ (λ t. number_items (sym (take-set-lt 6 c.numbers k n low) t) ++ (port_items c.ports ++ number_items (sym (drop-set-lt 6 c.numbers k n low) t))))
+
+-- behind the port of a membrane
+behind_port : (k : ℕ) → 6 ≤ k → 11 + k ≡ 8 + (6 + (3 + (k - 6)))
+behind_port k h = omega (arith, h)
+
+from_six : (k : ℕ) → 6 ≤ k → 6 + (k - 6) ≡ k
+from_six k h = omega (arith, h)
+
+few_behind : (c : HeldCell) (k : ℕ) → length c.numbers ≡ 8 → 6 ≤ k → k < 8 → k - 6 < length (drop 6 c.numbers)
+few_behind c k e h low = let m = length-drop 6 c.numbers in omega (arith, m, e, h, low)
+
+-- the word of one of the numbers behind it
+pub last_number_word : (c : HeldCell) → IsShaped c → length c.numbers ≡ 8 → (k : ℕ) → 6 ≤ k → k < 8 → get_or (cell_items c) (11 + k) blank ≡ number (get_or c.numbers k 0)
+last_number_word c s e k h low = ap (λ n. get_or (cell_items c) n blank) (behind_port k h) ∙ past_links c.links 8 (6 + (3 + (k - 6))) (behind_links c) s.links
+    ∙ past_numbers (take 6 c.numbers) 6 (3 + (k - 6)) (behind_numbers c) (six_first c s) ∙ past_port c.ports (k - 6) (number_items (drop 6 c.numbers)) (one_port c s e)
+    ∙ last_number_at (drop 6 c.numbers) (k - 6) (few_behind c k e h low) ∙ ap number (get_or-drop 6 c.numbers (k - 6) 0 ∙ ap (λ n. get_or c.numbers n 0) (from_six k h))
+
+-- one of them is written
+pub set_last_number_word : (c : HeldCell) → IsShaped c → length c.numbers ≡ 8 → (k n : ℕ) → 6 ≤ k → k < 8 → set (cell_items c) (11 + k) (number n) ≡ cell_items (record c { numbers = set c.numbers k n })
+set_last_number_word c s e k n h low = ap (λ m. set (cell_items c) m (number n)) (behind_port k h) ∙ set_past_links c.links 8 (6 + (3 + (k - 6))) (number n) (behind_links c) s.links
+    ∙ ap (λ is. link_items c.links ++ is) (set_past_numbers (take 6 c.numbers) 6 (3 + (k - 6)) (number n) (behind_numbers c) (six_first c s)
+        ∙ ap (λ is. number_items (take 6 c.numbers) ++ is) (set_past_port c.ports (k - 6) (number n) (number_items (drop 6 c.numbers)) (one_port c s e)
+            ∙ ap (λ is. port_items c.ports ++ is) (set_last_number_at (drop 6 c.numbers) (k - 6) n (few_behind c k e h low)))
+        ∙ (λ t. number_items (sym (take-set-le 6 c.numbers k n h) t) ++ (port_items c.ports ++ number_items (sym (ap (λ m. drop 6 (set c.numbers m n)) (sym (from_six k h)) ∙ drop-set-add 6 c.numbers (k - 6) n) t))))

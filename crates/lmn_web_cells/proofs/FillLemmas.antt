@@ -131,11 +131,6 @@ ports_three : (old rows rows' : List Row) (b j left : ℕ) → Filled old rows b
 ports_three old rows rows' b j left f r =
     subst (λ done. Filled old rows' b (blank_links 8 ++ (blank_numbers 6 ++ done)) left) (more_ports j) (next old rows rows' b (head_two j) left (14 + j * 3 + 2) (number 0) f (sym (count_two j)) r)
 
--- nothing is left
-no_more : (xs : List Item) → xs ++ [] ≡ xs
-no_more [] = refl
-no_more (x ∷ xs) = ap (λ ys. x ∷ ys) (no_more xs)
-
 begun : (old : List Row) (b : ℕ) (done : List Item) (left : ℕ) → 0 < length done + left → items_in old b ≡ done ++ replicate left blank → Filled old old b done left
 begun old b done left l e = record {
   there = subst (λ is. 0 < length is) (sym e) (let n = count_blanks done left in omega (arith, n, l));
@@ -259,7 +254,7 @@ ports_none p = let n : p * 3 ≡ (p - 0) * 3 = omega arith in λ t. blank_links 
 
 -- all ports are
 pub ports_all : (p j : ℕ) → j ≡ p → ports_filled p j ≡ cell_items (blank_cell p)
-ports_all p j same = let n : (p - j) * 3 ≡ 0 = omega (arith, same) in (λ t. head_ports (same t) ++ replicate (n t) blank) ∙ no_more (head_ports p)
+ports_all p j same = let n : (p - j) * 3 ≡ 0 = omega (arith, same) in λ t. blank_links 8 ++ (blank_numbers 6 ++ (blank_ports (same t) ++ replicate (n t) blank))
 
 -- one step behind another
 pub then : (old rows rows' : List Row) (b : ℕ) (is js : List Item) → rows ≡ with_items b is old → rows' ≡ with_items b js rows → rows' ≡ with_items b js old
@@ -272,3 +267,36 @@ written old rows b is there e = ap (λ rs. items_in rs b) e ∙ items_same old b
 -- there are some
 pub some_words : (old : List Row) (b p j : ℕ) → items_in old b ≡ ports_filled p j → 0 < length (items_in old b)
 some_words old b p j e = subst (λ is. 0 < length is) (sym e) (omega arith)
+
+-- one word more is written, where these were
+pub and_written : (old rows rows' : List Row) (b k : ℕ) (is : List Item) (i : Item) → 0 < length (items_in old b) → rows ≡ with_items b is old → rows' ≡ with_items b (set (items_in rows b) k i) rows → rows' ≡ with_items b (set is k i) old
+and_written old rows rows' b k is i there e r = then old rows rows' b is (set is k i) e (r ∙ ap (λ js. with_items b (set js k i) rows) (written old rows b is there e))
+
+-- The words of a membrane before its port is written, and after each of the words at its end is
+
+abbrev pub end_none : List Item
+end_none = blank_links 8 ++ (blank_numbers 6 ++ replicate 5 blank)
+
+abbrev pub end_one : List Item
+end_one = set end_none 14 (link_to None)
+
+abbrev pub end_two : List Item
+end_two = set end_one 15 (number 0)
+
+abbrev pub end_three : List Item
+end_three = set end_two 16 (number 0)
+
+abbrev pub end_four : List Item
+end_four = set end_three 17 (number 0)
+
+-- at first none is
+pub end_begun : (old : List Row) (b : ℕ) → items_in old b ≡ end_none → old ≡ with_items b end_none old
+end_begun old b e = sym (with_same old b) ∙ ap (λ is. with_items b is old) e
+
+-- there are words
+pub some_end : (old : List Row) (b : ℕ) → items_in old b ≡ end_none → 0 < length (items_in old b)
+some_end old b e = subst (λ is. 0 < length is) (sym e) (omega arith)
+
+-- one of the words that are written so far is a word of the row
+pub end_there : (old rows : List Row) (b k : ℕ) (is : List Item) → 0 < length (items_in old b) → rows ≡ with_items b is old → k < length is → k < length (items_in rows b)
+end_there old rows b k is there e low = subst (λ js. k < length js) (sym (written old rows b is there e)) low

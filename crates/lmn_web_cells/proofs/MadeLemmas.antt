@@ -88,11 +88,11 @@ count_words rows b p laid there six e =
     ap (λ (is : List Item). length is) f.words ∙ e
 
 -- and that of a membrane
-pub count_membrane : (rows : List Row) (b : ℕ) → AreLaid rows → IsSome (cells_by rows b) → length (numbers_of (cells_by rows b)) ≡ 8 → length (items_in rows b) ≡ 16
+pub count_membrane : (rows : List Row) (b : ℕ) → AreLaid rows → IsSome (cells_by rows b) → length (numbers_of (cells_by rows b)) ≡ 8 → length (items_in rows b) ≡ 19
 count_membrane rows b laid there eight =
     let f = found rows b laid there in let n : length f.cell.numbers ≡ 8 = sym (ap (λ (o : Option HeldCell). length (numbers_of o)) f.is) ∙ eight in let w = word_count f.cell f.shaped in
-    let e : length (cell_items f.cell) ≡ 16 = elim f.shaped.numbers [
+    let e : length (cell_items f.cell) ≡ 19 = elim f.shaped.numbers [
       | inl six ↦ absurd (omega (arith, six, n))
-      | inr e ↦ (let none = ap (λ (ps : List HeldPort). length ps) e.1 in omega (arith, w, n, none))
+      | inr e ↦ (let one = e.1 in omega (arith, w, n, one))
     ] in
     ap (λ (is : List Item). length is) f.words ∙ e

@@ -1,5 +1,5 @@
 -- Cells: what the words of a row stand for.
-use Rattle.std.specs.Prelude.{◌≡◌, ◌⊎◌, ℕ, zero, suc, ◌+◌, ◌==◌, ◌<◌, ◌^◌, List, [], ◌∷◌, ◌++◌, length, drop, Option, Some, None, IsSome, if◌then◌else◌, slice_index_or, slice_set, replicate}
+use Rattle.std.specs.Prelude.{◌≡◌, ◌⊎◌, ℕ, zero, suc, ◌==◌, ◌<◌, ◌^◌, List, [], ◌∷◌, ◌++◌, length, take, drop, Option, Some, None, IsSome, if◌then◌else◌, slice_index_or, slice_set, replicate}
 use denote.RawPtr.{Ptr, block_ptr, null_ptr}
 use Rattle.lmn_web_cells.specs.Rows.{Item, link, number, Row, items_in}
 
@@ -9,7 +9,7 @@ pub record HeldPort : Type 0 where
   pub port : ℕ
   pub mark : ℕ
 
--- a cell: eight links, six numbers or, of a membrane, eight, and its ports
+-- a cell: eight links, six numbers or, of a membrane, eight, and its ports, of which a membrane has one
 pub record HeldCell : Type 0 where
   pub links : List (Option ℕ)
   pub numbers : List ℕ
@@ -39,8 +39,9 @@ abbrev pub port_items : List HeldPort → List Item
 port_items [] = []
 port_items (p ∷ ps) = link_to p.to ∷ number p.port ∷ number p.mark ∷ port_items ps
 
+-- The words of a cell: its links, six numbers, its ports, and the last two numbers of a membrane.
 abbrev pub cell_items : HeldCell → List Item
-cell_items c = link_items c.links ++ (number_items c.numbers ++ port_items c.ports)
+cell_items c = link_items c.links ++ (number_items (take 6 c.numbers) ++ (port_items c.ports ++ number_items (drop 6 c.numbers)))
 
 -- Reading the words
 
@@ -71,22 +72,22 @@ ports_by (i ∷ []) = []
 ports_by (i ∷ j ∷ []) = []
 ports_by (i ∷ j ∷ k ∷ is) = record { to = led_to i; port = number_by j; mark = number_by k } ∷ ports_by is
 
--- how many numbers a row of so many words has: that of a membrane has 16 words, that of an atom 14 and three for each port
-abbrev pub number_count : ℕ → ℕ
-number_count n = if n == 16 then 8 else 6
+-- the two numbers at the end of a membrane's row, which has 19 words: that of an atom has 14 and three for each port
+abbrev pub last_numbers : List Item → List ℕ
+last_numbers is = if length is == 19 then first_numbers 2 (drop 17 is) else []
 
 abbrev pub cell_by : List Item → Option HeldCell
 cell_by [] = None
-cell_by (i ∷ is) = let n = number_count (length (i ∷ is)) in Some record { links = first_links 8 (i ∷ is); numbers = first_numbers n (drop 8 (i ∷ is)); ports = ports_by (drop (8 + n) (i ∷ is)) }
+cell_by (i ∷ is) = Some record { links = first_links 8 (i ∷ is); numbers = first_numbers 6 (drop 8 (i ∷ is)) ++ last_numbers (i ∷ is); ports = ports_by (drop 14 (i ∷ is)) }
 
 -- the cell of each number
 abbrev pub cells_by : List Row → ℕ → Option HeldCell
 cells_by rows b = cell_by (items_in rows b)
 
--- a cell has eight links, six numbers or eight and no port, and fewer than 2 ^ 16 ports
+-- a cell has eight links, six numbers or eight and one port, and fewer than 2 ^ 16 ports
 pub record IsShaped (c : HeldCell) : Type 0 where
   pub links : length c.links ≡ 8
-  pub numbers : (length c.numbers ≡ 6) ⊎ ((length c.numbers ≡ 8) × (c.ports ≡ []))
+  pub numbers : (length c.numbers ≡ 6) ⊎ ((length c.numbers ≡ 8) × (length c.ports ≡ 1))
   pub few : length c.ports < 2 ^ 16
 
 -- words are those of a cell, or there are none
@@ -141,7 +142,7 @@ abbrev pub blank_cell : ℕ → HeldCell
 blank_cell ports = record { links = replicate 8 None; numbers = replicate 6 0; ports = replicate ports no_port }
 
 abbrev pub blank_membrane : HeldCell
-blank_membrane = record { links = replicate 8 None; numbers = replicate 8 0; ports = [] }
+blank_membrane = record { links = replicate 8 None; numbers = replicate 8 0; ports = replicate 1 no_port }
 
 -- the words of so many links that lead nowhere, of numbers that are 0, and of ports in which nothing is set
 abbrev pub blank_links : ℕ → List Item

@@ -1,5 +1,6 @@
-//! Cells: rows with eight links, six numbers and three words for each port, or, of a membrane, two numbers more and no port.
-ghost use Rattle.std.specs.Prelude.{◌≡◌, ℕ, ◌+◌, ◌*◌, ◌^◌, ◌<◌, ◌∷◌, length, IsSome, None, Some, MatchResult, slice_index_or};
+//! Cells: rows with eight links, six numbers and three words for each port, of which a membrane has one, and behind it two
+//! numbers more.
+ghost use Rattle.std.specs.Prelude.{◌≡◌, ℕ, ◌+◌, ◌*◌, ◌^◌, ◌<◌, ◌≤◌, ◌∷◌, length, IsSome, None, Some, MatchResult, slice_index_or};
 ghost use Rattle.std.specs.Option.{option_map};
 ghost use denote.RawPtr.{block_of};
 ghost use Rattle.lmn_web_cells.specs.Cells.{cells_by, links_of, numbers_of, ports_of, port_of, with_link, with_number, with_to, with_port, with_mark, pointer_to, blank_cell, blank_membrane, HaveLinks};
@@ -155,24 +156,26 @@ impl Cells {
         self.rows.set_number(c.at, LINKS + k, n);
     }
 
-    /// A number of a membrane.
+    /// A number that only membranes have.
     pub fn count(&self, c: Cell, k: usize) -> u64
         requires there { IsSome (cells_by self.now (cell_id c)) }
         requires numbers { length (numbers_of (cells_by self.now (cell_id c))) ≡ 8 }
+        requires behind { 6 ≤ k }
         requires below { k < 8 }
         ensures { result ≡ slice_index_or (numbers_of (cells_by self.now (cell_id c))) k 0 }
     {
-        self.rows.number(c.at, LINKS + k)
+        self.rows.number(c.at, LINKS + PORT_WORDS + k)
     }
 
-    /// A number of a membrane is another.
+    /// A number that only membranes have is another.
     pub fn set_count(&mut self, c: Cell, k: usize, n: u64)
         requires there { IsSome (cells_by self.old (cell_id c)) }
         requires numbers { length (numbers_of (cells_by self.old (cell_id c))) ≡ 8 }
+        requires behind { 6 ≤ k }
         requires below { k < 8 }
         ensures { cells_by self.new ≡ alter (cells_by self.old) (cell_id c) (option_map (with_number k n)) }
     {
-        self.rows.set_number(c.at, LINKS + k, n);
+        self.rows.set_number(c.at, LINKS + PORT_WORDS + k, n);
     }
 
     /// The cell to which a port leads.

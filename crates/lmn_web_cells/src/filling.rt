@@ -10,20 +10,17 @@ use crate::rows::{Rows, nowhere};
 /// How many links a cell has.
 pub const LINKS: usize = 8;
 
-/// How many numbers the cell of an atom has.
+/// How many numbers a cell has before its ports.
 const NUMBERS: usize = 6;
 
-/// How many numbers the cell of a membrane has.
-const MEMBRANE_NUMBERS: usize = 8;
-
-/// How many words the cell of a membrane has.
-pub const MEMBRANE_WORDS: usize = LINKS + MEMBRANE_NUMBERS;
-
-/// The word at which the ports of an atom begin.
+/// The word at which the ports of a cell begin.
 pub const FIRST_PORT: usize = LINKS + NUMBERS;
 
 /// How many words a port has.
 pub const PORT_WORDS: usize = 3;
+
+/// How many words the cell of a membrane has: a port and two numbers stand behind the first ones.
+pub const MEMBRANE_WORDS: usize = FIRST_PORT + PORT_WORDS + 2;
 
 // Each link leads nowhere. `left` words stand behind the links.
 fn fill_links(rows: &mut Rows, at: *mut u8, left: usize)
@@ -37,16 +34,15 @@ fn fill_links(rows: &mut Rows, at: *mut u8, left: usize)
     }
 }
 
-// Each of so many numbers is 0. `left` words stand behind them.
+// Each of the first numbers is 0. `left` words stand behind them.
 #[inline(always)]
-fn fill_numbers(rows: &mut Rows, at: *mut u8, numbers: usize, left: usize)
+fn fill_numbers(rows: &mut Rows, at: *mut u8, left: usize)
     requires start { IsStart at }
-    requires numbers { numbers ≤ 8 }
-    requires words { items_in rows.old.rows (block_of at) ≡ blank_links 8 ++ replicate (numbers + left) blank }
-    ensures { rows.new.rows ≡ with_items (block_of at) (blank_links 8 ++ (blank_numbers numbers ++ replicate left blank)) rows.old.rows }
+    requires words { items_in rows.old.rows (block_of at) ≡ blank_links 8 ++ replicate (6 + left) blank }
+    ensures { rows.new.rows ≡ with_items (block_of at) (blank_links 8 ++ (blank_numbers 6 ++ replicate left blank)) rows.old.rows }
 {
     let _ = left;
-    for k in 0..numbers {
+    for k in 0..NUMBERS {
         rows.set_number(at, LINKS + k, 0);
     }
 }
@@ -108,16 +104,30 @@ pub fn fill(rows: &mut Rows, at: *mut u8, ports: usize)
     ensures { rows.new.rows ≡ with_items (block_of at) (cell_items (blank_cell ports)) rows.old.rows }
 {
     fill_links(rows, at, NUMBERS + ports * PORT_WORDS);
-    fill_numbers(rows, at, NUMBERS, ports * PORT_WORDS);
+    fill_numbers(rows, at, ports * PORT_WORDS);
     fill_ports(rows, at, ports);
+}
+
+// The port of a membrane leads nowhere, and the numbers behind it are 0.
+fn fill_end(rows: &mut Rows, at: *mut u8)
+    requires start { IsStart at }
+    requires words { items_in rows.old.rows (block_of at) ≡ blank_links 8 ++ (blank_numbers 6 ++ replicate 5 blank) }
+    ensures { rows.new.rows ≡ with_items (block_of at) (cell_items blank_membrane) rows.old.rows }
+{
+    rows.set_link(at, FIRST_PORT, nowhere());
+    rows.set_number(at, FIRST_PORT + 1, 0);
+    rows.set_number(at, FIRST_PORT + 2, 0);
+    rows.set_number(at, FIRST_PORT + PORT_WORDS, 0);
+    rows.set_number(at, FIRST_PORT + PORT_WORDS + 1, 0);
 }
 
 /// A new row becomes the cell of a membrane in which nothing is set.
 pub fn fill_membrane(rows: &mut Rows, at: *mut u8)
     requires start { IsStart at }
-    requires words { items_in rows.old.rows (block_of at) ≡ replicate 16 blank }
+    requires words { items_in rows.old.rows (block_of at) ≡ replicate 19 blank }
     ensures { rows.new.rows ≡ with_items (block_of at) (cell_items blank_membrane) rows.old.rows }
 {
-    fill_links(rows, at, MEMBRANE_NUMBERS);
-    fill_numbers(rows, at, MEMBRANE_NUMBERS, 0);
+    fill_links(rows, at, NUMBERS + PORT_WORDS + 2);
+    fill_numbers(rows, at, PORT_WORDS + 2);
+    fill_end(rows, at);
 }

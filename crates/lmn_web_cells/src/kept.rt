@@ -25,7 +25,7 @@ impl Model for Kept {
 
     ghost view = { λ k. k.membranes ∷ k.none ∷ k.one ∷ k.two ∷ k.three ∷ [] };
 
-    ghost invariant = { λ k. (k.membranes ≡ 16) × (k.none ≡ 14) × (k.one ≡ 17) × (k.two ≡ 20) × (k.three ≡ 23) };
+    ghost invariant = { λ k. (k.membranes ≡ 19) × (k.none ≡ 14) × (k.one ≡ 17) × (k.two ≡ 20) × (k.three ≡ 23) };
 }
 
 impl Kept {
@@ -75,7 +75,7 @@ impl Kept {
     /// A row for a membrane: one that was kept, or a new one.
     pub fn make_membrane(&mut self, rows: &mut Rows, alloc: &Global) -> Result<*mut u8, AllocError>
         ensures { MatchResult result
-            (λ p. IsStart p × (items_in rows.old.rows (block_of p) ≡ []) × (rows.new.rows ≡ row (block_of p) (replicate 16 blank) ∷ rows.old.rows))
+            (λ p. IsStart p × (items_in rows.old.rows (block_of p) ≡ []) × (rows.new.rows ≡ row (block_of p) (replicate 19 blank) ∷ rows.old.rows))
             (λ _. rows.new.rows ≡ rows.old.rows) }
     {
         match self.membranes.take(rows) {
@@ -86,7 +86,7 @@ impl Kept {
 
     /// The row of a membrane is kept.
     pub fn keep_membrane(&mut self, rows: &mut Rows, at: *mut u8)
-        requires { IsStart at × (length (items_in rows.old.rows (block_of at)) ≡ 16) }
+        requires { IsStart at × (length (items_in rows.old.rows (block_of at)) ≡ 19) }
         ensures { (rows.new.rows ≡ without_row (block_of at) rows.old.rows) × (items_in rows.new.rows (block_of at) ≡ []) }
     {
         self.membranes.keep(rows, at);
