@@ -1,5 +1,5 @@
 -- The lists of a web: how they are read off its cells, and which changes keep them.
-use Rattle.std.proofs.Common.{◌≡◌, ◌≢◌, ◌⊎◌, ℕ, suc, ◌+◌, ◌<◌, Bool, List, [], ◌∷◌, length, get_or, Option, Some, None, IsSome, IfSome, is_some, refl, sym, ap, subst, ◌∙◌, inl, inr, arith}
+use Rattle.std.proofs.Common.{◌≡◌, ◌≢◌, ◌⊎◌, ℕ, suc, ◌+◌, ◌<◌, Bool, false, List, [], ◌∷◌, ◌++◌, length, get_or, Option, Some, None, IsSome, IfSome, MatchOption, is_some, refl, sym, ap, subst, ◌∙◌, inl, inr, arith}
 use Rattle.std.proofs.lemmas.Bool.{cases_eq, eq-eqb}
 use Rattle.std.specs.Option.{option_map}
 use Rattle.lmn_base.specs.Lists.{In}
@@ -222,6 +222,48 @@ begins_list f m e xs l = run_begins (node_in f) None (link_in f m e) xs (link_in
 -- what follows a cell of it
 pub goes_on : (f : ℕ → Option HeldCell) (m e x : ℕ) (xs : List ℕ) → Line f m e xs → In x xs → from (link_in f x NEXT) xs ≡ after x xs
 goes_on f m e x xs l i = run_goes_on (node_in f) (link_in f m e) (link_in f m (e + 1)) x xs l.runs l.once i
+
+-- where a run ends: at its last cell, or before its beginning
+pub run_ends : (h : ℕ → Node) (before first : Option ℕ) (us : List ℕ) (last : Option ℕ) → RunsThrough h before first us last None
+    → ((us ≡ []) × (last ≡ before)) ⊎ ((x : ℕ) × (xs : List ℕ) × (us ≡ xs ++ x ∷ []) × (last ≡ Some x))
+run_ends h before first [] last r = inl (refl, r.1)
+run_ends h before first (u ∷ us) last r = elim (run_ends h (Some u) (h u).next us last r.2) [
+  | inl e ↦ inr (u, [], ap (λ vs. u ∷ vs) e.0, e.1)
+  | inr e ↦ inr (e.0, u ∷ e.1, ap (λ vs. u ∷ vs) e.2, e.3)
+]
+
+-- where a list ends
+pub ends_list : (f : ℕ → Option HeldCell) (m e : ℕ) (xs : List ℕ) → Line f m e xs
+    → ((xs ≡ []) × (link_in f m (e + 1) ≡ None)) ⊎ ((x : ℕ) × (us : List ℕ) × (xs ≡ us ++ x ∷ []) × (link_in f m (e + 1) ≡ Some x))
+ends_list f m e xs l = run_ends (node_in f) None (link_in f m e) xs (link_in f m (e + 1)) l.runs
+
+-- before each cell behind the first of a run stands another
+run_behind : (h : ℕ → Node) (y : ℕ) (first : Option ℕ) (us : List ℕ) (last : Option ℕ) → RunsThrough h (Some y) first us last None → (x : ℕ) → In x us → (h x).prev ≡ None → ⊥
+run_behind h y first [] last r x i n = absurd i
+run_behind h y first (u ∷ us) last r x (inl e) n = (let z : Some y ≡ None = sym r.1 ∙ ap (λ a. (h a).prev) e ∙ n in absurd cc)
+run_behind h y first (u ∷ us) last r x (inr i) n = run_behind h u (h u).next us last r.2 x i n
+
+-- so a cell of a list that has none before it is its first
+pub first_of_list : (f : ℕ → Option HeldCell) (m e x : ℕ) (xs : List ℕ) → Line f m e xs → In x xs → link_in f x PREV ≡ None → from (Some x) xs ≡ xs
+first_of_list f m e x xs l i n = by (link_in f m e) xs l.runs i
+  where
+    front : (u : ℕ) (us : List ℕ) → from (Some u) (u ∷ us) ≡ u ∷ us
+    front u us = rw (eq-eqb u u refl) refl
+
+    by : (first : Option ℕ) (us : List ℕ) → RunsThrough (node_in f) None first us (link_in f m (e + 1)) None → In x us → from (Some x) us ≡ us
+    by first [] r i = absurd i
+    by first (u ∷ us) r (inl q) = subst (λ a. from (Some a) (u ∷ us) ≡ u ∷ us) q (front u us)
+    by first (u ∷ us) r (inr j) = absurd (run_behind (node_in f) u (node_in f u).next us (link_in f m (e + 1)) r.2 x j n)
+
+-- an option that is none is told by none
+pub none_told : {X : Type 0} (id : X → ℕ) (o : Option X) → is_some o ≡ false → option_map id o ≡ None
+none_told id None e = refl
+none_told id (Some x) e = absurd (cc)
+
+-- what an option that is told by numbers matches
+pub matched_by : {X : Type 0} (id : X → ℕ) (r : Option X) (N : Type 0) (P : ℕ → Type 0) → (option_map id r ≡ None → N) → ((q : ℕ) → option_map id r ≡ Some q → P q) → MatchOption r N (λ x. P (id x))
+matched_by id None N P n h = n refl
+matched_by id (Some x) N P n h = h (id x) refl
 
 -- the first of a list is in it
 pub from_in : (o : Option ℕ) (xs : List ℕ) → from o xs ≡ xs → (q : ℕ) → o ≡ Some q → In q xs

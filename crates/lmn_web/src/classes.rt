@@ -13,7 +13,9 @@ ghost use Rattle.lmn_web.specs.Classes.{ClassTree, AreClassed, IsTree, IsSorted,
 use crate::kind::{CellKind, FILED};
 use lmn_web_cells::cell::Cells;
 use lmn_web_cells::handle::Cell;
-use lmn_web_cells::links::{ATOMS, CLASS_LAST, CLASS_NEXT, CLASS_PREV, EVEN, LEADERS, NEXT, ODD};
+use lmn_web_cells::links::{
+    ATOMS, CLASS_LAST, CLASS_NEXT, CLASS_PREV, EVEN, LEADERS, NEXT, ODD, PREV,
+};
 use lmn_web_cells::numbers::{ARITY, HIGH, KIND};
 
 // A place in the tree of the first atoms of the classes: what hangs at a link of the membrane, or of the first atom above.
@@ -193,24 +195,26 @@ pub fn next_in(cells: &Cells, m: Cell, c: Cell) -> Option<Cell>
     }
 }
 
-/// The first atom of the class of `c` from another atom of a membrane's list on. None where nothing is to be filed.
+/// The first atom of the class of `c` from another atom of a membrane's list on, by the tree where that is the first of the
+/// list. None where nothing is to be filed.
 pub fn place_from(cells: &Cells, m: Cell, filed: bool, start: Cell, c: Cell) -> Option<Cell>
+    requires home { IsSome (cells_by cells.now (cell_id m)) }
     requires there { IsSome (cells_by cells.now (cell_id c)) }
     requires line { filed ≡ true → Line (cells_by cells.now) (cell_id m) ATOMS (list_in (cells_by cells.now) (cell_id m) Atom) }
     requires start { filed ≡ true → In (cell_id start) (list_in (cells_by cells.now) (cell_id m) Atom) }
+    requires classes { files (cells_by cells.now) (cell_id m) Atom ≡ true → (t : ClassTree) × AreClassed (cells_by cells.now) (cell_id m) (list_in (cells_by cells.now) (cell_id m) Atom) t }
     ensures { filed ≡ true → let f = cells_by cells.now in let all = list_in f (cell_id m) Atom in
         from (option_map cell_id result) (of_class f (key_in f (cell_id c)) all) ≡ of_class f (key_in f (cell_id c)) (from (Some (cell_id start)) all) }
 {
-    if filed {
-        seek(
-            cells,
-            m,
-            Some(start),
-            cells.number(c, HIGH),
-            cells.number(c, ARITY),
-        )
+    if !filed {
+        return None;
+    }
+    let high = cells.number(c, HIGH);
+    let arity = cells.number(c, ARITY);
+    if cells.link(start, PREV).is_none() {
+        first_in(cells, m, high, arity)
     } else {
-        None
+        seek(cells, m, Some(start), high, arity)
     }
 }
 

@@ -1,5 +1,5 @@
 //! The calls of a web.
-ghost use Rattle.std.specs.Prelude.{◌≡◌, ◌≢◌, ◌==◌, ℕ, ◌+◌, ◌^◌, ◌<◌, ◌≤◌, IfSome, IsSome, List, None, Some, MatchResult, length, map, slice_get, slice_index_or};
+ghost use Rattle.std.specs.Prelude.{◌≡◌, ◌≢◌, ◌==◌, ℕ, ◌+◌, ◌^◌, ◌<◌, ◌≤◌, ◌∷◌, ◌++◌, [], IfSome, IsSome, List, None, Some, MatchOption, MatchResult, length, map, slice_get, slice_index_or};
 ghost use Rattle.std.specs.Option.{option_map};
 ghost use Rattle.lmn_base.specs.Lists.{In};
 ghost use Rattle.lmn_store_heap.specs.Heap.{alter};
@@ -66,7 +66,7 @@ impl Web {
     }
 
     /// A new cell: no port has a partner, it stands in no list, its lists are empty, and every mark is 0. An error where
-    /// no memory is left, and where a membrane is to have ports.
+    /// no memory is left, and where a membrane is to have another number of ports than one.
     #[inline(always)]
     pub fn make(&mut self, label: u128, arity: u8, kind: CellKind) -> Result<Cell, AllocError>
         ensures { MatchResult result
@@ -77,13 +77,13 @@ impl Web {
     }
 
     /// A new membrane that doesn't file its atoms by class: they come and go in fewer steps, and those of a class are looked
-    /// for along its list.
-    pub fn make_unfiled(&mut self, label: u128) -> Result<Cell, AllocError>
+    /// for along its list. An error as above.
+    pub fn make_unfiled(&mut self, label: u128, arity: u8) -> Result<Cell, AllocError>
         ensures { MatchResult result
-            (λ c. (web_by self.old (cell_id c) ≡ None) × (web_by self.new ≡ alter (web_by self.old) (cell_id c) (λ _. Some (new_cell label 0 Membrane))))
+            (λ c. (web_by self.old (cell_id c) ≡ None) × (web_by self.new ≡ alter (web_by self.old) (cell_id c) (λ _. Some (new_cell label arity Membrane))))
             (λ _. web_by self.new ≡ web_by self.old) }
     {
-        self.make_by(label, 0, UNFILED)
+        self.make_by(label, arity, UNFILED)
     }
 
     // A new cell that tells its kind by this number.
@@ -218,6 +218,18 @@ impl Web {
         match self.kind(home) {
             CellKind::Atom => None,
             CellKind::Membrane => self.cells.link(home, first_link(kind)),
+        }
+    }
+
+    /// The last cell of a kind in a membrane.
+    pub fn last(&self, home: Cell, kind: CellKind) -> Option<Cell>
+        requires { IsSome (web_by self.now (cell_id home)) }
+        ensures { MatchOption result (cells_in (web_by self.now) (cell_id home) kind ≡ [])
+            (λ c. (xs : List ℕ) × (cells_in (web_by self.now) (cell_id home) kind ≡ xs ++ cell_id c ∷ [])) }
+    {
+        match self.kind(home) {
+            CellKind::Atom => None,
+            CellKind::Membrane => self.cells.link(home, first_link(kind) + 1),
         }
     }
 
@@ -402,7 +414,7 @@ impl Web {
     }
 }
 
-// A cell in which nothing is set, that is to tell its kind by this number. A membrane with ports isn't made.
+// A cell in which nothing is set, that is to tell its kind by this number. No membrane is made but with one port.
 #[inline(always)]
 fn make_blank(cells: &mut Cells, arity: u8, kind: u64) -> Result<Cell, AllocError>
     ensures { MatchResult result
@@ -411,7 +423,7 @@ fn make_blank(cells: &mut Cells, arity: u8, kind: u64) -> Result<Cell, AllocErro
 {
     if kind == 0 {
         cells.make(arity as usize)
-    } else if arity == 0 {
+    } else if arity == 1 {
         cells.make_membrane()
     } else {
         Err(AllocError)

@@ -99,6 +99,15 @@ is_filed-filed-requires c =
     let home : link_in f a HOME ≡ Some m = c.link.ensures ∙ ap (option_map cell_id) c.in-Some.is in
     (w.listed.homes m a home).0
 
+pub place_from-place-requires-clause-home : goal.place_from-place-requires-clause-home
+place_from-place-requires-clause-home c =
+    let f = cells_by c.self.inside.cells in let m = cell_id c.in-Some.home in let a = cell_id c.args.after in let w = c.self.invariant.web in
+    let home : link_in f a HOME ≡ Some m = c.link.ensures ∙ ap (option_map cell_id) c.in-Some.is in
+    (w.listed.homes m a home).0
+
+pub place_from-place-requires-clause-classes : goal.place_from-place-requires-clause-classes
+place_from-place-requires-clause-classes c sure = c.self.invariant.classed.classes (cell_id c.in-Some.home) sure
+
 pub place_from-place-requires-clause-there : goal.place_from-place-requires-clause-there
 place_from-place-requires-clause-there c =
     let f = cells_by c.self.inside.cells in let x = cell_id c.args.c in

@@ -6,7 +6,7 @@ use Rattle.lmn_web_cells.specs.Numbers.{KIND}
 use Rattle.lmn_web.specs.declared.kind.CellKind.TheVariants.{Atom, Membrane}
 use Rattle.lmn_web.specs.Webs.{web_by, cells_in, list_in, kind_at, number_in}
 use Rattle.lmn_web.specs.Indexes.{cell_kind}
-use Rattle.lmn_web.proofs.ListedLemmas.{kind_told, no_atom_by, web_listed}
+use Rattle.lmn_web.proofs.ListedLemmas.{kind_told, list_same, no_atom_by, web_listed}
 use Rattle.lmn_web.proofs.RelistLemmas.{membrane_there}
 use Rattle.lmn_web.proofs.WebLemmas.{eight_by}
 use Rattle.lmn_web.proofs.web.Web.count.Goals as goal
@@ -22,3 +22,9 @@ returns-in-Atom c =
     let f = cells_by c.self.inside.cells in let m = cell_id c.args.home in let k = c.args.kind in
     let atom : kind_at (web_by c.self.inside.cells) m ≡ Atom = subst (λ (z : List Row). kind_at (web_by z) m ≡ Atom) (sym c.self.view_is) (kind_told (web_by c.args.self.now) m Atom (c.kind.ensures ∙ ap Some c.in-Atom.is)) in
     subst (λ (z : List Row). 0 ≡ length (cells_in (web_by z) m k)) c.self.view_is (sym (ap (λ us. length us) ((web_listed f (list_in f) c.self.invariant.web.listed).bare m k atom)))
+
+pub returns-in-Membrane : goal.returns-in-Membrane
+returns-in-Membrane c =
+    let f = cells_by c.self.inside.cells in let m = cell_id c.args.home in let k = c.args.kind in let listed = c.self.invariant.web.listed in
+    subst (λ (z : List Row). c.count.result ≡ length (cells_in (web_by z) m k)) c.self.view_is
+    (c.count.ensures ∙ ap (number_in f m) c.count_place.ensures ∙ listed.count m k ∙ sym (ap (λ us. length us) (list_same f (list_in f) listed m k)))
