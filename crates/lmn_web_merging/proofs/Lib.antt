@@ -1,0 +1,12 @@
+pub mod Seen
+pub mod Sending
+pub mod Relisting
+pub mod Single
+pub mod Writing
+pub mod Trading
+pub mod Freeing
+pub mod Labelled
+pub mod Joining
+pub mod Whole
+pub mod Merges
+pub mod ExampleProofs

@@ -1,0 +1,48 @@
+use Rattle.std.proofs.Common.{◌≡◌, ◌≢◌, ℕ, ◌==◌, ◌<◌, ◌≤◌, true, false, Option, Some, None, IsSome, refl, sym, ap, subst, ◌∙◌, arith}
+use Rattle.std.specs.Option.{option_map}
+use Rattle.lmn_store_heap.specs.Heap.{alter}
+use Rattle.lmn_web_cells.specs.CellIds.{cell_id, port_id}
+use Rattle.lmn_web.specs.declared.kind.CellKind.TheVariants.{Atom, Membrane}
+use Rattle.lmn_web.specs.Webs.{WebCell, web_by, kind_at, arity_at, partner_at, with_mark, joined, parted, IsLoose}
+use Rattle.lmn_web_merging.specs.Keepers.{keeper, is_retired, LENT, RETIRED, seen}
+use Rattle.lmn_web_merging.specs.Moves.{AreKept, Trades, Traded}
+use Rattle.lmn_web_merging.proofs.Sending.{kind_there}
+use Rattle.lmn_web_merging.proofs.Joining.{join_arity, join_kind, mark_arity, mark_kind, own_traded}
+use Rattle.lmn_web_merging.proofs.keeping.hand_over.Goals as goal
+
+pub join-requires-clause-a : goal.join-requires-clause-a
+join-requires-clause-a c = subst (λ n. 0 < n) (sym (c.requires.trades.kept.ports (cell_id c.args.n) c.requires.trades.target)) (omega arith)
+
+pub join-requires-clause-b : goal.join-requires-clause-b
+join-requires-clause-b c = subst (λ n. 0 < n) (sym (c.requires.trades.kept.ports (cell_id c.args.m) c.requires.trades.source)) (omega arith)
+
+pub join-requires-clause-differ : goal.join-requires-clause-differ
+join-requires-clause-differ c e = c.requires.trades.apart (sym e.0)
+
+pub set_mark-requires-clause-there : goal.set_mark-requires-clause-there
+set_mark-requires-clause-there c =
+    let w = web_by c.args.web.now in let m = cell_id c.args.m in let n = cell_id c.args.n in
+    subst (λ (f : ℕ → Option WebCell). IsSome (f m)) (sym c.join.ensures) (kind_there (joined w n 0 m 0 m) (join_kind w n 0 m 0 m ∙ c.requires.trades.source))
+
+pub set_mark-requires-clause-slot : goal.set_mark-requires-clause-slot
+set_mark-requires-clause-slot c =
+    let w = web_by c.args.web.now in let m = cell_id c.args.m in let n = cell_id c.args.n in
+    subst (λ (f : ℕ → Option WebCell). 1 ≤ arity_at f m) (sym c.join.ensures) (subst (λ i. 1 ≤ i) (sym (join_arity w n 0 m 0 m ∙ c.requires.trades.kept.ports m c.requires.trades.source)) (omega arith))
+
+pub set_mark-requires-2-clause-there : goal.set_mark-requires-2-clause-there
+set_mark-requires-2-clause-there c =
+    let w = web_by c.args.web.now in let m = cell_id c.args.m in let n = cell_id c.args.n in let u = alter (joined w n 0 m 0) m (option_map (with_mark 1 LENT)) in
+    subst (λ (f : ℕ → Option WebCell). IsSome (f n)) (sym (c.set_mark.ensures ∙ ap (λ (f : ℕ → Option WebCell). alter f m (option_map (with_mark 1 LENT))) c.join.ensures))
+    (kind_there (u n) (mark_kind (joined w n 0 m 0) m 1 LENT n ∙ join_kind w n 0 m 0 n ∙ c.requires.trades.target))
+
+pub set_mark-requires-2-clause-slot : goal.set_mark-requires-2-clause-slot
+set_mark-requires-2-clause-slot c =
+    let w = web_by c.args.web.now in let m = cell_id c.args.m in let n = cell_id c.args.n in
+    subst (λ (f : ℕ → Option WebCell). 1 ≤ arity_at f n) (sym (c.set_mark.ensures ∙ ap (λ (f : ℕ → Option WebCell). alter f m (option_map (with_mark 1 LENT))) c.join.ensures))
+    (subst (λ i. 1 ≤ i) (sym (mark_arity (joined w n 0 m 0) m 1 LENT n ∙ join_arity w n 0 m 0 n ∙ c.requires.trades.kept.ports n c.requires.trades.target)) (omega arith))
+
+pub returns : goal.returns
+returns c =
+    let w = web_by c.args.web.now in let m = cell_id c.args.m in let n = cell_id c.args.n in let t = c.requires.trades in
+    subst (λ (f : ℕ → Option WebCell). Traded w f m n m) (sym (c.set_mark-2.ensures ∙ ap (λ (f : ℕ → Option WebCell). alter f n (option_map (with_mark 1 1))) (c.set_mark.ensures ∙ ap (λ (f : ℕ → Option WebCell). alter f m (option_map (with_mark 1 LENT))) c.join.ensures)))
+    (own_traded w t.kept m n t.source t.target t.apart t.alone c.requires.own)

@@ -1,0 +1,20 @@
+use Rattle.std.proofs.Common.{◌≡◌, ◌≢◌, ℕ, ◌==◌, ◌<◌, ◌≤◌, true, false, Option, Some, None, IsSome, refl, sym, ap, subst, ◌∙◌, arith}
+use Rattle.std.specs.Option.{option_map}
+use Rattle.lmn_store_heap.specs.Heap.{alter}
+use Rattle.lmn_web_cells.specs.CellIds.{cell_id, port_id}
+use Rattle.lmn_web.specs.declared.kind.CellKind.TheVariants.{Atom, Membrane}
+use Rattle.lmn_web.specs.Webs.{WebCell, web_by, kind_at, arity_at, partner_at, with_mark, joined, parted, IsLoose}
+use Rattle.lmn_web_merging.specs.Keepers.{keeper, is_retired, RETIRED, seen}
+use Rattle.lmn_web_merging.specs.Moves.{AreKept, Trades, Traded}
+use Rattle.lmn_web_merging.proofs.Sending.{kind_there}
+use Rattle.lmn_web_merging.proofs.Trading.{retired_mark}
+use Rattle.lmn_web_merging.proofs.keeping.has_retired.Goals as goal
+
+pub mark-requires-clause-there : goal.mark-requires-clause-there
+mark-requires-clause-there c = kind_there (web_by c.args.web.now (cell_id c.args.m)) c.requires.membrane
+
+pub mark-requires-clause-slot : goal.mark-requires-clause-slot
+mark-requires-clause-slot c = subst (λ n. 1 ≤ n) (sym c.requires.ports) (omega arith)
+
+pub returns : goal.returns
+returns c = ap (λ z. z == RETIRED) c.mark.ensures ∙ sym (retired_mark (web_by c.args.web.now (cell_id c.args.m)) c.requires.membrane)

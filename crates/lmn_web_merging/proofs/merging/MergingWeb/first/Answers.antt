@@ -1,0 +1,46 @@
+use Rattle.std.proofs.Common.{◌≡◌, ◌≢◌, ◌⊎◌, ℕ, ◌<◌, ◌≤◌, ◌++◌, ◌∷◌, [], List, Option, Some, None, IsSome, IfSome, MatchResult, refl, sym, ap, subst, ◌∙◌, inl, inr, arith, length}
+use Rattle.std.specs.Prelude.{slice_index_or}
+use Rattle.std.specs.Option.{option_map}
+use Rattle.lmn_base.specs.Lists.{In}
+use Rattle.lmn_store_heap.specs.Heap.{alter}
+use Rattle.lmn_store_heap.specs.Lists.{from, after, without}
+use Rattle.lmn_web_cells.specs.Rows.{Row}
+use Rattle.lmn_web_cells.specs.CellIds.{cell_id, port_id}
+use Rattle.lmn_web.specs.declared.kind.CellKind.{CellKind}
+use Rattle.lmn_web.specs.declared.kind.CellKind.TheVariants.{Atom, Membrane}
+use Rattle.lmn_web.specs.Webs.{WebCell, web_by, web_kind, kind_at, home_at, arity_at, partner_at, marks_of, cells_in, web_label, with_label, with_mark, new_cell, joined, added_last, unlinked, relisted, IsLoose, IsPaired, StandOnce, WithoutAtoms}
+use Rattle.lmn_web_merging.specs.Keepers.{keeper, port_mark, is_retired, seen, merged_by}
+use Rattle.lmn_web_merging.specs.Moves.{AreKept}
+use Rattle.lmn_web_merging.proofs.Seen.{seen_membrane, seen_cells, keeper_kind, home_seen, back}
+use Rattle.lmn_web_merging.proofs.Sending.{kind_there, home_of_first}
+use Rattle.lmn_web_merging.proofs.merging.MergingWeb.first.Goals as goal
+
+pub keeper_of-requires-clause-membrane : goal.keeper_of-requires-clause-membrane
+keeper_of-requires-clause-membrane c = (seen_membrane (web_by c.self.inside.web) (cell_id c.args.home) (subst (λ (z : List Row). kind_at (merged_by z) (cell_id c.args.home) ≡ Membrane) (sym c.self.view_is) c.requires)).0
+
+pub keeper_of-requires-clause-ports : goal.keeper_of-requires-clause-ports
+keeper_of-requires-clause-ports c = c.self.invariant.ports (cell_id c.args.home) (seen_membrane (web_by c.self.inside.web) (cell_id c.args.home) (subst (λ (z : List Row). kind_at (merged_by z) (cell_id c.args.home) ≡ Membrane) (sym c.self.view_is) c.requires)).0
+
+pub first-requires : goal.first-requires
+first-requires c =
+    let w = web_by c.self.inside.web in let m = cell_id c.args.home in let a = c.self.invariant in let r = c.paired.ensures in
+    let t = seen_membrane (web_by c.self.inside.web) (cell_id c.args.home) (subst (λ (z : List Row). kind_at (merged_by z) (cell_id c.args.home) ≡ Membrane) (sym c.self.view_is) c.requires) in
+    let k : cell_id c.keeper_of.result ≡ keeper w m = c.keeper_of.ensures in
+    kind_there (w (cell_id c.keeper_of.result)) (ap (kind_at w) k ∙ keeper_kind w r a m t.0)
+
+pub returns-clause-list : goal.returns-clause-list
+returns-clause-list c =
+    let w = web_by c.self.inside.web in let m = cell_id c.args.home in let a = c.self.invariant in let r = c.paired.ensures in
+    let t = seen_membrane (web_by c.self.inside.web) (cell_id c.args.home) (subst (λ (z : List Row). kind_at (merged_by z) (cell_id c.args.home) ≡ Membrane) (sym c.self.view_is) c.requires) in
+    let k : cell_id c.keeper_of.result ≡ keeper w m = c.keeper_of.ensures in
+    let o = option_map cell_id c.first.result in
+    subst (λ (z : List Row). from o (cells_in (merged_by z) m c.args.kind) ≡ cells_in (merged_by z) m c.args.kind) c.self.view_is
+    (subst (λ us. from o us ≡ us) (ap (λ z. cells_in w z c.args.kind) k ∙ sym (seen_cells w r a m c.args.kind)) c.first.ensures.list)
+
+pub returns-clause-home : goal.returns-clause-home
+returns-clause-home c =
+    let w = web_by c.self.inside.web in let m = cell_id c.args.home in let a = c.self.invariant in let r = c.paired.ensures in
+    let t = seen_membrane (web_by c.self.inside.web) (cell_id c.args.home) (subst (λ (z : List Row). kind_at (merged_by z) (cell_id c.args.home) ≡ Membrane) (sym c.self.view_is) c.requires) in
+    let k : cell_id c.keeper_of.result ≡ keeper w m = c.keeper_of.ensures in
+    subst (λ (z : List Row). IfSome c.first.result (λ x. home_at (merged_by z) (cell_id x) ≡ Some m)) c.self.view_is
+    (home_of_first cell_id c.first.result (λ x. home_at w x ≡ Some (cell_id c.keeper_of.result)) (λ x. home_at (seen w) x ≡ Some m) (λ x e. home_seen w r a x (keeper w m) (e ∙ ap (λ z. Some z) k) ∙ ap (λ z. Some z) (back w r a m)) c.first.ensures.home)

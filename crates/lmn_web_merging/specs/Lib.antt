@@ -1,0 +1,3 @@
+pub mod Keepers
+pub mod Moves
+pub mod Examples
