@@ -1,5 +1,5 @@
 -- What the calls that read answer, by what the calls of the web answer.
-use Rattle.std.proofs.Common.{◌≡◌, ◌≢◌, ℕ, ◌<◌, List, Option, Some, None, IsSome, IfSome, refl, sym, ap, subst, ◌∙◌, inl, inr}
+use Rattle.std.proofs.Common.{◌≡◌, ◌≢◌, ◌⊎◌, ℕ, ◌<◌, List, Option, Some, None, IsSome, IfSome, refl, sym, ap, subst, ◌∙◌, inl, inr}
 use Rattle.std.specs.Option.{option_map, option_and_then}
 use Rattle.lmn_base.specs.Lists.{In}
 use Rattle.lmn_store_heap.specs.Lists.{from, after}
@@ -12,7 +12,7 @@ use Rattle.lmn_web.specs.Webs.{WebCell, kind_at, home_at, partner_at, cells_in, 
 use Rattle.lmn_web.proofs.ListedLemmas.{from_in, if_some}
 use Rattle.lmn_store_web.specs.WebHeaps.{Posts, place_at, atoms_of, mems_of, heap_by}
 use Rattle.lmn_store_web.specs.WebStores.{IsStored}
-use Rattle.lmn_store_web.proofs.ReadLemmas.{stands_in, named_back, no_post, atom_there, mem_there, home_is, parent_is, atoms_is, mems_is, some_home}
+use Rattle.lmn_store_web.proofs.ReadLemmas.{stands_in, named_back, no_post, atom_there, mem_there, mem_is, home_is, parent_is, atoms_is, mems_is, some_home}
 use Rattle.lmn_store_web.proofs.SoundLemmas.{Formed, link_is, arity_same, linked_there, lists_are}
 use Rattle.lmn_store_heap.proofs.Common.{placed_is_mem as parent_some}
 
@@ -54,6 +54,13 @@ module _ (p : Posts) (t : List (Option RuleList)) (w : ℕ → Option WebCell) (
 
       no_end_at : (a m : ℕ) → home_at w a ≡ Some m → a ≢ p.gone
       no_end_at a m e q = let n = (k.homeless a (some_cell a m e)).1 (inr (inr q)) in let u : None ≡ Some m = sym n ∙ e in absurd (cc)
+
+  -- A membrane with a home is one of the heap.
+  pub homed_mem : (n m : ℕ) → home_at w n ≡ Some m → kind_at w n ≡ Membrane → IsMem H n
+  homed_mem n m e f = mem_is p t w n f (λ q. no_home (inr (inl q))) (λ q. no_home (inr (inr q))) (some_cell n m e)
+    where
+      no_home : (n ≡ p.root) ⊎ (n ≡ p.waiting) ⊎ (n ≡ p.gone) → ⊥
+      no_home q = let u : None ≡ Some m = sym ((k.homeless n (some_cell n m e)).1 q) ∙ e in absurd (cc)
 
   -- the home of an atom that stands
   pub in_place : (a m : ℕ) → home_of H a ≡ Some m → (kind_at w a ≡ Atom) × (home_at w a ≡ Some m) × (m ≢ p.waiting) × (m ≢ p.gone)

@@ -1,5 +1,6 @@
 -- A change of a web that leaves labels, kinds, homes, lists and the number of ports keeps what holds of a store.
-use Rattle.std.proofs.Common.{◌≡◌, ℕ, List, [], length, Option, Some, None, IsSome, refl, sym, ap, ◌∙◌}
+use Rattle.std.proofs.Common.{◌≡◌, ℕ, List, [], length, Option, Some, None, IsSome, refl, sym, ap, ◌∙◌, inl, inr}
+use Rattle.std.specs.Prelude.{slice_index_or}
 use Rattle.std.specs.Option.{option_map}
 use Rattle.lmn_store_counts.specs.RuleLists.{RuleList}
 use Rattle.lmn_web.specs.declared.kind.CellKind.{CellKind}
@@ -18,9 +19,15 @@ pub record Core : Type 0 where
   pub atoms : List ℕ
   pub membranes : List ℕ
   pub arity : ℕ
+  pub told : ℕ
+
+-- the mark of the port of a membrane
+abbrev pub told_by : CellKind → List ℕ → ℕ
+told_by Atom ms = 0
+told_by Membrane ms = slice_index_or ms 1 0
 
 abbrev pub core : WebCell → Core
-core c = record { label = c.label; kind = c.kind; home = c.home; atoms = c.atoms; membranes = c.membranes; arity = length c.partners }
+core c = record { label = c.label; kind = c.kind; home = c.home; atoms = c.atoms; membranes = c.membranes; arity = length c.partners; told = told_by c.kind c.marks }
 
 abbrev kind_core : Option Core → CellKind
 kind_core None = Atom
@@ -29,6 +36,14 @@ kind_core (Some c) = c.kind
 abbrev home_core : Option Core → Option ℕ
 home_core None = None
 home_core (Some c) = c.home
+
+abbrev told_core : Option Core → ℕ
+told_core None = 0
+told_core (Some c) = c.told
+
+told_mark : (o : Option WebCell) → web_kind o ≡ Membrane → slice_index_or (web.marks_of o) 1 0 ≡ told_core (option_map core o)
+told_mark None e = refl
+told_mark (Some c) e = λ i. told_by (sym e i) c.marks
 
 abbrev arity_core : Option Core → ℕ
 arity_core None = 0
@@ -106,4 +121,7 @@ module _ (v w : ℕ → Option WebCell) (same : (x : ℕ) → option_map core (w
       own_rules = λ m n i s u e f. k.own_rules m n i (mem_same m s) (mem_same n u) (sym (label_same m) ∙ e) (sym (label_same n) ∙ f);
       used = λ i s. let u = k.used i s in (u.0, mem_back u.0 u.1, label_same u.0 ∙ u.2);
       bare = λ m j e. cells_same m j ∙ k.bare m j (sym (home_same m) ∙ e);
+      lent = λ m e f. let e0 = sym (kind_same m) ∙ e in home_same m ∙ k.lent m e0 (sym (told_mark (w m) e ∙ ap told_core (same m) ∙ sym (told_mark (v m) e0)) ∙ f);
+      plain = λ m e f. let e0 = sym (kind_same m) ∙ e in
+          told_mark (w m) e ∙ ap told_core (same m) ∙ sym (told_mark (v m) e0) ∙ k.plain m e0 (elim f [ inl g ↦ inl g | inr g ↦ elim g [ inl h ↦ inr (inl h) | inr h ↦ inr (inr (sym (home_same m) ∙ h)) ] ]);
     }

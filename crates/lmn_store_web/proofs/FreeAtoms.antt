@@ -14,6 +14,7 @@ use Rattle.lmn_store_counts.specs.RuleLists.{RuleList}
 use Rattle.lmn_store_counts.specs.Census.{Census}
 use Rattle.lmn_store_counts.specs.Counts.{HasCounts, one}
 use Rattle.lmn_store_counts.proofs.CensusLemmas.{census_drop, census_less}
+use Rattle.lmn_web_merging.proofs.Relisting.{list_marks}
 use Rattle.lmn_web.specs.declared.kind.CellKind.{CellKind}
 use Rattle.lmn_web.specs.declared.kind.CellKind.TheVariants.{Atom, Membrane}
 use Rattle.lmn_web.specs.Webs as web
@@ -121,6 +122,9 @@ module _ (p : Posts) (l : ℕ) (t : List (Option RuleList)) (w : ℕ → Option 
     ports_rest : (y : ℕ) → (In y xs → ⊥) → web.partners_of (v y) ≡ web.partners_of (w y)
     ports_rest = rest web.partners_of list_ports
 
+    mark_rest : (y : ℕ) → (In y xs → ⊥) → slice_index_or (web.marks_of (v y)) 1 0 ≡ slice_index_or (web.marks_of (w y)) 1 0
+    mark_rest = rest (λ (o : Option WebCell). slice_index_or (web.marks_of o) 1 0) (λ j us o. ap (λ (ms : List ℕ). slice_index_or ms 1 0) (list_marks j us o))
+
     cells_rest : (y : ℕ) (j : CellKind) → (In y xs → ⊥) → y ≢ l → cells_in v y j ≡ cells_in w y j
     cells_rest y j a g = ap (λ (z : Option WebCell). cells_of z j) (d.others y a g)
 
@@ -182,6 +186,8 @@ module _ (p : Posts) (l : ℕ) (t : List (Option RuleList)) (w : ℕ → Option 
       used = λ i z. let r = c.stored.used i z in
           (r.0, subst (λ (f : ℕ → Option HeapMem). IsSome (f r.0)) (sym mems_is) r.1, label_rest r.0 (no_mem r.0 (mem_there p t w r.0 r.1).1) ∙ r.2);
       bare = λ y j e. let k = home_not_gone y p.waiting e in let h = sym (home_rest y k) ∙ e in cells_rest y j k (homed_not_line y p.waiting h) ∙ c.stored.bare y j h;
+      lent = λ y e f. let k = mem_not_gone y e in home_rest y k ∙ c.stored.lent y (sym (kind_all y) ∙ e) (sym (mark_rest y k) ∙ f);
+      plain = λ y e f. let k = mem_not_gone y e in mark_rest y k ∙ c.stored.plain y (sym (kind_all y) ∙ e) (elim f [ inl g ↦ inl g | inr g ↦ elim g [ inl h ↦ inr (inl h) | inr h ↦ inr (inr (sym (home_rest y k) ∙ h)) ] ]);
     }
 
     -- what is left may be freed

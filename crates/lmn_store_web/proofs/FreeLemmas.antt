@@ -9,6 +9,7 @@ use Rattle.lmn_store_heap.proofs.Listing.{alter_at, alter_away}
 use Rattle.lmn_store_counts.specs.RuleLists.{RuleList}
 use Rattle.lmn_store_counts.specs.Counts.{HasCounts, Removes, with_rules}
 use Rattle.lmn_store_counts.proofs.CensusLemmas.{census_drop}
+use Rattle.lmn_web_merging.proofs.Relisting.{list_marks}
 use Rattle.lmn_web.specs.declared.kind.CellKind.{CellKind}
 use Rattle.lmn_web.specs.declared.kind.CellKind.TheVariants.{Atom, Membrane}
 use Rattle.lmn_web.specs.Webs as web
@@ -100,6 +101,9 @@ module _ (w v : ℕ → Option WebCell) (l x : ℕ) (d : Drops w v l x) where
 
   ports_rest : (y : ℕ) → y ≢ x → web.partners_of (v y) ≡ web.partners_of (w y)
   ports_rest = rest web.partners_of list_ports
+
+  mark_rest : (y : ℕ) → y ≢ x → slice_index_or (web.marks_of (v y)) 1 0 ≡ slice_index_or (web.marks_of (w y)) 1 0
+  mark_rest = rest (λ (o : Option WebCell). slice_index_or (web.marks_of o) 1 0) (λ j us o. ap (λ (ms : List ℕ). slice_index_or ms 1 0) (list_marks j us o))
 
   cells_rest : (y : ℕ) (j : CellKind) → y ≢ x → y ≢ l → cells_in v y j ≡ cells_in w y j
   cells_rest y j n g = ap (λ (o : Option WebCell). cells_of o j) (d.others y n g)
@@ -212,6 +216,8 @@ module _ (w v : ℕ → Option WebCell) (l x : ℕ) (d : Drops w v l x) where
           let k : r.0 ≢ x = (λ e. u.1 (ap (kind_at w) (sym e) ∙ o.1) (ap (web_label w) (sym e) ∙ r.2)) in
           (r.0, mem_is p g v r.0 (kind_rest r.0 k ∙ o.1) o.2 o.3 (there_rest r.0 k ∙ o.0), label_rest r.0 k ∙ r.2);
       bare = λ y j e. let k = home_not_x y p.waiting e in let h = sym (home_rest y k) ∙ e in cells_rest y j k (homed_not_line y p.waiting h) ∙ c.stored.bare y j h;
+      lent = λ y e f. let k = mem_not_x y e in home_rest y k ∙ c.stored.lent y (sym (kind_rest y k) ∙ e) (sym (mark_rest y k) ∙ f);
+      plain = λ y e f. let k = mem_not_x y e in mark_rest y k ∙ c.stored.plain y (sym (kind_rest y k) ∙ e) (elim f [ inl g ↦ inl g | inr g ↦ elim g [ inl h ↦ inr (inl h) | inr h ↦ inr (inr (sym (home_rest y k) ∙ h)) ] ]);
     }
       where
         labelled : (y i : ℕ) → web_label v y ≡ Some i → y ≢ x

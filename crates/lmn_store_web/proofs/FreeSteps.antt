@@ -12,6 +12,7 @@ use Rattle.lmn_store_counts.proofs.CensusLemmas.{census_less}
 use Rattle.lmn_web.specs.declared.kind.CellKind.{CellKind}
 use Rattle.lmn_web.specs.declared.kind.CellKind.TheVariants.{Atom, Membrane}
 use Rattle.lmn_web.specs.Webs as web
+use Rattle.lmn_web_merging.specs.Keepers.{port_mark}
 use Rattle.lmn_web.specs.Webs.{WebCell, kind_at, home_at, partner_at, cells_in, web_label, StandOnce}
 use Rattle.lmn_store_web.specs.Frees.{Drops, CanFree, Frees}
 use Rattle.lmn_store_web.specs.WebHeaps.{Posts, no_rules, mem_by, mems_of}
@@ -37,6 +38,10 @@ module _ (p : Posts) (l : ℕ) (t : List (Option RuleList)) (w : ℕ → Option 
   -- the line is a membrane of the web
   pub line_kind : kind_at w l ≡ Membrane
   line_kind = elim c.line [ inl e ↦ ap (kind_at w) e ∙ c.stored.waiting | inr e ↦ ap (kind_at w) e ∙ c.stored.gone ]
+
+  -- that never had a keeper,
+  pub line_plain : port_mark w l ≡ 0
+  line_plain = c.stored.plain l line_kind (elim c.line [ inl e ↦ inl e | inr e ↦ inr (inl e) ])
 
   -- so it is there
   pub line_is : IsSome (w l)

@@ -20,6 +20,7 @@ pub mod FreeSteps
 pub mod FreeAtoms
 pub mod EndLemmas
 pub mod MoveLemmas
+pub mod MergeLemmas
 pub mod MemLists
 pub mod NestLemmas
 pub mod IndexLemmas

@@ -10,9 +10,11 @@ use Rattle.lmn_store_counts.specs.RuleLists.{RuleList}
 use Rattle.lmn_store_counts.specs.Census.{Census}
 use Rattle.lmn_store_counts.specs.Counts.{HasCounts, BOUND, one, with_rules}
 use Rattle.lmn_store_counts.proofs.CensusLemmas.{census_add}
+use Rattle.lmn_web_merging.proofs.Relisting.{list_marks}
 use Rattle.lmn_web.specs.declared.kind.CellKind.{CellKind}
 use Rattle.lmn_web.specs.declared.kind.CellKind.TheVariants.{Atom, Membrane}
 use Rattle.lmn_web.specs.Webs as web
+use Rattle.lmn_web_merging.specs.Keepers.{LENT}
 use Rattle.lmn_web.specs.Webs.{WebCell, web_kind, kind_at, home_at, arity_at, cells_in, cells_of, web_label, new_cell, with_home, with_list, added_last}
 use Rattle.lmn_store_web.specs.Labels.{IsLabelNumber, label_by}
 use Rattle.lmn_store_web.specs.WebHeaps.{Posts, no_rules, rules_at, atom_by, if_atom, if_membrane, atoms_of, mem_by, is_post, mems_of, heap_by}
@@ -81,6 +83,10 @@ module _ (v u : ℕ → Option WebCell) (c l n : ℕ) (K : CellKind) (none : v c
   pub old_kind : (x : ℕ) → kind_at v x ≡ Membrane → kind_at u x ≡ Membrane
   old_kind x e = (λ j. web_kind (make j x)) ∙ ap web_kind (alter_away v c (λ _. Some (new_cell l n K)) x (λ q. new_apart x e (sym q))) ∙ e
 
+  -- and its mark
+  pub old_mark : (x : ℕ) → kind_at v x ≡ Membrane → slice_index_or (web.marks_of (u x)) 1 0 ≡ slice_index_or (web.marks_of (v x)) 1 0
+  old_mark x e = (λ j. slice_index_or (web.marks_of (make j x)) 1 0) ∙ ap (λ (o : Option WebCell). slice_index_or (web.marks_of o) 1 0) (alter_away v c (λ _. Some (new_cell l n K)) x (λ q. new_apart x e (sym q)))
+
 new_cells : (h : Option ℕ) (l n : ℕ) (K k : CellKind) → cells_of (Some (with_home h (new_cell l n K))) k ≡ []
 new_cells h l n K Atom = refl
 new_cells h l n K Membrane = refl
@@ -107,6 +113,9 @@ module _ (p : Posts) (v w : ℕ → Option WebCell) (c : ℕ) (K : CellKind) (l 
 
   arity_beside : (x : ℕ) → x ≢ c → arity_at w x ≡ arity_at v x
   arity_beside = beside (λ o. length (web.partners_of o)) (λ o. ap length (list_ports K xs o))
+
+  mark_beside : (x : ℕ) → x ≢ c → slice_index_or (web.marks_of (w x)) 1 0 ≡ slice_index_or (web.marks_of (v x)) 1 0
+  mark_beside = beside (λ o. slice_index_or (web.marks_of o) 1 0) (λ o. ap (λ (us : List ℕ). slice_index_or us 1 0) (list_marks K xs o))
 
   label_beside : (x : ℕ) → x ≢ c → web_label w x ≡ web_label v x
   label_beside = beside (λ o. option_map (λ c. c.label) o) (list_label K xs)
@@ -200,6 +209,14 @@ module _ (p : Posts) (v w : ℕ → Option WebCell) (c : ℕ) (K : CellKind) (l 
       bare = λ m j e. elim (cases_eq m c) [
         | inl q ↦ ap (λ z. cells_in w z j) q ∙ ap (λ (o : Option WebCell). cells_of o j) d.here ∙ new_cells (Some p.waiting) l n K j
         | inr q ↦ (let h = sym (home_beside m q) ∙ e in ap (λ (o : Option WebCell). cells_of o j) (d.others m q (no_line m h)) ∙ k.bare m j h)
+      ];
+      lent = λ m e g. elim (cases_eq m c) [
+        | inl q ↦ absurd (let z : 0 ≡ LENT = sym (ap (λ z. slice_index_or (web.marks_of (w z)) 1 0) q ∙ ap (λ (o : Option WebCell). slice_index_or (web.marks_of o) 1 0) d.here ∙ ap (λ i. slice_index_or (replicate i 0 ++ 0 ∷ []) 1 0) (ports (kind_of_new m q Membrane e))) ∙ g in cc)
+        | inr q ↦ home_beside m q ∙ k.lent m (sym (kind_beside m q) ∙ e) (sym (mark_beside m q) ∙ g)
+      ];
+      plain = λ m e g. elim (cases_eq m c) [
+        | inl q ↦ ap (λ z. slice_index_or (web.marks_of (w z)) 1 0) q ∙ ap (λ (o : Option WebCell). slice_index_or (web.marks_of o) 1 0) d.here ∙ ap (λ i. slice_index_or (replicate i 0 ++ 0 ∷ []) 1 0) (ports (kind_of_new m q Membrane e))
+        | inr q ↦ mark_beside m q ∙ k.plain m (sym (kind_beside m q) ∙ e) (elim g [ inl f ↦ inl f | inr f ↦ elim f [ inl h ↦ inr (inl h) | inr h ↦ inr (inr (sym (home_beside m q) ∙ h)) ] ])
       ];
     }
       where

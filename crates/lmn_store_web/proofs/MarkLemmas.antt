@@ -1,10 +1,11 @@
 -- Marks that are set.
-use Rattle.std.proofs.Common.{◌≡◌, ℕ, ◌==◌, Bool, true, false, cond, List, Option, Some, None, refl, sym, ap, subst, ◌∙◌}
+use Rattle.std.proofs.Common.{◌≡◌, ℕ, ◌==◌, Bool, true, false, cond, List, [], ◌∷◌, ◌⊎◌, Option, Some, None, inl, inr, refl, sym, ap, subst, ◌∙◌}
 use Rattle.std.specs.Option.{option_map, option_and_then}
-use Rattle.std.proofs.lemmas.Bool.{eqb-true}
+use Rattle.std.proofs.lemmas.Bool.{cases_eq, eqb-true}
+use Rattle.std.specs.Prelude.{slice_index_or, slice_set}
 use Rattle.lmn_store_heap.specs.Heap as heap
 use Rattle.lmn_store_heap.specs.Heap.{HeapMem, alter, marked}
-use Rattle.lmn_store_heap.proofs.Listing.{alter_keeps}
+use Rattle.lmn_store_heap.proofs.Listing.{alter_at, alter_away}
 use Rattle.lmn_store_counts.specs.RuleLists.{RuleList}
 use Rattle.lmn_store_counts.specs.Counts.{HasCounts, one}
 use Rattle.lmn_store_counts.proofs.CensusLemmas.{census_alter}
@@ -13,18 +14,27 @@ use Rattle.lmn_web.specs.declared.kind.CellKind.TheVariants.{Atom, Membrane}
 use Rattle.lmn_web.specs.Webs as web
 use Rattle.lmn_web.specs.Webs.{WebCell, web_kind, kind_at}
 use Rattle.lmn_store_web.specs.WebHeaps.{Posts, atom_by, if_atom, if_membrane, atoms_of, mem_by, is_post, mems_of, heap_by}
-use Rattle.lmn_store_web.proofs.CoreLemmas.{core, cells_same}
+use Rattle.lmn_store_web.proofs.CoreLemmas.{core, told_by, cells_same}
 
-module _ (p : Posts) (t : List (Option RuleList)) (v : ℕ → Option WebCell) (a i n : ℕ) where
+module _ (p : Posts) (t : List (Option RuleList)) (v : ℕ → Option WebCell) (a i n : ℕ) (ok : (kind_at v a ≡ Atom) ⊎ (i ≡ 0)) where
   abbrev w : ℕ → Option WebCell
   w = alter v a (option_map (web.with_mark i n))
 
   pub core_same : (x : ℕ) → option_map core (w x) ≡ option_map core (v x)
-  core_same = alter_keeps v a (option_map (web.with_mark i n)) (λ (o : Option WebCell). option_map core o) by
+  core_same x = elim (cases_eq x a) [
+    | inl e ↦ subst (λ z. option_map core (w z) ≡ option_map core (v z)) (sym e) (ap (λ (o : Option WebCell). option_map core o) (alter_at v a (option_map (web.with_mark i n))) ∙ by (v a) ok)
+    | inr d ↦ ap (λ (o : Option WebCell). option_map core o) (alter_away v a (option_map (web.with_mark i n)) x d)
+  ]
     where
-      by : (o : Option WebCell) → option_map core (option_map (web.with_mark i n) o) ≡ option_map core o
-      by None = refl
-      by (Some c) = refl
+      behind : (k : CellKind) (us : List ℕ) → told_by k (slice_set us 0 n) ≡ told_by k us
+      behind Atom us = refl
+      behind Membrane [] = refl
+      behind Membrane (u ∷ us) = refl
+
+      by : (o : Option WebCell) → (web_kind o ≡ Atom) ⊎ (i ≡ 0) → option_map core (option_map (web.with_mark i n) o) ≡ option_map core o
+      by None e = refl
+      by (Some c) (inl e) = (λ j. Some (record (core c) { told = told_by (e j) (slice_set c.marks i n) })) ∙ (λ j. Some (record (core c) { told = told_by (sym e j) c.marks }))
+      by (Some c) (inr e) = (λ j. Some (record (core c) { told = told_by c.kind (slice_set c.marks (e j) n) })) ∙ (λ j. Some (record (core c) { told = behind c.kind c.marks j }))
 
   module _ (atom : kind_at v a ≡ Atom) where
     atoms_marked : atoms_of p w ≡ alter (atoms_of p v) a (option_map (heap.with_mark i n))

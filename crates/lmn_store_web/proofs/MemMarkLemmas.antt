@@ -1,5 +1,5 @@
 -- Marks of membranes that are set.
-use Rattle.std.proofs.Common.{◌≡◌, ℕ, ◌+◌, ◌==◌, Bool, true, false, cond, List, [], ◌∷◌, length, Option, Some, None, IsSome, refl, sym, ap, subst, ◌∙◌, arith}
+use Rattle.std.proofs.Common.{◌≡◌, ◌<◌, ℕ, ◌+◌, ◌==◌, Bool, true, false, cond, List, [], ◌∷◌, length, Option, Some, None, IsSome, inr, refl, sym, ap, subst, ◌∙◌, arith}
 use Rattle.std.specs.Prelude.{slice_index_or, slice_set}
 use Rattle.std.specs.Option.{option_map, option_and_then}
 use Rattle.std.proofs.lemmas.Bool.{eqb-true}
@@ -34,15 +34,15 @@ module _ (p : Posts) (t : List (Option RuleList)) (v : ℕ → Option WebCell) (
   mems_marked : mems_of p t w ≡ alter (mems_of p t v) a (option_map (mem_with_mark n))
   mems_marked = λ j x. at x (x == a) (is_post p x) j
     where
-      first : (xs : List ℕ) (k : ℕ) → length xs ≡ k + 1 → slice_index_or (slice_set xs 0 n) 0 0 ≡ n
-      first [] k e = absurd (omega (arith, e))
-      first (x ∷ xs) k e = refl
+      first : (xs : List ℕ) → 0 < length xs → slice_index_or (slice_set xs 0 n) 0 0 ≡ n
+      first [] e = absurd (omega (arith, e))
+      first (x ∷ xs) e = refl
 
-      kinds : (k : CellKind) (c : WebCell) → length c.marks ≡ length c.partners + 1 → if_membrane k (mem_by p t (with_mark 0 n c)) ≡ option_map (mem_with_mark n) (if_membrane k (mem_by p t c))
+      kinds : (k : CellKind) (c : WebCell) → 0 < length c.marks → if_membrane k (mem_by p t (with_mark 0 n c)) ≡ option_map (mem_with_mark n) (if_membrane k (mem_by p t c))
       kinds Atom c e = refl
-      kinds Membrane c e = λ j. Some (record (mem_by p t c) { mark = first c.marks (length c.partners) e j })
+      kinds Membrane c e = λ j. Some (record (mem_by p t c) { mark = first c.marks e j })
 
-      by : (o : Option WebCell) → (IsSome o → length (web.marks_of o) ≡ length (web.partners_of o) + 1)
+      by : (o : Option WebCell) → (IsSome o → 0 < length (web.marks_of o))
           → option_and_then (λ (c : WebCell). if_membrane c.kind (mem_by p t c)) (option_map (with_mark 0 n) o) ≡ option_map (mem_with_mark n) (option_and_then (λ (c : WebCell). if_membrane c.kind (mem_by p t c)) o)
       by None h = refl
       by (Some c) h = kinds c.kind c (h refl)
@@ -50,11 +50,11 @@ module _ (p : Posts) (t : List (Option RuleList)) (v : ℕ → Option WebCell) (
       at : (x : ℕ) (b q : Bool) → cond q None (option_and_then (λ (c : WebCell). if_membrane c.kind (mem_by p t c)) (cond b (option_map (with_mark 0 n) (v x)) (v x)))
           ≡ cond b (option_map (mem_with_mark n) (cond q None (option_and_then (λ (c : WebCell). if_membrane c.kind (mem_by p t c)) (v x)))) (cond q None (option_and_then (λ (c : WebCell). if_membrane c.kind (mem_by p t c)) (v x)))
       at x true true = refl
-      at x true false = by (v x) (formed x)
+      at x true false = by (v x) (λ i. (formed x i).1)
       at x false q = refl
 
   pub mem_marked_heap : heap_by p t w ≡ mem_marked (heap_by p t v) a n
-  mem_marked_heap = λ j. record { root = p.root; atoms = atoms_stay j; mems = mems_marked j; new_atoms = cells_same v w (core_same p t v a 0 n) p.waiting Atom j; new_mems = cells_same v w (core_same p t v a 0 n) p.waiting Membrane j }
+  mem_marked_heap = λ j. record { root = p.root; atoms = atoms_stay j; mems = mems_marked j; new_atoms = cells_same v w (core_same p t v a 0 n (inr refl)) p.waiting Atom j; new_mems = cells_same v w (core_same p t v a 0 n (inr refl)) p.waiting Membrane j }
 
   pub mem_marked_counts : (x y z : ℕ) → HasCounts (atoms_of p v) (mems_of p t v) x y z → HasCounts (atoms_of p w) (mems_of p t w) x y z
   mem_marked_counts x y z h =

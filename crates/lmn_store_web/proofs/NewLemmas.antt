@@ -12,6 +12,7 @@ use Rattle.lmn_store_counts.proofs.CensusLemmas.{census_add}
 use Rattle.lmn_web.specs.declared.kind.CellKind.{CellKind}
 use Rattle.lmn_web.specs.declared.kind.CellKind.TheVariants.{Atom, Membrane}
 use Rattle.lmn_web.specs.Webs as web
+use Rattle.lmn_web_merging.specs.Keepers.{LENT}
 use Rattle.lmn_web.specs.Webs.{WebCell, web_kind, kind_at, home_at, arity_at, cells_in, cells_of, web_label, new_cell}
 use Rattle.lmn_store_web.specs.WebHeaps.{Posts, no_rules, atom_by, if_atom, atoms_of, mem_by, mems_of, heap_by, alone}
 use Rattle.lmn_store_web.specs.WebStores.{IsStored}
@@ -105,6 +106,8 @@ module _ (by_value : Bool) (a b r key : ℕ) (t : List (Option RuleList)) (ba : 
       | inr d ↦ absurd (let u : IsSome {T = RuleList} None = subst (λ (o : Option RuleList). IsSome o) (no_others i d) s in cc)
     ];
     bare = λ m k e. no_list m k;
+    plain = λ m k e. unmarked m (seen m);
+    lent = λ m k e. absurd (let z : 0 ≡ LENT = sym (unmarked m (seen m)) ∙ e in cc);
   }
     where
       which : (x : ℕ) → IsSome (w x) → Seen x → (x ≡ r) ⊎ (x ≡ a) ⊎ (x ≡ b)
@@ -114,6 +117,10 @@ module _ (by_value : Bool) (a b r key : ℕ) (t : List (Option RuleList)) (ba : 
       ports : (m : ℕ) → Seen m → arity_at w m ≡ 0
       ports m (is_cell l c e) = ap (λ (o : Option WebCell). length (web.partners_of o)) e
       ports m (is_no d e) = ap (λ (o : Option WebCell). length (web.partners_of o)) e
+
+      unmarked : (m : ℕ) → Seen m → slice_index_or (web.marks_of (w m)) 1 0 ≡ 0
+      unmarked m (is_cell l c e) = ap (λ (o : Option WebCell). slice_index_or (web.marks_of o) 1 0) e
+      unmarked m (is_no d e) = ap (λ (o : Option WebCell). slice_index_or (web.marks_of o) 1 0) e
 
       no_atom : (x l : ℕ) → Seen x → kind_at w x ≡ Atom → web_label w x ≡ Some l → ⊥
       no_atom x l (is_cell k c e) f g = let u : Membrane ≡ Atom = sym (ap web_kind e) ∙ f in absurd (cc)

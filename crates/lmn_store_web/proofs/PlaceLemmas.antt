@@ -2,6 +2,7 @@
 use Rattle.std.proofs.Common.{◌≡◌, ◌≢◌, ℕ, ◌==◌, Bool, true, false, cond, List, [], ◌∷◌, ◌++◌, Option, Some, None, IsSome, refl, sym, ap, subst, ◌∙◌, inl, inr}
 use Rattle.std.proofs.lemmas.Bool.{cases_eq, eq-eqb, eqb-true}
 use Rattle.std.specs.Option.{option_map}
+use Rattle.lmn_base.proofs.Numbers.{not_equal}
 use Rattle.lmn_store_heap.specs.Heap.{HeapAtom, HeapMem, Place, within, waiting, gone, alter, with_place, mem_with_place, mem_with_atoms, mem_with_mems, home_of, parent_of, IsTopOrWithin, IsMemInPlace, atom_out, mem_out, placed, placed_mem, taken, taken_mem}
 use Rattle.lmn_store_heap.specs.Lists.{without, after, from}
 use Rattle.lmn_store_heap.proofs.Listing.{alter_at, alter_away, without_first}
@@ -70,19 +71,30 @@ module _ (p : Posts) (t : List (Option RuleList)) where
       by false false e f = absurd (cc)
 
   module _ (w : ℕ → Option WebCell) where
+    some : (o : Option HeapMem) → IsTopOrWithin (option_map (λ x. x.place) o) → IsSome o
+    some None i = absurd i
+    some (Some x) i = refl
+
+    -- where a membrane in place is, by its cell
+    standing : (y : ℕ) → IsMemInPlace (heap_by p t w) y → IsTopOrWithin (Some (place_at p (home_at w y)))
+    standing y i = let q = mem_there p t w y (some (mems_of p t w y) i) in subst (λ (o : Option Place). IsTopOrWithin o) (mem_place_is p t w y q.1 q.2 q.3 q.0) i
+
     -- a membrane in place, by its cell
     pub in_place_mem : (y : ℕ) → IsMemInPlace (heap_by p t w) y → (kind_at w y ≡ Membrane) × (y ≢ p.waiting) × (y ≢ p.gone) × (home_at w y ≢ Some p.waiting)
     in_place_mem y i =
         let q = mem_there p t w y (some (mems_of p t w y) i) in
-        let at : IsTopOrWithin (Some (place_at p (home_at w y))) = subst (λ (o : Option Place). IsTopOrWithin o) (mem_place_is p t w y q.1 q.2 q.3 q.0) i in
-        (q.1, q.2, q.3, λ e. not_waiting (place_at p (home_at w y)) (ap (place_at p) e ∙ ap (λ b. cond b waiting (cond (p.waiting == p.gone) gone (within p.waiting))) (eq-eqb p.waiting p.waiting refl)) at)
+        (q.1, q.2, q.3, λ e. not_waiting (place_at p (home_at w y)) (ap (place_at p) e ∙ ap (λ b. cond b waiting (cond (p.waiting == p.gone) gone (within p.waiting))) (eq-eqb p.waiting p.waiting refl)) (standing y i))
       where
-        some : (o : Option HeapMem) → IsTopOrWithin (option_map (λ x. x.place) o) → IsSome o
-        some None i = absurd i
-        some (Some x) i = refl
-
         not_waiting : (P : Place) → P ≡ waiting → IsTopOrWithin (Some P) → ⊥
         not_waiting P e i = subst (λ P. IsTopOrWithin (Some P)) e i
+
+    -- it is not gone
+    pub in_place_stays : (y : ℕ) → p.waiting ≢ p.gone → IsMemInPlace (heap_by p t w) y → home_at w y ≢ Some p.gone
+    in_place_stays y apart i e =
+        not_gone (place_at p (home_at w y)) (ap (place_at p) e ∙ ap (λ b. cond b waiting (cond (p.gone == p.gone) gone (within p.gone))) (not_equal p.gone p.waiting (λ z. apart (sym z))) ∙ ap (λ b. cond b gone (within p.gone)) (eq-eqb p.gone p.gone refl)) (standing y i)
+      where
+        not_gone : (P : Place) → P ≡ gone → IsTopOrWithin (Some P) → ⊥
+        not_gone P e i = subst (λ P. IsTopOrWithin (Some P)) e i
 
 module _ (p : Posts) (t : List (Option RuleList)) (w v : ℕ → Option WebCell) (m n x : ℕ) (s : Sends w v m n x) where
   abbrev k : CellKind

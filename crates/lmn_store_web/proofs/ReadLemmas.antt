@@ -74,6 +74,15 @@ module _ (p : Posts) where
       by (at_gone a b) = let w : gone ≡ waiting = sym b ∙ e in absurd (cc)
       by (at_mem k a b c d) = let w : within k ≡ waiting = sym b ∙ e in absurd (cc)
 
+  pub gone_back : (h : Option ℕ) → place_at p h ≡ gone → h ≡ Some p.gone
+  gone_back h e = by (stand h)
+    where
+      by : Stand p h (place_at p h) → h ≡ Some p.gone
+      by (at_top a b) = let w : top ≡ gone = sym b ∙ e in absurd (cc)
+      by (at_line a b) = let w : waiting ≡ gone = sym b ∙ e in absurd (cc)
+      by (at_gone a b) = a
+      by (at_mem k a b c d) = let w : within k ≡ gone = sym b ∙ e in absurd (cc)
+
   pub top_back : (h : Option ℕ) → place_at p h ≡ top → h ≡ None
   top_back h e = by (stand h)
     where

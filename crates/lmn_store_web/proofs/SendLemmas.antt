@@ -1,6 +1,7 @@
 -- A cell goes from one list to another: what stays, and what holds of the store then.
-use Rattle.std.proofs.Common.{◌≡◌, ◌≢◌, ◌↔◌, ℕ, Bool, true, false, cond, List, [], ◌∷◌, ◌++◌, length, Option, Some, None, IsSome, is_some, refl, sym, ap, subst, ◌∙◌, inl, inr}
+use Rattle.std.proofs.Common.{◌≡◌, ◌≢◌, ◌↔◌, ◌⊎◌, ℕ, Bool, true, false, cond, List, [], ◌∷◌, ◌++◌, length, Option, Some, None, IsSome, is_some, refl, sym, ap, subst, ◌∙◌, inl, inr}
 use Rattle.std.proofs.lemmas.Bool.{cases_eq}
+use Rattle.std.specs.Prelude.{slice_index_or}
 use Rattle.std.specs.Option.{option_map, option_and_then}
 use Rattle.lmn_store_heap.specs.Heap.{HeapAtom, HeapMem, alter}
 use Rattle.lmn_store_heap.specs.Lists.{without}
@@ -14,6 +15,8 @@ use Rattle.lmn_web.specs.declared.kind.CellKind.TheVariants.{Atom, Membrane}
 use Rattle.lmn_web.specs.Webs as web
 use Rattle.lmn_web.specs.Webs.{WebCell, web_kind, kind_at, home_at, arity_at, cells_in, cells_of, web_label, with_home, with_list, unlinked, added_last}
 use Rattle.lmn_web.proofs.ListedLemmas.{kind_cases}
+use Rattle.lmn_web_merging.specs.Keepers.{port_mark}
+use Rattle.lmn_web_merging.proofs.Relisting.{home_marks, list_marks}
 use Rattle.lmn_store_web.specs.Sends.{Sends}
 use Rattle.lmn_store_web.specs.WebHeaps.{Posts, atom_by, if_atom, if_membrane, atoms_of, mem_by, is_post, mems_of}
 use Rattle.lmn_store_web.specs.WebStores.{IsStored}
@@ -180,6 +183,13 @@ out_kinds w m n x y =
     alter_keeps (alter w x (option_map (with_home None))) m (option_map (with_list (kind_at w x) (without x (cells_in w m (kind_at w x))))) web_kind (list_kind (kind_at w x) (without x (cells_in w m (kind_at w x)))) y
     ∙ alter_keeps w x (option_map (with_home None)) web_kind (home_kind None) y
 
+-- so do the marks of ports
+pub out_marks : (w : ℕ → Option WebCell) (m x y : ℕ) → port_mark (unlinked w m x) y ≡ port_mark w y
+out_marks w m x y =
+    alter_keeps (alter w x (option_map (with_home None))) m (option_map (with_list (kind_at w x) (without x (cells_in w m (kind_at w x))))) (λ (o : Option WebCell). slice_index_or (web.marks_of o) 1 0)
+    (λ o. ap (λ (us : List ℕ). slice_index_or us 1 0) (list_marks (kind_at w x) (without x (cells_in w m (kind_at w x))) o)) y
+    ∙ alter_keeps w x (option_map (with_home None)) (λ (o : Option WebCell). slice_index_or (web.marks_of o) 1 0) (λ o. ap (λ (us : List ℕ). slice_index_or us 1 0) (home_marks None o)) y
+
 -- weights of items that are read off a cell
 module _ (p : Posts) (t : List (Option RuleList)) where
   -- the atom that a cell is, if it is one
@@ -326,8 +336,8 @@ module _ (w v : ℕ → Option WebCell) (m n x : ℕ) (s : Sends w v m n x) wher
             at true = refl
             at false = frame (λ (o : Option WebCell). weight f (mem_of p t o)) (λ h o. (home_mem_weighs p t f a h o).1) (λ j xs o. (list_mem_weighs p t f b j xs o).1) y
 
-    -- what holds of the store stays, where nothing comes into what waits
-    module _ (h : IsStored p t w) (home : home_at w x ≡ Some m) (to : n ≢ p.waiting) (fits : home_at w n ≢ Some p.waiting) where
+    -- what holds of the store stays, where nothing comes into what waits, or from what is gone
+    module _ (h : IsStored p t w) (home : home_at w x ≡ Some m) (to : n ≢ p.waiting) (fits : home_at w n ≢ Some p.waiting) (from : m ≢ p.gone) where
       x_there : IsSome (w x)
       x_there = home_some (w x) (some_home (home_at w x) m home)
 
@@ -353,10 +363,26 @@ module _ (w v : ℕ → Option WebCell) (m n x : ℕ) (s : Sends w v m n x) wher
         own_rules = λ y z i a b c d. h.own_rules y z i (mem_was y a) (mem_was z b) (sym (label_same y) ∙ c) (sym (label_same z) ∙ d);
         used = λ i q. let r = h.used i q in let o = mem_there p t w r.0 r.1 in (r.0, mem_is p t v r.0 (kind_same r.0 ∙ o.1) o.2 o.3 (there_same r.0 ∙ o.0), label_same r.0 ∙ r.2);
         bare = bare_now;
+        plain = λ y e f. mark_same y ∙ h.plain y (sym (kind_same y) ∙ e) (waits_was y f);
+        lent = λ y e f. let was = h.lent y (sym (kind_same y) ∙ e) (sym (mark_same y) ∙ f) in elim (cases_eq y x) [
+          | inl q ↦ absurd (from (let z : Some m ≡ Some p.gone = sym home ∙ ap (home_at w) (sym q) ∙ was in cc))
+          | inr d ↦ home_away y d ∙ was
+        ];
       }
         where
           mem_was : (y : ℕ) → IsSome (mems_of p t v y) → IsSome (mems_of p t w y)
           mem_was y i = let q = mem_there p t v y i in mem_is p t w y (sym (kind_same y) ∙ q.1) q.2 q.3 (sym (there_same y) ∙ q.0)
+
+          mark_same : (y : ℕ) → port_mark v y ≡ port_mark w y
+          mark_same = frame (λ (o : Option WebCell). slice_index_or (web.marks_of o) 1 0) (λ g o. ap (λ (us : List ℕ). slice_index_or us 1 0) (home_marks g o)) (λ j us o. ap (λ (ms : List ℕ). slice_index_or ms 1 0) (list_marks j us o))
+
+          waits_was : (y : ℕ) → (y ≡ p.waiting) ⊎ (y ≡ p.gone) ⊎ (home_at v y ≡ Some p.waiting) → (y ≡ p.waiting) ⊎ (y ≡ p.gone) ⊎ (home_at w y ≡ Some p.waiting)
+          waits_was y (inl e) = inl e
+          waits_was y (inr (inl e)) = inr (inl e)
+          waits_was y (inr (inr e)) = inr (inr (elim (cases_eq y x) [
+            | inl q ↦ absurd (let z : Some n ≡ Some p.waiting = sym (home_now x_there) ∙ ap (home_at v) (sym q) ∙ e in to (cc))
+            | inr d ↦ sym (home_away y d) ∙ e
+          ]))
 
           without_none : (us : List ℕ) → us ≡ [] → without x us ≡ []
           without_none us e = ap (without x) e

@@ -1,5 +1,5 @@
 -- What holds of the heap of a store over a web at every moment.
-use Rattle.std.proofs.Common.{◌≡◌, ◌≢◌, ◌⊎◌, ℕ, ◌+◌, Bool, true, false, cond, List, [], ◌∷◌, length, Option, Some, None, IsSome, refl, sym, ap, subst, ◌∙◌, inl, inr, arith}
+use Rattle.std.proofs.Common.{◌≡◌, ◌≢◌, ◌⊎◌, ℕ, ◌+◌, ◌<◌, ◌==◌, Bool, true, false, cond, List, [], ◌∷◌, length, Option, Some, None, IsSome, refl, sym, ap, subst, ◌∙◌, inl, inr, arith}
 use Rattle.std.proofs.lemmas.List.{length-map}
 use Rattle.std.specs.Prelude.{slice_index_or}
 use Rattle.std.specs.Option.{option_map, option_and_then}
@@ -11,6 +11,10 @@ use Rattle.lmn_store_heap.specs.Sound.{Paired, Listed, Shaped, Sound}
 use Rattle.lmn_store_counts.specs.RuleLists.{RuleList}
 use Rattle.lmn_web_cells.specs.Cells.{HeldPort, HeldCell}
 use Rattle.lmn_web_cells.specs.Ports.{partner_by}
+use Rattle.lmn_web_cells.specs.Cells.{cells_by}
+use Rattle.lmn_web_cells.specs.Rows.{Row}
+use Rattle.lmn_web_merging.specs.Keepers.{keeper, seen_marks, seen_cell, merged_by}
+use Rattle.lmn_web_merging.proofs.Seen.{seen_there, seen_kind, is_seen, atom_marks, atom_partners}
 use Rattle.lmn_web.specs.declared.kind.CellKind.{CellKind}
 use Rattle.lmn_web.specs.declared.kind.CellKind.TheVariants.{Atom, Membrane}
 use Rattle.lmn_web.specs.Webs as web
@@ -19,11 +23,12 @@ use Rattle.lmn_store_web.specs.WebHeaps.{Posts, place_at, atom_by, if_atom, if_m
 use Rattle.lmn_store_web.specs.WebStores.{IsStored}
 use Rattle.lmn_store_web.proofs.ReadLemmas.{stands_in, waits_in, stands_back, waits_back, top_back, no_post, is_none, atom_there, mem_there, place_is, atoms_is, mems_is, mem_is, mem_place_is, kind_there}
 
--- a cell has one mark more than ports
+-- an atom has one mark more than ports, and each cell has a mark
 abbrev pub Formed : (ℕ → Option WebCell) → Type 0
-Formed w = (a : ℕ) → IsSome (w a) → length (web.marks_of (w a)) ≡ length (web.partners_of (w a)) + 1
+Formed w = (a : ℕ) → IsSome (w a) → (kind_at w a ≡ Atom → length (web.marks_of (w a)) ≡ length (web.partners_of (w a)) + 1) × (0 < length (web.marks_of (w a)))
 
-pub web_formed : (f : ℕ → Option HeldCell) → Formed (web_of f)
+-- the cells of a raw web have one mark more than ports
+web_formed : (f : ℕ → Option HeldCell) (a : ℕ) → IsSome (web_of f a) → length (web.marks_of (web_of f a)) ≡ length (web.partners_of (web_of f a)) + 1
 web_formed f a s = by (f a) s
   where
     by : (o : Option HeldCell) → IsSome (option_map (web_cell (list_in f a)) o) → length (web.marks_of (option_map (web_cell (list_in f a)) o)) ≡ length (web.partners_of (option_map (web_cell (list_in f a)) o)) + 1
@@ -31,6 +36,26 @@ web_formed f a s = by (f a) s
     by (Some c) s =
         let b = length-map c.ports (λ (p : HeldPort). p.mark) in
         let d = length-map c.ports partner_by in omega (arith, b, d)
+
+-- so are those that are seen
+pub merged_formed : (rows : List Row) → Formed (merged_by rows)
+merged_formed rows a s = let w = web.web_by rows in let there = seen_there w a s in let raw = web_formed (cells_by rows) a there.0 in (
+  λ e. let k = sym (seen_kind w a there.1) ∙ e in ap (λ (us : List ℕ). length us) (atom_marks w a k) ∙ raw ∙ ap (λ (ps : List (Option (ℕ × ℕ))). length ps + 1) (sym (atom_partners w a k)),
+  subst (λ (o : Option WebCell). 0 < length (web.marks_of o)) (sym (is_seen w a there.1)) (by (w a) there.0 raw),
+)
+  where
+    marked : (k : CellKind) (us : List ℕ) → 0 < length us → 0 < length (seen_marks k us)
+    marked Atom us l = l
+    marked Membrane us l = at (slice_index_or us 1 0 == 0)
+      where
+        at : (b : Bool) → 0 < length (cond b (slice_index_or us 0 0 ∷ []) us)
+        at true = omega arith
+        at false = l
+
+    by : (o : Option WebCell) → IsSome o → length (web.marks_of o) ≡ length (web.partners_of o) + 1
+        → 0 < length (web.marks_of (option_map (seen_cell (keeper (web.web_by rows)) (cells_in (web.web_by rows) (keeper (web.web_by rows) a) Atom) (cells_in (web.web_by rows) (keeper (web.web_by rows) a) Membrane)) o))
+    by None i e = absurd (cc)
+    by (Some c) i e = marked c.kind c.marks (omega (arith, e))
 
 -- a port with a partner is a port
 pub port_some : (xs : List (Option (ℕ × ℕ))) (i : ℕ) (q : ℕ × ℕ) → slice_index_or xs i None ≡ Some q → length xs ≡ 0 → ⊥
@@ -229,13 +254,13 @@ module _ (p : Posts) (t : List (Option RuleList)) (w : ℕ → Option WebCell) (
       by (Some x) f e h = let s : x.functor ≡ f = (cc) in h x refl ∙ ap (λ (g : Functor). g.arity) s
 
       marks_are : (a : ℕ) → IsSome (atoms_of p w a) → length (heap.marks_of (atoms_of p w a)) ≡ length (heap.partners_of (atoms_of p w a)) + 1
-      marks_are a s = at (w a) s (c a)
+      marks_are a s = at (w a) s (λ i. (c a i).0)
         where
-          kinds : (j : CellKind) (x : WebCell) → IsSome (if_atom j (atom_by p x)) → length x.marks ≡ length x.partners + 1 → length (heap.marks_of (if_atom j (atom_by p x))) ≡ length (heap.partners_of (if_atom j (atom_by p x))) + 1
-          kinds Atom x s e = e
+          kinds : (j : CellKind) (x : WebCell) → IsSome (if_atom j (atom_by p x)) → (j ≡ Atom → length x.marks ≡ length x.partners + 1) → length (heap.marks_of (if_atom j (atom_by p x))) ≡ length (heap.partners_of (if_atom j (atom_by p x))) + 1
+          kinds Atom x s e = e refl
           kinds Membrane x s e = absurd (cc)
 
-          at : (o : Option WebCell) → IsSome (option_and_then (λ (c : WebCell). if_atom c.kind (atom_by p c)) o) → (IsSome o → length (web.marks_of o) ≡ length (web.partners_of o) + 1)
+          at : (o : Option WebCell) → IsSome (option_and_then (λ (c : WebCell). if_atom c.kind (atom_by p c)) o) → (IsSome o → web_kind o ≡ Atom → length (web.marks_of o) ≡ length (web.partners_of o) + 1)
               → length (heap.marks_of (option_and_then (λ (c : WebCell). if_atom c.kind (atom_by p c)) o)) ≡ length (heap.partners_of (option_and_then (λ (c : WebCell). if_atom c.kind (atom_by p c)) o)) + 1
           at None s h = absurd (cc)
           at (Some x) s h = kinds x.kind x s (h refl)

@@ -170,6 +170,8 @@ module _ (p : Posts) (t : List (Option RuleList)) (w : ℕ → Option WebCell) (
     own_rules = λ m n i s u e f. k.own_rules m n i (mem_was m s) (mem_was n u) e f;
     used = λ i s. let u = k.used i (sym (same i) ∙ s) in (u.0, mem_stays u.0 u.1, u.2);
     bare = k.bare;
+    plain = k.plain;
+    lent = k.lent;
   }
     where
       mem_was : (m : ℕ) → IsSome (mems_of p t1 w m) → IsSome (mems_of p t w m)

@@ -1,13 +1,12 @@
 -- Words of private functions: what a cell leaves that goes from one list to another, and when all of a list may go.
 use Rattle.std.specs.Prelude.{◌≡◌, ◌≢◌, ℕ, List, [], ◌∷◌, ◌++◌, Option, Some}
 use Rattle.std.specs.Option.{option_map}
-use Rattle.lmn_store_heap.specs.Heap.{moved_all}
 use Rattle.lmn_store_heap.specs.Lists.{without}
 use Rattle.lmn_store_counts.specs.RuleLists.{RuleList}
 use Rattle.lmn_store_counts.specs.Counts.{HasCounts}
 use Rattle.lmn_web.specs.declared.kind.CellKind.TheVariants.{Membrane}
 use Rattle.lmn_web.specs.Webs.{WebCell, kind_at, home_at, cells_in, with_home, with_list}
-use Rattle.lmn_store_web.specs.WebHeaps.{Posts, atoms_of, heap_by, mems_of}
+use Rattle.lmn_store_web.specs.WebHeaps.{Posts, atoms_of, mems_of}
 use Rattle.lmn_store_web.specs.WebStores.{IsStored}
 
 -- v is w where x, which stood in a list of m, stands at the end of the list of n for its kind
@@ -33,7 +32,3 @@ pub record CanSend (p : Posts) (t : List (Option RuleList)) (w : ℕ → Option 
   pub fits : home_at w n ≢ Some p.waiting
   pub apart : m ≢ n
   pub outside : home_at w n ≢ Some m
-
--- what is left in m may go to n still, and once all is there the heap is the one that it would have been
-abbrev pub CanSendOn : Posts → List (Option RuleList) → (ℕ → Option WebCell) → (ℕ → Option WebCell) → (m n a b c : ℕ) → Type 0
-CanSendOn p t w v m n a b c = CanSend p t v m n a b c × (moved_all (heap_by p t v) m n ≡ moved_all (heap_by p t w) m n)

@@ -6,7 +6,8 @@ use Rattle.lmn_store_counts.specs.RuleLists.{RuleList}
 use Rattle.lmn_web_cells.specs.Rows.{Row}
 use Rattle.lmn_web.specs.declared.kind.CellKind.{CellKind}
 use Rattle.lmn_web.specs.declared.kind.CellKind.TheVariants.{Atom, Membrane}
-use Rattle.lmn_web.specs.Webs.{WebCell, cells_in, web_by}
+use Rattle.lmn_web.specs.Webs.{WebCell, cells_in}
+use Rattle.lmn_web_merging.specs.Keepers.{merged_by}
 use Rattle.lmn_store_web.specs.Labels.{label_by}
 
 -- The cell of the root, and two cells that are no membranes of the heap: in the lists of one stands what waits, in those of the other what is gone; and whether integers are filed by their values.
@@ -71,7 +72,7 @@ pub record KeptWeb : Type 0 where
   pub posts : Posts
 
 abbrev pub heap_of : KeptWeb → Heap
-heap_of k = heap_by k.posts k.table (web_by k.web)
+heap_of k = heap_by k.posts k.table (merged_by k.web)
 
 -- nothing but a root of this number
 abbrev pub alone : ℕ → Heap

@@ -5,7 +5,8 @@ use Rattle.lmn_store_counts.specs.Counts.{HasCounts}
 use Rattle.lmn_web_cells.specs.CellIds.{cell_id}
 use Rattle.lmn_web.specs.declared.kind.CellKind.{CellKind}
 use Rattle.lmn_web.specs.declared.kind.CellKind.TheVariants.{Atom, Membrane}
-use Rattle.lmn_web.specs.Webs.{WebCell, kind_at, home_at, arity_at, cells_in, web_label, web_by}
+use Rattle.lmn_web.specs.Webs.{WebCell, kind_at, home_at, arity_at, cells_in, web_label}
+use Rattle.lmn_web_merging.specs.Keepers.{merged_by, port_mark, LENT}
 use Rattle.lmn_store_web.specs.Labels.{IsLabelNumber}
 use Rattle.lmn_store_web_preorder.specs.Indexed.{IsNested}
 use Rattle.lmn_store_web.specs.WebHeaps.{Posts, KeptWeb, heap_of, atoms_of, mems_of}
@@ -16,7 +17,7 @@ use Rattle.lmn_store_web.specs.declared.web_store.WebStore.TheInside.{Inside}
 abbrev pub HasRules : List (Option RuleList) → (ℕ → Option WebCell) → ℕ → ℕ → Type 0
 HasRules table w m i = (web_label w m ≡ Some i) × IsSome (slice_index_or table i None)
 
--- The posts are three membranes, and all else has a home. No membrane has ports, and each has rules of its own. All rules of the table are those of a membrane. Labels of atoms are in range. Nothing stands in a membrane that waits.
+-- The posts are three membranes, and all else has a home. No membrane has ports, and each has rules of its own. All rules of the table are those of a membrane. Labels of atoms are in range. Nothing stands in a membrane that waits, and neither it nor a post has had a keeper. One whose cell is lent is gone.
 pub record IsStored (p : Posts) (table : List (Option RuleList)) (w : ℕ → Option WebCell) : Type 0 where
   pub root : kind_at w p.root ≡ Membrane
   pub waiting : kind_at w p.waiting ≡ Membrane
@@ -31,11 +32,13 @@ pub record IsStored (p : Posts) (table : List (Option RuleList)) (w : ℕ → Op
   pub own_rules : (m n i : ℕ) → IsSome (mems_of p table w m) → IsSome (mems_of p table w n) → web_label w m ≡ Some i → web_label w n ≡ Some i → m ≡ n
   pub used : (i : ℕ) → IsSome (slice_index_or table i None) → (m : ℕ) × IsSome (mems_of p table w m) × (web_label w m ≡ Some i)
   pub bare : (m : ℕ) (k : CellKind) → home_at w m ≡ Some p.waiting → cells_in w m k ≡ []
+  pub plain : (m : ℕ) → kind_at w m ≡ Membrane → (m ≡ p.waiting) ⊎ (m ≡ p.gone) ⊎ (home_at w m ≡ Some p.waiting) → port_mark w m ≡ 0
+  pub lent : (m : ℕ) → kind_at w m ≡ Membrane → port_mark w m ≡ LENT → home_at w m ≡ Some p.gone
 
 -- what holds of a store over a web at every moment
 pub record AlwaysStored (k : KeptWeb) (n m s : ℕ) : Type 0 where
-  pub stored : IsStored k.posts k.table (web_by k.web)
-  pub counts : HasCounts (atoms_of k.posts (web_by k.web)) (mems_of k.posts k.table (web_by k.web)) n m s
+  pub stored : IsStored k.posts k.table (merged_by k.web)
+  pub counts : HasCounts (atoms_of k.posts (merged_by k.web)) (mems_of k.posts k.table (merged_by k.web)) n m s
 
 abbrev pub kept_by : Inside → KeptWeb
 kept_by s = record { web = s.web; table = s.rules.slots; posts = record { root = cell_id s.root; waiting = cell_id s.waiting; gone = cell_id s.gone; by_value = s.by_value } }
@@ -43,4 +46,4 @@ kept_by s = record { web = s.web; table = s.rules.slots; posts = record { root =
 -- what is kept without the index, and the index
 pub record IsKept (s : Inside) : Type 0 where
   pub store : AlwaysStored (kept_by s) s.atom_count s.mem_count s.spare_count
-  pub index : IsIndexed (IsNested s.index) (map cell_id s.mems.items) (key_of (web_by s.web)) (heap_of (kept_by s))
+  pub index : IsIndexed (IsNested s.index) (map cell_id s.mems.items) (key_of (merged_by s.web)) (heap_of (kept_by s))

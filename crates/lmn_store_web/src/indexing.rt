@@ -6,7 +6,7 @@ ghost use Rattle.lmn_store_web_preorder.specs.Nests.{Nest, with_awake};
 ghost use Rattle.lmn_store_web.specs.Indexes.{held};
 
 use lmn_store_web_preorder::Preorder;
-use lmn_web::Cell;
+use lmn_web_merging::Cell;
 
 /// A key was awake or not, and is so now. Nothing is done where that is the same.
 pub fn wake(index: &mut Preorder, key: usize, was: bool, is: bool)

@@ -3,19 +3,20 @@ ghost use Rattle.std.specs.Prelude.{◌≡◌, ◌≢◌, ◌≤◌, ℕ, Some, 
 ghost use Rattle.std.specs.Option.{option_map};
 ghost use Rattle.lmn_store_heap.specs.Heap.{HeapMem, alter, rules_by, mem_with_spare, mem_with_rules};
 ghost use Rattle.lmn_web_cells.specs.CellIds.{cell_id};
-ghost use Rattle.lmn_web.specs.Webs.{web_by, web_label};
+ghost use Rattle.lmn_web.specs.Webs.{web_label};
+ghost use Rattle.lmn_web_merging.specs.Keepers.{merged_by};
 ghost use Rattle.lmn_store_web.specs.WebStores.{HasRules};
 ghost use Rattle.lmn_store_web.specs.Tables.{rows};
 
 use lmn_base::NoMemory;
 use lmn_store_counts::Rules;
-use lmn_web::{Cell, Web};
+use lmn_web_merging::{Cell, MergingWeb};
 use slab::Slab;
 
 /// The place of the rules of a membrane: its label.
-pub fn place_of_rules(web: &Web, table: &Slab<Rules>, m: Cell) -> usize
-    requires { (i : ℕ) × HasRules table.now.slots (web_by web.now) (cell_id m) i }
-    ensures { web_label (web_by web.now) (cell_id m) ≡ Some result }
+pub fn place_of_rules(web: &MergingWeb, table: &Slab<Rules>, m: Cell) -> usize
+    requires { (i : ℕ) × HasRules table.now.slots (merged_by web.now) (cell_id m) i }
+    ensures { web_label (merged_by web.now) (cell_id m) ≡ Some result }
 {
     let _room = table.capacity();
     web.label(m) as usize

@@ -4,7 +4,7 @@ ghost use Rattle.std.specs.Option.{option_map};
 ghost use Rattle.lmn_store_heap.specs.Heap.{home_by, mems_in, IsMem};
 ghost use Rattle.lmn_store_heap.specs.Sound.{Valid};
 ghost use Rattle.lmn_web_cells.specs.CellIds.{cell_id};
-ghost use Rattle.lmn_web.specs.Webs.{web_by};
+ghost use Rattle.lmn_web_merging.specs.Keepers.{merged_by};
 ghost use Rattle.lmn_store_web.specs.WebHeaps.{alone, heap_of, place_at};
 ghost use Rattle.lmn_store_web_preorder.specs.Nests.{IsOneOf};
 ghost use Rattle.lmn_store_web.specs.WebStores.{HasRules};
@@ -14,13 +14,13 @@ use crate::filing::seek_integers;
 use crate::freeing::{free_atoms, free_mems};
 use crate::indexing::{hold, wake};
 use crate::labels::{label_of, number_of};
-use crate::sending::{send, send_all};
+use crate::sending::{send, send_plain};
 use crate::table;
 use lmn_base::{Functor, NoMemory, RuleTree};
 use lmn_store_counts::{BOUND, Rules};
 use lmn_store_trait::{AWAKE, LinkStore};
 use lmn_store_web_preorder::Preorder;
-use lmn_web::{Cell, CellKind, Web};
+use lmn_web_merging::{Cell, CellKind, MergingWeb};
 use slab::Slab;
 use std::alloc::Global;
 use std::marker::Model;
@@ -29,7 +29,7 @@ use std::marker::Model;
 /// the lists of a cell of its own, which doesn't file atoms by class.
 #[derive(Drop)]
 pub struct WebStore {
-    web: Web,
+    web: MergingWeb,
     // The rules of membranes. The label of a membrane is the place of its own, and the key by which the index knows it.
     rules: Slab<Rules>,
     // The membrane of each key.
@@ -82,7 +82,7 @@ impl WebStore {
         ensures heap { IfOk result (λ s. heap_of s ≡ alone s.posts.root) }
         ensures valid { IfOk result (λ s. Valid (heap_of s)) }
     {
-        let mut web = Web::new(alloc);
+        let mut web = MergingWeb::new(alloc);
         let mut rules = Slab::new(alloc);
         let mut mems = Vec::new(alloc);
         let mut index = Preorder::new(alloc);
@@ -112,7 +112,7 @@ impl WebStore {
 
     // The membrane that a home is, if it isn't that of what waits or is gone.
     fn standing(&self, home: Option<Cell>) -> Option<Cell>
-        requires { IfSome home (λ m. IsSome (web_by self.now.web (cell_id m))) }
+        requires { IfSome home (λ m. IsSome (merged_by self.now.web (cell_id m))) }
         ensures { home_by (place_at self.now.posts (option_map cell_id home)) ≡ option_map cell_id result }
     {
         match home {
@@ -130,7 +130,7 @@ impl WebStore {
     // The place of the rules of a membrane.
     fn place_of_rules(&self, m: Cell) -> usize
         requires { IsMem (heap_of self.now) (cell_id m) }
-        ensures { HasRules self.now.table (web_by self.now.web) (cell_id m) result }
+        ensures { HasRules self.now.table (merged_by self.now.web) (cell_id m) result }
     {
         table::place_of_rules(&self.web, &self.rules, m)
     }
@@ -138,7 +138,7 @@ impl WebStore {
     // The key of a membrane that stands in this one, if one does.
     fn key_inside(&self, m: Cell) -> Option<usize>
         requires { IsMem (heap_of self.now) (cell_id m) }
-        ensures { IsOneOf result (map (key_of (web_by self.now.web)) (mems_in (heap_of self.now) (cell_id m))) }
+        ensures { IsOneOf result (map (key_of (merged_by self.now.web)) (mems_in (heap_of self.now) (cell_id m))) }
     {
         self.web.listed();
         match self.web.first(m, CellKind::Membrane) {
@@ -303,7 +303,7 @@ impl LinkStore for WebStore {
         let a = self
             .web
             .make(number_of(f.label, self.by_value), f.arity, CellKind::Atom)?;
-        self.web.add_last(self.waiting, CellKind::Atom, a);
+        self.web.add_last_plain(self.waiting, CellKind::Atom, a);
         self.atom_count += 1;
         Ok(a)
     }
@@ -361,7 +361,10 @@ impl LinkStore for WebStore {
     #[inline(always)]
     fn place_atom(&mut self, m: Cell) -> Cell {
         self.web.listed();
-        let a = self.web.first(self.waiting, CellKind::Atom).unwrap();
+        let a = self
+            .web
+            .first_plain(self.waiting, CellKind::Atom)
+            .unwrap();
         send(&mut self.web, m, CellKind::Atom, a);
         a
     }
@@ -380,7 +383,7 @@ impl LinkStore for WebStore {
     #[inline(always)]
     fn take_atom(&mut self, a: Cell) {
         self.web.listed();
-        send(&mut self.web, self.gone, CellKind::Atom, a);
+        send_plain(&mut self.web, self.gone, CellKind::Atom, a);
     }
 
     fn take_mem(&mut self, m: Cell) {
@@ -389,7 +392,7 @@ impl LinkStore for WebStore {
         let home = self.web.home(m).unwrap();
         let parent = self.place_of_rules(home);
         let child = self.place_of_rules(m);
-        send(&mut self.web, self.gone, CellKind::Membrane, m);
+        send_plain(&mut self.web, self.gone, CellKind::Membrane, m);
         self.index.take(parent, child);
     }
 
@@ -399,8 +402,7 @@ impl LinkStore for WebStore {
         let source = self.place_of_rules(m);
         let target = self.place_of_rules(n);
         let one = self.key_inside(m);
-        send_all(&mut self.web, m, n, CellKind::Atom);
-        send_all(&mut self.web, m, n, CellKind::Membrane);
+        self.web.move_all(m, n);
         self.index.move_inside(source, target, one);
         self.web.listed();
     }

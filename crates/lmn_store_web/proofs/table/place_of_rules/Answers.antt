@@ -1,11 +1,11 @@
 use Rattle.std.proofs.Common.{◌≡◌, Some, sym, ◌∙◌, arith}
 use Rattle.lmn_web_cells.specs.CellIds.{cell_id}
-use Rattle.lmn_web.specs.Webs.{web_by}
+use Rattle.lmn_web_merging.specs.Keepers.{merged_by}
 use Rattle.lmn_store_web.proofs.TableLemmas.{labelled_there, row_below}
 use Rattle.lmn_store_web.proofs.table.place_of_rules.Goals as goal
 
 pub label-requires : goal.label-requires
-label-requires c = labelled_there (web_by c.args.web.now (cell_id c.args.m)) c.requires.0 c.requires.1.0
+label-requires c = labelled_there (merged_by c.args.web.now (cell_id c.args.m)) c.requires.0 c.requires.1.0
 
 pub overflow_cast-result : goal.overflow_cast-result
 overflow_cast-result c =

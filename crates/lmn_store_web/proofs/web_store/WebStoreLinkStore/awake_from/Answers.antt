@@ -8,7 +8,7 @@ use Rattle.lmn_store_heap.specs.Sound.{Forest, IsTree, Valid, flat}
 use Rattle.lmn_web_cells.specs.CellIds.{cell_id}
 use Rattle.lmn_store_web_preorder.proofs.Keyed.{keyed}
 use Rattle.lmn_store_trait.specs.Awake.{NoneAwake, IsNextAwake}
-use Rattle.lmn_web.specs.Webs.{web_by}
+use Rattle.lmn_web_merging.specs.Keepers.{merged_by}
 use Rattle.lmn_store_web.specs.Indexes.{key_of}
 use Rattle.lmn_store_web.specs.WebHeaps.{KeptWeb, heap_of}
 use Rattle.lmn_store_web.specs.WebStores.{HasRules, kept_by}
@@ -19,18 +19,18 @@ use Rattle.lmn_store_web.proofs.web_store.WebStoreLinkStore.awake_from.Goals as 
 
 pub awake_from-requires : goal.awake_from-requires
 awake_from-requires c =
-    let k = kept_by c.self.inside in let w = web_by k.web in let x = c.self.invariant.index in
+    let k = kept_by c.self.inside in let w = merged_by k.web in let x = c.self.invariant.index in
     let valid = subst (λ (z : KeptWeb). Valid (heap_of z)) (sym c.self.view_is) c.requires in
-    let rules = subst (λ (z : KeptWeb). HasRules z.table (web_by z.web) (cell_id c.self.inside.root) c.place_of_rules-top.result) (sym c.self.view_is) c.place_of_rules-top.ensures in
+    let rules = subst (λ (z : KeptWeb). HasRules z.table (merged_by z.web) (cell_id c.self.inside.root) c.place_of_rules-top.result) (sym c.self.view_is) c.place_of_rules-top.ensures in
     let root = key_is w (cell_id c.self.inside.root) c.place_of_rules-top.result rules.0 in
     let top = root_top _ _ _ _ x valid.sound c.place_of_rules-top.result root in
     (x.nest, x.nested, top.0, top.1)
 
 pub index-requires : goal.index-requires
 index-requires c =
-    let k = kept_by c.self.inside in let w = web_by k.web in let x = c.self.invariant.index in
+    let k = kept_by c.self.inside in let w = merged_by k.web in let x = c.self.invariant.index in
     let valid = subst (λ (z : KeptWeb). Valid (heap_of z)) (sym c.self.view_is) c.requires in
-    let rules = subst (λ (z : KeptWeb). HasRules z.table (web_by z.web) (cell_id c.self.inside.root) c.place_of_rules-top.result) (sym c.self.view_is) c.place_of_rules-top.ensures in
+    let rules = subst (λ (z : KeptWeb). HasRules z.table (merged_by z.web) (cell_id c.self.inside.root) c.place_of_rules-top.result) (sym c.self.view_is) c.place_of_rules-top.ensures in
     let root = key_is w (cell_id c.self.inside.root) c.place_of_rules-top.result rules.0 in
     let top = root_top _ _ _ _ x valid.sound c.place_of_rules-top.result root in
     let f = valid.tree.0 in let t = valid.tree.1 in
@@ -53,9 +53,9 @@ returns-clause-next c =
     let k = kept_by c.self.inside in
     subst (λ (z : KeptWeb). (f : Forest) → IsTree (heap_of z) f → MatchOption c.match-awake_from.result (NoneAwake (heap_of z) (flat f) c.args.start (length (flat f))) (λ r. IsNextAwake (heap_of z) (flat f) c.args.start r.0 (cell_id r.1))) c.self.view_is
     (λ f t.
-    let w = web_by k.web in let x = c.self.invariant.index in
+    let w = merged_by k.web in let x = c.self.invariant.index in
     let valid = subst (λ (z : KeptWeb). Valid (heap_of z)) (sym c.self.view_is) c.requires in
-    let rules = subst (λ (z : KeptWeb). HasRules z.table (web_by z.web) (cell_id c.self.inside.root) c.place_of_rules-top.result) (sym c.self.view_is) c.place_of_rules-top.ensures in
+    let rules = subst (λ (z : KeptWeb). HasRules z.table (merged_by z.web) (cell_id c.self.inside.root) c.place_of_rules-top.result) (sym c.self.view_is) c.place_of_rules-top.ensures in
     let root = key_is w (cell_id c.self.inside.root) c.place_of_rules-top.result rules.0 in
     let top = root_top _ _ _ _ x valid.sound c.place_of_rules-top.result root in
     let tree = root_tree _ _ _ _ x valid.sound f t c.place_of_rules-top.result root in
@@ -74,3 +74,6 @@ returns-clause-next c =
           subst (λ (o : Option (ℕ × Cell)). MatchOption o (NoneAwake h (flat f) c.args.start (length (flat f))) (λ r. IsNextAwake h (flat f) c.args.start r.0 (cell_id r.1))) (sym b.result-is)
           (some_told _ _ _ _ x valid.sound f t c.args.start b.in-Some.number b.in-Some.key (cell_id b.index.result.now) first at))
     ])
+
+pub returns-clause-same : goal.returns-clause-same
+returns-clause-same c = ap (λ (z : KeptWeb). heap_of z) c.self.view_is

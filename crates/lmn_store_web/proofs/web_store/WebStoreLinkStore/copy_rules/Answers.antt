@@ -3,7 +3,7 @@ use Rattle.std.specs.Option.{option_map}
 use Rattle.lmn_store_heap.specs.Heap.{IsMem, spare_of, rules_in, rules_by, rules_copied, alter, mem_with_rules}
 use Rattle.lmn_store_counts.specs.Counts.{HasCounts}
 use Rattle.lmn_web_cells.specs.CellIds.{cell_id}
-use Rattle.lmn_web.specs.Webs.{web_by}
+use Rattle.lmn_web_merging.specs.Keepers.{merged_by}
 use Rattle.lmn_store_web.specs.Tables.{rows}
 use Rattle.lmn_store_web.specs.WebHeaps.{KeptWeb, heap_of, atoms_of, mems_of}
 use Rattle.lmn_store_web.specs.WebStores.{kept_by, HasRules}
@@ -20,12 +20,12 @@ append-count-requires-clause-there c =
     let a = cell_id c.args.m in
     let b = cell_id c.args.n in
     let k = kept_by c.self.inside in
-    let v = web_by k.web in
+    let v = merged_by k.web in
     let inv = c.self.invariant.store.stored in
     let s = subst (λ (z : KeptWeb). IsMem (heap_of z) a) (sym c.self.view_is) c.requires.m in
     let u = subst (λ (z : KeptWeb). IsMem (heap_of z) b) (sym c.self.view_is) c.requires.n in
-    let h = subst (λ (z : KeptWeb). HasRules z.table (web_by z.web) a c.place_of_rules-from.result) (sym c.self.view_is) c.place_of_rules-from.ensures in
-    let g = subst (λ (z : KeptWeb). HasRules z.table (web_by z.web) b c.place_of_rules-to.result) (sym c.self.view_is) c.place_of_rules-to.ensures in
+    let h = subst (λ (z : KeptWeb). HasRules z.table (merged_by z.web) a c.place_of_rules-from.result) (sym c.self.view_is) c.place_of_rules-from.ensures in
+    let g = subst (λ (z : KeptWeb). HasRules z.table (merged_by z.web) b c.place_of_rules-to.result) (sym c.self.view_is) c.place_of_rules-to.ensures in
     row_there k.table c.place_of_rules-from.result ∙ h.1
 
 pub append-count-requires-clause-differ : goal.append-count-requires-clause-differ
@@ -33,12 +33,12 @@ append-count-requires-clause-differ c = λ e.
     let a = cell_id c.args.m in
     let b = cell_id c.args.n in
     let k = kept_by c.self.inside in
-    let v = web_by k.web in
+    let v = merged_by k.web in
     let inv = c.self.invariant.store.stored in
     let s = subst (λ (z : KeptWeb). IsMem (heap_of z) a) (sym c.self.view_is) c.requires.m in
     let u = subst (λ (z : KeptWeb). IsMem (heap_of z) b) (sym c.self.view_is) c.requires.n in
-    let h = subst (λ (z : KeptWeb). HasRules z.table (web_by z.web) a c.place_of_rules-from.result) (sym c.self.view_is) c.place_of_rules-from.ensures in
-    let g = subst (λ (z : KeptWeb). HasRules z.table (web_by z.web) b c.place_of_rules-to.result) (sym c.self.view_is) c.place_of_rules-to.ensures in
+    let h = subst (λ (z : KeptWeb). HasRules z.table (merged_by z.web) a c.place_of_rules-from.result) (sym c.self.view_is) c.place_of_rules-from.ensures in
+    let g = subst (λ (z : KeptWeb). HasRules z.table (merged_by z.web) b c.place_of_rules-to.result) (sym c.self.view_is) c.place_of_rules-to.ensures in
     c.requires.differ (inv.own_rules a b c.place_of_rules-to.result s u (h.0 ∙ ap Some e) g.0)
 
 pub append-count-requires-clause-spare : goal.append-count-requires-clause-spare
@@ -46,12 +46,12 @@ append-count-requires-clause-spare c x e =
     let a = cell_id c.args.m in
     let b = cell_id c.args.n in
     let k = kept_by c.self.inside in
-    let v = web_by k.web in
+    let v = merged_by k.web in
     let inv = c.self.invariant.store.stored in
     let s = subst (λ (z : KeptWeb). IsMem (heap_of z) a) (sym c.self.view_is) c.requires.m in
     let u = subst (λ (z : KeptWeb). IsMem (heap_of z) b) (sym c.self.view_is) c.requires.n in
-    let h = subst (λ (z : KeptWeb). HasRules z.table (web_by z.web) a c.place_of_rules-from.result) (sym c.self.view_is) c.place_of_rules-from.ensures in
-    let g = subst (λ (z : KeptWeb). HasRules z.table (web_by z.web) b c.place_of_rules-to.result) (sym c.self.view_is) c.place_of_rules-to.ensures in
+    let h = subst (λ (z : KeptWeb). HasRules z.table (merged_by z.web) a c.place_of_rules-from.result) (sym c.self.view_is) c.place_of_rules-from.ensures in
+    let g = subst (λ (z : KeptWeb). HasRules z.table (merged_by z.web) b c.place_of_rules-to.result) (sym c.self.view_is) c.place_of_rules-to.ensures in
     let ks = rules_by (rows k.table c.place_of_rules-from.result) in
     let is = rules_are k.posts k.table v inv a c.place_of_rules-from.result s h.0 in
     let room : length ks ≤ spare_of (heap_of k) b = subst (λ (xs : List ℕ). length xs ≤ spare_of (heap_of k) b) is
@@ -63,12 +63,12 @@ overflow_add-self c =
     let a = cell_id c.args.m in
     let b = cell_id c.args.n in
     let k = kept_by c.self.inside in
-    let v = web_by k.web in
+    let v = merged_by k.web in
     let inv = c.self.invariant.store.stored in
     let s = subst (λ (z : KeptWeb). IsMem (heap_of z) a) (sym c.self.view_is) c.requires.m in
     let u = subst (λ (z : KeptWeb). IsMem (heap_of z) b) (sym c.self.view_is) c.requires.n in
-    let h = subst (λ (z : KeptWeb). HasRules z.table (web_by z.web) a c.place_of_rules-from.result) (sym c.self.view_is) c.place_of_rules-from.ensures in
-    let g = subst (λ (z : KeptWeb). HasRules z.table (web_by z.web) b c.place_of_rules-to.result) (sym c.self.view_is) c.place_of_rules-to.ensures in
+    let h = subst (λ (z : KeptWeb). HasRules z.table (merged_by z.web) a c.place_of_rules-from.result) (sym c.self.view_is) c.place_of_rules-from.ensures in
+    let g = subst (λ (z : KeptWeb). HasRules z.table (merged_by z.web) b c.place_of_rules-to.result) (sym c.self.view_is) c.place_of_rules-to.ensures in
     let ks = rules_by (rows k.table c.place_of_rules-from.result) in
     let is = rules_are k.posts k.table v inv a c.place_of_rules-from.result s h.0 in
     let room : length ks ≤ spare_of (heap_of k) b = subst (λ (xs : List ℕ). length xs ≤ spare_of (heap_of k) b) is
@@ -83,12 +83,12 @@ overflow_sub-self c =
     let a = cell_id c.args.m in
     let b = cell_id c.args.n in
     let k = kept_by c.self.inside in
-    let v = web_by k.web in
+    let v = merged_by k.web in
     let inv = c.self.invariant.store.stored in
     let s = subst (λ (z : KeptWeb). IsMem (heap_of z) a) (sym c.self.view_is) c.requires.m in
     let u = subst (λ (z : KeptWeb). IsMem (heap_of z) b) (sym c.self.view_is) c.requires.n in
-    let h = subst (λ (z : KeptWeb). HasRules z.table (web_by z.web) a c.place_of_rules-from.result) (sym c.self.view_is) c.place_of_rules-from.ensures in
-    let g = subst (λ (z : KeptWeb). HasRules z.table (web_by z.web) b c.place_of_rules-to.result) (sym c.self.view_is) c.place_of_rules-to.ensures in
+    let h = subst (λ (z : KeptWeb). HasRules z.table (merged_by z.web) a c.place_of_rules-from.result) (sym c.self.view_is) c.place_of_rules-from.ensures in
+    let g = subst (λ (z : KeptWeb). HasRules z.table (merged_by z.web) b c.place_of_rules-to.result) (sym c.self.view_is) c.place_of_rules-to.ensures in
     let ks = rules_by (rows k.table c.place_of_rules-from.result) in
     let is = rules_are k.posts k.table v inv a c.place_of_rules-from.result s h.0 in
     let room : length ks ≤ spare_of (heap_of k) b = subst (λ (xs : List ℕ). length xs ≤ spare_of (heap_of k) b) is
@@ -102,12 +102,12 @@ invariant_of-self c =
     let a = cell_id c.args.m in
     let b = cell_id c.args.n in
     let k = kept_by c.self.inside in
-    let v = web_by k.web in
+    let v = merged_by k.web in
     let inv = c.self.invariant.store.stored in
     let s = subst (λ (z : KeptWeb). IsMem (heap_of z) a) (sym c.self.view_is) c.requires.m in
     let u = subst (λ (z : KeptWeb). IsMem (heap_of z) b) (sym c.self.view_is) c.requires.n in
-    let h = subst (λ (z : KeptWeb). HasRules z.table (web_by z.web) a c.place_of_rules-from.result) (sym c.self.view_is) c.place_of_rules-from.ensures in
-    let g = subst (λ (z : KeptWeb). HasRules z.table (web_by z.web) b c.place_of_rules-to.result) (sym c.self.view_is) c.place_of_rules-to.ensures in
+    let h = subst (λ (z : KeptWeb). HasRules z.table (merged_by z.web) a c.place_of_rules-from.result) (sym c.self.view_is) c.place_of_rules-from.ensures in
+    let g = subst (λ (z : KeptWeb). HasRules z.table (merged_by z.web) b c.place_of_rules-to.result) (sym c.self.view_is) c.place_of_rules-to.ensures in
     let ks = rules_by (rows k.table c.place_of_rules-from.result) in
     let is = rules_are k.posts k.table v inv a c.place_of_rules-from.result s h.0 in
     let room : length ks ≤ spare_of (heap_of k) b = subst (λ (xs : List ℕ). length xs ≤ spare_of (heap_of k) b) is
@@ -128,12 +128,12 @@ returns c =
     let a = cell_id c.args.m in
     let b = cell_id c.args.n in
     let k = kept_by c.self.inside in
-    let v = web_by k.web in
+    let v = merged_by k.web in
     let inv = c.self.invariant.store.stored in
     let s = subst (λ (z : KeptWeb). IsMem (heap_of z) a) (sym c.self.view_is) c.requires.m in
     let u = subst (λ (z : KeptWeb). IsMem (heap_of z) b) (sym c.self.view_is) c.requires.n in
-    let h = subst (λ (z : KeptWeb). HasRules z.table (web_by z.web) a c.place_of_rules-from.result) (sym c.self.view_is) c.place_of_rules-from.ensures in
-    let g = subst (λ (z : KeptWeb). HasRules z.table (web_by z.web) b c.place_of_rules-to.result) (sym c.self.view_is) c.place_of_rules-to.ensures in
+    let h = subst (λ (z : KeptWeb). HasRules z.table (merged_by z.web) a c.place_of_rules-from.result) (sym c.self.view_is) c.place_of_rules-from.ensures in
+    let g = subst (λ (z : KeptWeb). HasRules z.table (merged_by z.web) b c.place_of_rules-to.result) (sym c.self.view_is) c.place_of_rules-to.ensures in
     let ks = rules_by (rows k.table c.place_of_rules-from.result) in
     let is = rules_are k.posts k.table v inv a c.place_of_rules-from.result s h.0 in
     let room : length ks ≤ spare_of (heap_of k) b = subst (λ (xs : List ℕ). length xs ≤ spare_of (heap_of k) b) is

@@ -2,10 +2,10 @@ use Rattle.std.proofs.Common.{sym, ap, subst, ◌∙◌}
 use Rattle.lmn_store_heap.specs.Conditions.{Alone}
 use Rattle.lmn_store_heap.specs.Heap.{discarded}
 use Rattle.lmn_web_cells.specs.Cells.{cells_by}
-use Rattle.lmn_web.specs.Webs.{web_by}
+use Rattle.lmn_web_merging.specs.Keepers.{merged_by}
 use Rattle.lmn_store_web.specs.WebHeaps.{KeptWeb, heap_of}
 use Rattle.lmn_store_web.specs.WebStores.{kept_by}
-use Rattle.lmn_store_web.proofs.SoundLemmas.{web_formed}
+use Rattle.lmn_store_web.proofs.SoundLemmas.{merged_formed}
 use Rattle.lmn_store_web.proofs.FreeLemmas.{frees_both}
 use Rattle.lmn_store_web.proofs.EndLemmas.{discard_free, discarded_heap}
 use Rattle.lmn_store_heap.specs.Heap.{Heap, waiting, mem_unless_waiting}
@@ -16,25 +16,25 @@ use Rattle.lmn_store_web.proofs.web_store.WebStoreLinkStore.discard.Goals as goa
 
 pub free_atoms-requires : goal.free_atoms-requires
 free_atoms-requires c =
-    let k = kept_by c.self.inside in let w = web_by k.web in
-    let h = discard_free k.posts k.table w c.self.invariant.store.stored c.listed.ensures c.paired.ensures (web_formed (cells_by k.web)) _ _ _ c.self.invariant.store.counts (subst (λ (z : KeptWeb). Alone (heap_of z)) (sym c.self.view_is) c.requires) in
+    let k = kept_by c.self.inside in let w = merged_by k.web in
+    let h = discard_free k.posts k.table w c.self.invariant.store.stored c.listed.ensures c.paired.ensures (merged_formed k.web) _ _ _ c.self.invariant.store.counts (subst (λ (z : KeptWeb). Alone (heap_of z)) (sym c.self.view_is) c.requires) in
     (k.posts, k.table, c.self.inside.mem_count, c.self.inside.spare_count, h)
 
 pub free_mems-requires : goal.free_mems-requires
 free_mems-requires c =
-    let k = kept_by c.self.inside in let w = web_by k.web in
-    let h = discard_free k.posts k.table w c.self.invariant.store.stored c.listed.ensures c.paired.ensures (web_formed (cells_by k.web)) _ _ _ c.self.invariant.store.counts (subst (λ (z : KeptWeb). Alone (heap_of z)) (sym c.self.view_is) c.requires) in
+    let k = kept_by c.self.inside in let w = merged_by k.web in
+    let h = discard_free k.posts k.table w c.self.invariant.store.stored c.listed.ensures c.paired.ensures (merged_formed k.web) _ _ _ c.self.invariant.store.counts (subst (λ (z : KeptWeb). Alone (heap_of z)) (sym c.self.view_is) c.requires) in
     (k.posts, c.free_atoms.new.count, (c.free_atoms.ensures.freed k.posts k.table c.self.inside.mem_count c.self.inside.spare_count h).0)
 
 pub invariant_of-self : goal.invariant_of-self
 invariant_of-self c =
-    let k = kept_by c.self.inside in let w = web_by k.web in
-    let h = discard_free k.posts k.table w c.self.invariant.store.stored c.listed.ensures c.paired.ensures (web_formed (cells_by k.web)) _ _ _ c.self.invariant.store.counts (subst (λ (z : KeptWeb). Alone (heap_of z)) (sym c.self.view_is) c.requires) in
+    let k = kept_by c.self.inside in let w = merged_by k.web in
+    let h = discard_free k.posts k.table w c.self.invariant.store.stored c.listed.ensures c.paired.ensures (merged_formed k.web) _ _ _ c.self.invariant.store.counts (subst (λ (z : KeptWeb). Alone (heap_of z)) (sym c.self.view_is) c.requires) in
     let a = c.free_atoms.ensures.freed k.posts k.table c.self.inside.mem_count c.self.inside.spare_count h in
     let m = c.free_mems.ensures.freed k.posts c.free_atoms.new.count a.0 in
-    let v = web_by c.free_mems.new.web in let g = c.free_mems.new.rules.slots in
-    let listed = (heap_sound k.posts k.table w c.self.invariant.store.stored c.listed.ensures c.paired.ensures (web_formed (cells_by k.web))).listed in
-    let frees = frees_both k.posts k.posts.waiting k.table w k.table (web_by c.free_atoms.new.web) g v a.1 m.1 in
+    let v = merged_by c.free_mems.new.web in let g = c.free_mems.new.rules.slots in
+    let listed = (heap_sound k.posts k.table w c.self.invariant.store.stored c.listed.ensures c.paired.ensures (merged_formed k.web)).listed in
+    let frees = frees_both k.posts k.posts.waiting k.table w k.table (merged_by c.free_atoms.new.web) g v a.1 m.1 in
     let heap = discarded_heap k.posts k.table w g v c.listed-2.ensures c.self.invariant.store.stored.apart frees (c.free_mems.ensures.atoms ∙ c.free_atoms.ensures.none) c.free_mems.ensures.none in
     record {
       store = record { stored = m.0.stored; counts = m.0.counts };
@@ -43,11 +43,11 @@ invariant_of-self c =
 
 pub returns : goal.returns
 returns c =
-    let k = kept_by c.self.inside in let w = web_by k.web in
-    let h = discard_free k.posts k.table w c.self.invariant.store.stored c.listed.ensures c.paired.ensures (web_formed (cells_by k.web)) _ _ _ c.self.invariant.store.counts (subst (λ (z : KeptWeb). Alone (heap_of z)) (sym c.self.view_is) c.requires) in
+    let k = kept_by c.self.inside in let w = merged_by k.web in
+    let h = discard_free k.posts k.table w c.self.invariant.store.stored c.listed.ensures c.paired.ensures (merged_formed k.web) _ _ _ c.self.invariant.store.counts (subst (λ (z : KeptWeb). Alone (heap_of z)) (sym c.self.view_is) c.requires) in
     let a = c.free_atoms.ensures.freed k.posts k.table c.self.inside.mem_count c.self.inside.spare_count h in
     let m = c.free_mems.ensures.freed k.posts c.free_atoms.new.count a.0 in
-    let v = web_by c.free_mems.new.web in let g = c.free_mems.new.rules.slots in
-    discarded_heap k.posts k.table w g v c.listed-2.ensures c.self.invariant.store.stored.apart (frees_both k.posts k.posts.waiting k.table w k.table (web_by c.free_atoms.new.web) g v a.1 m.1)
+    let v = merged_by c.free_mems.new.web in let g = c.free_mems.new.rules.slots in
+    discarded_heap k.posts k.table w g v c.listed-2.ensures c.self.invariant.store.stored.apart (frees_both k.posts k.posts.waiting k.table w k.table (merged_by c.free_atoms.new.web) g v a.1 m.1)
     (c.free_mems.ensures.atoms ∙ c.free_atoms.ensures.none) c.free_mems.ensures.none
     ∙ ap (λ (z : KeptWeb). discarded (heap_of z)) c.self.view_is

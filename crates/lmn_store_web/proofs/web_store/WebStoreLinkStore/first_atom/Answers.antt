@@ -4,8 +4,16 @@ use Rattle.lmn_store_heap.specs.Lists.{from}
 use Rattle.lmn_store_heap.specs.Heap.{IsMem, home_of, atoms_in}
 use Rattle.lmn_web_cells.specs.CellIds.{cell_id}
 use Rattle.lmn_store_web.specs.WebHeaps.{KeptWeb, heap_of}
+use Rattle.lmn_store_web.specs.WebStores.{kept_by}
+use Rattle.lmn_web_merging.specs.Keepers.{merged_by}
 use Rattle.lmn_store_web.proofs.CallLemmas.{first_atom_list, first_atom_home}
+use Rattle.lmn_store_web.proofs.ReadLemmas.{mem_there}
 use Rattle.lmn_store_web.proofs.web_store.WebStoreLinkStore.first_atom.Goals as goal
+
+pub first-requires : goal.first-requires
+first-requires c =
+    let m = cell_id c.args.m in let k = kept_by c.self.inside in
+    (mem_there k.posts k.table (merged_by k.web) m (subst (λ (z : KeptWeb). IsMem (heap_of z) m) (sym c.self.view_is) c.requires)).1
 
 pub returns-clause-list : goal.returns-clause-list
 returns-clause-list c =

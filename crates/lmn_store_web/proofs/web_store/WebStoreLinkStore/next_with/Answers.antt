@@ -6,10 +6,10 @@ use Rattle.lmn_store_heap.specs.Heap.{IsInPlace, functor_of, home_of, atoms_in}
 use Rattle.lmn_store_heap.specs.Functors.{with_functor}
 use Rattle.lmn_web_cells.specs.Cells.{cells_by}
 use Rattle.lmn_web_cells.specs.CellIds.{cell_id}
-use Rattle.lmn_web.specs.Webs.{web_by}
+use Rattle.lmn_web_merging.specs.Keepers.{merged_by}
 use Rattle.lmn_store_web.specs.WebHeaps.{KeptWeb, heap_of}
 use Rattle.lmn_store_web.specs.WebStores.{kept_by}
-use Rattle.lmn_store_web.proofs.SoundLemmas.{web_formed}
+use Rattle.lmn_store_web.proofs.SoundLemmas.{merged_formed}
 use Rattle.lmn_store_web.proofs.CallLemmas.{has_home}
 use Rattle.lmn_store_web.proofs.WithLemmas.{in_place_kind, next_with_list, next_with_functor, next_with_home}
 use Rattle.lmn_store_web.proofs.web_store.WebStoreLinkStore.next_with.Goals as goal
@@ -19,14 +19,14 @@ next_with-requires-clause-home c =
     let a = cell_id c.args.a in
     let k = kept_by c.self.inside in
     let s = subst (λ (z : KeptWeb). IsInPlace (heap_of z) a) (sym c.self.view_is) c.requires in
-    has_home k.posts k.table (web_by k.web) c.self.invariant.store.stored c.listed.ensures a s
+    has_home k.posts k.table (merged_by k.web) c.self.invariant.store.stored c.listed.ensures a s
 
 pub next_with-requires-clause-atom : goal.next_with-requires-clause-atom
 next_with-requires-clause-atom c =
     let a = cell_id c.args.a in
     let k = kept_by c.self.inside in
     let s = subst (λ (z : KeptWeb). IsInPlace (heap_of z) a) (sym c.self.view_is) c.requires in
-    in_place_kind k.posts k.table (web_by k.web) c.self.invariant.store.stored c.listed.ensures a s
+    in_place_kind k.posts k.table (merged_by k.web) c.self.invariant.store.stored c.listed.ensures a s
 
 pub returns-clause-list : goal.returns-clause-list
 returns-clause-list c =
@@ -35,7 +35,7 @@ returns-clause-list c =
     let s = subst (λ (z : KeptWeb). IsInPlace (heap_of z) a) (sym c.self.view_is) c.requires in
     subst (λ (z : KeptWeb). (m : ℕ) (f : Functor) → home_of (heap_of z) a ≡ Some m → functor_of (heap_of z) a ≡ Some f
     → from (option_map cell_id c.next_with.result) (with_functor (heap_of z) f (atoms_in (heap_of z) m)) ≡ after a (with_functor (heap_of z) f (atoms_in (heap_of z) m))) c.self.view_is
-    (next_with_list k.posts k.table (web_by k.web) c.self.invariant.store.stored c.listed.ensures c.paired.ensures (web_formed (cells_by k.web)) cell_id c.next_with.result a c.next_with.ensures.list)
+    (next_with_list k.posts k.table (merged_by k.web) c.self.invariant.store.stored c.listed.ensures c.paired.ensures (merged_formed k.web) cell_id c.next_with.result a c.next_with.ensures.list)
 
 pub returns-clause-functor : goal.returns-clause-functor
 returns-clause-functor c =
@@ -43,7 +43,7 @@ returns-clause-functor c =
     let k = kept_by c.self.inside in
     let s = subst (λ (z : KeptWeb). IsInPlace (heap_of z) a) (sym c.self.view_is) c.requires in
     subst (λ (z : KeptWeb). IfSome c.next_with.result (λ b. functor_of (heap_of z) (cell_id b) ≡ functor_of (heap_of z) a)) c.self.view_is
-    (next_with_functor k.posts k.table (web_by k.web) c.self.invariant.store.stored c.listed.ensures c.paired.ensures (web_formed (cells_by k.web)) cell_id c.next_with.result a c.next_with.ensures.list s)
+    (next_with_functor k.posts k.table (merged_by k.web) c.self.invariant.store.stored c.listed.ensures c.paired.ensures (merged_formed k.web) cell_id c.next_with.result a c.next_with.ensures.list s)
 
 pub returns-clause-home : goal.returns-clause-home
 returns-clause-home c =
@@ -51,4 +51,4 @@ returns-clause-home c =
     let k = kept_by c.self.inside in
     let s = subst (λ (z : KeptWeb). IsInPlace (heap_of z) a) (sym c.self.view_is) c.requires in
     subst (λ (z : KeptWeb). IfSome c.next_with.result (λ b. home_of (heap_of z) (cell_id b) ≡ home_of (heap_of z) a)) c.self.view_is
-    (next_with_home k.posts k.table (web_by k.web) c.self.invariant.store.stored c.listed.ensures c.paired.ensures (web_formed (cells_by k.web)) cell_id c.next_with.result a c.next_with.ensures.list s)
+    (next_with_home k.posts k.table (merged_by k.web) c.self.invariant.store.stored c.listed.ensures c.paired.ensures (merged_formed k.web) cell_id c.next_with.result a c.next_with.ensures.list s)

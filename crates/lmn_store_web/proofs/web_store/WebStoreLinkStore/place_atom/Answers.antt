@@ -1,10 +1,11 @@
-use Rattle.std.proofs.Common.{◌≡◌, ◌≢◌, [], ℕ, Option, Some, IsSome, refl, sym, ap, subst, ◌∙◌}
+use Rattle.std.proofs.Common.{◌≡◌, ◌≢◌, [], ℕ, Option, Some, IsSome, refl, sym, ap, subst, ◌∙◌, inl}
 use Rattle.std.specs.Option.{option_map}
 use Rattle.lmn_store_heap.specs.Lists.{from}
 use Rattle.lmn_store_heap.specs.Heap.{IsMemInPlace, placed}
 use Rattle.lmn_web_cells.specs.CellIds.{cell_id}
-use Rattle.lmn_web.specs.declared.kind.CellKind.TheVariants.{Atom}
-use Rattle.lmn_web.specs.Webs.{web_by, cells_in}
+use Rattle.lmn_web.specs.declared.kind.CellKind.TheVariants.{Atom, Membrane}
+use Rattle.lmn_web.specs.Webs.{cells_in}
+use Rattle.lmn_web_merging.specs.Keepers.{merged_by}
 use Rattle.lmn_store_web.specs.WebHeaps.{KeptWeb, heap_of}
 use Rattle.lmn_store_web.specs.WebStores.{kept_by}
 use Rattle.lmn_store_web.proofs.SendLemmas.{sent_stored, sent_counts}
@@ -18,54 +19,57 @@ use Rattle.lmn_store_web.proofs.web_store.WebStoreLinkStore.place_atom.Goals as 
 pub unwrap-a-requires : goal.unwrap-a-requires
 unwrap-a-requires c =
     let k = kept_by c.self.inside in
-    first_some cell_id c.first.result (cells_in (web_by k.web) k.posts.waiting Atom) c.first.ensures.list (subst (λ (z : KeptWeb). (heap_of z).new_atoms ≢ []) (sym c.self.view_is) c.requires.waiting)
+    first_some cell_id c.first_plain.result (cells_in (merged_by k.web) k.posts.waiting Atom) c.first_plain.ensures.list (subst (λ (z : KeptWeb). (heap_of z).new_atoms ≢ []) (sym c.self.view_is) c.requires.waiting)
 
 pub send-requires-clause-listed : goal.send-requires-clause-listed
 send-requires-clause-listed c =
-    let k = kept_by c.self.inside in let w = web_by k.web in let x = cell_id c.unwrap-a.result in let n = cell_id c.args.m in
-    let first : from (Some x) (cells_in w k.posts.waiting Atom) ≡ cells_in w k.posts.waiting Atom = subst (λ o. from (option_map cell_id o) (cells_in w k.posts.waiting Atom) ≡ cells_in w k.posts.waiting Atom) c.unwrap-a.ensures c.first.ensures.list in
+    let k = kept_by c.self.inside in let w = merged_by k.web in let x = cell_id c.unwrap-a.result in let n = cell_id c.args.m in
+    let first : from (Some x) (cells_in w k.posts.waiting Atom) ≡ cells_in w k.posts.waiting Atom = subst (λ o. from (option_map cell_id o) (cells_in w k.posts.waiting Atom) ≡ cells_in w k.posts.waiting Atom) c.unwrap-a.ensures c.first_plain.ensures.list in
     let q = placing k.posts k.table w c.self.invariant.store.stored c.listed.ensures Atom x n first (subst (λ (z : KeptWeb). IsMemInPlace (heap_of z) n) (sym c.self.view_is) c.requires.mem) in
     subst (λ (o : Option ℕ). IsSome o) (sym q.home) refl
 
 pub send-requires-clause-membrane : goal.send-requires-clause-membrane
 send-requires-clause-membrane c =
-    let k = kept_by c.self.inside in let w = web_by k.web in let x = cell_id c.unwrap-a.result in let n = cell_id c.args.m in
-    let first : from (Some x) (cells_in w k.posts.waiting Atom) ≡ cells_in w k.posts.waiting Atom = subst (λ o. from (option_map cell_id o) (cells_in w k.posts.waiting Atom) ≡ cells_in w k.posts.waiting Atom) c.unwrap-a.ensures c.first.ensures.list in
+    let k = kept_by c.self.inside in let w = merged_by k.web in let x = cell_id c.unwrap-a.result in let n = cell_id c.args.m in
+    let first : from (Some x) (cells_in w k.posts.waiting Atom) ≡ cells_in w k.posts.waiting Atom = subst (λ o. from (option_map cell_id o) (cells_in w k.posts.waiting Atom) ≡ cells_in w k.posts.waiting Atom) c.unwrap-a.ensures c.first_plain.ensures.list in
     let q = placing k.posts k.table w c.self.invariant.store.stored c.listed.ensures Atom x n first (subst (λ (z : KeptWeb). IsMemInPlace (heap_of z) n) (sym c.self.view_is) c.requires.mem) in
     q.membrane
 
 pub send-requires-clause-kind : goal.send-requires-clause-kind
 send-requires-clause-kind c =
-    let k = kept_by c.self.inside in let w = web_by k.web in let x = cell_id c.unwrap-a.result in let n = cell_id c.args.m in
-    let first : from (Some x) (cells_in w k.posts.waiting Atom) ≡ cells_in w k.posts.waiting Atom = subst (λ o. from (option_map cell_id o) (cells_in w k.posts.waiting Atom) ≡ cells_in w k.posts.waiting Atom) c.unwrap-a.ensures c.first.ensures.list in
+    let k = kept_by c.self.inside in let w = merged_by k.web in let x = cell_id c.unwrap-a.result in let n = cell_id c.args.m in
+    let first : from (Some x) (cells_in w k.posts.waiting Atom) ≡ cells_in w k.posts.waiting Atom = subst (λ o. from (option_map cell_id o) (cells_in w k.posts.waiting Atom) ≡ cells_in w k.posts.waiting Atom) c.unwrap-a.ensures c.first_plain.ensures.list in
     let q = placing k.posts k.table w c.self.invariant.store.stored c.listed.ensures Atom x n first (subst (λ (z : KeptWeb). IsMemInPlace (heap_of z) n) (sym c.self.view_is) c.requires.mem) in
     q.kind
 
 pub send-requires-clause-differ : goal.send-requires-clause-differ
 send-requires-clause-differ c =
-    let k = kept_by c.self.inside in let w = web_by k.web in let x = cell_id c.unwrap-a.result in let n = cell_id c.args.m in
-    let first : from (Some x) (cells_in w k.posts.waiting Atom) ≡ cells_in w k.posts.waiting Atom = subst (λ o. from (option_map cell_id o) (cells_in w k.posts.waiting Atom) ≡ cells_in w k.posts.waiting Atom) c.unwrap-a.ensures c.first.ensures.list in
+    let k = kept_by c.self.inside in let w = merged_by k.web in let x = cell_id c.unwrap-a.result in let n = cell_id c.args.m in
+    let first : from (Some x) (cells_in w k.posts.waiting Atom) ≡ cells_in w k.posts.waiting Atom = subst (λ o. from (option_map cell_id o) (cells_in w k.posts.waiting Atom) ≡ cells_in w k.posts.waiting Atom) c.unwrap-a.ensures c.first_plain.ensures.list in
     let q = placing k.posts k.table w c.self.invariant.store.stored c.listed.ensures Atom x n first (subst (λ (z : KeptWeb). IsMemInPlace (heap_of z) n) (sym c.self.view_is) c.requires.mem) in
     q.differ
 
 pub send-requires-clause-elsewhere : goal.send-requires-clause-elsewhere
 send-requires-clause-elsewhere c =
-    let k = kept_by c.self.inside in let w = web_by k.web in let x = cell_id c.unwrap-a.result in let n = cell_id c.args.m in
-    let first : from (Some x) (cells_in w k.posts.waiting Atom) ≡ cells_in w k.posts.waiting Atom = subst (λ o. from (option_map cell_id o) (cells_in w k.posts.waiting Atom) ≡ cells_in w k.posts.waiting Atom) c.unwrap-a.ensures c.first.ensures.list in
+    let k = kept_by c.self.inside in let w = merged_by k.web in let x = cell_id c.unwrap-a.result in let n = cell_id c.args.m in
+    let first : from (Some x) (cells_in w k.posts.waiting Atom) ≡ cells_in w k.posts.waiting Atom = subst (λ o. from (option_map cell_id o) (cells_in w k.posts.waiting Atom) ≡ cells_in w k.posts.waiting Atom) c.unwrap-a.ensures c.first_plain.ensures.list in
     let q = placing k.posts k.table w c.self.invariant.store.stored c.listed.ensures Atom x n first (subst (λ (z : KeptWeb). IsMemInPlace (heap_of z) n) (sym c.self.view_is) c.requires.mem) in
     q.elsewhere
 
+pub send-requires-clause-own : goal.send-requires-clause-own
+send-requires-clause-own c e = absurd (let z : Atom ≡ Membrane = e in cc)
+
 pub invariant_of-self : goal.invariant_of-self
 invariant_of-self c =
-    let k = kept_by c.self.inside in let w = web_by k.web in let x = cell_id c.unwrap-a.result in let n = cell_id c.args.m in
-    let first : from (Some x) (cells_in w k.posts.waiting Atom) ≡ cells_in w k.posts.waiting Atom = subst (λ o. from (option_map cell_id o) (cells_in w k.posts.waiting Atom) ≡ cells_in w k.posts.waiting Atom) c.unwrap-a.ensures c.first.ensures.list in
+    let k = kept_by c.self.inside in let w = merged_by k.web in let x = cell_id c.unwrap-a.result in let n = cell_id c.args.m in
+    let first : from (Some x) (cells_in w k.posts.waiting Atom) ≡ cells_in w k.posts.waiting Atom = subst (λ o. from (option_map cell_id o) (cells_in w k.posts.waiting Atom) ≡ cells_in w k.posts.waiting Atom) c.unwrap-a.ensures c.first_plain.ensures.list in
     let q = placing k.posts k.table w c.self.invariant.store.stored c.listed.ensures Atom x n first (subst (λ (z : KeptWeb). IsMemInPlace (heap_of z) n) (sym c.self.view_is) c.requires.mem) in
-    let v = web_by c.send.new.web in
+    let v = merged_by c.send.new.web in
     let s = c.send.ensures k.posts.waiting q.home in
     let t = placed_heap k.posts k.table w v n x s c.self.invariant.store.stored.waiting q.no_line q.no_end q.kind first in
     record {
       store = record {
-        stored = sent_stored w v k.posts.waiting n x s k.posts k.table c.self.invariant.store.stored q.home q.no_line q.fits;
+        stored = sent_stored w v k.posts.waiting n x s k.posts k.table c.self.invariant.store.stored q.home q.no_line q.fits c.self.invariant.store.stored.apart;
         counts = sent_counts w v k.posts.waiting n x s k.posts k.table _ _ _ c.self.invariant.store.counts;
       };
       index = index_kept _ _ _ _ c.self.invariant.index _ _ (λ m. key_by w v m (label_same w v k.posts.waiting n x s m)) (λ m. ap (λ (h : Heap). seen_by (h.mems m)) t ∙ seen_placed (heap_of k) n x m);
@@ -73,15 +77,21 @@ invariant_of-self c =
 
 pub returns-clause-first : goal.returns-clause-first
 returns-clause-first c =
-    let k = kept_by c.self.inside in let w = web_by k.web in let x = cell_id c.unwrap-a.result in
-    let first : from (Some x) (cells_in w k.posts.waiting Atom) ≡ cells_in w k.posts.waiting Atom = subst (λ o. from (option_map cell_id o) (cells_in w k.posts.waiting Atom) ≡ cells_in w k.posts.waiting Atom) c.unwrap-a.ensures c.first.ensures.list in
+    let k = kept_by c.self.inside in let w = merged_by k.web in let x = cell_id c.unwrap-a.result in
+    let first : from (Some x) (cells_in w k.posts.waiting Atom) ≡ cells_in w k.posts.waiting Atom = subst (λ o. from (option_map cell_id o) (cells_in w k.posts.waiting Atom) ≡ cells_in w k.posts.waiting Atom) c.unwrap-a.ensures c.first_plain.ensures.list in
     subst (λ (z : KeptWeb). from (Some x) (heap_of z).new_atoms ≡ (heap_of z).new_atoms) c.self.view_is first
 
 pub returns-clause-placed : goal.returns-clause-placed
 returns-clause-placed c =
-    let k = kept_by c.self.inside in let w = web_by k.web in let x = cell_id c.unwrap-a.result in let n = cell_id c.args.m in
-    let first : from (Some x) (cells_in w k.posts.waiting Atom) ≡ cells_in w k.posts.waiting Atom = subst (λ o. from (option_map cell_id o) (cells_in w k.posts.waiting Atom) ≡ cells_in w k.posts.waiting Atom) c.unwrap-a.ensures c.first.ensures.list in
+    let k = kept_by c.self.inside in let w = merged_by k.web in let x = cell_id c.unwrap-a.result in let n = cell_id c.args.m in
+    let first : from (Some x) (cells_in w k.posts.waiting Atom) ≡ cells_in w k.posts.waiting Atom = subst (λ o. from (option_map cell_id o) (cells_in w k.posts.waiting Atom) ≡ cells_in w k.posts.waiting Atom) c.unwrap-a.ensures c.first_plain.ensures.list in
     let q = placing k.posts k.table w c.self.invariant.store.stored c.listed.ensures Atom x n first (subst (λ (z : KeptWeb). IsMemInPlace (heap_of z) n) (sym c.self.view_is) c.requires.mem) in
-    let v = web_by c.send.new.web in
+    let v = merged_by c.send.new.web in
     placed_heap k.posts k.table w v n x (c.send.ensures k.posts.waiting q.home) c.self.invariant.store.stored.waiting q.no_line q.no_end q.kind first
     ∙ ap (λ (z : KeptWeb). placed (heap_of z) n x) c.self.view_is
+
+pub first_plain-requires-clause-membrane : goal.first_plain-requires-clause-membrane
+first_plain-requires-clause-membrane c = c.self.invariant.store.stored.waiting
+
+pub first_plain-requires-clause-plain : goal.first_plain-requires-clause-plain
+first_plain-requires-clause-plain c = c.self.invariant.store.stored.plain (kept_by c.self.inside).posts.waiting c.self.invariant.store.stored.waiting (inl refl)

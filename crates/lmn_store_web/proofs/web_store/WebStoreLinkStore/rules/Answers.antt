@@ -1,19 +1,19 @@
 use Rattle.std.proofs.Common.{subst, sym, ap, ◌≡◌, ◌∙◌, length}
 use Rattle.lmn_store_heap.specs.Heap.{IsMem, rules_in}
 use Rattle.lmn_web_cells.specs.CellIds.{cell_id}
-use Rattle.lmn_web.specs.Webs.{web_by}
+use Rattle.lmn_web_merging.specs.Keepers.{merged_by}
 use Rattle.lmn_store_web.specs.WebHeaps.{KeptWeb, heap_of}
 use Rattle.lmn_store_web.specs.WebStores.{kept_by, HasRules}
 use Rattle.lmn_store_web.proofs.RulingLemmas.{numbers_are}
 use Rattle.lmn_store_web.proofs.web_store.WebStoreLinkStore.rules.Goals as goal
 
 pub index-requires : goal.index-requires
-index-requires c = (subst (λ (z : KeptWeb). HasRules z.table (web_by z.web) (cell_id c.args.m) c.place_of_rules-place.result) (sym c.self.view_is) c.place_of_rules-place.ensures).1
+index-requires c = (subst (λ (z : KeptWeb). HasRules z.table (merged_by z.web) (cell_id c.args.m) c.place_of_rules-place.result) (sym c.self.view_is) c.place_of_rules-place.ensures).1
 
 pub returns : goal.returns
 returns c =
     let m = cell_id c.args.m in
     let k = kept_by c.self.inside in
-    let h = subst (λ (z : KeptWeb). HasRules z.table (web_by z.web) m c.place_of_rules-place.result) (sym c.self.view_is) c.place_of_rules-place.ensures in
+    let h = subst (λ (z : KeptWeb). HasRules z.table (merged_by z.web) m c.place_of_rules-place.result) (sym c.self.view_is) c.place_of_rules-place.ensures in
     subst (λ (z : KeptWeb). c.len.result ≡ length (rules_in (heap_of z) m)) c.self.view_is
-    (c.len.ensures ∙ ap length (sym (numbers_are k.posts k.table (web_by k.web) c.self.invariant.store.stored m c.place_of_rules-place.result (subst (λ (z : KeptWeb). IsMem (heap_of z) m) (sym c.self.view_is) c.requires) h c.index.result.now c.index.ensures)))
+    (c.len.ensures ∙ ap length (sym (numbers_are k.posts k.table (merged_by k.web) c.self.invariant.store.stored m c.place_of_rules-place.result (subst (λ (z : KeptWeb). IsMem (heap_of z) m) (sym c.self.view_is) c.requires) h c.index.result.now c.index.ensures)))

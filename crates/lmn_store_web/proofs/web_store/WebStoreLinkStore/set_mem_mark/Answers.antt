@@ -1,14 +1,15 @@
-use Rattle.std.proofs.Common.{subst, sym, ap, ◌∙◌, ℕ}
+use Rattle.std.proofs.Common.{subst, sym, ap, ◌∙◌, ℕ, inr, refl}
 use Rattle.std.specs.Prelude.{Option}
 use Rattle.lmn_store_heap.specs.Heap.{IsMem, mem_marked}
 use Rattle.lmn_store_counts.specs.Counts.{HasCounts}
 use Rattle.lmn_web_cells.specs.Cells.{cells_by}
 use Rattle.lmn_web_cells.specs.CellIds.{cell_id}
-use Rattle.lmn_web.specs.Webs.{WebCell, web_by}
+use Rattle.lmn_web.specs.Webs.{WebCell}
+use Rattle.lmn_web_merging.specs.Keepers.{merged_by}
 use Rattle.lmn_store_web.specs.WebHeaps.{KeptWeb, heap_of, heap_by, atoms_of, mems_of}
 use Rattle.lmn_store_web.specs.WebStores.{IsStored, kept_by}
 use Rattle.lmn_store_web.proofs.ReadLemmas.{mem_there}
-use Rattle.lmn_store_web.proofs.SoundLemmas.{web_formed}
+use Rattle.lmn_store_web.proofs.SoundLemmas.{merged_formed}
 use Rattle.lmn_store_web.proofs.CoreLemmas.{stored_same}
 use Rattle.lmn_store_web.proofs.MarkLemmas.{core_same}
 use Rattle.lmn_store_web.proofs.MemMarkLemmas.{mem_marked_heap, mem_marked_counts}
@@ -26,25 +27,25 @@ pub invariant_of-self : goal.invariant_of-self
 invariant_of-self c =
     let m = cell_id c.args.m in
     let k = kept_by c.self.inside in
-    let v = web_by k.web in
+    let v = merged_by k.web in
     let i = mem_there k.posts k.table v m (subst (λ (z : KeptWeb). IsMem (heap_of z) m) (sym c.self.view_is) c.requires) in
     let e = c.set_mark.ensures in
     let s = subst (λ (z : KeptWeb). IsMem (heap_of z) m) (sym c.self.view_is) c.requires in
     let x = c.self.invariant.index in
-    let w = web_by c.set_mark.new.self in
-    let rules = subst (λ (z : KeptWeb). HasRules z.table (web_by z.web) m c.place_of_rules-key.result) (sym c.self.view_is) c.place_of_rules-key.ensures in
+    let w = merged_by c.set_mark.new.self in
+    let rules = subst (λ (z : KeptWeb). HasRules z.table (merged_by z.web) m c.place_of_rules-key.result) (sym c.self.view_is) c.place_of_rules-key.ensures in
     let key = key_is v m c.place_of_rules-key.result rules.0 in
     let low = subst (λ z. z < x.nest.keys) key (below _ _ _ _ x m s) in
     let was : x.nest.awake c.place_of_rules-key.result ≡ (c.mark-was.result == 0) = sym (ap x.nest.awake key) ∙ x.agrees.awake m s ∙ ap (λ z. z == 0) (mem_mark_is k.posts k.table v m i.1 i.2 i.3 ∙ sym c.mark-was.ensures) in
-    let heap = ap (λ (f : ℕ → Option WebCell). heap_by k.posts k.table f) e ∙ mem_marked_heap k.posts k.table v m c.args.v i.1 (web_formed (cells_by k.web)) in
+    let heap = ap (λ (f : ℕ → Option WebCell). heap_by k.posts k.table f) e ∙ mem_marked_heap k.posts k.table v m c.args.v i.1 (merged_formed k.web) in
     let now = c.wake.ensures x.nest x.nested low was in
     record {
       store = record {
-        stored = subst (λ (f : ℕ → Option WebCell). IsStored k.posts k.table f) (sym e) (stored_same v _ (core_same k.posts k.table v m 0 c.args.v) k.posts k.table c.self.invariant.store.stored);
+        stored = subst (λ (f : ℕ → Option WebCell). IsStored k.posts k.table f) (sym e) (stored_same v _ (core_same k.posts k.table v m 0 c.args.v (inr refl)) k.posts k.table c.self.invariant.store.stored);
         counts = subst (λ (f : ℕ → Option WebCell). HasCounts (atoms_of k.posts f) (mems_of k.posts k.table f) c.self.inside.atom_count c.self.inside.mem_count c.self.inside.spare_count) (sym e)
-            (mem_marked_counts k.posts k.table v m c.args.v i.1 (web_formed (cells_by k.web)) _ _ _ c.self.invariant.store.counts);
+            (mem_marked_counts k.posts k.table v m c.args.v i.1 (merged_formed k.web) _ _ _ c.self.invariant.store.counts);
       };
-      index = index_by (IsNested c.wake.new.index) (map cell_id c.self.inside.mems.items) (key_of v) (key_of w) (mem_marked (heap_of k) m c.args.v) (heap_by k.posts k.table w) (λ y. key_by v w y (ap (λ (f : ℕ → Option WebCell). web_label f y) e ∙ label_same v _ (core_same k.posts k.table v m 0 c.args.v) y)) heap
+      index = index_by (IsNested c.wake.new.index) (map cell_id c.self.inside.mems.items) (key_of v) (key_of w) (mem_marked (heap_of k) m c.args.v) (heap_by k.posts k.table w) (λ y. key_by v w y (ap (λ (f : ℕ → Option WebCell). web_label f y) e ∙ label_same v _ (core_same k.posts k.table v m 0 c.args.v (inr refl)) y)) heap
           (index_marked _ _ _ _ x (IsNested c.wake.new.index) m c.args.v _ s key now);
     }
 
@@ -52,17 +53,22 @@ pub returns : goal.returns
 returns c =
     let m = cell_id c.args.m in
     let k = kept_by c.self.inside in
-    let v = web_by k.web in
+    let v = merged_by k.web in
     let i = mem_there k.posts k.table v m (subst (λ (z : KeptWeb). IsMem (heap_of z) m) (sym c.self.view_is) c.requires) in
-    ap (λ (f : ℕ → Option WebCell). heap_by k.posts k.table f) c.set_mark.ensures ∙ mem_marked_heap k.posts k.table v m c.args.v i.1 (web_formed (cells_by k.web))
+    ap (λ (f : ℕ → Option WebCell). heap_by k.posts k.table f) c.set_mark.ensures ∙ mem_marked_heap k.posts k.table v m c.args.v i.1 (merged_formed k.web)
     ∙ ap (λ (z : KeptWeb). mem_marked (heap_of z) m c.args.v) c.self.view_is
 
 pub wake-requires : goal.wake-requires
 wake-requires c =
     let m = cell_id c.args.m in
     let k = kept_by c.self.inside in
-    let v = web_by k.web in
+    let v = merged_by k.web in
     let s = subst (λ (z : KeptWeb). IsMem (heap_of z) m) (sym c.self.view_is) c.requires in
     let x = c.self.invariant.index in
-    let rules = subst (λ (z : KeptWeb). HasRules z.table (web_by z.web) m c.place_of_rules-key.result) (sym c.self.view_is) c.place_of_rules-key.ensures in
+    let rules = subst (λ (z : KeptWeb). HasRules z.table (merged_by z.web) m c.place_of_rules-key.result) (sym c.self.view_is) c.place_of_rules-key.ensures in
     (x.nest, x.nested, subst (λ z. z < x.nest.keys) (key_is v m c.place_of_rules-key.result rules.0) (below _ _ _ _ x m s))
+
+pub set_mark-requires-clause-there : goal.set_mark-requires-clause-there
+set_mark-requires-clause-there c =
+    let m = cell_id c.args.m in let k = kept_by c.self.inside in
+    (mem_there k.posts k.table (merged_by k.web) m (subst (λ (z : KeptWeb). IsMem (heap_of z) m) (sym c.self.view_is) c.requires)).0
