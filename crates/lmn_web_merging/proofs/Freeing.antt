@@ -1,7 +1,7 @@
 -- Membranes that have keepers are freed, and the atoms of a membrane.
-use Rattle.std.proofs.Common.{◌≡◌, ◌≢◌, ◌⊎◌, ℕ, zero, suc, ◌==◌, ◌<◌, Bool, true, false, cond, List, [], ◌∷◌, length, get_or, set, Option, Some, None, IsSome, refl, sym, ap, subst, ◌∙◌, inl, inr, arith, length-set, get_or-set_same}
+use Rattle.std.proofs.Common.{◌≡◌, ◌≢◌, ℕ, zero, suc, ◌==◌, Bool, true, false, cond, List, [], length, Option, Some, None, IsSome, refl, sym, ap, subst, ◌∙◌, inl, inr, arith, length-set, get_or-set_same}
 use Rattle.std.proofs.lemmas.Bool.{cases_eq}
-use Rattle.std.specs.Prelude.{slice_index_or, slice_set}
+use Rattle.std.specs.Prelude.{slice_index_or}
 use Rattle.std.specs.Option.{option_map}
 use Rattle.lmn_base.specs.Lists.{In}
 use Rattle.lmn_base.proofs.Lists.{link_within}
@@ -11,10 +11,9 @@ use Rattle.lmn_store_heap.proofs.Common.{decide_in}
 use Rattle.lmn_web.specs.declared.kind.CellKind.{CellKind}
 use Rattle.lmn_web.specs.declared.kind.CellKind.TheVariants.{Atom, Membrane}
 use Rattle.lmn_web.specs.Webs.{WebCell, web_kind, kind_at, home_of, home_at, partners_of, partner_at, arity_at, marks_of, cells_of, cells_in, with_partner, with_mark, with_list, linked, cleared, parted, StandOnce, IsPaired, IsLoose, WithoutAtoms}
-use Rattle.lmn_web.proofs.ListedLemmas.{kind_cases}
 use Rattle.lmn_web_merging.specs.Keepers.{led_from, keeper, port_mark, retires, is_retired, seen_cell, looked_at, seen, RETIRED}
 use Rattle.lmn_web_merging.specs.Moves.{AreKept, Like}
-use Rattle.lmn_web_merging.proofs.Seen.{back, keepers_differ, keeper_kind, own_keeper, led_keeper, atom_keeper, seen_cells, not_seen, look_retired, seen_partner, atom_partners}
+use Rattle.lmn_web_merging.proofs.Seen.{keepers_differ, keeper_kind, led_keeper, atom_keeper, seen_cells, not_seen, look_retired}
 use Rattle.lmn_web_merging.proofs.Relisting.{retired_by, look_at_list, look_with_atoms}
 use Rattle.lmn_web_merging.proofs.Sending.{list_kind, list_ports, list_home, list_at_kind, list_at_other}
 use Rattle.lmn_web_merging.proofs.Single.{loose_there, loose_home, loose_bare}

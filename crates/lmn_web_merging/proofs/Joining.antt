@@ -1,5 +1,5 @@
 -- The ports of a membrane and of a keeper are joined, and told.
-use Rattle.std.proofs.Common.{◌≡◌, ◌≢◌, ℕ, ◌<◌, ◌==◌, true, false, List, [], length, Option, Some, None, refl, sym, ap, subst, ◌∙◌, inl, inr, arith, length-set, get_or-set_same, get_or-set_other}
+use Rattle.std.proofs.Common.{◌≡◌, ◌≢◌, ℕ, true, false, List, [], length, Option, Some, None, refl, sym, ap, subst, ◌∙◌, inl, inr, arith, length-set, get_or-set_same, get_or-set_other}
 use Rattle.std.proofs.lemmas.Bool.{cases_eq}
 use Rattle.std.specs.Prelude.{slice_index_or, slice_set}
 use Rattle.std.specs.Option.{option_map}
@@ -7,9 +7,8 @@ use Rattle.lmn_store_heap.specs.Heap.{alter}
 use Rattle.lmn_store_heap.proofs.Listing.{alter_at, alter_away, alter_keeps}
 use Rattle.lmn_web.specs.declared.kind.CellKind.TheVariants.{Membrane}
 use Rattle.lmn_web.specs.Webs.{WebCell, web_kind, kind_at, partners_of, partner_at, arity_at, marks_of, with_partner, with_mark, linked, cleared, joined, IsPaired}
-use Rattle.lmn_web_merging.specs.Keepers.{keeper, port_mark, is_retired, LENT, RETIRED}
-use Rattle.lmn_web_merging.specs.Moves.{AreKept, Trades, Traded, Like}
-use Rattle.lmn_web_merging.proofs.Seen.{keepers_differ, own_keeper, led_keeper, back, keeper_kind}
+use Rattle.lmn_web_merging.specs.Keepers.{port_mark, is_retired, LENT, RETIRED}
+use Rattle.lmn_web_merging.specs.Moves.{AreKept, Traded, Like}
 use Rattle.lmn_web_merging.proofs.Trading.{like_same, like_twice, retired_mark}
 use Rattle.lmn_base.proofs.Numbers.{equal_when}
 
@@ -29,7 +28,7 @@ like_told : (n : ℕ) (o : Option WebCell) → Like (told n o) o
 like_told n None = ([], [], refl)
 like_told n (Some c) = (c.partners, slice_set c.marks 1 n, refl)
 
-ported_arity : (p : Option (ℕ × ℕ)) (o : Option WebCell) → length (partners_of (ported p o)) ≡ length (partners_of o)
+pub ported_arity : (p : Option (ℕ × ℕ)) (o : Option WebCell) → length (partners_of (ported p o)) ≡ length (partners_of o)
 ported_arity p None = refl
 ported_arity p (Some c) = length-set c.partners 0 p
 
@@ -37,7 +36,7 @@ told_arity : (n : ℕ) (o : Option WebCell) → partners_of (told n o) ≡ partn
 told_arity n None = refl
 told_arity n (Some c) = refl
 
-ported_marks : (p : Option (ℕ × ℕ)) (o : Option WebCell) → marks_of (ported p o) ≡ marks_of o
+pub ported_marks : (p : Option (ℕ × ℕ)) (o : Option WebCell) → marks_of (ported p o) ≡ marks_of o
 ported_marks p None = refl
 ported_marks p (Some c) = refl
 
@@ -49,7 +48,7 @@ told_first : (n : ℕ) (o : Option WebCell) → slice_index_or (marks_of (told n
 told_first n None = refl
 told_first n (Some c) = get_or-set_other c.marks 1 0 n 0 (λ e. omega (arith, e))
 
-ported_at : (p : Option (ℕ × ℕ)) (o : Option WebCell) → length (partners_of o) ≡ 1 → slice_index_or (partners_of (ported p o)) 0 None ≡ p
+pub ported_at : (p : Option (ℕ × ℕ)) (o : Option WebCell) → length (partners_of o) ≡ 1 → slice_index_or (partners_of (ported p o)) 0 None ≡ p
 ported_at p None e = absurd (omega (arith, e))
 ported_at p (Some c) e = get_or-set_same c.partners 0 p None (omega (arith, e))
 

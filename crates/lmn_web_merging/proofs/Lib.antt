@@ -4,6 +4,7 @@ pub mod Relisting
 pub mod Single
 pub mod Writing
 pub mod Trading
+pub mod Leaving
 pub mod Freeing
 pub mod Labelled
 pub mod Joining

@@ -1,10 +1,10 @@
 -- A merge whole: what goes one by one, and what goes over.
-use Rattle.std.proofs.Common.{◌≡◌, ◌≢◌, ℕ, true, false, List, [], ◌++◌, Option, Some, None, sym, ap, subst, ◌∙◌}
+use Rattle.std.proofs.Common.{◌≡◌, ◌≢◌, ◌⊎◌, ℕ, true, false, List, [], ◌++◌, Option, Some, sym, ap, subst, ◌∙◌}
 use Rattle.lmn_web.specs.declared.kind.CellKind.{CellKind}
 use Rattle.lmn_web.specs.declared.kind.CellKind.TheVariants.{Atom, Membrane}
 use Rattle.lmn_web.specs.Webs.{WebCell, kind_at, home_at, partner_at, cells_in, StandOnce, IsPaired}
 use Rattle.lmn_web_merging.specs.Keepers.{keeper, port_mark, is_retired, LENT, seen, MovesAll}
-use Rattle.lmn_web_merging.specs.Moves.{AreKept, Moves, Relists, Trades}
+use Rattle.lmn_web_merging.specs.Moves.{AreKept, Moves, Relists, MayTrade}
 use Rattle.lmn_web_merging.proofs.Seen.{keeper_kind, seen_cells, seen_once, there_seen}
 use Rattle.lmn_web_merging.proofs.Sending.{kind_there}
 use Rattle.lmn_web_merging.proofs.Relisting.{seen_relists, relists_kept, moves_all}
@@ -58,15 +58,15 @@ module _ (w : ℕ → Option WebCell) (l : StandOnce w) (r : IsPaired w) (a : Ar
       pub went_all : MovesAll (seen w) (seen u) m n
       went_all = moves_all (seen w) (seen u) m n (seen_lists (λ us vs. Relists (seen w) (seen u) m n us vs) (seen_relists w u l r a m n xs ys (n_out w r a m n km tm kn tn apart inside outside) (keeper_kind w r a n kn) went))
 
-  module _ (alone : partner_at w n 0 ≡ None) (given : (k : ℕ) → partner_at w m 0 ≡ Some (k, 0) → is_retired (w k) ≡ true) where
+  module _ (idle : (keeper w n ≡ n) ⊎ ((k : CellKind) → cells_in w n k ≡ [])) (given : (k : ℕ) → partner_at w m 0 ≡ Some (k, 0) → is_retired (w k) ≡ true) where
     -- all of n may go before,
     pub first_out : home_at w S ≢ Some D
-    first_out e = source_out w r a m n km tm kn tn apart inside outside alone given (ap (home_at w) (sym qs) ∙ e ∙ ap (λ z. Some z) qt)
+    first_out e = source_out w r a m n km tm kn tn apart inside outside idle given (ap (home_at w) (sym qs) ∙ e ∙ ap (λ z. Some z) qt)
 
     pub differ_back : D ≢ S
     differ_back e = differ (sym e)
 
-    module _ (v u : ℕ → Option WebCell) (f : Moves w v D S Atom (cells_in w D Atom) [] (cells_in w D Atom ++ cells_in w S Atom)) (g : Moves v u D S Membrane (cells_in v D Membrane) [] (cells_in v D Membrane ++ cells_in v S Membrane)) (once : StandOnce u) where
+    module _ (v u : ℕ → Option WebCell) (f : Moves w v D S Atom (cells_in w D Atom) [] (cells_in w D Atom ++ cells_in w S Atom)) (g : Moves v u D S Membrane (cells_in v D Membrane) [] (cells_in v D Membrane ++ cells_in v S Membrane)) where
       came : Relists w u (keeper w n) (keeper w m) xs ys
       came =
           let one = relists_both w l D S differ_back first_out kind_d kind_s v u (cells_in w D Atom ++ cells_in w S Atom) (cells_in v D Membrane ++ cells_in v S Membrane) f g in
@@ -77,12 +77,12 @@ module _ (w : ℕ → Option WebCell) (l : StandOnce w) (r : IsPaired w) (a : Ar
           (subst (λ us. Relists w u D S (cells_in w D Atom ++ cells_in w S Atom) us) lists one)
 
       -- then the lists may go over,
-      pub trades : Trades u m n
-      trades = may_go w r a m n km tm kn tn apart inside outside alone given l u once xs ys came
+      pub trades : MayTrade u m n
+      trades = may_go w r a m n km tm kn tn apart inside outside idle given l u xs ys came
 
       -- and all has moved
       pub traded_all : (t : ℕ → Option WebCell) → MovesAll (seen u) (seen t) m n → MovesAll (seen w) (seen t) m n
       traded_all t b =
-          let before = fronted w r a m n km tm kn tn apart inside outside alone given l u once xs ys came in
+          let before = fronted w r a m n km tm kn tn apart inside outside idle given l u xs ys came in
           let before2 = seen_lists (λ us vs. Relists (seen w) (seen u) n m us vs) before in
           merged_all (seen w) (seen u) (seen t) m n (seen_once w r a l) outside inside (there_seen w n (kind_there (w n) kn) tn) before2 b apart (there_seen w m (kind_there (w m) km) tm)

@@ -1,19 +1,16 @@
 -- Homes and lists change: what is seen of that.
-use Rattle.std.proofs.Common.{◌≡◌, ◌≢◌, ◌⊎◌, ℕ, Bool, true, false, cond, List, [], ◌∷◌, ◌++◌, length, Option, Some, None, IsSome, refl, sym, ap, subst, ◌∙◌, inl, inr}
+use Rattle.std.proofs.Common.{◌≡◌, ◌≢◌, ◌⊎◌, ℕ, Bool, true, false, cond, List, [], ◌++◌, length, Option, Some, None, IsSome, refl, sym, ap, subst, ◌∙◌, inl, inr}
 use Rattle.std.proofs.lemmas.Bool.{cases_eq}
 use Rattle.std.specs.Prelude.{slice_index_or}
 use Rattle.std.specs.Option.{option_map}
-use Rattle.lmn_base.proofs.Truth.{bool_cases}
 use Rattle.lmn_store_heap.specs.Heap.{alter}
-use Rattle.lmn_store_heap.specs.Lists.{without}
 use Rattle.lmn_store_heap.proofs.Listing.{alter_at, alter_away, alter_keeps}
 use Rattle.lmn_web.specs.declared.kind.CellKind.{CellKind}
 use Rattle.lmn_web.specs.declared.kind.CellKind.TheVariants.{Atom, Membrane}
-use Rattle.lmn_web.specs.Webs.{WebCell, web_kind, kind_at, home_of, home_at, partners_of, partner_at, arity_at, marks_of, cells_of, cells_in, with_home, with_list, relisted, added_last, unlinked, StandOnce, IsPaired}
-use Rattle.lmn_web.proofs.ListedLemmas.{kind_cases}
+use Rattle.lmn_web.specs.Webs.{WebCell, web_kind, kind_at, home_of, home_at, partners_of, partner_at, marks_of, cells_of, cells_in, with_home, with_list, relisted, StandOnce, IsPaired}
 use Rattle.lmn_web_merging.specs.Keepers.{led_from, keeper, port_mark, retires, is_retired, seen_cell, looked_at, seen, relisted_both, MovesAll}
 use Rattle.lmn_web_merging.specs.Moves.{AreKept, with_lists, Relists}
-use Rattle.lmn_web_merging.proofs.Seen.{back, keepers_differ, homed, seen_kind, seen_home, seen_cells, home_seen, home_under, is_seen}
+use Rattle.lmn_web_merging.proofs.Seen.{back, keepers_differ, seen_kind, home_seen, home_under}
 use Rattle.lmn_web_merging.proofs.Sending.{home_kind, list_kind, home_ports, list_ports, list_home, home_cells, list_at_kind, list_at_other, kind_there}
 
 -- One cell

@@ -1,6 +1,6 @@
 -- Cells go from one list to another, one after the other.
 use Rattle.std.proofs.Common.{◌≡◌, ◌≢◌, ◌⊎◌, ℕ, ◌<◌, List, [], ◌∷◌, ◌++◌, length, Option, Some, None, IsSome, IfSome, is_some, refl, sym, ap, subst, ◌∙◌, inl, inr, arith}
-use Rattle.std.proofs.lemmas.Bool.{cases_eq, eq-eqb}
+use Rattle.std.proofs.lemmas.Bool.{eq-eqb}
 use Rattle.std.proofs.lemmas.List.{append_assoc, append-nil, length-append}
 use Rattle.std.specs.Option.{option_map}
 use Rattle.lmn_base.specs.Lists.{In}
@@ -14,8 +14,8 @@ use Rattle.lmn_web.specs.declared.kind.CellKind.{CellKind}
 use Rattle.lmn_web.specs.declared.kind.CellKind.TheVariants.{Atom, Membrane}
 use Rattle.lmn_web.specs.Webs as web
 use Rattle.lmn_web.specs.Webs.{WebCell, web_kind, kind_at, home_at, arity_at, cells_in, cells_of, web_label, with_home, with_list, relisted, unlinked, StandOnce}
-use Rattle.lmn_web.proofs.ListedLemmas.{kind_cases, from_in}
-use Rattle.lmn_web_merging.specs.Moves.{Goes, Moves, SendsLast, SendsFirst, with_lists, Relists}
+use Rattle.lmn_web.proofs.ListedLemmas.{from_in}
+use Rattle.lmn_web_merging.specs.Moves.{Goes, Moves, SendsLast, SendsFirst}
 
 -- a cell with a home is there
 pub home_some : (o : Option WebCell) → IsSome (web.home_of o) → IsSome o

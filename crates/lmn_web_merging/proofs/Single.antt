@@ -1,8 +1,7 @@
 -- A cell comes or goes that is joined to nothing, stands nowhere and holds nothing.
-use Rattle.std.proofs.Common.{◌≡◌, ◌≢◌, ℕ, zero, suc, ◌==◌, Bool, true, false, cond, List, [], ◌∷◌, ◌++◌, length, replicate, Option, Some, None, IsSome, Result, Ok, Err, MatchResult, refl, sym, ap, subst, ◌∙◌, inl, inr}
+use Rattle.std.proofs.Common.{◌≡◌, ◌≢◌, ℕ, zero, suc, true, false, List, [], length, replicate, Option, Some, None, IsSome, Result, Ok, Err, MatchResult, refl, sym, ap, subst, ◌∙◌, inl, inr}
 use Rattle.std.proofs.lemmas.Bool.{cases_eq}
 use Rattle.std.specs.Prelude.{slice_index_or}
-use Rattle.std.specs.Option.{option_map}
 use Rattle.lmn_store_heap.specs.Heap.{alter}
 use Rattle.lmn_store_heap.proofs.Listing.{alter_at, alter_away}
 use Rattle.lmn_web.specs.declared.kind.CellKind.{CellKind}
@@ -10,7 +9,7 @@ use Rattle.lmn_web.specs.declared.kind.CellKind.TheVariants.{Atom, Membrane}
 use Rattle.lmn_web.specs.Webs.{WebCell, web_kind, kind_at, home_of, home_at, partners_of, partner_at, arity_at, marks_of, cells_of, cells_in, new_cell, IsPaired, IsLoose}
 use Rattle.lmn_web_merging.specs.Keepers.{led_from, keeper, port_mark, is_retired, looked_at, seen}
 use Rattle.lmn_web_merging.specs.Moves.{AreKept}
-use Rattle.lmn_web_merging.proofs.Seen.{own_keeper, atom_keeper, keepers_differ, seen_there, seen_home, seen_cells, atom_partners, no_home_under}
+use Rattle.lmn_web_merging.proofs.Seen.{own_keeper, keepers_differ, seen_there, seen_cells, atom_partners, no_home_under}
 
 -- a cell that is joined to nothing, stands nowhere and holds nothing, or none
 pub record Plain (o : Option WebCell) : Type 0 where

@@ -1,20 +1,18 @@
 -- The lists of one membrane go over to another.
-use Rattle.std.proofs.Common.{◌≡◌, ◌≢◌, ◌⊎◌, ℕ, zero, suc, ◌==◌, ◌<◌, Bool, true, false, cond, List, [], ◌∷◌, ◌++◌, length, set, get_or, Option, Some, None, IsSome, refl, sym, ap, subst, ◌∙◌, inl, inr, arith, length-set, get_or-set_same}
+use Rattle.std.proofs.Common.{◌≡◌, ◌≢◌, ℕ, ◌==◌, Bool, true, false, cond, List, [], ◌++◌, Option, Some, None, refl, sym, ap, subst, ◌∙◌, inl, inr, arith}
 use Rattle.std.proofs.lemmas.Bool.{cases_eq}
 use Rattle.std.specs.Prelude.{slice_index_or, slice_set}
 use Rattle.std.specs.Option.{option_map}
 use Rattle.lmn_base.specs.Lists.{In}
 use Rattle.lmn_base.proofs.Lists.{link_within}
-use Rattle.lmn_base.proofs.Truth.{bool_cases}
 use Rattle.lmn_store_heap.specs.Heap.{alter}
-use Rattle.lmn_store_heap.proofs.Listing.{alter_at, alter_away, alter_keeps}
+use Rattle.lmn_store_heap.proofs.Listing.{alter_at, alter_away}
 use Rattle.lmn_web.specs.declared.kind.CellKind.{CellKind}
 use Rattle.lmn_web.specs.declared.kind.CellKind.TheVariants.{Atom, Membrane}
-use Rattle.lmn_web.specs.Webs.{WebCell, web_kind, kind_at, home_of, home_at, partners_of, partner_at, arity_at, marks_of, cells_of, cells_in, with_home, with_partner, with_mark, linked, cleared, joined, StandOnce, IsPaired}
-use Rattle.lmn_web.proofs.ListedLemmas.{kind_cases}
+use Rattle.lmn_web.specs.Webs.{WebCell, web_kind, kind_at, home_of, home_at, partners_of, partner_at, marks_of, cells_of, cells_in, with_home, with_partner, with_mark, linked, IsPaired}
 use Rattle.lmn_web_merging.specs.Keepers.{led_from, keeper, port_mark, retires, is_retired, LENT, RETIRED, seen_partners, seen_cell, looked_at, seen, relisted_both, MovesAll}
 use Rattle.lmn_web_merging.specs.Moves.{AreKept, Trades, Traded, Like, redone}
-use Rattle.lmn_web_merging.proofs.Seen.{back, keepers_differ, keeper_kind, own_keeper, led_keeper, homed, seen_home, seen_cells, home_under, home_seen, not_seen, seen_first, seen_port_mark}
+use Rattle.lmn_web_merging.proofs.Seen.{back, keepers_differ, keeper_kind, own_keeper, led_keeper, seen_cells, home_under, home_seen, not_seen, seen_first, seen_port_mark}
 use Rattle.lmn_web_merging.proofs.Relisting.{retired_by}
 
 -- each is like itself,

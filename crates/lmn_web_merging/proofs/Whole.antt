@@ -6,10 +6,9 @@ use Rattle.std.specs.Option.{option_map}
 use Rattle.lmn_base.specs.Lists.{In}
 use Rattle.lmn_web.specs.declared.kind.CellKind.{CellKind}
 use Rattle.lmn_web.specs.declared.kind.CellKind.TheVariants.{Atom, Membrane}
-use Rattle.lmn_web.specs.Webs as web
-use Rattle.lmn_web.specs.Webs.{WebCell, web_kind, kind_at, home_of, home_at, partner_at, marks_of, cells_in, cells_of, with_home, with_list, StandOnce, IsPaired}
+use Rattle.lmn_web.specs.Webs.{WebCell, kind_at, home_of, home_at, partner_at, marks_of, cells_in, cells_of, with_home, with_list, StandOnce, IsPaired}
 use Rattle.lmn_web_merging.specs.Keepers.{keeper, port_mark, is_retired, LENT, seen, relisted_both, MovesAll}
-use Rattle.lmn_web_merging.specs.Moves.{AreKept, Moves, Relists, with_lists, Trades}
+use Rattle.lmn_web_merging.specs.Moves.{AreKept, Moves, Relists, with_lists, MayTrade}
 use Rattle.lmn_web_merging.proofs.Seen.{back, keepers_differ, keeper_kind, own_keeper, home_seen, homed, seen_kind, seen_port_mark, led_keeper}
 use Rattle.lmn_web_merging.proofs.Sending.{list_at_other}
 use Rattle.lmn_web_merging.proofs.Relisting.{both_stand, keeper_same, retired_same, partner_same, homes_same, none_left, seen_relists, relists_kept}
@@ -166,11 +165,8 @@ module _ (w : ℕ → Option WebCell) (r : IsPaired w) (a : AreKept w) (m n : �
     ])
   ]
 
-  module _ (alone : partner_at w n 0 ≡ None) (given : (k : ℕ) → partner_at w m 0 ≡ Some (k, 0) → is_retired (w k) ≡ true) where
-    own_n : D ≡ n
-    own_n = own_keeper w n alone
-
-    -- the other way round where n has no keeper
+  module _ (idle : (keeper w n ≡ n) ⊎ ((k : CellKind) → cells_in w n k ≡ [])) (given : (k : ℕ) → partner_at w m 0 ≡ Some (k, 0) → is_retired (w k) ≡ true) where
+    -- the other way round
     pub source_out : home_at w S ≢ Some D
     source_out e = by (partner_at w m 0) refl
       where
@@ -181,7 +177,7 @@ module _ (w : ℕ → Option WebCell) (r : IsPaired w) (a : AreKept w) (m n : �
             let gone = given p.0 (q ∙ ap (λ i. Some (p.0, i)) j) in
             absurd (let z : None ≡ Some D = sym (a.homeless p.0 gone) ∙ ap (home_at w) (sym (led_keeper w m p km q)) ∙ e in cc)
 
-    module _ (l : StandOnce w) (v : ℕ → Option WebCell) (once : StandOnce v) (xs ys : List ℕ) (s : Relists w v D S xs ys) where
+    module _ (l : StandOnce w) (v : ℕ → Option WebCell) (xs ys : List ℕ) (s : Relists w v D S xs ys) where
       kS : kind_at w S ≡ Membrane
       kS = keeper_kind w r a m km
 
@@ -189,21 +185,39 @@ module _ (w : ℕ → Option WebCell) (r : IsPaired w) (a : AreKept w) (m n : �
       pub fronted : Relists (seen w) (seen v) n m xs ys
       fronted = seen_relists w v l r a n m xs ys m_out kS s
 
+      -- n isn't what keeps the lists of m
+      n_not_S : n ≢ S
+      n_not_S e = by (partner_at w m 0) refl
+        where
+          by : (o : Option (ℕ × ℕ)) → partner_at w m 0 ≡ o → ⊥
+          by None q = apart (sym (own_keeper w m q) ∙ sym e)
+          by (Some p) q =
+              let j = (a.joined m 0 p.0 p.1 km q).1 in let at : n ≡ p.0 = e ∙ led_keeper w m p km q in
+              absurd (let z : false ≡ true = sym tn ∙ ap (λ y. is_retired (w y)) at ∙ given p.0 (q ∙ ap (λ i. Some (p.0, i)) j) in cc)
+
+      -- its cell keeps nothing then
+      nothing : (k : CellKind) → cells_in v n k ≡ []
+      nothing k = elim (cases_eq D n) [
+        | inl q ↦ ap (λ z. cells_in v z k) (sym q) ∙ none_left w v l r a n m xs ys m_out kS s k
+        | inr d ↦ elim idle [
+          | inl q ↦ absurd (d q)
+          | inr none ↦ ap (λ (o : Option WebCell). cells_of o k) (s.others n (λ q. d (sym q)) n_not_S (a.apart n)) ∙ none k
+        ]
+      ]
+
       -- and then the lists may go over
-      pub may_go : Trades v m n
+      pub may_go : MayTrade v m n
       may_go =
           let same = both_stand w v l r a n m xs ys m_out kS s in
           record {
             kept = relists_kept w v l r a n m xs ys m_out kS s tn tm;
-            once = once;
             source = same.kinds m ∙ km;
             source_there = retired_same w v same m ∙ tm;
             target = same.kinds n ∙ kn;
             target_there = retired_same w v same n ∙ tn;
             apart = apart;
-            alone = partner_same w v same n 0 ∙ alone;
             given = λ k e. retired_same w v same k ∙ given k (sym (partner_same w v same m 0) ∙ e);
-            empty = λ k. ap (λ z. cells_in v z k) (sym own_n) ∙ none_left w v l r a n m xs ys m_out kS s k;
-            inside = λ e. m_out (sym (homes_same w v l r a n m xs ys m_out kS s m m_out) ∙ e ∙ ap (λ z. Some z) (sym own_n));
+            empty = λ k. ap (λ z. cells_in v z k) (keeper_same w v same n) ∙ none_left w v l r a n m xs ys m_out kS s k;
+            idle = nothing;
             outside = λ e. n_out (sym (homes_same w v l r a n m xs ys m_out kS s n (a.apart n)) ∙ e ∙ ap (λ z. Some z) (keeper_same w v same m));
           }

@@ -1,20 +1,18 @@
 -- Marks and ports of atoms change, and atoms are freed: what is seen of that.
-use Rattle.std.proofs.Common.{◌≡◌, ◌≢◌, ◌⊎◌, ℕ, zero, suc, ◌==◌, ◌<◌, ◌≤◌, Bool, true, false, cond, List, [], ◌∷◌, length, Option, Some, None, IsSome, refl, sym, ap, subst, ◌∙◌, inl, inr, arith, length-set}
+use Rattle.std.proofs.Common.{◌≡◌, ◌≢◌, ℕ, ◌==◌, Bool, true, false, cond, List, [], ◌∷◌, length, Option, Some, None, refl, sym, ap, subst, ◌∙◌, inl, inr, arith, length-set}
 use Rattle.std.proofs.lemmas.Bool.{cases_eq}
 use Rattle.std.specs.Prelude.{slice_index_or, slice_set}
 use Rattle.std.specs.Option.{option_map}
-use Rattle.lmn_base.specs.Lists.{In}
 use Rattle.lmn_store_heap.specs.Heap.{alter}
 use Rattle.lmn_store_heap.proofs.Listing.{alter_at, alter_away, alter_keeps}
-use Rattle.lmn_store_heap.proofs.Common.{decide_in}
 use Rattle.lmn_web.specs.declared.kind.CellKind.{CellKind}
 use Rattle.lmn_web.specs.declared.kind.CellKind.TheVariants.{Atom, Membrane}
-use Rattle.lmn_web.specs.Webs.{WebCell, web_kind, kind_at, home_of, home_at, partners_of, partner_at, arity_at, marks_of, cells_of, cells_in, with_partner, with_mark, with_list, linked, cleared, joined, StandOnce, IsPaired, WithoutAtoms}
+use Rattle.lmn_web.specs.Webs.{WebCell, web_kind, kind_at, home_of, home_at, partners_of, partner_at, marks_of, cells_of, cells_in, with_partner, with_mark, linked, cleared, joined, IsPaired}
 use Rattle.lmn_web.proofs.ListedLemmas.{kind_cases}
 use Rattle.lmn_web_merging.specs.Keepers.{led_from, keeper, port_mark, retires, is_retired, seen_partners, seen_marks, seen_cell, looked_at, seen, LENT}
 use Rattle.lmn_web_merging.specs.Moves.{AreKept}
 use Rattle.lmn_web_merging.proofs.Seen.{not_atom, atom_partners, atom_keeper, own_keeper, led_keeper, partner_kind}
-use Rattle.lmn_web_merging.proofs.Relisting.{retired_by, look_at_list, look_with_atoms}
+use Rattle.lmn_web_merging.proofs.Relisting.{retired_by}
 
 -- the keeper of a membrane is one
 pub keeper_membrane : (w : ℕ → Option WebCell) → AreKept w → (m : ℕ) → kind_at w m ≡ Membrane → kind_at w (keeper w m) ≡ Membrane
@@ -48,7 +46,7 @@ keeps_mark i n = record { kind = kind; home = home; cells = cells }
     cells (Some c) Atom = refl
     cells (Some c) Membrane = refl
 
-keeps_partner : (i : ℕ) (p : Option (ℕ × ℕ)) → Keeps (with_partner i p)
+pub keeps_partner : (i : ℕ) (p : Option (ℕ × ℕ)) → Keeps (with_partner i p)
 keeps_partner i p = record { kind = kind; home = home; cells = cells }
   where
     kind : (o : Option WebCell) → web_kind (option_map (with_partner i p) o) ≡ web_kind o

@@ -1,5 +1,5 @@
 -- A web in which the lists of a membrane may be kept by another cell: what it holds, seen through that.
-use Rattle.std.specs.Prelude.{◌≡◌, ◌≢◌, ◌==◌, Bool, true, false, ℕ, List, [], ◌∷◌, ◌++◌, Option, Some, None, slice_index_or, if◌then◌else◌}
+use Rattle.std.specs.Prelude.{◌≡◌, ◌≢◌, ◌==◌, Bool, false, ℕ, List, [], ◌∷◌, ◌++◌, Option, Some, None, slice_index_or, if◌then◌else◌}
 use Rattle.std.specs.Option.{option_map}
 use Rattle.lmn_web_cells.specs.Rows.{Row}
 use Rattle.lmn_web.specs.declared.kind.CellKind.{CellKind}

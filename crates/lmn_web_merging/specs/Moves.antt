@@ -1,12 +1,12 @@
 -- Words of the invariant of a merging web, and of private functions: what holds of keepers, and what a merge does step by step.
-use Rattle.std.specs.Prelude.{◌≡◌, ◌≢◌, ◌⊎◌, Bool, true, false, ℕ, List, [], ◌++◌, length, Option, Some, None, slice_index_or}
+use Rattle.std.specs.Prelude.{◌≡◌, ◌≢◌, ◌⊎◌, true, false, ℕ, List, [], ◌++◌, length, Option, Some, None, slice_index_or}
 use Rattle.std.specs.Option.{option_map}
 use Rattle.lmn_base.specs.Lists.{In}
 use Rattle.lmn_store_heap.specs.Lists.{without}
 use Rattle.lmn_web.specs.declared.kind.CellKind.{CellKind}
-use Rattle.lmn_web.specs.declared.kind.CellKind.TheVariants.{Atom, Membrane}
-use Rattle.lmn_web.specs.Webs.{WebCell, kind_at, home_at, arity_at, partner_at, marks_of, cells_in, with_home, with_list, StandOnce, IsPaired}
-use Rattle.lmn_web_merging.specs.Keepers.{keeper, port_mark, is_retired, LENT, RETIRED}
+use Rattle.lmn_web.specs.declared.kind.CellKind.TheVariants.{Membrane}
+use Rattle.lmn_web.specs.Webs.{WebCell, kind_at, home_at, arity_at, partner_at, marks_of, cells_in, with_home, with_list, StandOnce}
+use Rattle.lmn_web_merging.specs.Keepers.{keeper, port_mark, is_retired, seen, LENT, RETIRED}
 
 -- Ports of membranes join them with membranes, by one port each. A membrane that has a keeper tells so, and of two that are there one tells that its cell is lent. One that is there no more stands nowhere, and the lists of its keeper are empty. No membrane stands in a list of its own.
 pub record AreKept (w : ℕ → Option WebCell) : Type 0 where
@@ -60,6 +60,30 @@ pub record Relists (w v : ℕ → Option WebCell) (m n : ℕ) (xs ys : List ℕ)
   pub target : v n ≡ option_map (with_lists xs ys) (w n)
   pub moved : (x : ℕ) → home_at w x ≡ Some m → v x ≡ option_map (with_home (Some n)) (w x)
   pub others : (x : ℕ) → x ≢ m → x ≢ n → home_at w x ≢ Some m → v x ≡ w x
+
+-- The lists of m may go over to n, whose lists are empty, as are those that its cell keeps; where m has a keeper, that is there no more.
+pub record MayTrade (w : ℕ → Option WebCell) (m n : ℕ) : Type 0 where
+  pub kept : AreKept w
+  pub source : kind_at w m ≡ Membrane
+  pub source_there : is_retired (w m) ≡ false
+  pub target : kind_at w n ≡ Membrane
+  pub target_there : is_retired (w n) ≡ false
+  pub apart : m ≢ n
+  pub given : (k : ℕ) → partner_at w m 0 ≡ Some (k, 0) → is_retired (w k) ≡ true
+  pub empty : (k : CellKind) → cells_in w (keeper w n) k ≡ []
+  pub idle : (k : CellKind) → cells_in w n k ≡ []
+  pub outside : home_at w n ≢ Some (keeper w m)
+
+-- v is w where n keeps its own lists, which are empty: its keeper keeps its own too, or is there no more
+pub record LetsGo (w v : ℕ → Option WebCell) (n : ℕ) : Type 0 where
+  pub kept : AreKept v
+  pub seen_same : seen v ≡ seen w
+  pub alone : partner_at v n 0 ≡ None
+  pub kind : kind_at v n ≡ Membrane
+  pub there : is_retired (v n) ≡ false
+  pub empty : (k : CellKind) → cells_in v n k ≡ []
+  pub homes : (y : ℕ) → home_at v y ≡ home_at w y
+  pub others : (y : ℕ) → y ≢ n → y ≢ keeper w n → v y ≡ w y
 
 -- The lists of m may go over to n, which has no keeper and whose lists are empty; where m has a keeper, that is there no more.
 pub record Trades (w : ℕ → Option WebCell) (m n : ℕ) : Type 0 where

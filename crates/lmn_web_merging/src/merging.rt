@@ -351,8 +351,6 @@ impl MergingWeb {
         if holds_less(&self.web, target, source) && may_trade(&self.web, m, n) {
             send_all_first(&mut self.web, target, source, CellKind::Atom);
             send_all_first(&mut self.web, target, source, CellKind::Membrane);
-            self.web.listed();
-            self.web.paired();
             trade(&mut self.web, m, n);
         } else {
             send_all_last(&mut self.web, source, target, CellKind::Atom);

@@ -1,11 +1,10 @@
-use Rattle.std.proofs.Common.{◌≡◌, ◌≢◌, ℕ, ◌==◌, ◌<◌, ◌≤◌, true, false, Option, Some, None, IsSome, refl, sym, ap, subst, ◌∙◌, arith}
+use Rattle.std.proofs.Common.{◌≡◌, ℕ, ◌<◌, ◌≤◌, true, false, Option, Some, None, sym, ap, subst, ◌∙◌, arith}
 use Rattle.std.specs.Option.{option_map}
 use Rattle.lmn_store_heap.specs.Heap.{alter}
 use Rattle.lmn_web_cells.specs.CellIds.{cell_id, port_id}
-use Rattle.lmn_web.specs.declared.kind.CellKind.TheVariants.{Atom, Membrane}
-use Rattle.lmn_web.specs.Webs.{WebCell, web_by, kind_at, arity_at, partner_at, with_mark, joined, parted, IsLoose}
-use Rattle.lmn_web_merging.specs.Keepers.{keeper, is_retired, RETIRED, seen}
-use Rattle.lmn_web_merging.specs.Moves.{AreKept, Trades, Traded}
+use Rattle.lmn_web.specs.Webs.{WebCell, web_by, partner_at, IsLoose}
+use Rattle.lmn_web_merging.specs.Keepers.{is_retired, seen}
+use Rattle.lmn_web_merging.specs.Moves.{AreKept}
 use Rattle.lmn_web_merging.proofs.Sending.{kind_there}
 use Rattle.lmn_web_merging.proofs.Single.{loose_membrane, loose_raw, freed_kept, seen_freed}
 use Rattle.lmn_web_merging.proofs.Freeing.{keeper_loose, other_loose, both_kept, seen_both, retired_kept, seen_retired}

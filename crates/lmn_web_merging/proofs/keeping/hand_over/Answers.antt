@@ -1,11 +1,10 @@
-use Rattle.std.proofs.Common.{◌≡◌, ◌≢◌, ℕ, ◌==◌, ◌<◌, ◌≤◌, true, false, Option, Some, None, IsSome, refl, sym, ap, subst, ◌∙◌, arith}
+use Rattle.std.proofs.Common.{ℕ, ◌<◌, ◌≤◌, Option, IsSome, sym, ap, subst, ◌∙◌, arith}
 use Rattle.std.specs.Option.{option_map}
 use Rattle.lmn_store_heap.specs.Heap.{alter}
-use Rattle.lmn_web_cells.specs.CellIds.{cell_id, port_id}
-use Rattle.lmn_web.specs.declared.kind.CellKind.TheVariants.{Atom, Membrane}
-use Rattle.lmn_web.specs.Webs.{WebCell, web_by, kind_at, arity_at, partner_at, with_mark, joined, parted, IsLoose}
-use Rattle.lmn_web_merging.specs.Keepers.{keeper, is_retired, LENT, RETIRED, seen}
-use Rattle.lmn_web_merging.specs.Moves.{AreKept, Trades, Traded}
+use Rattle.lmn_web_cells.specs.CellIds.{cell_id}
+use Rattle.lmn_web.specs.Webs.{WebCell, web_by, arity_at, with_mark, joined}
+use Rattle.lmn_web_merging.specs.Keepers.{LENT}
+use Rattle.lmn_web_merging.specs.Moves.{Traded}
 use Rattle.lmn_web_merging.proofs.Sending.{kind_there}
 use Rattle.lmn_web_merging.proofs.Joining.{join_arity, join_kind, mark_arity, mark_kind, own_traded}
 use Rattle.lmn_web_merging.proofs.keeping.hand_over.Goals as goal

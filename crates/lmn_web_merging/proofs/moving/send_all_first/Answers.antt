@@ -1,8 +1,6 @@
-use Rattle.std.proofs.Common.{◌≡◌, ℕ, Option, Some, IsSome, sym, subst, ◌∙◌, refl}
-use Rattle.std.specs.Option.{option_map}
-use Rattle.lmn_store_heap.specs.Lists.{from}
+use Rattle.std.proofs.Common.{ℕ, Option, IsSome, sym, subst, refl}
 use Rattle.lmn_web_cells.specs.CellIds.{cell_id}
-use Rattle.lmn_web.specs.Webs.{web_by, cells_in}
+use Rattle.lmn_web.specs.Webs.{web_by}
 use Rattle.lmn_web_merging.proofs.Sending.{kind_there, none_first, all_first, source_kind, target_kind, next_differs, next_elsewhere, last_home, last_kind, first_fewer, sent_first}
 use Rattle.lmn_web_merging.proofs.moving.send_all_first.Goals as goal
 

@@ -1,12 +1,10 @@
-use Rattle.std.proofs.Common.{◌≡◌, ℕ, List, ◌∷◌, ◌++◌, [], Some, None, IsSome, Option, refl, sym, ap, subst, ◌∙◌}
+use Rattle.std.proofs.Common.{◌≡◌, ℕ, ◌∷◌, ◌++◌, [], Some, IsSome, Option, refl, sym, ap, subst, ◌∙◌}
 use Rattle.std.specs.Option.{option_map}
 use Rattle.lmn_store_heap.specs.Lists.{from}
 use Rattle.lmn_web_cells.specs.Runs.{put_before}
 use Rattle.lmn_web.proofs.ListedLemmas.{from_in}
 use Rattle.lmn_web_cells.specs.CellIds.{cell_id}
-use Rattle.lmn_web.specs.declared.kind.CellKind.{CellKind}
 use Rattle.lmn_web.specs.Webs.{WebCell, web_by, home_at, kind_at, cells_in, unlinked, added_last, added_before, relisted}
-use Rattle.lmn_web_merging.specs.Moves.{Goes}
 use Rattle.lmn_web_merging.proofs.Sending.{home_some, out_there, out_homeless, out_kind, out_kinds, list_u, goes, kind_there, put_first}
 use Rattle.lmn_web_merging.proofs.moving.send_first.Goals as goal
 use Rattle.lmn_base.proofs.Lists.{some_is}

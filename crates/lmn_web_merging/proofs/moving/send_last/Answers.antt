@@ -1,8 +1,6 @@
-use Rattle.std.proofs.Common.{◌≡◌, ℕ, List, ◌∷◌, ◌++◌, [], Some, IsSome, Option, sym, ap, subst, ◌∙◌}
+use Rattle.std.proofs.Common.{◌≡◌, ℕ, ◌∷◌, ◌++◌, [], Some, IsSome, Option, sym, ap, subst, ◌∙◌}
 use Rattle.lmn_web_cells.specs.CellIds.{cell_id}
-use Rattle.lmn_web.specs.declared.kind.CellKind.{CellKind}
 use Rattle.lmn_web.specs.Webs.{WebCell, web_by, home_at, kind_at, cells_in, unlinked, added_last, relisted}
-use Rattle.lmn_web_merging.specs.Moves.{Goes}
 use Rattle.lmn_web_merging.proofs.Sending.{home_some, out_there, out_homeless, out_kind, out_kinds, list_u, goes}
 use Rattle.lmn_web_merging.proofs.moving.send_last.Goals as goal
 use Rattle.lmn_base.proofs.Lists.{some_is}

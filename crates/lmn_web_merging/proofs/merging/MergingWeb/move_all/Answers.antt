@@ -1,16 +1,9 @@
-use Rattle.std.proofs.Common.{◌≡◌, ◌≢◌, ◌⊎◌, ℕ, ◌<◌, ◌≤◌, ◌++◌, ◌∷◌, [], List, Option, Some, None, IsSome, IfSome, MatchResult, refl, sym, ap, subst, ◌∙◌, inl, inr, arith, length}
-use Rattle.std.specs.Prelude.{slice_index_or}
-use Rattle.std.specs.Option.{option_map}
-use Rattle.lmn_base.specs.Lists.{In}
-use Rattle.lmn_store_heap.specs.Heap.{alter}
-use Rattle.lmn_store_heap.specs.Lists.{from, after, without}
+use Rattle.std.proofs.Common.{◌≡◌, ◌≢◌, ℕ, ◌++◌, [], List, Some, sym, ap, subst, ◌∙◌}
 use Rattle.lmn_web_cells.specs.Rows.{Row}
-use Rattle.lmn_web_cells.specs.CellIds.{cell_id, port_id}
-use Rattle.lmn_web.specs.declared.kind.CellKind.{CellKind}
+use Rattle.lmn_web_cells.specs.CellIds.{cell_id}
 use Rattle.lmn_web.specs.declared.kind.CellKind.TheVariants.{Atom, Membrane}
-use Rattle.lmn_web.specs.Webs.{WebCell, web_by, web_kind, kind_at, home_at, arity_at, partner_at, marks_of, cells_in, web_label, with_label, with_mark, new_cell, joined, added_last, unlinked, relisted, IsLoose, IsPaired, StandOnce, WithoutAtoms}
-use Rattle.lmn_web_merging.specs.Keepers.{keeper, port_mark, is_retired, LENT, seen, merged_by, MovesAll}
-use Rattle.lmn_web_merging.specs.Moves.{AreKept}
+use Rattle.lmn_web.specs.Webs.{web_by, kind_at, home_at, cells_in}
+use Rattle.lmn_web_merging.specs.Keepers.{keeper, port_mark, LENT, merged_by, MovesAll}
 use Rattle.lmn_web_merging.proofs.Seen.{seen_membrane, keeper_kind}
 use Rattle.lmn_web_merging.proofs.Sending.{kind_there, source_kind, target_kind, target_home}
 use Rattle.lmn_web_merging.proofs.Merges.{kind_s, kind_d, differ, last_out, went_kept, went_all, first_out, trades, traded_all}
@@ -145,8 +138,8 @@ send_all_first-requires-clause-outside c =
     let S = cell_id c.keeper_of-source.result in let D = cell_id c.keeper_of-target.result in let qs : S ≡ keeper w m = c.keeper_of-source.ensures in let qt : D ≡ keeper w n = c.keeper_of-target.ensures in
     let own = subst (λ (z : List Row). port_mark (merged_by z) n ≢ LENT) (sym c.self.view_is) c.requires.own in
     let owned = subst (λ (z : List Row). (x : ℕ) → home_at (merged_by z) x ≡ Some m → kind_at (merged_by z) x ≡ Membrane → port_mark (merged_by z) x ≢ LENT) (sym c.self.view_is) c.requires.owned in
-    let alone = c.may_trade.ensures.alone c.if-may_trade.true in let given = c.may_trade.ensures.given c.if-may_trade.true in
-    first_out w l r a m n tm.0 tm.1 tn.0 tn.1 c.requires.apart inside outside S D qs qt alone given
+    let idle = c.may_trade.ensures.idle c.if-may_trade.true in let given = c.may_trade.ensures.given c.if-may_trade.true in
+    first_out w l r a m n tm.0 tm.1 tn.0 tn.1 c.requires.apart inside outside S D qs qt idle given
 
 pub send_all_first-requires-then-may_trade-clause-source : goal.send_all_first-requires-then-may_trade-clause-source
 send_all_first-requires-then-may_trade-clause-source c =
@@ -158,9 +151,9 @@ send_all_first-requires-then-may_trade-clause-source c =
     let S = cell_id c.keeper_of-source.result in let D = cell_id c.keeper_of-target.result in let qs : S ≡ keeper w m = c.keeper_of-source.ensures in let qt : D ≡ keeper w n = c.keeper_of-target.ensures in
     let own = subst (λ (z : List Row). port_mark (merged_by z) n ≢ LENT) (sym c.self.view_is) c.requires.own in
     let owned = subst (λ (z : List Row). (x : ℕ) → home_at (merged_by z) x ≡ Some m → kind_at (merged_by z) x ≡ Membrane → port_mark (merged_by z) x ≢ LENT) (sym c.self.view_is) c.requires.owned in
-    let alone = c.may_trade.ensures.alone c.if-may_trade.true in let given = c.may_trade.ensures.given c.if-may_trade.true in
+    let idle = c.may_trade.ensures.idle c.if-may_trade.true in let given = c.may_trade.ensures.given c.if-may_trade.true in
     let v = web_by c.send_all_first.new.web in let f = c.send_all_first.ensures in
-    source_kind w l D S Atom (λ e. differ w l r a m n tm.0 tm.1 tn.0 tn.1 c.requires.apart inside outside S D qs qt (sym e)) (first_out w l r a m n tm.0 tm.1 tn.0 tn.1 c.requires.apart inside outside S D qs qt alone given) (kind_d w l r a m n tm.0 tm.1 tn.0 tn.1 c.requires.apart inside outside S D qs qt) (kind_s w l r a m n tm.0 tm.1 tn.0 tn.1 c.requires.apart inside outside S D qs qt) v (cells_in w D Atom) [] (cells_in w D Atom ++ cells_in w S Atom) f
+    source_kind w l D S Atom (λ e. differ w l r a m n tm.0 tm.1 tn.0 tn.1 c.requires.apart inside outside S D qs qt (sym e)) (first_out w l r a m n tm.0 tm.1 tn.0 tn.1 c.requires.apart inside outside S D qs qt idle given) (kind_d w l r a m n tm.0 tm.1 tn.0 tn.1 c.requires.apart inside outside S D qs qt) (kind_s w l r a m n tm.0 tm.1 tn.0 tn.1 c.requires.apart inside outside S D qs qt) v (cells_in w D Atom) [] (cells_in w D Atom ++ cells_in w S Atom) f
 
 pub send_all_first-requires-then-may_trade-clause-home : goal.send_all_first-requires-then-may_trade-clause-home
 send_all_first-requires-then-may_trade-clause-home c =
@@ -172,9 +165,9 @@ send_all_first-requires-then-may_trade-clause-home c =
     let S = cell_id c.keeper_of-source.result in let D = cell_id c.keeper_of-target.result in let qs : S ≡ keeper w m = c.keeper_of-source.ensures in let qt : D ≡ keeper w n = c.keeper_of-target.ensures in
     let own = subst (λ (z : List Row). port_mark (merged_by z) n ≢ LENT) (sym c.self.view_is) c.requires.own in
     let owned = subst (λ (z : List Row). (x : ℕ) → home_at (merged_by z) x ≡ Some m → kind_at (merged_by z) x ≡ Membrane → port_mark (merged_by z) x ≢ LENT) (sym c.self.view_is) c.requires.owned in
-    let alone = c.may_trade.ensures.alone c.if-may_trade.true in let given = c.may_trade.ensures.given c.if-may_trade.true in
+    let idle = c.may_trade.ensures.idle c.if-may_trade.true in let given = c.may_trade.ensures.given c.if-may_trade.true in
     let v = web_by c.send_all_first.new.web in let f = c.send_all_first.ensures in
-    target_kind w l D S Atom (λ e. differ w l r a m n tm.0 tm.1 tn.0 tn.1 c.requires.apart inside outside S D qs qt (sym e)) (first_out w l r a m n tm.0 tm.1 tn.0 tn.1 c.requires.apart inside outside S D qs qt alone given) (kind_d w l r a m n tm.0 tm.1 tn.0 tn.1 c.requires.apart inside outside S D qs qt) (kind_s w l r a m n tm.0 tm.1 tn.0 tn.1 c.requires.apart inside outside S D qs qt) v (cells_in w D Atom) [] (cells_in w D Atom ++ cells_in w S Atom) f
+    target_kind w l D S Atom (λ e. differ w l r a m n tm.0 tm.1 tn.0 tn.1 c.requires.apart inside outside S D qs qt (sym e)) (first_out w l r a m n tm.0 tm.1 tn.0 tn.1 c.requires.apart inside outside S D qs qt idle given) (kind_d w l r a m n tm.0 tm.1 tn.0 tn.1 c.requires.apart inside outside S D qs qt) (kind_s w l r a m n tm.0 tm.1 tn.0 tn.1 c.requires.apart inside outside S D qs qt) v (cells_in w D Atom) [] (cells_in w D Atom ++ cells_in w S Atom) f
 
 pub send_all_first-requires-then-may_trade-clause-apart : goal.send_all_first-requires-then-may_trade-clause-apart
 send_all_first-requires-then-may_trade-clause-apart c =
@@ -198,9 +191,9 @@ send_all_first-requires-then-may_trade-clause-outside c =
     let S = cell_id c.keeper_of-source.result in let D = cell_id c.keeper_of-target.result in let qs : S ≡ keeper w m = c.keeper_of-source.ensures in let qt : D ≡ keeper w n = c.keeper_of-target.ensures in
     let own = subst (λ (z : List Row). port_mark (merged_by z) n ≢ LENT) (sym c.self.view_is) c.requires.own in
     let owned = subst (λ (z : List Row). (x : ℕ) → home_at (merged_by z) x ≡ Some m → kind_at (merged_by z) x ≡ Membrane → port_mark (merged_by z) x ≢ LENT) (sym c.self.view_is) c.requires.owned in
-    let alone = c.may_trade.ensures.alone c.if-may_trade.true in let given = c.may_trade.ensures.given c.if-may_trade.true in
+    let idle = c.may_trade.ensures.idle c.if-may_trade.true in let given = c.may_trade.ensures.given c.if-may_trade.true in
     let v = web_by c.send_all_first.new.web in let f = c.send_all_first.ensures in
-    target_home w l D S Atom (λ e. differ w l r a m n tm.0 tm.1 tn.0 tn.1 c.requires.apart inside outside S D qs qt (sym e)) (first_out w l r a m n tm.0 tm.1 tn.0 tn.1 c.requires.apart inside outside S D qs qt alone given) (kind_d w l r a m n tm.0 tm.1 tn.0 tn.1 c.requires.apart inside outside S D qs qt) (kind_s w l r a m n tm.0 tm.1 tn.0 tn.1 c.requires.apart inside outside S D qs qt) v (cells_in w D Atom) [] (cells_in w D Atom ++ cells_in w S Atom) f
+    target_home w l D S Atom (λ e. differ w l r a m n tm.0 tm.1 tn.0 tn.1 c.requires.apart inside outside S D qs qt (sym e)) (first_out w l r a m n tm.0 tm.1 tn.0 tn.1 c.requires.apart inside outside S D qs qt idle given) (kind_d w l r a m n tm.0 tm.1 tn.0 tn.1 c.requires.apart inside outside S D qs qt) (kind_s w l r a m n tm.0 tm.1 tn.0 tn.1 c.requires.apart inside outside S D qs qt) v (cells_in w D Atom) [] (cells_in w D Atom ++ cells_in w S Atom) f
 
 pub trade-requires : goal.trade-requires
 trade-requires c =
@@ -212,10 +205,10 @@ trade-requires c =
     let S = cell_id c.keeper_of-source.result in let D = cell_id c.keeper_of-target.result in let qs : S ≡ keeper w m = c.keeper_of-source.ensures in let qt : D ≡ keeper w n = c.keeper_of-target.ensures in
     let own = subst (λ (z : List Row). port_mark (merged_by z) n ≢ LENT) (sym c.self.view_is) c.requires.own in
     let owned = subst (λ (z : List Row). (x : ℕ) → home_at (merged_by z) x ≡ Some m → kind_at (merged_by z) x ≡ Membrane → port_mark (merged_by z) x ≢ LENT) (sym c.self.view_is) c.requires.owned in
-    let alone = c.may_trade.ensures.alone c.if-may_trade.true in let given = c.may_trade.ensures.given c.if-may_trade.true in
+    let idle = c.may_trade.ensures.idle c.if-may_trade.true in let given = c.may_trade.ensures.given c.if-may_trade.true in
     let v = web_by c.send_all_first.new.web in let f = c.send_all_first.ensures in
     let u = web_by c.send_all_first-then-may_trade.new.web in let g = c.send_all_first-then-may_trade.ensures in
-    trades w l r a m n tm.0 tm.1 tn.0 tn.1 c.requires.apart inside outside S D qs qt alone given v u f g c.listed-then-may_trade.ensures
+    trades w l r a m n tm.0 tm.1 tn.0 tn.1 c.requires.apart inside outside S D qs qt idle given v u f g
 
 pub invariant_of-self : goal.invariant_of-self
 invariant_of-self c =
@@ -236,10 +229,10 @@ returns-then-may_trade c =
     let S = cell_id c.keeper_of-source.result in let D = cell_id c.keeper_of-target.result in let qs : S ≡ keeper w m = c.keeper_of-source.ensures in let qt : D ≡ keeper w n = c.keeper_of-target.ensures in
     let own = subst (λ (z : List Row). port_mark (merged_by z) n ≢ LENT) (sym c.self.view_is) c.requires.own in
     let owned = subst (λ (z : List Row). (x : ℕ) → home_at (merged_by z) x ≡ Some m → kind_at (merged_by z) x ≡ Membrane → port_mark (merged_by z) x ≢ LENT) (sym c.self.view_is) c.requires.owned in
-    let alone = c.may_trade.ensures.alone c.if-may_trade.true in let given = c.may_trade.ensures.given c.if-may_trade.true in
+    let idle = c.may_trade.ensures.idle c.if-may_trade.true in let given = c.may_trade.ensures.given c.if-may_trade.true in
     let v = web_by c.send_all_first.new.web in let f = c.send_all_first.ensures in
     let u = web_by c.send_all_first-then-may_trade.new.web in let g = c.send_all_first-then-may_trade.ensures in
-    subst (λ (z : List Row). MovesAll (merged_by z) (merged_by c.trade.new.web) m n) c.self.view_is (traded_all w l r a m n tm.0 tm.1 tn.0 tn.1 c.requires.apart inside outside S D qs qt alone given v u f g c.listed-then-may_trade.ensures (web_by c.trade.new.web) c.trade.ensures.moved)
+    subst (λ (z : List Row). MovesAll (merged_by z) (merged_by c.trade.new.web) m n) c.self.view_is (traded_all w l r a m n tm.0 tm.1 tn.0 tn.1 c.requires.apart inside outside S D qs qt idle given v u f g (web_by c.trade.new.web) c.trade.ensures.moved)
 
 pub send_all_last-requires-clause-source : goal.send_all_last-requires-clause-source
 send_all_last-requires-clause-source c =
