@@ -282,7 +282,7 @@ first_number_at c s k low = past_links c.links 8 k (behind_links c) s.links ∙ 
 pub set_first_number_at : (c : HeldCell) → IsShaped c → (k n : ℕ) → k < 6 → set (cell_items c) (8 + k) (number n) ≡ cell_items (record c { numbers = set c.numbers k n })
 set_first_number_at c s k n low = set_past_links c.links 8 k (number n) (behind_links c) s.links
     ∙ ap (λ is. link_items c.links ++ is) (set_number_at (take 6 c.numbers) k n (behind_numbers c) (subst (λ m. k < m) (sym (six_first c s)) low)
-        ∙ (λ t. number_items (sym (take-set-lt 6 c.numbers k n low) t) ++ (port_items c.ports ++ number_items (sym (drop-set-lt 6 c.numbers k n low) t))))
+    ∙ (λ t. number_items (sym (take-set-lt 6 c.numbers k n low) t) ++ (port_items c.ports ++ number_items (sym (drop-set-lt 6 c.numbers k n low) t))))
 
 -- behind the port of a membrane
 behind_port : (k : ℕ) → 6 ≤ k → 11 + k ≡ 8 + (6 + (3 + (k - 6)))
@@ -304,6 +304,6 @@ last_number_word c s e k h low = ap (λ n. get_or (cell_items c) n blank) (behin
 pub set_last_number_word : (c : HeldCell) → IsShaped c → length c.numbers ≡ 8 → (k n : ℕ) → 6 ≤ k → k < 8 → set (cell_items c) (11 + k) (number n) ≡ cell_items (record c { numbers = set c.numbers k n })
 set_last_number_word c s e k n h low = ap (λ m. set (cell_items c) m (number n)) (behind_port k h) ∙ set_past_links c.links 8 (6 + (3 + (k - 6))) (number n) (behind_links c) s.links
     ∙ ap (λ is. link_items c.links ++ is) (set_past_numbers (take 6 c.numbers) 6 (3 + (k - 6)) (number n) (behind_numbers c) (six_first c s)
-        ∙ ap (λ is. number_items (take 6 c.numbers) ++ is) (set_past_port c.ports (k - 6) (number n) (number_items (drop 6 c.numbers)) (one_port c s e)
-            ∙ ap (λ is. port_items c.ports ++ is) (set_last_number_at (drop 6 c.numbers) (k - 6) n (few_behind c k e h low)))
-        ∙ (λ t. number_items (sym (take-set-le 6 c.numbers k n h) t) ++ (port_items c.ports ++ number_items (sym (ap (λ m. drop 6 (set c.numbers m n)) (sym (from_six k h)) ∙ drop-set-add 6 c.numbers (k - 6) n) t))))
+    ∙ ap (λ is. number_items (take 6 c.numbers) ++ is) (set_past_port c.ports (k - 6) (number n) (number_items (drop 6 c.numbers)) (one_port c s e)
+    ∙ ap (λ is. port_items c.ports ++ is) (set_last_number_at (drop 6 c.numbers) (k - 6) n (few_behind c k e h low)))
+    ∙ (λ t. number_items (sym (take-set-le 6 c.numbers k n h) t) ++ (port_items c.ports ++ number_items (sym (ap (λ m. drop 6 (set c.numbers m n)) (sym (from_six k h)) ∙ drop-set-add 6 c.numbers (k - 6) n) t))))

@@ -3,7 +3,7 @@ use Rattle.std.proofs.Common.{◌≡◌, ℕ, ◌+◌, ◌*◌, ◌<◌, ◌^◌
 use Rattle.std.proofs.lemmas.Bool.{cases_eq, eq-eqb}
 use lib.ListN.{length-replicate}
 use Rattle.lmn_web_cells.specs.Rows.{Item, Row, row, items_in, with_items, without_row}
-use Rattle.lmn_web_cells.specs.Cells.{HeldPort, HeldCell, cell_items, cell_by, cells_by, blank_cell, blank_membrane, no_port, IsShaped, IsLaid, AreLaid, numbers_of, ports_of}
+use Rattle.lmn_web_cells.specs.Cells.{HeldCell, cell_items, cell_by, cells_by, blank_cell, blank_membrane, no_port, IsShaped, IsLaid, AreLaid, numbers_of, ports_of}
 use Rattle.lmn_store_heap.specs.Heap.{alter}
 use Rattle.lmn_base.proofs.Numbers.{not_equal}
 use Rattle.lmn_web_cells.proofs.CellWords.{cell_back, word_count}
