@@ -1,4 +1,4 @@
-use Rattle.std.proofs.Common.{◌≡◌, ◌<◌, ◌+◌, ℕ, List, [], ◌∷◌, ◌++◌, Some, None, MatchOption, sym, ap, subst, ◌∙◌, inl, inr}
+use Rattle.std.proofs.Common.{◌≡◌, ◌<◌, ◌+◌, ℕ, List, [], ◌∷◌, ◌++◌, Some, None, sym, ap, subst, ◌∙◌, inl, inr}
 use Rattle.std.specs.Option.{option_map}
 use Rattle.lmn_web_cells.specs.Rows.{Row}
 use Rattle.lmn_web_cells.specs.Cells.{cells_by}
