@@ -2,7 +2,7 @@
 use Rattle.std.proofs.Common.{◌≡◌, ℕ, ◌==◌, Bool, true, false, cond, List, [], ◌∷◌, ◌⊎◌, Option, Some, None, inl, inr, refl, sym, ap, subst, ◌∙◌}
 use Rattle.std.specs.Option.{option_map, option_and_then}
 use Rattle.std.proofs.lemmas.Bool.{cases_eq, eqb-true}
-use Rattle.std.specs.Prelude.{slice_index_or, slice_set}
+use Rattle.std.specs.Prelude.{slice_set}
 use Rattle.lmn_store_heap.specs.Heap as heap
 use Rattle.lmn_store_heap.specs.Heap.{HeapMem, alter, marked}
 use Rattle.lmn_store_heap.proofs.Listing.{alter_at, alter_away}

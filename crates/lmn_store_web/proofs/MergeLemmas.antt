@@ -1,12 +1,10 @@
 -- What stands in one membrane goes to another: the heap, and what holds of the store then.
-use Rattle.std.proofs.Common.{◌≡◌, ◌≢◌, ◌⊎◌, ◌↔◌, ℕ, ◌==◌, Bool, true, false, cond, List, [], ◌∷◌, ◌++◌, length, Option, Some, None, IsSome, is_some, refl, sym, ap, subst, ◌∙◌, inl, inr}
+use Rattle.std.proofs.Common.{◌≡◌, ◌≢◌, ◌⊎◌, ◌↔◌, ℕ, Bool, true, false, cond, List, [], ◌++◌, length, Option, Some, None, IsSome, is_some, refl, sym, ap, subst, ◌∙◌, inl, inr}
 use Rattle.std.proofs.lemmas.Bool.{cases_eq, eq-eqb}
 use Rattle.std.specs.Prelude.{slice_index_or}
-use Rattle.std.specs.Option.{option_map, option_and_then}
-use Rattle.lmn_base.specs.Lists.{In}
+use Rattle.std.specs.Option.{option_map}
 use Rattle.lmn_store_heap.specs.Heap as heap
 use Rattle.lmn_store_heap.specs.Heap.{Heap, HeapAtom, HeapMem, Place, within, alter, with_place, atoms_in, mems_in, sent, atom_sent, mem_sent, emptied, filled, moved_all}
-use Rattle.lmn_store_heap.proofs.Listing.{alter_at, alter_away}
 use Rattle.lmn_store_counts.specs.RuleLists.{RuleList}
 use Rattle.lmn_store_counts.specs.Census.{weight}
 use Rattle.lmn_store_counts.specs.Counts.{HasCounts, one, with_rules}

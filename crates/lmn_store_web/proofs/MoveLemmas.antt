@@ -1,27 +1,17 @@
 -- What stands in one membrane goes to another, one by one: the heap in which the rest has gone stays the same.
-use Rattle.std.proofs.Common.{◌≡◌, ◌≢◌, ℕ, ◌<◌, ◌==◌, Bool, true, false, cond, List, [], ◌∷◌, ◌++◌, length, Option, Some, None, IsSome, refl, sym, ap, subst, ◌∙◌, inl, inr}
-use Rattle.std.proofs.lemmas.Bool.{cases_eq}
-use Rattle.std.proofs.lemmas.List.{append_assoc, append-nil}
+use Rattle.std.proofs.Common.{◌≡◌, ◌≢◌, ℕ, List, Option, Some, None, IsSome, refl, sym, ap, ◌∙◌}
 use Rattle.std.specs.Option.{option_map}
-use Rattle.lmn_base.specs.Lists.{In}
-use Rattle.lmn_store_heap.specs.Heap as heap
-use Rattle.lmn_store_heap.specs.Heap.{Heap, HeapAtom, HeapMem, Place, within, waiting, gone, alter, with_place, mem_with_place, mem_place_of, home_by, atoms_in, mems_in, IsMemInPlace, sent, atom_sent, mem_sent, emptied, filled, moved_all}
-use Rattle.lmn_store_heap.specs.Lists.{without, from}
+use Rattle.lmn_store_heap.specs.Heap.{HeapAtom, HeapMem, within, gone, alter, mem_place_of, home_by, IsMemInPlace, atom_sent, mem_sent}
 use Rattle.lmn_store_heap.specs.Conditions.{IsOutside}
-use Rattle.lmn_store_heap.proofs.Listing.{alter_at, alter_away, without_first}
+use Rattle.lmn_store_heap.proofs.Listing.{alter_at, alter_away}
 use Rattle.lmn_store_counts.specs.RuleLists.{RuleList}
 use Rattle.lmn_store_counts.specs.Counts.{HasCounts}
-use Rattle.lmn_web.specs.declared.kind.CellKind.{CellKind}
-use Rattle.lmn_web.specs.declared.kind.CellKind.TheVariants.{Atom, Membrane}
-use Rattle.lmn_web.specs.Webs.{WebCell, kind_at, home_at, cells_in, StandOnce}
-use Rattle.lmn_store_web.specs.Sends.{Sends, CanSend}
-use Rattle.lmn_store_web.specs.WebHeaps.{Posts, place_at, atoms_of, is_post, mems_of, heap_by}
+use Rattle.lmn_web.specs.Webs.{WebCell}
+use Rattle.lmn_store_web.specs.Sends.{CanSend}
+use Rattle.lmn_store_web.specs.WebHeaps.{Posts, place_at, atoms_of, mems_of, heap_by}
 use Rattle.lmn_store_web.specs.WebStores.{IsStored}
-use Rattle.lmn_store_web.proofs.ReadLemmas.{stands_in, stands_back, mem_there, atoms_is, mems_is, parent_is, kind_there}
-use Rattle.lmn_store_web.proofs.SendLemmas.{kind_same, home_away, source_list, lists_away, sent_counts, sent_stored}
-use Rattle.lmn_store_web.proofs.PlaceLemmas.{mem_with_list, more, first_is, in_place_mem, atoms_sent, mems_sent}
-use Rattle.lmn_store_web.proofs.FreeLemmas.{atom_place, mem_place}
-use Rattle.lmn_store_web.proofs.FreeSteps.{shorter}
+use Rattle.lmn_store_web.proofs.ReadLemmas.{stands_in, mem_there, parent_is, kind_there}
+use Rattle.lmn_store_web.proofs.PlaceLemmas.{in_place_mem}
 use Rattle.lmn_store_counts.proofs.PlaceLemmas.{sent_keeps}
 
 pub atom_stays : (m n : ℕ) (o : Option HeapAtom) → ((y : HeapAtom) → o ≡ Some y → y.place ≡ within m → ⊥) → option_map (atom_sent m n) o ≡ o

@@ -361,10 +361,7 @@ impl LinkStore for WebStore {
     #[inline(always)]
     fn place_atom(&mut self, m: Cell) -> Cell {
         self.web.listed();
-        let a = self
-            .web
-            .first_plain(self.waiting, CellKind::Atom)
-            .unwrap();
+        let a = self.web.first_plain(self.waiting, CellKind::Atom).unwrap();
         send(&mut self.web, m, CellKind::Atom, a);
         a
     }

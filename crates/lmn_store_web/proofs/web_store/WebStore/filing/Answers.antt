@@ -3,7 +3,6 @@ use Rattle.std.specs.Prelude.{slice_index_or}
 use Rattle.lmn_store_counts.specs.RuleLists.{RuleList}
 use Rattle.lmn_web_cells.specs.CellIds.{cell_id}
 use Rattle.lmn_web_merging.specs.Keepers.{merged_by}
-use Rattle.lmn_web_cells.specs.Cells.{cells_by}
 use Rattle.lmn_store_heap.specs.Sound.{Sound, Valid}
 use Rattle.lmn_store_web.proofs.AloneLemmas.{alone_valid}
 use Rattle.lmn_store_web.proofs.NewLemmas.{new_all}

@@ -1,7 +1,6 @@
 use Rattle.std.proofs.Common.{sym, ap, subst, ◌∙◌}
 use Rattle.lmn_store_heap.specs.Conditions.{Alone}
 use Rattle.lmn_store_heap.specs.Heap.{discarded}
-use Rattle.lmn_web_cells.specs.Cells.{cells_by}
 use Rattle.lmn_web_merging.specs.Keepers.{merged_by}
 use Rattle.lmn_store_web.specs.WebHeaps.{KeptWeb, heap_of}
 use Rattle.lmn_store_web.specs.WebStores.{kept_by}

@@ -11,7 +11,6 @@ use Rattle.lmn_store_web.specs.WebHeaps.{KeptWeb, heap_of, heap_by, atoms_of, me
 use Rattle.lmn_store_web.specs.WebStores.{IsStored, kept_by}
 use Rattle.lmn_store_web.proofs.MakeLemmas.{new_there, new_kind, new_homeless, new_apart, old_kind, old_mark, made_line, atom_stored, made_atom_heap, made_atom_counts}
 use Rattle.lmn_store_heap.specs.Heap.{Heap}
-use Rattle.lmn_web_cells.specs.Cells.{cells_by}
 use Rattle.lmn_web.specs.Webs.{web_label}
 use Rattle.lmn_store_web.specs.Indexes.{key_of}
 use Rattle.lmn_store_web.proofs.SoundLemmas.{heap_sound, merged_formed}

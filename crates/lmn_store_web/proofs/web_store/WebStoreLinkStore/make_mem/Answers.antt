@@ -15,7 +15,6 @@ use Rattle.lmn_store_web.proofs.MakeLemmas.{new_there, new_kind, new_homeless, n
 use Rattle.std.proofs.Common.{◌≤◌, map, length, refl}
 use Rattle.std.proofs.lemmas.List.{length-map}
 use Rattle.std.specs.Option.{option_map}
-use Rattle.lmn_web_cells.specs.Cells.{cells_by}
 use Rattle.lmn_web_cells.specs.declared.handle.Cell.{Cell}
 use Rattle.lmn_store_web_preorder.specs.Indexed.{IsNested}
 use Rattle.lmn_web.specs.Webs.{web_kind, web_label}

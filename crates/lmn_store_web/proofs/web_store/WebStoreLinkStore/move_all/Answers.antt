@@ -1,4 +1,4 @@
-use Rattle.std.proofs.Common.{◌≡◌, ◌≢◌, Some, sym, ap, subst, ◌∙◌}
+use Rattle.std.proofs.Common.{◌≡◌, Some, sym, ap, subst, ◌∙◌}
 use Rattle.lmn_web.specs.Webs.{home_at}
 use Rattle.lmn_store_heap.specs.Heap.{gone, mem_place_of, IsMemInPlace, moved_all}
 use Rattle.lmn_store_heap.specs.Conditions.{IsOutside}

@@ -2,7 +2,6 @@ use Rattle.std.proofs.Common.{subst, sym, ◌≡◌, IfSome, Some, ℕ}
 use Rattle.std.specs.Option.{option_map}
 use Rattle.lmn_store_heap.specs.Lists.{from, after}
 use Rattle.lmn_store_heap.specs.Heap.{IsPlacedMem, parent_of, mems_in}
-use Rattle.lmn_web_cells.specs.Cells.{cells_by}
 use Rattle.lmn_web_cells.specs.CellIds.{cell_id}
 use Rattle.lmn_store_web.specs.WebHeaps.{KeptWeb, heap_of}
 use Rattle.lmn_store_web.proofs.SoundLemmas.{merged_formed}

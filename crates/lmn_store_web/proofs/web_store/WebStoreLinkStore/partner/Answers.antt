@@ -1,7 +1,6 @@
 use Rattle.std.proofs.Common.{subst, sym, ◌≡◌, ◌<◌, IfSome, Some}
 use Rattle.std.specs.Option.{option_map}
 use Rattle.lmn_store_heap.specs.Heap.{IsAtom, link_of, arity_of}
-use Rattle.lmn_web_cells.specs.Cells.{cells_by}
 use Rattle.lmn_web_cells.specs.CellIds.{cell_id, port_id}
 use Rattle.lmn_web_merging.specs.Keepers.{merged_by}
 use Rattle.lmn_store_web.specs.WebHeaps.{KeptWeb, heap_of}

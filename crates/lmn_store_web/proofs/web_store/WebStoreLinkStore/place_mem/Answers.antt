@@ -12,7 +12,6 @@ use Rattle.lmn_store_web.proofs.SendLemmas.{sent_stored, sent_counts}
 use Rattle.lmn_store_web.proofs.PlaceLemmas.{first_some, placing, placed_mem_heap}
 use Rattle.std.proofs.Common.{map}
 use Rattle.lmn_base.specs.Lists.{In}
-use Rattle.lmn_web_cells.specs.Cells.{cells_by}
 use Rattle.lmn_store_web_preorder.specs.Indexed.{IsNested}
 use Rattle.lmn_store_web.specs.WebHeaps.{heap_by}
 use Rattle.lmn_store_web.specs.WebStores.{HasRules}

@@ -1,4 +1,4 @@
-use Rattle.std.proofs.Common.{subst, sym, ap, ◌≤◌, ◌∙◌, arith, ℕ, List}
+use Rattle.std.proofs.Common.{subst, sym, ap, ◌≤◌, ◌∙◌, arith, List}
 use Rattle.std.specs.Prelude.{Option}
 use Rattle.lmn_base.proofs.Lists.{on_err}
 use Rattle.lmn_store_counts.specs.RuleLists.{RuleList}

@@ -2,7 +2,6 @@ use Rattle.std.proofs.Common.{subst, sym, ap, ◌∙◌, ℕ, inr, refl}
 use Rattle.std.specs.Prelude.{Option}
 use Rattle.lmn_store_heap.specs.Heap.{IsMem, mem_marked}
 use Rattle.lmn_store_counts.specs.Counts.{HasCounts}
-use Rattle.lmn_web_cells.specs.Cells.{cells_by}
 use Rattle.lmn_web_cells.specs.CellIds.{cell_id}
 use Rattle.lmn_web.specs.Webs.{WebCell}
 use Rattle.lmn_web_merging.specs.Keepers.{merged_by}

@@ -11,7 +11,6 @@ use Rattle.std.proofs.Common.{◌≡◌, Some, None, map}
 use Rattle.std.specs.Option.{option_map}
 use Rattle.lmn_store_heap.specs.Heap.{IsMem, within}
 use Rattle.lmn_store_heap.proofs.Heights.{parent_place, mem_of_list, mem_of_place}
-use Rattle.lmn_web_cells.specs.Cells.{cells_by}
 use Rattle.lmn_store_web_preorder.specs.Indexed.{IsNested}
 use Rattle.lmn_store_web.specs.WebStores.{HasRules}
 use Rattle.lmn_store_web.specs.Indexes.{key_of}
