@@ -211,14 +211,11 @@ impl Web {
 
     /// The first cell of a kind in a membrane.
     pub fn first(&self, home: Cell, kind: CellKind) -> Option<Cell>
-        requires { IsSome (web_by self.now (cell_id home)) }
+        requires { kind_at (web_by self.now) (cell_id home) ≡ Membrane }
         ensures list { from (option_map cell_id result) (cells_in (web_by self.now) (cell_id home) kind) ≡ cells_in (web_by self.now) (cell_id home) kind }
         ensures home { IfSome result (λ c. home_at (web_by self.now) (cell_id c) ≡ Some (cell_id home)) }
     {
-        match self.kind(home) {
-            CellKind::Atom => None,
-            CellKind::Membrane => self.cells.link(home, first_link(kind)),
-        }
+        self.cells.link(home, first_link(kind))
     }
 
     /// The last cell of a kind in a membrane.
@@ -245,14 +242,11 @@ impl Web {
 
     /// The first atom of a membrane whose label has this class, the upper half of a label, and that has so many ports.
     pub fn first_of_class(&self, home: Cell, class: u64, arity: u8) -> Option<Cell>
-        requires { IsSome (web_by self.now (cell_id home)) }
+        requires { kind_at (web_by self.now) (cell_id home) ≡ Membrane }
         ensures list { let all = with_class (web_by self.now) class arity (cells_in (web_by self.now) (cell_id home) Atom) in from (option_map cell_id result) all ≡ all }
         ensures there { IfSome result (λ c. In (cell_id c) (cells_in (web_by self.now) (cell_id home) Atom)) }
     {
-        match self.kind(home) {
-            CellKind::Atom => None,
-            CellKind::Membrane => first_in(&self.cells, home, class, arity as u64),
-        }
+        first_in(&self.cells, home, class, arity as u64)
     }
 
     /// The next atom behind this one in its list with a label of its class and as many ports.
@@ -271,7 +265,7 @@ impl Web {
 
     /// The first atom of a membrane with this label and so many ports.
     pub fn first_with(&self, home: Cell, label: u128, arity: u8) -> Option<Cell>
-        requires { IsSome (web_by self.now (cell_id home)) }
+        requires { kind_at (web_by self.now) (cell_id home) ≡ Membrane }
         ensures list { let all = with_label (web_by self.now) label arity (cells_in (web_by self.now) (cell_id home) Atom) in from (option_map cell_id result) all ≡ all }
         ensures there { IfSome result (λ c. In (cell_id c) (cells_in (web_by self.now) (cell_id home) Atom)) }
     {
@@ -325,13 +319,10 @@ impl Web {
 
     /// How many cells of a kind stand in a membrane.
     pub fn count(&self, home: Cell, kind: CellKind) -> u64
-        requires { IsSome (web_by self.now (cell_id home)) }
+        requires { kind_at (web_by self.now) (cell_id home) ≡ Membrane }
         ensures { result ≡ length (cells_in (web_by self.now) (cell_id home) kind) }
     {
-        match self.kind(home) {
-            CellKind::Atom => 0,
-            CellKind::Membrane => self.cells.count(home, count_place(kind)),
-        }
+        self.cells.count(home, count_place(kind))
     }
 
     /// The cell, which is of this kind, goes to the end of the list of its kind.

@@ -361,15 +361,15 @@ impl MergingWeb {
 
 // Whether fewer cells stand in one membrane than in another, by more than what is sent one by one.
 fn holds_less(web: &Web, n: Cell, m: Cell) -> bool
-    requires first { IsSome (web_by web.now (cell_id n)) }
-    requires second { IsSome (web_by web.now (cell_id m)) }
+    requires first { kind_at (web_by web.now) (cell_id n) ≡ Membrane }
+    requires second { kind_at (web_by web.now) (cell_id m) ≡ Membrane }
 {
     held(web, n).saturating_add(FEW) < held(web, m)
 }
 
 // How many cells stand in a membrane, or the greatest number where they are more.
 fn held(web: &Web, m: Cell) -> u64
-    requires { IsSome (web_by web.now (cell_id m)) }
+    requires { kind_at (web_by web.now) (cell_id m) ≡ Membrane }
 {
     web.count(m, CellKind::Atom)
         .saturating_add(web.count(m, CellKind::Membrane))

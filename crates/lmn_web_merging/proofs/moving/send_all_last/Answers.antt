@@ -12,7 +12,7 @@ loop-c-init c = record { sent = none_last (web_by c.args.web.now) c.listed.ensur
 pub first-requires : goal.first-requires
 first-requires c =
     let w = web_by c.args.web.now in let v = web_by c.loop-c.web in let m = cell_id c.args.source in let n = cell_id c.args.home in let s = c.loop-c.invariant.sent in
-    kind_there (v m) (source_kind w c.listed.ensures m n c.args.kind c.requires.apart c.requires.outside c.requires.source c.requires.home v s.gone s.rest _ s.moves)
+    (source_kind w c.listed.ensures m n c.args.kind c.requires.apart c.requires.outside c.requires.source c.requires.home v s.gone s.rest _ s.moves)
 
 pub send_last-requires-clause-kind : goal.send_last-requires-clause-kind
 send_last-requires-clause-kind c =

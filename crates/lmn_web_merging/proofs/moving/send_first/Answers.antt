@@ -37,7 +37,7 @@ pub first-requires : goal.first-requires
 first-requires c =
     let w = web_by c.args.web.now in let x = cell_id c.args.c in
     let h = some_is (home_at w x) c.requires.listed in
-    kind_there (web_by c.unlink.new.self (cell_id c.args.home)) (ap (λ (f : ℕ → Option WebCell). kind_at f (cell_id c.args.home)) (c.unlink.ensures h.0 h.1) ∙ out_kinds w h.0 0 x (cell_id c.args.home) ∙ c.requires.membrane)
+    (ap (λ (f : ℕ → Option WebCell). kind_at f (cell_id c.args.home)) (c.unlink.ensures h.0 h.1) ∙ out_kinds w h.0 0 x (cell_id c.args.home) ∙ c.requires.membrane)
 
 pub add_before-requires-clause-there : goal.add_before-requires-clause-there
 add_before-requires-clause-there c =

@@ -26,7 +26,7 @@ first-requires c =
     let w = web_by c.self.inside.web in let m = cell_id c.args.home in let a = c.self.invariant in let r = c.paired.ensures in
     let t = seen_membrane (web_by c.self.inside.web) (cell_id c.args.home) (subst (λ (z : List Row). kind_at (merged_by z) (cell_id c.args.home) ≡ Membrane) (sym c.self.view_is) c.requires.membrane) in
     let k : cell_id c.self_kept.result ≡ keeper w m = c.self_kept.ensures in
-    kind_there (w (cell_id c.self_kept.result)) (ap (kind_at w) k ∙ keeper_kind w r a m t.0)
+    (ap (kind_at w) k ∙ keeper_kind w r a m t.0)
 
 pub returns-clause-list : goal.returns-clause-list
 returns-clause-list c =

@@ -53,7 +53,7 @@ holds_less-requires-clause-first c =
     let inside = subst (λ (z : List Row). home_at (merged_by z) m ≢ Some n) (sym c.self.view_is) c.requires.inside in
     let outside = subst (λ (z : List Row). home_at (merged_by z) n ≢ Some m) (sym c.self.view_is) c.requires.outside in
     let qs : cell_id c.keeper_of-source.result ≡ keeper w m = c.keeper_of-source.ensures in let qt : cell_id c.keeper_of-target.result ≡ keeper w n = c.keeper_of-target.ensures in
-    kind_there (w (cell_id c.keeper_of-target.result)) (ap (kind_at w) qt ∙ keeper_kind w r a n tn.0)
+    (ap (kind_at w) qt ∙ keeper_kind w r a n tn.0)
 
 pub holds_less-requires-clause-second : goal.holds_less-requires-clause-second
 holds_less-requires-clause-second c =
@@ -63,7 +63,7 @@ holds_less-requires-clause-second c =
     let inside = subst (λ (z : List Row). home_at (merged_by z) m ≢ Some n) (sym c.self.view_is) c.requires.inside in
     let outside = subst (λ (z : List Row). home_at (merged_by z) n ≢ Some m) (sym c.self.view_is) c.requires.outside in
     let qs : cell_id c.keeper_of-source.result ≡ keeper w m = c.keeper_of-source.ensures in let qt : cell_id c.keeper_of-target.result ≡ keeper w n = c.keeper_of-target.ensures in
-    kind_there (w (cell_id c.keeper_of-source.result)) (ap (kind_at w) qs ∙ keeper_kind w r a m tm.0)
+    (ap (kind_at w) qs ∙ keeper_kind w r a m tm.0)
 
 pub may_trade-requires-clause-source : goal.may_trade-requires-clause-source
 may_trade-requires-clause-source c =
