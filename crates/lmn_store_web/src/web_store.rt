@@ -425,6 +425,7 @@ impl LinkStore for WebStore {
         self.web.join(a, i, b, j);
     }
 
+    #[inline(always)]
     fn finish(&mut self) {
         self.web.listed();
         self.web.paired();

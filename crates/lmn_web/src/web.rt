@@ -264,6 +264,7 @@ impl Web {
     }
 
     /// The first atom of a membrane with this label and so many ports.
+    #[inline(always)]
     pub fn first_with(&self, home: Cell, label: u128, arity: u8) -> Option<Cell>
         requires { kind_at (web_by self.now) (cell_id home) ≡ Membrane }
         ensures list { let all = with_label (web_by self.now) label arity (cells_in (web_by self.now) (cell_id home) Atom) in from (option_map cell_id result) all ≡ all }
