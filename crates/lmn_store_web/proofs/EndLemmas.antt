@@ -15,7 +15,7 @@ use Rattle.lmn_store_web.specs.WebStores.{IsStored}
 use Rattle.lmn_store_web.specs.Frees.{CanFree, Frees}
 use Rattle.lmn_store_web.proofs.ReadLemmas.{Stand, stand, at_top, at_line, at_gone, at_mem, waits_in, waits_back, atom_there, place_is, home_is, mem_place_is, atoms_is, mems_is}
 use Rattle.lmn_store_web.proofs.SoundLemmas.{Formed, link_is, linked_there, no_line, no_end}
-use Rattle.lmn_store_web.proofs.SendLemmas.{home_some}
+use Rattle.lmn_web_merging.proofs.Sending.{home_some}
 use Rattle.lmn_store_web.proofs.PlaceLemmas.{gone_place}
 use Rattle.lmn_store_web.proofs.FreeLemmas.{atom_place, mem_place}
 

@@ -13,7 +13,7 @@ use Rattle.lmn_store_web.specs.Indexes.{IsIndexed, key_of}
 use Rattle.lmn_store_web.specs.WebHeaps.{Posts, mems_of, heap_by}
 use Rattle.lmn_store_web.specs.WebStores.{IsStored}
 use Rattle.lmn_store_web.proofs.ReadLemmas.{mem_there, mems_is}
-use Rattle.lmn_store_web.proofs.SendLemmas.{home_some}
+use Rattle.lmn_web_merging.proofs.Sending.{home_some}
 use Rattle.lmn_store_web.proofs.IndexLemmas.{index_fewer, key_is}
 
 -- a place is that of what is gone, or isn't

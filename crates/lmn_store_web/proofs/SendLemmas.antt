@@ -16,16 +16,12 @@ use Rattle.lmn_web.specs.Webs as web
 use Rattle.lmn_web.specs.Webs.{WebCell, web_kind, kind_at, home_at, arity_at, cells_in, cells_of, web_label, with_home, with_list, unlinked, added_last}
 use Rattle.lmn_web.proofs.ListedLemmas.{kind_cases}
 use Rattle.lmn_web_merging.specs.Keepers.{port_mark}
+use Rattle.lmn_web_merging.proofs.Sending.{home_cells, home_kind, home_label, home_ports, home_some, list_at_kind, list_at_other, list_home, list_kind, list_label, list_ports, list_there}
 use Rattle.lmn_web_merging.proofs.Relisting.{home_marks, list_marks}
 use Rattle.lmn_store_web.specs.Sends.{Sends}
 use Rattle.lmn_store_web.specs.WebHeaps.{Posts, atom_by, if_atom, if_membrane, atoms_of, mem_by, is_post, mems_of}
 use Rattle.lmn_store_web.specs.WebStores.{IsStored}
 use Rattle.lmn_store_web.proofs.ReadLemmas.{mem_there, mem_is, some_home}
-
--- a cell with a home is there
-pub home_some : (o : Option WebCell) → IsSome (web.home_of o) → IsSome o
-home_some None s = s
-home_some (Some c) s = refl
 
 -- a cell out of its list and then at the end of another has gone there
 module _ (w : ℕ → Option WebCell) (m n x : ℕ) (left : x ≢ m) where
@@ -110,78 +106,9 @@ module _ (w : ℕ → Option WebCell) (m n x : ℕ) (left : x ≢ m) where
       others = λ y d a b. alter_away v1 n (option_map (with_list ku came_list)) y b ∙ alter_away u x (option_map (with_home (Some n))) y d ∙ u_y y d a;
     }
 
--- What another home or another list leaves of a cell: its label,
-pub home_label : (h : Option ℕ) (o : Option WebCell) → option_map (λ (c : WebCell). c.label) (option_map (with_home h) o) ≡ option_map (λ (c : WebCell). c.label) o
-home_label h None = refl
-home_label h (Some c) = refl
-
--- also where a list is another,
-pub list_label : (k : CellKind) (xs : List ℕ) (o : Option WebCell) → option_map (λ (c : WebCell). c.label) (option_map (with_list k xs) o) ≡ option_map (λ (c : WebCell). c.label) o
-list_label k xs None = refl
-list_label Atom xs (Some c) = refl
-list_label Membrane xs (Some c) = refl
-
-home_kind : (h : Option ℕ) (o : Option WebCell) → web_kind (option_map (with_home h) o) ≡ web_kind o
-home_kind h None = refl
-home_kind h (Some c) = refl
-
--- its kind,
-pub list_kind : (k : CellKind) (xs : List ℕ) (o : Option WebCell) → web_kind (option_map (with_list k xs) o) ≡ web_kind o
-list_kind k xs None = refl
-list_kind Atom xs (Some c) = refl
-list_kind Membrane xs (Some c) = refl
-
--- its partners,
-pub home_ports : (h : Option ℕ) (o : Option WebCell) → web.partners_of (option_map (with_home h) o) ≡ web.partners_of o
-home_ports h None = refl
-home_ports h (Some c) = refl
-
--- also where a list is another,
-pub list_ports : (k : CellKind) (xs : List ℕ) (o : Option WebCell) → web.partners_of (option_map (with_list k xs) o) ≡ web.partners_of o
-list_ports k xs None = refl
-list_ports Atom xs (Some c) = refl
-list_ports Membrane xs (Some c) = refl
-
 home_there : (h : Option ℕ) (o : Option WebCell) → is_some (option_map (with_home h) o) ≡ is_some o
 home_there h None = refl
 home_there h (Some c) = refl
-
--- that it is there,
-pub list_there : (k : CellKind) (xs : List ℕ) (o : Option WebCell) → is_some (option_map (with_list k xs) o) ≡ is_some o
-list_there k xs None = refl
-list_there k xs (Some c) = refl
-
--- its home,
-pub list_home : (k : CellKind) (xs : List ℕ) (o : Option WebCell) → web.home_of (option_map (with_list k xs) o) ≡ web.home_of o
-list_home k xs None = refl
-list_home Atom xs (Some c) = refl
-list_home Membrane xs (Some c) = refl
-
--- and its lists
-pub home_cells : (h : Option ℕ) (o : Option WebCell) (j : CellKind) → cells_of (option_map (with_home h) o) j ≡ cells_of o j
-home_cells h None j = refl
-home_cells h (Some c) Atom = refl
-home_cells h (Some c) Membrane = refl
-
--- the list of a kind that is another
-pub list_at_kind : (k : CellKind) (xs : List ℕ) (o : Option WebCell) → IsSome o → cells_of (option_map (with_list k xs) o) k ≡ xs
-list_at_kind k xs None s = absurd (cc)
-list_at_kind Atom xs (Some c) s = refl
-list_at_kind Membrane xs (Some c) s = refl
-
--- and that of the other kind
-pub list_at_other : (k : CellKind) (xs : List ℕ) (o : Option WebCell) (j : CellKind) → (j ≡ k → ⊥) → cells_of (option_map (with_list k xs) o) j ≡ cells_of o j
-list_at_other k xs None j d = refl
-list_at_other Atom xs (Some c) Atom d = absurd (d refl)
-list_at_other Atom xs (Some c) Membrane d = refl
-list_at_other Membrane xs (Some c) Atom d = refl
-list_at_other Membrane xs (Some c) Membrane d = absurd (d refl)
-
--- kinds stay where a cell leaves a list
-pub out_kinds : (w : ℕ → Option WebCell) (m n x y : ℕ) → kind_at (unlinked w m x) y ≡ kind_at w y
-out_kinds w m n x y =
-    alter_keeps (alter w x (option_map (with_home None))) m (option_map (with_list (kind_at w x) (without x (cells_in w m (kind_at w x))))) web_kind (list_kind (kind_at w x) (without x (cells_in w m (kind_at w x)))) y
-    ∙ alter_keeps w x (option_map (with_home None)) web_kind (home_kind None) y
 
 -- so do the marks of ports
 pub out_marks : (w : ℕ → Option WebCell) (m x y : ℕ) → port_mark (unlinked w m x) y ≡ port_mark w y

@@ -8,7 +8,7 @@ use Rattle.std.proofs.lemmas.Option.{same_Some}
 use Rattle.lmn_base.specs.declared.functor.Functor.{Functor}
 use Rattle.lmn_base.specs.Graphs.{Port}
 use Rattle.lmn_base.specs.Lists.{In}
-use Rattle.lmn_base.proofs.Lists.{in_either}
+use Rattle.lmn_base.proofs.Lists.{all_right, in_either}
 use Rattle.lmn_store_heap.specs.Heap.{Heap, HeapAtom, HeapMem, IsInPlace, arity_of, atoms_in, functor_of, link_of, mems_in, parent_of, rules_in}
 use Rattle.lmn_store_heap.specs.Lists.{Distinct, without_all}
 use Rattle.lmn_store_heap.specs.Sound.{Valid}
@@ -18,6 +18,7 @@ use Rattle.lmn_store_heap.proofs.Replacing.{port_within}
 use Rattle.lmn_ground_parts.specs.Walks.{FoundInside, Net}
 use Rattle.lmn_congruence_splice.specs.Classes.{rising}
 use Rattle.lmn_congruence_splice.specs.Splice.{IsOneOf, of_rule, of_solid}
+use Rattle.lmn_congruence_splice.proofs.Common.{in_append, in_front, in_back}
 use Rattle.lmn_solid_heads.specs.declared.items.HeadItem.{HeadItem}
 use Rattle.lmn_solid_heads.specs.Heads.{HeadMembrane, atoms_of, membranes_of}
 use Rattle.lmn_instr_code.specs.declared.instr.AtomPort.{AtomPort}
@@ -37,6 +38,7 @@ use Rattle.lmn_solid_bodies.specs.RestCopies.{AreAsLong, AreRestsCopied, RestCop
 use Rattle.lmn_solid_bodies.specs.Rules.{PartAtoms}
 use Rattle.lmn_solid_bodies.specs.Running.{Registers, new_port, old_port}
 use Rattle.lmn_solid_bodies.specs.Within.{FiresFlat, FiresWithin, IsCopyIn, dropped_mems, left_of_closed}
+use Rattle.lmn_solid_bodies.proofs.HeadPorts.{in_map, of_map}
 use Rattle.lmn_solid_bodies.proofs.Numbering.{links_have_numbers}
 use Rattle.lmn_verify_solids.specs.Graphs.{IsPort}
 use Rattle.lmn_verify_solids.specs.Heaps.{graph_of}
@@ -96,38 +98,10 @@ second_is (suc k) y (suc j) z e = second_is k y j z (omega (arith, e))
 
 -- ---- lists
 
-from_append : {A : Type 0} (x : A) (xs ys : List A) → IsOneOf x (xs ++ ys) → IsOneOf x xs ⊎ IsOneOf x ys
-from_append x [] ys i = inr i
-from_append x (z ∷ xs) ys (inl e) = inl (inl e)
-from_append x (z ∷ xs) ys (inr i) = elim (from_append x xs ys i) [ inl j ↦ inl (inr j) | inr j ↦ inr j ]
-
-to_left : {A : Type 0} (x : A) (xs ys : List A) → IsOneOf x xs → IsOneOf x (xs ++ ys)
-to_left x [] ys i = absurd i
-to_left x (z ∷ xs) ys (inl e) = inl e
-to_left x (z ∷ xs) ys (inr i) = inr (to_left x xs ys i)
-
-to_right : {A : Type 0} (x : A) (xs ys : List A) → IsOneOf x ys → IsOneOf x (xs ++ ys)
-to_right x [] ys i = i
-to_right x (z ∷ xs) ys i = inr (to_right x xs ys i)
-
-from_map : {A B : Type 0} (f : A → B) (y : B) (xs : List A) → IsOneOf y (map f xs) → (x : A) × IsOneOf x xs × (f x ≡ y)
-from_map f y [] i = absurd i
-from_map f y (x ∷ xs) (inl e) = (x, inl refl, e)
-from_map f y (x ∷ xs) (inr i) = let w = from_map f y xs i in (w.0, inr w.1, w.2)
-
-to_map : {A B : Type 0} (f : A → B) (x : A) (xs : List A) → IsOneOf x xs → IsOneOf (f x) (map f xs)
-to_map f x [] i = absurd i
-to_map f x (z ∷ xs) (inl e) = inl (ap f e)
-to_map f x (z ∷ xs) (inr i) = inr (to_map f x xs i)
-
 one_holds : {A : Type 0} (P : A → Type 0) (x : A) (xs : List A) → AllByRecursion P xs → IsOneOf x xs → P x
 one_holds P x [] w i = absurd i
 one_holds P x (y ∷ ys) w (inl e) = subst P e w.0
 one_holds P x (y ∷ ys) w (inr i) = one_holds P x ys w.1 i
-
-all_behind_of : {A : Type 0} (P : A → Type 0) (xs ys : List A) → AllByRecursion P (xs ++ ys) → AllByRecursion P ys
-all_behind_of P [] ys w = w
-all_behind_of P (x ∷ xs) ys w = all_behind_of P xs ys w.1
 
 -- what stands beside a number first
 abbrev lookup : ℕ → List (ℕ × ℕ) → ℕ
@@ -158,7 +132,7 @@ module _ (head : List HeadItem) (body : List BodyItem) (code : Code) (is : IsFla
   Kept i = Makes (graph_of h) (graph_of t) r at i
 
   all_kept : AllByRecursion Kept (making heads rooms 0 body ++ is.behind)
-  all_kept = all_behind_of Kept is.taking (making heads rooms 0 body ++ is.behind) (subst (AllByRecursion Kept) is.whole (f).each)
+  all_kept = all_right Kept is.taking (making heads rooms 0 body ++ is.behind) (subst (AllByRecursion Kept) is.whole (f).each)
 
   tied : (i : Instr) → IsOneOf i code.body → Kept i
   tied i w = one_holds Kept i code.body (f).each w
@@ -190,16 +164,16 @@ module _ (head : List HeadItem) (body : List BodyItem) (code : Code) (is : IsFla
   ends = map new_end news ++ map old_end (old_ports head)
 
   end_of : (z m : ℕ) → IsOneOf (z, m) ends → ((p : NewPort) × IsOneOf (p, z) news × (at (new_port r p) ≡ m)) ⊎ ((g : AtomPort) × IsOneOf (g, z) (old_ports head) × (at (old_port r g) ≡ m))
-  end_of z m i = elim (from_append (z, m) (map new_end news) (map old_end (old_ports head)) i) [
-    | inl j ↦ (let w = from_map new_end (z, m) news j in let e = w.2 in inl (w.0.0, subst (λ k. IsOneOf (w.0.0, k) news) (ap (λ (x : ℕ × ℕ). x.0) e) w.1, ap (λ (x : ℕ × ℕ). x.1) e))
-    | inr j ↦ (let w = from_map old_end (z, m) (old_ports head) j in let e = w.2 in inr (w.0.0, subst (λ k. IsOneOf (w.0.0, k) (old_ports head)) (ap (λ (x : ℕ × ℕ). x.0) e) w.1, ap (λ (x : ℕ × ℕ). x.1) e))
+  end_of z m i = elim (in_append (z, m) (map new_end news) (map old_end (old_ports head)) i) [
+    | inl j ↦ (let w = of_map new_end (z, m) news j in let e = w.2 in inl (w.0.0, subst (λ k. IsOneOf (w.0.0, k) news) (ap (λ (x : ℕ × ℕ). x.0) e) w.1, ap (λ (x : ℕ × ℕ). x.1) e))
+    | inr j ↦ (let w = of_map old_end (z, m) (old_ports head) j in let e = w.2 in inr (w.0.0, subst (λ k. IsOneOf (w.0.0, k) (old_ports head)) (ap (λ (x : ℕ × ℕ). x.0) e) w.1, ap (λ (x : ℕ × ℕ). x.1) e))
   ]
 
   abbrev value : ℕ → ℕ
   value z = lookup z ends
 
   new_value : (p : NewPort) (z : ℕ) → IsOneOf (p, z) news → value z ≡ at (new_port r p)
-  new_value p z i = lookup_is z (at (new_port r p)) ends (to_left (z, at (new_port r p)) (map new_end news) (map old_end (old_ports head)) (to_map new_end (p, z) news i)) one
+  new_value p z i = lookup_is z (at (new_port r p)) ends (in_front (z, at (new_port r p)) (map new_end news) (map old_end (old_ports head)) (in_map new_end (p, z) news i)) one
     where
       one : (m : ℕ) → IsOneOf (z, m) ends → m ≡ at (new_port r p)
       one m j = elim (end_of z m j) [
@@ -211,7 +185,7 @@ module _ (head : List HeadItem) (body : List BodyItem) (code : Code) (is : IsFla
       ]
 
   old_value : (g : AtomPort) (z : ℕ) → IsOneOf (g, z) (old_ports head) → value z ≡ at (old_port r g)
-  old_value g z i = lookup_is z (at (old_port r g)) ends (to_right (z, at (old_port r g)) (map new_end news) (map old_end (old_ports head)) (to_map old_end (g, z) (old_ports head) i)) one
+  old_value g z i = lookup_is z (at (old_port r g)) ends (in_back (z, at (old_port r g)) (map new_end news) (map old_end (old_ports head)) (in_map old_end (g, z) (old_ports head) i)) one
     where
       one : (m : ℕ) → IsOneOf (z, m) ends → m ≡ at (old_port r g)
       one m j = elim (end_of z m j) [

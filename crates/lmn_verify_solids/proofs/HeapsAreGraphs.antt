@@ -17,7 +17,7 @@ use Rattle.lmn_store_heap.specs.Heap.{Heap, HeapAtom, HeapMem, IsAtom, IsMem, ar
 use Rattle.lmn_store_heap.specs.Solid.{HasSolid, regions_of, solid_atom_at, solid_atoms_at}
 use Rattle.lmn_store_heap.specs.Sound.{Forest, Forms, IsTree, Valid, bare, flat, item_count_in, mem}
 use Rattle.lmn_store_heap.proofs.Calls.{one_tree}
-use Rattle.lmn_store_heap.proofs.Common.{in_place_atom, linked_atom, place_home}
+use Rattle.lmn_store_heap.proofs.Common.{has_functor, in_place_atom, linked_atom, place_home}
 use Rattle.lmn_store_heap.proofs.Heights.{parent_is, parent_place}
 use Rattle.lmn_store_heap.proofs.Listing.{home_is}
 use Rattle.lmn_store_heap.proofs.Replacing.{port_within}
@@ -78,15 +78,8 @@ module _ (h : Heap) where
         by None s = absurd (cc s)
         by (Some x) s = refl
 
-    functor_at : (a : ℕ) → IsAtom h a → (f : Functor) × (functor_of h a ≡ Some f)
-    functor_at a i = by (h.atoms a) i
-      where
-        by : (o : Option HeapAtom) → IsSome o → (f : Functor) × (option_map (λ x. x.functor) o ≡ Some f)
-        by None s = absurd (cc s)
-        by (Some x) s = (x.functor, refl)
-
     port_there : (a i : ℕ) → IsAtom h a → i < arity_of h a → IsPort G (a, i)
-    port_there a i s l = let f = functor_at a s in let sound = v.sound in let shaped = sound.shaped in let e = shaped.ports a f.0 f.1 in (f.0, f.1, omega (arith, l, e))
+    port_there a i s l = let f = has_functor h a s in let sound = v.sound in let shaped = sound.shaped in let e = shaped.ports a f.0 f.1 in (f.0, f.1, omega (arith, l, e))
 
     port_back : (p : Port) → IsPort G p → p.1 < arity_of h p.0
     port_back p w = let sound = v.sound in let shaped = sound.shaped in let e = shaped.ports p.0 w.0 w.1 in let l = w.2 in omega (arith, l, e)

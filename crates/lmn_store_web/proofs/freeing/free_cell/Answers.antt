@@ -3,7 +3,7 @@ use Rattle.lmn_store_heap.specs.Heap.{alter}
 use Rattle.lmn_web_cells.specs.CellIds.{cell_id}
 use Rattle.lmn_web.specs.Webs.{WebCell, home_at, kind_at, partner_at, IsLoose}
 use Rattle.lmn_web_merging.specs.Keepers.{merged_by}
-use Rattle.lmn_store_web.proofs.SendLemmas.{home_some}
+use Rattle.lmn_web_merging.proofs.Sending.{home_some}
 use Rattle.lmn_store_web.proofs.FreeLemmas.{some_none, drops, loose}
 use Rattle.lmn_store_web.proofs.freeing.free_cell.Goals as goal
 use Rattle.lmn_base.proofs.Lists.{some_is}
