@@ -24,6 +24,11 @@ returns-clause-back g c =
     moved (λ f T n. StandsAt names T (course k n S) t' h') keeps.1 keeps.0 keeps.2 (to k before.0 names S before.1))
     c.back.ensures.back
 
+pub back-requires-clause-run : goal.back-requires-clause-run
+back-requires-clause-run g c =
+    let fresh = c.in_ok-fresh.fresh in
+    subst (λ rules. EngineCanTurn (heap_of fresh.machine.store) rules fresh.codes fresh.size) (sym (ap (λ p. p.rules) c.in_ok-fresh.ensures.keeps.0)) c.in_ok-fresh.ensures.run
+
 pub back-requires-clause-chooser : goal.back-requires-clause-chooser
 back-requires-clause-chooser g c = rw c.in_ok-fresh.ensures.keeps.1 c.requires.chooser
 
