@@ -326,9 +326,6 @@ module _ (h h' : Heap) (r : HeapReading) (s : Registers) (head : List HeadItem) 
         }) 0 B d e
 
     module _ (t of inside : ℕ) (facts : RestFacts t of inside) where
-      abbrev copied : RestCopy
-      copied = rest_copy f.rests t
-
       long : IsAsLong s of (rest_copy f.rests t)
       long = facts.clear_of.long
 

@@ -192,10 +192,6 @@ one_entry (e ∷ es) x m n few (inr i) (inr j) = one_entry es x m n (omega (arit
 
 -- ---- the uses of contexts in a level and their names
 
-own_names : (inside : ℕ) (us : List CtxUse) → map (λ e. e.0) (names_inside inside us) ≡ map (λ u. u.name) us
-own_names inside [] = refl
-own_names inside (u ∷ us) = ap (λ xs. u.name ∷ xs) (own_names inside us)
-
 -- of the contexts and rule contexts of a head the contexts
 abbrev pub untyped : List CtxUse → List CtxUse → List CtxUse
 untyped cs rcs = cs
@@ -702,21 +698,4 @@ module _ (kind : ℕ → TypeKind) where
               w.2,
               (suc (sizes hs + v.0), at, (v.2.0, ap (λ ms. slice_get ms (sizes hs + v.0)) (membranes_append first rest) ∙ in_back_get (membranes_of first) (membranes_of rest) (sizes hs + v.0) v.0 v.2.0 plus v.2.1, v.2.2)),
             ))
-      ]
-
--- a name with a membrane in a head is used there
-mutual
-  pub name_used : (inside next : ℕ) (h : Head) (x : ℕ) → IsOneOf x (firsts (head_names untyped inside next h)) → (u : CtxUse) × IsOneOf u (head_contexts untyped h) × (u.name ≡ x)
-  name_used inside next (head leaves hs cs rcs rs) x i =
-      elim (in_append x (firsts (names_inside inside cs)) (firsts (heads_names untyped next hs)) (subst (IsOneOf x) (map-append (λ (e : ℕ × ℕ). e.0) (names_inside inside cs) (heads_names untyped next hs)) i)) [
-        | inl j ↦ (let r = from_map (λ (u : CtxUse). u.name) x cs (subst (IsOneOf x) (own_names inside cs) j) in (r.0, in_front r.0 cs (heads_contexts untyped hs) r.1, r.2))
-        | inr j ↦ (let r = names_used_in next hs x j in (r.0, in_back r.0 cs (heads_contexts untyped hs) r.1, r.2))
-      ]
-
-  names_used_in : (next : ℕ) (hs : Heads) (x : ℕ) → IsOneOf x (firsts (heads_names untyped next hs)) → (u : CtxUse) × IsOneOf u (heads_contexts untyped hs) × (u.name ≡ x)
-  names_used_in next no_head x i = absurd i
-  names_used_in next (head_and h hs) x i =
-      elim (in_append x (firsts (head_names untyped next (next + 1) h)) (firsts (heads_names untyped (next + 1 + size h) hs)) (subst (IsOneOf x) (map-append (λ (e : ℕ × ℕ). e.0) (head_names untyped next (next + 1) h) (heads_names untyped (next + 1 + size h) hs)) i)) [
-        | inl j ↦ (let r = name_used next (next + 1) h x j in (r.0, in_front r.0 (head_contexts untyped h) (heads_contexts untyped hs) r.1, r.2))
-        | inr j ↦ (let r = names_used_in (next + 1 + size h) hs x j in (r.0, in_back r.0 (head_contexts untyped h) (heads_contexts untyped hs) r.1, r.2))
       ]

@@ -1,5 +1,5 @@
 -- What names stand for, and conditions one by one.
-use Rattle.std.proofs.Common.{◌≡◌, ◌∙◌, ◌↔◌, ℕ, ℤ, zero, suc, ◌+◌, ◌<◌, List, [], ◌∷◌, length, slice_get, drop, Option, Some, None, Bool, IsTrue, refl, sym, ap, subst, arith}
+use Rattle.std.proofs.Common.{◌≡◌, ◌∙◌, ◌↔◌, ℕ, ℤ, ◌+◌, List, ◌∷◌, slice_get, drop, Option, Some, None, Bool, IsTrue, sym, ap, subst}
 use Rattle.lmn_base.specs.declared.guard.Cmp.{Cmp}
 use Rattle.lmn_base.specs.declared.guard.Cond.{Cond}
 use Rattle.lmn_base.specs.declared.guard.Cond.TheVariants.{Kind, Compare, Equal, Differ}
@@ -64,9 +64,3 @@ module _ (h : Heap) (s : Meaning) (guard : List Cond) (k : Known) (i : ℕ) (c :
     bound = ap (after_all h g.now) (sym rest) ∙ g.bound;
   }
 
--- in the end all were asked
-nothing_left : {A : Type 0} (xs : List A) (i : ℕ) → length xs < suc i → drop i xs ≡ []
-nothing_left [] zero l = refl
-nothing_left [] (suc i) l = refl
-nothing_left (x ∷ xs) zero l = absurd (omega (arith, l))
-nothing_left (x ∷ xs) (suc i) l = nothing_left xs i (omega (arith, l))

@@ -42,9 +42,6 @@ pub record Counted (x k n t : ℕ) : Type 0 where
   pub twice : (t ≡ 0) ⊎ (t ≡ 2)
 
 module _ (x k n : ℕ) (p q r : ℕ) (later : Counted x (k + 2) n ((p + q) + r)) where
-  clear : x < k + 2 → (p ≡ 0) × (q ≡ 0) × (r ≡ 0)
-  clear l = let e = later.before l in (omega (arith, e), omega (arith, e), omega (arith, e))
-
   none_more : Counted x k (suc n) ((p + q) + r)
   none_more = record { before = λ l. later.before (omega (arith, l)); behind = λ l. later.behind (omega (arith, l)); twice = later.twice }
 
