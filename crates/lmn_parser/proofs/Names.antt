@@ -1,5 +1,6 @@
 -- Which token a name or the name of an atom is.
 use Rattle.std.proofs.Common.{◌≡◌, ℕ, true, List, Option, Some, None, slice_get, ◌⊎◌, inl, inr, refl}
+use Rattle.lmn_base.proofs.Truth.{false_not_true as clash}
 use Rattle.lmn_parser_grammar.specs.Grammar.{name}
 use Rattle.lmn_parser_grammar.specs.Factored.{atom_name}
 use Rattle.lmn_parser_grammar.specs.Reading.{begins}
@@ -10,19 +11,19 @@ use Rattle.lmn_parser.specs.Parsing.{kinds_of}
 use Rattle.lmn_parser.specs.Trees.{At, NameAt}
 
 which_name : (o : Option Kind) → begins name o ≡ true → (o ≡ Some Name) ⊎ (o ≡ Some Quoted) ⊎ (o ≡ Some Mod)
-which_name None h = cc
+which_name None h = absurd (clash h)
 which_name (Some Name) h = inl refl
 which_name (Some Quoted) h = inr (inl refl)
 which_name (Some Mod) h = inr (inr refl)
-which_name (Some _) h = cc
+which_name (Some _) h = absurd (clash h)
 
 which_atom : (o : Option Kind) → begins atom_name o ≡ true → ((o ≡ Some Name) ⊎ (o ≡ Some Quoted) ⊎ (o ≡ Some Mod)) ⊎ (o ≡ Some Int)
-which_atom None h = cc
+which_atom None h = absurd (clash h)
 which_atom (Some Name) h = inl (inl refl)
 which_atom (Some Quoted) h = inl (inr (inl refl))
 which_atom (Some Mod) h = inl (inr (inr refl))
 which_atom (Some Int) h = inr refl
-which_atom (Some _) h = cc
+which_atom (Some _) h = absurd (clash h)
 
 -- where a name may begin one stands
 pub name_at : (ts : List Token) (p : ℕ) → begins name (slice_get (kinds_of ts) p) ≡ true → NameAt ts p
