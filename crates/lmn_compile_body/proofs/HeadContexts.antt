@@ -269,6 +269,10 @@ front_name x es fs i = subst (IsOneOf x) (sym (map-append (λ (e : ℕ × ℕ). 
 back_name : (x : ℕ) (es fs : List (ℕ × ℕ)) → IsOneOf x (firsts fs) → IsOneOf x (firsts (es ++ fs))
 back_name x es fs i = subst (IsOneOf x) (sym (map-append (λ (e : ℕ × ℕ). e.0) es fs)) (in_back x (firsts es) (firsts fs) i)
 
+own_names : (inside : ℕ) (us : List CtxUse) → map (λ e. e.0) (names_inside inside us) ≡ map (λ u. u.name) us
+own_names inside [] = refl
+own_names inside (u ∷ us) = ap (λ xs. u.name ∷ xs) (own_names inside us)
+
 mutual
   -- an untyped context that is used in a head has a membrane there
   pub has_name : (inside next : ℕ) (h : Head) (u : FormedUse) → IsOneOf (item.Context u) (head_uses h) → (u.form ≡ Typed → ⊥) → IsOneOf u.name (firsts (head_names untyped inside next h))
