@@ -63,4 +63,3 @@ module _ (h : Heap) (s : Meaning) (guard : List Cond) (k : Known) (i : ℕ) (c :
     );
     bound = ap (after_all h g.now) (sym rest) ∙ g.bound;
   }
-
