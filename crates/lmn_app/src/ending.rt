@@ -5,7 +5,7 @@ use lmn_app_words::PairKind;
 use lmn_base::Refusal;
 
 /// How a call ends. Each ending has a status and a line on `err`, which may be nothing.
-#[derive(Clone, Copy, Debug, PartialEq, Eq)]
+#[derive(Clone, Copy)]
 pub enum Ending {
     /// The last process has no reduction, and all was written.
     Done,

@@ -2,7 +2,7 @@ use lmn_app_words::RunSettings;
 use lmn_order::Order;
 
 /// What a command does with a text.
-#[derive(Clone, Copy, Debug, PartialEq, Eq)]
+#[derive(Clone, Copy)]
 pub(crate) enum Task {
     /// A run of it.
     Run(RunSettings),

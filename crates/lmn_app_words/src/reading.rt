@@ -115,7 +115,7 @@ fn is_file_name(word: &[u8]) -> bool
 }
 
 /// What the words behind `run` told so far.
-#[derive(Clone, Copy, Debug, PartialEq, Eq)]
+#[derive(Clone, Copy)]
 struct Reader<'w> {
     file: Option<&'w str>,
     settings: Settings,

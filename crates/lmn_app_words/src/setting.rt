@@ -17,7 +17,7 @@ const MOST_ITEMS: u64 = 4_294_967_295;
 const MOST_ATOMS: u64 = 100_000;
 
 /// What one option sets.
-#[derive(Clone, Copy, Debug, PartialEq, Eq)]
+#[derive(Clone, Copy)]
 pub(crate) enum Setting {
     Flag(Flag),
     Budget(u64),
@@ -27,7 +27,7 @@ pub(crate) enum Setting {
 }
 
 /// An option without a value.
-#[derive(Clone, Copy, Debug, PartialEq, Eq)]
+#[derive(Clone, Copy)]
 pub(crate) enum Flag {
     Trace,
     Folded,
@@ -47,7 +47,7 @@ impl Flag {
 }
 
 /// The value of `--order`.
-#[derive(Clone, Copy, Debug, PartialEq, Eq)]
+#[derive(Clone, Copy)]
 pub(crate) enum OrderName {
     First,
     Turn,
@@ -80,7 +80,7 @@ impl OrderName {
 }
 
 /// An option with a value.
-#[derive(Clone, Copy, Debug, PartialEq, Eq)]
+#[derive(Clone, Copy)]
 pub(crate) enum Valued {
     Budget,
     Size,
@@ -155,7 +155,7 @@ fn begins_with(word: &[u8], byte: u8) -> bool
 }
 
 /// What the options of `run` set so far, each at most once.
-#[derive(Clone, Copy, Debug, PartialEq, Eq)]
+#[derive(Clone, Copy)]
 pub(crate) struct Settings {
     trace: bool,
     folded: bool,

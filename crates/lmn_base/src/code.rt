@@ -6,7 +6,7 @@ ghost use Rattle.lmn_base.specs.Codes.{code_of, code_number, code_words, words_o
 use crate::refusal::{Pos, Refusal};
 
 /// Why a text is refused: a program's by the codes up to 50, the second text of a command by those from 60 on.
-#[derive(Clone, Copy, Debug, PartialEq, Eq)]
+#[derive(Clone, Copy)]
 pub enum RefusalCode {
     /// The text has more than 4,194,304 bytes.
     TextTooLong = 1,

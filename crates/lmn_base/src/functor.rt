@@ -14,7 +14,7 @@ pub const UNARY_NAME: u32 = 2;
 pub const GROUND_NAME: u32 = 3;
 
 /// What an atom is called.
-#[derive(Clone, Copy, Debug, PartialEq, Eq)]
+#[derive(Clone, Copy, PartialEq, Eq)]
 pub enum Label {
     /// A name, by its number in the list of names.
     Name(u32),
@@ -24,7 +24,7 @@ pub enum Label {
 
 /// The label of an atom and the number of its links. The functor of a connector is
 /// `CONNECTOR_NAME` with arity 2.
-#[derive(Clone, Copy, Debug, PartialEq, Eq)]
+#[derive(Clone, Copy, PartialEq, Eq)]
 pub struct Functor {
     /// What the atom is called.
     pub label: Label,

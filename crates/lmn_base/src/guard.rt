@@ -3,7 +3,7 @@ use crate::refusal::Pos;
 use crate::rows::Rows;
 
 /// An operator of integer expressions.
-#[derive(Clone, Copy, Debug, PartialEq, Eq)]
+#[derive(Clone, Copy, Debug)]
 pub enum Arith {
     /// `+`
     Add,
@@ -36,7 +36,7 @@ pub enum Expr {
 }
 
 /// A comparison of two integers.
-#[derive(Clone, Copy, Debug, PartialEq, Eq)]
+#[derive(Clone, Copy, Debug)]
 pub enum Cmp {
     /// `<`
     Lt,

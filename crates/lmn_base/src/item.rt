@@ -6,7 +6,7 @@ use crate::level::{CtxUse, Leaf};
 use crate::refusal::Pos;
 
 /// How a context is written.
-#[derive(Clone, Copy, Debug, PartialEq, Eq)]
+#[derive(Clone, Copy)]
 pub enum Form {
     /// Alone, as `$p`.
     Bare,
@@ -17,7 +17,7 @@ pub enum Form {
 }
 
 /// One use of a context, with its form.
-#[derive(Clone, Copy, Debug, PartialEq, Eq)]
+#[derive(Clone, Copy)]
 pub struct FormedUse {
     /// The number of its name.
     pub name: u32,
@@ -28,7 +28,7 @@ pub struct FormedUse {
 }
 
 /// What stands in a rule, but for its membranes.
-#[derive(Clone, Copy, Debug, PartialEq, Eq)]
+#[derive(Clone, Copy)]
 pub enum Item {
     /// An atom, a connector too.
     Atom {

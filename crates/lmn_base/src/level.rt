@@ -3,7 +3,7 @@ use crate::refusal::Pos;
 use crate::rows::Rows;
 
 /// One occurrence of a link.
-#[derive(Clone, Copy, Debug, PartialEq, Eq)]
+#[derive(Clone, Copy)]
 pub struct Occ {
     /// The number of the link in its rule, or in the process outside every rule, counted from 0.
     pub link: u32,
@@ -35,7 +35,7 @@ pub enum Leaf {
 }
 
 /// One use of a context or of a rule context.
-#[derive(Clone, Copy, Debug, PartialEq, Eq)]
+#[derive(Clone, Copy)]
 pub struct CtxUse {
     /// The number of its name.
     pub name: u32,

@@ -20,7 +20,7 @@ pub trait Question {
 }
 
 /// What was found among some places: the first of them, and how many there are.
-#[derive(Clone, Copy, Debug, PartialEq, Eq)]
+#[derive(Clone, Copy)]
 pub struct Found {
     /// The first place in the text.
     pub first: Option<Pos>,

@@ -26,7 +26,7 @@ impl Pos {
 }
 
 /// Why a text is refused, and where.
-#[derive(Clone, Copy, Debug, PartialEq, Eq)]
+#[derive(Clone, Copy, Debug)]
 pub struct Refusal {
     /// The number of the code: 1 for `E01`, 50 for `E50`.
     pub code: u8,
@@ -35,7 +35,7 @@ pub struct Refusal {
 }
 
 /// Why a text could not be read.
-#[derive(Clone, Copy, Debug, PartialEq, Eq)]
+#[derive(Clone, Copy, Debug)]
 pub enum TextFault {
     /// The text is refused.
     Refused(Refusal),

@@ -6,7 +6,7 @@ use std::marker::Model;
 use std::mem;
 
 /// A vector that contracts see as the list of its items.
-#[derive(Debug, Drop)]
+#[derive(Drop)]
 pub struct Rows<T> {
     items: Vec<T>,
 }

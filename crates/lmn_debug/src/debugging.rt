@@ -28,7 +28,7 @@ use std::alloc::Global;
 use std::sync::ledger::Ledger;
 
 /// Why orders weren't all carried out and written.
-#[derive(Clone, Copy, Debug, PartialEq, Eq)]
+#[derive(Clone, Copy)]
 pub enum DebugFault {
     /// Memory was wanting for one. The lines of those before it were written.
     NoMemory,

@@ -29,7 +29,7 @@ use std::sync::ledger::Ledger;
 const MOST_TURNS: u64 = 1_000_000;
 
 /// Why a command of a session stopped.
-#[derive(Clone, Copy, Debug, PartialEq, Eq)]
+#[derive(Clone, Copy)]
 pub enum Stop {
     /// All its turns committed.
     Done,

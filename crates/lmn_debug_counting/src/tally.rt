@@ -7,7 +7,7 @@ use lmn_base::Functor;
 use lmn_store_trait::LinkStore;
 
 /// A functor, and how many atoms in membranes have it.
-#[derive(Clone, Copy, Debug, PartialEq, Eq)]
+#[derive(Clone, Copy)]
 pub(crate) struct Tally {
     /// The functor.
     pub(crate) functor: Functor,

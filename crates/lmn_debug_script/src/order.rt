@@ -1,7 +1,7 @@
 use lmn_base::{Cmp, Functor};
 
 /// What a line of a script orders.
-#[derive(Clone, Copy, Debug, PartialEq, Eq)]
+#[derive(Clone, Copy)]
 pub enum Order {
     /// At most so many turns, 1 to 1,000,000, up to the first that doesn't commit.
     Step(u64),

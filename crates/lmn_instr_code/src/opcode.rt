@@ -4,7 +4,7 @@ ghost use Rattle.lmn_instr_code.specs.declared.opcode.Opcode.{Opcode as TheOpcod
 ghost use Rattle.lmn_instr_code.specs.Opcodes.{opcode_name, form_of, is_in_head, none, one, two, three, with_parts, setting};
 
 /// What an instruction is called.
-#[derive(Clone, Copy, Debug, PartialEq, Eq)]
+#[derive(Clone, Copy)]
 pub enum Opcode {
     FindAtom,
     Deref,
@@ -109,7 +109,7 @@ const OPCODES: [Opcode; 48] = [
 ];
 
 /// What stands in the place of an operand.
-#[derive(Clone, Copy, Debug, PartialEq, Eq)]
+#[derive(Clone, Copy)]
 pub enum Kind {
     /// The register of an atom.
     Atom,
@@ -138,7 +138,7 @@ pub enum Kind {
 }
 
 /// The operands of an instruction: at most three, and then any number of typed contexts, where there may be some.
-#[derive(Clone, Copy, Debug, PartialEq, Eq)]
+#[derive(Clone, Copy)]
 pub struct Form {
     pub first: Option<Kind>,
     pub second: Option<Kind>,

@@ -7,7 +7,7 @@ use crate::opcode::Opcode;
 use lmn_base::Functor;
 
 /// An operand of an instruction.
-#[derive(Clone, Copy, Debug, PartialEq, Eq)]
+#[derive(Clone, Copy)]
 pub enum Operand {
     /// The register of an atom.
     Atom(u16),

@@ -3,7 +3,7 @@ use std::alloc::Global;
 use thiserror::Error;
 
 /// What a fetch found.
-#[derive(Debug, Drop)]
+#[derive(Drop)]
 pub enum Fetched {
     /// All bytes of the text.
     Whole(Rows<u8>),

@@ -7,7 +7,7 @@ use crate::token::Kind;
 use lmn_base::RefusalCode;
 
 /// What a text begins with.
-#[derive(Clone, Copy, Debug, PartialEq, Eq)]
+#[derive(Clone, Copy)]
 pub(crate) enum Piece {
     /// A separator or a comment of so many bytes.
     Gap(usize),

@@ -15,7 +15,7 @@ use lmn_base::{NoMemory, Pos, Refusal, TextFault};
 use std::alloc::Global;
 
 /// How far a text is cut into tokens.
-#[derive(Debug, Drop)]
+#[derive(Drop)]
 struct Scanner {
     /// The number of bytes that are cut off.
     at: usize,

@@ -1,7 +1,7 @@
 use lmn_base::Pos;
 
 /// What a token is. `NAME` of the grammar is `Name`, `Quoted` and `Mod`.
-#[derive(Clone, Copy, Debug, PartialEq, Eq)]
+#[derive(Clone, Copy, PartialEq, Eq)]
 pub enum Kind {
     /// A name without quotes, other than `mod`.
     Name,
@@ -70,7 +70,7 @@ pub enum Kind {
 }
 
 /// A token of a text.
-#[derive(Clone, Copy, Debug, PartialEq, Eq)]
+#[derive(Clone, Copy)]
 pub struct Token {
     /// What it is.
     pub kind: Kind,

@@ -6,7 +6,7 @@ use std::alloc::Global;
 use std::marker::Model;
 
 /// The tokens of a text, in order. Contracts see their list.
-#[derive(Debug, Drop)]
+#[derive(Drop)]
 pub struct Tokens {
     rows: Rows<PackedToken>,
 }
@@ -66,7 +66,7 @@ impl Tokens {
 
 /// A token in 20 bytes. Contracts see the token.
 /// Numbers of 32 bits in place of 64: a text of 2^32 bytes or more is answered by want of memory.
-#[derive(Debug, Drop)]
+#[derive(Drop)]
 pub struct PackedToken {
     kind: Kind,
     start: u32,

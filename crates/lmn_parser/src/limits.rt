@@ -17,7 +17,7 @@ const OPERATORS: u16 = 255;
 const ARGUMENTS: u8 = 255;
 
 /// A token that passes a limit.
-#[derive(Clone, Copy, Debug, PartialEq, Eq)]
+#[derive(Clone, Copy)]
 pub(crate) struct Passing {
     /// Its number.
     pub(crate) at: usize,
@@ -26,7 +26,7 @@ pub(crate) struct Passing {
 }
 
 /// An open bracket.
-#[derive(Clone, Copy, Debug, PartialEq, Eq, Drop)]
+#[derive(Clone, Copy, Drop)]
 enum Opened {
     /// The arguments of an atom: how many it may have, and how many are begun. None counts as one.
     Arguments {
@@ -42,7 +42,7 @@ enum Opened {
 }
 
 /// The last token.
-#[derive(Clone, Copy, Debug, PartialEq, Eq)]
+#[derive(Clone, Copy)]
 enum Last {
     /// `=`
     Equals,

@@ -2,7 +2,7 @@ use lmn_base::NoMemory;
 use std::alloc::AllocFailed;
 
 /// Why a part of a text wasn't read.
-#[derive(Clone, Copy, Debug, PartialEq, Eq)]
+#[derive(Clone, Copy)]
 pub(crate) enum Stop {
     /// No reading takes the token with this number, or there is none with it.
     At(usize),

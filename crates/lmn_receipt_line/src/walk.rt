@@ -13,7 +13,7 @@ use lmn_print_plain::add_between;
 use std::alloc::Global;
 
 /// What is left to write of a region.
-#[derive(Clone, Copy, Debug, PartialEq, Eq)]
+#[derive(Clone, Copy)]
 pub(crate) enum Left {
     /// All of it.
     All,

@@ -5,7 +5,7 @@ ghost use Rattle.lmn_solid_firing.specs.Making.{written};
 use lmn_base::NoMemory;
 
 /// How the links of atoms of the solid are written.
-#[derive(Clone, Copy, Debug, PartialEq, Eq)]
+#[derive(Clone, Copy)]
 pub(crate) enum Writing {
     /// Each from a number on: those that stay from 0, those of a copy from a number of its own.
     Shifted {

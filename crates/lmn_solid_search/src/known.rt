@@ -21,7 +21,7 @@ use lmn_solid_tables::{Flat, Port};
 use std::alloc::Global;
 
 /// A typed context, and the port at which its part is entered.
-#[derive(Clone, Copy, Debug, PartialEq, Eq)]
+#[derive(Clone, Copy)]
 pub(crate) struct Named {
     /// The number of its name.
     pub name: u32,

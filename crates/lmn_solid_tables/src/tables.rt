@@ -21,7 +21,7 @@ pub struct FlatMembrane {
 }
 
 /// A port of an atom.
-#[derive(Clone, Copy, Debug, PartialEq, Eq)]
+#[derive(Clone, Copy, PartialEq, Eq)]
 pub struct Port {
     /// The number of the atom.
     pub atom: usize,

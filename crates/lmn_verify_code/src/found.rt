@@ -3,7 +3,7 @@ use lmn_guards::TypeKind;
 use lmn_instr_code::AtomPort;
 
 /// How many registers of each kind are set.
-#[derive(Clone, Copy, Debug, PartialEq, Eq)]
+#[derive(Clone, Copy)]
 pub struct RegisterCounts {
     /// Atoms.
     pub atoms: u16,
@@ -18,7 +18,7 @@ pub struct RegisterCounts {
 }
 
 /// An atom that a head finds.
-#[derive(Clone, Copy, Debug, PartialEq, Eq)]
+#[derive(Clone, Copy)]
 pub struct FoundAtom {
     /// The number of its register.
     pub atom: u16,
@@ -29,7 +29,7 @@ pub struct FoundAtom {
 }
 
 /// A membrane that a head finds.
-#[derive(Clone, Copy, Debug, PartialEq, Eq)]
+#[derive(Clone, Copy)]
 pub struct FoundMembrane {
     /// The number of its register.
     pub membrane: u16,
@@ -38,7 +38,7 @@ pub struct FoundMembrane {
 }
 
 /// A typed context that a head finds.
-#[derive(Clone, Copy, Debug, PartialEq, Eq)]
+#[derive(Clone, Copy)]
 pub struct FoundPart {
     /// The number of its register.
     pub part: u16,
