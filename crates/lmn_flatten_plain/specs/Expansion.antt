@@ -36,19 +36,6 @@ module _ (words : List Word) (places : List Pos) where
   expanded_arguments pos way no_term = []
   expanded_arguments pos way (term_and t ts) = argument pos (0 ∷ way) t ∷ expanded_arguments pos (1 ∷ way) ts
 
-  -- The ways to the parts of a list, and of a cell: its elements and its end, an element and what follows it.
-  abbrev pub way_of_elements : List ℕ → List ℕ
-  way_of_elements way = 0 ∷ way
-
-  abbrev pub way_of_end : List ℕ → List ℕ
-  way_of_end way = 1 ∷ way
-
-  abbrev pub way_of_element : List ℕ → List ℕ
-  way_of_element way = 0 ∷ way
-
-  abbrev pub way_of_rest : List ℕ → List ℕ
-  way_of_rest way = 1 ∷ way
-
   -- the rest of a list cell behind which these terms and then this end stand
   abbrev pub rest : Pos → List ℕ → Use → Terms → Use
   rest pos way end no_term = end
@@ -70,18 +57,18 @@ module _ (words : List Word) (places : List Pos) where
     expanded_term pos way x (context p) = one_leaf (typed_leaf (name_at words places p) (link_used x pos) (place_at words places p))
     expanded_term pos way x (membrane cs) = one_membrane (an_atom (named (codes "+")) (link_used x pos ∷ []) pos ⊕ expanded_clauses way cs)
     expanded_term pos way x (list ts) =
-        cells pos (way_of_elements way) (link_used (made (way_of_end way)) pos) x ts
-        ⊕ an_atom (named (codes "[]")) (link_used (last_link (way_of_end way) x ts) pos ∷ []) pos
+        cells pos (0 ∷ way) (link_used (made (1 ∷ way)) pos) x ts
+        ⊕ an_atom (named (codes "[]")) (link_used (last_link (1 ∷ way) x ts) pos ∷ []) pos
     expanded_term pos way x (list_onto ts t) =
-        cells pos (way_of_elements way) (argument pos (way_of_end way) t) x ts ⊕ expanded_term pos (way_of_end way) (made (way_of_end way)) t
+        cells pos (0 ∷ way) (argument pos (1 ∷ way) t) x ts ⊕ expanded_term pos (1 ∷ way) (made (1 ∷ way)) t
 
     -- the cells of a list with these elements, of which x is the first's own link, and this end
     pub cells : Pos → List ℕ → Use → Link → Terms → NumberedParts
     cells pos way end x no_term = nothing
     cells pos way end x (term_and t ts) =
-        an_atom (named (codes ".")) (argument pos (way_of_element way) t ∷ rest pos (way_of_rest way) end ts ∷ link_used x pos ∷ []) pos
-        ⊕ expanded_term pos (way_of_element way) (made (way_of_element way)) t
-        ⊕ cells pos (way_of_rest way) end (made (way_of_rest way)) ts
+        an_atom (named (codes ".")) (argument pos (0 ∷ way) t ∷ rest pos (1 ∷ way) end ts ∷ link_used x pos ∷ []) pos
+        ⊕ expanded_term pos (0 ∷ way) (made (0 ∷ way)) t
+        ⊕ cells pos (1 ∷ way) end (made (1 ∷ way)) ts
 
     -- what arguments make
     pub expanded_terms : Pos → List ℕ → Terms → NumberedParts
