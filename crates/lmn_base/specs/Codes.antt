@@ -1,5 +1,6 @@
 -- The table of refusals: the number and the words of each code.
-use Rattle.std.specs.Prelude.{ℕ, ◌≡◌, ◌==◌, List, [], ◌∷◌, ◌++◌, Option, Some, None, codes, if◌then◌else◌, IsSome}
+use Rattle.std.specs.Prelude.{ℕ, ◌≡◌, ◌==◌, List, [], ◌∷◌, ◌++◌, Option, Some, option_map, unwrap_or, codes, IsSome}
+use Rattle.std.specs.List.{find}
 use Rattle.lmn_base.specs.declared.code.RefusalCode.{RefusalCode}
 use Rattle.lmn_base.specs.declared.code.RefusalCode.TheVariants.{TextTooLong, BadByte, NotClosed, IntegerOutOfRange, NameTooLong, FloatingPoint, StringLiteral, InlineCode, Hyperlink, UnexpectedToken, NestingTooDeep, TooManyArguments, LinkOnce, LinkTooOften, LinkOnceInRule, LinkTooOftenInRule, ContextOutsideHeadMembrane, TwoContextsInMembrane, ContextTwiceInHead, ContextNotOnceInBody, ContextNotInHead, RuleContextOutsideHeadMembrane, RuleInHead, ConnectorInHead, EmptyHead, ContextOutsideRule, ContextWithoutType, UnknownGuard, WrongOperands, UnboundContext, RuleTooLarge, ContextInTwoForms, TypedContextNotHeld, ProcessTooLarge, TraceTooLong, NotAFiring, WrongEnd, ScriptTooLong, UnknownCommand, ListingTooLong, NotAListing, CodeNotVerified, WeightsTooLong, BadWeight, RuleNotLowered}
 
@@ -80,8 +81,7 @@ all_codes = text_codes ++ second_codes
 
 -- the first of some codes that has a number
 abbrev pub first_numbered : ℕ → List RefusalCode → Option RefusalCode
-first_numbered n [] = None
-first_numbered n (code ∷ others) = if n == code_number code then Some code else first_numbered n others
+first_numbered n = find (λ code. n == code_number code)
 
 -- the code with a number
 abbrev pub code_of : ℕ → Option RefusalCode
@@ -91,14 +91,9 @@ code_of n = first_numbered n all_codes
 abbrev pub IsTextCode : ℕ → Type 0
 IsTextCode code = IsSome (first_numbered code text_codes)
 
--- the words of a code, where there is one
-abbrev pub words_or_none : Option RefusalCode → List ℕ
-words_or_none (Some code) = code_words code
-words_or_none None = []
-
--- the words of a number
+-- the words of a number, where it is that of a code
 abbrev pub words_of_number : ℕ → List ℕ
-words_of_number n = words_or_none (code_of n)
+words_of_number n = unwrap_or (option_map code_words (code_of n)) []
 
 -- a code is the one that has its number
 abbrev pub CodesAreNumbered : Type 0
