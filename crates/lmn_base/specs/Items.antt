@@ -1,5 +1,5 @@
 -- What stands in a rule at every depth, as one list.
-use Rattle.std.specs.Prelude.{ℕ, ◌+◌, Bool, true, false, List, [], ◌∷◌, ◌++◌, map, flat_map, length, sum}
+use Rattle.std.specs.Prelude.{ℕ, ◌+◌, Bool, if◌then◌else◌, List, [], ◌∷◌, ◌++◌, map, flat_map, length, sum}
 use Rattle.lmn_base.specs.declared.guard.Expr.{Expr}
 use Rattle.lmn_base.specs.declared.guard.Expr.TheOpen.{Expr-F, Int as Integer, Ctx, Op}
 use Rattle.lmn_base.specs.declared.guard.Expr.TheFolds.{fold-Expr}
@@ -24,8 +24,7 @@ used form u = item.Context (record { name = u.name; form = form; pos = u.pos })
 
 -- how an untyped context is written: closed or not
 abbrev pub untyped_form : Bool → Form
-untyped_form true = form.Closed
-untyped_form false = form.Bare
+untyped_form closed = if closed then form.Closed else form.Bare
 
 -- a use of an untyped context
 abbrev pub untyped : CtxUse → Item
@@ -53,18 +52,15 @@ expression_items_step (Op op left right) = left.value ++ right.value
 abbrev pub expression_items : Expr → List Item
 expression_items = fold-Expr (List Item) expression_items_step
 
--- the contexts of a condition, of a guard, and what stands in a whole rule
+-- the contexts of a condition, and what stands in a whole rule
 abbrev pub condition_items : Cond → List Item
 condition_items (Kind name args pos) = map (used form.Typed) args
 condition_items (Compare op left right pos) = expression_items left ++ expression_items right
 condition_items (Equal left right pos) = used form.Typed left ∷ expression_items right
 condition_items (Differ left right pos) = used form.Typed left ∷ used form.Typed right ∷ []
 
-abbrev pub guard_items : List Cond → List Item
-guard_items = flat_map condition_items
-
 abbrev pub rule_items : RuleTree → List Item
-rule_items r = items_of r.head ++ (guard_items r.guard ++ items_of r.body)
+rule_items r = items_of r.head ++ (flat_map condition_items r.guard ++ items_of r.body)
 
 -- how many items stand in a level, its membranes too, at every depth; a rule is one item
 abbrev pub number_step : Level-F ℕ → ℕ
@@ -72,3 +68,7 @@ number_step l = length l.leaves + (length l.membranes + (length l.contexts + (le
 
 abbrev pub number_of_items : Level → ℕ
 number_of_items = fold-Level ℕ number_step
+
+-- the contexts of a guard, as the contracts of private functions tell them
+abbrev pub guard_items : List Cond → List Item
+guard_items = flat_map condition_items
