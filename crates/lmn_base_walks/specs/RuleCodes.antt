@@ -23,7 +23,7 @@ use Rattle.lmn_base.specs.Items.{own_items, items_of, rule_items, number_of_item
 use Rattle.lmn_base.specs.Levels.{everywhere}
 use Rattle.lmn_base.specs.Limits.{most_head_items, most_body_items, most_conditions, most_guard_tokens}
 use Rattle.lmn_base.specs.PlaceOrder.{not_after}
-use Rattle.lmn_base.specs.Uses.{is_some_place, has_use}
+use Rattle.lmn_base.specs.Uses.{is_some_place, context_where, rule_context_where, has_use}
 
 -- ---- E44: beyond a limit
 
@@ -77,28 +77,17 @@ connector_in_head r = record { code = 37; places = flat_map connector_place (ite
 
 -- ---- E30, E35: an untyped context, open or closed, or a rule context, stands at the head's top
 
-abbrev pub is_bare : Form → Bool
-is_bare Bare = true
-is_bare Closed = false
-is_bare Typed = false
-
-abbrev pub is_untyped : Form → Bool
-is_untyped Typed = false
-is_untyped form = true
-
-abbrev pub untyped_place : Item → List Pos
-untyped_place (Context u) = if is_untyped u.form then u.pos ∷ [] else []
-untyped_place item = []
-
-abbrev pub rule_context_place : Item → List Pos
-rule_context_place (RuleContext u) = u.pos ∷ []
-rule_context_place item = []
+abbrev pub same_form : Form → Form → Bool
+same_form Bare Bare = true
+same_form Closed Closed = true
+same_form Typed Typed = true
+same_form f g = false
 
 abbrev pub context_at_top : RuleTree → Row
-context_at_top r = record { code = 30; places = flat_map untyped_place (own_items (out-Level r.head)) }
+context_at_top r = record { code = 30; places = flat_map (context_where (λ u. not (same_form Typed u.form))) (own_items (out-Level r.head)) }
 
 abbrev pub rule_context_at_top : RuleTree → Row
-rule_context_at_top r = record { code = 35; places = flat_map rule_context_place (own_items (out-Level r.head)) }
+rule_context_at_top r = record { code = 35; places = flat_map (rule_context_where (λ u. true)) (own_items (out-Level r.head)) }
 
 -- ---- E31: a head membrane has two untyped contexts, open or closed, or two rule contexts, at the second of the first such pair
 
@@ -106,12 +95,9 @@ rule_context_at_top r = record { code = 35; places = flat_map rule_context_place
 abbrev pub behind_the_first : List CtxUse → List Pos
 behind_the_first us = flat_map (λ u. u.pos ∷ []) (drop 1 us)
 
-abbrev pub seconds : {A : Type 0} → Level-F A → List Pos
-seconds l = behind_the_first l.contexts ++ behind_the_first l.rule_contexts
-
 -- membrane by membrane, an outer one before those in it
 abbrev pub seconds_by_membrane : Level → List (List Pos)
-seconds_by_membrane = everywhere (λ l. seconds l ∷ [])
+seconds_by_membrane = everywhere (λ l. (behind_the_first l.contexts ++ behind_the_first l.rule_contexts) ∷ [])
 
 -- the first of some lists that has a place
 abbrev pub first_with_some : List (List Pos) → List Pos
@@ -123,19 +109,10 @@ two_in_membrane r = record { code = 31; places = first_with_some (flat_map secon
 
 -- ---- E32: a context, or a rule context, occurs twice in the head, at its second place
 
--- the place of a use of a context with a name, up to a place
-abbrev pub use_up_to : ℕ → Pos → Item → List Pos
-use_up_to n p (Context u) = if (u.name == n) && not_after u.pos p then u.pos ∷ [] else []
-use_up_to n p item = []
-
-abbrev pub rule_use_up_to : ℕ → Pos → Item → List Pos
-rule_use_up_to n p (RuleContext u) = if (u.name == n) && not_after u.pos p then u.pos ∷ [] else []
-rule_use_up_to n p item = []
-
 -- it isn't the first use: up to its place there is more than one. Of two at one place, which no text has, both count.
 abbrev pub used_again : List Item → Item → List Pos
-used_again items (Context u) = if nat_lt 1 (length (flat_map (use_up_to u.name u.pos) items)) then u.pos ∷ [] else []
-used_again items (RuleContext u) = if nat_lt 1 (length (flat_map (rule_use_up_to u.name u.pos) items)) then u.pos ∷ [] else []
+used_again items (Context u) = if nat_lt 1 (length (flat_map (context_where (λ v. (v.name == u.name) && not_after v.pos u.pos)) items)) then u.pos ∷ [] else []
+used_again items (RuleContext u) = if nat_lt 1 (length (flat_map (rule_context_where (λ v. (v.name == u.name) && not_after v.pos u.pos)) items)) then u.pos ∷ [] else []
 used_again items item = []
 
 abbrev pub twice_in_head : RuleTree → Row
@@ -143,24 +120,21 @@ twice_in_head r = record { code = 32; places = flat_map (used_again (items_of r.
 
 -- ---- E33: an open context of the head occurs not exactly once in the body, bare
 
-abbrev pub bare_use : ℕ → Item → List Pos
-bare_use n (Context u) = if (u.name == n) && is_bare u.form then u.pos ∷ [] else []
-bare_use n item = []
+abbrev pub is_bare : Form → Bool
+is_bare = same_form Bare
 
-abbrev pub bare_use_up_to : ℕ → Pos → Item → List Pos
-bare_use_up_to n p (Context u) = if (u.name == n) && (is_bare u.form && not_after u.pos p) then u.pos ∷ [] else []
-bare_use_up_to n p item = []
+abbrev pub bare_use : ℕ → Item → List Pos
+bare_use n = context_where (λ u. (u.name == n) && is_bare u.form)
 
 -- its place in the head, if it has none in the body
 abbrev pub missing : List Item → Item → List Pos
-missing body (Context u) = if is_bare u.form && not (is_some_place (flat_map (bare_use u.name) body)) then u.pos ∷ [] else []
-missing body item = []
+missing body = context_where (λ u. is_bare u.form && not (is_some_place (flat_map (bare_use u.name) body)))
 
 -- a bare place in the body of an open context of the head, which isn't the first
 abbrev pub bare_again : List Item → List Item → Item → List Pos
-bare_again head body (Context u) =
-    if is_bare u.form && (is_some_place (flat_map (bare_use u.name) head) && nat_lt 1 (length (flat_map (bare_use_up_to u.name u.pos) body))) then u.pos ∷ [] else []
-bare_again head body item = []
+bare_again head body = context_where (λ u.
+    is_bare u.form && (is_some_place (flat_map (bare_use u.name) head)
+    && nat_lt 1 (length (flat_map (context_where (λ v. (v.name == u.name) && (is_bare v.form && not_after v.pos u.pos))) body))))
 
 abbrev pub not_once_in_body : RuleTree → Row
 not_once_in_body r = record {
@@ -176,8 +150,7 @@ is_left_of n (Equal left right pos) = left.name == n
 is_left_of n condition = false
 
 abbrev pub rule_use : ℕ → Item → List Pos
-rule_use n (RuleContext u) = if u.name == n then u.pos ∷ [] else []
-rule_use n item = []
+rule_use n = rule_context_where (λ u. u.name == n)
 
 abbrev pub from_nowhere : List Item → List Cond → Item → List Pos
 from_nowhere head guard (Context u) = if has_use u.name head || list_any (is_left_of u.name) guard then [] else u.pos ∷ []
@@ -190,26 +163,24 @@ not_in_head r = record { code = 34; places = flat_map (from_nowhere (items_of r.
 -- ---- E45: two places of one context in the rule differ in form. There are three forms: bare, closed, and typed. A place in
 -- argument form, in the form `$x[X]` or in the guard is of the typed form.
 
-abbrev pub same_form : Form → Form → Bool
-same_form Bare Bare = true
-same_form Closed Closed = true
-same_form Typed Typed = true
-same_form f g = false
-
-abbrev pub other_form_up_to : FormedUse → Item → List Pos
-other_form_up_to v (Context u) = if (u.name == v.name) && (not (same_form u.form v.form) && not_after u.pos v.pos) then u.pos ∷ [] else []
-other_form_up_to v item = []
-
 -- A use before which the context stands in another form. The first such use is the first whose form isn't that of the
 -- context's first place.
 abbrev pub in_other_form : List Item → Item → List Pos
-in_other_form items (Context u) = if is_some_place (flat_map (other_form_up_to u) items) then u.pos ∷ [] else []
-in_other_form items item = []
+in_other_form items = context_where (λ u.
+    is_some_place (flat_map (context_where (λ v. (v.name == u.name) && (not (same_form v.form u.form) && not_after v.pos u.pos))) items))
 
 abbrev pub in_two_forms : RuleTree → Row
 in_two_forms r = record { code = 45; places = flat_map (in_other_form (rule_items r)) (rule_items r) }
 
 -- ---- all of them, in their order
+
+abbrev pub rule_rows : List RuleTree → RuleTree → List Row
+rule_rows table r =
+    too_large r ∷ empty_head r
+    ∷ rule_in_head table r ∷ connector_in_head r ∷ context_at_top r ∷ rule_context_at_top r ∷ two_in_membrane r
+    ∷ twice_in_head r ∷ not_once_in_body r ∷ not_in_head r ∷ in_two_forms r ∷ []
+
+-- ---- parts of the rows, as the contracts of private functions tell them
 
 -- the rows on the size and the head's emptiness, on the head, and on the uses of contexts
 abbrev pub size_rows : RuleTree → List Row
@@ -221,5 +192,30 @@ head_rows table r = rule_in_head table r ∷ connector_in_head r ∷ context_at_
 abbrev pub use_rows : RuleTree → List Row
 use_rows r = twice_in_head r ∷ not_once_in_body r ∷ not_in_head r ∷ in_two_forms r ∷ []
 
-abbrev pub rule_rows : List RuleTree → RuleTree → List Row
-rule_rows table r = size_rows r ++ (head_rows table r ++ use_rows r)
+-- the place of an untyped context, and of a rule context
+abbrev pub is_untyped : Form → Bool
+is_untyped form = not (same_form Typed form)
+
+abbrev pub untyped_place : Item → List Pos
+untyped_place = context_where (λ u. is_untyped u.form)
+
+abbrev pub rule_context_place : Item → List Pos
+rule_context_place = rule_context_where (λ u. true)
+
+-- the places of all but the first of each kind
+abbrev pub seconds : {A : Type 0} → Level-F A → List Pos
+seconds l = behind_the_first l.contexts ++ behind_the_first l.rule_contexts
+
+-- the place of a use with a name, up to a place
+abbrev pub use_up_to : ℕ → Pos → Item → List Pos
+use_up_to n p = context_where (λ u. (u.name == n) && not_after u.pos p)
+
+abbrev pub rule_use_up_to : ℕ → Pos → Item → List Pos
+rule_use_up_to n p = rule_context_where (λ u. (u.name == n) && not_after u.pos p)
+
+abbrev pub bare_use_up_to : ℕ → Pos → Item → List Pos
+bare_use_up_to n p = context_where (λ u. (u.name == n) && (is_bare u.form && not_after u.pos p))
+
+-- the place of a use of the same context in another form, up to its place
+abbrev pub other_form_up_to : FormedUse → Item → List Pos
+other_form_up_to v = context_where (λ u. (u.name == v.name) && (not (same_form u.form v.form) && not_after u.pos v.pos))
