@@ -1,5 +1,6 @@
 -- Why a text is refused before its tokens are read, and where.
 use Rattle.std.specs.Prelude.{◌≡◌, ◌≢◌, ℕ, ◌+◌, ◌-◌, ◌*◌, ◌<◌, ◌≤◌, ◌^◌, ◌==◌, Bool, true, false, ◌||◌, ◌⊎◌, List, [], ◌∷◌, ◌++◌, length, codes}
+use Rattle.std.specs.List.{list_any}
 use Rattle.std.specs.Char.{is_ascii_digit, is_ascii_whitespace}
 use Rattle.lmn_base.specs.Limits.{longest_name}
 use Rattle.lmn_base.specs.declared.refusal.Refusal.{Refusal}
@@ -50,15 +51,10 @@ pub data TokenFault (kind : Kind) (bytes after : List ℕ) : ℕ → Type 0 wher
 abbrev pub BeginsNoToken : Bool → List ℕ → Type 0
 BeginsNoToken minus text = (kind : Kind) (bytes after : List ℕ) → Spells minus kind bytes → text ≡ bytes ++ after → ⊥
 
--- the byte is one of the signs
-abbrev pub is_one_of : List ℕ → ℕ → Bool
-is_one_of [] b = false
-is_one_of (sign ∷ signs) b = (b == sign) || is_one_of signs b
-
 -- The byte has a row of its own though no token begins at it: it is a separator, or begins a comment, a name in quotes,
 -- a string or a hyperlink.
 abbrev pub has_its_own : ℕ → Bool
-has_its_own b = is_ascii_whitespace b || is_one_of (codes "%'\"!") b
+has_its_own b = is_ascii_whitespace b || list_any (λ sign. b == sign) (codes "%'\"!")
 
 -- What is wrong at the front of a text: the number of the code, and the bytes of the text that stand before the place to
 -- which the code points.
@@ -84,10 +80,6 @@ pub data Wrong (minus : Bool) (text : List ℕ) : ℕ → List ℕ → Type 0 wh
 abbrev pub WrongAt : Cutting → ℕ → List ℕ → Type 0
 WrongAt c code skipped = Wrong (minus_behind c.tokens) c.rest code skipped
 
--- nothing is wrong at a cutting with fewer bytes before it than n
-abbrev pub NothingWrongBefore : List ℕ → ℕ → Type 0
-NothingWrongBefore text n = (c : Cutting) (code : ℕ) (skipped : List ℕ) → Reaches text c → length c.before < n → WrongAt c code skipped → ⊥
-
 -- the first that is wrong in a text, and its place
 pub record IsLexicalFault (text : List ℕ) (refusal : Refusal) : Type 0 where
   pub cutting : Cutting
@@ -95,8 +87,16 @@ pub record IsLexicalFault (text : List ℕ) (refusal : Refusal) : Type 0 where
   pub reached : Reaches text cutting
   pub wrong : WrongAt cutting refusal.code skipped
   pub placed : refusal.pos ≡ place (cutting.before ++ skipped)
-  pub first : NothingWrongBefore text (length cutting.before)
+  pub first : (c : Cutting) (code : ℕ) (before : List ℕ) → Reaches text c → length c.before < length cutting.before → WrongAt c code before → ⊥
 
 -- nothing is wrong in a text
 abbrev pub NothingWrong : List ℕ → Type 0
 NothingWrong text = (c : Cutting) (code : ℕ) (skipped : List ℕ) → Reaches text c → WrongAt c code skipped → ⊥
+
+-- parts of these, as laws and contracts of private functions tell them: nothing is wrong at a cutting with fewer bytes before it than
+-- n, and the byte is one of the signs
+abbrev pub NothingWrongBefore : List ℕ → ℕ → Type 0
+NothingWrongBefore text n = (c : Cutting) (code : ℕ) (skipped : List ℕ) → Reaches text c → length c.before < n → WrongAt c code skipped → ⊥
+
+abbrev pub is_one_of : List ℕ → ℕ → Bool
+is_one_of signs b = list_any (λ sign. b == sign) signs

@@ -15,11 +15,8 @@ pub record Word : Type 0 where
   pub bytes : List ℕ
 
 -- the words of tokens in their text
-abbrev pub word_of : List ℕ → Token → Word
-word_of text t = record { kind = t.kind; bytes = bytes_of text t }
-
 abbrev pub words_of : List ℕ → List Token → List Word
-words_of text ts = map (word_of text) ts
+words_of text = map (λ t. record { kind = t.kind; bytes = bytes_of text t })
 
 -- the last word of each text
 abbrev pub last_word : Word
@@ -79,3 +76,7 @@ pub data Laid : Bool → List ℕ → List Word → Type 0 where
 -- an integer is in range, and a name isn't too long
 abbrev pub IsRight : Word → Type 0
 IsRight w = (w.kind ≡ Int → SpelledInRange w.bytes) × ¬ (TooLong w.kind w.bytes)
+
+-- the word of a token in its text, as laws and contracts of private functions tell it
+abbrev pub word_of : List ℕ → Token → Word
+word_of text t = record { kind = t.kind; bytes = bytes_of text t }
