@@ -60,11 +60,8 @@ ends_operand _ = false
 
 -- a token of a side, and no operator
 abbrev pub continues_side : Kind → Bool
-continues_side Int = true
-continues_side Context = true
 continues_side LParen = true
-continues_side RParen = true
-continues_side _ = false
+continues_side kind = ends_operand kind
 
 -- The last of the tokens is one of these.
 pub record EndsWith (test : Kind → Bool) (tokens : List Kind) : Type 0 where
