@@ -10,7 +10,7 @@ use Rattle.lmn_lexer.specs.declared.token.Kind.TheVariants.{Name, Quoted, Mod}
 use Rattle.lmn_lexer.specs.declared.token.Token.{Token}
 use Rattle.lmn_lexer.specs.Spelling.{AllPass, IsQuoted, IsWord, Quotes, byte, goes_on, nothing, quote, is_bare_name}
 use Rattle.lmn_parser.specs.Trees.{At, NameAt}
-use Rattle.lmn_flatten_plain.specs.Meanings.{undoubled, between_quotes, name_spelled, label_spelled}
+use Rattle.lmn_flatten_plain.specs.Meanings.{undoubled, name_spelled, label_spelled}
 use Rattle.lmn_flatten_plain.specs.Words.{name_kind}
 use Rattle.lmn_lexer.specs.NameText.{quoted, quoted_byte}
 use Rattle.lmn_base.proofs.Truth.{and_true as both_true}
@@ -58,7 +58,7 @@ undoubled_quoted : (name : NameOf) → undoubled (flat_map quoted_byte name) ≡
 undoubled_quoted [] = refl
 undoubled_quoted (b ∷ name) = undoubled_byte b (flat_map quoted_byte name) (b == 39) refl ∙ ap (λ bs. b ∷ bs) (undoubled_quoted name)
 
-between : (name : NameOf) → between_quotes (quoted name) ≡ name
+between : (name : NameOf) → name_spelled Quoted (quoted name) ≡ name
 between name =
     let inside = flat_map quoted_byte name in
     let size = length-append inside (39 ∷ []) in
@@ -70,7 +70,7 @@ undoubled_name (quote h) = ap (λ z. 39 ∷ z) (undoubled_name h)
 undoubled_name (byte {b = b} {bs = bs} e h) = undoubled_other b bs (not_quote _ (b == 39) e) ∙ ap (λ z. b ∷ z) (undoubled_name h)
 
 -- a name in quotes is the one that stands between them
-pub quoted_name : (bytes : List ℕ) (name : NameOf) → IsQuoted bytes name → between_quotes bytes ≡ name
+pub quoted_name : (bytes : List ℕ) (name : NameOf) → IsQuoted bytes name → name_spelled Quoted bytes ≡ name
 quoted_name bytes name q =
     let size = ap length q.stands in
     let sum = length-append q.inside (39 ∷ []) in

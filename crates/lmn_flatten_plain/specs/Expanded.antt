@@ -1,6 +1,6 @@
 -- Levels and rules with every abbreviation expanded. They are those of a plain, but for names by their bytes, links that
 -- have no numbers yet, and conditions by the numbers of their tokens.
-use Rattle.std.specs.Prelude.{ℕ, Bool, List, [], ◌∷◌, ◌++◌, map}
+use Rattle.std.specs.Prelude.{ℕ, Bool, List, [], ◌∷◌, ◌++◌, map, flat_map}
 use Rattle.lmn_base.specs.declared.refusal.Pos.{Pos}
 use Rattle.lmn_congruence.specs.Rules.{Name, Label}
 use Rattle.lmn_parser.specs.Syntax.{WrittenCondition}
@@ -39,20 +39,13 @@ expanded_levels (l ∷ ls) = level_and l (expanded_levels ls)
 
 -- the links of a level, one for each occurrence, in printed order
 
-abbrev pub use_links : List Use → List Link
-use_links us = map (λ u. u.link) us
-
 abbrev pub expanded_leaf_links : ExpandedLeaf → List Link
-expanded_leaf_links (atom_leaf l us pos) = use_links us
+expanded_leaf_links (atom_leaf l us pos) = map (λ u. u.link) us
 expanded_leaf_links (typed_leaf n u pos) = u.link ∷ []
-
-abbrev pub expanded_leaves_links : List ExpandedLeaf → List Link
-expanded_leaves_links [] = []
-expanded_leaves_links (l ∷ ls) = expanded_leaf_links l ++ expanded_leaves_links ls
 
 abbrev mutual
   pub expanded_links : ExpandedLevel → List Link
-  expanded_links (level leaves membranes contexts rule_contexts rules) = expanded_leaves_links leaves ++ expanded_links_in membranes
+  expanded_links (level leaves membranes contexts rule_contexts rules) = flat_map expanded_leaf_links leaves ++ expanded_links_in membranes
 
   pub expanded_links_in : ExpandedLevels → List Link
   expanded_links_in no_level = []
@@ -76,3 +69,10 @@ abbrev mutual
   pub all_renamed : (Link → Link) → ExpandedLevels → ExpandedLevels
   all_renamed f no_level = no_level
   all_renamed f (level_and l ls) = level_and (renamed_level f l) (all_renamed f ls)
+
+-- parts of these, as laws and contracts of private functions tell them: the links of some uses, and of leaves
+abbrev pub use_links : List Use → List Link
+use_links = map (λ u. u.link)
+
+abbrev pub expanded_leaves_links : List ExpandedLeaf → List Link
+expanded_leaves_links = flat_map expanded_leaf_links

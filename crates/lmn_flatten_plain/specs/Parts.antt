@@ -47,17 +47,17 @@ abbrev pub ◌⊕◌ : NumberedParts → NumberedParts → NumberedParts
 
 -- one item: a leaf, a context, a rule context
 abbrev pub one_leaf : ExpandedLeaf → NumberedParts
-one_leaf l k = record { leaves = l ∷ []; membranes = []; contexts = []; rule_contexts = []; rules = []; table = [] }
+one_leaf l k = record no_parts { leaves = l ∷ [] }
 
 abbrev pub one_context : Context → NumberedParts
-one_context c k = record { leaves = []; membranes = []; contexts = c ∷ []; rule_contexts = []; rules = []; table = [] }
+one_context c k = record no_parts { contexts = c ∷ [] }
 
 abbrev pub one_rule_context : Context → NumberedParts
-one_rule_context c k = record { leaves = []; membranes = []; contexts = []; rule_contexts = c ∷ []; rules = []; table = [] }
+one_rule_context c k = record no_parts { rule_contexts = c ∷ [] }
 
 -- a membrane that holds the parts
 abbrev pub one_membrane : NumberedParts → NumberedParts
-one_membrane f k = let p = f k in record { leaves = []; membranes = level_from_parts p ∷ []; contexts = []; rule_contexts = []; rules = []; table = p.table }
+one_membrane f k = let p = f k in record no_parts { membranes = level_from_parts p ∷ []; table = p.table }
 
 -- `H1 \ H2 :- G | B` is `H1, H2 :- G | H1', B`, where H1' is H1 in which each link that occurs twice in H1 is made fresh.
 
@@ -83,11 +83,4 @@ one_rule kept taken guard made pos k =
     let p = kept (suc k) in
     let q = taken (suc k + length p.table) in
     let r = made (suc k + length p.table + length q.table) in
-    record {
-      leaves = [];
-      membranes = [];
-      contexts = [];
-      rule_contexts = [];
-      rules = k ∷ [];
-      table = rule_of_parts p q guard r pos ∷ (p.table ++ (q.table ++ r.table));
-    }
+    record no_parts { rules = k ∷ []; table = rule_of_parts p q guard r pos ∷ (p.table ++ (q.table ++ r.table)) }

@@ -1,6 +1,6 @@
 -- The plain form in which a process is printed: words, and the spaces between them. It is given by the trees of the
 -- calculus, in which a rule is written out wherever it stands.
-use Rattle.std.specs.Prelude.{ℕ, ℤ, if◌then◌else◌, List, [], ◌∷◌, ◌++◌, map, codes, bytes_eq}
+use Rattle.std.specs.Prelude.{ℕ, ℤ, if◌then◌else◌, List, [], ◌∷◌, ◌++◌, map, flat_map, codes, bytes_eq}
 use Rattle.std.specs.Fmt.{signed_decimal}
 use Rattle.lmn_congruence.specs.Rules.{Name, Label, named, integer, Leaf, atom_leaf, connector_leaf, typed_leaf, Arithmetic, plus, minus, times, over, modulo, Comparison, less, at_most, greater, at_least, equal, unequal, Expression, number, value_of, operation, Kind, int, unary, grounded, Condition, is_kind, compares, equates, differs, unknown, Context, open_context, closed_context, Level, level, Levels, no_level, level_and, Rule, rule_of, Rules, no_rule, rule_and}
 use Rattle.lmn_lexer.specs.declared.token.Kind.{Kind as TokenKind}
@@ -22,8 +22,7 @@ piece_text space = codes " "
 
 -- the text, and the words alone
 abbrev pub text_of : List Piece → List ℕ
-text_of [] = []
-text_of (p ∷ ps) = piece_text p ++ text_of ps
+text_of = flat_map piece_text
 
 abbrev pub words_in : List Piece → List Word
 words_in [] = []
@@ -40,6 +39,11 @@ joined_by between (p ∷ q ∷ ps) = p ++ (between ++ joined_by between (q ∷ p
 abbrev pub with_commas : List (List Piece) → List Piece
 with_commas ps = joined_by (word kind.Comma (codes ",") ∷ space ∷ []) ps
 
+-- in parentheses, as `(a, b)`, where there are any
+abbrev pub parenthesized : List (List Piece) → List Piece
+parenthesized [] = []
+parenthesized (p ∷ ps) = word kind.LParen (codes "(") ∷ (with_commas (p ∷ ps) ++ word kind.RParen (codes ")") ∷ [])
+
 -- with a space on each side
 abbrev pub spaced : TokenKind → List ℕ → List Piece
 spaced kind bytes = space ∷ word kind bytes ∷ space ∷ []
@@ -47,11 +51,8 @@ spaced kind bytes = space ∷ word kind bytes ∷ space ∷ []
 -- Names, integers and links.
 
 -- a name is bare where a text spells it so, and else in quotes
-abbrev pub name_kind : Name → TokenKind
-name_kind name = if is_bare_name name then (if bytes_eq name (codes "mod") then kind.Mod else kind.Name) else kind.Quoted
-
 abbrev pub name_piece : Name → Piece
-name_piece name = word (name_kind name) (name_text name)
+name_piece name = word (if is_bare_name name then (if bytes_eq name (codes "mod") then kind.Mod else kind.Name) else kind.Quoted) (name_text name)
 
 abbrev pub integer_piece : ℤ → Piece
 integer_piece z = word kind.Int (signed_decimal z)
@@ -69,9 +70,6 @@ link_piece x = word kind.Link (link_name x)
 abbrev pub context_piece : Name → Piece
 context_piece name = word kind.Context (codes "$" ++ name)
 
-abbrev pub rule_context_piece : Name → Piece
-rule_context_piece name = word kind.RuleCtx (codes "@" ++ name)
-
 -- `$p` and `$p[]`
 abbrev pub untyped_pieces : Context → List Piece
 untyped_pieces (open_context name) = context_piece name ∷ []
@@ -79,13 +77,8 @@ untyped_pieces (closed_context name) = context_piece name ∷ word kind.LBracket
 
 -- Leaves: `p(L0, L1)`, `L0 = L1` and `$x[L0]`.
 
-abbrev pub links_pieces : List ℕ → List Piece
-links_pieces [] = []
-links_pieces (x ∷ xs) =
-    word kind.LParen (codes "(") ∷ (with_commas (map (λ y. link_piece y ∷ []) (x ∷ xs)) ++ word kind.RParen (codes ")") ∷ [])
-
 abbrev pub leaf_pieces : Leaf → List Piece
-leaf_pieces (atom_leaf l xs) = label_piece l ∷ links_pieces xs
+leaf_pieces (atom_leaf l xs) = label_piece l ∷ parenthesized (map (λ x. link_piece x ∷ []) xs)
 leaf_pieces (connector_leaf x y) = link_piece x ∷ (spaced kind.Equal (codes "=") ++ link_piece y ∷ [])
 leaf_pieces (typed_leaf p x) = context_piece p ∷ word kind.LBracket (codes "[") ∷ link_piece x ∷ word kind.RBracket (codes "]") ∷ []
 
@@ -115,26 +108,20 @@ operand_pieces (operation op l r) =
 
 -- a whole side: no parentheses round it
 abbrev pub side_pieces : Expression → List Piece
-side_pieces (number z) = integer_piece z ∷ []
-side_pieces (value_of name) = context_piece name ∷ []
 side_pieces (operation op l r) = operand_pieces l ++ (operator_pieces op ++ operand_pieces r)
+side_pieces e = operand_pieces e
 
 abbrev pub kind_name : Kind → Name
 kind_name int = codes "int"
 kind_name unary = codes "unary"
 kind_name grounded = codes "ground"
 
-abbrev pub contexts_pieces : List Name → List Piece
-contexts_pieces [] = []
-contexts_pieces (n ∷ ns) =
-    word kind.LParen (codes "(") ∷ (with_commas (map (λ m. context_piece m ∷ []) (n ∷ ns)) ++ word kind.RParen (codes ")") ∷ [])
-
 abbrev pub condition_pieces : Condition → List Piece
-condition_pieces (is_kind k name) = name_piece (kind_name k) ∷ contexts_pieces (name ∷ [])
+condition_pieces (is_kind k name) = name_piece (kind_name k) ∷ parenthesized ((context_piece name ∷ []) ∷ [])
 condition_pieces (compares op l r) = side_pieces l ++ (comparison_pieces op ++ side_pieces r)
 condition_pieces (equates name e) = context_piece name ∷ (spaced kind.Equal (codes "=") ++ side_pieces e)
 condition_pieces (differs m n) = context_piece m ∷ (spaced kind.Differ (codes "\\=") ++ context_piece n ∷ [])
-condition_pieces (unknown name ns) = name_piece name ∷ contexts_pieces ns
+condition_pieces (unknown name ns) = name_piece name ∷ parenthesized (map (λ n. context_piece n ∷ []) ns)
 
 abbrev pub guard_pieces : List Condition → List Piece
 guard_pieces [] = []
@@ -148,7 +135,7 @@ abbrev mutual
   level_pieces (level leaves membranes contexts rule_contexts rules) =
       map leaf_pieces leaves
       ++ (levels_pieces membranes
-      ++ (map untyped_pieces contexts ++ (map (λ n. rule_context_piece n ∷ []) rule_contexts ++ rules_pieces rules)))
+      ++ (map untyped_pieces contexts ++ (map (λ n. word kind.RuleCtx (codes "@" ++ n) ∷ []) rule_contexts ++ rules_pieces rules)))
 
   pub levels_pieces : Levels → List (List Piece)
   levels_pieces no_level = []
@@ -171,8 +158,25 @@ abbrev mutual
 abbrev pub with_full_stops : List (List Piece) → List Piece
 with_full_stops items = joined_by (space ∷ []) (map (λ i. i ++ word kind.Dot (codes ".") ∷ []) items)
 
+abbrev pub line_of : Level → List ℕ
+line_of l = text_of (with_full_stops (level_pieces l)) ++ codes "\n"
+
+-- ---- parts of these, as laws and contracts of private functions tell them
+
+-- the kind of the word of a name
+abbrev pub name_kind : Name → TokenKind
+name_kind name = if is_bare_name name then (if bytes_eq name (codes "mod") then kind.Mod else kind.Name) else kind.Quoted
+
+abbrev pub rule_context_piece : Name → Piece
+rule_context_piece name = word kind.RuleCtx (codes "@" ++ name)
+
+-- the links of an atom, and the contexts of a condition
+abbrev pub links_pieces : List ℕ → List Piece
+links_pieces xs = parenthesized (map (λ x. link_piece x ∷ []) xs)
+
+abbrev pub contexts_pieces : List Name → List Piece
+contexts_pieces ns = parenthesized (map (λ n. context_piece n ∷ []) ns)
+
+-- the line but for its line feed
 abbrev pub top_pieces : Level → List Piece
 top_pieces l = with_full_stops (level_pieces l)
-
-abbrev pub line_of : Level → List ℕ
-line_of l = text_of (top_pieces l) ++ codes "\n"
