@@ -1,6 +1,6 @@
 -- The list of names once a text is read.
 use Rattle.std.specs.Prelude.{Bool, true, false, if◌then◌else◌, List, [], ◌∷◌, ◌++◌, codes, bytes_eq}
-use Rattle.std.specs.List.{list_any}
+use Rattle.std.specs.List.{list_any, fold}
 use Rattle.lmn_congruence.specs.Rules as tree
 use Rattle.lmn_lexer.specs.declared.token.Kind.{Kind}
 use Rattle.lmn_lexer.specs.declared.token.Kind.TheVariants.{Name, Quoted, Mod, Context, RuleCtx}
@@ -20,14 +20,14 @@ has_name Context = true
 has_name RuleCtx = true
 has_name _ = false
 
--- the list with the name of a word, and of some words
+-- the list with the name of a word
 abbrev pub with_word : List tree.Name → Word → List tree.Name
 with_word names w = if has_name w.kind then with_name names (name_spelled w.kind w.bytes) else names
 
-abbrev pub with_words : List tree.Name → List Word → List tree.Name
-with_words names [] = names
-with_words names (w ∷ ws) = with_words (with_word names w) ws
-
 -- the names that abbreviations bring in, and behind them those of the words
 abbrev pub names_read : List tree.Name → List Word → List tree.Name
-names_read names words = with_words (with_name (with_name (with_name names (codes ".")) (codes "[]")) (codes "+")) words
+names_read names words = fold with_word (with_name (with_name (with_name names (codes ".")) (codes "[]")) (codes "+")) words
+
+-- the list with the names of some words, as the contracts of private functions tell it
+abbrev pub with_words : List tree.Name → List Word → List tree.Name
+with_words = fold with_word
