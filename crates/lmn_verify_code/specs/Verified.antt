@@ -13,14 +13,14 @@ use Rattle.lmn_instr_code.specs.declared.instr.NewPort.{NewPort}
 use Rattle.lmn_instr_code.specs.declared.instr.NewPort.TheVariants as new
 use Rattle.lmn_instr_code.specs.declared.instr.Code.{Code}
 use Rattle.lmn_instr_code.specs.declared.instr.Instr.{Instr}
-use Rattle.lmn_instr_code.specs.declared.instr.Instr.TheVariants.{FindAtom, Deref, Func, InMem, NeqAtom, Joined, NotIn, AnyMem, NeqMem, IsInt, IsUnary, IsGround, NAtoms, NMems, NoRules, IsClosed, EqGround, NeqGround, GetInt, Const, Add, Sub, Mul, Div, Mod, Lt, Le, Gt, Ge, Eq, Ne, Commit, RemoveAtom, RemovePart, RemoveMem, NewAtom, NewInt, NewMem, CopyGround, MoveCells, CopyCells, LoadRule, CopyRules, DropCells, NewLink, Relink, Unify, Proceed}
+use Rattle.lmn_instr_code.specs.declared.instr.Instr.TheVariants.{FindAtom, Deref, Func, InMem, NeqAtom, Joined, NotIn, AnyMem, NeqMem, IsInt, IsUnary, IsGround, NAtoms, NMems, IsClosed, GetInt, Commit, RemoveAtom, RemovePart, RemoveMem, NewAtom, NewInt, NewMem, CopyGround, MoveCells, CopyCells, LoadRule, CopyRules, DropCells, NewLink, Relink, Unify, Proceed}
 use Rattle.lmn_verify_code.specs.declared.found.RegisterCounts.{RegisterCounts}
 use Rattle.lmn_verify_code.specs.declared.found.FoundAtom.{FoundAtom}
 use Rattle.lmn_verify_code.specs.declared.found.FoundMembrane.{FoundMembrane}
 use Rattle.lmn_verify_code.specs.declared.found.FoundPart.{FoundPart}
 use Rattle.lmn_instr_code.specs.declared.words.Operand.{Operand}
-use Rattle.lmn_instr_code.specs.declared.words.Operand.TheVariants.{Atom, Membrane, Part, Integer, Copy, Port, Functor as Of, Number, Constant}
-use Rattle.lmn_instr_code.specs.Opcodes.{form_of}
+use Rattle.lmn_instr_code.specs.declared.words.Operand.TheVariants.{Atom, Membrane, Part, Integer, Copy, Port}
+use Rattle.lmn_instr_code.specs.Opcodes.{form_of, is_in_head}
 use Rattle.lmn_instr_code.specs.Words.{operands, opcode_of}
 
 -- ---- registers
@@ -36,10 +36,7 @@ is_next c (Membrane m) = (m == c.membranes) && nat_lt m most_membrane_registers
 is_next c (Part g) = (g == c.parts) && nat_lt g most_part_registers
 is_next c (Integer v) = (v == c.integers) && nat_lt v most_integer_registers
 is_next c (Copy x) = (x == c.copies) && nat_lt x most_copy_registers
-is_next c (Port p) = false
-is_next c (Of f) = false
-is_next c (Number n) = false
-is_next c (Constant z) = false
+is_next c _ = false
 
 -- the register of an operand is set
 abbrev pub is_set : RegisterCounts → Operand → Bool
@@ -49,9 +46,7 @@ is_set c (Part g) = nat_lt g c.parts
 is_set c (Integer v) = nat_lt v c.integers
 is_set c (Copy x) = nat_lt x c.copies
 is_set c (Port p) = nat_lt p.atom c.atoms
-is_set c (Of f) = true
-is_set c (Number n) = true
-is_set c (Constant z) = true
+is_set c _ = true
 
 -- with one more register
 abbrev pub with_one : RegisterCounts → Operand → RegisterCounts
@@ -60,10 +55,7 @@ with_one c (Membrane m) = record c { membranes = c.membranes + 1 }
 with_one c (Part g) = record c { parts = c.parts + 1 }
 with_one c (Integer v) = record c { integers = c.integers + 1 }
 with_one c (Copy x) = record c { copies = c.copies + 1 }
-with_one c (Port p) = c
-with_one c (Of f) = c
-with_one c (Number n) = c
-with_one c (Constant z) = c
+with_one c _ = c
 
 -- The first of these operands is set by the instruction, where it sets one, and all others are set before.
 abbrev pub uses_in_order : Bool → RegisterCounts → List Operand → Bool
@@ -166,48 +158,12 @@ finds_first (i ∷ is) = (not (surveys i) || not (list_any finds is)) && finds_f
 
 abbrev pub is_int_kind : TypeKind → Bool
 is_int_kind kind.Int = true
-is_int_kind kind.Unary = false
-is_int_kind kind.Ground = false
+is_int_kind _ = false
 
 -- GETINT is of a typed context that is an integer
 abbrev pub gets_integer : List FoundPart → Instr → Bool
 gets_integer parts (GetInt v g) = list_any (λ p. (p.part == g) && is_int_kind p.kind) parts
 gets_integer parts _ = true
-
--- an instruction of a head other than COMMIT
-abbrev pub is_of_head : Instr → Bool
-is_of_head (FindAtom _ _ _) = true
-is_of_head (Deref _ _ _) = true
-is_of_head (Func _ _) = true
-is_of_head (InMem _ _) = true
-is_of_head (NeqAtom _ _) = true
-is_of_head (Joined _ _) = true
-is_of_head (NotIn _ _) = true
-is_of_head (AnyMem _ _) = true
-is_of_head (NeqMem _ _) = true
-is_of_head (IsInt _ _ _) = true
-is_of_head (IsUnary _ _ _) = true
-is_of_head (IsGround _ _ _) = true
-is_of_head (NAtoms _ _ _) = true
-is_of_head (NMems _ _) = true
-is_of_head (NoRules _) = true
-is_of_head (IsClosed _ _) = true
-is_of_head (EqGround _ _) = true
-is_of_head (NeqGround _ _) = true
-is_of_head (GetInt _ _) = true
-is_of_head (Const _ _) = true
-is_of_head (Add _ _ _) = true
-is_of_head (Sub _ _ _) = true
-is_of_head (Mul _ _ _) = true
-is_of_head (Div _ _ _) = true
-is_of_head (Mod _ _ _) = true
-is_of_head (Lt _ _) = true
-is_of_head (Le _ _) = true
-is_of_head (Gt _ _) = true
-is_of_head (Ge _ _) = true
-is_of_head (Eq _ _) = true
-is_of_head (Ne _ _) = true
-is_of_head _ = false
 
 -- nothing stands in a list
 abbrev pub is_empty : List Instr → Bool
@@ -221,6 +177,10 @@ is_commit _ = false
 abbrev pub is_proceed : Instr → Bool
 is_proceed Proceed = true
 is_proceed _ = false
+
+-- an instruction of a head other than COMMIT
+abbrev pub is_of_head : Instr → Bool
+is_of_head i = is_in_head (opcode_of i) && not (is_commit i)
 
 -- Instructions of a head, and COMMIT, which ends it and stands once.
 abbrev pub is_head : List Instr → Bool
@@ -289,9 +249,8 @@ has_port ns (new.Copy c) = true
 
 abbrev pub same_port : NewPort → NewPort → Bool
 same_port (new.Atom p) (new.Atom q) = (p.atom == q.atom) && (p.port == q.port)
-same_port (new.Atom p) (new.Copy c) = false
-same_port (new.Copy c) (new.Atom p) = false
 same_port (new.Copy c) (new.Copy d) = c == d
+same_port _ _ = false
 
 -- the ports of the atoms in registers, of which the first has the number a, with these numbers of ports
 abbrev pub ports_of_registers : ℕ → List ℕ → List NewPort
