@@ -146,16 +146,12 @@ pair_word kind.Bound = codes "bound"
 
 -- Of two words the one that stands first, and the one that stands last: the program stands first, but for `exec` last.
 abbrev pub standing_first : PairKind → CommandWord → CommandWord → CommandWord
-standing_first kind.Check file second = file
-standing_first kind.Debug file second = file
 standing_first kind.Exec file second = second
-standing_first kind.Bound file second = file
+standing_first _ file second = file
 
 abbrev pub standing_last : PairKind → CommandWord → CommandWord → CommandWord
-standing_last kind.Check file second = second
-standing_last kind.Debug file second = second
 standing_last kind.Exec file second = file
-standing_last kind.Bound file second = second
+standing_last _ file second = second
 
 -- the words behind `run` name one file, and settings that give these values
 pub record AsksRun (words : List CommandWord) (run : Run) : Type 0 where
