@@ -30,7 +30,7 @@ use Rattle.lmn_app_drive.specs.declared.driving.RunEnd.TheVariants as run
 use Rattle.lmn_app_drive.specs.Driving.{Drove, RunInput as Driven, given_by_engine as driven, Ran, stop_end}
 use Rattle.lmn_app_drive.specs.Written.{Lines, written}
 use Rattle.lmn_app_runs.specs.Laws.{solid_of}
-use Rattle.lmn_app_runs.specs.Runs.{LinesOf, StopsSo, end_line, printed_solids, word_of_stop, end_word as driven_word}
+use Rattle.lmn_app_runs.specs.Runs.{LinesOf, StopsSo, end_line, printed, word_of_stop, end_word as driven_word}
 use Rattle.lmn_app_runs.specs.declared.stop.Stop.{Stop}
 use Rattle.lmn_app_runs.specs.declared.stop.Stop.TheVariants as stop
 use Rattle.lmn_app_runs.proofs.TraceLines.{lines_count, lines_with}
@@ -46,13 +46,8 @@ use Rattle.lmn_app.proofs.PlainRegions.{region_is_numbered}
 use Rattle.lmn_app.proofs.RunLemmas.{Laws, trace_is_run}
 use Rattle.lmn_app_reading.proofs.Readings.{well_made}
 
--- the lines that are printed
-abbrev printed : Bool → List (List ℕ) → List ℕ → List (List ℕ)
-printed true first_lines last_line = first_lines ++ last_line ∷ []
-printed false first_lines last_line = last_line ∷ []
-
 are_printed : (trace folded : Bool) (before : List Region) (last : Region) (lines : Lines folded before last) →
-    LinesOf folded (printed_solids trace before last) (printed trace lines.first_lines lines.last_line)
+    LinesOf folded (printed trace before last) (printed trace lines.first_lines lines.last_line)
 are_printed true folded before last lines = lines_with folded before last lines.first_lines lines.last_line lines.are_lines lines.is_line
 are_printed false folded before last lines = (lines.is_line, tt)
 

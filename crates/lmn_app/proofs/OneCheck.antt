@@ -20,7 +20,7 @@ use Rattle.lmn_app_reading.proofs.OneRead.{one_acceptance}
 use Rattle.lmn_receipt_chain.specs.Chains.{IsChain, IsWrongTrace, line_of_solid}
 use Rattle.lmn_receipt_chain.specs.Laws.{ChainsAreCommits, ChoosesBelow, ContinuesByCommit, IsOneOf, NoTraceIsNeither, TracesAreChains, TracesAreOneOf}
 use Rattle.lmn_reduction.proofs.OneSolid.{solid_is_one}
-use Rattle.lmn_app_runs.specs.Runs.{Given, LinesOf, StopsSo, end_line, printed_solids, word_of_stop}
+use Rattle.lmn_app_runs.specs.Runs.{Given, LinesOf, StopsSo, end_line, printed, word_of_stop}
 use Rattle.lmn_app_runs.specs.declared.stop.Stop.{Stop}
 use Rattle.lmn_app_runs.specs.Texts.{PlainsArePrintable}
 use Rattle.lmn_app.specs.CheckLaws.{CheckedNotWrong, NeitherCheckedNorWrong, OneCount, OneWrongTrace, RunsAreChecked}
@@ -116,7 +116,7 @@ module _ (on : Grounds) where
       let word = word_of_stop why in
       let of : HasSolid text = record { names = t.names; plain = t.plain; plans = t.plans; accepted = t.accepted; solid = t.solid; of_plain = t.of_plain; numbered = t.numbered } in
       let are : lines ≡ map line_of_solid solids =
-      plain_lines solids lines (subst (λ f. LinesOf f solids lines) plain (subst (λ b. LinesOf g.folded (printed_solids b t.before t.last) lines) traced t.are)) in
+      plain_lines solids lines (subst (λ f. LinesOf f solids lines) plain (subst (λ b. LinesOf g.folded (printed b t.before t.last) lines) traced t.are)) in
       let chain = on.chains g t.solid t.before t.last why below t.trace (subst (λ k. StopsSo g k t.last why) (sym t.count) stops) in
       let counted = subst (λ k. IsChain t.solid (concat (map line_of_solid solids) ++ end_line word k) k) t.count chain in
       chain_checked on.laws on.printables text of alloc on.commits on.each (run_text lines why n) n (subst (λ ls. IsChain t.solid (concat ls ++ end_line word n) n) (sym are) counted)

@@ -8,7 +8,7 @@ use Rattle.lmn_base.proofs.Lists.{plus_nothing}
 use Rattle.lmn_congruence.specs.Process.{Closed}
 use Rattle.lmn_congruence.specs.Regions.{Region, region_process}
 use Rattle.lmn_receipt_chain.specs.Laws.{IsAcceptedSolid}
-use Rattle.lmn_app_runs.specs.Runs.{Given, LinesOf, PrintedLines, StopsSo, at_end, printed_solids}
+use Rattle.lmn_app_runs.specs.Runs.{Given, LinesOf, PrintedLines, StopsSo, at_end, printed}
 use Rattle.lmn_app_runs.specs.declared.stop.Stop.{Stop}
 use Rattle.lmn_app_runs.specs.Texts.{PlainsArePrintable}
 use Rattle.lmn_app_runs.proofs.TraceLines.{one_more_line, traces_have_lines}
@@ -109,12 +109,12 @@ module _ (laws : AcceptedTexts) (printables : PlainsArePrintable) (g : Given) (t
     fewer_first : g.trace ≡ true → n ≤ k → (rest : List (List ℕ)) × (others ≡ lines ++ rest)
     fewer_first traced few =
         let k' = ok in
-        let x = earlier g.chooser g.budget g.size t.solid g.folded again others (subst (λ b. LinesOf g.folded (printed_solids b u.before u.last) others) traced u.are) n (omega (arith, few, u.count)) in
-        let printed : PrintedLines g x.before x.last x.first = subst (λ b. LinesOf g.folded (printed_solids b x.before x.last) x.first) (sym traced) x.are in
+        let x = earlier g.chooser g.budget g.size t.solid g.folded again others (subst (λ b. LinesOf g.folded (printed b u.before u.last) others) traced u.are) n (omega (arith, few, u.count)) in
+        let shown : PrintedLines g x.before x.last x.first = subst (λ b. LinesOf g.folded (printed b x.before x.last) x.first) (sym traced) x.are in
         let one = trace_is_one g.chooser g.budget g.size t.solid t.before x.before t.last x.last k'.closed k'.accepted t.trace x.trace (t.count ∙ sym x.count) in
         let same : lines ≡ x.first =
         one_row g t.solid t.before t.last k'.closed t.trace lines x.first t.are
-        (subst (λ xs. PrintedLines g xs t.last x.first) (sym one.0) (subst (λ T. PrintedLines g x.before T x.first) (sym one.1) printed)) in
+        (subst (λ xs. PrintedLines g xs t.last x.first) (sym one.0) (subst (λ T. PrintedLines g x.before T x.first) (sym one.1) shown)) in
         (x.rest, x.is ∙ ap (λ ls. ls ++ x.rest) (sym same))
 
 -- ---- the laws

@@ -8,9 +8,8 @@ use Rattle.std.specs.Fmt.{decimal}
 use Rattle.lmn_adequacy.specs.Runs.{Trace}
 use Rattle.lmn_app_accepted.specs.Rules.{AcceptedTexts}
 use Rattle.lmn_app_runs.specs.Laws.{TracesAreRuns}
-use Rattle.lmn_app_runs.specs.Runs.{IsLineOf}
 use Rattle.lmn_app_runs.specs.Texts.{PlainsArePrintable}
-use Rattle.lmn_base.proofs.Lists.{head_is, last_one}
+use Rattle.lmn_base.proofs.Lists.{last_one}
 use Rattle.lmn_base.specs.declared.functor.Functor.{Functor}
 use Rattle.lmn_base.specs.declared.functor.Label.{Label}
 use Rattle.lmn_base.specs.declared.functor.Label.TheVariants as label
@@ -235,4 +234,4 @@ shown_reads_back laws printables runs alloc program script s t S at =
     let trace = subst (λ R. Trace (chosen First) most_commits session_size R at.before S) n.2 at.trace in
     let run = runs alloc (record { trace = false; folded = false; budget = most_commits; size = session_size; chooser = chosen First }) of.names of.plain n.0 (printable_of laws printables program of.names of.plain of.plans of.accepted) n.1 at.before S trace in
     let last = run.prints (line_of (as_level S) ∷ []) (refl, tt) in
-    subst (IsLineOf of.names (region_process S)) (sym (head_is last.alone)) last.of
+    last.are.0

@@ -26,7 +26,6 @@ use Rattle.lmn_flatten_plain.proofs.SolidLines.{own_solid}
 use Rattle.lmn_app_reading.specs.Texts.{IsAcceptedAs}
 use Rattle.lmn_app_reading.proofs.NamedPlains.{plains_are_named}
 use Rattle.lmn_app_reading.proofs.OneRead.{one_acceptance}
-use Rattle.lmn_reduction.specs.Chains.{no_step, step_after}
 use Rattle.lmn_reduction.specs.Commits.{Irreducible, Settles}
 use Rattle.lmn_reduction.specs.Examples.{label_a, label_b}
 use Rattle.lmn_reduction.proofs.Kept.{keeps_irreducible}
@@ -40,7 +39,7 @@ use Rattle.lmn_adequacy.specs.Runs.{Chooser, Ends, Trace, irreducible, loaded, n
 use Rattle.lmn_adequacy.proofs.ExampleChanges.{short_trace_ends}
 use Rattle.lmn_adequacy.proofs.Numbering.{numbered_one}
 use Rattle.lmn_app_runs.specs.Examples.{ShortRunPrints}
-use Rattle.lmn_app_runs.specs.Runs.{AllLines, IsProcessLine, LastLine, PrintedLines, Prints, at_end, first_line, next_line}
+use Rattle.lmn_app_runs.specs.Runs.{CommitsOver, IsProcessLine, PrintedLines, Prints, at_end, commit_after, no_commit}
 use Rattle.lmn_app.specs.Runs.{IsRun}
 use Rattle.lmn_app.specs.TextExamples.{SmallTextHasItsTrace, SmallTextRuns, TraceEnds, no_plan, plainly, small_end, small_lines, small_names, small_plain, small_rule, small_text}
 use Rattle.lmn_app.specs.Texts.{Accepts}
@@ -109,7 +108,7 @@ small_run room prints = record {
 }
 
 -- its two lines
-both_lines : ShortRunPrints → Global → AllLines false small_names (region_process first) 1 (region_process last) small_lines
+both_lines : ShortRunPrints → Global → Prints true false small_names (region_process first) 1 (region_process last) small_lines
 both_lines printed alloc =
     let before = first_names ++ (codes "." ∷ codes "[]" ∷ codes "+" ∷ []) in
     let has_a = Contains-append_right before (codes "a" ∷ codes "b" ∷ []) (codes "a") (contains_first (codes "a") (codes "b" ∷ [])) in
@@ -122,22 +121,28 @@ last_line [] = []
 last_line (l ∷ []) = l
 last_line (l ∷ m ∷ ls) = last_line (m ∷ ls)
 
-last_behind : (ls : List (List ℕ)) (l : List ℕ) → last_line (ls ++ l ∷ []) ≡ l
-last_behind [] l = refl
-last_behind (k ∷ []) l = refl
-last_behind (k ∷ m ∷ ls) l = last_behind (m ∷ ls) l
+of_last : (R : Process → List ℕ → Type 0) (Ps : List Process) (Q : Process) (lines : List (List ℕ)) → EachPair R (Ps ++ Q ∷ []) lines → R Q (last_line lines)
+of_last R [] Q [] h = absurd h
+of_last R [] Q (l ∷ []) h = h.0
+of_last R [] Q (l ∷ m ∷ ls) h = absurd h.1
+of_last R (P ∷ Ps) Q [] h = absurd h
+of_last R (P ∷ []) Q (l ∷ []) h = absurd h.1
+of_last R (P ∷ P' ∷ Ps) Q (l ∷ []) h = absurd h.1
+of_last R (P ∷ Ps) Q (l ∷ m ∷ ls) h = of_last R Ps Q (m ∷ ls) h.1
 
-of_last : {folded : Bool} {names : List Name} {P Q : Process} {n : ℕ} {lines : List (List ℕ)} → AllLines folded names P n Q lines → IsProcessLine folded names Q (last_line lines)
-of_last (first_line line h) = h
-of_last {folded = folded} {names = names} {Q = Q} (next_line {lines = lines} line h c g) = subst (λ l. IsProcessLine folded names Q l) (sym (last_behind lines line)) g
-
-end_alone : ShortRunPrints → Global → LastLine false small_names (region_process first) 1 (region_process last) (small_end ∷ [])
-end_alone printed alloc = record { commits = step_after no_step short_trace_ends.1; line = small_end; alone = refl; of = of_last (both_lines printed alloc) }
+end_alone : ShortRunPrints → Global → Prints false false small_names (region_process first) 1 (region_process last) (small_end ∷ [])
+end_alone printed alloc =
+    let all = both_lines printed alloc in
+    let of = of_last (IsProcessLine false small_names) all.before (region_process last) small_lines all.are in
+    record { before = all.before; commits = all.commits; count = all.count; are = (of, tt) }
 
 -- without a commit the last process is the first
-none_done : {folded : Bool} {names : List Name} {P Q : Process} {n : ℕ} {lines : List (List ℕ)} → AllLines folded names P n Q lines → n ≡ 0 → Q ≡ P
-none_done (first_line line h) e = refl
-none_done (next_line line h c g) e = absurd (omega (arith, e))
+no_commits : {P Q : Process} {before : List Process} → CommitsOver P before Q → length before ≡ 0 → Q ≡ P
+no_commits no_commit e = refl
+no_commits (commit_after {before = before} {Q = R} t c) e = absurd (omega (arith, e, length-append before (R ∷ [])))
+
+none_done : {folded : Bool} {names : List Name} {P Q : Process} {n : ℕ} {lines : List (List ℕ)} → Prints true folded names P n Q lines → n ≡ 0 → Q ≡ P
+none_done h e = no_commits h.commits (h.count ∙ e)
 
 -- its first process isn't irreducible
 not_at_once : ¬ (Irreducible (region_process first))

@@ -1,6 +1,6 @@
 -- The lines of the run of a short text.
-use Rattle.std.proofs.Common.{◌≡◌, ℕ, ◌+◌, List, [], ◌∷◌, length, refl, inl, sym, ap, ◌∙◌, arith}
-use Rattle.std.specs.Prelude.{Bool, Contains, codes}
+use Rattle.std.proofs.Common.{◌≡◌, ℕ, suc, ◌+◌, List, [], ◌∷◌, ◌++◌, length, refl, inl, sym, ap, ◌∙◌, arith}
+use Rattle.std.specs.Prelude.{Bool, Contains, codes, true}
 use Rattle.std.specs.declared.alloc.Global.{Global}
 use Rattle.std.proofs.lemmas.List.{length-append}
 use Rattle.lmn_base.specs.Links.{no_more}
@@ -14,13 +14,14 @@ use Rattle.lmn_reduction.specs.Examples.{label_a, label_b}
 use Rattle.lmn_adequacy.specs.ChangeExamples.{changing}
 use Rattle.lmn_adequacy.proofs.ExampleChanges.{short_trace_ends}
 use Rattle.lmn_flatten_plain.specs.NamesHeld.{LevelHeld}
+use Rattle.lmn_flatten_plain.specs.Plains.{EachPair}
 use Rattle.lmn_flatten_plain.specs.SolidLines.{as_level}
 use Rattle.lmn_flatten_plain.specs.Spelled.{LabelSpelled, LevelSpelled}
 use Rattle.lmn_flatten_plain.specs.Words.{line_of}
 use Rattle.lmn_flatten_plain.proofs.SolidLines.{no_contexts, same_process}
 use Rattle.lmn_flatten_plain.proofs.TextPlains.{lines_read_back}
 use Rattle.lmn_app_runs.specs.Examples.{ShortRunPrints}
-use Rattle.lmn_app_runs.specs.Runs.{AllLines, IsLineOf, first_line, next_line}
+use Rattle.lmn_app_runs.specs.Runs.{IsLineOf, IsProcessLine, Prints, commit_after, no_commit}
 
 -- the letters can be spelled
 a_spelled : LabelSpelled label_a
@@ -53,15 +54,27 @@ module _ (alloc : Global) (names : List Name) (is : IsNames names) (a : Contains
         closed = λ x. inl refl;
       }
 
--- each commit has a line
-pub many_lines : {folded : Bool} {names : List Name} {P Q : Process} {n : ℕ} {lines : List (List ℕ)} → AllLines folded names P n Q lines → length lines ≡ n + 1
-many_lines (first_line line h) = refl
-many_lines (next_line {lines = lines} line h c g) = omega (arith, many_lines h, length-append lines (line ∷ []))
+-- as many lines as processes
+as_many : (R : Process → List ℕ → Type 0) (Ps : List Process) (lines : List (List ℕ)) → EachPair R Ps lines → length lines ≡ length Ps
+as_many R [] [] h = refl
+as_many R [] (line ∷ lines) h = absurd h
+as_many R (P ∷ Ps) [] h = absurd h
+as_many R (P ∷ Ps) (line ∷ lines) h = ap suc (as_many R Ps lines h.1)
+
+-- with a trace each commit has a line
+pub many_lines : {folded : Bool} {names : List Name} {P Q : Process} {n : ℕ} {lines : List (List ℕ)} → Prints true folded names P n Q lines → length lines ≡ n + 1
+many_lines {folded = folded} {names = names} {Q = Q} {lines = lines} h =
+    omega (arith, as_many (IsProcessLine folded names) (h.before ++ Q ∷ []) lines h.are, length-append h.before (Q ∷ []), h.count)
 
 -- the two lines of the text
 pub short_run_prints : ShortRunPrints
 short_run_prints alloc names is a b = (
-  next_line (codes "b. (a :- b).\n") (first_line (codes "a. (a :- b).\n") (its_line alloc names is a b (codes "a") a_spelled a)) short_trace_ends.1 (its_line alloc names is a b (codes "b") b_spelled b),
+  record {
+    before = region_process (changing (label_a ∷ [])) ∷ [];
+    commits = commit_after no_commit short_trace_ends.1;
+    count = refl;
+    are = (its_line alloc names is a b (codes "a") a_spelled a, (its_line alloc names is a b (codes "b") b_spelled b, tt));
+  },
   (omega arith, short_trace_ends.2),
   λ line h. absurd (omega (arith, many_lines h)),
 )

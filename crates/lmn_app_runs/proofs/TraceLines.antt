@@ -9,7 +9,7 @@ use Rattle.lmn_flatten_plain.specs.Words.{line_of}
 use Rattle.lmn_print_folded.specs.Lines.{IsLine}
 use Rattle.lmn_print_folded.proofs.FoldedLines.{one_folded_line, some_folded_line}
 use Rattle.lmn_app_runs.specs.Laws.{TracesHaveLines}
-use Rattle.lmn_app_runs.specs.Runs.{LinesOf, printed_solids}
+use Rattle.lmn_app_runs.specs.Runs.{LinesOf, printed}
 use Rattle.lmn_base.proofs.Lists.{all_append}
 
 -- each link of the region stands in two places
@@ -86,14 +86,14 @@ module _ (chooser : Chooser) (budget size : ℕ) (S : Region) (closed : IsClosed
   before_closed loaded = tt
   before_closed (turned {before = before} {S' = R} p l t few) = all_append IsClosed before (R ∷ []) (before_closed p) (last_closed p, tt)
 
-  printed_closed : (trace : Bool) {before : List Region} {R : Region} → Trace chooser budget size S before R → AllByRecursion IsClosed (printed_solids trace before R)
+  printed_closed : (trace : Bool) {before : List Region} {R : Region} → Trace chooser budget size S before R → AllByRecursion IsClosed (printed trace before R)
   printed_closed true {before} {R} p = all_append IsClosed before (R ∷ []) (before_closed p) (last_closed p, tt)
   printed_closed false p = (last_closed p, tt)
 
 -- each trace has its lines
 pub traces_have_lines : TracesHaveLines
 traces_have_lines g S before last closed trace =
-    let Ss = printed_solids g.trace before last in
+    let Ss = printed g.trace before last in
     let all = printed_closed g.chooser g.budget g.size S closed g.trace trace in
     let lines = some_lines g.folded Ss all in
     (lines.0, lines.1, λ other h. one_lines g.folded Ss lines.0 other all lines.1 h)

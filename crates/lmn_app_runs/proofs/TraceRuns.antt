@@ -2,7 +2,7 @@
 use Rattle.std.proofs.Common.{◌≡◌, ℕ, ◌+◌, ◌<◌, ◌≤◌, ◌⊎◌, ◌↔◌, inl, inr, Bool, true, false, List, [], ◌∷◌, ◌++◌, map, length, get_or, All, refl, sym, ap, ◌∙◌, subst, arith}
 use Rattle.std.specs.List.{AllByRecursion, flat_map}
 use Rattle.std.proofs.lemmas.List.Elements.{All-from_recursion}
-use Rattle.std.proofs.lemmas.List.{length-append}
+use Rattle.std.proofs.lemmas.List.{length-append, length-map, map-append}
 use Rattle.lmn_base.specs.declared.rule.Plain.{Plain}
 use Rattle.lmn_base.specs.declared.solid.Solid.{Solid}
 use Rattle.lmn_base.specs.declared.solid.SolidAtom as base_atom
@@ -24,6 +24,7 @@ use Rattle.lmn_congruence.specs.Translation.{numbered_rule, region_of, region_st
 use Rattle.lmn_congruence.proofs.SolidsOfPlains.{solids_of_plains}
 use Rattle.lmn_flatten_plain.specs.LinkNumbers.{AllRulesNumbered, EachNumbered, RuleNumbered, RulesNumbered, leaves_links, level_links, levels_links}
 use Rattle.lmn_flatten_plain.specs.NamesHeld.{LeafHeld, LevelHeld, LevelsHeld, RuleHeld, RulesHeld}
+use Rattle.lmn_flatten_plain.specs.Plains.{EachPair}
 use Rattle.lmn_flatten_plain.specs.SolidLines.{as_level, as_levels, atom_as_leaf}
 use Rattle.lmn_flatten_plain.specs.Spelled.{LeafSpelled, LevelSpelled, LevelsSpelled, RuleSpelled, RulesSpelled}
 use Rattle.lmn_flatten_plain.specs.Words.{line_of}
@@ -43,18 +44,16 @@ use Rattle.lmn_adequacy.specs.Runs.{End, Ends, Trace, Turn, budget_done, full, i
 use Rattle.lmn_adequacy.proofs.Heads.{all_rules_so}
 use Rattle.lmn_adequacy.proofs.Results.{firings_commit, irreducible_exactly}
 use Rattle.lmn_adequacy.proofs.RulesStay.{next_rules}
-use Rattle.lmn_reduction.specs.Chains.{Commits, no_step, step_after}
 use Rattle.lmn_reduction.specs.Commits.{Commit, Irreducible}
 use Rattle.lmn_app_runs.specs.Laws.{IsPrintable, TracesAreRuns, solid_of}
-use Rattle.lmn_app_runs.specs.Runs.{AllLines, IsLineOf, IsProcessLine, LastLine, LinesOf, Prints, StopsBy, StopsSo, at_end, first_line, next_line, printed_solids}
+use Rattle.lmn_app_runs.specs.Runs.{CommitsOver, IsLineOf, IsProcessLine, LinesOf, Prints, StopsBy, StopsSo, at_end, commit_after, no_commit, printed}
 use Rattle.lmn_app_runs.specs.declared.stop.Stop.{Stop}
 use Rattle.lmn_app_runs.specs.declared.stop.Stop.TheVariants as stop
 use Rattle.lmn_app_runs.proofs.GoodLevels.{Good, GoodRule, LabelHeld, good_integer, integer_good, level_good, not_connector, rule_good}
-use Rattle.lmn_app_runs.proofs.TraceLines.{one_more_line}
 use Rattle.lmn_app_runs.proofs.LabelsStay.{AllAtoms, AllAtomsIn, Atoms, fused_good, next_atoms}
 use Rattle.lmn_app_runs.proofs.Tables.{solid_has_rules, solid_rules}
 use Rattle.std.specs.declared.alloc.Global.{Global}
-use Rattle.lmn_base.proofs.Lists.{all_of_left, all_of_right}
+use Rattle.lmn_base.proofs.Lists.{all_append, all_of_left, all_of_right}
 
 -- ---- the links of a line
 
@@ -222,34 +221,36 @@ module _ (names : List Name) where
       one_longer : (before : List Region) (R : Region) → length (before ++ R ∷ []) ≡ length before + 1
       one_longer before R = length-append before (R ∷ [])
 
-      commits : {before : List Region} {R : Region} → IsTrace before R → Commits (length before) (region_process S) (region_process R)
-      commits loaded = no_step
-      commits (turned {before = before} {S' = R} {S'' = T} p l t few) =
-          subst (λ n. Commits n (region_process S) (region_process T)) (sym (one_longer before R)) (step_after (commits p) (one_commit (fine p) t))
+      comes : {before : List Region} {R : Region} → IsTrace before R → CommitsOver (region_process S) (map region_process before) (region_process R)
+      comes loaded = no_commit
+      comes (turned {before = before} {S' = R} {S'' = T} p l t few) =
+          subst (λ Ps. CommitsOver (region_process S) Ps (region_process T)) (sym (map-append region_process before (R ∷ []))) (commit_after (comes p) (one_commit (fine p) t))
 
-      all_lines : (folded : Bool) {before : List Region} {R : Region} → IsTrace before R → (lines : List (List ℕ)) → LinesOf folded (before ++ R ∷ []) lines →
-          AllLines folded names (region_process S) (length before) (region_process R) lines
-      all_lines folded loaded [] h = absurd h
-      all_lines folded loaded (line ∷ []) h = first_line line (line_fine folded S line start h.0)
-      all_lines folded loaded (line ∷ (more ∷ lines)) h = absurd h.1
-      all_lines folded (turned {before = before} {S' = R} {S'' = T} p l t few) lines h =
-          let f = fine p in
-          let cut = one_more_line folded (before ++ R ∷ []) T lines h in
-          let more = next_line cut.1 (all_lines folded p cut.0 cut.2) (one_commit f t) (line_fine folded T cut.1 (next_fine f t) cut.3) in
-          let longer : AllLines folded names (region_process S) (length (before ++ R ∷ [])) (region_process T) (cut.0 ++ cut.1 ∷ []) =
-          subst (λ n. AllLines folded names (region_process S) n (region_process T) (cut.0 ++ cut.1 ∷ [])) (sym (one_longer before R)) more in
-          subst (AllLines folded names (region_process S) (length (before ++ R ∷ [])) (region_process T)) (sym cut.4) longer
+      fines : {before : List Region} {R : Region} → IsTrace before R → AllByRecursion Fine (before ++ R ∷ [])
+      fines loaded = (start, tt)
+      fines (turned {before = before} {S' = R} {S'' = T} p l t few) = all_append Fine (before ++ R ∷ []) (T ∷ []) (fines p) (next_fine (fine p) t, tt)
 
-      last_line : (folded : Bool) {before : List Region} {R : Region} → IsTrace before R → (lines : List (List ℕ)) → LinesOf folded (R ∷ []) lines →
-          LastLine folded names (region_process S) (length before) (region_process R) lines
-      last_line folded p [] h = absurd h
-      last_line folded {before} {R} p (line ∷ []) h = record { commits = commits p; line = line; alone = refl; of = line_fine folded R line (fine p) h.0 }
-      last_line folded p (line ∷ (more ∷ lines)) h = absurd h.1
+      each_line : (folded : Bool) (Ss : List Region) (lines : List (List ℕ)) → AllByRecursion Fine Ss → LinesOf folded Ss lines →
+          EachPair (IsProcessLine folded names) (map region_process Ss) lines
+      each_line folded [] [] f h = tt
+      each_line folded [] (line ∷ lines) f h = absurd h
+      each_line folded (R ∷ Rs) [] f h = absurd h
+      each_line folded (R ∷ Rs) (line ∷ lines) f h = (line_fine folded R line f.0 h.0, each_line folded Rs lines f.1 h.1)
 
-      prints : (trace folded : Bool) {before : List Region} {R : Region} → IsTrace before R → (lines : List (List ℕ)) → LinesOf folded (printed_solids trace before R) lines →
+      are_lines : (trace folded : Bool) {before : List Region} {R : Region} → IsTrace before R → (lines : List (List ℕ)) → LinesOf folded (printed trace before R) lines →
+          EachPair (IsProcessLine folded names) (printed trace (map region_process before) (region_process R)) lines
+      are_lines true folded {before} {R} p lines h =
+          subst (λ Ps. EachPair (IsProcessLine folded names) Ps lines) (map-append region_process before (R ∷ [])) (each_line folded (before ++ R ∷ []) lines (fines p) h)
+      are_lines false folded {before} {R} p lines h = each_line folded (R ∷ []) lines (fine p, tt) h
+
+      prints : (trace folded : Bool) {before : List Region} {R : Region} → IsTrace before R → (lines : List (List ℕ)) → LinesOf folded (printed trace before R) lines →
           Prints trace folded names (region_process S) (length before) (region_process R) lines
-      prints true folded p lines h = all_lines folded p lines h
-      prints false folded p lines h = last_line folded p lines h
+      prints trace folded {before} p lines h = record {
+        before = map region_process before;
+        commits = comes p;
+        count = length-map before region_process;
+        are = are_lines trace folded p lines h;
+      }
 
       at_most : {before : List Region} {R : Region} → IsTrace before R → length before ≤ budget
       at_most loaded = omega arith

@@ -1,5 +1,5 @@
 -- What a run is, by what it prints: in the calculus, and by the strategy.
-use Rattle.std.specs.Prelude.{ℕ, ◌≡◌, ◌+◌, ◌<◌, ◌≤◌, List, [], ◌∷◌, ◌++◌, Bool, true, false, if◌then◌else◌, codes, decimal}
+use Rattle.std.specs.Prelude.{ℕ, ◌≡◌, ◌<◌, ◌≤◌, List, [], ◌∷◌, ◌++◌, length, Bool, true, false, if◌then◌else◌, codes, decimal}
 use Rattle.std.specs.List.{concat}
 use Rattle.lmn_base.specs.declared.rule.Plain.{Plain}
 use Rattle.lmn_congruence.specs.Process.{Process, Closed}
@@ -10,7 +10,6 @@ use Rattle.lmn_flatten_plain.specs.Plains.{EachPair}
 use Rattle.lmn_flatten_plain.specs.Texts.{IsPlainOfText}
 use Rattle.lmn_print_folded.specs.Lines.{IsLine}
 use Rattle.lmn_print_folded_laws.specs.ReadBack.{IsFoldedLineOf}
-use Rattle.lmn_reduction.specs.Chains.{Commits}
 use Rattle.lmn_reduction.specs.Commits.{Commit, Irreducible}
 use Rattle.lmn_app_runs.specs.declared.stop.Stop.{Stop}
 use Rattle.lmn_app_runs.specs.declared.stop.Stop.TheVariants as stop
@@ -25,17 +24,15 @@ at_end budget_done = stop.Budget
 at_end full = stop.Full
 
 -- the word of the end line
-abbrev pub end_word : End → List ℕ
-end_word irreducible = codes "irreducible"
-end_word budget_done = codes "budget"
-end_word full = codes "full"
-
--- the word of the end line, also where memory was wanting
 abbrev pub word_of_stop : Stop → List ℕ
-word_of_stop stop.Irreducible = end_word irreducible
-word_of_stop stop.Budget = end_word budget_done
-word_of_stop stop.Full = end_word full
+word_of_stop stop.Irreducible = codes "irreducible"
+word_of_stop stop.Budget = codes "budget"
+word_of_stop stop.Full = codes "full"
 word_of_stop stop.NoMemory = codes "no memory"
+
+-- and of a trace that has come to an end
+abbrev pub end_word : End → List ℕ
+end_word e = word_of_stop (at_end e)
 
 -- the end line: a word, and how many commits were done
 abbrev pub end_line : List ℕ → ℕ → List ℕ
@@ -45,8 +42,7 @@ end_line word commits = concat (codes "% " ∷ word ∷ codes " after " ∷ deci
 abbrev pub StopsBy : ℕ → Stop → ℕ → Process → Type 0
 StopsBy budget stop.Irreducible n P = (n ≤ budget) × Irreducible P
 StopsBy budget stop.Budget n P = (n ≡ budget) × ¬ (Irreducible P)
-StopsBy budget stop.Full n P = (n < budget) × ¬ (Irreducible P)
-StopsBy budget stop.NoMemory n P = (n < budget) × ¬ (Irreducible P)
+StopsBy budget _ n P = (n < budget) × ¬ (Irreducible P)
 
 -- ---- what is printed, in the calculus
 
@@ -64,33 +60,23 @@ abbrev pub IsProcessLine : Bool → List Name → Process → List ℕ → Type 
 IsProcessLine true = IsFoldedLineOf
 IsProcessLine false = IsLineOf
 
--- The lines of processes from P on, and the last process. Each next one comes from the one before it by one commit; n commits in all.
-pub data AllLines (folded : Bool) (names : List Name) (P : Process) : ℕ → Process → List (List ℕ) → Type 0 where
-  first_line : (line : List ℕ) → IsProcessLine folded names P line → AllLines folded names P 0 P (line ∷ [])
-  next_line : {n : ℕ} {Q R : Process} {lines : List (List ℕ)} (line : List ℕ) →
-      AllLines folded names P n Q lines → Commit Q R → IsProcessLine folded names R line → AllLines folded names P (n + 1) R (lines ++ line ∷ [])
+-- Processes from P on, each from the one before it by one commit: those before the last one, and the last one.
+pub data CommitsOver (P : Process) : List Process → Process → Type 0 where
+  no_commit : CommitsOver P [] P
+  commit_after : {before : List Process} {Q R : Process} → CommitsOver P before Q → Commit Q R → CommitsOver P (before ++ Q ∷ []) R
 
--- The line of the last process alone, to which a chain of n commits leads from P.
-pub record LastLine (folded : Bool) (names : List Name) (P : Process) (n : ℕ) (Q : Process) (lines : List (List ℕ)) : Type 0 where
-  pub commits : Commits n P Q
-  pub line : List ℕ
-  pub alone : lines ≡ line ∷ []
-  pub of : IsProcessLine folded names Q line
+-- what is printed of some in a row: with a trace all, and without one the last
+abbrev pub printed : {A : Type 0} → Bool → List A → A → List A
+printed trace before last = if trace then before ++ last ∷ [] else last ∷ []
 
--- with a trace all lines, and without one the last
-abbrev pub Prints : (trace folded : Bool) → List Name → Process → ℕ → Process → List (List ℕ) → Type 0
-Prints true folded = AllLines folded
-Prints false folded = LastLine folded
+-- The lines that are printed where n commits lead from P to Q: one for each process that is printed.
+pub record Prints (trace folded : Bool) (names : List Name) (P : Process) (n : ℕ) (Q : Process) (lines : List (List ℕ)) : Type 0 where
+  pub before : List Process
+  pub commits : CommitsOver P before Q
+  pub count : length before ≡ n
+  pub are : EachPair (IsProcessLine folded names) (printed trace before Q) lines
 
--- ---- which of these is printed, by the strategy
-
--- the solids that are printed: with a trace all, and without one the last
-abbrev pub printed_solids : Bool → List Region → Region → List Region
-printed_solids trace before last = if trace then before ++ last ∷ [] else last ∷ []
-
--- the lines of solids, one for each
-abbrev pub LinesOf : Bool → List Region → List (List ℕ) → Type 0
-LinesOf folded = EachPair (IsLine folded)
+-- ---- which run this is, by the strategy
 
 -- What a run is given: whether all lines are printed, and in the folded form, the most commits, the most items, and which membrane is
 -- asked first.
@@ -101,17 +87,23 @@ pub record Given : Type 0 where
   pub size : ℕ
   pub chooser : Chooser
 
+-- how it stops after its last solid, n commits done: at its end, or memory was wanting where it goes on
+abbrev pub StopsSo : Given → ℕ → Region → Stop → Type 0
+StopsSo g n S stop.Irreducible = Ends g.chooser g.budget g.size n S irreducible
+StopsSo g n S stop.Budget = Ends g.chooser g.budget g.size n S budget_done
+StopsSo g n S stop.Full = Ends g.chooser g.budget g.size n S full
+StopsSo g n S stop.NoMemory = (e : End) → ¬ (Ends g.chooser g.budget g.size n S e)
+
+-- ---- words for the laws of traces
+
+-- the lines of solids, one for each
+abbrev pub LinesOf : Bool → List Region → List (List ℕ) → Type 0
+LinesOf folded = EachPair (IsLine folded)
+
 -- the lines that are printed of a trace
 abbrev pub PrintedLines : Given → List Region → Region → List (List ℕ) → Type 0
-PrintedLines g before last = LinesOf g.folded (printed_solids g.trace before last)
+PrintedLines g before last = LinesOf g.folded (printed g.trace before last)
 
 -- how the trace ends after its last solid, n commits done
 abbrev pub EndsAt : Given → ℕ → Region → End → Type 0
 EndsAt g n S e = Ends g.chooser g.budget g.size n S e
-
--- how it stops there: at its end, or memory was wanting where it goes on
-abbrev pub StopsSo : Given → ℕ → Region → Stop → Type 0
-StopsSo g n S stop.Irreducible = EndsAt g n S irreducible
-StopsSo g n S stop.Budget = EndsAt g n S budget_done
-StopsSo g n S stop.Full = EndsAt g n S full
-StopsSo g n S stop.NoMemory = (e : End) → ¬ (EndsAt g n S e)
