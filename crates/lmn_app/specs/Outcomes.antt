@@ -1,8 +1,6 @@
 -- What a call leaves behind, for each of its endings.
 use Rattle.std.specs.Prelude.{◌≡◌, ℕ, ◌⊎◌, ⊤, List, Option, Some}
 use Rattle.lmn_io.specs.Counts.{FailedLast, Faults, NoneFailed, Rose}
-use Rattle.lmn_adequacy.specs.Runs.{irreducible, budget_done, full}
-use Rattle.lmn_app_runs.specs.Runs.{at_end}
 use Rattle.lmn_app_runs.specs.declared.stop.Stop.TheVariants as stop
 use Rattle.lmn_app.specs.declared.ending.Ending.{Ending}
 use Rattle.lmn_app.specs.declared.ending.Ending.TheVariants.{Done, Budget, Refused, Words, ReadFault, WriteFault, NoMemory, Full, SecondRefused}
@@ -35,9 +33,9 @@ Causes t ending text before after = ⊤
 
 -- What `out` took of the text where a task ends so.
 abbrev pub Output : Task → Ending → Told → Option (List ℕ) → Option (List ℕ) → Type 0
-Output (task.Run s) Done text old new = WritesRun s text (at_end irreducible) old new
-Output (task.Run s) Budget text old new = WritesRun s text (at_end budget_done) old new
-Output (task.Run s) Full text old new = WritesRun s text (at_end full) old new
+Output (task.Run s) Done text old new = WritesRun s text stop.Irreducible old new
+Output (task.Run s) Budget text old new = WritesRun s text stop.Budget old new
+Output (task.Run s) Full text old new = WritesRun s text stop.Full old new
 Output (task.Run s) NoMemory text old new = (new ≡ old) ⊎ WritesRun s text stop.NoMemory old new
 Output (task.Run s) WriteFault text old new = WritesPartOfRun s text old new
 Output task.List Done text old new = Lists text old new

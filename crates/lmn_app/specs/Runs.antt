@@ -6,11 +6,13 @@ use Rattle.lmn_congruence.specs.Process.{Process}
 use Rattle.lmn_congruence.specs.Regions.{Region, item_count_of_region}
 use Rattle.lmn_congruence.specs.Rules.{Name}
 use Rattle.lmn_congruence.specs.Translation.{plain_process, top_of}
+use Rattle.lmn_flatten_plain.specs.Plains.{EachPair}
 use Rattle.lmn_guards.specs.declared.plan.GuardPlan.{GuardPlan}
+use Rattle.lmn_print_folded.specs.Lines.{IsLine}
 use Rattle.lmn_reduction.specs.Commits.{Settles}
 use Rattle.lmn_adequacy.specs.Numbered.{IsNumbered}
 use Rattle.lmn_adequacy.specs.Runs.{Trace}
-use Rattle.lmn_app_runs.specs.Runs.{Given, PrintedLines, Prints, StopsBy}
+use Rattle.lmn_app_runs.specs.Runs.{Given, Prints, StopsBy, printed}
 use Rattle.lmn_app_runs.specs.declared.stop.Stop.{Stop}
 use Rattle.lmn_app.specs.Texts.{Accepts}
 
@@ -42,4 +44,4 @@ pub record IsTraceOf (g : Given) (text : List ℕ) (lines : List (List ℕ)) (n 
   pub last : Region
   pub trace : Trace g.chooser g.budget g.size solid before last
   pub count : length before ≡ n
-  pub are : PrintedLines g before last lines
+  pub are : EachPair (IsLine g.folded) (printed g.trace before last) lines
