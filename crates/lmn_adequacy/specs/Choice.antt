@@ -16,10 +16,6 @@ abbrev mutual
   paths_from n no_region = []
   paths_from n (region_and m ms) = map (λ path. n ∷ path) (paths m) ++ paths_from (suc n) ms
 
--- the paths of the membranes as they are asked, from a number on, wrapping round
-abbrev pub asked_paths : ℕ → Region → List (List ℕ)
-asked_paths from S = drop from (paths S) ++ take from (paths S)
-
 -- the lexicographic order of lists of numbers
 pub data Before : List ℕ → List ℕ → Type 0 where
   less_here : {m n : ℕ} {ms ns : List ℕ} → m < n → Before (m ∷ ms) (n ∷ ns)
@@ -86,12 +82,12 @@ mutual
         MembranesStand t (level_and l ls) (n ∷ (ns ++ ns')) ms
 
 -- The first membrane that is asked and has an embedding, its first rule that embeds, and the least positions at which
--- this rule embeds.
+-- this rule embeds. Membranes are asked from a number on, wrapping round.
 pub record ChosenFrom (from : ℕ) (S : Region) (path : List ℕ) (k : ℕ) (f : List ℕ) : Type 0 where
   pub embeds : EmbedsIn path k f S
   pub earlier : List (List ℕ)
   pub later : List (List ℕ)
-  pub order : asked_paths from S ≡ earlier ++ (path ∷ later)
+  pub order : drop from (paths S) ++ take from (paths S) ≡ earlier ++ (path ∷ later)
   pub first_membrane : (p : List ℕ) → Among p earlier → (j : ℕ) (g : List ℕ) → ¬ (EmbedsIn p j g S)
   pub first_rule : (j : ℕ) → j < k → (g : List ℕ) → ¬ (EmbedsIn path j g S)
   pub least : (g : List ℕ) → EmbedsIn path k g S → (f ≡ g) ⊎ Before f g
@@ -103,3 +99,7 @@ pub record NextFrom (from : ℕ) (S S' : Region) : Type 0 where
   pub positions : List ℕ
   pub chosen : ChosenFrom from S path number positions
   pub next : NextAt path number positions S S'
+
+-- the paths of the membranes as they are asked, from a number on, wrapping round
+abbrev pub asked_paths : ℕ → Region → List (List ℕ)
+asked_paths from S = drop from (paths S) ++ take from (paths S)

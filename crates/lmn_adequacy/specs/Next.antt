@@ -1,5 +1,5 @@
 -- The solid after a firing, with every list in its order: a raw level, and one fusion of its connectors.
-use Rattle.std.specs.Prelude.{ℕ, zero, suc, cond, List, map, ◌≡◌, ◌≤◌, [], ◌∷◌, ◌++◌, ◌==◌}
+use Rattle.std.specs.Prelude.{ℕ, zero, suc, cond, List, map, flat_map, ◌≡◌, ◌≤◌, [], ◌∷◌, ◌++◌, ◌==◌}
 use Rattle.lmn_congruence.specs.LinkedRules.{level_occurrences}
 use Rattle.lmn_congruence.specs.Links.{places}
 use Rattle.lmn_congruence.specs.Orders.{Among}
@@ -43,15 +43,7 @@ pub data ReachesAtoms : List ℕ → List ℕ → List SolidAtom → Type 0 wher
       places y seen ≡ 1 → Among y b.links → ReachesAtoms b.links (seen ++ b.links) bs →
       ReachesAtoms ys (seen ++ (b.links ++ links_at bs)) cs → ReachesAtoms (y ∷ ys) seen (b ∷ (bs ++ cs))
 
--- the atoms are listed depth first from the link x, which holds them
-abbrev pub DepthFirst : ℕ → List SolidAtom → Type 0
-DepthFirst x bs = ReachesAtoms (x ∷ []) (x ∷ []) bs
-
--- the atoms of a part as leaves of a level
-abbrev pub part_leaves : List SolidAtom → List Leaf
-part_leaves xs = map (λ a. atom_leaf a.label a.links) xs
-
--- the leaves of a body, each typed context as a copy in depth-first order
+-- The leaves of a body. Each typed context is a copy, whose atoms are listed depth first from the link that holds it.
 pub data MadeLeaves (c : Contents) : List Leaf → List Leaf → Type 0 where
   no_made_leaf : MadeLeaves c [] []
   made_atom : {a : Label} {xs : List ℕ} {ls outs : List Leaf} →
@@ -59,8 +51,8 @@ pub data MadeLeaves (c : Contents) : List Leaf → List Leaf → Type 0 where
   made_connector : {x y : ℕ} {ls outs : List Leaf} →
       MadeLeaves c ls outs → MadeLeaves c (connector_leaf x y ∷ ls) (connector_leaf (of_rule x) (of_rule y) ∷ outs)
   made_copy : {p : Name} {x : ℕ} {part : List SolidAtom} {ls outs : List Leaf} →
-      IsPart (c.typed_of p) (of_rule x) part → DepthFirst (of_rule x) part → MadeLeaves c ls outs →
-      MadeLeaves c (typed_leaf p x ∷ ls) (part_leaves part ++ outs)
+      IsPart (c.typed_of p) (of_rule x) part → ReachesAtoms (of_rule x ∷ []) (of_rule x ∷ []) part → MadeLeaves c ls outs →
+      MadeLeaves c (typed_leaf p x ∷ ls) (map (λ a. atom_leaf a.label a.links) part ++ outs)
 
 -- What an untyped context of a body makes: an open one its region, and a closed one a copy of its region, with every list
 -- in its order and its links renamed.
@@ -75,11 +67,6 @@ pub data MadeContexts (c : Contents) : List Context → List SolidAtom → List 
       MadeContext c p (region xs ms []) → MadeContexts c ps ys ks →
       MadeContexts c (p ∷ ps) (xs ++ ys) (kept_membranes ms ++ ks)
 
--- the rules for which the rule contexts of a level stand
-abbrev pub context_rules : Contents → List Name → List Rule
-context_rules c [] = []
-context_rules c (p ∷ ps) = c.rules_of p ++ context_rules c ps
-
 -- What a level of a body makes: the leaves as written, then the atoms of each untyped context; the membranes as written,
 -- then those of each untyped context; the rules as written, then those of each `@r`.
 mutual
@@ -89,7 +76,7 @@ mutual
         MadeLeaves c leaves outs → MadeMembranes c membranes made → MadeContexts c contexts xs ks →
         MadeLevel c (level leaves membranes contexts rule_contexts rules)
         (outs ++ kept_atoms xs) (made ++ ks)
-        (rules_list rules ++ context_rules c rule_contexts)
+        (rules_list rules ++ flat_map c.rules_of rule_contexts)
 
   pub data MadeMembranes (c : Contents) : Levels → List Level → Type 0 where
     no_made_membrane : MadeMembranes c no_level []
@@ -151,3 +138,17 @@ pub record Next (S S' : Region) : Type 0 where
   pub number : ℕ
   pub positions : List ℕ
   pub next : NextAt path number positions S S'
+
+-- ---- words for lemmas
+
+-- the atoms are listed depth first from the link x, which holds them
+abbrev pub DepthFirst : ℕ → List SolidAtom → Type 0
+DepthFirst x bs = ReachesAtoms (x ∷ []) (x ∷ []) bs
+
+-- the atoms of a part as leaves of a level
+abbrev pub part_leaves : List SolidAtom → List Leaf
+part_leaves xs = map (λ a. atom_leaf a.label a.links) xs
+
+-- the rules for which the rule contexts of a level stand
+abbrev pub context_rules : Contents → List Name → List Rule
+context_rules c ps = flat_map c.rules_of ps

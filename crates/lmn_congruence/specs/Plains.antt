@@ -27,8 +27,7 @@ abbrev mutual
 abbrev pub fused_leaves : (ℕ → ℕ) → List Leaf → List SolidAtom
 fused_leaves v [] = []
 fused_leaves v (atom_leaf a xs ∷ ls) = record { label = a; links = map v xs } ∷ fused_leaves v ls
-fused_leaves v (connector_leaf x y ∷ ls) = fused_leaves v ls
-fused_leaves v (typed_leaf p x ∷ ls) = fused_leaves v ls
+fused_leaves v (_ ∷ ls) = fused_leaves v ls
 
 abbrev mutual
   pub fused_level : (ℕ → ℕ) → Level → Region

@@ -44,19 +44,6 @@ pub record Linked (P : Process) : Type 0 where
 abbrev pub Closed : Process → Type 0
 Closed P = (x : ℕ) → Fresh x P ⊎ Local x P
 
--- P[new/old], written `substitute new old P`
-abbrev pub replace : ℕ → ℕ → ℕ → ℕ
-replace new old x = cond (x == old) new x
-
--- a process with one link in the place of another
-abbrev pub substitute : ℕ → ℕ → Process → Process
-substitute new old nothing = nothing
-substitute new old (connector y z) = connector (replace new old y) (replace new old z)
-substitute new old (atom a ys) = atom a (map (replace new old) ys)
-substitute new old (pair P Q) = pair (substitute new old P) (substitute new old Q)
-substitute new old (membrane P) = membrane (substitute new old P)
-substitute new old (rule r) = rule r
-
 -- all links renamed at once
 abbrev pub renamed : (ℕ → ℕ) → Process → Process
 renamed f nothing = nothing
@@ -65,6 +52,13 @@ renamed f (atom a ys) = atom a (map f ys)
 renamed f (pair P Q) = pair (renamed f P) (renamed f Q)
 renamed f (membrane P) = membrane (renamed f P)
 renamed f (rule r) = rule r
+
+-- P[new/old], written `substitute new old P`: one link in the place of another
+abbrev pub replace : ℕ → ℕ → ℕ → ℕ
+replace new old x = cond (x == old) new x
+
+abbrev pub substitute : ℕ → ℕ → Process → Process
+substitute new old P = renamed (replace new old) P
 
 -- a renaming takes different links of a process to different links
 abbrev pub OneToOneOn : (ℕ → ℕ) → Process → Type 0

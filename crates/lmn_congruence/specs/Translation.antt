@@ -127,13 +127,9 @@ abbrev pub rule_tree : List tree.Name → (ℕ → tree.Rule) → RuleTree → t
 rule_tree names rule r =
     tree.rule_of (level_of names rule r.head) (map (condition_of names) r.guard) (level_of names rule r.body)
 
--- a level that holds nothing
-abbrev pub empty_level : tree.Level
-empty_level = tree.level [] tree.no_level [] [] tree.no_rule
-
 -- for a number that no rule has: a rule that holds nothing, which is written `( :- )`
 abbrev pub no_such_rule : tree.Rule
-no_such_rule = tree.rule_of empty_level [] empty_level
+no_such_rule = tree.rule_of (tree.only_leaves []) [] (tree.only_leaves [])
 
 -- The rules of a table from the number k on. In a well made plain a rule that stands in another one has a greater
 -- number, so it is one of those behind it. A number that isn't greater would be read as that of the next rule.

@@ -1,7 +1,7 @@
 -- Printed items, one by one, and the level that they are together.
 use Rattle.std.proofs.Common.{◌≡◌, ℕ, ◌+◌, List, [], ◌∷◌, ◌++◌, map, length, slice_get, Some, refl, ap, subst, arith}
 use Rattle.lmn_congruence.specs.Rules as tree
-use Rattle.lmn_congruence.specs.Translation.{empty_level, context_with}
+use Rattle.lmn_congruence.specs.Translation.{context_with}
 use Rattle.lmn_lexer.specs.Laying.{Word}
 use Rattle.lmn_base.specs.declared.refusal.Pos.{Pos}
 use Rattle.lmn_flatten_plain.specs.Expanded.{ExpandedLeaf, Context, ExpandedLevel, ExpandedRule}
@@ -26,7 +26,7 @@ added (rule r) (tree.level ls ms ns os rs) = tree.level ls ms ns os (tree.rule_a
 
 -- a level of these
 abbrev pub gathered : List Printed → tree.Level
-gathered [] = empty_level
+gathered [] = tree.only_leaves []
 gathered (i ∷ is) = added i (gathered is)
 
 -- some membranes as they are printed

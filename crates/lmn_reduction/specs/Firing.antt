@@ -1,7 +1,7 @@
 -- When a rule fires.
 use Rattle.std.specs.Prelude.{List, [], ◌∷◌, ◌++◌}
 use Rattle.lmn_congruence.specs.Process.{Process, pair, rule}
-use Rattle.lmn_congruence.specs.Rules.{Name, Leaf, atom_leaf, connector_leaf, typed_leaf, Level, level, Levels, no_level, level_and, Rule, head_of, guard_of, body_of}
+use Rattle.lmn_congruence.specs.Rules.{Name, Leaf, typed_leaf, Level, level, Levels, no_level, level_and, Rule, head_of, guard_of, body_of}
 use Rattle.lmn_reduction.specs.Assignments.{Assignment, Proper}
 use Rattle.lmn_reduction.specs.Instances.{Instance}
 use Rattle.lmn_reduction.specs.Guards.{GuardHolds}
@@ -9,9 +9,8 @@ use Rattle.lmn_reduction.specs.Guards.{GuardHolds}
 -- the typed contexts that stand in a level, at any depth
 abbrev pub typed_leaves : List Leaf → List Name
 typed_leaves [] = []
-typed_leaves (atom_leaf a ys ∷ ls) = typed_leaves ls
-typed_leaves (connector_leaf x y ∷ ls) = typed_leaves ls
 typed_leaves (typed_leaf p x ∷ ls) = p ∷ typed_leaves ls
+typed_leaves (_ ∷ ls) = typed_leaves ls
 
 abbrev mutual
   pub typed_contexts : Level → List Name

@@ -48,8 +48,7 @@ pub data ContextInstances (t : Assignment) : List Context → List Process → T
 
 -- the rules of each rule context, in order
 abbrev pub rules_of_contexts : Assignment → List Name → List Process
-rules_of_contexts t [] = []
-rules_of_contexts t (r ∷ rs) = together (map rule (t.rules_of r)) ∷ rules_of_contexts t rs
+rules_of_contexts t rs = map (λ r. together (map rule (t.rules_of r))) rs
 
 -- P is an instance of a level: the parallel pair, in this order, of what stands for its leaves, its membranes,
 -- its untyped contexts, its rule contexts and its rules. A membrane holds an instance of its level, and a
