@@ -34,8 +34,7 @@ pub fn make_copies<S: LinkStore>(
 {
     copies.reserve(atoms.len());
     for i in 0..atoms.len() {
-        let functor = store.functor(*atoms.at(i));
-        let copy = store.make_atom(alloc, functor)?;
+        let copy = store.make_like(alloc, *atoms.at(i))?;
         copies.push(copy)?;
     }
     Ok(())

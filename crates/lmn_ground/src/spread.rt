@@ -1,7 +1,7 @@
 //! The walk that marks the atoms of a part.
-ghost use Rattle.std.specs.Prelude.{◌≡◌, ◌≢◌, ◌<◌, ◌≤◌, ◌+◌, ◌*◌, ◌^◌, ◌↔◌, IsTrue, IfSome, Some};
+ghost use Rattle.std.specs.Prelude.{◌≡◌, ◌≢◌, ◌<◌, ◌≤◌, ◌+◌, ◌*◌, ◌^◌, ◌↔◌, IsTrue, IfSome};
 ghost use Rattle.std.specs.Option.{option_map};
-ghost use Rattle.lmn_store_heap.specs.Heap.{IsAtom, IsMem, home_of, marked, own_mark};
+ghost use Rattle.lmn_store_heap.specs.Heap.{IsAtom, IsMem, marked, own_mark};
 ghost use Rattle.lmn_store_heap.specs.Splice.{IsPort};
 ghost use Rattle.lmn_ground.specs.Marks.{found_mark};
 ghost use Rattle.lmn_ground.specs.Spread.{AtomFits, CleanPart, IsWhole, Spread};
@@ -19,19 +19,6 @@ fn is_unmatched<S: LinkStore>(store: &S, a: S::Atom) -> bool
     store.mark(a, own) != MATCHED
 }
 
-/// Whether an atom stands in a membrane.
-fn stands_in<S: LinkStore>(store: &S, home: S::Mem, a: S::Atom) -> bool
-    requires atom { IsAtom (S.heap store.now) (S.atom_id a) }
-    requires mem { IsMem (S.heap store.now) (S.mem_id home) }
-    ensures { IsTrue result ↔ (home_of (S.heap store.now) (S.atom_id a) ≡ Some (S.mem_id home)) }
-{
-    let _arity = arity(store, a);
-    match store.home(a) {
-        Some(m) => store.same_mem(m, home),
-        None => false,
-    }
-}
-
 /// Whether an atom stands in the membrane, where one is asked for, and isn't matched.
 pub fn fits<S: LinkStore>(store: &S, home: Option<S::Mem>, a: S::Atom) -> bool
     requires atom { IsAtom (S.heap store.now) (S.atom_id a) }
@@ -39,7 +26,7 @@ pub fn fits<S: LinkStore>(store: &S, home: Option<S::Mem>, a: S::Atom) -> bool
     ensures { IsTrue result ↔ AtomFits (S.heap store.now) (option_map S.mem_id home) (S.atom_id a) }
 {
     match home {
-        Some(m) => stands_in(store, m, a) && is_unmatched(store, a),
+        Some(m) => store.stands_in(a, m) && is_unmatched(store, a),
         None => true,
     }
 }

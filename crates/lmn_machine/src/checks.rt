@@ -46,10 +46,7 @@ pub fn stands_in<S: LinkStore>(store: &S, a: S::Atom, m: S::Mem) -> bool
     ensures { IsTrue result ↔ In (S.atom_id a) (atoms_in (S.heap store.now) (S.mem_id m)) }
 {
     let _root = store.root();
-    match store.home(a) {
-        Some(home) => store.same_mem(home, m),
-        None => false,
-    }
+    store.stands_in(a, m)
 }
 
 /// Whether two ports are partners.

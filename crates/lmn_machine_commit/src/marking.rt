@@ -29,11 +29,7 @@ pub fn has_home<S: LinkStore>(store: &S, a: S::Atom, m: S::Mem) -> bool
     requires membrane { IsMem (S.heap store.now) (S.mem_id m) }
     ensures { IsTrue result ↔ (home_of (S.heap store.now) (S.atom_id a) ≡ Some (S.mem_id m)) }
 {
-    let _root = store.root();
-    match store.home(a) {
-        Some(home) => store.same_mem(home, m),
-        None => false,
-    }
+    store.stands_in(a, m)
 }
 
 /// Sets the own mark of an atom, where it stands in a membrane.

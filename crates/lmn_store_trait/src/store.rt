@@ -69,6 +69,19 @@ pub trait LinkStore {
         requires { IsAtom (heap self.now) (atom_id a) }
         ensures { home_of (heap self.now) (atom_id a) ≡ option_map mem_id result };
 
+    /// Whether an atom stands in the list of a membrane.
+    fn stands_in(&self, a: Self::Atom, m: Self::Mem) -> bool
+        requires atom { IsAtom (heap self.now) (atom_id a) }
+        requires membrane { IsMem (heap self.now) (mem_id m) }
+        ensures { IsTrue result ↔ (home_of (heap self.now) (atom_id a) ≡ Some (mem_id m)) }
+    {
+        let _root = self.root();
+        match self.home(a) {
+            Some(home) => self.same_mem(home, m),
+            None => false,
+        }
+    }
+
     /// The membrane in whose list a membrane stands. None for the root, detached and taken membranes.
     fn parent(&self, m: Self::Mem) -> Option<Self::Mem>
         requires { IsMem (heap self.now) (mem_id m) }
@@ -226,6 +239,17 @@ pub trait LinkStore {
         ensures fresh { IfOk result (λ a. (heap self.old).atoms (atom_id a) ≡ None) }
         ensures ok { IfOk result (λ a. heap self.new ≡ made_atom (heap self.old) (atom_id a) f) }
         ensures err { OnErr result (heap self.new ≡ heap self.old) };
+
+    /// A new atom with the functor of another one; else as `make_atom` makes it.
+    fn make_like(&mut self, alloc: Global, a: Self::Atom) -> Result<Self::Atom, NoMemory>
+        requires { IsAtom (heap self.old) (atom_id a) }
+        ensures fresh { IfOk result (λ c. (heap self.old).atoms (atom_id c) ≡ None) }
+        ensures ok { IfOk result (λ c. (f : Functor) × (functor_of (heap self.old) (atom_id a) ≡ Some f) × (heap self.new ≡ made_atom (heap self.old) (atom_id c) f)) }
+        ensures err { OnErr result (heap self.new ≡ heap self.old) }
+    {
+        let functor = self.functor(a);
+        self.make_atom(alloc, functor)
+    }
 
     /// A new membrane, detached, empty, last in the line of detached membranes.
     fn make_mem(&mut self, alloc: Global) -> Result<Self::Mem, NoMemory>

@@ -1,6 +1,8 @@
 -- What the calls that read answer, by what the calls of the web answer.
-use Rattle.std.proofs.Common.{◌≡◌, ◌≢◌, ◌⊎◌, ℕ, ◌<◌, List, Option, Some, None, IsSome, IfSome, refl, sym, ap, subst, ◌∙◌, inl, inr}
+use Rattle.std.proofs.Common.{◌≡◌, ◌≢◌, ◌⊎◌, ◌==◌, Bool, true, false, ℕ, ◌<◌, List, Option, Some, None, IsSome, IfSome, refl, sym, ap, subst, ◌∙◌, inl, inr}
+use Rattle.std.specs.Prelude.{◌↔◌, IsTrue}
 use Rattle.std.specs.Option.{option_map, option_and_then}
+use Rattle.std.proofs.lemmas.Bool.{eq-eqb, eqb-true}
 use Rattle.lmn_base.specs.Lists.{In}
 use Rattle.lmn_store_heap.specs.Lists.{from, after}
 use Rattle.lmn_store_heap.specs.Heap.{Heap, HeapAtom, home_by, arity_of, link_of, home_of, parent_of, atoms_in, mems_in, IsAtom, IsMem, IsInPlace, IsPlacedMem}
@@ -80,6 +82,21 @@ module _ (p : Posts) (t : List (Option RuleList)) (w : ℕ → Option WebCell) (
 
   pub parent_answer : {X : Type 0} (id : X → ℕ) (o q : Option X) (m : ℕ) → IsMem H m → home_at w m ≡ option_map id o → home_by (place_at p (option_map id o)) ≡ option_map id q → parent_of H m ≡ option_map id q
   parent_answer id o q m s e f = let i = mem_there p t w m s in parent_is p t w m i.1 i.2 i.3 i.0 ∙ ap (λ o. home_by (place_at p o)) e ∙ f
+
+  -- Whether an atom stands in a membrane of the heap
+
+  pub stands_by : (b : Bool) (a n m : ℕ) → IsAtom H a → IsMem H m → home_at w a ≡ Some n → b ≡ (n == m) → IsTrue b ↔ (home_of H a ≡ Some m)
+  stands_by b a n m s u e q =
+      let i = atom_there p t w a s in
+      let j = mem_there p t w m u in
+      (
+        λ y. home_is p t w a i.1 i.0 ∙ ap (λ o. home_by (place_at p o)) (e ∙ ap Some (eqb-true n m (sym q ∙ y))) ∙ ap home_by (stands_in p m j.2 j.3),
+        λ h. let v : Some n ≡ Some m = sym e ∙ (in_place a m h).1 in q ∙ eq-eqb n m (cc),
+      )
+
+  -- what stands nowhere doesn't
+  pub stands_nowhere : (a m : ℕ) → IsAtom H a → home_at w a ≡ None → IsTrue false ↔ (home_of H a ≡ Some m)
+  stands_nowhere a m s e = (λ y. absurd (cc), λ h. let v : None ≡ Some m = sym e ∙ (in_place a m h).1 in absurd (cc))
 
   -- The first of a list
 

@@ -199,6 +199,14 @@ impl LinkStore for WebStore {
         self.standing(self.web.home(m))
     }
 
+    fn stands_in(&self, a: Cell, m: Cell) -> bool {
+        self.web.listed();
+        match self.web.home(a) {
+            Some(home) => self.web.same(home, m),
+            None => false,
+        }
+    }
+
     fn first_atom(&self, m: Cell) -> Option<Cell> {
         self.web.listed();
         self.web.first(m, CellKind::Atom)
@@ -306,6 +314,21 @@ impl LinkStore for WebStore {
         self.web.add_last_plain(self.waiting, CellKind::Atom, a);
         self.atom_count += 1;
         Ok(a)
+    }
+
+    #[inline(always)]
+    fn make_like(&mut self, alloc: Global, a: Cell) -> Result<Cell, NoMemory> {
+        if self.atom_count + self.mem_count + self.spare_count >= BOUND {
+            return Err(NoMemory);
+        }
+        self.web.listed();
+        self.web.paired();
+        let label = self.web.label(a);
+        let arity = self.web.arity(a);
+        let c = self.web.make(label, arity, CellKind::Atom)?;
+        self.web.add_last_plain(self.waiting, CellKind::Atom, c);
+        self.atom_count += 1;
+        Ok(c)
     }
 
     fn make_mem(&mut self, alloc: Global) -> Result<Cell, NoMemory> {
