@@ -88,8 +88,7 @@ module _ (p : Posts) (t : List (Option RuleList)) (w : ℕ → Option WebCell) (
   pub stands_by : (b : Bool) (a n m : ℕ) → IsAtom H a → IsMem H m → home_at w a ≡ Some n → b ≡ (n == m) → IsTrue b ↔ (home_of H a ≡ Some m)
   stands_by b a n m s u e q =
       let i = atom_there p t w a s in
-      let j = mem_there p t w m u in
-      (
+      let j = mem_there p t w m u in (
         λ y. home_is p t w a i.1 i.0 ∙ ap (λ o. home_by (place_at p o)) (e ∙ ap Some (eqb-true n m (sym q ∙ y))) ∙ ap home_by (stands_in p m j.2 j.3),
         λ h. let v : Some n ≡ Some m = sym e ∙ (in_place a m h).1 in q ∙ eq-eqb n m (cc),
       )
