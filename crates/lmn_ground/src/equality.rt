@@ -22,7 +22,7 @@ pub fn is_same_port<S: LinkStore>(store: &S, x: (S::Atom, u8), y: (S::Atom, u8))
     requires y { IsAtom (S.heap store.now) (S.atom_id y.0) }
     ensures { IsTrue result ↔ (S.atom_id x.0 ≡ S.atom_id y.0) × (x.1 ≡ y.1) }
 {
-    store.same_atom(x.0, y.0) && x.1 == y.1
+    x.1 == y.1 && store.same_atom(x.0, y.0)
 }
 
 /// Whether two parts are equal, where the atoms of y's part have numbers.

@@ -325,10 +325,10 @@ impl LinkStore for WebStore {
         self.web.paired();
         let label = self.web.label(a);
         let arity = self.web.arity(a);
-        let c = self.web.make(label, arity, CellKind::Atom)?;
-        self.web.add_last_plain(self.waiting, CellKind::Atom, c);
+        let copy = self.web.make(label, arity, CellKind::Atom)?;
+        self.web.add_last_plain(self.waiting, CellKind::Atom, copy);
         self.atom_count += 1;
-        Ok(c)
+        Ok(copy)
     }
 
     fn make_mem(&mut self, alloc: Global) -> Result<Cell, NoMemory> {
