@@ -1,5 +1,6 @@
-use Rattle.std.proofs.Common.{◌≡◌, Some, subst, sym, ap, ◌∙◌, refl, ℕ, inl, arith}
+use Rattle.std.proofs.Common.{◌≡◌, Some, None, subst, sym, ap, ◌∙◌, refl, ℕ, inl, arith}
 use Rattle.std.specs.Prelude.{Option}
+use Rattle.std.specs.Option.{option_and_then}
 use Rattle.lmn_base.proofs.Lists.{on_err}
 use Rattle.lmn_base.specs.declared.functor.Functor.{Functor}
 use Rattle.lmn_store_heap.specs.Heap.{IsAtom, functor_of, made_atom}
@@ -8,7 +9,7 @@ use Rattle.lmn_web_cells.specs.CellIds.{cell_id}
 use Rattle.lmn_web.specs.declared.kind.CellKind.TheVariants.{Atom, Membrane}
 use Rattle.lmn_web.specs.Webs.{WebCell}
 use Rattle.lmn_web_merging.specs.Keepers.{merged_by}
-use Rattle.lmn_store_web.specs.WebHeaps.{KeptWeb, heap_of, heap_by, atoms_of, mems_of}
+use Rattle.lmn_store_web.specs.WebHeaps.{KeptWeb, heap_of, heap_by, atom_by, if_atom, atoms_of, mems_of}
 use Rattle.lmn_store_web.specs.Labels.{label_by}
 use Rattle.lmn_store_web.specs.WebStores.{IsStored, kept_by}
 use Rattle.lmn_store_web.proofs.ReadLemmas.{atom_there, functor_is}
@@ -128,23 +129,23 @@ invariant_of-self-2 c =
     let inv = c.self.invariant.store.stored in
     let old = cell_id c.args.a in
     let there = atom_there p k.table v old (subst (λ (z : KeptWeb). IsAtom (heap_of z) old) (sym c.self.view_is) c.requires) in
-    let range = inv.labels old c.label.result there.1 c.label.ensures in
-    let f : Functor = record { label = label_by c.label.result; arity = c.arity.result } in
+    let range = inv.labels old c.label-label.result there.1 c.label-label.ensures in
+    let f : Functor = record { label = label_by c.label-label.result; arity = c.arity-arity.result } in
     let a = cell_id c.in_ok-copy.copy in
     let u = merged_by c.make.new.self in
     let none = c.in_ok-copy.ensures.0 in
     let make = c.in_ok-copy.ensures.1 in
     let w = merged_by c.add_last_plain.new.self in
-    let d = made_line p v u (merged_by c.add_last_plain.new.self) a Atom c.label.result c.arity.result none (λ e. new_apart v u a _ _ _ none make p.waiting inv.waiting (sym e)) make c.add_last_plain.ensures in
+    let d = made_line p v u (merged_by c.add_last_plain.new.self) a Atom c.label-label.result c.arity-arity.result none (λ e. new_apart v u a _ _ _ none make p.waiting inv.waiting (sym e)) make c.add_last_plain.ensures in
     let low = c.if-self-ge-BOUND.false in
-    let heap = made_atom_heap p k.table v w a c.label.result c.arity.result d inv range f refl refl in
+    let heap = made_atom_heap p k.table v w a c.label-label.result c.arity-arity.result d inv range f refl refl in
     let listed = (heap_sound p k.table v inv c.listed.ensures c.paired.ensures (merged_formed k.web)).listed in
     record {
       store = record {
-        stored = atom_stored p k.table v w a c.label.result c.arity.result d inv range;
-        counts = made_atom_counts p k.table v w a c.label.result c.arity.result d inv range f refl refl _ _ _ (omega (arith, low)) c.self.invariant.store.counts;
+        stored = atom_stored p k.table v w a c.label-label.result c.arity-arity.result d inv range;
+        counts = made_atom_counts p k.table v w a c.label-label.result c.arity-arity.result d inv range f refl refl _ _ _ (omega (arith, low)) c.self.invariant.store.counts;
       };
-      index = index_same _ _ _ _ c.self.invariant.index (key_of w) (heap_by p k.table w) (λ m. ap (λ (h : Heap). seen_by (h.mems m)) heap) (made_key p v w a Atom c.label.result c.arity.result d k.table) (λ m y i. made_key p v w a Atom c.label.result c.arity.result d k.table y (members (heap_by p k.table v) listed m y i));
+      index = index_same _ _ _ _ c.self.invariant.index (key_of w) (heap_by p k.table w) (λ m. ap (λ (h : Heap). seen_by (h.mems m)) heap) (made_key p v w a Atom c.label-label.result c.arity-arity.result d k.table) (λ m y i. made_key p v w a Atom c.label-label.result c.arity-arity.result d k.table y (members (heap_by p k.table v) listed m y i));
     }
 
 pub returns-clause-ok : goal.returns-clause-ok
@@ -155,31 +156,37 @@ returns-clause-ok c =
     let inv = c.self.invariant.store.stored in
     let old = cell_id c.args.a in
     let there = atom_there p k.table v old (subst (λ (z : KeptWeb). IsAtom (heap_of z) old) (sym c.self.view_is) c.requires) in
-    let range = inv.labels old c.label.result there.1 c.label.ensures in
-    let f : Functor = record { label = label_by c.label.result; arity = c.arity.result } in
+    let range = inv.labels old c.label-label.result there.1 c.label-label.ensures in
+    let f : Functor = record { label = label_by c.label-label.result; arity = c.arity-arity.result } in
     let a = cell_id c.in_ok-copy.copy in
     let u = merged_by c.make.new.self in
     let none = c.in_ok-copy.ensures.0 in
     let make = c.in_ok-copy.ensures.1 in
     let w = merged_by c.add_last_plain.new.self in
-    let d = made_line p v u (merged_by c.add_last_plain.new.self) a Atom c.label.result c.arity.result none (λ e. new_apart v u a _ _ _ none make p.waiting inv.waiting (sym e)) make c.add_last_plain.ensures in
+    let d = made_line p v u (merged_by c.add_last_plain.new.self) a Atom c.label-label.result c.arity-arity.result none (λ e. new_apart v u a _ _ _ none make p.waiting inv.waiting (sym e)) make c.add_last_plain.ensures in
     (
       f,
-      subst (λ (z : KeptWeb). functor_of (heap_of z) old ≡ Some f) c.self.view_is (functor_is p k.table v old there.1 c.label.result c.arity.result f c.label.ensures c.arity.ensures refl),
-      made_atom_heap p k.table v w a c.label.result c.arity.result d inv range f refl refl ∙ ap (λ (z : KeptWeb). made_atom (heap_of z) a f) c.self.view_is,
+      subst (λ (z : KeptWeb). functor_of (heap_of z) old ≡ Some f) c.self.view_is (functor_is p k.table v old there.1 c.label-label.result c.arity-arity.result f c.label-label.ensures c.arity-arity.ensures refl),
+      made_atom_heap p k.table v w a c.label-label.result c.arity-arity.result d inv range f refl refl ∙ ap (λ (z : KeptWeb). made_atom (heap_of z) a f) c.self.view_is,
     )
 
-pub label-requires : goal.label-requires
-label-requires c =
+pub label-label-requires : goal.label-label-requires
+label-label-requires c =
     let a = cell_id c.args.a in let k = kept_by c.self.inside in
     (atom_there k.posts k.table (merged_by k.web) a (subst (λ (z : KeptWeb). IsAtom (heap_of z) a) (sym c.self.view_is) c.requires)).0
 
-pub arity-requires-clause-there : goal.arity-requires-clause-there
-arity-requires-clause-there c =
+pub arity-arity-requires-clause-there : goal.arity-arity-requires-clause-there
+arity-arity-requires-clause-there c =
     let a = cell_id c.args.a in let k = kept_by c.self.inside in
     (atom_there k.posts k.table (merged_by k.web) a (subst (λ (z : KeptWeb). IsAtom (heap_of z) a) (sym c.self.view_is) c.requires)).0
 
-pub arity-requires-clause-atom : goal.arity-requires-clause-atom
-arity-requires-clause-atom c =
+pub arity-arity-requires-clause-atom : goal.arity-arity-requires-clause-atom
+arity-arity-requires-clause-atom c =
     let a = cell_id c.args.a in let k = kept_by c.self.inside in
     (atom_there k.posts k.table (merged_by k.web) a (subst (λ (z : KeptWeb). IsAtom (heap_of z) a) (sym c.self.view_is) c.requires)).1
+
+pub returns-clause-fresh : goal.returns-clause-fresh
+returns-clause-fresh c =
+    let p = (kept_by c.self.inside).posts in
+    subst (λ (z : KeptWeb). atoms_of z.posts (merged_by z.web) (cell_id c.in_ok-copy.copy) ≡ None) c.self.view_is
+    (ap (λ (o : Option WebCell). option_and_then (λ (x : WebCell). if_atom x.kind (atom_by p x)) o) c.in_ok-copy.ensures.0)
