@@ -163,8 +163,7 @@ returns-clause-ok c =
     let none = c.in_ok-copy.ensures.0 in
     let make = c.in_ok-copy.ensures.1 in
     let w = merged_by c.add_last_plain.new.self in
-    let d = made_line p v u (merged_by c.add_last_plain.new.self) a Atom c.label-label.result c.arity-arity.result none (λ e. new_apart v u a _ _ _ none make p.waiting inv.waiting (sym e)) make c.add_last_plain.ensures in
-    (
+    let d = made_line p v u (merged_by c.add_last_plain.new.self) a Atom c.label-label.result c.arity-arity.result none (λ e. new_apart v u a _ _ _ none make p.waiting inv.waiting (sym e)) make c.add_last_plain.ensures in (
       f,
       subst (λ (z : KeptWeb). functor_of (heap_of z) old ≡ Some f) c.self.view_is (functor_is p k.table v old there.1 c.label-label.result c.arity-arity.result f c.label-label.ensures c.arity-arity.ensures refl),
       made_atom_heap p k.table v w a c.label-label.result c.arity-arity.result d inv range f refl refl ∙ ap (λ (z : KeptWeb). made_atom (heap_of z) a f) c.self.view_is,

@@ -32,12 +32,12 @@ returns-in-None c =
     let a = cell_id c.args.a in let m = cell_id c.args.m in let k = kept_by c.self.inside in
     subst (λ (z : KeptWeb). IsTrue false ↔ (home_of (heap_of z) a ≡ Some m)) c.self.view_is
     (stands_nowhere k.posts k.table (merged_by k.web) c.self.invariant.store.stored c.listed.ensures a m
-        (subst (λ (z : KeptWeb). IsAtom (heap_of z) a) (sym c.self.view_is) c.requires.atom) (c.home.ensures ∙ ap (option_map cell_id) c.in-None.is))
+    (subst (λ (z : KeptWeb). IsAtom (heap_of z) a) (sym c.self.view_is) c.requires.atom) (c.home.ensures ∙ ap (option_map cell_id) c.in-None.is))
 
 pub returns-in-Some : goal.returns-in-Some
 returns-in-Some c =
     let a = cell_id c.args.a in let m = cell_id c.args.m in let k = kept_by c.self.inside in
     subst (λ (z : KeptWeb). IsTrue c.same.result ↔ (home_of (heap_of z) a ≡ Some m)) c.self.view_is
     (stands_by k.posts k.table (merged_by k.web) c.self.invariant.store.stored c.listed.ensures c.same.result a (cell_id c.in-Some.home) m
-        (subst (λ (z : KeptWeb). IsAtom (heap_of z) a) (sym c.self.view_is) c.requires.atom) (subst (λ (z : KeptWeb). IsMem (heap_of z) m) (sym c.self.view_is) c.requires.membrane)
-        (c.home.ensures ∙ ap (option_map cell_id) c.in-Some.is) c.same.ensures)
+    (subst (λ (z : KeptWeb). IsAtom (heap_of z) a) (sym c.self.view_is) c.requires.atom) (subst (λ (z : KeptWeb). IsMem (heap_of z) m) (sym c.self.view_is) c.requires.membrane)
+    (c.home.ensures ∙ ap (option_map cell_id) c.in-Some.is) c.same.ensures)
