@@ -1,16 +1,18 @@
 -- Steps of the loop in which ports meet.
-use Rattle.std.proofs.Common.{ℕ, zero, suc, ◌≡◌, ◌+◌, ◌<◌, ◌≤◌, List, [], ◌∷◌, ◌++◌, length, take, drop, get_or, Option, None, refl, sym, ap, subst, ◌∙◌, inl, inr, arith}
+use Rattle.std.proofs.Common.{ℕ, zero, suc, ◌≡◌, ◌+◌, ◌<◌, ◌≤◌, List, [], ◌∷◌, ◌++◌, length, take, drop, get_or, Option, Some, None, true, ◌==◌, cond, refl, sym, ap, subst, ◌∙◌, inl, inr, arith}
 use Rattle.std.specs.Option.{option_map}
-use Rattle.std.specs.Prelude.{slice_index_or}
+use Rattle.std.specs.Prelude.{slice_index_or, slice_get, slice_set}
 use Rattle.std.proofs.lemmas.Bool.{cases_lt}
-use Rattle.std.proofs.lemmas.List.{map-append, map-id, take_more, take_all, get_or_past}
+use Rattle.std.proofs.lemmas.List.{map-append, map-id, take_more, take_all, get_or_past, get_or-set_same, get_or-set_other}
+use Rattle.std.proofs.lemmas.Option.{same_Some, slice_get-get_or}
+use Rattle.lmn_base.proofs.Numbers.{equal_itself, same_or_not, unequal}
 use Rattle.lmn_store_heap.specs.Heap.{Heap, port_id}
 use Rattle.lmn_congruence_splice.specs.Splice.{TwiceOrNever, both_links, links}
 use Rattle.lmn_congruence_splice.specs.Classes.{class_of}
 use Rattle.lmn_congruence_splice.proofs.ClassLemmas.{classes_twice}
 use Rattle.lmn_schedule_loading.specs.Adding.{by_id}
 use Rattle.lmn_congruence_classes.specs.Tables.{LinksBelow}
-use Rattle.lmn_schedule_loading.specs.Joining.{held_at, held_after, met, MayMeet, AreFree, AreJoined}
+use Rattle.lmn_schedule_loading.specs.Joining.{held_at, held_after, flipped, met, MayMeet, AreFree, AreJoined}
 use Rattle.lmn_schedule_loading.proofs.Meeting.{Meets, none_met, one_more, may_meet, all_met}
 use Rattle.lmn_base.specs.Graphs.{Port}
 
@@ -21,6 +23,28 @@ module _ {A : Type 0} (id : A → ℕ) where
     | inr l ↦ ap (option_map (port_id id)) (get_or_past table z None l)
   ]
 
+  -- the port that a table holds for a class is what stands there
+  pub held_is : (table : List (Option (A × ℕ))) (class : ℕ) (here : Option (A × ℕ)) → class < length table → slice_get table class ≡ Some here → held_at id table class ≡ option_map (port_id id) here
+  held_is table class here l e = ap (option_map (port_id id)) (same_Some (get_or table class None) here (sym (slice_get-get_or table class None l) ∙ e))
+
+  -- what a table holds for each class once it is set for one
+  set_next : (table : List (Option (A × ℕ))) (class : ℕ) (v : Option (A × ℕ)) (p : Port) → class < length table → option_map (port_id id) v ≡ flipped (held_at id table class) p
+      → (z : ℕ) → held_at id (slice_set table class v) z ≡ held_after (held_at id table) class p z
+  set_next table class v p l f z = elim (same_or_not z class) [
+    | inl q ↦
+        ap (λ k. held_at id (slice_set table class v) k) q
+        ∙ (ap (option_map (port_id id)) (get_or-set_same table class v None l)
+        ∙ (f ∙ ap (λ b. cond b (flipped (held_at id table class) p) (held_at id table z)) (sym (subst (λ k. (z == k) ≡ true) q (equal_itself z)))))
+    | inr d ↦
+        ap (option_map (port_id id)) (get_or-set_other table class z v None d)
+        ∙ ap (λ b. cond b (flipped (held_at id table class) p) (held_at id table z)) (sym (unequal z class d))
+  ]
+
+  -- the same of the table that comes of it
+  pub held_next : (table after : List (Option (A × ℕ))) (class : ℕ) (v : Option (A × ℕ)) (p : Port) → class < length table → after ≡ slice_set table class v → option_map (port_id id) v ≡ flipped (held_at id table class) p
+      → (z : ℕ) → held_at id after z ≡ held_after (held_at id table) class p z
+  held_next table after class v p l e f z = ap (λ t. held_at id t z) e ∙ set_next table class v p l f z
+
   pub meets_none : (m : ℕ → ℕ) (es : List ((A × ℕ) × ℕ)) (s : Heap) (table : List (Option (A × ℕ))) (n : ℕ) → length table ≡ n → ((z : ℕ) → z < n → slice_index_or table z None ≡ None) → AreFree s (by_id id es)
       → Meets m [] (by_id id es) s s (held_at id table)
   meets_none m es s table n e h f = none_met m (by_id id es) s (held_at id table) f (none_held table (λ z l. h z (subst (λ k. z < k) e l)))
@@ -29,6 +53,10 @@ module _ {A : Type 0} (id : A → ℕ) where
   next_of [] i x l e = absurd (omega (arith, l))
   next_of (y ∷ es) zero x l e = ap (λ z. z ∷ es) (sym e)
   next_of (y ∷ es) (suc i) x l e = let t : suc (i + 1) ≡ suc i + 1 = omega arith in next_of es i x (omega (arith, l)) e ∙ ap (λ k. x ∷ drop k (y ∷ es)) t
+
+  -- the link of an item is one of these
+  pub below_here : (n : ℕ) (es : List ((A × ℕ) × ℕ)) (i : ℕ) (x : (A × ℕ) × ℕ) → i < length es → x ≡ get_or es i x → LinksBelow n (drop i es) → x.1 < n
+  below_here n es i x l e h = (subst (LinksBelow n) (next_of es i x l e) h).0
 
   pub below_next : (n : ℕ) (es : List ((A × ℕ) × ℕ)) (i : ℕ) (x : (A × ℕ) × ℕ) → i < length es → x ≡ get_or es i x → LinksBelow n (drop i es) → LinksBelow n (drop (i + 1) es)
   below_next n es i x l e h = (subst (LinksBelow n) (next_of es i x l e) h).1
