@@ -3,6 +3,7 @@ pub mod HeadCode
 pub mod Labels
 pub mod Opcodes
 pub mod Words
+pub mod Kept
 pub mod Listings
 pub mod Worked
 pub mod Meant

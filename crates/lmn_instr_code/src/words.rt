@@ -1,6 +1,7 @@
 //! The words of an instruction: its opcode and its operands.
 ghost use Rattle.std.specs.Prelude.{◌≡◌, [], ◌∷◌};
-ghost use Rattle.lmn_instr_code.specs.Words.{opcode_of, port_operand, operands, all_operands};
+ghost use Rattle.lmn_instr_code.specs.Words.{opcode_of, port_operand, operands, line_words, all_operands};
+ghost use Rattle.lmn_instr_code.specs.Kept.{words_kept};
 
 use crate::instr::{AtomPort, Instr, NewPort};
 use crate::opcode::Opcode;
@@ -42,8 +43,7 @@ pub struct Operands<'a> {
 
 /// No operand.
 fn none<'a>(opcode: Opcode) -> Operands<'a>
-    ensures opcode { result.opcode ≡ opcode }
-    ensures operands { all_operands result ≡ [] }
+    ensures { words_kept result ≡ (opcode, []) }
 {
     Operands {
         opcode,
@@ -56,8 +56,7 @@ fn none<'a>(opcode: Opcode) -> Operands<'a>
 
 /// One operand.
 fn one<'a>(opcode: Opcode, first: Operand) -> Operands<'a>
-    ensures opcode { result.opcode ≡ opcode }
-    ensures operands { all_operands result ≡ first ∷ [] }
+    ensures { words_kept result ≡ (opcode, first ∷ []) }
 {
     Operands {
         opcode,
@@ -70,8 +69,7 @@ fn one<'a>(opcode: Opcode, first: Operand) -> Operands<'a>
 
 /// Two operands.
 fn two<'a>(opcode: Opcode, first: Operand, second: Operand) -> Operands<'a>
-    ensures opcode { result.opcode ≡ opcode }
-    ensures operands { all_operands result ≡ first ∷ (second ∷ []) }
+    ensures { words_kept result ≡ (opcode, first ∷ (second ∷ [])) }
 {
     Operands {
         opcode,
@@ -84,8 +82,7 @@ fn two<'a>(opcode: Opcode, first: Operand, second: Operand) -> Operands<'a>
 
 /// Three operands.
 fn three<'a>(opcode: Opcode, first: Operand, second: Operand, third: Operand) -> Operands<'a>
-    ensures opcode { result.opcode ≡ opcode }
-    ensures operands { all_operands result ≡ first ∷ (second ∷ (third ∷ [])) }
+    ensures { words_kept result ≡ (opcode, first ∷ (second ∷ (third ∷ []))) }
 {
     Operands {
         opcode,
@@ -110,6 +107,13 @@ fn new_port(port: NewPort) -> Operand
 pub fn operands_of(instr: &Instr) -> Operands
     ensures opcode { result.opcode ≡ opcode_of instr.now }
     ensures operands { all_operands result ≡ operands instr.now }
+{
+    words_of(instr)
+}
+
+/// The words of an instruction.
+fn words_of(instr: &Instr) -> Operands
+    ensures { words_kept result ≡ line_words instr.now }
 {
     match instr {
         Instr::FindAtom {
