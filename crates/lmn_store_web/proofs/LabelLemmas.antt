@@ -1,11 +1,11 @@
 -- Numbers of labels, there and back.
 use Rattle.std.proofs.Common.{◌≡◌, ℕ, Bool, true, false, ◌+◌, ◌-◌, ◌*◌, ◌/◌, ◌%◌, ◌<◌, ◌≤◌, cond, sym, ap, subst, ◌∙◌, arith}
-use Rattle.std.specs.Prelude.{pos, negsuc, nat_lt}
+use Rattle.std.specs.Prelude.{ℤ, ◌≢◌, pos, negsuc, nat_lt}
 use Rattle.std.proofs.lemmas.Nat.{div-mul-add, mod-mul-add}
 use Rattle.std.proofs.Math.Nat.{mul-div_cancel}
 use Rattle.lmn_base.specs.declared.functor.Label.{Label}
 use Rattle.lmn_base.specs.declared.functor.Label.TheVariants.{Name, Int}
-use Rattle.lmn_base.proofs.Numbers.{lower as below, not_lower as not_below}
+use Rattle.lmn_base.proofs.Numbers.{lower as below, not_lower as not_below, unequal}
 use Rattle.lmn_store_web.specs.Labels.{NEGATIVES, NAMES, IsNarrow, label_number, label_by, value_by, IsLabelNumber}
 
 -- what stands behind the tests of label_by
@@ -59,3 +59,11 @@ label_back true (Int (negsuc k)) w =
 -- the number of the label of a number is that number
 pub number_back : (by_value : Bool) (k : ℕ) → IsLabelNumber by_value k → label_number by_value (label_by k) ≡ k
 number_back by_value k (label, narrow, is) = ap (label_number by_value) (ap label_by is ∙ label_back by_value label narrow) ∙ sym is
+
+-- an integer below 0 is the label of its bits
+pub told_negative : (k : ℕ) (z : ℤ) → NEGATIVES ≤ k → k < NAMES → z ≡ negsuc (NAMES - 1 - k) → Int z ≡ label_by k
+told_negative k z h g e = ap (λ (y : ℤ). Int y) e ∙ sym (as_negative k h g)
+
+-- and it is that of its halves, where the lower one is not 0
+pub told_halved : (high low : ℕ) (z : ℤ) → low ≢ 0 → z ≡ negsuc (NAMES - 1 - high) → Int z ≡ value_by high low
+told_halved high low z d e = ap (λ (y : ℤ). Int y) e ∙ ap (λ b. cond b (Int (pos (high - NEGATIVES))) (Int (negsuc (NAMES - 1 - high)))) (sym (unequal low 0 d))

@@ -4,6 +4,7 @@ use Rattle.std.proofs.lemmas.Option.{slice_get-map, slice_get-get_or}
 use Rattle.std.specs.Option.{option_map}
 use Rattle.lmn_web_cells.specs.declared.handle.Cell.{Cell}
 use Rattle.std.specs.Prelude.{MatchOption, slice_get}
+use Rattle.lmn_store_heap.specs.Heap.{IsMem}
 use Rattle.lmn_store_heap.specs.Sound.{Forest, IsTree, Valid, flat}
 use Rattle.lmn_web_cells.specs.CellIds.{cell_id}
 use Rattle.lmn_store_web_preorder.proofs.Keyed.{keyed}
@@ -14,6 +15,7 @@ use Rattle.lmn_store_web.specs.WebHeaps.{KeptWeb, heap_of}
 use Rattle.lmn_store_web.specs.WebStores.{HasRules, kept_by}
 use Rattle.lmn_store_web.proofs.AwakeLemmas.{root_top, root_tree, none_told, told_low, some_told}
 use Rattle.lmn_store_web.proofs.IndexLemmas.{key_is}
+use Rattle.lmn_store_web.proofs.ReadLemmas.{mem_is, kind_there}
 use Rattle.lmn_store_web.proofs.web_store.WebStoreLinkStore.awake_from.Goals.{in-None, in-Some}
 use Rattle.lmn_store_web.proofs.web_store.WebStoreLinkStore.awake_from.Goals as goal
 
@@ -77,3 +79,8 @@ returns-clause-next c =
 
 pub returns-clause-same : goal.returns-clause-same
 returns-clause-same c = ap (λ (z : KeptWeb). heap_of z) c.self.view_is
+
+pub place_of_rules-top-requires : goal.place_of_rules-top-requires
+place_of_rules-top-requires c =
+    let k = kept_by c.self.inside in let s = c.self.invariant.store.stored in
+    subst (λ (z : KeptWeb). IsMem (heap_of z) (cell_id c.self.inside.root)) c.self.view_is (mem_is k.posts k.table (merged_by k.web) k.posts.root s.root s.root_waits s.root_goes (kind_there (merged_by k.web k.posts.root) s.root))

@@ -14,3 +14,8 @@ returns c =
     let k = kept_by c.self.inside in
     let i = mem_there k.posts k.table (merged_by k.web) m (subst (λ (z : KeptWeb). IsMem (heap_of z) m) (sym c.self.view_is) c.requires) in
     subst (λ (z : KeptWeb). c.mark.result ≡ mem_mark_of (heap_of z) m) c.self.view_is (c.mark.ensures ∙ sym (mem_mark_is k.posts k.table (merged_by k.web) m i.1 i.2 i.3))
+
+pub mark-requires-clause-there : goal.mark-requires-clause-there
+mark-requires-clause-there c =
+    let m = cell_id c.args.m in let k = kept_by c.self.inside in
+    (mem_there k.posts k.table (merged_by k.web) m (subst (λ (z : KeptWeb). IsMem (heap_of z) m) (sym c.self.view_is) c.requires)).0

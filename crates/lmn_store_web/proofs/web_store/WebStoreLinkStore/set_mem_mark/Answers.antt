@@ -71,3 +71,8 @@ pub set_mark-requires-clause-there : goal.set_mark-requires-clause-there
 set_mark-requires-clause-there c =
     let m = cell_id c.args.m in let k = kept_by c.self.inside in
     (mem_there k.posts k.table (merged_by k.web) m (subst (λ (z : KeptWeb). IsMem (heap_of z) m) (sym c.self.view_is) c.requires)).0
+
+pub mark-was-requires-clause-there : goal.mark-was-requires-clause-there
+mark-was-requires-clause-there c =
+    let m = cell_id c.args.m in let k = kept_by c.self.inside in
+    (mem_there k.posts k.table (merged_by k.web) m (subst (λ (z : KeptWeb). IsMem (heap_of z) m) (sym c.self.view_is) c.requires)).0
