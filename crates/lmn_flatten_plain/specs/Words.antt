@@ -61,11 +61,8 @@ abbrev pub label_piece : Label → Piece
 label_piece (named name) = name_piece name
 label_piece (integer z) = integer_piece z
 
-abbrev pub link_name : ℕ → Name
-link_name x = codes "L" ++ numeral x
-
 abbrev pub link_piece : ℕ → Piece
-link_piece x = word kind.Link (link_name x)
+link_piece x = word kind.Link (codes "L" ++ numeral x)
 
 abbrev pub context_piece : Name → Piece
 context_piece name = word kind.Context (codes "$" ++ name)
@@ -162,6 +159,10 @@ abbrev pub line_of : Level → List ℕ
 line_of l = text_of (with_full_stops (level_pieces l)) ++ codes "\n"
 
 -- ---- parts of these, as laws and contracts of private functions tell them
+
+-- the name of a link
+abbrev pub link_name : ℕ → Name
+link_name x = codes "L" ++ numeral x
 
 -- the kind of the word of a name
 abbrev pub name_kind : Name → TokenKind
