@@ -72,7 +72,7 @@ abbrev mutual
 
 -- parts of these, as laws and contracts of private functions tell them: the links of some uses, and of leaves
 abbrev pub use_links : List Use → List Link
-use_links = map (λ u. u.link)
+use_links us = map (λ u. u.link) us
 
 abbrev pub expanded_leaves_links : List ExpandedLeaf → List Link
 expanded_leaves_links = flat_map expanded_leaf_links

@@ -19,14 +19,10 @@ use Rattle.lmn_flatten_plain.specs.Laws.{IsPlain, NamesAreShort}
 use Rattle.lmn_flatten_plain.specs.Spelled.{LevelSpelled}
 use Rattle.lmn_flatten_plain.specs.Words.{line_of}
 
--- an atom of a region as a leaf
-abbrev pub atom_as_leaf : SolidAtom → Leaf
-atom_as_leaf a = atom_leaf a.label a.links
-
 -- the level with the lists of a region
 abbrev mutual
   pub as_level : Region → Level
-  as_level (region atoms membranes rs) = level (map atom_as_leaf atoms) (as_levels membranes) [] [] (rules rs)
+  as_level (region atoms membranes rs) = level (map (λ (a : SolidAtom). atom_leaf a.label a.links) atoms) (as_levels membranes) [] [] (rules rs)
 
   pub as_levels : Regions → Levels
   as_levels no_region = no_level
@@ -50,3 +46,7 @@ SolidLinesAreRead = (names : List Name) (given : Plain) (s : Solid) → let tabl
     → (tokens : List Token) × (tree : Clauses) × Reads (solid_line names table s) tokens tree × (NamesAreShort (words_of (solid_line names table s) tokens) → NothingWrong (solid_line names table s))
     × ((p : Plain) → IsPlain (solid_line names table s) tokens tree names p
     → (top_of names p ≡ level_of_solid names table s) × SolidOf (top_of names p) (region_of names table s))
+
+-- an atom of a region as a leaf, as lemmas and contracts of private functions tell it
+abbrev pub atom_as_leaf : SolidAtom → Leaf
+atom_as_leaf a = atom_leaf a.label a.links
