@@ -11,7 +11,8 @@ use Rattle.lmn_congruence.specs.UpToOrder.{Reordered, r_beside, r_chain, r_regro
 use Rattle.lmn_reduction.specs.Assignments.{Assignment}
 use Rattle.lmn_reduction.specs.Firing.{typed_contexts, typed_contexts_in, typed_leaves}
 use Rattle.lmn_reduction.specs.Guards.{GuardHolds, alike, binds, condition_and}
-use Rattle.lmn_reduction.specs.Instances.{IsCopy, LeafInstances, leaf_and, no_leaf, of_atom, of_connector, of_typed}
+use Rattle.lmn_reduction.specs.Instances.{LeafInstances, leaf_and, no_leaf, of_atom, of_connector, of_typed}
+use Rattle.lmn_reduction.proofs.Copies.{IsRootedCopy, rooted}
 use Rattle.lmn_reduction.specs.Parts.{IsGround, IsInteger, Rooted, an_integer}
 use Rattle.lmn_congruence.proofs.Counts.{linked_inside, linked_left, linked_right}
 use Rattle.lmn_congruence.proofs.Crossings.{occurrences_above}
@@ -38,7 +39,7 @@ use Rattle.lmn_congruence_splice.proofs.Fusions.{apart_rule as even_not_odd, sol
 
 -- ---- the links of the region in an instance of the head
 
-pub odd_copy : (g : Rooted) (y L : ℕ) (P : Process) → IsGround g → IsCopy g (of_rule y) P → Linked P → IsEven (occurrences (of_solid L) P)
+pub odd_copy : (g : Rooted) (y L : ℕ) (P : Process) → IsGround g → IsRootedCopy g (of_rule y) P → Linked P → IsEven (occurrences (of_solid L) P)
 odd_copy g y L P i c l = go (source c.to g.process (of_solid L))
   where
     not_root : (z : ℕ) → c.to z ≡ of_solid L → z ≢ g.root
@@ -57,9 +58,9 @@ module _ (t : Assignment) (p : Plain t) where
   odd_leaves L no_leaf a l = (0, refl)
   odd_leaves L (leaf_and (of_atom {xs = ys}) j) a l = let i = odd_leaves L j a (linked_right l) in (i.0, omega (arith, odd_not_even t p L ys, i.1))
   odd_leaves L (leaf_and of_connector j) a l = absurd a
-  odd_leaves L (leaf_and (of_typed {p = q} {x = y} {P = P} c) j) a l =
+  odd_leaves L (leaf_and (of_typed {p = q} {x = y} {P = P} c root) j) a l =
       let i = odd_leaves L j a.1 (linked_right l) in
-      let k = odd_copy (t.typed_of q) y L P a.0 c (linked_left l) in
+      let k = odd_copy (t.typed_of q) y L P a.0 (rooted (t.typed_of q) (of_rule y) P c root) (linked_left l) in
       (k.0 + i.0, omega (arith, k.1, i.1))
 
   mutual
@@ -84,7 +85,7 @@ module _ (t : Assignment) (p : Plain t) where
 
 -- ---- what typed contexts stand for has no link in more than two places
 
-copy_whole : (g : Rooted) (x : ℕ) (P : Process) → IsGround g → IsCopy g x P → Linked P → Whole g
+copy_whole : (g : Rooted) (x : ℕ) (P : Process) → IsGround g → IsRootedCopy g x P → Linked P → Whole g
 copy_whole g x P i c l z d = go (occurrences z g.process) (λ f. d (i.nothing_else_free z f)) (omega (arith, image_at_least c.to z g.process, subst (λ k. occurrences (c.to z) k ≤ 2) c.is (l.at_most_twice (c.to z))))
   where
     go : (n : ℕ) → n ≢ 1 → n ≤ 2 → (n ≡ 0) ⊎ (n ≡ 2)
@@ -95,8 +96,8 @@ module _ (t s : Assignment) (same_typed : (q : Name) → s.typed_of q ≡ t.type
   leaves_whole no_leaf a l q k = elim k [ ]
   leaves_whole (leaf_and of_atom j) a l q k = leaves_whole j a (linked_right l) q k
   leaves_whole (leaf_and of_connector j) a l q k = absurd a
-  leaves_whole (leaf_and (of_typed {p = o} {x = x} {P = P} c) j) a l q at_head = copy_whole (t.typed_of o) (s.link_of x) P a.0 (subst (λ g. IsCopy g (s.link_of x) P) (same_typed o) c) (linked_left l)
-  leaves_whole (leaf_and (of_typed c) j) a l q (further k) = leaves_whole j a.1 (linked_right l) q k
+  leaves_whole (leaf_and (of_typed {p = o} {x = x} {P = P} c root) j) a l q at_head = copy_whole (t.typed_of o) (s.link_of x) P a.0 (subst (λ g. IsRootedCopy g (s.link_of x) P) (same_typed o) (rooted (s.typed_of o) (s.link_of x) P c root)) (linked_left l)
+  leaves_whole (leaf_and (of_typed c root) j) a l q (further k) = leaves_whole j a.1 (linked_right l) q k
 
   mutual
     level_whole : {l : Level} {C : Process} → HeadInstance s l C → HeadLevel t l → Linked C → (q : Name) → Among q (typed_contexts l) → Whole (t.typed_of q)

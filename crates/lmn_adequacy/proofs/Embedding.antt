@@ -13,7 +13,8 @@ use Rattle.lmn_congruence.specs.UpToOrder.{Reordered, r_chain, r_same}
 use Rattle.lmn_reduction.specs.Assignments.{Assignment, NoRuleAtTop, Proper}
 use Rattle.lmn_reduction.specs.Firing.{typed_contexts}
 use Rattle.lmn_reduction.specs.Guards.{GuardHolds, Holds, alike, binds, condition_and, in_order, no_condition, of_kind, unlike}
-use Rattle.lmn_reduction.specs.Instances.{IsCopy, LeafInstances, leaf_and, no_leaf, of_atom, of_connector, of_typed, rules_of_contexts}
+use Rattle.lmn_reduction.specs.Instances.{LeafInstances, leaf_and, no_leaf, of_atom, of_connector, of_typed, rules_of_contexts}
+use Rattle.lmn_reduction.proofs.Copies.{IsRootedCopy, rooted}
 use Rattle.lmn_reduction.specs.Parts.{IsGround, OnlyAtoms, Rooted, atoms_at_top}
 use Rattle.lmn_reduction.specs.Redexes.{HasRedex, at_top, in_membrane}
 use Rattle.lmn_reduction.specs.Steps.{Step}
@@ -118,7 +119,7 @@ module _ (t : Assignment) (v : ℕ → ℕ) where
   pub fused_filling : (ps : List Context) (qs : List Name) (rs : Rules) → fused v (filling t ps qs rs) ≡ filling read_assignment ps qs rs
   fused_filling ps qs rs = cc (fused_contexts ps, fused_rule_contexts qs, fused_rules (rules_list rs))
 
-  typed_at_least : (x y : ℕ) (g : Rooted) (P : Process) → IsGround g → IsCopy g (t.link_of y) P → (x ≡ y) ⊎ (x ≢ y) → one_if_same x y ≤ occurrences (v (t.link_of x)) (fused v P)
+  typed_at_least : (x y : ℕ) (g : Rooted) (P : Process) → IsGround g → IsRootedCopy g (t.link_of y) P → (x ≡ y) ⊎ (x ≢ y) → one_if_same x y ≤ occurrences (v (t.link_of x)) (fused v P)
   typed_at_least x y g P i c (inl e) =
       let F : ℕ → ℕ = λ z. v (c.to z) in
       let b = image_at_least F g.root g.process in
@@ -142,7 +143,7 @@ module _ (t : Assignment) (v : ℕ → ℕ) where
   leaves_at_least x no_leaf a = omega arith
   leaves_at_least x (leaf_and (of_atom {xs = ys}) j) a = omega (arith, places_twice x ys, leaves_at_least x j a)
   leaves_at_least x (leaf_and of_connector j) a = absurd a
-  leaves_at_least x (leaf_and (of_typed {p = q} {x = y} {P = P} c) j) a = omega (arith, typed_at_least x y (t.typed_of q) P a.0 c (same_or_not x y), leaves_at_least x j a.1)
+  leaves_at_least x (leaf_and (of_typed {p = q} {x = y} {P = P} c root) j) a = omega (arith, typed_at_least x y (t.typed_of q) P a.0 (rooted (t.typed_of q) (t.link_of y) P c root) (same_or_not x y), leaves_at_least x j a.1)
 
   mutual
     level_at_least : (x : ℕ) {l : Level} {C : Process} → HeadInstance t l C → HeadLevel t l → level_occurrences x l ≤ occurrences (v (t.link_of x)) (fused v C)
@@ -181,7 +182,7 @@ module _ (t : Assignment) (p : Proper t) where
       one_image x y (inr d) = other (t.link_of x) (t.link_of y) (λ e. d (p.links_differ x y e)) ∙ sym (other x y d)
 
   -- in a copy a link of the rule occurs as its root, or an even number of times
-  even_copy : (x y : ℕ) (g : Rooted) (P : Process) → IsGround g → IsCopy g (t.link_of y) P → Linked P → (x ≡ y) ⊎ (x ≢ y) → EvenMore (occurrences (t.link_of x) P) (one_if_same x y)
+  even_copy : (x y : ℕ) (g : Rooted) (P : Process) → IsGround g → IsRootedCopy g (t.link_of y) P → Linked P → (x ≡ y) ⊎ (x ≢ y) → EvenMore (occurrences (t.link_of x) P) (one_if_same x y)
   even_copy x y g P i c l (inl e) =
       let n : occurrences (c.to g.root) (renamed c.to g.process) ≡ occurrences g.root g.process = occurrences_image c.to g.root g.process (λ z o q. c.one_to_one z g.root o (one_occurs (occurrences g.root g.process) i.root_is_free) q) in
       let m : occurrences (t.link_of x) P ≡ 1 = ap (occurrences (t.link_of x)) c.is ∙ ap (λ k. occurrences k (renamed c.to g.process)) (ap t.link_of e ∙ sym c.root) ∙ n ∙ i.root_is_free in
@@ -215,9 +216,9 @@ module _ (t : Assignment) (p : Proper t) where
   even_leaves x no_leaf a l = record { half = 0; is = refl }
   even_leaves x (leaf_and (of_atom {xs = ys}) j) a l = let i = even_leaves x j a (linked_right l) in record { half = i.half; is = omega (arith, places_image x ys, i.is) }
   even_leaves x (leaf_and of_connector j) a l = absurd a
-  even_leaves x (leaf_and (of_typed {p = q} {x = y} {P = P} c) j) a l =
+  even_leaves x (leaf_and (of_typed {p = q} {x = y} {P = P} c root) j) a l =
       let i = even_leaves x j a.1 (linked_right l) in
-      let k = even_copy x y (t.typed_of q) P a.0 c (linked_left l) (same_or_not x y) in
+      let k = even_copy x y (t.typed_of q) P a.0 (rooted (t.typed_of q) (t.link_of y) P c root) (linked_left l) (same_or_not x y) in
       record { half = k.half + i.half; is = omega (arith, k.is, i.is) }
 
   -- a link of the rule is free in no context, and stands twice in a closed one or not at all
@@ -272,7 +273,7 @@ module _ (t : Assignment) (p : Proper t) (v : ℕ → ℕ) where
   parts_of no_leaf = []
   parts_of (leaf_and of_atom j) = parts_of j
   parts_of (leaf_and of_connector j) = parts_of j
-  parts_of (leaf_and (of_typed {P = P} c) j) = pieces (fused v P) ++ parts_of j
+  parts_of (leaf_and (of_typed {P = P} c root) j) = pieces (fused v P) ++ parts_of j
 
   later : (xs ys zs : List Process) → Shuffle SamePiece ((xs ++ ys) ++ zs) (ys ++ (xs ++ zs))
   later xs ys zs = subst (Shuffle SamePiece ((xs ++ ys) ++ zs)) (append_assoc ys xs zs) (shuffle_append (shuffle_swap (λ P. itself) xs ys) (shuffle_same (λ P. itself) zs))
@@ -287,7 +288,7 @@ module _ (t : Assignment) (p : Proper t) (v : ℕ → ℕ) where
       match_atom b ys ls (pieces (fused v (together Ps)) ++ W) (parts_of j ++ W) xs ms rs (λ xs' k. match_leaves j a W xs' ms rs k)
       (subst (λ k. Shuffle SamePiece (atom b k ∷ (pieces (fused v (together Ps)) ++ W)) (pieces_of (region xs ms rs))) (map_twice v t.link_of ys) s)
   match_leaves (leaf_and of_connector j) a W xs ms rs s = absurd a
-  match_leaves (leaf_and {ls = ls} {Ps = Ps} (of_typed {P = P} c) j) a W xs ms rs s =
+  match_leaves (leaf_and {ls = ls} {Ps = Ps} (of_typed {P = P} c root) j) a W xs ms rs s =
       let A = pieces (fused v P) in
       let B = pieces (fused v (together Ps)) in
       let i = match_leaves j a.1 (A ++ W) xs ms rs (shuffle_chain same_piece_chain (sooner A B W) (pieces_of (region xs ms rs)) s) in
@@ -320,7 +321,7 @@ module _ (t : Assignment) (p : Proper t) (v : ℕ → ℕ) where
   match_parts no_leaf a l W xs ms rs s = record { rest = xs; parts = no_part; left = s }
   match_parts (leaf_and of_atom j) a l W xs ms rs s = let k = match_parts j a (linked_right l) W xs ms rs s in record { rest = k.rest; parts = no_part_of_atom k.parts; left = k.left }
   match_parts (leaf_and of_connector j) a l W xs ms rs s = absurd a
-  match_parts (leaf_and (of_typed {p = q} {x = x} {P = P} c) j) a l W xs ms rs s =
+  match_parts (leaf_and (of_typed {p = q} {x = x} {P = P} c root) j) a l W xs ms rs s =
       let g = t.typed_of q in
       let F : ℕ → ℕ = λ z. v (c.to z) in
       let part = map (part_atom F) (atoms_at_top g.process) in

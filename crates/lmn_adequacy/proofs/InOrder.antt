@@ -10,7 +10,8 @@ use Rattle.lmn_congruence.specs.Rules.{Context, Leaf, Level, Levels, Name, Rule,
 use Rattle.lmn_congruence.specs.Translation.{levels, rules as listed_rules}
 use Rattle.lmn_congruence.specs.UpToOrder.{Reordered, r_back, r_beside, r_chain, r_inside, r_regroup, r_same, r_swap, r_unit}
 use Rattle.lmn_reduction.specs.Assignments.{Assignment, NoRuleAtTop}
-use Rattle.lmn_reduction.specs.Instances.{ContextInstance, ContextInstances, Instance, IsClosedCopy, IsCopy, LeafInstances, MembraneInstances, context_and, instance, leaf_and, membrane_and, no_context as no_context_instance, no_leaf, no_membrane, of_closed, of_open, of_atom, of_connector, of_typed, rules_of_contexts}
+use Rattle.lmn_reduction.specs.Instances.{ContextInstance, ContextInstances, Instance, IsCopy, LeafInstances, MembraneInstances, context_and, instance, leaf_and, membrane_and, no_context as no_context_instance, no_leaf, no_membrane, of_closed, of_open, of_atom, of_connector, rules_of_contexts}
+use Rattle.lmn_reduction.proofs.Copies.{IsRootedCopy, typed_by}
 use Rattle.lmn_reduction.proofs.Plains.{level_reordered}
 use Rattle.lmn_congruence.proofs.Reordered.{r_right, reordered_count}
 use Rattle.lmn_congruence.proofs.Solids.{put_together, region_plain}
@@ -118,17 +119,17 @@ module _ (c : Contents) where
   leaves_process (made_copy {p = p} {x = x} {part = part} {outs = outs} i o d) =
       let u = leaves_process d in
       let g = c.typed_of p in
-      let k : IsCopy g (of_rule x) (renamed i.to g.process) = record { to = i.to; one_to_one = i.one_to_one; root = i.root; is = refl } in
+      let k : IsRootedCopy g (of_rule x) (renamed i.to g.process) = record { to = i.to; one_to_one = i.one_to_one; root = i.root; is = refl } in
       record {
         processes = renamed i.to g.process ∷ u.processes;
-        instances = leaf_and (of_typed k) u.instances;
+        instances = leaf_and (typed_by k) u.instances;
         order = r_chain (together_both leaf_process (part_leaves part) outs) (r_both (r_chain (r_same (made_atoms_process part)) (r_back (part_order i.to g.process part i.only_atoms i.atoms))) u.order);
       }
 
   -- what untyped contexts, rule contexts and rules stand for
 
   -- a region with its links renamed is a copy of the region
-  region_copied : (R m : Region) → IsRenamed R m → IsClosedCopy (renamed of_solid (region_process R)) (renamed of_solid (region_process m))
+  region_copied : (R m : Region) → IsRenamed R m → IsCopy (renamed of_solid (region_process R)) (renamed of_solid (region_process m))
   region_copied R m i = record { to = by_parity of_rule (λ y. of_solid (i.to y)); one_to_one = one; is = same }
     where
       moves : (x : ℕ) → by_parity of_rule (λ y. of_solid (i.to y)) (of_solid x) ≡ of_solid (i.to x)

@@ -7,7 +7,7 @@ use Rattle.lmn_congruence.specs.Orders.{Among, EachOnce, at_head, further}
 use Rattle.lmn_congruence.specs.Process.{Closed, Free, Linked, OneToOneOn, Process, atom, connector, membrane, nothing, occurrences, pair, renamed, rule, together}
 use Rattle.lmn_congruence.specs.Rules.{Context, Leaf, Level, Levels, Name, Rules, closed_context, level, level_and, no_level, open_context, rules_list}
 use Rattle.lmn_reduction.specs.Assignments.{Assignment, NoRuleAtTop, Proper}
-use Rattle.lmn_reduction.specs.Instances.{ContextInstances, Instance, IsClosedCopy, LeafInstances, MembraneInstances, context_and, instance, leaf_and, membrane_and, no_context, no_leaf, no_membrane, of_atom, of_closed, of_connector, of_open, of_typed, rules_of_contexts}
+use Rattle.lmn_reduction.specs.Instances.{ContextInstances, Instance, IsCopy, LeafInstances, MembraneInstances, context_and, instance, leaf_and, membrane_and, no_context, no_leaf, no_membrane, of_atom, of_closed, of_connector, of_open, of_typed, rules_of_contexts}
 use Rattle.lmn_congruence.proofs.Common.{among_apart as among_append, among_left, among_right}
 use Rattle.lmn_congruence.proofs.Counts.{linked_inside, linked_left, linked_right}
 use Rattle.lmn_congruence.proofs.FewestCrossings.{free_image, with_image}
@@ -35,7 +35,7 @@ mutual
 -- ---- it is an instance
 
 module _ (t : Assignment) where
-  itself_copied : (Q : Process) → IsClosedCopy Q Q
+  itself_copied : (Q : Process) → IsCopy Q Q
   itself_copied Q = record { to = λ x. x; one_to_one = λ x y o o' e. e; is = sym (renamed_id Q) }
 
   itself_instances : (ps : List Context) → ContextInstances t ps (map t.context_of ps)
@@ -126,7 +126,7 @@ module _ (t : Assignment) where
     leaves_standing no_leaf = no_leaf
     leaves_standing (leaf_and of_atom j) = leaf_and of_atom (leaves_standing j)
     leaves_standing (leaf_and of_connector j) = leaf_and of_connector (leaves_standing j)
-    leaves_standing (leaf_and (of_typed c) j) = leaf_and (of_typed c) (leaves_standing j)
+    leaves_standing (leaf_and (of_typed c root) j) = leaf_and (of_typed c root) (leaves_standing j)
 
     contexts_standing : {ps : List Context} {Ps : List Process} (k : ContextInstances t ps Ps) → Agrees f (entries k) → map f ps ≡ Ps
     unfolding entries
@@ -174,7 +174,7 @@ module _ (t : Assignment) where
         go e at_head = h
         go e (further i) = k e i
 
-    copy_may : (Q P : Process) → NoRuleAtTop Q → Closed Q → IsClosedCopy Q P → Linked (fused v P) → Joins v P → NoRuleAtTop P × Closed P × Closed (fused v P)
+    copy_may : (Q P : Process) → NoRuleAtTop Q → Closed Q → IsCopy Q P → Linked (fused v P) → Joins v P → NoRuleAtTop P × Closed P × Closed (fused v P)
     copy_may Q P n c k l j =
         let d : Closed P = subst Closed (sym k.is) (closed_image k.to Q k.one_to_one c) in
         (subst NoRuleAtTop (sym k.is) (no_rule_image k.to Q n), d, closed_fused v P j d l)

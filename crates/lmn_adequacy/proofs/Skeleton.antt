@@ -8,7 +8,8 @@ use Rattle.lmn_congruence.specs.Regions.{Region, Regions, SolidAtom, atom_proces
 use Rattle.lmn_congruence.specs.Rules.{Context, Leaf, Level, Levels, Name, Rule, Rules, level, level_and, rules_list}
 use Rattle.lmn_congruence.specs.UpToOrder.{Reordered, r_back, r_beside, r_chain, r_inside, r_regroup, r_same, r_unit}
 use Rattle.lmn_reduction.specs.Assignments.{Assignment}
-use Rattle.lmn_reduction.specs.Instances.{IsCopy, LeafInstances, leaf_and, no_leaf, of_atom, of_typed, rules_of_contexts}
+use Rattle.lmn_reduction.specs.Instances.{LeafInstances, leaf_and, no_leaf, of_atom, rules_of_contexts}
+use Rattle.lmn_reduction.proofs.Copies.{IsRootedCopy, typed_by}
 use Rattle.lmn_reduction.specs.Parts.{IsGround, OnlyAtoms, Rooted}
 use Rattle.lmn_congruence.proofs.Counts.{Occurs}
 use Rattle.lmn_congruence.proofs.LinkMaps.{two_occurrences}
@@ -219,10 +220,10 @@ module _ (t : Assignment) (plain_t : Plain t) where
       let u = leaves_skeleton i j in
       let G = t.typed_of p in
       let P : Process = renamed (copy_map G y.to x) G.process in
-      let c : IsCopy G (of_rule x) P = record { to = copy_map G y.to x; one_to_one = copy_one G y.to x y.one_to_one; root = copy_root G y.to x G.root refl; is = refl } in
+      let c : IsRootedCopy G (of_rule x) P = record { to = copy_map G y.to x; one_to_one = copy_one G y.to x y.one_to_one; root = copy_root G y.to x G.root refl; is = refl } in
       record {
         processes = P ∷ u.processes;
-        instances = leaf_and (of_typed c) u.instances;
+        instances = leaf_and (typed_by c) u.instances;
         order = r_chain (r_both (copy_order G x part g y) u.order) r_over;
         plain = (no_connector_renamed (copy_map G y.to x) G.process (atoms_plain G.process g.only_atoms), u.plain);
         count = λ z. omega (arith, copy_count G y.to x z g.root_is_free y.one_to_one, u.count z);

@@ -6,7 +6,8 @@ use Rattle.lmn_congruence.specs.Congruence.{swap, same, back}
 use Rattle.lmn_congruence.specs.Rules.{Name, Context, open_context, closed_context, Label, named, integer, Rule, head_of, Expression, number, operation, over, modulo}
 use Rattle.lmn_reduction.specs.Parts.{Rooted, IsGround, EqualParts, ReachesLink, the_root, across, an_integer, atoms_at_top}
 use Rattle.lmn_reduction.specs.Assignments.{Assignment, NoRuleAtTop}
-use Rattle.lmn_reduction.specs.Instances.{ContextInstances, IsClosedCopy, IsCopy, instance, no_context, context_and, of_open, of_closed, no_leaf, leaf_and, of_atom, of_connector, of_typed, no_membrane, membrane_and}
+use Rattle.lmn_reduction.specs.Instances.{ContextInstances, IsCopy, instance, no_context, context_and, of_open, of_closed, no_leaf, leaf_and, of_atom, of_connector, no_membrane, membrane_and}
+use Rattle.lmn_reduction.proofs.Copies.{IsRootedCopy, typed_by}
 use Rattle.lmn_guards.specs.Values.{of_number, of_context, of_operation, InRange}
 use Rattle.lmn_reduction.specs.Values.{Value}
 use Rattle.lmn_reduction.specs.Guards.{no_condition, condition_and, binds, of_kind}
@@ -140,7 +141,7 @@ sums = record {
   typed_of = λ q. number_part (cond (eqb (first_byte q) 120) 3 (cond (eqb (first_byte q) 121) 4 7));
 }
 
-copied : (n k : ℕ) → IsCopy (number_part n) k (atom (int n) (k ∷ []))
+copied : (n k : ℕ) → IsRootedCopy (number_part n) k (atom (int n) (k ∷ []))
 copied n k = record { to = λ m. k; one_to_one = λ i j o o' e. only_root i j o o'; root = refl; is = refl }
   where
     only_root : (i j : ℕ) → cond (eqb i 0) 1 0 + 0 ≢ 0 → cond (eqb j 0) 1 0 + 0 ≢ 0 → i ≡ j
@@ -166,9 +167,9 @@ sum_fires = record {
     assignment = sums;
     proper = record { links_differ = λ m n e. e; no_rule = λ q. tt; links_apart = λ q n. zero_not_one; closed = λ q x. inl refl; root_is_free = λ q. refl };
     guard = condition_and (binds z_is_bound (of_operation (of_context an_integer) (of_context an_integer) tt seven) an_integer) no_condition;
-    head = instance (leaf_and of_atom (leaf_and (of_typed (copied 3 0)) (leaf_and of_atom (leaf_and (of_typed (copied 4 1)) no_leaf)))) no_membrane no_context;
+    head = instance (leaf_and of_atom (leaf_and (typed_by (copied 3 0)) (leaf_and of_atom (leaf_and (typed_by (copied 4 1)) no_leaf)))) no_membrane no_context;
   };
-  body = instance (leaf_and of_atom (leaf_and (of_typed (copied 7 2)) no_leaf)) no_membrane no_context;
+  body = instance (leaf_and of_atom (leaf_and (typed_by (copied 7 2)) no_leaf)) no_membrane no_context;
 }
 
 -- a guard binds the sum of two integers
@@ -325,7 +326,7 @@ looped_ground = record { only_atoms = tt; root_is_free = refl; nothing_else_free
     joined_to at_head = (0, at_head, the_root)
     joined_to (further m) = elim m [ ]
 
-looped_copy : (x y : ℕ) → x ≢ y → IsCopy looped x (atom label_b (x ∷ y ∷ y ∷ []))
+looped_copy : (x y : ℕ) → x ≢ y → IsRootedCopy looped x (atom label_b (x ∷ y ∷ y ∷ []))
 looped_copy x y d = record { to = λ n. cond (eqb n 0) x y; one_to_one = differ; root = refl; is = refl }
   where
     differ : OneToOneOn (λ n. cond (eqb n 0) x y) looped.process
@@ -337,9 +338,9 @@ double_part_fires = record {
     assignment = record { link_of = λ n. n; context_of = λ q. nothing; rules_of = λ q. []; typed_of = λ q. looped };
     proper = record { links_differ = λ m n e. e; no_rule = λ q. tt; links_apart = λ q n. zero_not_one; closed = λ q x. inl refl; root_is_free = λ q. refl };
     guard = condition_and (of_kind looped_ground) no_condition;
-    head = instance (leaf_and of_atom (leaf_and (of_typed (looped_copy 0 1 (omega arith))) no_leaf)) no_membrane no_context;
+    head = instance (leaf_and of_atom (leaf_and (typed_by (looped_copy 0 1 (omega arith))) no_leaf)) no_membrane no_context;
   };
-  body = instance (leaf_and of_atom (leaf_and (of_typed (looped_copy 1 3 (omega arith))) (leaf_and (of_typed (looped_copy 2 4 (omega arith))) no_leaf))) no_membrane no_context;
+  body = instance (leaf_and of_atom (leaf_and (typed_by (looped_copy 1 3 (omega arith))) (leaf_and (typed_by (looped_copy 2 4 (omega arith))) no_leaf))) no_membrane no_context;
 }
 
 -- the copies of a ground part have links of their own
@@ -366,7 +367,7 @@ rest_no_rule (open_context q) = tt
 rest_no_rule (closed_context q) = (tt, (tt, tt))
 
 -- a copy of the pair with another link
-pair_copy : (x : ℕ) → IsClosedCopy (joined_pair 0) (joined_pair x)
+pair_copy : (x : ℕ) → IsCopy (joined_pair 0) (joined_pair x)
 pair_copy x = record { to = λ n. x; one_to_one = λ i j o o' e. only_link i j o o'; is = refl }
   where
     only_link : (i j : ℕ) → occurrences i (joined_pair 0) ≢ 0 → occurrences j (joined_pair 0) ≢ 0 → i ≡ j

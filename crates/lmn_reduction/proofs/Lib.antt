@@ -10,3 +10,4 @@ pub mod Redexes
 pub mod Kept
 pub mod InnerLink
 pub mod Values
+pub mod Copies

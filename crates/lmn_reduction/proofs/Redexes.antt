@@ -11,7 +11,8 @@ use Rattle.lmn_reduction.specs.Parts.{Rooted}
 use Rattle.lmn_reduction.specs.Guards.{GuardHolds, no_condition, condition_and, Holds, of_kind, in_order, binds, alike, unlike}
 use Rattle.lmn_guards.specs.Values.{of_number, of_context, of_operation}
 use Rattle.lmn_reduction.specs.Values.{Value}
-use Rattle.lmn_reduction.specs.Instances.{IsCopy, LeafInstance, of_atom, of_connector, of_typed, LeafInstances, no_leaf, leaf_and, IsClosedCopy, ContextInstance, of_open, of_closed, ContextInstances, no_context, context_and, Instance, instance, MembraneInstances, no_membrane, membrane_and, rules_of_contexts}
+use Rattle.lmn_reduction.specs.Instances.{IsCopy, LeafInstance, of_atom, of_connector, of_typed, LeafInstances, no_leaf, leaf_and, ContextInstance, of_open, of_closed, ContextInstances, no_context, context_and, Instance, instance, MembraneInstances, no_membrane, membrane_and, rules_of_contexts}
+use Rattle.lmn_reduction.proofs.Copies.{IsRootedCopy, rooted, typed_by}
 use Rattle.lmn_reduction.specs.Steps.{leaf, beside as derived_beside, inside as derived_inside, up_to, Step}
 use Rattle.lmn_congruence.proofs.Counts.{same_free, linked_both, map_after}
 use Rattle.lmn_reduction.proofs.Derivations.{no_right}
@@ -78,7 +79,7 @@ module _ (f : ℕ → ℕ) (one : (x y : ℕ) → f x ≡ f y → x ≡ y) where
   renamed_twice g (membrane P) = cc (renamed_twice g P)
   renamed_twice g (rule r) = refl
 
-  moved_copy : (g : Rooted) (x : ℕ) (P : Process) → IsCopy g x P → IsCopy g (f x) (renamed f P)
+  moved_copy : (g : Rooted) (x : ℕ) (P : Process) → IsRootedCopy g x P → IsRootedCopy g (f x) (renamed f P)
   moved_copy g x P c = record {
     to = λ y. f (c.to y);
     one_to_one = λ y z o o' e. c.one_to_one y z o o' (one (c.to y) (c.to z) e);
@@ -90,13 +91,13 @@ module _ (f : ℕ → ℕ) (one : (x y : ℕ) → f x ≡ f y → x ≡ y) where
   moved_leaf t (of_atom {a = a} {xs = xs}) = let e : atom a (map (λ x. f (t.link_of x)) xs) ≡ atom a (map f (map t.link_of xs)) = ap (atom a) (map_twice t.link_of xs) in
       subst (λ k. LeafInstance (moved_assignment t) (atom_leaf a xs) k) e of_atom
   moved_leaf t of_connector = of_connector
-  moved_leaf t (of_typed {p = p} {x = x} {P = P} c) = of_typed (moved_copy (t.typed_of p) (t.link_of x) P c)
+  moved_leaf t (of_typed {p = p} {x = x} {P = P} c root) = typed_by (moved_copy (t.typed_of p) (t.link_of x) P (rooted (t.typed_of p) (t.link_of x) P c root))
 
   moved_leaves : (t : Assignment) {ls : List Leaf} {Ps : List Process} → LeafInstances t ls Ps → LeafInstances (moved_assignment t) ls (map (renamed f) Ps)
   moved_leaves t no_leaf = no_leaf
   moved_leaves t (leaf_and i j) = leaf_and (moved_leaf t i) (moved_leaves t j)
 
-  moved_closed : (Q P : Process) → IsClosedCopy Q P → IsClosedCopy Q (renamed f P)
+  moved_closed : (Q P : Process) → IsCopy Q P → IsCopy Q (renamed f P)
   moved_closed Q P c = record {
     to = λ y. f (c.to y);
     one_to_one = λ y z o o' e. c.one_to_one y z o o' (one (c.to y) (c.to z) e);

@@ -2,23 +2,22 @@
 use Rattle.std.specs.Prelude.{ℕ, ◌≡◌, List, [], ◌∷◌, map}
 use Rattle.lmn_congruence.specs.Process.{Process, connector, atom, pair, membrane, rule, renamed, OneToOneOn, together}
 use Rattle.lmn_congruence.specs.Rules.{Name, Context, open_context, closed_context, Label, Leaf, atom_leaf, connector_leaf, typed_leaf, Level, level, Levels, no_level, level_and, Rules, rules_list}
-use Rattle.lmn_reduction.specs.Parts.{Rooted}
 use Rattle.lmn_reduction.specs.Assignments.{Assignment}
 
--- P is a copy of g with the root x: its links renamed, different ones to different ones. Nothing more is asked
--- of its other links: in a linked process they can be no link of anything beside the copy.
-pub record IsCopy (g : Rooted) (x : ℕ) (P : Process) : Type 0 where
+-- P is a copy of Q: its links renamed, different ones to different ones. Nothing more is asked of its links: in a linked
+-- process those that occur twice in it are no links of anything beside it.
+pub record IsCopy (Q P : Process) : Type 0 where
   pub to : ℕ → ℕ
-  pub one_to_one : OneToOneOn to g.process
-  pub root : to g.root ≡ x
-  pub is : P ≡ renamed to g.process
+  pub one_to_one : OneToOneOn to Q
+  pub is : P ≡ renamed to Q
 
--- What stands for a leaf. A copy belongs to the place where it is written: two places have two copies.
+-- What stands for a leaf. A typed context stands for a copy of its process, with the root at its link. A copy belongs to the
+-- place where it is written: two places have two copies.
 pub data LeafInstance (t : Assignment) : Leaf → Process → Type 0 where
   of_atom : {a : Label} {xs : List ℕ} → LeafInstance t (atom_leaf a xs) (atom a (map t.link_of xs))
   of_connector : {x y : ℕ} → LeafInstance t (connector_leaf x y) (connector (t.link_of x) (t.link_of y))
-  of_typed : {p : Name} {x : ℕ} {P : Process} →
-      IsCopy (t.typed_of p) (t.link_of x) P → LeafInstance t (typed_leaf p x) P
+  of_typed : {p : Name} {x : ℕ} {P : Process} (c : IsCopy (t.typed_of p).process P) →
+      c.to (t.typed_of p).root ≡ t.link_of x → LeafInstance t (typed_leaf p x) P
 
 -- leaf by leaf
 pub data LeafInstances (t : Assignment) : List Leaf → List Process → Type 0 where
@@ -26,19 +25,12 @@ pub data LeafInstances (t : Assignment) : List Leaf → List Process → Type 0 
   leaf_and : {l : Leaf} {ls : List Leaf} {P : Process} {Ps : List Process} →
       LeafInstance t l P → LeafInstances t ls Ps → LeafInstances t (l ∷ ls) (P ∷ Ps)
 
--- P is a copy of Q: its links renamed, different ones to different ones. Nothing more is asked of its links: each link
--- of a closed process occurs twice in it, so in a linked process those of its copy are no links of anything beside it.
-pub record IsClosedCopy (Q P : Process) : Type 0 where
-  pub to : ℕ → ℕ
-  pub one_to_one : OneToOneOn to Q
-  pub is : P ≡ renamed to Q
-
 -- What stands for an untyped context: for an open one its process, and for a closed one a copy of its process at each
 -- place where it is written, in the head too.
 pub data ContextInstance (t : Assignment) : Context → Process → Type 0 where
   of_open : {p : Name} → ContextInstance t (open_context p) (t.context_of (open_context p))
   of_closed : {p : Name} {P : Process} →
-      IsClosedCopy (t.context_of (closed_context p)) P → ContextInstance t (closed_context p) P
+      IsCopy (t.context_of (closed_context p)) P → ContextInstance t (closed_context p) P
 
 -- context by context
 pub data ContextInstances (t : Assignment) : List Context → List Process → Type 0 where

@@ -127,7 +127,7 @@ module _ (w : Weighing) (t : Assignment) (is_int : Name → Bool) (integers : (p
   leaf_weighs : {l : Leaf} {P : Process} → LeafInstance t l P → weight w P ≡ leaf_weight w is_int l + sum_of typed_weight (typed_leaves (l ∷ []))
   leaf_weighs (of_atom {a = a} {xs = xs}) = omega (arith, ap (atom_weight w a) (length-map xs t.link_of))
   leaf_weighs of_connector = omega arith
-  leaf_weighs (of_typed {p = p} c) = omega (arith, ap (weight w) c.is, renamed_weight w c.to (t.typed_of p).process, by_kind p)
+  leaf_weighs (of_typed {p = p} c root) = omega (arith, ap (weight w) c.is, renamed_weight w c.to (t.typed_of p).process, by_kind p)
 
   one_leaf : (l : Leaf) (ls : List Leaf) → sum_of typed_weight (typed_leaves (l ∷ ls)) ≡ sum_of typed_weight (typed_leaves (l ∷ [])) + sum_of typed_weight (typed_leaves ls)
   one_leaf (atom_leaf a xs) ls = omega arith

@@ -40,8 +40,8 @@ module _ (K : Rule → Type 0) (t : Assignment) where
   leaf_there no_leaf h p k = elim k [ ]
   leaf_there (leaf_and of_atom is) h p k = leaf_there is h.1 p k
   leaf_there (leaf_and of_connector is) h p k = leaf_there is h.1 p k
-  leaf_there (leaf_and (of_typed {p = q} c) is) h p at_head = (renamed_rules K c.to (t.typed_of q).process).1 (subst (AllRules K) c.is h.0)
-  leaf_there (leaf_and (of_typed {p = q} c) is) h p (further k) = leaf_there is h.1 p k
+  leaf_there (leaf_and (of_typed {p = q} c root) is) h p at_head = (renamed_rules K c.to (t.typed_of q).process).1 (subst (AllRules K) c.is h.0)
+  leaf_there (leaf_and (of_typed {p = q} c root) is) h p (further k) = leaf_there is h.1 p k
 
   -- an instance of an untyped context has the rules of what it stands for
   one_context : {p : Context} {P : Process} → ContextInstance t p P → (AllRules K P → AllRules K (t.context_of p)) × (AllRules K (t.context_of p) → AllRules K P)
@@ -93,7 +93,7 @@ module _ (K : Rule → Type 0) (t : Assignment) where
   leaves_made no_leaf h = tt
   leaves_made (leaf_and of_atom is) h = (tt, leaves_made is h)
   leaves_made (leaf_and of_connector is) h = (tt, leaves_made is h)
-  leaves_made (leaf_and (of_typed {p = q} c) is) h = (subst (AllRules K) (sym c.is) ((renamed_rules K c.to (t.typed_of q).process).0 (h q at_head)), leaves_made is (λ p k. h p (further k)))
+  leaves_made (leaf_and (of_typed {p = q} c root) is) h = (subst (AllRules K) (sym c.is) ((renamed_rules K c.to (t.typed_of q).process).0 (h q at_head)), leaves_made is (λ p k. h p (further k)))
 
   contexts_made : {ps : List Context} {Ps : List Process} → ContextInstances t ps Ps → ((p : Context) → Among p ps → AllRules K (t.context_of p)) → AllRules K (together Ps)
   contexts_made no_context h = tt
