@@ -1,5 +1,5 @@
 -- The solid after a firing, with every list in its order: a raw level, and one fusion of its connectors.
-use Rattle.std.specs.Prelude.{ℕ, zero, suc, cond, List, map, flat_map, ◌≡◌, ◌≤◌, [], ◌∷◌, ◌++◌, ◌==◌}
+use Rattle.std.specs.Prelude.{ℕ, zero, suc, cond, List, map, flat_map, set, ◌≡◌, ◌≤◌, [], ◌∷◌, ◌++◌, ◌==◌}
 use Rattle.lmn_congruence.specs.LinkedRules.{level_occurrences}
 use Rattle.lmn_congruence.specs.Links.{places}
 use Rattle.lmn_congruence.specs.Orders.{Among}
@@ -109,12 +109,6 @@ pub record FiresInOrder (r : Rule) (f : List ℕ) (m : Region) (L : Level) : Typ
   pub bounded : (x : ℕ) → bound ≤ x → level_occurrences x (head_of r) ≡ 0
   pub is : L ≡ raw_level at.rest (wire_leaves at.contents.link_of (head_of r) bound) outs made_membranes made_rules
 
--- a level in the place of number n of a list
-abbrev pub replaced : ℕ → Level → List Level → List Level
-replaced n L [] = []
-replaced zero L (k ∷ ks) = L ∷ ks
-replaced (suc n) L (k ∷ ks) = k ∷ replaced n L ks
-
 -- rule number k of the membrane at the end of the path fires at the positions f; all else stays
 pub data RawAt : List ℕ → ℕ → List ℕ → Region → Level → Type 0 where
   fires_here : {k : ℕ} {r : Rule} {f : List ℕ} {xs : List SolidAtom} {ms : Regions} {rs rs' : List Rule} {L : Level} →
@@ -123,7 +117,7 @@ pub data RawAt : List ℕ → ℕ → List ℕ → Region → Level → Type 0 w
       {L : Level} →
       TakenRegion n m ms ms' → RawAt path k f m L →
       RawAt (n ∷ path) k f (region xs ms rs)
-      (level (kept_atoms xs) (levels (replaced n L (kept_membranes ms))) [] [] (listed_rules rs))
+      (level (kept_atoms xs) (levels (set (kept_membranes ms) n L)) [] [] (listed_rules rs))
 
 -- S' is the solid after this firing, up to the numbers of links. Two ports are joined in it exactly where a chain of
 -- links and connectors joins them in the raw level, and a loop vanishes.
@@ -152,3 +146,7 @@ part_leaves xs = map (λ a. atom_leaf a.label a.links) xs
 -- the rules for which the rule contexts of a level stand
 abbrev pub context_rules : Contents → List Name → List Rule
 context_rules c ps = flat_map c.rules_of ps
+
+-- a level in the place of number n of a list
+abbrev pub replaced : ℕ → Level → List Level → List Level
+replaced n L ks = set ks n L
