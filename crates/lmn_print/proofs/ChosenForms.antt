@@ -67,14 +67,10 @@ numbered_line names table t f S given root form e by =
       record {
         given = root;
         folds = form;
-        numbered = shown;
-        numbers = record {
-          to = n.to;
-          one_to_one = λ x y a b. n.one_to_one x y (subst (Among x) (sym (links root)) a) (subst (Among y) (sym (links root)) b);
-          is = refl;
-          count = n.count;
-          by_first_occurrence = subst (λ ls. NumbersLinks ls n.count) (links shown) n.by_first_occurrence;
-        };
+        to = n.to;
+        one_to_one = λ x y a b. n.one_to_one x y (subst (Among x) (sym (links root)) a) (subst (Among y) (sym (links root)) b);
+        count = n.count;
+        by_first_occurrence = subst (λ ls. NumbersLinks ls n.count) (links shown) n.by_first_occurrence;
         is = refl;
       },
     )

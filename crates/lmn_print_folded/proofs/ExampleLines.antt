@@ -86,8 +86,10 @@ line_by : (S : Region) (f : Folded) (n count : ℕ) (to : ℕ → ℕ) (line : L
 line_by S f n count to line a b e one numbers is = record {
   given = f;
   folds = computed S f (few_by n (region_process S) a b) e;
-  numbered = renamed_folded to f;
-  numbers = record { to = to; one_to_one = one; is = refl; count = count; by_first_occurrence = numbers };
+  to = to;
+  one_to_one = one;
+  count = count;
+  by_first_occurrence = numbers;
   is = is;
 }
 

@@ -28,17 +28,10 @@ pub data Descends (atoms : List SolidAtom) (p : ℕ) : ℕ → Type 0 where
 
 -- Items.
 
-abbrev pub atom_positions : List SolidAtom → List ℕ
-atom_positions atoms = range_with_len 0 (length atoms)
-
--- the atom is a child of no other
-abbrev pub IsNoChild : List SolidAtom → ℕ → Type 0
-IsNoChild atoms q = (p k : ℕ) → ¬ (IsChild atoms q p k)
-
--- the atoms of a list of positions that are no children, in its order
+-- the atoms of a list of positions that are no children of others, in its order
 pub data NoChildren (atoms : List SolidAtom) : List ℕ → List ℕ → Type 0 where
   none : NoChildren atoms [] []
-  kept : {q : ℕ} {qs items : List ℕ} → IsNoChild atoms q → NoChildren atoms qs items → NoChildren atoms (q ∷ qs) (q ∷ items)
+  kept : {q : ℕ} {qs items : List ℕ} → ((p k : ℕ) → ¬ (IsChild atoms q p k)) → NoChildren atoms qs items → NoChildren atoms (q ∷ qs) (q ∷ items)
   left : {q : ℕ} {qs items : List ℕ} (p k : ℕ) → IsChild atoms q p k → NoChildren atoms qs items → NoChildren atoms (q ∷ qs) items
 
 -- With an item all that descends from it is printed. So one goes through a list of positions, and each atom that descends
@@ -54,8 +47,8 @@ pub data Further (atoms : List SolidAtom) : List ℕ → List ℕ → List ℕ �
 -- First each atom that is no child, and then, in the same order, each that isn't printed yet.
 pub record AreItems (atoms : List SolidAtom) (items : List ℕ) : Type 0 where
   pub firsts : List ℕ
-  pub no_children : NoChildren atoms (atom_positions atoms) firsts
-  pub further : Further atoms firsts (atom_positions atoms) items
+  pub no_children : NoChildren atoms (range_with_len 0 (length atoms)) firsts
+  pub further : Further atoms firsts (range_with_len 0 (length atoms)) items
 
 -- Arguments. A child that isn't an item is printed as a term, at the port at which it is a child.
 mutual
@@ -89,3 +82,13 @@ mutual
     none : FoldsAll no_region no_membrane
     more : {r : Region} {rs : Regions} {f : Folded} {fs : FoldedMembranes} → Folds r f → FoldsAll rs fs →
         FoldsAll (region_and r rs) (membrane_and f fs)
+
+-- Words for lemmas.
+
+-- the positions of all atoms
+abbrev pub atom_positions : List SolidAtom → List ℕ
+atom_positions atoms = range_with_len 0 (length atoms)
+
+-- the atom is a child of no other
+abbrev pub IsNoChild : List SolidAtom → ℕ → Type 0
+IsNoChild atoms q = (p k : ℕ) → ¬ (IsChild atoms q p k)

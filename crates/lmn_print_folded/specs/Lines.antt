@@ -9,8 +9,25 @@ use Rattle.lmn_print_folded.specs.Terms.{Folded, folded_links, renamed_folded}
 use Rattle.lmn_print_folded.specs.Folding.{Folds}
 use Rattle.lmn_print_folded.specs.Words.{line_of_folded}
 
--- The folded form with a number for each link that is printed, different ones for different links, by first occurrence over
--- the whole line.
+-- The line of a region in the folded form: the words of its folded form, with a number for each link that is printed, different ones
+-- for different links, by first occurrence over the whole line.
+pub record IsFoldedLine (S : Region) (line : List ℕ) : Type 0 where
+  pub given : Folded
+  pub folds : Folds S given
+  pub to : ℕ → ℕ
+  pub one_to_one : (x y : ℕ) → Among x (folded_links given) → Among y (folded_links given) → to x ≡ to y → x ≡ y
+  pub count : ℕ
+  pub by_first_occurrence : NumbersLinks (folded_links (renamed_folded to given)) count
+  pub is : line ≡ line_of_folded (renamed_folded to given)
+
+-- the line of a region, in the folded form where that is asked, and else in the plain one
+abbrev pub IsLine : Bool → Region → List ℕ → Type 0
+IsLine true S line = IsFoldedLine S line
+IsLine false S line = line ≡ line_of (as_level S)
+
+-- ---- words for lemmas
+
+-- A folded form with other numbers for its printed links, different ones for different links, by first occurrence.
 pub record IsNumberedForm (given numbered : Folded) : Type 0 where
   pub to : ℕ → ℕ
   pub one_to_one : (x y : ℕ) → Among x (folded_links given) → Among y (folded_links given) → to x ≡ to y → x ≡ y
@@ -18,15 +35,6 @@ pub record IsNumberedForm (given numbered : Folded) : Type 0 where
   pub count : ℕ
   pub by_first_occurrence : NumbersLinks (folded_links numbered) count
 
--- The line of a region in the folded form: the folded form, its printed links numbered, and its words.
-pub record IsFoldedLine (S : Region) (line : List ℕ) : Type 0 where
-  pub given : Folded
-  pub folds : Folds S given
-  pub numbered : Folded
-  pub numbers : IsNumberedForm given numbered
-  pub is : line ≡ line_of_folded numbered
-
--- the line of a region, in the folded form where that is asked, and else in the plain one
-abbrev pub IsLine : Bool → Region → List ℕ → Type 0
-IsLine true S line = IsFoldedLine S line
-IsLine false S line = line ≡ line_of (as_level S)
+-- the folded form as it is printed
+abbrev pub numbered_of : {S : Region} {line : List ℕ} → IsFoldedLine S line → Folded
+numbered_of h = renamed_folded h.to h.given

@@ -1,5 +1,5 @@
 -- Processes whose atoms stand as terms in the arguments of other atoms.
-use Rattle.std.specs.Prelude.{ℕ, List, [], ◌∷◌, ◌++◌, map}
+use Rattle.std.specs.Prelude.{ℕ, List, [], ◌∷◌, ◌++◌, map, flat_map}
 use Rattle.lmn_congruence.specs.Rules.{Label, Rule}
 
 -- A term is a link, or a label with terms. This one stands for an atom that has one link more: its last, which isn't printed.
@@ -36,18 +36,17 @@ abbrev mutual
   terms_links no_term = []
   terms_links (term_and t ts) = term_links t ++ terms_links ts
 
--- the links that items print
-abbrev pub items_links : List FoldedItem → List ℕ
-items_links [] = []
-items_links (i ∷ is) = terms_links i.arguments ++ items_links is
-
 abbrev mutual
   pub folded_links : Folded → List ℕ
-  folded_links (folded items membranes rules) = items_links items ++ membranes_links membranes
+  folded_links (folded items membranes rules) = flat_map (λ i. terms_links i.arguments) items ++ membranes_links membranes
 
   pub membranes_links : FoldedMembranes → List ℕ
   membranes_links no_membrane = []
   membranes_links (membrane_and f fs) = folded_links f ++ membranes_links fs
+
+-- the links that items print, for lemmas
+abbrev pub items_links : List FoldedItem → List ℕ
+items_links is = flat_map (λ i. terms_links i.arguments) is
 
 -- All links renamed.
 abbrev mutual
