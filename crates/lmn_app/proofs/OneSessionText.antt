@@ -14,7 +14,7 @@ use Rattle.lmn_base.specs.declared.functor.Functor.{Functor}
 use Rattle.lmn_base.specs.declared.functor.Label.{Label}
 use Rattle.lmn_base.specs.declared.functor.Label.TheVariants as label
 use Rattle.lmn_base.specs.declared.guard.Cmp.{Cmp}
-use Rattle.lmn_congruence.specs.Regions.{Region, SolidAtom, region_process}
+use Rattle.lmn_congruence.specs.Regions.{Region, SolidAtom}
 use Rattle.lmn_congruence.specs.Rules.{Name, named}
 use Rattle.lmn_congruence.specs.Translation.{label_of}
 use Rattle.lmn_debug.specs.CarryingLaws.{WritingIsOne}
