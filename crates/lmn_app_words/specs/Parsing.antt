@@ -25,10 +25,12 @@ flag_rule id = record (new_rule id) { long = Some id; action = Some SetTrue }
 abbrev pub option_rule : Text → Rule
 option_rule id = record (new_rule id) { long = Some id }
 
+-- with the options of `run` that have a value
+abbrev pub with_options : App → App
+with_options line = with_rule (with_rule (with_rule (with_rule line (option_rule (codes "budget"))) (option_rule (codes "size"))) (option_rule (codes "order"))) (option_rule (codes "seed"))
+
 abbrev pub run_line : App
-run_line = with_rule (with_rule (with_rule (with_rule (with_rule (with_rule (with_rule (new_app (codes "run"))
-    (required_rule (codes "file"))) (flag_rule (codes "trace"))) (flag_rule (codes "folded")))
-    (option_rule (codes "budget"))) (option_rule (codes "size"))) (option_rule (codes "order"))) (option_rule (codes "seed"))
+run_line = with_options (with_rule (with_rule (with_rule (new_app (codes "run")) (required_rule (codes "file"))) (flag_rule (codes "trace"))) (flag_rule (codes "folded")))
 
 abbrev pub compile_line : App
 compile_line = with_rule (new_app (codes "compile")) (required_rule (codes "file"))
@@ -43,9 +45,17 @@ pair_line name = with_rule (with_rule (new_app name) (required_rule (codes "firs
 abbrev pub with_settings : Shape → Shape
 with_settings top = record top { no_binary_name = true; disable_help_flag = true; disable_help_subcommand = true; subcommand_required = true }
 
+abbrev pub bare_line : App
+bare_line = on_top with_settings (new_app (codes "lmn"))
+
+abbrev pub single_lines : App
+single_lines = with_subcommand (with_subcommand (with_subcommand bare_line run_line.top) compile_line.top) demo_line.top
+
+abbrev pub with_pair : App → Text → App
+with_pair line name = with_subcommand line (pair_line name).top
+
 abbrev pub whole_line : App
-whole_line = with_subcommand (with_subcommand (with_subcommand (with_subcommand (with_subcommand (with_subcommand (with_subcommand (on_top with_settings (new_app (codes "lmn"))) run_line.top) compile_line.top)
-    demo_line.top) (pair_line (codes "check")).top) (pair_line (codes "debug")).top) (pair_line (codes "exec")).top) (pair_line (codes "bound")).top
+whole_line = with_pair (with_pair (with_pair (with_pair single_lines (codes "check")) (codes "debug")) (codes "exec")) (codes "bound")
 
 -- a command is a line, in which no argument is global
 abbrev pub IsLineOfCommand : Command → App → Type 0
