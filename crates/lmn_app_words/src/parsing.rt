@@ -1,9 +1,9 @@
 //! Words of the form as `clap` reads them.
 ghost use Rattle.std.specs.Prelude.{◌≡◌, ◌↔◌, IfOk, false, IfSome, IsSome, OnErr, Some, option_and_then, option_map, unwrap_or};
-ghost use Rattle.clap.specs.Words.{found_of, rows_of, rule_of, subcommand_rows_of};
+ghost use Rattle.clap.specs.Words.{App, found_of, rows_of, rule_of, subcommand_rows_of};
 ghost use Rattle.lmn_app_words.specs.Forms.{Asks, InForm, IsInRanges, Pair, Request, Run, request_of, run_of, to_pair};
 ghost use Rattle.lmn_app_words.specs.Hearing.{number_written, order_named};
-ghost use Rattle.lmn_app_words.specs.Parsing.{FoundIsRequest, IsLineOfCommand, Tells, compile_line, demo_line, flag_rule, option_rule, pair_line, required_rule, run_line, whole_line};
+ghost use Rattle.lmn_app_words.specs.Parsing.{FoundIsRequest, IsLineOfCommand, Tells, bare_line, compile_line, demo_line, flag_rule, option_rule, pair_line, required_rule, run_line, single_lines, whole_line, with_options, with_pair};
 
 use crate::command::{Command, PairKind, RunSettings, RunWords};
 use crate::reading::in_form;
@@ -60,29 +60,61 @@ fn matches_of<'w>(alloc: Global, words: &'w [String]) -> Result<ArgMatches<'w>, 
 fn whole_line<'w>(alloc: Global) -> Result<clap::Command<'w>, AllocError>
     ensures { IfOk result (λ line. IsLineOfCommand line whole_line) }
 {
+    let single = single_lines(alloc)?;
+    let with_check = with_pair(alloc, single, "check")?;
+    let with_debug = with_pair(alloc, with_check, "debug")?;
+    let with_exec = with_pair(alloc, with_debug, "exec")?;
+    with_pair(alloc, with_exec, "bound")
+}
+
+/// The command line without the commands that take a second text.
+fn single_lines<'w>(alloc: Global) -> Result<clap::Command<'w>, AllocError>
+    ensures { IfOk result (λ line. IsLineOfCommand line single_lines) }
+{
+    let run = run_line(alloc)?;
+    let with_run = bare_line(alloc).subcommand(run)?;
+    let with_compile = with_run.subcommand(compile_line(alloc)?)?;
+    with_compile.subcommand(demo_line(alloc)?)
+}
+
+/// The command line without commands.
+fn bare_line<'w>(alloc: Global) -> clap::Command<'w>
+    ensures { IsLineOfCommand result bare_line }
+{
     clap::Command::new(alloc, "lmn")
         .no_binary_name(true)
         .disable_help_flag(true)
         .disable_help_subcommand(true)
         .subcommand_required(true)
-        .subcommand(run_line(alloc)?)?
-        .subcommand(compile_line(alloc)?)?
-        .subcommand(demo_line(alloc)?)?
-        .subcommand(pair_line(alloc, "check")?)?
-        .subcommand(pair_line(alloc, "debug")?)?
-        .subcommand(pair_line(alloc, "exec")?)?
-        .subcommand(pair_line(alloc, "bound")?)
+}
+
+/// A command line with one more command that takes a program and a second text.
+fn with_pair<'w>(
+    alloc: Global,
+    line: clap::Command<'w>,
+    name: &'w str,
+) -> Result<clap::Command<'w>, AllocError>
+    ensures { (app : App) → IsLineOfCommand line.entry app → IfOk result (λ line. IsLineOfCommand line (with_pair app name.entry.now)) }
+{
+    line.subcommand(pair_line(alloc, name)?)
 }
 
 /// The words of `run`.
 fn run_line<'w>(alloc: Global) -> Result<clap::Command<'w>, AllocError>
     ensures { IfOk result (λ line. IsLineOfCommand line run_line) }
 {
-    clap::Command::new(alloc, "run")
+    let line = clap::Command::new(alloc, "run")
         .arg(required(alloc, "file"))?
         .arg(flag(alloc, "trace"))?
-        .arg(flag(alloc, "folded"))?
-        .arg(option(alloc, "budget"))?
+        .arg(flag(alloc, "folded"))?;
+    with_options(alloc, line)
+}
+
+/// A command line with the options of `run` that have a value.
+fn with_options<'w>(alloc: Global, line: clap::Command<'w>) -> Result<clap::Command<'w>, AllocError>
+    ensures { (app : App) → IsLineOfCommand line.entry app → IfOk result (λ line. IsLineOfCommand line (with_options app)) }
+{
+    line.arg(option(alloc, "budget"))?
         .arg(option(alloc, "size"))?
         .arg(option(alloc, "order"))?
         .arg(option(alloc, "seed"))
