@@ -265,18 +265,13 @@ is_copy _ = false
 abbrev pub ports_of : Code → List NewPort
 ports_of code = ports_of_registers 0 (arities code) ++ map new.Copy (rising 0 (count_by is_copy code.body))
 
--- each of these ports stands in exactly one place
-abbrev pub stand_once : List NewPort → List NewPort → Bool
-stand_once stands ports = list_all (λ p. count_by (same_port p) stands == 1) ports
-
 -- ---- bodies
 
--- The registers of what a head holds: a atoms, g typed contexts, and m membranes besides that of the rule.
-abbrev pub registers_held : ℕ → ℕ → ℕ → List Operand
-registers_held a g m = map Atom (rising 0 a) ++ (map Part (rising 0 g) ++ map Membrane (rising 1 m))
-
+-- The registers of what a head holds: atoms, typed contexts, and membranes besides that of the rule.
 abbrev pub held : Code → List Operand
-held code = registers_held (length (atoms_found code.head)) (length (parts_found code.head)) (length (membranes_found code.head))
+held code =
+    map Atom (rising 0 (length (atoms_found code.head)))
+    ++ (map Part (rising 0 (length (parts_found code.head))) ++ map Membrane (rising 1 (length (membranes_found code.head))))
 
 -- the instruction takes out what this register holds
 abbrev pub removes : Instr → Operand → Bool
@@ -410,10 +405,6 @@ abbrev pub rest_dropped : Code → ℕ → Bool
 rest_dropped code m =
     (count_by (drops_rest m) code.body == 1) && (is_closed code.head m && (not (list_any (is_count_of m) code.head) && not (list_any (moves m) code.body)))
 
--- A membrane that is taken out is empty then, for one of these three reasons, each of which shuts out the others.
-abbrev pub is_emptied : Code → FoundMembrane → Bool
-is_emptied code m = nothing_left code m.membrane || (rest_moved code m.membrane || rest_dropped code m.membrane)
-
 -- ---- verified code
 
 -- The code of a rule where there are k rules is verified.
@@ -431,7 +422,7 @@ is_emptied code m = nothing_left code m.membrane || (rest_moved code m.membrane 
 --   rest             Then it makes, moves and copies, into membranes that stay and out of removed ones; its rules are there,
 --                    and no atom is a connector. Then it drops rests of removed membranes. Then it ties ports that are made to each other, or to what a port of the head was
 --                    joined to, or two such. PROCEED ends it and stands once.
---   emptied          each membrane that is taken out is empty then
+--   emptied          each membrane that is taken out is empty then, for one of three reasons, each of which shuts out the others
 --   once             each port of each atom register, and each copy, stands in exactly one place: in DEREF or JOINED, before a
 --                    typed context, or in what ties. So the port before a typed context is in no other test, and the two
 --                    ports of one tie differ.
@@ -447,5 +438,19 @@ pub record IsVerified (code : Code) (k : ℕ) : Type 0 where
   pub apart_membranes : each_two (are_apart_membranes code.head) (membranes_found code.head) ≡ true
   pub taken : takes_out (held code) code.body ≡ true
   pub rest : makes_and_ties (1 + length (membranes_found code.head)) k (length (atoms_found code.head)) (drop (length (held code)) code.body) ≡ true
-  pub emptied : list_all (is_emptied code) (membranes_found code.head) ≡ true
-  pub once : stand_once (flat_map places (code.head ++ code.body)) (ports_of code) ≡ true
+  pub emptied : list_all (λ b. nothing_left code b.membrane || (rest_moved code b.membrane || rest_dropped code b.membrane)) (membranes_found code.head) ≡ true
+  pub once : list_all (λ p. count_by (same_port p) (flat_map places (code.head ++ code.body)) == 1) (ports_of code) ≡ true
+
+-- ---- parts of these, as laws and contracts of private functions tell them
+
+-- each of these ports stands in exactly one place
+abbrev pub stand_once : List NewPort → List NewPort → Bool
+stand_once stands ports = list_all (λ p. count_by (same_port p) stands == 1) ports
+
+-- the registers of a atoms, of g typed contexts, and of m membranes besides that of the rule
+abbrev pub registers_held : ℕ → ℕ → ℕ → List Operand
+registers_held a g m = map Atom (rising 0 a) ++ (map Part (rising 0 g) ++ map Membrane (rising 1 m))
+
+-- a membrane that is taken out is empty then
+abbrev pub is_emptied : Code → FoundMembrane → Bool
+is_emptied code m = nothing_left code m.membrane || (rest_moved code m.membrane || rest_dropped code m.membrane)
