@@ -333,7 +333,7 @@ module _ (t : Assignment) (p : Proper t) (v : ℕ → ℕ) where
       subst (λ k. Shuffle SamePiece (k ++ (parts_of j ++ W)) (pieces_of (region xs ms rs))) e' (subst (λ k. Shuffle SamePiece k (pieces_of (region xs ms rs))) (append_assoc (pieces (fused v P)) (parts_of j) W) s) in
       let u = take_part part (parts_of j ++ W) xs ms rs s' in
       let k = match_parts j a.1 (linked_right l) W u.rest ms rs u.left in
-      let y : IsPart g (v (t.link_of x)) u.taken = record { only_atoms = a.0.only_atoms; to = F; one_to_one = ground_one_to_one F g a.0 lg; root = ap v c.root; atoms = shuffle_chain (λ a b c e f. e ∙ f) (part_shuffled F (atoms_at_top g.process)) u.taken u.same } in
+      let y : IsPart g (v (t.link_of x)) u.taken = record { only_atoms = a.0.only_atoms; to = F; one_to_one = ground_one_to_one F g a.0 lg; root = ap v root; atoms = shuffle_chain (λ a b c e f. e ∙ f) (part_shuffled F (atoms_at_top g.process)) u.taken u.same } in
       record { rest = k.rest; parts = part_and a.0 y u.merged k.parts; left = k.left }
 
   -- Each link has as many places in the image of a head membrane as in the head membrane.
