@@ -7,7 +7,9 @@ ghost use Rattle.lmn_web_cells.specs.Cells.{cells_by, links_of, numbers_of, port
 ghost use Rattle.lmn_store_heap.specs.Heap.{alter};
 ghost use Rattle.lmn_web_cells.specs.CellIds.{cell_id, IsLink, led_by};
 
-use crate::filling::{COUNTS, LINKS, NARROW, SMALL, fill, fill_membrane, port_place};
+use crate::filling::{
+    COUNTS, FIRST_PORT, LINKS, NARROW, PORT_WORDS, SMALL, fill, fill_membrane, port_place,
+};
 use crate::handle::Cell;
 use crate::kept::Kept;
 use crate::rows::{Rows, is_nowhere, nowhere};
@@ -208,11 +210,40 @@ impl Cells {
         requires below { j < length (ports_of (cells_by self.now (cell_id c))) }
         ensures { (port_of (cells_by self.now (cell_id c)) j).to ≡ option_map cell_id result }
     {
+        if j < NARROW {
+            cell_from(self.rows.link(c.at, FIRST_PORT + j * PORT_WORDS))
+        } else {
+            self.wide_to(c, j)
+        }
+    }
+
+    // The same for any port. Out of the way: few ports aren't among the first ones.
+    #[inline(never)]
+    fn wide_to(&self, c: Cell, j: usize) -> Option<Cell>
+        requires there { IsSome (cells_by self.now (cell_id c)) }
+        requires below { j < length (ports_of (cells_by self.now (cell_id c))) }
+        ensures { (port_of (cells_by self.now (cell_id c)) j).to ≡ option_map cell_id result }
+    {
         cell_from(self.rows.link(c.at, port_place(j)))
     }
 
     /// A port leads elsewhere.
     pub fn set_to(&mut self, c: Cell, j: usize, to: Option<Cell>)
+        requires there { IsSome (cells_by self.old (cell_id c)) }
+        requires below { j < length (ports_of (cells_by self.old (cell_id c))) }
+        ensures { cells_by self.new ≡ alter (cells_by self.old) (cell_id c) (option_map (with_to j (option_map cell_id to))) }
+    {
+        if j < NARROW {
+            self.rows
+                .set_link(c.at, FIRST_PORT + j * PORT_WORDS, pointer_of(to));
+        } else {
+            self.set_wide_to(c, j, to);
+        }
+    }
+
+    // The same for any port, out of the way.
+    #[inline(never)]
+    fn set_wide_to(&mut self, c: Cell, j: usize, to: Option<Cell>)
         requires there { IsSome (cells_by self.old (cell_id c)) }
         requires below { j < length (ports_of (cells_by self.old (cell_id c))) }
         ensures { cells_by self.new ≡ alter (cells_by self.old) (cell_id c) (option_map (with_to j (option_map cell_id to))) }
@@ -252,11 +283,40 @@ impl Cells {
         requires below { j < length (ports_of (cells_by self.now (cell_id c))) }
         ensures { result ≡ (port_of (cells_by self.now (cell_id c)) j).mark }
     {
+        if j < NARROW {
+            self.rows.number(c.at, FIRST_PORT + j * PORT_WORDS + MARK)
+        } else {
+            self.wide_mark(c, j)
+        }
+    }
+
+    // The same for any port, out of the way.
+    #[inline(never)]
+    fn wide_mark(&self, c: Cell, j: usize) -> u64
+        requires there { IsSome (cells_by self.now (cell_id c)) }
+        requires below { j < length (ports_of (cells_by self.now (cell_id c))) }
+        ensures { result ≡ (port_of (cells_by self.now (cell_id c)) j).mark }
+    {
         self.rows.number(c.at, port_place(j) + MARK)
     }
 
     /// The mark of a port is another.
     pub fn set_mark(&mut self, c: Cell, j: usize, n: u64)
+        requires there { IsSome (cells_by self.old (cell_id c)) }
+        requires below { j < length (ports_of (cells_by self.old (cell_id c))) }
+        ensures { cells_by self.new ≡ alter (cells_by self.old) (cell_id c) (option_map (with_mark j n)) }
+    {
+        if j < NARROW {
+            self.rows
+                .set_number(c.at, FIRST_PORT + j * PORT_WORDS + MARK, n);
+        } else {
+            self.set_wide_mark(c, j, n);
+        }
+    }
+
+    // The same for any port, out of the way.
+    #[inline(never)]
+    fn set_wide_mark(&mut self, c: Cell, j: usize, n: u64)
         requires there { IsSome (cells_by self.old (cell_id c)) }
         requires below { j < length (ports_of (cells_by self.old (cell_id c))) }
         ensures { cells_by self.new ≡ alter (cells_by self.old) (cell_id c) (option_map (with_mark j n)) }

@@ -22,11 +22,11 @@ const BYTES: usize = 8;
 /// The ports below this one lead to ports whose numbers are bytes.
 pub const NARROW: usize = 6;
 
-// The word at which the ports of a cell begin.
-const FIRST_PORT: usize = SMALL + 1;
+/// The word at which the ports of a cell begin.
+pub const FIRST_PORT: usize = SMALL + 1;
 
-// How many words the first ports have. The others have one more.
-const PORT_WORDS: usize = 2;
+/// How many words the first ports have. The others have one more.
+pub const PORT_WORDS: usize = 2;
 
 /// The numbers of a membrane behind its port stand so many words further than their places among its numbers.
 pub const COUNTS: usize = FIRST_PORT + PORT_WORDS - NUMBERS - 2;

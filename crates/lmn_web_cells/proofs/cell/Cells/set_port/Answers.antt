@@ -14,8 +14,8 @@ set_byte-requires c =
     let h = c.if-j-lt-NARROW.true in let some = words_there _ _ c.self.invariant there in let n = eight_bytes _ _ c.self.invariant there in
     (c.args.c.start, omega arith, omega (arith, h), omega (arith, some), omega (arith, n, h))
 
-pub invariant_of-self-then-j-lt-NARROW : goal.invariant_of-self-then-j-lt-NARROW
-invariant_of-self-then-j-lt-NARROW c =
+pub invariant_of-self : goal.invariant_of-self
+invariant_of-self c =
     let there : IsSome (cells_by c.self.inside.rows.rows (cell_id c.args.c)) = subst (λ (z : List Row). IsSome (cells_by z (cell_id c.args.c))) (sym c.self.view_is) c.requires.there in
     let low : c.args.j < length (ports_of (cells_by c.self.inside.rows.rows (cell_id c.args.c))) = subst (λ (z : List Row). c.args.j < length (ports_of (cells_by z (cell_id c.args.c)))) (sym c.self.view_is) c.requires.below in
     laid_after c.self.inside.rows.rows _ (cell_id c.args.c) 12 (with_byte (c.args.j + 2) c.args.n (get_or (items_in c.self.inside.rows.rows (cell_id c.args.c)) 12 blank)) (with_byte (c.args.j + 2) c.args.n (get_or (items_in c.self.inside.rows.rows (cell_id c.args.c)) 12 blank)) (with_port c.args.j c.args.n) (port_byte_changes c.self.inside.rows.rows (cell_id c.args.c) c.args.j c.args.n c.self.invariant there low c.if-j-lt-NARROW.true) refl c.set_byte.ensures
