@@ -7,3 +7,5 @@ mod OneChain
 mod ChainOrWrong
 pub mod LineItems
 mod SmallMembranes
+mod FrameLemmas
+mod AlikeLemmas

@@ -1,9 +1,10 @@
 -- How a trace is gone through.
-use Rattle.std.proofs.Common.{◌≡◌, ◌∙◌, ℕ, ◌+◌, ◌<◌, ◌≤◌, List, [], ◌∷◌, ◌++◌, Option, Some, None, codes, drop, length, map, inl, inr, refl, sym, ap, subst, arith, append_assoc, append-nil}
+use Rattle.std.proofs.Common.{◌≡◌, ◌∙◌, ℕ, ◌+◌, ◌<◌, ◌≤◌, List, [], ◌∷◌, ◌++◌, Option, Some, None, codes, drop, length, map, take, inl, inr, refl, sym, ap, subst, arith, append_assoc, append-nil, length-append, ◌-◌}
 use Rattle.std.specs.Prelude.{IfSome}
 use Rattle.std.specs.List.{concat}
 use Rattle.std.proofs.lemmas.Option.{IfSome_then}
 use Rattle.std.proofs.lemmas.List.{drop-drop, length-drop}
+use Rattle.std.proofs.Math.Seq.{take-append_seam}
 use Rattle.lmn_base.specs.declared.solid.Solid.{Solid}
 use Rattle.lmn_congruence.specs.Regions.{Region}
 use Rattle.lmn_adequacy.specs.Choice.{NextFrom, paths}
@@ -13,12 +14,14 @@ use Rattle.lmn_adequacy.proofs.Results.{one_choice, one_numbering}
 use Rattle.lmn_receipt_chain.specs.declared.next.NextSolid.{NextSolid}
 use Rattle.lmn_receipt_chain.specs.declared.walk.Step.TheVariants.{More}
 use Rattle.lmn_app_runs.specs.Runs.{end_line}
+use Rattle.lmn_receipt_chain.specs.Alike.{alike, blurred, times}
 use Rattle.lmn_receipt_chain.specs.Chains.{BeginsChain, Continues, IsEndThere, IsEndWord, IsProcessThere, IsWrongTrace, at_line, begun, continued, no_end_line, line_of_solid, no_next_line}
 use Rattle.lmn_receipt_chain.specs.Found.{IsNextFound, IsNextMade, IsNextTo, NoneBegins}
 use Rattle.lmn_receipt_chain.specs.Laws.{IsAcceptedSolid}
 use Rattle.lmn_receipt_chain.specs.Steps.{IsOtherEnd, IsStep, NoEndIsDue, NothingFits}
 use Rattle.lmn_adequacy.proofs.Runs.{embeds_in, one_longer}
 use Rattle.lmn_receipt_chain.proofs.ChainLemmas.{accepted_of, sound_next}
+use Rattle.lmn_receipt_chain.proofs.FrameLemmas.{chosen_at, not_there}
 use Rattle.lmn_base.proofs.Numbers.{below_or_from as below_or}
 
 -- ---- lines
@@ -71,17 +74,44 @@ stands_more S trace last next at n len h c some short is =
     }
 
 -- so far, and what is asked of a solid holds of the last one
-pub record Walked (region : Solid → Region) (asked : Solid → Type 0) (first solid : Solid) (trace : List ℕ) (at n : ℕ) : Type 0 where
+pub record Walked (region : Solid → Region) (asked : Solid → Type 0) (first solid : Solid) (trace : List ℕ) (start at n : ℕ) : Type 0 where
   pub fits : asked solid
   pub sound : IsAcceptedSolid (region solid)
   pub stands : Stands (region first) trace (region solid) at n
+  pub order : start ≤ at
+  pub own : take (at - start) (drop start trace) ≡ line_of_solid (region solid)
+
+-- the front of a text before so many bytes
+first_part : (xs line : List ℕ) (len : ℕ) → len ≤ length xs → xs ≡ line ++ drop len xs → take len xs ≡ line
+first_part xs line len few e =
+    let all = ap length e ∙ length-append line (drop len xs) in
+    let rest = length-drop len xs in
+    let same : len ≡ length line = omega (arith, few, all, rest) in
+    ap (take len) e ∙ ap (λ k. take k (line ++ drop len xs)) same ∙ take-append_seam line (drop len xs)
+
+-- behind the first line
+pub walked_first : (region : Solid → Region) (fits : Solid → Type 0) (first : Solid) (trace : List ℕ) (len : ℕ) → fits first → IsAcceptedSolid (region first) → 0 < len → len ≤ length trace
+    → trace ≡ line_of_solid (region first) ++ drop len trace → Walked region fits first first trace 0 len 0
+walked_first region fits first trace len asked sound some short is = record {
+  fits = asked;
+  sound = sound;
+  stands = stands_first (region first) trace len some short is;
+  order = omega arith;
+  own = ap (λ k. take k trace) (omega arith) ∙ first_part trace (line_of_solid (region first)) len short is;
+}
 
 -- behind the line of a solid that continues it
-pub walked_more : (region : Solid → Region) (fits : Solid → Type 0) (first solid : Solid) (trace rest : List ℕ) (at n m len : ℕ) (next : Solid) → Walked region fits first solid trace at n
-    → rest ≡ drop at trace → IsStep region fits (region solid) rest m (More next len) → Walked region fits first next trace (at + len) (n + 1)
-walked_more region fits first solid trace rest at n m len next w same h =
+pub walked_more : (region : Solid → Region) (fits : Solid → Type 0) (first solid : Solid) (trace rest : List ℕ) (start at n m len : ℕ) (next : Solid) → Walked region fits first solid trace start at n
+    → rest ≡ drop at trace → IsStep region fits (region solid) rest m (More next len) → Walked region fits first next trace at (at + len) (n + 1)
+walked_more region fits first solid trace rest start at n m len next w same h =
     let k : IsStep region fits (region solid) (drop at trace) m (More next len) = subst (λ r. IsStep region fits (region solid) r m (More next len)) same h in
-    record { fits = k.0; sound = sound_next w.sound k.1; stands = stands_more (region first) trace (region solid) (region next) at n len w.stands k.1 k.2 k.3 k.4 }
+    record {
+      fits = k.0;
+      sound = sound_next w.sound k.1;
+      stands = stands_more (region first) trace (region solid) (region next) at n len w.stands k.1 k.2 k.3 k.4;
+      order = omega arith;
+      own = ap (λ j. take j (drop at trace)) (omega arith) ∙ first_part (drop at trace) (line_of_solid (region next)) len k.3 k.4;
+    }
 
 -- ---- what a step is for the whole trace
 
@@ -143,9 +173,21 @@ module _ (fits : Solid → Type 0) (region : Solid → Region) (S : Region) (fro
 pub nothing_fits : (S : Region) (rest : List ℕ) → (HasEmbedding S → ⊥) → NothingFits S rest
 nothing_fits S rest none S' more c is = none (embeds_in c.next)
 
--- and where all were tried nothing fits
-pub all_tried : (S : Region) (rest : List ℕ) (from count : ℕ) → count ≡ length (paths S) → (from < count → ⊥) → Tried S rest from → NothingFits S rest
-all_tried S rest from count is out tried S' more c at = let l = c.one_of_them in tried c.from (omega (arith, is, out, l)) S' more c.next c.numbered at
+-- and where all were tried that can change what the text has otherwise than the line of the solid, nothing fits
+pub all_tried : (S : Region) (own rest : List ℕ) (from count asked opened : ℕ) → count ≡ length (paths S) → own ≡ line_of_solid S → opened ≡ times 123 (alike (blurred own) (blurred rest))
+    → ((m : ℕ) → asked ≤ m → m < count → opened < m) → asked ≤ from → Tried S rest from → NothingFits S rest
+all_tried S own rest from count asked opened is line same others out tried S' more c at =
+    let u = chosen_at c.from S S' c.next in
+    let all = ap length u.all ∙ length-append u.earlier (c.next.path ∷ u.later) in
+    let there : length u.earlier < count = omega (arith, all, is) in
+    elim (below_or (length u.earlier) from) [
+      | inl l ↦ tried (length u.earlier) l S' more u.next c.numbered at
+      | inr g ↦ (
+          let few = others (length u.earlier) (omega (arith, out, g)) there in
+          let as_many = ap (λ z. times 123 (alike (blurred z) (blurred rest))) line in
+          not_there c.next.path c.next.number c.next.positions S S' c.next.next u.earlier u.later u.all rest (omega (arith, few, same, as_many)) more at
+          )
+    ]
 
 -- ---- ends
 

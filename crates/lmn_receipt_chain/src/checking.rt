@@ -1,4 +1,4 @@
-ghost use Rattle.std.specs.Prelude.{◌≡◌, ◌≤◌, MatchResult, drop, length};
+ghost use Rattle.std.specs.Prelude.{◌≡◌, ◌≤◌, ◌-◌, MatchResult, drop, length, take};
 ghost use Rattle.lmn_base.specs.Codes.{code_number};
 ghost use Rattle.lmn_base.specs.Refusals.{IfRefused};
 ghost use Rattle.lmn_base.specs.declared.refusal.TextFault.{TextFault};
@@ -51,13 +51,16 @@ fn walk<N: NextSolids>(
     let Some(first) = solids.front(alloc, solid, trace)? else {
         return Err(refused(RefusalCode::NotAFiring, 1));
     };
+    let mut start = 0usize;
     let mut at = first;
     let mut commits = 0u64;
     loop {
-        match take_step(alloc, solids, solid, behind(trace, at), commits)? {
+        let own = part(trace, start, at);
+        match take_step(alloc, solids, solid, own, behind(trace, at), commits)? {
             Step::More(next, len) => {
                 let before = mem::replace(solid, next);
                 before.root.dismantle();
+                start = at;
                 at += len;
                 commits += 1;
             }
@@ -74,6 +77,15 @@ fn behind(text: &[u8], at: usize) -> &[u8]
     ensures { result.now ≡ drop at text.now }
 {
     &text[at..]
+}
+
+/// What stands in a text from one place to another one.
+fn part(text: &[u8], from: usize, to: usize) -> &[u8]
+    requires from { from ≤ to }
+    requires to { to ≤ length text.now }
+    ensures { result.now ≡ take (to - from) (drop from text.now) }
+{
+    &text[from..to]
 }
 
 /// A refusal at the beginning of a line.

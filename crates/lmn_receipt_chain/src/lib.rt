@@ -1,6 +1,7 @@
 //! Whether a trace is one of a program: chains of firings, checked over lists.
 #![tactic(auto)]
 
+mod alike;
 mod checking;
 mod laws;
 mod next;

@@ -1,4 +1,4 @@
-ghost use Rattle.std.specs.Prelude.{◌≡◌, ◌<◌, ◌↔◌, ◌++◌, ℕ, List, None, IfOk, IfSome, IsTrue, length};
+ghost use Rattle.std.specs.Prelude.{◌≡◌, ◌<◌, ◌≤◌, ◌↔◌, ◌++◌, ℕ, List, None, IfOk, IfSome, IsTrue, length};
 ghost use Rattle.lmn_congruence.specs.Regions.{Region};
 ghost use Rattle.lmn_adequacy.specs.Choice.{paths};
 ghost use Rattle.lmn_app_runs.specs.Runs.{end_line};
@@ -6,6 +6,7 @@ ghost use Rattle.lmn_receipt_chain.specs.Chains.{Continues, IsEndThere, IsProces
 ghost use Rattle.lmn_receipt_chain.specs.Steps.{IsOtherEnd, IsStep};
 ghost use Rattle.lmn_receipt_chain.specs.Laws.{IsAcceptedSolid};
 
+use crate::alike::opened_alike;
 use crate::next::NextSolids;
 use itoa::Buffer;
 use lmn_base::{NoMemory, Solid};
@@ -29,11 +30,13 @@ pub(crate) fn take_step<N: NextSolids>(
     alloc: Global,
     solids: &N,
     solid: &Solid,
+    own: &[u8],
     rest: &[u8],
     commits: u64,
 ) -> Result<Step, NoMemory>
     requires fits { N.fits solids.now solid.now }
     requires sound { IsAcceptedSolid (N.region solids.now solid.now) }
+    requires own { own.now ≡ line_of_solid (N.region solids.now solid.now) }
     ensures { IfOk result (IsStep (N.region solids.now) (N.fits solids.now) (N.region solids.now solid.now) rest.now commits) }
 {
     match rest {
@@ -42,7 +45,7 @@ pub(crate) fn take_step<N: NextSolids>(
             if *first == b'%' {
                 end(alloc, solids, solid, rest, commits)
             } else {
-                line(alloc, solids, solid, rest)
+                line(alloc, solids, solid, own, rest)
             }
         }
     }
@@ -160,26 +163,39 @@ fn try_hint<N: NextSolids>(
     }
 }
 
-/// What a process line is: that of a choice that fits, or wrong. The tables of the solid are made once for all its choices.
+/// How many membranes are asked, from the root on, where so many are there and so many braces are opened before a line differs.
+fn asked_of(count: u64, opened: u64) -> u64
+    ensures few { result ≤ count }
+    ensures others { (m : ℕ) → result ≤ m → m < count → opened < m }
+{
+    if opened < count { opened + 1 } else { count }
+}
+
+/// What a process line is: that of a choice that fits, or wrong. The tables of the solid are made once for all its choices. A choice is left
+/// out where its membrane stands in the solid's own line behind all that the two lines begin with alike: a firing there changes nothing before it.
 fn line<N: NextSolids>(
     alloc: Global,
     solids: &N,
     solid: &Solid,
+    own: &[u8],
     rest: &[u8],
 ) -> Result<Step, NoMemory>
     requires fits { N.fits solids.now solid.now }
     requires sound { IsAcceptedSolid (N.region solids.now solid.now) }
+    requires own { own.now ≡ line_of_solid (N.region solids.now solid.now) }
     requires there { IsProcessThere rest.now }
     ensures { (commits : ℕ) → IfOk result (IsStep (N.region solids.now) (N.fits solids.now) (N.region solids.now solid.now) rest.now commits) }
 {
     let count = solids.membranes(alloc, solid)?;
+    let opened = opened_alike(own, rest)?;
+    let asked = asked_of(count, opened);
     let hint = solids.hint(alloc, solid, rest)?;
     let mut tables = solids.tables(alloc, solid)?;
     if let Some(found) = try_hint(alloc, solids, &mut tables, rest, hint, count)? {
         return Ok(found);
     }
     let mut from = 0u64;
-    while from < count {
+    while from < asked {
         let Some(next) = solids.next_from(alloc, &mut tables, from, rest)? else {
             return Ok(Step::WrongLine);
         };

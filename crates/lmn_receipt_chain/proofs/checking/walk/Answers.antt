@@ -1,23 +1,25 @@
-use Rattle.std.proofs.Common.{◌+◌, subst, sym}
+use Rattle.std.proofs.Common.{◌∙◌, ◌+◌, subst, sym}
 use Rattle.lmn_base.specs.Refusals.{IfRefused}
 use Rattle.lmn_receipt_chain.specs.Chains.{IsEndThere, IsProcessThere, IsWrongTrace}
 use Rattle.lmn_receipt_chain.specs.Steps.{NoEndIsDue, NothingFits}
-use Rattle.lmn_receipt_chain.proofs.WalkLemmas.{Walked, stands_first, walked_more, wrong_end, wrong_line}
+use Rattle.lmn_receipt_chain.proofs.WalkLemmas.{Walked, walked_first, walked_more, wrong_end, wrong_line}
 use Rattle.lmn_receipt_chain.proofs.checking.walk.Goals as goal
 
 pub loop-next-init : goal.loop-next-init
 loop-next-init g c =
     let some = rw c.in-Some.is at c.in_ok-first.ensures.some in
-    let S = g.N.NextSolids.region c.args.solids.now c.args.solid.now in
-    record { fits = c.requires.fits; sound = c.requires.sound; stands = stands_first S c.args.trace.now c.in-Some.first some.0 some.1 some.2 }
+    walked_first (g.N.NextSolids.region c.args.solids.now) (g.N.NextSolids.fits c.args.solids.now) c.args.solid.now c.args.trace.now c.in-Some.first c.requires.fits c.requires.sound some.0 some.1 some.2
+
+pub take_step-requires-clause-own : goal.take_step-requires-clause-own
+take_step-requires-clause-own g c = c.part-own.ensures ∙ c.loop-next.invariant.own
 
 pub loop-next-preserved : goal.loop-next-preserved
 loop-next-preserved g c =
     let region = g.N.NextSolids.region c.args.solids.now in
     let fits = g.N.NextSolids.fits c.args.solids.now in
     let step = rw c.in-More.is at c.in_ok-next.ensures in
-    subst (λ s. Walked region fits c.args.solid.now s c.args.trace.now (c.loop-next.at + c.in-More.len) (c.loop-next.commits + 1)) (sym c.replace-before.ensures.after)
-    (walked_more region fits c.args.solid.now c.loop-next.solid c.args.trace.now c.behind.result.now c.loop-next.at c.loop-next.commits c.loop-next.commits c.in-More.len c.in-More.next c.loop-next.invariant
+    subst (λ s. Walked region fits c.args.solid.now s c.args.trace.now c.loop-next.at (c.loop-next.at + c.in-More.len) (c.loop-next.commits + 1)) (sym c.replace-before.ensures.after)
+    (walked_more region fits c.args.solid.now c.loop-next.solid c.args.trace.now c.behind.result.now c.loop-next.start c.loop-next.at c.loop-next.commits c.loop-next.commits c.in-More.len c.in-More.next c.loop-next.invariant
     c.behind.ensures step)
 
 pub returns-in-WrongLine : goal.returns-in-WrongLine

@@ -11,7 +11,8 @@ pub next_from-requires : goal.next_from-requires
 next_from-requires g c =
     let count = c.in_ok-count.ensures in
     let inside = c.loop-from-test.true in
-    (c.args.solid.now, c.requires.fits, c.loop-from.invariant.tables, omega (arith, count, inside))
+    let few = c.asked_of-asked.ensures.few in
+    (c.args.solid.now, c.requires.fits, c.loop-from.invariant.tables, omega (arith, count, inside, few))
 
 pub fitting-requires : goal.fitting-requires
 fitting-requires g c =
@@ -38,7 +39,8 @@ loop-from-preserved g c =
 pub returns : goal.returns
 returns g c = λ commits. (
   c.requires.there,
-  all_tried (g.N.NextSolids.region c.args.solids.now c.args.solid.now) c.args.rest.now c.loop-from.from c.in_ok-count.count c.in_ok-count.ensures (λ l. let out = c.loop-from-test.false in omega (arith, out, l)) c.loop-from.invariant.tried,
+  all_tried (g.N.NextSolids.region c.args.solids.now c.args.solid.now) c.args.own.now c.args.rest.now c.loop-from.from c.in_ok-count.count c.asked_of-asked.result c.in_ok-opened.opened c.in_ok-count.ensures c.requires.own
+      c.in_ok-opened.ensures c.asked_of-asked.ensures.others (let out = c.loop-from-test.false in omega (arith, out)) c.loop-from.invariant.tried,
 )
 
 pub returns-in-Some : goal.returns-in-Some

@@ -9,4 +9,4 @@ invariant-loop-from g l = record {
 }
 
 abbrev pub decreases-loop-from : goal.decreases-loop-from
-decreases-loop-from g l = l.count - l.from
+decreases-loop-from g l = l.asked - l.from

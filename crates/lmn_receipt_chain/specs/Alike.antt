@@ -1,0 +1,18 @@
+-- What two texts begin with alike. Contracts of private functions alone cite these words.
+use Rattle.std.specs.Prelude.{ℕ, ◌+◌, ◌==◌, if◌then◌else◌, not, List, [], ◌∷◌, filter}
+use Rattle.std.specs.Char.{is_ascii_digit}
+
+-- a text without its digits: so links have no numbers
+abbrev pub blurred : List ℕ → List ℕ
+blurred bytes = filter (λ b. not (is_ascii_digit b)) bytes
+
+-- the longest text with which both begin
+abbrev pub alike : List ℕ → List ℕ → List ℕ
+alike [] ys = []
+alike (x ∷ xs) [] = []
+alike (x ∷ xs) (y ∷ ys) = if x == y then x ∷ alike xs ys else []
+
+-- how often a byte is in a text
+abbrev pub times : ℕ → List ℕ → ℕ
+times b [] = 0
+times b (x ∷ xs) = (if x == b then 1 else 0) + times b xs
