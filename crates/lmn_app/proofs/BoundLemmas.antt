@@ -17,12 +17,12 @@ use Rattle.lmn_weight.specs.declared.weights.Weights.{Weights}
 use Rattle.lmn_weight.specs.Lines.{AreWeightsOf, IsFirstWrong}
 use Rattle.lmn_weight.specs.Plains.{EachLowered, IsFirstNotLowered, IsOfSize, level_weight}
 use Rattle.lmn_app_words.specs.declared.command.PairKind.TheVariants.{Bound}
-use Rattle.lmn_app.specs.declared.ending.Ending.TheVariants.{Done, WriteFault, SecondRefused}
+use Rattle.lmn_app_single.specs.declared.ending.Ending.TheVariants.{Done, WriteFault, SecondRefused}
 use Rattle.lmn_app.specs.Bounds.{IsBound, bad_weight, bound_line, not_lowered}
 use Rattle.lmn_app.specs.Runnings.{EndsByLine}
 use Rattle.lmn_app.specs.Seconds.{ReadsBoth}
-use Rattle.lmn_app.specs.Texts.{Accepts}
-use Rattle.lmn_app.proofs.ListLemmas.{plain_named}
+use Rattle.lmn_app_single.specs.Texts.{Accepts}
+use Rattle.lmn_app_single.proofs.ListLemmas.{plain_named}
 
 -- ---- what is asked of the plain of an accepted program
 

@@ -20,18 +20,18 @@ use Rattle.lmn_receipt_search.proofs.Beginning.{solid_accepted}
 use Rattle.lmn_receipt_chain.specs.Chains.{Continued, IsChain, IsWrongTrace, begun, continued, line_of_solid, no_end_line, no_first_line, no_next_line}
 use Rattle.lmn_receipt_chain.specs.Laws.{ChainsAreCommits, ContinuesByCommit, IsAcceptedSolid}
 use Rattle.lmn_reduction.proofs.Plains.{plain_settles}
-use Rattle.lmn_verify_compiled.proofs.ReadPlains.{plain_read}
+use Rattle.lmn_app_accepted.proofs.ReadPlains.{plain_read}
 use Rattle.lmn_app_runs.specs.Laws.{IsPrintable, solid_of}
 use Rattle.lmn_app_runs.specs.Runs.{IsLineOf}
 use Rattle.lmn_app_runs.specs.Texts.{PlainsArePrintable}
 use Rattle.lmn_app_runs.proofs.TraceRuns.{Fine, next_fine, plain_fine, solid_fine}
 use Rattle.lmn_app_words.specs.declared.command.PairKind.TheVariants.{Check}
-use Rattle.lmn_app.specs.declared.ending.Ending.TheVariants.{Done, WriteFault, SecondRefused}
+use Rattle.lmn_app_single.specs.declared.ending.Ending.TheVariants.{Done, WriteFault, SecondRefused}
 use Rattle.lmn_app.specs.Checks.{HasSolid, IsChecked, checked_line}
 use Rattle.lmn_app.specs.Runnings.{EndsByLine}
 use Rattle.lmn_app.specs.SecondTexts.{IsSecondCode}
-use Rattle.lmn_app.specs.Texts.{Accepts}
-use Rattle.lmn_app.proofs.PlainRegions.{region_is_numbered, solid_with_region}
+use Rattle.lmn_app_single.specs.Texts.{Accepts}
+use Rattle.lmn_app_single.proofs.PlainRegions.{region_is_numbered, solid_with_region}
 
 -- ---- what is asked of an accepted program and its solid
 

@@ -31,14 +31,14 @@ use Rattle.lmn_debug_script.specs.declared.order.Order.{Order}
 use Rattle.lmn_debug_script.specs.Scripts.{AreOrdersOf}
 use Rattle.lmn_app_words.specs.declared.command.PairKind.TheVariants.{Debug}
 use Rattle.lmn_app_words.specs.Forms.{Pair, to_pair}
-use Rattle.lmn_app.specs.declared.ending.Ending.TheVariants.{Refused}
+use Rattle.lmn_app_single.specs.declared.ending.Ending.TheVariants.{Refused}
 use Rattle.lmn_app.specs.Debugs.{IsSession, session_size}
 use Rattle.lmn_app.specs.Outcomes.{RequestEnded}
 use Rattle.lmn_app.specs.Pairs.{HasProgram, most_items_of_pair}
 use Rattle.lmn_app.specs.Runnings.{EndsDebugged, obeyed_as}
 use Rattle.lmn_app.specs.Seconds.{ReadsBoth}
-use Rattle.lmn_app.specs.Texts.{Accepts, IsRefusal, IsTooLarge, at_start, too_large}
-use Rattle.lmn_app.specs.Writing.{IsToldAnd, told_under}
+use Rattle.lmn_app_single.specs.Texts.{Accepts, IsRefusal, IsTooLarge, at_start, too_large}
+use Rattle.lmn_app_single.specs.Writing.{IsToldAnd, told_under}
 use Rattle.lmn_app.proofs.PairLemmas.{has_session}
 use Rattle.lmn_app.proofs.RequestLemmas.{pair_refused}
 

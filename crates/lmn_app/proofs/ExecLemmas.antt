@@ -37,14 +37,15 @@ use Rattle.lmn_verify_listing.specs.Listings.{AreListed, IsRefusedListing, not_a
 use Rattle.lmn_verify_code.specs.Verified.{IsVerified}
 use Rattle.lmn_app_words.specs.declared.command.PairKind.TheVariants.{Exec}
 use Rattle.lmn_app_words.specs.Forms.{Pair}
-use Rattle.lmn_app.specs.declared.ending.Ending.{Ending}
-use Rattle.lmn_app.specs.declared.ending.Ending.TheVariants.{SecondRefused, WriteFault}
+use Rattle.lmn_app_single.specs.declared.ending.Ending.{Ending}
+use Rattle.lmn_app_single.specs.declared.ending.Ending.TheVariants.{SecondRefused, WriteFault}
 use Rattle.lmn_app.specs.Executions.{IsExecuted, IsExecutedAs, IsWrongListing, ReadsCodes, executed_budget, executed_size}
 use Rattle.lmn_app.specs.Pairs.{HasProgram}
-use Rattle.lmn_app.specs.Runnings.{CodesRun, EndsExecuted, HasExecuted, HeapsAreExecuted, coded_input, ended_as, not_begun, run_ended}
+use Rattle.lmn_app.specs.Runnings.{CodesRun, EndsExecuted, HasExecuted, HeapsAreExecuted, coded_input, not_begun, run_ended}
+use Rattle.lmn_app_single.specs.Runnings.{ended_as}
 use Rattle.lmn_app.specs.SecondTexts.{IsSecondCode}
-use Rattle.lmn_app.specs.Texts.{Accepts}
-use Rattle.lmn_app.specs.Writing.{IsToldAnd, told_under}
+use Rattle.lmn_app_single.specs.Texts.{Accepts}
+use Rattle.lmn_app_single.specs.Writing.{IsToldAnd, told_under}
 use Rattle.lmn_app.proofs.PairLemmas.{has_execution}
 
 -- ---- the program

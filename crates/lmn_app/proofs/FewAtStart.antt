@@ -31,8 +31,8 @@ use Rattle.lmn_schedule_loading.specs.Loaded.{atoms_among, loaded_items, loaded_
 use Rattle.lmn_verify_compiled.proofs.FewRules.{few_rules}
 use Rattle.lmn_app.specs.Debugs.{session_size}
 use Rattle.lmn_app.specs.SizeLaws.{AcceptedIsSmall, NoneIsLarge}
-use Rattle.lmn_app.specs.Texts.{Accepts, IsTooLarge, by_reading, too_large, too_long}
-use Rattle.lmn_app.proofs.PlainRegions.{solid_with_items}
+use Rattle.lmn_app_single.specs.Texts.{Accepts, IsTooLarge, by_reading, too_large, too_long}
+use Rattle.lmn_app_single.proofs.PlainRegions.{solid_with_items}
 use Rattle.lmn_app.proofs.TextLemmas.{fits_or_not, made as well_made}
 
 -- ---- rules outside rules

@@ -1,11 +1,8 @@
-mod PlainRegions
 mod TextLemmas
-mod RunLemmas
 mod OutcomeLemmas
 mod RequestLemmas
-mod ListLemmas
-mod DriveLemmas
 mod MainLemmas
+mod SingleLemmas
 mod BoundLemmas
 mod CheckLemmas
 mod PairLemmas
@@ -14,7 +11,6 @@ mod ExecLemmas
 mod OneBound
 mod OneCheck
 mod DemoLemmas
-mod TaskLemmas
 mod OneListing
 mod OneExecution
 mod OneOutput

@@ -7,22 +7,24 @@ use Rattle.lmn_io.specs.Counts.{FailedLast, Faults, NoneBehindFailed, NoneFailed
 use Rattle.lmn_io.specs.Taking.{Takes}
 use Rattle.lmn_io.specs.Texts.{Fetch}
 use Rattle.lmn_io.proofs.TakingLemmas.{no_put}
-use Rattle.lmn_app.specs.declared.ending.Ending.{Ending}
-use Rattle.lmn_app.specs.declared.ending.Ending.TheVariants.{Done, Budget, Refused, Words, ReadFault, WriteFault, NoMemory, Full, SecondRefused}
+use Rattle.lmn_app_single.specs.declared.ending.Ending.{Ending}
+use Rattle.lmn_app_single.specs.declared.ending.Ending.TheVariants.{Done, Budget, Refused, Words, ReadFault, WriteFault, NoMemory, Full, SecondRefused}
 use Rattle.lmn_app_words.specs.Laws.{OneRequest}
 use Rattle.lmn_app_words.specs.Forms.{InForm, Request}
 use Rattle.lmn_app_words.specs.declared.command.PairKind.{PairKind}
 use Rattle.lmn_app_words.specs.Forms.{Pair, to_run, to_compile, to_demo, to_pair}
-use Rattle.lmn_app.specs.Endings.{Concludes, line_of_ending, refusal_line, status_of}
-use Rattle.lmn_app.specs.SecondTexts.{second_status}
+use Rattle.lmn_app_single.specs.Endings.{Concludes, line_of_ending, refusal_line, status_of}
+use Rattle.lmn_app_single.specs.Endings.{second_status}
 use Rattle.lmn_app.specs.Calls.{ErrFailed, IsAnswered, OutFailed}
-use Rattle.lmn_app.specs.Outcomes.{AnswersOf, CountsFaults, Output, OutputOf, PairOutput, RefusesSecondOf, RefusesText, RequestEnded}
-use Rattle.lmn_app.specs.declared.task.Task.{Task}
-use Rattle.lmn_app.specs.declared.task.Task.TheVariants as task
-use Rattle.lmn_app.specs.Demos.{demo_text}
-use Rattle.lmn_app.specs.Requests.{Asked, Fetches, ReadRose, folded_run, most_items_of, settings_of, told_of}
-use Rattle.lmn_app.specs.Texts.{IsAccepted}
-use Rattle.lmn_app.specs.Writing.{IfTold, told_under}
+use Rattle.lmn_app.specs.Outcomes.{AnswersOf, OutputOf, PairOutput, RefusesSecondOf, RequestEnded}
+use Rattle.lmn_app_single.specs.Outcomes.{CountsFaults, Output, RefusesText}
+use Rattle.lmn_app_single.specs.declared.task.Task.{Task}
+use Rattle.lmn_app_single.specs.declared.task.Task.TheVariants as task
+use Rattle.lmn_app_single.specs.Demos.{demo_text}
+use Rattle.lmn_app_single.specs.Requests.{Asked, folded_run, settings_of}
+use Rattle.lmn_app.specs.Requests.{Fetches, ReadRose, most_items_of, told_of}
+use Rattle.lmn_app_single.specs.Texts.{IsAccepted}
+use Rattle.lmn_app_single.specs.Writing.{IfTold, told_under}
 use Rattle.lmn_app.proofs.OutcomeLemmas.{Refusing}
 use Rattle.lmn_app.proofs.RequestLemmas.{not_words, read_counted, refusal_of, request_answered, request_refused_so, second_high, second_of}
 
@@ -112,7 +114,7 @@ write_is Full h = absurd (cc)
 write_is (SecondRefused kind r) h = let high = second_high kind in absurd (omega (arith, high.0, h))
 
 -- and none is above 11
-status_most : (e : Ending) → status_of e ≤ 11
+pub status_most : (e : Ending) → status_of e ≤ 11
 status_most Done = omega arith
 status_most Budget = omega arith
 status_most (Refused r) = omega arith

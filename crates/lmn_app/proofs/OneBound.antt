@@ -28,7 +28,7 @@ use Rattle.lmn_app.specs.Bounds.{IsBound, IsWrongWeights, bad_weight, not_lowere
 use Rattle.lmn_app.specs.BoundLaws.{BoundNotRefused, BoundOrRefused, BoundWhereLowered, OneBound, OneWrongWeights}
 use Rattle.lmn_app.specs.Seconds.{ReadsBoth}
 use Rattle.lmn_app.proofs.BoundLemmas.{is_bound}
-use Rattle.lmn_app.proofs.ListLemmas.{plain_named}
+use Rattle.lmn_app_single.proofs.ListLemmas.{plain_named}
 use Rattle.lmn_app.proofs.TextLemmas.{accepted_at, one_list}
 
 -- ---- lowered rules

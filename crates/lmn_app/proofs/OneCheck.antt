@@ -25,9 +25,9 @@ use Rattle.lmn_app_runs.specs.declared.stop.Stop.{Stop}
 use Rattle.lmn_app_runs.specs.Texts.{PlainsArePrintable}
 use Rattle.lmn_app.specs.CheckLaws.{CheckedNotWrong, NeitherCheckedNorWrong, OneCount, OneWrongTrace, RunsAreChecked}
 use Rattle.lmn_app.specs.Checks.{HasSolid, IsChecked}
-use Rattle.lmn_app.specs.Runs.{IsTraceOf}
-use Rattle.lmn_app.specs.Writing.{given, run_text}
-use Rattle.lmn_app.specs.Texts.{Accepts}
+use Rattle.lmn_app_single.specs.Runs.{IsTraceOf}
+use Rattle.lmn_app_single.specs.Writing.{given, run_text}
+use Rattle.lmn_app_single.specs.Texts.{Accepts}
 use Rattle.lmn_app.proofs.CheckLemmas.{by_numbers, chain_checked, printable_of, solid_made}
 use Rattle.lmn_app.proofs.TextLemmas.{accepted_at, made, one_list}
 

@@ -33,17 +33,17 @@ use Rattle.lmn_schedule.proofs.Loaded.{can_run, holds_solid}
 use Rattle.lmn_adequacy_turns.specs.Commits.{PlainsAreTables}
 use Rattle.lmn_verify_compiled.specs.CompiledListings.{CompiledAreRead, CompiledIsNotRefused}
 use Rattle.lmn_verify_listing.specs.Listings.{AreListed, IsRefusedListing}
-use Rattle.lmn_app.specs.declared.task.Task.TheVariants as task
+use Rattle.lmn_app_single.specs.declared.task.Task.TheVariants as task
 use Rattle.lmn_app.specs.ExecLaws.{CompiledIsNotWrong, CompiledRunsAsRun}
 use Rattle.lmn_app.specs.Executions.{ReadsCodes, executed_size, run_by_default}
-use Rattle.lmn_app.specs.Outcomes.{Output}
+use Rattle.lmn_app_single.specs.Outcomes.{Output}
 use Rattle.lmn_app.specs.Runnings.{HeapsAreExecuted, coded_input}
-use Rattle.lmn_app.specs.Writing.{IsListing, WritesRun}
-use Rattle.lmn_app.proofs.DriveLemmas.{driven_writes}
+use Rattle.lmn_app_single.specs.Writing.{IsListing, WritesRun}
+use Rattle.lmn_app_single.proofs.DriveLemmas.{driven_writes}
 use Rattle.lmn_app.proofs.ExecLemmas.{all_verified}
 use Rattle.lmn_app.proofs.OneListing.{one_listing}
-use Rattle.lmn_app.proofs.PlainRegions.{solid_with_region}
-use Rattle.lmn_app.proofs.RunLemmas.{Laws}
+use Rattle.lmn_app_single.proofs.PlainRegions.{solid_with_region}
+use Rattle.lmn_app_single.proofs.RunLemmas.{Laws}
 
 -- the laws that it takes
 pub record Grounds : Type 0 where

@@ -22,7 +22,7 @@ use Rattle.lmn_verify_code.specs.Operands.{code_names}
 use Rattle.lmn_verify_code.specs.Verified.{IsVerified}
 use Rattle.lmn_app.specs.ExecLaws.{OneWrongListing, ReadNotRefused, NeitherReadNorRefused}
 use Rattle.lmn_app.specs.Executions.{IsWrongListing, ReadsCodes}
-use Rattle.lmn_app.specs.Texts.{Accepts}
+use Rattle.lmn_app_single.specs.Texts.{Accepts}
 use Rattle.lmn_app.proofs.OneOutput.{as_many}
 use Rattle.lmn_app.proofs.TextLemmas.{accepted_at, one_list}
 use Rattle.lmn_base.proofs.Lists.{take_slice as taken_there}

@@ -16,8 +16,8 @@ use Rattle.lmn_app_runs.proofs.Stops.{ends_at_stop}
 use Rattle.lmn_app_words.specs.declared.command.RunSettings.{RunSettings}
 use Rattle.lmn_app.specs.Checks.{HasSolid}
 use Rattle.lmn_app.specs.RunLaws.{EarlierRunFirst, OneRun, OneRunSoFar}
-use Rattle.lmn_app.specs.Runs.{IsTraceOf}
-use Rattle.lmn_app.specs.Writing.{WritesRun, given, run_text}
+use Rattle.lmn_app_single.specs.Runs.{IsTraceOf}
+use Rattle.lmn_app_single.specs.Writing.{WritesRun, given, run_text}
 use Rattle.lmn_app.proofs.CheckLemmas.{accepted}
 use Rattle.lmn_app.proofs.OneCheck.{one_solid}
 

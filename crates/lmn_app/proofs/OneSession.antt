@@ -13,9 +13,9 @@ use Rattle.lmn_app_runs.specs.Laws.{solid_of}
 use Rattle.lmn_debug_script.specs.Laws.{HasOrders, SomeOrdersOrWrong}
 use Rattle.lmn_app.specs.DebugLaws.{SessionOrRefused}
 use Rattle.lmn_app.specs.Debugs.{IsSession, session_size}
-use Rattle.lmn_app.specs.Texts.{Accepts}
-use Rattle.lmn_app.proofs.ListLemmas.{plain_named}
-use Rattle.lmn_app.proofs.PlainRegions.{region_is_numbered, solid_with_items}
+use Rattle.lmn_app_single.specs.Texts.{Accepts}
+use Rattle.lmn_app_single.proofs.ListLemmas.{plain_named}
+use Rattle.lmn_app_single.proofs.PlainRegions.{region_is_numbered, solid_with_items}
 
 -- an accepted program has a session by the orders that a script has behind its names
 session_by : AcceptedTexts → (program script : List ℕ) (names : List Name) (plain : Plain) (plans : List GuardPlan) → Accepts program names plain plans → (s : Solid) → IsSolidOf plain s → item_count s ≤ session_size

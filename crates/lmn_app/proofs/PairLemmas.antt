@@ -7,16 +7,16 @@ use Rattle.lmn_io.specs.Counts.{Faults}
 use Rattle.lmn_app_words.specs.declared.command.PairKind.{PairKind}
 use Rattle.lmn_app_words.specs.declared.command.PairKind.TheVariants.{Bound, Check, Debug, Exec}
 use Rattle.lmn_app_words.specs.Forms.{Pair, to_pair}
-use Rattle.lmn_app.specs.declared.ending.Ending.{Ending}
-use Rattle.lmn_app.specs.declared.ending.Ending.TheVariants.{Done, Budget, Refused, Words, ReadFault, WriteFault, NoMemory, Full, SecondRefused}
+use Rattle.lmn_app_single.specs.declared.ending.Ending.{Ending}
+use Rattle.lmn_app_single.specs.declared.ending.Ending.TheVariants.{Done, Budget, Refused, Words, ReadFault, WriteFault, NoMemory, Full, SecondRefused}
 use Rattle.lmn_app.specs.Debugs.{session_size}
 use Rattle.lmn_app.specs.Executions.{executed_size}
 use Rattle.lmn_app.specs.Outcomes.{RequestEnded}
 use Rattle.lmn_app.specs.Pairs.{HasProgram, IsWritten, Writes, most_items_of_pair, second_wrong}
 use Rattle.lmn_app.specs.Runnings.{EndsByLine, EndsDebugged, EndsExecuted}
 use Rattle.lmn_app.specs.SecondTexts.{second_bytes}
-use Rattle.lmn_app.specs.Texts.{Accepts, Fits, IsAccepted}
-use Rattle.lmn_app.specs.Writing.{IsToldAnd, told_under}
+use Rattle.lmn_app_single.specs.Texts.{Accepts, Fits, IsAccepted}
+use Rattle.lmn_app_single.specs.Writing.{IsToldAnd, told_under}
 
 -- ---- the program
 

@@ -8,20 +8,24 @@ use Rattle.lmn_io.specs.Texts.{Fetch}
 use Rattle.lmn_app_words.specs.declared.command.PairKind.{PairKind}
 use Rattle.lmn_app_words.specs.declared.command.PairKind.TheVariants.{Bound, Check, Debug, Exec}
 use Rattle.lmn_app_words.specs.Forms.{Pair, Request, Run, to_run, to_compile, to_demo, to_pair}
-use Rattle.lmn_app.specs.declared.ending.Ending.{Ending}
-use Rattle.lmn_app.specs.declared.ending.Ending.TheVariants.{Done, Budget, Refused, Words, ReadFault, WriteFault, NoMemory, Full, SecondRefused}
+use Rattle.lmn_app_single.specs.declared.ending.Ending.{Ending}
+use Rattle.lmn_app_single.specs.declared.ending.Ending.TheVariants.{Done, Budget, Refused, Words, ReadFault, WriteFault, NoMemory, Full, SecondRefused}
 use Rattle.lmn_app_words.specs.declared.command.RunSettings.{RunSettings}
-use Rattle.lmn_app.specs.declared.task.Task.TheVariants as task
-use Rattle.lmn_app.specs.Demos.{demo_text}
-use Rattle.lmn_app.specs.Endings.{Concludes, status_of}
-use Rattle.lmn_app.specs.Outcomes.{AnswersOf, CausesOf, Ended, PairCauses, RefusesSecondOf, RefusesText, RequestEnded}
+use Rattle.lmn_app_single.specs.declared.task.Task.TheVariants as task
+use Rattle.lmn_app_single.specs.Demos.{demo_text}
+use Rattle.lmn_app_single.specs.Endings.{Concludes, status_of}
+use Rattle.lmn_app.specs.Outcomes.{AnswersOf, CausesOf, PairCauses, RefusesSecondOf, RequestEnded}
+use Rattle.lmn_app_single.specs.Outcomes.{Ended, RefusesText}
 use Rattle.lmn_app.specs.Pairs.{HasProgram, IsWritten, PairAnswers, Writes, most_items_of_pair, second_long}
-use Rattle.lmn_app.specs.Requests.{Fetches, ReadRose, asked_program, asked_second, folded_run, most_items_of, settings_of, told_of}
-use Rattle.lmn_app.specs.Runnings.{EndsUnread}
-use Rattle.lmn_app.specs.SecondTexts.{IsSecondCode, long_code, second_bytes, second_status}
-use Rattle.lmn_app.specs.Texts.{IsAccepted, at_start}
-use Rattle.lmn_app.specs.Writing.{IfTold, told_under}
-use Rattle.lmn_app.proofs.OutcomeLemmas.{Refusing, accepted_answered, long_told, longer, refused_told, told_is, told_text, too_long_refused, unaccepted_answered, when_told}
+use Rattle.lmn_app.specs.Requests.{Fetches, ReadRose, asked_second, most_items_of, told_of}
+use Rattle.lmn_app_single.specs.Requests.{asked_program, folded_run, settings_of}
+use Rattle.lmn_app_single.specs.Runnings.{EndsUnread}
+use Rattle.lmn_app.specs.SecondTexts.{IsSecondCode, long_code, second_bytes}
+use Rattle.lmn_app_single.specs.Endings.{second_status}
+use Rattle.lmn_app_single.specs.Texts.{IsAccepted, at_start}
+use Rattle.lmn_app_single.specs.Writing.{IfTold, told_under}
+use Rattle.lmn_app.proofs.OutcomeLemmas.{Refusing, accepted_answered, refused_told, told_is, unaccepted_answered, when_told}
+use Rattle.lmn_app_single.proofs.OutcomeLemmas.{long_told, longer, told_text, too_long_refused}
 
 -- ---- counts
 

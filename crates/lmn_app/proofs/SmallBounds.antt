@@ -23,7 +23,7 @@ use Rattle.lmn_app.specs.BoundExamples.{SmallTextIsBounded, SmallTextIsNotLowere
 use Rattle.lmn_app.specs.Seconds.{ReadsBoth}
 use Rattle.lmn_app.specs.TextExamples.{no_plan, one_atom, one_leaf, small_names, small_plain, small_rule, small_text}
 use Rattle.lmn_app.proofs.BoundLemmas.{is_bound}
-use Rattle.lmn_app.proofs.ListLemmas.{plain_named}
+use Rattle.lmn_app_single.proofs.ListLemmas.{plain_named}
 use Rattle.lmn_app.proofs.SmallTexts.{small_text_is_accepted}
 use Rattle.lmn_base.proofs.Lists.{sum_cons}
 

@@ -6,11 +6,12 @@ use Rattle.lmn_io.specs.Texts.{Fetch}
 use Rattle.lmn_lexer.specs.Cutting.{start}
 use Rattle.lmn_lexer.specs.Faults.{IsLexicalFault, string}
 use Rattle.lmn_app_words.specs.Forms.{InForm}
-use Rattle.lmn_app.specs.declared.ending.Ending.TheVariants.{Words}
+use Rattle.lmn_app_single.specs.declared.ending.Ending.TheVariants.{Words}
 use Rattle.lmn_app.specs.CallExamples.{ByteIsToldWritten, FileIsFetchedOnce, NoWordsAreAnswered, OrdersCountSo, QuoteIsRefused, QuoteIsToldRefused, not_put, quote_alone, taken, with_fault, with_line}
-use Rattle.lmn_app.specs.Calls.{IsAnswered, SinkSeen}
+use Rattle.lmn_app.specs.Calls.{IsAnswered}
+use Rattle.lmn_app_single.specs.Seen.{SinkSeen}
 use Rattle.lmn_app.specs.TextExamples.{no_plan, small_names, small_plain, small_text}
-use Rattle.lmn_app.specs.Texts.{IsRefusal, NamesText, at_start, by_reading}
+use Rattle.lmn_app_single.specs.Texts.{IsRefusal, NamesText, at_start, by_reading}
 use Rattle.lmn_app_reading.specs.Texts.{by_bytes}
 use Rattle.lmn_app.proofs.OutcomeLemmas.{refused_told}
 use Rattle.lmn_app.proofs.SmallTexts.{place_is, small_text_is_accepted}

@@ -78,8 +78,8 @@ use Rattle.lmn_app.specs.Executions.{IsWrongListing, ReadsCodes, executed_size}
 use Rattle.lmn_app.specs.ListingExamples.{small_listing}
 use Rattle.lmn_app.specs.Runnings.{coded_input}
 use Rattle.lmn_app.specs.TextExamples.{no_plan, one_leaf, small_names, small_plain, small_rule, small_text}
-use Rattle.lmn_app.specs.Texts.{Accepts, at_start}
-use Rattle.lmn_app.specs.Writing.{IsListing}
+use Rattle.lmn_app_single.specs.Texts.{Accepts, at_start}
+use Rattle.lmn_app_single.specs.Writing.{IsListing}
 use Rattle.lmn_app.proofs.OneListing.{one_listing}
 use Rattle.lmn_app.proofs.SmallListings.{small_text_is_listed}
 use Rattle.lmn_app.proofs.SmallRuns.{its_rules, small_named}

@@ -10,9 +10,9 @@ use Rattle.lmn_print_folded.specs.Lines.{IsFoldedLine}
 use Rattle.lmn_print_folded.proofs.Computed.{computed}
 use Rattle.lmn_reduction.specs.Examples.{label_a, label_b}
 use Rattle.lmn_app_runs.specs.Runs.{Given, PrintedLines, StopsSo, at_end}
-use Rattle.lmn_app.specs.Runs.{IsTraceOf}
+use Rattle.lmn_app_single.specs.Runs.{IsTraceOf}
 use Rattle.lmn_app.specs.TextExamples.{SmallTextRunsFolded, no_plan, small_end, small_lines, small_names, small_plain, small_text}
-use Rattle.lmn_app.proofs.RunLemmas.{Laws, trace_is_run}
+use Rattle.lmn_app_single.proofs.RunLemmas.{Laws, trace_is_run}
 use Rattle.lmn_app.proofs.SmallRuns.{first, last, more_allowed, nothing_left, small_solid}
 use Rattle.lmn_app.proofs.SmallTexts.{small_text_is_accepted}
 

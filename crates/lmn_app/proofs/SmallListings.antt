@@ -21,7 +21,7 @@ use Rattle.lmn_solid_bodies.specs.Code.{body_code}
 use Rattle.lmn_solid_bodies.specs.Flattening.{UnnumberedBody, flatten_body_step}
 use Rattle.lmn_app.specs.ListingExamples.{SmallTextIsListed, small_listing}
 use Rattle.lmn_app.specs.TextExamples.{no_plan, small_names, small_plain, small_rule, small_text}
-use Rattle.lmn_app.specs.Writing.{IsListing}
+use Rattle.lmn_app_single.specs.Writing.{IsListing}
 use Rattle.lmn_app.proofs.OneListing.{one_listing}
 use Rattle.lmn_app.proofs.SmallTexts.{small_text_is_accepted}
 

@@ -40,9 +40,9 @@ use Rattle.lmn_adequacy.proofs.ExampleChanges.{short_trace_ends}
 use Rattle.lmn_adequacy.proofs.Numbering.{numbered_one}
 use Rattle.lmn_app_runs.specs.Examples.{ShortRunPrints}
 use Rattle.lmn_app_runs.specs.Runs.{CommitsOver, IsProcessLine, PrintedLines, Prints, at_end, commit_after, no_commit}
-use Rattle.lmn_app.specs.Runs.{IsRun}
+use Rattle.lmn_app_single.specs.Runs.{IsRun}
 use Rattle.lmn_app.specs.TextExamples.{SmallTextHasItsTrace, SmallTextRuns, TraceEnds, no_plan, plainly, small_end, small_lines, small_names, small_plain, small_rule, small_text}
-use Rattle.lmn_app.specs.Texts.{Accepts}
+use Rattle.lmn_app_single.specs.Texts.{Accepts}
 use Rattle.lmn_app_accepted.proofs.FirstNames.{first_are_names}
 use Rattle.lmn_app.proofs.SmallTexts.{reads, small_text_is_accepted}
 use Rattle.lmn_app_runs.proofs.ExampleLines.{many_lines}

@@ -30,24 +30,11 @@ use Rattle.lmn_parser.specs.Faults.{AreKindsOfProgram}
 use Rattle.lmn_app_reading.specs.Laws.{IsAcceptedText}
 use Rattle.lmn_app_reading.specs.Texts.{IsAcceptedAs, IsRefusedAs, ReadsAs, by_bytes, by_contexts, by_links, by_rules, by_tokens}
 use Rattle.lmn_app_reading.proofs.AcceptedOrRefused as reading
-use Rattle.lmn_app_reading.proofs.CodeLemmas.{refusals_have_codes}
 use Rattle.lmn_app_reading.proofs.OneRead as read
 use Rattle.lmn_app_reading.proofs.Readings.{well_made}
-use Rattle.lmn_base.specs.Codes.{IsTextCode}
 use Rattle.lmn_app_runs.specs.Laws.{solid_of}
-use Rattle.lmn_app.specs.Texts.{Accepts, AcceptedOrRefused, Fits, IsAccepted, IsRefusal, IsTooLarge, NamesText, OneRefusal, RefusedNotAccepted, at_start, by_reading, text_bytes, too_large, too_long}
-use Rattle.lmn_app.proofs.PlainRegions.{solid_with_items}
-
--- ---- codes
-
-has_code : (r : Refusal) (n : ℕ) → r ≡ at_start n → IsTextCode n → IsTextCode r.code
-has_code r n e h = let P : ℕ → Type 0 = IsTextCode in subst P (sym (ap (λ (z : Refusal). z.code) e)) h
-
--- a refusal has a code of the table
-pub refusal_code : (size : Option ℕ) (text : List ℕ) (r : Refusal) → IsRefusal size text r → IsTextCode r.code
-refusal_code size text r (too_long l e) = has_code r 1 e refl
-refusal_code size text r (by_reading short names named h) = refusals_have_codes text names r h
-refusal_code size text r (too_large names p ps a l e) = has_code r 50 e refl
+use Rattle.lmn_app_single.specs.Texts.{Accepts, AcceptedOrRefused, Fits, IsAccepted, IsRefusal, IsTooLarge, NamesText, OneRefusal, RefusedNotAccepted, at_start, by_reading, text_bytes, too_large, too_long}
+use Rattle.lmn_app_single.proofs.PlainRegions.{solid_with_items}
 
 -- ---- the list of names
 

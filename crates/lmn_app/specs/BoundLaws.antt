@@ -6,7 +6,7 @@ use Rattle.lmn_weight.specs.Lines.{AreWeightsOf}
 use Rattle.lmn_weight.specs.Plains.{EachLowered}
 use Rattle.lmn_app.specs.Bounds.{IsBound, IsWrongWeights}
 use Rattle.lmn_app.specs.Seconds.{ReadsBoth}
-use Rattle.lmn_app.specs.Texts.{IsAccepted}
+use Rattle.lmn_app_single.specs.Texts.{IsAccepted}
 
 -- weights bound a program by one number at most
 abbrev pub OneBound : Type 0

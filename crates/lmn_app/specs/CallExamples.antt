@@ -6,11 +6,12 @@ use Rattle.lmn_io.specs.Taking.{TellsWritten}
 use Rattle.lmn_debug.specs.Debugged.{CountsObeyed}
 use Rattle.lmn_debug.specs.declared.debugging.DebugFault.TheVariants.{Failed}
 use Rattle.lmn_app_words.specs.Forms.{to_compile}
-use Rattle.lmn_app.specs.Calls.{IsAnswered, ShelfSeen, SinkSeen}
-use Rattle.lmn_app.specs.Outcomes.{RefusesText}
+use Rattle.lmn_app.specs.Calls.{IsAnswered}
+use Rattle.lmn_app_single.specs.Seen.{ShelfSeen, SinkSeen}
+use Rattle.lmn_app_single.specs.Outcomes.{RefusesText}
 use Rattle.lmn_app.specs.Requests.{Fetches}
 use Rattle.lmn_app.specs.TextExamples.{small_text}
-use Rattle.lmn_app.specs.Texts.{IsAccepted, IsRefusal, at_start, text_bytes}
+use Rattle.lmn_app_single.specs.Texts.{IsAccepted, IsRefusal, at_start, text_bytes}
 
 -- a quote, which begins a string
 abbrev pub quote_alone : List ℕ

@@ -1,40 +1,23 @@
 -- What a call of the program leaves behind, for the words of its command line.
-use Rattle.std.specs.Prelude.{◌≡◌, ◌≤◌, ◌⊎◌, ℕ, List, Option, codes}
+use Rattle.std.specs.Prelude.{◌≡◌, ◌≤◌, ◌⊎◌, ℕ, List, codes}
 use Rattle.std.specs.declared.alloc.Global.{Global}
 use Rattle.std.specs.declared.string.String.{String}
 use Rattle.lmn_base.specs.declared.refusal.Refusal.{Refusal}
-use Rattle.lmn_io.specs.Counts.{FailedLast, Faults, NoneBehindFailed, NoneFailed}
+use Rattle.lmn_io.specs.Counts.{FailedLast, NoneBehindFailed, NoneFailed}
 use Rattle.lmn_io.specs.Taking.{Takes, TakesPrefix}
-use Rattle.lmn_io.specs.Texts.{Fetch}
 use Rattle.lmn_app_words.specs.declared.command.PairKind.{PairKind}
 use Rattle.lmn_app_words.specs.Forms.{InForm}
-use Rattle.lmn_app.specs.declared.ending.Ending.{Ending}
-use Rattle.lmn_app.specs.declared.ending.Ending.TheVariants.{Done, Budget, Words, WriteFault, NoMemory, Full}
-use Rattle.lmn_app.specs.Endings.{HasLine, line_of_ending, refusal_line}
-use Rattle.lmn_app.specs.Outcomes.{AnswersOf, OutputOf, RefusesSecondOf, RefusesText, RequestEnded}
-use Rattle.lmn_app.specs.Requests.{Asked, Fetches, ReadRose, most_items_of, told_of}
-use Rattle.lmn_app.specs.SecondTexts.{second_status}
-use Rattle.lmn_app.specs.Texts.{IsAccepted}
-use Rattle.lmn_app.specs.Writing.{IfTold}
-
--- What is seen of a shelf: the bytes under each name and the fetches that it was asked for, where it tells them, and the count of faults of
--- each name.
-pub record ShelfSeen : Type 0 where
-  pub told : Option (List ℕ → Option (List ℕ))
-  pub asked : Option (List Fetch)
-  pub faults : List ℕ → ℕ
-
--- what is seen of a sink: the bytes that it took, where it tells them, and what it counts
-pub record SinkSeen : Type 0 where
-  pub told : Option (List ℕ)
-  pub faults : Faults
-
--- by the words of the traits
-abbrev pub shelf_seen : {F : Type 0} → (F → Option (List ℕ → Option (List ℕ))) → (F → Option (List Fetch)) → (F → List ℕ → ℕ) → F → ShelfSeen
-shelf_seen told asked faults shelf = record { told = told shelf; asked = asked shelf; faults = faults shelf }
-
-abbrev pub sink_seen : {O : Type 0} → (O → Option (List ℕ)) → (O → Faults) → O → SinkSeen
-sink_seen told faults sink = record { told = told sink; faults = faults sink }
+use Rattle.lmn_app_single.specs.declared.ending.Ending.{Ending}
+use Rattle.lmn_app_single.specs.declared.ending.Ending.TheVariants.{Done, Budget, Words, WriteFault, NoMemory, Full}
+use Rattle.lmn_app_single.specs.Endings.{HasLine, line_of_ending, refusal_line}
+use Rattle.lmn_app.specs.Outcomes.{AnswersOf, OutputOf, RefusesSecondOf, RequestEnded}
+use Rattle.lmn_app_single.specs.Outcomes.{RefusesText}
+use Rattle.lmn_app_single.specs.Requests.{Asked}
+use Rattle.lmn_app_single.specs.Seen.{ShelfSeen, SinkSeen}
+use Rattle.lmn_app.specs.Requests.{Fetches, ReadRose, most_items_of, told_of}
+use Rattle.lmn_app_single.specs.Endings.{second_status}
+use Rattle.lmn_app_single.specs.Texts.{IsAccepted}
+use Rattle.lmn_app_single.specs.Writing.{IfTold}
 
 -- `out` failed, in what a command writes, and `err` took its whole line.
 pub record OutFailed (args : List (String Global)) (shelf : ShelfSeen) (out out_after err err_after : SinkSeen) : Type 0 where

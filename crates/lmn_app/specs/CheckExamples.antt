@@ -6,7 +6,7 @@ use Rattle.lmn_receipt_chain.specs.Chains.{at_line}
 use Rattle.lmn_app_runs.specs.Runs.{at_end}
 use Rattle.lmn_app.specs.Checks.{IsChecked, IsWrongTraceOf}
 use Rattle.lmn_app.specs.TextExamples.{small_lines, small_text}
-use Rattle.lmn_app.specs.Writing.{run_text}
+use Rattle.lmn_app_single.specs.Writing.{run_text}
 
 -- the lines of `a. a :- b.` and of what comes of it, and the end line
 abbrev pub small_trace : List ℕ

@@ -5,8 +5,8 @@ use Rattle.lmn_base.specs.declared.refusal.Refusal.{Refusal}
 use Rattle.lmn_app_runs.specs.declared.stop.Stop.{Stop}
 use Rattle.lmn_app_words.specs.declared.command.RunSettings.{RunSettings}
 use Rattle.lmn_app.specs.Checks.{IsChecked, IsWrongTraceOf}
-use Rattle.lmn_app.specs.Texts.{IsAccepted}
-use Rattle.lmn_app.specs.Writing.{Told, WritesRun, run_text}
+use Rattle.lmn_app_single.specs.Texts.{IsAccepted}
+use Rattle.lmn_app_single.specs.Writing.{Told, WritesRun, run_text}
 
 -- A trace is one of so many commits of a program at most. A box in a condition belongs to an allocator, so one is given, here and below.
 abbrev pub OneCount : Type 0

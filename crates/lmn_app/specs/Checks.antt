@@ -13,7 +13,7 @@ use Rattle.lmn_receipt_chain.specs.Chains.{Continued, Continues, IsChain, IsWron
 use Rattle.lmn_receipt_chain.specs.Laws.{IsChainOfCommits}
 use Rattle.lmn_reduction.specs.Commits.{Commit, Settles}
 use Rattle.lmn_app_runs.specs.Runs.{IsLineOf}
-use Rattle.lmn_app.specs.Texts.{Accepts}
+use Rattle.lmn_app_single.specs.Texts.{Accepts}
 
 -- A program that is accepted, and the solid of its plain, whose links are numbered in printed order.
 pub record HasSolid (program : List ℕ) : Type 0 where

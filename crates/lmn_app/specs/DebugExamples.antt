@@ -1,6 +1,6 @@
 -- Sessions over a small text.
 use Rattle.std.specs.Prelude.{codes}
-use Rattle.lmn_app.specs.declared.ending.Ending.TheVariants.{Done}
+use Rattle.lmn_app_single.specs.declared.ending.Ending.TheVariants.{Done}
 use Rattle.lmn_app.specs.Debugs.{IsDebugged}
 use Rattle.lmn_app.specs.TextExamples.{small_text}
 

@@ -10,10 +10,10 @@ use Rattle.lmn_order.specs.declared.order.Order.TheVariants.{First}
 use Rattle.lmn_order.specs.Orders.{chosen}
 use Rattle.lmn_app_runs.specs.Runs.{IsLineOf}
 use Rattle.lmn_app_words.specs.declared.command.PairKind.TheVariants.{Debug}
-use Rattle.lmn_app.specs.declared.ending.Ending.TheVariants.{Done}
+use Rattle.lmn_app_single.specs.declared.ending.Ending.TheVariants.{Done}
 use Rattle.lmn_app.specs.Debugs.{IsDebugged, IsSession, session_size}
 use Rattle.lmn_app.specs.Pairs.{IsWrong}
-use Rattle.lmn_app.specs.Texts.{IsAccepted}
+use Rattle.lmn_app_single.specs.Texts.{IsAccepted}
 
 -- a program that is accepted with few enough items has a session by a script, or the script is wrong
 abbrev pub SessionOrRefused : Type 0

@@ -10,8 +10,8 @@ use Rattle.lmn_order.specs.declared.order.Order.TheVariants.{First}
 use Rattle.lmn_order.specs.Orders.{chosen}
 use Rattle.lmn_debug_script.specs.declared.order.Order.{Order}
 use Rattle.lmn_debug_script.specs.Scripts.{AreOrdersOf}
-use Rattle.lmn_app.specs.declared.ending.Ending.{Ending}
-use Rattle.lmn_app.specs.declared.ending.Ending.TheVariants.{Done, NoMemory, WriteFault}
+use Rattle.lmn_app_single.specs.declared.ending.Ending.{Ending}
+use Rattle.lmn_app_single.specs.declared.ending.Ending.TheVariants.{Done, NoMemory, WriteFault}
 use Rattle.lmn_app.specs.Seconds.{ReadsBoth}
 
 -- the most items of a process of a session

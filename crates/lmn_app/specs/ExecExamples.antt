@@ -2,10 +2,10 @@
 use Rattle.std.specs.Prelude.{◌≢◌, List, ℕ, [], codes}
 use Rattle.lmn_base.specs.declared.refusal.Refusal.{Refusal}
 use Rattle.lmn_app_runs.specs.declared.stop.Stop.TheVariants as stop
-use Rattle.lmn_app.specs.declared.ending.Ending.TheVariants.{Done}
+use Rattle.lmn_app_single.specs.declared.ending.Ending.TheVariants.{Done}
 use Rattle.lmn_app.specs.Executions.{IsExecuted, IsExecutedAs, IsWrongListing, ReadsCodes}
 use Rattle.lmn_app.specs.TextExamples.{small_text}
-use Rattle.lmn_app.specs.Texts.{at_start}
+use Rattle.lmn_app_single.specs.Texts.{at_start}
 
 -- Code that takes an `a` away and makes nothing. It isn't that of the rule of `a. a :- b.`, which makes a `b`.
 abbrev pub taking : List ℕ

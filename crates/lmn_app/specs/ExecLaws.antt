@@ -3,14 +3,14 @@ use Rattle.std.specs.Prelude.{◌≡◌, ◌≤◌, ℕ, List, [], Some, None, l
 use Rattle.lmn_base.specs.declared.refusal.Refusal.{Refusal}
 use Rattle.lmn_verify_coded.specs.Laws.{CameToEnd}
 use Rattle.lmn_app_words.specs.declared.command.PairKind.TheVariants.{Exec}
-use Rattle.lmn_app.specs.declared.ending.Ending.{Ending}
-use Rattle.lmn_app.specs.declared.ending.Ending.TheVariants.{Done, Budget, Full, NoMemory}
-use Rattle.lmn_app.specs.declared.task.Task.TheVariants as task
+use Rattle.lmn_app_single.specs.declared.ending.Ending.{Ending}
+use Rattle.lmn_app_single.specs.declared.ending.Ending.TheVariants.{Done, Budget, Full, NoMemory}
+use Rattle.lmn_app_single.specs.declared.task.Task.TheVariants as task
 use Rattle.lmn_app.specs.Executions.{IsExecuted, IsWrongListing, ReadsCodes, run_by_default}
-use Rattle.lmn_app.specs.Outcomes.{Output}
+use Rattle.lmn_app_single.specs.Outcomes.{Output}
 use Rattle.lmn_app.specs.SecondTexts.{second_bytes}
-use Rattle.lmn_app.specs.Texts.{IsAccepted}
-use Rattle.lmn_app.specs.Writing.{IsListing}
+use Rattle.lmn_app_single.specs.Texts.{IsAccepted}
+use Rattle.lmn_app_single.specs.Writing.{IsListing}
 use Rattle.lmn_app_runs.specs.declared.stop.Stop.{Stop}
 use Rattle.lmn_app_runs.specs.declared.stop.Stop.TheVariants as stop
 

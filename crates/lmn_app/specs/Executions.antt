@@ -23,10 +23,10 @@ use Rattle.lmn_app_runs.specs.Runs.{end_line, word_of_stop}
 use Rattle.lmn_app_runs.specs.declared.stop.Stop.{Stop}
 use Rattle.lmn_app_runs.specs.declared.stop.Stop.TheVariants as stop
 use Rattle.lmn_app_words.specs.declared.command.RunSettings.{RunSettings}
-use Rattle.lmn_app.specs.declared.ending.Ending.{Ending}
-use Rattle.lmn_app.specs.declared.ending.Ending.TheVariants.{Done, Budget, WriteFault, NoMemory, Full}
-use Rattle.lmn_app.specs.Texts.{Accepts}
-use Rattle.lmn_app.specs.Writing.{IsListing, WritesRun}
+use Rattle.lmn_app_single.specs.declared.ending.Ending.{Ending}
+use Rattle.lmn_app_single.specs.declared.ending.Ending.TheVariants.{Done, Budget, WriteFault, NoMemory, Full}
+use Rattle.lmn_app_single.specs.Texts.{Accepts}
+use Rattle.lmn_app_single.specs.Writing.{IsListing, WritesRun}
 
 -- the most items of a process that codes run, and the most commits: what `run` takes by default
 abbrev pub executed_size : ℕ

@@ -7,8 +7,8 @@ use Rattle.lmn_io.specs.Texts.{Fetch}
 use Rattle.lmn_app_words.specs.Forms.{Pair}
 use Rattle.lmn_app.specs.Pairs.{HasProgram}
 use Rattle.lmn_app.specs.Requests.{asked_second}
-use Rattle.lmn_app.specs.Texts.{Accepts}
-use Rattle.lmn_app.specs.Writing.{IsToldAnd, told_under}
+use Rattle.lmn_app_single.specs.Texts.{Accepts}
+use Rattle.lmn_app_single.specs.Writing.{IsToldAnd, told_under}
 
 -- of these texts the program of the command is accepted so
 abbrev pub AcceptsTold : Pair → Option (List ℕ → Option (List ℕ)) → List Name → Plain → List GuardPlan → Type 0

@@ -1,6 +1,4 @@
 pub mod DemoLaws
-pub mod Demos
-pub mod Endings
 pub mod NameExamples
 pub mod Outcomes
 pub mod Pairs
@@ -14,13 +12,11 @@ pub mod Requests
 pub mod Fetched
 pub mod Runnings
 pub mod RunLaws
-pub mod Runs
 pub mod SecondTexts
+pub mod SingleLaws
 pub mod SizeLaws
 pub mod Seconds
 pub mod TextExamples
-pub mod Texts
-pub mod Writing
 pub mod ListingLaws
 pub mod BoundLaws
 pub mod ExecLaws

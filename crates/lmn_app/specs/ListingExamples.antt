@@ -1,7 +1,7 @@
 -- The listing of a small text.
 use Rattle.std.specs.Prelude.{ℕ, List, [], codes}
 use Rattle.lmn_app.specs.TextExamples.{small_text}
-use Rattle.lmn_app.specs.Writing.{IsListing}
+use Rattle.lmn_app_single.specs.Writing.{IsListing}
 
 -- the code of its one rule, which finds an `a`, takes it out and makes a `b`
 abbrev pub small_listing : List ℕ

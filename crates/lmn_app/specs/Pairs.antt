@@ -6,15 +6,15 @@ use Rattle.lmn_app_words.specs.declared.command.PairKind.{PairKind}
 use Rattle.lmn_app_words.specs.declared.command.PairKind.TheVariants.{Bound, Check, Debug, Exec}
 use Rattle.lmn_debug_script.specs.Scripts.{IsFirstWrong}
 use Rattle.lmn_app_words.specs.Forms.{Pair}
-use Rattle.lmn_app.specs.declared.ending.Ending.{Ending}
-use Rattle.lmn_app.specs.declared.ending.Ending.TheVariants.{Done, WriteFault}
+use Rattle.lmn_app_single.specs.declared.ending.Ending.{Ending}
+use Rattle.lmn_app_single.specs.declared.ending.Ending.TheVariants.{Done, WriteFault}
 use Rattle.lmn_app.specs.Bounds.{IsBounded, IsWrongWeights}
 use Rattle.lmn_app.specs.Checks.{IsCheckedLine, IsWrongTraceOf}
 use Rattle.lmn_app.specs.Debugs.{IsDebugged, session_size}
 use Rattle.lmn_app.specs.Executions.{IsExecutedAs, IsWrongListing, executed_size}
 use Rattle.lmn_app.specs.SecondTexts.{IsSecondCode, long_code, second_bytes}
-use Rattle.lmn_app.specs.Texts.{IsAccepted, at_start}
-use Rattle.lmn_app.specs.Writing.{IsToldAnd, told_under}
+use Rattle.lmn_app_single.specs.Texts.{IsAccepted, at_start}
+use Rattle.lmn_app_single.specs.Writing.{IsToldAnd, told_under}
 
 -- the most items of the process of the program; `check` and `bound` load none
 abbrev pub most_items_of_pair : PairKind → Option ℕ

@@ -4,7 +4,7 @@ use Rattle.lmn_adequacy.specs.Runs.{End}
 use Rattle.lmn_app_runs.specs.Runs.{at_end}
 use Rattle.lmn_app_runs.specs.declared.stop.Stop.{Stop}
 use Rattle.lmn_app_words.specs.declared.command.RunSettings.{RunSettings}
-use Rattle.lmn_app.specs.Writing.{WritesRun}
+use Rattle.lmn_app_single.specs.Writing.{WritesRun}
 
 -- Two runs of one text that are given the same and that came to their end have as many commits, one end and one output.
 abbrev pub OneRun : Type 0

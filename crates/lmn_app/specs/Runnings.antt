@@ -1,5 +1,5 @@
 -- How a call ends whose run or whose orders ended so, without a program, and that writes a line of one, debugs it or runs it by a listing. Contracts of this crate's own functions alone cite these words.
-use Rattle.std.specs.Prelude.{◌≡◌, ◌<◌, ◌≤◌, ◌⊎◌, ⊤, ℕ, List, Option, Result, Ok, Err, length}
+use Rattle.std.specs.Prelude.{◌≡◌, ◌≤◌, ◌⊎◌, ℕ, List, Option, Result, Ok, Err}
 use Rattle.lmn_io.specs.Taking.{Takes, TakesPrefix}
 use Rattle.lmn_app_words.specs.declared.command.PairKind.{PairKind}
 use Rattle.lmn_app_words.specs.declared.command.PairKind.TheVariants.{Debug, Exec}
@@ -19,37 +19,22 @@ use Rattle.lmn_debug.specs.declared.debugging.DebugFault.{DebugFault}
 use Rattle.lmn_debug.specs.declared.debugging.DebugFault.TheVariants as session
 use Rattle.lmn_app_drive.specs.declared.driving.RunEnd.{RunEnd}
 use Rattle.lmn_app_drive.specs.declared.driving.RunEnd.TheVariants as run
-use Rattle.lmn_app.specs.declared.ending.Ending.{Ending}
-use Rattle.lmn_app.specs.declared.ending.Ending.TheVariants.{Done, Budget, Refused, ReadFault, WriteFault, NoMemory, Full, SecondRefused}
+use Rattle.lmn_app_single.specs.Runnings.{ended_as}
+use Rattle.lmn_app_single.specs.declared.ending.Ending.{Ending}
+use Rattle.lmn_app_single.specs.declared.ending.Ending.TheVariants.{Done, Budget, WriteFault, NoMemory, Full, SecondRefused}
 use Rattle.lmn_store_heap.specs.Heap.{Heap}
 use Rattle.lmn_store_heap.specs.Sound.{Valid}
-use Rattle.lmn_io.specs.Counts.{FailedLast, Faults, NoneFailed, Rose}
+use Rattle.lmn_io.specs.Counts.{FailedLast, Faults, NoneFailed}
 use Rattle.lmn_debug_script.specs.Scripts.{IsFirstWrong}
 use Rattle.lmn_app.specs.Debugs.{IsDebugged}
 use Rattle.lmn_app.specs.Executions.{IsExecuted, IsExecutedAs, IsWrongListing, ReadsCodes, executed_budget, executed_size}
 use Rattle.lmn_app.specs.Pairs.{IsWritten, IsWrong}
 use Rattle.lmn_app.specs.SecondTexts.{IsSecondCode}
-use Rattle.lmn_app.specs.Texts.{at_start, text_bytes}
-use Rattle.lmn_app.specs.Writing.{IsToldAnd}
-
-abbrev pub ended_as : RunEnd → Ending
-ended_as run.Irreducible = Done
-ended_as run.Budget = Budget
-ended_as run.Full = Full
-ended_as run.NoMemory = NoMemory
-ended_as run.Failed = WriteFault
 
 abbrev pub obeyed_as : {A : Type 0} → Result A DebugFault → Ending
 obeyed_as (Ok done) = Done
 obeyed_as (Err session.NoMemory) = NoMemory
 obeyed_as (Err session.Failed) = WriteFault
-
--- A call ends so without a program: it is too long, or can't be read, or memory was wanting.
-abbrev pub EndsUnread : Ending → Option (Option (List ℕ)) → ℕ → ℕ → Type 0
-EndsUnread (Refused r) told before after = (r ≡ at_start 1) × IsToldAnd told (λ bytes. text_bytes < length bytes)
-EndsUnread ReadFault told before after = Rose before after
-EndsUnread NoMemory told before after = ⊤
-EndsUnread _ told before after = ⊥
 
 -- A call that writes one line of a program and a second text ends so, with what `out` took and counts: the line was written, or a part
 -- of it, or something is wrong in the second text, or memory was wanting.

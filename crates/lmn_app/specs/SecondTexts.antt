@@ -17,13 +17,6 @@ long_code Debug = 70
 long_code Exec = 80
 long_code Bound = 84
 
--- the status of a refusal
-abbrev pub second_status : PairKind → ℕ
-second_status Check = 8
-second_status Debug = 9
-second_status Exec = 10
-second_status Bound = 11
-
 -- the codes by which it is refused
 abbrev pub IsSecondCode : PairKind → ℕ → Type 0
 IsSecondCode Check code = (code ≡ 60) ⊎ (code ≡ 61) ⊎ (code ≡ 62)

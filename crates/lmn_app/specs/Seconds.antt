@@ -5,7 +5,7 @@ use Rattle.lmn_base.specs.Names.{IsNames}
 use Rattle.lmn_congruence.specs.Rules.{Name}
 use Rattle.lmn_instr_reading.specs.Reading.{AddsNames}
 use Rattle.lmn_guards.specs.declared.plan.GuardPlan.{GuardPlan}
-use Rattle.lmn_app.specs.Texts.{Accepts}
+use Rattle.lmn_app_single.specs.Texts.{Accepts}
 
 -- The names of the second text stand behind those of the program, and none stands twice.
 pub record ReadsBoth (program second : List ℕ) : Type 0 where

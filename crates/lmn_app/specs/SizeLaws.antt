@@ -2,7 +2,7 @@
 use Rattle.std.specs.Prelude.{ℕ, List, None, Some}
 use Rattle.lmn_base.specs.declared.refusal.Refusal.{Refusal}
 use Rattle.lmn_app.specs.Debugs.{session_size}
-use Rattle.lmn_app.specs.Texts.{IsAccepted, IsRefusal}
+use Rattle.lmn_app_single.specs.Texts.{IsAccepted, IsRefusal}
 
 -- an accepted program has few enough items for a session, and so for a run of codes
 abbrev pub AcceptedIsSmall : Type 0

@@ -14,8 +14,8 @@ use Rattle.lmn_congruence.specs.Rules.{Name}
 use Rattle.lmn_guards.specs.declared.plan.GuardPlan.{GuardPlan}
 use Rattle.lmn_adequacy.specs.Runs.{Chooser, irreducible}
 use Rattle.lmn_app_runs.specs.Runs.{Given, StopsSo, at_end}
-use Rattle.lmn_app.specs.Runs.{IsRun, IsTraceOf}
-use Rattle.lmn_app.specs.Texts.{Accepts}
+use Rattle.lmn_app_single.specs.Runs.{IsRun, IsTraceOf}
+use Rattle.lmn_app_single.specs.Texts.{Accepts}
 
 -- `a. a :- b.`
 abbrev pub small_text : List ℕ

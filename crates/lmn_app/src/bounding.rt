@@ -3,12 +3,12 @@ ghost use Rattle.lmn_base.specs.Names.{IsNames};
 ghost use Rattle.lmn_io.specs.Writing.{WritesText};
 ghost use Rattle.lmn_app.specs.Bounds.{bound_line};
 ghost use Rattle.lmn_app.specs.Runnings.{EndsByLine};
-ghost use Rattle.lmn_app.specs.Texts.{Accepts};
+ghost use Rattle.lmn_app_single.specs.Texts.{Accepts};
 
-use crate::ending::Ending;
 use itoa::Buffer;
 use lmn_app_accepted::accepted_texts;
 use lmn_app_reading::Accepted;
+use lmn_app_single::Ending;
 use lmn_app_words::PairKind;
 use lmn_base::{Names, TextFault};
 use lmn_io::{Failed, Sink, put_all};

@@ -14,13 +14,12 @@ ghost use Rattle.lmn_app.specs.Debugs.{session_size};
 ghost use Rattle.lmn_app.specs.Fetched.{AcceptsTold, AsksSecond};
 ghost use Rattle.lmn_app.specs.Outcomes.{RequestEnded};
 ghost use Rattle.lmn_app.specs.Runnings.{EndsDebugged, obeyed_as};
-ghost use Rattle.lmn_app.specs.Texts.{Accepts};
+ghost use Rattle.lmn_app_single.specs.Texts.{Accepts};
 
-use crate::ending::Ending;
 use crate::pairing::fetch_second;
-use crate::running::TOO_LARGE;
 use lmn_app_accepted::accepted_texts_can_be_loaded;
 use lmn_app_reading::Accepted;
+use lmn_app_single::{Ending, TOO_LARGE};
 use lmn_app_words::{PairKind, PairWords};
 use lmn_base::{Names, NoMemory, TextFault};
 use lmn_debug::{DebugFault, debug};

@@ -10,7 +10,7 @@ ghost use Rattle.lmn_app.specs.DebugExamples.{SmallTextIsDebugged, SmallTextIsNo
 ghost use Rattle.lmn_app.specs.DebugLaws.{OneSessionText, OneWrongScript, SessionNotRefused, SessionOrRefused, ShownReadsBack};
 ghost use Rattle.lmn_app.specs.ExecExamples.{SmallListingIsRead, SmallListingIsWrong, SmallTextIsExecuted, SmallTextIsNotExecutedSo};
 ghost use Rattle.lmn_app.specs.ExecLaws.{CompiledIsNotWrong, CompiledRunsAsRun, OneOutput, OneWrongListing, ReadNotRefused, NeitherReadNorRefused};
-ghost use Rattle.lmn_app.specs.Demos.{SomeDemo};
+ghost use Rattle.lmn_app_single.specs.Demos.{SomeDemo};
 ghost use Rattle.lmn_app.specs.DemoLaws.{DemoIsFoldedRun};
 ghost use Rattle.lmn_app.specs.LinkExamples.{LinkLeadsThrough};
 ghost use Rattle.lmn_app.specs.ListingExamples.{SmallTextIsListed};
@@ -18,14 +18,16 @@ ghost use Rattle.lmn_app.specs.ListingLaws.{OneListing};
 ghost use Rattle.lmn_app.specs.NameExamples.{SomeNames};
 ghost use Rattle.lmn_app.specs.Runnings.{HeapsAreExecuted};
 ghost use Rattle.lmn_app.specs.RunLaws.{EarlierRunFirst, OneRun, OneRunSoFar};
+ghost use Rattle.lmn_app.specs.SingleLaws.{ListingIsUnread, NoWordsAreSingle, PairsAreHandedOn, SinglesAreAnswers};
 ghost use Rattle.lmn_app.specs.SizeLaws.{AcceptedIsSmall, NoneIsLarge};
 ghost use Rattle.lmn_app.specs.TextExamples.{SmallTextHasItsTrace, SmallTextIsAccepted, SmallTextRuns, SmallTextRunsFolded};
-ghost use Rattle.lmn_app.specs.Texts.{AcceptedOrRefused, OneRefusal, RefusedNotAccepted};
+ghost use Rattle.lmn_app_single.specs.Texts.{AcceptedOrRefused, OneRefusal, RefusedNotAccepted};
 
 use lmn_adequacy_heaps::solids_are_regions;
 use lmn_adequacy_turns::plains_are_tables;
 use lmn_app_accepted::{accepted_texts, accepted_texts_can_be_loaded};
 use lmn_app_runs::{plains_are_printable, short_run_prints, traces_are_runs};
+use lmn_app_words::asks_one;
 use lmn_debug::writing_is_one;
 use lmn_debug_script::{orders_are_once, scripts_are_decided};
 use lmn_receipt_chain::{
@@ -291,3 +293,13 @@ pub fn small_calls()
     ensures written { ByteIsToldWritten }
     ensures counted { OrdersCountSo }
 {}
+
+/// What the program of requests with one text answers is what `lmn_main` may answer, but for 12, with which it hands words on.
+pub fn singles_are_answers()
+    ensures answers { SinglesAreAnswers }
+    ensures no_words { NoWordsAreSingle }
+    ensures handed_on { PairsAreHandedOn }
+    ensures unread { ListingIsUnread }
+{
+    asks_one();
+}

@@ -6,15 +6,15 @@ ghost use Rattle.lmn_app.specs.Outcomes.{RequestEnded};
 ghost use Rattle.lmn_app.specs.Pairs.{HasProgram};
 ghost use Rattle.lmn_app.specs.Requests.{asked_second};
 ghost use Rattle.lmn_app.specs.SecondTexts.{long_code, second_bytes};
-ghost use Rattle.lmn_app.specs.Texts.{at_start};
-ghost use Rattle.lmn_app.specs.Writing.{IsToldAnd, told_under};
+ghost use Rattle.lmn_app_single.specs.Texts.{at_start};
+ghost use Rattle.lmn_app_single.specs.Writing.{IsToldAnd, told_under};
 
 use crate::bounding::bound_by;
 use crate::checking::check_by;
 use crate::debugging::debug_by;
-use crate::ending::Ending;
 use crate::executing::exec_by;
 use lmn_app_reading::Accepted;
+use lmn_app_single::Ending;
 use lmn_app_words::{PairKind, PairWords};
 use lmn_base::{Names, Pos, Refusal, RefusalCode, Rows};
 use lmn_io::{FetchFault, Fetched, Shelf, Sink};

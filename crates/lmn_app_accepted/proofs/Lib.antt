@@ -18,3 +18,4 @@ mod OneProcess
 mod LongerLists
 pub mod FirstNames
 pub mod Loadable
+pub mod ReadPlains

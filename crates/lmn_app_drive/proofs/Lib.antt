@@ -1,4 +1,5 @@
 pub mod Lines
+pub mod NewStores
 pub mod Texts
 pub mod Ends
 pub mod Goings

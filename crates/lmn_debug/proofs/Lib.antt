@@ -4,7 +4,6 @@ mod Exactness
 mod Held
 mod Traces
 pub mod Turns
-pub mod NewStores
 pub mod Obeyings
 mod TraceParts
 mod OneOutcome

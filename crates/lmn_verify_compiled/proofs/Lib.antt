@@ -37,5 +37,4 @@ mod KeptItems
 pub mod FewRules
 mod PlainNames
 mod ListableIntegers
-pub mod ReadPlains
 mod Listable

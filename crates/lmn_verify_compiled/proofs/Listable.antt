@@ -42,7 +42,7 @@ use Rattle.lmn_verify_compiled.proofs.KeptBodies.{body_kept}
 use Rattle.lmn_verify_compiled.proofs.KeptHeads.{head_kept}
 use Rattle.lmn_verify_compiled.proofs.KeptItems.{KeptLeaf, body_items_kept, head_items_kept}
 use Rattle.lmn_verify_compiled.proofs.PlainNames.{read_few, read_plain}
-use Rattle.lmn_verify_compiled.proofs.ReadPlains.{plain_read}
+use Rattle.lmn_app_accepted.proofs.ReadPlains.{plain_read}
 
 module _ (names : List Name) (rule : ℕ → tree.Rule) (few : length names < 2 ^ 32) where
   abbrev IsHeld : ℕ → Type 0

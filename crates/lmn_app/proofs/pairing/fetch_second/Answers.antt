@@ -1,7 +1,7 @@
 use Rattle.std.proofs.Common.{inr, refl, ◌≡◌}
 use Rattle.lmn_app_words.specs.Forms.{pair_of, to_pair}
-use Rattle.lmn_app.specs.Writing.{told_under}
-use Rattle.lmn_app.proofs.OutcomeLemmas.{told_here, under_told}
+use Rattle.lmn_app_single.specs.Writing.{told_under}
+use Rattle.lmn_app_single.proofs.OutcomeLemmas.{told_here, under_told}
 use Rattle.lmn_app.proofs.RequestLemmas.{pair_faulty, request_memory, second_too_long}
 use Rattle.lmn_app.proofs.pairing.fetch_second.Goals as goal
 

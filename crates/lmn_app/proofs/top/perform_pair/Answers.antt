@@ -1,8 +1,8 @@
 use Rattle.std.proofs.Common.{inl, length, refl, subst, sym, ◌≤◌, ◌≡◌}
 use Rattle.lmn_app_words.specs.Forms.{pair_of, to_pair}
-use Rattle.lmn_app.specs.Texts.{text_bytes}
-use Rattle.lmn_app.specs.Writing.{IsToldAnd, told_under}
-use Rattle.lmn_app.proofs.OutcomeLemmas.{told_here}
+use Rattle.lmn_app_single.specs.Texts.{text_bytes}
+use Rattle.lmn_app_single.specs.Writing.{IsToldAnd, told_under}
+use Rattle.lmn_app_single.proofs.OutcomeLemmas.{told_here}
 use Rattle.lmn_app.proofs.RequestLemmas.{asked_both, pair_unread, request_texts, since_earlier}
 use Rattle.lmn_app.proofs.top.perform_pair.Goals as goal
 

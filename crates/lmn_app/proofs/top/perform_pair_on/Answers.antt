@@ -2,7 +2,7 @@ use Rattle.std.proofs.Common.{arith, ap, length}
 use Rattle.lmn_flatten.proofs.GlossaryLemmas.{grown_length}
 use Rattle.lmn_app_words.specs.Forms.{pair_of, to_pair}
 use Rattle.lmn_app.specs.Pairs.{most_items_of_pair}
-use Rattle.lmn_app.proofs.ListLemmas.{read_accepts, read_refuses}
+use Rattle.lmn_app_single.proofs.ListLemmas.{read_accepts, read_refuses}
 use Rattle.lmn_app.proofs.RequestLemmas.{pair_refused, request_memory}
 use Rattle.lmn_app.proofs.top.perform_pair_on.Goals as goal
 

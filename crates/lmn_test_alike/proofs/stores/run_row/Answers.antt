@@ -2,7 +2,7 @@ use Rattle.std.proofs.Common.{subst, sym, ◌≡◌}
 use Rattle.std.proofs.lemmas.Result.{IfOk-at_ok}
 use Rattle.lmn_schedule_loading.specs.Loaded.{IsEmpty}
 use Rattle.lmn_store_web.specs.WebHeaps.{alone, heap_of}
-use Rattle.lmn_debug.proofs.NewStores.{alone_is_empty}
+use Rattle.lmn_app_drive.proofs.NewStores.{alone_is_empty}
 use Rattle.lmn_test_alike.proofs.stores.run_row.Goals as goal
 
 pub lines_in-web_end-requires-clause-store : goal.lines_in-web_end-requires-clause-store

@@ -1,7 +1,7 @@
 use Rattle.std.proofs.Common.{subst, sym}
 use Rattle.lmn_schedule_loading.specs.Loaded.{IsEmpty}
 use Rattle.lmn_store_web.specs.WebHeaps.{heap_of}
-use Rattle.lmn_debug.proofs.NewStores.{alone_is_empty}
+use Rattle.lmn_app_drive.proofs.NewStores.{alone_is_empty}
 use Rattle.lmn_debug.proofs.beginning.Beginning.engine.Goals as goal
 
 pub load-requires-clause-store : goal.load-requires-clause-store

@@ -1,0 +1,121 @@
+-- What words with one text leave behind is what all words do.
+use Rattle.std.proofs.Common.{◌≡◌, ℕ, List, [], Option, ◌⊎◌, inl, inr, refl, sym, ap, subst, arith}
+use Rattle.std.specs.declared.string.String.{String}
+use Rattle.std.specs.declared.alloc.Global.{Global}
+use Rattle.lmn_io.specs.Counts.{Faults}
+use Rattle.lmn_io.proofs.TakingLemmas.{no_put}
+use Rattle.lmn_app_words.specs.Laws.{OneRequest}
+use Rattle.lmn_app_words.specs.Forms.{Asks, InForm, Pair, Request, to_run, to_compile, to_demo, to_pair}
+use Rattle.lmn_app_single.specs.declared.ending.Ending.{Ending}
+use Rattle.lmn_app_single.specs.declared.ending.Ending.TheVariants.{NoMemory, Words}
+use Rattle.lmn_app_single.specs.Endings.{Concludes, status_of}
+use Rattle.lmn_app_single.specs.Requests.{Asked}
+use Rattle.lmn_app_single.specs.Seen.{ShelfSeen, SinkSeen}
+use Rattle.lmn_app_single.specs.Singles.{EndsSingle, IsAnsweredSingle, SingleEnded, concluded, handed_on, no_form, no_memory, performed}
+use Rattle.lmn_app.specs.CallExamples.{taken}
+use Rattle.lmn_app.specs.Outcomes.{RequestEnded}
+use Rattle.lmn_app.specs.Requests.{Fetches}
+use Rattle.lmn_app.specs.SingleLaws.{ListingIsUnread, NoWordsAreSingle, PairsAreHandedOn, SinglesAreAnswers}
+use Rattle.lmn_app.proofs.MainLemmas.{is_answered, status_most}
+use Rattle.lmn_app.proofs.RequestLemmas.{demo_ended, list_ended, request_memory, run_ended}
+
+-- a request is what is said of all requests
+request_fetches : (c : Request) (e : Ending) (s t : ShelfSeen) (o p : SinkSeen) → SingleEnded c e s t o p → Fetches c s.told s.asked t.asked s.faults t.faults
+request_fetches (to_run run) e s t o p h = h.asked
+request_fetches (to_compile file) e s t o p h = h.asked
+request_fetches (to_demo n) e s t o p h = (ap (λ (x : ShelfSeen). x.asked) h.1, λ name. ap (λ (x : ShelfSeen). x.faults name) h.1)
+request_fetches (to_pair pair) e s t o p h = absurd h
+
+request_ended : (c : Request) (e : Ending) (s t : ShelfSeen) (o p : SinkSeen) → SingleEnded c e s t o p → RequestEnded c e s.told o.told p.told o.faults p.faults s.faults t.faults
+request_ended (to_run run) e s t o p h = run_ended s.told o.told p.told o.faults p.faults s.faults t.faults run _ e refl h.ended
+request_ended (to_compile file) e s t o p h = list_ended s.told o.told p.told o.faults p.faults s.faults t.faults file e h.ended
+request_ended (to_demo n) e s t o p h = demo_ended s.told o.told p.told o.faults p.faults s.faults t.faults n e h.0
+request_ended (to_pair pair) e s t o p h = absurd h
+
+-- where nothing was touched
+same_asked : (s t : ShelfSeen) → t ≡ s → t.asked ≡ s.asked
+same_asked s t is = ap (λ (x : ShelfSeen). x.asked) is
+
+module _ (words : List (String Global)) (e : Ending) (s t : ShelfSeen) (o p : SinkSeen) where
+  -- what the shelf was asked for
+  pub single_asked : EndsSingle words e s t o p → InForm words → Asked words (λ c. Fetches c s.told s.asked t.asked s.faults t.faults) ⊎ ((t.asked ≡ s.asked) × (e ≡ NoMemory))
+  single_asked (performed c asks h) form = inl (c, asks, request_fetches c e s t o p h)
+  single_asked (no_memory said is shelf out) form = inr (same_asked s t shelf, is)
+  single_asked (no_form none is shelf out) form = absurd (none form)
+
+  pub single_not_asked : EndsSingle words e s t o p → ¬ (InForm words) → t.asked ≡ s.asked
+  single_not_asked (performed c asks h) none = absurd (none (c, asks))
+  single_not_asked (no_memory said is shelf out) none = absurd (none said)
+  single_not_asked (no_form n is shelf out) none = same_asked s t shelf
+
+  pub single_unasked : EndsSingle words e s t o p → ¬ (InForm words) → (name : List ℕ) → t.faults name ≡ s.faults name
+  single_unasked (performed c asks h) none name = absurd (none (c, asks))
+  single_unasked (no_memory said is shelf out) none name = absurd (none said)
+  single_unasked (no_form n is shelf out) none name = ap (λ (x : ShelfSeen). x.faults name) shelf
+
+  -- how they ended
+  pub single_ended : EndsSingle words e s t o p → Asked words (λ c. RequestEnded c e s.told o.told p.told o.faults p.faults s.faults t.faults)
+      ⊎ (¬ (InForm words) × (e ≡ Words) × (p.told ≡ o.told) × (p.faults ≡ o.faults))
+  single_ended (performed c asks h) = inl (c, asks, request_ended c e s t o p h)
+  single_ended (no_memory said is shelf out) =
+      let none = request_memory said.0 s.told o.told o.faults s.faults t.faults in
+      let still = subst (λ (q : SinkSeen). RequestEnded said.0 NoMemory s.told o.told q.told o.faults q.faults s.faults t.faults) (sym out) none in
+      inl (said.0, said.1, subst (λ x. RequestEnded said.0 x s.told o.told p.told o.faults p.faults s.faults t.faults) (sym is) still)
+  single_ended (no_form none is shelf out) = inr (none, is, ap (λ (q : SinkSeen). q.told) out, ap (λ (q : SinkSeen). q.faults) out)
+
+-- ---- a program and a second text, where nothing was touched before
+
+module _ (words : List (String Global)) (pair : Pair) (asks : Asks words (to_pair pair)) (s m t : ShelfSeen) (same : m ≡ s) where
+  pub pair_asked : Fetches (to_pair pair) m.told m.asked t.asked m.faults t.faults → Asked words (λ c. Fetches c s.told s.asked t.asked s.faults t.faults)
+  pair_asked h = (to_pair pair, asks, subst (λ (x : ShelfSeen). Fetches (to_pair pair) x.told x.asked t.asked x.faults t.faults) same h)
+
+  pub pair_ended : (e : Ending) (o n p : SinkSeen) → n ≡ o → RequestEnded (to_pair pair) e m.told n.told p.told n.faults p.faults m.faults t.faults
+      → Asked words (λ c. RequestEnded c e s.told o.told p.told o.faults p.faults s.faults t.faults)
+  pair_ended e o n p is h =
+      let here = subst (λ (q : SinkSeen). RequestEnded (to_pair pair) e m.told q.told p.told q.faults p.faults m.faults t.faults) is h in
+      (to_pair pair, asks, subst (λ (x : ShelfSeen). RequestEnded (to_pair pair) e x.told o.told p.told o.faults p.faults x.faults t.faults) same here)
+
+-- ---- the law
+
+-- what is answered with one text is answered so by the whole program
+pub singles_are_answers : OneRequest → SinglesAreAnswers
+singles_are_answers one args result s t o p e f (concluded ending h k) not =
+    is_answered one args s.told s.faults t.faults o.told p.told e.told f.told o.faults p.faults e.faults f.faults result s.asked t.asked t.told ending
+    (single_asked args ending s t o p h) (single_not_asked args ending s t o p h) (single_unasked args ending s t o p h) (single_ended args ending s t o p h) k
+singles_are_answers one args result s t o p e f (handed_on pair asks is shelf out err) not = absurd (not is)
+
+-- ---- examples
+
+no_words : ¬ (InForm [])
+no_words form = form.1
+
+-- no ending is answered by 12
+not_twelve : (e : Ending) (eo en : Option (List ℕ)) (eb ea : Faults) → ¬ (Concludes e 12 eo en eb ea)
+not_twelve e eo en eb ea (inl k) = let most = status_most e in let is = k.0 in omega (arith, most, is)
+not_twelve e eo en eb ea (inr k) = let is = k.0 in omega (arith, is)
+
+pub no_words_are_single : NoWordsAreSingle
+no_words_are_single shelf = (concluded Words (no_form no_words refl refl refl) (inl (refl, refl, refl, omega arith)), λ t p f h. none t p f h)
+  where
+    none : (t : ShelfSeen) (p f : SinkSeen) → IsAnsweredSingle [] 12 shelf t (taken []) p (taken []) f → ⊥
+    none t p f (concluded e h k) = not_twelve e _ _ _ _ k
+    none t p f (handed_on pair asks is s o x) = no_words (to_pair pair, asks)
+
+pub pairs_are_handed_on : OneRequest → PairsAreHandedOn
+pairs_are_handed_on one args pair asks shelf out err = (handed_on pair asks refl refl refl refl, λ t p f h. none t p f h)
+  where
+    not_memory : (e : Ending) (eo en : Option (List ℕ)) (eb ea : Faults) → e ≡ NoMemory → ¬ (Concludes e 0 eo en eb ea)
+    not_memory e eo en eb ea is (inl k) = let six = subst (λ x. 0 ≡ status_of x) is k.0 in omega (arith, six)
+    not_memory e eo en eb ea is (inr k) = let five = k.0 in omega (arith, five)
+
+    none : (t : ShelfSeen) (p f : SinkSeen) → IsAnsweredSingle args 0 shelf t out p err f → ⊥
+    none t p f (concluded e (performed c said h) k) = subst (λ x. SingleEnded x e shelf t out p) ((one args (to_pair pair) asks).1 c said) h
+    none t p f (concluded e (no_memory said is s o) k) = not_memory e _ _ _ _ is k
+    none t p f (concluded e (no_form n is s o) k) = n (to_pair pair, asks)
+    none t p f (handed_on q said is s o x) = omega (arith, is)
+
+pub listing_is_unread : ListingIsUnread
+listing_is_unread shelf out = (
+  record { ended = record { cause = omega arith; output = refl; counts = no_put out.faults }; asked = refl },
+  λ h. let ended = h.ended in ended.cause,
+)

@@ -1,0 +1,10 @@
+pub mod Demos
+pub mod Endings
+pub mod Outcomes
+pub mod Requests
+pub mod Runnings
+pub mod Runs
+pub mod Seen
+pub mod Singles
+pub mod Texts
+pub mod Writing
