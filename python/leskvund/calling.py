@@ -19,7 +19,7 @@ def find_program() -> str:
     """The program: what the variable LMN names, else the one that was built in this repository, else `lmn` of PATH."""
     program: str | None = found()
     if program is None:
-        raise ProgramMissing('no program: LMN names none, crates/lmn/out/lmn is not built (./lmn demo 1 builds it), and no lmn is on PATH')
+        raise ProgramMissing('no program: LMN names none, crates/lmn/out/lmn is not built (./lmn --build builds it), and no lmn is on PATH')
     return program
 
 

@@ -36,7 +36,7 @@ def texts_of_pages() -> list[str]:
 def pytest_collection_modifyitems(items: list[pytest.Item]) -> None:
     """Without a program a test that needs one says so and is skipped."""
     if found() is None:
-        skip = pytest.mark.skip(reason='no program is built: ./lmn demo 1 builds it, or LMN names one')
+        skip = pytest.mark.skip(reason='no program is built: ./lmn --build builds it, or LMN names one')
         for item in items:
             if item.get_closest_marker('no_program') is None:
                 item.add_marker(skip)

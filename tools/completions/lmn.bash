@@ -10,7 +10,7 @@ _lmn() {
         word=
     fi
     if [ "$COMP_CWORD" -eq 1 ]; then
-        COMPREPLY=($(compgen -W 'run compile demo check debug exec bound --help --version --unproved' -- "$word"))
+        COMPREPLY=($(compgen -W 'run compile demo check debug exec bound --help --version --build --unproved' -- "$word"))
         return
     fi
     case $command in

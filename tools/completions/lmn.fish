@@ -24,6 +24,7 @@ complete -c lmn -n '__fish_use_subcommand' -a exec -d 'run a text by the instruc
 complete -c lmn -n '__fish_use_subcommand' -a bound -d 'bound the firings by weights of atoms'
 complete -c lmn -n '__fish_use_subcommand' -l help -d 'tell how it is called'
 complete -c lmn -n '__fish_use_subcommand' -l version -d 'tell which sources it is of'
+complete -c lmn -n '__fish_use_subcommand' -l build -d 'prove and build the program for all commands'
 complete -c lmn -n '__fish_use_subcommand' -l unproved -d 'run the same sources without a proof'
 complete -c lmn -n '__fish_seen_subcommand_from run' -l trace -d 'print every process'
 complete -c lmn -n '__fish_seen_subcommand_from run' -l folded -d 'print atoms in the arguments of others, and lists'

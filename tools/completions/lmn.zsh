@@ -12,7 +12,7 @@ commands=(
 )
 if (( CURRENT == 2 )); then
     _describe -t commands 'command' commands
-    compadd -- --help --version --unproved
+    compadd -- --help --version --build --unproved
     return
 fi
 case $words[2] in
