@@ -5,7 +5,7 @@ ghost use Rattle.lmn_verify_code.specs.Verified.{looks_at, is_looked_at, all_loo
 
 use crate::found::FoundPart;
 use lmn_guards::TypeKind;
-use lmn_instr_code::Instr;
+use lmn_instr_code::{Instr, operands_of};
 
 /// Whether FUNC and INMEM of a register stand first.
 fn looks_at(atom: u16, code: &[Instr]) -> bool
@@ -140,40 +140,7 @@ pub(crate) fn all_get_integers(parts: &[FoundPart], head: &[Instr]) -> bool
 fn is_of_head(instr: &Instr) -> bool
     ensures { result ≡ is_of_head instr.now }
 {
-    match instr {
-        Instr::FindAtom { .. } => true,
-        Instr::Deref { .. } => true,
-        Instr::Func { .. } => true,
-        Instr::InMem { .. } => true,
-        Instr::NeqAtom { .. } => true,
-        Instr::Joined { .. } => true,
-        Instr::NotIn { .. } => true,
-        Instr::AnyMem { .. } => true,
-        Instr::NeqMem { .. } => true,
-        Instr::IsInt { .. } => true,
-        Instr::IsUnary { .. } => true,
-        Instr::IsGround { .. } => true,
-        Instr::NAtoms { .. } => true,
-        Instr::NMems { .. } => true,
-        Instr::NoRules { .. } => true,
-        Instr::IsClosed { .. } => true,
-        Instr::EqGround { .. } => true,
-        Instr::NeqGround { .. } => true,
-        Instr::GetInt { .. } => true,
-        Instr::Const { .. } => true,
-        Instr::Add { .. } => true,
-        Instr::Sub { .. } => true,
-        Instr::Mul { .. } => true,
-        Instr::Div { .. } => true,
-        Instr::Mod { .. } => true,
-        Instr::Lt { .. } => true,
-        Instr::Le { .. } => true,
-        Instr::Gt { .. } => true,
-        Instr::Ge { .. } => true,
-        Instr::Eq { .. } => true,
-        Instr::Ne { .. } => true,
-        _ => false,
-    }
+    operands_of(instr).opcode.is_in_head() && !is_commit(instr)
 }
 
 /// Whether an instruction is COMMIT.
