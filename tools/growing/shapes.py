@@ -124,6 +124,12 @@ def spoiled(program, text, n):
     return first + '\n' + second[:-len('b)}.')] + 'c)}.\n'
 
 
+def spoiled_late(program, text, n):
+    """The first line of a trace twice; the last item of the second one is another one."""
+    first = program(['run', '--trace', '--budget', '0'], text).split('\n')[0]
+    return first + '\n' + first[:-len('b)}.')] + 'c)}.\n'
+
+
 def trace(*words):
     return lambda program, text, n: program(['run', '--trace', *words], text)
 
@@ -265,6 +271,7 @@ OTHERS = [
     Shape('check: a wrong line', 50, lambda n: clauses(['{a. a:-b.}'] * n), command='check', second=end_of('wrong.\n')),
     Shape('check: a wrong line, and a ground part in each head', 50, lambda n: clauses(['{a(x). a($g):-ground($g)|b($g).}'] * n), command='check', second=end_of('wrong.\n')),
     Shape('check: a wrong line as long as the right ones', 25, lambda n: clauses(['{a. a:-b.}'] * n), command='check', second=spoiled),
+    Shape('check: a wrong line that differs at its end', 25, lambda n: clauses(['{a. a:-b.}'] * n), command='check', second=spoiled_late),
     Shape('check: an end behind what copies', 12, copies, command='check', second=end_of('% full after 0\n')),
     Shape('check: a wrong line behind what copies', 12, copies, command='check', second=end_of('wrong.\n')),
     Shape('debug: until so many are there', 300, lambda n: 'a. a:-a,b.', command='debug', second=script('until b/0 >= {}\n')),
