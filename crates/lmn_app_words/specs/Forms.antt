@@ -167,19 +167,33 @@ pub record AsksRun (words : List CommandWord) (run : Run) : Type 0 where
   pub seeded : OnlyOr 0 (filter_map seed_of settings) seed
   pub order : run.order ≡ ordered_by order_name seed
 
--- These texts ask for this: the words behind `compile` are one file, behind `demo` one number, and behind a command with a second
--- text two files.
+-- the words are this one file
+abbrev pub AsksCompile : List CommandWord → CommandWord → Type 0
+AsksCompile words file = (words ≡ file ∷ []) × IsFileName file
+
+-- the words behind `demo` are this one number
+abbrev pub AsksDemo : List CommandWord → ℕ → Type 0
+AsksDemo words n = (word : CommandWord) × (words ≡ word ∷ []) × IsNumber 1 100000 word n
+
+-- the words are these two files
+abbrev pub AsksPair : List CommandWord → Pair → Type 0
+AsksPair words p = (words ≡ standing_first p.kind p.file p.second ∷ standing_last p.kind p.file p.second ∷ []) × IsFileName p.file × IsFileName p.second
+
+-- the bytes of each word
+abbrev pub texts_of : List (String Global) → List CommandWord
+texts_of = map string_bytes
+
+-- these texts ask for this
 abbrev pub TextsAsk : List CommandWord → Request → Type 0
 TextsAsk [] request = ⊥
 TextsAsk (first ∷ words) (to_run run) = (first ≡ codes "run") × AsksRun words run
-TextsAsk (first ∷ words) (to_compile file) = (first ≡ codes "compile") × (words ≡ file ∷ []) × IsFileName file
-TextsAsk (first ∷ words) (to_demo n) = (first ≡ codes "demo") × ((word : CommandWord) × (words ≡ word ∷ []) × IsNumber 1 100000 word n)
-TextsAsk (first ∷ words) (to_pair p) =
-    (first ≡ pair_word p.kind) × (words ≡ standing_first p.kind p.file p.second ∷ standing_last p.kind p.file p.second ∷ []) × IsFileName p.file × IsFileName p.second
+TextsAsk (first ∷ words) (to_compile file) = (first ≡ codes "compile") × AsksCompile words file
+TextsAsk (first ∷ words) (to_demo n) = (first ≡ codes "demo") × AsksDemo words n
+TextsAsk (first ∷ words) (to_pair pair) = (first ≡ pair_word pair.kind) × AsksPair words pair
 
 -- the words ask for this
 abbrev pub Asks : List (String Global) → Request → Type 0
-Asks words = TextsAsk (map string_bytes words)
+Asks words = TextsAsk (texts_of words)
 
 -- the words are of the form: they ask for something
 abbrev pub InForm : List (String Global) → Type 0
@@ -193,22 +207,6 @@ IsInRanges (to_demo n) = (1 ≤ n) × (n ≤ 100000)
 IsInRanges (to_pair pair) = ⊤
 
 -- ---- the form, without what is asked for: the law `FormsAsk` says that it is the same form
-
--- the bytes of each word
-abbrev pub texts_of : List (String Global) → List CommandWord
-texts_of = map string_bytes
-
--- the words are this one file
-abbrev pub AsksCompile : List CommandWord → CommandWord → Type 0
-AsksCompile words file = (words ≡ file ∷ []) × IsFileName file
-
--- the words behind `demo` are this one number
-abbrev pub AsksDemo : List CommandWord → ℕ → Type 0
-AsksDemo words n = (word : CommandWord) × (words ≡ word ∷ []) × IsNumber 1 100000 word n
-
--- the words are these two files
-abbrev pub AsksPair : List CommandWord → Pair → Type 0
-AsksPair words p = (words ≡ standing_first p.kind p.file p.second ∷ standing_last p.kind p.file p.second ∷ []) × IsFileName p.file × IsFileName p.second
 
 -- one file, and each option at most once
 abbrev pub IsRunForm : List CommandWord → Type 0
