@@ -95,10 +95,10 @@ not_twelve e eo en eb ea (inl k) = let most = status_most e in let is = k.0 in o
 not_twelve e eo en eb ea (inr k) = let is = k.0 in omega (arith, is)
 
 pub no_words_are_single : NoWordsAreSingle
-no_words_are_single shelf = (concluded Words (no_form no_words refl refl refl) (inl (refl, refl, refl, omega arith)), λ t p f h. none t p f h)
+no_words_are_single shelf = (concluded Words (no_form no_words refl refl refl) (inl (refl, refl, (refl, omega arith))), λ t p f h. none t p f h)
   where
     none : (t : ShelfSeen) (p f : SinkSeen) → IsAnsweredSingle [] 12 shelf t (taken []) p (taken []) f → ⊥
-    none t p f (concluded e h k) = not_twelve e _ _ _ _ k
+    none t p f (concluded e h k) = not_twelve e (taken []).told f.told (taken []).faults f.faults k
     none t p f (handed_on pair asks is s o x) = no_words (to_pair pair, asks)
 
 pub pairs_are_handed_on : OneRequest → PairsAreHandedOn

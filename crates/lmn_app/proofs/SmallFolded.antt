@@ -21,8 +21,10 @@ first_folded : IsFoldedLine (changing (label_a ∷ [])) (codes "a. (a :- b).\n")
 first_folded = record {
   given = _;
   folds = computed (changing (label_a ∷ [])) _ (λ x. omega arith) refl;
-  numbered = _;
-  numbers = record { to = λ x. x; one_to_one = λ x y a b e. e; is = refl; count = 0; by_first_occurrence = no_more };
+  to = λ x. x;
+  one_to_one = λ x y a b e. e;
+  count = 0;
+  by_first_occurrence = no_more;
   is = refl;
 }
 
@@ -30,8 +32,10 @@ last_folded : IsFoldedLine (changing (label_b ∷ [])) (codes "b. (a :- b).\n")
 last_folded = record {
   given = _;
   folds = computed (changing (label_b ∷ [])) _ (λ x. omega arith) refl;
-  numbered = _;
-  numbers = record { to = λ x. x; one_to_one = λ x y a b e. e; is = refl; count = 0; by_first_occurrence = no_more };
+  to = λ x. x;
+  one_to_one = λ x y a b e. e;
+  count = 0;
+  by_first_occurrence = no_more;
   is = refl;
 }
 
