@@ -28,8 +28,8 @@ take_turn-answer-requires-clause-codes g c =
       inner = c.requires.run.inner;
     }))
 
-pub returns-then-answer-eq0-clause-turned : goal.returns-then-answer-eq0-clause-turned
-returns-then-answer-eq0-clause-turned g c k gives names solid o =
+pub returns-then-eq-clause-turned : goal.returns-then-eq-clause-turned
+returns-then-eq-clause-turned g c k gives names solid o =
     let h = g.S.LinkStore.heap c.args.self.now.machine.store in
     let f = tree_over h o.inner in
     let counts = subst (λ s. (f : Forest) → IsTree (g.S.LinkStore.heap s) f → c.membranes-many.result ≡ length (flat f)) c.store.ensures c.membranes-many.ensures in
@@ -42,8 +42,8 @@ returns-then-answer-eq0-clause-turned g c k gives names solid o =
     c.take_turn-answer.result (g.S.LinkStore.heap c.take_turn-answer.new.machine.store) c.take_turn-answer.ensures.again.turn.valid
     (subst (λ xs. IsAwakeTurn true h xs f c.pick-from.result c.args.self.now.size c.take_turn-answer.result (g.S.LinkStore.heap c.take_turn-answer.new.machine.store)) refl (c.take_turn-answer.ensures.turned f o.tree))
 
-pub returns-else-answer-eq0-clause-turned : goal.returns-else-answer-eq0-clause-turned
-returns-else-answer-eq0-clause-turned g c k gives names solid o =
+pub returns-else-eq-clause-turned : goal.returns-else-eq-clause-turned
+returns-else-eq-clause-turned g c k gives names solid o =
     let h = g.S.LinkStore.heap c.args.self.now.machine.store in
     let f = tree_over h o.inner in
     let counts = subst (λ s. (f : Forest) → IsTree (g.S.LinkStore.heap s) f → c.membranes-many.result ≡ length (flat f)) c.store.ensures c.membranes-many.ensures in
@@ -56,8 +56,8 @@ returns-else-answer-eq0-clause-turned g c k gives names solid o =
     c.take_turn-answer.result (g.S.LinkStore.heap c.take_turn-answer.new.machine.store) c.take_turn-answer.ensures.again.turn.valid
     (subst (λ xs. IsAwakeTurn true h xs f c.pick-from.result c.args.self.now.size c.take_turn-answer.result (g.S.LinkStore.heap c.take_turn-answer.new.machine.store)) refl (c.take_turn-answer.ensures.turned f o.tree))
 
-pub returns-then-answer-eq0-clause-chosen : goal.returns-then-answer-eq0-clause-chosen
-returns-then-answer-eq0-clause-chosen g c =
+pub returns-then-eq-clause-chosen : goal.returns-then-eq-clause-chosen
+returns-then-eq-clause-chosen g c =
     let h = g.S.LinkStore.heap c.args.self.now.machine.store in
     let h' = g.S.LinkStore.heap c.take_turn-answer.new.machine.store in
     let table = c.args.self.now.plain.now.rules in
@@ -80,8 +80,8 @@ returns-then-answer-eq0-clause-chosen g c =
       );
     }
 
-pub returns-else-answer-eq0-clause-chosen : goal.returns-else-answer-eq0-clause-chosen
-returns-else-answer-eq0-clause-chosen g c =
+pub returns-else-eq-clause-chosen : goal.returns-else-eq-clause-chosen
+returns-else-eq-clause-chosen g c =
     let h = g.S.LinkStore.heap c.args.self.now.machine.store in
     let h' = g.S.LinkStore.heap c.take_turn-answer.new.machine.store in
     let table = c.args.self.now.plain.now.rules in
@@ -104,22 +104,22 @@ returns-else-answer-eq0-clause-chosen g c =
       );
     }
 
-pub returns-then-answer-eq0-clause-kept : goal.returns-then-answer-eq0-clause-kept
-returns-then-answer-eq0-clause-kept g c =
+pub returns-then-eq-clause-kept : goal.returns-then-eq-clause-kept
+returns-then-eq-clause-kept g c =
     let h = g.S.LinkStore.heap c.args.self.now.machine.store in
     let tree = c.requires.run.turn.valid.tree in
     kept_heap h (g.S.LinkStore.heap c.take_turn-answer.new.machine.store) c.args.self.now.codes tree.0 c.pick-from.result c.args.self.now.size c.take_turn-answer.result
     (subst (λ xs. IsAwakeTurn true h xs tree.0 c.pick-from.result c.args.self.now.size c.take_turn-answer.result (g.S.LinkStore.heap c.take_turn-answer.new.machine.store)) refl (c.take_turn-answer.ensures.turned tree.0 tree.1))
 
-pub returns-else-answer-eq0-clause-kept : goal.returns-else-answer-eq0-clause-kept
-returns-else-answer-eq0-clause-kept g c =
+pub returns-else-eq-clause-kept : goal.returns-else-eq-clause-kept
+returns-else-eq-clause-kept g c =
     let h = g.S.LinkStore.heap c.args.self.now.machine.store in
     let tree = c.requires.run.turn.valid.tree in
     kept_heap h (g.S.LinkStore.heap c.take_turn-answer.new.machine.store) c.args.self.now.codes tree.0 c.pick-from.result c.args.self.now.size c.take_turn-answer.result
     (subst (λ xs. IsAwakeTurn true h xs tree.0 c.pick-from.result c.args.self.now.size c.take_turn-answer.result (g.S.LinkStore.heap c.take_turn-answer.new.machine.store)) refl (c.take_turn-answer.ensures.turned tree.0 tree.1))
 
-pub returns-then-answer-eq0-clause-again : goal.returns-then-answer-eq0-clause-again
-returns-then-answer-eq0-clause-again g c =
+pub returns-then-eq-clause-again : goal.returns-then-eq-clause-again
+returns-then-eq-clause-again g c =
     let h' = g.S.LinkStore.heap c.take_turn-answer.new.machine.store in
     let codes = c.args.self.now.codes in
     let quiet = c.tables_are_quiet.ensures codes (record {
@@ -139,8 +139,8 @@ returns-then-answer-eq0-clause-again g c =
       small = c.requires.run.small;
     }
 
-pub returns-else-answer-eq0-clause-again : goal.returns-else-answer-eq0-clause-again
-returns-else-answer-eq0-clause-again g c =
+pub returns-else-eq-clause-again : goal.returns-else-eq-clause-again
+returns-else-eq-clause-again g c =
     let h' = g.S.LinkStore.heap c.take_turn-answer.new.machine.store in
     let codes = c.args.self.now.codes in
     let quiet = c.tables_are_quiet.ensures codes (record {

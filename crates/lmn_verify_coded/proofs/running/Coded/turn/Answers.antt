@@ -21,30 +21,30 @@ take_turn-answer-requires-clause-ready g c =
     let h = g.S.LinkStore.heap c.args.self.now.machine.store in
     record { turn = subst (λ xs. CanTurn h (length xs)) refl c.requires.run.turn; sleeps = subst (SleepsRightly h) refl c.requires.run.sleeps }
 
-pub returns-then-answer-eq0-clause-turned : goal.returns-then-answer-eq0-clause-turned
-returns-then-answer-eq0-clause-turned g c =
+pub returns-then-eq-clause-turned : goal.returns-then-eq-clause-turned
+returns-then-eq-clause-turned g c =
     let h = g.S.LinkStore.heap c.args.self.now.machine.store in
     let h' = g.S.LinkStore.heap c.take_turn-answer.new.machine.store in
     let t = c.requires.run.turn.valid.tree in
     coded_turn h c.args.self.now.codes t.0 t.1 c.args.self.now.size c.take_turn-answer.result h'
     (subst (λ xs. IsAwakeTurn true h xs t.0 0 c.args.self.now.size c.take_turn-answer.result h') refl (c.take_turn-answer.ensures.turned t.0 t.1))
 
-pub returns-then-answer-eq0-clause-flags : goal.returns-then-answer-eq0-clause-flags
-returns-then-answer-eq0-clause-flags g c f tree =
+pub returns-then-eq-clause-flags : goal.returns-then-eq-clause-flags
+returns-then-eq-clause-flags g c f tree =
     let h = g.S.LinkStore.heap c.args.self.now.machine.store in
     let h' = g.S.LinkStore.heap c.take_turn-answer.new.machine.store in
     subst (λ xs. IsAwakeTurn true h xs f 0 c.args.self.now.size c.take_turn-answer.result h') refl (c.take_turn-answer.ensures.turned f tree)
 
-pub returns-then-answer-eq0-clause-kept : goal.returns-then-answer-eq0-clause-kept
-returns-then-answer-eq0-clause-kept g c =
+pub returns-then-eq-clause-kept : goal.returns-then-eq-clause-kept
+returns-then-eq-clause-kept g c =
     let h = g.S.LinkStore.heap c.args.self.now.machine.store in
     let h' = g.S.LinkStore.heap c.take_turn-answer.new.machine.store in
     let t = c.requires.run.turn.valid.tree in
     kept_heap h h' c.args.self.now.codes t.0 0 c.args.self.now.size c.take_turn-answer.result
     (subst (λ xs. IsAwakeTurn true h xs t.0 0 c.args.self.now.size c.take_turn-answer.result h') refl (c.take_turn-answer.ensures.turned t.0 t.1))
 
-pub returns-then-answer-eq0-clause-again : goal.returns-then-answer-eq0-clause-again
-returns-then-answer-eq0-clause-again g c =
+pub returns-then-eq-clause-again : goal.returns-then-eq-clause-again
+returns-then-eq-clause-again g c =
     let h' = g.S.LinkStore.heap c.take_turn-answer.new.machine.store in
     record {
       turn = subst (λ xs. CanTurn h' (length xs)) refl c.take_turn-answer.ensures.again.turn;
@@ -54,30 +54,30 @@ returns-then-answer-eq0-clause-again g c =
       small = c.requires.run.small;
     }
 
-pub returns-else-answer-eq0-clause-turned : goal.returns-else-answer-eq0-clause-turned
-returns-else-answer-eq0-clause-turned g c =
+pub returns-else-eq-clause-turned : goal.returns-else-eq-clause-turned
+returns-else-eq-clause-turned g c =
     let h = g.S.LinkStore.heap c.args.self.now.machine.store in
     let h' = g.S.LinkStore.heap c.take_turn-answer.new.machine.store in
     let t = c.requires.run.turn.valid.tree in
     coded_turn h c.args.self.now.codes t.0 t.1 c.args.self.now.size c.take_turn-answer.result h'
     (subst (λ xs. IsAwakeTurn true h xs t.0 0 c.args.self.now.size c.take_turn-answer.result h') refl (c.take_turn-answer.ensures.turned t.0 t.1))
 
-pub returns-else-answer-eq0-clause-flags : goal.returns-else-answer-eq0-clause-flags
-returns-else-answer-eq0-clause-flags g c f tree =
+pub returns-else-eq-clause-flags : goal.returns-else-eq-clause-flags
+returns-else-eq-clause-flags g c f tree =
     let h = g.S.LinkStore.heap c.args.self.now.machine.store in
     let h' = g.S.LinkStore.heap c.take_turn-answer.new.machine.store in
     subst (λ xs. IsAwakeTurn true h xs f 0 c.args.self.now.size c.take_turn-answer.result h') refl (c.take_turn-answer.ensures.turned f tree)
 
-pub returns-else-answer-eq0-clause-kept : goal.returns-else-answer-eq0-clause-kept
-returns-else-answer-eq0-clause-kept g c =
+pub returns-else-eq-clause-kept : goal.returns-else-eq-clause-kept
+returns-else-eq-clause-kept g c =
     let h = g.S.LinkStore.heap c.args.self.now.machine.store in
     let h' = g.S.LinkStore.heap c.take_turn-answer.new.machine.store in
     let t = c.requires.run.turn.valid.tree in
     kept_heap h h' c.args.self.now.codes t.0 0 c.args.self.now.size c.take_turn-answer.result
     (subst (λ xs. IsAwakeTurn true h xs t.0 0 c.args.self.now.size c.take_turn-answer.result h') refl (c.take_turn-answer.ensures.turned t.0 t.1))
 
-pub returns-else-answer-eq0-clause-again : goal.returns-else-answer-eq0-clause-again
-returns-else-answer-eq0-clause-again g c =
+pub returns-else-eq-clause-again : goal.returns-else-eq-clause-again
+returns-else-eq-clause-again g c =
     let h' = g.S.LinkStore.heap c.take_turn-answer.new.machine.store in
     record {
       turn = subst (λ xs. CanTurn h' (length xs)) refl c.take_turn-answer.ensures.again.turn;
