@@ -2,7 +2,7 @@ ghost use Rattle.std.specs.Prelude.{◌≡◌};
 ghost use Rattle.lmn_app_runs.specs.Runs.{word_of_stop};
 
 /// Why a run stopped.
-#[derive(Clone, Copy)]
+#[derive(Clone, Copy, PartialEq, Eq)]
 pub enum Stop {
     /// No rule has a match.
     Irreducible,
