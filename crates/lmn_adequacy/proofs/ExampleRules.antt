@@ -1,9 +1,10 @@
 -- Small rules that are accepted.
 use Rattle.std.proofs.Common.{ℕ, List, refl, inl, inr, arith, ◌≡◌, ◌+◌, ◌⊎◌, [], ◌∷◌}
+use Rattle.lmn_base.specs.declared.guard.Arith.TheVariants.{Add}
 use Rattle.lmn_congruence.specs.LinkedRules.{LinkedRule}
 use Rattle.lmn_congruence.specs.Links.{one_if_same}
 use Rattle.lmn_congruence.specs.Orders.{Among, at_head, further, here, more, none}
-use Rattle.lmn_congruence.specs.Rules.{Level, Levels, Name, equates, level, level_and, no_level, no_rule, operation, plus, value_of}
+use Rattle.lmn_congruence.specs.Rules.{Level, Levels, Name, equates, level, level_and, no_level, no_rule, operation, value_of}
 use Rattle.lmn_reduction.specs.Examples.{add_up, double_rules, letter_x, letter_y, letter_z}
 use Rattle.lmn_adequacy.specs.Accepted.{Accepted, GivesType, UsedIn, all_asked, binding_in_turn, by_value, here_used, left_used, right_used}
 use Rattle.lmn_adequacy.specs.Examples.{TheseAreAccepted, open_membrane}
@@ -108,14 +109,14 @@ add_accepted = record {
     not_in_head : ¬ (Among letter_z (letter_x ∷ letter_y ∷ []))
     not_in_head = apart z_x (apart z_y nothing_among)
 
-    used : (q : Name) → UsedIn q (operation plus (value_of letter_x) (value_of letter_y)) → Among q (letter_x ∷ letter_y ∷ []) ⊎ Among q []
+    used : (q : Name) → UsedIn q (operation Add (value_of letter_x) (value_of letter_y)) → Among q (letter_x ∷ letter_y ∷ []) ⊎ Among q []
     used q (left_used here_used) = inl at_head
     used q (right_used here_used) = inl (further at_head)
 
     bound_name : (p : Name) → Among p (letter_z ∷ []) → Among p (letter_x ∷ letter_y ∷ []) ⊎ Among p (letter_z ∷ [])
     bound_name p k = inr k
 
-    typed_by : (p : Name) → Among p (letter_x ∷ letter_y ∷ []) → GivesType p (equates letter_z (operation plus (value_of letter_x) (value_of letter_y)))
+    typed_by : (p : Name) → Among p (letter_x ∷ letter_y ∷ []) → GivesType p (equates letter_z (operation Add (value_of letter_x) (value_of letter_y)))
     typed_by p at_head = by_value (left_used here_used)
     typed_by p (further at_head) = by_value (right_used here_used)
     typed_by p (further (further k)) = elim k [ ]

@@ -1,9 +1,11 @@
 -- When the tree of a rule is accepted: what the refusals of texts keep out, said of trees. The limits on sizes and the
 -- form in which a context is written aren't asked here.
 use Rattle.std.specs.Prelude.{ℕ, List, ◌≡◌, ◌⊎◌, [], ◌∷◌, ◌++◌}
+use Rattle.lmn_base.specs.declared.guard.Arith.{Arith}
+use Rattle.lmn_base.specs.declared.guard.Cmp.{Cmp}
 use Rattle.lmn_congruence.specs.LinkedRules.{LinkedRule}
 use Rattle.lmn_congruence.specs.Orders.{Among, Shuffle, EachOnce}
-use Rattle.lmn_congruence.specs.Rules.{Arithmetic, Comparison, Condition, Context, Expression, Kind, Leaf, Level, Levels, Name, Rule, Rules, atom_leaf, body_of, closed_context, compares, connector_leaf, differs, equates, guard_of, head_of, is_kind, level, level_and, no_level, no_rule, open_context, operation, rule_and, rule_of, typed_leaf, unknown, value_of}
+use Rattle.lmn_congruence.specs.Rules.{Condition, Context, Expression, Kind, Leaf, Level, Levels, Name, Rule, Rules, atom_leaf, body_of, closed_context, compares, connector_leaf, differs, equates, guard_of, head_of, is_kind, level, level_and, no_level, no_rule, open_context, operation, rule_and, rule_of, typed_leaf, unknown, value_of}
 use Rattle.lmn_reduction.specs.Firing.{typed_contexts}
 
 -- what holds of a level and of each level of a membrane in it, at any depth
@@ -110,15 +112,15 @@ AtMostOne (x ∷ (y ∷ zs)) = ⊥
 -- a context is used in an expression
 pub data UsedIn (p : Name) : Expression → Type 0 where
   here_used : UsedIn p (value_of p)
-  left_used : {o : Arithmetic} {e f : Expression} → UsedIn p e → UsedIn p (operation o e f)
-  right_used : {o : Arithmetic} {e f : Expression} → UsedIn p f → UsedIn p (operation o e f)
+  left_used : {o : Arith} {e f : Expression} → UsedIn p e → UsedIn p (operation o e f)
+  right_used : {o : Arith} {e f : Expression} → UsedIn p f → UsedIn p (operation o e f)
 
 -- a condition gives a context of the head its type: it names the type, it computes with the context, or it compares
 -- the context with another one
 pub data GivesType (p : Name) : Condition → Type 0 where
   by_kind : {k : Kind} → GivesType p (is_kind k p)
-  by_left : {c : Comparison} {e f : Expression} → UsedIn p e → GivesType p (compares c e f)
-  by_right : {c : Comparison} {e f : Expression} → UsedIn p f → GivesType p (compares c e f)
+  by_left : {c : Cmp} {e f : Expression} → UsedIn p e → GivesType p (compares c e f)
+  by_right : {c : Cmp} {e f : Expression} → UsedIn p f → GivesType p (compares c e f)
   by_value : {q : Name} {e : Expression} → UsedIn p e → GivesType p (equates q e)
   by_equality : {e : Expression} → GivesType p (equates p e)
   by_difference_left : {q : Name} → GivesType p (differs p q)
@@ -139,7 +141,7 @@ pub data InTurn (heads : List Name) : List Name → List Condition → Type 0 wh
   all_asked : {bound : List Name} → InTurn heads bound []
   kind_in_turn : {bound : List Name} {k : Kind} {p : Name} {cs : List Condition} →
       Among p heads → InTurn heads bound cs → InTurn heads bound (is_kind k p ∷ cs)
-  comparison_in_turn : {bound : List Name} {c : Comparison} {e f : Expression} {cs : List Condition} →
+  comparison_in_turn : {bound : List Name} {c : Cmp} {e f : Expression} {cs : List Condition} →
       ((p : Name) → UsedIn p e ⊎ UsedIn p f → Among p heads ⊎ Among p bound) → InTurn heads bound cs →
       InTurn heads bound (compares c e f ∷ cs)
   binding_in_turn : {bound : List Name} {p : Name} {e : Expression} {cs : List Condition} →

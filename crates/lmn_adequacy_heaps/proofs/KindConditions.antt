@@ -3,6 +3,7 @@ use Rattle.std.specs.Prelude.{◌↔◌}
 use Rattle.std.proofs.Common.{ℕ, zero, suc, ◌≡◌, ◌+◌, ◌<◌, ◌⊎◌, ◌==◌, Bool, true, false, cond, List, [], ◌∷◌, ◌++◌, map, length, Option, Some, None, All, refl, sym, ap, subst, ◌∙◌, arith}
 use Rattle.std.specs.Prelude.{ℤ, slice_get}
 use Rattle.std.specs.List.{flat_map}
+use Rattle.lmn_base.specs.declared.guard.Cmp.{Cmp}
 use Rattle.lmn_base.specs.declared.functor.TheConstants.{INT_NAME, UNARY_NAME, GROUND_NAME}
 use Rattle.lmn_base.specs.declared.functor.Label.TheVariants.{Name as ByName}
 use Rattle.lmn_base.specs.declared.guard.Cond.{Cond}
@@ -113,17 +114,17 @@ module _ (h : Heap) (names : List tree.Name) (heads : List tree.Name) (t : Assig
   holds_first (condition_and a b) = (a, b)
 
   -- a comparison that holds: both values, and that they stand so
-  pub record Compared (c : tree.Comparison) (e f : tree.Expression) : Type 0 where
+  pub record Compared (c : Cmp) (e f : tree.Expression) : Type 0 where
     pub left : ℤ
     pub right : ℤ
     pub first : Value t e left
     pub second : Value t f right
     pub stand : StandInTree c left right
 
-  pub compared : {c : tree.Comparison} {e f : tree.Expression} → Holds heads t (tree.compares c e f) → Compared c e f
+  pub compared : {c : Cmp} {e f : tree.Expression} → Holds heads t (tree.compares c e f) → Compared c e f
   compared (in_order a b s) = record { left = _; right = _; first = a; second = b; stand = s }
 
-  pub turn_compared : {bound : List tree.Name} {c : tree.Comparison} {e f : tree.Expression} {cs : List tree.Condition} → InTurn heads bound (tree.compares c e f ∷ cs) → ((p : tree.Name) → UsedIn p e ⊎ UsedIn p f → Among p heads ⊎ Among p bound) × InTurn heads bound cs
+  pub turn_compared : {bound : List tree.Name} {c : Cmp} {e f : tree.Expression} {cs : List tree.Condition} → InTurn heads bound (tree.compares c e f ∷ cs) → ((p : tree.Name) → UsedIn p e ⊎ UsedIn p f → Among p heads ⊎ Among p bound) × InTurn heads bound cs
   turn_compared (comparison_in_turn a i) = (a, i)
 
 -- ---- embeddings and names

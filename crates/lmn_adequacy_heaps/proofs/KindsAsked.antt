@@ -3,6 +3,8 @@ use Rattle.std.proofs.Common.{ℕ, zero, suc, ◌≡◌, ◌<◌, ◌⊎◌, ◌
 use Rattle.std.specs.Prelude.{ℤ, slice_get, if◌then◌else◌}
 use Rattle.std.specs.List.{flat_map, list_any}
 use Rattle.std.proofs.lemmas.Bool.{eq-eqb, eqb-true}
+use Rattle.lmn_base.specs.declared.guard.Arith.{Arith}
+use Rattle.lmn_base.specs.declared.guard.Cmp.{Cmp}
 use Rattle.lmn_base.specs.declared.guard.Cond.{Cond}
 use Rattle.lmn_base.specs.declared.guard.Cond.TheVariants.{Kind, Compare, Equal, Differ}
 use Rattle.lmn_base.specs.declared.guard.Expr.{Expr}
@@ -118,7 +120,7 @@ module _ (names : List tree.Name) (heads : List tree.Name) (t : Assignment) (top
   value_context : {p : tree.Name} {n : ℤ} → Value t (tree.value_of p) n → IsInteger n (t.typed_of p)
   value_context (of_context i) = i
 
-  value_operation : {o : tree.Arithmetic} {e f : tree.Expression} {n : ℤ} → Value t (tree.operation o e f) n → (a : ℤ) × (b : ℤ) × Value t e a × Value t f b
+  value_operation : {o : Arith} {e f : tree.Expression} {n : ℤ} → Value t (tree.operation o e f) n → (a : ℤ) × (b : ℤ) × Value t e a × Value t f b
   value_operation (of_operation v w d r) = (_, _, v, w)
 
   -- a context of an expression that has a value is an integer
@@ -159,7 +161,7 @@ module _ (names : List tree.Name) (heads : List tree.Name) (t : Assignment) (top
   holds_differs : {p q : tree.Name} → Holds heads t (tree.differs p q) → IsGround (t.typed_of p) × IsGround (t.typed_of q)
   holds_differs (unlike a b c d n) = (c, d)
 
-  holds_compares : {c : tree.Comparison} {e f : tree.Expression} → Holds heads t (tree.compares c e f) → (a : ℤ) × (b : ℤ) × Value t e a × Value t f b
+  holds_compares : {c : Cmp} {e f : tree.Expression} → Holds heads t (tree.compares c e f) → (a : ℤ) × (b : ℤ) × Value t e a × Value t f b
   holds_compares (in_order v w o) = (_, _, v, w)
 
   holds_both : {c : tree.Condition} {cs : List tree.Condition} → GuardHolds heads t (c ∷ cs) → Holds heads t c × GuardHolds heads t cs

@@ -5,7 +5,7 @@ use Rattle.lmn_base.specs.declared.guard.Cmp.{Cmp}
 use Rattle.lmn_base.specs.declared.guard.Expr.{Expr}
 use Rattle.lmn_base.specs.declared.guard.Expr.TheVariants as variant
 use Rattle.lmn_congruence.specs.Rules as tree
-use Rattle.lmn_congruence.specs.Translation.{name_of, comparison_of, expression_of}
+use Rattle.lmn_congruence.specs.Translation.{name_of, expression_of}
 use Rattle.lmn_guards.specs.Values.{value, Stand, Ordered}
 use Rattle.lmn_reduction.specs.Assignments.{Assignment}
 use Rattle.lmn_reduction.specs.Parts.{IsInteger}
@@ -15,11 +15,11 @@ use Rattle.lmn_reduction.proofs.Values.{context_tree, operation_tree, value_into
 use Rattle.lmn_adequacy.specs.Accepted.{UsedIn, here_used, left_used, right_used}
 
 -- a comparison that holds of integers holds in the calculus
-pub stand_into : (c : Cmp) (m n : ℤ) → Stand c m n → Ordered (comparison_of c) m n
+pub stand_into : (c : Cmp) (m n : ℤ) → Stand c m n → Ordered c m n
 stand_into c m n s = s
 
 -- and the other way round
-pub stand_back : (c : Cmp) (m n : ℤ) → Ordered (comparison_of c) m n → Stand c m n
+pub stand_back : (c : Cmp) (m n : ℤ) → Ordered c m n → Stand c m n
 stand_back c m n s = s
 
 -- ---- the contexts of an expression

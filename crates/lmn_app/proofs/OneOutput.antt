@@ -18,7 +18,7 @@ use Rattle.lmn_app_runs.specs.declared.stop.Stop.{Stop}
 use Rattle.lmn_congruence.specs.Rules as tree
 use Rattle.lmn_congruence.specs.Rules.{Name}
 use Rattle.lmn_congruence.specs.Translation as translated
-use Rattle.lmn_congruence.specs.Translation.{comparison_of, condition_of, expression_of, level_of, name_of, no_such_rule, numbered_region, operator_of, region_of, rules_from}
+use Rattle.lmn_congruence.specs.Translation.{condition_of, expression_of, level_of, name_of, no_such_rule, numbered_region, region_of, rules_from}
 use Rattle.lmn_instr_code.specs.declared.instr.Code.{Code}
 use Rattle.lmn_verify_compiled.specs.Laws.{AcceptedCanBeListed}
 use Rattle.lmn_flatten_plain.specs.Plains.{EachPair}
@@ -40,13 +40,13 @@ same_expression names (same_integer z) = refl
 same_expression names (same_context u) = refl
 same_expression names (same_operation op a b c d h g) =
     fold-roll-Expr tree.Expression (translated.expression_step names) (step.Op op a b)
-    ∙ ap (λ e. tree.operation (operator_of op) e (expression_of names b.value)) (same_expression names h)
-    ∙ ap (λ e. tree.operation (operator_of op) (expression_of names c.value) e) (same_expression names g)
+    ∙ ap (λ e. tree.operation op e (expression_of names b.value)) (same_expression names h)
+    ∙ ap (λ e. tree.operation op (expression_of names c.value) e) (same_expression names g)
     ∙ sym (fold-roll-Expr tree.Expression (translated.expression_step names) (step.Op op c d))
 
 same_tree : (names : List Name) (c d : Cond) → SameCond c d → condition_of names c ≡ condition_of names d
 same_tree names c _ same_condition = refl
-same_tree names _ _ (same_comparison {op = op} h g) = λ i. tree.compares (comparison_of op) (same_expression names h i) (same_expression names g i)
+same_tree names _ _ (same_comparison {op = op} h g) = λ i. tree.compares op (same_expression names h i) (same_expression names g i)
 same_tree names _ _ (same_equation {u = u} h) = λ i. tree.equates (name_of names u.name) (same_expression names h i)
 
 same_conditions : (names : List Name) (cs ds : List Cond) → EachPair SameCond cs ds → map (condition_of names) cs ≡ map (condition_of names) ds

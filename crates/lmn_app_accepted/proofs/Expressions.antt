@@ -69,7 +69,7 @@ used_nothing h = elim h [ ]
 used_alone : {p q : tree.Name} → UsedIn p (tree.value_of q) → q ≡ p
 used_alone here_used = refl
 
-used_either : {p : tree.Name} {o : tree.Arithmetic} {e f : tree.Expression} → UsedIn p (tree.operation o e f) → UsedIn p e ⊎ UsedIn p f
+used_either : {p : tree.Name} {o : Arith} {e f : tree.Expression} → UsedIn p (tree.operation o e f) → UsedIn p e ⊎ UsedIn p f
 used_either (left_used h) = inl h
 used_either (right_used h) = inr h
 

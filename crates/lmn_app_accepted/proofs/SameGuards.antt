@@ -9,7 +9,7 @@ use Rattle.lmn_base.specs.declared.guard.Expr.TheOpen as step
 use Rattle.lmn_base.specs.Names as base
 use Rattle.lmn_base.specs.Names.{IsNames, context_names, expression_names, condition_names}
 use Rattle.lmn_congruence.specs.Rules as tree
-use Rattle.lmn_congruence.specs.Translation.{name_of, names_of, operator_of, comparison_of, expression_step, expression_of, kind_of, condition_of}
+use Rattle.lmn_congruence.specs.Translation.{name_of, names_of, expression_step, expression_of, kind_of, condition_of}
 use Rattle.lmn_lexer.specs.Laying.{Word}
 use Rattle.lmn_parser.specs.Syntax as syntax
 use Rattle.lmn_flatten_plain.specs.Meanings.{name_at}
@@ -48,7 +48,7 @@ module _ (words : List Word) (places : List Pos) (names others : List tree.Name)
       let right = expression_same r ra.value rb.value hr gr (all_back P (expression_names la.value) (expression_names ra.value) here)
       (all_back Q (expression_names lb.value) (expression_names rb.value) there) in
       ap (expression_of names) h ∙ fold-roll-Expr tree.Expression (expression_step names) (step.Op op la ra)
-      ∙ (λ i. tree.operation (operator_of op) (left i) (right i))
+      ∙ (λ i. tree.operation op (left i) (right i))
       ∙ sym (fold-roll-Expr tree.Expression (expression_step others) (step.Op op lb rb)) ∙ sym (ap (expression_of others) g)
 
   arguments_same : (ps : List ℕ) → AllBelow names (context_names (map (context_use words places names) ps)) → AllBelow others (context_names (map (context_use words places others) ps))
@@ -83,7 +83,7 @@ module _ (words : List Word) (places : List Pos) (names others : List tree.Name)
       let Q : ℕ → Type 0 = λ n. n < length others in
       let left = expression_same l la lb hl gl (all_front P (expression_names la) (expression_names ra) here) (all_front Q (expression_names lb) (expression_names rb) there) in
       let right = expression_same r ra rb hr gr (all_back P (expression_names la) (expression_names ra) here) (all_back Q (expression_names lb) (expression_names rb) there) in
-      ap (condition_of names) h ∙ (λ i. tree.compares (comparison_of op) (left i) (right i)) ∙ sym (ap (condition_of others) g)
+      ap (condition_of names) h ∙ (λ i. tree.compares op (left i) (right i)) ∙ sym (ap (condition_of others) g)
   condition_same (syntax.equal p r s) a b (ra, h, hr) (rb, g, gr) u v =
       let here = subst (λ c. AllBelow names (condition_names c)) h u in
       let there = subst (λ c. AllBelow others (condition_names c)) g v in

@@ -25,7 +25,7 @@ use Rattle.lmn_base_walks.specs.RuleCodes.{expression_tokens, condition_tokens, 
 use Rattle.lmn_base.specs.Uses.{has_use}
 use Rattle.lmn_congruence.specs.Rules as tree
 use Rattle.lmn_congruence.specs.Translation as translated
-use Rattle.lmn_congruence.specs.Translation.{level_of, name_of, operator_of, comparison_of, expression_of, condition_of, rules_from, no_such_rule, top_of}
+use Rattle.lmn_congruence.specs.Translation.{level_of, name_of, expression_of, condition_of, rules_from, no_such_rule, top_of}
 use Rattle.lmn_guards.specs.declared.plan.GuardPlan.{GuardPlan}
 use Rattle.lmn_guards.specs.declared.plan.TypeKind.{TypeKind}
 use Rattle.lmn_guards.specs.declared.plan.TypeKind.TheVariants as kind
@@ -61,8 +61,8 @@ same_tree names (same_integer z) = refl
 same_tree names (same_context u) = refl
 same_tree names (same_operation op a b c d h g) =
     fold-roll-Expr tree.Expression (translated.expression_step names) (step.Op op a b)
-    ∙ ap (λ e. tree.operation (operator_of op) e (expression_of names b.value)) (same_tree names h)
-    ∙ ap (λ e. tree.operation (operator_of op) (expression_of names c.value) e) (same_tree names g)
+    ∙ ap (λ e. tree.operation op e (expression_of names b.value)) (same_tree names h)
+    ∙ ap (λ e. tree.operation op (expression_of names c.value) e) (same_tree names g)
     ∙ sym (fold-roll-Expr tree.Expression (translated.expression_step names) (step.Op op c d))
 
 same_expression_names : {a b : Expr} → SameExpr a b → expression_names a ≡ expression_names b
@@ -106,7 +106,7 @@ same_binding head (same_equation h) = refl
 
 same_condition_tree : (names : List tree.Name) {c d : Cond} → SameCond c d → condition_of names c ≡ condition_of names d
 same_condition_tree names same_condition = refl
-same_condition_tree names (same_comparison {op = op} h g) = λ i. tree.compares (comparison_of op) (same_tree names h i) (same_tree names g i)
+same_condition_tree names (same_comparison {op = op} h g) = λ i. tree.compares op (same_tree names h i) (same_tree names g i)
 same_condition_tree names (same_equation {u = u} h) = λ i. tree.equates (name_of names u.name) (same_tree names h i)
 
 same_asks : (head : Level) (k : TypeKind) (n : ℕ) {c d : Cond} → SameCond c d → asks head k n c ≡ asks head k n d

@@ -7,6 +7,8 @@
 -- twice or are numbered otherwise, names with bytes above 255, integers of more than 64 bits. A text with such
 -- a rule is refused, so no process that runs has one. The laws hold of them too.
 use Rattle.std.specs.Prelude.{ℕ, ℤ, List, [], ◌∷◌}
+use Rattle.lmn_base.specs.declared.guard.Arith.{Arith}
+use Rattle.lmn_base.specs.declared.guard.Cmp.{Cmp}
 
 -- a name by its bytes
 abbrev pub Name : Type 0
@@ -24,19 +26,11 @@ pub data Leaf : Type 0 where
   connector_leaf : ℕ → ℕ → Leaf
   typed_leaf : Name → ℕ → Leaf
 
--- `+`, `-`, `*`, `/` and `mod`
-pub data Arithmetic : Type 0 where
-  plus minus times over modulo : Arithmetic
-
--- `<`, `=<`, `>`, `>=`, `=:=` and `=\=`
-pub data Comparison : Type 0 where
-  less at_most greater at_least equal unequal : Comparison
-
 -- an expression of a guard
 pub data Expression : Type 0 where
   number : ℤ → Expression
   value_of : Name → Expression
-  operation : Arithmetic → Expression → Expression → Expression
+  operation : Arith → Expression → Expression → Expression
 
 -- `int`, `unary` and `ground`
 pub data Kind : Type 0 where
@@ -46,7 +40,7 @@ pub data Kind : Type 0 where
 -- number of contexts is kept as it is written, so that rules that differ in it differ. It never holds.
 pub data Condition : Type 0 where
   is_kind : Kind → Name → Condition
-  compares : Comparison → Expression → Expression → Condition
+  compares : Cmp → Expression → Expression → Condition
   equates : Name → Expression → Condition
   differs : Name → Name → Condition
   unknown : Name → List Name → Condition

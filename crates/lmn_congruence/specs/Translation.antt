@@ -12,10 +12,6 @@ use Rattle.lmn_base.specs.declared.level.Leaf.TheVariants.{Atom, Typed}
 use Rattle.lmn_base.specs.declared.level.Level.{Level}
 use Rattle.lmn_base.specs.declared.level.Level.TheOpen.{Level-F}
 use Rattle.lmn_base.specs.declared.level.Level.TheFolds.{fold-Level}
-use Rattle.lmn_base.specs.declared.guard.Arith.{Arith}
-use Rattle.lmn_base.specs.declared.guard.Arith.TheVariants.{Add, Sub, Mul, Div, Mod}
-use Rattle.lmn_base.specs.declared.guard.Cmp.{Cmp}
-use Rattle.lmn_base.specs.declared.guard.Cmp.TheVariants.{Lt, Le, Gt, Ge, Eq, Ne}
 use Rattle.lmn_base.specs.declared.guard.Expr.{Expr}
 use Rattle.lmn_base.specs.declared.guard.Expr.TheOpen.{Expr-F, Int as Integer, Ctx, Op}
 use Rattle.lmn_base.specs.declared.guard.Expr.TheFolds.{fold-Expr}
@@ -82,29 +78,14 @@ level_step names rule l =
 abbrev pub level_of : List tree.Name → (ℕ → tree.Rule) → Level → tree.Level
 level_of names rule = fold-Level tree.Level (level_step names rule)
 
--- operators, expressions, comparisons and conditions as those of a tree
-abbrev pub operator_of : Arith → tree.Arithmetic
-operator_of Add = tree.plus
-operator_of Sub = tree.minus
-operator_of Mul = tree.times
-operator_of Div = tree.over
-operator_of Mod = tree.modulo
-
+-- expressions and conditions as those of a tree
 abbrev pub expression_step : List tree.Name → Expr-F tree.Expression → tree.Expression
 expression_step names (Integer z) = tree.number z
 expression_step names (Ctx u) = tree.value_of (name_of names u.name)
-expression_step names (Op op left right) = tree.operation (operator_of op) left.value right.value
+expression_step names (Op op left right) = tree.operation op left.value right.value
 
 abbrev pub expression_of : List tree.Name → Expr → tree.Expression
 expression_of names = fold-Expr tree.Expression (expression_step names)
-
-abbrev pub comparison_of : Cmp → tree.Comparison
-comparison_of Lt = tree.less
-comparison_of Le = tree.at_most
-comparison_of Gt = tree.greater
-comparison_of Ge = tree.at_least
-comparison_of Eq = tree.equal
-comparison_of Ne = tree.unequal
 
 -- the conditions `int`, `unary` and `ground` have one context
 abbrev pub kind_of : List tree.Name → ℕ → List CtxUse → tree.Condition
@@ -118,7 +99,7 @@ kind_of names n us = tree.unknown (name_of names n) (names_of names us)
 abbrev pub condition_of : List tree.Name → Cond → tree.Condition
 condition_of names (Kind n args pos) = kind_of names n args
 condition_of names (Compare op left right pos) =
-    tree.compares (comparison_of op) (expression_of names left) (expression_of names right)
+    tree.compares op (expression_of names left) (expression_of names right)
 condition_of names (Equal left right pos) = tree.equates (name_of names left.name) (expression_of names right)
 condition_of names (Differ left right pos) = tree.differs (name_of names left.name) (name_of names right.name)
 

@@ -7,6 +7,10 @@ use Rattle.std.specs.List.{AllByRecursion}
 use Rattle.std.proofs.lemmas.Bool.Decides.{nat_tests}
 use Rattle.std.proofs.lemmas.List.{append_assoc, append-nil}
 use Rattle.std.proofs.lemmas.Slice.Eq.{bytes_eq-Decides}
+use Rattle.lmn_base.specs.declared.guard.Arith.{Arith}
+use Rattle.lmn_base.specs.declared.guard.Cmp.{Cmp}
+use Rattle.lmn_base.specs.declared.guard.Arith.TheVariants.{Add, Sub, Mul, Div, Mod}
+use Rattle.lmn_base.specs.declared.guard.Cmp.TheVariants.{Lt, Le, Gt, Ge, Eq, Ne}
 use Rattle.lmn_congruence.specs.Rules as tree
 use Rattle.lmn_lexer.specs.declared.token.Kind.{Kind}
 use Rattle.lmn_lexer.specs.declared.token.Kind.TheVariants as kind
@@ -223,20 +227,20 @@ leaf_can (tree.typed_leaf name x) h rest ws g =
 abbrev Operator : List Piece → Type 0
 Operator ps = (rest : List ℕ) (ws : List Word) → Laid true rest ws → Goes (text_of ps ++ rest) (words_in ps ++ ws)
 
-operator_goes : (op : tree.Arithmetic) → Operator (operator_pieces op)
-operator_goes tree.plus rest ws h = spaced_goes kind.Plus (codes "+") (λ minus. refl) refl refl h
-operator_goes tree.minus rest ws h = spaced_goes kind.Minus (codes "-") (λ minus. refl) refl refl h
-operator_goes tree.times rest ws h = spaced_goes kind.Star (codes "*") (λ minus. refl) refl refl h
-operator_goes tree.over rest ws h = spaced_goes kind.Slash (codes "/") (λ minus. refl) refl refl h
-operator_goes tree.modulo rest ws h = spaced_goes kind.Mod (codes "mod") (λ minus. refl) refl refl h
+operator_goes : (op : Arith) → Operator (operator_pieces op)
+operator_goes Add rest ws h = spaced_goes kind.Plus (codes "+") (λ minus. refl) refl refl h
+operator_goes Sub rest ws h = spaced_goes kind.Minus (codes "-") (λ minus. refl) refl refl h
+operator_goes Mul rest ws h = spaced_goes kind.Star (codes "*") (λ minus. refl) refl refl h
+operator_goes Div rest ws h = spaced_goes kind.Slash (codes "/") (λ minus. refl) refl refl h
+operator_goes Mod rest ws h = spaced_goes kind.Mod (codes "mod") (λ minus. refl) refl refl h
 
-comparison_goes : (op : tree.Comparison) → Operator (comparison_pieces op)
-comparison_goes tree.less rest ws h = spaced_goes kind.Less (codes "<") (λ minus. refl) refl refl h
-comparison_goes tree.at_most rest ws h = spaced_goes kind.LessEq (codes "=<") (λ minus. refl) refl refl h
-comparison_goes tree.greater rest ws h = spaced_goes kind.Greater (codes ">") (λ minus. refl) refl refl h
-comparison_goes tree.at_least rest ws h = spaced_goes kind.GreaterEq (codes ">=") (λ minus. refl) refl refl h
-comparison_goes tree.equal rest ws h = spaced_goes kind.NumEq (codes "=:=") (λ minus. refl) refl refl h
-comparison_goes tree.unequal rest ws h = spaced_goes kind.NumNe (codes "=\\=") (λ minus. refl) refl refl h
+comparison_goes : (op : Cmp) → Operator (comparison_pieces op)
+comparison_goes Lt rest ws h = spaced_goes kind.Less (codes "<") (λ minus. refl) refl refl h
+comparison_goes Le rest ws h = spaced_goes kind.LessEq (codes "=<") (λ minus. refl) refl refl h
+comparison_goes Gt rest ws h = spaced_goes kind.Greater (codes ">") (λ minus. refl) refl refl h
+comparison_goes Ge rest ws h = spaced_goes kind.GreaterEq (codes ">=") (λ minus. refl) refl refl h
+comparison_goes Eq rest ws h = spaced_goes kind.NumEq (codes "=:=") (λ minus. refl) refl refl h
+comparison_goes Ne rest ws h = spaced_goes kind.NumNe (codes "=\\=") (λ minus. refl) refl refl h
 
 between_can : (ps sign qs : List Piece) → CanLay ps → Operator sign → CanLay qs → CanLay (ps ++ (sign ++ qs))
 between_can ps sign qs h o k rest ws g =

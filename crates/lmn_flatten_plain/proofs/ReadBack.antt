@@ -4,6 +4,8 @@ use Rattle.std.specs.Prelude.{codes, Contains}
 use Rattle.std.specs.List.{flat_map, AllByRecursion}
 use Rattle.std.proofs.lemmas.Option.{same_Some}
 use Rattle.std.proofs.lemmas.List.{append-nil, length-map, map-append}
+use Rattle.lmn_base.specs.declared.guard.Arith.{Arith}
+use Rattle.lmn_base.specs.declared.guard.Cmp.{Cmp}
 use Rattle.lmn_base.specs.declared.refusal.Pos.{Pos}
 use Rattle.lmn_base.specs.declared.functor.Label.TheVariants.{Name, Int}
 use Rattle.lmn_base.specs.declared.guard.Expr.{Expr}
@@ -129,7 +131,7 @@ module _ (words : List Word) (places : List Pos) (names : List tree.Name) (is : 
       second : (a b : tree.Name) (ms ns : List tree.Name) → a ∷ ms ≡ b ∷ ns → ms ≡ ns
       second a b ms ns e = cc
 
-  same_operation : (a b : tree.Arithmetic) (c d e f : tree.Expression) → a ≡ b → c ≡ d → e ≡ f → tree.operation a c e ≡ tree.operation b d f
+  same_operation : (a b : Arith) (c d e f : tree.Expression) → a ≡ b → c ≡ d → e ≡ f → tree.operation a c e ≡ tree.operation b d f
   same_operation a b c d e f h i j = cc
 
   expression_back : (x : syntax.Expr) (e : Expr) (t : tree.Expression) → IsExpr words places names x e → ExprIs words places x t → ExpressionHeld names t
@@ -150,7 +152,7 @@ module _ (words : List Word) (places : List Pos) (names : List tree.Name) (is : 
   expression_back (syntax.operation op l r) e (tree.number z) h g held = absurd g
   expression_back (syntax.operation op l r) e (tree.value_of n) h g held = absurd g
 
-  same_compares : (a b : tree.Comparison) (c d e f : tree.Expression) → a ≡ b → c ≡ d → e ≡ f → tree.compares a c e ≡ tree.compares b d f
+  same_compares : (a b : Cmp) (c d e f : tree.Expression) → a ≡ b → c ≡ d → e ≡ f → tree.compares a c e ≡ tree.compares b d f
   same_compares a b c d e f h i j = cc
 
   same_equates : (a b : tree.Name) (c d : tree.Expression) → a ≡ b → c ≡ d → tree.equates a c ≡ tree.equates b d

@@ -9,7 +9,6 @@ use Rattle.lmn_base.specs.declared.guard.Arith.TheVariants as arithmetic
 use Rattle.lmn_base.specs.declared.guard.Cmp.{Cmp}
 use Rattle.lmn_base.specs.declared.guard.Cmp.TheVariants as cmp
 use Rattle.lmn_congruence.specs.Rules as tree
-use Rattle.lmn_congruence.specs.Translation.{operator_of, comparison_of}
 use Rattle.lmn_lexer.specs.declared.token.Kind.{Kind}
 use Rattle.lmn_lexer.specs.declared.token.Kind.TheVariants as kind
 use Rattle.lmn_lexer.specs.declared.token.Token.{Token}
@@ -36,36 +35,6 @@ words_append (space ∷ ps) qs = words_append ps qs
 pub words_behind : (ps qs : List Piece) (rest : List Word) → words_in (ps ++ qs) ++ rest ≡ words_in ps ++ (words_in qs ++ rest)
 words_behind ps qs rest = ap (λ ws. ws ++ rest) (words_append ps qs) ∙ append_assoc (words_in ps) (words_in qs) rest
 
-abbrev operator : tree.Arithmetic → Arith
-operator tree.plus = arithmetic.Add
-operator tree.minus = arithmetic.Sub
-operator tree.times = arithmetic.Mul
-operator tree.over = arithmetic.Div
-operator tree.modulo = arithmetic.Mod
-
-operator_same : (op : tree.Arithmetic) → operator_of (operator op) ≡ op
-operator_same tree.plus = refl
-operator_same tree.minus = refl
-operator_same tree.times = refl
-operator_same tree.over = refl
-operator_same tree.modulo = refl
-
-abbrev comparison : tree.Comparison → Cmp
-comparison tree.less = cmp.Lt
-comparison tree.at_most = cmp.Le
-comparison tree.greater = cmp.Gt
-comparison tree.at_least = cmp.Ge
-comparison tree.equal = cmp.Eq
-comparison tree.unequal = cmp.Ne
-
-comparison_same : (op : tree.Comparison) → comparison_of (comparison op) ≡ op
-comparison_same tree.less = refl
-comparison_same tree.at_most = refl
-comparison_same tree.greater = refl
-comparison_same tree.at_least = refl
-comparison_same tree.equal = refl
-comparison_same tree.unequal = refl
-
 module _ {tokens : List Token} {words : List Word} (places : List Pos) (same : SameKinds tokens words) where
   -- What is read from a place on: a part of the tree, where it ends, what it is, and what stands behind it.
   pub record Read {X : Type 0} (IsPart : X → ℕ → ℕ → Type 0) (Is : X → Type 0) (p : ℕ) (rest : List Word) : Type 0 where
@@ -76,22 +45,22 @@ module _ {tokens : List Token} {words : List Word} (places : List Pos) (same : S
     pub after : Stands tokens words stop rest
 
   -- an operator is one token
-  operator_read : {l : Expr} {p m : ℕ} {rest : List Word} (op : tree.Arithmetic) → IsFactor tokens l p m → Stands tokens words m (words_in (operator_pieces op) ++ rest)
-      → Stands tokens words (m + 1) rest × ((r : Expr) (q : ℕ) → IsFactor tokens r (m + 1) q → IsSum tokens (operation (operator op) l r) p q)
-  operator_read tree.plus f s = (behind same s, λ r q g. plus arithmetic.Add (one_product (one_factor f)) (kind_at same s) (one_factor g))
-  operator_read tree.minus f s = (behind same s, λ r q g. plus arithmetic.Sub (one_product (one_factor f)) (kind_at same s) (one_factor g))
-  operator_read tree.times f s = (behind same s, λ r q g. one_product (times arithmetic.Mul (one_factor f) (kind_at same s) g))
-  operator_read tree.over f s = (behind same s, λ r q g. one_product (times arithmetic.Div (one_factor f) (kind_at same s) g))
-  operator_read tree.modulo f s = (behind same s, λ r q g. one_product (times arithmetic.Mod (one_factor f) (kind_at same s) g))
+  operator_read : {l : Expr} {p m : ℕ} {rest : List Word} (op : Arith) → IsFactor tokens l p m → Stands tokens words m (words_in (operator_pieces op) ++ rest)
+      → Stands tokens words (m + 1) rest × ((r : Expr) (q : ℕ) → IsFactor tokens r (m + 1) q → IsSum tokens (operation op l r) p q)
+  operator_read arithmetic.Add f s = (behind same s, λ r q g. plus arithmetic.Add (one_product (one_factor f)) (kind_at same s) (one_factor g))
+  operator_read arithmetic.Sub f s = (behind same s, λ r q g. plus arithmetic.Sub (one_product (one_factor f)) (kind_at same s) (one_factor g))
+  operator_read arithmetic.Mul f s = (behind same s, λ r q g. one_product (times arithmetic.Mul (one_factor f) (kind_at same s) g))
+  operator_read arithmetic.Div f s = (behind same s, λ r q g. one_product (times arithmetic.Div (one_factor f) (kind_at same s) g))
+  operator_read arithmetic.Mod f s = (behind same s, λ r q g. one_product (times arithmetic.Mod (one_factor f) (kind_at same s) g))
 
-  comparison_read : {m : ℕ} {rest : List Word} (op : tree.Comparison) → Stands tokens words m (words_in (comparison_pieces op) ++ rest)
-      → Stands tokens words (m + 1) rest × CmpAt tokens m (comparison op)
-  comparison_read tree.less s = (behind same s, kind_at same s)
-  comparison_read tree.at_most s = (behind same s, kind_at same s)
-  comparison_read tree.greater s = (behind same s, kind_at same s)
-  comparison_read tree.at_least s = (behind same s, kind_at same s)
-  comparison_read tree.equal s = (behind same s, kind_at same s)
-  comparison_read tree.unequal s = (behind same s, kind_at same s)
+  comparison_read : {m : ℕ} {rest : List Word} (op : Cmp) → Stands tokens words m (words_in (comparison_pieces op) ++ rest)
+      → Stands tokens words (m + 1) rest × CmpAt tokens m op
+  comparison_read cmp.Lt s = (behind same s, kind_at same s)
+  comparison_read cmp.Le s = (behind same s, kind_at same s)
+  comparison_read cmp.Gt s = (behind same s, kind_at same s)
+  comparison_read cmp.Ge s = (behind same s, kind_at same s)
+  comparison_read cmp.Eq s = (behind same s, kind_at same s)
+  comparison_read cmp.Ne s = (behind same s, kind_at same s)
 
   name_here : (p : ℕ) (k : Kind) (bytes : List ℕ) (rest : List Word) → Stands tokens words p (record { kind = k; bytes = bytes } ∷ rest)
       → name_at words places p ≡ name_spelled k bytes
@@ -118,13 +87,13 @@ module _ {tokens : List Token} {words : List Word} (places : List Pos) (same : S
   value_read : (name : tree.Name) (p : ℕ) (rest : List Word) → Stands tokens words p (words_in (context_piece name ∷ []) ++ rest) → ReadFactor (tree.value_of name) p rest
   value_read name p rest s = record { part = value p; stop = p + 1; reads = is_value (kind_at same s); is = context_here p name rest s; after = behind same s }
 
-  operation_words : (op : tree.Arithmetic) (l r : List Piece) (rest : List Word)
+  operation_words : (op : Arith) (l r : List Piece) (rest : List Word)
       → words_in (l ++ (operator_pieces op ++ r)) ++ rest ≡ words_in l ++ (words_in (operator_pieces op) ++ (words_in r ++ rest))
   operation_words op l r rest =
       words_behind l (operator_pieces op ++ r) rest ∙ ap (λ ws. words_in l ++ ws) (words_behind (operator_pieces op) r rest)
 
   -- two operands that are read, with an operator between them
-  operation_read : (op : tree.Arithmetic) (l r : tree.Expression) (p : ℕ) (rest : List Word)
+  operation_read : (op : Arith) (l r : tree.Expression) (p : ℕ) (rest : List Word)
       → ((p : ℕ) (rest : List Word) → Stands tokens words p (words_in (operand_pieces l) ++ rest) → ReadFactor l p rest)
       → ((p : ℕ) (rest : List Word) → Stands tokens words p (words_in (operand_pieces r) ++ rest) → ReadFactor r p rest)
       → Stands tokens words p (words_in (operand_pieces l ++ (operator_pieces op ++ operand_pieces r)) ++ rest) → ReadSum (tree.operation op l r) p rest
@@ -134,10 +103,10 @@ module _ {tokens : List Token} {words : List Word} (places : List Pos) (same : S
       let sign = operator_read {rest = words_in (operand_pieces r) ++ rest} op left.reads left.after in
       let right = read_r (left.stop + 1) rest sign.0 in
       record {
-        part = operation (operator op) left.part right.part;
+        part = operation op left.part right.part;
         stop = right.stop;
         reads = sign.1 right.part right.stop right.reads;
-        is = (operator_same op, left.is, right.is);
+        is = (refl, left.is, right.is);
         after = right.after;
       }
 
@@ -232,10 +201,10 @@ module _ {tokens : List Token} {words : List Word} (places : List Pos) (same : S
       let sign = comparison_read {rest = words_in (side_pieces r) ++ rest} op left.after in
       let right = side_read r (left.stop + 1) rest h.1 sign.0 in
       record {
-        part = compared (comparison op) left.part right.part left.stop;
+        part = compared op left.part right.part left.stop;
         stop = right.stop;
-        reads = is_compared (comparison op) left.reads sign.1 right.reads;
-        is = (comparison_same op, left.is, right.is);
+        reads = is_compared op left.reads sign.1 right.reads;
+        is = (refl, left.is, right.is);
         after = right.after;
       }
   condition_read (tree.equates name e) p rest h s =

@@ -3,6 +3,10 @@ use Rattle.std.proofs.Common.{ℕ, ℤ, ◌≡◌, ◌≤◌, FitsSigned, w64, B
 use Rattle.std.specs.Prelude.{codes, bytes_eq}
 use Rattle.std.specs.Fmt.{signed_decimal}
 use Rattle.std.specs.List.{AllByRecursion}
+use Rattle.lmn_base.specs.declared.guard.Arith.{Arith}
+use Rattle.lmn_base.specs.declared.guard.Cmp.{Cmp}
+use Rattle.lmn_base.specs.declared.guard.Arith.TheVariants.{Add, Sub, Mul, Div, Mod}
+use Rattle.lmn_base.specs.declared.guard.Cmp.TheVariants.{Lt, Le, Gt, Ge, Eq, Ne}
 use Rattle.lmn_base.specs.Limits.{longest_name}
 use Rattle.lmn_congruence.specs.Rules as tree
 use Rattle.lmn_lexer.specs.declared.token.Kind.TheVariants as kind
@@ -109,20 +113,20 @@ leaf_right (tree.typed_leaf name x) h = (context_right name h, ((λ i. absurd (c
 
 -- Conditions.
 
-operator_right : (op : tree.Arithmetic) → Right (operator_pieces op)
-operator_right tree.plus = ((λ i. absurd (cc)), tt)
-operator_right tree.minus = ((λ i. absurd (cc)), tt)
-operator_right tree.times = ((λ i. absurd (cc)), tt)
-operator_right tree.over = ((λ i. absurd (cc)), tt)
-operator_right tree.modulo = ((λ i. absurd (cc)), tt)
+operator_right : (op : Arith) → Right (operator_pieces op)
+operator_right Add = ((λ i. absurd (cc)), tt)
+operator_right Sub = ((λ i. absurd (cc)), tt)
+operator_right Mul = ((λ i. absurd (cc)), tt)
+operator_right Div = ((λ i. absurd (cc)), tt)
+operator_right Mod = ((λ i. absurd (cc)), tt)
 
-comparison_right : (op : tree.Comparison) → Right (comparison_pieces op)
-comparison_right tree.less = ((λ i. absurd (cc)), tt)
-comparison_right tree.at_most = ((λ i. absurd (cc)), tt)
-comparison_right tree.greater = ((λ i. absurd (cc)), tt)
-comparison_right tree.at_least = ((λ i. absurd (cc)), tt)
-comparison_right tree.equal = ((λ i. absurd (cc)), tt)
-comparison_right tree.unequal = ((λ i. absurd (cc)), tt)
+comparison_right : (op : Cmp) → Right (comparison_pieces op)
+comparison_right Lt = ((λ i. absurd (cc)), tt)
+comparison_right Le = ((λ i. absurd (cc)), tt)
+comparison_right Gt = ((λ i. absurd (cc)), tt)
+comparison_right Ge = ((λ i. absurd (cc)), tt)
+comparison_right Eq = ((λ i. absurd (cc)), tt)
+comparison_right Ne = ((λ i. absurd (cc)), tt)
 
 three_right : (ps qs rs : List Piece) → Right ps → Right qs → Right rs → Right (ps ++ (qs ++ rs))
 three_right ps qs rs h k l = both_right ps (qs ++ rs) h (both_right qs rs k l)

@@ -2,7 +2,7 @@
 use Rattle.std.specs.Prelude.{ℕ, ◌≡◌, ⊤, List, [], ◌∷◌, map, slice_get, Some, codes}
 use Rattle.lmn_base.specs.declared.refusal.Pos.{Pos}
 use Rattle.lmn_congruence.specs.Rules as tree
-use Rattle.lmn_congruence.specs.Translation.{operator_of, comparison_of, context_with}
+use Rattle.lmn_congruence.specs.Translation.{context_with}
 use Rattle.lmn_lexer.specs.Laying.{Word}
 use Rattle.lmn_lexer.specs.Values.{integer_of}
 use Rattle.lmn_parser.specs.Syntax as syntax
@@ -33,13 +33,13 @@ module _ (words : List Word) (places : List Pos) where
   abbrev pub ExprIs : syntax.Expr → tree.Expression → Type 0
   ExprIs (syntax.integer p) (tree.number z) = let w = word_at words places p in integer_of w.bytes ≡ z
   ExprIs (syntax.value p) (tree.value_of n) = name_at words places p ≡ n
-  ExprIs (syntax.operation op l r) (tree.operation o a b) = (operator_of op ≡ o) × ExprIs l a × ExprIs r b
+  ExprIs (syntax.operation op l r) (tree.operation o a b) = (op ≡ o) × ExprIs l a × ExprIs r b
   ExprIs _ _ = ⊥
 
   abbrev pub CondIs : syntax.WrittenCondition → tree.Condition → Type 0
   CondIs (syntax.called p ps) (tree.is_kind k n) = (name_at words places p ≡ kind_name k) × (map (name_at words places) ps ≡ n ∷ [])
   CondIs (syntax.called p ps) (tree.unknown n ns) = (name_at words places p ≡ n) × (map (name_at words places) ps ≡ ns)
-  CondIs (syntax.compared op l r s) (tree.compares o a b) = (comparison_of op ≡ o) × ExprIs l a × ExprIs r b
+  CondIs (syntax.compared op l r s) (tree.compares o a b) = (op ≡ o) × ExprIs l a × ExprIs r b
   CondIs (syntax.equal p r s) (tree.equates n a) = (name_at words places p ≡ n) × ExprIs r a
   CondIs (syntax.different p q s) (tree.differs m n) = (name_at words places p ≡ m) × (name_at words places q ≡ n)
   CondIs _ _ = ⊥

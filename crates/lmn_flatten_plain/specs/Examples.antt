@@ -1,5 +1,6 @@
 -- Expansions and printed lines of small texts.
 use Rattle.std.specs.Prelude.{ℕ, ◌≡◌, List, [], ◌∷◌, map, codes, pos, negsuc}
+use Rattle.lmn_base.specs.declared.guard.Arith.TheVariants.{Add, Mul}
 use Rattle.lmn_base.specs.declared.refusal.Pos.{Pos}
 use Rattle.lmn_congruence.specs.Rules as tree
 use Rattle.lmn_congruence.specs.Rules.{named, integer, only_leaves}
@@ -80,7 +81,7 @@ p_of x = tree.atom_leaf (named (codes "p")) (x ∷ [])
 abbrev pub AGuard : Type 0
 AGuard =
     text_of (rule_pieces (tree.rule_of (only_leaves (p_of 0 ∷ tree.typed_leaf (codes "x") 0 ∷ p_of 1 ∷ tree.typed_leaf (codes "y") 1 ∷ []))
-    (tree.equates (codes "z") (tree.operation tree.plus (tree.value_of (codes "x")) (tree.operation tree.times (tree.number (pos 2)) (tree.value_of (codes "y")))) ∷ [])
+    (tree.equates (codes "z") (tree.operation Add (tree.value_of (codes "x")) (tree.operation Mul (tree.number (pos 2)) (tree.value_of (codes "y")))) ∷ [])
     (only_leaves (p_of 2 ∷ tree.typed_leaf (codes "z") 2 ∷ []))))
     ≡ codes "(p(L0), $x[L0], p(L1), $y[L1] :- $z = $x + (2 * $y) | p(L2), $z[L2])"
 

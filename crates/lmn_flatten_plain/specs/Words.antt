@@ -2,7 +2,11 @@
 -- calculus, in which a rule is written out wherever it stands.
 use Rattle.std.specs.Prelude.{ℕ, ℤ, if◌then◌else◌, List, [], ◌∷◌, ◌++◌, map, flat_map, codes, bytes_eq}
 use Rattle.std.specs.Fmt.{signed_decimal}
-use Rattle.lmn_congruence.specs.Rules.{Name, Label, named, integer, Leaf, atom_leaf, connector_leaf, typed_leaf, Arithmetic, plus, minus, times, over, modulo, Comparison, less, at_most, greater, at_least, equal, unequal, Expression, number, value_of, operation, Kind, int, unary, grounded, Condition, is_kind, compares, equates, differs, unknown, Context, open_context, closed_context, Level, level, Levels, no_level, level_and, Rule, rule_of, Rules, no_rule, rule_and}
+use Rattle.lmn_base.specs.declared.guard.Arith.{Arith}
+use Rattle.lmn_base.specs.declared.guard.Cmp.{Cmp}
+use Rattle.lmn_base.specs.declared.guard.Arith.TheVariants.{Add, Sub, Mul, Div, Mod}
+use Rattle.lmn_base.specs.declared.guard.Cmp.TheVariants.{Lt, Le, Gt, Ge, Eq, Ne}
+use Rattle.lmn_congruence.specs.Rules.{Name, Label, named, integer, Leaf, atom_leaf, connector_leaf, typed_leaf, Expression, number, value_of, operation, Kind, int, unary, grounded, Condition, is_kind, compares, equates, differs, unknown, Context, open_context, closed_context, Level, level, Levels, no_level, level_and, Rule, rule_of, Rules, no_rule, rule_and}
 use Rattle.lmn_lexer.specs.declared.token.Kind.{Kind as TokenKind}
 use Rattle.lmn_lexer.specs.declared.token.Kind.TheVariants as kind
 use Rattle.lmn_lexer.specs.Laying.{Word}
@@ -81,20 +85,20 @@ leaf_pieces (typed_leaf p x) = context_piece p ∷ word kind.LBracket (codes "["
 
 -- Conditions.
 
-abbrev pub operator_pieces : Arithmetic → List Piece
-operator_pieces plus = spaced kind.Plus (codes "+")
-operator_pieces minus = spaced kind.Minus (codes "-")
-operator_pieces times = spaced kind.Star (codes "*")
-operator_pieces over = spaced kind.Slash (codes "/")
-operator_pieces modulo = spaced kind.Mod (codes "mod")
+abbrev pub operator_pieces : Arith → List Piece
+operator_pieces Add = spaced kind.Plus (codes "+")
+operator_pieces Sub = spaced kind.Minus (codes "-")
+operator_pieces Mul = spaced kind.Star (codes "*")
+operator_pieces Div = spaced kind.Slash (codes "/")
+operator_pieces Mod = spaced kind.Mod (codes "mod")
 
-abbrev pub comparison_pieces : Comparison → List Piece
-comparison_pieces less = spaced kind.Less (codes "<")
-comparison_pieces at_most = spaced kind.LessEq (codes "=<")
-comparison_pieces greater = spaced kind.Greater (codes ">")
-comparison_pieces at_least = spaced kind.GreaterEq (codes ">=")
-comparison_pieces equal = spaced kind.NumEq (codes "=:=")
-comparison_pieces unequal = spaced kind.NumNe (codes "=\\=")
+abbrev pub comparison_pieces : Cmp → List Piece
+comparison_pieces Lt = spaced kind.Less (codes "<")
+comparison_pieces Le = spaced kind.LessEq (codes "=<")
+comparison_pieces Gt = spaced kind.Greater (codes ">")
+comparison_pieces Ge = spaced kind.GreaterEq (codes ">=")
+comparison_pieces Eq = spaced kind.NumEq (codes "=:=")
+comparison_pieces Ne = spaced kind.NumNe (codes "=\\=")
 
 -- an operand: an operation stands in parentheses
 abbrev pub operand_pieces : Expression → List Piece

@@ -1,12 +1,12 @@
 -- The values of integer expressions, and the order of two values.
 use Rattle.std.specs.Prelude.{ℕ, ℤ, List, ◌==◌, option_and_then, position, slice_get, pos, negsuc, ◌+ℤ◌, ◌-ℤ◌, ◌*ℤ◌, ◌<ℤ◌, ◌≤ℤ◌, ◌≡◌, ◌≢◌, ◌-◌, ◌^◌, ◌&&◌, Bool, true, false, if◌then◌else◌, Option, Some, None, int_div, int_le, int_lt}
+use Rattle.lmn_base.specs.declared.guard.Cmp.TheVariants.{Lt, Le, Gt, Ge, Eq, Ne}
 use Rattle.lmn_base.specs.declared.guard.Arith.{Arith}
 use Rattle.lmn_base.specs.declared.guard.Arith.TheVariants.{Add, Sub, Mul, Div, Mod}
 use Rattle.lmn_base.specs.declared.guard.Cmp.{Cmp}
 use Rattle.lmn_base.specs.declared.guard.Expr.{Expr}
 use Rattle.lmn_base.specs.declared.guard.Expr.TheVariants.{Int, Ctx, Op'}
-use Rattle.lmn_congruence.specs.Rules.{Name, Arithmetic, plus, minus, times, over, modulo, Comparison, less, at_most, greater, at_least, equal, unequal, Expression, number, value_of, operation}
-use Rattle.lmn_congruence.specs.Translation.{operator_of, comparison_of}
+use Rattle.lmn_congruence.specs.Rules.{Name, Expression, number, value_of, operation}
 
 -- ---- of trees
 
@@ -15,17 +15,17 @@ abbrev pub InRange : ℤ → Type 0
 InRange z = (negsuc (2 ^ 63 - 1)) ≤ℤ z × z <ℤ pos (2 ^ 63)
 
 -- what an operation gives, computed without bound; `/` goes toward zero, and `a mod b` is `a - (a/b)*b`
-abbrev pub computed : Arithmetic → ℤ → ℤ → ℤ
-computed plus m n = m +ℤ n
-computed minus m n = m -ℤ n
-computed times m n = m *ℤ n
-computed over m n = int_div m n
-computed modulo m n = m -ℤ (int_div m n *ℤ n)
+abbrev pub computed : Arith → ℤ → ℤ → ℤ
+computed Add m n = m +ℤ n
+computed Sub m n = m -ℤ n
+computed Mul m n = m *ℤ n
+computed Div m n = int_div m n
+computed Mod m n = m -ℤ (int_div m n *ℤ n)
 
 -- no divisor is zero
-abbrev pub DivisorAllowed : Arithmetic → ℤ → Type 0
-DivisorAllowed over n = n ≢ pos 0
-DivisorAllowed modulo n = n ≢ pos 0
+abbrev pub DivisorAllowed : Arith → ℤ → Type 0
+DivisorAllowed Div n = n ≢ pos 0
+DivisorAllowed Mod n = n ≢ pos 0
 DivisorAllowed op n = Unit {0}
 
 -- The value of an expression, where `Is` says which integer a name stands for. It is missing where an operation in it
@@ -33,18 +33,18 @@ DivisorAllowed op n = Unit {0}
 pub data Evaluates (Is : Name → ℤ → Type 0) : Expression → ℤ → Type 0 where
   of_number : {n : ℤ} → Evaluates Is (number n) n
   of_context : {p : Name} {n : ℤ} → Is p n → Evaluates Is (value_of p) n
-  of_operation : {o : Arithmetic} {e f : Expression} {m n : ℤ} →
+  of_operation : {o : Arith} {e f : Expression} {m n : ℤ} →
       Evaluates Is e m → Evaluates Is f n → DivisorAllowed o n → InRange (computed o m n) →
       Evaluates Is (operation o e f) (computed o m n)
 
 -- two values stand in an order
-abbrev pub Ordered : Comparison → ℤ → ℤ → Type 0
-Ordered less m n = m <ℤ n
-Ordered at_most m n = m ≤ℤ n
-Ordered greater m n = n <ℤ m
-Ordered at_least m n = n ≤ℤ m
-Ordered equal m n = m ≡ n
-Ordered unequal m n = m ≢ n
+abbrev pub Ordered : Cmp → ℤ → ℤ → Type 0
+Ordered Lt m n = m <ℤ n
+Ordered Le m n = m ≤ℤ n
+Ordered Gt m n = n <ℤ m
+Ordered Ge m n = n ≤ℤ m
+Ordered Eq m n = m ≡ n
+Ordered Ne m n = m ≢ n
 
 -- ---- the same of the program's expressions, as functions
 
@@ -70,7 +70,7 @@ divides Mod = true
 
 -- What an operation gives. It is missing where a divisor is zero or the result is out of range.
 abbrev pub result_of : Arith → ℤ → ℤ → Option ℤ
-result_of op m n = if divides op && is_zero n then None else ranged (computed (operator_of op) m n)
+result_of op m n = if divides op && is_zero n then None else ranged (computed op m n)
 
 -- an operation on two values, where both are there
 abbrev pub both : (ℤ → ℤ → Option ℤ) → Option ℤ → Option ℤ → Option ℤ
@@ -86,7 +86,7 @@ value given (Op' op p left q right) = both (result_of op) (value given left) (va
 
 -- two values stand in an order
 abbrev pub Stand : Cmp → ℤ → ℤ → Type 0
-Stand c = Ordered (comparison_of c)
+Stand c = Ordered c
 
 -- the value that stands at the place of a name, where there is one
 abbrev pub value_beside : List ℕ → List ℤ → ℕ → Option ℤ

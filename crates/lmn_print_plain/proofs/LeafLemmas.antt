@@ -15,7 +15,7 @@ use Rattle.lmn_base.specs.declared.refusal.Pos.{Pos}
 use Rattle.lmn_base.specs.declared.level.CtxUse.{CtxUse}
 use Rattle.lmn_base.specs.declared.level.Occ.{Occ}
 use Rattle.lmn_congruence.specs.Rules as tree
-use Rattle.lmn_congruence.specs.Translation.{name_of, names_of, context_with, context_tree, atom_or_connector, label_of, comparison_of, condition_of, expression_of, kind_of}
+use Rattle.lmn_congruence.specs.Translation.{name_of, names_of, context_with, context_tree, atom_or_connector, label_of, condition_of, expression_of, kind_of}
 use Rattle.lmn_flatten_plain.specs.Words.{text_of, piece_text, with_commas, label_piece, name_piece, link_name, link_piece, links_pieces, context_piece, untyped_pieces, contexts_pieces, leaf_pieces, side_pieces, comparison_pieces, condition_pieces, guard_pieces}
 use Rattle.lmn_flatten_plain.specs.Labels.{label_text}
 use Rattle.lmn_print_plain.specs.Parts.{condition_text, context_text, untyped_text, makes_connector, leaf_text}
@@ -184,13 +184,13 @@ typed_text names leaf n o pos e = ap (leaf_text names) (sym e)
 -- Conditions by their parts.
 
 -- the text of a comparison
-pub compare_text : (names : List tree.Name) (c : Cond) (op : Cmp) (l r : Expr) (pos : Pos) (sign : List ℕ) → c ≡ Compare op l r pos → sign ≡ text_of (comparison_pieces (comparison_of op))
+pub compare_text : (names : List tree.Name) (c : Cond) (op : Cmp) (l r : Expr) (pos : Pos) (sign : List ℕ) → c ≡ Compare op l r pos → sign ≡ text_of (comparison_pieces op)
     → text_of (side_pieces (expression_of names l)) ++ (sign ++ text_of (side_pieces (expression_of names r))) ≡ condition_text names c
 compare_text names c op l r pos sign e es =
     let a = side_pieces (expression_of names l) in
     let b = side_pieces (expression_of names r) in
     ap (λ t. text_of a ++ (t ++ text_of b)) es
-    ∙ sym (text_append a _ ∙ ap (λ t. text_of a ++ t) (text_append (comparison_pieces (comparison_of op)) b))
+    ∙ sym (text_append a _ ∙ ap (λ t. text_of a ++ t) (text_append (comparison_pieces op) b))
     ∙ ap (condition_text names) (sym e)
 
 -- and of a binding

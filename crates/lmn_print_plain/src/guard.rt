@@ -1,7 +1,7 @@
 //! Guards: conditions and expressions.
 ghost use Rattle.std.specs.Prelude.{◌≡◌, map};
 ghost use Rattle.lmn_io.specs.Gathering.{Adds, output};
-ghost use Rattle.lmn_congruence.specs.Translation.{comparison_of, condition_of, expression_of, kind_of, operator_of};
+ghost use Rattle.lmn_congruence.specs.Translation.{condition_of, expression_of, kind_of};
 ghost use Rattle.lmn_flatten_plain.specs.Words.{comparison_pieces, condition_pieces, guard_pieces, operand_pieces, operator_pieces, side_pieces, text_of};
 ghost use Rattle.lmn_print_plain.specs.Parts.{condition_text};
 
@@ -111,7 +111,7 @@ fn add_operand<O: Sink>(buffer: &mut LineBuffer, out: &mut O, names: &Names, ope
 
 /// An operator with a space on each side.
 fn operator_text(operator: Arith) -> &'static [u8]
-    ensures { result.now ≡ text_of (operator_pieces (operator_of operator)) }
+    ensures { result.now ≡ text_of (operator_pieces operator) }
 {
     match operator {
         Arith::Add => b" + ",
@@ -124,7 +124,7 @@ fn operator_text(operator: Arith) -> &'static [u8]
 
 /// The sign of a comparison with a space on each side.
 fn comparison_text(comparison: Cmp) -> &'static [u8]
-    ensures { result.now ≡ text_of (comparison_pieces (comparison_of comparison)) }
+    ensures { result.now ≡ text_of (comparison_pieces comparison) }
 {
     match comparison {
         Cmp::Lt => b" < ",

@@ -3,10 +3,14 @@ use Rattle.std.proofs.Common.{ℕ, ℤ, pos, negsuc, zero, suc, ◌≡◌, ◌�
 use Rattle.std.specs.List.{AllByRecursion}
 use Rattle.std.specs.Fmt.{digit_glyph, digits, digits_onto, signed_decimal}
 use Rattle.std.proofs.lemmas.Option.{slice_get-get_or}
+use Rattle.lmn_base.specs.declared.guard.Arith.{Arith}
+use Rattle.lmn_base.specs.declared.guard.Cmp.{Cmp}
+use Rattle.lmn_base.specs.declared.guard.Arith.TheVariants.{Add, Sub, Mul, Div, Mod}
+use Rattle.lmn_base.specs.declared.guard.Cmp.TheVariants.{Lt, Le, Gt, Ge, Eq, Ne}
 use Rattle.lmn_base.proofs.Lists.{all_append}
 use Rattle.lmn_base.proofs.Numbers.{unequal_when}
 use Rattle.lmn_congruence.specs.Rules as tree
-use Rattle.lmn_congruence.specs.Rules.{Name, Leaf, atom_leaf, connector_leaf, typed_leaf, named, integer, Arithmetic, plus, minus, times, over, modulo, Comparison, less, at_most, greater, at_least, equal, unequal, Expression, number, value_of, operation, int, unary, grounded, Condition, is_kind, compares, equates, differs, unknown, Context, open_context, closed_context, Level, level, Levels, no_level, level_and, Rule, rule_of, Rules, no_rule, rule_and}
+use Rattle.lmn_congruence.specs.Rules.{Name, Leaf, atom_leaf, connector_leaf, typed_leaf, named, integer, Expression, number, value_of, operation, int, unary, grounded, Condition, is_kind, compares, equates, differs, unknown, Context, open_context, closed_context, Level, level, Levels, no_level, level_and, Rule, rule_of, Rules, no_rule, rule_and}
 use Rattle.lmn_lexer.specs.declared.token.Kind.{Kind}
 use Rattle.lmn_lexer.specs.declared.token.Kind.TheVariants as kind
 use Rattle.lmn_lexer.specs.NameText.{name_text, quoted, quoted_byte}
@@ -132,20 +136,20 @@ links_quiet (x ∷ xs) = in_parentheses (map (λ y. link_piece y ∷ []) (x ∷ 
 integer_word : (z : ℤ) (ps : List Piece) → Quiet ps → Quiet (word kind.Int (signed_decimal z) ∷ ps)
 integer_word z ps q = word_first kind.Int (signed_decimal z) ps (integer_quiet z) q
 
-operator_quiet : (o : Arithmetic) → Quiet (operator_pieces o)
-operator_quiet plus = spaced_quiet kind.Plus (codes "+") refl
-operator_quiet minus = spaced_quiet kind.Minus (codes "-") refl
-operator_quiet times = spaced_quiet kind.Star (codes "*") refl
-operator_quiet over = spaced_quiet kind.Slash (codes "/") refl
-operator_quiet modulo = spaced_quiet kind.Mod (codes "mod") refl
+operator_quiet : (o : Arith) → Quiet (operator_pieces o)
+operator_quiet Add = spaced_quiet kind.Plus (codes "+") refl
+operator_quiet Sub = spaced_quiet kind.Minus (codes "-") refl
+operator_quiet Mul = spaced_quiet kind.Star (codes "*") refl
+operator_quiet Div = spaced_quiet kind.Slash (codes "/") refl
+operator_quiet Mod = spaced_quiet kind.Mod (codes "mod") refl
 
-comparison_quiet : (c : Comparison) → Quiet (comparison_pieces c)
-comparison_quiet less = spaced_quiet kind.Less (codes "<") refl
-comparison_quiet at_most = spaced_quiet kind.LessEq (codes "=<") refl
-comparison_quiet greater = spaced_quiet kind.Greater (codes ">") refl
-comparison_quiet at_least = spaced_quiet kind.GreaterEq (codes ">=") refl
-comparison_quiet equal = spaced_quiet kind.NumEq (codes "=:=") refl
-comparison_quiet unequal = spaced_quiet kind.NumNe (codes "=\\=") refl
+comparison_quiet : (c : Cmp) → Quiet (comparison_pieces c)
+comparison_quiet Lt = spaced_quiet kind.Less (codes "<") refl
+comparison_quiet Le = spaced_quiet kind.LessEq (codes "=<") refl
+comparison_quiet Gt = spaced_quiet kind.Greater (codes ">") refl
+comparison_quiet Ge = spaced_quiet kind.GreaterEq (codes ">=") refl
+comparison_quiet Eq = spaced_quiet kind.NumEq (codes "=:=") refl
+comparison_quiet Ne = spaced_quiet kind.NumNe (codes "=\\=") refl
 
 kind_quiet : (k : tree.Kind) → NoFeed (kind_name k)
 kind_quiet int = unfed (codes "int") refl

@@ -1,9 +1,10 @@
 -- The derivations of the examples.
 use Rattle.std.proofs.Common.{ℕ, suc, ◌≡◌, ◌≢◌, ◌+◌, ◌^◌, ◌<ℤ◌, ℤ, Bool, true, false, cond, eqb, inl, List, [], ◌∷◌, map, refl, sym, ◌∙◌, ap, arith, pos, negsuc}
+use Rattle.lmn_base.specs.declared.guard.Arith.TheVariants.{Div, Mod}
 use Rattle.lmn_congruence.specs.Orders.{Among, at_head, further, here, there, Shuffle, none, more}
 use Rattle.lmn_congruence.specs.Process.{Process, nothing, connector, atom, pair, membrane, rule, Linked, Free, OneToOneOn, occurrences, together}
 use Rattle.lmn_congruence.specs.Congruence.{swap, same, back}
-use Rattle.lmn_congruence.specs.Rules.{Name, Context, open_context, closed_context, Label, named, integer, Rule, head_of, Expression, number, operation, over, modulo}
+use Rattle.lmn_congruence.specs.Rules.{Name, Context, open_context, closed_context, Label, named, integer, Rule, head_of, Expression, number, operation}
 use Rattle.lmn_reduction.specs.Parts.{Rooted, IsGround, EqualParts, ReachesLink, the_root, across, an_integer, atoms_at_top}
 use Rattle.lmn_reduction.specs.Assignments.{Assignment, NoRuleAtTop}
 use Rattle.lmn_reduction.specs.Instances.{ContextInstances, IsCopy, instance, no_context, context_and, of_open, of_closed, no_leaf, leaf_and, of_atom, of_connector, no_membrane, membrane_and}
@@ -214,7 +215,7 @@ quotients_and_remainders = (refl, refl, refl, refl)
 too_great : (n : ℕ) → ¬ (pos n <ℤ pos n)
 too_great n = grind arith
 
-no_least_quotient : (t : Assignment) (n : ℤ) → ¬ (Value t (operation over least (number (negsuc 0))) n)
+no_least_quotient : (t : Assignment) (n : ℤ) → ¬ (Value t (operation Div least (number (negsuc 0))) n)
 no_least_quotient t n (of_operation of_number of_number d r) = too_great (2 ^ 63) r.1
 
 minus_one : negsuc 0 ≢ pos 0
@@ -224,10 +225,10 @@ minus_one = grind arith
 pub least_by_minus_one : LeastByMinusOne
 least_by_minus_one t = (no_least_quotient t, of_operation of_number of_number minus_one (grind arith, grind arith))
 
-no_quotient : (t : Assignment) (e : Expression) (n : ℤ) → ¬ (Value t (operation over e (number (pos 0))) n)
+no_quotient : (t : Assignment) (e : Expression) (n : ℤ) → ¬ (Value t (operation Div e (number (pos 0))) n)
 no_quotient t e n (of_operation v of_number d r) = d refl
 
-no_remainder : (t : Assignment) (e : Expression) (n : ℤ) → ¬ (Value t (operation modulo e (number (pos 0))) n)
+no_remainder : (t : Assignment) (e : Expression) (n : ℤ) → ¬ (Value t (operation Mod e (number (pos 0))) n)
 no_remainder t e n (of_operation v of_number d r) = d refl
 
 -- by zero there is neither

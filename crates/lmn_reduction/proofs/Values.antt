@@ -13,7 +13,7 @@ use Rattle.lmn_base.specs.declared.guard.Expr.TheFolds.{fold-roll-Expr}
 use Rattle.lmn_base.specs.declared.level.CtxUse.{CtxUse}
 use Rattle.lmn_base.specs.Names.{expression_names, expression_names_step as names_step}
 use Rattle.lmn_congruence.specs.Rules as tree
-use Rattle.lmn_congruence.specs.Translation.{name_of, operator_of, expression_step, expression_of}
+use Rattle.lmn_congruence.specs.Translation.{name_of, expression_step, expression_of}
 use Rattle.lmn_guards.specs.Values.{value, both, in_range, ranged, is_zero, result_of, Evaluates, of_number, of_context, of_operation, InRange, DivisorAllowed, computed}
 use Rattle.lmn_reduction.specs.Laws.{ValuesAgree}
 use Rattle.lmn_reduction.specs.Parts.{IsInteger}
@@ -31,7 +31,7 @@ pub context_tree : (names : List tree.Name) (u : CtxUse) → expression_of names
 context_tree names u = ap (expression_of names) (sym (variant.rolls-Ctx u)) ∙ fold-roll-Expr tree.Expression (expression_step names) (open'.Ctx u)
 
 -- and an operation
-pub operation_tree : (names : List tree.Name) (op : Arith) (p : Box (Unit {0}) Global) (left : Expr) (q : Box (Unit {0}) Global) (right : Expr) → expression_of names (variant.Op' op p left q right) ≡ tree.operation (operator_of op) (expression_of names left) (expression_of names right)
+pub operation_tree : (names : List tree.Name) (op : Arith) (p : Box (Unit {0}) Global) (left : Expr) (q : Box (Unit {0}) Global) (right : Expr) → expression_of names (variant.Op' op p left q right) ≡ tree.operation op (expression_of names left) (expression_of names right)
 operation_tree names op p left q right =
     let l : Box Expr Global = record { value = left; ptr = p.ptr; alloc = p.alloc } in
     let k : Box Expr Global = record { value = right; ptr = q.ptr; alloc = q.alloc } in
@@ -92,14 +92,14 @@ divided_back n z d r = rw (nonzero_is n d) (ranged_back z r)
 
 -- ---- operations
 
-result_into : (o : Arith) (m n k : ℤ) → result_of o m n ≡ Some k → DivisorAllowed (operator_of o) n × InRange (computed (operator_of o) m n) × (computed (operator_of o) m n ≡ k)
+result_into : (o : Arith) (m n k : ℤ) → result_of o m n ≡ Some k → DivisorAllowed o n × InRange (computed o m n) × (computed o m n ≡ k)
 result_into Add m n k e = let w = ranged_into (m +ℤ n) k e in (tt, w.0, w.1)
 result_into Sub m n k e = let w = ranged_into (m -ℤ n) k e in (tt, w.0, w.1)
 result_into Mul m n k e = let w = ranged_into (m *ℤ n) k e in (tt, w.0, w.1)
 result_into Div m n k e = divided_into n (int_div m n) k e
 result_into Mod m n k e = divided_into n (m -ℤ (int_div m n *ℤ n)) k e
 
-result_back : (o : Arith) (m n : ℤ) → DivisorAllowed (operator_of o) n → InRange (computed (operator_of o) m n) → result_of o m n ≡ Some (computed (operator_of o) m n)
+result_back : (o : Arith) (m n : ℤ) → DivisorAllowed o n → InRange (computed o m n) → result_of o m n ≡ Some (computed o m n)
 result_back Add m n d r = ranged_back (m +ℤ n) r
 result_back Sub m n d r = ranged_back (m -ℤ n) r
 result_back Mul m n d r = ranged_back (m *ℤ n) r
@@ -152,9 +152,9 @@ module _ (names : List tree.Name) (Is : tree.Name → ℤ → Type 0) (given : �
       by (Some x) None ea eb q f g = absurd (cc)
       by (Some x) (Some y) ea eb q f g =
           let w = result_into o x y n q in
-          subst (λ T. Evaluates Is T n) (sym (operation_tree names o p l k r)) (subst (Evaluates Is (tree.operation (operator_of o) (expression_of names l) (expression_of names r))) w.2 (of_operation (f x ea) (g y eb) w.0 w.1))
+          subst (λ T. Evaluates Is T n) (sym (operation_tree names o p l k r)) (subst (Evaluates Is (tree.operation o (expression_of names l) (expression_of names r))) w.2 (of_operation (f x ea) (g y eb) w.0 w.1))
 
-  record OfOperation (o : tree.Arithmetic) (e f : tree.Expression) (n : ℤ) : Type 0 where
+  record OfOperation (o : Arith) (e f : tree.Expression) (n : ℤ) : Type 0 where
     left : ℤ
     right : ℤ
     first : Evaluates Is e left
@@ -169,7 +169,7 @@ module _ (names : List tree.Name) (Is : tree.Name → ℤ → Type 0) (given : �
   context_back : {p : tree.Name} {n : ℤ} → Evaluates Is (tree.value_of p) n → Is p n
   context_back (of_context i) = i
 
-  operation_back : {o : tree.Arithmetic} {e f : tree.Expression} {n : ℤ} → Evaluates Is (tree.operation o e f) n → OfOperation o e f n
+  operation_back : {o : Arith} {e f : tree.Expression} {n : ℤ} → Evaluates Is (tree.operation o e f) n → OfOperation o e f n
   operation_back (of_operation a b d r) = record { left = _; right = _; first = a; second = b; allowed = d; range = r; is = refl }
 
   pub value_back : (e : Expr) (n : ℤ) → Uses (λ x. (n : ℤ) → Is (name_of names x) n → given x ≡ Some n) e → Evaluates Is (expression_of names e) n → value given e ≡ Some n

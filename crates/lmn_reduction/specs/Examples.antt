@@ -1,6 +1,7 @@
 -- Small texts as processes, and what they do.
 use Rattle.std.specs.Prelude.{ℕ, ℤ, ◌≡◌, ◌-◌, ◌^◌, pos, negsuc, [], ◌∷◌}
-use Rattle.lmn_congruence.specs.Rules.{Name, Context, open_context, closed_context, Label, named, integer, atom_leaf, connector_leaf, typed_leaf, Level, level, no_level, level_and, Rule, rule_of, no_rule, plus, over, modulo, Expression, number, operation, value_of, equates, is_kind, grounded, only_leaves}
+use Rattle.lmn_base.specs.declared.guard.Arith.TheVariants.{Add, Div, Mod}
+use Rattle.lmn_congruence.specs.Rules.{Name, Context, open_context, closed_context, Label, named, integer, atom_leaf, connector_leaf, typed_leaf, Level, level, no_level, level_and, Rule, rule_of, no_rule, Expression, number, operation, value_of, equates, is_kind, grounded, only_leaves}
 use Rattle.lmn_congruence.specs.Process.{nothing, connector, atom, pair, membrane, rule, together}
 use Rattle.lmn_reduction.specs.Assignments.{Assignment}
 use Rattle.lmn_guards.specs.Values.{computed}
@@ -88,7 +89,7 @@ letter_z = 122 ∷ []
 abbrev pub add_up : Rule
 add_up = rule_of
     (only_leaves (atom_leaf label_p (0 ∷ []) ∷ typed_leaf letter_x 0 ∷ atom_leaf label_p (1 ∷ []) ∷ typed_leaf letter_y 1 ∷ []))
-    (equates letter_z (operation plus (value_of letter_x) (value_of letter_y)) ∷ [])
+    (equates letter_z (operation Add (value_of letter_x) (value_of letter_y)) ∷ [])
     (only_leaves (atom_leaf label_p (2 ∷ []) ∷ typed_leaf letter_z 2 ∷ []))
 
 -- `p(3), p(4).` beside this rule commits to `p(7).` beside it
@@ -103,8 +104,8 @@ SumIsBound =
 -- (`negsuc n` is -1 - n)
 abbrev pub QuotientsAndRemainders : Type 0
 QuotientsAndRemainders =
-    (computed over (negsuc 6) (pos 2) ≡ negsuc 2) × (computed over (pos 7) (negsuc 1) ≡ negsuc 2)
-    × (computed modulo (negsuc 6) (pos 2) ≡ negsuc 0) × (computed modulo (pos 7) (negsuc 1) ≡ pos 1)
+    (computed Div (negsuc 6) (pos 2) ≡ negsuc 2) × (computed Div (pos 7) (negsuc 1) ≡ negsuc 2)
+    × (computed Mod (negsuc 6) (pos 2) ≡ negsuc 0) × (computed Mod (pos 7) (negsuc 1) ≡ pos 1)
 
 -- -2^63
 abbrev pub least : Expression
@@ -113,14 +114,14 @@ least = number (negsuc (2 ^ 63 - 1))
 -- `-2^63 / -1` has no value, since it would be 2^63, and `-2^63 mod -1` is 0
 abbrev pub LeastByMinusOne : Type 0
 LeastByMinusOne = (t : Assignment) →
-    ((n : ℤ) → ¬ (Value t (operation over least (number (negsuc 0))) n))
-    × Value t (operation modulo least (number (negsuc 0))) (pos 0)
+    ((n : ℤ) → ¬ (Value t (operation Div least (number (negsuc 0))) n))
+    × Value t (operation Mod least (number (negsuc 0))) (pos 0)
 
 -- by zero there is no quotient and no remainder
 abbrev pub NothingByZero : Type 0
 NothingByZero = (t : Assignment) (e : Expression) (n : ℤ) →
-    (¬ (Value t (operation over e (number (pos 0))) n))
-    × (¬ (Value t (operation modulo e (number (pos 0))) n))
+    (¬ (Value t (operation Div e (number (pos 0))) n))
+    × (¬ (Value t (operation Mod e (number (pos 0))) n))
 
 -- `a(X,Y) :- X=Y`
 abbrev pub tie_ends : Rule

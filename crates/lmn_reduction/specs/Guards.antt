@@ -1,7 +1,8 @@
 -- When the conditions of a guard hold.
 use Rattle.std.specs.Prelude.{ℤ, List, [], ◌∷◌}
+use Rattle.lmn_base.specs.declared.guard.Cmp.{Cmp}
 use Rattle.lmn_congruence.specs.Orders.{Among}
-use Rattle.lmn_congruence.specs.Rules.{Name, Comparison, Expression, value_of, Kind, int, unary, grounded, Condition, is_kind, compares, equates, differs}
+use Rattle.lmn_congruence.specs.Rules.{Name, Expression, value_of, Kind, int, unary, grounded, Condition, is_kind, compares, equates, differs}
 use Rattle.lmn_guards.specs.Values.{Ordered}
 use Rattle.lmn_reduction.specs.Parts.{Rooted, IsInteger, IsUnary, IsGround, EqualParts}
 use Rattle.lmn_reduction.specs.Assignments.{Assignment}
@@ -20,7 +21,7 @@ IsOfKind grounded g = IsGround g
 -- value: a text with such a rule is refused.
 pub data Holds (heads : List Name) (t : Assignment) : Condition → Type 0 where
   of_kind : {k : Kind} {p : Name} → IsOfKind k (t.typed_of p) → Holds heads t (is_kind k p)
-  in_order : {c : Comparison} {e f : Expression} {m n : ℤ} →
+  in_order : {c : Cmp} {e f : Expression} {m n : ℤ} →
       Value t e m → Value t f n → Ordered c m n → Holds heads t (compares c e f)
   binds : {p : Name} {e : Expression} {n : ℤ} →
       ¬ (Among p heads) → Value t e n → IsInteger n (t.typed_of p) → Holds heads t (equates p e)

@@ -1,7 +1,8 @@
 -- When a rule is lowered by a weighing.
 use Rattle.std.specs.Prelude.{Bool, IsTrue, List, [], ◌∷◌, ◌<◌, ◌↔◌, if◌then◌else◌}
+use Rattle.lmn_base.specs.declared.guard.Cmp.{Cmp}
 use Rattle.lmn_congruence.specs.Orders.{Among, EachOnce}
-use Rattle.lmn_congruence.specs.Rules.{Comparison, Condition, Expression, Name, Rule, body_of, compares, equates, guard_of, head_of, int, is_kind}
+use Rattle.lmn_congruence.specs.Rules.{Condition, Expression, Name, Rule, body_of, compares, equates, guard_of, head_of, int, is_kind}
 use Rattle.lmn_reduction.specs.Firing.{typed_contexts}
 use Rattle.lmn_adequacy.specs.Accepted.{UsedIn, all_contexts, closed_names}
 use Rattle.lmn_weight.specs.Weights.{Weighing, level_weight}
@@ -10,8 +11,8 @@ use Rattle.lmn_weight.specs.Weights.{Weighing, level_weight}
 -- context of the head on its left `=` compares two parts, and computes with none.
 pub data MakesInt (heads : List Name) (p : Name) : Condition → Type 0 where
   has_type : MakesInt heads p (is_kind int p)
-  on_left : {c : Comparison} {e f : Expression} → UsedIn p e → MakesInt heads p (compares c e f)
-  on_right : {c : Comparison} {e f : Expression} → UsedIn p f → MakesInt heads p (compares c e f)
+  on_left : {c : Cmp} {e f : Expression} → UsedIn p e → MakesInt heads p (compares c e f)
+  on_right : {c : Cmp} {e f : Expression} → UsedIn p f → MakesInt heads p (compares c e f)
   in_value : {q : Name} {e : Expression} → ¬ (Among q heads) → UsedIn p e → MakesInt heads p (equates q e)
   is_bound : {e : Expression} → ¬ (Among p heads) → MakesInt heads p (equates p e)
 
