@@ -58,12 +58,9 @@ spaced kind bytes = space ∷ word kind bytes ∷ space ∷ []
 abbrev pub name_piece : Name → Piece
 name_piece name = word (if is_bare_name name then (if bytes_eq name (codes "mod") then kind.Mod else kind.Name) else kind.Quoted) (name_text name)
 
-abbrev pub integer_piece : ℤ → Piece
-integer_piece z = word kind.Int (signed_decimal z)
-
 abbrev pub label_piece : Label → Piece
 label_piece (named name) = name_piece name
-label_piece (integer z) = integer_piece z
+label_piece (integer z) = word kind.Int (signed_decimal z)
 
 abbrev pub link_piece : ℕ → Piece
 link_piece x = word kind.Link (codes "L" ++ numeral x)
@@ -102,7 +99,7 @@ comparison_pieces Ne = spaced kind.NumNe (codes "=\\=")
 
 -- an operand: an operation stands in parentheses
 abbrev pub operand_pieces : Expression → List Piece
-operand_pieces (number z) = integer_piece z ∷ []
+operand_pieces (number z) = word kind.Int (signed_decimal z) ∷ []
 operand_pieces (value_of name) = context_piece name ∷ []
 operand_pieces (operation op l r) =
     word kind.LParen (codes "(") ∷ (operand_pieces l ++ (operator_pieces op ++ (operand_pieces r ++ word kind.RParen (codes ")") ∷ [])))
@@ -154,13 +151,9 @@ abbrev mutual
   rules_pieces no_rule = []
   rules_pieces (rule_and r rs) = rule_pieces r ∷ rules_pieces rs
 
--- The top: a full stop behind each item, and a space between two.
-
-abbrev pub with_full_stops : List (List Piece) → List Piece
-with_full_stops items = joined_by (space ∷ []) (map (λ i. i ++ word kind.Dot (codes ".") ∷ []) items)
-
-abbrev pub line_of : Level → List ℕ
-line_of l = text_of (with_full_stops (level_pieces l)) ++ codes "\n"
+-- The top: a full stop behind each item, a space between two, and a line feed.
+abbrev pub line_of_items : List (List Piece) → List ℕ
+line_of_items items = text_of (joined_by (space ∷ []) (map (λ i. i ++ word kind.Dot (codes ".") ∷ []) items)) ++ codes "\n"
 
 -- ---- parts of these, as laws and contracts of private functions tell them
 
@@ -182,6 +175,16 @@ links_pieces xs = parenthesized (map (λ x. link_piece x ∷ []) xs)
 abbrev pub contexts_pieces : List Name → List Piece
 contexts_pieces ns = parenthesized (map (λ n. context_piece n ∷ []) ns)
 
--- the line but for its line feed
+-- items with their full stops, the line but for its line feed, and the line
+abbrev pub with_full_stops : List (List Piece) → List Piece
+with_full_stops items = joined_by (space ∷ []) (map (λ i. i ++ word kind.Dot (codes ".") ∷ []) items)
+
 abbrev pub top_pieces : Level → List Piece
 top_pieces l = with_full_stops (level_pieces l)
+
+abbrev pub line_of : Level → List ℕ
+line_of l = line_of_items (level_pieces l)
+
+-- an integer
+abbrev pub integer_piece : ℤ → Piece
+integer_piece z = word kind.Int (signed_decimal z)

@@ -2,7 +2,7 @@
 use Rattle.std.specs.Prelude.{ℕ, Bool, false, if◌then◌else◌, List, [], ◌∷◌, ◌++◌, map, codes, bytes_eq}
 use Rattle.lmn_congruence.specs.Rules.{Label, named, integer}
 use Rattle.lmn_lexer.specs.declared.token.Kind.TheVariants as kind
-use Rattle.lmn_flatten_plain.specs.Words.{Piece, word, space, text_of, with_commas, spaced, label_piece, link_piece, rules_pieces, with_full_stops}
+use Rattle.lmn_flatten_plain.specs.Words.{Piece, word, space, with_commas, parenthesized, spaced, label_piece, link_piece, rules_pieces, line_of_items}
 use Rattle.lmn_print_folded.specs.Terms.{FoldedTerm, link, labelled, FoldedTerms, no_term, term_and, FoldedItem, Folded, folded, FoldedMembranes, no_membrane, membrane_and}
 use Rattle.lmn_congruence.specs.Translation.{rules}
 
@@ -10,11 +10,6 @@ use Rattle.lmn_congruence.specs.Translation.{rules}
 abbrev pub is_named : List ℕ → Label → Bool
 is_named name (named n) = bytes_eq n name
 is_named name (integer z) = false
-
--- the arguments of a label, each in its words
-abbrev pub in_parentheses : List (List Piece) → List Piece
-in_parentheses [] = []
-in_parentheses (p ∷ ps) = word kind.LParen (codes "(") ∷ (with_commas (p ∷ ps) ++ word kind.RParen (codes ")") ∷ [])
 
 -- whether a label with terms is a list cell, which has an element and a rest, or the empty list
 abbrev pub is_cell : Label → FoldedTerms → Bool
@@ -32,7 +27,7 @@ abbrev mutual
   term_pieces (labelled l ts) =
       if is_cell l ts then word kind.LBracket (codes "[") ∷ (cell_pieces ts ++ word kind.RBracket (codes "]") ∷ [])
       else if is_empty_list l ts then word kind.LBracket (codes "[") ∷ word kind.RBracket (codes "]") ∷ []
-      else label_piece l ∷ in_parentheses (terms_pieces ts)
+      else label_piece l ∷ parenthesized (terms_pieces ts)
 
   -- the element of a cell, and what follows it
   pub cell_pieces : FoldedTerms → List Piece
@@ -45,26 +40,27 @@ abbrev mutual
   rest_pieces (labelled l ts) =
       if is_cell l ts then word kind.Comma (codes ",") ∷ space ∷ cell_pieces ts
       else if is_empty_list l ts then []
-      else spaced kind.Bar (codes "|") ++ label_piece l ∷ in_parentheses (terms_pieces ts)
+      else spaced kind.Bar (codes "|") ++ label_piece l ∷ parenthesized (terms_pieces ts)
 
   pub terms_pieces : FoldedTerms → List (List Piece)
   terms_pieces no_term = []
   terms_pieces (term_and t ts) = term_pieces t ∷ terms_pieces ts
 
--- an item is never written as a list
-abbrev pub item_pieces : FoldedItem → List Piece
-item_pieces i = label_piece i.label ∷ in_parentheses (terms_pieces i.arguments)
-
 abbrev mutual
-  -- the items, the membranes and the rules
+  -- the items, which are never written as lists, the membranes and the rules
   pub folded_pieces : Folded → List (List Piece)
-  folded_pieces (folded items membranes rs) = map item_pieces items ++ (membranes_pieces membranes ++ rules_pieces (rules rs))
+  folded_pieces (folded items membranes rs) = map (λ i. label_piece i.label ∷ parenthesized (terms_pieces i.arguments)) items ++ (membranes_pieces membranes ++ rules_pieces (rules rs))
 
   pub membranes_pieces : FoldedMembranes → List (List Piece)
   membranes_pieces no_membrane = []
   membranes_pieces (membrane_and f fs) =
       (word kind.LBrace (codes "{") ∷ (with_commas (folded_pieces f) ++ word kind.RBrace (codes "}") ∷ [])) ∷ membranes_pieces fs
 
--- the words as a line, with its line feed
+-- ---- words for lemmas
+
+-- an item in its words, and the words as a line, with its line feed
+abbrev pub item_pieces : FoldedItem → List Piece
+item_pieces i = label_piece i.label ∷ parenthesized (terms_pieces i.arguments)
+
 abbrev pub line_of_folded : Folded → List ℕ
-line_of_folded f = text_of (with_full_stops (folded_pieces f)) ++ codes "\n"
+line_of_folded f = line_of_items (folded_pieces f)

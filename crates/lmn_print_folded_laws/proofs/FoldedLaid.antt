@@ -11,14 +11,14 @@ use Rattle.lmn_lexer.specs.declared.token.Kind.TheVariants as kind
 use Rattle.lmn_lexer.specs.Laying.{Word, Laid, NoneStandsFirst, word as one_word}
 use Rattle.lmn_lexer.specs.Spelling.{IsIntegerSpelling, is_bare_name}
 use Rattle.lmn_flatten_plain.proofs.Decimals.{integer_spelled}
-use Rattle.lmn_flatten_plain.specs.Words.{Piece, word, text_of, words_in, with_commas, with_full_stops, spaced, name_kind, piece_text, label_piece, link_piece, rules_pieces}
+use Rattle.lmn_flatten_plain.specs.Words.{Piece, word, text_of, words_in, with_commas, with_full_stops, spaced, name_kind, piece_text, label_piece, link_piece, rules_pieces, parenthesized}
 use Rattle.lmn_flatten_plain.proofs.LaidLines.{Goes, CanLay, text_behind, laid_as, comma_goes, bracket_goes, spaced_goes, word_then, arguments_goes, link_can, name_laid, integer_laid, both_can, braces_can, rules_can, top_laid}
 use Rattle.lmn_flatten_plain.proofs.ReadGuards.{words_behind}
 use Rattle.lmn_flatten_plain.proofs.RightLines.{Right, both_right, commas_right, stops_right, link_right, name_right, integer_right, in_parentheses as args_right, rules_right}
 use Rattle.lmn_flatten_plain.specs.Spelled.{LabelSpelled}
 use Rattle.lmn_flatten_plain.specs.Texts.{IntegersInRange}
 use Rattle.lmn_print_folded.specs.Terms.{FoldedTerm, link, labelled, FoldedTerms, no_term, term_and, FoldedItem, Folded, folded, FoldedMembranes, no_membrane, membrane_and}
-use Rattle.lmn_print_folded.specs.Words.{in_parentheses, is_cell, is_empty_list, term_pieces, cell_pieces, rest_pieces, terms_pieces, item_pieces, folded_pieces, membranes_pieces, line_of_folded}
+use Rattle.lmn_print_folded.specs.Words.{is_cell, is_empty_list, term_pieces, cell_pieces, rest_pieces, terms_pieces, item_pieces, folded_pieces, membranes_pieces, line_of_folded}
 use Rattle.lmn_print_folded_laws.specs.Spelled.{TermSpelled, TermsSpelled, ItemSpelled, FoldedSpelled, MembranesSpelled}
 use Rattle.lmn_congruence.specs.Translation.{rules}
 use Rattle.lmn_lexer.specs.NameText.{quoted}
@@ -64,12 +64,12 @@ label_then (named name) h ps rest ws g =
 label_then (integer z) h ps rest ws g = let w = integer_laid z h in word_then kind.Int (signed_decimal z) ps rest ws w.spells w.follows g
 
 arguments_go : (pss : List (List Piece)) → AllByRecursion CanLay pss → (rest : List ℕ) (ws : List Word) → Goes rest ws
-    → Goes (text_of (in_parentheses pss) ++ rest) (words_in (in_parentheses pss) ++ ws)
+    → Goes (text_of (parenthesized pss) ++ rest) (words_in (parenthesized pss) ++ ws)
 arguments_go [] h rest ws g = g
 arguments_go (ps ∷ pss) h rest ws g = arguments_goes (ps ∷ pss) h g
 
-by_name : (l : Label) (pss : List (List Piece)) → LabelSpelled l → AllByRecursion CanLay pss → CanLay (label_piece l ∷ in_parentheses pss)
-by_name l pss s h rest ws g = label_then l s (in_parentheses pss) rest ws (arguments_go pss h rest ws g)
+by_name : (l : Label) (pss : List (List Piece)) → LabelSpelled l → AllByRecursion CanLay pss → CanLay (label_piece l ∷ parenthesized pss)
+by_name l pss s h rest ws g = label_then l s (parenthesized pss) rest ws (arguments_go pss h rest ws g)
 
 -- pieces that can be laid out, and don't begin with a colon
 abbrev Begins : List Piece → Type 0
@@ -87,13 +87,13 @@ three_cases P true c xs ys zs f g h = f
 three_cases P false true xs ys zs f g h = g
 three_cases P false false xs ys zs f g h = h
 
-named_begins : (l : Label) (pss : List (List Piece)) → LabelSpelled l → AllByRecursion CanLay pss → Begins (label_piece l ∷ in_parentheses pss)
+named_begins : (l : Label) (pss : List (List Piece)) → LabelSpelled l → AllByRecursion CanLay pss → Begins (label_piece l ∷ parenthesized pss)
 named_begins l pss s h = (by_name l pss s h, λ rest. go rest)
   where
-    go : (rest : List ℕ) → NoColon (text_of (label_piece l ∷ in_parentheses pss) ++ rest)
+    go : (rest : List ℕ) → NoColon (text_of (label_piece l ∷ parenthesized pss) ++ rest)
     go rest =
         let P : List ℕ → Type 0 = NoColon in
-        subst P (sym (text_behind (label_piece l ∷ []) (in_parentheses pss) rest)) (begins_by l s (text_of (in_parentheses pss) ++ rest))
+        subst P (sym (text_behind (label_piece l ∷ []) (parenthesized pss) rest)) (begins_by l s (text_of (parenthesized pss) ++ rest))
       where
         begins_by : (l : Label) → LabelSpelled l → (rest : List ℕ) → NoColon (text_of (label_piece l ∷ []) ++ rest)
         begins_by l s rest = let P : List ℕ → Type 0 = λ t. NoColon (t ++ rest) in subst P (sym (append-nil (piece_text (label_piece l)))) (label_begins l s rest)
@@ -138,7 +138,7 @@ mutual
   rest_goes (labelled l ts) h =
       let inside = cell_can ts h.1 in
       three_cases RestGoes (is_cell l ts) (is_empty_list l ts) _ _ _ (λ rest ws g. comma_goes (inside.0 rest ws g)) (λ rest ws g. g)
-      (bar_goes (label_piece l ∷ in_parentheses (terms_pieces ts)) (by_name l (terms_pieces ts) h.0 (terms_can ts h.1)))
+      (bar_goes (label_piece l ∷ parenthesized (terms_pieces ts)) (by_name l (terms_pieces ts) h.0 (terms_can ts h.1)))
 
   terms_can : (ts : FoldedTerms) → TermsSpelled ts → AllByRecursion CanLay (terms_pieces ts)
   terms_can no_term h = tt
@@ -167,12 +167,12 @@ label_right : (l : Label) → LabelSpelled l → Right (label_piece l ∷ [])
 label_right (named name) h = (name_right name h, tt)
 label_right (integer z) h = (integer_right z h, tt)
 
-parentheses_right : (pss : List (List Piece)) → AllByRecursion Right pss → Right (in_parentheses pss)
+parentheses_right : (pss : List (List Piece)) → AllByRecursion Right pss → Right (parenthesized pss)
 parentheses_right [] h = tt
 parentheses_right (ps ∷ pss) h = args_right (ps ∷ pss) h
 
-named_right : (l : Label) (pss : List (List Piece)) → LabelSpelled l → AllByRecursion Right pss → Right (label_piece l ∷ in_parentheses pss)
-named_right l pss s h = both_right (label_piece l ∷ []) (in_parentheses pss) (label_right l s) (parentheses_right pss h)
+named_right : (l : Label) (pss : List (List Piece)) → LabelSpelled l → AllByRecursion Right pss → Right (label_piece l ∷ parenthesized pss)
+named_right l pss s h = both_right (label_piece l ∷ []) (parenthesized pss) (label_right l s) (parentheses_right pss h)
 
 all_both : (pss qss : List (List Piece)) → AllByRecursion Right pss → AllByRecursion Right qss → AllByRecursion Right (pss ++ qss)
 all_both [] qss h k = k

@@ -17,7 +17,7 @@ use Rattle.lmn_flatten_plain.specs.Parts.{Parts, no_parts, joined_parts, level_f
 use Rattle.lmn_flatten_plain.specs.Meanings.{place_at, label_at}
 use Rattle.lmn_flatten_plain.specs.Expansion.{expanded_arguments, expanded_item, expanded_items, expanded_clauses, parts_of}
 use Rattle.lmn_flatten_plain.specs.Agreement.{RuleIs}
-use Rattle.lmn_flatten_plain.specs.Words.{Piece, word, space, words_in, with_commas, with_full_stops, label_piece}
+use Rattle.lmn_flatten_plain.specs.Words.{Piece, word, space, words_in, with_commas, with_full_stops, label_piece, parenthesized}
 use Rattle.lmn_flatten_plain.proofs.Standing.{SameKinds, Stands, stands_as, kind_at, behind}
 use Rattle.lmn_flatten_plain.proofs.Gathered as plain
 use Rattle.lmn_flatten_plain.proofs.Gathered.{StandFrom, stand_apart, ItemIs, leaf_is, membrane_is, context_is, rule_context_is, rule_is, rules_items}
@@ -27,7 +27,7 @@ use Rattle.lmn_flatten_plain.proofs.ReadLevels as levels
 use Rattle.lmn_flatten_plain.proofs.ReadLevels.{joined_nothing, readable_rules}
 use Rattle.lmn_flatten_plain.proofs.ReadTop.{stand_whole, size_of}
 use Rattle.lmn_print_folded.specs.Terms.{FoldedItem, Folded, folded, FoldedMembranes, no_membrane, membrane_and}
-use Rattle.lmn_print_folded.specs.Words.{in_parentheses, terms_pieces, item_pieces, folded_pieces, membranes_pieces}
+use Rattle.lmn_print_folded.specs.Words.{terms_pieces, item_pieces, folded_pieces, membranes_pieces}
 use Rattle.lmn_print_folded_laws.specs.Apart.{ItemsApart, no_items, items_apart, FoldedApart}
 use Rattle.lmn_print_folded_laws.specs.Spelled.{ItemSpelled, FoldedSpelled, MembranesSpelled}
 use Rattle.lmn_print_folded_laws.proofs.Ways.{Names, Inner, none_named, weaker, deeper, side}
@@ -107,7 +107,7 @@ module _ {tokens : List Token} {words : List Word} (places : List Pos) (same : S
 
   item_read : (i : FoldedItem) → ItemSpelled i → CanRead (item_pieces i) (as_item i)
   item_read i h p ws s =
-      let pieces = in_parentheses (terms_pieces i.arguments) in
+      let pieces = parenthesized (terms_pieces i.arguments) in
       let head = label_atom places same i.label h.0 p (words_in pieces ++ ws) (stands_as tokens words (words_behind (label_piece i.label ∷ []) pieces ws) s) in
       let args = arguments_read places same (terms_readable places same i.arguments h.1) (p + 1) ws head.0 in
       record {

@@ -16,14 +16,14 @@ use Rattle.lmn_flatten_plain.specs.Expanded.{ExpandedLeaf, atom_leaf, use_links}
 use Rattle.lmn_flatten_plain.specs.Parts.{Parts, NumberedParts, joined_parts}
 use Rattle.lmn_flatten_plain.specs.Meanings.{place_at, label_at}
 use Rattle.lmn_flatten_plain.specs.Expansion.{link_used, an_atom, argument, expanded_arguments, rest, expanded_term, expanded_terms, cells}
-use Rattle.lmn_flatten_plain.specs.Words.{Piece, word, space, words_in, with_commas, spaced, label_piece}
+use Rattle.lmn_flatten_plain.specs.Words.{Piece, word, space, words_in, with_commas, spaced, label_piece, parenthesized}
 use Rattle.lmn_flatten_plain.proofs.Standing.{SameKinds, Stands, stands_as, kind_at, behind}
 use Rattle.lmn_flatten_plain.proofs.LabelWords.{name_means, name_is_at}
 use Rattle.lmn_flatten_plain.proofs.ReadGuards.{Read, words_behind}
 use Rattle.lmn_flatten_plain.proofs.ReadLeaves.{link_here, label_here}
 use Rattle.lmn_flatten_plain.specs.Spelled.{LabelSpelled}
 use Rattle.lmn_print_folded.specs.Terms.{FoldedTerm, link, labelled, FoldedTerms, no_term, term_and}
-use Rattle.lmn_print_folded.specs.Words.{is_named, in_parentheses, is_cell, is_empty_list, term_pieces, cell_pieces, rest_pieces, terms_pieces}
+use Rattle.lmn_print_folded.specs.Words.{is_named, is_cell, is_empty_list, term_pieces, cell_pieces, rest_pieces, terms_pieces}
 use Rattle.lmn_print_folded_laws.specs.Apart.{TermApart, link_apart, atom_apart, TermsApart, none_apart, more_apart}
 use Rattle.lmn_print_folded_laws.specs.Spelled.{TermSpelled, TermsSpelled}
 use Rattle.lmn_print_folded_laws.proofs.Ways.{Names, Inner, none_named, weaker, own, side}
@@ -203,7 +203,7 @@ module _ {tokens : List Token} {words : List Word} (places : List Pos) (same : S
         after = others.after;
       }
 
-  pub arguments_read : {ts : FoldedTerms} → Readable ts → (p : ℕ) (ws : List Word) → Stands tokens words p (words_in (in_parentheses (terms_pieces ts)) ++ ws)
+  pub arguments_read : {ts : FoldedTerms} → Readable ts → (p : ℕ) (ws : List Word) → Stands tokens words p (words_in (parenthesized (terms_pieces ts)) ++ ws)
       → Read places same (IsArguments tokens) (TermsIs ts) p ws
   arguments_read none p ws s = record { part = syntax.no_term; stop = p; reads = no_parentheses; is = nothing_is; after = s }
   arguments_read (one_and {t = t} {ts = ts} can other more) p ws s =
@@ -244,10 +244,10 @@ module _ {tokens : List Token} {words : List Word} (places : List Pos) (same : S
   pieces_behind : (l : Label) (ps : List Piece) (ws : List Word) → words_in (label_piece l ∷ ps) ++ ws ≡ words_in (label_piece l ∷ []) ++ (words_in ps ++ ws)
   pieces_behind l ps ws = words_behind (label_piece l ∷ []) ps ws
 
-  named_read : (l : Label) (ts : FoldedTerms) → LabelSpelled l → Readable ts → (p : ℕ) (ws : List Word) → Stands tokens words p (words_in (label_piece l ∷ in_parentheses (terms_pieces ts)) ++ ws)
+  named_read : (l : Label) (ts : FoldedTerms) → LabelSpelled l → Readable ts → (p : ℕ) (ws : List Word) → Stands tokens words p (words_in (label_piece l ∷ parenthesized (terms_pieces ts)) ++ ws)
       → Read places same (IsTerm tokens) (TermIs (labelled l ts)) p ws
   named_read l ts h can p ws s =
-      let head = label_atom l h p (words_in (in_parentheses (terms_pieces ts)) ++ ws) (stands_as tokens words (pieces_behind l (in_parentheses (terms_pieces ts)) ws) s) in
+      let head = label_atom l h p (words_in (parenthesized (terms_pieces ts)) ++ ws) (stands_as tokens words (pieces_behind l (parenthesized (terms_pieces ts)) ws) s) in
       let args = arguments_read can (p + 1) ws head.0 in
       record {
         part = syntax.atom p args.part;
@@ -420,7 +420,7 @@ module _ {tokens : List Token} {words : List Word} (places : List Pos) (same : S
     where
       go : (b c : Bool) → is_cell l ts ≡ b → is_empty_list l ts ≡ c
           → Stands tokens words p (words_in (if b then word kind.LBracket (codes "[") ∷ (cell_pieces ts ++ word kind.RBracket (codes "]") ∷ [])
-          else if c then word kind.LBracket (codes "[") ∷ word kind.RBracket (codes "]") ∷ [] else label_piece l ∷ in_parentheses (terms_pieces ts)) ++ ws)
+          else if c then word kind.LBracket (codes "[") ∷ word kind.RBracket (codes "]") ∷ [] else label_piece l ∷ parenthesized (terms_pieces ts)) ++ ws)
           → Read places same (IsTerm tokens) (TermIs (labelled l ts)) p ws
       go true c e f s = let cell = cell_of l ts e can in list_read l ts cell.1 cell.0 p ws s
       go false true e f s =
@@ -438,7 +438,7 @@ module _ {tokens : List Token} {words : List Word} (places : List Pos) (same : S
     where
       go : (b c : Bool) → is_cell l ts ≡ b → is_empty_list l ts ≡ c
           → Stands tokens words m (words_in (if b then word kind.Comma (codes ",") ∷ space ∷ cell_pieces ts
-          else if c then [] else spaced kind.Bar (codes "|") ++ label_piece l ∷ in_parentheses (terms_pieces ts)) ++ ws)
+          else if c then [] else spaced kind.Bar (codes "|") ++ label_piece l ∷ parenthesized (terms_pieces ts)) ++ ws)
           → RestRead (labelled l ts) m ws
       go true c e f s = let cell = cell_of l ts e can in cells_rest l ts cell.1 cell.0 m ws s
       go false true e f s = empty_rest l ts (empty_is l ts f) m ws s

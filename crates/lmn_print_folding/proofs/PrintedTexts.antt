@@ -8,10 +8,10 @@ use Rattle.lmn_congruence.specs.Rules.{Name, Label}
 use Rattle.lmn_congruence.specs.Translation.{label_of}
 use Rattle.lmn_print_folded.specs.Terms.{FoldedTerm, labelled, FoldedTerms, no_term, term_and}
 use Rattle.lmn_print_folded.specs.Words as words
-use Rattle.lmn_print_folded.specs.Words.{is_named, term_pieces, terms_pieces, cell_pieces, rest_pieces, in_parentheses}
+use Rattle.lmn_print_folded.specs.Words.{is_named, term_pieces, terms_pieces, cell_pieces, rest_pieces}
 use Rattle.lmn_store_heap.specs.Heap.{Heap, arity_of, functor_of, link_of}
 use Rattle.lmn_lexer.specs.declared.token.Kind.TheVariants as kind
-use Rattle.lmn_flatten_plain.specs.Words.{Piece, word, space, spaced, text_of, link_name, label_piece, with_commas}
+use Rattle.lmn_flatten_plain.specs.Words.{Piece, word, space, spaced, text_of, link_name, label_piece, with_commas, parenthesized}
 use Rattle.lmn_flatten_plain.specs.Labels.{label_text}
 use Rattle.lmn_print_plain.specs.Rows.{in_row}
 use Rattle.lmn_print_plain.proofs.LeafLemmas.{label_is}
@@ -39,7 +39,7 @@ positive_port : (i : ℕ) → (i + 1 == 0) ≡ false
 positive_port i = grind (arith, nat_tests)
 
 -- the text of arguments in parentheses
-parentheses_text : (p : List Piece) (ps : List (List Piece)) → text_of (in_parentheses (p ∷ ps)) ≡ 40 ∷ ((text_of p ++ in_row (codes ", ") true (map text_of ps)) ++ (41 ∷ []))
+parentheses_text : (p : List Piece) (ps : List (List Piece)) → text_of (parenthesized (p ∷ ps)) ≡ 40 ∷ ((text_of p ++ in_row (codes ", ") true (map text_of ps)) ++ (41 ∷ []))
 parentheses_text p ps = ap (λ t. 40 ∷ t) (text_append (with_commas (p ∷ ps)) _ ∙ ap (λ t. t ++ (41 ∷ [])) (comma_row (p ∷ ps)))
 
 -- the words of a label with terms, and of such a rest of a cell, by whether it is a cell and whether it is the empty list
@@ -47,13 +47,13 @@ abbrev term_by : Label → FoldedTerms → Bool → Bool → List Piece
 term_by l ts b d =
     if b then word kind.LBracket (codes "[") ∷ (cell_pieces ts ++ word kind.RBracket (codes "]") ∷ [])
     else if d then word kind.LBracket (codes "[") ∷ word kind.RBracket (codes "]") ∷ []
-    else label_piece l ∷ in_parentheses (terms_pieces ts)
+    else label_piece l ∷ parenthesized (terms_pieces ts)
 
 abbrev rest_by : Label → FoldedTerms → Bool → Bool → List Piece
 rest_by l ts b d =
     if b then word kind.Comma (codes ",") ∷ space ∷ cell_pieces ts
     else if d then []
-    else spaced kind.Bar (codes "|") ++ label_piece l ∷ in_parentheses (terms_pieces ts)
+    else spaced kind.Bar (codes "|") ++ label_piece l ∷ parenthesized (terms_pieces ts)
 
 -- arguments in parentheses, without the one behind them
 abbrev pub opened : FoldedTerms → List ℕ
@@ -65,13 +65,13 @@ abbrev pub closed : FoldedTerms → List ℕ
 closed no_term = []
 closed (term_and t ts) = codes ")"
 
-opened_closed : (ts : FoldedTerms) → text_of (in_parentheses (terms_pieces ts)) ≡ opened ts ++ closed ts
+opened_closed : (ts : FoldedTerms) → text_of (parenthesized (terms_pieces ts)) ≡ opened ts ++ closed ts
 opened_closed no_term = refl
 opened_closed (term_and t ts) = parentheses_text (term_pieces t) (terms_pieces ts)
 
 -- the text of a label and its arguments
-pub label_words : (l : Label) (ts : FoldedTerms) → text_of (label_piece l ∷ in_parentheses (terms_pieces ts)) ≡ label_text l ++ (opened ts ++ closed ts)
-label_words l ts = ap (λ z. z ++ text_of (in_parentheses (terms_pieces ts))) (sym (label_is l)) ∙ ap (λ z. label_text l ++ z) (opened_closed ts)
+pub label_words : (l : Label) (ts : FoldedTerms) → text_of (label_piece l ∷ parenthesized (terms_pieces ts)) ≡ label_text l ++ (opened ts ++ closed ts)
+label_words l ts = ap (λ z. z ++ text_of (parenthesized (terms_pieces ts))) (sym (label_is l)) ∙ ap (λ z. label_text l ++ z) (opened_closed ts)
 
 module _ (names : List Name) (s : Heap) (name : ℕ → ℕ → ℕ) where
   abbrev text : List Event → List ℕ
