@@ -1,7 +1,7 @@
 -- Weights bound a program in one way, or are refused beside it in one way.
 use Rattle.std.proofs.Common.{ℕ, zero, suc, ◌≡◌, ◌<◌, ◌≤◌, ◌&&◌, ◌⊎◌, inl, inr, Bool, true, false, List, [], ◌∷◌, Option, Some, None, length, slice_get, refl, sym, ap, subst, ◌∙◌, arith}
 use Rattle.std.specs.Prelude.{IsTrue, nat_lt}
-use Rattle.std.specs.List.{list_all}
+use Rattle.std.specs.List.{list_all, AllZip}
 use Rattle.std.proofs.lemmas.Bool.{cases_lt}
 use Rattle.std.proofs.lemmas.Option.{same_Some}
 use Rattle.lmn_app_accepted.specs.Rules.{AcceptedTexts}
@@ -16,7 +16,6 @@ use Rattle.lmn_weight.specs.Bounding.{WeightsBound}
 use Rattle.lmn_congruence.specs.Rules.{Name}
 use Rattle.lmn_instr_reading.specs.Reading.{AddsNames}
 use Rattle.lmn_guards.specs.declared.plan.GuardPlan.{GuardPlan}
-use Rattle.lmn_flatten_plain.specs.Plains.{EachPair}
 use Rattle.lmn_flatten_plain.specs.SamePlains.{SameRule}
 use Rattle.lmn_app_reading.specs.Laws.{AreOne}
 use Rattle.lmn_app_reading.proofs.OneRead.{one_acceptance}
@@ -91,7 +90,7 @@ module _ (w : Weights) (p : Plain) (plans : List GuardPlan) where
 
 -- ---- a program that is read beside weights twice
 
-turned : {A B : Type 0} (R : A → B → Type 0) (xs : List A) (ys : List B) → EachPair R xs ys → EachPair (λ y x. R x y) ys xs
+turned : {A B : Type 0} (R : A → B → Type 0) (xs : List A) (ys : List B) → AllZip R xs ys → AllZip (λ y x. R x y) ys xs
 turned R [] [] h = tt
 turned R [] (y ∷ ys) h = absurd h
 turned R (x ∷ xs) [] h = absurd h

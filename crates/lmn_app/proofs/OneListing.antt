@@ -1,5 +1,6 @@
 -- A text has one listing: rules that are the same but for the addresses of boxes in conditions have one code.
 use Rattle.std.proofs.Common.{◌≡◌, ℕ, ◌++◌, List, [], ◌∷◌, length, Option, refl, sym, ap, ◌∙◌, subst}
+use Rattle.std.specs.List.{AllZip}
 use Rattle.lmn_base.specs.declared.guard.Cond.{Cond}
 use Rattle.lmn_base.specs.declared.guard.Cond.TheVariants as condition
 use Rattle.lmn_base.specs.declared.guard.Expr.{Expr}
@@ -15,7 +16,6 @@ use Rattle.lmn_guards.specs.declared.plan.GuardPlan.{GuardPlan}
 use Rattle.lmn_instr_code.specs.HeadCode.{all_filled_code, bind_register, comparison, differ_parts_code, equal_code, guard_code, items_code, operation_code, part_named, parts_code, value_code}
 use Rattle.lmn_instr_code.specs.declared.instr.Instr.TheVariants.{Commit}
 use Rattle.lmn_compile_listing.specs.Listings.{code_listings, rule_code, rule_codes}
-use Rattle.lmn_flatten_plain.specs.Plains.{EachPair}
 use Rattle.lmn_flatten_plain.specs.SamePlains.{SameCond, SameExpr, SameRule, same_comparison, same_condition, same_context, same_equation, same_integer, same_operation}
 use Rattle.lmn_app_reading.specs.Texts.{IsAcceptedAs}
 use Rattle.lmn_app_reading.proofs.OneRead.{one_acceptance}
@@ -76,13 +76,13 @@ module _ (part : ℕ → Option ℕ) where
 
   -- ---- guards
 
-  same_guard_code : (cs ds : List Cond) → EachPair SameCond cs ds → (bound : ℕ → ℕ) (v : ℕ) → guard_code part bound v cs ≡ guard_code part bound v ds
+  same_guard_code : (cs ds : List Cond) → AllZip SameCond cs ds → (bound : ℕ → ℕ) (v : ℕ) → guard_code part bound v cs ≡ guard_code part bound v ds
   same_guard_code [] [] h bound v = refl
   same_guard_code [] (d ∷ ds) h bound v = absurd h
   same_guard_code (c ∷ cs) [] h bound v = absurd h
   same_guard_code (c ∷ cs) (d ∷ ds) h bound v = condition_code cs ds (same_guard_code cs ds h.1) bound v c d h.0
 
-  same_guard_registers : (cs ds : List Cond) → EachPair SameCond cs ds → (bound : ℕ → ℕ) (v : ℕ) → guard_registers part bound v cs ≡ guard_registers part bound v ds
+  same_guard_registers : (cs ds : List Cond) → AllZip SameCond cs ds → (bound : ℕ → ℕ) (v : ℕ) → guard_registers part bound v cs ≡ guard_registers part bound v ds
   same_guard_registers [] [] h bound v = refl
   same_guard_registers [] (d ∷ ds) h bound v = absurd h
   same_guard_registers (c ∷ cs) [] h bound v = absurd h
@@ -94,7 +94,7 @@ module _ (part : ℕ → Option ℕ) where
 abbrev guarded : RuleTree → List Cond → RuleTree
 guarded r cs = record { head = r.head; guard = cs; body = r.body; links = r.links; pos = r.pos }
 
-same_guarded : (r : RuleTree) (plan : GuardPlan) (cs ds : List Cond) → EachPair SameCond cs ds → rule_code (guarded r cs) plan ≡ rule_code (guarded r ds) plan
+same_guarded : (r : RuleTree) (plan : GuardPlan) (cs ds : List Cond) → AllZip SameCond cs ds → rule_code (guarded r cs) plan ≡ rule_code (guarded r ds) plan
 same_guarded r plan cs ds h =
     let items = head_items r plan in
     λ i. record {
@@ -120,7 +120,7 @@ same_rule_code : (r s : RuleTree) (plan : GuardPlan) → SameRule r s → rule_c
 same_rule_code r s plan h =
     (λ i. rule_code (record { head = h.head i; guard = r.guard; body = h.body i; links = h.links i; pos = h.pos i }) plan) ∙ same_guarded s plan r.guard s.guard h.guard
 
-same_codes : (rs ss : List RuleTree) (plans : List GuardPlan) → EachPair SameRule rs ss → rule_codes rs plans ≡ rule_codes ss plans
+same_codes : (rs ss : List RuleTree) (plans : List GuardPlan) → AllZip SameRule rs ss → rule_codes rs plans ≡ rule_codes ss plans
 same_codes [] [] plans h = refl
 same_codes [] (s ∷ ss) plans h = absurd h
 same_codes (r ∷ rs) [] plans h = absurd h

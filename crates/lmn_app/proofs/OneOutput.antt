@@ -1,7 +1,7 @@
 -- Two executions of one listing beside one program have one output.
 use Rattle.std.proofs.Common.{◌≡◌, ◌∙◌, ◌+◌, ◌-◌, ◌*◌, ◌++◌, ℕ, suc, List, [], ◌∷◌, length, map, refl, sym, ap, subst, arith}
 use Rattle.std.specs.Prelude.{slice_index_or}
-use Rattle.std.specs.List.{flat_map}
+use Rattle.std.specs.List.{flat_map, AllZip}
 use Rattle.lmn_adequacy.proofs.PlainSolids.{solid_of_plain_is_one}
 use Rattle.lmn_base.specs.declared.guard.Cond.{Cond}
 use Rattle.lmn_base.specs.declared.guard.Expr.{Expr}
@@ -21,7 +21,6 @@ use Rattle.lmn_congruence.specs.Translation as translated
 use Rattle.lmn_congruence.specs.Translation.{condition_of, expression_of, level_of, name_of, no_such_rule, numbered_region, region_of, rules_from}
 use Rattle.lmn_instr_code.specs.declared.instr.Code.{Code}
 use Rattle.lmn_verify_compiled.specs.Laws.{AcceptedCanBeListed}
-use Rattle.lmn_flatten_plain.specs.Plains.{EachPair}
 use Rattle.lmn_flatten_plain.specs.SamePlains.{SameCond, SameExpr, SameRule, same_comparison, same_condition, same_context, same_equation, same_integer, same_operation}
 use Rattle.lmn_app_reading.proofs.OneRead.{one_acceptance}
 use Rattle.lmn_instr_reading.specs.Reading.{AddsNames, NumbersNames}
@@ -49,14 +48,14 @@ same_tree names c _ same_condition = refl
 same_tree names _ _ (same_comparison {op = op} h g) = λ i. tree.compares op (same_expression names h i) (same_expression names g i)
 same_tree names _ _ (same_equation {u = u} h) = λ i. tree.equates (name_of names u.name) (same_expression names h i)
 
-same_conditions : (names : List Name) (cs ds : List Cond) → EachPair SameCond cs ds → map (condition_of names) cs ≡ map (condition_of names) ds
+same_conditions : (names : List Name) (cs ds : List Cond) → AllZip SameCond cs ds → map (condition_of names) cs ≡ map (condition_of names) ds
 same_conditions names [] [] h = refl
 same_conditions names [] (d ∷ ds) h = absurd h
 same_conditions names (c ∷ cs) [] h = absurd h
 same_conditions names (c ∷ cs) (d ∷ ds) h = λ i. same_tree names c d h.0 i ∷ same_conditions names cs ds h.1 i
 
 -- the rules of two plains of one text are the same trees
-pub same_rules : (names : List Name) (k : ℕ) (rs ss : List RuleTree) → EachPair SameRule rs ss → rules_from names k rs ≡ rules_from names k ss
+pub same_rules : (names : List Name) (k : ℕ) (rs ss : List RuleTree) → AllZip SameRule rs ss → rules_from names k rs ≡ rules_from names k ss
 same_rules names k [] [] h = refl
 same_rules names k [] (s ∷ ss) h = absurd h
 same_rules names k (r ∷ rs) [] h = absurd h
@@ -67,14 +66,14 @@ same_rules names k (r ∷ rs) (s ∷ ss) h =
     λ i. tree.rule_of (level_of names (λ n. slice_index_or (rest i) (n - (k + 1)) no_such_rule) (one.head i)) (conditions i)
     (level_of names (λ n. slice_index_or (rest i) (n - (k + 1)) no_such_rule) (one.body i)) ∷ rest i
 
-pub as_many : (rs ss : List RuleTree) → EachPair SameRule rs ss → length rs ≡ length ss
+pub as_many : (rs ss : List RuleTree) → AllZip SameRule rs ss → length rs ≡ length ss
 as_many [] [] h = refl
 as_many [] (s ∷ ss) h = absurd h
 as_many (r ∷ rs) [] h = absurd h
 as_many (r ∷ rs) (s ∷ ss) h = ap suc (as_many rs ss h.1)
 
 -- so solids have the same region by both
-same_region : (names : List Name) (rs ss : List RuleTree) → EachPair SameRule rs ss → (S : Solid) → region_of names rs S ≡ region_of names ss S
+same_region : (names : List Name) (rs ss : List RuleTree) → AllZip SameRule rs ss → (S : Solid) → region_of names rs S ≡ region_of names ss S
 same_region names rs ss same S = λ i. numbered_region names (λ n. slice_index_or (same_rules names 0 rs ss same i) n no_such_rule) S.root
 
 -- ---- one output

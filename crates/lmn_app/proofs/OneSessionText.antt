@@ -5,6 +5,7 @@ use Rattle.std.proofs.lemmas.Fmt.{decimal_injective, signed_decimal_injective}
 use Rattle.std.proofs.lemmas.List.{append_cancel_left}
 use Rattle.std.proofs.lemmas.List.Elements.{All-weaker}
 use Rattle.std.specs.Fmt.{decimal}
+use Rattle.std.specs.List.{AllZip}
 use Rattle.lmn_adequacy.specs.Runs.{Trace}
 use Rattle.lmn_app_accepted.specs.Rules.{AcceptedTexts}
 use Rattle.lmn_app_runs.specs.Laws.{TracesAreRuns}
@@ -29,7 +30,6 @@ use Rattle.lmn_debug_script.proofs.OneOrder.{operator_once, short}
 use Rattle.lmn_debug_script.specs.Scripts.{HasForm, IsNumbered, IsOrder, IsUntil, IsWritable, Says, an_empty_line, cmp_text, of_back, of_show, of_step, of_until, one_order, says_nothing}
 use Rattle.lmn_debug_script.specs.declared.order.Order.{Order}
 use Rattle.lmn_debug_script.specs.declared.order.Order.TheVariants.{Back, Show, Step, Until}
-use Rattle.lmn_flatten_plain.specs.Plains.{EachPair}
 use Rattle.lmn_flatten_plain.specs.SolidLines.{as_level}
 use Rattle.lmn_flatten_plain.specs.Words.{line_of}
 use Rattle.lmn_instr_code.specs.Labels.{listed_label_text}
@@ -114,7 +114,7 @@ module _ (a b : List Name) where
   -- ---- a script
 
   abbrev SameOrders : List Order → List Order → Type 0
-  SameOrders = EachPair SameOrder
+  SameOrders = AllZip SameOrder
 
   one_more : (xs ys : List Order) (x y : Order) → SameOrders xs ys → SameOrder x y → SameOrders (xs ++ x ∷ []) (ys ++ y ∷ [])
   one_more [] [] x y h k = (k, tt)

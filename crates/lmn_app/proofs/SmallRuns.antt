@@ -4,6 +4,7 @@ use Rattle.std.specs.Prelude.{Bool, codes, true, false}
 use Rattle.std.specs.declared.alloc.Global.{Global}
 use Rattle.std.proofs.lemmas.List.{length-append}
 use Rattle.std.proofs.lemmas.List.Elements.{Contains-append_right}
+use Rattle.std.specs.List.{AllZip}
 use Rattle.lmn_base.specs.declared.level.Level as base
 use Rattle.lmn_base.specs.declared.level.Level.{map-Level}
 use Rattle.lmn_base.specs.declared.level.Level.TheFolds.{fold-roll-Level}
@@ -19,7 +20,6 @@ use Rattle.lmn_congruence.specs.Regions.{Region, region_process}
 use Rattle.lmn_congruence.specs.Rules.{Level, Name, Rule, atom_leaf, level, no_level, no_rule, only_leaves, rule_and, rule_of}
 use Rattle.lmn_congruence.specs.Translation.{level_of, level_step, no_such_rule, numbered_rule, plain_process, rules_from, top_of}
 use Rattle.lmn_guards.specs.declared.plan.GuardPlan.{GuardPlan}
-use Rattle.lmn_flatten_plain.specs.Plains.{EachPair}
 use Rattle.lmn_print_folded.specs.Lines.{IsLine}
 use Rattle.lmn_flatten_plain.specs.SolidLines.{as_level}
 use Rattle.lmn_flatten_plain.proofs.SolidLines.{own_solid}
@@ -121,7 +121,7 @@ last_line [] = []
 last_line (l ∷ []) = l
 last_line (l ∷ m ∷ ls) = last_line (m ∷ ls)
 
-of_last : (R : Process → List ℕ → Type 0) (Ps : List Process) (Q : Process) (lines : List (List ℕ)) → EachPair R (Ps ++ Q ∷ []) lines → R Q (last_line lines)
+of_last : (R : Process → List ℕ → Type 0) (Ps : List Process) (Q : Process) (lines : List (List ℕ)) → AllZip R (Ps ++ Q ∷ []) lines → R Q (last_line lines)
 of_last R [] Q [] h = absurd h
 of_last R [] Q (l ∷ []) h = h.0
 of_last R [] Q (l ∷ m ∷ ls) h = absurd h.1
@@ -211,7 +211,7 @@ first_embeds = of_trace (short_trace_ends.0 root_first).0 refl
         subst (λ S. HasEmbedding S) (sym (none_turned t none)) (record { path = c.path; number = c.number; positions = c.positions; embeds = c.chosen.embeds })
 
 -- each solid has a line
-as_many : (xs : List Region) (ys : List (List ℕ)) → EachPair (IsLine false) xs ys → length xs ≡ length ys
+as_many : (xs : List Region) (ys : List (List ℕ)) → AllZip (IsLine false) xs ys → length xs ≡ length ys
 as_many [] [] h = refl
 as_many [] (y ∷ ys) h = absurd h
 as_many (x ∷ xs) [] h = absurd h

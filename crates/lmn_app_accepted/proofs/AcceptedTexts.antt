@@ -1,7 +1,7 @@
 -- What holds of the rules of an accepted text.
 use Rattle.std.proofs.Common.{ℕ, zero, suc, ◌≡◌, ◌<◌, List, [], ◌∷◌, length, map, Some, All, sym, subst}
 use Rattle.std.specs.Prelude.{slice_get}
-use Rattle.std.specs.List.{flat_map, AllByRecursion}
+use Rattle.std.specs.List.{flat_map, AllByRecursion, AllZip}
 use Rattle.std.proofs.lemmas.List.Elements.{All-weaker}
 use Rattle.std.proofs.lemmas.Option.{same_Some}
 use Rattle.lmn_base.specs.declared.rule.Plain.{Plain}
@@ -22,7 +22,6 @@ use Rattle.lmn_guards.specs.Plans.{IsPlan}
 use Rattle.lmn_lexer.specs.Laying.{words_of}
 use Rattle.lmn_linkcheck.proofs.Tables.{rule_at}
 use Rattle.lmn_parser.proofs.Fitting.{trees_fit}
-use Rattle.lmn_flatten_plain.specs.Plains.{EachPair}
 use Rattle.lmn_app_reading.proofs.NamedPlains.{plains_are_named}
 use Rattle.lmn_app_reading.proofs.Readings.{well_made}
 use Rattle.lmn_app_reading.specs.Texts.{IsAcceptedAs, LeavesNames}
@@ -33,7 +32,7 @@ use Rattle.lmn_app_accepted.specs.Rules.{HasRule, AcceptedTexts}
 use Rattle.lmn_base.proofs.Lists.{all_of_left, all_of_right}
 
 -- the plan at a place is that of the rule there
-pub each_at : (rs : List RuleTree) (plans : List GuardPlan) (k : ℕ) (r : RuleTree) (plan : GuardPlan) → EachPair IsPlan rs plans → slice_get rs k ≡ Some r → slice_get plans k ≡ Some plan → IsPlan r plan
+pub each_at : (rs : List RuleTree) (plans : List GuardPlan) (k : ℕ) (r : RuleTree) (plan : GuardPlan) → AllZip IsPlan rs plans → slice_get rs k ≡ Some r → slice_get plans k ≡ Some plan → IsPlan r plan
 each_at [] [] zero r plan h e f = absurd (cc)
 each_at [] [] (suc k) r plan h e f = absurd (cc)
 each_at [] (q ∷ qs) k r plan h e f = absurd h

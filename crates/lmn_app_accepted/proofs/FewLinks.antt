@@ -1,7 +1,7 @@
 -- No atom of the plain of a tree within the limits has too many links.
 use Rattle.std.proofs.Common.{◌≡◌, ℕ, suc, ◌+◌, ◌≤◌, List, [], ◌∷◌, ◌++◌, map, length, refl, sym, ap, ◌∙◌, subst, arith}
 use Rattle.std.specs.Prelude.{codes}
-use Rattle.std.specs.List.{AllByRecursion}
+use Rattle.std.specs.List.{AllByRecursion, AllZip}
 use Rattle.std.proofs.lemmas.List.{length-append, length-map}
 use Rattle.lmn_parser_grammar.specs.Limits.{most_arguments, most_term_arguments}
 use Rattle.lmn_base.specs.declared.level.Leaf as base
@@ -20,7 +20,7 @@ use Rattle.lmn_flatten_plain.specs.Links.{Link, Use, made}
 use Rattle.lmn_flatten_plain.specs.Expanded.{ExpandedLeaf, atom_leaf, typed_leaf, ExpandedLevel, level, ExpandedLevels, no_level, level_and, expanded_levels, ExpandedRule, renamed_use, renamed_leaf, renamed_level, all_renamed}
 use Rattle.lmn_flatten_plain.specs.Parts.{Parts, no_parts, joined_parts, level_from_parts, NumberedParts, ◌⊕◌, one_leaf, fresh_copy, rule_of_parts}
 use Rattle.lmn_flatten_plain.specs.Expansion.{link_used, expanded_arguments, last_link, expanded_term, cells, expanded_terms, expanded_item, expanded_items, expanded_clause, expanded_clauses, parts_of}
-use Rattle.lmn_flatten_plain.specs.Plains.{EachPair, numbered, numbered_leaf, numbered_use, IsRuleOf, IsPlainOf}
+use Rattle.lmn_flatten_plain.specs.Plains.{numbered, numbered_leaf, numbered_use, IsRuleOf, IsPlainOf}
 use Rattle.lmn_flatten_plain.proofs.NumberedLevels.{all_leaves, leaves_below, leaves_numbered}
 use Rattle.lmn_base.proofs.Lists.{all_append, all_left as all_front, all_right as all_back}
 
@@ -192,7 +192,7 @@ module _ (words : List Word) (places : List Pos) where
       pub head : AllByRecursion HasFewLinks (leaves_of t.head)
       pub body : AllByRecursion HasFewLinks (leaves_of t.body)
 
-    rules_few : (rs : List ExpandedRule) (ts : List RuleTree) → EachPair (IsRuleOf words places names) rs ts → AllByRecursion RuleFew rs → AllByRecursion RuleHasFew ts
+    rules_few : (rs : List ExpandedRule) (ts : List RuleTree) → AllZip (IsRuleOf words places names) rs ts → AllByRecursion RuleFew rs → AllByRecursion RuleHasFew ts
     rules_few [] [] h f = tt
     rules_few [] (t ∷ ts) h f = absurd h
     rules_few (r ∷ rs) [] h f = absurd h

@@ -1,5 +1,6 @@
 -- The plain of an accepted text can be loaded, and the list that reading leaves has its names.
 use Rattle.std.proofs.Common.{ℕ, List, [], ◌∷◌, ◌≡◌, arith, length, refl}
+use Rattle.std.specs.List.{AllZip}
 use Rattle.lmn_base.specs.declared.rule.Plain.{Plain}
 use Rattle.lmn_base.specs.declared.rule.RuleTree.{RuleTree}
 use Rattle.lmn_base.specs.Names.{first_names}
@@ -8,14 +9,13 @@ use Rattle.lmn_congruence.specs.Rules.{Name}
 use Rattle.lmn_guards.specs.Plans.{IsPlan}
 use Rattle.lmn_guards.specs.declared.plan.GuardPlan.{GuardPlan}
 use Rattle.lmn_linkcheck.proofs.LinkedLemmas.{no_fault_is_linked}
-use Rattle.lmn_flatten_plain.specs.Plains.{EachPair}
 use Rattle.lmn_app_reading.specs.Texts.{IsAcceptedAs, LeavesNames}
 use Rattle.lmn_schedule.specs.Held.{AreNames, CanBeLoaded, reading_by}
 use Rattle.lmn_app_accepted.specs.Rules.{AcceptedTexts}
 use Rattle.lmn_app_accepted.proofs.FirstNames.{first_are_names}
 
 -- as many plans as rules, where each rule has its plan
-pub as_many : (rs : List RuleTree) (plans : List GuardPlan) → EachPair IsPlan rs plans → length plans ≡ length rs
+pub as_many : (rs : List RuleTree) (plans : List GuardPlan) → AllZip IsPlan rs plans → length plans ≡ length rs
 as_many [] [] h = refl
 as_many [] (q ∷ qs) h = absurd h
 as_many (r ∷ rs) [] h = absurd h

@@ -1,7 +1,7 @@
 -- A text that is read by a list of names is read as the same plain by a list that goes on behind it.
 use Rattle.std.proofs.Common.{◌≡◌, ℕ, suc, ◌<◌, Bool, true, false, if◌then◌else◌, List, [], ◌∷◌, ◌++◌, length, map, refl, sym, ap, ◌∙◌, subst, arith, length-append}
 use Rattle.std.specs.Prelude.{bytes_eq}
-use Rattle.std.specs.List.{AllByRecursion, flat_map}
+use Rattle.std.specs.List.{AllByRecursion, flat_map, AllZip}
 use Rattle.std.proofs.lemmas.List.Elements.{recursion_from_All}
 use Rattle.lmn_base.specs.declared.functor.Label.TheVariants.{Name}
 use Rattle.lmn_base.specs.declared.guard.Cond.{Cond}
@@ -30,7 +30,7 @@ use Rattle.lmn_flatten_plain.specs.Expansion.{parts_of}
 use Rattle.lmn_flatten_plain.specs.Links.{Link}
 use Rattle.lmn_flatten_plain.specs.Meanings.{name_at, place_at}
 use Rattle.lmn_flatten_plain.specs.Parts.{level_from_parts}
-use Rattle.lmn_flatten_plain.specs.Plains.{number_of, numbered_use, numbered_leaf, numbered_context, numbered, all_numbered, EachPair, context_use, IsExpr, IsCond, IsRuleOf, IsPlainOf}
+use Rattle.lmn_flatten_plain.specs.Plains.{number_of, numbered_use, numbered_leaf, numbered_context, numbered, all_numbered, context_use, IsExpr, IsCond, IsRuleOf, IsPlainOf}
 use Rattle.lmn_app_reading.specs.Texts.{IsAcceptedAs, ReadsAs}
 use Rattle.lmn_app_reading.proofs.NamedPlains.{AllBelow}
 use Rattle.lmn_schedule.specs.Held.{reading_by}
@@ -143,8 +143,8 @@ module _ (names more : List tree.Name) where
         let second = use_there q behind.0 in
         e ∙ (λ i. cond.Differ (first i) (second i) (place_at words places s))
 
-    guard_there : (xs : List syntax.WrittenCondition) (cs : List Cond) → EachPair (IsCond words places names) xs cs → AllBelow names (flat_map condition_names cs)
-        → EachPair (IsCond words places later) xs cs
+    guard_there : (xs : List syntax.WrittenCondition) (cs : List Cond) → AllZip (IsCond words places names) xs cs → AllBelow names (flat_map condition_names cs)
+        → AllZip (IsCond words places later) xs cs
     guard_there [] [] h u = h
     guard_there [] (c ∷ cs) h u = h
     guard_there (x ∷ xs) [] h u = h
@@ -167,8 +167,8 @@ module _ (names more : List tree.Name) where
           table = h.table;
         }
 
-    rules_there : (rs : List ExpandedRule) (ts : List RuleTree) → EachPair (IsRuleOf words places names) rs ts → AllBelow names (flat_map rule_names ts)
-        → EachPair (IsRuleOf words places later) rs ts
+    rules_there : (rs : List ExpandedRule) (ts : List RuleTree) → AllZip (IsRuleOf words places names) rs ts → AllBelow names (flat_map rule_names ts)
+        → AllZip (IsRuleOf words places later) rs ts
     rules_there [] [] h u = h
     rules_there [] (t ∷ ts) h u = h
     rules_there (r ∷ rs) [] h u = h

@@ -1,6 +1,6 @@
 -- A guard with the numbers of two lists of names is one guard of names.
 use Rattle.std.proofs.Common.{◌≡◌, ℕ, ◌<◌, Bool, if◌then◌else◌, List, [], ◌∷◌, length, map, refl, sym, ap, ◌∙◌, subst}
-use Rattle.std.specs.List.{flat_map}
+use Rattle.std.specs.List.{flat_map, AllZip}
 use Rattle.lmn_base.specs.declared.refusal.Pos.{Pos}
 use Rattle.lmn_base.specs.declared.guard.Cond.{Cond}
 use Rattle.lmn_base.specs.declared.guard.Expr.{Expr}
@@ -13,7 +13,7 @@ use Rattle.lmn_congruence.specs.Translation.{name_of, names_of, expression_step,
 use Rattle.lmn_lexer.specs.Laying.{Word}
 use Rattle.lmn_parser.specs.Syntax as syntax
 use Rattle.lmn_flatten_plain.specs.Meanings.{name_at}
-use Rattle.lmn_flatten_plain.specs.Plains.{number_of, EachPair, context_use, IsExpr, IsCond}
+use Rattle.lmn_flatten_plain.specs.Plains.{number_of, context_use, IsExpr, IsCond}
 use Rattle.lmn_app_accepted.proofs.NumbersBack.{Numbered, name_same, int_same, unary_same, ground_same}
 use Rattle.lmn_app_reading.proofs.NamedPlains.{AllBelow}
 use Rattle.lmn_base.proofs.Lists.{all_left as all_front, all_right as all_back}
@@ -99,7 +99,7 @@ module _ (words : List Word) (places : List Pos) (names others : List tree.Name)
       let right = token_same q more.0 behind.0 in
       ap (condition_of names) h ∙ (λ i. tree.differs (left i) (right i)) ∙ sym (ap (condition_of others) g)
 
-  pub guard_same : (xs : List syntax.WrittenCondition) (as_ bs : List Cond) → EachPair (IsCond words places names) xs as_ → EachPair (IsCond words places others) xs bs
+  pub guard_same : (xs : List syntax.WrittenCondition) (as_ bs : List Cond) → AllZip (IsCond words places names) xs as_ → AllZip (IsCond words places others) xs bs
       → AllBelow names (flat_map condition_names as_) → AllBelow others (flat_map condition_names bs) → map (condition_of names) as_ ≡ map (condition_of others) bs
   guard_same [] [] [] h g u v = refl
   guard_same [] [] (b ∷ bs) h g u v = absurd g

@@ -1,6 +1,6 @@
 -- The plain of a tree, with the numbers of two lists of names, is one tree of names, rule by rule.
 use Rattle.std.proofs.Common.{◌≡◌, ℕ, suc, ◌+◌, ◌-◌, ◌<◌, List, [], ◌∷◌, ◌++◌, length, slice_index_or, refl, sym, ap, ◌∙◌, subst}
-use Rattle.std.specs.List.{flat_map}
+use Rattle.std.specs.List.{flat_map, AllZip}
 use Rattle.lmn_base.specs.declared.refusal.Pos.{Pos}
 use Rattle.lmn_base.specs.declared.rule.Plain.{Plain}
 use Rattle.lmn_base.specs.declared.rule.RuleTree.{RuleTree}
@@ -16,7 +16,7 @@ use Rattle.lmn_flatten_plain.specs.Expanded as expanded
 use Rattle.lmn_flatten_plain.specs.Expanded.{ExpandedRule}
 use Rattle.lmn_flatten_plain.specs.Expansion.{parts_of}
 use Rattle.lmn_flatten_plain.specs.Parts.{level_from_parts}
-use Rattle.lmn_flatten_plain.specs.Plains.{EachPair, IsRuleOf, IsPlainOf}
+use Rattle.lmn_flatten_plain.specs.Plains.{IsRuleOf, IsPlainOf}
 use Rattle.lmn_flatten_plain.proofs.SameNumbers.{numbers_agree}
 use Rattle.lmn_app_accepted.proofs.HeldLevels.{level_held}
 use Rattle.lmn_app_reading.proofs.NamedPlains.{AllBelow}
@@ -25,7 +25,7 @@ use Rattle.lmn_app_accepted.proofs.SameGuards.{guard_same}
 use Rattle.lmn_base.proofs.Lists.{all_left as all_front, all_right as all_back}
 
 -- two lists that are related to one are as long
-pub same_counts : {A B C : Type 0} (R : A → B → Type 0) (S : A → C → Type 0) (xs : List A) (ys : List B) (zs : List C) → EachPair R xs ys → EachPair S xs zs → length ys ≡ length zs
+pub same_counts : {A B C : Type 0} (R : A → B → Type 0) (S : A → C → Type 0) (xs : List A) (ys : List B) (zs : List C) → AllZip R xs ys → AllZip S xs zs → length ys ≡ length zs
 same_counts R S [] [] [] h g = refl
 same_counts R S [] [] (z ∷ zs) h g = absurd g
 same_counts R S [] (y ∷ ys) zs h g = absurd h
@@ -65,7 +65,7 @@ module _ (words : List Word) (places : List Pos) where
         let bodies = ap (translation.level_of names rule) h.body ∙ body ∙ sym (ap (translation.level_of others other) g.body) in
         λ i. tree.rule_of (heads i) (guard i) (bodies i)
 
-    rules_same : (k : ℕ) (rs : List ExpandedRule) (ts us : List RuleTree) → EachPair (IsRuleOf words places names) rs ts → EachPair (IsRuleOf words places others) rs us
+    rules_same : (k : ℕ) (rs : List ExpandedRule) (ts us : List RuleTree) → AllZip (IsRuleOf words places names) rs ts → AllZip (IsRuleOf words places others) rs us
         → AllBelow names (flat_map rule_names ts) → AllBelow others (flat_map rule_names us) → rules_from names k ts ≡ rules_from others k us
     rules_same k [] [] [] h g v w = refl
     rules_same k [] [] (u ∷ us) h g v w = absurd g

@@ -1,6 +1,6 @@
 -- Each text is accepted or refused.
 use Rattle.std.proofs.Common.{◌≡◌, ℕ, ◌⊎◌, inl, inr, List, [], ◌∷◌, ◌++◌, map, length, Some, None, Option, slice_get, Contains, IsTrue, refl, sym, ap, subst, ◌∙◌}
-use Rattle.std.specs.List.{flat_map}
+use Rattle.std.specs.List.{flat_map, AllZip}
 use Rattle.std.specs.declared.alloc.Global.{Global}
 use Rattle.std.proofs.lemmas.List.Elements.{All-contains, All-cons}
 use Rattle.lmn_base.specs.declared.refusal.Pos.{Pos}
@@ -35,7 +35,6 @@ use Rattle.lmn_parser.proofs.TreesExist.{trees_exist}
 use Rattle.lmn_parser.specs.Faults.{IsRefusalOf}
 use Rattle.lmn_parser.specs.Parsing.{kinds_of}
 use Rattle.lmn_flatten_plain.proofs.SomePlain.{some_plain}
-use Rattle.lmn_flatten_plain.specs.Plains.{EachPair}
 use Rattle.lmn_app_reading.specs.Laws.{IsAcceptedText, ReadingAcceptsOrRefuses}
 use Rattle.lmn_app_reading.specs.Texts.{ReadsAs, IsRefusedAs, by_bytes, by_tokens, by_contexts, by_links, by_rules, rows_of_rules}
 use Rattle.lmn_app_reading.proofs.Readings.{well_made}
@@ -85,7 +84,7 @@ links_decided p is = let first = some_first_of (told_of_plain p) in by first.0 f
 plan_of : (r : RuleTree) → (plan : GuardPlan) × IsPlan r plan
 plan_of r = (record { kinds = numbered_uses (typed_use r.head r.guard) 0 (leaves_by_membrane r.head); bound = flat_map (binding r.head) r.guard }, record { kinds = refl; bound = refl })
 
-plans_of : (rs : List RuleTree) → (plans : List GuardPlan) × EachPair IsPlan rs plans
+plans_of : (rs : List RuleTree) → (plans : List GuardPlan) × AllZip IsPlan rs plans
 plans_of [] = ([], tt)
 plans_of (r ∷ rs) = let one = plan_of r in let rest = plans_of rs in (one.0 ∷ rest.0, (one.1, rest.1))
 

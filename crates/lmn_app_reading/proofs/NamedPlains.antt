@@ -1,7 +1,7 @@
 -- The plain that is read of a text has only names of the list that reading leaves.
 use Rattle.std.proofs.Common.{◌≡◌, ℕ, ◌<◌, List, [], ◌∷◌, ◌++◌, length, map, slice_get, Some, sym, ap, ◌∙◌, subst}
 use Rattle.std.specs.Prelude.{option_map}
-use Rattle.std.specs.List.{AllByRecursion, flat_map}
+use Rattle.std.specs.List.{AllByRecursion, flat_map, AllZip}
 use Rattle.std.proofs.lemmas.List.Elements.{All-from_recursion}
 use Rattle.std.proofs.lemmas.Option.{get_or_from_slice_get, slice_get-map}
 use Rattle.lmn_base.specs.declared.guard.Cond.{Cond}
@@ -30,7 +30,7 @@ use Rattle.lmn_flatten_plain.specs.Expanded.{ExpandedLeaf, atom_leaf, typed_leaf
 use Rattle.lmn_flatten_plain.specs.Expansion.{parts_of}
 use Rattle.lmn_flatten_plain.specs.Meanings.{word_at, name_spelled}
 use Rattle.lmn_flatten_plain.specs.Parts.{level_from_parts}
-use Rattle.lmn_flatten_plain.specs.Plains.{EachPair, number_of, numbered, all_numbered, numbered_leaf, numbered_context, context_use, IsExpr, IsCond, IsRuleOf}
+use Rattle.lmn_flatten_plain.specs.Plains.{number_of, numbered, all_numbered, numbered_leaf, numbered_context, context_use, IsExpr, IsCond, IsRuleOf}
 use Rattle.lmn_flatten_plain.proofs.NumberedLevels.{all_leaves, leaves_below, leaves_numbered}
 use Rattle.lmn_app_reading.specs.Laws.{PlainsAreNamed}
 use Rattle.lmn_app_reading.proofs.ListedNames.{HoldsNames, names_held, number_below}
@@ -145,7 +145,7 @@ module _ (names : List Name) where
     condition_below (syntax.different p q s) x is h =
         let P : Cond → Type 0 = λ x. AllBelow (condition_names x) in subst P (sym is) (h.0, (h.1, tt))
 
-    guard_below : (cs : List syntax.WrittenCondition) (xs : List Cond) → EachPair (IsCond words places names) cs xs → AllByRecursion (ConditionNamed Numbered words places) cs
+    guard_below : (cs : List syntax.WrittenCondition) (xs : List Cond) → AllZip (IsCond words places names) cs xs → AllByRecursion (ConditionNamed Numbered words places) cs
         → AllBelow (flat_map condition_names xs)
     guard_below [] [] is h = tt
     guard_below [] (x ∷ xs) is h = absurd is
@@ -159,7 +159,7 @@ module _ (names : List Name) where
         (all_append Below (level_names t.head) (flat_map condition_names t.guard) (level_below is.number r.head t.head is.head h.0) (guard_below r.guard t.guard is.guard h.1))
         (level_below is.number r.body t.body is.body h.2)
 
-    rules_below : (rs : List ExpandedRule) (ts : List RuleTree) → EachPair (IsRuleOf words places names) rs ts → AllByRecursion (RuleNamed Numbered words places) rs
+    rules_below : (rs : List ExpandedRule) (ts : List RuleTree) → AllZip (IsRuleOf words places names) rs ts → AllByRecursion (RuleNamed Numbered words places) rs
         → AllBelow (flat_map rule_names ts)
     rules_below [] [] is h = tt
     rules_below [] (t ∷ ts) is h = absurd is

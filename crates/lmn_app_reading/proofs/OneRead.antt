@@ -1,6 +1,6 @@
 -- A text is accepted or refused in one way.
 use Rattle.std.proofs.Common.{◌≡◌, ℕ, zero, suc, true, nat_le, List, [], ◌∷◌, map, Some, slice_get, IsTrue, refl, sym, ap, subst, ◌∙◌, arith}
-use Rattle.std.specs.List.{AllByRecursion, flat_map}
+use Rattle.std.specs.List.{AllByRecursion, flat_map, AllZip}
 use Rattle.std.proofs.lemmas.Bool.Decides.{nat_tests}
 use Rattle.std.proofs.lemmas.List.Elements.{All-append}
 use Rattle.std.proofs.lemmas.Option.{same_Some}
@@ -35,7 +35,6 @@ use Rattle.lmn_parser.specs.Parsing.{kinds_of}
 use Rattle.lmn_parser.specs.Syntax.{Clauses}
 use Rattle.lmn_flatten_plain.proofs.OnePlain.{one_plain}
 use Rattle.lmn_flatten_plain.specs.Laws.{IsPlain}
-use Rattle.lmn_flatten_plain.specs.Plains.{EachPair}
 use Rattle.lmn_flatten_plain.specs.SamePlains.{SameRule, SamePlain}
 use Rattle.lmn_app_reading.specs.Laws.{RefusedTextNotAccepted, ReadingRefusesOnce, OneAcceptance}
 use Rattle.lmn_app_reading.specs.Texts.{ReadsAs, IsAcceptedAs, IsRefusedAs, by_bytes, by_tokens, by_contexts, by_links, by_rules, rows_of_rule, rows_of_rules}
@@ -54,7 +53,7 @@ one_token_fault ts a b h k =
 
 -- ---- links
 
-same_at : (rs ss : List RuleTree) → EachPair SameRule rs ss → (k : ℕ) (r : RuleTree) → slice_get rs k ≡ Some r → (s : RuleTree) × (slice_get ss k ≡ Some s) × SameRule r s
+same_at : (rs ss : List RuleTree) → AllZip SameRule rs ss → (k : ℕ) (r : RuleTree) → slice_get rs k ≡ Some r → (s : RuleTree) × (slice_get ss k ≡ Some s) × SameRule r s
 same_at [] [] h zero r e = absurd (cc)
 same_at [] [] h (suc k) r e = absurd (cc)
 same_at [] (s ∷ ss) h k r e = absurd h

@@ -1,6 +1,7 @@
 -- What is read of a text, layer by layer.
 use Rattle.std.proofs.Common.{◌≡◌, ℕ, List, [], ◌∷◌, map, Result, Ok, Err, MatchResult, sym, ap, ◌∙◌, subst}
 use Rattle.std.proofs.lemmas.List.Elements.{All-head}
+use Rattle.std.specs.List.{AllZip}
 use Rattle.lmn_base.specs.declared.refusal.Refusal.{Refusal}
 use Rattle.lmn_base.specs.declared.refusal.TextFault.{TextFault}
 use Rattle.lmn_base.specs.declared.refusal.TextFault.TheVariants.{Refused, NoMemory}
@@ -27,7 +28,6 @@ use Rattle.lmn_parser.specs.Parsing.{kinds_of}
 use Rattle.lmn_parser.specs.Readings.{Reads}
 use Rattle.lmn_parser.specs.Syntax.{Clauses}
 use Rattle.lmn_flatten_plain.specs.Laws.{IsPlain}
-use Rattle.lmn_flatten_plain.specs.Plains.{EachPair}
 use Rattle.lmn_flatten_plain.proofs.PrintedLines.{plains_are_well_made}
 use Rattle.lmn_app_reading.specs.declared.reading.Accepted.{Accepted}
 use Rattle.lmn_app_reading.specs.Texts.{IsAcceptedAs, IsPlainOrRefusal, IsRefusedAs, LeavesNames, LeavesNamesWith, ReadsAs, by_bytes, by_tokens, by_contexts, by_links, by_rules, rows_of_rules}
@@ -97,7 +97,7 @@ module _ (text : List ℕ) (names : List Name) where
 
   pub all_read : (plain : Plain) (y : Result (Unit {0}) Refusal) (u : Unit {0}) (x : Result Accepted TextFault) → ReadsAs text names plain
       → NoneApplies (outside_rules plain.top ∷ []) → y ≡ Ok u → AnswersLinks plain y
-      → MatchResult x (λ a. (a.plain ≡ plain) × NoneApplies (rows_of_rules plain) × EachPair IsPlan plain.rules a.plans) (λ fault. IfRefused fault (RefusedBy (rows_of_rules plain)))
+      → MatchResult x (λ a. (a.plain ≡ plain) × NoneApplies (rows_of_rules plain) × AllZip IsPlan plain.rules a.plans) (λ fault. IfRefused fault (RefusedBy (rows_of_rules plain)))
       → MatchResult x (λ a. IsAcceptedAs text names a.plain a.plans) (λ fault. IfRefused fault (IsRefusedAs text names))
   all_read plain y u (Ok a) r none e h k =
       let P : Plain → Type 0 = λ p. IsAcceptedAs text names p a.plans in

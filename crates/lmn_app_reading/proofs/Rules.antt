@@ -1,6 +1,6 @@
 -- What is asked of the rules of a plain, rule by rule.
 use Rattle.std.proofs.Common.{◌≡◌, ℕ, zero, suc, ◌+◌, ◌<◌, ◌≤◌, List, [], ◌∷◌, ◌++◌, length, take, slice_get, Some, Result, Ok, Err, MatchResult, refl, sym, subst, ◌∙◌, arith}
-use Rattle.std.specs.List.{AllByRecursion, flat_map}
+use Rattle.std.specs.List.{AllByRecursion, flat_map, AllZip}
 use Rattle.std.proofs.lemmas.List.{take_all}
 use Rattle.std.proofs.lemmas.List.Elements.{All-append}
 use Rattle.std.proofs.lemmas.Option.{same_Some, slice_get_within}
@@ -17,7 +17,6 @@ use Rattle.lmn_guards.specs.Accepted.{IsAcceptedRule}
 use Rattle.lmn_guards.specs.GuardCodes.{guard_rows}
 use Rattle.lmn_guards.specs.Plans.{IsPlan}
 use Rattle.lmn_guards.specs.declared.plan.GuardPlan.{GuardPlan}
-use Rattle.lmn_flatten_plain.specs.Plains.{EachPair}
 use Rattle.lmn_app_reading.specs.Texts.{rows_of_rule}
 use Rattle.lmn_base.proofs.Lists.{get_there as some_at}
 
@@ -59,14 +58,14 @@ module _ (table : List RuleTree) (number : ℕ) (seen : RuleTree) (x : Result (U
 -- nothing that is asked of these rules applies, and these are their plans
 pub record SoFar (table done : List RuleTree) (plans : List GuardPlan) : Type 0 where
   pub none : NoneApplies (flat_map (rows_of_rule table) done)
-  pub planned : EachPair IsPlan done plans
+  pub planned : AllZip IsPlan done plans
 
 module _ (table : List RuleTree) where
   abbrev rows : RuleTree → List Row
   rows = rows_of_rule table
 
   pub nothing_so_far : (plans : List GuardPlan) → plans ≡ [] → SoFar table [] plans
-  nothing_so_far plans e = let P : List GuardPlan → Type 0 = EachPair IsPlan [] in record { none = no_rows; planned = subst P (sym e) tt }
+  nothing_so_far plans e = let P : List GuardPlan → Type 0 = AllZip IsPlan [] in record { none = no_rows; planned = subst P (sym e) tt }
 
   refused_in : (rules : List RuleTree) (i : ℕ) (refusal : Refusal) (rule : RuleTree) → NoneApplies (flat_map rows (take i rules)) → slice_get rules i ≡ Some rule
       → RefusedBy (rows rule) refusal → RefusedBy (flat_map rows rules) refusal
@@ -91,8 +90,8 @@ module _ (table : List RuleTree) where
       All-append Nowhere (rows r) (flat_map rows (take (suc i) rs)) (none_before (rows r) (flat_map rows (take i rs)) none)
       (none_more rs i (omega (arith, l)) (none_behind (rows r) (flat_map rows (take i rs)) none) h)
 
-  each_more : (rules : List RuleTree) (i : ℕ) (plans : List GuardPlan) (plan : GuardPlan) → i < length rules → EachPair IsPlan (take i rules) plans
-      → ((rule : RuleTree) → slice_get rules i ≡ Some rule → IsPlan rule plan) → EachPair IsPlan (take (suc i) rules) (plans ++ plan ∷ [])
+  each_more : (rules : List RuleTree) (i : ℕ) (plans : List GuardPlan) (plan : GuardPlan) → i < length rules → AllZip IsPlan (take i rules) plans
+      → ((rule : RuleTree) → slice_get rules i ≡ Some rule → IsPlan rule plan) → AllZip IsPlan (take (suc i) rules) (plans ++ plan ∷ [])
   each_more [] i plans plan l e h = absurd (omega (arith, l))
   each_more (r ∷ rs) zero [] plan l e h = (h r refl, tt)
   each_more (r ∷ rs) zero (p ∷ ps) plan l e h = absurd e
@@ -102,7 +101,7 @@ module _ (table : List RuleTree) where
   pub plans_more : (rules : List RuleTree) (i : ℕ) (plans more : List GuardPlan) (plan : GuardPlan) → i < length rules → SoFar table (take i rules) plans
       → ((rule : RuleTree) → slice_get rules i ≡ Some rule → NoneApplies (rows rule) × IsPlan rule plan) → more ≡ plans ++ plan ∷ [] → SoFar table (take (i + 1) rules) more
   plans_more rules i plans more plan l s h e =
-      let P : List GuardPlan → Type 0 = EachPair IsPlan (take (suc i) rules) in
+      let P : List GuardPlan → Type 0 = AllZip IsPlan (take (suc i) rules) in
       let Q : ℕ → Type 0 = λ n. SoFar table (take n rules) more in
       let next : suc i ≡ i + 1 = omega arith in
       subst Q next (record {
@@ -111,7 +110,7 @@ module _ (table : List RuleTree) where
       })
 
   pub all_planned : (rules : List RuleTree) (i : ℕ) (plans : List GuardPlan) → length rules ≤ i → SoFar table (take i rules) plans
-      → NoneApplies (flat_map rows rules) × EachPair IsPlan rules plans
+      → NoneApplies (flat_map rows rules) × AllZip IsPlan rules plans
   all_planned rules i plans l s =
-      let P : List RuleTree → Type 0 = λ rs. NoneApplies (flat_map rows rs) × EachPair IsPlan rs plans in
+      let P : List RuleTree → Type 0 = λ rs. NoneApplies (flat_map rows rs) × AllZip IsPlan rs plans in
       subst P (take_all i rules l) (s.none, s.planned)

@@ -1,6 +1,6 @@
 -- Rules that are the same but for the addresses of boxes in conditions: what is asked of them is the same.
 use Rattle.std.proofs.Common.{◌≡◌, ℕ, zero, suc, ◌+◌, ◌-◌, Bool, ◌||◌, ◌&&◌, not, nat_lt, List, [], ◌∷◌, ◌++◌, map, length, sum_by, slice_get, slice_index_or, option_map, option_to_list, Some, None, is_some, if◌then◌else◌, refl, sym, ap, ◌∙◌}
-use Rattle.std.specs.List.{flat_map, list_any}
+use Rattle.std.specs.List.{flat_map, list_any, AllZip}
 use Rattle.std.proofs.lemmas.List.Sums.{sum_by-cons}
 use Rattle.lmn_base.specs.declared.guard.Cond.{Cond}
 use Rattle.lmn_base.specs.declared.guard.Cond.TheVariants as condition
@@ -31,7 +31,6 @@ use Rattle.lmn_guards.specs.declared.plan.TypeKind.{TypeKind}
 use Rattle.lmn_guards.specs.declared.plan.TypeKind.TheVariants as kind
 use Rattle.lmn_guards.specs.GuardCodes.{in_head, is_bound, unknown, use_of_none, unbound, is_of_head, wrong_operands, asks, type_of, untyped, unheld, rows_of_conditions, guard_rows}
 use Rattle.lmn_guards.specs.Plans.{IsPlan, with_type, typed_use, leaves_by_membrane, numbered_uses, binding}
-use Rattle.lmn_flatten_plain.specs.Plains.{EachPair}
 use Rattle.lmn_flatten_plain.specs.SamePlains.{SameExpr, same_integer, same_context, same_operation, SameCond, same_condition, same_comparison, same_equation, SameRule, SamePlain}
 use Rattle.lmn_app_reading.specs.Texts.{rows_of_rule, rows_of_rules}
 
@@ -120,37 +119,37 @@ same_asks head kind.Ground n (same_equation {u = u} h) = λ i. in_head head u.na
 
 -- ---- guards
 
-any_same : (f : Cond → Bool) → ((c d : Cond) → SameCond c d → f c ≡ f d) → (cs ds : List Cond) → EachPair SameCond cs ds → list_any f cs ≡ list_any f ds
+any_same : (f : Cond → Bool) → ((c d : Cond) → SameCond c d → f c ≡ f d) → (cs ds : List Cond) → AllZip SameCond cs ds → list_any f cs ≡ list_any f ds
 any_same f same [] [] h = refl
 any_same f same [] (d ∷ ds) h = absurd h
 any_same f same (c ∷ cs) [] h = absurd h
 any_same f same (c ∷ cs) (d ∷ ds) h = λ i. same c d h.0 i || any_same f same cs ds h.1 i
 
-flat_same : {A : Type 0} (f : Cond → List A) → ((c d : Cond) → SameCond c d → f c ≡ f d) → (cs ds : List Cond) → EachPair SameCond cs ds → flat_map f cs ≡ flat_map f ds
+flat_same : {A : Type 0} (f : Cond → List A) → ((c d : Cond) → SameCond c d → f c ≡ f d) → (cs ds : List Cond) → AllZip SameCond cs ds → flat_map f cs ≡ flat_map f ds
 flat_same f same [] [] h = refl
 flat_same f same [] (d ∷ ds) h = absurd h
 flat_same f same (c ∷ cs) [] h = absurd h
 flat_same f same (c ∷ cs) (d ∷ ds) h = λ i. same c d h.0 i ++ flat_same f same cs ds h.1 i
 
-map_same : {A : Type 0} (f : Cond → A) → ((c d : Cond) → SameCond c d → f c ≡ f d) → (cs ds : List Cond) → EachPair SameCond cs ds → map f cs ≡ map f ds
+map_same : {A : Type 0} (f : Cond → A) → ((c d : Cond) → SameCond c d → f c ≡ f d) → (cs ds : List Cond) → AllZip SameCond cs ds → map f cs ≡ map f ds
 map_same f same [] [] h = refl
 map_same f same [] (d ∷ ds) h = absurd h
 map_same f same (c ∷ cs) [] h = absurd h
 map_same f same (c ∷ cs) (d ∷ ds) h = λ i. same c d h.0 i ∷ map_same f same cs ds h.1 i
 
-sum_same : (f : Cond → ℕ) → ((c d : Cond) → SameCond c d → f c ≡ f d) → (cs ds : List Cond) → EachPair SameCond cs ds → sum_by f cs ≡ sum_by f ds
+sum_same : (f : Cond → ℕ) → ((c d : Cond) → SameCond c d → f c ≡ f d) → (cs ds : List Cond) → AllZip SameCond cs ds → sum_by f cs ≡ sum_by f ds
 sum_same f same [] [] h = refl
 sum_same f same [] (d ∷ ds) h = absurd h
 sum_same f same (c ∷ cs) [] h = absurd h
 sum_same f same (c ∷ cs) (d ∷ ds) h = sum_by-cons f c cs ∙ (λ i. same c d h.0 i + sum_same f same cs ds h.1 i) ∙ sym (sum_by-cons f d ds)
 
-length_same : (cs ds : List Cond) → EachPair SameCond cs ds → length cs ≡ length ds
+length_same : (cs ds : List Cond) → AllZip SameCond cs ds → length cs ≡ length ds
 length_same [] [] h = refl
 length_same [] (d ∷ ds) h = absurd h
 length_same (c ∷ cs) [] h = absurd h
 length_same (c ∷ cs) (d ∷ ds) h = ap suc (length_same cs ds h.1)
 
-one_more_same : (cs ds : List Cond) (c d : Cond) → EachPair SameCond cs ds → SameCond c d → EachPair SameCond (cs ++ c ∷ []) (ds ++ d ∷ [])
+one_more_same : (cs ds : List Cond) (c d : Cond) → AllZip SameCond cs ds → SameCond c d → AllZip SameCond (cs ++ c ∷ []) (ds ++ d ∷ [])
 one_more_same [] [] c d h s = (s, tt)
 one_more_same [] (y ∷ ds) c d h s = absurd h
 one_more_same (x ∷ cs) [] c d h s = absurd h
@@ -158,7 +157,7 @@ one_more_same (x ∷ cs) (y ∷ ds) c d h s = (h.0, one_more_same cs ds c d h.1 
 
 -- Guards of one head.
 module _ (head : Level) where
-  module _ (before others : List Cond) (h : EachPair SameCond before others) where
+  module _ (before others : List Cond) (h : AllZip SameCond before others) where
     same_bound : (n : ℕ) → is_bound head before n ≡ is_bound head others n
     same_bound n = λ i. not (in_head head n) && any_same (is_left_of n) (λ c d s. same_left n s) before others h i
 
@@ -189,7 +188,7 @@ module _ (head : Level) where
     same_wrong _ _ (same_comparison s t) = refl
     same_wrong _ _ (same_equation {u = u} {pos = pos} s) = λ i. if (in_head head u.name && not (same_of_head head s i)) || same_bound u.name i then pos ∷ [] else []
 
-  same_conditions : (before others cs ds : List Cond) → EachPair SameCond before others → EachPair SameCond cs ds → rows_of_conditions head before cs ≡ rows_of_conditions head others ds
+  same_conditions : (before others cs ds : List Cond) → AllZip SameCond before others → AllZip SameCond cs ds → rows_of_conditions head before cs ≡ rows_of_conditions head others ds
   same_conditions before others [] [] b h = refl
   same_conditions before others [] (d ∷ ds) b h = absurd h
   same_conditions before others (c ∷ cs) [] b h = absurd h
@@ -199,7 +198,7 @@ module _ (head : Level) where
       ∷ record { code = 42; places = same_wrong before others b c d h.0 i }
       ∷ same_conditions (before ++ c ∷ []) (others ++ d ∷ []) cs ds (one_more_same before others c d b h.0) h.1 i
 
-  module _ (cs ds : List Cond) (h : EachPair SameCond cs ds) where
+  module _ (cs ds : List Cond) (h : AllZip SameCond cs ds) where
     same_type : (n : ℕ) → type_of head cs n ≡ type_of head ds n
     same_type n = λ i.
         if any_same (asks head kind.Int n) (λ c d s. same_asks head kind.Int n s) cs ds h i then Some kind.Int
@@ -236,7 +235,7 @@ guarded r cs = record { head = r.head; guard = cs; body = r.body; links = r.link
 but_for_guard : (r s : RuleTree) → SameRule r s → r ≡ guarded s r.guard
 but_for_guard r s h = λ i. record { head = h.head i; guard = r.guard; body = h.body i; links = h.links i; pos = h.pos i }
 
-module _ (s : RuleTree) (cs ds : List Cond) (h : EachPair SameCond cs ds) where
+module _ (s : RuleTree) (cs ds : List Cond) (h : AllZip SameCond cs ds) where
   same_guard_rows : guard_rows (guarded s cs) ≡ guard_rows (guarded s ds)
   same_guard_rows = λ i. same_conditions s.head [] [] cs ds tt h i
       ++ (record { code = 40; places = all_untyped s.head cs ds h (leaves_of s.head) i } ∷ record { code = 46; places = flat_map (unheld s.head) (leaves_of s.head) } ∷ [])
@@ -290,13 +289,13 @@ module _ (table others : List RuleTree) (inner : (k : ℕ) → option_map (λ (r
   same_rows r s h = ap (rows_of_rule table) (but_for_guard r s h)
       ∙ (λ i. same_rule_rows s r.guard s.guard h.guard table others inner i ++ same_guard_rows s r.guard s.guard h.guard i)
 
-  all_rows : (rs ss : List RuleTree) → EachPair SameRule rs ss → flat_map (rows_of_rule table) rs ≡ flat_map (rows_of_rule others) ss
+  all_rows : (rs ss : List RuleTree) → AllZip SameRule rs ss → flat_map (rows_of_rule table) rs ≡ flat_map (rows_of_rule others) ss
   all_rows [] [] h = refl
   all_rows [] (s ∷ ss) h = absurd h
   all_rows (r ∷ rs) [] h = absurd h
   all_rows (r ∷ rs) (s ∷ ss) h = λ i. same_rows r s h.0 i ++ all_rows rs ss h.1 i
 
-places_of_rules : (rs ss : List RuleTree) → EachPair SameRule rs ss → (k : ℕ) → option_map (λ (r : RuleTree). r.pos) (slice_get rs k) ≡ option_map (λ (r : RuleTree). r.pos) (slice_get ss k)
+places_of_rules : (rs ss : List RuleTree) → AllZip SameRule rs ss → (k : ℕ) → option_map (λ (r : RuleTree). r.pos) (slice_get rs k) ≡ option_map (λ (r : RuleTree). r.pos) (slice_get ss k)
 places_of_rules [] [] h k = refl
 places_of_rules [] (s ∷ ss) h k = absurd h
 places_of_rules (r ∷ rs) [] h k = absurd h
@@ -319,7 +318,7 @@ one_plan r s plan other h p q = λ i. record { kinds = kinds i; bound = bound i 
     bound = p.bound ∙ (λ i. flat_map (binding (h.head i)) r.guard) ∙ flat_same (binding s.head) (λ c d e. same_binding s.head e) r.guard s.guard h.guard ∙ sym q.bound
 
 -- the same rules have the same plans
-pub one_plans : (rs ss : List RuleTree) (plans others : List GuardPlan) → EachPair SameRule rs ss → EachPair IsPlan rs plans → EachPair IsPlan ss others → plans ≡ others
+pub one_plans : (rs ss : List RuleTree) (plans others : List GuardPlan) → AllZip SameRule rs ss → AllZip IsPlan rs plans → AllZip IsPlan ss others → plans ≡ others
 one_plans [] [] [] [] h p q = refl
 one_plans [] [] [] (o ∷ os) h p q = absurd q
 one_plans [] [] (x ∷ xs) os h p q = absurd p
@@ -330,7 +329,7 @@ one_plans (r ∷ rs) (s ∷ ss) (x ∷ xs) [] h p q = absurd q
 one_plans (r ∷ rs) (s ∷ ss) (x ∷ xs) (o ∷ os) h p q = λ i. one_plan r s x o h.0 p.0 q.0 i ∷ one_plans rs ss xs os h.1 p.1 q.1 i
 
 -- and they have the same names
-rule_names_same : (rs ss : List RuleTree) → EachPair SameRule rs ss → flat_map rule_names rs ≡ flat_map rule_names ss
+rule_names_same : (rs ss : List RuleTree) → AllZip SameRule rs ss → flat_map rule_names rs ≡ flat_map rule_names ss
 rule_names_same [] [] h = refl
 rule_names_same [] (s ∷ ss) h = absurd h
 rule_names_same (r ∷ rs) [] h = absurd h
@@ -345,7 +344,7 @@ same_plain_names p q h = λ i. level_names (h.top i) ++ rule_names_same p.rules 
 
 -- and they are the same trees
 module _ (names : List tree.Name) where
-  same_trees : (k : ℕ) (rs ss : List RuleTree) → EachPair SameRule rs ss → rules_from names k rs ≡ rules_from names k ss
+  same_trees : (k : ℕ) (rs ss : List RuleTree) → AllZip SameRule rs ss → rules_from names k rs ≡ rules_from names k ss
   same_trees k [] [] h = refl
   same_trees k [] (s ∷ ss) h = absurd h
   same_trees k (r ∷ rs) [] h = absurd h

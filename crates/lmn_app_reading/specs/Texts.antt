@@ -1,6 +1,6 @@
 -- What is read of a text, and why a text is refused.
 use Rattle.std.specs.Prelude.{ℕ, ◌≡◌, List, [], ◌∷◌, ◌++◌, Result, MatchResult, flat_map}
-use Rattle.std.specs.List.{AllByRecursion}
+use Rattle.std.specs.List.{AllByRecursion, AllZip}
 use Rattle.lmn_base.specs.declared.refusal.Refusal.{Refusal}
 use Rattle.lmn_base.specs.declared.refusal.TextFault.{TextFault}
 use Rattle.lmn_base.specs.declared.refusal.TextFault.TheVariants.{Refused}
@@ -27,7 +27,6 @@ use Rattle.lmn_parser.specs.Parsing.{kinds_of}
 use Rattle.lmn_parser.specs.Readings.{Reads}
 use Rattle.lmn_parser.specs.Syntax.{Clauses}
 use Rattle.lmn_flatten_plain.specs.Laws.{IsPlain}
-use Rattle.lmn_flatten_plain.specs.Plains.{EachPair}
 
 -- Nothing is wrong in the text, it reads as a tree within the limits, and the plain is that of the tree, with the numbers of
 -- a list of names.
@@ -64,7 +63,7 @@ pub record IsAcceptedAs (text : List ℕ) (names : List Name) (plain : Plain) (p
   pub outside : NoneApplies (outside_rules plain.top ∷ [])
   pub links : (a : Refusal) → ¬ (LinkFault plain a)
   pub rules : AllByRecursion (IsAcceptedRule plain.rules) plain.rules
-  pub planned : EachPair IsPlan plain.rules plans
+  pub planned : AllZip IsPlan plain.rules plans
 
 -- The text is refused, by the first of these that applies:
 --   by_bytes     its bytes are cut into no right tokens

@@ -1,4 +1,5 @@
 ghost use Rattle.std.specs.Prelude.{◌≡◌, ◌+◌, ◌≤◌, ◌<◌, ◌^◌, length, slice_get, Some, MatchResult};
+ghost use Rattle.std.specs.List.{AllZip};
 ghost use Rattle.lmn_base.specs.declared.rule.RuleTree.{RuleTree};
 ghost use Rattle.lmn_base.specs.Firsts.{NoneApplies, RefusedBy};
 ghost use Rattle.lmn_base.specs.Refusals.{IfRefused};
@@ -6,7 +7,6 @@ ghost use Rattle.lmn_flatten.specs.Glossaries.{GrowsBy};
 ghost use Rattle.lmn_guards.specs.Plans.{IsPlan};
 ghost use Rattle.lmn_lexer.specs.Cutting.{Cuts};
 ghost use Rattle.lmn_lexer.specs.Faults.{NothingWrong};
-ghost use Rattle.lmn_flatten_plain.specs.Plains.{EachPair};
 ghost use Rattle.lmn_app_reading.specs.Texts.{IsAcceptedAs, IsPlainOrRefusal, IsRefusedAs, LeavesNamesWith, rows_of_rule, rows_of_rules};
 
 use lmn_base::{Names, Plain, Rows, TextFault};
@@ -54,7 +54,7 @@ pub fn read(alloc: Global, text: &[u8], names: &mut Names) -> Result<Accepted, T
 /// The plain with the plans of its rules.
 fn with_plans(alloc: Global, plain: Plain, names: &Names) -> Result<Accepted, TextFault>
     ensures { MatchResult result
-        (λ accepted. (accepted.plain ≡ plain) × NoneApplies (rows_of_rules plain) × EachPair IsPlan plain.rules accepted.plans)
+        (λ accepted. (accepted.plain ≡ plain) × NoneApplies (rows_of_rules plain) × AllZip IsPlan plain.rules accepted.plans)
         (λ fault. IfRefused fault (RefusedBy (rows_of_rules plain))) }
 {
     let plans = plans_of(alloc, &plain, names)?;
@@ -97,7 +97,7 @@ fn plain_of_tokens(
 /// The plans of the rules of a plain, or the first code that refuses one of them.
 fn plans_of(alloc: Global, plain: &Plain, names: &Names) -> Result<Rows<GuardPlan>, TextFault>
     ensures { MatchResult result
-        (λ plans. NoneApplies (rows_of_rules plain.now) × EachPair IsPlan plain.now.rules plans)
+        (λ plans. NoneApplies (rows_of_rules plain.now) × AllZip IsPlan plain.now.rules plans)
         (λ fault. IfRefused fault (RefusedBy (rows_of_rules plain.now))) }
 {
     let mut plans = Rows::new(alloc);

@@ -3,6 +3,7 @@ use Rattle.std.proofs.Common.{◌≡◌, ℕ, suc, ◌+◌, List, [], ◌∷◌,
 use Rattle.std.specs.Prelude.{Bool, Contains, codes, true}
 use Rattle.std.specs.declared.alloc.Global.{Global}
 use Rattle.std.proofs.lemmas.List.{length-append}
+use Rattle.std.specs.List.{AllZip}
 use Rattle.lmn_base.specs.Links.{no_more}
 use Rattle.lmn_base.specs.Names.{IsNames}
 use Rattle.lmn_congruence.specs.Plains.{level_process}
@@ -14,7 +15,6 @@ use Rattle.lmn_reduction.specs.Examples.{label_a, label_b}
 use Rattle.lmn_adequacy.specs.ChangeExamples.{changing}
 use Rattle.lmn_adequacy.proofs.ExampleChanges.{short_trace_ends}
 use Rattle.lmn_flatten_plain.specs.NamesHeld.{LevelHeld}
-use Rattle.lmn_flatten_plain.specs.Plains.{EachPair}
 use Rattle.lmn_flatten_plain.specs.SolidLines.{as_level}
 use Rattle.lmn_flatten_plain.specs.Spelled.{LabelSpelled, LevelSpelled}
 use Rattle.lmn_flatten_plain.specs.Words.{line_of}
@@ -55,7 +55,7 @@ module _ (alloc : Global) (names : List Name) (is : IsNames names) (a : Contains
       }
 
 -- as many lines as processes
-as_many : (R : Process → List ℕ → Type 0) (Ps : List Process) (lines : List (List ℕ)) → EachPair R Ps lines → length lines ≡ length Ps
+as_many : (R : Process → List ℕ → Type 0) (Ps : List Process) (lines : List (List ℕ)) → AllZip R Ps lines → length lines ≡ length Ps
 as_many R [] [] h = refl
 as_many R [] (line ∷ lines) h = absurd h
 as_many R (P ∷ Ps) [] h = absurd h

@@ -1,7 +1,7 @@
 -- A text can spell the rules and the top of the plain of a tree, where it can spell what their tokens mean.
 use Rattle.std.proofs.Common.{◌≡◌, ◌≢◌, ℕ, zero, suc, ◌+◌, ◌<◌, ◌≤◌, ◌==◌, Bool, true, false, if◌then◌else◌, List, [], ◌∷◌, ◌++◌, map, length, get_or, slice_get, Some, All, refl, sym, ap, ◌∙◌, subst, arith}
 use Rattle.std.specs.Prelude.{Contains, codes}
-use Rattle.std.specs.List.{AllByRecursion}
+use Rattle.std.specs.List.{AllByRecursion, AllZip}
 use Rattle.std.proofs.lemmas.Option.{same_Some}
 use Rattle.lmn_base.specs.declared.functor.Label.TheVariants.{Name as Named}
 use Rattle.lmn_base.specs.declared.functor.TheConstants.{INT_NAME, UNARY_NAME, GROUND_NAME}
@@ -23,7 +23,7 @@ use Rattle.lmn_congruence.proofs.NumberedRules.{rule_has_number}
 use Rattle.lmn_parser.specs.Syntax as syntax
 use Rattle.lmn_flatten_plain.specs.Expanded.{Context, ExpandedLeaf, ExpandedLevel, ExpandedLevels, ExpandedRule, atom_leaf, level, level_and, no_level, typed_leaf}
 use Rattle.lmn_flatten_plain.specs.Links.{Link}
-use Rattle.lmn_flatten_plain.specs.Plains.{EachPair, IsCond, IsExpr, IsRuleOf, all_numbered, context_use, number_of, numbered, numbered_context, numbered_leaf}
+use Rattle.lmn_flatten_plain.specs.Plains.{IsCond, IsExpr, IsRuleOf, all_numbered, context_use, number_of, numbered, numbered_context, numbered_leaf}
 use Rattle.lmn_flatten_plain.specs.Spelled.{ConditionSpelled, ExpressionSpelled, UntypedSpelled, IsContextName, LabelSpelled, LeafSpelled, LevelSpelled, LevelsSpelled, SpellsNoConnector, RuleSpelled, RulesSpelled}
 use Rattle.lmn_flatten_plain.proofs.Fitting.{numbers_in, rule_numbers}
 use Rattle.lmn_flatten_plain.proofs.HeldLabels.{connector_number, held_back}
@@ -193,7 +193,7 @@ module _ (names : List Name) (is : IsNames names) where
         go false false false k = absurd k
     kind_spelled n (u ∷ v ∷ us) cs h k = absurd k
 
-    guard_spelled : (cs : List syntax.WrittenCondition) (xs : List Cond) → EachPair (IsCond words places names) cs xs → AllByRecursion (ConditionRight IsLabel IsContext words places) cs
+    guard_spelled : (cs : List syntax.WrittenCondition) (xs : List Cond) → AllZip (IsCond words places names) cs xs → AllByRecursion (ConditionRight IsLabel IsContext words places) cs
         → NoneUnknown (map (condition_of names) xs) → AllByRecursion ConditionSpelled (map (condition_of names) xs)
     guard_spelled [] [] i h k = tt
     guard_spelled [] (x ∷ xs) i h k = absurd i
@@ -218,7 +218,7 @@ module _ (names : List Name) (is : IsNames names) where
 
     -- ---- rules of a table
 
-    rule_here : (rs : List ExpandedRule) (ts : List RuleTree) → EachPair (IsRuleOf words places names) rs ts → AllByRecursion (RuleRight IsLabel IsContext words places) rs
+    rule_here : (rs : List ExpandedRule) (ts : List RuleTree) → AllZip (IsRuleOf words places names) rs ts → AllByRecursion (RuleRight IsLabel IsContext words places) rs
         → (k : ℕ) (t : RuleTree) → slice_get ts k ≡ Some t → (r : ExpandedRule) × IsRuleOf words places names r t × RuleRight IsLabel IsContext words places r
     rule_here [] [] i h zero t e = absurd (cc)
     rule_here [] [] i h (suc k) t e = absurd (cc)
@@ -228,7 +228,7 @@ module _ (names : List Name) (is : IsNames names) where
         let P : RuleTree → Type 0 = IsRuleOf words places names r in (r, subst P (same_Some u t e) i.0, h.0)
     rule_here (r ∷ rs) (u ∷ ts) i h (suc k) t e = rule_here rs ts i.1 h.1 k t e
 
-    module _ (p : Plain) (well : IsWellMade p) (rs : List ExpandedRule) (each : EachPair (IsRuleOf words places names) rs p.rules) (right : AllByRecursion (RuleRight IsLabel IsContext words places) rs)
+    module _ (p : Plain) (well : IsWellMade p) (rs : List ExpandedRule) (each : AllZip (IsRuleOf words places names) rs p.rules) (right : AllByRecursion (RuleRight IsLabel IsContext words places) rs)
         (known : (k : ℕ) (t : RuleTree) → slice_get p.rules k ≡ Some t → NoneUnknown (map (condition_of names) t.guard)) where
       abbrev rule_at : ℕ → tree.Rule
       rule_at = numbered_rule names p.rules

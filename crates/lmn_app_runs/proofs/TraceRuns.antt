@@ -1,6 +1,6 @@
 -- What is printed of a trace is a run.
 use Rattle.std.proofs.Common.{◌≡◌, ℕ, ◌+◌, ◌<◌, ◌≤◌, ◌⊎◌, ◌↔◌, inl, inr, Bool, true, false, List, [], ◌∷◌, ◌++◌, map, length, get_or, All, refl, sym, ap, ◌∙◌, subst, arith}
-use Rattle.std.specs.List.{AllByRecursion, flat_map}
+use Rattle.std.specs.List.{AllByRecursion, flat_map, AllZip}
 use Rattle.std.proofs.lemmas.List.Elements.{All-from_recursion}
 use Rattle.std.proofs.lemmas.List.{length-append, length-map, map-append}
 use Rattle.lmn_base.specs.declared.rule.Plain.{Plain}
@@ -24,7 +24,6 @@ use Rattle.lmn_congruence.specs.Translation.{numbered_rule, region_of, region_st
 use Rattle.lmn_congruence.proofs.SolidsOfPlains.{solids_of_plains}
 use Rattle.lmn_flatten_plain.specs.LinkNumbers.{AllRulesNumbered, EachNumbered, RuleNumbered, RulesNumbered, leaves_links, level_links, levels_links}
 use Rattle.lmn_flatten_plain.specs.NamesHeld.{LeafHeld, LevelHeld, LevelsHeld, RuleHeld, RulesHeld}
-use Rattle.lmn_flatten_plain.specs.Plains.{EachPair}
 use Rattle.lmn_flatten_plain.specs.SolidLines.{as_level, as_levels, atom_as_leaf}
 use Rattle.lmn_flatten_plain.specs.Spelled.{LeafSpelled, LevelSpelled, LevelsSpelled, RuleSpelled, RulesSpelled}
 use Rattle.lmn_flatten_plain.specs.Words.{line_of}
@@ -231,16 +230,16 @@ module _ (names : List Name) where
       fines (turned {before = before} {S' = R} {S'' = T} p l t few) = all_append Fine (before ++ R ∷ []) (T ∷ []) (fines p) (next_fine (fine p) t, tt)
 
       each_line : (folded : Bool) (Ss : List Region) (lines : List (List ℕ)) → AllByRecursion Fine Ss → LinesOf folded Ss lines →
-          EachPair (IsProcessLine folded names) (map region_process Ss) lines
+          AllZip (IsProcessLine folded names) (map region_process Ss) lines
       each_line folded [] [] f h = tt
       each_line folded [] (line ∷ lines) f h = absurd h
       each_line folded (R ∷ Rs) [] f h = absurd h
       each_line folded (R ∷ Rs) (line ∷ lines) f h = (line_fine folded R line f.0 h.0, each_line folded Rs lines f.1 h.1)
 
       are_lines : (trace folded : Bool) {before : List Region} {R : Region} → IsTrace before R → (lines : List (List ℕ)) → LinesOf folded (printed trace before R) lines →
-          EachPair (IsProcessLine folded names) (printed trace (map region_process before) (region_process R)) lines
+          AllZip (IsProcessLine folded names) (printed trace (map region_process before) (region_process R)) lines
       are_lines true folded {before} {R} p lines h =
-          subst (λ Ps. EachPair (IsProcessLine folded names) Ps lines) (map-append region_process before (R ∷ [])) (each_line folded (before ++ R ∷ []) lines (fines p) h)
+          subst (λ Ps. AllZip (IsProcessLine folded names) Ps lines) (map-append region_process before (R ∷ [])) (each_line folded (before ++ R ∷ []) lines (fines p) h)
       are_lines false folded {before} {R} p lines h = each_line folded (R ∷ []) lines (fine p, tt) h
 
       prints : (trace folded : Bool) {before : List Region} {R : Region} → IsTrace before R → (lines : List (List ℕ)) → LinesOf folded (printed trace before R) lines →

@@ -1,12 +1,11 @@
 -- What a run is, by what it prints: in the calculus, and by the strategy.
 use Rattle.std.specs.Prelude.{ℕ, ◌≡◌, ◌<◌, ◌≤◌, List, [], ◌∷◌, ◌++◌, length, Bool, true, false, if◌then◌else◌, codes, decimal}
-use Rattle.std.specs.List.{concat}
+use Rattle.std.specs.List.{concat, AllZip}
 use Rattle.lmn_base.specs.declared.rule.Plain.{Plain}
 use Rattle.lmn_congruence.specs.Process.{Process, Closed}
 use Rattle.lmn_congruence.specs.Regions.{Region}
 use Rattle.lmn_congruence.specs.Rules.{Name}
 use Rattle.lmn_congruence.specs.Translation.{plain_process}
-use Rattle.lmn_flatten_plain.specs.Plains.{EachPair}
 use Rattle.lmn_flatten_plain.specs.Texts.{IsPlainOfText}
 use Rattle.lmn_print_folded.specs.Lines.{IsLine}
 use Rattle.lmn_print_folded_laws.specs.ReadBack.{IsFoldedLineOf}
@@ -74,7 +73,7 @@ pub record Prints (trace folded : Bool) (names : List Name) (P : Process) (n : �
   pub before : List Process
   pub commits : CommitsOver P before Q
   pub count : length before ≡ n
-  pub are : EachPair (IsProcessLine folded names) (printed trace before Q) lines
+  pub are : AllZip (IsProcessLine folded names) (printed trace before Q) lines
 
 -- ---- which run this is, by the strategy
 
@@ -98,7 +97,7 @@ StopsSo g n S stop.NoMemory = (e : End) → ¬ (Ends g.chooser g.budget g.size n
 
 -- the lines of solids, one for each
 abbrev pub LinesOf : Bool → List Region → List (List ℕ) → Type 0
-LinesOf folded = EachPair (IsLine folded)
+LinesOf folded = AllZip (IsLine folded)
 
 -- the lines that are printed of a trace
 abbrev pub PrintedLines : Given → List Region → Region → List (List ℕ) → Type 0

@@ -1,12 +1,12 @@
 -- What a run of a text is, as it is printed: in the language and its calculus, and by the strategy.
 use Rattle.std.specs.Prelude.{ℕ, ◌≡◌, ◌≤◌, List, Bool, length}
+use Rattle.std.specs.List.{AllZip}
 use Rattle.lmn_base.specs.declared.rule.Plain.{Plain}
 use Rattle.lmn_congruence.specs.Plains.{SolidOf}
 use Rattle.lmn_congruence.specs.Process.{Process}
 use Rattle.lmn_congruence.specs.Regions.{Region, item_count_of_region}
 use Rattle.lmn_congruence.specs.Rules.{Name}
 use Rattle.lmn_congruence.specs.Translation.{plain_process, top_of}
-use Rattle.lmn_flatten_plain.specs.Plains.{EachPair}
 use Rattle.lmn_guards.specs.declared.plan.GuardPlan.{GuardPlan}
 use Rattle.lmn_print_folded.specs.Lines.{IsLine}
 use Rattle.lmn_reduction.specs.Commits.{Settles}
@@ -44,4 +44,4 @@ pub record IsTraceOf (g : Given) (text : List ℕ) (lines : List (List ℕ)) (n 
   pub last : Region
   pub trace : Trace g.chooser g.budget g.size solid before last
   pub count : length before ≡ n
-  pub are : EachPair (IsLine g.folded) (printed g.trace before last) lines
+  pub are : AllZip (IsLine g.folded) (printed g.trace before last) lines

@@ -1,6 +1,6 @@
 -- Levels whose links have numbers by one relation, and by another.
 use Rattle.std.proofs.Common.{◌≡◌, ℕ, List, [], ◌∷◌, ◌++◌, map, refl, sym, ap, ◌∙◌, subst}
-use Rattle.std.specs.List.{flat_map}
+use Rattle.std.specs.List.{flat_map, AllZip}
 use Rattle.std.proofs.lemmas.List.{append_assoc, map-append, length-map}
 use Rattle.lmn_base.specs.declared.level.CtxUse.{CtxUse}
 use Rattle.lmn_base.specs.declared.level.Leaf as base
@@ -18,7 +18,7 @@ use Rattle.lmn_flatten_numbers.specs.Renumbered.{renumbered, renumbered_leaf, re
 use Rattle.lmn_flatten_plain.specs.Links.{Link, Use}
 use Rattle.lmn_flatten_plain.specs.Expanded as expanded
 use Rattle.lmn_flatten_plain.specs.Expanded.{ExpandedLeaf, atom_leaf, typed_leaf, ExpandedLevel, level, ExpandedLevels, no_level, level_and, expanded_levels, renamed_use, renamed_leaf, renamed_level, all_renamed, use_links, expanded_leaf_links, expanded_leaves_links}
-use Rattle.lmn_flatten_plain.specs.Plains.{EachPair, numbered_label, numbered, all_numbered, numbered_leaf, numbered_use}
+use Rattle.lmn_flatten_plain.specs.Plains.{numbered_label, numbered, all_numbered, numbered_leaf, numbered_use}
 use Rattle.lmn_flatten.specs.Built.{IsUse, IsLeaf, IsLevel, AreLevels}
 use Rattle.lmn_flatten.specs.Copies as copies
 use Rattle.lmn_flatten.proofs.EachLemmas.{each_append, each_by}
@@ -26,14 +26,14 @@ use Rattle.lmn_flatten.proofs.EachLemmas.{each_append, each_by}
 module _ (names : List tree.Name) where
   -- another relation of which the first is a case
   module _ (R S : Link → ℕ → Type 0) (more : (a : Link) (x : ℕ) → R a x → S a x) where
-    pub uses_by : (us : List Use) (os : List Occ) → EachPair (IsUse names R) us os → EachPair (IsUse names S) us os
+    pub uses_by : (us : List Use) (os : List Occ) → AllZip (IsUse names R) us os → AllZip (IsUse names S) us os
     uses_by us os h = each_by (IsUse names R) (IsUse names S) (λ u o e. (more u.link o.link e.0, e.1)) us os h
 
     pub leaf_by : (l : ExpandedLeaf) (x : base.Leaf) → IsLeaf names R l x → IsLeaf names S l x
     leaf_by (atom_leaf l us pos) x h = (h.0, h.1, uses_by us h.0 h.2)
     leaf_by (typed_leaf n u pos) x h = (h.0, h.1, (more u.link h.0.link h.2.0, h.2.1))
 
-    pub leaves_by : (ls : List ExpandedLeaf) (xs : List base.Leaf) → EachPair (IsLeaf names R) ls xs → EachPair (IsLeaf names S) ls xs
+    pub leaves_by : (ls : List ExpandedLeaf) (xs : List base.Leaf) → AllZip (IsLeaf names R) ls xs → AllZip (IsLeaf names S) ls xs
     leaves_by ls xs h = each_by (IsLeaf names R) (IsLeaf names S) leaf_by ls xs h
 
     mutual
@@ -54,14 +54,14 @@ module _ (names : List tree.Name) where
       uses us h.0 h.2,
     )
       where
-        uses : (us : List Use) (os : List Occ) → EachPair (IsUse names R) us os → EachPair (IsUse names S) (map (renamed_use f) us) os
+        uses : (us : List Use) (os : List Occ) → AllZip (IsUse names R) us os → AllZip (IsUse names S) (map (renamed_use f) us) os
         uses [] [] h = tt
         uses [] (o ∷ os) h = absurd h
         uses (u ∷ us) [] h = absurd h
         uses (u ∷ us) (o ∷ os) h = ((more u.link o.link h.0.0, h.0.1), uses us os h.1)
     renamed_leaf_by (typed_leaf n u pos) x h = (h.0, h.1, (more u.link h.0.link h.2.0, h.2.1))
 
-    pub renamed_leaves_by : (ls : List ExpandedLeaf) (xs : List base.Leaf) → EachPair (IsLeaf names R) ls xs → EachPair (IsLeaf names S) (map (renamed_leaf f) ls) xs
+    pub renamed_leaves_by : (ls : List ExpandedLeaf) (xs : List base.Leaf) → AllZip (IsLeaf names R) ls xs → AllZip (IsLeaf names S) (map (renamed_leaf f) ls) xs
     renamed_leaves_by [] [] h = tt
     renamed_leaves_by [] (x ∷ xs) h = absurd h
     renamed_leaves_by (l ∷ ls) [] h = absurd h
@@ -81,14 +81,14 @@ module _ (names : List tree.Name) where
     pub renumbered_leaf_by : (l : ExpandedLeaf) (x : base.Leaf) → IsLeaf names R l x → IsLeaf names S l (renumbered_leaf to x)
     renumbered_leaf_by (atom_leaf l us pos) x h = (map (renumbered_occurrence to) h.0, ap (renumbered_leaf to) h.1, uses us h.0 h.2)
       where
-        uses : (us : List Use) (os : List Occ) → EachPair (IsUse names R) us os → EachPair (IsUse names S) us (map (renumbered_occurrence to) os)
+        uses : (us : List Use) (os : List Occ) → AllZip (IsUse names R) us os → AllZip (IsUse names S) us (map (renumbered_occurrence to) os)
         uses [] [] h = tt
         uses [] (o ∷ os) h = absurd h
         uses (u ∷ us) [] h = absurd h
         uses (u ∷ us) (o ∷ os) h = ((more u.link o.link h.0.0, h.0.1), uses us os h.1)
     renumbered_leaf_by (typed_leaf n u pos) x h = (renumbered_occurrence to h.0, ap (renumbered_leaf to) h.1, (more u.link h.0.link h.2.0, h.2.1))
 
-    pub renumbered_leaves_by : (ls : List ExpandedLeaf) (xs : List base.Leaf) → EachPair (IsLeaf names R) ls xs → EachPair (IsLeaf names S) ls (map (renumbered_leaf to) xs)
+    pub renumbered_leaves_by : (ls : List ExpandedLeaf) (xs : List base.Leaf) → AllZip (IsLeaf names R) ls xs → AllZip (IsLeaf names S) ls (map (renumbered_leaf to) xs)
     renumbered_leaves_by [] [] h = tt
     renumbered_leaves_by [] (x ∷ xs) h = absurd h
     renumbered_leaves_by (l ∷ ls) [] h = absurd h
@@ -118,7 +118,7 @@ module _ (names : List tree.Name) where
           (renumbered to h.0, map (renumbered to) h.1, ap (map (renumbered to)) h.2, renumbered_by l h.0 h.3, all_renumbered_by ls h.1 h.4)
 
   -- membranes by lists
-  pub levels_each : (R : Link → ℕ → Type 0) (ls : List ExpandedLevel) (xs : List base_level.Level) → EachPair (IsLevel names R) ls xs → AreLevels names R (expanded_levels ls) xs
+  pub levels_each : (R : Link → ℕ → Type 0) (ls : List ExpandedLevel) (xs : List base_level.Level) → AllZip (IsLevel names R) ls xs → AreLevels names R (expanded_levels ls) xs
   levels_each R [] [] h = refl
   levels_each R [] (x ∷ xs) h = absurd h
   levels_each R (l ∷ ls) [] h = absurd h
@@ -126,24 +126,24 @@ module _ (names : List tree.Name) where
 
   -- the links, in order
   module _ (R : Link → ℕ → Type 0) where
-    leaf_links_by : (l : ExpandedLeaf) (x : base.Leaf) → IsLeaf names R l x → EachPair R (expanded_leaf_links l) (map (λ (o : Occ). o.link) (occurrences_of_leaf x))
+    leaf_links_by : (l : ExpandedLeaf) (x : base.Leaf) → IsLeaf names R l x → AllZip R (expanded_leaf_links l) (map (λ (o : Occ). o.link) (occurrences_of_leaf x))
     leaf_links_by (atom_leaf l us pos) x h =
-        subst (λ z. EachPair R (use_links us) (map (λ (o : Occ). o.link) (occurrences_of_leaf z))) (sym h.1) (uses us h.0 h.2)
+        subst (λ z. AllZip R (use_links us) (map (λ (o : Occ). o.link) (occurrences_of_leaf z))) (sym h.1) (uses us h.0 h.2)
       where
-        uses : (us : List Use) (os : List Occ) → EachPair (IsUse names R) us os → EachPair R (use_links us) (map (λ (o : Occ). o.link) os)
+        uses : (us : List Use) (os : List Occ) → AllZip (IsUse names R) us os → AllZip R (use_links us) (map (λ (o : Occ). o.link) os)
         uses [] [] h = tt
         uses [] (o ∷ os) h = absurd h
         uses (u ∷ us) [] h = absurd h
         uses (u ∷ us) (o ∷ os) h = (h.0.0, uses us os h.1)
     leaf_links_by (typed_leaf n u pos) x h =
-        subst (λ z. EachPair R (u.link ∷ []) (map (λ (o : Occ). o.link) (occurrences_of_leaf z))) (sym h.1) (h.2.0, tt)
+        subst (λ z. AllZip R (u.link ∷ []) (map (λ (o : Occ). o.link) (occurrences_of_leaf z))) (sym h.1) (h.2.0, tt)
 
-    pub leaves_links_by : (ls : List ExpandedLeaf) (xs : List base.Leaf) → EachPair (IsLeaf names R) ls xs → EachPair R (expanded_leaves_links ls) (level_specs.links_of_leaves xs)
+    pub leaves_links_by : (ls : List ExpandedLeaf) (xs : List base.Leaf) → AllZip (IsLeaf names R) ls xs → AllZip R (expanded_leaves_links ls) (level_specs.links_of_leaves xs)
     leaves_links_by [] [] h = tt
     leaves_links_by [] (x ∷ xs) h = absurd h
     leaves_links_by (l ∷ ls) [] h = absurd h
     leaves_links_by (l ∷ ls) (x ∷ xs) h =
-        subst (EachPair R (expanded_leaf_links l ++ expanded_leaves_links ls)) (sym (map-append (λ (o : Occ). o.link) (occurrences_of_leaf x) (flat_map occurrences_of_leaf xs)))
+        subst (AllZip R (expanded_leaf_links l ++ expanded_leaves_links ls)) (sym (map-append (λ (o : Occ). o.link) (occurrences_of_leaf x) (flat_map occurrences_of_leaf xs)))
         (each_append R (expanded_leaf_links l) (expanded_leaves_links ls) (map (λ (o : Occ). o.link) (occurrences_of_leaf x)) (level_specs.links_of_leaves xs) (leaf_links_by l x h.0)
         (leaves_links_by ls xs h.1))
 
@@ -170,16 +170,16 @@ module _ (names : List tree.Name) where
         ∙ ap (λ ys. level_specs.links_of_leaves l.leaves ++ ys) (flat l.membranes)
 
     mutual
-      pub links_by : (l : ExpandedLevel) (x : base_level.Level) → IsLevel names R l x → EachPair R (expanded.expanded_links l) (level_specs.links_of x)
+      pub links_by : (l : ExpandedLevel) (x : base_level.Level) → IsLevel names R l x → AllZip R (expanded.expanded_links l) (level_specs.links_of x)
       links_by (level leaves membranes contexts rule_contexts rules) x h =
-          subst (EachPair R (expanded_leaves_links leaves ++ expanded.expanded_links_in membranes)) (sym (links_apart x h.0 h.1))
+          subst (AllZip R (expanded_leaves_links leaves ++ expanded.expanded_links_in membranes)) (sym (links_apart x h.0 h.1))
           (each_append R (expanded_leaves_links leaves) (expanded.expanded_links_in membranes) (level_specs.links_of_leaves h.0.leaves) (copies.links_of_levels h.0.membranes)
           (leaves_links_by leaves h.0.leaves h.2) (links_in_by membranes h.0.membranes h.3))
 
-      pub links_in_by : (ls : ExpandedLevels) (xs : List base_level.Level) → AreLevels names R ls xs → EachPair R (expanded.expanded_links_in ls) (copies.links_of_levels xs)
-      links_in_by no_level xs h = subst (λ z. EachPair R [] (copies.links_of_levels z)) (sym h) tt
+      pub links_in_by : (ls : ExpandedLevels) (xs : List base_level.Level) → AreLevels names R ls xs → AllZip R (expanded.expanded_links_in ls) (copies.links_of_levels xs)
+      links_in_by no_level xs h = subst (λ z. AllZip R [] (copies.links_of_levels z)) (sym h) tt
       links_in_by (level_and l ls) xs h =
-          subst (λ z. EachPair R (expanded.expanded_links l ++ expanded.expanded_links_in ls) (copies.links_of_levels z)) (sym h.2)
+          subst (λ z. AllZip R (expanded.expanded_links l ++ expanded.expanded_links_in ls) (copies.links_of_levels z)) (sym h.2)
           (each_append R (expanded.expanded_links l) (expanded.expanded_links_in ls) (level_specs.links_of h.0) (copies.links_of_levels h.1) (links_by l h.0 h.3)
           (links_in_by ls h.1 h.4))
 
@@ -188,7 +188,7 @@ module _ (names : List tree.Name) where
     use_is : (u : Use) (o : Occ) → IsUse names (λ a x. number a ≡ x) u o → o ≡ numbered_use names number u
     use_is u o h = ap (λ n. record { link = n; pos = o.pos }) (sym h.0) ∙ ap (λ (p : Pos). record { link = number u.link; pos = p }) h.1
 
-    uses_are : (us : List Use) (os : List Occ) → EachPair (IsUse names (λ a x. number a ≡ x)) us os → os ≡ map (numbered_use names number) us
+    uses_are : (us : List Use) (os : List Occ) → AllZip (IsUse names (λ a x. number a ≡ x)) us os → os ≡ map (numbered_use names number) us
     uses_are [] [] h = refl
     uses_are [] (o ∷ os) h = absurd h
     uses_are (u ∷ us) [] h = absurd h
@@ -198,7 +198,7 @@ module _ (names : List tree.Name) where
     leaf_is (atom_leaf l us pos) x h = h.1 ∙ ap (λ os. Atom _ os pos) (uses_are us h.0 h.2)
     leaf_is (typed_leaf n u pos) x h = h.1 ∙ ap (λ o. Typed _ o pos) (use_is u h.0 h.2)
 
-    leaves_are : (ls : List ExpandedLeaf) (xs : List base.Leaf) → EachPair (IsLeaf names (λ a x. number a ≡ x)) ls xs → xs ≡ map (numbered_leaf names number) ls
+    leaves_are : (ls : List ExpandedLeaf) (xs : List base.Leaf) → AllZip (IsLeaf names (λ a x. number a ≡ x)) ls xs → xs ≡ map (numbered_leaf names number) ls
     leaves_are [] [] h = refl
     leaves_are [] (x ∷ xs) h = absurd h
     leaves_are (l ∷ ls) [] h = absurd h

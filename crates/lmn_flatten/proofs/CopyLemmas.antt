@@ -1,7 +1,7 @@
 -- The copy of what a head keeps.
 use Rattle.std.proofs.Common.{◌≡◌, ℕ, zero, suc, ◌+◌, ◌<◌, ◌≤◌, ◌⊎◌, inl, inr, Bool, true, false, ◌==◌, if◌then◌else◌, List, [], ◌∷◌, ◌++◌, map, length, take, get_or, slice_get, slice_index_or, Some, All, refl, sym, ap, ◌∙◌, subst, arith}
 use Rattle.std.specs.Prelude.{min, Result, Ok, Err, IfOk, OnOk}
-use Rattle.std.specs.List.{flat_map}
+use Rattle.std.specs.List.{flat_map, AllZip}
 use Rattle.std.proofs.Math.Nat.{min-eq_left, min-eq_right}
 use Rattle.std.proofs.lemmas.Bool.{cases_lt, eq-eqb, eqb-true}
 use Rattle.std.proofs.lemmas.List.{append_assoc, append-nil, length-append, map-append, take_all, take_more}
@@ -22,7 +22,6 @@ use Rattle.lmn_flatten_plain.specs.Parts.{Parts, level_from_parts}
 use Rattle.lmn_flatten_plain.specs.Keys.{IsLinkIn, link_index, IsKey}
 use Rattle.lmn_flatten_plain.specs.Links.{Link, same_link, times_among, written, fresh, freshened}
 use Rattle.lmn_flatten_plain.proofs.SomeNumbers.{index_below, index_one, link_same, link_itself}
-use Rattle.lmn_flatten_plain.specs.Plains.{EachPair}
 use Rattle.lmn_flatten.specs.Built.{IsLeaf, IsLevel, IsPartOfLevel}
 use Rattle.lmn_flatten.specs.Glossaries.{Reading}
 use Rattle.lmn_flatten.specs.Scopes.{IsScope}
@@ -154,7 +153,7 @@ test_is keys a b x y h k = same_test (same_link a b) (x == y)
     (λ e. eq-eqb x y (sym h.1 ∙ ap (λ c. link_index c keys) (link_same a b e) ∙ k.1))
     (λ e. ap (same_link a) (sym (index_one a b keys h.0 k.0 (h.1 ∙ eqb-true x y e ∙ sym k.1))) ∙ link_itself a)
 
-counts_agree : (keys : List Link) (a : Link) (x : ℕ) → IsKey keys a x → (bs : List Link) (ys : List ℕ) → EachPair (IsKey keys) bs ys → occurs a bs ≡ count x ys
+counts_agree : (keys : List Link) (a : Link) (x : ℕ) → IsKey keys a x → (bs : List Link) (ys : List ℕ) → AllZip (IsKey keys) bs ys → occurs a bs ≡ count x ys
 counts_agree keys a x h [] [] e = refl
 counts_agree keys a x h [] (y ∷ ys) e = absurd e
 counts_agree keys a x h (b ∷ bs) [] e = absurd e
@@ -163,7 +162,7 @@ counts_agree keys a x h (b ∷ bs) (y ∷ ys) e =
     ∙ ap (λ n. if x == y then 1 + n else n) (counts_agree keys a x h bs ys e.1)
 
 -- a link stands as often as its number is counted
-pub times_often : (keys : List Link) (a : Link) (x : ℕ) (bs : List Link) (ys : List ℕ) → IsKey keys a x → EachPair (IsKey keys) bs ys → times_among a bs ≡ often x ys
+pub times_often : (keys : List Link) (a : Link) (x : ℕ) (bs : List Link) (ys : List ℕ) → IsKey keys a x → AllZip (IsKey keys) bs ys → times_among a bs ≡ often x ys
 times_often keys a x bs ys h e = sym (times_is a bs) ∙ counts_agree keys a x h bs ys e ∙ often_is x ys
 
 -- two of a count that stops at 3
@@ -346,13 +345,13 @@ pub is_copied : (r : Reading) (keys : List Link) (p : Parts) (kept copy : Part) 
 is_copied r keys p kept copy zeros counts mid links s t scope h size none one two f a b c d e =
     let ks = expanded.expanded_links (level_from_parts p) in
     let all = links_of_leaves kept.leaves ++ links_of_levels kept.membranes in
-    let each : EachPair (IsKey keys) ks all = each_append (IsKey keys) (expanded.expanded_leaves_links p.leaves) (expanded.expanded_links_in (expanded_levels p.membranes)) (links_of_leaves kept.leaves)
+    let each : AllZip (IsKey keys) ks all = each_append (IsKey keys) (expanded.expanded_leaves_links p.leaves) (expanded.expanded_links_in (expanded_levels p.membranes)) (links_of_leaves kept.leaves)
     (links_of_levels kept.membranes) (leaves_links_by r.names (IsKey keys) p.leaves kept.leaves h.leaves)
     (links_in_by r.names (IsKey keys) (expanded_levels p.membranes) kept.membranes (levels_each r.names (IsKey keys) p.membranes kept.membranes h.membranes)) in
     let counted = counts_both (links_of_leaves kept.leaves) (links_of_levels kept.membranes) zeros mid counts one two in
     let step : (a : Link) (x : ℕ) → IsKey keys a x → IsKey (keys ++ f.more) (freshened ks a) (new_link links x) = λ a x k. stepped all counted each a x k in
-    let P : List base.Leaf → Type 0 = λ z. EachPair (IsLeaf r.names (IsKey (keys ++ f.more))) (map (renamed_leaf (freshened ks)) p.leaves) z in
-    let Q : List base_level.Level → Type 0 = λ z. EachPair (IsLevel r.names (IsKey (keys ++ f.more))) (map (renamed_level (freshened ks)) p.membranes) z in
+    let P : List base.Leaf → Type 0 = λ z. AllZip (IsLeaf r.names (IsKey (keys ++ f.more))) (map (renamed_leaf (freshened ks)) p.leaves) z in
+    let Q : List base_level.Level → Type 0 = λ z. AllZip (IsLevel r.names (IsKey (keys ++ f.more))) (map (renamed_level (freshened ks)) p.membranes) z in
     let T : Link → ℕ → Type 0 = λ a x. IsKey (keys ++ f.more) (freshened ks a) x in
     record {
       more = f.more;
@@ -370,7 +369,7 @@ is_copied r keys p kept copy zeros counts mid links s t scope h size none one tw
       };
     }
   where
-    stepped : (all : List ℕ) → CountsPlaces all zeros counts → (let ks = expanded.expanded_links (level_from_parts p) in EachPair (IsKey keys) ks all)
+    stepped : (all : List ℕ) → CountsPlaces all zeros counts → (let ks = expanded.expanded_links (level_from_parts p) in AllZip (IsKey keys) ks all)
         → (a : Link) (x : ℕ) → IsKey keys a x → (let ks = expanded.expanded_links (level_from_parts p) in IsKey (keys ++ f.more) (freshened ks a) (new_link links x))
     stepped all counted each a x k =
         let ks = expanded.expanded_links (level_from_parts p) in

@@ -1,7 +1,7 @@
 -- Words, their labels and the lists of names.
 use Rattle.std.proofs.Common.{◌≡◌, ℕ, zero, suc, ◌+◌, ◌^◌, ◌<◌, ◌≤◌, ◌⊎◌, inl, inr, Bool, true, false, if◌then◌else◌, List, [], ◌∷◌, ◌++◌, map, length, take, drop, get_or, slice_get, Some, Contains, Decides, refl, sym, ap, ◌∙◌, subst, arith, true≢false}
 use Rattle.std.specs.Prelude.{bytes_eq, Result, Ok, Err, IfOk, OnOk, OnErr, codes, slice_index_or}
-use Rattle.std.specs.List.{AllByRecursion, list_any}
+use Rattle.std.specs.List.{AllByRecursion, list_any, AllZip}
 use Rattle.std.specs.Cmp.Lexicographic.{nat_list_eq_equiv}
 use Rattle.std.proofs.lemmas.List.{append_assoc, append-nil, length-append, take_all, take_more, map_push}
 use Rattle.std.proofs.lemmas.Map.Views.{list_any-from_Contains, Contains-from_any}
@@ -25,7 +25,7 @@ use Rattle.lmn_lexer.specs.Spelling.{Spells, IsQuoted}
 use Rattle.lmn_lexer.specs.Values.{bytes_of, IsSound}
 use Rattle.lmn_lexer.proofs.SoundTokens.{tokens_are_sound}
 use Rattle.lmn_flatten_plain.specs.Meanings.{label_spelled, word_at, label_at, nowhere}
-use Rattle.lmn_flatten_plain.specs.Plains.{EachPair, number_of, numbered_label}
+use Rattle.lmn_flatten_plain.specs.Plains.{number_of, numbered_label}
 use Rattle.lmn_flatten_plain.proofs.LabelWords.{quoted_name}
 use Rattle.lmn_flatten_plain.proofs.Ranges.{in_range}
 use Rattle.lmn_base.specs.declared.memory.NoMemory.{NoMemory}
@@ -217,7 +217,7 @@ pub record SoFar (text : List ℕ) (names0 names links0 links : List tree.Name) 
   pub names_grown : GrowsBy i names0 names
   pub names_are : names ≡ with_words names0 (words_of text done)
   pub links_grown : GrowsBy i links0 links
-  pub entries : EachPair (IsEntry text names links) done es
+  pub entries : AllZip (IsEntry text names links) done es
 
 -- meanings stay when the lists grow
 pub meaning_grown : {m n : ℕ} (names names' links links' : List tree.Name) (w : Word) (x : Meaning) → GrowsBy m names names' → GrowsBy n links links'
@@ -236,9 +236,9 @@ pub so_far_next : (text : List ℕ) (names0 names names' links0 links links' : L
     → names' ≡ with_word names (word_of text t) → IsMeaning names' links' (word_of text t) m → e ≡ record { meaning = m; pos = t.pos } → es' ≡ es ++ e ∷ []
     → SoFar text names0 names' links0 links' (i + 1) (take (i + 1) tokens) es'
 so_far_next text names0 names names' links0 links links' i tokens d t es es' m e l at h g k put is same pushed =
-    let P : Token → Type 0 = λ z. EachPair (IsEntry text names' links') (take i tokens ++ z ∷ []) (es ++ e ∷ []) in
-    let Q : List Token → Type 0 = λ z. EachPair (IsEntry text names' links') z (es ++ e ∷ []) in
-    let R : List Entry → Type 0 = λ z. EachPair (IsEntry text names' links') (take (i + 1) tokens) z in
+    let P : Token → Type 0 = λ z. AllZip (IsEntry text names' links') (take i tokens ++ z ∷ []) (es ++ e ∷ []) in
+    let Q : List Token → Type 0 = λ z. AllZip (IsEntry text names' links') z (es ++ e ∷ []) in
+    let R : List Entry → Type 0 = λ z. AllZip (IsEntry text names' links') (take (i + 1) tokens) z in
     let S : Entry → Type 0 = IsEntry text names' links' t in
     record {
       names_grown = grows_more names0 names names' h.names_grown g;
@@ -256,7 +256,7 @@ map_at f (y ∷ xs) zero x d h = ap f (same_Some y x h)
 map_at f (y ∷ xs) (suc p) x d h = map_at f xs p x d h
 
 -- entries of all tokens are those of the text
-pub are_entries : (text : List ℕ) (tokens : List Token) (names links : List tree.Name) (es : List Entry) → EachPair (IsEntry text names links) tokens es
+pub are_entries : (text : List ℕ) (tokens : List Token) (names links : List tree.Name) (es : List Entry) → AllZip (IsEntry text names links) tokens es
     → AreEntries (reading_of text tokens names links) es
 are_entries text tokens names links es h p e at =
     let there = some_at tokens p (omega (arith, slice_get_within es p e at, each_length (IsEntry text names links) tokens es h)) in
@@ -271,7 +271,7 @@ are_entries text tokens names links es h p e at =
 pub has_entries : (text : List ℕ) (tokens : List Token) (names0 names links0 links : List tree.Name) (i : ℕ) (es : List Entry) → length tokens ≤ i
     → IsNames names → IsNames links → SoFar text names0 names links0 links i (take i tokens) es → HasEntries text tokens names es
 has_entries text tokens names0 names links0 links i es l n k h =
-    let P : List Token → Type 0 = λ z. EachPair (IsEntry text names links) z es in
+    let P : List Token → Type 0 = λ z. AllZip (IsEntry text names links) z es in
     (links, n, k, are_entries text tokens names links es (subst P (take_all i tokens l) h.entries))
 
 -- and the names of the text are in the list
@@ -282,7 +282,7 @@ names_done text tokens names0 names links0 links i es l h = h.names_are ∙ ap (
 -- at first there are no entries
 pub nothing_so_far : (text : List ℕ) (names links : List tree.Name) (tokens : List Token) (es : List Entry) → es ≡ [] → SoFar text names names links links 0 (take 0 tokens) es
 nothing_so_far text names links tokens es e =
-    let P : List Entry → Type 0 = λ z. EachPair (IsEntry text names links) [] z in
+    let P : List Entry → Type 0 = λ z. AllZip (IsEntry text names links) [] z in
     record { names_grown = grows_not names; names_are = refl; links_grown = grows_not links; entries = subst P (sym e) tt }
 
 -- a name that is put in grows the list by one at most, also for want of memory

@@ -1,6 +1,7 @@
 -- What is added by parts of a tree, one behind the other.
 use Rattle.std.proofs.Common.{◌≡◌, ℕ, ◌+◌, ◌⊎◌, inl, inr, List, [], ◌∷◌, ◌++◌, length, refl, sym, ap, ◌∙◌, subst}
 use Rattle.std.proofs.lemmas.List.{append_assoc, append-nil, length-append, map-append}
+use Rattle.std.specs.List.{AllZip}
 use Rattle.lmn_base.specs.declared.level.CtxUse.{CtxUse}
 use Rattle.lmn_base.specs.declared.level.Leaf as base
 use Rattle.lmn_base.specs.declared.level.Level as base_level
@@ -10,7 +11,7 @@ use Rattle.lmn_flatten_plain.specs.Keys.{IsLinkIn, IsKey}
 use Rattle.lmn_flatten_plain.specs.Links.{Link, written, made, fresh}
 use Rattle.lmn_flatten_plain.specs.Expanded.{ExpandedLeaf, ExpandedRule}
 use Rattle.lmn_flatten_plain.specs.Parts.{Parts, NumberedParts, joined_parts, ◌⊕◌, one_leaf}
-use Rattle.lmn_flatten_plain.specs.Plains.{EachPair, IsRuleOf, numbered_context}
+use Rattle.lmn_flatten_plain.specs.Plains.{IsRuleOf, numbered_context}
 use Rattle.lmn_flatten_plain.proofs.SomeNumbers.{in_front, index_front}
 use Rattle.lmn_flatten.specs.Built.{IsLeaf, IsLevel, IsPartOfLevel, AddsLeaf, no_items, with_items}
 use Rattle.lmn_flatten.specs.Glossaries.{Reading}
@@ -150,7 +151,7 @@ module _ (r : Reading) where
     items = h.items;
     rules = h.rules;
     are_items = let P : Parts → Type 0 = λ p. IsPartOfLevel r.names (IsKey (keys ++ h.meets.more)) p h.items in subst P e h.are_items;
-    are_rules = let P : Parts → Type 0 = λ p. EachPair (IsRuleOf r.words r.places r.names) p.table h.rules in subst P e h.are_rules;
+    are_rules = let P : Parts → Type 0 = λ p. AllZip (IsRuleOf r.words r.places r.names) p.table h.rules in subst P e h.are_rules;
     part_grown = h.part_grown;
     table_grown = h.table_grown;
   }
@@ -164,7 +165,7 @@ module _ (r : Reading) where
     items = items;
     rules = [];
     are_items = let P : List Link → Type 0 = λ ks. IsPartOfLevel r.names (IsKey ks) (f (length table)) items in subst P (sym (append-nil keys)) are;
-    are_rules = let P : List ExpandedRule → Type 0 = λ t. EachPair (IsRuleOf r.words r.places r.names) t [] in subst P (sym none) tt;
+    are_rules = let P : List ExpandedRule → Type 0 = λ t. AllZip (IsRuleOf r.words r.places r.names) t [] in subst P (sym none) tt;
     part_grown = grown;
     table_grown = sym (append-nil table);
   }
@@ -203,7 +204,7 @@ module _ (r : Reading) where
       let e = table_length Z keys f part table part1 table1 s h in
       let P : ℕ → Type 0 = λ i. IsPartOfLevel r.names (IsKey ((keys ++ m.more) ++ n.more)) (g i) k.items in
       let Q : List Link → Type 0 = λ ks. IsPartOfLevel r.names (IsKey ks) (joined_parts p (g (length table + length p.table))) (with_items h.items k.items) in
-      let T : ℕ → Type 0 = λ i. let q = g i in EachPair (IsRuleOf r.words r.places r.names) q.table k.rules in
+      let T : ℕ → Type 0 = λ i. let q = g i in AllZip (IsRuleOf r.words r.places r.names) q.table k.rules in
       let q = g (length table + length p.table) in
       record {
         meets = meets_both r Z Y X keys s t zs ys m n;

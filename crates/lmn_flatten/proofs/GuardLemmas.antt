@@ -1,18 +1,18 @@
 -- Conditions one by one.
 use Rattle.std.proofs.Common.{◌≡◌, ℕ, ◌+◌, ◌<◌, List, [], ◌∷◌, ◌++◌, length, map, take, get_or, sym, ap, ◌∙◌, subst}
 use Rattle.std.proofs.lemmas.List.{map-append, take_more}
+use Rattle.std.specs.List.{AllZip}
 use Rattle.lmn_base.specs.declared.guard.Cond.{Cond}
 use Rattle.lmn_parser.specs.declared.tree.CondNode.{CondNode}
 use Rattle.lmn_parser.specs.Syntax.{WrittenCondition, condition_of_node, conditions_of}
-use Rattle.lmn_flatten_plain.specs.Plains.{EachPair}
 use Rattle.lmn_flatten.proofs.EachLemmas.{each_append}
 
 -- one more condition is read
 pub one_more_condition : (R : WrittenCondition → Cond → Type 0) (xs : List CondNode) (i : ℕ) (d x : CondNode) (cs cs1 : List Cond) (c : Cond) → i < length xs → x ≡ get_or xs i d
-    → EachPair R (conditions_of (take i xs)) cs → R (condition_of_node x) c → cs1 ≡ cs ++ c ∷ [] → EachPair R (conditions_of (take (i + 1) xs)) cs1
+    → AllZip R (conditions_of (take i xs)) cs → R (condition_of_node x) c → cs1 ≡ cs ++ c ∷ [] → AllZip R (conditions_of (take (i + 1) xs)) cs1
 one_more_condition R xs i d x cs cs1 c l e h k f =
-    let P : List WrittenCondition → Type 0 = λ z. EachPair R z cs1 in
-    let Q : List Cond → Type 0 = λ z. EachPair R (conditions_of (take i xs) ++ condition_of_node x ∷ []) z in
+    let P : List WrittenCondition → Type 0 = λ z. AllZip R z cs1 in
+    let Q : List Cond → Type 0 = λ z. AllZip R (conditions_of (take i xs) ++ condition_of_node x ∷ []) z in
     let same : conditions_of (take i xs) ++ condition_of_node x ∷ [] ≡ conditions_of (take (i + 1) xs) = sym (map-append condition_of_node (take i xs) (x ∷ []))
     ∙ ap (map condition_of_node) (ap (λ y. take i xs ++ y ∷ []) e ∙ sym (take_more xs i d l)) in
     subst P same (subst Q (sym f) (each_append R (conditions_of (take i xs)) (condition_of_node x ∷ []) cs (c ∷ []) h (k, tt)))

@@ -1,6 +1,7 @@
 -- Rules, and the process outside them, once their links have numbers.
 use Rattle.std.proofs.Common.{◌≡◌, ℕ, zero, suc, ◌+◌, ◌<◌, ◌⊎◌, inl, inr, List, [], ◌∷◌, ◌++◌, length, slice_index_or, slice_set, All, Contains, refl, sym, ap, ◌∙◌, subst, arith}
 use Rattle.std.proofs.lemmas.List.{append_assoc, append-nil, length-append}
+use Rattle.std.specs.List.{AllZip}
 use Rattle.lmn_base.specs.declared.guard.Cond.{Cond}
 use Rattle.lmn_base.specs.declared.level.Level as base_level
 use Rattle.lmn_base.specs.declared.refusal.Pos.{Pos}
@@ -20,7 +21,7 @@ use Rattle.lmn_flatten_plain.specs.Expansion.{parts_of}
 use Rattle.lmn_flatten_plain.specs.Keys.{IsLinkIn, link_index, IsKey}
 use Rattle.lmn_flatten_plain.specs.Links.{Link, made, fresh}
 use Rattle.lmn_flatten_plain.specs.Parts.{Parts, joined_parts, fresh_copy, level_from_parts, rule_of_parts}
-use Rattle.lmn_flatten_plain.specs.Plains.{EachPair, OneToOne, IsCond, IsRuleOf, IsPlainOf, numbered}
+use Rattle.lmn_flatten_plain.specs.Plains.{OneToOne, IsCond, IsRuleOf, IsPlainOf, numbered}
 use Rattle.lmn_flatten_plain.proofs.SomeNumbers.{index_below, index_one}
 use Rattle.lmn_flatten.specs.Built.{IsLevel, IsPartOfLevel, no_items, with_items}
 use Rattle.lmn_flatten.specs.Copies.{Copies, NoneFresh}
@@ -38,7 +39,7 @@ use Rattle.lmn_flatten.proofs.WayLemmas.{under_apart}
 -- ---- keys of lists of links
 
 module _ (keys : List Link) where
-  key_there : (xs : List Link) (ys : List ℕ) → EachPair (IsKey keys) xs ys → (a : Link) (k : ℕ) → k < length xs → slice_index_or xs k a ≡ a
+  key_there : (xs : List Link) (ys : List ℕ) → AllZip (IsKey keys) xs ys → (a : Link) (k : ℕ) → k < length xs → slice_index_or xs k a ≡ a
       → Contains ys (link_index a keys) × IsLinkIn a keys
   key_there [] ys h a k l e = absurd (omega (arith, l))
   key_there (x ∷ xs) [] h a k l e = absurd h
@@ -51,7 +52,7 @@ module _ (keys : List Link) where
       let c = found.0 in
       ((suc c.0, omega (arith, c.1), c.2), found.1)
 
-  pub keys_below : (xs : List Link) (ys : List ℕ) (n : ℕ) → n ≡ length keys → EachPair (IsKey keys) xs ys → All (λ y. y < n) ys
+  pub keys_below : (xs : List Link) (ys : List ℕ) (n : ℕ) → n ≡ length keys → AllZip (IsKey keys) xs ys → All (λ y. y < n) ys
   keys_below [] [] n e h k d l = absurd (omega (arith, l))
   keys_below [] (y ∷ ys) n e h k d l = absurd h
   keys_below (x ∷ xs) [] n e h k d l = absurd h
@@ -61,7 +62,7 @@ module _ (keys : List Link) where
   pub number : (ℕ → ℕ) → Link → ℕ
   number to a = to (link_index a keys)
 
-  pub one_to_one : (to : ℕ → ℕ) (xs : List Link) (ys : List ℕ) → EachPair (IsKey keys) xs ys
+  pub one_to_one : (to : ℕ → ℕ) (xs : List Link) (ys : List ℕ) → AllZip (IsKey keys) xs ys
       → ((a b : ℕ) → Contains ys a → Contains ys b → to a ≡ to b → a ≡ b) → OneToOne (λ a. to (link_index a keys)) xs
   one_to_one to xs ys h apart a b i j e =
       let f = key_there xs ys h a i.0 i.1 i.2 in
@@ -81,7 +82,7 @@ pub record TopParts (r : Reading) (tree : Clauses) (top : base_level.Level) (tab
   pub keys : List Link
   pub scope : IsScope r keys s
   pub level : IsLevel r.names (IsKey keys) (level_from_parts (parts_of r.words r.places tree)) top
-  pub rules : (let p = parts_of r.words r.places tree in EachPair (IsRuleOf r.words r.places r.names) p.table table)
+  pub rules : (let p = parts_of r.words r.places tree in AllZip (IsRuleOf r.words r.places r.names) p.table table)
 
 module _ (r : Reading) where
   nothing_before : (part items : Part) → part ≡ no_items → with_items part items ≡ items
@@ -99,8 +100,8 @@ module _ (r : Reading) where
       let n : length table ≡ 0 = ap length f in
       let P : ℕ → Type 0 = λ k. IsPartOfLevel r.names (IsKey m.more) (p k) h.items in
       let Q : Part → Type 0 = λ x. IsPartOfLevel r.names (IsKey m.more) (p 0) x in
-      let T : ℕ → Type 0 = λ k. let x = p k in EachPair (IsRuleOf r.words r.places r.names) x.table h.rules in
-      let U : List RuleTree → Type 0 = λ ts. let x = p 0 in EachPair (IsRuleOf r.words r.places r.names) x.table ts in
+      let T : ℕ → Type 0 = λ k. let x = p k in AllZip (IsRuleOf r.words r.places r.names) x.table h.rules in
+      let U : List RuleTree → Type 0 = λ ts. let x = p 0 in AllZip (IsRuleOf r.words r.places r.names) x.table ts in
       record {
         keys = m.more;
         scope = m.scope;
@@ -138,7 +139,7 @@ module _ (r : Reading) where
         let q = expansion.expanded_items r.words r.places (1 ∷ way) taken (length table + length p.table) in
         let b = expansion.expanded_items r.words r.places (2 ∷ way) body (length table + length p.table + length q.table) in
         IsLevel r.names (IsKey keys) (level_from_parts (joined_parts p q)) head_level × IsLevel r.names (IsKey keys) (level_from_parts (joined_parts (fresh_copy p) b)) body_level
-        × EachPair (IsRuleOf r.words r.places r.names) (p.table ++ (q.table ++ b.table)) rules)
+        × AllZip (IsRuleOf r.words r.places r.names) (p.table ++ (q.table ++ b.table)) rules)
 
   pub rule_parts : (way : List ℕ) (kept taken body : Items) (g : Glossary) (head0 head1 head2 body0 body1 : Part) (t0 t1 t2 t3 : List RuleTree) (s0 s1 s2 s3 s4 : Scope)
       (head_level body_level : base_level.Level) → IsGlossary r g → IsScope r [] s0 → head0 ≡ no_items
@@ -178,8 +179,8 @@ module _ (r : Reading) where
       let b = expansion.expanded_items r.words r.places (2 ∷ way) body (length t0 + length p.table + length q.table) in
       let P2 : ℕ → Type 0 = λ k. IsPartOfLevel r.names (IsKey K3) (expansion.expanded_items r.words r.places (1 ∷ way) taken k) h2.items in
       let P3 : ℕ → Type 0 = λ k. IsPartOfLevel r.names (IsKey K) (expansion.expanded_items r.words r.places (2 ∷ way) body k) h3.items in
-      let T2 : ℕ → Type 0 = λ k. let x = expansion.expanded_items r.words r.places (1 ∷ way) taken k in EachPair (IsRuleOf r.words r.places r.names) x.table h2.rules in
-      let T3 : ℕ → Type 0 = λ k. let x = expansion.expanded_items r.words r.places (2 ∷ way) body k in EachPair (IsRuleOf r.words r.places r.names) x.table h3.rules in
+      let T2 : ℕ → Type 0 = λ k. let x = expansion.expanded_items r.words r.places (1 ∷ way) taken k in AllZip (IsRuleOf r.words r.places r.names) x.table h2.rules in
+      let T3 : ℕ → Type 0 = λ k. let x = expansion.expanded_items r.words r.places (2 ∷ way) body k in AllZip (IsRuleOf r.words r.places r.names) x.table h3.rules in
       let up3 : (a : Link) (x : ℕ) → IsKey K3 a x → IsKey K a x = λ a x k. key_more K3 m3.more a x k in
       let up2 : (a : Link) (x : ℕ) → IsKey K2 a x → IsKey K a x = λ a x k. up3 a x (key_more K2 m2.more a x k) in
       let up1 : (a : Link) (x : ℕ) → IsKey K1 a x → IsKey K a x = λ a x k. up2 a x (key_more K1 c.more a x k) in
@@ -227,7 +228,7 @@ module _ (r : Reading) where
 
   pub rule_read : (way : List ℕ) (kept taken body : Items) (conditions : List WrittenCondition) (pos : Pos) (old_head old_body head_level body_level : base_level.Level)
       (guard : List Cond) (links : List LinkUse) (table table1 : List RuleTree) (s : Scope)
-      → RuleParts way kept taken body old_head old_body table table1 s → EachPair (IsCond r.words r.places r.names) conditions guard
+      → RuleParts way kept taken body old_head old_body table table1 s → AllZip (IsCond r.words r.places r.names) conditions guard
       → NumbersRule old_head old_body head_level body_level links
       → ReadsRule r way kept taken conditions body pos table (record { head = head_level; guard = guard; body = body_level; links = links; pos = pos }) table1
   rule_read way kept taken body conditions pos old_head old_body head_level body_level guard links table table1 s h conds n =
@@ -281,7 +282,7 @@ rule_grows r Z way keys kept taken conditions body pos part table pushed read se
     let p = expansion.expanded_items r.words r.places (0 ∷ way) kept n in
     let q = expansion.expanded_items r.words r.places (1 ∷ way) taken (n + length p.table) in
     let b = expansion.expanded_items r.words r.places (2 ∷ way) body (n + length p.table + length q.table) in
-    IsRuleOf r.words r.places r.names (rule_of_parts p q conditions b pos) rule × EachPair (IsRuleOf r.words r.places r.names) (p.table ++ (q.table ++ b.table)) h.rules in
+    IsRuleOf r.words r.places r.names (rule_of_parts p q conditions b pos) rule × AllZip (IsRuleOf r.words r.places r.names) (p.table ++ (q.table ++ b.table)) h.rules in
     let is = subst P size h.is_rule in
     let whole : read ≡ table ++ x ∷ h.rules = h.grown ∙ ap (λ t. t ++ h.rules) p ∙ append_assoc table (x ∷ []) h.rules in
     record {

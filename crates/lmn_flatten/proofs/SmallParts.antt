@@ -1,5 +1,6 @@
 -- Atoms, contexts and occurrences that are added.
 use Rattle.std.proofs.Common.{Box, Global, ◌≡◌, ℕ, true, false, List, [], ◌∷◌, ◌++◌, length, Option, Some, None, refl, sym, ap, ◌∙◌, subst}
+use Rattle.std.specs.List.{AllZip}
 use Rattle.lmn_base.specs.declared.functor.Label.{Label}
 use Rattle.lmn_base.specs.declared.level.Leaf as base
 use Rattle.lmn_base.specs.declared.level.Leaf.TheVariants.{Atom, Typed}
@@ -18,7 +19,7 @@ use Rattle.lmn_flatten_plain.specs.Expansion.{argument, written_link, rest}
 use Rattle.lmn_flatten_plain.specs.Keys.{IsKey}
 use Rattle.lmn_flatten_plain.specs.Links.{Link, Use, made}
 use Rattle.lmn_flatten_plain.specs.Meanings.{name_at, place_at}
-use Rattle.lmn_flatten_plain.specs.Plains.{EachPair, number_of, numbered_label}
+use Rattle.lmn_flatten_plain.specs.Plains.{number_of, numbered_label}
 use Rattle.lmn_flatten.specs.Built.{IsUse, AddsLeaf}
 use Rattle.lmn_flatten.specs.Glossaries.{Reading}
 use Rattle.lmn_flatten.specs.Growing.{some_term}
@@ -30,7 +31,7 @@ use Rattle.lmn_flatten.proofs.GrowingLemmas.{meets_more, meets_nothing, key_more
 
 -- an atom is a leaf more
 pub adds_atom : (names : List tree.Name) (R : Link → ℕ → Type 0) (l : tree.Label) (us : List Use) (pos : Pos) (label : Label) (arity : ℕ) (links : List Occ)
-    (part : Part) (leaves : List base.Leaf) → label ≡ numbered_label names (λ a. 0) l → arity ≡ length links → EachPair (IsUse names R) us links
+    (part : Part) (leaves : List base.Leaf) → label ≡ numbered_label names (λ a. 0) l → arity ≡ length links → AllZip (IsUse names R) us links
     → leaves ≡ part.leaves ++ Atom (record { label = label; arity = arity }) links pos ∷ []
     → AddsLeaf names R (atom_leaf l us pos) part
     (record { leaves = leaves; membranes = part.membranes; contexts = part.contexts; rule_contexts = part.rule_contexts; rules = part.rules })
@@ -65,18 +66,18 @@ adds_typed r R u p name pos link part leaves n e is_use grown = record {
 }
 
 module _ (names : List tree.Name) (R : Link → ℕ → Type 0) where
-  uses_as : (us : List Use) (os links : List Occ) → links ≡ os → EachPair (IsUse names R) us os → EachPair (IsUse names R) us links
-  uses_as us os links e h = let P : List Occ → Type 0 = EachPair (IsUse names R) us in subst P (sym e) h
+  uses_as : (us : List Use) (os links : List Occ) → links ≡ os → AllZip (IsUse names R) us os → AllZip (IsUse names R) us links
+  uses_as us os links e h = let P : List Occ → Type 0 = AllZip (IsUse names R) us in subst P (sym e) h
 
-  pub one_use : (u : Use) (o : Occ) (a b : List Occ) → a ≡ [] → b ≡ a ++ o ∷ [] → IsUse names R u o → EachPair (IsUse names R) (u ∷ []) b
+  pub one_use : (u : Use) (o : Occ) (a b : List Occ) → a ≡ [] → b ≡ a ++ o ∷ [] → IsUse names R u o → AllZip (IsUse names R) (u ∷ []) b
   one_use u o a b e f h = uses_as (u ∷ []) (o ∷ []) b (f ∙ ap (λ x. x ++ o ∷ []) e) (h, tt)
 
   pub two_uses : (u v : Use) (o p : Occ) (a b c : List Occ) → a ≡ [] → b ≡ a ++ o ∷ [] → c ≡ b ++ p ∷ [] → IsUse names R u o → IsUse names R v p
-      → EachPair (IsUse names R) (u ∷ v ∷ []) c
+      → AllZip (IsUse names R) (u ∷ v ∷ []) c
   two_uses u v o p a b c e f g h k = uses_as (u ∷ v ∷ []) (o ∷ p ∷ []) c (g ∙ ap (λ x. x ++ p ∷ []) (f ∙ ap (λ x. x ++ o ∷ []) e)) (h, (k, tt))
 
   pub three_uses : (u v w : Use) (o p q : Occ) (a b c d : List Occ) → a ≡ [] → b ≡ a ++ o ∷ [] → c ≡ b ++ p ∷ [] → d ≡ c ++ q ∷ []
-      → IsUse names R u o → IsUse names R v p → IsUse names R w q → EachPair (IsUse names R) (u ∷ v ∷ w ∷ []) d
+      → IsUse names R u o → IsUse names R v p → IsUse names R w q → AllZip (IsUse names R) (u ∷ v ∷ w ∷ []) d
   three_uses u v w o p q a b c d e f g i h k l = uses_as (u ∷ v ∷ w ∷ []) (o ∷ p ∷ q ∷ []) d
       (i ∙ ap (λ x. x ++ q ∷ []) (g ∙ ap (λ x. x ++ p ∷ []) (f ∙ ap (λ x. x ++ o ∷ []) e))) (h, (k, (l, tt)))
 

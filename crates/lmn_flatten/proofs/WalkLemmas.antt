@@ -3,6 +3,7 @@ use Rattle.std.proofs.Common.{◌≡◌, ℕ, zero, suc, ◌+◌, ◌⊎◌, inl
 use Rattle.std.specs.Prelude.{codes, option_to_list}
 use Rattle.std.proofs.lemmas.List.{append_assoc, append-nil, length-append}
 use Rattle.std.proofs.lemmas.Option.{same_Some, slice_get_within}
+use Rattle.std.specs.List.{AllZip}
 use Rattle.lmn_base.specs.declared.level.Level as base_level
 use Rattle.lmn_base.specs.declared.level.Occ.{Occ}
 use Rattle.lmn_base.specs.declared.refusal.Pos.{Pos}
@@ -16,7 +17,7 @@ use Rattle.lmn_flatten_plain.specs.Keys.{IsLinkIn, IsKey}
 use Rattle.lmn_flatten_plain.specs.Links.{Link, Use, made}
 use Rattle.lmn_flatten_plain.specs.Meanings.{label_at, place_at}
 use Rattle.lmn_flatten_plain.specs.Parts.{Parts, NumberedParts, nothing, joined_parts, ◌⊕◌, one_leaf, one_membrane, level_from_parts}
-use Rattle.lmn_flatten_plain.specs.Plains.{EachPair, IsRuleOf}
+use Rattle.lmn_flatten_plain.specs.Plains.{IsRuleOf}
 use Rattle.lmn_flatten.specs.Built.{IsUse, IsLevel, IsPartOfLevel, AddsLeaf, no_items, with_items}
 use Rattle.lmn_flatten.specs.Glossaries.{Reading, IsGlossary}
 use Rattle.lmn_flatten.specs.Growing.{MayGrow, GrowsPart, Within, within_first, within_later, Argument, first_argument, later_argument, atom_with, HasNoRules, some_term}
@@ -121,7 +122,7 @@ module _ (r : Reading) where
   pub use_more : (keys more : List Link) (u : Use) (o : Occ) → IsUse r.names (IsKey keys) u o → IsUse r.names (IsKey (keys ++ more)) u o
   use_more keys more u o h = (key_more keys more u.link o.link h.0, h.1)
 
-  pub uses_more : (keys more : List Link) (us : List Use) (os : List Occ) → EachPair (IsUse r.names (IsKey keys)) us os → EachPair (IsUse r.names (IsKey (keys ++ more))) us os
+  pub uses_more : (keys more : List Link) (us : List Use) (os : List Occ) → AllZip (IsUse r.names (IsKey keys)) us os → AllZip (IsUse r.names (IsKey (keys ++ more))) us os
   uses_more keys more us os h = uses_by r.names (IsKey keys) (IsKey (keys ++ more)) (λ a x k. key_more keys more a x k) us os h
 
   -- a leaf, and then something else
@@ -135,7 +136,7 @@ module _ (r : Reading) where
       let e : length table ≡ length table + 0 = omega arith in
       let is : IsPartOfLevel r.names (IsKey keys) p here = record { leaves = (h.is_leaf, tt); membranes = tt; contexts = refl; rule_contexts = refl; rules = refl } in
       let P : ℕ → Type 0 = λ n. IsPartOfLevel r.names (IsKey K) (g n) k.items in
-      let T : ℕ → Type 0 = λ n. let q = g n in EachPair (IsRuleOf r.words r.places r.names) q.table k.rules in
+      let T : ℕ → Type 0 = λ n. let q = g n in AllZip (IsRuleOf r.words r.places r.names) q.table k.rules in
       let grown : part1 ≡ with_items part here = part_is _ _ h.leaves (h.membranes ∙ sym (append-nil part.membranes)) (h.contexts ∙ sym (append-nil part.contexts))
       (h.rule_contexts ∙ sym (append-nil part.rule_contexts)) (h.rules ∙ sym (append-nil part.rules)) in
       record {
@@ -228,12 +229,12 @@ module _ (r : Reading) where
 
   pub atom_grows : (way : List ℕ) (keys : List Link) (n : ℕ) (ts : Terms) (own : List Use) (g : Glossary) (part : Part) (table : List RuleTree) (s : Scope)
       (links all : List Occ) (more : Option Occ) (pos : Pos) (s1 : Scope) (part1 part2 : Part) (table2 : List RuleTree) (s2 : Scope)
-      → MayGrow r (Under way) keys g s → EachPair (IsUse r.names (IsKey keys)) own (option_to_list more)
+      → MayGrow r (Under way) keys g s → AllZip (IsUse r.names (IsKey keys)) own (option_to_list more)
       → pos ≡ place_at r.words r.places n → all ≡ links ++ option_to_list more
       → ((way : List ℕ) (keys : List Link) → MayGrow r (Argument way) keys g s
-      → (m : Meets r (Argument way) keys s1) × EachPair (IsUse r.names (IsKey (keys ++ m.more))) (expanded_arguments r.words r.places pos way ts) links)
-      → ((keys : List Link) (us : List Use) → EachPair (IsUse r.names (IsKey keys)) us all → AddsLeaf r.names (IsKey keys) (atom_leaf (label_at r.words r.places n) us pos) part part1)
-      → ((way : List ℕ) (keys : List Link) → MayGrow r (Within way) keys g s1 → EachPair (IsUse r.names (IsKey keys)) (expanded_arguments r.words r.places pos way ts) links
+      → (m : Meets r (Argument way) keys s1) × AllZip (IsUse r.names (IsKey (keys ++ m.more))) (expanded_arguments r.words r.places pos way ts) links)
+      → ((keys : List Link) (us : List Use) → AllZip (IsUse r.names (IsKey keys)) us all → AddsLeaf r.names (IsKey keys) (atom_leaf (label_at r.words r.places n) us pos) part part1)
+      → ((way : List ℕ) (keys : List Link) → MayGrow r (Within way) keys g s1 → AllZip (IsUse r.names (IsKey keys)) (expanded_arguments r.words r.places pos way ts) links
       → GrowsPart r (Within way) keys (expansion.expanded_terms r.words r.places pos way ts) part1 table part2 table2 s2)
       → GrowsPart r (Under way) keys (atom_with r.words r.places way n ts own) part table part2 table2 s2
   atom_grows way keys n ts own g part table s links all more pos s1 part1 part2 table2 s2 ready owns place whole args adds inside =
@@ -241,7 +242,7 @@ module _ (r : Reading) where
       let m = first.0 in
       let K = keys ++ m.more in
       let us = expanded_arguments r.words r.places pos way ts in
-      let P : List Occ → Type 0 = EachPair (IsUse r.names (IsKey K)) (us ++ own) in
+      let P : List Occ → Type 0 = AllZip (IsUse r.names (IsKey K)) (us ++ own) in
       let uses = subst P (sym whole) (each_append (IsUse r.names (IsKey K)) us own links (option_to_list more) first.1 (uses_more keys m.more own (option_to_list more) owns)) in
       let ready1 = ready_after (Under way) (Argument way) (Within way) keys g s s1 (λ v w. within_under w) (λ v a w. argument_apart a w) ready m in
       let then = grows_more r (Within way) (Under way) K _ part1 table part2 table2 s2 (λ v w. within_under w) (inside way K ready1 first.1) in
@@ -523,14 +524,14 @@ module _ (r : Reading) where
 
   pub record ArgumentsSoFar (way : List ℕ) (keys : List Link) (pos : Pos) (ts : Terms) (n : ℕ) (links : List Occ) (s : Scope) : Type 0 where
     pub meets : Meets r (Argument way) keys s
-    pub uses : EachPair (IsUse r.names (IsKey (keys ++ meets.more))) (expanded_arguments r.words r.places pos way ts) links
+    pub uses : AllZip (IsUse r.names (IsKey (keys ++ meets.more))) (expanded_arguments r.words r.places pos way ts) links
     pub later : Clear (Argument (ones n way)) (keys ++ meets.more)
 
   pub no_arguments : (way : List ℕ) (keys : List Link) (pos : Pos) (links : List Occ) (g : Glossary) (s : Scope) → links ≡ [] → MayGrow r (Argument way) keys g s
       → ArgumentsSoFar way keys pos no_term 0 links s
   no_arguments way keys pos links g s e ready = record {
     meets = meets_nothing r (Argument way) keys s ready.scope;
-    uses = let P : List Occ → Type 0 = λ os. EachPair (IsUse r.names (IsKey (keys ++ []))) [] os in subst P (sym e) tt;
+    uses = let P : List Occ → Type 0 = λ os. AllZip (IsUse r.names (IsKey (keys ++ []))) [] os in subst P (sym e) tt;
     later = let P : List Link → Type 0 = λ ks. Clear (Argument way) ks in subst P (sym (append-nil keys)) ready.clear;
   }
 
@@ -551,9 +552,9 @@ module _ (r : Reading) where
       (λ v d a. below_apart w v 0 1 (λ z. cc) ([], d) (under_below (1 ∷ w) v (argument_under a))) h.later k in
       let more = k.more in
       let same = append_assoc keys m.more more in
-      let U : List Link → Type 0 = λ ks. EachPair (IsUse r.names (IsKey ks)) (expanded_arguments r.words r.places pos way ts ++ argument r.words r.places pos (0 ∷ w) t ∷ []) (links ++ o ∷ []) in
-      let V : List Occ → Type 0 = λ os. EachPair (IsUse r.names (IsKey (keys ++ (m.more ++ more)))) (expanded_arguments r.words r.places pos way ts ++ argument r.words r.places pos (0 ∷ w) t ∷ []) os in
-      let W : List Use → Type 0 = λ us. EachPair (IsUse r.names (IsKey (keys ++ (m.more ++ more)))) us links1 in
+      let U : List Link → Type 0 = λ ks. AllZip (IsUse r.names (IsKey ks)) (expanded_arguments r.words r.places pos way ts ++ argument r.words r.places pos (0 ∷ w) t ∷ []) (links ++ o ∷ []) in
+      let V : List Occ → Type 0 = λ os. AllZip (IsUse r.names (IsKey (keys ++ (m.more ++ more)))) (expanded_arguments r.words r.places pos way ts ++ argument r.words r.places pos (0 ∷ w) t ∷ []) os in
+      let W : List Use → Type 0 = λ us. AllZip (IsUse r.names (IsKey (keys ++ (m.more ++ more)))) us links1 in
       let C : List Link → Type 0 = λ ks. Clear (Argument (1 ∷ w)) ks in
       let D : List ℕ → Type 0 = λ z. Clear (Argument z) (keys ++ (m.more ++ more)) in
       record {
@@ -586,8 +587,8 @@ module _ (r : Reading) where
       let Q : Part → Type 0 = λ x. IsPartOfLevel r.names (IsKey K) (joined_parts p (q (length table + length p.table))) x in
       let made_level = level K (joined_parts p (q (length table + length p.table))) (subst Q (sym h.part_grown) whole) in
       let x = q (length table + length p.table) in
-      let T : ℕ → Type 0 = λ n. let y = q n in EachPair (IsRuleOf r.words r.places r.names) y.table h.rules in
-      let S : List ExpandedRule → Type 0 = λ t. EachPair (IsRuleOf r.words r.places r.names) (t ++ x.table) h.rules in
+      let T : ℕ → Type 0 = λ n. let y = q n in AllZip (IsRuleOf r.words r.places r.names) y.table h.rules in
+      let S : List ExpandedRule → Type 0 = λ t. AllZip (IsRuleOf r.words r.places r.names) (t ++ x.table) h.rules in
       record {
         meets = m;
         items = record { leaves = []; membranes = l ∷ []; contexts = []; rule_contexts = []; rules = [] };
@@ -653,7 +654,7 @@ module _ (r : Reading) where
       ∙ ap (λ us. argument r.words r.places pos (0 ∷ way) y ∷ us) (arguments_last m (1 ∷ way) pos xs x refl)
 
   pub argument_there : (i : ℕ) (way : List ℕ) (pos : Pos) (xs : List Term) (x : Term) (us : List Occ) (o : Occ) (keys : List Link)
-      → slice_get xs i ≡ Some x → slice_get us i ≡ Some o → EachPair (IsUse r.names (IsKey keys)) (expanded_arguments r.words r.places pos way (as_terms xs)) us
+      → slice_get xs i ≡ Some x → slice_get us i ≡ Some o → AllZip (IsUse r.names (IsKey keys)) (expanded_arguments r.words r.places pos way (as_terms xs)) us
       → IsUse r.names (IsKey keys) (argument r.words r.places pos (0 ∷ ones i way) x) o
   argument_there i way pos [] x us o keys e f h = absurd (let l = slice_get_within [] i x e in omega arith)
   argument_there i way pos (y ∷ xs) x [] o keys e f h = absurd h

@@ -3,6 +3,7 @@ use Rattle.std.proofs.Common.{◌≡◌, ℕ, zero, suc, ◌+◌, ◌<◌, ◌�
 use Rattle.std.specs.Prelude.{codes, option_map}
 use Rattle.std.proofs.lemmas.List.{append-nil, map-append, take_all}
 use Rattle.std.proofs.lemmas.Option.{same_Some}
+use Rattle.std.specs.List.{AllZip}
 use Rattle.lmn_base.specs.declared.level.CtxUse.{CtxUse}
 use Rattle.lmn_base.specs.declared.level.Occ.{Occ}
 use Rattle.lmn_base.specs.declared.refusal.Pos.{Pos}
@@ -19,7 +20,7 @@ use Rattle.lmn_flatten_plain.specs.Keys.{IsLinkIn, IsKey}
 use Rattle.lmn_flatten_plain.specs.Links.{Link, Use, made}
 use Rattle.lmn_flatten_plain.specs.Meanings.{label_at, name_at, place_at}
 use Rattle.lmn_flatten_plain.specs.Parts.{Parts, NumberedParts, ◌⊕◌, level_from_parts, no_parts, nothing, one_leaf, one_context, one_membrane, one_rule_context}
-use Rattle.lmn_flatten_plain.specs.Plains.{EachPair, context_use, number_of}
+use Rattle.lmn_flatten_plain.specs.Plains.{context_use, number_of}
 use Rattle.lmn_flatten.specs.Built.{IsPartOfLevel, IsUse, AddsLeaf, no_items}
 use Rattle.lmn_flatten.specs.Glossaries.{Reading, IsGlossary}
 use Rattle.lmn_flatten.specs.Growing.{MayGrow, GrowsPart, Within, Argument, atom_with, some_term}
@@ -112,7 +113,7 @@ module _ (r : Reading) where
 
   pub terms_more : (way : List ℕ) (keys : List Link) (pos : Pos) (cs : List TermNode) (n : ℕ) (d x : TermNode) (links : List Occ) (own : ℕ) (g : Glossary) (part : Part) (table : List RuleTree) (part1 : Part) (table1 : List RuleTree) (s : Scope)
       (part2 : Part) (table2 : List RuleTree) (t : Scope) → n < length cs → x ≡ get_or cs n d → (o : Occ) × (slice_get links n ≡ Some o) × (own ≡ o.link) → IsGlossary r g
-      → EachPair (IsUse r.names (IsKey keys)) (expanded_arguments r.words r.places pos way (terms_of cs)) links
+      → AllZip (IsUse r.names (IsKey keys)) (expanded_arguments r.words r.places pos way (terms_of cs)) links
       → GrowsSoFar r Within way keys (expansion.expanded_terms r.words r.places pos way (terms_of (take n cs))) n part table part1 table1 s
       → ((way : List ℕ) (keys : List Link) (y : Link) → MayGrow r (Under way) keys g s → IsKey keys y own
       → GrowsPart r (Under way) keys (expansion.expanded_term r.words r.places pos way y (term_of x)) part1 table1 part2 table2 t)
@@ -141,10 +142,10 @@ module _ (r : Reading) where
 
   pub all_arguments : (way : List ℕ) (keys : List Link) (pos : Pos) (cs : List TermNode) (n : ℕ) (links : List Occ) (s : Scope) → length cs ≤ n
       → ArgumentsSoFar r way keys pos (terms_of (take n cs)) n links s
-      → (m : Meets r (Argument way) keys s) × EachPair (IsUse r.names (IsKey (keys ++ m.more))) (expanded_arguments r.words r.places pos way (terms_of cs)) links
+      → (m : Meets r (Argument way) keys s) × AllZip (IsUse r.names (IsKey (keys ++ m.more))) (expanded_arguments r.words r.places pos way (terms_of cs)) links
   all_arguments way keys pos cs n links s l h =
       let m = h.meets in
-      let P : List TermNode → Type 0 = λ z. EachPair (IsUse r.names (IsKey (keys ++ m.more))) (expanded_arguments r.words r.places pos way (terms_of z)) links in
+      let P : List TermNode → Type 0 = λ z. AllZip (IsUse r.names (IsKey (keys ++ m.more))) (expanded_arguments r.words r.places pos way (terms_of z)) links in
       (m, subst P (take_all n cs l) h.uses)
 
   pub all_grown : {A : Type 0} (Z : List ℕ → List ℕ → Type 0) (way : List ℕ) (keys : List Link) (f : List A → NumberedParts) (xs : List A) (n : ℕ) (part : Part) (table : List RuleTree)
@@ -204,20 +205,20 @@ module _ (r : Reading) where
   -- ---- what a slice holds
 
   pub arguments_as : (way : List ℕ) (keys : List Link) (pos : Pos) (ts0 ts : List TermNode) (links : List Occ) (s : Scope) → ts0 ≡ ts
-      → (m : Meets r (Argument way) keys s) × EachPair (IsUse r.names (IsKey (keys ++ m.more))) (expanded_arguments r.words r.places pos way (terms_of ts0)) links
-      → (m : Meets r (Argument way) keys s) × EachPair (IsUse r.names (IsKey (keys ++ m.more))) (expanded_arguments r.words r.places pos way (terms_of ts)) links
+      → (m : Meets r (Argument way) keys s) × AllZip (IsUse r.names (IsKey (keys ++ m.more))) (expanded_arguments r.words r.places pos way (terms_of ts0)) links
+      → (m : Meets r (Argument way) keys s) × AllZip (IsUse r.names (IsKey (keys ++ m.more))) (expanded_arguments r.words r.places pos way (terms_of ts)) links
   arguments_as way keys pos ts0 ts links s e h =
-      let P : List TermNode → Type 0 = λ z. (m : Meets r (Argument way) keys s) × EachPair (IsUse r.names (IsKey (keys ++ m.more))) (expanded_arguments r.words r.places pos way (terms_of z)) links in
+      let P : List TermNode → Type 0 = λ z. (m : Meets r (Argument way) keys s) × AllZip (IsUse r.names (IsKey (keys ++ m.more))) (expanded_arguments r.words r.places pos way (terms_of z)) links in
       subst P e h
 
   pub terms_as : (way : List ℕ) (keys : List Link) (pos : Pos) (ts0 ts : List TermNode) (links0 links : List Occ) (part : Part) (table : List RuleTree) (part1 : Part) (table1 : List RuleTree) (s : Scope)
       → ts0 ≡ ts → links0 ≡ links
-      → (EachPair (IsUse r.names (IsKey keys)) (expanded_arguments r.words r.places pos way (terms_of ts0)) links0 → GrowsPart r (Within way) keys (expansion.expanded_terms r.words r.places pos way (terms_of ts0)) part table part1 table1 s)
-      → EachPair (IsUse r.names (IsKey keys)) (expanded_arguments r.words r.places pos way (terms_of ts)) links → GrowsPart r (Within way) keys (expansion.expanded_terms r.words r.places pos way (terms_of ts)) part table part1 table1 s
+      → (AllZip (IsUse r.names (IsKey keys)) (expanded_arguments r.words r.places pos way (terms_of ts0)) links0 → GrowsPart r (Within way) keys (expansion.expanded_terms r.words r.places pos way (terms_of ts0)) part table part1 table1 s)
+      → AllZip (IsUse r.names (IsKey keys)) (expanded_arguments r.words r.places pos way (terms_of ts)) links → GrowsPart r (Within way) keys (expansion.expanded_terms r.words r.places pos way (terms_of ts)) part table part1 table1 s
   terms_as way keys pos ts0 ts links0 links part table part1 table1 s e f h uses =
       let P : List TermNode → Type 0 = λ z. GrowsPart r (Within way) keys (expansion.expanded_terms r.words r.places pos way (terms_of z)) part table part1 table1 s in
-      let Q : List TermNode → Type 0 = λ z. EachPair (IsUse r.names (IsKey keys)) (expanded_arguments r.words r.places pos way (terms_of z)) links in
-      let R : List Occ → Type 0 = λ z. EachPair (IsUse r.names (IsKey keys)) (expanded_arguments r.words r.places pos way (terms_of ts0)) z in
+      let Q : List TermNode → Type 0 = λ z. AllZip (IsUse r.names (IsKey keys)) (expanded_arguments r.words r.places pos way (terms_of z)) links in
+      let R : List Occ → Type 0 = λ z. AllZip (IsUse r.names (IsKey keys)) (expanded_arguments r.words r.places pos way (terms_of ts0)) z in
       subst P e (h (subst R (sym f) (subst Q (sym e) uses)))
 
   pub atom_alone : (Z : List ℕ → Type 0) (keys : List Link) (way : List ℕ) (n : ℕ) (ts : Terms) (part : Part) (table : List RuleTree) (part1 : Part) (table1 : List RuleTree) (s : Scope)

@@ -1,5 +1,6 @@
 -- What the walk over a tree adds.
 use Rattle.std.specs.Prelude.{ℕ, ◌≡◌, ◌+◌, Bool, true, false, List, [], ◌∷◌, ◌++◌, length}
+use Rattle.std.specs.List.{AllZip}
 use Rattle.lmn_base.specs.declared.refusal.Pos.{Pos}
 use Rattle.lmn_base.specs.declared.rule.RuleTree.{RuleTree}
 use Rattle.lmn_parser.specs.Syntax.{Terms, term_and, no_term, Items, WrittenCondition}
@@ -8,7 +9,7 @@ use Rattle.lmn_flatten_plain.specs.Links.{Link, Use}
 use Rattle.lmn_flatten_plain.specs.Parts.{NumberedParts, ◌⊕◌, rule_of_parts}
 use Rattle.lmn_flatten_plain.specs.Expansion.{expanded_items, expanded_terms, expanded_arguments, an_atom}
 use Rattle.lmn_flatten_plain.specs.Meanings.{label_at, place_at}
-use Rattle.lmn_flatten_plain.specs.Plains.{EachPair, IsRuleOf}
+use Rattle.lmn_flatten_plain.specs.Plains.{IsRuleOf}
 use Rattle.lmn_lexer.specs.Laying.{Word}
 use Rattle.lmn_flatten.specs.Built.{IsPartOfLevel, with_items}
 use Rattle.lmn_flatten.specs.Glossaries.{Reading, IsGlossary}
@@ -30,7 +31,7 @@ pub record GrowsPart (r : Reading) (Z : List ℕ → Type 0) (keys : List Link) 
   pub items : Part
   pub rules : List RuleTree
   pub are_items : IsPartOfLevel r.names (IsKey (keys ++ meets.more)) (f (length table)) items
-  pub are_rules : (let p = f (length table) in EachPair (IsRuleOf r.words r.places r.names) p.table rules)
+  pub are_rules : (let p = f (length table) in AllZip (IsRuleOf r.words r.places r.names) p.table rules)
   pub part_grown : new_part ≡ with_items part items
   pub table_grown : new_table ≡ table ++ rules
 
@@ -53,7 +54,7 @@ pub record ReadsRule (r : Reading) (way : List ℕ) (kept taken : Items) (guard 
       let p = expanded_items r.words r.places (0 ∷ way) kept (length table) in
       let q = expanded_items r.words r.places (1 ∷ way) taken (length table + length p.table) in
       let b = expanded_items r.words r.places (2 ∷ way) body (length table + length p.table + length q.table) in
-      IsRuleOf r.words r.places r.names (rule_of_parts p q guard b pos) rule × EachPair (IsRuleOf r.words r.places r.names) (p.table ++ (q.table ++ b.table)) rules)
+      IsRuleOf r.words r.places r.names (rule_of_parts p q guard b pos) rule × AllZip (IsRuleOf r.words r.places r.names) (p.table ++ (q.table ++ b.table)) rules)
 
 -- an atom with these arguments, with these occurrences behind them, and what the arguments make
 abbrev pub atom_with : List Word → List Pos → List ℕ → ℕ → Terms → List Use → NumberedParts

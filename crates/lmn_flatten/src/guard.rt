@@ -1,6 +1,7 @@
 ghost use Rattle.std.specs.Prelude.{◌≡◌, map, IfOk};
+ghost use Rattle.std.specs.List.{AllZip};
 ghost use Rattle.lmn_parser.specs.Syntax.{condition_of_node, conditions_of, expr_of};
-ghost use Rattle.lmn_flatten_plain.specs.Plains.{EachPair, IsCond, IsExpr, context_use};
+ghost use Rattle.lmn_flatten_plain.specs.Plains.{IsCond, IsExpr, context_use};
 ghost use Rattle.lmn_flatten.specs.Glossaries.{Reading, IsGlossary};
 
 use crate::glossary::Glossary;
@@ -9,7 +10,7 @@ use lmn_parser::{CondNode, ExprNode};
 
 /// The conditions of a guard.
 pub(crate) fn conditions(glossary: &Glossary, nodes: &[CondNode]) -> Result<Rows<Cond>, NoMemory>
-    ensures { IfOk result (λ made. (r : Reading) → IsGlossary r glossary.now → EachPair (IsCond r.words r.places r.names) (conditions_of nodes.now) made) }
+    ensures { IfOk result (λ made. (r : Reading) → IsGlossary r glossary.now → AllZip (IsCond r.words r.places r.names) (conditions_of nodes.now) made) }
 {
     let mut conditions = Rows::new(glossary.alloc);
     for node in nodes {

@@ -1,11 +1,12 @@
 ghost use Rattle.std.specs.Prelude.{◌≡◌, List, OnOk};
+ghost use Rattle.std.specs.List.{AllZip};
 ghost use Rattle.lmn_congruence.specs.Rules.{Name};
 ghost use Rattle.lmn_congruence.specs.Rules as tree;
 ghost use Rattle.lmn_flatten_plain.specs.Expanded.{atom_leaf};
 ghost use Rattle.lmn_flatten_plain.specs.Keys.{IsKey};
 ghost use Rattle.lmn_flatten_plain.specs.Links.{Link, Use};
 ghost use Rattle.lmn_flatten_plain.specs.Parts.{Parts, level_from_parts};
-ghost use Rattle.lmn_flatten_plain.specs.Plains.{EachPair, numbered_label};
+ghost use Rattle.lmn_flatten_plain.specs.Plains.{numbered_label};
 ghost use Rattle.lmn_flatten.specs.Built.{IsPartOfLevel, IsLevel, IsUse, AddsLeaf, no_items};
 
 use crate::number::narrow_arity;
@@ -62,7 +63,7 @@ impl Part {
         pos: Pos,
     ) -> Result<(), NoMemory>
         ensures { OnOk result ((names : List Name) (keys : List Link) (l : tree.Label) (us : List Use) → label ≡ numbered_label names (λ a. 0) l
-            → EachPair (IsUse names (IsKey keys)) us links → AddsLeaf names (IsKey keys) (atom_leaf l us pos) self.old self.new) }
+            → AllZip (IsUse names (IsKey keys)) us links → AddsLeaf names (IsKey keys) (atom_leaf l us pos) self.old self.new) }
     {
         let arity = narrow_arity(links.len())?;
         self.leaves.push(Leaf::Atom {

@@ -1,4 +1,5 @@
 ghost use Rattle.std.specs.Prelude.{◌≡◌, ◌+◌, ◌<◌, ◌++◌, List, [], ◌∷◌, ℕ, codes, drop, length, option_to_list, slice_get, Some, IfOk, OnOk};
+ghost use Rattle.std.specs.List.{AllZip};
 ghost use Rattle.lmn_base.specs.declared.level.Occ.{Occ};
 ghost use Rattle.lmn_congruence.specs.Rules.{Name, named};
 ghost use Rattle.lmn_parser.specs.Syntax.{list, clause_of, clauses_of, conditions_of, item_of, items_of_nodes, clause_of_rule, term_of, terms_of, clauses_of_tree};
@@ -8,7 +9,7 @@ ghost use Rattle.lmn_flatten_plain.specs.Keys.{IsLinkIn, IsKey};
 ghost use Rattle.lmn_flatten_plain.specs.Links.{Link, Use, made};
 ghost use Rattle.lmn_flatten_plain.specs.Meanings.{name_at, place_at};
 ghost use Rattle.lmn_flatten_plain.specs.Parts.{NumberedParts, ◌⊕◌, one_membrane};
-ghost use Rattle.lmn_flatten_plain.specs.Plains.{EachPair, IsPlainOf};
+ghost use Rattle.lmn_flatten_plain.specs.Plains.{IsPlainOf};
 ghost use Rattle.lmn_flatten.specs.Built.{AddsLeaf, IsPartOfLevel, IsUse};
 ghost use Rattle.lmn_flatten.specs.Glossaries.{Reading, IsGlossary, IsKnown};
 ghost use Rattle.lmn_flatten.specs.Growing.{Argument, GrowsPart, HasNoRules, MayGrow, ReadsRule, Within, atom_with};
@@ -170,7 +171,7 @@ fn add_atom(
     own: Option<Occ>,
 ) -> Result<(), NoMemory>
     requires known { IsKnown glossary.now }
-    ensures { OnOk result ((r : Reading) (way : List ℕ) (keys : List Link) (own_uses : List Use) → MayGrow r (Under way) keys glossary.now scope.old → EachPair (IsUse r.names (IsKey keys)) own_uses (option_to_list own)
+    ensures { OnOk result ((r : Reading) (way : List ℕ) (keys : List Link) (own_uses : List Use) → MayGrow r (Under way) keys glossary.now scope.old → AllZip (IsUse r.names (IsKey keys)) own_uses (option_to_list own)
         → GrowsPart r (Under way) keys (atom_with r.words r.places way node.now.token (terms_of node.now.args) own_uses) part.old table.old part.new table.new scope.new) }
 {
     let label = glossary.label(node.token)?;
@@ -198,7 +199,7 @@ fn arguments(
 ) -> Result<Rows<Occ>, NoMemory>
     ensures length { IfOk result (λ links. length links ≡ length terms.now) }
     ensures links { IfOk result (λ links. (r : Reading) (way : List ℕ) (keys : List Link) → MayGrow r (Argument way) keys glossary.now scope.old
-        → (m : Meets r (Argument way) keys scope.new) × EachPair (IsUse r.names (IsKey (keys ++ m.more))) (expansion.expanded_arguments r.words r.places pos way (terms_of terms.now)) links) }
+        → (m : Meets r (Argument way) keys scope.new) × AllZip (IsUse r.names (IsKey (keys ++ m.more))) (expansion.expanded_arguments r.words r.places pos way (terms_of terms.now)) links) }
 {
     let mut links = Rows::new(glossary.alloc);
     for term in terms {
@@ -237,7 +238,7 @@ fn add_terms(
     terms: &[Term],
 ) -> Result<(), NoMemory>
     requires known { IsKnown glossary.now }
-    ensures { OnOk result ((r : Reading) (way : List ℕ) (keys : List Link) → MayGrow r (Within way) keys glossary.now scope.old → EachPair (IsUse r.names (IsKey keys)) (expansion.expanded_arguments r.words r.places pos way (terms_of terms.now)) links.now
+    ensures { OnOk result ((r : Reading) (way : List ℕ) (keys : List Link) → MayGrow r (Within way) keys glossary.now scope.old → AllZip (IsUse r.names (IsKey keys)) (expansion.expanded_arguments r.words r.places pos way (terms_of terms.now)) links.now
         → GrowsPart r (Within way) keys (expansion.expanded_terms r.words r.places pos way (terms_of terms.now)) part.old table.old part.new table.new scope.new) }
 {
     for i in 0..terms.len() {

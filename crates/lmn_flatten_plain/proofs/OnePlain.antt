@@ -1,6 +1,6 @@
 -- A tree has one plain at most.
 use Rattle.std.proofs.Common.{◌≡◌, ℕ, List, [], ◌∷◌, ◌++◌, map, length, refl, sym, ap, ◌∙◌, subst}
-use Rattle.std.specs.List.{flat_map, AllByRecursion}
+use Rattle.std.specs.List.{flat_map, AllByRecursion, AllZip}
 use Rattle.std.proofs.lemmas.List.{append-nil, map-append}
 use Rattle.lmn_base.specs.declared.refusal.Pos.{Pos}
 use Rattle.lmn_base.specs.declared.guard.Expr.{Expr}
@@ -24,7 +24,7 @@ use Rattle.lmn_flatten_plain.specs.Expanded as expanded
 use Rattle.lmn_flatten_plain.specs.Expanded.{ExpandedLeaf, atom_leaf, typed_leaf, ExpandedLevel, level, ExpandedLevels, no_level, level_and, ExpandedRule, use_links, expanded_leaf_links, expanded_leaves_links, expanded_links_in}
 use Rattle.lmn_flatten_plain.specs.Expansion.{parts_of}
 use Rattle.lmn_flatten_plain.specs.Parts.{level_from_parts}
-use Rattle.lmn_flatten_plain.specs.Plains.{number_of, numbered_use, numbered_label, numbered_leaf, numbered_context, numbered, all_numbered, EachPair, IsExpr, IsCond, IsRuleOf, IsPlainOf}
+use Rattle.lmn_flatten_plain.specs.Plains.{number_of, numbered_use, numbered_label, numbered_leaf, numbered_context, numbered, all_numbered, IsExpr, IsCond, IsRuleOf, IsPlainOf}
 use Rattle.lmn_flatten_plain.specs.SamePlains.{SameExpr, same_integer, same_context, same_operation, SameCond, same_condition, same_comparison, same_equation, SameRule, SamePlain}
 use Rattle.lmn_flatten_plain.specs.Laws.{OnePlain}
 use Rattle.lmn_flatten_plain.proofs.NumberedLevels.{links_numbered}
@@ -104,7 +104,7 @@ module _ (words : List Word) (places : List Pos) (names : List tree.Name) where
   same_cond (syntax.compared op l r s) a b h g = as_cond h.2 g.2 (same_comparison (same_expr l h.0 g.0 h.3 g.3) (same_expr r h.1 g.1 h.4 g.4))
   same_cond (syntax.equal p r s) a b h g = as_cond h.1 g.1 (same_equation (same_expr r h.0 g.0 h.2 g.2))
 
-  same_guard : (xs : List syntax.WrittenCondition) (as_ bs : List Cond) → EachPair (IsCond words places names) xs as_ → EachPair (IsCond words places names) xs bs → EachPair SameCond as_ bs
+  same_guard : (xs : List syntax.WrittenCondition) (as_ bs : List Cond) → AllZip (IsCond words places names) xs as_ → AllZip (IsCond words places names) xs bs → AllZip SameCond as_ bs
   same_guard [] [] [] h g = tt
   same_guard [] [] (b ∷ bs) h g = absurd g
   same_guard [] (a ∷ ms) bs h g = absurd h
@@ -143,7 +143,7 @@ module _ (words : List Word) (places : List Pos) (names : List tree.Name) where
         pos = h.pos ∙ sym g.pos;
       }
 
-  same_rules : (rs : List ExpandedRule) (ts us : List RuleTree) → EachPair (IsRuleOf words places names) rs ts → EachPair (IsRuleOf words places names) rs us → EachPair SameRule ts us
+  same_rules : (rs : List ExpandedRule) (ts us : List RuleTree) → AllZip (IsRuleOf words places names) rs ts → AllZip (IsRuleOf words places names) rs us → AllZip SameRule ts us
   same_rules [] [] [] h g = tt
   same_rules [] [] (u ∷ us) h g = absurd g
   same_rules [] (t ∷ ts) us h g = absurd h

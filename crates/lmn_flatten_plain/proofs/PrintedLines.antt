@@ -1,6 +1,6 @@
 -- Printed lines are read, and their plains are what was printed.
 use Rattle.std.proofs.Common.{◌≡◌, ℕ, List, [], ◌∷◌, ◌++◌, map, length, All, refl, sym, ap, ◌∙◌, subst}
-use Rattle.std.specs.List.{flat_map, AllByRecursion}
+use Rattle.std.specs.List.{flat_map, AllByRecursion, AllZip}
 use Rattle.std.proofs.lemmas.List.{append-nil, map-append}
 use Rattle.lmn_base.specs.declared.refusal.Pos.{Pos}
 use Rattle.lmn_base.specs.declared.level.CtxUse.{CtxUse}
@@ -26,7 +26,7 @@ use Rattle.lmn_flatten_plain.specs.Links.{Link}
 use Rattle.lmn_flatten_plain.specs.Expanded.{ExpandedLeaf, atom_leaf, typed_leaf, Context, ExpandedLevel, level, ExpandedLevels, no_level, level_and, ExpandedRule}
 use Rattle.lmn_flatten_plain.specs.Expansion.{parts_of}
 use Rattle.lmn_flatten_plain.specs.Parts.{level_from_parts}
-use Rattle.lmn_flatten_plain.specs.Plains.{numbered_leaf, numbered_context, numbered, all_numbered, EachPair, OneToOne, IsPlainOf}
+use Rattle.lmn_flatten_plain.specs.Plains.{numbered_leaf, numbered_context, numbered, all_numbered, OneToOne, IsPlainOf}
 use Rattle.lmn_flatten_plain.specs.Words.{line_of, top_pieces, words_in}
 use Rattle.lmn_flatten_plain.specs.Spelled.{LevelSpelled}
 use Rattle.lmn_flatten_plain.specs.Agreement.{names_of_contexts, trees_of_contexts, LeafIs, LevelIs, LevelsAre}
@@ -51,7 +51,7 @@ is_atom names f (typed_leaf m u pos) (tree.atom_leaf k xs) h n = absurd h
 is_atom names f (typed_leaf m u pos) (tree.connector_leaf x y) h n = absurd h
 is_atom names f (typed_leaf m u pos) (tree.typed_leaf k x) h n = absurd n
 
-are_atoms : (names : List tree.Name) (f : Link → ℕ) (ks : List ExpandedLeaf) (ls : List tree.Leaf) → EachPair LeafIs ks ls → AllByRecursion NotTyped ls
+are_atoms : (names : List tree.Name) (f : Link → ℕ) (ks : List ExpandedLeaf) (ls : List tree.Leaf) → AllZip LeafIs ks ls → AllByRecursion NotTyped ls
     → AllByRecursion IsAtomLeaf (map (numbered_leaf names f) ks)
 are_atoms names f [] ls h n = tt
 are_atoms names f (k ∷ ks) [] h n = absurd h

@@ -1,7 +1,7 @@
 -- The plain of a tree whose expansion agrees with a level of the calculus is that level.
 use Rattle.std.proofs.Common.{◌≡◌, ℕ, Bool, true, false, zero, suc, ◌<◌, List, [], ◌∷◌, ◌++◌, map, length, slice_get, slice_index_or, Some, refl, sym, ap, ◌∙◌, subst, arith}
 use Rattle.std.specs.Prelude.{codes, Contains}
-use Rattle.std.specs.List.{flat_map, AllByRecursion}
+use Rattle.std.specs.List.{flat_map, AllByRecursion, AllZip}
 use Rattle.std.proofs.lemmas.Option.{same_Some}
 use Rattle.std.proofs.lemmas.List.{append-nil, length-map, map-append}
 use Rattle.lmn_base.specs.declared.guard.Arith.{Arith}
@@ -27,7 +27,7 @@ use Rattle.lmn_flatten_plain.specs.Links.{Link, written, Use}
 use Rattle.lmn_flatten_plain.specs.Expanded as expanded
 use Rattle.lmn_flatten_plain.specs.Expanded.{ExpandedLeaf, atom_leaf, typed_leaf, Context, ExpandedLevel, level, ExpandedLevels, no_level, level_and, ExpandedRule, use_links, expanded_links_in}
 use Rattle.lmn_flatten_plain.specs.Meanings.{name_at, place_at}
-use Rattle.lmn_flatten_plain.specs.Plains.{number_of, numbered_use, numbered_label, numbered_leaf, numbered_context, numbered, all_numbered, OneToOne, EachPair, context_use, IsExpr, IsCond, IsRuleOf}
+use Rattle.lmn_flatten_plain.specs.Plains.{number_of, numbered_use, numbered_label, numbered_leaf, numbered_context, numbered, all_numbered, OneToOne, context_use, IsExpr, IsCond, IsRuleOf}
 use Rattle.lmn_flatten_plain.specs.Words.{link_name, kind_name}
 use Rattle.lmn_flatten_plain.specs.Spelled.{LeafSpelled, ConditionSpelled, LevelSpelled, LevelsSpelled, RuleSpelled, RulesSpelled}
 use Rattle.lmn_flatten_plain.specs.Agreement.{names_of_contexts as context_names, trees_of_contexts, link_by_number, LeafIs, ExprIs, CondIs, LevelIs, LevelsAre, RuleIs, RulesAre}
@@ -51,7 +51,7 @@ same_leaf_links (typed_leaf n u pos) (tree.atom_leaf m xs) h = absurd h
 same_leaf_links (typed_leaf n u pos) (tree.connector_leaf x y) h = absurd h
 same_leaf_links (typed_leaf n u pos) (tree.typed_leaf m x) h = ap (λ a. a ∷ []) h.1
 
-same_leaves_links : (ks : List ExpandedLeaf) (ls : List tree.Leaf) → EachPair LeafIs ks ls → expanded.expanded_leaves_links ks ≡ map link_by_number (leaves_links ls)
+same_leaves_links : (ks : List ExpandedLeaf) (ls : List tree.Leaf) → AllZip LeafIs ks ls → expanded.expanded_leaves_links ks ≡ map link_by_number (leaves_links ls)
 same_leaves_links [] [] h = refl
 same_leaves_links [] (l ∷ ls) h = absurd h
 same_leaves_links (k ∷ ks) [] h = absurd h
@@ -201,7 +201,7 @@ module _ (words : List Word) (places : List Pos) (names : List tree.Name) (is : 
   condition_back (syntax.different p r q) c (tree.compares o a b) h g held s = absurd g
   condition_back (syntax.different p r q) c (tree.equates n a) h g held s = absurd g
 
-  guard_back : (xs : List syntax.WrittenCondition) (cs : List Cond) (ts : List tree.Condition) → EachPair (IsCond words places names) xs cs → EachPair (CondIs words places) xs ts
+  guard_back : (xs : List syntax.WrittenCondition) (cs : List Cond) (ts : List tree.Condition) → AllZip (IsCond words places names) xs cs → AllZip (CondIs words places) xs ts
       → AllByRecursion (ConditionHeld names) ts → AllByRecursion ConditionSpelled ts → map (condition_of names) cs ≡ ts
   guard_back [] [] [] h g held s = refl
   guard_back [] [] (t ∷ ts) h g held s = absurd g
@@ -250,7 +250,7 @@ module _ (words : List Word) (places : List Pos) (names : List tree.Name) (is : 
   leaf_back f (typed_leaf n u pos) (tree.typed_leaf m x) h e held s =
       same_typed _ _ _ _ (ap (λ k. name_of names (number_of names k)) h.0 ∙ held_back names m held) (ap f h.1 ∙ e.0)
 
-  leaves_back : (f : Link → ℕ) (ks : List ExpandedLeaf) (ls : List tree.Leaf) → EachPair LeafIs ks ls → AllByRecursion (λ y. f (link_by_number y) ≡ y) (leaves_links ls)
+  leaves_back : (f : Link → ℕ) (ks : List ExpandedLeaf) (ls : List tree.Leaf) → AllZip LeafIs ks ls → AllByRecursion (λ y. f (link_by_number y) ≡ y) (leaves_links ls)
       → AllByRecursion (LeafHeld names) ls → AllByRecursion LeafSpelled ls → map (leaf_of names) (map (numbered_leaf names f) ks) ≡ ls
   leaves_back f [] [] h e held s = refl
   leaves_back f [] (l ∷ ls) h e held s = absurd h
@@ -324,11 +324,11 @@ module _ (words : List Word) (places : List Pos) (names : List tree.Name) (is : 
   same_rule : (a b : tree.Level) (c d : List tree.Condition) (e f : tree.Level) → a ≡ b → c ≡ d → e ≡ f → tree.rule_of a c e ≡ tree.rule_of b d f
   same_rule a b c d e f g h i = cc
 
-  module _ (p : Plain) (made : IsWellMade p) (table : List ExpandedRule) (each : EachPair (IsRuleOf words places names) table p.rules) where
+  module _ (p : Plain) (made : IsWellMade p) (table : List ExpandedRule) (each : AllZip (IsRuleOf words places names) table p.rules) where
     abbrev ρ : ℕ → tree.Rule
     ρ = numbered_rule names p.rules
 
-    rule_there : (rs : List ExpandedRule) (ts : List RuleTree) (k : ℕ) (r : ExpandedRule) → EachPair (IsRuleOf words places names) rs ts → slice_get rs k ≡ Some r
+    rule_there : (rs : List ExpandedRule) (ts : List RuleTree) (k : ℕ) (r : ExpandedRule) → AllZip (IsRuleOf words places names) rs ts → slice_get rs k ≡ Some r
         → (t : RuleTree) × (slice_get ts k ≡ Some t) × IsRuleOf words places names r t
     rule_there [] ts k r h e = absurd (cc)
     rule_there (q ∷ rs) [] k r h e = absurd h

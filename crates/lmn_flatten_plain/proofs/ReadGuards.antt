@@ -1,7 +1,7 @@
 -- Printed guards are read.
 use Rattle.std.proofs.Common.{◌≡◌, ℕ, ◌+◌, ℤ, List, [], ◌∷◌, ◌++◌, map, FitsSigned, w64, refl, ap, ◌∙◌, arith}
 use Rattle.std.specs.Prelude.{codes}
-use Rattle.std.specs.List.{AllByRecursion}
+use Rattle.std.specs.List.{AllByRecursion, AllZip}
 use Rattle.std.proofs.lemmas.List.{append_assoc}
 use Rattle.lmn_base.specs.declared.refusal.Pos.{Pos}
 use Rattle.lmn_base.specs.declared.guard.Arith.{Arith}
@@ -18,7 +18,6 @@ use Rattle.lmn_parser.specs.Syntax.{Expr, integer, value, operation, called, com
 use Rattle.lmn_parser.specs.Trees.{NameAt, CmpAt, IsSum, one_product, plus, one_factor, times, IsFactor, is_integer, is_value, in_parentheses, IsContexts, last_context, more_contexts, IsContextArguments, no_contexts, some_contexts, IsCondition, is_called, is_compared, is_equal, is_different, IsWrittenGuard, last_condition, more_conditions}
 use Rattle.lmn_flatten_plain.proofs.Decimals.{integer_spelled}
 use Rattle.lmn_flatten_plain.specs.Meanings.{name_at, name_spelled}
-use Rattle.lmn_flatten_plain.specs.Plains.{EachPair}
 use Rattle.lmn_flatten_plain.specs.Words.{Piece, word, space, words_in, with_commas, name_piece, integer_piece, context_piece, operator_pieces, comparison_pieces, operand_pieces, side_pieces, kind_name, contexts_pieces, condition_pieces}
 use Rattle.lmn_flatten_plain.specs.Spelled.{ExpressionSpelled, ConditionSpelled}
 use Rattle.lmn_flatten_plain.specs.Agreement.{ExprIs, CondIs}
@@ -229,7 +228,7 @@ module _ {tokens : List Token} {words : List Word} (places : List Pos) (same : S
       }
 
   pub guard_list : (c : tree.Condition) (cs : List tree.Condition) (p : ℕ) (rest : List Word) → AllByRecursion ConditionSpelled (c ∷ cs)
-      → Stands tokens words p (words_in (with_commas (map condition_pieces (c ∷ cs))) ++ rest) → Read (IsWrittenGuard tokens) (λ xs. EachPair (CondIs words places) xs (c ∷ cs)) p rest
+      → Stands tokens words p (words_in (with_commas (map condition_pieces (c ∷ cs))) ++ rest) → Read (IsWrittenGuard tokens) (λ xs. AllZip (CondIs words places) xs (c ∷ cs)) p rest
   guard_list c [] p rest h s =
       let one = condition_read c p rest h.0 s in
       record { part = one.part ∷ []; stop = one.stop; reads = last_condition one.reads; is = (one.is, tt); after = one.after }

@@ -1,7 +1,7 @@
 -- Printed levels and rules are read.
 use Rattle.std.proofs.Common.{◌≡◌, ℕ, suc, ◌+◌, List, [], ◌∷◌, ◌++◌, map, length, refl, sym, ap, ◌∙◌, subst, arith}
 use Rattle.std.specs.Prelude.{codes}
-use Rattle.std.specs.List.{AllByRecursion}
+use Rattle.std.specs.List.{AllByRecursion, AllZip}
 use Rattle.std.proofs.lemmas.List.{append-nil}
 use Rattle.lmn_base.specs.declared.refusal.Pos.{Pos}
 use Rattle.lmn_congruence.specs.Rules as tree
@@ -13,7 +13,6 @@ use Rattle.lmn_parser.specs.Trees.{StandsAt, IsClauses, no_clauses, last_clause,
 use Rattle.lmn_flatten_plain.specs.Expanded.{ExpandedRule}
 use Rattle.lmn_flatten_plain.specs.Parts.{Parts, no_parts, joined_parts, level_from_parts, rule_of_parts}
 use Rattle.lmn_flatten_plain.specs.Expansion.{expanded_item, expanded_items, expanded_clauses}
-use Rattle.lmn_flatten_plain.specs.Plains.{EachPair}
 use Rattle.lmn_flatten_plain.specs.Words.{Piece, word, space, words_in, with_commas, spaced, untyped_pieces, rule_context_piece, leaf_pieces, condition_pieces, guard_pieces, level_pieces, levels_pieces, rule_pieces, rules_pieces}
 use Rattle.lmn_flatten_plain.specs.Spelled.{LeafSpelled, ConditionSpelled, LevelSpelled, LevelsSpelled, RuleSpelled, RulesSpelled}
 use Rattle.lmn_flatten_plain.specs.Agreement.{CondIs, LevelIs}
@@ -122,7 +121,7 @@ module _ {tokens : List Token} {words : List Word} (places : List Pos) (same : S
     pub part : Items
     pub stop : ℕ
     pub reads : IsBody tokens conditions part p stop
-    pub holds : EachPair (CondIs words places) conditions guard
+    pub holds : AllZip (CondIs words places) conditions guard
     pub is : ListGives (level_items body) part
     pub after : Stands tokens words stop rest
 
@@ -153,7 +152,7 @@ module _ {tokens : List Token} {words : List Word} (places : List Pos) (same : S
   some_token p (v ∷ ws) w rest s = some_place tokens p (kind_at same s)
 
   rule_gives : (head : tree.Level) (guard : List tree.Condition) (body : tree.Level) (xs ys : Items) (cs : List WrittenCondition) (pos : Pos)
-      → ListGives (level_items head) xs → EachPair (CondIs words places) cs guard → ListGives (level_items body) ys
+      → ListGives (level_items head) xs → AllZip (CondIs words places) cs guard → ListGives (level_items body) ys
       → ItemGives places same (printed.rule (tree.rule_of head guard body)) (group (rule no_item xs cs ys pos))
   rule_gives head guard body xs ys cs pos heads holds bodies way k table h =
       let q = expanded_items words places (1 ∷ way) xs (suc k + 0) in

@@ -1,7 +1,7 @@
 -- The rules of a plain stand by rising place.
 use Rattle.std.proofs.Common.{◌≡◌, ℕ, zero, suc, ◌+◌, ◌<◌, ◌≤◌, ◌==◌, ◌⊎◌, Bool, true, false, cond, if◌then◌else◌, List, [], ◌∷◌, ◌++◌, length, map, AllPairs, refl, sym, ap, ◌∙◌, subst, inl, inr, arith}
 use Rattle.std.specs.Prelude.{IsTrue, count_by}
-use Rattle.std.specs.List.{All}
+use Rattle.std.specs.List.{All, AllZip}
 use Rattle.std.proofs.lemmas.Bool.Decides.{nat_tests}
 use Rattle.std.proofs.lemmas.List.{length-append}
 use Rattle.std.proofs.lemmas.List.Elements.{All-nil, All-cons}
@@ -23,7 +23,7 @@ use Rattle.lmn_flatten_plain.specs.Expanded.{ExpandedRule}
 use Rattle.lmn_flatten_plain.specs.Expansion.{cells, expanded_clause, expanded_clauses, expanded_item, expanded_items, expanded_term, expanded_terms}
 use Rattle.lmn_flatten_plain.specs.Laws.{RulesByRisingPlace}
 use Rattle.lmn_flatten_plain.specs.Links.{Link, Use}
-use Rattle.lmn_flatten_plain.specs.Plains.{EachPair, IsRuleOf}
+use Rattle.lmn_flatten_plain.specs.Plains.{IsRuleOf}
 use Rattle.lmn_flatten_plain.proofs.FewItems.{guard_on}
 use Rattle.std.proofs.lemmas.Option.{same_Some}
 
@@ -261,7 +261,7 @@ module _ (words : List Word) (places : List Pos) {ts : List Token} where
 -- ---- the rules of a plain
 
 module _ (words : List Word) (places : List Pos) (names : List tree.Name) (ts : List Token) (first end : Pos) (rise : Rise first ts end) where
-  all_later : {p q n : ℕ} {a : Pos} {rs : List ExpandedRule} (ss : List RuleTree) → StandsAt ts n a → n < p → Standing ts p rs q → EachPair (IsRuleOf words places names) rs ss
+  all_later : {p q n : ℕ} {a : Pos} {rs : List ExpandedRule} (ss : List RuleTree) → StandsAt ts n a → n < p → Standing ts p rs q → AllZip (IsRuleOf words places names) rs ss
       → All (λ s. ¬ (IsTrue (not_after s.pos a))) ss
   all_later {a = a} [] at l h e = All-nil (λ s. ¬ (IsTrue (not_after s.pos a)))
   all_later (s ∷ ss) at l (none_stands h) e = absurd e
@@ -270,7 +270,7 @@ module _ (words : List Word) (places : List Pos) (names : List tree.Name) (ts : 
       let before : Before a s.pos = subst (Before a) (sym one.pos) (in_turn n m rise (omega arith) at there) in
       All-cons (λ s. ¬ (IsTrue (not_after s.pos a))) s ss (refuses a s.pos before) (all_later ss at (omega arith) k e.1)
 
-  all_rise : {p q : ℕ} {rs : List ExpandedRule} (ss : List RuleTree) → Standing ts p rs q → EachPair (IsRuleOf words places names) rs ss
+  all_rise : {p q : ℕ} {rs : List ExpandedRule} (ss : List RuleTree) → Standing ts p rs q → AllZip (IsRuleOf words places names) rs ss
       → AllPairs (λ r s. ¬ (IsTrue (not_after s.pos r.pos))) ss
   all_rise [] h e = λ i j d l k. absurd (omega (arith, k))
   all_rise (s ∷ ss) (none_stands h) e = absurd e

@@ -2,6 +2,7 @@
 use Rattle.std.proofs.Common.{◌≡◌, ℕ, zero, suc, ◌+◌, List, [], ◌∷◌, ◌++◌, length, map, slice_get, slice_index_or, Some, refl, sym, ap, ◌∙◌, subst, inl, arith}
 use Rattle.std.specs.Prelude.{Contains, codes, true}
 use Rattle.std.proofs.lemmas.List.{length-map}
+use Rattle.std.specs.List.{AllZip}
 use Rattle.lmn_base.specs.declared.functor.Label.TheVariants.{Name as NameLabel}
 use Rattle.lmn_base.specs.declared.guard.Cond.{Cond}
 use Rattle.lmn_base.specs.declared.level.Level.TheFolds.{fold-roll-Level}
@@ -22,7 +23,7 @@ use Rattle.lmn_flatten_plain.specs.Expanded.{atom_leaf, level, no_level}
 use Rattle.lmn_flatten_plain.specs.Expansion.{parts_of}
 use Rattle.lmn_flatten_plain.specs.Links.{Link}
 use Rattle.lmn_flatten_plain.specs.Meanings.{place_at}
-use Rattle.lmn_flatten_plain.specs.Plains.{EachPair, IsCond, IsPlainOf, IsRuleOf, number_of, numbered}
+use Rattle.lmn_flatten_plain.specs.Plains.{IsCond, IsPlainOf, IsRuleOf, number_of, numbered}
 use Rattle.lmn_flatten_plain.specs.TextExamples.{ShortTextReads, alone}
 use Rattle.lmn_flatten_plain.specs.Texts.{IntegersInRange}
 use Rattle.lmn_flatten_plain.proofs.HeldLabels.{held_back}
@@ -114,11 +115,11 @@ module _ (names : List tree.Name) where
       fold-roll-Level tree.Level (level_step names rule_at) _ ∙ ap (λ l. tree.level (l ∷ []) tree.no_level [] [] (rules (map rule_at ks))) (leaf_back name h)
 
   module _ (a : Contains names (codes "a")) (b : Contains names (codes "b")) (places : List Pos) (pos : Pos) where
-    pub no_conditions : (cs : List Cond) → EachPair (IsCond all_words places names) [] cs → cs ≡ []
+    pub no_conditions : (cs : List Cond) → AllZip (IsCond all_words places names) [] cs → cs ≡ []
     no_conditions [] h = refl
     no_conditions (c ∷ cs) h = absurd h
 
-    pub rules_back : (rs : List RuleTree) → EachPair (IsRuleOf all_words places names) (parts_of all_words places (its_tree pos)).table rs → rules_from names 0 rs ≡ its_rule ∷ []
+    pub rules_back : (rs : List RuleTree) → AllZip (IsRuleOf all_words places names) (parts_of all_words places (its_tree pos)).table rs → rules_from names 0 rs ≡ its_rule ∷ []
     rules_back [] h = absurd h
     rules_back (r ∷ s ∷ rs) h = absurd h.1
     rules_back (r ∷ []) h =

@@ -2,7 +2,7 @@
 use Rattle.std.proofs.Common.{◌≡◌, ℕ, List, [], ◌∷◌, ◌++◌, map, refl, sym, ap, ◌∙◌, subst}
 use Rattle.std.specs.Prelude.{Box}
 use Rattle.std.specs.declared.alloc.Global.{Global}
-use Rattle.std.specs.List.{flat_map}
+use Rattle.std.specs.List.{flat_map, AllZip}
 use Rattle.std.proofs.lemmas.List.{append-nil, map-append}
 use denote.RawPtr.{null_ptr}
 use Rattle.lmn_base.specs.declared.refusal.Pos.{Pos}
@@ -24,7 +24,7 @@ use Rattle.lmn_flatten_plain.specs.Expanded.{ExpandedRule}
 use Rattle.lmn_flatten_plain.specs.Expansion.{parts_of}
 use Rattle.lmn_flatten_plain.specs.Parts.{level_from_parts}
 use Rattle.lmn_flatten_plain.specs.Meanings.{place_at}
-use Rattle.lmn_flatten_plain.specs.Plains.{numbered, EachPair, IsExpr, IsCond, IsRuleOf, IsPlainOf}
+use Rattle.lmn_flatten_plain.specs.Plains.{numbered, IsExpr, IsCond, IsRuleOf, IsPlainOf}
 use Rattle.lmn_flatten_plain.specs.Laws.{SomePlain}
 use Rattle.lmn_flatten_plain.proofs.NumberedLevels.{links_numbered}
 use Rattle.lmn_flatten_plain.proofs.SomeNumbers.{some_numbers}
@@ -57,7 +57,7 @@ module _ (alloc : Global) (words : List Word) (places : List Pos) (names : List 
       (cond.Compare op a.0 b.0 (place_at words places s), (a.0, b.0, refl, a.1, b.1))
   some_cond (syntax.equal p r s) = let a = some_expr r in (_, (a.0, refl, a.1))
 
-  some_guard : (xs : List syntax.WrittenCondition) → (cs : List Cond) × EachPair (IsCond words places names) xs cs
+  some_guard : (xs : List syntax.WrittenCondition) → (cs : List Cond) × AllZip (IsCond words places names) xs cs
   some_guard [] = ([], tt)
   some_guard (x ∷ xs) = let c = some_cond x in let cs = some_guard xs in (c.0 ∷ cs.0, (c.1, cs.1))
 
@@ -78,7 +78,7 @@ module _ (alloc : Global) (words : List Word) (places : List Pos) (names : List 
         record { number = f.0; apart = f.2; head = refl; guard = guard.1; body = refl; pos = refl; table = table.1 },
       )
 
-  some_rules : (rs : List ExpandedRule) → (ts : List RuleTree) × EachPair (IsRuleOf words places names) rs ts
+  some_rules : (rs : List ExpandedRule) → (ts : List RuleTree) × AllZip (IsRuleOf words places names) rs ts
   some_rules [] = ([], tt)
   some_rules (r ∷ rs) = let t = some_rule r in let ts = some_rules rs in (t.0 ∷ ts.0, (t.1, ts.1))
 

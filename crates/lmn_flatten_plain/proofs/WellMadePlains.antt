@@ -2,6 +2,7 @@
 use Rattle.std.proofs.Common.{◌≡◌, ℕ, zero, suc, ◌+◌, ◌<◌, ◌≤◌, List, [], ◌∷◌, ◌++◌, length, get_or, slice_get, Some, All, refl, sym, ap, ◌∙◌, subst, arith}
 use Rattle.std.proofs.lemmas.Option.{same_Some}
 use Rattle.std.proofs.lemmas.List.Elements.{All-append, All-from_recursion}
+use Rattle.std.specs.List.{AllZip}
 use Rattle.lmn_base.specs.declared.refusal.Pos.{Pos}
 use Rattle.lmn_base.specs.declared.level.Level as base_level
 use Rattle.lmn_base.specs.declared.rule.Plain.{Plain}
@@ -14,7 +15,7 @@ use Rattle.lmn_parser.specs.Syntax.{Clauses}
 use Rattle.lmn_flatten_plain.specs.Expanded.{ExpandedRule}
 use Rattle.lmn_flatten_plain.specs.Expansion.{parts_of}
 use Rattle.lmn_flatten_plain.specs.Parts.{level_from_parts}
-use Rattle.lmn_flatten_plain.specs.Plains.{EachPair, IsRuleOf, IsPlainOf}
+use Rattle.lmn_flatten_plain.specs.Plains.{IsRuleOf, IsPlainOf}
 use Rattle.lmn_flatten_plain.proofs.Fitting.{Within, TableFits, rule_numbers, clauses_fit, level_within}
 use Rattle.lmn_flatten_plain.proofs.NumberedLevels.{level_arity, rules_numbered}
 
@@ -34,14 +35,14 @@ module _ (words : List Word) (places : List Pos) (names : List tree.Name) where
         table = h.table;
       }
 
-  rules_well_made : (rs : List ExpandedRule) (ts : List RuleTree) → EachPair (IsRuleOf words places names) rs ts → All IsWellMadeRule ts
+  rules_well_made : (rs : List ExpandedRule) (ts : List RuleTree) → AllZip (IsRuleOf words places names) rs ts → All IsWellMadeRule ts
   rules_well_made [] [] h k d l = absurd (omega (arith, l))
   rules_well_made [] (t ∷ ts) h k d l = absurd h
   rules_well_made (r ∷ rs) [] h k d l = absurd h
   rules_well_made (r ∷ rs) (t ∷ ts) h zero d l = rule_well_made r t h.0
   rules_well_made (r ∷ rs) (t ∷ ts) h (suc k) d l = rules_well_made rs ts h.1 k d (omega (arith, l))
 
-  same_length : (rs : List ExpandedRule) (ts : List RuleTree) → EachPair (IsRuleOf words places names) rs ts → length rs ≡ length ts
+  same_length : (rs : List ExpandedRule) (ts : List RuleTree) → AllZip (IsRuleOf words places names) rs ts → length rs ≡ length ts
   same_length [] [] h = refl
   same_length [] (t ∷ ts) h = absurd h
   same_length (r ∷ rs) [] h = absurd h
@@ -61,7 +62,7 @@ module _ (words : List Word) (places : List Pos) (names : List tree.Name) where
   all_above : (k high : ℕ) (ns : List ℕ) → Within (k + 1) high ns → All (λ m. (k < m) × (m < high)) ns
   all_above k high ns h j d l = above k (get_or ns j d) high (All-from_recursion (λ m. (k + 1 ≤ m) × (m < high)) ns h j d l)
 
-  numbers_above : (k high : ℕ) (rs : List ExpandedRule) (ts : List RuleTree) → EachPair (IsRuleOf words places names) rs ts → TableFits k high rs
+  numbers_above : (k high : ℕ) (rs : List ExpandedRule) (ts : List RuleTree) → AllZip (IsRuleOf words places names) rs ts → TableFits k high rs
       → (n : ℕ) (t : RuleTree) → slice_get ts n ≡ Some t → All (λ m. (k + n < m) × (m < high)) (rules_of t.head ++ rules_of t.body)
   numbers_above k high [] [] h f n t e = absurd (cc)
   numbers_above k high [] (u ∷ ts) h f n t e = absurd h

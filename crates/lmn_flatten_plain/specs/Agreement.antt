@@ -1,5 +1,6 @@
 -- Where the expansion of a tree agrees with trees of the calculus: link number k has the name `Lk` in the text.
 use Rattle.std.specs.Prelude.{ℕ, ◌≡◌, ⊤, List, [], ◌∷◌, map, slice_get, Some, codes}
+use Rattle.std.specs.List.{AllZip}
 use Rattle.lmn_base.specs.declared.refusal.Pos.{Pos}
 use Rattle.lmn_congruence.specs.Rules as tree
 use Rattle.lmn_congruence.specs.Translation.{context_with}
@@ -9,7 +10,6 @@ use Rattle.lmn_parser.specs.Syntax as syntax
 use Rattle.lmn_flatten_plain.specs.Links.{Link, written}
 use Rattle.lmn_flatten_plain.specs.Expanded.{ExpandedLeaf, atom_leaf, typed_leaf, Context, ExpandedLevel, level, ExpandedLevels, no_level, level_and, ExpandedRule, use_links}
 use Rattle.lmn_flatten_plain.specs.Meanings.{word_at, name_at}
-use Rattle.lmn_flatten_plain.specs.Plains.{EachPair}
 use Rattle.lmn_flatten_plain.specs.Words.{link_name, kind_name}
 
 -- the link with a number, by its name in the text
@@ -49,7 +49,7 @@ module _ (words : List Word) (places : List Pos) where
     abbrev mutual
       pub LevelIs : ExpandedLevel → tree.Level → Type 0
       LevelIs (level leaves membranes contexts rule_contexts rules) (tree.level ls ms ns os rs) =
-          EachPair LeafIs leaves ls × LevelsAre membranes ms × (trees_of_contexts contexts ≡ ns) × (names_of_contexts rule_contexts ≡ os) × RulesAre rules rs
+          AllZip LeafIs leaves ls × LevelsAre membranes ms × (trees_of_contexts contexts ≡ ns) × (names_of_contexts rule_contexts ≡ os) × RulesAre rules rs
 
       pub LevelsAre : ExpandedLevels → tree.Levels → Type 0
       LevelsAre no_level tree.no_level = ⊤
@@ -58,7 +58,7 @@ module _ (words : List Word) (places : List Pos) where
 
       pub RuleIs : ℕ → tree.Rule → Type 0
       RuleIs k (tree.rule_of head guard body) =
-          (r : ExpandedRule) × (slice_get table k ≡ Some r) × LevelIs r.head head × EachPair CondIs r.guard guard × LevelIs r.body body
+          (r : ExpandedRule) × (slice_get table k ≡ Some r) × LevelIs r.head head × AllZip CondIs r.guard guard × LevelIs r.body body
 
       pub RulesAre : List ℕ → tree.Rules → Type 0
       RulesAre [] tree.no_rule = ⊤

@@ -1,6 +1,7 @@
 -- The plain of a tree.
 use Rattle.std.specs.declared.alloc.Global.{Global}
-use Rattle.std.specs.Prelude.{Box, ℕ, suc, ◌≡◌, false, if◌then◌else◌, ⊤, List, [], ◌∷◌, ◌++◌, map, length, bytes_eq, Contains}
+use Rattle.std.specs.Prelude.{Box, ℕ, suc, ◌≡◌, false, if◌then◌else◌, List, [], ◌∷◌, ◌++◌, map, length, bytes_eq, Contains}
+use Rattle.std.specs.List.{AllZip}
 use Rattle.lmn_base.specs.declared.refusal.Pos.{Pos}
 use Rattle.lmn_base.specs.declared.functor.Label.{Label}
 use Rattle.lmn_base.specs.declared.functor.Label.TheVariants.{Name, Int}
@@ -68,13 +69,6 @@ module _ (names : List tree.Name) (number : Link → ℕ) where
 abbrev pub OneToOne : (Link → ℕ) → List Link → Type 0
 OneToOne number links = (a b : Link) → Contains links a → Contains links b → number a ≡ number b → a ≡ b
 
--- two lists agree place by place
-abbrev pub EachPair : {A B : Type 0} → (A → B → Type 0) → List A → List B → Type 0
-EachPair R [] [] = ⊤
-EachPair R [] (y ∷ ys) = ⊥
-EachPair R (x ∷ xs) [] = ⊥
-EachPair R (x ∷ xs) (y ∷ ys) = R x y × EachPair R xs ys
-
 -- What a tree is by the words of its tokens and their places, and a list of names.
 module _ (words : List Word) (places : List Pos) (names : List tree.Name) where
   -- the context with the number of its token
@@ -101,7 +95,7 @@ module _ (words : List Word) (places : List Pos) (names : List tree.Name) where
     pub number : Link → ℕ
     pub apart : OneToOne number (expanded_links r.head ++ expanded_links r.body)
     pub head : t.head ≡ numbered names number r.head
-    pub guard : EachPair IsCond r.guard t.guard
+    pub guard : AllZip IsCond r.guard t.guard
     pub body : t.body ≡ numbered names number r.body
     pub pos : t.pos ≡ r.pos
     pub table : IsTableOf (t.head ∷ t.body ∷ []) t.links
@@ -112,4 +106,4 @@ module _ (words : List Word) (places : List Pos) (names : List tree.Name) where
     pub apart : OneToOne number (expanded_links (level_from_parts (parts_of words places tree)))
     pub top : p.top ≡ numbered names number (level_from_parts (parts_of words places tree))
     pub table : IsTableOf (p.top ∷ []) p.links
-    pub rules : (let parts = parts_of words places tree in EachPair IsRuleOf parts.table p.rules)
+    pub rules : (let parts = parts_of words places tree in AllZip IsRuleOf parts.table p.rules)

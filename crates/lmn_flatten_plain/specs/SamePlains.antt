@@ -1,6 +1,7 @@
 -- Plains that are the same but for the addresses of boxes in conditions.
 use Rattle.std.specs.Prelude.{ℤ, ◌≡◌, Box}
 use Rattle.std.specs.declared.alloc.Global.{Global}
+use Rattle.std.specs.List.{AllZip}
 use Rattle.lmn_base.specs.declared.refusal.Pos.{Pos}
 use Rattle.lmn_base.specs.declared.guard.Arith.{Arith}
 use Rattle.lmn_base.specs.declared.guard.Cmp.{Cmp}
@@ -12,7 +13,6 @@ use Rattle.lmn_base.specs.declared.guard.Cond.TheVariants as cond
 use Rattle.lmn_base.specs.declared.level.CtxUse.{CtxUse}
 use Rattle.lmn_base.specs.declared.rule.Plain.{Plain}
 use Rattle.lmn_base.specs.declared.rule.RuleTree.{RuleTree}
-use Rattle.lmn_flatten_plain.specs.Plains.{EachPair}
 
 pub data SameExpr : Expr → Expr → Type 0 where
   same_integer : (z : ℤ) → SameExpr (roll-Expr (expr.Int z)) (roll-Expr (expr.Int z))
@@ -27,7 +27,7 @@ pub data SameCond : Cond → Cond → Type 0 where
 
 pub record SameRule (r s : RuleTree) : Type 0 where
   pub head : r.head ≡ s.head
-  pub guard : EachPair SameCond r.guard s.guard
+  pub guard : AllZip SameCond r.guard s.guard
   pub body : r.body ≡ s.body
   pub links : r.links ≡ s.links
   pub pos : r.pos ≡ s.pos
@@ -35,4 +35,4 @@ pub record SameRule (r s : RuleTree) : Type 0 where
 pub record SamePlain (p q : Plain) : Type 0 where
   pub top : p.top ≡ q.top
   pub links : p.links ≡ q.links
-  pub rules : EachPair SameRule p.rules q.rules
+  pub rules : AllZip SameRule p.rules q.rules

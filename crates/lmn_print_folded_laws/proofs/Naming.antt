@@ -1,6 +1,7 @@
 -- The links of a folded process taken apart are those of its region, under other names.
 use Rattle.std.proofs.Common.{◌≡◌, ◌≢◌, ℕ, ◌+◌, ◌*◌, ◌≤◌, ◌⊎◌, ◌==◌, inl, inr, Bool, true, false, if◌then◌else◌, List, [], ◌∷◌, ◌++◌, map, refl, sym, ap, ◌∙◌, subst, arith}
 use Rattle.std.proofs.lemmas.List.{map-append}
+use Rattle.std.specs.List.{AllZip}
 use Rattle.lmn_congruence.specs.Links.{one_if_same, places}
 use Rattle.lmn_congruence.specs.Orders.{Among, at_head, further, EachOnce}
 use Rattle.lmn_congruence.specs.Process.{Fresh, Local, occurrences, together}
@@ -9,7 +10,6 @@ use Rattle.lmn_congruence.proofs.Counts.{one_if_equal, none_if_apart}
 use Rattle.lmn_flatten_plain.specs.Links.{Link, written, made}
 use Rattle.lmn_flatten_plain.specs.Expanded.{ExpandedLeaf, ExpandedLevel, level, ExpandedLevels, no_level, level_and, ExpandedRule}
 use Rattle.lmn_flatten_plain.specs.Agreement.{link_by_number}
-use Rattle.lmn_flatten_plain.specs.Plains.{EachPair}
 use Rattle.lmn_flatten_plain.specs.Words.{link_name}
 use Rattle.lmn_flatten_plain.proofs.ReadBack.{name_same as link_same}
 use Rattle.lmn_print_folded.specs.Terms.{FoldedTerm, FoldedTerms, FoldedItem, Folded, FoldedMembranes, term_links, terms_links, items_links, folded_links, membranes_links, renamed_term, renamed_terms, renamed_item, renamed_folded, renamed_membranes}
@@ -160,7 +160,7 @@ module _ (to : ℕ → ℕ) where
       let table = firsts_append y (terms_table w s) (items_table ws ss) in omega (arith, one, others, atoms, links, table)
 
   -- names
-  each_append : (name : ℕ → Link) (as' bs : List SolidAtom) (ls ks : List ExpandedLeaf) → EachPair (AtomNamed name) as' ls → EachPair (AtomNamed name) bs ks → EachPair (AtomNamed name) (as' ++ bs) (ls ++ ks)
+  each_append : (name : ℕ → Link) (as' bs : List SolidAtom) (ls ks : List ExpandedLeaf) → AllZip (AtomNamed name) as' ls → AllZip (AtomNamed name) bs ks → AllZip (AtomNamed name) (as' ++ bs) (ls ++ ks)
   each_append name [] bs [] ks h k = k
   each_append name [] bs (l ∷ ls) ks h k = absurd h
   each_append name (a ∷ as') bs [] ks h k = absurd h
@@ -180,7 +180,7 @@ module _ (to : ℕ → ℕ) where
 
   mutual
     term_named : (name : ℕ → Link) {t : FoldedTerm} {x : ℕ} {as' : List SolidAtom} {a : Link} {ls : List ExpandedLeaf} {ms : List Link} (w : TermWhole t x as') (s : TermApart (renamed_term to t) a ls ms)
-        → Right name (term_table w s) (term_links t) → (a ≡ name x) × EachPair (AtomNamed name) as' ls
+        → Right name (term_table w s) (term_links t) → (a ≡ name x) × AllZip (AtomNamed name) as' ls
     term_named name (link_whole {x = x}) (link_apart e) h = (e ∙ sym (h.1 x at_head), tt)
     term_named name (atom_whole {x = x} {links = xs} w) (atom_apart {a = a} {links = bs} e f s) h =
         let inside = terms_named name w s (λ g i. h.0 g (further i), h.1) in
@@ -188,7 +188,7 @@ module _ (to : ℕ → ℕ) where
         (own, ((e, f ∙ ap (λ zs. zs ++ a ∷ []) inside.0 ∙ ap (λ z. map name xs ++ z ∷ []) own ∙ sym (map-append name xs (x ∷ []))), inside.1))
 
     terms_named : (name : ℕ → Link) {ts : FoldedTerms} {xs : List ℕ} {as' : List SolidAtom} {bs : List Link} {ls : List ExpandedLeaf} {ms : List Link} (w : TermsWhole ts xs as') (s : TermsApart (renamed_terms to ts) bs ls ms)
-        → Right name (terms_table w s) (terms_links ts) → (bs ≡ map name xs) × EachPair (AtomNamed name) as' ls
+        → Right name (terms_table w s) (terms_links ts) → (bs ≡ map name xs) × AllZip (AtomNamed name) as' ls
     terms_named name none_whole none_apart h = (refl, tt)
     terms_named name (more_whole {t = t} {ts = ts} {atoms = as'} {others = bs} w ws) (more_apart {leaves = ls} {others = ks} s ss) h =
         let one = term_named name w s (right_left name (term_table w s) (terms_table ws ss) (term_links t) (terms_links ts) h) in
@@ -196,7 +196,7 @@ module _ (to : ℕ → ℕ) where
         (two_links _ _ _ _ one.0 others.0, each_append name as' bs ls ks one.1 others.1)
 
   items_named : (name : ℕ → Link) {is : List FoldedItem} {as' : List SolidAtom} {ls : List ExpandedLeaf} {ms : List Link} (w : ItemsWhole is as') (s : ItemsApart (map (renamed_item to) is) ls ms)
-      → Right name (items_table w s) (items_links is) → EachPair (AtomNamed name) as' ls
+      → Right name (items_table w s) (items_links is) → AllZip (AtomNamed name) as' ls
   items_named name whole.no_items apart.no_items h = tt
   items_named name (items_whole {i = i} {is = is} {atoms = as'} {others = bs} w ws) (items_apart {leaves = ls} {others = ks} e s ss) h =
       let one = terms_named name w s (right_left name (terms_table w s) (items_table ws ss) (terms_links i.arguments) (items_links is) h) in

@@ -3,6 +3,7 @@ use Rattle.std.proofs.Common.{◌≡◌, ◌≢◌, ℕ, ◌+◌, ◌⊎◌, inl
 use Rattle.std.specs.Prelude.{Contains}
 use Rattle.std.proofs.lemmas.List.{map-id}
 use Rattle.std.proofs.lemmas.List.Elements.{Contains-append_left, Contains-append_right}
+use Rattle.std.specs.List.{AllZip}
 use Rattle.lmn_base.specs.declared.refusal.Pos.{Pos}
 use Rattle.lmn_congruence.specs.Links.{places}
 use Rattle.lmn_congruence.specs.Orders.{Put, here, there, Shuffle, none, more}
@@ -15,7 +16,6 @@ use Rattle.lmn_congruence.proofs.Renaming.{renamed_id, occurrences_image}
 use Rattle.lmn_lexer.specs.Laying.{Word}
 use Rattle.lmn_flatten_plain.specs.Links.{Link}
 use Rattle.lmn_flatten_plain.specs.Expanded.{ExpandedLeaf, atom_leaf, typed_leaf, ExpandedLevel, level, ExpandedLevels, no_level, level_and, ExpandedRule, use_links, expanded_leaves_links, expanded_links, expanded_links_in}
-use Rattle.lmn_flatten_plain.specs.Plains.{EachPair}
 use Rattle.lmn_print_folded.specs.Terms.{Folded, FoldedMembranes, renamed_folded, renamed_membranes}
 use Rattle.lmn_print_folded.proofs.Places.{count}
 use Rattle.lmn_print_folded_laws.specs.Apart.{FoldedApart, MembranesApart}
@@ -106,7 +106,7 @@ module _ (name : ℕ → Link) where
       go (inl e) others = let P : ℕ → Type 0 = λ z. Contains (name z ∷ map name xs) (name x) in subst P e (contains_here (name x) (map name xs))
       go (inr d) others = let h = none_if_apart x y d in Contains-append_right (name y ∷ []) (map name xs) (name x) (others (λ z. n (omega (arith, h, z))))
 
-  name_in_atoms : (x : ℕ) (xs : List SolidAtom) (ls : List ExpandedLeaf) → EachPair (AtomNamed name) xs ls → count x xs ≢ 0 → Contains (expanded_leaves_links ls) (name x)
+  name_in_atoms : (x : ℕ) (xs : List SolidAtom) (ls : List ExpandedLeaf) → AllZip (AtomNamed name) xs ls → count x xs ≢ 0 → Contains (expanded_leaves_links ls) (name x)
   name_in_atoms x [] ls h n = absurd (n refl)
   name_in_atoms x (a ∷ xs) [] h n = absurd h
   name_in_atoms x (a ∷ xs) (typed_leaf m u pos ∷ ls) h n = absurd h.0
@@ -116,7 +116,7 @@ module _ (name : ℕ → Link) where
       go (inl m) others = let P : List Link → Type 0 = λ zs. Contains zs (name x) in Contains-append_left (use_links us) (expanded_leaves_links ls) (name x) (subst P (sym h.0.1) (name_in_links x a.links m))
       go (inr m) others = Contains-append_right (use_links us) (expanded_leaves_links ls) (name x) (others m)
 
-  in_level : (x : ℕ) (xs : List SolidAtom) (ms : Regions) (rs : List RuleTree) (ls : List ExpandedLeaf) (ns : ExpandedLevels) → EachPair (AtomNamed name) xs ls
+  in_level : (x : ℕ) (xs : List SolidAtom) (ms : Regions) (rs : List RuleTree) (ls : List ExpandedLeaf) (ns : ExpandedLevels) → AllZip (AtomNamed name) xs ls
       → (occurrences x (together (regions_processes ms)) ≢ 0 → Contains (expanded_links_in ns) (name x)) → occurrences x (region_process (region xs ms rs)) ≢ 0 → Contains (expanded_leaves_links ls ++ expanded_links_in ns) (name x)
   in_level x xs ms rs ls ns h inside n = go (one_or_other (count x xs) (occurrences x (together (regions_processes ms))) (λ e. let r = no_rule_links x rs in n (omega (arith, e, r))))
     where
@@ -151,7 +151,7 @@ module _ (words : List Word) (places_of : List Pos) (table : List ExpandedRule) 
   abbrev new : ℕ → ℕ
   new x = number (name x)
 
-  atoms_numbered : (xs : List SolidAtom) (ls : List ExpandedLeaf) → EachPair (AtomNamed name) xs ls → EachPair (AtomNumbered words places_of table number) (map (renamed_atom new) xs) ls
+  atoms_numbered : (xs : List SolidAtom) (ls : List ExpandedLeaf) → AllZip (AtomNamed name) xs ls → AllZip (AtomNumbered words places_of table number) (map (renamed_atom new) xs) ls
   atoms_numbered [] [] h = tt
   atoms_numbered [] (l ∷ ls) h = absurd h
   atoms_numbered (a ∷ xs) [] h = absurd h

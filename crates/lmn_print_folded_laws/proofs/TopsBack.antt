@@ -1,6 +1,6 @@
 -- The top of a plain whose tree gives a region, with the plain's numbers for its links, is the level of this region.
 use Rattle.std.proofs.Common.{◌≡◌, ℕ, List, [], ◌∷◌, ◌++◌, map, All, refl, sym, ap, ◌∙◌, subst}
-use Rattle.std.specs.List.{flat_map, AllByRecursion}
+use Rattle.std.specs.List.{flat_map, AllByRecursion, AllZip}
 use Rattle.std.proofs.lemmas.List.{map-append}
 use Rattle.lmn_base.specs.declared.refusal.Pos.{Pos}
 use Rattle.lmn_base.specs.declared.level.CtxUse.{CtxUse}
@@ -26,7 +26,7 @@ use Rattle.lmn_flatten_plain.specs.LinkNumbers.{RulesNumbered, AllRulesNumbered,
 use Rattle.lmn_flatten_plain.specs.Links.{Link, Use}
 use Rattle.lmn_flatten_plain.specs.NamesHeld.{LeafHeld, LevelHeld, LevelsHeld, RuleHeld, RulesHeld}
 use Rattle.lmn_flatten_plain.specs.Parts.{level_from_parts}
-use Rattle.lmn_flatten_plain.specs.Plains.{numbered_use, numbered_label, numbered_leaf, numbered_context, numbered, all_numbered, EachPair, IsPlainOf, IsRuleOf}
+use Rattle.lmn_flatten_plain.specs.Plains.{numbered_use, numbered_label, numbered_leaf, numbered_context, numbered, all_numbered, IsPlainOf, IsRuleOf}
 use Rattle.lmn_flatten_plain.specs.SolidLines.{atom_as_leaf, as_level, as_levels}
 use Rattle.lmn_flatten_plain.specs.Spelled.{LeafSpelled, LevelSpelled, LevelsSpelled, SpellsNoConnector, RuleSpelled, RulesSpelled}
 use Rattle.lmn_flatten_plain.proofs.HeldLabels.{atom_back}
@@ -124,7 +124,7 @@ module _ (names : List tree.Name) where
         ap (λ k. atom_or_connector names (numbered_label names f k) (map (λ (o : Occ). o.link) (map (numbered_use names f) us))) h.0
         ∙ ap (atom_or_connector names (numbered_label names f a.label)) (uses_back f us ∙ h.1) ∙ label_back is f a.label a.links fine.0 fine.1
 
-    leaves_back : (xs : List SolidAtom) (ls : List ExpandedLeaf) → EachPair (AtomNumbered words places table f) xs ls → AllByRecursion AtomFine xs
+    leaves_back : (xs : List SolidAtom) (ls : List ExpandedLeaf) → AllZip (AtomNumbered words places table f) xs ls → AllByRecursion AtomFine xs
         → map (leaf_of names) (map (numbered_leaf names f) ls) ≡ map atom_as_leaf xs
     leaves_back [] [] h fine = refl
     leaves_back [] (l ∷ ls) h fine = absurd h
@@ -132,7 +132,7 @@ module _ (names : List tree.Name) where
     leaves_back (a ∷ xs) (l ∷ ls) h fine = same_leaves _ _ _ _ (leaf_back a l h.0 fine.0) (leaves_back xs ls h.1 fine.1)
 
     -- Whole levels.
-    module _ (p : Plain) (made : IsWellMade p) (each : EachPair (IsRuleOf words places names) table p.rules) where
+    module _ (p : Plain) (made : IsWellMade p) (each : AllZip (IsRuleOf words places names) table p.rules) where
       abbrev ρ : ℕ → tree.Rule
       ρ = numbered_rule names p.rules
 
@@ -160,7 +160,7 @@ module _ (names : List tree.Name) where
 
     -- No context stands there.
 
-    are_atoms : (xs : List SolidAtom) (ls : List ExpandedLeaf) → EachPair (AtomNumbered words places table f) xs ls → AllByRecursion IsAtomLeaf (map (numbered_leaf names f) ls)
+    are_atoms : (xs : List SolidAtom) (ls : List ExpandedLeaf) → AllZip (AtomNumbered words places table f) xs ls → AllByRecursion IsAtomLeaf (map (numbered_leaf names f) ls)
     are_atoms [] [] h = tt
     are_atoms [] (l ∷ ls) h = absurd h
     are_atoms (a ∷ xs) [] h = absurd h

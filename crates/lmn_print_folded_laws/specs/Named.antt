@@ -1,5 +1,6 @@
 -- What a text gives of a folded process, beside the region that was folded: the same atoms, with other names for the links.
 use Rattle.std.specs.Prelude.{ℕ, ◌≡◌, ◌≢◌, ⊤, List, map}
+use Rattle.std.specs.List.{AllZip}
 use Rattle.lmn_base.specs.declared.refusal.Pos.{Pos}
 use Rattle.lmn_congruence.specs.Orders.{Among, EachOnce}
 use Rattle.lmn_congruence.specs.Process.{Closed, occurrences}
@@ -7,7 +8,6 @@ use Rattle.lmn_congruence.specs.Regions.{SolidAtom, Region, region, Regions, no_
 use Rattle.lmn_lexer.specs.Laying.{Word}
 use Rattle.lmn_flatten_plain.specs.Links.{Link, made}
 use Rattle.lmn_flatten_plain.specs.Expanded.{ExpandedLeaf, atom_leaf, typed_leaf, ExpandedLevel, level, ExpandedLevels, no_level, level_and, ExpandedRule, use_links}
-use Rattle.lmn_flatten_plain.specs.Plains.{EachPair}
 use Rattle.lmn_print_folded.specs.Terms.{Folded}
 use Rattle.lmn_print_folded.specs.Lines.{IsNumberedForm}
 use Rattle.lmn_print_folded_laws.specs.Apart.{FoldedApart}
@@ -21,7 +21,7 @@ module _ (name : ℕ → Link) where
   -- the same atoms in each membrane, with these names for the links
   abbrev mutual
     pub RegionNamed : Region → ExpandedLevel → Type 0
-    RegionNamed (region atoms membranes rs) (level leaves inside contexts rule_contexts ks) = EachPair AtomNamed atoms leaves × RegionsNamed membranes inside
+    RegionNamed (region atoms membranes rs) (level leaves inside contexts rule_contexts ks) = AllZip AtomNamed atoms leaves × RegionsNamed membranes inside
 
     pub RegionsNamed : Regions → ExpandedLevels → Type 0
     RegionsNamed no_region no_level = ⊤

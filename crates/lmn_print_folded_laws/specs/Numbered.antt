@@ -1,5 +1,6 @@
 -- What a text gives of a folded region, with numbers for its links.
 use Rattle.std.specs.Prelude.{ℕ, ◌≡◌, ⊤, List, [], map}
+use Rattle.std.specs.List.{AllZip}
 use Rattle.lmn_base.specs.declared.refusal.Pos.{Pos}
 use Rattle.lmn_congruence.specs.Orders.{Among, EachOnce}
 use Rattle.lmn_congruence.specs.Process.{Closed}
@@ -9,7 +10,7 @@ use Rattle.lmn_lexer.specs.Laying.{Word}
 use Rattle.lmn_flatten_plain.specs.Agreement.{RulesAre}
 use Rattle.lmn_flatten_plain.specs.Links.{Link, made}
 use Rattle.lmn_flatten_plain.specs.Expanded.{ExpandedLeaf, atom_leaf, typed_leaf, ExpandedLevel, level, ExpandedLevels, no_level, level_and, ExpandedRule, use_links, expanded_links}
-use Rattle.lmn_flatten_plain.specs.Plains.{EachPair, OneToOne}
+use Rattle.lmn_flatten_plain.specs.Plains.{OneToOne}
 use Rattle.lmn_print_folded.specs.Terms.{Folded}
 use Rattle.lmn_print_folded.specs.Folding.{Folds}
 use Rattle.lmn_print_folded.specs.Lines.{IsNumberedForm}
@@ -26,7 +27,7 @@ module _ (words : List Word) (places : List Pos) (table : List ExpandedRule) (nu
   abbrev mutual
     pub RegionNumbered : Region → ExpandedLevel → Type 0
     RegionNumbered (region atoms membranes rs) (level leaves inside contexts rule_contexts ks) =
-        EachPair AtomNumbered atoms leaves × RegionsNumbered membranes inside × (contexts ≡ []) × (rule_contexts ≡ []) × RulesAre words places table ks (rules rs)
+        AllZip AtomNumbered atoms leaves × RegionsNumbered membranes inside × (contexts ≡ []) × (rule_contexts ≡ []) × RulesAre words places table ks (rules rs)
 
     pub RegionsNumbered : Regions → ExpandedLevels → Type 0
     RegionsNumbered no_region no_level = ⊤

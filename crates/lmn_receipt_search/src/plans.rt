@@ -1,7 +1,7 @@
 //! The plans of rules.
 ghost use Rattle.std.specs.Prelude.{IfOk};
+ghost use Rattle.std.specs.List.{AllZip};
 ghost use Rattle.lmn_guards.specs.Plans.{IsPlan};
-ghost use Rattle.lmn_flatten_plain.specs.Plains.{EachPair};
 
 use lmn_base::{Names, NoMemory, Rows, RuleTree};
 use lmn_guards::{GuardPlan, analyse};
@@ -24,7 +24,7 @@ fn plan_of(alloc: Global, rule: &RuleTree, names: &Names) -> Result<GuardPlan, N
 ///
 /// `NoMemory` at want of memory.
 pub(crate) fn plans_of(alloc: Global, rules: &[RuleTree]) -> Result<Rows<GuardPlan>, NoMemory>
-    ensures { IfOk result (EachPair IsPlan rules.now) }
+    ensures { IfOk result (AllZip IsPlan rules.now) }
 {
     let names = Names::new(alloc);
     let mut plans = Rows::new(alloc);

@@ -1,6 +1,6 @@
 -- The weight of a plain bounds the commits of its process.
 use Rattle.std.proofs.Common.{ℕ, zero, suc, ◌≡◌, ◌<◌, ◌≤◌, ◌+◌, false, List, [], ◌∷◌, ◌++◌, Some, All, map, length, get_or, slice_get, refl, sym, subst, ◌∙◌, arith}
-use Rattle.std.specs.List.{flat_map}
+use Rattle.std.specs.List.{flat_map, AllZip}
 use Rattle.std.proofs.lemmas.List.Elements.{All-weaker, recursion_from_All}
 use Rattle.std.proofs.lemmas.Option.{same_Some}
 use Rattle.lmn_adequacy.specs.Accepted.{Accepted, Throughout, ThroughoutLevel, ThroughoutLevels, ThroughoutRules}
@@ -18,7 +18,6 @@ use Rattle.lmn_congruence.specs.Translation.{level_of, level_step, levels, numbe
 use Rattle.lmn_guards.specs.Accepted.{IsAcceptedRule}
 use Rattle.lmn_guards.specs.declared.plan.GuardPlan.{GuardPlan}
 use Rattle.lmn_guards.specs.Plans.{IsPlan}
-use Rattle.lmn_flatten_plain.specs.Plains.{EachPair}
 use Rattle.lmn_app_accepted.proofs.AcceptedRules.{accepted_tree}
 use Rattle.lmn_app_accepted.proofs.PlanKinds.{at_index}
 use Rattle.lmn_weight.proofs.AlikePlains.{rule_known}
@@ -82,7 +81,7 @@ module _ (H : tree.Rule → Type 0) (names : List tree.Name) (p : Plain) (well :
 -- ---- a plain
 
 -- what stands beside an item of two lists that go together
-pub pair_there : {A B : Type 0} (R : A → B → Type 0) (xs : List A) (ys : List B) (k : ℕ) (x : A) → EachPair R xs ys → slice_get xs k ≡ Some x → (y : B) × (slice_get ys k ≡ Some y) × R x y
+pub pair_there : {A B : Type 0} (R : A → B → Type 0) (xs : List A) (ys : List B) (k : ℕ) (x : A) → AllZip R xs ys → slice_get xs k ≡ Some x → (y : B) × (slice_get ys k ≡ Some y) × R x y
 pair_there R [] [] zero x h e = absurd (cc)
 pair_there R [] [] (suc k) x h e = absurd (cc)
 pair_there R [] (y ∷ ys) k x h e = absurd h

@@ -1,6 +1,6 @@
 -- The plain of nothing.
 use Rattle.std.proofs.Common.{ℕ, ◌≡◌, ◌<◌, List, [], ◌++◌, All, length, map, sym, ap, subst}
-use Rattle.std.specs.List.{flat_map}
+use Rattle.std.specs.List.{flat_map, AllZip}
 use Rattle.std.proofs.lemmas.List.Elements.{All-from_recursion}
 use Rattle.lmn_base.specs.declared.level.CtxUse.{CtxUse}
 use Rattle.lmn_base.specs.declared.level.Leaf.{Leaf}
@@ -10,7 +10,6 @@ use Rattle.lmn_base.specs.Links.{NumbersLinks, no_more}
 use Rattle.lmn_base.specs.Names.{context_names, leaf_names}
 use Rattle.lmn_base.specs.WellMade.{FitsArity, IsAtomLeaf, IsWellMade, IsWellMadeRule}
 use Rattle.lmn_guards.specs.Plans.{IsPlan}
-use Rattle.lmn_flatten_plain.specs.Plains.{EachPair}
 use Rattle.lmn_weight.specs.Examples.{NothingIsAccepted, UnplannedIsNot, nothing_plain}
 
 none_holds : {A : Type 0} (P : A → Type 0) → All P []
@@ -59,4 +58,4 @@ nothing_is_accepted names is = record {
 
 -- a rule without its plan isn't
 pub unplanned_is_not : UnplannedIsNot
-unplanned_is_not names plain r rules e a = subst (λ rs. EachPair IsPlan rs []) e a.planned
+unplanned_is_not names plain r rules e a = subst (λ rs. AllZip IsPlan rs []) e a.planned

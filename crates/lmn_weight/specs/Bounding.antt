@@ -1,7 +1,7 @@
 -- The bound of the commits of a plain by weights.
 use Rattle.lmn_base.specs.Limits.{most_body_items}
 use Rattle.std.specs.Prelude.{ℕ, [], List, ◌≡◌, ◌≤◌, ◌+◌, length}
-use Rattle.std.specs.List.{AllByRecursion}
+use Rattle.std.specs.List.{AllByRecursion, AllZip}
 use Rattle.lmn_adequacy.specs.Accepted.{Accepted, ThroughoutLevel}
 use Rattle.lmn_base.specs.declared.rule.Plain.{Plain}
 use Rattle.lmn_base.specs.declared.rule.RuleTree.{RuleTree}
@@ -13,7 +13,6 @@ use Rattle.lmn_congruence.specs.Translation.{plain_process, top_of}
 use Rattle.lmn_guards.specs.Accepted.{IsAcceptedRule}
 use Rattle.lmn_guards.specs.declared.plan.GuardPlan.{GuardPlan}
 use Rattle.lmn_guards.specs.Plans.{IsPlan}
-use Rattle.lmn_flatten_plain.specs.Plains.{EachPair}
 use Rattle.lmn_app_reading.specs.Texts.{ReadsAs}
 use Rattle.lmn_reduction.specs.Chains.{Commits}
 use Rattle.lmn_reduction.specs.Commits.{Settles}
@@ -27,7 +26,7 @@ pub record IsAcceptedPlain (names : List Name) (plain : Plain) (plans : List Gua
   pub made : IsWellMade plain
   pub named : NamesPlain names plain
   pub rules : AllByRecursion (IsAcceptedRule plain.rules) plain.rules
-  pub planned : EachPair IsPlan plain.rules plans
+  pub planned : AllZip IsPlan plain.rules plans
 
 -- Where each rule of the table of such a plain is lowered, there is a weighing by which each rule of its tree is, those in rules
 -- too, and by which its process weighs what its top does.

@@ -1,9 +1,9 @@
 use Rattle.std.proofs.Common.{List, ℕ, take, drop}
+use Rattle.std.specs.List.{AllZip}
 use Rattle.lmn_parser.specs.Syntax.{clauses_of, items_of_nodes, terms_of}
 use Rattle.lmn_flatten_plain.specs.Expansion as expansion
 use Rattle.lmn_flatten_plain.specs.Keys.{IsKey}
 use Rattle.lmn_flatten_plain.specs.Links.{Link, Use}
-use Rattle.lmn_flatten_plain.specs.Plains.{EachPair}
 use Rattle.lmn_flatten.specs.Built.{IsUse}
 use Rattle.lmn_flatten.specs.Glossaries.{Reading}
 use Rattle.lmn_flatten.specs.Growing.{MayGrow, Within}
@@ -27,5 +27,5 @@ invariant-add_items-loop-item l = (r : Reading) (way : List ℕ) (keys : List Li
 
 abbrev pub invariant-add_terms-loop-i : goal.invariant-add_terms-loop-i
 invariant-add_terms-loop-i l = (r : Reading) (way : List ℕ) (keys : List Link) → MayGrow r (Within way) keys l.glossary l.initial.scope
-    → EachPair (IsUse r.names (IsKey keys)) (expansion.expanded_arguments r.words r.places l.pos way (terms_of l.terms)) l.links
+    → AllZip (IsUse r.names (IsKey keys)) (expansion.expanded_arguments r.words r.places l.pos way (terms_of l.terms)) l.links
     → GrowsSoFar r Within way keys (expansion.expanded_terms r.words r.places l.pos way (terms_of (take l.i l.terms))) l.i l.initial.part l.initial.table l.part l.table l.scope
