@@ -1,11 +1,7 @@
 -- Structural congruence.
 use Rattle.std.specs.Prelude.{ℕ, ◌⊎◌, List}
-use Rattle.lmn_congruence.specs.Process.{Process, nothing, connector, atom, pair, membrane, Free, Local, Fresh, Linked, substitute}
+use Rattle.lmn_congruence.specs.Process.{Process, nothing, connector, atom, pair, membrane, Free, Local, Fresh, Linked, renamed, replace}
 use Rattle.lmn_congruence.specs.Rules.{Label}
-
--- exactly one of two links is free in a process
-abbrev pub ExactlyOneFree : ℕ → ℕ → Process → Type 0
-ExactlyOneFree x y P = (Free x P × ¬ (Free y P)) ⊎ (Free y P × ¬ (Free x P))
 
 -- an atom in the sense of rule E9: connectors are atoms too
 pub data IsAtomProcess : Process → Type 0 where
@@ -22,16 +18,20 @@ pub data Congruent : Process → Process → Type 0 where
   swap : {P Q : Process} → Linked (pair P Q) → Congruent (pair P Q) (pair Q P)
   regroup : {P Q S : Process} → Linked (pair P (pair Q S)) →
       Congruent (pair P (pair Q S)) (pair (pair P Q) S)
-  rename : {P : Process} (x y : ℕ) → Linked P → Local x P → Fresh y P → Congruent P (substitute y x P)
+  rename : {P : Process} (x y : ℕ) → Linked P → Local x P → Fresh y P → Congruent P (renamed (replace y x) P)
   beside : {P P' Q : Process} → Congruent P P' → Linked (pair P Q) → Linked (pair P' Q) →
       Congruent (pair P Q) (pair P' Q)
   inside : {P P' : Process} → Congruent P P' → Congruent (membrane P) (membrane P')
   loop : {x : ℕ} → Congruent (connector x x) nothing
   turn : {x y : ℕ} → Congruent (connector x y) (connector y x)
   absorb : {P : Process} (x y : ℕ) → IsAtomProcess P → Free x P → Linked (pair (connector x y) P) →
-      Congruent (pair (connector x y) P) (substitute y x P)
-  pass : {P : Process} (x y : ℕ) → ExactlyOneFree x y P → Linked (pair (connector x y) P) →
+      Congruent (pair (connector x y) P) (renamed (replace y x) P)
+  pass : {P : Process} (x y : ℕ) → (Free x P × ¬ (Free y P)) ⊎ (Free y P × ¬ (Free x P)) → Linked (pair (connector x y) P) →
       Congruent (membrane (pair (connector x y) P)) (pair (connector x y) (membrane P))
   same : {P : Process} → Linked P → Congruent P P
   back : {P Q : Process} → Congruent P Q → Congruent Q P
   chain : {P Q S : Process} → Congruent P Q → Congruent Q S → Congruent P S
+
+-- exactly one of two links is free in a process, as lemmas tell it
+abbrev pub ExactlyOneFree : ℕ → ℕ → Process → Type 0
+ExactlyOneFree x y P = (Free x P × ¬ (Free y P)) ⊎ (Free y P × ¬ (Free x P))

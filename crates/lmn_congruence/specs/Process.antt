@@ -53,12 +53,9 @@ renamed f (pair P Q) = pair (renamed f P) (renamed f Q)
 renamed f (membrane P) = membrane (renamed f P)
 renamed f (rule r) = rule r
 
--- P[new/old], written `substitute new old P`: one link in the place of another
+-- one link in the place of another: P[new/old] is `renamed (replace new old) P`
 abbrev pub replace : ℕ → ℕ → ℕ → ℕ
 replace new old x = cond (x == old) new x
-
-abbrev pub substitute : ℕ → ℕ → Process → Process
-substitute new old P = renamed (replace new old) P
 
 -- a renaming takes different links of a process to different links
 abbrev pub OneToOneOn : (ℕ → ℕ) → Process → Type 0
@@ -68,3 +65,7 @@ OneToOneOn f P = (x y : ℕ) → occurrences x P ≢ 0 → occurrences y P ≢ 0
 abbrev pub together : List Process → Process
 together [] = nothing
 together (P ∷ Ps) = pair P (together Ps)
+
+-- P[new/old], as lemmas tell it
+abbrev pub substitute : ℕ → ℕ → Process → Process
+substitute new old P = renamed (replace new old) P

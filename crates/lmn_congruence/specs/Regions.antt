@@ -18,15 +18,11 @@ mutual
     no_region : Regions
     region_and : Region → Regions → Regions
 
--- an atom of a region as a process
-abbrev pub atom_process : SolidAtom → Process
-atom_process a = atom a.label a.links
-
 -- the process of a region: the parallel pair of its items
 abbrev mutual
   pub region_process : Region → Process
   region_process (region atoms membranes rules) =
-      pair (together (map atom_process atoms))
+      pair (together (map (λ (a : SolidAtom). atom a.label a.links) atoms))
       (pair (together (regions_processes membranes)) (together (map rule rules)))
 
   pub regions_processes : Regions → List Process
@@ -48,3 +44,7 @@ abbrev mutual
 -- an atom with this label and these links
 abbrev pub solid_atom_with : Label → List ℕ → SolidAtom
 solid_atom_with l xs = record { label = l; links = xs }
+
+-- an atom of a region as a process, as lemmas tell it
+abbrev pub atom_process : SolidAtom → Process
+atom_process a = atom a.label a.links

@@ -2,7 +2,7 @@
 -- its number, and `table` the rules by theirs. Both are meant of lists that hold every number in use: of names
 -- `NamesPlain` and `NamesSolid` of `lmn_base` say so, of rules `IsWellMade` and `HasEachRule`. Places in the text
 -- are left out.
-use Rattle.std.specs.Prelude.{ℕ, zero, Bool, true, false, ◌+◌, ◌-◌, ◌==◌, if◌then◌else◌, List, [], ◌∷◌, map, slice_index_or}
+use Rattle.std.specs.Prelude.{ℕ, zero, Bool, ◌+◌, ◌-◌, ◌==◌, if◌then◌else◌, List, [], ◌∷◌, map, slice_index_or}
 use Rattle.lmn_base.specs.declared.functor.TheConstants.{INT_NAME, UNARY_NAME, GROUND_NAME}
 use Rattle.lmn_base.specs.declared.functor.Label.{Label}
 use Rattle.lmn_base.specs.declared.functor.Label.TheVariants.{Name, Int}
@@ -62,12 +62,8 @@ rules [] = tree.no_rule
 rules (r ∷ rs) = tree.rule_and r (rules rs)
 
 -- an untyped context, open or closed
-abbrev pub context_with : Bool → tree.Name → tree.Context
-context_with true p = tree.closed_context p
-context_with false p = tree.open_context p
-
 abbrev pub context_tree : List tree.Name → CtxUse → tree.Context
-context_tree names u = context_with u.closed (name_of names u.name)
+context_tree names u = if u.closed then tree.closed_context (name_of names u.name) else tree.open_context (name_of names u.name)
 
 -- a level, where `rule` gives the rule with a number
 abbrev pub level_step : List tree.Name → (ℕ → tree.Rule) → Level-F tree.Level → tree.Level
@@ -98,19 +94,13 @@ kind_of names n us = tree.unknown (name_of names n) (names_of names us)
 
 abbrev pub condition_of : List tree.Name → Cond → tree.Condition
 condition_of names (Kind n args pos) = kind_of names n args
-condition_of names (Compare op left right pos) =
-    tree.compares op (expression_of names left) (expression_of names right)
+condition_of names (Compare op left right pos) = tree.compares op (expression_of names left) (expression_of names right)
 condition_of names (Equal left right pos) = tree.equates (name_of names left.name) (expression_of names right)
 condition_of names (Differ left right pos) = tree.differs (name_of names left.name) (name_of names right.name)
 
--- a rule as a tree, where `rule` gives the rule with a number
-abbrev pub rule_tree : List tree.Name → (ℕ → tree.Rule) → RuleTree → tree.Rule
-rule_tree names rule r =
-    tree.rule_of (level_of names rule r.head) (map (condition_of names) r.guard) (level_of names rule r.body)
-
 -- for a number that no rule has: a rule that holds nothing, which is written `( :- )`
 abbrev pub no_such_rule : tree.Rule
-no_such_rule = tree.rule_of (tree.only_leaves []) [] (tree.only_leaves [])
+no_such_rule = let nothing = tree.level [] tree.no_level [] [] tree.no_rule in tree.rule_of nothing [] nothing
 
 -- The rules of a table from the number k on. In a well made plain a rule that stands in another one has a greater
 -- number, so it is one of those behind it. A number that isn't greater would be read as that of the next rule.
@@ -118,19 +108,28 @@ abbrev pub rules_from : List tree.Name → ℕ → List RuleTree → List tree.R
 rules_from names k [] = []
 rules_from names k (r ∷ rs) =
     let behind = rules_from names (k + 1) rs in
-    rule_tree names (λ n. slice_index_or behind (n - (k + 1)) no_such_rule) r ∷ behind
-
--- the rule with a number
-abbrev pub numbered_rule : List tree.Name → List RuleTree → ℕ → tree.Rule
-numbered_rule names table n = slice_index_or (rules_from names 0 table) n no_such_rule
+    let rule : ℕ → tree.Rule = λ n. slice_index_or behind (n - (k + 1)) no_such_rule in
+    tree.rule_of (level_of names rule r.head) (map (condition_of names) r.guard) (level_of names rule r.body) ∷ behind
 
 -- the top of a plain, and its process
 abbrev pub top_of : List tree.Name → Plain → tree.Level
-top_of names p = level_of names (numbered_rule names p.rules) p.top
+top_of names p = level_of names (λ n. slice_index_or (rules_from names 0 p.rules) n no_such_rule) p.top
 
 -- the process of a plain
 abbrev pub plain_process : List tree.Name → Plain → Process
 plain_process names p = level_process (top_of names p)
+
+-- a context that is open or closed, a rule where `rule` gives the rule with a number, and the rule of a table with a
+-- number, as lemmas tell them
+abbrev pub context_with : Bool → tree.Name → tree.Context
+context_with closed p = if closed then tree.closed_context p else tree.open_context p
+
+abbrev pub rule_tree : List tree.Name → (ℕ → tree.Rule) → RuleTree → tree.Rule
+rule_tree names rule r =
+    tree.rule_of (level_of names rule r.head) (map (condition_of names) r.guard) (level_of names rule r.body)
+
+abbrev pub numbered_rule : List tree.Name → List RuleTree → ℕ → tree.Rule
+numbered_rule names table n = slice_index_or (rules_from names 0 table) n no_such_rule
 
 -- atoms and lists of regions as those of the calculus
 abbrev pub solid_atom_of : List tree.Name → SolidAtom → solid.SolidAtom
