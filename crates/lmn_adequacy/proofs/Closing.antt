@@ -3,7 +3,7 @@ use Rattle.std.proofs.Common.{ℕ, ℤ, List, refl, sym, ap, subst, inl, inr, ar
 use Rattle.lmn_congruence.specs.FreeLinks.{link_bound, one_if_once}
 use Rattle.lmn_congruence.specs.LinkedRules.{level_occurrences}
 use Rattle.lmn_congruence.specs.Links.{one_if_same}
-use Rattle.lmn_congruence.specs.Orders.{Among, at_head, further}
+use Rattle.lmn_congruence.specs.Orders.{Among, at_head, further, OneByOne, no_pairs, pair_and}
 use Rattle.lmn_congruence.specs.Process.{Closed, Linked, Process, nothing, occurrences, pair, renamed, together}
 use Rattle.lmn_congruence.specs.Regions.{Region, region_process}
 use Rattle.lmn_congruence.specs.Rules.{Condition, Leaf, Level, Levels, Name, Rule, body_of, compares, differs, equates, guard_of, head_of, is_kind, level, no_rule, rules_list, unknown}
@@ -11,7 +11,7 @@ use Rattle.lmn_congruence.specs.UpToOrder.{Reordered, r_beside, r_chain, r_regro
 use Rattle.lmn_reduction.specs.Assignments.{Assignment}
 use Rattle.lmn_reduction.specs.Firing.{typed_contexts, typed_contexts_in, typed_leaves}
 use Rattle.lmn_reduction.specs.Guards.{GuardHolds, alike, binds, condition_and}
-use Rattle.lmn_reduction.specs.Instances.{LeafInstances, leaf_and, no_leaf, of_atom, of_connector, of_typed}
+use Rattle.lmn_reduction.specs.Instances.{of_atom, of_connector, of_typed, LeafInstance}
 use Rattle.lmn_reduction.proofs.Copies.{IsRootedCopy, rooted}
 use Rattle.lmn_reduction.specs.Parts.{IsGround, IsInteger, Rooted, an_integer}
 use Rattle.lmn_congruence.proofs.Counts.{linked_inside, linked_left, linked_right}
@@ -54,11 +54,11 @@ odd_copy g y L P i c l = go (source c.to g.process (of_solid L))
 
 module _ (t : Assignment) (p : Plain t) where
   -- the leaves of an instance of the head have each link of the region an even number of times
-  pub odd_leaves : (L : ℕ) {ls : List Leaf} {Ps : List Process} → LeafInstances (made t) ls Ps → HeadLeaves t ls → Linked (together Ps) → IsEven (occurrences (of_solid L) (together Ps))
-  odd_leaves L no_leaf a l = (0, refl)
-  odd_leaves L (leaf_and (of_atom {xs = ys}) j) a l = let i = odd_leaves L j a (linked_right l) in (i.0, omega (arith, odd_not_even t p L ys, i.1))
-  odd_leaves L (leaf_and of_connector j) a l = absurd a
-  odd_leaves L (leaf_and (of_typed {p = q} {x = y} {P = P} c root) j) a l =
+  pub odd_leaves : (L : ℕ) {ls : List Leaf} {Ps : List Process} → OneByOne (LeafInstance (made t)) ls Ps → HeadLeaves t ls → Linked (together Ps) → IsEven (occurrences (of_solid L) (together Ps))
+  odd_leaves L no_pairs a l = (0, refl)
+  odd_leaves L (pair_and (of_atom {xs = ys}) j) a l = let i = odd_leaves L j a (linked_right l) in (i.0, omega (arith, odd_not_even t p L ys, i.1))
+  odd_leaves L (pair_and of_connector j) a l = absurd a
+  odd_leaves L (pair_and (of_typed {p = q} {x = y} {P = P} c root) j) a l =
       let i = odd_leaves L j a.1 (linked_right l) in
       let k = odd_copy (t.typed_of q) y L P a.0 (rooted (t.typed_of q) (of_rule y) P c root) (linked_left l) in
       (k.0 + i.0, omega (arith, k.1, i.1))
@@ -92,12 +92,12 @@ copy_whole g x P i c l z d = go (occurrences z g.process) (λ f. d (i.nothing_el
     go n d b = grind arith
 
 module _ (t s : Assignment) (same_typed : (q : Name) → s.typed_of q ≡ t.typed_of q) where
-  leaves_whole : {ls : List Leaf} {Ps : List Process} → LeafInstances s ls Ps → HeadLeaves t ls → Linked (together Ps) → (q : Name) → Among q (typed_leaves ls) → Whole (t.typed_of q)
-  leaves_whole no_leaf a l q k = elim k [ ]
-  leaves_whole (leaf_and of_atom j) a l q k = leaves_whole j a (linked_right l) q k
-  leaves_whole (leaf_and of_connector j) a l q k = absurd a
-  leaves_whole (leaf_and (of_typed {p = o} {x = x} {P = P} c root) j) a l q at_head = copy_whole (t.typed_of o) (s.link_of x) P a.0 (subst (λ g. IsRootedCopy g (s.link_of x) P) (same_typed o) (rooted (s.typed_of o) (s.link_of x) P c root)) (linked_left l)
-  leaves_whole (leaf_and (of_typed c root) j) a l q (further k) = leaves_whole j a.1 (linked_right l) q k
+  leaves_whole : {ls : List Leaf} {Ps : List Process} → OneByOne (LeafInstance s) ls Ps → HeadLeaves t ls → Linked (together Ps) → (q : Name) → Among q (typed_leaves ls) → Whole (t.typed_of q)
+  leaves_whole no_pairs a l q k = elim k [ ]
+  leaves_whole (pair_and of_atom j) a l q k = leaves_whole j a (linked_right l) q k
+  leaves_whole (pair_and of_connector j) a l q k = absurd a
+  leaves_whole (pair_and (of_typed {p = o} {x = x} {P = P} c root) j) a l q at_head = copy_whole (t.typed_of o) (s.link_of x) P a.0 (subst (λ g. IsRootedCopy g (s.link_of x) P) (same_typed o) (rooted (s.typed_of o) (s.link_of x) P c root)) (linked_left l)
+  leaves_whole (pair_and (of_typed c root) j) a l q (further k) = leaves_whole j a.1 (linked_right l) q k
 
   mutual
     level_whole : {l : Level} {C : Process} → HeadInstance s l C → HeadLevel t l → Linked C → (q : Name) → Among q (typed_contexts l) → Whole (t.typed_of q)

@@ -5,7 +5,7 @@ use Rattle.lmn_congruence.specs.Congruence.{back}
 use Rattle.lmn_congruence.specs.Fused.{Joins, fused}
 use Rattle.lmn_congruence.specs.LinkedRules.{leaves_occurrences, level_occurrences, levels_occurrences}
 use Rattle.lmn_congruence.specs.Links.{one_if_same, places}
-use Rattle.lmn_congruence.specs.Orders.{Put, Shuffle, here, more, none}
+use Rattle.lmn_congruence.specs.Orders.{Put, Shuffle, here, more, none, OneByOne, no_pairs, pair_and}
 use Rattle.lmn_congruence.specs.Process.{Closed, Free, Linked, OneToOneOn, Process, atom, connector, membrane, nothing, occurrences, pair, renamed, rule, together}
 use Rattle.lmn_congruence.specs.Regions.{Region, Regions, SolidAtom, atom_process, region, region_process}
 use Rattle.lmn_congruence.specs.Rules.{Condition, Context, Expression, Label, Leaf, Level, Levels, Name, Rule, Rules, atom_leaf, closed_context, head_of, level, level_and, open_context, rules_list}
@@ -13,7 +13,7 @@ use Rattle.lmn_congruence.specs.UpToOrder.{Reordered, r_chain, r_same}
 use Rattle.lmn_reduction.specs.Assignments.{Assignment, NoRuleAtTop, Proper}
 use Rattle.lmn_reduction.specs.Firing.{typed_contexts}
 use Rattle.lmn_reduction.specs.Guards.{GuardHolds, Holds, alike, binds, condition_and, in_order, no_condition, of_kind, unlike}
-use Rattle.lmn_reduction.specs.Instances.{LeafInstances, leaf_and, no_leaf, of_atom, of_connector, of_typed, rules_of_contexts}
+use Rattle.lmn_reduction.specs.Instances.{of_atom, of_connector, of_typed, rules_of_contexts, LeafInstance}
 use Rattle.lmn_reduction.proofs.Copies.{IsRootedCopy, rooted}
 use Rattle.lmn_reduction.specs.Parts.{IsGround, OnlyAtoms, Rooted, atoms_at_top}
 use Rattle.lmn_reduction.specs.Redexes.{HasRedex, at_top, in_membrane}
@@ -139,11 +139,11 @@ module _ (t : Assignment) (v : ℕ → ℕ) where
   places_twice : (x : ℕ) (ys : List ℕ) → places x ys ≤ places (v (t.link_of x)) (map v (map t.link_of ys))
   places_twice x ys = subst (λ k. places x ys ≤ places (v (t.link_of x)) k) (sym (map_twice v t.link_of ys)) (places_least (λ z. v (t.link_of z)) x ys)
 
-  leaves_at_least : (x : ℕ) {ls : List Leaf} {Ps : List Process} → LeafInstances t ls Ps → HeadLeaves t ls → leaves_occurrences x ls ≤ occurrences (v (t.link_of x)) (fused v (together Ps))
-  leaves_at_least x no_leaf a = omega arith
-  leaves_at_least x (leaf_and (of_atom {xs = ys}) j) a = omega (arith, places_twice x ys, leaves_at_least x j a)
-  leaves_at_least x (leaf_and of_connector j) a = absurd a
-  leaves_at_least x (leaf_and (of_typed {p = q} {x = y} {P = P} c root) j) a = omega (arith, typed_at_least x y (t.typed_of q) P a.0 (rooted (t.typed_of q) (t.link_of y) P c root) (same_or_not x y), leaves_at_least x j a.1)
+  leaves_at_least : (x : ℕ) {ls : List Leaf} {Ps : List Process} → OneByOne (LeafInstance t) ls Ps → HeadLeaves t ls → leaves_occurrences x ls ≤ occurrences (v (t.link_of x)) (fused v (together Ps))
+  leaves_at_least x no_pairs a = omega arith
+  leaves_at_least x (pair_and (of_atom {xs = ys}) j) a = omega (arith, places_twice x ys, leaves_at_least x j a)
+  leaves_at_least x (pair_and of_connector j) a = absurd a
+  leaves_at_least x (pair_and (of_typed {p = q} {x = y} {P = P} c root) j) a = omega (arith, typed_at_least x y (t.typed_of q) P a.0 (rooted (t.typed_of q) (t.link_of y) P c root) (same_or_not x y), leaves_at_least x j a.1)
 
   mutual
     level_at_least : (x : ℕ) {l : Level} {C : Process} → HeadInstance t l C → HeadLevel t l → level_occurrences x l ≤ occurrences (v (t.link_of x)) (fused v C)
@@ -212,11 +212,11 @@ module _ (t : Assignment) (p : Proper t) where
           let m : occurrences (t.link_of x) P ≡ 0 = ap (occurrences (t.link_of x)) c.is ∙ occurrences_none c.to (t.link_of x) g.process h in
           record { half = 0; is = omega (arith, m, other x y d) }
 
-  even_leaves : (x : ℕ) {ls : List Leaf} {Ps : List Process} → LeafInstances t ls Ps → HeadLeaves t ls → Linked (together Ps) → EvenMore (occurrences (t.link_of x) (together Ps)) (leaves_occurrences x ls)
-  even_leaves x no_leaf a l = record { half = 0; is = refl }
-  even_leaves x (leaf_and (of_atom {xs = ys}) j) a l = let i = even_leaves x j a (linked_right l) in record { half = i.half; is = omega (arith, places_image x ys, i.is) }
-  even_leaves x (leaf_and of_connector j) a l = absurd a
-  even_leaves x (leaf_and (of_typed {p = q} {x = y} {P = P} c root) j) a l =
+  even_leaves : (x : ℕ) {ls : List Leaf} {Ps : List Process} → OneByOne (LeafInstance t) ls Ps → HeadLeaves t ls → Linked (together Ps) → EvenMore (occurrences (t.link_of x) (together Ps)) (leaves_occurrences x ls)
+  even_leaves x no_pairs a l = record { half = 0; is = refl }
+  even_leaves x (pair_and (of_atom {xs = ys}) j) a l = let i = even_leaves x j a (linked_right l) in record { half = i.half; is = omega (arith, places_image x ys, i.is) }
+  even_leaves x (pair_and of_connector j) a l = absurd a
+  even_leaves x (pair_and (of_typed {p = q} {x = y} {P = P} c root) j) a l =
       let i = even_leaves x j a.1 (linked_right l) in
       let k = even_copy x y (t.typed_of q) P a.0 (rooted (t.typed_of q) (t.link_of y) P c root) (linked_left l) (same_or_not x y) in
       record { half = k.half + i.half; is = omega (arith, k.is, i.is) }
@@ -269,11 +269,11 @@ module _ (t : Assignment) (p : Proper t) (v : ℕ → ℕ) where
       record { at = u.place ∷ k.at; rest = k.rest; images = image_and u.taken k.images; left = k.left }
 
   -- the pieces of the copies of typed contexts
-  abbrev parts_of : {ls : List Leaf} {Ps : List Process} → LeafInstances t ls Ps → List Process
-  parts_of no_leaf = []
-  parts_of (leaf_and of_atom j) = parts_of j
-  parts_of (leaf_and of_connector j) = parts_of j
-  parts_of (leaf_and (of_typed {P = P} c root) j) = pieces (fused v P) ++ parts_of j
+  abbrev parts_of : {ls : List Leaf} {Ps : List Process} → OneByOne (LeafInstance t) ls Ps → List Process
+  parts_of no_pairs = []
+  parts_of (pair_and of_atom j) = parts_of j
+  parts_of (pair_and of_connector j) = parts_of j
+  parts_of (pair_and (of_typed {P = P} c root) j) = pieces (fused v P) ++ parts_of j
 
   later : (xs ys zs : List Process) → Shuffle SamePiece ((xs ++ ys) ++ zs) (ys ++ (xs ++ zs))
   later xs ys zs = subst (Shuffle SamePiece ((xs ++ ys) ++ zs)) (append_assoc ys xs zs) (shuffle_append (shuffle_swap (λ P. itself) xs ys) (shuffle_same (λ P. itself) zs))
@@ -281,14 +281,14 @@ module _ (t : Assignment) (p : Proper t) (v : ℕ → ℕ) where
   sooner : (xs ys zs : List Process) → Shuffle SamePiece (ys ++ (xs ++ zs)) ((xs ++ ys) ++ zs)
   sooner xs ys zs = subst (λ k. Shuffle SamePiece k ((xs ++ ys) ++ zs)) (append_assoc ys xs zs) (shuffle_append (shuffle_swap (λ P. itself) ys xs) (shuffle_same (λ P. itself) zs))
 
-  match_leaves : {ls : List Leaf} {Ps : List Process} (i : LeafInstances t ls Ps) → HeadLeaves t ls → (W : List Process) (xs : List SolidAtom) (ms : Regions) (rs : List Rule)
+  match_leaves : {ls : List Leaf} {Ps : List Process} (i : OneByOne (LeafInstance t) ls Ps) → HeadLeaves t ls → (W : List Process) (xs : List SolidAtom) (ms : Regions) (rs : List Rule)
       → Shuffle SamePiece (pieces (fused v (together Ps)) ++ W) (pieces_of (region xs ms rs)) → LeavesMatched ls (parts_of i ++ W) xs ms rs
-  match_leaves no_leaf a W xs ms rs s = record { at = []; rest = xs; images = no_image; left = s }
-  match_leaves (leaf_and {ls = ls} {Ps = Ps} (of_atom {a = b} {xs = ys}) j) a W xs ms rs s =
+  match_leaves no_pairs a W xs ms rs s = record { at = []; rest = xs; images = no_image; left = s }
+  match_leaves (pair_and {xs = ls} {ys = Ps} (of_atom {a = b} {xs = ys}) j) a W xs ms rs s =
       match_atom b ys ls (pieces (fused v (together Ps)) ++ W) (parts_of j ++ W) xs ms rs (λ xs' k. match_leaves j a W xs' ms rs k)
       (subst (λ k. Shuffle SamePiece (atom b k ∷ (pieces (fused v (together Ps)) ++ W)) (pieces_of (region xs ms rs))) (map_twice v t.link_of ys) s)
-  match_leaves (leaf_and of_connector j) a W xs ms rs s = absurd a
-  match_leaves (leaf_and {ls = ls} {Ps = Ps} (of_typed {P = P} c root) j) a W xs ms rs s =
+  match_leaves (pair_and of_connector j) a W xs ms rs s = absurd a
+  match_leaves (pair_and {xs = ls} {ys = Ps} (of_typed {P = P} c root) j) a W xs ms rs s =
       let A = pieces (fused v P) in
       let B = pieces (fused v (together Ps)) in
       let i = match_leaves j a.1 (A ++ W) xs ms rs (shuffle_chain same_piece_chain (sooner A B W) (pieces_of (region xs ms rs)) s) in
@@ -316,12 +316,12 @@ module _ (t : Assignment) (p : Proper t) (v : ℕ → ℕ) where
     pub parts : TypedParts T ls xs rest
     pub left : Shuffle SamePiece W (pieces_of (region rest ms rs))
 
-  match_parts : {ls : List Leaf} {Ps : List Process} (i : LeafInstances t ls Ps) → HeadLeaves t ls → Linked (fused v (together Ps)) → (W : List Process) (xs : List SolidAtom) (ms : Regions) (rs : List Rule)
+  match_parts : {ls : List Leaf} {Ps : List Process} (i : OneByOne (LeafInstance t) ls Ps) → HeadLeaves t ls → Linked (fused v (together Ps)) → (W : List Process) (xs : List SolidAtom) (ms : Regions) (rs : List Rule)
       → Shuffle SamePiece (parts_of i ++ W) (pieces_of (region xs ms rs)) → PartsMatched ls W xs ms rs
-  match_parts no_leaf a l W xs ms rs s = record { rest = xs; parts = no_part; left = s }
-  match_parts (leaf_and of_atom j) a l W xs ms rs s = let k = match_parts j a (linked_right l) W xs ms rs s in record { rest = k.rest; parts = no_part_of_atom k.parts; left = k.left }
-  match_parts (leaf_and of_connector j) a l W xs ms rs s = absurd a
-  match_parts (leaf_and (of_typed {p = q} {x = x} {P = P} c root) j) a l W xs ms rs s =
+  match_parts no_pairs a l W xs ms rs s = record { rest = xs; parts = no_part; left = s }
+  match_parts (pair_and of_atom j) a l W xs ms rs s = let k = match_parts j a (linked_right l) W xs ms rs s in record { rest = k.rest; parts = no_part_of_atom k.parts; left = k.left }
+  match_parts (pair_and of_connector j) a l W xs ms rs s = absurd a
+  match_parts (pair_and (of_typed {p = q} {x = x} {P = P} c root) j) a l W xs ms rs s =
       let g = t.typed_of q in
       let F : ℕ → ℕ = λ z. v (c.to z) in
       let part = map (part_atom F) (atoms_at_top g.process) in

@@ -2,7 +2,7 @@
 use Rattle.std.proofs.Common.{ℕ, zero, suc, List, take, drop, refl, sym, ap, subst, inl, inr, arith, ◌∙◌, ◌≡◌, ◌≤◌, ◌+◌, ◌⊎◌, ◌==◌, cond, length, [], ◌∷◌, ◌++◌}
 use Rattle.lmn_base.specs.Links.{no_more}
 use Rattle.lmn_base.proofs.Lists.{head_is}
-use Rattle.lmn_congruence.specs.Orders.{none}
+use Rattle.lmn_congruence.specs.Orders.{none, no_pairs, pair_and}
 use Rattle.lmn_congruence.specs.Plains.{fused_level, level_process}
 use Rattle.lmn_congruence.specs.Process.{Closed, Process, atom}
 use Rattle.lmn_congruence.specs.Regions.{Region, SolidAtom, no_region, region, region_process, solid_atom_with}
@@ -18,7 +18,7 @@ use Rattle.lmn_reduction.specs.Commits.{Commit, SettlesTowards, already, step_an
 use Rattle.lmn_reduction.specs.Examples.{label_a, label_b, label_c}
 use Rattle.lmn_reduction.specs.Firing.{Matches, fires}
 use Rattle.lmn_reduction.specs.Guards.{no_condition}
-use Rattle.lmn_reduction.specs.Instances.{Instance, instance, leaf_and, no_context, no_leaf, no_membrane, of_atom}
+use Rattle.lmn_reduction.specs.Instances.{Instance, instance, no_membrane, of_atom}
 use Rattle.lmn_reduction.specs.Parts.{Rooted}
 use Rattle.lmn_reduction.specs.Steps.{SettlingStep, Step, beside, inside, into, leaf, out, up_to}
 use Rattle.lmn_reduction.proofs.SettledForms.{all_join}
@@ -282,7 +282,7 @@ head_weighs : (r : Rule) (A : Process) → r ≡ a_makes_b → Matches r A → w
 head_weighs r A e = subst (λ k. Matches k A → weight A ≤ 1) (sym e) (λ m. go m.head)
   where
     go : {t : Assignment} {A : Process} → Instance t (head_of a_makes_b) A → weight A ≤ 1
-    go (instance (leaf_and of_atom no_leaf) no_membrane no_context) = omega arith
+    go (instance (pair_and of_atom no_pairs) no_membrane no_pairs) = omega arith
 
 -- so a step by this rule takes away at most 1
 step_weighs : {P Q : Process} → Step P Q → EachProcessRule (λ r. r ≡ a_makes_b) P → weight P ≤ weight Q + 1

@@ -2,7 +2,7 @@
 use Rattle.std.proofs.Common.{ℕ, zero, suc, cond, eqb, Bool, true, false, List, map, refl, sym, ap, subst, ◌≡◌, [], ◌∷◌, ◌++◌, ◌∙◌}
 use Rattle.lmn_congruence.specs.Fused.{Joins, fused}
 use Rattle.lmn_congruence.specs.LinkedRules.{level_occurrences}
-use Rattle.lmn_congruence.specs.Orders.{Put, here, there}
+use Rattle.lmn_congruence.specs.Orders.{Put, here, there, OneByOne, no_pairs, pair_and}
 use Rattle.lmn_congruence.specs.Plains.{leaf_process, level_process, levels_processes}
 use Rattle.lmn_congruence.specs.Process.{Closed, Free, OneToOneOn, Process, atom, connector, membrane, pair, renamed, rule, together}
 use Rattle.lmn_congruence.specs.Regions.{Region, Regions, SolidAtom, atom_process, no_region, region, region_and, region_process, regions_processes}
@@ -10,7 +10,7 @@ use Rattle.lmn_congruence.specs.Rules.{Context, Leaf, Level, Levels, Name, Rule,
 use Rattle.lmn_congruence.specs.Translation.{levels, rules as listed_rules}
 use Rattle.lmn_congruence.specs.UpToOrder.{Reordered, r_back, r_beside, r_chain, r_inside, r_regroup, r_same, r_swap, r_unit}
 use Rattle.lmn_reduction.specs.Assignments.{Assignment, NoRuleAtTop}
-use Rattle.lmn_reduction.specs.Instances.{ContextInstance, ContextInstances, Instance, IsCopy, LeafInstances, MembraneInstances, context_and, instance, leaf_and, membrane_and, no_context as no_context_instance, no_leaf, no_membrane, of_closed, of_open, of_atom, of_connector, rules_of_contexts}
+use Rattle.lmn_reduction.specs.Instances.{ContextInstance, Instance, IsCopy, MembraneInstances, instance, membrane_and, no_membrane, of_closed, of_open, of_atom, of_connector, rules_of_contexts, LeafInstance}
 use Rattle.lmn_reduction.proofs.Copies.{IsRootedCopy, typed_by}
 use Rattle.lmn_reduction.proofs.Plains.{level_reordered}
 use Rattle.lmn_congruence.proofs.Reordered.{r_right, reordered_count}
@@ -109,20 +109,20 @@ module _ (c : Contents) where
 
   record LeavesProcess (ls : List Leaf) (P : Process) : Type 0 where
     pub processes : List Process
-    pub instances : LeafInstances (made t) ls processes
+    pub instances : OneByOne (LeafInstance (made t)) ls processes
     pub order : Reordered P (together processes)
 
   leaves_process : {ls outs : List Leaf} → MadeLeaves c ls outs → LeavesProcess ls (together (map leaf_process outs))
-  leaves_process no_made_leaf = record { processes = []; instances = no_leaf; order = r_same refl }
-  leaves_process (made_atom {a = a} {xs = xs} d) = let u = leaves_process d in record { processes = atom a (map of_rule xs) ∷ u.processes; instances = leaf_and of_atom u.instances; order = r_right u.order }
-  leaves_process (made_connector {x = x} {y = y} d) = let u = leaves_process d in record { processes = connector (of_rule x) (of_rule y) ∷ u.processes; instances = leaf_and of_connector u.instances; order = r_right u.order }
+  leaves_process no_made_leaf = record { processes = []; instances = no_pairs; order = r_same refl }
+  leaves_process (made_atom {a = a} {xs = xs} d) = let u = leaves_process d in record { processes = atom a (map of_rule xs) ∷ u.processes; instances = pair_and of_atom u.instances; order = r_right u.order }
+  leaves_process (made_connector {x = x} {y = y} d) = let u = leaves_process d in record { processes = connector (of_rule x) (of_rule y) ∷ u.processes; instances = pair_and of_connector u.instances; order = r_right u.order }
   leaves_process (made_copy {p = p} {x = x} {part = part} {outs = outs} i o d) =
       let u = leaves_process d in
       let g = c.typed_of p in
       let k : IsRootedCopy g (of_rule x) (renamed i.to g.process) = record { to = i.to; one_to_one = i.one_to_one; root = i.root; is = refl } in
       record {
         processes = renamed i.to g.process ∷ u.processes;
-        instances = leaf_and (typed_by k) u.instances;
+        instances = pair_and (typed_by k) u.instances;
         order = r_chain (together_both leaf_process (part_leaves part) outs) (r_both (r_chain (r_same (made_atoms_process part)) (r_back (part_order i.to g.process part i.only_atoms i.atoms))) u.order);
       }
 
@@ -167,15 +167,15 @@ module _ (c : Contents) where
 
   pub record ContextsProcess (ps : List Context) (P : Process) : Type 0 where
     pub processes : List Process
-    pub instances : ContextInstances (made t) ps processes
+    pub instances : OneByOne (ContextInstance (made t)) ps processes
     pub order : Reordered P (together processes)
 
   contexts_process : {ps : List Context} {xs : List SolidAtom} {ks : List Level} → MadeContexts c ps xs ks → ContextsProcess ps (listed (kept_atoms xs) ks [])
-  contexts_process no_made_context = record { processes = []; instances = no_context_instance; order = r_chain r_unit r_unit }
+  contexts_process no_made_context = record { processes = []; instances = no_pairs; order = r_chain r_unit r_unit }
   contexts_process (made_context {xs = xs} {ys = ys} {ms = ms} {ks = ks} i j) =
       let u = context_process i in
       let v = contexts_process j in
-      record { processes = u.0 ∷ v.processes; instances = context_and u.1 v.instances; order = r_chain (contexts_both xs ys ms ks) (r_both (r_same (sym u.2)) v.order) }
+      record { processes = u.0 ∷ v.processes; instances = pair_and u.1 v.instances; order = r_chain (contexts_both xs ys ms ks) (r_both (r_same (sym u.2)) v.order) }
 
   rules_together : (ps : List Name) → Reordered (together (map rule (context_rules c ps))) (together (rules_of_contexts (made t) ps))
   rules_together [] = r_same refl

@@ -3,11 +3,11 @@
 use Rattle.std.proofs.Common.{ℕ, List, cond, eqb, map, refl, sym, ap, subst, inl, arith, ◌≤◌, ◌≡◌, ◌⊎◌, [], ◌∷◌, ◌++◌, ◌∙◌}
 use Rattle.lmn_base.proofs.Lists.{map_append}
 use Rattle.lmn_congruence.specs.Fused.{Joins, fused}
-use Rattle.lmn_congruence.specs.Orders.{Among, EachOnce, at_head, further}
+use Rattle.lmn_congruence.specs.Orders.{Among, EachOnce, at_head, further, OneByOne, no_pairs, pair_and}
 use Rattle.lmn_congruence.specs.Process.{Closed, Free, Linked, OneToOneOn, Process, atom, connector, membrane, nothing, occurrences, pair, renamed, rule, together}
 use Rattle.lmn_congruence.specs.Rules.{Context, Leaf, Level, Levels, Name, Rules, closed_context, level, level_and, no_level, open_context, rules_list}
 use Rattle.lmn_reduction.specs.Assignments.{Assignment, NoRuleAtTop, Proper}
-use Rattle.lmn_reduction.specs.Instances.{ContextInstances, Instance, IsCopy, LeafInstances, MembraneInstances, context_and, instance, leaf_and, membrane_and, no_context, no_leaf, no_membrane, of_atom, of_closed, of_connector, of_open, of_typed, rules_of_contexts}
+use Rattle.lmn_reduction.specs.Instances.{Instance, IsCopy, MembraneInstances, instance, membrane_and, no_membrane, of_atom, of_closed, of_connector, of_open, of_typed, rules_of_contexts, LeafInstance, ContextInstance}
 use Rattle.lmn_congruence.proofs.Common.{among_apart as among_append, among_left, among_right}
 use Rattle.lmn_congruence.proofs.Counts.{linked_inside, linked_left, linked_right}
 use Rattle.lmn_congruence.proofs.FewestCrossings.{free_image, with_image}
@@ -24,7 +24,7 @@ use Rattle.lmn_adequacy.proofs.Orders.{either}
 mutual
   pub data HeadInstance (t : Assignment) : Level → Process → Type 0 where
     head_instance : {leaves : List Leaf} {membranes : Levels} {contexts : List Context} {rule_contexts : List Name} {rules : Rules} {Ps Qs : List Process} →
-        LeafInstances t leaves Ps → HeadInstances t membranes Qs →
+        OneByOne (LeafInstance t) leaves Ps → HeadInstances t membranes Qs →
         HeadInstance t (level leaves membranes contexts rule_contexts rules) (pair (together Ps) (pair (together Qs) (filling t contexts rule_contexts rules)))
 
   pub data HeadInstances (t : Assignment) : Levels → List Process → Type 0 where
@@ -38,10 +38,10 @@ module _ (t : Assignment) where
   itself_copied : (Q : Process) → IsCopy Q Q
   itself_copied Q = record { to = λ x. x; one_to_one = λ x y o o' e. e; is = sym (renamed_id Q) }
 
-  itself_instances : (ps : List Context) → ContextInstances t ps (map t.context_of ps)
-  itself_instances [] = no_context
-  itself_instances (open_context p ∷ ps) = context_and of_open (itself_instances ps)
-  itself_instances (closed_context p ∷ ps) = context_and (of_closed (itself_copied (t.context_of (closed_context p)))) (itself_instances ps)
+  itself_instances : (ps : List Context) → OneByOne (ContextInstance t) ps (map t.context_of ps)
+  itself_instances [] = no_pairs
+  itself_instances (open_context p ∷ ps) = pair_and of_open (itself_instances ps)
+  itself_instances (closed_context p ∷ ps) = pair_and (of_closed (itself_copied (t.context_of (closed_context p)))) (itself_instances ps)
 
   mutual
     pub as_instance : {l : Level} {C : Process} → HeadInstance t l C → Instance t l C
@@ -90,9 +90,9 @@ MayStand t v (closed_context p) P = NoRuleAtTop P × Closed P × Closed (fused v
 
 module _ (t : Assignment) where
   -- what the contexts of an instance stand for
-  entries : {ps : List Context} {Ps : List Process} → ContextInstances t ps Ps → List (Context × Process)
-  entries no_context = []
-  entries (context_and {p = p} {P = P} i j) = (p, P) ∷ entries j
+  entries : {ps : List Context} {Ps : List Process} → OneByOne (ContextInstance t) ps Ps → List (Context × Process)
+  entries no_pairs = []
+  entries (pair_and {x = p} {y = P} i j) = (p, P) ∷ entries j
 
   mutual
     level_entries : {l : Level} {C : Process} → Instance t l C → List (Context × Process)
@@ -102,10 +102,10 @@ module _ (t : Assignment) where
     levels_entries no_membrane = []
     levels_entries (membrane_and i j) = level_entries i ++ levels_entries j
 
-  entries_named : {ps : List Context} {Ps : List Process} (k : ContextInstances t ps Ps) → map (λ e. e.0) (entries k) ≡ ps
+  entries_named : {ps : List Context} {Ps : List Process} (k : OneByOne (ContextInstance t) ps Ps) → map (λ e. e.0) (entries k) ≡ ps
   unfolding entries
-  entries_named no_context = refl
-  entries_named (context_and {p = p} i j) = ap (λ w. p ∷ w) (entries_named j)
+  entries_named no_pairs = refl
+  entries_named (pair_and {x = p} i j) = ap (λ w. p ∷ w) (entries_named j)
 
   mutual
     unfolding level_entries
@@ -122,16 +122,16 @@ module _ (t : Assignment) where
   Agrees f es = (e : Context × Process) → Among e es → f e.0 ≡ e.1
 
   module _ (f : Context → Process) where
-    leaves_standing : {ls : List Leaf} {Ps : List Process} → LeafInstances t ls Ps → LeafInstances (standing t f) ls Ps
-    leaves_standing no_leaf = no_leaf
-    leaves_standing (leaf_and of_atom j) = leaf_and of_atom (leaves_standing j)
-    leaves_standing (leaf_and of_connector j) = leaf_and of_connector (leaves_standing j)
-    leaves_standing (leaf_and (of_typed c root) j) = leaf_and (of_typed c root) (leaves_standing j)
+    leaves_standing : {ls : List Leaf} {Ps : List Process} → OneByOne (LeafInstance t) ls Ps → OneByOne (LeafInstance (standing t f)) ls Ps
+    leaves_standing no_pairs = no_pairs
+    leaves_standing (pair_and of_atom j) = pair_and of_atom (leaves_standing j)
+    leaves_standing (pair_and of_connector j) = pair_and of_connector (leaves_standing j)
+    leaves_standing (pair_and (of_typed c root) j) = pair_and (of_typed c root) (leaves_standing j)
 
-    contexts_standing : {ps : List Context} {Ps : List Process} (k : ContextInstances t ps Ps) → Agrees f (entries k) → map f ps ≡ Ps
+    contexts_standing : {ps : List Context} {Ps : List Process} (k : OneByOne (ContextInstance t) ps Ps) → Agrees f (entries k) → map f ps ≡ Ps
     unfolding entries
-    contexts_standing no_context a = refl
-    contexts_standing (context_and {p = p} {P = P} i j) a = cc (a (p, P) at_head, contexts_standing j (λ e k. a e (further k)))
+    contexts_standing no_pairs a = refl
+    contexts_standing (pair_and {x = p} {y = P} i j) a = cc (a (p, P) at_head, contexts_standing j (λ e k. a e (further k)))
 
     rules_standing : (qs : List Name) → rules_of_contexts (standing t f) qs ≡ rules_of_contexts t qs
     rules_standing [] = refl
@@ -179,11 +179,11 @@ module _ (t : Assignment) where
         let d : Closed P = subst Closed (sym k.is) (closed_image k.to Q k.one_to_one c) in
         (subst NoRuleAtTop (sym k.is) (no_rule_image k.to Q n), d, closed_fused v P j d l)
 
-    contexts_may : {ps : List Context} {Ps : List Process} (k : ContextInstances t ps Ps) → Linked (fused v (together Ps)) → Joins v (together Ps) → All (entries k)
+    contexts_may : {ps : List Context} {Ps : List Process} (k : OneByOne (ContextInstance t) ps Ps) → Linked (fused v (together Ps)) → Joins v (together Ps) → All (entries k)
     unfolding entries
-    contexts_may no_context l j = nothing_may
-    contexts_may (context_and (of_open {p = q}) k) l j = first_may (p.no_rule (open_context q), p.links_apart q) (contexts_may k (linked_right l) j.1)
-    contexts_may (context_and (of_closed {p = q} {P = P} c) k) l j = first_may (copy_may (t.context_of (closed_context q)) P (p.no_rule (closed_context q)) (p.closed q) c (linked_left l) j.0) (contexts_may k (linked_right l) j.1)
+    contexts_may no_pairs l j = nothing_may
+    contexts_may (pair_and (of_open {p = q}) k) l j = first_may (p.no_rule (open_context q), p.links_apart q) (contexts_may k (linked_right l) j.1)
+    contexts_may (pair_and (of_closed {p = q} {P = P} c) k) l j = first_may (copy_may (t.context_of (closed_context q)) P (p.no_rule (closed_context q)) (p.closed q) c (linked_left l) j.0) (contexts_may k (linked_right l) j.1)
 
     mutual
       unfolding level_entries

@@ -1,5 +1,6 @@
 -- From where a head lies in a region to an instance of the head: links of the rule have even numbers, those of the region odd ones.
 use Rattle.std.proofs.Common.{ℕ, zero, suc, cond, eqb, List, map, refl, sym, ap, subst, inl, inr, arith, ◌≡◌, ◌≢◌, ◌+◌, ◌≤◌, ◌⊎◌, [], ◌∷◌, ◌∙◌}
+use Rattle.lmn_congruence.specs.Orders.{OneByOne, no_pairs, pair_and}
 use Rattle.lmn_congruence.specs.Fused.{NoConnector}
 use Rattle.lmn_congruence.specs.LinkedRules.{leaves_occurrences, level_occurrences, levels_occurrences}
 use Rattle.lmn_congruence.specs.Links.{one_if_same, places}
@@ -8,7 +9,7 @@ use Rattle.lmn_congruence.specs.Regions.{Region, Regions, SolidAtom, atom_proces
 use Rattle.lmn_congruence.specs.Rules.{Context, Leaf, Level, Levels, Name, Rule, Rules, level, level_and, rules_list}
 use Rattle.lmn_congruence.specs.UpToOrder.{Reordered, r_back, r_beside, r_chain, r_inside, r_regroup, r_same, r_unit}
 use Rattle.lmn_reduction.specs.Assignments.{Assignment}
-use Rattle.lmn_reduction.specs.Instances.{LeafInstances, leaf_and, no_leaf, of_atom, rules_of_contexts}
+use Rattle.lmn_reduction.specs.Instances.{of_atom, rules_of_contexts, LeafInstance}
 use Rattle.lmn_reduction.proofs.Copies.{IsRootedCopy, typed_by}
 use Rattle.lmn_reduction.specs.Parts.{IsGround, OnlyAtoms, Rooted}
 use Rattle.lmn_congruence.proofs.Counts.{Occurs}
@@ -176,7 +177,7 @@ module _ (t : Assignment) (plain_t : Plain t) where
 
   pub record LeavesSkeleton (ls : List Leaf) (I J : Process) : Type 0 where
     pub processes : List Process
-    pub instances : LeafInstances T ls processes
+    pub instances : OneByOne (LeafInstance T) ls processes
     pub order : Reordered (renamed place (together processes)) (pair I J)
     pub plain : NoConnector (together processes)
     pub count : (x : ℕ) → occurrences (of_rule x) (together processes) ≡ leaves_occurrences x ls
@@ -205,12 +206,12 @@ module _ (t : Assignment) (plain_t : Plain t) where
   only_atoms_flat H f (rule r) o = absurd o
 
   leaves_skeleton : {ls : List Leaf} {ns : List ℕ} {xs xs' ys ys' : List SolidAtom} (i : AtomImages t ls ns xs xs') (j : TypedParts t ls ys ys') → LeavesSkeleton ls (images_of i) (parts_of j)
-  leaves_skeleton no_image no_part = record { processes = []; instances = no_leaf; order = r_back r_unit; plain = tt; count = λ x. refl; flat = tt }
+  leaves_skeleton no_image no_part = record { processes = []; instances = no_pairs; order = r_back r_unit; plain = tt; count = λ x. refl; flat = tt }
   leaves_skeleton (image_and {a = a} {ys = zs} k i) (no_part_of_atom j) =
       let u = leaves_skeleton i j in
       record {
         processes = atom a (map of_rule zs) ∷ u.processes;
-        instances = leaf_and of_atom u.instances;
+        instances = pair_and of_atom u.instances;
         order = r_chain (r_both (r_same (ap (atom a) (placed_links zs))) u.order) r_regroup;
         plain = (tt, u.plain);
         count = λ x. omega (arith, places_even x zs, u.count x);
@@ -223,7 +224,7 @@ module _ (t : Assignment) (plain_t : Plain t) where
       let c : IsRootedCopy G (of_rule x) P = record { to = copy_map G y.to x; one_to_one = copy_one G y.to x y.one_to_one; root = copy_root G y.to x G.root refl; is = refl } in
       record {
         processes = P ∷ u.processes;
-        instances = leaf_and (typed_by c) u.instances;
+        instances = pair_and (typed_by c) u.instances;
         order = r_chain (r_both (copy_order G x part g y) u.order) r_over;
         plain = (no_connector_renamed (copy_map G y.to x) G.process (atoms_plain G.process g.only_atoms), u.plain);
         count = λ z. omega (arith, copy_count G y.to x z g.root_is_free y.one_to_one, u.count z);
@@ -328,7 +329,7 @@ module _ (t : Assignment) (plain_t : Plain t) where
   pub record LevelSkeleton (leaves : List Leaf) (membranes : Levels) (m rest : Region) : Type 0 where
     pub first : List Process
     pub second : List Process
-    pub leaf_instances : LeafInstances T leaves first
+    pub leaf_instances : OneByOne (LeafInstance T) leaves first
     pub membrane_instances : HeadInstances T membranes second
     pub order : Reordered (pair (renamed place (pair (together first) (together second))) (region_process rest)) (region_process m)
     pub plain : NoConnector (pair (together first) (together second))

@@ -1,4 +1,4 @@
--- Lists up to their order.
+-- Lists whose elements match, in order or in another one.
 use Rattle.std.specs.Prelude.{List, [], ◌∷◌}
 
 -- an element of a list
@@ -16,6 +16,11 @@ pub data Shuffle {A B : Type 0} (R : A → B → Type 0) : List A → List B →
   none : Shuffle R [] []
   more : {x : A} {y : B} {xs : List A} {ys zs : List B} →
       R x y → Shuffle R xs ys → Put y ys zs → Shuffle R (x ∷ xs) zs
+
+-- the elements of two lists match one by one, in order
+pub data OneByOne {A B : Type 0} (R : A → B → Type 0) : List A → List B → Type 0 where
+  no_pairs : OneByOne R [] []
+  pair_and : {x : A} {y : B} {xs : List A} {ys : List B} → R x y → OneByOne R xs ys → OneByOne R (x ∷ xs) (y ∷ ys)
 
 -- no element stands twice in a list
 abbrev pub EachOnce : {A : Type 0} → List A → Type 0

@@ -1,13 +1,13 @@
 -- The derivations of the examples.
 use Rattle.std.proofs.Common.{ℕ, suc, ◌≡◌, ◌≢◌, ◌+◌, ◌^◌, ◌<ℤ◌, ℤ, Bool, true, false, cond, eqb, inl, List, [], ◌∷◌, map, refl, sym, ◌∙◌, ap, arith, pos, negsuc}
 use Rattle.lmn_base.specs.declared.guard.Arith.TheVariants.{Div, Mod}
-use Rattle.lmn_congruence.specs.Orders.{Among, at_head, further, here, there, Shuffle, none, more}
+use Rattle.lmn_congruence.specs.Orders.{Among, at_head, further, here, there, Shuffle, none, more, OneByOne, no_pairs, pair_and}
 use Rattle.lmn_congruence.specs.Process.{Process, nothing, connector, atom, pair, membrane, rule, Linked, Free, OneToOneOn, occurrences, together}
 use Rattle.lmn_congruence.specs.Congruence.{swap, same, back}
 use Rattle.lmn_congruence.specs.Rules.{Name, Context, open_context, closed_context, Label, named, integer, Rule, head_of, Expression, number, operation}
 use Rattle.lmn_reduction.specs.Parts.{Rooted, IsGround, EqualParts, ReachesLink, the_root, across, an_integer, atoms_at_top}
 use Rattle.lmn_reduction.specs.Assignments.{Assignment, NoRuleAtTop}
-use Rattle.lmn_reduction.specs.Instances.{ContextInstances, IsCopy, instance, no_context, context_and, of_open, of_closed, no_leaf, leaf_and, of_atom, of_connector, no_membrane, membrane_and}
+use Rattle.lmn_reduction.specs.Instances.{IsCopy, instance, of_open, of_closed, of_atom, of_connector, no_membrane, membrane_and, ContextInstance}
 use Rattle.lmn_reduction.proofs.Copies.{IsRootedCopy, typed_by}
 use Rattle.lmn_guards.specs.Values.{of_number, of_context, of_operation, InRange}
 use Rattle.lmn_reduction.specs.Values.{Value}
@@ -30,8 +30,8 @@ abbrev assigned : (ℕ → ℕ) → Process → List Rule → Assignment
 assigned f P rs = record { link_of = f; context_of = λ q. P; rules_of = λ q. rs; typed_of = λ q. record { process = atom label_a (0 ∷ []); root = 0 } }
 
 -- one open context
-abbrev one_open : {t : Assignment} {p : Name} → ContextInstances t (open_context p ∷ []) (t.context_of (open_context p) ∷ [])
-one_open = context_and of_open no_context
+abbrev one_open : {t : Assignment} {p : Name} → OneByOne (ContextInstance t) (open_context p ∷ []) (t.context_of (open_context p) ∷ [])
+one_open = pair_and of_open no_pairs
 
 -- an instance of a level of leaves has nothing else
 abbrev only : Process → Process
@@ -45,9 +45,9 @@ two_fire = record {
     assignment = assigned (λ n. n) nothing [];
     proper = record { links_differ = λ m n e. e; no_rule = λ q. tt; links_apart = λ q n. zero_not_one; closed = λ q x. inl refl; root_is_free = λ q. refl };
     guard = no_condition;
-    head = instance (leaf_and of_atom (leaf_and of_atom no_leaf)) no_membrane no_context;
+    head = instance (pair_and of_atom (pair_and of_atom no_pairs)) no_membrane no_pairs;
   };
-  body = instance (leaf_and of_atom no_leaf) no_membrane no_context;
+  body = instance (pair_and of_atom no_pairs) no_membrane no_pairs;
 }
 
 -- two equal atoms make one of another name
@@ -62,9 +62,9 @@ join_fires = record {
     assignment = assigned (λ n. n) nothing [];
     proper = record { links_differ = λ m n e. e; no_rule = λ q. tt; links_apart = λ q n. zero_not_one; closed = λ q x. inl refl; root_is_free = λ q. refl };
     guard = no_condition;
-    head = instance (leaf_and of_atom (leaf_and of_atom no_leaf)) no_membrane no_context;
+    head = instance (pair_and of_atom (pair_and of_atom no_pairs)) no_membrane no_pairs;
   };
-  body = instance (leaf_and of_atom no_leaf) no_membrane no_context;
+  body = instance (pair_and of_atom no_pairs) no_membrane no_pairs;
 }
 
 -- `a(X), b(Y)` or `c(X,Y)` beside the rule, and `X=Y`
@@ -168,9 +168,9 @@ sum_fires = record {
     assignment = sums;
     proper = record { links_differ = λ m n e. e; no_rule = λ q. tt; links_apart = λ q n. zero_not_one; closed = λ q x. inl refl; root_is_free = λ q. refl };
     guard = condition_and (binds z_is_bound (of_operation (of_context an_integer) (of_context an_integer) tt seven) an_integer) no_condition;
-    head = instance (leaf_and of_atom (leaf_and (typed_by (copied 3 0)) (leaf_and of_atom (leaf_and (typed_by (copied 4 1)) no_leaf)))) no_membrane no_context;
+    head = instance (pair_and of_atom (pair_and (typed_by (copied 3 0)) (pair_and of_atom (pair_and (typed_by (copied 4 1)) no_pairs)))) no_membrane no_pairs;
   };
-  body = instance (leaf_and of_atom (leaf_and (typed_by (copied 7 2)) no_leaf)) no_membrane no_context;
+  body = instance (pair_and of_atom (pair_and (typed_by (copied 7 2)) no_pairs)) no_membrane no_pairs;
 }
 
 -- a guard binds the sum of two integers
@@ -195,9 +195,9 @@ double_fires = record {
     assignment = assigned (λ n. n) (atom label_b []) (b_makes_c ∷ []);
     proper = record { links_differ = λ m n e. e; no_rule = λ q. tt; links_apart = λ q n. zero_not_one; closed = λ q x. inl refl; root_is_free = λ q. refl };
     guard = no_condition;
-    head = instance no_leaf (membrane_and (instance (leaf_and of_atom no_leaf) no_membrane one_open) no_membrane) no_context;
+    head = instance no_pairs (membrane_and (instance (pair_and of_atom no_pairs) no_membrane one_open) no_membrane) no_pairs;
   };
-  body = instance no_leaf (membrane_and (instance no_leaf no_membrane one_open) no_membrane) no_context;
+  body = instance no_pairs (membrane_and (instance no_pairs no_membrane one_open) no_membrane) no_pairs;
 }
 
 -- a rule context that stands twice in the body is copied
@@ -243,9 +243,9 @@ tie_fires = record {
     assignment = assigned (λ n. n) nothing [];
     proper = record { links_differ = λ m n e. e; no_rule = λ q. tt; links_apart = λ q n. zero_not_one; closed = λ q x. inl refl; root_is_free = λ q. refl };
     guard = no_condition;
-    head = instance (leaf_and of_atom no_leaf) no_membrane no_context;
+    head = instance (pair_and of_atom no_pairs) no_membrane no_pairs;
   };
-  body = instance (leaf_and of_connector no_leaf) no_membrane no_context;
+  body = instance (pair_and of_connector no_pairs) no_membrane no_pairs;
 }
 
 -- `a(X,Y)` or `X=Y` beside the rule, and `X=Y`
@@ -285,9 +285,9 @@ open_fires = record {
     assignment = shared;
     proper = record { links_differ = λ m n e. omega (arith, e); no_rule = no_rule_at; links_apart = λ q n. not_free (eqb (first_byte q) 112) (eqb (first_byte q) 113) n; closed = λ q x. inl refl; root_is_free = λ q. refl };
     guard = no_condition;
-    head = instance no_leaf (membrane_and (instance no_leaf (membrane_and (instance no_leaf no_membrane one_open) no_membrane) one_open) no_membrane) no_context;
+    head = instance no_pairs (membrane_and (instance no_pairs (membrane_and (instance no_pairs no_membrane one_open) no_membrane) one_open) no_membrane) no_pairs;
   };
-  body = instance no_leaf no_membrane (context_and of_open one_open);
+  body = instance no_pairs no_membrane (pair_and of_open one_open);
 }
   where
     no_rule_in : (i j : Bool) → NoRuleAtTop (cond i (atom label_a (0 ∷ [])) (cond j (atom label_b (0 ∷ [])) nothing))
@@ -339,9 +339,9 @@ double_part_fires = record {
     assignment = record { link_of = λ n. n; context_of = λ q. nothing; rules_of = λ q. []; typed_of = λ q. looped };
     proper = record { links_differ = λ m n e. e; no_rule = λ q. tt; links_apart = λ q n. zero_not_one; closed = λ q x. inl refl; root_is_free = λ q. refl };
     guard = condition_and (of_kind looped_ground) no_condition;
-    head = instance (leaf_and of_atom (leaf_and (typed_by (looped_copy 0 1 (omega arith))) no_leaf)) no_membrane no_context;
+    head = instance (pair_and of_atom (pair_and (typed_by (looped_copy 0 1 (omega arith))) no_pairs)) no_membrane no_pairs;
   };
-  body = instance (leaf_and of_atom (leaf_and (typed_by (looped_copy 1 3 (omega arith))) (leaf_and (typed_by (looped_copy 2 4 (omega arith))) no_leaf))) no_membrane no_context;
+  body = instance (pair_and of_atom (pair_and (typed_by (looped_copy 1 3 (omega arith))) (pair_and (typed_by (looped_copy 2 4 (omega arith))) no_pairs))) no_membrane no_pairs;
 }
 
 -- the copies of a ground part have links of their own
@@ -386,10 +386,10 @@ double_rest_fires = record {
     assignment = rest_assignment;
     proper = record { links_differ = λ m n e. e; no_rule = rest_no_rule; links_apart = λ q n. zero_not_one; closed = λ q. closed_by (joined_pair 0) refl; root_is_free = λ q. refl };
     guard = no_condition;
-    head = instance (leaf_and of_atom no_leaf) (membrane_and (instance no_leaf no_membrane (context_and (of_closed (pair_copy 0)) no_context)) no_membrane) no_context;
+    head = instance (pair_and of_atom no_pairs) (membrane_and (instance no_pairs no_membrane (pair_and (of_closed (pair_copy 0)) no_pairs)) no_membrane) no_pairs;
   };
-  body = instance no_leaf (membrane_and (instance no_leaf no_membrane (context_and (of_closed (pair_copy 0)) no_context))
-      (membrane_and (instance no_leaf no_membrane (context_and (of_closed (pair_copy 1)) no_context)) no_membrane)) no_context;
+  body = instance no_pairs (membrane_and (instance no_pairs no_membrane (pair_and (of_closed (pair_copy 0)) no_pairs))
+      (membrane_and (instance no_pairs no_membrane (pair_and (of_closed (pair_copy 1)) no_pairs)) no_membrane)) no_pairs;
 }
 
 -- the copies of the rest of a membrane have links of their own
@@ -404,9 +404,9 @@ drop_rest_fires = record {
     assignment = rest_assignment;
     proper = record { links_differ = λ m n e. e; no_rule = rest_no_rule; links_apart = λ q n. zero_not_one; closed = λ q. closed_by (joined_pair 0) refl; root_is_free = λ q. refl };
     guard = no_condition;
-    head = instance no_leaf (membrane_and (instance no_leaf no_membrane (context_and (of_closed (pair_copy 0)) no_context)) no_membrane) no_context;
+    head = instance no_pairs (membrane_and (instance no_pairs no_membrane (pair_and (of_closed (pair_copy 0)) no_pairs)) no_membrane) no_pairs;
   };
-  body = instance (leaf_and of_atom no_leaf) no_membrane no_context;
+  body = instance (pair_and of_atom no_pairs) no_membrane no_pairs;
 }
 
 -- and the rest that isn't copied is gone

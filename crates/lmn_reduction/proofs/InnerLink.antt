@@ -1,13 +1,14 @@
 -- `{a(X), b(X)}. {a(X), b(Y)} :- c(X,Y).` is irreducible: congruence keeps the rules and the number of links
 -- across membranes, which is 0, and an instance of the head has two.
 use Rattle.std.proofs.Common.{ℕ, ◌≡◌, ◌≢◌, ◌+◌, ◌≤◌, [], ◌∷◌, refl, sym, ◌∙◌, ap, subst, arith}
+use Rattle.lmn_congruence.specs.Orders.{no_pairs, pair_and}
 use Rattle.lmn_congruence.specs.Links.{one_if_same}
 use Rattle.lmn_congruence.specs.Process.{Process, atom, membrane, rule, occurrences, together}
 use Rattle.lmn_congruence.specs.Rules.{Rule, head_of}
 use Rattle.lmn_congruence.specs.FreeNumber.{free_number}
 use Rattle.lmn_congruence.specs.FreeLinks.{link_bound, one_if_once, one_if_free}
 use Rattle.lmn_reduction.specs.Assignments.{Assignment, Proper}
-use Rattle.lmn_reduction.specs.Instances.{Instance, instance, no_context, no_leaf, leaf_and, of_atom, no_membrane, membrane_and}
+use Rattle.lmn_reduction.specs.Instances.{Instance, instance, of_atom, no_membrane, membrane_and}
 use Rattle.lmn_reduction.specs.Firing.{Matches}
 use Rattle.lmn_reduction.specs.Steps.{Step}
 use Rattle.lmn_reduction.specs.Redexes.{HasRedex, at_top, in_membrane}
@@ -37,7 +38,7 @@ one_free x y C d h = not_zero (one_if_free C x) (free_number C) (ap one_if_once 
     not_zero k n e label_b = omega arith
 
 crossed : (t : Assignment) (A : Process) → Proper t → Instance t (head_of join_from_membrane) A → crossings A ≢ 0
-crossed t A p (instance no_leaf (membrane_and {P = C} (instance (leaf_and of_atom (leaf_and of_atom no_leaf)) no_membrane no_context) no_membrane) no_context) =
+crossed t A p (instance no_pairs (membrane_and {P = C} (instance (pair_and of_atom (pair_and of_atom no_pairs)) no_membrane no_pairs) no_membrane) no_pairs) =
     λ e. one_free (t.link_of 0) (t.link_of 1) C (λ q. zero_not_one (p.links_differ 0 1 q)) (λ z. omega arith) (omega arith)
 
 matched : (r : Rule) (A : Process) → r ≡ join_from_membrane → Matches r A → crossings A ≢ 0

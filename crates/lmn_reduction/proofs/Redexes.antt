@@ -1,5 +1,6 @@
 -- A step shows a rule beside an instance of its head, in a congruent process.
 use Rattle.std.proofs.Common.{ℕ, ◌≡◌, ◌≢◌, ◌+◌, ◌≤◌, ◌<◌, ◌⊎◌, List, [], ◌∷◌, map, refl, sym, ◌∙◌, ap, subst, inl, inr, arith, ℤ}
+use Rattle.lmn_congruence.specs.Orders.{OneByOne, no_pairs, pair_and}
 use Rattle.lmn_congruence.specs.Process.{Process, nothing, connector, atom, pair, membrane, rule, occurrences, Linked, renamed, together}
 use Rattle.lmn_congruence.specs.Congruence.{Congruent, regroup, beside, inside, back, chain}
 use Rattle.lmn_congruence.specs.Rules.{Name, Context, open_context, closed_context, Leaf, atom_leaf, Level, level, Levels, Rule, head_of, Rules, rules_list, Condition, Expression}
@@ -11,7 +12,7 @@ use Rattle.lmn_reduction.specs.Parts.{Rooted}
 use Rattle.lmn_reduction.specs.Guards.{GuardHolds, no_condition, condition_and, Holds, of_kind, in_order, binds, alike, unlike}
 use Rattle.lmn_guards.specs.Values.{of_number, of_context, of_operation}
 use Rattle.lmn_reduction.specs.Values.{Value}
-use Rattle.lmn_reduction.specs.Instances.{IsCopy, LeafInstance, of_atom, of_connector, of_typed, LeafInstances, no_leaf, leaf_and, ContextInstance, of_open, of_closed, ContextInstances, no_context, context_and, Instance, instance, MembraneInstances, no_membrane, membrane_and, rules_of_contexts}
+use Rattle.lmn_reduction.specs.Instances.{IsCopy, LeafInstance, of_atom, of_connector, of_typed, ContextInstance, of_open, of_closed, Instance, instance, MembraneInstances, no_membrane, membrane_and, rules_of_contexts}
 use Rattle.lmn_reduction.proofs.Copies.{IsRootedCopy, rooted, typed_by}
 use Rattle.lmn_reduction.specs.Steps.{leaf, beside as derived_beside, inside as derived_inside, up_to, Step}
 use Rattle.lmn_congruence.proofs.Counts.{same_free, linked_both, map_after}
@@ -93,9 +94,9 @@ module _ (f : ℕ → ℕ) (one : (x y : ℕ) → f x ≡ f y → x ≡ y) where
   moved_leaf t of_connector = of_connector
   moved_leaf t (of_typed {p = p} {x = x} {P = P} c root) = typed_by (moved_copy (t.typed_of p) (t.link_of x) P (rooted (t.typed_of p) (t.link_of x) P c root))
 
-  moved_leaves : (t : Assignment) {ls : List Leaf} {Ps : List Process} → LeafInstances t ls Ps → LeafInstances (moved_assignment t) ls (map (renamed f) Ps)
-  moved_leaves t no_leaf = no_leaf
-  moved_leaves t (leaf_and i j) = leaf_and (moved_leaf t i) (moved_leaves t j)
+  moved_leaves : (t : Assignment) {ls : List Leaf} {Ps : List Process} → OneByOne (LeafInstance t) ls Ps → OneByOne (LeafInstance (moved_assignment t)) ls (map (renamed f) Ps)
+  moved_leaves t no_pairs = no_pairs
+  moved_leaves t (pair_and i j) = pair_and (moved_leaf t i) (moved_leaves t j)
 
   moved_closed : (Q P : Process) → IsCopy Q P → IsCopy Q (renamed f P)
   moved_closed Q P c = record {
@@ -108,9 +109,9 @@ module _ (f : ℕ → ℕ) (one : (x y : ℕ) → f x ≡ f y → x ≡ y) where
   moved_one t of_open = of_open
   moved_one t (of_closed {p = p} {P = P} c) = of_closed (moved_closed (t.context_of (closed_context p)) P c)
 
-  moved_contexts : (t : Assignment) {ps : List Context} {Ps : List Process} → ContextInstances t ps Ps → ContextInstances (moved_assignment t) ps (map (renamed f) Ps)
-  moved_contexts t no_context = no_context
-  moved_contexts t (context_and i j) = context_and (moved_one t i) (moved_contexts t j)
+  moved_contexts : (t : Assignment) {ps : List Context} {Ps : List Process} → OneByOne (ContextInstance t) ps Ps → OneByOne (ContextInstance (moved_assignment t)) ps (map (renamed f) Ps)
+  moved_contexts t no_pairs = no_pairs
+  moved_contexts t (pair_and i j) = pair_and (moved_one t i) (moved_contexts t j)
 
   renamed_together : (Ps : List (Process)) → together (map (renamed f) Ps) ≡ renamed f (together Ps)
   renamed_together [] = refl
@@ -125,7 +126,7 @@ module _ (f : ℕ → ℕ) (one : (x y : ℕ) → f x ≡ f y → x ≡ y) where
   renamed_rule_contexts t (r ∷ rs) = cc (renamed_rules (t.rules_of r), renamed_rule_contexts t rs)
 
   rebuilt : (t : Assignment) (leaves : List Leaf) (membranes : Levels) (contexts : List Context) (rule_contexts : List Name) (rules : Rules) (Ps Qs Cs : List Process)
-      → LeafInstances (moved_assignment t) leaves (map (renamed f) Ps) → MembraneInstances (moved_assignment t) membranes (map (renamed f) Qs) → ContextInstances (moved_assignment t) contexts (map (renamed f) Cs)
+      → OneByOne (LeafInstance (moved_assignment t)) leaves (map (renamed f) Ps) → MembraneInstances (moved_assignment t) membranes (map (renamed f) Qs) → OneByOne (ContextInstance (moved_assignment t)) contexts (map (renamed f) Cs)
       → Instance (moved_assignment t) (level leaves membranes contexts rule_contexts rules)
       (pair (renamed f (together Ps)) (pair (renamed f (together Qs)) (pair (renamed f (together Cs)) (pair (renamed f (together (rules_of_contexts t rule_contexts))) (renamed f (together (map rule (rules_list rules))))))))
   rebuilt t leaves membranes contexts rule_contexts rules Ps Qs Cs i j k =

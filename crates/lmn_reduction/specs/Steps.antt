@@ -23,10 +23,9 @@ pub data Settling : Process → Process → Type 0 where
   into : {P : Process} (x y : ℕ) → x ≢ y → Free x P → Free y P →
       Settling (pair (connector x y) (membrane P)) (membrane (pair (connector x y) P))
 
--- one rule fires
+-- one rule fires; one connector crosses one membrane: as laws and lemmas tell it
 abbrev pub Step : Process → Process → Type 0
 Step = Derived Firing
 
--- one connector crosses one membrane
 abbrev pub SettlingStep : Process → Process → Type 0
 SettlingStep = Derived Settling

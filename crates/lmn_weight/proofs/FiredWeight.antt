@@ -1,14 +1,14 @@
 -- Where a rule that is lowered fires, what it makes weighs less than what it takes.
 use Rattle.std.proofs.Common.{ℕ, ℤ, Bool, true, false, List, map, refl, sym, ap, subst, inl, inr, arith, ◌≡◌, ◌≢◌, ◌+◌, ◌≤◌, ◌<◌, ◌⊎◌, [], ◌∷◌, ◌++◌, ◌∙◌, if◌then◌else◌}
 use Rattle.std.proofs.lemmas.Bool.{false≢true}
-use Rattle.lmn_congruence.specs.Orders.{Among, EachOnce, Put, Shuffle, at_head, further, here, more, none, there}
+use Rattle.lmn_congruence.specs.Orders.{Among, EachOnce, Put, Shuffle, at_head, further, here, more, none, there, OneByOne, no_pairs, pair_and}
 use Rattle.lmn_congruence.specs.Process.{Process, rule, together}
 use Rattle.lmn_congruence.specs.Rules.{Condition, Context, Expression, Leaf, Level, Levels, Name, Rule, atom_leaf, body_of, closed_context, connector_leaf, guard_of, head_of, open_context, rules_list, typed_leaf}
 use Rattle.lmn_guards.specs.Values.{of_context, of_operation}
 use Rattle.lmn_reduction.specs.Assignments.{Assignment}
 use Rattle.lmn_reduction.specs.Firing.{Fires, typed_contexts, typed_contexts_in, typed_leaves}
 use Rattle.lmn_reduction.specs.Guards.{GuardHolds, Holds, alike, binds, condition_and, in_order, of_kind}
-use Rattle.lmn_reduction.specs.Instances.{ContextInstance, ContextInstances, Instance, LeafInstance, LeafInstances, MembraneInstances, context_and, instance, leaf_and, membrane_and, no_context, no_leaf, no_membrane, of_atom, of_closed, of_connector, of_open, of_typed, rules_of_contexts}
+use Rattle.lmn_reduction.specs.Instances.{ContextInstance, Instance, LeafInstance, MembraneInstances, instance, membrane_and, no_membrane, of_atom, of_closed, of_connector, of_open, of_typed, rules_of_contexts}
 use Rattle.lmn_reduction.specs.Parts.{IsInteger, Rooted, an_integer}
 use Rattle.lmn_reduction.specs.Values.{Value}
 use Rattle.lmn_adequacy.specs.Accepted.{Accepted, InTurn, UsedIn, all_asked, all_contexts, binding_in_turn, closed_names, comparison_in_turn, contexts_in, difference_in_turn, equality_in_turn, here_used, kind_in_turn, left_sides, left_used, open_names, right_used}
@@ -134,18 +134,18 @@ module _ (w : Weighing) (t : Assignment) (is_int : Name → Bool) (integers : (p
   one_leaf (connector_leaf x y) ls = omega arith
   one_leaf (typed_leaf p x) ls = omega arith
 
-  leaves_weigh : {ls : List Leaf} {Ps : List Process} → LeafInstances t ls Ps → weight w (together Ps) ≡ leaves_weight w is_int ls + sum_of typed_weight (typed_leaves ls)
-  leaves_weigh no_leaf = refl
-  leaves_weigh (leaf_and {l = l} {ls = ls} i is) = omega (arith, leaf_weighs i, leaves_weigh is, one_leaf l ls)
+  leaves_weigh : {ls : List Leaf} {Ps : List Process} → OneByOne (LeafInstance t) ls Ps → weight w (together Ps) ≡ leaves_weight w is_int ls + sum_of typed_weight (typed_leaves ls)
+  leaves_weigh no_pairs = refl
+  leaves_weigh (pair_and {x = l} {xs = ls} i is) = omega (arith, leaf_weighs i, leaves_weigh is, one_leaf l ls)
 
   -- an open context weighs what it stands for, and so does each copy that stands for a closed one
   context_weighs : {p : Context} {P : Process} → ContextInstance t p P → weight w P ≡ context_weight p
   context_weighs of_open = refl
   context_weighs (of_closed {p = p} c) = ap (weight w) c.is ∙ renamed_weight w c.to (t.context_of (closed_context p))
 
-  contexts_weigh : {ps : List Context} {Ps : List Process} → ContextInstances t ps Ps → weight w (together Ps) ≡ sum_of context_weight ps
-  contexts_weigh no_context = refl
-  contexts_weigh (context_and i is) = omega (arith, context_weighs i, contexts_weigh is)
+  contexts_weigh : {ps : List Context} {Ps : List Process} → OneByOne (ContextInstance t) ps Ps → weight w (together Ps) ≡ sum_of context_weight ps
+  contexts_weigh no_pairs = refl
+  contexts_weigh (pair_and i is) = omega (arith, context_weighs i, contexts_weigh is)
 
   rules_weigh : (rs : List Rule) → weight w (together (map rule rs)) ≡ 0
   rules_weigh [] = refl

@@ -2,12 +2,12 @@
 use Rattle.std.proofs.Common.{ℕ, ℤ, sym, List, map, subst, inl, inr, ◌⊎◌, [], ◌∷◌, ◌++◌}
 use Rattle.lmn_congruence.proofs.Common.{among_apart, among_left, among_right}
 use Rattle.lmn_congruence.proofs.KeptRules.{AllRules}
-use Rattle.lmn_congruence.specs.Orders.{Among, at_head, further}
+use Rattle.lmn_congruence.specs.Orders.{Among, at_head, further, OneByOne, no_pairs, pair_and}
 use Rattle.lmn_congruence.specs.Process.{Process, nothing, connector, atom, pair, membrane, renamed, rule, together}
 use Rattle.lmn_congruence.specs.Rules.{Context, Leaf, Level, Levels, Name, Rule, Rules, closed_context, head_of, guard_of, no_rule, rule_and, rule_of, rules_list}
 use Rattle.lmn_reduction.specs.Assignments.{Assignment}
 use Rattle.lmn_reduction.specs.Firing.{Fires, typed_contexts, typed_contexts_in, typed_leaves}
-use Rattle.lmn_reduction.specs.Instances.{ContextInstance, ContextInstances, Instance, LeafInstances, MembraneInstances, context_and, instance, leaf_and, membrane_and, no_context, no_leaf, no_membrane, of_atom, of_closed, of_connector, of_open, of_typed, rules_of_contexts}
+use Rattle.lmn_reduction.specs.Instances.{ContextInstance, Instance, MembraneInstances, instance, membrane_and, no_membrane, of_atom, of_closed, of_connector, of_open, of_typed, rules_of_contexts, LeafInstance}
 use Rattle.lmn_adequacy.proofs.OneNext.{of_the_head}
 use Rattle.lmn_adequacy.specs.Accepted.{Accepted, Throughout, ThroughoutLevel, ThroughoutLevels, ThroughoutRules, all_contexts, all_rule_contexts, contexts_in, left_sides, rule_contexts_in}
 use Rattle.lmn_reduction.specs.Parts.{IsInteger, Rooted, an_integer}
@@ -36,12 +36,12 @@ module _ (K : Rule → Type 0) (t : Assignment) where
 
   -- ---- from an instance to what contexts stand for
 
-  leaf_there : {ls : List Leaf} {Ps : List Process} → LeafInstances t ls Ps → AllRules K (together Ps) → (p : Name) → Among p (typed_leaves ls) → AllRules K (t.typed_of p).process
-  leaf_there no_leaf h p k = elim k [ ]
-  leaf_there (leaf_and of_atom is) h p k = leaf_there is h.1 p k
-  leaf_there (leaf_and of_connector is) h p k = leaf_there is h.1 p k
-  leaf_there (leaf_and (of_typed {p = q} c root) is) h p at_head = (renamed_rules K c.to (t.typed_of q).process).1 (subst (AllRules K) c.is h.0)
-  leaf_there (leaf_and (of_typed {p = q} c root) is) h p (further k) = leaf_there is h.1 p k
+  leaf_there : {ls : List Leaf} {Ps : List Process} → OneByOne (LeafInstance t) ls Ps → AllRules K (together Ps) → (p : Name) → Among p (typed_leaves ls) → AllRules K (t.typed_of p).process
+  leaf_there no_pairs h p k = elim k [ ]
+  leaf_there (pair_and of_atom is) h p k = leaf_there is h.1 p k
+  leaf_there (pair_and of_connector is) h p k = leaf_there is h.1 p k
+  leaf_there (pair_and (of_typed {p = q} c root) is) h p at_head = (renamed_rules K c.to (t.typed_of q).process).1 (subst (AllRules K) c.is h.0)
+  leaf_there (pair_and (of_typed {p = q} c root) is) h p (further k) = leaf_there is h.1 p k
 
   -- an instance of an untyped context has the rules of what it stands for
   one_context : {p : Context} {P : Process} → ContextInstance t p P → (AllRules K P → AllRules K (t.context_of p)) × (AllRules K (t.context_of p) → AllRules K P)
@@ -50,10 +50,10 @@ module _ (K : Rule → Type 0) (t : Assignment) where
       let i = renamed_rules K c.to (t.context_of (closed_context p)) in
       ((λ h. i.1 (subst (AllRules K) c.is h)), (λ h. subst (AllRules K) (sym c.is) (i.0 h)))
 
-  context_there : {ps : List Context} {Ps : List Process} → ContextInstances t ps Ps → AllRules K (together Ps) → (p : Context) → Among p ps → AllRules K (t.context_of p)
-  context_there no_context h p k = elim k [ ]
-  context_there (context_and i is) h p at_head = (one_context i).0 h.0
-  context_there (context_and i is) h p (further k) = context_there is h.1 p k
+  context_there : {ps : List Context} {Ps : List Process} → OneByOne (ContextInstance t) ps Ps → AllRules K (together Ps) → (p : Context) → Among p ps → AllRules K (t.context_of p)
+  context_there no_pairs h p k = elim k [ ]
+  context_there (pair_and i is) h p at_head = (one_context i).0 h.0
+  context_there (pair_and i is) h p (further k) = context_there is h.1 p k
 
   rules_there : (qs : List Name) → AllRules K (together (rules_of_contexts t qs)) → (q : Name) → Among q qs → AllRules K (together (map rule (t.rules_of q)))
   rules_there [] h q k = elim k [ ]
@@ -89,15 +89,15 @@ module _ (K : Rule → Type 0) (t : Assignment) where
 
   -- ---- and back to an instance
 
-  leaves_made : {ls : List Leaf} {Ps : List Process} → LeafInstances t ls Ps → ((p : Name) → Among p (typed_leaves ls) → AllRules K (t.typed_of p).process) → AllRules K (together Ps)
-  leaves_made no_leaf h = tt
-  leaves_made (leaf_and of_atom is) h = (tt, leaves_made is h)
-  leaves_made (leaf_and of_connector is) h = (tt, leaves_made is h)
-  leaves_made (leaf_and (of_typed {p = q} c root) is) h = (subst (AllRules K) (sym c.is) ((renamed_rules K c.to (t.typed_of q).process).0 (h q at_head)), leaves_made is (λ p k. h p (further k)))
+  leaves_made : {ls : List Leaf} {Ps : List Process} → OneByOne (LeafInstance t) ls Ps → ((p : Name) → Among p (typed_leaves ls) → AllRules K (t.typed_of p).process) → AllRules K (together Ps)
+  leaves_made no_pairs h = tt
+  leaves_made (pair_and of_atom is) h = (tt, leaves_made is h)
+  leaves_made (pair_and of_connector is) h = (tt, leaves_made is h)
+  leaves_made (pair_and (of_typed {p = q} c root) is) h = (subst (AllRules K) (sym c.is) ((renamed_rules K c.to (t.typed_of q).process).0 (h q at_head)), leaves_made is (λ p k. h p (further k)))
 
-  contexts_made : {ps : List Context} {Ps : List Process} → ContextInstances t ps Ps → ((p : Context) → Among p ps → AllRules K (t.context_of p)) → AllRules K (together Ps)
-  contexts_made no_context h = tt
-  contexts_made (context_and {p = p} i is) h = ((one_context i).1 (h p at_head), contexts_made is (λ q k. h q (further k)))
+  contexts_made : {ps : List Context} {Ps : List Process} → OneByOne (ContextInstance t) ps Ps → ((p : Context) → Among p ps → AllRules K (t.context_of p)) → AllRules K (together Ps)
+  contexts_made no_pairs h = tt
+  contexts_made (pair_and {x = p} i is) h = ((one_context i).1 (h p at_head), contexts_made is (λ q k. h q (further k)))
 
   rule_contexts_made : (qs : List Name) → ((q : Name) → Among q qs → AllRules K (together (map rule (t.rules_of q)))) → AllRules K (together (rules_of_contexts t qs))
   rule_contexts_made [] h = tt
