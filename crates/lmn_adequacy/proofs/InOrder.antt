@@ -26,8 +26,6 @@ use Rattle.lmn_adequacy.proofs.Orders.{r_both, r_exchange, r_over, taken_put}
 use Rattle.lmn_adequacy.proofs.RawProcesses.{NextUpToOrder, Raw, head_wires, made, raw_below, raw_here}
 use Rattle.lmn_adequacy.proofs.Skeleton.{at_odd, by_parity}
 use Rattle.lmn_congruence.proofs.Renaming.{occurrences_none, renamed_agree}
-use Rattle.lmn_congruence.specs.Same.{IsRenamed}
-use Rattle.lmn_reduction.proofs.OneSolid.{region_renamed}
 use Rattle.lmn_congruence_splice.proofs.Fusions.{solid_once as odd_differs}
 use Rattle.lmn_congruence_splice.specs.Splice.{of_rule, of_solid}
 use Rattle.lmn_congruence.proofs.Common.{rules_listed}
@@ -128,8 +126,8 @@ module _ (c : Contents) where
 
   -- what untyped contexts, rule contexts and rules stand for
 
-  -- a region with its links renamed is a copy of the region
-  region_copied : (R m : Region) → IsRenamed R m → IsCopy (renamed of_solid (region_process R)) (renamed of_solid (region_process m))
+  -- where one process is a copy of another one, it is so beside the links of the rule
+  region_copied : (R m : Region) → IsCopy (region_process R) (region_process m) → IsCopy (renamed of_solid (region_process R)) (renamed of_solid (region_process m))
   region_copied R m i = record { to = by_parity of_rule (λ y. of_solid (i.to y)); one_to_one = one; is = same }
     where
       moves : (x : ℕ) → by_parity of_rule (λ y. of_solid (i.to y)) (of_solid x) ≡ of_solid (i.to x)
@@ -137,7 +135,7 @@ module _ (c : Contents) where
 
       same : renamed of_solid (region_process m) ≡ renamed (by_parity of_rule (λ y. of_solid (i.to y))) (renamed of_solid (region_process R))
       same =
-          ap (renamed of_solid) (ap region_process i.is ∙ region_renamed i.to R) ∙ renamed_renamed of_solid i.to (region_process R)
+          ap (renamed of_solid) i.is ∙ renamed_renamed of_solid i.to (region_process R)
           ∙ renamed_agree (λ x. of_solid (i.to x)) (λ x. by_parity of_rule (λ y. of_solid (i.to y)) (of_solid x)) (region_process R) (λ x o. sym (moves x))
           ∙ sym (renamed_renamed (by_parity of_rule (λ y. of_solid (i.to y))) of_solid (region_process R))
 

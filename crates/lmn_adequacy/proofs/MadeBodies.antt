@@ -137,7 +137,7 @@ module _ (c : Contents) (p : Plain (assignment_of c)) where
       record {
         atoms = map (renamed_atom (past t p N)) (c.atoms_of (closed_context q));
         membranes = renamed_regions (past t p N) (c.membranes_of (closed_context q));
-        makes = made_closed (record { to = past t p N; one_to_one = λ a b o o' e. past_differs t p N a b e; is = refl });
+        makes = made_closed (record { to = past t p N; one_to_one = λ a b o o' e. past_differs t p N a b e; is = region_renamed (past t p N) R });
         next = N + link_bound (region_process R);
         later = omega arith;
         odd = λ L. subst (Copied N (N + link_bound (region_process R)) L 0) (sym (ap (occurrences L) (region_renamed (past t p N) R))) (copied_closed t p N L (region_process R) (p.closed q));

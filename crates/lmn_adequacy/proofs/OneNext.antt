@@ -15,6 +15,7 @@ use Rattle.lmn_congruence.proofs.Counts.{Occurs, linked_as, linked_inside, linke
 use Rattle.lmn_congruence.proofs.LinkMaps.{closed_linked}
 use Rattle.lmn_congruence.proofs.Reordered.{reordered_count}
 use Rattle.lmn_congruence.proofs.Shuffles.{shuffle_flip}
+use Rattle.lmn_reduction.proofs.CopiedRegions.{region_of_copy}
 use Rattle.lmn_adequacy.specs.Accepted.{Accepted, EachLevel, EachOf, NoConnectorLeaf, all_contexts, all_rule_contexts, contexts_in, own_leaves, own_membranes, own_contexts, own_rule_contexts, port_links, port_links_in, port_links_of, rule_contexts_in, typed_links, typed_links_in, typed_links_of, closed_names, open_names}
 use Rattle.lmn_adequacy.specs.Embedding.{AllRules, TakenRegion, region_first, region_later, Contents, assignment_of, region_of}
 use Rattle.lmn_adequacy.specs.Loose.{LevelImages}
@@ -180,7 +181,9 @@ module _ (c d : Contents) (closed : (p : Name) → Closed (region_process (regio
   context_moved : {p : Context} {xs xs' : List SolidAtom} {ms ms' : Regions} → MadeContext c p (region xs ms []) → MadeContext d p (region xs' ms' []) → (c.atoms_of p ≡ d.atoms_of p) × (c.membranes_of p ≡ d.membranes_of p)
       → MovedLists (map leaf_process (kept_atoms xs)) (map leaf_process (kept_atoms xs')) (map held (kept_membranes ms)) (map held (kept_membranes ms'))
   context_moved made_open made_open e = moved_lists_same (ap (λ k. map leaf_process (kept_atoms k)) e.0) (ap (λ k. map held (kept_membranes k)) e.1)
-  context_moved {xs = xs} {xs' = xs'} {ms = ms} {ms' = ms'} (made_closed {p = p} i) (made_closed j) e =
+  context_moved {xs = xs} {xs' = xs'} {ms = ms} {ms' = ms'} (made_closed {p = p} v) (made_closed w) e =
+      let i = region_of_copy (region_of c (closed_context p)) (region xs ms []) v in
+      let j = region_of_copy (region_of d (closed_context p)) (region xs' ms' []) w in
       let X = c.atoms_of (closed_context p) in
       let M = c.membranes_of (closed_context p) in
       let u = copies_of_one X M i.to j.to (closed p) i.one_to_one in

@@ -7,6 +7,7 @@ use Rattle.lmn_congruence.specs.Rules.{Context, Leaf, Level, Levels, Name, Rule,
 use Rattle.lmn_congruence.specs.Same.{renamed_region, renamed_regions}
 use Rattle.lmn_congruence.specs.Translation.{levels, rules as listed_rules}
 use Rattle.lmn_reduction.specs.Assignments.{Assignment}
+use Rattle.lmn_reduction.proofs.CopiedRegions.{region_of_copy}
 use Rattle.lmn_adequacy.specs.Accepted.{Accepted, Throughout, ThroughoutLevel, ThroughoutLevels, ThroughoutRules, all_contexts, all_rule_contexts, contexts_in, own_membranes, rule_contexts_in}
 use Rattle.lmn_adequacy.specs.Embedding.{AllRules, AllRulesIn, EachRule, TakenRegion, region_first, region_later, Contents, LeftTo, LeftToContext, LeftToRuleContext, no_context, no_rule_context, one_context, one_rule_context, region_of}
 use Rattle.lmn_adequacy.specs.Loose.{LevelImages, MembraneImages, level_images, membrane_image_and, no_membrane_image, EachLeft, EachLeftIn}
@@ -124,7 +125,9 @@ module _ (H : Rule → Type 0) where
   -- what a context of the body makes has the rules of what it stands for
   made_context_rules : (c : Contents) {p : Context} {m : Region} → MadeContext c p m → AllRulesIn K (c.membranes_of p) → AllRules K m
   made_context_rules c made_open h = (tt, h)
-  made_context_rules c (made_closed {p = p} i) h = subst (AllRules K) (sym i.is) (renamed_rules i.to (region_of c (closed_context p)) (tt, h))
+  made_context_rules c (made_closed {p = p} {m = m} i) h =
+      let r = region_of_copy (region_of c (closed_context p)) m i in
+      subst (AllRules K) (sym r.is) (renamed_rules r.to (region_of c (closed_context p)) (tt, h))
 
   context_list : (c : Contents) {ps : List Context} {xs : List SolidAtom} {ks : List Level} → MadeContexts c ps xs ks → ((p : Context) → Among p ps → AllRulesIn K (c.membranes_of p)) → ListRules ks
   context_list c no_made_context h = tt

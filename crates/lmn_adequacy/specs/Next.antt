@@ -4,10 +4,10 @@ use Rattle.lmn_congruence.specs.LinkedRules.{level_occurrences}
 use Rattle.lmn_congruence.specs.Links.{places}
 use Rattle.lmn_congruence.specs.Orders.{Among}
 use Rattle.lmn_congruence.specs.Plains.{SolidOf}
-use Rattle.lmn_congruence.specs.Regions.{Region, Regions, SolidAtom, no_region, region, region_and}
+use Rattle.lmn_congruence.specs.Regions.{Region, Regions, SolidAtom, no_region, region, region_and, region_process}
 use Rattle.lmn_congruence.specs.Rules.{Context, Label, Leaf, Level, Levels, Name, Rule, Rules, atom_leaf, body_of, closed_context, connector_leaf, head_of, level, level_and, no_level, open_context, rules_list, typed_leaf}
-use Rattle.lmn_congruence.specs.Same.{IsRenamed}
 use Rattle.lmn_congruence.specs.Translation.{levels, rules as listed_rules}
+use Rattle.lmn_reduction.specs.Instances.{IsCopy}
 use Rattle.lmn_adequacy.specs.Embedding.{Contents, EmbedsAt, IsPart, Taken, TakenRegion, region_of}
 use Rattle.lmn_congruence_splice.specs.Splice.{of_rule, of_solid}
 
@@ -58,7 +58,7 @@ pub data MadeLeaves (c : Contents) : List Leaf → List Leaf → Type 0 where
 -- in its order and its links renamed.
 pub data MadeContext (c : Contents) : Context → Region → Type 0 where
   made_open : {p : Name} → MadeContext c (open_context p) (region_of c (open_context p))
-  made_closed : {p : Name} {m : Region} → IsRenamed (region_of c (closed_context p)) m → MadeContext c (closed_context p) m
+  made_closed : {p : Name} {m : Region} → IsCopy (region_process (region_of c (closed_context p))) (region_process m) → MadeContext c (closed_context p) m
 
 -- context by context, the atoms and the membranes
 pub data MadeContexts (c : Contents) : List Context → List SolidAtom → List Level → Type 0 where

@@ -102,7 +102,7 @@ module _ (c : Contents) (Block : ℕ → ℕ → Type 0) where
   contexts_made own_no_context = no_made_context
   contexts_made (own_open {p = p} w) = made_context {ms = c.membranes_of (open_context p)} made_open (contexts_made w)
   contexts_made (own_closed {p = p} g one b w) =
-      made_context {ms = renamed_regions g (c.membranes_of (closed_context p))} (made_closed (record { to = g; one_to_one = λ x y m n e. one x y e; is = refl })) (contexts_made w)
+      made_context {ms = renamed_regions g (c.membranes_of (closed_context p))} (made_closed (record { to = g; one_to_one = λ x y m n e. one x y e; is = region_renamed g (region_of c (closed_context p)) })) (contexts_made w)
 
   leaves_made : {k j : ℕ} {ls outs : List Leaf} → OwnLeaves k j ls outs → MadeLeaves c ls outs
   leaves_made own_none = no_made_leaf

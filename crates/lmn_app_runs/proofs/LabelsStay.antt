@@ -16,6 +16,7 @@ use Rattle.lmn_reduction.specs.Firing.{typed_contexts, typed_contexts_in, typed_
 use Rattle.lmn_reduction.specs.Guards.{GuardHolds, alike, binds, condition_and}
 use Rattle.lmn_reduction.specs.Parts.{IsInteger, Rooted, an_integer, atoms_at_top}
 use Rattle.lmn_reduction.specs.Values.{Value}
+use Rattle.lmn_reduction.proofs.CopiedRegions.{region_of_copy}
 use Rattle.lmn_adequacy.specs.Accepted.{Accepted, InTurn, UsedIn, all_asked, all_contexts, binding_in_turn, comparison_in_turn, contexts_in, difference_in_turn, equality_in_turn, here_used, kind_in_turn, left_sides, own_membranes}
 use Rattle.lmn_adequacy.specs.Embedding.{AllRules, AtomImages, IsPart, Merged, Taken, TakenRegion, TypedParts, from_first, from_second, image_and, merged_none, no_image, no_part, no_part_of_atom, part_and, region_first, region_later, taken_first, taken_later, typed_later, Contents, LeftTo, LeftToContext, assignment_of, no_context, one_context, region_of}
 use Rattle.lmn_adequacy.specs.Loose.{LevelImages, MembraneImages, level_images, membrane_image_and, no_membrane_image, EachLeft, EachLeftIn}
@@ -301,7 +302,9 @@ module _ (H : Label → ℕ → Type 0) (makes : (z : ℤ) → InRange z → H (
 
   one_made : (c : Contents) {p : Context} {m : Region} → MadeContext c p m → AllAtoms (region_of c p) → AllAtoms m
   one_made c made_open h = h
-  one_made c (made_closed {p = p} r) h = subst AllAtoms (sym r.is) (renamed_good r.to (region_of c (closed_context p)) h)
+  one_made c (made_closed {p = p} {m = m} copy) h =
+      let r = region_of_copy (region_of c (closed_context p)) m copy in
+      subst AllAtoms (sym r.is) (renamed_good r.to (region_of c (closed_context p)) h)
 
   made_contexts : (c : Contents) {ps : List Context} {xs : List SolidAtom} {ks : List Level} → MadeContexts c ps xs ks → ContextGood c ps → Atoms xs × ListGood ks
   made_contexts c no_made_context h = ((λ a i. elim i [ ]), tt)

@@ -1,67 +1,11 @@
--- A process is that of one region at most, so it has one folded line at most.
-use Rattle.std.proofs.Common.{◌≡◌, ℕ, List, [], ◌∷◌, map, refl, sym, ◌∙◌, subst}
-use Rattle.lmn_congruence.specs.Process.{Process, nothing, atom, pair, membrane, rule, Closed, together}
-use Rattle.lmn_congruence.specs.Regions.{SolidAtom, Region, region, Regions, no_region, region_and, atom_process, region_process, regions_processes}
-use Rattle.lmn_congruence.specs.Rules.{Label, Rule}
+-- A process has one folded line at most.
+use Rattle.std.proofs.Common.{sym, ◌∙◌, subst}
+use Rattle.lmn_congruence.specs.Process.{Closed}
+use Rattle.lmn_congruence.specs.Regions.{Region}
+use Rattle.lmn_reduction.proofs.CopiedRegions.{one_region}
 use Rattle.lmn_print_folded.specs.Lines.{IsFoldedLine}
 use Rattle.lmn_print_folded.proofs.FoldedLines.{one_folded_line}
 use Rattle.lmn_print_folded_laws.specs.ReadBack.{OneFoldedLineOf}
-use Rattle.lmn_flatten_plain.proofs.SolidLines.{region_with, regions_with}
-
-first_of : (P Q R S : Process) → pair P Q ≡ pair R S → P ≡ R
-first_of P Q R S e = cc
-
-second_of : (P Q R S : Process) → pair P Q ≡ pair R S → Q ≡ S
-second_of P Q R S e = cc
-
-no_pair : (P Q : Process) → nothing ≡ pair P Q → ⊥
-no_pair P Q e = cc
-
-label_of : (l m : Label) (xs ys : List ℕ) → atom l xs ≡ atom m ys → l ≡ m
-label_of l m xs ys e = cc
-
-links_of : (l m : Label) (xs ys : List ℕ) → atom l xs ≡ atom m ys → xs ≡ ys
-links_of l m xs ys e = cc
-
-inside_of : (P Q : Process) → membrane P ≡ membrane Q → P ≡ Q
-inside_of P Q e = cc
-
-rule_in : (r s : Rule) → rule r ≡ rule s → r ≡ s
-rule_in r s e = cc
-
-atoms_with : (l m : Label) (vs ws : List ℕ) (xs ys : List SolidAtom) → l ≡ m → vs ≡ ws → xs ≡ ys
-    → ◌≡◌ {A = List SolidAtom} (record { label = l; links = vs } ∷ xs) (record { label = m; links = ws } ∷ ys)
-atoms_with l m vs ws xs ys d e f = cc
-
-rules_with : (r s : Rule) (rs ss : List Rule) → r ≡ s → rs ≡ ss → r ∷ rs ≡ s ∷ ss
-rules_with r s rs ss d e = cc
-
-atoms_same : (xs ys : List SolidAtom) → together (map atom_process xs) ≡ together (map atom_process ys) → xs ≡ ys
-atoms_same [] [] e = refl
-atoms_same [] (y ∷ ys) e = absurd (no_pair _ _ e)
-atoms_same (x ∷ xs) [] e = absurd (no_pair _ _ (sym e))
-atoms_same (x ∷ xs) (y ∷ ys) e =
-    let one = first_of _ _ _ _ e in
-    atoms_with x.label y.label x.links y.links xs ys (label_of _ _ _ _ one) (links_of _ _ _ _ one) (atoms_same xs ys (second_of _ _ _ _ e))
-
-rules_same : (rs ss : List Rule) → together (map rule rs) ≡ together (map rule ss) → rs ≡ ss
-rules_same [] [] e = refl
-rules_same [] (s ∷ ss) e = absurd (no_pair _ _ e)
-rules_same (r ∷ rs) [] e = absurd (no_pair _ _ (sym e))
-rules_same (r ∷ rs) (s ∷ ss) e = rules_with r s rs ss (rule_in r s (first_of _ _ _ _ e)) (rules_same rs ss (second_of _ _ _ _ e))
-
-mutual
-  pub one_region : (S T : Region) → region_process S ≡ region_process T → S ≡ T
-  one_region (region xs ms rs) (region ys ns ss) e =
-      let inside = second_of _ _ _ _ e in
-      region_with (atoms_same xs ys (first_of _ _ _ _ e)) (regions_same ms ns (first_of _ _ _ _ inside)) (rules_same rs ss (second_of _ _ _ _ inside))
-
-  regions_same : (ms ns : Regions) → together (regions_processes ms) ≡ together (regions_processes ns) → ms ≡ ns
-  regions_same no_region no_region e = refl
-  regions_same no_region (region_and n ns) e = absurd (no_pair _ _ e)
-  regions_same (region_and m ms) no_region e = absurd (no_pair _ _ (sym e))
-  regions_same (region_and m ms) (region_and n ns) e =
-      regions_with (one_region m n (inside_of _ _ (first_of _ _ _ _ e))) (regions_same ms ns (second_of _ _ _ _ e))
 
 -- a process has one folded line at most
 pub one_folded_line_of : OneFoldedLineOf

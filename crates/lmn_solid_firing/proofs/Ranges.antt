@@ -72,7 +72,7 @@ module _ (c : Contents) where
   contexts_made ranged_no_context = no_made_context
   contexts_made (ranged_open {p = p} w) = made_context {ms = c.membranes_of (open_context p)} made_open (contexts_made w)
   contexts_made (ranged_closed {p = p} g one m b w) =
-      made_context {ms = renamed_regions g (c.membranes_of (closed_context p))} (made_closed (record { to = g; one_to_one = λ x y m n e. one x y e; is = refl })) (contexts_made w)
+      made_context {ms = renamed_regions g (c.membranes_of (closed_context p))} (made_closed (record { to = g; one_to_one = λ x y m n e. one x y e; is = region_renamed g (region_of c (closed_context p)) })) (contexts_made w)
 
   leaves_made : {a e : ℕ} {ls outs : List Leaf} → RangedLeaves a e ls outs → MadeLeaves c ls outs
   leaves_made ranged_none = no_made_leaf
