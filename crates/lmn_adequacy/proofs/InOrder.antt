@@ -4,13 +4,13 @@ use Rattle.lmn_congruence.specs.Fused.{Joins, fused}
 use Rattle.lmn_congruence.specs.LinkedRules.{level_occurrences}
 use Rattle.lmn_congruence.specs.Orders.{Put, here, there, OneByOne, no_pairs, pair_and}
 use Rattle.lmn_congruence.specs.Plains.{leaf_process, level_process, levels_processes}
-use Rattle.lmn_congruence.specs.Process.{Closed, Free, OneToOneOn, Process, atom, connector, membrane, pair, renamed, rule, together}
+use Rattle.lmn_congruence.specs.Process.{Closed, Free, OneToOneOn, Process, atom, connector, membrane, pair, renamed, rule, together, IsCopy}
 use Rattle.lmn_congruence.specs.Regions.{Region, Regions, SolidAtom, atom_process, no_region, region, region_and, region_process, regions_processes}
 use Rattle.lmn_congruence.specs.Rules.{Context, Leaf, Level, Levels, Name, Rule, Rules, atom_leaf, closed_context, connector_leaf, head_of, level, no_rule, open_context, rules_list}
 use Rattle.lmn_congruence.specs.Translation.{levels, rules as listed_rules}
 use Rattle.lmn_congruence.specs.UpToOrder.{Reordered, r_back, r_beside, r_chain, r_inside, r_regroup, r_same, r_swap, r_unit}
 use Rattle.lmn_reduction.specs.Assignments.{Assignment, NoRuleAtTop}
-use Rattle.lmn_reduction.specs.Instances.{ContextInstance, Instance, IsCopy, MembraneInstances, instance, membrane_and, no_membrane, of_closed, of_open, of_atom, of_connector, rules_of_contexts, LeafInstance}
+use Rattle.lmn_reduction.specs.Instances.{ContextInstance, Instance, MembraneInstances, instance, membrane_and, no_membrane, of_closed, of_open, of_atom, of_connector, rules_of_contexts, LeafInstance}
 use Rattle.lmn_reduction.proofs.Copies.{IsRootedCopy, typed_by}
 use Rattle.lmn_reduction.proofs.Plains.{level_reordered}
 use Rattle.lmn_congruence.proofs.Reordered.{r_right, reordered_count}

@@ -4,10 +4,10 @@ use Rattle.std.proofs.Common.{ℕ, List, cond, eqb, map, refl, sym, ap, subst, i
 use Rattle.lmn_base.proofs.Lists.{map_append}
 use Rattle.lmn_congruence.specs.Fused.{Joins, fused}
 use Rattle.lmn_congruence.specs.Orders.{Among, EachOnce, at_head, further, OneByOne, no_pairs, pair_and}
-use Rattle.lmn_congruence.specs.Process.{Closed, Free, Linked, OneToOneOn, Process, atom, connector, membrane, nothing, occurrences, pair, renamed, rule, together}
+use Rattle.lmn_congruence.specs.Process.{Closed, Free, Linked, OneToOneOn, Process, atom, connector, membrane, nothing, occurrences, pair, renamed, rule, together, IsCopy}
 use Rattle.lmn_congruence.specs.Rules.{Context, Leaf, Level, Levels, Name, Rules, closed_context, level, level_and, no_level, open_context, rules_list}
 use Rattle.lmn_reduction.specs.Assignments.{Assignment, NoRuleAtTop, Proper}
-use Rattle.lmn_reduction.specs.Instances.{Instance, IsCopy, MembraneInstances, instance, membrane_and, no_membrane, of_atom, of_closed, of_connector, of_open, of_typed, rules_of_contexts, LeafInstance, ContextInstance}
+use Rattle.lmn_reduction.specs.Instances.{Instance, MembraneInstances, instance, membrane_and, no_membrane, of_atom, of_closed, of_connector, of_open, of_typed, rules_of_contexts, LeafInstance, ContextInstance}
 use Rattle.lmn_congruence.proofs.Common.{among_apart as among_append, among_left, among_right}
 use Rattle.lmn_congruence.proofs.Counts.{linked_inside, linked_left, linked_right}
 use Rattle.lmn_congruence.proofs.FewestCrossings.{free_image, with_image}

@@ -20,7 +20,7 @@ use Rattle.lmn_adequacy.specs.Embedding.{IsPart, Contents, assignment_of, region
 use Rattle.lmn_adequacy.specs.Loose.{Plain}
 use Rattle.lmn_adequacy.specs.Next.{MadeLeaves, MadeLevel, MadeMembranes, context_rules, kept_atoms, made_atom, part_leaves, made_connector, made_copy, made_level, made_membrane, no_made_leaf, no_made_membrane, MadeContext, MadeContexts, kept_membranes, made_closed, made_context, made_open, no_made_context}
 use Rattle.lmn_adequacy.proofs.Bodies.{Copied, Whole, context_places, copied_links, copied_more, copied_none, odd_not_even, past, past_differs, copied_closed, open_places_append}
-use Rattle.lmn_reduction.proofs.OneSolid.{region_renamed}
+use Rattle.lmn_congruence.proofs.RenamedRegions.{region_renamed}
 use Rattle.lmn_adequacy.proofs.Copies.{made_places}
 use Rattle.lmn_adequacy.proofs.InOrder.{contexts_both, held, level_listed, listed, listed_both, together_both}
 use Rattle.lmn_adequacy.proofs.Listing.{listing}

@@ -11,7 +11,8 @@ use Rattle.lmn_congruence.specs.Regions.{Region, Regions, SolidAtom, no_region, 
 use Rattle.lmn_congruence.specs.Rules.{Level}
 use Rattle.lmn_congruence.specs.Same.{IsRenamed, renamed_atom, renamed_region, renamed_regions}
 use Rattle.lmn_congruence.proofs.Counts.{Occurs}
-use Rattle.lmn_reduction.proofs.OneSolid.{level_taken, region_renamed}
+use Rattle.lmn_reduction.proofs.OneSolid.{level_taken}
+use Rattle.lmn_congruence.proofs.RenamedRegions.{region_renamed}
 use Rattle.lmn_adequacy.specs.Next.{links_at}
 use Rattle.lmn_adequacy.specs.Numbered.{IsNumbered, printed_links, printed_links_in}
 use Rattle.lmn_adequacy.proofs.Depth.{renamed_links as atoms_links}

@@ -15,7 +15,7 @@ use Rattle.lmn_congruence.proofs.Counts.{Occurs, linked_as, linked_inside, linke
 use Rattle.lmn_congruence.proofs.LinkMaps.{closed_linked}
 use Rattle.lmn_congruence.proofs.Reordered.{reordered_count}
 use Rattle.lmn_congruence.proofs.Shuffles.{shuffle_flip}
-use Rattle.lmn_reduction.proofs.CopiedRegions.{region_of_copy}
+use Rattle.lmn_congruence.proofs.RenamedRegions.{region_of_copy}
 use Rattle.lmn_adequacy.specs.Accepted.{Accepted, EachLevel, EachOf, NoConnectorLeaf, all_contexts, all_rule_contexts, contexts_in, own_leaves, own_membranes, own_contexts, own_rule_contexts, port_links, port_links_in, port_links_of, rule_contexts_in, typed_links, typed_links_in, typed_links_of, closed_names, open_names}
 use Rattle.lmn_adequacy.specs.Embedding.{AllRules, TakenRegion, region_first, region_later, Contents, assignment_of, region_of}
 use Rattle.lmn_adequacy.specs.Loose.{LevelImages}
@@ -39,7 +39,7 @@ use Rattle.lmn_adequacy.proofs.OneEmbedding.{atoms_in, membranes_in}
 use Rattle.lmn_adequacy.proofs.Skeleton.{at_odd, by_parity, level_skeleton}
 use Rattle.lmn_congruence.proofs.Renaming.{renamed_agree}
 use Rattle.lmn_congruence.proofs.TranslatedLinks.{no_link_in_rules}
-use Rattle.lmn_reduction.proofs.OneSolid.{region_renamed}
+use Rattle.lmn_congruence.proofs.RenamedRegions.{region_renamed}
 use Rattle.lmn_congruence_splice.proofs.Fusions.{solid_once as odd_differs}
 use Rattle.lmn_congruence_splice.specs.Splice.{of_rule, of_solid}
 use Rattle.lmn_base.proofs.Lists.{map_append as maps_append}

@@ -7,7 +7,7 @@ use Rattle.lmn_congruence.specs.Rules.{Context, Leaf, Level, Levels, Name, Rule,
 use Rattle.lmn_congruence.specs.Same.{renamed_region, renamed_regions}
 use Rattle.lmn_congruence.specs.Translation.{levels, rules as listed_rules}
 use Rattle.lmn_reduction.specs.Assignments.{Assignment}
-use Rattle.lmn_reduction.proofs.CopiedRegions.{region_of_copy}
+use Rattle.lmn_congruence.proofs.RenamedRegions.{region_of_copy}
 use Rattle.lmn_adequacy.specs.Accepted.{Accepted, Throughout, ThroughoutLevel, ThroughoutLevels, ThroughoutRules, all_contexts, all_rule_contexts, contexts_in, own_membranes, rule_contexts_in}
 use Rattle.lmn_adequacy.specs.Embedding.{AllRules, AllRulesIn, EachRule, TakenRegion, region_first, region_later, Contents, LeftTo, LeftToContext, LeftToRuleContext, no_context, no_rule_context, one_context, one_rule_context, region_of}
 use Rattle.lmn_adequacy.specs.Loose.{LevelImages, MembraneImages, level_images, membrane_image_and, no_membrane_image, EachLeft, EachLeftIn}

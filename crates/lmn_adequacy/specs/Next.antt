@@ -1,5 +1,6 @@
 -- The solid after a firing, with every list in its order: a raw level, and one fusion of its connectors.
 use Rattle.std.specs.Prelude.{ℕ, zero, suc, cond, List, map, flat_map, set, ◌≡◌, ◌≤◌, [], ◌∷◌, ◌++◌, ◌==◌}
+use Rattle.lmn_congruence.specs.Process.{IsCopy}
 use Rattle.lmn_congruence.specs.LinkedRules.{level_occurrences}
 use Rattle.lmn_congruence.specs.Links.{places}
 use Rattle.lmn_congruence.specs.Orders.{Among}
@@ -7,7 +8,6 @@ use Rattle.lmn_congruence.specs.Plains.{SolidOf}
 use Rattle.lmn_congruence.specs.Regions.{Region, Regions, SolidAtom, no_region, region, region_and, region_process}
 use Rattle.lmn_congruence.specs.Rules.{Context, Label, Leaf, Level, Levels, Name, Rule, Rules, atom_leaf, body_of, closed_context, connector_leaf, head_of, level, level_and, no_level, open_context, rules_list, typed_leaf}
 use Rattle.lmn_congruence.specs.Translation.{levels, rules as listed_rules}
-use Rattle.lmn_reduction.specs.Instances.{IsCopy}
 use Rattle.lmn_adequacy.specs.Embedding.{Contents, EmbedsAt, IsPart, Taken, TakenRegion, region_of}
 use Rattle.lmn_congruence_splice.specs.Splice.{of_rule, of_solid}
 

@@ -16,7 +16,7 @@ use Rattle.lmn_reduction.specs.Firing.{typed_contexts, typed_contexts_in, typed_
 use Rattle.lmn_reduction.specs.Guards.{GuardHolds, alike, binds, condition_and}
 use Rattle.lmn_reduction.specs.Parts.{IsInteger, Rooted, an_integer, atoms_at_top}
 use Rattle.lmn_reduction.specs.Values.{Value}
-use Rattle.lmn_reduction.proofs.CopiedRegions.{region_of_copy}
+use Rattle.lmn_congruence.proofs.RenamedRegions.{region_of_copy}
 use Rattle.lmn_adequacy.specs.Accepted.{Accepted, InTurn, UsedIn, all_asked, all_contexts, binding_in_turn, comparison_in_turn, contexts_in, difference_in_turn, equality_in_turn, here_used, kind_in_turn, left_sides, own_membranes}
 use Rattle.lmn_adequacy.specs.Embedding.{AllRules, AtomImages, IsPart, Merged, Taken, TakenRegion, TypedParts, from_first, from_second, image_and, merged_none, no_image, no_part, no_part_of_atom, part_and, region_first, region_later, taken_first, taken_later, typed_later, Contents, LeftTo, LeftToContext, assignment_of, no_context, one_context, region_of}
 use Rattle.lmn_adequacy.specs.Loose.{LevelImages, MembraneImages, level_images, membrane_image_and, no_membrane_image, EachLeft, EachLeftIn}

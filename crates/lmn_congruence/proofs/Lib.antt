@@ -13,6 +13,7 @@ pub mod Shuffles
 pub mod Reordered
 pub mod Carried
 pub mod Renaming
+pub mod RenamedRegions
 pub mod FewestCrossings
 pub mod LinkMaps
 pub mod Solids

@@ -61,6 +61,13 @@ replace new old x = cond (x == old) new x
 abbrev pub OneToOneOn : (ℕ → ℕ) → Process → Type 0
 OneToOneOn f P = (x y : ℕ) → occurrences x P ≢ 0 → occurrences y P ≢ 0 → f x ≡ f y → x ≡ y
 
+-- P is a copy of Q: its links renamed, different ones to different ones. Nothing more is asked of its links: in a linked
+-- process those that occur twice in it are no links of anything beside it.
+pub record IsCopy (Q P : Process) : Type 0 where
+  pub to : ℕ → ℕ
+  pub one_to_one : OneToOneOn to Q
+  pub is : P ≡ renamed to Q
+
 -- the parallel pair of a list, in its order
 abbrev pub together : List Process → Process
 together [] = nothing

@@ -7,7 +7,7 @@ use Rattle.lmn_print_folded.specs.Examples.{last_ports}
 use Rattle.lmn_print_folded.specs.Lines.{IsFoldedLine}
 use Rattle.lmn_print_folded.proofs.ExampleLines as folded
 use Rattle.lmn_print_folded_laws.specs.Examples.{ItsLine, NotItsLine}
-use Rattle.lmn_reduction.proofs.CopiedRegions.{one_region}
+use Rattle.lmn_congruence.proofs.RenamedRegions.{one_region}
 use Rattle.lmn_print_folded_laws.proofs.ReadBack.{folded_lines_read_back}
 use Rattle.lmn_print_folded.proofs.ExampleLines.{last_ports_closed}
 

@@ -2,7 +2,7 @@
 use Rattle.std.proofs.Common.{sym, ◌∙◌, subst}
 use Rattle.lmn_congruence.specs.Process.{Closed}
 use Rattle.lmn_congruence.specs.Regions.{Region}
-use Rattle.lmn_reduction.proofs.CopiedRegions.{one_region}
+use Rattle.lmn_congruence.proofs.RenamedRegions.{one_region}
 use Rattle.lmn_print_folded.specs.Lines.{IsFoldedLine}
 use Rattle.lmn_print_folded.proofs.FoldedLines.{one_folded_line}
 use Rattle.lmn_print_folded_laws.specs.ReadBack.{OneFoldedLineOf}

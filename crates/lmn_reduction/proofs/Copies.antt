@@ -1,9 +1,9 @@
 -- Copies of parts, with their roots.
 use Rattle.std.proofs.Common.{◌≡◌, ℕ}
-use Rattle.lmn_congruence.specs.Process.{Process, OneToOneOn, renamed}
+use Rattle.lmn_congruence.specs.Process.{Process, OneToOneOn, renamed, IsCopy}
 use Rattle.lmn_congruence.specs.Rules.{Name, typed_leaf}
 use Rattle.lmn_reduction.specs.Assignments.{Assignment}
-use Rattle.lmn_reduction.specs.Instances.{IsCopy, LeafInstance, of_typed}
+use Rattle.lmn_reduction.specs.Instances.{LeafInstance, of_typed}
 use Rattle.lmn_reduction.specs.Parts.{Rooted}
 
 -- P is a copy of g with the root x

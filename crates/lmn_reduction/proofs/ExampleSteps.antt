@@ -2,12 +2,12 @@
 use Rattle.std.proofs.Common.{ℕ, suc, ◌≡◌, ◌≢◌, ◌+◌, ◌^◌, ◌<ℤ◌, ℤ, Bool, true, false, cond, eqb, inl, List, [], ◌∷◌, map, refl, sym, ◌∙◌, ap, arith, pos, negsuc}
 use Rattle.lmn_base.specs.declared.guard.Arith.TheVariants.{Div, Mod}
 use Rattle.lmn_congruence.specs.Orders.{Among, at_head, further, here, there, Shuffle, none, more, OneByOne, no_pairs, pair_and}
-use Rattle.lmn_congruence.specs.Process.{Process, nothing, connector, atom, pair, membrane, rule, Linked, Free, OneToOneOn, occurrences, together}
+use Rattle.lmn_congruence.specs.Process.{Process, nothing, connector, atom, pair, membrane, rule, Linked, Free, OneToOneOn, occurrences, together, IsCopy}
 use Rattle.lmn_congruence.specs.Congruence.{swap, same, back}
 use Rattle.lmn_congruence.specs.Rules.{Name, Context, open_context, closed_context, Label, named, integer, Rule, head_of, Expression, number, operation}
 use Rattle.lmn_reduction.specs.Parts.{Rooted, IsGround, EqualParts, ReachesLink, the_root, across, an_integer, atoms_at_top}
 use Rattle.lmn_reduction.specs.Assignments.{Assignment, NoRuleAtTop}
-use Rattle.lmn_reduction.specs.Instances.{IsCopy, instance, of_open, of_closed, of_atom, of_connector, no_membrane, membrane_and, ContextInstance}
+use Rattle.lmn_reduction.specs.Instances.{instance, of_open, of_closed, of_atom, of_connector, no_membrane, membrane_and, ContextInstance}
 use Rattle.lmn_reduction.proofs.Copies.{IsRootedCopy, typed_by}
 use Rattle.lmn_guards.specs.Values.{of_number, of_context, of_operation, InRange}
 use Rattle.lmn_reduction.specs.Values.{Value}

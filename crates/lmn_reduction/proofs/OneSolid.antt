@@ -13,6 +13,7 @@ use Rattle.lmn_reduction.specs.Laws.{SolidIsOne}
 use Rattle.lmn_congruence.proofs.Counts.{one_if_equal, none_if_apart, one_least, map_after}
 use Rattle.lmn_congruence.proofs.Totals.{total_same}
 use Rattle.lmn_congruence.proofs.Crossings.{occurs_below}
+use Rattle.lmn_congruence.proofs.RenamedRegions.{region_renamed}
 use Rattle.lmn_congruence.proofs.Reordered.{reordered_count}
 use Rattle.lmn_congruence.proofs.LinkMaps.{closed_leaves, closed_linked, one_to_one}
 use Rattle.lmn_congruence.proofs.FewestCrossings.{with_image, total_image_sum, image_count, image_even}
@@ -199,24 +200,6 @@ module _ (f v v' : ℕ → ℕ) where
           level_taken l (λ x o. h x (left_not_zero (at_atoms x inside) (at_atoms x rest) o)),
           levels_taken ls (λ x o. h x (right_not_zero (at_atoms x inside) (at_atoms x rest) o)),
         ) refl
-
--- ---- the process of a renamed region
-
-atoms_renamed : (f : ℕ → ℕ) (ks : List SolidAtom) → together (map atom_process (map (renamed_atom f) ks)) ≡ renamed f (together (map atom_process ks))
-atoms_renamed f [] = refl
-atoms_renamed f (a ∷ ks) = ap (pair (atom a.label (map f a.links))) (atoms_renamed f ks)
-
-rules_renamed : (f : ℕ → ℕ) (rs : List Rule) → together (map rule rs) ≡ renamed f (together (map rule rs))
-rules_renamed f [] = refl
-rules_renamed f (r ∷ rs) = ap (pair (rule r)) (rules_renamed f rs)
-
-mutual
-  pub region_renamed : (f : ℕ → ℕ) (S : Region) → region_process (renamed_region f S) ≡ renamed f (region_process S)
-  region_renamed f (region atoms membranes rules) = cc (atoms_renamed f atoms, regions_renamed f membranes, rules_renamed f rules)
-
-  regions_renamed : (f : ℕ → ℕ) (rs : Regions) → together (regions_processes (renamed_regions f rs)) ≡ renamed f (together (regions_processes rs))
-  regions_renamed f no_region = refl
-  regions_renamed f (region_and r rs) = cc (region_renamed f r, regions_renamed f rs)
 
 -- a plain's top has one solid, up to the numbers of links
 pub solid_is_one : SolidIsOne

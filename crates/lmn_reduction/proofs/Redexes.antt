@@ -1,7 +1,7 @@
 -- A step shows a rule beside an instance of its head, in a congruent process.
 use Rattle.std.proofs.Common.{ℕ, ◌≡◌, ◌≢◌, ◌+◌, ◌≤◌, ◌<◌, ◌⊎◌, List, [], ◌∷◌, map, refl, sym, ◌∙◌, ap, subst, inl, inr, arith, ℤ}
 use Rattle.lmn_congruence.specs.Orders.{OneByOne, no_pairs, pair_and}
-use Rattle.lmn_congruence.specs.Process.{Process, nothing, connector, atom, pair, membrane, rule, occurrences, Linked, renamed, together}
+use Rattle.lmn_congruence.specs.Process.{Process, nothing, connector, atom, pair, membrane, rule, occurrences, Linked, renamed, together, IsCopy}
 use Rattle.lmn_congruence.specs.Congruence.{Congruent, regroup, beside, inside, back, chain}
 use Rattle.lmn_congruence.specs.Rules.{Name, Context, open_context, closed_context, Leaf, atom_leaf, Level, level, Levels, Rule, head_of, Rules, rules_list, Condition, Expression}
 use Rattle.lmn_reduction.specs.Firing.{typed_contexts, Matches, fires}
@@ -12,7 +12,7 @@ use Rattle.lmn_reduction.specs.Parts.{Rooted}
 use Rattle.lmn_reduction.specs.Guards.{GuardHolds, no_condition, condition_and, Holds, of_kind, in_order, binds, alike, unlike}
 use Rattle.lmn_guards.specs.Values.{of_number, of_context, of_operation}
 use Rattle.lmn_reduction.specs.Values.{Value}
-use Rattle.lmn_reduction.specs.Instances.{IsCopy, LeafInstance, of_atom, of_connector, of_typed, ContextInstance, of_open, of_closed, Instance, instance, MembraneInstances, no_membrane, membrane_and, rules_of_contexts}
+use Rattle.lmn_reduction.specs.Instances.{LeafInstance, of_atom, of_connector, of_typed, ContextInstance, of_open, of_closed, Instance, instance, MembraneInstances, no_membrane, membrane_and, rules_of_contexts}
 use Rattle.lmn_reduction.proofs.Copies.{IsRootedCopy, rooted, typed_by}
 use Rattle.lmn_reduction.specs.Steps.{leaf, beside as derived_beside, inside as derived_inside, up_to, Step}
 use Rattle.lmn_congruence.proofs.Counts.{same_free, linked_both, map_after}

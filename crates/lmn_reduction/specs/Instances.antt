@@ -1,16 +1,9 @@
 -- The process that a level stands for.
 use Rattle.std.specs.Prelude.{ℕ, ◌≡◌, List, [], ◌∷◌, map}
 use Rattle.lmn_congruence.specs.Orders.{OneByOne}
-use Rattle.lmn_congruence.specs.Process.{Process, connector, atom, pair, membrane, rule, renamed, OneToOneOn, together}
+use Rattle.lmn_congruence.specs.Process.{Process, connector, atom, pair, membrane, rule, IsCopy, together}
 use Rattle.lmn_congruence.specs.Rules.{Name, Context, open_context, closed_context, Label, Leaf, atom_leaf, connector_leaf, typed_leaf, Level, level, Levels, no_level, level_and, Rules, rules_list}
 use Rattle.lmn_reduction.specs.Assignments.{Assignment}
-
--- P is a copy of Q: its links renamed, different ones to different ones. Nothing more is asked of its links: in a linked
--- process those that occur twice in it are no links of anything beside it.
-pub record IsCopy (Q P : Process) : Type 0 where
-  pub to : ℕ → ℕ
-  pub one_to_one : OneToOneOn to Q
-  pub is : P ≡ renamed to Q
 
 -- What stands for a leaf. A typed context stands for a copy of its process, with the root at its link. A copy belongs to the
 -- place where it is written: two places have two copies.

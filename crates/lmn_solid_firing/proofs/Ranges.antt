@@ -35,7 +35,7 @@ use Rattle.lmn_congruence.proofs.TranslatedLinks.{no_link_in_rules as no_link_ru
 use Rattle.lmn_congruence_splice.proofs.Fusions.{apart_rule as even_not_odd, rule_once as even_differs, solid_once as odd_differs}
 use Rattle.lmn_congruence.proofs.Common.{among_left, among_right, places_among}
 use Rattle.lmn_reduction.specs.Parts.{Rooted}
-use Rattle.lmn_reduction.proofs.OneSolid.{region_renamed}
+use Rattle.lmn_congruence.proofs.RenamedRegions.{region_renamed}
 
 -- Copied from next L n m of `Copied`: a link has n places in open contexts, and beside them none or two, in a copy, and then its number is from `from` on and below `next`.
 module _ (c : Contents) where

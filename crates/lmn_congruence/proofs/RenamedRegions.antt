@@ -1,12 +1,30 @@
--- A process is that of one region at most, and the copies of it that are processes of regions are those of the region with
--- other links.
-use Rattle.std.proofs.Common.{◌≡◌, ℕ, List, [], ◌∷◌, map, refl, sym, ◌∙◌}
-use Rattle.lmn_congruence.specs.Process.{Process, nothing, atom, pair, membrane, rule, together}
+-- The processes of regions with other links, and that a process is that of one region at most.
+use Rattle.std.proofs.Common.{◌≡◌, ℕ, List, [], ◌∷◌, map, refl, sym, ap, ◌∙◌}
+use Rattle.lmn_congruence.specs.Process.{Process, nothing, atom, pair, membrane, rule, renamed, IsCopy, together}
 use Rattle.lmn_congruence.specs.Regions.{SolidAtom, Region, region, Regions, no_region, region_and, atom_process, region_process, regions_processes}
 use Rattle.lmn_congruence.specs.Rules.{Label, Rule}
-use Rattle.lmn_congruence.specs.Same.{IsRenamed, renamed_region}
-use Rattle.lmn_reduction.specs.Instances.{IsCopy}
-use Rattle.lmn_reduction.proofs.OneSolid.{region_renamed}
+use Rattle.lmn_congruence.specs.Same.{IsRenamed, renamed_atom, renamed_region, renamed_regions}
+
+-- ---- the process of a renamed region
+
+atoms_renamed : (f : ℕ → ℕ) (ks : List SolidAtom) → together (map atom_process (map (renamed_atom f) ks)) ≡ renamed f (together (map atom_process ks))
+atoms_renamed f [] = refl
+atoms_renamed f (a ∷ ks) = ap (pair (atom a.label (map f a.links))) (atoms_renamed f ks)
+
+rules_renamed : (f : ℕ → ℕ) (rs : List Rule) → together (map rule rs) ≡ renamed f (together (map rule rs))
+rules_renamed f [] = refl
+rules_renamed f (r ∷ rs) = ap (pair (rule r)) (rules_renamed f rs)
+
+-- the process of a region with other links
+mutual
+  pub region_renamed : (f : ℕ → ℕ) (S : Region) → region_process (renamed_region f S) ≡ renamed f (region_process S)
+  region_renamed f (region atoms membranes rules) = cc (atoms_renamed f atoms, regions_renamed f membranes, rules_renamed f rules)
+
+  regions_renamed : (f : ℕ → ℕ) (rs : Regions) → together (regions_processes (renamed_regions f rs)) ≡ renamed f (together (regions_processes rs))
+  regions_renamed f no_region = refl
+  regions_renamed f (region_and r rs) = cc (region_renamed f r, regions_renamed f rs)
+
+-- ---- one region
 
 first_of : (P Q R S : Process) → pair P Q ≡ pair R S → P ≡ R
 first_of P Q R S e = cc
