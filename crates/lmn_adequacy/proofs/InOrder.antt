@@ -256,8 +256,8 @@ abbrev mutual
 
   pub membrane_images_of : {c : Contents} {ls : Levels} {ns : List ℕ} {ms rest : Regions} → MembranesLie c ls ns ms rest → MembraneImages (assignment_of c) ls ns ms rest
   membrane_images_of no_membrane_lies = no_membrane_image
-  membrane_images_of {c} (membrane_lies {contexts = ps} {rule_contexts = qs} {rest = rest} k i a u q) =
-      membrane_image_and k (level_images_of i) a (left_filling c ps qs rest u) (membrane_images_of q)
+  membrane_images_of {c} (membrane_lies {contexts = ps} {rule_contexts = qs} {rest_membranes = rest_membranes} {rest_atoms = rest_atoms} {rest_rules = rest_rules} k i a u q) =
+      membrane_image_and k (level_images_of i) a (left_filling c ps qs (region rest_atoms rest_membranes rest_rules) u) (membrane_images_of q)
 
 mutual
   pub each_left_of : {c : Contents} {l : Level} {ns : List ℕ} {m rest : Region} (i : LevelLies c l ns m rest) → EachLeft c (level_images_of i)

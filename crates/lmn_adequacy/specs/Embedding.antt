@@ -97,11 +97,6 @@ pub data LeftToRuleContext (c : Contents) : List Name → List Rule → Type 0 w
   no_rule_context : LeftToRuleContext c [] []
   one_rule_context : {p : Name} → LeftToRuleContext c (p ∷ []) (c.rules_of p)
 
--- what an image has left is what its contexts stand for
-abbrev pub LeftTo : Contents → List Context → List Name → Region → Type 0
-LeftTo c contexts rule_contexts (region xs ms rs) =
-    LeftToContext c contexts xs ms × LeftToRuleContext c rule_contexts rs
-
 -- A level lies in a region: `rest` is what its images and the typed parts leave of it. What is left of the image of a
 -- head membrane is what its contexts stand for; no rule is written in one. The numbers are in the order of head items:
 -- leaves, then each membrane followed by its own items.
@@ -117,10 +112,10 @@ mutual
   pub data MembranesLie (c : Contents) : Levels → List ℕ → Regions → Regions → Type 0 where
     no_membrane_lies : {ms : Regions} → MembranesLie c no_level [] ms ms
     membrane_lies : {leaves : List Leaf} {membranes ls : Levels} {contexts : List Context} {rule_contexts : List Name}
-        {n : ℕ} {ns ns' : List ℕ} {m rest : Region} {ms ms' ms'' : Regions} →
-        TakenRegion n m ms ms' → LevelLies c (level leaves membranes contexts rule_contexts no_rule) ns m rest →
+        {n : ℕ} {ns ns' : List ℕ} {m : Region} {ms ms' ms'' rest_membranes : Regions} {rest_atoms : List SolidAtom} {rest_rules : List Rule} →
+        TakenRegion n m ms ms' → LevelLies c (level leaves membranes contexts rule_contexts no_rule) ns m (region rest_atoms rest_membranes rest_rules) →
         KeepsLinks (assignment_of c) (level leaves membranes contexts rule_contexts no_rule) m →
-        LeftTo c contexts rule_contexts rest → MembranesLie c ls ns' ms' ms'' →
+        LeftToContext c contexts rest_atoms rest_membranes × LeftToRuleContext c rule_contexts rest_rules → MembranesLie c ls ns' ms' ms'' →
         MembranesLie c (level_and (level leaves membranes contexts rule_contexts no_rule) ls) (n ∷ (ns ++ ns')) ms ms''
 
 -- A rule of a region embeds in it at the positions f: its head lies there, and its guard holds. No link leaves what a
@@ -160,3 +155,8 @@ abbrev mutual
   pub AllRulesIn : (Rule → Type 0) → Regions → Type 0
   AllRulesIn H no_region = Unit {0}
   AllRulesIn H (region_and m ms) = AllRules H m × AllRulesIn H ms
+
+-- what an image has left is what its contexts stand for, as lemmas tell it
+abbrev pub LeftTo : Contents → List Context → List Name → Region → Type 0
+LeftTo c contexts rule_contexts (region xs ms rs) =
+    LeftToContext c contexts xs ms × LeftToRuleContext c rule_contexts rs

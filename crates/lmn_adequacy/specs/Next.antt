@@ -27,11 +27,6 @@ abbrev mutual
 
 -- ---- what the body makes
 
--- the links at atoms, in order
-abbrev pub links_at : List SolidAtom → List ℕ
-links_at [] = []
-links_at (a ∷ xs) = a.links ++ links_at xs
-
 -- The atoms that are reached over the links of the first list, one link after another, depth first. In the second list
 -- stand the links at the ports of all atoms that have been listed. A link that stands there twice leads to such an
 -- atom. One that stands there once leads to a new one: this is listed, then what its own links reach, by rising index.
@@ -41,7 +36,7 @@ pub data ReachesAtoms : List ℕ → List ℕ → List SolidAtom → Type 0 wher
       places y seen ≡ 2 → ReachesAtoms ys seen bs → ReachesAtoms (y ∷ ys) seen bs
   reaches_new : {y : ℕ} {ys seen : List ℕ} {b : SolidAtom} {bs cs : List SolidAtom} →
       places y seen ≡ 1 → Among y b.links → ReachesAtoms b.links (seen ++ b.links) bs →
-      ReachesAtoms ys (seen ++ (b.links ++ links_at bs)) cs → ReachesAtoms (y ∷ ys) seen (b ∷ (bs ++ cs))
+      ReachesAtoms ys (seen ++ (b.links ++ flat_map (λ (a : SolidAtom). a.links) bs)) cs → ReachesAtoms (y ∷ ys) seen (b ∷ (bs ++ cs))
 
 -- The leaves of a body. Each typed context is a copy, whose atoms are listed depth first from the link that holds it.
 pub data MadeLeaves (c : Contents) : List Leaf → List Leaf → Type 0 where
@@ -134,6 +129,10 @@ pub record Next (S S' : Region) : Type 0 where
   pub next : NextAt path number positions S S'
 
 -- ---- words for lemmas
+
+-- the links at atoms, in order
+abbrev pub links_at : List SolidAtom → List ℕ
+links_at xs = flat_map (λ (a : SolidAtom). a.links) xs
 
 -- the atoms are listed depth first from the link x, which holds them
 abbrev pub DepthFirst : ℕ → List SolidAtom → Type 0

@@ -12,7 +12,7 @@ use Rattle.lmn_print_folded_laws.specs.ReadBack.{IsFoldedLineOf}
 use Rattle.lmn_reduction.specs.Commits.{Commit, Irreducible}
 use Rattle.lmn_app_runs.specs.declared.stop.Stop.{Stop}
 use Rattle.lmn_app_runs.specs.declared.stop.Stop.TheVariants as stop
-use Rattle.lmn_adequacy.specs.Runs.{Chooser, End, irreducible, budget_done, full, Ends}
+use Rattle.lmn_adequacy.specs.Runs.{End, irreducible, budget_done, full, Ends}
 
 -- ---- why a run stops
 
@@ -84,7 +84,7 @@ pub record Given : Type 0 where
   pub folded : Bool
   pub budget : ℕ
   pub size : ℕ
-  pub chooser : Chooser
+  pub chooser : ℕ → ℕ → ℕ
 
 -- how it stops after its last solid, n commits done: at its end, or memory was wanting where it goes on
 abbrev pub StopsSo : Given → ℕ → Region → Stop → Type 0
