@@ -51,15 +51,11 @@ abbrev mutual
   expanded_links_in no_level = []
   expanded_links_in (level_and l ls) = expanded_links l ++ expanded_links_in ls
 
--- a level with other links
+-- a leaf and a level with other links
 
-abbrev pub renamed_use : (Link → Link) → Use → Use
-renamed_use f u = record { link = f u.link; pos = u.pos }
-
--- a leaf with other links
 abbrev pub renamed_leaf : (Link → Link) → ExpandedLeaf → ExpandedLeaf
-renamed_leaf f (atom_leaf l us pos) = atom_leaf l (map (renamed_use f) us) pos
-renamed_leaf f (typed_leaf n u pos) = typed_leaf n (renamed_use f u) pos
+renamed_leaf f (atom_leaf l us pos) = atom_leaf l (map (λ (u : Use). record { link = f u.link; pos = u.pos }) us) pos
+renamed_leaf f (typed_leaf n u pos) = typed_leaf n (record { link = f u.link; pos = u.pos }) pos
 
 abbrev mutual
   pub renamed_level : (Link → Link) → ExpandedLevel → ExpandedLevel
@@ -73,6 +69,10 @@ abbrev mutual
 -- parts of these, as laws and contracts of private functions tell them: the links of some uses, and of leaves
 abbrev pub use_links : List Use → List Link
 use_links us = map (λ u. u.link) us
+
+-- an occurrence with another link
+abbrev pub renamed_use : (Link → Link) → Use → Use
+renamed_use f u = record { link = f u.link; pos = u.pos }
 
 abbrev pub expanded_leaves_links : List ExpandedLeaf → List Link
 expanded_leaves_links = flat_map expanded_leaf_links

@@ -17,9 +17,6 @@ module _ (words : List Word) (places : List Pos) where
   abbrev pub link_used : Link → Pos → Use
   link_used a pos = record { link = a; pos = pos }
 
-  abbrev pub an_atom : Label → List Use → Pos → NumberedParts
-  an_atom l us pos = one_leaf (atom_leaf l us pos)
-
   abbrev pub a_context : ℕ → Bool → Context
   a_context p closed = record { name = name_at words places p; closed = closed; pos = place_at words places p }
 
@@ -52,13 +49,13 @@ module _ (words : List Word) (places : List Pos) where
     pub expanded_term : Pos → List ℕ → Link → Term → NumberedParts
     expanded_term pos way x (link p) = nothing
     expanded_term pos way x (atom n ts) =
-        an_atom (label_at words places n) (expanded_arguments (place_at words places n) way ts ++ link_used x pos ∷ []) (place_at words places n)
+        one_leaf (atom_leaf (label_at words places n) (expanded_arguments (place_at words places n) way ts ++ link_used x pos ∷ []) (place_at words places n))
         ⊕ expanded_terms (place_at words places n) way ts
     expanded_term pos way x (context p) = one_leaf (typed_leaf (name_at words places p) (link_used x pos) (place_at words places p))
-    expanded_term pos way x (membrane cs) = one_membrane (an_atom (named (codes "+")) (link_used x pos ∷ []) pos ⊕ expanded_clauses way cs)
+    expanded_term pos way x (membrane cs) = one_membrane (one_leaf (atom_leaf (named (codes "+")) (link_used x pos ∷ []) pos) ⊕ expanded_clauses way cs)
     expanded_term pos way x (list ts) =
         cells pos (0 ∷ way) (link_used (made (1 ∷ way)) pos) x ts
-        ⊕ an_atom (named (codes "[]")) (link_used (last_link (1 ∷ way) x ts) pos ∷ []) pos
+        ⊕ one_leaf (atom_leaf (named (codes "[]")) (link_used (last_link (1 ∷ way) x ts) pos ∷ []) pos)
     expanded_term pos way x (list_onto ts t) =
         cells pos (0 ∷ way) (argument pos (1 ∷ way) t) x ts ⊕ expanded_term pos (1 ∷ way) (made (1 ∷ way)) t
 
@@ -66,7 +63,7 @@ module _ (words : List Word) (places : List Pos) where
     pub cells : Pos → List ℕ → Use → Link → Terms → NumberedParts
     cells pos way end x no_term = nothing
     cells pos way end x (term_and t ts) =
-        an_atom (named (codes ".")) (argument pos (0 ∷ way) t ∷ rest pos (1 ∷ way) end ts ∷ link_used x pos ∷ []) pos
+        one_leaf (atom_leaf (named (codes ".")) (argument pos (0 ∷ way) t ∷ rest pos (1 ∷ way) end ts ∷ link_used x pos ∷ []) pos)
         ⊕ expanded_term pos (0 ∷ way) (made (0 ∷ way)) t
         ⊕ cells pos (1 ∷ way) end (made (1 ∷ way)) ts
 
@@ -77,18 +74,18 @@ module _ (words : List Word) (places : List Pos) where
 
     pub expanded_item : List ℕ → Item → NumberedParts
     expanded_item way (atom_item n ts) =
-        an_atom (label_at words places n) (expanded_arguments (place_at words places n) way ts) (place_at words places n)
+        one_leaf (atom_leaf (label_at words places n) (expanded_arguments (place_at words places n) way ts) (place_at words places n))
         ⊕ expanded_terms (place_at words places n) way ts
     expanded_item way (membrane_item cs) = one_membrane (expanded_clauses way cs)
     expanded_item way (context_item p) = one_context (a_context p false)
     expanded_item way (closed_item p) = one_context (a_context p true)
     expanded_item way (bracketed p q) = one_leaf (typed_leaf (name_at words places p) (written_link q) (place_at words places p))
     expanded_item way (rule_context p) = one_rule_context (a_context p false)
-    expanded_item way (plus_link p) = an_atom (named (codes "+")) (written_link (p + 1) ∷ []) (place_at words places p)
+    expanded_item way (plus_link p) = one_leaf (atom_leaf (named (codes "+")) (written_link (p + 1) ∷ []) (place_at words places p))
     expanded_item way (group c) = expanded_clause way c
     expanded_item way (equation l s r) =
-        an_atom (named (codes "=")) (argument (place_at words places s) (0 ∷ way) l ∷ argument (place_at words places s) (1 ∷ way) r ∷ [])
-        (place_at words places s)
+        one_leaf (atom_leaf (named (codes "=")) (argument (place_at words places s) (0 ∷ way) l ∷ argument (place_at words places s) (1 ∷ way) r ∷ [])
+        (place_at words places s))
         ⊕ expanded_term (place_at words places s) (0 ∷ way) (made (0 ∷ way)) l ⊕ expanded_term (place_at words places s) (1 ∷ way) (made (1 ∷ way)) r
 
     pub expanded_items : List ℕ → Items → NumberedParts
@@ -107,3 +104,7 @@ module _ (words : List Word) (places : List Pos) where
   -- what a tree gives to the top
   abbrev pub parts_of : Clauses → Parts
   parts_of tree = expanded_clauses [] tree 0
+
+  -- an atom, as lemmas tell it
+  abbrev pub an_atom : Label → List Use → Pos → NumberedParts
+  an_atom l us pos = one_leaf (atom_leaf l us pos)

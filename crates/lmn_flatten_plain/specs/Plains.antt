@@ -37,16 +37,13 @@ number_of (n ∷ ns) name = if bytes_eq n name then 0 else suc (number_of ns nam
 
 -- Levels with numbers for names and links.
 module _ (names : List tree.Name) (number : Link → ℕ) where
-  abbrev pub numbered_use : Use → Occ
-  numbered_use u = record { link = number u.link; pos = u.pos }
-
   abbrev pub numbered_label : tree.Label → Label
   numbered_label (tree.named n) = Name (number_of names n)
   numbered_label (tree.integer z) = Int z
 
   abbrev pub numbered_leaf : ExpandedLeaf → base.Leaf
-  numbered_leaf (atom_leaf l us pos) = Atom (record { label = numbered_label l; arity = length us }) (map numbered_use us) pos
-  numbered_leaf (typed_leaf n u pos) = Typed (number_of names n) (numbered_use u) pos
+  numbered_leaf (atom_leaf l us pos) = Atom (record { label = numbered_label l; arity = length us }) (map (λ (u : Use). record { link = number u.link; pos = u.pos }) us) pos
+  numbered_leaf (typed_leaf n u pos) = Typed (number_of names n) (record { link = number u.link; pos = u.pos }) pos
 
   abbrev pub numbered_context : Context → CtxUse
   numbered_context c = record { name = number_of names c.name; closed = c.closed; pos = c.pos }
@@ -64,6 +61,10 @@ module _ (names : List tree.Name) (number : Link → ℕ) where
     pub all_numbered : ExpandedLevels → List base_level.Level
     all_numbered no_level = []
     all_numbered (level_and l ls) = numbered l ∷ all_numbered ls
+
+  -- an occurrence of a link, as lemmas tell it
+  abbrev pub numbered_use : Use → Occ
+  numbered_use u = record { link = number u.link; pos = u.pos }
 
 -- different links of the list have different numbers
 abbrev pub OneToOne : (Link → ℕ) → List Link → Type 0

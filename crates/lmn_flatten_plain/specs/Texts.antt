@@ -26,16 +26,12 @@ use Rattle.lmn_flatten_plain.specs.SolidLines.{level_of_solid, solid_line}
 use Rattle.lmn_flatten_plain.specs.Spelled.{LevelSpelled}
 use Rattle.lmn_flatten_plain.specs.Words.{line_of}
 
--- each integer has 64 bits
-abbrev pub IntegersInRange : List Word → Type 0
-IntegersInRange words = AllByRecursion (λ w. w.kind ≡ Int → SpelledInRange w.bytes) words
-
--- The text reads as a tree whose integers are in range, and the plain is that of the tree, with the numbers of a list of names.
+-- The text reads as a tree whose integers have 64 bits, and the plain is that of the tree, with the numbers of a list of names.
 pub record IsPlainOfText (text : List ℕ) (names : List Name) (p : Plain) : Type 0 where
   pub tokens : List Token
   pub tree : Clauses
   pub reads : Reads text tokens tree
-  pub in_range : IntegersInRange (words_of text tokens)
+  pub in_range : AllByRecursion (λ (w : Word). w.kind ≡ Int → SpelledInRange w.bytes) (words_of text tokens)
   pub plain : IsPlain text tokens tree names p
 
 -- a text has one plain at most
@@ -55,3 +51,7 @@ SolidLinesReadBack = (alloc : Global) (names : List Name) (given : Plain) (s : S
     IsWellMade given → IsSolid s → HasEachRule table s → NamesSolid names table s → LevelSpelled (level_of_solid names table s)
     → (p : Plain) × IsPlainOfText (solid_line names table s) names p
     × (top_of names p ≡ level_of_solid names table s) × SolidOf (top_of names p) (region_of names table s)
+
+-- each integer has 64 bits, as laws and lemmas tell it
+abbrev pub IntegersInRange : List Word → Type 0
+IntegersInRange words = AllByRecursion (λ w. w.kind ≡ Int → SpelledInRange w.bytes) words
