@@ -58,14 +58,15 @@ abbrev mutual
   renamed_terms f no_term = no_term
   renamed_terms f (term_and t ts) = term_and (renamed_term f t) (renamed_terms f ts)
 
--- an item with other links
-abbrev pub renamed_item : (ℕ → ℕ) → FoldedItem → FoldedItem
-renamed_item f i = record { label = i.label; arguments = renamed_terms f i.arguments }
-
 abbrev mutual
   pub renamed_folded : (ℕ → ℕ) → Folded → Folded
-  renamed_folded f (folded items membranes rules) = folded (map (renamed_item f) items) (renamed_membranes f membranes) rules
+  renamed_folded f (folded items membranes rules) =
+      folded (map (λ (i : FoldedItem). record { label = i.label; arguments = renamed_terms f i.arguments }) items) (renamed_membranes f membranes) rules
 
   pub renamed_membranes : (ℕ → ℕ) → FoldedMembranes → FoldedMembranes
   renamed_membranes f no_membrane = no_membrane
   renamed_membranes f (membrane_and m ms) = membrane_and (renamed_folded f m) (renamed_membranes f ms)
+
+-- an item with other links, as lemmas tell it
+abbrev pub renamed_item : (ℕ → ℕ) → FoldedItem → FoldedItem
+renamed_item f i = record { label = i.label; arguments = renamed_terms f i.arguments }
