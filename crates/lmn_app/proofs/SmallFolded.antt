@@ -8,6 +8,7 @@ use Rattle.lmn_adequacy.proofs.ExampleChanges.{short_trace_ends}
 use Rattle.lmn_base.specs.Links.{no_more}
 use Rattle.lmn_print_folded.specs.Lines.{IsFoldedLine}
 use Rattle.lmn_print_folded.proofs.Computed.{computed}
+use Rattle.lmn_print_folded.proofs.FoldedLines.{folded_line}
 use Rattle.lmn_reduction.specs.Examples.{label_a, label_b}
 use Rattle.lmn_app_runs.specs.Runs.{Given, PrintedLines, StopsSo, at_end}
 use Rattle.lmn_app_single.specs.Runs.{IsTraceOf}
@@ -18,26 +19,12 @@ use Rattle.lmn_app.proofs.SmallTexts.{small_text_is_accepted}
 
 -- the folded lines of its two solids
 first_folded : IsFoldedLine (changing (label_a ∷ [])) (codes "a. (a :- b).\n")
-first_folded = record {
-  given = _;
-  folds = computed (changing (label_a ∷ [])) _ (λ x. omega arith) refl;
-  to = λ x. x;
-  one_to_one = λ x y a b e. e;
-  count = 0;
-  by_first_occurrence = no_more;
-  is = refl;
-}
+first_folded =
+    folded_line (computed (changing (label_a ∷ [])) _ (λ x. omega arith) refl) (record { to = λ x. x; one_to_one = λ x y a b e. e; is = refl; count = 0; by_first_occurrence = no_more }) refl
 
 last_folded : IsFoldedLine (changing (label_b ∷ [])) (codes "b. (a :- b).\n")
-last_folded = record {
-  given = _;
-  folds = computed (changing (label_b ∷ [])) _ (λ x. omega arith) refl;
-  to = λ x. x;
-  one_to_one = λ x y a b e. e;
-  count = 0;
-  by_first_occurrence = no_more;
-  is = refl;
-}
+last_folded =
+    folded_line (computed (changing (label_b ∷ [])) _ (λ x. omega arith) refl) (record { to = λ x. x; one_to_one = λ x y a b e. e; is = refl; count = 0; by_first_occurrence = no_more }) refl
 
 -- what such a run is given
 abbrev folding : Bool → ℕ → Given

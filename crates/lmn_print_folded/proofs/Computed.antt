@@ -60,23 +60,23 @@ module _ (atoms : List SolidAtom) (items : List ℕ) where
   arguments zero p xs = None
   arguments (suc n) p xs = ports (arguments n) p 0 xs
 
-  module _ (few : AtMostTwice atoms) (inside : ℕ → List ℕ → Option FoldedTerms) (right : (q : ℕ) (xs : List ℕ) (ts : FoldedTerms) → inside q xs ≡ Some ts → ShowsAll atoms items q 0 xs ts) where
+  module _ (few : AtMostTwice atoms) (inside : ℕ → List ℕ → Option FoldedTerms) (right : (q : ℕ) (xs : List ℕ) (ts : FoldedTerms) → inside q xs ≡ Some ts → ShowsAll (λ x. x) atoms items q 0 xs ts) where
     labelled_some : (o : Option FoldedTerms) (l : Label) (t : FoldedTerm) → labelled_by o l ≡ Some t → (ts : FoldedTerms) × (o ≡ Some ts) × (labelled l ts ≡ t)
     labelled_some None l t e = absurd (cc)
     labelled_some (Some ts) l t e = (ts, refl, same_Some _ _ e)
 
-    shown_at : (p k x : ℕ) (o : Option ℕ) (t : FoldedTerm) → child_of atoms p k ≡ o → term_at inside o x ≡ Some t → Shows atoms items p k x t
+    shown_at : (p k x : ℕ) (o : Option ℕ) (t : FoldedTerm) → child_of atoms p k ≡ o → term_at inside o x ≡ Some t → Shows (λ x. x) atoms items p k x t
     shown_at p k x None t e f =
-        let P : FoldedTerm → Type 0 = λ t. Shows atoms items p k x t in
+        let P : FoldedTerm → Type 0 = λ t. Shows (λ x. x) atoms items p k x t in
         subst P (same_Some _ _ f) (as_link (λ q c. absurd (child_none atoms p k e q c)))
     shown_at p k x (Some q) t e f = go (one_of q items) refl f
       where
         c : IsChild atoms q p k
         c = child_some atoms p k q e
 
-        go : (b : Bool) → one_of q items ≡ b → (if b then Some (link x) else bind (slice_get atoms q) (λ a. labelled_by (inside q (all_but_last a.links)) a.label)) ≡ Some t → Shows atoms items p k x t
+        go : (b : Bool) → one_of q items ≡ b → (if b then Some (link x) else bind (slice_get atoms q) (λ a. labelled_by (inside q (all_but_last a.links)) a.label)) ≡ Some t → Shows (λ x. x) atoms items p k x t
         go true g f =
-            let P : FoldedTerm → Type 0 = λ t. Shows atoms items p k x t in
+            let P : FoldedTerm → Type 0 = λ t. Shows (λ x. x) atoms items p k x t in
             let Q : ℕ → Type 0 = λ z. Among z items in
             subst P (same_Some _ _ f) (as_link (λ r d. subst Q (one_child atoms q r p k few c d) (one_true q items g)))
         go false g f =
@@ -85,7 +85,7 @@ module _ (atoms : List SolidAtom) (items : List ℕ) where
             let same = same_Some c.child a (sym c.child_at ∙ h.1) in
             let l = labelled_some (inside q (all_but_last a.links)) a.label t h.2 in
             let links : all_but_last a.links ≡ c.first_links = ap (λ (b : SolidAtom). all_but_last b.links) (sym same) ∙ ap all_but_last c.links ∙ but_last c.first_links c.last_link in
-            let P : FoldedTerm → Type 0 = λ t. Shows atoms items p k x t in
+            let P : FoldedTerm → Type 0 = λ t. Shows (λ x. x) atoms items p k x t in
             subst P (ap (λ (b : SolidAtom). labelled b.label l.0) same ∙ l.2)
             (as_term c (true_one q items g) (right q c.first_links l.0 (ap (inside q) (sym links) ∙ l.1)))
 
@@ -94,14 +94,14 @@ module _ (atoms : List SolidAtom) (items : List ℕ) where
     and_some (Some t) None ts e = absurd (cc)
     and_some (Some t) (Some us) ts e = (t, us, refl, refl, same_Some _ _ e)
 
-    ports_right : (p k : ℕ) (xs : List ℕ) (ts : FoldedTerms) → ports inside p k xs ≡ Some ts → ShowsAll atoms items p k xs ts
-    ports_right p k [] ts e = let P : FoldedTerms → Type 0 = λ ts. ShowsAll atoms items p k [] ts in subst P (same_Some _ _ e) folding.none
+    ports_right : (p k : ℕ) (xs : List ℕ) (ts : FoldedTerms) → ports inside p k xs ≡ Some ts → ShowsAll (λ x. x) atoms items p k xs ts
+    ports_right p k [] ts e = let P : FoldedTerms → Type 0 = λ ts. ShowsAll (λ x. x) atoms items p k [] ts in subst P (same_Some _ _ e) folding.none
     ports_right p k (x ∷ xs) ts e =
         let h = and_some (term_at inside (child_of atoms p k) x) (ports inside p (suc k) xs) ts e in
-        let P : FoldedTerms → Type 0 = λ ts. ShowsAll atoms items p k (x ∷ xs) ts in
+        let P : FoldedTerms → Type 0 = λ ts. ShowsAll (λ x. x) atoms items p k (x ∷ xs) ts in
         subst P h.4 (folding.more (shown_at p k x (child_of atoms p k) h.0 refl h.2) (ports_right p (suc k) xs h.1 h.3))
 
-  arguments_right : AtMostTwice atoms → (n : ℕ) (q : ℕ) (xs : List ℕ) (ts : FoldedTerms) → arguments n q xs ≡ Some ts → ShowsAll atoms items q 0 xs ts
+  arguments_right : AtMostTwice atoms → (n : ℕ) (q : ℕ) (xs : List ℕ) (ts : FoldedTerms) → arguments n q xs ≡ Some ts → ShowsAll (λ x. x) atoms items q 0 xs ts
   arguments_right few zero q xs ts e = absurd (cc)
   arguments_right few (suc n) q xs ts e = ports_right few (arguments n) (λ r ys us f. arguments_right few n r ys us f) q 0 xs ts e
 
@@ -130,14 +130,14 @@ module _ (atoms : List SolidAtom) (items : List ℕ) where
   same_list : (i j : FoldedItem) (is js : List FoldedItem) → i ≡ j → j ∷ is ≡ js → i ∷ is ≡ js
   same_list i j is js e f = cc
 
-  items_right : AtMostTwice atoms → (ps : List ℕ) (is : List FoldedItem) → items_of ps ≡ Some is → ShowsItems atoms items ps is
-  items_right few [] is e = let P : List FoldedItem → Type 0 = λ is. ShowsItems atoms items [] is in subst P (same_Some _ _ e) folding.none
+  items_right : AtMostTwice atoms → (ps : List ℕ) (is : List FoldedItem) → items_of ps ≡ Some is → ShowsItems (λ x. x) atoms items ps is
+  items_right few [] is e = let P : List FoldedItem → Type 0 = λ is. ShowsItems (λ x. x) atoms items [] is in subst P (same_Some _ _ e) folding.none
   items_right few (p ∷ ps) is e =
       let f = λ (a : SolidAtom). item_of (arguments (suc (length atoms)) p a.links) a.label in
       let h = and_items_some (bind (slice_get atoms p) f) (items_of ps) is e in
       let a = bind_some (slice_get atoms p) f h.0 h.2 in
       let l = item_some (arguments (suc (length atoms)) p a.0.links) a.0.label h.0 a.2 in
-      let P : List FoldedItem → Type 0 = λ is. ShowsItems atoms items (p ∷ ps) is in
+      let P : List FoldedItem → Type 0 = λ is. ShowsItems (λ x. x) atoms items (p ∷ ps) is in
       subst P (same_list (record { label = a.0.label; arguments = l.0 }) h.0 h.1 is l.2 h.4)
       (folding.more a.0 a.1 (arguments_right few (suc (length atoms)) p a.0.links l.0 l.1) (items_right few ps h.1 h.3))
 
@@ -269,7 +269,7 @@ membrane_some (Some f) None fs e = absurd (cc)
 membrane_some (Some f) (Some gs) fs e = (f, gs, refl, refl, same_Some _ _ e)
 
 mutual
-  pub computed : (S : Region) (f : Folded) → FewIn (region_process S) → folded_of S ≡ Some f → Folds S f
+  pub computed : (S : Region) (f : Folded) → FewIn (region_process S) → folded_of S ≡ Some f → Folds (λ x. x) S f
   computed (region atoms ms rs) f few e =
       let few_here : AtMostTwice atoms = λ x. let n = few x in omega (arith, n) in
       let few_inside : FewIn (together (regions_processes ms)) = λ x. let n = few x in omega (arith, n) in
@@ -281,14 +281,14 @@ mutual
         no_children = firsts_right atoms (atom_positions atoms);
         further = furthers_right atoms few_here (firsts atoms (atom_positions atoms)) (atom_positions atoms) h.0 h.1;
       } in
-      let P : Folded → Type 0 = λ f. Folds (region atoms ms rs) f in
+      let P : Folded → Type 0 = λ f. Folds (λ x. x) (region atoms ms rs) f in
       subst P i.4 (folds h.0 items (items_right atoms h.0 few_here h.0 i.0 i.2) (all_computed ms i.1 few_inside i.3))
 
-  all_computed : (ms : Regions) (fs : FoldedMembranes) → FewIn (together (regions_processes ms)) → all_folded ms ≡ Some fs → FoldsAll ms fs
-  all_computed no_region fs few e = let P : FoldedMembranes → Type 0 = λ fs. FoldsAll no_region fs in subst P (same_Some _ _ e) folding.none
+  all_computed : (ms : Regions) (fs : FoldedMembranes) → FewIn (together (regions_processes ms)) → all_folded ms ≡ Some fs → FoldsAll (λ x. x) ms fs
+  all_computed no_region fs few e = let P : FoldedMembranes → Type 0 = λ fs. FoldsAll (λ x. x) no_region fs in subst P (same_Some _ _ e) folding.none
   all_computed (region_and r rs) fs few e =
       let first : FewIn (region_process r) = λ x. let n = few x in omega (arith, n) in
       let others : FewIn (together (regions_processes rs)) = λ x. let n = few x in omega (arith, n) in
       let h = membrane_some (folded_of r) (all_folded rs) fs e in
-      let P : FoldedMembranes → Type 0 = λ fs. FoldsAll (region_and r rs) fs in
+      let P : FoldedMembranes → Type 0 = λ fs. FoldsAll (λ x. x) (region_and r rs) fs in
       subst P h.4 (folding.more (computed r h.0 first h.2) (all_computed rs h.1 others h.3))

@@ -15,7 +15,7 @@ use Rattle.lmn_print_folded.specs.Words.{line_of_folded}
 use Rattle.lmn_print_folded.specs.Examples as example
 use Rattle.lmn_print_folded.proofs.OneFolded.{FewIn}
 use Rattle.lmn_print_folded.proofs.Computed.{folded_of, computed}
-use Rattle.lmn_print_folded.proofs.FoldedLines.{one_folded_line}
+use Rattle.lmn_print_folded.proofs.FoldedLines.{folded_line, one_folded_line}
 use Rattle.lmn_base.proofs.Lists.{head_is as first_byte}
 use Rattle.lmn_base.proofs.Numbers.{below_next, same_or_not as same_or_apart, below_or_from}
 use Rattle.lmn_base.proofs.Truth.{and_true}
@@ -83,15 +83,9 @@ few_by n P e f x = go (below_or_from x n)
 line_by : (S : Region) (f : Folded) (n count : ℕ) (to : ℕ → ℕ) (line : List ℕ) → links_below n (region_process S) ≡ true → few_below n (region_process S) ≡ true
     → folded_of S ≡ Some f → ((x y : ℕ) → Among x (folded_links f) → Among y (folded_links f) → to x ≡ to y → x ≡ y)
     → NumbersLinks (folded_links (renamed_folded to f)) count → line ≡ line_of_folded (renamed_folded to f) → IsFoldedLine S line
-line_by S f n count to line a b e one numbers is = record {
-  given = f;
-  folds = computed S f (few_by n (region_process S) a b) e;
-  to = to;
-  one_to_one = one;
-  count = count;
-  by_first_occurrence = numbers;
-  is = is;
-}
+line_by S f n count to line a b e one numbers is =
+    folded_line {given = f} (computed S f (few_by n (region_process S) a b) e)
+    (record { to = to; one_to_one = one; is = refl; count = count; by_first_occurrence = numbers }) is
 
 -- the line of two lists
 pub two_lists : example.TwoLists

@@ -5,5 +5,6 @@ pub mod SomeFolded
 pub mod Computing
 pub mod Computed
 pub mod Numbering
+mod NumberedForms
 pub mod FoldedLines
 pub mod ExampleLines

@@ -47,14 +47,14 @@ same_child {atoms} {q} {p} {k} r e c =
     subst P e (λ d. (one_atom c d, (one_ending c d).0))
 
 module _ (atoms : List SolidAtom) (items : List ℕ) (few : AtMostTwice atoms) where
-  moved : {q r : ℕ} {xs ys : List ℕ} {us : FoldedTerms} → q ≡ r → xs ≡ ys → ShowsAll atoms items r 0 ys us → ShowsAll atoms items q 0 xs us
+  moved : {q r : ℕ} {xs ys : List ℕ} {us : FoldedTerms} → q ≡ r → xs ≡ ys → ShowsAll (λ x. x) atoms items r 0 ys us → ShowsAll (λ x. x) atoms items q 0 xs us
   moved {q} {r} {xs} {ys} {us} e f s =
-      let P : ℕ → Type 0 = λ q. ShowsAll atoms items q 0 xs us in
-      let Q : List ℕ → Type 0 = λ xs. ShowsAll atoms items r 0 xs us in
+      let P : ℕ → Type 0 = λ q. ShowsAll (λ x. x) atoms items q 0 xs us in
+      let Q : List ℕ → Type 0 = λ xs. ShowsAll (λ x. x) atoms items r 0 xs us in
       subst P (sym e) (subst Q (sym f) s)
 
   mutual
-    shows_same : {p k x : ℕ} {t u : FoldedTerm} → Shows atoms items p k x t → Shows atoms items p k x u → t ≡ u
+    shows_same : {p k x : ℕ} {t u : FoldedTerm} → Shows (λ x. x) atoms items p k x t → Shows (λ x. x) atoms items p k x u → t ≡ u
     shows_same (as_link h) (as_link g) = refl
     shows_same (as_link h) (as_term {q = q} c n s) = absurd (n (h q c))
     shows_same (as_term {q = q} c n s) (as_link h) = absurd (n (h q c))
@@ -63,7 +63,7 @@ module _ (atoms : List SolidAtom) (items : List ℕ) (few : AtMostTwice atoms) w
         let same = same_child r e c d in
         same_labelled _ _ ts us (ap (λ (a : SolidAtom). a.label) same.0) (shows_all_same s (moved e same.1 s'))
 
-    shows_all_same : {p k : ℕ} {xs : List ℕ} {ts us : FoldedTerms} → ShowsAll atoms items p k xs ts → ShowsAll atoms items p k xs us → ts ≡ us
+    shows_all_same : {p k : ℕ} {xs : List ℕ} {ts us : FoldedTerms} → ShowsAll (λ x. x) atoms items p k xs ts → ShowsAll (λ x. x) atoms items p k xs us → ts ≡ us
     shows_all_same folding.none folding.none = refl
     shows_all_same (folding.more h hs) (folding.more g gs) = same_terms (shows_same h g) (shows_all_same hs gs)
 
@@ -73,11 +73,11 @@ module _ (atoms : List SolidAtom) (items : List ℕ) (few : AtMostTwice atoms) w
   same_item : (a b : SolidAtom) (ts us : FoldedTerms) (is js : List FoldedItem) → a ≡ b → ts ≡ us → is ≡ js → item_of a ts ∷ is ≡ item_of b us ∷ js
   same_item a b ts us is js e f g = cc
 
-  pub shown_same : {ps : List ℕ} {is js : List FoldedItem} → ShowsItems atoms items ps is → ShowsItems atoms items ps js → is ≡ js
+  pub shown_same : {ps : List ℕ} {is js : List FoldedItem} → ShowsItems (λ x. x) atoms items ps is → ShowsItems (λ x. x) atoms items ps js → is ≡ js
   shown_same folding.none folding.none = refl
   shown_same (folding.more {p = p} {ts = ts} {is = is} a at h hs) (folding.more {ts = us} {is = js} b bt g gs) =
       let e = same_Some a b (sym at ∙ bt) in
-      let P : SolidAtom → Type 0 = λ c. ShowsAll atoms items p 0 c.links us in
+      let P : SolidAtom → Type 0 = λ c. ShowsAll (λ x. x) atoms items p 0 c.links us in
       same_item a b ts us is js e (shows_all_same h (subst P (sym e) g)) (shown_same hs gs)
 
 -- Each link stands at most twice in each membrane.
@@ -94,15 +94,15 @@ pub same_membranes : {f g : Folded} {fs gs : FoldedMembranes} → f ≡ g → fs
 same_membranes d e = cc
 
 mutual
-  pub one_folded : {S : Region} {f g : Folded} → FewIn (region_process S) → Folds S f → Folds S g → f ≡ g
+  pub one_folded : {S : Region} {f g : Folded} → FewIn (region_process S) → Folds (λ x. x) S f → Folds (λ x. x) S g → f ≡ g
   one_folded few (folds {atoms = atoms} {membranes = ms} {shown = is} {inside = fs} items h s m) (folds {shown = js} {inside = gs} items' h' s' m') =
       let few_here : AtMostTwice atoms = λ x. let n = few x in omega (arith, n) in
       let few_inside : FewIn (together (regions_processes ms)) = λ x. let n = few x in omega (arith, n) in
       let e = items_same atoms items items' h h' in
-      let P : List ℕ → Type 0 = λ ps. ShowsItems atoms ps ps js in
+      let P : List ℕ → Type 0 = λ ps. ShowsItems (λ x. x) atoms ps ps js in
       same_folded is js fs gs _ (shown_same atoms items few_here s (subst P (sym e) s')) (all_one_folded few_inside m m')
 
-  all_one_folded : {ms : Regions} {fs gs : FoldedMembranes} → FewIn (together (regions_processes ms)) → FoldsAll ms fs → FoldsAll ms gs → fs ≡ gs
+  all_one_folded : {ms : Regions} {fs gs : FoldedMembranes} → FewIn (together (regions_processes ms)) → FoldsAll (λ x. x) ms fs → FoldsAll (λ x. x) ms gs → fs ≡ gs
   all_one_folded few folding.none folding.none = refl
   all_one_folded few (folding.more {r = r} {rs = rs} {f = f} {fs = fs} h hs) (folding.more {f = g} {fs = gs} k ks) =
       let first : FewIn (region_process r) = λ x. let n = few x in omega (arith, n) in

@@ -38,7 +38,7 @@ module _ (atoms : List SolidAtom) (few : AtMostTwice atoms) where
   module _ (items : List ℕ) where
     abbrev Goes : ℕ → Type 0
     Goes n = (unseen above : List ℕ) (p : ℕ) (xs : List ℕ) → length unseen ≡ n → Seen atoms items few unseen (p ∷ above) → Path atoms items p above
-        → (ts : FoldedTerms) × ShowsAll atoms items p 0 xs ts
+        → (ts : FoldedTerms) × ShowsAll (λ x. x) atoms items p 0 xs ts
 
     module _ (n : ℕ) (again : (m : ℕ) → suc m ≡ n → Goes m) (unseen above : List ℕ) (p : ℕ) (size : length unseen ≡ n) (all : Seen atoms items few unseen (p ∷ above)) (path : Path atoms items p above) where
       split : (q : ℕ) (rest : List ℕ) → ((v : ℕ) → v ≢ q → Among v unseen → Among v rest) → (v : ℕ) → Among v (p ∷ above) ⊎ Among v unseen → (v ≡ q) ⊎ (v ≢ q)
@@ -47,10 +47,10 @@ module _ (atoms : List SolidAtom) (few : AtMostTwice atoms) where
       split q rest f v (inl a) (inr d) = inl (further a)
       split q rest f v (inr a) (inr d) = inr (f v d a)
 
-      one_port : (k x : ℕ) → (t : FoldedTerm) × Shows atoms items p k x t
+      one_port : (k x : ℕ) → (t : FoldedTerm) × Shows (λ x. x) atoms items p k x t
       one_port k x = go (child_at atoms p k)
         where
-          as_one : (q : ℕ) (c : IsChild atoms q p k) → ¬ (Among q items) → Among q (p ∷ above) ⊎ Among q unseen → (t : FoldedTerm) × Shows atoms items p k x t
+          as_one : (q : ℕ) (c : IsChild atoms q p k) → ¬ (Among q items) → Among q (p ∷ above) ⊎ Among q unseen → (t : FoldedTerm) × Shows (λ x. x) atoms items p k x t
           as_one q c m (inl a) = absurd (new_one path c m a)
           as_one q c m (inr a) =
               let left = taken_out q unseen a in
@@ -58,15 +58,15 @@ module _ (atoms : List SolidAtom) (few : AtMostTwice atoms) where
               (λ v l. split q left.0 left.2 v (all v l) (same_or_apart v q)) (below path c m (λ b. new_one path c m b)) in
               (labelled c.child.label inside.0, as_term c m inside.1)
 
-          by_item : (q : ℕ) (c : IsChild atoms q p k) → Decided (Among q items) → (t : FoldedTerm) × Shows atoms items p k x t
+          by_item : (q : ℕ) (c : IsChild atoms q p k) → Decided (Among q items) → (t : FoldedTerm) × Shows (λ x. x) atoms items p k x t
           by_item q c (inl a) = let P : ℕ → Type 0 = λ z. Among z items in (link x, as_link (λ r d. subst P (one_child atoms q r p k few c d) a))
           by_item q c (inr m) = as_one q c m (all q (within atoms q c.child c.child_at))
 
-          go : Decided ((q : ℕ) × IsChild atoms q p k) → (t : FoldedTerm) × Shows atoms items p k x t
+          go : Decided ((q : ℕ) × IsChild atoms q p k) → (t : FoldedTerm) × Shows (λ x. x) atoms items p k x t
           go (inl h) = by_item h.0 h.1 (among h.0 items)
           go (inr m) = (link x, as_link (λ q c. absurd (m (q, c))))
 
-      ports : (k : ℕ) (xs : List ℕ) → (ts : FoldedTerms) × ShowsAll atoms items p k xs ts
+      ports : (k : ℕ) (xs : List ℕ) → (ts : FoldedTerms) × ShowsAll (λ x. x) atoms items p k xs ts
       ports k [] = (no_term, folding.none)
       ports k (x ∷ xs) =
           let first = one_port k x in
@@ -78,7 +78,7 @@ module _ (atoms : List SolidAtom) (few : AtMostTwice atoms) where
     goes (suc n) unseen above p xs size all path =
         ports (suc n) (λ m e. let P : ℕ → Type 0 = Goes in subst P (suc_less atoms items few n m (sym e)) (goes n)) unseen above p size all path 0 xs
 
-    item_shown : (p : ℕ) (xs : List ℕ) → Among p items → (ts : FoldedTerms) × ShowsAll atoms items p 0 xs ts
+    item_shown : (p : ℕ) (xs : List ℕ) → Among p items → (ts : FoldedTerms) × ShowsAll (λ x. x) atoms items p 0 xs ts
     item_shown p xs a =
         goes (length (atom_positions atoms)) (atom_positions atoms) [] p xs refl
         (λ v h. inr (positions_all atoms items few 0 (length atoms) v (omega arith) (omega (arith, h)))) (start a)
@@ -86,7 +86,7 @@ module _ (atoms : List SolidAtom) (few : AtMostTwice atoms) where
     abbrev Below : List ℕ → Type 0
     Below qs = (v : ℕ) → Among v qs → v < length atoms
 
-    items_shown : (ps : List ℕ) → ((v : ℕ) → Among v ps → Among v items) → Below ps → (is : List FoldedItem) × ShowsItems atoms items ps is
+    items_shown : (ps : List ℕ) → ((v : ℕ) → Among v ps → Among v items) → Below ps → (is : List FoldedItem) × ShowsItems (λ x. x) atoms items ps is
     items_shown [] f l = ([], folding.none)
     items_shown (p ∷ ps) f l =
         let a = element atoms p (l p at_head) in
@@ -150,7 +150,7 @@ items_below atoms few items h =
     all_below P h.further (kept_below P h.no_children here) here
 
 mutual
-  pub some_folded : (S : Region) → FewIn (region_process S) → (f : Folded) × Folds S f
+  pub some_folded : (S : Region) → FewIn (region_process S) → (f : Folded) × Folds (λ x. x) S f
   some_folded (region atoms ms rs) few =
       let few_here : AtMostTwice atoms = λ x. let n = few x in omega (arith, n) in
       let few_inside : FewIn (together (regions_processes ms)) = λ x. let n = few x in omega (arith, n) in
@@ -159,7 +159,7 @@ mutual
       let inside = all_some_folded ms few_inside in
       (folded shown.0 inside.0 rs, folds {shown = shown.0} items.0 items.1 shown.1 inside.1)
 
-  all_some_folded : (ms : Regions) → FewIn (together (regions_processes ms)) → (fs : FoldedMembranes) × FoldsAll ms fs
+  all_some_folded : (ms : Regions) → FewIn (together (regions_processes ms)) → (fs : FoldedMembranes) × FoldsAll (λ x. x) ms fs
   all_some_folded no_region few = (no_membrane, folding.none)
   all_some_folded (region_and r rs) few =
       let first : FewIn (region_process r) = λ x. let n = few x in omega (arith, n) in

@@ -50,38 +50,38 @@ pub record AreItems (atoms : List SolidAtom) (items : List ℕ) : Type 0 where
   pub no_children : NoChildren atoms (range_with_len 0 (length atoms)) firsts
   pub further : Further atoms firsts (range_with_len 0 (length atoms)) items
 
--- Arguments. A child that isn't an item is printed as a term, at the port at which it is a child.
+-- Arguments. A child that isn't an item is printed as a term, at the port at which it is a child. The link x is printed as `to x`.
 mutual
-  -- Shows atoms items p k x t: the argument at port k of the atom p, x being the link there, is t.
-  pub data Shows (atoms : List SolidAtom) (items : List ℕ) : ℕ → ℕ → ℕ → FoldedTerm → Type 0 where
-    as_link : {p k x : ℕ} → ((q : ℕ) → IsChild atoms q p k → Among q items) → Shows atoms items p k x (link x)
-    as_term : {p k x q : ℕ} {ts : FoldedTerms} (c : IsChild atoms q p k) → ¬ (Among q items) → ShowsAll atoms items q 0 c.first_links ts →
-        Shows atoms items p k x (labelled c.child.label ts)
+  -- Shows to atoms items p k x t: the argument at port k of the atom p, x being the link there, is t.
+  pub data Shows (to : ℕ → ℕ) (atoms : List SolidAtom) (items : List ℕ) : ℕ → ℕ → ℕ → FoldedTerm → Type 0 where
+    as_link : {p k x : ℕ} → ((q : ℕ) → IsChild atoms q p k → Among q items) → Shows to atoms items p k x (link (to x))
+    as_term : {p k x q : ℕ} {ts : FoldedTerms} (c : IsChild atoms q p k) → ¬ (Among q items) → ShowsAll to atoms items q 0 c.first_links ts →
+        Shows to atoms items p k x (labelled c.child.label ts)
 
-  -- ShowsAll atoms items p k xs ts: the arguments at the ports of p from k on that have the links xs are ts.
-  pub data ShowsAll (atoms : List SolidAtom) (items : List ℕ) : ℕ → ℕ → List ℕ → FoldedTerms → Type 0 where
-    none : {p k : ℕ} → ShowsAll atoms items p k [] no_term
-    more : {p k x : ℕ} {xs : List ℕ} {t : FoldedTerm} {ts : FoldedTerms} → Shows atoms items p k x t → ShowsAll atoms items p (suc k) xs ts →
-        ShowsAll atoms items p k (x ∷ xs) (term_and t ts)
+  -- ShowsAll to atoms items p k xs ts: the arguments at the ports of p from k on that have the links xs are ts.
+  pub data ShowsAll (to : ℕ → ℕ) (atoms : List SolidAtom) (items : List ℕ) : ℕ → ℕ → List ℕ → FoldedTerms → Type 0 where
+    none : {p k : ℕ} → ShowsAll to atoms items p k [] no_term
+    more : {p k x : ℕ} {xs : List ℕ} {t : FoldedTerm} {ts : FoldedTerms} → Shows to atoms items p k x t → ShowsAll to atoms items p (suc k) xs ts →
+        ShowsAll to atoms items p k (x ∷ xs) (term_and t ts)
 
 -- the atoms at these positions as items
-pub data ShowsItems (atoms : List SolidAtom) (items : List ℕ) : List ℕ → List FoldedItem → Type 0 where
-  none : ShowsItems atoms items [] []
+pub data ShowsItems (to : ℕ → ℕ) (atoms : List SolidAtom) (items : List ℕ) : List ℕ → List FoldedItem → Type 0 where
+  none : ShowsItems to atoms items [] []
   more : {p : ℕ} {ps : List ℕ} {ts : FoldedTerms} {is : List FoldedItem} (a : SolidAtom) → slice_get atoms p ≡ Some a →
-      ShowsAll atoms items p 0 a.links ts → ShowsItems atoms items ps is →
-      ShowsItems atoms items (p ∷ ps) (record { label = a.label; arguments = ts } ∷ is)
+      ShowsAll to atoms items p 0 a.links ts → ShowsItems to atoms items ps is →
+      ShowsItems to atoms items (p ∷ ps) (record { label = a.label; arguments = ts } ∷ is)
 
--- A region and its folded form. Rules stay as they are.
+-- A region and its folded form, with other links. Rules stay as they are.
 mutual
-  pub data Folds : Region → Folded → Type 0 where
+  pub data Folds (to : ℕ → ℕ) : Region → Folded → Type 0 where
     folds : {atoms : List SolidAtom} {membranes : Regions} {rules : List Rule} {shown : List FoldedItem} {inside : FoldedMembranes}
-        (items : List ℕ) → AreItems atoms items → ShowsItems atoms items items shown → FoldsAll membranes inside →
-        Folds (region atoms membranes rules) (folded shown inside rules)
+        (items : List ℕ) → AreItems atoms items → ShowsItems to atoms items items shown → FoldsAll to membranes inside →
+        Folds to (region atoms membranes rules) (folded shown inside rules)
 
-  pub data FoldsAll : Regions → FoldedMembranes → Type 0 where
-    none : FoldsAll no_region no_membrane
-    more : {r : Region} {rs : Regions} {f : Folded} {fs : FoldedMembranes} → Folds r f → FoldsAll rs fs →
-        FoldsAll (region_and r rs) (membrane_and f fs)
+  pub data FoldsAll (to : ℕ → ℕ) : Regions → FoldedMembranes → Type 0 where
+    none : FoldsAll to no_region no_membrane
+    more : {r : Region} {rs : Regions} {f : Folded} {fs : FoldedMembranes} → Folds to r f → FoldsAll to rs fs →
+        FoldsAll to (region_and r rs) (membrane_and f fs)
 
 -- Words for lemmas.
 

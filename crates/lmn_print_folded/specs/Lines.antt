@@ -9,16 +9,16 @@ use Rattle.lmn_print_folded.specs.Terms.{Folded, folded_links, renamed_folded}
 use Rattle.lmn_print_folded.specs.Folding.{Folds}
 use Rattle.lmn_print_folded.specs.Words.{folded_pieces}
 
--- The line of a region in the folded form: the words of its folded form, with a number for each link that is printed, different ones
--- for different links, by first occurrence over the whole line.
+-- The line of a region in the folded form: the words of its folded form, with a number for each link, different ones for different
+-- links, which are those by first occurrence over the whole line.
 pub record IsFoldedLine (S : Region) (line : List ℕ) : Type 0 where
-  pub given : Folded
-  pub folds : Folds S given
   pub to : ℕ → ℕ
-  pub one_to_one : (x y : ℕ) → Among x (folded_links given) → Among y (folded_links given) → to x ≡ to y → x ≡ y
+  pub one_to_one : (x y : ℕ) → to x ≡ to y → x ≡ y
+  pub form : Folded
+  pub folds : Folds to S form
   pub count : ℕ
-  pub by_first_occurrence : NumbersLinks (folded_links (renamed_folded to given)) count
-  pub is : line ≡ line_of_items (folded_pieces (renamed_folded to given))
+  pub by_first_occurrence : NumbersLinks (folded_links form) count
+  pub is : line ≡ line_of_items (folded_pieces form)
 
 -- the line of a region, in the folded form where that is asked, and else in the plain one
 abbrev pub IsLine : Bool → Region → List ℕ → Type 0
@@ -34,7 +34,3 @@ pub record IsNumberedForm (given numbered : Folded) : Type 0 where
   pub is : numbered ≡ renamed_folded to given
   pub count : ℕ
   pub by_first_occurrence : NumbersLinks (folded_links numbered) count
-
--- the folded form as it is printed
-abbrev pub numbered_of : {S : Region} {line : List ℕ} → IsFoldedLine S line → Folded
-numbered_of h = renamed_folded h.to h.given

@@ -48,7 +48,8 @@ abbrev mutual
 abbrev pub items_links : List FoldedItem → List ℕ
 items_links is = flat_map (λ i. terms_links i.arguments) is
 
--- All links renamed.
+-- ---- words for lemmas: all links renamed
+
 abbrev mutual
   pub renamed_term : (ℕ → ℕ) → FoldedTerm → FoldedTerm
   renamed_term f (link x) = link (f x)

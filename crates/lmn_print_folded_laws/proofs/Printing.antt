@@ -24,15 +24,15 @@ same_end u v b c e = same_step u v b c [] e
 
 module _ (atoms : List SolidAtom) (few : AtMostTwice atoms) (items : List ℕ) where
   abbrev mutual
-    pub shown_order : {p k x : ℕ} {t : FoldedTerm} → Shows atoms items p k x t → List ℕ
+    pub shown_order : {p k x : ℕ} {t : FoldedTerm} → Shows (λ x. x) atoms items p k x t → List ℕ
     shown_order (as_link h) = []
     shown_order (as_term {q = q} c n s) = q ∷ all_order s
 
-    pub all_order : {p k : ℕ} {xs : List ℕ} {ts : FoldedTerms} → ShowsAll atoms items p k xs ts → List ℕ
+    pub all_order : {p k : ℕ} {xs : List ℕ} {ts : FoldedTerms} → ShowsAll (λ x. x) atoms items p k xs ts → List ℕ
     all_order folding.none = []
     all_order (folding.more h hs) = shown_order h ++ all_order hs
 
-  abbrev pub items_order : {ps : List ℕ} {is : List FoldedItem} → ShowsItems atoms items ps is → List ℕ
+  abbrev pub items_order : {ps : List ℕ} {is : List FoldedItem} → ShowsItems (λ x. x) atoms items ps is → List ℕ
   items_order folding.none = []
   items_order (folding.more {p = p} a e s next) = p ∷ (all_order s ++ items_order next)
 
@@ -68,7 +68,7 @@ module _ (atoms : List SolidAtom) (few : AtMostTwice atoms) (items : List ℕ) w
   down h c n = below h c n (λ a. new_one atoms few h c n a)
 
   mutual
-    reach_one : {p k x : ℕ} {t : FoldedTerm} {above : List ℕ} → (s : Shows atoms items p k x t) → Path atoms items p above → (q : ℕ) → Among q (shown_order s) → Reached p k (p ∷ above) q
+    reach_one : {p k x : ℕ} {t : FoldedTerm} {above : List ℕ} → (s : Shows (λ x. x) atoms items p k x t) → Path atoms items p above → (q : ℕ) → Among q (shown_order s) → Reached p k (p ∷ above) q
     reach_one (as_link h) path q a = elim a [ ]
     reach_one {p} {k} {above = above} (as_term {q = c} ch n s) path q a = go q a (λ q b. reach_all s (down path ch n) q b)
       where
@@ -87,7 +87,7 @@ module _ (atoms : List SolidAtom) (few : AtMostTwice atoms) (items : List ℕ) w
               no_item = it.no_item;
             }
 
-    reach_all : {p k : ℕ} {xs : List ℕ} {ts : FoldedTerms} {above : List ℕ} → (s : ShowsAll atoms items p k xs ts) → Path atoms items p above → (q : ℕ) → Among q (all_order s) → ReachedFrom p k (p ∷ above) q
+    reach_all : {p k : ℕ} {xs : List ℕ} {ts : FoldedTerms} {above : List ℕ} → (s : ShowsAll (λ x. x) atoms items p k xs ts) → Path atoms items p above → (q : ℕ) → Among q (all_order s) → ReachedFrom p k (p ∷ above) q
     reach_all folding.none path q a = elim a [ ]
     reach_all {p} {k} {above = above} (folding.more h hs) path q a =
         go (among_apart (shown_order h) (all_order hs) a) (λ b. reach_one h path q b) (λ b. reach_all hs path q b)
@@ -105,7 +105,7 @@ module _ (atoms : List SolidAtom) (few : AtMostTwice atoms) (items : List ℕ) w
       let e = one_parent atoms b.top p k p j few (subst P same a.is_child) b.is_child in e.1
 
   mutual
-    once_one : {p k x : ℕ} {t : FoldedTerm} {above : List ℕ} → (s : Shows atoms items p k x t) → Path atoms items p above → EachOnce (shown_order s)
+    once_one : {p k x : ℕ} {t : FoldedTerm} {above : List ℕ} → (s : Shows (λ x. x) atoms items p k x t) → Path atoms items p above → EachOnce (shown_order s)
     once_one (as_link h) path = tt
     once_one {p} {above = above} (as_term {q = c} ch n s) path = (not_below, once_all s (down path ch n))
       where
@@ -115,7 +115,7 @@ module _ (atoms : List SolidAtom) (few : AtMostTwice atoms) (items : List ℕ) w
             let it = r.2 in
             not_behind_itself it.ahead it.top (c ∷ p ∷ above) (ap (λ xs. c ∷ xs) (path_same (down path ch n) it.path) ∙ it.is)
 
-    once_all : {p k : ℕ} {xs : List ℕ} {ts : FoldedTerms} {above : List ℕ} → (s : ShowsAll atoms items p k xs ts) → Path atoms items p above → EachOnce (all_order s)
+    once_all : {p k : ℕ} {xs : List ℕ} {ts : FoldedTerms} {above : List ℕ} → (s : ShowsAll (λ x. x) atoms items p k xs ts) → Path atoms items p above → EachOnce (all_order s)
     once_all folding.none path = tt
     once_all {p} {k} (folding.more h hs) path = all_different (shown_order h) (all_order hs) (once_one h path) (once_all hs path) apart
       where
@@ -130,7 +130,7 @@ module _ (atoms : List SolidAtom) (few : AtMostTwice atoms) (items : List ℕ) w
   abbrev OfItems : List ℕ → ℕ → Type 0
   OfItems ps q = (i : ℕ) × (Among i ps × ((q ≡ i) ⊎ ((j : ℕ) × Reached i j (i ∷ []) q)))
 
-  of_items : {ps : List ℕ} {is : List FoldedItem} → (s : ShowsItems atoms items ps is) → ((v : ℕ) → Among v ps → Among v items) → (q : ℕ) → Among q (items_order s) → OfItems ps q
+  of_items : {ps : List ℕ} {is : List FoldedItem} → (s : ShowsItems (λ x. x) atoms items ps is) → ((v : ℕ) → Among v ps → Among v items) → (q : ℕ) → Among q (items_order s) → OfItems ps q
   of_items folding.none f q a = elim a [ ]
   of_items (folding.more {p = p} {ps = ps} a e s next) f q b = go q b (λ q c. of_items next (λ v d. f v (further d)) q c)
     where
@@ -142,7 +142,7 @@ module _ (atoms : List SolidAtom) (few : AtMostTwice atoms) (items : List ℕ) w
           side (inl c) = let r = reach_all s (start (f p at_head)) q c in (p, (at_head, inr (r.0, r.2)))
           side (inr c) = let r = rest q c in (r.0, (further r.1.0, r.1.1))
 
-  pub once_items : {ps : List ℕ} {is : List FoldedItem} → (s : ShowsItems atoms items ps is) → EachOnce ps → ((v : ℕ) → Among v ps → Among v items) → EachOnce (items_order s)
+  pub once_items : {ps : List ℕ} {is : List FoldedItem} → (s : ShowsItems (λ x. x) atoms items ps is) → EachOnce ps → ((v : ℕ) → Among v ps → Among v items) → EachOnce (items_order s)
   once_items folding.none once f = tt
   once_items (folding.more {p = p} {ps = ps} a e s next) once f =
       (itself_once, all_different (all_order s) (items_order next) (once_all s path) (once_items next once.1 (λ v d. f v (further d))) apart)
@@ -246,7 +246,7 @@ module _ (atoms : List SolidAtom) (few : AtMostTwice atoms) (items : List ℕ) w
   record Holds (order : List ℕ) (q : ℕ) : Type 0 where
     xs : List ℕ
     ts : FoldedTerms
-    shows : ShowsAll atoms items q 0 xs ts
+    shows : ShowsAll (λ x. x) atoms items q 0 xs ts
     inside : (v : ℕ) → Among v (all_order shows) → Among v order
     ports : (r k : ℕ) → IsChild atoms r q k → k < length xs
 
@@ -262,7 +262,7 @@ module _ (atoms : List SolidAtom) (few : AtMostTwice atoms) (items : List ℕ) w
       let links = ap length ch.links in omega (arith, n, same, l, size, links)
 
   mutual
-    holds_one : {p k x : ℕ} {t : FoldedTerm} (s : Shows atoms items p k x t) (q : ℕ) → Among q (shown_order s) → Holds (shown_order s) q
+    holds_one : {p k x : ℕ} {t : FoldedTerm} (s : Shows (λ x. x) atoms items p k x t) (q : ℕ) → Among q (shown_order s) → Holds (shown_order s) q
     holds_one (as_link h) q a = elim a [ ]
     holds_one (as_term {q = c} {ts = ts} ch n s) q a = go q a (λ q b. holds_all s q b)
       where
@@ -270,7 +270,7 @@ module _ (atoms : List SolidAtom) (few : AtMostTwice atoms) (items : List ℕ) w
         go q at_head more = record { xs = ch.first_links; ts = ts; shows = s; inside = λ v b. further b; ports = λ r k d. child_ports ch r k d }
         go q (further b) more = wider (λ v c. further c) (more q b)
 
-    holds_all : {p k : ℕ} {xs : List ℕ} {ts : FoldedTerms} (s : ShowsAll atoms items p k xs ts) (q : ℕ) → Among q (all_order s) → Holds (all_order s) q
+    holds_all : {p k : ℕ} {xs : List ℕ} {ts : FoldedTerms} (s : ShowsAll (λ x. x) atoms items p k xs ts) (q : ℕ) → Among q (all_order s) → Holds (all_order s) q
     holds_all folding.none q a = elim a [ ]
     holds_all (folding.more h hs) q a = go (among_apart (shown_order h) (all_order hs) a) (λ b. holds_one h q b) (λ b. holds_all hs q b)
       where
@@ -279,7 +279,7 @@ module _ (atoms : List SolidAtom) (few : AtMostTwice atoms) (items : List ℕ) w
         go (inl b) one more = wider (λ v c. among_left (all_order hs) c) (one b)
         go (inr b) one more = wider (λ v c. among_right (shown_order h) c) (more b)
 
-  holds_items : {ps : List ℕ} {is : List FoldedItem} (s : ShowsItems atoms items ps is) (q : ℕ) → Among q (items_order s) → Holds (items_order s) q
+  holds_items : {ps : List ℕ} {is : List FoldedItem} (s : ShowsItems (λ x. x) atoms items ps is) (q : ℕ) → Among q (items_order s) → Holds (items_order s) q
   holds_items folding.none q a = elim a [ ]
   holds_items (folding.more {p = p} {ts = ts} a e s next) q b = go q b (λ q c. holds_items next q c)
     where
@@ -297,11 +297,11 @@ module _ (atoms : List SolidAtom) (few : AtMostTwice atoms) (items : List ℕ) w
           side (inr d) = wider (λ v i. further (among_right (all_order s) i)) (rest q d)
 
   -- a child that is no item is printed at its port
-  port_shown : {p k x : ℕ} {t : FoldedTerm} (s : Shows atoms items p k x t) (r : ℕ) → IsChild atoms r p k → ¬ (Among r items) → Among r (shown_order s)
+  port_shown : {p k x : ℕ} {t : FoldedTerm} (s : Shows (λ x. x) atoms items p k x t) (r : ℕ) → IsChild atoms r p k → ¬ (Among r items) → Among r (shown_order s)
   port_shown (as_link h) r d n = absurd (n (h r d))
   port_shown {p} {k} (as_term {q = c} ch m s) r d n = let P : ℕ → Type 0 = λ z. Among r (z ∷ all_order s) in subst P (one_child atoms r c p k few d ch) at_head
 
-  ports_shown : {p k : ℕ} {xs : List ℕ} {ts : FoldedTerms} (s : ShowsAll atoms items p k xs ts) (j r : ℕ) → j < length xs → IsChild atoms r p (k + j) → ¬ (Among r items) → Among r (all_order s)
+  ports_shown : {p k : ℕ} {xs : List ℕ} {ts : FoldedTerms} (s : ShowsAll (λ x. x) atoms items p k xs ts) (j r : ℕ) → j < length xs → IsChild atoms r p (k + j) → ¬ (Among r items) → Among r (all_order s)
   ports_shown folding.none j r l d n = absurd (omega (arith, l))
   ports_shown {p} {k} (folding.more h hs) zero r l d n =
       let P : ℕ → Type 0 = λ z. IsChild atoms r p z in
@@ -310,7 +310,7 @@ module _ (atoms : List SolidAtom) (few : AtMostTwice atoms) (items : List ℕ) w
       let P : ℕ → Type 0 = λ z. IsChild atoms r p z in
       let e : k + suc j ≡ suc k + j = omega arith in among_right (shown_order h) (ports_shown hs j r (omega (arith, l)) (subst P e d) n)
 
-  item_there : {ps : List ℕ} {is : List FoldedItem} (s : ShowsItems atoms items ps is) (q : ℕ) → Among q ps → Among q (items_order s)
+  item_there : {ps : List ℕ} {is : List FoldedItem} (s : ShowsItems (λ x. x) atoms items ps is) (q : ℕ) → Among q ps → Among q (items_order s)
   item_there folding.none q a = elim a [ ]
   item_there (folding.more {p = p} {ps = ps} a e s next) q b = go q b (λ c. item_there next q c)
     where
@@ -318,7 +318,7 @@ module _ (atoms : List SolidAtom) (few : AtMostTwice atoms) (items : List ℕ) w
       go q at_head rest = at_head
       go q (further c) rest = further (among_right (all_order s) (rest c))
 
-  pub all_printed : {is : List FoldedItem} (s : ShowsItems atoms items items is) {i q : ℕ} → Among i items → Descends atoms i q → Among q (items_order s)
+  pub all_printed : {is : List FoldedItem} (s : ShowsItems (λ x. x) atoms items items is) {i q : ℕ} → Among i items → Descends atoms i q → Among q (items_order s)
   all_printed s a itself = item_there s _ a
   all_printed s a (folding.child {q = p} {r = r} {k = k} d c) = go (among r items) (holds_items s p (all_printed s a d))
     where
@@ -329,7 +329,7 @@ module _ (atoms : List SolidAtom) (few : AtMostTwice atoms) (items : List ℕ) w
           let e : k ≡ 0 + k = omega arith in h.inside r (ports_shown h.shows k r (h.ports r k c) (subst P e c) n)
 
   -- an atom that is printed is one of the list
-  pub printed_below : {ps : List ℕ} {is : List FoldedItem} (s : ShowsItems atoms items ps is) → ((v : ℕ) → Among v ps → Among v items) → ((v : ℕ) → Among v items → v < length atoms)
+  pub printed_below : {ps : List ℕ} {is : List FoldedItem} (s : ShowsItems (λ x. x) atoms items ps is) → ((v : ℕ) → Among v ps → Among v items) → ((v : ℕ) → Among v items → v < length atoms)
       → (q : ℕ) → Among q (items_order s) → q < length atoms
   printed_below {ps} s f g q a = by (of_items s f q a)
     where

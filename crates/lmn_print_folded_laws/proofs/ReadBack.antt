@@ -30,7 +30,7 @@ use Rattle.lmn_flatten_plain.proofs.SolidLines.{same_process, own_solid}
 use Rattle.lmn_flatten_plain.proofs.SolidNames.{solid_held}
 use Rattle.lmn_flatten_plain.proofs.SolidNumbers.{solid_rules_numbered}
 use Rattle.lmn_flatten_plain.proofs.SomePlain.{some_plain}
-use Rattle.lmn_print_folded.specs.Lines.{IsFoldedLine, numbered_of}
+use Rattle.lmn_print_folded.specs.Lines.{IsFoldedLine}
 use Rattle.lmn_print_folded.specs.Terms.{Folded}
 use Rattle.lmn_print_folded.specs.Words.{folded_pieces, line_of_folded}
 use Rattle.lmn_print_folded_laws.specs.Spelled.{FoldedSpelled}
@@ -111,7 +111,7 @@ folded_lines_read_back alloc names S line is held spelled numbered closed h =
         tokens = read.0;
         tree = read.1;
         reads = read.2;
-        in_range = line_ranges (numbered_of h) line h.is (numbered_form_spelled S line h closed spelled) read.0 read.2;
+        in_range = line_ranges h.form line h.is (numbered_form_spelled S line h closed spelled) read.0 read.2;
         plain = p.1;
       };
       process = subst P (sym (ap level_process it.3 ∙ same_process it.0)) (back (same_solids.1 (is_same it.1)));

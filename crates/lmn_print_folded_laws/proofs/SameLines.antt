@@ -10,7 +10,6 @@ use Rattle.lmn_flatten_plain.specs.Parts.{level_from_parts}
 use Rattle.lmn_print_folded_laws.specs.Laws.{IsTreeOf}
 use Rattle.lmn_flatten_plain.specs.Laws.{NamesAreShort}
 use Rattle.lmn_print_folded_laws.proofs.FoldedLines.{folded_lines_are_read}
-use Rattle.lmn_print_folded.specs.Lines.{numbered_of}
 use Rattle.lmn_print_folded.proofs.FoldedLines.{numbers_of}
 use Rattle.lmn_print_folded_laws.specs.Lines.{FoldedLinesAreSame}
 use Rattle.lmn_print_folded_laws.proofs.SameTexts.{folded_texts_are_same}
@@ -18,8 +17,9 @@ use Rattle.lmn_print_folded_laws.proofs.SameTexts.{folded_texts_are_same}
 -- a folded line gives the region that was printed, up to the order of atoms and the numbers of links
 pub folded_lines_are_same : FoldedLinesAreSame
 folded_lines_are_same S line h closed spelled =
-    let P : List ℕ → Type 0 = λ text. (tokens : List Token) × (tree : Clauses) × Reads text tokens tree × (NamesAreShort (words_of text tokens) → NothingWrong text) × IsTreeOf text tokens tree (numbered_of h) in
-    let read = subst P (sym h.is) (folded_lines_are_read (numbered_of h) spelled) in
+    let P : List ℕ → Type 0 = λ text. (tokens : List Token) × (tree : Clauses) × Reads text tokens tree × (NamesAreShort (words_of text tokens) → NothingWrong text) × IsTreeOf text tokens tree h.form in
+    let read = subst P (sym h.is) (folded_lines_are_read h.form spelled) in
+    let n = numbers_of h in
     let tokens = read.0 in
     let tree = read.1 in
     let words = words_of line tokens in
@@ -31,6 +31,6 @@ folded_lines_are_same S line h closed spelled =
       read.2,
       read.3,
       λ names p plain.
-          folded_texts_are_same words places parts.table plain.number S h.given (numbered_of h) (level_from_parts parts) it.own_links closed h.folds (numbers_of h) it.apart it.different
+          folded_texts_are_same words places parts.table plain.number S n.0 h.form (level_from_parts parts) it.own_links closed n.1 n.2 it.apart it.different
           it.none_written plain.apart,
     )

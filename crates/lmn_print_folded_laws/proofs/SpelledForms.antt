@@ -1,5 +1,5 @@
 -- The folded form of a region that a text can spell, with numbers for its links, can be spelled.
-use Rattle.std.proofs.Common.{ℕ, ◌≡◌, List, [], ◌∷◌, map, subst}
+use Rattle.std.proofs.Common.{ℕ, ◌≡◌, List, [], ◌∷◌, map, subst, sym}
 use Rattle.std.specs.List.{AllByRecursion}
 use Rattle.lmn_congruence.specs.Process.{Closed}
 use Rattle.lmn_congruence.specs.Regions.{SolidAtom, Region, region, Regions, no_region, region_and, region_process}
@@ -8,7 +8,8 @@ use Rattle.lmn_congruence.specs.Same.{renamed_atom}
 use Rattle.lmn_flatten_plain.specs.SolidLines.{atom_as_leaf, as_level, as_levels}
 use Rattle.lmn_flatten_plain.specs.Spelled.{LabelSpelled, LeafSpelled, LevelSpelled, LevelsSpelled, RuleSpelled, RulesSpelled}
 use Rattle.lmn_print_folded.specs.Terms.{FoldedTerm, link, labelled, FoldedTerms, no_term, term_and, FoldedItem, Folded, folded, FoldedMembranes, no_membrane, membrane_and, renamed_term, renamed_terms, renamed_item, renamed_folded, renamed_membranes}
-use Rattle.lmn_print_folded.specs.Lines.{IsFoldedLine, numbered_of}
+use Rattle.lmn_print_folded.specs.Lines.{IsFoldedLine}
+use Rattle.lmn_print_folded.proofs.FoldedLines.{numbers_of}
 use Rattle.lmn_print_folded_laws.specs.Spelled.{TermSpelled, TermsSpelled, ItemSpelled, FoldedSpelled, MembranesSpelled}
 use Rattle.lmn_print_folded_laws.specs.Whole.{TermWhole, link_whole, atom_whole, TermsWhole, none_whole, more_whole, ItemsWhole, no_items, items_whole, FoldedWhole, folded_whole, MembranesWhole, no_membranes, membranes_whole}
 use Rattle.lmn_print_folded_laws.proofs.Reordering.{as_same}
@@ -95,8 +96,9 @@ module _ (to : ℕ → ℕ) where
     forms_renamed (membrane_and f fs) h = (form_renamed f h.0, forms_renamed fs h.1)
 
 -- the folded form of what a text can spell can be spelled
-pub numbered_form_spelled : (S : Region) (line : List ℕ) (h : IsFoldedLine S line) → Closed (region_process S) → LevelSpelled (as_level S) → FoldedSpelled (numbered_of h)
+pub numbered_form_spelled : (S : Region) (line : List ℕ) (h : IsFoldedLine S line) → Closed (region_process S) → LevelSpelled (as_level S) → FoldedSpelled h.form
 numbered_form_spelled S line h closed spelled =
-    let whole = folded_forms_are_whole S h.given closed h.folds in
+    let n = numbers_of h in
+    let whole = folded_forms_are_whole S n.0 closed n.1 in
     let given = form_spelled whole.1 (kept AtomSpelled RuleSpelled (λ x. x) in_order (as_same (λ x. x) whole.2) (region_spelled S spelled)) in
-    form_renamed h.to h.given given
+    subst FoldedSpelled (sym n.2.is) (form_renamed n.2.to n.0 given)

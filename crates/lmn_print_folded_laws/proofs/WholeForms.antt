@@ -45,7 +45,7 @@ module _ (atoms : List SolidAtom) (few : AtMostTwice atoms) (items : List ℕ) w
       ap (slice_get a.links) e ∙ ap (λ (b : SolidAtom). slice_get b.links j) (sym same) ∙ ap (λ ls. slice_get ls j) c.links ∙ in_front c.first_links c.last_link j x f
 
   mutual
-    found_one : {p k x : ℕ} {t : FoldedTerm} (s : Shows atoms items p k x t) → ((a : SolidAtom) → slice_get atoms p ≡ Some a → slice_get a.links k ≡ Some x) → TermFound t x (shown_order atoms few items s)
+    found_one : {p k x : ℕ} {t : FoldedTerm} (s : Shows (λ x. x) atoms items p k x t) → ((a : SolidAtom) → slice_get atoms p ≡ Some a → slice_get a.links k ≡ Some x) → TermFound t x (shown_order atoms few items s)
     found_one (as_link h) port = record { found = []; whole = link_whole; at_order = tt }
     found_one {p} {k} {x} (as_term {q = q} {ts = ts} c n s) port =
         let inside = found_all s (first_ports c) in
@@ -54,7 +54,7 @@ module _ (atoms : List SolidAtom) (few : AtMostTwice atoms) (items : List ℕ) w
         let same : c.child ≡ it = ap (λ ls. solid_atom_with c.child.label ls) (c.links ∙ ap (λ y. c.first_links ++ y ∷ []) own) in
         record { found = it ∷ inside.found; whole = atom_whole inside.whole; at_order = (c.child_at ∙ ap Some same, inside.at_order) }
 
-    found_all : {p k : ℕ} {xs : List ℕ} {ts : FoldedTerms} (s : ShowsAll atoms items p k xs ts) → PortsAre p k xs → TermsFound ts xs (all_order atoms few items s)
+    found_all : {p k : ℕ} {xs : List ℕ} {ts : FoldedTerms} (s : ShowsAll (λ x. x) atoms items p k xs ts) → PortsAre p k xs → TermsFound ts xs (all_order atoms few items s)
     found_all folding.none ports = record { found = []; whole = none_whole; at_order = tt }
     found_all {p} {k} (folding.more {x = x} {xs = xs} h hs) ports =
         let one = found_one h here_port in
@@ -76,7 +76,7 @@ module _ (atoms : List SolidAtom) (few : AtMostTwice atoms) (items : List ℕ) w
     whole : ItemsWhole is found
     at_order : AtomsAt atoms order found
 
-  found_items : {ps : List ℕ} {is : List FoldedItem} (s : ShowsItems atoms items ps is) → ItemsFound is (items_order atoms few items s)
+  found_items : {ps : List ℕ} {is : List FoldedItem} (s : ShowsItems (λ x. x) atoms items ps is) → ItemsFound is (items_order atoms few items s)
   found_items folding.none = record { found = []; whole = no_items; at_order = tt }
   found_items (folding.more {p = p} a e s rest) =
       let inside = found_all s ports in
@@ -92,7 +92,7 @@ module _ (atoms : List SolidAtom) (few : AtMostTwice atoms) (items : List ℕ) w
           let z : 0 + j ≡ j = omega arith in ap (slice_get b.links) z ∙ ap (λ (c : SolidAtom). slice_get c.links j) (same_Some b a (sym f ∙ e)) ∙ g
 
 -- the atoms of one membrane
-one_membrane : (atoms : List SolidAtom) (items : List ℕ) {shown : List FoldedItem} → AtMostTwice atoms → AreItems atoms items → (s : ShowsItems atoms items items shown)
+one_membrane : (atoms : List SolidAtom) (items : List ℕ) {shown : List FoldedItem} → AtMostTwice atoms → AreItems atoms items → (s : ShowsItems (λ x. x) atoms items items shown)
     → (found : List SolidAtom) × ItemsWhole shown found × Shuffle (λ a b. renamed_atom (λ x. x) a ≡ b) atoms found
 one_membrane atoms items few are s =
     let it = found_items atoms few items s in
@@ -104,7 +104,7 @@ one_membrane atoms items few are s =
     (it.found, it.whole, same_atoms atoms atoms it.found (same_elements (atom_positions atoms) order (range_once 0 (length atoms)) once into back) (positions_at atoms) it.at_order)
 
 mutual
-  whole_region : {S : Region} {f : Folded} → FewIn (region_process S) → Folds S f → (T : Region) × FoldedWhole f T × AtomsReordered (λ x. x) S T
+  whole_region : {S : Region} {f : Folded} → FewIn (region_process S) → Folds (λ x. x) S f → (T : Region) × FoldedWhole f T × AtomsReordered (λ x. x) S T
   whole_region few (folds {atoms = atoms} {membranes = ms} {rules = rs} items are s inside) =
       let few_here : AtMostTwice atoms = λ x. let n = few x in omega (arith, n) in
       let few_inside : FewIn (together (regions_processes ms)) = λ x. let n = few x in omega (arith, n) in
@@ -112,7 +112,7 @@ mutual
       let below = whole_regions few_inside inside in
       (region it.0 below.0 rs, folded_whole it.1 below.1, atoms_reordered it.2 below.2)
 
-  whole_regions : {ms : Regions} {fs : FoldedMembranes} → FewIn (together (regions_processes ms)) → FoldsAll ms fs → (ns : Regions) × MembranesWhole fs ns × EachReordered (λ x. x) ms ns
+  whole_regions : {ms : Regions} {fs : FoldedMembranes} → FewIn (together (regions_processes ms)) → FoldsAll (λ x. x) ms fs → (ns : Regions) × MembranesWhole fs ns × EachReordered (λ x. x) ms ns
   whole_regions few folding.none = (no_region, no_membranes, none_reordered)
   whole_regions few (folding.more {r = r} {rs = rs} h hs) =
       let first_few : FewIn (region_process r) = λ x. let n = few x in omega (arith, n) in

@@ -13,7 +13,7 @@ use Rattle.lmn_parser.specs.Syntax.{Clauses}
 use Rattle.lmn_flatten_plain.specs.Expansion.{parts_of}
 use Rattle.lmn_flatten_plain.specs.Laws.{IsPlain, NamesAreShort}
 use Rattle.lmn_flatten_plain.specs.Parts.{level_from_parts}
-use Rattle.lmn_print_folded.specs.Lines.{IsFoldedLine, numbered_of}
+use Rattle.lmn_print_folded.specs.Lines.{IsFoldedLine}
 use Rattle.lmn_print_folded_laws.specs.Spelled.{FoldedSpelled}
 use Rattle.lmn_print_folded_laws.specs.Numbered.{RegionNumbered}
 
@@ -21,7 +21,7 @@ use Rattle.lmn_print_folded_laws.specs.Numbered.{RegionNumbered}
 -- wrong in it where its names are short. With the numbers that a plain of this tree has for its links, the tree gives to the top a region
 -- that is the one that was printed, up to the order of atoms and the numbers of links.
 abbrev pub FoldedLinesAreSame : Type 0
-FoldedLinesAreSame = (S : Region) (line : List ℕ) (h : IsFoldedLine S line) → Closed (region_process S) → FoldedSpelled (numbered_of h)
+FoldedLinesAreSame = (S : Region) (line : List ℕ) (h : IsFoldedLine S line) → Closed (region_process S) → FoldedSpelled h.form
     → (tokens : List Token) × (tree : Clauses) × Reads line tokens tree × (NamesAreShort (words_of line tokens) → NothingWrong line)
     × ((names : List Name) (p : Plain) (plain : IsPlain line tokens tree names p)
     → (T : Region) × SameUpToAtomOrder S T × Closed (region_process T)

@@ -39,7 +39,7 @@ module _ (words : List Word) (places : List Pos) (table : List ExpandedRule) (nu
 -- order of atoms and the numbers of links.
 abbrev pub FoldedTextsAreSame : Type 0
 FoldedTextsAreSame = (words : List Word) (places : List Pos) (table : List ExpandedRule) (number : Link → ℕ) (S : Region) (given numbered : Folded) (l : ExpandedLevel) (own : List Link)
-    → Closed (region_process S) → Folds S given → IsNumberedForm given numbered
+    → Closed (region_process S) → Folds (λ x. x) S given → IsNumberedForm given numbered
     → FoldedApart words places table numbered l own → EachOnce own → ((a : Link) → Among a own → (way : List ℕ) × (a ≡ made way))
     → OneToOne number (expanded_links l)
     → (T : Region) × SameUpToAtomOrder S T × Closed (region_process T) × RegionNumbered words places table number T l

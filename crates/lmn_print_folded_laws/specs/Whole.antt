@@ -38,4 +38,4 @@ mutual
 
 -- The folded form of a region in which each link stands in two places, taken apart, is this region up to the order of atoms.
 abbrev pub FoldedFormsAreWhole : Type 0
-FoldedFormsAreWhole = (S : Region) (f : Folded) → Closed (region_process S) → Folds S f → (T : Region) × FoldedWhole f T × AtomsReordered (λ x. x) S T
+FoldedFormsAreWhole = (S : Region) (f : Folded) → Closed (region_process S) → Folds (λ x. x) S f → (T : Region) × FoldedWhole f T × AtomsReordered (λ x. x) S T

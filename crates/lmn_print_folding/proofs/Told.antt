@@ -36,18 +36,18 @@ use Rattle.lmn_base.specs.Lists.{In}
 -- A region of atoms alone is folded to items.
 
 abbrev FoldedAtoms : Region → Type 0
-FoldedAtoms (region atoms ms rs) = (ps : List ℕ) × (shown : List FoldedItem) × AreItems atoms ps × ShowsItems atoms ps ps shown
+FoldedAtoms (region atoms ms rs) = (ps : List ℕ) × (shown : List FoldedItem) × AreItems atoms ps × ShowsItems (λ x. x) atoms ps ps shown
 
-folded_atoms : (S : Region) (f : Folded) → Folds S f → FoldedAtoms S
+folded_atoms : (S : Region) (f : Folded) → Folds (λ x. x) S f → FoldedAtoms S
 folded_atoms _ _ (folds {shown = shown} ps are shows inside) = (ps, shown, are, shows)
 
-some_shown : (atoms : List SolidAtom) (ps : List ℕ) → AtMostTwice atoms → AreItems atoms ps → (shown : List FoldedItem) × ShowsItems atoms ps ps shown
+some_shown : (atoms : List SolidAtom) (ps : List ℕ) → AtMostTwice atoms → AreItems atoms ps → (shown : List FoldedItem) × ShowsItems (λ x. x) atoms ps ps shown
 some_shown atoms ps few are =
     let S : Region = region atoms no_region [] in
     let few_in : FewIn (region_process S) = λ x. let n = few x in omega (arith, n) in
     let f = some_folded S few_in in
     let there = folded_atoms S f.0 f.1 in
-    (there.1, subst (λ qs. ShowsItems atoms qs qs there.1) (items_same atoms there.0 ps there.2 are) there.3)
+    (there.1, subst (λ qs. ShowsItems (λ x. x) atoms qs qs there.1) (items_same atoms there.0 ps there.2 are) there.3)
 
 -- marks of items
 
@@ -149,7 +149,7 @@ module _ (names : List Name) (s : Heap) (valid : Valid s) (name : ℕ → ℕ �
       no_item true f = absurd (out (item_has names s valid name naming m marks q c e (mark_item s c f)))
 
   mutual
-    one_printed : (p k x : ℕ) (t : FoldedTerm) → Shows atoms here p k x t → (a : ℕ) → slice_get (atoms_in s m) p ≡ Some a → x ≡ name a k → PrintsArgument names s name a k t
+    one_printed : (p k x : ℕ) (t : FoldedTerm) → Shows (λ x. x) atoms here p k x t → (a : ℕ) → slice_get (atoms_in s m) p ≡ Some a → x ≡ name a k → PrintsArgument names s name a k t
     one_printed p k x _ (as_link h) a at e = subst (λ y. PrintsArgument names s name a k (link y)) (sym e) (printed.as_link (no_term p k a at h))
     one_printed p k x _ (as_term {q = q} {ts = ts} c out inside) a at e =
         let b = atom_behind names s name (atoms_in s m) q c.child c.child_at in
@@ -159,7 +159,7 @@ module _ (names : List Name) (s : Heap) (valid : Valid s) (name : ℕ → ℕ �
         subst (λ l. PrintsArgument names s name a k (labelled l ts)) (sym label)
         (printed.as_term b.0 f.0 (is_term q p k b.0 a b.1 at c out) f.1 (all_printed q 0 c.first_links ts inside b.0 b.1 (arity_of s b.0 - 1) links))
 
-    all_printed : (p k : ℕ) (ls : List ℕ) (ts : FoldedTerms) → ShowsAll atoms here p k ls ts → (a : ℕ) → slice_get (atoms_in s m) p ≡ Some a → (n : ℕ) → ls ≡ links_from name a k n
+    all_printed : (p k : ℕ) (ls : List ℕ) (ts : FoldedTerms) → ShowsAll (λ x. x) atoms here p k ls ts → (a : ℕ) → slice_get (atoms_in s m) p ≡ Some a → (n : ℕ) → ls ≡ links_from name a k n
         → PrintsAll names s name a k n ts
     all_printed p k _ _ folding.none a at zero e = printed.none
     all_printed p k _ _ folding.none a at (suc n) e = absurd (cc e)
@@ -169,7 +169,7 @@ module _ (names : List Name) (s : Heap) (valid : Valid s) (name : ℕ → ℕ �
         let others = all_printed p (suc k) xs ts hs a at n (rest_is x xs (name a k) (links_from name a (k + 1) n) e ∙ ap (λ i. links_from name a i n) (sym next)) in
         printed.more (one_printed p k x t h a at (first_is x xs (name a k) (links_from name a (k + 1) n) e)) (subst (λ i. PrintsAll names s name a i n ts) next others)
 
-  items_printed : (ps zs : List ℕ) (shown : List FoldedItem) → StandAt (atoms_in s m) ps zs → ShowsItems atoms here ps shown → PrintsItems names s name zs shown
+  items_printed : (ps zs : List ℕ) (shown : List FoldedItem) → StandAt (atoms_in s m) ps zs → ShowsItems (λ x. x) atoms here ps shown → PrintsItems names s name zs shown
   items_printed _ _ _ by_marks.none folding.none = chosen.none
   items_printed _ _ _ (by_marks.more {p = p} {a = a} {ps = ps} {ys = zs} at st) (folding.more {ts = ts} {is = is} x e h hs) =
       let same : x ≡ atom_with names s name a = same_Some x (atom_with names s name a) (sym e ∙ atom_at names s name (atoms_in s m) p a at) in
@@ -192,7 +192,7 @@ module _ (names : List Name) (s : Heap) (valid : Valid s) (name : ℕ → ℕ �
         prints = items_printed here (items_in s m) some.0 (items_stand names s valid name naming m marks) some.1;
         items = here;
         are = subst (λ xs. AreItems xs here) same are;
-        shows = subst (λ xs. ShowsItems xs here here some.0) same some.1;
+        shows = subst (λ xs. ShowsItems (λ x. x) xs here here some.0) same some.1;
       }
 
 -- where the marks of each membrane are so they tell its folded form

@@ -41,15 +41,15 @@ item_is_told names name = record {
 -- Where `b` is no item, something else is printed than is told.
 
 module _ (names : List Name) (name : ℕ → ℕ → ℕ) (x : SolidAtom) (items : List ℕ) where
-  no_term : (a i : ℕ) (t : FoldedTerm) (p k y : ℕ) → a ≡ 0 → i ≡ 0 → PrintsArgument names one_item name a i t → Shows (x ∷ []) items p k y t → ⊥
+  no_term : (a i : ℕ) (t : FoldedTerm) (p k y : ℕ) → a ≡ 0 → i ≡ 0 → PrintsArgument names one_item name a i t → Shows (λ x. x) (x ∷ []) items p k y t → ⊥
   no_term a i _ p k y e f (printed.as_link h) g = absurd (cc (sym (ap (λ b. term_at one_item b i) e ∙ ap (term_at one_item 0) f) ∙ h))
   no_term a i _ p k y e f (printed.as_term c g h j all) (folding.as_term {q = q} d n s) = alone x q p k d
 
-  no_argument : (a i n : ℕ) (ts : FoldedTerms) (p k : ℕ) (ys : List ℕ) → a ≡ 0 → i ≡ 0 → n ≡ 1 → PrintsAll names one_item name a i n ts → ShowsAll (x ∷ []) items p k ys ts → ⊥
+  no_argument : (a i n : ℕ) (ts : FoldedTerms) (p k : ℕ) (ys : List ℕ) → a ≡ 0 → i ≡ 0 → n ≡ 1 → PrintsAll names one_item name a i n ts → ShowsAll (λ x. x) (x ∷ []) items p k ys ts → ⊥
   no_argument a i _ _ p k ys e f g printed.none h = absurd (omega (arith, g))
   no_argument a i _ _ p k _ e f g (printed.more {t = t} h hs) (folding.more {x = y} s ss) = no_term a i t p k y e f h s
 
-  no_items : (zs ps : List ℕ) (shown : List FoldedItem) → zs ≡ 0 ∷ [] → PrintsItems names one_item name zs shown → ShowsItems (x ∷ []) items ps shown → ⊥
+  no_items : (zs ps : List ℕ) (shown : List FoldedItem) → zs ≡ 0 ∷ [] → PrintsItems names one_item name zs shown → ShowsItems (λ x. x) (x ∷ []) items ps shown → ⊥
   no_items _ ps _ e chosen.none s = absurd (cc e)
   no_items _ _ _ e (chosen.more {a = a} {others = zs} h hs) (folding.more {p = p} {ts = ts} y at s ss) =
       let first : a ≡ 0 = first_is a zs e in

@@ -41,7 +41,7 @@ pub record TellsItems (names : List Name) (s : Heap) (name : ℕ → ℕ → ℕ
   pub prints : PrintsItems names s name (items_in s m) shown
   pub items : List ℕ
   pub are : AreItems (atoms_with names s name m) items
-  pub shows : ShowsItems (atoms_with names s name m) items items shown
+  pub shows : ShowsItems (λ x. x) (atoms_with names s name m) items items shown
 
 -- So it is in each membrane, whatever names there are, and whatever numbers for links.
 abbrev pub AreChosen : Heap → Type 0
