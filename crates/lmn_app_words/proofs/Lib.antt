@@ -1,5 +1,6 @@
 pub mod WordLemmas
 pub mod SettingLemmas
+pub mod Given
 pub mod ReadLemmas
 pub mod WalkLemmas
 pub mod ParseLemmas

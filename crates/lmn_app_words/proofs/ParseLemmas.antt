@@ -31,6 +31,7 @@ use Rattle.lmn_app_words.specs.Hearing.{no_settings, number_written, order_named
 use Rattle.lmn_app_words.specs.Parsing.{FoundIsRequest, Tells, compile_line, demo_line, pair_line, whole_line}
 use Rattle.lmn_app_words.proofs.WordLemmas.{if_some, number_read, option_word, order_read}
 use Rattle.lmn_app_words.proofs.SettingLemmas.{all_read, firsts, firsts_collected, front_empty, is_none, list_option, only_value, settings_all, trace_value, folded_value}
+use Rattle.lmn_app_words.proofs.Given.{given_of}
 use Rattle.lmn_app_words.proofs.ReadLemmas.{each_once, standing_names}
 use Rattle.lmn_app_words.proofs.WalkLemmas.{Stands, after_met, and_first_true, at_new_row, between, both_passes, both_walked, built_line, file_passes, file_walked, flag_id, flag_passes, flag_walked, given, held, name_passes, name_walked, named, option_id, passes, plain_met, plain_passes, run_rules, run_shape, stands_done, stands_file, stands_option, step_of_met, used_new, used_once, value_walked, value_word_passes}
 use Rattle.lmn_base.proofs.Numbers.{unequal as not_same}
@@ -398,7 +399,8 @@ level_taken words rows g file =
 
 -- words that ask for a run are taken, and the matches tell the run
 run_taken : (words : List CommandWord) (run : Run) → AsksRun words run → (level_passes run_shape [] nothing_held words false ≡ true) × Tells (rows_after run_rules [] words) run
-run_taken words run a =
+run_taken words run asked =
+    let a = given_of asked in
     let s = a.settings in
     let u = firsts s in
     let k = all_walked a.spelled None (Some run.file) no_settings u None [] [] (λ _. None) (stands_done []) (λ id. refl) means_nothing refl

@@ -19,6 +19,7 @@ use Rattle.lmn_app_words.specs.declared.command.PairKind.TheVariants as kind
 use Rattle.lmn_app_words.specs.Forms.{texts_of, InForm, IsInRanges, CommandWord, IsFileName, Sets, AreFilesAndSettings, nothing, a_file, a_flag, two_words, one_word, EachAtMostOnce, OnlyOr, ordered_by, Run, Pair, Request, to_run, to_compile, to_demo, to_pair, AsksRun, AsksCompile, AsksDemo, AsksPair, TextsAsk, IsForm, pair_word, standing_first, standing_last, flag_word, trace_of, folded_of, budget_of, size_of, order_name_of, seed_of}
 use Rattle.lmn_app_words.specs.Hearing.{is_file_name, flag_named, option_named, setting_of, with_setting, Heard, no_settings, nothing_heard, hear_setting, hear_value, hear_file, equals_at, hear_option, hear_flag, hear_dashes, hear_word, hear_waiting, hear, hear_all, run_by, run_heard, run_read, file_read, demo_read, pair_named, pair_in_order, pair_read, pair_asked, request_read}
 use Rattle.lmn_app_words.proofs.WordLemmas.{false_true, if_some, map_some, then_some, number_from_told, number_from_read, flag_told, option_word, option_told, setting_told, setting_read, file_told, file_read_is, cut_told, is_bytes}
+use Rattle.lmn_app_words.proofs.Given.{RunGiven, given_of, asks_given}
 use Rattle.lmn_app_words.proofs.SettingLemmas.{settings_all, is_none, list_option, front_empty, all_told, all_read, firsts, firsts_collected, at_most_one, only_value, value_only, flag_only, trace_value, folded_value}
 use Rattle.lmn_base.proofs.Numbers.{unequal as not_same}
 use Rattle.lmn_base.proofs.Truth.{and_true as both_true, bool_cases, if_no as if_false}
@@ -193,7 +194,7 @@ all_spelled (one_word {word = w} option value {words = words} {setting = x} {set
 -- ---- runs
 
 asked_by : (words : List CommandWord) (h : Heard) (file : CommandWord) → h.waiting ≡ None → h.file ≡ Some file → hear_all nothing_heard words ≡ Some h
-    → AsksRun words (run_by h.settings file)
+    → RunGiven words (run_by h.settings file)
 asked_by words h file waiting named heard =
     let k : Leads words nothing_heard h = all_heard words nothing_heard h waiting heard in
     let c = all_told no_settings h.settings k.1 k.4 in
@@ -216,7 +217,7 @@ run_told : (words : List CommandWord) (run : Run) → run_read words ≡ Some ru
 run_told words run e = option_and_then_some run_heard (hear_all nothing_heard words) run e (λ h heard rest.
     if_some (is_some h.waiting) None (option_map (run_by h.settings) h.file) run rest (λ t bad. absurd (none-some run bad)) (λ free m.
     map_some (run_by h.settings) h.file run m (λ file named same.
-    subst (AsksRun words) same (asked_by words h file (is_none h.waiting free) named heard))))
+    subst (AsksRun words) same (asks_given (asked_by words h file (is_none h.waiting free) named heard)))))
 
 -- one file and settings, each at most once, are read
 run_spelled : (words : List CommandWord) (file : CommandWord) (settings : List Setting) → AreFilesAndSettings words (file ∷ []) settings → EachAtMostOnce settings
@@ -227,7 +228,7 @@ run_spelled words file settings spelled once =
     (all_spelled spelled None (Some file) no_settings (firsts settings) refl collected) refl
 
 -- no setting of a run is given twice
-pub each_once : {words : List CommandWord} {run : Run} → (a : AsksRun words run) → EachAtMostOnce a.settings
+pub each_once : {words : List CommandWord} {run : Run} → (a : RunGiven words run) → EachAtMostOnce a.settings
 each_once {words} {run} a = (
   at_most_one false (filter_map trace_of a.settings) run.trace a.trace,
   at_most_one false (filter_map folded_of a.settings) run.folded a.folded,
@@ -238,7 +239,8 @@ each_once {words} {run} a = (
 )
 
 run_reads : (words : List CommandWord) (run : Run) → AsksRun words run → run_read words ≡ Some run
-run_reads words run a =
+run_reads words run asked =
+    let a = given_of asked in
     let trace = trace_value a.settings run.trace a.trace in
     let folded = folded_value a.settings run.folded a.folded in
     let budget = only_value 1000000 (filter_map budget_of a.settings) run.budget a.budget in
@@ -415,7 +417,7 @@ form_reads (w ∷ words) (inr (inr (inr (k, is, (first, last, e, f, l))))) = (
 -- words that ask for something are of the form
 pub asks_form : (words : List CommandWord) (r : Request) → TextsAsk words r → IsForm words
 asks_form [] r h = absurd h
-asks_form (w ∷ words) (to_run run) h = inl (h.0, (run.file, h.1.settings, h.1.spelled, each_once h.1))
+asks_form (w ∷ words) (to_run run) h = let a = given_of h.1 in inl (h.0, (run.file, a.settings, a.spelled, each_once a))
 asks_form (w ∷ words) (to_compile file) h = inr (inl (h.0, (file, h.1)))
 asks_form (w ∷ words) (to_demo n) h = inr (inr (inl (h.0, (n, h.1))))
 asks_form (w ∷ words) (to_pair p) h =
@@ -475,7 +477,7 @@ size_in_range (set.Seed n ∷ xs) v r h = size_in_range xs v r.1 h
 pub in_ranges : (words : List CommandWord) (r : Request) → TextsAsk words r → IsInRanges r
 in_ranges [] r h = absurd h
 in_ranges (w ∷ words) (to_run run) h =
-    let a = h.1 in
+    let a = given_of h.1 in
     let size = size_in_range a.settings run.size (all_in_range a.spelled) a.size in
     (budget_in_range a.settings run.budget (all_in_range a.spelled) a.budget, size.0, size.1)
 in_ranges (w ∷ words) (to_compile file) h = tt

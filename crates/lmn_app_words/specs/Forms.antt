@@ -1,5 +1,6 @@
 -- The form of the words of the command line, and what words of the form ask for.
 use Rattle.std.specs.Prelude.{◌≡◌, ◌≢◌, ◌⊎◌, ◌≤◌, ⊤, ℕ, Bool, true, false, List, [], ◌∷◌, ◌++◌, Option, Some, None, length, map, filter_map, codes, string_bytes}
+use Rattle.std.specs.List.{AllByRecursion}
 use Rattle.std.specs.Str.Parse.{IsNumeral, digits_value}
 use Rattle.std.specs.declared.string.String.{String}
 use Rattle.std.specs.declared.alloc.Global.{Global}
@@ -67,45 +68,11 @@ pub data AreFilesAndSettings : List CommandWord → List CommandWord → List Se
 
 -- ---- what is given
 
--- what a setting gives to each option, if it is one of that option
-abbrev pub trace_of : Setting → Option Bool
-trace_of (set.Flag flag.Trace) = Some true
-trace_of _ = None
-
-abbrev pub folded_of : Setting → Option Bool
-folded_of (set.Flag flag.Folded) = Some true
-folded_of _ = None
-
-abbrev pub budget_of : Setting → Option ℕ
-budget_of (set.Budget n) = Some n
-budget_of _ = None
-
-abbrev pub size_of : Setting → Option ℕ
-size_of (set.Size n) = Some n
-size_of _ = None
-
-abbrev pub order_name_of : Setting → Option OrderName
-order_name_of (set.Order kind) = Some kind
-order_name_of _ = None
-
-abbrev pub seed_of : Setting → Option ℕ
-seed_of (set.Seed n) = Some n
-seed_of _ = None
-
--- the option that has these values is given at most once
-abbrev pub GivenAtMostOnce : {A : Type 0} → (Setting → Option A) → List Setting → Type 0
-GivenAtMostOnce value_of settings = length (filter_map value_of settings) ≤ 1
-
--- each option is given at most once
-abbrev pub EachAtMostOnce : List Setting → Type 0
-EachAtMostOnce settings = GivenAtMostOnce trace_of settings × GivenAtMostOnce folded_of settings × GivenAtMostOnce budget_of settings
-    × GivenAtMostOnce size_of settings × GivenAtMostOnce order_name_of settings × GivenAtMostOnce seed_of settings
-
--- the one value that is given, or the default where none is
-abbrev pub OnlyOr : {A : Type 0} → A → List A → A → Type 0
-OnlyOr default [] value = value ≡ default
-OnlyOr default (given ∷ []) value = value ≡ given
-OnlyOr default (given ∷ again ∷ more) value = ⊥
+-- One of the settings is this one by its form, and has this value; or none is, and the value is the default.
+pub data Given {A : Type 0} (Is : A → Setting → Type 0) (default : A) : List Setting → A → Type 0 where
+  none_given : Given Is default [] default
+  one_given : {s : Setting} {settings : List Setting} {value : A} → Is value s → AllByRecursion (λ t. (v : A) → ¬ (Is v t)) settings → Given Is default (s ∷ settings) value
+  given_later : {s : Setting} {settings : List Setting} {value : A} → ((v : A) → ¬ (Is v s)) → Given Is default settings value → Given Is default (s ∷ settings) value
 
 -- the order with this name; a seed has an effect on one alone
 abbrev pub ordered_by : OrderName → ℕ → Order
@@ -157,15 +124,51 @@ standing_last _ file second = second
 pub record AsksRun (words : List CommandWord) (run : Run) : Type 0 where
   pub settings : List Setting
   pub spelled : AreFilesAndSettings words (run.file ∷ []) settings
-  pub trace : OnlyOr false (filter_map trace_of settings) run.trace
-  pub folded : OnlyOr false (filter_map folded_of settings) run.folded
-  pub budget : OnlyOr 1000000 (filter_map budget_of settings) run.budget
-  pub size : OnlyOr 16777216 (filter_map size_of settings) run.size
+  pub trace : Given (λ on s. (s ≡ set.Flag flag.Trace) × (on ≡ true)) false settings run.trace
+  pub folded : Given (λ on s. (s ≡ set.Flag flag.Folded) × (on ≡ true)) false settings run.folded
+  pub budget : Given (λ n s. s ≡ set.Budget n) 1000000 settings run.budget
+  pub size : Given (λ n s. s ≡ set.Size n) 16777216 settings run.size
   pub order_name : OrderName
-  pub named : OnlyOr name.First (filter_map order_name_of settings) order_name
+  pub named : Given (λ kind s. s ≡ set.Order kind) name.First settings order_name
   pub seed : ℕ
-  pub seeded : OnlyOr 0 (filter_map seed_of settings) seed
+  pub seeded : Given (λ n s. s ≡ set.Seed n) 0 settings seed
   pub order : run.order ≡ ordered_by order_name seed
+
+-- These texts ask for this: behind `compile` stands one file, behind `demo` one number, and two files behind the others.
+abbrev pub TextsAsk : List CommandWord → Request → Type 0
+TextsAsk [] request = ⊥
+TextsAsk (first ∷ words) (to_run run) = (first ≡ codes "run") × AsksRun words run
+TextsAsk (first ∷ words) (to_compile file) = (first ≡ codes "compile") × ((words ≡ file ∷ []) × IsFileName file)
+TextsAsk (first ∷ words) (to_demo n) = (first ≡ codes "demo") × ((word : CommandWord) × (words ≡ word ∷ []) × IsNumber 1 100000 word n)
+TextsAsk (first ∷ words) (to_pair p) = (first ≡ pair_word p.kind)
+    × ((words ≡ standing_first p.kind p.file p.second ∷ standing_last p.kind p.file p.second ∷ []) × IsFileName p.file × IsFileName p.second)
+
+-- the words ask for this
+abbrev pub Asks : List (String Global) → Request → Type 0
+Asks words = TextsAsk (map string_bytes words)
+
+-- the words are of the form: they ask for something
+abbrev pub InForm : List (String Global) → Type 0
+InForm words = (request : Request) × Asks words request
+
+-- the numbers of a request lie in their ranges
+abbrev pub IsInRanges : Request → Type 0
+IsInRanges (to_run run) = (run.budget ≤ 9223372036854775807) × (1 ≤ run.size) × (run.size ≤ 4294967295)
+IsInRanges (to_compile file) = ⊤
+IsInRanges (to_demo n) = (1 ≤ n) × (n ≤ 100000)
+IsInRanges (to_pair pair) = ⊤
+
+-- ---- the same in parts, as laws and contracts of private functions tell it
+
+-- the one value that is given, or the default where none is
+abbrev pub OnlyOr : {A : Type 0} → A → List A → A → Type 0
+OnlyOr default [] value = value ≡ default
+OnlyOr default (given ∷ []) value = value ≡ given
+OnlyOr default (given ∷ again ∷ more) value = ⊥
+
+-- the bytes of each word
+abbrev pub texts_of : List (String Global) → List CommandWord
+texts_of = map string_bytes
 
 -- the words are this one file
 abbrev pub AsksCompile : List CommandWord → CommandWord → Type 0
@@ -179,34 +182,41 @@ AsksDemo words n = (word : CommandWord) × (words ≡ word ∷ []) × IsNumber 1
 abbrev pub AsksPair : List CommandWord → Pair → Type 0
 AsksPair words p = (words ≡ standing_first p.kind p.file p.second ∷ standing_last p.kind p.file p.second ∷ []) × IsFileName p.file × IsFileName p.second
 
--- the bytes of each word
-abbrev pub texts_of : List (String Global) → List CommandWord
-texts_of = map string_bytes
-
--- these texts ask for this
-abbrev pub TextsAsk : List CommandWord → Request → Type 0
-TextsAsk [] request = ⊥
-TextsAsk (first ∷ words) (to_run run) = (first ≡ codes "run") × AsksRun words run
-TextsAsk (first ∷ words) (to_compile file) = (first ≡ codes "compile") × AsksCompile words file
-TextsAsk (first ∷ words) (to_demo n) = (first ≡ codes "demo") × AsksDemo words n
-TextsAsk (first ∷ words) (to_pair pair) = (first ≡ pair_word pair.kind) × AsksPair words pair
-
--- the words ask for this
-abbrev pub Asks : List (String Global) → Request → Type 0
-Asks words = TextsAsk (texts_of words)
-
--- the words are of the form: they ask for something
-abbrev pub InForm : List (String Global) → Type 0
-InForm words = (request : Request) × Asks words request
-
--- the numbers of a request lie in their ranges
-abbrev pub IsInRanges : Request → Type 0
-IsInRanges (to_run run) = (run.budget ≤ 9223372036854775807) × (1 ≤ run.size) × (run.size ≤ 4294967295)
-IsInRanges (to_compile file) = ⊤
-IsInRanges (to_demo n) = (1 ≤ n) × (n ≤ 100000)
-IsInRanges (to_pair pair) = ⊤
-
 -- ---- the form, without what is asked for: the law `FormsAsk` says that it is the same form
+
+-- what a setting gives to each option, if it is one of that option
+abbrev pub trace_of : Setting → Option Bool
+trace_of (set.Flag flag.Trace) = Some true
+trace_of _ = None
+
+abbrev pub folded_of : Setting → Option Bool
+folded_of (set.Flag flag.Folded) = Some true
+folded_of _ = None
+
+abbrev pub budget_of : Setting → Option ℕ
+budget_of (set.Budget n) = Some n
+budget_of _ = None
+
+abbrev pub size_of : Setting → Option ℕ
+size_of (set.Size n) = Some n
+size_of _ = None
+
+abbrev pub order_name_of : Setting → Option OrderName
+order_name_of (set.Order kind) = Some kind
+order_name_of _ = None
+
+abbrev pub seed_of : Setting → Option ℕ
+seed_of (set.Seed n) = Some n
+seed_of _ = None
+
+-- the option that has these values is given at most once
+abbrev pub GivenAtMostOnce : {A : Type 0} → (Setting → Option A) → List Setting → Type 0
+GivenAtMostOnce value_of settings = length (filter_map value_of settings) ≤ 1
+
+-- each option is given at most once
+abbrev pub EachAtMostOnce : List Setting → Type 0
+EachAtMostOnce settings = GivenAtMostOnce trace_of settings × GivenAtMostOnce folded_of settings × GivenAtMostOnce budget_of settings
+    × GivenAtMostOnce size_of settings × GivenAtMostOnce order_name_of settings × GivenAtMostOnce seed_of settings
 
 -- one file, and each option at most once
 abbrev pub IsRunForm : List CommandWord → Type 0
