@@ -1,10 +1,11 @@
 -- The codes of the table.
-use Rattle.std.proofs.Common.{◌≡◌, ℕ, ◌==◌, Bool, true, false, cond, Option, Some, refl, sym, ap, ◌∙◌}
+use Rattle.std.proofs.Common.{◌≡◌, ℕ, ◌==◌, Bool, true, false, cond, List, [], ◌∷◌, map, Option, Some, None, option_map, unwrap_or, refl, sym, ap, ◌∙◌}
+use Rattle.std.specs.List.{find}
 use Rattle.std.proofs.lemmas.Bool.{eqb-true}
 use Rattle.std.proofs.lemmas.Option.{same_Some}
 use Rattle.lmn_base.specs.declared.code.RefusalCode.{RefusalCode}
 use Rattle.lmn_base.specs.declared.code.RefusalCode.TheVariants.{TextTooLong, BadByte, NotClosed, IntegerOutOfRange, NameTooLong, FloatingPoint, StringLiteral, InlineCode, Hyperlink, UnexpectedToken, NestingTooDeep, TooManyArguments, LinkOnce, LinkTooOften, LinkOnceInRule, LinkTooOftenInRule, ContextOutsideHeadMembrane, TwoContextsInMembrane, ContextTwiceInHead, ContextNotOnceInBody, ContextNotInHead, RuleContextOutsideHeadMembrane, RuleInHead, ConnectorInHead, EmptyHead, ContextOutsideRule, ContextWithoutType, UnknownGuard, WrongOperands, UnboundContext, RuleTooLarge, ContextInTwoForms, TypedContextNotHeld, ProcessTooLarge, TraceTooLong, NotAFiring, WrongEnd, ScriptTooLong, UnknownCommand, ListingTooLong, NotAListing, CodeNotVerified, WeightsTooLong, BadWeight, RuleNotLowered}
-use Rattle.lmn_base.specs.Codes.{code_number, CodesAreNumbered, NumbersAreOfCodes}
+use Rattle.lmn_base.specs.Codes.{words_of_number, code_number, code_words, all_codes, code_of, CodesAreNumbered, NumbersAreOfCodes}
 
 -- a code is the one that has its number
 pub codes_are_numbered : CodesAreNumbered
@@ -111,3 +112,22 @@ numbers_are_of_codes n code e =
     found n 85 BadWeight code _ refl e (λ e.
     found n 86 RuleNotLowered code _ refl e (λ e.
     absurd (cc))))))))))))))))))))))))))))))))))))))))))))))
+
+-- a code's row of the table: of all codes they are the table, in its order
+abbrev row_of : RefusalCode → ℕ × List ℕ
+row_of code = (code_number code, code_words code)
+
+-- where no code has a number, no row has it
+no_row : (n : ℕ) (cs : List RefusalCode) → find (λ code. n == code_number code) cs ≡ None → find (λ row. n == row.0) (map row_of cs) ≡ None
+no_row n [] e = refl
+no_row n (c ∷ cs) e = by (n == code_number c) e (no_row n cs)
+  where
+    by : (b : Bool) → cond b (Some c) (find (λ code. n == code_number code) cs) ≡ None
+        → (find (λ code. n == code_number code) cs ≡ None → find (λ row. n == row.0) (map row_of cs) ≡ None)
+        → cond b (Some (row_of c)) (find (λ row. n == row.0) (map row_of cs)) ≡ None
+    by true h rest = absurd (cc)
+    by false h rest = rest h
+
+-- a number that no code has is without words
+pub no_words : (n : ℕ) → code_of n ≡ None → words_of_number n ≡ []
+no_words n e = ap (λ found. unwrap_or (option_map (λ row. row.1) found) []) (no_row n all_codes e)
