@@ -22,13 +22,9 @@ use Rattle.lmn_base.specs.Levels.{everywhere}
 abbrev pub used : Form → CtxUse → Item
 used form u = item.Context (record { name = u.name; form = form; pos = u.pos })
 
--- how an untyped context is written: closed or not
-abbrev pub untyped_form : Bool → Form
-untyped_form closed = if closed then form.Closed else form.Bare
-
--- a use of an untyped context
+-- a use of an untyped context, which is written closed or not
 abbrev pub untyped : CtxUse → Item
-untyped u = used (untyped_form u.closed) u
+untyped u = used (if u.closed then form.Closed else form.Bare) u
 
 -- a leaf as an item: an atom, or a use of a typed context
 abbrev pub leaf_item : Leaf → Item
@@ -63,12 +59,19 @@ abbrev pub rule_items : RuleTree → List Item
 rule_items r = items_of r.head ++ (flat_map condition_items r.guard ++ items_of r.body)
 
 -- how many items stand in a level, its membranes too, at every depth; a rule is one item
+abbrev pub number_of_items : Level → ℕ
+number_of_items = fold-Level ℕ (λ l. length l.leaves + (length l.membranes + (length l.contexts + (length l.rule_contexts + (length l.rules + sum l.membranes)))))
+
+-- ---- parts of these, as laws and contracts of private functions tell them
+
+-- how an untyped context is written: closed or not
+abbrev pub untyped_form : Bool → Form
+untyped_form closed = if closed then form.Closed else form.Bare
+
+-- the items of a level, of whose membranes the numbers of items are known
 abbrev pub number_step : Level-F ℕ → ℕ
 number_step l = length l.leaves + (length l.membranes + (length l.contexts + (length l.rule_contexts + (length l.rules + sum l.membranes))))
 
-abbrev pub number_of_items : Level → ℕ
-number_of_items = fold-Level ℕ number_step
-
--- the contexts of a guard, as the contracts of private functions tell them
+-- the contexts of a guard
 abbrev pub guard_items : List Cond → List Item
 guard_items = flat_map condition_items

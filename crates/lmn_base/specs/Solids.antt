@@ -27,11 +27,8 @@ abbrev pub is_connector : Functor → Bool
 is_connector f = is_equals f.label && (f.arity == 2)
 
 -- the atoms of a region, and then those in each of its membranes: the printed order
-abbrev pub atoms_step : Region-F (List SolidAtom) → List SolidAtom
-atoms_step r = r.atoms ++ flat_map (λ inner. inner) r.membranes
-
 abbrev pub atoms_of_region : Region → List SolidAtom
-atoms_of_region = fold-Region (List SolidAtom) atoms_step
+atoms_of_region = fold-Region (List SolidAtom) (λ r. r.atoms ++ flat_map (λ inner. inner) r.membranes)
 
 -- their links, in printed order
 abbrev pub links_of_region : Region → List ℕ
@@ -44,18 +41,21 @@ pub record IsSolid (s : Solid) : Type 0 where
   pub closed : EachTwice (links_of_region s.root)
   pub numbered : (n : ℕ) × NumbersLinks (links_of_region s.root) n
 
--- a region's atoms, membranes and rules, and those inside its membranes
+-- how many items a solid has, a region's atoms, membranes and rules, and those inside its membranes: its root isn't counted
+abbrev pub item_count : Solid → ℕ
+item_count s = fold-Region ℕ (λ r. length r.atoms + length r.membranes + sum r.membranes + length r.rules) s.root
+
+-- a table has one rule for each number of a rule in a solid, in its root and in its membranes
+abbrev pub HasEachRule : List RuleTree → Solid → Type 0
+HasEachRule table s = All (λ k. k < length table) (fold-Region (List ℕ) (λ r. r.rules ++ flat_map (λ inner. inner) r.membranes) s.root)
+
+-- ---- what these say of a region of whose membranes it is known, as laws and contracts of private functions tell it
+
+abbrev pub atoms_step : Region-F (List SolidAtom) → List SolidAtom
+atoms_step r = r.atoms ++ flat_map (λ inner. inner) r.membranes
+
 abbrev pub items_step : Region-F ℕ → ℕ
 items_step r = length r.atoms + length r.membranes + sum r.membranes + length r.rules
 
--- how many items a solid has: its root isn't counted
-abbrev pub item_count : Solid → ℕ
-item_count s = fold-Region ℕ items_step s.root
-
--- the rules of a region and of its membranes, by number
 abbrev pub rules_step : Region-F (List ℕ) → List ℕ
 rules_step r = r.rules ++ flat_map (λ inner. inner) r.membranes
-
--- a table has one rule for each of a solid's numbers
-abbrev pub HasEachRule : List RuleTree → Solid → Type 0
-HasEachRule table s = All (λ k. k < length table) (fold-Region (List ℕ) rules_step s.root)
