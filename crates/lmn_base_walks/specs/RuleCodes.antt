@@ -44,23 +44,12 @@ abbrev pub is_too_large : RuleTree → Bool
 is_too_large r = nat_lt most_head_items (number_of_items r.head) || (nat_lt most_body_items (number_of_items r.body)
     || (nat_lt most_conditions (length r.guard) || nat_lt most_guard_tokens (sum_by condition_tokens r.guard)))
 
-abbrev pub too_large : RuleTree → Row
-too_large r = record { code = 44; places = if is_too_large r then r.pos ∷ [] else [] }
-
--- ---- E38: the head holds nothing
-
-abbrev pub empty_head : RuleTree → Row
-empty_head r = record { code = 38; places = if number_of_items r.head == 0 then r.pos ∷ [] else [] }
-
 -- ---- E36: a rule stands in the head, at the place of the inner rule
 
 -- a number that the table lacks has no place; in a well made plain there is none
 abbrev pub inner_rule : List RuleTree → Item → List Pos
 inner_rule table (Rule k) = option_to_list (option_map (λ r. r.pos) (slice_get table k))
 inner_rule table item = []
-
-abbrev pub rule_in_head : List RuleTree → RuleTree → Row
-rule_in_head table r = record { code = 36; places = flat_map (inner_rule table) (items_of r.head) }
 
 -- ---- E37: a connector stands in the head
 
@@ -72,22 +61,14 @@ abbrev pub connector_place : Item → List Pos
 connector_place (Atom functor pos) = if is_connector_label functor.label && (functor.arity == 2) then pos ∷ [] else []
 connector_place item = []
 
-abbrev pub connector_in_head : RuleTree → Row
-connector_in_head r = record { code = 37; places = flat_map connector_place (items_of r.head) }
-
--- ---- E30, E35: an untyped context, open or closed, or a rule context, stands at the head's top
+-- ---- E30, E35: an untyped context, open or closed, or a rule context, stands at the head's top; an untyped one is in another form than
+-- the typed one
 
 abbrev pub same_form : Form → Form → Bool
 same_form Bare Bare = true
 same_form Closed Closed = true
 same_form Typed Typed = true
 same_form f g = false
-
-abbrev pub context_at_top : RuleTree → Row
-context_at_top r = record { code = 30; places = flat_map (context_where (λ u. not (same_form Typed u.form))) (own_items (out-Level r.head)) }
-
-abbrev pub rule_context_at_top : RuleTree → Row
-rule_context_at_top r = record { code = 35; places = flat_map (rule_context_where (λ u. true)) (own_items (out-Level r.head)) }
 
 -- ---- E31: a head membrane has two untyped contexts, open or closed, or two rule contexts, at the second of the first such pair
 
@@ -104,9 +85,6 @@ abbrev pub first_with_some : List (List Pos) → List Pos
 first_with_some [] = []
 first_with_some (ps ∷ more) = if is_some_place ps then ps else first_with_some more
 
-abbrev pub two_in_membrane : RuleTree → Row
-two_in_membrane r = record { code = 31; places = first_with_some (flat_map seconds_by_membrane (out-Level r.head).membranes) }
-
 -- ---- E32: a context, or a rule context, occurs twice in the head, at its second place
 
 -- it isn't the first use: up to its place there is more than one. Of two at one place, which no text has, both count.
@@ -114,9 +92,6 @@ abbrev pub used_again : List Item → Item → List Pos
 used_again items (Context u) = if nat_lt 1 (length (flat_map (context_where (λ v. (v.name == u.name) && not_after v.pos u.pos)) items)) then u.pos ∷ [] else []
 used_again items (RuleContext u) = if nat_lt 1 (length (flat_map (rule_context_where (λ v. (v.name == u.name) && not_after v.pos u.pos)) items)) then u.pos ∷ [] else []
 used_again items item = []
-
-abbrev pub twice_in_head : RuleTree → Row
-twice_in_head r = record { code = 32; places = flat_map (used_again (items_of r.head)) (items_of r.head) }
 
 -- ---- E33: an open context of the head occurs not exactly once in the body, bare
 
@@ -136,12 +111,6 @@ bare_again head body = context_where (λ u.
     is_bare u.form && (is_some_place (flat_map (bare_use u.name) head)
     && nat_lt 1 (length (flat_map (context_where (λ v. (v.name == u.name) && (is_bare v.form && not_after v.pos u.pos))) body))))
 
-abbrev pub not_once_in_body : RuleTree → Row
-not_once_in_body r = record {
-  code = 33;
-  places = flat_map (missing (items_of r.body)) (items_of r.head) ++ flat_map (bare_again (items_of r.head) (items_of r.body)) (items_of r.body);
-}
-
 -- ---- E34: a context of the body is neither in the head nor bound in the guard, or a rule context of the body isn't in
 -- the head
 
@@ -157,9 +126,6 @@ from_nowhere head guard (Context u) = if has_use u.name head || list_any (is_lef
 from_nowhere head guard (RuleContext u) = if is_some_place (flat_map (rule_use u.name) head) then [] else u.pos ∷ []
 from_nowhere head guard item = []
 
-abbrev pub not_in_head : RuleTree → Row
-not_in_head r = record { code = 34; places = flat_map (from_nowhere (items_of r.head) r.guard) (items_of r.body) }
-
 -- ---- E45: two places of one context in the rule differ in form. There are three forms: bare, closed, and typed. A place in
 -- argument form, in the form `$x[X]` or in the guard is of the typed form.
 
@@ -169,18 +135,61 @@ abbrev pub in_other_form : List Item → Item → List Pos
 in_other_form items = context_where (λ u.
     is_some_place (flat_map (context_where (λ v. (v.name == u.name) && (not (same_form v.form u.form) && not_after v.pos u.pos))) items))
 
-abbrev pub in_two_forms : RuleTree → Row
-in_two_forms r = record { code = 45; places = flat_map (in_other_form (rule_items r)) (rule_items r) }
-
--- ---- all of them, in their order
+-- ---- all of them, in their order; E38 is that the head holds nothing
 
 abbrev pub rule_rows : List RuleTree → RuleTree → List Row
 rule_rows table r =
-    too_large r ∷ empty_head r
-    ∷ rule_in_head table r ∷ connector_in_head r ∷ context_at_top r ∷ rule_context_at_top r ∷ two_in_membrane r
-    ∷ twice_in_head r ∷ not_once_in_body r ∷ not_in_head r ∷ in_two_forms r ∷ []
+    record { code = 44; places = if is_too_large r then r.pos ∷ [] else [] }
+    ∷ record { code = 38; places = if number_of_items r.head == 0 then r.pos ∷ [] else [] }
+    ∷ record { code = 36; places = flat_map (inner_rule table) (items_of r.head) }
+    ∷ record { code = 37; places = flat_map connector_place (items_of r.head) }
+    ∷ record { code = 30; places = flat_map (context_where (λ u. not (same_form Typed u.form))) (own_items (out-Level r.head)) }
+    ∷ record { code = 35; places = flat_map (rule_context_where (λ u. true)) (own_items (out-Level r.head)) }
+    ∷ record { code = 31; places = first_with_some (flat_map seconds_by_membrane (out-Level r.head).membranes) }
+    ∷ record { code = 32; places = flat_map (used_again (items_of r.head)) (items_of r.head) }
+    ∷ record { code = 33; places = flat_map (missing (items_of r.body)) (items_of r.head) ++ flat_map (bare_again (items_of r.head) (items_of r.body)) (items_of r.body) }
+    ∷ record { code = 34; places = flat_map (from_nowhere (items_of r.head) r.guard) (items_of r.body) }
+    ∷ record { code = 45; places = flat_map (in_other_form (rule_items r)) (rule_items r) }
+    ∷ []
 
--- ---- parts of the rows, as the contracts of private functions tell them
+-- ---- parts of the rows, as the contracts of private functions and examples tell them
+
+-- each of the rows
+abbrev pub too_large : RuleTree → Row
+too_large r = record { code = 44; places = if is_too_large r then r.pos ∷ [] else [] }
+
+abbrev pub empty_head : RuleTree → Row
+empty_head r = record { code = 38; places = if number_of_items r.head == 0 then r.pos ∷ [] else [] }
+
+abbrev pub rule_in_head : List RuleTree → RuleTree → Row
+rule_in_head table r = record { code = 36; places = flat_map (inner_rule table) (items_of r.head) }
+
+abbrev pub connector_in_head : RuleTree → Row
+connector_in_head r = record { code = 37; places = flat_map connector_place (items_of r.head) }
+
+abbrev pub context_at_top : RuleTree → Row
+context_at_top r = record { code = 30; places = flat_map (context_where (λ u. not (same_form Typed u.form))) (own_items (out-Level r.head)) }
+
+abbrev pub rule_context_at_top : RuleTree → Row
+rule_context_at_top r = record { code = 35; places = flat_map (rule_context_where (λ u. true)) (own_items (out-Level r.head)) }
+
+abbrev pub two_in_membrane : RuleTree → Row
+two_in_membrane r = record { code = 31; places = first_with_some (flat_map seconds_by_membrane (out-Level r.head).membranes) }
+
+abbrev pub twice_in_head : RuleTree → Row
+twice_in_head r = record { code = 32; places = flat_map (used_again (items_of r.head)) (items_of r.head) }
+
+abbrev pub not_once_in_body : RuleTree → Row
+not_once_in_body r = record {
+  code = 33;
+  places = flat_map (missing (items_of r.body)) (items_of r.head) ++ flat_map (bare_again (items_of r.head) (items_of r.body)) (items_of r.body);
+}
+
+abbrev pub not_in_head : RuleTree → Row
+not_in_head r = record { code = 34; places = flat_map (from_nowhere (items_of r.head) r.guard) (items_of r.body) }
+
+abbrev pub in_two_forms : RuleTree → Row
+in_two_forms r = record { code = 45; places = flat_map (in_other_form (rule_items r)) (rule_items r) }
 
 -- the rows on the size and the head's emptiness, on the head, and on the uses of contexts
 abbrev pub size_rows : RuleTree → List Row
