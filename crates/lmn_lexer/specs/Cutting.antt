@@ -1,5 +1,5 @@
 -- How a text is cut into separators, comments and tokens.
-use Rattle.std.specs.Prelude.{◌≡◌, ℕ, ◌+◌, ◌≤◌, ◌==◌, Bool, true, false, not, if◌then◌else◌, List, [], ◌∷◌, ◌++◌, length, codes, count_by}
+use Rattle.std.specs.Prelude.{◌≡◌, ℕ, ◌+◌, ◌≤◌, ◌==◌, Bool, true, false, not, if◌then◌else◌, List, [], ◌∷◌, ◌++◌, length, codes, count_by, fold}
 use Rattle.lmn_base.specs.declared.refusal.Pos.{Pos}
 use Rattle.lmn_lexer.specs.declared.token.Kind.{Kind}
 use Rattle.lmn_lexer.specs.declared.token.Kind.TheVariants.{Name, Quoted, Link, Int, Context, RParen, RBracket, End}
@@ -32,11 +32,9 @@ is_operand RParen = true
 is_operand RBracket = true
 is_operand _ = false
 
--- whether a `-` before a digit begins an integer behind these tokens
+-- whether a `-` before a digit begins an integer behind these tokens: so the last of them decides
 abbrev pub minus_behind : List Token → Bool
-minus_behind [] = true
-minus_behind (t ∷ []) = not (is_operand t.kind)
-minus_behind (t ∷ u ∷ ts) = minus_behind (u ∷ ts)
+minus_behind tokens = fold (λ minus t. not (is_operand t.kind)) true tokens
 
 -- A text that is cut up to a place: the bytes before it, their tokens, and the bytes that are left.
 pub record Cutting : Type 0 where

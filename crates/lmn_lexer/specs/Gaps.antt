@@ -12,14 +12,14 @@ abbrev pub EndsLine : List ℕ → Type 0
 EndsLine [] = ⊤
 EndsLine (b ∷ bs) = b ≡ 10
 
--- no line feed is among the bytes
-abbrev pub NoLineFeed : List ℕ → Type 0
-NoLineFeed bs = AllPass (λ b. not (b == 10)) bs
-
 -- The bytes, with the text after them, are one separator (space, tab, line feed, form feed, carriage return) or one
 -- comment: `%` or `//` up to the line feed or the end of the text, or `/*` up to the next `*/`.
 pub data Gap : List ℕ → List ℕ → Type 0 where
   separator : (b : ℕ) (after : List ℕ) → is_ascii_whitespace b ≡ true → Gap (b ∷ []) after
-  percent : (line after : List ℕ) → NoLineFeed line → EndsLine after → Gap (codes "%" ++ line) after
-  slashes : (line after : List ℕ) → NoLineFeed line → EndsLine after → Gap (codes "//" ++ line) after
+  percent : (line after : List ℕ) → AllPass (λ b. not (b == 10)) line → EndsLine after → Gap (codes "%" ++ line) after
+  slashes : (line after : List ℕ) → AllPass (λ b. not (b == 10)) line → EndsLine after → Gap (codes "//" ++ line) after
   block : (inside after : List ℕ) → ¬ (OccursIn (codes "*/") (inside ++ codes "*")) → Gap (codes "/*" ++ (inside ++ codes "*/")) after
+
+-- no line feed is among the bytes, as laws tell it
+abbrev pub NoLineFeed : List ℕ → Type 0
+NoLineFeed bs = AllPass (λ b. not (b == 10)) bs

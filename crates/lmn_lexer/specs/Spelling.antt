@@ -27,23 +27,15 @@ abbrev pub IsSpelledWith : (ℕ → Bool) → (ℕ → Bool) → List ℕ → Ty
 IsSpelledWith first more [] = ⊥
 IsSpelledWith first more (b ∷ bs) = (first b ≡ true) × AllPass more bs
 
--- a first byte that passes the test, and letters, digits and `_` behind it
-abbrev pub IsWord : (ℕ → Bool) → List ℕ → Type 0
-IsWord first bytes = IsSpelledWith first goes_on bytes
-
--- this byte, and then such a word
+-- this byte, and then a first one that passes the test, and letters, digits and `_` behind it
 abbrev pub IsWordBehind : ℕ → (ℕ → Bool) → List ℕ → Type 0
 IsWordBehind sign first [] = ⊥
-IsWordBehind sign first (b ∷ bs) = (b ≡ sign) × IsWord first bs
+IsWordBehind sign first (b ∷ bs) = (b ≡ sign) × IsSpelledWith first goes_on bs
 
--- one digit or more
-abbrev pub IsDigits : List ℕ → Type 0
-IsDigits bytes = IsSpelledWith is_ascii_digit is_ascii_digit bytes
-
--- digits, and behind a `-` where one may begin an integer
+-- one digit or more, and behind a `-` where one may begin an integer
 abbrev pub IsIntegerSpelling : Bool → List ℕ → Type 0
 IsIntegerSpelling minus [] = ⊥
-IsIntegerSpelling minus (b ∷ bs) = IsDigits (b ∷ bs) ⊎ ((minus ≡ true) × (b ≡ 45) × IsDigits bs)
+IsIntegerSpelling minus (b ∷ bs) = IsSpelledWith is_ascii_digit is_ascii_digit (b ∷ bs) ⊎ ((minus ≡ true) × (b ≡ 45) × IsSpelledWith is_ascii_digit is_ascii_digit bs)
 
 -- a byte that stands for itself between quotes: 0x20 to 0x7E and 0x80 to 0xFF without the quote
 abbrev pub is_quotable : ℕ → Bool
@@ -63,10 +55,10 @@ pub record IsQuoted (bytes name : List ℕ) : Type 0 where
 
 -- The bytes spell a token of this kind. The first argument says whether a `-` may begin an integer here.
 abbrev pub Spells : Bool → Kind → List ℕ → Type 0
-Spells minus Name bytes = IsWord is_ascii_lowercase bytes × (bytes ≢ codes "mod")
+Spells minus Name bytes = IsSpelledWith is_ascii_lowercase goes_on bytes × (bytes ≢ codes "mod")
 Spells minus Quoted bytes = (name : List ℕ) × IsQuoted bytes name
 Spells minus Mod bytes = bytes ≡ codes "mod"
-Spells minus Link bytes = IsWord begins_link bytes
+Spells minus Link bytes = IsSpelledWith begins_link goes_on bytes
 Spells minus Int bytes = IsIntegerSpelling minus bytes
 Spells minus Context bytes = IsWordBehind 36 begins_context bytes
 Spells minus RuleCtx bytes = IsWordBehind 64 begins_context bytes
@@ -100,3 +92,13 @@ Spells minus Slash bytes = bytes ≡ codes "/"
 abbrev pub is_bare_name : List ℕ → Bool
 is_bare_name [] = false
 is_bare_name (b ∷ bs) = is_ascii_lowercase b && list_all goes_on bs
+
+-- ---- parts of these, as laws and contracts of private functions tell them
+
+-- a first byte that passes the test, and letters, digits and `_` behind it
+abbrev pub IsWord : (ℕ → Bool) → List ℕ → Type 0
+IsWord first bytes = IsSpelledWith first goes_on bytes
+
+-- one digit or more
+abbrev pub IsDigits : List ℕ → Type 0
+IsDigits bytes = IsSpelledWith is_ascii_digit is_ascii_digit bytes
