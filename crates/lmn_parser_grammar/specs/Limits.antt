@@ -11,13 +11,10 @@ most_brackets = 200
 abbrev pub most_operators : ℕ
 most_operators = 255
 
--- The most arguments of an atom, as many as an atom has links, and the most contexts of a condition. A term has one argument
--- fewer, since its own link is one more.
-abbrev pub most_arguments : ℕ
-most_arguments = most_links
-
+-- The most arguments of a term. An atom has as many arguments as it has links, `most_links`, and so many contexts has a condition; a
+-- term has one argument fewer, since its own link is one more.
 abbrev pub most_term_arguments : ℕ
-most_term_arguments = most_arguments - 1
+most_term_arguments = most_links - 1
 
 -- tokens that open a bracket, and that close one
 abbrev pub is_opener : Kind → Bool
@@ -119,10 +116,16 @@ pub data TermNext : List Kind → Type 0 where
 -- Arguments are begun of which there are too many, of an atom or of a term; or the token is the '=' behind an atom that has the
 -- most, since '=' takes one more.
 pub data TooManyArguments : List Kind → Kind → Type 0 where
-  of_any : {n : ℕ} {front before : List Kind} {token : Kind} → InArguments front n before → most_arguments < n → TooManyArguments before token
+  of_any : {n : ℕ} {front before : List Kind} {token : Kind} → InArguments front n before → most_links < n → TooManyArguments before token
   of_term : {n : ℕ} {front before : List Kind} {token : Kind} → InArguments front n before → TermNext front → most_term_arguments < n
       → TooManyArguments before token
   left_of_equal : {n : ℕ} {front before : List Kind} → InArguments front n before → most_term_arguments < n → TooManyArguments (before ++ RParen ∷ []) Equal
+
+-- ---- the same by other words, as laws and contracts of private functions tell it
+
+-- the most arguments of an atom, and the most contexts of a condition
+abbrev pub most_arguments : ℕ
+most_arguments = most_links
 
 -- The code by which the token is refused, if with it the tokens begin a program.
 abbrev pub Passes : ℕ → List Kind → Kind → Type 0

@@ -11,13 +11,8 @@ BeginsProgram IsInLanguage u = (rest : List Kind) × IsInLanguage (u ++ rest)
 abbrev pub IsWithin : List Kind → Type 0
 IsWithin u = (before : List Kind) (token : Kind) (rest : List Kind) → u ≡ before ++ token ∷ rest → ¬ (TooDeep before token) × ¬ (TooManyArguments before token)
 
--- The token isn't expected behind these, or it is, and passes a limit, of brackets and operators or else of arguments.
-abbrev pub Refuses : (List Kind → Type 0) → ℕ → List Kind → Kind → Type 0
-Refuses IsInLanguage code before token =
-    ((code ≡ 10) × (BeginsProgram IsInLanguage (before ++ token ∷ []) → ⊥))
-    ⊎ (BeginsProgram IsInLanguage (before ++ token ∷ []) × (((code ≡ 11) × TooDeep before token) ⊎ ((code ≡ 12) × ¬ (TooDeep before token) × TooManyArguments before token)))
-
--- The token at the place, counted from 0, is the first that refuses, by this code.
+-- The token at the place, counted from 0, is the first that refuses, by this code: it isn't expected behind those before it, or it is,
+-- and passes a limit, of brackets and operators or else of arguments.
 pub record IsRefused (IsInLanguage : List Kind → Type 0) (kinds : List Kind) (place : ℕ) (code : ℕ) : Type 0 where
   pub before : List Kind
   pub token : Kind
@@ -26,4 +21,11 @@ pub record IsRefused (IsInLanguage : List Kind → Type 0) (kinds : List Kind) (
   pub is_there : place ≡ length before
   pub begins : BeginsProgram IsInLanguage before
   pub within : IsWithin before
-  pub refuses : Refuses IsInLanguage code before token
+  pub refuses : ((code ≡ 10) × (BeginsProgram IsInLanguage (before ++ token ∷ []) → ⊥))
+      ⊎ (BeginsProgram IsInLanguage (before ++ token ∷ []) × (((code ≡ 11) × TooDeep before token) ⊎ ((code ≡ 12) × ¬ (TooDeep before token) × TooManyArguments before token)))
+
+-- why a token refuses, as laws tell it
+abbrev pub Refuses : (List Kind → Type 0) → ℕ → List Kind → Kind → Type 0
+Refuses IsInLanguage code before token =
+    ((code ≡ 10) × (BeginsProgram IsInLanguage (before ++ token ∷ []) → ⊥))
+    ⊎ (BeginsProgram IsInLanguage (before ++ token ∷ []) × (((code ≡ 11) × TooDeep before token) ⊎ ((code ≡ 12) × ¬ (TooDeep before token) × TooManyArguments before token)))
