@@ -1,13 +1,9 @@
 -- Counts of faults, which never fall and stop at the last value of 64 bits.
 use Rattle.std.specs.Prelude.{◌≡◌, ℕ, ◌+◌, ◌-◌, ◌^◌, ◌<◌, ◌≤◌, ◌⊎◌, min}
 
--- the last value of a counter
-abbrev pub last_count : ℕ
-last_count = 2 ^ 64 - 1
-
--- a count that rises once more
+-- a count that rises once more, up to the last value of a counter
 abbrev pub one_more : ℕ → ℕ
-one_more count = min (count + 1) last_count
+one_more count = min (count + 1) (2 ^ 64 - 1)
 
 -- The count rose in a call: at its exit it is greater than at its entry, or stands at the last value.
 abbrev pub Rose : ℕ → ℕ → Type 0
@@ -37,6 +33,10 @@ FailedLast before after = after ≡ one_more_fault before
 -- Behind a put that failed none was asked for in a call.
 abbrev pub NoneBehindFailed : Faults → Faults → Type 0
 NoneBehindFailed before after = NoneFailed before after ⊎ FailedLast before after
+
+-- the last value of a counter
+abbrev pub last_count : ℕ
+last_count = 2 ^ 64 - 1
 
 -- A sink of which a put failed and that was asked again tells it, below the last value of its counts.
 abbrev pub AskedAgainIsTold : Type 0
