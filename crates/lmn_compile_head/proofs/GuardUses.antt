@@ -30,6 +30,7 @@ use Rattle.lmn_guards.specs.declared.plan.TypeKind.TheVariants as kind
 use Rattle.lmn_guards.specs.Accepted.{IsInOrder}
 use Rattle.lmn_guards.specs.GuardCodes.{in_head, is_bound, is_type, unknown, use_of_none, unbound, is_of_head, has_wrong_operands, condition_place, asks, type_of, rows_of_conditions}
 use Rattle.lmn_guards.specs.Plans.{IsPlan}
+use Rattle.lmn_guards.proofs.GuardLemmas.{wrong_by_test}
 use Rattle.lmn_guards.proofs.OrderLemmas.{no_places, not_then, so_else}
 use Rattle.lmn_solid_heads.specs.Flattening.{items_of_head}
 use Rattle.lmn_solid_heads.specs.Guards.{typed_number, context_alone, kind_named}
@@ -261,7 +262,7 @@ module _ (table : List RuleTree) (r : RuleTree) (plan : GuardPlan) (order : IsIn
     none_unbound = h 1 (record { code = 0; places = [] }) (omega arith)
 
     none_wrong : has_wrong_operands r.head before c ≡ false
-    none_wrong = not_then (has_wrong_operands r.head before c) (condition_place c) (h 2 (record { code = 0; places = [] }) (omega arith))
+    none_wrong = not_then (has_wrong_operands r.head before c) (condition_place c) (sym (wrong_by_test r.head before c) ∙ h 2 (record { code = 0; places = [] }) (omega arith))
 
   guard_is : (before cs : List Cond) (known : List ℕ) → r.guard ≡ before ++ cs → None' before cs → Knows before known → IsGuard typed known cs
   guard_is before [] known eq h knows = tt

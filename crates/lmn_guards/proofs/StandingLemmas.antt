@@ -26,6 +26,7 @@ use Rattle.lmn_guards.specs.Accepted.{AcceptedExactly}
 use Rattle.lmn_guards.specs.Conditions.{IsKnown, EachKnown, MayStand, AllMayStand}
 use Rattle.lmn_guards.specs.GuardCodes.{in_head, is_bound, is_type, is_of_head, unknown, use_of_none, unbound, has_wrong_operands, condition_place, wrong_operands, rows_of_condition, rows_of_conditions, rows_of_typed}
 use Rattle.lmn_guards.proofs.AcceptedLemmas.{in_order}
+use Rattle.lmn_guards.proofs.GuardLemmas.{wrong_by_test}
 use Rattle.lmn_guards.proofs.OrderLemmas.{no_places, none_offends, not_then, so_else}
 use Rattle.lmn_guards.proofs.OrderedLemmas.{all_none, nowhere_if, nowhere_unless, accepted}
 
@@ -187,12 +188,12 @@ module _ (head : Level) (before : List Cond) where
       let last : Row = record { code = 42; places = wrong_operands head before c } in
       let second : Row = record { code = 43; places = unbound head before c } in
       let first : Row = record { code = 41; places = unknown c } in
-      All-cons Nowhere first (second ∷ last ∷ []) t (All-cons Nowhere second (last ∷ []) n (All-cons Nowhere last [] (nowhere_if (has_wrong_operands head before c) (condition_place c) w) no_rows))
+      All-cons Nowhere first (second ∷ last ∷ []) t (All-cons Nowhere second (last ∷ []) n (All-cons Nowhere last [] (wrong_by_test head before c ∙ nowhere_if (has_wrong_operands head before c) (condition_place c) w) no_rows))
 
   pass_rows : (c : Cond) → NoneApplies (rows_here c) → Passes c
   pass_rows c h =
       let first : Row = record { code = 41; places = unknown c } in
-      (h 0 first (omega arith), h 1 first (omega arith), not_then (has_wrong_operands head before c) (condition_place c) (h 2 first (omega arith)))
+      (h 0 first (omega arith), h 1 first (omega arith), not_then (has_wrong_operands head before c) (condition_place c) (sym (wrong_by_test head before c) ∙ h 2 first (omega arith)))
 
 -- ---- of all conditions
 
