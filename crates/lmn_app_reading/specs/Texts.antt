@@ -3,7 +3,6 @@ use Rattle.std.specs.Prelude.{ℕ, ◌≡◌, List, [], ◌∷◌, ◌++◌, Res
 use Rattle.std.specs.List.{AllByRecursion, AllZip}
 use Rattle.lmn_base.specs.declared.refusal.Refusal.{Refusal}
 use Rattle.lmn_base.specs.declared.refusal.TextFault.{TextFault}
-use Rattle.lmn_base.specs.declared.refusal.TextFault.TheVariants.{Refused}
 use Rattle.lmn_base.specs.declared.rule.Plain.{Plain}
 use Rattle.lmn_base.specs.declared.rule.RuleTree.{RuleTree}
 use Rattle.lmn_base.specs.Firsts.{Row, NoneApplies, RefusedBy}
@@ -22,7 +21,7 @@ use Rattle.lmn_lexer.specs.Cutting.{Cuts}
 use Rattle.lmn_lexer.specs.Faults.{IsLexicalFault, NothingWrong}
 use Rattle.lmn_lexer.specs.Laying.{words_of}
 use Rattle.lmn_lexer.specs.declared.token.Token.{Token}
-use Rattle.lmn_parser.specs.Faults.{IsFaultOf}
+use Rattle.lmn_parser.specs.Faults.{IsRefusalOf}
 use Rattle.lmn_parser.specs.Parsing.{kinds_of}
 use Rattle.lmn_parser.specs.Readings.{Reads}
 use Rattle.lmn_parser.specs.Syntax.{Clauses}
@@ -73,7 +72,7 @@ pub record IsAcceptedAs (text : List ℕ) (names : List Name) (plain : Plain) (p
 --   by_rules     something that is asked of a rule applies
 pub data IsRefusedAs (text : List ℕ) (names : List Name) (refusal : Refusal) : Type 0 where
   by_bytes : IsLexicalFault text refusal → IsRefusedAs text names refusal
-  by_tokens : (tokens : List Token) → NothingWrong text → Cuts text tokens → IsFaultOf tokens (Refused refusal) → IsRefusedAs text names refusal
+  by_tokens : (tokens : List Token) → NothingWrong text → Cuts text tokens → IsRefusalOf tokens refusal → IsRefusedAs text names refusal
   by_contexts : (plain : Plain) → ReadsAs text names plain → RefusedBy (outside_rules plain.top ∷ []) refusal → IsRefusedAs text names refusal
   by_links : (plain : Plain) → ReadsAs text names plain → NoneApplies (outside_rules plain.top ∷ []) → IsFirstFault plain refusal
       → IsRefusedAs text names refusal
