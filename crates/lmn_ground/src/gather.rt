@@ -34,20 +34,20 @@ pub fn gather<S: LinkStore>(
         depth: 0,
     };
     loop {
-        at = seek(store, root, at);
-        if at.port == arity(store, at.atom) {
+        let stand = seek(store, root, at);
+        if stand.port == arity(store, stand.atom) {
             return Ok(());
         }
-        match store.partner(at.atom, at.port) {
+        match store.partner(stand.atom, stand.port) {
             Some((b, j)) => {
                 atoms.push(b)?;
                 mark_entry(store, b, j, count);
                 let down = Stand {
                     atom: b,
                     port: 0,
-                    depth: at.depth + 1,
+                    depth: stand.depth + 1,
                 };
-                at = go_down(store, root, at, down);
+                at = go_down(store, root, stand, down);
                 count += 1;
             }
             None => unreachable!(),

@@ -59,11 +59,11 @@ pub fn spread<S: LinkStore>(store: &mut S, root: (S::Atom, u8), home: Option<S::
         depth: 0,
     };
     loop {
-        at = seek(store, root, at);
-        if at.port == arity(store, at.atom) {
+        let stand = seek(store, root, at);
+        if stand.port == arity(store, stand.atom) {
             return (count, true);
         }
-        match store.partner(at.atom, at.port) {
+        match store.partner(stand.atom, stand.port) {
             Some((b, j)) => {
                 if !fits(store, home, b) {
                     return (count, false);
@@ -72,9 +72,9 @@ pub fn spread<S: LinkStore>(store: &mut S, root: (S::Atom, u8), home: Option<S::
                 let down = Stand {
                     atom: b,
                     port: 0,
-                    depth: at.depth + 1,
+                    depth: stand.depth + 1,
                 };
-                at = go_down(store, root, at, down);
+                at = go_down(store, root, stand, down);
                 count += 1;
             }
             None => return (count, false),

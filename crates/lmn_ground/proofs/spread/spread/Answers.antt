@@ -8,8 +8,8 @@ use Rattle.lmn_ground.proofs.spread.spread.Goals as goal
 less : (n m : ℕ) → n + 1 ≤ m → m - (n + 1) < m - n
 less n m h = omega arith
 
-pub loop-at-init : goal.loop-at-init
-loop-at-init g c =
+pub loop-root-init : goal.loop-root-init
+loop-root-init g c =
     let id = g.S.LinkStore.atom_id in
     let e = sym c.set_mark.ensures in
     record {
@@ -23,87 +23,87 @@ loop-at-init g c =
       bound = omega arith;
     }
 
-pub seek-at-requires-clause-way : goal.seek-at-requires-clause-way
-seek-at-requires-clause-way g c = way_now _ _ _ _ _ _ _ _ _ c.loop-at.invariant.walk.1
+pub seek-stand-requires-clause-way : goal.seek-stand-requires-clause-way
+seek-stand-requires-clause-way g c = way_now _ _ _ _ _ _ _ _ _ c.loop-root.invariant.walk.1
 
-pub returns-then-at-arity-clause-spread : goal.returns-then-at-arity-clause-spread
-returns-then-at-arity-clause-spread g c =
-    let t = spreading_on _ _ _ _ _ _ _ _ _ _ _ _ c.loop-at.invariant.walk.1 c.seek-at.ensures.sought c.seek-at.ensures.halts.inside in
-    let f = c.if-at-arity.true ∙ c.arity.ensures.arity in
-    spread_all _ _ _ _ _ _ _ _ _ t (c.seek-at.ensures.halts.end f) f
+pub returns-then-stand-arity-clause-spread : goal.returns-then-stand-arity-clause-spread
+returns-then-stand-arity-clause-spread g c =
+    let t = spreading_on _ _ _ _ _ _ _ _ _ _ _ _ c.loop-root.invariant.walk.1 c.seek-stand.ensures.sought c.seek-stand.ensures.halts.inside in
+    let f = c.if-stand-arity.true ∙ c.arity.ensures.arity in
+    spread_all _ _ _ _ _ _ _ _ _ t (c.seek-stand.ensures.halts.end f) f
 
-pub returns-then-at-arity-clause-fits : goal.returns-then-at-arity-clause-fits
-returns-then-at-arity-clause-fits g c =
-    let t = spreading_on _ _ _ _ _ _ _ _ _ _ _ _ c.loop-at.invariant.walk.1 c.seek-at.ensures.sought c.seek-at.ensures.halts.inside in
-    let f = c.if-at-arity.true ∙ c.arity.ensures.arity in
-    (λ _. part_fits _ _ _ _ _ _ _ _ _ t (c.seek-at.ensures.halts.end f) f, λ _. search rules)
+pub returns-then-stand-arity-clause-fits : goal.returns-then-stand-arity-clause-fits
+returns-then-stand-arity-clause-fits g c =
+    let t = spreading_on _ _ _ _ _ _ _ _ _ _ _ _ c.loop-root.invariant.walk.1 c.seek-stand.ensures.sought c.seek-stand.ensures.halts.inside in
+    let f = c.if-stand-arity.true ∙ c.arity.ensures.arity in
+    (λ _. part_fits _ _ _ _ _ _ _ _ _ t (c.seek-stand.ensures.halts.end f) f, λ _. search rules)
 
 pub returns-then-not-fits-clause-spread : goal.returns-then-not-fits-clause-spread
 returns-then-not-fits-clause-spread g c =
-    let t = spreading_on _ _ _ _ _ _ _ _ _ _ _ _ c.loop-at.invariant.walk.1 c.seek-at.ensures.sought c.seek-at.ensures.halts.inside in
+    let t = spreading_on _ _ _ _ _ _ _ _ _ _ _ _ c.loop-root.invariant.walk.1 c.seek-stand.ensures.sought c.seek-stand.ensures.halts.inside in
     spread_some _ _ _ _ _ _ _ _ _ t
 
 pub returns-then-not-fits-clause-fits : goal.returns-then-not-fits-clause-fits
 returns-then-not-fits-clause-fits g c =
-    let t = spreading_on _ _ _ _ _ _ _ _ _ _ _ _ c.loop-at.invariant.walk.1 c.seek-at.ensures.sought c.seek-at.ensures.halts.inside in
-    let l : c.seek-at.result.port < arity_of (g.S.LinkStore.heap c.loop-at.store) (g.S.LinkStore.atom_id c.seek-at.result.atom) = let h = c.seek-at.ensures.halts.inside in omega (arith, h) in
+    let t = spreading_on _ _ _ _ _ _ _ _ _ _ _ _ c.loop-root.invariant.walk.1 c.seek-stand.ensures.sought c.seek-stand.ensures.halts.inside in
+    let l : c.seek-stand.result.port < arity_of (g.S.LinkStore.heap c.loop-root.store) (g.S.LinkStore.atom_id c.seek-stand.result.atom) = let h = c.seek-stand.ensures.halts.inside in omega (arith, h) in
     let both = fits_before _ _ _ _ _ _ _ _ _ _ _ t c.in-Some.ensures.there.1 in
-    (λ w. absurd (search rules), λ f. absurd (unfit _ _ _ _ _ _ _ _ _ _ _ t c.in-Some.ensures.link (c.seek-at.ensures.halts.apart l) (λ k. let w = c.if-not-fits.ensures.1 (both.1 k) in search rules) f))
+    (λ w. absurd (search rules), λ f. absurd (unfit _ _ _ _ _ _ _ _ _ _ _ t c.in-Some.ensures.link (c.seek-stand.ensures.halts.apart l) (λ k. let w = c.if-not-fits.ensures.1 (both.1 k) in search rules) f))
 
-pub loop-at-smaller : goal.loop-at-smaller
-loop-at-smaller g c =
-    let t = spreading_on _ _ _ _ _ _ _ _ _ _ _ _ c.loop-at.invariant.walk.1 c.seek-at.ensures.sought c.seek-at.ensures.halts.inside in
-    let h : c.loop-at.count + 1 ≤ 2 ^ 48 = few_next _ _ _ _ _ _ _ _ _ _ (2 ^ 48) t c.arity.ensures.few c.in-Some.ensures.there.0 (c.seek-at.ensures.halts.fresh _ _ c.in-Some.ensures.link) in
-    less c.loop-at.count (2 ^ 48) h
+pub loop-root-smaller : goal.loop-root-smaller
+loop-root-smaller g c =
+    let t = spreading_on _ _ _ _ _ _ _ _ _ _ _ _ c.loop-root.invariant.walk.1 c.seek-stand.ensures.sought c.seek-stand.ensures.halts.inside in
+    let h : c.loop-root.count + 1 ≤ 2 ^ 48 = few_next _ _ _ _ _ _ _ _ _ _ (2 ^ 48) t c.arity.ensures.few c.in-Some.ensures.there.0 (c.seek-stand.ensures.halts.fresh _ _ c.in-Some.ensures.link) in
+    less c.loop-root.count (2 ^ 48) h
 
 pub go_down-at-requires-clause-from : goal.go_down-at-requires-clause-from
 go_down-at-requires-clause-from g c =
-    let l : c.seek-at.result.port < arity_of (g.S.LinkStore.heap c.loop-at.store) (g.S.LinkStore.atom_id c.seek-at.result.atom) = let h = c.seek-at.ensures.halts.inside in omega (arith, h) in
+    let l : c.seek-stand.result.port < arity_of (g.S.LinkStore.heap c.loop-root.store) (g.S.LinkStore.atom_id c.seek-stand.result.atom) = let h = c.seek-stand.ensures.halts.inside in omega (arith, h) in
     (there_beside _ _ _ _ _ _ _ c.mark_entry.ensures.marked l, port_after _ _ _ _ _ _ _ c.mark_entry.ensures.marked l)
 
 pub go_down-at-requires-clause-marked : goal.go_down-at-requires-clause-marked
 go_down-at-requires-clause-marked g c =
-    let t = spreading_on _ _ _ _ _ _ _ _ _ _ _ _ c.loop-at.invariant.walk.1 c.seek-at.ensures.sought c.seek-at.ensures.halts.inside in
-    way_stays _ _ _ _ _ c.mark_entry.ensures.marked (way_marked _ _ _ _ _ _ _ _ _ t) (c.seek-at.ensures.halts.fresh _ _ c.in-Some.ensures.link)
+    let t = spreading_on _ _ _ _ _ _ _ _ _ _ _ _ c.loop-root.invariant.walk.1 c.seek-stand.ensures.sought c.seek-stand.ensures.halts.inside in
+    way_stays _ _ _ _ _ c.mark_entry.ensures.marked (way_marked _ _ _ _ _ _ _ _ _ t) (c.seek-stand.ensures.halts.fresh _ _ c.in-Some.ensures.link)
 
 pub go_down-at-requires-clause-atom : goal.go_down-at-requires-clause-atom
 go_down-at-requires-clause-atom g c = there_after _ _ _ _ _ _ c.mark_entry.ensures.marked c.in-Some.ensures.there.1
 
 pub go_down-at-requires-clause-way : goal.go_down-at-requires-clause-way
 go_down-at-requires-clause-way g c =
-    let t = spreading_on _ _ _ _ _ _ _ _ _ _ _ _ c.loop-at.invariant.walk.1 c.seek-at.ensures.sought c.seek-at.ensures.halts.inside in
-    let l : c.seek-at.result.port < arity_of (g.S.LinkStore.heap c.loop-at.store) (g.S.LinkStore.atom_id c.seek-at.result.atom) = let h = c.seek-at.ensures.halts.inside in omega (arith, h) in
+    let t = spreading_on _ _ _ _ _ _ _ _ _ _ _ _ c.loop-root.invariant.walk.1 c.seek-stand.ensures.sought c.seek-stand.ensures.halts.inside in
+    let l : c.seek-stand.result.port < arity_of (g.S.LinkStore.heap c.loop-root.store) (g.S.LinkStore.atom_id c.seek-stand.result.atom) = let h = c.seek-stand.ensures.halts.inside in omega (arith, h) in
     way_now _ _ _ _ _ _ _ _ _ (entered _ _ _ _ _ _ _ _ _ _ _ _ c.mark_entry.ensures.marked t c.arity.ensures.sound c.requires.clean l c.in-Some.ensures.link c.in-Some.ensures.back c.in-Some.ensures.there.1 c.mark_entry.ensures.small
-    (c.seek-at.ensures.halts.apart l) (c.seek-at.ensures.halts.fresh _ _ c.in-Some.ensures.link) (c.fits.ensures.0 (search rules)))
+    (c.seek-stand.ensures.halts.apart l) (c.seek-stand.ensures.halts.fresh _ _ c.in-Some.ensures.link) (c.fits.ensures.0 (search rules)))
 
 pub go_down-at-requires-clause-entered : goal.go_down-at-requires-clause-entered
 go_down-at-requires-clause-entered g c = record {
   first = refl;
   deeper = refl;
-  entry = entered_back _ _ _ _ _ _ c.loop-at.count c.mark_entry.ensures.marked c.arity.ensures.sound c.in-Some.ensures.back c.in-Some.ensures.there.1 c.mark_entry.ensures.small;
+  entry = entered_back _ _ _ _ _ _ c.loop-root.count c.mark_entry.ensures.marked c.arity.ensures.sound c.in-Some.ensures.back c.in-Some.ensures.there.1 c.mark_entry.ensures.small;
 }
 
-pub loop-at-preserved : goal.loop-at-preserved
-loop-at-preserved g c =
-    let t = spreading_on _ _ _ _ _ _ _ _ _ _ _ _ c.loop-at.invariant.walk.1 c.seek-at.ensures.sought c.seek-at.ensures.halts.inside in
-    let l : c.seek-at.result.port < arity_of (g.S.LinkStore.heap c.loop-at.store) (g.S.LinkStore.atom_id c.seek-at.result.atom) = let h = c.seek-at.ensures.halts.inside in omega (arith, h) in
-    let fresh = c.seek-at.ensures.halts.fresh _ _ c.in-Some.ensures.link in
+pub loop-root-preserved : goal.loop-root-preserved
+loop-root-preserved g c =
+    let t = spreading_on _ _ _ _ _ _ _ _ _ _ _ _ c.loop-root.invariant.walk.1 c.seek-stand.ensures.sought c.seek-stand.ensures.halts.inside in
+    let l : c.seek-stand.result.port < arity_of (g.S.LinkStore.heap c.loop-root.store) (g.S.LinkStore.atom_id c.seek-stand.result.atom) = let h = c.seek-stand.ensures.halts.inside in omega (arith, h) in
+    let fresh = c.seek-stand.ensures.halts.fresh _ _ c.in-Some.ensures.link in
     let in_walk = entered _ _ _ _ _ _ _ _ _ _ _ _ c.mark_entry.ensures.marked t c.arity.ensures.sound c.requires.clean l c.in-Some.ensures.link c.in-Some.ensures.back c.in-Some.ensures.there.1 c.mark_entry.ensures.small
-    (c.seek-at.ensures.halts.apart l) fresh (c.fits.ensures.0 (search rules)) in
+    (c.seek-stand.ensures.halts.apart l) fresh (c.fits.ensures.0 (search rules)) in
     record {
       atom = c.go_down-at.ensures.atom;
       walk = (_, spreading_on _ _ _ _ _ _ _ _ _ _ _ _ in_walk c.go_down-at.ensures.sought c.go_down-at.ensures.inside);
-      mem = subst (λ (s : Heap). IfSome c.args.home (λ m. IsMem s (g.S.LinkStore.mem_id m))) (sym c.mark_entry.ensures.marked) c.loop-at.invariant.mem;
+      mem = subst (λ (s : Heap). IfSome c.args.home (λ m. IsMem s (g.S.LinkStore.mem_id m))) (sym c.mark_entry.ensures.marked) c.loop-root.invariant.mem;
       bound = few_next _ _ _ _ _ _ _ _ _ _ (2 ^ 48) t c.arity.ensures.few c.in-Some.ensures.there.0 fresh;
     }
 
 pub returns-in-None-clause-spread : goal.returns-in-None-clause-spread
 returns-in-None-clause-spread g c =
-    let t = spreading_on _ _ _ _ _ _ _ _ _ _ _ _ c.loop-at.invariant.walk.1 c.seek-at.ensures.sought c.seek-at.ensures.halts.inside in
+    let t = spreading_on _ _ _ _ _ _ _ _ _ _ _ _ c.loop-root.invariant.walk.1 c.seek-stand.ensures.sought c.seek-stand.ensures.halts.inside in
     spread_some _ _ _ _ _ _ _ _ _ t
 
 pub returns-in-None-clause-fits : goal.returns-in-None-clause-fits
 returns-in-None-clause-fits g c =
-    let t = spreading_on _ _ _ _ _ _ _ _ _ _ _ _ c.loop-at.invariant.walk.1 c.seek-at.ensures.sought c.seek-at.ensures.halts.inside in
-    let l : c.seek-at.result.port < arity_of (g.S.LinkStore.heap c.loop-at.store) (g.S.LinkStore.atom_id c.seek-at.result.atom) = let h = c.seek-at.ensures.halts.inside in omega (arith, h) in
-    (λ w. absurd (search rules), λ f. absurd (unjoined _ _ _ _ _ _ _ _ _ t c.in-None.ensures.link l (c.seek-at.ensures.halts.apart l) f))
+    let t = spreading_on _ _ _ _ _ _ _ _ _ _ _ _ c.loop-root.invariant.walk.1 c.seek-stand.ensures.sought c.seek-stand.ensures.halts.inside in
+    let l : c.seek-stand.result.port < arity_of (g.S.LinkStore.heap c.loop-root.store) (g.S.LinkStore.atom_id c.seek-stand.result.atom) = let h = c.seek-stand.ensures.halts.inside in omega (arith, h) in
+    (λ w. absurd (search rules), λ f. absurd (unjoined _ _ _ _ _ _ _ _ _ t c.in-None.ensures.link l (c.seek-stand.ensures.halts.apart l) f))
