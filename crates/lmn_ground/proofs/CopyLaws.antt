@@ -17,7 +17,7 @@ use Rattle.lmn_ground.proofs.NumberLaws.{numbered_low, rest_in}
 use Rattle.lmn_ground.proofs.JoinLaws.{like_some, like_copying, like_numbers, like_arity, all_append, all_copying, all_numbers, all_arity, copies_differ}
 use Rattle.lmn_ground.proofs.SoughtLaws.{same_port}
 use Rattle.lmn_ground_parts.specs.Walks.{port_range, is_port}
-use Rattle.lmn_store_heap.proofs.Common.{in_at, has_functor}
+use Rattle.lmn_store_heap.proofs.Common.{in_at, has_functor, is_atom_at}
 use Rattle.lmn_base.specs.Lists.{In}
 use Rattle.lmn_base.proofs.Lists.{in_snoc}
 use Rattle.lmn_ground_parts.proofs.Common.{as_here, ports_in, made_away, not_again, one_new as as_new, one_there as as_there}
@@ -185,6 +185,10 @@ other_port a i root d = by (is_port (a, i) root) refl
     by : (t : Bool) → is_port (a, i) root ≡ t → is_port (a, i) root ≡ false
     by true e = let g = same_port a i root e in absurd (d (ap (λ (p : ℕ × ℕ). p.0) g, ap (λ (p : ℕ × ℕ). p.1) g))
     by false e = e
+
+-- an atom that is another one with a port has it
+pub has_port_as : (s : Heap) (d x j : ℕ) → d ≡ x → j < arity_of s x → IsAtom s d × (j < arity_of s d)
+has_port_as s d x j e l = let there : j < arity_of s d = subst (λ y. j < arity_of s y) (sym e) l in (is_atom_at s d j there, there)
 
 -- the copies of two joined ports differ
 pub port_differs : (s : Heap) (root : ℕ × ℕ) (xs ys : List ℕ) (a i b j c d : ℕ) → Copying s root xs ys → In a xs → is_port (a, i) root ≡ false → link_of s a i ≡ Some (b, j)

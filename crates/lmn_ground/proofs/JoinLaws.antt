@@ -55,11 +55,12 @@ module _ (s : Heap) (root : ℕ × ℕ) (xs ys : List ℕ) (t : Copying s root x
 
   -- two copies are joined
   module _ (a i : ℕ) (a_in : In a xs) (b j : ℕ) (other : is_port (a, i) root ≡ false) (link : link_of s a i ≡ Some (b, j)) where
-    b_in : In b xs
+    -- the atom behind a port is one of the part
+    pub b_in : In b xs
     b_in = (t.closed a i b j a_in (not_root a i root other) link).0
 
     -- both copies have the port
-    ports_there : (i < arity_of s (answer xs ys a)) × (j < arity_of s (answer xs ys b))
+    pub ports_there : (i < arity_of s (answer xs ys a)) × (j < arity_of s (answer xs ys b))
     ports_there = (
       subst (λ (n : ℕ). i < n) (sym (t.arities a a_in)) (link_inside s a i (b, j) link),
       subst (λ (n : ℕ). j < n) (sym (t.arities b b_in)) (link_inside s b j (a, i) (t.paired.back a i b j link)),

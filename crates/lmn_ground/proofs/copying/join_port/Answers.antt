@@ -1,9 +1,26 @@
-use Rattle.std.proofs.Common.{rules, ◌≡◌, map, true, Option, Some, None, IsSome, refl, sym, subst}
+use Rattle.std.proofs.Common.{rules, ◌≡◌, ◌∙◌, map, true, Option, Some, None, IsSome, refl, sym, subst}
 use Rattle.std.specs.Option.{option_map, is_some}
 use Rattle.lmn_ground_parts.specs.Copies.{answer}
-use Rattle.lmn_ground.proofs.CopyLaws.{other_port, port_differs, port_is_joined}
+use Rattle.std.proofs.lemmas.List.{length-map}
+use Rattle.lmn_ground.proofs.CopyLaws.{other_port, port_differs, port_is_joined, has_port_as}
+use Rattle.lmn_ground.proofs.JoinLaws.{b_in, ports_there}
 use Rattle.lmn_ground.proofs.JoinAgain.{port_again}
 use Rattle.lmn_ground.proofs.copying.join_port.Goals as goal
+
+pub copy_of-d-requires-clause-among : goal.copy_of-d-requires-clause-among
+copy_of-d-requires-clause-among g c = b_in _ _ _ _ c.requires.copying (g.S.LinkStore.atom_id c.args.a) c.args.i c.requires.among _ _
+    (other_port (g.S.LinkStore.atom_id c.args.a) c.args.i (g.S.LinkStore.atom_id c.args.root.0, c.args.root.1) (λ w. absurd (let h = c.if-is_same_port.ensures.1 w in search rules))) c.in-Some.ensures.link
+
+pub copy_of-d-requires-clause-long : goal.copy_of-d-requires-clause-long
+copy_of-d-requires-clause-long g c = sym (length-map c.args.copies.now g.S.LinkStore.atom_id) ∙ (c.requires.copying.long ∙ length-map c.args.atoms.now g.S.LinkStore.atom_id)
+
+pub join-requires-clause-b : goal.join-requires-clause-b
+join-requires-clause-b g c = (has_port_as (g.S.LinkStore.heap c.args.store.now) _ _ _ c.copy_of-d.ensures (ports_there _ _ _ _ c.requires.copying (g.S.LinkStore.atom_id c.args.a) c.args.i c.requires.among _ _
+    (other_port (g.S.LinkStore.atom_id c.args.a) c.args.i (g.S.LinkStore.atom_id c.args.root.0, c.args.root.1) (λ w. absurd (let h = c.if-is_same_port.ensures.1 w in search rules))) c.in-Some.ensures.link).1).0
+
+pub join-requires-clause-j : goal.join-requires-clause-j
+join-requires-clause-j g c = (has_port_as (g.S.LinkStore.heap c.args.store.now) _ _ _ c.copy_of-d.ensures (ports_there _ _ _ _ c.requires.copying (g.S.LinkStore.atom_id c.args.a) c.args.i c.requires.among _ _
+    (other_port (g.S.LinkStore.atom_id c.args.a) c.args.i (g.S.LinkStore.atom_id c.args.root.0, c.args.root.1) (λ w. absurd (let h = c.if-is_same_port.ensures.1 w in search rules))) c.in-Some.ensures.link).1).1
 
 pub join-requires-clause-differ : goal.join-requires-clause-differ
 join-requires-clause-differ g c =
