@@ -26,7 +26,7 @@ use Rattle.lmn_web.specs.Webs.{WebCell, web_cell, web_with, web_of, web_by, kind
 use Rattle.lmn_web_cells.specs.Numbers.{INDEX, ARITY, KIND, HIGH, LOW, FIRST_MARK}
 use Rattle.lmn_web.specs.Classes.{AllButLinks, all_but_links}
 use Rattle.lmn_web.specs.Indexes.{cell_kind, IsListed, IsWeb}
-use Rattle.lmn_web.proofs.ListedLemmas.{kind_cases, link_behind, links_apart, counts_apart, count_below, line_same, listed_self, web_self, home_same, kind_same, list_same, own_line, cell_of}
+use Rattle.lmn_web.proofs.ListedLemmas.{kind_cases, link_behind, links_apart, count_behind, counts_apart, count_below, line_same, listed_self, web_self, home_same, kind_same, list_same, own_line, cell_of}
 use Rattle.lmn_web.proofs.WebLemmas.{some_back, Account, account, eight_by, kept_web, reaches_same, paired_same}
 use Rattle.lmn_base.proofs.Common.{of_map as in_map}
 
@@ -341,16 +341,11 @@ pub core_rest : (o : Option HeldCell) → core_of o ≡ back (all_but_links o)
 core_rest None = refl
 core_rest (Some c) = refl
 
--- the counts stand behind all numbers of an atom
-past_kind : (k : CellKind) → KIND < count_number k
-past_kind Atom = omega arith
-past_kind Membrane = omega arith
-
 -- the core of a cell of which a count is another
 core_count : (j : CellKind) (n : ℕ) (o : Option HeldCell) → core_of (option_map (with_number (count_number j) n) o) ≡ core_of o
 core_count j n None = refl
 core_count j n (Some c) =
-    let far : (i : ℕ) → i ≤ KIND → get_or (set c.numbers (count_number j) n) i 0 ≡ get_or c.numbers i 0 = λ i low. get_or-set_other c.numbers (count_number j) i n 0 (λ e. let b = past_kind j in absurd (omega (arith, b, low, e))) in
+    let far : (i : ℕ) → i ≤ FIRST_MARK → get_or (set c.numbers (count_number j) n) i 0 ≡ get_or c.numbers i 0 = λ i low. get_or-set_other c.numbers (count_number j) i n 0 (λ e. let b = count_behind j in absurd (omega (arith, b, low, e))) in
     λ t. Some record {
       index = far INDEX (omega arith) t;
       arity = far ARITY (omega arith) t;

@@ -33,17 +33,17 @@ pub fn is_filed(cells: &Cells, m: Cell, kind: CellKind) -> bool
     ensures { result ≡ files (cells_by cells.now) (cell_id m) kind }
 {
     match kind {
-        CellKind::Atom => cells.small(m, KIND) == FILED,
+        CellKind::Atom => cells.number(m, KIND) == FILED,
         CellKind::Membrane => false,
     }
 }
 
 // Whether an atom has a class.
-fn has_class(cells: &Cells, c: Cell, high: u64, arity: u8) -> bool
+fn has_class(cells: &Cells, c: Cell, high: u64, arity: u64) -> bool
     requires { IsSome (cells_by cells.now (cell_id c)) }
     ensures { result ≡ is_key (key_in (cells_by cells.now) (cell_id c)) (high, arity) }
 {
-    cells.number(c, HIGH) == high && cells.small(c, ARITY) == arity
+    cells.number(c, HIGH) == high && cells.number(c, ARITY) == arity
 }
 
 // The link of a first atom on the side to which a number goes.
@@ -54,7 +54,7 @@ fn side(rest: u64) -> usize
 }
 
 // Where a membrane has the first atom of a class, or would have it.
-fn find(cells: &Cells, m: Cell, high: u64, arity: u8) -> Place
+fn find(cells: &Cells, m: Cell, high: u64, arity: u64) -> Place
     requires there { IsSome (cells_by cells.now (cell_id m)) }
     requires tree { (t : ClassTree) × IsTree (cells_by cells.now) (link_in (cells_by cells.now) (cell_id m) LEADERS) t × IsSorted (cells_by cells.now) 0 t }
     ensures { (t : ClassTree) → IsTree (cells_by cells.now) (link_in (cells_by cells.now) (cell_id m) LEADERS) t →
@@ -85,7 +85,7 @@ fn find(cells: &Cells, m: Cell, high: u64, arity: u8) -> Place
 }
 
 // The first atom of a class of a membrane that files, without the place at which it hangs.
-fn leader_of(cells: &Cells, m: Cell, high: u64, arity: u8) -> Option<Cell>
+fn leader_of(cells: &Cells, m: Cell, high: u64, arity: u64) -> Option<Cell>
     requires there { IsSome (cells_by cells.now (cell_id m)) }
     requires tree { (t : ClassTree) × IsTree (cells_by cells.now) (link_in (cells_by cells.now) (cell_id m) LEADERS) t × IsSorted (cells_by cells.now) 0 t }
     ensures { (t : ClassTree) → IsTree (cells_by cells.now) (link_in (cells_by cells.now) (cell_id m) LEADERS) t → option_map cell_id result ≡ top (place_in (cells_by cells.now) (high, arity) (cell_id m) t).tree }
@@ -144,7 +144,7 @@ fn lowest(cells: &Cells, c: Cell) -> Place
 }
 
 // The first atom of a class from one of a membrane's list on, if there is one.
-fn seek(cells: &Cells, m: Cell, start: Option<Cell>, high: u64, arity: u8) -> Option<Cell>
+fn seek(cells: &Cells, m: Cell, start: Option<Cell>, high: u64, arity: u64) -> Option<Cell>
     requires line { Line (cells_by cells.now) (cell_id m) ATOMS (list_in (cells_by cells.now) (cell_id m) Atom) }
     requires start { IfSome start (λ c. In (cell_id c) (list_in (cells_by cells.now) (cell_id m) Atom)) }
     ensures { let f = cells_by cells.now in let all = list_in f (cell_id m) Atom in
@@ -161,7 +161,7 @@ fn seek(cells: &Cells, m: Cell, start: Option<Cell>, high: u64, arity: u8) -> Op
 }
 
 /// The first atom of a class in a membrane.
-pub fn first_in(cells: &Cells, m: Cell, high: u64, arity: u8) -> Option<Cell>
+pub fn first_in(cells: &Cells, m: Cell, high: u64, arity: u64) -> Option<Cell>
     requires there { IsSome (cells_by cells.now (cell_id m)) }
     requires line { Line (cells_by cells.now) (cell_id m) ATOMS (list_in (cells_by cells.now) (cell_id m) Atom) }
     requires classes { files (cells_by cells.now) (cell_id m) Atom ≡ true → (t : ClassTree) × AreClassed (cells_by cells.now) (cell_id m) (list_in (cells_by cells.now) (cell_id m) Atom) t }
@@ -190,7 +190,7 @@ pub fn next_in(cells: &Cells, m: Cell, c: Cell) -> Option<Cell>
             m,
             cells.link(c, NEXT),
             cells.number(c, HIGH),
-            cells.small(c, ARITY),
+            cells.number(c, ARITY),
         )
     }
 }
@@ -210,7 +210,7 @@ pub fn place_from(cells: &Cells, m: Cell, filed: bool, start: Cell, c: Cell) -> 
         return None;
     }
     let high = cells.number(c, HIGH);
-    let arity = cells.small(c, ARITY);
+    let arity = cells.number(c, ARITY);
     if cells.link(start, PREV).is_none() {
         first_in(cells, m, high, arity)
     } else {
@@ -348,7 +348,7 @@ pub fn file_last(cells: &mut Cells, m: Cell, c: Cell)
 {
     cells.whole();
     let high = cells.number(c, HIGH);
-    let arity = cells.small(c, ARITY);
+    let arity = cells.number(c, ARITY);
     let found = find(cells, m, high, arity);
     match found.leader {
         None => begin(cells, found.holder, found.link, c),
@@ -370,7 +370,7 @@ pub fn file_before(cells: &mut Cells, m: Cell, d: Cell, c: Cell)
         Some(prev) => put_inside(cells, prev, d, c),
         None => {
             let high = cells.number(c, HIGH);
-            let arity = cells.small(c, ARITY);
+            let arity = cells.number(c, ARITY);
             let found = find(cells, m, high, arity);
             put_leader(cells, found.holder, found.link, d, c);
         }
@@ -386,7 +386,7 @@ fn unfile_last(cells: &mut Cells, m: Cell, c: Cell, prev: Cell)
 {
     cells.whole();
     let high = cells.number(c, HIGH);
-    let arity = cells.small(c, ARITY);
+    let arity = cells.number(c, ARITY);
     let found = find(cells, m, high, arity);
     if let Some(leader) = found.leader {
         shorten(cells, leader, prev);
@@ -402,7 +402,7 @@ fn unfile_first(cells: &mut Cells, m: Cell, c: Cell, next: Option<Cell>)
 {
     cells.whole();
     let high = cells.number(c, HIGH);
-    let arity = cells.small(c, ARITY);
+    let arity = cells.number(c, ARITY);
     let found = find(cells, m, high, arity);
     match next {
         Some(n) => pass(cells, found.holder, found.link, c, n),

@@ -16,13 +16,13 @@ pub enum CellKind {
 }
 
 /// The number by which a cell tells that it is a membrane whose atoms are filed by class.
-pub const FILED: u8 = 1;
+pub const FILED: u64 = 1;
 
 /// The number of a membrane whose atoms aren't.
-pub const UNFILED: u8 = 2;
+pub const UNFILED: u64 = 2;
 
 /// The number by which a cell tells its kind. The atoms of a membrane are filed.
-pub fn number_of(kind: CellKind) -> u8
+pub fn number_of(kind: CellKind) -> u64
     ensures { kind_by result ≡ kind }
 {
     match kind {
@@ -32,7 +32,7 @@ pub fn number_of(kind: CellKind) -> u8
 }
 
 /// The kind of a number.
-pub fn kind_of(n: u8) -> CellKind
+pub fn kind_of(n: u64) -> CellKind
     ensures { result ≡ kind_by n }
 {
     if n == 0 {

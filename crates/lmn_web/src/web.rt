@@ -88,7 +88,7 @@ impl Web {
 
     // A new cell that tells its kind by this number.
     #[inline(always)]
-    fn make_by(&mut self, label: u128, arity: u8, kind: u8) -> Result<Cell, AllocError>
+    fn make_by(&mut self, label: u128, arity: u8, kind: u64) -> Result<Cell, AllocError>
         ensures { MatchResult result
             (λ c. (web_by self.old (cell_id c) ≡ None) × (web_by self.new ≡ alter (web_by self.old) (cell_id c) (λ _. Some (new_cell label arity (kind_by kind)))))
             (λ _. web_by self.new ≡ web_by self.old) }
@@ -98,7 +98,7 @@ impl Web {
         let c = make_blank(&mut self.cells, arity, kind)?;
         let high = (label / WHOLE) as u64;
         let low = (label % WHOLE) as u64;
-        describe(&mut self.cells, c, index, arity, kind, high, low);
+        describe(&mut self.cells, c, index, arity as u64, kind, high, low);
         self.all.push_reserved(c);
         Ok(c)
     }
@@ -136,7 +136,7 @@ impl Web {
         requires { IsSome (web_by self.now (cell_id c)) }
         ensures { result ≡ arity_at (web_by self.now) (cell_id c) }
     {
-        self.cells.small(c, ARITY)
+        self.cells.number(c, ARITY) as u8
     }
 
     /// What the cell stands for.
@@ -144,7 +144,7 @@ impl Web {
         requires { IsSome (web_by self.now (cell_id c)) }
         ensures { option_map (λ x. x.kind) (web_by self.now (cell_id c)) ≡ Some result }
     {
-        kind_of(self.cells.small(c, KIND))
+        kind_of(self.cells.number(c, KIND))
     }
 
     /// Whether the two are one cell.
@@ -183,7 +183,7 @@ impl Web {
         requires differ { IsSamePort (cell_id a) i (cell_id b) j → ⊥ }
         ensures { web_by self.new ≡ joined (web_by self.old) (cell_id a) i (cell_id b) j }
     {
-        ports::join(&mut self.cells, a, i, b, j);
+        ports::join(&mut self.cells, a, i as usize, b, j as usize);
     }
 
     /// The port and its partner have none.
@@ -246,7 +246,7 @@ impl Web {
         ensures list { let all = with_class (web_by self.now) class arity (cells_in (web_by self.now) (cell_id home) Atom) in from (option_map cell_id result) all ≡ all }
         ensures there { IfSome result (λ c. In (cell_id c) (cells_in (web_by self.now) (cell_id home) Atom)) }
     {
-        first_in(&self.cells, home, class, arity)
+        first_in(&self.cells, home, class, arity as u64)
     }
 
     /// The next atom behind this one in its list with a label of its class and as many ports.
@@ -353,7 +353,7 @@ impl Web {
         ensures { (m : ℕ) → home_at (web_by self.old) (cell_id after) ≡ Some m → web_by self.new ≡ added_before (web_by self.old) m (cell_id after) (cell_id c) }
     {
         if let Some(home) = self.cells.link(after, HOME) {
-            let kind = kind_of(self.cells.small(c, KIND));
+            let kind = kind_of(self.cells.number(c, KIND));
             let filed = is_filed(&self.cells, home, kind);
             let place = place_from(&self.cells, home, filed, after, c);
             lists::insert(&mut self.cells, home, first_link(kind), after, c);
@@ -408,7 +408,7 @@ impl Web {
 
 // A cell in which nothing is set, that is to tell its kind by this number. No membrane is made but with one port.
 #[inline(always)]
-fn make_blank(cells: &mut Cells, arity: u8, kind: u8) -> Result<Cell, AllocError>
+fn make_blank(cells: &mut Cells, arity: u8, kind: u64) -> Result<Cell, AllocError>
     ensures { MatchResult result
         (λ c. (cells_by cells.old (cell_id c) ≡ None) × (cells_by cells.new ≡ alter (cells_by cells.old) (cell_id c) (λ _. Some (blank_by kind arity))))
         (λ _. cells_by cells.new ≡ cells_by cells.old) }
@@ -423,13 +423,13 @@ fn make_blank(cells: &mut Cells, arity: u8, kind: u8) -> Result<Cell, AllocError
 }
 
 // The numbers of a cell that was just made.
-fn describe(cells: &mut Cells, c: Cell, index: u64, arity: u8, kind: u8, high: u64, low: u64)
+fn describe(cells: &mut Cells, c: Cell, index: u64, arity: u64, kind: u64, high: u64, low: u64)
     requires { IsSome (cells_by cells.old (cell_id c)) }
     ensures { cells_by cells.new ≡ alter (cells_by cells.old) (cell_id c) (option_map (described index arity kind high low)) }
 {
     cells.set_number(c, INDEX, index);
-    cells.set_small(c, ARITY, arity);
-    cells.set_small(c, KIND, kind);
+    cells.set_number(c, ARITY, arity);
+    cells.set_number(c, KIND, kind);
     cells.set_number(c, HIGH, high);
     cells.set_number(c, LOW, low);
 }
@@ -451,9 +451,9 @@ fn free_cell(cells: &mut Cells, c: Cell)
     requires numbers { length (numbers_of (cells_by cells.old (cell_id c))) ≡ numbers_by (number_in (cells_by cells.old) (cell_id c) KIND) }
     ensures { cells_by cells.new ≡ alter (cells_by cells.old) (cell_id c) (λ _. None) }
 {
-    let kind = cells.small(c, KIND);
+    let kind = cells.number(c, KIND);
     if kind == 0 {
-        let ports = cells.small(c, ARITY);
+        let ports = cells.number(c, ARITY);
         cells.free(c, ports as usize);
     } else {
         cells.free_membrane(c);

@@ -1,15 +1,15 @@
 -- Rows that are cells: one of them is read, and changed.
-use Rattle.std.proofs.Common.{◌≡◌, ◌⊎◌, ℕ, suc, ◌+◌, ◌-◌, ◌*◌, ◌<◌, ◌≤◌, ◌^◌, ◌==◌, Bool, true, false, List, [], ◌∷◌, ◌++◌, length, take, drop, get_or, set, Option, Some, None, IsSome, if◌then◌else◌, refl, sym, subst, ap, ◌∙◌, inl, inr, arith, length-set}
+use Rattle.std.proofs.Common.{◌≡◌, ◌⊎◌, ℕ, suc, ◌+◌, ◌*◌, ◌<◌, ◌≤◌, ◌^◌, ◌==◌, Bool, true, false, List, [], ◌∷◌, ◌++◌, length, take, drop, get_or, set, Option, Some, None, IsSome, if◌then◌else◌, refl, sym, subst, ap, ◌∙◌, inl, inr, arith, length-set}
 use Rattle.std.proofs.lemmas.Bool.{cases_eq, eq-eqb}
 use Rattle.std.specs.Option.{option_map}
 use denote.RawPtr.{Ptr, null_ptr}
-use Rattle.lmn_web_cells.specs.Rows.{Item, blank, link, number, bytes_in, of_bytes, with_byte, Row, row, items_in, with_items}
-use Rattle.lmn_web_cells.specs.Cells.{HeldPort, HeldCell, pointer_to, link_to, link_items, number_items, port_words, port_items, small_item, last_items, cell_items, cell_by, cells_by, IsShaped, IsLaid, AreLaid, HaveLinks, links_of, numbers_of, ports_of, no_port, with_link, with_number, with_to, with_port, with_mark}
+use Rattle.lmn_web_cells.specs.Rows.{Item, blank, link, number, Row, row, items_in, with_items}
+use Rattle.lmn_web_cells.specs.Cells.{HeldPort, HeldCell, pointer_to, link_to, link_items, number_items, cell_items, cell_by, cells_by, IsShaped, IsLaid, AreLaid, HaveLinks, links_of, numbers_of, ports_of, no_port, with_link, with_number, with_to, with_port, with_mark}
 use Rattle.lmn_store_heap.specs.Heap.{alter}
 use Rattle.lmn_store_heap.proofs.Listing.{alter_at, alter_away}
 use Rattle.lmn_web_cells.specs.CellIds.{IsLink, led_by}
 use Rattle.lmn_base.proofs.Numbers.{not_equal}
-use Rattle.lmn_web_cells.proofs.CellWords.{all_bytes, behind_links, behind_small, some_numbers, link_at, set_link_at, cell_back, ports_at, set_ports_at, small_at, set_small_at, port_word_at, set_to_at, set_port_at, set_mark_at, port_items_same, port_byte_at, set_port_byte, port_bytes_same, port_bytes_before, count_bytes, word_count, first_number_at, set_first_number_at, small_number_at, set_small_number_at, port_word, last_number_word, set_last_number_word}
+use Rattle.lmn_web_cells.proofs.CellWords.{behind_links, some_numbers, link_at, set_link_at, cell_back, ports_at, set_ports_at, port_word_at, set_to_at, set_port_at, set_mark_at, word_count, first_number_at, set_first_number_at, last_number_word, set_last_number_word}
 use Rattle.lmn_base.proofs.Truth.{if_no}
 
 -- a cell that is there, with its words
@@ -47,8 +47,8 @@ word_is rows b k laid there low =
 -- the pointer in a word, if it is one
 abbrev pointer_in : Item → Ptr
 pointer_in None = null_ptr
-pointer_in (Some (None, x)) = null_ptr
-pointer_in (Some (Some p, x)) = p
+pointer_in (Some (None, n)) = null_ptr
+pointer_in (Some (Some p, n)) = p
 
 -- the pointer to a cell, or to nowhere, is a link
 pub is_link : (x : Option ℕ) → IsLink (pointer_to x)
@@ -67,89 +67,54 @@ pointer_read i x p e r = ap pointer_in (sym r ∙ e)
 -- the number that was read
 abbrev number_in : Item → ℕ
 number_in None = 0
-number_in (Some (p, x)) = x.0
+number_in (Some (p, n)) = n
 
 -- a word is one number
 pub number_read : (i : Item) (m n : ℕ) → i ≡ number m → i ≡ number n → n ≡ m
 number_read i m n e r = ap number_in (sym r ∙ e)
 
--- the byte that was read
-abbrev byte_in : Option ℕ → ℕ
-byte_in None = 0
-byte_in (Some n) = n
-
--- a byte is one number
-pub byte_read : (x : Option ℕ) (m n : ℕ) → x ≡ Some m → x ≡ Some n → n ≡ m
-byte_read x m n e r = ap byte_in (sym r ∙ e)
-
 -- Numbers
 
 -- the word of one of the first numbers of a cell
-pub number_is : (rows : List Row) (b k : ℕ) (laid : AreLaid rows) (there : IsSome (cells_by rows b)) → k < 4
+pub number_is : (rows : List Row) (b k : ℕ) (laid : AreLaid rows) (there : IsSome (cells_by rows b)) → k < 6
     → get_or (items_in rows b) (8 + k) blank ≡ number (get_or (numbers_of (cells_by rows b)) k 0)
 number_is rows b k laid there low =
     let f = found rows b laid there in
     ap (λ is. get_or is (8 + k) blank) f.words ∙ first_number_at f.cell f.shaped k low ∙ ap (λ (o : Option HeldCell). number (get_or (numbers_of o) k 0)) (sym f.is)
 
--- the byte of one of the small numbers
-pub small_is : (rows : List Row) (b k : ℕ) (laid : AreLaid rows) (there : IsSome (cells_by rows b)) → 4 ≤ k → k < 6
-    → get_or (bytes_in (get_or (items_in rows b) 12 blank)) (k - 4) None ≡ Some (get_or (numbers_of (cells_by rows b)) k 0)
-small_is rows b k laid there h low =
-    let f = found rows b laid there in
-    ap (λ is. get_or (bytes_in (get_or is 12 blank)) (k - 4) None) f.words ∙ ap (λ i. get_or (bytes_in i) (k - 4) None) (small_at f.cell f.shaped) ∙ small_number_at f.cell k h low
-    ∙ ap (λ (o : Option HeldCell). Some (get_or (numbers_of o) k 0)) (sym f.is)
-
--- there are eight bytes
-pub eight_bytes : (rows : List Row) (b : ℕ) (laid : AreLaid rows) (there : IsSome (cells_by rows b)) → length (bytes_in (get_or (items_in rows b) 12 blank)) ≡ 8
-eight_bytes rows b laid there =
-    let f = found rows b laid there in let n = count_bytes 6 f.cell.ports in
-    ap (λ is. length (bytes_in (get_or is 12 blank))) f.words ∙ ap (λ i. length (bytes_in i)) (small_at f.cell f.shaped) ∙ (let e : length (bytes_in (small_item f.cell)) ≡ 8 = omega (arith, n) in e)
-
 -- that of one of the last numbers of a membrane
 pub count_is : (rows : List Row) (b k : ℕ) (laid : AreLaid rows) (there : IsSome (cells_by rows b)) → length (numbers_of (cells_by rows b)) ≡ 8 → 6 ≤ k → k < 8
-    → get_or (items_in rows b) (9 + k) blank ≡ number (get_or (numbers_of (cells_by rows b)) k 0)
+    → get_or (items_in rows b) (11 + k) blank ≡ number (get_or (numbers_of (cells_by rows b)) k 0)
 count_is rows b k laid there eight h low =
     let f = found rows b laid there in
-    ap (λ is. get_or is (9 + k) blank) f.words ∙ last_number_word f.cell f.shaped (sym (ap (λ (o : Option HeldCell). length (numbers_of o)) f.is) ∙ eight) k h low
+    ap (λ is. get_or is (11 + k) blank) f.words ∙ last_number_word f.cell f.shaped (sym (ap (λ (o : Option HeldCell). length (numbers_of o)) f.is) ∙ eight) k h low
     ∙ ap (λ (o : Option HeldCell). number (get_or (numbers_of o) k 0)) (sym f.is)
 
 -- Ports
 
--- a word of a port: the third stands only behind the first six
-port_word_is : (rows : List Row) (b j w m : ℕ) (laid : AreLaid rows) (there : IsSome (cells_by rows b)) (low : j < length (ports_of (cells_by rows b))) → w < 3 → w < 2 + (suc j - 6) → m ≡ 13 + (port_words j + w)
-    → get_or (items_in rows b) m blank ≡ port_word (get_or (ports_of (cells_by rows b)) j no_port) w
-port_word_is rows b j w m laid there low h l at =
-    let f = found rows b laid there in
-    ap (λ is. get_or is m blank) f.words ∙ ap (λ n. get_or (cell_items f.cell) n blank) at ∙ ports_at f.cell f.shaped (port_words j + w)
-    ∙ port_word_at 6 f.cell.ports j w (last_items (drop 6 f.cell.numbers)) h l (subst (λ (o : Option HeldCell). j < length (ports_of o)) f.is low)
-    ∙ ap (λ (o : Option HeldCell). port_word (get_or (ports_of o) j no_port) w) (sym f.is)
-
 -- the word that says where a port leads
-pub to_is : (rows : List Row) (b j m : ℕ) (laid : AreLaid rows) (there : IsSome (cells_by rows b)) → j < length (ports_of (cells_by rows b)) → m ≡ 13 + port_words j
-    → get_or (items_in rows b) m blank ≡ link_to (get_or (ports_of (cells_by rows b)) j no_port).to
-to_is rows b j m laid there low at = port_word_is rows b j 0 m laid there low (omega arith) (omega arith) (omega (arith, at))
+pub to_is : (rows : List Row) (b j : ℕ) (laid : AreLaid rows) (there : IsSome (cells_by rows b)) → j < length (ports_of (cells_by rows b))
+    → get_or (items_in rows b) (14 + (j * 3 + 0)) blank ≡ link_to (get_or (ports_of (cells_by rows b)) j no_port).to
+to_is rows b j laid there low =
+    let f = found rows b laid there in
+    ap (λ is. get_or is (14 + (j * 3 + 0)) blank) f.words ∙ ports_at f.cell f.shaped (j * 3 + 0) ∙ port_word_at f.cell.ports j 0 (number_items (drop 6 f.cell.numbers)) (omega arith) (subst (λ (o : Option HeldCell). j < length (ports_of o)) f.is low)
+    ∙ ap (λ (o : Option HeldCell). link_to (get_or (ports_of o) j no_port).to) (sym f.is)
+
+-- the word of the port there
+pub port_is : (rows : List Row) (b j : ℕ) (laid : AreLaid rows) (there : IsSome (cells_by rows b)) → j < length (ports_of (cells_by rows b))
+    → get_or (items_in rows b) (14 + (j * 3 + 1)) blank ≡ number (get_or (ports_of (cells_by rows b)) j no_port).port
+port_is rows b j laid there low =
+    let f = found rows b laid there in
+    ap (λ is. get_or is (14 + (j * 3 + 1)) blank) f.words ∙ ports_at f.cell f.shaped (j * 3 + 1) ∙ port_word_at f.cell.ports j 1 (number_items (drop 6 f.cell.numbers)) (omega arith) (subst (λ (o : Option HeldCell). j < length (ports_of o)) f.is low)
+    ∙ ap (λ (o : Option HeldCell). number (get_or (ports_of o) j no_port).port) (sym f.is)
 
 -- the word of the mark of a port
-pub mark_is : (rows : List Row) (b j m : ℕ) (laid : AreLaid rows) (there : IsSome (cells_by rows b)) → j < length (ports_of (cells_by rows b)) → m ≡ 14 + port_words j
-    → get_or (items_in rows b) m blank ≡ number (get_or (ports_of (cells_by rows b)) j no_port).mark
-mark_is rows b j m laid there low at = port_word_is rows b j 1 m laid there low (omega arith) (omega arith) (omega (arith, at))
-
--- the word of the port there, behind the first six
-pub port_is : (rows : List Row) (b j m : ℕ) (laid : AreLaid rows) (there : IsSome (cells_by rows b)) → j < length (ports_of (cells_by rows b)) → 6 ≤ j → m ≡ 15 + port_words j
-    → get_or (items_in rows b) m blank ≡ number (get_or (ports_of (cells_by rows b)) j no_port).port
-port_is rows b j m laid there low h at = port_word_is rows b j 2 m laid there low (omega arith) (omega (arith, h)) (omega (arith, at))
-
-two_more : (j : ℕ) → j + 2 ≡ suc (suc j)
-two_more j = omega arith
-
--- the byte of the port there, for the first six
-pub port_byte_is : (rows : List Row) (b j : ℕ) (laid : AreLaid rows) (there : IsSome (cells_by rows b)) → j < length (ports_of (cells_by rows b)) → j < 6
-    → get_or (bytes_in (get_or (items_in rows b) 12 blank)) (j + 2) None ≡ Some (get_or (ports_of (cells_by rows b)) j no_port).port
-port_byte_is rows b j laid there low h =
+pub mark_is : (rows : List Row) (b j : ℕ) (laid : AreLaid rows) (there : IsSome (cells_by rows b)) → j < length (ports_of (cells_by rows b))
+    → get_or (items_in rows b) (14 + (j * 3 + 2)) blank ≡ number (get_or (ports_of (cells_by rows b)) j no_port).mark
+mark_is rows b j laid there low =
     let f = found rows b laid there in
-    ap (λ is. get_or (bytes_in (get_or is 12 blank)) (j + 2) None) f.words ∙ ap (λ i. get_or (bytes_in i) (j + 2) None) (small_at f.cell f.shaped)
-    ∙ ap (λ n. get_or (all_bytes f.cell.numbers f.cell.ports) n None) (two_more j) ∙ port_byte_at 6 f.cell.ports j h (subst (λ (o : Option HeldCell). j < length (ports_of o)) f.is low)
-    ∙ ap (λ (o : Option HeldCell). Some (get_or (ports_of o) j no_port).port) (sym f.is)
+    ap (λ is. get_or is (14 + (j * 3 + 2)) blank) f.words ∙ ports_at f.cell f.shaped (j * 3 + 2) ∙ port_word_at f.cell.ports j 2 (number_items (drop 6 f.cell.numbers)) (omega arith) (subst (λ (o : Option HeldCell). j < length (ports_of o)) f.is low)
+    ∙ ap (λ (o : Option HeldCell). number (get_or (ports_of o) j no_port).mark) (sym f.is)
 
 -- fewer than 2 ^ 16 ports, and their words are below 2 ^ 32
 pub low_port : (rows : List Row) (b j : ℕ) (laid : AreLaid rows) (there : IsSome (cells_by rows b)) → j < length (ports_of (cells_by rows b)) → j < 2 ^ 16
@@ -189,25 +154,30 @@ same_count : (ns ms : List ℕ) (ps qs : List HeldPort) → length ms ≡ length
 same_count ns ms ps qs n p (inl six) = inl (n ∙ six)
 same_count ns ms ps qs n p (inr eight) = inr (n ∙ eight.0, p ∙ eight.1)
 
--- a cell has its links, its first numbers and the word of bytes
-pub words_there : (rows : List Row) (b : ℕ) → AreLaid rows → IsSome (cells_by rows b) → 13 ≤ length (items_in rows b)
-words_there rows b laid there = let f = found rows b laid there in subst (λ is. 13 ≤ length is) (sym f.words) (let n = word_count f.cell f.shaped in omega (arith, n))
+-- also one of the rows
+pub six_there : (rows : List Row) (b : ℕ) → AreLaid rows → IsSome (cells_by rows b) → 6 ≤ length (numbers_of (cells_by rows b))
+six_there rows b laid there = let f = found rows b laid there in subst (λ (o : Option HeldCell). 6 ≤ length (numbers_of o)) (sym f.is) (some_numbers f.cell f.shaped)
 
--- a cell has the words of its ports: the third only behind the first six
-pub port_words_there : (rows : List Row) (b j w m : ℕ) → AreLaid rows → IsSome (cells_by rows b) → j < length (ports_of (cells_by rows b)) → w < 3 → w < 2 + (suc j - 6) → m ≡ 13 + (port_words j + w) → m < length (items_in rows b)
-port_words_there rows b j w m laid there low h l at =
-    let f = found rows b laid there in let near : j < length f.cell.ports = subst (λ (o : Option HeldCell). j < length (ports_of o)) f.is low in
-    subst (λ is. m < length is) (sym f.words) (let n = word_count f.cell f.shaped in omega (arith, n, near, h, l, at))
+-- a cell has its links and numbers
+pub words_there : (rows : List Row) (b : ℕ) → AreLaid rows → IsSome (cells_by rows b) → 8 + length (numbers_of (cells_by rows b)) < suc (length (items_in rows b))
+words_there rows b laid there = let f = found rows b laid there in subst (λ is. 8 + length (numbers_of (cells_by rows b)) < suc (length is)) (sym f.words)
+    (subst (λ (o : Option HeldCell). 8 + length (numbers_of o) < suc (length (cell_items f.cell))) (sym f.is) (let n = word_count f.cell f.shaped in omega (arith, n)))
+
+-- a cell has the words of its ports
+pub port_words_there : (rows : List Row) (b j w : ℕ) → AreLaid rows → IsSome (cells_by rows b) → j < length (ports_of (cells_by rows b)) → w < 3 → 14 + (j * 3 + w) < length (items_in rows b)
+port_words_there rows b j w laid there low h =
+    let f = found rows b laid there in let l : j < length f.cell.ports = subst (λ (o : Option HeldCell). j < length (ports_of o)) f.is low in
+    subst (λ is. 14 + (j * 3 + w) < length is) (sym f.words) (let n = word_count f.cell f.shaped in let some = some_numbers f.cell f.shaped in omega (arith, n, l, h, some))
 
 -- one word of a cell is written: what the rows stand for then
 pub changes : (rows : List Row) (b k : ℕ) (i : Item) (g : HeldCell → HeldCell) (laid : AreLaid rows) (there : IsSome (cells_by rows b))
-    → ((c : HeldCell) → IsShaped c → cells_by rows b ≡ Some c → items_in rows b ≡ cell_items c → (set (cell_items c) k i ≡ cell_items (g c)) × IsShaped (g c))
+    → ((c : HeldCell) → IsShaped c → cells_by rows b ≡ Some c → (set (cell_items c) k i ≡ cell_items (g c)) × IsShaped (g c))
     → Changed rows b k i g
 changes rows b k i g laid there by =
     let f = found rows b laid there in let some = words_there rows b laid there in
     let new : List Item = set (items_in rows b) k i in
     let at = items_same rows b new (omega (arith, some)) in
-    let step = by f.cell f.shaped f.is f.words in
+    let step = by f.cell f.shaped f.is in
     let words : new ≡ cell_items (g f.cell) = ap (λ is. set is k i) f.words ∙ step.0 in
     let laid' : AreLaid (with_items b new rows) = λ j. elim (cases_eq j b) [
       | inl e ↦ inr (g f.cell, step.1, ap (λ m. items_in (with_items b new rows) m) e ∙ at ∙ words)
@@ -223,79 +193,49 @@ changes rows b k i g laid there by =
 -- a link
 pub link_changes : (rows : List Row) (b k : ℕ) (x : Option ℕ) (laid : AreLaid rows) (there : IsSome (cells_by rows b)) → k < 8 → Changed rows b k (link_to x) (with_link k x)
 link_changes rows b k x laid there low = changes rows b k (link_to x) (with_link k x) laid there
-    (λ c s e r. (
+    (λ c s e. (
       set_link_at c.links k x (behind_links c) (subst (λ n. k < n) (sym s.links) low),
       record { links = length-set c.links k x ∙ s.links; numbers = s.numbers; few = s.few },
     ))
 
--- with another number a cell has its shape
-numbered : (c : HeldCell) (k n : ℕ) → IsShaped c → IsShaped (with_number k n c)
-numbered c k n s = record { links = s.links; numbers = same_count c.numbers (set c.numbers k n) c.ports c.ports (length-set c.numbers k n) refl s.numbers; few = s.few }
-
--- and with another port
-ported : (c : HeldCell) (j : ℕ) (q : HeldPort) → IsShaped c → IsShaped (record c { ports = set c.ports j q })
-ported c j q s = record { links = s.links; numbers = same_count c.numbers c.numbers c.ports (set c.ports j q) refl (length-set c.ports j q) s.numbers; few = subst (λ n. n < 2 ^ 16) (sym (length-set c.ports j q)) s.few }
-
 -- one of the first numbers
-pub number_changes : (rows : List Row) (b k n : ℕ) (laid : AreLaid rows) (there : IsSome (cells_by rows b)) → k < 4 → Changed rows b (8 + k) (number n) (with_number k n)
-number_changes rows b k n laid there low = changes rows b (8 + k) (number n) (with_number k n) laid there (λ c s e r. (set_first_number_at c s k n low, numbered c k n s))
-
--- the word of bytes with one that is another, where these are the words
-byte_of : (c : HeldCell) (is : List Item) (j n : ℕ) → IsShaped c → is ≡ cell_items c → with_byte j n (get_or is 12 blank) ≡ with_byte j n (small_item c)
-byte_of c is j n s r = ap (with_byte j n) (ap (λ js. get_or js 12 blank) r ∙ small_at c s)
-
--- one of the small numbers
-pub small_changes : (rows : List Row) (b k n : ℕ) (laid : AreLaid rows) (there : IsSome (cells_by rows b)) → 4 ≤ k → k < 6 → Changed rows b 12 (with_byte (k - 4) n (get_or (items_in rows b) 12 blank)) (with_number k n)
-small_changes rows b k n laid there h low = changes rows b 12 (with_byte (k - 4) n (get_or (items_in rows b) 12 blank)) (with_number k n) laid there
-    (λ c s e r. (ap (set (cell_items c) 12) (byte_of c (items_in rows b) (k - 4) n s r) ∙ set_small_number_at c s k n h low, numbered c k n s))
+pub number_changes : (rows : List Row) (b k n : ℕ) (laid : AreLaid rows) (there : IsSome (cells_by rows b)) → k < 6 → Changed rows b (8 + k) (number n) (with_number k n)
+number_changes rows b k n laid there low = changes rows b (8 + k) (number n) (with_number k n) laid there
+    (λ c s e. (
+      set_first_number_at c s k n low,
+      record { links = s.links; numbers = same_count c.numbers (set c.numbers k n) c.ports c.ports (length-set c.numbers k n) refl s.numbers; few = s.few },
+    ))
 
 -- one of the last numbers of a membrane
-pub count_changes : (rows : List Row) (b k n : ℕ) (laid : AreLaid rows) (there : IsSome (cells_by rows b)) → length (numbers_of (cells_by rows b)) ≡ 8 → 6 ≤ k → k < 8 → Changed rows b (9 + k) (number n) (with_number k n)
-count_changes rows b k n laid there eight h low = changes rows b (9 + k) (number n) (with_number k n) laid there
-    (λ c s e r. (set_last_number_word c s (sym (ap (λ (o : Option HeldCell). length (numbers_of o)) e) ∙ eight) k n h low, numbered c k n s))
-
--- the words of a cell by those of its ports and its bytes
-abbrev part_words : HeldCell → List (Option ℕ) → List Item → List Item
-part_words c xs is = link_items c.links ++ (number_items (take 4 c.numbers) ++ (of_bytes (Some (get_or c.numbers 4 0) ∷ Some (get_or c.numbers 5 0) ∷ xs) ∷ (is ++ last_items (drop 6 c.numbers))))
+pub count_changes : (rows : List Row) (b k n : ℕ) (laid : AreLaid rows) (there : IsSome (cells_by rows b)) → length (numbers_of (cells_by rows b)) ≡ 8 → 6 ≤ k → k < 8 → Changed rows b (11 + k) (number n) (with_number k n)
+count_changes rows b k n laid there eight h low = changes rows b (11 + k) (number n) (with_number k n) laid there
+    (λ c s e. (
+      set_last_number_word c s (sym (ap (λ (o : Option HeldCell). length (numbers_of o)) e) ∙ eight) k n h low,
+      record { links = s.links; numbers = same_count c.numbers (set c.numbers k n) c.ports c.ports (length-set c.numbers k n) refl s.numbers; few = s.few },
+    ))
 
 -- where a port leads
-pub to_changes : (rows : List Row) (b j m : ℕ) (x : Option ℕ) (laid : AreLaid rows) (there : IsSome (cells_by rows b)) → j < length (ports_of (cells_by rows b)) → m ≡ 13 + port_words j → Changed rows b m (link_to x) (with_to j x)
-to_changes rows b j m x laid there low at = changes rows b m (link_to x) (with_to j x) laid there
-    (λ c s e r. (
-      ap (λ n. set (cell_items c) n (link_to x)) (let k : m ≡ 13 + (port_words j + 0) = omega (arith, at) in k) ∙ set_ports_at c s (port_words j + 0) (link_to x)
-          ∙ ap (λ is. link_items c.links ++ (number_items (take 4 c.numbers) ++ (small_item c ∷ is))) (set_to_at 6 c.ports j x (last_items (drop 6 c.numbers)) (subst (λ (o : Option HeldCell). j < length (ports_of o)) e low))
-          ∙ (λ t. part_words c (sym (port_bytes_same 6 c.ports j (record (get_or c.ports j no_port) { to = x }) refl) t) (port_items 6 (set c.ports j (record (get_or c.ports j no_port) { to = x })))),
-      ported c j (record (get_or c.ports j no_port) { to = x }) s,
+pub to_changes : (rows : List Row) (b j : ℕ) (x : Option ℕ) (laid : AreLaid rows) (there : IsSome (cells_by rows b)) → j < length (ports_of (cells_by rows b)) → Changed rows b (14 + (j * 3 + 0)) (link_to x) (with_to j x)
+to_changes rows b j x laid there low = changes rows b (14 + (j * 3 + 0)) (link_to x) (with_to j x) laid there
+    (λ c s e. (
+      set_ports_at c s (j * 3 + 0) (link_to x) ∙ ap (λ is. link_items c.links ++ (number_items (take 6 c.numbers) ++ is)) (set_to_at c.ports j x (number_items (drop 6 c.numbers)) (subst (λ (o : Option HeldCell). j < length (ports_of o)) e low)),
+      record { links = s.links; numbers = same_count c.numbers c.numbers c.ports (set c.ports j _) refl (length-set c.ports j _) s.numbers; few = subst (λ n. n < 2 ^ 16) (sym (length-set c.ports j _)) s.few },
+    ))
+
+-- the number of the port there
+pub port_changes : (rows : List Row) (b j n : ℕ) (laid : AreLaid rows) (there : IsSome (cells_by rows b)) → j < length (ports_of (cells_by rows b)) → Changed rows b (14 + (j * 3 + 1)) (number n) (with_port j n)
+port_changes rows b j n laid there low = changes rows b (14 + (j * 3 + 1)) (number n) (with_port j n) laid there
+    (λ c s e. (
+      set_ports_at c s (j * 3 + 1) (number n) ∙ ap (λ is. link_items c.links ++ (number_items (take 6 c.numbers) ++ is)) (set_port_at c.ports j n (number_items (drop 6 c.numbers)) (subst (λ (o : Option HeldCell). j < length (ports_of o)) e low)),
+      record { links = s.links; numbers = same_count c.numbers c.numbers c.ports (set c.ports j _) refl (length-set c.ports j _) s.numbers; few = subst (λ m. m < 2 ^ 16) (sym (length-set c.ports j _)) s.few },
     ))
 
 -- the mark of a port
-pub mark_changes : (rows : List Row) (b j m n : ℕ) (laid : AreLaid rows) (there : IsSome (cells_by rows b)) → j < length (ports_of (cells_by rows b)) → m ≡ 14 + port_words j → Changed rows b m (number n) (with_mark j n)
-mark_changes rows b j m n laid there low at = changes rows b m (number n) (with_mark j n) laid there
-    (λ c s e r. (
-      ap (λ k. set (cell_items c) k (number n)) (let k : m ≡ 13 + (port_words j + 1) = omega (arith, at) in k) ∙ set_ports_at c s (port_words j + 1) (number n)
-          ∙ ap (λ is. link_items c.links ++ (number_items (take 4 c.numbers) ++ (small_item c ∷ is))) (set_mark_at 6 c.ports j n (last_items (drop 6 c.numbers)) (subst (λ (o : Option HeldCell). j < length (ports_of o)) e low))
-          ∙ (λ t. part_words c (sym (port_bytes_same 6 c.ports j (record (get_or c.ports j no_port) { mark = n }) refl) t) (port_items 6 (set c.ports j (record (get_or c.ports j no_port) { mark = n })))),
-      ported c j (record (get_or c.ports j no_port) { mark = n }) s,
-    ))
-
--- the number of the port there, behind the first six
-pub port_changes : (rows : List Row) (b j m n : ℕ) (laid : AreLaid rows) (there : IsSome (cells_by rows b)) → j < length (ports_of (cells_by rows b)) → 6 ≤ j → m ≡ 15 + port_words j → Changed rows b m (number n) (with_port j n)
-port_changes rows b j m n laid there low h at = changes rows b m (number n) (with_port j n) laid there
-    (λ c s e r. (
-      ap (λ k. set (cell_items c) k (number n)) (let k : m ≡ 13 + (port_words j + 2) = omega (arith, at) in k) ∙ set_ports_at c s (port_words j + 2) (number n)
-          ∙ ap (λ is. link_items c.links ++ (number_items (take 4 c.numbers) ++ (small_item c ∷ is))) (set_port_at 6 c.ports j n (last_items (drop 6 c.numbers)) h (subst (λ (o : Option HeldCell). j < length (ports_of o)) e low))
-          ∙ (λ t. part_words c (sym (port_bytes_before 6 c.ports j (record (get_or c.ports j no_port) { port = n }) h) t) (port_items 6 (set c.ports j (record (get_or c.ports j no_port) { port = n })))),
-      ported c j (record (get_or c.ports j no_port) { port = n }) s,
-    ))
-
--- that of one of the first six
-pub port_byte_changes : (rows : List Row) (b j n : ℕ) (laid : AreLaid rows) (there : IsSome (cells_by rows b)) → j < length (ports_of (cells_by rows b)) → j < 6 → Changed rows b 12 (with_byte (j + 2) n (get_or (items_in rows b) 12 blank)) (with_port j n)
-port_byte_changes rows b j n laid there low h = changes rows b 12 (with_byte (j + 2) n (get_or (items_in rows b) 12 blank)) (with_port j n) laid there
-    (λ c s e r. (
-      ap (set (cell_items c) 12) (byte_of c (items_in rows b) (j + 2) n s r) ∙ set_small_at c s (with_byte (j + 2) n (small_item c))
-          ∙ ap (λ k. link_items c.links ++ (number_items (take 4 c.numbers) ++ (of_bytes (set (all_bytes c.numbers c.ports) k (Some n)) ∷ behind_small c.numbers c.ports))) (two_more j)
-          ∙ (λ t. part_words c (set_port_byte 6 c.ports j n h (subst (λ (o : Option HeldCell). j < length (ports_of o)) e low) t) (sym (port_items_same 6 c.ports j n h) t)),
-      ported c j (record (get_or c.ports j no_port) { port = n }) s,
+pub mark_changes : (rows : List Row) (b j n : ℕ) (laid : AreLaid rows) (there : IsSome (cells_by rows b)) → j < length (ports_of (cells_by rows b)) → Changed rows b (14 + (j * 3 + 2)) (number n) (with_mark j n)
+mark_changes rows b j n laid there low = changes rows b (14 + (j * 3 + 2)) (number n) (with_mark j n) laid there
+    (λ c s e. (
+      set_ports_at c s (j * 3 + 2) (number n) ∙ ap (λ is. link_items c.links ++ (number_items (take 6 c.numbers) ++ is)) (set_mark_at c.ports j n (number_items (drop 6 c.numbers)) (subst (λ (o : Option HeldCell). j < length (ports_of o)) e low)),
+      record { links = s.links; numbers = same_count c.numbers c.numbers c.ports (set c.ports j _) refl (length-set c.ports j _) s.numbers; few = subst (λ m. m < 2 ^ 16) (sym (length-set c.ports j _)) s.few },
     ))
 
 -- what holds after a word was written, as the row's call says it

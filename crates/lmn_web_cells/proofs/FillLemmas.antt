@@ -1,9 +1,9 @@
 -- The words of a new row are written one after the other.
-use Rattle.std.proofs.Common.{◌≡◌, ℕ, zero, suc, ◌+◌, ◌-◌, ◌*◌, ◌<◌, ◌==◌, ◌≤◌, List, [], ◌∷◌, ◌++◌, length, length-set, get_or, set, replicate, Option, Some, None, refl, sym, subst, ap, ◌∙◌, inl, inr, arith}
+use Rattle.std.proofs.Common.{◌≡◌, ℕ, zero, suc, ◌+◌, ◌-◌, ◌*◌, ◌<◌, ◌==◌, List, [], ◌∷◌, ◌++◌, length, set, replicate, None, refl, sym, subst, ap, ◌∙◌, inl, inr, arith}
 use Rattle.std.proofs.lemmas.Bool.{cases_eq, eq-eqb}
-use Rattle.lmn_web_cells.specs.Rows.{Item, blank, number, bytes_in, of_bytes, with_byte, Row, row, items_in, with_items}
-use Rattle.lmn_web_cells.specs.Cells.{link_to, port_items, port_words, port_bytes, cell_items, blank_cell, no_port, blank_links, blank_numbers, blank_small, blank_ports}
-use Rattle.lmn_web_cells.specs.Fillings.{item_filled, bytes_filled, ports_filled}
+use Rattle.lmn_web_cells.specs.Rows.{Item, blank, number, Row, row, items_in, with_items}
+use Rattle.lmn_web_cells.specs.Cells.{link_to, cell_items, blank_cell, blank_links, blank_numbers, blank_ports}
+use Rattle.lmn_web_cells.specs.Fillings.{ports_filled}
 use Rattle.lmn_web_cells.proofs.CellRows.{items_same, if_yes}
 use Rattle.lmn_base.proofs.Numbers.{not_equal}
 use Rattle.lmn_base.proofs.Truth.{if_no}
@@ -78,24 +78,14 @@ more_numbers : (n : ℕ) → blank_numbers n ++ number 0 ∷ [] ≡ blank_number
 more_numbers zero = refl
 more_numbers (suc n) = ap (λ is. number 0 ∷ is) (more_numbers n)
 
--- how many words ports have, of which n have two
-count_ports : (n j : ℕ) → length (port_items n (replicate j no_port)) ≡ j * 2 + (j - n)
-count_ports n zero = omega arith
-count_ports zero (suc j) = let r = count_ports 0 j in omega (arith, r)
-count_ports (suc n) (suc j) = let r = count_ports n j in omega (arith, r)
+-- how many words ports have
+pub count_ports : (n : ℕ) → length (blank_ports n) ≡ n * 3
+count_ports zero = refl
+count_ports (suc n) = let r = count_ports n in omega (arith, r)
 
--- one more of those with two words
-more_narrow : (n j : ℕ) → j < n → (port_items n (replicate j no_port) ++ link_to None ∷ []) ++ number 0 ∷ [] ≡ port_items n (replicate (suc j) no_port)
-more_narrow zero j l = absurd (omega (arith, l))
-more_narrow (suc n) zero l = refl
-more_narrow (suc n) (suc j) l = ap (λ is. link_to None ∷ number 0 ∷ is) (more_narrow n j (omega (arith, l)))
-
--- one more of those with three
-more_wide : (n j : ℕ) → n ≤ j → ((port_items n (replicate j no_port) ++ link_to None ∷ []) ++ number 0 ∷ []) ++ number 0 ∷ [] ≡ port_items n (replicate (suc j) no_port)
-more_wide zero zero l = refl
-more_wide zero (suc j) l = ap (λ is. link_to None ∷ number 0 ∷ number 0 ∷ is) (more_wide 0 j (omega arith))
-more_wide (suc n) zero l = absurd (omega (arith, l))
-more_wide (suc n) (suc j) l = ap (λ is. link_to None ∷ number 0 ∷ is) (more_wide n j (omega (arith, l)))
+more_ports : (n : ℕ) → ((blank_ports n ++ link_to None ∷ []) ++ number 0 ∷ []) ++ number 0 ∷ [] ≡ blank_ports (suc n)
+more_ports zero = refl
+more_ports (suc n) = ap (λ is. link_to None ∷ number 0 ∷ number 0 ∷ is) (more_ports n)
 
 -- a step of each loop, with the words written out
 
@@ -110,10 +100,10 @@ numbers_next : (old rows rows' : List Row) (b k left : ℕ) → Filled old rows 
 numbers_next old rows rows' b k left f r = subst (λ done. Filled old rows' b (blank_links 8 ++ done) left) (more_numbers k) (next old rows rows' b (head_numbers k) left (8 + k) (number 0) f (let n = count_numbers k in omega (arith, n)) r)
 
 abbrev head_ports : ℕ → List Item
-head_ports j = blank_links 8 ++ (blank_numbers 4 ++ (blank_small ∷ blank_ports j))
+head_ports j = blank_links 8 ++ (blank_numbers 6 ++ blank_ports j)
 
-count_head : (j : ℕ) → length (head_ports j) ≡ 13 + port_words j
-count_head j = let n = count_ports 6 j in omega (arith, n)
+count_head : (j : ℕ) → length (head_ports j) ≡ 14 + j * 3
+count_head j = let n = count_ports j in omega (arith, n)
 
 abbrev head_one : ℕ → List Item
 head_one j = head_ports j ++ link_to None ∷ []
@@ -125,11 +115,21 @@ count_more : (xs : List Item) (i : Item) → length (xs ++ i ∷ []) ≡ suc (le
 count_more [] i = refl
 count_more (x ∷ xs) i = ap suc (count_more xs i)
 
-count_one : (j : ℕ) → length (head_one j) ≡ 14 + port_words j
+count_one : (j : ℕ) → length (head_one j) ≡ 14 + j * 3 + 1
 count_one j = let a = count_more (head_ports j) (link_to None) in let b = count_head j in omega (arith, a, b)
 
-count_two : (j : ℕ) → length (head_two j) ≡ 15 + port_words j
+count_two : (j : ℕ) → length (head_two j) ≡ 14 + j * 3 + 2
 count_two j = let a = count_more (head_one j) (number 0) in let b = count_one j in omega (arith, a, b)
+
+ports_one : (old rows rows' : List Row) (b j left : ℕ) → Filled old rows b (head_ports j) (suc left) → rows' ≡ with_items b (set (items_in rows b) (14 + j * 3) (link_to None)) rows → Filled old rows' b (head_one j) left
+ports_one old rows rows' b j left f r = next old rows rows' b (head_ports j) left (14 + j * 3) (link_to None) f (sym (count_head j)) r
+
+ports_two : (old rows rows' : List Row) (b j left : ℕ) → Filled old rows b (head_one j) (suc left) → rows' ≡ with_items b (set (items_in rows b) (14 + j * 3 + 1) (number 0)) rows → Filled old rows' b (head_two j) left
+ports_two old rows rows' b j left f r = next old rows rows' b (head_one j) left (14 + j * 3 + 1) (number 0) f (sym (count_one j)) r
+
+ports_three : (old rows rows' : List Row) (b j left : ℕ) → Filled old rows b (head_two j) (suc left) → rows' ≡ with_items b (set (items_in rows b) (14 + j * 3 + 2) (number 0)) rows → Filled old rows' b (head_ports (suc j)) left
+ports_three old rows rows' b j left f r =
+    subst (λ done. Filled old rows' b (blank_links 8 ++ (blank_numbers 6 ++ done)) left) (more_ports j) (next old rows rows' b (head_two j) left (14 + j * 3 + 2) (number 0) f (sym (count_two j)) r)
 
 begun : (old : List Row) (b : ℕ) (done : List Item) (left : ℕ) → 0 < length done + left → items_in old b ≡ done ++ replicate left blank → Filled old old b done left
 begun old b done left l e = record {
@@ -147,13 +147,9 @@ LinksDone old rows b n k = (left : ℕ) × (left + k ≡ n) × Filled old rows b
 abbrev pub NumbersDone : List Row → List Row → ℕ → ℕ → ℕ → Type 0
 NumbersDone old rows b n k = (left : ℕ) × (left + k ≡ n) × Filled old rows b (blank_links 8 ++ blank_numbers k) left
 
--- so many bytes are written
-abbrev pub BytesDone : List Row → List Row → ℕ → ℕ → ℕ → Type 0
-BytesDone old rows b left k = (0 < length (items_in old b)) × (rows ≡ with_items b (bytes_filled k left) old)
-
 -- the links, the numbers and so many ports are written
 abbrev pub PortsDone : List Row → List Row → ℕ → ℕ → ℕ → Type 0
-PortsDone old rows b p j = (left : ℕ) × (left + port_words j ≡ port_words p) × Filled old rows b (blank_links 8 ++ (blank_numbers 4 ++ (blank_small ∷ blank_ports j))) left
+PortsDone old rows b p j = (left : ℕ) × (left + j * 3 ≡ p * 3) × Filled old rows b (blank_links 8 ++ (blank_numbers 6 ++ blank_ports j)) left
 
 plus_one : (k : ℕ) → suc k ≡ k + 1
 plus_one k = omega arith
@@ -201,6 +197,65 @@ numbers_step old rows rows' b n k d low r = numbers_more old rows rows' b n k d.
 pub numbers_end : (old rows : List Row) (b many left k : ℕ) → NumbersDone old rows b (many + left) k → k ≡ many → rows ≡ with_items b (blank_links 8 ++ (blank_numbers many ++ replicate left blank)) old
 numbers_end old rows b many left k d e = let w = d.1 in let n : d.0 ≡ left = omega (arith, w, e) in d.2.are ∙ (λ t. with_items b (blank_links 8 ++ (blank_numbers (e t) ++ replicate (n t) blank)) old)
 
+-- so many ports are written at first
+pub ports_begin : (old : List Row) (b p j : ℕ) → j < p → items_in old b ≡ ports_filled p j → PortsDone old old b p j
+ports_begin old b p j low e = ((p - j) * 3, omega (arith, low), begun old b (head_ports j) ((p - j) * 3) (omega arith) e)
+
+-- the first word of the next port is one of the row
+pub ports_there : (old rows : List Row) (b p j : ℕ) → PortsDone old rows b p j → j < p → 14 + j * 3 < length (items_in rows b)
+ports_there old rows b p j d low = let e = d.1 in next_there old rows b (head_ports j) d.0 (14 + j * 3) d.2 (sym (count_head j)) (omega (arith, e, low))
+
+-- the same after one and two of the three
+abbrev pub OneDone : List Row → List Row → ℕ → ℕ → ℕ → Type 0
+OneDone old rows b p j = (left : ℕ) × (left + j * 3 + 1 ≡ p * 3) × Filled old rows b (head_one j) left
+
+abbrev TwoDone : List Row → List Row → ℕ → ℕ → ℕ → Type 0
+TwoDone old rows b p j = (left : ℕ) × (left + j * 3 + 2 ≡ p * 3) × Filled old rows b (head_two j) left
+
+one_more : (old rows rows' : List Row) (b p j left : ℕ) → left + j * 3 ≡ p * 3 → Filled old rows b (head_ports j) left → j < p → rows' ≡ with_items b (set (items_in rows b) (14 + j * 3) (link_to None)) rows → OneDone old rows' b p j
+one_more old rows rows' b p j zero e f low r = absurd (omega (arith, e, low))
+one_more old rows rows' b p j (suc left) e f low r = (left, omega (arith, e), ports_one old rows rows' b j left f r)
+
+-- the first word of a port is written
+pub first_word : (old rows rows' : List Row) (b p j : ℕ) → PortsDone old rows b p j → j < p → rows' ≡ with_items b (set (items_in rows b) (14 + j * 3) (link_to None)) rows → OneDone old rows' b p j
+first_word old rows rows' b p j d low r = one_more old rows rows' b p j d.0 d.1 d.2 low r
+
+-- its second word is one of the row
+pub second_there : (old rows : List Row) (b p j : ℕ) → OneDone old rows b p j → j < p → 14 + j * 3 + 1 < length (items_in rows b)
+second_there old rows b p j d low = let e = d.1 in next_there old rows b (head_one j) d.0 (14 + j * 3 + 1) d.2 (sym (count_one j)) (omega (arith, e, low))
+
+two_more : (old rows rows' : List Row) (b p j left : ℕ) → left + j * 3 + 1 ≡ p * 3 → Filled old rows b (head_one j) left → j < p → rows' ≡ with_items b (set (items_in rows b) (14 + j * 3 + 1) (number 0)) rows → TwoDone old rows' b p j
+two_more old rows rows' b p j zero e f low r = absurd (omega (arith, e, low))
+two_more old rows rows' b p j (suc left) e f low r = (left, omega (arith, e), ports_two old rows rows' b j left f r)
+
+-- its second word is written
+pub second_word : (old rows rows' : List Row) (b p j : ℕ) → OneDone old rows b p j → j < p → rows' ≡ with_items b (set (items_in rows b) (14 + j * 3 + 1) (number 0)) rows → TwoDone old rows' b p j
+second_word old rows rows' b p j d low r = two_more old rows rows' b p j d.0 d.1 d.2 low r
+
+-- its third word is one of the row
+pub third_there : (old rows : List Row) (b p j : ℕ) → TwoDone old rows b p j → j < p → 14 + j * 3 + 2 < length (items_in rows b)
+third_there old rows b p j d low = let e = d.1 in next_there old rows b (head_two j) d.0 (14 + j * 3 + 2) d.2 (sym (count_two j)) (omega (arith, e, low))
+
+three_more : (old rows rows' : List Row) (b p j left : ℕ) → left + j * 3 + 2 ≡ p * 3 → Filled old rows b (head_two j) left → j < p → rows' ≡ with_items b (set (items_in rows b) (14 + j * 3 + 2) (number 0)) rows → PortsDone old rows' b p (j + 1)
+three_more old rows rows' b p j zero e f low r = absurd (omega (arith, e, low))
+three_more old rows rows' b p j (suc left) e f low r = (left, omega (arith, e), subst (λ n. Filled old rows' b (head_ports n) left) (plus_one j) (ports_three old rows rows' b j left f r))
+
+-- its third word is written: one more port
+pub third_word : (old rows rows' : List Row) (b p j : ℕ) → TwoDone old rows b p j → j < p → rows' ≡ with_items b (set (items_in rows b) (14 + j * 3 + 2) (number 0)) rows → PortsDone old rows' b p (j + 1)
+third_word old rows rows' b p j d low r = three_more old rows rows' b p j d.0 d.1 d.2 low r
+
+-- what is written then
+pub ports_are : (old rows : List Row) (b p j : ℕ) → PortsDone old rows b p j → rows ≡ with_items b (ports_filled p j) old
+ports_are old rows b p j d = let e = d.1 in let n : d.0 ≡ (p - j) * 3 = omega (arith, e) in d.2.are ∙ (λ t. with_items b (head_ports j ++ replicate (n t) blank) old)
+
+-- no port is written
+pub ports_none : (p : ℕ) → blank_links 8 ++ (blank_numbers 6 ++ replicate (p * 3) blank) ≡ ports_filled p 0
+ports_none p = let n : p * 3 ≡ (p - 0) * 3 = omega arith in λ t. blank_links 8 ++ (blank_numbers 6 ++ replicate (n t) blank)
+
+-- all ports are
+pub ports_all : (p j : ℕ) → j ≡ p → ports_filled p j ≡ cell_items (blank_cell p)
+ports_all p j same = let n : (p - j) * 3 ≡ 0 = omega (arith, same) in λ t. blank_links 8 ++ (blank_numbers 6 ++ (blank_ports (same t) ++ replicate (n t) blank))
+
 -- one step behind another
 pub then : (old rows rows' : List Row) (b : ℕ) (is js : List Item) → rows ≡ with_items b is old → rows' ≡ with_items b js rows → rows' ≡ with_items b js old
 then old rows rows' b is js e f = f ∙ ap (with_items b js) e ∙ with_twice old b is js
@@ -208,123 +263,6 @@ then old rows rows' b is js e f = f ∙ ap (with_items b js) e ∙ with_twice ol
 -- the words that were written
 pub written : (old rows : List Row) (b : ℕ) (is : List Item) → 0 < length (items_in old b) → rows ≡ with_items b is old → items_in rows b ≡ is
 written old rows b is there e = ap (λ rs. items_in rs b) e ∙ items_same old b is there
-
-bytes_of : (xs : List (Option ℕ)) → 0 < length xs → bytes_in (of_bytes xs) ≡ xs
-bytes_of [] l = absurd (omega (arith, l))
-bytes_of (x ∷ xs) l = refl
-
-count_filled : (k : ℕ) → length (bytes_in (item_filled k)) ≡ 8
-count_filled zero = refl
-count_filled (suc k) =
-    let xs : List (Option ℕ) = bytes_in (item_filled k) in let r = count_filled k in let n = length-set xs k (Some 0) in
-    ap (λ (ys : List (Option ℕ)). length ys) (bytes_of (set xs k (Some 0)) (omega (arith, n, r))) ∙ n ∙ r
-
--- at first no byte is written
-pub bytes_begin : (old : List Row) (b left : ℕ) → items_in old b ≡ bytes_filled 0 left → BytesDone old old b left 0
-bytes_begin old b left e = (subst (λ is. 0 < length is) (sym e) (omega arith), sym (with_same old b) ∙ ap (λ is. with_items b is old) e)
-
--- the word of bytes is one of the row
-pub bytes_there : (old rows : List Row) (b left k : ℕ) → BytesDone old rows b left k → 12 < length (items_in rows b)
-bytes_there old rows b left k d = subst (λ is. 12 < length is) (sym (written old rows b (bytes_filled k left) d.0 d.1)) (omega arith)
-
--- it has eight of them
-pub bytes_eight : (old rows : List Row) (b left k : ℕ) → BytesDone old rows b left k → k < 8 → k < length (bytes_in (get_or (items_in rows b) 12 blank))
-bytes_eight old rows b left k d low = subst (λ is. k < length (bytes_in (get_or is 12 blank))) (sym (written old rows b (bytes_filled k left) d.0 d.1)) (let n = count_filled k in omega (arith, n, low))
-
--- one more byte is written
-pub bytes_step : (old rows rows' : List Row) (b left k : ℕ) → BytesDone old rows b left k → rows' ≡ with_items b (set (items_in rows b) 12 (with_byte k 0 (get_or (items_in rows b) 12 blank))) rows → BytesDone old rows' b left (k + 1)
-bytes_step old rows rows' b left k d r = (
-  d.0,
-  subst (λ n. rows' ≡ with_items b (bytes_filled n left) old) (plus_one k)
-      (then old rows rows' b (bytes_filled k left) (bytes_filled (suc k) left) d.1 (r ∙ ap (λ is. with_items b (set is 12 (with_byte k 0 (get_or is 12 blank))) rows) (written old rows b (bytes_filled k left) d.0 d.1))),
-)
-
--- all eight are written
-pub bytes_end : (old rows : List Row) (b left k : ℕ) → BytesDone old rows b left k → k ≡ 8 → rows ≡ with_items b (bytes_filled 8 left) old
-bytes_end old rows b left k d e = d.1 ∙ ap (λ n. with_items b (bytes_filled n left) old) e
-
--- so many ports are written at first
-pub ports_begin : (old : List Row) (b p j : ℕ) → j < p → items_in old b ≡ ports_filled p j → PortsDone old old b p j
-ports_begin old b p j low e = (port_words p - port_words j, omega (arith, low), begun old b (head_ports j) (port_words p - port_words j) (omega arith) e)
-
--- the first word of the next port is one of the row
-pub ports_there : (old rows : List Row) (b p j m : ℕ) → PortsDone old rows b p j → j < p → m ≡ 13 + port_words j → m < length (items_in rows b)
-ports_there old rows b p j m d low at = let e = d.1 in let n = count_head j in next_there old rows b (head_ports j) d.0 m d.2 (omega (arith, at, n)) (omega (arith, e, low))
-
--- the same after one and two of its words
-abbrev pub OneDone : List Row → List Row → ℕ → ℕ → ℕ → Type 0
-OneDone old rows b p j = (left : ℕ) × (left + port_words j + 1 ≡ port_words p) × Filled old rows b (head_one j) left
-
-abbrev TwoDone : List Row → List Row → ℕ → ℕ → ℕ → Type 0
-TwoDone old rows b p j = (left : ℕ) × (left + port_words j + 2 ≡ port_words p) × Filled old rows b (head_two j) left
-
-one_more : (old rows rows' : List Row) (b p j m left : ℕ) → left + port_words j ≡ port_words p → Filled old rows b (head_ports j) left → j < p → m ≡ 13 + port_words j → rows' ≡ with_items b (set (items_in rows b) m (link_to None)) rows → OneDone old rows' b p j
-one_more old rows rows' b p j m zero e f low at r = absurd (omega (arith, e, low))
-one_more old rows rows' b p j m (suc left) e f low at r = (left, omega (arith, e), next old rows rows' b (head_ports j) left m (link_to None) f (let n = count_head j in omega (arith, at, n)) r)
-
--- the first word of a port is written
-pub first_word : (old rows rows' : List Row) (b p j m : ℕ) → PortsDone old rows b p j → j < p → m ≡ 13 + port_words j → rows' ≡ with_items b (set (items_in rows b) m (link_to None)) rows → OneDone old rows' b p j
-first_word old rows rows' b p j m d low at r = one_more old rows rows' b p j m d.0 d.1 d.2 low at r
-
--- its second word is one of the row
-pub second_there : (old rows : List Row) (b p j m : ℕ) → OneDone old rows b p j → j < p → m ≡ 14 + port_words j → m < length (items_in rows b)
-second_there old rows b p j m d low at = let e = d.1 in let n = count_one j in next_there old rows b (head_one j) d.0 m d.2 (omega (arith, at, n)) (omega (arith, e, low))
-
-narrow_more : (old rows rows' : List Row) (b p j m left : ℕ) → left + port_words j + 1 ≡ port_words p → Filled old rows b (head_one j) left → j < p → j < 6 → m ≡ 14 + port_words j → rows' ≡ with_items b (set (items_in rows b) m (number 0)) rows → PortsDone old rows' b p (j + 1)
-narrow_more old rows rows' b p j m zero e f low h at r = absurd (omega (arith, e, low))
-narrow_more old rows rows' b p j m (suc left) e f low h at r = (
-  left,
-  omega (arith, e, h),
-  subst (λ n. Filled old rows' b (head_ports n) left) (plus_one j)
-      (subst (λ done. Filled old rows' b (blank_links 8 ++ (blank_numbers 4 ++ (blank_small ∷ done))) left) (more_narrow 6 j h) (next old rows rows' b (head_one j) left m (number 0) f (let n = count_one j in omega (arith, at, n)) r)),
-)
-
--- its second word is written: one more of the first ports
-pub last_narrow : (old rows rows' : List Row) (b p j m : ℕ) → OneDone old rows b p j → j < p → j < 6 → m ≡ 14 + port_words j → rows' ≡ with_items b (set (items_in rows b) m (number 0)) rows → PortsDone old rows' b p (j + 1)
-last_narrow old rows rows' b p j m d low h at r = narrow_more old rows rows' b p j m d.0 d.1 d.2 low h at r
-
-two_more : (old rows rows' : List Row) (b p j m left : ℕ) → left + port_words j + 1 ≡ port_words p → Filled old rows b (head_one j) left → j < p → m ≡ 14 + port_words j → rows' ≡ with_items b (set (items_in rows b) m (number 0)) rows → TwoDone old rows' b p j
-two_more old rows rows' b p j m zero e f low at r = absurd (omega (arith, e, low))
-two_more old rows rows' b p j m (suc left) e f low at r = (left, omega (arith, e), next old rows rows' b (head_one j) left m (number 0) f (let n = count_one j in omega (arith, at, n)) r)
-
--- the second word of a port behind them is
-pub second_word : (old rows rows' : List Row) (b p j m : ℕ) → OneDone old rows b p j → j < p → m ≡ 14 + port_words j → rows' ≡ with_items b (set (items_in rows b) m (number 0)) rows → TwoDone old rows' b p j
-second_word old rows rows' b p j m d low at r = two_more old rows rows' b p j m d.0 d.1 d.2 low at r
-
--- its third word is one of the row
-pub third_there : (old rows : List Row) (b p j m : ℕ) → TwoDone old rows b p j → j < p → 6 ≤ j → m ≡ 15 + port_words j → m < length (items_in rows b)
-third_there old rows b p j m d low h at = let e = d.1 in let n = count_two j in next_there old rows b (head_two j) d.0 m d.2 (omega (arith, at, n)) (omega (arith, e, low, h))
-
-wide_more : (old rows rows' : List Row) (b p j m left : ℕ) → left + port_words j + 2 ≡ port_words p → Filled old rows b (head_two j) left → j < p → 6 ≤ j → m ≡ 15 + port_words j → rows' ≡ with_items b (set (items_in rows b) m (number 0)) rows → PortsDone old rows' b p (j + 1)
-wide_more old rows rows' b p j m zero e f low h at r = absurd (omega (arith, e, low, h))
-wide_more old rows rows' b p j m (suc left) e f low h at r = (
-  left,
-  omega (arith, e, h),
-  subst (λ n. Filled old rows' b (head_ports n) left) (plus_one j)
-      (subst (λ done. Filled old rows' b (blank_links 8 ++ (blank_numbers 4 ++ (blank_small ∷ done))) left) (more_wide 6 j h) (next old rows rows' b (head_two j) left m (number 0) f (let n = count_two j in omega (arith, at, n)) r)),
-)
-
--- its third word is written: one more of those behind them
-pub last_wide : (old rows rows' : List Row) (b p j m : ℕ) → TwoDone old rows b p j → j < p → 6 ≤ j → m ≡ 15 + port_words j → rows' ≡ with_items b (set (items_in rows b) m (number 0)) rows → PortsDone old rows' b p (j + 1)
-last_wide old rows rows' b p j m d low h at r = wide_more old rows rows' b p j m d.0 d.1 d.2 low h at r
-
--- what is written then
-pub ports_are : (old rows : List Row) (b p j : ℕ) → PortsDone old rows b p j → rows ≡ with_items b (ports_filled p j) old
-ports_are old rows b p j d = let e = d.1 in let n : d.0 ≡ port_words p - port_words j = omega (arith, e) in d.2.are ∙ (λ t. with_items b (head_ports j ++ replicate (n t) blank) old)
-
--- no port is written
-pub ports_none : (p : ℕ) → bytes_filled 8 (port_words p) ≡ ports_filled p 0
-ports_none p = let n : port_words p ≡ port_words p - port_words 0 = omega arith in λ t. bytes_filled 8 (n t)
-
-blank_bytes : (n p : ℕ) → ◌≡◌ {A = List (Option ℕ)} (port_bytes n (replicate p no_port)) (replicate n (Some 0))
-blank_bytes zero p = refl
-blank_bytes (suc n) zero = ap (λ (xs : List (Option ℕ)). Some 0 ∷ xs) (blank_bytes n 0)
-blank_bytes (suc n) (suc p) = ap (λ (xs : List (Option ℕ)). Some 0 ∷ xs) (blank_bytes n p)
-
--- all ports are
-pub ports_all : (p j : ℕ) → j ≡ p → ports_filled p j ≡ cell_items (blank_cell p)
-ports_all p j same = let n : port_words p - port_words j ≡ 0 = omega (arith, same) in
-    λ t. blank_links 8 ++ (blank_numbers 4 ++ (of_bytes (Some 0 ∷ Some 0 ∷ sym (blank_bytes 6 p) t) ∷ (blank_ports (same t) ++ replicate (n t) blank)))
 
 -- there are some
 pub some_words : (old : List Row) (b p j : ℕ) → items_in old b ≡ ports_filled p j → 0 < length (items_in old b)
@@ -337,16 +275,19 @@ and_written old rows rows' b k is i there e r = then old rows rows' b is (set is
 -- The words of a membrane before its port is written, and after each of the words at its end is
 
 abbrev pub end_none : List Item
-end_none = bytes_filled 8 5
+end_none = blank_links 8 ++ (blank_numbers 6 ++ replicate 5 blank)
 
 abbrev pub end_one : List Item
-end_one = set end_none 13 (link_to None)
+end_one = set end_none 14 (link_to None)
 
 abbrev pub end_two : List Item
-end_two = set end_one 14 (number 0)
+end_two = set end_one 15 (number 0)
 
 abbrev pub end_three : List Item
-end_three = set end_two 15 (number 0)
+end_three = set end_two 16 (number 0)
+
+abbrev pub end_four : List Item
+end_four = set end_three 17 (number 0)
 
 -- at first none is
 pub end_begun : (old : List Row) (b : ℕ) → items_in old b ≡ end_none → old ≡ with_items b end_none old

@@ -1,6 +1,5 @@
 pub mod Sharing
 pub mod Words
-pub mod Bytes
 pub mod Steps
 pub mod Reading
 pub mod Writing

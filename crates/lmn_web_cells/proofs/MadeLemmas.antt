@@ -3,10 +3,10 @@ use Rattle.std.proofs.Common.{◌≡◌, ℕ, ◌+◌, ◌*◌, ◌<◌, ◌^◌
 use Rattle.std.proofs.lemmas.Bool.{cases_eq, eq-eqb}
 use lib.ListN.{length-replicate}
 use Rattle.lmn_web_cells.specs.Rows.{Item, Row, row, items_in, with_items, without_row}
-use Rattle.lmn_web_cells.specs.Cells.{HeldCell, port_words, cell_items, cell_by, cells_by, blank_cell, blank_membrane, no_port, IsShaped, IsLaid, AreLaid, numbers_of, ports_of}
+use Rattle.lmn_web_cells.specs.Cells.{HeldCell, cell_items, cell_by, cells_by, blank_cell, blank_membrane, no_port, IsShaped, IsLaid, AreLaid, numbers_of, ports_of}
 use Rattle.lmn_store_heap.specs.Heap.{alter}
 use Rattle.lmn_base.proofs.Numbers.{not_equal}
-use Rattle.lmn_web_cells.proofs.CellWords.{cell_back, atom_count, membrane_count}
+use Rattle.lmn_web_cells.proofs.CellWords.{cell_back, word_count}
 use Rattle.lmn_web_cells.proofs.CellRows.{found, if_yes}
 use Rattle.lmn_store_heap.proofs.Listing.{alter_at, alter_away}
 use Rattle.lmn_base.proofs.Truth.{if_no}
@@ -81,14 +81,18 @@ few_ports rows b p laid there e =
     let f = found rows b laid there in let few = f.shaped.few in let same : length f.cell.ports ≡ p = sym (ap (λ (o : Option HeldCell). length (ports_of o)) f.is) ∙ e in omega (arith, few, same)
 
 -- how many words the row of a cell has
-pub count_words : (rows : List Row) (b p : ℕ) → AreLaid rows → IsSome (cells_by rows b) → length (numbers_of (cells_by rows b)) ≡ 6 → length (ports_of (cells_by rows b)) ≡ p → length (items_in rows b) ≡ 13 + port_words p
+pub count_words : (rows : List Row) (b p : ℕ) → AreLaid rows → IsSome (cells_by rows b) → length (numbers_of (cells_by rows b)) ≡ 6 → length (ports_of (cells_by rows b)) ≡ p → length (items_in rows b) ≡ 14 + p * 3
 count_words rows b p laid there six e =
     let f = found rows b laid there in let same : length f.cell.ports ≡ p = sym (ap (λ (o : Option HeldCell). length (ports_of o)) f.is) ∙ e in
-    let n : length f.cell.numbers ≡ 6 = sym (ap (λ (o : Option HeldCell). length (numbers_of o)) f.is) ∙ six in
-    ap (λ (is : List Item). length is) f.words ∙ atom_count f.cell f.shaped n ∙ ap (λ m. 13 + port_words m) same
+    let n : length f.cell.numbers ≡ 6 = sym (ap (λ (o : Option HeldCell). length (numbers_of o)) f.is) ∙ six in let w = word_count f.cell f.shaped in let e : length (cell_items f.cell) ≡ 14 + p * 3 = omega (arith, w, n, same) in
+    ap (λ (is : List Item). length is) f.words ∙ e
 
 -- and that of a membrane
-pub count_membrane : (rows : List Row) (b : ℕ) → AreLaid rows → IsSome (cells_by rows b) → length (numbers_of (cells_by rows b)) ≡ 8 → length (items_in rows b) ≡ 18
+pub count_membrane : (rows : List Row) (b : ℕ) → AreLaid rows → IsSome (cells_by rows b) → length (numbers_of (cells_by rows b)) ≡ 8 → length (items_in rows b) ≡ 19
 count_membrane rows b laid there eight =
-    let f = found rows b laid there in let n : length f.cell.numbers ≡ 8 = sym (ap (λ (o : Option HeldCell). length (numbers_of o)) f.is) ∙ eight in
-    ap (λ (is : List Item). length is) f.words ∙ membrane_count f.cell f.shaped n
+    let f = found rows b laid there in let n : length f.cell.numbers ≡ 8 = sym (ap (λ (o : Option HeldCell). length (numbers_of o)) f.is) ∙ eight in let w = word_count f.cell f.shaped in
+    let e : length (cell_items f.cell) ≡ 19 = elim f.shaped.numbers [
+      | inl six ↦ absurd (omega (arith, six, n))
+      | inr e ↦ (let one = e.1 in omega (arith, w, n, one))
+    ] in
+    ap (λ (is : List Item). length is) f.words ∙ e

@@ -1,38 +1,29 @@
 -- A `&` to the owner of rows reaches each word. Assumes `Logic`.
 use Prim.Native.Nat.{ℕ, ◌+◌}
 use mathlib.Core.List.{List, [], ◌∷◌}
-use Rattle.std.specs.Prelude.{Option, Some, None, length}
+use Rattle.std.specs.Prelude.{Some, None, length}
 use seplogic.Ra.Ura.{Ura}
-use mir.Syntax.{w8, w64, ty_array}
+use mir.Syntax.{w64, ty_array}
 use base.Fml.{Lft}
 use contract.BorrowLft.{⊑_static}
 use types.Logic.{Logic}
-use denote.Builtin.{u8, u64}
+use denote.Builtin.{u64}
 use denote.Plain.{uint_row_laws}
 use denote.Param.Shared.{copy_shared}
 use denote.RawPtr.{RawPtr, block_ptr, ptr_row_laws}
 use denote.Sharing.{ShrLaws}
 use denote.SharingLaws.{beside_shr_laws, nothing_shr_laws}
 use denote.Shares.{Shares-less}
-use denote.Struct.Field.{RawPtr-field, u8-field, u64-field}
-use denote.Struct.Laws.{RawPtr-copy, u8-copy, u64-copy}
+use denote.Struct.Field.{RawPtr-field, u64-field}
+use denote.Struct.Laws.{RawPtr-copy, u64-copy}
 use denote.Struct.Lending.{Lends, lent_at_shr_laws, Lends-lies, Lends-first, Lends-both, Lends-nothing}
 use Rattle.lmn_web_cells.specs.Rows.{Item, Row}
-use Rattle.lmn_web_cells.specs.Owned.{word, may_free, whole_word, byte_own, bytes_own, item_own, items_own, row_own, rows_own, byte_lent, bytes_lent, item_lent, items_lent, rows_lent}
-
-byte_laws : (x : Option ℕ) (b e : ℕ) → ShrLaws (byte_lent x b e)
-byte_laws None b e = nothing_shr_laws
-byte_laws (Some n) b e = lent_at_shr_laws u8 (uint_row_laws w8) (block_ptr b e) n
-
-bytes_laws : (xs : List (Option ℕ)) (b e : ℕ) → ShrLaws (bytes_lent xs b e)
-bytes_laws [] b e = nothing_shr_laws
-bytes_laws (x ∷ xs) b e = beside_shr_laws _ _ (byte_laws x b e) (bytes_laws xs b (e + 1))
+use Rattle.lmn_web_cells.specs.Owned.{word, may_free, item_own, items_own, row_own, rows_own, item_lent, items_lent, rows_lent}
 
 item_laws : (i : Item) (b e : ℕ) → ShrLaws (item_lent i b e)
 item_laws None b e = nothing_shr_laws
-item_laws (Some (Some p, x)) b e = lent_at_shr_laws RawPtr ptr_row_laws (block_ptr b e) p
-item_laws (Some (None, (n, []))) b e = lent_at_shr_laws u64 (uint_row_laws w64) (block_ptr b e) n
-item_laws (Some (None, (n, x ∷ xs))) b e = bytes_laws (x ∷ xs) b e
+item_laws (Some (Some p, n)) b e = lent_at_shr_laws RawPtr ptr_row_laws (block_ptr b e) p
+item_laws (Some (None, n)) b e = lent_at_shr_laws u64 (uint_row_laws w64) (block_ptr b e) n
 
 items_laws : (is : List Item) (b e : ℕ) → ShrLaws (items_lent is b e)
 items_laws [] b e = nothing_shr_laws
@@ -44,19 +35,10 @@ rows_laws [] = nothing_shr_laws
 rows_laws (r ∷ rs) = beside_shr_laws _ _ (items_laws r.items r.at 0) (rows_laws rs)
 
 module _ {M : Type 1} {𝓤 : Ura M} (𝓛 : Logic 𝓤) (l : Lft) where
-  Lends-byte : (x : Option ℕ) (b e : ℕ) → Lends 𝓛 (byte_own x b e) (byte_lent x b e) l
-  Lends-byte None b e = Lends-nothing 𝓛 _ l
-  Lends-byte (Some n) b e = Lends-lies 𝓛 u8 l (block_ptr b e) n (Shares-less 𝓛 u8 [] l (⊑_static l) ((copy_shared u8-field u8-copy).shares M 𝓤 𝓛) n)
-
-  Lends-bytes : (xs : List (Option ℕ)) (b e : ℕ) → Lends 𝓛 (bytes_own xs b e) (bytes_lent xs b e) l
-  Lends-bytes [] b e = Lends-nothing 𝓛 _ l
-  Lends-bytes (x ∷ xs) b e = Lends-both 𝓛 (byte_own x b e) (bytes_own xs b (e + 1)) (byte_lent x b e) (bytes_lent xs b (e + 1)) l (Lends-byte x b e) (Lends-bytes xs b (e + 1))
-
   Lends-item : (i : Item) (b e : ℕ) → Lends 𝓛 (item_own i b e) (item_lent i b e) l
   Lends-item None b e = Lends-nothing 𝓛 _ l
-  Lends-item (Some (Some p, x)) b e = Lends-lies 𝓛 RawPtr l (block_ptr b e) p (Shares-less 𝓛 RawPtr [] l (⊑_static l) ((copy_shared RawPtr-field RawPtr-copy).shares M 𝓤 𝓛) p)
-  Lends-item (Some (None, (n, []))) b e = Lends-lies 𝓛 u64 l (block_ptr b e) n (Shares-less 𝓛 u64 [] l (⊑_static l) ((copy_shared u64-field u64-copy).shares M 𝓤 𝓛) n)
-  Lends-item (Some (None, (n, x ∷ xs))) b e = Lends-first 𝓛 (bytes_own (x ∷ xs) b e) (whole_word (length (x ∷ xs)) b e) (bytes_lent (x ∷ xs) b e) l (Lends-bytes (x ∷ xs) b e)
+  Lends-item (Some (Some p, n)) b e = Lends-lies 𝓛 RawPtr l (block_ptr b e) p (Shares-less 𝓛 RawPtr [] l (⊑_static l) ((copy_shared RawPtr-field RawPtr-copy).shares M 𝓤 𝓛) p)
+  Lends-item (Some (None, n)) b e = Lends-lies 𝓛 u64 l (block_ptr b e) n (Shares-less 𝓛 u64 [] l (⊑_static l) ((copy_shared u64-field u64-copy).shares M 𝓤 𝓛) n)
 
   Lends-items : (is : List Item) (b e : ℕ) → Lends 𝓛 (items_own is b e) (items_lent is b e) l
   Lends-items [] b e = Lends-nothing 𝓛 _ l

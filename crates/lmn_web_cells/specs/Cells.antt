@@ -1,7 +1,7 @@
 -- Cells: what the words of a row stand for.
-use Rattle.std.specs.Prelude.{◌≡◌, ◌⊎◌, ℕ, zero, suc, ◌+◌, ◌-◌, ◌*◌, ◌==◌, ◌<◌, ◌^◌, Bool, List, [], ◌∷◌, ◌++◌, length, take, drop, Option, Some, None, IsSome, if◌then◌else◌, slice_index_or, slice_set, replicate}
+use Rattle.std.specs.Prelude.{◌≡◌, ◌⊎◌, ℕ, zero, suc, ◌==◌, ◌<◌, ◌^◌, List, [], ◌∷◌, ◌++◌, length, take, drop, Option, Some, None, IsSome, if◌then◌else◌, slice_index_or, slice_set, replicate}
 use denote.RawPtr.{Ptr, block_ptr, null_ptr}
-use Rattle.lmn_web_cells.specs.Rows.{Item, blank, link, number, bytes_in, of_bytes, Row, items_in}
+use Rattle.lmn_web_cells.specs.Rows.{Item, link, number, Row, items_in}
 
 -- a port: the cell to which it leads, the port there, and a mark
 pub record HeldPort : Type 0 where
@@ -34,51 +34,27 @@ abbrev pub number_items : List ℕ → List Item
 number_items [] = []
 number_items (n ∷ ns) = number n ∷ number_items ns
 
--- two words for each of the first n ports, and three, with the number of the port there, for those behind
-abbrev pub port_items : ℕ → List HeldPort → List Item
-port_items n [] = []
-port_items (suc n) (p ∷ ps) = link_to p.to ∷ number p.mark ∷ port_items n ps
-port_items zero (p ∷ ps) = link_to p.to ∷ number p.mark ∷ number p.port ∷ port_items zero ps
+-- three words for each port
+abbrev pub port_items : List HeldPort → List Item
+port_items [] = []
+port_items (p ∷ ps) = link_to p.to ∷ number p.port ∷ number p.mark ∷ port_items ps
 
--- how many words so many ports have, where the first six have two
-abbrev pub port_words : ℕ → ℕ
-port_words n = n * 2 + (n - 6)
-
--- n bytes: the numbers of the ports there
-abbrev pub port_bytes : ℕ → List HeldPort → List (Option ℕ)
-port_bytes zero ps = []
-port_bytes (suc n) [] = Some 0 ∷ port_bytes n []
-port_bytes (suc n) (p ∷ ps) = Some p.port ∷ port_bytes n ps
-
--- one word of bytes: two numbers of the cell, and those of the ports at the other ends of its first six
-abbrev pub small_item : HeldCell → Item
-small_item c = of_bytes (Some (slice_index_or c.numbers 4 0) ∷ Some (slice_index_or c.numbers 5 0) ∷ port_bytes 6 c.ports)
-
--- the words of a membrane behind its port; with the last one, in which nothing is written, its row is as long as none of an atom
-abbrev pub last_items : List ℕ → List Item
-last_items [] = []
-last_items (n ∷ ns) = number_items (n ∷ ns) ++ blank ∷ []
-
--- The words of a cell: its links, four numbers, a word of bytes, its ports, and the last two numbers of a membrane.
+-- The words of a cell: its links, six numbers, its ports, and the last two numbers of a membrane.
 abbrev pub cell_items : HeldCell → List Item
-cell_items c = link_items c.links ++ (number_items (take 4 c.numbers) ++ (small_item c ∷ (port_items 6 c.ports ++ last_items (drop 6 c.numbers))))
+cell_items c = link_items c.links ++ (number_items (take 6 c.numbers) ++ (port_items c.ports ++ number_items (drop 6 c.numbers)))
 
 -- Reading the words
 
 -- the cell to which a word leads
 abbrev pub led_to : Item → Option ℕ
 led_to None = None
-led_to (Some (None, x)) = None
-led_to (Some (Some null_ptr, x)) = None
-led_to (Some (Some (block_ptr b o), x)) = Some b
+led_to (Some (None, n)) = None
+led_to (Some (Some null_ptr, n)) = None
+led_to (Some (Some (block_ptr b o), n)) = Some b
 
 abbrev pub number_by : Item → ℕ
 number_by None = 0
-number_by (Some (p, x)) = x.0
-
-abbrev pub byte_by : Option ℕ → ℕ
-byte_by None = 0
-byte_by (Some n) = n
+number_by (Some (p, n)) = n
 
 abbrev pub first_links : ℕ → List Item → List (Option ℕ)
 first_links zero is = []
@@ -90,40 +66,19 @@ first_numbers zero is = []
 first_numbers (suc n) [] = []
 first_numbers (suc n) (i ∷ is) = number_by i ∷ first_numbers n is
 
--- the ports of some words, with the numbers of the first ones
-abbrev pub ports_by : List (Option ℕ) → List Item → List HeldPort
-ports_by xs [] = []
-ports_by xs (i ∷ []) = []
-ports_by (x ∷ xs) (i ∷ j ∷ is) = record { to = led_to i; port = byte_by x; mark = number_by j } ∷ ports_by xs is
-ports_by [] (i ∷ j ∷ []) = []
-ports_by [] (i ∷ j ∷ k ∷ is) = record { to = led_to i; port = number_by k; mark = number_by j } ∷ ports_by [] is
+abbrev pub ports_by : List Item → List HeldPort
+ports_by [] = []
+ports_by (i ∷ []) = []
+ports_by (i ∷ j ∷ []) = []
+ports_by (i ∷ j ∷ k ∷ is) = record { to = led_to i; port = number_by j; mark = number_by k } ∷ ports_by is
 
--- the row of a membrane has 18 words, and that of an atom 13 and those of its ports
-abbrev pub is_membrane : List Item → Bool
-is_membrane is = length is == 18
-
--- the word of bytes
-abbrev pub small_bytes : List Item → List (Option ℕ)
-small_bytes is = bytes_in (slice_index_or is 12 blank)
-
-abbrev pub small_numbers : List Item → List ℕ
-small_numbers is = byte_by (slice_index_or (small_bytes is) 0 None) ∷ byte_by (slice_index_or (small_bytes is) 1 None) ∷ []
-
--- the two numbers at the end of a membrane's row
+-- the two numbers at the end of a membrane's row, which has 19 words: that of an atom has 14 and three for each port
 abbrev pub last_numbers : List Item → List ℕ
-last_numbers is = if is_membrane is then first_numbers 2 (drop 15 is) else []
-
--- the words of its ports
-abbrev pub words_of_ports : List Item → List Item
-words_of_ports is = if is_membrane is then take 2 (drop 13 is) else drop 13 is
+last_numbers is = if length is == 19 then first_numbers 2 (drop 17 is) else []
 
 abbrev pub cell_by : List Item → Option HeldCell
 cell_by [] = None
-cell_by (i ∷ is) = Some record {
-  links = first_links 8 (i ∷ is);
-  numbers = first_numbers 4 (drop 8 (i ∷ is)) ++ (small_numbers (i ∷ is) ++ last_numbers (i ∷ is));
-  ports = ports_by (drop 2 (small_bytes (i ∷ is))) (words_of_ports (i ∷ is));
-}
+cell_by (i ∷ is) = Some record { links = first_links 8 (i ∷ is); numbers = first_numbers 6 (drop 8 (i ∷ is)) ++ last_numbers (i ∷ is); ports = ports_by (drop 14 (i ∷ is)) }
 
 -- the cell of each number
 abbrev pub cells_by : List Row → ℕ → Option HeldCell
@@ -189,18 +144,15 @@ blank_cell ports = record { links = replicate 8 None; numbers = replicate 6 0; p
 abbrev pub blank_membrane : HeldCell
 blank_membrane = record { links = replicate 8 None; numbers = replicate 8 0; ports = replicate 1 no_port }
 
--- the words of so many links that lead nowhere, of numbers that are 0, of eight bytes that are, and of ports in which nothing is set
+-- the words of so many links that lead nowhere, of numbers that are 0, and of ports in which nothing is set
 abbrev pub blank_links : ℕ → List Item
 blank_links n = link_items (replicate n None)
 
 abbrev pub blank_numbers : ℕ → List Item
 blank_numbers n = number_items (replicate n 0)
 
-abbrev pub blank_small : Item
-blank_small = of_bytes (replicate 8 (Some 0))
-
 abbrev pub blank_ports : ℕ → List Item
-blank_ports n = port_items 6 (replicate n no_port)
+blank_ports n = port_items (replicate n no_port)
 
 -- each cell that is there has eight links
 abbrev pub HaveLinks : (ℕ → Option HeldCell) → Type 0

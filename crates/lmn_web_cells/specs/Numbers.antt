@@ -1,27 +1,26 @@
 -- The numbers of a cell, by what they say.
 use Rattle.std.specs.Prelude.{ℕ}
 
--- its place in the table of all cells
+-- its place in the table of all cells, how many ports it has, and what it stands for
 abbrev pub INDEX : ℕ
 INDEX = 0
 
+abbrev pub ARITY : ℕ
+ARITY = 1
+
+abbrev pub KIND : ℕ
+KIND = 2
+
 -- the upper and the lower half of its label
 abbrev pub HIGH : ℕ
-HIGH = 1
+HIGH = 3
 
 abbrev pub LOW : ℕ
-LOW = 2
+LOW = 4
 
 -- its first mark
 abbrev pub FIRST_MARK : ℕ
-FIRST_MARK = 3
-
--- how many ports it has, and what it stands for: two numbers of one byte
-abbrev pub ARITY : ℕ
-ARITY = 4
-
-abbrev pub KIND : ℕ
-KIND = 5
+FIRST_MARK = 5
 
 -- how many atoms and how many membranes stand in it
 abbrev pub ATOM_COUNT : ℕ

@@ -1,10 +1,10 @@
 -- What the owner of rows owns and lends.
-use Rattle.std.specs.Prelude.{ℕ, ◌+◌, List, [], ◌∷◌, length, Option, Some, None}
+use Rattle.std.specs.Prelude.{ℕ, ◌+◌, List, [], ◌∷◌, length, Some, None}
 use base.Fraction.{full_share}
-use base.Fml.{Lft, Fml, ftrue, fsep, fwand, froom}
-use mir.Syntax.{Ty, w8, w64, ty_int, ty_array}
+use base.Fml.{Lft, Fml, ftrue, fsep, froom}
+use mir.Syntax.{Ty, w64, ty_int, ty_array}
 use denote.RawPtr.{Ptr, RawPtr, block_ptr}
-use denote.Builtin.{u8, u64}
+use denote.Builtin.{u64}
 use denote.Memory.{part_at}
 use denote.Sharing.{nothing, beside}
 use denote.Struct.Lending.{lent_at}
@@ -16,27 +16,10 @@ use Rattle.lmn_web_cells.specs.Rows.{Item, Row}
 abbrev pub word : Ty
 word = ty_int w64
 
--- a byte, and bytes side by side
-abbrev pub byte : Ty
-byte = ty_int w8
-
-abbrev pub byte_own : Option ℕ → ℕ → ℕ → Fml
-byte_own None b e = froom byte b e
-byte_own (Some n) b e = part_at u8 full_share n b e
-
-abbrev pub bytes_own : List (Option ℕ) → ℕ → ℕ → Fml
-bytes_own [] b e = ftrue
-bytes_own (x ∷ xs) b e = fsep (byte_own x b e) (bytes_own xs b (e + 1))
-
--- room for so many bytes is room for the word that was cut into them
-abbrev pub whole_word : ℕ → ℕ → ℕ → Fml
-whole_word n b e = fwand (froom (ty_array byte n) b e) (froom word b e)
-
 abbrev pub item_own : Item → ℕ → ℕ → Fml
 item_own None b e = froom word b e
-item_own (Some (Some p, x)) b e = part_at RawPtr full_share p b e
-item_own (Some (None, (n, []))) b e = part_at u64 full_share n b e
-item_own (Some (None, (n, x ∷ xs))) b e = fsep (bytes_own (x ∷ xs) b e) (whole_word (length (x ∷ xs)) b e)
+item_own (Some (Some p, n)) b e = part_at RawPtr full_share p b e
+item_own (Some (None, n)) b e = part_at u64 full_share n b e
 
 -- words side by side
 abbrev pub items_own : List Item → ℕ → ℕ → Fml
@@ -59,19 +42,10 @@ abbrev pub rows_own : List Row → Fml
 rows_own [] = ftrue
 rows_own (r ∷ rs) = fsep (row_own r) (rows_own rs)
 
-abbrev pub byte_lent : Option ℕ → ℕ → ℕ → Lft → Fml
-byte_lent None b e = nothing
-byte_lent (Some n) b e = lent_at u8 (block_ptr b e) n
-
-abbrev pub bytes_lent : List (Option ℕ) → ℕ → ℕ → Lft → Fml
-bytes_lent [] b e = nothing
-bytes_lent (x ∷ xs) b e = beside (byte_lent x b e) (bytes_lent xs b (e + 1))
-
 abbrev pub item_lent : Item → ℕ → ℕ → Lft → Fml
 item_lent None b e = nothing
-item_lent (Some (Some p, x)) b e = lent_at RawPtr (block_ptr b e) p
-item_lent (Some (None, (n, []))) b e = lent_at u64 (block_ptr b e) n
-item_lent (Some (None, (n, x ∷ xs))) b e = bytes_lent (x ∷ xs) b e
+item_lent (Some (Some p, n)) b e = lent_at RawPtr (block_ptr b e) p
+item_lent (Some (None, n)) b e = lent_at u64 (block_ptr b e) n
 
 abbrev pub items_lent : List Item → ℕ → ℕ → Lft → Fml
 items_lent [] b e = nothing

@@ -1,38 +1,19 @@
 -- Rows of words, each in a block of its own.
-use Rattle.std.specs.Prelude.{◌≡◌, Bool, true, false, ℕ, ◌==◌, ◌^◌, ◌<◌, List, [], ◌∷◌, Option, Some, None, if◌then◌else◌, replicate, slice_set}
+use Rattle.std.specs.Prelude.{◌≡◌, Bool, true, false, ℕ, ◌==◌, ◌^◌, ◌<◌, List, [], ◌∷◌, Option, Some, None, if◌then◌else◌}
 use denote.RawPtr.{Ptr, block_ptr, null_ptr, block_of, count_of}
 
--- what a word holds: nothing yet, a pointer, a number, or bytes, of which some may not be written yet
+-- what a word holds: nothing yet, a pointer, or a number
 abbrev pub Item : Type 0
-Item = Option (Option Ptr × (ℕ × List (Option ℕ)))
+Item = Option (Option Ptr × ℕ)
 
 abbrev pub blank : Item
 blank = None
 
 abbrev pub link : Ptr → Item
-link p = Some (Some p, (0, []))
+link p = Some (Some p, 0)
 
 abbrev pub number : ℕ → Item
-number n = Some (None, (n, []))
-
--- a word of one byte or more
-abbrev pub bytes : Option ℕ → List (Option ℕ) → Item
-bytes x xs = Some (None, (0, x ∷ xs))
-
--- the bytes of a word: eight that aren't written, if it holds anything else
-abbrev pub bytes_in : Item → List (Option ℕ)
-bytes_in None = replicate 8 None
-bytes_in (Some (Some p, x)) = replicate 8 None
-bytes_in (Some (None, (n, []))) = replicate 8 None
-bytes_in (Some (None, (n, x ∷ xs))) = x ∷ xs
-
--- a word with these bytes
-abbrev pub of_bytes : List (Option ℕ) → Item
-of_bytes xs = Some (None, (0, xs))
-
--- a word of which a byte is another
-abbrev pub with_byte : ℕ → ℕ → Item → Item
-with_byte j n i = of_bytes (slice_set (bytes_in i) j (Some n))
+number n = Some (None, n)
 
 -- a row: its block, and its words
 pub record Row : Type 0 where

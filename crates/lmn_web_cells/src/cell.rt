@@ -1,5 +1,5 @@
-//! Cells: rows with eight links, four numbers, a word of bytes and two words for each port, of which a membrane has one, and
-//! behind it two numbers more. The bytes are two small numbers, and the numbers of the ports to which the first six ports lead.
+//! Cells: rows with eight links, six numbers and three words for each port, of which a membrane has one, and behind it two
+//! numbers more.
 ghost use Rattle.std.specs.Prelude.{◌≡◌, ℕ, ◌+◌, ◌*◌, ◌^◌, ◌<◌, ◌≤◌, ◌∷◌, length, IsSome, None, Some, MatchResult, slice_index_or};
 ghost use Rattle.std.specs.Option.{option_map};
 ghost use denote.RawPtr.{block_of};
@@ -7,25 +7,19 @@ ghost use Rattle.lmn_web_cells.specs.Cells.{cells_by, links_of, numbers_of, port
 ghost use Rattle.lmn_store_heap.specs.Heap.{alter};
 ghost use Rattle.lmn_web_cells.specs.CellIds.{cell_id, IsLink, led_by};
 
-use crate::filling::{
-    COUNTS, FIRST_PORT, LINKS, NARROW, PORT_WORDS, SMALL, fill, fill_membrane, port_place,
-};
+use crate::filling::{FIRST_PORT, LINKS, PORT_WORDS, fill, fill_membrane};
 use crate::handle::Cell;
 use crate::kept::Kept;
 use crate::rows::{Rows, is_nowhere, nowhere};
 use std::alloc::{AllocError, Global};
 use std::marker::Model;
 
-// Where the mark of a port stands among its words, and, from the seventh port on, the number of the port to which it leads.
-const MARK: usize = 1;
+// Where the words of a port stand among them.
+const TO: usize = 0;
 
-const PORT: usize = 2;
+const PORT: usize = 1;
 
-// The first small number.
-const FIRST_SMALL: usize = 4;
-
-// The first byte of a port.
-const FIRST_BYTE: usize = 2;
+const MARK: usize = 2;
 
 /// The cells, and the handle of the heap that they are from. The blocks of freed membranes, and of freed atoms with at most
 /// three ports, are kept and used again, so that of cells with as many words there are never more blocks than lived at once.
@@ -147,7 +141,7 @@ impl Cells {
     /// A number that each cell has.
     pub fn number(&self, c: Cell, k: usize) -> u64
         requires there { IsSome (cells_by self.now (cell_id c)) }
-        requires below { k < 4 }
+        requires below { k < 6 }
         ensures { result ≡ slice_index_or (numbers_of (cells_by self.now (cell_id c))) k 0 }
     {
         self.rows.number(c.at, LINKS + k)
@@ -156,30 +150,10 @@ impl Cells {
     /// A number that each cell has is another.
     pub fn set_number(&mut self, c: Cell, k: usize, n: u64)
         requires there { IsSome (cells_by self.old (cell_id c)) }
-        requires below { k < 4 }
+        requires below { k < 6 }
         ensures { cells_by self.new ≡ alter (cells_by self.old) (cell_id c) (option_map (with_number k n)) }
     {
         self.rows.set_number(c.at, LINKS + k, n);
-    }
-
-    /// A number of one byte that each cell has.
-    pub fn small(&self, c: Cell, k: usize) -> u8
-        requires there { IsSome (cells_by self.now (cell_id c)) }
-        requires behind { 4 ≤ k }
-        requires below { k < 6 }
-        ensures { result ≡ slice_index_or (numbers_of (cells_by self.now (cell_id c))) k 0 }
-    {
-        self.rows.byte(c.at, SMALL, k - FIRST_SMALL)
-    }
-
-    /// A number of one byte that each cell has is another.
-    pub fn set_small(&mut self, c: Cell, k: usize, n: u8)
-        requires there { IsSome (cells_by self.old (cell_id c)) }
-        requires behind { 4 ≤ k }
-        requires below { k < 6 }
-        ensures { cells_by self.new ≡ alter (cells_by self.old) (cell_id c) (option_map (with_number k n)) }
-    {
-        self.rows.set_byte(c.at, SMALL, k - FIRST_SMALL, n);
     }
 
     /// A number that only membranes have.
@@ -190,7 +164,7 @@ impl Cells {
         requires below { k < 8 }
         ensures { result ≡ slice_index_or (numbers_of (cells_by self.now (cell_id c))) k 0 }
     {
-        self.rows.number(c.at, COUNTS + k)
+        self.rows.number(c.at, LINKS + PORT_WORDS + k)
     }
 
     /// A number that only membranes have is another.
@@ -201,7 +175,7 @@ impl Cells {
         requires below { k < 8 }
         ensures { cells_by self.new ≡ alter (cells_by self.old) (cell_id c) (option_map (with_number k n)) }
     {
-        self.rows.set_number(c.at, COUNTS + k, n);
+        self.rows.set_number(c.at, LINKS + PORT_WORDS + k, n);
     }
 
     /// The cell to which a port leads.
@@ -210,21 +184,7 @@ impl Cells {
         requires below { j < length (ports_of (cells_by self.now (cell_id c))) }
         ensures { (port_of (cells_by self.now (cell_id c)) j).to ≡ option_map cell_id result }
     {
-        if j < NARROW {
-            cell_from(self.rows.link(c.at, FIRST_PORT + j * PORT_WORDS))
-        } else {
-            self.wide_to(c, j)
-        }
-    }
-
-    // The same for any port. Out of the way: few ports aren't among the first ones.
-    #[inline(never)]
-    fn wide_to(&self, c: Cell, j: usize) -> Option<Cell>
-        requires there { IsSome (cells_by self.now (cell_id c)) }
-        requires below { j < length (ports_of (cells_by self.now (cell_id c))) }
-        ensures { (port_of (cells_by self.now (cell_id c)) j).to ≡ option_map cell_id result }
-    {
-        cell_from(self.rows.link(c.at, port_place(j)))
+        cell_from(self.rows.link(c.at, FIRST_PORT + (j * PORT_WORDS + TO)))
     }
 
     /// A port leads elsewhere.
@@ -233,22 +193,8 @@ impl Cells {
         requires below { j < length (ports_of (cells_by self.old (cell_id c))) }
         ensures { cells_by self.new ≡ alter (cells_by self.old) (cell_id c) (option_map (with_to j (option_map cell_id to))) }
     {
-        if j < NARROW {
-            self.rows
-                .set_link(c.at, FIRST_PORT + j * PORT_WORDS, pointer_of(to));
-        } else {
-            self.set_wide_to(c, j, to);
-        }
-    }
-
-    // The same for any port, out of the way.
-    #[inline(never)]
-    fn set_wide_to(&mut self, c: Cell, j: usize, to: Option<Cell>)
-        requires there { IsSome (cells_by self.old (cell_id c)) }
-        requires below { j < length (ports_of (cells_by self.old (cell_id c))) }
-        ensures { cells_by self.new ≡ alter (cells_by self.old) (cell_id c) (option_map (with_to j (option_map cell_id to))) }
-    {
-        self.rows.set_link(c.at, port_place(j), pointer_of(to));
+        self.rows
+            .set_link(c.at, FIRST_PORT + (j * PORT_WORDS + TO), pointer_of(to));
     }
 
     /// The number of the port to which a port leads.
@@ -257,24 +203,17 @@ impl Cells {
         requires below { j < length (ports_of (cells_by self.now (cell_id c))) }
         ensures { result ≡ (port_of (cells_by self.now (cell_id c)) j).port }
     {
-        if j < NARROW {
-            self.rows.byte(c.at, SMALL, j + FIRST_BYTE) as u64
-        } else {
-            self.rows.number(c.at, port_place(j) + PORT)
-        }
+        self.rows.number(c.at, FIRST_PORT + (j * PORT_WORDS + PORT))
     }
 
     /// The number of the port to which a port leads is another.
-    pub fn set_port(&mut self, c: Cell, j: usize, n: u8)
+    pub fn set_port(&mut self, c: Cell, j: usize, n: u64)
         requires there { IsSome (cells_by self.old (cell_id c)) }
         requires below { j < length (ports_of (cells_by self.old (cell_id c))) }
         ensures { cells_by self.new ≡ alter (cells_by self.old) (cell_id c) (option_map (with_port j n)) }
     {
-        if j < NARROW {
-            self.rows.set_byte(c.at, SMALL, j + FIRST_BYTE, n);
-        } else {
-            self.rows.set_number(c.at, port_place(j) + PORT, n as u64);
-        }
+        self.rows
+            .set_number(c.at, FIRST_PORT + (j * PORT_WORDS + PORT), n);
     }
 
     /// The mark of a port.
@@ -283,21 +222,7 @@ impl Cells {
         requires below { j < length (ports_of (cells_by self.now (cell_id c))) }
         ensures { result ≡ (port_of (cells_by self.now (cell_id c)) j).mark }
     {
-        if j < NARROW {
-            self.rows.number(c.at, FIRST_PORT + j * PORT_WORDS + MARK)
-        } else {
-            self.wide_mark(c, j)
-        }
-    }
-
-    // The same for any port, out of the way.
-    #[inline(never)]
-    fn wide_mark(&self, c: Cell, j: usize) -> u64
-        requires there { IsSome (cells_by self.now (cell_id c)) }
-        requires below { j < length (ports_of (cells_by self.now (cell_id c))) }
-        ensures { result ≡ (port_of (cells_by self.now (cell_id c)) j).mark }
-    {
-        self.rows.number(c.at, port_place(j) + MARK)
+        self.rows.number(c.at, FIRST_PORT + (j * PORT_WORDS + MARK))
     }
 
     /// The mark of a port is another.
@@ -306,22 +231,8 @@ impl Cells {
         requires below { j < length (ports_of (cells_by self.old (cell_id c))) }
         ensures { cells_by self.new ≡ alter (cells_by self.old) (cell_id c) (option_map (with_mark j n)) }
     {
-        if j < NARROW {
-            self.rows
-                .set_number(c.at, FIRST_PORT + j * PORT_WORDS + MARK, n);
-        } else {
-            self.set_wide_mark(c, j, n);
-        }
-    }
-
-    // The same for any port, out of the way.
-    #[inline(never)]
-    fn set_wide_mark(&mut self, c: Cell, j: usize, n: u64)
-        requires there { IsSome (cells_by self.old (cell_id c)) }
-        requires below { j < length (ports_of (cells_by self.old (cell_id c))) }
-        ensures { cells_by self.new ≡ alter (cells_by self.old) (cell_id c) (option_map (with_mark j n)) }
-    {
-        self.rows.set_number(c.at, port_place(j) + MARK, n);
+        self.rows
+            .set_number(c.at, FIRST_PORT + (j * PORT_WORDS + MARK), n);
     }
 }
 

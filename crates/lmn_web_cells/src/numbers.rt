@@ -4,20 +4,20 @@
 /// The place of the cell in the table of all cells.
 pub const INDEX: usize = 0;
 
+/// How many ports the cell has.
+pub const ARITY: usize = 1;
+
+/// What the cell stands for.
+pub const KIND: usize = 2;
+
 /// The upper half of the cell's label.
-pub const HIGH: usize = 1;
+pub const HIGH: usize = 3;
 
 /// The lower half of the cell's label.
-pub const LOW: usize = 2;
+pub const LOW: usize = 4;
 
 /// The first mark of the cell.
-pub const FIRST_MARK: usize = 3;
-
-/// How many ports the cell has: a number of one byte.
-pub const ARITY: usize = 4;
-
-/// What the cell stands for: a number of one byte.
-pub const KIND: usize = 5;
+pub const FIRST_MARK: usize = 5;
 
 /// How many atoms stand in the cell.
 pub const ATOM_COUNT: usize = 6;

@@ -20,7 +20,7 @@ pub fn partner(cells: &Cells, c: Cell, i: usize) -> Option<(Cell, u64)>
 }
 
 /// A port has this partner, or none.
-fn set_partner(cells: &mut Cells, c: Cell, i: usize, partner: Option<(Cell, u8)>)
+fn set_partner(cells: &mut Cells, c: Cell, i: usize, partner: Option<(Cell, u64)>)
     requires { IsPort (cells_by cells.old) (cell_id c) i }
     ensures { cells_by cells.new ≡ linked (cells_by cells.old) (cell_id c) i (option_map port_id partner) }
 {
@@ -45,7 +45,7 @@ fn clear(cells: &mut Cells, port: Option<(Cell, u64)>)
 }
 
 /// The two ports become partners. A former partner of either has none.
-pub fn join(cells: &mut Cells, a: Cell, i: u8, b: Cell, j: u8)
+pub fn join(cells: &mut Cells, a: Cell, i: usize, b: Cell, j: usize)
     requires a { IsPort (cells_by cells.old) (cell_id a) i }
     requires b { IsPort (cells_by cells.old) (cell_id b) j }
     requires reaches { Reaches (cells_by cells.old) }
@@ -54,12 +54,12 @@ pub fn join(cells: &mut Cells, a: Cell, i: u8, b: Cell, j: u8)
     ensures reaches { Reaches (cells_by cells.new) }
     ensures paired { Paired (cells_by cells.old) → Paired (cells_by cells.new) }
 {
-    let first = partner(cells, a, i as usize);
-    let second = partner(cells, b, j as usize);
+    let first = partner(cells, a, i);
+    let second = partner(cells, b, j);
     clear(cells, first);
     clear(cells, second);
-    set_partner(cells, a, i as usize, Some((b, j)));
-    set_partner(cells, b, j as usize, Some((a, i)));
+    set_partner(cells, a, i, Some((b, j as u64)));
+    set_partner(cells, b, j, Some((a, i as u64)));
 }
 
 /// The port and its partner have none.

@@ -1,7 +1,7 @@
 //! Rows of words in blocks of their own. All that touches a pointer is here.
-ghost use Rattle.std.specs.Prelude.{◌≡◌, ℕ, ◌+◌, ◌^◌, ◌<◌, List as Seq, [], ◌∷◌, Some, None, length, MatchResult, slice_index_or, slice_set, replicate};
+ghost use Rattle.std.specs.Prelude.{◌≡◌, ℕ, ◌+◌, ◌^◌, ◌<◌, List as Seq, [], ◌∷◌, length, MatchResult, slice_index_or, slice_set, replicate};
 ghost use denote.RawPtr.{Ptr, null_ptr, block_of};
-ghost use Rattle.lmn_web_cells.specs.Rows.{Row, row, bytes_in, with_byte, items_in, with_items, without_row, link, number, blank, IsStart, IsNear, leads_nowhere};
+ghost use Rattle.lmn_web_cells.specs.Rows.{Row, row, items_in, with_items, without_row, link, number, blank, IsStart, IsNear, leads_nowhere};
 ghost use Rattle.lmn_web_cells.specs.Owned.{rows_own, rows_lent};
 
 use std::alloc::{AllocError, Allocator, Global};
@@ -75,24 +75,6 @@ impl Rows {
         ensures { slice_index_or (items_in self.now.rows (block_of at)) k blank ≡ number result }
     {
         unsafe { *(at as *mut u64).add(k) }
-    }
-
-    /// A byte of a word.
-    pub fn byte(&self, at: *mut u8, k: usize, j: usize) -> u8
-        requires { IsStart at × (k < 2 ^ 32) × (j < 8) × ((n : ℕ) × (slice_index_or (bytes_in (slice_index_or (items_in self.now.rows (block_of at)) k blank)) j None ≡ Some n)) }
-        ensures { slice_index_or (bytes_in (slice_index_or (items_in self.now.rows (block_of at)) k blank)) j None ≡ Some result }
-    {
-        unsafe { *at.add(k * 8 + j) }
-    }
-
-    /// A byte goes into a word. If that held anything else than bytes, nothing is known of its others.
-    pub fn set_byte(&mut self, at: *mut u8, k: usize, j: usize, n: u8)
-        requires { IsStart at × (k < 2 ^ 32) × (j < 8) × (k < length (items_in self.old.rows (block_of at))) × (j < length (bytes_in (slice_index_or (items_in self.old.rows (block_of at)) k blank))) }
-        ensures { self.new.rows ≡ with_items (block_of at) (slice_set (items_in self.old.rows (block_of at)) k (with_byte j n (slice_index_or (items_in self.old.rows (block_of at)) k blank))) self.old.rows }
-    {
-        unsafe {
-            *at.add(k * 8 + j) = n;
-        }
     }
 
     /// A pointer goes into a word.

@@ -27,13 +27,13 @@ put_inside-requires-clause-c c =
 pub number-high-requires-clause-there : goal.number-high-requires-clause-there
 number-high-requires-clause-there c = c.requires.2.there_c
 
-pub small-arity-requires-clause-there : goal.small-arity-requires-clause-there
-small-arity-requires-clause-there c = c.requires.2.there_c
+pub number-arity-requires-clause-there : goal.number-arity-requires-clause-there
+number-arity-requires-clause-there c = c.requires.2.there_c
 
 pub put_leader-requires-clause-holder : goal.put_leader-requires-clause-holder
 put_leader-requires-clause-holder c =
     let f = cells_by c.args.cells.now in let m = cell_id c.args.m in let x = cell_id c.args.c in let p = key_in f x in
-    let kp : ◌≡◌ {A = ℕ × ℕ} (c.number-high.result, c.small-arity.result) p = λ i. (c.number-high.ensures i, c.small-arity.ensures i) in
+    let kp : ◌≡◌ {A = ℕ × ℕ} (c.number-high.result, c.number-arity.result) p = λ i. (c.number-high.ensures i, c.number-arity.ensures i) in
     let r = c.requires in let t = r.1 in let a = r.2 in
     let found = c.find-found.ensures t a.classed.tree in
     let hold : cell_id c.find-found.result.holder ≡ (place_in f p m t).holder = found.0 ∙ ap (λ q. (place_in f q m t).holder) kp in
@@ -43,7 +43,7 @@ put_leader-requires-clause-holder c =
 pub put_leader-requires-clause-link : goal.put_leader-requires-clause-link
 put_leader-requires-clause-link c =
     let f = cells_by c.args.cells.now in let m = cell_id c.args.m in let x = cell_id c.args.c in let p = key_in f x in
-    let kp : ◌≡◌ {A = ℕ × ℕ} (c.number-high.result, c.small-arity.result) p = λ i. (c.number-high.ensures i, c.small-arity.ensures i) in
+    let kp : ◌≡◌ {A = ℕ × ℕ} (c.number-high.result, c.number-arity.result) p = λ i. (c.number-high.ensures i, c.number-arity.ensures i) in
     let r = c.requires in let t = r.1 in let a = r.2 in
     let found = c.find-found.ensures t a.classed.tree in
     let hold : cell_id c.find-found.result.holder ≡ (place_in f p m t).holder = found.0 ∙ ap (λ q. (place_in f q m t).holder) kp in
@@ -67,7 +67,7 @@ pub returns-in-None : goal.returns-in-None
 returns-in-None c xs t xs' a fresh i one =
     let f = cells_by c.args.cells.now in let m = cell_id c.args.m in let x = cell_id c.args.c in let p = key_in f x in
     let d = cell_id c.args.d in
-    let kp : ◌≡◌ {A = ℕ × ℕ} (c.number-high.result, c.small-arity.result) p = λ i. (c.number-high.ensures i, c.small-arity.ensures i) in
+    let kp : ◌≡◌ {A = ℕ × ℕ} (c.number-high.result, c.number-arity.result) p = λ i. (c.number-high.ensures i, c.number-arity.ensures i) in
     let found = c.find-found.ensures t a.classed.tree in
     let hold : cell_id c.find-found.result.holder ≡ (place_in f p m t).holder = found.0 ∙ ap (λ q. (place_in f q m t).holder) kp in
     let link : c.find-found.result.link ≡ (place_in f p m t).link = found.1 ∙ ap (λ q. (place_in f q m t).link) kp in

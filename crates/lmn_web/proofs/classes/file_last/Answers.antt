@@ -9,13 +9,13 @@ use Rattle.lmn_web.proofs.classes.file_last.Goals as goal
 pub number-high-requires-clause-there : goal.number-high-requires-clause-there
 number-high-requires-clause-there c = c.requires.2.there_c
 
-pub small-arity-requires-clause-there : goal.small-arity-requires-clause-there
-small-arity-requires-clause-there c = c.requires.2.there_c
+pub number-arity-requires-clause-there : goal.number-arity-requires-clause-there
+number-arity-requires-clause-there c = c.requires.2.there_c
 
 pub begin-requires-clause-holder : goal.begin-requires-clause-holder
 begin-requires-clause-holder c =
     let f = cells_by c.args.cells.now in let m = cell_id c.args.m in let x = cell_id c.args.c in let p = key_in f x in
-    let kp : ◌≡◌ {A = ℕ × ℕ} (c.number-high.result, c.small-arity.result) p = λ i. (c.number-high.ensures i, c.small-arity.ensures i) in
+    let kp : ◌≡◌ {A = ℕ × ℕ} (c.number-high.result, c.number-arity.result) p = λ i. (c.number-high.ensures i, c.number-arity.ensures i) in
     let r = c.requires in let t = r.1 in let a = r.2 in
     let found = c.find-found.ensures t a.classed.tree in
     let hold : cell_id c.find-found.result.holder ≡ (place_in f p m t).holder = found.0 ∙ ap (λ q. (place_in f q m t).holder) kp in
@@ -25,7 +25,7 @@ begin-requires-clause-holder c =
 pub begin-requires-clause-link : goal.begin-requires-clause-link
 begin-requires-clause-link c =
     let f = cells_by c.args.cells.now in let m = cell_id c.args.m in let x = cell_id c.args.c in let p = key_in f x in
-    let kp : ◌≡◌ {A = ℕ × ℕ} (c.number-high.result, c.small-arity.result) p = λ i. (c.number-high.ensures i, c.small-arity.ensures i) in
+    let kp : ◌≡◌ {A = ℕ × ℕ} (c.number-high.result, c.number-arity.result) p = λ i. (c.number-high.ensures i, c.number-arity.ensures i) in
     let r = c.requires in let t = r.1 in let a = r.2 in
     let found = c.find-found.ensures t a.classed.tree in
     let hold : cell_id c.find-found.result.holder ≡ (place_in f p m t).holder = found.0 ∙ ap (λ q. (place_in f q m t).holder) kp in
@@ -35,7 +35,7 @@ begin-requires-clause-link c =
 pub link-requires-clause-there : goal.link-requires-clause-there
 link-requires-clause-there c =
     let f = cells_by c.args.cells.now in let m = cell_id c.args.m in let x = cell_id c.args.c in let p = key_in f x in
-    let kp : ◌≡◌ {A = ℕ × ℕ} (c.number-high.result, c.small-arity.result) p = λ i. (c.number-high.ensures i, c.small-arity.ensures i) in
+    let kp : ◌≡◌ {A = ℕ × ℕ} (c.number-high.result, c.number-arity.result) p = λ i. (c.number-high.ensures i, c.number-arity.ensures i) in
     let r = c.requires in let t = r.1 in let a = r.2 in
     let l = cell_id c.in-Some.leader in
     let lead : top (place_in f p m t).tree ≡ Some l = ap (λ q. top (place_in f q m t).tree) (sym kp) ∙ sym (c.find-found.ensures t a.classed.tree).2 ∙ ap (option_map cell_id) c.in-Some.is in
@@ -44,7 +44,7 @@ link-requires-clause-there c =
 pub lengthen-requires-clause-last : goal.lengthen-requires-clause-last
 lengthen-requires-clause-last c =
     let f = cells_by c.args.cells.now in let m = cell_id c.args.m in let x = cell_id c.args.c in let p = key_in f x in
-    let kp : ◌≡◌ {A = ℕ × ℕ} (c.number-high.result, c.small-arity.result) p = λ i. (c.number-high.ensures i, c.small-arity.ensures i) in
+    let kp : ◌≡◌ {A = ℕ × ℕ} (c.number-high.result, c.number-arity.result) p = λ i. (c.number-high.ensures i, c.number-arity.ensures i) in
     let r = c.requires in let t = r.1 in let a = r.2 in
     let l = cell_id c.in-Some.leader in
     let lead : top (place_in f p m t).tree ≡ Some l = ap (λ q. top (place_in f q m t).tree) (sym kp) ∙ sym (c.find-found.ensures t a.classed.tree).2 ∙ ap (option_map cell_id) c.in-Some.is in
@@ -53,7 +53,7 @@ lengthen-requires-clause-last c =
 pub returns-in-None : goal.returns-in-None
 returns-in-None c xs t xs' a fresh one =
     let f = cells_by c.args.cells.now in let m = cell_id c.args.m in let x = cell_id c.args.c in let p = key_in f x in
-    let kp : ◌≡◌ {A = ℕ × ℕ} (c.number-high.result, c.small-arity.result) p = λ i. (c.number-high.ensures i, c.small-arity.ensures i) in
+    let kp : ◌≡◌ {A = ℕ × ℕ} (c.number-high.result, c.number-arity.result) p = λ i. (c.number-high.ensures i, c.number-arity.ensures i) in
     let found = c.find-found.ensures t a.classed.tree in
     let hold : cell_id c.find-found.result.holder ≡ (place_in f p m t).holder = found.0 ∙ ap (λ q. (place_in f q m t).holder) kp in
     let link : c.find-found.result.link ≡ (place_in f p m t).link = found.1 ∙ ap (λ q. (place_in f q m t).link) kp in
@@ -63,7 +63,7 @@ returns-in-None c xs t xs' a fresh one =
 pub returns-in-Some-link : goal.returns-in-Some-link
 returns-in-Some-link c xs t xs' a fresh one =
     let f = cells_by c.args.cells.now in let m = cell_id c.args.m in let x = cell_id c.args.c in let p = key_in f x in
-    let kp : ◌≡◌ {A = ℕ × ℕ} (c.number-high.result, c.small-arity.result) p = λ i. (c.number-high.ensures i, c.small-arity.ensures i) in
+    let kp : ◌≡◌ {A = ℕ × ℕ} (c.number-high.result, c.number-arity.result) p = λ i. (c.number-high.ensures i, c.number-arity.ensures i) in
     let l = cell_id c.in-Some.leader in
     let lead : top (place_in f p m t).tree ≡ Some l = ap (λ q. top (place_in f q m t).tree) (sym kp) ∙ sym (c.find-found.ensures t a.classed.tree).2 ∙ ap (option_map cell_id) c.in-Some.is in
     subst (λ (g : ℕ → Option HeldCell). Refiled f g m (x ∷ xs) p xs') (sym c.lengthen.ensures) (filed_longer f c.whole.ensures m x xs t xs' a fresh one l (cell_id c.in-Some-link.last) lead (c.link.ensures ∙ ap (option_map cell_id) c.in-Some-link.is))
@@ -71,7 +71,7 @@ returns-in-Some-link c xs t xs' a fresh one =
 pub returns-in_default : goal.returns-in_default
 returns-in_default c xs t xs' a fresh one =
     let f = cells_by c.args.cells.now in let m = cell_id c.args.m in let x = cell_id c.args.c in let p = key_in f x in
-    let kp : ◌≡◌ {A = ℕ × ℕ} (c.number-high.result, c.small-arity.result) p = λ i. (c.number-high.ensures i, c.small-arity.ensures i) in
+    let kp : ◌≡◌ {A = ℕ × ℕ} (c.number-high.result, c.number-arity.result) p = λ i. (c.number-high.ensures i, c.number-arity.ensures i) in
     let l = cell_id c.in-Some.leader in
     let lead : top (place_in f p m t).tree ≡ Some l = ap (λ q. top (place_in f q m t).tree) (sym kp) ∙ sym (c.find-found.ensures t a.classed.tree).2 ∙ ap (option_map cell_id) c.in-Some.is in
     absurd (last_some f m x xs t a p l lead (c.link.ensures ∙ ap (option_map cell_id) c.in_default.is))

@@ -23,8 +23,8 @@ link-requires-else-is_filed-clause-there c = (each_in _ _ (cell_id c.args.c) c.r
 pub number-requires-clause-there : goal.number-requires-clause-there
 number-requires-clause-there c = (each_in _ _ (cell_id c.args.c) c.requires.line.cells c.requires.inside).0
 
-pub small-requires-clause-there : goal.small-requires-clause-there
-small-requires-clause-there c = (each_in _ _ (cell_id c.args.c) c.requires.line.cells c.requires.inside).0
+pub number-requires-else-is_filed-clause-there : goal.number-requires-else-is_filed-clause-there
+number-requires-else-is_filed-clause-there c = (each_in _ _ (cell_id c.args.c) c.requires.line.cells c.requires.inside).0
 
 pub returns-then-is_filed : goal.returns-then-is_filed
 returns-then-is_filed c =
@@ -42,7 +42,7 @@ pub returns-else-is_filed : goal.returns-else-is_filed
 returns-else-is_filed c =
     let f = cells_by c.args.cells.now in let m = cell_id c.args.m in let x = cell_id c.args.c in let all = list_in f m Atom in
     let on : from (option_map cell_id c.link-else-is_filed.result) all ≡ after x all = ap (λ o. from o all) (sym c.link-else-is_filed.ensures) ∙ goes_on f m 3 x all c.requires.line c.requires.inside in
-    let q : ℕ × ℕ = (c.number.result, c.small.result) in let key : q ≡ key_in f x = λ t. (c.number.ensures t, c.small.ensures t) in
+    let q : ℕ × ℕ = (c.number.result, c.number-else-is_filed.result) in let key : q ≡ key_in f x = λ t. (c.number.ensures t, c.number-else-is_filed.ensures t) in
     let p = key_in f x in let r = option_map cell_id c.seek.result in
     let found : from r (of_class f p all) ≡ of_class f p (from (option_map cell_id c.link-else-is_filed.result) all) = subst (λ k. from r (of_class f k all) ≡ of_class f k (from (option_map cell_id c.link-else-is_filed.result) all)) key c.seek.ensures in
     found ∙ ap (of_class f p) on ∙ sym (filter_after (λ a. is_key (key_in f a) p) x all (key_same p))

@@ -11,13 +11,13 @@ use Rattle.lmn_web.proofs.classes.unfile_first.Goals as goal
 pub number-high-requires-clause-there : goal.number-high-requires-clause-there
 number-high-requires-clause-there c = c.requires.classes.2.there_c
 
-pub small-arity-requires-clause-there : goal.small-arity-requires-clause-there
-small-arity-requires-clause-there c = c.requires.classes.2.there_c
+pub number-arity-requires-clause-there : goal.number-arity-requires-clause-there
+number-arity-requires-clause-there c = c.requires.classes.2.there_c
 
 pub pass-requires-clause-holder : goal.pass-requires-clause-holder
 pass-requires-clause-holder c =
     let f = cells_by c.args.cells.now in let m = cell_id c.args.m in let x = cell_id c.args.c in let p = key_in f x in
-    let kp : ◌≡◌ {A = ℕ × ℕ} (c.number-high.result, c.small-arity.result) p = λ i. (c.number-high.ensures i, c.small-arity.ensures i) in
+    let kp : ◌≡◌ {A = ℕ × ℕ} (c.number-high.result, c.number-arity.result) p = λ i. (c.number-high.ensures i, c.number-arity.ensures i) in
     let r = c.requires.classes in let t = r.1 in let a = r.2 in
     let found = c.find-found.ensures t a.classed.tree in
     let hold : cell_id c.find-found.result.holder ≡ (place_in f p m t).holder = found.0 ∙ ap (λ q. (place_in f q m t).holder) kp in
@@ -27,7 +27,7 @@ pass-requires-clause-holder c =
 pub pass-requires-clause-link : goal.pass-requires-clause-link
 pass-requires-clause-link c =
     let f = cells_by c.args.cells.now in let m = cell_id c.args.m in let x = cell_id c.args.c in let p = key_in f x in
-    let kp : ◌≡◌ {A = ℕ × ℕ} (c.number-high.result, c.small-arity.result) p = λ i. (c.number-high.ensures i, c.small-arity.ensures i) in
+    let kp : ◌≡◌ {A = ℕ × ℕ} (c.number-high.result, c.number-arity.result) p = λ i. (c.number-high.ensures i, c.number-arity.ensures i) in
     let r = c.requires.classes in let t = r.1 in let a = r.2 in
     let found = c.find-found.ensures t a.classed.tree in
     let hold : cell_id c.find-found.result.holder ≡ (place_in f p m t).holder = found.0 ∙ ap (λ q. (place_in f q m t).holder) kp in
@@ -57,7 +57,7 @@ lowest-leaf-requires-clause-tree c =
 pub drop_class-requires-clause-holder : goal.drop_class-requires-clause-holder
 drop_class-requires-clause-holder c =
     let f = cells_by c.args.cells.now in let m = cell_id c.args.m in let x = cell_id c.args.c in let p = key_in f x in
-    let kp : ◌≡◌ {A = ℕ × ℕ} (c.number-high.result, c.small-arity.result) p = λ i. (c.number-high.ensures i, c.small-arity.ensures i) in
+    let kp : ◌≡◌ {A = ℕ × ℕ} (c.number-high.result, c.number-arity.result) p = λ i. (c.number-high.ensures i, c.number-arity.ensures i) in
     let r = c.requires.classes in let t = r.1 in let a = r.2 in
     let found = c.find-found.ensures t a.classed.tree in
     let hold : cell_id c.find-found.result.holder ≡ (place_in f p m t).holder = found.0 ∙ ap (λ q. (place_in f q m t).holder) kp in
@@ -67,7 +67,7 @@ drop_class-requires-clause-holder c =
 pub drop_class-requires-clause-link : goal.drop_class-requires-clause-link
 drop_class-requires-clause-link c =
     let f = cells_by c.args.cells.now in let m = cell_id c.args.m in let x = cell_id c.args.c in let p = key_in f x in
-    let kp : ◌≡◌ {A = ℕ × ℕ} (c.number-high.result, c.small-arity.result) p = λ i. (c.number-high.ensures i, c.small-arity.ensures i) in
+    let kp : ◌≡◌ {A = ℕ × ℕ} (c.number-high.result, c.number-arity.result) p = λ i. (c.number-high.ensures i, c.number-arity.ensures i) in
     let r = c.requires.classes in let t = r.1 in let a = r.2 in
     let found = c.find-found.ensures t a.classed.tree in
     let hold : cell_id c.find-found.result.holder ≡ (place_in f p m t).holder = found.0 ∙ ap (λ q. (place_in f q m t).holder) kp in
@@ -91,7 +91,7 @@ drop_class-requires-clause-leaf c =
 pub returns-in-Some : goal.returns-in-Some
 returns-in-Some c xs t xs' a i one =
     let f = cells_by c.args.cells.now in let m = cell_id c.args.m in let x = cell_id c.args.c in let p = key_in f x in
-    let kp : ◌≡◌ {A = ℕ × ℕ} (c.number-high.result, c.small-arity.result) p = λ i. (c.number-high.ensures i, c.small-arity.ensures i) in
+    let kp : ◌≡◌ {A = ℕ × ℕ} (c.number-high.result, c.number-arity.result) p = λ i. (c.number-high.ensures i, c.number-arity.ensures i) in
     let found = c.find-found.ensures t a.classed.tree in
     let hold : cell_id c.find-found.result.holder ≡ (place_in f p m t).holder = found.0 ∙ ap (λ q. (place_in f q m t).holder) kp in
     let link : c.find-found.result.link ≡ (place_in f p m t).link = found.1 ∙ ap (λ q. (place_in f q m t).link) kp in
@@ -100,7 +100,7 @@ returns-in-Some c xs t xs' a i one =
 pub returns-in-None : goal.returns-in-None
 returns-in-None c xs t xs' a i one =
     let f = cells_by c.args.cells.now in let m = cell_id c.args.m in let x = cell_id c.args.c in let p = key_in f x in
-    let kp : ◌≡◌ {A = ℕ × ℕ} (c.number-high.result, c.small-arity.result) p = λ i. (c.number-high.ensures i, c.small-arity.ensures i) in
+    let kp : ◌≡◌ {A = ℕ × ℕ} (c.number-high.result, c.number-arity.result) p = λ i. (c.number-high.ensures i, c.number-arity.ensures i) in
     let found = c.find-found.ensures t a.classed.tree in
     let hold : cell_id c.find-found.result.holder ≡ (place_in f p m t).holder = found.0 ∙ ap (λ q. (place_in f q m t).holder) kp in
     let link : c.find-found.result.link ≡ (place_in f p m t).link = found.1 ∙ ap (λ q. (place_in f q m t).link) kp in

@@ -37,7 +37,7 @@ insert-requires-clause-list c =
     let home : link_in f a HOME ≡ Some m = c.link.ensures ∙ ap (option_map cell_id) c.in-Some.is in
     let among = before_among c.self.inside.cells c.args.self.now _ c.self.view_is w m a x home c.requires.kind in
     let enters = enters_before c.self.inside.cells c.args.self.now _ c.self.view_is w m a x home c.requires.kind c.requires.there c.requires.homeless c.requires.differ in
-    let kind : c.kind_of-kind.result ≡ cell_kind f x = c.kind_of-kind.ensures ∙ ap kind_by c.small.ensures in
+    let kind : c.kind_of-kind.result ≡ cell_kind f x = c.kind_of-kind.ensures ∙ ap kind_by c.number.ensures in
     let k = cell_kind f x in
     (list_in f m k, subst (λ e. Line f m e (list_in f m k)) (sym (c.first_link.ensures ∙ ap list_link kind)) (own_line f (list_in f) w.listed m a k among), among, in_none f (list_in f) w.listed x enters.free m k)
 
@@ -47,7 +47,7 @@ count-count-requires-clause-there c =
     let home : link_in f a HOME ≡ Some m = c.link.ensures ∙ ap (option_map cell_id) c.in-Some.is in
     let among = before_among c.self.inside.cells c.args.self.now _ c.self.view_is w m a x home c.requires.kind in
     let enters = enters_before c.self.inside.cells c.args.self.now _ c.self.view_is w m a x home c.requires.kind c.requires.there c.requires.homeless c.requires.differ in
-    let kind : c.kind_of-kind.result ≡ cell_kind f x = c.kind_of-kind.ensures ∙ ap kind_by c.small.ensures in
+    let kind : c.kind_of-kind.result ≡ cell_kind f x = c.kind_of-kind.ensures ∙ ap kind_by c.number.ensures in
     let p = count_number (cell_kind f x) in
     inserted_there f (cells_by c.insert.new.cells) (cells_by c.insert.new.cells) _ w m x c.first_link.result p p (number_in (cells_by c.insert.new.cells) m p) enters (c.first_link.ensures ∙ ap list_link kind) refl refl refl a among (c.insert.ensures.inserted, c.insert.ensures.list, c.insert.ensures.others)
 
@@ -57,7 +57,7 @@ count-count-requires-clause-numbers c =
     let home : link_in f a HOME ≡ Some m = c.link.ensures ∙ ap (option_map cell_id) c.in-Some.is in
     let among = before_among c.self.inside.cells c.args.self.now _ c.self.view_is w m a x home c.requires.kind in
     let enters = enters_before c.self.inside.cells c.args.self.now _ c.self.view_is w m a x home c.requires.kind c.requires.there c.requires.homeless c.requires.differ in
-    let kind : c.kind_of-kind.result ≡ cell_kind f x = c.kind_of-kind.ensures ∙ ap kind_by c.small.ensures in
+    let kind : c.kind_of-kind.result ≡ cell_kind f x = c.kind_of-kind.ensures ∙ ap kind_by c.number.ensures in
     let p = count_number (cell_kind f x) in
     inserted_eight f (cells_by c.insert.new.cells) (cells_by c.insert.new.cells) _ w m x c.first_link.result p p (number_in (cells_by c.insert.new.cells) m p) enters (c.first_link.ensures ∙ ap list_link kind) refl refl refl a among (c.insert.ensures.inserted, c.insert.ensures.list, c.insert.ensures.others)
 
@@ -67,7 +67,7 @@ set_count-requires-clause-there c =
     let home : link_in f a HOME ≡ Some m = c.link.ensures ∙ ap (option_map cell_id) c.in-Some.is in
     let among = before_among c.self.inside.cells c.args.self.now _ c.self.view_is w m a x home c.requires.kind in
     let enters = enters_before c.self.inside.cells c.args.self.now _ c.self.view_is w m a x home c.requires.kind c.requires.there c.requires.homeless c.requires.differ in
-    let kind : c.kind_of-kind.result ≡ cell_kind f x = c.kind_of-kind.ensures ∙ ap kind_by c.small.ensures in
+    let kind : c.kind_of-kind.result ≡ cell_kind f x = c.kind_of-kind.ensures ∙ ap kind_by c.number.ensures in
     let p = count_number (cell_kind f x) in
     inserted_there f (cells_by c.insert.new.cells) (cells_by c.insert.new.cells) _ w m x c.first_link.result p p (number_in (cells_by c.insert.new.cells) m p) enters (c.first_link.ensures ∙ ap list_link kind) refl refl refl a among (c.insert.ensures.inserted, c.insert.ensures.list, c.insert.ensures.others)
 
@@ -77,7 +77,7 @@ set_count-requires-clause-numbers c =
     let home : link_in f a HOME ≡ Some m = c.link.ensures ∙ ap (option_map cell_id) c.in-Some.is in
     let among = before_among c.self.inside.cells c.args.self.now _ c.self.view_is w m a x home c.requires.kind in
     let enters = enters_before c.self.inside.cells c.args.self.now _ c.self.view_is w m a x home c.requires.kind c.requires.there c.requires.homeless c.requires.differ in
-    let kind : c.kind_of-kind.result ≡ cell_kind f x = c.kind_of-kind.ensures ∙ ap kind_by c.small.ensures in
+    let kind : c.kind_of-kind.result ≡ cell_kind f x = c.kind_of-kind.ensures ∙ ap kind_by c.number.ensures in
     let p = count_number (cell_kind f x) in
     inserted_eight f (cells_by c.insert.new.cells) (cells_by c.insert.new.cells) _ w m x c.first_link.result p p (number_in (cells_by c.insert.new.cells) m p) enters (c.first_link.ensures ∙ ap list_link kind) refl refl refl a among (c.insert.ensures.inserted, c.insert.ensures.list, c.insert.ensures.others)
 
@@ -87,7 +87,7 @@ overflow_add-count c =
     let home : link_in f a HOME ≡ Some m = c.link.ensures ∙ ap (option_map cell_id) c.in-Some.is in
     let among = before_among c.self.inside.cells c.args.self.now _ c.self.view_is w m a x home c.requires.kind in
     let enters = enters_before c.self.inside.cells c.args.self.now _ c.self.view_is w m a x home c.requires.kind c.requires.there c.requires.homeless c.requires.differ in
-    let kind : c.kind_of-kind.result ≡ cell_kind f x = c.kind_of-kind.ensures ∙ ap kind_by c.small.ensures in
+    let kind : c.kind_of-kind.result ≡ cell_kind f x = c.kind_of-kind.ensures ∙ ap kind_by c.number.ensures in
     let fits = inserted_fits f (cells_by c.insert.new.cells) (cells_by c.insert.new.cells) (map cell_id c.self.inside.all.items) w m x c.first_link.result c.count_place.result c.count_place.result c.count-count.result enters (c.first_link.ensures ∙ ap list_link kind) (c.count_place.ensures ∙ ap count_number kind) (c.count_place.ensures ∙ ap count_number kind) c.count-count.ensures a among
     (c.insert.ensures.inserted, c.insert.ensures.list, c.insert.ensures.others) in
     let same = length-map c.self.inside.all.items cell_id in let len = c.self.inside.all.ok.0 in let room = c.self.inside.all.ok.1 in let small = c.self.inside.all.small in
@@ -124,7 +124,7 @@ pub place_from-place-requires-clause-start : goal.place_from-place-requires-clau
 place_from-place-requires-clause-start c sure =
     let f = cells_by c.self.inside.cells in let m = cell_id c.in-Some.home in let a = cell_id c.args.after in let x = cell_id c.args.c in let w = c.self.invariant.web in
     let home : link_in f a HOME ≡ Some m = c.link.ensures ∙ ap (option_map cell_id) c.in-Some.is in
-    let kind : c.kind_of-kind.result ≡ cell_kind f x = c.kind_of-kind.ensures ∙ ap kind_by c.small.ensures in
+    let kind : c.kind_of-kind.result ≡ cell_kind f x = c.kind_of-kind.ensures ∙ ap kind_by c.number.ensures in
     subst (λ k. In a (list_in f m k)) (sym kind ∙ filed_atom f m c.kind_of-kind.result (sym c.is_filed-filed.ensures ∙ sure)) (before_among c.self.inside.cells c.args.self.now _ c.self.view_is w m a x home c.requires.kind)
 
 pub enter_class-requires : goal.enter_class-requires
@@ -133,7 +133,7 @@ enter_class-requires c sure =
     let home : link_in f a HOME ≡ Some m = c.link.ensures ∙ ap (option_map cell_id) c.in-Some.is in
     let among = before_among c.self.inside.cells c.args.self.now _ c.self.view_is w m a x home c.requires.kind in
     let enters = enters_before c.self.inside.cells c.args.self.now _ c.self.view_is w m a x home c.requires.kind c.requires.there c.requires.homeless c.requires.differ in
-    let kind : c.kind_of-kind.result ≡ cell_kind f x = c.kind_of-kind.ensures ∙ ap kind_by c.small.ensures in
+    let kind : c.kind_of-kind.result ≡ cell_kind f x = c.kind_of-kind.ensures ∙ ap kind_by c.number.ensures in
     let filed : c.is_filed-filed.result ≡ files f m (cell_kind f x) = c.is_filed-filed.ensures ∙ ap (files f m) kind in
     let own = list_in f m (cell_kind f x) in let F = cells_by c.set_count.new.self in let xs = put_before x a own in
     let r = inserts f (cells_by c.insert.new.cells) F _ w m x c.first_link.result c.count_place.result c.count_place-in-Some.result c.count-count.result enters (c.first_link.ensures ∙ ap list_link kind) (c.count_place.ensures ∙ ap count_number kind) (c.count_place-in-Some.ensures ∙ ap count_number kind) c.count-count.ensures
@@ -150,7 +150,7 @@ invariant_of-self c =
     let home : link_in f a HOME ≡ Some m = c.link.ensures ∙ ap (option_map cell_id) c.in-Some.is in
     let among = before_among c.self.inside.cells c.args.self.now _ c.self.view_is w m a x home c.requires.kind in
     let enters = enters_before c.self.inside.cells c.args.self.now _ c.self.view_is w m a x home c.requires.kind c.requires.there c.requires.homeless c.requires.differ in
-    let kind : c.kind_of-kind.result ≡ cell_kind f x = c.kind_of-kind.ensures ∙ ap kind_by c.small.ensures in
+    let kind : c.kind_of-kind.result ≡ cell_kind f x = c.kind_of-kind.ensures ∙ ap kind_by c.number.ensures in
     let filed : c.is_filed-filed.result ≡ files f m (cell_kind f x) = c.is_filed-filed.ensures ∙ ap (files f m) kind in
     let own = list_in f m (cell_kind f x) in let F = cells_by c.set_count.new.self in let xs = put_before x a own in
     let r = inserts f (cells_by c.insert.new.cells) F _ w m x c.first_link.result c.count_place.result c.count_place-in-Some.result c.count-count.result enters (c.first_link.ensures ∙ ap list_link kind) (c.count_place.ensures ∙ ap count_number kind) (c.count_place-in-Some.ensures ∙ ap count_number kind) c.count-count.ensures
@@ -167,7 +167,7 @@ returns-in-Some c n at =
     let home : link_in f a HOME ≡ Some m = c.link.ensures ∙ ap (option_map cell_id) c.in-Some.is in
     let among = before_among c.self.inside.cells c.args.self.now _ c.self.view_is w m a x home c.requires.kind in
     let enters = enters_before c.self.inside.cells c.args.self.now _ c.self.view_is w m a x home c.requires.kind c.requires.there c.requires.homeless c.requires.differ in
-    let kind : c.kind_of-kind.result ≡ cell_kind f x = c.kind_of-kind.ensures ∙ ap kind_by c.small.ensures in
+    let kind : c.kind_of-kind.result ≡ cell_kind f x = c.kind_of-kind.ensures ∙ ap kind_by c.number.ensures in
     let filed : c.is_filed-filed.result ≡ files f m (cell_kind f x) = c.is_filed-filed.ensures ∙ ap (files f m) kind in
     let own = list_in f m (cell_kind f x) in let F = cells_by c.set_count.new.self in let xs = put_before x a own in
     let r = inserts f (cells_by c.insert.new.cells) F _ w m x c.first_link.result c.count_place.result c.count_place-in-Some.result c.count-count.result enters (c.first_link.ensures ∙ ap list_link kind) (c.count_place.ensures ∙ ap count_number kind) (c.count_place-in-Some.ensures ∙ ap count_number kind) c.count-count.ensures

@@ -4,14 +4,14 @@ use Rattle.lmn_web_cells.specs.Rows.{Row, number}
 use Rattle.lmn_web_cells.specs.Cells.{cells_by, with_number}
 use Rattle.lmn_store_heap.specs.Heap.{alter}
 use Rattle.lmn_web_cells.specs.CellIds.{cell_id}
-use Rattle.lmn_web_cells.proofs.CellRows.{number_changes, words_there, laid_after, cells_after}
+use Rattle.lmn_web_cells.proofs.CellRows.{number_changes, six_there, words_there, laid_after, cells_after}
 use Rattle.lmn_web_cells.proofs.cell.Cells.set_number.Goals as goal
 
 pub set_number-requires : goal.set_number-requires
 set_number-requires c =
     let there : IsSome (cells_by c.self.inside.rows.rows (cell_id c.args.c)) = subst (λ (z : List Row). IsSome (cells_by z (cell_id c.args.c))) (sym c.self.view_is) c.requires.there in
-    let below = c.requires.below in
-    let some = words_there _ _ c.self.invariant there in (c.args.c.start, omega (arith, below), omega (arith, below, some))
+    let six = six_there _ _ c.self.invariant there in let below = c.requires.below in
+    let some = words_there _ _ c.self.invariant there in (c.args.c.start, omega (arith, below), omega (arith, below, six, some))
 
 pub invariant_of-self : goal.invariant_of-self
 invariant_of-self c =
