@@ -1,4 +1,4 @@
--- What the top call leaves behind, by its status.
+-- What follows of how a call is answered, by its status.
 use Rattle.std.proofs.Common.{◌≡◌, ◌≢◌, ◌≤◌, ℕ, List, [], Option, Some, None, ◌⊎◌, inl, inr, refl, sym, ap, ◌∙◌, subst, append-nil, arith}
 use Rattle.std.specs.declared.string.String.{String}
 use Rattle.std.specs.declared.alloc.Global.{Global}
@@ -15,7 +15,7 @@ use Rattle.lmn_app_words.specs.declared.command.PairKind.{PairKind}
 use Rattle.lmn_app_words.specs.Forms.{Pair, to_run, to_compile, to_demo, to_pair}
 use Rattle.lmn_app_single.specs.Endings.{Concludes, line_of_ending, refusal_line, status_of}
 use Rattle.lmn_app_single.specs.Endings.{second_status}
-use Rattle.lmn_app.specs.Calls.{ErrFailed, IsAnswered, OutFailed}
+use Rattle.lmn_app.specs.Promises.{ErrFailed, KeepsPromises, OutFailed}
 use Rattle.lmn_app.specs.Outcomes.{AnswersOf, OutputOf, PairOutput, RefusesSecondOf, RequestEnded}
 use Rattle.lmn_app_single.specs.Outcomes.{CountsFaults, Output, RefusesText}
 use Rattle.lmn_app_single.specs.declared.task.Task.{Task}
@@ -365,13 +365,13 @@ module _ (one : OneRequest) (words : List (String Global)) (texts : Option (List
   at_most e (inl (s, t, q)) = let most = status_most e in omega (arith, s, most)
   at_most e (inr (s, p, rose, line)) = omega (arith, s)
 
-  -- all that a call leaves behind: it asked its shelf so, acted so, and put the line of the ending into `err`
-  pub is_answered : (sb sa : Option (List Fetch)) (texts_after : Option (List ℕ → Option (List ℕ))) (e : Ending)
+  -- all that a call keeps: it asked its shelf so, acted so, and put the line of the ending into `err`
+  pub keeps_promises : (sb sa : Option (List Fetch)) (texts_after : Option (List ℕ → Option (List ℕ))) (e : Ending)
       → (InForm words → Asked words (λ c. Fetches c texts sb sa read reads) ⊎ ((sa ≡ sb) × (e ≡ NoMemory))) → (¬ (InForm words) → sa ≡ sb)
       → (¬ (InForm words) → (name : List ℕ) → reads name ≡ read name) → Acted e → Concluded e
-      → IsAnswered words status (record { told = texts; asked = sb; faults = read }) (record { told = texts_after; asked = sa; faults = reads })
+      → KeepsPromises words status (record { told = texts; asked = sb; faults = read }) (record { told = texts_after; asked = sa; faults = reads })
       (record { told = oo; faults = ob }) (record { told = on; faults = oa }) (record { told = eo; faults = eb }) (record { told = en; faults = ea })
-  is_answered sb sa texts_after e shelf_asked none_asked none_counted a k = record {
+  keeps_promises sb sa texts_after e shelf_asked none_asked none_counted a k = record {
     status = at_most e k;
     words = not_of_form e a k;
     form = form_answered e a k;

@@ -1,4 +1,4 @@
--- What words with one text leave behind is what all words do.
+-- How words ended: with one text, and with two.
 use Rattle.std.proofs.Common.{◌≡◌, ℕ, List, [], Option, ◌⊎◌, inl, inr, refl, sym, ap, subst, arith}
 use Rattle.std.specs.declared.string.String.{String}
 use Rattle.std.specs.declared.alloc.Global.{Global}
@@ -13,10 +13,12 @@ use Rattle.lmn_app_single.specs.Requests.{Asked}
 use Rattle.lmn_app_single.specs.Seen.{ShelfSeen, SinkSeen}
 use Rattle.lmn_app_single.specs.Singles.{EndsSingle, IsAnsweredSingle, SingleEnded, concluded, handed_on, no_form, no_memory, performed}
 use Rattle.lmn_app.specs.CallExamples.{taken}
-use Rattle.lmn_app.specs.Outcomes.{RequestEnded}
+use Rattle.lmn_app.specs.Calls.{Ends, pair, single}
+use Rattle.lmn_app.specs.Outcomes.{PairEnded, RequestEnded}
+use Rattle.lmn_app.specs.Promises.{AnswersKeepPromises}
 use Rattle.lmn_app.specs.Requests.{Fetches}
 use Rattle.lmn_app.specs.SingleLaws.{ListingIsUnread, NoWordsAreSingle, PairsAreHandedOn, SinglesAreAnswers}
-use Rattle.lmn_app.proofs.MainLemmas.{is_answered, status_most}
+use Rattle.lmn_app.proofs.MainLemmas.{keeps_promises, status_most}
 use Rattle.lmn_app.proofs.RequestLemmas.{demo_ended, list_ended, request_memory, run_ended}
 
 -- a request is what is said of all requests
@@ -38,23 +40,23 @@ same_asked s t is = ap (λ (x : ShelfSeen). x.asked) is
 
 module _ (words : List (String Global)) (e : Ending) (s t : ShelfSeen) (o p : SinkSeen) where
   -- what the shelf was asked for
-  pub single_asked : EndsSingle words e s t o p → InForm words → Asked words (λ c. Fetches c s.told s.asked t.asked s.faults t.faults) ⊎ ((t.asked ≡ s.asked) × (e ≡ NoMemory))
+  single_asked : EndsSingle words e s t o p → InForm words → Asked words (λ c. Fetches c s.told s.asked t.asked s.faults t.faults) ⊎ ((t.asked ≡ s.asked) × (e ≡ NoMemory))
   single_asked (performed c asks h) form = inl (c, asks, request_fetches c e s t o p h)
   single_asked (no_memory said is shelf out) form = inr (same_asked s t shelf, is)
   single_asked (no_form none is shelf out) form = absurd (none form)
 
-  pub single_not_asked : EndsSingle words e s t o p → ¬ (InForm words) → t.asked ≡ s.asked
+  single_not_asked : EndsSingle words e s t o p → ¬ (InForm words) → t.asked ≡ s.asked
   single_not_asked (performed c asks h) none = absurd (none (c, asks))
   single_not_asked (no_memory said is shelf out) none = absurd (none said)
   single_not_asked (no_form n is shelf out) none = same_asked s t shelf
 
-  pub single_unasked : EndsSingle words e s t o p → ¬ (InForm words) → (name : List ℕ) → t.faults name ≡ s.faults name
+  single_unasked : EndsSingle words e s t o p → ¬ (InForm words) → (name : List ℕ) → t.faults name ≡ s.faults name
   single_unasked (performed c asks h) none name = absurd (none (c, asks))
   single_unasked (no_memory said is shelf out) none name = absurd (none said)
   single_unasked (no_form n is shelf out) none name = ap (λ (x : ShelfSeen). x.faults name) shelf
 
   -- how they ended
-  pub single_ended : EndsSingle words e s t o p → Asked words (λ c. RequestEnded c e s.told o.told p.told o.faults p.faults s.faults t.faults)
+  single_ended : EndsSingle words e s t o p → Asked words (λ c. RequestEnded c e s.told o.told p.told o.faults p.faults s.faults t.faults)
       ⊎ (¬ (InForm words) × (e ≡ Words) × (p.told ≡ o.told) × (p.faults ≡ o.faults))
   single_ended (performed c asks h) = inl (c, asks, request_ended c e s t o p h)
   single_ended (no_memory said is shelf out) =
@@ -63,26 +65,52 @@ module _ (words : List (String Global)) (e : Ending) (s t : ShelfSeen) (o p : Si
       inl (said.0, said.1, subst (λ x. RequestEnded said.0 x s.told o.told p.told o.faults p.faults s.faults t.faults) (sym is) still)
   single_ended (no_form none is shelf out) = inr (none, is, ap (λ (q : SinkSeen). q.told) out, ap (λ (q : SinkSeen). q.faults) out)
 
--- ---- a program and a second text, where nothing was touched before
+-- ---- a program and a second text
 
-module _ (words : List (String Global)) (pair : Pair) (asks : Asks words (to_pair pair)) (s m t : ShelfSeen) (same : m ≡ s) where
-  pub pair_asked : Fetches (to_pair pair) m.told m.asked t.asked m.faults t.faults → Asked words (λ c. Fetches c s.told s.asked t.asked s.faults t.faults)
-  pair_asked h = (to_pair pair, asks, subst (λ (x : ShelfSeen). Fetches (to_pair pair) x.told x.asked t.asked x.faults t.faults) same h)
+-- where nothing was touched before
+module _ (words : List (String Global)) (p : Pair) (asks : Asks words (to_pair p)) (s m t : ShelfSeen) (same : m ≡ s) where
+  pub pair_ends : (e : Ending) (o n q : SinkSeen) → n ≡ o → Fetches (to_pair p) m.told m.asked t.asked m.faults t.faults
+      → RequestEnded (to_pair p) e m.told n.told q.told n.faults q.faults m.faults t.faults → Ends words e s t o q
+  pair_ends e o n q is asked h =
+      let there : PairEnded p e m t n q = record { cause = h.cause; output = h.output; counts = h.counts; asked = asked } in
+      pair p asks (subst (λ (x : ShelfSeen). PairEnded p e x t o q) same (subst (λ (y : SinkSeen). PairEnded p e m t y q) is there))
 
-  pub pair_ended : (e : Ending) (o n p : SinkSeen) → n ≡ o → RequestEnded (to_pair pair) e m.told n.told p.told n.faults p.faults m.faults t.faults
-      → Asked words (λ c. RequestEnded c e s.told o.told p.told o.faults p.faults s.faults t.faults)
-  pair_ended e o n p is h =
-      let here = subst (λ (q : SinkSeen). RequestEnded (to_pair pair) e m.told q.told p.told q.faults p.faults m.faults t.faults) is h in
-      (to_pair pair, asks, subst (λ (x : ShelfSeen). RequestEnded (to_pair pair) e x.told o.told p.told o.faults p.faults x.faults t.faults) same here)
+-- what it left behind is what is said of all requests
+pair_ended : (p : Pair) (e : Ending) (s t : ShelfSeen) (o q : SinkSeen) → PairEnded p e s t o q → RequestEnded (to_pair p) e s.told o.told q.told o.faults q.faults s.faults t.faults
+pair_ended p e s t o q h = record { cause = h.cause; output = h.output; counts = h.counts }
 
--- ---- the law
+-- ---- words
+
+module _ (words : List (String Global)) (e : Ending) (s t : ShelfSeen) (o q : SinkSeen) where
+  ends_asked : Ends words e s t o q → InForm words → Asked words (λ c. Fetches c s.told s.asked t.asked s.faults t.faults) ⊎ ((t.asked ≡ s.asked) × (e ≡ NoMemory))
+  ends_asked (single h) form = single_asked words e s t o q h form
+  ends_asked (pair p asks h) form = inl (to_pair p, asks, h.asked)
+
+  ends_not_asked : Ends words e s t o q → ¬ (InForm words) → t.asked ≡ s.asked
+  ends_not_asked (single h) none = single_not_asked words e s t o q h none
+  ends_not_asked (pair p asks h) none = absurd (none (to_pair p, asks))
+
+  ends_unasked : Ends words e s t o q → ¬ (InForm words) → (name : List ℕ) → t.faults name ≡ s.faults name
+  ends_unasked (single h) none name = single_unasked words e s t o q h none name
+  ends_unasked (pair p asks h) none name = absurd (none (to_pair p, asks))
+
+  ends_ended : Ends words e s t o q → Asked words (λ c. RequestEnded c e s.told o.told q.told o.faults q.faults s.faults t.faults)
+      ⊎ (¬ (InForm words) × (e ≡ Words) × (q.told ≡ o.told) × (q.faults ≡ o.faults))
+  ends_ended (single h) = single_ended words e s t o q h
+  ends_ended (pair p asks h) = inl (to_pair p, asks, pair_ended p e s t o q h)
+
+-- ---- laws
+
+-- a call that is answered keeps all promises
+pub answers_keep_promises : OneRequest → AnswersKeepPromises
+answers_keep_promises one args result s t o q v w a =
+    keeps_promises one args s.told s.faults t.faults o.told q.told v.told w.told o.faults q.faults v.faults w.faults result s.asked t.asked t.told a.ending
+    (ends_asked args a.ending s t o q a.ended) (ends_not_asked args a.ending s t o q a.ended) (ends_unasked args a.ending s t o q a.ended) (ends_ended args a.ending s t o q a.ended) a.concluded
 
 -- what is answered with one text is answered so by the whole program
-pub singles_are_answers : OneRequest → SinglesAreAnswers
-singles_are_answers one args result s t o p e f (concluded ending h k) not =
-    is_answered one args s.told s.faults t.faults o.told p.told e.told f.told o.faults p.faults e.faults f.faults result s.asked t.asked t.told ending
-    (single_asked args ending s t o p h) (single_not_asked args ending s t o p h) (single_unasked args ending s t o p h) (single_ended args ending s t o p h) k
-singles_are_answers one args result s t o p e f (handed_on pair asks is shelf out err) not = absurd (not is)
+pub singles_are_answers : SinglesAreAnswers
+singles_are_answers args result s t o q v w (concluded ending h k) not = record { ending = ending; ended = single h; concluded = k }
+singles_are_answers args result s t o q v w (handed_on p asks is shelf out err) not = absurd (not is)
 
 -- ---- examples
 

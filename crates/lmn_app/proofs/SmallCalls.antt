@@ -1,15 +1,18 @@
 -- A text that is refused, and calls that are answered.
-use Rattle.std.proofs.Common.{◌≡◌, ℕ, List, [], ◌∷◌, Option, None, Some, codes, length, inl, inr, refl, sym, ap, arith}
+use Rattle.std.proofs.Common.{◌≡◌, ℕ, List, [], ◌∷◌, Option, None, Some, codes, length, inl, inr, refl, sym, ap, subst, arith}
 use Rattle.lmn_base.specs.Names.{first_names}
 use Rattle.lmn_io.specs.Counts.{Faults, one_more_fault}
 use Rattle.lmn_io.specs.Texts.{Fetch}
 use Rattle.lmn_lexer.specs.Cutting.{start}
 use Rattle.lmn_lexer.specs.Faults.{IsLexicalFault, string}
-use Rattle.lmn_app_words.specs.Forms.{InForm}
+use Rattle.lmn_app_words.specs.Forms.{InForm, to_pair}
+use Rattle.lmn_app_single.specs.declared.ending.Ending.{Ending}
 use Rattle.lmn_app_single.specs.declared.ending.Ending.TheVariants.{Words}
+use Rattle.lmn_app_single.specs.Endings.{Concludes, status_of}
+use Rattle.lmn_app_single.specs.Singles.{no_form, no_memory, performed}
 use Rattle.lmn_app.specs.CallExamples.{ByteIsToldWritten, FileIsFetchedOnce, NoWordsAreAnswered, OrdersCountSo, QuoteIsRefused, QuoteIsToldRefused, not_put, quote_alone, taken, with_fault, with_line}
-use Rattle.lmn_app.specs.Calls.{IsAnswered}
-use Rattle.lmn_app_single.specs.Seen.{SinkSeen}
+use Rattle.lmn_app.specs.Calls.{Ends, pair, single}
+use Rattle.lmn_app_single.specs.Seen.{ShelfSeen, SinkSeen}
 use Rattle.lmn_app.specs.TextExamples.{no_plan, small_names, small_plain, small_text}
 use Rattle.lmn_app_single.specs.Texts.{IsRefusal, NamesText, at_start, by_reading}
 use Rattle.lmn_app_reading.specs.Texts.{by_bytes}
@@ -75,70 +78,29 @@ file_is_fetched_once texts before after = (refl, (λ e. zero_not_one (ap how_man
 
 -- ---- no words
 
-no_form : ¬ (InForm [])
-no_form f = f.1
+not_formed : ¬ (InForm [])
+not_formed f = f.1
+
+-- how they end
+nothing_asked : (shelf : ShelfSeen) (out : SinkSeen) → Ends [] Words shelf shelf out out
+nothing_asked shelf out = single (no_form not_formed refl refl refl)
 
 pub no_words_are_answered : NoWordsAreAnswered
-no_words_are_answered shelf = (by_three, by_five, by_none)
+no_words_are_answered shelf = (
+  record { ending = Words; ended = nothing_asked shelf (taken []); concluded = inl (refl, refl, (refl, omega arith)) },
+  record { ending = Words; ended = nothing_asked shelf (taken []); concluded = inr (refl, ([], codes "lmn: words not understood\n", refl, refl), refl, tt) },
+  λ err_after a. by_none a.ending err_after a.ended a.concluded,
+)
   where
-    by_three : IsAnswered [] 3 shelf shelf (taken []) (taken []) (taken []) (with_line (codes "lmn: words not understood\n"))
-    by_three = record {
-      status = omega arith;
-      words = λ k. no_form;
-      form = λ n. inl refl;
-      asked = λ f. absurd (no_form f);
-      not_asked = λ n. refl;
-      unasked = λ n name. refl;
-      read = λ k. absurd (omega (arith, k));
-      write = λ k. absurd (omega (arith, k));
-      puts = λ k. ((refl, omega arith), (refl, omega arith));
-      last = (inl (refl, omega arith), inl (refl, omega arith));
-      refused = λ k. absurd (omega (arith, k));
-      not_accepted = λ f. absurd (no_form f);
-      second = λ k. absurd (omega (arith, k));
-      answers = λ f. absurd (no_form f);
-      out_done = λ k. absurd (omega (arith, k));
-      out_budget = λ k. absurd (omega (arith, k));
-      out_full = λ k. absurd (omega (arith, k));
-      out_memory = λ k. absurd (omega (arith, k));
-      out_untouched = λ k. refl;
-      err_quiet = λ k. absurd (elim k [ inl a ↦ omega (arith, a) | inr b ↦ elim b [ inl a ↦ omega (arith, a) | inr a ↦ omega (arith, a) ] ]);
-      err_words = λ k. refl;
-      err_read = λ k. absurd (omega (arith, k));
-      err_memory = λ k. absurd (omega (arith, k));
-      part = λ k. absurd (omega (arith, k));
-    }
+    not_zero : (e : Ending) (told : Option (List ℕ)) (after : Faults) → e ≡ Words → ¬ (Concludes e 0 (Some []) told not_put after)
+    not_zero e told after is (inl k) = let three = subst (λ x. 0 ≡ status_of x) is k.0 in omega (arith, three)
+    not_zero e told after is (inr k) = let five = k.0 in omega (arith, five)
 
-    by_five : IsAnswered [] 5 shelf shelf (taken []) (taken []) (taken []) with_fault
-    by_five = record {
-      status = omega arith;
-      words = λ k. absurd (omega (arith, k));
-      form = λ n. inr (refl, refl);
-      asked = λ f. absurd (no_form f);
-      not_asked = λ n. refl;
-      unasked = λ n name. refl;
-      read = λ k. absurd (omega (arith, k));
-      write = λ k. inr refl;
-      puts = λ k. absurd (k refl);
-      last = (inl (refl, omega arith), inr refl);
-      refused = λ k. absurd (omega (arith, k));
-      not_accepted = λ f. absurd (no_form f);
-      second = λ k. absurd (omega (arith, k));
-      answers = λ f. absurd (no_form f);
-      out_done = λ k. absurd (omega (arith, k));
-      out_budget = λ k. absurd (omega (arith, k));
-      out_full = λ k. absurd (omega (arith, k));
-      out_memory = λ k. absurd (omega (arith, k));
-      out_untouched = λ k. refl;
-      err_quiet = λ k. refl;
-      err_words = λ k. absurd (omega (arith, k));
-      err_read = λ k. absurd (omega (arith, k));
-      err_memory = λ k. absurd (omega (arith, k));
-      part = λ k. inr (record { failed = refl; ending = Words; has_line = tt; took = ([], codes "lmn: words not understood\n", refl, refl); ended = inr (no_form, refl, refl, refl) });
-    }
-
-    by_none : (err_after : SinkSeen) → ¬ (IsAnswered [] 0 shelf shelf (taken []) (taken []) (taken []) err_after)
-    by_none err_after a = elim (a.form no_form) [ inl k ↦ omega (arith, k) | inr k ↦ let five = k.0 in omega (arith, five) ]
+    by_none : (e : Ending) (err_after : SinkSeen) → Ends [] e shelf shelf (taken []) (taken []) → ¬ (Concludes e 0 (Some []) err_after.told not_put err_after.faults)
+    by_none e err_after (single (performed q asks h)) k = not_formed (q, asks)
+    by_none e err_after (single (no_memory said is s o)) k = not_formed said
+    by_none e err_after (single (no_form n is s o)) k = not_zero e err_after.told err_after.faults is k
+    by_none e err_after (pair p asks h) k = not_formed (to_pair p, asks)
 
 -- ---- a byte that is told
 

@@ -25,6 +25,7 @@ pub mod CheckLaws
 pub mod BoundExamples
 pub mod CheckExamples
 pub mod Calls
+pub mod Promises
 pub mod CallExamples
 pub mod LinkExamples
 pub mod ListingExamples

@@ -1,6 +1,6 @@
 -- What a call leaves behind, for each of its endings.
 use Rattle.std.specs.Prelude.{◌≡◌, ℕ, ◌⊎◌, ⊤, List, Option, Some}
-use Rattle.lmn_io.specs.Counts.{Faults}
+use Rattle.lmn_io.specs.Counts.{Faults, Rose}
 use Rattle.lmn_app_single.specs.declared.ending.Ending.{Ending}
 use Rattle.lmn_app_single.specs.declared.ending.Ending.TheVariants.{Done, Budget, Refused, Words, ReadFault, WriteFault, NoMemory, Full, SecondRefused}
 use Rattle.lmn_app_single.specs.declared.task.Task.TheVariants as task
@@ -9,24 +9,21 @@ use Rattle.lmn_app_words.specs.declared.command.PairKind.{PairKind}
 use Rattle.lmn_app_words.specs.Forms.{Pair, Request, to_run, to_compile, to_demo, to_pair}
 use Rattle.lmn_app_single.specs.Demos.{demo_text}
 use Rattle.lmn_app_single.specs.Outcomes.{Answers, Causes, CountsFaults, Output, RefusesText}
-use Rattle.lmn_app.specs.Pairs.{PairAnswers, RefusesSecond, WritesAll, WritesPart, most_items_of_pair}
-use Rattle.lmn_app.specs.Requests.{ReadRose}
-use Rattle.lmn_app_single.specs.Requests.{folded_run, settings_of}
+use Rattle.lmn_app.specs.Pairs.{HasProgram, PairAnswers, RefusesSecond, WritesAll, WritesPart, most_items_of_pair}
+use Rattle.lmn_app.specs.Requests.{asked_second}
+use Rattle.lmn_app_single.specs.Requests.{asked_program, folded_run, settings_of}
+use Rattle.lmn_app_single.specs.Seen.{ShelfSeen, SinkSeen}
 use Rattle.lmn_app_single.specs.Writing.{told_under}
 
 -- ---- commands with a program and a second text
 
 -- why one ends so: of a map of texts, and the counts of its files, before and after
 abbrev pub PairCauses : Pair → Ending → Option (List ℕ → Option (List ℕ)) → (List ℕ → ℕ) → (List ℕ → ℕ) → Type 0
-PairCauses pair Done texts before after = ⊤
-PairCauses pair Budget texts before after = ⊤
 PairCauses pair (Refused r) texts before after = RefusesText (most_items_of_pair pair.kind) (told_under texts pair.file) r
 PairCauses pair Words texts before after = ⊥
-PairCauses pair ReadFault texts before after = ReadRose (to_pair pair) before after
-PairCauses pair WriteFault texts before after = ⊤
-PairCauses pair NoMemory texts before after = ⊤
-PairCauses pair Full texts before after = ⊤
+PairCauses pair ReadFault texts before after = Rose (before pair.file) (after pair.file) ⊎ Rose (before pair.second) (after pair.second)
 PairCauses pair (SecondRefused kind r) texts before after = RefusesSecond pair texts kind r
+PairCauses pair ending texts before after = ⊤
 
 -- what `out` took
 abbrev pub PairOutput : Pair → Ending → Option (List ℕ → Option (List ℕ)) → Option (List ℕ) → Option (List ℕ) → Type 0
@@ -35,10 +32,16 @@ PairOutput pair Budget texts old new = WritesAll pair Budget texts old new
 PairOutput pair Full texts old new = WritesAll pair Full texts old new
 PairOutput pair NoMemory texts old new = (new ≡ old) ⊎ WritesAll pair NoMemory texts old new
 PairOutput pair WriteFault texts old new = WritesPart pair WriteFault texts old new
-PairOutput pair (Refused r) texts old new = new ≡ old
-PairOutput pair Words texts old new = new ≡ old
-PairOutput pair ReadFault texts old new = new ≡ old
-PairOutput pair (SecondRefused kind r) texts old new = new ≡ old
+PairOutput pair ending texts old new = new ≡ old
+
+-- A command with a program and a second text ended so. The shelf was asked for the program once, and behind it for the second text
+-- where the program is accepted.
+pub record PairEnded (pair : Pair) (ending : Ending) (shelf shelf_after : ShelfSeen) (out out_after : SinkSeen) : Type 0 where
+  pub cause : PairCauses pair ending shelf.told shelf.faults shelf_after.faults
+  pub output : PairOutput pair ending shelf.told out.told out_after.told
+  pub counts : CountsFaults ending out.faults out_after.faults
+  pub asked : (shelf_after.asked ≡ asked_program pair.file shelf.asked)
+      ⊎ ((shelf_after.asked ≡ asked_second pair (asked_program pair.file shelf.asked)) × HasProgram pair shelf.told)
 
 -- ---- requests
 

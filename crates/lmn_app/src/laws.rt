@@ -17,6 +17,7 @@ ghost use Rattle.lmn_app.specs.ListingExamples.{SmallTextIsListed};
 ghost use Rattle.lmn_app.specs.ListingLaws.{OneListing};
 ghost use Rattle.lmn_app.specs.NameExamples.{SomeNames};
 ghost use Rattle.lmn_app.specs.Runnings.{HeapsAreExecuted};
+ghost use Rattle.lmn_app.specs.Promises.{AnswersKeepPromises};
 ghost use Rattle.lmn_app.specs.RunLaws.{EarlierRunFirst, OneRun, OneRunSoFar};
 ghost use Rattle.lmn_app.specs.SingleLaws.{ListingIsUnread, NoWordsAreSingle, PairsAreHandedOn, SinglesAreAnswers};
 ghost use Rattle.lmn_app.specs.SizeLaws.{AcceptedIsSmall, NoneIsLarge};
@@ -294,8 +295,10 @@ pub fn small_calls()
     ensures counted { OrdersCountSo }
 {}
 
-/// What the program of requests with one text answers is what `lmn_main` may answer, but for 12, with which it hands words on.
-pub fn singles_are_answers()
+/// What `lmn_main` answers keeps each promise of its status. What the program of requests with one text answers is what `lmn_main` may
+/// answer, but for 12, with which it hands words on.
+pub fn answers_keep_promises()
+    ensures promises { AnswersKeepPromises }
     ensures answers { SinglesAreAnswers }
     ensures no_words { NoWordsAreSingle }
     ensures handed_on { PairsAreHandedOn }

@@ -1,26 +1,25 @@
-ghost use Rattle.std.specs.Prelude.{◌≡◌, ◌≤◌, ◌⊎◌, ℕ, List, length};
+ghost use Rattle.std.specs.Prelude.{◌≡◌, ◌≤◌, length};
 ghost use Rattle.lmn_app.specs.Fetched.{AsksSecond};
-ghost use Rattle.lmn_app_single.specs.Requests.{Asked};
 ghost use Rattle.lmn_app.specs.Requests.{Fetches};
-ghost use Rattle.lmn_app_words.specs.Forms.{InForm, pair_of, to_pair};
+ghost use Rattle.lmn_app_words.specs.Forms.{pair_of, to_pair};
 ghost use Rattle.lmn_app.specs.Outcomes.{RequestEnded};
-ghost use Rattle.lmn_app.specs.Calls.{IsAnswered};
+ghost use Rattle.lmn_app.specs.Calls.{Ends, IsAnswered};
 ghost use Rattle.lmn_app_single.specs.Seen.{shelf_seen, sink_seen};
 ghost use Rattle.lmn_app_single.specs.Texts.{text_bytes};
 ghost use Rattle.lmn_app_single.specs.Writing.{IsToldAnd, told_under};
-ghost use Rattle.lmn_app_single.specs.declared.ending.Ending.{Ending};
 
 use crate::pairing::act_on_pair;
 use lmn_app_reading::read;
 use lmn_app_single::{Acted, Ending, act_single, conclude, fetch};
-use lmn_app_words::{PairWords, asks_one};
+use lmn_app_words::PairWords;
 use lmn_base::{Names, TextFault};
 use lmn_io::{Shelf, Sink};
 use sha2::{Digest, Sha256};
 use std::alloc::Global;
 
 /// All that the program does, for the words of its command line after its own name.
-/// The answer is its status, as `Ending::status` tells. What it leaves behind is `IsAnswered`, promise by promise.
+/// The answer is its status, as `Ending::status` tells. What it leaves behind is `IsAnswered`; what follows of it for each status is
+/// `KeepsPromises` (`laws::answers_keep_promises`).
 pub fn lmn_main<F: Shelf, O: Sink, E: Sink>(
     alloc: Global,
     words: &[String],
@@ -31,19 +30,14 @@ pub fn lmn_main<F: Shelf, O: Sink, E: Sink>(
     ensures { IsAnswered words.now result (shelf_seen F.told F.asked F.faults shelf.old) (shelf_seen F.told F.asked F.faults shelf.new)
         (sink_seen O.told O.faults out.old) (sink_seen O.told O.faults out.new) (sink_seen E.told E.faults err.old) (sink_seen E.told E.faults err.new) }
 {
-    asks_one();
     let ending = act(alloc, words, shelf, out);
     conclude(err, ending)
 }
 
 /// Does what the words ask for, and says how it ended.
 fn act<F: Shelf, O: Sink>(alloc: Global, words: &[String], shelf: &mut F, out: &mut O) -> Ending
-    ensures asked { InForm words.now → Asked words.now (λ c. Fetches c (F.told shelf.old) (F.asked shelf.old) (F.asked shelf.new) (F.faults shelf.old) (F.faults shelf.new))
-        ⊎ ((F.asked shelf.new ≡ F.asked shelf.old) × (result ≡ Ending.NoMemory)) }
-    ensures not_asked { ¬ (InForm words.now) → F.asked shelf.new ≡ F.asked shelf.old }
-    ensures unasked { ¬ (InForm words.now) → (name : List ℕ) → F.faults shelf.new name ≡ F.faults shelf.old name }
-    ensures ended { Asked words.now (λ c. RequestEnded c result (F.told shelf.old) (O.told out.old) (O.told out.new) (O.faults out.old) (O.faults out.new) (F.faults shelf.old) (F.faults shelf.new))
-        ⊎ (¬ (InForm words.now) × (result ≡ Ending.Words) × (O.told out.new ≡ O.told out.old) × (O.faults out.new ≡ O.faults out.old)) }
+    ensures { Ends words.now result (shelf_seen F.told F.asked F.faults shelf.old) (shelf_seen F.told F.asked F.faults shelf.new)
+        (sink_seen O.told O.faults out.old) (sink_seen O.told O.faults out.new) }
 {
     match act_single(alloc, words, shelf, out) {
         Acted::Ended(ending) => ending,
