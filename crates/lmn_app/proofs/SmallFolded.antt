@@ -30,7 +30,7 @@ last_folded =
 abbrev folding : Bool → ℕ → Given
 folding trace budget = record { trace = trace; folded = true; budget = budget; size = 2; chooser = root_first }
 
-folded_trace : {trace : Bool} {lines : List (List ℕ)} {budget : ℕ} → 1 ≤ budget → PrintedLines (folding trace budget) (first ∷ []) last lines
+abbrev folded_trace : {trace : Bool} {lines : List (List ℕ)} {budget : ℕ} → 1 ≤ budget → PrintedLines (folding trace budget) (first ∷ []) last lines
     → (t : IsTraceOf (folding trace budget) small_text lines 1) × StopsSo (folding trace budget) 1 t.last (at_end irreducible)
 folded_trace room are =
     let t = short_trace_ends.0 root_first in (

@@ -94,12 +94,8 @@ small_settles : Settles (plain_process small_names small_plain) (region_process 
 small_settles = plain_settles (top_of small_names small_plain) first small_solid
 
 small_run : {trace : Bool} {lines : List (List ℕ)} {budget : ℕ} → 1 ≤ budget → Prints trace false small_names (region_process first) 1 (region_process last) lines
-    → IsRun trace false budget small_text lines (at_end irreducible) 1
+    → IsRun trace false budget small_names small_plain lines (at_end irreducible) 1
 small_run room prints = record {
-  names = small_names;
-  plain = small_plain;
-  plans = no_plan ∷ [];
-  accepted = small_text_is_accepted;
   first = region_process first;
   settles = small_settles;
   last = region_process last;
@@ -148,12 +144,11 @@ none_done h e = no_commits h.commits (h.count ∙ e)
 not_at_once : ¬ (Irreducible (region_process first))
 not_at_once i = let commit = short_trace_ends.1 in i.0 commit.between commit.step
 
-alone_no_run : (budget : ℕ) (line : List ℕ) (n : ℕ) → ¬ (IsRun true false budget small_text (line ∷ []) (at_end irreducible) n)
+alone_no_run : (budget : ℕ) (line : List ℕ) (n : ℕ) → ¬ (IsRun true false budget small_names small_plain (line ∷ []) (at_end irreducible) n)
 alone_no_run budget line n r =
     let none : n ≡ 0 = omega (arith, many_lines r.prints) in
     let still : Irreducible r.first = subst (λ P. Irreducible P) (none_done r.prints none) r.stops.1 in
-    let settles = subst (λ l. Settles (level_process l) r.first) (same_top r.names r.plain r.plans r.accepted) r.settles in
-    let same = settles_once (plain_process small_names small_plain) r.first (region_process first) small_solid.closed_top settles small_settles in
+    let same = settles_once (plain_process small_names small_plain) r.first (region_process first) small_solid.closed_top r.settles small_settles in
     not_at_once (keeps_irreducible r.first (region_process first) same still)
 
 -- the two lines are those of a run of the text, and no line alone is

@@ -61,19 +61,19 @@ small_end = codes "b. (a :- b).\n"
 abbrev pub small_lines : List (List ℕ)
 small_lines = codes "a. (a :- b).\n" ∷ small_end ∷ []
 
--- Where the budget allows a commit, these are the lines of a run that stops as irreducible after one: with a trace all, and without
+-- Where the budget allows a commit, these are the lines of a run of its plain that stops as irreducible after one: with a trace all, and without
 -- one the last. With a trace no line alone is that of a run that stops so, after whatever number of commits. A box in a condition
 -- belongs to an allocator, so one is given.
 abbrev pub SmallTextRuns : Type 0
 SmallTextRuns = (alloc : Global) (budget : ℕ) → 1 ≤ budget →
-    IsRun true false budget small_text small_lines (at_end irreducible) 1
-    × IsRun false false budget small_text (small_end ∷ []) (at_end irreducible) 1
-    × ((line : List ℕ) (n : ℕ) → ¬ (IsRun true false budget small_text (line ∷ []) (at_end irreducible) n))
+    IsRun true false budget small_names small_plain small_lines (at_end irreducible) 1
+    × IsRun false false budget small_names small_plain (small_end ∷ []) (at_end irreducible) 1
+    × ((line : List ℕ) (n : ℕ) → ¬ (IsRun true false budget small_names small_plain (line ∷ []) (at_end irreducible) n))
 
 -- So are they with `--folded`, where nothing is folded.
 abbrev pub SmallTextRunsFolded : Type 0
 SmallTextRunsFolded = (alloc : Global) (budget : ℕ) → 1 ≤ budget →
-    IsRun true true budget small_text small_lines (at_end irreducible) 1 × IsRun false true budget small_text (small_end ∷ []) (at_end irreducible) 1
+    IsRun true true budget small_names small_plain small_lines (at_end irreducible) 1 × IsRun false true budget small_names small_plain (small_end ∷ []) (at_end irreducible) 1
 
 -- what such a run is given
 abbrev pub plainly : Bool → ℕ → ℕ → Chooser → Given

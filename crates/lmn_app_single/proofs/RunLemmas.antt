@@ -23,7 +23,7 @@ pub record Laws : Type 0 where
 
 -- a trace of an accepted text that stops is a run
 pub trace_is_run : Laws → Global → (g : Given) (text : List ℕ) (lines : List (List ℕ)) (n : ℕ) (t : IsTraceOf g text lines n) →
-    (why : Stop) → StopsSo g n t.last why → IsRun g.trace g.folded g.budget text lines why n
+    (why : Stop) → StopsSo g n t.last why → IsRun g.trace g.folded g.budget t.names t.plain lines why n
 trace_is_run laws alloc g text lines n t why stops =
     let a = t.accepted in
     let printable = laws.printable text t.names t.plain (plain_read laws.accepted text t.names t.plain t.plans a.named a.accepted) in
@@ -34,10 +34,6 @@ trace_is_run laws alloc g text lines n t why stops =
     let last = region_process t.last in
     let Q : ℕ → Type 0 = λ k. Prints g.trace g.folded t.names first k last lines in
     record {
-      names = t.names;
-      plain = t.plain;
-      plans = t.plans;
-      accepted = a;
       first = first;
       settles = plain_settles (top_of t.names t.plain) (solid_of t.names t.plain s.0) (solids_of_plains t.names t.plain s.0 printable.made s.1);
       last = last;

@@ -16,13 +16,9 @@ use Rattle.lmn_app_runs.specs.Runs.{Given, Prints, StopsBy, printed}
 use Rattle.lmn_app_runs.specs.declared.stop.Stop.{Stop}
 use Rattle.lmn_app_single.specs.Texts.{Accepts}
 
--- These lines are printed of a text by a run that stops after n commits. The text is accepted; the process of its plain settles to
--- the first process, and the lines are those of processes that come from there, each by one commit (`Prints`).
-pub record IsRun (trace folded : Bool) (budget : ℕ) (text : List ℕ) (lines : List (List ℕ)) (why : Stop) (n : ℕ) : Type 0 where
-  pub names : List Name
-  pub plain : Plain
-  pub plans : List GuardPlan
-  pub accepted : Accepts text names plain plans
+-- These lines are printed of the plain of a text by a run that stops after n commits. The process of the plain settles to the first
+-- process, and the lines are those of processes that come from there, each by one commit (`Prints`).
+pub record IsRun (trace folded : Bool) (budget : ℕ) (names : List Name) (plain : Plain) (lines : List (List ℕ)) (why : Stop) (n : ℕ) : Type 0 where
   pub first : Process
   pub settles : Settles (plain_process names plain) first
   pub last : Process

@@ -45,15 +45,15 @@ given s = record { trace = s.trace; folded = s.folded; budget = s.budget; size =
 abbrev pub run_text : List (List ℕ) → Stop → ℕ → List ℕ
 run_text lines why commits = concat lines ++ end_line (word_of_stop why) commits
 
--- A run of the text stopped so, and its lines were taken. The text is the one that is told, if one is. Its lines are those of a run
--- of the calculus, and which run that is the strategy says.
+-- A run of the text stopped so, and its lines were taken. The text is the one that is told, if one is, and is accepted with a plain
+-- (`trace`). The lines are those of a run of that plain in the calculus (`run`), and which run that is the strategy says (`trace`).
 pub record WritesRun (s : RunSettings) (told : Told) (why : Stop) (old new : Option (List ℕ)) : Type 0 where
   pub text : List ℕ
   pub is_told : IsToldAnd told (λ found. found ≡ text)
   pub lines : List (List ℕ)
   pub commits : ℕ
-  pub run : IsRun s.trace s.folded s.budget text lines why commits
   pub trace : IsTraceOf (given s) text lines commits
+  pub run : IsRun s.trace s.folded s.budget trace.names trace.plain lines why commits
   pub stops : StopsSo (given s) commits trace.last why
   pub took : Takes (run_text lines why commits) old new
 
@@ -65,7 +65,7 @@ pub record WritesPartOfRun (s : RunSettings) (told : Told) (old new : Option (Li
   pub lines : List (List ℕ)
   pub commits : ℕ
   pub trace : IsTraceOf (given s) text lines commits
-  pub run : (why : Stop) → StopsSo (given s) commits trace.last why → IsRun s.trace s.folded s.budget text lines why commits
+  pub run : (why : Stop) → StopsSo (given s) commits trace.last why → IsRun s.trace s.folded s.budget trace.names trace.plain lines why commits
   pub took : (why : Stop) → StopsSo (given s) commits trace.last why → TakesPrefix (run_text lines why commits) old new
 
 -- ---- listings
