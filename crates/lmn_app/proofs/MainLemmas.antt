@@ -184,8 +184,8 @@ module _ (one : OneRequest) (words : List (String Global)) (texts : Option (List
   none_taken task.List (Refused r) text k h = h
   none_taken task.List Words text k h = h
   none_taken task.List ReadFault text k h = h
-  none_taken (task.Run s) (SecondRefused kind r) text k h = absurd h
-  none_taken task.List (SecondRefused kind r) text k h = absurd h
+  none_taken (task.Run s) (SecondRefused kind r) text k h = h
+  none_taken task.List (SecondRefused kind r) text k h = h
   none_taken t Done text k h = absurd k
   none_taken t Budget text k h = absurd k
   none_taken t WriteFault text k h = absurd k

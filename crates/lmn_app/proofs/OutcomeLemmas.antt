@@ -63,8 +63,8 @@ run_accepted s told why old new A h =
     let t = h.trace in
     told_is told h.text (λ text. ¬ (IsAccepted (Some s.size) text) → A) h.is_told (λ none. absurd (none (t.names, t.plain, t.plans, t.accepted, (t.solid, t.of_plain, t.few))))
 
-list_accepted : (told : Option (Option (List ℕ))) (old new : Option (List ℕ)) (A : Type 0) → Lists told old new → IfTold told (λ text. ¬ (IsAccepted None text) → A)
-list_accepted told old new A h =
+list_accepted : (told : Option (Option (List ℕ))) (Took : List ℕ → Type 0) (A : Type 0) → Lists told Took → IfTold told (λ text. ¬ (IsAccepted None text) → A)
+list_accepted told Took A h =
     let l = h.of in
     told_is told h.text (λ text. ¬ (IsAccepted None text) → A) h.is_told (λ none. absurd (none (l.names, l.plain, l.plans, l.accepted, tt)))
 
@@ -75,7 +75,7 @@ unaccepted_answered t ending told oo on ob oa rb ra status eo en eb ea h (inr (s
 unaccepted_answered (task.Run s) Done told oo on ob oa rb ra status eo en eb ea h (inl k) = run_accepted s told _ oo on (Refusing status) h.output
 unaccepted_answered (task.Run s) Budget told oo on ob oa rb ra status eo en eb ea h (inl k) = run_accepted s told _ oo on (Refusing status) h.output
 unaccepted_answered (task.Run s) Full told oo on ob oa rb ra status eo en eb ea h (inl k) = run_accepted s told _ oo on (Refusing status) h.output
-unaccepted_answered task.List Done told oo on ob oa rb ra status eo en eb ea h (inl k) = list_accepted told oo on (Refusing status) h.output
+unaccepted_answered task.List Done told oo on ob oa rb ra status eo en eb ea h (inl k) = list_accepted told _ (Refusing status) h.output
 unaccepted_answered task.List Budget told oo on ob oa rb ra status eo en eb ea h (inl k) = absurd (h.output)
 unaccepted_answered task.List Full told oo on ob oa rb ra status eo en eb ea h (inl k) = absurd (h.output)
 unaccepted_answered t (Refused r) told oo on ob oa rb ra status eo en eb ea h (inl k) = when_told told _ (λ text n. inl k.0)

@@ -15,7 +15,7 @@ use Rattle.lmn_app_single.specs.Outcomes.{Causes, Ended, Output, RefusesText}
 use Rattle.lmn_app_single.specs.Texts.{at_start, text_bytes, too_long}
 use Rattle.lmn_app_single.specs.Requests.{most_items}
 use Rattle.lmn_app_single.specs.Runnings.{EndsUnread}
-use Rattle.lmn_app_single.specs.Writing.{IsToldAnd, Lists, ListsPart, WritesRun, WritesPartOfRun, told_under}
+use Rattle.lmn_app_single.specs.Writing.{IsToldAnd, Lists, WritesRun, WritesPartOfRun, told_under}
 
 -- ---- a text that is told
 
@@ -53,11 +53,8 @@ module _ (told : Option (Option (List ℕ))) (bytes : List ℕ) (e : IfSome told
     took = h.took;
   }
 
-  lists_told : (old new : Option (List ℕ)) → Lists (Some (Some bytes)) old new → Lists told old new
-  lists_told old new h = record { text = h.text; is_told = told_here (λ found. found ≡ h.text) told bytes e h.is_told; listing = h.listing; of = h.of; took = h.took }
-
-  lists_part_told : (old new : Option (List ℕ)) → ListsPart (Some (Some bytes)) old new → ListsPart told old new
-  lists_part_told old new h = record { text = h.text; is_told = told_here (λ found. found ≡ h.text) told bytes e h.is_told; listing = h.listing; of = h.of; took = h.took }
+  lists_told : (Took : List ℕ → Type 0) → Lists (Some (Some bytes)) Took → Lists told Took
+  lists_told Took h = record { text = h.text; is_told = told_here (λ found. found ≡ h.text) told bytes e h.is_told; listing = h.listing; of = h.of; took = h.took }
 
   causes_told : (t : Task) (ending : Ending) (before after : ℕ) → Causes t ending (Some (Some bytes)) before after → Causes t ending told before after
   causes_told t Done before after h = h
@@ -79,11 +76,11 @@ module _ (told : Option (Option (List ℕ))) (bytes : List ℕ) (e : IfSome told
   output_told (task.Run s) (Refused r) old new h = h
   output_told (task.Run s) Words old new h = h
   output_told (task.Run s) ReadFault old new h = h
-  output_told task.List Done old new h = lists_told old new h
+  output_told task.List Done old new h = lists_told _ h
   output_told task.List Budget old new h = h
   output_told task.List Full old new h = h
   output_told task.List NoMemory old new h = h
-  output_told task.List WriteFault old new h = lists_part_told old new h
+  output_told task.List WriteFault old new h = lists_told _ h
   output_told task.List (Refused r) old new h = h
   output_told task.List Words old new h = h
   output_told task.List ReadFault old new h = h

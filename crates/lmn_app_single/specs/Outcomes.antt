@@ -1,6 +1,7 @@
 -- What a task with one text leaves behind, for each ending of a call.
 use Rattle.std.specs.Prelude.{◌≡◌, ℕ, ◌⊎◌, ⊤, List, Option}
 use Rattle.lmn_io.specs.Counts.{FailedLast, Faults, NoneFailed, Rose}
+use Rattle.lmn_io.specs.Taking.{Takes, TakesPrefix}
 use Rattle.lmn_app_runs.specs.declared.stop.Stop.TheVariants as stop
 use Rattle.lmn_app_single.specs.declared.ending.Ending.{Ending}
 use Rattle.lmn_app_single.specs.declared.ending.Ending.TheVariants.{Done, Budget, Refused, Words, ReadFault, WriteFault, NoMemory, Full, SecondRefused}
@@ -10,7 +11,7 @@ use Rattle.lmn_base.specs.Codes.{IsTextCode}
 use Rattle.lmn_app_single.specs.Texts.{IsRefusal}
 use Rattle.lmn_base.specs.declared.refusal.Refusal.{Refusal}
 use Rattle.lmn_app_single.specs.Requests.{most_items}
-use Rattle.lmn_app_single.specs.Writing.{IsToldAnd, Told, Lists, ListsPart, WritesRun, WritesPartOfRun}
+use Rattle.lmn_app_single.specs.Writing.{IsToldAnd, Told, Lists, WritesRun, WritesPartOfRun}
 
 -- A text is refused so. It is the one that is told, if one is.
 pub record RefusesText (size : Option ℕ) (told : Told) (refusal : Refusal) : Type 0 where
@@ -34,11 +35,10 @@ Output (task.Run s) Budget text old new = WritesRun s text stop.Budget old new
 Output (task.Run s) Full text old new = WritesRun s text stop.Full old new
 Output (task.Run s) NoMemory text old new = (new ≡ old) ⊎ WritesRun s text stop.NoMemory old new
 Output (task.Run s) WriteFault text old new = WritesPartOfRun s text old new
-Output task.List Done text old new = Lists text old new
+Output task.List Done text old new = Lists text (λ listing. Takes listing old new)
 Output task.List Budget text old new = ⊥
 Output task.List Full text old new = ⊥
-Output task.List WriteFault text old new = ListsPart text old new
-Output t (SecondRefused kind r) text old new = ⊥
+Output task.List WriteFault text old new = Lists text (λ listing. TakesPrefix listing old new)
 Output t ending text old new = new ≡ old
 
 -- What it counts, before and after: the last put failed where the ending says so, and else none did.

@@ -78,17 +78,10 @@ pub record IsListing (text listing : List ℕ) : Type 0 where
   pub accepted : Accepts text names plain plans
   pub is : listing ≡ rule_listings names plain.rules plans
 
--- the listing of the text was taken, or a prefix of it
-pub record Lists (told : Told) (old new : Option (List ℕ)) : Type 0 where
+-- So much was taken of the listing of the text, which is the one that is told, if one is.
+pub record Lists (told : Told) (Took : List ℕ → Type 0) : Type 0 where
   pub text : List ℕ
   pub is_told : IsToldAnd told (λ found. found ≡ text)
   pub listing : List ℕ
   pub of : IsListing text listing
-  pub took : Takes listing old new
-
-pub record ListsPart (told : Told) (old new : Option (List ℕ)) : Type 0 where
-  pub text : List ℕ
-  pub is_told : IsToldAnd told (λ found. found ≡ text)
-  pub listing : List ℕ
-  pub of : IsListing text listing
-  pub took : TakesPrefix listing old new
+  pub took : Took listing
