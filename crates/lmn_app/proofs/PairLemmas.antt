@@ -45,15 +45,14 @@ module _ (p : Pair) (texts : Option (List ℕ → Option (List ℕ))) (program :
 
 module _ (p : Pair) (texts : Option (List ℕ → Option (List ℕ))) (of : HasProgram p texts) (second : List ℕ) (told : IsToldAnd (told_under texts p.second) (λ found. found ≡ second))
     (short : length second ≤ second_bytes p.kind) where
-  writes_so : (e : Ending) (written : List ℕ) → IsWritten p.kind e of.program second written → Writes p e texts
-  writes_so e written is = record { of = of; second = second; second_told = told; short = short; written = written; is = is }
+  writes_so : {Took : List ℕ → Type 0} (e : Ending) (written : List ℕ) → IsWritten p.kind e of.program second written → Took written → Writes p e texts Took
+  writes_so e written is took = record { of = of; second = second; second_told = told; short = short; written = written; is = is; took = took }
 
   module _ (f g : List ℕ → ℕ) (old new : Option (List ℕ)) (before after : Faults) where
     -- one that writes a line of both ended so
     pub line_ended : (e : Ending) → EndsByLine p.kind of.program second e old new before after → RequestEnded (to_pair p) e texts old new before after f g
-    unfolding writes_so
-    line_ended Done h = record { cause = tt; output = record { writes = writes_so Done h.0.0 h.0.1; took = h.0.2 }; counts = h.1 }
-    line_ended WriteFault h = record { cause = tt; output = record { writes = writes_so WriteFault h.0.0 h.0.1; took = h.0.2 }; counts = h.1 }
+    line_ended Done h = record { cause = tt; output = writes_so Done h.0.0 h.0.1 h.0.2; counts = h.1 }
+    line_ended WriteFault h = record { cause = tt; output = writes_so WriteFault h.0.0 h.0.1 h.0.2; counts = h.1 }
     line_ended (SecondRefused kind r) h = record {
       cause = record {
         same = h.0;
@@ -75,9 +74,8 @@ module _ (p : Pair) (texts : Option (List ℕ → Option (List ℕ))) (of : HasP
 
     -- and one that debugs the program
     pub debug_ended : p.kind ≡ Debug → (e : Ending) → EndsDebugged of.program second e old new before after → RequestEnded (to_pair p) e texts old new before after f g
-    unfolding writes_so
-    debug_ended kind Done h = record { cause = tt; output = record { writes = writes_so Done h.0.0 (rw kind h.0.1); took = h.0.2 }; counts = h.1 }
-    debug_ended kind WriteFault h = record { cause = tt; output = record { writes = writes_so WriteFault h.0.0 (rw kind h.0.1); took = h.0.2 }; counts = h.1 }
+    debug_ended kind Done h = record { cause = tt; output = writes_so Done h.0.0 (rw kind h.0.1) h.0.2; counts = h.1 }
+    debug_ended kind WriteFault h = record { cause = tt; output = writes_so WriteFault h.0.0 (rw kind h.0.1) h.0.2; counts = h.1 }
     debug_ended kind (SecondRefused Debug r) h = record {
       cause = record {
         same = sym kind;
@@ -94,7 +92,7 @@ module _ (p : Pair) (texts : Option (List ℕ → Option (List ℕ))) (of : HasP
     debug_ended kind (SecondRefused Exec r) h = absurd h
     debug_ended kind (SecondRefused Bound r) h = absurd h
     debug_ended kind NoMemory h =
-        record { cause = tt; output = elim h.0 [ inl same ↦ inl same | inr some ↦ inr (record { writes = writes_so NoMemory some.0 (rw kind some.1); took = some.2 }) ]; counts = h.1 }
+        record { cause = tt; output = elim h.0 [ inl same ↦ inl same | inr some ↦ inr (writes_so NoMemory some.0 (rw kind some.1) some.2) ]; counts = h.1 }
     debug_ended kind Budget h = absurd h
     debug_ended kind (Refused r) h = absurd h
     debug_ended kind Words h = absurd h
@@ -103,13 +101,12 @@ module _ (p : Pair) (texts : Option (List ℕ → Option (List ℕ))) (of : HasP
 
     -- and one that runs it by a listing
     pub exec_ended : p.kind ≡ Exec → (e : Ending) → EndsExecuted of.program second e old new before after → RequestEnded (to_pair p) e texts old new before after f g
-    unfolding writes_so
-    exec_ended kind Done h = record { cause = tt; output = record { writes = writes_so Done h.0.0 (rw kind h.0.1); took = h.0.2 }; counts = h.1 }
-    exec_ended kind Budget h = record { cause = tt; output = record { writes = writes_so Budget h.0.0 (rw kind h.0.1); took = h.0.2 }; counts = h.1 }
-    exec_ended kind Full h = record { cause = tt; output = record { writes = writes_so Full h.0.0 (rw kind h.0.1); took = h.0.2 }; counts = h.1 }
-    exec_ended kind WriteFault h = record { cause = tt; output = record { writes = writes_so WriteFault h.0.0 (rw kind h.0.1); took = h.0.2 }; counts = h.1 }
+    exec_ended kind Done h = record { cause = tt; output = writes_so Done h.0.0 (rw kind h.0.1) h.0.2; counts = h.1 }
+    exec_ended kind Budget h = record { cause = tt; output = writes_so Budget h.0.0 (rw kind h.0.1) h.0.2; counts = h.1 }
+    exec_ended kind Full h = record { cause = tt; output = writes_so Full h.0.0 (rw kind h.0.1) h.0.2; counts = h.1 }
+    exec_ended kind WriteFault h = record { cause = tt; output = writes_so WriteFault h.0.0 (rw kind h.0.1) h.0.2; counts = h.1 }
     exec_ended kind NoMemory h =
-        record { cause = tt; output = elim h.0 [ inl same ↦ inl same | inr some ↦ inr (record { writes = writes_so NoMemory some.0 (rw kind some.1); took = some.2 }) ]; counts = h.1 }
+        record { cause = tt; output = elim h.0 [ inl same ↦ inl same | inr some ↦ inr (writes_so NoMemory some.0 (rw kind some.1) some.2) ]; counts = h.1 }
     exec_ended kind (SecondRefused Exec r) h = record {
       cause = record {
         same = sym kind;

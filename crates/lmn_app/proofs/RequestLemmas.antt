@@ -127,15 +127,15 @@ module _ (texts : Option (List ℕ → Option (List ℕ))) (oo on : Option (List
   second_answers Bound status is = inr (inl is)
 
   module _ (status : ℕ) (eo en : Option (List ℕ)) (eb ea : Faults) where
-    writes_answers : (p : Pair) (e : Ending) → (status_of e ≡ 5 → ⊥) → Writes p e texts → status ≡ status_of e → PairAnswers p.kind status
+    writes_answers : {Took : List ℕ → Type 0} (p : Pair) (e : Ending) → (status_of e ≡ 5 → ⊥) → Writes p e texts Took → status ≡ status_of e → PairAnswers p.kind status
     writes_answers p e five w is = let of = w.of in written_answers p.kind e of.program w.second w.written status (λ s. five (sym is ∙ s)) is w.is
 
     pair_answered : (p : Pair) (e : Ending) → RequestEnded (to_pair p) e texts oo on ob oa f g → Concludes e status eo en eb ea → ¬ (ReadRose (to_pair p) f g) → ¬ (FailedLast ob oa) → ¬ (FailedLast eb ea)
         → IfTold (told_under texts p.file) (λ text. IsAccepted (most_items_of_pair p.kind) text → PairAnswers p.kind status)
     pair_answered p e h (inr (s, q, rose, line)) read out err = absurd (err rose)
-    pair_answered p Done h (inl k) read out err = let o = h.output in when_told (told_under texts p.file) _ (λ text a. writes_answers p Done (λ s. omega (arith, s)) o.writes k.0)
-    pair_answered p Budget h (inl k) read out err = let o = h.output in when_told (told_under texts p.file) _ (λ text a. writes_answers p Budget (λ s. omega (arith, s)) o.writes k.0)
-    pair_answered p Full h (inl k) read out err = let o = h.output in when_told (told_under texts p.file) _ (λ text a. writes_answers p Full (λ s. omega (arith, s)) o.writes k.0)
+    pair_answered p Done h (inl k) read out err = let o = h.output in when_told (told_under texts p.file) _ (λ text a. writes_answers p Done (λ s. omega (arith, s)) o k.0)
+    pair_answered p Budget h (inl k) read out err = let o = h.output in when_told (told_under texts p.file) _ (λ text a. writes_answers p Budget (λ s. omega (arith, s)) o k.0)
+    pair_answered p Full h (inl k) read out err = let o = h.output in when_told (told_under texts p.file) _ (λ text a. writes_answers p Full (λ s. omega (arith, s)) o k.0)
     pair_answered p NoMemory h (inl k) read out err = when_told (told_under texts p.file) _ (λ text a. memory_answers p.kind status k.0)
     pair_answered p (Refused r) h (inl k) read out err = refused_told (most_items_of_pair p.kind) (told_under texts p.file) r (PairAnswers p.kind status) h.cause
     pair_answered p (SecondRefused kind r) h (inl k) read out err = let c = h.cause in when_told (told_under texts p.file) _ (λ text a. second_answers p.kind status (k.0 ∙ ap second_status c.same))
@@ -150,9 +150,9 @@ module _ (texts : Option (List ℕ → Option (List ℕ))) (oo on : Option (List
     pair_refused_so : (p : Pair) (e : Ending) → RequestEnded (to_pair p) e texts oo on ob oa f g → Concludes e status eo en eb ea
         → IfTold (told_under texts p.file) (λ text. ¬ (IsAccepted (most_items_of_pair p.kind) text) → Refusing status)
     pair_refused_so p e h (inr (s, q, rose, line)) = when_told (told_under texts p.file) _ (λ text n. inr (inr (inl s)))
-    pair_refused_so p Done h (inl k) = let o = h.output in let w = o.writes in program_accepted p (Refusing status) w.of
-    pair_refused_so p Budget h (inl k) = let o = h.output in let w = o.writes in program_accepted p (Refusing status) w.of
-    pair_refused_so p Full h (inl k) = let o = h.output in let w = o.writes in program_accepted p (Refusing status) w.of
+    pair_refused_so p Done h (inl k) = let o = h.output in program_accepted p (Refusing status) o.of
+    pair_refused_so p Budget h (inl k) = let o = h.output in program_accepted p (Refusing status) o.of
+    pair_refused_so p Full h (inl k) = let o = h.output in program_accepted p (Refusing status) o.of
     pair_refused_so p (Refused r) h (inl k) = when_told (told_under texts p.file) _ (λ text n. inl k.0)
     pair_refused_so p Words h (inl k) = absurd (h.cause)
     pair_refused_so p ReadFault h (inl k) = when_told (told_under texts p.file) _ (λ text n. inr (inl k.0))

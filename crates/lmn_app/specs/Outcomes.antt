@@ -1,6 +1,7 @@
 -- What a call leaves behind, for each of its endings.
 use Rattle.std.specs.Prelude.{◌≡◌, ℕ, ◌⊎◌, ⊤, List, Option, Some}
 use Rattle.lmn_io.specs.Counts.{Faults, Rose}
+use Rattle.lmn_io.specs.Taking.{Takes, TakesPrefix}
 use Rattle.lmn_app_single.specs.declared.ending.Ending.{Ending}
 use Rattle.lmn_app_single.specs.declared.ending.Ending.TheVariants.{Done, Budget, Refused, Words, ReadFault, WriteFault, NoMemory, Full, SecondRefused}
 use Rattle.lmn_app_single.specs.declared.task.Task.TheVariants as task
@@ -9,7 +10,7 @@ use Rattle.lmn_app_words.specs.declared.command.PairKind.{PairKind}
 use Rattle.lmn_app_words.specs.Forms.{Pair, Request, to_run, to_compile, to_demo, to_pair}
 use Rattle.lmn_app_single.specs.Demos.{demo_text}
 use Rattle.lmn_app_single.specs.Outcomes.{Answers, Causes, CountsFaults, Output, RefusesText}
-use Rattle.lmn_app.specs.Pairs.{HasProgram, PairAnswers, RefusesSecond, WritesAll, WritesPart, most_items_of_pair}
+use Rattle.lmn_app.specs.Pairs.{HasProgram, PairAnswers, RefusesSecond, Writes, most_items_of_pair}
 use Rattle.lmn_app.specs.Requests.{asked_second}
 use Rattle.lmn_app_single.specs.Requests.{asked_program, folded_run, settings_of}
 use Rattle.lmn_app_single.specs.Seen.{ShelfSeen, SinkSeen}
@@ -27,11 +28,11 @@ PairCauses pair ending texts before after = ⊤
 
 -- what `out` took
 abbrev pub PairOutput : Pair → Ending → Option (List ℕ → Option (List ℕ)) → Option (List ℕ) → Option (List ℕ) → Type 0
-PairOutput pair Done texts old new = WritesAll pair Done texts old new
-PairOutput pair Budget texts old new = WritesAll pair Budget texts old new
-PairOutput pair Full texts old new = WritesAll pair Full texts old new
-PairOutput pair NoMemory texts old new = (new ≡ old) ⊎ WritesAll pair NoMemory texts old new
-PairOutput pair WriteFault texts old new = WritesPart pair WriteFault texts old new
+PairOutput pair Done texts old new = Writes pair Done texts (λ text. Takes text old new)
+PairOutput pair Budget texts old new = Writes pair Budget texts (λ text. Takes text old new)
+PairOutput pair Full texts old new = Writes pair Full texts (λ text. Takes text old new)
+PairOutput pair NoMemory texts old new = (new ≡ old) ⊎ Writes pair NoMemory texts (λ text. Takes text old new)
+PairOutput pair WriteFault texts old new = Writes pair WriteFault texts (λ text. TakesPrefix text old new)
 PairOutput pair ending texts old new = new ≡ old
 
 -- A command with a program and a second text ended so. The shelf was asked for the program once, and behind it for the second text

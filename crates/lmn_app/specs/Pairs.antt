@@ -1,7 +1,6 @@
 -- What commands do with a program and a second text. Each command has one case of each of these definitions.
 use Rattle.std.specs.Prelude.{◌≡◌, ◌<◌, ◌≤◌, ◌⊎◌, ℕ, List, Option, None, Some, length}
 use Rattle.lmn_base.specs.declared.refusal.Refusal.{Refusal}
-use Rattle.lmn_io.specs.Taking.{Takes, TakesPrefix}
 use Rattle.lmn_app_words.specs.declared.command.PairKind.{PairKind}
 use Rattle.lmn_app_words.specs.declared.command.PairKind.TheVariants.{Bound, Check, Debug, Exec}
 use Rattle.lmn_debug_script.specs.Scripts.{IsFirstWrong}
@@ -70,20 +69,12 @@ pub record RefusesSecond (pair : Pair) (texts : Option (List ℕ → Option (Lis
   pub refused : IsSecondRefusal pair.kind of.program second refusal
   pub code : IsSecondCode pair.kind refusal.code
 
--- What is written of an accepted program and a second text. The texts are those that are told, if they are.
-pub record Writes (pair : Pair) (ending : Ending) (texts : Option (List ℕ → Option (List ℕ))) : Type 0 where
+-- So much was taken of what is written of an accepted program and a second text. The texts are those that are told, if they are.
+pub record Writes (pair : Pair) (ending : Ending) (texts : Option (List ℕ → Option (List ℕ))) (Took : List ℕ → Type 0) : Type 0 where
   pub of : HasProgram pair texts
   pub second : List ℕ
   pub second_told : IsToldAnd (told_under texts pair.second) (λ found. found ≡ second)
   pub short : length second ≤ second_bytes pair.kind
   pub written : List ℕ
   pub is : IsWritten pair.kind ending of.program second written
-
--- all of it was taken, or a prefix
-pub record WritesAll (pair : Pair) (ending : Ending) (texts : Option (List ℕ → Option (List ℕ))) (old new : Option (List ℕ)) : Type 0 where
-  pub writes : Writes pair ending texts
-  pub took : Takes writes.written old new
-
-pub record WritesPart (pair : Pair) (ending : Ending) (texts : Option (List ℕ → Option (List ℕ))) (old new : Option (List ℕ)) : Type 0 where
-  pub writes : Writes pair ending texts
-  pub took : TakesPrefix writes.written old new
+  pub took : Took written
