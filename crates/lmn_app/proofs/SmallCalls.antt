@@ -14,8 +14,8 @@ use Rattle.lmn_app.specs.CallExamples.{ByteIsToldWritten, FileIsFetchedOnce, NoW
 use Rattle.lmn_app.specs.Calls.{Ends, pair, single}
 use Rattle.lmn_app_single.specs.Seen.{ShelfSeen, SinkSeen}
 use Rattle.lmn_app.specs.TextExamples.{no_plan, small_names, small_plain, small_text}
-use Rattle.lmn_app_single.specs.Texts.{IsRefusal, NamesText, at_start, by_reading}
-use Rattle.lmn_app_reading.specs.Texts.{by_bytes}
+use Rattle.lmn_app_single.specs.Texts.{IsRefusal, at_start, by_reading}
+use Rattle.lmn_app_reading.specs.Texts.{LeavesNames, by_bytes}
 use Rattle.lmn_app.proofs.OutcomeLemmas.{refused_told}
 use Rattle.lmn_app.proofs.SmallTexts.{place_is, small_text_is_accepted}
 use Rattle.lmn_app.proofs.TextLemmas.{one_refusal, refused_not_accepted}
@@ -34,7 +34,7 @@ quote_is_wrong = record {
 }
 
 -- nothing is said of its names
-quote_names : NamesText quote_alone first_names
+quote_names : LeavesNames quote_alone first_names first_names
 quote_names = λ tokens tree right reads within. absurd (right (record { before = []; tokens = []; rest = quote_alone }) 7 [] start (string [] refl))
 
 quote_refused : (size : Option ℕ) → IsRefusal size quote_alone (at_start 7)

@@ -28,21 +28,21 @@ use Rattle.lmn_parser.specs.Parsing.{kinds_of}
 use Rattle.lmn_parser.proofs.OneLanguage.{refused_no_tree}
 use Rattle.lmn_parser.specs.Faults.{AreKindsOfProgram}
 use Rattle.lmn_app_reading.specs.Laws.{IsAcceptedText}
-use Rattle.lmn_app_reading.specs.Texts.{IsAcceptedAs, IsRefusedAs, ReadsAs, by_bytes, by_contexts, by_links, by_rules, by_tokens}
+use Rattle.lmn_app_reading.specs.Texts.{IsAcceptedAs, IsRefusedAs, LeavesNames, ReadsAs, by_bytes, by_contexts, by_links, by_rules, by_tokens}
 use Rattle.lmn_app_reading.proofs.AcceptedOrRefused as reading
 use Rattle.lmn_app_reading.proofs.OneRead as read
 use Rattle.lmn_app_reading.proofs.Readings.{well_made}
 use Rattle.lmn_app_runs.specs.Laws.{solid_of}
-use Rattle.lmn_app_single.specs.Texts.{Accepts, AcceptedOrRefused, Fits, IsAccepted, IsRefusal, IsTooLarge, NamesText, OneRefusal, RefusedNotAccepted, at_start, by_reading, text_bytes, too_large, too_long}
+use Rattle.lmn_app_single.specs.Texts.{Accepts, AcceptedOrRefused, Fits, IsAccepted, IsRefusal, IsTooLarge, OneRefusal, RefusedNotAccepted, at_start, by_reading, text_bytes, too_large, too_long}
 use Rattle.lmn_app_single.proofs.PlainRegions.{solid_with_items}
 
 -- ---- the list of names
 
 -- a text that reads has one list of names
-pub one_list : (text : List ℕ) (names others : List Name) (p : Plain) → NamesText text names → NamesText text others → ReadsAs text names p → names ≡ others
+pub one_list : (text : List ℕ) (names others : List Name) (p : Plain) → LeavesNames text first_names names → LeavesNames text first_names others → ReadsAs text names p → names ≡ others
 one_list text names others p h k r = h r.tokens r.tree r.right r.reads r.within ∙ sym (k r.tokens r.tree r.right r.reads r.within)
 
-at_names : (text : List ℕ) (names others : List Name) (r : Refusal) → NamesText text names → NamesText text others → IsRefusedAs text names r → IsRefusedAs text others r
+at_names : (text : List ℕ) (names others : List Name) (r : Refusal) → LeavesNames text first_names names → LeavesNames text first_names others → IsRefusedAs text names r → IsRefusedAs text others r
 at_names text names others r h k (by_bytes b) = by_bytes b
 at_names text names others r h k (by_tokens ts right cut f) = by_tokens ts right cut f
 at_names text names others r h k (by_contexts p reads f) =
@@ -53,7 +53,7 @@ at_names text names others r h k (by_rules p reads n l f) =
     let P : List Name → Type 0 = λ ns. IsRefusedAs text ns r in subst P (one_list text names others p h k reads) (by_rules p reads n l f)
 
 -- and is accepted by it
-pub accepted_at : (text : List ℕ) (names others : List Name) (p : Plain) (ps : List GuardPlan) → NamesText text names → NamesText text others → IsAcceptedAs text names p ps
+pub accepted_at : (text : List ℕ) (names others : List Name) (p : Plain) (ps : List GuardPlan) → LeavesNames text first_names names → LeavesNames text first_names others → IsAcceptedAs text names p ps
     → IsAcceptedAs text others p ps
 accepted_at text names others p ps h k a = let P : List Name → Type 0 = λ ns. IsAcceptedAs text ns p ps in subst P (one_list text names others p h k a.reads) a
 
@@ -109,7 +109,7 @@ refused_not_accepted size text r (by_reading short others named h) (names, plain
 refused_not_accepted size text r (too_large others p ps b l e) (names, plain, plans, a, fits) =
     fits_not size others names p plain (made b.accepted) (made a.accepted) (one_top text others names p plain ps plans b a) l fits
 
-accepted_not_refused : (text : List ℕ) (names others : List Name) (p : Plain) (ps : List GuardPlan) (r : Refusal) → Accepts text names p ps → NamesText text others → IsRefusedAs text others r → ⊥
+accepted_not_refused : (text : List ℕ) (names others : List Name) (p : Plain) (ps : List GuardPlan) (r : Refusal) → Accepts text names p ps → LeavesNames text first_names others → IsRefusedAs text others r → ⊥
 accepted_not_refused text names others p ps r a named h = read.refused_not_accepted text names r (at_names text others names r named a.named h) (p, ps, a.accepted)
 
 -- a text has one refusal at most
@@ -140,7 +140,7 @@ module _ (size : Option ℕ) where
         | inr large ↦ inr (at_start 50, too_large names p ps a large refl)
       ]
 
-  by_names : (text : List ℕ) (names : List Name) → length text ≤ text_bytes → NamesText text names → IsAcceptedText text names ⊎ ((r : Refusal) × IsRefusedAs text names r) → Answered text
+  by_names : (text : List ℕ) (names : List Name) → length text ≤ text_bytes → LeavesNames text first_names names → IsAcceptedText text names ⊎ ((r : Refusal) × IsRefusedAs text names r) → Answered text
   by_names text names short named (inl (p, ps, a)) = sized text names p ps (record { short = short; named = named; accepted = a })
   by_names text names short named (inr (r, h)) = inr (r, by_reading short names named h)
 
@@ -148,7 +148,7 @@ module _ (size : Option ℕ) where
   reads_so : (alloc : Global) (text : List ℕ) (names : List Name) (p : Plain) → length text ≤ text_bytes → ReadsAs text names p → Answered text
   reads_so alloc text names p short r =
       let list = names_read first_names (words_of text r.tokens) in
-      let named : NamesText text list = λ tokens tree right reads within. ap (λ ts. names_read first_names (words_of text ts)) (one_cut text r.tokens tokens r.reads.cut reads.cut) in
+      let named : LeavesNames text first_names list = λ tokens tree right reads within. ap (λ ts. names_read first_names (words_of text ts)) (one_cut text r.tokens tokens r.reads.cut reads.cut) in
       by_names text list short named (reading.accepted_or_refused alloc text list)
 
   short_text : (alloc : Global) (text : List ℕ) → length text ≤ text_bytes → IsAcceptedText text first_names ⊎ ((r : Refusal) × IsRefusedAs text first_names r) → Answered text
@@ -156,7 +156,7 @@ module _ (size : Option ℕ) where
   short_text alloc text short (inr (r, by_bytes h)) =
       inr (r, by_reading short first_names (λ tokens tree right reads within. absurd (refused_is_wrong text r h right)) (by_bytes h))
   short_text alloc text short (inr (r, by_tokens ts right cut h)) =
-      let none : NamesText text first_names = λ tokens tree right reads within.
+      let none : LeavesNames text first_names first_names = λ tokens tree right reads within.
       let same = ap kinds_of (one_cut text ts tokens cut reads.cut) in
       let P : List Kind → Type 0 = λ k. IsRefusedAt AreKindsOfProgram k h.number r.code in
       absurd (refused_no_tree tokens tree h.number r.code (subst P same h.refused) reads.is_tree within) in

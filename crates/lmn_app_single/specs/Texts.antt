@@ -15,14 +15,11 @@ use Rattle.lmn_app_reading.specs.Texts.{IsAcceptedAs, IsRefusedAs, LeavesNames}
 abbrev pub text_bytes : ℕ
 text_bytes = 4194304
 
--- the list of names of a text: the fixed names, and behind them those of the text
-abbrev pub NamesText : List ℕ → List Name → Type 0
-NamesText text names = LeavesNames text first_names names
-
--- The text is short enough and is accepted with this plain, by the numbers of its names.
+-- The text is short enough and is accepted with this plain, by the numbers of its names: of the fixed ones, and of those of the text
+-- behind them.
 pub record Accepts (text : List ℕ) (names : List Name) (plain : Plain) (plans : List GuardPlan) : Type 0 where
   pub short : length text ≤ text_bytes
-  pub named : NamesText text names
+  pub named : LeavesNames text first_names names
   pub accepted : IsAcceptedAs text names plain plans
 
 -- The solid of the plain has at most so many items, where a command asks for that; or it has more.
@@ -48,7 +45,7 @@ at_start code = record { code = code; pos = record { line = 1; column = 1 } }
 --   too_large   else code 50 where its process has too many items
 pub data IsRefusal (size : Option ℕ) (text : List ℕ) (refusal : Refusal) : Type 0 where
   too_long : text_bytes < length text → refusal ≡ at_start 1 → IsRefusal size text refusal
-  by_reading : length text ≤ text_bytes → (names : List Name) → NamesText text names → IsRefusedAs text names refusal → IsRefusal size text refusal
+  by_reading : length text ≤ text_bytes → (names : List Name) → LeavesNames text first_names names → IsRefusedAs text names refusal → IsRefusal size text refusal
   too_large : (names : List Name) (plain : Plain) (plans : List GuardPlan) → Accepts text names plain plans → IsTooLarge size names plain
       → refusal ≡ at_start 50 → IsRefusal size text refusal
 
