@@ -1,5 +1,5 @@
 -- Which texts are accepted, and why another is refused.
-use Rattle.std.specs.Prelude.{◌≡◌, ◌<◌, ◌≤◌, ◌⊎◌, List, ℕ, Option, Some, None, length}
+use Rattle.std.specs.Prelude.{◌≡◌, ◌<◌, ◌≤◌, ◌⊎◌, List, ℕ, Option, IfSome, IsSomeAnd, length}
 use Rattle.std.specs.declared.alloc.Global.{Global}
 use Rattle.lmn_base.specs.declared.refusal.Refusal.{Refusal}
 use Rattle.lmn_base.specs.declared.rule.Plain.{Plain}
@@ -24,12 +24,10 @@ pub record Accepts (text : List ℕ) (names : List Name) (plain : Plain) (plans 
 
 -- The solid of the plain has at most so many items, where a command asks for that; or it has more.
 abbrev pub Fits : Option ℕ → List Name → Plain → Type 0
-Fits None names plain = Unit {0}
-Fits (Some size) names plain = (S : Region) × SolidOf (top_of names plain) S × (item_count_of_region S ≤ size)
+Fits size names plain = IfSome size (λ most. (S : Region) × SolidOf (top_of names plain) S × (item_count_of_region S ≤ most))
 
 abbrev pub IsTooLarge : Option ℕ → List Name → Plain → Type 0
-IsTooLarge None names plain = ⊥
-IsTooLarge (Some size) names plain = (S : Region) × SolidOf (top_of names plain) S × (size < item_count_of_region S)
+IsTooLarge size names plain = IsSomeAnd size (λ most. (S : Region) × SolidOf (top_of names plain) S × (most < item_count_of_region S))
 
 -- the text is accepted, and its process fits
 abbrev pub IsAccepted : Option ℕ → List ℕ → Type 0

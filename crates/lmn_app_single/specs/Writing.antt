@@ -1,5 +1,5 @@
 -- What commands write of a text.
-use Rattle.std.specs.Prelude.{◌≡◌, ◌≤◌, ℕ, length, List, ◌++◌, Option, None, Some, IfSome, IsSomeAnd}
+use Rattle.std.specs.Prelude.{◌≡◌, ◌≤◌, ℕ, length, List, ◌++◌, Option, Some, IfSome, IsSomeAnd, option_map}
 use Rattle.std.specs.List.{concat}
 use Rattle.lmn_base.specs.declared.rule.Plain.{Plain}
 use Rattle.lmn_congruence.specs.Rules.{Name}
@@ -20,8 +20,7 @@ Told = Option (Option (List ℕ))
 
 -- what a map of texts, if one is told, has under a name
 abbrev pub told_under : Option (List ℕ → Option (List ℕ)) → List ℕ → Told
-told_under None name = None
-told_under (Some texts) name = Some (texts name)
+told_under texts name = option_map (λ under. under name) texts
 
 -- where a map is told, the text is there, and this holds of it
 abbrev pub IsToldAnd : Told → (List ℕ → Type 0) → Type 0
