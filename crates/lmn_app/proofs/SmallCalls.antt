@@ -88,7 +88,7 @@ nothing_asked shelf out = single (no_form not_formed refl refl refl)
 pub no_words_are_answered : NoWordsAreAnswered
 no_words_are_answered shelf = (
   record { ending = Words; ended = nothing_asked shelf (taken []); concluded = inl (refl, refl, (refl, omega arith)) },
-  record { ending = Words; ended = nothing_asked shelf (taken []); concluded = inr (refl, ([], codes "lmn: words not understood\n", refl, refl), refl, tt) },
+  record { ending = Words; ended = nothing_asked shelf (taken []); concluded = inr (refl, ([], codes "lmn: words not understood\n", refl, refl), refl, λ e. let long = ap length e in omega (arith, long)) },
   λ err_after a. by_none a.ending err_after a.ended a.concluded,
 )
   where

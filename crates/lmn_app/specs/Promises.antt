@@ -1,5 +1,5 @@
 -- What follows of how a call is answered, promise by promise, by its status.
-use Rattle.std.specs.Prelude.{◌≡◌, ◌≤◌, ◌⊎◌, ℕ, List, codes}
+use Rattle.std.specs.Prelude.{◌≡◌, ◌≢◌, ◌≤◌, ◌⊎◌, ℕ, List, [], codes}
 use Rattle.std.specs.declared.alloc.Global.{Global}
 use Rattle.std.specs.declared.string.String.{String}
 use Rattle.lmn_base.specs.declared.refusal.Refusal.{Refusal}
@@ -9,7 +9,7 @@ use Rattle.lmn_app_words.specs.declared.command.PairKind.{PairKind}
 use Rattle.lmn_app_words.specs.Forms.{InForm}
 use Rattle.lmn_app_single.specs.declared.ending.Ending.{Ending}
 use Rattle.lmn_app_single.specs.declared.ending.Ending.TheVariants.{Done, Budget, Words, WriteFault, NoMemory, Full}
-use Rattle.lmn_app_single.specs.Endings.{HasLine, line_of_ending, refusal_line}
+use Rattle.lmn_app_single.specs.Endings.{line_of_ending, refusal_line}
 use Rattle.lmn_app.specs.Calls.{IsAnswered}
 use Rattle.lmn_app.specs.Outcomes.{AnswersOf, OutputOf, RefusesSecondOf, RequestEnded}
 use Rattle.lmn_app_single.specs.Outcomes.{RefusesText}
@@ -31,7 +31,7 @@ pub record OutFailed (args : List (String Global)) (shelf : ShelfSeen) (out out_
 pub record ErrFailed (args : List (String Global)) (shelf shelf_after : ShelfSeen) (out out_after err err_after : SinkSeen) : Type 0 where
   pub failed : FailedLast err.faults err_after.faults
   pub ending : Ending
-  pub has_line : HasLine ending
+  pub has_line : line_of_ending ending ≢ []
   pub took : TakesPrefix (line_of_ending ending) err.told err_after.told
   pub ended : Asked args (λ c. RequestEnded c ending shelf.told out.told out_after.told out.faults out_after.faults shelf.faults shelf_after.faults)
       ⊎ (¬ (InForm args) × (ending ≡ Words) × (out_after.told ≡ out.told) × (out_after.faults ≡ out.faults))

@@ -1,5 +1,5 @@
 -- How a call ends: its status, and the line that `err` takes.
-use Rattle.std.specs.Prelude.{◌≡◌, ℕ, ⊤, ◌⊎◌, List, [], ◌∷◌, Option, codes, decimal, nat_lt, if◌then◌else◌}
+use Rattle.std.specs.Prelude.{◌≡◌, ◌≢◌, ℕ, ◌⊎◌, List, [], ◌∷◌, Option, codes, decimal, nat_lt, if◌then◌else◌}
 use Rattle.std.specs.List.{concat}
 use Rattle.lmn_base.specs.declared.refusal.Refusal.{Refusal}
 use Rattle.lmn_app_single.specs.declared.ending.Ending.{Ending}
@@ -29,14 +29,10 @@ status_of NoMemory = 6
 status_of Full = 7
 status_of (SecondRefused kind refusal) = second_status kind
 
--- what stands before the number of a code, which has two digits
-abbrev pub code_letters : ℕ → List ℕ
-code_letters code = if nat_lt code 10 then codes "E0" else codes "E"
-
--- the line of a refusal: the code, the line and the column of the place, and the words
+-- the line of a refusal: the code, whose number has two digits, the line and the column of the place, and the words
 abbrev pub refusal_line : Refusal → List ℕ
 refusal_line refusal =
-    concat (code_letters refusal.code ∷ decimal refusal.code ∷ codes " " ∷ decimal refusal.pos.line ∷ codes ":" ∷ decimal refusal.pos.column
+    concat ((if nat_lt refusal.code 10 then codes "E0" else codes "E") ∷ decimal refusal.code ∷ codes " " ∷ decimal refusal.pos.line ∷ codes ":" ∷ decimal refusal.pos.column
     ∷ codes " " ∷ words_of_number refusal.code ∷ codes "\n" ∷ [])
 
 -- the line of an ending, or nothing
@@ -49,15 +45,8 @@ line_of_ending WriteFault = codes "lmn: write failed\n"
 line_of_ending NoMemory = codes "lmn: out of memory\n"
 line_of_ending ending = []
 
--- the endings that have a line
-abbrev pub HasLine : Ending → Type 0
-HasLine Done = ⊥
-HasLine Budget = ⊥
-HasLine Full = ⊥
-HasLine ending = ⊤
-
 -- The answer to an ending, beside what `err` took and what it counts before and after:
 -- the ending's status where `err` took the whole line, and else 5; `err` fails only where a line is due.
 abbrev pub Concludes : Ending → ℕ → Option (List ℕ) → Option (List ℕ) → Faults → Faults → Type 0
 Concludes ending status old new before after =
-    ((status ≡ status_of ending) × Takes (line_of_ending ending) old new × NoneFailed before after) ⊎ ((status ≡ 5) × TakesPrefix (line_of_ending ending) old new × FailedLast before after × HasLine ending)
+    ((status ≡ status_of ending) × Takes (line_of_ending ending) old new × NoneFailed before after) ⊎ ((status ≡ 5) × TakesPrefix (line_of_ending ending) old new × FailedLast before after × (line_of_ending ending ≢ []))

@@ -1,6 +1,6 @@
-ghost use Rattle.std.specs.Prelude.{◌≡◌, OnErr};
+ghost use Rattle.std.specs.Prelude.{◌≡◌, ◌≢◌, [], OnErr, codes, if◌then◌else◌, nat_lt};
 ghost use Rattle.lmn_io.specs.Writing.{WritesText};
-ghost use Rattle.lmn_app_single.specs.Endings.{Concludes, HasLine, code_letters, line_of_ending, refusal_line};
+ghost use Rattle.lmn_app_single.specs.Endings.{Concludes, line_of_ending, refusal_line};
 
 use crate::ending::Ending;
 use itoa::Buffer;
@@ -20,7 +20,7 @@ pub fn conclude<E: Sink>(err: &mut E, ending: Ending) -> u8
 /// Puts the line of an ending, if it has one.
 #[tactic(auto, using(lmn_io::proofs::TakingLemmas::taking))]
 fn report<E: Sink>(err: &mut E, ending: Ending) -> Result<(), Failed>
-    ensures line { OnErr result (HasLine ending) }
+    ensures line { OnErr result (line_of_ending ending ≢ []) }
     ensures writes { WritesText (line_of_ending ending) result (E.told err.old) (E.faults err.old) (E.told err.new) (E.faults err.new) }
 {
     match ending {
@@ -57,7 +57,7 @@ fn report_refusal<E: Sink>(err: &mut E, refusal: Refusal) -> Result<(), Failed>
 
 /// What stands before the number of a code, which has two digits.
 fn code_letters(code: u8) -> &'static [u8]
-    ensures { result.now ≡ code_letters code }
+    ensures { result.now ≡ (if nat_lt code 10 then codes "E0" else codes "E") }
 {
     if code < 10 { b"E0" } else { b"E" }
 }
