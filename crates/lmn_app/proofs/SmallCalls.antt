@@ -11,7 +11,7 @@ use Rattle.lmn_app_single.specs.declared.ending.Ending.TheVariants.{Words}
 use Rattle.lmn_app_single.specs.Endings.{Concludes, status_of}
 use Rattle.lmn_app_single.specs.Singles.{no_form, no_memory, performed}
 use Rattle.lmn_app.specs.CallExamples.{ByteIsToldWritten, FileIsFetchedOnce, NoWordsAreAnswered, OrdersCountSo, QuoteIsRefused, QuoteIsToldRefused, not_put, quote_alone, taken, with_fault, with_line}
-use Rattle.lmn_app.specs.Calls.{Ends, pair, single}
+use Rattle.lmn_app.specs.Calls.{Ends, of_pair, single}
 use Rattle.lmn_app_single.specs.Seen.{ShelfSeen, SinkSeen}
 use Rattle.lmn_app.specs.TextExamples.{no_plan, small_names, small_plain, small_text}
 use Rattle.lmn_app_single.specs.Texts.{IsRefusal, at_start, by_reading}
@@ -100,7 +100,7 @@ no_words_are_answered shelf = (
     by_none e err_after (single (performed q asks h)) k = not_formed (q, asks)
     by_none e err_after (single (no_memory said is s o)) k = not_formed said
     by_none e err_after (single (no_form n is s o)) k = not_zero e err_after.told err_after.faults is k
-    by_none e err_after (pair p asks h) k = not_formed (to_pair p, asks)
+    by_none e err_after (of_pair p asks h) k = not_formed (to_pair p, asks)
 
 -- ---- a byte that is told
 
