@@ -10,7 +10,7 @@ use Rattle.lmn_app_single.specs.declared.ending.Ending.{Ending}
 use Rattle.lmn_app_single.specs.declared.ending.Ending.TheVariants.{Words}
 use Rattle.lmn_app_single.specs.Endings.{Concludes, status_of}
 use Rattle.lmn_app_single.specs.Singles.{no_form, no_memory, performed}
-use Rattle.lmn_app.specs.CallExamples.{ByteIsToldWritten, FileIsFetchedOnce, NoWordsAreAnswered, OrdersCountSo, QuoteIsRefused, QuoteIsToldRefused, not_put, quote_alone, taken, with_fault, with_line}
+use Rattle.lmn_app.specs.CallExamples.{ByteIsToldWritten, FileIsFetchedOnce, NoWordsAreAnswered, OrdersCountSo, QuoteIsRefused, QuoteIsToldRefused, not_put, quote_alone, taken}
 use Rattle.lmn_app.specs.Calls.{Ends, of_pair, single}
 use Rattle.lmn_app_single.specs.Seen.{ShelfSeen, SinkSeen}
 use Rattle.lmn_app.specs.TextExamples.{no_plan, small_names, small_plain, small_text}

@@ -14,7 +14,7 @@ use Rattle.lmn_base.specs.declared.rule.Plain.{Plain}
 use Rattle.lmn_base.specs.Links.{no_more}
 use Rattle.lmn_base.specs.Names.{IsNames, first_names}
 use Rattle.lmn_base.proofs.Lists.{contains_first}
-use Rattle.lmn_congruence.specs.Plains.{SolidOf, level_process}
+use Rattle.lmn_congruence.specs.Plains.{SolidOf}
 use Rattle.lmn_congruence.specs.Process.{Process}
 use Rattle.lmn_congruence.specs.Regions.{Region, region_process}
 use Rattle.lmn_congruence.specs.Rules.{Level, Name, Rule, atom_leaf, level, no_level, no_rule, only_leaves, rule_and, rule_of}
