@@ -7,7 +7,7 @@ use Rattle.lmn_app_words.specs.declared.setting.Setting.TheVariants as set
 use Rattle.lmn_app_words.specs.declared.setting.Flag.TheVariants as flag
 use Rattle.lmn_app_words.specs.declared.setting.OrderName.{OrderName}
 use Rattle.lmn_app_words.specs.declared.setting.OrderName.TheVariants as name
-use Rattle.lmn_app_words.specs.Forms.{CommandWord, AreFilesAndSettings, Given, none_given, one_given, given_later, Run, AsksRun, OnlyOr, ordered_by, trace_of, folded_of, budget_of, size_of, order_name_of, seed_of}
+use Rattle.lmn_app_words.specs.Forms.{CommandWord, AreFilesAndSettings, GivenOnce, none_given, one_given, given_later, Run, AsksRun, OnlyOr, ordered_by, trace_of, folded_of, budget_of, size_of, order_name_of, seed_of}
 
 module _ {A : Type 0} (Is : A → Setting → Type 0) (value_of : Setting → Option A)
     (found : (s : Setting) (v : A) → value_of s ≡ Some v → Is v s) (finds : (s : Setting) (v : A) → Is v s → value_of s ≡ Some v) where
@@ -39,23 +39,23 @@ module _ {A : Type 0} (Is : A → Setting → Type 0) (value_of : Setting → Op
       by (Some w) f e rest = absurd (cc)
 
   -- what is given is the only value, or the default
-  only_given : {d v : A} {xs : List Setting} → Given Is d xs v → OnlyOr d (filter_map value_of xs) v
+  only_given : {d v : A} {xs : List Setting} → GivenOnce Is d xs v → OnlyOr d (filter_map value_of xs) v
   only_given none_given = refl
   only_given {d} {v} (one_given {s = s} {settings = xs} is none) =
       subst (λ l. OnlyOr d l v) (sym (λ i. cons_option (finds s v is i) (no_values xs none i))) refl
   only_given {d} {v} (given_later {s = s} {settings = xs} other more) =
       subst (λ l. OnlyOr d l v) (sym (ap (λ o. cons_option o (filter_map value_of xs)) (no_value s other))) (only_given more)
 
-  given_only : (d v : A) (xs : List Setting) → OnlyOr d (filter_map value_of xs) v → Given Is d xs v
-  given_only d v [] h = subst (Given Is d []) (sym h) none_given
+  given_only : (d v : A) (xs : List Setting) → OnlyOr d (filter_map value_of xs) v → GivenOnce Is d xs v
+  given_only d v [] h = subst (GivenOnce Is d []) (sym h) none_given
   given_only d v (s ∷ xs) h = by (value_of s) refl h (given_only d v xs)
     where
-      by : (o : Option A) → value_of s ≡ o → OnlyOr d (cons_option o (filter_map value_of xs)) v → (OnlyOr d (filter_map value_of xs) v → Given Is d xs v)
-          → Given Is d (s ∷ xs) v
+      by : (o : Option A) → value_of s ≡ o → OnlyOr d (cons_option o (filter_map value_of xs)) v → (OnlyOr d (filter_map value_of xs) v → GivenOnce Is d xs v)
+          → GivenOnce Is d (s ∷ xs) v
       by None f h rest = given_later (no_form s f) (rest h)
       by (Some w) f h rest = at (filter_map value_of xs) refl h
         where
-          at : (l : List A) → filter_map value_of xs ≡ l → OnlyOr d (w ∷ l) v → Given Is d (s ∷ xs) v
+          at : (l : List A) → filter_map value_of xs ≡ l → OnlyOr d (w ∷ l) v → GivenOnce Is d (s ∷ xs) v
           at [] e h = one_given (subst (λ u. Is u s) (sym h) (found s w f)) (no_forms xs e)
           at (y ∷ ys) e h = absurd h
 

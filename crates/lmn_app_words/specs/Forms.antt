@@ -69,10 +69,10 @@ pub data AreFilesAndSettings : List CommandWord → List CommandWord → List Se
 -- ---- what is given
 
 -- One of the settings is this one by its form, and has this value; or none is, and the value is the default.
-pub data Given {A : Type 0} (Is : A → Setting → Type 0) (default : A) : List Setting → A → Type 0 where
-  none_given : Given Is default [] default
-  one_given : {s : Setting} {settings : List Setting} {value : A} → Is value s → AllByRecursion (λ t. (v : A) → ¬ (Is v t)) settings → Given Is default (s ∷ settings) value
-  given_later : {s : Setting} {settings : List Setting} {value : A} → ((v : A) → ¬ (Is v s)) → Given Is default settings value → Given Is default (s ∷ settings) value
+pub data GivenOnce {A : Type 0} (Is : A → Setting → Type 0) (default : A) : List Setting → A → Type 0 where
+  none_given : GivenOnce Is default [] default
+  one_given : {s : Setting} {settings : List Setting} {value : A} → Is value s → AllByRecursion (λ t. (v : A) → ¬ (Is v t)) settings → GivenOnce Is default (s ∷ settings) value
+  given_later : {s : Setting} {settings : List Setting} {value : A} → ((v : A) → ¬ (Is v s)) → GivenOnce Is default settings value → GivenOnce Is default (s ∷ settings) value
 
 -- the order with this name; a seed has an effect on one alone
 abbrev pub ordered_by : OrderName → ℕ → Order
@@ -124,14 +124,14 @@ standing_last _ file second = second
 pub record AsksRun (words : List CommandWord) (run : Run) : Type 0 where
   pub settings : List Setting
   pub spelled : AreFilesAndSettings words (run.file ∷ []) settings
-  pub trace : Given (λ on s. (s ≡ set.Flag flag.Trace) × (on ≡ true)) false settings run.trace
-  pub folded : Given (λ on s. (s ≡ set.Flag flag.Folded) × (on ≡ true)) false settings run.folded
-  pub budget : Given (λ n s. s ≡ set.Budget n) 1000000 settings run.budget
-  pub size : Given (λ n s. s ≡ set.Size n) 16777216 settings run.size
+  pub trace : GivenOnce (λ on s. (s ≡ set.Flag flag.Trace) × (on ≡ true)) false settings run.trace
+  pub folded : GivenOnce (λ on s. (s ≡ set.Flag flag.Folded) × (on ≡ true)) false settings run.folded
+  pub budget : GivenOnce (λ n s. s ≡ set.Budget n) 1000000 settings run.budget
+  pub size : GivenOnce (λ n s. s ≡ set.Size n) 16777216 settings run.size
   pub order_name : OrderName
-  pub named : Given (λ kind s. s ≡ set.Order kind) name.First settings order_name
+  pub named : GivenOnce (λ kind s. s ≡ set.Order kind) name.First settings order_name
   pub seed : ℕ
-  pub seeded : Given (λ n s. s ≡ set.Seed n) 0 settings seed
+  pub seeded : GivenOnce (λ n s. s ≡ set.Seed n) 0 settings seed
   pub order : run.order ≡ ordered_by order_name seed
 
 -- These texts ask for this: behind `compile` stands one file, behind `demo` one number, and two files behind the others.
