@@ -1,5 +1,5 @@
 -- What the registers of a rule that is chosen hold of rests.
-use Rattle.std.proofs.Common.{ℕ, zero, suc, ◌≡◌, ◌+◌, ◌<◌, List, ◌∷◌, map, refl, sym, subst, ◌∙◌, arith}
+use Rattle.std.proofs.Common.{ℕ, ◌≡◌, ◌+◌, ◌<◌, List, map, refl, sym, subst, ◌∙◌, arith}
 use Rattle.std.specs.Prelude.{not}
 use Rattle.lmn_base.specs.Graphs.{Reached, Port}
 use Rattle.lmn_base.specs.Lists.{In}
@@ -9,6 +9,7 @@ use Rattle.lmn_store_heap.specs.Graphs.{atom_map}
 use Rattle.lmn_store_heap.specs.Heap.{Heap, atoms_in}
 use Rattle.lmn_store_heap.specs.Sound.{Valid}
 use Rattle.lmn_congruence_splice.specs.Classes.{rising}
+use Rattle.lmn_congruence_splice.proofs.EndLemmas.{mapped_alike}
 use Rattle.lmn_instr_code.specs.declared.instr.Instr.{Instr}
 use Rattle.lmn_instr_code.specs.Running.{HeadRegisters, IsFirstSuccess, atoms_set, membranes_set}
 use Rattle.lmn_ground_parts.specs.Rests.{IsRest}
@@ -24,14 +25,6 @@ use Rattle.lmn_schedule_strategy.specs.Turns.{IsBesideCode, IsRestOf, HoldsRests
 abbrev pub RestsOfRule : Type 0
 RestsOfRule = (table : List RuleTree) (rule : RuleTree) (plan : GuardPlan) → IsCompilable table rule plan → (h : Heap) → Valid h → (m : ℕ) → (s : Registers) →
     IsFirstSuccess h (rule_head_code rule plan) m s.head → HoldsRestsOf h (rule_head_code rule plan) s → HoldsRests h s (head_items rule plan)
-
--- two maps that agree on some rising numbers have the same images of them
-pub mapped_alike : (f g : ℕ → ℕ) (x n : ℕ) → ((k : ℕ) → k < x + n → f k ≡ g k) → map f (rising x n) ≡ map g (rising x n)
-mapped_alike f g x zero same = refl
-mapped_alike f g x (suc n) same =
-    let here = same x (omega arith) in
-    let rest = mapped_alike f g (suc x) n (λ k l. same k (omega (arith, l))) in
-    λ i. here i ∷ rest i
 
 -- Registers that agree in all that code sets have the same rests beside it.
 module _ (h : Heap) (code : List Instr) (s t : HeadRegisters) (same_atom : (k : ℕ) → k < atoms_set code → t.images.atom k ≡ s.images.atom k)

@@ -68,10 +68,12 @@ rules_same [] (s ∷ ss) e = absurd (no_pair _ _ e)
 rules_same (r ∷ rs) [] e = absurd (no_pair _ _ (sym e))
 rules_same (r ∷ rs) (s ∷ ss) e = rules_with r s rs ss (rule_in r s (first_of _ _ _ _ e)) (rules_same rs ss (second_of _ _ _ _ e))
 
-region_with : {xs ys : List SolidAtom} {ms ns : Regions} {rs ss : List Rule} → xs ≡ ys → ms ≡ ns → rs ≡ ss → region xs ms rs ≡ region ys ns ss
+-- regions of the same parts are the same
+pub region_with : {xs ys : List SolidAtom} {ms ns : Regions} {rs ss : List Rule} → xs ≡ ys → ms ≡ ns → rs ≡ ss → region xs ms rs ≡ region ys ns ss
 region_with a b c = λ i. region (a i) (b i) (c i)
 
-regions_with : {m n : Region} {ms ns : Regions} → m ≡ n → ms ≡ ns → region_and m ms ≡ region_and n ns
+-- and so are lists of regions
+pub regions_with : {m n : Region} {ms ns : Regions} → m ≡ n → ms ≡ ns → region_and m ms ≡ region_and n ns
 regions_with a b = λ i. region_and (a i) (b i)
 
 -- a process is that of one region at most

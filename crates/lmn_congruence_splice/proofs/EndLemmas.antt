@@ -1,5 +1,5 @@
 -- The ends of classes, and their ties.
-use Rattle.std.proofs.Common.{ℕ, zero, suc, ◌+◌, ◌<◌, ◌≤◌, ◌≡◌, ◌≢◌, ◌⊎◌, ◌==◌, ◌&&◌, Bool, true, false, cond, List, [], ◌∷◌, ◌++◌, length, Some, None, refl, sym, ap, subst, ◌∙◌, inl, inr, arith}
+use Rattle.std.proofs.Common.{ℕ, zero, suc, ◌+◌, ◌<◌, ◌≤◌, ◌≡◌, ◌≢◌, ◌⊎◌, ◌==◌, ◌&&◌, Bool, true, false, cond, List, [], ◌∷◌, ◌++◌, length, map, Some, None, refl, sym, ap, subst, ◌∙◌, inl, inr, arith}
 use Rattle.std.proofs.lemmas.Bool.{cases_eq, eq-eqb, eqb-true}
 use Rattle.lmn_congruence_splice.specs.Ties.{Tie, AnyNew, AnyOld, Apart, Ties}
 use Rattle.lmn_congruence_splice.specs.Classes.{ends_of_class, tie_of, rising}
@@ -279,3 +279,11 @@ rising_distinct (suc n) a = ((λ i. off (rising_from n (suc a) a i)), rising_dis
   where
     off : suc a ≤ a → ⊥
     off h = omega arith
+
+-- maps that agree on these numbers have the same images of them
+pub mapped_alike : (f g : ℕ → ℕ) (x n : ℕ) → ((k : ℕ) → k < x + n → f k ≡ g k) → map f (rising x n) ≡ map g (rising x n)
+mapped_alike f g x zero same = refl
+mapped_alike f g x (suc n) same =
+    let here = same x (omega arith) in
+    let rest = mapped_alike f g (suc x) n (λ k l. same k (omega (arith, l))) in
+    λ i. here i ∷ rest i

@@ -11,7 +11,8 @@ use Rattle.lmn_lexer.specs.Spelling.{IsDigits, IsIntegerSpelling, AllPass}
 use Rattle.lmn_lexer.specs.Values.{integer_of, minus_of}
 use Rattle.lmn_flatten_plain.specs.Numerals.{last_digits, numeral}
 
-digit_passes : (n : ℕ) → n < 10 → is_ascii_digit (48 + n) ≡ true
+-- the byte of a digit is one
+pub digit_passes : (n : ℕ) → n < 10 → is_ascii_digit (48 + n) ≡ true
 digit_passes n h = grind (arith, nat_tests)
 
 not_minus : (b : ℕ) → is_ascii_digit b ≡ true → (b == 45) ≡ false

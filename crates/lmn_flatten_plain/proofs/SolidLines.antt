@@ -16,6 +16,7 @@ use Rattle.lmn_flatten_plain.proofs.SolidNames.{solid_held}
 use Rattle.lmn_flatten_plain.proofs.SolidNumbers.{solid_numbers, solid_rules_numbered}
 use Rattle.lmn_base.proofs.Lists.{map_itself}
 use Rattle.lmn_congruence.proofs.Common.{rules_join as joins_rules, rules_listed as same_rules}
+use Rattle.lmn_congruence.proofs.RenamedRegions.{region_with, regions_with}
 
 -- no context
 
@@ -75,14 +76,6 @@ two_atoms e f = cc
 pub atoms_fused : (xs : List SolidAtom) → fused_leaves (λ x. x) (map atom_as_leaf xs) ≡ xs
 atoms_fused [] = refl
 atoms_fused (a ∷ xs) = two_atoms (ap (λ ys. record { label = a.label; links = ys }) (map_itself a.links)) (atoms_fused xs)
-
--- regions of the same parts are the same
-pub region_with : {a b : List SolidAtom} {c d : Regions} {e f : List tree.Rule} → a ≡ b → c ≡ d → e ≡ f → region a c e ≡ region b d f
-region_with g h i = cc
-
--- and so are lists of regions
-pub regions_with : {a b : Region} {c d : Regions} → a ≡ b → c ≡ d → region_and a c ≡ region_and b d
-regions_with g h = cc
 
 mutual
   region_fused : (r : Region) → fused_level (λ x. x) (as_level r) ≡ r

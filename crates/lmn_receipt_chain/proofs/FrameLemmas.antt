@@ -2,23 +2,23 @@
 use Rattle.std.proofs.Common.{ℕ, suc, ◌≡◌, ◌∙◌, ◌+◌, ◌<◌, ◌≤◌, ◌%◌, ◌⊎◌, inl, inr, Bool, true, false, not, List, [], ◌∷◌, ◌++◌, codes, drop, length, map, take, refl, sym, ap, subst, arith, append_assoc, length-append}
 use Rattle.std.specs.Char.{is_ascii_digit}
 use Rattle.std.specs.Prelude.{cond, ◌==◌, if◌then◌else◌}
-use Rattle.std.proofs.lemmas.Bool.Decides.{nat_tests}
 use Rattle.std.proofs.lemmas.List.{append-nil, length-map, take-append-drop}
 use Rattle.std.proofs.lemmas.List.Elements.{filter-append}
 use Rattle.std.proofs.Math.Seq.{drop-append_seam, take-append_seam}
-use Rattle.lmn_base.proofs.Lists.{head_is, tail_is}
+use Rattle.lmn_base.proofs.Lists.{head_is, length_mapped, tail_is}
 use Rattle.lmn_base.proofs.Numbers.{equal_itself, no_more, none_more}
 use Rattle.lmn_congruence.specs.Orders.{Among}
 use Rattle.lmn_congruence.specs.Plains.{fused_leaves, fused_level, fused_levels}
 use Rattle.lmn_congruence.specs.Regions.{Region, Regions, SolidAtom, no_region, region, region_and}
 use Rattle.lmn_congruence.specs.Rules.{Level, Rule, level, rules_list}
 use Rattle.lmn_congruence.specs.Translation.{levels, rules as listed_rules}
+use Rattle.lmn_congruence.proofs.Common.{rules_listed}
 use Rattle.lmn_congruence_splice.specs.Splice.{of_solid}
 use Rattle.lmn_lexer.specs.declared.token.Kind.TheVariants as kind
 use Rattle.lmn_flatten_plain.specs.Numerals.{numeral}
 use Rattle.lmn_flatten_plain.specs.SolidLines.{as_level, as_levels, atom_as_leaf}
 use Rattle.lmn_flatten_plain.specs.Words.{Piece, label_piece, leaf_pieces, level_pieces, levels_pieces, link_name, link_piece, links_pieces, piece_text, rules_pieces, space, text_of, with_commas, with_full_stops, word}
-use Rattle.lmn_flatten_plain.proofs.Decimals.{numeral_by_steps}
+use Rattle.lmn_flatten_plain.proofs.Decimals.{digit_passes, numeral_by_steps}
 use Rattle.lmn_flatten_plain.proofs.LaidLines.{text_append}
 use Rattle.lmn_adequacy.specs.Choice.{NextFrom, paths, paths_from}
 use Rattle.lmn_adequacy.specs.Embedding.{TakenRegion, region_first, region_later}
@@ -84,11 +84,8 @@ text_both ps qs = ap blurred (text_append ps qs) ∙ blurred_both (text_of ps) (
 
 -- ---- links
 
-digit : (n : ℕ) → n < 10 → is_ascii_digit (48 + n) ≡ true
-digit n h = grind (arith, nat_tests)
-
 digit_goes : (n : ℕ) → n < 10 → blurred ((48 + n) ∷ []) ≡ []
-digit_goes n h = by (is_ascii_digit (48 + n)) (digit n h)
+digit_goes n h = by (is_ascii_digit (48 + n)) (digit_passes n h)
   where
     by : (b : Bool) → b ≡ true → cond (not b) ((48 + n) ∷ []) [] ≡ []
     by true e = refl
@@ -130,24 +127,16 @@ links_same (x ∷ xs) (y ∷ ys) e =
 
 -- ---- what stays
 
-mapped : (f : ℕ → ℕ) (xs : List ℕ) → length (map f xs) ≡ length xs
-mapped f [] = refl
-mapped f (x ∷ xs) = omega (arith, mapped f xs)
-
 each_both : (ps qs : List (List Piece)) → blurred_each (ps ++ qs) ≡ blurred_each ps ++ blurred_each qs
 each_both [] qs = refl
 each_both (p ∷ ps) qs = ap (λ z. text p ∷ z) (each_both ps qs)
-
-rules_same : (rs : List Rule) → rules_list (listed_rules rs) ≡ rs
-rules_same [] = refl
-rules_same (r ∷ rs) = ap (λ z. r ∷ z) (rules_same rs)
 
 module _ (v : ℕ → ℕ) where
   atoms_same : (xs : List SolidAtom) → atom_texts (fused_leaves v (kept_atoms xs)) ≡ atom_texts xs
   atoms_same [] = refl
   atoms_same (x ∷ xs) =
       let ys = map v (map of_solid x.links) in
-      let many : length ys ≡ length x.links = mapped v (map of_solid x.links) ∙ mapped of_solid x.links in
+      let many : length ys ≡ length x.links = length_mapped v (map of_solid x.links) ∙ length_mapped of_solid x.links in
       let label = piece_text (label_piece x.label) in
       let one : text (label_piece x.label ∷ links_pieces ys) ≡ text (label_piece x.label ∷ links_pieces x.links) =
       blurred_both label (text_of (links_pieces ys)) ∙ ap (λ z. blurred label ++ z) (links_same ys x.links many) ∙ sym (blurred_both label (text_of (links_pieces x.links))) in
@@ -222,7 +211,7 @@ module _ (v : ℕ → ℕ) where
     inside_same : (S : Region) → inside_of (fused_level v (kept_level S)) ≡ inside_of S
     inside_same (region xs ms rs) =
         inside_is (fused_leaves v (kept_atoms xs)) (fused_levels v (levels (kept_membranes ms))) (rules_list (listed_rules rs))
-        ∙ (λ i. row (codes ", ") (atoms_same v xs i ++ (membranes_same ms i ++ rule_texts (rules_same rs i))))
+        ∙ (λ i. row (codes ", ") (atoms_same v xs i ++ (membranes_same ms i ++ rule_texts (rules_listed rs i))))
         ∙ sym (inside_is xs ms rs)
 
     membranes_same : (ms : Regions) → membrane_texts (fused_levels v (levels (kept_membranes ms))) ≡ membrane_texts ms
@@ -272,7 +261,7 @@ framed v (fires_below {n = n} {xs = xs} {ms = ms} {rs = rs} {L = L} t raw) (fram
     let texts = replaced_texts v t L ∙ ap (λ z. take n (membrane_texts ms) ++ braced z ∷ drop (suc n) (membrane_texts ms)) inner.1 in (
       inner.0,
       inside_is (fused_leaves v (kept_atoms xs)) (fused_levels v (levels (replaced n L (kept_membranes ms)))) (rules_list (listed_rules rs))
-          ∙ (λ i. row (codes ", ") (atoms_same v xs i ++ (texts i ++ rule_texts (rules_same rs i))))
+          ∙ (λ i. row (codes ", ") (atoms_same v xs i ++ (texts i ++ rule_texts (rules_listed rs i))))
           ∙ ap (row (codes ", ")) (all_at xs n (membrane_texts ms) (braced (before ++ (inner.0 ++ after))) rs)
           ∙ row_at (codes ", ") (atom_texts xs ++ take n (membrane_texts ms)) (braced (before ++ (inner.0 ++ after))) (drop (suc n) (membrane_texts ms) ++ rule_texts rs)
           ∙ around before inner.0 after front back,
@@ -306,7 +295,7 @@ line_framed v (fires_below {n = n} {xs = xs} {ms = ms} {rs = rs} {L = L} t raw) 
     let texts = replaced_texts v t L ∙ ap (λ z. take n (membrane_texts ms) ++ braced z ∷ drop (suc n) (membrane_texts ms)) inner.1 in
     let all : blurred_each (level_pieces (as_level S')) ≡ as' ++ x ∷ bs =
     items_are (fused_leaves v (kept_atoms xs)) (fused_levels v (levels (replaced n L (kept_membranes ms)))) (rules_list (listed_rules rs))
-    ∙ (λ i. atoms_same v xs i ++ (texts i ++ rule_texts (rules_same rs i)))
+    ∙ (λ i. atoms_same v xs i ++ (texts i ++ rule_texts (rules_listed rs i)))
     ∙ all_at xs n (membrane_texts ms) x rs in (
       inner.0,
       line_at S' as' x bs all ∙ around before inner.0 after front (back ++ codes ".\n"),

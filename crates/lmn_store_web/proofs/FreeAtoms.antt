@@ -22,8 +22,8 @@ use Rattle.lmn_web.specs.Webs.{WebCell, WithoutAtoms, web_kind, kind_at, home_at
 use Rattle.lmn_store_web.specs.Frees.{CanFree, Frees}
 use Rattle.lmn_store_web.specs.WebHeaps.{Posts, place_at, atoms_of, is_post, mems_of}
 use Rattle.lmn_store_web.specs.WebStores.{IsStored}
-use Rattle.lmn_store_web.proofs.ReadLemmas.{mem_there, kind_there}
-use Rattle.lmn_web_merging.proofs.Sending.{list_label, list_kind, list_ports, list_there, list_home, list_at_kind, home_some}
+use Rattle.lmn_store_web.proofs.ReadLemmas.{mem_there}
+use Rattle.lmn_web_merging.proofs.Sending.{list_label, list_kind, list_ports, list_there, list_home, list_at_kind, home_some, kind_there}
 use Rattle.lmn_store_web.proofs.SendLemmas.{atom_of, mem_of, list_atom}
 use Rattle.lmn_store_web.proofs.FreeLemmas.{freed_none, atom_place}
 use Rattle.lmn_store_web.proofs.TableLemmas.{labelled_there, post_waits, post_goes, mems_none, mems_post}

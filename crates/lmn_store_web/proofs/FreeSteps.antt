@@ -17,7 +17,8 @@ use Rattle.lmn_web.specs.Webs.{WebCell, kind_at, home_at, partner_at, cells_in, 
 use Rattle.lmn_store_web.specs.Frees.{Drops, CanFree, Frees}
 use Rattle.lmn_store_web.specs.WebHeaps.{Posts, no_rules, mem_by, mems_of}
 use Rattle.lmn_store_web.specs.WebStores.{HasRules}
-use Rattle.lmn_store_web.proofs.ReadLemmas.{mems_are, mem_is, kind_there}
+use Rattle.lmn_web_merging.proofs.Sending.{kind_there}
+use Rattle.lmn_store_web.proofs.ReadLemmas.{mems_are, mem_is}
 use Rattle.lmn_store_web.proofs.PlaceLemmas.{first_is}
 use Rattle.lmn_store_web.proofs.FreeLemmas.{list_rest, other_rest, mem_freed, dropped_frees}
 use Rattle.lmn_store_web.proofs.TableLemmas.{atoms_none}

@@ -20,9 +20,9 @@ use Rattle.lmn_store_web.specs.Labels.{IsLabelNumber, label_by}
 use Rattle.lmn_store_web.specs.WebHeaps.{Posts, no_rules, rules_at, atom_by, if_atom, if_membrane, atoms_of, mem_by, is_post, mems_of, heap_by}
 use Rattle.lmn_store_web.specs.WebStores.{IsStored}
 use Rattle.lmn_store_web.specs.Indexes.{key_of}
-use Rattle.lmn_store_web.proofs.ReadLemmas.{waits_in, mem_there, mem_is, mems_are, kind_there}
+use Rattle.lmn_store_web.proofs.ReadLemmas.{waits_in, mem_there, mem_is, mems_are}
 use Rattle.lmn_store_web.proofs.TableLemmas.{atoms_none, mems_none, mems_post, mems_with, post_waits}
-use Rattle.lmn_web_merging.proofs.Sending.{list_kind, list_home, list_ports, list_label, list_there, list_at_kind, list_at_other}
+use Rattle.lmn_web_merging.proofs.Sending.{list_kind, list_home, list_ports, list_label, list_there, list_at_kind, list_at_other, kind_there}
 
 -- w is v with one cell more, which stands last in the line of what waits
 pub record Made (p : Posts) (v w : ℕ → Option WebCell) (c : ℕ) (K : CellKind) (l n : ℕ) : Type 0 where

@@ -14,7 +14,7 @@ use Rattle.lmn_web.specs.declared.kind.CellKind.TheVariants.{Atom, Membrane}
 use Rattle.lmn_web.specs.Webs as web
 use Rattle.lmn_web.specs.Webs.{WebCell, web_kind, kind_at, home_at, arity_at, cells_in, cells_of, web_label, with_home, StandOnce}
 use Rattle.lmn_web_merging.specs.Keepers.{port_mark, relisted_both, MovesAll}
-use Rattle.lmn_web_merging.proofs.Sending.{home_kind, home_label, home_ports, home_cells, kind_there}
+use Rattle.lmn_web_merging.proofs.Sending.{home_kind, home_label, home_ports, home_cells, home_there, kind_there}
 use Rattle.lmn_web_merging.proofs.Relisting.{home_marks}
 use Rattle.lmn_store_web.specs.Sends.{CanSend}
 use Rattle.lmn_store_web.specs.WebHeaps.{Posts, place_at, atom_by, if_atom, if_membrane, atoms_of, mem_by, is_post, mems_of, heap_by}
@@ -44,10 +44,6 @@ both_there es xs ys (Some c) = refl
 both_home : (es xs ys : List ℕ) (o : Option WebCell) → web.home_of (option_map (relisted_both es xs ys) o) ≡ web.home_of o
 both_home es xs ys None = refl
 both_home es xs ys (Some c) = refl
-
-home_there : (h : Option ℕ) (o : Option WebCell) → is_some (option_map (with_home h) o) ≡ is_some o
-home_there h None = refl
-home_there h (Some c) = refl
 
 -- and of its items
 module _ (p : Posts) (t : List (Option RuleList)) where

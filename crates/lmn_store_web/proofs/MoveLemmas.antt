@@ -10,7 +10,8 @@ use Rattle.lmn_web.specs.Webs.{WebCell}
 use Rattle.lmn_store_web.specs.Sends.{CanSend}
 use Rattle.lmn_store_web.specs.WebHeaps.{Posts, place_at, atoms_of, mems_of, heap_by}
 use Rattle.lmn_store_web.specs.WebStores.{IsStored}
-use Rattle.lmn_store_web.proofs.ReadLemmas.{stands_in, mem_there, parent_is, kind_there}
+use Rattle.lmn_web_merging.proofs.Sending.{kind_there}
+use Rattle.lmn_store_web.proofs.ReadLemmas.{stands_in, mem_there, parent_is}
 use Rattle.lmn_store_web.proofs.PlaceLemmas.{in_place_mem}
 use Rattle.lmn_store_counts.proofs.PlaceLemmas.{sent_keeps}
 

@@ -16,7 +16,8 @@ use Rattle.lmn_web_merging.specs.Keepers.{LENT}
 use Rattle.lmn_web.specs.Webs.{WebCell, web_kind, kind_at, home_at, arity_at, cells_in, cells_of, web_label, new_cell}
 use Rattle.lmn_store_web.specs.WebHeaps.{Posts, no_rules, atom_by, if_atom, atoms_of, mem_by, mems_of, heap_by, alone}
 use Rattle.lmn_store_web.specs.WebStores.{IsStored}
-use Rattle.lmn_store_web.proofs.ReadLemmas.{mem_there, mem_is, mems_are, kind_there}
+use Rattle.lmn_web_merging.proofs.Sending.{kind_there}
+use Rattle.lmn_store_web.proofs.ReadLemmas.{mem_there, mem_is, mems_are}
 
 none_census : {X : Type 0} (w : X → ℕ) → Census w (λ (k : ℕ). None) 0
 none_census {X} w = record { keys = []; once = tt; all = λ k. (λ i. absurd i, λ i. absurd (let u : IsSome {T = X} None = i in cc)); weighs = refl }

@@ -14,7 +14,8 @@ use Rattle.lmn_web.proofs.ListedLemmas.{from_in}
 use Rattle.lmn_store_web.specs.Sends.{Sends}
 use Rattle.lmn_store_web.specs.WebHeaps.{Posts, place_at, atom_by, if_atom, if_membrane, atoms_of, mem_by, is_post, mems_of, heap_by}
 use Rattle.lmn_store_web.specs.WebStores.{IsStored}
-use Rattle.lmn_store_web.proofs.ReadLemmas.{stands_in, mem_there, mem_place_is, kind_there}
+use Rattle.lmn_web_merging.proofs.Sending.{kind_there}
+use Rattle.lmn_store_web.proofs.ReadLemmas.{stands_in, mem_there, mem_place_is}
 use Rattle.lmn_store_web.proofs.SendLemmas.{atom_of, mem_of, list_atom, frame_away, source_list, lists_away}
 use Rattle.lmn_store_web.proofs.TableLemmas.{atoms_none, mems_none, mems_post, post_waits, post_goes}
 

@@ -23,11 +23,6 @@ pub data Stand (p : Posts) (h : Option ℕ) (P : Place) : Type 0 where
   at_gone : h ≡ Some p.gone → P ≡ gone → Stand p h P
   at_mem : (b : ℕ) → h ≡ Some b → P ≡ within b → b ≢ p.waiting → b ≢ p.gone → Stand p h P
 
--- a membrane is there
-pub kind_there : (o : Option WebCell) → web_kind o ≡ Membrane → IsSome o
-kind_there None e = absurd (cc)
-kind_there (Some c) e = refl
-
 -- a home that is one is there
 pub some_home : (h : Option ℕ) (m : ℕ) → h ≡ Some m → IsSome h
 some_home h m e = subst (λ (o : Option ℕ). IsSome o) (sym e) refl

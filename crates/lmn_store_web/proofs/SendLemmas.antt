@@ -16,7 +16,7 @@ use Rattle.lmn_web.specs.Webs as web
 use Rattle.lmn_web.specs.Webs.{WebCell, web_kind, kind_at, home_at, arity_at, cells_in, cells_of, web_label, with_home, with_list, unlinked, added_last}
 use Rattle.lmn_web.proofs.ListedLemmas.{kind_cases}
 use Rattle.lmn_web_merging.specs.Keepers.{port_mark}
-use Rattle.lmn_web_merging.proofs.Sending.{home_cells, home_kind, home_label, home_ports, home_some, list_at_kind, list_at_other, list_home, list_kind, list_label, list_ports, list_there}
+use Rattle.lmn_web_merging.proofs.Sending.{home_cells, home_kind, home_label, home_ports, home_some, home_there, list_at_kind, list_at_other, list_home, list_kind, list_label, list_ports, list_there}
 use Rattle.lmn_web_merging.proofs.Relisting.{home_marks, list_marks}
 use Rattle.lmn_store_web.specs.Sends.{Sends}
 use Rattle.lmn_store_web.specs.WebHeaps.{Posts, atom_by, if_atom, if_membrane, atoms_of, mem_by, is_post, mems_of}
@@ -105,10 +105,6 @@ module _ (w : ℕ → Option WebCell) (m n x : ℕ) (left : x ≢ m) where
           ∙ (λ i. option_map (with_list (out_kind i) (list_u (out_kind i) i ++ x ∷ [])) (w n));
       others = λ y d a b. alter_away v1 n (option_map (with_list ku came_list)) y b ∙ alter_away u x (option_map (with_home (Some n))) y d ∙ u_y y d a;
     }
-
-home_there : (h : Option ℕ) (o : Option WebCell) → is_some (option_map (with_home h) o) ≡ is_some o
-home_there h None = refl
-home_there h (Some c) = refl
 
 -- so do the marks of ports
 pub out_marks : (w : ℕ → Option WebCell) (m x y : ℕ) → port_mark (unlinked w m x) y ≡ port_mark w y

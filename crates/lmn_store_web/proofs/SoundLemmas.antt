@@ -21,7 +21,8 @@ use Rattle.lmn_web.specs.Webs as web
 use Rattle.lmn_web.specs.Webs.{WebCell, web_kind, kind_at, home_at, arity_at, partner_at, cells_in, web_of, web_cell, list_in, StandOnce, IsPaired}
 use Rattle.lmn_store_web.specs.WebHeaps.{Posts, place_at, atom_by, if_atom, if_membrane, atoms_of, mem_by, is_post, mems_of, heap_by}
 use Rattle.lmn_store_web.specs.WebStores.{IsStored}
-use Rattle.lmn_store_web.proofs.ReadLemmas.{stands_in, waits_in, stands_back, waits_back, top_back, no_post, is_none, atom_there, mem_there, place_is, atoms_is, mems_is, mem_is, mem_place_is, kind_there}
+use Rattle.lmn_web_merging.proofs.Sending.{kind_there}
+use Rattle.lmn_store_web.proofs.ReadLemmas.{stands_in, waits_in, stands_back, waits_back, top_back, no_post, is_none, atom_there, mem_there, place_is, atoms_is, mems_is, mem_is, mem_place_is}
 
 -- an atom has one mark more than ports, and each cell has a mark
 abbrev pub Formed : (ℕ → Option WebCell) → Type 0

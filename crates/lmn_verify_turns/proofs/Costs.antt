@@ -1,5 +1,5 @@
 -- What a match leaves in its membranes, and what its commit costs, is told by the registers that head code sets.
-use Rattle.std.proofs.Common.{ℕ, zero, suc, refl, ◌≡◌, ◌<◌, ◌+◌, Bool, not, List, [], ◌∷◌, ◌++◌, length, map, sym, ap, subst, ◌∙◌, arith}
+use Rattle.std.proofs.Common.{ℕ, refl, ◌≡◌, ◌<◌, ◌+◌, Bool, not, List, [], ◌∷◌, ◌++◌, length, map, sym, ap, subst, ◌∙◌, arith}
 use Rattle.std.specs.List.{AllByRecursion}
 use Rattle.std.specs.Prelude.{sum}
 use Rattle.lmn_base.specs.Graphs.{Port, Reached}
@@ -13,6 +13,7 @@ use Rattle.lmn_store_heap.proofs.Pigeonholes.{not_longer}
 use Rattle.lmn_ground_parts.specs.Rests.{IsRest, atoms_of_all, keep}
 use Rattle.lmn_ground_parts.specs.Walks.{is_in}
 use Rattle.lmn_congruence_splice.specs.Classes.{rising}
+use Rattle.lmn_congruence_splice.proofs.EndLemmas.{mapped_alike}
 use Rattle.lmn_instr_code.specs.declared.instr.Instr.{Instr}
 use Rattle.lmn_instr_code.specs.declared.instr.Instr.TheVariants.{RemovePart, RemoveMem, CopyGround, CopyCells, CopyRules, DropCells}
 use Rattle.lmn_instr_code.specs.Running.{HeadRegisters, atoms_set, membranes_set}
@@ -24,14 +25,6 @@ use Rattle.lmn_verify_turns.proofs.Matches.{Alike}
 use Rattle.lmn_machine_commit.proofs.Owning.{keep_same as keep_alike}
 
 -- ---- lists
-
--- maps that are one on these numbers
-mapped_alike : (f g : ℕ → ℕ) (x n : ℕ) → ((k : ℕ) → k < x + n → f k ≡ g k) → map f (rising x n) ≡ map g (rising x n)
-mapped_alike f g x zero same = refl
-mapped_alike f g x (suc n) same =
-    let here = same x (omega arith) in
-    let rest = mapped_alike f g (suc x) n (λ k l. same k (omega (arith, l))) in
-    λ i. here i ∷ rest i
 
 -- a part has one size
 size_one : (h : Heap) (p : Port) (n k : ℕ) → IsSize h p n → IsSize h p k → n ≡ k

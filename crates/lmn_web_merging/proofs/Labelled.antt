@@ -1,5 +1,5 @@
 -- What calls of a merging web read and write, one by one.
-use Rattle.std.proofs.Common.{◌≡◌, ◌≢◌, ◌⊎◌, ℕ, ◌==◌, ◌&&◌, ◌≤◌, Bool, true, false, cond, List, [], ◌∷◌, ◌++◌, length, filter, Option, Some, None, refl, sym, ap, subst, ◌∙◌, inl, inr, arith}
+use Rattle.std.proofs.Common.{◌≡◌, ◌≢◌, ◌⊎◌, ℕ, ◌==◌, ◌&&◌, ◌≤◌, Bool, true, false, List, [], ◌∷◌, ◌++◌, length, Option, Some, None, refl, sym, ap, subst, ◌∙◌, inl, inr, arith}
 use Rattle.std.proofs.lemmas.Bool.{cases_eq}
 use Rattle.std.specs.Prelude.{slice_index_or, unwrap_or}
 use Rattle.std.specs.Option.{option_map}
@@ -8,6 +8,7 @@ use Rattle.lmn_store_heap.specs.Heap.{alter}
 use Rattle.lmn_store_heap.specs.Lists.{without}
 use Rattle.lmn_web.specs.declared.kind.CellKind.TheVariants.{Atom, Membrane}
 use Rattle.lmn_web.specs.Webs.{WebCell, kind_at, home_at, arity_at, marks_of, cells_in, is_labelled, with_label, with_mark, relisted, added_last, unlinked, StandOnce, IsPaired}
+use Rattle.lmn_web.proofs.FilterLemmas.{filter_same}
 use Rattle.lmn_web.proofs.ListedLemmas.{kind_cases}
 use Rattle.lmn_web_merging.specs.Keepers.{keeper, port_mark, is_retired, seen}
 use Rattle.lmn_web_merging.specs.Moves.{AreKept}
@@ -15,11 +16,6 @@ use Rattle.lmn_web_merging.proofs.Seen.{not_atom, back, keepers_differ, keeper_k
 use Rattle.lmn_web_merging.proofs.Sending.{kind_there, home_is_membrane}
 use Rattle.lmn_web_merging.proofs.Relisting.{seen_relisted, relisted_kept}
 use Rattle.lmn_web_merging.proofs.Writing.{atom_marked_kept, seen_atom_marked, membrane_marked_kept, seen_membrane_marked}
-
--- a list by two tests that agree on it
-filter_alike : (p q : ℕ → Bool) (xs : List ℕ) → ((x : ℕ) → In x xs → p x ≡ q x) → filter p xs ≡ filter q xs
-filter_alike p q [] h = refl
-filter_alike p q (x ∷ xs) h = let rest = filter_alike p q xs (λ y i. h y (inr i)) in λ i. cond (h x (inl refl) i) (x ∷ rest i) (rest i)
 
 module _ (w : ℕ → Option WebCell) where
   -- a slot that is seen is one
@@ -50,7 +46,7 @@ module _ (w : ℕ → Option WebCell) where
   module _ (l : StandOnce w) (r : IsPaired w) (a : AreKept w) where
     -- the atoms of a membrane with a label
     pub labelled_alike : (m label n : ℕ) → with_label (seen w) label n (cells_in (seen w) m Atom) ≡ with_label w label n (cells_in w (keeper w m) Atom)
-    labelled_alike m label n = ap (with_label (seen w) label n) (seen_cells w r a m Atom) ∙ filter_alike (is_labelled (seen w) label n) (is_labelled w label n) (cells_in w (keeper w m) Atom) (λ x i.
+    labelled_alike m label n = ap (with_label (seen w) label n) (seen_cells w r a m Atom) ∙ filter_same (is_labelled (seen w) label n) (is_labelled w label n) (cells_in w (keeper w m) Atom) (λ x i.
         let e = (l.homes (keeper w m) x Atom i).1 in
         let p = seen_label w x (seen_atom w x e) in
         let q = atom_partners w x e in

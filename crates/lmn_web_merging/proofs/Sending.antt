@@ -135,11 +135,12 @@ list_ports k xs None = refl
 list_ports Atom xs (Some c) = refl
 list_ports Membrane xs (Some c) = refl
 
-home_there : (h : Option ℕ) (o : Option WebCell) → is_some (option_map (with_home h) o) ≡ is_some o
+-- that it is there,
+pub home_there : (h : Option ℕ) (o : Option WebCell) → is_some (option_map (with_home h) o) ≡ is_some o
 home_there h None = refl
 home_there h (Some c) = refl
 
--- that it is there,
+-- also where a list is another,
 pub list_there : (k : CellKind) (xs : List ℕ) (o : Option WebCell) → is_some (option_map (with_list k xs) o) ≡ is_some o
 list_there k xs None = refl
 list_there k xs (Some c) = refl

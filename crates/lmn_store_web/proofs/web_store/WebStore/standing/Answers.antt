@@ -1,4 +1,4 @@
-use Rattle.lmn_store_web.proofs.ReadLemmas.{kind_there}
+use Rattle.lmn_web_merging.proofs.Sending.{kind_there}
 use Rattle.lmn_store_web.specs.WebStores.{kept_by}
 use Rattle.lmn_store_web.specs.WebHeaps.{KeptWeb}
 use Rattle.lmn_web_merging.specs.Keepers.{merged_by}

@@ -15,7 +15,8 @@ use Rattle.lmn_store_web.specs.WebHeaps.{KeptWeb, heap_of}
 use Rattle.lmn_store_web.specs.WebStores.{HasRules, kept_by}
 use Rattle.lmn_store_web.proofs.AwakeLemmas.{root_top, root_tree, none_told, told_low, some_told}
 use Rattle.lmn_store_web.proofs.IndexLemmas.{key_is}
-use Rattle.lmn_store_web.proofs.ReadLemmas.{mem_is, kind_there}
+use Rattle.lmn_web_merging.proofs.Sending.{kind_there}
+use Rattle.lmn_store_web.proofs.ReadLemmas.{mem_is}
 use Rattle.lmn_store_web.proofs.web_store.WebStoreLinkStore.awake_from.Goals.{in-None, in-Some}
 use Rattle.lmn_store_web.proofs.web_store.WebStoreLinkStore.awake_from.Goals as goal
 

@@ -16,7 +16,8 @@ use Rattle.lmn_store_web_preorder.specs.Nests.{IsOneOf}
 use Rattle.lmn_store_web.specs.WebHeaps.{heap_by}
 use Rattle.lmn_store_web.specs.WebStores.{HasRules}
 use Rattle.lmn_store_web.specs.Indexes.{key_of}
-use Rattle.lmn_store_web.proofs.ReadLemmas.{mem_is, kind_there}
+use Rattle.lmn_web_merging.proofs.Sending.{kind_there}
+use Rattle.lmn_store_web.proofs.ReadLemmas.{mem_is}
 use Rattle.lmn_store_web.proofs.SoundLemmas.{heap_sound, merged_formed}
 use Rattle.lmn_store_web.proofs.IndexLemmas.{index_by, index_move, index_moved, key_by, key_is}
 use Rattle.lmn_store_web.proofs.web_store.WebStoreLinkStore.move_all.Goals as goal

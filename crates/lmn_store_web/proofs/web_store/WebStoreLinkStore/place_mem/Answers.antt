@@ -16,7 +16,8 @@ use Rattle.lmn_store_web_preorder.specs.Indexed.{IsNested}
 use Rattle.lmn_store_web.specs.WebHeaps.{heap_by}
 use Rattle.lmn_store_web.specs.WebStores.{HasRules}
 use Rattle.lmn_store_web.specs.Indexes.{key_of}
-use Rattle.lmn_store_web.proofs.ReadLemmas.{mem_is, kind_there}
+use Rattle.lmn_web_merging.proofs.Sending.{kind_there}
+use Rattle.lmn_store_web.proofs.ReadLemmas.{mem_is}
 use Rattle.lmn_store_web.proofs.CallLemmas.{homed_mem}
 use Rattle.lmn_store_web.proofs.SoundLemmas.{heap_sound, merged_formed}
 use Rattle.lmn_store_web.proofs.SendLemmas.{label_same}
