@@ -1,7 +1,7 @@
 -- What is left of a membrane depends on the images of the links of the heap alone.
 use Rattle.std.proofs.Common.{ℕ, ◌≡◌, ◌<◌, List, [], ◌∷◌, ◌++◌, map, Option, Some, None, IsSome, refl, sym, ap, subst, ◌∙◌, inl, inr}
 use Rattle.lmn_store_heap.specs.Heap.{Heap, HeapAtom, HeapMem, IsMem, atoms_by, atoms_in}
-use Rattle.lmn_store_heap.specs.Lists.{without, without_all}
+use Rattle.lmn_store_heap.specs.Lists.{without_all}
 use Rattle.lmn_store_heap.specs.Solid.{solid_atom_at, solid_atoms_at, links_from}
 use Rattle.lmn_congruence.specs.Orders.{Among}
 use Rattle.lmn_congruence.specs.Translation.{solid_atom_of}
@@ -10,14 +10,10 @@ use Rattle.lmn_solid_bodies.specs.Fired.{linked_by}
 use Rattle.lmn_solid_bodies.specs.Within.{left_solid}
 use Rattle.lmn_adequacy_heaps.specs.HeapRegions.{HeapReading, atoms_at}
 use Rattle.lmn_adequacy_turns.proofs.LinksBelow.{links_below, links_limit}
-use Rattle.lmn_store_heap.proofs.Common.{in_of_without as left_of}
 use Rattle.lmn_store_heap.proofs.ListLemmas.{withouts_nothing as no_atoms}
 use Rattle.lmn_congruence.proofs.Common.{among_left, among_right, map_known}
 use Rattle.lmn_base.specs.Lists.{In}
-
-all_left_of : (ns : List ℕ) (b : ℕ) (xs : List ℕ) → In b (without_all ns xs) → In b xs
-all_left_of [] b xs k = k
-all_left_of (a ∷ ns) b xs k = left_of a b xs (all_left_of ns b (without a xs) k)
+use Rattle.lmn_solid_bodies.proofs.Drops.{in_less}
 
 module _ (h : Heap) (r : HeapReading) where
   -- a link of an atom of a list is one of the list's atoms
@@ -58,4 +54,4 @@ left_same h r ms all taken f g same x = by (h.mems x) refl
     by None e = nothing (atoms_in h x) (ap atoms_by e)
     by (Some m) e =
         let there : In x ms = all x (subst (λ (o : Option HeapMem). IsSome o) (sym e) refl) in
-        linked_alike h r f g (atoms_in h x) (λ y k. same y (links_below h r ms x there y k)) (without_all taken (atoms_in h x)) (λ a k. all_left_of taken a (atoms_in h x) k)
+        linked_alike h r f g (atoms_in h x) (λ y k. same y (links_below h r ms x there y k)) (without_all taken (atoms_in h x)) (λ a k. in_less taken (atoms_in h x) a k)

@@ -302,6 +302,14 @@ get_set [] k x l = absurd (omega (arith, l))
 get_set (y ∷ xs) zero x l = refl
 get_set (y ∷ xs) (suc k) x l = get_set xs k x (omega (arith, l))
 
+-- and every other place keeps what stands there
+pub get_set_away : {A : Type 0} (xs : List A) (k : ℕ) (x : A) (j : ℕ) → j ≢ k → slice_get (slice_set xs k x) j ≡ slice_get xs j
+get_set_away [] k x j d = refl
+get_set_away (y ∷ xs) zero x zero d = absurd (d refl)
+get_set_away (y ∷ xs) zero x (suc j) d = refl
+get_set_away (y ∷ xs) (suc k) x zero d = refl
+get_set_away (y ∷ xs) (suc k) x (suc j) d = get_set_away xs k x j (λ e. d (ap suc e))
+
 -- one more of a list is taken
 pub one_more : {X : Type 0} (xs : List X) (i : ℕ) (x : X) → i < length xs → x ≡ get_or xs i x → take i xs ++ x ∷ [] ≡ take (i + 1) xs
 one_more xs i x l e = ap (λ y. take i xs ++ y ∷ []) e ∙ sym (take_more xs i x l)

@@ -1,8 +1,9 @@
 -- Lemmas that several crates above cite.
 use Rattle.lmn_base.specs.Graphs.{Port}
 use Rattle.lmn_congruence_splice.specs.Splice.{links, ports, IsOneOf, NoneTwice}
-use Rattle.std.proofs.Common.{List, ℕ, ◌≡◌, ◌++◌, inl, inr, [], ◌∷◌, ◌⊎◌, refl}
+use Rattle.std.proofs.Common.{List, ℕ, ◌≡◌, ◌++◌, inl, inr, [], ◌∷◌, ◌⊎◌, refl, subst}
 use Rattle.std.proofs.lemmas.List.{map-append}
+use Rattle.std.specs.List.{AllByRecursion}
 
 -- the links of two lists of pairs joined are those of both
 pub links_append : (ps qs : List (Port × ℕ)) → links (ps ++ qs) ≡ links ps ++ links qs
@@ -33,3 +34,9 @@ in_back x (y ∷ xs) ys i = inr (in_back x xs ys i)
 pub distinct_append : {A : Type 0} (xs ys : List A) → NoneTwice xs → NoneTwice ys → ((x : A) → IsOneOf x xs → IsOneOf x ys → ⊥) → NoneTwice (xs ++ ys)
 distinct_append [] ys d e apart = e
 distinct_append (x ∷ xs) ys d e apart = ((λ i. elim (in_append x xs ys i) [ inl j ↦ d.0 j | inr j ↦ apart x (inl refl) j ]), distinct_append xs ys d.1 e (λ z i j. apart z (inr i) j))
+
+-- what holds of all holds of each
+pub each_is : {A : Type 0} (P : A → Type 0) (xs : List A) (x : A) → AllByRecursion P xs → IsOneOf x xs → P x
+each_is P [] x a i = absurd i
+each_is P (y ∷ ys) x a (inl s) = subst P s a.0
+each_is P (y ∷ ys) x a (inr i) = each_is P ys x a.1 i

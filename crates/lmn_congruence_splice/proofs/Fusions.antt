@@ -14,23 +14,28 @@ use Rattle.lmn_congruence.proofs.TranslatedLinks.{places_append as often_append}
 
 -- Even and odd
 
-data Half : Type 0 where
+-- a number by whether it is even or odd, and its half
+pub data Half : Type 0 where
   even : ℕ → Half
   odd : ℕ → Half
 
-abbrev next_half : Half → Half
+-- that of the next number
+abbrev pub next_half : Half → Half
 next_half (even x) = odd x
 next_half (odd x) = even (suc x)
 
-abbrev half : ℕ → Half
+-- that of a number
+abbrev pub half : ℕ → Half
 half zero = even zero
 half (suc z) = next_half (half z)
 
-half_rule : (x : ℕ) → half (of_rule x) ≡ even x
+-- links of a rule are even,
+pub half_rule : (x : ℕ) → half (of_rule x) ≡ even x
 half_rule zero = refl
 half_rule (suc x) = let e : suc x + suc x ≡ suc (suc (x + x)) = omega arith in rw (e, half_rule x) refl
 
-half_solid : (x : ℕ) → half (of_solid x) ≡ odd x
+-- and those of the solid odd
+pub half_solid : (x : ℕ) → half (of_solid x) ≡ odd x
 half_solid x = rw (half_rule x) refl
 
 -- a link of the rule is none of the solid

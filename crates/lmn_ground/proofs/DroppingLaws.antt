@@ -16,7 +16,8 @@ use Rattle.lmn_ground_parts.specs.Rests.{IsContent, atoms_of_all, keep, rest_tak
 use Rattle.lmn_ground.specs.Rests.{IsLeft}
 use Rattle.lmn_ground.proofs.RestLaws.{all_in, atoms_once, in_all, keep_distinct, keep_in, rest_found, rest_is}
 use Rattle.lmn_ground.proofs.DropLaws.{all_dropped, atoms_left, but, but_in, but_nothing, but_out, dropped, dropped_none, mem_taken_dropped, mems_left, onto, onto_either, onto_first, onto_second, parent_gone, parent_left, rest_dropped, same_dropped, still_mem}
-use Rattle.lmn_ground_parts.proofs.Common.{keep_all, top_in}
+use Rattle.lmn_ground_parts.proofs.Common.{keep_all}
+use Rattle.lmn_store_heap.proofs.Groves.{list_inside}
 
 -- what is behind one that is behind another is less
 pub less_behind : (n k : ℕ) (xs : List ℕ) → Distinct xs → In k (after n xs) → length (after k xs) < length (after n xs)
@@ -77,12 +78,12 @@ module _ (s : Heap) (sound : Sound s) (m : ℕ) (atoms ms : List ℕ) (r : IsCon
   -- a membrane stands behind the one round it
   pub child_behind : (n k : ℕ) → Here n → In k (mems_in s n) → In k (after n (m ∷ ms))
   child_behind n k (inl e) i =
-      subst (λ z. In k (after z (m ∷ ms))) (sym e) (subst (In k) (sym after_top) (subst (In k) (sym r.preorder) (top_in s r.forest (mems_in s m) k tops (subst (λ z. In k (mems_in s z)) e i))))
+      subst (λ z. In k (after z (m ∷ ms))) (sym e) (subst (In k) (sym after_top) (subst (In k) (sym r.preorder) (list_inside s r.forest (mems_in s m) tops k (subst (λ z. In k (mems_in s z)) e i))))
   child_behind n k (inr p) i =
       let w = find_at r.forest n (subst (In n) r.preorder p) in
       let q = around s r.forest (keep (λ _. true) (mems_in s m)) n w.0 w.1 w.2 r.forms w.3 in
       let e : after n ms ≡ flat w.0 ++ (flat w.1 ++ w.2) = ap (after n) r.preorder ∙ after_at r.forest n w.0 w.1 w.2 flat_once w.3 in
-      subst (In k) (sym (after_inner n p ∙ e)) (in_left k (flat w.0) (flat w.1 ++ w.2) (top_in s w.0 (mems_in s n) k q.inner i))
+      subst (In k) (sym (after_inner n p ∙ e)) (in_left k (flat w.0) (flat w.1 ++ w.2) (list_inside s w.0 (mems_in s n) q.inner k i))
 
   -- and it is one of these
   pub child_in : (n k : ℕ) → Here n → In k (mems_in s n) → In k ms

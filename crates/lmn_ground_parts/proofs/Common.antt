@@ -8,11 +8,11 @@ use Rattle.lmn_ground_parts.specs.Rests.{keep, all_mems_taken, atoms_placed}
 use Rattle.lmn_ground_parts.specs.Walks.{HasPort, port_range}
 use Rattle.lmn_store_heap.proofs.Common.{is_not, has_functor}
 use Rattle.lmn_store_heap.proofs.Heights.{mem_of_list, parent_place}
-use Rattle.lmn_store_heap.proofs.ListLemmas.{each_in, in_right}
+use Rattle.lmn_store_heap.proofs.ListLemmas.{each_in}
 use Rattle.lmn_store_heap.proofs.Listing.{alter_at, alter_away}
 use Rattle.lmn_store_heap.proofs.Ports.{linked_away}
 use Rattle.lmn_store_heap.specs.Heap.{Heap, new_atom, placed, Distinct, HeapAtom, functor_of, cleared, joined, link_of, linked, arity_of, IsMem, parent_of}
-use Rattle.lmn_store_heap.specs.Sound.{Forest, Forms, bare, flat, mem, Sound}
+use Rattle.lmn_store_heap.specs.Sound.{Sound}
 use Rattle.std.proofs.Common.{Option, Some, subst, sym, ℕ, ◌≡◌, None, refl, ◌≢◌, List, inl, inr, suc, zero, ◌+◌, [], ap, true, ◌∷◌, ◌++◌, ◌⊎◌, IsSome, ◌∙◌, arith, length, ◌<◌}
 use Rattle.std.proofs.lemmas.Bool.{cases_eq}
 use Rattle.std.specs.Option.{option_map}
@@ -99,15 +99,6 @@ port_in s [] a i k l = absurd k
 port_in s (x ∷ xs) a i (inl e) l = holds_left (a, i) (port_range x 0 (arity_of s x)) (ports_of s xs)
     (subst (λ (z : ℕ). HasPort (z, i) (port_range x 0 (arity_of s x))) e (holds_port x 0 (arity_of s x) i (omega arith) (let m : i < arity_of s x = subst (λ (z : ℕ). i < arity_of s z) (sym e) l in omega (arith, m))))
 port_in s (x ∷ xs) a i (inr k) l = holds_right (a, i) (port_range x 0 (arity_of s x)) (ports_of s xs) (port_in s xs a i k l)
-
--- a membrane of a list is in the forest of the list
-pub top_in : (s : Heap) (f : Forest) (ls : List ℕ) (k : ℕ) → Forms s f ls → In k ls → In k (flat f)
-top_in s bare ls k F i = subst (In k) F i
-top_in s (mem n inner rest) ls k F i = by (subst (In k) F.1 i) (top_in s rest F.0 k F.3)
-  where
-    by : In k (n ∷ F.0) → (In k F.0 → In k (flat rest)) → In k (n ∷ (flat inner ++ flat rest))
-    by (inl e) f = inl e
-    by (inr j) f = inr (in_right k (flat inner) (flat rest) (f j))
 
 pub parent_mem : (h : Heap) → Sound h → (n p : ℕ) → parent_of h n ≡ Some p → IsMem h p
 parent_mem h s n p e = mem_of_list h p n ((s.listed.mems p n).1 (parent_place h n p e))

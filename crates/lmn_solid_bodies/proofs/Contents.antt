@@ -23,7 +23,8 @@ use Rattle.lmn_base.proofs.Numbers.{not_equal}
 use Rattle.lmn_ground_parts.proofs.Common.{keep_all}
 use Rattle.lmn_solid_heads.proofs.Common.{without_none}
 
-without_all_here : (ns : List ℕ) (x : ℕ) (xs : List ℕ) → (In x xs → ⊥) → In x ns → without_all ns (x ∷ xs) ≡ without_all ns xs
+-- of a list without repeats what is taken out is left out,
+pub without_all_here : (ns : List ℕ) (x : ℕ) (xs : List ℕ) → (In x xs → ⊥) → In x ns → without_all ns (x ∷ xs) ≡ without_all ns xs
 without_all_here [] x xs o i = absurd i
 without_all_here (n ∷ ns) x xs o i = elim (cases_eq x n) [
   | inl e ↦ ap (without_all ns) (here e)
@@ -39,6 +40,7 @@ without_all_here (n ∷ ns) x xs o i = elim (cases_eq x n) [
     less : (xs : List ℕ) → In x (without n xs) → In x xs
     less xs j = in_less (n ∷ []) xs x j
 
+-- and what is not taken out stays
 pub without_all_there : (ns : List ℕ) (x : ℕ) (xs : List ℕ) → (In x ns → ⊥) → without_all ns (x ∷ xs) ≡ x ∷ without_all ns xs
 without_all_there [] x xs o = refl
 without_all_there (n ∷ ns) x xs o = ap (without_all ns) (there (λ e. o (inl (sym e)))) ∙ without_all_there ns x (without n xs) (λ i. o (inr i))

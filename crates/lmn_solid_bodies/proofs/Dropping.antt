@@ -25,14 +25,13 @@ use Rattle.lmn_solid_bodies.specs.RestCopies.{rest_membranes}
 use Rattle.lmn_solid_bodies.specs.Names.{Names}
 use Rattle.lmn_solid_bodies.proofs.Below.{preorder, later, below_home, removed_is, is_removed, index_split, index_later}
 use Rattle.lmn_store_heap.proofs.Trees.{find_at, split_at, around}
-use Rattle.lmn_store_heap.proofs.Groves.{list_inside}
+use Rattle.lmn_store_heap.proofs.Groves.{list_inside, child_inside}
 use Rattle.lmn_solid_bodies.proofs.Finishing.{within_of, in_place_listed}
-use Rattle.lmn_solid_bodies.proofs.RestGrowing.{stands_round, child_of_forest}
+use Rattle.lmn_solid_bodies.proofs.RestGrowing.{stands_round}
 use Rattle.lmn_solid_bodies.proofs.RestsMade.{IsClosed}
 use Rattle.lmn_base.specs.Graphs.{Port}
 use Rattle.lmn_base.specs.Lists.{In}
 use Rattle.lmn_base.proofs.Lists.{in_either, get_below, get_there as get_some}
-use Rattle.lmn_ground_parts.proofs.Common.{top_in as root_of_forest}
 use Rattle.lmn_solid_heads.proofs.Common.{without_none}
 
 -- ---- lists
@@ -165,7 +164,7 @@ root_above s (mem k inner rest) roots q (others, are, forms_in, forms_rest) up (
 -- and what is below one of a forest is of it
 below_forest : (s : Heap) (f : Forest) (roots : List ℕ) (c : ℕ) → Forms s f roots → ((p k : ℕ) → parent_of s k ≡ Some p → In k (mems_in s p)) → In c (flat f) → (d q : ℕ) → Above s d c q → In q (flat f)
 below_forest s f roots c forms down i zero q e = subst (λ z. In z (flat f)) (sym e) i
-below_forest s f roots c forms down i (suc d) q (p, e, w) = child_of_forest s f roots p q forms (below_forest s f roots c forms down i d p w) (down p q e)
+below_forest s f roots c forms down i (suc d) q (p, e, w) = child_inside s f roots forms p q (below_forest s f roots c forms down i d p w) (down p q e)
 
 module _ (h : Heap) (valid : Valid h) (head : List HeadItem) (m : ℕ) (r : Registers) (em : Lies h head m r.head.images) (head_nests : HeadNests head) (inside : InsideHead head) (rests : HoldsRests h r head) where
   abbrev ks : List ℕ
@@ -232,8 +231,8 @@ module _ (h : Heap) (valid : Valid h) (head : List HeadItem) (m : ℕ) (r : Regi
 
     -- and what stands in them and isn't an image is of the rest
     pub child : (q x : ℕ) → In q (rest_membranes r k) → In x (mems_in h q) → (In x ks → ⊥) → In x (r.left_membranes k)
-    child q x (inl e) i o = of_flat x (root_of_forest h f roots x rest.forms (in_keep (λ x. not (is_in ks x)) (mems_in h (at k)) x (subst (λ z. In x (mems_in h z)) (sym e) i) (out_of ks x o)))
-    child q x (inr j) i o = of_flat x (child_of_forest h f roots q x rest.forms (to_flat q j) i)
+    child q x (inl e) i o = of_flat x (list_inside h f roots rest.forms x (in_keep (λ x. not (is_in ks x)) (mems_in h (at k)) x (subst (λ z. In x (mems_in h z)) (sym e) i) (out_of ks x o)))
+    child q x (inr j) i o = of_flat x (child_inside h f roots rest.forms q x (to_flat q j) i)
 
     -- a membrane of the rest is below the membrane of the rule
     pub rest_later : (x : ℕ) → In x (r.left_membranes k) → preorder h valid (at k) < preorder h valid x
@@ -381,7 +380,7 @@ module _ (h : Heap) (valid : Valid h) (head : List HeadItem) (m : ℕ) (r : Regi
         (ms (at k) ∙ keep_without (λ x. not (is_in ks x)) ks (mems_in h (at k)) (valid.sound.listed.mems_once (at k)) (λ x i. ((λ e j. not_in ks x e j), (λ o. out_of ks x o))))
         (λ q i. (
           ats q ∙ without_none ns (atoms_in h q) (λ a j l. atom_apart a (subst (In a) (sym (rest k ck).in_order) (in_right a (keep (left k ck) (atoms_in h (at k))) (atoms_of_all h (r.left_membranes k)) (of_atoms h (r.left_membranes k) q a i l))) (taken a j)),
-          ms q ∙ without_none ks (mems_in h q) (λ x j l. head_apart x j k ck (of_flat k ck x (child_of_forest h (f k ck) (roots k ck) q x (rest k ck).forms (to_flat k ck q i) l))),
+          ms q ∙ without_none ks (mems_in h q) (λ x j l. head_apart x j k ck (of_flat k ck x (child_inside h (f k ck) (roots k ck) (rest k ck).forms q x (to_flat k ck q i) l))),
         ))
 
     pub atom_placed : (a : ℕ) → In a (r.left_atoms k) → IsInPlace h a

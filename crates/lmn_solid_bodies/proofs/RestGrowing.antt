@@ -15,7 +15,8 @@ use Rattle.lmn_solid_bodies.proofs.Growing.{Grown, grown_none, grown_after, grow
 use Rattle.lmn_base.specs.Lists.{In}
 use Rattle.lmn_base.proofs.Lists.{in_either, plus_nothing}
 use Rattle.lmn_base.proofs.Common.{map_same}
-use Rattle.lmn_ground_parts.proofs.Common.{keep_all, top_in as root_of_forest}
+use Rattle.lmn_ground_parts.proofs.Common.{keep_all}
+use Rattle.lmn_store_heap.proofs.Groves.{list_inside, child_inside}
 
 -- ---- what some membranes give
 
@@ -252,22 +253,6 @@ stands_round s (mem j inner rest) roots p k (others, are, forms_in, forms_rest) 
     below q (inl e) = inl e
     below q (inr m) = inr (in_left q (flat inner) (flat rest) m)
 
--- and what stands in the list of one of the forest is of the forest
-pub child_of_forest : (s : Heap) (f : Forest) (roots : List ℕ) (q k : ℕ) → Forms s f roots → In q (flat f) → In k (mems_in s q) → In k (flat f)
-child_of_forest s bare roots q k forms i j = absurd i
-child_of_forest s (mem m inner rest) roots q k (others, are, forms_in, forms_rest) (inl e) j = inr (in_left k (flat inner) (flat rest) (roots_in s inner (mems_in s m) k forms_in (subst (λ z. In k (mems_in s z)) (sym e) j)))
-  where
-    roots_in : (s : Heap) (f : Forest) (roots : List ℕ) (k : ℕ) → Forms s f roots → In k roots → In k (flat f)
-    roots_in s bare roots k forms i = subst (In k) forms i
-    roots_in s (mem m inner rest) roots k (others, are, forms_in, forms_rest) i = elim (subst (In k) are i) [
-      | inl e ↦ inl e
-      | inr l ↦ inr (in_right k (flat inner) (flat rest) (roots_in s rest others k forms_rest l))
-    ]
-child_of_forest s (mem m inner rest) roots q k (others, are, forms_in, forms_rest) (inr i) j = elim (in_either q (flat inner) (flat rest) i) [
-  | inl l ↦ inr (in_left k (flat inner) (flat rest) (child_of_forest s inner (mems_in s m) q k forms_in l j))
-  | inr l ↦ inr (in_right k (flat inner) (flat rest) (child_of_forest s rest others q k forms_rest l j))
-]
-
 all_copies : (s : Heap) (copy : ℕ → ℕ) (ks : List ℕ) → copies_in s copy ks ≡ map copy (atoms_of_all s ks)
 all_copies s copy [] = refl
 all_copies s copy (k ∷ ks) = ap (λ zs. map copy (atoms_in s k) ++ zs) (all_copies s copy ks) ∙ sym (map-append copy (atoms_in s k) (atoms_of_all s ks))
@@ -312,8 +297,8 @@ module _ (ks : List ℕ) (s : Heap) (m n : ℕ) (atoms membranes copies new : Li
   to_flat k i = subst (In k) c.content.preorder i
 
   pub child_in : (p k : ℕ) → In p (m ∷ membranes) → In k (mems_in s p) → In k membranes
-  child_in p k (inl e) j = of_flat k (root_of_forest s c.content.forest (mems_in s m) k forms (subst (λ z. In k (mems_in s z)) (sym e) j))
-  child_in p k (inr i) j = of_flat k (child_of_forest s c.content.forest (mems_in s m) p k forms (to_flat p i) j)
+  child_in p k (inl e) j = of_flat k (list_inside s c.content.forest (mems_in s m) forms k (subst (λ z. In k (mems_in s z)) (sym e) j))
+  child_in p k (inr i) j = of_flat k (child_inside s c.content.forest (mems_in s m) forms p k (to_flat p i) j)
 
   pub placing : Placing ks copy cm membranes s
   placing = record {

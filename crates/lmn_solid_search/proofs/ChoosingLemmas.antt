@@ -35,6 +35,7 @@ use Rattle.lmn_solid_search.proofs.ReasoningLemmas.{agrees_all, agrees_fewer, ag
 use Rattle.lmn_solid_search.proofs.SearchLemmas.{popped}
 use Rattle.lmn_solid_search.proofs.WholeLemmas.{all_so_far, in_whole}
 use Rattle.lmn_adequacy_heaps.proofs.OutOf.{index_in as item_in}
+use Rattle.lmn_solid_heads.proofs.Common.{same_index}
 
 -- ---- lists
 
@@ -68,9 +69,6 @@ index_least a (y ∷ ys) i l e = by (y == a) refl i l e (index_least a ys)
     by true e i l g h = omega arith
     by false e zero l g h = let u = subst (λ z. (y == z) ≡ true) g (equal_itself y) in absurd (cc)
     by false e (suc j) l g h = let r = h j (omega (arith, l)) g in omega (arith, r)
-
-index_same : (a b : ℕ) (cs : List ℕ) → In a cs → In b cs → index_of a cs ≡ index_of b cs → a ≡ b
-index_same a b cs i j e = same_Some _ _ (sym (index_get a cs i) ∙ ap (slice_get cs) e ∙ index_get b cs j)
 
 get_early : (cs : List ℕ) (j i b : ℕ) → slice_get cs j ≡ Some b → j < i → In b (take i cs)
 get_early [] j i b e l = absurd (cc)
@@ -120,7 +118,7 @@ module _ (h : Heap) (head : Head) (guard : List Cond) (xs : List HeadItem) (May 
       by b j may' r d w (inl before) = inl before
       by b j may' r d w (inr (inl same)) = inr (
         same,
-        subst (λ z. (d' : Chooses h head xs (next p z) r) → ListNotAfter (places h head xs (next p a) q c) (places h head xs (next p z) r d')) (index_same a b choices there j same) (λ d'. least r d' w) d,
+        subst (λ z. (d' : Chooses h head xs (next p z) r) → ListNotAfter (places h head xs (next p a) q c) (places h head xs (next p z) r d')) (same_index a b choices same there j) (λ d'. least r d' w) d,
       )
       by b j may' r d w (inr (inr behind)) =
           let low = index_least a choices i l g in

@@ -5,7 +5,7 @@ use Rattle.std.proofs.lemmas.Option.{same_Some, slice_get-get_or}
 use Rattle.std.proofs.lemmas.Bool.{cases_eq}
 use Rattle.lmn_base.specs.Lists.{In}
 use Rattle.lmn_base.specs.Graphs.{Port}
-use Rattle.lmn_base.proofs.Lists.{drop_get, get_there, get_below, get_index, get_set as get_set_here}
+use Rattle.lmn_base.proofs.Lists.{drop_get, get_there, get_below, get_index, get_set as get_set_here, get_set_away}
 use Rattle.lmn_base.proofs.Numbers.{unequal}
 use Rattle.lmn_store_heap.specs.Heap.{Heap, HeapAtom, IsAtom, IsMem, atoms_in, home_of, link_of, within}
 use Rattle.lmn_store_heap.specs.Conditions.{Above}
@@ -22,7 +22,6 @@ use Rattle.lmn_solid_search.specs.declared.head.MembraneItem.{MembraneItem}
 use Rattle.lmn_solid_search.specs.declared.head.Head.{Head}
 use Rattle.lmn_solid_search.specs.declared.placed.Placed.{Placed}
 use Rattle.lmn_solid_search.proofs.WholeLemmas.{in_longer}
-use Rattle.lmn_solid_search.proofs.WalkingLemmas.{get_set_away}
 use Rattle.lmn_adequacy_heaps.proofs.OutOf.{index_in as item_in}
 
 -- ---- counting
@@ -137,11 +136,11 @@ pub mark_more : (marks marks' marks'' : List (Option ℕ)) (xs : List ℕ) (i : 
 mark_more marks marks' marks'' xs i low place is h a = (
   (λ k. elim (cases_eq a (slice_index_or xs i 0)) [
     | inl same ↦ inr (subst (λ (z : ℕ). In z (take (i + 1) xs)) (sym same) (here xs i low))
-    | inr apart ↦ elim ((h a).0 (k.0, sym (get_set_away marks' (slice_index_or xs i 0) a (Some 0) apart) ∙ ap (λ ms. slice_get ms a) (sym is) ∙ k.1)) [ inl old ↦ inl old | inr j ↦ inr (further xs i j) ]
+    | inr apart ↦ elim ((h a).0 (k.0, sym (get_set_away marks' (slice_index_or xs i 0) (Some 0) a apart) ∙ ap (λ ms. slice_get ms a) (sym is) ∙ k.1)) [ inl old ↦ inl old | inr j ↦ inr (further xs i j) ]
   ]),
   λ j. elim (cases_eq a (slice_index_or xs i 0)) [
     | inl same ↦ (0, ap (λ ms. slice_get ms a) is ∙ subst (λ (z : ℕ). slice_get (slice_set marks' (slice_index_or xs i 0) (Some 0)) z ≡ Some (Some 0)) (sym same) (get_set_here marks' (slice_index_or xs i 0) (Some 0) place))
-    | inr apart ↦ (let k = (h a).1 (before apart j) in (k.0, ap (λ ms. slice_get ms a) is ∙ get_set_away marks' (slice_index_or xs i 0) a (Some 0) apart ∙ k.1))
+    | inr apart ↦ (let k = (h a).1 (before apart j) in (k.0, ap (λ ms. slice_get ms a) is ∙ get_set_away marks' (slice_index_or xs i 0) (Some 0) a apart ∙ k.1))
   ],
 )
   where

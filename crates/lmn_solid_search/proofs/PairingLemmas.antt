@@ -5,7 +5,7 @@ use Rattle.std.proofs.lemmas.Bool.{cases_eq}
 use Rattle.lmn_base.specs.Lists.{In}
 use Rattle.lmn_base.specs.Graphs.{Reached, at_root, across, Port, SameGraph}
 use Rattle.lmn_base.specs.declared.functor.Functor.{Functor}
-use Rattle.lmn_base.proofs.Lists.{get_front, get_last, get_there, get_below, get_either, get_set as get_set_here}
+use Rattle.lmn_base.proofs.Lists.{get_front, get_last, get_there, get_below, get_either, get_set as get_set_here, get_set_away}
 use Rattle.lmn_base.proofs.Numbers.{equal_itself, unequal}
 use Rattle.lmn_store_heap.specs.Heap.{Heap, HeapAtom, IsAtom, Distinct, arity_of, functor_of, link_of}
 use Rattle.lmn_store_heap.specs.Sound.{Valid}
@@ -17,7 +17,7 @@ use Rattle.lmn_ground_parts.proofs.AnswerLaws.{answer_here, answer_on}
 use Rattle.lmn_ground.proofs.EqualLaws.{agree_same}
 use Rattle.lmn_solid_search.specs.Pairing.{Numbers, IsPair, AreTwins, Clash, Adds, Joins, Agree, Comparing, ComparingAt, Tells}
 use Rattle.lmn_solid_search.specs.declared.pairs.Pairs.{Pairs}
-use Rattle.lmn_solid_search.proofs.WalkingLemmas.{get_set_away, length_set, one_marked, blank, no_marks, all_unmarked, reached_atom}
+use Rattle.lmn_solid_search.proofs.WalkingLemmas.{length_set, one_marked, blank, no_marks, all_unmarked, reached_atom}
 use Rattle.lmn_store_heap.proofs.ListLemmas.{each_in as in_by_all, each_of as all_by_in}
 
 -- ---- numbers in lists
@@ -58,7 +58,7 @@ number_added marks marks' xs xs' a m t free long list_is marks_is =
         absurd (cc)
 
     marked : (b n : ℕ) → ((slice_get xs n ≡ Some b) ⊎ ((n ≡ length xs) × (a ≡ b))) → slice_get (slice_set marks a (Some m)) b ≡ Some (Some n)
-    marked b n (inl e) = let g = t.marked b n e in get_set_away marks a b (Some m) (taken b n g) ∙ g
+    marked b n (inl e) = let g = t.marked b n e in get_set_away marks a (Some m) b (taken b n g) ∙ g
     marked b n (inr (k, e)) = subst (λ (z : ℕ). slice_get (slice_set marks a (Some m)) z ≡ Some (Some n)) e (get_set_here marks a (Some m) low ∙ ap (λ (z : ℕ). Some (Some z)) (long ∙ sym k))
 
     listed : (b n : ℕ) → slice_get (slice_set marks a (Some m)) b ≡ Some (Some n) → ((b ≡ a) ⊎ (b ≢ a)) → slice_get (xs ++ a ∷ []) n ≡ Some b
@@ -66,7 +66,7 @@ number_added marks marks' xs xs' a m t free long list_is marks_is =
         let g : Some (Some m) ≡ Some (Some n) = sym (get_set_here marks a (Some m) low) ∙ subst (λ (z : ℕ). slice_get (slice_set marks a (Some m)) z ≡ Some (Some n)) same e in
         let f : m ≡ n = same_Some _ _ (same_Some _ _ g) in
         subst (λ (z : ℕ). slice_get (xs ++ a ∷ []) z ≡ Some b) (sym long ∙ f) (get_last xs a ∙ ap Some (sym same))
-    listed b n e (inr d) = get_front xs (a ∷ []) n b (t.listed b n (sym (get_set_away marks a b (Some m) d) ∙ e))
+    listed b n e (inr d) = get_front xs (a ∷ []) n b (t.listed b n (sym (get_set_away marks a (Some m) b d) ∙ e))
 
 one_place : (marks : List (Option ℕ)) (xs : List ℕ) (n m a : ℕ) → Numbers marks xs → slice_get xs n ≡ Some a → slice_get xs m ≡ Some a → n ≡ m
 one_place marks xs n m a t e g =

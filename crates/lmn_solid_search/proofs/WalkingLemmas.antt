@@ -5,7 +5,7 @@ use Rattle.std.proofs.lemmas.Result.{on_ok_weaker}
 use Rattle.std.proofs.lemmas.Bool.{cases_eq}
 use Rattle.lmn_base.specs.Lists.{In}
 use Rattle.lmn_base.specs.Graphs.{Reached, at_root, across, Port}
-use Rattle.lmn_base.proofs.Lists.{in_snoc, get_front, get_there, get_set as get_set_here}
+use Rattle.lmn_base.proofs.Lists.{in_snoc, get_front, get_there, get_set as get_set_here, get_set_away}
 use Rattle.lmn_store_heap.specs.Heap.{Heap, IsAtom, arity_of, link_of}
 use Rattle.lmn_store_heap.specs.Sound.{Valid}
 use Rattle.lmn_store_heap.specs.Graphs.{atom_map}
@@ -13,13 +13,6 @@ use Rattle.lmn_store_heap.proofs.Common.{in_at, position, linked_atom}
 use Rattle.lmn_store_heap.proofs.ListLemmas.{in_left, in_right}
 use Rattle.lmn_store_heap.proofs.Replacing.{port_within}
 use Rattle.lmn_solid_search.specs.Walking.{IsMarked, unmarked, Tells, Notes, Walking, WalkingAt, Leads, Gathering, GatheringAt, IsGathered}
-
-pub get_set_away : {A : Type 0} (xs : List A) (p q : ℕ) (v : A) → q ≢ p → slice_get (slice_set xs p v) q ≡ slice_get xs q
-get_set_away [] p q v d = refl
-get_set_away (x ∷ xs) zero zero v d = absurd (d refl)
-get_set_away (x ∷ xs) zero (suc q) v d = refl
-get_set_away (x ∷ xs) (suc p) zero v d = refl
-get_set_away (x ∷ xs) (suc p) (suc q) v d = get_set_away xs p q v (λ e. d (ap suc e))
 
 -- one place fewer has no number, where one is set
 pub one_marked : (marks : List (Option ℕ)) (p n : ℕ) → slice_get marks p ≡ Some None → suc (unmarked (slice_set marks p (Some n))) ≡ unmarked marks
@@ -85,12 +78,12 @@ is_noted marks marks' xs xs' p has l h e list_is marks_is =
     marked t a (inr same) = (0, subst (λ (b : ℕ). slice_get (slice_set marks p (Some 0)) b ≡ Some (Some 0)) (sym same) (get_set_here marks p (Some 0) l))
     marked t a (inl i) = elim (cases_eq a p) [
       | inl same ↦ (0, subst (λ (b : ℕ). slice_get (slice_set marks p (Some 0)) b ≡ Some (Some 0)) (sym same) (get_set_here marks p (Some 0) l))
-      | inr d ↦ (let m = t.marked a i in (m.0, get_set_away marks p a (Some 0) d ∙ m.1))
+      | inr d ↦ (let m = t.marked a i in (m.0, get_set_away marks p (Some 0) a d ∙ m.1))
     ]
 
     listed : Tells marks xs → (a : ℕ) → IsMarked (slice_set marks p (Some 0)) a → ((a ≡ p) ⊎ (a ≢ p)) → In a (xs ++ p ∷ [])
     listed t a m (inl same) = in_right a xs (p ∷ []) (inl (sym same))
-    listed t a m (inr d) = in_left a xs (p ∷ []) (t.listed a (m.0, sym (get_set_away marks p a (Some 0) d) ∙ m.1))
+    listed t a m (inr d) = in_left a xs (p ∷ []) (t.listed a (m.0, sym (get_set_away marks p (Some 0) a d) ∙ m.1))
 
 -- the marks behind a clearing
 abbrev pub blank : List (Option ℕ) → List (Option ℕ)

@@ -5,14 +5,14 @@ use Rattle.std.proofs.lemmas.List.{append_assoc, length-append, length-set}
 use Rattle.std.proofs.lemmas.List.Recursion.{is_count_by}
 use Rattle.lmn_base.specs.Links.{EachTwice, Numbers}
 use Rattle.lmn_base.proofs.Common.{numbers_head, all_met}
-use Rattle.lmn_base.proofs.Lists.{get_front, plus_nothing, get_set}
+use Rattle.lmn_base.proofs.Lists.{get_front, plus_nothing, get_set, get_set_away}
 use Rattle.lmn_base.proofs.Numbers.{below_or_from, equal_itself, equal_when, same_or_not, unequal, three_ways}
 use Rattle.lmn_solid_tables.specs.declared.tables.FlatAtom.{FlatAtom}
 use Rattle.lmn_solid_tables.specs.declared.tables.Port.{Port}
 use Rattle.lmn_solid_tables.specs.Tables.{no_port}
 use Rattle.lmn_solid_tables.specs.Building.{all_ports_added, links_of_atoms, port_added, ports_added}
 use Rattle.lmn_solid_tables.proofs.Preorder.{get_behind}
-use Rattle.lmn_solid_tables.proofs.Steps.{get_other, length_two}
+use Rattle.lmn_solid_tables.proofs.Steps.{length_two}
 
 -- ---- links with their ports, in order
 
@@ -103,14 +103,14 @@ module _ (n : ℕ) (ps : List Port) (done : ℕ → List Port) (told : Told n ps
     where
       second : (ds : List Port) → HasEnds ps x ds → length (ds ++ p ∷ []) ≤ 2 → HasEnds (slice_set ps (2 * x + 1) p) x (ds ++ p ∷ [])
       second [] h f = absurd h
-      second (q ∷ []) h f = (get_other ps (2 * x + 1) p (2 * x) (λ d. omega (arith, d)) ∙ h, get_set ps (2 * x + 1) p (omega (arith, told.even, l)))
+      second (q ∷ []) h f = (get_set_away ps (2 * x + 1) p (2 * x) (λ d. omega (arith, d)) ∙ h, get_set ps (2 * x + 1) p (omega (arith, told.even, l)))
       second (q ∷ r ∷ []) h f = absurd (omega (arith, f))
       second (q ∷ r ∷ s ∷ ds) h f = absurd h
 
       at_link : (y : ℕ) → y < n → (y ≡ x) ⊎ (y ≢ x) → HasEnds (slice_set ps (2 * x + 1) p) y (one_more done (x, p) y)
       at_link y m (inl d) = subst (λ z. HasEnds (slice_set ps (2 * x + 1) p) z (one_more done (x, p) z)) (sym d) (subst (HasEnds (slice_set ps (2 * x + 1) p) x) (sym more_here) (second (done x) (told.ends x l) few))
       at_link y m (inr d) =
-          subst (HasEnds (slice_set ps (2 * x + 1) p) y) (sym (more_elsewhere y d)) (ends_alike ps (slice_set ps (2 * x + 1) p) y (done y) (λ k q o g. get_other ps (2 * x + 1) p k (elsewhere y d k o) ∙ g) (told.ends y m))
+          subst (HasEnds (slice_set ps (2 * x + 1) p) y) (sym (more_elsewhere y d)) (ends_alike ps (slice_set ps (2 * x + 1) p) y (done y) (λ k q o g. get_set_away ps (2 * x + 1) p k (elsewhere y d k o) ∙ g) (told.ends y m))
         where
           elsewhere : (y : ℕ) → y ≢ x → (k : ℕ) → (k ≡ 2 * y) ⊎ (k ≡ 2 * y + 1) → k ≢ 2 * x + 1
           elsewhere y d k (inl e) f = omega (arith, e, f)

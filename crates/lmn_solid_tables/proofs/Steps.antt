@@ -11,7 +11,7 @@ use Rattle.lmn_base.specs.declared.solid.Region.{Region}
 use Rattle.lmn_base.specs.declared.solid.Region.TheFolds.{fold_out-Region}
 use Rattle.lmn_base.specs.declared.solid.Region.TheViews.{out-Region}
 use Rattle.lmn_base.proofs.Common.{numbers_head}
-use Rattle.lmn_base.proofs.Lists.{drop_get, get_below, map_append, plus_nothing, get_set}
+use Rattle.lmn_base.proofs.Lists.{drop_get, get_below, map_append, plus_nothing, get_set, get_set_away}
 use Rattle.lmn_base.proofs.Numbers.{equal_itself, same_or_not, unequal}
 use Rattle.lmn_solid_tables.specs.declared.tables.FlatAtom.{FlatAtom}
 use Rattle.lmn_solid_tables.specs.declared.tables.FlatMembrane.{FlatMembrane}
@@ -83,13 +83,6 @@ entered_next n rs i r e = ap (entered n) (drop_get i rs r e)
 
 -- ---- membranes in membranes
 
-pub get_other : {A : Type 0} (xs : List A) (k : ℕ) (x : A) (j : ℕ) → j ≢ k → slice_get (slice_set xs k x) j ≡ slice_get xs j
-get_other [] k x j n = refl
-get_other (y ∷ xs) zero x zero n = absurd (n refl)
-get_other (y ∷ xs) zero x (suc j) n = refl
-get_other (y ∷ xs) (suc k) x zero n = refl
-get_other (y ∷ xs) (suc k) x (suc j) n = get_other xs k x j (λ e. n (ap suc e))
-
 -- an item of the list once its inner lists are filled
 pub filled_at : (start now : List FlatMembrane) (n m : ℕ) → ((m : ℕ) → slice_get now m ≡ option_map (with_inner (children start n m)) (slice_get start m)) → (x : FlatMembrane) → slice_get start m ≡ Some x → slice_get now m ≡ Some (with_inner (children start n m) x)
 filled_at start now n m h x e = h m ∙ ap (option_map (with_inner (children start n m))) e
@@ -150,7 +143,7 @@ module _ (start now : List FlatMembrane) (k : ℕ) (y : FlatMembrane) (below : s
 
     elsewhere : (m : ℕ) → m ≢ y.parent → slice_get (slice_set now y.parent changed) m ≡ option_map (with_inner (children start (suc (suc k)) m)) (slice_get start m)
     elsewhere m n =
-        get_other now y.parent changed m n
+        get_set_away now y.parent changed m n
         ∙ filled m
         ∙ ap (λ c. option_map (with_inner c) (slice_get start m)) (sym (plus_nothing (children start (suc k) m)) ∙ ap (λ c. children start (suc k) m ++ c) (sym (not_in_it m n)))
 

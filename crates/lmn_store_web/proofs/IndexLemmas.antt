@@ -1,10 +1,10 @@
 -- The index of a store over a web after each call.
-use Rattle.std.proofs.Common.{ℕ, zero, suc, ◌≡◌, ◌≢◌, ◌⊎◌, ◌≤◌, ◌<◌, ◌==◌, Bool, true, false, cond, List, [], ◌∷◌, ◌++◌, length, map, Option, Some, None, IsSome, refl, sym, ap, subst, ◌∙◌, inl, inr, arith}
+use Rattle.std.proofs.Common.{ℕ, suc, ◌≡◌, ◌≢◌, ◌⊎◌, ◌≤◌, ◌<◌, ◌==◌, Bool, true, false, cond, List, [], ◌∷◌, ◌++◌, length, map, Option, Some, None, IsSome, refl, sym, ap, subst, ◌∙◌, inl, inr, arith}
 use Rattle.std.proofs.lemmas.Bool.{cases_eq, eq-eqb, eqb-true, ltb-true}
 use Rattle.std.proofs.lemmas.List.{length-set, length-append}
 use Rattle.std.specs.Prelude.{nat_lt, slice_get, slice_set, unwrap_or}
 use Rattle.lmn_base.specs.Lists.{In}
-use Rattle.lmn_base.proofs.Lists.{get_below, get_front, get_end, get_set}
+use Rattle.lmn_base.proofs.Lists.{get_below, get_front, get_end, get_set, get_set_away}
 use Rattle.lmn_base.proofs.Numbers.{at_most_by_test}
 use Rattle.lmn_store_heap.specs.Heap.{Heap, HeapMem, top, within, waiting, IsMem, mems_in, mems_by, mem_mark_of, mem_mark_by, mem_place_of, mem_marked, new_mem, mem_with_place, made_mem, parent_of, placed_mem, taken_mem, moved_all}
 use Rattle.lmn_store_heap.specs.Sound.{Listed}
@@ -19,13 +19,6 @@ use Rattle.lmn_store_web.proofs.MemLists.{seen_by, mark_there, out_marks, in_mar
 use Rattle.lmn_store_web.proofs.NestLemmas.{seen_there, awake_away, nest_same, nest_marked, nest_placed, nest_taken, nest_moved, nest_add, nest_put, nest_take, nest_move, nest_made, nest_fewer, nest_top}
 
 -- A list with a number at a key
-
-get_set_away : (xs : List ℕ) (k : ℕ) (x j : ℕ) → j ≢ k → slice_get (slice_set xs k x) j ≡ slice_get xs j
-get_set_away [] k x j d = refl
-get_set_away (y ∷ ys) zero x zero d = absurd (d refl)
-get_set_away (y ∷ ys) zero x (suc j) d = refl
-get_set_away (y ∷ ys) (suc k) x zero d = refl
-get_set_away (y ∷ ys) (suc k) x (suc j) d = get_set_away ys k x j (λ e. d (ap suc e))
 
 module _ (k m : ℕ) (xs : List ℕ) (low : k ≤ length xs) where
   -- it is there

@@ -17,7 +17,7 @@ use Rattle.lmn_store_heap.proofs.Heights.{valid_no_loop}
 use Rattle.lmn_store_heap.proofs.Pigeonholes.{has_all}
 use Rattle.lmn_store_heap.proofs.WithFunctor.{functor_same}
 use Rattle.lmn_congruence_splice.specs.Splice.{IsOneOf}
-use Rattle.lmn_congruence_splice.proofs.Common.{in_append}
+use Rattle.lmn_congruence_splice.proofs.Common.{in_append, each_is}
 use Rattle.lmn_solid_heads.specs.declared.items.HeadItem.{HeadItem}
 use Rattle.lmn_solid_heads.specs.Heads.{HeadAtom, HeadTyped, HeadMembrane, atoms_of, typed_contexts_of, membranes_of, links_of_head, times}
 use Rattle.lmn_solid_heads.specs.Embeddings.{Lies, HasAtom, HasTyped, HasMembrane, HasLink, IsAtomImage, IsMembraneImage, IsInPart, IsInRest, IsPartOf, partner, port_image}
@@ -45,7 +45,7 @@ use Rattle.lmn_verify_laws.proofs.Finds.{AtomHolds, IsMembraneAt, IsPartAt, Memb
 use Rattle.lmn_verify_laws.proofs.InOrder.{is_of_body}
 use Rattle.lmn_verify_laws.proofs.Items.{all_found, atom_count, atoms_counted, parts_counted, typed_link, atom_found, atoms_are, head_atom, head_membrane, head_port, head_typed, link_found, membrane_count, membrane_found_at, membranes_are, typed_are, typed_found}
 use Rattle.lmn_verify_laws.proofs.Links.{LinksBoth, atom_port_is, links_both, one_instruction, part_ports, stands_at}
-use Rattle.lmn_verify_laws.proofs.Listed.{all_is, any_is, counted_one, counted_some, each_is, get_image, get_one, two_are}
+use Rattle.lmn_verify_laws.proofs.Listed.{all_is, any_is, counted_one, counted_some, get_image, get_one, two_are}
 use Rattle.lmn_verify_laws.proofs.Ready.{body_is, membranes_counted}
 
 -- ---- counts

@@ -2,7 +2,7 @@
 use Rattle.std.proofs.Common.{◌≡◌, ◌≢◌, ◌<◌, ◌+◌, ◌||◌, inl, inr, ◌∙◌, ℕ, zero, suc, Bool, true, false, cond, List, [], ◌∷◌, map, Some, refl, sym, ap, subst, arith, true≢false}
 use Rattle.std.specs.Prelude.{slice_get, count_by}
 use Rattle.std.specs.Option.{option_map}
-use Rattle.std.specs.List.{list_all, list_any, AllByRecursion}
+use Rattle.std.specs.List.{list_all, list_any}
 use Rattle.std.proofs.lemmas.Option.{slice_get-map}
 use Rattle.std.proofs.lemmas.List.Recursion.{is_count_by}
 use Rattle.lmn_base.proofs.Truth.{and_true, either_true}
@@ -48,12 +48,6 @@ any_passes test (y ∷ ys) x (inr i) t = ap (λ b. test y || b) (any_passes test
     or_true : (b : Bool) → (b || true) ≡ true
     or_true true = refl
     or_true false = refl
-
--- what holds of all holds of each
-pub each_is : {A : Type 0} (P : A → Type 0) (xs : List A) (x : A) → AllByRecursion P xs → IsOneOf x xs → P x
-each_is P [] x a i = absurd i
-each_is P (y ∷ ys) x a (inl s) = subst P s a.0
-each_is P (y ∷ ys) x a (inr i) = each_is P ys x a.1 i
 
 -- a test of each two passes of an earlier and a later one
 pub two_are : {A : Type 0} (test : A → A → Bool) (xs : List A) → each_two test xs ≡ true → (j k : ℕ) (x y : A) → j < k → slice_get xs j ≡ Some x → slice_get xs k ≡ Some y → test x y ≡ true

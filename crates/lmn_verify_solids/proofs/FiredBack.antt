@@ -18,7 +18,7 @@ use Rattle.lmn_store_heap.proofs.Replacing.{port_within}
 use Rattle.lmn_ground_parts.specs.Walks.{FoundInside, Net}
 use Rattle.lmn_congruence_splice.specs.Classes.{rising}
 use Rattle.lmn_congruence_splice.specs.Splice.{IsOneOf, of_rule, of_solid}
-use Rattle.lmn_congruence_splice.proofs.Common.{in_append, in_front, in_back}
+use Rattle.lmn_congruence_splice.proofs.Common.{in_append, in_front, in_back, each_is}
 use Rattle.lmn_solid_heads.specs.declared.items.HeadItem.{HeadItem}
 use Rattle.lmn_solid_heads.specs.Heads.{HeadMembrane, atoms_of, membranes_of}
 use Rattle.lmn_instr_code.specs.declared.instr.AtomPort.{AtomPort}
@@ -45,28 +45,9 @@ use Rattle.lmn_verify_solids.specs.Heaps.{graph_of}
 use Rattle.lmn_verify_solids.specs.Firing.{AreCopied, EachRest, Fires, IsPartCopied, Makes, dropped, found, removed}
 use Rattle.lmn_verify_solids.specs.Flats.{HasEachTie, IsFlatCode, IsRemoval}
 use Rattle.lmn_verify_solids.proofs.Fired.{atom_list, mem_list, net_same, new_list, room_list, rule_list}
+use Rattle.lmn_congruence_splice.proofs.Fusions.{Half, even, odd, half, half_rule, half_solid}
 
 -- ---- numbers
-
--- even and odd numbers
-data Half : Type 0 where
-  even : ℕ → Half
-  odd : ℕ → Half
-
-abbrev next_half : Half → Half
-next_half (even x) = odd x
-next_half (odd x) = even (suc x)
-
-abbrev half : ℕ → Half
-half zero = even zero
-half (suc z) = next_half (half z)
-
-half_rule : (x : ℕ) → half (of_rule x) ≡ even x
-half_rule zero = refl
-half_rule (suc x) = let e : suc x + suc x ≡ suc (suc (x + x)) = omega arith in ap half e ∙ ap (λ z. next_half (next_half z)) (half_rule x)
-
-half_solid : (x : ℕ) → half (of_solid x) ≡ odd x
-half_solid x = ap next_half (half_rule x)
 
 -- two numbers as one, of which the first is read back
 abbrev both_as : ℕ → ℕ → ℕ
@@ -97,11 +78,6 @@ second_is (suc k) y zero z e = absurd (omega (arith, e))
 second_is (suc k) y (suc j) z e = second_is k y j z (omega (arith, e))
 
 -- ---- lists
-
-one_holds : {A : Type 0} (P : A → Type 0) (x : A) (xs : List A) → AllByRecursion P xs → IsOneOf x xs → P x
-one_holds P x [] w i = absurd i
-one_holds P x (y ∷ ys) w (inl e) = subst P e w.0
-one_holds P x (y ∷ ys) w (inr i) = one_holds P x ys w.1 i
 
 -- what stands beside a number first
 abbrev lookup : ℕ → List (ℕ × ℕ) → ℕ
@@ -135,7 +111,7 @@ module _ (head : List HeadItem) (body : List BodyItem) (code : Code) (is : IsFla
   all_kept = all_right Kept is.taking (making heads rooms 0 body ++ is.behind) (subst (AllByRecursion Kept) is.whole (f).each)
 
   tied : (i : Instr) → IsOneOf i code.body → Kept i
-  tied i w = one_holds Kept i code.body (f).each w
+  tied i w = each_is Kept code.body i (f).each w
 
   -- ---- links
 
