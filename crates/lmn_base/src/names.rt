@@ -99,7 +99,10 @@ impl Names {
 
     /// The number of a name that isn't too long, where fewer than 2^32 names are held. A name that is held
     /// keeps its number, and takes no memory; a new one goes to the end of the list.
-    /// At want of memory nothing has changed.
+    ///
+    /// # Errors
+    ///
+    /// `NoMemory` where there is no memory for a new name; nothing has changed.
     pub fn put(&mut self, name: &[u8]) -> Result<u32, NoMemory>
         requires short { length name.now ≤ longest_name }
         requires room { length self.old < 2 ^ 32 }

@@ -65,7 +65,11 @@ impl From<NoMemory> for TextFault {
     }
 }
 
-/// Refuses by a code at the first place where it applies, if it applies anywhere.
+/// Refuses by a code at the first place where it applies.
+///
+/// # Errors
+///
+/// The refusal by the code at that place, where there is one.
 pub fn refuse(code: RefusalCode, first: Option<Pos>) -> Result<(), Refusal>
     ensures { (ps : List Pos) → IsFirst ps first → AnswersBy (record { code = code_number code; places = ps } ∷ []) result }
 {
@@ -76,6 +80,10 @@ pub fn refuse(code: RefusalCode, first: Option<Pos>) -> Result<(), Refusal>
 }
 
 /// The first of two answers that is a refusal.
+///
+/// # Errors
+///
+/// The refusal of the first answer, else that of the later one.
 pub fn first_refusal(first: Result<(), Refusal>, later: Result<(), Refusal>) -> Result<(), Refusal>
     ensures { (rows more : List Row) → AnswersBy rows first → AnswersBy more later → AnswersBy (rows ++ more) result }
 {

@@ -69,7 +69,11 @@ impl<T> Rows<T> {
         self.items.as_slice()
     }
 
-    /// Adds an item at the end. At want of memory the item comes back and the rest stays.
+    /// Adds an item at the end.
+    ///
+    /// # Errors
+    ///
+    /// `AllocFailed` with the item where there is no memory for it; the rest stays.
     pub fn offer(&mut self, v: T) -> Result<(), AllocFailed<T>>
         ensures ok { OnOk result (self.new ≡ self.old ++ v ∷ []) }
         ensures err { IfErr result (λ failed. (self.new ≡ self.old) × (failed.value ≡ v)) }
@@ -110,7 +114,11 @@ impl<T> Rows<T> {
 }
 
 impl<T: Drop> Rows<T> {
-    /// Adds an item at the end. At want of memory the item is dropped and the rest stays.
+    /// Adds an item at the end.
+    ///
+    /// # Errors
+    ///
+    /// `NoMemory` where there is no memory for it; it is dropped, and the rest stays.
     pub fn push(&mut self, v: T) -> Result<(), NoMemory>
         ensures ok { OnOk result (self.new ≡ self.old ++ v ∷ []) }
         ensures err { OnErr result (self.new ≡ self.old) }
@@ -120,7 +128,11 @@ impl<T: Drop> Rows<T> {
         Ok(())
     }
 
-    /// Moves the items of `more` to the end. At want of memory they are dropped and the rest stays.
+    /// Moves the items of `more` to the end.
+    ///
+    /// # Errors
+    ///
+    /// `NoMemory` where there is no memory for them; they are dropped, and the rest stays.
     pub fn append(&mut self, more: Rows<T>) -> Result<(), NoMemory>
         ensures ok { OnOk result (self.new ≡ self.old ++ more) }
         ensures err { OnErr result (self.new ≡ self.old) }

@@ -23,6 +23,10 @@ use lmn_solid_heads::HeadItem;
 use std::alloc::Global;
 
 /// The code of a body with these items, beside a head with these items, where the links of the rule are below `links`.
+///
+/// # Errors
+///
+/// `NoMemory` where there is no memory for the code.
 pub fn code_of_body(
     alloc: Global,
     head: &[HeadItem],

@@ -195,6 +195,10 @@ fn add_level(
 }
 
 /// The body of a rule as one flat list, beside a head with these items and names and with `membranes` membranes.
+///
+/// # Errors
+///
+/// `NoMemory` where there is no memory for the list.
 pub fn flatten_body(
     alloc: Global,
     body: &Level,

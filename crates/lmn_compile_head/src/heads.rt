@@ -17,6 +17,10 @@ use lmn_solid_heads::HeadItem;
 use std::alloc::Global;
 
 /// The code of a head with these items, whose links are below `links`, and this guard.
+///
+/// # Errors
+///
+/// `NoMemory` where there is no memory for the code.
 pub fn code_of_items(
     alloc: Global,
     items: &[HeadItem],

@@ -59,7 +59,11 @@ fn alone(alloc: Global, links: usize) -> Result<Rows<usize>, NoMemory>
     Ok(table)
 }
 
-/// A table of the classes into which connectors join links.
+/// A table of the classes into which connectors join links, which are below `links`.
+///
+/// # Errors
+///
+/// `NoMemory` where there is no memory for the table.
 pub fn classes_of(
     alloc: Global,
     connectors: &[(u32, u32)],

@@ -11,7 +11,9 @@ use std::alloc::Global;
 /// Numbers the links of a level by first occurrence in the order in which they are printed, and answers the table of
 /// its links. Before, each link has a key below `keys`, and different links have different keys.
 ///
-/// At want of memory nothing is said of the level.
+/// # Errors
+///
+/// `NoMemory` where there is no memory for the numbers or the table; nothing is said of the level then.
 pub fn number_level(alloc: Global, level: &mut Level, keys: u32) -> Result<Rows<LinkUse>, NoMemory>
     requires { All (λ key. key < keys) (links_of level.old) }
     ensures { IfOk result (NumbersLevel level.old level.new) }
@@ -27,7 +29,9 @@ pub fn number_level(alloc: Global, level: &mut Level, keys: u32) -> Result<Rows<
 /// and answers the table of its links. Before, each link has a key below `keys`, and different links have
 /// different keys.
 ///
-/// At want of memory nothing is said of head and body.
+/// # Errors
+///
+/// `NoMemory` where there is no memory for the numbers or the table; nothing is said of head and body then.
 pub fn number_rule(
     alloc: Global,
     head: &mut Level,

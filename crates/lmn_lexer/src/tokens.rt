@@ -30,7 +30,11 @@ impl Tokens {
         }
     }
 
-    /// Adds a token at the end. Where memory is wanting, or its numbers don't fit 32 bits, the rest stays.
+    /// Adds a token at the end.
+    ///
+    /// # Errors
+    ///
+    /// `NoMemory` where there is no memory for it, or its numbers don't fit 32 bits; the rest stays.
     pub fn push(&mut self, token: Token) -> Result<(), NoMemory>
         ensures ok { OnOk result (self.new ≡ self.old ++ token ∷ []) }
         ensures err { OnErr result (self.new ≡ self.old) }

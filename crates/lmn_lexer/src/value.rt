@@ -47,6 +47,10 @@ fn value(digits: &[u8]) -> u64
 }
 
 /// The name that stands in quotes, where a quote inside is written twice.
+///
+/// # Errors
+///
+/// `NoMemory` where there is no memory for the name.
 pub fn unquoted(alloc: Global, bytes: &[u8]) -> Result<Rows<u8>, NoMemory>
     requires { (name : List ℕ) × IsQuoted bytes.now name }
     ensures { IfOk result (λ found. IsQuoted bytes.now found) }

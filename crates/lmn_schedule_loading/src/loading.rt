@@ -51,11 +51,13 @@ fn put<S: LinkStore>(alloc: Global, plain: &Plain, store: &mut S) -> Result<(), 
 /// Puts the process of a plain into an empty store, if it has at most `size` items: atoms, membranes without the root, and
 /// rules that stand in membranes, connectors not counted. Connectors are fused through any membranes, and a loop of
 /// connectors vanishes.
-///
-/// `Size` comes exactly where the process has more items, and then nothing was changed. After `NoMemory` the store may hold
-/// a part of the process, and is to be let go.
 /// It recurses on the nesting of the plain, which a text has no deeper than 200 brackets; its derived drop does too.
 /// Nothing that runs on a store recurses on the depth of membranes.
+///
+/// # Errors
+///
+/// `Size` exactly where the process has more items; nothing was changed then. `NoMemory` where there is no memory for the
+/// process; the store may hold a part of it then, and is to be let go.
 pub fn load<S: LinkStore>(
     alloc: Global,
     plain: &Plain,

@@ -53,6 +53,10 @@ impl Model for SlabStore {
 
 impl SlabStore {
     /// A store with the root alone.
+    ///
+    /// # Errors
+    ///
+    /// `NoMemory` where there is no memory for the root.
     pub fn new(alloc: Global) -> Result<SlabStore, NoMemory>
         ensures heap { IfOk result (λ s. heap_of s ≡ lone_root) }
         ensures valid { IfOk result (λ s. Valid (heap_of s)) }
