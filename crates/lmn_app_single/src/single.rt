@@ -135,7 +135,12 @@ fn perform_demo<O: Sink>(alloc: Global, n: u64, out: &mut O) -> Ending
     }
 }
 
-/// The text of a file, or how a call ends without one.
+/// The text of the file with a name.
+///
+/// # Errors
+///
+/// How a call ends without it: `Refused` by `E01` where it has more than 4,194,304 bytes, `ReadFault` where the shelf
+/// failed, `NoMemory` where there is no memory for it.
 pub fn fetch<F: Shelf>(alloc: Global, name: &str, shelf: &mut F) -> Result<Rows<u8>, Ending>
     ensures asked { F.asked shelf.new ≡ asked_program name.now (F.asked shelf.old) }
     ensures same { F.told shelf.new ≡ F.told shelf.old }

@@ -2,6 +2,10 @@ use std::env::Env;
 use std::{env, io};
 
 /// The words after the program's name; none where one isn't UTF-8.
+///
+/// # Errors
+///
+/// `OutOfMemory` where there is no memory for them.
 pub fn words_of(rt: &(impl Env + AllocGlobal)) -> Result<Vec<String>, io::ErrorKind> {
     match env::args(rt) {
         Ok(args) => match args.skip(1).collect(rt.alloc()) {

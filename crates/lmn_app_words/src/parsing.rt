@@ -19,11 +19,11 @@ const BUDGET: u64 = 1_000_000;
 const SIZE: u64 = 16_777_216;
 
 impl Command<'_> {
-    /// What the words of the command line ask for; `None` where they aren't of the form. Memory is taken for words of
-    /// the form alone.
-    /// No function `command` stands beside the enum, whose name would differ in case alone. Help, version and the
-    /// program's name are switched off in `clap`, since no word of the form asks for them; defaults stand in the
-    /// code.
+    /// What the words of the command line ask for; `None` where they aren't of the form.
+    ///
+    /// # Errors
+    ///
+    /// `AllocError` where there is no memory, which is taken for words of the form alone.
     pub fn from_words<'w>(
         alloc: Global,
         words: &'w [String],
@@ -77,7 +77,8 @@ fn single_lines<'w>(alloc: Global) -> Result<clap::Command<'w>, AllocError>
     with_compile.subcommand(demo_line(alloc)?)
 }
 
-/// The command line without commands.
+/// The command line without commands. Help, version and the program's name are switched off, since no word of the form asks
+/// for them.
 fn bare_line<'w>(alloc: Global) -> clap::Command<'w>
     ensures { IsLineOfCommand result bare_line }
 {

@@ -280,8 +280,11 @@ fn asked(plain: &Plain) -> usize
     plain.rules.len()
 }
 
-/// The weight of the process of a plain, where every rule is lowered, those in rules too; else the first that isn't is
-/// refused at its place.
+/// The weight of the process of a plain, where every rule is lowered, those in rules too. It takes no memory.
+///
+/// # Errors
+///
+/// The refusal by `E86` at the place of the first rule that isn't lowered.
 pub fn bound(weights: &Weights, plain: &Plain, plans: &[GuardPlan]) -> Result<u64, Refusal>
     requires lists { length weights.now.functors ≡ length weights.now.values }
     requires plans { length plans.now ≡ length plain.now.rules }
