@@ -14,7 +14,7 @@ use Rattle.lmn_io.specs.Counts.{Faults}
 use Rattle.lmn_io.specs.Writing.{WritesText}
 use Rattle.lmn_io.proofs.TakingLemmas.{no_put}
 use Rattle.lmn_weight.specs.declared.weights.Weights.{Weights}
-use Rattle.lmn_weight.specs.Lines.{AreWeightsOf, IsFirstWrong}
+use Rattle.lmn_weight.specs.Lines.{AreWeightsOf, IsFirstWrongWeightLine}
 use Rattle.lmn_weight.specs.Plains.{EachLowered, IsFirstNotLowered, IsOfSize, level_weight}
 use Rattle.lmn_app_words.specs.declared.command.PairKind.TheVariants.{Bound}
 use Rattle.lmn_app_single.specs.declared.ending.Ending.TheVariants.{Done, WriteFault, SecondRefused}
@@ -69,7 +69,7 @@ module _ (laws : AcceptedTexts) (weights_bound : WeightsBound) (program weights 
     part_ended e n bound written = ((bound_line n, (n, bound, refl), written.prefix _ refl), written.rose)
 
   -- a line is wrong
-  pub bad_ended : (r : Refusal) (x : Option (List ℕ)) (count : Faults) → IsFirstWrong later weights r → EndsByLine Bound program weights (SecondRefused Bound r) x x count count
+  pub bad_ended : (r : Refusal) (x : Option (List ℕ)) (count : Faults) → IsFirstWrongWeightLine later weights r → EndsByLine Bound program weights (SecondRefused Bound r) x x count count
   bad_ended r x count wrong = (refl, bad_weight both wrong, inr (inl (ap (λ (q : Refusal). q.code) wrong.refused)), refl, no_put count)
 
   -- a rule isn't lowered

@@ -20,7 +20,7 @@ use Rattle.lmn_flatten_plain.specs.SamePlains.{SameRule}
 use Rattle.lmn_app_reading.specs.Laws.{AreOne}
 use Rattle.lmn_app_reading.proofs.OneRead.{one_acceptance}
 use Rattle.lmn_weight.specs.declared.weights.Weights.{Weights}
-use Rattle.lmn_weight.specs.Lines.{AreWeightsOf, IsFirstWrong}
+use Rattle.lmn_weight.specs.Lines.{AreWeightsOf, IsFirstWrongWeightLine}
 use Rattle.lmn_weight.specs.OneReading.{AlikeForPlains, OneTelling, OneWrongLine, StandsBehind, ToldNotWrong, ToldOrWrong, WeighPlainAlike}
 use Rattle.lmn_weight.specs.Plains.{EachLowered, IsFirstNotLowered, closed_once, is_lowered, level_weight, stands_once}
 use Rattle.lmn_app.specs.Bounds.{IsBound, IsWrongWeights, bad_weight, not_lowered}
@@ -202,7 +202,7 @@ module _ (on : Grounds) where
       lowered later adds once w are (inl each) = inl (level_weight w [] [] plain.top, is_bound on.laws on.bounds program weights names plain plans a later adds once w are each (level_weight w [] [] plain.top) refl)
       lowered later adds once w are (inr (refusal, first)) = inr (refusal, not_lowered (record { names = names; plain = plain; plans = plans; accepted = a; later = later; adds = adds; once = once }) w are first)
 
-      by : (later : List Name) × AddsNames (length weights) names later × IsNames later × (((w : Weights) × AreWeightsOf later weights w) ⊎ ((refusal : Refusal) × IsFirstWrong later weights refusal))
+      by : (later : List Name) × AddsNames (length weights) names later × IsNames later × (((w : Weights) × AreWeightsOf later weights w) ⊎ ((refusal : Refusal) × IsFirstWrongWeightLine later weights refusal))
           → ((n : ℕ) × IsBound program weights n) ⊎ ((refusal : Refusal) × IsWrongWeights program weights refusal)
       by (later, adds, once, inl (w, are)) = lowered later adds once w are (lowered_or_not w plain plans)
       by (later, adds, once, inr (refusal, wrong)) = inr (refusal, bad_weight (record { names = names; plain = plain; plans = plans; accepted = a; later = later; adds = adds; once = once }) wrong)

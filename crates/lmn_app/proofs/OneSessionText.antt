@@ -27,7 +27,7 @@ use Rattle.lmn_debug.specs.declared.session.Stop.TheVariants as stop
 use Rattle.lmn_debug_script.proofs.Cuts.{lines_once}
 use Rattle.lmn_debug_script.proofs.LineLemmas.{numbered_no_show, numbered_once, order_form, step_no_back, until_no_back, until_no_step, until_once}
 use Rattle.lmn_debug_script.proofs.OneOrder.{operator_once, short}
-use Rattle.lmn_debug_script.specs.Scripts.{HasForm, IsNumbered, IsOrder, IsUntil, IsWritable, Says, an_empty_line, cmp_text, of_back, of_show, of_step, of_until, one_order, says_nothing}
+use Rattle.lmn_debug_script.specs.Scripts.{HasForm, IsCountedOrder, IsOrder, IsUntil, IsWritable, Says, an_empty_line, cmp_text, of_back, of_show, of_step, of_until, one_order, says_nothing}
 use Rattle.lmn_debug_script.specs.declared.order.Order.{Order}
 use Rattle.lmn_debug_script.specs.declared.order.Order.TheVariants.{Back, Show, Step, Until}
 use Rattle.lmn_flatten_plain.specs.SolidLines.{as_level}
@@ -72,7 +72,7 @@ module _ (a b : List Name) where
 
   -- ---- one line
 
-  front_of_until : (line item : List ℕ) (op : Cmp) (n : ℕ) (front : List ℕ) (m : ℕ) → IsUntil line item op n → IsNumbered front line m → codes "until " ++ (item ++ (32 ∷ cmp_text op)) ≡ front
+  front_of_until : (line item : List ℕ) (op : Cmp) (n : ℕ) (front : List ℕ) (m : ℕ) → IsUntil line item op n → IsCountedOrder front line m → codes "until " ++ (item ++ (32 ∷ cmp_text op)) ≡ front
   front_of_until line item op n front m u v = sym u.is ∙ (numbered_once u.front front line n m u.numbered v).0
 
   no_empty : (names : List Name) (order : Order) → IsOrder names [] order → ⊥

@@ -13,7 +13,7 @@ use Rattle.lmn_app_single.specs.Requests.{Asked}
 use Rattle.lmn_app_single.specs.Seen.{ShelfSeen, SinkSeen}
 use Rattle.lmn_app_single.specs.Singles.{EndsSingle, IsAnsweredSingle, SingleEnded, concluded, handed_on, no_form, no_memory, performed}
 use Rattle.lmn_app.specs.CallExamples.{taken}
-use Rattle.lmn_app.specs.Calls.{Ends, of_pair, single}
+use Rattle.lmn_app.specs.Calls.{EndedSo, of_pair, single}
 use Rattle.lmn_app.specs.Outcomes.{PairEnded, RequestEnded}
 use Rattle.lmn_app.specs.Promises.{AnswersKeepPromises}
 use Rattle.lmn_app.specs.Requests.{Fetches}
@@ -70,7 +70,7 @@ module _ (words : List (String Global)) (e : Ending) (s t : ShelfSeen) (o p : Si
 -- where nothing was touched before
 module _ (words : List (String Global)) (p : Pair) (asks : Asks words (to_pair p)) (s m t : ShelfSeen) (same : m ≡ s) where
   pub pair_ends : (e : Ending) (o n q : SinkSeen) → n ≡ o → Fetches (to_pair p) m.told m.asked t.asked m.faults t.faults
-      → RequestEnded (to_pair p) e m.told n.told q.told n.faults q.faults m.faults t.faults → Ends words e s t o q
+      → RequestEnded (to_pair p) e m.told n.told q.told n.faults q.faults m.faults t.faults → EndedSo words e s t o q
   pair_ends e o n q is asked h =
       let there : PairEnded p e m t n q = record { cause = h.cause; output = h.output; counts = h.counts; asked = asked } in
       of_pair p asks (subst (λ (x : ShelfSeen). PairEnded p e x t o q) same (subst (λ (y : SinkSeen). PairEnded p e m t y q) is there))
@@ -82,19 +82,19 @@ pair_ended p e s t o q h = record { cause = h.cause; output = h.output; counts =
 -- ---- words
 
 module _ (words : List (String Global)) (e : Ending) (s t : ShelfSeen) (o q : SinkSeen) where
-  ends_asked : Ends words e s t o q → InForm words → Asked words (λ c. Fetches c s.told s.asked t.asked s.faults t.faults) ⊎ ((t.asked ≡ s.asked) × (e ≡ NoMemory))
+  ends_asked : EndedSo words e s t o q → InForm words → Asked words (λ c. Fetches c s.told s.asked t.asked s.faults t.faults) ⊎ ((t.asked ≡ s.asked) × (e ≡ NoMemory))
   ends_asked (single h) form = single_asked words e s t o q h form
   ends_asked (of_pair p asks h) form = inl (to_pair p, asks, h.asked)
 
-  ends_not_asked : Ends words e s t o q → ¬ (InForm words) → t.asked ≡ s.asked
+  ends_not_asked : EndedSo words e s t o q → ¬ (InForm words) → t.asked ≡ s.asked
   ends_not_asked (single h) none = single_not_asked words e s t o q h none
   ends_not_asked (of_pair p asks h) none = absurd (none (to_pair p, asks))
 
-  ends_unasked : Ends words e s t o q → ¬ (InForm words) → (name : List ℕ) → t.faults name ≡ s.faults name
+  ends_unasked : EndedSo words e s t o q → ¬ (InForm words) → (name : List ℕ) → t.faults name ≡ s.faults name
   ends_unasked (single h) none name = single_unasked words e s t o q h none name
   ends_unasked (of_pair p asks h) none name = absurd (none (to_pair p, asks))
 
-  ends_ended : Ends words e s t o q → Asked words (λ c. RequestEnded c e s.told o.told q.told o.faults q.faults s.faults t.faults)
+  ends_ended : EndedSo words e s t o q → Asked words (λ c. RequestEnded c e s.told o.told q.told o.faults q.faults s.faults t.faults)
       ⊎ (¬ (InForm words) × (e ≡ Words) × (q.told ≡ o.told) × (q.faults ≡ o.faults))
   ends_ended (single h) = single_ended words e s t o q h
   ends_ended (of_pair p asks h) = inl (to_pair p, asks, pair_ended p e s t o q h)

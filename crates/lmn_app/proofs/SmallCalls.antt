@@ -11,7 +11,7 @@ use Rattle.lmn_app_single.specs.declared.ending.Ending.TheVariants.{Words}
 use Rattle.lmn_app_single.specs.Endings.{Concludes, status_of}
 use Rattle.lmn_app_single.specs.Singles.{no_form, no_memory, performed}
 use Rattle.lmn_app.specs.CallExamples.{ByteIsToldWritten, FileIsFetchedOnce, NoWordsAreAnswered, OrdersCountSo, QuoteIsRefused, QuoteIsToldRefused, not_put, quote_alone, taken}
-use Rattle.lmn_app.specs.Calls.{Ends, of_pair, single}
+use Rattle.lmn_app.specs.Calls.{EndedSo, of_pair, single}
 use Rattle.lmn_app_single.specs.Seen.{ShelfSeen, SinkSeen}
 use Rattle.lmn_app.specs.TextExamples.{no_plan, small_names, small_plain, small_text}
 use Rattle.lmn_app_single.specs.Texts.{IsRefusal, at_start, by_reading}
@@ -82,7 +82,7 @@ not_formed : ¬ (InForm [])
 not_formed f = f.1
 
 -- how they end
-nothing_asked : (shelf : ShelfSeen) (out : SinkSeen) → Ends [] Words shelf shelf out out
+nothing_asked : (shelf : ShelfSeen) (out : SinkSeen) → EndedSo [] Words shelf shelf out out
 nothing_asked shelf out = single (no_form not_formed refl refl refl)
 
 pub no_words_are_answered : NoWordsAreAnswered
@@ -96,7 +96,7 @@ no_words_are_answered shelf = (
     not_zero e told after is (inl k) = let three = subst (λ x. 0 ≡ status_of x) is k.0 in omega (arith, three)
     not_zero e told after is (inr k) = let five = k.0 in omega (arith, five)
 
-    by_none : (e : Ending) (err_after : SinkSeen) → Ends [] e shelf shelf (taken []) (taken []) → ¬ (Concludes e 0 (Some []) err_after.told not_put err_after.faults)
+    by_none : (e : Ending) (err_after : SinkSeen) → EndedSo [] e shelf shelf (taken []) (taken []) → ¬ (Concludes e 0 (Some []) err_after.told not_put err_after.faults)
     by_none e err_after (single (performed q asks h)) k = not_formed (q, asks)
     by_none e err_after (single (no_memory said is s o)) k = not_formed said
     by_none e err_after (single (no_form n is s o)) k = not_zero e err_after.told err_after.faults is k

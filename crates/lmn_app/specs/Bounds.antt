@@ -7,7 +7,7 @@ use Rattle.lmn_congruence.specs.Translation.{plain_process}
 use Rattle.lmn_reduction.specs.Chains.{Commits}
 use Rattle.lmn_reduction.specs.Commits.{Settles}
 use Rattle.lmn_weight.specs.declared.weights.Weights.{Weights}
-use Rattle.lmn_weight.specs.Lines.{AreWeightsOf, IsFirstWrong}
+use Rattle.lmn_weight.specs.Lines.{AreWeightsOf, IsFirstWrongWeightLine}
 use Rattle.lmn_weight.specs.Plains.{EachLowered, IsFirstNotLowered, level_weight}
 use Rattle.lmn_app.specs.Seconds.{ReadsBoth}
 
@@ -25,7 +25,7 @@ pub record IsBound (program weights : List ℕ) (n : ℕ) : Type 0 where
 --   bad_weight   a line isn't of the form, or names what an earlier one names: code 85 at the first such line
 --   not_lowered  else a rule isn't lowered: code 86 at the place of the first such rule
 pub data IsWrongWeights (program weights : List ℕ) (refusal : Refusal) : Type 0 where
-  bad_weight : (of : ReadsBoth program weights) → IsFirstWrong of.later weights refusal → IsWrongWeights program weights refusal
+  bad_weight : (of : ReadsBoth program weights) → IsFirstWrongWeightLine of.later weights refusal → IsWrongWeights program weights refusal
   not_lowered : (of : ReadsBoth program weights) (by : Weights) → AreWeightsOf of.later weights by → IsFirstNotLowered by of.plain of.plans refusal
       → IsWrongWeights program weights refusal
 

@@ -3,7 +3,7 @@ ghost use Rattle.lmn_app.specs.Fetched.{AsksSecond};
 ghost use Rattle.lmn_app.specs.Requests.{Fetches};
 ghost use Rattle.lmn_app_words.specs.Forms.{pair_of, to_pair};
 ghost use Rattle.lmn_app.specs.Outcomes.{RequestEnded};
-ghost use Rattle.lmn_app.specs.Calls.{Ends, IsAnswered};
+ghost use Rattle.lmn_app.specs.Calls.{EndedSo, IsAnswered};
 ghost use Rattle.lmn_app_single.specs.Seen.{shelf_seen, sink_seen};
 ghost use Rattle.lmn_app_single.specs.Texts.{text_bytes};
 ghost use Rattle.lmn_app_single.specs.Writing.{IsToldAnd, told_under};
@@ -36,7 +36,7 @@ pub fn lmn_main<F: Shelf, O: Sink, E: Sink>(
 
 /// Does what the words ask for, and says how it ended.
 fn act<F: Shelf, O: Sink>(alloc: Global, words: &[String], shelf: &mut F, out: &mut O) -> Ending
-    ensures { Ends words.now result (shelf_seen F.told F.asked F.faults shelf.old) (shelf_seen F.told F.asked F.faults shelf.new)
+    ensures { EndedSo words.now result (shelf_seen F.told F.asked F.faults shelf.old) (shelf_seen F.told F.asked F.faults shelf.new)
         (sink_seen O.told O.faults out.old) (sink_seen O.told O.faults out.new) }
 {
     match act_single(alloc, words, shelf, out) {

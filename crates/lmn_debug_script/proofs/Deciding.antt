@@ -25,7 +25,7 @@ use Rattle.lmn_debug_script.proofs.Cuts.{last_all, lines_of, with_last}
 use Rattle.lmn_debug_script.proofs.LineLemmas.{FrontForm, back_front, front_form, line_unnumbered, line_unsplit, operator_spaceless, step_front, until_front, until_no_back, until_no_step}
 use Rattle.lmn_instr_reading.proofs.NameTexts.{one_name}
 use Rattle.lmn_debug_script.proofs.OneOrder.{quoted_once, short}
-use Rattle.lmn_debug_script.specs.Scripts.{AreLines, HasForm, IsFirstWrong, IsNumbered, MayStand, cmp_text, of_back, of_show, of_step, of_until}
+use Rattle.lmn_debug_script.specs.Scripts.{AreLines, HasForm, IsFirstWrong, IsCountedOrder, MayStand, cmp_text, of_back, of_show, of_step, of_until}
 use Rattle.lmn_lexer.proofs.Common.{bare_or_quoted as written, text_bare, text_quoted}
 use Rattle.lmn_instr_reading.proofs.LinesCommon.{joined_first}
 
@@ -294,9 +294,9 @@ front_decided front n = go (same_bytes front (codes "step")) (same_bytes front (
     go (inr s) (inr b) (inr u) l = inr (nothing s b u)
 
 -- what stands in front of its number makes a line an order
-form_of_front : (front line : List ℕ) (n : ℕ) → IsNumbered front line n → FrontForm front n → HasForm line
-form_of_front front line n w (step_front e l) = of_step (subst (λ f. IsNumbered f line n) e w) l
-form_of_front front line n w (back_front e l) = of_back (subst (λ f. IsNumbered f line n) e w) l
+form_of_front : (front line : List ℕ) (n : ℕ) → IsCountedOrder front line n → FrontForm front n → HasForm line
+form_of_front front line n w (step_front e l) = of_step (subst (λ f. IsCountedOrder f line n) e w) l
+form_of_front front line n w (back_front e l) = of_back (subst (λ f. IsCountedOrder f line n) e w) l
 form_of_front front line n w (until_front item op e f) = of_until {item = item} {op = op} {n = n} (record { front = front; numbered = w; is = e }) f
 
 form_decided : (line : List ℕ) → Decided (HasForm line)

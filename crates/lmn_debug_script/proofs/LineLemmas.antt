@@ -25,7 +25,7 @@ use Rattle.lmn_instr_reading.proofs.NumberLemmas.{digits_of, no_space, small_num
 use Rattle.lmn_instr_reading.specs.Lines.{HasNoSpace, IsOneLine, joined, number_written}
 use Rattle.lmn_debug_script.specs.Asked.{AreAskedWith, IsAskedWith}
 use Rattle.lmn_debug_script.specs.Lines.{Reads, TakesLine}
-use Rattle.lmn_debug_script.specs.Scripts.{AreLines, AreOrdersOf, HasForm, IsFirstWrong, IsNumbered, IsOrder, IsUntil, IsWritable, MayStand, Says, an_empty_line, cmp_text, of_back, of_show, of_step, of_until, one_order, says_nothing}
+use Rattle.lmn_debug_script.specs.Scripts.{AreLines, AreOrdersOf, HasForm, IsFirstWrong, IsCountedOrder, IsOrder, IsUntil, IsWritable, MayStand, Says, an_empty_line, cmp_text, of_back, of_show, of_step, of_until, one_order, says_nothing}
 use Rattle.lmn_debug_script.specs.declared.order.Order.{Order}
 use Rattle.lmn_debug_script.specs.declared.order.Order.TheVariants.{Back, Show, Step, Until}
 
@@ -53,11 +53,11 @@ operator_spaceless Ge = spaceless (codes ">=") refl
 operator_spaceless Eq = spaceless (codes "=:=") refl
 operator_spaceless Ne = spaceless (codes "=\\=") refl
 
-digits_spaceless : (front line : List ℕ) (n : ℕ) (w : IsNumbered front line n) → HasNoSpace w.digits
+digits_spaceless : (front line : List ℕ) (n : ℕ) (w : IsCountedOrder front line n) → HasNoSpace w.digits
 digits_spaceless front line n w = no_space w.digits (digits_of w.digits n w.number).0
 
 -- what stands in front of the number of a line, and the number, are known by the line
-pub numbered_once : (front other line : List ℕ) (m n : ℕ) → IsNumbered front line m → IsNumbered other line n → (front ≡ other) × (m ≡ n)
+pub numbered_once : (front other line : List ℕ) (m n : ℕ) → IsCountedOrder front line m → IsCountedOrder other line n → (front ≡ other) × (m ≡ n)
 numbered_once front other line m n v w =
     let r = last_split front v.digits other w.digits (digits_spaceless front line m v) (digits_spaceless other line n w) (sym v.is ∙ w.is) in
     (r.0, same_Some m n (sym v.number ∙ ap number_written r.1 ∙ w.number))
@@ -67,7 +67,7 @@ pub until_once : (item other : List ℕ) (op or : Cmp) → item ++ (32 ∷ cmp_t
 until_once item other op or e = last_split item (cmp_text op) other (cmp_text or) (operator_spaceless op) (operator_spaceless or) e
 
 -- a line with a number isn't `show`
-pub numbered_no_show : (front line : List ℕ) (n : ℕ) → IsNumbered front line n → line ≡ codes "show" → ⊥
+pub numbered_no_show : (front line : List ℕ) (n : ℕ) → IsCountedOrder front line n → line ≡ codes "show" → ⊥
 numbered_no_show front line n w e = no_space_within front w.digits (subst HasNoSpace (sym e ∙ w.is) (spaceless (codes "show") refl))
 
 heads_differ : (x y : ℕ) (xs ys : List ℕ) → x ≢ y → x ∷ xs ≡ y ∷ ys → ⊥
@@ -90,14 +90,14 @@ pub data FrontForm (front : List ℕ) (n : ℕ) : Type 0 where
   until_front : (item : List ℕ) (op : Cmp) → front ≡ codes "until " ++ (item ++ (32 ∷ cmp_text op)) → IsFunctorText item → FrontForm front n
 
 -- a line has one of these
-pub front_form : (front line : List ℕ) (n : ℕ) → IsNumbered front line n → HasForm line → FrontForm front n
+pub front_form : (front line : List ℕ) (n : ℕ) → IsCountedOrder front line n → HasForm line → FrontForm front n
 front_form front line n w (of_step {n = m} v l) = let r = numbered_once front (codes "step") line n m w v in step_front r.0 (subst (λ k. 1 ≤ k) (sym r.1) l)
 front_form front line n w (of_back {n = m} v l) = let r = numbered_once front (codes "back") line n m w v in back_front r.0 (subst (λ k. 1 ≤ k) (sym r.1) l)
 front_form front line n w (of_until {item = item} {op = op} {n = m} u f) = until_front item op ((numbered_once front u.front line n m w u.numbered).0 ∙ u.is) f
 front_form front line n w (of_show e) = absurd (numbered_no_show front line n w e)
 
 -- a line whose number stands behind something else
-pub front_unknown : (front line : List ℕ) (n : ℕ) → front ≢ codes "step" → front ≢ codes "back" → ((rest : List ℕ) → front ≢ codes "until " ++ rest) → IsNumbered front line n → HasForm line → ⊥
+pub front_unknown : (front line : List ℕ) (n : ℕ) → front ≢ codes "step" → front ≢ codes "back" → ((rest : List ℕ) → front ≢ codes "until " ++ rest) → IsCountedOrder front line n → HasForm line → ⊥
 front_unknown front line n s b u w h = go (front_form front line n w h)
   where
     go : FrontForm front n → ⊥
@@ -106,7 +106,7 @@ front_unknown front line n s b u w h = go (front_form front line n w h)
     go (until_front item op e f) = u (item ++ (32 ∷ cmp_text op)) e
 
 -- what stands behind `until ` in front of that number
-pub wish_form : (wish line : List ℕ) (n : ℕ) → IsNumbered (codes "until " ++ wish) line n → HasForm line → (item : List ℕ) × (op : Cmp) × (wish ≡ item ++ (32 ∷ cmp_text op)) × IsFunctorText item
+pub wish_form : (wish line : List ℕ) (n : ℕ) → IsCountedOrder (codes "until " ++ wish) line n → HasForm line → (item : List ℕ) × (op : Cmp) × (wish ≡ item ++ (32 ∷ cmp_text op)) × IsFunctorText item
 wish_form wish line n w h = go (front_form (codes "until " ++ wish) line n w h)
   where
     go : FrontForm (codes "until " ++ wish) n → (item : List ℕ) × (op : Cmp) × (wish ≡ item ++ (32 ∷ cmp_text op)) × IsFunctorText item
@@ -115,11 +115,11 @@ wish_form wish line n w h = go (front_form (codes "until " ++ wish) line n w h)
     go (until_front item op e f) = (item, op, append_cancel_left (codes "until ") wish (item ++ (32 ∷ cmp_text op)) e, f)
 
 -- a wish without a space is none
-pub wish_unsplit : (wish line : List ℕ) (n : ℕ) → HasNoSpace wish → IsNumbered (codes "until " ++ wish) line n → HasForm line → ⊥
+pub wish_unsplit : (wish line : List ℕ) (n : ℕ) → HasNoSpace wish → IsCountedOrder (codes "until " ++ wish) line n → HasForm line → ⊥
 wish_unsplit wish line n none w h = let p = wish_form wish line n w h in no_space_within p.0 (cmp_text p.1) (subst HasNoSpace p.2 none)
 
 -- one with a space is split there
-pub wish_parts : (wish line u v : List ℕ) (n : ℕ) → wish ≡ u ++ 32 ∷ v → HasNoSpace v → IsNumbered (codes "until " ++ wish) line n → HasForm line → (op : Cmp) × (cmp_text op ≡ v) × IsFunctorText u
+pub wish_parts : (wish line u v : List ℕ) (n : ℕ) → wish ≡ u ++ 32 ∷ v → HasNoSpace v → IsCountedOrder (codes "until " ++ wish) line n → HasForm line → (op : Cmp) × (cmp_text op ≡ v) × IsFunctorText u
 wish_parts wish line u v n e none w h =
     let p = wish_form wish line n w h in
     let r = last_split p.0 (cmp_text p.1) u v (operator_spaceless p.1) none (sym p.2 ∙ e) in
@@ -129,7 +129,7 @@ wish_parts wish line u v n e none w h =
 pub line_unnumbered : (line u v : List ℕ) → line ≡ u ++ 32 ∷ v → HasNoSpace v → number_written v ≡ None → (line ≡ codes "show" → ⊥) → HasForm line → ⊥
 line_unnumbered line u v e none unwritten s h = go h
   where
-    numbered : (front : List ℕ) (n : ℕ) → IsNumbered front line n → ⊥
+    numbered : (front : List ℕ) (n : ℕ) → IsCountedOrder front line n → ⊥
     numbered front n w =
         let r = last_split front w.digits u v (digits_spaceless front line n w) none (sym w.is ∙ e) in
         let z : Some n ≡ None = sym w.number ∙ ap number_written r.1 ∙ unwritten in
@@ -145,7 +145,7 @@ line_unnumbered line u v e none unwritten s h = go h
 pub line_unsplit : (line : List ℕ) → HasNoSpace line → (line ≡ codes "show" → ⊥) → HasForm line → ⊥
 line_unsplit line none s h = go h
   where
-    numbered : (front : List ℕ) (n : ℕ) → IsNumbered front line n → ⊥
+    numbered : (front : List ℕ) (n : ℕ) → IsCountedOrder front line n → ⊥
     numbered front n w = no_space_within front w.digits (subst HasNoSpace w.is none)
 
     go : HasForm line → ⊥

@@ -21,7 +21,7 @@ use Rattle.lmn_instr_code.specs.Listings.{functor_text}
 use Rattle.lmn_lexer.specs.NameText.{quoted, quoted_byte}
 use Rattle.lmn_debug_script.proofs.Cuts.{lines_once}
 use Rattle.lmn_debug_script.proofs.LineLemmas.{numbered_no_show, numbered_once, order_form, step_no_back, until_no_back, until_no_step, until_once}
-use Rattle.lmn_debug_script.specs.Scripts.{AreOrdersOf, IsNumbered, IsOrder, IsUntil, IsWritable, HasForm, of_back, of_show, of_step, of_until, Says, an_empty_line, cmp_text, one_order, says_nothing}
+use Rattle.lmn_debug_script.specs.Scripts.{AreOrdersOf, IsCountedOrder, IsOrder, IsUntil, IsWritable, HasForm, of_back, of_show, of_step, of_until, Says, an_empty_line, cmp_text, one_order, says_nothing}
 use Rattle.lmn_debug_script.specs.declared.order.Order.{Order}
 use Rattle.lmn_debug_script.specs.declared.order.Order.TheVariants.{Back, Show, Step, Until}
 use Rattle.lmn_debug_script.specs.declared.reading.TheConstants.{OPERATORS}
@@ -63,13 +63,13 @@ functor_once names f g once h a k b e =
 
 -- ---- orders
 
-until_front_of : (line item : List ℕ) (op : Cmp) (n : ℕ) (other : List ℕ) (m : ℕ) → IsUntil line item op n → IsNumbered other line m → codes "until " ++ (item ++ (32 ∷ cmp_text op)) ≡ other
+until_front_of : (line item : List ℕ) (op : Cmp) (n : ℕ) (other : List ℕ) (m : ℕ) → IsUntil line item op n → IsCountedOrder other line m → codes "until " ++ (item ++ (32 ∷ cmp_text op)) ≡ other
 until_front_of line item op n other m u v = sym u.is ∙ (numbered_once u.front other line n m u.numbered v).0
 
-step_no_until : (line : List ℕ) (m : ℕ) (item : List ℕ) (op : Cmp) (n : ℕ) → IsNumbered (codes "step") line m → IsUntil line item op n → ⊥
+step_no_until : (line : List ℕ) (m : ℕ) (item : List ℕ) (op : Cmp) (n : ℕ) → IsCountedOrder (codes "step") line m → IsUntil line item op n → ⊥
 step_no_until line m item op n v u = until_no_step (item ++ (32 ∷ cmp_text op)) (until_front_of line item op n (codes "step") m u v)
 
-back_no_until : (line : List ℕ) (m : ℕ) (item : List ℕ) (op : Cmp) (n : ℕ) → IsNumbered (codes "back") line m → IsUntil line item op n → ⊥
+back_no_until : (line : List ℕ) (m : ℕ) (item : List ℕ) (op : Cmp) (n : ℕ) → IsCountedOrder (codes "back") line m → IsUntil line item op n → ⊥
 back_no_until line m item op n v u = until_no_back (item ++ (32 ∷ cmp_text op)) (until_front_of line item op n (codes "back") m u v)
 
 -- a list with a last item isn't empty

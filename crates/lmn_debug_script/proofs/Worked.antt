@@ -12,13 +12,13 @@ use Rattle.lmn_debug_script.proofs.Cuts.{none_wrong, one_wrong}
 use Rattle.lmn_debug_script.proofs.LineLemmas.{FrontForm, back_front, front_form, front_unknown, line_unnumbered, operator_spaceless, says_may, step_front, until_front, wish_form, without}
 use Rattle.lmn_debug_script.proofs.OneOrder.{orders_alike}
 use Rattle.lmn_debug_script.specs.Examples.{EightDigits, FirstIsNotWrong, NoFunctor, NoOperator, NoneWrong, NotOtherOrders, SecondIsWrong, SevenDigits, SmallOrders, SpaceBehind, SpaceInQuotes, TwoSpaces, a_functor, at_line, one_name, small_script, wrong_script}
-use Rattle.lmn_debug_script.specs.Scripts.{HasForm, IsNumbered, MayStand, Says, an_empty_line, cmp_text, of_show, of_step, of_until, one_order, says_nothing}
+use Rattle.lmn_debug_script.specs.Scripts.{HasForm, IsCountedOrder, MayStand, Says, an_empty_line, cmp_text, of_show, of_step, of_until, one_order, says_nothing}
 use Rattle.lmn_debug_script.specs.declared.order.Order.{Order}
 use Rattle.lmn_debug_script.specs.declared.order.Order.TheVariants.{Step, Until}
 
 -- ---- lines
 
-no_step : (line : List ℕ) → IsNumbered (codes "step") line 0 → HasForm line → ⊥
+no_step : (line : List ℕ) → IsCountedOrder (codes "step") line 0 → HasForm line → ⊥
 no_step line w h = go (front_form (codes "step") line 0 w h)
   where
     go : FrontForm (codes "step") 0 → ⊥

@@ -17,7 +17,7 @@ use Rattle.lmn_debug_script.specs.declared.order.Order.TheVariants.{Step, Back, 
 -- ---- one line
 
 -- a word, a space, and a number of at most 1,000,000 in 1 to 7 digits
-pub record IsNumbered (word line : List ℕ) (n : ℕ) : Type 0 where
+pub record IsCountedOrder (word line : List ℕ) (n : ℕ) : Type 0 where
   pub digits : List ℕ
   pub number : number_written digits ≡ Some n
   pub is : line ≡ word ++ (32 ∷ digits)
@@ -34,7 +34,7 @@ cmp_text Ne = codes "=\\="
 -- `until`, what stands for a functor, an operator, and a number, with one space between them
 pub record IsUntil (line item : List ℕ) (op : Cmp) (n : ℕ) : Type 0 where
   pub front : List ℕ
-  pub numbered : IsNumbered front line n
+  pub numbered : IsCountedOrder front line n
   pub is : front ≡ codes "until " ++ (item ++ (32 ∷ cmp_text op))
 
 -- a label that can be written: a name of the list of at most 255 bytes, or an integer of 64 bits
@@ -44,15 +44,15 @@ IsWritable names (Int z) = IsIn64Bits z
 
 -- a line is this order, where its functor is read by these names
 abbrev pub IsOrder : List (List ℕ) → List ℕ → Order → Type 0
-IsOrder names line (Step n) = IsNumbered (codes "step") line n × (1 ≤ n)
-IsOrder names line (Back n) = IsNumbered (codes "back") line n × (1 ≤ n)
+IsOrder names line (Step n) = IsCountedOrder (codes "step") line n × (1 ≤ n)
+IsOrder names line (Back n) = IsCountedOrder (codes "back") line n × (1 ≤ n)
 IsOrder names line (Until f op n) = IsUntil line (functor_text names f) op n × IsWritable names f.label × (f.arity ≤ most_links)
 IsOrder names line Show = line ≡ codes "show"
 
 -- a line has the form of an order
 pub data HasForm (line : List ℕ) : Type 0 where
-  of_step : {n : ℕ} → IsNumbered (codes "step") line n → 1 ≤ n → HasForm line
-  of_back : {n : ℕ} → IsNumbered (codes "back") line n → 1 ≤ n → HasForm line
+  of_step : {n : ℕ} → IsCountedOrder (codes "step") line n → 1 ≤ n → HasForm line
+  of_back : {n : ℕ} → IsCountedOrder (codes "back") line n → 1 ≤ n → HasForm line
   of_until : {item : List ℕ} {op : Cmp} {n : ℕ} → IsUntil line item op n → IsFunctorText item → HasForm line
   of_show : line ≡ codes "show" → HasForm line
 

@@ -8,7 +8,7 @@ ghost use Rattle.lmn_lexer.specs.Gaps.{EndsLine};
 ghost use Rattle.lmn_instr_reading.specs.Lines.{IsOneLine};
 ghost use Rattle.lmn_debug_script.specs.Asked.{AreAskedWith};
 ghost use Rattle.lmn_debug_script.specs.Lines.{Reads, TakesLine};
-ghost use Rattle.lmn_debug_script.specs.Scripts.{AreOrdersOf, IsFirstWrong, IsNumbered, cmp_text};
+ghost use Rattle.lmn_debug_script.specs.Scripts.{AreOrdersOf, IsFirstWrong, IsCountedOrder, cmp_text};
 
 use crate::order::Order;
 use lmn_base::{Cmp, Names, NoMemory, Pos, RefusalCode, Rows, TextFault};
@@ -56,7 +56,7 @@ fn is_text(bytes: &[u8], word: &[u8]) -> bool
 /// The order `until`, where this stands between the word and the last space of a line, and the number behind that space.
 fn read_until(wish: &[u8], n: u64, names: &mut Names) -> Result<Option<Order>, NoMemory>
     requires { length names.old < 2 ^ 32 }
-    ensures order { IfOk result (λ found. (line : List ℕ) → IsNumbered (codes "until " ++ wish.now) line n → Reads names.new line found) }
+    ensures order { IfOk result (λ found. (line : List ℕ) → IsCountedOrder (codes "until " ++ wish.now) line n → Reads names.new line found) }
     ensures names { AddsNames 1 names.old names.new }
 {
     let at = match last_space(wish) {
@@ -75,7 +75,7 @@ fn read_until(wish: &[u8], n: u64, names: &mut Names) -> Result<Option<Order>, N
 /// The order of a line of which this stands in front of the last space, and the number behind it.
 fn read_numbered(front: &[u8], n: u64, names: &mut Names) -> Result<Option<Order>, NoMemory>
     requires { length names.old < 2 ^ 32 }
-    ensures order { IfOk result (λ found. (line : List ℕ) → IsNumbered front.now line n → Reads names.new line found) }
+    ensures order { IfOk result (λ found. (line : List ℕ) → IsCountedOrder front.now line n → Reads names.new line found) }
     ensures names { AddsNames 1 names.old names.new }
 {
     if is_text(front, b"step") {

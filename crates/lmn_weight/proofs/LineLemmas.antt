@@ -22,7 +22,7 @@ use Rattle.lmn_instr_reading.specs.Lines.{HasNoSpace, IsOneLine, joined, number_
 use Rattle.lmn_weight.proofs.FunctorTexts.{text_stays}
 use Rattle.lmn_weight.specs.declared.told.Told.{Told}
 use Rattle.lmn_weight.specs.declared.weights.Weights.{Weights}
-use Rattle.lmn_weight.specs.Lines.{AreWeightsOf, HasText, IsFirstWrong, IsNarrow, IsNarrowLabel, IsIntegerText, IsNamed, IsTold, IsWeightLine, MayBeNamed, TakesFunctor, TakesItem, TakesLine, Tell, integers, is_listed, line_more, membranes, no_line, nothing_told, of_functor, or_nothing}
+use Rattle.lmn_weight.specs.Lines.{AreWeightsOf, HasText, IsFirstWrongWeightLine, IsNarrow, IsNarrowLabel, IsIntegerText, IsNamed, IsTold, IsWeightLine, MayBeNamed, TakesFunctor, TakesItem, TakesLine, Tell, integers, is_listed, line_more, membranes, no_line, nothing_told, of_functor, or_nothing}
 use Rattle.lmn_weight.specs.Plains.{AreSmall, is_integer, is_integer_label}
 
 -- ---- names that are put
@@ -169,7 +169,7 @@ reached_more before names later text at number end old new r h l e one a true is
 
 -- a line that can't be told is the first that is wrong
 pub reached_wrong : (before names later : List (List ℕ)) (text : List ℕ) (at number end : ℕ) (old new : Told) (refusal : Refusal) → Reached before names text at number old → at ≤ end → end < length text → get_or text end 0 ≡ 10
-    → IsOneLine (take (end - at) (drop at text)) → AddsNames 1 names later → (b : Bool) → b ≡ false → TakesLine later (take (end - at) (drop at text)) old new b → refusal ≡ record { code = 85; pos = record { line = number; column = 1 } } → IsFirstWrong later text refusal
+    → IsOneLine (take (end - at) (drop at text)) → AddsNames 1 names later → (b : Bool) → b ≡ false → TakesLine later (take (end - at) (drop at text)) old new b → refusal ≡ record { code = 85; pos = record { line = number; column = 1 } } → IsFirstWrongWeightLine later text refusal
 reached_wrong before names later text at number end old new refusal r h l e one a true is t f = absurd (cc)
 reached_wrong before names later text at number end old new refusal r h l e one a false is t f = record {
   lines = r.lines;
@@ -192,7 +192,7 @@ reached_wrong before names later text at number end old new refusal r h l e one 
 
 -- so is one without a line feed
 pub reached_unended : (before names : List (List ℕ)) (text : List ℕ) (at number : ℕ) (told : Told) (refusal : Refusal) → Reached before names text at number told → at < length text → IsOneLine (drop at text)
-    → refusal ≡ record { code = 85; pos = record { line = number; column = 1 } } → IsFirstWrong names text refusal
+    → refusal ≡ record { code = 85; pos = record { line = number; column = 1 } } → IsFirstWrongWeightLine names text refusal
 reached_unended before names text at number told refusal r l one f = record {
   lines = r.lines;
   apart = r.apart;

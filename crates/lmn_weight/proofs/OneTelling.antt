@@ -22,7 +22,7 @@ use Rattle.lmn_instr_reading.specs.Lines.{IsOneLine, joined, number_written}
 use Rattle.lmn_weight.proofs.FunctorTexts.{may_be_named, one_functor, text_before, text_stays}
 use Rattle.lmn_weight.specs.declared.told.Told.{Told}
 use Rattle.lmn_weight.specs.declared.weights.Weights.{Weights}
-use Rattle.lmn_weight.specs.Lines.{AreWeightsOf, HasText, IsFirstWrong, IsNamed, IsTold, IsWeightLine, IsWrong, MayBeNamed, Tell, integers, is_listed, line_more, membranes, no_line, of_functor, or_nothing}
+use Rattle.lmn_weight.specs.Lines.{AreWeightsOf, HasText, IsFirstWrongWeightLine, IsNamed, IsTold, IsWeightLine, IsWrongWeightLine, MayBeNamed, Tell, integers, is_listed, line_more, membranes, no_line, of_functor, or_nothing}
 use Rattle.lmn_weight.specs.OneReading.{AreAlike, OneTelling, OneWrongLine, StandsBehind, ToldNotWrong}
 use Rattle.lmn_weight.specs.Plains.{is_integer, listed_weight}
 use Rattle.lmn_instr_reading.proofs.LinesCommon.{feed_within as no_feed_within, joined_first as first_joined}
@@ -215,7 +215,7 @@ module _ (names others : List (List ℕ)) (once : AllPairs (λ m n. m ≢ n) nam
       tell_front h xs z end.0 parts.0
 
   -- no more lines tell than stand before the first that is wrong
-  told_within : (text : List ℕ) (refusal : Refusal) (w : IsFirstWrong others text refusal) (ls : List (List ℕ)) (rest : List ℕ) (t : Told) → AllByRecursion IsOneLine ls → Tell names ls t
+  told_within : (text : List ℕ) (refusal : Refusal) (w : IsFirstWrongWeightLine others text refusal) (ls : List (List ℕ)) (rest : List ℕ) (t : Told) → AllByRecursion IsOneLine ls → Tell names ls t
       → joined ls ++ rest ≡ text → length ls ≤ length w.lines
   told_within text refusal w ls rest t one tell e = by (cases_lt (length w.lines) (length ls))
     where
@@ -223,7 +223,7 @@ module _ (names others : List (List ℕ)) (once : AllPairs (λ m n. m ≢ n) nam
       beyond [] is text l = let n = ap length is in let s = length-append w.lines [] in omega (arith, n, s, l)
       beyond (z ∷ zs) is text l = at w.wrong
         where
-          at : IsWrong others w.told w.line w.rest → ⊥
+          at : IsWrongWeightLine others w.told w.line w.rest → ⊥
           at (inl (some, none)) =
               let whole : w.line ≡ z ++ 10 ∷ (joined zs ++ rest) = sym (append-nil w.line) ∙ ap (λ r. w.line ++ r) (sym none) ∙ text ∙ first_joined z zs rest in
               no_feed_within z (joined zs ++ rest) (subst IsOneLine whole w.one)
@@ -248,7 +248,7 @@ told_not_wrong later others is also text w refusal are wrong =
     let none = two_empty wrong.line wrong.rest (two_empty (joined f.0) (wrong.line ++ wrong.rest) (sym f.2)).1 in
     at wrong.wrong none
   where
-    at : IsWrong others wrong.told wrong.line wrong.rest → (wrong.line ≡ []) × (wrong.rest ≡ []) → ⊥
+    at : IsWrongWeightLine others wrong.told wrong.line wrong.rest → (wrong.line ≡ []) × (wrong.rest ≡ []) → ⊥
     at (inl (some, none)) h = some h.0
     at (inr (more, behind, never)) h = absurd (let z = sym behind ∙ h.1 in cc)
 

@@ -25,7 +25,7 @@ use Rattle.lmn_instr_reading.proofs.NameTexts.{quoted_one}
 use Rattle.lmn_weight.proofs.LineLemmas.{Reached, item_taken, line_taken, line_unsplit, line_untaken, reached_all, reached_more, reached_start, reached_unended, reached_wrong}
 use Rattle.lmn_weight.specs.declared.told.Told.{Told}
 use Rattle.lmn_weight.specs.declared.weights.Weights.{Weights}
-use Rattle.lmn_weight.specs.Lines.{AreWeightsOf, HasText, IsFirstWrong, MayBeNamed, TakesFunctor, TakesItem, TakesLine, integers, is_listed, membranes, nothing_told, or_nothing}
+use Rattle.lmn_weight.specs.Lines.{AreWeightsOf, HasText, IsFirstWrongWeightLine, MayBeNamed, TakesFunctor, TakesItem, TakesLine, integers, is_listed, membranes, nothing_told, or_nothing}
 use Rattle.lmn_weight.specs.OneReading.{ToldOrWrong}
 use Rattle.lmn_weight.specs.Plains.{is_integer}
 use Rattle.lmn_lexer.proofs.Common.{bare_or_quoted, bare_unquoted, text_bare as bare_text, text_quoted as quoted_text}
@@ -395,7 +395,7 @@ module _ (names : List (List ℕ)) (is : IsNames names) (t : Told) where
 module _ (before : List (List ℕ)) (text : List ℕ) where
   -- what is told in the end, or refused
   abbrev Ends : Type 0
-  Ends = (later : List (List ℕ)) × AddsNames (length text) before later × IsNames later × (((w : Weights) × AreWeightsOf later text w) ⊎ ((refusal : Refusal) × IsFirstWrong later text refusal))
+  Ends = (later : List (List ℕ)) × AddsNames (length text) before later × IsNames later × (((w : Weights) × AreWeightsOf later text w) ⊎ ((refusal : Refusal) × IsFirstWrongWeightLine later text refusal))
 
   abbrev at_line : ℕ → Refusal
   at_line n = record { code = 85; pos = record { line = n; column = 1 } }

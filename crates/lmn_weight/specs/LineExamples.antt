@@ -3,7 +3,7 @@ use Rattle.std.specs.Prelude.{ℕ, List, [], ◌∷◌, ◌++◌, codes}
 use Rattle.lmn_base.specs.declared.functor.Label.TheVariants.{Name}
 use Rattle.lmn_base.specs.Names.{first_names}
 use Rattle.lmn_weight.specs.declared.weights.Weights.{Weights}
-use Rattle.lmn_weight.specs.Lines.{AreWeightsOf, HasText, IsFirstWrong}
+use Rattle.lmn_weight.specs.Lines.{AreWeightsOf, HasText, IsFirstWrongWeightLine}
 use Rattle.lmn_weight.specs.OneReading.{AreAlike, StandsBehind}
 
 -- a name more
@@ -20,7 +20,7 @@ ThreeAreTold = AreWeightsOf (names_with (codes "a")) (codes "a/0 1\nint 2\n{} 3\
 
 -- an atom has at most 255 links
 abbrev pub WideIsWrong : Type 0
-WideIsWrong = IsFirstWrong first_names (codes "a/300 1\n") (record { code = 85; pos = record { line = 1; column = 1 } })
+WideIsWrong = IsFirstWrongWeightLine first_names (codes "a/300 1\n") (record { code = 85; pos = record { line = 1; column = 1 } })
 
 -- a functor of a name that the list has has a text, and one of so many links hasn't
 abbrev pub SomeHaveText : Type 0

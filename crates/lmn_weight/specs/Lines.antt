@@ -126,13 +126,13 @@ pub record AreWeightsOf (names : List (List ℕ)) (text : List ℕ) (w : Weights
   pub membrane : w.membrane ≡ or_nothing told.membrane
 
 -- what is wrong with a line: it has no line feed, or whatever it may name is named already, as where it names nothing
-abbrev pub IsWrong : List (List ℕ) → Told → List ℕ → List ℕ → Type 0
-IsWrong names t line rest =
+abbrev pub IsWrongWeightLine : List (List ℕ) → Told → List ℕ → List ℕ → Type 0
+IsWrongWeightLine names t line rest =
     ((line ≢ []) × (rest ≡ []))
     ⊎ ((more : List ℕ) × (rest ≡ 10 ∷ more) × ((item : List ℕ) (n : ℕ) → IsWeightLine line item n → MayBeNamed item → IsNamed names t item))
 
 -- E85: the first line that is wrong
-pub record IsFirstWrong (names : List (List ℕ)) (text : List ℕ) (refusal : Refusal) : Type 0 where
+pub record IsFirstWrongWeightLine (names : List (List ℕ)) (text : List ℕ) (refusal : Refusal) : Type 0 where
   pub lines : List (List ℕ)
   pub apart : AllByRecursion IsOneLine lines
   pub told : Told
@@ -141,5 +141,5 @@ pub record IsFirstWrong (names : List (List ℕ)) (text : List ℕ) (refusal : R
   pub rest : List ℕ
   pub one : IsOneLine line
   pub text_is : joined lines ++ (line ++ rest) ≡ text
-  pub wrong : IsWrong names told line rest
+  pub wrong : IsWrongWeightLine names told line rest
   pub refused : refusal ≡ record { code = 85; pos = record { line = length lines + 1; column = 1 } }

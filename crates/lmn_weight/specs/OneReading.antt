@@ -9,7 +9,7 @@ use Rattle.lmn_instr_reading.specs.Reading.{AddsNames}
 use Rattle.lmn_guards.specs.declared.plan.GuardPlan.{GuardPlan}
 use Rattle.lmn_instr_code.specs.Labels.{HasLabel}
 use Rattle.lmn_weight.specs.declared.weights.Weights.{Weights}
-use Rattle.lmn_weight.specs.Lines.{AreWeightsOf, IsFirstWrong}
+use Rattle.lmn_weight.specs.Lines.{AreWeightsOf, IsFirstWrongWeightLine}
 use Rattle.lmn_weight.specs.Plains.{functor_weight, is_lowered, level_weight}
 
 -- A list of names, of which none stands twice, begins with all of another.
@@ -32,17 +32,17 @@ OneTelling = (names later others : List (List ℕ)) → StandsBehind names later
 -- no line of a text that tells weights is wrong
 abbrev pub ToldNotWrong : Type 0
 ToldNotWrong = (later others : List (List ℕ)) → IsNames later → IsNames others → (text : List ℕ) (w : Weights) (refusal : Refusal) → AreWeightsOf later text w
-    → ¬ (IsFirstWrong others text refusal)
+    → ¬ (IsFirstWrongWeightLine others text refusal)
 
 -- one line at most is the first wrong one
 abbrev pub OneWrongLine : Type 0
-OneWrongLine = (later others : List (List ℕ)) → IsNames later → IsNames others → (text : List ℕ) (refusal other : Refusal) → IsFirstWrong later text refusal
-    → IsFirstWrong others text other → refusal ≡ other
+OneWrongLine = (later others : List (List ℕ)) → IsNames later → IsNames others → (text : List ℕ) (refusal other : Refusal) → IsFirstWrongWeightLine later text refusal
+    → IsFirstWrongWeightLine others text other → refusal ≡ other
 
 -- Each text tells weights, or a line of it is wrong, by some list of names behind a given one.
 abbrev pub ToldOrWrong : Type 0
 ToldOrWrong = (names : List (List ℕ)) → IsNames names → (text : List ℕ) → (later : List (List ℕ)) × AddsNames (length text) names later × IsNames later
-    × (((w : Weights) × AreWeightsOf later text w) ⊎ ((refusal : Refusal) × IsFirstWrong later text refusal))
+    × (((w : Weights) × AreWeightsOf later text w) ⊎ ((refusal : Refusal) × IsFirstWrongWeightLine later text refusal))
 
 -- By weights that are alike for its names the top of a plain weighs the same, and the same rules of it are lowered.
 pub record WeighPlainAlike (plain : Plain) (v w : Weights) : Type 0 where

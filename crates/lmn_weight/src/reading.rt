@@ -6,7 +6,7 @@ ghost use Rattle.lmn_base.specs.Refusals.{IfRefused};
 ghost use Rattle.lmn_instr_reading.specs.Reading.{AddsNames, IsIn64Bits};
 ghost use Rattle.lmn_base.specs.declared.refusal.TextFault.TheVariants.{Refused};
 ghost use Rattle.lmn_weight.specs.Lines.{IsNarrow, is_listed, or_nothing};
-ghost use Rattle.lmn_weight.specs.Lines.{AreWeightsOf, IsFirstWrong, TakesFunctor, TakesInt, TakesItem, TakesLine, TakesMembrane};
+ghost use Rattle.lmn_weight.specs.Lines.{AreWeightsOf, IsFirstWrongWeightLine, TakesFunctor, TakesInt, TakesItem, TakesLine, TakesMembrane};
 ghost use Rattle.lmn_weight.specs.Plains.{AreSmall};
 
 use crate::told::Told;
@@ -162,7 +162,7 @@ pub fn read(alloc: Global, weights: &[u8], names: &mut Names) -> Result<Weights,
     ensures ok { IfOk result (λ w. AreWeightsOf names.new weights.now w) }
     ensures lists { IfOk result (λ w. length w.functors ≡ length w.values) }
     ensures small { IfOk result (λ w. AreSmall w) }
-    ensures refused { IfErr result (λ fault. IfRefused fault (IsFirstWrong names.new weights.now)) }
+    ensures refused { IfErr result (λ fault. IfRefused fault (IsFirstWrongWeightLine names.new weights.now)) }
     ensures names { AddsNames (length weights.now) names.old names.new }
 {
     let mut told = Told {

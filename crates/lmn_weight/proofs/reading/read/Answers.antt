@@ -1,6 +1,6 @@
 use Rattle.std.proofs.Common.{refl, subst, sym}
 use Rattle.lmn_base.specs.Refusals.{IfRefused}
-use Rattle.lmn_weight.specs.Lines.{IsFirstWrong}
+use Rattle.lmn_weight.specs.Lines.{IsFirstWrongWeightLine}
 use Rattle.lmn_weight.proofs.LineLemmas.{reached_all, reached_more, reached_start, reached_wrong, start_is, weights_lists, weights_small}
 use Rattle.lmn_weight.proofs.reading.read.Goals as goal
 
@@ -10,7 +10,7 @@ loop-at-init c = reached_start c.args.names.now c.args.weights.now _ (start_is c
 pub returns-then-not-branch-clause-refused : goal.returns-then-not-branch-clause-refused
 returns-then-not-branch-clause-refused c =
     let some = c.in-Some.ensures.some in
-    subst (λ fault. IfRefused fault (IsFirstWrong c.take_line.new.names c.args.weights.now)) (sym c.wrong-then-not-branch.ensures)
+    subst (λ fault. IfRefused fault (IsFirstWrongWeightLine c.take_line.new.names c.args.weights.now)) (sym c.wrong-then-not-branch.ensures)
     (reached_wrong c.args.names.now c.loop-at.names c.take_line.new.names c.args.weights.now c.loop-at.at c.loop-at.line c.in-Some.end c.loop-at.told c.take_line.new.told _ c.loop-at.invariant some.0 some.1 some.2 some.3 c.take_line.ensures.names c.in_ok-take_line.field-0 c.if-not-branch.true c.in_ok-take_line.ensures.told refl)
 
 pub loop-at-preserved : goal.loop-at-preserved
