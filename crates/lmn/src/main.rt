@@ -1,17 +1,17 @@
 //! The program: the words of the system, the real shelf and sinks, and the status of the top call.
 #![tactic(auto)]
 
-use lmn_app_single::{Ending, conclude, words_of};
+use lmn_app_single::words_of;
 use lmn_io::{FileShelf, OutSink};
 use std::process::ExitCode;
 
 fn main(rt: HostRuntime) -> ExitCode {
-    let mut err = OutSink::new(rt.stderr());
     match words_of(&rt) {
-        Err(_) => ExitCode::from(conclude(&mut err, Ending::NoMemory)),
+        Err(_) => ExitCode::from(6),
         Ok(words) => {
             let mut shelf = FileShelf::new(&rt);
             let mut out = OutSink::new(rt.stdout());
+            let mut err = OutSink::new(rt.stderr());
             ExitCode::from(lmn_app::lmn_main(
                 rt.alloc(),
                 words.as_slice(),
