@@ -561,16 +561,15 @@ fn walls(rt: &(impl Abort + AllocGlobal), names: &mut Names, count: usize, link:
     store
 }
 
-/// Whether a line is these bytes, then so many walls round others, a full stop and a line feed.
-fn is_walled(line: &[u8], front: &[u8], count: usize, inside: &[u8]) -> bool {
-    let mut rest = line.iter();
-    front.iter().all(|byte| rest.next() == Some(byte))
-        && (0..count).all(|_| rest.next() == Some(&b'{'))
-        && inside.iter().all(|byte| rest.next() == Some(byte))
-        && (0..count).all(|_| rest.next() == Some(&b'}'))
-        && rest.next() == Some(&b'.')
-        && rest.next() == Some(&b'\n')
-        && rest.next() == None
+/// Pieces that are written so often, one behind the other.
+fn repeated(rt: &(impl Abort + AllocGlobal), pieces: &[(usize, &[u8])]) -> Vec<u8> {
+    let mut line = Vec::new(rt.alloc());
+    for (times, piece) in pieces {
+        for _ in 0..*times {
+            line.extend_from_slice(*piece).expect(rt, "memory");
+        }
+    }
+    line
 }
 
 #[test]
@@ -585,8 +584,15 @@ fn walls_are_printed(rt: HostRuntime) {
         let accepted = read_of(&rt, &mut names, b"");
         let mut store = walls(&rt, &mut names, count, link);
         let out = printed(&rt, &mut store, &accepted.plain, &names, false, 300_000);
+        let wanted: [(usize, &[u8]); 5] = [
+            (1, front),
+            (count, b"{"),
+            (1, inside),
+            (count, b"}"),
+            (1, b".\n"),
+        ];
         assert!(rt;
-            is_walled(out.taken(), front, count, inside),
+            out.taken() == repeated(&rt, wanted.as_slice()).as_slice(),
             "{count} walls"
         );
     }
@@ -606,17 +612,6 @@ fn terms(rt: &(impl Abort + AllocGlobal), names: &mut Names, count: usize) -> Sl
     store
 }
 
-/// Whether a line is so many terms `b`, each in the one before.
-fn is_deep(line: &[u8], count: usize) -> bool {
-    let mut rest = line.iter();
-    rest.next() == Some(&b'a')
-        && (0..count).all(|_| rest.next() == Some(&b'(') && rest.next() == Some(&b'b'))
-        && (0..count).all(|_| rest.next() == Some(&b')'))
-        && rest.next() == Some(&b'.')
-        && rest.next() == Some(&b'\n')
-        && rest.next() == None
-}
-
 #[test]
 fn deep_terms_are_folded(rt: HostRuntime) {
     let count = 100_000;
@@ -624,5 +619,9 @@ fn deep_terms_are_folded(rt: HostRuntime) {
     let accepted = read_of(&rt, &mut names, b"");
     let mut store = terms(&rt, &mut names, count);
     let out = printed(&rt, &mut store, &accepted.plain, &names, true, 1_000_000);
-    assert!(rt; is_deep(out.taken(), count), "{count} terms");
+    let wanted: [(usize, &[u8]); 4] = [(1, b"a"), (count, b"(b"), (count, b")"), (1, b".\n")];
+    assert!(rt;
+        out.taken() == repeated(&rt, wanted.as_slice()).as_slice(),
+        "{count} terms"
+    );
 }

@@ -6,8 +6,9 @@ ghost use Rattle.lmn_ground.specs.Spread.{IsGroundIn, IsWhole};
 ghost use Rattle.lmn_test_rows.specs.Made.{IsMadeByHand};
 ghost use Rattle.lmn_store_slab.specs.Kept.{heap_of};
 
-use crate::making::{add_atom, add_membrane, join, new_store};
-use lmn_base::{Functor, Label};
+use crate::making::Step::{Atom, Join, Membrane};
+use crate::making::{Step, add_atom, add_membrane, join, made, new_store};
+use lmn_base::{Functor, Label, Names};
 use lmn_ground::{copy, equal, is_ground, size_of, take_part};
 use lmn_store_slab::SlabStore;
 use lmn_store_trait::LinkStore;
@@ -165,24 +166,6 @@ fn list(rt: &(impl Abort + AllocGlobal), store: &mut SlabStore, m: usize, cells:
     (after, port)
 }
 
-/// Two atoms that are joined twice: in order, or crosswise.
-fn pair(
-    rt: &(impl Abort + AllocGlobal),
-    store: &mut SlabStore,
-    m: usize,
-    first: u8,
-    second: u8,
-) -> (usize, u8)
-    requires { IsMadeByHand (heap_of store.old) }
-    ensures { IsMadeByHand (heap_of store.new) }
-{
-    let a = add_atom(rt, store, m, functor(4, 3));
-    let b = add_atom(rt, store, m, functor(5, 2));
-    join(rt, store, a, 1, b, first);
-    join(rt, store, a, 2, b, second);
-    (a, 0)
-}
-
 /// A list is measured, compared, copied and taken. The copy's atoms come in order: cell, held atom, cell, .. and the end last.
 fn run(rt: &(impl Abort + AllocGlobal), cells: u32) {
     let mut store = new_store(rt);
@@ -285,49 +268,251 @@ fn are(rt: &impl Abort, store: &SlabStore, first: usize, lines: &[Line]) -> bool
     is_so
 }
 
-/// Two pairs, in order in membrane 1 and crosswise in membrane 2.
-const PAIRS: [Line; 4] = [
+/// What is done to a store, and what is then to be seen of it. A part is named by its root and the membrane in which it is to
+/// be ground.
+#[derive(Clone, Copy)]
+enum Act {
+    /// Whether a part is ground in a membrane.
+    IsGround((usize, u8), usize, bool),
+    /// The size of a part.
+    HasSize((usize, u8), usize, u64),
+    /// Whether parts in two membranes are equal.
+    AreEqual((usize, u8), usize, (usize, u8), usize, bool),
+    /// A part is copied. The root of the copy.
+    Copies((usize, u8), usize, (usize, u8)),
+    /// A part is taken.
+    Takes((usize, u8), usize),
+    /// An atom is matched.
+    Matches(usize),
+    /// The first atom that waits is placed in a membrane. Its number.
+    Places(usize, usize),
+    /// How many atoms a membrane has.
+    HasAtoms(usize, u64),
+    /// The atoms from a first one on are as they are written out.
+    Stand(usize, &'static [Line]),
+    /// A list of so many cells stands from an atom on, with this home.
+    IsList(usize, u32, Option<usize>),
+    /// So does its copy, which waits.
+    IsCopy(usize, u32),
+}
+
+use Act::{
+    AreEqual, Copies, HasAtoms, HasSize, IsCopy, IsGround, IsList, Matches, Places, Stand, Takes,
+};
+
+/// Does it, and answers whether that is seen.
+fn is_seen(rt: &(impl Abort + AllocGlobal), store: &mut SlabStore, act: Act) -> bool
+    requires { PortsUnmarked (heap_of store.old) }
+    ensures { PortsUnmarked (heap_of store.new) }
+{
+    match act {
+        IsGround(root, m, wanted) => grounds(rt, store, root, m) == wanted,
+        HasSize(root, m, wanted) => size(rt, store, root, m) == wanted,
+        AreEqual(x, m, y, n, wanted) => equals(rt, store, x, m, y, n) == wanted,
+        Copies(root, m, wanted) => copied(rt, store, root, m) == wanted,
+        Takes(root, m) => {
+            take(rt, store, root, m);
+            true
+        }
+        Matches(a) => {
+            match_atom(rt, store, a);
+            true
+        }
+        Places(m, wanted) => place(rt, store, m) == wanted,
+        HasAtoms(m, wanted) => count(rt, store, m) == wanted,
+        Stand(first, lines) => are(rt, store, first, lines),
+        IsList(first, cells, home) => is_list(rt, store, first, cells, home),
+        IsCopy(first, cells) => is_copy(rt, store, first, cells),
+    }
+}
+
+/// Does one after the other, and looks each time at what is to be seen.
+fn act_all(rt: &(impl Abort + AllocGlobal), store: SlabStore, acts: &[Act])
+    requires { IsMadeByHand (heap_of store) }
+{
+    let mut store = store;
+    ports_are_unmarked(&store);
+    for act in acts {
+        holds(rt, is_seen(rt, &mut store, *act));
+    }
+}
+
+/// Two atoms of membrane 1 that are joined in order.
+const PAIR: &[Line] = &[
     (4, Some(1), &[None, Some((1, 0)), Some((1, 1))], 0),
     (5, Some(1), &[Some((0, 1)), Some((0, 2))], 0),
+];
+
+/// Two of membrane 2 that are joined crosswise.
+const CROSSED: &[Line] = &[
     (4, Some(2), &[None, Some((3, 1)), Some((3, 0))], 0),
     (5, Some(2), &[Some((2, 2)), Some((2, 1))], 0),
 ];
 
-/// A copy of the first, which waits.
-const COPIED: [Line; 2] = [
+/// These where they are taken.
+const TAKEN: &[Line] = &[
+    (4, None, &[None, Some((3, 1)), Some((3, 0))], 0),
+    (5, None, &[Some((2, 2)), Some((2, 1))], 0),
+];
+
+/// A copy of the first two, which waits.
+const COPIED: &[Line] = &[
     (4, None, &[None, Some((5, 0)), Some((5, 1))], 0),
     (5, None, &[Some((4, 1)), Some((4, 2))], 0),
 ];
 
-/// The second where it is taken.
-const TAKEN: [Line; 2] = [
-    (4, None, &[None, Some((3, 1)), Some((3, 0))], 0),
-    (5, None, &[Some((2, 2)), Some((2, 1))], 0),
+/// A pair in membrane 2 that is joined crosswise, and its copy in membrane 1.
+const CYCLES: &[Line] = &[
+    (4, Some(2), &[None, Some((5, 1)), Some((5, 0))], 0),
+    (5, Some(2), &[Some((4, 2)), Some((4, 1))], 0),
+    (4, Some(1), &[None, Some((7, 1)), Some((7, 0))], 0),
+    (5, Some(1), &[Some((6, 2)), Some((6, 1))], 0),
+];
+
+/// A head; `back`, to which two links of the head lead; `near`, a link of which goes through a wall to `far`; and `lone`, a
+/// part of one atom in the membrane of `far`.
+const SCENE: &[Line] = &[
+    (4, Some(0), &[Some((1, 0)), Some((1, 1))], 0),
+    (5, Some(0), &[Some((0, 0)), Some((0, 1))], 0),
+    (5, Some(0), &[None, Some((3, 0))], 0),
+    (6, Some(1), &[Some((2, 1))], 0),
+    (6, Some(1), &[None], 0),
+];
+
+/// The same where the head is matched.
+const MATCHED: &[Line] = &[
+    (4, Some(0), &[Some((1, 0)), Some((1, 1))], 1),
+    (5, Some(0), &[Some((0, 0)), Some((0, 1))], 0),
+    (5, Some(0), &[None, Some((3, 0))], 0),
+    (6, Some(1), &[Some((2, 1))], 0),
+    (6, Some(1), &[None], 0),
+];
+
+/// The same where `far` is taken.
+const LEFT: &[Line] = &[
+    (4, Some(0), &[Some((1, 0)), Some((1, 1))], 1),
+    (5, Some(0), &[Some((0, 0)), Some((0, 1))], 0),
+    (5, Some(0), &[None, Some((3, 0))], 0),
+    (6, None, &[Some((2, 1))], 0),
+    (6, Some(1), &[None], 0),
+];
+
+/// A copy of `lone`, which waits.
+const LONE: &[Line] = &[(6, None, &[None], 0)];
+
+/// What is made, and what is done to it.
+type Row = (&'static [Step], &'static [Act]);
+
+const ROWS: [Row; 3] = [
+    // Each call leaves the rest of the heap as it is.
+    (
+        &[
+            Membrane(0),
+            Membrane(0),
+            Atom(1, b"a", 3),
+            Atom(1, b"b", 2),
+            Join(0, 1, 1, 0),
+            Join(0, 2, 1, 1),
+            Atom(2, b"a", 3),
+            Atom(2, b"b", 2),
+            Join(2, 1, 3, 1),
+            Join(2, 2, 3, 0),
+        ],
+        &[
+            Stand(0, PAIR),
+            Stand(2, CROSSED),
+            IsGround((0, 0), 1, true),
+            Stand(0, PAIR),
+            Stand(2, CROSSED),
+            HasSize((0, 0), 1, 2),
+            Stand(0, PAIR),
+            Stand(2, CROSSED),
+            AreEqual((0, 0), 1, (2, 0), 2, false),
+            Stand(0, PAIR),
+            Stand(2, CROSSED),
+            Copies((0, 0), 1, (4, 0)),
+            Stand(0, PAIR),
+            Stand(2, CROSSED),
+            Stand(4, COPIED),
+            Takes((2, 0), 2),
+            Stand(0, PAIR),
+            Stand(2, TAKEN),
+            Stand(4, COPIED),
+        ],
+    ),
+    // Cycles: equal ones, and ones that differ in the ports of one link. A copy is joined as the original.
+    (
+        &[
+            Membrane(0),
+            Membrane(0),
+            Atom(1, b"a", 3),
+            Atom(1, b"b", 2),
+            Join(0, 1, 1, 0),
+            Join(0, 2, 1, 1),
+            Atom(2, b"a", 3),
+            Atom(2, b"b", 2),
+            Join(2, 1, 3, 0),
+            Join(2, 2, 3, 1),
+            Atom(2, b"a", 3),
+            Atom(2, b"b", 2),
+            Join(4, 1, 5, 1),
+            Join(4, 2, 5, 0),
+        ],
+        &[
+            AreEqual((0, 0), 1, (2, 0), 2, true),
+            AreEqual((0, 0), 1, (4, 0), 2, false),
+            Copies((4, 0), 2, (6, 0)),
+            Places(1, 6),
+            Places(1, 7),
+            AreEqual((6, 0), 1, (4, 0), 2, true),
+            Stand(4, CYCLES),
+        ],
+    ),
+    // A part of one atom; and what isn't ground: a part that leads back to the head by a second link, and one that goes
+    // through a wall.
+    (
+        &[
+            Membrane(0),
+            Atom(0, b"a", 2),
+            Atom(0, b"b", 2),
+            Atom(0, b"b", 2),
+            Atom(1, b"c", 1),
+            Atom(1, b"c", 1),
+            Join(0, 0, 1, 0),
+            Join(0, 1, 1, 1),
+            Join(2, 1, 3, 0),
+        ],
+        &[
+            Stand(0, SCENE),
+            IsGround((1, 0), 0, true),
+            Stand(0, SCENE),
+            Matches(0),
+            Stand(0, MATCHED),
+            IsGround((1, 0), 0, false),
+            Stand(0, MATCHED),
+            IsGround((2, 0), 0, false),
+            Stand(0, MATCHED),
+            IsGround((2, 0), 1, false),
+            Stand(0, MATCHED),
+            HasSize((3, 0), 1, 1),
+            Stand(0, MATCHED),
+            Takes((3, 0), 1),
+            Stand(0, LEFT),
+            Copies((4, 0), 1, (5, 0)),
+            Stand(0, LEFT),
+            Stand(5, LONE),
+            HasAtoms(1, 1),
+        ],
+    ),
 ];
 
 /// The whole heap before and after each call.
 #[test]
 fn heaps_are_written_out(rt: HostRuntime) {
-    let mut store = new_store(&rt);
-    let m = add_membrane(&rt, &mut store, 0);
-    let n = add_membrane(&rt, &mut store, 0);
-    let x = pair(&rt, &mut store, m, 0, 1);
-    let y = pair(&rt, &mut store, n, 1, 0);
-    ports_are_unmarked(&store);
-    holds(&rt, are(&rt, &store, 0, PAIRS.as_slice()));
-    holds(&rt, grounds(&rt, &mut store, x, m));
-    holds(&rt, are(&rt, &store, 0, PAIRS.as_slice()));
-    holds(&rt, size(&rt, &mut store, x, m) == 2);
-    holds(&rt, are(&rt, &store, 0, PAIRS.as_slice()));
-    holds(&rt, !equals(&rt, &mut store, x, m, y, n));
-    holds(&rt, are(&rt, &store, 0, PAIRS.as_slice()));
-    holds(&rt, copied(&rt, &mut store, x, m) == (4, 0));
-    holds(&rt, are(&rt, &store, 0, PAIRS.as_slice()));
-    holds(&rt, are(&rt, &store, 4, COPIED.as_slice()));
-    take(&rt, &mut store, y, n);
-    holds(&rt, are(&rt, &store, 0, &PAIRS[..2]));
-    holds(&rt, are(&rt, &store, 2, TAKEN.as_slice()));
-    holds(&rt, are(&rt, &store, 4, COPIED.as_slice()));
+    for (steps, acts) in ROWS {
+        let mut names = Names::new(rt.alloc());
+        act_all(&rt, made(&rt, &mut names, steps), acts);
+    }
 }
 
 /// Whether a list stands as `list` makes it: the end is the first atom, then come the cells, each before what it holds.
@@ -378,135 +563,33 @@ fn is_copy(rt: &impl Abort, store: &SlabStore, first: usize, cells: u32) -> bool
     is_so && atom_is(rt, store, cell, 6, None, &[root], 0)
 }
 
-/// The whole heap of a list of 1,000 cells before and after each call.
+/// What is done where two lists of 1,000 cells stand in membranes 1 and 2. Their roots are the ports 2 of their last cells.
+const LISTS: &[Act] = &[
+    IsList(0, 1000, Some(1)),
+    IsList(2001, 1000, Some(2)),
+    AreEqual((1999, 2), 1, (4000, 2), 2, true),
+    IsList(0, 1000, Some(1)),
+    IsList(2001, 1000, Some(2)),
+    IsGround((1999, 2), 1, true),
+    IsList(0, 1000, Some(1)),
+    HasSize((1999, 2), 1, 2001),
+    IsList(0, 1000, Some(1)),
+    Copies((1999, 2), 1, (4002, 2)),
+    IsList(0, 1000, Some(1)),
+    IsCopy(4002, 1000),
+    Takes((1999, 2), 1),
+    IsList(0, 1000, None),
+    IsList(2001, 1000, Some(2)),
+    IsCopy(4002, 1000),
+];
+
+/// The whole heap before and after each call.
 #[test]
 fn lists_are_written_out(rt: HostRuntime) {
     let mut store = new_store(&rt);
     let m = add_membrane(&rt, &mut store, 0);
-    let x = list(&rt, &mut store, m, 1000);
-    ports_are_unmarked(&store);
-    holds(&rt, is_list(&rt, &store, 0, 1000, Some(m)));
-    holds(&rt, grounds(&rt, &mut store, x, m));
-    holds(&rt, is_list(&rt, &store, 0, 1000, Some(m)));
-    holds(&rt, size(&rt, &mut store, x, m) == 2001);
-    holds(&rt, is_list(&rt, &store, 0, 1000, Some(m)));
-    holds(&rt, copied(&rt, &mut store, x, m) == (2001, 2));
-    holds(&rt, is_list(&rt, &store, 0, 1000, Some(m)));
-    holds(&rt, is_copy(&rt, &store, 2001, 1000));
-    take(&rt, &mut store, x, m);
-    holds(&rt, is_list(&rt, &store, 0, 1000, None));
-    holds(&rt, is_copy(&rt, &store, 2001, 1000));
-}
-
-/// Two lists are equal, and the heap is as it was.
-#[test]
-fn equal_lists_stay(rt: HostRuntime) {
-    let mut store = new_store(&rt);
-    let m = add_membrane(&rt, &mut store, 0);
     let n = add_membrane(&rt, &mut store, 0);
-    let x = list(&rt, &mut store, m, 1000);
-    let y = list(&rt, &mut store, n, 1000);
-    ports_are_unmarked(&store);
-    holds(&rt, equals(&rt, &mut store, x, m, y, n));
-    holds(&rt, is_list(&rt, &store, 0, 1000, Some(m)));
-    holds(&rt, is_list(&rt, &store, 2001, 1000, Some(n)));
-}
-
-/// Cycles: equal ones, and ones that differ in the ports of one link. A copy is joined as the original.
-#[test]
-fn cycles(rt: HostRuntime) {
-    let mut store = new_store(&rt);
-    let m = add_membrane(&rt, &mut store, 0);
-    let n = add_membrane(&rt, &mut store, 0);
-    let x = pair(&rt, &mut store, m, 0, 1);
-    let y = pair(&rt, &mut store, n, 0, 1);
-    let z = pair(&rt, &mut store, n, 1, 0);
-    ports_are_unmarked(&store);
-    holds(&rt, equals(&rt, &mut store, x, m, y, n));
-    holds(&rt, !equals(&rt, &mut store, x, m, z, n));
-    let c = copied(&rt, &mut store, z, n);
-    holds(&rt, place(&rt, &mut store, m) == c.0);
-    place(&rt, &mut store, m);
-    holds(&rt, equals(&rt, &mut store, c, m, z, n));
-    holds(&rt, are(&rt, &store, 4, CYCLES.as_slice()));
-}
-
-/// A pair in membrane 2 that is joined crosswise, and its copy in membrane 1.
-const CYCLES: [Line; 4] = [
-    (4, Some(2), &[None, Some((5, 1)), Some((5, 0))], 0),
-    (5, Some(2), &[Some((4, 2)), Some((4, 1))], 0),
-    (4, Some(1), &[None, Some((7, 1)), Some((7, 0))], 0),
-    (5, Some(1), &[Some((6, 2)), Some((6, 1))], 0),
-];
-
-/// A head; `back`, to which two links of the head lead; `near`, a link of which goes through a wall to `far`; and `lone`, a
-/// part of one atom in the membrane of `far`.
-const SCENE: [Line; 5] = [
-    (4, Some(0), &[Some((1, 0)), Some((1, 1))], 0),
-    (5, Some(0), &[Some((0, 0)), Some((0, 1))], 0),
-    (5, Some(0), &[None, Some((3, 0))], 0),
-    (6, Some(1), &[Some((2, 1))], 0),
-    (6, Some(1), &[None], 0),
-];
-
-/// The same where the head is matched.
-const MATCHED: [Line; 5] = [
-    (4, Some(0), &[Some((1, 0)), Some((1, 1))], 1),
-    (5, Some(0), &[Some((0, 0)), Some((0, 1))], 0),
-    (5, Some(0), &[None, Some((3, 0))], 0),
-    (6, Some(1), &[Some((2, 1))], 0),
-    (6, Some(1), &[None], 0),
-];
-
-/// The same where `far` is taken and `lone` has a copy.
-const LEFT: [Line; 6] = [
-    (4, Some(0), &[Some((1, 0)), Some((1, 1))], 1),
-    (5, Some(0), &[Some((0, 0)), Some((0, 1))], 0),
-    (5, Some(0), &[None, Some((3, 0))], 0),
-    (6, None, &[Some((2, 1))], 0),
-    (6, Some(1), &[None], 0),
-    (6, None, &[None], 0),
-];
-
-/// A store with the scene.
-fn scene(rt: &(impl Abort + AllocGlobal)) -> SlabStore
-    ensures { IsMadeByHand (heap_of result) }
-{
-    let mut store = new_store(rt);
-    let m = add_membrane(rt, &mut store, 0);
-    let head = add_atom(rt, &mut store, 0, functor(4, 2));
-    let back = add_atom(rt, &mut store, 0, functor(5, 2));
-    let near = add_atom(rt, &mut store, 0, functor(5, 2));
-    let far = add_atom(rt, &mut store, m, functor(6, 1));
-    let _lone = add_atom(rt, &mut store, m, functor(6, 1));
-    join(rt, &mut store, head, 0, back, 0);
-    join(rt, &mut store, head, 1, back, 1);
-    join(rt, &mut store, near, 1, far, 0);
-    store
-}
-
-/// A part of one atom; and what isn't ground: a part that leads back to the head by a second link, and one that goes
-/// through a wall. The whole heap before and after each call.
-#[test]
-fn heads_and_walls(rt: HostRuntime) {
-    let mut store = scene(&rt);
-    ports_are_unmarked(&store);
-    holds(&rt, are(&rt, &store, 0, SCENE.as_slice()));
-    holds(&rt, grounds(&rt, &mut store, (1, 0), 0));
-    holds(&rt, are(&rt, &store, 0, SCENE.as_slice()));
-    match_atom(&rt, &mut store, 0);
-    holds(&rt, are(&rt, &store, 0, MATCHED.as_slice()));
-    holds(&rt, !grounds(&rt, &mut store, (1, 0), 0));
-    holds(&rt, are(&rt, &store, 0, MATCHED.as_slice()));
-    holds(&rt, !grounds(&rt, &mut store, (2, 0), 0));
-    holds(&rt, are(&rt, &store, 0, MATCHED.as_slice()));
-    holds(&rt, !grounds(&rt, &mut store, (2, 0), 1));
-    holds(&rt, are(&rt, &store, 0, MATCHED.as_slice()));
-    holds(&rt, size(&rt, &mut store, (3, 0), 1) == 1);
-    holds(&rt, are(&rt, &store, 0, MATCHED.as_slice()));
-    take(&rt, &mut store, (3, 0), 1);
-    holds(&rt, are(&rt, &store, 0, &LEFT[..5]));
-    holds(&rt, copied(&rt, &mut store, (4, 0), 1) == (5, 0));
-    holds(&rt, are(&rt, &store, 0, LEFT.as_slice()));
-    holds(&rt, count(&rt, &store, 1) == 1);
+    let _first = list(&rt, &mut store, m, 1000);
+    let _second = list(&rt, &mut store, n, 1000);
+    act_all(&rt, store, LISTS);
 }
