@@ -82,29 +82,54 @@ fn write_ports(
     Ok(())
 }
 
+fn write_membrane(
+    rt: &impl Abort,
+    store: &SlabStore,
+    m: usize,
+    out: &mut String,
+) -> Result<(), NoMemory> {
+    write!(out, "{m}:")?;
+    write_atoms(rt, store, m, out)?;
+    write!(out, " /")?;
+    write_mems(rt, store, m, out)?;
+    write!(out, " /")?;
+    write_rules(rt, store, m, out)?;
+    write!(out, "; ")?;
+    Ok(())
+}
+
+fn write_atom(
+    rt: &impl Abort,
+    store: &SlabStore,
+    a: usize,
+    out: &mut String,
+) -> Result<(), NoMemory> {
+    write!(out, "{a}:")?;
+    write_ports(rt, store, a, out)?;
+    write!(out, "; ")?;
+    Ok(())
+}
+
+fn write_all(rt: &impl Abort, store: &SlabStore, out: &mut String) -> Result<(), NoMemory> {
+    for m in 0..4 {
+        if store.has_mem(m) {
+            write_membrane(rt, store, m, out)?;
+        }
+    }
+    for a in 0..4 {
+        if store.has_atom(a) {
+            write_atom(rt, store, a, out)?;
+        }
+    }
+    Ok(())
+}
+
 /// The membranes and atoms with numbers up to 3, as `m: its atoms / its membranes / its rules` and `a: its ports`.
 pub(crate) fn state(
     rt: &(impl Abort + AllocGlobal),
     store: &SlabStore,
 ) -> Result<String, NoMemory> {
     let mut out = String::new(rt.alloc());
-    for m in 0..4 {
-        if store.has_mem(m) {
-            write!(out, "{m}:")?;
-            write_atoms(rt, store, m, &mut out)?;
-            write!(out, " /")?;
-            write_mems(rt, store, m, &mut out)?;
-            write!(out, " /")?;
-            write_rules(rt, store, m, &mut out)?;
-            write!(out, "; ")?;
-        }
-    }
-    for a in 0..4 {
-        if store.has_atom(a) {
-            write!(out, "{a}:")?;
-            write_ports(rt, store, a, &mut out)?;
-            write!(out, "; ")?;
-        }
-    }
+    write_all(rt, store, &mut out)?;
     Ok(out)
 }
