@@ -41,6 +41,13 @@ fn level_of(alloc: Global, links: &[(u32, u64)]) -> Result<Level, NoMemory> {
     Ok(level)
 }
 
+/// Such a level, with a membrane in it.
+fn level_round(alloc: Global, links: &[(u32, u64)], inner: Level) -> Result<Level, NoMemory> {
+    let mut level = level_of(alloc, links)?;
+    level.membranes.push(inner)?;
+    Ok(level)
+}
+
 /// Adds the links of a level to a list, in printed order.
 fn add_links(found: &mut Rows<u32>, level: &Level) -> Result<(), NoMemory> {
     for leaf in level.leaves.as_slice() {
@@ -57,6 +64,13 @@ fn add_links(found: &mut Rows<u32>, level: &Level) -> Result<(), NoMemory> {
         add_links(found, inner)?;
     }
     Ok(())
+}
+
+/// The links of a level, in printed order.
+fn links_in(alloc: Global, level: &Level) -> Result<Rows<u32>, NoMemory> {
+    let mut found = Rows::new(alloc);
+    add_links(&mut found, level)?;
+    Ok(found)
 }
 
 /// Whether all links of a level are below `keys`.
@@ -104,19 +118,20 @@ fn link_use(count: u64, first: u64, third: u64) -> LinkUse {
     }
 }
 
-/// `{a(X),{a(Y)}}, a(Z), a(X)`, where the keys are those of the text: X 0, Y 1 and Z 2. The leaves outside are printed
-/// first, so the numbers are Z 0, X 1 and Y 2.
+/// `{a(X),{a(Y)}}, a(Z), a(X)`, where the keys are those of the text: X 0, Y 1 and Z 2.
+fn three_levels(alloc: Global) -> Result<Level, NoMemory> {
+    let innermost = level_of(alloc, &[(1, 10)])?;
+    let inner = level_round(alloc, &[(0, 4)], innermost)?;
+    level_round(alloc, &[(2, 18), (0, 24)], inner)
+}
+
+/// The leaves outside are printed first, so the numbers are Z 0, X 1 and Y 2.
 #[test]
 fn leaves_come_before_membranes(rt: HostRuntime) -> Result<(), NoMemory> {
-    let alloc = rt.alloc();
-    let mut inner = level_of(alloc, &[(0, 4)])?;
-    inner.membranes.push(level_of(alloc, &[(1, 10)])?)?;
-    let mut level = level_of(alloc, &[(2, 18), (0, 24)])?;
-    level.membranes.push(inner)?;
+    let mut level = three_levels(rt.alloc())?;
     assert!(rt; are_below(&level, 3));
-    let table = number_level(alloc, &mut level, 3)?;
-    let mut links = Rows::new(alloc);
-    add_links(&mut links, &level)?;
+    let table = number_level(rt.alloc(), &mut level, 3)?;
+    let links = links_in(rt.alloc(), &level)?;
     assert_eq!(rt; links.as_slice(), [0, 1, 1, 2].as_slice());
     assert_eq!(rt;
         table.as_slice(),
@@ -125,21 +140,31 @@ fn leaves_come_before_membranes(rt: HostRuntime) -> Result<(), NoMemory> {
     Ok(())
 }
 
+/// `{a(X)}, a(Y), a(X)`
+fn head(alloc: Global) -> Result<Level, NoMemory> {
+    let inner = level_of(alloc, &[(0, 32)])?;
+    level_round(alloc, &[(1, 38), (0, 44)], inner)
+}
+
+/// `{a(X)}, a(X), a(Y)`
+fn body(alloc: Global) -> Result<Level, NoMemory> {
+    let inner = level_of(alloc, &[(0, 8)])?;
+    level_round(alloc, &[(0, 14), (1, 20)], inner)
+}
+
 /// `{a(X)}, a(Y), a(X) :- {a(X)}, a(X), a(Y)` with the body's places before the head's, and keys X 0, Y 1 and one that
 /// doesn't occur. The third place of X is the first one in the body.
 #[test]
 fn a_head_comes_before_its_body(rt: HostRuntime) -> Result<(), NoMemory> {
-    let alloc = rt.alloc();
-    let mut head = level_of(alloc, &[(1, 38), (0, 44)])?;
-    head.membranes.push(level_of(alloc, &[(0, 32)])?)?;
-    let mut body = level_of(alloc, &[(0, 14), (1, 20)])?;
-    body.membranes.push(level_of(alloc, &[(0, 8)])?)?;
-    assert!(rt; are_below(&head, 3) && are_below(&body, 3));
-    let table = number_rule(alloc, &mut head, &mut body, 3)?;
-    let mut links = Rows::new(alloc);
-    add_links(&mut links, &head)?;
-    add_links(&mut links, &body)?;
-    assert_eq!(rt; links.as_slice(), [0, 1, 1, 1, 0, 1].as_slice());
+    let mut head = head(rt.alloc())?;
+    let mut body = body(rt.alloc())?;
+    assert!(rt; are_below(&head, 3));
+    assert!(rt; are_below(&body, 3));
+    let table = number_rule(rt.alloc(), &mut head, &mut body, 3)?;
+    let found = links_in(rt.alloc(), &head)?;
+    assert_eq!(rt; found.as_slice(), [0, 1, 1].as_slice());
+    let found = links_in(rt.alloc(), &body)?;
+    assert_eq!(rt; found.as_slice(), [1, 0, 1].as_slice());
     assert_eq!(rt;
         table.as_slice(),
         [link_use(2, 38, 38), link_use(4, 32, 8)].as_slice()
@@ -147,24 +172,28 @@ fn a_head_comes_before_its_body(rt: HostRuntime) -> Result<(), NoMemory> {
     Ok(())
 }
 
+fn context(name: u32, column: u64) -> CtxUse {
+    CtxUse {
+        name,
+        closed: false,
+        pos: at(column),
+    }
+}
+
 /// `{@r}, $p`: the membrane comes last in the level, and first in the text.
+fn with_contexts(alloc: Global) -> Result<Level, NoMemory> {
+    let mut inner = nothing(alloc);
+    inner.rule_contexts.push(context(4, 2))?;
+    let mut level = level_round(alloc, &[(0, 1)], inner)?;
+    level.contexts.push(context(5, 7))?;
+    Ok(level)
+}
+
 #[test]
 fn the_first_context_is_that_of_the_text(rt: HostRuntime) -> Result<(), NoMemory> {
-    let alloc = rt.alloc();
-    let mut level = level_of(alloc, &[(0, 1)])?;
+    let level = level_of(rt.alloc(), &[(0, 1)])?;
     assert_eq!(rt; first_outside(&level), None);
-    let mut inner = nothing(alloc);
-    inner.rule_contexts.push(CtxUse {
-        name: 4,
-        closed: false,
-        pos: at(2),
-    })?;
-    level.membranes.push(inner)?;
-    level.contexts.push(CtxUse {
-        name: 5,
-        closed: false,
-        pos: at(7),
-    })?;
+    let level = with_contexts(rt.alloc())?;
     assert_eq!(rt; first_outside(&level), Some(at(2)));
     Ok(())
 }

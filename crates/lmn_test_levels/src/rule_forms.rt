@@ -50,87 +50,121 @@ fn operation(alloc: Global, op: Arith, left: Expr, right: Expr) -> Result<Expr, 
     })
 }
 
-/// `'='(X), $unary[X], {$ground, @int}`
-fn head(alloc: Global) -> Result<Level, NoMemory> {
+/// `{$ground, @int}`, without its walls
+fn inner(alloc: Global) -> Result<Level, NoMemory> {
     let mut inner = nothing(alloc);
     inner.contexts.push(context(GROUND_NAME))?;
     inner.rule_contexts.push(context(INT_NAME))?;
+    Ok(inner)
+}
+
+/// `'='(X), $unary[X], {$ground, @int}`
+fn head(alloc: Global) -> Result<Level, NoMemory> {
     let mut head = nothing(alloc);
-    head.leaves
-        .push(atom(alloc, Label::Name(CONNECTOR_NAME), 1, &[0])?)?;
+    let atom = atom(alloc, Label::Name(CONNECTOR_NAME), 1, &[0])?;
+    head.leaves.push(atom)?;
     head.leaves.push(Leaf::Typed {
         name: UNARY_NAME,
         link: Occ { link: 0, pos: POS },
         pos: POS,
     })?;
+    let inner = inner(alloc)?;
     head.membranes.push(inner)?;
     Ok(head)
 }
 
-/// Each form of condition, one of them with an operation in another.
-fn guard(alloc: Global) -> Result<Rows<Cond>, NoMemory> {
-    let sum = operation(
-        alloc,
-        Arith::Add,
-        Expr::Ctx(context(UNARY_NAME)),
-        Expr::Int(1),
-    )?;
-    let mut guard = Rows::new(alloc);
-    guard.push(Cond::Kind {
-        name: INT_NAME,
-        args: contexts(alloc, &[UNARY_NAME])?,
+fn kind(alloc: Global, name: u32, names: &[u32]) -> Result<Cond, NoMemory> {
+    Ok(Cond::Kind {
+        name,
+        args: contexts(alloc, names)?,
         pos: POS,
-    })?;
-    guard.push(Cond::Compare {
+    })
+}
+
+/// `($unary + 1) * 2 =< -3`
+fn comparison(alloc: Global) -> Result<Cond, NoMemory> {
+    let unary = Expr::Ctx(context(UNARY_NAME));
+    let sum = operation(alloc, Arith::Add, unary, Expr::Int(1))?;
+    Ok(Cond::Compare {
         op: Cmp::Le,
         left: operation(alloc, Arith::Mul, sum, Expr::Int(2))?,
         right: Expr::Int(-3),
         pos: POS,
-    })?;
-    guard.push(Cond::Equal {
+    })
+}
+
+/// `$ground = $unary`
+fn equation() -> Cond {
+    Cond::Equal {
         left: context(GROUND_NAME),
         right: Expr::Ctx(context(UNARY_NAME)),
         pos: POS,
-    })?;
-    guard.push(Cond::Differ {
+    }
+}
+
+/// `$unary \= $ground`
+fn difference() -> Cond {
+    Cond::Differ {
         left: context(UNARY_NAME),
         right: context(GROUND_NAME),
         pos: POS,
-    })?;
-    guard.push(Cond::Kind {
-        name: GROUND_NAME,
-        args: contexts(alloc, &[UNARY_NAME, GROUND_NAME])?,
-        pos: POS,
-    })?;
+    }
+}
+
+/// Each form of condition, one of them with an operation in another.
+fn guard(alloc: Global) -> Result<Rows<Cond>, NoMemory> {
+    let mut guard = Rows::new(alloc);
+    guard.push(kind(alloc, INT_NAME, &[UNARY_NAME])?)?;
+    guard.push(comparison(alloc)?)?;
+    guard.push(equation())?;
+    guard.push(difference())?;
+    guard.push(kind(alloc, GROUND_NAME, &[UNARY_NAME, GROUND_NAME])?)?;
     Ok(guard)
 }
 
-/// A rule with every form of item and condition, in whose body stands a rule with an empty body.
-fn table(alloc: Global) -> Result<Rows<RuleTree>, NoMemory> {
+/// `L1 = L2, 5(L1, L2)`, and the rule with the number 1
+fn body(alloc: Global) -> Result<Level, NoMemory> {
     let mut body = nothing(alloc);
-    let equals = Label::Name(CONNECTOR_NAME);
-    body.leaves.push(atom(alloc, equals, 2, &[1, 2])?)?;
+    body.leaves
+        .push(atom(alloc, Label::Name(CONNECTOR_NAME), 2, &[1, 2])?)?;
     body.leaves.push(atom(alloc, Label::Int(5), 2, &[1, 2])?)?;
     body.rules.push(1)?;
-    let mut taken = nothing(alloc);
-    taken
-        .leaves
-        .push(atom(alloc, Label::Name(GROUND_NAME), 0, &[])?)?;
-    let mut table = Rows::new(alloc);
-    table.push(RuleTree {
-        head: head(alloc)?,
-        guard: guard(alloc)?,
+    Ok(body)
+}
+
+/// A rule with every form of item and condition.
+fn outer_rule(alloc: Global) -> Result<RuleTree, NoMemory> {
+    let guard = guard(alloc)?;
+    let head = head(alloc)?;
+    let body = body(alloc)?;
+    Ok(RuleTree {
+        head,
+        guard,
         body,
         links: Rows::new(alloc),
         pos: POS,
-    })?;
-    table.push(RuleTree {
-        head: taken,
+    })
+}
+
+/// A rule with an empty body.
+fn inner_rule(alloc: Global) -> Result<RuleTree, NoMemory> {
+    let mut head = nothing(alloc);
+    head.leaves
+        .push(atom(alloc, Label::Name(GROUND_NAME), 0, &[])?)?;
+    Ok(RuleTree {
+        head,
         guard: Rows::new(alloc),
         body: nothing(alloc),
         links: Rows::new(alloc),
         pos: POS,
-    })?;
+    })
+}
+
+/// A rule in whose body the other one stands.
+fn table(alloc: Global) -> Result<Rows<RuleTree>, NoMemory> {
+    let mut table = Rows::new(alloc);
+    table.push(outer_rule(alloc)?)?;
+    table.push(inner_rule(alloc)?)?;
     Ok(table)
 }
 
