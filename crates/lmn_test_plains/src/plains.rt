@@ -4,7 +4,7 @@ mod lines;
 mod processes;
 mod rules;
 
-use lines::write_plain;
+use lines::lines_of;
 use lmn_base::{Names, NoMemory, Plain, TextFault};
 use lmn_flatten::flatten;
 use lmn_lexer::lex;
@@ -35,9 +35,7 @@ fn plain(alloc: Global, text: &[u8]) -> Result<(Plain, Names), TextFault> {
 /// The lines of a text's plain.
 fn written(alloc: Global, text: &[u8]) -> Result<String, TextFault> {
     let (plain, names) = plain(alloc, text)?;
-    let mut out = String::new(alloc);
-    write_plain(&mut out, &names, &plain)?;
-    Ok(out)
+    Ok(lines_of(alloc, &names, &plain)?)
 }
 
 /// Lines, each with its line feed.
@@ -66,46 +64,50 @@ fn texts_have_their_plains(rt: HostRuntime) {
     }
 }
 
-/// `p([a,a,..,a|b])`, or `p([a,a,..,a])`, and its plain. The list's cells and links have the place of p, and the elements
-/// stand at every other column.
-fn long_list(alloc: Global, has_rest: bool) -> Result<(String, String), NoMemory> {
+/// `p([a,a,..,a|b])`, or `p([a,a,..,a])`.
+fn list_text(alloc: Global, has_rest: bool) -> Result<String, NoMemory> {
     let mut text = String::new(alloc);
-    let mut plain = String::new(alloc);
     text.push_str("p([a")?;
+    for _ in 1..CELLS {
+        text.push_str(",a")?;
+    }
+    text.push_str(if has_rest { "|b])" } else { "])" })?;
+    Ok(text)
+}
+
+/// The plain of such a list. Its cells and links have the place of p, and the elements stand at every other column.
+fn list_plain(alloc: Global, has_rest: bool) -> Result<String, NoMemory> {
+    let mut plain = String::new(alloc);
     plain.push_str(" p/1^1(0^1)")?;
     for i in 0..CELLS {
         let own = 2 * i;
         let element = 2 * i + 1;
         let rest = 2 * i + 2;
         let column = 2 * i + 4;
-        if i > 0 {
-            text.push_str(",a")?;
-        }
         write!(
             plain,
             " ./3^1({element}^1 {rest}^1 {own}^1) a/1^{column}({element}^1)"
         )?;
     }
     let last = 2 * CELLS;
-    let column = 2 * CELLS + 4;
     if has_rest {
-        text.push_str("|b])")?;
+        let column = 2 * CELLS + 4;
         write!(plain, " b/1^{column}({last}^1);")?;
     } else {
-        text.push_str("])")?;
         write!(plain, " []/1^1({last}^1);")?;
     }
     for _ in 0..2 * CELLS + 1 {
         plain.push_str(" 2^1")?;
     }
     plain.push('\n')?;
-    Ok((text, plain))
+    Ok(plain)
 }
 
 #[test]
 fn long_lists(rt: HostRuntime) {
     for has_rest in [false, true] {
-        let (text, wanted) = long_list(rt.alloc(), has_rest).expect(&rt, "memory");
+        let text = list_text(rt.alloc(), has_rest).expect(&rt, "memory");
+        let wanted = list_plain(rt.alloc(), has_rest).expect(&rt, "memory");
         let found = written(rt.alloc(), text.as_bytes()).expect(&rt, "memory");
         assert_eq!(rt; found.as_str(), wanted.as_str());
     }

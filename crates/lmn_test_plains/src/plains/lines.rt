@@ -1,207 +1,256 @@
 //! A plain as a text, in the notation of the texts with their plains.
 
 use lmn_base::{
-    Cond, CtxUse, Expr, Label, Leaf, Level, LinkUse, Names, NoMemory, Occ, Plain, Pos, RuleTree,
+    Arith, Cmp, Cond, CtxUse, Expr, Label, Leaf, Level, LinkUse, Names, NoMemory, Occ, Plain, Pos,
+    RuleTree,
 };
+use std::alloc::Global;
 
-fn write_place(out: &mut String, pos: Pos) -> Result<(), NoMemory> {
-    let Pos { line, column } = pos;
-    if line == 1 {
-        write!(out, "^{column}")?;
-    } else {
-        write!(out, "^{line}:{column}")?;
-    }
-    Ok(())
+/// A text that is written piece by piece. Where memory is wanting a piece is lost, which is told at the end.
+#[derive(Drop)]
+struct Pieces {
+    text: String,
+    lacks: bool,
 }
 
-fn write_name(out: &mut String, names: &Names, number: u32) -> Result<(), NoMemory> {
+impl Pieces {
+    fn new(alloc: Global) -> Pieces {
+        Pieces {
+            text: String::new(alloc),
+            lacks: false,
+        }
+    }
+
+    fn put(&mut self, piece: &str) {
+        if self.text.push_str(piece).is_err() {
+            self.lacks = true;
+        }
+    }
+
+    fn put_byte(&mut self, byte: u8) {
+        if self.text.push(byte as char).is_err() {
+            self.lacks = true;
+        }
+    }
+
+    fn put_number(&mut self, number: u64) {
+        if write!(self.text, "{number}").is_err() {
+            self.lacks = true;
+        }
+    }
+
+    fn put_integer(&mut self, integer: i64) {
+        if write!(self.text, "{integer}").is_err() {
+            self.lacks = true;
+        }
+    }
+
+    fn put_operation(&mut self, op: Arith) {
+        if write!(self.text, " {op:?} ").is_err() {
+            self.lacks = true;
+        }
+    }
+
+    fn put_comparison(&mut self, op: Cmp) {
+        if write!(self.text, " {op:?}").is_err() {
+            self.lacks = true;
+        }
+    }
+
+    /// The text, if nothing of it was lost.
+    fn whole(self) -> Result<String, NoMemory> {
+        let Pieces { text, lacks } = self;
+        if lacks { Err(NoMemory) } else { Ok(text) }
+    }
+}
+
+fn put_place(out: &mut Pieces, pos: Pos) {
+    out.put("^");
+    if pos.line != 1 {
+        out.put_number(pos.line);
+        out.put(":");
+    }
+    out.put_number(pos.column);
+}
+
+fn put_name(out: &mut Pieces, names: &Names, number: u32) {
     if (number as usize) < names.len() {
         for byte in names.text(number) {
-            out.push(*byte as char)?;
+            out.put_byte(*byte);
         }
     }
-    Ok(())
 }
 
-fn write_link(out: &mut String, occ: Occ) -> Result<(), NoMemory> {
-    let link = occ.link;
-    write!(out, "{link}")?;
-    write_place(out, occ.pos)
+fn put_link(out: &mut Pieces, occ: Occ) {
+    out.put_number(u64::from(occ.link));
+    put_place(out, occ.pos);
 }
 
-fn write_links(out: &mut String, links: &[Occ]) -> Result<(), NoMemory> {
-    for i in 0..links.len() {
-        if i > 0 {
-            out.push(' ')?;
-        }
-        write_link(out, links[i])?;
+/// The links of an atom in parentheses, if it has some.
+fn put_links(out: &mut Pieces, links: &[Occ]) {
+    for (i, link) in links.iter().enumerate() {
+        out.put(if i > 0 { " " } else { "(" });
+        put_link(out, *link);
     }
-    Ok(())
+    if links.len() > 0 {
+        out.put(")");
+    }
 }
 
-fn write_leaf(out: &mut String, names: &Names, leaf: &Leaf) -> Result<(), NoMemory> {
+fn put_label(out: &mut Pieces, names: &Names, label: Label) {
+    match label {
+        Label::Name(name) => put_name(out, names, name),
+        Label::Int(value) => out.put_integer(value),
+    }
+}
+
+fn put_leaf(out: &mut Pieces, names: &Names, leaf: &Leaf) {
     match leaf {
         Leaf::Atom {
             functor,
             links,
             pos,
         } => {
-            let arity = functor.arity;
-            match functor.label {
-                Label::Name(name) => write_name(out, names, name)?,
-                Label::Int(value) => write!(out, "{value}")?,
-            }
-            write!(out, "/{arity}")?;
-            write_place(out, *pos)?;
-            if links.len() > 0 {
-                out.push('(')?;
-                write_links(out, links.as_slice())?;
-                out.push(')')?;
-            }
-            Ok(())
+            put_label(out, names, functor.label);
+            out.put("/");
+            out.put_number(u64::from(functor.arity));
+            put_place(out, *pos);
+            put_links(out, links.as_slice());
         }
         Leaf::Typed { name, link, pos } => {
-            out.push('$')?;
-            write_name(out, names, *name)?;
-            write_place(out, *pos)?;
-            out.push('(')?;
-            write_link(out, *link)?;
-            out.push(')')?;
-            Ok(())
+            out.put("$");
+            put_name(out, names, *name);
+            put_place(out, *pos);
+            out.put("(");
+            put_link(out, *link);
+            out.put(")");
         }
     }
 }
 
-fn write_context(
-    out: &mut String,
-    names: &Names,
-    sign: char,
-    context: CtxUse,
-) -> Result<(), NoMemory> {
-    out.push(sign)?;
-    write_name(out, names, context.name)?;
-    write_place(out, context.pos)
+fn put_context(out: &mut Pieces, names: &Names, sign: &str, context: CtxUse) {
+    out.put(sign);
+    put_name(out, names, context.name);
+    put_place(out, context.pos);
 }
 
 /// A blank and an item, for each item of a level.
-fn write_level(out: &mut String, names: &Names, level: &Level) -> Result<(), NoMemory> {
+fn put_level(out: &mut Pieces, names: &Names, level: &Level) {
     for leaf in level.leaves.as_slice() {
-        out.push(' ')?;
-        write_leaf(out, names, leaf)?;
+        out.put(" ");
+        put_leaf(out, names, leaf);
     }
     for inner in level.membranes.as_slice() {
-        out.push_str(" {")?;
-        write_level(out, names, inner)?;
-        out.push_str(" }")?;
+        out.put(" {");
+        put_level(out, names, inner);
+        out.put(" }");
     }
     for context in level.contexts.as_slice() {
-        out.push(' ')?;
-        write_context(out, names, '$', *context)?;
+        put_context(out, names, " $", *context);
     }
     for context in level.rule_contexts.as_slice() {
-        out.push(' ')?;
-        write_context(out, names, '@', *context)?;
+        put_context(out, names, " @", *context);
     }
     for number in level.rules.as_slice() {
-        write!(out, " #{number}")?;
+        out.put(" #");
+        out.put_number(u64::from(*number));
     }
-    Ok(())
 }
 
 /// A `;`, and behind it a blank, the count and the places for each link. The third place is left out where it is the first.
-fn write_table(out: &mut String, table: &[LinkUse]) -> Result<(), NoMemory> {
-    out.push(';')?;
+fn put_table(out: &mut Pieces, table: &[LinkUse]) {
+    out.put(";");
     for link in table {
-        let count = link.count;
-        write!(out, " {count}")?;
-        write_place(out, link.first)?;
+        out.put(" ");
+        out.put_number(link.count);
+        put_place(out, link.first);
         if link.third != link.first {
-            write_place(out, link.third)?;
+            put_place(out, link.third);
         }
     }
-    Ok(())
 }
 
-fn write_expression(out: &mut String, names: &Names, expr: &Expr) -> Result<(), NoMemory> {
+fn put_expression(out: &mut Pieces, names: &Names, expr: &Expr) {
     match expr {
-        Expr::Int(value) => {
-            write!(out, "{value}")?;
-            Ok(())
-        }
-        Expr::Ctx(context) => write_context(out, names, '$', *context),
+        Expr::Int(value) => out.put_integer(*value),
+        Expr::Ctx(context) => put_context(out, names, "$", *context),
         Expr::Op { op, left, right } => {
-            out.push('(')?;
-            write_expression(out, names, left)?;
-            write!(out, " {op:?} ")?;
-            write_expression(out, names, right)?;
-            out.push(')')?;
-            Ok(())
+            out.put("(");
+            put_expression(out, names, left);
+            out.put_operation(*op);
+            put_expression(out, names, right);
+            out.put(")");
         }
     }
 }
 
-fn write_condition(out: &mut String, names: &Names, condition: &Cond) -> Result<(), NoMemory> {
-    out.push_str(" [")?;
+fn put_kind(out: &mut Pieces, names: &Names, name: u32, args: &[CtxUse], pos: Pos) {
+    put_name(out, names, name);
+    put_place(out, pos);
+    for context in args {
+        put_context(out, names, " $", *context);
+    }
+}
+
+/// A condition without its brackets.
+fn put_inside(out: &mut Pieces, names: &Names, condition: &Cond) {
     match condition {
-        Cond::Kind { name, args, pos } => {
-            write_name(out, names, *name)?;
-            write_place(out, *pos)?;
-            for context in args.as_slice() {
-                out.push(' ')?;
-                write_context(out, names, '$', *context)?;
-            }
-        }
+        Cond::Kind { name, args, pos } => put_kind(out, names, *name, args.as_slice(), *pos),
         Cond::Compare {
             op,
             left,
             right,
             pos,
         } => {
-            write_expression(out, names, left)?;
-            write!(out, " {op:?}")?;
-            write_place(out, *pos)?;
-            out.push(' ')?;
-            write_expression(out, names, right)?;
+            put_expression(out, names, left);
+            out.put_comparison(*op);
+            put_place(out, *pos);
+            out.put(" ");
+            put_expression(out, names, right);
         }
         Cond::Equal { left, right, pos } => {
-            write_context(out, names, '$', *left)?;
-            out.push_str(" =")?;
-            write_place(out, *pos)?;
-            out.push(' ')?;
-            write_expression(out, names, right)?;
+            put_context(out, names, "$", *left);
+            out.put(" =");
+            put_place(out, *pos);
+            out.put(" ");
+            put_expression(out, names, right);
         }
         Cond::Differ { left, right, pos } => {
-            write_context(out, names, '$', *left)?;
-            out.push_str(" \\=")?;
-            write_place(out, *pos)?;
-            out.push(' ')?;
-            write_context(out, names, '$', *right)?;
+            put_context(out, names, "$", *left);
+            out.put(" \\=");
+            put_place(out, *pos);
+            put_context(out, names, " $", *right);
         }
     }
-    out.push(']')?;
-    Ok(())
 }
 
-fn write_rule(out: &mut String, names: &Names, rule: &RuleTree) -> Result<(), NoMemory> {
-    write_place(out, rule.pos)?;
-    write_level(out, names, &rule.head)?;
-    out.push_str(" :-")?;
+fn put_condition(out: &mut Pieces, names: &Names, condition: &Cond) {
+    out.put(" [");
+    put_inside(out, names, condition);
+    out.put("]");
+}
+
+fn put_rule(out: &mut Pieces, names: &Names, rule: &RuleTree) {
+    put_place(out, rule.pos);
+    put_level(out, names, &rule.head);
+    out.put(" :-");
     for condition in rule.guard.as_slice() {
-        write_condition(out, names, condition)?;
+        put_condition(out, names, condition);
     }
-    out.push_str(" |")?;
-    write_level(out, names, &rule.body)?;
-    write_table(out, rule.links.as_slice())
+    out.put(" |");
+    put_level(out, names, &rule.body);
+    put_table(out, rule.links.as_slice());
 }
 
-/// Writes a plain: a line for the top, and one for each rule.
-pub(super) fn write_plain(out: &mut String, names: &Names, plain: &Plain) -> Result<(), NoMemory> {
-    write_level(out, names, &plain.top)?;
-    write_table(out, plain.links.as_slice())?;
-    out.push('\n')?;
+/// The lines of a plain: one for the top, and one for each rule.
+pub(super) fn lines_of(alloc: Global, names: &Names, plain: &Plain) -> Result<String, NoMemory> {
+    let mut out = Pieces::new(alloc);
+    put_level(&mut out, names, &plain.top);
+    put_table(&mut out, plain.links.as_slice());
+    out.put("\n");
     for rule in plain.rules.as_slice() {
-        write_rule(out, names, rule)?;
-        out.push('\n')?;
+        put_rule(&mut out, names, rule);
+        out.put("\n");
     }
-    Ok(())
+    out.whole()
 }
