@@ -3,6 +3,7 @@
 use lmn_base::Rows;
 use lmn_io::{Failed, FetchFault, Fetched, FileShelf, OutSink, Shelf, Sink};
 use std::io::{self, Write};
+use std::rt::Files;
 use std::test::Fail;
 use std::{env, fs};
 
@@ -14,28 +15,46 @@ fn whole(fetched: Result<Fetched, FetchFault>) -> Result<Rows<u8>, FetchFault> {
     }
 }
 
+/// The bytes of a file, if they are so many at most.
+fn bytes_of(
+    rt: &(impl Files + AllocGlobal),
+    name: &str,
+    most: u64,
+) -> Result<Rows<u8>, FetchFault> {
+    let mut shelf = FileShelf::new(rt);
+    whole(shelf.fetch(rt.alloc(), name, most))
+}
+
+/// Whether a file has more bytes.
+fn is_too_long(rt: &(impl Files + AllocGlobal), name: &str, most: u64) -> bool {
+    let mut shelf = FileShelf::new(rt);
+    matches!(shelf.fetch(rt.alloc(), name, most), Ok(Fetched::TooLong))
+}
+
+/// Whether nothing can be read under a name.
+fn is_no_file(rt: &(impl Files + AllocGlobal), name: &str) -> bool {
+    bytes_of(rt, name, 5).err() == Some(FetchFault::Failed)
+}
+
 #[test]
 fn a_file_is_read_up_to_a_length(rt: HostRuntime) -> Result<(), Fail> {
     let mut path = env::temp_dir(&rt)?;
     path.push("lmn_file_shelf.txt")?;
     let name = path.to_str().ok_or("no text")?;
     fs::write(&rt, name, "a. b.")?;
-    let mut shelf = FileShelf::new(&rt);
-    let bytes = whole(shelf.fetch(rt.alloc(), name, 5))?;
+    let bytes = bytes_of(&rt, name, 5)?;
     assert_eq!(rt; bytes.as_slice(), b"a. b.".as_slice());
-    let long = shelf.fetch(rt.alloc(), name, 4)?;
-    assert!(rt; matches!(long, Fetched::TooLong));
+    assert!(rt; is_too_long(&rt, name, 4));
     fs::remove_file(&rt, name)?;
-    assert_eq!(rt;
-        whole(shelf.fetch(rt.alloc(), name, 5)).err(),
-        Some(FetchFault::Failed)
-    );
+    assert!(rt; is_no_file(&rt, name));
+    Ok(())
+}
+
+#[test]
+fn a_folder_is_no_file(rt: HostRuntime) -> Result<(), Fail> {
     let folder = env::temp_dir(&rt)?;
     let name = folder.to_str().ok_or("no text")?;
-    assert_eq!(rt;
-        whole(shelf.fetch(rt.alloc(), name, 5)).err(),
-        Some(FetchFault::Failed)
-    );
+    assert!(rt; is_no_file(&rt, name));
     Ok(())
 }
 

@@ -1,7 +1,7 @@
 //! The plan of a rule that is made by hand.
 
 use lmn_base::{
-    CtxUse, Expr, Functor, Label, Leaf, Level, Names, NoMemory, Occ, Pos, Rows, RuleTree,
+    Cond, CtxUse, Expr, Functor, Label, Leaf, Level, Names, NoMemory, Occ, Pos, Rows, RuleTree,
 };
 use lmn_guards::{TypeKind, TypedUse, analyse};
 use std::alloc::Global;
@@ -26,14 +26,18 @@ fn no_items(alloc: Global) -> Level {
     }
 }
 
-/// The rule of `p($x) :- $z = $x | .`
-fn rule(alloc: Global) -> Result<RuleTree, NoMemory> {
-    let mut head = no_items(alloc);
-    let mut links = Rows::new(alloc);
-    links.push(Occ {
+fn occurrence() -> Occ {
+    Occ {
         link: 0,
         pos: at(1),
-    })?;
+    }
+}
+
+/// `p($x)`
+fn head(alloc: Global) -> Result<Level, NoMemory> {
+    let mut links = Rows::new(alloc);
+    links.push(occurrence())?;
+    let mut head = no_items(alloc);
     head.leaves.push(Leaf::Atom {
         functor: Functor {
             label: Label::Name(4),
@@ -44,26 +48,35 @@ fn rule(alloc: Global) -> Result<RuleTree, NoMemory> {
     })?;
     head.leaves.push(Leaf::Typed {
         name: X,
-        link: Occ {
-            link: 0,
-            pos: at(1),
-        },
+        link: occurrence(),
         pos: at(3),
     })?;
+    Ok(head)
+}
+
+fn context(name: u32, column: u64) -> CtxUse {
+    CtxUse {
+        name,
+        closed: false,
+        pos: at(column),
+    }
+}
+
+/// `$z = $x`
+fn guard(alloc: Global) -> Result<Rows<Cond>, NoMemory> {
     let mut guard = Rows::new(alloc);
-    guard.push(lmn_base::Cond::Equal {
-        left: CtxUse {
-            name: Z,
-            closed: false,
-            pos: at(10),
-        },
-        right: Expr::Ctx(CtxUse {
-            name: X,
-            closed: false,
-            pos: at(15),
-        }),
+    guard.push(Cond::Equal {
+        left: context(Z, 10),
+        right: Expr::Ctx(context(X, 15)),
         pos: at(13),
     })?;
+    Ok(guard)
+}
+
+/// The rule of `p($x) :- $z = $x | .`
+fn rule(alloc: Global) -> Result<RuleTree, NoMemory> {
+    let guard = guard(alloc)?;
+    let head = head(alloc)?;
     Ok(RuleTree {
         head,
         guard,
