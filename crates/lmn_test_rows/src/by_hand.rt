@@ -591,10 +591,8 @@ fn walls_are_printed(rt: HostRuntime) {
             (count, b"}"),
             (1, b".\n"),
         ];
-        assert!(rt;
-            out.taken() == repeated(&rt, wanted.as_slice()).as_slice(),
-            "{count} walls"
-        );
+        let line = repeated(&rt, wanted.as_slice());
+        assert!(rt; out.taken() == line.as_slice(), "{count} walls");
     }
 }
 
@@ -620,8 +618,6 @@ fn deep_terms_are_folded(rt: HostRuntime) {
     let mut store = terms(&rt, &mut names, count);
     let out = printed(&rt, &mut store, &accepted.plain, &names, true, 1_000_000);
     let wanted: [(usize, &[u8]); 4] = [(1, b"a"), (count, b"(b"), (count, b")"), (1, b".\n")];
-    assert!(rt;
-        out.taken() == repeated(&rt, wanted.as_slice()).as_slice(),
-        "{count} terms"
-    );
+    let line = repeated(&rt, wanted.as_slice());
+    assert!(rt; out.taken() == line.as_slice(), "{count} terms");
 }
