@@ -28,7 +28,8 @@ fn bytes_of(
 /// Whether a file has more bytes.
 fn is_too_long(rt: &(impl Files + AllocGlobal), name: &str, most: u64) -> bool {
     let mut shelf = FileShelf::new(rt);
-    matches!(shelf.fetch(rt.alloc(), name, most), Ok(Fetched::TooLong))
+    let found = shelf.fetch(rt.alloc(), name, most);
+    matches!(found, Ok(Fetched::TooLong))
 }
 
 /// Whether nothing can be read under a name.
