@@ -16,7 +16,7 @@ use std::process::Abort;
 /// A text, how many firings come one after the other, the line of the last solid, and whether no rule has a match then.
 type Row = (&'static [u8], u64, &'static [u8], bool);
 
-const ROWS: [Row; 17] = [
+const ROWS: &[Row] = &[
     (b"a. a. a, a :- b.", 1, b"b. (a, a :- b).\n", true),
     (b"", 0, b"\n", true),
     (
@@ -166,7 +166,7 @@ fn check_row(rt: &(impl Abort + AllocGlobal), row: &Row) {
 
 #[test]
 fn next_solids_are_those_of_the_rows(rt: HostRuntime) {
-    for row in &ROWS {
+    for row in ROWS {
         check_row(&rt, row);
     }
 }

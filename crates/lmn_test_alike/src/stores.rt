@@ -119,7 +119,7 @@ fn run_alike(rt: &(impl Abort + AllocGlobal), row: &Row) {
 fn texts_run_alike(rt: HostRuntime) {
     for text in DEFAULTS {
         let row = Row {
-            text,
+            text: *text,
             order: Order::First,
             budget: BUDGET,
             size: SIZE,
@@ -127,6 +127,6 @@ fn texts_run_alike(rt: HostRuntime) {
         run_alike(&rt, &row);
     }
     for row in OPTIONS {
-        run_alike(&rt, &row);
+        run_alike(&rt, row);
     }
 }

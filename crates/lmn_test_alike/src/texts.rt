@@ -18,7 +18,7 @@ pub(crate) const BUDGET: u64 = 1_000_000;
 pub(crate) const SIZE: u64 = 16_777_216;
 
 /// Texts that are run by the defaults.
-pub(crate) const DEFAULTS: [&[u8]; 24] = [
+pub(crate) const DEFAULTS: &[&[u8]] = &[
     b"a. a. a, a :- b.",
     b"",
     b"a(X), b(X). a(X), b(Y) :- c(X,Y).",
@@ -46,7 +46,7 @@ pub(crate) const DEFAULTS: [&[u8]; 24] = [
 ];
 
 /// Texts with options.
-pub(crate) const OPTIONS: [Row; 7] = [
+pub(crate) const OPTIONS: &[Row] = &[
     Row {
         text: b"a. a :- a.",
         order: Order::First,

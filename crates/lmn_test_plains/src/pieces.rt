@@ -4,7 +4,7 @@ use lmn_base::{Level, Names, NoMemory, Region, Rows};
 use std::alloc::Global;
 
 /// Names in the order in which they are put, and the number of each.
-const NAMES: [(&[u8], u32); 9] = [
+const NAMES: &[(&[u8], u32)] = &[
     (b"a", 4),
     (b"=", 0),
     (b"append", 5),
@@ -113,9 +113,9 @@ fn names_keep_their_numbers(rt: HostRuntime) -> Result<(), NoMemory> {
     let mut names = Names::new(rt.alloc());
     for (name, number) in NAMES {
         assert!(rt; name.len() <= 255 && names.len() < 10);
-        let put = names.put(name)?;
-        assert_eq!(rt; put, number);
-        assert_eq!(rt; names.text(put), name);
+        let put = names.put(*name)?;
+        assert_eq!(rt; put, *number);
+        assert_eq!(rt; names.text(put), *name);
     }
     assert_eq!(rt; names.len(), 7);
     Ok(())

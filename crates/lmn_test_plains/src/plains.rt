@@ -57,10 +57,10 @@ fn compare(rt: &(impl Abort + AllocGlobal), text: &str, lines: &[&str]) {
 #[test]
 fn texts_have_their_plains(rt: HostRuntime) {
     for (text, lines) in PROCESSES {
-        compare(&rt, text, lines);
+        compare(&rt, *text, *lines);
     }
     for (text, lines) in RULES {
-        compare(&rt, text, lines);
+        compare(&rt, *text, *lines);
     }
 }
 

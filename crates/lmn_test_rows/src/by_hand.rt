@@ -20,7 +20,7 @@ type Row = (&'static [u8], &'static [Step], &'static [u8]);
 /// The rule by which two numbers are added.
 const ADDITION: &[u8] = b"p($x), p($y) :- $z = $x + $y | p($z).";
 
-const ROWS: [Row; 24] = [
+const ROWS: &[Row] = &[
     (
         b"a(X), b(Y) :- c(X,Y).",
         &[Atom(0, b"c", 2), Join(0, 0, 0, 1), Rule(0, 0)],
@@ -276,7 +276,7 @@ const ROWS: [Row; 24] = [
 /// What is made, with no rules, and the line in the folded form.
 type FoldedRow = (&'static [Step], &'static [u8]);
 
-const FOLDED: [FoldedRow; 18] = [
+const FOLDED: &[FoldedRow] = &[
     (&[], b"\n"),
     // Lists in the arguments of an item.
     (

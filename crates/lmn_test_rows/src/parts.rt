@@ -403,7 +403,7 @@ const LONE: &[Line] = &[(6, None, &[None], 0)];
 /// What is made, and what is done to it.
 type Row = (&'static [Step], &'static [Act]);
 
-const ROWS: [Row; 3] = [
+const ROWS: &[Row] = &[
     // Each call leaves the rest of the heap as it is.
     (
         &[
@@ -511,7 +511,7 @@ const ROWS: [Row; 3] = [
 fn heaps_are_written_out(rt: HostRuntime) {
     for (steps, acts) in ROWS {
         let mut names = Names::new(rt.alloc());
-        act_all(&rt, made(&rt, &mut names, steps), acts);
+        act_all(&rt, made(&rt, &mut names, *steps), *acts);
     }
 }
 

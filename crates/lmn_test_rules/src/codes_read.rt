@@ -6,7 +6,7 @@ use std::alloc::Global;
 use std::test::Fail;
 
 /// Texts that are no lines of a head.
-const NO_LINES: [&[u8]; 6] = [
+const NO_LINES: &[&[u8]] = &[
     b"  FINDATOM A00 M0 a/0\n",
     b"  FINDATOM A0 M0 a/256\n",
     b"  FINDATOM A65536 M0 a/0\n",
@@ -19,14 +19,14 @@ const NO_LINES: [&[u8]; 6] = [
 fn other_texts_are_no_lines(rt: std::rt::HostRuntime) -> Result<(), Fail> {
     for text in NO_LINES {
         let mut names = Names::new(rt.alloc());
-        let found = read_line(rt.alloc(), true, text, &mut names)?;
+        let found = read_line(rt.alloc(), true, *text, &mut names)?;
         assert!(rt; found.is_none());
     }
     Ok(())
 }
 
 /// Listings of one rule, and the code and the line by which each is refused; 0 where it is read.
-const LISTINGS: [(&[u8], u8, u64); 9] = [
+const LISTINGS: &[(&[u8], u8, u64)] = &[
     (
         b"rule 0\n  FINDATOM A0 M0 a/0\n  FINDATOM A1 M0 a/0\n  NEQATOM A1 A0\n  COMMIT\n  REMOVEATOM A0\n  REMOVEATOM A1\n  NEWATOM A2 M0 c/0\n  PROCEED\n",
         0,
@@ -70,14 +70,14 @@ const LISTINGS: [(&[u8], u8, u64); 9] = [
 fn listings_are_read_or_refused(rt: std::rt::HostRuntime) -> Result<(), Fail> {
     for (listing, code, line) in LISTINGS {
         let mut names = Names::new(rt.alloc());
-        match read(rt.alloc(), listing, 1, &mut names) {
+        match read(rt.alloc(), *listing, 1, &mut names) {
             Ok(codes) => {
-                assert!(rt; code == 0);
+                assert!(rt; *code == 0);
                 assert!(rt; codes.len() == 1);
             }
             Err(TextFault::Refused(refusal)) => {
-                assert!(rt; refusal.code == code);
-                assert!(rt; refusal.pos.line == line);
+                assert!(rt; refusal.code == *code);
+                assert!(rt; refusal.pos.line == *line);
             }
             Err(TextFault::NoMemory) => {
                 assert!(rt; false);

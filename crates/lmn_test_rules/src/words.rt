@@ -21,7 +21,7 @@ const PLAIN: RunWords = RunWords {
 };
 
 /// Words behind `run`, and what they ask for.
-const RUNS: [(&[&str], RunWords); 18] = [
+const RUNS: &[(&[&str], RunWords)] = &[
     (&["f"], PLAIN),
     (
         &["a=b"],

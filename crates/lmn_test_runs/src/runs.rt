@@ -71,7 +71,7 @@ const SIZE: u64 = 16_777_216;
 /// many items are left, and the lines.
 type Default = (&'static [u8], u64, u64, u64, &'static [u8]);
 
-const DEFAULTS: [Default; 16] = [
+const DEFAULTS: &[Default] = &[
     (
         b"a. a. a, a :- b.",
         3,
@@ -172,7 +172,7 @@ const DEFAULTS: [Default; 16] = [
 
 const TWO_MEMBRANES: &[u8] = b"{a. a :- b.}. {c. c :- d.}.";
 
-const OPTIONS: [Row; 10] = [
+const OPTIONS: &[Row] = &[
     // A membrane that sleeps isn't woken by what fires beside it,
     Row {
         text: b"{x. y :- z.}. a. a :- a.",
@@ -528,24 +528,24 @@ fn run_row(rt: &(impl Abort + AllocGlobal), row: &Row) {
 fn texts_run(rt: HostRuntime) {
     for (text, loaded, commits, left, lines) in DEFAULTS {
         let ran = Ran {
-            loaded,
-            commits,
-            left,
+            loaded: *loaded,
+            commits: *commits,
+            left: *left,
             end: RunEnd::Irreducible,
         };
         let row = Row {
-            text,
+            text: *text,
             asked: Asked::By(Order::First),
             trace: false,
             budget: BUDGET,
             size: SIZE,
             ran,
-            lines,
+            lines: *lines,
         };
         run_row(&rt, &row);
     }
     for row in OPTIONS {
-        run_row(&rt, &row);
+        run_row(&rt, row);
     }
 }
 

@@ -165,7 +165,7 @@ fn run(
 type Row = (&'static [Step], &'static str);
 
 /// `{a(X), b}, c(X)`, where the membrane has two rules, becomes `a(X), b, {c(X)}`, where it has them too.
-const ROWS: [Row; 2] = [
+const ROWS: &[Row] = &[
     (
         &[
             Step::MakeMem,
@@ -209,9 +209,9 @@ const ROWS: [Row; 2] = [
 fn what_is_inside_goes_out(rt: HostRuntime) -> Result<(), NoMemory> {
     let mut store = SlabStore::new(rt.alloc())?;
     for (steps, wanted) in ROWS {
-        run(&rt, &mut store, steps)?;
+        run(&rt, &mut store, *steps)?;
         let found = state(&rt, &store)?;
-        assert_eq!(rt; found.as_str(), wanted);
+        assert_eq!(rt; found.as_str(), *wanted);
     }
     assert!(rt; store.is_settled());
     assert_eq!(rt; store.items(), 6);

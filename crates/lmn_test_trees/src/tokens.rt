@@ -9,7 +9,7 @@ use lmn_lexer::{Kind, Tokens, lex};
 use std::alloc::Global;
 
 /// A text and the kinds of its tokens.
-const READ: [(&[u8], &[Kind]); 26] = [
+const READ: &[(&[u8], &[Kind])] = &[
     (b"", &[End]),
     (b" \t\r\n\x0c", &[End]),
     (
@@ -90,6 +90,6 @@ fn are_of(tokens: &Tokens, wanted: &[Kind]) -> bool {
 #[test]
 fn texts_are_cut(rt: HostRuntime) {
     for (text, wanted) in READ {
-        assert!(rt; is_read(rt.alloc(), text, wanted));
+        assert!(rt; is_read(rt.alloc(), *text, *wanted));
     }
 }

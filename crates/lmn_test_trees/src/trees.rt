@@ -90,7 +90,7 @@ fn outcome(alloc: Global, pattern: &[u8], times: u64) -> Result<(u8, u64), NoMem
 }
 
 /// A broken program, the place of the token that refuses it, and a program that is the same up to that token.
-const BROKEN: [(&[u8], u64, &[u8]); 77] = [
+const BROKEN: &[(&[u8], u64, &[u8])] = &[
     (b".", 1, b""),
     (b"a..", 3, b"a."),
     (b"aa", 2, b"a"),
@@ -179,14 +179,14 @@ fn common(pattern: &[u8], other: &[u8]) -> u64 {
 #[test]
 fn broken_programs(rt: HostRuntime) {
     for (pattern, place, program) in BROKEN {
-        assert_eq!(rt; outcome(rt.alloc(), pattern, 1), Ok((10, place)));
-        assert_eq!(rt; outcome(rt.alloc(), program, 1), Ok((0, 0)));
-        assert!(rt; place <= common(pattern, program).saturating_add(1));
+        assert_eq!(rt; outcome(rt.alloc(), *pattern, 1), Ok((10, *place)));
+        assert_eq!(rt; outcome(rt.alloc(), *program, 1), Ok((0, 0)));
+        assert!(rt; *place <= common(*pattern, *program).saturating_add(1));
     }
 }
 
 /// Programs of every form.
-const PROGRAMS: [&[u8]; 25] = [
+const PROGRAMS: &[&[u8]] = &[
     b"",
     b"a",
     b"a.",
@@ -217,12 +217,12 @@ const PROGRAMS: [&[u8]; 25] = [
 #[test]
 fn programs(rt: HostRuntime) {
     for pattern in PROGRAMS {
-        assert_eq!(rt; outcome(rt.alloc(), pattern, 1), Ok((0, 0)));
+        assert_eq!(rt; outcome(rt.alloc(), *pattern, 1), Ok((0, 0)));
     }
 }
 
 /// A pattern, how often its parts are repeated, and the code and the place of its refusal, or zeros.
-const LIMITS: [(&[u8], u64, u8, u64); 42] = [
+const LIMITS: &[(&[u8], u64, u8, u64)] = &[
     (b"~{~~}~", 200, 0, 0),
     (b"~{~", 201, 11, 201),
     (b"~a(~~)~", 200, 0, 0),
@@ -270,6 +270,6 @@ const LIMITS: [(&[u8], u64, u8, u64); 42] = [
 #[test]
 fn limits(rt: HostRuntime) {
     for (pattern, times, code, place) in LIMITS {
-        assert_eq!(rt; outcome(rt.alloc(), pattern, times), Ok((code, place)));
+        assert_eq!(rt; outcome(rt.alloc(), *pattern, *times), Ok((*code, *place)));
     }
 }

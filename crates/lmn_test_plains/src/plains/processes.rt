@@ -11,7 +11,7 @@
 //! by the name of its variant, and ` |`.
 
 /// Texts, each with the lines of its plain.
-pub(super) const PROCESSES: [(&str, &[&str]); 27] = [
+pub(super) const PROCESSES: &[(&str, &[&str])] = &[
     // Nothing is abbreviated.
     ("", &[";"]),
     ("a, b(). 3, -5.", &[" a/0^1 b/0^4 3/0^9 -5/0^12;"]),

@@ -2,7 +2,7 @@
 //! rules.
 
 /// Texts, each with the lines of its plain.
-pub(super) const RULES: [(&str, &[&str]); 37] = [
+pub(super) const RULES: &[(&str, &[&str])] = &[
     (
         "(a :- b), c. (r @@ d :- e)",
         &[
