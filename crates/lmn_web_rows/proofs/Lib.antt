@@ -1,0 +1,12 @@
+pub mod Sharing
+pub mod Words
+pub mod Steps
+pub mod Reading
+pub mod Writing
+pub mod Blocks
+pub mod Answers
+pub mod Places
+pub mod Tiling
+pub mod Cutting
+pub mod Lookups
+pub mod StoreLemmas

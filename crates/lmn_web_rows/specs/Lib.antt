@@ -1,0 +1,5 @@
+pub mod Rows
+pub mod Owned
+pub mod Tiles
+pub mod Seen
+pub mod Keeping
