@@ -1,16 +1,15 @@
 -- Rows that are cells: one of them is read, and changed.
-use Rattle.std.proofs.Common.{◌≡◌, ◌⊎◌, ℕ, suc, ◌+◌, ◌*◌, ◌<◌, ◌≤◌, ◌^◌, ◌==◌, Bool, true, false, List, [], ◌∷◌, ◌++◌, length, take, drop, get_or, set, Option, Some, None, IsSome, if◌then◌else◌, refl, sym, subst, ap, ◌∙◌, inl, inr, arith, length-set}
-use Rattle.std.proofs.lemmas.Bool.{cases_eq, eq-eqb}
+use Rattle.std.proofs.Common.{◌≡◌, ◌⊎◌, ℕ, suc, ◌+◌, ◌*◌, ◌<◌, ◌≤◌, ◌^◌, List, ◌++◌, length, take, drop, get_or, set, Option, Some, None, IsSome, refl, sym, subst, ap, ◌∙◌, inl, inr, arith, length-set}
+use Rattle.std.proofs.lemmas.Bool.{cases_eq}
 use Rattle.std.specs.Option.{option_map}
 use denote.RawPtr.{Ptr, null_ptr}
-use Rattle.lmn_web_cells.specs.Rows.{Item, blank, link, number, Row, row, items_in, with_items}
+use Rattle.lmn_web_cells.specs.Rows.{Item, blank, link, number, Row, items_in, with_items, place_ptr}
 use Rattle.lmn_web_cells.specs.Cells.{HeldPort, HeldCell, pointer_to, link_to, link_items, number_items, cell_items, cell_by, cells_by, IsShaped, IsLaid, AreLaid, HaveLinks, links_of, numbers_of, ports_of, no_port, with_link, with_number, with_to, with_port, with_mark}
 use Rattle.lmn_store_heap.specs.Heap.{alter}
 use Rattle.lmn_store_heap.proofs.Listing.{alter_at, alter_away}
 use Rattle.lmn_web_cells.specs.CellIds.{IsLink, led_by}
-use Rattle.lmn_base.proofs.Numbers.{not_equal}
-use Rattle.lmn_web_cells.proofs.CellWords.{behind_links, some_numbers, link_at, set_link_at, cell_back, ports_at, set_ports_at, port_word_at, set_to_at, set_port_at, set_mark_at, word_count, first_number_at, set_first_number_at, last_number_word, set_last_number_word}
-use Rattle.lmn_base.proofs.Truth.{if_no}
+use Rattle.lmn_web_cells.proofs.CellWords.{place_again, behind_links, some_numbers, link_at, set_link_at, cell_back, ports_at, set_ports_at, port_word_at, set_to_at, set_port_at, set_mark_at, word_count, first_number_at, set_first_number_at, last_number_word, set_last_number_word}
+pub use Rattle.lmn_web_rows.proofs.Lookups.{if_yes, items_same, items_away}
 
 -- a cell that is there, with its words
 pub record Found (rows : List Row) (b : ℕ) : Type 0 where
@@ -53,12 +52,12 @@ pointer_in (Some (Some p, n)) = p
 -- the pointer to a cell, or to nowhere, is a link
 pub is_link : (x : Option ℕ) → IsLink (pointer_to x)
 is_link None = inl refl
-is_link (Some b) = inr refl
+is_link (Some n) = inr (ap place_ptr (sym (place_again n)))
 
 -- it leads there
 pub leads : (x : Option ℕ) → led_by (pointer_to x) ≡ x
 leads None = refl
-leads (Some b) = refl
+leads (Some n) = ap Some (place_again n)
 
 -- the pointer that was read from a word
 pub pointer_read : (i : Item) (x : Option ℕ) (p : Ptr) → i ≡ link_to x → i ≡ link p → p ≡ pointer_to x
@@ -121,28 +120,6 @@ pub low_port : (rows : List Row) (b j : ℕ) (laid : AreLaid rows) (there : IsSo
 low_port rows b j laid there low = let f = found rows b laid there in let few = f.shaped.few in let l = subst (λ (o : Option HeldCell). j < length (ports_of o)) f.is low in omega (arith, few, l)
 
 -- Changing a row
-
--- a choice whose test is true
-pub if_yes : {X : Type 0} (t : Bool) (x y : X) → t ≡ true → (if t then x else y) ≡ x
-if_yes true x y e = refl
-if_yes false x y e = absurd cc
-
--- the words that a block was given
-pub items_same : (rs : List Row) (b : ℕ) (is : List Item) → 0 < length (items_in rs b) → items_in (with_items b is rs) b ≡ is
-items_same [] b is l = absurd (omega (arith, l))
-items_same (r ∷ rs) b is l = elim (cases_eq r.at b) [
-  | inl e ↦ ap (λ xs. items_in xs b) (if_yes (r.at == b) (row r.at is ∷ rs) (r ∷ with_items b is rs) (eq-eqb r.at b e)) ∙ if_yes (r.at == b) is (items_in rs b) (eq-eqb r.at b e)
-  | inr d ↦ ap (λ xs. items_in xs b) (if_no (r.at == b) (row r.at is ∷ rs) (r ∷ with_items b is rs) (not_equal r.at b d)) ∙ if_no (r.at == b) r.items (items_in (with_items b is rs) b) (not_equal r.at b d)
-      ∙ items_same rs b is (subst (λ xs. 0 < length xs) (if_no (r.at == b) r.items (items_in rs b) (not_equal r.at b d)) l)
-]
-
-items_away : (rs : List Row) (b : ℕ) (is : List Item) (j : ℕ) → (j ≡ b → ⊥) → items_in (with_items b is rs) j ≡ items_in rs j
-items_away [] b is j d = refl
-items_away (r ∷ rs) b is j d = elim (cases_eq r.at b) [
-  | inl e ↦ ap (λ xs. items_in xs j) (if_yes (r.at == b) (row r.at is ∷ rs) (r ∷ with_items b is rs) (eq-eqb r.at b e))
-      ∙ if_no (r.at == j) is (items_in rs j) (not_equal r.at j (λ z. d (sym z ∙ e))) ∙ sym (if_no (r.at == j) r.items (items_in rs j) (not_equal r.at j (λ z. d (sym z ∙ e))))
-  | inr n ↦ ap (λ xs. items_in xs j) (if_no (r.at == b) (row r.at is ∷ rs) (r ∷ with_items b is rs) (not_equal r.at b n)) ∙ ap (λ xs. if r.at == j then r.items else xs) (items_away rs b is j d)
-]
 
 -- what a row is after one word of it was written
 pub record Changed (rows : List Row) (b k : ℕ) (i : Item) (g : HeldCell → HeldCell) : Type 0 where

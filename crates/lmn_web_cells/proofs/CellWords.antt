@@ -1,6 +1,6 @@
 -- The words of a cell, read and written.
 use Rattle.std.proofs.Common.{◌≡◌, ◌≢◌, ℕ, zero, suc, ◌+◌, ◌-◌, ◌*◌, ◌<◌, ◌≤◌, Bool, List, [], ◌∷◌, ◌++◌, length, take, drop, get_or, set, Option, Some, None, if◌then◌else◌, refl, sym, subst, ap, ◌∙◌, inl, inr, arith}
-use Rattle.lmn_web_cells.specs.Rows.{Item, blank, number}
+use Rattle.lmn_web_cells.specs.Rows.{Item, blank, number, place_of, place_ptr}
 use Rattle.lmn_web_cells.specs.Cells.{HeldPort, HeldCell, link_to, link_items, number_items, port_items, cell_items, led_to, first_links, first_numbers, ports_by, last_numbers, cell_by, IsShaped, no_port}
 use Rattle.std.proofs.lemmas.Bool.{eq-eqb}
 use Rattle.std.proofs.lemmas.List.{nil_from_length, get_or-take, get_or-drop, take-append-drop, length-take-le, length-drop, take-set-le, drop-set-lt, drop-set-add}
@@ -109,9 +109,13 @@ set_last_number_at (y ∷ ns) (suc k) n l = ap (λ is. number y ∷ is) (set_las
 
 -- what a cell's words stand for
 
+-- the place to which a place's pointer leads
+pub place_again : (n : ℕ) → place_of (place_ptr n) ≡ n
+place_again n = omega arith
+
 link_back : (x : Option ℕ) → led_to (link_to x) ≡ x
 link_back None = refl
-link_back (Some b) = refl
+link_back (Some n) = ap Some (place_again n)
 
 links_back : (ls : List (Option ℕ)) (n : ℕ) (rest : List Item) → length ls ≡ n → first_links n (link_items ls ++ rest) ≡ ls
 links_back [] zero rest e = refl

@@ -1,7 +1,7 @@
 -- The words of a new row are written one after the other.
 use Rattle.std.proofs.Common.{◌≡◌, ℕ, zero, suc, ◌+◌, ◌-◌, ◌*◌, ◌<◌, ◌==◌, List, [], ◌∷◌, ◌++◌, length, set, replicate, None, refl, sym, subst, ap, ◌∙◌, inl, inr, arith}
 use Rattle.std.proofs.lemmas.Bool.{cases_eq, eq-eqb}
-use Rattle.lmn_web_cells.specs.Rows.{Item, blank, number, Row, row, items_in, with_items}
+use Rattle.lmn_web_cells.specs.Rows.{Item, blank, number, Row, items_in, with_items}
 use Rattle.lmn_web_cells.specs.Cells.{link_to, cell_items, blank_cell, blank_links, blank_numbers, blank_ports}
 use Rattle.lmn_web_cells.specs.Fillings.{ports_filled}
 use Rattle.lmn_web_cells.proofs.CellRows.{items_same, if_yes}
@@ -12,19 +12,19 @@ use Rattle.lmn_base.proofs.Truth.{if_no}
 pub with_twice : (rs : List Row) (b : ℕ) (is js : List Item) → with_items b js (with_items b is rs) ≡ with_items b js rs
 with_twice [] b is js = refl
 with_twice (r ∷ rs) b is js = elim (cases_eq r.at b) [
-  | inl e ↦ ap (with_items b js) (if_yes (r.at == b) (row r.at is ∷ rs) (r ∷ with_items b is rs) (eq-eqb r.at b e)) ∙ if_yes (r.at == b) (row r.at js ∷ rs) (row r.at is ∷ with_items b js rs) (eq-eqb r.at b e)
-      ∙ sym (if_yes (r.at == b) (row r.at js ∷ rs) (r ∷ with_items b js rs) (eq-eqb r.at b e))
-  | inr d ↦ ap (with_items b js) (if_no (r.at == b) (row r.at is ∷ rs) (r ∷ with_items b is rs) (not_equal r.at b d)) ∙ if_no (r.at == b) (row r.at js ∷ with_items b is rs) (r ∷ with_items b js (with_items b is rs)) (not_equal r.at b d)
-      ∙ ap (λ xs. r ∷ xs) (with_twice rs b is js) ∙ sym (if_no (r.at == b) (row r.at js ∷ rs) (r ∷ with_items b js rs) (not_equal r.at b d))
+  | inl e ↦ ap (with_items b js) (if_yes (r.at == b) (record r { items = is } ∷ rs) (r ∷ with_items b is rs) (eq-eqb r.at b e)) ∙ if_yes (r.at == b) (record r { items = js } ∷ rs) (record r { items = is } ∷ with_items b js rs) (eq-eqb r.at b e)
+      ∙ sym (if_yes (r.at == b) (record r { items = js } ∷ rs) (r ∷ with_items b js rs) (eq-eqb r.at b e))
+  | inr d ↦ ap (with_items b js) (if_no (r.at == b) (record r { items = is } ∷ rs) (r ∷ with_items b is rs) (not_equal r.at b d)) ∙ if_no (r.at == b) (record r { items = js } ∷ with_items b is rs) (r ∷ with_items b js (with_items b is rs)) (not_equal r.at b d)
+      ∙ ap (λ xs. r ∷ xs) (with_twice rs b is js) ∙ sym (if_no (r.at == b) (record r { items = js } ∷ rs) (r ∷ with_items b js rs) (not_equal r.at b d))
 ]
 
 -- a row with the words that it has
 pub with_same : (rs : List Row) (b : ℕ) → with_items b (items_in rs b) rs ≡ rs
 with_same [] b = refl
 with_same (r ∷ rs) b = elim (cases_eq r.at b) [
-  | inl e ↦ if_yes (r.at == b) (row r.at (items_in (r ∷ rs) b) ∷ rs) (r ∷ with_items b (items_in (r ∷ rs) b) rs) (eq-eqb r.at b e)
-      ∙ ap (λ is. row r.at is ∷ rs) (if_yes (r.at == b) r.items (items_in rs b) (eq-eqb r.at b e))
-  | inr d ↦ if_no (r.at == b) (row r.at (items_in (r ∷ rs) b) ∷ rs) (r ∷ with_items b (items_in (r ∷ rs) b) rs) (not_equal r.at b d)
+  | inl e ↦ if_yes (r.at == b) (record r { items = items_in (r ∷ rs) b } ∷ rs) (r ∷ with_items b (items_in (r ∷ rs) b) rs) (eq-eqb r.at b e)
+      ∙ ap (λ is. record r { items = is } ∷ rs) (if_yes (r.at == b) r.items (items_in rs b) (eq-eqb r.at b e))
+  | inr d ↦ if_no (r.at == b) (record r { items = items_in (r ∷ rs) b } ∷ rs) (r ∷ with_items b (items_in (r ∷ rs) b) rs) (not_equal r.at b d)
       ∙ ap (λ is. r ∷ with_items b is rs) (if_no (r.at == b) r.items (items_in rs b) (not_equal r.at b d)) ∙ ap (λ xs. r ∷ xs) (with_same rs b)
 ]
 

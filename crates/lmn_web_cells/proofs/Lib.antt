@@ -1,17 +1,9 @@
-pub mod Sharing
-pub mod Words
-pub mod Steps
-pub mod Reading
-pub mod Writing
-pub mod Blocks
-pub mod Answers
 pub mod CellWords
 pub mod CellRows
 pub mod PortLemmas
 pub mod Pairing
 pub mod FillLemmas
 pub mod MadeLemmas
-pub mod StackLemmas
 pub mod RunLemmas
 pub mod LineLemmas
 pub mod InsertLemmas

@@ -1,7 +1,7 @@
 -- Cells: what the words of a row stand for.
 use Rattle.std.specs.Prelude.{◌≡◌, ◌⊎◌, ℕ, zero, suc, ◌==◌, ◌<◌, ◌^◌, List, [], ◌∷◌, ◌++◌, length, take, drop, Option, Some, None, IsSome, if◌then◌else◌, slice_index_or, slice_set, replicate}
 use denote.RawPtr.{Ptr, block_ptr, null_ptr}
-use Rattle.lmn_web_cells.specs.Rows.{Item, link, number, Row, items_in}
+use Rattle.lmn_web_cells.specs.Rows.{Item, link, number, Row, items_in, place_of, place_ptr}
 
 -- a port: the cell to which it leads, the port there, and a mark
 pub record HeldPort : Type 0 where
@@ -20,7 +20,7 @@ pub record HeldCell : Type 0 where
 -- the pointer to the cell of a number, or to nowhere
 abbrev pub pointer_to : Option ℕ → Ptr
 pointer_to None = null_ptr
-pointer_to (Some b) = block_ptr b 0
+pointer_to (Some n) = place_ptr n
 
 -- a word that leads there
 abbrev pub link_to : Option ℕ → Item
@@ -50,7 +50,7 @@ abbrev pub led_to : Item → Option ℕ
 led_to None = None
 led_to (Some (None, n)) = None
 led_to (Some (Some null_ptr, n)) = None
-led_to (Some (Some (block_ptr b o), n)) = Some b
+led_to (Some (Some (block_ptr b o), n)) = Some (place_of (block_ptr b o))
 
 abbrev pub number_by : Item → ℕ
 number_by None = 0

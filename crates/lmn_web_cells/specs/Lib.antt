@@ -1,6 +1,4 @@
 pub mod Rows
-pub mod Owned
-pub mod Stacks
 pub mod Cells
 pub mod Fillings
 pub mod CellIds

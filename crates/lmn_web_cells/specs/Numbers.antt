@@ -1,7 +1,7 @@
 -- The numbers of a cell, by what they say.
 use Rattle.std.specs.Prelude.{ℕ}
 
--- its place in the table of all cells, how many ports it has, and what it stands for
+-- its index, which no other one has, how many ports it has, and what it stands for
 abbrev pub INDEX : ℕ
 INDEX = 0
 

@@ -2,15 +2,16 @@
 //! numbers more.
 ghost use Rattle.std.specs.Prelude.{◌≡◌, ℕ, ◌+◌, ◌*◌, ◌^◌, ◌<◌, ◌≤◌, ◌∷◌, length, IsSome, None, Some, MatchResult, slice_index_or};
 ghost use Rattle.std.specs.Option.{option_map};
-ghost use denote.RawPtr.{block_of};
 ghost use Rattle.lmn_web_cells.specs.Cells.{cells_by, links_of, numbers_of, ports_of, port_of, with_link, with_number, with_to, with_port, with_mark, pointer_to, blank_cell, blank_membrane, HaveLinks};
 ghost use Rattle.lmn_store_heap.specs.Heap.{alter};
 ghost use Rattle.lmn_web_cells.specs.CellIds.{cell_id, IsLink, led_by};
 
-use crate::filling::{FIRST_PORT, LINKS, PORT_WORDS, fill, fill_membrane};
+use crate::filling::{
+    FIRST_PORT, LINKS, MEMBRANE_WORDS, PORT_WORDS, atom_words, fill, fill_membrane,
+};
 use crate::handle::Cell;
-use crate::kept::Kept;
-use crate::rows::{Rows, is_nowhere, nowhere};
+use lmn_web_rows::pointers::{is_nowhere, nowhere};
+use lmn_web_rows::store::Store;
 use std::alloc::{AllocError, Global};
 use std::marker::Model;
 
@@ -21,12 +22,10 @@ const PORT: usize = 1;
 
 const MARK: usize = 2;
 
-/// The cells, and the handle of the heap that they are from. The blocks of freed membranes, and of freed atoms with at most
-/// three ports, are kept and used again, so that of cells with as many words there are never more blocks than lived at once.
+/// The cells, many of them side by side in one block. The memory of a cell that was freed is used for the next one with as many
+/// words, so that of cells with as many words there is never memory for more than lived at once.
 pub struct Cells {
-    rows: Rows,
-    kept: Kept,
-    alloc: Global,
+    rows: Store,
 }
 
 impl Model for Cells {
@@ -47,19 +46,14 @@ impl Cells {
         ensures { cells_by result ≡ (λ _. None) }
     {
         Cells {
-            rows: Rows::new(),
-            kept: Kept::new(),
-            alloc,
+            rows: Store::new(alloc),
         }
     }
 
-    /// The last cell was freed.
-    pub fn end(self)
-        requires { (b : ℕ) → cells_by self b ≡ None }
-    {
-        let Cells { rows, kept, alloc } = self;
+    /// The memory of all cells is freed, whatever they hold.
+    pub fn end(self) {
+        let Cells { rows } = self;
         rows.end();
-        kept.end(&alloc);
     }
 
     /// A new cell of an atom, in which nothing is set.
@@ -70,7 +64,7 @@ impl Cells {
             (λ c. (cells_by self.old (cell_id c) ≡ None) × (cells_by self.new ≡ alter (cells_by self.old) (cell_id c) (λ _. Some (blank_cell ports))))
             (λ _. cells_by self.new ≡ cells_by self.old) }
     {
-        match self.kept.make(&mut self.rows, &self.alloc, ports) {
+        match self.rows.make(atom_words(ports)) {
             Ok(at) => {
                 fill(&mut self.rows, at, ports);
                 Ok(Cell { at })
@@ -85,7 +79,7 @@ impl Cells {
             (λ c. (cells_by self.old (cell_id c) ≡ None) × (cells_by self.new ≡ alter (cells_by self.old) (cell_id c) (λ _. Some blank_membrane)))
             (λ _. cells_by self.new ≡ cells_by self.old) }
     {
-        match self.kept.make_membrane(&mut self.rows, &self.alloc) {
+        match self.rows.make(MEMBRANE_WORDS) {
             Ok(at) => {
                 fill_membrane(&mut self.rows, at);
                 Ok(Cell { at })
@@ -101,7 +95,7 @@ impl Cells {
         requires ports { length (ports_of (cells_by self.old (cell_id c))) ≡ ports }
         ensures { cells_by self.new ≡ alter (cells_by self.old) (cell_id c) (λ _. None) }
     {
-        self.kept.keep(&mut self.rows, &self.alloc, c.at, ports);
+        self.rows.keep(c.at, atom_words(ports));
     }
 
     /// The cell of a membrane doesn't live any more.
@@ -110,14 +104,14 @@ impl Cells {
         requires numbers { length (numbers_of (cells_by self.old (cell_id c))) ≡ 8 }
         ensures { cells_by self.new ≡ alter (cells_by self.old) (cell_id c) (λ _. None) }
     {
-        self.kept.keep_membrane(&mut self.rows, c.at);
+        self.rows.keep(c.at, MEMBRANE_WORDS);
     }
 
     /// Each cell has eight links.
     pub fn whole(&self)
         ensures { HaveLinks (cells_by self.now) }
     {
-        let _ = &self.alloc;
+        let _ = &self.rows;
     }
 
     /// The cell to which a link leads.

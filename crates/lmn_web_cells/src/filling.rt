@@ -1,11 +1,11 @@
 //! The words of a new row are written, so that it is a cell of an atom, or of a membrane.
 ghost use Rattle.std.specs.Prelude.{◌≡◌, ◌+◌, ◌*◌, ◌^◌, ◌<◌, ◌≤◌, ◌++◌, replicate};
-ghost use denote.RawPtr.{block_of};
-ghost use Rattle.lmn_web_cells.specs.Rows.{IsStart, blank, items_in, with_items};
+ghost use Rattle.lmn_web_cells.specs.Rows.{IsStart, blank, items_in, with_items, place_of};
 ghost use Rattle.lmn_web_cells.specs.Fillings.{ports_filled};
 ghost use Rattle.lmn_web_cells.specs.Cells.{link_items, number_items, cell_items, blank_cell, blank_membrane, blank_links, blank_numbers};
 
-use crate::rows::{Rows, nowhere};
+use lmn_web_rows::pointers::nowhere;
+use lmn_web_rows::store::Store;
 
 /// How many links a cell has.
 pub const LINKS: usize = 8;
@@ -22,11 +22,20 @@ pub const PORT_WORDS: usize = 3;
 /// How many words the cell of a membrane has: a port and two numbers stand behind the first ones.
 pub const MEMBRANE_WORDS: usize = FIRST_PORT + PORT_WORDS + 2;
 
+/// How many words the cell of an atom with so many ports has.
+#[inline(always)]
+pub fn atom_words(ports: usize) -> usize
+    requires { ports < 2 ^ 16 }
+    ensures { result ≡ 14 + ports * 3 }
+{
+    FIRST_PORT + ports * PORT_WORDS
+}
+
 // Each link leads nowhere. `left` words stand behind the links.
-fn fill_links(rows: &mut Rows, at: *mut u8, left: usize)
+fn fill_links(rows: &mut Store, at: *mut u8, left: usize)
     requires start { IsStart at }
-    requires words { items_in rows.old.rows (block_of at) ≡ replicate (8 + left) blank }
-    ensures { rows.new.rows ≡ with_items (block_of at) (blank_links 8 ++ replicate left blank) rows.old.rows }
+    requires words { items_in rows.old.rows (place_of at) ≡ replicate (8 + left) blank }
+    ensures { rows.new.rows ≡ with_items (place_of at) (blank_links 8 ++ replicate left blank) rows.old.rows }
 {
     let _ = left;
     for k in 0..LINKS {
@@ -36,10 +45,10 @@ fn fill_links(rows: &mut Rows, at: *mut u8, left: usize)
 
 // Each of the first numbers is 0. `left` words stand behind them.
 #[inline(always)]
-fn fill_numbers(rows: &mut Rows, at: *mut u8, left: usize)
+fn fill_numbers(rows: &mut Store, at: *mut u8, left: usize)
     requires start { IsStart at }
-    requires words { items_in rows.old.rows (block_of at) ≡ blank_links 8 ++ replicate (6 + left) blank }
-    ensures { rows.new.rows ≡ with_items (block_of at) (blank_links 8 ++ (blank_numbers 6 ++ replicate left blank)) rows.old.rows }
+    requires words { items_in rows.old.rows (place_of at) ≡ blank_links 8 ++ replicate (6 + left) blank }
+    ensures { rows.new.rows ≡ with_items (place_of at) (blank_links 8 ++ (blank_numbers 6 ++ replicate left blank)) rows.old.rows }
 {
     let _ = left;
     for k in 0..NUMBERS {
@@ -49,12 +58,12 @@ fn fill_numbers(rows: &mut Rows, at: *mut u8, left: usize)
 
 // One more port leads nowhere.
 #[inline(always)]
-fn fill_port(rows: &mut Rows, at: *mut u8, ports: usize, j: usize)
+fn fill_port(rows: &mut Store, at: *mut u8, ports: usize, j: usize)
     requires start { IsStart at }
     requires few { ports < 2 ^ 16 }
     requires below { j < ports }
-    requires words { items_in rows.old.rows (block_of at) ≡ ports_filled ports j }
-    ensures { rows.new.rows ≡ with_items (block_of at) (ports_filled ports (j + 1)) rows.old.rows }
+    requires words { items_in rows.old.rows (place_of at) ≡ ports_filled ports j }
+    ensures { rows.new.rows ≡ with_items (place_of at) (ports_filled ports (j + 1)) rows.old.rows }
 {
     rows.set_link(at, FIRST_PORT + j * PORT_WORDS, nowhere());
     rows.set_number(at, FIRST_PORT + j * PORT_WORDS + 1, 0);
@@ -62,12 +71,12 @@ fn fill_port(rows: &mut Rows, at: *mut u8, ports: usize, j: usize)
 }
 
 // No port from this one on leads anywhere.
-fn fill_from(rows: &mut Rows, at: *mut u8, ports: usize, first: usize)
+fn fill_from(rows: &mut Store, at: *mut u8, ports: usize, first: usize)
     requires start { IsStart at }
     requires few { ports < 2 ^ 16 }
     requires below { first ≤ ports }
-    requires words { items_in rows.old.rows (block_of at) ≡ ports_filled ports first }
-    ensures { rows.new.rows ≡ with_items (block_of at) (cell_items (blank_cell ports)) rows.old.rows }
+    requires words { items_in rows.old.rows (place_of at) ≡ ports_filled ports first }
+    ensures { rows.new.rows ≡ with_items (place_of at) (cell_items (blank_cell ports)) rows.old.rows }
 {
     for j in first..ports {
         fill_port(rows, at, ports, j);
@@ -75,11 +84,11 @@ fn fill_from(rows: &mut Rows, at: *mut u8, ports: usize, first: usize)
 }
 
 // No port leads anywhere. Most cells have at most three, and those are written without a loop.
-fn fill_ports(rows: &mut Rows, at: *mut u8, ports: usize)
+fn fill_ports(rows: &mut Store, at: *mut u8, ports: usize)
     requires start { IsStart at }
     requires few { ports < 2 ^ 16 }
-    requires words { items_in rows.old.rows (block_of at) ≡ blank_links 8 ++ (blank_numbers 6 ++ replicate (ports * 3) blank) }
-    ensures { rows.new.rows ≡ with_items (block_of at) (cell_items (blank_cell ports)) rows.old.rows }
+    requires words { items_in rows.old.rows (place_of at) ≡ blank_links 8 ++ (blank_numbers 6 ++ replicate (ports * 3) blank) }
+    ensures { rows.new.rows ≡ with_items (place_of at) (cell_items (blank_cell ports)) rows.old.rows }
 {
     if ports == 0 {
         return;
@@ -97,11 +106,11 @@ fn fill_ports(rows: &mut Rows, at: *mut u8, ports: usize)
 }
 
 /// A new row becomes the cell of an atom in which nothing is set.
-pub fn fill(rows: &mut Rows, at: *mut u8, ports: usize)
+pub fn fill(rows: &mut Store, at: *mut u8, ports: usize)
     requires start { IsStart at }
     requires few { ports < 2 ^ 16 }
-    requires words { items_in rows.old.rows (block_of at) ≡ replicate (14 + ports * 3) blank }
-    ensures { rows.new.rows ≡ with_items (block_of at) (cell_items (blank_cell ports)) rows.old.rows }
+    requires words { items_in rows.old.rows (place_of at) ≡ replicate (14 + ports * 3) blank }
+    ensures { rows.new.rows ≡ with_items (place_of at) (cell_items (blank_cell ports)) rows.old.rows }
 {
     fill_links(rows, at, NUMBERS + ports * PORT_WORDS);
     fill_numbers(rows, at, ports * PORT_WORDS);
@@ -109,10 +118,10 @@ pub fn fill(rows: &mut Rows, at: *mut u8, ports: usize)
 }
 
 // The port of a membrane leads nowhere, and the numbers behind it are 0.
-fn fill_end(rows: &mut Rows, at: *mut u8)
+fn fill_end(rows: &mut Store, at: *mut u8)
     requires start { IsStart at }
-    requires words { items_in rows.old.rows (block_of at) ≡ blank_links 8 ++ (blank_numbers 6 ++ replicate 5 blank) }
-    ensures { rows.new.rows ≡ with_items (block_of at) (cell_items blank_membrane) rows.old.rows }
+    requires words { items_in rows.old.rows (place_of at) ≡ blank_links 8 ++ (blank_numbers 6 ++ replicate 5 blank) }
+    ensures { rows.new.rows ≡ with_items (place_of at) (cell_items blank_membrane) rows.old.rows }
 {
     rows.set_link(at, FIRST_PORT, nowhere());
     rows.set_number(at, FIRST_PORT + 1, 0);
@@ -122,10 +131,10 @@ fn fill_end(rows: &mut Rows, at: *mut u8)
 }
 
 /// A new row becomes the cell of a membrane in which nothing is set.
-pub fn fill_membrane(rows: &mut Rows, at: *mut u8)
+pub fn fill_membrane(rows: &mut Store, at: *mut u8)
     requires start { IsStart at }
-    requires words { items_in rows.old.rows (block_of at) ≡ replicate 19 blank }
-    ensures { rows.new.rows ≡ with_items (block_of at) (cell_items blank_membrane) rows.old.rows }
+    requires words { items_in rows.old.rows (place_of at) ≡ replicate 19 blank }
+    ensures { rows.new.rows ≡ with_items (place_of at) (cell_items blank_membrane) rows.old.rows }
 {
     fill_links(rows, at, NUMBERS + PORT_WORDS + 2);
     fill_numbers(rows, at, PORT_WORDS + 2);

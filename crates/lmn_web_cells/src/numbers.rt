@@ -1,7 +1,7 @@
 //! The numbers of a cell, by what they say. The first mark of a cell is one of them, and each further mark stands with the port
 //! before its own: so the first one, which is asked most, stands at one place.
 
-/// The place of the cell in the table of all cells.
+/// The index of the cell, which no other one has.
 pub const INDEX: usize = 0;
 
 /// How many ports the cell has.

@@ -1,7 +1,6 @@
 use Rattle.std.proofs.Common.{◌≡◌, ℕ, ◌+◌, ◌*◌, ◌<◌, ◌++◌, List, length, replicate, sym, subst, ap, ◌∙◌, arith}
 use lib.ListN.{length-replicate}
-use denote.RawPtr.{block_of}
-use Rattle.lmn_web_cells.specs.Rows.{Item, Row, items_in, with_items, blank}
+use Rattle.lmn_web_cells.specs.Rows.{Item, Row, items_in, with_items, blank, place_of}
 use Rattle.lmn_web_cells.specs.Cells.{cell_items, blank_cell, blank_links, blank_numbers}
 use Rattle.lmn_web_cells.proofs.CellRows.{items_same}
 use Rattle.lmn_web_cells.proofs.FillLemmas.{with_twice}
@@ -15,17 +14,17 @@ fill_links-requires-clause-words c = let n : 14 + c.args.ports * 3 ≡ 8 + (6 + 
 
 pub fill_numbers-requires-clause-words : goal.fill_numbers-requires-clause-words
 fill_numbers-requires-clause-words c =
-    let b = block_of c.args.at in let p = c.args.ports in
+    let b = place_of c.args.at in let p = c.args.ports in
     ap (λ (rs : List Row). items_in rs b) c.fill_links.ensures ∙ items_same c.args.rows.now.rows b (blank_links 8 ++ replicate (6 + p * 3) blank) (some c.args.rows.now.rows b p c.requires.words)
 
 pub fill_ports-requires-clause-words : goal.fill_ports-requires-clause-words
 fill_ports-requires-clause-words c =
-    let b = block_of c.args.at in let p = c.args.ports in let first = blank_links 8 ++ replicate (6 + p * 3) blank in let second = blank_links 8 ++ (blank_numbers 6 ++ replicate (p * 3) blank) in
+    let b = place_of c.args.at in let p = c.args.ports in let first = blank_links 8 ++ replicate (6 + p * 3) blank in let second = blank_links 8 ++ (blank_numbers 6 ++ replicate (p * 3) blank) in
     ap (λ (rs : List Row). items_in rs b) (c.fill_numbers.ensures ∙ ap (with_items b second) c.fill_links.ensures ∙ with_twice c.args.rows.now.rows b first second)
     ∙ items_same c.args.rows.now.rows b second (some c.args.rows.now.rows b p c.requires.words)
 
 pub returns : goal.returns
 returns c =
-    let b = block_of c.args.at in let p = c.args.ports in let first = blank_links 8 ++ replicate (6 + p * 3) blank in let second = blank_links 8 ++ (blank_numbers 6 ++ replicate (p * 3) blank) in let third = cell_items (blank_cell p) in
+    let b = place_of c.args.at in let p = c.args.ports in let first = blank_links 8 ++ replicate (6 + p * 3) blank in let second = blank_links 8 ++ (blank_numbers 6 ++ replicate (p * 3) blank) in let third = cell_items (blank_cell p) in
     c.fill_ports.ensures ∙ ap (with_items b third) (c.fill_numbers.ensures ∙ ap (with_items b second) c.fill_links.ensures ∙ with_twice c.args.rows.now.rows b first second)
     ∙ with_twice c.args.rows.now.rows b second third

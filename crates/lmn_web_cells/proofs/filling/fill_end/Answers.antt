@@ -1,31 +1,30 @@
 use Rattle.std.proofs.Common.{◌∙◌, None, set, ap, arith}
-use denote.RawPtr.{block_of}
-use Rattle.lmn_web_cells.specs.Rows.{items_in, with_items, link, number}
+use Rattle.lmn_web_cells.specs.Rows.{items_in, with_items, link, number, place_of}
 use Rattle.lmn_web_cells.specs.Cells.{link_to}
 use Rattle.lmn_web_cells.proofs.FillLemmas.{and_written, end_begun, end_there, some_end, end_none, end_one, end_two, end_three, end_four}
 use Rattle.lmn_web_cells.proofs.filling.fill_end.Goals as goal
 
 pub set_link-requires : goal.set_link-requires
 set_link-requires c =
-    let old = c.args.rows.now.rows in let b = block_of c.args.at in let there = some_end old b c.requires.words in
+    let old = c.args.rows.now.rows in let b = place_of c.args.at in let there = some_end old b c.requires.words in
     (c.requires.start, omega arith, end_there old old b 14 end_none there (end_begun old b c.requires.words) (omega arith))
 
 pub set_number-requires : goal.set_number-requires
 set_number-requires c =
-    let old = c.args.rows.now.rows in let b = block_of c.args.at in let there = some_end old b c.requires.words in
+    let old = c.args.rows.now.rows in let b = place_of c.args.at in let there = some_end old b c.requires.words in
     let one = and_written old old c.set_link.new.self.rows b 14 end_none (link_to None) there (end_begun old b c.requires.words) (c.set_link.ensures ∙ ap (λ q. with_items b (set (items_in old b) 14 (link q)) old) c.nowhere.ensures) in
     (c.requires.start, omega arith, end_there old c.set_link.new.self.rows b 15 end_one there one (omega arith))
 
 pub set_number-requires-2 : goal.set_number-requires-2
 set_number-requires-2 c =
-    let old = c.args.rows.now.rows in let b = block_of c.args.at in let there = some_end old b c.requires.words in
+    let old = c.args.rows.now.rows in let b = place_of c.args.at in let there = some_end old b c.requires.words in
     let one = and_written old old c.set_link.new.self.rows b 14 end_none (link_to None) there (end_begun old b c.requires.words) (c.set_link.ensures ∙ ap (λ q. with_items b (set (items_in old b) 14 (link q)) old) c.nowhere.ensures) in
     let two = and_written old c.set_link.new.self.rows c.set_number.new.self.rows b 15 end_one (number 0) there one c.set_number.ensures in
     (c.requires.start, omega arith, end_there old c.set_number.new.self.rows b 16 end_two there two (omega arith))
 
 pub set_number-requires-3 : goal.set_number-requires-3
 set_number-requires-3 c =
-    let old = c.args.rows.now.rows in let b = block_of c.args.at in let there = some_end old b c.requires.words in
+    let old = c.args.rows.now.rows in let b = place_of c.args.at in let there = some_end old b c.requires.words in
     let one = and_written old old c.set_link.new.self.rows b 14 end_none (link_to None) there (end_begun old b c.requires.words) (c.set_link.ensures ∙ ap (λ q. with_items b (set (items_in old b) 14 (link q)) old) c.nowhere.ensures) in
     let two = and_written old c.set_link.new.self.rows c.set_number.new.self.rows b 15 end_one (number 0) there one c.set_number.ensures in
     let three = and_written old c.set_number.new.self.rows c.set_number-2.new.self.rows b 16 end_two (number 0) there two c.set_number-2.ensures in
@@ -33,7 +32,7 @@ set_number-requires-3 c =
 
 pub set_number-requires-4 : goal.set_number-requires-4
 set_number-requires-4 c =
-    let old = c.args.rows.now.rows in let b = block_of c.args.at in let there = some_end old b c.requires.words in
+    let old = c.args.rows.now.rows in let b = place_of c.args.at in let there = some_end old b c.requires.words in
     let one = and_written old old c.set_link.new.self.rows b 14 end_none (link_to None) there (end_begun old b c.requires.words) (c.set_link.ensures ∙ ap (λ q. with_items b (set (items_in old b) 14 (link q)) old) c.nowhere.ensures) in
     let two = and_written old c.set_link.new.self.rows c.set_number.new.self.rows b 15 end_one (number 0) there one c.set_number.ensures in
     let three = and_written old c.set_number.new.self.rows c.set_number-2.new.self.rows b 16 end_two (number 0) there two c.set_number-2.ensures in
@@ -42,7 +41,7 @@ set_number-requires-4 c =
 
 pub returns : goal.returns
 returns c =
-    let old = c.args.rows.now.rows in let b = block_of c.args.at in let there = some_end old b c.requires.words in
+    let old = c.args.rows.now.rows in let b = place_of c.args.at in let there = some_end old b c.requires.words in
     let one = and_written old old c.set_link.new.self.rows b 14 end_none (link_to None) there (end_begun old b c.requires.words) (c.set_link.ensures ∙ ap (λ q. with_items b (set (items_in old b) 14 (link q)) old) c.nowhere.ensures) in
     let two = and_written old c.set_link.new.self.rows c.set_number.new.self.rows b 15 end_one (number 0) there one c.set_number.ensures in
     let three = and_written old c.set_number.new.self.rows c.set_number-2.new.self.rows b 16 end_two (number 0) there two c.set_number-2.ensures in

@@ -1,27 +1,26 @@
 use Rattle.std.proofs.Common.{◌+◌, sym, ap, ◌∙◌, arith}
-use denote.RawPtr.{block_of}
-use Rattle.lmn_web_cells.specs.Rows.{with_items}
+use Rattle.lmn_web_cells.specs.Rows.{with_items, place_of}
 use Rattle.lmn_web_cells.specs.Fillings.{ports_filled}
 use Rattle.lmn_web_cells.proofs.FillLemmas.{with_same, then, written, some_words, ports_all}
 use Rattle.lmn_web_cells.proofs.filling.fill_from.Goals as goal
 
 pub loop-j-init : goal.loop-j-init
 loop-j-init c =
-    let old = c.args.rows.now.rows in let b = block_of c.args.at in
+    let old = c.args.rows.now.rows in let b = place_of c.args.at in
     sym (with_same old b) ∙ ap (λ is. with_items b is old) c.requires.words
 
 pub fill_port-requires-clause-words : goal.fill_port-requires-clause-words
 fill_port-requires-clause-words c =
-    let old = c.args.rows.now.rows in let b = block_of c.args.at in let p = c.args.ports in
+    let old = c.args.rows.now.rows in let b = place_of c.args.at in let p = c.args.ports in
     written old c.loop-j.rows.rows b (ports_filled p c.loop-j.j) (some_words old b p c.args.first c.requires.words) c.loop-j.invariant
 
 pub loop-j-preserved : goal.loop-j-preserved
 loop-j-preserved c =
-    let old = c.args.rows.now.rows in let b = block_of c.args.at in let p = c.args.ports in let j = c.loop-j.j in
+    let old = c.args.rows.now.rows in let b = place_of c.args.at in let p = c.args.ports in let j = c.loop-j.j in
     then old c.loop-j.rows.rows c.fill_port.new.rows.rows b (ports_filled p j) (ports_filled p (j + 1)) c.loop-j.invariant c.fill_port.ensures
 
 pub returns : goal.returns
 returns c =
-    let old = c.args.rows.now.rows in let b = block_of c.args.at in let p = c.args.ports in let j = c.loop-j.j in
+    let old = c.args.rows.now.rows in let b = place_of c.args.at in let p = c.args.ports in let j = c.loop-j.j in
     let end = c.loop-j-test.false in let below = c.loop-j.auto.j-end in let low = c.requires.below in
     c.loop-j.invariant ∙ ap (λ is. with_items b is old) (ports_all p j (omega (arith, end, below, low)))

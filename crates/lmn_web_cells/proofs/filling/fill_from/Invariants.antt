@@ -1,8 +1,7 @@
 use Rattle.std.proofs.Common.{◌≡◌}
-use denote.RawPtr.{block_of}
-use Rattle.lmn_web_cells.specs.Rows.{with_items}
+use Rattle.lmn_web_cells.specs.Rows.{with_items, place_of}
 use Rattle.lmn_web_cells.specs.Fillings.{ports_filled}
 use Rattle.lmn_web_cells.proofs.filling.fill_from.Given as goal
 
 abbrev pub invariant-loop-j : goal.invariant-loop-j
-invariant-loop-j l = l.rows.rows ≡ with_items (block_of l.at) (ports_filled l.ports l.j) l.fn.rows.rows
+invariant-loop-j l = l.rows.rows ≡ with_items (place_of l.at) (ports_filled l.ports l.j) l.fn.rows.rows

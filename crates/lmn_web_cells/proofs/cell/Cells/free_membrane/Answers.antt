@@ -1,4 +1,4 @@
-use Rattle.std.proofs.Common.{◌≡◌, ◌∙◌, List, None, IsSome, length, sym, subst, ap}
+use Rattle.std.proofs.Common.{◌≡◌, arith, ◌∙◌, List, None, IsSome, length, sym, subst, ap}
 use Rattle.lmn_web_cells.specs.Rows.{Row}
 use Rattle.lmn_web_cells.specs.Cells.{cells_by, numbers_of}
 use Rattle.lmn_store_heap.specs.Heap.{alter}
@@ -6,16 +6,14 @@ use Rattle.lmn_web_cells.specs.CellIds.{cell_id}
 use Rattle.lmn_web_cells.proofs.MadeLemmas.{freed, count_membrane}
 use Rattle.lmn_web_cells.proofs.cell.Cells.free_membrane.Goals as goal
 
-pub keep_membrane-requires : goal.keep_membrane-requires
-keep_membrane-requires c =
-    let there : IsSome (cells_by c.self.inside.rows.rows (cell_id c.args.c)) = subst (λ (z : List Row). IsSome (cells_by z (cell_id c.args.c))) (sym c.self.view_is) c.requires.there in
-    let eight : length (numbers_of (cells_by c.self.inside.rows.rows (cell_id c.args.c))) ≡ 8 = subst (λ (z : List Row). length (numbers_of (cells_by z (cell_id c.args.c))) ≡ 8) (sym c.self.view_is) c.requires.numbers in
-    (c.args.c.start, count_membrane c.self.inside.rows.rows (cell_id c.args.c) c.self.invariant there eight)
+pub keep-requires : goal.keep-requires
+keep-requires c =
+    let n = cell_id c.args.c in let there : IsSome (cells_by c.self.inside.rows.rows n) = subst (λ (z : List Row). IsSome (cells_by z n)) (sym c.self.view_is) c.requires.there in
+    let eight : length (numbers_of (cells_by c.self.inside.rows.rows n)) ≡ 8 = subst (λ (z : List Row). length (numbers_of (cells_by z n)) ≡ 8) (sym c.self.view_is) c.requires.numbers in
+    (c.args.c.start, omega arith, count_membrane c.self.inside.rows.rows n c.self.invariant there eight)
 
 pub invariant_of-self : goal.invariant_of-self
-invariant_of-self c = (freed c.self.inside.rows.rows c.keep_membrane.new.rows.rows (cell_id c.args.c) c.self.invariant c.keep_membrane.ensures.0 c.keep_membrane.ensures.1).laid
+invariant_of-self c = (freed c.self.inside.rows.rows c.keep.new.self.rows (cell_id c.args.c) c.self.invariant c.keep.ensures).laid
 
 pub returns : goal.returns
-returns c =
-    (freed c.self.inside.rows.rows c.keep_membrane.new.rows.rows (cell_id c.args.c) c.self.invariant c.keep_membrane.ensures.0 c.keep_membrane.ensures.1).cells
-    ∙ ap (λ (z : List Row). alter (cells_by z) (cell_id c.args.c) (λ _. None)) c.self.view_is
+returns c = (freed c.self.inside.rows.rows c.keep.new.self.rows (cell_id c.args.c) c.self.invariant c.keep.ensures).cells ∙ ap (λ (z : List Row). alter (cells_by z) (cell_id c.args.c) (λ _. None)) c.self.view_is
