@@ -99,9 +99,14 @@ def habits_of(clause):
     parts = cut(rest, {'|'})
     items = cut(parts[-1], {','}) if parts else []
     for item in items[:-1]:
-        if is_test(item, head):
+        if is_test(item, head) and not all(is_connector(each) for each in items):
             warnings.append(f'{item} is no test: the body makes it, whatever stands at the link; what is asked for stands in the head: {short(clause)}')
     return warnings
+
+
+def is_connector(item):
+    """Whether an item of a body is `s = t`; where all are, as in the first case of a function with two values, none is a test."""
+    return len(cut(item, {'='})) == 2
 
 
 def is_test(item, head):
