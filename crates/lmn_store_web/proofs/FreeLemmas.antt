@@ -18,8 +18,8 @@ use Rattle.lmn_store_web.specs.Frees.{Drops, CanFree, Frees}
 use Rattle.lmn_store_web.specs.WebHeaps.{Posts, place_at, no_rules, atom_by, if_atom, if_membrane, atoms_of, mem_by, is_post, mems_of}
 use Rattle.lmn_store_web.specs.WebStores.{IsStored}
 use Rattle.lmn_store_web.proofs.ReadLemmas.{is_none, mem_there, mem_is}
-use Rattle.lmn_web_merging.proofs.Sending.{list_label, list_kind, list_ports, list_there, list_home, list_at_kind, list_at_other, home_ports, home_cells, home_some, kind_there}
-use Rattle.lmn_store_web.proofs.SendLemmas.{atom_of, mem_of, list_atom, out_self, out_there, out_homeless, out_source, out_kept}
+use Rattle.lmn_web_merging.proofs.Sending.{list_label, list_kind, list_ports, list_there, list_home, list_at_kind, list_at_other, home_ports, home_cells, home_some, kind_there, out_self, out_there, out_homeless, out_source, out_kept}
+use Rattle.lmn_store_web.proofs.SendLemmas.{atom_of, mem_of, list_atom}
 use Rattle.lmn_store_web.proofs.PlaceLemmas.{alter_same}
 use Rattle.lmn_store_web.proofs.TableLemmas.{labelled_there, post_waits, post_goes, mems_post}
 

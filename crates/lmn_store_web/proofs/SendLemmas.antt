@@ -16,7 +16,7 @@ use Rattle.lmn_web.specs.Webs as web
 use Rattle.lmn_web.specs.Webs.{WebCell, web_kind, kind_at, home_at, arity_at, cells_in, cells_of, web_label, with_home, with_list, unlinked, added_last}
 use Rattle.lmn_web.proofs.ListedLemmas.{kind_cases}
 use Rattle.lmn_web_merging.specs.Keepers.{port_mark}
-use Rattle.lmn_web_merging.proofs.Sending.{home_cells, home_kind, home_label, home_ports, home_some, home_there, list_at_kind, list_at_other, list_home, list_kind, list_label, list_ports, list_there}
+use Rattle.lmn_web_merging.proofs.Sending.{home_cells, home_kind, home_label, home_ports, home_some, home_there, list_at_kind, list_at_other, list_home, list_kind, list_label, list_ports, list_there, out_self, out_source, out_kind, out_kept, list_u}
 use Rattle.lmn_web_merging.proofs.Relisting.{home_marks, list_marks}
 use Rattle.lmn_store_web.specs.Sends.{Sends}
 use Rattle.lmn_store_web.specs.WebHeaps.{Posts, atom_by, if_atom, if_membrane, atoms_of, mem_by, is_post, mems_of}
@@ -25,61 +25,10 @@ use Rattle.lmn_store_web.proofs.ReadLemmas.{mem_there, mem_is, some_home}
 
 -- a cell out of its list and then at the end of another has gone there
 module _ (w : ℕ → Option WebCell) (m n x : ℕ) (left : x ≢ m) where
-  abbrev kx : CellKind
-  kx = kind_at w x
-
-  abbrev left_list : List ℕ
-  left_list = without x (cells_in w m kx)
-
   abbrev u : ℕ → Option WebCell
   u = unlinked w m x
 
-  abbrev u1 : ℕ → Option WebCell
-  u1 = alter w x (option_map (with_home None))
-
-  -- what it is itself
-  pub out_self : u x ≡ option_map (with_home None) (w x)
-  out_self = alter_away u1 m (option_map (with_list kx left_list)) x left ∙ alter_at w x (option_map (with_home None))
-
-  -- the list that it leaves
-  pub out_source : u m ≡ option_map (with_list kx left_list) (w m)
-  out_source = alter_at u1 m (option_map (with_list kx left_list)) ∙ ap (option_map (with_list kx left_list)) (alter_away w x (option_map (with_home None)) m (λ e. left (sym e)))
-
-  u_y : (y : ℕ) → y ≢ x → y ≢ m → u y ≡ w y
-  u_y y d e = alter_away u1 m (option_map (with_list kx left_list)) y e ∙ alter_away w x (option_map (with_home None)) y d
-
-  -- its kind
-  pub out_kind : kind_at u x ≡ kx
-  out_kind = ap web_kind out_self ∙ by (w x)
-    where
-      by : (o : Option WebCell) → web_kind (option_map (with_home None) o) ≡ web_kind o
-      by None = refl
-      by (Some c) = refl
-
-  -- it is there
-  pub out_there : IsSome (w x) → IsSome (u x)
-  out_there s = subst (λ (o : Option WebCell). IsSome o) (sym out_self) (by (w x) s)
-    where
-      by : (o : Option WebCell) → IsSome o → IsSome (option_map (with_home None) o)
-      by None s = s
-      by (Some c) s = refl
-
-  -- it has no home
-  pub out_homeless : home_at u x ≡ None
-  out_homeless = ap web.home_of out_self ∙ by (w x)
-    where
-      by : (o : Option WebCell) → web.home_of (option_map (with_home None) o) ≡ None
-      by None = refl
-      by (Some c) = refl
-
-  -- all others are as they were
-  pub out_kept : (y : ℕ) → y ≢ x → y ≢ m → u y ≡ w y
-  out_kept = u_y
-
   module _ (came : x ≢ n) (apart : m ≢ n) where
-    list_u : (ku : CellKind) → cells_in u n ku ≡ cells_in w n ku
-    list_u ku = ap (λ (o : Option WebCell). cells_of o ku) (u_y n (λ e. came (sym e)) (λ e. apart (sym e)))
-
     abbrev ku : CellKind
     ku = kind_at u x
 
@@ -99,11 +48,11 @@ module _ (w : ℕ → Option WebCell) (m n x : ℕ) (left : x ≢ m) where
       left = left;
       came = came;
       apart = apart;
-      moved = alter_away v1 n (option_map (with_list ku came_list)) x came ∙ alter_at u x (option_map (with_home (Some n))) ∙ ap (option_map (with_home (Some n))) out_self ∙ home_twice (w x);
-      source = alter_away v1 n (option_map (with_list ku came_list)) m apart ∙ alter_away u x (option_map (with_home (Some n))) m (λ q. left (sym q)) ∙ out_source;
-      target = alter_at v1 n (option_map (with_list ku came_list)) ∙ ap (option_map (with_list ku came_list)) (alter_away u x (option_map (with_home (Some n))) n (λ q. came (sym q)) ∙ u_y n (λ q. came (sym q)) (λ q. apart (sym q)))
-          ∙ (λ i. option_map (with_list (out_kind i) (list_u (out_kind i) i ++ x ∷ [])) (w n));
-      others = λ y d a b. alter_away v1 n (option_map (with_list ku came_list)) y b ∙ alter_away u x (option_map (with_home (Some n))) y d ∙ u_y y d a;
+      moved = alter_away v1 n (option_map (with_list ku came_list)) x came ∙ alter_at u x (option_map (with_home (Some n))) ∙ ap (option_map (with_home (Some n))) (out_self w m n x left) ∙ home_twice (w x);
+      source = alter_away v1 n (option_map (with_list ku came_list)) m apart ∙ alter_away u x (option_map (with_home (Some n))) m (λ q. left (sym q)) ∙ out_source w m n x left;
+      target = alter_at v1 n (option_map (with_list ku came_list)) ∙ ap (option_map (with_list ku came_list)) (alter_away u x (option_map (with_home (Some n))) n (λ q. came (sym q)) ∙ out_kept w m n x left n (λ q. came (sym q)) (λ q. apart (sym q)))
+          ∙ (λ i. option_map (with_list (out_kind w m n x left i) (list_u w m n x left came apart (out_kind w m n x left i) i ++ x ∷ [])) (w n));
+      others = λ y d a b. alter_away v1 n (option_map (with_list ku came_list)) y b ∙ alter_away u x (option_map (with_home (Some n))) y d ∙ out_kept w m n x left y d a;
     }
 
 -- so do the marks of ports

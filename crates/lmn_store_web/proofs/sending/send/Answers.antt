@@ -2,8 +2,8 @@ use Rattle.std.proofs.Common.{◌≡◌, ℕ, Some, IsSome, Option, sym, ap, sub
 use Rattle.lmn_web_cells.specs.CellIds.{cell_id}
 use Rattle.lmn_web.specs.Webs.{WebCell, home_at, kind_at, added_last}
 use Rattle.lmn_web_merging.specs.Keepers.{merged_by, port_mark}
-use Rattle.lmn_web_merging.proofs.Sending.{home_some, out_kinds}
-use Rattle.lmn_store_web.proofs.SendLemmas.{out_there, out_homeless, out_marks, sends}
+use Rattle.lmn_web_merging.proofs.Sending.{home_some, out_kinds, out_there, out_homeless}
+use Rattle.lmn_store_web.proofs.SendLemmas.{out_marks, sends}
 use Rattle.lmn_store_web.proofs.sending.send.Goals as goal
 use Rattle.lmn_base.proofs.Lists.{some_is}
 
