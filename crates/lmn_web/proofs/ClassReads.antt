@@ -24,17 +24,17 @@ class_half : (high low : ℕ) → low < 2 ^ 64 → label_class (label_by high lo
 class_half high low l = omega (arith, l)
 
 -- the class of a cell, in the cells and in the web
-pub class_test : (f : ℕ → Option HeldCell) (all : List ℕ) → IsClassedWeb f all → (a class n : ℕ) → IsSome (f a) → is_classed (web_of f) class n a ≡ is_key (key_in f a) (class, n)
-class_test f all w a class n t = by (f a) t (w.classed.low a) (w.web.arity a t)
+pub class_test : (f : ℕ → Option HeldCell) (made : ℕ) → IsClassedWeb f made → (a class n : ℕ) → IsSome (f a) → is_classed (web_of f) class n a ≡ is_key (key_in f a) (class, n)
+class_test f made w a class n t = by (f a) t (w.classed.low a) (w.web.arity a t)
   where
     by : (o : Option HeldCell) → IsSome o → get_or (numbers_of o) LOW 0 < 2 ^ 64 → get_or (numbers_of o) ARITY 0 ≡ length (ports_of o) → is_classed (λ _. option_map (web_cell (list_in f a)) o) class n a ≡ is_key (get_or (numbers_of o) HIGH 0, get_or (numbers_of o) ARITY 0) (class, n)
     by None s l e = absurd cc
     by (Some c) s l e = λ u. (class_half (get_or c.numbers HIGH 0) (get_or c.numbers LOW 0) l u == class) && ((length-map c.ports partner_by ∙ sym e) u == n)
 
 -- the atoms of a class of a membrane, in the cells and in the web
-pub class_list : (f : ℕ → Option HeldCell) (all : List ℕ) → IsClassedWeb f all → (m class n : ℕ) → with_class (web_of f) class n (cells_in (web_of f) m Atom) ≡ of_class f (class, n) (list_in f m Atom)
-class_list f all w m class n = ap (with_class (web_of f) class n) (list_same f (list_in f) w.web.listed m Atom)
-    ∙ filter_same (is_classed (web_of f) class n) (λ a. is_key (key_in f a) (class, n)) (list_in f m Atom) (λ x i. class_test f all w x class n (cell_of f (list_in f) w.web.listed m x Atom i).0)
+pub class_list : (f : ℕ → Option HeldCell) (made : ℕ) → IsClassedWeb f made → (m class n : ℕ) → with_class (web_of f) class n (cells_in (web_of f) m Atom) ≡ of_class f (class, n) (list_in f m Atom)
+class_list f made w m class n = ap (with_class (web_of f) class n) (list_same f (list_in f) w.web.listed m Atom)
+    ∙ filter_same (is_classed (web_of f) class n) (λ a. is_key (key_in f a) (class, n)) (list_in f m Atom) (λ x i. class_test f made w x class n (cell_of f (list_in f) w.web.listed m x Atom i).0)
 
 -- where a class begins
 pub class_begins : (f : ℕ → Option HeldCell) (m : ℕ) (xs : List ℕ) (t : ClassTree) → AreClassed f m xs t → (In m xs → ⊥) → (p : ℕ × ℕ) (o : Option ℕ) → top (place_in f p m t).tree ≡ o → from o (of_class f p xs) ≡ of_class f p xs
@@ -52,8 +52,8 @@ class_goes_on f m xs t c once x i =
     (distinct_filter (λ a. is_key (key_in f a) q) xs once) (filter_in (λ a. is_key (key_in f a) q) x xs i (key_same q))
 
 -- the label of a cell tells its class
-pub key_by_label : (f : ℕ → Option HeldCell) (all : List ℕ) → IsClassedWeb f all → (a label : ℕ) → web_label (web_of f) a ≡ Some label → key_in f a ≡ (label_class label, length (partners_of (web_of f a)))
-key_by_label f all w a label e = by (f a) e (w.classed.low a) (w.web.arity a)
+pub key_by_label : (f : ℕ → Option HeldCell) (made : ℕ) → IsClassedWeb f made → (a label : ℕ) → web_label (web_of f) a ≡ Some label → key_in f a ≡ (label_class label, length (partners_of (web_of f a)))
+key_by_label f made w a label e = by (f a) e (w.classed.low a) (w.web.arity a)
   where
     by : (o : Option HeldCell) → option_map (λ c. c.label) (option_map (web_cell (list_in f a)) o) ≡ Some label → get_or (numbers_of o) LOW 0 < 2 ^ 64 → (IsSome o → get_or (numbers_of o) ARITY 0 ≡ length (ports_of o))
         → ◌≡◌ {A = ℕ × ℕ} (get_or (numbers_of o) HIGH 0, get_or (numbers_of o) ARITY 0) (label_class label, length (partners_of (option_map (web_cell (list_in f a)) o)))

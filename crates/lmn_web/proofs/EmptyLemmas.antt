@@ -1,12 +1,15 @@
 -- The atoms of a membrane are freed, all at once: what is left is a web.
-use Rattle.std.proofs.Common.{◌≡◌, ◌≢◌, ◌↔◌, ℕ, zero, suc, ◌+◌, ◌==◌, ◌<◌, ◌^◌, true, List, [], ◌∷◌, length, map, get_or, set, Option, Some, None, IsSome, is_some, slice_get, refl, sym, ap, subst, ◌∙◌, inl, inr, arith, length-set, get_or-set_other}
+use Rattle.std.proofs.Common.{◌≡◌, ◌≢◌, ℕ, zero, suc, ◌+◌, ◌==◌, ◌<◌, ◌^◌, true, List, [], ◌∷◌, ◌++◌, length, map, get_or, set, Option, Some, None, IsSome, is_some, refl, sym, ap, subst, ◌∙◌, inl, inr, arith, length-set, get_or-set_other}
 use Rattle.std.proofs.lemmas.Bool.{cases_eq}
+use Rattle.std.proofs.lemmas.List.{append-nil, append_assoc}
 use Rattle.std.specs.Option.{option_map}
 use Rattle.lmn_base.specs.Lists.{In}
+use Rattle.lmn_base.proofs.Lists.{in_either}
 use Rattle.lmn_store_heap.specs.Heap.{alter}
-use Rattle.lmn_store_heap.specs.Lists.{Distinct}
+use Rattle.lmn_store_heap.specs.Lists.{Distinct, after, from}
 use Rattle.lmn_store_heap.proofs.Common.{decide_in}
-use Rattle.lmn_store_heap.proofs.ListLemmas.{each_in, each_of}
+use Rattle.lmn_store_heap.proofs.ListLemmas.{apart, each_in, each_of, in_left, in_right}
+use Rattle.lmn_store_heap.proofs.Trees.{in_here}
 use Rattle.lmn_store_heap.proofs.Listing.{alter_at, alter_away, alter_keeps}
 use Rattle.lmn_web_cells.specs.Cells.{HeldPort, HeldCell, links_of, numbers_of, ports_of, port_of}
 use Rattle.lmn_web_cells.specs.Ports.{partner_by, partner_in}
@@ -18,96 +21,68 @@ use Rattle.lmn_web.specs.declared.kind.CellKind.TheVariants.{Atom, Membrane}
 use Rattle.lmn_web.specs.Kinds.{FILED, kind_by}
 use Rattle.lmn_web.specs.Webs.{WebCell, WithoutAtoms, web_cell, web_of, cells_in, partner_at, list_in, list_link, count_number, number_in, label_by, with_list}
 use Rattle.lmn_web_cells.specs.Numbers.{INDEX, ARITY, KIND, HIGH, LOW, FIRST_MARK}
-use Rattle.lmn_web.specs.Indexes.{unindexed, numbers_by, bare_atoms, cell_kind, AreLinked, IsListed, IsWeb, IsClassed, IsTable, Without}
+use Rattle.lmn_web.specs.Indexes.{numbers_by, bare_atoms, cell_kind, IsListed, IsWeb, IsClassed, Without}
 use Rattle.lmn_web.specs.Classes.{Bare, AreClassed}
-use Rattle.lmn_web.proofs.ListedLemmas.{cell_of, list_same, listed_self, web_self}
+use Rattle.lmn_web.proofs.ListedLemmas.{begins_list, cell_of, goes_on, list_same, listed_self, web_self}
 use Rattle.lmn_web.proofs.WebLemmas.{Account, account, partner_same}
 use Rattle.lmn_web.proofs.RelistLemmas.{put_list}
 use Rattle.lmn_web.proofs.Filing.{class_kept, classed_self, files_inside}
 
--- What the index of a cell leaves
-
--- its links
-pub un_links : (o : Option HeldCell) → links_of (unindexed o) ≡ links_of o
-un_links None = refl
-un_links (Some c) = refl
-
--- its ports
-pub un_ports : (o : Option HeldCell) → ports_of (unindexed o) ≡ ports_of o
-un_ports None = refl
-un_ports (Some c) = refl
-
--- whether it is there
-pub un_there : (o : Option HeldCell) → is_some (unindexed o) ≡ is_some o
-un_there None = refl
-un_there (Some c) = refl
-
--- its other numbers
-pub un_number : (o : Option HeldCell) (k : ℕ) → INDEX < k → get_or (numbers_of (unindexed o)) k 0 ≡ get_or (numbers_of o) k 0
-un_number None k low = refl
-un_number (Some c) k low = get_or-set_other c.numbers INDEX k 0 0 (λ e. absurd (omega (arith, low, e)))
-
--- how many there are
-pub un_count : (o : Option HeldCell) → length (numbers_of (unindexed o)) ≡ length (numbers_of o)
-un_count None = refl
-un_count (Some c) = length-set c.numbers INDEX 0
-
-un_none : (o : Option HeldCell) → unindexed o ≡ None → o ≡ None
-un_none None e = refl
-un_none (Some c) e = absurd cc
-
--- what a property of a cell that its index leaves is
-module _ {X : Type 0} (P : Option HeldCell → X) (keeps : (o : Option HeldCell) → P (unindexed o) ≡ P o) (o q : Option HeldCell) (e : unindexed o ≡ unindexed q) where
-  pub un_same : P o ≡ P q
-  un_same = sym (keeps o) ∙ ap P e ∙ keeps q
-
--- Linked cells
-
--- the first of them
-pub linked_head : (f : ℕ → Option HeldCell) (x : ℕ) (xs : List ℕ) → AreLinked f (Some x) xs → (ys : List ℕ) × (xs ≡ x ∷ ys) × IsSome (f x) × AreLinked f (link_in f x NEXT) ys
-linked_head f x [] l = absurd cc
-linked_head f x (y ∷ ys) l = let same : x ≡ y = (let e : Some x ≡ Some y = l.0 in cc) in
-    (ys, ap (λ z. z ∷ ys) (sym same), subst (λ z. IsSome (f z)) (sym same) l.1, subst (λ z. AreLinked f (link_in f z NEXT) ys) (sym same) l.2)
-
--- there are none
-pub linked_none : (f : ℕ → Option HeldCell) (xs : List ℕ) → AreLinked f None xs → xs ≡ []
-linked_none f [] l = refl
-linked_none f (y ∷ ys) l = absurd (let e : ◌≡◌ {A = Option ℕ} None (Some y) = l.0 in cc)
-
--- they stay linked
-pub linked_kept : (f g : ℕ → Option HeldCell) (first : Option ℕ) (xs : List ℕ) → ((b : ℕ) → In b xs → unindexed (g b) ≡ unindexed (f b)) → AreLinked f first xs → AreLinked g first xs
-linked_kept f g first [] same l = l
-linked_kept f g first (x ∷ xs) same l =
-    let e = same x (inl refl) in (
-      l.0,
-      un_same (λ o. is_some o) un_there (g x) (f x) e ∙ l.1,
-      subst (λ o. AreLinked g o xs) (sym (un_same (λ o. get_or (links_of o) NEXT None) (λ o. ap (λ us. get_or us NEXT None) (un_links o)) (g x) (f x) e)) (linked_kept f g (link_in f x NEXT) xs (λ b i. same b (inr i)) l.2),
-    )
-
--- a list is linked so
-pub run_linked : (f : ℕ → Option HeldCell) (before first : Option ℕ) (xs : List ℕ) (last : Option ℕ) → ((x : ℕ) → In x xs → IsSome (f x)) → RunsThrough (node_in f) before first xs last None → AreLinked f first xs
-run_linked f before first [] last there r = r.0
-run_linked f before first (x ∷ xs) last there r = (r.0, there x (inl refl), run_linked f (Some x) (link_in f x NEXT) xs last (λ y i. there y (inr i)) r.2)
-
 -- Cells go
 
--- none of them
-pub without_none : (f : ℕ → Option HeldCell) → Without f f []
-without_none f = record { gone = λ b i. absurd i; others = λ b n. refl }
+-- the cells of a list before the one that comes next are gone, and nothing else changed
+pub record Frees (f g : ℕ → Option HeldCell) (xs : List ℕ) (next : Option ℕ) : Type 0 where
+  pub front : List ℕ
+  pub whole : xs ≡ front ++ from next xs
+  pub without : Without f g front
 
--- one, and then others
-pub without_step : (f g h : ℕ → Option HeldCell) (x : ℕ) (xs : List ℕ) → g x ≡ None → ((b : ℕ) → b ≢ x → unindexed (g b) ≡ unindexed (f b)) → (In x xs → ⊥) → Without g h xs → Without f h (x ∷ xs)
-without_step f g h x xs none kept out w = record {
-  gone = λ b i. elim i [
-    | inl e ↦ subst (λ z. h z ≡ None) e (un_none (h x) (w.others x out ∙ ap unindexed none))
-    | inr j ↦ w.gone b j
-  ];
-  others = λ b n. w.others b (λ i. n (inr i)) ∙ kept b (λ e. n (inl (sym e)));
-}
+-- what is told of a cell of the list that comes next
+pub record Comes (f g : ℕ → Option HeldCell) (xs front : List ℕ) (x : ℕ) : Type 0 where
+  pub listed : In x xs
+  pub left : In x front → ⊥
+  pub same : g x ≡ f x
+  pub there : IsSome (g x)
 
--- the first of a list without repeats isn't among the others
-pub first_once : (x : ℕ) (xs : List ℕ) → Distinct (x ∷ xs) → In x xs → ⊥
-first_once x xs d i = each_in (λ y. x ≢ y) xs x d.0 i refl
+module _ (f : ℕ → Option HeldCell) (m e : ℕ) (xs : List ℕ) (line : Line f m e xs) where
+  -- none of them yet
+  pub frees_none : Frees f f xs (link_in f m e)
+  frees_none = record { front = []; whole = sym (begins_list f m e xs line); without = record { gone = λ b i. absurd i; others = λ b n. refl } }
+
+  -- all of them
+  pub frees_all : (g : ℕ → Option HeldCell) → Frees f g xs None → Without f g xs
+  frees_all g s = subst (Without f g) (sym (s.whole ∙ append-nil s.front)) s.without
+
+  -- the next one stands in the list, and is as it was
+  pub next_comes : (g : ℕ → Option HeldCell) (x : ℕ) (s : Frees f g xs (Some x)) → Comes f g xs s.front x
+  next_comes g x s =
+      let i : In x xs = subst (In x) (sym s.whole) (in_here x s.front (after x xs)) in
+      let out : In x s.front → ⊥ = λ j. apart s.front (x ∷ after x xs) x x (subst Distinct s.whole line.once) j (inl refl) refl in
+      let same = s.without.others x out in
+      record { listed = i; left = out; same = same; there = ap (λ (o : Option HeldCell). is_some o) same ∙ (each_in (λ y. IsSome (f y) × (y ≢ m) × (link_in f y HOME ≡ Some m)) xs x line.cells i).0 }
+
+  -- it goes
+  pub frees_next : (g v : ℕ → Option HeldCell) (x : ℕ) → v ≡ alter g x (λ _. None) → Frees f g xs (Some x) → Frees f v xs (link_in g x NEXT)
+  frees_next g v x is s =
+      let c = next_comes g x s in
+      let on : from (link_in g x NEXT) xs ≡ after x xs = ap (λ (o : Option HeldCell). from (get_or (links_of o) NEXT None) xs) c.same ∙ goes_on f m e x xs line c.listed in
+      subst (λ (u : ℕ → Option HeldCell). Frees f u xs (link_in g x NEXT)) (sym is) record {
+        front = s.front ++ x ∷ [];
+        whole = s.whole ∙ sym (append_assoc s.front (x ∷ []) (after x xs)) ∙ ap (λ us. (s.front ++ x ∷ []) ++ us) (sym on);
+        without = record {
+          gone = λ b i. elim (cases_eq b x) [
+            | inl q ↦ subst (λ z. alter g x (λ _. None) z ≡ None) (sym q) (alter_at g x (λ _. None))
+            | inr d ↦ alter_away g x (λ _. None) b d ∙ elim (in_either b s.front (x ∷ []) i) [ inl j ↦ s.without.gone b j | inr j ↦ absurd (elim j [ inl q ↦ d (sym q) | inr k ↦ k ]) ]
+          ];
+          others = λ b n. alter_away g x (λ _. None) b (λ q. n (in_right b s.front (x ∷ []) (inl (sym q)))) ∙ s.without.others b (λ j. n (in_left b s.front (x ∷ []) j));
+        };
+      }
+
+  -- and one less is left
+  pub fewer_left : (g : ℕ → Option HeldCell) (x : ℕ) → Frees f g xs (Some x) → length (from (link_in g x NEXT) xs) < length (from (Some x) xs)
+  fewer_left g x s =
+      let c = next_comes g x s in
+      let on : from (link_in g x NEXT) xs ≡ after x xs = ap (λ (o : Option HeldCell). from (get_or (links_of o) NEXT None) xs) c.same ∙ goes_on f m e x xs line c.listed in
+      subst (λ us. length us < length (x ∷ after x xs)) (sym on) (omega arith)
 
 -- A membrane forgets its atoms
 
@@ -170,25 +145,13 @@ bare_account (Some c) = λ t. record {
   ports = length c.ports;
 }
 
-TableTells : List ℕ → (ℕ → Account) → Type 0
-TableTells all k = ((b i : ℕ) → (slice_get all i ≡ Some b) ↔ (((k b).there ≡ true) × ((k b).index ≡ i)))
-    × ((b : ℕ) → (k b).there ≡ true → (k b).arity ≡ (k b).ports) × ((b : ℕ) → (k b).there ≡ true → (k b).numbers ≡ numbers_by (k b).kind)
-
--- the table stays one
-pub bare_table : (g : ℕ → Option HeldCell) (all : List ℕ) (m : ℕ) → IsTable g all → IsTable (alter g m (option_map bare_atoms)) all
-unfolding TableTells
-bare_table g all m w =
-    let h : ℕ → Option HeldCell = alter g m (option_map bare_atoms) in
-    let e : ◌≡◌ {A = ℕ → Account} (λ b. account (g b)) (λ b. account (h b)) = λ t b. sym (alter_keeps g m (option_map bare_atoms) account bare_account b) t in
-    let k : TableTells all (λ b. account (h b)) = subst (TableTells all) e (w.indexed, w.arity, w.numbers) in
-    record { indexed = k.0; arity = k.1; numbers = k.2 }
-
 -- h is f without xs, the atoms of m, which forgot them
 pub record Emptied (f h : ℕ → Option HeldCell) (m : ℕ) (xs : List ℕ) : Type 0 where
   pub gone : (b : ℕ) → In b xs → h b ≡ None
   pub there : (b : ℕ) → (In b xs → ⊥) → is_some (h b) ≡ is_some (f b)
   pub ports : (b : ℕ) → (In b xs → ⊥) → ports_of (h b) ≡ ports_of (f b)
-  pub numbers : (b k : ℕ) → (In b xs → ⊥) → INDEX < k → (b ≡ m → k ≢ 6) → number_in h b k ≡ number_in f b k
+  pub kept : (b : ℕ) → (In b xs → ⊥) → account (h b) ≡ account (f b)
+  pub numbers : (b k : ℕ) → (In b xs → ⊥) → (b ≡ m → k ≢ 6) → number_in h b k ≡ number_in f b k
   pub links : (b k : ℕ) → (In b xs → ⊥) → (b ≡ m → IsOther k) → link_in h b k ≡ link_in f b k
   pub first : link_in h m 3 ≡ None
   pub last : link_in h m 4 ≡ None
@@ -199,16 +162,17 @@ pub record Emptied (f h : ℕ → Option HeldCell) (m : ℕ) (xs : List ℕ) : T
 pub emptied : (f g : ℕ → Option HeldCell) (m : ℕ) (xs : List ℕ) → (In m xs → ⊥) → Without f g xs → Emptied f (alter g m (option_map bare_atoms)) m xs
 emptied f g m xs out w = record {
   gone = λ b i. alter_away g m (option_map bare_atoms) b (λ e. out (subst (λ z. In z xs) e i)) ∙ w.gone b i;
-  there = λ b n. alter_keeps g m (option_map bare_atoms) (λ (o : Option HeldCell). is_some o) bare_there b ∙ un_same (λ o. is_some o) un_there (g b) (f b) (w.others b n);
-  ports = λ b n. alter_keeps g m (option_map bare_atoms) ports_of bare_ports b ∙ un_same ports_of un_ports (g b) (f b) (w.others b n);
-  numbers = λ b k n low d. elim (cases_eq b m) [
+  there = λ b n. alter_keeps g m (option_map bare_atoms) (λ (o : Option HeldCell). is_some o) bare_there b ∙ ap (λ (o : Option HeldCell). is_some o) (w.others b n);
+  ports = λ b n. alter_keeps g m (option_map bare_atoms) ports_of bare_ports b ∙ ap ports_of (w.others b n);
+  kept = λ b n. alter_keeps g m (option_map bare_atoms) account bare_account b ∙ ap account (w.others b n);
+  numbers = λ b k n d. elim (cases_eq b m) [
     | inl e ↦ alter_keeps g m (option_map bare_atoms) (λ (o : Option HeldCell). get_or (numbers_of o) k 0) (bare_number k (d e)) b
     | inr a ↦ ap (λ (o : Option HeldCell). get_or (numbers_of o) k 0) (alter_away g m (option_map bare_atoms) b a)
-  ] ∙ un_same (λ o. get_or (numbers_of o) k 0) (λ o. un_number o k low) (g b) (f b) (w.others b n);
+  ] ∙ ap (λ (o : Option HeldCell). get_or (numbers_of o) k 0) (w.others b n);
   links = λ b k n d. elim (cases_eq b m) [
     | inl e ↦ alter_keeps g m (option_map bare_atoms) (λ (o : Option HeldCell). get_or (links_of o) k None) (bare_link k (d e)) b
     | inr a ↦ ap (λ (o : Option HeldCell). get_or (links_of o) k None) (alter_away g m (option_map bare_atoms) b a)
-  ] ∙ un_same (λ o. get_or (links_of o) k None) (λ o. ap (λ us. get_or us k None) (un_links o)) (g b) (f b) (w.others b n);
+  ] ∙ ap (λ (o : Option HeldCell). get_or (links_of o) k None) (w.others b n);
   first = ap (λ (o : Option HeldCell). get_or (links_of o) 3 None) (alter_at g m (option_map bare_atoms)) ∙ bare_first (g m);
   last = ap (λ (o : Option HeldCell). get_or (links_of o) 4 None) (alter_at g m (option_map bare_atoms)) ∙ bare_last (g m);
   leaders = ap (λ (o : Option HeldCell). get_or (links_of o) LEADERS None) (alter_at g m (option_map bare_atoms)) ∙ bare_leaders (g m);
@@ -224,9 +188,9 @@ membrane_there f m d = by (f m) refl
     by (Some c) e = subst (λ (o : Option HeldCell). IsSome o) (sym e) refl
 
 -- in the cells the atoms are joined to one another too
-pub closed_cells : (f : ℕ → Option HeldCell) (all : List ℕ) → IsWeb f all → (m : ℕ) → ((a i b j : ℕ) → In a (cells_in (web_of f) m Atom) → partner_at (web_of f) a i ≡ Some (b, j) → In b (cells_in (web_of f) m Atom))
+pub closed_cells : (f : ℕ → Option HeldCell) (made : ℕ) → IsWeb f made → (m : ℕ) → ((a i b j : ℕ) → In a (cells_in (web_of f) m Atom) → partner_at (web_of f) a i ≡ Some (b, j) → In b (cells_in (web_of f) m Atom))
     → (a i b j : ℕ) → In a (list_in f m Atom) → partner_in f a i ≡ Some (b, j) → In b (list_in f m Atom)
-closed_cells f all w m closed a i b j n p =
+closed_cells f made w m closed a i b j n p =
     let own : cells_in (web_of f) m Atom ≡ list_in f m Atom = list_same f (list_in f) w.listed m Atom in
     subst (λ us. In b us) own (closed a i b j (subst (λ us. In a us) (sym own) n) (partner_same f (list_in f) a i ∙ p))
 
@@ -244,18 +208,14 @@ other_count : (j : CellKind) → (j ≡ Atom → ⊥) → count_number j ≢ 6
 other_count Atom d = absurd (d refl)
 other_count Membrane d = λ e. absurd (omega (arith, e))
 
-count_low : (j : CellKind) → INDEX < count_number j
-count_low Atom = omega arith
-count_low Membrane = omega arith
-
 -- a cell of the web, whose index and lists the web doesn't tell
-cell_same : (lists : CellKind → List ℕ) (o q : Option HeldCell) → is_some o ≡ is_some q → ports_of o ≡ ports_of q → ((k : ℕ) → INDEX < k → k ≢ 6 → get_or (numbers_of o) k 0 ≡ get_or (numbers_of q) k 0)
+cell_same : (lists : CellKind → List ℕ) (o q : Option HeldCell) → is_some o ≡ is_some q → ports_of o ≡ ports_of q → ((k : ℕ) → k ≢ 6 → get_or (numbers_of o) k 0 ≡ get_or (numbers_of q) k 0)
     → get_or (links_of o) HOME None ≡ get_or (links_of q) HOME None → option_map (web_cell lists) o ≡ option_map (web_cell lists) q
 cell_same lists None None t p n l = refl
 cell_same lists None (Some d) t p n l = absurd cc
 cell_same lists (Some c) None t p n l = absurd cc
 cell_same lists (Some c) (Some d) t p n l =
-    let high = n HIGH (omega arith) (λ e. absurd (omega (arith, e))) in let low = n LOW (omega arith) (λ e. absurd (omega (arith, e))) in let kind = n KIND (omega arith) (λ e. absurd (omega (arith, e))) in let own = n FIRST_MARK (omega arith) (λ e. absurd (omega (arith, e))) in
+    let high = n HIGH (λ e. absurd (omega (arith, e))) in let low = n LOW (λ e. absurd (omega (arith, e))) in let kind = n KIND (λ e. absurd (omega (arith, e))) in let own = n FIRST_MARK (λ e. absurd (omega (arith, e))) in
     λ i. Some record {
       label = label_by (high i) (low i);
       kind = kind_by (kind i);
@@ -266,7 +226,7 @@ cell_same lists (Some c) (Some d) t p n l =
       membranes = lists Membrane;
     }
 
-module _ (f h : ℕ → Option HeldCell) (all rest : List ℕ) (W : IsWeb f all) (m : ℕ) (membrane : cell_kind f m ≡ Atom → ⊥) (e : Emptied f h m (list_in f m Atom)) where
+module _ (f h : ℕ → Option HeldCell) (made : ℕ) (W : IsWeb f made) (m : ℕ) (membrane : cell_kind f m ≡ Atom → ⊥) (e : Emptied f h m (list_in f m Atom)) where
   abbrev xs : List ℕ
   xs = list_in f m Atom
 
@@ -291,7 +251,7 @@ module _ (f h : ℕ → Option HeldCell) (all rest : List ℕ) (W : IsWeb f all)
   kind_is : (b : ℕ) → cell_kind h b ≡ cell_kind f b
   kind_is b = elim (decide_in b xs) [
     | inl i ↦ ap (λ (o : Option HeldCell). kind_by (get_or (numbers_of o) KIND 0)) (e.gone b i) ∙ sym (is_atom b i)
-    | inr n ↦ ap kind_by (e.numbers b KIND n (omega arith) (λ _ s. absurd (omega (arith, s))))
+    | inr n ↦ ap kind_by (e.numbers b KIND n (λ _ s. absurd (omega (arith, s))))
   ]
 
   -- what stands in another list is none of those that went
@@ -321,7 +281,7 @@ module _ (f h : ℕ → Option HeldCell) (all rest : List ℕ) (W : IsWeb f all)
     line = each (λ n j us. (cell_kind h n ≡ Atom → ⊥) → Line h n (list_link j) us) (λ _. record { runs = (e.first, e.last); cells = tt; once = tt }) (λ n j d t. line_stays n j d (λ s. t (kind_is n ∙ s)));
     count = each (λ n j us. number_in h n (count_number j) ≡ length us) e.count (λ n j d. elim (decide_in n xs) [
       | inl i ↦ ap (λ (o : Option HeldCell). get_or (numbers_of o) (count_number j) 0) (e.gone n i) ∙ sym (ap (λ (us : List ℕ). length us) (W.listed.bare n j (is_atom n i)))
-      | inr miss ↦ e.numbers n (count_number j) miss (count_low j) (λ s. other_count j (d s)) ∙ W.listed.count n j
+      | inr miss ↦ e.numbers n (count_number j) miss (λ s. other_count j (d s)) ∙ W.listed.count n j
     ]);
     kinds = λ n z j. each (λ n j us. In z us → cell_kind h z ≡ j) (λ i. absurd i) (λ n j d i. kind_is z ∙ W.listed.kinds n z j i) n j;
     homes = λ n z q. elim (decide_in z xs) [
@@ -341,10 +301,10 @@ module _ (f h : ℕ → Option HeldCell) (all rest : List ℕ) (W : IsWeb f all)
         gone = λ a i. ap (λ (w : ℕ → Option WebCell). w a) self ∙ ap (option_map (web_cell (lists a))) (e.gone a (subst (λ us. In a us) own i));
         others = λ b n d. let miss : In b xs → ⊥ = λ i. n (subst (λ us. In b us) (sym own) i) in
             ap (λ (w : ℕ → Option WebCell). w b) self ∙ ap (λ (u : CellKind → List ℕ). option_map (web_cell u) (h b)) (alter_away (list_in f) m (put_list Atom []) b d)
-            ∙ cell_same (list_in f b) (h b) (f b) (e.there b miss) (e.ports b miss) (λ k l _. e.numbers b k miss l (λ s. absurd (d s))) (e.links b HOME miss (λ _. no_such HOME (omega arith)));
+            ∙ cell_same (list_in f b) (h b) (f b) (e.there b miss) (e.ports b miss) (λ k _. e.numbers b k miss (λ s. absurd (d s))) (e.links b HOME miss (λ _. no_such HOME (omega arith)));
         home = let miss : In m xs → ⊥ = λ i. membrane (is_atom m i) in
             ap (λ (w : ℕ → Option WebCell). w m) self ∙ ap (λ (u : CellKind → List ℕ). option_map (web_cell u) (h m)) (alter_at (list_in f) m (put_list Atom []))
-            ∙ cell_same (put_list Atom [] (list_in f m)) (h m) (f m) (e.there m miss) (e.ports m miss) (λ k l s. e.numbers m k miss l (λ _. s)) (e.links m HOME miss (λ _. no_such HOME (omega arith)))
+            ∙ cell_same (put_list Atom [] (list_in f m)) (h m) (f m) (e.there m miss) (e.ports m miss) (λ k s. e.numbers m k miss (λ _. s)) (e.links m HOME miss (λ _. no_such HOME (omega arith)))
             ∙ by (f m);
       }
     where
@@ -352,7 +312,7 @@ module _ (f h : ℕ → Option HeldCell) (all rest : List ℕ) (W : IsWeb f all)
       by None = refl
       by (Some c) = refl
 
-  module _ (closed : (a i b j : ℕ) → In a xs → partner_in f a i ≡ Some (b, j) → In b xs) (table : IsTable h rest) where
+  module _ (closed : (a i b j : ℕ) → In a xs → partner_in f a i ≡ Some (b, j) → In b xs) where
     partner_is : (b k : ℕ) → (In b xs → ⊥) → partner_in h b k ≡ partner_in f b k
     partner_is b k n = ap (λ (ps : List HeldPort). partner_by (get_or ps k record { to = None; port = 0; mark = 0 })) (e.ports b n)
 
@@ -365,16 +325,24 @@ module _ (f h : ℕ → Option HeldCell) (all rest : List ℕ) (W : IsWeb f all)
     other_end : (b k c j : ℕ) → (In b xs → ⊥) → partner_in f b k ≡ Some (c, j) → In c xs → ⊥
     other_end b k c j n p i = n (closed c j b k i (W.paired.back b k c j p))
 
+    -- what is there is none of those that went
+    left : (b : ℕ) → IsSome (h b) → In b xs → ⊥
+    left b t i = absurd (let z = subst (λ (o : Option HeldCell). IsSome o) (e.gone b i) t in cc)
+
+    was : (b : ℕ) → IsSome (h b) → IsSome (f b)
+    was b t = sym (e.there b (left b t)) ∙ t
+
     -- what is left is a web
-    pub empty_web : IsWeb h rest
+    pub empty_web : IsWeb h made
     empty_web = record {
-      indexed = table.indexed;
-      arity = table.arity;
+      indexed = λ b t. let n = left b t in subst (λ i. i < made) (sym (ap (λ (k : Account). k.index) (e.kept b n))) (W.indexed b (was b t));
+      single = λ a b t u s. W.single a b (was a t) (was b u) (sym (ap (λ (k : Account). k.index) (e.kept a (left a t))) ∙ s ∙ ap (λ (k : Account). k.index) (e.kept b (left b u)));
+      arity = λ b t. let n = left b t in ap (λ (k : Account). k.arity) (e.kept b n) ∙ W.arity b (was b t) ∙ sym (ap (λ (k : Account). k.ports) (e.kept b n));
       few = λ b. elim (decide_in b xs) [
         | inl i ↦ subst (λ (o : Option HeldCell). length (ports_of o) < 256) (sym (e.gone b i)) (omega arith)
         | inr n ↦ subst (λ (ps : List HeldPort). length ps < 256) (sym (e.ports b n)) (W.few b)
       ];
-      numbers = table.numbers;
+      numbers = λ b t. let n = left b t in ap (λ (k : Account). k.numbers) (e.kept b n) ∙ W.numbers b (was b t) ∙ ap (λ (k : Account). numbers_by k.kind) (sym (e.kept b n));
       reaches = λ b k c j p. let q = partner_was b k c j p in subst (λ (ps : List HeldPort). j < length ps) (sym (e.ports c (other_end b k c j q.0 q.1))) (W.reaches b k c j q.1);
       paired = record {
         back = λ b k c j p. let q = partner_was b k c j p in partner_is c j (other_end b k c j q.0 q.1) ∙ W.paired.back b k c j q.1;
@@ -389,13 +357,13 @@ module _ (f h : ℕ → Option HeldCell) (all rest : List ℕ) (W : IsWeb f all)
       classes = λ n d. elim (cases_eq n m) [
         | inl s ↦ (Bare, subst (λ z. AreClassed h z (lists z Atom) Bare) (sym s) (subst (λ (u : CellKind → List ℕ). AreClassed h m (u Atom) Bare) (sym (alter_at (list_in f) m (put_list Atom []))) none))
         | inr o ↦ (let miss : In n xs → ⊥ = (λ i. files_inside h n d (kind_is n ∙ is_atom n i)) in
-            let q = c.classes n (ap (λ k. k == FILED) (sym (e.numbers n KIND miss (omega arith) (λ s. absurd (o s)))) ∙ d) in
+            let q = c.classes n (ap (λ k. k == FILED) (sym (e.numbers n KIND miss (λ s. absurd (o s)))) ∙ d) in
             let out : (x : ℕ) → In x (list_in f n Atom) → In x xs → ⊥ = (λ x i. stays n Atom x (λ s _. o s) i) in
             let not_m : (x : ℕ) → In x (list_in f n Atom) → x ≡ m → ⊥ = (λ x i s. membrane (ap (cell_kind f) (sym s) ∙ W.listed.kinds n x Atom i)) in (
               q.0,
               subst (λ (u : CellKind → List ℕ). AreClassed h n (u Atom) q.0) (sym (alter_away (list_in f) m (put_list Atom []) n o))
                   (class_kept f h n (list_in f n Atom) q.0
-                  (λ x i t. (e.numbers x HIGH (out x i) (omega arith) (λ s. absurd (not_m x i s)) t, e.numbers x ARITY (out x i) (omega arith) (λ s. absurd (not_m x i s)) t))
+                  (λ x i t. (e.numbers x HIGH (out x i) (λ s. absurd (not_m x i s)) t, e.numbers x ARITY (out x i) (λ s. absurd (not_m x i s)) t))
                   (λ x k i _. e.links x k (out x i) (λ s. absurd (not_m x i s)))
                   (λ x i t. e.there x (out x i) ∙ t)
                   (e.links n LEADERS miss (λ s. absurd (o s))) q.1),
@@ -403,7 +371,7 @@ module _ (f h : ℕ → Option HeldCell) (all rest : List ℕ) (W : IsWeb f all)
       ];
       low = λ b. elim (decide_in b xs) [
         | inl i ↦ subst (λ (o : Option HeldCell). get_or (numbers_of o) LOW 0 < 2 ^ 64) (sym (e.gone b i)) (omega arith)
-        | inr n ↦ subst (λ k. k < 2 ^ 64) (sym (e.numbers b LOW n (omega arith) (λ _ s. absurd (omega (arith, s))))) (c.low b)
+        | inr n ↦ subst (λ k. k < 2 ^ 64) (sym (e.numbers b LOW n (λ _ s. absurd (omega (arith, s))))) (c.low b)
       ];
     }
       where

@@ -1,5 +1,5 @@
 -- The classes of a web stay, and follow its lists.
-use Rattle.std.proofs.Common.{◌≡◌, ◌≢◌, ◌==◌, ◌+◌, ◌<◌, ◌≤◌, ◌^◌, ◌++◌, Bool, true, false, ℕ, List, [], ◌∷◌, length, get_or, Option, Some, None, IsSome, refl, sym, ap, subst, ◌∙◌, inl, inr, arith}
+use Rattle.std.proofs.Common.{◌≡◌, ◌≢◌, ◌==◌, ◌+◌, ◌<◌, ◌≤◌, ◌^◌, Bool, true, false, ℕ, List, [], ◌∷◌, get_or, Option, Some, None, IsSome, refl, sym, ap, subst, ◌∙◌, inl, inr, arith}
 use Rattle.std.proofs.lemmas.Bool.{cases_eq, eqb-true}
 use Rattle.std.specs.Option.{option_map}
 use Rattle.lmn_base.specs.Lists.{In}
@@ -80,8 +80,8 @@ classed_told f g ys same c = classed_links f g ys (λ b k. ap (λ (t : Told). ge
     (λ b. ap (λ (t : Told). t.listing.kind) (same b)) (λ b t. ap (λ (t : Told). t.listing.there) (same b) ∙ t) c
 
 -- so it leaves a web
-pub same_classed : (f g : ℕ → Option HeldCell) (all : List ℕ) → IsClassedWeb f all → ((b : ℕ) → told (g b) ≡ told (f b)) → IsWeb g all → IsClassedWeb g all
-same_classed f g all w same v = record {
+pub same_classed : (f g : ℕ → Option HeldCell) (made : ℕ) → IsClassedWeb f made → ((b : ℕ) → told (g b) ≡ told (f b)) → IsWeb g made → IsClassedWeb g made
+same_classed f g made w same v = record {
   web = v;
   classed = classed_self g (list_in f) (lists_same f g (λ b. ap (λ (t : Told). t.listing) (same b)) (list_in f) w.web.listed) (classed_told f g (list_in f) same w.classed);
 }
@@ -114,23 +114,23 @@ classed_beside f g a ys away out none head small c = record {
     bare = record { tree = head; sorted = tt; inside = λ l i. i; every = λ x i. absurd i; runs = λ l i. absurd i }
 
 -- no cell, no class
-pub empty_classed : (f : ℕ → Option HeldCell) (all : List ℕ) → f ≡ (λ _. None) → IsWeb f all → IsClassedWeb f all
-empty_classed f all none w = record {
+pub empty_classed : (f : ℕ → Option HeldCell) (made : ℕ) → f ≡ (λ _. None) → IsWeb f made → IsClassedWeb f made
+empty_classed f made none w = record {
   web = w;
   classed = subst (λ (g : ℕ → Option HeldCell). IsClassed g (list_in g)) (sym none) record { classes = λ m d. absurd (not_true d); low = λ b. omega arith };
 }
 
 -- a new cell has no class
-pub made_classed : (f : ℕ → Option HeldCell) (all : List ℕ) → IsClassedWeb f all → (a n k h low : ℕ) → f a ≡ None → n < 256 → low < 2 ^ 64
-    → IsClassedWeb (alter f a (λ _. Some (described (length all) n k h low (blank_by k n)))) (all ++ a ∷ [])
-made_classed f all w a n k h low fresh small half =
-    let v : HeldCell = described (length all) n k h low (blank_by k n) in let g = alter f a (λ _. Some v) in
+pub made_classed : (f : ℕ → Option HeldCell) (made : ℕ) → IsClassedWeb f made → (a n k h low : ℕ) → f a ≡ None → n < 256 → low < 2 ^ 64
+    → IsClassedWeb (alter f a (λ _. Some (described made n k h low (blank_by k n)))) (made + 1)
+made_classed f made w a n k h low fresh small half =
+    let v : HeldCell = described made n k h low (blank_by k n) in let g = alter f a (λ _. Some v) in
     let here : g a ≡ Some v = alter_at f a (λ _. Some v) in
     let gone : IsSome (f a) → ⊥ = λ t. (let e = subst (λ (o : Option HeldCell). IsSome o) fresh t in absurd cc) in
     record {
-      web = made_web f all w.web a n k h low fresh small;
-      classed = classed_self g (list_in f) (made_lists f all w.web a n k h low fresh small)
-          (classed_beside f g a (list_in f) (λ b d. alter_away f a (λ _. Some v) b d) (λ m j i. gone (cell_of f (list_in f) w.web.listed m a j i).0) (no_list f all w.web a n k h low fresh small)
+      web = made_web f made w.web a n k h low fresh small;
+      classed = classed_self g (list_in f) (made_lists f made w.web a n k h low fresh small)
+          (classed_beside f g a (list_in f) (λ b d. alter_away f a (λ _. Some v) b d) (λ m j i. gone (cell_of f (list_in f) w.web.listed m a j i).0) (no_list f made w.web a n k h low fresh small)
           (ap (λ (o : Option HeldCell). get_or (links_of o) LEADERS None) here) (subst (λ z. z < 2 ^ 64) (sym (ap (λ (o : Option HeldCell). get_or (numbers_of o) LOW 0) here)) half) w.classed);
     }
 
@@ -228,7 +228,7 @@ number_core : (o : Option HeldCell) → get_or (numbers_of o) KIND 0 ≡ number_
 number_core None = refl
 number_core (Some c) = refl
 
-module _ (f F : ℕ → Option HeldCell) (all : List ℕ) (w : IsClassedWeb f all) (m x : ℕ) (h : Option ℕ) (xs : List ℕ) (r : Relists f F (list_in f) m x h xs) (leaves : Leaves f F m) where
+module _ (f F : ℕ → Option HeldCell) (made : ℕ) (w : IsClassedWeb f made) (m x : ℕ) (h : Option ℕ) (xs : List ℕ) (r : Relists f F (list_in f) m x h xs) (leaves : Leaves f F m) where
   abbrev own : List ℕ
   own = list_in f m (cell_kind f x)
 
@@ -384,11 +384,11 @@ module _ (f F : ℕ → Option HeldCell) (all : List ℕ) (w : IsClassedWeb f al
     filed_lists false e same = subst (λ (u : ℕ → Option HeldCell). IsClassed u lists) (sym same) (unfiled_classed (sym e))
 
     -- and its classes follow
-    filed_web : (b : Bool) → b ≡ files f m (cell_kind f x) → FiledAs b F G m zs p xs → IsClassedWeb G all
+    filed_web : (b : Bool) → b ≡ files f m (cell_kind f x) → FiledAs b F G m zs p xs → IsClassedWeb G made
     filed_web b e filed =
         let v = filed_relists b e filed in
         record {
-          web = relists_web f G all w.web m x h xs v;
+          web = relists_web f G made w.web m x h xs v;
           classed = classed_self G lists (new_lists f G (list_in f) w.web.listed m x h xs v) (filed_lists b e filed);
         }
 
@@ -411,7 +411,7 @@ module _ (f F : ℕ → Option HeldCell) (all : List ℕ) (w : IsClassedWeb f al
   more_apart free n z d i (inr k) = own_apart n z d i k
 
   -- a cell that came into a list and its class leaves a web
-  pub entered_web : (G : ℕ → Option HeldCell) (b : Bool) (p : ℕ × ℕ) → b ≡ files f m (cell_kind f x) → link_in f x HOME ≡ None → FiledAs b F G m (x ∷ own) p xs → IsClassedWeb G all
+  pub entered_web : (G : ℕ → Option HeldCell) (b : Bool) (p : ℕ × ℕ) → b ≡ files f m (cell_kind f x) → link_in f x HOME ≡ None → FiledAs b F G m (x ∷ own) p xs → IsClassedWeb G made
   entered_web G b p e free filed = filed_web G (x ∷ own) p more_atoms (λ _. more_apart free) b e filed
 
   -- in which the list is another
@@ -419,7 +419,7 @@ module _ (f F : ℕ → Option HeldCell) (all : List ℕ) (w : IsClassedWeb f al
   entered_list G b p e free filed = filed_relists G (x ∷ own) p more_atoms (λ _. more_apart free) b e filed
 
   -- so does one that left both
-  pub left_web : (G : ℕ → Option HeldCell) (b : Bool) (p : ℕ × ℕ) → b ≡ files f m (cell_kind f x) → FiledAs b F G m own p xs → IsClassedWeb G all
+  pub left_web : (G : ℕ → Option HeldCell) (b : Bool) (p : ℕ × ℕ) → b ≡ files f m (cell_kind f x) → FiledAs b F G m own p xs → IsClassedWeb G made
   left_web G b p e filed = filed_web G own p own_atom (λ _. own_apart) b e filed
 
   -- and the list is another

@@ -2,9 +2,7 @@
 use Rattle.std.proofs.Common.{◌≡◌, ◌≢◌, ℕ, ◌+◌, ◌-◌, ◌<◌, ◌≤◌, ◌==◌, Bool, true, false, List, [], ◌∷◌, ◌++◌, length, map, get_or, set, Option, Some, None, IsSome, is_some, if◌then◌else◌, refl, sym, ap, subst, ◌∙◌, inl, inr, arith, length-set, get_or-set_same, get_or-set_other}
 use Rattle.std.proofs.lemmas.Bool.{cases_eq, eq-eqb}
 use Rattle.std.proofs.lemmas.List.{length-map, length-append}
-use Rattle.std.proofs.lemmas.Option.{slice_get_within}
 use Rattle.std.specs.Option.{option_map}
-use Rattle.std.specs.List.{slice_get}
 use Rattle.lmn_base.specs.Lists.{In}
 use Rattle.lmn_base.proofs.Lists.{in_either}
 use Rattle.lmn_store_heap.specs.Heap.{alter}
@@ -213,19 +211,19 @@ module _ (f g : ℕ → Option HeldCell) (ys : ℕ → CellKind → List ℕ) (l
           ]
 
 -- what such a change leaves is a web
-pub relists_web : (f g : ℕ → Option HeldCell) (all : List ℕ) (w : IsWeb f all) (m x : ℕ) (h : Option ℕ) (xs : List ℕ) → Relists f g (list_in f) m x h xs → IsWeb g all
-relists_web f g all w m x h xs r =
+pub relists_web : (f g : ℕ → Option HeldCell) (made : ℕ) (w : IsWeb f made) (m x : ℕ) (h : Option ℕ) (xs : List ℕ) → Relists f g (list_in f) m x h xs → IsWeb g made
+relists_web f g made w m x h xs r =
     let ports : (b : ℕ) → ports_of (g b) ≡ ports_of (f b) = λ b. ports_core (g b) ∙ ap ports_by_core (r.cores b) ∙ sym (ports_core (f b)) in
     let partners : (b i : ℕ) → partner_in g b i ≡ partner_in f b i = λ b i. partner_ports (g b) (f b) i (ports b) in
-    kept_web f g all w (λ b. account_core (g b) ∙ ap account_by (r.cores b) ∙ sym (account_core (f b))) (reaches_same f g partners (λ b. ap (λ (ps : List HeldPort). length ps) (ports b)) w.reaches) (paired_same f g partners w.paired)
+    kept_web f g made w (λ b. account_core (g b) ∙ ap account_by (r.cores b) ∙ sym (account_core (f b))) (reaches_same f g partners (λ b. ap (λ (ps : List HeldPort). length ps) (ports b)) w.reaches) (paired_same f g partners w.paired)
     (listed_self g _ (new_lists f g (list_in f) w.listed m x h xs r))
   where
     partner_ports : (o p : Option HeldCell) (i : ℕ) → ports_of o ≡ ports_of p → partner_by (port_of o i) ≡ partner_by (port_of p i)
     partner_ports o p i e = ap (λ (ps : List HeldPort). partner_by (get_or ps i record { to = None; port = 0; mark = 0 })) e
 
 -- and that web is the other with this list
-pub relists_is : (f g : ℕ → Option HeldCell) (all : List ℕ) (w : IsWeb f all) (m x : ℕ) (h : Option ℕ) (xs : List ℕ) → Relists f g (list_in f) m x h xs → web_of g ≡ relisted (web_of f) m x h xs
-relists_is f g all w m x h xs r = web_self g _ (new_lists f g (list_in f) w.listed m x h xs r) ∙ new_web f g (list_in f) w.listed m x h xs r
+pub relists_is : (f g : ℕ → Option HeldCell) (made : ℕ) (w : IsWeb f made) (m x : ℕ) (h : Option ℕ) (xs : List ℕ) → Relists f g (list_in f) m x h xs → web_of g ≡ relisted (web_of f) m x h xs
+relists_is f g made w m x h xs r = web_self g _ (new_lists f g (list_in f) w.listed m x h xs r) ∙ new_web f g (list_in f) w.listed m x h xs r
 
 -- Two lists of a web
 
@@ -249,7 +247,7 @@ apart_more f ys l x e m n k j d = let a = apart_lists f ys l m n k j d in record
   cells = λ z i o. elim o [ inl s ↦ in_none f ys l x e n j (subst (λ u. In u (ys n j)) (sym s) i) | inr p ↦ a.cells z i p ];
 }
 
--- A list is no longer than the table of all cells
+-- A list has no more cells than were made
 
 pub distinct_map : (idx : ℕ → ℕ) (xs : List ℕ) → Distinct xs → ((a b : ℕ) → In a xs → In b xs → idx a ≡ idx b → a ≡ b) → Distinct (map idx xs)
 distinct_map idx [] d one = tt
@@ -258,14 +256,13 @@ distinct_map idx (x ∷ xs) d one = (
   distinct_map idx xs d.1 (λ a b i j. one a b (inr i) (inr j)),
 )
 
--- cells that are there, each once, are no more than the table has
-pub no_more : (f : ℕ → Option HeldCell) (all : List ℕ) → IsWeb f all → (xs : List ℕ) → Distinct xs → ((z : ℕ) → In z xs → IsSome (f z)) → length xs ≤ length all
-no_more f all w xs d there =
+-- cells that are there, each once, are no more than were made
+pub no_more : (f : ℕ → Option HeldCell) (made : ℕ) → IsWeb f made → (xs : List ℕ) → Distinct xs → ((z : ℕ) → In z xs → IsSome (f z)) → length xs ≤ made
+no_more f made w xs d there =
     let idx : ℕ → ℕ = λ z. number_in f z INDEX in
-    let at : (z : ℕ) → In z xs → slice_get all (number_in f z INDEX) ≡ Some z = λ z i. (w.indexed z (number_in f z INDEX)).1 (there z i, refl) in
-    subst (λ n. n ≤ length all) (length-map xs (λ z. number_in f z INDEX)) (short (length all) (map (λ z. number_in f z INDEX) xs)
-    (distinct_map (λ z. number_in f z INDEX) xs d (λ a b i j e. let u : Some a ≡ Some b = sym (at a i) ∙ ap (slice_get all) e ∙ at b j in cc))
-    (each_of _ (map (λ z. number_in f z INDEX) xs) (λ y i. let r = in_map (λ z. number_in f z INDEX) y xs i in subst (λ n. n < length all) r.2 (slice_get_within all (number_in f r.0 INDEX) r.0 (at r.0 r.1)))))
+    subst (λ n. n ≤ made) (length-map xs idx) (short made (map idx xs)
+    (distinct_map idx xs d (λ a b i j e. w.single a b (there a i) (there b j) e))
+    (each_of _ (map idx xs) (λ y i. let r = in_map idx y xs i in subst (λ n. n < made) r.2 (w.indexed r.0 (there r.0 r.1)))))
 
 -- The steps in the cells
 
@@ -373,7 +370,7 @@ moved_number f F ys m x h xs v b i = ap (λ (r : AllButLinks). get_or r.numbers 
 pub moved_there : (f F : ℕ → Option HeldCell) (ys : ℕ → CellKind → List ℕ) (m x : ℕ) (h : Option ℕ) (xs : List ℕ) → Moves f F ys m x h xs → (b : ℕ) → IsSome (f b) → IsSome (F b)
 moved_there f F ys m x h xs v b t = ap (λ (r : AllButLinks). r.there) (v.rests b) ∙ t
 
-module _ (f F : ℕ → Option HeldCell) (all : List ℕ) (w : IsWeb f all) (m x : ℕ) (h : Option ℕ) (xs : List ℕ) (v : Moves f F (list_in f) m x h xs) (count : ℕ) (there_m : IsSome (f m)) where
+module _ (f F : ℕ → Option HeldCell) (made : ℕ) (w : IsWeb f made) (m x : ℕ) (h : Option ℕ) (xs : List ℕ) (v : Moves f F (list_in f) m x h xs) (count : ℕ) (there_m : IsSome (f m)) where
   abbrev kd : CellKind
   kd = cell_kind f x
 
@@ -463,26 +460,26 @@ enters_last rows now e m x there free membrane differ =
     }
 
 -- what the call for a place before another asks: a is in the list of m for the kind of x
-pub before_among : (rows now : List Row) (all : List ℕ) → rows ≡ now → IsWeb (cells_by rows) all → (m a x : ℕ) → link_in (cells_by rows) a HOME ≡ Some m → kind_at (web_by now) a ≡ kind_at (web_by now) x
+pub before_among : (rows now : List Row) (made : ℕ) → rows ≡ now → IsWeb (cells_by rows) made → (m a x : ℕ) → link_in (cells_by rows) a HOME ≡ Some m → kind_at (web_by now) a ≡ kind_at (web_by now) x
     → In a (list_in (cells_by rows) m (cell_kind (cells_by rows) x))
-before_among rows now all e w m a x home kind =
+before_among rows now made e w m a x home kind =
     let f = cells_by rows in
     let alike : cell_kind f a ≡ cell_kind f x = sym (kind_same f (list_in f) a) ∙ subst (λ z. kind_at (web_by z) a ≡ kind_at (web_by z) x) (sym e) kind ∙ kind_same f (list_in f) x in
     subst (λ k. In a (list_in f m k)) alike (w.listed.homes m a home).1
 
 -- and x may come there
-pub enters_before : (rows now : List Row) (all : List ℕ) → rows ≡ now → IsWeb (cells_by rows) all → (m a x : ℕ) → link_in (cells_by rows) a HOME ≡ Some m → kind_at (web_by now) a ≡ kind_at (web_by now) x → IsSome (web_by now x) → web.home_at (web_by now) x ≡ None
+pub enters_before : (rows now : List Row) (made : ℕ) → rows ≡ now → IsWeb (cells_by rows) made → (m a x : ℕ) → link_in (cells_by rows) a HOME ≡ Some m → kind_at (web_by now) a ≡ kind_at (web_by now) x → IsSome (web_by now x) → web.home_at (web_by now) x ≡ None
     → (web.home_at (web_by now) a ≡ Some x → ⊥) → Enters (cells_by rows) m x
-enters_before rows now all e w m a x home kind there free differ =
+enters_before rows now made e w m a x home kind there free differ =
     let f = cells_by rows in
     record {
       there = some_back f (list_in f) x (subst (λ z. IsSome (web_by z x)) (sym e) there);
       free = sym (home_same f (list_in f) x) ∙ subst (λ z. web.home_at (web_by z) x ≡ None) (sym e) free;
       differ = λ s. differ (ap (λ z. web.home_at (web_by z) a) (sym e) ∙ home_same f (list_in f) a ∙ home ∙ ap Some (sym s));
-      membrane = λ s. subst (λ us. In a us) (w.listed.bare m (cell_kind f x) s) (before_among rows now all e w m a x home kind);
+      membrane = λ s. subst (λ us. In a us) (w.listed.bare m (cell_kind f x) s) (before_among rows now made e w m a x home kind);
     }
 
-module _ (f F g : ℕ → Option HeldCell) (all : List ℕ) (w : IsWeb f all) (m x e p q n : ℕ) (enters : Enters f m x)
+module _ (f F g : ℕ → Option HeldCell) (made : ℕ) (w : IsWeb f made) (m x e p q n : ℕ) (enters : Enters f m x)
     (at_e : e ≡ list_link (cell_kind f x)) (at_p : p ≡ count_number (cell_kind f x)) (at_q : q ≡ count_number (cell_kind f x)) (read : n ≡ number_in F m p) where
   abbrev ka : CellKind
   ka = cell_kind f x
@@ -521,8 +518,8 @@ module _ (f F g : ℕ → Option HeldCell) (all : List ℕ) (w : IsWeb f all) (m
   told_length us v = read ∙ moved_number f F (list_in f) m x (Some m) us v m p ∙ ap (number_in f m) at_p ∙ w.listed.count m ka
 
   -- the list with one more is no longer than the table
-  room : length (x ∷ ls) ≤ length all
-  room = no_more f all w (x ∷ ls) (each_of _ ls (λ z i s. out_of (subst (λ u. In u ls) (sym s) i)), (w.listed.line m ka enters.membrane).once)
+  room : length (x ∷ ls) ≤ made
+  room = no_more f made w (x ∷ ls) (each_of _ ls (λ z i s. out_of (subst (λ u. In u ls) (sym s) i)), (w.listed.line m ka enters.membrane).once)
       (λ z i. elim i [ inl s ↦ subst (λ u. IsSome (f u)) s enters.there | inr j ↦ (cell_of f (list_in f) w.listed m z ka j).0 ])
 
   comes_in : (us : List ℕ) → Moves f F (list_in f) m x (Some m) us → length us ≡ length ls + 1 → ((z : ℕ) → In z us → z ≢ x → In z ls) → ((z : ℕ) → In z ls → In z us) → In x us → g ≡ alter F m (option_map (with_number q (n + 1)))
@@ -530,7 +527,7 @@ module _ (f F g : ℕ → Option HeldCell) (all : List ℕ) (w : IsWeb f all) (m
   comes_in us v long was stays i is =
       let len : n + 1 ≡ length us = let t = told_length us v in omega (arith, t, long) in
       subst (λ (u : ℕ → Option HeldCell). Relists f u (list_in f) m x (Some m) us) (sym (is ∙ ap (λ j. alter F m (option_map (with_number j (n + 1)))) at_q))
-      (counted f F all w m x (Some m) us v (n + 1) there_h enters.differ enters.membrane len was (λ z j d. stays z j) (λ k s. (let z : Some k ≡ Some m = sym s in cc, i)))
+      (counted f F made w m x (Some m) us v (n + 1) there_h enters.differ enters.membrane len was (λ z j d. stays z j) (λ k s. (let z : Some k ≡ Some m = sym s in cc, i)))
 
   abbrev Appended : Type 0
   Appended = (F ≡ appended f m e x) × ((xs : List ℕ) → Line f m e xs → (In x xs → ⊥) → Line F m e (xs ++ x ∷ []))
@@ -555,7 +552,7 @@ module _ (f F g : ℕ → Option HeldCell) (all : List ℕ) (w : IsWeb f all) (m
   appended_eight a = ap (λ (r : AllButLinks). length r.numbers) ((appended_moves a).rests m) ∙ w.numbers m there_h ∙ eight_by (number_in f m KIND) enters.membrane
 
   -- the length stays a number
-  pub appended_fits : Appended → n + 1 ≤ length all
+  pub appended_fits : Appended → n + 1 ≤ made
   appended_fits a = let r = room in let t = told_length at_end (appended_moves a) in omega (arith, r, t)
 
   -- a cell comes to the end of a list
@@ -580,7 +577,7 @@ module _ (f F g : ℕ → Option HeldCell) (all : List ℕ) (w : IsWeb f all) (m
   inserted_eight a i s = ap (λ (r : AllButLinks). length r.numbers) ((inserted_moves a i s).rests m) ∙ w.numbers m there_h ∙ eight_by (number_in f m KIND) enters.membrane
 
   -- the length stays a number
-  pub inserted_fits : (a : ℕ) → In a ls → Inserted a → n + 1 ≤ length all
+  pub inserted_fits : (a : ℕ) → In a ls → Inserted a → n + 1 ≤ made
   inserted_fits a i s = let r = room in let t = told_length (put_before x a ls) (inserted_moves a i s) in omega (arith, r, t)
 
   -- a cell comes before another
@@ -588,7 +585,7 @@ module _ (f F g : ℕ → Option HeldCell) (all : List ℕ) (w : IsWeb f all) (m
   inserts a i s is = comes_in (put_before x a ls) (inserted_moves a i s) (length_put x a ls i)
       (λ z j d. elim (in_put x a z ls j) [ inl t ↦ absurd (d t) | inr o ↦ o ]) (λ z j. in_put_old x a z ls j) (in_put_new x a ls i) is
 
-module _ (f F g : ℕ → Option HeldCell) (all : List ℕ) (w : IsWeb f all) (m x e p q n : ℕ) (home : link_in f x HOME ≡ Some m)
+module _ (f F g : ℕ → Option HeldCell) (made : ℕ) (w : IsWeb f made) (m x e p q n : ℕ) (home : link_in f x HOME ≡ Some m)
     (at_e : e ≡ list_link (cell_kind f x)) (at_p : p ≡ count_number (cell_kind f x)) (at_q : q ≡ count_number (cell_kind f x)) (read : n ≡ number_in F m p) where
   abbrev kl : CellKind
   kl = cell_kind f x
@@ -642,7 +639,7 @@ module _ (f F g : ℕ → Option HeldCell) (all : List ℕ) (w : IsWeb f all) (m
       let d : Distinct lx = (own_line f (list_in f) w.listed m x kl in_it).once in
       let len : n - 1 ≡ length rx = let t = unlinked_some u in omega (arith, t) in
       subst (λ (v : ℕ → Option HeldCell). Relists f v (list_in f) m x None rx) (sym (is ∙ ap (λ j. alter F m (option_map (with_number j (n - 1)))) at_q))
-      (counted f F all w m x None rx (unlinked_moves u) (n - 1) there_l (cell_of f (list_in f) w.listed m x kl in_it).1 no_atom len
+      (counted f F made w m x None rx (unlinked_moves u) (n - 1) there_l (cell_of f (list_in f) w.listed m x kl in_it).1 no_atom len
       (λ z i _. (in_without_of x z lx d i).0) (λ z i a. in_without x z lx i a) (λ k s. absurd cc))
 
 own_list : (f : ℕ → Option HeldCell) (ys : ℕ → CellKind → List ℕ) → IsListed f ys → (m x : ℕ) → ys m (cell_kind f x) ≡ cells_in (web_with f ys) m (kind_at (web_with f ys) x)

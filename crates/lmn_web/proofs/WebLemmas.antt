@@ -1,8 +1,7 @@
 -- How a change of cells is a change of the web.
-use Rattle.std.proofs.Common.{◌≡◌, ◌≢◌, ◌↔◌, ◌⊎◌, ℕ, zero, suc, ◌+◌, ◌<◌, ◌==◌, Bool, true, List, [], ◌∷◌, ◌++◌, length, map, get_or, set, slice_get, replicate, Option, Some, None, IsSome, is_some, if◌then◌else◌, false, refl, sym, ap, subst, ◌∙◌, inl, inr, arith, length-set, get_or-set_same, get_or-set_other}
+use Rattle.std.proofs.Common.{◌≡◌, ◌≢◌, ℕ, zero, suc, ◌+◌, ◌<◌, ◌==◌, Bool, true, List, [], ◌∷◌, ◌++◌, length, map, get_or, set, replicate, Option, Some, None, IsSome, is_some, if◌then◌else◌, false, refl, sym, ap, subst, ◌∙◌, inl, inr, arith, length-set, get_or-set_same, get_or-set_other}
 use Rattle.std.proofs.lemmas.Bool.{cases_eq, eq-eqb}
 use Rattle.std.proofs.lemmas.List.{map-set, length-map, length-replicate}
-use Rattle.std.proofs.lemmas.Option.{slice_get_within}
 use Rattle.std.proofs.Math.Seq.{map-set_same}
 use Rattle.std.specs.Option.{option_map}
 use Rattle.lmn_base.proofs.Numbers.{not_equal}
@@ -15,12 +14,11 @@ use Rattle.lmn_web_cells.proofs.PortLemmas.{cleared_ports, linked_ports}
 use Rattle.lmn_web_cells.specs.Links.{HOME}
 use Rattle.lmn_web.specs.Webs.{WebCell, partners_of, web_cell, web_with, web_of, list_in, list_link, count_number, partner_at, arity_at, new_cell, with_partner, with_mark, linked, cleared, joined, parted, IsPaired, number_in, label_by}
 use Rattle.lmn_web_cells.specs.Numbers.{INDEX, ARITY, KIND, HIGH, LOW, FIRST_MARK}
-use Rattle.lmn_web.specs.Indexes.{described, blank_by, numbers_by, IsListed, IsWeb, IsTable}
+use Rattle.lmn_web.specs.Indexes.{described, blank_by, numbers_by, IsListed, IsWeb}
 use Rattle.lmn_web.proofs.ListedLemmas.{Listing, listing, lists_same, listed_self, listed_beside, web_self, cell_of}
 use Rattle.lmn_web.specs.Kinds.{kind_by}
 use Rattle.lmn_web.specs.declared.kind.CellKind.{CellKind}
 use Rattle.lmn_web.specs.declared.kind.CellKind.TheVariants.{Atom, Membrane}
-use Rattle.lmn_base.proofs.Lists.{get_end}
 
 -- Lists
 
@@ -160,12 +158,8 @@ mark_below n k e = by (k == 0) e
     by false e = omega (arith, e)
 
 -- a cell of a web has it
-pub mark_there : (f : ℕ → Option HeldCell) (all : List ℕ) → IsWeb f all → (a : ℕ) → IsSome (f a) → FIRST_MARK < length (numbers_of (f a))
-mark_there f all w a there = mark_below (length (numbers_of (f a))) (number_in f a KIND) (w.numbers a there)
-
--- and one of a table has its index
-pub index_below : (n k : ℕ) → n ≡ numbers_by k → 0 < n
-index_below n k e = let l = mark_below n k e in omega (arith, l)
+pub mark_there : (f : ℕ → Option HeldCell) (made : ℕ) → IsWeb f made → (a : ℕ) → IsSome (f a) → FIRST_MARK < length (numbers_of (f a))
+mark_there f made w a there = mark_below (length (numbers_of (f a))) (number_in f a KIND) (w.numbers a there)
 
 -- what tells its kind by a number that is no atom's has all eight numbers
 pub eight_by : (k : ℕ) → (kind_by k ≡ Atom → ⊥) → numbers_by k ≡ 8
@@ -203,27 +197,27 @@ pub record Told : Type 0 where
 abbrev pub told : Option HeldCell → Told
 told o = record { there = is_some o; index = get_or (numbers_of o) INDEX 0; arity = get_or (numbers_of o) ARITY 0; numbers = length (numbers_of o); ports = length (ports_of o); high = get_or (numbers_of o) HIGH 0; low = get_or (numbers_of o) LOW 0; listing = listing o }
 
-Tells : List ℕ → (ℕ → Account) → Type 0
-Tells all k = ((b i : ℕ) → (slice_get all i ≡ Some b) ↔ (((k b).there ≡ true) × ((k b).index ≡ i)))
+Tells : ℕ → (ℕ → Account) → Type 0
+Tells made k = ((b : ℕ) → (k b).there ≡ true → (k b).index < made) × ((a b : ℕ) → (k a).there ≡ true → (k b).there ≡ true → (k a).index ≡ (k b).index → a ≡ b)
     × ((b : ℕ) → (k b).there ≡ true → (k b).arity ≡ (k b).ports) × ((b : ℕ) → (k b).ports < 256) × ((b : ℕ) → (k b).there ≡ true → (k b).numbers ≡ numbers_by (k b).kind)
 
 -- a change that leaves the account of each cell, and all ports paired, leaves a web if the lists are right
-pub kept_web : (f g : ℕ → Option HeldCell) (all : List ℕ) → IsWeb f all → ((b : ℕ) → account (g b) ≡ account (f b)) → Reaches g → Paired g → IsListed g (list_in g) → IsWeb g all
+pub kept_web : (f g : ℕ → Option HeldCell) (made : ℕ) → IsWeb f made → ((b : ℕ) → account (g b) ≡ account (f b)) → Reaches g → Paired g → IsListed g (list_in g) → IsWeb g made
 unfolding Tells
-kept_web f g all w same reaches paired listed =
+kept_web f g made w same reaches paired listed =
     let e : ◌≡◌ {A = ℕ → Account} (λ b. account (f b)) (λ b. account (g b)) = λ t b. sym (same b) t in
-    let k : Tells all (λ b. account (g b)) = subst (Tells all) e (w.indexed, w.arity, w.few, w.numbers) in
-    record { indexed = k.0; arity = k.1; few = k.2; numbers = k.3; reaches = reaches; paired = paired; listed = listed }
+    let k : Tells made (λ b. account (g b)) = subst (Tells made) e (w.indexed, w.single, w.arity, w.few, w.numbers) in
+    record { indexed = k.0; single = k.1; arity = k.2; few = k.3; numbers = k.4; reaches = reaches; paired = paired; listed = listed }
 
 -- one that leaves what is told of each cell leaves the lists too
-pub same_web : (f g : ℕ → Option HeldCell) (all : List ℕ) → IsWeb f all → ((b : ℕ) → told (g b) ≡ told (f b)) → Reaches g → Paired g → IsWeb g all
-same_web f g all w same reaches paired =
-    kept_web f g all w (λ b. ap (λ (k : Told). record { there = k.there; index = k.index; arity = k.arity; kind = k.listing.kind; numbers = k.numbers; ports = k.ports }) (same b)) reaches paired
+pub same_web : (f g : ℕ → Option HeldCell) (made : ℕ) → IsWeb f made → ((b : ℕ) → told (g b) ≡ told (f b)) → Reaches g → Paired g → IsWeb g made
+same_web f g made w same reaches paired =
+    kept_web f g made w (λ b. ap (λ (k : Told). record { there = k.there; index = k.index; arity = k.arity; kind = k.listing.kind; numbers = k.numbers; ports = k.ports }) (same b)) reaches paired
     (listed_self g (list_in f) (lists_same f g (λ b. ap (λ (k : Told). k.listing) (same b)) (list_in f) w.listed))
 
 -- and the web has the lists that it had
-pub web_keeps : (f g : ℕ → Option HeldCell) (all : List ℕ) → IsWeb f all → ((b : ℕ) → told (g b) ≡ told (f b)) → web_of g ≡ web_with g (list_in f)
-web_keeps f g all w same = web_self g (list_in f) (lists_same f g (λ b. ap (λ (k : Told). k.listing) (same b)) (list_in f) w.listed)
+pub web_keeps : (f g : ℕ → Option HeldCell) (made : ℕ) → IsWeb f made → ((b : ℕ) → told (g b) ≡ told (f b)) → web_of g ≡ web_with g (list_in f)
+web_keeps f g made w same = web_self g (list_in f) (lists_same f g (λ b. ap (λ (k : Told). k.listing) (same b)) (list_in f) w.listed)
 
 told_partner : (i : ℕ) (p : Option (ℕ × ℕ)) (o : Option HeldCell) → told (option_map (cell.with_partner i p) o) ≡ told o
 told_partner i p None = refl
@@ -287,11 +281,11 @@ told_own f a v b = alter_keeps f a (option_map (with_number FIRST_MARK v)) told 
     }
 
 -- a mark of a port leaves a web
-pub port_mark_keeps : (f : ℕ → Option HeldCell) (all : List ℕ) (a i v : ℕ) → IsWeb f all → IsWeb (alter f a (option_map (with_port_mark i v))) all
-port_mark_keeps f all a i v w =
+pub port_mark_keeps : (f : ℕ → Option HeldCell) (made : ℕ) (a i v : ℕ) → IsWeb f made → IsWeb (alter f a (option_map (with_port_mark i v))) made
+port_mark_keeps f made a i v w =
     let g = alter f a (option_map (with_port_mark i v)) in
     let s : (b k : ℕ) → partner_in g b k ≡ partner_in f b k = λ b k. alter_keeps f a (option_map (with_port_mark i v)) (λ o. partner_by (port_of o k)) (partners k) b in
-    same_web f g all w (told_mark f a i v) (reaches_same f g s (λ b. ap (λ (k : Told). k.ports) (told_mark f a i v b)) w.reaches) (paired_same f g s w.paired)
+    same_web f g made w (told_mark f a i v) (reaches_same f g s (λ b. ap (λ (k : Told). k.ports) (told_mark f a i v b)) w.reaches) (paired_same f g s w.paired)
   where
     partners : (k : ℕ) (o : Option HeldCell) → partner_by (port_of (option_map (with_port_mark i v) o) k) ≡ partner_by (port_of o k)
     partners k None = refl
@@ -299,28 +293,29 @@ port_mark_keeps f all a i v w =
         sym (get_mapped (set c.ports i q) k) ∙ ap (λ ps. get_or ps k None) (map-set_same partner_by c.ports i q no_port refl) ∙ get_mapped c.ports k
 
 -- and its lists
-pub mark_keeps : (f g : ℕ → Option HeldCell) (all : List ℕ) (a i v : ℕ) → IsWeb f all → g ≡ alter f a (option_map (with_port_mark i v)) → web_of g ≡ web_with (alter f a (option_map (with_port_mark i v))) (list_in f)
-mark_keeps f g all a i v w e = ap web_of e ∙ web_keeps f (alter f a (option_map (with_port_mark i v))) all w (told_mark f a i v)
+pub mark_keeps : (f g : ℕ → Option HeldCell) (made : ℕ) (a i v : ℕ) → IsWeb f made → g ≡ alter f a (option_map (with_port_mark i v)) → web_of g ≡ web_with (alter f a (option_map (with_port_mark i v))) (list_in f)
+mark_keeps f g made a i v w e = ap web_of e ∙ web_keeps f (alter f a (option_map (with_port_mark i v))) made w (told_mark f a i v)
 
 -- and so does its own mark
-pub own_mark_keeps : (f : ℕ → Option HeldCell) (all : List ℕ) (a v : ℕ) → IsWeb f all → IsWeb (alter f a (option_map (with_number FIRST_MARK v))) all
-own_mark_keeps f all a v w =
+pub own_mark_keeps : (f : ℕ → Option HeldCell) (made : ℕ) (a v : ℕ) → IsWeb f made → IsWeb (alter f a (option_map (with_number FIRST_MARK v))) made
+own_mark_keeps f made a v w =
     let g = alter f a (option_map (with_number FIRST_MARK v)) in
     let s : (b k : ℕ) → partner_in g b k ≡ partner_in f b k = λ b k. alter_keeps f a (option_map (with_number FIRST_MARK v)) (λ o. partner_by (port_of o k)) (partners k) b in
-    same_web f g all w (told_own f a v) (reaches_same f g s (λ b. ap (λ (k : Told). k.ports) (told_own f a v b)) w.reaches) (paired_same f g s w.paired)
+    same_web f g made w (told_own f a v) (reaches_same f g s (λ b. ap (λ (k : Told). k.ports) (told_own f a v b)) w.reaches) (paired_same f g s w.paired)
   where
     partners : (k : ℕ) (o : Option HeldCell) → partner_by (port_of (option_map (with_number FIRST_MARK v) o) k) ≡ partner_by (port_of o k)
     partners k None = refl
     partners k (Some c) = refl
 
 -- with its lists
-pub own_keeps : (f g : ℕ → Option HeldCell) (all : List ℕ) (a v : ℕ) → IsWeb f all → g ≡ alter f a (option_map (with_number FIRST_MARK v)) → web_of g ≡ web_with (alter f a (option_map (with_number FIRST_MARK v))) (list_in f)
-own_keeps f g all a v w e = ap web_of e ∙ web_keeps f (alter f a (option_map (with_number FIRST_MARK v))) all w (told_own f a v)
+pub own_keeps : (f g : ℕ → Option HeldCell) (made : ℕ) (a v : ℕ) → IsWeb f made → g ≡ alter f a (option_map (with_number FIRST_MARK v)) → web_of g ≡ web_with (alter f a (option_map (with_number FIRST_MARK v))) (list_in f)
+own_keeps f g made a v w e = ap web_of e ∙ web_keeps f (alter f a (option_map (with_number FIRST_MARK v))) made w (told_own f a v)
 
 -- no cell, no index
-pub empty_web : (f : ℕ → Option HeldCell) (all : List ℕ) → f ≡ (λ _. None) → all ≡ [] → IsWeb f all
-empty_web f all none bare = subst (λ (g : ℕ → Option HeldCell). IsWeb g all) (sym none) (subst (λ xs. IsWeb (λ _. None) xs) (sym bare) record {
-  indexed = λ b i. (λ e. absurd cc, λ e. let t = e.0 in absurd cc);
+pub empty_web : (f : ℕ → Option HeldCell) (made : ℕ) → f ≡ (λ _. None) → IsWeb f made
+empty_web f made none = subst (λ (g : ℕ → Option HeldCell). IsWeb g made) (sym none) record {
+  indexed = λ b t. absurd cc;
+  single = λ a b t u e. absurd cc;
   arity = λ b t. absurd cc;
   few = λ b. omega arith;
   numbers = λ b t. absurd cc;
@@ -333,18 +328,17 @@ empty_web f all none bare = subst (λ (g : ℕ → Option HeldCell). IsWeb g all
     homes = λ m x e. absurd cc;
     bare = λ m k e. refl;
   };
-})
+}
   where
     none_counted : (k : CellKind) → number_in (λ _. None) 0 (count_number k) ≡ 0
     none_counted Atom = refl
     none_counted Membrane = refl
 
 -- two cells are one where their indices are
-pub same_test : (f : ℕ → Option HeldCell) (all : List ℕ) → IsWeb f all → (a b : ℕ) → IsSome (f a) → IsSome (f b) → (number_in f a INDEX == number_in f b INDEX) ≡ (a == b)
-same_test f all w a b ta tb = elim (cases_eq a b) [
+pub same_test : (f : ℕ → Option HeldCell) (made : ℕ) → IsWeb f made → (a b : ℕ) → IsSome (f a) → IsSome (f b) → (number_in f a INDEX == number_in f b INDEX) ≡ (a == b)
+same_test f made w a b ta tb = elim (cases_eq a b) [
   | inl e ↦ eq-eqb _ _ (ap (λ k. number_in f k INDEX) e) ∙ sym (eq-eqb a b e)
-  | inr d ↦ not_equal _ _ (λ e. d (let x : slice_get all (number_in f a INDEX) ≡ Some a = (w.indexed a (number_in f a INDEX)).1 (ta, refl) in let y : slice_get all (number_in f a INDEX) ≡ Some b = (w.indexed b (number_in f a INDEX)).1 (tb, sym e) in
-      let z : Some a ≡ Some b = sym x ∙ y in cc)) ∙ sym (not_equal a b d)
+  | inr d ↦ not_equal _ _ (λ e. d (w.single a b ta tb e)) ∙ sym (not_equal a b d)
 ]
 
 -- all ports of a web are paired
@@ -411,22 +405,6 @@ still_some f g a k n e there = subst (λ (h : ℕ → Option HeldCell). IsSome (
     by None t = absurd cc
     by (Some c) t = refl
 
-get_front : (xs : List ℕ) (y i : ℕ) → i < length xs → slice_get (xs ++ y ∷ []) i ≡ slice_get xs i
-get_front [] y i l = absurd (omega (arith, l))
-get_front (x ∷ xs) y zero l = refl
-get_front (x ∷ xs) y (suc i) l = get_front xs y i (omega (arith, l))
-
--- what stands at an index stands before the end, or at it
-get_split : (xs : List ℕ) (y i b : ℕ) → slice_get (xs ++ y ∷ []) i ≡ Some b → (slice_get xs i ≡ Some b) ⊎ ((i ≡ length xs) × (b ≡ y))
-get_split [] y zero b e = inr (refl, let h : Some b ≡ Some y = sym e in cc)
-get_split [] y (suc i) b e = absurd cc
-get_split (x ∷ xs) y zero b e = inl e
-get_split (x ∷ xs) y (suc i) b e = next (get_split xs y i b e)
-  where
-    next : (slice_get xs i ≡ Some b) ⊎ ((i ≡ length xs) × (b ≡ y)) → (slice_get xs i ≡ Some b) ⊎ ((suc i ≡ suc (length xs)) × (b ≡ y))
-    next (inl h) = inl h
-    next (inr h) = inr (ap suc h.0, h.1)
-
 none_there : (n k : ℕ) → partner_by (get_or (replicate n no_port) k no_port) ≡ None
 none_there zero k = refl
 none_there (suc n) zero = refl
@@ -470,42 +448,6 @@ made_is f ys a c = λ t b. at b t
       | inr d ↦ ap (option_map (web_cell (ys b))) (alter_away f a (λ _. Some c) b d) ∙ sym (alter_away (web_with f ys) a (λ _. Some (web_cell (ys a) c)) b d)
     ]
 
--- All cells are freed
-
--- the last cell of the list is there
-pub last_there : (f : ℕ → Option HeldCell) (init : List ℕ) (a : ℕ) → IsTable f (init ++ a ∷ []) → IsSome (f a)
-last_there f init a x = ((x.indexed a (length init)).0 (get_end init a)).0
-
--- the other cells, once it is freed
-pub rest_is : (f g : ℕ → Option HeldCell) (init : List ℕ) (a : ℕ) → IsTable f (init ++ a ∷ []) → g ≡ alter f a (λ _. None) → IsTable g init
-rest_is f g init a x e = subst (λ (u : ℕ → Option HeldCell). IsTable u init) (sym e) record {
-  indexed = λ b i. elim (cases_eq b a) [
-    | inl s ↦ subst (λ m. (slice_get init i ≡ Some m) ↔ (IsSome (alter f a (λ _. None) m) × (number_in (alter f a (λ _. None)) m INDEX ≡ i))) (sym s) (subst (λ (o : Option HeldCell). (slice_get init i ≡ Some a) ↔ (IsSome o × (get_or (numbers_of o) INDEX 0 ≡ i))) (sym (alter_at f a (λ _. None))) (here i, λ t. absurd (let z = t.0 in cc)))
-    | inr d ↦ subst (λ (o : Option HeldCell). (slice_get init i ≡ Some b) ↔ (IsSome o × (get_or (numbers_of o) INDEX 0 ≡ i))) (sym (alter_away f a (λ _. None) b d))
-        (λ h. (x.indexed b i).0 (get_front init a i (slice_get_within init i b h) ∙ h), λ t. elim (get_split init a i b ((x.indexed b i).1 t)) [ inl h ↦ h | inr r ↦ absurd (d r.1) ])
-  ];
-  arity = λ b. elim (cases_eq b a) [
-    | inl s ↦ subst (λ m. IsSome (alter f a (λ _. None) m) → number_in (alter f a (λ _. None)) m ARITY ≡ length (ports_of (alter f a (λ _. None) m))) (sym s) (subst (λ (o : Option HeldCell). IsSome o → get_or (numbers_of o) ARITY 0 ≡ length (ports_of o)) (sym (alter_at f a (λ _. None))) (λ t. absurd cc))
-    | inr d ↦ subst (λ (o : Option HeldCell). IsSome o → get_or (numbers_of o) ARITY 0 ≡ length (ports_of o)) (sym (alter_away f a (λ _. None) b d)) (x.arity b)
-  ];
-  numbers = λ b. elim (cases_eq b a) [
-    | inl s ↦ subst (λ m. IsSome (alter f a (λ _. None) m) → length (numbers_of (alter f a (λ _. None) m)) ≡ numbers_by (number_in (alter f a (λ _. None)) m KIND)) (sym s)
-        (subst (λ (o : Option HeldCell). IsSome o → length (numbers_of o) ≡ numbers_by (get_or (numbers_of o) KIND 0)) (sym (alter_at f a (λ _. None))) (λ t. absurd cc))
-    | inr d ↦ subst (λ (o : Option HeldCell). IsSome o → length (numbers_of o) ≡ numbers_by (get_or (numbers_of o) KIND 0)) (sym (alter_away f a (λ _. None) b d)) (x.numbers b)
-  ];
-}
-  where
-    here : (i : ℕ) → slice_get init i ≡ Some a → (false ≡ true) × (0 ≡ i)
-    here i h = let l = slice_get_within init i a h in let p = ((x.indexed a i).0 (get_front init a i l ∙ h)).1 in let q = ((x.indexed a (length init)).0 (get_end init a)).1 in absurd (omega (arith, l, p, q))
-
--- none is left
-pub none_left : (f : ℕ → Option HeldCell) → IsTable f [] → (b : ℕ) → f b ≡ None
-none_left f x b = by (f b) refl
-  where
-    by : (o : Option HeldCell) → f b ≡ o → f b ≡ None
-    by None e = e
-    by (Some c) e = absurd (let h = (x.indexed b (number_in f b INDEX)).1 (subst (λ (o : Option HeldCell). IsSome o) (sym e) refl, refl) in cc)
-
 -- the counts of a new cell are 0, or it has none
 blank_tail : (t : Bool) (i : ℕ) → ◌≡◌ {A = ℕ} (get_or (if t then [] else 0 ∷ 0 ∷ []) i 0) 0
 blank_tail true i = refl
@@ -517,9 +459,9 @@ made_tail : (t : Bool) → suc (suc (suc (suc (suc (suc (length {A = ℕ} (if t 
 made_tail true = refl
 made_tail false = refl
 
-module _ (f : ℕ → Option HeldCell) (all : List ℕ) (w : IsWeb f all) (a n k h low : ℕ) (fresh : f a ≡ None) (small : n < 256) where
+module _ (f : ℕ → Option HeldCell) (made : ℕ) (w : IsWeb f made) (a n k h low : ℕ) (fresh : f a ≡ None) (small : n < 256) where
   abbrev cell_made : HeldCell
-  cell_made = described (length all) n k h low (blank_by k n)
+  cell_made = described made n k h low (blank_by k n)
 
   abbrev g : ℕ → Option HeldCell
   g = alter f a (λ _. Some cell_made)
@@ -567,16 +509,12 @@ module _ (f : ℕ → Option HeldCell) (all : List ℕ) (w : IsWeb f all) (a n k
       (ap (λ (o : Option HeldCell). get_or (links_of o) HOME None) here)
 
   -- a new cell makes a web again
-  pub made_web : IsWeb g (all ++ a ∷ [])
+  pub made_web : IsWeb g (made + 1)
   made_web = record {
-    indexed = λ b i. each (λ m o. (slice_get (all ++ a ∷ []) i ≡ Some m) ↔ (IsSome o × (get_or (numbers_of o) INDEX 0 ≡ i))) (
-      λ e. elim (get_split all a i a e) [ inl l ↦ absurd (no_a ((w.indexed a i).0 l).0) | inr r ↦ (refl, sym r.0) ],
-      λ e. subst (λ j. slice_get (all ++ a ∷ []) j ≡ Some a) e.1 (get_end all a),
-    )
-        (λ m d. (
-          λ e. elim (get_split all a i m e) [ inl l ↦ (w.indexed m i).0 l | inr r ↦ absurd (d r.1) ],
-          λ e. let s = (w.indexed m i).1 e in get_front all a i (slice_get_within all i m s) ∙ s,
-        )) b;
+    indexed = each (λ m o. IsSome o → get_or (numbers_of o) INDEX 0 < made + 1) (λ t. omega arith) (λ m d t. let l = w.indexed m t in omega (arith, l));
+    single = λ b c. each (λ m o. IsSome o → IsSome (g c) → get_or (numbers_of o) INDEX 0 ≡ number_in g c INDEX → m ≡ c)
+        (λ _. each (λ m o. IsSome o → made ≡ get_or (numbers_of o) INDEX 0 → a ≡ m) (λ _ _. refl) (λ m d t e. let l = w.indexed m t in absurd (omega (arith, l, e))) c)
+        (λ q _ s. each (λ m o. IsSome o → number_in f q INDEX ≡ get_or (numbers_of o) INDEX 0 → q ≡ m) (λ _ e. let l = w.indexed q s in absurd (omega (arith, l, e))) (λ m d t e. w.single q m s t e) c) b;
     arity = each (λ m o. IsSome o → get_or (numbers_of o) ARITY 0 ≡ length (ports_of o)) (λ t. sym (length-replicate n no_port)) (λ m d. w.arity m);
     few = each (λ m o. length (ports_of o) < 256) (subst (λ c. c < 256) (sym (length-replicate n no_port)) small) (λ m d. w.few m);
     numbers = each (λ m o. IsSome o → length (numbers_of o) ≡ numbers_by (get_or (numbers_of o) KIND 0)) (λ t. made_tail (k == 0)) (λ m d. w.numbers m);

@@ -1,12 +1,10 @@
 -- Words of the invariant of a web, and of private functions: how its cells are listed and indexed.
-use Rattle.std.specs.Prelude.{◌≡◌, ◌≢◌, ◌↔◌, true, ℕ, ◌+◌, ◌-◌, ◌==◌, ◌<◌, ◌^◌, List, [], ◌∷◌, length, Option, Some, None, IsSome, if◌then◌else◌, replicate, slice_get}
-use Rattle.std.specs.Option.{option_map}
+use Rattle.std.specs.Prelude.{◌≡◌, true, ℕ, ◌+◌, ◌==◌, ◌<◌, ◌^◌, List, [], ◌∷◌, length, Option, Some, None, IsSome, if◌then◌else◌, replicate}
 use Rattle.lmn_base.specs.Lists.{In}
-use Rattle.lmn_store_heap.specs.Heap.{alter}
 use Rattle.lmn_web_cells.specs.Cells.{HeldCell, numbers_of, ports_of, no_port, with_link, with_number}
 use Rattle.lmn_web_cells.specs.Ports.{Reaches, Paired}
 use Rattle.lmn_web_cells.specs.Runs.{link_in, Line}
-use Rattle.lmn_web_cells.specs.Links.{HOME, NEXT, LEADERS}
+use Rattle.lmn_web_cells.specs.Links.{HOME, LEADERS}
 use Rattle.lmn_web.specs.declared.kind.CellKind.{CellKind}
 use Rattle.lmn_web.specs.declared.kind.CellKind.TheVariants.{Atom}
 use Rattle.lmn_web.specs.Kinds.{kind_by}
@@ -26,11 +24,6 @@ blank_by kind ports = record { links = replicate 8 None; numbers = 0 ∷ 0 ∷ 0
 abbrev pub described : ℕ → ℕ → ℕ → ℕ → ℕ → HeldCell → HeldCell
 described index arity kind high low c = with_number LOW low (with_number HIGH high (with_number KIND kind (with_number ARITY arity (with_number INDEX index c))))
 
--- the cell of a number, if any, has this index
-abbrev pub reindexed : (ℕ → Option HeldCell) → ℕ → Option ℕ → ℕ → Option HeldCell
-reindexed f i None = f
-reindexed f i (Some b) = alter f b (option_map (with_number INDEX i))
-
 -- what a cell stands for; where there is none, an atom
 abbrev pub cell_kind : (ℕ → Option HeldCell) → ℕ → CellKind
 cell_kind f b = kind_by (number_in f b KIND)
@@ -43,9 +36,10 @@ pub record IsListed (f : ℕ → Option HeldCell) (lists : ℕ → CellKind → 
   pub homes : (m x : ℕ) → link_in f x HOME ≡ Some m → IsSome (f m) × In x (lists m (cell_kind f x))
   pub bare : (m : ℕ) (k : CellKind) → cell_kind f m ≡ Atom → lists m k ≡ []
 
--- the cells are those of a list, each once, at its index
-pub record IsWeb (f : ℕ → Option HeldCell) (all : List ℕ) : Type 0 where
-  pub indexed : (b i : ℕ) → (slice_get all i ≡ Some b) ↔ (IsSome (f b) × (number_in f b INDEX ≡ i))
+-- each cell has an index of its own, below how many were made
+pub record IsWeb (f : ℕ → Option HeldCell) (made : ℕ) : Type 0 where
+  pub indexed : (b : ℕ) → IsSome (f b) → number_in f b INDEX < made
+  pub single : (a b : ℕ) → IsSome (f a) → IsSome (f b) → number_in f a INDEX ≡ number_in f b INDEX → a ≡ b
   pub arity : (b : ℕ) → IsSome (f b) → number_in f b ARITY ≡ length (ports_of (f b))
   pub few : (b : ℕ) → length (ports_of (f b)) < 256
   pub numbers : (b : ℕ) → IsSome (f b) → length (numbers_of (f b)) ≡ numbers_by (number_in f b KIND)
@@ -59,35 +53,19 @@ pub record IsClassed (f : ℕ → Option HeldCell) (lists : ℕ → CellKind →
   pub low : (b : ℕ) → number_in f b LOW < 2 ^ 64
 
 -- a web whose atoms are linked by class
-pub record IsClassedWeb (f : ℕ → Option HeldCell) (all : List ℕ) : Type 0 where
-  pub web : IsWeb f all
+pub record IsClassedWeb (f : ℕ → Option HeldCell) (made : ℕ) : Type 0 where
+  pub web : IsWeb f made
   pub classed : IsClassed f (list_in f)
 
--- The table has each cell at its index. A cell tells how many ports it has, and has the numbers of its kind.
-pub record IsTable (f : ℕ → Option HeldCell) (all : List ℕ) : Type 0 where
-  pub indexed : (b i : ℕ) → (slice_get all i ≡ Some b) ↔ (IsSome (f b) × (number_in f b INDEX ≡ i))
+-- each cell tells how many ports it has, and has the numbers of its kind
+pub record AreSized (f : ℕ → Option HeldCell) : Type 0 where
   pub arity : (b : ℕ) → IsSome (f b) → number_in f b ARITY ≡ length (ports_of (f b))
   pub numbers : (b : ℕ) → IsSome (f b) → length (numbers_of (f b)) ≡ numbers_by (number_in f b KIND)
 
--- the last element of a list takes the place of one that goes
-pub record Swapped (all rest : List ℕ) (i : ℕ) : Type 0 where
-  pub shorter : length rest + 1 ≡ length all
-  pub taken : i + 1 < length all → slice_get rest i ≡ slice_get all (length all - 1)
-  pub others : (k : ℕ) → k ≢ i → k + 1 < length all → slice_get rest k ≡ slice_get all k
-
--- these cells, each linked to the next one of its list
-abbrev pub AreLinked : (ℕ → Option HeldCell) → Option ℕ → List ℕ → Type 0
-AreLinked f first [] = first ≡ None
-AreLinked f first (x ∷ xs) = (first ≡ Some x) × IsSome (f x) × AreLinked f (link_in f x NEXT) xs
-
--- a cell but for its index
-abbrev pub unindexed : Option HeldCell → Option HeldCell
-unindexed o = option_map (with_number INDEX 0) o
-
--- g is f without the cells of a list, and others may have another index
+-- g is f without the cells of a list
 pub record Without (f g : ℕ → Option HeldCell) (xs : List ℕ) : Type 0 where
   pub gone : (b : ℕ) → In b xs → g b ≡ None
-  pub others : (b : ℕ) → (In b xs → ⊥) → unindexed (g b) ≡ unindexed (f b)
+  pub others : (b : ℕ) → (In b xs → ⊥) → g b ≡ f b
 
 -- a membrane with no atom
 abbrev pub bare_atoms : HeldCell → HeldCell

@@ -1,15 +1,16 @@
 //! The calls of a web.
-ghost use Rattle.std.specs.Prelude.{◌≡◌, ◌≢◌, ◌==◌, ℕ, ◌+◌, ◌^◌, ◌<◌, ◌≤◌, ◌∷◌, ◌++◌, [], IfSome, IsSome, List, None, Some, MatchOption, MatchResult, length, map, slice_get, slice_index_or};
+ghost use Rattle.std.specs.Prelude.{◌≡◌, ◌≢◌, ◌==◌, ℕ, ◌+◌, ◌^◌, ◌<◌, ◌≤◌, ◌∷◌, ◌++◌, [], IfSome, IsSome, List, None, Some, MatchOption, MatchResult, length, slice_index_or};
 ghost use Rattle.std.specs.Option.{option_map};
 ghost use Rattle.lmn_base.specs.Lists.{In};
 ghost use Rattle.lmn_store_heap.specs.Heap.{alter};
-ghost use Rattle.lmn_store_heap.specs.Lists.{Distinct, after, from};
+ghost use Rattle.lmn_store_heap.specs.Lists.{after, from};
 ghost use Rattle.lmn_web_cells.specs.Cells.{cells_by, numbers_of, ports_of};
 ghost use Rattle.lmn_web_cells.specs.CellIds.{cell_id, port_id};
 ghost use Rattle.lmn_web_cells.specs.Ports.{IsSamePort};
-ghost use Rattle.lmn_web.specs.Webs.{web_by, partner_at, arity_at, kind_at, home_at, cells_in, number_in, partners_of, marks_of, new_cell, with_mark, joined, parted, added_last, added_before, unlinked, web_label, is_labelled, with_label, label_class, with_class, IsPaired, IsLoose, StandOnce, WithoutAtoms};
+ghost use Rattle.lmn_web_cells.specs.Runs.{Line};
+ghost use Rattle.lmn_web.specs.Webs.{web_by, partner_at, arity_at, kind_at, home_at, cells_in, list_in, list_link, number_in, partners_of, marks_of, new_cell, with_mark, joined, parted, added_last, added_before, unlinked, web_label, is_labelled, with_label, label_class, with_class, IsPaired, IsLoose, StandOnce, WithoutAtoms};
 ghost use Rattle.lmn_web.specs.Kinds.{kind_by};
-ghost use Rattle.lmn_web.specs.Indexes.{described, reindexed, bare_atoms, AreLinked, IsTable, Swapped, Without, blank_by, numbers_by};
+ghost use Rattle.lmn_web.specs.Indexes.{described, bare_atoms, AreSized, Without, blank_by, numbers_by};
 ghost use Rattle.lmn_web.specs.declared.kind.CellKind.TheVariants.{Atom, Membrane};
 
 use crate::classes::{enter_class, first_in, is_filed, leave_class, next_in, place_from};
@@ -28,29 +29,28 @@ const WHOLE: u128 = 0x1_0000_0000_0000_0000;
 /// A web of cells.
 pub struct Web {
     cells: Cells,
-    // Every cell, at its index.
-    all: Vec<Cell>,
+    // How many cells were made: the index of the next one.
+    made: u64,
 }
 
 impl Model for Web {
-    ghost use Rattle.std.specs.Prelude.{List, map};
+    ghost use Rattle.std.specs.Prelude.{List};
     ghost use Rattle.lmn_web_cells.specs.Rows.{Row};
     ghost use Rattle.lmn_web_cells.specs.Cells.{cells_by};
-    ghost use Rattle.lmn_web_cells.specs.CellIds.{cell_id};
     ghost use Rattle.lmn_web.specs.Indexes.{IsClassedWeb};
 
     ghost Value = { List Row };
 
     ghost view = { λ s. s.cells };
 
-    ghost invariant = { λ s. IsClassedWeb (cells_by s.cells) (map cell_id s.all.items) };
+    ghost invariant = { λ s. IsClassedWeb (cells_by s.cells) s.made };
 }
 
 impl Drop for Web {
     #[inline(never)]
     fn drop(self) {
-        let Web { cells, all } = self;
-        free_all(cells, all);
+        let Web { cells, made: _ } = self;
+        cells.end();
     }
 }
 
@@ -61,12 +61,12 @@ impl Web {
     {
         Web {
             cells: Cells::new(alloc),
-            all: Vec::new(alloc),
+            made: 0,
         }
     }
 
     /// A new cell: no port has a partner, it stands in no list, its lists are empty, and every mark is 0. An error where
-    /// no memory is left, and where a membrane is to have another number of ports than one.
+    /// no memory or no index is left, and where a membrane is to have another number of ports than one.
     #[inline(always)]
     pub fn make(&mut self, label: u128, arity: u8, kind: CellKind) -> Result<Cell, AllocError>
         ensures { MatchResult result
@@ -93,13 +93,15 @@ impl Web {
             (λ c. (web_by self.old (cell_id c) ≡ None) × (web_by self.new ≡ alter (web_by self.old) (cell_id c) (λ _. Some (new_cell label arity (kind_by kind)))))
             (λ _. web_by self.new ≡ web_by self.old) }
     {
-        self.all.reserve(1)?;
-        let index = self.all.len() as u64;
+        let index = self.made;
+        let Some(made) = index.checked_add(1) else {
+            return Err(AllocError);
+        };
         let c = make_blank(&mut self.cells, arity, kind)?;
         let high = (label / WHOLE) as u64;
         let low = (label % WHOLE) as u64;
         describe(&mut self.cells, c, index, arity as u64, kind, high, low);
-        self.all.push_reserved(c);
+        self.made = made;
         Ok(c)
     }
 
@@ -108,7 +110,7 @@ impl Web {
         requires { IsLoose (web_by self.old) (cell_id c) }
         ensures { web_by self.new ≡ alter (web_by self.old) (cell_id c) (λ _. None) }
     {
-        release(&mut self.cells, &mut self.all, c);
+        free_cell(&mut self.cells, c);
     }
 
     /// The atoms of a membrane are freed, where each is joined to nothing but others of them.
@@ -118,8 +120,7 @@ impl Web {
         requires closed { (a i b j : ℕ) → In a (cells_in (web_by self.old) (cell_id home) Atom) → partner_at (web_by self.old) a i ≡ Some (b, j) → In b (cells_in (web_by self.old) (cell_id home) Atom) }
         ensures { WithoutAtoms (web_by self.old) (web_by self.new) (cell_id home) }
     {
-        let first = self.cells.link(home, first_link(CellKind::Atom));
-        release_all(&mut self.cells, &mut self.all, first);
+        free_list(&mut self.cells, home);
         forget_atoms(&mut self.cells, home);
     }
 
@@ -148,8 +149,7 @@ impl Web {
     }
 
     /// Whether the two are one cell.
-    /// Indices are compared and no addresses, since pointers into different blocks can't be; so a freed cell's place
-    /// in the table goes to the last cell.
+    /// Indices are compared and no addresses, since pointers into different blocks can't be.
     pub fn same(&self, a: Cell, b: Cell) -> bool
         requires first { IsSome (web_by self.now (cell_id a)) }
         requires second { IsSome (web_by self.now (cell_id b)) }
@@ -162,7 +162,7 @@ impl Web {
     pub fn paired(&self)
         ensures { IsPaired (web_by self.now) }
     {
-        let _ = &self.all;
+        let _ = &self.made;
     }
 
     /// The other end of a port.
@@ -198,7 +198,7 @@ impl Web {
     pub fn listed(&self)
         ensures { StandOnce (web_by self.now) }
     {
-        let _ = &self.all;
+        let _ = &self.made;
     }
 
     /// The membrane in a list of which the cell stands.
@@ -434,16 +434,6 @@ fn describe(cells: &mut Cells, c: Cell, index: u64, arity: u64, kind: u64, high:
     cells.set_number(c, LOW, low);
 }
 
-// The cell at an index of the table, if there is one, has this index.
-fn reindex(cells: &mut Cells, all: &[Cell], index: usize)
-    requires { (b : ℕ) → slice_get (map cell_id all.now) index ≡ Some b → IsSome (cells_by cells.old b) }
-    ensures { cells_by cells.new ≡ reindexed (cells_by cells.old) index (slice_get (map cell_id all.now) index) }
-{
-    if let Some(&moved) = all.get(index) {
-        cells.set_number(moved, INDEX, index as u64);
-    }
-}
-
 // The cell is freed.
 fn free_cell(cells: &mut Cells, c: Cell)
     requires there { IsSome (cells_by cells.old (cell_id c)) }
@@ -460,31 +450,17 @@ fn free_cell(cells: &mut Cells, c: Cell)
     }
 }
 
-// The cell leaves the table, and is freed.
-fn release(cells: &mut Cells, all: &mut Vec<Cell>, c: Cell)
-    requires table { IsTable (cells_by cells.old) (map cell_id all.old.items) }
-    requires there { IsSome (cells_by cells.old (cell_id c)) }
-    ensures cells { let i = number_in (cells_by cells.old) (cell_id c) 0 in
-        cells_by cells.new ≡ alter (reindexed (cells_by cells.old) i (slice_get (map cell_id all.new.items) i)) (cell_id c) (λ _. None) }
-    ensures table { Swapped (map cell_id all.old.items) (map cell_id all.new.items) (number_in (cells_by cells.old) (cell_id c) 0) }
+// The atoms of a membrane are freed, and nothing else is written.
+fn free_list(cells: &mut Cells, m: Cell)
+    requires there { IsSome (cells_by cells.old (cell_id m)) }
+    requires sized { AreSized (cells_by cells.old) }
+    requires line { let f = cells_by cells.old in Line f (cell_id m) (list_link Atom) (list_in f (cell_id m) Atom) }
+    ensures { Without (cells_by cells.old) (cells_by cells.new) (list_in (cells_by cells.old) (cell_id m) Atom) }
 {
-    let index = cells.number(c, INDEX) as usize;
-    all.swap_remove(index);
-    reindex(cells, all.as_slice(), index);
-    free_cell(cells, c);
-}
-
-// The cells of a list from one on are freed, and nothing else is written.
-fn release_all(cells: &mut Cells, all: &mut Vec<Cell>, first: Option<Cell>)
-    requires table { IsTable (cells_by cells.old) (map cell_id all.old.items) }
-    requires linked { (xs : List ℕ) × AreLinked (cells_by cells.old) (option_map cell_id first) xs × Distinct xs }
-    ensures table { IsTable (cells_by cells.new) (map cell_id all.new.items) }
-    ensures freed { (xs : List ℕ) → AreLinked (cells_by cells.old) (option_map cell_id first) xs → Distinct xs → Without (cells_by cells.old) (cells_by cells.new) xs }
-{
-    let mut at = first;
+    let mut at = cells.link(m, first_link(CellKind::Atom));
     while let Some(c) = at {
         let next = cells.link(c, NEXT);
-        release(cells, all, c);
+        free_cell(cells, c);
         at = next;
     }
 }
@@ -500,14 +476,4 @@ fn forget_atoms(cells: &mut Cells, m: Cell)
     cells.set_link(m, first + 1, None);
     cells.set_link(m, LEADERS, None);
     cells.set_count(m, count_place(CellKind::Atom), 0);
-}
-
-// Every cell is freed.
-fn free_all(mut cells: Cells, mut all: Vec<Cell>)
-    requires { IsTable (cells_by cells) (map cell_id all.items) }
-{
-    while let Some(c) = all.pop() {
-        free_cell(&mut cells, c);
-    }
-    cells.end();
 }

@@ -1,5 +1,4 @@
-use Rattle.std.proofs.Common.{◌≡◌, true, ◌+◌, IsSome, List, Some, refl, sym, ap, subst, ◌∙◌, map, arith}
-use Rattle.std.proofs.lemmas.List.{length-map}
+use Rattle.std.proofs.Common.{◌≡◌, true, ◌+◌, IsSome, List, Some, refl, sym, ap, subst, ◌∙◌, arith}
 use Rattle.std.specs.Option.{option_map}
 use Rattle.lmn_base.specs.Lists.{In}
 use Rattle.lmn_web_cells.specs.Rows.{Row}
@@ -88,10 +87,9 @@ overflow_add-count c =
     let among = before_among c.self.inside.cells c.args.self.now _ c.self.view_is w m a x home c.requires.kind in
     let enters = enters_before c.self.inside.cells c.args.self.now _ c.self.view_is w m a x home c.requires.kind c.requires.there c.requires.homeless c.requires.differ in
     let kind : c.kind_of-kind.result ≡ cell_kind f x = c.kind_of-kind.ensures ∙ ap kind_by c.number.ensures in
-    let fits = inserted_fits f (cells_by c.insert.new.cells) (cells_by c.insert.new.cells) (map cell_id c.self.inside.all.items) w m x c.first_link.result c.count_place.result c.count_place.result c.count-count.result enters (c.first_link.ensures ∙ ap list_link kind) (c.count_place.ensures ∙ ap count_number kind) (c.count_place.ensures ∙ ap count_number kind) c.count-count.ensures a among
+    let fits = inserted_fits f (cells_by c.insert.new.cells) (cells_by c.insert.new.cells) c.self.inside.made w m x c.first_link.result c.count_place.result c.count_place.result c.count-count.result enters (c.first_link.ensures ∙ ap list_link kind) (c.count_place.ensures ∙ ap count_number kind) (c.count_place.ensures ∙ ap count_number kind) c.count-count.ensures a among
     (c.insert.ensures.inserted, c.insert.ensures.list, c.insert.ensures.others) in
-    let same = length-map c.self.inside.all.items cell_id in let len = c.self.inside.all.ok.0 in let room = c.self.inside.all.ok.1 in let small = c.self.inside.all.small in
-    omega (arith, fits, same, len, room, small)
+    let small = c.self.ranges.1 in omega (arith, fits, small)
 
 pub is_filed-filed-requires : goal.is_filed-filed-requires
 is_filed-filed-requires c =

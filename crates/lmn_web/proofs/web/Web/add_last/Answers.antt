@@ -1,5 +1,4 @@
-use Rattle.std.proofs.Common.{◌≡◌, true, ◌+◌, ◌++◌, None, ◌∷◌, [], List, Some, refl, sym, ap, subst, ◌∙◌, map, arith}
-use Rattle.std.proofs.lemmas.List.{length-map}
+use Rattle.std.proofs.Common.{◌≡◌, true, ◌+◌, ◌++◌, None, ◌∷◌, [], List, Some, refl, sym, ap, subst, ◌∙◌, arith}
 use Rattle.lmn_base.specs.Lists.{In}
 use Rattle.lmn_web_cells.specs.Rows.{Row}
 use Rattle.lmn_web_cells.specs.Cells.{cells_by}
@@ -70,10 +69,9 @@ overflow_add-count c =
     let f = cells_by c.self.inside.cells in let m = cell_id c.args.home in let x = cell_id c.args.c in let w = c.self.invariant.web in
     let enters = enters_last c.self.inside.cells c.args.self.now c.self.view_is m x c.requires.there c.requires.homeless c.requires.membrane c.requires.differ in
     let kind : c.args.kind ≡ cell_kind f x = sym c.requires.kind ∙ ap (λ (z : List Row). kind_at (web_by z) x) (sym c.self.view_is) ∙ kind_same f (list_in f) x in
-    let fits = appended_fits f (cells_by c.append.new.cells) (cells_by c.append.new.cells) (map cell_id c.self.inside.all.items) w m x c.first_link.result c.count_place.result c.count_place.result c.count-count.result enters (c.first_link.ensures ∙ ap list_link kind) (c.count_place.ensures ∙ ap count_number kind) (c.count_place.ensures ∙ ap count_number kind) c.count-count.ensures
+    let fits = appended_fits f (cells_by c.append.new.cells) (cells_by c.append.new.cells) c.self.inside.made w m x c.first_link.result c.count_place.result c.count_place.result c.count-count.result enters (c.first_link.ensures ∙ ap list_link kind) (c.count_place.ensures ∙ ap count_number kind) (c.count_place.ensures ∙ ap count_number kind) c.count-count.ensures
     (c.append.ensures.appended, c.append.ensures.list, c.append.ensures.others) in
-    let same = length-map c.self.inside.all.items cell_id in let len = c.self.inside.all.ok.0 in let room = c.self.inside.all.ok.1 in let small = c.self.inside.all.small in
-    omega (arith, fits, same, len, room, small)
+    let small = c.self.ranges.1 in omega (arith, fits, small)
 
 pub enter_class-requires : goal.enter_class-requires
 enter_class-requires c sure =

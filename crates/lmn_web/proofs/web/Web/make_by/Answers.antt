@@ -1,12 +1,10 @@
-use Rattle.std.proofs.Common.{◌≡◌, ℕ, ◌/◌, ◌%◌, ◌^◌, ◌<◌, ◌++◌, ◌∷◌, [], List, Option, Some, None, IsSome, refl, sym, ap, subst, ◌∙◌, length, map, arith}
-use Rattle.std.proofs.lemmas.List.{length-map, map-append}
+use Rattle.std.proofs.Common.{◌≡◌, ℕ, ◌+◌, ◌/◌, ◌%◌, ◌^◌, ◌<◌, List, Option, Some, None, IsSome, refl, sym, ap, subst, ◌∙◌, arith}
 use Rattle.lmn_store_heap.specs.Heap.{alter}
 use Rattle.lmn_store_heap.proofs.Listing.{alter_at}
 use Rattle.lmn_web_cells.specs.Rows.{Row}
 use Rattle.lmn_web_cells.specs.Cells.{HeldCell, cells_by}
 use Rattle.std.specs.Option.{option_map}
 use Rattle.lmn_web_cells.specs.CellIds.{cell_id}
-use Rattle.lmn_web_cells.specs.declared.handle.Cell.{Cell}
 use Rattle.lmn_web.specs.Kinds.{kind_by}
 use Rattle.lmn_web.specs.Webs.{web_by, web_of, web_cell, list_in, new_cell, label_by}
 use Rattle.lmn_web.specs.Indexes.{described, blank_by, IsClassedWeb}
@@ -21,26 +19,22 @@ describe-requires c =
 
 pub invariant_of-self-2 : goal.invariant_of-self-2
 invariant_of-self-2 c =
-    let f = cells_by c.self.inside.cells in let a = cell_id c.in_ok-c.c in let all = map cell_id c.self.inside.all.items in let n = c.args.arity in let k = c.args.kind in let h = c.args.label / 2 ^ 64 in let low = c.args.label % 2 ^ 64 in
+    let f = cells_by c.self.inside.cells in let a = cell_id c.in_ok-c.c in let made = c.self.inside.made in let n = c.args.arity in let k = c.args.kind in let h = c.args.label / 2 ^ 64 in let low = c.args.label % 2 ^ 64 in
     let small : n < 256 = c.ranges.arity.fits in
-    let index : c.len-index.result ≡ length all = c.len-index.ensures ∙ c.reserve.new.self.ok.0 ∙ ap (λ (xs : List Cell). length xs) c.reserve.ensures.items ∙ sym (length-map c.self.inside.all.items cell_id) in
-    let once : cells_by c.describe.new.cells ≡ alter f a (λ _. Some (described (length all) n k h low (blank_by k n))) =
-    made_once f _ _ a (blank_by k n) _ c.in_ok-c.ensures.1 c.describe.ensures ∙ (λ t. alter f a (λ _. Some (described (index t) n k h low (blank_by k n)))) in
-    let listed : map cell_id c.push_reserved.new.self.items ≡ all ++ a ∷ [] = ap (map cell_id) (c.push_reserved.ensures.items ∙ ap (λ (xs : List Cell). xs ++ c.in_ok-c.c ∷ []) c.reserve.ensures.items) ∙ map-append cell_id c.self.inside.all.items (c.in_ok-c.c ∷ []) in
-    subst (λ (g : ℕ → Option HeldCell). IsClassedWeb g (map cell_id c.push_reserved.new.self.items)) (sym once) (subst (λ xs. IsClassedWeb (alter f a (λ _. Some (described (length all) n k h low (blank_by k n)))) xs) (sym listed)
-    (made_classed f all c.self.invariant a n k h low c.in_ok-c.ensures.0 small (omega arith)))
+    let once : cells_by c.describe.new.cells ≡ alter f a (λ _. Some (described made n k h low (blank_by k n))) = made_once f _ _ a (blank_by k n) _ c.in_ok-c.ensures.1 c.describe.ensures in
+    let next : c.in-Some.made ≡ made + 1 = c.in-Some.ensures.1 in
+    subst (λ (g : ℕ → Option HeldCell). IsClassedWeb g c.in-Some.made) (sym once) (subst (IsClassedWeb (alter f a (λ _. Some (described made n k h low (blank_by k n))))) (sym next)
+    (made_classed f made c.self.invariant a n k h low c.in_ok-c.ensures.0 small (omega arith)))
 
 pub returns : goal.returns
 returns c =
     let f = cells_by c.self.inside.cells in let a = cell_id c.in_ok-c.c in let n = c.args.arity in let k = c.args.kind in let h = c.args.label / 2 ^ 64 in let low = c.args.label % 2 ^ 64 in
-    let all = map cell_id c.self.inside.all.items in
+    let made = c.self.inside.made in
     let small : n < 256 = c.ranges.arity.fits in
-    let index : c.len-index.result ≡ length all = c.len-index.ensures ∙ c.reserve.new.self.ok.0 ∙ ap (λ (xs : List Cell). length xs) c.reserve.ensures.items ∙ sym (length-map c.self.inside.all.items cell_id) in
-    let once : cells_by c.describe.new.cells ≡ alter f a (λ _. Some (described (length all) n k h low (blank_by k n))) =
-    made_once f _ _ a (blank_by k n) _ c.in_ok-c.ensures.1 c.describe.ensures ∙ (λ t. alter f a (λ _. Some (described (index t) n k h low (blank_by k n)))) in
+    let once : cells_by c.describe.new.cells ≡ alter f a (λ _. Some (described made n k h low (blank_by k n))) = made_once f _ _ a (blank_by k n) _ c.in_ok-c.ensures.1 c.describe.ensures in
     let whole : label_by h low ≡ c.args.label = omega arith in (
       subst (λ (z : List Row). web_by z a ≡ None) c.self.view_is (ap (λ (o : Option HeldCell). option_map (web_cell (list_in f a)) o) c.in_ok-c.ensures.0),
-      ap web_of once ∙ made_with f all c.self.invariant.web a n k h low c.in_ok-c.ensures.0 small ∙ made_is f (list_in f) a _
-          ∙ ap (λ x. alter (web_of f) a (λ _. Some x)) (new_web (list_in f a) c.args.label n (length all) k h low (kind_by k) (no_list f all c.self.invariant.web a n k h low c.in_ok-c.ensures.0 small) whole refl)
+      ap web_of once ∙ made_with f made c.self.invariant.web a n k h low c.in_ok-c.ensures.0 small ∙ made_is f (list_in f) a _
+          ∙ ap (λ x. alter (web_of f) a (λ _. Some x)) (new_web (list_in f a) c.args.label n made k h low (kind_by k) (no_list f made c.self.invariant.web a n k h low c.in_ok-c.ensures.0 small) whole refl)
           ∙ ap (λ (z : List Row). alter (web_by z) a (λ _. Some (new_cell c.args.label n (kind_by k)))) c.self.view_is,
     )

@@ -1,4 +1,4 @@
-use Rattle.std.proofs.Common.{◌≡◌, ℕ, zero, suc, ◌-◌, List, IsSome, refl, sym, ap, subst, ◌∙◌, map}
+use Rattle.std.proofs.Common.{◌≡◌, ℕ, zero, suc, ◌-◌, List, IsSome, refl, sym, ap, subst, ◌∙◌}
 use Rattle.lmn_web_cells.specs.Rows.{Row}
 use Rattle.lmn_web_cells.specs.Cells.{cells_by}
 use Rattle.lmn_web_cells.specs.CellIds.{cell_id}
@@ -14,13 +14,13 @@ use Rattle.lmn_web.proofs.web.Web.set_mark.Goals as goal
 pub invariant_of-self : goal.invariant_of-self
 invariant_of-self c =
     let f = cells_by c.self.inside.cells in let a = cell_id c.args.c in
-    subst (λ f. IsClassedWeb f (map cell_id c.self.inside.all.items)) (sym c.set_number.ensures)
+    subst (λ f. IsClassedWeb f c.self.inside.made) (sym c.set_number.ensures)
     (same_classed f _ _ c.self.invariant (told_own f a c.args.v) (own_mark_keeps f _ a c.args.v c.self.invariant.web))
 
 pub invariant_of-self-else-slot-eq0 : goal.invariant_of-self-else-slot-eq0
 invariant_of-self-else-slot-eq0 c =
     let f = cells_by c.self.inside.cells in let a = cell_id c.args.c in let i = c.args.slot - 1 in
-    subst (λ f. IsClassedWeb f (map cell_id c.self.inside.all.items)) (sym c.set_mark.ensures)
+    subst (λ f. IsClassedWeb f c.self.inside.made) (sym c.set_mark.ensures)
     (same_classed f _ _ c.self.invariant (told_mark f a i c.args.v) (port_mark_keeps f _ a i c.args.v c.self.invariant.web))
 
 pub returns-then-slot-eq0 : goal.returns-then-slot-eq0
