@@ -22,7 +22,7 @@ use Rattle.lmn_app_single.specs.declared.task.Task.{Task}
 use Rattle.lmn_app_single.specs.declared.task.Task.TheVariants as task
 use Rattle.lmn_app_single.specs.Demos.{demo_text}
 use Rattle.lmn_app_single.specs.Requests.{Asked, folded_run, settings_of}
-use Rattle.lmn_app.specs.Requests.{Fetches, ReadRose, most_items_of, told_of}
+use Rattle.lmn_app.specs.Requests.{Fetches, FetchesAll, ReadRose, most_items_of, told_of}
 use Rattle.lmn_app_single.specs.Texts.{IsAccepted}
 use Rattle.lmn_app_single.specs.Writing.{IfTold, told_under}
 use Rattle.lmn_app.proofs.OutcomeLemmas.{Refusing}
@@ -368,16 +368,18 @@ module _ (one : OneRequest) (words : List (String Global)) (texts : Option (List
   -- all that a call keeps: it asked its shelf so, acted so, and put the line of the ending into `err`
   pub keeps_promises : (sb sa : Option (List Fetch)) (texts_after : Option (List ℕ → Option (List ℕ))) (e : Ending)
       → (InForm words → Asked words (λ c. Fetches c texts sb sa read reads) ⊎ ((sa ≡ sb) × (e ≡ NoMemory))) → (¬ (InForm words) → sa ≡ sb)
-      → (¬ (InForm words) → (name : List ℕ) → reads name ≡ read name) → Acted e → Concluded e
+      → (¬ (InForm words) → (name : List ℕ) → reads name ≡ read name)
+      → ((status ≡ 0) ⊎ (status ≡ 1) ⊎ (status ≡ 7) ⊎ (8 ≤ status) → Asked words (λ c. FetchesAll c sb sa)) → Acted e → Concluded e
       → KeepsPromises words status (record { told = texts; asked = sb; faults = read }) (record { told = texts_after; asked = sa; faults = reads })
       (record { told = oo; faults = ob }) (record { told = on; faults = oa }) (record { told = eo; faults = eb }) (record { told = en; faults = ea })
-  keeps_promises sb sa texts_after e shelf_asked none_asked none_counted a k = record {
+  keeps_promises sb sa texts_after e shelf_asked none_asked none_counted all_asked a k = record {
     status = at_most e k;
     words = not_of_form e a k;
     form = form_answered e a k;
     asked = λ said. asked_or_memory e (shelf_asked said) k;
     not_asked = none_asked;
     unasked = none_counted;
+    fetched = all_asked;
     read = read_rose e a k;
     write = write_rose e a k;
     puts = puts_stay e a k;

@@ -1,9 +1,11 @@
 -- Commands with a program and a second text, as requests.
-use Rattle.std.proofs.Common.{◌≡◌, ◌≤◌, ℕ, List, Option, Some, length, sym, subst, inl, inr}
+use Rattle.std.proofs.Common.{◌≡◌, ◌≤◌, ℕ, List, Option, Some, length, refl, sym, subst, inl, inr}
+use Rattle.lmn_base.specs.declared.refusal.Refusal.{Refusal}
 use Rattle.lmn_base.specs.declared.rule.Plain.{Plain}
 use Rattle.lmn_congruence.specs.Rules.{Name}
 use Rattle.lmn_guards.specs.declared.plan.GuardPlan.{GuardPlan}
 use Rattle.lmn_io.specs.Counts.{Faults}
+use Rattle.lmn_io.specs.Texts.{Fetch}
 use Rattle.lmn_app_words.specs.declared.command.PairKind.{PairKind}
 use Rattle.lmn_app_words.specs.declared.command.PairKind.TheVariants.{Bound, Check, Debug, Exec}
 use Rattle.lmn_app_words.specs.Forms.{Pair, to_pair}
@@ -13,6 +15,7 @@ use Rattle.lmn_app.specs.Debugs.{session_size}
 use Rattle.lmn_app.specs.Executions.{executed_size}
 use Rattle.lmn_app.specs.Outcomes.{RequestEnded}
 use Rattle.lmn_app.specs.Pairs.{HasProgram, IsWritten, Writes, most_items_of_pair, second_wrong}
+use Rattle.lmn_app.specs.Requests.{FetchesSecond, asked_second}
 use Rattle.lmn_app.specs.Runnings.{EndsByLine, EndsDebugged, EndsExecuted}
 use Rattle.lmn_app.specs.SecondTexts.{second_bytes}
 use Rattle.lmn_app_single.specs.Texts.{Accepts, Fits, IsAccepted}
@@ -125,3 +128,31 @@ module _ (p : Pair) (texts : Option (List ℕ → Option (List ℕ))) (of : HasP
     exec_ended kind (Refused r) h = absurd h
     exec_ended kind Words h = absurd h
     exec_ended kind ReadFault h = absurd h
+
+-- ---- what is asked for behind the program
+
+-- the second text, where the program is accepted and the call isn't refused by it
+pub fetched_behind : (p : Pair) (texts : Option (List ℕ → Option (List ℕ))) → HasProgram p texts → (before after : Option (List Fetch)) → after ≡ asked_second p before
+    → (e : Ending) → ((r : Refusal) → ¬ (e ≡ Refused r)) → FetchesSecond p e texts before after
+fetched_behind p texts of before after is Done none = (is, of)
+fetched_behind p texts of before after is Budget none = (is, of)
+fetched_behind p texts of before after is (Refused r) none = absurd (none r refl)
+fetched_behind p texts of before after is Words none = (is, of)
+fetched_behind p texts of before after is ReadFault none = inr (is, of)
+fetched_behind p texts of before after is WriteFault none = (is, of)
+fetched_behind p texts of before after is NoMemory none = inr (is, of)
+fetched_behind p texts of before after is Full none = (is, of)
+fetched_behind p texts of before after is (SecondRefused kind r) none = (is, of)
+
+module _ (program second : List ℕ) (e : Ending) (old new : Option (List ℕ)) (before after : Faults) where
+  -- a call that writes a line of both isn't refused by the program
+  pub line_refuses_none : (kind : PairKind) → EndsByLine kind program second e old new before after → (r : Refusal) → ¬ (e ≡ Refused r)
+  line_refuses_none kind h r is = subst (λ x. EndsByLine kind program second x old new before after) is h
+
+  -- nor is one that debugs it
+  pub debugged_refuses_none : EndsDebugged program second e old new before after → (r : Refusal) → ¬ (e ≡ Refused r)
+  debugged_refuses_none h r is = subst (λ x. EndsDebugged program second x old new before after) is h
+
+  -- nor one that runs it by a listing
+  pub executed_refuses_none : EndsExecuted program second e old new before after → (r : Refusal) → ¬ (e ≡ Refused r)
+  executed_refuses_none h r is = subst (λ x. EndsExecuted program second x old new before after) is h

@@ -17,13 +17,13 @@ use Rattle.lmn_app_single.specs.Endings.{Concludes, status_of}
 use Rattle.lmn_app.specs.Outcomes.{AnswersOf, CausesOf, PairCauses, RefusesSecondOf, RequestEnded}
 use Rattle.lmn_app_single.specs.Outcomes.{Ended, RefusesText}
 use Rattle.lmn_app.specs.Pairs.{HasProgram, IsWritten, PairAnswers, Writes, most_items_of_pair, second_long}
-use Rattle.lmn_app.specs.Requests.{Fetches, ReadRose, asked_second, most_items_of, told_of}
+use Rattle.lmn_app.specs.Requests.{FetchesSecond, ReadRose, most_items_of, told_of}
 use Rattle.lmn_app_single.specs.Requests.{asked_program, folded_run, settings_of}
 use Rattle.lmn_app_single.specs.Runnings.{EndsUnread}
 use Rattle.lmn_app.specs.SecondTexts.{IsSecondCode, long_code, second_bytes}
 use Rattle.lmn_app_single.specs.Endings.{second_status}
 use Rattle.lmn_app_single.specs.Texts.{IsAccepted, at_start}
-use Rattle.lmn_app_single.specs.Writing.{IfTold, told_under}
+use Rattle.lmn_app_single.specs.Writing.{IfTold, Told, told_under}
 use Rattle.lmn_app.proofs.OutcomeLemmas.{Refusing, accepted_answered, refused_told, told_is, unaccepted_answered, when_told}
 use Rattle.lmn_app_single.proofs.OutcomeLemmas.{long_told, longer, told_text, too_long_refused}
 
@@ -280,11 +280,24 @@ second_too_long p kind r texts x n f g same is h of =
       counts = no_put n;
     }
 
--- the shelf was asked for the program, and then for the second text where the command asked for it
-pub asked_both : (p : Pair) (texts mid_texts : Option (List ℕ → Option (List ℕ))) (before mid after : Option (List Fetch)) (f g : List ℕ → ℕ) → mid_texts ≡ texts → mid ≡ asked_program p.file before
-    → (after ≡ mid) ⊎ ((after ≡ asked_second p mid) × HasProgram p mid_texts) → Fetches (to_pair p) texts before after f g
-asked_both p texts mid_texts before mid after f g same first (inl is) = inl (is ∙ first)
-asked_both p texts mid_texts before mid after f g same first (inr (is, has)) = inr (is ∙ ap (asked_second p) first, subst (HasProgram p) same has)
+-- what was asked for behind the program, told before
+pub fetched_from : (p : Pair) (e : Ending) (texts mid_texts : Option (List ℕ → Option (List ℕ))) (before mid after : Option (List Fetch)) → mid_texts ≡ texts → mid ≡ asked_program p.file before
+    → FetchesSecond p e mid_texts mid after → FetchesSecond p e texts (asked_program p.file before) after
+fetched_from p e texts mid_texts before mid after same first h =
+    subst (λ t. FetchesSecond p e t (asked_program p.file before) after) same (subst (λ m. FetchesSecond p e mid_texts m after) first h)
+
+-- nothing, where there is no program
+pub fetched_unread : (p : Pair) (e : Ending) (texts : Option (List ℕ → Option (List ℕ))) (told : Told) (f g : ℕ) (before after : Option (List Fetch)) → EndsUnread e told f g → after ≡ before
+    → FetchesSecond p e texts before after
+fetched_unread p (Refused r) texts told f g before after h is = is
+fetched_unread p ReadFault texts told f g before after h is = inl is
+fetched_unread p NoMemory texts told f g before after h is = inl is
+fetched_unread p Done texts told f g before after h is = absurd h
+fetched_unread p Budget texts told f g before after h is = absurd h
+fetched_unread p Words texts told f g before after h is = absurd h
+fetched_unread p WriteFault texts told f g before after h is = absurd h
+fetched_unread p Full texts told f g before after h is = absurd h
+fetched_unread p (SecondRefused kind r) texts told f g before after h is = absurd h
 
 -- what the shelf tells is what it told
 pub request_texts : (c : Request) (e : Ending) (texts mid_texts : Option (List ℕ → Option (List ℕ))) (oo on : Option (List ℕ)) (ob oa : Faults) (f g : List ℕ → ℕ) → mid_texts ≡ texts

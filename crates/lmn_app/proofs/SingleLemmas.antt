@@ -1,22 +1,23 @@
 -- How words ended: with one text, and with two.
-use Rattle.std.proofs.Common.{◌≡◌, ℕ, List, [], Option, ◌⊎◌, inl, inr, refl, sym, ap, subst, arith}
+use Rattle.std.proofs.Common.{◌≡◌, ◌≤◌, ℕ, List, [], Option, ◌⊎◌, inl, inr, refl, sym, ap, subst, arith}
 use Rattle.std.specs.declared.string.String.{String}
 use Rattle.std.specs.declared.alloc.Global.{Global}
 use Rattle.lmn_io.specs.Counts.{Faults}
+use Rattle.lmn_io.specs.Texts.{Fetch}
 use Rattle.lmn_io.proofs.TakingLemmas.{no_put}
 use Rattle.lmn_app_words.specs.Laws.{OneRequest}
 use Rattle.lmn_app_words.specs.Forms.{Asks, InForm, Pair, Request, to_run, to_compile, to_demo, to_pair}
 use Rattle.lmn_app_single.specs.declared.ending.Ending.{Ending}
-use Rattle.lmn_app_single.specs.declared.ending.Ending.TheVariants.{NoMemory, Words}
+use Rattle.lmn_app_single.specs.declared.ending.Ending.TheVariants.{Done, Budget, Refused, Words, ReadFault, WriteFault, NoMemory, Full, SecondRefused}
 use Rattle.lmn_app_single.specs.Endings.{Concludes, status_of}
-use Rattle.lmn_app_single.specs.Requests.{Asked}
+use Rattle.lmn_app_single.specs.Requests.{Asked, asked_program}
 use Rattle.lmn_app_single.specs.Seen.{ShelfSeen, SinkSeen}
 use Rattle.lmn_app_single.specs.Singles.{EndsSingle, IsAnsweredSingle, SingleEnded, concluded, handed_on, no_form, no_memory, performed}
 use Rattle.lmn_app.specs.CallExamples.{taken}
 use Rattle.lmn_app.specs.Calls.{EndedSo, of_pair, single}
 use Rattle.lmn_app.specs.Outcomes.{PairEnded, RequestEnded}
 use Rattle.lmn_app.specs.Promises.{AnswersKeepPromises}
-use Rattle.lmn_app.specs.Requests.{Fetches}
+use Rattle.lmn_app.specs.Requests.{Fetches, FetchesAll, FetchesSecond, asked_second}
 use Rattle.lmn_app.specs.SingleLaws.{ListingIsUnread, NoWordsAreSingle, PairsAreHandedOn, SinglesAreAnswers}
 use Rattle.lmn_app.proofs.MainLemmas.{keeps_promises, status_most}
 use Rattle.lmn_app.proofs.RequestLemmas.{demo_ended, list_ended, request_memory, run_ended}
@@ -33,6 +34,12 @@ request_ended (to_run run) e s t o p h = run_ended s.told o.told p.told o.faults
 request_ended (to_compile file) e s t o p h = list_ended s.told o.told p.told o.faults p.faults s.faults t.faults file e h.ended
 request_ended (to_demo n) e s t o p h = demo_ended s.told o.told p.told o.faults p.faults s.faults t.faults n e h.0
 request_ended (to_pair pair) e s t o p h = absurd h
+
+request_asked : (c : Request) (e : Ending) (s t : ShelfSeen) (o p : SinkSeen) → SingleEnded c e s t o p → FetchesAll c s.asked t.asked
+request_asked (to_run run) e s t o p h = h.asked
+request_asked (to_compile file) e s t o p h = h.asked
+request_asked (to_demo n) e s t o p h = ap (λ (x : ShelfSeen). x.asked) h.1
+request_asked (to_pair pair) e s t o p h = absurd h
 
 -- where nothing was touched
 same_asked : (s t : ShelfSeen) → t ≡ s → t.asked ≡ s.asked
@@ -69,7 +76,7 @@ module _ (words : List (String Global)) (e : Ending) (s t : ShelfSeen) (o p : Si
 
 -- where nothing was touched before
 module _ (words : List (String Global)) (p : Pair) (asks : Asks words (to_pair p)) (s m t : ShelfSeen) (same : m ≡ s) where
-  pub pair_ends : (e : Ending) (o n q : SinkSeen) → n ≡ o → Fetches (to_pair p) m.told m.asked t.asked m.faults t.faults
+  pub pair_ends : (e : Ending) (o n q : SinkSeen) → n ≡ o → FetchesSecond p e m.told (asked_program p.file m.asked) t.asked
       → RequestEnded (to_pair p) e m.told n.told q.told n.faults q.faults m.faults t.faults → EndedSo words e s t o q
   pair_ends e o n q is asked h =
       let there : PairEnded p e m t n q = record { cause = h.cause; output = h.output; counts = h.counts; asked = asked } in
@@ -79,12 +86,56 @@ module _ (words : List (String Global)) (p : Pair) (asks : Asks words (to_pair p
 pair_ended : (p : Pair) (e : Ending) (s t : ShelfSeen) (o q : SinkSeen) → PairEnded p e s t o q → RequestEnded (to_pair p) e s.told o.told q.told o.faults q.faults s.faults t.faults
 pair_ended p e s t o q h = record { cause = h.cause; output = h.output; counts = h.counts }
 
+-- what was asked for is the program, or both
+pair_fetches : (p : Pair) (e : Ending) (texts : Option (List ℕ → Option (List ℕ))) (before after : Option (List Fetch)) (f g : List ℕ → ℕ) → FetchesSecond p e texts (asked_program p.file before) after
+    → Fetches (to_pair p) texts before after f g
+pair_fetches p (Refused r) texts before after f g h = inl h
+pair_fetches p ReadFault texts before after f g h = h
+pair_fetches p NoMemory texts before after f g h = h
+pair_fetches p Done texts before after f g h = inr h
+pair_fetches p Budget texts before after f g h = inr h
+pair_fetches p Words texts before after f g h = inr h
+pair_fetches p WriteFault texts before after f g h = inr h
+pair_fetches p Full texts before after f g h = inr h
+pair_fetches p (SecondRefused kind r) texts before after f g h = inr h
+
+-- a status with which all was asked for
+abbrev AskedAll : ℕ → Type 0
+AskedAll n = (n ≡ 0) ⊎ (n ≡ 1) ⊎ (n ≡ 7) ⊎ (8 ≤ n)
+
+none_between : (n : ℕ) → AskedAll n → 2 ≤ n → n ≤ 6 → ⊥
+none_between n (inl is) low high = omega (arith, is, low)
+none_between n (inr (inl is)) low high = omega (arith, is, low)
+none_between n (inr (inr (inl is))) low high = omega (arith, is, high)
+none_between n (inr (inr (inr most))) low high = omega (arith, most, high)
+
+not_all : (n m : ℕ) → 2 ≤ m → m ≤ 6 → (n ≡ m) ⊎ (n ≡ 5) → AskedAll n → ⊥
+not_all n m low high (inl is) all = none_between n all (omega (arith, is, low)) (omega (arith, is, high))
+not_all n m low high (inr is) all = none_between n all (omega (arith, is)) (omega (arith, is))
+
+second_asked : (p : Pair) (e : Ending) (n : ℕ) (texts : Option (List ℕ → Option (List ℕ))) (before after : Option (List Fetch)) → FetchesSecond p e texts before after
+    → (n ≡ status_of e) ⊎ (n ≡ 5) → AskedAll n → after ≡ asked_second p before
+second_asked p (Refused r) n texts before after h said all = absurd (not_all n 2 (omega arith) (omega arith) said all)
+second_asked p ReadFault n texts before after h said all = absurd (not_all n 4 (omega arith) (omega arith) said all)
+second_asked p NoMemory n texts before after h said all = absurd (not_all n 6 (omega arith) (omega arith) said all)
+second_asked p Done n texts before after h said all = h.0
+second_asked p Budget n texts before after h said all = h.0
+second_asked p Words n texts before after h said all = h.0
+second_asked p WriteFault n texts before after h said all = h.0
+second_asked p Full n texts before after h said all = h.0
+second_asked p (SecondRefused kind r) n texts before after h said all = h.0
+
+-- the status is that of the ending, or that of a failing `err`
+said_status : (e : Ending) (n : ℕ) (eo en : Option (List ℕ)) (eb ea : Faults) → Concludes e n eo en eb ea → (n ≡ status_of e) ⊎ (n ≡ 5)
+said_status e n eo en eb ea (inl k) = inl k.0
+said_status e n eo en eb ea (inr k) = inr k.0
+
 -- ---- words
 
 module _ (words : List (String Global)) (e : Ending) (s t : ShelfSeen) (o q : SinkSeen) where
   ends_asked : EndedSo words e s t o q → InForm words → Asked words (λ c. Fetches c s.told s.asked t.asked s.faults t.faults) ⊎ ((t.asked ≡ s.asked) × (e ≡ NoMemory))
   ends_asked (single h) form = single_asked words e s t o q h form
-  ends_asked (of_pair p asks h) form = inl (to_pair p, asks, h.asked)
+  ends_asked (of_pair p asks h) form = inl (to_pair p, asks, pair_fetches p e s.told s.asked t.asked s.faults t.faults h.asked)
 
   ends_not_asked : EndedSo words e s t o q → ¬ (InForm words) → t.asked ≡ s.asked
   ends_not_asked (single h) none = single_not_asked words e s t o q h none
@@ -93,6 +144,14 @@ module _ (words : List (String Global)) (e : Ending) (s t : ShelfSeen) (o q : Si
   ends_unasked : EndedSo words e s t o q → ¬ (InForm words) → (name : List ℕ) → t.faults name ≡ s.faults name
   ends_unasked (single h) none name = single_unasked words e s t o q h none name
   ends_unasked (of_pair p asks h) none name = absurd (none (to_pair p, asks))
+
+  ends_fetched : EndedSo words e s t o q → (n : ℕ) → (n ≡ status_of e) ⊎ (n ≡ 5) → AskedAll n → Asked words (λ c. FetchesAll c s.asked t.asked)
+  ends_fetched (single (performed c asks h)) n said all = (c, asks, request_asked c e s t o q h)
+  ends_fetched (single (no_memory form is shelf out)) n said all =
+      absurd (not_all n 6 (omega arith) (omega arith) (subst (λ x. (n ≡ status_of x) ⊎ (n ≡ 5)) is said) all)
+  ends_fetched (single (no_form none is shelf out)) n said all =
+      absurd (not_all n 3 (omega arith) (omega arith) (subst (λ x. (n ≡ status_of x) ⊎ (n ≡ 5)) is said) all)
+  ends_fetched (of_pair p asks h) n said all = (to_pair p, asks, second_asked p e n s.told (asked_program p.file s.asked) t.asked h.asked said all)
 
   ends_ended : EndedSo words e s t o q → Asked words (λ c. RequestEnded c e s.told o.told q.told o.faults q.faults s.faults t.faults)
       ⊎ (¬ (InForm words) × (e ≡ Words) × (q.told ≡ o.told) × (q.faults ≡ o.faults))
@@ -105,7 +164,8 @@ module _ (words : List (String Global)) (e : Ending) (s t : ShelfSeen) (o q : Si
 pub answers_keep_promises : OneRequest → AnswersKeepPromises
 answers_keep_promises one args result s t o q v w a =
     keeps_promises one args s.told s.faults t.faults o.told q.told v.told w.told o.faults q.faults v.faults w.faults result s.asked t.asked t.told a.ending
-    (ends_asked args a.ending s t o q a.ended) (ends_not_asked args a.ending s t o q a.ended) (ends_unasked args a.ending s t o q a.ended) (ends_ended args a.ending s t o q a.ended) a.concluded
+    (ends_asked args a.ending s t o q a.ended) (ends_not_asked args a.ending s t o q a.ended) (ends_unasked args a.ending s t o q a.ended)
+    (ends_fetched args a.ending s t o q a.ended result (said_status a.ending result v.told w.told v.faults w.faults a.concluded)) (ends_ended args a.ending s t o q a.ended) a.concluded
 
 -- what is answered with one text is answered so by the whole program
 pub singles_are_answers : SinglesAreAnswers

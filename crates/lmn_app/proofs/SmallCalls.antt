@@ -10,7 +10,7 @@ use Rattle.lmn_app_single.specs.declared.ending.Ending.{Ending}
 use Rattle.lmn_app_single.specs.declared.ending.Ending.TheVariants.{Words}
 use Rattle.lmn_app_single.specs.Endings.{Concludes, status_of}
 use Rattle.lmn_app_single.specs.Singles.{no_form, no_memory, performed}
-use Rattle.lmn_app.specs.CallExamples.{ByteIsToldWritten, FileIsFetchedOnce, NoWordsAreAnswered, OrdersCountSo, QuoteIsRefused, QuoteIsToldRefused, not_put, quote_alone, taken}
+use Rattle.lmn_app.specs.CallExamples.{ByteIsToldWritten, FileIsFetchedOnce, NoWordsAreAnswered, OrdersCountSo, QuoteIsRefused, QuoteIsToldRefused, TraceIsFetchedBehind, not_put, quote_alone, taken}
 use Rattle.lmn_app.specs.Calls.{EndedSo, of_pair, single}
 use Rattle.lmn_app_single.specs.Seen.{ShelfSeen, SinkSeen}
 use Rattle.lmn_app.specs.TextExamples.{no_plan, small_names, small_plain, small_text}
@@ -75,6 +75,9 @@ not_another = omega arith
 
 pub file_is_fetched_once : FileIsFetchedOnce
 file_is_fetched_once texts before after = (refl, (λ e. zero_not_one (ap how_many e)), λ e. not_another (ap first_letter e))
+
+pub trace_is_fetched_behind : TraceIsFetchedBehind
+trace_is_fetched_behind texts of = ((refl, of), (λ h. zero_not_one (ap how_many h.0)), inl refl)
 
 -- ---- no words
 

@@ -5,11 +5,15 @@ use Rattle.lmn_io.specs.Counts.{Faults, one_more_fault, one_more_put}
 use Rattle.lmn_io.specs.Taking.{TellsWritten}
 use Rattle.lmn_debug.specs.Debugged.{CountsObeyed}
 use Rattle.lmn_debug.specs.declared.debugging.DebugFault.TheVariants.{Failed}
-use Rattle.lmn_app_words.specs.Forms.{to_compile}
+use Rattle.lmn_app_words.specs.declared.command.PairKind.TheVariants.{Check}
+use Rattle.lmn_app_words.specs.Forms.{Pair, to_compile}
 use Rattle.lmn_app.specs.Calls.{IsAnswered}
+use Rattle.lmn_app_single.specs.declared.ending.Ending.TheVariants.{Done, NoMemory}
 use Rattle.lmn_app_single.specs.Seen.{ShelfSeen, SinkSeen}
 use Rattle.lmn_app_single.specs.Outcomes.{RefusesText}
-use Rattle.lmn_app.specs.Requests.{Fetches}
+use Rattle.lmn_app.specs.Pairs.{HasProgram}
+use Rattle.lmn_app.specs.Requests.{Fetches, FetchesSecond}
+use Rattle.lmn_app.specs.SecondTexts.{second_bytes}
 use Rattle.lmn_app.specs.TextExamples.{small_text}
 use Rattle.lmn_app_single.specs.Texts.{IsAccepted, IsRefusal, at_start, text_bytes}
 
@@ -33,6 +37,17 @@ FileIsFetchedOnce = (texts : Option (List ℕ → Option (List ℕ))) (before af
     Fetches (to_compile (codes "a")) texts (Some []) (Some (record { name = codes "a"; most = text_bytes } ∷ [])) before after
     × ¬ (Fetches (to_compile (codes "a")) texts (Some []) (Some []) before after)
     × ¬ (Fetches (to_compile (codes "a")) texts (Some []) (Some (record { name = codes "b"; most = text_bytes } ∷ [])) before after)
+
+-- a check of a program and a trace
+abbrev pub small_check : Pair
+small_check = record { kind = Check; file = codes "f"; second = codes "t" }
+
+-- A check that is done of an accepted program asked for its trace; to ask for nothing doesn't do, but where memory is wanting.
+abbrev pub TraceIsFetchedBehind : Type 0
+TraceIsFetchedBehind = (texts : Option (List ℕ → Option (List ℕ))) → HasProgram small_check texts →
+    FetchesSecond small_check Done texts (Some []) (Some (record { name = codes "t"; most = second_bytes Check } ∷ []))
+    × ¬ (FetchesSecond small_check Done texts (Some []) (Some []))
+    × FetchesSecond small_check NoMemory texts (Some []) (Some [])
 
 -- what a sink counts that was asked for nothing
 abbrev pub not_put : Faults

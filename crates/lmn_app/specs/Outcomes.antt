@@ -10,8 +10,8 @@ use Rattle.lmn_app_words.specs.declared.command.PairKind.{PairKind}
 use Rattle.lmn_app_words.specs.Forms.{Pair, Request, to_run, to_compile, to_demo, to_pair}
 use Rattle.lmn_app_single.specs.Demos.{demo_text}
 use Rattle.lmn_app_single.specs.Outcomes.{Answers, Causes, CountsFaults, Output, RefusesText}
-use Rattle.lmn_app.specs.Pairs.{HasProgram, PairAnswers, RefusesSecond, Writes, most_items_of_pair}
-use Rattle.lmn_app.specs.Requests.{asked_second}
+use Rattle.lmn_app.specs.Pairs.{PairAnswers, RefusesSecond, Writes, most_items_of_pair}
+use Rattle.lmn_app.specs.Requests.{FetchesSecond}
 use Rattle.lmn_app_single.specs.Requests.{asked_program, folded_run, settings_of}
 use Rattle.lmn_app_single.specs.Seen.{ShelfSeen, SinkSeen}
 use Rattle.lmn_app_single.specs.Writing.{told_under}
@@ -35,14 +35,13 @@ PairOutput pair NoMemory texts old new = (new ≡ old) ⊎ Writes pair NoMemory 
 PairOutput pair WriteFault texts old new = Writes pair WriteFault texts (λ text. TakesPrefix text old new)
 PairOutput pair ending texts old new = new ≡ old
 
--- A command with a program and a second text ended so. The shelf was asked for the program once, and behind it for the second text
--- where the program is accepted.
+-- A command with a program and a second text ended so. The shelf was asked for the program once, and behind it for the second text as
+-- the ending says.
 pub record PairEnded (pair : Pair) (ending : Ending) (shelf shelf_after : ShelfSeen) (out out_after : SinkSeen) : Type 0 where
   pub cause : PairCauses pair ending shelf.told shelf.faults shelf_after.faults
   pub output : PairOutput pair ending shelf.told out.told out_after.told
   pub counts : CountsFaults ending out.faults out_after.faults
-  pub asked : (shelf_after.asked ≡ asked_program pair.file shelf.asked)
-      ⊎ ((shelf_after.asked ≡ asked_second pair (asked_program pair.file shelf.asked)) × HasProgram pair shelf.told)
+  pub asked : FetchesSecond pair ending shelf.told (asked_program pair.file shelf.asked) shelf_after.asked
 
 -- ---- requests
 

@@ -15,7 +15,7 @@ use Rattle.lmn_app.specs.Outcomes.{AnswersOf, OutputOf, RefusesSecondOf, Request
 use Rattle.lmn_app_single.specs.Outcomes.{RefusesText}
 use Rattle.lmn_app_single.specs.Requests.{Asked}
 use Rattle.lmn_app_single.specs.Seen.{ShelfSeen, SinkSeen}
-use Rattle.lmn_app.specs.Requests.{Fetches, ReadRose, most_items_of, told_of}
+use Rattle.lmn_app.specs.Requests.{Fetches, FetchesAll, ReadRose, most_items_of, told_of}
 use Rattle.lmn_app_single.specs.Endings.{second_status}
 use Rattle.lmn_app_single.specs.Texts.{IsAccepted}
 use Rattle.lmn_app_single.specs.Writing.{IfTold}
@@ -49,6 +49,8 @@ pub record KeepsPromises (args : List (String Global)) (result : ℕ) (shelf she
       ⊎ ((shelf_after.asked ≡ shelf.asked) × ((result ≡ 6) ⊎ ((result ≡ 5) × FailedLast err.faults err_after.faults)))
   pub not_asked : ¬ (InForm args) → shelf_after.asked ≡ shelf.asked
   pub unasked : ¬ (InForm args) → (name : List ℕ) → shelf_after.faults name ≡ shelf.faults name
+  -- With 0, 1 and 7, and where the second text is refused, all that they name was asked for.
+  pub fetched : (result ≡ 0) ⊎ (result ≡ 1) ⊎ (result ≡ 7) ⊎ (8 ≤ result) → Asked args (λ c. FetchesAll c shelf.asked shelf_after.asked)
   -- Status 4 comes only where the count of a file that is named rose, and 5 only where a put failed.
   pub read : result ≡ 4 → Asked args (λ c. ReadRose c shelf.faults shelf_after.faults)
   pub write : result ≡ 5 → FailedLast out.faults out_after.faults ⊎ FailedLast err.faults err_after.faults

@@ -3,6 +3,8 @@ use Rattle.std.specs.Prelude.{◌≡◌, ◌⊎◌, ℕ, List, Option, Some, Non
 use Rattle.lmn_io.specs.Counts.{Rose}
 use Rattle.lmn_io.specs.Texts.{Fetch, asked_once_more}
 use Rattle.lmn_app_words.specs.Forms.{Pair, Request, to_run, to_compile, to_demo, to_pair}
+use Rattle.lmn_app_single.specs.declared.ending.Ending.{Ending}
+use Rattle.lmn_app_single.specs.declared.ending.Ending.TheVariants.{NoMemory, ReadFault, Refused}
 use Rattle.lmn_app_single.specs.Demos.{demo_text}
 use Rattle.lmn_app_single.specs.Requests.{asked_program, folded_run}
 use Rattle.lmn_app.specs.Pairs.{HasProgram, most_items_of_pair}
@@ -37,6 +39,22 @@ Fetches (to_compile file) texts before after faults faults_after = after ≡ ask
 Fetches (to_demo n) texts before after faults faults_after = (after ≡ before) × ((name : List ℕ) → faults_after name ≡ faults name)
 Fetches (to_pair pair) texts before after faults faults_after =
     (after ≡ asked_program pair.file before) ⊎ ((after ≡ asked_second pair (asked_program pair.file before)) × HasProgram pair texts)
+
+-- Of a command with a second text, by how it ends, with what is asked for before and behind the second text: nothing more where the
+-- program is refused; nothing more, or the second text, where a file couldn't be read or memory was wanting; and the second text where it
+-- ends otherwise. Where it is asked for the program is accepted.
+abbrev pub FetchesSecond : Pair → Ending → Option (List ℕ → Option (List ℕ)) → Option (List Fetch) → Option (List Fetch) → Type 0
+FetchesSecond pair (Refused r) texts before after = after ≡ before
+FetchesSecond pair ReadFault texts before after = (after ≡ before) ⊎ ((after ≡ asked_second pair before) × HasProgram pair texts)
+FetchesSecond pair NoMemory texts before after = (after ≡ before) ⊎ ((after ≡ asked_second pair before) × HasProgram pair texts)
+FetchesSecond pair _ texts before after = (after ≡ asked_second pair before) × HasProgram pair texts
+
+-- All that is named was asked for: the program where its file is named, and behind it the second text where there is one.
+abbrev pub FetchesAll : Request → Option (List Fetch) → Option (List Fetch) → Type 0
+FetchesAll (to_run run) before after = after ≡ asked_program run.file before
+FetchesAll (to_compile file) before after = after ≡ asked_program file before
+FetchesAll (to_demo n) before after = after ≡ before
+FetchesAll (to_pair pair) before after = after ≡ asked_second pair (asked_program pair.file before)
 
 -- ---- to do what
 

@@ -11,8 +11,9 @@ ghost use Rattle.lmn_schedule.specs.Turning.{Gives};
 ghost use Rattle.lmn_store_web.specs.WebHeaps.{heap_of};
 ghost use Rattle.lmn_app_words.specs.Forms.{pair_of, to_pair};
 ghost use Rattle.lmn_app.specs.Debugs.{session_size};
-ghost use Rattle.lmn_app.specs.Fetched.{AcceptsTold, AsksSecond};
+ghost use Rattle.lmn_app.specs.Fetched.{AcceptsTold};
 ghost use Rattle.lmn_app.specs.Outcomes.{RequestEnded};
+ghost use Rattle.lmn_app.specs.Requests.{FetchesSecond};
 ghost use Rattle.lmn_app.specs.Runnings.{EndsDebugged, obeyed_as};
 ghost use Rattle.lmn_app_single.specs.Texts.{Accepts};
 
@@ -50,7 +51,7 @@ pub(crate) fn debug_by<F: Shelf, O: Sink>(
     requires kind { words.kind ≡ PairKind.Debug }
     requires accepted { AcceptsTold (pair_of words) (F.told shelf.old) names.old accepted.now.plain accepted.now.plans }
     requires room { length names.old ≤ 2 ^ 31 }
-    ensures asked { AsksSecond (pair_of words.entry) (F.told shelf.old) (F.asked shelf.old) (F.asked shelf.new) }
+    ensures asked { FetchesSecond (pair_of words.entry) result (F.told shelf.old) (F.asked shelf.old) (F.asked shelf.new) }
     ensures ended { RequestEnded (to_pair (pair_of words.entry)) result (F.told shelf.old) (O.told out.old) (O.told out.new) (O.faults out.old) (O.faults out.new) (F.faults shelf.old) (F.faults shelf.new) }
 {
     loading_settles();
@@ -90,7 +91,7 @@ fn debug_in<F: Shelf, O: Sink, L: Ledger>(
     requires name { blank.name ≡ L.name }
     requires parts { blank.parts ≡ L.parts }
     requires some { 0 < blank.parts }
-    ensures asked { AsksSecond (pair_of words.entry) (F.told shelf.old) (F.asked shelf.old) (F.asked shelf.new) }
+    ensures asked { FetchesSecond (pair_of words.entry) result (F.told shelf.old) (F.asked shelf.old) (F.asked shelf.new) }
     ensures ended { RequestEnded (to_pair (pair_of words.entry)) result (F.told shelf.old) (O.told out.old) (O.told out.new) (O.faults out.old) (O.faults out.new) (F.faults shelf.old) (F.faults shelf.new) }
 {
     accepted_texts_can_be_loaded();

@@ -1,4 +1,4 @@
-ghost use Rattle.std.specs.Prelude.{◌≡◌, ◌≤◌, ◌<◌, ◌⊎◌, ◌^◌, ℕ, IfErr, List, OnOk, length};
+ghost use Rattle.std.specs.Prelude.{◌≡◌, ◌≤◌, ◌<◌, ◌^◌, ℕ, IfErr, List, OnOk, length};
 ghost use Rattle.lmn_base.specs.Levels.{links_of};
 ghost use Rattle.lmn_base.specs.Links.{EachTwice};
 ghost use Rattle.lmn_base.specs.WellMade.{IsWellMade};
@@ -11,8 +11,7 @@ ghost use Rattle.lmn_app_words.specs.Forms.{pair_of, to_pair};
 ghost use Rattle.lmn_verify_coded.specs.Turning.{CodedCanTurn};
 ghost use Rattle.lmn_app.specs.Executions.{executed_size};
 ghost use Rattle.lmn_app.specs.Outcomes.{RequestEnded};
-ghost use Rattle.lmn_app.specs.Pairs.{HasProgram};
-ghost use Rattle.lmn_app.specs.Requests.{asked_second};
+ghost use Rattle.lmn_app.specs.Requests.{FetchesSecond};
 ghost use Rattle.lmn_app.specs.Runnings.{CodesRun, EndsExecuted, coded_input};
 ghost use Rattle.lmn_app_single.specs.Texts.{Accepts};
 ghost use Rattle.lmn_app_single.specs.Writing.{IsToldAnd, told_under};
@@ -58,8 +57,7 @@ pub(crate) fn exec_by<F: Shelf, O: Sink>(
     requires accepted { (program : List ℕ) × Accepts program names.old accepted.now.plain accepted.now.plans
         × IsToldAnd (told_under (F.told shelf.old) (pair_of words).file) (λ found. found ≡ program) }
     requires room { length names.old ≤ 2 ^ 31 }
-    ensures asked { (F.asked shelf.new ≡ F.asked shelf.old)
-        ⊎ ((F.asked shelf.new ≡ asked_second (pair_of words.entry) (F.asked shelf.old)) × HasProgram (pair_of words.entry) (F.told shelf.old)) }
+    ensures asked { FetchesSecond (pair_of words.entry) result (F.told shelf.old) (F.asked shelf.old) (F.asked shelf.new) }
     ensures ended { RequestEnded (to_pair (pair_of words.entry)) result (F.told shelf.old) (O.told out.old) (O.told out.new) (O.faults out.old) (O.faults out.new) (F.faults shelf.old) (F.faults shelf.new) }
 {
     loading_settles();
@@ -84,8 +82,7 @@ fn exec_in<S: LinkStore + Drop, F: Shelf, O: Sink>(
         × IsToldAnd (told_under (F.told shelf.old) (pair_of words).file) (λ found. found ≡ program) }
     requires room { length names.old ≤ 2 ^ 31 }
     requires store { IsEmpty (S.heap store) }
-    ensures asked { (F.asked shelf.new ≡ F.asked shelf.old)
-        ⊎ ((F.asked shelf.new ≡ asked_second (pair_of words.entry) (F.asked shelf.old)) × HasProgram (pair_of words.entry) (F.told shelf.old)) }
+    ensures asked { FetchesSecond (pair_of words.entry) result (F.told shelf.old) (F.asked shelf.old) (F.asked shelf.new) }
     ensures ended { RequestEnded (to_pair (pair_of words.entry)) result (F.told shelf.old) (O.told out.old) (O.told out.new) (O.faults out.old) (O.faults out.new) (F.faults shelf.old) (F.faults shelf.new) }
 {
     accepted_texts_can_be_loaded();

@@ -3,7 +3,7 @@
 
 ghost use Rattle.lmn_app.specs.BoundExamples.{SmallTextIsBounded, SmallTextIsNotByTwo, SmallTextIsNotLowered};
 ghost use Rattle.lmn_app.specs.BoundLaws.{BoundNotRefused, BoundOrRefused, BoundWhereLowered, OneBound, OneWrongWeights};
-ghost use Rattle.lmn_app.specs.CallExamples.{ByteIsToldWritten, FileIsFetchedOnce, NoWordsAreAnswered, OrdersCountSo, QuoteIsRefused, QuoteIsToldRefused};
+ghost use Rattle.lmn_app.specs.CallExamples.{ByteIsToldWritten, FileIsFetchedOnce, NoWordsAreAnswered, OrdersCountSo, QuoteIsRefused, QuoteIsToldRefused, TraceIsFetchedBehind};
 ghost use Rattle.lmn_app.specs.CheckExamples.{NothingIsWrong, SmallTextIsChecked, SmallTextIsNotTwice};
 ghost use Rattle.lmn_app.specs.CheckLaws.{CheckedNotWrong, NeitherCheckedNorWrong, OneCount, OneWrongTrace, RunsAreChecked};
 ghost use Rattle.lmn_app.specs.DebugExamples.{SmallTextIsDebugged, SmallTextIsNotDebuggedSo};
@@ -287,10 +287,11 @@ pub fn small_text_is_listed()
     ensures { SmallTextIsListed }
 {}
 
-/// How no words are answered, how often a file is asked for, what a sink tells of a write, and what it counts of orders.
+/// How no words are answered, how often a file is asked for and a trace behind it, what a sink tells of a write, and what it counts of orders.
 pub fn small_calls()
     ensures answered { NoWordsAreAnswered }
     ensures fetched { FileIsFetchedOnce }
+    ensures behind { TraceIsFetchedBehind }
     ensures written { ByteIsToldWritten }
     ensures counted { OrdersCountSo }
 {}

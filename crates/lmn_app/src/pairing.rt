@@ -1,10 +1,10 @@
 ghost use Rattle.std.specs.Prelude.{◌≡◌, ◌≤◌, ◌^◌, ℕ, List, Option, IfErr, IfOk, Some, length};
 ghost use Rattle.lmn_io.specs.Counts.{Faults};
 ghost use Rattle.lmn_app_words.specs.Forms.{pair_of, to_pair};
-ghost use Rattle.lmn_app.specs.Fetched.{AcceptsTold, AsksSecond};
+ghost use Rattle.lmn_app.specs.Fetched.{AcceptsTold};
 ghost use Rattle.lmn_app.specs.Outcomes.{RequestEnded};
 ghost use Rattle.lmn_app.specs.Pairs.{HasProgram};
-ghost use Rattle.lmn_app.specs.Requests.{asked_second};
+ghost use Rattle.lmn_app.specs.Requests.{FetchesSecond, asked_second};
 ghost use Rattle.lmn_app.specs.SecondTexts.{long_code, second_bytes};
 ghost use Rattle.lmn_app_single.specs.Texts.{at_start};
 ghost use Rattle.lmn_app_single.specs.Writing.{IsToldAnd, told_under};
@@ -31,7 +31,7 @@ pub(crate) fn act_on_pair<F: Shelf, O: Sink>(
 ) -> Ending
     requires accepted { AcceptsTold (pair_of words) (F.told shelf.old) names.old accepted.now.plain accepted.now.plans }
     requires room { length names.old ≤ 2 ^ 31 }
-    ensures asked { AsksSecond (pair_of words.entry) (F.told shelf.old) (F.asked shelf.old) (F.asked shelf.new) }
+    ensures asked { FetchesSecond (pair_of words.entry) result (F.told shelf.old) (F.asked shelf.old) (F.asked shelf.new) }
     ensures ended { RequestEnded (to_pair (pair_of words.entry)) result (F.told shelf.old) (O.told out.old) (O.told out.new) (O.faults out.old) (O.faults out.new) (F.faults shelf.old) (F.faults shelf.new) }
 {
     match words.kind {
@@ -53,7 +53,7 @@ fn check_on<F: Shelf, O: Sink>(
 ) -> Ending
     requires kind { words.kind ≡ PairKind.Check }
     requires accepted { AcceptsTold (pair_of words) (F.told shelf.old) names.now accepted.now.plain accepted.now.plans }
-    ensures asked { F.asked shelf.new ≡ asked_second (pair_of words.entry) (F.asked shelf.old) }
+    ensures asked { FetchesSecond (pair_of words.entry) result (F.told shelf.old) (F.asked shelf.old) (F.asked shelf.new) }
     ensures ended { RequestEnded (to_pair (pair_of words.entry)) result (F.told shelf.old) (O.told out.old) (O.told out.new) (O.faults out.old) (O.faults out.new) (F.faults shelf.old) (F.faults shelf.new) }
 {
     match fetch_second(alloc, words, shelf) {
@@ -74,7 +74,7 @@ fn bound_on<F: Shelf, O: Sink>(
     requires kind { words.kind ≡ PairKind.Bound }
     requires accepted { AcceptsTold (pair_of words) (F.told shelf.old) names.old accepted.now.plain accepted.now.plans }
     requires room { length names.old ≤ 2 ^ 31 }
-    ensures asked { F.asked shelf.new ≡ asked_second (pair_of words.entry) (F.asked shelf.old) }
+    ensures asked { FetchesSecond (pair_of words.entry) result (F.told shelf.old) (F.asked shelf.old) (F.asked shelf.new) }
     ensures ended { RequestEnded (to_pair (pair_of words.entry)) result (F.told shelf.old) (O.told out.old) (O.told out.new) (O.faults out.old) (O.faults out.new) (F.faults shelf.old) (F.faults shelf.new) }
 {
     match fetch_second(alloc, words, shelf) {
@@ -90,6 +90,8 @@ pub(crate) fn fetch_second<F: Shelf>(
     shelf: &mut F,
 ) -> Result<Rows<u8>, Ending>
     ensures asked { F.asked shelf.new ≡ asked_second (pair_of words.entry) (F.asked shelf.old) }
+    ensures fetched { IfErr result (λ ending. HasProgram (pair_of words.entry) (F.told shelf.old) →
+        FetchesSecond (pair_of words.entry) ending (F.told shelf.old) (F.asked shelf.old) (F.asked shelf.new)) }
     ensures short { IfOk result (λ text. length text ≤ second_bytes (pair_of words.entry).kind) }
     ensures told { IfOk result (λ text. IsToldAnd (told_under (F.told shelf.old) (pair_of words.entry).second) (λ found. found ≡ text)) }
     ensures fault { IfErr result (λ ending. (took : Option (List ℕ)) (count : Faults) → HasProgram (pair_of words.entry) (F.told shelf.old) →

@@ -1,9 +1,9 @@
 ghost use Rattle.std.specs.Prelude.{◌≡◌, ◌≤◌, length};
-ghost use Rattle.lmn_app.specs.Fetched.{AsksSecond};
-ghost use Rattle.lmn_app.specs.Requests.{Fetches};
+ghost use Rattle.lmn_app.specs.Requests.{FetchesSecond};
 ghost use Rattle.lmn_app_words.specs.Forms.{pair_of, to_pair};
 ghost use Rattle.lmn_app.specs.Outcomes.{RequestEnded};
 ghost use Rattle.lmn_app.specs.Calls.{EndedSo, IsAnswered};
+ghost use Rattle.lmn_app_single.specs.Requests.{asked_program};
 ghost use Rattle.lmn_app_single.specs.Seen.{shelf_seen, sink_seen};
 ghost use Rattle.lmn_app_single.specs.Texts.{text_bytes};
 ghost use Rattle.lmn_app_single.specs.Writing.{IsToldAnd, told_under};
@@ -52,7 +52,7 @@ fn perform_pair<F: Shelf, O: Sink>(
     shelf: &mut F,
     out: &mut O,
 ) -> Ending
-    ensures asked { Fetches (to_pair (pair_of words.entry)) (F.told shelf.old) (F.asked shelf.old) (F.asked shelf.new) (F.faults shelf.old) (F.faults shelf.new) }
+    ensures asked { FetchesSecond (pair_of words.entry) result (F.told shelf.old) (asked_program (pair_of words.entry).file (F.asked shelf.old)) (F.asked shelf.new) }
     ensures ended { RequestEnded (to_pair (pair_of words.entry)) result (F.told shelf.old) (O.told out.old) (O.told out.new) (O.faults out.old) (O.faults out.new) (F.faults shelf.old) (F.faults shelf.new) }
 {
     match fetch(alloc, words.file, shelf) {
@@ -71,7 +71,7 @@ fn perform_pair_on<F: Shelf, O: Sink>(
 ) -> Ending
     requires short { length text.now ≤ text_bytes }
     requires told { IsToldAnd (told_under (F.told shelf.old) (pair_of words).file) (λ found. found ≡ text.now) }
-    ensures asked { AsksSecond (pair_of words.entry) (F.told shelf.old) (F.asked shelf.old) (F.asked shelf.new) }
+    ensures asked { FetchesSecond (pair_of words.entry) result (F.told shelf.old) (F.asked shelf.old) (F.asked shelf.new) }
     ensures ended { RequestEnded (to_pair (pair_of words.entry)) result (F.told shelf.old) (O.told out.old) (O.told out.new) (O.faults out.old) (O.faults out.new) (F.faults shelf.old) (F.faults shelf.new) }
 {
     let mut names = Names::with_key(alloc, &Sha256::digest(text));

@@ -1,4 +1,4 @@
-use Rattle.std.proofs.Common.{ap, inr, subst, sym}
+use Rattle.std.proofs.Common.{ap, subst, sym}
 use Rattle.lmn_schedule_loading.specs.Loaded.{LoadCauses}
 use Rattle.lmn_schedule.specs.Held.{CanBeLoaded}
 use Rattle.lmn_app_words.specs.Forms.{pair_of}
@@ -6,7 +6,7 @@ use Rattle.lmn_app.specs.Debugs.{session_size}
 use Rattle.lmn_app.specs.Pairs.{most_items_of_pair}
 use Rattle.lmn_app.specs.Runnings.{EndsDebugged}
 use Rattle.lmn_app.proofs.DebugLemmas.{large_refused, loaded_program}
-use Rattle.lmn_app.proofs.PairLemmas.{debug_ended}
+use Rattle.lmn_app.proofs.PairLemmas.{debug_ended, debugged_refuses_none, fetched_behind}
 use Rattle.lmn_app.proofs.debugging.debug_in.Goals as goal
 
 pub load-requires-clause-plain : goal.load-requires-clause-plain
@@ -21,7 +21,10 @@ returns-in-Ok-fetch_second-clause-asked g c =
     let read = c.args.accepted.now in
     let program = c.requires.accepted.0 in
     let a = c.requires.accepted.1 in
-    inr (c.fetch_second.ensures.asked, loaded_program c.accepted_texts_can_be_loaded.ensures.named pair (g.F.Shelf.told c.args.shelf.now) program c.requires.accepted.2 c.args.names.now read.plain read.plans a c.requires.kind _ c.in-Ok.ensures.holds c.in-Ok.ensures.fits)
+    let of = loaded_program c.accepted_texts_can_be_loaded.ensures.named pair (g.F.Shelf.told c.args.shelf.now) program c.requires.accepted.2 c.args.names.now read.plain read.plans a c.requires.kind _ c.in-Ok.ensures.holds c.in-Ok.ensures.fits in
+    let ends = subst (λ script. EndsDebugged program script c.obey.result (g.O.Sink.told c.args.out.now) (g.O.Sink.told c.obey.new.out) (g.O.Sink.faults c.args.out.now) (g.O.Sink.faults c.obey.new.out)) c.as_slice-in-Ok-fetch_second.ensures (c.obey.ensures program a) in
+    fetched_behind pair (g.F.Shelf.told c.args.shelf.now) of _ _ c.fetch_second.ensures.asked c.obey.result
+    (debugged_refuses_none program c.in-Ok-fetch_second.script c.obey.result (g.O.Sink.told c.args.out.now) (g.O.Sink.told c.obey.new.out) (g.O.Sink.faults c.args.out.now) (g.O.Sink.faults c.obey.new.out) ends)
 
 pub returns-in-Ok-fetch_second-clause-ended : goal.returns-in-Ok-fetch_second-clause-ended
 returns-in-Ok-fetch_second-clause-ended g c =
@@ -39,7 +42,7 @@ returns-in-Ok-clause-asked g c =
     let read = c.args.accepted.now in
     let program = c.requires.accepted.0 in
     let a = c.requires.accepted.1 in
-    inr (c.fetch_second.ensures.asked, loaded_program c.accepted_texts_can_be_loaded.ensures.named pair (g.F.Shelf.told c.args.shelf.now) program c.requires.accepted.2 c.args.names.now read.plain read.plans a c.requires.kind _ c.in-Ok.ensures.holds c.in-Ok.ensures.fits)
+    c.in-Err.ensures.fetched (loaded_program c.accepted_texts_can_be_loaded.ensures.named pair (g.F.Shelf.told c.args.shelf.now) program c.requires.accepted.2 c.args.names.now read.plain read.plans a c.requires.kind _ c.in-Ok.ensures.holds c.in-Ok.ensures.fits)
 
 pub returns-in-Ok-clause-ended : goal.returns-in-Ok-clause-ended
 returns-in-Ok-clause-ended g c =

@@ -1,4 +1,4 @@
-use Rattle.std.proofs.Common.{ap, inr, subst}
+use Rattle.std.proofs.Common.{ap, subst}
 use Rattle.lmn_schedule_loading.specs.Loaded.{LoadCauses}
 use Rattle.lmn_app_words.specs.Forms.{pair_of}
 use Rattle.lmn_app.specs.Executions.{executed_size}
@@ -6,7 +6,7 @@ use Rattle.lmn_app.specs.Pairs.{most_items_of_pair}
 use Rattle.lmn_app.specs.Runnings.{EndsExecuted}
 use Rattle.lmn_app.proofs.DebugLemmas.{large_refused}
 use Rattle.lmn_app.proofs.ExecLemmas.{stored_program}
-use Rattle.lmn_app.proofs.PairLemmas.{exec_ended}
+use Rattle.lmn_app.proofs.PairLemmas.{exec_ended, executed_refuses_none, fetched_behind}
 use Rattle.lmn_app.proofs.executing.exec_in.Goals as goal
 
 pub load_awake-requires-clause-plain : goal.load_awake-requires-clause-plain
@@ -25,12 +25,16 @@ load_awake-requires-clause-closed g c =
 
 pub returns-in-Ok-fetch_second-clause-asked : goal.returns-in-Ok-fetch_second-clause-asked
 returns-in-Ok-fetch_second-clause-asked g c =
+    let pair = pair_of c.args.words in
     let read = c.args.accepted.now in
     let program = c.requires.accepted.0 in
     let names = c.args.names.now in
     let a = c.requires.accepted.1 in
     let can = c.accepted_texts_can_be_loaded.ensures.loaded program names read.plain read.plans a.named a.accepted in
-    inr (c.fetch_second.ensures.asked, stored_program (pair_of c.args.words) (g.F.Shelf.told c.args.shelf.now) program c.requires.accepted.2 names read.plain read.plans a c.requires.kind can.made _ c.in-Ok.ensures.loaded c.in-Ok.ensures.fits)
+    let of = stored_program pair (g.F.Shelf.told c.args.shelf.now) program c.requires.accepted.2 names read.plain read.plans a c.requires.kind can.made _ c.in-Ok.ensures.loaded c.in-Ok.ensures.fits in
+    let ends = subst (λ listing. EndsExecuted program listing c.exec_listing.result (g.O.Sink.told c.args.out.now) (g.O.Sink.told c.exec_listing.new.out) (g.O.Sink.faults c.args.out.now) (g.O.Sink.faults c.exec_listing.new.out)) c.as_slice.ensures (c.exec_listing.ensures program a) in
+    fetched_behind pair (g.F.Shelf.told c.args.shelf.now) of _ _ c.fetch_second.ensures.asked c.exec_listing.result
+    (executed_refuses_none program c.in-Ok-fetch_second.listing c.exec_listing.result (g.O.Sink.told c.args.out.now) (g.O.Sink.told c.exec_listing.new.out) (g.O.Sink.faults c.args.out.now) (g.O.Sink.faults c.exec_listing.new.out) ends)
 
 pub returns-in-Ok-fetch_second-clause-ended : goal.returns-in-Ok-fetch_second-clause-ended
 returns-in-Ok-fetch_second-clause-ended g c =
@@ -46,12 +50,13 @@ returns-in-Ok-fetch_second-clause-ended g c =
 
 pub returns-in-Ok-clause-asked : goal.returns-in-Ok-clause-asked
 returns-in-Ok-clause-asked g c =
+    let pair = pair_of c.args.words in
     let read = c.args.accepted.now in
     let program = c.requires.accepted.0 in
     let names = c.args.names.now in
     let a = c.requires.accepted.1 in
     let can = c.accepted_texts_can_be_loaded.ensures.loaded program names read.plain read.plans a.named a.accepted in
-    inr (c.fetch_second.ensures.asked, stored_program (pair_of c.args.words) (g.F.Shelf.told c.args.shelf.now) program c.requires.accepted.2 names read.plain read.plans a c.requires.kind can.made _ c.in-Ok.ensures.loaded c.in-Ok.ensures.fits)
+    c.in-Err.ensures.fetched (stored_program pair (g.F.Shelf.told c.args.shelf.now) program c.requires.accepted.2 names read.plain read.plans a c.requires.kind can.made _ c.in-Ok.ensures.loaded c.in-Ok.ensures.fits)
 
 pub returns-in-Ok-clause-ended : goal.returns-in-Ok-clause-ended
 returns-in-Ok-clause-ended g c =

@@ -2,7 +2,7 @@ use Rattle.std.proofs.Common.{subst, sym}
 use Rattle.lmn_app_words.specs.declared.command.PairKind.TheVariants.{Bound}
 use Rattle.lmn_app_words.specs.Forms.{pair_of}
 use Rattle.lmn_app.specs.Runnings.{EndsByLine}
-use Rattle.lmn_app.proofs.PairLemmas.{has_bound, line_ended}
+use Rattle.lmn_app.proofs.PairLemmas.{fetched_behind, has_bound, line_ended, line_refuses_none}
 use Rattle.lmn_app.proofs.pairing.bound_on.Goals as goal
 
 pub returns-in-Ok-clause-ended : goal.returns-in-Ok-clause-ended
@@ -17,3 +17,17 @@ pub returns-in-Err-clause-ended : goal.returns-in-Err-clause-ended
 returns-in-Err-clause-ended g c =
     let pair = pair_of c.args.words in
     c.in-Err.ensures.fault _ _ (has_bound pair (g.F.Shelf.told c.args.shelf.now) c.requires.accepted.0 c.requires.accepted.2 _ _ _ c.requires.accepted.1 c.requires.kind)
+
+pub returns-in-Ok-clause-asked : goal.returns-in-Ok-clause-asked
+returns-in-Ok-clause-asked g c =
+    let pair = pair_of c.args.words in
+    let program = c.requires.accepted.0 in
+    let of = has_bound pair (g.F.Shelf.told c.args.shelf.now) program c.requires.accepted.2 c.args.names.now c.args.accepted.now.plain c.args.accepted.now.plans c.requires.accepted.1 c.requires.kind in
+    let ends = subst (λ second. EndsByLine Bound program second c.bound_by.result (g.O.Sink.told c.args.out.now) (g.O.Sink.told c.bound_by.new.out) (g.O.Sink.faults c.args.out.now) (g.O.Sink.faults c.bound_by.new.out)) c.as_slice.ensures (c.bound_by.ensures program c.requires.accepted.1) in
+    fetched_behind pair (g.F.Shelf.told c.args.shelf.now) of _ _ c.fetch_second.ensures.asked c.bound_by.result
+    (line_refuses_none program c.in-Ok.second c.bound_by.result (g.O.Sink.told c.args.out.now) (g.O.Sink.told c.bound_by.new.out) (g.O.Sink.faults c.args.out.now) (g.O.Sink.faults c.bound_by.new.out) Bound ends)
+
+pub returns-in-Err-clause-asked : goal.returns-in-Err-clause-asked
+returns-in-Err-clause-asked g c =
+    let pair = pair_of c.args.words in
+    c.in-Err.ensures.fetched (has_bound pair (g.F.Shelf.told c.args.shelf.now) c.requires.accepted.0 c.requires.accepted.2 _ _ _ c.requires.accepted.1 c.requires.kind)

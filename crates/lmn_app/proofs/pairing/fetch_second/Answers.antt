@@ -23,3 +23,12 @@ returns-in-Err-Failed-clause-fault g c = λ took count of.
 
 pub returns-in-Err-NoMemory-clause-fault : goal.returns-in-Err-NoMemory-clause-fault
 returns-in-Err-NoMemory-clause-fault g c = λ took count of. request_memory (to_pair (pair_of c.args.words)) _ took count _ _
+
+pub returns-in-Ok-TooLong-clause-fetched : goal.returns-in-Ok-TooLong-clause-fetched
+returns-in-Ok-TooLong-clause-fetched g c = λ of. (rw c.second_bytes.ensures at c.fetch.ensures.asked, of)
+
+pub returns-in-Err-Failed-clause-fetched : goal.returns-in-Err-Failed-clause-fetched
+returns-in-Err-Failed-clause-fetched g c = λ of. inr (rw c.second_bytes.ensures at c.fetch.ensures.asked, of)
+
+pub returns-in-Err-NoMemory-clause-fetched : goal.returns-in-Err-NoMemory-clause-fetched
+returns-in-Err-NoMemory-clause-fetched g c = λ of. inr (rw c.second_bytes.ensures at c.fetch.ensures.asked, of)
