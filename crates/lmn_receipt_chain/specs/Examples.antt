@@ -1,12 +1,13 @@
 -- Small chains.
-use Rattle.std.specs.Prelude.{ℕ, ◌≡◌, ⊤, List, [], ◌∷◌, None, Some, codes}
+use Rattle.std.specs.Prelude.{ℕ, ◌≡◌, ⊤, List, [], ◌∷◌, false, true, None, Some, codes}
 use Rattle.lmn_base.specs.declared.solid.Solid.{Solid}
 use Rattle.lmn_congruence.specs.Regions.{Region, no_region, region, region_and}
 use Rattle.lmn_congruence.specs.Rules.{named}
 use Rattle.lmn_reduction.specs.Examples.{label_a, label_b}
 use Rattle.lmn_adequacy.specs.ChangeExamples.{changing}
-use Rattle.lmn_receipt_chain.specs.Chains.{Continues, IsChain, IsWrongTrace, at_line}
-use Rattle.lmn_receipt_chain.specs.Found.{IsNextFound}
+use Rattle.lmn_receipt_chain.specs.Bytes.{IsFirstLine}
+use Rattle.lmn_receipt_chain.specs.Chains.{Continues, IsChain, IsWrongTrace, at_line, line_of_solid}
+use Rattle.lmn_receipt_chain.specs.Found.{AreLeftOut, IsNextFound}
 
 -- the solid of `a.`
 abbrev pub one_atom : Region
@@ -65,3 +66,18 @@ NoGreaterReach = (text : List ℕ) → ¬ (IsNextFound (λ s. ⊤) (λ s. one_at
 -- A solid that is made is one that fits and is next, so none is made there.
 abbrev pub NoneIsMade : Type 0
 NoneIsMade = (text : List ℕ) (s : Solid) → ¬ (IsNextFound (λ s. ⊤) (λ s. one_atom) one_atom 0 text (record { solid = Some s; reach = 0 }))
+
+-- The first line of a text ends with its first line feed.
+abbrev pub FirstOfTwo : Type 0
+FirstOfTwo = IsFirstLine (codes "a.\nb.\n") (codes "a.\n")
+
+abbrev pub NotTheSecond : Type 0
+NotTheSecond = ¬ (IsFirstLine (codes "a.\nb.\n") (codes "b.\n"))
+
+-- Where no membrane is marked none is left out.
+abbrev pub NothingIsLeftOut : Type 0
+NothingIsLeftOut = (S : Region) (text : List ℕ) → AreLeftOut S text []
+
+-- In `{a. a :- b.}` the membrane isn't left out beside the line of `{b. a :- b.}`.
+abbrev pub ChosenIsAsked : Type 0
+ChosenIsAsked = ¬ (AreLeftOut (inside (changing (label_a ∷ []))) (line_of_solid (inside (changing (label_b ∷ [])))) (false ∷ true ∷ []))

@@ -1,6 +1,6 @@
 -- Membranes in the order in which they are asked, and what is known of rules that are asked there. Contracts of private functions alone
 -- cite these words.
-use Rattle.std.specs.Prelude.{ℕ, ◌≡◌, ◌<◌, ◌≤◌, ◌+◌, ◌^◌, ◌⊎◌, ◌↔◌, List, Option, Some, None, IfSome, length, slice_get, take}
+use Rattle.std.specs.Prelude.{ℕ, ◌≡◌, ◌<◌, ◌≤◌, ◌+◌, ◌^◌, ◌⊎◌, ◌↔◌, ◌++◌, ◌∷◌, Bool, List, Option, Some, None, IfSome, length, slice_get, take}
 use Rattle.lmn_base.specs.declared.rule.Plain.{Plain}
 use Rattle.lmn_base.specs.declared.rule.RuleTree.{RuleTree}
 use Rattle.lmn_base.specs.declared.solid.Solid.{Solid}
@@ -29,7 +29,7 @@ use Rattle.lmn_solid_next.specs.Choosing.{NoneOf, numbers_of}
 use Rattle.lmn_solid_next.specs.Firing.{TellsIntegers}
 use Rattle.lmn_solid_next.specs.Searching.{IsSolidBy}
 use Rattle.lmn_solid_next.specs.Asking.{Fires, IsAsked, IsSearched}
-use Rattle.lmn_receipt_chain.specs.Found.{IsNextMade}
+use Rattle.lmn_receipt_chain.specs.Found.{FiresAmong, IsNextMade}
 use Rattle.lmn_receipt_chain.specs.Laws.{IsAcceptedSolid}
 use Rattle.lmn_receipt_chain.specs.declared.next.NextSolid.{NextSolid}
 use Rattle.lmn_receipt_search.specs.Feeds.{IsQuiet, NamesWithout}
@@ -99,10 +99,18 @@ pub record EmbedsThere (names : List Name) (plain : Plain) (plans : List GuardPl
   pub found : Images
   pub least : IsLeast (heap_of flat) (head_items rule plan) rule.guard m found
 
+-- a path stands at a number among those of all membranes
+pub record StandsAt (S : Region) (path : List ℕ) (m : ℕ) : Type 0 where
+  pub earlier : List (List ℕ)
+  pub later : List (List ℕ)
+  pub all : paths S ≡ earlier ++ path ∷ later
+  pub number : length earlier ≡ m
+
 -- What is known of firings. `count` is how many membranes there are.
 --   counted   as many as paths
 --   next      where nothing embeds in the membranes of earlier turns, and a rule of that of this turn fires, the next solid is that of the
 --             strategy, from each number that is reached
+--   stands    the membrane in which a rule fires has its own number among the paths
 --   embeds    where nothing embeds in the membranes below one, and a rule of that one does, something embeds
 --   none      where nothing embeds in those of all turns, nothing embeds
 pub record FiringsAreNext : Type 0 where
@@ -110,8 +118,11 @@ pub record FiringsAreNext : Type 0 where
       (count : ℕ) → ((m : ℕ) → IsMem (heap_of flat) m ↔ (m < count)) → length (paths (region_of names plain.rules s)) ≡ count
   pub next : (names : List Name) (plain : Plain) (plans : List GuardPlan) (s : Solid) (flat : Flat) → IsSearched names plain plans s flat →
       (count : ℕ) → ((m : ℕ) → IsMem (heap_of flat) m ↔ (m < count)) → (from turn m : ℕ) → from < count → turn < count → AskedAt from count turn m →
-      NoneBefore plain.rules plans (heap_of flat) from count turn → (next : Region) → FiresIn names plain plans s flat m next →
-      (k : ℕ) → from ≤ k → k < count → k ≤ from + turn → NextFrom k (region_of names plain.rules s) next
+      NoneBefore plain.rules plans (heap_of flat) from count turn → (next : Region) (f : FiresIn names plain plans s flat m next) →
+      (k : ℕ) → from ≤ k → k < count → k ≤ from + turn → (n : NextFrom k (region_of names plain.rules s) next) × (n.path ≡ f.fires.path)
+  pub stands : (names : List Name) (plain : Plain) (plans : List GuardPlan) (s : Solid) (flat : Flat) → IsSearched names plain plans s flat →
+      (count : ℕ) → ((m : ℕ) → IsMem (heap_of flat) m ↔ (m < count)) → (m : ℕ) (next : Region) (f : FiresIn names plain plans s flat m next) →
+      StandsAt (region_of names plain.rules s) f.fires.path m
   pub embeds : (names : List Name) (plain : Plain) (plans : List GuardPlan) (s : Solid) (flat : Flat) → IsSearched names plain plans s flat →
       (count : ℕ) → ((m : ℕ) → IsMem (heap_of flat) m ↔ (m < count)) → (m : ℕ) → m < count → NoneBefore plain.rules plans (heap_of flat) 0 count m →
       EmbedsThere names plain plans s flat m → HasEmbedding (region_of names plain.rules s)
@@ -128,12 +139,18 @@ BodiesAreCounted = (names : List Name) (plain : Plain) (plans : List GuardPlan) 
     (sizes : List ℕ) → AreSizes (heap_of flat) sizes →
     (next : Region) × FiresTo names plain s flat m place rule plan next × (firing_size (heap_of flat) sizes t rule.body ≤ item_count_of_region next) × (NamesWithout names → IsQuiet next)
 
+-- What is known of a next solid that isn't made: it has more items than a limit, or fires in a membrane that is left out; and where no
+-- name has a line feed its line has one.
+pub record IsPassed (names : List Name) (limit : ℕ) (left_out : List Bool) (S next : Region) : Type 0 where
+  pub why : (limit < item_count_of_region next) ⊎ FiresAmong left_out S next
+  pub quiet : NamesWithout names → IsQuiet next
+
 -- What is found of the next solid of s where membranes are asked from a number on.
 --   reached  its reach is the number of a membrane, from the one that was asked on
 --   made     where it is made it is the next one up to its reach
---   beyond   where it isn't, each next one has more items than the limit
-pub record IsFoundWithin (names : List Name) (plain : Plain) (s : Solid) (from limit : ℕ) (next : NextSolid) : Type 0 where
+--   passed   where it isn't, each next one has more items than the limit, or fires in a membrane that is left out
+pub record IsFoundWithin (names : List Name) (plain : Plain) (s : Solid) (from limit : ℕ) (left_out : List Bool) (next : NextSolid) : Type 0 where
   pub reached : (from ≤ next.reach) × (next.reach < length (paths (region_of names plain.rules s)))
   pub made : IfSome next.solid (IsNextMade (IsSolidBy names plain) (region_of names plain.rules) (region_of names plain.rules s) from next.reach)
-  pub beyond : next.solid ≡ None → IsAcceptedSolid (region_of names plain.rules s) →
-      (k : ℕ) → from ≤ k → k ≤ next.reach → (S : Region) → NextFrom k (region_of names plain.rules s) S → IsBeyond names limit S
+  pub passed : next.solid ≡ None → IsAcceptedSolid (region_of names plain.rules s) →
+      (k : ℕ) → from ≤ k → k ≤ next.reach → (S : Region) → NextFrom k (region_of names plain.rules s) S → IsPassed names limit left_out (region_of names plain.rules s) S
