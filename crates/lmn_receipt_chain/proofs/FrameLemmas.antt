@@ -1,13 +1,13 @@
 -- What a firing leaves of a line as it was: what stands outside of the membrane in which it fires, but for digits.
-use Rattle.std.proofs.Common.{ℕ, suc, ◌≡◌, ◌∙◌, ◌+◌, ◌<◌, ◌≤◌, ◌%◌, ◌⊎◌, inl, inr, Bool, true, false, not, List, [], ◌∷◌, ◌++◌, codes, drop, length, map, take, refl, sym, ap, subst, arith, append_assoc, length-append}
+use Rattle.std.proofs.Common.{ℕ, suc, ◌≡◌, ◌∙◌, ◌+◌, ◌<◌, ◌≤◌, ◌%◌, ◌⊎◌, inl, inr, Bool, true, false, not, List, [], ◌∷◌, ◌++◌, codes, drop, length, map, reverse, take, refl, sym, ap, subst, arith, append_assoc, length-append}
 use Rattle.std.specs.Char.{is_ascii_digit}
 use Rattle.std.specs.Prelude.{cond, ◌==◌, if◌then◌else◌}
-use Rattle.std.proofs.lemmas.List.{append-nil, length-map, take-append-drop}
+use Rattle.std.proofs.lemmas.Grind.{reverse_onto}
+use Rattle.std.proofs.lemmas.List.{append-nil, length-map, reverse-append, take-append-drop}
 use Rattle.std.proofs.lemmas.List.Elements.{filter-append}
 use Rattle.std.proofs.Math.Seq.{drop-append_seam, take-append_seam}
 use Rattle.lmn_base.proofs.Lists.{head_is, length_mapped, tail_is}
 use Rattle.lmn_base.proofs.Numbers.{equal_itself, no_more, none_more}
-use Rattle.lmn_congruence.specs.Orders.{Among}
 use Rattle.lmn_congruence.specs.Plains.{fused_leaves, fused_level, fused_levels}
 use Rattle.lmn_congruence.specs.Regions.{Region, Regions, SolidAtom, no_region, region, region_and}
 use Rattle.lmn_congruence.specs.Rules.{Level, Rule, level, rules_list}
@@ -366,6 +366,14 @@ module _ (b : ℕ) where
         let h = times_in_front xs in
         omega (arith, all, rest, h)
 
+    times_behind : (xs : List (List ℕ)) → times_each xs ≤ times b (behind between xs)
+    times_behind [] = omega arith
+    times_behind (x ∷ xs) =
+        let all = times_both between (x ++ behind between xs) in
+        let rest = times_both x (behind between xs) in
+        let h = times_behind xs in
+        omega (arith, all, rest, h)
+
     times_in_row : (xs : List (List ℕ)) → times_each xs ≤ times b (row between xs)
     times_in_row [] = omega arith
     times_in_row (x ∷ []) = omega arith
@@ -374,6 +382,10 @@ module _ (b : ℕ) where
         let rest = times_both between (row between (y ∷ xs)) in
         let h = times_in_row (y ∷ xs) in
         omega (arith, all, rest, h)
+
+  times_reversed : (xs : List ℕ) → times b (reverse xs) ≡ times b xs
+  times_reversed [] = refl
+  times_reversed (x ∷ xs) = ap (times b) (reverse_onto xs x []) ∙ times_both (reverse xs) (x ∷ []) ∙ (let h = times_reversed xs in omega (arith, h))
 
   -- what two texts begin with, both have
   times_alike : (front xs ys : List ℕ) → times b front ≤ times b (alike (front ++ xs) (front ++ ys))
@@ -408,6 +420,31 @@ mutual
       let k = membranes_open (suc n) ms in
       omega (arith, a, b, c, h, k)
 
+-- and closes as many
+mutual
+  membrane_closes : (S : Region) → length (paths S) ≤ times 125 (braced (inside_of S))
+  membrane_closes (region xs ms rs) =
+      let inside = inside_of (region xs ms rs) in
+      let all : times 125 (braced inside) ≡ 0 + times 125 (inside ++ codes "}") = refl in
+      let one : times 125 (codes "}") ≡ 1 = refl in
+      let a = times_both 125 inside (codes "}") in
+      let b = ap (times 125) (inside_is xs ms rs) in
+      let c = times_in_row 125 (codes ", ") (all_texts xs (membrane_texts ms) rs) in
+      let d = each_of_both 125 (atom_texts xs) (membrane_texts ms ++ rule_texts rs) in
+      let e = each_of_both 125 (membrane_texts ms) (rule_texts rs) in
+      let h = membranes_close 0 ms in
+      omega (arith, all, one, a, b, c, d, e, h)
+
+  membranes_close : (n : ℕ) (ms : Regions) → length (paths_from n ms) ≤ times_each 125 (membrane_texts ms)
+  membranes_close n no_region = omega arith
+  membranes_close n (region_and m ms) =
+      let a = length-append (map (λ path. n ∷ path) (paths m)) (paths_from (suc n) ms) in
+      let b = length-map (paths m) (λ path. n ∷ path) in
+      let c = ap (times 125) (membrane_text m) in
+      let h = membrane_closes m in
+      let k = membranes_close (suc n) ms in
+      omega (arith, a, b, c, h, k)
+
 -- ---- the path with a number
 
 abbrev Paths : Type 0
@@ -418,39 +455,53 @@ no_path b p a e = no_item b p a (sym (ap length e))
 
 -- where a list is two, one of them has the item
 split : (xs ys b : Paths) (p : List ℕ) (a : Paths) → xs ++ ys ≡ b ++ p ∷ a →
-    ((c : Paths) × (xs ≡ b ++ p ∷ c)) ⊎ ((d : Paths) × (ys ≡ d ++ p ∷ a) × (length b ≡ length xs + length d))
+    ((c : Paths) × (xs ≡ b ++ p ∷ c) × (a ≡ c ++ ys)) ⊎ ((d : Paths) × (ys ≡ d ++ p ∷ a) × (length b ≡ length xs + length d))
 split [] ys b p a e = inr (b, e, omega arith)
-split (x ∷ xs) ys [] p a e = inl (xs, ap (λ z. z ∷ xs) (head_is e))
+split (x ∷ xs) ys [] p a e = inl (xs, ap (λ z. z ∷ xs) (head_is e), sym (tail_is e))
 split (x ∷ xs) ys (z ∷ b) p a e = elim (split xs ys b p a (tail_is e)) [
-  | inl h ↦ inl (h.0, λ i. head_is e i ∷ h.1 i)
+  | inl h ↦ inl (h.0, (λ i. head_is e i ∷ h.1 i), h.2)
   | inr h ↦ (let many = h.2 in inr (h.0, h.1, omega (arith, many)))
 ]
 
 -- an item of a list of paths that all begin with a number
-record Begun (n : ℕ) (xs : Paths) (p : List ℕ) (number : ℕ) : Type 0 where
+record Begun (n : ℕ) (xs : Paths) (p : List ℕ) (a : Paths) (number : ℕ) : Type 0 where
   pub path : List ℕ
   pub is : p ≡ n ∷ path
   pub earlier : Paths
   pub later : Paths
   pub all : xs ≡ earlier ++ path ∷ later
+  pub rest_is : a ≡ map (λ path. n ∷ path) later
   pub number_is : number ≡ length earlier
 
-begun_at : (n : ℕ) (xs b : Paths) (p : List ℕ) (a : Paths) → map (λ path. n ∷ path) xs ≡ b ++ p ∷ a → Begun n xs p (length b)
+begun_at : (n : ℕ) (xs b : Paths) (p : List ℕ) (a : Paths) → map (λ path. n ∷ path) xs ≡ b ++ p ∷ a → Begun n xs p a (length b)
 begun_at n [] b p a e = absurd (no_path b p a e)
-begun_at n (x ∷ xs) [] p a e = record { path = x; is = sym (head_is e); earlier = []; later = xs; all = refl; number_is = refl }
+begun_at n (x ∷ xs) [] p a e = record { path = x; is = sym (head_is e); earlier = []; later = xs; all = refl; rest_is = sym (tail_is e); number_is = refl }
 begun_at n (x ∷ xs) (z ∷ b) p a e =
     let h = begun_at n xs b p a (tail_is e) in
-    record { path = h.path; is = h.is; earlier = x ∷ h.earlier; later = h.later; all = ap (λ zs. x ∷ zs) h.all; number_is = ap suc h.number_is }
+    record { path = h.path; is = h.is; earlier = x ∷ h.earlier; later = h.later; all = ap (λ zs. x ∷ zs) h.all; rest_is = h.rest_is; number_is = ap suc h.number_is }
 
--- a frame of a path before which so many braces are opened as its number says
-record FramedIn (S : Region) (path : List ℕ) (number : ℕ) : Type 0 where
+-- a path of a list that begins with a number isn't that of the root
+one_at_least : (n : ℕ) (ms : Regions) (c : Paths) (q : List ℕ) (d : Paths) → paths_from n ms ≡ c ++ q ∷ d → 1 ≤ length q
+one_at_least n no_region c q d e = absurd (no_path c q d e)
+one_at_least n (region_and m ms) c q d e = elim (split (map (λ path. n ∷ path) (paths m)) (paths_from (suc n) ms) c q d e) [
+  | inl h ↦ (let u = begun_at n (paths m) c q h.0 h.1 in let long = ap length u.is in omega (arith, long))
+  | inr h ↦ one_at_least (suc n) ms h.0 q d h.1
+]
+
+-- Behind a path stand others. Behind one of them that isn't longer fewer stand than braces are closed.
+abbrev ClosedBy : List ℕ → Paths → ℕ → Type 0
+ClosedBy path a closed = (c : Paths) (q : List ℕ) (d : Paths) → a ≡ c ++ q ∷ d → length q ≤ length path → length d < closed
+
+-- a frame of a path before which so many braces are opened as its number says, and behind which so many are closed
+record FramedIn (S : Region) (path : List ℕ) (number : ℕ) (a : Paths) : Type 0 where
   pub before : List ℕ
   pub after : List ℕ
   pub frame : Frame path S before after
   pub opened : number ≤ times 123 before
+  pub closed : ClosedBy path a (times 125 after)
 
 -- the same in one of some membranes
-record FramedAmong (n : ℕ) (ms : Regions) (p : List ℕ) (number : ℕ) : Type 0 where
+record FramedAmong (n : ℕ) (ms : Regions) (p : List ℕ) (number : ℕ) (a : Paths) : Type 0 where
   pub index : ℕ
   pub path : List ℕ
   pub is : p ≡ (n + index) ∷ path
@@ -461,6 +512,7 @@ record FramedAmong (n : ℕ) (ms : Regions) (p : List ℕ) (number : ℕ) : Type
   pub after : List ℕ
   pub frame : Frame path membrane before after
   pub opened : number ≤ times_each 123 (take index (membrane_texts ms)) + times 123 before
+  pub closed : ClosedBy p a (times 125 after + times_each 125 (drop (suc index) (membrane_texts ms)))
 
 -- what is opened in front of a membrane among others
 opened_in_front : (between : List ℕ) (xs : List SolidAtom) (texts : List (List ℕ)) (before : List ℕ) →
@@ -473,9 +525,45 @@ opened_in_front between xs texts before =
     let c = each_of_both 123 (atom_texts xs) texts in
     omega (arith, one, a, b, c)
 
+-- what is closed behind a membrane among others,
+closed_behind : (between : List ℕ) (texts more : List (List ℕ)) (after end : List ℕ) →
+    times 125 after + times_each 125 texts ≤ times 125 (after ++ (codes "}" ++ (behind between (texts ++ more) ++ end)))
+closed_behind between texts more after end =
+    let back = behind between (texts ++ more) in
+    let a = times_both 125 after (codes "}" ++ (back ++ end)) in
+    let b = times_both 125 (codes "}") (back ++ end) in
+    let c = times_both 125 back end in
+    let d = times_behind 125 between (texts ++ more) in
+    let e = each_of_both 125 texts more in
+    omega (arith, a, b, c, d, e)
+
+-- behind the root,
+behind_root : (ms : Regions) (a : Paths) → paths_from 0 ms ≡ a → (closed : ℕ) → ClosedBy [] a closed
+behind_root ms a whole closed c q d is few = let some = one_at_least 0 ms c q d (whole ∙ is) in absurd (omega (arith, some, few))
+
+-- and behind one in the first of some
+closed_in_first : (n : ℕ) (ms : Regions) (path : List ℕ) (later : Paths) (closed : ℕ) → ClosedBy path later closed → (a : Paths) → a ≡ map (λ path. n ∷ path) later ++ paths_from (suc n) ms →
+    ClosedBy (n ∷ path) a (closed + times_each 125 (membrane_texts ms))
+closed_in_first n ms path later closed inner a whole c q d is few = elim (split (map (λ path. n ∷ path) later) (paths_from (suc n) ms) c q d (sym whole ∙ is)) [
+  | inl h ↦ (
+      let u = begun_at n later c q h.0 h.1 in
+      let long = ap length u.is in
+      let less = inner u.earlier u.path u.later u.all (omega (arith, few, long)) in
+      let all = ap length h.2 ∙ length-append h.0 (paths_from (suc n) ms) in
+      let many = ap length u.rest_is ∙ length-map u.later (λ path. n ∷ path) in
+      let others = membranes_close (suc n) ms in
+      omega (arith, less, all, many, others)
+      )
+  | inr h ↦ (
+      let all = ap length h.1 ∙ length-append h.0 (q ∷ d) in
+      let others = membranes_close (suc n) ms in
+      omega (arith, all, others)
+      )
+]
+
 mutual
-  frame_at : (S : Region) (b : Paths) (p : List ℕ) (a : Paths) → paths S ≡ b ++ p ∷ a → FramedIn S p (length b)
-  frame_at (region xs ms rs) [] p a e = subst (λ z. FramedIn (region xs ms rs) z 0) (head_is e) (record { before = []; after = []; frame = frame_here; opened = omega arith })
+  frame_at : (S : Region) (b : Paths) (p : List ℕ) (a : Paths) → paths S ≡ b ++ p ∷ a → FramedIn S p (length b) a
+  frame_at (region xs ms rs) [] p a e = subst (λ z. FramedIn (region xs ms rs) z 0 a) (head_is e) (record { before = []; after = []; frame = frame_here; opened = omega arith; closed = behind_root ms a (tail_is e) 0 })
   frame_at (region xs ms rs) (z ∷ b) p a e =
       let k = frame_among 0 ms b p a (tail_is e) in
       let front = in_front (codes ", ") (atom_texts xs ++ take k.index (membrane_texts ms)) ++ (codes "{" ++ k.before) in
@@ -487,9 +575,14 @@ mutual
         after = back;
         frame = subst (λ q. Frame q (region xs ms rs) front back) (sym (k.is ∙ ap (λ z. z ∷ k.path) (no_more k.index))) (frame_below k.taken k.frame);
         opened = omega (arith, more, opened);
+        closed = λ c q d is few.
+            let less = k.closed c q d is few in
+            let all = closed_behind (codes ", ") (drop (suc k.index) (membrane_texts ms)) (rule_texts rs) k.after [] in
+            let same = ap (λ z. times 125 (k.after ++ (codes "}" ++ z))) (append-nil (behind (codes ", ") (drop (suc k.index) (membrane_texts ms) ++ rule_texts rs))) in
+            omega (arith, less, all, same);
       }
 
-  frame_among : (n : ℕ) (ms : Regions) (b : Paths) (p : List ℕ) (a : Paths) → paths_from n ms ≡ b ++ p ∷ a → FramedAmong n ms p (length b)
+  frame_among : (n : ℕ) (ms : Regions) (b : Paths) (p : List ℕ) (a : Paths) → paths_from n ms ≡ b ++ p ∷ a → FramedAmong n ms p (length b) a
   frame_among n no_region b p a e = absurd (no_path b p a e)
   frame_among n (region_and m ms) b p a e = elim (split (map (λ path. n ∷ path) (paths m)) (paths_from (suc n) ms) b p a e) [
     | inl h ↦ (
@@ -508,6 +601,8 @@ mutual
           after = k.after;
           frame = k.frame;
           opened = omega (arith, number, opened);
+          closed = subst (λ z. ClosedBy z a (times 125 k.after + times_each 125 (membrane_texts ms))) (sym u.is)
+              (closed_in_first n ms u.path u.later (times 125 k.after) k.closed a (h.2 ∙ ap (λ z. z ++ paths_from (suc n) ms) u.rest_is));
         }
         )
     | inr h ↦ (
@@ -528,19 +623,21 @@ mutual
           after = k.after;
           frame = k.frame;
           opened = omega (arith, number, opened, many, first, same);
+          closed = k.closed;
         }
         )
   ]
 
 -- and in the line of a solid
-record FramedLine (S : Region) (path : List ℕ) (number : ℕ) : Type 0 where
+record FramedLine (S : Region) (path : List ℕ) (number : ℕ) (a : Paths) : Type 0 where
   pub before : List ℕ
   pub after : List ℕ
   pub frame : LineFrame path S before after
   pub opened : number ≤ times 123 before
+  pub closed : ClosedBy path a (times 125 after)
 
-line_frame_at : (S : Region) (b : Paths) (p : List ℕ) (a : Paths) → paths S ≡ b ++ p ∷ a → FramedLine S p (length b)
-line_frame_at (region xs ms rs) [] p a e = subst (λ z. FramedLine (region xs ms rs) z 0) (head_is e) (record { before = []; after = []; frame = line_here; opened = omega arith })
+line_frame_at : (S : Region) (b : Paths) (p : List ℕ) (a : Paths) → paths S ≡ b ++ p ∷ a → FramedLine S p (length b) a
+line_frame_at (region xs ms rs) [] p a e = subst (λ z. FramedLine (region xs ms rs) z 0 a) (head_is e) (record { before = []; after = []; frame = line_here; opened = omega arith; closed = behind_root ms a (tail_is e) 0 })
 line_frame_at (region xs ms rs) (z ∷ b) p a e =
     let k = frame_among 0 ms b p a (tail_is e) in
     let front = in_front (codes ". ") (atom_texts xs ++ take k.index (membrane_texts ms)) ++ (codes "{" ++ k.before) in
@@ -552,6 +649,10 @@ line_frame_at (region xs ms rs) (z ∷ b) p a e =
       after = back;
       frame = subst (λ q. LineFrame q (region xs ms rs) front back) (sym (k.is ∙ ap (λ z. z ∷ k.path) (no_more k.index))) (line_below k.taken k.frame);
       opened = omega (arith, more, opened);
+      closed = λ c q d is few.
+          let less = k.closed c q d is few in
+          let all = closed_behind (codes ". ") (drop (suc k.index) (membrane_texts ms)) (rule_texts rs) k.after (codes ".\n") in
+          omega (arith, less, all);
     }
 
 -- ---- choices
@@ -572,6 +673,37 @@ not_there path k f S S' next b a e text few more is =
     (λ i. times 123 (alike (old.1 i) (there i))) in
     let opened = w.opened in
     omega (arith, few, common, same, opened)
+
+-- what is left without digits of a text that is turned round
+blurred_reversed : (xs : List ℕ) → blurred (reverse xs) ≡ reverse (blurred xs)
+blurred_reversed [] = refl
+blurred_reversed (x ∷ xs) = ap blurred (reverse_onto xs x []) ∙ blurred_both (reverse xs) (x ∷ []) ∙ ap (λ z. z ++ blurred (x ∷ [])) (blurred_reversed xs) ∙ by (lasts x)
+  where
+    by : (t : Bool) → reverse (blurred xs) ++ cond t (x ∷ []) [] ≡ reverse (cond t (x ∷ blurred xs) (blurred xs))
+    by true = sym (reverse_onto (blurred xs) x [])
+    by false = append-nil (reverse (blurred xs))
+
+-- a text that ends so, turned round
+turned : (text before middle after : List ℕ) → blurred text ≡ before ++ (middle ++ after) → blurred (reverse text) ≡ reverse after ++ reverse (before ++ middle)
+turned text before middle after is = blurred_reversed text ∙ ap reverse (is ∙ sym (append_assoc before middle after)) ∙ reverse-append (before ++ middle) after
+
+-- Where behind a membrane one stands that isn't deeper, and behind that at least as many as braces are closed in what the line of a solid
+-- and another one end with alike, that one isn't the line of a solid after a firing in the membrane.
+pub not_that : (path : List ℕ) (k : ℕ) (f : List ℕ) (S S' : Region) → NextAt path k f S S' → (b a : Paths) → paths S ≡ b ++ path ∷ a → (c : Paths) (q : List ℕ) (d : Paths) → a ≡ c ++ q ∷ d → length q ≤ length path →
+    (line : List ℕ) → times 125 (alike (blurred (reverse (line_of_solid S))) (blurred (reverse line))) ≤ length d → line ≡ line_of_solid S' → ⊥
+not_that path k f S S' next b a e c q d later short line few is =
+    let w = line_frame_at S b path a e in
+    let old = line_is_framed w.frame in
+    let new = firings_keep_frames path k f S S' w.before w.after next w.frame in
+    let own = turned (line_of_solid S) w.before old.0 w.after old.1 in
+    let there = ap (λ z. blurred (reverse z)) is ∙ turned (line_of_solid S') w.before new.0 w.after new.1 in
+    let common = times_alike 125 (reverse w.after) (reverse (w.before ++ old.0)) (reverse (w.before ++ new.0)) in
+    let many = times_reversed 125 w.after in
+    let same : times 125 (alike (blurred (reverse (line_of_solid S))) (blurred (reverse line)))
+    ≡ times 125 (alike (reverse w.after ++ reverse (w.before ++ old.0)) (reverse w.after ++ reverse (w.before ++ new.0))) =
+    (λ i. times 125 (alike (own i) (there i))) in
+    let closed = w.closed c q d later short in
+    omega (arith, few, common, many, same, closed)
 
 -- The membrane in which a next solid fires, by its number: the solid is next where that membrane is asked first, too.
 pub record IsChosenAt (S S' : Region) (path : List ℕ) : Type 0 where

@@ -7,5 +7,8 @@ mod OneChain
 mod ChainOrWrong
 pub mod LineItems
 mod SmallMembranes
+mod SmallMarks
 mod FrameLemmas
 mod AlikeLemmas
+mod LeftOutLemmas
+mod FirstLines

@@ -1,8 +1,9 @@
-//! What two lines begin with alike.
-ghost use Rattle.std.specs.Prelude.{◌≡◌, ◌<◌, ◌≤◌, ◌+◌, ◌∷◌, List, [], ℕ, None, IfOk, IfSome, drop, length};
+//! What two lines begin with alike, and what they end with.
+ghost use Rattle.std.specs.Prelude.{◌≡◌, ◌<◌, ◌≤◌, ◌+◌, ◌∷◌, List, [], ℕ, None, IfOk, IfSome, drop, length, reverse};
 ghost use Rattle.lmn_receipt_chain.specs.Alike.{alike, blurred, times};
 
 use lmn_base::NoMemory;
+use std::alloc::Global;
 
 /// A byte of a text that is no digit, and the place behind it.
 #[derive(Clone, Copy)]
@@ -29,17 +30,38 @@ fn next_byte(text: &[u8], from: usize) -> Option<Found>
     None
 }
 
-/// A count that is greater by one where a byte is a brace that opens a membrane.
-fn counted(count: u64, byte: u8) -> Result<u64, NoMemory>
-    ensures { IfOk result (λ more. more ≡ count + times 123 (byte ∷ [])) }
+/// A count that is greater by one where a byte is the brace that is counted.
+fn counted(count: u64, byte: u8, brace: u8) -> Result<u64, NoMemory>
+    ensures { IfOk result (λ more. more ≡ count + times brace (byte ∷ [])) }
 {
-    if byte != b'{' {
+    if byte != brace {
         return Ok(count);
     }
     match count.checked_add(1) {
         Some(more) => Ok(more),
         None => Err(NoMemory),
     }
+}
+
+/// How often a brace is in what two texts begin with alike, but for digits.
+fn braces_alike(left: &[u8], right: &[u8], brace: u8) -> Result<u64, NoMemory>
+    ensures { IfOk result (λ count. count ≡ times brace (alike (blurred left.now) (blurred right.now))) }
+{
+    let mut count = 0u64;
+    let mut left_at = 0usize;
+    let mut right_at = 0usize;
+    while let Some(next) = next_byte(left, left_at) {
+        let Some(other) = next_byte(right, right_at) else {
+            return Ok(count);
+        };
+        if other.byte != next.byte {
+            return Ok(count);
+        }
+        count = counted(count, next.byte, brace)?;
+        left_at = next.behind;
+        right_at = other.behind;
+    }
+    Ok(count)
 }
 
 /// How many braces are opened in what two texts begin with alike, but for digits.
@@ -50,19 +72,28 @@ fn counted(count: u64, byte: u8) -> Result<u64, NoMemory>
 pub(crate) fn opened_alike(left: &[u8], right: &[u8]) -> Result<u64, NoMemory>
     ensures { IfOk result (λ opened. opened ≡ times 123 (alike (blurred left.now) (blurred right.now))) }
 {
-    let mut opened = 0u64;
-    let mut left_at = 0usize;
-    let mut right_at = 0usize;
-    while let Some(next) = next_byte(left, left_at) {
-        let Some(other) = next_byte(right, right_at) else {
-            return Ok(opened);
-        };
-        if other.byte != next.byte {
-            return Ok(opened);
-        }
-        opened = counted(opened, next.byte)?;
-        left_at = next.behind;
-        right_at = other.behind;
-    }
-    Ok(opened)
+    braces_alike(left, right, b'{')
+}
+
+/// The bytes of a text from the last one to the first.
+fn reversed(alloc: Global, text: &[u8]) -> Result<Vec<u8>, NoMemory>
+    ensures { IfOk result (λ back. back.items ≡ reverse text.now) }
+{
+    let mut back = Vec::new(alloc);
+    back.extend_from_slice(text)?;
+    back.reverse();
+    Ok(back)
+}
+
+/// How many braces are closed in what two texts end with alike, but for digits.
+///
+/// # Errors
+///
+/// `NoMemory` at want of memory, or where 64 bits don't count them.
+pub(crate) fn closed_alike(alloc: Global, left: &[u8], right: &[u8]) -> Result<u64, NoMemory>
+    ensures { IfOk result (λ closed. closed ≡ times 125 (alike (blurred (reverse left.now)) (blurred (reverse right.now)))) }
+{
+    let left = reversed(alloc, left)?;
+    let right = reversed(alloc, right)?;
+    braces_alike(left.as_slice(), right.as_slice(), b'}')
 }

@@ -1,6 +1,6 @@
 //! The laws of chains.
 
-ghost use Rattle.lmn_receipt_chain.specs.Examples.{CutShort, Empty, MembraneIsChosen, MoreBehind, NoEnd, NoFiring, NoGreaterReach, NoneIsMade, NothingContinues, NothingFires, NothingIsNext, TwoSolids, WrongWord};
+ghost use Rattle.lmn_receipt_chain.specs.Examples.{ChosenIsAsked, CutShort, Empty, FirstOfTwo, MembraneIsChosen, MoreBehind, NoEnd, NoFiring, NoGreaterReach, NoneIsMade, NotTheSecond, NothingContinues, NothingFires, NothingIsLeftOut, NothingIsNext, TwoSolids, WrongWord};
 ghost use Rattle.lmn_receipt_chain.specs.Laws.{ChainsAreCommits, ContinuesByCommit, NoTraceIsNeither, TracesAreChains, TracesAreOneOf};
 
 /// What is written of a trace that stops is a chain.
@@ -41,6 +41,14 @@ pub fn found_beside_a_text()
     ensures nothing { NothingIsNext }
     ensures reach { NoGreaterReach }
     ensures made { NoneIsMade }
+{}
+
+/// What the first line of a text is, and which membranes are left out beside a text.
+pub fn left_out_beside_a_text()
+    ensures first { FirstOfTwo }
+    ensures second { NotTheSecond }
+    ensures nothing { NothingIsLeftOut }
+    ensures chosen { ChosenIsAsked }
 {}
 
 /// A trace beside the solid of a plain isn't a chain and wrong, and is one of so many commits or at one line alone.

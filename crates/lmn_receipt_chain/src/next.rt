@@ -12,13 +12,14 @@ pub struct NextSolid {
 
 /// What gives next solids and knows lines of solids.
 pub trait NextSolids {
-    ghost use Rattle.std.specs.Prelude.{◌≡◌, ◌<◌, ◌≤◌, ◌++◌, ℕ, List, None, IsTrue, IsFalse, IfOk, IfSome, drop, length};
+    ghost use Rattle.std.specs.Prelude.{◌≡◌, ◌<◌, ◌≤◌, ◌++◌, ℕ, List, None, IsTrue, IsFalse, IfOk, IfSome, drop, length, map};
     ghost use Rattle.lmn_base.specs.declared.solid.Solid.{Solid};
     ghost use Rattle.lmn_congruence.specs.Regions.{Region};
     ghost use Rattle.lmn_adequacy.specs.Choice.{paths};
     ghost use Rattle.lmn_adequacy.specs.Embedding.{HasEmbedding};
+    ghost use Rattle.lmn_receipt_chain.specs.Bytes.{IsFirstLine};
     ghost use Rattle.lmn_receipt_chain.specs.Chains.{line_of_solid};
-    ghost use Rattle.lmn_receipt_chain.specs.Found.{IsNextFound};
+    ghost use Rattle.lmn_receipt_chain.specs.Found.{AreLeftOut, IsNextFound};
 
     /// What is made of a solid once, and lent to each question for a next one.
     type Tables: Drop;
@@ -40,18 +41,27 @@ pub trait NextSolids {
         requires { fits self.now solid.now }
         ensures { IfOk result (are_of self.now solid.now) };
 
+    /// How deep each membrane stands, in preorder: the root at 0.
+    fn depths(&self, alloc: Global, tables: &Self::Tables) -> Result<Vec<u64>, NoMemory>
+        requires { (solid : Solid) × fits self.now solid × are_of self.now solid tables.now }
+        ensures { (solid : Solid) → fits self.now solid → are_of self.now solid tables.now → IfOk result (λ depths. depths.items ≡ map length (paths (region self.now solid))) };
+
     /// The next solid where membranes are asked from a number on, wrapping round, unless it is found that a text doesn't begin with its
-    /// line; `None` where no rule of any membrane embeds.
+    /// line; `None` where no rule of any membrane embeds. `line` is the first line of the text, and what fires in a membrane that is left
+    /// out needn't be made.
     fn next_from(
         &self,
         alloc: Global,
         tables: &mut Self::Tables,
         from: u64,
         text: &[u8],
+        line: &[u8],
+        left_out: &[bool],
     ) -> Result<Option<NextSolid>, NoMemory>
-        requires { (solid : Solid) × fits self.now solid × are_of self.now solid tables.old × (from < length (paths (region self.now solid))) }
+        requires line { IsFirstLine text.now line.now }
+        requires asked { (solid : Solid) × fits self.now solid × are_of self.now solid tables.old × (from < length (paths (region self.now solid))) }
         ensures tables { (solid : Solid) → fits self.now solid → are_of self.now solid tables.old → are_of self.now solid tables.new }
-        ensures found { (solid : Solid) → fits self.now solid → are_of self.now solid tables.old →
+        ensures found { (solid : Solid) → fits self.now solid → are_of self.now solid tables.old → AreLeftOut (region self.now solid) text.now left_out.now →
             IfOk result (λ found. IfSome found (IsNextFound (fits self.now) (region self.now) (region self.now solid) from text.now)) }
         ensures none { (solid : Solid) → fits self.now solid → are_of self.now solid tables.old →
             IfOk result (λ found. found ≡ None → ¬ (HasEmbedding (region self.now solid))) };

@@ -2,11 +2,14 @@ ghost use Rattle.std.specs.Prelude.{◌≡◌, ◌<◌, ◌≤◌, ◌↔◌, �
 ghost use Rattle.lmn_congruence.specs.Regions.{Region};
 ghost use Rattle.lmn_adequacy.specs.Choice.{paths};
 ghost use Rattle.lmn_app_runs.specs.Runs.{end_line};
+ghost use Rattle.lmn_receipt_chain.specs.Bytes.{IsFirstLine};
 ghost use Rattle.lmn_receipt_chain.specs.Chains.{Continues, IsEndThere, IsProcessThere, line_of_solid};
 ghost use Rattle.lmn_receipt_chain.specs.Steps.{IsOtherEnd, IsStep};
 ghost use Rattle.lmn_receipt_chain.specs.Laws.{IsAcceptedSolid};
 
 use crate::alike::opened_alike;
+use crate::left_out::left_out;
+use crate::lines::first_line;
 use crate::next::NextSolids;
 use itoa::Buffer;
 use lmn_base::{NoMemory, Solid};
@@ -146,10 +149,12 @@ fn try_hint<N: NextSolids>(
     solids: &N,
     tables: &mut N::Tables,
     rest: &[u8],
+    first: &[u8],
     hint: u64,
     count: u64,
 ) -> Result<Option<Step>, NoMemory>
-    requires { (solid : Solid) × N.fits solids.now solid × N.are_of solids.now solid tables.old × (count ≡ length (paths (N.region solids.now solid))) }
+    requires first { IsFirstLine rest.now first.now }
+    requires asked { (solid : Solid) × N.fits solids.now solid × N.are_of solids.now solid tables.old × (count ≡ length (paths (N.region solids.now solid))) }
     ensures tables { (solid : Solid) → N.fits solids.now solid → N.are_of solids.now solid tables.old → N.are_of solids.now solid tables.new }
     ensures found { (solid : Solid) (commits : ℕ) → N.fits solids.now solid → N.are_of solids.now solid tables.old →
         IfOk result (λ found. IfSome found (IsStep (N.region solids.now) (N.fits solids.now) (N.region solids.now solid) rest.now commits)) }
@@ -157,7 +162,7 @@ fn try_hint<N: NextSolids>(
     if hint >= count {
         return Ok(None);
     }
-    match solids.next_from(alloc, tables, hint, rest)? {
+    match solids.next_from(alloc, tables, hint, rest, first, &[])? {
         None => Ok(None),
         Some(next) => fitting(alloc, solids, next.solid, rest),
     }
@@ -172,7 +177,8 @@ fn asked_of(count: u64, opened: u64) -> u64
 }
 
 /// What a process line is: that of a choice that fits, or wrong. The tables of the solid are made once for all its choices. A choice is left
-/// out where its membrane stands in the solid's own line behind all that the two lines begin with alike: a firing there changes nothing before it.
+/// out where its membrane stands in the solid's own line behind all that the two lines begin with alike, or before all that they end with
+/// alike: a firing there changes nothing of what stands round it.
 fn line<N: NextSolids>(
     alloc: Global,
     solids: &N,
@@ -187,16 +193,26 @@ fn line<N: NextSolids>(
     ensures { (commits : ℕ) → IfOk result (IsStep (N.region solids.now) (N.fits solids.now) (N.region solids.now solid.now) rest.now commits) }
 {
     let count = solids.membranes(alloc, solid)?;
-    let opened = opened_alike(own, rest)?;
-    let asked = asked_of(count, opened);
+    let first = first_line(rest);
     let hint = solids.hint(alloc, solid, rest)?;
     let mut tables = solids.tables(alloc, solid)?;
-    if let Some(found) = try_hint(alloc, solids, &mut tables, rest, hint, count)? {
+    if let Some(found) = try_hint(alloc, solids, &mut tables, rest, first, hint, count)? {
         return Ok(found);
     }
+    let opened = opened_alike(own, rest)?;
+    let asked = asked_of(count, opened);
+    let left_out = left_out(alloc, solids, &tables, own, rest, first)?;
     let mut from = 0u64;
     while from < asked {
-        let Some(next) = solids.next_from(alloc, &mut tables, from, rest)? else {
+        let Some(next) = solids.next_from(
+            alloc,
+            &mut tables,
+            from,
+            rest,
+            first,
+            left_out.as_slice(),
+        )?
+        else {
             return Ok(Step::WrongLine);
         };
         let reach = next.reach;

@@ -1,16 +1,14 @@
 -- The first firing, in the order in which membranes are asked, is the next one of the strategy.
-use Rattle.std.proofs.Common.{ℕ, ◌≡◌, ◌+◌, ◌<◌, ◌≤◌, inl, inr, List, ◌++◌, length, take, drop, sym, ap, subst, ◌∙◌, arith}
-use Rattle.std.specs.Prelude.{◌↔◌}
+use Rattle.std.proofs.Common.{ℕ, ◌≡◌, ◌+◌, ◌<◌, ◌≤◌, inl, inr, List, ◌∷◌, ◌++◌, Some, length, take, drop, refl, sym, ap, subst, ◌∙◌, arith}
+use Rattle.std.specs.Prelude.{◌↔◌, slice_get}
 use Rattle.std.specs.List.{range_with_len}
 use Rattle.std.proofs.lemmas.List.FromFn.{length-range_with_len}
-use Rattle.std.proofs.lemmas.Bool.{cases_lt}
 use Rattle.lmn_base.specs.Lists.{In}
 use Rattle.lmn_base.specs.declared.rule.Plain.{Plain}
 use Rattle.lmn_base.specs.declared.solid.Solid.{Solid}
 use Rattle.lmn_guards.specs.declared.plan.GuardPlan.{GuardPlan}
 use Rattle.lmn_store_heap.specs.Heap.{Heap, IsMem}
 use Rattle.lmn_store_heap.specs.Sound.{Forest, bare, mem, flat as preorder}
-use Rattle.lmn_store_heap.proofs.Trees.{is_mem}
 use Rattle.lmn_congruence.specs.Regions.{Region}
 use Rattle.lmn_congruence.specs.Rules.{Name}
 use Rattle.lmn_congruence.specs.Translation.{region_of}
@@ -19,17 +17,19 @@ use Rattle.lmn_adequacy.specs.Embedding.{HasEmbedding}
 use Rattle.lmn_adequacy_heaps.specs.HeapRegions.{HeapReading}
 use Rattle.lmn_adequacy_choices.specs.Turns.{heap_region}
 use Rattle.lmn_adequacy_choices.proofs.Numbers.{numbered_alike}
+use Rattle.lmn_adequacy_turns.specs.Turning.{Leads}
 use Rattle.lmn_solid_tables.specs.declared.flat.Flat.{Flat}
 use Rattle.lmn_solid_tables.specs.Flats.{FlatsAreRead, heap_of, reading_of}
-use Rattle.lmn_solid_tables.proofs.Preorder.{in_range, range_from}
-use Rattle.lmn_receipt_search.specs.Turns.{AskedAt, EmbedsThere, FiresIn, FiringsAreNext, NoneBefore}
+use Rattle.lmn_solid_tables.proofs.Preorder.{range_from}
+use Rattle.lmn_receipt_search.specs.Turns.{AskedAt, EmbedsThere, FiresIn, FiringsAreNext, NoneBefore, StandsAt}
 use Rattle.lmn_solid_next.specs.Asking.{IsSearched}
 use Rattle.lmn_solid_next.specs.Choosing.{IsFirst, NoneIn, numbers_of}
 use Rattle.lmn_solid_next.specs.Laws.{FirstIsChosen, NoneHasEmbedding}
 use Rattle.lmn_solid_next.specs.Firing.{SearchedRulesMayFire}
 use Rattle.lmn_solid_next.specs.Settling.{FlatsHaveRules}
 use Rattle.lmn_receipt_search.proofs.Asks.{read_with}
-use Rattle.lmn_receipt_search.proofs.Rounds.{reached, turn_of, turned}
+use Rattle.lmn_receipt_search.proofs.PathDepths.{as_many, at_number}
+use Rattle.lmn_receipt_search.proofs.Rounds.{get_range, reached, turn_of, turned}
 
 module _ (reads : FlatsAreRead) (have_rules : FlatsHaveRules) (may_fire : SearchedRulesMayFire) (names : List Name) (plain : Plain) (plans : List GuardPlan) (s : Solid) (flat : Flat) (w : IsSearched names plain plans s flat) (count : ℕ) (counts : (m : ℕ) → IsMem (heap_of flat) m ↔ (m < count)) where
   abbrev h : Heap
@@ -47,17 +47,8 @@ module _ (reads : FlatsAreRead) (have_rules : FlatsHaveRules) (may_fire : Search
   abbrev S : Region
   S = region_of names plain.rules s
 
-  below : (m : ℕ) → m < many → m < count
-  below m l = (counts m).0 (is_mem h w.is_flat.valid.sound (mem 0 inner bare) w.is_flat.tree m (subst (In m) (sym w.is_flat.preorder) (in_range m 0 many (omega arith) (omega (arith, l)))))
-
-  above : (m : ℕ) → m < count → m < many
-  above m l = let b = (range_from m 0 many (subst (In m) w.is_flat.preorder (w.is_flat.tree.all m ((counts m).1 l)))).1 in omega (arith, b)
-
   same : many ≡ count
-  same = elim (cases_lt many count) [
-    | inl l ↦ absurd (let b = above many l in omega (arith, b))
-    | inr g ↦ elim (cases_lt count many) [ inl l ↦ absurd (let b = below count l in omega (arith, b)) | inr k ↦ omega (arith, g, k) ]
-  ]
+  same = as_many s flat w.is_flat count counts
 
   in_order : preorder (mem 0 inner bare) ≡ range_with_len 0 count
   in_order = w.is_flat.preorder ∙ ap (range_with_len 0) same
@@ -86,18 +77,33 @@ module _ (reads : FlatsAreRead) (have_rules : FlatsHaveRules) (may_fire : Search
           least = u.fires.least;
         }
 
-    next_from : NextFrom k S next
+    next_from : (n : NextFrom k S next) × (n.path ≡ u.fires.path)
     next_from =
         let c = first_law plain.rules plans w.can.whole h r inner (read_with names plain plans s flat w reads have_rules may_fire) k m u.place u.rule u.plan u.fires.found is_first in
         let ns = numbers_of h u.rule u.plan u.fires.found in
-        let one = (numbered_alike h r inner w.is_flat.tree).one m c.path u.fires.path c.leads u.fires.leads in
-        record {
-          path = u.fires.path;
-          number = u.place;
-          positions = ns;
-          chosen = subst (λ (z : Region). ChosenFrom k z u.fires.path u.place ns) is_region (subst (λ p. ChosenFrom k (heap_region h r inner) p u.place ns) one c.chosen);
-          next = u.fires.next_at;
-        }
+        let one = (numbered_alike h r inner w.is_flat.tree).one m c.path u.fires.path c.leads u.fires.leads in (
+          record {
+            path = u.fires.path;
+            number = u.place;
+            positions = ns;
+            chosen = subst (λ (z : Region). ChosenFrom k z u.fires.path u.place ns) is_region (subst (λ p. ChosenFrom k (heap_region h r inner) p u.place ns) one c.chosen);
+            next = u.fires.next_at;
+          },
+          refl,
+        )
+
+  -- the membrane in which a rule fires has its own number among the paths
+  stands : (m : ℕ) (next : Region) (u : FiresIn names plain plans s flat m next) → StandsAt S u.fires.path m
+  stands m next u =
+      let alike = numbered_alike h r inner w.is_flat.tree in
+      let plain_number : 0 + m ≡ m = omega arith in
+      let x = at_number (λ path k. Leads h k path h.root) m m alike.numbers (ap (λ xs. slice_get xs m) in_order ∙ get_range 0 count m ((counts m).0 u.asked.there) ∙ ap (λ z. Some z) plain_number) in
+      record {
+        earlier = x.earlier;
+        later = x.later;
+        all = ap paths (sym is_region) ∙ x.all ∙ ap (λ z. x.earlier ++ z ∷ x.later) (alike.one m x.here u.fires.path x.related u.fires.leads);
+        number = x.number_is;
+      }
 
   -- Where nothing embeds in the membranes below one, and a rule of that one does, the strategy would choose that rule from the root on, so
   -- something embeds.
@@ -133,6 +139,7 @@ pub firings_are_next : FirstIsChosen → NoneHasEmbedding → FlatsAreRead → F
 firings_are_next first_law none_law reads have_rules may_fire = record {
   counted = λ names plain plans s flat w count counts. counted reads have_rules may_fire names plain plans s flat w count counts;
   next = λ names plain plans s flat w count counts from turn m f l a none next u k low high within. next_from reads have_rules may_fire names plain plans s flat w count counts first_law from turn m f l a none next u k low high within;
+  stands = λ names plain plans s flat w count counts m next u. stands reads have_rules may_fire names plain plans s flat w count counts m next u;
   embeds = λ names plain plans s flat w count counts m l none u. some_embeds reads have_rules may_fire names plain plans s flat w count counts first_law m l none u;
   none = λ names plain plans s flat w count counts from f none. none_embeds reads have_rules may_fire names plain plans s flat w count counts none_law from f none;
 }

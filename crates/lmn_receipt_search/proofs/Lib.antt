@@ -9,7 +9,8 @@ pub mod Beginning
 mod MadeItems
 mod Counted
 mod Sizing
+mod PathDepths
 mod QuietPieces
 mod QuietRules
 mod QuietRegions
-mod FirstLines
+mod NameFeeds

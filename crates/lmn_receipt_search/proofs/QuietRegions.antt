@@ -131,7 +131,7 @@ stops [] h = tt
 stops (p ∷ ps) h = (both p (word kind.Dot (codes ".") ∷ []) h.0 (word_first kind.Dot (codes ".") [] (unfed (codes ".") refl) tt), stops ps h.1)
 
 -- the line of such a solid has a line feed at its end alone
-line_written : (S : Region) → IsQuiet S → NoFeed (text_of (top_pieces (as_level S)))
+pub line_written : (S : Region) → IsQuiet S → NoFeed (text_of (top_pieces (as_level S)))
 line_written S h = joined (space ∷ []) (unfed (codes " ") refl) (map (λ i. i ++ word kind.Dot (codes ".") ∷ []) (level_pieces (as_level S))) (stops (level_pieces (as_level S)) (items_written S h))
 
 -- So where a text begins with it the first line of the text is it, and it has no more items than that line has bytes.

@@ -44,7 +44,7 @@ get_taken [] (suc n) j l = refl
 get_taken (x ∷ xs) (suc n) zero l = refl
 get_taken (x ∷ xs) (suc n) (suc j) l = get_taken xs n j (omega (arith, l))
 
-get_range : (s n k : ℕ) → k < n → slice_get (range_with_len s n) k ≡ Some (s + k)
+pub get_range : (s n k : ℕ) → k < n → slice_get (range_with_len s n) k ≡ Some (s + k)
 get_range s zero k l = absurd (omega (arith, l))
 get_range s (suc n) zero l = let e : s ≡ s + 0 = omega arith in ap (λ z. Some z) e
 get_range s (suc n) (suc k) l = let e : s + 1 + k ≡ s + suc k = omega arith in get_range (s + 1) n k (omega (arith, l)) ∙ ap (λ z. Some z) e

@@ -1,6 +1,5 @@
-//! Line feeds in names and texts.
-ghost use Rattle.std.specs.Prelude.{◌≡◌, ◌+◌, ◌++◌, ◌∷◌, ℕ, List, IsTrue, length};
-ghost use Rattle.lmn_receipt_chain.specs.Bytes.{NoFeed};
+//! Line feeds in names.
+ghost use Rattle.std.specs.Prelude.{◌≡◌, IsTrue};
 ghost use Rattle.lmn_receipt_search.specs.Feeds.{NamesWithout, has_feed};
 
 use lmn_base::Names;
@@ -31,16 +30,4 @@ pub(crate) fn are_without(names: &Names) -> bool
         }
     }
     true
-}
-
-/// The length of the first line of a text, with its line feed.
-pub(crate) fn line_length(text: &[u8]) -> usize
-    ensures { (line more : List ℕ) → NoFeed line → text.now ≡ line ++ (10 ∷ more) → result ≡ length line + 1 }
-{
-    for at in 0..text.len() {
-        if text[at] == b'\n' {
-            return at + 1;
-        }
-    }
-    text.len()
 }

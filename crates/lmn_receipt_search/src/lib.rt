@@ -3,6 +3,7 @@
 //! What is asked of a plain and a solid stands in `specs/Searching` of `lmn_solid_next`; of this crate's own `specs` private functions speak.
 #![tactic(auto)]
 
+mod depths;
 mod feeds;
 mod laws;
 mod next;

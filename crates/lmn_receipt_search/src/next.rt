@@ -1,5 +1,5 @@
 //! The next solid.
-ghost use Rattle.std.specs.Prelude.{◌≡◌, ◌<◌, ◌≤◌, ℕ, List, IfOk, IfSome, IsFalse, IsTrue, None, length};
+ghost use Rattle.std.specs.Prelude.{◌≡◌, ◌<◌, ◌≤◌, ℕ, List, false, IfOk, IfSome, IsFalse, IsTrue, None, get_or, length};
 ghost use Rattle.lmn_congruence.specs.Rules.{Name};
 ghost use Rattle.lmn_congruence.specs.Translation.{region_of};
 ghost use Rattle.lmn_adequacy.specs.Choice.{NextFrom, paths};
@@ -30,7 +30,7 @@ use std::alloc::Global;
 impl SearchTables {
     /// The solid after the firing that the strategy chooses, where membranes are asked from a number on, wrapping round, with the last number
     /// of a membrane, from the given one on, from which it is the same; `None` where no rule of any membrane embeds. Where it is found to have
-    /// more items than the limit it isn't made. `plans` has the plan of each rule.
+    /// more items than the limit, or to fire in a membrane that is left out, it isn't made. `plans` has the plan of each rule.
     ///
     /// # Errors
     ///
@@ -42,10 +42,11 @@ impl SearchTables {
         plans: &[GuardPlan],
         from: u64,
         limit: u64,
+        left_out: &[bool],
     ) -> Result<Option<NextSolid>, NoMemory>
         requires { (names : List Name) × (s : Solid) × CanSearch names plain.now plans.now × IsSolidBy names plain.now s × AreSearchTables s self.old × (from < length (paths (region_of names plain.now.rules s))) }
         ensures tables { (s : Solid) → AreSearchTables s self.old → AreSearchTables s self.new }
-        ensures found { (names : List Name) (s : Solid) → CanSearch names plain.now plans.now → IsSolidBy names plain.now s → AreSearchTables s self.old → IfOk result (λ found. IfSome found (IsFoundWithin names plain.now s from limit)) }
+        ensures found { (names : List Name) (s : Solid) → CanSearch names plain.now plans.now → IsSolidBy names plain.now s → AreSearchTables s self.old → IfOk result (λ found. IfSome found (IsFoundWithin names plain.now s from limit left_out.now)) }
         ensures none { (names : List Name) (s : Solid) → CanSearch names plain.now plans.now → IsSolidBy names plain.now s → AreSearchTables s self.old →
             IfOk result (λ found. found ≡ None → ¬ (HasEmbedding (region_of names plain.now.rules s))) }
     {
@@ -58,7 +59,29 @@ impl SearchTables {
             plans,
             from,
             limit,
+            left_out,
         )
+    }
+}
+
+/// Whether a membrane is left out.
+fn is_left_out(left_out: &[bool], membrane: usize) -> bool
+    ensures { result ≡ get_or left_out.now membrane false }
+{
+    match left_out.get(membrane) {
+        Some(is) => *is,
+        None => false,
+    }
+}
+
+/// The limit of items in a membrane: 0 in one that is left out, so that hardly any solid is made.
+fn limit_in(left_out: &[bool], membrane: usize, limit: u64) -> u64
+    ensures { IsFalse (get_or left_out.now membrane false) → result ≡ limit }
+{
+    if is_left_out(left_out, membrane) {
+        0
+    } else {
+        limit
     }
 }
 
@@ -72,12 +95,13 @@ fn next_among(
     plans: &[GuardPlan],
     from: u64,
     limit: u64,
+    left_out: &[bool],
 ) -> Result<Option<NextSolid>, NoMemory>
     requires searched { (names : List Name) × (s : Solid) × IsSearched names plain.now plans.now s flat.now × (from < length (paths (region_of names plain.now.rules s))) }
     requires sizes { AreSizes (heap_of flat.now) sizes.now.of.items }
     requires room { HasRoom (heap_of flat.now) room.old }
     ensures room { HasRoom (heap_of flat.now) room.new }
-    ensures found { (names : List Name) (s : Solid) → IsSearched names plain.now plans.now s flat.now → IfOk result (λ found. IfSome found (IsFoundWithin names plain.now s from limit)) }
+    ensures found { (names : List Name) (s : Solid) → IsSearched names plain.now plans.now s flat.now → IfOk result (λ found. IfSome found (IsFoundWithin names plain.now s from limit left_out.now)) }
     ensures none { (names : List Name) (s : Solid) → IsSearched names plain.now plans.now s flat.now → IfOk result (λ found. found ≡ None → ¬ (HasEmbedding (region_of names plain.now.rules s))) }
 {
     firings_are_next();
@@ -85,7 +109,8 @@ fn next_among(
     let start = from as usize;
     for turn in 0..count {
         let membrane = asked_at(start, turn, count);
-        let fired = fire_in(alloc, flat, sizes, plain, plans, membrane, room, limit)?;
+        let most = limit_in(left_out, membrane, limit);
+        let fired = fire_in(alloc, flat, sizes, plain, plans, membrane, room, most)?;
         if let Some(firing) = fired {
             let reach = reach_of(start, turn, count);
             return Ok(Some(NextSolid {
@@ -147,7 +172,7 @@ pub fn next_of(
 {
     let plans = plans_of(alloc, plain.rules.as_slice())?;
     let mut tables = SearchTables::of(alloc, solid)?;
-    let next = tables.next_from(alloc, plain, plans.as_slice(), from, u64::MAX)?;
+    let next = tables.next_from(alloc, plain, plans.as_slice(), from, u64::MAX, &[])?;
     match next {
         Some(found) => {
             let made = made_of(found.solid)?;

@@ -1,5 +1,6 @@
 //! Next solids of the rules of a plain.
-use crate::feeds::{are_without, line_length};
+use crate::depths::depths_of;
+use crate::feeds::are_without;
 use crate::next::embeds;
 use crate::tables::SearchTables;
 use lmn_base::{Names, NoMemory, Plain, Solid};
@@ -19,8 +20,9 @@ pub struct PlainSearch<'p> {
 }
 
 impl<'p> PlainSearch<'p> {
-    ghost use Rattle.std.specs.Prelude.{◌≡◌, ◌≤◌, ◌++◌, ℕ, List, IsTrue};
+    ghost use Rattle.std.specs.Prelude.{◌≡◌, ◌≤◌, ◌++◌, ℕ, List, false, IsTrue, get_or};
     ghost use Rattle.lmn_congruence.specs.Regions.{Region, item_count_of_region};
+    ghost use Rattle.lmn_receipt_chain.specs.Bytes.{IsFirstLine};
     ghost use Rattle.lmn_receipt_chain.specs.Chains.{line_of_solid};
     ghost use Rattle.lmn_receipt_search.specs.Feeds.{IsQuiet, NamesWithout};
 
@@ -39,15 +41,28 @@ impl<'p> PlainSearch<'p> {
         }
     }
 
-    /// How many items a solid has at most with whose line a text begins: a line has a byte for each at least.
-    fn most_items(&self, text: &[u8]) -> u64
-        requires { IsTrue self.now.without_feeds → NamesWithout self.now.names.now }
+    /// How many items a solid has at most with whose line a text begins: a line has a byte for each at least. `line` is the first one of the text.
+    fn most_items(&self, text: &[u8], line: &[u8]) -> u64
+        requires line { IsFirstLine text.now line.now }
+        requires names { IsTrue self.now.without_feeds → NamesWithout self.now.names.now }
         ensures { (S : Region) (more : List ℕ) → (NamesWithout self.now.names.now → IsQuiet S) → text.now ≡ line_of_solid S ++ more → item_count_of_region S ≤ result }
     {
         if self.without_feeds {
-            line_length(text) as u64
+            line.len() as u64
         } else {
             text.len() as u64
+        }
+    }
+
+    /// The membranes that are left out; none where it isn't known where a line ends.
+    fn passed<'l>(&self, left_out: &'l [bool]) -> &'l [bool]
+        requires { IsTrue self.now.without_feeds → NamesWithout self.now.names.now }
+        ensures { (m : ℕ) → IsTrue (get_or result.now m false) → NamesWithout self.now.names.now × IsTrue (get_or left_out.now m false) }
+    {
+        if self.without_feeds {
+            left_out
+        } else {
+            &left_out[..0]
         }
     }
 }
@@ -75,15 +90,22 @@ impl NextSolids for PlainSearch<'_> {
         SearchTables::of(alloc, solid)
     }
 
+    fn depths(&self, alloc: Global, tables: &SearchTables) -> Result<Vec<u64>, NoMemory> {
+        depths_of(alloc, &tables.flat)
+    }
+
     fn next_from(
         &self,
         alloc: Global,
         tables: &mut SearchTables,
         from: u64,
         text: &[u8],
+        line: &[u8],
+        left_out: &[bool],
     ) -> Result<Option<NextSolid>, NoMemory> {
-        let limit = self.most_items(text);
-        tables.next_from(alloc, self.plain, self.plans, from, limit)
+        let limit = self.most_items(text, line);
+        let passed = self.passed(left_out);
+        tables.next_from(alloc, self.plain, self.plans, from, limit, passed)
     }
 
     fn embeds(&self, alloc: Global, solid: &Solid) -> Result<bool, NoMemory> {

@@ -1,4 +1,4 @@
-use Rattle.std.proofs.Common.{◌∙◌, ◌<◌, arith, refl, sym}
+use Rattle.std.proofs.Common.{◌∙◌, arith, refl, sym}
 use Rattle.std.proofs.lemmas.Option.{slice_get-get_or}
 use Rattle.lmn_receipt_chain.proofs.AlikeLemmas.{at_byte, at_digit, at_end}
 use Rattle.lmn_receipt_chain.proofs.alike.next_byte.Goals as goal

@@ -1,14 +1,17 @@
-use Rattle.std.proofs.Common.{arith}
+use Rattle.std.proofs.Common.{arith, subst, sym}
 use Rattle.lmn_base.proofs.Lists.{holds_of_item}
-use Rattle.lmn_receipt_chain.specs.Found.{IsNextFound}
+use Rattle.lmn_receipt_chain.specs.Found.{AreLeftOut, IsNextFound}
 use Rattle.lmn_receipt_chain.proofs.WalkLemmas.{all_tried, next_continues, next_fits, next_tried, nothing_fits}
 use Rattle.lmn_receipt_chain.proofs.walk.line.Goals as goal
 
-pub try_hint-requires : goal.try_hint-requires
-try_hint-requires g c = (c.args.solid.now, c.requires.fits, c.in_ok-tables.ensures, c.in_ok-count.ensures)
+pub try_hint-requires-clause-asked : goal.try_hint-requires-clause-asked
+try_hint-requires-clause-asked g c = (c.args.solid.now, c.requires.fits, c.in_ok-tables.ensures, c.in_ok-count.ensures)
 
-pub next_from-requires : goal.next_from-requires
-next_from-requires g c =
+pub left_out-requires-clause-asked : goal.left_out-requires-clause-asked
+left_out-requires-clause-asked g c = (c.args.solid.now, c.requires.fits, c.in_ok-found.ensures.tables c.args.solid.now c.requires.fits c.in_ok-tables.ensures)
+
+pub next_from-requires-clause-asked : goal.next_from-requires-clause-asked
+next_from-requires-clause-asked g c =
     let count = c.in_ok-count.ensures in
     let inside = c.loop-from-test.true in
     let few = c.asked_of-asked.ensures.few in
@@ -20,7 +23,9 @@ fitting-requires g c =
     let region = g.N.NextSolids.region c.args.solids.now in
     record {
       fits = next_fits fits region (region c.args.solid.now) c.loop-from.from c.args.rest.now c.in-Some-2.next
-          (holds_of_item (IsNextFound fits region (region c.args.solid.now) c.loop-from.from c.args.rest.now) c.in_ok-next.field-0 c.in-Some-2.next c.in-Some-2.is (c.in_ok-next.ensures.found c.args.solid.now c.requires.fits c.loop-from.invariant.tables));
+          (holds_of_item (IsNextFound fits region (region c.args.solid.now) c.loop-from.from c.args.rest.now) c.in_ok-next.field-0 c.in-Some-2.next c.in-Some-2.is (c.in_ok-next.ensures.found c.args.solid.now c.requires.fits c.loop-from.invariant.tables
+          (subst (AreLeftOut (region c.args.solid.now) c.args.rest.now) (sym c.as_slice.ensures.value)
+          (c.in_ok-left_out.ensures c.args.solid.now c.requires.fits (c.in_ok-found.ensures.tables c.args.solid.now c.requires.fits c.in_ok-tables.ensures) c.requires.own))));
     }
 
 pub loop-from-init : goal.loop-from-init
@@ -30,7 +35,9 @@ pub loop-from-preserved : goal.loop-from-preserved
 loop-from-preserved g c =
     let fits = g.N.NextSolids.fits c.args.solids.now in
     let region = g.N.NextSolids.region c.args.solids.now in
-    let found = holds_of_item (IsNextFound fits region (region c.args.solid.now) c.loop-from.from c.args.rest.now) c.in_ok-next.field-0 c.in-Some-2.next c.in-Some-2.is (c.in_ok-next.ensures.found c.args.solid.now c.requires.fits c.loop-from.invariant.tables) in
+    let found = holds_of_item (IsNextFound fits region (region c.args.solid.now) c.loop-from.from c.args.rest.now) c.in_ok-next.field-0 c.in-Some-2.next c.in-Some-2.is (c.in_ok-next.ensures.found c.args.solid.now c.requires.fits c.loop-from.invariant.tables
+    (subst (AreLeftOut (region c.args.solid.now) c.args.rest.now) (sym c.as_slice.ensures.value)
+    (c.in_ok-left_out.ensures c.args.solid.now c.requires.fits (c.in_ok-found.ensures.tables c.args.solid.now c.requires.fits c.in_ok-tables.ensures) c.requires.own))) in
     record {
       tables = c.in_ok-next.ensures.tables c.args.solid.now c.requires.fits c.loop-from.invariant.tables;
       tried = next_tried fits region (region c.args.solid.now) c.loop-from.from c.args.rest.now c.in-Some-2.next found c.requires.sound c.loop-from.invariant.tried (c.in_ok-found-2.ensures.none c.in_default-3.is);
@@ -56,5 +63,7 @@ pub returns-in-Some-3 : goal.returns-in-Some-3
 returns-in-Some-3 g c = λ commits.
     let fits = g.N.NextSolids.fits c.args.solids.now in
     let region = g.N.NextSolids.region c.args.solids.now in
-    let found = holds_of_item (IsNextFound fits region (region c.args.solid.now) c.loop-from.from c.args.rest.now) c.in_ok-next.field-0 c.in-Some-2.next c.in-Some-2.is (c.in_ok-next.ensures.found c.args.solid.now c.requires.fits c.loop-from.invariant.tables) in
+    let found = holds_of_item (IsNextFound fits region (region c.args.solid.now) c.loop-from.from c.args.rest.now) c.in_ok-next.field-0 c.in-Some-2.next c.in-Some-2.is (c.in_ok-next.ensures.found c.args.solid.now c.requires.fits c.loop-from.invariant.tables
+    (subst (AreLeftOut (region c.args.solid.now) c.args.rest.now) (sym c.as_slice.ensures.value)
+    (c.in_ok-left_out.ensures c.args.solid.now c.requires.fits (c.in_ok-found.ensures.tables c.args.solid.now c.requires.fits c.in_ok-tables.ensures) c.requires.own))) in
     rw c.in-Some-3.is at (c.in_ok-found-2.ensures.some (region c.args.solid.now) commits (next_continues fits region (region c.args.solid.now) c.loop-from.from c.args.rest.now c.in-Some-2.next found))

@@ -1,5 +1,5 @@
 use Rattle.std.proofs.Common.{◌∙◌, arith, sym}
-use Rattle.lmn_receipt_search.proofs.FirstLines.{all_without, without_more}
+use Rattle.lmn_receipt_search.proofs.NameFeeds.{all_without, without_more}
 use Rattle.lmn_receipt_search.proofs.QuietPieces.{unfed}
 use Rattle.lmn_receipt_search.proofs.feeds.are_without.Goals as goal
 

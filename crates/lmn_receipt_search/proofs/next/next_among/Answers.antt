@@ -25,9 +25,9 @@ pub returns-in-Some-clause-found : goal.returns-in-Some-clause-found
 returns-in-Some-clause-found c names s w =
     let q = c.requires.searched in
     let from = one_of_count c.firings_are_next.ensures q.0 c.args.plain.now c.args.plans.now q.1 c.args.flat.now q.2 c.membrane_count-count.result c.membrane_count-count.ensures.count c.args.from q.3 in
-    let fires = holds_of_item (λ firing. FiresInWithin names c.args.plain.now c.args.plans.now s c.args.flat.now c.asked_at-membrane.result c.args.limit firing.solid) c.in_ok-fired.fired c.in-Some.firing c.in-Some.is (c.in_ok-fired.ensures.some names s w) in
+    let fires = holds_of_item (λ firing. FiresInWithin names c.args.plain.now c.args.plans.now s c.args.flat.now c.asked_at-membrane.result c.limit_in-most.result firing.solid) c.in_ok-fired.fired c.in-Some.firing c.in-Some.is (c.in_ok-fired.ensures.some names s w) in
     found_within c.firings_are_next.ensures names c.args.plain.now c.args.plans.now s c.args.flat.now w c.membrane_count-count.result c.membrane_count-count.ensures.count
-    c.args.from c.loop-turn.turn c.asked_at-membrane.result c.reach_of-reach.result from c.loop-turn-test.true c.asked_at-membrane.ensures c.loop-turn.invariant.none c.args.limit c.in-Some.firing.solid fires c.reach_of-reach.ensures.0 c.reach_of-reach.ensures.1 c.reach_of-reach.ensures.2
+    c.args.from c.loop-turn.turn c.asked_at-membrane.result c.reach_of-reach.result from c.loop-turn-test.true c.asked_at-membrane.ensures c.loop-turn.invariant.none c.args.limit c.limit_in-most.result c.args.left_out.now c.limit_in-most.ensures c.in-Some.firing.solid fires c.reach_of-reach.ensures.0 c.reach_of-reach.ensures.1 c.reach_of-reach.ensures.2
 
 pub loop-turn-preserved : goal.loop-turn-preserved
 loop-turn-preserved c = record {

@@ -15,14 +15,14 @@ next_from-requires c =
 pub returns-in-Some-clause-by : goal.returns-in-Some-clause-by
 returns-in-Some-clause-by c names plans can by =
     let made = by_made_slice names c.args.plain.now plans c.as_slice.result.now c.in_ok-plans.plans c.as_slice-2.result.now c.as_slice.ensures c.as_slice-2.ensures can c.in_ok-plans.ensures in
-    let found = holds_of_item (IsFoundWithin names c.args.plain.now c.args.solid.now c.args.from _) c.in_ok-next.next c.in-Some.found c.in-Some.is (c.in_ok-next.ensures.found names c.args.solid.now made by c.in_ok-tables.ensures) in
-    (made_is names c.args.plain.now c.args.solid.now c.args.from _ c.in-Some.found found c.in_ok-made-in-Some.made c.in_ok-made-in-Some.ensures).0
+    let found = holds_of_item (IsFoundWithin names c.args.plain.now c.args.solid.now c.args.from _ _) c.in_ok-next.next c.in-Some.found c.in-Some.is (c.in_ok-next.ensures.found names c.args.solid.now made by c.in_ok-tables.ensures) in
+    (made_is names c.args.plain.now c.args.solid.now c.args.from _ _ c.in-Some.found found c.in_ok-made-in-Some.made c.in_ok-made-in-Some.ensures).0
 
 pub returns-in-Some-clause-next : goal.returns-in-Some-clause-next
 returns-in-Some-clause-next c names plans can by =
     let made = by_made_slice names c.args.plain.now plans c.as_slice.result.now c.in_ok-plans.plans c.as_slice-2.result.now c.as_slice.ensures c.as_slice-2.ensures can c.in_ok-plans.ensures in
-    let found = holds_of_item (IsFoundWithin names c.args.plain.now c.args.solid.now c.args.from _) c.in_ok-next.next c.in-Some.found c.in-Some.is (c.in_ok-next.ensures.found names c.args.solid.now made by c.in_ok-tables.ensures) in
-    (made_is names c.args.plain.now c.args.solid.now c.args.from _ c.in-Some.found found c.in_ok-made-in-Some.made c.in_ok-made-in-Some.ensures).1
+    let found = holds_of_item (IsFoundWithin names c.args.plain.now c.args.solid.now c.args.from _ _) c.in_ok-next.next c.in-Some.found c.in-Some.is (c.in_ok-next.ensures.found names c.args.solid.now made by c.in_ok-tables.ensures) in
+    (made_is names c.args.plain.now c.args.solid.now c.args.from _ _ c.in-Some.found found c.in_ok-made-in-Some.made c.in_ok-made-in-Some.ensures).1
 
 pub returns-clause-none : goal.returns-clause-none
 returns-clause-none c names plans can by e =

@@ -1,33 +1,9 @@
--- The first line of a text, and names without a line feed.
-use Rattle.std.proofs.Common.{ℕ, zero, suc, ◌≡◌, ◌∙◌, ◌+◌, ◌<◌, ◌≤◌, inl, inr, List, [], ◌∷◌, ◌++◌, Some, length, refl, sym, ap, subst, arith, slice_get}
+-- The first line of a text.
+use Rattle.std.proofs.Common.{ℕ, zero, suc, ◌≡◌, ◌∙◌, ◌+◌, ◌≤◌, inl, inr, List, [], ◌∷◌, ◌++◌, Some, length, take, refl, sym, ap, arith, slice_get}
 use Rattle.std.proofs.lemmas.Bool.{cases_lt}
 use Rattle.std.proofs.lemmas.List.{length-append}
 use Rattle.std.proofs.lemmas.Option.{same_Some}
-use Rattle.lmn_congruence.specs.Rules.{Name}
-use Rattle.lmn_receipt_chain.specs.Bytes.{NoFeed}
-use Rattle.lmn_receipt_search.specs.Feeds.{NamesWithout}
-
--- ---- names
-
--- the names below a number have none
-abbrev pub WithoutBelow : List Name → ℕ → Type 0
-WithoutBelow names k = (n : ℕ) (name : Name) → n < k → slice_get names n ≡ Some name → NoFeed name
-
-pub without_more : (names : List Name) (k : ℕ) (text : Name) → WithoutBelow names k → slice_get names k ≡ Some text → NoFeed text → WithoutBelow names (k + 1)
-without_more names k text old is none n name l e = elim (cases_lt n k) [
-  | inl below ↦ old n name below e
-  | inr past ↦ (let same : n ≡ k = omega (arith, l, past) in subst NoFeed (same_Some text name (sym is ∙ ap (slice_get names) (sym same) ∙ e)) none)
-]
-
-there : (names : List Name) (n : ℕ) (name : Name) → slice_get names n ≡ Some name → n < length names
-there [] n name e = absurd (cc)
-there (x ∷ xs) zero name e = omega arith
-there (x ∷ xs) (suc n) name e = let l = there xs n name e in omega (arith, l)
-
-pub all_without : (names : List Name) (k : ℕ) → length names ≤ k → WithoutBelow names k → NamesWithout names
-all_without names k past none n name e = let l = there names n name e in none n name (omega (arith, l, past)) e
-
--- ---- the first line
+use Rattle.lmn_receipt_chain.specs.Bytes.{IsFirstLine, NoFeed}
 
 at_end : (line more : List ℕ) (at : ℕ) → NoFeed line → at ≤ length line → slice_get (line ++ (10 ∷ more)) at ≡ Some 10 → at ≡ length line
 at_end [] more zero quiet l e = refl
@@ -62,3 +38,14 @@ goes_on text at byte is other before line more quiet e = elim (cases_lt at (leng
 pub no_end : (text : List ℕ) (at : ℕ) → length text ≤ at → ((line more : List ℕ) → NoFeed line → text ≡ line ++ (10 ∷ more) → at ≤ length line)
     → (line more : List ℕ) → NoFeed line → text ≡ line ++ (10 ∷ more) → length text ≡ length line + 1
 no_end text at past before line more quiet e = let l = before line more quiet e in absurd (omega (arith, l, past, ap length e, length-append line (10 ∷ more)))
+
+-- So the front of the text before so many bytes is its first line.
+taken : (front more : List ℕ) → take (suc (length front)) (front ++ (10 ∷ more)) ≡ front ++ 10 ∷ []
+taken [] more = refl
+taken (b ∷ bs) more = ap (λ z. b ∷ z) (taken bs more)
+
+pub is_first : (text : List ℕ) (len : ℕ) → ((line more : List ℕ) → NoFeed line → text ≡ line ++ (10 ∷ more) → len ≡ length line + 1) → IsFirstLine text (take len text)
+is_first text len ends front more quiet is =
+    let many = ends front more quiet is in
+    let all : len ≡ suc (length front) = omega (arith, many) in
+    (λ i. take (all i) (is i)) ∙ taken front more
