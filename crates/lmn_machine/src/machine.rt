@@ -21,11 +21,21 @@ use std::alloc::Global;
 use std::sync::ledger::Ledger;
 
 /// A store, and the registers that hold the match that was found last.
-#[derive(Drop)]
 pub struct Machine<S: LinkStore> {
     pub(crate) store: S,
     pub(crate) set: SetRegisters<S::Atom, S::Mem>,
     reasons: Reasons,
+}
+
+// By hand, so that no crate above proves anew how a machine is freed.
+impl<S: LinkStore + Drop> Drop for Machine<S> {
+    fn drop(self) {
+        let Machine {
+            store: _,
+            set: _,
+            reasons: _,
+        } = self;
+    }
 }
 
 impl<S: LinkStore + Drop> Machine<S> {
@@ -63,7 +73,12 @@ impl<S: LinkStore> Machine<S> {
     pub fn into_store(self) -> S
         ensures { result ≡ self.store }
     {
-        self.store
+        let Machine {
+            store,
+            set: _,
+            reasons: _,
+        } = self;
+        store
     }
 
     /// The registers that are set.
