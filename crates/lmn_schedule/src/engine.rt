@@ -39,7 +39,6 @@ use std::alloc::Global;
 use std::sync::ledger::Ledger;
 
 /// A process in a store, with the rules that make it react.
-#[derive(Drop)]
 pub struct Engine<'p, S: LinkStore, F> {
     plain: &'p Plain,
     codes: Codes,
@@ -48,6 +47,20 @@ pub struct Engine<'p, S: LinkStore, F> {
     /// The most items that a commit may leave.
     size: u64,
     commits: u64,
+}
+
+// By hand, so that no crate above proves anew how an engine is freed.
+impl<'p, S: LinkStore + Drop, F: Drop> Drop for Engine<'p, S, F> {
+    fn drop(self) {
+        let Engine {
+            plain: _,
+            codes: _,
+            machine: _,
+            chooser: _,
+            size: _,
+            commits: _,
+        } = self;
+    }
 }
 
 impl<'p, S: LinkStore + Drop, F: Fn(u64, u64) -> u64 + Drop> Engine<'p, S, F> {
@@ -196,7 +209,15 @@ impl<'p, S: LinkStore, F: Fn(u64, u64) -> u64> Engine<'p, S, F> {
     pub fn into_store(self) -> S
         ensures { result ≡ self.entry.machine.store }
     {
-        self.machine.into_store()
+        let Engine {
+            plain: _,
+            codes: _,
+            machine,
+            chooser: _,
+            size: _,
+            commits: _,
+        } = self;
+        machine.into_store()
     }
 
     /// The store, to be changed. The engine then holds it as it was left.
