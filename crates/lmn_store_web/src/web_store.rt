@@ -27,7 +27,6 @@ use std::marker::Model;
 
 /// A store that keeps its items in a web: atoms and membranes are cells, and what is detached or taken stands in
 /// the lists of a cell of its own, which doesn't file atoms by class.
-#[derive(Drop)]
 pub struct WebStore {
     web: MergingWeb,
     // The rules of membranes. The label of a membrane is the place of its own, and the key by which the index knows it.
@@ -45,6 +44,25 @@ pub struct WebStore {
     atom_count: u64,
     mem_count: u64,
     spare_count: u64,
+}
+
+// By hand, so that a crate above calls this and proves nothing of how a store is freed.
+impl Drop for WebStore {
+    fn drop(self) {
+        let WebStore {
+            web: _,
+            rules: _,
+            mems: _,
+            index: _,
+            root: _,
+            waiting: _,
+            gone: _,
+            by_value: _,
+            atom_count: _,
+            mem_count: _,
+            spare_count: _,
+        } = self;
+    }
 }
 
 impl Model for WebStore {
