@@ -12,11 +12,17 @@ use std::marker::Model;
 
 /// A store that is another one, and keeps the number of atoms with a functor once it was asked for it. A call costs what the other
 /// store's costs, and no memory more.
-#[derive(Drop)]
 pub struct CountingStore<S: LinkStore> {
     store: S,
     // The count that was asked for last. Only what comes into a membrane or leaves one changes it.
     tally: Option<Tally>,
+}
+
+// By hand, so that a crate above calls this and proves nothing of how a store is freed.
+impl<S: LinkStore + Drop> Drop for CountingStore<S> {
+    fn drop(self) {
+        let CountingStore { store: _, tally: _ } = self;
+    }
 }
 
 impl<S: LinkStore> Model for CountingStore<S> {
