@@ -46,9 +46,15 @@ pub enum Stop {
 }
 
 /// An engine that is led by commands. Its store counts, so that an order to wait doesn't count anew at each turn.
-#[derive(Drop)]
 pub struct Session<'p, S: LinkStore, F> {
     engine: Engine<'p, CountingStore<S>, F>,
+}
+
+// By hand, so that each function that drops a session holds one call for it.
+impl<'p, S: LinkStore + Drop, F: Drop> Drop for Session<'p, S, F> {
+    fn drop(self) {
+        let Session { engine: _ } = self;
+    }
 }
 
 impl<'p, S: LinkStore + Drop, F: Fn(u64, u64) -> u64 + Drop> Session<'p, S, F> {
