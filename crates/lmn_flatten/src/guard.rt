@@ -26,9 +26,9 @@ fn condition(glossary: &Glossary, node: &CondNode) -> Result<Cond, NoMemory>
 {
     match node {
         CondNode::Kind { name, args } => {
-            let args = contexts(glossary, args.as_slice())?;
             let pos = glossary.place(*name)?;
             let name = glossary.name(*name)?;
+            let args = contexts(glossary, args.as_slice())?;
             Ok(Cond::Kind { name, args, pos })
         }
         CondNode::Compare {
@@ -37,9 +37,9 @@ fn condition(glossary: &Glossary, node: &CondNode) -> Result<Cond, NoMemory>
             right,
             sign,
         } => {
+            let pos = glossary.place(*sign)?;
             let left = expression(glossary, left)?;
             let right = expression(glossary, right)?;
-            let pos = glossary.place(*sign)?;
             Ok(Cond::Compare {
                 op: *op,
                 left,
@@ -49,8 +49,8 @@ fn condition(glossary: &Glossary, node: &CondNode) -> Result<Cond, NoMemory>
         }
         CondNode::Equal { left, right, sign } => {
             let left = glossary.context(*left)?;
-            let right = expression(glossary, right)?;
             let pos = glossary.place(*sign)?;
+            let right = expression(glossary, right)?;
             Ok(Cond::Equal { left, right, pos })
         }
         CondNode::Differ { left, right, sign } => {

@@ -24,12 +24,30 @@ pub(crate) fn copied(alloc: Global, scope: &mut Scope, kept: &Part) -> Result<Pa
     count_leaves(&mut counts, kept.leaves.as_slice());
     count_levels(&mut counts, kept.membranes.as_slice());
     let links = freshened(alloc, scope, counts.as_slice())?;
+    copied_part(alloc, links.as_slice(), kept)
+}
+
+/// A copy of a part in which each link is the new one for it.
+fn copied_part(alloc: Global, links: &[u32], part: &Part) -> Result<Part, NoMemory>
+    ensures { IfOk result (λ copy. copy ≡ record {
+      leaves = map (renumbered_leaf (new_link links.now)) part.now.leaves;
+      membranes = map (renumbered (new_link links.now)) part.now.membranes;
+      contexts = part.now.contexts;
+      rule_contexts = part.now.rule_contexts;
+      rules = part.now.rules;
+    }) }
+{
+    let leaves = copied_leaves(alloc, links, part.leaves.as_slice())?;
+    let membranes = copied_levels(alloc, links, part.membranes.as_slice())?;
+    let contexts = Rows::copied(alloc, part.contexts.as_slice())?;
+    let rule_contexts = Rows::copied(alloc, part.rule_contexts.as_slice())?;
+    let rules = Rows::copied(alloc, part.rules.as_slice())?;
     Ok(Part {
-        leaves: copied_leaves(alloc, links.as_slice(), kept.leaves.as_slice())?,
-        membranes: copied_levels(alloc, links.as_slice(), kept.membranes.as_slice())?,
-        contexts: Rows::copied(alloc, kept.contexts.as_slice())?,
-        rule_contexts: Rows::copied(alloc, kept.rule_contexts.as_slice())?,
-        rules: Rows::copied(alloc, kept.rules.as_slice())?,
+        leaves,
+        membranes,
+        contexts,
+        rule_contexts,
+        rules,
     })
 }
 

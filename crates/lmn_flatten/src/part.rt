@@ -14,7 +14,6 @@ use lmn_base::{CtxUse, Functor, Label, Leaf, Level, NoMemory, Occ, Pos, Rows};
 use std::alloc::Global;
 
 /// What stands in a level that isn't whole yet.
-#[derive(Drop)]
 pub(crate) struct Part {
     /// The atoms and the typed contexts.
     pub(crate) leaves: Rows<Leaf>,
@@ -26,6 +25,19 @@ pub(crate) struct Part {
     pub(crate) rule_contexts: Rows<CtxUse>,
     /// The rules, by their numbers in the table.
     pub(crate) rules: Rows<u32>,
+}
+
+// By hand, so that each exit of a function that holds a part has one call for it.
+impl Drop for Part {
+    fn drop(self) {
+        let Part {
+            leaves: _,
+            membranes: _,
+            contexts: _,
+            rule_contexts: _,
+            rules: _,
+        } = self;
+    }
 }
 
 impl Part {
@@ -46,12 +58,19 @@ impl Part {
     pub(crate) fn into_level(self) -> Level
         ensures { (names : List Name) (keys : List Link) (p : Parts) → IsPartOfLevel names (IsKey keys) p self → IsLevel names (IsKey keys) (level_from_parts p) result }
     {
+        let Part {
+            leaves,
+            membranes,
+            contexts,
+            rule_contexts,
+            rules,
+        } = self;
         Level {
-            leaves: self.leaves,
-            membranes: self.membranes,
-            contexts: self.contexts,
-            rule_contexts: self.rule_contexts,
-            rules: self.rules,
+            leaves,
+            membranes,
+            contexts,
+            rule_contexts,
+            rules,
         }
     }
 
