@@ -24,10 +24,16 @@ struct Numbered {
 /// Contracts see the list of the codes.
 /// Whether an instruction stands in the pool is guessed by a table of the two registers, and then looked up: so
 /// nothing has to hold of the table.
-#[derive(Drop)]
 pub struct Codes {
     pool: Pool,
     codes: Rows<Numbered>,
+}
+
+// By hand, so that a crate above calls this and proves nothing of how codes are freed.
+impl Drop for Codes {
+    fn drop(self) {
+        let Codes { pool: _, codes: _ } = self;
+    }
 }
 
 impl Model for Codes {
