@@ -1,9 +1,9 @@
 //! Words of the form as `clap` reads them.
 ghost use Rattle.std.specs.Prelude.{◌≡◌, ◌↔◌, IfOk, false, IfSome, IsSome, OnErr, Some, option_and_then, option_map, unwrap_or};
-ghost use Rattle.clap.specs.Words.{App, found_of, rows_of, rule_of, subcommand_rows_of};
+ghost use Rattle.clap.specs.Words.{App, found_of, new_app, rows_of, rule_of, subcommand_rows_of, with_rule, with_subcommand};
 ghost use Rattle.lmn_app_words.specs.Forms.{Asks, InForm, IsInRanges, Pair, Request, Run, request_of, run_of, to_pair};
 ghost use Rattle.lmn_app_words.specs.Hearing.{number_written, order_named};
-ghost use Rattle.lmn_app_words.specs.Parsing.{FoundIsRequest, IsLineOfCommand, Tells, bare_line, compile_line, demo_line, flag_rule, option_rule, pair_line, required_rule, run_line, single_lines, whole_line, with_options, with_pair};
+ghost use Rattle.lmn_app_words.specs.Parsing.{FoundIsRequest, IsLineOfCommand, Tells, bare_line, flag_rule, option_rule, pair_line, required_rule, run_line, single_lines, whole_line, with_options, with_pair};
 
 use crate::command::{Command, PairKind, RunSettings, RunWords};
 use crate::reading::in_form;
@@ -60,10 +60,10 @@ fn matches_of<'w>(alloc: Global, words: &'w [String]) -> Result<ArgMatches<'w>, 
 fn whole_line<'w>(alloc: Global) -> Result<clap::Command<'w>, AllocError>
     ensures { IfOk result (λ line. IsLineOfCommand line whole_line) }
 {
-    let single = single_lines(alloc)?;
-    let with_check = with_pair(alloc, single, "check")?;
-    let with_debug = with_pair(alloc, with_check, "debug")?;
-    let with_exec = with_pair(alloc, with_debug, "exec")?;
+    let with_single = single_lines(alloc);
+    let with_check = with_pair(alloc, with_single, "check");
+    let with_debug = with_pair(alloc, with_check, "debug");
+    let with_exec = with_pair(alloc, with_debug, "exec");
     with_pair(alloc, with_exec, "bound")
 }
 
@@ -71,10 +71,9 @@ fn whole_line<'w>(alloc: Global) -> Result<clap::Command<'w>, AllocError>
 fn single_lines<'w>(alloc: Global) -> Result<clap::Command<'w>, AllocError>
     ensures { IfOk result (λ line. IsLineOfCommand line single_lines) }
 {
-    let run = run_line(alloc)?;
-    let with_run = bare_line(alloc).subcommand(run)?;
-    let with_compile = with_run.subcommand(compile_line(alloc)?)?;
-    with_compile.subcommand(demo_line(alloc)?)
+    let with_run = with_command(bare_line(alloc), run_line(alloc));
+    let with_compile = with_word(alloc, with_run, "compile", "file");
+    with_word(alloc, with_compile, "demo", "number")
 }
 
 /// The command line without commands. Help, version and the program's name are switched off, since no word of the form asks
@@ -89,59 +88,108 @@ fn bare_line<'w>(alloc: Global) -> clap::Command<'w>
         .subcommand_required(true)
 }
 
+/// A command line with one more command. `with_word` and `with_pair` take a line that there may be no memory for, so that
+/// a line is let go of here alone.
+fn with_command<'w>(
+    line: clap::Command<'w>,
+    command: Result<clap::Command<'w>, AllocError>,
+) -> Result<clap::Command<'w>, AllocError>
+    ensures { (app sub : App) → IsLineOfCommand line.entry app → IfOk command.entry (λ command. IsLineOfCommand command sub) → IfOk result (λ line. IsLineOfCommand line (with_subcommand app sub.top)) }
+{
+    let command = command?;
+    line.subcommand(command)
+}
+
+/// A command line with one more command that takes one word.
+fn with_word<'w>(
+    alloc: Global,
+    line: Result<clap::Command<'w>, AllocError>,
+    name: &'w str,
+    word: &'w str,
+) -> Result<clap::Command<'w>, AllocError>
+    ensures { (app : App) → IfOk line.entry (λ line. IsLineOfCommand line app)
+            → IfOk result (λ line. IsLineOfCommand line (with_subcommand app (with_rule (new_app name.entry.now) (required_rule word.entry.now)).top)) }
+{
+    let line = line?;
+    with_command(line, word_line(alloc, name, word))
+}
+
 /// A command line with one more command that takes a program and a second text.
 fn with_pair<'w>(
     alloc: Global,
-    line: clap::Command<'w>,
+    line: Result<clap::Command<'w>, AllocError>,
     name: &'w str,
 ) -> Result<clap::Command<'w>, AllocError>
-    ensures { (app : App) → IsLineOfCommand line.entry app → IfOk result (λ line. IsLineOfCommand line (with_pair app name.entry.now)) }
+    ensures { (app : App) → IfOk line.entry (λ line. IsLineOfCommand line app) → IfOk result (λ line. IsLineOfCommand line (with_pair app name.entry.now)) }
 {
-    line.subcommand(pair_line(alloc, name)?)
+    let line = line?;
+    with_command(line, pair_line(alloc, name))
 }
 
 /// The words of `run`.
 fn run_line<'w>(alloc: Global) -> Result<clap::Command<'w>, AllocError>
     ensures { IfOk result (λ line. IsLineOfCommand line run_line) }
 {
-    let line = clap::Command::new(alloc, "run")
-        .arg(required(alloc, "file"))?
-        .arg(flag(alloc, "trace"))?
-        .arg(flag(alloc, "folded"))?;
-    with_options(alloc, line)
+    let with_file = word_line(alloc, "run", "file");
+    let with_trace = with_flag(alloc, with_file, "trace");
+    let with_folded = with_flag(alloc, with_trace, "folded");
+    with_options(alloc, with_folded)
 }
 
 /// A command line with the options of `run` that have a value.
-fn with_options<'w>(alloc: Global, line: clap::Command<'w>) -> Result<clap::Command<'w>, AllocError>
-    ensures { (app : App) → IsLineOfCommand line.entry app → IfOk result (λ line. IsLineOfCommand line (with_options app)) }
+fn with_options<'w>(
+    alloc: Global,
+    line: Result<clap::Command<'w>, AllocError>,
+) -> Result<clap::Command<'w>, AllocError>
+    ensures { (app : App) → IfOk line.entry (λ line. IsLineOfCommand line app) → IfOk result (λ line. IsLineOfCommand line (with_options app)) }
 {
-    line.arg(option(alloc, "budget"))?
-        .arg(option(alloc, "size"))?
-        .arg(option(alloc, "order"))?
-        .arg(option(alloc, "seed"))
-}
-
-/// The words of `compile`.
-fn compile_line<'w>(alloc: Global) -> Result<clap::Command<'w>, AllocError>
-    ensures { IfOk result (λ line. IsLineOfCommand line compile_line) }
-{
-    clap::Command::new(alloc, "compile").arg(required(alloc, "file"))
-}
-
-/// The words of `demo`.
-fn demo_line<'w>(alloc: Global) -> Result<clap::Command<'w>, AllocError>
-    ensures { IfOk result (λ line. IsLineOfCommand line demo_line) }
-{
-    clap::Command::new(alloc, "demo").arg(required(alloc, "number"))
+    let with_budget = with_option(alloc, line, "budget");
+    let with_size = with_option(alloc, with_budget, "size");
+    let with_order = with_option(alloc, with_size, "order");
+    with_option(alloc, with_order, "seed")
 }
 
 /// The words of a command with a program and a second text.
 fn pair_line<'w>(alloc: Global, name: &'w str) -> Result<clap::Command<'w>, AllocError>
     ensures { IfOk result (λ line. IsLineOfCommand line (pair_line name.entry.now)) }
 {
-    clap::Command::new(alloc, name)
-        .arg(required(alloc, "first"))?
-        .arg(required(alloc, "last"))
+    let line = word_line(alloc, name, "first")?;
+    line.arg(required(alloc, "last"))
+}
+
+/// A command with one word that has to stand there.
+fn word_line<'w>(
+    alloc: Global,
+    name: &'w str,
+    word: &'w str,
+) -> Result<clap::Command<'w>, AllocError>
+    ensures { IfOk result (λ line. IsLineOfCommand line (with_rule (new_app name.entry.now) (required_rule word.entry.now))) }
+{
+    clap::Command::new(alloc, name).arg(required(alloc, word))
+}
+
+/// A command line with one more option without a value.
+fn with_flag<'w>(
+    alloc: Global,
+    line: Result<clap::Command<'w>, AllocError>,
+    name: &'w str,
+) -> Result<clap::Command<'w>, AllocError>
+    ensures { (app : App) → IfOk line.entry (λ line. IsLineOfCommand line app) → IfOk result (λ line. IsLineOfCommand line (with_rule app (flag_rule name.entry.now))) }
+{
+    let line = line?;
+    line.arg(flag(alloc, name))
+}
+
+/// A command line with one more option with a value.
+fn with_option<'w>(
+    alloc: Global,
+    line: Result<clap::Command<'w>, AllocError>,
+    name: &'w str,
+) -> Result<clap::Command<'w>, AllocError>
+    ensures { (app : App) → IfOk line.entry (λ line. IsLineOfCommand line app) → IfOk result (λ line. IsLineOfCommand line (with_rule app (option_rule name.entry.now))) }
+{
+    let line = line?;
+    line.arg(option(alloc, name))
 }
 
 /// A word that has to stand there.

@@ -1,9 +1,10 @@
-use Rattle.std.proofs.lemmas.Result.{IfOk-weaker}
-use Rattle.lmn_app_words.proofs.LineLemmas.{command_more}
+use Rattle.std.specs.Prelude.{codes}
+use Rattle.clap.specs.Words.{with_subcommand}
+use Rattle.lmn_app_words.specs.Parsing.{bare_line, compile_line, run_line}
 use Rattle.lmn_app_words.proofs.parsing.single_lines.Goals as goal
 
 pub returns : goal.returns
 returns c =
-    let run = command_more _ _ _ _ _ c.in_ok-with_run.ensures c.bare_line.ensures c.in_ok-run.ensures in
-    let compile = command_more _ _ _ _ _ c.in_ok-with_compile.ensures run c.in_ok-compile_line.ensures in
-    IfOk-weaker c.subcommand-3.result _ _ (λ line adds. command_more _ _ line _ _ adds compile c.in_ok-demo_line.ensures) c.subcommand-3.ensures
+    let run = c.with_command-with_run.ensures bare_line run_line c.bare_line.ensures c.run_line.ensures in
+    let compile = c.with_word-with_compile.ensures (with_subcommand bare_line run_line.top) run in
+    c.with_word.ensures (with_subcommand (with_subcommand bare_line run_line.top) compile_line.top) compile

@@ -1,6 +1,8 @@
-use Rattle.std.proofs.lemmas.Result.{IfOk-weaker}
-use Rattle.lmn_app_words.proofs.LineLemmas.{command_more}
+use Rattle.std.proofs.lemmas.Result.{IfOk-at_ok}
+use Rattle.lmn_app_words.specs.Parsing.{IsLineOfCommand, pair_line}
 use Rattle.lmn_app_words.proofs.parsing.with_pair.Goals as goal
 
 pub returns : goal.returns
-returns c = λ app is. IfOk-weaker c.subcommand.result _ _ (λ line adds. command_more _ _ line _ _ adds is c.in_ok-pair_line.ensures) c.subcommand.ensures
+returns c = λ app is.
+    let line = IfOk-at_ok (λ line. IsLineOfCommand line app) c.in_ok-line.was is in
+    c.with_command.ensures app (pair_line c.args.name.now) line c.pair_line.ensures
