@@ -1,6 +1,13 @@
 ghost use Rattle.std.specs.Prelude.{◌≡◌, ◌≤◌, ◌<◌, ◌-◌, ◌^◌, ℕ, List, Some};
 ghost use Rattle.lmn_schedule_loading.specs.Loaded.{IsEmpty};
+ghost use Rattle.lmn_adequacy.specs.Runs.{Chooser as Choices};
+ghost use Rattle.lmn_app_drive.specs.Driving.{Drove, OfEachInput};
+ghost use Rattle.lmn_io.specs.Counts.{FailedLast, NoneFailed};
+ghost use Rattle.lmn_order.specs.Answers.{AnswersBelow};
 ghost use Rattle.lmn_order.specs.Orders.{chosen};
+ghost use Rattle.lmn_schedule.specs.Held.{EngineCanTurn};
+ghost use Rattle.lmn_schedule.specs.Turning.{Gives};
+ghost use Rattle.lmn_store_heap.specs.Heap.{Heap};
 ghost use Rattle.lmn_app_single.specs.Outcomes.{Ended};
 ghost use Rattle.lmn_app_single.specs.Runnings.{ended_as};
 ghost use Rattle.lmn_app_single.specs.Texts.{Accepts};
@@ -13,7 +20,7 @@ use lmn_app_drive::{RunEnd, RunOptions, drive};
 use lmn_app_reading::Accepted;
 use lmn_app_runs::{plains_are_printable, traces_are_runs};
 use lmn_app_words::RunSettings;
-use lmn_base::{Names, NoMemory, Pos, Refusal, RefusalCode};
+use lmn_base::{Names, NoMemory, Plain, Pos, Refusal, RefusalCode};
 use lmn_io::Sink;
 use lmn_machine::Steps;
 use lmn_order::Chooser;
@@ -100,27 +107,50 @@ fn run_in<S: LinkStore + Drop, O: Sink, L: Ledger>(
         settings.size,
     ) {
         Ok(engine) => {
-            let mut engine = engine;
-            let mut steps = Steps::<L>::new(blank);
             let options = RunOptions {
                 trace: settings.trace,
                 folded: settings.folded,
                 budget: settings.budget,
             };
-            let end = drive(
+            let end = drive_whole::<_, _, _, L>(
                 alloc,
-                &mut engine,
+                engine,
                 &accepted.plain,
                 names,
                 &options,
                 out,
-                &mut steps,
+                blank,
             );
             ending_of(end)
         }
         Err(LoadFault::Size(_)) => Ending::Refused(TOO_LARGE),
         Err(LoadFault::NoMemory) => Ending::NoMemory,
     }
+}
+
+/// Drives an engine until it stops, and lets it go: here alone, since that is dear to prove beside anything else.
+fn drive_whole<S: LinkStore + Drop, F: Fn(u64, u64) -> u64 + Drop, O: Sink, L: Ledger>(
+    alloc: Global,
+    engine: Engine<'_, S, F>,
+    plain: &Plain,
+    names: &Names,
+    options: &RunOptions,
+    out: &mut O,
+    blank: Blank,
+) -> RunEnd
+    requires run { EngineCanTurn (S.heap engine.machine.store) plain.now.rules engine.codes engine.size × (engine.plain.now ≡ plain.now) × (engine.commits ≡ 0) }
+    requires chooser { AnswersBelow F.pre F.post engine.chooser.f }
+    requires budget { options.now.budget ≤ 2 ^ 63 - 1 }
+    requires name { blank.name ≡ L.name }
+    requires parts { blank.parts ≡ L.parts }
+    requires some { 0 < blank.parts }
+    ensures drove { let e = engine.entry in (c : Choices) → Gives F.post e.chooser.f c → (n : ℕ) × (h : Heap)
+        × OfEachInput names.now plain.now.rules (S.heap e.machine.store) e.size options.now (λ g. Drove (g c) n h result (O.told out.old) (O.told out.new)) }
+    ensures faults { (¬ (result ≡ RunEnd.Failed) → NoneFailed (O.faults out.old) (O.faults out.new)) × (result ≡ RunEnd.Failed → FailedLast (O.faults out.old) (O.faults out.new)) }
+{
+    let mut engine = engine;
+    let mut steps = Steps::<L>::new(blank);
+    drive(alloc, &mut engine, plain, names, options, out, &mut steps)
 }
 
 /// How a call ends whose run ended so.

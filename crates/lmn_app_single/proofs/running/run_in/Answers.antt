@@ -26,26 +26,26 @@ returns-in-Ok g c text before after a =
     let plans = c.args.accepted.now.plans in
     let settings = c.args.settings.now in
     let engine = c.in-Ok.engine in
-    let n = c.drive-end.new.engine.commits in
-    let h = g.S.LinkStore.heap c.drive-end.new.engine.machine.store in
-    let end = c.drive-end.result in
+    let end = c.drive_whole-end.result in
     let old = g.O.Sink.told c.args.out.now in
-    let new = g.O.Sink.told c.drive-end.new.out in
+    let new = g.O.Sink.told c.drive_whole-end.new.out in
     let count = g.O.Sink.faults c.args.out.now in
-    let count' = g.O.Sink.faults c.drive-end.new.out in
+    let count' = g.O.Sink.faults c.drive_whole-end.new.out in
     let laws : Laws = record { accepted = c.accepted_texts.ensures; printable = c.plains_are_printable.ensures; runs = c.traces_are_runs.ensures } in
     let held = c.in-Ok.ensures.holds names (well_named c.accepted_texts.ensures text names plain plans a.named a.accepted) in
     let from = held.from in
-    let D : Region → ℕ → Type 0 = λ S size. Drove (given_by_engine names plain.rules size (record { trace = settings.trace; folded = settings.folded; budget = settings.budget }) (chosen settings.order) S) n h end old new in
     let keeps = c.in-Ok.ensures.keeps.1 in
     let same = c.new-chooser.ensures.same in
-    let drove : D held.solid engine.size =
-    c.drive-end.ensures.drove (chosen settings.order)
-    (λ t m r t_is m_is some answer. answer.0 ∙ (λ i. chosen (keeps i).f.0.now t m) ∙ (λ i. chosen (same i).0.now t m)) held.solid held.holds in
+    let whole = c.drive_whole-end.ensures.drove (chosen settings.order)
+        (λ t m r t_is m_is some answer. answer.0 ∙ (λ i. chosen (keeps i).f.0.now t m) ∙ (λ i. chosen (same i).0.now t m)) in
+    let n = whole.0 in
+    let h = whole.1 in
+    let D : Region → ℕ → Type 0 = λ S size. Drove (given_by_engine names plain.rules size (record { trace = settings.trace; folded = settings.folded; budget = settings.budget }) (chosen settings.order) S) n h end old new in
+    let drove : D held.solid engine.size = whole.2 held.solid held.holds in
     let first = subst (λ S. D S engine.size) from.2 drove in
     let driven = subst (D (solid_of names plain from.0)) c.in-Ok.ensures.keeps.2 first in
     subst (λ ending. Ended (task.Run settings) ending (Some (Some text)) old new count count' before after) (sym c.ending_of.ensures)
-    (driven_ended c.args.alloc laws settings text names plain plans a from.0 from.1 (c.in-Ok.ensures.fits from.0 from.1) names n h end old new count count' before after driven c.drive-end.ensures.faults.0 c.drive-end.ensures.faults.1)
+    (driven_ended c.args.alloc laws settings text names plain plans a from.0 from.1 (c.in-Ok.ensures.fits from.0 from.1) names n h end old new count count' before after driven c.drive_whole-end.ensures.faults.0 c.drive_whole-end.ensures.faults.1)
 
 pub returns-in-Err-Size : goal.returns-in-Err-Size
 returns-in-Err-Size g c text before after a =
@@ -57,5 +57,5 @@ returns-in-Err-Size g c text before after a =
     too_large_ended c.args.settings.now text names plain plans c.in-Err-Size.field-0-0 a can.made can.closed causes
     (g.O.Sink.told c.args.out.now) (g.O.Sink.faults c.args.out.now) before after
 
-pub drive-end-requires-clause-run : goal.drive-end-requires-clause-run
-drive-end-requires-clause-run g c = (c.in-Ok.ensures.run.0, c.in-Ok.ensures.keeps.0, c.in-Ok.ensures.keeps.3)
+pub drive_whole-end-requires-clause-run : goal.drive_whole-end-requires-clause-run
+drive_whole-end-requires-clause-run g c = (c.in-Ok.ensures.run.0, c.in-Ok.ensures.keeps.0, c.in-Ok.ensures.keeps.3)
