@@ -128,10 +128,10 @@ fn run_in<S: LinkStore + Drop, O: Sink, L: Ledger>(
     }
 }
 
-/// Drives an engine until it stops, and lets it go: here alone, since that is dear to prove beside anything else.
+/// Drives an engine until it stops, and lets it go.
 fn drive_whole<S: LinkStore + Drop, F: Fn(u64, u64) -> u64 + Drop, O: Sink, L: Ledger>(
     alloc: Global,
-    engine: Engine<'_, S, F>,
+    mut engine: Engine<'_, S, F>,
     plain: &Plain,
     names: &Names,
     options: &RunOptions,
@@ -148,7 +148,6 @@ fn drive_whole<S: LinkStore + Drop, F: Fn(u64, u64) -> u64 + Drop, O: Sink, L: L
         × OfEachInput names.now plain.now.rules (S.heap e.machine.store) e.size options.now (λ g. Drove (g c) n h result (O.told out.old) (O.told out.new)) }
     ensures faults { (¬ (result ≡ RunEnd.Failed) → NoneFailed (O.faults out.old) (O.faults out.new)) × (result ≡ RunEnd.Failed → FailedLast (O.faults out.old) (O.faults out.new)) }
 {
-    let mut engine = engine;
     let mut steps = Steps::<L>::new(blank);
     drive(alloc, &mut engine, plain, names, options, out, &mut steps)
 }

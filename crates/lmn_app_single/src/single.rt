@@ -7,7 +7,7 @@ ghost use Rattle.lmn_app_single.specs.Requests.{IsInRange, asked_program, folded
 ghost use Rattle.lmn_app_single.specs.Runnings.{EndsUnread};
 ghost use Rattle.lmn_app_single.specs.Seen.{shelf_seen, sink_seen};
 ghost use Rattle.lmn_app_single.specs.Singles.{ActedSo, IsAnsweredSingle};
-ghost use Rattle.lmn_app_single.specs.Texts.{text_bytes};
+ghost use Rattle.lmn_app_single.specs.Texts.{Accepts, text_bytes};
 ghost use Rattle.lmn_app_single.specs.Writing.{IsTextOf, told_under};
 ghost use Rattle.lmn_app_single.specs.declared.task.Task.{Task};
 ghost use Rattle.lmn_app_words.specs.Forms.{Asks, IsInRanges, request_of};
@@ -18,7 +18,7 @@ use crate::demo::demo_text;
 use crate::ending::Ending;
 use crate::running::run;
 use crate::task::{DEMO, Task};
-use lmn_app_reading::read;
+use lmn_app_reading::{Accepted, read};
 use lmn_app_words::{Command, PairWords};
 use lmn_base::{Names, Pos, Refusal, RefusalCode, Rows, TextFault};
 use lmn_io::{FetchFault, Fetched, Shelf, Sink};
@@ -164,11 +164,27 @@ fn perform_on<O: Sink>(alloc: Global, task: Task, text: &[u8], out: &mut O) -> E
 {
     let mut names = Names::with_key(alloc, &Sha256::digest(text));
     match read(alloc, text, &mut names) {
-        Ok(accepted) => match task {
-            Task::Run(settings) => run(alloc, &accepted, &names, &settings, out),
-            Task::List => compile(alloc, &accepted, &names, out),
-        },
+        Ok(accepted) => perform_accepted(alloc, task, &accepted, &names, out),
         Err(TextFault::Refused(refusal)) => Ending::Refused(refusal),
         Err(TextFault::NoMemory) => Ending::NoMemory,
+    }
+}
+
+/// Does with an accepted text what is to be done.
+fn perform_accepted<O: Sink>(
+    alloc: Global,
+    task: Task,
+    accepted: &Accepted,
+    names: &Names,
+    out: &mut O,
+) -> Ending
+    requires accepted { (text : List ℕ) × Accepts text names.now accepted.now.plain accepted.now.plans }
+    requires range { IsInRange task }
+    ensures { (text : List ℕ) (before after : ℕ) → Accepts text names.now accepted.now.plain accepted.now.plans →
+        Ended task result (Some (Some text)) (O.told out.old) (O.told out.new) (O.faults out.old) (O.faults out.new) before after }
+{
+    match task {
+        Task::Run(settings) => run(alloc, accepted, names, &settings, out),
+        Task::List => compile(alloc, accepted, names, out),
     }
 }

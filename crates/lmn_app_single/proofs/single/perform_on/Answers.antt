@@ -6,30 +6,14 @@ use Rattle.lmn_app_single.proofs.single.perform_on.Goals as goal
 pub read-requires : goal.read-requires
 read-requires g c = record { room = omega (arith, ap length c.with_key-names.ensures, c.requires.short) }
 
-pub run-requires-clause-accepted : goal.run-requires-clause-accepted
-run-requires-clause-accepted g c =
+pub perform_accepted-requires-clause-accepted : goal.perform_accepted-requires-clause-accepted
+perform_accepted-requires-clause-accepted g c =
     (c.args.text.now, read_accepts c.args.text.now c.with_key-names.result c.read.new.names c.in-Ok.accepted.plain c.in-Ok.accepted.plans c.requires.short c.with_key-names.ensures c.in-Ok.ensures.names c.in-Ok.ensures.reads)
-
-pub run-requires-clause-size : goal.run-requires-clause-size
-run-requires-clause-size g c = (rw c.in-Run.is at c.requires.range).0
-
-pub run-requires-clause-budget : goal.run-requires-clause-budget
-run-requires-clause-budget g c = (rw c.in-Run.is at c.requires.range).1
-
-pub returns-in-Run : goal.returns-in-Run
-returns-in-Run g c = λ before after.
-    let accepts = read_accepts c.args.text.now c.with_key-names.result c.read.new.names c.in-Ok.accepted.plain c.in-Ok.accepted.plans c.requires.short c.with_key-names.ensures c.in-Ok.ensures.names c.in-Ok.ensures.reads in
-    rw c.in-Run.is (c.run.ensures c.args.text.now before after accepts)
-
-pub compile-requires : goal.compile-requires
-compile-requires g c = record {
-  accepted = (c.args.text.now, read_accepts c.args.text.now c.with_key-names.result c.read.new.names c.in-Ok.accepted.plain c.in-Ok.accepted.plans c.requires.short c.with_key-names.ensures c.in-Ok.ensures.names c.in-Ok.ensures.reads);
-}
 
 pub returns-in-Ok : goal.returns-in-Ok
 returns-in-Ok g c = λ before after.
     let accepts = read_accepts c.args.text.now c.with_key-names.result c.read.new.names c.in-Ok.accepted.plain c.in-Ok.accepted.plans c.requires.short c.with_key-names.ensures c.in-Ok.ensures.names c.in-Ok.ensures.reads in
-    rw c.in-List.is (c.compile.ensures c.args.text.now before after accepts)
+    c.perform_accepted.ensures c.args.text.now before after accepts
 
 pub returns-in-Err-Refused : goal.returns-in-Err-Refused
 returns-in-Err-Refused g c = λ before after.
