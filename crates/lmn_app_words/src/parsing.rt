@@ -96,8 +96,10 @@ fn with_command<'w>(
 ) -> Result<clap::Command<'w>, AllocError>
     ensures { (app sub : App) → IsLineOfCommand line.entry app → IfOk command.entry (λ command. IsLineOfCommand command sub) → IfOk result (λ line. IsLineOfCommand line (with_subcommand app sub.top)) }
 {
-    let command = command?;
-    line.subcommand(command)
+    match command {
+        Ok(command) => line.subcommand(command),
+        Err(AllocError) => Err(AllocError),
+    }
 }
 
 /// A command line with one more command that takes one word.
@@ -108,10 +110,12 @@ fn with_word<'w>(
     word: &'w str,
 ) -> Result<clap::Command<'w>, AllocError>
     ensures { (app : App) → IfOk line.entry (λ line. IsLineOfCommand line app)
-            → IfOk result (λ line. IsLineOfCommand line (with_subcommand app (with_rule (new_app name.entry.now) (required_rule word.entry.now)).top)) }
+        → IfOk result (λ line. IsLineOfCommand line (with_subcommand app (with_rule (new_app name.entry.now) (required_rule word.entry.now)).top)) }
 {
-    let line = line?;
-    with_command(line, word_line(alloc, name, word))
+    match line {
+        Ok(line) => with_command(line, word_line(alloc, name, word)),
+        Err(AllocError) => Err(AllocError),
+    }
 }
 
 /// A command line with one more command that takes a program and a second text.
@@ -122,8 +126,10 @@ fn with_pair<'w>(
 ) -> Result<clap::Command<'w>, AllocError>
     ensures { (app : App) → IfOk line.entry (λ line. IsLineOfCommand line app) → IfOk result (λ line. IsLineOfCommand line (with_pair app name.entry.now)) }
 {
-    let line = line?;
-    with_command(line, pair_line(alloc, name))
+    match line {
+        Ok(line) => with_command(line, pair_line(alloc, name)),
+        Err(AllocError) => Err(AllocError),
+    }
 }
 
 /// The words of `run`.
@@ -153,8 +159,10 @@ fn with_options<'w>(
 fn pair_line<'w>(alloc: Global, name: &'w str) -> Result<clap::Command<'w>, AllocError>
     ensures { IfOk result (λ line. IsLineOfCommand line (pair_line name.entry.now)) }
 {
-    let line = word_line(alloc, name, "first")?;
-    line.arg(required(alloc, "last"))
+    match word_line(alloc, name, "first") {
+        Ok(line) => line.arg(required(alloc, "last")),
+        Err(AllocError) => Err(AllocError),
+    }
 }
 
 /// A command with one word that has to stand there.
@@ -176,8 +184,10 @@ fn with_flag<'w>(
 ) -> Result<clap::Command<'w>, AllocError>
     ensures { (app : App) → IfOk line.entry (λ line. IsLineOfCommand line app) → IfOk result (λ line. IsLineOfCommand line (with_rule app (flag_rule name.entry.now))) }
 {
-    let line = line?;
-    line.arg(flag(alloc, name))
+    match line {
+        Ok(line) => line.arg(flag(alloc, name)),
+        Err(AllocError) => Err(AllocError),
+    }
 }
 
 /// A command line with one more option with a value.
@@ -188,8 +198,10 @@ fn with_option<'w>(
 ) -> Result<clap::Command<'w>, AllocError>
     ensures { (app : App) → IfOk line.entry (λ line. IsLineOfCommand line app) → IfOk result (λ line. IsLineOfCommand line (with_rule app (option_rule name.entry.now))) }
 {
-    let line = line?;
-    line.arg(option(alloc, name))
+    match line {
+        Ok(line) => line.arg(option(alloc, name)),
+        Err(AllocError) => Err(AllocError),
+    }
 }
 
 /// A word that has to stand there.

@@ -37,7 +37,7 @@ returns-in-Ok g c text before after a =
     let keeps = c.in-Ok.ensures.keeps.1 in
     let same = c.new-chooser.ensures.same in
     let whole = c.drive_whole-end.ensures.drove (chosen settings.order)
-        (λ t m r t_is m_is some answer. answer.0 ∙ (λ i. chosen (keeps i).f.0.now t m) ∙ (λ i. chosen (same i).0.now t m)) in
+    (λ t m r t_is m_is some answer. answer.0 ∙ (λ i. chosen (keeps i).f.0.now t m) ∙ (λ i. chosen (same i).0.now t m)) in
     let n = whole.0 in
     let h = whole.1 in
     let D : Region → ℕ → Type 0 = λ S size. Drove (given_by_engine names plain.rules size (record { trace = settings.trace; folded = settings.folded; budget = settings.budget }) (chosen settings.order) S) n h end old new in

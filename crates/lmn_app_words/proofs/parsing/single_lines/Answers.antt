@@ -1,4 +1,3 @@
-use Rattle.std.specs.Prelude.{codes}
 use Rattle.clap.specs.Words.{with_subcommand}
 use Rattle.lmn_app_words.specs.Parsing.{bare_line, compile_line, run_line}
 use Rattle.lmn_app_words.proofs.parsing.single_lines.Goals as goal
