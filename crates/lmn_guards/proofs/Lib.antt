@@ -5,3 +5,4 @@ pub mod AcceptedLemmas
 pub mod OrderedLemmas
 pub mod StandingLemmas
 pub mod WorkedGuards
+pub mod ValueLemmas
