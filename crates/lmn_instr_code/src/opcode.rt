@@ -148,14 +148,6 @@ pub struct Form {
     pub sets: bool,
 }
 
-/// What the table has of an instruction.
-#[derive(Clone, Copy)]
-struct Entry {
-    name: &'static [u8],
-    in_head: bool,
-    form: Form,
-}
-
 impl Opcode {
     /// The name that a text is.
     pub fn named(name: &[u8]) -> Option<Opcode>
@@ -174,144 +166,168 @@ impl Opcode {
     pub fn name(self) -> &'static [u8]
         ensures { result.now ≡ opcode_name self }
     {
-        self.entry().name
+        match self {
+            Opcode::FindAtom => b"FINDATOM",
+            Opcode::Deref => b"DEREF",
+            Opcode::Func => b"FUNC",
+            Opcode::InMem => b"INMEM",
+            Opcode::NeqAtom => b"NEQATOM",
+            Opcode::Joined => b"JOINED",
+            Opcode::NotIn => b"NOTIN",
+            Opcode::AnyMem => b"ANYMEM",
+            Opcode::NeqMem => b"NEQMEM",
+            Opcode::IsInt => b"ISINT",
+            Opcode::IsUnary => b"ISUNARY",
+            Opcode::IsGround => b"ISGROUND",
+            Opcode::NAtoms => b"NATOMS",
+            Opcode::NMems => b"NMEMS",
+            Opcode::NoRules => b"NORULES",
+            Opcode::IsClosed => b"ISCLOSED",
+            Opcode::EqGround => b"EQGROUND",
+            Opcode::NeqGround => b"NEQGROUND",
+            Opcode::GetInt => b"GETINT",
+            Opcode::Const => b"CONST",
+            Opcode::Add => b"ADD",
+            Opcode::Sub => b"SUB",
+            Opcode::Mul => b"MUL",
+            Opcode::Div => b"DIV",
+            Opcode::Mod => b"MOD",
+            Opcode::Lt => b"LT",
+            Opcode::Le => b"LE",
+            Opcode::Gt => b"GT",
+            Opcode::Ge => b"GE",
+            Opcode::Eq => b"EQ",
+            Opcode::Ne => b"NE",
+            Opcode::Commit => b"COMMIT",
+            Opcode::RemoveAtom => b"REMOVEATOM",
+            Opcode::RemovePart => b"REMOVEPART",
+            Opcode::RemoveMem => b"REMOVEMEM",
+            Opcode::NewAtom => b"NEWATOM",
+            Opcode::NewInt => b"NEWINT",
+            Opcode::NewMem => b"NEWMEM",
+            Opcode::CopyGround => b"COPYGROUND",
+            Opcode::MoveCells => b"MOVECELLS",
+            Opcode::CopyCells => b"COPYCELLS",
+            Opcode::LoadRule => b"LOADRULE",
+            Opcode::CopyRules => b"COPYRULES",
+            Opcode::DropCells => b"DROPCELLS",
+            Opcode::NewLink => b"NEWLINK",
+            Opcode::Relink => b"RELINK",
+            Opcode::Unify => b"UNIFY",
+            Opcode::Proceed => b"PROCEED",
+        }
     }
 
     /// Whether it is of an instruction of a head.
     pub fn is_in_head(self) -> bool
         ensures { result ≡ is_in_head self }
     {
-        self.entry().in_head
+        match self {
+            Opcode::FindAtom
+            | Opcode::Deref
+            | Opcode::Func
+            | Opcode::InMem
+            | Opcode::NeqAtom
+            | Opcode::Joined
+            | Opcode::NotIn
+            | Opcode::AnyMem
+            | Opcode::NeqMem
+            | Opcode::IsInt
+            | Opcode::IsUnary
+            | Opcode::IsGround
+            | Opcode::NAtoms
+            | Opcode::NMems
+            | Opcode::NoRules
+            | Opcode::IsClosed
+            | Opcode::EqGround
+            | Opcode::NeqGround
+            | Opcode::GetInt
+            | Opcode::Const
+            | Opcode::Add
+            | Opcode::Sub
+            | Opcode::Mul
+            | Opcode::Div
+            | Opcode::Mod
+            | Opcode::Lt
+            | Opcode::Le
+            | Opcode::Gt
+            | Opcode::Ge
+            | Opcode::Eq
+            | Opcode::Ne
+            | Opcode::Commit => true,
+            Opcode::RemoveAtom
+            | Opcode::RemovePart
+            | Opcode::RemoveMem
+            | Opcode::NewAtom
+            | Opcode::NewInt
+            | Opcode::NewMem
+            | Opcode::CopyGround
+            | Opcode::MoveCells
+            | Opcode::CopyCells
+            | Opcode::LoadRule
+            | Opcode::CopyRules
+            | Opcode::DropCells
+            | Opcode::NewLink
+            | Opcode::Relink
+            | Opcode::Unify
+            | Opcode::Proceed => false,
+        }
     }
 
     /// What operands the instruction has.
     pub fn form(self) -> Form
         ensures { result ≡ form_of self }
     {
-        self.entry().form
-    }
-
-    /// The table of instructions.
-    fn entry(self) -> Entry
-        ensures name { result.name.now ≡ opcode_name self }
-        ensures in_head { result.in_head ≡ is_in_head self }
-        ensures form { result.form ≡ form_of self }
-    {
         match self {
-            Opcode::FindAtom => of_head(
-                b"FINDATOM",
-                setting(three(Kind::Atom, Kind::Membrane, Kind::Functor)),
-            ),
-            Opcode::Deref => of_head(
-                b"DEREF",
-                setting(three(Kind::Atom, Kind::Port, Kind::Index)),
-            ),
-            Opcode::Func => of_head(b"FUNC", two(Kind::Atom, Kind::Functor)),
-            Opcode::InMem => of_head(b"INMEM", two(Kind::Atom, Kind::Membrane)),
-            Opcode::NeqAtom => of_head(b"NEQATOM", two(Kind::Atom, Kind::Atom)),
-            Opcode::Joined => of_head(b"JOINED", two(Kind::Port, Kind::Port)),
-            Opcode::NotIn => of_head(b"NOTIN", two(Kind::Port, Kind::Membrane)),
-            Opcode::AnyMem => of_head(b"ANYMEM", setting(two(Kind::Membrane, Kind::Membrane))),
-            Opcode::NeqMem => of_head(b"NEQMEM", two(Kind::Membrane, Kind::Membrane)),
-            Opcode::IsInt => of_head(
-                b"ISINT",
-                setting(three(Kind::Part, Kind::Port, Kind::Membrane)),
-            ),
-            Opcode::IsUnary => of_head(
-                b"ISUNARY",
-                setting(three(Kind::Part, Kind::Port, Kind::Membrane)),
-            ),
-            Opcode::IsGround => of_head(
-                b"ISGROUND",
-                setting(three(Kind::Part, Kind::Port, Kind::Membrane)),
-            ),
-            Opcode::NAtoms => of_head(b"NATOMS", with_parts(two(Kind::Membrane, Kind::Count))),
-            Opcode::NMems => of_head(b"NMEMS", two(Kind::Membrane, Kind::Count)),
-            Opcode::NoRules => of_head(b"NORULES", one(Kind::Membrane)),
-            Opcode::IsClosed => of_head(b"ISCLOSED", with_parts(one(Kind::Membrane))),
-            Opcode::EqGround => of_head(b"EQGROUND", two(Kind::Part, Kind::Part)),
-            Opcode::NeqGround => of_head(b"NEQGROUND", two(Kind::Part, Kind::Part)),
-            Opcode::GetInt => of_head(b"GETINT", setting(two(Kind::Integer, Kind::Part))),
-            Opcode::Const => of_head(b"CONST", setting(two(Kind::Integer, Kind::Constant))),
-            Opcode::Add => of_head(
-                b"ADD",
-                setting(three(Kind::Integer, Kind::Integer, Kind::Integer)),
-            ),
-            Opcode::Sub => of_head(
-                b"SUB",
-                setting(three(Kind::Integer, Kind::Integer, Kind::Integer)),
-            ),
-            Opcode::Mul => of_head(
-                b"MUL",
-                setting(three(Kind::Integer, Kind::Integer, Kind::Integer)),
-            ),
-            Opcode::Div => of_head(
-                b"DIV",
-                setting(three(Kind::Integer, Kind::Integer, Kind::Integer)),
-            ),
-            Opcode::Mod => of_head(
-                b"MOD",
-                setting(three(Kind::Integer, Kind::Integer, Kind::Integer)),
-            ),
-            Opcode::Lt => of_head(b"LT", two(Kind::Integer, Kind::Integer)),
-            Opcode::Le => of_head(b"LE", two(Kind::Integer, Kind::Integer)),
-            Opcode::Gt => of_head(b"GT", two(Kind::Integer, Kind::Integer)),
-            Opcode::Ge => of_head(b"GE", two(Kind::Integer, Kind::Integer)),
-            Opcode::Eq => of_head(b"EQ", two(Kind::Integer, Kind::Integer)),
-            Opcode::Ne => of_head(b"NE", two(Kind::Integer, Kind::Integer)),
-            Opcode::Commit => of_head(b"COMMIT", none()),
-            Opcode::RemoveAtom => of_body(b"REMOVEATOM", one(Kind::Atom)),
-            Opcode::RemovePart => of_body(b"REMOVEPART", one(Kind::Part)),
-            Opcode::RemoveMem => of_body(b"REMOVEMEM", one(Kind::Membrane)),
-            Opcode::NewAtom => of_body(
-                b"NEWATOM",
-                setting(three(Kind::Atom, Kind::Membrane, Kind::Functor)),
-            ),
-            Opcode::NewInt => of_body(
-                b"NEWINT",
-                setting(three(Kind::Atom, Kind::Membrane, Kind::Integer)),
-            ),
-            Opcode::NewMem => of_body(b"NEWMEM", setting(two(Kind::Membrane, Kind::Membrane))),
-            Opcode::CopyGround => of_body(
-                b"COPYGROUND",
-                setting(three(Kind::Copy, Kind::Membrane, Kind::Part)),
-            ),
-            Opcode::MoveCells => of_body(b"MOVECELLS", two(Kind::Membrane, Kind::Membrane)),
-            Opcode::CopyCells => of_body(b"COPYCELLS", two(Kind::Membrane, Kind::Membrane)),
-            Opcode::LoadRule => of_body(b"LOADRULE", two(Kind::Membrane, Kind::Rule)),
-            Opcode::CopyRules => of_body(b"COPYRULES", two(Kind::Membrane, Kind::Membrane)),
-            Opcode::DropCells => of_body(b"DROPCELLS", one(Kind::Membrane)),
-            Opcode::NewLink => of_body(b"NEWLINK", two(Kind::NewPort, Kind::NewPort)),
-            Opcode::Relink => of_body(b"RELINK", two(Kind::NewPort, Kind::Port)),
-            Opcode::Unify => of_body(b"UNIFY", two(Kind::Port, Kind::Port)),
-            Opcode::Proceed => of_body(b"PROCEED", none()),
+            Opcode::FindAtom => setting(three(Kind::Atom, Kind::Membrane, Kind::Functor)),
+            Opcode::Deref => setting(three(Kind::Atom, Kind::Port, Kind::Index)),
+            Opcode::Func => two(Kind::Atom, Kind::Functor),
+            Opcode::InMem => two(Kind::Atom, Kind::Membrane),
+            Opcode::NeqAtom => two(Kind::Atom, Kind::Atom),
+            Opcode::Joined => two(Kind::Port, Kind::Port),
+            Opcode::NotIn => two(Kind::Port, Kind::Membrane),
+            Opcode::AnyMem => setting(two(Kind::Membrane, Kind::Membrane)),
+            Opcode::NeqMem => two(Kind::Membrane, Kind::Membrane),
+            Opcode::IsInt => setting(three(Kind::Part, Kind::Port, Kind::Membrane)),
+            Opcode::IsUnary => setting(three(Kind::Part, Kind::Port, Kind::Membrane)),
+            Opcode::IsGround => setting(three(Kind::Part, Kind::Port, Kind::Membrane)),
+            Opcode::NAtoms => with_parts(two(Kind::Membrane, Kind::Count)),
+            Opcode::NMems => two(Kind::Membrane, Kind::Count),
+            Opcode::NoRules => one(Kind::Membrane),
+            Opcode::IsClosed => with_parts(one(Kind::Membrane)),
+            Opcode::EqGround => two(Kind::Part, Kind::Part),
+            Opcode::NeqGround => two(Kind::Part, Kind::Part),
+            Opcode::GetInt => setting(two(Kind::Integer, Kind::Part)),
+            Opcode::Const => setting(two(Kind::Integer, Kind::Constant)),
+            Opcode::Add => setting(three(Kind::Integer, Kind::Integer, Kind::Integer)),
+            Opcode::Sub => setting(three(Kind::Integer, Kind::Integer, Kind::Integer)),
+            Opcode::Mul => setting(three(Kind::Integer, Kind::Integer, Kind::Integer)),
+            Opcode::Div => setting(three(Kind::Integer, Kind::Integer, Kind::Integer)),
+            Opcode::Mod => setting(three(Kind::Integer, Kind::Integer, Kind::Integer)),
+            Opcode::Lt => two(Kind::Integer, Kind::Integer),
+            Opcode::Le => two(Kind::Integer, Kind::Integer),
+            Opcode::Gt => two(Kind::Integer, Kind::Integer),
+            Opcode::Ge => two(Kind::Integer, Kind::Integer),
+            Opcode::Eq => two(Kind::Integer, Kind::Integer),
+            Opcode::Ne => two(Kind::Integer, Kind::Integer),
+            Opcode::Commit => none(),
+            Opcode::RemoveAtom => one(Kind::Atom),
+            Opcode::RemovePart => one(Kind::Part),
+            Opcode::RemoveMem => one(Kind::Membrane),
+            Opcode::NewAtom => setting(three(Kind::Atom, Kind::Membrane, Kind::Functor)),
+            Opcode::NewInt => setting(three(Kind::Atom, Kind::Membrane, Kind::Integer)),
+            Opcode::NewMem => setting(two(Kind::Membrane, Kind::Membrane)),
+            Opcode::CopyGround => setting(three(Kind::Copy, Kind::Membrane, Kind::Part)),
+            Opcode::MoveCells => two(Kind::Membrane, Kind::Membrane),
+            Opcode::CopyCells => two(Kind::Membrane, Kind::Membrane),
+            Opcode::LoadRule => two(Kind::Membrane, Kind::Rule),
+            Opcode::CopyRules => two(Kind::Membrane, Kind::Membrane),
+            Opcode::DropCells => one(Kind::Membrane),
+            Opcode::NewLink => two(Kind::NewPort, Kind::NewPort),
+            Opcode::Relink => two(Kind::NewPort, Kind::Port),
+            Opcode::Unify => two(Kind::Port, Kind::Port),
+            Opcode::Proceed => none(),
         }
-    }
-}
-
-/// An instruction of a head.
-fn of_head(name: &'static [u8], form: Form) -> Entry
-    ensures name { result.name.now ≡ name.now }
-    ensures in_head { result.in_head ≡ true }
-    ensures form { result.form ≡ form }
-{
-    Entry {
-        name,
-        in_head: true,
-        form,
-    }
-}
-
-/// An instruction of a body.
-fn of_body(name: &'static [u8], form: Form) -> Entry
-    ensures name { result.name.now ≡ name.now }
-    ensures in_head { result.in_head ≡ false }
-    ensures form { result.form ≡ form }
-{
-    Entry {
-        name,
-        in_head: false,
-        form,
     }
 }
 
