@@ -2,12 +2,11 @@
 ghost use Rattle.std.specs.Prelude.{◌≡◌, true, Some, IfSome, filter, ◌==◌};
 ghost use Rattle.std.specs.Option.{option_map};
 ghost use Rattle.lmn_print_folding.specs.Marks.{is_item};
-ghost use Rattle.lmn_store_heap.specs.Heap.{IsAtom, IsMem, atoms_in, home_of, own_mark};
+ghost use Rattle.lmn_store_heap.specs.Heap.{IsMem, atoms_in, home_of, own_mark};
 ghost use Rattle.lmn_store_heap.specs.Lists.{after, from};
-ghost use Rattle.lmn_store_heap.specs.Sound.{Sound};
 ghost use Rattle.lmn_print_folding.specs.Chosen.{items_in, marked_in};
 
-use lmn_print_folding::{FIRST_ITEM, LATER_ITEM};
+use lmn_print_folding::{FIRST_ITEM, LATER_ITEM, own_mark};
 use lmn_store_trait::LinkStore;
 
 /// The first item of a membrane.
@@ -32,6 +31,7 @@ pub(crate) fn next_item<S: LinkStore>(store: &S, mem: S::Mem, item: S::Atom) -> 
     ensures home { IfSome result (λ a. home_of (S.heap store.now) (S.atom_id a) ≡ Some (S.mem_id mem)) }
     ensures item { IfSome result (λ a. is_item (S.heap store.now) (S.atom_id a) ≡ true) }
 {
+    let _root = store.root();
     let mark = own_mark(store, item);
     match with_mark(store, mem, store.next_atom(item), mark) {
         Some(next) => Some(next),
@@ -67,14 +67,4 @@ fn with_mark<S: LinkStore>(
         next = store.next_atom(atom);
     }
     None
-}
-
-/// The own mark of an atom.
-fn own_mark<S: LinkStore>(store: &S, atom: S::Atom) -> u64
-    requires { IsAtom (S.heap store.now) (S.atom_id atom) }
-    ensures mark { result ≡ own_mark (S.heap store.now) (S.atom_id atom) }
-    ensures sound { Sound (S.heap store.now) }
-{
-    let _root = store.root();
-    store.mark(atom, store.functor(atom).arity)
 }
