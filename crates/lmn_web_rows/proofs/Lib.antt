@@ -1,5 +1,6 @@
 pub mod Sharing
 pub mod Words
+pub mod Halves
 pub mod Steps
 pub mod Reading
 pub mod Writing

@@ -1,5 +1,5 @@
 -- What the walks cite. Assumes `Logic`.
-pub use Rattle.std.proofs.Common.{◌≡◌, ℕ, ◌+◌, ◌*◌, ◌^◌, ◌<◌, ◌≤◌, List, [], ◌∷◌, ◌++◌, length, get_or, set, replicate, Option, Some, None, refl, sym, ap, ◌∙◌, subst, lit<, nltb→le, w8, w64, MutBor, arith}
+pub use Rattle.std.proofs.Common.{◌≡◌, ℕ, ◌+◌, ◌*◌, ◌^◌, ◌<◌, ◌≤◌, List, [], ◌∷◌, ◌++◌, length, get_or, set, replicate, Option, Some, None, refl, sym, ap, ◌∙◌, subst, lit<, nltb→le, w8, w32, w64, MutBor, arith}
 pub use Rattle.std.proofs.raw_atomic.Walks.{proved}
 pub use seplogic.Ra.Ura.{Ura}
 pub use base.Fraction.{full_share}
@@ -15,7 +15,7 @@ pub use types.Kit.{Item as Entry, Goal, Seq, Soaks, Step, step, ‵, raw, ◌⊛
 pub use types.Run.{enter, of_opd, lit, unit_lit, bin, addr, load, look, store, stop, fld, hop, no_more, and_then, assigns, assigns_last, init, first, blocks, branches, skips, exec, returns, returns_within, well_typed}
 pub use types.ByLocal.{alloc_all, pass_all, free_all, look_at, get, through, sets, sets_last, lands_as, env}
 pub use types.Part.{agg}
-pub use denote.Builtin.{u8, u64, usize, bool, unit, RefOf}
+pub use denote.Builtin.{u8, u32, u64, usize, bool, unit, RefOf}
 pub use denote.Exit.{yes, no}
 pub use denote.Laws.{shows}
 pub use denote.Memory.{cell_at, part_at, hidden_shr}

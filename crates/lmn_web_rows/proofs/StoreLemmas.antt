@@ -7,11 +7,12 @@ use lib.ListN.{length-replicate}
 use denote.RawPtr.{Ptr, block_ptr, null_ptr, block_of}
 use Rattle.lmn_base.proofs.Numbers.{not_equal}
 use Rattle.lmn_base.proofs.Lists.{head_is, tail_is}
-use Rattle.lmn_web_rows.specs.Rows.{Item, Row, blank, link, items_in, live_in, with_items, with_use, cut_row, place_of, place_ptr, spare, IsStart, IsNear, leads_nowhere, AreSideBySide, block_at, first_rows, later_rows}
+use Rattle.lmn_web_rows.specs.Rows.{Item, Row, half_at, with_half_at, with_half, halves_in, blank, link, items_in, live_in, with_items, with_use, cut_row, place_of, place_ptr, spare, IsStart, IsNear, leads_nowhere, AreSideBySide, block_at, first_rows, later_rows}
 use Rattle.lmn_web_rows.specs.Tiles.{AreTiled}
 use Rattle.lmn_web_rows.specs.Seen.{shown, HaveSameWords, IsMade, IsGone}
 use Rattle.lmn_web_rows.specs.Keeping.{LeadTo, Depths, IsRest, IsKept, AreKept, IsStore}
 use Rattle.lmn_web_rows.proofs.Words.{within}
+use Rattle.lmn_web_rows.proofs.Halves.{within_halves}
 use Rattle.lmn_web_rows.proofs.Places.{starts_block}
 use Rattle.lmn_web_rows.proofs.Tiling.{tiled_alike, items_alike, use_alike, tiled_cut, first_more, first_none, later_more, later_all}
 use Rattle.lmn_web_rows.proofs.Lookups.{if_yes, items_same, items_away, live_items, items_use, live_use, live_away, seen, seen_live, seen_spare, live_seen, shown_items, filled, absent, found_is, cut_here, cut_next, cut_away}
@@ -115,8 +116,18 @@ pub row_same : (rows : List Row) (n k : ℕ) → k < length (items_in (shown row
 row_same rows n k low = seen_live rows n (live_seen rows n (omega (arith, low)))
 
 -- also where one of them is known
-pub word_same : (rows : List Row) (n k : ℕ) (x : Option Ptr × ℕ) → get_or (items_in (shown rows) n) k blank ≡ Some x → items_in (shown rows) n ≡ items_in rows n
+pub word_same : (rows : List Row) (n k : ℕ) (x : Option Ptr × (ℕ × List (Option ℕ))) → get_or (items_in (shown rows) n) k blank ≡ Some x → items_in (shown rows) n ≡ items_in rows n
 word_same rows n k x e = row_same rows n k (within (items_in (shown rows) n) k x e)
+
+-- or a half of one
+pub half_same : (rows : List Row) (n j x : ℕ) → half_at (items_in (shown rows) n) j ≡ Some x → items_in (shown rows) n ≡ items_in rows n
+half_same rows n j x e = row_same rows n (j / 2) (within_halves (items_in (shown rows) n) (j / 2) (j % 2) x e)
+
+-- a half that is written is seen
+pub half_written_seen : (rows rows' : List Row) (n j x : ℕ) → j / 2 < length (items_in (shown rows) n) → rows' ≡ with_items n (with_half_at j x (items_in rows n)) rows → shown rows' ≡ with_items n (with_half_at j x (items_in (shown rows) n)) (shown rows)
+half_written_seen rows rows' n j x low e =
+    let live = live_seen rows n (omega (arith, low)) in
+    ap shown e ∙ shown_items rows n (with_half_at j x (items_in rows n)) live ∙ ap (λ (is : List Item). with_items n (with_half_at j x is) (shown rows)) (sym (row_same rows n (j / 2) low))
 
 -- a word that is written is seen
 pub written_seen : (rows rows' : List Row) (n k : ℕ) (i : Item) → k < length (items_in (shown rows) n) → rows' ≡ with_items n (set (items_in rows n) k i) rows → shown rows' ≡ with_items n (set (items_in (shown rows) n) k i) (shown rows)

@@ -98,7 +98,7 @@ module _ {M : Type 1} {𝓤 : Ura M} (𝓛 : Logic 𝓤) where
   ]
 
 -- a word that isn't blank is one of the row
-pub within : (is : List Item) (k : ℕ) (x : Option Ptr × ℕ) → get_or is k blank ≡ Some x → k < length is
+pub within : (is : List Item) (k : ℕ) (x : Option Ptr × (ℕ × List (Option ℕ))) → get_or is k blank ≡ Some x → k < length is
 within [] k x e = absurd cc
 within (i ∷ is) zero x e = omega arith
 within (i ∷ is) (suc k) x e = let r = within is k x e in omega (arith, r)

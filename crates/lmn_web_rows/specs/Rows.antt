@@ -1,19 +1,46 @@
 -- Rows of words, many of them side by side in one block.
-use Rattle.std.specs.Prelude.{◌≡◌, Bool, true, false, ℕ, ◌+◌, ◌-◌, ◌*◌, ◌/◌, ◌%◌, ◌==◌, ◌^◌, ◌<◌, ◌≤◌, length, take, drop, List, [], ◌∷◌, Option, Some, None, if◌then◌else◌}
+use Rattle.std.specs.Prelude.{◌≡◌, Bool, true, false, ℕ, ◌+◌, ◌-◌, ◌*◌, ◌/◌, ◌%◌, ◌==◌, ◌^◌, ◌<◌, ◌≤◌, length, take, drop, List, [], ◌∷◌, Option, Some, None, if◌then◌else◌, replicate, slice_set, slice_index_or}
 use denote.RawPtr.{Ptr, block_ptr, null_ptr, block_of, count_of}
 
--- what a word holds: nothing yet, a pointer, or a number
+-- what a word holds: nothing yet, a pointer, a number, or numbers of half a word, of which some may not be written yet
 abbrev pub Item : Type 0
-Item = Option (Option Ptr × ℕ)
+Item = Option (Option Ptr × (ℕ × List (Option ℕ)))
 
 abbrev pub blank : Item
 blank = None
 
 abbrev pub link : Ptr → Item
-link p = Some (Some p, 0)
+link p = Some (Some p, (0, []))
 
 abbrev pub number : ℕ → Item
-number n = Some (None, n)
+number n = Some (None, (n, []))
+
+-- a word of two numbers
+abbrev pub halves : ℕ → ℕ → Item
+halves m n = Some (None, (0, Some m ∷ Some n ∷ []))
+
+-- the halves of a word: two that aren't written, if it holds anything else
+abbrev pub halves_in : Item → List (Option ℕ)
+halves_in None = replicate 2 None
+halves_in (Some (Some p, x)) = replicate 2 None
+halves_in (Some (None, (n, []))) = replicate 2 None
+halves_in (Some (None, (n, x ∷ xs))) = x ∷ xs
+
+-- a word with these halves
+abbrev pub of_halves : List (Option ℕ) → Item
+of_halves xs = Some (None, (0, xs))
+
+-- a word of which a half is another number
+abbrev pub with_half : ℕ → ℕ → Item → Item
+with_half j n i = of_halves (slice_set (halves_in i) j (Some n))
+
+-- the number in a half of words: each word has two
+abbrev pub half_at : List Item → ℕ → Option ℕ
+half_at is j = slice_index_or (halves_in (slice_index_or is (j / 2) blank)) (j % 2) None
+
+-- the words, of which a half is another number
+abbrev pub with_half_at : ℕ → ℕ → List Item → List Item
+with_half_at j n is = slice_set is (j / 2) (with_half (j % 2) n (slice_index_or is (j / 2) blank))
 
 -- a row: the place of its first word, its words, and whether it is in use
 pub record Row : Type 0 where

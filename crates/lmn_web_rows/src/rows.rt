@@ -1,7 +1,7 @@
 //! Rows of words, many of them side by side in one block. All that touches a pointer is here.
-ghost use Rattle.std.specs.Prelude.{◌≡◌, ℕ, ◌+◌, ◌%◌, ◌^◌, ◌<◌, true, false, List as Seq, [], ◌∷◌, ◌++◌, Some, None, length, drop, MatchResult, slice_get, slice_index_or, slice_set, replicate};
+ghost use Rattle.std.specs.Prelude.{◌≡◌, ℕ, ◌+◌, ◌/◌, ◌%◌, ◌^◌, ◌<◌, true, false, List as Seq, [], ◌∷◌, ◌++◌, Some, None, length, drop, MatchResult, slice_get, slice_index_or, slice_set, replicate};
 ghost use denote.RawPtr.{Ptr, block_ptr, block_of};
-ghost use Rattle.lmn_web_rows.specs.Rows.{Row, spare, items_in, with_items, cut_row, with_use, first_rows, later_rows, AreSideBySide, block_at, place_of, link, number, blank, IsStart};
+ghost use Rattle.lmn_web_rows.specs.Rows.{Row, spare, items_in, half_at, with_half_at, halves_in, with_items, cut_row, with_use, first_rows, later_rows, AreSideBySide, block_at, place_of, link, number, blank, IsStart};
 ghost use Rattle.lmn_web_rows.specs.Owned.{rows_own, rows_lent, blocks_own};
 
 use std::alloc::{AllocError, Allocator, Global};
@@ -68,6 +68,24 @@ impl Rows {
         ensures { slice_index_or (items_in self.now.rows (place_of at)) k blank ≡ number result }
     {
         unsafe { *(at as *mut u64).add(k) }
+    }
+
+    /// The number in a half of a word. Each word has two.
+    pub fn half(&self, at: *mut u8, j: usize) -> u32
+        requires { IsStart at × (j < 2 ^ 32) × ((n : ℕ) × (half_at (items_in self.now.rows (place_of at)) j ≡ Some n)) }
+        ensures { half_at (items_in self.now.rows (place_of at)) j ≡ Some result }
+    {
+        unsafe { *(at as *mut u32).add(j) }
+    }
+
+    /// A number goes into a half of a word. If that held anything else than halves, nothing is known of its other one.
+    pub fn set_half(&mut self, at: *mut u8, j: usize, n: u32)
+        requires { IsStart at × (j < 2 ^ 32) × (j / 2 < length (items_in self.old.rows (place_of at))) × (j % 2 < length (halves_in (slice_index_or (items_in self.old.rows (place_of at)) (j / 2) blank))) }
+        ensures { self.new.rows ≡ with_items (place_of at) (with_half_at j n (items_in self.old.rows (place_of at))) self.old.rows }
+    {
+        unsafe {
+            *(at as *mut u32).add(j) = n;
+        }
     }
 
     /// A pointer goes into a word.

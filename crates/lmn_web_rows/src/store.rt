@@ -1,7 +1,7 @@
 //! Rows that are made, and whose memory is used again for rows of the same length.
-ghost use Rattle.std.specs.Prelude.{◌≡◌, ℕ, ◌+◌, ◌^◌, ◌<◌, ◌≤◌, [], length, OnOk, MatchOption, MatchResult, slice_index_or, slice_set};
+ghost use Rattle.std.specs.Prelude.{◌≡◌, ℕ, ◌+◌, ◌/◌, ◌%◌, ◌^◌, ◌<◌, ◌≤◌, [], length, OnOk, MatchOption, MatchResult, Some, slice_index_or, slice_set};
 ghost use denote.RawPtr.{Ptr};
-ghost use Rattle.lmn_web_rows.specs.Rows.{items_in, with_items, link, number, blank, place_of, IsStart};
+ghost use Rattle.lmn_web_rows.specs.Rows.{items_in, with_items, half_at, with_half_at, halves_in, link, number, blank, place_of, IsStart};
 ghost use Rattle.lmn_web_rows.specs.Seen.{HaveSameWords, IsMade, IsGone};
 
 use crate::pointers::{behind, is_nowhere, nowhere};
@@ -185,6 +185,24 @@ impl Store {
         ensures { slice_index_or (items_in self.now.rows (place_of at)) k blank ≡ number result }
     {
         self.rows.number(at, k)
+    }
+
+    /// The number in a half of a word. Each word has two.
+    #[inline(always)]
+    pub fn half(&self, at: *mut u8, j: usize) -> u32
+        requires { IsStart at × (j < 2 ^ 32) × ((n : ℕ) × (half_at (items_in self.now.rows (place_of at)) j ≡ Some n)) }
+        ensures { half_at (items_in self.now.rows (place_of at)) j ≡ Some result }
+    {
+        self.rows.half(at, j)
+    }
+
+    /// A number goes into a half of a word. If that held anything else than halves, nothing is known of its other one.
+    #[inline(always)]
+    pub fn set_half(&mut self, at: *mut u8, j: usize, n: u32)
+        requires { IsStart at × (j < 2 ^ 32) × (j / 2 < length (items_in self.old.rows (place_of at))) × (j % 2 < length (halves_in (slice_index_or (items_in self.old.rows (place_of at)) (j / 2) blank))) }
+        ensures { self.new.rows ≡ with_items (place_of at) (with_half_at j n (items_in self.old.rows (place_of at))) self.old.rows }
+    {
+        self.rows.set_half(at, j, n);
     }
 
     /// A pointer goes into a word.
