@@ -1,5 +1,5 @@
 //! What a cell stands for.
-ghost use Rattle.std.specs.Prelude.{◌≡◌};
+ghost use Rattle.std.specs.Prelude.{◌≡◌, ◌<◌, ◌^◌};
 ghost use Rattle.lmn_web.specs.Kinds.{kind_by};
 ghost use Rattle.lmn_web.specs.Webs.{list_link, count_number};
 
@@ -23,7 +23,8 @@ pub const UNFILED: u64 = 2;
 
 /// The number by which a cell tells its kind. The atoms of a membrane are filed.
 pub fn number_of(kind: CellKind) -> u64
-    ensures { kind_by result ≡ kind }
+    ensures kind { kind_by result ≡ kind }
+    ensures small { result < 2 ^ 32 }
 {
     match kind {
         CellKind::Atom => 0,

@@ -89,6 +89,7 @@ impl Web {
     // A new cell that tells its kind by this number.
     #[inline(always)]
     fn make_by(&mut self, label: u128, arity: u8, kind: u64) -> Result<Cell, AllocError>
+        requires { kind < 2 ^ 32 }
         ensures { MatchResult result
             (λ c. (web_by self.old (cell_id c) ≡ None) × (web_by self.new ≡ alter (web_by self.old) (cell_id c) (λ _. Some (new_cell label arity (kind_by kind)))))
             (λ _. web_by self.new ≡ web_by self.old) }
@@ -424,7 +425,8 @@ fn make_blank(cells: &mut Cells, arity: u8, kind: u64) -> Result<Cell, AllocErro
 
 // The numbers of a cell that was just made.
 fn describe(cells: &mut Cells, c: Cell, index: u64, arity: u64, kind: u64, high: u64, low: u64)
-    requires { IsSome (cells_by cells.old (cell_id c)) }
+    requires there { IsSome (cells_by cells.old (cell_id c)) }
+    requires small { (arity < 2 ^ 32) × (kind < 2 ^ 32) }
     ensures { cells_by cells.new ≡ alter (cells_by cells.old) (cell_id c) (option_map (described index arity kind high low)) }
 {
     cells.set_number(c, INDEX, index);

@@ -1,15 +1,25 @@
 -- Rows that are cells: one of them is read, and changed.
-use Rattle.std.proofs.Common.{◌≡◌, ◌⊎◌, ℕ, suc, ◌+◌, ◌*◌, ◌<◌, ◌≤◌, ◌^◌, List, ◌++◌, length, take, drop, get_or, set, Option, Some, None, IsSome, refl, sym, subst, ap, ◌∙◌, inl, inr, arith, length-set}
+use Rattle.std.proofs.Common.{◌≡◌, ◌⊎◌, ℕ, zero, suc, ◌+◌, ◌-◌, ◌*◌, ◌/◌, ◌%◌, ◌<◌, ◌≤◌, ◌^◌, List, [], ◌∷◌, ◌++◌, length, take, drop, get_or, set, Option, Some, None, IsSome, refl, sym, subst, ap, ◌∙◌, inl, inr, arith, length-set, get_or-set_same, get_or-set_other}
 use Rattle.std.proofs.lemmas.Bool.{cases_eq}
 use Rattle.std.specs.Option.{option_map}
 use denote.RawPtr.{Ptr, null_ptr}
-use Rattle.lmn_web_cells.specs.Rows.{Item, blank, link, number, Row, items_in, with_items, place_ptr}
-use Rattle.lmn_web_cells.specs.Cells.{HeldPort, HeldCell, pointer_to, link_to, link_items, number_items, cell_items, cell_by, cells_by, IsShaped, IsLaid, AreLaid, HaveLinks, links_of, numbers_of, ports_of, no_port, with_link, with_number, with_to, with_port, with_mark}
+use Rattle.lmn_web_cells.specs.Rows.{Item, blank, link, number, halves_in, with_half, half_at, with_half_at, Row, items_in, with_items, place_ptr}
+use Rattle.lmn_web_cells.specs.Cells.{HeldPort, HeldCell, pointer_to, link_to, link_items, number_items, first_items, cell_items, cell_by, cells_by, IsShaped, IsLaid, AreLaid, HaveLinks, links_of, numbers_of, ports_of, no_port, with_link, with_number, with_to, with_port, with_mark}
 use Rattle.lmn_store_heap.specs.Heap.{alter}
 use Rattle.lmn_store_heap.proofs.Listing.{alter_at, alter_away}
 use Rattle.lmn_web_cells.specs.CellIds.{IsLink, led_by}
-use Rattle.lmn_web_cells.proofs.CellWords.{place_again, behind_links, some_numbers, link_at, set_link_at, cell_back, ports_at, set_ports_at, port_word_at, set_to_at, set_port_at, set_mark_at, word_count, first_number_at, set_first_number_at, last_number_word, set_last_number_word}
+use Rattle.lmn_web_cells.proofs.CellWords.{place_again, behind_links, some_numbers, link_at, set_link_at, cell_back, ports_at, set_ports_at, port_word_at, set_to_at, set_port_at, set_mark_at, word_count, small_number_at, set_small_number_at, first_number_at, set_first_number_at, last_number_word, set_last_number_word}
 pub use Rattle.lmn_web_rows.proofs.Lookups.{if_yes, items_same, items_away}
+
+-- what isn't none in a list is one of it
+written_there : (xs : List (Option ℕ)) (j n : ℕ) → get_or xs j None ≡ Some n → j < length xs
+written_there [] j n e = absurd cc
+written_there (x ∷ xs) zero n e = omega arith
+written_there (x ∷ xs) (suc j) n e = let l = written_there xs j n e in omega (arith, l)
+
+-- one cell
+same_cell : {c d : HeldCell} → Some c ≡ Some d → c ≡ d
+same_cell e = cc e
 
 -- a cell that is there, with its words
 pub record Found (rows : List Row) (b : ℕ) : Type 0 where
@@ -66,7 +76,7 @@ pointer_read i x p e r = ap pointer_in (sym r ∙ e)
 -- the number that was read
 abbrev number_in : Item → ℕ
 number_in None = 0
-number_in (Some (p, n)) = n
+number_in (Some (p, (n, xs))) = n
 
 -- a word is one number
 pub number_read : (i : Item) (m n : ℕ) → i ≡ number m → i ≡ number n → n ≡ m
@@ -74,45 +84,56 @@ number_read i m n e r = ap number_in (sym r ∙ e)
 
 -- Numbers
 
--- the word of one of the first numbers of a cell
-pub number_is : (rows : List Row) (b k : ℕ) (laid : AreLaid rows) (there : IsSome (cells_by rows b)) → k < 6
-    → get_or (items_in rows b) (8 + k) blank ≡ number (get_or (numbers_of (cells_by rows b)) k 0)
-number_is rows b k laid there low =
+-- the half of one of the small numbers of a cell
+pub small_is : (rows : List Row) (b k : ℕ) (laid : AreLaid rows) (there : IsSome (cells_by rows b)) → k < 2
+    → half_at (items_in rows b) (16 + k) ≡ Some (get_or (numbers_of (cells_by rows b)) k 0)
+small_is rows b k laid there low =
     let f = found rows b laid there in
-    ap (λ is. get_or is (8 + k) blank) f.words ∙ first_number_at f.cell f.shaped k low ∙ ap (λ (o : Option HeldCell). number (get_or (numbers_of o) k 0)) (sym f.is)
+    ap (λ is. half_at is (16 + k)) f.words ∙ small_number_at f.cell f.shaped k low ∙ ap (λ (o : Option HeldCell). Some (get_or (numbers_of o) k 0)) (sym f.is)
+
+-- it is below 2 ^ 32
+pub small_fits : (rows : List Row) (b k : ℕ) (laid : AreLaid rows) (there : IsSome (cells_by rows b)) → k < 2 → get_or (numbers_of (cells_by rows b)) k 0 < 2 ^ 32
+small_fits rows b k laid there low = let f = found rows b laid there in subst (λ (o : Option HeldCell). get_or (numbers_of o) k 0 < 2 ^ 32) (sym f.is) (f.shaped.small k low)
+
+-- the word of one of the two others
+pub number_is : (rows : List Row) (b k : ℕ) (laid : AreLaid rows) (there : IsSome (cells_by rows b)) → 2 ≤ k → k < 6
+    → get_or (items_in rows b) (8 + k - 1) blank ≡ number (get_or (numbers_of (cells_by rows b)) k 0)
+number_is rows b k laid there high low =
+    let f = found rows b laid there in
+    ap (λ is. get_or is (8 + k - 1) blank) f.words ∙ first_number_at f.cell f.shaped k high low ∙ ap (λ (o : Option HeldCell). number (get_or (numbers_of o) k 0)) (sym f.is)
 
 -- that of one of the last numbers of a membrane
 pub count_is : (rows : List Row) (b k : ℕ) (laid : AreLaid rows) (there : IsSome (cells_by rows b)) → length (numbers_of (cells_by rows b)) ≡ 8 → 6 ≤ k → k < 8
-    → get_or (items_in rows b) (11 + k) blank ≡ number (get_or (numbers_of (cells_by rows b)) k 0)
+    → get_or (items_in rows b) (16 + k - 6) blank ≡ number (get_or (numbers_of (cells_by rows b)) k 0)
 count_is rows b k laid there eight h low =
     let f = found rows b laid there in
-    ap (λ is. get_or is (11 + k) blank) f.words ∙ last_number_word f.cell f.shaped (sym (ap (λ (o : Option HeldCell). length (numbers_of o)) f.is) ∙ eight) k h low
+    ap (λ is. get_or is (16 + k - 6) blank) f.words ∙ last_number_word f.cell f.shaped (sym (ap (λ (o : Option HeldCell). length (numbers_of o)) f.is) ∙ eight) k h low
     ∙ ap (λ (o : Option HeldCell). number (get_or (numbers_of o) k 0)) (sym f.is)
 
 -- Ports
 
 -- the word that says where a port leads
 pub to_is : (rows : List Row) (b j : ℕ) (laid : AreLaid rows) (there : IsSome (cells_by rows b)) → j < length (ports_of (cells_by rows b))
-    → get_or (items_in rows b) (14 + (j * 3 + 0)) blank ≡ link_to (get_or (ports_of (cells_by rows b)) j no_port).to
+    → get_or (items_in rows b) (13 + (j * 3 + 0)) blank ≡ link_to (get_or (ports_of (cells_by rows b)) j no_port).to
 to_is rows b j laid there low =
     let f = found rows b laid there in
-    ap (λ is. get_or is (14 + (j * 3 + 0)) blank) f.words ∙ ports_at f.cell f.shaped (j * 3 + 0) ∙ port_word_at f.cell.ports j 0 (number_items (drop 6 f.cell.numbers)) (omega arith) (subst (λ (o : Option HeldCell). j < length (ports_of o)) f.is low)
+    ap (λ is. get_or is (13 + (j * 3 + 0)) blank) f.words ∙ ports_at f.cell f.shaped (j * 3 + 0) ∙ port_word_at f.cell.ports j 0 (number_items (drop 6 f.cell.numbers)) (omega arith) (subst (λ (o : Option HeldCell). j < length (ports_of o)) f.is low)
     ∙ ap (λ (o : Option HeldCell). link_to (get_or (ports_of o) j no_port).to) (sym f.is)
 
 -- the word of the port there
 pub port_is : (rows : List Row) (b j : ℕ) (laid : AreLaid rows) (there : IsSome (cells_by rows b)) → j < length (ports_of (cells_by rows b))
-    → get_or (items_in rows b) (14 + (j * 3 + 1)) blank ≡ number (get_or (ports_of (cells_by rows b)) j no_port).port
+    → get_or (items_in rows b) (13 + (j * 3 + 1)) blank ≡ number (get_or (ports_of (cells_by rows b)) j no_port).port
 port_is rows b j laid there low =
     let f = found rows b laid there in
-    ap (λ is. get_or is (14 + (j * 3 + 1)) blank) f.words ∙ ports_at f.cell f.shaped (j * 3 + 1) ∙ port_word_at f.cell.ports j 1 (number_items (drop 6 f.cell.numbers)) (omega arith) (subst (λ (o : Option HeldCell). j < length (ports_of o)) f.is low)
+    ap (λ is. get_or is (13 + (j * 3 + 1)) blank) f.words ∙ ports_at f.cell f.shaped (j * 3 + 1) ∙ port_word_at f.cell.ports j 1 (number_items (drop 6 f.cell.numbers)) (omega arith) (subst (λ (o : Option HeldCell). j < length (ports_of o)) f.is low)
     ∙ ap (λ (o : Option HeldCell). number (get_or (ports_of o) j no_port).port) (sym f.is)
 
 -- the word of the mark of a port
 pub mark_is : (rows : List Row) (b j : ℕ) (laid : AreLaid rows) (there : IsSome (cells_by rows b)) → j < length (ports_of (cells_by rows b))
-    → get_or (items_in rows b) (14 + (j * 3 + 2)) blank ≡ number (get_or (ports_of (cells_by rows b)) j no_port).mark
+    → get_or (items_in rows b) (13 + (j * 3 + 2)) blank ≡ number (get_or (ports_of (cells_by rows b)) j no_port).mark
 mark_is rows b j laid there low =
     let f = found rows b laid there in
-    ap (λ is. get_or is (14 + (j * 3 + 2)) blank) f.words ∙ ports_at f.cell f.shaped (j * 3 + 2) ∙ port_word_at f.cell.ports j 2 (number_items (drop 6 f.cell.numbers)) (omega arith) (subst (λ (o : Option HeldCell). j < length (ports_of o)) f.is low)
+    ap (λ is. get_or is (13 + (j * 3 + 2)) blank) f.words ∙ ports_at f.cell f.shaped (j * 3 + 2) ∙ port_word_at f.cell.ports j 2 (number_items (drop 6 f.cell.numbers)) (omega arith) (subst (λ (o : Option HeldCell). j < length (ports_of o)) f.is low)
     ∙ ap (λ (o : Option HeldCell). number (get_or (ports_of o) j no_port).mark) (sym f.is)
 
 -- fewer than 2 ^ 16 ports, and their words are below 2 ^ 32
@@ -135,16 +156,19 @@ same_count ns ms ps qs n p (inr eight) = inr (n ∙ eight.0, p ∙ eight.1)
 pub six_there : (rows : List Row) (b : ℕ) → AreLaid rows → IsSome (cells_by rows b) → 6 ≤ length (numbers_of (cells_by rows b))
 six_there rows b laid there = let f = found rows b laid there in subst (λ (o : Option HeldCell). 6 ≤ length (numbers_of o)) (sym f.is) (some_numbers f.cell f.shaped)
 
--- a cell has its links and numbers
-pub words_there : (rows : List Row) (b : ℕ) → AreLaid rows → IsSome (cells_by rows b) → 8 + length (numbers_of (cells_by rows b)) < suc (length (items_in rows b))
-words_there rows b laid there = let f = found rows b laid there in subst (λ is. 8 + length (numbers_of (cells_by rows b)) < suc (length is)) (sym f.words)
-    (subst (λ (o : Option HeldCell). 8 + length (numbers_of o) < suc (length (cell_items f.cell))) (sym f.is) (let n = word_count f.cell f.shaped in omega (arith, n)))
+-- a cell has the words of its links and first numbers
+pub words_there : (rows : List Row) (b : ℕ) → AreLaid rows → IsSome (cells_by rows b) → 13 ≤ length (items_in rows b)
+words_there rows b laid there = let f = found rows b laid there in subst (λ is. 13 ≤ length is) (sym f.words) (let n = word_count f.cell f.shaped in let some = some_numbers f.cell f.shaped in omega (arith, n, some))
+
+-- both halves of a word of small numbers are there
+pub halves_there : (rows : List Row) (b k : ℕ) → AreLaid rows → IsSome (cells_by rows b) → k < 2 → (16 + k) % 2 < length (halves_in (get_or (items_in rows b) ((16 + k) / 2) blank))
+halves_there rows b k laid there low = let f = found rows b laid there in written_there (halves_in (get_or (items_in rows b) ((16 + k) / 2) blank)) ((16 + k) % 2) (get_or f.cell.numbers k 0) (ap (λ is. half_at is (16 + k)) f.words ∙ small_number_at f.cell f.shaped k low)
 
 -- a cell has the words of its ports
-pub port_words_there : (rows : List Row) (b j w : ℕ) → AreLaid rows → IsSome (cells_by rows b) → j < length (ports_of (cells_by rows b)) → w < 3 → 14 + (j * 3 + w) < length (items_in rows b)
+pub port_words_there : (rows : List Row) (b j w : ℕ) → AreLaid rows → IsSome (cells_by rows b) → j < length (ports_of (cells_by rows b)) → w < 3 → 13 + (j * 3 + w) < length (items_in rows b)
 port_words_there rows b j w laid there low h =
     let f = found rows b laid there in let l : j < length f.cell.ports = subst (λ (o : Option HeldCell). j < length (ports_of o)) f.is low in
-    subst (λ is. 14 + (j * 3 + w) < length is) (sym f.words) (let n = word_count f.cell f.shaped in let some = some_numbers f.cell f.shaped in omega (arith, n, l, h, some))
+    subst (λ is. 13 + (j * 3 + w) < length is) (sym f.words) (let n = word_count f.cell f.shaped in let some = some_numbers f.cell f.shaped in omega (arith, n, l, h, some))
 
 -- one word of a cell is written: what the rows stand for then
 pub changes : (rows : List Row) (b k : ℕ) (i : Item) (g : HeldCell → HeldCell) (laid : AreLaid rows) (there : IsSome (cells_by rows b))
@@ -172,47 +196,70 @@ pub link_changes : (rows : List Row) (b k : ℕ) (x : Option ℕ) (laid : AreLai
 link_changes rows b k x laid there low = changes rows b k (link_to x) (with_link k x) laid there
     (λ c s e. (
       set_link_at c.links k x (behind_links c) (subst (λ n. k < n) (sym s.links) low),
-      record { links = length-set c.links k x ∙ s.links; numbers = s.numbers; few = s.few },
+      record { links = length-set c.links k x ∙ s.links; numbers = s.numbers; small = s.small; few = s.few },
     ))
 
+-- small numbers stay small where one is another
+small_set : (ns : List ℕ) (k n : ℕ) → ((j : ℕ) → j < 2 → get_or ns j 0 < 2 ^ 32) → k < length ns → (k < 2 → n < 2 ^ 32) → (j : ℕ) → j < 2 → get_or (set ns k n) j 0 < 2 ^ 32
+small_set ns k n s low fits j l = elim (cases_eq j k) [
+  | inl e ↦ subst (λ (x : ℕ). x < 2 ^ 32) (sym (ap (λ (m : ℕ). get_or (set ns k n) m 0) e ∙ get_or-set_same ns k n 0 low)) (fits (omega (arith, e, l)))
+  | inr d ↦ subst (λ (x : ℕ). x < 2 ^ 32) (sym (get_or-set_other ns k j n 0 d)) (s j l)
+]
+
+-- what a row is after a half of a word of it was written
+pub record HalfChanged (rows : List Row) (b j n : ℕ) (g : HeldCell → HeldCell) : Type 0 where
+  pub laid : AreLaid (with_items b (with_half_at j n (items_in rows b)) rows)
+  pub cells : cells_by (with_items b (with_half_at j n (items_in rows b)) rows) ≡ alter (cells_by rows) b (option_map g)
+
+-- one of the small numbers
+pub small_changes : (rows : List Row) (b k n : ℕ) (laid : AreLaid rows) (there : IsSome (cells_by rows b)) → k < 2 → n < 2 ^ 32 → HalfChanged rows b (16 + k) n (with_number k n)
+small_changes rows b k n laid there low fits =
+    let f = found rows b laid there in let c = f.cell in let s = f.shaped in let six = some_numbers c s in let i = with_half ((16 + k) % 2) n (get_or (items_in rows b) ((16 + k) / 2) blank) in
+    let h = changes rows b ((16 + k) / 2) i (with_number k n) laid there
+    (λ d t e. (
+      ap (λ (is : List Item). set (cell_items d) ((16 + k) / 2) (with_half ((16 + k) % 2) n (get_or is ((16 + k) / 2) blank))) (f.words ∙ ap cell_items (same_cell (sym f.is ∙ e))) ∙ set_small_number_at d t k n low,
+      record { links = t.links; numbers = same_count d.numbers (set d.numbers k n) d.ports d.ports (length-set d.numbers k n) refl t.numbers; small = small_set d.numbers k n t.small (let m = some_numbers d t in omega (arith, m, low)) (λ _. fits); few = t.few },
+    )) in
+    record { laid = h.laid; cells = h.cells }
+
 -- one of the first numbers
-pub number_changes : (rows : List Row) (b k n : ℕ) (laid : AreLaid rows) (there : IsSome (cells_by rows b)) → k < 6 → Changed rows b (8 + k) (number n) (with_number k n)
-number_changes rows b k n laid there low = changes rows b (8 + k) (number n) (with_number k n) laid there
+pub number_changes : (rows : List Row) (b k n : ℕ) (laid : AreLaid rows) (there : IsSome (cells_by rows b)) → 2 ≤ k → k < 6 → Changed rows b (8 + k - 1) (number n) (with_number k n)
+number_changes rows b k n laid there high low = changes rows b (8 + k - 1) (number n) (with_number k n) laid there
     (λ c s e. (
-      set_first_number_at c s k n low,
-      record { links = s.links; numbers = same_count c.numbers (set c.numbers k n) c.ports c.ports (length-set c.numbers k n) refl s.numbers; few = s.few },
+      set_first_number_at c s k n high low,
+      record { links = s.links; numbers = same_count c.numbers (set c.numbers k n) c.ports c.ports (length-set c.numbers k n) refl s.numbers; small = small_set c.numbers k n s.small (let m = some_numbers c s in omega (arith, m, low)) (λ l. absurd (omega (arith, l, high))); few = s.few },
     ))
 
 -- one of the last numbers of a membrane
-pub count_changes : (rows : List Row) (b k n : ℕ) (laid : AreLaid rows) (there : IsSome (cells_by rows b)) → length (numbers_of (cells_by rows b)) ≡ 8 → 6 ≤ k → k < 8 → Changed rows b (11 + k) (number n) (with_number k n)
-count_changes rows b k n laid there eight h low = changes rows b (11 + k) (number n) (with_number k n) laid there
+pub count_changes : (rows : List Row) (b k n : ℕ) (laid : AreLaid rows) (there : IsSome (cells_by rows b)) → length (numbers_of (cells_by rows b)) ≡ 8 → 6 ≤ k → k < 8 → Changed rows b (16 + k - 6) (number n) (with_number k n)
+count_changes rows b k n laid there eight h low = changes rows b (16 + k - 6) (number n) (with_number k n) laid there
     (λ c s e. (
       set_last_number_word c s (sym (ap (λ (o : Option HeldCell). length (numbers_of o)) e) ∙ eight) k n h low,
-      record { links = s.links; numbers = same_count c.numbers (set c.numbers k n) c.ports c.ports (length-set c.numbers k n) refl s.numbers; few = s.few },
+      record { links = s.links; numbers = same_count c.numbers (set c.numbers k n) c.ports c.ports (length-set c.numbers k n) refl s.numbers; small = small_set c.numbers k n s.small (let e8 = sym (ap (λ (o : Option HeldCell). length (numbers_of o)) e) ∙ eight in omega (arith, e8, low)) (λ l. absurd (omega (arith, l, h))); few = s.few },
     ))
 
 -- where a port leads
-pub to_changes : (rows : List Row) (b j : ℕ) (x : Option ℕ) (laid : AreLaid rows) (there : IsSome (cells_by rows b)) → j < length (ports_of (cells_by rows b)) → Changed rows b (14 + (j * 3 + 0)) (link_to x) (with_to j x)
-to_changes rows b j x laid there low = changes rows b (14 + (j * 3 + 0)) (link_to x) (with_to j x) laid there
+pub to_changes : (rows : List Row) (b j : ℕ) (x : Option ℕ) (laid : AreLaid rows) (there : IsSome (cells_by rows b)) → j < length (ports_of (cells_by rows b)) → Changed rows b (13 + (j * 3 + 0)) (link_to x) (with_to j x)
+to_changes rows b j x laid there low = changes rows b (13 + (j * 3 + 0)) (link_to x) (with_to j x) laid there
     (λ c s e. (
-      set_ports_at c s (j * 3 + 0) (link_to x) ∙ ap (λ is. link_items c.links ++ (number_items (take 6 c.numbers) ++ is)) (set_to_at c.ports j x (number_items (drop 6 c.numbers)) (subst (λ (o : Option HeldCell). j < length (ports_of o)) e low)),
-      record { links = s.links; numbers = same_count c.numbers c.numbers c.ports (set c.ports j _) refl (length-set c.ports j _) s.numbers; few = subst (λ n. n < 2 ^ 16) (sym (length-set c.ports j _)) s.few },
+      set_ports_at c s (j * 3 + 0) (link_to x) ∙ ap (λ is. link_items c.links ++ (first_items (take 6 c.numbers) ++ is)) (set_to_at c.ports j x (number_items (drop 6 c.numbers)) (subst (λ (o : Option HeldCell). j < length (ports_of o)) e low)),
+      record { links = s.links; numbers = same_count c.numbers c.numbers c.ports (set c.ports j _) refl (length-set c.ports j _) s.numbers; small = s.small; few = subst (λ n. n < 2 ^ 16) (sym (length-set c.ports j _)) s.few },
     ))
 
 -- the number of the port there
-pub port_changes : (rows : List Row) (b j n : ℕ) (laid : AreLaid rows) (there : IsSome (cells_by rows b)) → j < length (ports_of (cells_by rows b)) → Changed rows b (14 + (j * 3 + 1)) (number n) (with_port j n)
-port_changes rows b j n laid there low = changes rows b (14 + (j * 3 + 1)) (number n) (with_port j n) laid there
+pub port_changes : (rows : List Row) (b j n : ℕ) (laid : AreLaid rows) (there : IsSome (cells_by rows b)) → j < length (ports_of (cells_by rows b)) → Changed rows b (13 + (j * 3 + 1)) (number n) (with_port j n)
+port_changes rows b j n laid there low = changes rows b (13 + (j * 3 + 1)) (number n) (with_port j n) laid there
     (λ c s e. (
-      set_ports_at c s (j * 3 + 1) (number n) ∙ ap (λ is. link_items c.links ++ (number_items (take 6 c.numbers) ++ is)) (set_port_at c.ports j n (number_items (drop 6 c.numbers)) (subst (λ (o : Option HeldCell). j < length (ports_of o)) e low)),
-      record { links = s.links; numbers = same_count c.numbers c.numbers c.ports (set c.ports j _) refl (length-set c.ports j _) s.numbers; few = subst (λ m. m < 2 ^ 16) (sym (length-set c.ports j _)) s.few },
+      set_ports_at c s (j * 3 + 1) (number n) ∙ ap (λ is. link_items c.links ++ (first_items (take 6 c.numbers) ++ is)) (set_port_at c.ports j n (number_items (drop 6 c.numbers)) (subst (λ (o : Option HeldCell). j < length (ports_of o)) e low)),
+      record { links = s.links; numbers = same_count c.numbers c.numbers c.ports (set c.ports j _) refl (length-set c.ports j _) s.numbers; small = s.small; few = subst (λ m. m < 2 ^ 16) (sym (length-set c.ports j _)) s.few },
     ))
 
 -- the mark of a port
-pub mark_changes : (rows : List Row) (b j n : ℕ) (laid : AreLaid rows) (there : IsSome (cells_by rows b)) → j < length (ports_of (cells_by rows b)) → Changed rows b (14 + (j * 3 + 2)) (number n) (with_mark j n)
-mark_changes rows b j n laid there low = changes rows b (14 + (j * 3 + 2)) (number n) (with_mark j n) laid there
+pub mark_changes : (rows : List Row) (b j n : ℕ) (laid : AreLaid rows) (there : IsSome (cells_by rows b)) → j < length (ports_of (cells_by rows b)) → Changed rows b (13 + (j * 3 + 2)) (number n) (with_mark j n)
+mark_changes rows b j n laid there low = changes rows b (13 + (j * 3 + 2)) (number n) (with_mark j n) laid there
     (λ c s e. (
-      set_ports_at c s (j * 3 + 2) (number n) ∙ ap (λ is. link_items c.links ++ (number_items (take 6 c.numbers) ++ is)) (set_mark_at c.ports j n (number_items (drop 6 c.numbers)) (subst (λ (o : Option HeldCell). j < length (ports_of o)) e low)),
-      record { links = s.links; numbers = same_count c.numbers c.numbers c.ports (set c.ports j _) refl (length-set c.ports j _) s.numbers; few = subst (λ m. m < 2 ^ 16) (sym (length-set c.ports j _)) s.few },
+      set_ports_at c s (j * 3 + 2) (number n) ∙ ap (λ is. link_items c.links ++ (first_items (take 6 c.numbers) ++ is)) (set_mark_at c.ports j n (number_items (drop 6 c.numbers)) (subst (λ (o : Option HeldCell). j < length (ports_of o)) e low)),
+      record { links = s.links; numbers = same_count c.numbers c.numbers c.ports (set c.ports j _) refl (length-set c.ports j _) s.numbers; small = s.small; few = subst (λ m. m < 2 ^ 16) (sym (length-set c.ports j _)) s.few },
     ))
 
 -- what holds after a word was written, as the row's call says it
@@ -223,3 +270,16 @@ laid_after rows rows' b k i i' g c e r = subst AreLaid (sym (r ∙ ap (λ z. wit
 pub cells_after : (rows rows' : List Row) (b k : ℕ) (i i' : Item) (g : HeldCell → HeldCell) → Changed rows b k i g → i' ≡ i → rows' ≡ with_items b (set (items_in rows b) k i') rows
     → cells_by rows' ≡ alter (cells_by rows) b (option_map g)
 cells_after rows rows' b k i i' g c e r = ap (λ (z : List Row). cells_by z) (r ∙ ap (λ z. with_items b (set (items_in rows b) k z) rows) e) ∙ c.cells
+
+-- what holds after a half was written
+pub half_laid_after : (rows rows' : List Row) (b j n n' : ℕ) (g : HeldCell → HeldCell) → HalfChanged rows b j n g → n' ≡ n → rows' ≡ with_items b (with_half_at j n' (items_in rows b)) rows → AreLaid rows'
+half_laid_after rows rows' b j n n' g c e r = subst AreLaid (sym (r ∙ ap (λ z. with_items b (with_half_at j z (items_in rows b)) rows) e)) c.laid
+
+pub half_cells_after : (rows rows' : List Row) (b j n n' : ℕ) (g : HeldCell → HeldCell) → HalfChanged rows b j n g → n' ≡ n → rows' ≡ with_items b (with_half_at j n' (items_in rows b)) rows → cells_by rows' ≡ alter (cells_by rows) b (option_map g)
+half_cells_after rows rows' b j n n' g c e r = ap (λ (z : List Row). cells_by z) (r ∙ ap (λ z. with_items b (with_half_at j z (items_in rows b)) rows) e) ∙ c.cells
+
+-- the number that was read of a half
+pub half_read : (o : Option ℕ) (m n : ℕ) → o ≡ Some m → o ≡ Some n → n ≡ m
+half_read o m n e r = some_is (sym r ∙ e) where
+  some_is : {x y : ℕ} → Some x ≡ Some y → x ≡ y
+  some_is q = cc q

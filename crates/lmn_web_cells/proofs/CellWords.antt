@@ -1,10 +1,9 @@
 -- The words of a cell, read and written.
-use Rattle.std.proofs.Common.{◌≡◌, ◌≢◌, ℕ, zero, suc, ◌+◌, ◌-◌, ◌*◌, ◌<◌, ◌≤◌, Bool, List, [], ◌∷◌, ◌++◌, length, take, drop, get_or, set, Option, Some, None, if◌then◌else◌, refl, sym, subst, ap, ◌∙◌, inl, inr, arith}
-use Rattle.lmn_web_cells.specs.Rows.{Item, blank, number, place_of, place_ptr}
-use Rattle.lmn_web_cells.specs.Cells.{HeldPort, HeldCell, link_to, link_items, number_items, port_items, cell_items, led_to, first_links, first_numbers, ports_by, last_numbers, cell_by, IsShaped, no_port}
+use Rattle.std.proofs.Common.{◌≡◌, ◌≢◌, ℕ, zero, suc, ◌+◌, ◌-◌, ◌*◌, ◌/◌, ◌%◌, ◌<◌, ◌≤◌, Bool, List, [], ◌∷◌, ◌++◌, length, take, drop, get_or, set, Option, Some, None, if◌then◌else◌, refl, sym, subst, ap, ◌∙◌, inl, inr, arith}
+use Rattle.lmn_web_cells.specs.Rows.{Item, blank, number, halves, halves_in, with_half, half_at, with_half_at, place_of, place_ptr}
+use Rattle.lmn_web_cells.specs.Cells.{HeldPort, HeldCell, link_to, link_items, number_items, first_items, port_items, cell_items, led_to, first_links, first_numbers, numbers_by, ports_by, last_numbers, cell_by, IsShaped, no_port}
 use Rattle.std.proofs.lemmas.Bool.{eq-eqb}
-use Rattle.std.proofs.lemmas.List.{nil_from_length, get_or-take, get_or-drop, take-append-drop, length-take-le, length-drop, take-set-le, drop-set-lt, drop-set-add}
-use Rattle.std.proofs.Math.Seq.{take-set-lt}
+use Rattle.std.proofs.lemmas.List.{nil_from_length, get_or-drop, take-append-drop, length-drop, take-set-le, drop-set-lt, drop-set-add}
 use Rattle.lmn_base.proofs.Numbers.{no_more, not_equal}
 
 -- Parts of the words
@@ -14,14 +13,11 @@ abbrev pub behind_numbers : HeldCell → List Item
 behind_numbers c = port_items c.ports ++ number_items (drop 6 c.numbers)
 
 abbrev pub behind_links : HeldCell → List Item
-behind_links c = number_items (take 6 c.numbers) ++ behind_numbers c
+behind_links c = first_items (take 6 c.numbers) ++ behind_numbers c
 
 -- a cell has six numbers at least
 pub some_numbers : (c : HeldCell) → IsShaped c → 6 ≤ length c.numbers
 some_numbers c s = elim s.numbers [ inl six ↦ omega (arith, six) | inr eight ↦ (let e = eight.0 in omega (arith, e)) ]
-
-six_first : (c : HeldCell) → IsShaped c → length (take 6 c.numbers) ≡ 6
-six_first c s = length-take-le 6 c.numbers (some_numbers c s)
 
 -- a cell with eight numbers has one port
 pub one_port : (c : HeldCell) → IsShaped c → length c.numbers ≡ 8 → length c.ports ≡ 1
@@ -38,12 +34,6 @@ link_at [] k rest l = absurd (omega (arith, l))
 link_at (x ∷ ls) zero rest l = refl
 link_at (x ∷ ls) (suc k) rest l = link_at ls k rest (omega (arith, l))
 
--- the word of a number
-pub number_at : (ns : List ℕ) (k : ℕ) (rest : List Item) → k < length ns → get_or (number_items ns ++ rest) k blank ≡ number (get_or ns k 0)
-number_at [] k rest l = absurd (omega (arith, l))
-number_at (x ∷ ns) zero rest l = refl
-number_at (x ∷ ns) (suc k) rest l = number_at ns k rest (omega (arith, l))
-
 -- what stands behind the links
 pub past_links : (ls : List (Option ℕ)) (n k : ℕ) (rest : List Item) → length ls ≡ n → get_or (link_items ls ++ rest) (n + k) blank ≡ get_or rest k blank
 past_links [] zero k rest e = ap (λ m. get_or rest m blank) (no_more k)
@@ -51,11 +41,34 @@ past_links [] (suc n) k rest e = absurd (omega (arith, e))
 past_links (x ∷ ls) zero k rest e = absurd (omega (arith, e))
 past_links (x ∷ ls) (suc n) k rest e = ap (λ m. get_or (link_items (x ∷ ls) ++ rest) m blank) (one_less n k) ∙ past_links ls n k rest (omega (arith, e))
 
-past_numbers : (ns : List ℕ) (n k : ℕ) (rest : List Item) → length ns ≡ n → get_or (number_items ns ++ rest) (n + k) blank ≡ get_or rest k blank
-past_numbers [] zero k rest e = ap (λ m. get_or rest m blank) (no_more k)
-past_numbers [] (suc n) k rest e = absurd (omega (arith, e))
-past_numbers (x ∷ ls) zero k rest e = absurd (omega (arith, e))
-past_numbers (x ∷ ls) (suc n) k rest e = ap (λ m. get_or (number_items (x ∷ ls) ++ rest) m blank) (one_less n k) ∙ past_numbers ls n k rest (omega (arith, e))
+-- six numbers and others
+pub record Six (ns : List ℕ) : Type 0 where
+  pub a : ℕ
+  pub b : ℕ
+  pub c : ℕ
+  pub d : ℕ
+  pub e : ℕ
+  pub f : ℕ
+  pub others : List ℕ
+  pub are : ns ≡ a ∷ b ∷ c ∷ d ∷ e ∷ f ∷ others
+
+six_of : (ns : List ℕ) → 6 ≤ length ns → Six ns
+six_of [] l = absurd (omega (arith, l))
+six_of (a ∷ []) l = absurd (omega (arith, l))
+six_of (a ∷ b ∷ []) l = absurd (omega (arith, l))
+six_of (a ∷ b ∷ c ∷ []) l = absurd (omega (arith, l))
+six_of (a ∷ b ∷ c ∷ d ∷ []) l = absurd (omega (arith, l))
+six_of (a ∷ b ∷ c ∷ d ∷ e ∷ []) l = absurd (omega (arith, l))
+six_of (a ∷ b ∷ c ∷ d ∷ e ∷ f ∷ ns) l = record { a = a; b = b; c = c; d = d; e = e; f = f; others = ns; are = refl }
+
+five_more : (k : ℕ) → 5 + k ≡ suc (suc (suc (suc (suc k))))
+five_more k = omega arith
+
+-- the words behind those of the first numbers
+past_numbers : (ns : List ℕ) (k : ℕ) (rest : List Item) → 6 ≤ length ns → get_or (first_items (take 6 ns) ++ rest) (5 + k) blank ≡ get_or rest k blank
+past_numbers ns k rest l = let h = six_of ns l in
+    subst (λ (ms : List ℕ). get_or (first_items (take 6 ms) ++ rest) (5 + k) blank ≡ get_or rest k blank) (sym h.are)
+    (ap (λ m. get_or (halves h.a h.b ∷ number h.c ∷ number h.d ∷ number h.e ∷ number h.f ∷ rest) m blank) (five_more k))
 
 three_more : (k : ℕ) → 3 + k ≡ suc (suc (suc k))
 three_more k = omega arith
@@ -78,12 +91,6 @@ set_link_at [] k x rest l = absurd (omega (arith, l))
 set_link_at (y ∷ ls) zero x rest l = refl
 set_link_at (y ∷ ls) (suc k) x rest l = ap (λ is. link_to y ∷ is) (set_link_at ls k x rest (omega (arith, l)))
 
--- a number is written
-pub set_number_at : (ns : List ℕ) (k n : ℕ) (rest : List Item) → k < length ns → set (number_items ns ++ rest) k (number n) ≡ number_items (set ns k n) ++ rest
-set_number_at [] k n rest l = absurd (omega (arith, l))
-set_number_at (y ∷ ns) zero n rest l = refl
-set_number_at (y ∷ ns) (suc k) n rest l = ap (λ is. number y ∷ is) (set_number_at ns k n rest (omega (arith, l)))
-
 -- a word behind the links is written
 pub set_past_links : (ls : List (Option ℕ)) (n k : ℕ) (i : Item) (rest : List Item) → length ls ≡ n → set (link_items ls ++ rest) (n + k) i ≡ link_items ls ++ set rest k i
 set_past_links [] zero k i rest e = ap (λ m. set rest m i) (no_more k)
@@ -91,11 +98,10 @@ set_past_links [] (suc n) k i rest e = absurd (omega (arith, e))
 set_past_links (x ∷ ls) zero k i rest e = absurd (omega (arith, e))
 set_past_links (x ∷ ls) (suc n) k i rest e = ap (λ m. set (link_items (x ∷ ls) ++ rest) m i) (one_less n k) ∙ ap (λ is. link_to x ∷ is) (set_past_links ls n k i rest (omega (arith, e)))
 
-set_past_numbers : (ns : List ℕ) (n k : ℕ) (i : Item) (rest : List Item) → length ns ≡ n → set (number_items ns ++ rest) (n + k) i ≡ number_items ns ++ set rest k i
-set_past_numbers [] zero k i rest e = ap (λ m. set rest m i) (no_more k)
-set_past_numbers [] (suc n) k i rest e = absurd (omega (arith, e))
-set_past_numbers (x ∷ ns) zero k i rest e = absurd (omega (arith, e))
-set_past_numbers (x ∷ ns) (suc n) k i rest e = ap (λ m. set (number_items (x ∷ ns) ++ rest) m i) (one_less n k) ∙ ap (λ is. number x ∷ is) (set_past_numbers ns n k i rest (omega (arith, e)))
+set_past_numbers : (ns : List ℕ) (k : ℕ) (i : Item) (rest : List Item) → 6 ≤ length ns → set (first_items (take 6 ns) ++ rest) (5 + k) i ≡ first_items (take 6 ns) ++ set rest k i
+set_past_numbers ns k i rest l = let h = six_of ns l in
+    subst (λ (ms : List ℕ). set (first_items (take 6 ms) ++ rest) (5 + k) i ≡ first_items (take 6 ms) ++ set rest k i) (sym h.are)
+    (ap (λ m. set (halves h.a h.b ∷ number h.c ∷ number h.d ∷ number h.e ∷ number h.f ∷ rest) m i) (five_more k))
 
 set_past_port : (ps : List HeldPort) (k : ℕ) (i : Item) (rest : List Item) → length ps ≡ 1 → set (port_items ps ++ rest) (3 + k) i ≡ port_items ps ++ set rest k i
 set_past_port [] k i rest e = absurd (omega (arith, e))
@@ -129,11 +135,8 @@ links_gone [] (suc n) k rest e = absurd (omega (arith, e))
 links_gone (x ∷ ls) zero k rest e = absurd (omega (arith, e))
 links_gone (x ∷ ls) (suc n) k rest e = ap (λ m. drop m (link_items (x ∷ ls) ++ rest)) (one_less n k) ∙ links_gone ls n k rest (omega (arith, e))
 
-numbers_back : (ns : List ℕ) (n : ℕ) (rest : List Item) → length ns ≡ n → first_numbers n (number_items ns ++ rest) ≡ ns
-numbers_back [] zero rest e = refl
-numbers_back [] (suc n) rest e = absurd (omega (arith, e))
-numbers_back (x ∷ ns) zero rest e = absurd (omega (arith, e))
-numbers_back (x ∷ ns) (suc n) rest e = ap (λ ys. x ∷ ys) (numbers_back ns n rest (omega (arith, e)))
+numbers_back : (ns : List ℕ) (rest : List Item) → 6 ≤ length ns → numbers_by (first_items (take 6 ns) ++ rest) ≡ take 6 ns
+numbers_back ns rest l = let h = six_of ns l in subst (λ (ms : List ℕ). numbers_by (first_items (take 6 ms) ++ rest) ≡ take 6 ms) (sym h.are) refl
 
 all_numbers_back : (ns : List ℕ) (n : ℕ) → length ns ≡ n → first_numbers n (number_items ns) ≡ ns
 all_numbers_back [] zero e = refl
@@ -141,11 +144,10 @@ all_numbers_back [] (suc n) e = absurd (omega (arith, e))
 all_numbers_back (x ∷ ns) zero e = absurd (omega (arith, e))
 all_numbers_back (x ∷ ns) (suc n) e = ap (λ ys. x ∷ ys) (all_numbers_back ns n (omega (arith, e)))
 
-numbers_gone : (ns : List ℕ) (n k : ℕ) (rest : List Item) → length ns ≡ n → drop (n + k) (number_items ns ++ rest) ≡ drop k rest
-numbers_gone [] zero k rest e = ap (λ m. drop m rest) (no_more k)
-numbers_gone [] (suc n) k rest e = absurd (omega (arith, e))
-numbers_gone (x ∷ ns) zero k rest e = absurd (omega (arith, e))
-numbers_gone (x ∷ ns) (suc n) k rest e = ap (λ m. drop m (number_items (x ∷ ns) ++ rest)) (one_less n k) ∙ numbers_gone ns n k rest (omega (arith, e))
+numbers_gone : (ns : List ℕ) (k : ℕ) (rest : List Item) → 6 ≤ length ns → drop (5 + k) (first_items (take 6 ns) ++ rest) ≡ drop k rest
+numbers_gone ns k rest l = let h = six_of ns l in
+    subst (λ (ms : List ℕ). drop (5 + k) (first_items (take 6 ms) ++ rest) ≡ drop k rest) (sym h.are)
+    (ap (λ m. drop m (halves h.a h.b ∷ number h.c ∷ number h.d ∷ number h.e ∷ number h.f ∷ rest)) (five_more k))
 
 port_gone : (ps : List HeldPort) (rest : List Item) → length ps ≡ 1 → drop 3 (port_items ps ++ rest) ≡ rest
 port_gone [] rest e = absurd (omega (arith, e))
@@ -160,7 +162,7 @@ ports_back [] (i ∷ j ∷ []) l = refl
 ports_back [] (i ∷ j ∷ k ∷ is) l = absurd (omega (arith, l))
 ports_back (p ∷ ps) rest l = λ j. record { to = link_back p.to j; port = p.port; mark = p.mark } ∷ ports_back ps rest l j
 
-whole : (is : List Item) → 0 < length is → cell_by is ≡ Some record { links = first_links 8 is; numbers = first_numbers 6 (drop 8 is) ++ last_numbers is; ports = ports_by (drop 14 is) }
+whole : (is : List Item) → 0 < length is → cell_by is ≡ Some record { links = first_links 8 is; numbers = numbers_by (drop 8 is) ++ last_numbers is; ports = ports_by (drop 13 is) }
 whole [] l = absurd (omega (arith, l))
 whole (i ∷ is) l = refl
 
@@ -170,9 +172,8 @@ count_links : (ls : List (Option ℕ)) (rest : List Item) → length (link_items
 count_links [] rest = omega arith
 count_links (x ∷ ls) rest = let r = count_links ls rest in omega (arith, r)
 
-count_numbers : (ns : List ℕ) (rest : List Item) → length (number_items ns ++ rest) ≡ length ns + length rest
-count_numbers [] rest = omega arith
-count_numbers (x ∷ ns) rest = let r = count_numbers ns rest in omega (arith, r)
+count_numbers : (ns : List ℕ) (rest : List Item) → 6 ≤ length ns → length (first_items (take 6 ns) ++ rest) ≡ 5 + length rest
+count_numbers ns rest l = let h = six_of ns l in subst (λ (ms : List ℕ). length (first_items (take 6 ms) ++ rest) ≡ 5 + length rest) (sym h.are) (omega arith)
 
 count_ports : (ps : List HeldPort) (rest : List Item) → length (port_items ps ++ rest) ≡ length ps * 3 + length rest
 count_ports [] rest = omega arith
@@ -183,11 +184,11 @@ count_last [] = refl
 count_last (x ∷ ns) = ap suc (count_last ns)
 
 -- how many words a cell has
-pub word_count : (c : HeldCell) → IsShaped c → length (cell_items c) ≡ 8 + length c.numbers + length c.ports * 3
+pub word_count : (c : HeldCell) → IsShaped c → length (cell_items c) ≡ 7 + length c.numbers + length c.ports * 3
 word_count c s =
-    let a = count_links c.links (behind_links c) in let b = count_numbers (take 6 c.numbers) (behind_numbers c) in let d = count_ports c.ports (number_items (drop 6 c.numbers)) in
-    let l = count_last (drop 6 c.numbers) in let m = length-drop 6 c.numbers in let n = six_first c s in let some = some_numbers c s in
-    let e = s.links in omega (arith, a, b, d, e, l, m, n, some)
+    let a = count_links c.links (behind_links c) in let b = count_numbers c.numbers (behind_numbers c) (some_numbers c s) in let d = count_ports c.ports (number_items (drop 6 c.numbers)) in
+    let l = count_last (drop 6 c.numbers) in let m = length-drop 6 c.numbers in let some = some_numbers c s in
+    let e = s.links in omega (arith, a, b, d, e, l, m, some)
 
 few_last : (c : HeldCell) → IsShaped c → length (number_items (drop 6 c.numbers)) < 3
 few_last c s = let l = count_last (drop 6 c.numbers) in let m = length-drop 6 c.numbers in elim s.numbers [
@@ -198,11 +199,11 @@ few_last c s = let l = count_last (drop 6 c.numbers) in let m = length-drop 6 c.
 -- the last numbers of a membrane are read where its row has their words
 last_back : (c : HeldCell) → IsShaped c → last_numbers (cell_items c) ≡ drop 6 c.numbers
 last_back c s = elim s.numbers [
-  | inl six ↦ (let w = word_count c s in let d : length (cell_items c) ≢ 19 = (λ e. absurd (omega (arith, w, six, e))) in let m = length-drop 6 c.numbers in
-      ap (λ (t : Bool). if t then first_numbers 2 (drop 17 (cell_items c)) else []) (not_equal (length (cell_items c)) 19 d) ∙ sym (nil_from_length (drop 6 c.numbers) (omega (arith, m, six))))
-  | inr eight ↦ (let w = word_count c s in let one = eight.1 in let number = eight.0 in let e : length (cell_items c) ≡ 19 = omega (arith, w, number, one) in let m = length-drop 6 c.numbers in
-      ap (λ (t : Bool). if t then first_numbers 2 (drop 17 (cell_items c)) else []) (eq-eqb (length (cell_items c)) 19 e)
-      ∙ ap (first_numbers 2) (links_gone c.links 8 9 (behind_links c) s.links ∙ numbers_gone (take 6 c.numbers) 6 3 (behind_numbers c) (six_first c s) ∙ port_gone c.ports (number_items (drop 6 c.numbers)) one)
+  | inl six ↦ (let w = word_count c s in let d : length (cell_items c) ≢ 18 = (λ e. absurd (omega (arith, w, six, e))) in let m = length-drop 6 c.numbers in
+      ap (λ (t : Bool). if t then first_numbers 2 (drop 16 (cell_items c)) else []) (not_equal (length (cell_items c)) 18 d) ∙ sym (nil_from_length (drop 6 c.numbers) (omega (arith, m, six))))
+  | inr eight ↦ (let w = word_count c s in let one = eight.1 in let number = eight.0 in let e : length (cell_items c) ≡ 18 = omega (arith, w, number, one) in let m = length-drop 6 c.numbers in
+      ap (λ (t : Bool). if t then first_numbers 2 (drop 16 (cell_items c)) else []) (eq-eqb (length (cell_items c)) 18 e)
+      ∙ ap (first_numbers 2) (links_gone c.links 8 8 (behind_links c) s.links ∙ numbers_gone c.numbers 3 (behind_numbers c) (some_numbers c s) ∙ port_gone c.ports (number_items (drop 6 c.numbers)) one)
       ∙ all_numbers_back (drop 6 c.numbers) 2 (omega (arith, m, number)))
 ]
 
@@ -213,13 +214,12 @@ some_words (x ∷ ls) rest e = omega arith
 -- the words of a cell stand for it
 pub cell_back : (c : HeldCell) → IsShaped c → cell_by (cell_items c) ≡ Some c
 cell_back c s =
-    let six = six_first c s in
-    let first : first_numbers 6 (drop 8 (cell_items c)) ≡ take 6 c.numbers = ap (first_numbers 6) (links_gone c.links 8 0 (behind_links c) s.links) ∙ numbers_back (take 6 c.numbers) 6 (behind_numbers c) six in
+    let first : numbers_by (drop 8 (cell_items c)) ≡ take 6 c.numbers = ap numbers_by (links_gone c.links 8 0 (behind_links c) s.links) ∙ numbers_back c.numbers (behind_numbers c) (some_numbers c s) in
     whole (cell_items c) (some_words c.links (behind_links c) s.links)
     ∙ (λ j. Some record {
       links = links_back c.links 8 (behind_links c) s.links j;
       numbers = ((λ t. first t ++ last_back c s t) ∙ take-append-drop 6 c.numbers) j;
-      ports = (ap ports_by (links_gone c.links 8 6 (behind_links c) s.links ∙ numbers_gone (take 6 c.numbers) 6 0 (behind_numbers c) six) ∙ ports_back c.ports (number_items (drop 6 c.numbers)) (few_last c s)) j;
+      ports = (ap ports_by (links_gone c.links 8 5 (behind_links c) s.links ∙ numbers_gone c.numbers 0 (behind_numbers c) (some_numbers c s)) ∙ ports_back c.ports (number_items (drop 6 c.numbers)) (few_last c s)) j;
     })
 
 -- Ports
@@ -264,32 +264,102 @@ set_mark_at (p ∷ ps) (suc j) n rest l = subst (λ m. set (port_items (p ∷ ps
     (ap (λ is. link_to p.to ∷ number p.port ∷ number p.mark ∷ is) (set_mark_at ps j n rest (omega (arith, l))))
 
 -- behind the links and the first numbers
-ten : (m : ℕ) → 14 + m ≡ 8 + (6 + m)
+ten : (m : ℕ) → 13 + m ≡ 8 + (5 + m)
 ten m = omega arith
 
 -- a word of the ports, among all words
-pub ports_at : (c : HeldCell) → IsShaped c → (m : ℕ) → get_or (cell_items c) (14 + m) blank ≡ get_or (behind_numbers c) m blank
-ports_at c s m = ap (λ n. get_or (cell_items c) n blank) (ten m) ∙ past_links c.links 8 (6 + m) (behind_links c) s.links ∙ past_numbers (take 6 c.numbers) 6 m (behind_numbers c) (six_first c s)
+pub ports_at : (c : HeldCell) → IsShaped c → (m : ℕ) → get_or (cell_items c) (13 + m) blank ≡ get_or (behind_numbers c) m blank
+ports_at c s m = ap (λ n. get_or (cell_items c) n blank) (ten m) ∙ past_links c.links 8 (5 + m) (behind_links c) s.links ∙ past_numbers c.numbers m (behind_numbers c) (some_numbers c s)
 
 -- a word of the ports is written, among all words
-pub set_ports_at : (c : HeldCell) → IsShaped c → (m : ℕ) (i : Item) → set (cell_items c) (14 + m) i ≡ link_items c.links ++ (number_items (take 6 c.numbers) ++ set (behind_numbers c) m i)
-set_ports_at c s m i = ap (λ n. set (cell_items c) n i) (ten m) ∙ set_past_links c.links 8 (6 + m) i (behind_links c) s.links
-    ∙ ap (λ is. link_items c.links ++ is) (set_past_numbers (take 6 c.numbers) 6 m i (behind_numbers c) (six_first c s))
+pub set_ports_at : (c : HeldCell) → IsShaped c → (m : ℕ) (i : Item) → set (cell_items c) (13 + m) i ≡ link_items c.links ++ (first_items (take 6 c.numbers) ++ set (behind_numbers c) m i)
+set_ports_at c s m i = ap (λ n. set (cell_items c) n i) (ten m) ∙ set_past_links c.links 8 (5 + m) i (behind_links c) s.links
+    ∙ ap (λ is. link_items c.links ++ is) (set_past_numbers c.numbers m i (behind_numbers c) (some_numbers c s))
 
 -- Numbers
 
--- the word of one of the first numbers
-pub first_number_at : (c : HeldCell) → IsShaped c → (k : ℕ) → k < 6 → get_or (cell_items c) (8 + k) blank ≡ number (get_or c.numbers k 0)
-first_number_at c s k low = past_links c.links 8 k (behind_links c) s.links ∙ number_at (take 6 c.numbers) k (behind_numbers c) (subst (λ n. k < n) (sym (six_first c s)) low) ∙ ap number (get_or-take 6 c.numbers k 0 low)
+-- halves of words behind the links
+word_behind : (k : ℕ) → (16 + k) / 2 ≡ 8 + k / 2
+word_behind k = omega arith
 
--- one of them is written
-pub set_first_number_at : (c : HeldCell) → IsShaped c → (k n : ℕ) → k < 6 → set (cell_items c) (8 + k) (number n) ≡ cell_items (record c { numbers = set c.numbers k n })
-set_first_number_at c s k n low = set_past_links c.links 8 k (number n) (behind_links c) s.links
-    ∙ ap (λ is. link_items c.links ++ is) (set_number_at (take 6 c.numbers) k n (behind_numbers c) (subst (λ m. k < m) (sym (six_first c s)) low)
-    ∙ (λ t. number_items (sym (take-set-lt 6 c.numbers k n low) t) ++ (port_items c.ports ++ number_items (sym (drop-set-lt 6 c.numbers k n low) t))))
+half_behind : (k : ℕ) → (16 + k) % 2 ≡ k % 2
+half_behind k = omega arith
+
+half_past_links : (ls : List (Option ℕ)) (k : ℕ) (rest : List Item) → length ls ≡ 8 → half_at (link_items ls ++ rest) (16 + k) ≡ half_at rest k
+half_past_links ls k rest e =
+    (λ t. get_or (halves_in (get_or (link_items ls ++ rest) (word_behind k t) blank)) (half_behind k t) None) ∙ ap (λ i. get_or (halves_in i) (k % 2) None) (past_links ls 8 (k / 2) rest e)
+
+set_half_past_links : (ls : List (Option ℕ)) (k n : ℕ) (rest : List Item) → length ls ≡ 8 → with_half_at (16 + k) n (link_items ls ++ rest) ≡ link_items ls ++ with_half_at k n rest
+set_half_past_links ls k n rest e =
+    (λ t. set (link_items ls ++ rest) (word_behind k t) (with_half (half_behind k t) n (get_or (link_items ls ++ rest) (word_behind k t) blank)))
+    ∙ ap (λ i. set (link_items ls ++ rest) (8 + k / 2) (with_half (k % 2) n i)) (past_links ls 8 (k / 2) rest e) ∙ set_past_links ls 8 (k / 2) (with_half (k % 2) n (get_or rest (k / 2) blank)) rest e
+
+-- what is shown of small numbers and of the two others, where six are written out
+half_among : (a b c d e f k : ℕ) (ns : List ℕ) (rest : List Item) → k < 2 → half_at (halves a b ∷ number c ∷ number d ∷ number e ∷ number f ∷ rest) k ≡ Some (get_or (a ∷ b ∷ c ∷ d ∷ e ∷ f ∷ ns) k 0)
+half_among a b c d e f zero ns rest l = refl
+half_among a b c d e f (suc zero) ns rest l = refl
+half_among a b c d e f (suc (suc k)) ns rest l = absurd (omega (arith, l))
+
+set_half_among : (a b c d e f k n : ℕ) (ns : List ℕ) (rest : List Item) → k < 2
+    → with_half_at k n (halves a b ∷ number c ∷ number d ∷ number e ∷ number f ∷ rest) ≡ first_items (take 6 (set (a ∷ b ∷ c ∷ d ∷ e ∷ f ∷ ns) k n)) ++ rest
+set_half_among a b c d e f zero n ns rest l = refl
+set_half_among a b c d e f (suc zero) n ns rest l = refl
+set_half_among a b c d e f (suc (suc k)) n ns rest l = absurd (omega (arith, l))
+
+whole_among : (a b c d e f k : ℕ) (ns : List ℕ) (rest : List Item) → 2 ≤ k → k < 6 → get_or (halves a b ∷ number c ∷ number d ∷ number e ∷ number f ∷ rest) (k - 1) blank ≡ number (get_or (a ∷ b ∷ c ∷ d ∷ e ∷ f ∷ ns) k 0)
+whole_among a b c d e f zero ns rest h l = absurd (omega (arith, h))
+whole_among a b c d e f (suc zero) ns rest h l = absurd (omega (arith, h))
+whole_among a b c d e f (suc (suc zero)) ns rest h l = refl
+whole_among a b c d e f (suc (suc (suc zero))) ns rest h l = refl
+whole_among a b c d e f (suc (suc (suc (suc zero)))) ns rest h l = refl
+whole_among a b c d e f (suc (suc (suc (suc (suc zero))))) ns rest h l = refl
+whole_among a b c d e f (suc (suc (suc (suc (suc (suc k)))))) ns rest h l = absurd (omega (arith, l))
+
+set_whole_among : (a b c d e f k n : ℕ) (ns : List ℕ) (rest : List Item) → 2 ≤ k → k < 6
+    → set (halves a b ∷ number c ∷ number d ∷ number e ∷ number f ∷ rest) (k - 1) (number n) ≡ first_items (take 6 (set (a ∷ b ∷ c ∷ d ∷ e ∷ f ∷ ns) k n)) ++ rest
+set_whole_among a b c d e f zero n ns rest h l = absurd (omega (arith, h))
+set_whole_among a b c d e f (suc zero) n ns rest h l = absurd (omega (arith, h))
+set_whole_among a b c d e f (suc (suc zero)) n ns rest h l = refl
+set_whole_among a b c d e f (suc (suc (suc zero))) n ns rest h l = refl
+set_whole_among a b c d e f (suc (suc (suc (suc zero)))) n ns rest h l = refl
+set_whole_among a b c d e f (suc (suc (suc (suc (suc zero))))) n ns rest h l = refl
+set_whole_among a b c d e f (suc (suc (suc (suc (suc (suc k)))))) n ns rest h l = absurd (omega (arith, l))
+
+-- the half of a small number
+pub small_number_at : (c : HeldCell) → IsShaped c → (k : ℕ) → k < 2 → half_at (cell_items c) (16 + k) ≡ Some (get_or c.numbers k 0)
+small_number_at c s k low = let h = six_of c.numbers (some_numbers c s) in
+    half_past_links c.links k (behind_links c) s.links
+    ∙ subst (λ (ns : List ℕ). half_at (first_items (take 6 ns) ++ behind_numbers c) k ≡ Some (get_or ns k 0)) (sym h.are) (half_among h.a h.b h.c h.d h.e h.f k h.others (behind_numbers c) low)
+
+-- the numbers behind the first six, where one of those is another
+same_behind : (c : HeldCell) (k n : ℕ) → k < 6 → number_items (drop 6 (set c.numbers k n)) ≡ number_items (drop 6 c.numbers)
+same_behind c k n low = ap number_items (drop-set-lt 6 c.numbers k n low)
+
+-- it is written
+pub set_small_number_at : (c : HeldCell) → IsShaped c → (k n : ℕ) → k < 2 → with_half_at (16 + k) n (cell_items c) ≡ cell_items (record c { numbers = set c.numbers k n })
+set_small_number_at c s k n low = let h = six_of c.numbers (some_numbers c s) in
+    set_half_past_links c.links k n (behind_links c) s.links
+    ∙ ap (λ is. link_items c.links ++ is) (subst (λ (ns : List ℕ). with_half_at k n (first_items (take 6 ns) ++ behind_numbers c) ≡ first_items (take 6 (set ns k n)) ++ behind_numbers c) (sym h.are) (set_half_among h.a h.b h.c h.d h.e h.f k n h.others (behind_numbers c) low)
+    ∙ ap (λ is. first_items (take 6 (set c.numbers k n)) ++ (port_items c.ports ++ is)) (sym (same_behind c k n (omega (arith, low)))))
+
+one_before : (k : ℕ) → 2 ≤ k → 8 + k - 1 ≡ 8 + (k - 1)
+one_before k h = omega (arith, h)
+
+-- the word of one of the other two
+pub first_number_at : (c : HeldCell) → IsShaped c → (k : ℕ) → 2 ≤ k → k < 6 → get_or (cell_items c) (8 + k - 1) blank ≡ number (get_or c.numbers k 0)
+first_number_at c s k high low = let h = six_of c.numbers (some_numbers c s) in
+    ap (λ m. get_or (cell_items c) m blank) (one_before k high) ∙ past_links c.links 8 (k - 1) (behind_links c) s.links
+    ∙ subst (λ (ns : List ℕ). get_or (first_items (take 6 ns) ++ behind_numbers c) (k - 1) blank ≡ number (get_or ns k 0)) (sym h.are) (whole_among h.a h.b h.c h.d h.e h.f k h.others (behind_numbers c) high low)
+
+-- it is written
+pub set_first_number_at : (c : HeldCell) → IsShaped c → (k n : ℕ) → 2 ≤ k → k < 6 → set (cell_items c) (8 + k - 1) (number n) ≡ cell_items (record c { numbers = set c.numbers k n })
+set_first_number_at c s k n high low = let h = six_of c.numbers (some_numbers c s) in
+    ap (λ m. set (cell_items c) m (number n)) (one_before k high) ∙ set_past_links c.links 8 (k - 1) (number n) (behind_links c) s.links
+    ∙ ap (λ is. link_items c.links ++ is) (subst (λ (ns : List ℕ). set (first_items (take 6 ns) ++ behind_numbers c) (k - 1) (number n) ≡ first_items (take 6 (set ns k n)) ++ behind_numbers c) (sym h.are) (set_whole_among h.a h.b h.c h.d h.e h.f k n h.others (behind_numbers c) high low)
+    ∙ ap (λ is. first_items (take 6 (set c.numbers k n)) ++ (port_items c.ports ++ is)) (sym (same_behind c k n low)))
 
 -- behind the port of a membrane
-behind_port : (k : ℕ) → 6 ≤ k → 11 + k ≡ 8 + (6 + (3 + (k - 6)))
+behind_port : (k : ℕ) → 6 ≤ k → 16 + k - 6 ≡ 8 + (5 + (3 + (k - 6)))
 behind_port k h = omega (arith, h)
 
 from_six : (k : ℕ) → 6 ≤ k → 6 + (k - 6) ≡ k
@@ -299,15 +369,15 @@ few_behind : (c : HeldCell) (k : ℕ) → length c.numbers ≡ 8 → 6 ≤ k →
 few_behind c k e h low = let m = length-drop 6 c.numbers in omega (arith, m, e, h, low)
 
 -- the word of one of the numbers behind it
-pub last_number_word : (c : HeldCell) → IsShaped c → length c.numbers ≡ 8 → (k : ℕ) → 6 ≤ k → k < 8 → get_or (cell_items c) (11 + k) blank ≡ number (get_or c.numbers k 0)
-last_number_word c s e k h low = ap (λ n. get_or (cell_items c) n blank) (behind_port k h) ∙ past_links c.links 8 (6 + (3 + (k - 6))) (behind_links c) s.links
-    ∙ past_numbers (take 6 c.numbers) 6 (3 + (k - 6)) (behind_numbers c) (six_first c s) ∙ past_port c.ports (k - 6) (number_items (drop 6 c.numbers)) (one_port c s e)
+pub last_number_word : (c : HeldCell) → IsShaped c → length c.numbers ≡ 8 → (k : ℕ) → 6 ≤ k → k < 8 → get_or (cell_items c) (16 + k - 6) blank ≡ number (get_or c.numbers k 0)
+last_number_word c s e k h low = ap (λ n. get_or (cell_items c) n blank) (behind_port k h) ∙ past_links c.links 8 (5 + (3 + (k - 6))) (behind_links c) s.links
+    ∙ past_numbers c.numbers (3 + (k - 6)) (behind_numbers c) (some_numbers c s) ∙ past_port c.ports (k - 6) (number_items (drop 6 c.numbers)) (one_port c s e)
     ∙ last_number_at (drop 6 c.numbers) (k - 6) (few_behind c k e h low) ∙ ap number (get_or-drop 6 c.numbers (k - 6) 0 ∙ ap (λ n. get_or c.numbers n 0) (from_six k h))
 
 -- one of them is written
-pub set_last_number_word : (c : HeldCell) → IsShaped c → length c.numbers ≡ 8 → (k n : ℕ) → 6 ≤ k → k < 8 → set (cell_items c) (11 + k) (number n) ≡ cell_items (record c { numbers = set c.numbers k n })
-set_last_number_word c s e k n h low = ap (λ m. set (cell_items c) m (number n)) (behind_port k h) ∙ set_past_links c.links 8 (6 + (3 + (k - 6))) (number n) (behind_links c) s.links
-    ∙ ap (λ is. link_items c.links ++ is) (set_past_numbers (take 6 c.numbers) 6 (3 + (k - 6)) (number n) (behind_numbers c) (six_first c s)
-    ∙ ap (λ is. number_items (take 6 c.numbers) ++ is) (set_past_port c.ports (k - 6) (number n) (number_items (drop 6 c.numbers)) (one_port c s e)
+pub set_last_number_word : (c : HeldCell) → IsShaped c → length c.numbers ≡ 8 → (k n : ℕ) → 6 ≤ k → k < 8 → set (cell_items c) (16 + k - 6) (number n) ≡ cell_items (record c { numbers = set c.numbers k n })
+set_last_number_word c s e k n h low = ap (λ m. set (cell_items c) m (number n)) (behind_port k h) ∙ set_past_links c.links 8 (5 + (3 + (k - 6))) (number n) (behind_links c) s.links
+    ∙ ap (λ is. link_items c.links ++ is) (set_past_numbers c.numbers (3 + (k - 6)) (number n) (behind_numbers c) (some_numbers c s)
+    ∙ ap (λ is. first_items (take 6 c.numbers) ++ is) (set_past_port c.ports (k - 6) (number n) (number_items (drop 6 c.numbers)) (one_port c s e)
     ∙ ap (λ is. port_items c.ports ++ is) (set_last_number_at (drop 6 c.numbers) (k - 6) n (few_behind c k e h low)))
-    ∙ (λ t. number_items (sym (take-set-le 6 c.numbers k n h) t) ++ (port_items c.ports ++ number_items (sym (ap (λ m. drop 6 (set c.numbers m n)) (sym (from_six k h)) ∙ drop-set-add 6 c.numbers (k - 6) n) t))))
+    ∙ (λ t. first_items (sym (take-set-le 6 c.numbers k n h) t) ++ (port_items c.ports ++ number_items (sym (ap (λ m. drop 6 (set c.numbers m n)) (sym (from_six k h)) ∙ drop-set-add 6 c.numbers (k - 6) n) t))))

@@ -1,5 +1,5 @@
 -- Cells that are made, and that are freed.
-use Rattle.std.proofs.Common.{◌≡◌, ◌≢◌, ℕ, ◌+◌, ◌*◌, ◌<◌, ◌^◌, List, [], length, Option, Some, None, IsSome, refl, sym, subst, ap, ◌∙◌, inl, inr, arith}
+use Rattle.std.proofs.Common.{◌≡◌, ◌≢◌, ℕ, ◌+◌, ◌*◌, ◌<◌, ◌^◌, List, [], length, Option, Some, None, IsSome, refl, sym, subst, ap, ◌∙◌, inl, inr, arith, zero, suc, get_or, replicate}
 use Rattle.std.proofs.lemmas.Bool.{cases_eq}
 use lib.ListN.{length-replicate}
 use Rattle.lmn_web_cells.specs.Rows.{Item, Row, blank, items_in, with_items}
@@ -10,11 +10,19 @@ use Rattle.lmn_web_cells.proofs.CellWords.{cell_back, word_count}
 use Rattle.lmn_web_cells.proofs.CellRows.{found, items_same, items_away}
 use Rattle.lmn_store_heap.proofs.Listing.{alter_at, alter_away}
 
+none_is : (n k : ℕ) → ◌≡◌ {A = ℕ} (get_or (replicate n 0) k 0) 0
+none_is zero k = refl
+none_is (suc n) zero = refl
+none_is (suc n) (suc k) = none_is n k
+
+small_none : (n k : ℕ) → k < 2 → get_or (replicate n 0) k 0 < 2 ^ 32
+small_none n k low = let e = none_is n k in omega (arith, e)
+
 blank_shaped : (p : ℕ) → p < 2 ^ 16 → IsShaped (blank_cell p)
-blank_shaped p few = record { links = refl; numbers = inl refl; few = subst (λ n. n < 2 ^ 16) (sym (length-replicate p no_port)) few }
+blank_shaped p few = record { links = refl; numbers = inl refl; small = small_none 6; few = subst (λ n. n < 2 ^ 16) (sym (length-replicate p no_port)) few }
 
 membrane_shaped : IsShaped blank_membrane
-membrane_shaped = record { links = refl; numbers = inr (refl, refl); few = omega arith }
+membrane_shaped = record { links = refl; numbers = inr (refl, refl); small = small_none 8; few = omega arith }
 
 -- the rows after a call, as cells
 pub record Cells (old new : List Row) (b : ℕ) (c : Option HeldCell) : Type 0 where
@@ -41,12 +49,12 @@ made_cell old mid new b words c laid shaped some m e =
     (λ j d. ap (λ (z : List Row). items_in z j) e ∙ items_away mid b is j d ∙ m.others j d)
 
 -- that of an atom
-pub made : (old mid new : List Row) (b p : ℕ) → AreLaid old → p < 2 ^ 16 → IsMade old mid b (14 + p * 3) → new ≡ with_items b (cell_items (blank_cell p)) mid → Cells old new b (Some (blank_cell p))
-made old mid new b p laid few m e = made_cell old mid new b (14 + p * 3) (blank_cell p) laid (blank_shaped p few) (omega arith) m e
+pub made : (old mid new : List Row) (b p : ℕ) → AreLaid old → p < 2 ^ 16 → IsMade old mid b (13 + p * 3) → new ≡ with_items b (cell_items (blank_cell p)) mid → Cells old new b (Some (blank_cell p))
+made old mid new b p laid few m e = made_cell old mid new b (13 + p * 3) (blank_cell p) laid (blank_shaped p few) (omega arith) m e
 
 -- and of a membrane
-pub made_membrane : (old mid new : List Row) (b : ℕ) → AreLaid old → IsMade old mid b 19 → new ≡ with_items b (cell_items blank_membrane) mid → Cells old new b (Some blank_membrane)
-made_membrane old mid new b laid m e = made_cell old mid new b 19 blank_membrane laid membrane_shaped (omega arith) m e
+pub made_membrane : (old mid new : List Row) (b : ℕ) → AreLaid old → IsMade old mid b 18 → new ≡ with_items b (cell_items blank_membrane) mid → Cells old new b (Some blank_membrane)
+made_membrane old mid new b laid m e = made_cell old mid new b 18 blank_membrane laid membrane_shaped (omega arith) m e
 
 -- the cells after one was freed
 pub freed : (old new : List Row) (b : ℕ) → AreLaid old → IsGone old new b → Cells old new b None
@@ -65,17 +73,17 @@ few_ports rows b p laid there e =
     let f = found rows b laid there in let few = f.shaped.few in let same : length f.cell.ports ≡ p = sym (ap (λ (o : Option HeldCell). length (ports_of o)) f.is) ∙ e in omega (arith, few, same)
 
 -- how many words the row of a cell has
-pub count_words : (rows : List Row) (b p : ℕ) → AreLaid rows → IsSome (cells_by rows b) → length (numbers_of (cells_by rows b)) ≡ 6 → length (ports_of (cells_by rows b)) ≡ p → length (items_in rows b) ≡ 14 + p * 3
+pub count_words : (rows : List Row) (b p : ℕ) → AreLaid rows → IsSome (cells_by rows b) → length (numbers_of (cells_by rows b)) ≡ 6 → length (ports_of (cells_by rows b)) ≡ p → length (items_in rows b) ≡ 13 + p * 3
 count_words rows b p laid there six e =
     let f = found rows b laid there in let same : length f.cell.ports ≡ p = sym (ap (λ (o : Option HeldCell). length (ports_of o)) f.is) ∙ e in
-    let n : length f.cell.numbers ≡ 6 = sym (ap (λ (o : Option HeldCell). length (numbers_of o)) f.is) ∙ six in let w = word_count f.cell f.shaped in let e : length (cell_items f.cell) ≡ 14 + p * 3 = omega (arith, w, n, same) in
+    let n : length f.cell.numbers ≡ 6 = sym (ap (λ (o : Option HeldCell). length (numbers_of o)) f.is) ∙ six in let w = word_count f.cell f.shaped in let e : length (cell_items f.cell) ≡ 13 + p * 3 = omega (arith, w, n, same) in
     ap (λ (is : List Item). length is) f.words ∙ e
 
 -- and that of a membrane
-pub count_membrane : (rows : List Row) (b : ℕ) → AreLaid rows → IsSome (cells_by rows b) → length (numbers_of (cells_by rows b)) ≡ 8 → length (items_in rows b) ≡ 19
+pub count_membrane : (rows : List Row) (b : ℕ) → AreLaid rows → IsSome (cells_by rows b) → length (numbers_of (cells_by rows b)) ≡ 8 → length (items_in rows b) ≡ 18
 count_membrane rows b laid there eight =
     let f = found rows b laid there in let n : length f.cell.numbers ≡ 8 = sym (ap (λ (o : Option HeldCell). length (numbers_of o)) f.is) ∙ eight in let w = word_count f.cell f.shaped in
-    let e : length (cell_items f.cell) ≡ 19 = elim f.shaped.numbers [
+    let e : length (cell_items f.cell) ≡ 18 = elim f.shaped.numbers [
       | inl six ↦ absurd (omega (arith, six, n))
       | inr e ↦ (let one = e.1 in omega (arith, w, n, one))
     ] in

@@ -1,7 +1,7 @@
 -- Cells: what the words of a row stand for.
 use Rattle.std.specs.Prelude.{◌≡◌, ◌⊎◌, ℕ, zero, suc, ◌==◌, ◌<◌, ◌^◌, List, [], ◌∷◌, ◌++◌, length, take, drop, Option, Some, None, IsSome, if◌then◌else◌, slice_index_or, slice_set, replicate}
 use denote.RawPtr.{Ptr, block_ptr, null_ptr}
-use Rattle.lmn_web_cells.specs.Rows.{Item, link, number, Row, items_in, place_of, place_ptr}
+use Rattle.lmn_web_cells.specs.Rows.{Item, link, number, halves, halves_in, Row, items_in, place_of, place_ptr}
 
 -- a port: the cell to which it leads, the port there, and a mark
 pub record HeldPort : Type 0 where
@@ -39,9 +39,14 @@ abbrev pub port_items : List HeldPort → List Item
 port_items [] = []
 port_items (p ∷ ps) = link_to p.to ∷ number p.port ∷ number p.mark ∷ port_items ps
 
+-- the first six numbers: two small ones in the halves of a word, and four in words of their own
+abbrev pub first_items : List ℕ → List Item
+first_items (a ∷ b ∷ ns) = halves a b ∷ number_items ns
+first_items _ = []
+
 -- The words of a cell: its links, six numbers, its ports, and the last two numbers of a membrane.
 abbrev pub cell_items : HeldCell → List Item
-cell_items c = link_items c.links ++ (number_items (take 6 c.numbers) ++ (port_items c.ports ++ number_items (drop 6 c.numbers)))
+cell_items c = link_items c.links ++ (first_items (take 6 c.numbers) ++ (port_items c.ports ++ number_items (drop 6 c.numbers)))
 
 -- Reading the words
 
@@ -54,7 +59,7 @@ led_to (Some (Some (block_ptr b o), n)) = Some (place_of (block_ptr b o))
 
 abbrev pub number_by : Item → ℕ
 number_by None = 0
-number_by (Some (p, n)) = n
+number_by (Some (p, (n, xs))) = n
 
 abbrev pub first_links : ℕ → List Item → List (Option ℕ)
 first_links zero is = []
@@ -66,28 +71,42 @@ first_numbers zero is = []
 first_numbers (suc n) [] = []
 first_numbers (suc n) (i ∷ is) = number_by i ∷ first_numbers n is
 
+abbrev pub written_or_none : Option ℕ → ℕ
+written_or_none None = 0
+written_or_none (Some n) = n
+
+-- the number in a half of a word
+abbrev pub half_by : Item → ℕ → ℕ
+half_by i h = written_or_none (slice_index_or (halves_in i) h None)
+
+-- the first six numbers
+abbrev pub numbers_by : List Item → List ℕ
+numbers_by (i ∷ j ∷ k ∷ l ∷ m ∷ is) = half_by i 0 ∷ half_by i 1 ∷ number_by j ∷ number_by k ∷ number_by l ∷ number_by m ∷ []
+numbers_by _ = []
+
 abbrev pub ports_by : List Item → List HeldPort
 ports_by [] = []
 ports_by (i ∷ []) = []
 ports_by (i ∷ j ∷ []) = []
 ports_by (i ∷ j ∷ k ∷ is) = record { to = led_to i; port = number_by j; mark = number_by k } ∷ ports_by is
 
--- the two numbers at the end of a membrane's row, which has 19 words: that of an atom has 14 and three for each port
+-- the two numbers at the end of a membrane's row, which has 18 words: that of an atom has 13 and three for each port
 abbrev pub last_numbers : List Item → List ℕ
-last_numbers is = if length is == 19 then first_numbers 2 (drop 17 is) else []
+last_numbers is = if length is == 18 then first_numbers 2 (drop 16 is) else []
 
 abbrev pub cell_by : List Item → Option HeldCell
 cell_by [] = None
-cell_by (i ∷ is) = Some record { links = first_links 8 (i ∷ is); numbers = first_numbers 6 (drop 8 (i ∷ is)) ++ last_numbers (i ∷ is); ports = ports_by (drop 14 (i ∷ is)) }
+cell_by (i ∷ is) = Some record { links = first_links 8 (i ∷ is); numbers = numbers_by (drop 8 (i ∷ is)) ++ last_numbers (i ∷ is); ports = ports_by (drop 13 (i ∷ is)) }
 
 -- the cell of each number
 abbrev pub cells_by : List Row → ℕ → Option HeldCell
 cells_by rows b = cell_by (items_in rows b)
 
--- a cell has eight links, six numbers or eight and one port, and fewer than 2 ^ 16 ports
+-- a cell has eight links, six numbers or eight and one port, of which the first two are small, and fewer than 2 ^ 16 ports
 pub record IsShaped (c : HeldCell) : Type 0 where
   pub links : length c.links ≡ 8
   pub numbers : (length c.numbers ≡ 6) ⊎ ((length c.numbers ≡ 8) × (length c.ports ≡ 1))
+  pub small : (k : ℕ) → k < 2 → slice_index_or c.numbers k 0 < 2 ^ 32
   pub few : length c.ports < 2 ^ 16
 
 -- words are those of a cell, or there are none
@@ -144,12 +163,12 @@ blank_cell ports = record { links = replicate 8 None; numbers = replicate 6 0; p
 abbrev pub blank_membrane : HeldCell
 blank_membrane = record { links = replicate 8 None; numbers = replicate 8 0; ports = replicate 1 no_port }
 
--- the words of so many links that lead nowhere, of numbers that are 0, and of ports in which nothing is set
+-- the words of so many links that lead nowhere, of the first numbers where they are 0, and of ports in which nothing is set
 abbrev pub blank_links : ℕ → List Item
 blank_links n = link_items (replicate n None)
 
-abbrev pub blank_numbers : ℕ → List Item
-blank_numbers n = number_items (replicate n 0)
+abbrev pub blank_numbers : List Item
+blank_numbers = first_items (replicate 6 0)
 
 abbrev pub blank_ports : ℕ → List Item
 blank_ports n = port_items (replicate n no_port)

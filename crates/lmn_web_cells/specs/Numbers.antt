@@ -1,15 +1,16 @@
 -- The numbers of a cell, by what they say.
 use Rattle.std.specs.Prelude.{ℕ}
 
--- its index, which no other one has, how many ports it has, and what it stands for
-abbrev pub INDEX : ℕ
-INDEX = 0
-
+-- how many ports it has, and what it stands for: small numbers
 abbrev pub ARITY : ℕ
-ARITY = 1
+ARITY = 0
 
 abbrev pub KIND : ℕ
-KIND = 2
+KIND = 1
+
+-- its index, which no other one has
+abbrev pub INDEX : ℕ
+INDEX = 2
 
 -- the upper and the lower half of its label
 abbrev pub HIGH : ℕ

@@ -1,4 +1,4 @@
-//! Cells: rows with eight links, six numbers and three words for each port, of which a membrane has one, and behind it two
+//! Cells: rows with eight links, six numbers, of which two have half a word each, and three words for each port, of which a membrane has one, and behind it two
 //! numbers more.
 ghost use Rattle.std.specs.Prelude.{◌≡◌, ℕ, ◌+◌, ◌*◌, ◌^◌, ◌<◌, ◌≤◌, ◌∷◌, length, IsSome, None, Some, MatchResult, slice_index_or};
 ghost use Rattle.std.specs.Option.{option_map};
@@ -7,7 +7,7 @@ ghost use Rattle.lmn_store_heap.specs.Heap.{alter};
 ghost use Rattle.lmn_web_cells.specs.CellIds.{cell_id, IsLink, led_by};
 
 use crate::filling::{
-    FIRST_PORT, LINKS, MEMBRANE_WORDS, PORT_WORDS, atom_words, fill, fill_membrane,
+    FIRST_PORT, LINKS, MEMBRANE_WORDS, PORT_WORDS, SMALL_NUMBERS, atom_words, fill, fill_membrane,
 };
 use crate::handle::Cell;
 use lmn_web_rows::pointers::{is_nowhere, nowhere};
@@ -133,21 +133,31 @@ impl Cells {
     }
 
     /// A number that each cell has.
+    #[inline(always)]
     pub fn number(&self, c: Cell, k: usize) -> u64
         requires there { IsSome (cells_by self.now (cell_id c)) }
         requires below { k < 6 }
         ensures { result ≡ slice_index_or (numbers_of (cells_by self.now (cell_id c))) k 0 }
     {
-        self.rows.number(c.at, LINKS + k)
+        if k < SMALL_NUMBERS {
+            return self.rows.half(c.at, 2 * LINKS + k) as u64;
+        }
+        self.rows.number(c.at, LINKS + k - 1)
     }
 
-    /// A number that each cell has is another.
+    /// A number that each cell has is another. The first two are below 2^32.
+    #[inline(always)]
     pub fn set_number(&mut self, c: Cell, k: usize, n: u64)
         requires there { IsSome (cells_by self.old (cell_id c)) }
         requires below { k < 6 }
+        requires small { k < 2 → n < 2 ^ 32 }
         ensures { cells_by self.new ≡ alter (cells_by self.old) (cell_id c) (option_map (with_number k n)) }
     {
-        self.rows.set_number(c.at, LINKS + k, n);
+        if k < SMALL_NUMBERS {
+            self.rows.set_half(c.at, 2 * LINKS + k, n as u32);
+            return;
+        }
+        self.rows.set_number(c.at, LINKS + k - 1, n);
     }
 
     /// A number that only membranes have.
@@ -158,7 +168,7 @@ impl Cells {
         requires below { k < 8 }
         ensures { result ≡ slice_index_or (numbers_of (cells_by self.now (cell_id c))) k 0 }
     {
-        self.rows.number(c.at, LINKS + PORT_WORDS + k)
+        self.rows.number(c.at, FIRST_PORT + PORT_WORDS + k - 6)
     }
 
     /// A number that only membranes have is another.
@@ -169,7 +179,8 @@ impl Cells {
         requires below { k < 8 }
         ensures { cells_by self.new ≡ alter (cells_by self.old) (cell_id c) (option_map (with_number k n)) }
     {
-        self.rows.set_number(c.at, LINKS + PORT_WORDS + k, n);
+        self.rows
+            .set_number(c.at, FIRST_PORT + PORT_WORDS + k - 6, n);
     }
 
     /// The cell to which a port leads.

@@ -10,11 +10,14 @@ use lmn_web_rows::store::Store;
 /// How many links a cell has.
 pub const LINKS: usize = 8;
 
-/// How many numbers a cell has before its ports.
-const NUMBERS: usize = 6;
+/// How many numbers, the first ones, are below 2^32 and stand two in a word.
+pub const SMALL_NUMBERS: usize = 2;
+
+/// How many words the numbers before the ports have.
+const NUMBER_WORDS: usize = 5;
 
 /// The word at which the ports of a cell begin.
-pub const FIRST_PORT: usize = LINKS + NUMBERS;
+pub const FIRST_PORT: usize = LINKS + NUMBER_WORDS;
 
 /// How many words a port has.
 pub const PORT_WORDS: usize = 3;
@@ -26,7 +29,7 @@ pub const MEMBRANE_WORDS: usize = FIRST_PORT + PORT_WORDS + 2;
 #[inline(always)]
 pub fn atom_words(ports: usize) -> usize
     requires { ports < 2 ^ 16 }
-    ensures { result ≡ 14 + ports * 3 }
+    ensures { result ≡ 13 + ports * 3 }
 {
     FIRST_PORT + ports * PORT_WORDS
 }
@@ -47,13 +50,16 @@ fn fill_links(rows: &mut Store, at: *mut u8, left: usize)
 #[inline(always)]
 fn fill_numbers(rows: &mut Store, at: *mut u8, left: usize)
     requires start { IsStart at }
-    requires words { items_in rows.old.rows (place_of at) ≡ blank_links 8 ++ replicate (6 + left) blank }
-    ensures { rows.new.rows ≡ with_items (place_of at) (blank_links 8 ++ (blank_numbers 6 ++ replicate left blank)) rows.old.rows }
+    requires words { items_in rows.old.rows (place_of at) ≡ blank_links 8 ++ replicate (5 + left) blank }
+    ensures { rows.new.rows ≡ with_items (place_of at) (blank_links 8 ++ (blank_numbers ++ replicate left blank)) rows.old.rows }
 {
     let _ = left;
-    for k in 0..NUMBERS {
-        rows.set_number(at, LINKS + k, 0);
-    }
+    rows.set_half(at, 2 * LINKS, 0);
+    rows.set_half(at, 2 * LINKS + 1, 0);
+    rows.set_number(at, LINKS + 1, 0);
+    rows.set_number(at, LINKS + 2, 0);
+    rows.set_number(at, LINKS + 3, 0);
+    rows.set_number(at, LINKS + 4, 0);
 }
 
 // One more port leads nowhere.
@@ -87,7 +93,7 @@ fn fill_from(rows: &mut Store, at: *mut u8, ports: usize, first: usize)
 fn fill_ports(rows: &mut Store, at: *mut u8, ports: usize)
     requires start { IsStart at }
     requires few { ports < 2 ^ 16 }
-    requires words { items_in rows.old.rows (place_of at) ≡ blank_links 8 ++ (blank_numbers 6 ++ replicate (ports * 3) blank) }
+    requires words { items_in rows.old.rows (place_of at) ≡ blank_links 8 ++ (blank_numbers ++ replicate (ports * 3) blank) }
     ensures { rows.new.rows ≡ with_items (place_of at) (cell_items (blank_cell ports)) rows.old.rows }
 {
     if ports == 0 {
@@ -109,10 +115,10 @@ fn fill_ports(rows: &mut Store, at: *mut u8, ports: usize)
 pub fn fill(rows: &mut Store, at: *mut u8, ports: usize)
     requires start { IsStart at }
     requires few { ports < 2 ^ 16 }
-    requires words { items_in rows.old.rows (place_of at) ≡ replicate (14 + ports * 3) blank }
+    requires words { items_in rows.old.rows (place_of at) ≡ replicate (13 + ports * 3) blank }
     ensures { rows.new.rows ≡ with_items (place_of at) (cell_items (blank_cell ports)) rows.old.rows }
 {
-    fill_links(rows, at, NUMBERS + ports * PORT_WORDS);
+    fill_links(rows, at, NUMBER_WORDS + ports * PORT_WORDS);
     fill_numbers(rows, at, ports * PORT_WORDS);
     fill_ports(rows, at, ports);
 }
@@ -120,7 +126,7 @@ pub fn fill(rows: &mut Store, at: *mut u8, ports: usize)
 // The port of a membrane leads nowhere, and the numbers behind it are 0.
 fn fill_end(rows: &mut Store, at: *mut u8)
     requires start { IsStart at }
-    requires words { items_in rows.old.rows (place_of at) ≡ blank_links 8 ++ (blank_numbers 6 ++ replicate 5 blank) }
+    requires words { items_in rows.old.rows (place_of at) ≡ blank_links 8 ++ (blank_numbers ++ replicate 5 blank) }
     ensures { rows.new.rows ≡ with_items (place_of at) (cell_items blank_membrane) rows.old.rows }
 {
     rows.set_link(at, FIRST_PORT, nowhere());
@@ -133,10 +139,10 @@ fn fill_end(rows: &mut Store, at: *mut u8)
 /// A new row becomes the cell of a membrane in which nothing is set.
 pub fn fill_membrane(rows: &mut Store, at: *mut u8)
     requires start { IsStart at }
-    requires words { items_in rows.old.rows (place_of at) ≡ replicate 19 blank }
+    requires words { items_in rows.old.rows (place_of at) ≡ replicate 18 blank }
     ensures { rows.new.rows ≡ with_items (place_of at) (cell_items blank_membrane) rows.old.rows }
 {
-    fill_links(rows, at, NUMBERS + PORT_WORDS + 2);
+    fill_links(rows, at, NUMBER_WORDS + PORT_WORDS + 2);
     fill_numbers(rows, at, PORT_WORDS + 2);
     fill_end(rows, at);
 }

@@ -1,14 +1,14 @@
 //! The numbers of a cell, by what they say. The first mark of a cell is one of them, and each further mark stands with the port
 //! before its own: so the first one, which is asked most, stands at one place.
 
-/// The index of the cell, which no other one has.
-pub const INDEX: usize = 0;
-
-/// How many ports the cell has.
-pub const ARITY: usize = 1;
+/// How many ports the cell has. This number and the next one have half a word each.
+pub const ARITY: usize = 0;
 
 /// What the cell stands for.
-pub const KIND: usize = 2;
+pub const KIND: usize = 1;
+
+/// The index of the cell, which no other one has.
+pub const INDEX: usize = 2;
 
 /// The upper half of the cell's label.
 pub const HIGH: usize = 3;

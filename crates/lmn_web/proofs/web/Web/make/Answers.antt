@@ -8,4 +8,4 @@ use Rattle.lmn_web.proofs.web.Web.make.Goals as goal
 pub returns : goal.returns
 returns c =
     let w = web_by c.args.self.now in let v = web_by c.make_by.new.self in
-    subst (λ (k : CellKind). MatchResult c.make_by.result (λ a. (w (cell_id a) ≡ None) × (v ≡ alter w (cell_id a) (λ _. Some (new_cell c.args.label c.args.arity k)))) (λ _. v ≡ w)) c.number_of.ensures c.make_by.ensures
+    subst (λ (k : CellKind). MatchResult c.make_by.result (λ a. (w (cell_id a) ≡ None) × (v ≡ alter w (cell_id a) (λ _. Some (new_cell c.args.label c.args.arity k)))) (λ _. v ≡ w)) c.number_of.ensures.kind c.make_by.ensures

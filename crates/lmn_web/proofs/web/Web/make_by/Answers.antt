@@ -12,8 +12,8 @@ use Rattle.lmn_web.proofs.WebLemmas.{made_once, made_is, made_with, no_list, new
 use Rattle.lmn_web.proofs.Filing.{made_classed}
 use Rattle.lmn_web.proofs.web.Web.make_by.Goals as goal
 
-pub describe-requires : goal.describe-requires
-describe-requires c =
+pub describe-requires-clause-there : goal.describe-requires-clause-there
+describe-requires-clause-there c =
     let a = cell_id c.in_ok-c.c in
     subst (λ (g : ℕ → Option HeldCell). IsSome (g a)) (sym c.in_ok-c.ensures.1) (subst (λ (o : Option HeldCell). IsSome o) (sym (alter_at (cells_by c.self.inside.cells) a (λ _. Some (blank_by c.args.kind c.args.arity)))) refl)
 

@@ -3,15 +3,27 @@ use Rattle.std.proofs.Common.{◌≡◌, List, IsSome, sym, subst, arith}
 use Rattle.lmn_web_cells.specs.Rows.{Row}
 use Rattle.lmn_web_cells.specs.Cells.{cells_by, numbers_of}
 use Rattle.lmn_web_cells.specs.CellIds.{cell_id}
-use Rattle.lmn_web_cells.proofs.CellRows.{number_is, number_read}
+use Rattle.lmn_web_cells.proofs.CellRows.{small_is, half_read, number_is, number_read}
 use Rattle.lmn_web_cells.proofs.cell.Cells.number.Goals as goal
+
+pub half-requires : goal.half-requires
+half-requires c =
+    let there : IsSome (cells_by c.self.inside.rows.rows (cell_id c.args.c)) = subst (λ (z : List Row). IsSome (cells_by z (cell_id c.args.c))) (sym c.self.view_is) c.requires.there in
+    let low = c.if-k-lt-SMALL_NUMBERS.true in (c.args.c.start, omega (arith, low), (_, small_is _ _ _ c.self.invariant there low))
+
+pub returns-then-k-lt-SMALL_NUMBERS : goal.returns-then-k-lt-SMALL_NUMBERS
+returns-then-k-lt-SMALL_NUMBERS c =
+    let there : IsSome (cells_by c.self.inside.rows.rows (cell_id c.args.c)) = subst (λ (z : List Row). IsSome (cells_by z (cell_id c.args.c))) (sym c.self.view_is) c.requires.there in
+    let low = c.if-k-lt-SMALL_NUMBERS.true in
+    subst (λ (z : List Row). c.half.result ≡ slice_index_or (numbers_of (cells_by z (cell_id c.args.c))) c.args.k 0) c.self.view_is (half_read _ _ _ (small_is _ _ _ c.self.invariant there low) c.half.ensures)
 
 pub number-requires : goal.number-requires
 number-requires c =
     let there : IsSome (cells_by c.self.inside.rows.rows (cell_id c.args.c)) = subst (λ (z : List Row). IsSome (cells_by z (cell_id c.args.c))) (sym c.self.view_is) c.requires.there in
-    let below = c.requires.below in (c.args.c.start, omega (arith, below), (_, number_is _ _ _ c.self.invariant there below))
+    let below = c.requires.below in let high = c.if-k-lt-SMALL_NUMBERS.false in (c.args.c.start, omega (arith, below), (_, number_is _ _ _ c.self.invariant there (omega (arith, high)) below))
 
 pub returns : goal.returns
 returns c =
     let there : IsSome (cells_by c.self.inside.rows.rows (cell_id c.args.c)) = subst (λ (z : List Row). IsSome (cells_by z (cell_id c.args.c))) (sym c.self.view_is) c.requires.there in
-    subst (λ (z : List Row). c.number.result ≡ slice_index_or (numbers_of (cells_by z (cell_id c.args.c))) c.args.k 0) c.self.view_is (number_read _ _ _ (number_is _ _ _ c.self.invariant there c.requires.below) c.number.ensures)
+    let high = c.if-k-lt-SMALL_NUMBERS.false in
+    subst (λ (z : List Row). c.number.result ≡ slice_index_or (numbers_of (cells_by z (cell_id c.args.c))) c.args.k 0) c.self.view_is (number_read _ _ _ (number_is _ _ _ c.self.invariant there (omega (arith, high)) c.requires.below) c.number.ensures)

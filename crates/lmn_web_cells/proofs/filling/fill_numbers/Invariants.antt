@@ -1,7 +1,0 @@
-use Rattle.std.proofs.Common.{◌+◌}
-use Rattle.lmn_web_cells.specs.Rows.{place_of}
-use Rattle.lmn_web_cells.proofs.FillLemmas.{NumbersDone}
-use Rattle.lmn_web_cells.proofs.filling.fill_numbers.Given as goal
-
-abbrev pub invariant-loop-k : goal.invariant-loop-k
-invariant-loop-k l = NumbersDone l.fn.rows.rows l.rows.rows (place_of l.at) (6 + l.fn.left) l.k
