@@ -2,7 +2,7 @@
 use Rattle.std.proofs.Common.{◌≡◌, ◌≢◌, ℕ, ◌+◌, ◌-◌, ◌*◌, ◌^◌, ◌<◌, ◌==◌, Bool, true, false, List, [], ◌∷◌, length, take, drop, if◌then◌else◌, refl, sym, subst, ap, ◌∙◌, inl, inr, arith}
 use Rattle.std.proofs.lemmas.Bool.{cases_eq, eq-eqb}
 use Rattle.lmn_base.proofs.Numbers.{not_equal, equal_when}
-use Rattle.lmn_base.proofs.Truth.{if_no}
+use Rattle.lmn_base.proofs.Truth.{if_no, false_not_true}
 use Rattle.lmn_web_rows.specs.Rows.{Item, Row, items_in, live_in, with_items, with_use, cut_row, first_rows, later_rows, AreSideBySide}
 use Rattle.lmn_web_rows.specs.Tiles.{AreTiled}
 use Rattle.lmn_web_rows.specs.Seen.{shown}
@@ -135,9 +135,6 @@ pub filled : (bs : List ℕ) (rs : List Row) → AreTiled bs rs → Filled rs
 filled [] rs t = subst Filled (sym t) tt
 filled (b ∷ bs) rs t = filled_parts rs (b * 2 ^ 18) (2 ^ 18) t.0 (filled bs (later_rows (2 ^ 18) rs) t.1)
 
-false_true : false ≡ true → ⊥
-false_true e = absurd cc
-
 -- where there are no words, there is no row
 pub absent : (rs : List Row) (n : ℕ) → Filled rs → items_in rs n ≡ [] → Absent n rs
 absent [] n f e = tt
@@ -145,7 +142,7 @@ absent (r ∷ rs) n f e = by (r.at == n) refl (absent rs n f.1) e
   where
     by : (t : Bool) → (r.at == n) ≡ t → (items_in rs n ≡ [] → Absent n rs) → (if t then r.items else items_in rs n) ≡ [] → (r.at ≢ n) × Absent n rs
     by true s h none = absurd (let some = f.0 in let l = ap (λ (is : List Item). length is) none in omega (arith, some, l))
-    by false s h none = ((λ z. false_true (sym s ∙ eq-eqb r.at n z)), h none)
+    by false s h none = ((λ z. false_not_true (sym s ∙ eq-eqb r.at n z)), h none)
 
 -- the words at a place, and whether they are in use
 abbrev pub found_in : List Row → ℕ → List Item × Bool

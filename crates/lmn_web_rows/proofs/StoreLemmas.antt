@@ -7,6 +7,7 @@ use lib.ListN.{length-replicate}
 use denote.RawPtr.{Ptr, block_ptr, null_ptr, block_of}
 use Rattle.lmn_base.proofs.Numbers.{not_equal}
 use Rattle.lmn_base.proofs.Lists.{head_is, tail_is}
+use Rattle.lmn_base.proofs.Truth.{false_not_true}
 use Rattle.lmn_web_rows.specs.Rows.{Item, Row, half_at, with_half_at, with_half, halves_in, blank, link, items_in, live_in, with_items, with_use, cut_row, place_of, place_ptr, spare, IsStart, IsNear, leads_nowhere, AreSideBySide, block_at, first_rows, later_rows}
 use Rattle.lmn_web_rows.specs.Tiles.{AreTiled}
 use Rattle.lmn_web_rows.specs.Seen.{shown, HaveSameWords, IsMade, IsGone}
@@ -44,12 +45,9 @@ no_choice : (t : Bool) (is : List Item) → is ≡ [] → (if t then is else [])
 no_choice true is e = e
 no_choice false is e = refl
 
-true_false : true ≡ false → ⊥
-true_false e = absurd cc
-
 -- two places of which one is in use and the other isn't
 pub live_apart : (rows : List Row) (y n : ℕ) → live_in rows y ≡ false → live_in rows n ≡ true → y ≢ n
-live_apart rows y n s l e = true_false (sym l ∙ ap (live_in rows) (sym e) ∙ s)
+live_apart rows y n s l e = false_not_true (sym s ∙ ap (live_in rows) e ∙ l)
 
 -- words in a row that has none
 pub no_words : (rows : List Row) (y n : ℕ) → items_in rows n ≡ [] → 0 < length (items_in rows y) → y ≢ n
@@ -181,7 +179,7 @@ first_set firsts w v q d = get_or-set_other firsts w v q null_ptr d
 
 -- the first kept row, where one is
 pub first_kept : (rows : List Row) (depth : Depths) (w d : ℕ) (p : Ptr) → AreKept rows depth w d p → leads_nowhere p ≡ false → (e : ℕ) × (k : IsKept rows depth w e p) × AreKept rows depth w e k.next
-first_kept rows depth w zero p k some = absurd (true_false (ap leads_nowhere (sym k) ∙ some))
+first_kept rows depth w zero p k some = absurd (false_not_true (sym (ap leads_nowhere (sym k) ∙ some)))
 first_kept rows depth w (suc d) p k some = (d, k.0, k.1)
 
 -- the pointer to it may be compared
