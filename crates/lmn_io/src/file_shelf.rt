@@ -1,13 +1,22 @@
-ghost use Rattle.std.specs.Prelude.{◌≡◌, ℕ, List, [], None, Some, ◌≤◌, length, option_map, IfOk};
-ghost use Rattle.lmn_io.specs.Texts.{IsFetched};
+ghost use Rattle.std.specs.Prelude.{◌≡◌, ℕ, List, [], None, Some, ◌≤◌, length, take, option_map, IfOk, IfSome};
+ghost use Rattle.lmn_io.specs.Texts.{IsFetched, IsMeasured, IsPart};
 
 use crate::fetches::FetchList;
-use crate::shelf::{FetchFault, Fetched, Shelf};
+use crate::parts::copy_of_part;
+use crate::shelf::{FetchFault, Fetched, Measured, Shelf};
 use lmn_base::Rows;
-use std::alloc::Global;
-use std::io::Read;
+use std::alloc::{AllocError, Global};
+use std::fs::OpenFile;
+use std::io::{Read, Seek, SeekFrom};
 use std::rt::Files;
 use std::{fs, io};
+
+/// A text that was read whole to be measured, since its file has no length: a pipe can't be read twice.
+#[derive(Drop)]
+struct WholeText {
+    name: Rows<u8>,
+    bytes: Rows<u8>,
+}
 
 /// Files, read through the runtime that the shelf is lent. It tells no bytes. It tells what it was asked for, and its one count is
 /// that of every name.
@@ -16,6 +25,24 @@ pub struct FileShelf<'a, R: Files> {
     rt: &'a R,
     asked: FetchList,
     failures: u64,
+    whole: Option<WholeText>,
+}
+
+impl WholeText {
+    fn new(alloc: Global, name: &str, bytes: Rows<u8>) -> Result<WholeText, AllocError> {
+        let name = Rows::from_vec(Vec::from_slice(alloc, name.as_bytes())?);
+        Ok(WholeText { name, bytes })
+    }
+
+    fn is_of(&self, name: &str) -> bool {
+        self.name.as_slice() == name.as_bytes()
+    }
+
+    fn part(&self, alloc: Global, from: u64, most: u64) -> Result<Rows<u8>, FetchFault>
+        ensures { IfOk result (λ part. length part ≤ most) }
+    {
+        copy_of_part(alloc, self.bytes.as_slice(), from, most).map_err(no_memory)
+    }
 }
 
 impl<'a, R: Files> FileShelf<'a, R> {
@@ -28,6 +55,7 @@ impl<'a, R: Files> FileShelf<'a, R> {
             rt,
             asked: FetchList::new(),
             failures: 0,
+            whole: None,
         }
     }
 }
@@ -39,6 +67,10 @@ fn fault_of(error: io::Error) -> FetchFault {
     } else {
         FetchFault::Failed
     }
+}
+
+fn no_memory(_error: AllocError) -> FetchFault {
+    FetchFault::NoMemory
 }
 
 /// All bytes of a file that was opened, if they are at most `most`. One more than that is read at most.
@@ -63,6 +95,74 @@ fn read_file<R: Files>(rt: &R, alloc: Global, name: &str, most: u64) -> Result<F
     read_all(file, alloc, most)
 }
 
+/// The length of a file that has one and can be read from any place on: of a regular one that isn't empty. The system has files
+/// that it calls empty, and that give bytes all the same.
+fn length_of<F: OpenFile>(file: &F) -> Option<u64> {
+    match file.metadata() {
+        Ok(metadata) if metadata.is_file() && metadata.len() > 0 => Some(metadata.len()),
+        _ => None,
+    }
+}
+
+/// What a text of a length is measured at.
+fn measured(length: u64, most: u64) -> Measured
+    ensures { (name : List ℕ) → IsMeasured None name most result }
+{
+    if length > most {
+        return Measured::TooLong;
+    }
+    Measured::Length(length)
+}
+
+/// How long the file with a name is. What had to be read for that is put into `whole`.
+fn measure_file<R: Files>(
+    rt: &R,
+    alloc: Global,
+    name: &str,
+    most: u64,
+    whole: &mut Option<WholeText>,
+) -> Result<Measured, FetchFault>
+    ensures { IfOk result (λ m. IsMeasured None name.now most m) }
+{
+    let file = fs::open(rt, name).map_err(fault_of)?;
+    if let Some(length) = length_of(&file) {
+        return Ok(measured(length, most));
+    }
+    match read_all(file, alloc, most)? {
+        Fetched::TooLong => Ok(Measured::TooLong),
+        Fetched::Whole(bytes) => {
+            let length = bytes.len() as u64;
+            *whole = Some(WholeText::new(alloc, name, bytes).map_err(no_memory)?);
+            Ok(measured(length, most))
+        }
+    }
+}
+
+/// What is ahead in a file that was opened, at most `most` bytes of it.
+fn read_ahead<F: Read + Drop>(file: F, alloc: Global, most: u64) -> Result<Rows<u8>, FetchFault>
+    ensures { IfOk result (λ bytes. (length bytes ≤ most) × IfSome (F.remaining file) (λ ahead. bytes ≡ take most ahead)) }
+{
+    let mut bytes = Vec::new(alloc);
+    file.take(most).read_to_end(&mut bytes).map_err(fault_of)?;
+    bytes.truncate(most as usize);
+    Ok(Rows::from_vec(bytes))
+}
+
+/// What stands in the file with a name from a place on.
+fn read_part<R: Files>(
+    rt: &R,
+    alloc: Global,
+    name: &str,
+    from: u64,
+    most: u64,
+) -> Result<Rows<u8>, FetchFault>
+    ensures { IfOk result (λ bytes. IsPart None name.now from most bytes) }
+{
+    let mut file = fs::open(rt, name).map_err(fault_of)?;
+    file.seek(SeekFrom::Start(from)).map_err(fault_of)?;
+    read_ahead(file, alloc, most)
+}
+
 impl<R: Files> Shelf for FileShelf<'_, R> {
     ghost told = { λ _. None };
 
@@ -73,6 +173,33 @@ impl<R: Files> Shelf for FileShelf<'_, R> {
     fn fetch(&mut self, alloc: Global, name: &str, most: u64) -> Result<Fetched, FetchFault> {
         self.asked.note(name.as_bytes(), most);
         let answer = read_file(self.rt, alloc, name, most);
+        if let Err(FetchFault::Failed) = answer {
+            self.failures = self.failures.saturating_add(1);
+        }
+        answer
+    }
+
+    fn measure(&mut self, alloc: Global, name: &str, most: u64) -> Result<Measured, FetchFault> {
+        self.asked.note(name.as_bytes(), most);
+        self.whole = None;
+        let answer = measure_file(self.rt, alloc, name, most, &mut self.whole);
+        if let Err(FetchFault::Failed) = answer {
+            self.failures = self.failures.saturating_add(1);
+        }
+        answer
+    }
+
+    fn part(
+        &mut self,
+        alloc: Global,
+        name: &str,
+        from: u64,
+        most: u64,
+    ) -> Result<Rows<u8>, FetchFault> {
+        let answer = match &self.whole {
+            Some(text) if text.is_of(name) => text.part(alloc, from, most),
+            _ => read_part(self.rt, alloc, name, from, most),
+        };
         if let Err(FetchFault::Failed) = answer {
             self.failures = self.failures.saturating_add(1);
         }

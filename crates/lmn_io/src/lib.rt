@@ -9,15 +9,16 @@ mod line_buffer;
 mod mem_shelf;
 mod mem_sink;
 mod out_sink;
+mod parts;
 mod shelf;
 mod sink;
 mod taken;
 
 pub use file_shelf::FileShelf;
-pub use laws::asked_again_is_told;
+pub use laws::{asked_again_is_told, parts_are_told};
 pub use line_buffer::{LineBuffer, put_all};
 pub use mem_shelf::MemShelf;
 pub use mem_sink::MemSink;
 pub use out_sink::OutSink;
-pub use shelf::{FetchFault, Fetched, Shelf};
+pub use shelf::{FetchFault, Fetched, Measured, Shelf};
 pub use sink::{Failed, Sink};

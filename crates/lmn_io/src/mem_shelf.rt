@@ -1,11 +1,12 @@
 ghost use Rattle.std.specs.Prelude.{◌≡◌, ◌≤◌, ◌↔◌, ℕ, List, [], Some, None, option_map, Contains, length, IfOk, IsErrOf};
 ghost use Rattle.std.specs.Option.{option_copied};
 ghost use Rattle.lmn_io.specs.Counts.{Rose, one_more};
-ghost use Rattle.lmn_io.specs.Texts.{text_named, IsFetched, asked_once_more};
+ghost use Rattle.lmn_io.specs.Texts.{text_named, IsFetched, IsMeasured, IsPart, asked_once_more};
 ghost use Rattle.lmn_io.specs.Memory.{MemoryShelf, text_in, faults_in, FetchFails};
 
 use crate::fetches::FetchList;
-use crate::shelf::{FetchFault, Fetched, Shelf};
+use crate::parts::copy_of_part;
+use crate::shelf::{FetchFault, Fetched, Measured, Shelf};
 use lmn_base::Rows;
 use std::alloc::{AllocError, Global};
 use std::marker::Model;
@@ -117,6 +118,76 @@ impl Shelf for MemShelf {
                     Err(_) => Err(FetchFault::NoMemory),
                 }
             }
+        }
+    }
+
+    /// A text is measured exactly where it would be fetched.
+    fn measure(&mut self, _alloc: Global, name: &str, most: u64) -> Result<Measured, FetchFault>
+        ensures same { Some (text_in self.new) ≡ Some (text_in self.old) }
+        ensures later { (other : List ℕ) → faults_in self.old other ≤ faults_in self.new other }
+        ensures asked { Some self.new.asked ≡ option_map (asked_once_more name.now most) (Some self.old.asked) }
+        ensures measured { IfOk result (λ m. IsMeasured (Some (text_in self.old)) name.now most m) }
+        ensures rose { IsErrOf result FetchFault.Failed → Rose (faults_in self.old name.now) (faults_in self.new name.now) }
+        ensures fails { IsErrOf result FetchFault.Failed ↔ FetchFails self.old name.now }
+        ensures met { ¬ (FetchFails self.old name.now) → self.new ≡ record self.old { calls = one_more self.old.calls; asked = asked_once_more name.now most self.old.asked } }
+    {
+        let call = self.calls;
+        self.calls = call.saturating_add(1);
+        self.asked.note(name.as_bytes(), most);
+        if self.failing.as_slice().contains(&call) {
+            self.listed = self.listed.saturating_add(1);
+            self.all = self.all.saturating_add(1);
+            return Err(FetchFault::Failed);
+        }
+        let names = self.names.as_slice();
+        match text_at(names, self.texts.as_slice(), name.as_bytes()) {
+            None => {
+                self.all = self.all.saturating_add(1);
+                Err(FetchFault::Failed)
+            }
+            Some(text) => {
+                let count = text.len() as u64;
+                if count > most {
+                    return Ok(Measured::TooLong);
+                }
+                Ok(Measured::Length(count))
+            }
+        }
+    }
+
+    /// A part fails exactly where a fetch would.
+    fn part(
+        &mut self,
+        alloc: Global,
+        name: &str,
+        from: u64,
+        most: u64,
+    ) -> Result<Rows<u8>, FetchFault>
+        ensures same { Some (text_in self.new) ≡ Some (text_in self.old) }
+        ensures later { (other : List ℕ) → faults_in self.old other ≤ faults_in self.new other }
+        ensures asked { Some self.new.asked ≡ Some self.old.asked }
+        ensures part { IfOk result (λ bytes. IsPart (Some (text_in self.old)) name.now from most bytes) }
+        ensures rose { IsErrOf result FetchFault.Failed → Rose (faults_in self.old name.now) (faults_in self.new name.now) }
+        ensures fails { IsErrOf result FetchFault.Failed ↔ FetchFails self.old name.now }
+        ensures met { ¬ (FetchFails self.old name.now) → self.new ≡ record self.old { calls = one_more self.old.calls } }
+    {
+        let call = self.calls;
+        self.calls = call.saturating_add(1);
+        if self.failing.as_slice().contains(&call) {
+            self.listed = self.listed.saturating_add(1);
+            self.all = self.all.saturating_add(1);
+            return Err(FetchFault::Failed);
+        }
+        let names = self.names.as_slice();
+        match text_at(names, self.texts.as_slice(), name.as_bytes()) {
+            None => {
+                self.all = self.all.saturating_add(1);
+                Err(FetchFault::Failed)
+            }
+            Some(text) => match copy_of_part(alloc, text.as_slice(), from, most) {
+                Ok(part) => Ok(part),
+                Err(_) => Err(FetchFault::NoMemory),
+            },
         }
     }
 }
