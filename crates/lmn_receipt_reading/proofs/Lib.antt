@@ -1,0 +1,3 @@
+mod FeedLemmas
+mod SmallReadings
+pub mod ReadingLemmas

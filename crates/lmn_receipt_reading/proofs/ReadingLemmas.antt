@@ -1,0 +1,138 @@
+-- What is left of a text that is read in parts.
+use Rattle.std.specs.Prelude.{◌≡◌, ◌<◌, ◌≤◌, ◌⊎◌, ℕ, ◌+◌, ◌-◌, List, [], ◌++◌, drop, length, min, take, Option, Some, None, IfSome, IsSomeAnd, option_map}
+use Rattle.std.proofs.Common.{◌∙◌, ap, append_assoc, arith, inl, inr, refl, subst, suc, sym, zero}
+use Rattle.std.proofs.lemmas.List.{drop-drop, length-append, length-drop, length-take, take-append-drop}
+use Rattle.std.proofs.Math.Seq.{drop-append_seam}
+use Rattle.lmn_io.specs.Counts.{Rose}
+use Rattle.lmn_io.specs.Texts.{IsPart}
+use Rattle.lmn_receipt_reading.specs.Readings.{IsMeasuredRight, IsOfSame, IsReady, ReadFailed, Reading, ReadsOn, left_of, rest_of, text_told}
+
+-- ---- a part of a text, and the rest
+
+-- a part and what stands behind it are the text
+part_and_rest : (xs : List ℕ) (most : ℕ) → take most xs ++ drop (length (take most xs)) xs ≡ xs
+part_and_rest xs most =
+    let both = take-append-drop most xs in
+    let behind : drop (length (take most xs)) xs ≡ drop most xs = ap (drop (length (take most xs))) (sym both) ∙ drop-append_seam (take most xs) (drop most xs) in
+    ap (λ rest. take most xs ++ rest) behind ∙ both
+
+-- and so what is ahead and isn't read stays the same where a part is read
+moved : (ahead part all : List ℕ) (read most : ℕ) → part ≡ take most (drop read all) → (ahead ++ part) ++ drop (read + length part) all ≡ ahead ++ drop read all
+moved ahead part all read most is =
+    append_assoc ahead part (drop (read + length part) all)
+    ∙ ap (λ rest. ahead ++ rest) (ap (λ rest. part ++ rest) (sym (drop-drop (length part) read all)) ∙ subst (λ p. p ++ drop (length p) (drop read all) ≡ drop read all) (sym is) (part_and_rest (drop read all) most))
+
+-- behind a part that is shorter than what was asked for the text ends
+ended : (part all : List ℕ) (read most : ℕ) → part ≡ take most (drop read all) → length part < most → length all ≤ read + length part
+ended part all read most is short =
+    let counted : length part ≡ min most (length all - read) = ap length is ∙ length-take most (drop read all) ∙ ap (min most) (length-drop read all) in
+    omega (arith, counted, short)
+
+-- ---- where the text is told or not
+
+told_part : (told : Option (List ℕ → Option (List ℕ))) (name : List ℕ) (from most : ℕ) (part : List ℕ) → IsPart told name from most part → IfSome (text_told told name) (λ all. part ≡ take most (drop from all))
+told_part None name from most part is = tt
+told_part (Some text) name from most part is = of (text name) is.1
+  where
+    of : (o : Option (List ℕ)) → IsSomeAnd o (λ all. part ≡ take most (drop from all)) → IfSome o (λ all. part ≡ take most (drop from all))
+    of None none = tt
+    of (Some all) some = some
+
+module _ (ahead part : List ℕ) (read most : ℕ) where
+  all_moved : (o : Option (List ℕ)) → IfSome o (λ all. part ≡ take most (drop read all)) → option_map (λ all. (ahead ++ part) ++ drop (read + length part) all) o ≡ option_map (λ all. ahead ++ drop read all) o
+  all_moved None is = refl
+  all_moved (Some all) is = ap Some (moved ahead part all read most is)
+
+  all_ended : (o : Option (List ℕ)) → IfSome o (λ all. part ≡ take most (drop read all)) → length part < most → IfSome o (λ all. length all ≤ read + length part)
+  all_ended None is short = tt
+  all_ended (Some all) is short = ended part all read most is short
+
+-- ---- readings
+
+-- A block was read: so many bytes were asked for, and these came.
+pub record ReadsBlock (before after : Reading) (part : List ℕ) (most : ℕ) : Type 0 where
+  pub same : IsOfSame before after
+  pub right : IsMeasuredRight before
+  pub is : IsPart before.told before.name before.read most part
+  pub within : most ≤ before.length - before.read
+  pub read : after.read ≡ before.read + length part
+  pub last : after.at_hand.last ≡ before.at_hand.last
+  pub ahead : after.at_hand.ahead ≡ before.at_hand.ahead ++ part
+  pub full : most - length part ≡ 0 → after.length ≡ before.length
+  pub short : 0 < most - length part → after.length ≡ after.read
+
+module _ (before after : Reading) (part : List ℕ) (most : ℕ) (r : ReadsBlock before after part most) where
+  text : text_told after.told after.name ≡ text_told before.told before.name
+  text = ap (λ told. text_told told after.name) r.same.told ∙ ap (text_told before.told) r.same.name
+
+  is_part : IfSome (text_told before.told before.name) (λ all. part ≡ take most (drop before.read all))
+  is_part = told_part before.told before.name before.read most part r.is
+
+  few : length part ≤ most
+  few = r.is.0
+
+  rest : rest_of after ≡ rest_of before
+  rest =
+      ap (option_map (λ all. after.at_hand.ahead ++ drop after.read all)) text
+      ∙ ap (λ ahead. option_map (λ all. ahead ++ drop after.read all) (text_told before.told before.name)) r.ahead
+      ∙ ap (λ read. option_map (λ all. (before.at_hand.ahead ++ part) ++ drop read all) (text_told before.told before.name)) r.read
+      ∙ all_moved before.at_hand.ahead part before.read most (text_told before.told before.name) is_part
+
+  ahead_is : length after.at_hand.ahead ≡ length before.at_hand.ahead + length part
+  ahead_is = ap length r.ahead ∙ length-append before.at_hand.ahead part
+
+  by_kind : (most - length part ≡ 0) ⊎ (0 < most - length part) → ReadsOn before after
+  by_kind (inl full) =
+      let same = r.full full in
+      let read = r.read in
+      let within = r.within in
+      record {
+        right = record {
+          within = omega (arith, few, same, read, within, r.right.within);
+          whole = subst (λ n. IfSome (text_told after.told after.name) (λ all. length all ≤ n)) (sym same) (subst (λ o. IfSome o (λ all. length all ≤ before.length)) (sym text) r.right.whole);
+        };
+        last = r.last;
+        rest = rest;
+        left = omega (arith, few, same, read, within, r.right.within, ahead_is);
+      }
+  by_kind (inr short) =
+      let is = r.short short in
+      let read = r.read in
+      let within = r.within in
+      record {
+        right = record {
+          within = omega (arith, is);
+          whole = subst (λ n. IfSome (text_told after.told after.name) (λ all. length all ≤ n)) (sym (is ∙ read)) (subst (λ o. IfSome o (λ all. length all ≤ before.read + length part)) (sym text) (all_ended before.at_hand.ahead part before.read most (text_told before.told before.name) is_part (omega (arith, short))));
+        };
+        last = r.last;
+        rest = rest;
+        left = omega (arith, few, is, read, within, r.right.within, ahead_is);
+      }
+
+  -- then more was read, and nothing met
+  pub reads_block : ReadsOn before after
+  reads_block = by_kind (either (most - length part))
+    where
+      either : (n : ℕ) → (n ≡ 0) ⊎ (0 < n)
+      either zero = inl refl
+      either (suc n) = inr (omega arith)
+
+-- nothing was read yet
+pub same_at_first : (r : Reading) → IsOfSame r r
+same_at_first r = record { told = refl; asked = refl; later = λ name. omega arith; name = refl }
+
+-- and twice
+pub same_twice : (a b c : Reading) → IsOfSame a b → IsOfSame b c → IsOfSame a c
+same_twice a b c first second = record {
+  told = second.told ∙ first.told;
+  asked = second.asked ∙ first.asked;
+  later = λ name. let low = first.later name in let high = second.later name in omega (arith, low, high);
+  name = second.name ∙ first.name;
+}
+
+-- a fault after others
+pub failed_behind : (a b c : Reading) → IsOfSame a b → ReadFailed b c → ReadFailed a c
+failed_behind a b c first failed =
+    let low = first.later a.name in
+    let rose : Rose (b.faults a.name) (c.faults a.name) = subst (λ n. Rose (b.faults n) (c.faults n)) first.name failed in
+    omega (arith, low, rose)

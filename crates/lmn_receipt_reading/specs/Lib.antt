@@ -1,0 +1,4 @@
+pub mod Windows
+pub mod Readings
+pub mod Seen
+pub mod Examples
