@@ -2,10 +2,9 @@
 use Rattle.std.proofs.Common.{◌≡◌, ℕ, zero, suc, ◌+◌, ◌<◌, ◌⊎◌, inl, inr, List, [], ◌∷◌, ◌++◌, length, slice_index_or, slice_set, All, Contains, refl, sym, ap, ◌∙◌, subst, arith}
 use Rattle.std.proofs.lemmas.List.{append_assoc, append-nil, length-append}
 use Rattle.std.specs.List.{AllZip}
-use Rattle.lmn_base.specs.declared.guard.Cond.{Cond}
 use Rattle.lmn_base.specs.declared.level.Level as base_level
 use Rattle.lmn_base.specs.declared.refusal.Pos.{Pos}
-use Rattle.lmn_base.specs.declared.rule.LinkUse.{LinkUse}
+use Rattle.lmn_base.specs.declared.rule.Plain.{Plain}
 use Rattle.lmn_base.specs.declared.rule.RuleTree.{RuleTree}
 use Rattle.lmn_base.specs.Levels.{links_of}
 use Rattle.lmn_congruence.specs.Rules as tree
@@ -115,16 +114,17 @@ module _ (r : Reading) where
       let keys = h.scope in
       keys_below h.keys (expanded.expanded_links l) (links_of top) s.count keys.count (links_by r.names (IsKey h.keys) l top h.level)
 
-  pub top_plain : (cs : Clauses) (old top : base_level.Level) (links : List LinkUse) (table : List RuleTree) (s : Scope) → TopParts r cs old table s
-      → NumbersLevel old top links → IsPlainOf r.words r.places r.names cs (record { top = top; links = links; rules = table })
-  top_plain cs old top links table s h n =
+  pub top_plain : (cs : Clauses) (old : base_level.Level) (plain : Plain) (table : List RuleTree) (s : Scope) → TopParts r cs old table s
+      → NumbersLevel old plain.top plain.links → plain.rules ≡ table → IsPlainOf r.words r.places r.names cs plain
+  top_plain cs old plain table s h n e =
       let l = level_from_parts (parts_of r.words r.places cs) in
+      let P : List RuleTree → Type 0 = λ ts. let p = parts_of r.words r.places cs in AllZip (IsRuleOf r.words r.places r.names) p.table ts in
       record {
         number = λ a. n.to (link_index a h.keys);
         apart = one_to_one h.keys n.to (expanded.expanded_links l) (links_of old) (links_by r.names (IsKey h.keys) l old h.level) n.apart;
-        top = numbered_level h.keys r.names n.to l old top h.level n.level;
+        top = numbered_level h.keys r.names n.to l old plain.top h.level n.level;
         table = n.table;
-        rules = h.rules;
+        rules = subst P (sym e) h.rules;
       }
 
   -- ---- rules
@@ -226,12 +226,10 @@ module _ (r : Reading) where
       (each_append (IsKey h.keys) (expanded.expanded_links x) (expanded.expanded_links y) (links_of head_level) (links_of body_level)
       (links_by r.names (IsKey h.keys) x head_level f.0) (links_by r.names (IsKey h.keys) y body_level f.1))
 
-  pub rule_read : (way : List ℕ) (kept taken body : Items) (conditions : List WrittenCondition) (pos : Pos) (old_head old_body head_level body_level : base_level.Level)
-      (guard : List Cond) (links : List LinkUse) (table table1 : List RuleTree) (s : Scope)
-      → RuleParts way kept taken body old_head old_body table table1 s → AllZip (IsCond r.words r.places r.names) conditions guard
-      → NumbersRule old_head old_body head_level body_level links
-      → ReadsRule r way kept taken conditions body pos table (record { head = head_level; guard = guard; body = body_level; links = links; pos = pos }) table1
-  rule_read way kept taken body conditions pos old_head old_body head_level body_level guard links table table1 s h conds n =
+  pub rule_read : (way : List ℕ) (kept taken body : Items) (conditions : List WrittenCondition) (pos : Pos) (old_head old_body : base_level.Level) (rule : RuleTree) (table table1 : List RuleTree) (s : Scope)
+      → RuleParts way kept taken body old_head old_body table table1 s → NumbersRule old_head old_body rule.head rule.body rule.links → rule.pos ≡ pos
+      → AllZip (IsCond r.words r.places r.names) conditions rule.guard → ReadsRule r way kept taken conditions body pos table rule table1
+  rule_read way kept taken body conditions pos old_head old_body rule table table1 s h n place conds =
       let p = expansion.expanded_items r.words r.places (0 ∷ way) kept (length table) in
       let q = expansion.expanded_items r.words r.places (1 ∷ way) taken (length table + length p.table) in
       let b = expansion.expanded_items r.words r.places (2 ∷ way) body (length table + length p.table + length q.table) in
@@ -247,10 +245,10 @@ module _ (r : Reading) where
             apart = one_to_one h.keys n.to (expanded.expanded_links x ++ expanded.expanded_links y) (links_of old_head ++ links_of old_body)
                 (each_append (IsKey h.keys) (expanded.expanded_links x) (expanded.expanded_links y) (links_of old_head) (links_of old_body)
                 (links_by r.names (IsKey h.keys) x old_head f.0) (links_by r.names (IsKey h.keys) y old_body f.1)) n.apart;
-            head = numbered_level h.keys r.names n.to x old_head head_level f.0 n.head;
+            head = numbered_level h.keys r.names n.to x old_head rule.head f.0 n.head;
             guard = conds;
-            body = numbered_level h.keys r.names n.to y old_body body_level f.1 n.body;
-            pos = refl;
+            body = numbered_level h.keys r.names n.to y old_body rule.body f.1 n.body;
+            pos = place;
             table = n.table;
           },
           f.2,

@@ -39,7 +39,6 @@ pub(crate) struct Entry {
 /// What the tokens of a text mean, and the numbers of the names that abbreviations bring in.
 /// It is read first, in one pass, so the walk over the tree wants neither text nor names; a name that no plain has, as
 /// that of a rule, is held too.
-#[derive(Drop)]
 pub(crate) struct Glossary {
     /// What memory is taken from.
     pub(crate) alloc: Global,
@@ -51,6 +50,19 @@ pub(crate) struct Glossary {
     pub(crate) empty: u32,
     /// The number of the name `+`.
     pub(crate) plus: u32,
+}
+
+// By hand, so that each exit of a function that holds a glossary has one call for it.
+impl Drop for Glossary {
+    fn drop(self) {
+        let Glossary {
+            alloc: _,
+            entries: _,
+            cell: _,
+            empty: _,
+            plus: _,
+        } = self;
+    }
 }
 
 impl Glossary {

@@ -37,11 +37,11 @@ fn copied_part(alloc: Global, links: &[u32], part: &Part) -> Result<Part, NoMemo
       rules = part.now.rules;
     }) }
 {
-    let leaves = copied_leaves(alloc, links, part.leaves.as_slice())?;
-    let membranes = copied_levels(alloc, links, part.membranes.as_slice())?;
     let contexts = Rows::copied(alloc, part.contexts.as_slice())?;
     let rule_contexts = Rows::copied(alloc, part.rule_contexts.as_slice())?;
     let rules = Rows::copied(alloc, part.rules.as_slice())?;
+    let leaves = copied_leaves(alloc, links, part.leaves.as_slice())?;
+    let membranes = copied_levels(alloc, links, part.membranes.as_slice())?;
     Ok(Part {
         leaves,
         membranes,
@@ -205,11 +205,11 @@ fn copied_levels(alloc: Global, links: &[u32], levels: &[Level]) -> Result<Rows<
 fn copied_level(alloc: Global, links: &[u32], level: &Level) -> Result<Level, NoMemory>
     ensures { IfOk result (λ new. new ≡ renumbered (new_link links.now) level.now) }
 {
-    let leaves = copied_leaves(alloc, links, level.leaves.as_slice())?;
-    let membranes = copied_levels(alloc, links, level.membranes.as_slice())?;
     let contexts = Rows::copied(alloc, level.contexts.as_slice())?;
     let rule_contexts = Rows::copied(alloc, level.rule_contexts.as_slice())?;
     let rules = Rows::copied(alloc, level.rules.as_slice())?;
+    let leaves = copied_leaves(alloc, links, level.leaves.as_slice())?;
+    let membranes = copied_levels(alloc, links, level.membranes.as_slice())?;
     Ok(Level {
         leaves,
         membranes,

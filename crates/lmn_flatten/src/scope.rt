@@ -18,12 +18,21 @@ use std::alloc::Global;
 use std::collections::BTreeMap;
 
 /// The links of a rule, or of the process outside every rule, that have been met. Each has a number, counted from 0.
-#[derive(Drop)]
 pub(crate) struct Scope {
     /// The numbers of links that are written in the text, by the numbers of their names.
     pub(crate) written: BTreeMap<u32, u32>,
     /// How many links have been met.
     pub(crate) count: u32,
+}
+
+// By hand, so that each exit of a function that holds a scope has one call for it.
+impl Drop for Scope {
+    fn drop(self) {
+        let Scope {
+            written: _,
+            count: _,
+        } = self;
+    }
 }
 
 impl Scope {

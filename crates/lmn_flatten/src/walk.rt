@@ -1,15 +1,18 @@
-ghost use Rattle.std.specs.Prelude.{◌≡◌, ◌+◌, ◌<◌, ◌++◌, List, [], ◌∷◌, ℕ, codes, drop, length, option_to_list, slice_get, Some, IfOk, OnOk};
+ghost use Rattle.std.specs.Prelude.{◌≡◌, ◌+◌, ◌<◌, ◌++◌, List, [], ◌∷◌, ℕ, false, codes, drop, length, option_to_list, slice_get, All, Some, IfOk, OnOk};
 ghost use Rattle.std.specs.List.{AllZip};
 ghost use Rattle.lmn_base.specs.declared.level.Occ.{Occ};
+ghost use Rattle.lmn_base.specs.declared.rule.RuleTree.{RuleTree};
+ghost use Rattle.lmn_base.specs.Levels.{links_of};
 ghost use Rattle.lmn_congruence.specs.Rules.{Name, named};
-ghost use Rattle.lmn_parser.specs.Syntax.{list, clause_of, clauses_of, conditions_of, item_of, items_of_nodes, clause_of_rule, term_of, terms_of, clauses_of_tree};
+ghost use Rattle.lmn_parser.specs.Syntax.{bracketed, list, plus_link, clause_of, clauses_of, conditions_of, item_of, items_of_nodes, clause_of_rule, term_of, terms_of, clauses_of_tree};
 ghost use Rattle.lmn_flatten_plain.specs.Expanded.{atom_leaf, typed_leaf};
 ghost use Rattle.lmn_flatten_plain.specs.Expansion as expansion;
 ghost use Rattle.lmn_flatten_plain.specs.Keys.{IsLinkIn, IsKey};
 ghost use Rattle.lmn_flatten_plain.specs.Links.{Link, Use, made};
 ghost use Rattle.lmn_flatten_plain.specs.Meanings.{name_at, place_at};
-ghost use Rattle.lmn_flatten_plain.specs.Parts.{NumberedParts, ◌⊕◌, one_membrane};
-ghost use Rattle.lmn_flatten_plain.specs.Plains.{IsPlainOf};
+ghost use Rattle.lmn_flatten_plain.specs.Parts.{NumberedParts, ◌⊕◌, one_context, one_membrane, one_rule_context};
+ghost use Rattle.lmn_flatten_plain.specs.Plains.{IsCond, IsPlainOf};
+ghost use Rattle.lmn_flatten_numbers.specs.Scopes.{NumbersLevel, NumbersRule};
 ghost use Rattle.lmn_flatten.specs.Built.{AddsLeaf, IsPartOfLevel, IsUse};
 ghost use Rattle.lmn_flatten.specs.Glossaries.{Reading, IsGlossary, IsKnown};
 ghost use Rattle.lmn_flatten.specs.Growing.{Argument, GrowsPart, HasNoRules, MayGrow, ReadsRule, Within, atom_with};
@@ -21,7 +24,9 @@ use crate::kept::copied;
 use crate::number::{following, narrow};
 use crate::part::Part;
 use crate::scope::Scope;
-use lmn_base::{CONNECTOR_NAME, CtxUse, Label, Leaf, NoMemory, Occ, Plain, Pos, Rows, RuleTree};
+use lmn_base::{
+    CONNECTOR_NAME, CtxUse, Label, Leaf, Level, NoMemory, Occ, Plain, Pos, Rows, RuleTree,
+};
 use lmn_flatten_numbers::{number_level, number_rule};
 use lmn_parser::{AtomNode, Clause, Item, RuleNode, Term, Tree};
 use std::alloc::Global;
@@ -46,8 +51,16 @@ pub(crate) fn expanded(glossary: Glossary, tree: &Tree) -> Result<Plain, NoMemor
     let count = scope.count;
     drop(scope);
     drop(glossary);
-    let mut top = part.into_level();
-    let links = number_level(alloc, &mut top, count)?;
+    let top = part.into_level();
+    plain(alloc, top, rules, count)
+}
+
+/// The plain with this top and these rules. The links of the top get their numbers; before, each has a key below `keys`.
+fn plain(alloc: Global, mut top: Level, rules: Rows<RuleTree>, keys: u32) -> Result<Plain, NoMemory>
+    requires { All (λ key. key < keys) (links_of top) }
+    ensures { IfOk result (λ plain. NumbersLevel top plain.top plain.links × (plain.rules ≡ rules)) }
+{
+    let links = number_level(alloc, &mut top, keys)?;
     Ok(Plain { top, links, rules })
 }
 
@@ -123,31 +136,11 @@ fn add_item(
             let inside = Part::new(glossary.alloc);
             add_membrane(glossary, part, scope, table, inside, clauses.as_slice())
         }
-        Item::Context(token) => {
-            let context = glossary.context(*token)?;
-            part.contexts.push(context)
-        }
-        Item::Closed(token) => {
-            let context = glossary.context(*token)?;
-            part.contexts.push(CtxUse {
-                name: context.name,
-                closed: true,
-                pos: context.pos,
-            })
-        }
-        Item::Bracketed(token, link) => {
-            let link = scope.written(glossary, *link)?;
-            add_typed(glossary, part, *token, link)
-        }
-        Item::RuleContext(token) => {
-            let context = glossary.context(*token)?;
-            part.rule_contexts.push(context)
-        }
-        Item::Plus(token) => {
-            let pos = glossary.place(*token)?;
-            let link = scope.written(glossary, following(*token)?)?;
-            add_unary(glossary, part, glossary.plus, link, pos)
-        }
+        Item::Context(token) => add_context(glossary, part, *token, false),
+        Item::Closed(token) => add_context(glossary, part, *token, true),
+        Item::Bracketed(token, link) => add_bracketed(glossary, part, scope, *token, *link),
+        Item::RuleContext(token) => add_rule_context(glossary, part, *token),
+        Item::Plus(token) => add_plus(glossary, part, scope, *token),
         Item::Group(clause) => add_clause(glossary, part, scope, table, clause),
         Item::Equal(left, token, right) => {
             let pos = glossary.place(*token)?;
@@ -158,6 +151,63 @@ fn add_item(
             add_term(glossary, part, scope, table, pos, other.link, right)
         }
     }
+}
+
+/// Adds an untyped context, closed or not.
+fn add_context(
+    glossary: &Glossary,
+    part: &mut Part,
+    token: usize,
+    closed: bool,
+) -> Result<(), NoMemory>
+    ensures { OnOk result ((r : Reading) (way : List ℕ) (keys : List Link) (table : List RuleTree) (scope : Scope) → MayGrow r (Under way) keys glossary.now scope
+        → GrowsPart r (Under way) keys (one_context (record { name = name_at r.words r.places token; closed = closed; pos = place_at r.words r.places token })) part.old table part.new table scope) }
+{
+    let context = glossary.context(token)?;
+    part.contexts.push(CtxUse {
+        name: context.name,
+        closed,
+        pos: context.pos,
+    })
+}
+
+/// Adds a rule context.
+fn add_rule_context(glossary: &Glossary, part: &mut Part, token: usize) -> Result<(), NoMemory>
+    ensures { OnOk result ((r : Reading) (way : List ℕ) (keys : List Link) (table : List RuleTree) (scope : Scope) → MayGrow r (Under way) keys glossary.now scope
+        → GrowsPart r (Under way) keys (one_rule_context (record { name = name_at r.words r.places token; closed = false; pos = place_at r.words r.places token })) part.old table part.new table scope) }
+{
+    let context = glossary.context(token)?;
+    part.rule_contexts.push(context)
+}
+
+/// Adds a typed context whose link is written.
+fn add_bracketed(
+    glossary: &Glossary,
+    part: &mut Part,
+    scope: &mut Scope,
+    token: usize,
+    link: usize,
+) -> Result<(), NoMemory>
+    ensures { OnOk result ((r : Reading) (way : List ℕ) (keys : List Link) (table : List RuleTree) → MayGrow r (Under way) keys glossary.now scope.old
+        → GrowsPart r (Under way) keys (expansion.expanded_item r.words r.places way (bracketed token link)) part.old table part.new table scope.new) }
+{
+    let link = scope.written(glossary, link)?;
+    add_typed(glossary, part, token, link)
+}
+
+/// Adds the atom `+` whose link is written.
+fn add_plus(
+    glossary: &Glossary,
+    part: &mut Part,
+    scope: &mut Scope,
+    token: usize,
+) -> Result<(), NoMemory>
+    ensures { OnOk result ((r : Reading) (way : List ℕ) (keys : List Link) (table : List RuleTree) → MayGrow r (Under way) keys glossary.now scope.old
+        → GrowsPart r (Under way) keys (expansion.expanded_item r.words r.places way (plus_link token)) part.old table part.new table scope.new) }
+{
+    let pos = glossary.place(token)?;
+    let link = scope.written(glossary, following(token)?)?;
+    add_unary(glossary, part, glossary.plus, link, pos)
 }
 
 /// Adds an atom with its arguments, and with its own link behind them where it is an argument itself.
@@ -532,10 +582,25 @@ fn rule(
         node.taken.as_slice(),
     )?;
     add_items(glossary, &mut body, &mut scope, table, node.body.as_slice())?;
+    let head = head.into_level();
+    let body = body.into_level();
+    numbered(glossary, head, body, scope.count, node)
+}
+
+/// The rule with this head and this body, whose links get their numbers. Before, each has a key below `keys`.
+fn numbered(
+    glossary: &Glossary,
+    mut head: Level,
+    mut body: Level,
+    keys: u32,
+    node: &RuleNode,
+) -> Result<RuleTree, NoMemory>
+    requires { All (λ key. key < keys) (links_of head ++ links_of body) }
+    ensures { IfOk result (λ rule. NumbersRule head body rule.head rule.body rule.links × (rule.pos ≡ node.now.pos)
+        × ((r : Reading) → IsGlossary r glossary.now → AllZip (IsCond r.words r.places r.names) (conditions_of node.now.guard) rule.guard)) }
+{
     let guard = conditions(glossary, node.guard.as_slice())?;
-    let mut head = head.into_level();
-    let mut body = body.into_level();
-    let links = number_rule(alloc, &mut head, &mut body, scope.count)?;
+    let links = number_rule(glossary.alloc, &mut head, &mut body, keys)?;
     Ok(RuleTree {
         head,
         guard,

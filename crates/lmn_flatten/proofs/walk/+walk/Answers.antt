@@ -1,13 +1,12 @@
-use Rattle.std.proofs.Common.{true, false, refl, sym, ap, ◌∙◌, ◌≡◌, List, [], ◌∷◌, ◌++◌, ℕ, length, codes, subst, arith}
+use Rattle.std.proofs.Common.{refl, sym, ap, ◌∙◌, ◌≡◌, List, [], ◌∷◌, ◌++◌, ℕ, length, codes, subst, arith}
 use Rattle.std.specs.Prelude.{option_to_list}
-use Rattle.lmn_base.specs.declared.level.CtxUse.{CtxUse}
-use Rattle.std.proofs.lemmas.Result.{on_ok_weaker}
+use Rattle.std.proofs.lemmas.Result.{IfOk-weaker, on_ok_weaker}
 use Rattle.lmn_congruence.specs.Rules.{named}
-use Rattle.lmn_parser.specs.Syntax.{clause_of, clauses_of, item_of, items_of_nodes, term_of, terms_of, conditions_of, list, list_onto, membrane, clause_of_rule}
+use Rattle.lmn_parser.specs.Syntax.{group, clause_of, clauses_of, item_of, items_of_nodes, term_of, terms_of, conditions_of, list, list_onto, membrane, clause_of_rule}
 use Rattle.lmn_parser.specs.declared.tree.Clause.TheViews as view
 use Rattle.lmn_parser.specs.declared.tree.Term.{Term as TermNode}
 use Rattle.lmn_parser.proofs.Nodes as nodes
-use Rattle.lmn_parser.proofs.Nodes.{clause_process, clause_rule, item_atom, item_membrane, item_context, item_closed, item_bracketed, item_rule_context, item_plus, item_equal, term_link, term_atom, term_list, term_list_onto, term_context, term_membrane}
+use Rattle.lmn_parser.proofs.Nodes.{clause_process, clause_rule, item_atom, item_membrane, item_context, item_closed, item_bracketed, item_rule_context, item_plus, item_group, item_equal, term_link, term_atom, term_list, term_list_onto, term_context, term_membrane}
 use Rattle.lmn_flatten_plain.specs.Expanded.{atom_leaf}
 use Rattle.lmn_flatten_plain.specs.Expansion as expansion
 use Rattle.lmn_flatten_plain.specs.Keys.{IsLinkIn, IsKey}
@@ -19,7 +18,7 @@ use Rattle.lmn_flatten.specs.Scopes.{IsScope, Meets, Under}
 use Rattle.lmn_flatten.proofs.GrowingLemmas.{grows_leaf, grows_nothing}
 use Rattle.lmn_flatten.proofs.WalkLemmas.{all_cells_left, atom_grows, cells_done, empty_list_grows, equation_grows, list_grows, membrane_grows, open_list_grows, so_far_none}
 use Rattle.lmn_flatten.proofs.RuleLemmas.{reads_as, room_for_rule, rule_below, rule_grows, rule_parts, rule_read}
-use Rattle.lmn_flatten.proofs.WalkSteps.{all_grown, arguments_as, atom_alone, leaf_inside, membrane_alone, nothing_inside, plus_grows, same_read, terms_as, cells_more, clauses_more, context_grows, grows_is, items_more, no_terms, nothing_left, rule_context_grows, some_terms, terms_more, written_leaf}
+use Rattle.lmn_flatten.proofs.WalkSteps.{all_grown, arguments_as, atom_alone, leaf_inside, membrane_alone, nothing_inside, same_read, terms_as, cells_more, clauses_more, grows_is, items_more, no_terms, nothing_left, some_terms, terms_more}
 use Rattle.lmn_flatten.proofs.walk.+walk.Goals as goal
 
 pub add_clauses-loop-clause-init : goal.add_clauses-loop-clause-init
@@ -130,52 +129,47 @@ add_item-returns-in-Membrane t c = on_ok_weaker c.add_membrane.result
     (grown r way keys nothing ready (nothing_inside r (IsKey keys) c.new-inside.result c.new-inside.ensures) (λ k. refl))))
     c.add_membrane.ensures
 
-pub add_item-returns-in_ok-context-in-Context : goal.add_item-returns-in_ok-context-in-Context
-add_item-returns-in_ok-context-in-Context t c = on_ok_weaker c.push.result
+pub add_item-returns-in-Context : goal.add_item-returns-in-Context
+add_item-returns-in-Context t c = on_ok_weaker c.add_context.result
     (λ grown r way keys ready.
-    grows_is r (Under way) keys (expansion.expanded_item r.words r.places way) _ _ c.args.part.now c.args.table.now _ c.args.table.now c.args.scope.now
-    (ap item_of c.in-Context.is ∙ item_context c.in-Context.token)
-    (context_grows r false (Under way) keys c.in-Context.token c.in_ok-context-in-Context.context c.args.part.now c.args.table.now c.args.scope.now c.push.new.self ready.scope
-    (c.in_ok-context-in-Context.ensures r ready.glossary) grown))
-    c.push.ensures.ok
+    grows_is r (Under way) keys (expansion.expanded_item r.words r.places way) _ _ c.args.part.now c.args.table.now c.add_context.new.part c.args.table.now c.args.scope.now
+    (ap item_of c.in-Context.is ∙ item_context c.in-Context.token) (grown r way keys c.args.table.now c.args.scope.now ready))
+    c.add_context.ensures
 
-pub add_item-returns-in_ok-context-in-Closed : goal.add_item-returns-in_ok-context-in-Closed
-add_item-returns-in_ok-context-in-Closed t c = on_ok_weaker c.push-in-Closed.result
+pub add_item-returns-in-Closed : goal.add_item-returns-in-Closed
+add_item-returns-in-Closed t c = on_ok_weaker c.add_context-in-Closed.result
     (λ grown r way keys ready.
-    grows_is r (Under way) keys (expansion.expanded_item r.words r.places way) _ _ c.args.part.now c.args.table.now _ c.args.table.now c.args.scope.now
-    (ap item_of c.in-Closed.is ∙ item_closed c.in-Closed.token)
-    (context_grows r true (Under way) keys c.in-Closed.token _ c.args.part.now c.args.table.now c.args.scope.now c.push-in-Closed.new.self ready.scope
-    (ap (λ (u : CtxUse). record { name = u.name; closed = true; pos = u.pos }) (c.in_ok-context-in-Closed.ensures r ready.glossary)) grown))
-    c.push-in-Closed.ensures.ok
+    grows_is r (Under way) keys (expansion.expanded_item r.words r.places way) _ _ c.args.part.now c.args.table.now c.add_context-in-Closed.new.part c.args.table.now c.args.scope.now
+    (ap item_of c.in-Closed.is ∙ item_closed c.in-Closed.token) (grown r way keys c.args.table.now c.args.scope.now ready))
+    c.add_context-in-Closed.ensures
 
-pub add_item-returns-in_ok-link-in-Bracketed : goal.add_item-returns-in_ok-link-in-Bracketed
-add_item-returns-in_ok-link-in-Bracketed t c = on_ok_weaker c.add_typed.result
-    (λ adds r way keys ready.
-    let first = c.in_ok-link-in-Bracketed.ensures r keys ready.glossary ready.scope in
-    let m = first.0 in
-    grows_is r (Under way) keys (expansion.expanded_item r.words r.places way) _ _ c.args.part.now c.args.table.now c.add_typed.new.part c.args.table.now c.written.new.self
-    (ap item_of c.in-Bracketed.is ∙ item_bracketed _ _)
-    (written_leaf r (Under way) keys _ c.args.part.now c.args.table.now c.args.scope.now c.written.new.self c.add_typed.new.part m (adds r (keys ++ m.more) _ ready.glossary first.1)))
-    c.add_typed.ensures
-
-pub add_item-returns-in_ok-context-in-RuleContext : goal.add_item-returns-in_ok-context-in-RuleContext
-add_item-returns-in_ok-context-in-RuleContext t c = on_ok_weaker c.push-in-RuleContext.result
+pub add_item-returns-in-Bracketed : goal.add_item-returns-in-Bracketed
+add_item-returns-in-Bracketed t c = on_ok_weaker c.add_bracketed.result
     (λ grown r way keys ready.
-    grows_is r (Under way) keys (expansion.expanded_item r.words r.places way) _ _ c.args.part.now c.args.table.now _ c.args.table.now c.args.scope.now
-    (ap item_of c.in-RuleContext.is ∙ item_rule_context c.in-RuleContext.token)
-    (rule_context_grows r (Under way) keys c.in-RuleContext.token c.in_ok-context-in-RuleContext.context c.args.part.now c.args.table.now c.args.scope.now c.push-in-RuleContext.new.self ready.scope
-    (c.in_ok-context-in-RuleContext.ensures r ready.glossary) grown))
-    c.push-in-RuleContext.ensures.ok
+    grows_is r (Under way) keys (expansion.expanded_item r.words r.places way) _ _ c.args.part.now c.args.table.now c.add_bracketed.new.part c.args.table.now c.add_bracketed.new.scope
+    (ap item_of c.in-Bracketed.is ∙ item_bracketed c.in-Bracketed.token c.in-Bracketed.link) (grown r way keys c.args.table.now ready))
+    c.add_bracketed.ensures
 
-pub add_item-returns-in_ok-link-in-Plus : goal.add_item-returns-in_ok-link-in-Plus
-add_item-returns-in_ok-link-in-Plus t c = on_ok_weaker c.add_unary.result
-    (λ adds r way keys ready.
-    grows_is r (Under way) keys (expansion.expanded_item r.words r.places way) _ _ c.args.part.now c.args.table.now c.add_unary.new.part c.args.table.now c.written-in-Plus.new.self
-    (ap item_of c.in-Plus.is ∙ item_plus c.in-Plus.token)
-    (plus_grows r (Under way) way keys c.in-Plus.token c.in_ok-following-in-Plus.field-0 c.in_ok-pos-in-Plus.pos c.in_ok-link-in-Plus.link c.args.part.now c.args.table.now c.args.scope.now
-    c.written-in-Plus.new.self c.add_unary.new.part (c.in_ok-pos-in-Plus.ensures r ready.glossary) c.in_ok-following-in-Plus.ensures
-    (c.in_ok-link-in-Plus.ensures r keys ready.glossary ready.scope) (λ ks u i. let g = ready.glossary in adds r ks (codes "+") u g g.plus i)))
-    c.add_unary.ensures
+pub add_item-returns-in-RuleContext : goal.add_item-returns-in-RuleContext
+add_item-returns-in-RuleContext t c = on_ok_weaker c.add_rule_context.result
+    (λ grown r way keys ready.
+    grows_is r (Under way) keys (expansion.expanded_item r.words r.places way) _ _ c.args.part.now c.args.table.now c.add_rule_context.new.part c.args.table.now c.args.scope.now
+    (ap item_of c.in-RuleContext.is ∙ item_rule_context c.in-RuleContext.token) (grown r way keys c.args.table.now c.args.scope.now ready))
+    c.add_rule_context.ensures
+
+pub add_item-returns-in-Plus : goal.add_item-returns-in-Plus
+add_item-returns-in-Plus t c = on_ok_weaker c.add_plus.result
+    (λ grown r way keys ready.
+    grows_is r (Under way) keys (expansion.expanded_item r.words r.places way) _ _ c.args.part.now c.args.table.now c.add_plus.new.part c.args.table.now c.add_plus.new.scope
+    (ap item_of c.in-Plus.is ∙ item_plus c.in-Plus.token) (grown r way keys c.args.table.now ready))
+    c.add_plus.ensures
+
+pub add_item-returns-in-Group : goal.add_item-returns-in-Group
+add_item-returns-in-Group t c = on_ok_weaker c.add_clause.result
+    (λ grown r way keys ready.
+    grows_is r (Under way) keys (expansion.expanded_item r.words r.places way) _ _ c.args.part.now c.args.table.now c.add_clause.new.part c.add_clause.new.table c.add_clause.new.scope
+    (ap item_of c.in-Group.is ∙ item_group c.in-Group.clause ∙ ap (λ d. group (clause_of d)) (sym c.deref.ensures)) (grown r way keys ready))
+    c.add_clause.ensures
 
 pub add_item-returns-in_ok-add_term-in-Equal : goal.add_item-returns-in_ok-add_term-in-Equal
 add_item-returns-in_ok-add_term-in-Equal t c = on_ok_weaker c.add_term-in-Equal.result
@@ -287,8 +281,8 @@ add_term-returns-in_ok-add_unary-in-Membrane t c = on_ok_weaker c.add_membrane.r
     (λ k. refl)))
     c.add_membrane.ensures
 
-pub rule-number_rule-requires : goal.rule-number_rule-requires
-rule-number_rule-requires t c = let r = c.requires.known.0 in let is = c.requires.known.1 in let way : List ℕ = [] in
+pub rule-numbered-requires : goal.rule-numbered-requires
+rule-numbered-requires t c = let r = c.requires.known.0 in let is = c.requires.known.1 in let way : List ℕ = [] in
     rule_below r way _ _ _ c.into_level-head.result c.into_level-body.result c.args.table.now c.add_items-3.new.table c.add_items-3.new.scope
     (rule_parts r way (items_of_nodes c.as_slice.result.now) (items_of_nodes c.as_slice-2.result.now) (items_of_nodes c.as_slice-3.result.now) c.args.glossary.now c.new-head.result c.add_items.new.part
     c.add_items-2.new.part c.in_ok-body.body c.add_items-3.new.part c.args.table.now c.add_items.new.table c.add_items-2.new.table c.add_items-3.new.table c.new-scope.result c.add_items.new.scope
@@ -297,14 +291,15 @@ rule-number_rule-requires t c = let r = c.requires.known.0 in let is = c.require
     (λ ks p h. c.into_level-head.ensures r.names ks p h) (λ ks p h. c.into_level-body.ensures r.names ks p h))
 
 pub rule-returns : goal.rule-returns
-rule-returns t c = λ r way is.
-    reads_as r way c.as_slice.result.now _ c.as_slice-2.result.now _ c.as_slice-3.result.now _ c.as_slice-4.result.now _ c.args.node.now.pos c.args.table.now _ c.add_items-3.new.table
-    c.as_slice.ensures c.as_slice-2.ensures c.as_slice-3.ensures c.as_slice-4.ensures
-    (rule_read r way (items_of_nodes c.as_slice.result.now) (items_of_nodes c.as_slice-2.result.now) (items_of_nodes c.as_slice-3.result.now) (conditions_of c.as_slice-4.result.now) c.args.node.now.pos
-    c.into_level-head.result c.into_level-body.result c.number_rule.new.head c.number_rule.new.body c.in_ok-guard.guard c.in_ok-links.links c.args.table.now c.add_items-3.new.table c.add_items-3.new.scope
+rule-returns t c = IfOk-weaker c.numbered.result _ _
+    (λ rule h r way is.
+    reads_as r way c.as_slice.result.now _ c.as_slice-2.result.now _ c.as_slice-3.result.now _ c.args.node.now.guard _ c.args.node.now.pos c.args.table.now rule c.add_items-3.new.table
+    c.as_slice.ensures c.as_slice-2.ensures c.as_slice-3.ensures refl
+    (rule_read r way (items_of_nodes c.as_slice.result.now) (items_of_nodes c.as_slice-2.result.now) (items_of_nodes c.as_slice-3.result.now) (conditions_of c.args.node.now.guard) c.args.node.now.pos
+    c.into_level-head.result c.into_level-body.result rule c.args.table.now c.add_items-3.new.table c.add_items-3.new.scope
     (rule_parts r way (items_of_nodes c.as_slice.result.now) (items_of_nodes c.as_slice-2.result.now) (items_of_nodes c.as_slice-3.result.now) c.args.glossary.now c.new-head.result c.add_items.new.part
     c.add_items-2.new.part c.in_ok-body.body c.add_items-3.new.part c.args.table.now c.add_items.new.table c.add_items-2.new.table c.add_items-3.new.table c.new-scope.result c.add_items.new.scope
     c.copied.new.scope c.add_items-2.new.scope c.add_items-3.new.scope c.into_level-head.result c.into_level-body.result is (c.new-scope.ensures r) c.new-head.ensures
     (λ w ks k. c.in_ok-add_items.ensures r w ks k) (λ ks p i j k. c.in_ok-body.ensures r ks p i j k) (λ w ks k. c.in_ok-add_items-2.ensures r w ks k) (λ w ks k. c.in_ok-add_items-3.ensures r w ks k)
-    (λ ks p h. c.into_level-head.ensures r.names ks p h) (λ ks p h. c.into_level-body.ensures r.names ks p h))
-    (c.in_ok-guard.ensures r is) c.in_ok-links.ensures)
+    (λ ks p h. c.into_level-head.ensures r.names ks p h) (λ ks p h. c.into_level-body.ensures r.names ks p h)) h.0 h.1 (h.2 r is)))
+    c.numbered.ensures
