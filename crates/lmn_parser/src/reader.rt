@@ -1,11 +1,11 @@
 ghost use Rattle.std.specs.Prelude.{◌≡◌, ℕ, ◌<◌, ◌≤◌, length, IfOk, slice_get, Some};
 ghost use Rattle.lmn_parser_grammar.specs.Grammar.{Ref, Opt, some_of, TermPart, ClausePart, ClausesPart, arguments, membrane, tlist, item, list, body};
-ghost use Rattle.lmn_parser_grammar.specs.Factored.{right_side, rule_tail};
+ghost use Rattle.lmn_parser_grammar.specs.Factored.{arrow, right_side, rule_tail};
 ghost use Rattle.lmn_parser_grammar.specs.Reading.{Owed, NoArgs, NoMore, EndsItem, EndsList, EndsOptList, OnlyClosers, OnlyEnds};
 ghost use Rattle.lmn_parser.specs.Parsing.{kinds_of};
 ghost use Rattle.lmn_parser.specs.Outcomes.{GoesForth, ReadsOrStops, StaysOrGoesForth, reach};
 ghost use Rattle.lmn_parser.specs.Syntax.{term_of, terms_of, item_of, items_of_nodes, clause_of, clauses_of, conditions_of};
-ghost use Rattle.lmn_parser.specs.Trees.{IsTerm, IsTermList, IsArguments, IsTerms, IsItem, IsList, IsOptList, IsClause, IsWrittenRule, IsBody, IsMembrane, IsClauses};
+ghost use Rattle.lmn_parser.specs.Trees.{IsTerm, IsTermList, IsArguments, IsTerms, IsItem, IsList, IsOptList, IsClause, IsHeads, IsWrittenRule, IsBody, IsMembrane, IsClauses};
 
 use crate::guard::guard;
 use crate::lookahead::{
@@ -61,8 +61,8 @@ fn term_list(alloc: Global, tokens: &[PackedToken], at: usize) -> Result<(Term, 
     let (terms, end) = terms(alloc, tokens, at + 1)?;
     if is_at(tokens, end, Kind::Bar) {
         let (rest, end) = term(alloc, tokens, end + 1)?;
-        let after = expect(tokens, end, Kind::RBracket)?;
         let rest = Box::new(alloc, rest)?;
+        let after = expect(tokens, end, Kind::RBracket)?;
         return Ok((Term::List(terms, Some(rest)), after));
     }
     let after = expect(tokens, end, Kind::RBracket)?;
@@ -125,8 +125,8 @@ fn item(alloc: Global, tokens: &[PackedToken], at: usize) -> Result<(Item, usize
     }
     if is_at(tokens, at, Kind::LParen) {
         let (clause, end) = clause(alloc, tokens, at + 1)?;
-        let after = expect(tokens, end, Kind::RParen)?;
         let clause = Box::new(alloc, clause)?;
+        let after = expect(tokens, end, Kind::RParen)?;
         return Ok((Item::Group(clause), after));
     }
     if is_at(tokens, at, Kind::Context) {
@@ -209,9 +209,9 @@ fn equation(
     ensures forth { GoesForth (kinds_of tokens.now) sign result }
     ensures tree { (start : ℕ) → IsTerm tokens.now (term_of left) start sign → IfOk result (λ r. IsItem tokens.now (item_of r.0) start r.1) }
 {
+    let left = Box::new(alloc, left)?;
     let start = expect(tokens, sign, Kind::Equal)?;
     let (right, end) = term(alloc, tokens, start)?;
-    let left = Box::new(alloc, left)?;
     let right = Box::new(alloc, right)?;
     Ok((Item::Equal(left, sign, right), end))
 }
@@ -291,30 +291,36 @@ fn rule(
 {
     if is_at(tokens, at, Kind::Backslash) {
         let (taken, arrow) = items(alloc, tokens, at + 1)?;
-        let body_at = expect(tokens, arrow, Kind::Arrow)?;
-        let ((guard, body), end) = guarded_body(alloc, tokens, body_at)?;
-        let pos = tokens[start].pos();
-        let node = Box::new(
-            alloc,
-            RuleNode {
-                kept: first,
-                taken,
-                guard,
-                body,
-                pos,
-            },
-        )?;
-        return Ok((Clause::Rule(node), end));
+        return headed_rule(alloc, tokens, start, first, taken, arrow);
     }
+    let kept = Rows::new(alloc);
+    headed_rule(alloc, tokens, start, kept, first, at)
+}
+
+/// The rule that begins at `start` with this head, and the place behind it.
+#[cycle(reader)]
+fn headed_rule(
+    alloc: Global,
+    tokens: &[PackedToken],
+    start: usize,
+    kept: Rows<Item>,
+    taken: Rows<Item>,
+    at: usize,
+) -> Result<(Clause, usize), Stop>
+    requires start { start ≤ at }
+    requires place { at ≤ reach (kinds_of tokens.now) }
+    ensures reads { (κ : Owed) → OnlyClosers κ → ReadsOrStops (kinds_of tokens.now) at arrow κ result }
+    ensures forth { GoesForth (kinds_of tokens.now) at result }
+    ensures tree { (heads : ℕ) → IsHeads tokens.now (items_of_nodes kept) (items_of_nodes taken) heads at → IfOk result (λ r. IsWrittenRule tokens.now start (clause_of r.0) heads r.1) }
+{
     let body_at = expect(tokens, at, Kind::Arrow)?;
     let ((guard, body), end) = guarded_body(alloc, tokens, body_at)?;
     let pos = tokens[start].pos();
-    let kept = Rows::new(alloc);
     let node = Box::new(
         alloc,
         RuleNode {
             kept,
-            taken: first,
+            taken,
             guard,
             body,
             pos,

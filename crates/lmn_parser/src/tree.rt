@@ -90,7 +90,6 @@ pub struct AtomNode {
 }
 
 /// A condition of a guard.
-#[derive(Drop)]
 pub enum CondNode {
     /// A condition with a name, as `int($x)`.
     Kind {
@@ -130,9 +129,33 @@ pub enum CondNode {
     },
 }
 
+// By hand, so that each exit of a function that holds a condition has one call for it.
+impl Drop for CondNode {
+    fn drop(self) {
+        match self {
+            CondNode::Kind { name: _, args: _ } => {}
+            CondNode::Compare {
+                op: _,
+                left: _,
+                right: _,
+                sign: _,
+            } => {}
+            CondNode::Equal {
+                left: _,
+                right: _,
+                sign: _,
+            } => {}
+            CondNode::Differ {
+                left: _,
+                right: _,
+                sign: _,
+            } => {}
+        }
+    }
+}
+
 /// An integer expression of a guard. Parentheses leave no node.
 #[cycle(expression)]
-#[derive(Drop)]
 pub enum ExprNode {
     /// An integer.
     Int(usize),
@@ -147,4 +170,19 @@ pub enum ExprNode {
         /// The expression on its right.
         right: Box<ExprNode>,
     },
+}
+
+// By hand, so that each exit of a function that holds an expression has one call for it.
+impl Drop for ExprNode {
+    fn drop(self) {
+        match self {
+            ExprNode::Int(_) => {}
+            ExprNode::Ctx(_) => {}
+            ExprNode::Op {
+                op: _,
+                left: _,
+                right: _,
+            } => {}
+        }
+    }
 }

@@ -249,7 +249,7 @@ pub relation-returns-clause-tree : goal.relation-returns-clause-tree
 relation-returns-clause-tree t c = c.equation-2.ensures.tree c.args.at (is_list c.in_ok-list.ensures.tree)
 
 pub equation-returns-in_err-start-clause-reads : goal.equation-returns-in_err-start-clause-reads
-equation-returns-in_err-start-clause-reads t c κ h = refused _ _ _ _ κ _ _ _ (seq (kinds_of c.args.tokens.now) c.args.sign (Tok Equal) (Ref TermPart) κ) (c.in_err-start.ensures.reads (Ref TermPart ∷ κ)) c.from_residual.ensures.1
+equation-returns-in_err-start-clause-reads t c κ h = refused _ _ _ _ κ _ _ _ (seq (kinds_of c.args.tokens.now) c.args.sign (Tok Equal) (Ref TermPart) κ) (c.in_err-start.ensures.reads (Ref TermPart ∷ κ)) c.from_residual-in_err-start.ensures.1
 
 pub equation-returns-in_err-right-clause-reads : goal.equation-returns-in_err-right-clause-reads
 equation-returns-in_err-right-clause-reads t c κ h = refused _ _ _ _ κ _ _ _ (seq (kinds_of c.args.tokens.now) c.args.sign (Tok Equal) (Ref TermPart) κ ∙ c.in_ok-start.ensures.reads (Ref TermPart ∷ κ)) (c.in_err-right.ensures.reads κ h) c.from_residual-in_err-right.ensures.1
@@ -305,29 +305,29 @@ clause-returns-clause-tree t c = process_read _ _ _ _ c.in_ok-first-2.ensures.tr
 pub rule-returns-in_err-taken-clause-reads : goal.rule-returns-in_err-taken-clause-reads
 rule-returns-in_err-taken-clause-reads t c κ h = refused _ _ _ _ κ _ _ _ (tail_backslash (kinds_of c.args.tokens.now) c.args.at κ (search rules)) (c.in_err-taken.ensures.reads (arrow ∷ κ) (arrow_opt_list κ)) c.from_residual.ensures.1
 
-pub rule-returns-in_err-body_at-clause-reads : goal.rule-returns-in_err-body_at-clause-reads
-rule-returns-in_err-body_at-clause-reads t c κ h = refused _ _ _ _ κ _ _ _ (tail_backslash (kinds_of c.args.tokens.now) c.args.at κ (search rules) ∙ c.in_ok-taken.ensures.reads (arrow ∷ κ) (arrow_opt_list κ) ∙ seq (kinds_of c.args.tokens.now) c.in_ok-taken.arrow (Tok Arrow) body κ) (c.in_err-body_at.ensures.reads (body ∷ κ)) c.from_residual-in_err-body_at.ensures.1
-
-pub rule-returns-in_err-guard-clause-reads : goal.rule-returns-in_err-guard-clause-reads
-rule-returns-in_err-guard-clause-reads t c κ h = refused _ _ _ _ κ _ _ _ (tail_backslash (kinds_of c.args.tokens.now) c.args.at κ (search rules) ∙ c.in_ok-taken.ensures.reads (arrow ∷ κ) (arrow_opt_list κ) ∙ seq (kinds_of c.args.tokens.now) c.in_ok-taken.arrow (Tok Arrow) body κ ∙ c.in_ok-body_at.ensures.reads (body ∷ κ)) (c.in_err-guard.ensures.reads κ h) c.from_residual-in_err-guard.ensures.1
-
 pub rule-returns-then-is_at-clause-reads : goal.rule-returns-then-is_at-clause-reads
-rule-returns-then-is_at-clause-reads t c κ h = tail_backslash (kinds_of c.args.tokens.now) c.args.at κ (search rules) ∙ c.in_ok-taken.ensures.reads (arrow ∷ κ) (arrow_opt_list κ) ∙ seq (kinds_of c.args.tokens.now) c.in_ok-taken.arrow (Tok Arrow) body κ ∙ c.in_ok-body_at.ensures.reads (body ∷ κ) ∙ c.in_ok-guard.ensures.reads κ h
+rule-returns-then-is_at-clause-reads t c κ h = onward _ _ _ _ _ κ c.headed_rule.result (tail_backslash (kinds_of c.args.tokens.now) c.args.at κ (search rules) ∙ c.in_ok-taken.ensures.reads (arrow ∷ κ) (arrow_opt_list κ)) (c.headed_rule.ensures.reads κ h)
 
 pub rule-returns-then-is_at-clause-tree : goal.rule-returns-then-is_at-clause-tree
-rule-returns-then-is_at-clause-tree t c = let there : c.args.start < length c.args.tokens.now = omega (arith, c.requires.start, c.if-is_at.ensures.within refl) in λ heads first. rule_read _ _ _ _ _ _ _ _ _ c.in_ok-node.ensures.ok (stands_there c.args.tokens.now c.args.start c.index-tokens-start.result there) (c.pos-pos.ensures ∙ ap (λ t. t.pos) c.index-tokens-start.is) (some_kept first (search rules) c.in_ok-taken.ensures.tree) c.in_ok-body_at.ensures.found c.in_ok-guard.ensures.tree
-
-pub rule-returns-in_err-body_at-2-clause-reads : goal.rule-returns-in_err-body_at-2-clause-reads
-rule-returns-in_err-body_at-2-clause-reads t c κ h = refused _ _ _ _ κ _ _ _ (tail_arrow (kinds_of c.args.tokens.now) c.args.at κ (search rules) ∙ seq (kinds_of c.args.tokens.now) c.args.at (Tok Arrow) body κ) (c.in_err-body_at-2.ensures.reads (body ∷ κ)) c.from_residual-in_err-body_at-2.ensures.1
-
-pub rule-returns-in_err-guard-2-clause-reads : goal.rule-returns-in_err-guard-2-clause-reads
-rule-returns-in_err-guard-2-clause-reads t c κ h = refused _ _ _ _ κ _ _ _ (tail_arrow (kinds_of c.args.tokens.now) c.args.at κ (search rules) ∙ seq (kinds_of c.args.tokens.now) c.args.at (Tok Arrow) body κ ∙ c.in_ok-body_at-2.ensures.reads (body ∷ κ)) (c.in_err-guard-2.ensures.reads κ h) c.from_residual-in_err-guard-2.ensures.1
+rule-returns-then-is_at-clause-tree t c = λ heads first. c.headed_rule.ensures.tree heads (some_kept first (search rules) c.in_ok-taken.ensures.tree)
 
 pub rule-returns-clause-reads : goal.rule-returns-clause-reads
-rule-returns-clause-reads t c κ h = tail_arrow (kinds_of c.args.tokens.now) c.args.at κ (search rules) ∙ seq (kinds_of c.args.tokens.now) c.args.at (Tok Arrow) body κ ∙ c.in_ok-body_at-2.ensures.reads (body ∷ κ) ∙ c.in_ok-guard-2.ensures.reads κ h
+rule-returns-clause-reads t c κ h = onward _ _ _ _ _ κ c.headed_rule-2.result (tail_arrow (kinds_of c.args.tokens.now) c.args.at κ (search rules)) (c.headed_rule-2.ensures.reads κ h)
 
 pub rule-returns-clause-tree : goal.rule-returns-clause-tree
-rule-returns-clause-tree t c = let there : c.args.start < length c.args.tokens.now = omega (arith, c.requires.start, c.in_ok-body_at-2.ensures.forth) in λ heads first. rule_read _ _ _ _ _ _ _ _ _ c.in_ok-node-2.ensures.ok (stands_there c.args.tokens.now c.args.start c.index-tokens-start-2.result there) (c.pos-pos-2.ensures ∙ ap (λ t. t.pos) c.index-tokens-start-2.is) (all_heads_taken _ _ _ _ _ c.new-kept.ensures first) c.in_ok-body_at-2.ensures.found c.in_ok-guard-2.ensures.tree
+rule-returns-clause-tree t c = λ heads first. c.headed_rule-2.ensures.tree heads (all_heads_taken _ _ _ _ _ c.new-kept.ensures first)
+
+pub headed_rule-returns-in_err-body_at-clause-reads : goal.headed_rule-returns-in_err-body_at-clause-reads
+headed_rule-returns-in_err-body_at-clause-reads t c κ h = refused _ _ _ _ κ _ _ _ (seq (kinds_of c.args.tokens.now) c.args.at (Tok Arrow) body κ) (c.in_err-body_at.ensures.reads (body ∷ κ)) c.from_residual.ensures.1
+
+pub headed_rule-returns-in_err-guard-clause-reads : goal.headed_rule-returns-in_err-guard-clause-reads
+headed_rule-returns-in_err-guard-clause-reads t c κ h = refused _ _ _ _ κ _ _ _ (seq (kinds_of c.args.tokens.now) c.args.at (Tok Arrow) body κ ∙ c.in_ok-body_at.ensures.reads (body ∷ κ)) (c.in_err-guard.ensures.reads κ h) c.from_residual-in_err-guard.ensures.1
+
+pub headed_rule-returns-clause-reads : goal.headed_rule-returns-clause-reads
+headed_rule-returns-clause-reads t c κ h = seq (kinds_of c.args.tokens.now) c.args.at (Tok Arrow) body κ ∙ c.in_ok-body_at.ensures.reads (body ∷ κ) ∙ c.in_ok-guard.ensures.reads κ h
+
+pub headed_rule-returns-clause-tree : goal.headed_rule-returns-clause-tree
+headed_rule-returns-clause-tree t c = let there : c.args.start < length c.args.tokens.now = omega (arith, c.requires.start, c.in_ok-body_at.ensures.forth) in λ heads head. rule_read _ _ _ _ _ _ _ _ _ c.in_ok-node.ensures.ok (stands_there c.args.tokens.now c.args.start c.index-tokens-start.result there) (c.pos-pos.ensures ∙ ap (λ t. t.pos) c.index-tokens-start.is) head c.in_ok-body_at.ensures.found c.in_ok-guard.ensures.tree
 
 pub membrane-returns-in_err-clauses-clause-reads : goal.membrane-returns-in_err-clauses-clause-reads
 membrane-returns-in_err-clauses-clause-reads t c κ = refused _ _ _ _ κ _ _ _ (within_taken (kinds_of c.args.tokens.now) c.args.at Curly (Ref ClausesPart) κ c.requires.open) (c.in_err-clauses.ensures.reads (Tok RBrace ∷ κ) (ends_curly κ)) c.from_residual.ensures.1

@@ -19,7 +19,10 @@ abbrev pub decreases-equation : goal.decreases-equation
 decreases-equation l = 10 * (length l.tokens.now - l.sign)
 
 abbrev pub decreases-rule : goal.decreases-rule
-decreases-rule l = 10 * (length l.tokens.now - l.at)
+decreases-rule l = 10 * (length l.tokens.now - l.at) + 1
+
+abbrev pub decreases-headed_rule : goal.decreases-headed_rule
+decreases-headed_rule l = 10 * (length l.tokens.now - l.at)
 
 abbrev pub decreases-context : goal.decreases-context
 decreases-context l = 10 * (length l.tokens.now - l.at)
