@@ -1,14 +1,16 @@
 -- Two parts with no common atom, of which one is marked.
-use Rattle.std.proofs.Common.{◌≡◌, ◌≢◌, ℕ, ◌<◌, Bool, true, List, length, None, IsSome, refl, sym, ap, subst, ◌∙◌}
+use Rattle.std.proofs.Common.{◌≡◌, ◌≢◌, ℕ, zero, suc, ◌<◌, Bool, true, List, length, Option, Some, None, IsSome, refl, sym, ap, subst, ◌∙◌}
+use Rattle.std.specs.Option.{option_map}
 use Rattle.std.specs.Prelude.{slice_index_or, ◌↔◌}
 use Rattle.lmn_base.specs.Graphs.{AtomMap, Reached, at_root, SameGraph}
-use Rattle.lmn_store_heap.specs.Heap.{Heap, functor_of, marks_of}
+use Rattle.lmn_store_heap.specs.Heap.{Heap, HeapAtom, IsAtom, functor_of, marks_of}
+use Rattle.lmn_store_heap.specs.Splice.{IsPort}
 use Rattle.lmn_store_heap.specs.Sound.{Sound}
 use Rattle.lmn_store_heap.specs.Graphs.{atom_map}
 use Rattle.lmn_ground.specs.Marks.{first_place, paint, painted, first_marks}
 use Rattle.lmn_ground.specs.Spread.{IsWhole, Spread, CleanPart}
 use Rattle.lmn_ground.specs.Follow.{Two}
-use Rattle.lmn_ground.proofs.PaintLaws.{net_painted}
+use Rattle.lmn_ground.proofs.PaintLaws.{is_painted, net_painted}
 use Rattle.lmn_ground.proofs.PaintedAt.{map_painted}
 use Rattle.lmn_ground.proofs.GroundLaws.{part_atoms}
 use Rattle.lmn_ground.proofs.FollowLaws.{carried}
@@ -70,3 +72,21 @@ module _ (s now : Heap) (x y : ℕ × ℕ) (m : ℕ) (all : Bool) (t : Spread s 
 
   pub size_now : (xs : List ℕ) → all ≡ true → Sound s → IsWhole s x None → IsPartInDepth s x xs → length xs ≢ m → SameGraph (atom_map s) x (atom_map s) y → ⊥
   size_now xs whole sound full part d g = d (same_size s x y xs t.seen sound full part (t.whole whole) g ∙ t.counted)
+
+-- parts of one heap are equal in another that is the same
+pub graph_back : {s t : Heap} {x y : ℕ × ℕ} → t ≡ s → SameGraph (atom_map t) x (atom_map t) y → SameGraph (atom_map s) x (atom_map s) y
+graph_back {x = x} {y = y} e g = subst (λ (h : Heap). SameGraph (atom_map h) x (atom_map h) y) e g
+
+-- a walk leaves functors
+pub functor_now : (before now : Heap) (root : ℕ × ℕ) (count : ℕ) (all : Bool) → Spread before now root count all → (a : ℕ) → functor_of now a ≡ functor_of before a
+functor_now before now root count all t a = ap (λ (s : Heap). functor_of s a) t.is ∙ by (t.marks a) (before.atoms a)
+  where
+    by : (m : ℕ) (o : Option HeapAtom) → option_map (λ (x : HeapAtom). x.functor) (paint m o) ≡ option_map (λ (x : HeapAtom). x.functor) o
+    by zero o = refl
+    by (suc m) None = refl
+    by (suc m) (Some x) = refl
+
+-- and ports
+pub port_now : (before now : Heap) (root : ℕ × ℕ) (count : ℕ) (all : Bool) → Spread before now root count all → (p : ℕ × ℕ) → IsPort before p.0 p.1 → IsPort now p.0 p.1
+port_now before now root count all t p h =
+    (subst (λ (s : Heap). IsAtom s p.0) (sym t.is) (is_painted before t.marks p.0 h.0), subst (λ (n : Net). p.1 < n.arity p.0) (sym (ap net t.is ∙ net_painted before t.marks)) h.1)

@@ -20,6 +20,7 @@ pub mod LoneLaws
 pub mod RestLaws
 pub mod ClosingLaws
 pub mod OwnLaws
+pub mod DeedLaws
 pub mod RestCopyLaws
 pub mod GatherRestLaws
 pub mod RestExampleProofs

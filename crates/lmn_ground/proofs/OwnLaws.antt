@@ -11,10 +11,8 @@ use Rattle.lmn_store_heap.proofs.Common.{same_atoms}
 use Rattle.lmn_ground.specs.Marks.{paint, painted, first_marks, way, ports_ahead, OnWay}
 use Rattle.lmn_ground.specs.Spread.{Wiping}
 use Rattle.lmn_ground.specs.Rests.{own_marked}
-use Rattle.lmn_ground_parts.proofs.WalkLaws.{determined}
-use Rattle.lmn_ground.proofs.SoughtLaws.{no_port_left, weight}
 use Rattle.lmn_ground.proofs.PaintLaws.{net_marked, net_painted}
-use Rattle.lmn_ground_parts.specs.Walks.{neighbour, Net, net, is_in, Walk, ends}
+use Rattle.lmn_ground_parts.specs.Walks.{neighbour, Net, net, is_in, Walk}
 use Rattle.lmn_base.specs.Lists.{In}
 
 -- the own mark of one atom is set
@@ -104,27 +102,6 @@ wiping_owned before now root seen met depth a i left b v l t =
       deep = t.deep;
     }
 
--- at the end all are met
-pub all_owned : (v : ℕ) (before0 : Heap) (root : ℕ × ℕ) (seen met : List ℕ) (now : Heap) (depth a i left : ℕ) (t : Wiping (own_marked v met before0) now root seen met depth a i left)
-    (to : Heap) → to ≡ own_marked v met before0 → depth ≡ 0 → i ≡ arity_of now a → to ≡ own_marked v seen before0
-all_owned v before0 root seen met now depth a i left t to e zero_deep full =
-    let before = own_marked v met before0 in
-    let f : net now ≡ net before = ap net t.is ∙ net_painted before t.marks in
-    e ∙ ap (λ zs. own_marked v zs before0) (by (subst (λ (z : ℕ). Wiping before now root seen met z a i left) zero_deep t) (subst (λ (n : Net). i ≡ n.arity a) f full))
-  where
-    by : Wiping (own_marked v met before0) now root seen met 0 a i left → i ≡ (net (own_marked v met before0)).arity a → met ≡ seen
-    by u end = determined (net (own_marked v met before0)).arity (neighbour (net (own_marked v met before0)) root (is_in seen)) ends
-        (subst (λ (ps : List (ℕ × ℕ)). Walk (net (own_marked v met before0)).arity (neighbour (net (own_marked v met before0)) root (is_in seen)) met (ps ++ []) seen) (no_port_left (net (own_marked v met before0)) a i end) u.rest)
-
--- as much is left to go through
-pub lighter_owned : (mid to : Heap) (b v d c k m n : ℕ) → to ≡ owned mid b v → 0 < arity_of mid b → m + weight (net mid) (first_marks mid) d c k < n → m + weight (net to) (first_marks to) d c k < n
-lighter_owned mid to b v d c k m n e l h =
-    let same : weight (net to) (first_marks to) d c k ≡ weight (net mid) (first_marks mid) d c k =
-    ap (λ (s : Heap). weight (net s) (first_marks s) d c k) e
-    ∙ ap (λ (x : Net). weight x (first_marks (owned mid b v)) d c k) (net_owned mid b v)
-    ∙ ap (λ (w : ℕ → ℕ). weight (net mid) w d c k) (firsts_owned mid b v l) in
-    subst (λ (x : ℕ). m + x < n) (sym same) h
-
 -- an atom is still there
 pub there_owned : (mid to : Heap) (b v : ℕ) → to ≡ owned mid b v → IsAtom mid b → IsAtom to b
 there_owned mid to b v e i = subst (λ (s : Heap). IsAtom s b) (sym e) (subst (λ (o : Option HeapAtom). IsSome o) (sym (alter_at mid.atoms b (option_map (with_mark (arity_of mid b) v)))) (by (mid.atoms b) i))
@@ -132,22 +109,6 @@ there_owned mid to b v e i = subst (λ (s : Heap). IsAtom s b) (sym e) (subst (�
     by : (o : Option HeapAtom) → IsSome o → IsSome (option_map (with_mark (arity_of mid b) v) o)
     by None i = absurd (cc)
     by (Some x) i = refl
-
--- the root comes first
-pub first_owned : (before mid now : Heap) (root : ℕ × ℕ) (seen : List ℕ) (left v : ℕ) → now ≡ owned mid root.0 v → 0 < arity_of before root.0 → Wiping before mid root seen (root.0 ∷ []) 0 root.0 0 left
-    → Wiping (own_marked v (root.0 ∷ []) before) now root seen (root.0 ∷ []) 0 root.0 0 left
-first_owned before mid now root seen left v e l w =
-    subst (λ (s : Heap). Wiping (owned before root.0 v) s root seen (root.0 ∷ []) 0 root.0 0 left) (sym e) (wiping_owned before mid root seen (root.0 ∷ []) 0 root.0 0 left root.0 v l w)
-
--- entered and set
-pub owned_too : (v : ℕ) (before0 : Heap) (root : ℕ × ℕ) (seen met : List ℕ) (mid to : Heap) (b d c k l : ℕ) → to ≡ owned mid b v → 0 < arity_of mid b
-    → Wiping (own_marked v met before0) mid root seen (met ++ b ∷ []) d c k l → Wiping (own_marked v (met ++ b ∷ []) before0) to root seen (met ++ b ∷ []) d c k l
-owned_too v before0 root seen met mid to b d c k l e has w =
-    let before = own_marked v met before0 in
-    let n_mid : net mid ≡ net before = ap net w.is ∙ net_painted before w.marks in
-    let has_before : 0 < arity_of before b = subst (λ (n : Net). 0 < n.arity b) n_mid has in
-    subst (λ (s : Heap). Wiping s to root seen (met ++ b ∷ []) d c k l) (sym (owned_snoc v met b before0))
-    (subst (λ (s : Heap). Wiping (owned before b v) s root seen (met ++ b ∷ []) d c k l) (sym e) (wiping_owned before mid root seen (met ++ b ∷ []) d c k l b v has_before w))
 
 -- marks don't change how many ports there are
 pub port_marked_has : (s to : Heap) (b m j : ℕ) → to ≡ marked s b 0 m → j < arity_of s b → 0 < arity_of to b

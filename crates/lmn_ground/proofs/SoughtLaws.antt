@@ -1,8 +1,8 @@
 -- How a walk goes on from port to port.
-use Rattle.std.proofs.Common.{◌≡◌, ◌≢◌, ◌⊎◌, ℕ, zero, suc, ◌+◌, ◌-◌, ◌<◌, ◌==◌, ◌&&◌, Bool, true, false, cond, List, [], ◌∷◌, ◌++◌, length, Option, Some, None, IsSome, refl, sym, ap, subst, ◌∙◌, inl, inr, arith, length-append, add-one}
+use Rattle.std.proofs.Common.{◌≡◌, ◌≢◌, ◌⊎◌, ℕ, zero, suc, ◌+◌, ◌-◌, ◌<◌, ◌≤◌, ◌==◌, ◌&&◌, Bool, true, false, cond, List, [], ◌∷◌, ◌++◌, length, Option, Some, None, IsSome, refl, sym, ap, subst, ◌∙◌, inl, inr, arith, length-append, add-one}
 use Rattle.std.proofs.lemmas.Bool.{eq-eqb, eqb-true}
 use Rattle.std.specs.Option.{option_and_then}
-use Rattle.lmn_ground.specs.Marks.{way, back, entry_port, ports_behind, OnWay, Sought}
+use Rattle.lmn_ground.specs.Marks.{way, back, entry_port, or_zero, ports_behind, Halts, OnWay, Sought}
 pub use Rattle.lmn_ground.specs.Marks.{weight}
 use Rattle.lmn_ground_parts.specs.Walks.{port_range, neighbour, HasPort, Net, ports_from, kept, is_port, Walk, passes}
 use Rattle.lmn_base.proofs.Numbers.{not_equal as apart_test}
@@ -178,3 +178,30 @@ other_port n marks root zero a i w d = rw (apart_test i root.1 (λ e. d (refl, e
     by true = refl
     by false = refl
 other_port n marks root (suc depth) a i w d = rw (apart_test a root.0 w.3) refl
+
+-- a walk halts at a port that isn't the root and leads to no marked atom
+pub halts_at : (n : Net) (marks : ℕ → ℕ) (root : ℕ × ℕ) (depth a i : ℕ) → OnWay n marks root depth a → i ≤ n.arity a → (i ≡ n.arity a → ⊥) → ((depth ≡ 0) × (i ≡ root.1) → ⊥)
+    → ((b j : ℕ) → n.link a i ≡ Some (b, j) → marks b ≡ 0) → Halts n marks root depth a i
+halts_at n marks root depth a i way l d other f = record {
+  inside = l;
+  end = λ e. absurd (d e);
+  apart = λ _. other_port n marks root depth a i way other;
+  fresh = f;
+}
+
+-- and at the end of the root's ports
+pub halts_end : (n : Net) (marks : ℕ → ℕ) (root : ℕ × ℕ) (depth a i : ℕ) → depth ≡ 0 → i ≡ n.arity a → ((b j : ℕ) → n.link a i ≡ Some (b, j) → i < n.arity a) → Halts n marks root depth a i
+halts_end n marks root depth a i z e f = record {
+  inside = omega (arith, e);
+  end = λ _. z;
+  apart = λ l. absurd (omega (arith, l, e));
+  fresh = λ b j g. absurd (let l = f b j g in omega (arith, l, e));
+}
+
+-- a port has one other end
+pub one_end : (marks : ℕ → ℕ) {o : Option (ℕ × ℕ)} {p : ℕ × ℕ} → o ≡ Some p → marks p.0 ≡ 0 → (b j : ℕ) → o ≡ Some (b, j) → marks b ≡ 0
+one_end marks e m b j f = subst (λ (x : ℕ). marks x ≡ 0) (ap (λ (o : Option (ℕ × ℕ)). (or_zero o).0) (sym e ∙ f)) m
+
+-- or none
+pub no_end : {o : Option (ℕ × ℕ)} {p : ℕ × ℕ} → o ≡ None → o ≡ Some p → ⊥
+no_end e f = let g = sym e ∙ f in cc

@@ -5,15 +5,14 @@ use Rattle.std.specs.Option.{option_map, option_and_then}
 use Rattle.std.specs.Prelude.{slice_index_or}
 use Rattle.lmn_store_heap.specs.Graphs.{atom_map}
 use Rattle.lmn_ground.proofs.WipeLaws.{b_reached}
-use Rattle.lmn_store_heap.specs.Heap.{link_of, Heap, HeapAtom, Distinct, IsAtom, IsInPlace, alter, gone, home_by, with_place, with_mark, partners_of, marks_of, marked, taken, atom_out, arity_of, home_of, taken_all}
+use Rattle.lmn_store_heap.specs.Heap.{link_of, Heap, HeapAtom, Distinct, IsAtom, IsInPlace, alter, gone, home_by, with_place, with_mark, partners_of, marks_of, marked, taken, atom_out, home_of, taken_all}
 use Rattle.lmn_store_heap.proofs.Listing.{alter_at, alter_away}
-use Rattle.lmn_ground.specs.Marks.{back, first_place, paint, painted, first_marks, way, ports_ahead, OnWay}
+use Rattle.lmn_ground.specs.Marks.{first_place, paint, painted, first_marks, way, ports_ahead, OnWay}
 use Rattle.lmn_ground.specs.Spread.{Spread, Wiping}
-use Rattle.lmn_ground_parts.proofs.WalkLaws.{determined, kept_seen}
-use Rattle.lmn_ground.proofs.SoughtLaws.{no_port_left, weight}
-use Rattle.lmn_ground.proofs.PaintLaws.{net_painted, with_port}
+use Rattle.lmn_ground_parts.proofs.WalkLaws.{kept_seen}
+use Rattle.lmn_ground.proofs.PaintLaws.{net_painted}
 use Rattle.lmn_ground.proofs.PaintedAt.{paint_home}
-use Rattle.lmn_ground_parts.specs.Walks.{neighbour, is_port, Net, net, is_in, Walk, ends}
+use Rattle.lmn_ground_parts.specs.Walks.{neighbour, is_port, Net, net, is_in, Walk}
 use Rattle.lmn_store_heap.proofs.Common.{decide_in as in_or_not}
 use Rattle.lmn_base.specs.Lists.{In}
 use Rattle.lmn_ground.proofs.OwnLaws.{reached_same}
@@ -130,27 +129,6 @@ module _ (before0 : Heap) (root : ℕ × ℕ) (seen met : List ℕ) (now : Heap)
       subst (λ (o : Option ℕ). IsSome o) (sym (ap (λ (s : Heap). home_of s b) made ∙ home_marked now b 0 (256 + j) b ∙ ap (λ (s : Heap). home_of s b) t.is
       ∙ paint_home first_place (t.marks b) ((taken_all before0 met).atoms b) ∙ home_kept before0 met b new)) (placed b b_seen)
 
-  -- at the end all are met
-  pub all_taken : (to : Heap) → to ≡ taken_all before0 met → depth ≡ 0 → i ≡ arity_of now a → to ≡ taken_all before0 seen
-  all_taken to e zero_deep full =
-      let f : net now ≡ net (taken_all before0 met) = ap net t.is ∙ net_painted (taken_all before0 met) t.marks in
-      e ∙ ap (taken_all before0) (by (subst (λ (z : ℕ). Wiping (taken_all before0 met) now root seen met z a i left) zero_deep t) (subst (λ (n : Net). i ≡ n.arity a) f full))
-    where
-      by : Wiping (taken_all before0 met) now root seen met 0 a i left → i ≡ (net (taken_all before0 met)).arity a → met ≡ seen
-      by u end = determined (net (taken_all before0 met)).arity (neighbour (net (taken_all before0 met)) root (is_in seen)) ends
-          (subst (λ (ps : List (ℕ × ℕ)). Walk (net (taken_all before0 met)).arity (neighbour (net (taken_all before0 met)) root (is_in seen)) met (ps ++ []) seen) (no_port_left (net (taken_all before0 met)) a i end) u.rest)
-
--- as much is left to go through
-pub weight_taken : (mid to : Heap) (b d c k : ℕ) → to ≡ taken mid b → weight (net to) (first_marks to) d c k ≡ weight (net mid) (first_marks mid) d c k
-weight_taken mid to b d c k e =
-    ap (λ (s : Heap). weight (net s) (first_marks s) d c k) e
-    ∙ ap (λ (n : Net). weight n (first_marks (taken mid b)) d c k) (net_taken mid b)
-    ∙ ap (λ (v : ℕ → ℕ). weight (net mid) v d c k) (firsts_taken mid b)
-
--- and so less than before
-pub lighter_taken : (mid to : Heap) (b d c k m n : ℕ) → to ≡ taken mid b → m + weight (net mid) (first_marks mid) d c k < n → m + weight (net to) (first_marks to) d c k < n
-lighter_taken mid to b d c k m n e h = subst (λ (x : ℕ). m + x < n) (sym (weight_taken mid to b d c k e)) h
-
 -- an atom that is taken is still there
 pub there_taken : (mid to : Heap) (b : ℕ) → to ≡ taken mid b → IsAtom mid b → IsAtom to b
 there_taken mid to b e i = subst (λ (s : Heap). IsAtom s b) (sym e) (subst (λ (o : Option HeapAtom). IsSome o) (sym (alter_at mid.atoms b (option_map (with_place gone)))) (by (mid.atoms b) i))
@@ -158,12 +136,6 @@ there_taken mid to b e i = subst (λ (s : Heap). IsAtom s b) (sym e) (subst (λ 
     by : (o : Option HeapAtom) → IsSome o → IsSome (option_map (with_place gone) o)
     by None i = absurd (cc)
     by (Some x) i = refl
-
--- the root is taken first
-pub first_taken : (before mid now : Heap) (root : ℕ × ℕ) (seen : List ℕ) (left : ℕ) → now ≡ taken mid root.0 → Wiping before mid root seen (root.0 ∷ []) 0 root.0 0 left
-    → Wiping (taken_all before (root.0 ∷ [])) now root seen (root.0 ∷ []) 0 root.0 0 left
-first_taken before mid now root seen left e w =
-    subst (λ (s : Heap). Wiping (taken before root.0) s root seen (root.0 ∷ []) 0 root.0 0 left) (sym e) (wiping_taken before mid root seen (root.0 ∷ []) 0 root.0 0 left root.0 w)
 
 -- a walk has seen the root
 pub root_seen : (before start : Heap) (root : ℕ × ℕ) (count : ℕ) (all : Bool) → (t : Spread before start root count all) → In root.0 t.seen
@@ -175,22 +147,3 @@ pub root_placed : (before start : Heap) (root : ℕ × ℕ) (count : ℕ) (all :
 root_placed before start root count all t is to made =
     subst (λ (o : Option ℕ). IsSome o) (sym (ap (λ (s : Heap). home_of s root.0) made ∙ home_marked start root.0 0 (256 + root.1) root.0 ∙ ap (λ (s : Heap). home_of s root.0) t.is
     ∙ paint_home first_place (t.marks root.0) (before.atoms root.0))) is
-
--- entered and taken
-pub taken_too : (before0 : Heap) (root : ℕ × ℕ) (seen met : List ℕ) (mid to : Heap) (b d c k l : ℕ) → to ≡ taken mid b → Wiping (taken_all before0 met) mid root seen (met ++ b ∷ []) d c k l
-    → Wiping (taken_all before0 (met ++ b ∷ [])) to root seen (met ++ b ∷ []) d c k l
-taken_too before0 root seen met mid to b d c k l e w =
-    subst (λ (s : Heap). Wiping s to root seen (met ++ b ∷ []) d c k l) (sym (taken_snoc before0 met b))
-    (subst (λ (s : Heap). Wiping (taken (taken_all before0 met) b) s root seen (met ++ b ∷ []) d c k l) (sym e) (wiping_taken (taken_all before0 met) mid root seen (met ++ b ∷ []) d c k l b w))
-
--- taking leaves the way back
-pub back_taken : (mid to : Heap) (b x : ℕ) (p : ℕ × ℕ) → to ≡ taken mid b → back (net mid) (first_marks mid) x ≡ p → back (net to) (first_marks to) x ≡ p
-back_taken mid to b x p e h =
-    ap (λ (s : Heap). back (net s) (first_marks s) x) e ∙ ap (λ (n : Net). back n (first_marks (taken mid b)) x) (net_taken mid b) ∙ ap (λ (v : ℕ → ℕ). back (net mid) v x) (firsts_taken mid b) ∙ h
-
--- and the ports
-pub taken_port : (mid to : Heap) (b a i : ℕ) → to ≡ taken mid b → i < arity_of mid a → i < arity_of to a
-taken_port mid to b a i e l = subst (λ (n : Net). i < n.arity a) (sym (ap net e ∙ net_taken mid b)) l
-
-pub taken_port_there : (mid to : Heap) (b a i : ℕ) → to ≡ taken mid b → i < arity_of mid a → IsAtom to a
-taken_port_there mid to b a i e l = with_port to a (let h = taken_port mid to b a i e l in omega (arith, h))

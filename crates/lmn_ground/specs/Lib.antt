@@ -5,3 +5,4 @@ pub mod Copies
 pub mod Rests
 pub mod RestExamples
 pub mod Stands
+pub mod Deeds

@@ -150,26 +150,6 @@ fn copy_marked<S: LinkStore>(
     Ok(*copies.at(0))
 }
 
-/// Copies a part of one atom, which has one port.
-fn copy_lone<S: LinkStore>(
-    alloc: Global,
-    store: &mut S,
-    root: (S::Atom, u8),
-) -> Result<(S::Atom, u8), NoMemory>
-    requires root { IsPort (S.heap store.old) (S.atom_id root.0) root.1 }
-    requires ground { IsWhole (S.heap store.old) (S.atom_id root.0, root.1) None }
-    requires outside { LeadsOut (S.heap store.old) (S.atom_id root.0, root.1) }
-    requires lone { arity_of (S.heap store.old) (S.atom_id root.0) ≡ 1 }
-    ensures ok { IfOk result (λ c. Copied (S.heap store.old) (S.heap store.new) (S.atom_id root.0, root.1) (S.atom_id c.0, c.1)) }
-    ensures err { OnErr result (Remains (S.heap store.old) (S.heap store.new)) }
-    ensures alone { Alone (S.heap store.old) → Alone (S.heap store.new) }
-{
-    let _sound = store.root();
-    let functor = store.functor(root.0);
-    let copy = store.make_atom(alloc, functor)?;
-    Ok((copy, root.1))
-}
-
 /// A copy of a part.
 #[derive(Clone, Copy, Drop)]
 pub struct CountedCopy<A> {
@@ -177,6 +157,30 @@ pub struct CountedCopy<A> {
     pub root: (A, u8),
     /// How many atoms it has.
     pub atoms: u64,
+}
+
+/// Copies a part of one atom, which has one port.
+fn copy_lone<S: LinkStore>(
+    alloc: Global,
+    store: &mut S,
+    root: (S::Atom, u8),
+) -> Result<CountedCopy<S::Atom>, NoMemory>
+    requires root { IsPort (S.heap store.old) (S.atom_id root.0) root.1 }
+    requires ground { IsWhole (S.heap store.old) (S.atom_id root.0, root.1) None }
+    requires outside { LeadsOut (S.heap store.old) (S.atom_id root.0, root.1) }
+    requires lone { arity_of (S.heap store.old) (S.atom_id root.0) ≡ 1 }
+    ensures ok { IfOk result (λ c. Copied (S.heap store.old) (S.heap store.new) (S.atom_id root.0, root.1) (S.atom_id c.root.0, c.root.1)) }
+    ensures err { OnErr result (Remains (S.heap store.old) (S.heap store.new)) }
+    ensures alone { Alone (S.heap store.old) → Alone (S.heap store.new) }
+    ensures size { IfOk result (λ c. (xs : List ℕ) → AreAtoms (S.heap store.old) (S.atom_id root.0, root.1) xs → c.atoms ≡ length xs) }
+{
+    let _sound = store.root();
+    let functor = store.functor(root.0);
+    let copy = store.make_atom(alloc, functor)?;
+    Ok(CountedCopy {
+        root: (copy, root.1),
+        atoms: 1,
+    })
 }
 
 /// For how many atoms of a part room is asked at first.
@@ -199,20 +203,19 @@ pub fn copy_counted<S: LinkStore>(
 {
     let ports = arity(store, root.0);
     if ports == 1 {
-        let lone = copy_lone(alloc, store, root)?;
-        return Ok(CountedCopy {
-            root: lone,
-            atoms: 1,
-        });
+        return copy_lone(alloc, store, root);
     }
     let mut atoms = Found::new(alloc);
     atoms.reserve(FEW);
     let copied = copy_marked(alloc, store, root, &mut atoms);
     clear(store, &atoms);
-    Ok(CountedCopy {
-        root: (copied?, root.1),
-        atoms: atoms.len() as u64,
-    })
+    match copied {
+        Ok(copy) => Ok(CountedCopy {
+            root: (copy, root.1),
+            atoms: atoms.len() as u64,
+        }),
+        Err(NoMemory) => Err(NoMemory),
+    }
 }
 
 /// Copies a part whose root has no partner in it. The copy's atoms are detached, in the order in which the part's are

@@ -13,7 +13,7 @@ use crate::compare::{are_alike, compare};
 use crate::parts::size_of;
 use crate::seek::arity;
 use crate::spread::spread;
-use crate::wipe::wipe;
+use crate::wipe::{Deed, wipe};
 use lmn_store_trait::LinkStore;
 
 /// Whether two ports are one.
@@ -36,7 +36,7 @@ fn equals_numbered<S: LinkStore>(store: &mut S, x: (S::Atom, u8), y: (S::Atom, u
     ensures same { S.heap store.new ≡ S.heap store.old }
 {
     let found = compare(store, x, y);
-    wipe(store, x, found.0);
+    wipe(store, x, found.0, Deed::Leave);
     found.1
 }
 
@@ -58,11 +58,11 @@ fn equals_apart<S: LinkStore>(store: &mut S, x: (S::Atom, u8), y: (S::Atom, u8),
     let found = spread(store, y, None);
     let _marked = arity(store, y.0);
     if size != found.0 {
-        wipe(store, y, found.0);
+        wipe(store, y, found.0, Deed::Leave);
         return false;
     }
     let same = equals_numbered(store, x, y);
-    wipe(store, y, found.0);
+    wipe(store, y, found.0, Deed::Leave);
     same
 }
 

@@ -16,7 +16,6 @@ mod parts;
 mod rest;
 mod seek;
 mod spread;
-mod take;
 mod wipe;
 
 pub use cells::{copy_cells, drop_cells, place_cells};

@@ -9,8 +9,7 @@ ghost use Rattle.lmn_ground_parts.specs.Walks.{IsPartInDepth};
 
 use crate::seek::arity;
 use crate::spread::{fits, spread};
-use crate::take::take_marked;
-use crate::wipe::wipe;
+use crate::wipe::{Deed, wipe};
 use lmn_store_trait::LinkStore;
 
 /// Whether the part with this root stands whole in the membrane, and none of its atoms has the own mark 1.
@@ -29,7 +28,7 @@ pub fn is_ground<S: LinkStore>(store: &mut S, root: (S::Atom, u8), mem: S::Mem) 
         return true;
     }
     let found = spread(store, root, Some(mem));
-    wipe(store, root, found.0);
+    wipe(store, root, found.0, Deed::Leave);
     found.1
 }
 
@@ -47,7 +46,7 @@ pub fn size_of<S: LinkStore>(store: &mut S, root: (S::Atom, u8)) -> u64
         return 1;
     }
     let found = spread(store, root, None);
-    wipe(store, root, found.0);
+    wipe(store, root, found.0, Deed::Leave);
     found.0
 }
 
@@ -65,5 +64,5 @@ pub fn take_part<S: LinkStore>(store: &mut S, root: (S::Atom, u8))
         return;
     }
     let found = spread(store, root, None);
-    take_marked(store, root, found.0);
+    wipe(store, root, found.0, Deed::Take);
 }

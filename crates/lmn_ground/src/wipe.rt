@@ -1,9 +1,10 @@
-//! The walk that takes the marks back.
-ghost use Rattle.std.specs.Prelude.{◌≡◌, ◌<◌, ℕ, Bool, false, Some, IfSome};
-ghost use Rattle.lmn_store_heap.specs.Heap.{Heap, IsAtom, link_of, marked};
+//! The walk that takes the marks back, and does something to each atom.
+ghost use Rattle.std.specs.Prelude.{◌≡◌, ◌<◌, ℕ, Bool, [], ◌∷◌, false, Some, IfSome};
+ghost use Rattle.lmn_store_heap.specs.Heap.{Heap, IsAtom, arity_of, link_of, marked};
 ghost use Rattle.lmn_store_heap.specs.Sound.{Sound};
 ghost use Rattle.lmn_store_heap.specs.Splice.{IsPort};
 ghost use Rattle.lmn_ground_parts.specs.Walks.{is_port, net};
+ghost use Rattle.lmn_ground.specs.Deeds.{CanDo, all_done, done};
 ghost use Rattle.lmn_ground.specs.Marks.{OnWay, anew_mark, first_marks, least_found};
 ghost use Rattle.lmn_ground.specs.Spread.{Spread};
 ghost use Rattle.lmn_ground.specs.Stands.{HasEntered, IsMarkedEnd, WentBack, WipesOn};
@@ -11,6 +12,40 @@ ghost use Rattle.lmn_ground.specs.Stands.{HasEntered, IsMarkedEnd, WentBack, Wip
 use crate::marks::{ANEW, FOUND};
 use crate::seek::{Stand, arity, go_back, is_root};
 use lmn_store_trait::LinkStore;
+
+/// What a walk back does to an atom, besides taking its mark back.
+#[derive(Clone, Copy, Drop)]
+pub enum Deed {
+    /// Nothing.
+    Leave,
+    /// Takes it out of its list.
+    Take,
+    /// Sets its own mark.
+    SetOwn(u64),
+}
+
+/// Sets the own mark of an atom.
+fn set_own<S: LinkStore>(store: &mut S, a: S::Atom, v: u64)
+    requires { IsAtom (S.heap store.old) (S.atom_id a) }
+    ensures { S.heap store.new ≡ marked (S.heap store.old) (S.atom_id a) (arity_of (S.heap store.old) (S.atom_id a)) v }
+{
+    let own = arity(store, a);
+    store.set_mark(a, own, v);
+}
+
+/// Does a deed to an atom.
+#[inline(always)]
+fn act<S: LinkStore>(store: &mut S, a: S::Atom, deed: Deed)
+    requires atom { IsAtom (S.heap store.old) (S.atom_id a) }
+    requires can { CanDo deed (S.atom_id a ∷ []) (S.heap store.old) }
+    ensures { S.heap store.new ≡ done deed (S.atom_id a) (S.heap store.old) }
+{
+    match deed {
+        Deed::Leave => {}
+        Deed::Take => store.take_atom(a),
+        Deed::SetOwn(v) => set_own(store, a, v),
+    }
+}
 
 /// The other end of a port, where the port isn't the root and the mark there is still that of the first walk.
 pub fn marked_end<S: LinkStore>(
@@ -91,14 +126,15 @@ pub fn leave_leaf<S: LinkStore>(
     }
 }
 
-/// Takes back the marks of a walk.
-pub fn wipe<S: LinkStore>(store: &mut S, root: (S::Atom, u8), count: u64)
+/// Takes back the marks of a walk, and does a deed to each of its atoms.
+pub fn wipe<S: LinkStore>(store: &mut S, root: (S::Atom, u8), count: u64, deed: Deed)
     requires root { IsPort (S.heap store.old) (S.atom_id root.0) root.1 }
-    requires spread { (before : Heap) × (all : Bool) × Spread before (S.heap store.old) (S.atom_id root.0, root.1) count all }
-    ensures { (before : Heap) (all : Bool) → Spread before (S.heap store.old) (S.atom_id root.0, root.1) count all → S.heap store.new ≡ before }
+    requires spread { (before : Heap) × (all : Bool) × (t : Spread before (S.heap store.old) (S.atom_id root.0, root.1) count all) × CanDo deed t.seen before }
+    ensures { (before : Heap) (all : Bool) (t : Spread before (S.heap store.old) (S.atom_id root.0, root.1) count all) → S.heap store.new ≡ all_done deed t.seen before }
 {
     let _arity = arity(store, root.0);
     enter(store, root.0, root.1);
+    act(store, root.0, deed);
     let mut left = count - 1;
     let mut at = Stand {
         atom: root.0,
@@ -115,6 +151,7 @@ pub fn wipe<S: LinkStore>(store: &mut S, root: (S::Atom, u8), count: u64)
             match marked_end(store, root, at) {
                 Some((b, j)) => {
                     enter(store, b, j);
+                    act(store, b, deed);
                     left -= 1;
                     let down = Stand {
                         atom: b,

@@ -2,6 +2,7 @@ use Rattle.std.proofs.Common.{◌≡◌, ◌≢◌, None, subst}
 use Rattle.lmn_store_heap.specs.Heap.{from, mems_in, gone}
 use Rattle.lmn_store_heap.proofs.Heights.{mem_of_place}
 use Rattle.lmn_ground.proofs.DroppingLaws.{Emptied, all_gone, empties, goes_in, goes_out, less_in, less_out, not_out, stands, stands_emptied, stands_outer, starts}
+use Rattle.lmn_base.proofs.Truth.{never_both}
 use Rattle.lmn_ground.proofs.cells.drop_cells.Goals as goal
 
 pub loop-inner-init : goal.loop-inner-init
@@ -108,7 +109,7 @@ loop-inner-smaller g c =
     let k = g.S.LinkStore.heap c.take_atoms.new.store in
     let there = mem_of_place s m gone c.requires.gone in
     let r = c.requires.content in
-    let apart : at ≢ m = λ e. let u = c.same_mem.ensures.1 e in let f = c.if-same_mem.false in cc in
+    let apart : at ≢ m = λ e. never_both _ (c.same_mem.ensures.1 e) c.if-same_mem.false in
     less_out s c.root-root.ensures.sound c.root-root.ensures.few m there r.0 r.1 r.2 h k (g.S.LinkStore.heap c.take_mem.new.self) at (g.S.LinkStore.mem_id c.in-Some-parent.round)
     (c.loop-inner.invariant.way r.0 r.1 r.2) c.take_atoms.ensures apart c.in-Some-parent.ensures c.take_mem.ensures
 
@@ -122,7 +123,7 @@ loop-inner-preserved g c =
     let there = mem_of_place s m gone c.requires.gone in
     let sound = c.root-root.ensures.sound in
     let few = c.root-root.ensures.few in
-    let apart : at ≢ m = λ e. let u = c.same_mem.ensures.1 e in let f = c.if-same_mem.false in cc in
+    let apart : at ≢ m = λ e. never_both _ (c.same_mem.ensures.1 e) c.if-same_mem.false in
     record {
       way = λ atoms ms r. goes_out s sound few m there atoms ms r k (g.S.LinkStore.heap c.take_mem.new.self) at (g.S.LinkStore.mem_id c.in-Some-parent.round)
           (empties s sound few m there atoms ms r h k at (c.loop-inner.invariant.way atoms ms r) c.take_atoms.ensures) apart c.in-None.ensures.list c.in-Some-parent.ensures c.take_mem.ensures;
@@ -138,5 +139,5 @@ returns-in-None-parent g c = λ atoms ms r.
     let there = mem_of_place s m gone c.requires.gone in
     let sound = c.root-root.ensures.sound in
     let few = c.root-root.ensures.few in
-    let apart : at ≢ m = λ e. let u = c.same_mem.ensures.1 e in let f = c.if-same_mem.false in cc in
+    let apart : at ≢ m = λ e. never_both _ (c.same_mem.ensures.1 e) c.if-same_mem.false in
     absurd (not_out s sound few m there atoms ms r k at (empties s sound few m there atoms ms r h k at (c.loop-inner.invariant.way atoms ms r) c.take_atoms.ensures).0 apart c.in-None-parent.ensures)

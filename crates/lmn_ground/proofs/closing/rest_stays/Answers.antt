@@ -7,6 +7,7 @@ use Rattle.lmn_base.specs.Lists.{In}
 use Rattle.lmn_ground.specs.Rests.{IsLeft}
 use Rattle.lmn_ground.proofs.RestLaws.{atoms_first_in, atoms_next_in, less_left_of}
 use Rattle.lmn_ground.proofs.ClosingLaws.{all_stayed, rest_atoms, rest_atoms_are, stays_next}
+use Rattle.lmn_base.proofs.Truth.{false_not_true, never_both}
 use Rattle.lmn_ground.proofs.closing.rest_stays.Goals as goal
 
 pub loop-next-init : goal.loop-next-init
@@ -47,10 +48,10 @@ loop-next-preserved g c =
 
 pub returns-else-all_stay : goal.returns-else-all_stay
 returns-else-all_stay g c = λ atoms ms w. (
-  λ f. absurd (cc),
-  λ all. absurd (let yes = c.all_stay.ensures.1 (λ i b j l. all (g.S.LinkStore.atom_id c.in-Some.a) i b j
+  λ f. absurd (false_not_true f),
+  λ all. absurd (never_both _ (c.all_stay.ensures.1 (λ i b j l. all (g.S.LinkStore.atom_id c.in-Some.a) i b j
       (holds_of_item (λ a. (atoms ms : List ℕ) → IsLeft (g.S.LinkStore.heap c.args.store.now) (g.S.LinkStore.mem_id c.args.mem) (map g.S.LinkStore.mem_id c.args.out.now) atoms ms → In (g.S.LinkStore.atom_id a) atoms)
-      c.loop-next.next c.in-Some.a c.in-Some.is c.loop-next.invariant.at atoms ms w) l) in let no = c.if-all_stay.false in cc),
+      c.loop-next.next c.in-Some.a c.in-Some.is c.loop-next.invariant.at atoms ms w) l)) c.if-all_stay.false),
 )
 
 pub returns : goal.returns

@@ -1,10 +1,11 @@
-use Rattle.std.proofs.Common.{rules, ◌≡◌, ◌<◌, ◌+◌, ◌-◌, ◌^◌, arith, sym, ◌∙◌}
+use Rattle.std.proofs.Common.{refl, ◌≡◌, ◌<◌, ◌+◌, ◌-◌, ◌^◌, arith, sym, ◌∙◌}
 use Rattle.lmn_store_heap.specs.Heap.{arity_of}
 use Rattle.lmn_ground_parts.specs.Walks.{net}
 use Rattle.lmn_ground.specs.Marks.{first_marks}
 use Rattle.lmn_ground.proofs.SpreadLaws.{there_after, few_next, not_root}
 use Rattle.lmn_ground.proofs.FollowLaws.{follow_first, follow_root, follow_past, follow_enter, follow_done, both_none, number_differs, next_differs, functor_differs, marked_seen}
-use Rattle.lmn_ground.proofs.CompareLaws.{back_lighter, enter_lighter, still_there, there_first, compare_some, end_here, port_here, at_root, not_at_root, entry_end, back_on, back_differs, back_none}
+use Rattle.lmn_ground.proofs.CompareLaws.{back_lighter, enter_lighter, still_there, there_first, compare_some, end_here, port_here, at_root, not_at_root, entry_end, entry_here, back_on, back_differs, back_none}
+use Rattle.lmn_base.proofs.Truth.{false_not_true, never_both}
 use Rattle.lmn_ground.proofs.compare.compare.Goals as goal
 
 pub loop-at-init : goal.loop-at-init
@@ -24,7 +25,7 @@ returns-then-at-eq0-clause-spread g c = let t = c.loop-at.invariant.walk in comp
 pub returns-then-at-eq0-clause-equal : goal.returns-then-at-eq0-clause-equal
 returns-then-at-eq0-clause-equal g c =
     let t = c.loop-at.invariant.walk in
-    (λ _. follow_done _ _ _ _ _ t.3 _ _ _ _ _ _ _ t.4 c.if-at-eq0.true (c.if-at-arity.true ∙ c.arity.ensures.arity), λ _. search rules)
+    (λ _. follow_done _ _ _ _ _ t.3 _ _ _ _ _ _ _ t.4 c.if-at-eq0.true (c.if-at-arity.true ∙ c.arity.ensures.arity), λ _. refl)
 
 pub both_ends-requires-clause-end : goal.both_ends-requires-clause-end
 both_ends-requires-clause-end g c = let t = c.loop-at.invariant.walk in entry_end _ _ _ _ _ _ _ _ _ _ _ _ t.3 t.4 c.mark.result c.mark.ensures (omega arith)
@@ -35,9 +36,9 @@ returns-then-not-same_number-clause-spread g c = let t = c.loop-at.invariant.wal
 pub returns-then-not-same_number-clause-equal : goal.returns-then-not-same_number-clause-equal
 returns-then-not-same_number-clause-equal g c =
     let t = c.loop-at.invariant.walk in (
-      λ f. absurd (search rules),
+      λ f. absurd (false_not_true f),
       λ s. absurd (back_differs _ _ _ _ _ _ _ _ _ _ _ _ t.3 t.4 c.mark.result c.mark.ensures (omega arith) _ _ _ c.in-Some.ensures.link c.in-Some.ensures.end
-          (λ k. let f = c.if-not-same_number.ensures.1 k in search rules) s),
+          (λ k. never_both _ (c.same_number.ensures.1 k) c.if-not-same_number.true) s),
     )
 
 pub loop-at-smaller-in-Some : goal.loop-at-smaller-in-Some
@@ -58,7 +59,7 @@ loop-at-preserved-in-Some g c =
         _,
         t.3,
         back_on _ _ _ _ _ _ _ _ _ _ _ _ t.3 t.4 c.mark.result c.mark.ensures (omega arith) _ _ _ _ e (c.if-at-arity.true ∙ c.arity.ensures.arity)
-            c.in-Some.ensures.link c.in-Some.ensures.end c.in-Some.ensures.there (c.same_number.ensures.0 (search rules)),
+            c.in-Some.ensures.link c.in-Some.ensures.end c.in-Some.ensures.there (c.same_number.ensures.0 c.if-not-same_number.false),
       );
       bound = c.loop-at.invariant.bound;
     }
@@ -69,14 +70,14 @@ returns-in-None-clause-spread g c = let t = c.loop-at.invariant.walk in compare_
 pub returns-in-None-clause-equal : goal.returns-in-None-clause-equal
 returns-in-None-clause-equal g c =
     let t = c.loop-at.invariant.walk in
-    (λ f. absurd (search rules), λ s. absurd (back_none _ _ _ _ _ _ _ _ _ _ _ _ t.3 t.4 c.mark.result c.mark.ensures (omega arith) (c.both_ends.ensures.none c.in-None.is) s))
+    (λ f. absurd (false_not_true f), λ s. absurd (back_none _ _ _ _ _ _ _ _ _ _ _ _ t.3 t.4 c.mark.result c.mark.ensures (omega arith) (c.both_ends.ensures.none c.in-None.is) s))
 
 pub loop-at-preserved-then-is_root : goal.loop-at-preserved-then-is_root
 loop-at-preserved-then-is_root g c =
     let t = c.loop-at.invariant.walk in
     let h = port_here _ _ _ _ _ _ _ _ _ _ _ _ t.3 t.4 in
     let l : c.loop-at.at.port < arity_of (g.S.LinkStore.heap c.loop-at.store) (g.S.LinkStore.atom_id c.loop-at.at.atom) = omega (arith, h) in
-    let is = c.is_root.ensures.0 (search rules) in
+    let is = c.is_root.ensures.0 c.if-is_root.true in
     record {
       atom = c.loop-at.invariant.atom;
       answer = c.loop-at.invariant.answer;
@@ -99,8 +100,8 @@ returns-then-mark-count-clause-equal g c =
     let t = c.loop-at.invariant.walk in
     let h = port_here _ _ _ _ _ _ _ _ _ _ _ _ t.3 t.4 in
     let e = c.in-Some-both_ends.ensures in
-    let o = not_at_root _ _ _ _ _ _ _ _ _ _ _ _ t.3 t.4 (λ k. let f = c.if-is_root.ensures.1 k in search rules) in (
-      λ f. absurd (search rules),
+    let o = not_at_root _ _ _ _ _ _ _ _ _ _ _ _ t.3 t.4 (λ k. never_both _ (c.is_root.ensures.1 k) c.if-is_root.false) in (
+      λ f. absurd (false_not_true f),
       λ s. absurd (next_differs _ _ _ _ _ t.3 _ _ _ _ _ _ _ t.4 _ _ _ (omega (arith, h)) o e.link e.end (sym c.mark-in-Some-both_ends.ensures ∙ c.if-mark-eq0.true)
           (λ k. let m = c.mark-then-mark-eq0.ensures in let z = c.if-mark-count.true in omega (arith, k, m, z)) s),
     )
@@ -112,8 +113,8 @@ pub returns-then-not-are_alike-clause-equal : goal.returns-then-not-are_alike-cl
 returns-then-not-are_alike-clause-equal g c =
     let t = c.loop-at.invariant.walk in
     let e = c.in-Some-both_ends.ensures in
-    let o = not_at_root _ _ _ _ _ _ _ _ _ _ _ _ t.3 t.4 (λ k. let f = c.if-is_root.ensures.1 k in search rules) in
-    (λ f. absurd (search rules), λ s. absurd (functor_differs _ _ _ _ _ t.3 _ _ _ _ _ _ _ t.4 _ _ _ o e.link e.end (λ k. let f = c.if-not-are_alike.ensures.1 k in search rules) s))
+    let o = not_at_root _ _ _ _ _ _ _ _ _ _ _ _ t.3 t.4 (λ k. never_both _ (c.is_root.ensures.1 k) c.if-is_root.false) in
+    (λ f. absurd (false_not_true f), λ s. absurd (functor_differs _ _ _ _ _ t.3 _ _ _ _ _ _ _ t.4 _ _ _ o e.link e.end (λ k. never_both _ (c.are_alike.ensures.1 k) c.if-not-are_alike.true) s))
 
 pub loop-at-smaller-then-mark-eq0 : goal.loop-at-smaller-then-mark-eq0
 loop-at-smaller-then-mark-eq0 g c =
@@ -131,11 +132,11 @@ loop-at-preserved-then-mark-eq0 g c =
     let h = port_here _ _ _ _ _ _ _ _ _ _ _ _ t.3 t.4 in
     let l : c.loop-at.at.port < arity_of (g.S.LinkStore.heap c.loop-at.store) (g.S.LinkStore.atom_id c.loop-at.at.atom) = omega (arith, h) in
     let e = c.in-Some-both_ends.ensures in
-    let o = not_at_root _ _ _ _ _ _ _ _ _ _ _ _ t.3 t.4 (λ k. let f = c.if-is_root.ensures.1 k in search rules) in
+    let o = not_at_root _ _ _ _ _ _ _ _ _ _ _ _ t.3 t.4 (λ k. never_both _ (c.is_root.ensures.1 k) c.if-is_root.false) in
     let f = sym c.mark-in-Some-both_ends.ensures ∙ c.if-mark-eq0.true in
     let n = c.mark-then-mark-eq0.ensures in
     let w = follow_enter _ _ _ _ _ t.3 _ _ _ _ _ _ _ t.4 _ _ _ _ c.mark_entry-then-mark-eq0.ensures.marked c.arity.ensures.sound c.requires.clean l o e.link e.back e.there c.mark_entry-then-mark-eq0.ensures.small e.end f
-    (omega (arith, n)) (c.are_alike.ensures.0 (search rules)) in
+    (omega (arith, n)) (c.are_alike.ensures.0 c.if-not-are_alike.false) in
     record {
       atom = there_after _ _ _ _ _ _ c.mark_entry-then-mark-eq0.ensures.marked e.there;
       answer = still_there _ _ _ _ _ _ _ _ _ _ _ _ _ _ _ _ _ _ _ _ t.4 w e.end_atom;
@@ -150,11 +151,11 @@ pub returns-then-not-same_number-2-clause-equal : goal.returns-then-not-same_num
 returns-then-not-same_number-2-clause-equal g c =
     let t = c.loop-at.invariant.walk in
     let e = c.in-Some-both_ends.ensures in
-    let o = not_at_root _ _ _ _ _ _ _ _ _ _ _ _ t.3 t.4 (λ k. let f = c.if-is_root.ensures.1 k in search rules) in (
-      λ f. absurd (search rules),
+    let o = not_at_root _ _ _ _ _ _ _ _ _ _ _ _ t.3 t.4 (λ k. never_both _ (c.is_root.ensures.1 k) c.if-is_root.false) in (
+      λ f. absurd (false_not_true f),
       λ s. absurd (number_differs _ _ _ _ _ t.3 _ _ _ _ _ _ _ t.4 _ _ _ _ (not_root _ _ _ o) e.link e.end
           (marked_seen _ _ _ _ _ t.3 _ _ _ _ _ _ _ t.4 _ _ o e.link (λ z. c.if-mark-eq0.false (c.mark-in-Some-both_ends.ensures ∙ z)))
-          (λ k. let f = c.if-not-same_number-2.ensures.1 k in search rules) s),
+          (λ k. never_both _ (c.same_number-else-mark-eq0.ensures.1 k) c.if-not-same_number-2.true) s),
     )
 
 pub loop-at-preserved : goal.loop-at-preserved
@@ -163,11 +164,11 @@ loop-at-preserved g c =
     let h = port_here _ _ _ _ _ _ _ _ _ _ _ _ t.3 t.4 in
     let l : c.loop-at.at.port < arity_of (g.S.LinkStore.heap c.loop-at.store) (g.S.LinkStore.atom_id c.loop-at.at.atom) = omega (arith, h) in
     let e = c.in-Some-both_ends.ensures in
-    let o = not_at_root _ _ _ _ _ _ _ _ _ _ _ _ t.3 t.4 (λ k. let f = c.if-is_root.ensures.1 k in search rules) in
+    let o = not_at_root _ _ _ _ _ _ _ _ _ _ _ _ t.3 t.4 (λ k. never_both _ (c.is_root.ensures.1 k) c.if-is_root.false) in
     record {
       atom = c.loop-at.invariant.atom;
       answer = c.loop-at.invariant.answer;
-      walk = (_, _, _, t.3, follow_past _ _ _ _ _ t.3 _ _ _ _ _ _ _ t.4 _ _ _ l o e.link e.there e.end (λ z. c.if-mark-eq0.false (c.mark-in-Some-both_ends.ensures ∙ z)) (c.same_number-else-mark-eq0.ensures.0 (search rules)));
+      walk = (_, _, _, t.3, follow_past _ _ _ _ _ t.3 _ _ _ _ _ _ _ t.4 _ _ _ l o e.link e.there e.end (λ z. c.if-mark-eq0.false (c.mark-in-Some-both_ends.ensures ∙ z)) (c.same_number-else-mark-eq0.ensures.0 c.if-not-same_number-2.false));
       bound = c.loop-at.invariant.bound;
     }
 
@@ -178,5 +179,8 @@ pub returns-in-None-both_ends-clause-equal : goal.returns-in-None-both_ends-clau
 returns-in-None-both_ends-clause-equal g c =
     let t = c.loop-at.invariant.walk in
     let h = port_here _ _ _ _ _ _ _ _ _ _ _ _ t.3 t.4 in
-    let o = not_at_root _ _ _ _ _ _ _ _ _ _ _ _ t.3 t.4 (λ k. let f = c.if-is_root.ensures.1 k in search rules) in
-    (λ f. absurd (search rules), λ s. absurd (both_none _ _ _ _ _ t.3 _ _ _ _ _ _ _ t.4 _ (omega (arith, h)) (not_root _ _ _ o) (c.both_ends-else-is_root.ensures.none c.in-None-both_ends.is) s))
+    let o = not_at_root _ _ _ _ _ _ _ _ _ _ _ _ t.3 t.4 (λ k. never_both _ (c.is_root.ensures.1 k) c.if-is_root.false) in
+    (λ f. absurd (false_not_true f), λ s. absurd (both_none _ _ _ _ _ t.3 _ _ _ _ _ _ _ t.4 _ (omega (arith, h)) (not_root _ _ _ o) (c.both_ends-else-is_root.ensures.none c.in-None-both_ends.is) s))
+
+pub both_ends-requires-clause-port : goal.both_ends-requires-clause-port
+both_ends-requires-clause-port g c = let t = c.loop-at.invariant.walk in entry_here _ _ _ _ _ _ _ _ _ _ _ _ t.3 t.4 c.mark.result c.mark.ensures (omega arith)

@@ -2,6 +2,8 @@ use Rattle.std.proofs.Common.{◌<◌, ◌≤◌, ◌+◌, ◌-◌, ℕ, ◌^◌
 use Rattle.lmn_store_heap.specs.Heap.{arity_of}
 use Rattle.lmn_ground.proofs.SpreadLaws.{spreading_on, entered_back, there_after, there_beside, port_after, way_marked, way_stays, few_next, way_now}
 use Rattle.lmn_ground.proofs.GatherLaws.{gather_first, gather_next, gather_none, gather_some, gather_all, gather_joined}
+use Rattle.std.proofs.Common.{map, subst, sym}
+use Rattle.lmn_ground.specs.Copies.{NumbersAtoms}
 use Rattle.lmn_ground.proofs.gather.gather.Goals as goal
 
 less : (n m : ℕ) → n + 1 ≤ m → m - (n + 1) < m - n
@@ -79,3 +81,8 @@ unreachable-requires g c =
     let t = spreading_on _ _ _ _ _ _ _ _ _ _ _ _ c.loop-root.invariant.walk c.seek-stand.ensures.sought c.seek-stand.ensures.halts.inside in
     let l : c.seek-stand.result.port < arity_of (g.S.LinkStore.heap c.loop-root.store) (g.S.LinkStore.atom_id c.seek-stand.result.atom) = let h = c.seek-stand.ensures.halts.inside in omega (arith, h) in
     gather_joined _ _ _ _ _ _ _ _ t c.in-None.ensures.link l (c.seek-stand.ensures.halts.apart l) c.requires.ground
+
+pub returns-in_err-push-in-Some-clause-marked : goal.returns-in_err-push-in-Some-clause-marked
+returns-in_err-push-in-Some-clause-marked g c =
+    subst (λ xs. NumbersAtoms (g.S.LinkStore.heap c.args.store.now) (g.S.LinkStore.heap c.loop-root.store) (map g.S.LinkStore.atom_id xs)) (sym c.in_err-push-in-Some.ensures.err)
+    (gather_some _ _ _ _ _ _ _ _ c.loop-root.invariant.walk)

@@ -1,24 +1,24 @@
-use Rattle.std.proofs.Common.{rules}
 use Rattle.lmn_base.specs.Graphs.{at_root}
 use Rattle.lmn_ground.proofs.SpreadLaws.{clean_part}
 use Rattle.lmn_ground.proofs.GroundLaws.{root_there, root_port_there, fits_ground}
 use Rattle.std.proofs.Common.{Some, refl, sym, ◌∙◌}
 use Rattle.lmn_ground.proofs.LoneLaws.{lone_whole}
+use Rattle.lmn_base.proofs.Truth.{false_not_true, never_both}
 use Rattle.lmn_ground.proofs.parts.is_ground.Goals as goal
 
 pub returns-then-not-fits-clause-ground : goal.returns-then-not-fits-clause-ground
 returns-then-not-fits-clause-ground g c = (
-  λ w. absurd (search rules),
+  λ w. absurd (false_not_true w),
   λ is.
       let f = (fits_ground _ _ _ c.arity-ports.ensures.sound).1 is in
-      let w = c.if-not-fits.ensures.1 (f.atoms _ at_root) in search rules,
+      absurd (never_both _ (c.fits.ensures.1 (f.atoms _ at_root)) c.if-not-fits.true),
 )
 
 pub wipe-requires-clause-root : goal.wipe-requires-clause-root
 wipe-requires-clause-root g c = (root_there _ _ _ _ _ c.spread-found.ensures.spread c.requires.root.0, root_port_there _ _ _ _ _ c.spread-found.ensures.spread c.requires.root.1)
 
 pub wipe-requires-clause-spread : goal.wipe-requires-clause-spread
-wipe-requires-clause-spread g c = (g.S.LinkStore.heap c.args.store.now, _, c.spread-found.ensures.spread)
+wipe-requires-clause-spread g c = (g.S.LinkStore.heap c.args.store.now, _, c.spread-found.ensures.spread, tt)
 
 pub returns-clause-ground : goal.returns-clause-ground
 returns-clause-ground g c =

@@ -5,6 +5,7 @@ use Rattle.lmn_store_heap.proofs.Heights.{mem_of_list, parent_place}
 use Rattle.lmn_ground_parts.specs.Walks.{is_in}
 use Rattle.lmn_ground_parts.specs.Rests.{keep}
 use Rattle.lmn_ground.proofs.RestLaws.{begins, climbs, found, found_top, lower, not_top, rest_is}
+use Rattle.lmn_base.proofs.Truth.{never_both}
 use Rattle.lmn_ground.proofs.rest.behind.Goals as goal
 
 pub loop-round-init : goal.loop-round-init
@@ -35,7 +36,7 @@ returns-in-Some-next_mem-clause-list g c = λ atoms ms t.
     let at = g.S.LinkStore.mem_id c.loop-round.at in
     let left : ℕ → Bool = λ n. not (is_in (map g.S.LinkStore.mem_id c.args.out.now) n) in
     let p = g.S.LinkStore.mem_id c.in-Some.round in
-    let d : p ≢ m = λ e. let u = c.same_mem.ensures.1 e in let f = c.if-same_mem.false in cc in
+    let d : p ≢ m = λ e. never_both _ (c.same_mem.ensures.1 e) c.if-same_mem.false in
     found h c.root-root.ensures.sound m (λ a. own_mark h a == 0) left atoms ms t (g.S.LinkStore.mem_id c.args.start) at (c.loop-round.invariant.walk atoms ms t) p (g.S.LinkStore.mem_id c.in-Some-next_mem.next) d c.in-Some.ensures (c.in-Some-next_mem.ensures.list p c.in-Some.ensures)
 
 pub loop-round-smaller : goal.loop-round-smaller
@@ -49,7 +50,7 @@ loop-round-smaller g c =
     let at = g.S.LinkStore.mem_id c.loop-round.at in
     let left : ℕ → Bool = λ n. not (is_in (map g.S.LinkStore.mem_id c.args.out.now) n) in
     let p = g.S.LinkStore.mem_id c.in-Some.round in
-    let d : p ≢ m = λ e. let u = c.same_mem.ensures.1 e in let f = c.if-same_mem.false in cc in
+    let d : p ≢ m = λ e. never_both _ (c.same_mem.ensures.1 e) c.if-same_mem.false in
     subst (λ zs. length zs - length (after p zs) < length zs - length (after at zs)) (sym (rest_is h c.root-root.ensures.sound c.root-root.ensures.few m _ atoms ms t))
     (lower h c.root-root.ensures.sound m (λ a. own_mark h a == 0) left atoms ms t (g.S.LinkStore.mem_id c.args.start) at (c.loop-round.invariant.walk atoms ms t) p d c.in-Some.ensures)
 
@@ -60,7 +61,7 @@ loop-round-preserved g c =
     let at = g.S.LinkStore.mem_id c.loop-round.at in
     let left : ℕ → Bool = λ n. not (is_in (map g.S.LinkStore.mem_id c.args.out.now) n) in
     let p = g.S.LinkStore.mem_id c.in-Some.round in
-    let d : p ≢ m = λ e. let u = c.same_mem.ensures.1 e in let f = c.if-same_mem.false in cc in
+    let d : p ≢ m = λ e. never_both _ (c.same_mem.ensures.1 e) c.if-same_mem.false in
     record {
       walk = λ atoms ms t. climbs h c.root-root.ensures.sound m (λ a. own_mark h a == 0) left atoms ms t (g.S.LinkStore.mem_id c.args.start) at (c.loop-round.invariant.walk atoms ms t) p d c.in-Some.ensures (c.in-None-next_mem.ensures.list p c.in-Some.ensures);
       there = mem_of_list h p at ((c.root-root.ensures.sound.listed.mems p at).1 (parent_place h at p c.in-Some.ensures));

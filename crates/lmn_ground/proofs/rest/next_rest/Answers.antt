@@ -4,6 +4,7 @@ use Rattle.lmn_store_heap.specs.Heap.{own_mark, home_of}
 use Rattle.lmn_ground_parts.specs.Walks.{is_in}
 use Rattle.lmn_ground.specs.Rests.{IsLeft}
 use Rattle.lmn_ground.proofs.RestLaws.{first_is_in, home_in_rest, next_inner, next_is_in, next_own, past_inner, past_own}
+use Rattle.lmn_base.proofs.Truth.{never_both}
 use Rattle.lmn_ground.proofs.rest.next_rest.Goals as goal
 
 pub first_inside-requires-clause-at : goal.first_inside-requires-clause-at
@@ -15,7 +16,7 @@ next_membrane-requires-clause-at g c = λ atoms ms t.
     let h = g.S.LinkStore.heap c.args.store.now in
     let m = g.S.LinkStore.mem_id c.args.mem in
     let n = g.S.LinkStore.mem_id c.in-Some.home in
-    let d : n ≢ m = λ e. let u = c.same_mem.ensures.1 e in let f = c.if-same_mem.false in cc in
+    let d : n ≢ m = λ e. never_both _ (c.same_mem.ensures.1 e) c.if-same_mem.false in
     home_in_rest h c.root-root.ensures.sound m (λ a. own_mark h a == 0) (λ n. not (is_in (map g.S.LinkStore.mem_id c.args.out.now) n)) atoms ms t
     (g.S.LinkStore.atom_id c.args.a) n (c.requires.at atoms ms t) c.in-Some.ensures d
 
@@ -48,7 +49,7 @@ returns-in-Some-next_atom-clause-list g c = λ atoms ms t.
     let h = g.S.LinkStore.heap c.args.store.now in
     let m = g.S.LinkStore.mem_id c.args.mem in
     let n = g.S.LinkStore.mem_id c.in-Some.home in
-    let d : n ≢ m = λ e. let u = c.same_mem.ensures.1 e in let f = c.if-same_mem.false in cc in
+    let d : n ≢ m = λ e. never_both _ (c.same_mem.ensures.1 e) c.if-same_mem.false in
     next_inner h c.root-root.ensures.sound m (λ a. own_mark h a == 0) (λ n. not (is_in (map g.S.LinkStore.mem_id c.args.out.now) n)) atoms ms t
     (g.S.LinkStore.atom_id c.args.a) n (g.S.LinkStore.atom_id c.in-Some-next_atom.b) (c.requires.at atoms ms t) c.in-Some.ensures d (c.in-Some-next_atom.ensures.list n c.in-Some.ensures)
 
@@ -57,7 +58,7 @@ returns-in-None-next_atom-clause-list g c = λ atoms ms t.
     let h = g.S.LinkStore.heap c.args.store.now in
     let m = g.S.LinkStore.mem_id c.args.mem in
     let n = g.S.LinkStore.mem_id c.in-Some.home in
-    let d : n ≢ m = λ e. let u = c.same_mem.ensures.1 e in let f = c.if-same_mem.false in cc in
+    let d : n ≢ m = λ e. never_both _ (c.same_mem.ensures.1 e) c.if-same_mem.false in
     past_inner h c.root-root.ensures.sound m (λ a. own_mark h a == 0) (λ n. not (is_in (map g.S.LinkStore.mem_id c.args.out.now) n)) atoms ms t
     (g.S.LinkStore.atom_id c.args.a) n (option_map g.S.LinkStore.atom_id c.first_inside-in-None-next_atom.result) (option_map g.S.LinkStore.mem_id c.next_membrane.result) (c.requires.at atoms ms t) c.in-Some.ensures d
     (c.in-None-next_atom.ensures.list n c.in-Some.ensures) (c.next_membrane.ensures.list atoms ms t) (c.first_inside-in-None-next_atom.ensures.list atoms ms t)

@@ -1,8 +1,9 @@
-use Rattle.std.proofs.Common.{[], ◌∷◌, rules, ◌<◌, ◌≤◌, ◌+◌, ◌-◌, ℕ, ◌^◌, IfSome, arith, refl, sym, subst, ◌∙◌}
+use Rattle.std.proofs.Common.{[], ◌∷◌, ◌<◌, ◌≤◌, ◌+◌, ◌-◌, ℕ, ◌^◌, IfSome, arith, refl, sym, subst, ◌∙◌}
 use Rattle.std.specs.Option.{option_map}
 use Rattle.lmn_store_heap.specs.Heap.{Heap, IsAtom, IsMem, arity_of}
 use Rattle.lmn_ground.specs.Spread.{Spreading}
 use Rattle.lmn_ground.proofs.SpreadLaws.{spreading_first, spreading_on, entered, entered_back, there_after, there_beside, port_after, way_marked, way_stays, spread_some, spread_all, part_fits, unfit, unjoined, few_next, way_now, fits_before, first_there}
+use Rattle.lmn_base.proofs.Truth.{false_not_true, never_both}
 use Rattle.lmn_ground.proofs.spread.spread.Goals as goal
 
 less : (n m : ℕ) → n + 1 ≤ m → m - (n + 1) < m - n
@@ -36,7 +37,7 @@ pub returns-then-stand-arity-clause-fits : goal.returns-then-stand-arity-clause-
 returns-then-stand-arity-clause-fits g c =
     let t = spreading_on _ _ _ _ _ _ _ _ _ _ _ _ c.loop-root.invariant.walk.1 c.seek-stand.ensures.sought c.seek-stand.ensures.halts.inside in
     let f = c.if-stand-arity.true ∙ c.arity.ensures.arity in
-    (λ _. part_fits _ _ _ _ _ _ _ _ _ t (c.seek-stand.ensures.halts.end f) f, λ _. search rules)
+    (λ _. part_fits _ _ _ _ _ _ _ _ _ t (c.seek-stand.ensures.halts.end f) f, λ _. refl)
 
 pub returns-then-not-fits-clause-spread : goal.returns-then-not-fits-clause-spread
 returns-then-not-fits-clause-spread g c =
@@ -48,7 +49,7 @@ returns-then-not-fits-clause-fits g c =
     let t = spreading_on _ _ _ _ _ _ _ _ _ _ _ _ c.loop-root.invariant.walk.1 c.seek-stand.ensures.sought c.seek-stand.ensures.halts.inside in
     let l : c.seek-stand.result.port < arity_of (g.S.LinkStore.heap c.loop-root.store) (g.S.LinkStore.atom_id c.seek-stand.result.atom) = let h = c.seek-stand.ensures.halts.inside in omega (arith, h) in
     let both = fits_before _ _ _ _ _ _ _ _ _ _ _ t c.in-Some.ensures.there.1 in
-    (λ w. absurd (search rules), λ f. absurd (unfit _ _ _ _ _ _ _ _ _ _ _ t c.in-Some.ensures.link (c.seek-stand.ensures.halts.apart l) (λ k. let w = c.if-not-fits.ensures.1 (both.1 k) in search rules) f))
+    (λ w. absurd (false_not_true w), λ f. absurd (unfit _ _ _ _ _ _ _ _ _ _ _ t c.in-Some.ensures.link (c.seek-stand.ensures.halts.apart l) (λ k. never_both _ (c.fits.ensures.1 (both.1 k)) c.if-not-fits.true) f))
 
 pub loop-root-smaller : goal.loop-root-smaller
 loop-root-smaller g c =
@@ -74,7 +75,7 @@ go_down-at-requires-clause-way g c =
     let t = spreading_on _ _ _ _ _ _ _ _ _ _ _ _ c.loop-root.invariant.walk.1 c.seek-stand.ensures.sought c.seek-stand.ensures.halts.inside in
     let l : c.seek-stand.result.port < arity_of (g.S.LinkStore.heap c.loop-root.store) (g.S.LinkStore.atom_id c.seek-stand.result.atom) = let h = c.seek-stand.ensures.halts.inside in omega (arith, h) in
     way_now _ _ _ _ _ _ _ _ _ (entered _ _ _ _ _ _ _ _ _ _ _ _ c.mark_entry.ensures.marked t c.arity.ensures.sound c.requires.clean l c.in-Some.ensures.link c.in-Some.ensures.back c.in-Some.ensures.there.1 c.mark_entry.ensures.small
-    (c.seek-stand.ensures.halts.apart l) (c.seek-stand.ensures.halts.fresh _ _ c.in-Some.ensures.link) (c.fits.ensures.0 (search rules)))
+    (c.seek-stand.ensures.halts.apart l) (c.seek-stand.ensures.halts.fresh _ _ c.in-Some.ensures.link) (c.fits.ensures.0 c.if-not-fits.false))
 
 pub go_down-at-requires-clause-entered : goal.go_down-at-requires-clause-entered
 go_down-at-requires-clause-entered g c = record {
@@ -89,7 +90,7 @@ loop-root-preserved g c =
     let l : c.seek-stand.result.port < arity_of (g.S.LinkStore.heap c.loop-root.store) (g.S.LinkStore.atom_id c.seek-stand.result.atom) = let h = c.seek-stand.ensures.halts.inside in omega (arith, h) in
     let fresh = c.seek-stand.ensures.halts.fresh _ _ c.in-Some.ensures.link in
     let in_walk = entered _ _ _ _ _ _ _ _ _ _ _ _ c.mark_entry.ensures.marked t c.arity.ensures.sound c.requires.clean l c.in-Some.ensures.link c.in-Some.ensures.back c.in-Some.ensures.there.1 c.mark_entry.ensures.small
-    (c.seek-stand.ensures.halts.apart l) fresh (c.fits.ensures.0 (search rules)) in
+    (c.seek-stand.ensures.halts.apart l) fresh (c.fits.ensures.0 c.if-not-fits.false) in
     record {
       atom = c.go_down-at.ensures.atom;
       walk = (_, spreading_on _ _ _ _ _ _ _ _ _ _ _ _ in_walk c.go_down-at.ensures.sought c.go_down-at.ensures.inside);
@@ -106,4 +107,4 @@ pub returns-in-None-clause-fits : goal.returns-in-None-clause-fits
 returns-in-None-clause-fits g c =
     let t = spreading_on _ _ _ _ _ _ _ _ _ _ _ _ c.loop-root.invariant.walk.1 c.seek-stand.ensures.sought c.seek-stand.ensures.halts.inside in
     let l : c.seek-stand.result.port < arity_of (g.S.LinkStore.heap c.loop-root.store) (g.S.LinkStore.atom_id c.seek-stand.result.atom) = let h = c.seek-stand.ensures.halts.inside in omega (arith, h) in
-    (λ w. absurd (search rules), λ f. absurd (unjoined _ _ _ _ _ _ _ _ _ t c.in-None.ensures.link l (c.seek-stand.ensures.halts.apart l) f))
+    (λ w. absurd (false_not_true w), λ f. absurd (unjoined _ _ _ _ _ _ _ _ _ t c.in-None.ensures.link l (c.seek-stand.ensures.halts.apart l) f))
