@@ -14,6 +14,7 @@ use Rattle.lmn_machine_registers.specs.declared.registers.PartCopy.{PartCopy}
 use Rattle.lmn_machine_registers.specs.declared.registers.SetRegisters.{SetRegisters}
 use Rattle.lmn_machine_commit.specs.Registers.{AgreesWithCopies}
 use Rattle.lmn_machine_commit.specs.Committing.{Runs, Stands}
+use Rattle.lmn_machine_commit.specs.Preparing.{Uses}
 use Rattle.lmn_ground_parts.specs.Rests.{CopyWaits, IsContent, rest_placed, rest_taken}
 use Rattle.lmn_ground_parts.specs.Walks.{IsPartInDepth}
 use Rattle.lmn_base.specs.Lists.{In}
@@ -21,6 +22,22 @@ use Rattle.lmn_base.specs.Lists.{In}
 same_taken : (ns : List ℕ) (s : Heap) → taken_all s ns ≡ taken_all s ns
 same_taken [] s = refl
 same_taken (n ∷ ns) s = same_taken ns _
+
+-- the registers that an instruction uses are those that the one uses that it is
+pub uses_as : (a m g c : ℕ) {i j : Instr} → i ≡ j → Uses a m g c i → Uses a m g c j
+uses_as a m g c e u = subst (λ k. Uses a m g c k) e u
+
+-- it asks for what that one asks for
+pub asks_as : (r : Registers) (s : Heap) {i j : Instr} → i ≡ j → Can r i s → Can r j s
+asks_as r s e can = subst (λ k. Can r k s) e can
+
+-- and does what that one does
+pub does_as : (r : Registers) (s t : Heap) {i j : Instr} → i ≡ j → Does r j s t → Does r i s t
+does_as r s t e does = subst (λ k. Does r k s t) (sym e) does
+
+-- what holds of two values holds of those that they are
+pub both_as : {X Y : Type 0} (P : X → Y → Type 0) {x x' : X} {y y' : Y} → x ≡ x' → y ≡ y' → P x y → P x' y'
+both_as P {x' = x'} {y = y} e f h = subst (λ z. P x' z) f (subst (λ z. P z y) e h)
 
 module _ {A M : Type 0} (atom : A → ℕ) (membrane : M → ℕ) (g : SetRegisters A M) where
   pub part_taken : (r : Registers) (i : Instr) (x : ℕ) (p : A × ℕ) (s t : Heap) (all : List ℕ) → AgreesWithCopies atom membrane g r → i ≡ RemovePart x → slice_get g.parts x ≡ Some p →
