@@ -1,6 +1,6 @@
 //! The words of an instruction: its opcode and its operands.
 ghost use Rattle.std.specs.Prelude.{◌≡◌, [], ◌∷◌};
-ghost use Rattle.lmn_instr_code.specs.Words.{opcode_of, port_operand, operands, line_words, all_operands};
+ghost use Rattle.lmn_instr_code.specs.Words.{opcode_of, port_operand, operands, all_operands};
 ghost use Rattle.lmn_instr_code.specs.Kept.{words_kept};
 
 use crate::instr::{AtomPort, Instr, NewPort};
@@ -108,286 +108,270 @@ pub fn operands_of(instr: &Instr) -> Operands
     ensures opcode { result.opcode ≡ opcode_of instr.now }
     ensures operands { all_operands result ≡ operands instr.now }
 {
-    words_of(instr)
+    with_opcode(instr, opcode_of(instr))
 }
 
-/// The words of an instruction.
-fn words_of(instr: &Instr) -> Operands
-    ensures { words_kept result ≡ line_words instr.now }
+/// The opcode of an instruction.
+fn opcode_of(instr: &Instr) -> Opcode
+    ensures { result ≡ opcode_of instr.now }
 {
     match instr {
+        Instr::FindAtom { .. } => Opcode::FindAtom,
+        Instr::Deref { .. } => Opcode::Deref,
+        Instr::Func { .. } => Opcode::Func,
+        Instr::InMem { .. } => Opcode::InMem,
+        Instr::NeqAtom { .. } => Opcode::NeqAtom,
+        Instr::Joined { .. } => Opcode::Joined,
+        Instr::NotIn { .. } => Opcode::NotIn,
+        Instr::AnyMem { .. } => Opcode::AnyMem,
+        Instr::NeqMem { .. } => Opcode::NeqMem,
+        Instr::IsInt { .. } => Opcode::IsInt,
+        Instr::IsUnary { .. } => Opcode::IsUnary,
+        Instr::IsGround { .. } => Opcode::IsGround,
+        Instr::NAtoms { .. } => Opcode::NAtoms,
+        Instr::NMems { .. } => Opcode::NMems,
+        Instr::NoRules { .. } => Opcode::NoRules,
+        Instr::IsClosed { .. } => Opcode::IsClosed,
+        Instr::EqGround { .. } => Opcode::EqGround,
+        Instr::NeqGround { .. } => Opcode::NeqGround,
+        Instr::GetInt { .. } => Opcode::GetInt,
+        Instr::Const { .. } => Opcode::Const,
+        Instr::Add { .. } => Opcode::Add,
+        Instr::Sub { .. } => Opcode::Sub,
+        Instr::Mul { .. } => Opcode::Mul,
+        Instr::Div { .. } => Opcode::Div,
+        Instr::Mod { .. } => Opcode::Mod,
+        Instr::Lt { .. } => Opcode::Lt,
+        Instr::Le { .. } => Opcode::Le,
+        Instr::Gt { .. } => Opcode::Gt,
+        Instr::Ge { .. } => Opcode::Ge,
+        Instr::Eq { .. } => Opcode::Eq,
+        Instr::Ne { .. } => Opcode::Ne,
+        Instr::Commit => Opcode::Commit,
+        Instr::RemoveAtom { .. } => Opcode::RemoveAtom,
+        Instr::RemovePart { .. } => Opcode::RemovePart,
+        Instr::RemoveMem { .. } => Opcode::RemoveMem,
+        Instr::NewAtom { .. } => Opcode::NewAtom,
+        Instr::NewInt { .. } => Opcode::NewInt,
+        Instr::NewMem { .. } => Opcode::NewMem,
+        Instr::CopyGround { .. } => Opcode::CopyGround,
+        Instr::MoveCells { .. } => Opcode::MoveCells,
+        Instr::CopyCells { .. } => Opcode::CopyCells,
+        Instr::LoadRule { .. } => Opcode::LoadRule,
+        Instr::CopyRules { .. } => Opcode::CopyRules,
+        Instr::DropCells { .. } => Opcode::DropCells,
+        Instr::NewLink { .. } => Opcode::NewLink,
+        Instr::Relink { .. } => Opcode::Relink,
+        Instr::Unify { .. } => Opcode::Unify,
+        Instr::Proceed => Opcode::Proceed,
+    }
+}
+
+/// An opcode, with the operands of an instruction.
+fn with_opcode(instr: &Instr, opcode: Opcode) -> Operands
+    ensures { words_kept result ≡ (opcode, operands instr.now) }
+{
+    match instr {
+        Instr::Commit | Instr::Proceed => none(opcode),
+        Instr::RemoveAtom { atom } => one(opcode, Operand::Atom(*atom)),
+        Instr::RemovePart { part } => one(opcode, Operand::Part(*part)),
+        Instr::NoRules { membrane }
+        | Instr::RemoveMem { membrane }
+        | Instr::DropCells { membrane } => one(opcode, Operand::Membrane(*membrane)),
+        Instr::Func { atom, functor } => two(
+            opcode,
+            Operand::Atom(*atom),
+            Operand::Functor(*functor),
+        ),
+        Instr::InMem { atom, membrane } => two(
+            opcode,
+            Operand::Atom(*atom),
+            Operand::Membrane(*membrane),
+        ),
+        Instr::NeqAtom { atom, other } => two(opcode, Operand::Atom(*atom), Operand::Atom(*other)),
+        Instr::Joined { port, other } | Instr::Unify { port, other } => two(
+            opcode,
+            Operand::Port(*port),
+            Operand::Port(*other),
+        ),
+        Instr::NotIn { port, membrane } => two(
+            opcode,
+            Operand::Port(*port),
+            Operand::Membrane(*membrane),
+        ),
+        Instr::AnyMem {
+            membrane: first,
+            inside: second,
+        }
+        | Instr::NeqMem {
+            membrane: first,
+            other: second,
+        }
+        | Instr::NewMem {
+            membrane: first,
+            inside: second,
+        }
+        | Instr::MoveCells {
+            from: first,
+            to: second,
+        }
+        | Instr::CopyCells {
+            from: first,
+            to: second,
+        }
+        | Instr::CopyRules {
+            from: first,
+            to: second,
+        } => two(
+            opcode,
+            Operand::Membrane(*first),
+            Operand::Membrane(*second),
+        ),
+        Instr::NMems { membrane, count } => two(
+            opcode,
+            Operand::Membrane(*membrane),
+            Operand::Number(*count),
+        ),
+        Instr::LoadRule { membrane, rule } => two(
+            opcode,
+            Operand::Membrane(*membrane),
+            Operand::Number(*rule as u64),
+        ),
+        Instr::EqGround { part, other } | Instr::NeqGround { part, other } => two(
+            opcode,
+            Operand::Part(*part),
+            Operand::Part(*other),
+        ),
+        Instr::GetInt { integer, part } => two(
+            opcode,
+            Operand::Integer(*integer),
+            Operand::Part(*part),
+        ),
+        Instr::Const { integer, value } => two(
+            opcode,
+            Operand::Integer(*integer),
+            Operand::Constant(*value),
+        ),
+        Instr::Lt { left, right }
+        | Instr::Le { left, right }
+        | Instr::Gt { left, right }
+        | Instr::Ge { left, right }
+        | Instr::Eq { left, right }
+        | Instr::Ne { left, right } => two(
+            opcode,
+            Operand::Integer(*left),
+            Operand::Integer(*right),
+        ),
+        Instr::NewLink { port, other } => two(opcode, new_port(*port), new_port(*other)),
+        Instr::Relink { port, to } => two(opcode, new_port(*port), Operand::Port(*to)),
         Instr::FindAtom {
             atom,
             membrane,
             functor,
+        }
+        | Instr::NewAtom {
+            atom,
+            membrane,
+            functor,
         } => three(
-            Opcode::FindAtom,
+            opcode,
             Operand::Atom(*atom),
             Operand::Membrane(*membrane),
             Operand::Functor(*functor),
         ),
         Instr::Deref { atom, from, port } => three(
-            Opcode::Deref,
+            opcode,
             Operand::Atom(*atom),
             Operand::Port(*from),
             Operand::Number(*port as u64),
-        ),
-        Instr::Func { atom, functor } => two(
-            Opcode::Func,
-            Operand::Atom(*atom),
-            Operand::Functor(*functor),
-        ),
-        Instr::InMem { atom, membrane } => two(
-            Opcode::InMem,
-            Operand::Atom(*atom),
-            Operand::Membrane(*membrane),
-        ),
-        Instr::NeqAtom { atom, other } => two(
-            Opcode::NeqAtom,
-            Operand::Atom(*atom),
-            Operand::Atom(*other),
-        ),
-        Instr::Joined { port, other } => two(
-            Opcode::Joined,
-            Operand::Port(*port),
-            Operand::Port(*other),
-        ),
-        Instr::NotIn { port, membrane } => two(
-            Opcode::NotIn,
-            Operand::Port(*port),
-            Operand::Membrane(*membrane),
-        ),
-        Instr::AnyMem { membrane, inside } => two(
-            Opcode::AnyMem,
-            Operand::Membrane(*membrane),
-            Operand::Membrane(*inside),
-        ),
-        Instr::NeqMem { membrane, other } => two(
-            Opcode::NeqMem,
-            Operand::Membrane(*membrane),
-            Operand::Membrane(*other),
         ),
         Instr::IsInt {
             part,
             port,
             membrane,
-        } => three(
-            Opcode::IsInt,
-            Operand::Part(*part),
-            Operand::Port(*port),
-            Operand::Membrane(*membrane),
-        ),
-        Instr::IsUnary {
+        }
+        | Instr::IsUnary {
+            part,
+            port,
+            membrane,
+        }
+        | Instr::IsGround {
             part,
             port,
             membrane,
         } => three(
-            Opcode::IsUnary,
+            opcode,
             Operand::Part(*part),
             Operand::Port(*port),
             Operand::Membrane(*membrane),
-        ),
-        Instr::IsGround {
-            part,
-            port,
-            membrane,
-        } => three(
-            Opcode::IsGround,
-            Operand::Part(*part),
-            Operand::Port(*port),
-            Operand::Membrane(*membrane),
-        ),
-        Instr::NAtoms {
-            membrane,
-            count,
-            parts,
-        } => Operands {
-            opcode: Opcode::NAtoms,
-            first: Some(Operand::Membrane(*membrane)),
-            second: Some(Operand::Number(*count)),
-            third: None,
-            parts: parts.as_slice(),
-        },
-        Instr::NMems { membrane, count } => two(
-            Opcode::NMems,
-            Operand::Membrane(*membrane),
-            Operand::Number(*count),
-        ),
-        Instr::NoRules { membrane } => one(Opcode::NoRules, Operand::Membrane(*membrane)),
-        Instr::IsClosed { membrane, parts } => Operands {
-            opcode: Opcode::IsClosed,
-            first: Some(Operand::Membrane(*membrane)),
-            second: None,
-            third: None,
-            parts: parts.as_slice(),
-        },
-        Instr::EqGround { part, other } => two(
-            Opcode::EqGround,
-            Operand::Part(*part),
-            Operand::Part(*other),
-        ),
-        Instr::NeqGround { part, other } => two(
-            Opcode::NeqGround,
-            Operand::Part(*part),
-            Operand::Part(*other),
-        ),
-        Instr::GetInt { integer, part } => two(
-            Opcode::GetInt,
-            Operand::Integer(*integer),
-            Operand::Part(*part),
-        ),
-        Instr::Const { integer, value } => two(
-            Opcode::Const,
-            Operand::Integer(*integer),
-            Operand::Constant(*value),
         ),
         Instr::Add {
             integer,
             left,
             right,
-        } => three(
-            Opcode::Add,
-            Operand::Integer(*integer),
-            Operand::Integer(*left),
-            Operand::Integer(*right),
-        ),
-        Instr::Sub {
+        }
+        | Instr::Sub {
+            integer,
+            left,
+            right,
+        }
+        | Instr::Mul {
+            integer,
+            left,
+            right,
+        }
+        | Instr::Div {
+            integer,
+            left,
+            right,
+        }
+        | Instr::Mod {
             integer,
             left,
             right,
         } => three(
-            Opcode::Sub,
+            opcode,
             Operand::Integer(*integer),
             Operand::Integer(*left),
             Operand::Integer(*right),
-        ),
-        Instr::Mul {
-            integer,
-            left,
-            right,
-        } => three(
-            Opcode::Mul,
-            Operand::Integer(*integer),
-            Operand::Integer(*left),
-            Operand::Integer(*right),
-        ),
-        Instr::Div {
-            integer,
-            left,
-            right,
-        } => three(
-            Opcode::Div,
-            Operand::Integer(*integer),
-            Operand::Integer(*left),
-            Operand::Integer(*right),
-        ),
-        Instr::Mod {
-            integer,
-            left,
-            right,
-        } => three(
-            Opcode::Mod,
-            Operand::Integer(*integer),
-            Operand::Integer(*left),
-            Operand::Integer(*right),
-        ),
-        Instr::Lt { left, right } => two(
-            Opcode::Lt,
-            Operand::Integer(*left),
-            Operand::Integer(*right),
-        ),
-        Instr::Le { left, right } => two(
-            Opcode::Le,
-            Operand::Integer(*left),
-            Operand::Integer(*right),
-        ),
-        Instr::Gt { left, right } => two(
-            Opcode::Gt,
-            Operand::Integer(*left),
-            Operand::Integer(*right),
-        ),
-        Instr::Ge { left, right } => two(
-            Opcode::Ge,
-            Operand::Integer(*left),
-            Operand::Integer(*right),
-        ),
-        Instr::Eq { left, right } => two(
-            Opcode::Eq,
-            Operand::Integer(*left),
-            Operand::Integer(*right),
-        ),
-        Instr::Ne { left, right } => two(
-            Opcode::Ne,
-            Operand::Integer(*left),
-            Operand::Integer(*right),
-        ),
-        Instr::Commit => none(Opcode::Commit),
-        Instr::RemoveAtom { atom } => one(Opcode::RemoveAtom, Operand::Atom(*atom)),
-        Instr::RemovePart { part } => one(Opcode::RemovePart, Operand::Part(*part)),
-        Instr::RemoveMem { membrane } => one(Opcode::RemoveMem, Operand::Membrane(*membrane)),
-        Instr::NewAtom {
-            atom,
-            membrane,
-            functor,
-        } => three(
-            Opcode::NewAtom,
-            Operand::Atom(*atom),
-            Operand::Membrane(*membrane),
-            Operand::Functor(*functor),
         ),
         Instr::NewInt {
             atom,
             membrane,
             integer,
         } => three(
-            Opcode::NewInt,
+            opcode,
             Operand::Atom(*atom),
             Operand::Membrane(*membrane),
             Operand::Integer(*integer),
-        ),
-        Instr::NewMem { membrane, inside } => two(
-            Opcode::NewMem,
-            Operand::Membrane(*membrane),
-            Operand::Membrane(*inside),
         ),
         Instr::CopyGround {
             copy,
             membrane,
             part,
         } => three(
-            Opcode::CopyGround,
+            opcode,
             Operand::Copy(*copy),
             Operand::Membrane(*membrane),
             Operand::Part(*part),
         ),
-        Instr::MoveCells { from, to } => two(
-            Opcode::MoveCells,
-            Operand::Membrane(*from),
-            Operand::Membrane(*to),
-        ),
-        Instr::CopyCells { from, to } => two(
-            Opcode::CopyCells,
-            Operand::Membrane(*from),
-            Operand::Membrane(*to),
-        ),
-        Instr::LoadRule { membrane, rule } => two(
-            Opcode::LoadRule,
-            Operand::Membrane(*membrane),
-            Operand::Number(*rule as u64),
-        ),
-        Instr::CopyRules { from, to } => two(
-            Opcode::CopyRules,
-            Operand::Membrane(*from),
-            Operand::Membrane(*to),
-        ),
-        Instr::DropCells { membrane } => one(Opcode::DropCells, Operand::Membrane(*membrane)),
-        Instr::NewLink { port, other } => two(Opcode::NewLink, new_port(*port), new_port(*other)),
-        Instr::Relink { port, to } => two(Opcode::Relink, new_port(*port), Operand::Port(*to)),
-        Instr::Unify { port, other } => two(
-            Opcode::Unify,
-            Operand::Port(*port),
-            Operand::Port(*other),
-        ),
-        Instr::Proceed => none(Opcode::Proceed),
+        Instr::NAtoms {
+            membrane,
+            count,
+            parts,
+        } => Operands {
+            opcode,
+            first: Some(Operand::Membrane(*membrane)),
+            second: Some(Operand::Number(*count)),
+            third: None,
+            parts: parts.as_slice(),
+        },
+        Instr::IsClosed { membrane, parts } => Operands {
+            opcode,
+            first: Some(Operand::Membrane(*membrane)),
+            second: None,
+            third: None,
+            parts: parts.as_slice(),
+        },
     }
 }
