@@ -1,6 +1,7 @@
-ghost use Rattle.std.specs.Prelude.{◌≡◌, ◌<◌, ◌≤◌, ◌^◌, length, sum_by, IfOk};
+ghost use Rattle.std.specs.Prelude.{◌≡◌, ◌<◌, ◌≤◌, ◌++◌, ◌^◌, length, sum_by, IfOk, OnOk};
 ghost use Rattle.lmn_base.specs.Limits.{most_guard_tokens};
-ghost use Rattle.lmn_instr_code.specs.HeadCode.{head_code};
+ghost use Rattle.lmn_instr_code.specs.HeadCode.{head_code, items_code, parts_code};
+ghost use Rattle.lmn_solid_heads.specs.Heads.{typed_contexts_of};
 ghost use Rattle.lmn_base_walks.specs.RuleCodes.{condition_tokens};
 ghost use Rattle.lmn_compile_head.specs.Accepted.{HasRoom, rule_head_code};
 ghost use Rattle.lmn_compile_head.specs.Tables.{HeadFits};
@@ -32,22 +33,54 @@ pub fn code_of_items(
     requires integers { sum_by condition_tokens guard.now ≤ most_guard_tokens }
     ensures { IfOk result (λ code. code ≡ head_code items.now guard.now) }
 {
+    let mut code = Rows::new(alloc);
+    match add_head(alloc, &mut code, items, guard, links) {
+        Ok(()) => Ok(code),
+        Err(NoMemory) => Err(NoMemory),
+    }
+}
+
+/// Adds the code of a head.
+fn add_head(
+    alloc: Global,
+    code: &mut Rows<Instr>,
+    items: &[HeadItem],
+    guard: &[Cond],
+    links: usize,
+) -> Result<(), NoMemory>
+    requires fits { HeadFits links items.now }
+    requires few { length items.now < 2 ^ 15 }
+    requires integers { sum_by condition_tokens guard.now ≤ most_guard_tokens }
+    ensures { OnOk result (code.new ≡ code.old ++ head_code items.now guard.now) }
+{
+    add_found_items(alloc, code, items, links)?;
+    add_all_filled(alloc, code, items)?;
+    add_guard(alloc, code, items, guard)?;
+    code.push(Instr::Commit)
+}
+
+/// Adds the code that finds the items of a head.
+fn add_found_items(
+    alloc: Global,
+    code: &mut Rows<Instr>,
+    items: &[HeadItem],
+    links: usize,
+) -> Result<(), NoMemory>
+    requires fits { HeadFits links items.now }
+    requires few { length items.now < 2 ^ 15 }
+    ensures { OnOk result (code.new ≡ code.old ++ (items_code items.now 0 0 items.now ++ parts_code items.now 0 (typed_contexts_of items.now))) }
+{
     let times = times_of(alloc, items, links)?;
     let insides = insides_of(alloc, items)?;
     let mut first: Rows<Option<AtomPort>> = Rows::from_vec(vec![in alloc; None; links]?);
-    let mut code = Rows::new(alloc);
     add_items(
-        &mut code,
+        code,
         &mut first,
         times.as_slice(),
         insides.as_slice(),
         items,
     )?;
-    add_parts(&mut code, first.as_slice(), items)?;
-    add_all_filled(alloc, &mut code, items)?;
-    add_guard(alloc, &mut code, items, guard)?;
-    code.push(Instr::Commit)?;
-    Ok(code)
+    add_parts(code, first.as_slice(), items)
 }
 
 /// The code of the head of a rule with its plan.
