@@ -1,7 +1,9 @@
-ghost use Rattle.std.specs.Prelude.{◌≡◌, ◌+◌, ◌<◌, ◌^◌, length, IfOk};
-ghost use Rattle.lmn_solid_heads.specs.Heads.{membranes_of};
-ghost use Rattle.lmn_solid_bodies.specs.Code.{body_code};
+ghost use Rattle.std.specs.Prelude.{◌≡◌, ◌+◌, ◌<◌, ◌++◌, ◌^◌, length, IfOk, OnOk};
+ghost use Rattle.lmn_congruence_splice.specs.Classes.{class_of, rising};
+ghost use Rattle.lmn_solid_heads.specs.Heads.{atoms_of, membranes_of};
+ghost use Rattle.lmn_solid_bodies.specs.Code.{body_code, links_code};
 ghost use Rattle.lmn_solid_bodies.specs.Flattening.{body_items};
+ghost use Rattle.lmn_solid_bodies.specs.Items.{connectors, new_ports, old_ports};
 ghost use Rattle.lmn_compile_body.specs.Accepted.{HasBodyRoom, rule_body_code};
 ghost use Rattle.lmn_compile_body.specs.Naming.{body_names, registers_by, guard_registers, unnumbered_body, numbered_contexts, numbered_rule_contexts};
 ghost use Rattle.lmn_compile_head.specs.Tables.{HeadFits};
@@ -38,24 +40,57 @@ pub fn code_of_body(
     requires few { 1 + length head.now + length body.now < 2 ^ 15 }
     ensures { IfOk result (λ code. code ≡ body_code head.now body.now links) }
 {
-    let atoms = atoms_in(head);
-    let connectors = connectors_of(alloc, body)?;
-    let news = new_ports_of(alloc, body, atoms)?;
-    let olds = old_ports_of(alloc, head, links)?;
     let mut code = Rows::new(alloc);
-    add_removals(&mut code, head)?;
-    add_making(&mut code, body, atoms, 1 + membranes_in(head))?;
-    add_drops(&mut code, head)?;
+    match add_body(alloc, &mut code, head, body, links) {
+        Ok(()) => Ok(code),
+        Err(NoMemory) => Err(NoMemory),
+    }
+}
+
+/// Adds the code of a body.
+fn add_body(
+    alloc: Global,
+    code: &mut Rows<Instr>,
+    head: &[HeadItem],
+    body: &[BodyItem],
+    links: u32,
+) -> Result<(), NoMemory>
+    requires head { HeadFits links head.now }
+    requires body { BodyFits links body.now }
+    requires few { 1 + length head.now + length body.now < 2 ^ 15 }
+    ensures { OnOk result (code.new ≡ code.old ++ body_code head.now body.now links) }
+{
+    add_removals(code, head)?;
+    add_making(code, body, atoms_in(head), 1 + membranes_in(head))?;
+    add_drops(code, head)?;
+    add_ties(alloc, code, head, body, links)?;
+    code.push(Instr::Proceed)
+}
+
+/// Adds the code of the links of a body.
+fn add_ties(
+    alloc: Global,
+    code: &mut Rows<Instr>,
+    head: &[HeadItem],
+    body: &[BodyItem],
+    links: u32,
+) -> Result<(), NoMemory>
+    requires head { HeadFits links head.now }
+    requires body { BodyFits links body.now }
+    requires few { 1 + length head.now + length body.now < 2 ^ 15 }
+    ensures { OnOk result (code.new ≡ code.old ++ links_code (class_of (connectors body.now)) (new_ports (length (atoms_of head.now)) 0 body.now) (old_ports head.now) (rising 0 links)) }
+{
+    let connectors = connectors_of(alloc, body)?;
+    let news = new_ports_of(alloc, body, atoms_in(head))?;
+    let olds = old_ports_of(alloc, head, links)?;
     add_links(
         alloc,
-        &mut code,
+        code,
         connectors.as_slice(),
         news.as_slice(),
         olds.as_slice(),
         links,
-    )?;
-    code.push(Instr::Proceed)?;
-    Ok(code)
+    )
 }
 
 /// The code of the body of a rule with its plan.
