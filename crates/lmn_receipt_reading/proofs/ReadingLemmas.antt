@@ -1,11 +1,12 @@
 -- What is left of a text that is read in parts.
-use Rattle.std.specs.Prelude.{◌≡◌, ◌<◌, ◌≤◌, ◌⊎◌, ℕ, ◌+◌, ◌-◌, List, [], ◌++◌, drop, length, min, take, Option, Some, None, IfSome, IsSomeAnd, option_map}
+use Rattle.std.specs.Prelude.{◌≡◌, ◌<◌, ◌≤◌, ◌⊎◌, ℕ, ◌+◌, ◌-◌, List, [], ◌++◌, drop, length, min, take, Option, Some, None, Result, Ok, Err, IfOk, IfSome, IsSomeAnd, OnOk}
 use Rattle.std.proofs.Common.{◌∙◌, ap, append_assoc, arith, inl, inr, refl, subst, suc, sym, zero}
 use Rattle.std.proofs.lemmas.List.{drop-drop, length-append, length-drop, length-take, take-append-drop}
 use Rattle.std.proofs.Math.Seq.{drop-append_seam}
 use Rattle.lmn_io.specs.Counts.{Rose}
 use Rattle.lmn_io.specs.Texts.{IsPart}
-use Rattle.lmn_receipt_reading.specs.Readings.{IsMeasuredRight, IsOfSame, IsReady, ReadFailed, Reading, ReadsOn, left_of, rest_of, text_told}
+use Rattle.lmn_receipt_reading.specs.Windows.{AtHand}
+use Rattle.lmn_receipt_reading.specs.Readings.{IsMeasuredRight, IsOfSame, IsRest, ReadFailed, Reading, ReadsOn, text_told}
 
 -- ---- a part of a text, and the rest
 
@@ -16,11 +17,11 @@ part_and_rest xs most =
     let behind : drop (length (take most xs)) xs ≡ drop most xs = ap (drop (length (take most xs))) (sym both) ∙ drop-append_seam (take most xs) (drop most xs) in
     ap (λ rest. take most xs ++ rest) behind ∙ both
 
--- and so what is ahead and isn't read stays the same where a part is read
-moved : (ahead part all : List ℕ) (read most : ℕ) → part ≡ take most (drop read all) → (ahead ++ part) ++ drop (read + length part) all ≡ ahead ++ drop read all
-moved ahead part all read most is =
-    append_assoc ahead part (drop (read + length part) all)
-    ∙ ap (λ rest. ahead ++ rest) (ap (λ rest. part ++ rest) (sym (drop-drop (length part) read all)) ∙ subst (λ p. p ++ drop (length p) (drop read all) ≡ drop read all) (sym is) (part_and_rest (drop read all) most))
+-- and so a part and what wasn't read behind it weren't read before it
+unread : (part more all : List ℕ) (read most : ℕ) → part ≡ take most (drop read all) → more ≡ drop (read + length part) all → part ++ more ≡ drop read all
+unread part more all read most is behind =
+    ap (λ rest. part ++ rest) (behind ∙ sym (drop-drop (length part) read all))
+    ∙ subst (λ p. p ++ drop (length p) (drop read all) ≡ drop read all) (sym is) (part_and_rest (drop read all) most)
 
 -- behind a part that is shorter than what was asked for the text ends
 ended : (part all : List ℕ) (read most : ℕ) → part ≡ take most (drop read all) → length part < most → length all ≤ read + length part
@@ -38,10 +39,10 @@ told_part (Some text) name from most part is = of (text name) is.1
     of None none = tt
     of (Some all) some = some
 
-module _ (ahead part : List ℕ) (read most : ℕ) where
-  all_moved : (o : Option (List ℕ)) → IfSome o (λ all. part ≡ take most (drop read all)) → option_map (λ all. (ahead ++ part) ++ drop (read + length part) all) o ≡ option_map (λ all. ahead ++ drop read all) o
-  all_moved None is = refl
-  all_moved (Some all) is = ap Some (moved ahead part all read most is)
+module _ (part : List ℕ) (read most : ℕ) where
+  all_unread : (o : Option (List ℕ)) (more : List ℕ) → IfSome o (λ all. part ≡ take most (drop read all)) → IfSome o (λ all. more ≡ drop (read + length part) all) → IfSome o (λ all. part ++ more ≡ drop read all)
+  all_unread None more is behind = tt
+  all_unread (Some all) more is behind = unread part more all read most is behind
 
   all_ended : (o : Option (List ℕ)) → IfSome o (λ all. part ≡ take most (drop read all)) → length part < most → IfSome o (λ all. length all ≤ read + length part)
   all_ended None is short = tt
@@ -71,12 +72,19 @@ module _ (before after : Reading) (part : List ℕ) (most : ℕ) (r : ReadsBlock
   few : length part ≤ most
   few = r.is.0
 
-  rest : rest_of after ≡ rest_of before
-  rest =
-      ap (option_map (λ all. after.at_hand.ahead ++ drop after.read all)) text
-      ∙ ap (λ ahead. option_map (λ all. ahead ++ drop after.read all) (text_told before.told before.name)) r.ahead
-      ∙ ap (λ read. option_map (λ all. (before.at_hand.ahead ++ part) ++ drop read all) (text_told before.told before.name)) r.read
-      ∙ all_moved before.at_hand.ahead part before.read most (text_told before.told before.name) is_part
+  module _ (shorter : after.length ≤ before.length) (inside : before.read + length part ≤ before.length) where
+    rest : (rest : List ℕ) → IsRest after rest → IsRest before rest
+    rest text_left h =
+        let few = h.few in
+        let read = r.read in
+        let counted = length-append part h.more in
+        record {
+          more = part ++ h.more;
+          is = h.is ∙ ap (λ ahead. ahead ++ h.more) r.ahead ∙ append_assoc before.at_hand.ahead part h.more;
+          few = omega (arith, few, read, counted, shorter, inside);
+          told = all_unread part before.read most (text_told before.told before.name) h.more is_part
+              (subst (λ n. IfSome (text_told before.told before.name) (λ all. h.more ≡ drop n all)) r.read (subst (λ o. IfSome o (λ all. h.more ≡ drop after.read all)) text h.told));
+        }
 
   ahead_is : length after.at_hand.ahead ≡ length before.at_hand.ahead + length part
   ahead_is = ap length r.ahead ∙ length-append before.at_hand.ahead part
@@ -92,7 +100,7 @@ module _ (before after : Reading) (part : List ℕ) (most : ℕ) (r : ReadsBlock
           whole = subst (λ n. IfSome (text_told after.told after.name) (λ all. length all ≤ n)) (sym same) (subst (λ o. IfSome o (λ all. length all ≤ before.length)) (sym text) r.right.whole);
         };
         last = r.last;
-        rest = rest;
+        rest = rest (omega (arith, same)) (omega (arith, few, within, r.right.within));
         left = omega (arith, few, same, read, within, r.right.within, ahead_is);
       }
   by_kind (inr short) =
@@ -102,10 +110,10 @@ module _ (before after : Reading) (part : List ℕ) (most : ℕ) (r : ReadsBlock
       record {
         right = record {
           within = omega (arith, is);
-          whole = subst (λ n. IfSome (text_told after.told after.name) (λ all. length all ≤ n)) (sym (is ∙ read)) (subst (λ o. IfSome o (λ all. length all ≤ before.read + length part)) (sym text) (all_ended before.at_hand.ahead part before.read most (text_told before.told before.name) is_part (omega (arith, short))));
+          whole = subst (λ n. IfSome (text_told after.told after.name) (λ all. length all ≤ n)) (sym (is ∙ read)) (subst (λ o. IfSome o (λ all. length all ≤ before.read + length part)) (sym text) (all_ended part before.read most (text_told before.told before.name) is_part (omega (arith, short))));
         };
         last = r.last;
-        rest = rest;
+        rest = rest (omega (arith, is, read, few, within, r.right.within)) (omega (arith, few, within, r.right.within));
         left = omega (arith, few, is, read, within, r.right.within, ahead_is);
       }
 
@@ -116,6 +124,37 @@ module _ (before after : Reading) (part : List ℕ) (most : ℕ) (r : ReadsBlock
       either : (n : ℕ) → (n ≡ 0) ⊎ (0 < n)
       either zero = inl refl
       either (suc n) = inr (omega arith)
+
+-- ---- what may be left
+
+told_rest : (o : Option (List ℕ)) (read len : ℕ) → IfSome o (λ all. length all ≤ len) → (more : List ℕ) × (length more ≤ len - read) × IfSome o (λ all. more ≡ drop read all)
+told_rest None read len whole = ([], omega arith, tt)
+told_rest (Some all) read len whole = let counted = length-drop read all in (drop read all, omega (arith, counted, whole), refl)
+
+-- there is something that may be left
+pub some_rest : (r : Reading) → IsMeasuredRight r → (rest : List ℕ) × IsRest r rest
+some_rest r right =
+    let more = told_rest (text_told r.told r.name) r.read r.length right.whole in
+    (r.at_hand.ahead ++ more.0, record { more = more.0; is = refl; few = more.1; told = more.2 })
+
+-- what was passed stands before what is left then
+pub passed_rest : (r : Reading) (hand : AtHand) (len : ℕ) → hand.ahead ≡ drop len r.at_hand.ahead → (rest : List ℕ) → IsRest (record r { at_hand = hand }) rest → IsRest r (take len r.at_hand.ahead ++ rest)
+passed_rest r hand len is rest h = record {
+  more = h.more;
+  is =
+      ap (λ rest. take len r.at_hand.ahead ++ rest) (h.is ∙ ap (λ ahead. ahead ++ h.more) is)
+      ∙ sym (append_assoc (take len r.at_hand.ahead) (drop len r.at_hand.ahead) h.more)
+      ∙ ap (λ ahead. ahead ++ h.more) (take-append-drop len r.at_hand.ahead);
+  few = h.few;
+  told = h.told;
+}
+
+-- what follows where a call answered
+pub where_ok : {A E : Type 0} (result : Result A E) (P Q : Type 0) → (P → Q) → OnOk result P → IfOk result (λ _. Q)
+where_ok (Ok a) P Q f p = f p
+where_ok (Err e) P Q f p = tt
+
+-- ---- what is the same
 
 -- nothing was read yet
 pub same_at_first : (r : Reading) → IsOfSame r r

@@ -1,7 +1,8 @@
 -- Examples of windows and readings.
-use Rattle.std.specs.Prelude.{◌≡◌, ◌⊎◌, ℕ, List, [], ◌∷◌, ◌++◌, length, Option, Some, option_map}
+use Rattle.std.specs.Prelude.{◌≡◌, ◌⊎◌, ℕ, List, [], ◌∷◌, ◌++◌, length}
 use Rattle.std.proofs.Common.{ap, arith, inl, inr, refl, sym, suc, zero, ◌+◌, ◌∙◌}
 use Rattle.lmn_receipt_reading.specs.Windows.{HasLine, IsWindow}
+use Rattle.lmn_receipt_reading.specs.Readings.{IsRest}
 use Rattle.lmn_receipt_reading.specs.Examples.{AllIsReady, ByteIsBehind, CutIsWindow, NameIsKept, NothingIsLost, line_and_byte, reading}
 
 -- no bytes but a line feed at the end have a byte behind one
@@ -33,20 +34,28 @@ no_line h = none h.line h.holds
     none (x ∷ xs) e = cc
 
 pub all_is_ready : AllIsReady
-all_is_ready = (refl, refl, record { within = omega arith; whole = omega arith }, λ r. not r.ahead, record { right = record { within = omega arith; whole = omega arith }; ahead = inl refl })
+all_is_ready = (record { more = line_and_byte; is = refl; few = omega arith; told = refl }, λ h. nothing_left h, refl, record { within = omega arith; whole = omega arith }, λ r. not r.ahead, record { right = record { within = omega arith; whole = omega arith }; ahead = inl refl })
   where
     not : (◌≡◌ {A = ℕ} 0 3) ⊎ HasLine [] → ⊥
     not (inl e) = absurd (omega (arith, e))
     not (inr h) = no_line h
 
+    nothing_left : IsRest (reading 0 []) [] → ⊥
+    nothing_left h = let e : [] ≡ line_and_byte = h.is ∙ h.told in cc
+
 pub nothing_is_lost : NothingIsLost
 nothing_is_lost = (
-  record { right = record { within = omega arith; whole = omega arith }; last = refl; rest = refl; left = omega arith },
-  λ r. let e = ap (λ (o : Option (List ℕ)). option_map length o) r.rest in absurd (few e),
+  record { right = record { within = omega arith; whole = omega arith }; last = refl; rest = λ rest h. all rest h; left = omega arith },
+  λ r. lost (r.rest (97 ∷ []) record { more = []; is = refl; few = omega arith; told = refl }),
 )
   where
-    few : ◌≡◌ {A = Option ℕ} (Some 1) (Some 3) → ⊥
-    few e = cc
+    all : (rest : List ℕ) → IsRest (reading 3 line_and_byte) rest → IsRest (reading 0 []) rest
+    all rest h =
+        let e : rest ≡ line_and_byte = h.is ∙ ap (λ more. line_and_byte ++ more) h.told in
+        record { more = line_and_byte; is = e; few = omega arith; told = refl }
+
+    lost : IsRest (reading 0 []) (97 ∷ []) → ⊥
+    lost h = let e : 97 ∷ [] ≡ line_and_byte = h.is ∙ h.told in cc
 
 pub name_is_kept : NameIsKept
 name_is_kept = (

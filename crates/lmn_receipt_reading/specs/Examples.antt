@@ -1,7 +1,7 @@
 -- Examples of windows and readings.
 use Rattle.std.specs.Prelude.{◌≡◌, ℕ, List, [], ◌∷◌, Some, None}
 use Rattle.lmn_receipt_reading.specs.Windows.{AtHand, HasLine, IsWindow}
-use Rattle.lmn_receipt_reading.specs.Readings.{IsMeasuredRight, IsOfSame, IsReady, ReadFailed, Reading, ReadsOn, left_of, rest_of}
+use Rattle.lmn_receipt_reading.specs.Readings.{IsMeasuredRight, IsOfSame, IsReady, IsRest, ReadFailed, Reading, ReadsOn, left_of}
 
 -- `a`, a line feed and `b`
 abbrev pub line_and_byte : List ℕ
@@ -29,7 +29,7 @@ reading read ahead = record {
 
 -- before the beginning nothing is ready and all is left; where all was read it is
 abbrev pub AllIsReady : Type 0
-AllIsReady = (rest_of (reading 0 []) ≡ Some line_and_byte) × (left_of (reading 0 []) ≡ 3) × IsMeasuredRight (reading 0 []) × ¬ (IsReady (reading 0 [])) × IsReady (reading 3 line_and_byte)
+AllIsReady = IsRest (reading 0 []) line_and_byte × ¬ (IsRest (reading 0 []) []) × (left_of (reading 0 []) ≡ 3) × IsMeasuredRight (reading 0 []) × ¬ (IsReady (reading 0 [])) × IsReady (reading 3 line_and_byte)
 
 -- what was read is ahead, and no less
 abbrev pub NothingIsLost : Type 0

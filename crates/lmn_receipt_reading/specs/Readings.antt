@@ -1,5 +1,5 @@
 -- What is seen of a trace that is read from a shelf, line by line.
-use Rattle.std.specs.Prelude.{◌≡◌, ◌<◌, ◌≤◌, ◌⊎◌, ℕ, ◌+◌, ◌-◌, List, ◌++◌, drop, length, Option, Some, None, IfSome, option_map}
+use Rattle.std.specs.Prelude.{◌≡◌, ◌<◌, ◌≤◌, ◌⊎◌, ℕ, ◌+◌, ◌-◌, List, ◌++◌, drop, length, Option, Some, None, IfSome}
 use Rattle.lmn_io.specs.Counts.{Rose}
 use Rattle.lmn_io.specs.Texts.{Fetch}
 use Rattle.lmn_receipt_reading.specs.Windows.{AtHand, HasLine}
@@ -19,13 +19,16 @@ abbrev pub text_told : Option (List ℕ → Option (List ℕ)) → List ℕ → 
 text_told None name = None
 text_told (Some text) name = text name
 
--- what isn't met yet, where the shelf tells it: what is ahead, and what wasn't read
-abbrev pub rest_of : Reading → Option (List ℕ)
-rest_of r = option_map (λ all. r.at_hand.ahead ++ drop r.read all) (text_told r.told r.name)
-
 -- how many bytes may still come
 abbrev pub left_of : Reading → ℕ
 left_of r = (r.length - r.read) + length r.at_hand.ahead
+
+-- What may be left: what is ahead, and no more than may still come; where the text is told, what wasn't read of it.
+pub record IsRest (r : Reading) (rest : List ℕ) : Type 0 where
+  pub more : List ℕ
+  pub is : rest ≡ r.at_hand.ahead ++ more
+  pub few : length more ≤ r.length - r.read
+  pub told : IfSome (text_told r.told r.name) (λ all. more ≡ drop r.read all)
 
 -- The text isn't longer than it is held for, and no more was read.
 pub record IsMeasuredRight (r : Reading) : Type 0 where
@@ -52,5 +55,5 @@ ReadFailed before after = Rose (before.faults before.name) (after.faults before.
 pub record ReadsOn (before after : Reading) : Type 0 where
   pub right : IsMeasuredRight after
   pub last : after.at_hand.last ≡ before.at_hand.last
-  pub rest : rest_of after ≡ rest_of before
+  pub rest : (rest : List ℕ) → IsRest after rest → IsRest before rest
   pub left : left_of after ≤ left_of before

@@ -84,14 +84,14 @@ impl<'s, F: Shelf> ShelfLines<'s, F> {
 
 impl<F: Shelf> TraceLines for ShelfLines<'_, F> {
     ghost use Rattle.std.specs.Prelude.{◌≡◌};
-    ghost use Rattle.lmn_receipt_reading.specs.Readings.{IsOfSame, IsReady, ReadFailed, left_of, rest_of};
+    ghost use Rattle.lmn_receipt_reading.specs.Readings.{IsOfSame, IsReady, IsRest, ReadFailed, left_of};
     ghost use Rattle.lmn_receipt_reading.specs.Seen.{seen};
 
     ghost cuts = { Unit {0} };
 
     ghost is_ready = { λ s. IsReady (seen F.told F.asked F.faults s) };
 
-    ghost rest = { λ s. rest_of (seen F.told F.asked F.faults s) };
+    ghost is_rest = { λ s rest. IsRest (seen F.told F.asked F.faults s) rest };
 
     ghost last = { λ s. s.window.last };
 

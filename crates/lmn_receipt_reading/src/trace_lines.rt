@@ -4,15 +4,15 @@ use std::alloc::Global;
 
 /// A trace that is read line by line. At hand are the line that was met last and what is ahead, as far as the end of its first line.
 pub trait TraceLines {
-    ghost use Rattle.std.specs.Prelude.{◌≡◌, ◌<◌, ◌≤◌, ℕ, List, Option, option_map, IfOk, IfSome, IsErrOf, drop, length, take};
+    ghost use Rattle.std.specs.Prelude.{◌≡◌, ◌<◌, ◌≤◌, ◌++◌, ℕ, List, IfOk, IsErrOf, length, take};
     ghost use Rattle.lmn_receipt_reading.specs.Windows.{IsWindow};
 
     /// Whether less than all that is left may be ahead.
     ghost cuts: { Type 0 };
     /// What is asked of it. `meet` keeps it.
     ghost is_ready: { Self → Type 0 };
-    /// What isn't met yet, where that is told.
-    ghost rest: { Self → Option (List ℕ) };
+    /// What may be left, by what is known: what isn't met yet is one of these.
+    ghost is_rest: { Self → List ℕ → Type 0 };
     /// What was met last: nothing at the beginning.
     ghost last: { Self → List ℕ };
     /// What of the rest is at hand.
@@ -32,7 +32,8 @@ pub trait TraceLines {
     fn ahead(&self) -> &[u8]
         requires { is_ready self.now }
         ensures is { result.now ≡ window self.now }
-        ensures window { IfSome (rest self.now) (λ rest. IsWindow cuts rest result.now) };
+        ensures window { (rest : List ℕ) → is_rest self.now rest → IsWindow cuts rest result.now }
+        ensures some { (rest : List ℕ) × is_rest self.now rest };
 
     /// Goes behind so many bytes of what is ahead: they are what was met last.
     ///
@@ -46,7 +47,7 @@ pub trait TraceLines {
         ensures fails { IsErrOf result FetchFault.Failed → fails self.old self.new }
         ensures ready { IfOk result (λ _. is_ready self.new) }
         ensures met { IfOk result (λ _. last self.new ≡ take len (window self.old)) }
-        ensures rest { IfOk result (λ _. rest self.new ≡ option_map (drop len) (rest self.old)) }
+        ensures rest { IfOk result (λ _. (rest : List ℕ) → is_rest self.new rest → is_rest self.old (take len (window self.old) ++ rest)) }
         ensures left { IfOk result (λ _. left self.new < left self.old) };
 }
 
@@ -74,13 +75,13 @@ impl<'t> SliceLines<'t> {
 }
 
 impl TraceLines for SliceLines<'_> {
-    ghost use Rattle.std.specs.Prelude.{Some, length};
+    ghost use Rattle.std.specs.Prelude.{◌≡◌, length};
 
     ghost cuts = { ⊥ };
 
     ghost is_ready = { λ _. Unit {0} };
 
-    ghost rest = { λ lines. Some lines.rest.now };
+    ghost is_rest = { λ lines rest. rest ≡ lines.rest.now };
 
     ghost last = { λ lines. lines.met.now };
 
