@@ -127,6 +127,7 @@ pub fn leave_leaf<S: LinkStore>(
 }
 
 /// Takes back the marks of a walk, and does a deed to each of its atoms.
+#[inline(always)]
 pub fn wipe<S: LinkStore>(store: &mut S, root: (S::Atom, u8), count: u64, deed: Deed)
     requires root { IsPort (S.heap store.old) (S.atom_id root.0) root.1 }
     requires spread { (before : Heap) × (all : Bool) × (t : Spread before (S.heap store.old) (S.atom_id root.0, root.1) count all) × CanDo deed t.seen before }
