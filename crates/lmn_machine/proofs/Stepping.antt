@@ -11,7 +11,7 @@ use Rattle.lmn_instr_code.specs.Running.{HeadRegisters, HeadSize, InstructionHol
 use Rattle.lmn_machine_registers.specs.declared.registers.SetRegisters.{SetRegisters}
 use Rattle.lmn_machine_registers.specs.Agreeing.{Agrees}
 use Rattle.lmn_machine.specs.Searching.{AreHeldWhole, Compares, Extends, SetsAll, AllSet, TestsSetRegisters, Searched, Stepped, ChoosesNone, HeadInOrder, SetsMore, parts_set, integers_set}
-use Rattle.lmn_machine.specs.Outcomes.{ComparesIntegers, TestsAtoms, TestsMembranes}
+use Rattle.lmn_machine.specs.Outcomes.{ComparesIntegers, ComputesInteger, FindsPart, ReadsParts, TestsAtoms, TestsMembranes}
 use Rattle.lmn_base.proofs.Lists.{take_whole as take_all}
 
 -- tests set no register
@@ -95,6 +95,34 @@ membrane_test (NMems x n) t b c d e = c x n refl
 membrane_test (NoRules x) t b c d e = d x refl
 membrane_test (NotIn p x) t b c d e = e p x refl
 membrane_test _ t b c d e = t
+
+-- what looks for a typed context is one of three
+pub part_finding : (i : Instr) → FindsPart i → ((x : ℕ) (p : AtomPort) (y : ℕ) → i ≡ IsInt x p y → ⊥) → ((x : ℕ) (p : AtomPort) (y : ℕ) → i ≡ IsUnary x p y → ⊥) → ((x : ℕ) (p : AtomPort) (y : ℕ) → i ≡ IsGround x p y → ⊥) → ⊥
+part_finding (IsInt x p y) t b c d = b x p y refl
+part_finding (IsUnary x p y) t b c d = c x p y refl
+part_finding (IsGround x p y) t b c d = d x p y refl
+part_finding _ t b c d = t
+
+-- what reads typed contexts is one of five
+pub part_reading : (i : Instr) → ReadsParts i → ((x y : ℕ) → i ≡ EqGround x y → ⊥) → ((x y : ℕ) → i ≡ NeqGround x y → ⊥) → ((x n : ℕ) (gs : List ℕ) → i ≡ NAtoms x n gs → ⊥) → ((x : ℕ) (gs : List ℕ) → i ≡ IsClosed x gs → ⊥) →
+    ((x y : ℕ) → i ≡ GetInt x y → ⊥) → ⊥
+part_reading (EqGround x y) t b c d e f = b x y refl
+part_reading (NeqGround x y) t b c d e f = c x y refl
+part_reading (NAtoms x n gs) t b c d e f = d x n gs refl
+part_reading (IsClosed x gs) t b c d e f = e x gs refl
+part_reading (GetInt x y) t b c d e f = f x y refl
+part_reading _ t b c d e f = t
+
+-- what computes an integer is one of six
+pub computation : (i : Instr) → ComputesInteger i → ((x : ℕ) (z : ℤ) → i ≡ Const x z → ⊥) → ((x y z : ℕ) → i ≡ Add x y z → ⊥) → ((x y z : ℕ) → i ≡ Sub x y z → ⊥) → ((x y z : ℕ) → i ≡ Mul x y z → ⊥) → ((x y z : ℕ) → i ≡ Div x y z → ⊥) →
+    ((x y z : ℕ) → i ≡ Mod x y z → ⊥) → ⊥
+computation (Const x z) t b c d e f k = b x z refl
+computation (Add x y z) t b c d e f k = c x y z refl
+computation (Sub x y z) t b c d e f k = d x y z refl
+computation (Mul x y z) t b c d e f k = e x y z refl
+computation (Div x y z) t b c d e f k = f x y z refl
+computation (Mod x y z) t b c d e f k = k x y z refl
+computation _ t b c d e f k = t
 
 -- a test of atoms, in order, reads registers that are set
 pub atom_test_reads : (i : Instr) (a m g v : ℕ) → TestsAtoms i → HeadInOrder a m g v (i ∷ []) → TestsSetRegisters a m v i

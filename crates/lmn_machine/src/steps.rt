@@ -4,7 +4,7 @@ ghost use Rattle.lmn_instr_code.specs.Running.{HeadRegisters, HeadSize, Instruct
 ghost use Rattle.lmn_store_heap.specs.Heap.{Heap, Unmarked};
 ghost use Rattle.lmn_machine_registers.specs.Agreeing.{Agrees};
 ghost use Rattle.lmn_machine.specs.Searching.{AreHeldWhole, Compares, TestsSetRegisters, HeadInOrder, HasGiven, HasGivenPart, Stepped};
-ghost use Rattle.lmn_machine.specs.Outcomes.{ComparesIntegers, HasOutcome, Tells, TestsAtoms, TestsMembranes};
+ghost use Rattle.lmn_machine.specs.Outcomes.{ComparesIntegers, ComputesInteger, FindsPart, HasOutcome, ReadsParts, Tells, TestsAtoms, TestsMembranes};
 ghost use Rattle.lmn_instr_code.specs.declared.instr.Instr.TheVariants.{Deref};
 
 use crate::{checks, integers, others, parts, rests, whole};
@@ -250,9 +250,9 @@ fn run_comparison<S: LinkStore>(
     outcome_of(compare(set, instr))
 }
 
-/// Runs an instruction, unless it makes a choice.
+/// Runs an instruction that looks for a typed context.
 #[inline(always)]
-pub fn step<S: LinkStore>(
+fn find_part<S: LinkStore>(
     store: &mut S,
     set: &mut SetRegisters<S::Atom, S::Mem>,
     instr: &Instr,
@@ -261,13 +261,11 @@ pub fn step<S: LinkStore>(
     requires unmarked { Unmarked (S.heap store.old) }
     requires held { AreHeldWhole S.atom_id S.mem_id (S.heap store.old) set.old }
     requires order { HeadInOrder (length set.old.atoms) (length set.old.membranes) (length set.old.parts) (length set.old.integers) (instr.now ∷ []) }
+    requires finds { FindsPart instr.now }
     ensures same { S.heap store.new ≡ S.heap store.old }
     ensures stepped { HasOutcome S.atom_id S.mem_id (S.heap store.old) set.old set.new result instr.now }
 {
     match instr {
-        Instr::FindAtom { .. } => Outcome::ChoosesAtom,
-        Instr::AnyMem { .. } => Outcome::ChoosesMembrane,
-        Instr::Deref { from, port, .. } => outcome_of(follow(store, set, *from, *port)),
         Instr::IsInt { port, membrane, .. } => {
             let from = set.atoms.at(port.atom as usize);
             let place = set.membranes.at(*membrane as usize);
@@ -287,6 +285,26 @@ pub fn step<S: LinkStore>(
             let root = whole::whole_end(store, from, port.port, place, &set.atoms);
             outcome_of(set_part(set, root))
         }
+        _ => Outcome::Fails,
+    }
+}
+
+/// Runs an instruction that reads typed contexts which are set.
+#[inline(always)]
+fn read_parts<S: LinkStore>(
+    store: &mut S,
+    set: &mut SetRegisters<S::Atom, S::Mem>,
+    instr: &Instr,
+) -> Outcome
+    requires valid { Valid (S.heap store.old) }
+    requires unmarked { Unmarked (S.heap store.old) }
+    requires held { AreHeldWhole S.atom_id S.mem_id (S.heap store.old) set.old }
+    requires order { HeadInOrder (length set.old.atoms) (length set.old.membranes) (length set.old.parts) (length set.old.integers) (instr.now ∷ []) }
+    requires reads { ReadsParts instr.now }
+    ensures same { S.heap store.new ≡ S.heap store.old }
+    ensures stepped { HasOutcome S.atom_id S.mem_id (S.heap store.old) set.old set.new result instr.now }
+{
+    match instr {
         Instr::EqGround { part, other } => {
             let root = set.parts.at(*part as usize);
             let other_root = set.parts.at(*other as usize);
@@ -314,6 +332,18 @@ pub fn step<S: LinkStore>(
             let value = parts::integer_of(store, root.0);
             outcome_of(set_integer(set, value))
         }
+        _ => Outcome::Fails,
+    }
+}
+
+/// Runs an instruction that sets an integer by a constant or by two that are set.
+#[inline(always)]
+fn compute<A: Copy, M: Copy>(set: &mut SetRegisters<A, M>, instr: &Instr) -> Outcome
+    requires order { HeadInOrder (length set.old.atoms) (length set.old.membranes) (length set.old.parts) (length set.old.integers) (instr.now ∷ []) }
+    requires computes { ComputesInteger instr.now }
+    ensures { (atom : A → ℕ) (membrane : M → ℕ) (h : Heap) → AreHeldWhole atom membrane h set.old → HasOutcome atom membrane h set.old set.new result instr.now }
+{
+    match instr {
         Instr::Const { value, .. } => {
             let number = integers::constant(value);
             outcome_of(set_integer(set, number))
@@ -353,8 +383,44 @@ pub fn step<S: LinkStore>(
             );
             outcome_of(set_integer(set, value))
         }
+        _ => Outcome::Fails,
+    }
+}
+
+/// Runs an instruction, unless it makes a choice.
+#[inline(always)]
+pub fn step<S: LinkStore>(
+    store: &mut S,
+    set: &mut SetRegisters<S::Atom, S::Mem>,
+    instr: &Instr,
+) -> Outcome
+    requires valid { Valid (S.heap store.old) }
+    requires unmarked { Unmarked (S.heap store.old) }
+    requires held { AreHeldWhole S.atom_id S.mem_id (S.heap store.old) set.old }
+    requires order { HeadInOrder (length set.old.atoms) (length set.old.membranes) (length set.old.parts) (length set.old.integers) (instr.now ∷ []) }
+    ensures same { S.heap store.new ≡ S.heap store.old }
+    ensures stepped { HasOutcome S.atom_id S.mem_id (S.heap store.old) set.old set.new result instr.now }
+{
+    match instr {
+        Instr::FindAtom { .. } => Outcome::ChoosesAtom,
+        Instr::AnyMem { .. } => Outcome::ChoosesMembrane,
+        Instr::Deref { from, port, .. } => outcome_of(follow(store, set, *from, *port)),
         // Each of these is an arm of its own, so that one jump leads to what it does. It calls what knows its kind alone: `step` is
         // to be small enough to be a part of both searches.
+        Instr::IsInt { .. } => find_part(store, set, instr),
+        Instr::IsUnary { .. } => find_part(store, set, instr),
+        Instr::IsGround { .. } => find_part(store, set, instr),
+        Instr::EqGround { .. } => read_parts(store, set, instr),
+        Instr::NeqGround { .. } => read_parts(store, set, instr),
+        Instr::NAtoms { .. } => read_parts(store, set, instr),
+        Instr::IsClosed { .. } => read_parts(store, set, instr),
+        Instr::GetInt { .. } => read_parts(store, set, instr),
+        Instr::Const { .. } => compute(set, instr),
+        Instr::Add { .. } => compute(set, instr),
+        Instr::Sub { .. } => compute(set, instr),
+        Instr::Mul { .. } => compute(set, instr),
+        Instr::Div { .. } => compute(set, instr),
+        Instr::Mod { .. } => compute(set, instr),
         Instr::Func { .. } => run_atom_test(store, set, instr),
         Instr::InMem { .. } => run_atom_test(store, set, instr),
         Instr::NeqAtom { .. } => run_atom_test(store, set, instr),
