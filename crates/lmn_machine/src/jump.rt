@@ -132,8 +132,6 @@ fn search_atoms<S: LinkStore>(
     ensures same { S.heap store.new ≡ S.heap store.old }
     ensures ended { Ended S.atom_id S.mem_id (S.heap store.old) reasons.now set.old set.new result (drop at code.now) }
 {
-    let _root = store.root();
-    let _code = code.len();
     let own = reasons.of_atom(set.atoms.len());
     let mut named = reasons.of_membrane(inside as usize);
     let mut candidate = store.first_with(place, functor);
@@ -172,13 +170,14 @@ fn try_atom<S: LinkStore>(
     ensures tried { Tried S.atom_id S.mem_id (S.heap store.old) reasons.now set.old (with_atom set.old atom) set.new result (drop (at + 1) code.now) }
 {
     let _code = code.len();
+    let rest = at + 1;
     let (atoms, membranes) = (set.atoms.len(), set.membranes.len());
     let (parts, integers) = (set.parts.len(), set.integers.len());
-    if !alone::may_stand(store, code, at + 1, atoms, atom) {
+    if !alone::may_stand(store, code, rest, atoms, atom) {
         return Err(reasons.of_atom(atoms));
     }
     set.atoms.push(atom);
-    match search(store, code, reasons, at + 1, set) {
+    match search(store, code, reasons, rest, set) {
         Ok(()) => Ok(()),
         Err(failed) => {
             set.keep(atoms, membranes, parts, integers);
@@ -241,8 +240,6 @@ fn search_home<S: LinkStore>(
     ensures same { S.heap store.new ≡ S.heap store.old }
     ensures ended { Ended S.atom_id S.mem_id (S.heap store.old) reasons.now set.old set.new result (drop at code.now) }
 {
-    let _root = store.root();
-    let _code = code.len();
     let from = set.atoms.at(port.atom as usize);
     let named = reasons.of_both(port.atom, inside);
     match hanging::home_behind(store, from, port.port, place) {
@@ -275,8 +272,6 @@ fn try_membranes<S: LinkStore>(
     ensures same { S.heap store.new ≡ S.heap store.old }
     ensures ended { Ended S.atom_id S.mem_id (S.heap store.old) reasons.now set.old set.new result (drop at code.now) }
 {
-    let _root = store.root();
-    let _code = code.len();
     let own = reasons.of_membrane(set.membranes.len());
     let mut named = reasons.of_membrane(inside as usize);
     let mut candidate = store.first_mem(place);
@@ -315,13 +310,14 @@ fn try_membrane<S: LinkStore>(
     ensures tried { Tried S.atom_id S.mem_id (S.heap store.old) reasons.now set.old (with_membrane set.old membrane) set.new result (drop (at + 1) code.now) }
 {
     let _code = code.len();
+    let rest = at + 1;
     let (atoms, membranes) = (set.atoms.len(), set.membranes.len());
     let (parts, integers) = (set.parts.len(), set.integers.len());
-    if !enough::holds_enough(store, code, at + 1, membranes, membrane) {
+    if !enough::holds_enough(store, code, rest, membranes, membrane) {
         return Err(reasons.of_membrane(membranes));
     }
     set.membranes.push(membrane);
-    match search(store, code, reasons, at + 1, set) {
+    match search(store, code, reasons, rest, set) {
         Ok(()) => Ok(()),
         Err(failed) => {
             set.keep(atoms, membranes, parts, integers);

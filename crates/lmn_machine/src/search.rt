@@ -186,7 +186,6 @@ fn search_atoms<S: LinkStore>(
     ensures same { S.heap store.new ≡ S.heap store.old }
     ensures searched { Lasted patience.new.left S.atom_id S.mem_id (S.heap store.old) set.old set.new result (drop at code.now) }
 {
-    let _root = store.root();
     let _code = code.len();
     let rest = at + 1;
     let (atoms, membranes) = (set.atoms.len(), set.membranes.len());
@@ -257,7 +256,6 @@ fn search_home<S: LinkStore>(
     ensures same { S.heap store.new ≡ S.heap store.old }
     ensures searched { Lasted patience.new.left S.atom_id S.mem_id (S.heap store.old) set.old set.new result (drop at code.now) }
 {
-    let _root = store.root();
     let _code = code.len();
     let rest = at + 1;
     match ahead::home_within(store, guest, place) {
@@ -293,7 +291,6 @@ fn search_membranes<S: LinkStore>(
     ensures same { S.heap store.new ≡ S.heap store.old }
     ensures searched { Lasted patience.new.left S.atom_id S.mem_id (S.heap store.old) set.old set.new result (drop at code.now) }
 {
-    let _root = store.root();
     let _code = code.len();
     let rest = at + 1;
     let (atoms, membranes) = (set.atoms.len(), set.membranes.len());

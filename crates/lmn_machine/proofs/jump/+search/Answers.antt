@@ -125,7 +125,7 @@ pub search_atoms-returns-in-Ok-clause-ended : goal.search_atoms-returns-in-Ok-cl
 search_atoms-returns-in-Ok-clause-ended g t c =
     let there = subst (λ o. IfSome o (λ a. (functor_of (g.S.LinkStore.heap c.args.store.now) (g.S.LinkStore.atom_id a) ≡ Some c.args.functor) × (home_of (g.S.LinkStore.heap c.args.store.now) (g.S.LinkStore.atom_id a) ≡ Some (g.S.LinkStore.mem_id c.args.place)))) c.in-Some.is c.loop-candidate.invariant.there in
     let left = subst (λ o. AtomsLeftOn g.S.LinkStore.atom_id g.S.LinkStore.mem_id (g.S.LinkStore.heap c.args.store.now) c.args.reasons.now c.loop-candidate.named c.args.set.now (drop c.args.at c.args.code.now) c.args.functor c.args.place o) c.in-Some.is c.loop-candidate.invariant.left in
-    atoms_found g.S.LinkStore.atom_id g.S.LinkStore.mem_id (g.S.LinkStore.heap c.args.store.now) c.args.set.now c.try_atom.new.set (drop c.args.at c.args.code.now) (drop (c.args.at + 1) c.args.code.now) c.args.functor c.args.inside c.args.place c.in-Some.atom (drop_get c.args.at c.args.code.now (FindAtom (length c.args.set.now.atoms) c.args.inside c.args.functor) c.requires.at) c.requires.place c.root-root.ensures.sound.listed there.1 there.0
+    atoms_found g.S.LinkStore.atom_id g.S.LinkStore.mem_id (g.S.LinkStore.heap c.args.store.now) c.args.set.now c.try_atom.new.set (drop c.args.at c.args.code.now) (drop (c.args.at + 1) c.args.code.now) c.args.functor c.args.inside c.args.place c.in-Some.atom (drop_get c.args.at c.args.code.now (FindAtom (length c.args.set.now.atoms) c.args.inside c.args.functor) c.requires.at) c.requires.place c.requires.valid.sound.listed there.1 there.0
     (atoms_left g.S.LinkStore.atom_id g.S.LinkStore.mem_id (g.S.LinkStore.heap c.args.store.now) c.args.reasons.now c.loop-candidate.named c.args.set.now (drop c.args.at c.args.code.now) c.args.functor c.args.place (Some c.in-Some.atom) left)
     (subst (λ k. Searched g.S.LinkStore.atom_id g.S.LinkStore.mem_id (g.S.LinkStore.heap c.args.store.now) (with_atom k c.in-Some.atom) c.try_atom.new.set true (drop (c.args.at + 1) c.args.code.now)) c.loop-candidate.invariant.set
     (subst (λ h. Searched g.S.LinkStore.atom_id g.S.LinkStore.mem_id h (with_atom c.loop-candidate.set c.in-Some.atom) c.try_atom.new.set true (drop (c.args.at + 1) c.args.code.now)) c.loop-candidate.invariant.same c.in-Ok.ensures.tried))
@@ -183,7 +183,7 @@ search_home-returns-in-None-clause-ended g t c =
 pub search_home-returns-in-Ok-clause-ended : goal.search_home-returns-in-Ok-clause-ended
 search_home-returns-in-Ok-clause-ended g t c =
     let only = subst (λ o. OnlyOneOn g.S.LinkStore.atom_id g.S.LinkStore.mem_id (g.S.LinkStore.heap c.args.store.now) c.args.reasons.now c.of_both-named.result c.args.set.now (drop c.args.at c.args.code.now) o) c.in-Some.is (only_home_on g.S.LinkStore.atom_id g.S.LinkStore.mem_id (g.S.LinkStore.heap c.args.store.now) c.args.reasons.now c.of_both-named.result c.args.set.now c.args.code.now (drop c.args.at c.args.code.now) (c.args.at + 1) c.args.inside c.args.place c.args.port c.at-from.result c.home_behind.result (drop_get c.args.at c.args.code.now (AnyMem (length c.args.set.now.membranes) c.args.inside) c.requires.at) c.requires.place c.of_both-named.ensures.membrane c.at-from.ensures c.of_both-named.ensures.atom c.requires.hangs c.home_behind.ensures.only) in
-    membranes_found g.S.LinkStore.atom_id g.S.LinkStore.mem_id (g.S.LinkStore.heap c.args.store.now) c.args.set.now c.try_membrane.new.set (drop c.args.at c.args.code.now) (drop (c.args.at + 1) c.args.code.now) c.args.inside c.args.place c.in-Some.membrane (drop_get c.args.at c.args.code.now (AnyMem (length c.args.set.now.membranes) c.args.inside) c.requires.at) c.requires.place c.root-root.ensures.sound.listed c.in-Some.ensures.parent
+    membranes_found g.S.LinkStore.atom_id g.S.LinkStore.mem_id (g.S.LinkStore.heap c.args.store.now) c.args.set.now c.try_membrane.new.set (drop c.args.at c.args.code.now) (drop (c.args.at + 1) c.args.code.now) c.args.inside c.args.place c.in-Some.membrane (drop_get c.args.at c.args.code.now (AnyMem (length c.args.set.now.membranes) c.args.inside) c.requires.at) c.requires.place c.requires.valid.sound.listed c.in-Some.ensures.parent
     (membranes_left g.S.LinkStore.atom_id g.S.LinkStore.mem_id (g.S.LinkStore.heap c.args.store.now) c.args.reasons.now c.of_both-named.result c.args.set.now (drop c.args.at c.args.code.now) c.args.place (Some c.in-Some.membrane)
     (only_left_on g.S.LinkStore.atom_id g.S.LinkStore.mem_id (g.S.LinkStore.heap c.args.store.now) c.args.reasons.now c.of_both-named.result c.args.set.now (drop c.args.at c.args.code.now) c.args.place (Some c.in-Some.membrane) only)) c.in-Ok.ensures.tried
 
@@ -233,7 +233,7 @@ pub try_membranes-returns-in-Ok-clause-ended : goal.try_membranes-returns-in-Ok-
 try_membranes-returns-in-Ok-clause-ended g t c =
     let there = subst (λ o. IfSome o (λ m. parent_of (g.S.LinkStore.heap c.args.store.now) (g.S.LinkStore.mem_id m) ≡ Some (g.S.LinkStore.mem_id c.args.place))) c.in-Some.is c.loop-candidate.invariant.there in
     let left = subst (λ o. MembranesLeftOn g.S.LinkStore.atom_id g.S.LinkStore.mem_id (g.S.LinkStore.heap c.args.store.now) c.args.reasons.now c.loop-candidate.named c.args.set.now (drop c.args.at c.args.code.now) c.args.place o) c.in-Some.is c.loop-candidate.invariant.left in
-    membranes_found g.S.LinkStore.atom_id g.S.LinkStore.mem_id (g.S.LinkStore.heap c.args.store.now) c.args.set.now c.try_membrane.new.set (drop c.args.at c.args.code.now) (drop (c.args.at + 1) c.args.code.now) c.args.inside c.args.place c.in-Some.membrane (drop_get c.args.at c.args.code.now (AnyMem (length c.args.set.now.membranes) c.args.inside) c.requires.at) c.requires.place c.root-root.ensures.sound.listed there
+    membranes_found g.S.LinkStore.atom_id g.S.LinkStore.mem_id (g.S.LinkStore.heap c.args.store.now) c.args.set.now c.try_membrane.new.set (drop c.args.at c.args.code.now) (drop (c.args.at + 1) c.args.code.now) c.args.inside c.args.place c.in-Some.membrane (drop_get c.args.at c.args.code.now (AnyMem (length c.args.set.now.membranes) c.args.inside) c.requires.at) c.requires.place c.requires.valid.sound.listed there
     (membranes_left g.S.LinkStore.atom_id g.S.LinkStore.mem_id (g.S.LinkStore.heap c.args.store.now) c.args.reasons.now c.loop-candidate.named c.args.set.now (drop c.args.at c.args.code.now) c.args.place (Some c.in-Some.membrane) left)
     (subst (λ k. Searched g.S.LinkStore.atom_id g.S.LinkStore.mem_id (g.S.LinkStore.heap c.args.store.now) (with_membrane k c.in-Some.membrane) c.try_membrane.new.set true (drop (c.args.at + 1) c.args.code.now)) c.loop-candidate.invariant.set
     (subst (λ h. Searched g.S.LinkStore.atom_id g.S.LinkStore.mem_id h (with_membrane c.loop-candidate.set c.in-Some.membrane) c.try_membrane.new.set true (drop (c.args.at + 1) c.args.code.now)) c.loop-candidate.invariant.same c.in-Ok.ensures.tried))
@@ -354,3 +354,21 @@ try_atom-may_stand-requires g t c = atom_there ((g.S.LinkStore.heap c.args.store
 
 pub try_membrane-holds_enough-requires-clause-there : goal.try_membrane-holds_enough-requires-clause-there
 try_membrane-holds_enough-requires-clause-there g t c = has_parent ((g.S.LinkStore.heap c.args.store.now).mems (g.S.LinkStore.mem_id c.args.membrane)) c.requires.at.1 c.requires.at.3
+
+pub try_atom-overflow_add-rest : goal.try_atom-overflow_add-rest
+try_atom-overflow_add-rest g t c =
+    let below : c.args.at < length c.args.code.now = slice_get_within c.args.code.now c.args.at (FindAtom (length c.args.set.now.atoms) c.requires.at.0 c.requires.at.1) c.requires.at.2 in
+    let len = c.len-code.ensures.len in
+    let few = c.len-code.ensures.few in omega (arith, below, len, few)
+
+pub try_membrane-overflow_add-rest : goal.try_membrane-overflow_add-rest
+try_membrane-overflow_add-rest g t c =
+    let below : c.args.at < length c.args.code.now = slice_get_within c.args.code.now c.args.at (AnyMem (length c.args.set.now.membranes) c.requires.at.0) c.requires.at.2 in
+    let len = c.len-code.ensures.len in
+    let few = c.len-code.ensures.few in omega (arith, below, len, few)
+
+pub search_membranes-overflow_add-at : goal.search_membranes-overflow_add-at
+search_membranes-overflow_add-at g t c =
+    let below : c.args.at < length c.args.code.now = slice_get_within c.args.code.now c.args.at (AnyMem (length c.args.set.now.membranes) c.args.inside) c.requires.at in
+    let len = c.len-code.ensures.len in
+    let few = c.len-code.ensures.few in omega (arith, below, len, few)

@@ -316,7 +316,7 @@ search_atoms-returns-then-search-clause-searched g t c =
     let code = drop_get c.args.at c.args.code.now (FindAtom (length c.args.set.now.atoms) c.requires.at.0 c.args.functor) c.requires.at.1 in
     let left = subst (λ o. AtomsLeft g.S.LinkStore.atom_id g.S.LinkStore.mem_id (g.S.LinkStore.heap c.args.store.now) c.args.set.now (drop c.args.at c.args.code.now) c.args.functor c.args.place o) c.in-Some.is c.loop-candidate.invariant.left in
     lasted g.S.LinkStore.atom_id g.S.LinkStore.mem_id (g.S.LinkStore.heap c.args.store.now) _ _ _ _ _ (atoms_found g.S.LinkStore.atom_id g.S.LinkStore.mem_id (g.S.LinkStore.heap c.args.store.now) c.args.set.now c.search.new.set (drop c.args.at c.args.code.now) (drop (c.args.at + 1) c.args.code.now) c.args.functor c.requires.at.0 c.args.place c.in-Some.atom code c.requires.at.2
-    c.root-root.ensures.sound.listed there.1 there.0 left
+    c.requires.valid.sound.listed there.1 there.0 left
     (subst (λ k. Searched g.S.LinkStore.atom_id g.S.LinkStore.mem_id (g.S.LinkStore.heap c.args.store.now) k c.search.new.set true (drop (c.args.at + 1) c.args.code.now)) more (subst (λ b. Searched g.S.LinkStore.atom_id g.S.LinkStore.mem_id (g.S.LinkStore.heap c.args.store.now) (having_atoms c.loop-candidate.set c.push.new.self) c.search.new.set b (drop (c.args.at + 1) c.args.code.now)) c.if-search.true
     (subst (λ h. Searched g.S.LinkStore.atom_id g.S.LinkStore.mem_id h (having_atoms c.loop-candidate.set c.push.new.self) c.search.new.set c.search.result (drop (c.args.at + 1) c.args.code.now)) c.loop-candidate.invariant.same (c.search.ensures.searched.found c.if-search.true)))))
 
@@ -396,7 +396,7 @@ search_home-returns-then-search-clause-searched g t c =
     let only = subst (λ o. OnlyOne g.S.LinkStore.atom_id g.S.LinkStore.mem_id (g.S.LinkStore.heap c.args.store.now) c.args.set.now (drop c.args.at c.args.code.now) o) c.in-Some.is
     (only_home g.S.LinkStore.atom_id g.S.LinkStore.mem_id (g.S.LinkStore.heap c.args.store.now) c.args.set.now (drop c.args.at c.args.code.now) (drop (c.args.at + 1) c.args.code.now) c.requires.at.0 c.args.place (g.S.LinkStore.atom_id c.args.guest) c.home_within.result (drop_get c.args.at c.args.code.now (AnyMem (length c.args.set.now.membranes) c.requires.at.0) c.requires.at.1) c.requires.at.2 c.requires.guest c.home_within.ensures.only) in
     let searched = subst (λ k. Searched g.S.LinkStore.atom_id g.S.LinkStore.mem_id (g.S.LinkStore.heap c.args.store.now) k c.search.new.set true (drop (c.args.at + 1) c.args.code.now)) more (subst (λ b. Searched g.S.LinkStore.atom_id g.S.LinkStore.mem_id (g.S.LinkStore.heap c.args.store.now) (having_membranes c.args.set.now c.push.new.self) c.search.new.set b (drop (c.args.at + 1) c.args.code.now)) c.if-search.true (c.search.ensures.searched.found c.if-search.true)) in
-    lasted g.S.LinkStore.atom_id g.S.LinkStore.mem_id (g.S.LinkStore.heap c.args.store.now) _ _ _ _ _ (membranes_found g.S.LinkStore.atom_id g.S.LinkStore.mem_id (g.S.LinkStore.heap c.args.store.now) c.args.set.now c.search.new.set (drop c.args.at c.args.code.now) (drop (c.args.at + 1) c.args.code.now) c.requires.at.0 c.args.place c.in-Some.membrane (drop_get c.args.at c.args.code.now (AnyMem (length c.args.set.now.membranes) c.requires.at.0) c.requires.at.1) c.requires.at.2 c.root-root.ensures.sound.listed c.in-Some.ensures.parent
+    lasted g.S.LinkStore.atom_id g.S.LinkStore.mem_id (g.S.LinkStore.heap c.args.store.now) _ _ _ _ _ (membranes_found g.S.LinkStore.atom_id g.S.LinkStore.mem_id (g.S.LinkStore.heap c.args.store.now) c.args.set.now c.search.new.set (drop c.args.at c.args.code.now) (drop (c.args.at + 1) c.args.code.now) c.requires.at.0 c.args.place c.in-Some.membrane (drop_get c.args.at c.args.code.now (AnyMem (length c.args.set.now.membranes) c.requires.at.0) c.requires.at.1) c.requires.at.2 c.requires.valid.sound.listed c.in-Some.ensures.parent
     (only_left g.S.LinkStore.atom_id g.S.LinkStore.mem_id (g.S.LinkStore.heap c.args.store.now) c.args.set.now (drop c.args.at c.args.code.now) c.args.place (Some c.in-Some.membrane) only) searched)
 
 pub search_home-returns-else-search-clause-searched : goal.search_home-returns-else-search-clause-searched
@@ -502,7 +502,7 @@ search_membranes-returns-then-search-clause-searched g t c =
     let code = drop_get c.args.at c.args.code.now (AnyMem (length c.args.set.now.membranes) c.requires.at.0) c.requires.at.1 in
     let left = subst (λ o. MembranesLeft g.S.LinkStore.atom_id g.S.LinkStore.mem_id (g.S.LinkStore.heap c.args.store.now) c.args.set.now (drop c.args.at c.args.code.now) c.args.place o) c.in-Some.is c.loop-candidate.invariant.left in
     lasted g.S.LinkStore.atom_id g.S.LinkStore.mem_id (g.S.LinkStore.heap c.args.store.now) _ _ _ _ _ (membranes_found g.S.LinkStore.atom_id g.S.LinkStore.mem_id (g.S.LinkStore.heap c.args.store.now) c.args.set.now c.search.new.set (drop c.args.at c.args.code.now) (drop (c.args.at + 1) c.args.code.now) c.requires.at.0 c.args.place c.in-Some.membrane code c.requires.at.2
-    c.root-root.ensures.sound.listed there left
+    c.requires.valid.sound.listed there left
     (subst (λ k. Searched g.S.LinkStore.atom_id g.S.LinkStore.mem_id (g.S.LinkStore.heap c.args.store.now) k c.search.new.set true (drop (c.args.at + 1) c.args.code.now)) more (subst (λ b. Searched g.S.LinkStore.atom_id g.S.LinkStore.mem_id (g.S.LinkStore.heap c.args.store.now) (having_membranes c.loop-candidate.set c.push.new.self) c.search.new.set b (drop (c.args.at + 1) c.args.code.now)) c.if-search.true
     (subst (λ h. Searched g.S.LinkStore.atom_id g.S.LinkStore.mem_id h (having_membranes c.loop-candidate.set c.push.new.self) c.search.new.set c.search.result (drop (c.args.at + 1) c.args.code.now)) c.loop-candidate.invariant.same (c.search.ensures.searched.found c.if-search.true)))))
 
@@ -527,3 +527,27 @@ search-step-requires g t c =
       order = order_first c.at-instr.result.now (length c.loop-i.set.atoms) (length c.loop-i.set.membranes) (length c.loop-i.set.parts) (length c.loop-i.set.integers) (drop (c.loop-i.i + 1) c.args.code.now)
           (subst (λ left. HeadInOrder (length c.loop-i.set.atoms) (length c.loop-i.set.membranes) (length c.loop-i.set.parts) (length c.loop-i.set.integers) left) ahead c.loop-i.invariant.passed.order);
     }
+
+pub search_atoms-overflow_add-rest : goal.search_atoms-overflow_add-rest
+search_atoms-overflow_add-rest g t c =
+    let below : c.args.at < length c.args.code.now = slice_get_within c.args.code.now c.args.at (FindAtom (length c.args.set.now.atoms) c.requires.at.0 c.args.functor) c.requires.at.1 in
+    let len = c.len-code.ensures.len in
+    let few = c.len-code.ensures.few in omega (arith, below, len, few)
+
+pub search_membrane-overflow_add-at : goal.search_membrane-overflow_add-at
+search_membrane-overflow_add-at g t c =
+    let below : c.args.at < length c.args.code.now = slice_get_within c.args.code.now c.args.at (AnyMem (length c.args.set.now.membranes) c.requires.at.0) c.requires.at.1 in
+    let len = c.len-code.ensures.len in
+    let few = c.len-code.ensures.few in omega (arith, below, len, few)
+
+pub search_home-overflow_add-rest : goal.search_home-overflow_add-rest
+search_home-overflow_add-rest g t c =
+    let below : c.args.at < length c.args.code.now = slice_get_within c.args.code.now c.args.at (AnyMem (length c.args.set.now.membranes) c.requires.at.0) c.requires.at.1 in
+    let len = c.len-code.ensures.len in
+    let few = c.len-code.ensures.few in omega (arith, below, len, few)
+
+pub search_membranes-overflow_add-rest : goal.search_membranes-overflow_add-rest
+search_membranes-overflow_add-rest g t c =
+    let below : c.args.at < length c.args.code.now = slice_get_within c.args.code.now c.args.at (AnyMem (length c.args.set.now.membranes) c.requires.at.0) c.requires.at.1 in
+    let len = c.len-code.ensures.len in
+    let few = c.len-code.ensures.few in omega (arith, below, len, few)
