@@ -81,7 +81,8 @@ fn choose_atom<S: LinkStore>(
     }
 }
 
-/// Tries the candidates of an ANYMEM.
+/// Tries the candidates of an ANYMEM. Where a link leads from what is set into the membrane that is looked for, it is the only
+/// candidate.
 #[cycle(search)]
 fn choose_membrane<S: LinkStore>(
     store: &mut S,
@@ -103,8 +104,13 @@ fn choose_membrane<S: LinkStore>(
 {
     match instr {
         Instr::AnyMem { inside, .. } => {
+            let _code = code.len();
             let place = set.membranes.at(*inside as usize);
-            search_membranes(store, code, reasons, at, *inside, place, set)
+            let (atoms, membranes) = (set.atoms.len(), set.membranes.len());
+            match hanging::hangs_by(code, at + 1, membranes, atoms) {
+                Some(port) => search_home(store, code, reasons, at, *inside, place, port, set),
+                None => try_membranes(store, code, reasons, at, *inside, place, set),
+            }
         }
         _ => Err(Choices::All),
     }
@@ -183,36 +189,6 @@ fn try_atom<S: LinkStore>(
             set.keep(atoms, membranes, parts, integers);
             Err(failed)
         }
-    }
-}
-
-/// Tries the membranes in a membrane for the next register. Where a link leads from what is set into the one that is looked
-/// for, it is the only candidate.
-#[cycle(search)]
-fn search_membranes<S: LinkStore>(
-    store: &mut S,
-    code: &Instrs<'_>,
-    reasons: &Reasons,
-    at: usize,
-    inside: u16,
-    place: S::Mem,
-    set: &mut SetRegisters<S::Atom, S::Mem>,
-) -> Result<(), Choices>
-    requires valid { Valid (S.heap store.old) }
-    requires unmarked { Unmarked (S.heap store.old) }
-    requires held { AreHeldWhole S.atom_id S.mem_id (S.heap store.old) set.old }
-    requires at { slice_get code.now at ≡ Some (AnyMem (length set.old.membranes) inside) }
-    requires place { slice_get set.old.membranes inside ≡ Some place }
-    requires order { HeadInOrder (length set.old.atoms) (length set.old.membranes) (length set.old.parts) (length set.old.integers) (drop at code.now) }
-    requires rest { AllRestWell reasons.now code.now }
-    ensures same { S.heap store.new ≡ S.heap store.old }
-    ensures ended { Ended S.atom_id S.mem_id (S.heap store.old) reasons.now set.old set.new result (drop at code.now) }
-{
-    let _code = code.len();
-    let (atoms, membranes) = (set.atoms.len(), set.membranes.len());
-    match hanging::hangs_by(code, at + 1, membranes, atoms) {
-        Some(port) => search_home(store, code, reasons, at, inside, place, port, set),
-        None => try_membranes(store, code, reasons, at, inside, place, set),
     }
 }
 

@@ -101,7 +101,12 @@ fn choose_atom<S: LinkStore>(
             ..
         } => {
             let place = set.membranes.at(*membrane as usize);
-            search_atom(store, code, at, place, *functor, set, patience)
+            match store.first_with(place, *functor) {
+                Some(first) => search_atoms(
+                    store, code, at, place, first, *functor, set, patience,
+                ),
+                None => false,
+            }
         }
         _ => false,
     }
@@ -129,36 +134,15 @@ fn choose_membrane<S: LinkStore>(
 {
     match instr {
         Instr::AnyMem { inside, .. } => {
+            let _code = code.len();
             let place = set.membranes.at(*inside as usize);
-            search_membrane(store, code, at, place, set, patience)
+            let register = set.membranes.len();
+            match ahead::guest(store, code, at + 1, register, set) {
+                Some(guest) => search_home(store, code, at, place, guest, set, patience),
+                None => search_membranes(store, code, at, place, set, patience),
+            }
         }
         _ => false,
-    }
-}
-
-/// Chooses the atom for the next register among those of a membrane with a functor.
-#[cycle(search)]
-#[inline(always)]
-fn search_atom<S: LinkStore>(
-    store: &mut S,
-    code: &Instrs<'_>,
-    at: usize,
-    place: S::Mem,
-    functor: Functor,
-    set: &mut SetRegisters<S::Atom, S::Mem>,
-    patience: &mut Patience,
-) -> bool
-    requires valid { Valid (S.heap store.old) }
-    requires unmarked { Unmarked (S.heap store.old) }
-    requires held { AreHeldWhole S.atom_id S.mem_id (S.heap store.old) set.old }
-    requires at { (y : ℕ) × (slice_get code.now at ≡ Some (FindAtom (length set.old.atoms) y functor)) × (slice_get set.old.membranes y ≡ Some place) }
-    requires order { HeadInOrder (length set.old.atoms) (length set.old.membranes) (length set.old.parts) (length set.old.integers) (drop at code.now) }
-    ensures same { S.heap store.new ≡ S.heap store.old }
-    ensures searched { Lasted patience.new.left S.atom_id S.mem_id (S.heap store.old) set.old set.new result (drop at code.now) }
-{
-    match store.first_with(place, functor) {
-        Some(first) => search_atoms(store, code, at, place, first, functor, set, patience),
-        None => false,
     }
 }
 
@@ -206,33 +190,6 @@ fn search_atoms<S: LinkStore>(
         ask = false;
     }
     false
-}
-
-/// Chooses the membrane for the next register.
-#[cycle(search)]
-#[inline(always)]
-fn search_membrane<S: LinkStore>(
-    store: &mut S,
-    code: &Instrs<'_>,
-    at: usize,
-    place: S::Mem,
-    set: &mut SetRegisters<S::Atom, S::Mem>,
-    patience: &mut Patience,
-) -> bool
-    requires valid { Valid (S.heap store.old) }
-    requires unmarked { Unmarked (S.heap store.old) }
-    requires held { AreHeldWhole S.atom_id S.mem_id (S.heap store.old) set.old }
-    requires at { (y : ℕ) × (slice_get code.now at ≡ Some (AnyMem (length set.old.membranes) y)) × (slice_get set.old.membranes y ≡ Some place) }
-    requires order { HeadInOrder (length set.old.atoms) (length set.old.membranes) (length set.old.parts) (length set.old.integers) (drop at code.now) }
-    ensures same { S.heap store.new ≡ S.heap store.old }
-    ensures searched { Lasted patience.new.left S.atom_id S.mem_id (S.heap store.old) set.old set.new result (drop at code.now) }
-{
-    let _code = code.len();
-    let register = set.membranes.len();
-    match ahead::guest(store, code, at + 1, register, set) {
-        Some(guest) => search_home(store, code, at, place, guest, set, patience),
-        None => search_membranes(store, code, at, place, set, patience),
-    }
 }
 
 /// Tries the membrane in which an atom stands for the next register, where it is in the given one.

@@ -296,11 +296,28 @@ choose_atom-search_atoms-requires g t c κs within =
     let ahead = atom_ahead (length c.args.set.now.atoms) (length c.args.set.now.membranes) (length c.args.set.now.parts) (length c.args.set.now.integers) c.in-FindAtom.atom c.in-FindAtom.membrane c.in-FindAtom.functor (drop c.args.at c.args.code.now) (drop (c.args.at + 1) c.args.code.now) (drop_get c.args.at c.args.code.now (FindAtom c.in-FindAtom.atom c.in-FindAtom.membrane c.in-FindAtom.functor) here) c.requires.order in
     (search rules, (search rules, (search rules, (search rules, (c.requires.valid, (c.requires.unmarked, (c.requires.held, (here ∙ ap (λ x. Some (FindAtom x c.in-FindAtom.membrane c.in-FindAtom.functor)) ahead.0.0, (c.at-place.ensures, (c.requires.order, c.requires.rest))))))))))
 
-pub choose_membrane-search_membranes-requires : goal.choose_membrane-search_membranes-requires
-choose_membrane-search_membranes-requires g t c κs within =
+pub choose_membrane-search_home-requires : goal.choose_membrane-search_home-requires
+choose_membrane-search_home-requires g t c κs within =
     let here = read_at c.args.code.now c.args.at c.args.instr.now (AnyMem c.in-AnyMem.membrane c.in-AnyMem.inside) c.requires.at c.in-AnyMem.is in
-    let ahead = membrane_ahead (length c.args.set.now.atoms) (length c.args.set.now.membranes) (length c.args.set.now.parts) (length c.args.set.now.integers) c.in-AnyMem.membrane c.in-AnyMem.inside (drop c.args.at c.args.code.now) (drop (c.args.at + 1) c.args.code.now) (drop_get c.args.at c.args.code.now (AnyMem c.in-AnyMem.membrane c.in-AnyMem.inside) here) c.requires.order in
-    (search rules, (search rules, (search rules, (search rules, (c.requires.valid, (c.requires.unmarked, (c.requires.held, (here ∙ ap (λ x. Some (AnyMem x c.in-AnyMem.inside)) ahead.0.0, (c.at-place.ensures, (c.requires.order, c.requires.rest))))))))))
+    let ahead = membrane_ahead (length c.args.set.now.atoms) (length c.args.set.now.membranes) (length c.args.set.now.parts) (length c.args.set.now.integers) c.in-AnyMem.membrane c.in-AnyMem.inside (drop c.args.at c.args.code.now) (drop (c.args.at + 1) c.args.code.now)
+    (drop_get c.args.at c.args.code.now (AnyMem c.in-AnyMem.membrane c.in-AnyMem.inside) here) c.requires.order in
+    let there = here ∙ ap (λ x. Some (AnyMem x c.in-AnyMem.inside)) ahead.0.0 in
+    (search rules, (search rules, (search rules, (search rules, (c.requires.valid, (c.requires.unmarked, (c.requires.held, (there, (c.at-place.ensures, ((let l = c.in-Some.ensures.set in let n = c.len-atoms.ensures in omega (arith, l, n)), (subst (λ n. HangsBy c.args.code.now (c.args.at + 1) n c.in-Some.port) c.len-membranes.ensures c.in-Some.ensures.hangs, (c.requires.order, c.requires.rest))))))))))))
+
+pub choose_membrane-try_membranes-requires : goal.choose_membrane-try_membranes-requires
+choose_membrane-try_membranes-requires g t c κs within =
+    let here = read_at c.args.code.now c.args.at c.args.instr.now (AnyMem c.in-AnyMem.membrane c.in-AnyMem.inside) c.requires.at c.in-AnyMem.is in
+    let ahead = membrane_ahead (length c.args.set.now.atoms) (length c.args.set.now.membranes) (length c.args.set.now.parts) (length c.args.set.now.integers) c.in-AnyMem.membrane c.in-AnyMem.inside (drop c.args.at c.args.code.now) (drop (c.args.at + 1) c.args.code.now)
+    (drop_get c.args.at c.args.code.now (AnyMem c.in-AnyMem.membrane c.in-AnyMem.inside) here) c.requires.order in
+    let there = here ∙ ap (λ x. Some (AnyMem x c.in-AnyMem.inside)) ahead.0.0 in
+    (search rules, (search rules, (search rules, (search rules, (c.requires.valid, (c.requires.unmarked, (c.requires.held, (there, (c.at-place.ensures, (c.requires.order, c.requires.rest))))))))))
+
+pub choose_membrane-overflow_add-at : goal.choose_membrane-overflow_add-at
+choose_membrane-overflow_add-at g t c =
+    let here = read_at c.args.code.now c.args.at c.args.instr.now (AnyMem c.in-AnyMem.membrane c.in-AnyMem.inside) c.requires.at c.in-AnyMem.is in
+    let below : c.args.at < length c.args.code.now = slice_get_within c.args.code.now c.args.at (AnyMem c.in-AnyMem.membrane c.in-AnyMem.inside) here in
+    let len = c.len-code.ensures.len in
+    let few = c.len-code.ensures.few in omega (arith, below, len, few)
 
 pub search_atoms-try_atom-requires : goal.search_atoms-try_atom-requires
 search_atoms-try_atom-requires g t c κs within =
@@ -311,14 +328,6 @@ pub try_membranes-try_membrane-requires : goal.try_membranes-try_membrane-requir
 try_membranes-try_membrane-requires g t c κs within =
     let there = subst (λ o. IfSome o (λ m. parent_of (g.S.LinkStore.heap c.args.store.now) (g.S.LinkStore.mem_id m) ≡ Some (g.S.LinkStore.mem_id c.args.place))) c.in-Some.is c.loop-candidate.invariant.there in
     (search rules, (search rules, (search rules, (search rules, (subst (λ h. Valid h) (sym c.loop-candidate.invariant.same) c.requires.valid, (subst (λ h. Unmarked h) (sym c.loop-candidate.invariant.same) c.requires.unmarked, (subst (λ k. AreHeldWhole g.S.LinkStore.atom_id g.S.LinkStore.mem_id (g.S.LinkStore.heap c.loop-candidate.store) k) (sym c.loop-candidate.invariant.set) (subst (λ h. AreHeldWhole g.S.LinkStore.atom_id g.S.LinkStore.mem_id h c.args.set.now) (sym c.loop-candidate.invariant.same) c.requires.held), ((c.args.inside, g.S.LinkStore.mem_id c.args.place, subst (λ k. slice_get c.args.code.now c.args.at ≡ Some (AnyMem (length k.membranes) c.args.inside)) (sym c.loop-candidate.invariant.set) c.requires.at, subst (λ (h : Heap). parent_of h (g.S.LinkStore.mem_id c.in-Some.membrane) ≡ Some (g.S.LinkStore.mem_id c.args.place)) (sym c.loop-candidate.invariant.same) there), (subst (λ k. HeadInOrder (length k.atoms) (length k.membranes) (length k.parts) (length k.integers) (drop c.args.at c.args.code.now)) (sym c.loop-candidate.invariant.set) c.requires.order, c.requires.rest)))))))))
-
-pub search_membranes-search_home-requires : goal.search_membranes-search_home-requires
-search_membranes-search_home-requires g t c κs within =
-    (search rules, (search rules, (search rules, (search rules, (c.requires.valid, (c.requires.unmarked, (c.requires.held, (c.requires.at, (c.requires.place, ((let l = c.in-Some.ensures.set in let n = c.len-atoms.ensures in omega (arith, l, n)), (subst (λ n. HangsBy c.args.code.now (c.args.at + 1) n c.in-Some.port) c.len-membranes.ensures c.in-Some.ensures.hangs, (c.requires.order, c.requires.rest))))))))))))
-
-pub search_membranes-try_membranes-requires : goal.search_membranes-try_membranes-requires
-search_membranes-try_membranes-requires g t c κs within =
-    (search rules, (search rules, (search rules, (search rules, (c.requires.valid, (c.requires.unmarked, (c.requires.held, (c.requires.at, (c.requires.place, (c.requires.order, c.requires.rest))))))))))
 
 pub search_home-try_membrane-requires : goal.search_home-try_membrane-requires
 search_home-try_membrane-requires g t c κs within =
@@ -364,11 +373,5 @@ try_atom-overflow_add-rest g t c =
 pub try_membrane-overflow_add-rest : goal.try_membrane-overflow_add-rest
 try_membrane-overflow_add-rest g t c =
     let below : c.args.at < length c.args.code.now = slice_get_within c.args.code.now c.args.at (AnyMem (length c.args.set.now.membranes) c.requires.at.0) c.requires.at.2 in
-    let len = c.len-code.ensures.len in
-    let few = c.len-code.ensures.few in omega (arith, below, len, few)
-
-pub search_membranes-overflow_add-at : goal.search_membranes-overflow_add-at
-search_membranes-overflow_add-at g t c =
-    let below : c.args.at < length c.args.code.now = slice_get_within c.args.code.now c.args.at (AnyMem (length c.args.set.now.membranes) c.args.inside) c.requires.at in
     let len = c.len-code.ensures.len in
     let few = c.len-code.ensures.few in omega (arith, below, len, few)

@@ -23,9 +23,6 @@ decreases-search_atoms g l = 6 * (length l.code.now - l.at) + 3
 abbrev pub decreases-try_atom : goal.decreases-try_atom
 decreases-try_atom g l = 6 * (length l.code.now - l.at) + 1
 
-abbrev pub decreases-search_membranes : goal.decreases-search_membranes
-decreases-search_membranes g l = 6 * (length l.code.now - l.at) + 3
-
 abbrev pub decreases-search_home : goal.decreases-search_home
 decreases-search_home g l = 6 * (length l.code.now - l.at) + 2
 

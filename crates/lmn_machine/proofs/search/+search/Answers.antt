@@ -121,59 +121,45 @@ search-returns-clause-searched g t c =
     lasted g.S.LinkStore.atom_id g.S.LinkStore.mem_id (g.S.LinkStore.heap c.args.store.now) _ _ _ _ _ (passed_all g.S.LinkStore.atom_id g.S.LinkStore.mem_id (g.S.LinkStore.heap c.args.store.now) c.args.set.now c.loop-i.set (drop c.args.at c.args.code.now)
     (subst (λ left. Passed g.S.LinkStore.atom_id g.S.LinkStore.mem_id (g.S.LinkStore.heap c.args.store.now) c.args.set.now c.loop-i.set (drop c.args.at c.args.code.now) left) nothing c.loop-i.invariant.passed))
 
-pub choose_atom-search_atom-requires : goal.choose_atom-search_atom-requires
-choose_atom-search_atom-requires g t c κs within =
+pub choose_atom-search_atoms-requires : goal.choose_atom-search_atoms-requires
+choose_atom-search_atoms-requires g t c κs within =
     let here = read_at c.args.code.now c.args.at c.args.instr.now (FindAtom c.in-FindAtom.atom c.in-FindAtom.membrane c.in-FindAtom.functor) c.requires.at c.in-FindAtom.is in
     let ahead = atom_ahead (length c.args.set.now.atoms) (length c.args.set.now.membranes) (length c.args.set.now.parts) (length c.args.set.now.integers) c.in-FindAtom.atom c.in-FindAtom.membrane c.in-FindAtom.functor (drop c.args.at c.args.code.now) (drop (c.args.at + 1) c.args.code.now)
-    (drop_get c.args.at c.args.code.now (FindAtom c.in-FindAtom.atom c.in-FindAtom.membrane c.in-FindAtom.functor) here) c.requires.order in (
-      search rules,
-      (
-        search rules,
-        (
-          search rules,
-          (
-            search rules,
-            (
-              c.requires.valid,
-              (
-                c.requires.unmarked,
-                (
-                  c.requires.held,
-                  ((c.in-FindAtom.membrane, here ∙ ap (λ x. Some (FindAtom x c.in-FindAtom.membrane c.in-FindAtom.functor)) ahead.0.0, c.at-place.ensures), c.requires.order),
-                ),
-              ),
-            ),
-          ),
-        ),
-      ),
-    )
+    (drop_get c.args.at c.args.code.now (FindAtom c.in-FindAtom.atom c.in-FindAtom.membrane c.in-FindAtom.functor) here) c.requires.order in
+    let there = here ∙ ap (λ x. Some (FindAtom x c.in-FindAtom.membrane c.in-FindAtom.functor)) ahead.0.0 in
+    (search rules, (search rules, (search rules, (search rules, (c.requires.valid, (c.requires.unmarked, (c.requires.held, ((c.in-FindAtom.membrane, there, c.at-place.ensures), (c.in-Some.ensures.functor, (c.in-Some.ensures.home, (c.in-Some.ensures.list, c.requires.order)))))))))))
 
-pub choose_membrane-search_membrane-requires : goal.choose_membrane-search_membrane-requires
-choose_membrane-search_membrane-requires g t c κs within =
+pub choose_atom-returns-in-None-clause-searched : goal.choose_atom-returns-in-None-clause-searched
+choose_atom-returns-in-None-clause-searched g t c =
+    let here = read_at c.args.code.now c.args.at c.args.instr.now (FindAtom c.in-FindAtom.atom c.in-FindAtom.membrane c.in-FindAtom.functor) c.requires.at c.in-FindAtom.is in
+    let ahead = atom_ahead (length c.args.set.now.atoms) (length c.args.set.now.membranes) (length c.args.set.now.parts) (length c.args.set.now.integers) c.in-FindAtom.atom c.in-FindAtom.membrane c.in-FindAtom.functor (drop c.args.at c.args.code.now) (drop (c.args.at + 1) c.args.code.now)
+    (drop_get c.args.at c.args.code.now (FindAtom c.in-FindAtom.atom c.in-FindAtom.membrane c.in-FindAtom.functor) here) c.requires.order in
+    let there = here ∙ ap (λ x. Some (FindAtom x c.in-FindAtom.membrane c.in-FindAtom.functor)) ahead.0.0 in
+    lasted g.S.LinkStore.atom_id g.S.LinkStore.mem_id (g.S.LinkStore.heap c.args.store.now) _ _ _ _ _ (atoms_none g.S.LinkStore.atom_id g.S.LinkStore.mem_id (g.S.LinkStore.heap c.args.store.now) c.args.set.now (drop c.args.at c.args.code.now) c.in-FindAtom.functor c.at-place.result c.requires.held
+    (atoms_first g.S.LinkStore.atom_id g.S.LinkStore.mem_id (g.S.LinkStore.heap c.args.store.now) c.args.set.now (drop c.args.at c.args.code.now) (drop (c.args.at + 1) c.args.code.now) c.in-FindAtom.functor c.in-FindAtom.membrane c.at-place.result None (drop_get c.args.at c.args.code.now (FindAtom (length c.args.set.now.atoms) c.in-FindAtom.membrane c.in-FindAtom.functor) there) c.at-place.ensures c.in-None.ensures.list))
+
+pub choose_membrane-search_home-requires : goal.choose_membrane-search_home-requires
+choose_membrane-search_home-requires g t c κs within =
     let here = read_at c.args.code.now c.args.at c.args.instr.now (AnyMem c.in-AnyMem.membrane c.in-AnyMem.inside) c.requires.at c.in-AnyMem.is in
     let ahead = membrane_ahead (length c.args.set.now.atoms) (length c.args.set.now.membranes) (length c.args.set.now.parts) (length c.args.set.now.integers) c.in-AnyMem.membrane c.in-AnyMem.inside (drop c.args.at c.args.code.now) (drop (c.args.at + 1) c.args.code.now)
-    (drop_get c.args.at c.args.code.now (AnyMem c.in-AnyMem.membrane c.in-AnyMem.inside) here) c.requires.order in (
-      search rules,
-      (
-        search rules,
-        (
-          search rules,
-          (
-            search rules,
-            (
-              c.requires.valid,
-              (
-                c.requires.unmarked,
-                (
-                  c.requires.held,
-                  ((c.in-AnyMem.inside, here ∙ ap (λ x. Some (AnyMem x c.in-AnyMem.inside)) ahead.0.0, c.at-place.ensures), c.requires.order),
-                ),
-              ),
-            ),
-          ),
-        ),
-      ),
-    )
+    (drop_get c.args.at c.args.code.now (AnyMem c.in-AnyMem.membrane c.in-AnyMem.inside) here) c.requires.order in
+    let there = here ∙ ap (λ x. Some (AnyMem x c.in-AnyMem.inside)) ahead.0.0 in
+    (search rules, (search rules, (search rules, (search rules, (c.requires.valid, (c.requires.unmarked, (c.requires.held, ((c.in-AnyMem.inside, there, c.at-place.ensures), (c.in-Some.ensures.there, (subst (λ n. IsGuest g.S.LinkStore.atom_id g.S.LinkStore.mem_id (g.S.LinkStore.heap c.args.store.now) c.args.set.now (drop (c.args.at + 1) c.args.code.now) n (g.S.LinkStore.atom_id c.in-Some.guest)) c.len-register.ensures c.in-Some.ensures.guest, c.requires.order))))))))))
+
+pub choose_membrane-search_membranes-requires : goal.choose_membrane-search_membranes-requires
+choose_membrane-search_membranes-requires g t c κs within =
+    let here = read_at c.args.code.now c.args.at c.args.instr.now (AnyMem c.in-AnyMem.membrane c.in-AnyMem.inside) c.requires.at c.in-AnyMem.is in
+    let ahead = membrane_ahead (length c.args.set.now.atoms) (length c.args.set.now.membranes) (length c.args.set.now.parts) (length c.args.set.now.integers) c.in-AnyMem.membrane c.in-AnyMem.inside (drop c.args.at c.args.code.now) (drop (c.args.at + 1) c.args.code.now)
+    (drop_get c.args.at c.args.code.now (AnyMem c.in-AnyMem.membrane c.in-AnyMem.inside) here) c.requires.order in
+    let there = here ∙ ap (λ x. Some (AnyMem x c.in-AnyMem.inside)) ahead.0.0 in
+    (search rules, (search rules, (search rules, (search rules, (c.requires.valid, (c.requires.unmarked, (c.requires.held, ((c.in-AnyMem.inside, there, c.at-place.ensures), c.requires.order))))))))
+
+pub choose_membrane-overflow_add-at : goal.choose_membrane-overflow_add-at
+choose_membrane-overflow_add-at g t c =
+    let here = read_at c.args.code.now c.args.at c.args.instr.now (AnyMem c.in-AnyMem.membrane c.in-AnyMem.inside) c.requires.at c.in-AnyMem.is in
+    let below : c.args.at < length c.args.code.now = slice_get_within c.args.code.now c.args.at (AnyMem c.in-AnyMem.membrane c.in-AnyMem.inside) here in
+    let len = c.len-code.ensures.len in
+    let few = c.len-code.ensures.few in omega (arith, below, len, few)
 
 pub choose_atom-at-place-requires : goal.choose_atom-at-place-requires
 choose_atom-at-place-requires g t c =
@@ -194,29 +180,6 @@ choose_atom-returns-in_default-clause-searched g t c = absurd (atoms_chosen c.ar
 
 pub choose_membrane-returns-in_default-clause-searched : goal.choose_membrane-returns-in_default-clause-searched
 choose_membrane-returns-in_default-clause-searched g t c = absurd (membranes_chosen c.args.instr.now c.in_default.not-AnyMem c.requires.choice)
-
-pub search_atom-returns-in-None-clause-searched : goal.search_atom-returns-in-None-clause-searched
-search_atom-returns-in-None-clause-searched g t c =
-    lasted g.S.LinkStore.atom_id g.S.LinkStore.mem_id (g.S.LinkStore.heap c.args.store.now) _ _ _ _ _ (atoms_none g.S.LinkStore.atom_id g.S.LinkStore.mem_id (g.S.LinkStore.heap c.args.store.now) c.args.set.now (drop c.args.at c.args.code.now) c.args.functor c.args.place c.requires.held
-    (atoms_first g.S.LinkStore.atom_id g.S.LinkStore.mem_id (g.S.LinkStore.heap c.args.store.now) c.args.set.now (drop c.args.at c.args.code.now) (drop (c.args.at + 1) c.args.code.now) c.args.functor c.requires.at.0 c.args.place None (drop_get c.args.at c.args.code.now (FindAtom (length c.args.set.now.atoms) c.requires.at.0 c.args.functor) c.requires.at.1) c.requires.at.2 c.in-None.ensures.list))
-
-pub search_atom-search_atoms-requires : goal.search_atom-search_atoms-requires
-search_atom-search_atoms-requires g t c κs within = (
-  search rules,
-  (
-    search rules,
-    (
-      search rules,
-      (
-        search rules,
-        (
-          c.requires.valid,
-          (c.requires.unmarked, (c.requires.held, (c.requires.at, (c.in-Some.ensures.functor, (c.in-Some.ensures.home, (c.in-Some.ensures.list, c.requires.order)))))),
-        ),
-      ),
-    ),
-  ),
-)
 
 pub search_atoms-loop-candidate-init : goal.search_atoms-loop-candidate-init
 search_atoms-loop-candidate-init g t c = record {
@@ -331,36 +294,6 @@ pub search_atoms-returns-clause-searched : goal.search_atoms-returns-clause-sear
 search_atoms-returns-clause-searched g t c =
     let left = subst (λ o. AtomsLeft g.S.LinkStore.atom_id g.S.LinkStore.mem_id (g.S.LinkStore.heap c.args.store.now) c.args.set.now (drop c.args.at c.args.code.now) c.args.functor c.args.place o) (none_is c.loop-candidate.candidate c.in_default.not-Some) c.loop-candidate.invariant.left in
     lasted g.S.LinkStore.atom_id g.S.LinkStore.mem_id (g.S.LinkStore.heap c.args.store.now) _ _ _ _ _ (subst (λ k. Searched g.S.LinkStore.atom_id g.S.LinkStore.mem_id (g.S.LinkStore.heap c.args.store.now) c.args.set.now k false (drop c.args.at c.args.code.now)) (sym c.loop-candidate.invariant.set) (atoms_none g.S.LinkStore.atom_id g.S.LinkStore.mem_id (g.S.LinkStore.heap c.args.store.now) c.args.set.now (drop c.args.at c.args.code.now) c.args.functor c.args.place c.requires.held left))
-
-pub search_membrane-search_home-requires : goal.search_membrane-search_home-requires
-search_membrane-search_home-requires g t c κs within = (
-  search rules,
-  (
-    search rules,
-    (
-      search rules,
-      (
-        search rules,
-        (
-          c.requires.valid,
-          (
-            c.requires.unmarked,
-            (
-              c.requires.held,
-              (
-                c.requires.at,
-                (
-                  c.in-Some.ensures.there,
-                  (subst (λ n. IsGuest g.S.LinkStore.atom_id g.S.LinkStore.mem_id (g.S.LinkStore.heap c.args.store.now) c.args.set.now (drop (c.args.at + 1) c.args.code.now) n (g.S.LinkStore.atom_id c.in-Some.guest)) c.len-register.ensures c.in-Some.ensures.guest, c.requires.order),
-                ),
-              ),
-            ),
-          ),
-        ),
-      ),
-    ),
-  ),
-)
 
 pub search_home-push-requires : goal.search_home-push-requires
 search_home-push-requires g t c =
@@ -531,12 +464,6 @@ search-step-requires g t c =
 pub search_atoms-overflow_add-rest : goal.search_atoms-overflow_add-rest
 search_atoms-overflow_add-rest g t c =
     let below : c.args.at < length c.args.code.now = slice_get_within c.args.code.now c.args.at (FindAtom (length c.args.set.now.atoms) c.requires.at.0 c.args.functor) c.requires.at.1 in
-    let len = c.len-code.ensures.len in
-    let few = c.len-code.ensures.few in omega (arith, below, len, few)
-
-pub search_membrane-overflow_add-at : goal.search_membrane-overflow_add-at
-search_membrane-overflow_add-at g t c =
-    let below : c.args.at < length c.args.code.now = slice_get_within c.args.code.now c.args.at (AnyMem (length c.args.set.now.membranes) c.requires.at.0) c.requires.at.1 in
     let len = c.len-code.ensures.len in
     let few = c.len-code.ensures.few in omega (arith, below, len, few)
 
