@@ -1,5 +1,5 @@
 -- Atoms of a membrane besides those of typed contexts.
-use Rattle.std.proofs.Common.{ℕ, zero, suc, ◌≡◌, ◌≢◌, ◌<◌, ◌≤◌, ◌+◌, ◌-◌, ◌⊎◌, inl, inr, List, [], ◌∷◌, Some, pos, refl, arith, ap, sym, subst, length, take, ◌∙◌}
+use Rattle.std.proofs.Common.{ℕ, zero, suc, ◌≡◌, ◌≢◌, ◌<◌, ◌≤◌, ◌+◌, ◌-◌, ◌⊎◌, inl, inr, List, [], ◌∷◌, Some, pos, refl, arith, ap, sym, subst, length, get_or, take, ◌∙◌}
 use Rattle.std.specs.Prelude.{slice_get}
 use Rattle.std.specs.List.{AllByRecursion}
 use Rattle.lmn_base.specs.Graphs.{Reached, at_root}
@@ -20,6 +20,12 @@ use Rattle.lmn_base.proofs.Lists.{value_or, get_there}
 use Rattle.lmn_base.proofs.Numbers.{same_or_not as number_cases}
 use Rattle.lmn_store_heap.proofs.Common.{home_placed}
 use Rattle.lmn_base.specs.Lists.{In}
+
+-- what holds of each holds of the one at a place
+pub each_at : (P : ℕ → Type 0) (xs : List ℕ) (i : ℕ) → AllByRecursion P xs → i < length xs → P (get_or xs i 0)
+each_at P [] i each l = absurd (omega (arith, l))
+each_at P (x ∷ xs) zero each l = each.0
+each_at P (x ∷ xs) (suc i) each l = each_at P xs i each.1 (omega (arith, l))
 
 -- What is left of a list without the elements of another.
 record TakenOut (ys xs : List ℕ) : Type 0 where

@@ -1,6 +1,7 @@
 -- Steps of the machine, and what is passed so far.
 use Rattle.std.proofs.Common.{ℕ, ℤ, zero, suc, ◌≡◌, ◌≤◌, ◌+◌, List, [], ◌∷◌, Some, refl, arith, ap, sym, subst, length, take, ◌∙◌}
-use Rattle.std.specs.Prelude.{Bool, true, false, slice_get}
+use Rattle.std.specs.Prelude.{Bool, true, false, slice_get, ◌<◌}
+use Rattle.std.specs.List.{AllByRecursion}
 use Rattle.lmn_base.specs.declared.functor.Functor.{Functor}
 use Rattle.lmn_store_heap.specs.Heap.{Heap}
 use Rattle.lmn_solid_heads.specs.Embeddings.{ListNotAfter}
@@ -123,6 +124,14 @@ computation (Mul x y z) t b c d e f k = e x y z refl
 computation (Div x y z) t b c d e f k = f x y z refl
 computation (Mod x y z) t b c d e f k = k x y z refl
 computation _ t b c d e f k = t
+
+-- the parts that NATOMS lists are set
+pub listed_besides : (i : Instr) (a m g v x n : ℕ) (gs xs : List ℕ) → i ≡ NAtoms x n gs → xs ≡ gs → HeadInOrder a m g v (i ∷ []) → AllByRecursion (λ k. k < g) xs
+listed_besides i a m g v x n gs xs e same o = let u : HeadInOrder a m g v (NAtoms x n gs ∷ []) = subst (λ j. HeadInOrder a m g v (j ∷ [])) e o in subst (λ ks. AllByRecursion (λ k. k < g) ks) (sym same) u.0.1
+
+-- and so are those that ISCLOSED lists
+pub listed_in_rest : (i : Instr) (a m g v x : ℕ) (gs xs : List ℕ) → i ≡ IsClosed x gs → xs ≡ gs → HeadInOrder a m g v (i ∷ []) → AllByRecursion (λ k. k < g) xs
+listed_in_rest i a m g v x gs xs e same o = let u : HeadInOrder a m g v (IsClosed x gs ∷ []) = subst (λ j. HeadInOrder a m g v (j ∷ [])) e o in subst (λ ks. AllByRecursion (λ k. k < g) ks) (sym same) u.0.1
 
 -- a test of atoms, in order, reads registers that are set
 pub atom_test_reads : (i : Instr) (a m g v : ℕ) → TestsAtoms i → HeadInOrder a m g v (i ∷ []) → TestsSetRegisters a m v i

@@ -1,11 +1,12 @@
 -- What became of an instruction, as the contracts of private functions say it.
-use Rattle.std.specs.Prelude.{ℕ, Bool, true, false, ◌≡◌, Option, Some, IfSome}
+use Rattle.std.specs.Prelude.{ℕ, Bool, true, false, ◌≡◌, [], ◌∷◌, Option, Some, IfSome, length}
 use Rattle.std.specs.Option.{option_map}
-use Rattle.lmn_store_heap.specs.Heap.{Heap, IsAtom, link_of, port_id}
+use Rattle.lmn_store_heap.specs.Heap.{Heap, IsAtom, Unmarked, link_of, port_id}
+use Rattle.lmn_store_heap.specs.Sound.{Valid}
 use Rattle.lmn_instr_code.specs.declared.instr.Instr.{Instr}
 use Rattle.lmn_instr_code.specs.declared.instr.Instr.TheVariants.{FindAtom, AnyMem, Func, InMem, NeqAtom, Joined, NeqMem, NMems, NoRules, NotIn, IsInt, IsUnary, IsGround, NAtoms, IsClosed, EqGround, NeqGround, GetInt, Const, Add, Sub, Mul, Div, Mod, Lt, Le, Gt, Ge, Eq, Ne, Commit}
 use Rattle.lmn_machine_registers.specs.declared.registers.SetRegisters.{SetRegisters}
-use Rattle.lmn_machine.specs.Searching.{ChoosesNone, Stepped}
+use Rattle.lmn_machine.specs.Searching.{AreHeldWhole, ChoosesNone, HeadInOrder, Stepped}
 use Rattle.lmn_machine.specs.declared.steps.Outcome.{Outcome}
 use Rattle.lmn_machine.specs.declared.steps.Outcome.TheVariants.{Holds, Fails, ChoosesAtom, ChoosesMembrane}
 
@@ -78,6 +79,14 @@ ComparesIntegers (Eq x y) = Unit {0}
 ComparesIntegers (Ne x y) = Unit {0}
 ComparesIntegers Commit = Unit {0}
 ComparesIntegers _ = ⊥
+
+-- An instruction can be run: the heap is valid and has no marks, the registers hold what is in it, and the instruction reads
+-- registers that are set and sets the next ones.
+pub record CanStep {A M : Type 0} (atom : A → ℕ) (membrane : M → ℕ) (h : Heap) (g : SetRegisters A M) (i : Instr) : Type 0 where
+  pub valid : Valid h
+  pub unmarked : Unmarked h
+  pub held : AreHeldWhole atom membrane h g
+  pub order : HeadInOrder (length g.atoms) (length g.membranes) (length g.parts) (length g.integers) (i ∷ [])
 
 -- An instruction without a choice was run, and one with a choice left the registers as they were.
 abbrev pub HasOutcome : {A M : Type 0} → (A → ℕ) → (M → ℕ) → Heap → SetRegisters A M → SetRegisters A M → Outcome → Instr → Type 0

@@ -128,6 +128,7 @@ impl<S: LinkStore> Machine<S> {
         ensures valid { OnErr result (Valid (S.heap self.new.store)) }
         ensures unmarked { Unmarked (S.heap self.new.store) }
     {
+        let _root = self.store.root();
         prepare(alloc, &mut self.store, code.body(), &mut self.set)
     }
 

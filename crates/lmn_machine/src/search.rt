@@ -102,9 +102,7 @@ fn choose_atom<S: LinkStore>(
         } => {
             let place = set.membranes.at(*membrane as usize);
             match store.first_with(place, *functor) {
-                Some(first) => search_atoms(
-                    store, code, at, place, first, *functor, set, patience,
-                ),
+                Some(first) => search_atoms(store, code, at, place, first, *functor, set, patience),
                 None => false,
             }
         }

@@ -1,10 +1,10 @@
 ghost use Rattle.std.specs.Prelude.{◌≡◌, ◌<◌, ◌↔◌, ℕ, [], ◌∷◌, length, IsTrue};
 ghost use Rattle.lmn_store_heap.specs.Sound.{Valid};
 ghost use Rattle.lmn_instr_code.specs.Running.{HeadRegisters, HeadSize, InstructionHolds};
-ghost use Rattle.lmn_store_heap.specs.Heap.{Heap, Unmarked};
+ghost use Rattle.lmn_store_heap.specs.Heap.{Heap};
 ghost use Rattle.lmn_machine_registers.specs.Agreeing.{Agrees};
 ghost use Rattle.lmn_machine.specs.Searching.{AreHeldWhole, Compares, TestsSetRegisters, HeadInOrder, HasGiven, HasGivenPart, Stepped};
-ghost use Rattle.lmn_machine.specs.Outcomes.{ComparesIntegers, ComputesInteger, FindsPart, HasOutcome, ReadsParts, Tells, TestsAtoms, TestsMembranes};
+ghost use Rattle.lmn_machine.specs.Outcomes.{CanStep, ComparesIntegers, ComputesInteger, FindsPart, HasOutcome, ReadsParts, Tells, TestsAtoms, TestsMembranes};
 ghost use Rattle.lmn_instr_code.specs.declared.instr.Instr.TheVariants.{Deref};
 
 use crate::{checks, integers, others, parts, rests, whole};
@@ -210,9 +210,7 @@ fn run_atom_test<S: LinkStore>(
     set: &SetRegisters<S::Atom, S::Mem>,
     instr: &Instr,
 ) -> Outcome
-    requires valid { Valid (S.heap store.now) }
-    requires held { AreHeldWhole S.atom_id S.mem_id (S.heap store.now) set.now }
-    requires order { HeadInOrder (length set.now.atoms) (length set.now.membranes) (length set.now.parts) (length set.now.integers) (instr.now ∷ []) }
+    requires ready { CanStep S.atom_id S.mem_id (S.heap store.now) set.now instr.now }
     requires tests { TestsAtoms instr.now }
     ensures { HasOutcome S.atom_id S.mem_id (S.heap store.now) set.now set.now result instr.now }
 {
@@ -226,9 +224,7 @@ fn run_membrane_test<S: LinkStore>(
     set: &SetRegisters<S::Atom, S::Mem>,
     instr: &Instr,
 ) -> Outcome
-    requires valid { Valid (S.heap store.now) }
-    requires held { AreHeldWhole S.atom_id S.mem_id (S.heap store.now) set.now }
-    requires order { HeadInOrder (length set.now.atoms) (length set.now.membranes) (length set.now.parts) (length set.now.integers) (instr.now ∷ []) }
+    requires ready { CanStep S.atom_id S.mem_id (S.heap store.now) set.now instr.now }
     requires tests { TestsMembranes instr.now }
     ensures { HasOutcome S.atom_id S.mem_id (S.heap store.now) set.now set.now result instr.now }
 {
@@ -242,8 +238,7 @@ fn run_comparison<S: LinkStore>(
     set: &SetRegisters<S::Atom, S::Mem>,
     instr: &Instr,
 ) -> Outcome
-    requires held { AreHeldWhole S.atom_id S.mem_id (S.heap store.now) set.now }
-    requires order { HeadInOrder (length set.now.atoms) (length set.now.membranes) (length set.now.parts) (length set.now.integers) (instr.now ∷ []) }
+    requires ready { CanStep S.atom_id S.mem_id (S.heap store.now) set.now instr.now }
     requires compares { ComparesIntegers instr.now }
     ensures { HasOutcome S.atom_id S.mem_id (S.heap store.now) set.now set.now result instr.now }
 {
@@ -257,10 +252,7 @@ fn find_part<S: LinkStore>(
     set: &mut SetRegisters<S::Atom, S::Mem>,
     instr: &Instr,
 ) -> Outcome
-    requires valid { Valid (S.heap store.old) }
-    requires unmarked { Unmarked (S.heap store.old) }
-    requires held { AreHeldWhole S.atom_id S.mem_id (S.heap store.old) set.old }
-    requires order { HeadInOrder (length set.old.atoms) (length set.old.membranes) (length set.old.parts) (length set.old.integers) (instr.now ∷ []) }
+    requires ready { CanStep S.atom_id S.mem_id (S.heap store.old) set.old instr.now }
     requires finds { FindsPart instr.now }
     ensures same { S.heap store.new ≡ S.heap store.old }
     ensures stepped { HasOutcome S.atom_id S.mem_id (S.heap store.old) set.old set.new result instr.now }
@@ -296,10 +288,7 @@ fn read_parts<S: LinkStore>(
     set: &mut SetRegisters<S::Atom, S::Mem>,
     instr: &Instr,
 ) -> Outcome
-    requires valid { Valid (S.heap store.old) }
-    requires unmarked { Unmarked (S.heap store.old) }
-    requires held { AreHeldWhole S.atom_id S.mem_id (S.heap store.old) set.old }
-    requires order { HeadInOrder (length set.old.atoms) (length set.old.membranes) (length set.old.parts) (length set.old.integers) (instr.now ∷ []) }
+    requires ready { CanStep S.atom_id S.mem_id (S.heap store.old) set.old instr.now }
     requires reads { ReadsParts instr.now }
     ensures same { S.heap store.new ≡ S.heap store.old }
     ensures stepped { HasOutcome S.atom_id S.mem_id (S.heap store.old) set.old set.new result instr.now }
@@ -394,10 +383,7 @@ pub fn step<S: LinkStore>(
     set: &mut SetRegisters<S::Atom, S::Mem>,
     instr: &Instr,
 ) -> Outcome
-    requires valid { Valid (S.heap store.old) }
-    requires unmarked { Unmarked (S.heap store.old) }
-    requires held { AreHeldWhole S.atom_id S.mem_id (S.heap store.old) set.old }
-    requires order { HeadInOrder (length set.old.atoms) (length set.old.membranes) (length set.old.parts) (length set.old.integers) (instr.now ∷ []) }
+    requires { CanStep S.atom_id S.mem_id (S.heap store.old) set.old instr.now }
     ensures same { S.heap store.new ≡ S.heap store.old }
     ensures stepped { HasOutcome S.atom_id S.mem_id (S.heap store.old) set.old set.new result instr.now }
 {

@@ -375,3 +375,7 @@ try_membrane-overflow_add-rest g t c =
     let below : c.args.at < length c.args.code.now = slice_get_within c.args.code.now c.args.at (AnyMem (length c.args.set.now.membranes) c.requires.at.0) c.requires.at.2 in
     let len = c.len-code.ensures.len in
     let few = c.len-code.ensures.few in omega (arith, below, len, few)
+
+pub try_membrane-holds_enough-requires-clause-at : goal.try_membrane-holds_enough-requires-clause-at
+try_membrane-holds_enough-requires-clause-at g t c =
+    let below : c.args.at < length c.args.code.now = slice_get_within c.args.code.now c.args.at (AnyMem (length c.args.set.now.membranes) c.requires.at.0) c.requires.at.2 in omega (arith, below)

@@ -1,5 +1,5 @@
-use Rattle.std.proofs.Common.{Some, None, ◌≡◌}
-use Rattle.std.specs.Prelude.{true}
+use Rattle.std.proofs.Common.{Some, None}
+use Rattle.lmn_base.proofs.Truth.{never_both}
 use Rattle.lmn_machine.specs.Searching.{IsLone}
 use Rattle.lmn_machine.proofs.Ends.{end_with, no_end_with}
 use Rattle.lmn_machine.proofs.parts.lone_end.Goals as goal
@@ -12,7 +12,7 @@ returns-then-is_lone g c =
 pub returns-else-is_lone : goal.returns-else-is_lone
 returns-else-is_lone g c =
     no_end_with g.S.LinkStore.atom_id (g.S.LinkStore.heap c.args.store.now) (λ q. IsLone g.S.LinkStore.atom_id (g.S.LinkStore.heap c.args.store.now) c.args.atoms.now (g.S.LinkStore.mem_id c.args.m) q.0) (g.S.LinkStore.atom_id c.args.from) c.args.port (Some c.in-Some.root)
-    c.in-Some.ensures.link (λ w. (let t : c.is_lone.result ≡ true = c.is_lone.ensures.1 w in let f = c.if-is_lone.false in cc))
+    c.in-Some.ensures.link (λ w. never_both c.is_lone.result (c.is_lone.ensures.1 w) c.if-is_lone.false)
 
 pub returns-in-None : goal.returns-in-None
 returns-in-None g c =

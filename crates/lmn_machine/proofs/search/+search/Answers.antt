@@ -13,7 +13,7 @@ use Rattle.lmn_store_heap.specs.Sound.{Valid}
 use Rattle.lmn_machine.specs.Searching.{AreHeldWhole, Extends, HeadInOrder, Searched, Stepped}
 use Rattle.lmn_machine_registers.specs.declared.stack.TheConstants.{ROOM}
 use Rattle.lmn_machine.specs.Jumping.{Lasted, with_atom, with_membrane}
-use Rattle.lmn_machine.proofs.Trying.{given_up, lasted, lasted_by, passed_lasted}
+use Rattle.lmn_machine.proofs.Trying.{given_up, lasted, lasted_by, passed_lasted, passed_none}
 use Rattle.lmn_machine.proofs.Telling.{atoms_chosen, membranes_chosen}
 use Rattle.lmn_machine.proofs.Stepping.{Passed, extends_itself, extends_on, passed_one, failed, passed_all}
 use Rattle.lmn_machine.proofs.Choosing.{AtomsLeft, MembranesLeft, extends_atom, extends_membrane, atoms_first, atoms_next, atoms_none, atoms_found, membranes_first, membranes_next, membranes_none, membranes_found, held_atom, held_membrane}
@@ -478,3 +478,9 @@ search_membranes-overflow_add-rest g t c =
     let below : c.args.at < length c.args.code.now = slice_get_within c.args.code.now c.args.at (AnyMem (length c.args.set.now.membranes) c.requires.at.0) c.requires.at.1 in
     let len = c.len-code.ensures.len in
     let few = c.len-code.ensures.few in omega (arith, below, len, few)
+
+pub search-loop-i-init : goal.search-loop-i-init
+search-loop-i-init g t c = record {
+  same = refl;
+  passed = passed_none g.S.LinkStore.atom_id g.S.LinkStore.mem_id (g.S.LinkStore.heap c.args.store.now) c.args.set.now (drop c.args.at c.args.code.now) c.requires.held c.requires.order;
+}
