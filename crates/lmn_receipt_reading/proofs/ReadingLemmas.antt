@@ -4,7 +4,8 @@ use Rattle.std.proofs.Common.{◌∙◌, ap, append_assoc, arith, inl, inr, refl
 use Rattle.std.proofs.lemmas.List.{drop-drop, length-append, length-drop, length-take, take-append-drop}
 use Rattle.std.proofs.Math.Seq.{drop-append_seam}
 use Rattle.lmn_io.specs.Counts.{Rose}
-use Rattle.lmn_io.specs.Texts.{IsPart}
+use Rattle.lmn_io.specs.Texts.{IsMeasured, IsPart}
+use Rattle.lmn_io.specs.declared.shelf.Measured.TheVariants as measured
 use Rattle.lmn_receipt_reading.specs.Windows.{AtHand}
 use Rattle.lmn_receipt_reading.specs.Readings.{IsMeasuredRight, IsOfSame, IsRest, ReadFailed, Reading, ReadsOn, text_told}
 
@@ -148,6 +149,37 @@ passed_rest r hand len is rest h = record {
   few = h.few;
   told = h.told;
 }
+
+-- ---- before the beginning
+
+module _ (r : Reading) (most : ℕ) (measured : IsMeasured r.told r.name most (measured.Length r.length)) where
+  text_measured : (o : Option (List ℕ)) → IsSomeAnd o (λ all. length all ≡ r.length) → IfSome o (λ all. length all ≤ r.length)
+  text_measured None none = tt
+  text_measured (Some all) is = omega (arith, is)
+
+  told_measured : (told : Option (List ℕ → Option (List ℕ))) → IfSome told (λ text. IsSomeAnd (text r.name) (λ all. length all ≡ r.length)) → IfSome (text_told told r.name) (λ all. length all ≤ r.length)
+  told_measured None is = tt
+  told_measured (Some text) is = text_measured (text r.name) is
+
+  -- what was measured is held for what it is
+  pub measured_right : r.read ≡ 0 → IsMeasuredRight r
+  measured_right none = record { within = omega (arith, none); whole = told_measured r.told measured.1 }
+
+  text_is : (o : Option (List ℕ)) (more : List ℕ) → IsSomeAnd o (λ all. length all ≡ r.length) → IfSome o (λ all. more ≡ drop 0 all) → o ≡ Some more
+  text_is None more none is = absurd none
+  text_is (Some all) more some is = ap Some (sym is)
+
+  told_is : (told : Option (List ℕ → Option (List ℕ))) (more : List ℕ) → IfSome told (λ text. IsSomeAnd (text r.name) (λ all. length all ≡ r.length)) → IfSome (text_told told r.name) (λ all. more ≡ drop 0 all) → IfSome told (λ text. text r.name ≡ Some more)
+  told_is None more some is = tt
+  told_is (Some text) more some is = text_is (text r.name) more some is
+
+  -- what may be left then is as short, and it is the text that is told, if it is
+  pub rest_at_first : r.read ≡ 0 → r.at_hand.ahead ≡ [] → (rest : List ℕ) → IsRest r rest → (length rest ≤ r.length) × IfSome r.told (λ text. text r.name ≡ Some rest)
+  rest_at_first none nothing rest h =
+      let few = h.few in
+      let all : rest ≡ h.more = h.is ∙ ap (λ ahead. ahead ++ h.more) nothing in
+      let told = subst (λ read. IfSome (text_told r.told r.name) (λ all. h.more ≡ drop read all)) none h.told in
+      subst (λ more. (length more ≤ r.length) × IfSome r.told (λ text. text r.name ≡ Some more)) (sym all) (omega (arith, few, none), told_is r.told h.more measured.1 told)
 
 -- what follows where a call answered
 pub where_ok : {A E : Type 0} (result : Result A E) (P Q : Type 0) → (P → Q) → OnOk result P → IfOk result (λ _. Q)

@@ -13,5 +13,5 @@ seen told asked faults s = record {
   name = s.name.now;
   read = s.read;
   length = s.length;
-  at_hand = s.window;
+  at_hand = s.window.now;
 }

@@ -9,3 +9,4 @@ mod window;
 pub use laws::two_lines_are_read;
 pub use shelf_lines::ShelfLines;
 pub use trace_lines::{SliceLines, TraceLines};
+pub use window::Window;

@@ -10,8 +10,8 @@ use std::alloc::Global;
 /// The fewest bytes that are read at a time.
 const BLOCK: u64 = 65_536;
 
-/// The lines of a text of a shelf, which is read in parts. At hand are the line that was met last and what was read behind it: a few
-/// times as many bytes as the longest line has, or as a block.
+/// The lines of a text of a shelf, which is read in parts into a window that is lent. At hand are the line that was met last and what was
+/// read behind it: a few times as many bytes as the longest line has, or as a block.
 #[derive(Drop)]
 pub struct ShelfLines<'s, F: Shelf> {
     shelf: &'s mut F,
@@ -20,21 +20,27 @@ pub struct ShelfLines<'s, F: Shelf> {
     read: u64,
     /// How many there are: as many as were measured, or fewer where the text ends before.
     length: u64,
-    window: Window,
+    window: &'s mut Window,
 }
 
 impl<'s, F: Shelf> ShelfLines<'s, F> {
-    /// Before the beginning of a text that was measured. Nothing is read yet.
-    pub fn new(alloc: Global, shelf: &'s mut F, name: &'s str, length: u64) -> ShelfLines<'s, F>
+    /// Before the beginning of a text that was measured. Nothing is read yet; what was in the window goes.
+    pub fn new(
+        shelf: &'s mut F,
+        name: &'s str,
+        length: u64,
+        window: &'s mut Window,
+    ) -> ShelfLines<'s, F>
         ensures same_reference { result.shelf.ghost_name ≡ shelf.entry.ghost_name }
         ensures seen { seen F.told F.asked F.faults result ≡ record { told = F.told shelf.old; asked = F.asked shelf.old; faults = F.faults shelf.old; name = name.now; read = 0; length = length; at_hand = record { last = []; ahead = [] } } }
     {
+        window.clear();
         ShelfLines {
             shelf,
             name,
             read: 0,
             length,
-            window: Window::new(alloc),
+            window,
         }
     }
 
@@ -93,9 +99,9 @@ impl<F: Shelf> TraceLines for ShelfLines<'_, F> {
 
     ghost is_rest = { λ s rest. IsRest (seen F.told F.asked F.faults s) rest };
 
-    ghost last = { λ s. s.window.last };
+    ghost last = { λ s. s.window.now.last };
 
-    ghost window = { λ s. s.window.ahead };
+    ghost window = { λ s. s.window.now.ahead };
 
     ghost left = { λ s. left_of (seen F.told F.asked F.faults s) };
 

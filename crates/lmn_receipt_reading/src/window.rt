@@ -7,7 +7,7 @@ use std::marker::Model;
 
 /// What is at hand of a text: what was met last, and what is ahead. Contracts see the two.
 #[derive(Drop)]
-pub(crate) struct Window {
+pub struct Window {
     bytes: Vec<u8>,
     /// Where what was met last begins.
     start: usize,
@@ -28,7 +28,7 @@ impl Model for Window {
 
 impl Window {
     /// Nothing.
-    pub(crate) fn new(alloc: Global) -> Window
+    pub fn new(alloc: Global) -> Window
         ensures { result ≡ record { last = []; ahead = [] } }
     {
         Window {
@@ -36,6 +36,15 @@ impl Window {
             start: 0,
             end: 0,
         }
+    }
+
+    /// Lets all go.
+    pub(crate) fn clear(&mut self)
+        ensures { self.new ≡ record { last = []; ahead = [] } }
+    {
+        self.bytes.clear();
+        self.start = 0;
+        self.end = 0;
     }
 
     /// What was met last.

@@ -13,7 +13,7 @@ returns-clause-on g c =
       within = c.block-most.ensures.within;
       read = ap (λ n. c.args.self.now.read + n) c.len-count.ensures;
       last = ap (λ w. w.last) added;
-      ahead = ap (λ w. w.ahead) added ∙ ap (λ piece. c.args.self.now.window.ahead ++ piece) c.as_slice.ensures;
+      ahead = ap (λ w. w.ahead) added ∙ ap (λ piece. c.args.self.now.window.now.ahead ++ piece) c.as_slice.ensures;
       full = subst (λ n. c.block-most.result - n ≡ 0 → c.end_of-self.result ≡ c.args.self.now.length) c.len-count.ensures c.end_of-self.ensures.none;
       short = subst (λ n. 0 < c.block-most.result - n → c.end_of-self.result ≡ c.args.self.now.read + c.len-count.result) c.len-count.ensures c.end_of-self.ensures.some;
     }
