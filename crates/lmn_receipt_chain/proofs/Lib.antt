@@ -1,7 +1,7 @@
 pub mod ChainLemmas
 pub mod WalkLemmas
 mod SmallChains
-mod LineBytes
+pub mod LineBytes
 mod OneSolid
 mod OneChain
 mod ChainOrWrong
@@ -12,3 +12,5 @@ mod FrameLemmas
 mod AlikeLemmas
 mod LeftOutLemmas
 mod FirstLines
+mod WindowLemmas
+mod ReadLemmas

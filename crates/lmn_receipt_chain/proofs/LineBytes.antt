@@ -1,6 +1,7 @@
 -- The bytes of a printed line: one line feed, the last, and no `%` at the front.
-use Rattle.std.proofs.Common.{ℕ, ◌≡◌, ◌≢◌, inl, inr, Bool, true, false, List, [], ◌∷◌, ◌++◌, refl, sym, subst, codes, ap, ◌∙◌, append_assoc, true≢false, arith}
+use Rattle.std.proofs.Common.{ℕ, zero, suc, ◌≡◌, ◌≢◌, ◌+◌, ◌/◌, ◌%◌, ◌==◌, if◌then◌else◌, inl, inr, Bool, true, false, List, [], ◌∷◌, ◌++◌, refl, sym, subst, codes, ap, ◌∙◌, append_assoc, true≢false, arith}
 use Rattle.std.specs.Char.{is_ascii_digit, is_ascii_lowercase}
+use Rattle.std.specs.Fmt.{digit_glyph, digits, digits_onto}
 use Rattle.std.specs.List.{AllByRecursion}
 use Rattle.lmn_base.proofs.Lists.{all_append, head_is, tail_is}
 use Rattle.lmn_congruence.specs.Rules.{Level}
@@ -187,3 +188,26 @@ first_line_one (x ∷ u) [] r s h k e = absurd (h.0 (head_is e))
 first_line_one (x ∷ u) (y ∷ v) r s h k e =
     let one = first_line_one u v r s h.1 k.1 (tail_is e) in
     (λ i. head_is e i ∷ one.0 i, one.1)
+
+-- ---- numbers
+
+glyph : (d : ℕ) → digit_glyph false d ≢ 10
+glyph d = by _
+  where
+    by : (b : Bool) → (if b then 48 + d else 87 + d) ≢ 10
+    by true e = omega (arith, e)
+    by false e = omega (arith, e)
+
+onto : (k n : ℕ) (acc : List ℕ) → NoFeed acc → NoFeed (digits_onto k 10 false n acc)
+onto zero n acc h = h
+onto (suc k) n acc h = by (n / 10 == 0) (onto k (n / 10) (digit_glyph false (n % 10) ∷ acc) (glyph (n % 10), h))
+  where
+    by : (b : Bool) → NoFeed (digits_onto k 10 false (n / 10) (digit_glyph false (n % 10) ∷ acc))
+        → NoFeed (if b then digit_glyph false (n % 10) ∷ acc else digits_onto k 10 false (n / 10) (digit_glyph false (n % 10) ∷ acc))
+    by true r = (glyph (n % 10), h)
+    by false r = r
+
+-- the digits of a number have no line feed among them
+pub digits_quiet : (n : ℕ) → NoFeed (digits 10 false n)
+unfolding digits
+digits_quiet n = onto 64 n [] tt

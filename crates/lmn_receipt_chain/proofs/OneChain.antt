@@ -67,10 +67,10 @@ module _ (alloc : Global) (names : List Name) (is : IsNames names) where
   abbrev IsFine : Region → Type 0
   IsFine = Fine names
 
-  fine_next : {S T : Region} → IsFine S → Continues S T → IsFine T
+  pub fine_next : {S T : Region} → IsFine S → Continues S T → IsFine T
   fine_next {S} f c = next_fine names alloc is (λ n m. c.from) 0 0 S f {n = 0} f (record { next = c.next; numbered = c.numbered })
 
-  no_feed : (S : Region) → IsFine S → NoFeed (text_of (top_pieces (as_level S)))
+  pub no_feed : (S : Region) → IsFine S → NoFeed (text_of (top_pieces (as_level S)))
   no_feed S f = line_no_feed (as_level S) (spelled_fine names alloc is S f)
 
   no_percent : (S : Region) → IsFine S → NoPercent (line_of_solid S)

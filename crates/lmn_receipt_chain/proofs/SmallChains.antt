@@ -1,7 +1,8 @@
 -- What is a chain of `a.`, and what isn't.
-use Rattle.std.proofs.Common.{◌≡◌, ◌∙◌, true, false, ℕ, List, [], ◌∷◌, ◌++◌, codes, length, inl, inr, refl, ap, arith}
+use Rattle.std.proofs.Common.{◌≡◌, ◌∙◌, true, false, ℕ, List, [], ◌∷◌, ◌++◌, codes, length, inl, inr, refl, sym, ap, subst, arith}
 use Rattle.std.specs.Fmt.{digits}
 use Rattle.lmn_congruence.specs.Regions.{Region, SolidAtom, no_region, region}
+use Rattle.lmn_congruence.specs.Rules.{named}
 use Rattle.lmn_reduction.specs.Examples.{label_a, label_b}
 use Rattle.lmn_adequacy.specs.ChangeExamples.{changing}
 use Rattle.lmn_adequacy.specs.Examples.{root_first}
@@ -9,9 +10,10 @@ use Rattle.lmn_adequacy.proofs.ExampleChanges.{short_trace_ends}
 use Rattle.lmn_adequacy.specs.Embedding.{EmbedsIn, HasEmbedding, embeds_below, embeds_here}
 use Rattle.lmn_app_runs.specs.Runs.{end_line}
 use Rattle.lmn_app_runs.specs.declared.stop.Stop.TheVariants as stop
-use Rattle.lmn_receipt_chain.specs.Chains.{BeginsChain, Continues, IsEndWord, begun, no_end_line, no_first_line, no_next_line}
+use Rattle.lmn_receipt_chain.specs.OneFeed.{HasOneFeed}
+use Rattle.lmn_receipt_chain.specs.Chains.{BeginsChain, Continued, Continues, IsEndWord, begun, continued, no_end_line, no_first_line, no_next_line}
 use Rattle.lmn_adequacy.specs.Choice.{NextFrom}
-use Rattle.lmn_receipt_chain.specs.Examples.{CutShort, Empty, MoreBehind, NoEnd, NoFiring, NoGreaterReach, NoneIsMade, NothingFires, NothingIsNext, TwoSolids, WrongWord, one_atom}
+use Rattle.lmn_receipt_chain.specs.Examples.{CutShort, Empty, MoreBehind, NoEnd, NoFiring, NoGreaterReach, NoneIsMade, NothingFires, NothingIsNext, OneFeed, TwoFeeds, TwoSolids, WrongWord, one_atom}
 use Rattle.lmn_receipt_chain.proofs.ChainLemmas.{traces_are_chains}
 
 inert : {path f : List ℕ} {k : ℕ} {xs : List SolidAtom} → EmbedsIn path k f (region xs no_region []) → ⊥
@@ -91,3 +93,15 @@ no_greater_reach text found = let far = found.reached.1 in omega (arith, far)
 
 pub none_is_made : NoneIsMade
 none_is_made text s found = nothing_next (found.made.2 0 (omega arith) (omega arith))
+
+-- ---- line feeds
+
+nothing_behind : {before : List Region} {last : Region} → Continued one_atom before last → last ≡ one_atom
+nothing_behind begun = refl
+nothing_behind (continued {S' = S'} {S'' = S''} p c) = absurd (nothing_continues S'' (subst (λ S. Continues S S'') (nothing_behind p) c))
+
+pub one_feed : OneFeed
+one_feed before last c = subst HasOneFeed (sym (nothing_behind c)) ((λ e. omega (arith, e)), ((λ e. omega (arith, e)), tt))
+
+pub two_feeds : TwoFeeds
+two_feeds h = (h [] (region (record { label = named (codes "\n"); links = [] } ∷ []) no_region []) begun).1.0 refl

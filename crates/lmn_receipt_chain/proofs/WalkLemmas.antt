@@ -1,9 +1,9 @@
 -- How a trace is gone through.
-use Rattle.std.proofs.Common.{◌≡◌, ◌∙◌, ℕ, ◌+◌, ◌<◌, ◌≤◌, List, [], ◌∷◌, ◌++◌, Option, Some, None, codes, drop, length, map, take, inl, inr, refl, sym, ap, subst, arith, append_assoc, append-nil, length-append, ◌-◌}
+use Rattle.std.proofs.Common.{◌≡◌, ◌∙◌, ℕ, ◌+◌, ◌<◌, ◌≤◌, List, [], ◌∷◌, ◌++◌, Option, Some, None, codes, drop, length, map, take, inl, inr, refl, sym, ap, arith, append_assoc, append-nil, length-append}
 use Rattle.std.specs.Prelude.{IfSome}
 use Rattle.std.specs.List.{concat}
 use Rattle.std.proofs.lemmas.Option.{IfSome_then}
-use Rattle.std.proofs.lemmas.List.{drop-drop, length-drop}
+use Rattle.std.proofs.lemmas.List.{length-drop}
 use Rattle.std.proofs.Math.Seq.{take-append_seam}
 use Rattle.lmn_base.specs.declared.solid.Solid.{Solid}
 use Rattle.lmn_congruence.specs.Regions.{Region}
@@ -12,15 +12,14 @@ use Rattle.lmn_adequacy.specs.Embedding.{HasEmbedding}
 use Rattle.lmn_adequacy.specs.Numbered.{IsNumbered}
 use Rattle.lmn_adequacy.proofs.Results.{one_choice, one_numbering}
 use Rattle.lmn_receipt_chain.specs.declared.next.NextSolid.{NextSolid}
-use Rattle.lmn_receipt_chain.specs.declared.walk.Step.TheVariants.{More}
 use Rattle.lmn_app_runs.specs.Runs.{end_line}
 use Rattle.lmn_receipt_chain.specs.Alike.{alike, blurred, times}
-use Rattle.lmn_receipt_chain.specs.Chains.{BeginsChain, Continues, IsEndThere, IsEndWord, IsProcessThere, IsWrongTrace, at_line, begun, continued, no_end_line, line_of_solid, no_next_line}
+use Rattle.lmn_receipt_chain.specs.Chains.{Continues, IsEndWord, line_of_solid}
 use Rattle.lmn_receipt_chain.specs.Found.{IsNextFound, IsNextMade, IsNextTo, NoneBegins}
 use Rattle.lmn_receipt_chain.specs.Laws.{IsAcceptedSolid}
-use Rattle.lmn_receipt_chain.specs.Steps.{IsOtherEnd, IsStep, NoEndIsDue, NothingFits}
-use Rattle.lmn_adequacy.proofs.Runs.{embeds_in, one_longer}
-use Rattle.lmn_receipt_chain.proofs.ChainLemmas.{accepted_of, sound_next}
+use Rattle.lmn_receipt_chain.specs.Steps.{IsOtherEnd, NoEndIsDue, NothingFits}
+use Rattle.lmn_adequacy.proofs.Runs.{embeds_in}
+use Rattle.lmn_receipt_chain.proofs.ChainLemmas.{accepted_of}
 use Rattle.lmn_receipt_chain.proofs.FrameLemmas.{chosen_at, not_there}
 use Rattle.lmn_base.proofs.Numbers.{below_or_from as below_or}
 
@@ -31,98 +30,13 @@ lines_more [] y = append-nil (line_of_solid y)
 lines_more (x ∷ xs) y =
     ap (λ t. line_of_solid x ++ t) (lines_more xs y) ∙ sym (append_assoc (line_of_solid x) (concat (map line_of_solid xs)) (line_of_solid y))
 
--- So far: the trace begins with the lines of n + 1 solids, of which this is the last, and their bytes are so many.
-pub record Stands (S : Region) (trace : List ℕ) (last : Region) (at n : ℕ) : Type 0 where
-  pub before : List Region
-  pub begins : BeginsChain S trace before last (drop at trace)
-  pub count : length before ≡ n
-  pub short : at ≤ length trace
-  pub fewer : n < at
-
--- behind the first line
-pub stands_first : (S : Region) (trace : List ℕ) (len : ℕ) → 0 < len → len ≤ length trace → trace ≡ line_of_solid S ++ drop len trace → Stands S trace S len 0
-stands_first S trace len some short is = record {
-  before = [];
-  begins = record { solids = begun; is = is ∙ ap (λ t. t ++ drop len trace) (sym (append-nil (line_of_solid S))) };
-  count = refl;
-  short = short;
-  fewer = some;
-}
-
--- and behind one more
-pub stands_more : (S : Region) (trace : List ℕ) (last next : Region) (at n len : ℕ) → Stands S trace last at n → Continues last next → 0 < len → len ≤ length (drop at trace)
-    → drop at trace ≡ line_of_solid next ++ drop len (drop at trace) → Stands S trace next (at + len) (n + 1)
-stands_more S trace last next at n len h c some short is =
-    let begins = h.begins in
-    let lines = concat (map line_of_solid (h.before ++ last ∷ [])) in
-    let rest = drop len (drop at trace) in
-    let far : rest ≡ drop (at + len) trace = drop-drop len at trace in
-    let left = length-drop at trace in
-    let P : List ℕ → Type 0 = λ r. trace ≡ concat (map line_of_solid ((h.before ++ last ∷ []) ++ next ∷ [])) ++ r in
-    record {
-      before = h.before ++ last ∷ [];
-      begins = record {
-        solids = continued begins.solids c;
-        is = subst P far (
-            begins.is ∙ ap (λ r. lines ++ r) is ∙ sym (append_assoc lines (line_of_solid next) rest)
-            ∙ ap (λ t. t ++ rest) (sym (lines_more (h.before ++ last ∷ []) next))
-            );
-      };
-      count = one_longer h.before last ∙ ap (λ k. k + 1) h.count;
-      short = omega (arith, short, left, h.short);
-      fewer = omega (arith, h.fewer, some);
-    }
-
--- so far, and what is asked of a solid holds of the last one
-pub record Walked (region : Solid → Region) (asked : Solid → Type 0) (first solid : Solid) (trace : List ℕ) (start at n : ℕ) : Type 0 where
-  pub fits : asked solid
-  pub sound : IsAcceptedSolid (region solid)
-  pub stands : Stands (region first) trace (region solid) at n
-  pub order : start ≤ at
-  pub own : take (at - start) (drop start trace) ≡ line_of_solid (region solid)
-
 -- the front of a text before so many bytes
-first_part : (xs line : List ℕ) (len : ℕ) → len ≤ length xs → xs ≡ line ++ drop len xs → take len xs ≡ line
+pub first_part : (xs line : List ℕ) (len : ℕ) → len ≤ length xs → xs ≡ line ++ drop len xs → take len xs ≡ line
 first_part xs line len few e =
     let all = ap length e ∙ length-append line (drop len xs) in
     let rest = length-drop len xs in
     let same : len ≡ length line = omega (arith, few, all, rest) in
     ap (take len) e ∙ ap (λ k. take k (line ++ drop len xs)) same ∙ take-append_seam line (drop len xs)
-
--- behind the first line
-pub walked_first : (region : Solid → Region) (fits : Solid → Type 0) (first : Solid) (trace : List ℕ) (len : ℕ) → fits first → IsAcceptedSolid (region first) → 0 < len → len ≤ length trace
-    → trace ≡ line_of_solid (region first) ++ drop len trace → Walked region fits first first trace 0 len 0
-walked_first region fits first trace len asked sound some short is = record {
-  fits = asked;
-  sound = sound;
-  stands = stands_first (region first) trace len some short is;
-  order = omega arith;
-  own = ap (λ k. take k trace) (omega arith) ∙ first_part trace (line_of_solid (region first)) len short is;
-}
-
--- behind the line of a solid that continues it
-pub walked_more : (region : Solid → Region) (fits : Solid → Type 0) (first solid : Solid) (trace rest : List ℕ) (start at n m len : ℕ) (next : Solid) → Walked region fits first solid trace start at n
-    → rest ≡ drop at trace → IsStep region fits (region solid) rest m (More next len) → Walked region fits first next trace at (at + len) (n + 1)
-walked_more region fits first solid trace rest start at n m len next w same h =
-    let k : IsStep region fits (region solid) (drop at trace) m (More next len) = subst (λ r. IsStep region fits (region solid) r m (More next len)) same h in
-    record {
-      fits = k.0;
-      sound = sound_next w.sound k.1;
-      stands = stands_more (region first) trace (region solid) (region next) at n len w.stands k.1 k.2 k.3 k.4;
-      order = omega arith;
-      own = ap (λ j. take j (drop at trace)) (omega arith) ∙ first_part (drop at trace) (line_of_solid (region next)) len k.3 k.4;
-    }
-
--- ---- what a step is for the whole trace
-
--- a line of no solid that continues the last one,
-pub wrong_line : (S : Region) (trace : List ℕ) (last : Region) (at n : ℕ) → Stands S trace last at n → IsProcessThere (drop at trace) × NothingFits last (drop at trace) → IsWrongTrace S trace (at_line 61 (n + 2))
-wrong_line S trace last at n h k = no_next_line h.before last (drop at trace) h.begins k.0 k.1 (ap (λ m. at_line 61 (m + 2)) (sym h.count))
-
--- and an end that isn't the one that is due
-pub wrong_end : (S : Region) (trace : List ℕ) (last : Region) (at n : ℕ) → Stands S trace last at n → IsEndThere (drop at trace) × NoEndIsDue last (drop at trace) n → IsWrongTrace S trace (at_line 62 (n + 2))
-wrong_end S trace last at n h k =
-    no_end_line h.before last (drop at trace) h.begins k.0 (λ word ends is. k.1 word ends (is ∙ ap (end_line word) h.count)) (ap (λ m. at_line 62 (m + 2)) (sym h.count))
 
 -- ---- candidates
 

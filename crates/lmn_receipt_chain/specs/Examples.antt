@@ -8,6 +8,7 @@ use Rattle.lmn_adequacy.specs.ChangeExamples.{changing}
 use Rattle.lmn_receipt_chain.specs.Bytes.{IsFirstLine}
 use Rattle.lmn_receipt_chain.specs.Chains.{Continues, IsChain, IsWrongTrace, at_line, line_of_solid}
 use Rattle.lmn_receipt_chain.specs.Found.{AreLeftOut, IsNextFound}
+use Rattle.lmn_receipt_chain.specs.OneFeed.{HaveOneFeed}
 
 -- the solid of `a.`
 abbrev pub one_atom : Region
@@ -81,3 +82,10 @@ NothingIsLeftOut = (S : Region) (text : List ℕ) → AreLeftOut S text []
 -- In `{a. a :- b.}` the membrane isn't left out beside the line of `{b. a :- b.}`.
 abbrev pub ChosenIsAsked : Type 0
 ChosenIsAsked = ¬ (AreLeftOut (inside (changing (label_a ∷ []))) (line_of_solid (inside (changing (label_b ∷ [])))) (false ∷ true ∷ []))
+
+-- The line of `a.` has one line feed, and nothing continues it; where the name of an atom is a line feed it has two.
+abbrev pub OneFeed : Type 0
+OneFeed = HaveOneFeed one_atom
+
+abbrev pub TwoFeeds : Type 0
+TwoFeeds = ¬ (HaveOneFeed (region (record { label = named (codes "\n"); links = [] } ∷ []) no_region []))

@@ -2,6 +2,8 @@ pub mod Alike
 pub mod Bytes
 pub mod Chains
 pub mod Examples
+pub mod Faults
 pub mod Found
 pub mod Laws
+pub mod OneFeed
 pub mod Steps

@@ -7,6 +7,10 @@ use Rattle.lmn_receipt_chain.specs.declared.walk.Step.TheVariants.{More, Done, W
 use Rattle.lmn_app_runs.specs.Runs.{end_line}
 use Rattle.lmn_receipt_chain.specs.Chains.{Continues, IsEndThere, IsEndWord, IsProcessThere, line_of_solid}
 
+-- a text begins with the line of S, which is so long
+abbrev pub BeginsWith : Region → List ℕ → ℕ → Type 0
+BeginsWith S text len = (0 < len) × (len ≤ length text) × (text ≡ line_of_solid S ++ drop len text)
+
 -- no solid that continues S has a line at the beginning of the rest
 abbrev pub NothingFits : Region → List ℕ → Type 0
 NothingFits S rest = (S' : Region) (more : List ℕ) → Continues S S' → ¬ (rest ≡ line_of_solid S' ++ more)

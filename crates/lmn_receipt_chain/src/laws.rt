@@ -1,6 +1,7 @@
 //! The laws of chains.
 
-ghost use Rattle.lmn_receipt_chain.specs.Examples.{ChosenIsAsked, CutShort, Empty, FirstOfTwo, MembraneIsChosen, MoreBehind, NoEnd, NoFiring, NoGreaterReach, NoneIsMade, NotTheSecond, NothingContinues, NothingFires, NothingIsLeftOut, NothingIsNext, TwoSolids, WrongWord};
+ghost use Rattle.lmn_receipt_chain.specs.Examples.{ChosenIsAsked, CutShort, Empty, FirstOfTwo, MembraneIsChosen, MoreBehind, NoEnd, NoFiring, NoGreaterReach, NoneIsMade, NotTheSecond, NothingContinues, NothingFires, NothingIsLeftOut, NothingIsNext, OneFeed, TwoFeeds, TwoSolids, WrongWord};
+ghost use Rattle.lmn_receipt_chain.specs.OneFeed.{PrintableHaveOneFeed};
 ghost use Rattle.lmn_receipt_chain.specs.Laws.{ChainsAreCommits, ContinuesByCommit, NoTraceIsNeither, TracesAreChains, TracesAreOneOf};
 
 /// What is written of a trace that stops is a chain.
@@ -59,4 +60,15 @@ pub fn traces_are_one_of()
 /// No trace is neither a chain from a solid on nor wrong beside it.
 pub fn no_trace_is_neither()
     ensures { NoTraceIsNeither }
+{}
+
+/// From the solid of a plain on of which runs can be printed, the line of each solid of a chain has one line feed, its last byte.
+pub fn lines_have_one_feed()
+    ensures { PrintableHaveOneFeed }
+{}
+
+/// Where the line of each solid of a chain has one line feed, and where it hasn't.
+pub fn feeds_in_lines()
+    ensures one { OneFeed }
+    ensures two { TwoFeeds }
 {}
