@@ -1,7 +1,7 @@
 -- What is written by names without a line feed has none.
-use Rattle.std.proofs.Common.{ℕ, ℤ, pos, negsuc, zero, suc, ◌≡◌, ◌≢◌, ◌+◌, ◌/◌, ◌%◌, ◌==◌, Bool, true, false, if◌then◌else◌, List, [], ◌∷◌, ◌++◌, Some, map, flat_map, codes, refl, sym, ap, ◌∙◌, subst, arith, true≢false}
+use Rattle.std.proofs.Common.{ℕ, ℤ, pos, negsuc, suc, ◌≡◌, ◌≢◌, ◌+◌, ◌/◌, ◌%◌, ◌==◌, Bool, true, false, if◌then◌else◌, List, [], ◌∷◌, ◌++◌, Some, map, flat_map, codes, refl, sym, ap, ◌∙◌, subst, arith, true≢false}
 use Rattle.std.specs.List.{AllByRecursion}
-use Rattle.std.specs.Fmt.{digit_glyph, digits, digits_onto, signed_decimal}
+use Rattle.std.specs.Fmt.{signed_decimal}
 use Rattle.std.proofs.lemmas.Option.{slice_get-get_or}
 use Rattle.lmn_base.specs.declared.guard.Arith.{Arith}
 use Rattle.lmn_base.specs.declared.guard.Cmp.{Cmp}
@@ -21,6 +21,7 @@ use Rattle.lmn_flatten_plain.specs.Words.{Piece, comparison_pieces, condition_pi
 use Rattle.lmn_flatten_plain.proofs.Decimals.{numeral_by_steps}
 use Rattle.lmn_flatten_plain.proofs.LaidLines.{text_append}
 use Rattle.lmn_receipt_chain.specs.Bytes.{NoFeed}
+use Rattle.lmn_receipt_chain.proofs.LineBytes.{digits_quiet}
 use Rattle.lmn_receipt_search.specs.Feeds.{NamesWithout, has_feed}
 
 abbrev pub Quiet : List Piece → Type 0
@@ -36,27 +37,6 @@ unfed (b ∷ bs) e = by (b == 10) refl (unfed bs) e
     by : (t : Bool) → (b == 10) ≡ t → (has_feed bs ≡ false → NoFeed bs) → (if t then true else has_feed bs) ≡ false → NoFeed (b ∷ bs)
     by true q r e = absurd (true≢false e)
     by false q r e = (unequal_when b 10 q, r e)
-
--- the digits of a number
-glyph : (d : ℕ) → digit_glyph false d ≢ 10
-glyph d = by _
-  where
-    by : (b : Bool) → (if b then 48 + d else 87 + d) ≢ 10
-    by true e = omega (arith, e)
-    by false e = omega (arith, e)
-
-onto : (k n : ℕ) (acc : List ℕ) → NoFeed acc → NoFeed (digits_onto k 10 false n acc)
-onto zero n acc h = h
-onto (suc k) n acc h = by (n / 10 == 0) (onto k (n / 10) (digit_glyph false (n % 10) ∷ acc) (glyph (n % 10), h))
-  where
-    by : (b : Bool) → NoFeed (digits_onto k 10 false (n / 10) (digit_glyph false (n % 10) ∷ acc))
-        → NoFeed (if b then digit_glyph false (n % 10) ∷ acc else digits_onto k 10 false (n / 10) (digit_glyph false (n % 10) ∷ acc))
-    by true r = (glyph (n % 10), h)
-    by false r = r
-
-digits_quiet : (n : ℕ) → NoFeed (digits 10 false n)
-unfolding digits
-digits_quiet n = onto 64 n [] tt
 
 -- an integer
 pub integer_quiet : (z : ℤ) → NoFeed (signed_decimal z)

@@ -18,4 +18,4 @@ mod traces;
 pub use next::{embeds, next_of};
 pub use searching::PlainSearch;
 pub use tables::SearchTables;
-pub use traces::check;
+pub use traces::{check, check_lines};
