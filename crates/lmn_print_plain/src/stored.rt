@@ -1,11 +1,11 @@
-//! What stands in one membrane of a store: its atoms and its rules.
-ghost use Rattle.std.specs.Prelude.{◌≡◌, false};
+//! What stands in a membrane of a store: an atom, and its rules.
+ghost use Rattle.std.specs.Prelude.{◌≡◌};
 ghost use Rattle.lmn_store_heap.specs.Heap.{IsAtom, IsMem, arity_of};
 ghost use Rattle.lmn_store_heap.specs.Solid.{links_from};
 ghost use Rattle.lmn_io.specs.Gathering.{Adds, output};
 ghost use Rattle.lmn_flatten_plain.specs.Words.{links_pieces, text_of};
 ghost use Rattle.lmn_print_plain.specs.Rows.{in_row};
-ghost use Rattle.lmn_print_plain.specs.Stored.{atom_text, atom_texts, number_by_mark, rule_texts};
+ghost use Rattle.lmn_print_plain.specs.Stored.{atom_text, number_by_mark, rule_texts};
 
 use crate::labels::{add_label, add_link};
 use crate::leaves::add_between;
@@ -14,30 +14,8 @@ use lmn_base::{Names, RuleTree};
 use lmn_io::{LineBuffer, Sink};
 use lmn_store_trait::LinkStore;
 
-/// Adds the atoms of a membrane. The marks of their ports tell the numbers of links.
-pub(crate) fn add_atoms<S: LinkStore, O: Sink>(
-    buffer: &mut LineBuffer,
-    out: &mut O,
-    names: &Names,
-    store: &S,
-    mem: S::Mem,
-    between: &[u8],
-)
-    requires { IsMem (S.heap store.now) (S.mem_id mem) }
-    ensures { Adds (in_row between.now false (atom_texts names.now (S.heap store.now) (S.mem_id mem))) (output buffer.old (O.told out.old) (O.faults out.old)) (output buffer.new (O.told out.new) (O.faults out.new)) }
-{
-    let mut any = false;
-    let mut next = store.first_atom(mem);
-    while let Some(atom) = next {
-        add_between(buffer, out, any, between);
-        add_atom(buffer, out, names, store, atom);
-        any = true;
-        next = store.next_atom(atom);
-    }
-}
-
-/// Adds an atom.
-fn add_atom<S: LinkStore, O: Sink>(
+/// Adds an atom. The marks of its ports tell the numbers of links.
+pub(crate) fn add_atom<S: LinkStore, O: Sink>(
     buffer: &mut LineBuffer,
     out: &mut O,
     names: &Names,

@@ -6,7 +6,8 @@ ghost use Rattle.lmn_io.specs.Gathering.{Adds, output};
 ghost use Rattle.lmn_print_plain.specs.Rows.{any_behind, in_row};
 ghost use Rattle.lmn_print_plain.specs.Stored.{atom_texts};
 
-use crate::stored::add_atoms;
+use crate::leaves::add_between;
+use crate::stored::add_atom;
 use lmn_base::Names;
 use lmn_io::{LineBuffer, Sink};
 use lmn_store_trait::LinkStore;
@@ -51,7 +52,14 @@ impl<S: LinkStore, O: Sink> AtomWriter<S, O> for PlainAtoms {
         mem: S::Mem,
         between: &[u8],
     ) {
-        add_atoms(buffer, out, names, store, mem, between);
+        let mut any = false;
+        let mut next = store.first_atom(mem);
+        while let Some(atom) = next {
+            add_between(buffer, out, any, between);
+            add_atom(buffer, out, names, store, atom);
+            any = true;
+            next = store.next_atom(atom);
+        }
     }
 
     fn has_atoms(&self, store: &S, mem: S::Mem) -> bool {

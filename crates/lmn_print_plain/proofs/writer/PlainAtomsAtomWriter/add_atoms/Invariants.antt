@@ -7,7 +7,7 @@ use Rattle.lmn_io.specs.Gathering.{output}
 use Rattle.lmn_print_plain.specs.Rows.{in_row}
 use Rattle.lmn_print_plain.specs.Stored.{atom_text, atom_texts}
 use Rattle.lmn_print_plain.proofs.DueLemmas.{Due}
-use Rattle.lmn_print_plain.proofs.stored.add_atoms.Given as goal
+use Rattle.lmn_print_plain.proofs.writer.PlainAtomsAtomWriter.add_atoms.Given as goal
 
 abbrev pub invariant-loop-next : goal.invariant-loop-next
 invariant-loop-next g l =

@@ -1,9 +1,11 @@
-use Rattle.std.proofs.Common.{◌≡◌, Some}
+use Rattle.std.proofs.Common.{◌≡◌, Some, ℕ, List, false, sym, ap}
 use Rattle.std.specs.Option.{option_map}
 use Rattle.lmn_store_heap.specs.Heap.{atoms_in, home_of}
+use Rattle.lmn_io.proofs.TakingLemmas.{adds_as}
+use Rattle.lmn_print_plain.specs.Rows.{in_row}
 use Rattle.lmn_print_plain.specs.Stored.{atom_text}
 use Rattle.lmn_print_plain.proofs.StoredLemmas.{atoms_first, atoms_next, atoms_fewer, atoms_end, atom_at_home, placed_at_home, same_home}
-use Rattle.lmn_print_plain.proofs.stored.add_atoms.Goals as goal
+use Rattle.lmn_print_plain.proofs.writer.PlainAtomsAtomWriter.add_atoms.Goals as goal
 use Rattle.lmn_base.proofs.Lists.{holds_of_item}
 
 pub loop-next-init : goal.loop-next-init
@@ -40,5 +42,6 @@ loop-next-smaller g c =
     atoms_fewer g.S.LinkStore.atom_id c.in-Some.atom c.loop-next.next c.next_atom-next.result (atoms_in h m) c.in-Some.is (c.next_atom-next.ensures.list m home)
 
 pub returns : goal.returns
-returns g c =
-    atoms_end g.S.LinkStore.atom_id c.args.between.now c.loop-next.any (atom_text c.args.names.now (g.S.LinkStore.heap c.args.store.now)) c.loop-next.next (atoms_in (g.S.LinkStore.heap c.args.store.now) (g.S.LinkStore.mem_id c.args.mem)) _ _ _ c.in_default.not-Some c.loop-next.invariant.due
+returns g c = λ texts are.
+    adds_as (sym (ap (λ (ts : List (List ℕ)). in_row c.args.between.now false ts) are))
+    (atoms_end g.S.LinkStore.atom_id c.args.between.now c.loop-next.any (atom_text c.args.names.now (g.S.LinkStore.heap c.args.store.now)) c.loop-next.next (atoms_in (g.S.LinkStore.heap c.args.store.now) (g.S.LinkStore.mem_id c.args.mem)) _ _ _ c.in_default.not-Some c.loop-next.invariant.due)
