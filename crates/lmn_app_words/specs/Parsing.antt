@@ -6,6 +6,8 @@ use Rattle.clap.specs.Values.{bool_text}
 use Rattle.clap.specs.declared.builder.action.ArgAction.TheVariants.{SetTrue}
 use Rattle.clap.specs.declared.builder.command.Command.{Command}
 use Rattle.clap.specs.declared.builder.command.Command.TheViews.{out-Command}
+use Rattle.lmn_app_words.specs.declared.parsing.ArgumentKind.{ArgumentKind}
+use Rattle.lmn_app_words.specs.declared.parsing.ArgumentKind.TheVariants as argument
 use Rattle.lmn_app_words.specs.declared.setting.OrderName.{OrderName}
 use Rattle.lmn_app_words.specs.declared.setting.OrderName.TheVariants as name
 use Rattle.lmn_app_words.specs.Forms.{Request, Run, ordered_by, pair_word, standing_first, standing_last, to_compile, to_demo, to_pair, to_run}
@@ -24,6 +26,12 @@ flag_rule id = record (new_rule id) { long = Some id; action = Some SetTrue }
 -- an option with a value
 abbrev pub option_rule : Text → Rule
 option_rule id = record (new_rule id) { long = Some id }
+
+-- one of these, by its kind
+abbrev pub argument_rule : ArgumentKind → Text → Rule
+argument_rule argument.Required id = required_rule id
+argument_rule argument.Flag id = flag_rule id
+argument_rule argument.Valued id = option_rule id
 
 -- with the options of `run` that have a value
 abbrev pub with_options : App → App

@@ -3,7 +3,7 @@ ghost use Rattle.std.specs.Prelude.{◌≡◌, ◌↔◌, IfOk, false, IfSome, I
 ghost use Rattle.clap.specs.Words.{App, found_of, new_app, rows_of, rule_of, subcommand_rows_of, with_rule, with_subcommand};
 ghost use Rattle.lmn_app_words.specs.Forms.{Asks, InForm, IsInRanges, Pair, Request, Run, request_of, run_of, to_pair};
 ghost use Rattle.lmn_app_words.specs.Hearing.{number_written, order_named};
-ghost use Rattle.lmn_app_words.specs.Parsing.{FoundIsRequest, IsLineOfCommand, Tells, bare_line, flag_rule, option_rule, pair_line, required_rule, run_line, single_lines, whole_line, with_options, with_pair};
+ghost use Rattle.lmn_app_words.specs.Parsing.{FoundIsRequest, IsLineOfCommand, Tells, argument_rule, bare_line, required_rule, run_line, whole_line, with_pair};
 
 use crate::command::{Command, PairKind, RunSettings, RunWords};
 use crate::reading::in_form;
@@ -60,20 +60,13 @@ fn matches_of<'w>(alloc: Global, words: &'w [String]) -> Result<ArgMatches<'w>, 
 fn whole_line<'w>(alloc: Global) -> Result<clap::Command<'w>, AllocError>
     ensures { IfOk result (λ line. IsLineOfCommand line whole_line) }
 {
-    let with_single = single_lines(alloc);
-    let with_check = with_pair(alloc, with_single, "check");
+    let with_run = with_command(bare_line(alloc), run_line(alloc));
+    let with_compile = with_word(alloc, with_run, "compile", "file");
+    let with_demo = with_word(alloc, with_compile, "demo", "number");
+    let with_check = with_pair(alloc, with_demo, "check");
     let with_debug = with_pair(alloc, with_check, "debug");
     let with_exec = with_pair(alloc, with_debug, "exec");
     with_pair(alloc, with_exec, "bound")
-}
-
-/// The command line without the commands that take a second text.
-fn single_lines<'w>(alloc: Global) -> Result<clap::Command<'w>, AllocError>
-    ensures { IfOk result (λ line. IsLineOfCommand line single_lines) }
-{
-    let with_run = with_command(bare_line(alloc), run_line(alloc));
-    let with_compile = with_word(alloc, with_run, "compile", "file");
-    with_word(alloc, with_compile, "demo", "number")
 }
 
 /// The command line without commands. Help, version and the program's name are switched off, since no word of the form asks
@@ -127,7 +120,11 @@ fn with_pair<'w>(
     ensures { (app : App) → IfOk line.entry (λ line. IsLineOfCommand line app) → IfOk result (λ line. IsLineOfCommand line (with_pair app name.entry.now)) }
 {
     match line {
-        Ok(line) => with_command(line, pair_line(alloc, name)),
+        Ok(line) => {
+            let with_first = word_line(alloc, name, "first");
+            let with_last = with_argument(alloc, with_first, "last", ArgumentKind::Required);
+            with_command(line, with_last)
+        }
         Err(AllocError) => Err(AllocError),
     }
 }
@@ -137,32 +134,12 @@ fn run_line<'w>(alloc: Global) -> Result<clap::Command<'w>, AllocError>
     ensures { IfOk result (λ line. IsLineOfCommand line run_line) }
 {
     let with_file = word_line(alloc, "run", "file");
-    let with_trace = with_flag(alloc, with_file, "trace");
-    let with_folded = with_flag(alloc, with_trace, "folded");
-    with_options(alloc, with_folded)
-}
-
-/// A command line with the options of `run` that have a value.
-fn with_options<'w>(
-    alloc: Global,
-    line: Result<clap::Command<'w>, AllocError>,
-) -> Result<clap::Command<'w>, AllocError>
-    ensures { (app : App) → IfOk line.entry (λ line. IsLineOfCommand line app) → IfOk result (λ line. IsLineOfCommand line (with_options app)) }
-{
-    let with_budget = with_option(alloc, line, "budget");
-    let with_size = with_option(alloc, with_budget, "size");
-    let with_order = with_option(alloc, with_size, "order");
-    with_option(alloc, with_order, "seed")
-}
-
-/// The words of a command with a program and a second text.
-fn pair_line<'w>(alloc: Global, name: &'w str) -> Result<clap::Command<'w>, AllocError>
-    ensures { IfOk result (λ line. IsLineOfCommand line (pair_line name.entry.now)) }
-{
-    match word_line(alloc, name, "first") {
-        Ok(line) => line.arg(required(alloc, "last")),
-        Err(AllocError) => Err(AllocError),
-    }
+    let with_trace = with_argument(alloc, with_file, "trace", ArgumentKind::Flag);
+    let with_folded = with_argument(alloc, with_trace, "folded", ArgumentKind::Flag);
+    let with_budget = with_argument(alloc, with_folded, "budget", ArgumentKind::Valued);
+    let with_size = with_argument(alloc, with_budget, "size", ArgumentKind::Valued);
+    let with_order = with_argument(alloc, with_size, "order", ArgumentKind::Valued);
+    with_argument(alloc, with_order, "seed", ArgumentKind::Valued)
 }
 
 /// A command with one word that has to stand there.
@@ -173,59 +150,45 @@ fn word_line<'w>(
 ) -> Result<clap::Command<'w>, AllocError>
     ensures { IfOk result (λ line. IsLineOfCommand line (with_rule (new_app name.entry.now) (required_rule word.entry.now))) }
 {
-    clap::Command::new(alloc, name).arg(required(alloc, word))
+    clap::Command::new(alloc, name).arg(argument(alloc, word, ArgumentKind::Required))
 }
 
-/// A command line with one more option without a value.
-fn with_flag<'w>(
+/// What stands in a command line.
+#[derive(Clone, Copy)]
+enum ArgumentKind {
+    /// A word that has to stand there.
+    Required,
+    /// An option without a value.
+    Flag,
+    /// An option with a value.
+    Valued,
+}
+
+/// A command line with one more argument.
+fn with_argument<'w>(
     alloc: Global,
     line: Result<clap::Command<'w>, AllocError>,
     name: &'w str,
+    kind: ArgumentKind,
 ) -> Result<clap::Command<'w>, AllocError>
-    ensures { (app : App) → IfOk line.entry (λ line. IsLineOfCommand line app) → IfOk result (λ line. IsLineOfCommand line (with_rule app (flag_rule name.entry.now))) }
+    ensures { (app : App) → IfOk line.entry (λ line. IsLineOfCommand line app) → IfOk result (λ line. IsLineOfCommand line (with_rule app (argument_rule kind name.entry.now))) }
 {
     match line {
-        Ok(line) => line.arg(flag(alloc, name)),
+        Ok(line) => line.arg(argument(alloc, name, kind)),
         Err(AllocError) => Err(AllocError),
     }
 }
 
-/// A command line with one more option with a value.
-fn with_option<'w>(
-    alloc: Global,
-    line: Result<clap::Command<'w>, AllocError>,
-    name: &'w str,
-) -> Result<clap::Command<'w>, AllocError>
-    ensures { (app : App) → IfOk line.entry (λ line. IsLineOfCommand line app) → IfOk result (λ line. IsLineOfCommand line (with_rule app (option_rule name.entry.now))) }
+/// An argument of a kind.
+fn argument<'w>(alloc: Global, name: &'w str, kind: ArgumentKind) -> Arg<'w>
+    ensures rule { rule_of result ≡ argument_rule kind name.entry.now }
+    ensures local { result.global ≡ false }
 {
-    match line {
-        Ok(line) => line.arg(option(alloc, name)),
-        Err(AllocError) => Err(AllocError),
+    match kind {
+        ArgumentKind::Required => Arg::new(alloc, name).required(true),
+        ArgumentKind::Flag => Arg::new(alloc, name).long(name).action(ArgAction::SetTrue),
+        ArgumentKind::Valued => Arg::new(alloc, name).long(name),
     }
-}
-
-/// A word that has to stand there.
-fn required<'w>(alloc: Global, name: &'w str) -> Arg<'w>
-    ensures rule { rule_of result ≡ required_rule name.entry.now }
-    ensures local { result.global ≡ false }
-{
-    Arg::new(alloc, name).required(true)
-}
-
-/// An option without a value.
-fn flag<'w>(alloc: Global, name: &'w str) -> Arg<'w>
-    ensures rule { rule_of result ≡ flag_rule name.entry.now }
-    ensures local { result.global ≡ false }
-{
-    Arg::new(alloc, name).long(name).action(ArgAction::SetTrue)
-}
-
-/// An option with a value.
-fn option<'w>(alloc: Global, name: &'w str) -> Arg<'w>
-    ensures rule { rule_of result ≡ option_rule name.entry.now }
-    ensures local { result.global ≡ false }
-{
-    Arg::new(alloc, name).long(name)
 }
 
 /// What matches ask for.
