@@ -4,7 +4,6 @@
 mod clearing;
 mod items;
 mod laws;
-mod line;
 mod numbers;
 mod printing;
 mod tree;

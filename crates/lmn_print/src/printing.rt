@@ -6,11 +6,12 @@ ghost use Rattle.lmn_print.specs.Lines.{IsHeapLine};
 ghost use Rattle.lmn_store_heap.specs.Heap.{Unmarked};
 
 use crate::clearing::clear_all;
-use crate::line::write_folded;
 use crate::numbers::number_printed;
+use crate::tree::FoldedItems;
 use lmn_base::{Names, Plain};
 use lmn_io::{Failed, Sink};
 use lmn_print_folding::choose_items;
+use lmn_print_plain::write_line_with;
 use lmn_store_trait::LinkStore;
 
 /// Writes the line of the solid of a store, with its line feed: in the folded form where `folded` asks for it, and else in
@@ -56,7 +57,7 @@ fn print_folded<S: LinkStore, O: Sink>(
     let _chosen = store.root();
     number_printed(store);
     let _numbered = store.root();
-    let answer = write_folded(store, plain, names, sink);
+    let answer = write_line_with(&FoldedItems, store, plain, names, sink);
     clear_all(store);
     let _cleared = store.root();
     answer

@@ -5,7 +5,7 @@ use Rattle.lmn_store_heap.specs.Heap.{home_of}
 use Rattle.lmn_print_folding.specs.Chosen.{items_in}
 use Rattle.lmn_print_plain.proofs.StoredLemmas.{atom_at_home, atoms_fewer}
 use Rattle.lmn_print.proofs.ItemRows.{item_here, items_end, items_first, items_next}
-use Rattle.lmn_print.proofs.tree.add_items.Goals as goal
+use Rattle.lmn_print.proofs.tree.FoldedItemsAtomWriter.add_atoms.Goals as goal
 use Rattle.lmn_base.proofs.Lists.{holds_of_item}
 
 pub loop-next-init : goal.loop-next-init

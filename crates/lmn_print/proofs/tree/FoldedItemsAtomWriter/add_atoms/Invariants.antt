@@ -9,7 +9,7 @@ use Rattle.lmn_print_folding.specs.Chosen.{items_in}
 use Rattle.lmn_print_plain.specs.Rows.{in_row}
 use Rattle.lmn_print.specs.Texts.{AreItemTexts}
 use Rattle.lmn_print.proofs.ItemRows.{ItemsDue}
-use Rattle.lmn_print.proofs.tree.add_items.Given as goal
+use Rattle.lmn_print.proofs.tree.FoldedItemsAtomWriter.add_atoms.Given as goal
 
 abbrev pub invariant-loop-next : goal.invariant-loop-next
 invariant-loop-next g l =
