@@ -21,12 +21,18 @@ use Rattle.lmn_print_plain.proofs.LineLemmas.{stops_row, rules_texts, row_is}
 use Rattle.lmn_print_plain.proofs.RowLemmas.{any_map, comma_row}
 use Rattle.lmn_print_plain.proofs.ToldLemmas.{any_append, any_members}
 use Rattle.lmn_print.specs.Printed.{PrintsForest, none, more}
-use Rattle.lmn_print.specs.Texts.{AreItemTexts, IsLineByMarks, item_text}
+use Rattle.lmn_print.specs.Texts.{AreItemTexts, item_text}
 use Rattle.lmn_print.proofs.OneText.{one_row}
 use Rattle.lmn_flatten_plain.proofs.LaidLines.{text_append}
 use Rattle.lmn_store_heap.proofs.Common.{decide_in as in_or_not}
 use Rattle.lmn_base.specs.Lists.{In}
 use Rattle.lmn_base.proofs.Lists.{in_either}
+
+-- the line of what is printed of the tree of a heap by its marks
+abbrev pub IsLineByMarks : List Name → List RuleTree → Heap → List ℕ → Type 0
+IsLineByMarks names table s text =
+    (f : Forest) × IsTree s f × (root : Folded) × PrintsForest names table s (number_by_mark s) f (membrane_and root no_membrane)
+    × (text ≡ line_of_folded root)
 
 module _ (names : List Name) (table : List RuleTree) (s : Heap) where
   abbrev pub Shown : Forest → FoldedMembranes → Type 0

@@ -14,8 +14,8 @@ use Rattle.lmn_print_plain.proofs.HeapSolids.{heaps_have_solids}
 use Rattle.lmn_print_plain.proofs.MarkLemmas.{tree_same}
 use Rattle.lmn_print.specs.Lines.{IsHeapLine}
 use Rattle.lmn_print.specs.Printed.{PrintsForest, IsNumberedBy}
-use Rattle.lmn_print.specs.Texts.{IsLineByMarks}
 use Rattle.lmn_print.proofs.ChosenForms.{chosen_line, given_of, line_is}
+use Rattle.lmn_print.proofs.FoldedText.{IsLineByMarks}
 use Rattle.lmn_print.proofs.ClearedMarks.{OtherMarks, others_more, arity_same}
 use Rattle.lmn_print.proofs.MarkedSolids.{heap_same, solid_same}
 

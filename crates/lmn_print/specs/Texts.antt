@@ -1,15 +1,13 @@
--- The texts of what is printed of a heap by its own marks, and its line. Contracts of this crate's own functions alone cite these words.
+-- The texts of what is printed of a heap by its own marks. Contracts of this crate's own functions alone cite these words.
 use Rattle.std.specs.Prelude.{ℕ, ◌≡◌, List, map}
-use Rattle.lmn_base.specs.declared.rule.RuleTree.{RuleTree}
 use Rattle.lmn_congruence.specs.Rules.{Name}
-use Rattle.lmn_print_folded.specs.Terms.{FoldedItem, Folded, no_membrane, membrane_and}
-use Rattle.lmn_print_folded.specs.Words.{item_pieces, line_of_folded}
+use Rattle.lmn_print_folded.specs.Terms.{FoldedItem}
+use Rattle.lmn_print_folded.specs.Words.{item_pieces}
 use Rattle.lmn_store_heap.specs.Heap.{Heap}
-use Rattle.lmn_store_heap.specs.Sound.{Forest, IsTree, Valid}
+use Rattle.lmn_store_heap.specs.Sound.{Valid}
 use Rattle.lmn_print_folding.specs.Chosen.{PrintsItems, items_in}
 use Rattle.lmn_flatten_plain.specs.Words.{text_of}
 use Rattle.lmn_print_plain.specs.Stored.{number_by_mark}
-use Rattle.lmn_print.specs.Printed.{PrintsForest}
 
 abbrev pub item_text : FoldedItem → List ℕ
 item_text i = text_of (item_pieces i)
@@ -18,9 +16,3 @@ item_text i = text_of (item_pieces i)
 abbrev pub AreItemTexts : List Name → Heap → ℕ → List (List ℕ) → Type 0
 AreItemTexts names s m texts =
     Valid s × (shown : List FoldedItem) × PrintsItems names s (number_by_mark s) (items_in s m) shown × (texts ≡ map item_text shown)
-
--- the line of what is printed of the tree of a heap by its marks
-abbrev pub IsLineByMarks : List Name → List RuleTree → Heap → List ℕ → Type 0
-IsLineByMarks names table s text =
-    (f : Forest) × IsTree s f × (root : Folded) × PrintsForest names table s (number_by_mark s) f (membrane_and root no_membrane)
-    × (text ≡ line_of_folded root)
