@@ -6,6 +6,7 @@ mod SingleLemmas
 mod BoundLemmas
 mod CheckLemmas
 mod PairLemmas
+mod ReadTraces
 mod DebugLemmas
 mod ExecLemmas
 mod OneBound

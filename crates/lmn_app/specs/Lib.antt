@@ -11,6 +11,7 @@ pub mod Executions
 pub mod Requests
 pub mod Fetched
 pub mod Runnings
+pub mod Traces
 pub mod RunLaws
 pub mod SecondTexts
 pub mod SingleLaws

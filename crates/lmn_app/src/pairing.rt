@@ -1,5 +1,7 @@
 ghost use Rattle.std.specs.Prelude.{◌≡◌, ◌≤◌, ◌^◌, ℕ, List, Option, IfErr, IfOk, Some, length};
 ghost use Rattle.lmn_io.specs.Counts.{Faults};
+ghost use Rattle.lmn_io.specs.Texts.{IsMeasured};
+ghost use Rattle.lmn_io.specs.declared.shelf.Measured.{Measured};
 ghost use Rattle.lmn_app_words.specs.Forms.{pair_of, to_pair};
 ghost use Rattle.lmn_app.specs.Fetched.{AcceptsTold};
 ghost use Rattle.lmn_app.specs.Outcomes.{RequestEnded};
@@ -17,7 +19,7 @@ use lmn_app_reading::Accepted;
 use lmn_app_single::Ending;
 use lmn_app_words::{PairKind, PairWords};
 use lmn_base::{Names, Pos, Refusal, RefusalCode, Rows};
-use lmn_io::{FetchFault, Fetched, Shelf, Sink};
+use lmn_io::{FetchFault, Fetched, Measured, Shelf, Sink};
 use std::alloc::Global;
 
 /// Does what a command does with an accepted program and a second text, which it fetches.
@@ -42,7 +44,7 @@ pub(crate) fn act_on_pair<F: Shelf, O: Sink>(
     }
 }
 
-/// Checks a trace, which it fetches, against an accepted program.
+/// Checks a trace, which it measures and reads in parts, against an accepted program.
 fn check_on<F: Shelf, O: Sink>(
     alloc: Global,
     words: PairWords<'_>,
@@ -56,8 +58,8 @@ fn check_on<F: Shelf, O: Sink>(
     ensures asked { FetchesSecond (pair_of words.entry) result (F.told shelf.old) (F.asked shelf.old) (F.asked shelf.new) }
     ensures ended { RequestEnded (to_pair (pair_of words.entry)) result (F.told shelf.old) (O.told out.old) (O.told out.new) (O.faults out.old) (O.faults out.new) (F.faults shelf.old) (F.faults shelf.new) }
 {
-    match fetch_second(alloc, words, shelf) {
-        Ok(trace) => check_by(alloc, accepted, names, trace.as_slice(), out),
+    match measure_second(alloc, words, shelf) {
+        Ok(length) => check_by(alloc, accepted, names, shelf, words.second, length, out),
         Err(ending) => ending,
     }
 }
@@ -100,6 +102,29 @@ pub(crate) fn fetch_second<F: Shelf>(
     match shelf.fetch(alloc, words.second, second_bytes(words.kind)) {
         Ok(Fetched::Whole(text)) => Ok(text),
         Ok(Fetched::TooLong) => Err(Ending::SecondRefused(words.kind, too_long(words.kind))),
+        Err(FetchFault::Failed) => Err(Ending::ReadFault),
+        Err(FetchFault::NoMemory) => Err(Ending::NoMemory),
+    }
+}
+
+/// The length of the second text of a command, or how a call ends without one. The program is accepted.
+fn measure_second<F: Shelf>(
+    alloc: Global,
+    words: PairWords<'_>,
+    shelf: &mut F,
+) -> Result<u64, Ending>
+    ensures same { F.told shelf.new ≡ F.told shelf.old }
+    ensures later { (name : List ℕ) → F.faults shelf.old name ≤ F.faults shelf.new name }
+    ensures asked { F.asked shelf.new ≡ asked_second (pair_of words.entry) (F.asked shelf.old) }
+    ensures fetched { IfErr result (λ ending. HasProgram (pair_of words.entry) (F.told shelf.old) →
+        FetchesSecond (pair_of words.entry) ending (F.told shelf.old) (F.asked shelf.old) (F.asked shelf.new)) }
+    ensures measured { IfOk result (λ length. IsMeasured (F.told shelf.old) (pair_of words.entry).second (second_bytes (pair_of words.entry).kind) (Measured.Length length)) }
+    ensures fault { IfErr result (λ ending. (took : Option (List ℕ)) (count : Faults) → HasProgram (pair_of words.entry) (F.told shelf.old) →
+        RequestEnded (to_pair (pair_of words.entry)) ending (F.told shelf.old) took took count count (F.faults shelf.old) (F.faults shelf.new)) }
+{
+    match shelf.measure(alloc, words.second, second_bytes(words.kind)) {
+        Ok(Measured::Length(length)) => Ok(length),
+        Ok(Measured::TooLong) => Err(Ending::SecondRefused(words.kind, too_long(words.kind))),
         Err(FetchFault::Failed) => Err(Ending::ReadFault),
         Err(FetchFault::NoMemory) => Err(Ending::NoMemory),
     }
