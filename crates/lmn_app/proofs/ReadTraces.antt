@@ -1,6 +1,16 @@
 -- Traces that are read in parts.
 use Rattle.std.proofs.Common.{◌≡◌, ◌≤◌, ◌∙◌, ℕ, List, Option, arith, inl, inr, refl, subst, sym}
+use Rattle.std.specs.Prelude.{IfErr, IfOk, Result, Ok, Err}
 use Rattle.lmn_base.specs.declared.refusal.Refusal.{Refusal}
+use Rattle.lmn_base.specs.declared.rule.Plain.{Plain}
+use Rattle.lmn_base.specs.declared.solid.Solid.{Solid}
+use Rattle.lmn_congruence.specs.Rules.{Name}
+use Rattle.lmn_congruence.specs.SolidsOfPlains.{IsSolidOf}
+use Rattle.lmn_congruence.specs.Translation.{region_of}
+use Rattle.lmn_receipt_chain.specs.Chains.{IsChain, IsWrongTrace}
+use Rattle.lmn_receipt_chain.specs.Faults.{IfTraceRefused}
+use Rattle.lmn_receipt_chain.specs.declared.trace_fault.TraceFault.{TraceFault}
+use Rattle.lmn_receipt_chain.specs.declared.trace_fault.TraceFault.TheVariants as fault
 use Rattle.lmn_io.specs.Counts.{Faults, Rose}
 use Rattle.lmn_io.specs.Texts.{Fetch, IsMeasured}
 use Rattle.lmn_io.specs.declared.shelf.Measured.TheVariants as measured
@@ -19,7 +29,7 @@ use Rattle.lmn_app.specs.Outcomes.{RequestEnded}
 use Rattle.lmn_app.specs.Pairs.{HasProgram}
 use Rattle.lmn_app.specs.Runnings.{EndsByLine}
 use Rattle.lmn_app.specs.SecondTexts.{second_bytes}
-use Rattle.lmn_app.specs.Traces.{EndsChecked, IsTextUnder}
+use Rattle.lmn_app.specs.Traces.{EndsChecked, HasChain, HasWrong, IsTextUnder}
 use Rattle.lmn_app.proofs.PairLemmas.{line_ended}
 use Rattle.lmn_app.proofs.RequestLemmas.{since_earlier}
 
@@ -43,6 +53,23 @@ module _ {F : Type 0} (told : F → Option (List ℕ → Option (List ℕ))) (as
   read_failed s filled mid t n first chain failed =
       failed_behind (seen told asked faults s) (seen told asked faults mid) (seen told asked faults t)
       (same_twice (seen told asked faults s) (seen told asked faults filled) (seen told asked faults mid) first (read_same filled mid n chain).1) failed
+
+-- ---- what a check of lines says of the text
+
+module _ (names : List Name) (plain : Plain) (Rest Text : List ℕ → Type 0) (back : (text : List ℕ) → Rest text → Text text) where
+  -- a chain of what may be left is one of what may be the text
+  pub chain_read : {E : Type 0} (result : Result ℕ E) → IfOk result (λ n. (trace : List ℕ) × (s : Solid) × Rest trace × IsSolidOf plain s × IsChain (region_of names plain.rules s) trace n)
+      → IfOk result (λ n. (text : List ℕ) × Text text × HasChain names plain text n)
+  chain_read (Ok n) h = (h.0, back h.0 h.2, (h.1, h.3, h.4))
+  chain_read (Err e) h = tt
+
+  -- and so it is with what is wrong
+  pub wrong_read : (result : Result ℕ TraceFault) → IfErr result (λ fault. IfTraceRefused fault (λ refusal. (trace : List ℕ) × (s : Solid) × Rest trace × IsSolidOf plain s × IsWrongTrace (region_of names plain.rules s) trace refusal))
+      → IfErr result (λ fault. IfTraceRefused fault (λ refusal. (text : List ℕ) × Text text × HasWrong names plain text refusal))
+  wrong_read (Ok n) h = tt
+  wrong_read (Err (fault.Refused r)) h = (h.0, back h.0 h.2, (h.1, h.3, h.4))
+  wrong_read (Err fault.Failed) h = tt
+  wrong_read (Err fault.NoMemory) h = tt
 
 -- ---- how a call ends that checks one
 

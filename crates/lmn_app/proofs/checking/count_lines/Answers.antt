@@ -1,9 +1,10 @@
 use Rattle.std.proofs.Common.{◌∙◌}
 use Rattle.lmn_app_accepted.proofs.Loadable.{loadable}
+use Rattle.lmn_receipt_reading.specs.Readings.{IsRest}
 use Rattle.lmn_receipt_reading.specs.Seen.{seen}
 use Rattle.lmn_receipt_reading.proofs.ReadingLemmas.{same_twice}
 use Rattle.lmn_app.proofs.CheckLemmas.{printable_of, rules_fit}
-use Rattle.lmn_app.proofs.ReadTraces.{read_failed, read_same}
+use Rattle.lmn_app.proofs.ReadTraces.{chain_read, read_failed, read_same, wrong_read}
 use Rattle.lmn_app.proofs.checking.count_lines.Goals as goal
 
 pub check_lines-requires-clause-searched : goal.check_lines-requires-clause-searched
@@ -45,3 +46,13 @@ pub returns-in-Ok-clause-failed : goal.returns-in-Ok-clause-failed
 returns-in-Ok-clause-failed g c = λ failed.
     let h = c.check_lines.ensures.failed failed in
     read_failed g.F.Shelf.told g.F.Shelf.asked g.F.Shelf.faults c.args.lines.now c.fill.new.self h.1 c.check_lines.new.lines h.0 c.fill.ensures.same h.2 h.3
+
+pub returns-in-Ok-clause-chain : goal.returns-in-Ok-clause-chain
+returns-in-Ok-clause-chain g c =
+    let lines = seen g.F.Shelf.told g.F.Shelf.asked g.F.Shelf.faults in
+    chain_read c.args.names.now c.args.accepted.now.plain (IsRest (lines c.fill.new.self)) (IsRest (lines c.args.lines.now)) c.in-Ok.ensures.on.rest c.check_lines.result c.check_lines.ensures.chain
+
+pub returns-in-Ok-clause-wrong : goal.returns-in-Ok-clause-wrong
+returns-in-Ok-clause-wrong g c =
+    let lines = seen g.F.Shelf.told g.F.Shelf.asked g.F.Shelf.faults in
+    wrong_read c.args.names.now c.args.accepted.now.plain (IsRest (lines c.fill.new.self)) (IsRest (lines c.args.lines.now)) c.in-Ok.ensures.on.rest c.check_lines.result c.check_lines.ensures.wrong
