@@ -61,9 +61,9 @@ impl Window {
         &self.bytes[self.end..]
     }
 
-    /// The number of bytes that are kept.
+    /// The number of bytes that are kept when more are added: of what was met last, and of what is ahead.
     pub(crate) fn len(&self) -> usize {
-        self.bytes.len()
+        self.bytes.len() - self.start
     }
 
     /// Goes behind so many bytes of what is ahead: they were met last.
