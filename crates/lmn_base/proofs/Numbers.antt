@@ -134,6 +134,11 @@ left_not_zero m n h = grind arith
 pub right_not_zero : (m n : ℕ) → n ≢ 0 → m + n ≢ 0
 right_not_zero m n h = grind arith
 
+-- what isn't 0 is above it
+pub above_zero : (n : ℕ) → (n ≡ 0 → ⊥) → 0 < n
+above_zero zero d = absurd (d refl)
+above_zero (suc n) d = omega arith
+
 -- what is one is not zero
 pub not_zero_if_one : (n : ℕ) → n ≡ 1 → n ≢ 0
 not_zero_if_one n e = grind arith

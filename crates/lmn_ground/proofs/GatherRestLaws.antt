@@ -281,7 +281,3 @@ remains_whole s now to atoms ys rooms new e fresh is = record {
 pub no_rows : {A : Type 0} (id : A → ℕ) (xs : List A) (ys : List ℕ) → map id xs ≡ ys → length xs ≡ 0 → ys ≡ []
 no_rows id [] ys e l = sym e
 no_rows id (x ∷ xs) ys e l = absurd (omega (arith, l))
-
-pub not_zero : (n : ℕ) → (n ≡ 0 → ⊥) → 0 < n
-not_zero zero d = absurd (d refl)
-not_zero (suc n) d = omega arith

@@ -4,6 +4,8 @@ use Rattle.std.specs.Prelude.{SomeIff, FitsSigned, int_div, int_rem, neg_ℤ, if
 use Rattle.std.specs.Int.{w64, cast_signed, cast_unsigned, CanDivide, IsNonZero}
 use Rattle.std.specs.Int.Signed.{mag, mag_rem}
 use Rattle.std.proofs.lemmas.Int.{ints, to_z-of_z, quot-rem, rem_is}
+use Rattle.lmn_base.proofs.Truth.{never_both}
+use Rattle.lmn_base.proofs.Numbers.{above_zero}
 use Rattle.lmn_base.specs.declared.guard.Arith.TheVariants.{Add, Sub, Mul, Div, Mod}
 use Rattle.lmn_guards.specs.Values.{in_range, ranged, result_of, is_zero}
 
@@ -25,9 +27,6 @@ range_fits z e = grind (arith, ints)
 chosen : (b : Bool) (x : Option ℤ) (z : ℤ) → (b ≡ true → x ≡ Some z) → (b ≡ false → x ≡ None) → x ≡ (if b then Some z else None)
 chosen true x z f g = f refl
 chosen false x z f g = g refl
-
-never_both : (b : Bool) → b ≡ true → b ≡ false → ⊥
-never_both b e f = let clash : true ≡ false = sym e ∙ f in cc
 
 -- what is there exactly where an integer fits is the integer in range
 pub ranged_is : (x : Option ℤ) (z : ℤ) → SomeIff x (FitsSigned w64 z) z → x ≡ ranged z
@@ -97,17 +96,13 @@ by_less_one_is m (pos k) f g e = let h : mag (pos k) < 2 ^ 63 = g.sfits in absur
 by_less_one_is m (negsuc zero) f g e = sym (ap (λ z. Some z) (by_less_one m)) ∙ remainder_is m (negsuc 0) f refl
 by_less_one_is m (negsuc (suc k)) f g e = let h : mag (negsuc (suc k)) < 2 ^ 63 = g.sfits in absurd (omega (arith, h, e))
 
-positive : (n : ℕ) → (n ≡ 0 → ⊥) → 0 < n
-positive zero d = absurd (d refl)
-positive (suc n) d = omega arith
-
 -- and what the operator leaves, by any other
 pub rest_of_is : (m n : ℤ) → FitsSigned w64 m → FitsSigned w64 n → (cast_unsigned w64 n ≡ 0 → ⊥) → Some (cast (int_rem (cast m) (cast n))) ≡ result_of Mod m n
-rest_of_is m n f g d = ap (λ z. Some z) (rem_is w64 m n f g) ∙ remainder_is m n f (divisor_nonzero n (positive (cast_unsigned w64 n) d))
+rest_of_is m n f g d = ap (λ z. Some z) (rem_is w64 m n f g) ∙ remainder_is m n f (divisor_nonzero n (above_zero (cast_unsigned w64 n) d))
 
 -- the same of the call that wraps, which asks for a divisor
 pub divisor_is : (n : ℤ) → FitsSigned w64 n → (cast_unsigned w64 n ≡ 0 → ⊥) → IsNonZero w64 (cast n)
-divisor_is n g d = subst (IsNonZero w64) (sym (to_z-of_z w64 n g)) (positive (cast_unsigned w64 n) d)
+divisor_is n g d = subst (IsNonZero w64) (sym (to_z-of_z w64 n g)) (above_zero (cast_unsigned w64 n) d)
 
 pub wrapped_rest_is : (x m n : ℤ) → FitsSigned w64 m → FitsSigned w64 n → (cast_unsigned w64 n ≡ 0 → ⊥) → x ≡ int_rem (cast m) (cast n) → Some (cast x) ≡ result_of Mod m n
 wrapped_rest_is x m n f g d e = ap (λ z. Some (cast z)) e ∙ rest_of_is m n f g d

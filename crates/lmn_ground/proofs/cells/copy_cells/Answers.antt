@@ -7,11 +7,12 @@ use Rattle.lmn_store_heap.specs.Heap.{Heap, HeapAtom, Distinct, IsAtom, marks_of
 use Rattle.lmn_ground_parts.specs.Copies.{made_like}
 use Rattle.lmn_ground_parts.specs.Rests.{AreRoomsFor, RestRemains, joined_copies}
 use Rattle.lmn_ground_parts.specs.Walks.{is_in}
+use Rattle.lmn_base.proofs.Numbers.{above_zero}
 use Rattle.lmn_ground.specs.Rests.{AreMembranes, IsLeft}
 use Rattle.lmn_ground.proofs.CopyLaws.{length_map}
 use Rattle.lmn_ground.proofs.RestLaws.{atoms_once}
 use Rattle.lmn_ground.proofs.RestCopyLaws.{on_error, on_ok}
-use Rattle.lmn_ground.proofs.GatherRestLaws.{are_members, copied_bare, copied_whole, no_rows, not_zero, remains_nothing, remains_only, remains_whole, rest_atom, rest_clean, rest_member, roomy_atoms}
+use Rattle.lmn_ground.proofs.GatherRestLaws.{are_members, copied_bare, copied_whole, no_rows, remains_nothing, remains_only, remains_whole, rest_atom, rest_clean, rest_member, roomy_atoms}
 use Rattle.lmn_ground.proofs.cells.copy_cells.Goals as goal
 
 pub returns-in_err-gather_membranes-clause-err : goal.returns-in_err-gather_membranes-clause-err
@@ -73,7 +74,7 @@ copy_atoms-requires g c =
     record {
       there = λ x i. subst (λ (f : ℕ → Option HeapAtom). IsSome (f x)) (sym same) (there x (subst (In x) all i));
       once = subst Distinct (sym all) (atoms_once s c.root-root.ensures.sound m (λ a. own_mark s a == 0) (λ n. not (is_in out n)) r.0 r.1 r.2);
-      some = not_zero (length c.gather_atoms.new.atoms) (λ e. c.if-len-eq0.false (c.len.ensures ∙ e));
+      some = above_zero (length c.gather_atoms.new.atoms) (λ e. c.if-len-eq0.false (c.len.ensures ∙ e));
       clean = λ x i. ap (λ (f : ℕ → Option HeapAtom). slice_index_or (marks_of (f x)) 0 0) same ∙ rest_clean s c.requires.clean x (c.requires.unmatched r.0 r.1 r.2 x (subst (In x) all i));
       stays = λ a i b j k link. subst (In b) (sym all) (c.requires.closed r.0 r.1 r.2 a i b j (subst (In a) all k) (ap (λ (f : ℕ → Option HeapAtom). slice_index_or (partners_of (f a)) i None) (sym same) ∙ link));
     }
