@@ -10,6 +10,7 @@ ghost use Rattle.lmn_ground.specs.Follow.{Two};
 ghost use Rattle.lmn_ground_parts.specs.Walks.{IsPartInDepth};
 
 use crate::compare::{are_alike, compare};
+use crate::found::Found;
 use crate::parts::size_of;
 use crate::seek::arity;
 use crate::spread::spread;
@@ -41,7 +42,13 @@ fn equals_numbered<S: LinkStore>(store: &mut S, x: (S::Atom, u8), y: (S::Atom, u
 }
 
 /// Whether two parts with no common atom are equal, where x's part has `size` atoms.
-fn equals_apart<S: LinkStore>(store: &mut S, x: (S::Atom, u8), y: (S::Atom, u8), size: u64) -> bool
+fn equals_apart<S: LinkStore>(
+    store: &mut S,
+    x: (S::Atom, u8),
+    y: (S::Atom, u8),
+    size: u64,
+    trail: &mut Found<S::Atom>,
+) -> bool
     requires x { IsPort (S.heap store.old) (S.atom_id x.0) x.1 }
     requires y { IsPort (S.heap store.old) (S.atom_id y.0) y.1 }
     requires clean { PortsUnmarked (S.heap store.old) }
@@ -55,7 +62,7 @@ fn equals_apart<S: LinkStore>(store: &mut S, x: (S::Atom, u8), y: (S::Atom, u8),
     ensures same { S.heap store.new ≡ S.heap store.old }
 {
     let _arity = arity(store, y.0);
-    let found = spread(store, y, None);
+    let found = spread(store, y, None, trail);
     let _marked = arity(store, y.0);
     if size != found.0 {
         wipe(store, y, found.0, Deed::Leave);
@@ -66,8 +73,14 @@ fn equals_apart<S: LinkStore>(store: &mut S, x: (S::Atom, u8), y: (S::Atom, u8),
     same
 }
 
-/// Whether two parts are equal as rooted graphs. They have one root port, or no atom in common.
-pub fn equal<S: LinkStore>(store: &mut S, x: (S::Atom, u8), y: (S::Atom, u8)) -> bool
+/// Whether two parts are equal as rooted graphs. They have one root port, or no atom in common. The walks use the room of `trail`,
+/// whatever it holds.
+pub fn equal<S: LinkStore>(
+    store: &mut S,
+    x: (S::Atom, u8),
+    y: (S::Atom, u8),
+    trail: &mut Found<S::Atom>,
+) -> bool
     requires x { IsPort (S.heap store.old) (S.atom_id x.0) x.1 }
     requires y { IsPort (S.heap store.old) (S.atom_id y.0) y.1 }
     requires clean { PortsUnmarked (S.heap store.old) }
@@ -88,6 +101,6 @@ pub fn equal<S: LinkStore>(store: &mut S, x: (S::Atom, u8), y: (S::Atom, u8)) ->
         return false;
     }
     let _arity = arity(store, x.0);
-    let size = size_of(store, x);
-    equals_apart(store, x, y, size)
+    let size = size_of(store, x, trail);
+    equals_apart(store, x, y, size, trail)
 }

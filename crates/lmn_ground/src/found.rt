@@ -1,10 +1,10 @@
-ghost use Rattle.std.specs.Prelude.{◌≡◌, [], ◌∷◌, ◌++◌, ◌<◌, length, slice_get, Some, OnOk, OnErr};
+ghost use Rattle.std.specs.Prelude.{◌≡◌, [], ◌∷◌, ◌++◌, ◌<◌, length, slice_get, Some, IfOk, OnOk, OnErr, if◌then◌else◌};
 
 use lmn_base::NoMemory;
 use std::alloc::Global;
 use std::marker::Model;
 
-/// What a walk has found, in order.
+/// What a walk has found, in order: any number of values.
 #[derive(Drop)]
 pub struct Found<T> {
     items: Vec<T>,
@@ -29,6 +29,15 @@ impl<T> Found<T> {
         Found {
             items: Vec::new(alloc),
         }
+    }
+
+    /// Nothing, with the memory for n values taken at once.
+    pub fn with_room(alloc: Global, n: usize) -> Result<Found<T>, NoMemory>
+        ensures { IfOk result (λ f. f ≡ []) }
+    {
+        Ok(Found {
+            items: Vec::with_capacity(alloc, n)?,
+        })
     }
 
     /// How many have been found.
@@ -65,5 +74,24 @@ impl<T: Drop> Found<T> {
     {
         self.items.push(v)?;
         Ok(())
+    }
+
+    /// Adds one at the end, where memory is at hand for it: none is taken. Answers whether it was added.
+    #[inline(always)]
+    pub fn push_if_room(&mut self, v: T) -> bool
+        ensures { self.new ≡ (if result then self.old ++ v ∷ [] else self.old) }
+    {
+        if self.items.len() == self.items.capacity() {
+            return false;
+        }
+        self.items.push_reserved(v);
+        true
+    }
+
+    /// Takes all away. Their memory stays at hand.
+    pub fn clear(&mut self)
+        ensures { self.new ≡ [] }
+    {
+        self.items.clear();
     }
 }

@@ -23,6 +23,7 @@ pub use closing::closed;
 pub use copying::{CountedCopy, copy, copy_counted};
 pub use equality::{equal, is_same_port};
 pub use examples::rests_stand;
+pub use found::Found;
 pub use marks::MATCHED;
 pub use measuring::items_left;
 pub use painting::paint;

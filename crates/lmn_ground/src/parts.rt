@@ -7,13 +7,20 @@ ghost use Rattle.lmn_store_heap.specs.Splice.{IsPort};
 ghost use Rattle.lmn_ground.specs.Spread.{AreAtoms, IsWhole, IsGroundIn};
 ghost use Rattle.lmn_ground_parts.specs.Walks.{IsPartInDepth};
 
+use crate::found::Found;
 use crate::seek::arity;
 use crate::spread::{fits, spread};
 use crate::wipe::{Deed, wipe};
 use lmn_store_trait::LinkStore;
 
-/// Whether the part with this root stands whole in the membrane, and none of its atoms has the own mark 1.
-pub fn is_ground<S: LinkStore>(store: &mut S, root: (S::Atom, u8), mem: S::Mem) -> bool
+/// Whether the part with this root stands whole in the membrane, and none of its atoms has the own mark 1. The walk uses the room
+/// of `trail`, whatever it holds.
+pub fn is_ground<S: LinkStore>(
+    store: &mut S,
+    root: (S::Atom, u8),
+    mem: S::Mem,
+    trail: &mut Found<S::Atom>,
+) -> bool
     requires root { IsPort (S.heap store.old) (S.atom_id root.0) root.1 }
     requires mem { IsMem (S.heap store.old) (S.mem_id mem) }
     requires clean { PortsUnmarked (S.heap store.old) }
@@ -27,13 +34,13 @@ pub fn is_ground<S: LinkStore>(store: &mut S, root: (S::Atom, u8), mem: S::Mem) 
     if ports == 1 {
         return true;
     }
-    let found = spread(store, root, Some(mem));
+    let found = spread(store, root, Some(mem), trail);
     wipe(store, root, found.0, Deed::Leave);
     found.1
 }
 
-/// The number of atoms of the part with this root.
-pub fn size_of<S: LinkStore>(store: &mut S, root: (S::Atom, u8)) -> u64
+/// The number of atoms of the part with this root. The walk uses the room of `trail`, whatever it holds.
+pub fn size_of<S: LinkStore>(store: &mut S, root: (S::Atom, u8), trail: &mut Found<S::Atom>) -> u64
     requires root { IsPort (S.heap store.old) (S.atom_id root.0) root.1 }
     requires clean { PortsUnmarked (S.heap store.old) }
     requires ground { IsWhole (S.heap store.old) (S.atom_id root.0, root.1) None }
@@ -45,13 +52,13 @@ pub fn size_of<S: LinkStore>(store: &mut S, root: (S::Atom, u8)) -> u64
     if ports == 1 {
         return 1;
     }
-    let found = spread(store, root, None);
+    let found = spread(store, root, None, trail);
     wipe(store, root, found.0, Deed::Leave);
     found.0
 }
 
-/// Takes every atom of the part with this root; partners stay as they are.
-pub fn take_part<S: LinkStore>(store: &mut S, root: (S::Atom, u8))
+/// Takes every atom of the part with this root; partners stay as they are. The walk uses the room of `trail`, whatever it holds.
+pub fn take_part<S: LinkStore>(store: &mut S, root: (S::Atom, u8), trail: &mut Found<S::Atom>)
     requires root { IsPort (S.heap store.old) (S.atom_id root.0) root.1 }
     requires clean { PortsUnmarked (S.heap store.old) }
     requires ground { IsWhole (S.heap store.old) (S.atom_id root.0, root.1) None }
@@ -63,6 +70,6 @@ pub fn take_part<S: LinkStore>(store: &mut S, root: (S::Atom, u8))
         store.take_atom(root.0);
         return;
     }
-    let found = spread(store, root, None);
+    let found = spread(store, root, None, trail);
     wipe(store, root, found.0, Deed::Take);
 }

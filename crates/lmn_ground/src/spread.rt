@@ -6,6 +6,7 @@ ghost use Rattle.lmn_store_heap.specs.Splice.{IsPort};
 ghost use Rattle.lmn_ground.specs.Marks.{found_mark};
 ghost use Rattle.lmn_ground.specs.Spread.{AtomFits, CleanPart, IsWhole, Spread};
 
+use crate::found::Found;
 use crate::marks::{FOUND, MATCHED, PORTS};
 use crate::seek::{Stand, arity, go_down, seek};
 use lmn_store_trait::LinkStore;
@@ -42,7 +43,12 @@ pub fn mark_entry<S: LinkStore>(store: &mut S, a: S::Atom, port: u8, number: u64
 }
 
 /// Marks the atoms of a part up to the first that doesn't fit. Answers how many are marked, and whether that is the part.
-pub fn spread<S: LinkStore>(store: &mut S, root: (S::Atom, u8), home: Option<S::Mem>) -> (u64, bool)
+pub fn spread<S: LinkStore>(
+    store: &mut S,
+    root: (S::Atom, u8),
+    home: Option<S::Mem>,
+    trail: &mut Found<S::Atom>,
+) -> (u64, bool)
     requires root { IsPort (S.heap store.old) (S.atom_id root.0) root.1 }
     requires mem { IfSome home (λ m. IsMem (S.heap store.old) (S.mem_id m)) }
     requires clean { CleanPart (S.heap store.old) (S.atom_id root.0, root.1) }
@@ -51,6 +57,7 @@ pub fn spread<S: LinkStore>(store: &mut S, root: (S::Atom, u8), home: Option<S::
     ensures fits { IsTrue result.1 ↔ IsWhole (S.heap store.old) (S.atom_id root.0, root.1) (option_map S.mem_id home) }
 {
     let _arity = arity(store, root.0);
+    trail.clear();
     store.set_mark(root.0, 0, FOUND + root.1 as u64);
     let mut count = 1;
     let mut at = Stand {
