@@ -21,6 +21,7 @@ pub mod RestLaws
 pub mod ClosingLaws
 pub mod OwnLaws
 pub mod DeedLaws
+pub mod TrailLaws
 pub mod RestCopyLaws
 pub mod GatherRestLaws
 pub mod RestExampleProofs

@@ -13,6 +13,7 @@ use Rattle.lmn_store_heap.proofs.Listing.{alter_away, distinct_snoc}
 use Rattle.lmn_store_heap.proofs.Pigeonholes.{not_longer}
 use Rattle.lmn_ground.specs.Marks.{first_place, paint, painted, first_marks, entry_port, or_zero, back, way, ports_behind, ports_ahead, OnWay, Sought}
 use Rattle.lmn_ground.specs.Spread.{Numbered, CleanPart, AtomFits, IsWhole, Spread, Spreading}
+use Rattle.lmn_ground.specs.Stands.{IsTrail}
 use Rattle.lmn_ground_parts.proofs.WalkLaws.{holds_left, holds_right, holds_port, in_last, all_seen, closed, start_covers, kept_seen}
 use Rattle.lmn_ground.proofs.SoughtLaws.{top_in, port_left, no_port_left}
 use Rattle.lmn_ground.proofs.PaintLaws.{net_painted, painted_marked, way_same, behind_same, on_way_same, in_is, mark_here, mark_away, net_marked, with_port, is_painted}
@@ -312,6 +313,17 @@ module _ (before : Heap) (root : ℕ × ℕ) (home : Option ℕ) where
         walked = s.walked;
         whole = λ _. whole_part now seen depth a i count t d f;
       }
+
+  -- the atoms are those of the list, where it has room for them
+  pub some_listed : {A : Type 0} (id : A → ℕ) (trail : List A) (now : Heap) (seen : List ℕ) (depth a i count : ℕ) → Spreading before now root home seen depth a i count
+      → IsTrail id trail count seen → (t : Spread before now root count false) × IsTrail id trail count t.seen
+  unfolding spread_some
+  some_listed id trail now seen depth a i count t r = (spread_some now seen depth a i count t, r)
+
+  pub all_listed : {A : Type 0} (id : A → ℕ) (trail : List A) (now : Heap) (seen : List ℕ) (depth a i count : ℕ) → Spreading before now root home seen depth a i count
+      → depth ≡ 0 → i ≡ arity_of now a → IsTrail id trail count seen → (t : Spread before now root count true) × IsTrail id trail count t.seen
+  unfolding spread_some spread_all
+  all_listed id trail now seen depth a i count t d f r = (spread_all now seen depth a i count t d f, r)
 
 -- the whole part is exactly what is reached
 pub part_reached : (s : Heap) (root : ℕ × ℕ) (all : List ℕ) → IsPartInDepth s root all → (a : ℕ) → Reached (atom_map s) root a → In a all

@@ -1,5 +1,5 @@
 -- Words of private functions: where a walk goes on.
-use Rattle.std.specs.Prelude.{ℕ, ◌≡◌, ◌+◌, ◌<◌, ◌≤◌, false, List, Some}
+use Rattle.std.specs.Prelude.{ℕ, ◌≡◌, ◌+◌, ◌<◌, ◌≤◌, false, List, Some, length, map}
 use Rattle.lmn_store_heap.specs.Heap.{Heap, arity_of, link_of}
 use Rattle.lmn_ground_parts.specs.Walks.{is_port, net}
 use Rattle.lmn_ground.specs.Marks.{back, first_marks, least_found, weight}
@@ -32,3 +32,8 @@ pub record WipesOn (s s' : Heap) (root : ℕ × ℕ) (depth a i deep b j : ℕ) 
   pub walk : (before : Heap) (seen met : List ℕ) (left : ℕ) → Wiping before s root seen met depth a i left → Wiping before s' root seen met deep b j left
   pub lighter : (before : Heap) (seen met : List ℕ) (left : ℕ) → Wiping before s root seen met depth a i left
       → weight (net s') (first_marks s') deep b j ≤ weight (net s) (first_marks s) depth a i
+
+-- Some atoms that a walk has found, and all of them, in its order, where they are as many.
+pub record IsTrail {A : Type 0} (id : A → ℕ) (trail : List A) (count : ℕ) (seen : List ℕ) : Type 0 where
+  pub few : length trail ≤ count
+  pub all : length trail ≡ count → map id trail ≡ seen

@@ -14,6 +14,7 @@ use crate::found::Found;
 use crate::parts::size_of;
 use crate::seek::arity;
 use crate::spread::spread;
+use crate::undo::undo;
 use crate::wipe::{Deed, wipe};
 use lmn_store_trait::LinkStore;
 
@@ -65,11 +66,11 @@ fn equals_apart<S: LinkStore>(
     let found = spread(store, y, None, trail);
     let _marked = arity(store, y.0);
     if size != found.0 {
-        wipe(store, y, found.0, Deed::Leave);
+        undo(store, y, found.0, trail, Deed::Leave);
         return false;
     }
     let same = equals_numbered(store, x, y);
-    wipe(store, y, found.0, Deed::Leave);
+    undo(store, y, found.0, trail, Deed::Leave);
     same
 }
 

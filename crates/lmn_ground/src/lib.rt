@@ -16,6 +16,7 @@ mod parts;
 mod rest;
 mod seek;
 mod spread;
+mod undo;
 mod wipe;
 
 pub use cells::{copy_cells, drop_cells, place_cells};

@@ -9,7 +9,8 @@ ghost use Rattle.lmn_ground_parts.specs.Walks.{IsPartInDepth};
 use crate::found::Found;
 use crate::seek::arity;
 use crate::spread::spread;
-use crate::wipe::{Deed, wipe};
+use crate::undo::undo;
+use crate::wipe::Deed;
 use lmn_store_trait::LinkStore;
 
 /// Sets the own mark of each atom of the part with this root. All other marks are as they were. The walk uses the room of `trail`,
@@ -22,5 +23,5 @@ pub fn paint<S: LinkStore>(store: &mut S, root: (S::Atom, u8), v: u64, trail: &m
 {
     let _arity = arity(store, root.0);
     let found = spread(store, root, None, trail);
-    wipe(store, root, found.0, Deed::SetOwn(v));
+    undo(store, root, found.0, trail, Deed::SetOwn(v));
 }

@@ -10,7 +10,8 @@ ghost use Rattle.lmn_ground_parts.specs.Walks.{IsPartInDepth};
 use crate::found::Found;
 use crate::seek::arity;
 use crate::spread::{fits, spread};
-use crate::wipe::{Deed, wipe};
+use crate::undo::undo;
+use crate::wipe::Deed;
 use lmn_store_trait::LinkStore;
 
 /// Whether the part with this root stands whole in the membrane, and none of its atoms has the own mark 1. The walk uses the room
@@ -35,7 +36,7 @@ pub fn is_ground<S: LinkStore>(
         return true;
     }
     let found = spread(store, root, Some(mem), trail);
-    wipe(store, root, found.0, Deed::Leave);
+    undo(store, root, found.0, trail, Deed::Leave);
     found.1
 }
 
@@ -53,7 +54,7 @@ pub fn size_of<S: LinkStore>(store: &mut S, root: (S::Atom, u8), trail: &mut Fou
         return 1;
     }
     let found = spread(store, root, None, trail);
-    wipe(store, root, found.0, Deed::Leave);
+    undo(store, root, found.0, trail, Deed::Leave);
     found.0
 }
 
@@ -71,5 +72,5 @@ pub fn take_part<S: LinkStore>(store: &mut S, root: (S::Atom, u8), trail: &mut F
         return;
     }
     let found = spread(store, root, None, trail);
-    wipe(store, root, found.0, Deed::Take);
+    undo(store, root, found.0, trail, Deed::Take);
 }

@@ -5,6 +5,7 @@ ghost use Rattle.lmn_store_heap.specs.Heap.{IsAtom, IsMem, marked, own_mark};
 ghost use Rattle.lmn_store_heap.specs.Splice.{IsPort};
 ghost use Rattle.lmn_ground.specs.Marks.{found_mark};
 ghost use Rattle.lmn_ground.specs.Spread.{AtomFits, CleanPart, IsWhole, Spread};
+ghost use Rattle.lmn_ground.specs.Stands.{IsTrail};
 
 use crate::found::Found;
 use crate::marks::{FOUND, MATCHED, PORTS};
@@ -42,7 +43,8 @@ pub fn mark_entry<S: LinkStore>(store: &mut S, a: S::Atom, port: u8, number: u64
     store.set_mark(a, 0, FOUND + PORTS * number + port as u64);
 }
 
-/// Marks the atoms of a part up to the first that doesn't fit. Answers how many are marked, and whether that is the part.
+/// Marks the atoms of a part up to the first that doesn't fit, and lists them as long as there is room. Answers how many are marked,
+/// and whether that is the part.
 pub fn spread<S: LinkStore>(
     store: &mut S,
     root: (S::Atom, u8),
@@ -53,12 +55,13 @@ pub fn spread<S: LinkStore>(
     requires mem { IfSome home (λ m. IsMem (S.heap store.old) (S.mem_id m)) }
     requires clean { CleanPart (S.heap store.old) (S.atom_id root.0, root.1) }
     requires first { AtomFits (S.heap store.old) (option_map S.mem_id home) (S.atom_id root.0) }
-    ensures spread { Spread (S.heap store.old) (S.heap store.new) (S.atom_id root.0, root.1) result.0 result.1 }
+    ensures spread { (t : Spread (S.heap store.old) (S.heap store.new) (S.atom_id root.0, root.1) result.0 result.1) × IsTrail S.atom_id trail.new result.0 t.seen }
     ensures fits { IsTrue result.1 ↔ IsWhole (S.heap store.old) (S.atom_id root.0, root.1) (option_map S.mem_id home) }
 {
     let _arity = arity(store, root.0);
     trail.clear();
     store.set_mark(root.0, 0, FOUND + root.1 as u64);
+    let _ = trail.push_if_room(root.0);
     let mut count = 1;
     let mut at = Stand {
         atom: root.0,
@@ -76,6 +79,7 @@ pub fn spread<S: LinkStore>(
                     return (count, false);
                 }
                 mark_entry(store, b, j, count);
+                let _ = trail.push_if_room(b);
                 let down = Stand {
                     atom: b,
                     port: 0,

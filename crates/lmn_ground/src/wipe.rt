@@ -35,7 +35,7 @@ fn set_own<S: LinkStore>(store: &mut S, a: S::Atom, v: u64)
 
 /// Does a deed to an atom.
 #[inline(always)]
-fn act<S: LinkStore>(store: &mut S, a: S::Atom, deed: Deed)
+pub fn act<S: LinkStore>(store: &mut S, a: S::Atom, deed: Deed)
     requires atom { IsAtom (S.heap store.old) (S.atom_id a) }
     requires can { CanDo deed (S.atom_id a ∷ []) (S.heap store.old) }
     ensures { S.heap store.new ≡ done deed (S.atom_id a) (S.heap store.old) }
@@ -126,8 +126,7 @@ pub fn leave_leaf<S: LinkStore>(
     }
 }
 
-/// Takes back the marks of a walk, and does a deed to each of its atoms.
-#[inline(always)]
+/// Takes back the marks of a walk, and does a deed to each of its atoms, as a second walk finds them.
 pub fn wipe<S: LinkStore>(store: &mut S, root: (S::Atom, u8), count: u64, deed: Deed)
     requires root { IsPort (S.heap store.old) (S.atom_id root.0) root.1 }
     requires spread { (before : Heap) × (all : Bool) × (t : Spread before (S.heap store.old) (S.atom_id root.0, root.1) count all) × CanDo deed t.seen before }

@@ -14,11 +14,11 @@ returns-then-not-fits-clause-ground g c = (
       absurd (never_both _ (c.fits.ensures.1 (f.atoms _ at_root)) c.if-not-fits.true),
 )
 
-pub wipe-requires-clause-root : goal.wipe-requires-clause-root
-wipe-requires-clause-root g c = (root_there _ _ _ _ _ c.spread-found.ensures.spread c.requires.root.0, root_port_there _ _ _ _ _ c.spread-found.ensures.spread c.requires.root.1)
+pub undo-requires-clause-root : goal.undo-requires-clause-root
+undo-requires-clause-root g c = (root_there _ _ _ _ _ c.spread-found.ensures.spread.0 c.requires.root.0, root_port_there _ _ _ _ _ c.spread-found.ensures.spread.0 c.requires.root.1)
 
-pub wipe-requires-clause-spread : goal.wipe-requires-clause-spread
-wipe-requires-clause-spread g c = (g.S.LinkStore.heap c.args.store.now, _, c.spread-found.ensures.spread, tt)
+pub undo-requires-clause-spread : goal.undo-requires-clause-spread
+undo-requires-clause-spread g c = (g.S.LinkStore.heap c.args.store.now, _, c.spread-found.ensures.spread.0, c.spread-found.ensures.spread.1, tt)
 
 pub returns-clause-ground : goal.returns-clause-ground
 returns-clause-ground g c =
@@ -27,7 +27,7 @@ returns-clause-ground g c =
     (λ w. f.0 (e.0 w), λ is. e.1 (f.1 is))
 
 pub returns-clause-same : goal.returns-clause-same
-returns-clause-same g c = c.wipe.ensures _ _ c.spread-found.ensures.spread
+returns-clause-same g c = c.undo.ensures _ _ c.spread-found.ensures.spread.0 c.spread-found.ensures.spread.1
 
 pub spread-found-requires-clause-clean : goal.spread-found-requires-clause-clean
 spread-found-requires-clause-clean g c = clean_part _ _ c.arity-ports.ensures.sound c.requires.root.1 c.requires.clean

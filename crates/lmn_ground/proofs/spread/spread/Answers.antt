@@ -2,7 +2,8 @@ use Rattle.std.proofs.Common.{[], ◌∷◌, ◌<◌, ◌≤◌, ◌+◌, ◌-�
 use Rattle.std.specs.Option.{option_map}
 use Rattle.lmn_store_heap.specs.Heap.{Heap, IsAtom, IsMem, arity_of}
 use Rattle.lmn_ground.specs.Spread.{Spreading}
-use Rattle.lmn_ground.proofs.SpreadLaws.{spreading_first, spreading_on, entered, entered_back, there_after, there_beside, port_after, way_marked, way_stays, spread_some, spread_all, part_fits, unfit, unjoined, few_next, way_now, fits_before, first_there}
+use Rattle.lmn_ground.proofs.SpreadLaws.{spreading_first, spreading_on, entered, entered_back, there_after, there_beside, port_after, way_marked, way_stays, some_listed, all_listed, part_fits, unfit, unjoined, few_next, way_now, fits_before, first_there}
+use Rattle.lmn_ground.proofs.TrailLaws.{trail_next, trail_none}
 use Rattle.lmn_base.proofs.Truth.{false_not_true, never_both}
 use Rattle.lmn_ground.proofs.spread.spread.Goals as goal
 
@@ -19,6 +20,7 @@ loop-root-init g c =
         _,
         subst (λ (s : Heap). Spreading (g.S.LinkStore.heap c.args.store.now) s (id c.args.root.0, c.args.root.1) (option_map g.S.LinkStore.mem_id c.args.home) (id c.args.root.0 ∷ []) 0 (id c.args.root.0) 0 1) e
             (spreading_first (g.S.LinkStore.heap c.args.store.now) (id c.args.root.0, c.args.root.1) _ (512 + c.args.root.1) c.arity-arity.ensures.sound c.requires.clean c.requires.root.1 c.requires.first (omega arith) (let e = c.arity-arity.ensures.arity in let r = c.arity-arity.type_inv in let p = c.requires.root.1 in omega (arith, e, r, p))),
+        trail_next id _ _ c.args.root.0 _ _ _ c.push_if_room.ensures (trail_none id _ c.clear.ensures),
       );
       mem = subst (λ (s : Heap). IfSome c.args.home (λ m. IsMem s (g.S.LinkStore.mem_id m))) e c.requires.mem;
       bound = omega arith;
@@ -31,7 +33,7 @@ pub returns-then-stand-arity-clause-spread : goal.returns-then-stand-arity-claus
 returns-then-stand-arity-clause-spread g c =
     let t = spreading_on _ _ _ _ _ _ _ _ _ _ _ _ c.loop-root.invariant.walk.1 c.seek-stand.ensures.sought c.seek-stand.ensures.halts.inside in
     let f = c.if-stand-arity.true ∙ c.arity.ensures.arity in
-    spread_all _ _ _ _ _ _ _ _ _ t (c.seek-stand.ensures.halts.end f) f
+    all_listed _ _ _ g.S.LinkStore.atom_id _ _ _ _ _ _ _ t (c.seek-stand.ensures.halts.end f) f c.loop-root.invariant.walk.2
 
 pub returns-then-stand-arity-clause-fits : goal.returns-then-stand-arity-clause-fits
 returns-then-stand-arity-clause-fits g c =
@@ -42,7 +44,7 @@ returns-then-stand-arity-clause-fits g c =
 pub returns-then-not-fits-clause-spread : goal.returns-then-not-fits-clause-spread
 returns-then-not-fits-clause-spread g c =
     let t = spreading_on _ _ _ _ _ _ _ _ _ _ _ _ c.loop-root.invariant.walk.1 c.seek-stand.ensures.sought c.seek-stand.ensures.halts.inside in
-    spread_some _ _ _ _ _ _ _ _ _ t
+    some_listed _ _ _ g.S.LinkStore.atom_id _ _ _ _ _ _ _ t c.loop-root.invariant.walk.2
 
 pub returns-then-not-fits-clause-fits : goal.returns-then-not-fits-clause-fits
 returns-then-not-fits-clause-fits g c =
@@ -93,7 +95,11 @@ loop-root-preserved g c =
     (c.seek-stand.ensures.halts.apart l) fresh (c.fits.ensures.0 c.if-not-fits.false) in
     record {
       atom = c.go_down-at.ensures.atom;
-      walk = (_, spreading_on _ _ _ _ _ _ _ _ _ _ _ _ in_walk c.go_down-at.ensures.sought c.go_down-at.ensures.inside);
+      walk = (
+        _,
+        spreading_on _ _ _ _ _ _ _ _ _ _ _ _ in_walk c.go_down-at.ensures.sought c.go_down-at.ensures.inside,
+        trail_next g.S.LinkStore.atom_id _ _ _ _ _ _ c.push_if_room-in-Some.ensures c.loop-root.invariant.walk.2,
+      );
       mem = subst (λ (s : Heap). IfSome c.args.home (λ m. IsMem s (g.S.LinkStore.mem_id m))) (sym c.mark_entry.ensures.marked) c.loop-root.invariant.mem;
       bound = few_next _ _ _ _ _ _ _ _ _ _ (2 ^ 48) t c.arity.ensures.few c.in-Some.ensures.there.0 fresh;
     }
@@ -101,7 +107,7 @@ loop-root-preserved g c =
 pub returns-in-None-clause-spread : goal.returns-in-None-clause-spread
 returns-in-None-clause-spread g c =
     let t = spreading_on _ _ _ _ _ _ _ _ _ _ _ _ c.loop-root.invariant.walk.1 c.seek-stand.ensures.sought c.seek-stand.ensures.halts.inside in
-    spread_some _ _ _ _ _ _ _ _ _ t
+    some_listed _ _ _ g.S.LinkStore.atom_id _ _ _ _ _ _ _ t c.loop-root.invariant.walk.2
 
 pub returns-in-None-clause-fits : goal.returns-in-None-clause-fits
 returns-in-None-clause-fits g c =
